@@ -1,0 +1,98 @@
+-- The instructions: what op, a and b of a record stand for. (paper 01, Compiled macro)
+use mathlib.Core.Bool.{Bool, true, false, _&&_}
+use mathlib.Core.Option.{Option, none, some}
+use Prim.Native.Nat.{ℕ, zero, suc}
+use mathlib.Core.List.{List, [], _∷_}
+use lib.Dec.{eqb, leb, ltb}
+use lib.ListN.{length, getElem?}
+use Rattle.words.specs.Choice.{if_then_else_}
+use Rattle.words.specs.Numbers.{integerOf}
+use Rattle.values.specs.Operators.{Operator, unary, binary, unaryOf, binaryOf}
+use Rattle.values.specs.Values.{Value, int, log, bit, ref}
+use Rattle.bytecode.specs.Macro.{Body, Code, Macro, keep}
+
+-- whose cells: "a 0 own, 1 root's"
+pub data Owner : Type 0 where
+  own root : Owner
+
+pub data Instr : Type 0 where
+  end : Instr                    -- 0
+  push : Value → Instr           -- 1, 2, 3, 4
+  load : Owner → ℕ → Instr       -- 5
+  store : Owner → ℕ → Instr      -- 6
+  operate : Operator → Instr     -- 7
+  go : ℕ → Instr                 -- 8
+  goUnless : ℕ → Instr           -- 9
+  call : ℕ → Instr               -- 10
+  return : Instr                 -- 11
+  make : ℕ → Instr               -- 12
+  getField : ℕ → ℕ → Instr       -- 13
+  putField : ℕ → ℕ → Instr       -- 14
+  setLevel : Instr               -- 15
+  readFader : Instr              -- 16
+  takeHold : ℕ → Instr           -- 17
+  letHold : Instr                -- 18
+  assert : Instr                 -- 19
+  stop : Instr                   -- 20
+
+abbrev pub exactly : {A : Type 0} → Bool → A → Option A
+exactly b x = if b then some x else none
+
+abbrev pub ownerOf : ℕ → Option Owner
+ownerOf n = if eqb n 0 then some own else if eqb n 1 then some root else none
+
+abbrev pub orBinary : Option Operator → ℕ → Option Operator
+orBinary none n = keep (binaryOf n) (λ o. some (binary o))
+orBinary (some o) n = some o
+
+abbrev pub operatorOf : ℕ → Option Operator
+operatorOf n = orBinary (keep (unaryOf n) (λ o. some (unary o))) n
+
+-- "An unknown op is a fault, and an a or b out of range, or unused and not 0."; what is in range by the macro is the rules' to say
+unfoldable pub instruction : Code → Option Instr
+instruction c =
+    let k = c .op in let x = c .a in let n = c .b in
+    let plain = eqb x 0 && eqb n 0 in
+    if eqb k 0 then exactly plain end else                                      -- 0 end
+    if eqb k 1 then exactly (eqb x 0) (push (int (integerOf n))) else           -- 1 push integer b
+    if eqb k 2 then exactly (eqb x 0 && ltb n 2) (push (log (eqb n 1))) else    -- 2 push logical b
+    if eqb k 3 then exactly (eqb x 0) (push (bit n)) else                       -- 3 push bits b
+    if eqb k 4 then exactly (eqb n 0) (push (ref x none)) else                  -- 4 push null of class a
+    if eqb k 5 then keep (ownerOf x) (λ o. some (load o n)) else                -- 5 push cell b (a 0 own, 1 root's)
+    if eqb k 6 then keep (ownerOf x) (λ o. some (store o n)) else               -- 6 store cell b
+    if eqb k 7 then keep (operatorOf x) (λ o. exactly (eqb n 0) (operate o)) else   -- 7 operator a
+    if eqb k 8 then exactly (eqb x 0) (go n) else                               -- 8 go to b
+    if eqb k 9 then exactly (eqb x 0) (goUnless n) else                         -- 9 go to b if false
+    if eqb k 10 then exactly (eqb x 0) (call n) else                            -- 10 call body b
+    if eqb k 11 then exactly plain return else                                  -- 11 return
+    if eqb k 12 then exactly (eqb n 0) (make x) else                            -- 12 make class a
+    if eqb k 13 then some (getField x n) else                                   -- 13 push field b of class a
+    if eqb k 14 then some (putField x n) else                                   -- 14 store field b of class a
+    if eqb k 15 then exactly plain setLevel else                                -- 15 set
+    if eqb k 16 then exactly plain readFader else                               -- 16 fader
+    if eqb k 17 then exactly (eqb x 0 && leb n 63) (takeHold n) else            -- 17 hold b
+    if eqb k 18 then exactly plain letHold else                                 -- 18 release
+    if eqb k 19 then exactly plain assert else                                  -- 19 assert
+    if eqb k 20 then exactly plain stop else none                               -- 20 stop by 24
+
+-- ── where the code of each body lies ──
+abbrev pub bodyAt : Macro → ℕ → Option Body
+bodyAt m k = getElem? (m .bodies) k
+
+-- the bodies lie one after the other: body k ends where the next begins, the last where the code does
+unfoldable pub endOf : List Body → ℕ → ℕ → ℕ
+endOf [] n k = n
+endOf (b ∷ []) n k = n
+endOf (b ∷ (c ∷ bs)) n zero = c .first
+endOf (b ∷ (c ∷ bs)) n (suc k) = endOf (c ∷ bs) n k
+
+abbrev pub fromTo : Option Body → ℕ → ℕ → Bool
+fromTo none e i = false
+fromTo (some b) e i = leb (b .first) i && ltb i e
+
+-- address i stands in body k
+unfoldable pub inBody : Macro → ℕ → ℕ → Bool
+inBody m k i = fromTo (bodyAt m k) (endOf (m .bodies) (length (m .code)) k) i
+
+abbrev pub instrAt : Macro → ℕ → Option Instr
+instrAt m i = keep (getElem? (m .code) i) instruction

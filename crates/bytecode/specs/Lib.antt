@@ -1,0 +1,10 @@
+pub mod Macro
+pub mod Instructions
+pub mod Rules
+pub mod Machine
+pub mod Runs
+pub mod Sound
+pub mod State
+pub mod Lent
+pub mod Answers
+pub mod Computes

@@ -1,0 +1,339 @@
+-- The plain machine: one step at a time, with every way of having no next step named. It calls nothing of the loading rules.
+-- (paper 01, Running)
+use mathlib.Core.Bool.{Bool, true, false, not, _&&_, _||_}
+use mathlib.Core.List.{List, [], _∷_, _++_, reverse}
+use mathlib.Core.Option.{Option, none, some}
+use Prim.Native.Nat.{ℕ, zero, suc, _+_, _-_}
+use lib.Dec.{eqb, leb, ltb}
+use lib.IntN.{ℤ, pos, negsuc}
+use lib.ListN.{length, getElem?, take, drop}
+use lib.ListN.{set as put}
+use Rattle.words.specs.Choice.{if_then_else_}
+use Rattle.values.specs.Types.{Ty, reference, fits, allFit, sames}
+use Rattle.values.specs.Ends.{fieldOfNull, assertFalse, caseIndex, outOfRange, tooManyActivations, tooManyRecords}
+use Rattle.values.specs.Operators.{Operator, unary, binary}
+use Rattle.values.specs.Arithmetic.{Outcome, gives, ends, mistyped}
+use Rattle.values.specs.Values.{Value, int, log, bit, ref, tyOf, tysOf, Cell, assigned, fresh, freshAll, between, size, apply1, apply2}
+use Rattle.values.specs.Trace.{Event, set, hold, release, Item, event, reading}
+use Rattle.bytecode.specs.Macro.{Body, Macro}
+use Rattle.bytecode.specs.Instructions.{Owner, own, root, Instr, end, push, load, store, operate, go, goUnless, call, return, make, getField, putField, setLevel, readFader, takeHold, letHold, assert, stop, bodyAt, inBody, instrAt}
+
+-- ── states ──
+-- "activations from the root up: body, address, cells, working stack, holds, each value with its type"
+pub record Activation : Type 0 where
+  pub body : ℕ
+  pub address : ℕ
+  pub cells : List Cell
+  pub operands : List Value   -- the top first
+  pub holds : List ℕ          -- the latest first
+
+pub record Made : Type 0 where
+  pub class : ℕ
+  pub fields : List Value
+
+-- what comes after the last of the holds that are being released
+pub data After : Type 0 where
+  endBy : ℕ → After
+
+-- "It keeps records, a condition or end once reached, and activations"
+pub data Machine : Type 0 where
+  running : List Made → Activation → List Activation → Machine   -- the top, and those below it, the nearest first
+  unwinding : List ℕ → After → Machine                           -- the holds still to be released, in that order
+  ended : ℕ → Machine
+
+-- "Fresh, it has the root alone, at its first address."
+abbrev pub rootCells : List Body → List Ty
+rootCells [] = []
+rootCells (b ∷ bs) = b .cells
+
+unfoldable pub freshMachine : Macro → Machine
+freshMachine m = running [] (record { body = 0; address = 0; cells = freshAll (rootCells (m .bodies)); operands = []; holds = [] }) []
+
+-- ── steps ──
+-- the ways of having no next step
+pub data Stuck : Type 0 where
+  noStep : Stuck      -- "the address is outside its body, or the op there is not allowed in that body"
+  badType : Stuck     -- "an operand, cell, field or result is not as the op asks"
+  badRecord : Stuck   -- "13 or 14 works on another class, or a number never made"
+  badFrame : Stuck    -- "a cell, operand or hold is missing, or a body's limit passed"
+  groupHeld : Stuck   -- a body is left with a hold open
+
+pub data Stepped : Type 0 where
+  moved : List Item → Machine → Stepped   -- with what it gives: nothing, an event or a reading
+  stuck : Stuck → Stepped
+
+abbrev pub demand : Bool → Stuck → Stepped → Stepped
+demand b why s = if b then s else stuck why
+
+-- "then likewise those below it"
+unfoldable pub allHolds : List Activation → List ℕ
+allHolds [] = []
+allHolds (f ∷ fs) = f .holds ++ allHolds fs
+
+-- the records, the top and those below, as an op finds them
+pub record Here : Type 0 where
+  pub records : List Made
+  pub top : Activation
+  pub below : List Activation
+
+-- "A condition … releases every open hold": its own step gives nothing
+unfoldable pub condition : ℕ → Here → Stepped
+condition c h = moved [] (unwinding (allHolds (h .top ∷ h .below)) (endBy c))
+
+-- the top goes on at an address with these operands
+abbrev pub at : ℕ → List Value → Activation → Activation
+at i vs f = record { body = f .body; address = i; cells = f .cells; operands = vs; holds = f .holds }
+
+abbrev pub withHolds : List ℕ → Activation → Activation
+withHolds gs f = record { body = f .body; address = suc (f .address); cells = f .cells; operands = f .operands; holds = gs }
+
+abbrev pub withCells : List Cell → Activation → Activation
+withCells cs f = record { body = f .body; address = f .address; cells = cs; operands = f .operands; holds = f .holds }
+
+-- "33rd value": the limits of a body
+abbrev pub maxOperands : ℕ
+maxOperands = 32
+
+abbrev pub maxHolds : ℕ
+maxHolds = 16
+
+-- "it pops operands, pushes the result, and goes on"; what is given stands first
+abbrev pub goesOn : List Item → List Value → Here → Stepped
+goesOn is vs h =
+    demand (leb (length vs) maxOperands) badFrame (moved is (running (h .records) (at (suc (h .top .address)) vs (h .top)) (h .below)))
+
+abbrev pub settled : Outcome Value → List Value → Here → Stepped
+settled (gives v) vs h = goesOn [] (v ∷ vs) h
+settled (ends c) vs h = condition c h
+settled mistyped vs h = stuck badType
+
+-- the topmost operands
+abbrev pub pop : List Value → (Value → List Value → Stepped) → Stepped
+pop [] f = stuck badFrame
+pop (v ∷ vs) f = f v vs
+
+abbrev pub onInteger : Value → (ℤ → Stepped) → Stepped
+onInteger (int z) f = f z
+onInteger (log b) f = stuck badType
+onInteger (bit n) f = stuck badType
+onInteger (ref c r) f = stuck badType
+
+abbrev pub onLogical : Value → (Bool → Stepped) → Stepped
+onLogical (int z) f = stuck badType
+onLogical (log b) f = f b
+onLogical (bit n) f = stuck badType
+onLogical (ref c r) f = stuck badType
+
+abbrev pub onReference : Value → (ℕ → Option ℕ → Stepped) → Stepped
+onReference (int z) f = stuck badType
+onReference (log b) f = stuck badType
+onReference (bit n) f = stuck badType
+onReference (ref c r) f = f c r
+
+abbrev pub given : {A : Type 0} → Option A → Stuck → (A → Stepped) → Stepped
+given none why f = stuck why
+given (some x) why f = f x
+
+-- ── cells ──
+-- the root is the lowest activation
+unfoldable pub rootOf : Activation → List Activation → Activation
+rootOf f [] = f
+rootOf f (g ∷ gs) = rootOf g gs
+
+unfoldable pub putLowest : List Cell → List Activation → List Activation
+putLowest cs [] = []
+putLowest cs (f ∷ []) = withCells cs f ∷ []
+putLowest cs (f ∷ (g ∷ gs)) = f ∷ putLowest cs (g ∷ gs)
+
+abbrev pub cellsFor : Owner → Here → List Cell
+cellsFor own h = h .top .cells
+cellsFor root h = rootOf (h .top) (h .below) .cells
+
+abbrev pub putTop : List Cell → Activation → List Activation → Activation
+putTop cs f [] = withCells cs f
+putTop cs f (g ∷ gs) = f
+
+abbrev pub putCells : Owner → List Cell → Here → Here
+putCells own cs h = record { records = h .records; top = withCells cs (h .top); below = h .below }
+putCells root cs h = record { records = h .records; top = putTop cs (h .top) (h .below); below = putLowest cs (h .below) }
+
+abbrev pub cellTy : Cell → Ty
+cellTy (assigned v) = tyOf v
+
+abbrev pub pushCell : Cell → List Value → Here → Stepped
+pushCell (assigned v) vs h = goesOn [] (v ∷ vs) h
+
+unfoldable pub doLoad : Owner → ℕ → Here → Stepped
+doLoad o x h = given (getElem? (cellsFor o h) x) badFrame (λ c. pushCell c (h .top .operands) h)
+
+unfoldable pub doStore : Owner → ℕ → Here → Stepped
+doStore o x h = pop (h .top .operands) (λ v vs. given (getElem? (cellsFor o h) x) badFrame (λ c.
+    demand (fits (tyOf v) (cellTy c)) badType (goesOn [] vs (putCells o (put (cellsFor o h) x (assigned v)) h))))
+
+-- ── operators, jumps ──
+unfoldable pub doOperate : Operator → Here → Stepped
+doOperate (unary o) h = pop (h .top .operands) (λ v vs. settled (apply1 o v) vs h)
+doOperate (binary o) h = pop (h .top .operands) (λ w vs. pop vs (λ v us. settled (apply2 o v w) us h))
+
+abbrev pub goes : ℕ → List Value → Here → Stepped
+goes i vs h = moved [] (running (h .records) (at i vs (h .top)) (h .below))
+
+unfoldable pub doGoUnless : ℕ → Here → Stepped
+doGoUnless i h = pop (h .top .operands) (λ v vs. onLogical v (λ b. goes (if b then suc (h .top .address) else i) vs h))
+
+-- ── calls ──
+-- the topmost n operands, the deepest first, and those below them
+unfoldable pub popMany : ℕ → List Value → List Value → (List Value → List Value → Stepped) → Stepped
+popMany zero taken vs f = f taken vs
+popMany (suc n) taken [] f = stuck badFrame
+popMany (suc n) taken (v ∷ vs) f = popMany n (v ∷ taken) vs f
+
+unfoldable pub assignAll : List Value → List Cell
+assignAll [] = []
+assignAll (v ∷ vs) = assigned v ∷ assignAll vs
+
+-- "arguments fill its first cells; other cells … start as variables do"
+abbrev pub activation : ℕ → Body → List Value → Activation
+activation k b vs =
+    record { body = k; address = b .first; cells = assignAll vs ++ freshAll (drop (length vs) (b .cells)); operands = []; holds = [] }
+
+-- 26: "33rd open activation, the root counting 1"
+abbrev pub maxActivations : ℕ
+maxActivations = 32
+
+abbrev pub entering : ℕ → Body → List Value → List Value → Here → Stepped
+entering k b vs us h =
+    if ltb (length (h .top ∷ h .below)) maxActivations
+    then moved [] (running (h .records) (activation k b vs) (at (h .top .address) us (h .top) ∷ h .below))
+    else condition tooManyActivations h
+
+abbrev pub notRoot : Macro → ℕ → Option Body
+notRoot m zero = none
+notRoot m (suc k) = bodyAt m (suc k)
+
+-- "A call waits until a return drops the activation above and hands the result down."
+unfoldable pub doCall : Macro → ℕ → Here → Stepped
+doCall m k h = given (notRoot m k) noStep (λ b. popMany (b .parameters) [] (h .top .operands) (λ vs us.
+    demand (allFit (tysOf vs) (take (b .parameters) (b .cells))) badType
+    (demand (leb (length (b .cells)) 32) badFrame (entering k b vs us h))))
+
+abbrev pub handDown : List Value → List Made → List Activation → Stepped
+handDown vs rs [] = stuck badFrame
+handDown vs rs (f ∷ fs) = goesOn [] (vs ++ f .operands) (record { records = rs; top = f; below = fs })
+
+abbrev pub isEmpty : {A : Type 0} → List A → Bool
+isEmpty [] = true
+isEmpty (x ∷ xs) = false
+
+-- procedures only, exactly the result, no open holds
+unfoldable pub doReturn : Macro → Here → Stepped
+doReturn m h = given (notRoot m (h .top .body)) noStep (λ b.
+    demand (sames (tysOf (h .top .operands)) (b .results)) badType
+    (demand (isEmpty (h .top .holds)) groupHeld (handDown (h .top .operands) (h .records) (h .below))))
+
+-- root only, empty stack, no open holds; "op 0 ends by 0"
+unfoldable pub doEnd : Here → Stepped
+doEnd h =
+    demand (eqb (h .top .body) 0) noStep
+    (demand (isEmpty (h .top .operands)) badType
+    (demand (isEmpty (h .below)) badFrame
+    (demand (isEmpty (h .top .holds)) groupHeld (moved [] (ended 0)))))
+
+-- ── records ──
+-- 27: "257th record made"
+abbrev pub maxRecords : ℕ
+maxRecords = 256
+
+abbrev pub withRecords : List Made → Here → Here
+withRecords rs h = record { records = rs; top = h .top; below = h .below }
+
+abbrev pub recording : ℕ → List Value → List Value → Here → Stepped
+recording c vs us h =
+    if ltb (length (h .records)) maxRecords
+    then goesOn [] (ref c (some (length (h .records))) ∷ us) (withRecords (h .records ++ (record { class = c; fields = vs } ∷ [])) h)
+    else condition tooManyRecords h
+
+unfoldable pub doMake : Macro → ℕ → Here → Stepped
+doMake m c h = given (getElem? (m .classes) c) noStep (λ ts. popMany (length ts) [] (h .top .operands) (λ vs us.
+    demand (allFit (tysOf vs) ts) badType (recording c vs us h)))
+
+-- a made record of class c; 22: "field of null"
+abbrev pub onMade : ℕ → Option ℕ → Here → (ℕ → Made → Stepped) → Stepped
+onMade c none h f = condition fieldOfNull h
+onMade c (some n) h f = given (getElem? (h .records) n) badRecord (λ r. demand (eqb (r .class) c) badRecord (f n r))
+
+unfoldable pub doGetField : ℕ → ℕ → Here → Stepped
+doGetField c x h = pop (h .top .operands) (λ v vs. onReference v (λ d r.
+    demand (eqb d c) badRecord (onMade c r h (λ n q. given (getElem? (q .fields) x) badType (λ w. goesOn [] (w ∷ vs) h)))))
+
+abbrev pub fieldPut : ℕ → ℕ → Value → Made → List Made → List Made
+fieldPut n x w q rs = put rs n (record { class = q .class; fields = put (q .fields) x w })
+
+unfoldable pub doPutField : ℕ → ℕ → Here → Stepped
+doPutField c x h = pop (h .top .operands) (λ w vs. pop vs (λ v us. onReference v (λ d r.
+    demand (eqb d c) badRecord (onMade c r h (λ n q. given (getElem? (q .fields) x) badType (λ u.
+    demand (fits (tyOf w) (tyOf u)) badType (goesOn [] us (withRecords (fieldPut n x w q (h .records)) h))))))))
+
+-- ── events and readings ──
+-- 25: "channel, level or fader out of range"
+unfoldable pub doSet : Here → Stepped
+doSet h = pop (h .top .operands) (λ w vs. pop vs (λ v us. onInteger v (λ x. onInteger w (λ y.
+    if between 1 512 x && between 0 255 y then goesOn (event (set (size x) (size y)) ∷ []) us h else condition outOfRange h))))
+
+-- the reading of each fader enters here
+unfoldable pub doFader : (ℕ → ℕ) → Here → Stepped
+doFader bank h = pop (h .top .operands) (λ v vs. onInteger v (λ x.
+    if between 1 64 x
+    then goesOn (reading (size x) (bank (size x)) ∷ []) (int (pos (bank (size x))) ∷ vs) h
+    else condition outOfRange h))
+
+unfoldable pub doTakeHold : ℕ → Here → Stepped
+doTakeHold g h =
+    demand (ltb (length (h .top .holds)) maxHolds) badFrame
+    (moved (event (hold g) ∷ []) (running (h .records) (withHolds (g ∷ h .top .holds) (h .top)) (h .below)))
+
+abbrev pub letting : List ℕ → Here → Stepped
+letting [] h = stuck badFrame
+letting (g ∷ gs) h = moved (event (release g) ∷ []) (running (h .records) (withHolds gs (h .top)) (h .below))
+
+unfoldable pub doAssert : Here → Stepped
+doAssert h = pop (h .top .operands) (λ v vs. onLogical v (λ b. if b then goesOn [] vs h else condition assertFalse h))
+
+-- a null is of a class that the macro has
+abbrev pub doPush : Macro → Value → Here → Stepped
+doPush m (int z) h = goesOn [] (int z ∷ h .top .operands) h
+doPush m (log b) h = goesOn [] (log b ∷ h .top .operands) h
+doPush m (bit n) h = goesOn [] (bit n ∷ h .top .operands) h
+doPush m (ref c r) h = demand (ltb c (length (m .classes))) noStep (goesOn [] (ref c r ∷ h .top .operands) h)
+
+-- ── one step ──
+unfoldable pub act : Macro → (ℕ → ℕ) → Instr → Here → Stepped
+act m bank end h = doEnd h
+act m bank (push v) h = doPush m v h
+act m bank (load o x) h = doLoad o x h
+act m bank (store o x) h = doStore o x h
+act m bank (operate o) h = doOperate o h
+act m bank (go i) h = goes i (h .top .operands) h
+act m bank (goUnless i) h = doGoUnless i h
+act m bank (call k) h = doCall m k h
+act m bank return h = doReturn m h
+act m bank (make c) h = doMake m c h
+act m bank (getField c x) h = doGetField c x h
+act m bank (putField c x) h = doPutField c x h
+act m bank setLevel h = doSet h
+act m bank readFader h = doFader bank h
+act m bank (takeHold g) h = doTakeHold g h
+act m bank letHold h = letting (h .top .holds) h
+act m bank assert h = doAssert h
+act m bank stop h = condition caseIndex h
+
+-- the op at the top's address, where that lies in its body
+unfoldable pub fetch : Macro → ℕ → ℕ → Option Instr
+fetch m k i = if inBody m k i then instrAt m i else none
+
+-- "each step gives one release, the top's last first, then likewise those below it, and once none is open one more step ends"
+unfoldable pub step : Macro → (ℕ → ℕ) → Machine → Stepped
+step m bank (running rs f fs) = given (fetch m (f .body) (f .address)) noStep (λ i. act m bank i (record { records = rs; top = f; below = fs }))
+step m bank (unwinding (g ∷ gs) a) = moved (event (release g) ∷ []) (unwinding gs a)
+step m bank (unwinding [] (endBy c)) = moved [] (ended c)
+step m bank (ended c) = moved [] (ended c)

@@ -1,0 +1,6 @@
+pub mod Cases
+pub mod Notation
+pub mod Listing
+pub mod Stars
+pub mod Refusals
+pub mod More

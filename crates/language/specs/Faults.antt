@@ -1,0 +1,342 @@
+-- Types of expressions, and the faults 3, 4 and 5 of every entry, in postorder.
+-- "Table entries are judged inner before outer, left to right, after 1 and 2; at one entry 3, 4, 5 in that order"
+use mathlib.Core.Bool.{Bool, true, false, not, _&&_, _||_}
+use mathlib.Core.List.{List, [], _∷_, _++_}
+use mathlib.Core.Option.{Option, none, some}
+use Prim.Native.Nat.{ℕ, suc, _+_}
+use lib.Dec.{eqb}
+use lib.ListN.{length}
+use Rattle.words.specs.Choice.{if_then_else_}
+use Rattle.values.specs.Types.{Ty, integer, logical, bits, reference, same, sames, fits, allFit}
+use Rattle.values.specs.Ends.{Refusal, refusal}
+use Rattle.values.specs.Operators.{unary, binary, opType}
+use Rattle.language.specs.Tree.{Typed, Decl, declare, holding, Stmt, block, assign, when, choose, while, goto, assert, call, setLevel, select, Items, noItem, label, item, Arms, lastArm, arm, Target, toVariable, toField, Expr, number, truth, pattern, null, variable, invoke, field, make, operate1, operate2, conditional, fader, blockExpr, Exprs, noExpr, expr, Body, proper, function, Global, local, class, procedure, Tree}
+use Rattle.language.specs.Names.{Sort, isVariable, isLabel, isClass, isField, isProcedure, Scope, blockOf, expressionOf, procedureOf, rootOf, Found, nowhere, found, lookup}
+
+-- ── types ──
+unfoldable pub withTy : {A : Type 0} → Option A → (A → Option Ty) → Option Ty
+withTy none f = none
+withTy (some x) f = f x
+
+abbrev pub variableTy : Found → Option Ty
+variableTy nowhere = none
+variableTy (found (isVariable t) w) = some t
+variableTy (found isLabel w) = none
+variableTy (found (isClass ts) w) = none
+variableTy (found (isField c t) w) = none
+variableTy (found (isProcedure ts us) w) = none
+
+abbrev pub onlyTy : List Ty → Option Ty
+onlyTy [] = none
+onlyTy (t ∷ []) = some t
+onlyTy (t ∷ (u ∷ us)) = none
+
+abbrev pub resultTy : Found → Option Ty
+resultTy nowhere = none
+resultTy (found (isVariable t) w) = none
+resultTy (found isLabel w) = none
+resultTy (found (isClass ts) w) = none
+resultTy (found (isField c t) w) = none
+resultTy (found (isProcedure ts us) w) = onlyTy us
+
+abbrev pub fieldTy : Found → Option Ty
+fieldTy nowhere = none
+fieldTy (found (isVariable t) w) = none
+fieldTy (found isLabel w) = none
+fieldTy (found (isClass ts) w) = none
+fieldTy (found (isField c t) w) = some t
+fieldTy (found (isProcedure ts us) w) = none
+
+unfoldable pub typeE : List Scope → Expr → Option Ty
+typeE ss (number z) = some integer
+typeE ss (truth b) = some logical
+typeE ss (pattern z) = some bits
+typeE ss (null c) = some (reference c)
+typeE ss (variable a) = variableTy (lookup a ss)
+typeE ss (invoke a es) = resultTy (lookup a ss)
+typeE ss (field a e) = fieldTy (lookup a ss)
+typeE ss (make c es) = some (reference c)
+typeE ss (operate1 o e) = withTy (typeE ss e) (λ t. opType (unary o) (t ∷ []))
+typeE ss (operate2 o e f) = let r = typeE ss f in withTy (typeE ss e) (λ t. withTy r (λ u. opType (binary o) (t ∷ u ∷ [])))
+typeE ss (conditional e f g) = typeE ss f
+typeE ss (fader e) = some integer
+typeE ss (blockExpr ds is e) = typeE (expressionOf ds is ∷ ss) e
+
+abbrev pub typeTarget : List Scope → Target → Option Ty
+typeTarget ss (toVariable a) = variableTy (lookup a ss)
+typeTarget ss (toField a e) = fieldTy (lookup a ss)
+
+-- the types of a list; none where one has none
+abbrev pub consTy : Option Ty → Option (List Ty) → Option (List Ty)
+consTy none ts = none
+consTy (some t) none = none
+consTy (some t) (some ts) = some (t ∷ ts)
+
+unfoldable pub typesE : List Scope → Exprs → Option (List Ty)
+typesE ss noExpr = some []
+typesE ss (expr e es) = consTy (typeE ss e) (typesE ss es)
+
+-- ── tests on types; an operand that has none is at fault before ──
+abbrev pub isTy : Ty → Option Ty → Bool
+isTy u none = false
+isTy u (some t) = same t u
+
+abbrev pub sameTy : Option Ty → Option Ty → Bool
+sameTy none r = false
+sameTy (some t) r = isTy t r
+
+abbrev pub fitsTy : Option Ty → Option Ty → Bool
+fitsTy none r = false
+fitsTy (some t) none = false
+fitsTy (some t) (some u) = fits t u
+
+abbrev pub fitTys : Option (List Ty) → List Ty → Bool
+fitTys none us = false
+fitTys (some ts) us = allFit ts us
+
+abbrev pub hasTy : Option Ty → Bool
+hasTy none = false
+hasTy (some t) = true
+
+-- ── the faults at one entry ──
+abbrev pub faultIf : Bool → ℕ → ℕ → List Refusal
+faultIf b n p = if b then refusal n p ∷ [] else []
+
+-- 4: "wrong type"
+abbrev pub mistypedUnless : Bool → ℕ → List Refusal
+mistypedUnless b p = faultIf (not b) 4 p
+
+-- 3: "name undefined"; 4: wrong "sort of name". The test asks whether the sort will do, and what it asks of the operands
+abbrev pub named : Found → (Sort → Bool) → ℕ → List Refusal
+named nowhere f p = refusal 3 p ∷ []
+named (found s w) f p = mistypedUnless (f s) p
+
+abbrev pub variableSort : Sort → Bool
+variableSort (isVariable t) = true
+variableSort isLabel = false
+variableSort (isClass ts) = false
+variableSort (isField c t) = false
+variableSort (isProcedure ts us) = false
+
+abbrev pub classSort : Sort → Bool
+classSort (isVariable t) = false
+classSort isLabel = false
+classSort (isClass ts) = true
+classSort (isField c t) = false
+classSort (isProcedure ts us) = false
+
+-- a record of a class from values of these types
+abbrev pub classFrom : Option (List Ty) → Sort → Bool
+classFrom vs (isVariable t) = false
+classFrom vs isLabel = false
+classFrom vs (isClass ts) = fitTys vs ts
+classFrom vs (isField c t) = false
+classFrom vs (isProcedure ts us) = false
+
+-- a field of a reference of this type
+abbrev pub fieldOf : Option Ty → Sort → Bool
+fieldOf r (isVariable t) = false
+fieldOf r isLabel = false
+fieldOf r (isClass ts) = false
+fieldOf r (isField c t) = isTy (reference c) r
+fieldOf r (isProcedure ts us) = false
+
+-- a procedure with as many results, called with arguments of these types
+abbrev pub callOf : ℕ → Option (List Ty) → Sort → Bool
+callOf n vs (isVariable t) = false
+callOf n vs isLabel = false
+callOf n vs (isClass ts) = false
+callOf n vs (isField c t) = false
+callOf n vs (isProcedure ts us) = eqb (length us) n && fitTys vs ts
+
+-- 5: "label out of a goto's reach"
+abbrev pub aimed : Found → ℕ → List Refusal
+aimed nowhere p = refusal 3 p ∷ []
+aimed (found (isVariable t) w) p = refusal 4 p ∷ []
+aimed (found isLabel w) p = faultIf w 5 p
+aimed (found (isClass ts) w) p = refusal 4 p ∷ []
+aimed (found (isField c t) w) p = refusal 4 p ∷ []
+aimed (found (isProcedure ts us) w) p = refusal 4 p ∷ []
+
+-- 3: "twice in a block", at "the second of two"
+unfoldable pub among : ℕ → List ℕ → Bool
+among a [] = false
+among a (b ∷ bs) = eqb a b || among a bs
+
+abbrev pub twice : ℕ → List ℕ → ℕ → List Refusal
+twice a seen p = faultIf (among a seen) 3 p
+
+-- the class that a declared type names
+abbrev pub typeFaults : List Scope → Ty → ℕ → List Refusal
+typeFaults ss integer p = []
+typeFaults ss logical p = []
+typeFaults ss bits p = []
+typeFaults ss (reference c) p = named (lookup c ss) classSort p
+
+-- ── how many entries a part has, so that each has its place ──
+unfoldable mutual
+  pub sizeS : Stmt → ℕ
+  sizeS (block ds is) = suc (length ds + sizeItems is)
+  sizeS (assign x e) = suc (sizeTarget x + sizeE e)
+  sizeS (when e s) = suc (sizeE e + sizeS s)
+  sizeS (choose e s t) = suc (sizeE e + (sizeS s + sizeS t))
+  sizeS (while e s) = suc (sizeE e + sizeS s)
+  sizeS (goto a) = 1
+  sizeS (assert e) = suc (sizeE e)
+  sizeS (call a es) = suc (sizeEs es)
+  sizeS (setLevel e f) = suc (sizeE e + sizeE f)
+  sizeS (select e r) = suc (sizeE e + sizeArms r)
+
+  pub sizeItems : Items → ℕ
+  sizeItems noItem = 0
+  sizeItems (label a is) = suc (sizeItems is)
+  sizeItems (item s is) = sizeS s + sizeItems is
+
+  pub sizeArms : Arms → ℕ
+  sizeArms (lastArm s) = sizeS s
+  sizeArms (arm s r) = sizeS s + sizeArms r
+
+  pub sizeTarget : Target → ℕ
+  sizeTarget (toVariable a) = 1
+  sizeTarget (toField a e) = suc (sizeE e)
+
+  pub sizeE : Expr → ℕ
+  sizeE (number z) = 1
+  sizeE (truth b) = 1
+  sizeE (pattern z) = 1
+  sizeE (null c) = 1
+  sizeE (variable a) = 1
+  sizeE (invoke a es) = suc (sizeEs es)
+  sizeE (field a e) = suc (sizeE e)
+  sizeE (make c es) = suc (sizeEs es)
+  sizeE (operate1 o e) = suc (sizeE e)
+  sizeE (operate2 o e f) = suc (sizeE e + sizeE f)
+  sizeE (conditional e f g) = suc (sizeE e + (sizeE f + sizeE g))
+  sizeE (fader e) = suc (sizeE e)
+  sizeE (blockExpr ds is e) = suc (length ds + (sizeItems is + sizeE e))
+
+  pub sizeEs : Exprs → ℕ
+  sizeEs noExpr = 0
+  sizeEs (expr e es) = sizeE e + sizeEs es
+
+-- ── the faults of a part whose first entry is p; `seen` are the names that its block defines before ──
+unfoldable pub faultsTyped : List Scope → List ℕ → ℕ → List Typed → List Refusal
+faultsTyped ss seen p [] = []
+faultsTyped ss seen p (x ∷ xs) = twice (x .name) seen p ++ (typeFaults ss (x .type) p ++ faultsTyped ss (x .name ∷ seen) (suc p) xs)
+
+unfoldable pub faultsHead : List Scope → List ℕ → ℕ → List Decl → List Refusal
+faultsHead ss seen p [] = []
+faultsHead ss seen p (declare x ∷ ds) = faultsTyped ss seen p (x ∷ []) ++ faultsHead ss (x .name ∷ seen) (suc p) ds
+faultsHead ss seen p (holding g ∷ ds) = faultsHead ss seen (suc p) ds
+
+unfoldable pub namesHead : List Decl → List ℕ
+namesHead [] = []
+namesHead (declare x ∷ ds) = x .name ∷ namesHead ds
+namesHead (holding g ∷ ds) = namesHead ds
+
+unfoldable mutual
+  pub faultsS : List Scope → ℕ → Stmt → List Refusal
+  faultsS ss p (block ds is) =
+      let inner = blockOf ds is ∷ ss in
+      faultsHead inner [] (suc p) ds ++ faultsItems inner (namesHead ds) (suc p + length ds) is
+  faultsS ss p (assign x e) =
+      faultsTarget ss (suc p) x ++ (faultsE ss (suc p + sizeTarget x) e ++ mistypedUnless (fitsTy (typeE ss e) (typeTarget ss x)) p)
+  faultsS ss p (when e s) = faultsE ss (suc p) e ++ (faultsS ss (suc p + sizeE e) s ++ mistypedUnless (isTy logical (typeE ss e)) p)
+  faultsS ss p (choose e s t) =
+      faultsE ss (suc p) e
+      ++ (faultsS ss (suc p + sizeE e) s ++ (faultsS ss (suc p + sizeE e + sizeS s) t ++ mistypedUnless (isTy logical (typeE ss e)) p))
+  faultsS ss p (while e s) = faultsE ss (suc p) e ++ (faultsS ss (suc p + sizeE e) s ++ mistypedUnless (isTy logical (typeE ss e)) p)
+  faultsS ss p (goto a) = aimed (lookup a ss) p
+  faultsS ss p (assert e) = faultsE ss (suc p) e ++ mistypedUnless (isTy logical (typeE ss e)) p
+  faultsS ss p (call a es) = faultsEs ss (suc p) es ++ named (lookup a ss) (callOf 0 (typesE ss es)) p
+  faultsS ss p (setLevel e f) =
+      faultsE ss (suc p) e
+      ++ (faultsE ss (suc p + sizeE e) f ++ mistypedUnless (isTy integer (typeE ss e) && isTy integer (typeE ss f)) p)
+  faultsS ss p (select e r) = faultsE ss (suc p) e ++ (faultsArms ss (suc p + sizeE e) r ++ mistypedUnless (isTy integer (typeE ss e)) p)
+
+  pub faultsItems : List Scope → List ℕ → ℕ → Items → List Refusal
+  faultsItems ss seen p noItem = []
+  faultsItems ss seen p (label a is) = twice a seen p ++ faultsItems ss (a ∷ seen) (suc p) is
+  faultsItems ss seen p (item s is) = faultsS ss p s ++ faultsItems ss seen (p + sizeS s) is
+
+  pub faultsArms : List Scope → ℕ → Arms → List Refusal
+  faultsArms ss p (lastArm s) = faultsS ss p s
+  faultsArms ss p (arm s r) = faultsS ss p s ++ faultsArms ss (p + sizeS s) r
+
+  pub faultsTarget : List Scope → ℕ → Target → List Refusal
+  faultsTarget ss p (toVariable a) = named (lookup a ss) variableSort p
+  faultsTarget ss p (toField a e) = faultsE ss (suc p) e ++ named (lookup a ss) (fieldOf (typeE ss e)) p
+
+  pub faultsE : List Scope → ℕ → Expr → List Refusal
+  faultsE ss p (number z) = []
+  faultsE ss p (truth b) = []
+  faultsE ss p (pattern z) = []
+  faultsE ss p (null c) = named (lookup c ss) classSort p
+  faultsE ss p (variable a) = named (lookup a ss) variableSort p
+  faultsE ss p (invoke a es) = faultsEs ss (suc p) es ++ named (lookup a ss) (callOf 1 (typesE ss es)) p
+  faultsE ss p (field a e) = faultsE ss (suc p) e ++ named (lookup a ss) (fieldOf (typeE ss e)) p
+  faultsE ss p (make c es) = faultsEs ss (suc p) es ++ named (lookup c ss) (classFrom (typesE ss es)) p
+  faultsE ss p (operate1 o e) = faultsE ss (suc p) e ++ mistypedUnless (hasTy (typeE ss (operate1 o e))) p
+  faultsE ss p (operate2 o e f) =
+      faultsE ss (suc p) e ++ (faultsE ss (suc p + sizeE e) f ++ mistypedUnless (hasTy (typeE ss (operate2 o e f))) p)
+  faultsE ss p (conditional e f g) =
+      faultsE ss (suc p) e
+      ++ (faultsE ss (suc p + sizeE e) f
+      ++ (faultsE ss (suc p + sizeE e + sizeE f) g
+      ++ mistypedUnless (isTy logical (typeE ss e) && sameTy (typeE ss f) (typeE ss g)) p))
+  faultsE ss p (fader e) = faultsE ss (suc p) e ++ mistypedUnless (isTy integer (typeE ss e)) p
+  faultsE ss p (blockExpr ds is e) =
+      let inner = expressionOf ds is ∷ ss in
+      faultsHead inner [] (suc p) ds
+      ++ (faultsItems inner (namesHead ds) (suc p + length ds) is ++ faultsE inner (suc p + length ds + sizeItems is) e)
+
+  pub faultsEs : List Scope → ℕ → Exprs → List Refusal
+  faultsEs ss p noExpr = []
+  faultsEs ss p (expr e es) = faultsE ss p e ++ faultsEs ss (p + sizeE e) es
+
+-- ── the root ──
+abbrev pub sizeBody : Body → ℕ
+sizeBody (proper s) = sizeS s
+sizeBody (function t e) = sizeE e
+
+abbrev pub sizeGlobal : Global → ℕ
+sizeGlobal (local d) = 1
+sizeGlobal (class c xs) = suc (length xs)
+sizeGlobal (procedure a xs b) = suc (length xs + sizeBody b)
+
+-- "E when result is 1, 2 or 3": the body's type is the result
+abbrev pub faultsBody : List Scope → ℕ → Body → List Refusal
+faultsBody ss p (proper s) = faultsS ss p s
+faultsBody ss p (function t e) = faultsE ss p e
+
+abbrev pub bodyFits : List Scope → Body → Bool
+bodyFits ss (proper s) = true
+bodyFits ss (function t e) = isTy t (typeE ss e)
+
+-- the names that a declaration of the root's head defines, the last first
+unfoldable pub namesTyped : List Typed → List ℕ → List ℕ
+namesTyped [] seen = seen
+namesTyped (x ∷ xs) seen = namesTyped xs (x .name ∷ seen)
+
+abbrev pub namesGlobal : Global → List ℕ → List ℕ
+namesGlobal (local d) seen = namesHead (d ∷ []) ++ seen
+namesGlobal (class c xs) seen = namesTyped xs (c ∷ seen)
+namesGlobal (procedure a xs b) seen = a ∷ seen
+
+abbrev pub faultsGlobal : List Scope → List ℕ → ℕ → Global → List Refusal
+faultsGlobal ss seen p (local d) = faultsHead ss seen p (d ∷ [])
+faultsGlobal ss seen p (class c xs) = faultsTyped ss (c ∷ seen) (suc p) xs ++ twice c seen p
+faultsGlobal ss seen p (procedure a xs b) =
+    let inner = procedureOf xs ∷ ss in
+    faultsTyped inner [] (suc p) xs
+    ++ (faultsBody inner (suc p + length xs) b ++ (twice a seen p ++ mistypedUnless (bodyFits inner b) p))
+
+unfoldable pub faultsGlobals : List Scope → List ℕ → ℕ → List Global → (List ℕ → ℕ → List Refusal) → List Refusal
+faultsGlobals ss seen p [] k = k seen p
+faultsGlobals ss seen p (g ∷ gs) k = faultsGlobal ss seen p g ++ faultsGlobals ss (namesGlobal g seen) (p + sizeGlobal g) gs k
+
+-- all faults of a tree, in postorder
+unfoldable pub faults : Tree → List Refusal
+faults t =
+    let ss = rootOf t ∷ [] in
+    faultsGlobals ss [] 1 (t .head) (λ seen p. faultsItems ss seen p (t .items))

@@ -1,0 +1,46 @@
+-- The numbers of refusals and conditions. (paper 01, Refusals and ends)
+use mathlib.Core.Bool.{Bool, _&&_}
+use Prim.Native.Nat.{ℕ}
+use lib.Dec.{leb}
+
+-- "A refusal gives its number and place"
+pub record Refusal : Type 0 where
+  pub number : ℕ
+  pub place : ℕ
+
+abbrev pub refusal : ℕ → ℕ → Refusal
+refusal n p = record { number = n; place = p }
+
+-- something, or the refusal given in its place
+pub data Judged (A : Type 0) : Type 0 where
+  accepted : A → Judged A
+  refused : Refusal → Judged A
+
+-- the conditions, by what they say
+abbrev pub overflow : ℕ
+overflow = 20
+
+abbrev pub zeroDivisor : ℕ
+zeroDivisor = 21
+
+abbrev pub fieldOfNull : ℕ
+fieldOfNull = 22
+
+abbrev pub assertFalse : ℕ
+assertFalse = 23
+
+abbrev pub caseIndex : ℕ
+caseIndex = 24
+
+abbrev pub outOfRange : ℕ
+outOfRange = 25
+
+abbrev pub tooManyActivations : ℕ
+tooManyActivations = 26
+
+abbrev pub tooManyRecords : ℕ
+tooManyRecords = 27
+
+-- "A condition (20 to 27) stops execution"
+abbrev pub isCondition : ℕ → Bool
+isCondition c = leb overflow c && leb c tooManyRecords

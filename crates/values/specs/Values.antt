@@ -1,0 +1,172 @@
+-- Values with their types, and the operators on them, shared by the tree's execution and the plain machine.
+use mathlib.Core.Bool.{Bool, true, false, not, _&&_, _||_, Bool·beq}
+use mathlib.Core.List.{List, [], _∷_}
+use mathlib.Core.Option.{Option, none, some}
+use Prim.Native.Nat.{ℕ, zero, suc}
+use lib.Dec.{eqb, leb, ltb}
+use lib.IntN.{ℤ, pos, negsuc}
+use lib.Signed.{mag, ltZ, leZ}
+use Rattle.words.specs.Choice.{if_then_else_}
+use Rattle.words.specs.Numbers.{integerOf, wordOf}
+use Rattle.values.specs.Types.{Ty, integer, logical, bits, reference}
+use Rattle.values.specs.Operators.{Unary, negate, absolute, complement, Binary, plus, minus, times, divide, remainder, less, atMost, greater, atLeast, equal, unequal, both, either, shiftLeft, shiftRight}
+use Rattle.values.specs.Arithmetic.{Outcome, gives, ends, mistyped, sum, difference, product, quotient, rest, negation, magnitude, andBits, orBits, notBits, shiftedLeft, shiftedRight}
+
+-- a reference has its class; it is null or a record's number, records counted from 0 as they are made
+pub data Value : Type 0 where
+  int : ℤ → Value
+  log : Bool → Value
+  bit : ℕ → Value
+  ref : ℕ → Option ℕ → Value
+
+abbrev pub tyOf : Value → Ty
+tyOf (int z) = integer
+tyOf (log b) = logical
+tyOf (bit n) = bits
+tyOf (ref c r) = reference c
+
+unfoldable pub tysOf : List Value → List Ty
+tysOf [] = []
+tysOf (v ∷ vs) = tyOf v ∷ tysOf vs
+
+-- "Variables of a block start at 0, false, #0 or null"
+abbrev pub initial : Ty → Value
+initial integer = int (pos 0)
+initial logical = log false
+initial bits = bit 0
+initial (reference c) = ref c none
+
+-- what a variable, parameter or cell holds
+pub data Cell : Type 0 where
+  assigned : Value → Cell
+
+abbrev pub fresh : Ty → Cell
+fresh t = assigned (initial t)
+
+unfoldable pub freshAll : List Ty → List Cell
+freshAll [] = []
+freshAll (t ∷ ts) = fresh t ∷ freshAll ts
+
+-- ── values as 32-bit words, in compiled macros and in the run state ──
+abbrev pub logWord : Bool → ℕ
+logWord false = 0
+logWord true = 1
+
+abbrev pub refWord : Option ℕ → ℕ
+refWord none = 0
+refWord (some n) = suc n
+
+abbrev pub valueWord : Value → ℕ
+valueWord (int z) = wordOf z
+valueWord (log b) = logWord b
+valueWord (bit n) = n
+valueWord (ref c r) = refWord r
+
+abbrev pub wordRef : ℕ → Option ℕ
+wordRef zero = none
+wordRef (suc n) = some n
+
+-- a word is a value of every type but logical, which has two
+abbrev pub validWord : Ty → ℕ → Bool
+validWord integer w = true
+validWord logical w = ltb w 2
+validWord bits w = true
+validWord (reference c) w = true
+
+abbrev pub wordValue : Ty → ℕ → Value
+wordValue integer w = int (integerOf w)
+wordValue logical w = log (eqb w 1)
+wordValue bits w = bit w
+wordValue (reference c) w = ref c (wordRef w)
+
+-- ── ranges, as op 15, op 16 and kinds 28 and 51 test them ──
+abbrev pub between : ℕ → ℕ → ℤ → Bool
+between lo hi (pos n) = leb lo n && leb n hi
+between lo hi (negsuc n) = false
+
+abbrev pub size : ℤ → ℕ
+size (pos n) = n
+size (negsuc n) = 0
+
+-- ── operators ──
+abbrev pub mapOutcome : {A B : Type 0} → (A → B) → Outcome A → Outcome B
+mapOutcome f (gives a) = gives (f a)
+mapOutcome f (ends c) = ends c
+mapOutcome f mistyped = mistyped
+
+abbrev pub onInteger : (ℤ → Outcome Value) → Value → Outcome Value
+onInteger f (int x) = f x
+onInteger f (log a) = mistyped
+onInteger f (bit m) = mistyped
+onInteger f (ref c r) = mistyped
+
+abbrev pub onBits : (ℕ → Outcome Value) → Value → Outcome Value
+onBits f (int x) = mistyped
+onBits f (log a) = mistyped
+onBits f (bit m) = f m
+onBits f (ref c r) = mistyped
+
+abbrev pub onLogical : (Bool → Outcome Value) → Value → Outcome Value
+onLogical f (int x) = mistyped
+onLogical f (log a) = f a
+onLogical f (bit m) = mistyped
+onLogical f (ref c r) = mistyped
+
+-- logical or bits
+abbrev pub onEither : (Bool → Outcome Value) → (ℕ → Outcome Value) → Value → Outcome Value
+onEither f g (int x) = mistyped
+onEither f g (log a) = f a
+onEither f g (bit m) = g m
+onEither f g (ref c r) = mistyped
+
+abbrev pub arithmetic : (ℤ → ℤ → Outcome ℤ) → Value → Value → Outcome Value
+arithmetic f v w = onInteger (λ x. onInteger (λ y. mapOutcome int (f x y)) w) v
+
+abbrev pub ordering : (ℤ → ℤ → Bool) → Value → Value → Outcome Value
+ordering f v w = onInteger (λ x. onInteger (λ y. gives (log (f x y))) w) v
+
+abbrev pub shift : (ℕ → ℤ → ℕ) → Value → Value → Outcome Value
+shift f v w = onBits (λ x. onInteger (λ n. gives (bit (f x n))) w) v
+
+abbrev pub junction : (Bool → Bool → Bool) → (ℕ → ℕ → ℕ) → Value → Value → Outcome Value
+junction f g v w = onEither (λ a. onLogical (λ b. gives (log (f a b))) w) (λ m. onBits (λ n. gives (bit (g m n))) w) v
+
+abbrev pub sameInteger : ℤ → ℤ → Bool
+sameInteger x y = leZ x y && leZ y x
+
+-- references are equal where both are null or both the same record
+abbrev pub sameRef : Option ℕ → Option ℕ → Bool
+sameRef r s = eqb (refWord r) (refWord s)
+
+-- two values of one type
+abbrev pub equality : (Bool → Bool) → Value → Value → Outcome Value
+equality f (int x) w = onInteger (λ y. gives (log (f (sameInteger x y)))) w
+equality f (log a) w = onLogical (λ b. gives (log (f (Bool·beq a b)))) w
+equality f (bit m) w = onBits (λ n. gives (log (f (eqb m n)))) w
+equality f (ref c r) (int x) = mistyped
+equality f (ref c r) (log a) = mistyped
+equality f (ref c r) (bit m) = mistyped
+equality f (ref c r) (ref d s) = if eqb c d then gives (log (f (sameRef r s))) else mistyped
+
+unfoldable pub apply1 : Unary → Value → Outcome Value
+apply1 negate = onInteger (λ x. mapOutcome int (negation x))
+apply1 absolute = onInteger (λ x. mapOutcome int (magnitude x))
+apply1 complement = onEither (λ a. gives (log (not a))) (λ m. gives (bit (notBits m)))
+
+-- both operands at hand; the tree itself decides when a logical `and` or `or` does not need its second
+unfoldable pub apply2 : Binary → Value → Value → Outcome Value
+apply2 plus = arithmetic sum
+apply2 minus = arithmetic difference
+apply2 times = arithmetic product
+apply2 divide = arithmetic quotient
+apply2 remainder = arithmetic rest
+apply2 less = ordering ltZ
+apply2 atMost = ordering leZ
+apply2 greater = ordering (λ x y. ltZ y x)
+apply2 atLeast = ordering (λ x y. leZ y x)
+apply2 equal = equality (λ b. b)
+apply2 unequal = equality not
+apply2 both = junction _&&_ andBits
+apply2 either = junction _||_ orBits
+apply2 shiftLeft = shift shiftedLeft
+apply2 shiftRight = shift shiftedRight

@@ -1,0 +1,301 @@
+//! Prints cases for the prover: `cases SORT SEED COUNT`, SORT one of tables, executions,
+//! macros, runs, states. Each case is one line ending in ` ∷`; the last line is `[]`.
+
+use second::answer::{Event, Item};
+use second::code::{judge_macro, write_macro, Loaded};
+use second::compile::compile;
+use second::execute::{execute, Budget, Execution};
+use second::gen::{judged_table, plan, program};
+use second::gen_code::{good_macro, judged_macro, some_runs, Run, Size};
+use second::gen_state::state_bytes;
+use second::judge_table;
+use second::machine::{fresh, run, step, State};
+use second::rng::Rng;
+use second::state::{sound_state, LENGTH};
+use second::table::{bytes_of, write_tree, Tree};
+
+fn main() {
+    let arguments: Vec<String> = std::env::args().collect();
+    let usage = "usage: cases tables|executions|macros|runs|states SEED COUNT";
+    if arguments.len() != 4 {
+        eprintln!("{usage}");
+        std::process::exit(2);
+    }
+    let sort = arguments[1].clone();
+    let seed: u64 = arguments[2].parse().expect(usage);
+    let count: usize = arguments[3].parse().expect(usage);
+    // Generators and evaluators call themselves deeply.
+    second::deep(|| print_cases(&sort, seed, count));
+}
+
+fn print_cases(sort: &str, seed: u64, count: usize) {
+    let mut rng = Rng::new(seed);
+    for i in 0..count {
+        let line = match sort {
+            "tables" => table_case(&mut rng, i),
+            "macros" => macro_case(&mut rng, i),
+            "executions" => execution_case(&mut rng, i),
+            "runs" => run_case(&mut rng, i),
+            "states" => state_case(&mut rng, i),
+            _ => {
+                eprintln!("no such sort of cases: {sort}");
+                std::process::exit(2);
+            }
+        };
+        println!("{line} ∷");
+    }
+    println!("[]");
+}
+
+/// `bytes N 0xHEX`: the number whose little-endian base-256 digits are the bytes.
+fn bytes_text(bytes: &[u8]) -> String {
+    format!("bytes {} {}", bytes.len(), number_text(bytes))
+}
+
+fn number_text(bytes: &[u8]) -> String {
+    let mut hex = String::new();
+    for byte in bytes.iter().rev() {
+        if hex.is_empty() {
+            if *byte != 0 {
+                hex.push_str(&format!("{byte:x}"));
+            }
+        } else {
+            hex.push_str(&format!("{byte:02x}"));
+        }
+    }
+    if hex.is_empty() {
+        hex.push('0');
+    }
+    format!("0x{hex}")
+}
+
+fn list_text(numbers: &[u64]) -> String {
+    if numbers.is_empty() {
+        return "[]".to_string();
+    }
+    let mut text = String::from("(");
+    for n in numbers {
+        text.push_str(&format!("{n} ∷ "));
+    }
+    text.push_str("[])");
+    text
+}
+
+/// `judged (bytes N 0xHEX) NUMBER PLACE`
+fn table_case(rng: &mut Rng, i: usize) -> String {
+    const WANTED: [u8; 18] = [0, 2, 3, 0, 4, 5, 0, 4, 6, 0, 3, 2, 0, 5, 4, 0, 1, 3];
+    let wanted = WANTED[i % WANTED.len()];
+    let bytes = judged_table(rng, wanted, 30);
+    let (number, place) = match judge_table(&bytes) {
+        Ok(_) => (0, 0),
+        Err(refusal) => (refusal.number, refusal.place),
+    };
+    format!("judged ({}) {number} {place}", bytes_text(&bytes))
+}
+
+/// `loaded (bytes N 0xHEX) NUMBER PLACE`
+fn macro_case(rng: &mut Rng, i: usize) -> String {
+    const WANTED: [u8; 9] = [0, 8, 9, 0, 9, 8, 0, 9, 9];
+    let wanted = WANTED[i % WANTED.len()];
+    let size = Size { bodies: 3, instructions: 10, classes: 2 };
+    let bytes = judged_macro(rng, wanted, size, 25);
+    let (number, place) = match judge_macro(&bytes) {
+        Ok(_) => (0, 0),
+        Err(refusal) => (refusal.number, refusal.place),
+    };
+    format!("loaded ({}) {number} {place}", bytes_text(&bytes))
+}
+
+// Executions.
+
+/// "reading k of fader n = (SEED + 31*k + 7*n) mod 256"
+fn oracle(seed: u8) -> impl FnMut(usize, u8) -> u8 {
+    move |k, n| (seed as usize + 31 * k + 7 * n as usize) as u8
+}
+
+/// The plain steps that the compiled program takes, if it ends within this many.
+fn plain_steps(tree: &Tree, seed: u8, most: usize) -> Option<usize> {
+    let m = compile(tree);
+    let mut state = fresh(&m);
+    let mut read = oracle(seed);
+    let mut k = 0;
+    for steps in 0..=most {
+        if let State::Ended { .. } = state {
+            return Some(steps);
+        }
+        let mut reading = |n: u8| {
+            k += 1;
+            read(k - 1, n)
+        };
+        step(&m, &mut state, &mut reading).expect("a compiled program is never stuck");
+    }
+    None
+}
+
+fn item_numbers(items: &[Item]) -> Vec<u64> {
+    let mut numbers = Vec::new();
+    for item in items {
+        numbers.extend_from_slice(&match *item {
+            Item::Event(Event::Set { channel, level }) => [1, channel as u64, level as u64],
+            Item::Event(Event::Hold { group }) => [2, group as u64, 0],
+            Item::Event(Event::Release { group }) => [3, group as u64, 0],
+            Item::Reading { fader, value } => [4, fader as u64, value as u64],
+        });
+    }
+    numbers
+}
+
+/// `executed (bytes N 0xHEX) SEED FUEL END (ITEMS)`
+fn execution_case(rng: &mut Rng, i: usize) -> String {
+    let forever = i % 12 == 5;
+    // Each condition in turn, 0 between them; 26 and 27 take many steps, so they come less often.
+    const ENDS: [u8; 11] = [0, 20, 0, 21, 22, 0, 23, 24, 0, 25, 0];
+    let wanted = match i % 33 {
+        31 => 26,
+        _ => ENDS[i % ENDS.len()],
+    };
+    for attempt in 0.. {
+        let size = if i % 3 == 0 { 5 + rng.below(15) } else { 10 + rng.below(35) };
+        let mut made = plan(rng, size);
+        made.provoke = if wanted >= 20 { Some(wanted) } else { None };
+        made.forever = if forever { 60 } else { 0 };
+        let tree = program(rng, made);
+        let table = bytes_of(&write_tree(&tree));
+        if table.len() > 50 * 8 {
+            continue;
+        }
+        let seed = rng.byte();
+        if forever {
+            if let Some((fuel, x)) = going(rng, &tree, seed) {
+                return executed(&table, seed, fuel, 999, &x);
+            }
+            continue;
+        }
+        let x = execute(&tree, &mut oracle(seed), Budget { fuel: 400, line: u64::MAX, items: 150 });
+        let end = match x.end {
+            Some(end) => end,
+            None => continue,
+        };
+        let most_steps = if end == 26 { 700 } else { 300 };
+        // After many tries any end is taken.
+        if (end == wanted || attempt > 60) && plain_steps(&tree, seed, most_steps).is_some() {
+            return executed(&table, seed, x.fuel, end as u64, &x);
+        }
+    }
+    unreachable!()
+}
+
+/// A fuel at which the execution is still going, and an execution that is longer than any
+/// trace at that fuel: it stops only when what is spent along one line passes the fuel.
+fn going(rng: &mut Rng, tree: &Tree, seed: u8) -> Option<(u64, Execution)> {
+    let fuel = rng.between(6, 40) as u64;
+    let x = execute(tree, &mut oracle(seed), Budget { fuel: 5_000, line: fuel + 4, items: 200 });
+    // Stopped by the line and by nothing else.
+    if x.end.is_none() && x.line > fuel + 4 && x.items.len() <= 200 {
+        Some((fuel, x))
+    } else {
+        None
+    }
+}
+
+fn executed(table: &[u8], seed: u8, fuel: u64, end: u64, x: &Execution) -> String {
+    let items = list_text(&item_numbers(&x.items));
+    format!("executed ({}) {seed} {fuel} {end} {items}", bytes_text(table))
+}
+
+// Runs and states.
+
+/// A small macro that passes: made directly, or compiled from a small program.
+fn small_macro(rng: &mut Rng) -> Loaded {
+    loop {
+        let m = if rng.chance(60) {
+            good_macro(rng, Size { bodies: 3, instructions: 10, classes: 2 })
+        } else {
+            let size = 5 + rng.below(14);
+            let made = plan(rng, size);
+            compile(&program(rng, made))
+        };
+        if m.code.len() > 25 {
+            continue;
+        }
+        return judge_macro(&write_macro(&m)).expect("a good macro passes");
+    }
+}
+
+/// `ran (bytes N 0xHEX) (RUNS) (ANSWERS)`
+fn run_case(rng: &mut Rng, i: usize) -> String {
+    const MOST_STEPS: u64 = 300;
+    loop {
+        let loaded = small_macro(rng);
+        // Dull macros now and then only.
+        let mut runs = some_runs(rng, 8, if i % 4 == 0 { 65_535 } else { 60 });
+        let mut state = fresh(&loaded.code);
+        let mut answers = Vec::new();
+        let mut steps = 0;
+        for r in &mut runs {
+            // An allowance that would be used up whole is made smaller.
+            let mut probe = state.clone();
+            let given = run(&loaded.code, &mut probe, &r.bank(), r.allowance).expect("never stuck");
+            if given.numbers()[1] + steps > MOST_STEPS {
+                *r = Run { allowance: rng.below(40) as u16, ..*r };
+            }
+            let answer = run(&loaded.code, &mut state, &r.bank(), r.allowance).expect("never stuck");
+            steps += answer.numbers()[1];
+            answers.extend_from_slice(&answer.numbers());
+        }
+        let events = answers.chunks(4).filter(|a| a[0] >= 3).count();
+        if steps > MOST_STEPS || (events == 0 && !rng.chance(15)) {
+            continue;
+        }
+        let mut numbers = Vec::new();
+        for r in &runs {
+            numbers.extend_from_slice(&[r.length as u64, r.seed as u64, r.allowance as u64]);
+        }
+        let bytes = write_macro(&loaded.code);
+        return format!("ran ({}) {} {}", bytes_text(&bytes), list_text(&numbers), list_text(&answers));
+    }
+}
+
+/// `held (bytes N 0xHEX) (SEGMENTS) FLAG`
+fn state_case(rng: &mut Rng, i: usize) -> String {
+    let wanted = i % 2 == 0;
+    loop {
+        let loaded = small_macro(rng);
+        let bytes = state_bytes(rng, &loaded, 40);
+        // A large state only now and then.
+        let used = bytes.iter().filter(|b| **b != 0).count();
+        if used > 400 && !rng.chance(10) {
+            continue;
+        }
+        let flag = sound_state(&loaded, &bytes).is_some();
+        if flag == wanted {
+            let code = write_macro(&loaded.code);
+            return format!("held ({}) {} {}", bytes_text(&code), segments_text(&bytes), flag as u8);
+        }
+    }
+}
+
+/// GAP zero bytes, then N bytes, and so on, then zeros up to 24,576 bytes in all.
+fn segments_text(bytes: &[u8]) -> String {
+    assert_eq!(bytes.len(), LENGTH);
+    let mut text = String::new();
+    let mut written = 0;
+    while let Some(first) = (written..LENGTH).find(|&k| bytes[k] != 0) {
+        // A segment ends where eight zeros follow.
+        let mut last = first;
+        let mut k = first;
+        while k < LENGTH && k <= last + 8 {
+            if bytes[k] != 0 {
+                last = k;
+            }
+            k += 1;
+        }
+        let segment = &bytes[first..=last];
+        text.push_str(&format!("segment {} {} {} ∷ ", first - written, segment.len(), number_text(segment)));
+        written = last + 1;
+    }
+    if text.is_empty() {
+        return "[]".to_string();
+    }
+    format!("({text}[])")
+}

@@ -1,0 +1,160 @@
+//! Generated run states: reached by steps of the plain machine, or made up, and then damaged
+//! field by field and byte by byte, so that sound and unsound ones are both frequent.
+
+use crate::code::Loaded;
+use crate::machine::{fresh, step, State};
+use crate::rng::Rng;
+use crate::state::{encode, LENGTH};
+
+/// A state that some number of steps, at most this many, reaches.
+pub fn reached(rng: &mut Rng, loaded: &Loaded, most: usize) -> State {
+    let mut state = fresh(&loaded.code);
+    let steps = rng.below(most + 1);
+    for _ in 0..steps {
+        if let State::Ended { .. } = state {
+            break;
+        }
+        let mut value = rng.byte();
+        if rng.chance(50) {
+            value %= 4;
+        }
+        step(&loaded.code, &mut state, &mut |_| value).expect("a passed macro is never stuck");
+    }
+    state
+}
+
+/// A state that is releasing or has ended, made up.
+fn made_up(rng: &mut Rng) -> State {
+    let code = *rng.pick(&[0, 1, 19, 20, 21, 24, 26, 27, 28, 255]);
+    if rng.chance(50) {
+        State::Ended { code }
+    } else {
+        let count = if rng.chance(10) { *rng.pick(&[511, 512]) } else { rng.below(6) };
+        let most = if rng.chance(80) { 64 } else { 66 };
+        State::Releasing { condition: code, holds: (0..count).map(|_| rng.below(most) as u8).collect() }
+    }
+}
+
+/// The bytes of a state, as they are or with one to three damages.
+pub fn state_bytes(rng: &mut Rng, loaded: &Loaded, most_steps: usize) -> Vec<u8> {
+    let state = if rng.chance(8) { made_up(rng) } else { reached(rng, loaded, most_steps) };
+    let mut bytes = encode(&state);
+    let damages = rng.below(3);
+    for _ in 0..damages {
+        damage(rng, &state, &mut bytes);
+    }
+    bytes
+}
+
+fn nudge(rng: &mut Rng, byte: &mut u8) {
+    *byte = byte.wrapping_add(*rng.pick(&[1, 255, 2, 16]));
+}
+
+fn damage(rng: &mut Rng, state: &State, bytes: &mut [u8]) {
+    let (records, activations) = match state {
+        State::Running { records, activations } => (records.len(), activations.len()),
+        State::Releasing { holds, .. } => {
+            match rng.below(5) {
+                0 => bytes[0] = rng.below(4) as u8,
+                1 => bytes[1] = *rng.pick(&[0, 19, 20, 23, 27, 28]),
+                2 => nudge(rng, &mut bytes[6]),
+                3 if !holds.is_empty() => {
+                    let i = rng.below(holds.len());
+                    bytes[10_528 + i] = *rng.pick(&[0, 63, 64, 255]);
+                }
+                _ => unused_byte(rng, bytes),
+            }
+            return;
+        }
+        State::Ended { .. } => {
+            match rng.below(3) {
+                0 => bytes[0] = rng.below(4) as u8,
+                1 => bytes[1] = *rng.pick(&[0, 1, 19, 20, 23, 27, 28]),
+                _ => unused_byte(rng, bytes),
+            }
+            return;
+        }
+    };
+    let which = rng.below(activations.max(1));
+    let at = 32 + 328 * which;
+    let depth = bytes[at + 1] as usize;
+    match rng.below(24) {
+        0 => bytes[0] = rng.below(4) as u8,
+        1 => bytes[1] = rng.byte(),
+        2 => nudge(rng, &mut bytes[2]),
+        3 => nudge(rng, &mut bytes[4]),
+        4 => nudge(rng, &mut bytes[6]),
+        5 => nudge(rng, &mut bytes[at]),
+        6 => nudge(rng, &mut bytes[at + 1]),
+        7 => nudge(rng, &mut bytes[at + 2]),
+        8 => nudge(rng, &mut bytes[at + 4]),
+        9 => bytes[at + 5] = 1,
+        // A cell's word, a low byte: any word is an integer or bits, few are a logical or a reference.
+        10 | 11 => {
+            let cell = rng.below(5);
+            bytes[at + 8 + 4 * cell] = *rng.pick(&[0, 1, 2, 3, 200]);
+        }
+        12 => {
+            let cell = rng.below(5);
+            bytes[at + 8 + 4 * cell + 1 + rng.below(3)] = *rng.pick(&[0, 1, 128]);
+        }
+        13 => {
+            let cell = rng.below(4);
+            bytes[at + 264 + cell] = *rng.pick(&[0, 1, 2, 3, 16, 17]);
+        }
+        14 | 15 if depth > 0 => {
+            let operand = rng.below(depth);
+            bytes[at + 136 + 4 * operand] = *rng.pick(&[0, 1, 2, 3, 200]);
+        }
+        16 if depth > 0 => {
+            let operand = rng.below(depth);
+            bytes[at + 296 + operand] = *rng.pick(&[1, 2, 3, 16, 17]);
+        }
+        17 => {
+            // A group of an open hold, if there is one.
+            let open = bytes[6] as usize;
+            let i = rng.below(open.max(1));
+            bytes[10_528 + i] = *rng.pick(&[0, 5, 63, 64, 255]);
+        }
+        18 if records > 0 => {
+            let r = 11_040 + 44 * rng.below(records);
+            nudge(rng, &mut bytes[r]);
+        }
+        19 if records > 0 => {
+            let r = 11_040 + 44 * rng.below(records);
+            bytes[r + 4 + 4 * rng.below(3)] = *rng.pick(&[0, 1, 2, 3, 200]);
+        }
+        20 if records > 0 => {
+            let r = 11_040 + 44 * rng.below(records);
+            bytes[r + 36 + rng.below(3)] = *rng.pick(&[1, 2, 3, 16, 17]);
+        }
+        21 => {
+            // One record more, of class 0, its field words 0: sound if its types are right.
+            let r = 11_040 + 44 * records;
+            if records < 256 {
+                bytes[4] = bytes[4].wrapping_add(1);
+                for k in 0..8 {
+                    bytes[r + 36 + k] = *rng.pick(&[1, 1, 1, 2, 16]);
+                }
+            }
+        }
+        22 => {
+            // Another place in the code, the rest as it is.
+            bytes[at + 4] = rng.below(25) as u8;
+        }
+        _ => unused_byte(rng, bytes),
+    }
+}
+
+/// A byte that few states use.
+fn unused_byte(rng: &mut Rng, bytes: &mut [u8]) {
+    let place = match rng.below(6) {
+        0 => 3,
+        1 => 8 + rng.below(24),
+        2 => 32 + 3 + 328 * rng.below(32),
+        3 => LENGTH - 1 - rng.below(2_272),
+        4 => rng.below(LENGTH),
+        _ => 10_528 + 16 + rng.below(400),
+    };
+    bytes[place] = rng.byte();
+}
