@@ -16,24 +16,24 @@ pub data Owner : Type 0 where
   own root : Owner
 
 pub data Instr : Type 0 where
-  end : Instr                    -- 0
-  push : Value → Instr           -- 1, 2, 3, 4
-  load : Owner → ℕ → Instr       -- 5
-  store : Owner → ℕ → Instr      -- 6
-  operate : Operator → Instr     -- 7
-  go : ℕ → Instr                 -- 8
-  goUnless : ℕ → Instr           -- 9
-  call : ℕ → Instr               -- 10
-  return : Instr                 -- 11
-  make : ℕ → Instr               -- 12
-  getField : ℕ → ℕ → Instr       -- 13
-  putField : ℕ → ℕ → Instr       -- 14
-  setLevel : Instr               -- 15
-  readFader : Instr              -- 16
-  takeHold : ℕ → Instr           -- 17
-  letHold : Instr                -- 18
-  assert : Instr                 -- 19
-  stop : Instr                   -- 20
+  end : Instr  -- 0
+  push : Value → Instr  -- 1, 2, 3, 4
+  load : Owner → ℕ → Instr  -- 5
+  store : Owner → ℕ → Instr  -- 6
+  operate : Operator → Instr  -- 7
+  go : ℕ → Instr  -- 8
+  goUnless : ℕ → Instr  -- 9
+  call : ℕ → Instr  -- 10
+  return : Instr  -- 11
+  make : ℕ → Instr  -- 12
+  getField : ℕ → ℕ → Instr  -- 13
+  putField : ℕ → ℕ → Instr  -- 14
+  setLevel : Instr  -- 15
+  readFader : Instr  -- 16
+  takeHold : ℕ → Instr  -- 17
+  letHold : Instr  -- 18
+  assert : Instr  -- 19
+  stop : Instr  -- 20
 
 abbrev pub exactly : {A : Type 0} → Bool → A → Option A
 exactly b x = if b then some x else none
@@ -53,27 +53,27 @@ unfoldable pub instruction : Code → Option Instr
 instruction c =
     let k = c .op in let x = c .a in let n = c .b in
     let plain = eqb x 0 && eqb n 0 in
-    if eqb k 0 then exactly plain end else                                      -- 0 end
-    if eqb k 1 then exactly (eqb x 0) (push (int (integerOf n))) else           -- 1 push integer b
-    if eqb k 2 then exactly (eqb x 0 && ltb n 2) (push (log (eqb n 1))) else    -- 2 push logical b
-    if eqb k 3 then exactly (eqb x 0) (push (bit n)) else                       -- 3 push bits b
-    if eqb k 4 then exactly (eqb n 0) (push (ref x none)) else                  -- 4 push null of class a
-    if eqb k 5 then keep (ownerOf x) (λ o. some (load o n)) else                -- 5 push cell b (a 0 own, 1 root's)
-    if eqb k 6 then keep (ownerOf x) (λ o. some (store o n)) else               -- 6 store cell b
-    if eqb k 7 then keep (operatorOf x) (λ o. exactly (eqb n 0) (operate o)) else   -- 7 operator a
-    if eqb k 8 then exactly (eqb x 0) (go n) else                               -- 8 go to b
-    if eqb k 9 then exactly (eqb x 0) (goUnless n) else                         -- 9 go to b if false
-    if eqb k 10 then exactly (eqb x 0) (call n) else                            -- 10 call body b
-    if eqb k 11 then exactly plain return else                                  -- 11 return
-    if eqb k 12 then exactly (eqb n 0) (make x) else                            -- 12 make class a
-    if eqb k 13 then some (getField x n) else                                   -- 13 push field b of class a
-    if eqb k 14 then some (putField x n) else                                   -- 14 store field b of class a
-    if eqb k 15 then exactly plain setLevel else                                -- 15 set
-    if eqb k 16 then exactly plain readFader else                               -- 16 fader
-    if eqb k 17 then exactly (eqb x 0 && leb n 63) (takeHold n) else            -- 17 hold b
-    if eqb k 18 then exactly plain letHold else                                 -- 18 release
-    if eqb k 19 then exactly plain assert else                                  -- 19 assert
-    if eqb k 20 then exactly plain stop else none                               -- 20 stop by 24
+    if eqb k 0 then exactly plain end else  -- 0 end
+    if eqb k 1 then exactly (eqb x 0) (push (int (integerOf n))) else  -- 1 push integer b
+    if eqb k 2 then exactly (eqb x 0 && ltb n 2) (push (log (eqb n 1))) else  -- 2 push logical b
+    if eqb k 3 then exactly (eqb x 0) (push (bit n)) else  -- 3 push bits b
+    if eqb k 4 then exactly (eqb n 0) (push (ref x none)) else  -- 4 push null of class a
+    if eqb k 5 then keep (ownerOf x) (λ o. some (load o n)) else  -- 5 push cell b (a 0 own, 1 root's)
+    if eqb k 6 then keep (ownerOf x) (λ o. some (store o n)) else  -- 6 store cell b
+    if eqb k 7 then keep (operatorOf x) (λ o. exactly (eqb n 0) (operate o)) else  -- 7 operator a
+    if eqb k 8 then exactly (eqb x 0) (go n) else  -- 8 go to b
+    if eqb k 9 then exactly (eqb x 0) (goUnless n) else  -- 9 go to b if false
+    if eqb k 10 then exactly (eqb x 0) (call n) else  -- 10 call body b
+    if eqb k 11 then exactly plain return else  -- 11 return
+    if eqb k 12 then exactly (eqb n 0) (make x) else  -- 12 make class a
+    if eqb k 13 then some (getField x n) else  -- 13 push field b of class a
+    if eqb k 14 then some (putField x n) else  -- 14 store field b of class a
+    if eqb k 15 then exactly plain setLevel else  -- 15 set
+    if eqb k 16 then exactly plain readFader else  -- 16 fader
+    if eqb k 17 then exactly (eqb x 0 && leb n 63) (takeHold n) else  -- 17 hold b
+    if eqb k 18 then exactly plain letHold else  -- 18 release
+    if eqb k 19 then exactly plain assert else  -- 19 assert
+    if eqb k 20 then exactly plain stop else none  -- 20 stop by 24
 
 -- ── where the code of each body lies ──
 abbrev pub bodyAt : Macro → ℕ → Option Body

@@ -24,8 +24,8 @@ pub record Activation : Type 0 where
   pub body : ℕ
   pub address : ℕ
   pub cells : List Cell
-  pub operands : List Value   -- the top first
-  pub holds : List ℕ          -- the latest first
+  pub operands : List Value  -- the top first
+  pub holds : List ℕ  -- the latest first
 
 pub record Made : Type 0 where
   pub class : ℕ
@@ -37,8 +37,8 @@ pub data After : Type 0 where
 
 -- "It keeps records, a condition or end once reached, and activations"
 pub data Machine : Type 0 where
-  running : List Made → Activation → List Activation → Machine   -- the top, and those below it, the nearest first
-  unwinding : List ℕ → After → Machine                           -- the holds still to be released, in that order
+  running : List Made → Activation → List Activation → Machine  -- the top, and those below it, the nearest first
+  unwinding : List ℕ → After → Machine  -- the holds still to be released, in that order
   ended : ℕ → Machine
 
 -- "Fresh, it has the root alone, at its first address."
@@ -52,14 +52,14 @@ freshMachine m = running [] (record { body = 0; address = 0; cells = freshAll (r
 -- ── steps ──
 -- the ways of having no next step
 pub data Stuck : Type 0 where
-  noStep : Stuck      -- "the address is outside its body, or the op there is not allowed in that body"
-  badType : Stuck     -- "an operand, cell, field or result is not as the op asks"
-  badRecord : Stuck   -- "13 or 14 works on another class, or a number never made"
-  badFrame : Stuck    -- "a cell, operand or hold is missing, or a body's limit passed"
-  groupHeld : Stuck   -- a body is left with a hold open
+  noStep : Stuck  -- "the address is outside its body, or the op there is not allowed in that body"
+  badType : Stuck  -- "an operand, cell, field or result is not as the op asks"
+  badRecord : Stuck  -- "13 or 14 works on another class, or a number never made"
+  badFrame : Stuck  -- "a cell, operand or hold is missing, or a body's limit passed"
+  groupHeld : Stuck  -- a body is left with a hold open
 
 pub data Stepped : Type 0 where
-  moved : List Item → Machine → Stepped   -- with what it gives: nothing, an event or a reading
+  moved : List Item → Machine → Stepped  -- with what it gives: nothing, an event or a reading
   stuck : Stuck → Stepped
 
 abbrev pub demand : Bool → Stuck → Stepped → Stepped

@@ -94,7 +94,7 @@ readBody classes instructions before l =
     let first = halfAt l 2 in let params = byteAt l 4 in let cells = byteAt l 6 in
     if marked 66 68 7 l && (rises before first && (ltb first instructions && leb params cells))
     then keep (readResult classes (byteAt l 5)) (λ r. keep (readTypes classes cells (drop 7 l)) (λ c.
-      some (cut (record { first = first; parameters = params; results = r; cells = c .value }) (c .rest))))
+    some (cut (record { first = first; parameters = params; results = r; cells = c .value }) (c .rest))))
     else none
 
 unfoldable pub readCode : List Code → List ℕ → Option (Cut Code)
@@ -116,13 +116,13 @@ readShape classes instructions before l =
     let at = halfAt l 2 in
     if marked 83 72 6 l && (ltb at instructions && not (isSome (shapeIn before at)))
     then keep (readTypes classes (byteAt l 5) (drop 6 l)) (λ c.
-      some (cut (record { address = at; found = shape (byteAt l 4) (reverse (c .value)) }) (c .rest)))
+    some (cut (record { address = at; found = shape (byteAt l 4) (reverse (c .value)) }) (c .rest)))
     else none
 
 -- so many records, the first of them record i; what was read before them is at hand, the latest first
 pub data Parsed (A : Type 0) : Type 0 where
-  parsed : A → ℕ → List ℕ → Parsed A   -- with the next record's index and bytes
-  unread : ℕ → Parsed A                -- the index of the first record that does not read
+  parsed : A → ℕ → List ℕ → Parsed A  -- with the next record's index and bytes
+  unread : ℕ → Parsed A  -- the index of the first record that does not read
 
 unfoldable pub orUnread : {A B : Type 0} → Option A → ℕ → (A → Parsed B) → Parsed B
 orUnread none i f = unread i
@@ -154,11 +154,11 @@ unfoldable pub parseMacro : List ℕ → Parsed Macro
 parseMacro l =
     let classes = byteAt l 2 in let instructions = halfAt l 4 in
     if headReads l then
-      onward (records (readClass classes) classes [] 1 (drop headLength l)) (λ cs i k.
-      onward (records (readBody classes instructions) (byteAt l 3) [] i k) (λ bs i k.
-      onward (records readCode instructions [] i k) (λ xs i k.
-      onward (records (readShape classes instructions) (halfAt l 6) [] i k) (λ ss i k.
-      readEnd (record { classes = cs; bodies = bs; code = xs; shapes = ss }) i k))))
+    onward (records (readClass classes) classes [] 1 (drop headLength l)) (λ cs i k.
+    onward (records (readBody classes instructions) (byteAt l 3) [] i k) (λ bs i k.
+    onward (records readCode instructions [] i k) (λ xs i k.
+    onward (records (readShape classes instructions) (halfAt l 6) [] i k) (λ ss i k.
+    readEnd (record { classes = cs; bodies = bs; code = xs; shapes = ss }) i k))))
     else unread 0
 
 -- 8: "the first record that does not read"

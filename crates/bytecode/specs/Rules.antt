@@ -25,14 +25,14 @@ isFirst (b ∷ bs) i = eqb (b .first) i || isFirst bs i
 
 -- ── what an op does to a state ──
 pub data Effect : Type 0 where
-  plain : List Ty → List Ty → Effect   -- takes operands, the top first, and gives others, the top first
-  takes : Effect                       -- one hold more
-  lets : Effect                        -- one hold less
+  plain : List Ty → List Ty → Effect  -- takes operands, the top first, and gives others, the top first
+  takes : Effect  -- one hold more
+  lets : Effect  -- one hold less
   jumps : ℕ → Effect
-  forks : ℕ → Effect                   -- takes a logical, and goes on or to the address
-  leaves : List Ty → Effect            -- ends the body with exactly these operands and no open hold
-  stops : Effect                       -- ends by a condition
-  wrong : Effect                       -- may not stand here
+  forks : ℕ → Effect  -- takes a logical, and goes on or to the address
+  leaves : List Ty → Effect  -- ends the body with exactly these operands and no open hold
+  stops : Effect  -- ends by a condition
+  wrong : Effect  -- may not stand here
 
 -- the operands that a list of types makes on the working stack, the last on top
 abbrev pub onStack : List Ty → List Ty
@@ -120,10 +120,10 @@ effect m k stop ts = stops
 
 -- ── where control goes from an op, and with what state ──
 pub data Flow : Type 0 where
-  on : Shape → Flow                -- to the next address
-  fork : Shape → ℕ → Flow          -- to the next address or to this one
-  jump : Shape → ℕ → Flow          -- to this address
-  halt : Flow                      -- nowhere
+  on : Shape → Flow  -- to the next address
+  fork : Shape → ℕ → Flow  -- to the next address or to this one
+  jump : Shape → ℕ → Flow  -- to this address
+  halt : Flow  -- nowhere
   broken : Flow
 
 -- "Every operand has its type": the operands asked for are taken off

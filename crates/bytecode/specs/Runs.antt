@@ -12,9 +12,9 @@ use Rattle.bytecode.specs.Machine.{Machine, running, unwinding, ended, S
 
 -- "It gives one of four things: an event, the allowance used, an end, a refusal."; a machine with no next step says so instead
 pub data Answer : Type 0 where
-  happens : Event → ℕ → Answer   -- with the steps taken
+  happens : Event → ℕ → Answer  -- with the steps taken
   spends : ℕ → Answer
-  finishes : ℕ → ℕ → Answer      -- 0 or the condition, and the steps
+  finishes : ℕ → ℕ → Answer  -- 0 or the condition, and the steps
   refuses : Refusal → Answer
   halts : Stuck → Answer
 

@@ -102,7 +102,7 @@ parametersOf none = []
 parametersOf (some b) = take (b .parameters) (b .cells)
 
 unfoldable pub soundWaiting : Macro → List Made → ℕ → List Activation → Bool
-soundWaiting m rs k [] = eqb k 0   -- "the lowest the root"
+soundWaiting m rs k [] = eqb k 0  -- "the lowest the root"
 soundWaiting m rs k (f ∷ fs) =
     callsBody (instrAt m (f .address)) k
     && (soundActivation m rs (onStack (parametersOf (bodyAt m k))) f && soundWaiting m rs (f .body) fs)

@@ -101,9 +101,9 @@ readActivation m l holds =
     let classes = length (m .classes) in let depth = byteAt l 1 in let open′ = byteAt l 2 in
     keep (bodyAt m (byteAt l 0)) (λ b.
     if leb (length (b .cells)) 32 && (leb depth maxOperands && leb open′ maxHolds) then
-      keep (readValues classes (length (b .cells)) (drop 8 l) (drop 264 l)) (λ cells.
-      keep (readValues classes depth (drop 136 l) (drop 296 l)) (λ operands.
-      some (record { body = byteAt l 0; address = halfAt l 4; cells = assignedAll cells; operands = reverse operands; holds = reverse (take open′ holds) })))
+    keep (readValues classes (length (b .cells)) (drop 8 l) (drop 264 l)) (λ cells.
+    keep (readValues classes depth (drop 136 l) (drop 296 l)) (λ operands.
+    some (record { body = byteAt l 0; address = halfAt l 4; cells = assignedAll cells; operands = reverse operands; holds = reverse (take open′ holds) })))
     else none)
 
 -- n activations from the root up, onto those below them; l begins with the first of them, holds with its holds
@@ -131,8 +131,8 @@ unfoldable pub readRunning : Macro → List ℕ → Option Machine
 readRunning m l =
     let n = byteAt l 2 in let r = halfAt l 4 in
     if leb n maxActivations && leb r maxRecords then
-      keep (readActivations m n (drop 32 l) (part 10528 512 l) []) (λ fs.
-      keep (readRecords m r (drop 11040 l)) (λ rs. assemble (halfAt l 6) rs fs))
+    keep (readActivations m n (drop 32 l) (part 10528 512 l) []) (λ fs.
+    keep (readRecords m r (drop 11040 l)) (λ rs. assemble (halfAt l 6) rs fs))
     else none
 
 unfoldable pub readUnwinding : List ℕ → Option Machine

@@ -17,7 +17,7 @@ use Rattle.language.specs.Computes.{languageComputes}
 use Rattle.bytecode.specs.Macro.{Macro, isSome}
 use Rattle.bytecode.specs.Rules.{judgeMacro}
 use Rattle.bytecode.specs.Machine.{Machine, freshMachine}
-use Rattle.bytecode.specs.Runs.{Feed, runs} 
+use Rattle.bytecode.specs.Runs.{Feed, runs}
 use Rattle.bytecode.specs.Runs as Runs
 use Rattle.bytecode.specs.State.{encode, decode}
 use Rattle.bytecode.specs.Lent.{soundState}
@@ -71,7 +71,7 @@ itemNumbers (event (release g) ∷ is) = 3 ∷ g ∷ 0 ∷ itemNumbers is
 itemNumbers (reading f v ∷ is) = 4 ∷ f ∷ v ∷ itemNumbers is
 
 pub data ExecutionCase : Type 0 where
-  executed : List ℕ → ℕ → ℕ → ℕ → List ℕ → ExecutionCase   -- table, seed of the readings, fuel, end, items
+  executed : List ℕ → ℕ → ℕ → ℕ → List ℕ → ExecutionCase  -- table, seed of the readings, fuel, end, items
 
 -- the k-th reading, of fader n
 abbrev pub oracle : ℕ → ℕ → ℕ → ℕ
@@ -91,7 +91,7 @@ executionHolds (executed l seed fuel e ns) = executedAs (judgeTable l) seed fuel
 
 -- ── lists of runs: three numbers a run, four an answer ──
 pub data RunsCase : Type 0 where
-  ran : List ℕ → List ℕ → List ℕ → RunsCase   -- macro, runs, answers
+  ran : List ℕ → List ℕ → List ℕ → RunsCase  -- macro, runs, answers
 
 -- a bank of n bytes, the i-th of which is seed + 11 × i
 unfoldable pub bank : ℕ → ℕ → List ℕ
@@ -127,7 +127,7 @@ runsHold (ran l ns xs) = ranLike (judgeMacro l) ns xs
 
 -- ── states: bytes with zeros between them; whether a sound state decodes from them ──
 pub data Segment : Type 0 where
-  segment : ℕ → ℕ → ℕ → Segment   -- zeros, and then so many bytes
+  segment : ℕ → ℕ → ℕ → Segment  -- zeros, and then so many bytes
 
 pub data StateCase : Type 0 where
   held : List ℕ → List Segment → ℕ → StateCase

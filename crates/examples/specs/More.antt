@@ -107,6 +107,6 @@ failing = joined (hd 0 1 5 0 ∷ bd 0 0 0 [] ∷ op 17 0 3 ∷ op 17 0 4 ∷ op 
 
 releases-last-first : (loading failing ≡ [])
     × (answers failing (feed 9 ∷ feed 9 ∷ feed 9 ∷ feed 9 ∷ feed 9 ∷ [])
-      ≡ 5 ∷ 1 ∷ 3 ∷ 0 ∷ 5 ∷ 1 ∷ 4 ∷ 0 ∷ 6 ∷ 3 ∷ 4 ∷ 0 ∷ 6 ∷ 1 ∷ 3 ∷ 0 ∷ 3 ∷ 1 ∷ 23 ∷ 0 ∷ [])
+    ≡ 5 ∷ 1 ∷ 3 ∷ 0 ∷ 5 ∷ 1 ∷ 4 ∷ 0 ∷ 6 ∷ 3 ∷ 4 ∷ 0 ∷ 6 ∷ 1 ∷ 3 ∷ 0 ∷ 3 ∷ 1 ∷ 23 ∷ 0 ∷ [])
 unfolding casesCompute joined failing
 releases-last-first = (refl, refl)

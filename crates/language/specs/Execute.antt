@@ -33,11 +33,11 @@ pub record Made : Type 0 where
   pub fields : List Slot
 
 pub record Store : Type 0 where
-  pub root : List Slot          -- the root's variables, one copy for all activations
-  pub blocks : List (List Slot) -- the blocks entered in this activation, innermost first, with their variables
-  pub records : List Made       -- in the order in which they were made
-  pub trace : List Item         -- the latest first
-  pub taken : ℕ                 -- readings so far
+  pub root : List Slot  -- the root's variables, one copy for all activations
+  pub blocks : List (List Slot)  -- the blocks entered in this activation, innermost first, with their variables
+  pub records : List Made  -- in the order in which they were made
+  pub trace : List Item  -- the latest first
+  pub taken : ℕ  -- readings so far
 
 abbrev pub withBlocks : List (List Slot) → Store → Store
 withBlocks bs σ = record { root = σ .root; blocks = bs; records = σ .records; trace = σ .trace; taken = σ .taken }
@@ -98,10 +98,10 @@ declareIn x σ = declareFirst (slot (x .name) (fresh (x .type))) (σ .blocks) σ
 -- ── how a part ends ──
 pub data Result (A : Type 0) : Type 0 where
   done : A → Store → Result A
-  jump : ℕ → Store → Result A   -- a goto under way to a label
+  jump : ℕ → Store → Result A  -- a goto under way to a label
   ended : ℕ → Store → Result A  -- by a condition, every hold released
-  later : Store → Result A      -- out of fuel: still going on
-  wrong : Result A              -- no program of the subset comes here
+  later : Store → Result A  -- out of fuel: still going on
+  wrong : Result A  -- no program of the subset comes here
 
 unfoldable pub next : {A B : Type 0} → Result A → (A → Store → Result B) → Result B
 next (done x σ) f = f x σ
@@ -267,8 +267,8 @@ from a (item s is) = from a is
 
 -- ── one level of execution over what is run with less fuel ──
 pub record Less : Type 0 where
-  pub again : Expr → Stmt → Place → Store → Result (Unit {0})       -- a loop's next round
-  pub resume : Items → Items → Place → Store → Result (Unit {0})    -- a block's statements from a label on
+  pub again : Expr → Stmt → Place → Store → Result (Unit {0})  -- a loop's next round
+  pub resume : Items → Items → Place → Store → Result (Unit {0})  -- a block's statements from a label on
   pub callS : Body → Place → Store → Result (Unit {0})
   pub callE : Body → Place → Store → Result Value
 
@@ -305,7 +305,7 @@ classIn c (class b xs ∷ gs) = elseFind (eqb c b) xs (classIn c gs)
 classIn c (procedure b xs d ∷ gs) = classIn c gs
 
 pub record World : Type 0 where
-  pub oracle : ℕ → ℕ → ℕ       -- the k-th reading of an execution, of fader n
+  pub oracle : ℕ → ℕ → ℕ  -- the k-th reading of an execution, of fader n
   pub globals : List Global
 
 -- a call: 26, "33rd open activation, the root counting 1"; the parameters are a block around the body
@@ -387,12 +387,13 @@ fueled W (suc n) = let r = fueled W n in record {
   again = λ e s X σ. exec W r (while e s) X σ;
   resume = λ is js X σ. catch r is X (execItems W r js X σ);
   callS = λ b X σ. execBody W r b X σ;
-  callE = λ b X σ. evalBody W r b X σ }
+  callE = λ b X σ. evalBody W r b X σ;
+}
 
 -- ── a whole execution ──
 pub data Ran : Type 0 where
-  finished : List Item → ℕ → Ran   -- its trace in order, and its end: 0 or a condition
-  going : List Item → Ran          -- its trace so far
+  finished : List Item → ℕ → Ran  -- its trace in order, and its end: 0 or a condition
+  going : List Item → Ran  -- its trace so far
   illFormed : Ran
 
 unfoldable pub ran : Result (Unit {0}) → Ran

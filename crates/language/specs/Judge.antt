@@ -70,9 +70,9 @@ pub record Program (l : List ℕ) : Type 0 where
   pub written : bytesOf (flatten tree) ≡ l
   pub fields : all inFields (flatten tree) ≡ true
   pub layout : all inLayout (flatten tree) ≡ true
-  pub entries : length (flatten tree) ≤ 2048        -- "At most 2,048 entries"
-  pub depth : nesting tree ≤ 64                     -- "nesting at most 64 deep"
+  pub entries : length (flatten tree) ≤ 2048  -- "At most 2,048 entries"
+  pub depth : nesting tree ≤ 64  -- "nesting at most 64 deep"
   pub classes : total classCount (tree .head) ≤ 16  -- "Kinds 11 and 12 stand only in the root's head, at most 16 and 63."
   pub procedures : total procedureCount (tree .head) ≤ 63
-  pub faultless : faults tree ≡ []                  -- no fault 3, 4 or 5 at any entry
-  pub limited : limits tree ≡ []                    -- every body within its limits
+  pub faultless : faults tree ≡ []  -- no fault 3, 4 or 5 at any entry
+  pub limited : limits tree ≡ []  -- every body within its limits

@@ -10,11 +10,11 @@ use Rattle.language.specs.Tree.{Typed, Decl, declare, holding, Items, no
 
 -- what a name may be defined as
 pub data Sort : Type 0 where
-  isVariable : Ty → Sort                     -- a variable or a parameter
+  isVariable : Ty → Sort  -- a variable or a parameter
   isLabel : Sort
-  isClass : List Ty → Sort                   -- the types of its fields
-  isField : ℕ → Ty → Sort                    -- the class that owns it, and its type
-  isProcedure : List Ty → List Ty → Sort     -- the types of its parameters, and of its result, if it has one
+  isClass : List Ty → Sort  -- the types of its fields
+  isField : ℕ → Ty → Sort  -- the class that owns it, and its type
+  isProcedure : List Ty → List Ty → Sort  -- the types of its parameters, and of its result, if it has one
 
 pub record Definition : Type 0 where
   pub name : ℕ
@@ -60,9 +60,9 @@ definesGlobals (procedure a xs b ∷ gs) = define a (isProcedure (types xs) (res
 
 -- a block around an entry, with all names of its head and its labels: "All names of a head are visible throughout it."
 pub data Scope : Type 0 where
-  inBlock : List Definition → Scope        -- a block
-  inExpression : List Definition → Scope   -- a block expression, which no goto leaves
-  inProcedure : List Definition → Scope    -- "parameters to one around the body", which no goto leaves
+  inBlock : List Definition → Scope  -- a block
+  inExpression : List Definition → Scope  -- a block expression, which no goto leaves
+  inProcedure : List Definition → Scope  -- "parameters to one around the body", which no goto leaves
 
 abbrev pub blockOf : List Decl → Items → Scope
 blockOf ds is = inBlock (definesHead ds ++ definesItems is)

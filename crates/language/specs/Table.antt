@@ -55,34 +55,34 @@ isHeading n = leb (n / 256) 8 && leb (n % 256) 3
 unfoldable pub inLayout : Entry → Bool
 inLayout e =
     let k = e .kind in let x = e .a in let z = e .b in
-    if eqb k 1 then natural z else                                  -- 1 block (a declarations, b statements)
-    if eqb k 10 then natural z && isSome (tyOfCode (natAbs z)) else -- 10 variable a of type b
-    if eqb k 11 then within 1 8 z else                              -- 11 class a with b fields, 1 to 8
-    if eqb k 12 then natural z && isHeading (natAbs z) else         -- 12 procedure a
-    if eqb k 14 then leb x 63 && nothing z else                     -- 14 hold group a (0 to 63)
-    if eqb k 20 then nothing z else                                 -- 20 label a
-    if eqb k 21 then eqb x 0 && nothing z else                      -- 21 assign
-    if eqb k 22 then eqb x 0 && nothing z else                      -- 22 if
-    if eqb k 23 then eqb x 0 && nothing z else                      -- 23 if-else
-    if eqb k 24 then eqb x 0 && nothing z else                      -- 24 while
-    if eqb k 25 then nothing z else                                 -- 25 goto a
-    if eqb k 26 then eqb x 0 && nothing z else                      -- 26 assert
-    if eqb k 27 then natural z else                                 -- 27 call a with b arguments
-    if eqb k 28 then eqb x 0 && nothing z else                      -- 28 set
-    if eqb k 30 then leb 1 x && nothing z else                      -- 30 case, a at least 1
-    if eqb k 40 then eqb x 0 else                                   -- 40 integer b
-    if eqb k 41 then eqb x 0 && within 0 1 z else                   -- 41 logical b (0 or 1)
-    if eqb k 42 then eqb x 0 else                                   -- 42 bits b
-    if eqb k 43 then nothing z else                                 -- 43 null of class a
-    if eqb k 44 then nothing z else                                 -- 44 variable a
-    if eqb k 45 then natural z else                                 -- 45 function a with b arguments
-    if eqb k 46 then nothing z else                                 -- 46 field a of (E)
-    if eqb k 47 then natural z else                                 -- 47 record of class a from b values
-    if eqb k 48 then isSome (unaryOf x) && nothing z else           -- 48 unary a
-    if eqb k 49 then isSome (binaryOf x) && nothing z else          -- 49 binary a
-    if eqb k 50 then eqb x 0 && nothing z else                      -- 50 if-expression
-    if eqb k 51 then eqb x 0 && nothing z else                      -- 51 fader
-    if eqb k 53 then natural z else false                           -- 53 block expression (a declarations, b statements)
+    if eqb k 1 then natural z else  -- 1 block (a declarations, b statements)
+    if eqb k 10 then natural z && isSome (tyOfCode (natAbs z)) else  -- 10 variable a of type b
+    if eqb k 11 then within 1 8 z else  -- 11 class a with b fields, 1 to 8
+    if eqb k 12 then natural z && isHeading (natAbs z) else  -- 12 procedure a
+    if eqb k 14 then leb x 63 && nothing z else  -- 14 hold group a (0 to 63)
+    if eqb k 20 then nothing z else  -- 20 label a
+    if eqb k 21 then eqb x 0 && nothing z else  -- 21 assign
+    if eqb k 22 then eqb x 0 && nothing z else  -- 22 if
+    if eqb k 23 then eqb x 0 && nothing z else  -- 23 if-else
+    if eqb k 24 then eqb x 0 && nothing z else  -- 24 while
+    if eqb k 25 then nothing z else  -- 25 goto a
+    if eqb k 26 then eqb x 0 && nothing z else  -- 26 assert
+    if eqb k 27 then natural z else  -- 27 call a with b arguments
+    if eqb k 28 then eqb x 0 && nothing z else  -- 28 set
+    if eqb k 30 then leb 1 x && nothing z else  -- 30 case, a at least 1
+    if eqb k 40 then eqb x 0 else  -- 40 integer b
+    if eqb k 41 then eqb x 0 && within 0 1 z else  -- 41 logical b (0 or 1)
+    if eqb k 42 then eqb x 0 else  -- 42 bits b
+    if eqb k 43 then nothing z else  -- 43 null of class a
+    if eqb k 44 then nothing z else  -- 44 variable a
+    if eqb k 45 then natural z else  -- 45 function a with b arguments
+    if eqb k 46 then nothing z else  -- 46 field a of (E)
+    if eqb k 47 then natural z else  -- 47 record of class a from b values
+    if eqb k 48 then isSome (unaryOf x) && nothing z else  -- 48 unary a
+    if eqb k 49 then isSome (binaryOf x) && nothing z else  -- 49 binary a
+    if eqb k 50 then eqb x 0 && nothing z else  -- 50 if-expression
+    if eqb k 51 then eqb x 0 && nothing z else  -- 51 fader
+    if eqb k 53 then natural z else false  -- 53 block expression (a declarations, b statements)
 
 -- ── writing: the entries of a tree, in prefix order ──
 unfoldable pub flatTyped : Typed → Entry
@@ -303,7 +303,7 @@ exprsOf (e ∷ es) = expr e (exprsOf es)
 pub record Below : Type 0 where
   pub typed : Reader Typed
   pub decl : Reader Decl
-  pub part : Reader Part   -- a label or a statement
+  pub part : Reader Part  -- a label or a statement
   pub stmt : Reader Stmt
   pub target : Reader Target
   pub expr : Reader Expr
@@ -366,7 +366,8 @@ below (suc d) = let r = below d in record {
   part = first (formPart r);
   stmt = first (formS r);
   target = first (formTarget r);
-  expr = first (formE r) }
+  expr = first (formE r);
+}
 
 -- ── the root: "Kinds 11 and 12 stand only in the root's head, at most 16 and 63." ──
 -- "its body: S when result is 0, E when result is 1, 2 or 3"
@@ -377,9 +378,9 @@ unfoldable pub formGlobal : Below → ℕ → ℕ → Entry → Reader Global
 formGlobal r classes procedures e es =
     let n = natAbs (e .b) in
     if eqb (e .kind) 11 then
-      (if ltb classes 16 then made (class (e .a)) (times n (r .typed)) es else stop (e ∷ es)) else
+    (if ltb classes 16 then made (class (e .a)) (times n (r .typed)) es else stop (e ∷ es)) else
     if eqb (e .kind) 12 then
-      (if ltb procedures 63 then two (procedure (e .a)) (times (n / 256) (r .typed)) (bodyBelow r (n % 256)) es else stop (e ∷ es)) else
+    (if ltb procedures 63 then two (procedure (e .a)) (times (n / 256) (r .typed)) (bodyBelow r (n % 256)) es else stop (e ∷ es)) else
     made local (formDecl e) es
 
 abbrev pub classCount : Global → ℕ

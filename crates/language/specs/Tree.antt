@@ -16,26 +16,26 @@ typed a t = record { name = a; type = t }
 
 -- what may stand in every head
 pub data Decl : Type 0 where
-  declare : Typed → Decl   -- 10
-  holding : ℕ → Decl       -- 14
+  declare : Typed → Decl  -- 10
+  holding : ℕ → Decl  -- 14
 
 mutual
   pub data Stmt : Type 0 where
-    block : List Decl → Items → Stmt          -- 1
-    assign : Target → Expr → Stmt             -- 21
-    when : Expr → Stmt → Stmt                 -- 22
-    choose : Expr → Stmt → Stmt → Stmt        -- 23
-    while : Expr → Stmt → Stmt                -- 24
-    goto : ℕ → Stmt                           -- 25
-    assert : Expr → Stmt                      -- 26
-    call : ℕ → Exprs → Stmt                   -- 27
-    setLevel : Expr → Expr → Stmt             -- 28
-    select : Expr → Arms → Stmt               -- 30
+    block : List Decl → Items → Stmt  -- 1
+    assign : Target → Expr → Stmt  -- 21
+    when : Expr → Stmt → Stmt  -- 22
+    choose : Expr → Stmt → Stmt → Stmt  -- 23
+    while : Expr → Stmt → Stmt  -- 24
+    goto : ℕ → Stmt  -- 25
+    assert : Expr → Stmt  -- 26
+    call : ℕ → Exprs → Stmt  -- 27
+    setLevel : Expr → Expr → Stmt  -- 28
+    select : Expr → Arms → Stmt  -- 30
 
   -- the statements of a block: "20 label a, standing only directly among the statements of a block or block expression"
   pub data Items : Type 0 where
     noItem : Items
-    label : ℕ → Items → Items                 -- 20
+    label : ℕ → Items → Items  -- 20
     item : Stmt → Items → Items
 
   -- the statements of a case, "a at least 1"
@@ -45,23 +45,23 @@ mutual
 
   -- "21 assign (variable or field E, value E)"
   pub data Target : Type 0 where
-    toVariable : ℕ → Target                   -- 44
-    toField : ℕ → Expr → Target               -- 46
+    toVariable : ℕ → Target  -- 44
+    toField : ℕ → Expr → Target  -- 46
 
   pub data Expr : Type 0 where
-    number : ℤ → Expr                         -- 40
-    truth : Bool → Expr                       -- 41
-    pattern : ℤ → Expr                        -- 42
-    null : ℕ → Expr                           -- 43
-    variable : ℕ → Expr                       -- 44
-    invoke : ℕ → Exprs → Expr                 -- 45
-    field : ℕ → Expr → Expr                   -- 46
-    make : ℕ → Exprs → Expr                   -- 47
-    operate1 : Unary → Expr → Expr            -- 48
-    operate2 : Binary → Expr → Expr → Expr    -- 49
-    conditional : Expr → Expr → Expr → Expr   -- 50
-    fader : Expr → Expr                       -- 51
-    blockExpr : List Decl → Items → Expr → Expr   -- 53
+    number : ℤ → Expr  -- 40
+    truth : Bool → Expr  -- 41
+    pattern : ℤ → Expr  -- 42
+    null : ℕ → Expr  -- 43
+    variable : ℕ → Expr  -- 44
+    invoke : ℕ → Exprs → Expr  -- 45
+    field : ℕ → Expr → Expr  -- 46
+    make : ℕ → Exprs → Expr  -- 47
+    operate1 : Unary → Expr → Expr  -- 48
+    operate2 : Binary → Expr → Expr → Expr  -- 49
+    conditional : Expr → Expr → Expr → Expr  -- 50
+    fader : Expr → Expr  -- 51
+    blockExpr : List Decl → Items → Expr → Expr  -- 53
 
   pub data Exprs : Type 0 where
     noExpr : Exprs
@@ -75,8 +75,8 @@ pub data Body : Type 0 where
 -- "Kinds 11 and 12 stand only in the root's head"
 pub data Global : Type 0 where
   local : Decl → Global
-  class : ℕ → List Typed → Global               -- 11
-  procedure : ℕ → List Typed → Body → Global    -- 12
+  class : ℕ → List Typed → Global  -- 11
+  procedure : ℕ → List Typed → Body → Global  -- 12
 
 -- the root, a block
 pub record Tree : Type 0 where

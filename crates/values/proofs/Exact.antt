@@ -14,7 +14,7 @@ use mir.Val.{SFits, toZ, ofZ}
 use mir.ValLaws.{toZ-ofZ}
 use Rattle.words.specs.Numbers.{integerOf, wordOf}
 use Rattle.words.specs.Integers.{widen, widened}
-use Rattle.values.specs.Arithmetic.{gives, ends, settle, isZero}
+use Rattle.values.specs.Arithmetic.{Outcome, gives, ends, settle, isZero, unlessZero, quotient, rest, negation}
 use Rattle.values.specs.Values.{sameInteger}
 
 -- ── by way of 64 bits ──
@@ -119,14 +119,25 @@ pub negation-over : (x : ℤ) → SFits w32 x → wordOf x ≡ 2147483648 → se
 negation-over x h e = rw (same-integer x (negsuc 2147483647) h (record { sfits = omega arith }) e) (overflows (pos 2147483648) (omega arith))
 
 -- ── division ──
--- a divisor that is not 0, and one that is not −1, by its bits
-pub not-zero : (y : ℤ) → (wordOf y ≡ 0 → ⊥) → isZero y ≡ false
+-- a divisor by its bits: 0, not 0, −1
+pub zero-divides : (y : ℤ) (o : Outcome ℤ) → SFits w32 y → wordOf y ≡ 0 → unlessZero y o ≡ ends 21
+zero-divides y o k e = rw (same-integer y (pos 0) k (record { sfits = omega arith }) e)
+
+not-zero : (y : ℤ) → (wordOf y ≡ 0 → ⊥) → isZero y ≡ false
 not-zero (pos b) f = ne-eqb b 0 f
 not-zero (negsuc b) f = ne-eqb (suc b) 0 (λ e. omega arith)
 
-pub is-zero : (y : ℤ) → SFits w32 y → wordOf y ≡ 0 → isZero y ≡ true
-is-zero y k e = rw (same-integer y (pos 0) k (record { sfits = omega arith }) e)
+pub divided : (y : ℤ) (o : Outcome ℤ) → (wordOf y ≡ 0 → ⊥) → unlessZero y o ≡ o
+divided y o f = rw (not-zero y f)
 
+minus-one : (y : ℤ) → SFits w32 y → wordOf y ≡ 4294967295 → y ≡ negsuc 0
+minus-one y k e = same-integer y (negsuc 0) k (record { sfits = omega arith }) e
+
+by-minus-one : (x : ℤ) → (quotZ x (negsuc 0) ≡ negℤ x) × (remZ x (negsuc 0) ≡ pos 0)
+by-minus-one (pos a) = (rw (div-one a), rw (mod-one a))
+by-minus-one (negsuc a) = (rw (div-one (suc a)), rw (mod-one (suc a)))
+
+-- by another the quotient is no larger than the dividend
 quotient-mag : (x y : ℤ) → SFits w32 y → (wordOf y ≡ 4294967295 → ⊥) → mag (quotZ x y) ≤ mag x
 quotient-mag (pos a) (pos b) k f = div-le-self a b
 quotient-mag (pos a) (negsuc b) k f = omega (arith, mag-size (negℤ (pos (a / suc b))), size-neg (pos (a / suc b)), div-le-self a (suc b))
@@ -139,27 +150,31 @@ quotient-mag (negsuc a) (negsuc b) k f =
     let g : 1 < suc b = omega arith in
     omega (arith, div-lt-self {n = suc a} {k = suc b} (omega arith) g)
 
-pub rest-fits : (x y : ℤ) → SFits w32 x → SFits w32 (remZ x y)
-rest-fits x y h = record { sfits = omega (arith, mag-rem x y) }
+module _ (x y : ℤ) (h : SFits w32 x) (k : SFits w32 y) (f : wordOf y ≡ 0 → ⊥) where
+  pub quotient-minus-one : wordOf y ≡ 4294967295 → quotient x y ≡ negation x
+  quotient-minus-one e = divided y (settle (quotZ x y)) f ∙ ap settle (rw (minus-one y k e) (by-minus-one x .0))
 
-pub divides : (x y : ℤ) → SFits w32 x → SFits w32 y → (wordOf y ≡ 0 → ⊥) → (wordOf y ≡ 4294967295 → ⊥)
-    → (0 < ofZ w32 y) × SFits w32 (quotZ (toZ w32 (ofZ w32 x)) (toZ w32 (ofZ w32 y)))
-divides x y h k f g = (omega arith, rw (toZ-ofZ w32 x h, toZ-ofZ w32 y k) (record { sfits = omega (arith, quotient-mag x y k g) }))
+  pub rest-minus-one : wordOf y ≡ 4294967295 → rest x y ≡ gives (pos 0)
+  rest-minus-one e = divided y (settle (remZ x y)) f ∙ ap settle (rw (minus-one y k e) (by-minus-one x .1)) ∙ settled (pos 0) (omega arith)
 
--- by −1
-pub quotient-minus-one : (x y : ℤ) → SFits w32 y → wordOf y ≡ 4294967295 → quotZ x y ≡ negℤ x
-quotient-minus-one x y k e = rw (same-integer y (negsuc 0) k (record { sfits = omega arith }) e) (go x)
-  where
-    go : (x : ℤ) → quotZ x (negsuc 0) ≡ negℤ x
-    go (pos a) = rw (div-one a)
-    go (negsuc a) = rw (div-one (suc a))
+  module _ (g : wordOf y ≡ 4294967295 → ⊥) where
+    quotient-fits : SFits w32 (quotZ x y)
+    quotient-fits = record { sfits = omega (arith, quotient-mag x y k g) }
 
-pub rest-minus-one : (x y : ℤ) → SFits w32 y → wordOf y ≡ 4294967295 → remZ x y ≡ pos 0
-rest-minus-one x y k e = rw (same-integer y (negsuc 0) k (record { sfits = omega arith }) e) (go x)
-  where
-    go : (x : ℤ) → remZ x (negsuc 0) ≡ pos 0
-    go (pos a) = rw (mod-one a)
-    go (negsuc a) = rw (mod-one (suc a))
+    -- what the machine asks of a division, and what it gives
+    pub divides : (0 < ofZ w32 y) × SFits w32 (quotZ (toZ w32 (ofZ w32 x)) (toZ w32 (ofZ w32 y)))
+    divides = (omega arith, rw (toZ-ofZ w32 x h, toZ-ofZ w32 y k) quotient-fits)
+
+    pub quotient-exact : gives (toZ w32 (ofZ w32 (quotZ (toZ w32 (ofZ w32 x)) (toZ w32 (ofZ w32 y))))) ≡ quotient x y
+    quotient-exact =
+        rw (toZ-ofZ w32 x h, toZ-ofZ w32 y k, toZ-ofZ w32 _ quotient-fits)
+        (sym (divided y (settle (quotZ x y)) f ∙ settled (quotZ x y) (quotient-fits .sfits)))
+
+  pub rest-exact : gives (toZ w32 (ofZ w32 (remZ (toZ w32 (ofZ w32 x)) (toZ w32 (ofZ w32 y))))) ≡ rest x y
+  rest-exact =
+      let r : SFits w32 (remZ x y) = record { sfits = omega (arith, mag-rem x y) } in
+      rw (toZ-ofZ w32 x h, toZ-ofZ w32 y k, toZ-ofZ w32 _ r)
+      (sym (divided y (settle (remZ x y)) f ∙ settled (remZ x y) (r .sfits)))
 
 -- ── sign and equality ──
 pub negative : (x : ℤ) → ltZ x (pos 0) ≡ true → negℤ x ≡ pos (natAbs x)

@@ -10,4 +10,4 @@ pub data Event : Type 0 where
 -- readings stand in the trace beside the events: "given the same readings in the same order"
 pub data Item : Type 0 where
   event : Event → Item
-  reading : ℕ → ℕ → Item   -- the fader, and the byte read
+  reading : ℕ → ℕ → Item  -- the fader, and the byte read

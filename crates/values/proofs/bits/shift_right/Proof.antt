@@ -1,7 +1,7 @@
 -- `values::bits::shift_right` meets its contract. Assumes nothing.
 use mir.Syntax.{w32}
 use mir.ValLaws.{toZ-ofZ}
-use Rattle.values.proofs.Digits.{shifts}
+use Rattle.values.proofs.Digits.{shifts-right}
 use borrow.Author.Needs.{needs}
 use Rattle.values.proofs.bits.shift_right.Statement.{statement}
 use Rattle.values.proofs.bits.shift_right.Tie as tie
@@ -9,24 +9,13 @@ use Rattle.values.proofs.bits.shift_right.Tie as tie
 size-requires : tie.Need-size-requires
 size-requires c κs = search needs
 
-left-by-requires : tie.Need-left-by-requires
-left-by-requires c κs = search needs
-
-right-by-requires : tie.Need-right-by-requires
-right-by-requires c κs = search needs
+moved-requires : tie.Need-moved-requires
+moved-requires c κs = search needs
 
 returns : tie.Need-returns
 returns c =
-    let s = c .before .before .before in
-    let t = rw (toZ-ofZ w32 _ (s .fits .n)) at (c .before .if1 .taken) in
-    rw (shifts (s .args .x) (s .args .n) .1, t) (rw (c .before .before .size .ensures, toZ-ofZ w32 _ (s .fits .n)) at (c .left-by .ensures))
-
-returns-2 : tie.Need-returns-2
-returns-2 c =
-    let s = c .before .before .before in
-    let t = rw (toZ-ofZ w32 _ (s .fits .n)) at (c .before .if1 .left) in
-    rw (shifts (s .args .x) (s .args .n) .1, t) (rw (c .before .before .size .ensures, toZ-ofZ w32 _ (s .fits .n)) at (c .right-by .ensures))
+    rw (shifts-right (c .before .before .args .x) (c .before .before .args .n))
+    (rw (c .before .size .ensures, toZ-ofZ w32 _ (c .before .before .fits .n)) at (c .moved .ensures))
 
 pub shift-right-spec : {M : Type 1} → statement M
-shift-right-spec =
-    tie.close (tie.spec size-requires left-by-requires right-by-requires returns returns-2)
+shift-right-spec = tie.close (tie.spec size-requires moved-requires returns)
