@@ -128,7 +128,8 @@ impl<'r> Gen<'r> {
         Gen {
             rng,
             plan,
-            left: plan.entries as i64,
+            // Statements begun are finished, so a program grows past its budget by a fifth.
+            left: plan.entries as i64 * 4 / 5,
             classes: Vec::new(),
             procedures: Vec::new(),
             scopes: Vec::new(),
@@ -160,7 +161,9 @@ impl<'r> Gen<'r> {
                 1..=5 => self.rng.below(400) as u16,
                 _ => self.rng.below(14) as u16,
             };
-            if !used.contains(&name) {
+            // A class hidden by another name leaves its null out of reach, so it is rarely hidden.
+            let hides = self.classes.iter().any(|c| c.name == name) && !(self.plan.entries < 60 && self.rng.chance(30));
+            if !used.contains(&name) && !hides {
                 return name;
             }
         }

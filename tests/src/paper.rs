@@ -51,3 +51,71 @@ pub fn root_only(instructions: &str, shapes: Vec<Shape>) -> Macro {
 /// The example of paper 01's listing program.
 pub const LISTING_EXAMPLE: &str =
     "1 0 3, 1 1 2, 14 7 0, 28 0 0, 40 0 3, 40 0 200, 25 5 0, 28 0 0, 40 0 4, 40 0 9, 20 5 0";
+
+// Short forms for the tests.
+
+use crate::agree::{both, Look};
+use crate::answer::{Event, Item};
+use crate::code::{judge_macro, write_macro};
+use crate::execute::budget;
+use crate::names::judge_table;
+
+/// The verdict on a table: number and place, (0, 0) where it is accepted.
+pub fn judged(bytes: &[u8]) -> (u8, usize) {
+    match judge_table(bytes) {
+        Ok(_) => (0, 0),
+        Err(refusal) => (refusal.number, refusal.place),
+    }
+}
+
+/// The verdict on a table in the papers' notation.
+pub fn verdict(text: &str) -> (u8, usize) {
+    judged(&table(text))
+}
+
+/// The verdict on a macro's bytes.
+pub fn loaded(bytes: &[u8]) -> (u8, usize) {
+    match judge_macro(bytes) {
+        Ok(_) => (0, 0),
+        Err(refusal) => (refusal.number, refusal.place),
+    }
+}
+
+/// The verdict on a macro in parts.
+pub fn loads(m: &Macro) -> (u8, usize) {
+    loaded(&write_macro(m))
+}
+
+/// Events as the listing prints them, and `end` with its number. The tree and its compiled
+/// code must agree; all readings are this byte.
+pub fn listing_of(bytes: &[u8], reading: u8) -> Vec<String> {
+    let tree = match judge_table(bytes) {
+        Ok(tree) => tree,
+        Err(refusal) => return vec![format!("refused {} {}", refusal.number, refusal.place)],
+    };
+    let (x, _) = both(&tree, &|_, _| reading, budget(5_000), Look::Not).unwrap();
+    let mut lines = Vec::new();
+    for item in &x.items {
+        match item {
+            Item::Event(Event::Set { channel, level }) => lines.push(format!("set {channel} {level}")),
+            Item::Event(Event::Hold { group }) => lines.push(format!("hold {group}")),
+            Item::Event(Event::Release { group }) => lines.push(format!("release {group}")),
+            Item::Reading { .. } => {}
+        }
+    }
+    match x.end {
+        Some(end) => lines.push(format!("end {end}")),
+        None => lines.push("open 0".to_string()),
+    }
+    lines
+}
+
+/// The same for a table in the papers' notation, all readings 0.
+pub fn lines(text: &str) -> Vec<String> {
+    listing_of(&table(text), 0)
+}
+
+/// How a program ends.
+pub fn end_of(text: &str) -> String {
+    lines(text).pop().unwrap()
+}

@@ -1,0 +1,5 @@
+pub mod Search
+pub mod Records
+pub mod Rules
+pub mod Index
+pub mod Computes
