@@ -1155,10 +1155,113 @@ fn damage_once(rng: &mut Rng, list: &mut Vec<Entry>) {
     }
 }
 
+/// How many operands an entry of a valid table has.
+fn operand_count(e: Entry) -> usize {
+    match e.kind {
+        1 => e.a as usize + e.b as usize,
+        53 => e.a as usize + e.b as usize + 1,
+        11 | 27 | 45 | 47 => e.b as usize,
+        12 => e.b as usize / 256 + 1,
+        30 => e.a as usize + 1,
+        26 | 46 | 48 | 51 => 1,
+        21 | 22 | 24 | 28 | 49 => 2,
+        23 | 50 => 3,
+        _ => 0,
+    }
+}
+
+/// The entry after an entry's last operand, in a valid table.
+fn end_of(list: &[Entry], at: usize) -> usize {
+    let mut next = at + 1;
+    for _ in 0..operand_count(list[at]) {
+        next = end_of(list, next);
+    }
+    next
+}
+
+/// 0 a declaration, 1 a statement, 2 an expression.
+fn sort_of(kind: u16) -> usize {
+    match kind {
+        10..=14 => 0,
+        1 | 20..=30 => 1,
+        _ => 2,
+    }
+}
+
+/// Damage that mostly leaves the table one tree: names, types and operators changed, and whole
+/// operands exchanged or repeated elsewhere. The table must be valid.
+fn damage_meaning(rng: &mut Rng, list: &mut Vec<Entry>) {
+    let names: Vec<u16> = list.iter().map(|e| e.a).collect();
+    let labels: Vec<u16> = list.iter().filter(|e| e.kind == 20).map(|e| e.a).collect();
+    let of_kinds = |list: &[Entry], kinds: &[u16]| -> Vec<usize> {
+        (0..list.len()).filter(|&k| kinds.contains(&list[k].kind)).collect()
+    };
+    match rng.below(10) {
+        0 | 1 => {
+            let some = of_kinds(list, &[10, 11, 12, 20, 25, 27, 43, 44, 45, 46, 47]);
+            if !some.is_empty() {
+                list[*rng.pick(&some)].a = *rng.pick(&names);
+            }
+        }
+        2 => {
+            let some = of_kinds(list, &[10, 48, 49]);
+            if !some.is_empty() {
+                let k = *rng.pick(&some);
+                match list[k].kind {
+                    10 => {
+                        let class = 65_536 + *rng.pick(&names) as i32;
+                        list[k].b = *rng.pick(&[1, 2, 3, class]);
+                    }
+                    48 => list[k].a = rng.between(20, 22) as u16,
+                    _ => list[k].a = rng.between(1, 15) as u16,
+                }
+            }
+        }
+        3 => {
+            let some = of_kinds(list, &[40, 41, 42]);
+            if !some.is_empty() {
+                let k = *rng.pick(&some);
+                list[k] = Entry { kind: *rng.pick(&[40, 41, 42]), a: 0, b: rng.below(2) as i32 };
+            }
+        }
+        4 => {
+            // A goto to any label of the table, in the place of a statement.
+            let some: Vec<usize> = (1..list.len()).filter(|&k| sort_of(list[k].kind) == 1 && list[k].kind != 20).collect();
+            if !some.is_empty() && !labels.is_empty() {
+                let k = *rng.pick(&some);
+                let end = end_of(list, k);
+                let goto = Entry { kind: 25, a: *rng.pick(&labels), b: 0 };
+                list.splice(k..end, [goto]);
+            }
+        }
+        5 => {
+            // A goto inside a block expression in the place of an expression.
+            let some: Vec<usize> = (1..list.len()).filter(|&k| sort_of(list[k].kind) == 2).collect();
+            if !some.is_empty() && !labels.is_empty() {
+                let k = *rng.pick(&some);
+                let goto = Entry { kind: 25, a: *rng.pick(&labels), b: 0 };
+                list.splice(k..k, [Entry { kind: 53, a: 0, b: 1 }, goto]);
+            }
+        }
+        _ => {
+            // An operand in the place of another of its sort.
+            let from = 1 + rng.below(list.len().max(2) - 1);
+            if from >= list.len() {
+                return;
+            }
+            let some: Vec<usize> = (1..list.len()).filter(|&k| sort_of(list[k].kind) == sort_of(list[from].kind)).collect();
+            let to = *rng.pick(&some);
+            let copy: Vec<Entry> = list[from..end_of(list, from)].to_vec();
+            let end = end_of(list, to);
+            list.splice(to..end, copy);
+        }
+    }
+}
+
 /// A valid table with one to three damages, or cut, or with bytes behind it.
 pub fn damaged_table(rng: &mut Rng, valid: &[Entry]) -> Vec<u8> {
     let mut list = valid.to_vec();
-    match rng.below(12) {
+    match rng.below(14) {
         0 => {
             let mut bytes = bytes_of(&list);
             bytes.truncate(rng.below(bytes.len() + 1));
@@ -1181,8 +1284,17 @@ pub fn damaged_table(rng: &mut Rng, valid: &[Entry]) -> Vec<u8> {
             bytes[i] ^= 1 << rng.below(8);
             bytes
         }
-        _ => {
+        4..=9 => {
+            // Damage to the meaning needs one tree to begin with.
             for _ in 0..1 + rng.below(3) {
+                if read_table(&bytes_of(&list)).is_ok() {
+                    damage_meaning(rng, &mut list);
+                }
+            }
+            bytes_of(&list)
+        }
+        _ => {
+            for _ in 0..1 + rng.below(2) {
                 damage_once(rng, &mut list);
             }
             bytes_of(&list)

@@ -6,11 +6,24 @@ use crate::machine::{fresh, step, State};
 use crate::rng::Rng;
 use crate::state::{encode, LENGTH};
 
-/// A state that some number of steps, at most this many, reaches.
+/// How much there is to a state: activations, records, holds and operands.
+fn richness(state: &State) -> usize {
+    match state {
+        State::Running { records, activations } => {
+            let operands: usize = activations.iter().map(|t| t.stack.len()).sum();
+            let holds: usize = activations.iter().map(|t| t.holds.len()).sum();
+            3 * activations.len() + 2 * records.len() + 2 * holds + operands
+        }
+        State::Releasing { holds, .. } => holds.len(),
+        State::Ended { .. } => 0,
+    }
+}
+
+/// A state that some number of steps, at most this many, reaches; mostly a rich one.
 pub fn reached(rng: &mut Rng, loaded: &Loaded, most: usize) -> State {
     let mut state = fresh(&loaded.code);
-    let steps = rng.below(most + 1);
-    for _ in 0..steps {
+    let mut passed = vec![state.clone()];
+    for _ in 0..most {
         if let State::Ended { .. } = state {
             break;
         }
@@ -19,8 +32,13 @@ pub fn reached(rng: &mut Rng, loaded: &Loaded, most: usize) -> State {
             value %= 4;
         }
         step(&loaded.code, &mut state, &mut |_| value).expect("a passed macro is never stuck");
+        passed.push(state.clone());
     }
-    state
+    if rng.chance(80) {
+        let richest = passed.iter().map(richness).max().unwrap();
+        passed.retain(|s| richness(s) * 2 >= richest);
+    }
+    rng.pick(&passed).clone()
 }
 
 /// A state that is releasing or has ended, made up.

@@ -6,6 +6,7 @@ pub mod agree;
 pub mod answer;
 pub mod code;
 pub mod compile;
+pub mod edges;
 pub mod execute;
 pub mod gen;
 pub mod gen_code;

@@ -35,7 +35,7 @@ fn tree_and_code_agree() {
         let mut ends = [0usize; 28];
         let mut going = 0;
         let mut largest = 0;
-        let count = cases(3_000);
+        let count = cases(20_000);
         for seed in 0..count {
             let mut rng = Rng::new(seed as u64);
             let size = some_size(&mut rng);
@@ -65,7 +65,7 @@ fn tree_and_code_agree() {
 #[test]
 fn every_state_of_a_program_is_sound() {
     deep(|| {
-        for seed in 0..cases(300) {
+        for seed in 0..cases(2_000) {
             let mut rng = Rng::new(1_000_000 + seed as u64);
             let size = 5 + rng.below(120);
             let made = plan(&mut rng, size);
@@ -82,7 +82,7 @@ fn passed_macros_are_never_stuck() {
     deep(|| {
         let mut ended = 0;
         let mut events = 0;
-        let count = cases(1_500);
+        let count = cases(10_000);
         for seed in 0..count {
             let mut rng = Rng::new(2_000_000 + seed as u64);
             let size = Size { bodies: 1 + rng.below(6), instructions: 5 + rng.below(60), classes: 3 };
@@ -145,7 +145,7 @@ fn runs_on_bytes_are_runs_of_the_machine() {
     deep(|| {
         let mut refused = 0;
         let mut answered_again = 0;
-        for seed in 0..cases(400) {
+        for seed in 0..cases(2_000) {
             let mut rng = Rng::new(5_000_000 + seed as u64);
             let m = if rng.chance(50) {
                 good_macro(&mut rng, Size { bodies: 4, instructions: 25, classes: 3 })
@@ -194,7 +194,7 @@ fn runs_on_bytes_are_runs_of_the_machine() {
 fn runs_give_the_events_of_the_tree() {
     deep(|| {
         let mut ended = 0;
-        let count = cases(600);
+        let count = cases(4_000);
         for seed in 0..count {
             let mut rng = Rng::new(6_000_000 + seed as u64);
             let size = 5 + rng.below(80);

@@ -4,6 +4,7 @@
 use second::answer::{Event, Item};
 use second::code::{judge_macro, write_macro, Loaded};
 use second::compile::compile;
+use second::edges::{deciding_table, deep_macro, edge_macro, edge_state, edge_table};
 use second::execute::{execute, Budget, Execution};
 use second::gen::{judged_table, plan, program};
 use second::gen_code::{good_macro, judged_macro, some_runs, Run, Size};
@@ -85,7 +86,7 @@ fn list_text(numbers: &[u64]) -> String {
 fn table_case(rng: &mut Rng, i: usize) -> String {
     const WANTED: [u8; 18] = [0, 2, 3, 0, 4, 5, 0, 4, 6, 0, 3, 2, 0, 5, 4, 0, 1, 3];
     let wanted = WANTED[i % WANTED.len()];
-    let bytes = judged_table(rng, wanted, 30);
+    let bytes = if i % 4 == 1 { edge_table(rng) } else { judged_table(rng, wanted, 30) };
     let (number, place) = match judge_table(&bytes) {
         Ok(_) => (0, 0),
         Err(refusal) => (refusal.number, refusal.place),
@@ -98,7 +99,7 @@ fn macro_case(rng: &mut Rng, i: usize) -> String {
     const WANTED: [u8; 9] = [0, 8, 9, 0, 9, 8, 0, 9, 9];
     let wanted = WANTED[i % WANTED.len()];
     let size = Size { bodies: 3, instructions: 10, classes: 2 };
-    let bytes = judged_macro(rng, wanted, size, 25);
+    let bytes = if i % 4 == 1 { edge_macro(rng) } else { judged_macro(rng, wanted, size, 25) };
     let (number, place) = match judge_macro(&bytes) {
         Ok(_) => (0, 0),
         Err(refusal) => (refusal.number, refusal.place),
@@ -147,7 +148,10 @@ fn item_numbers(items: &[Item]) -> Vec<u64> {
 
 /// `executed (bytes N 0xHEX) SEED FUEL END (ITEMS)`
 fn execution_case(rng: &mut Rng, i: usize) -> String {
-    let forever = i % 12 == 5;
+    if i % 4 == 1 {
+        return deciding_case(rng);
+    }
+    let forever = i % 12 == 6;
     // Each condition in turn, 0 between them; 26 and 27 take many steps, so they come less often.
     const ENDS: [u8; 11] = [0, 20, 0, 21, 22, 0, 23, 24, 0, 25, 0];
     let wanted = match i % 33 {
@@ -178,11 +182,21 @@ fn execution_case(rng: &mut Rng, i: usize) -> String {
         };
         let most_steps = if end == 26 { 700 } else { 300 };
         // After many tries any end is taken.
-        if (end == wanted || attempt > 60) && plain_steps(&tree, seed, most_steps).is_some() {
+        let patience = if wanted == 26 { 400 } else { 60 };
+        if (end == wanted || attempt > patience) && plain_steps(&tree, seed, most_steps).is_some() {
             return executed(&table, seed, x.fuel, end as u64, &x);
         }
     }
     unreachable!()
+}
+
+/// A program in which operators decide on operands that are nearly equal.
+fn deciding_case(rng: &mut Rng) -> String {
+    let table = deciding_table(rng);
+    let tree = judge_table(&table).expect("a deciding table is accepted");
+    let x = execute(&tree, &mut oracle(0), Budget { fuel: 400, line: u64::MAX, items: 150 });
+    let end = x.end.expect("it has no loop");
+    executed(&table, 0, x.fuel, end as u64, &x)
 }
 
 /// A fuel at which the execution is still going, and an execution that is longer than any
@@ -218,6 +232,11 @@ fn small_macro(rng: &mut Rng) -> Loaded {
         if m.code.len() > 25 {
             continue;
         }
+        // Mostly macros in which something happens: calls, records, holds, readings.
+        let sorts = [10, 12, 17, 16, 15].iter().filter(|op| m.code.iter().any(|i| i.op == **op)).count();
+        if sorts < 2 && !rng.chance(15) {
+            continue;
+        }
         return judge_macro(&write_macro(&m)).expect("a good macro passes");
     }
 }
@@ -227,21 +246,25 @@ fn run_case(rng: &mut Rng, i: usize) -> String {
     const MOST_STEPS: u64 = 300;
     loop {
         let loaded = small_macro(rng);
-        // Dull macros now and then only.
-        let mut runs = some_runs(rng, 8, if i % 4 == 0 { 65_535 } else { 60 });
+        let mut runs = Vec::new();
         let mut state = fresh(&loaded.code);
         let mut answers = Vec::new();
         let mut steps = 0;
-        for r in &mut runs {
+        for mut r in some_runs(rng, 8, if i % 4 == 0 { 65_535 } else { 60 }) {
+            // Not too many ends that are only answered again.
+            if matches!(state, State::Ended { .. }) && rng.chance(60) {
+                break;
+            }
             // An allowance that would be used up whole is made smaller.
             let mut probe = state.clone();
             let given = run(&loaded.code, &mut probe, &r.bank(), r.allowance).expect("never stuck");
             if given.numbers()[1] + steps > MOST_STEPS {
-                *r = Run { allowance: rng.below(40) as u16, ..*r };
+                r = Run { allowance: rng.below(40) as u16, ..r };
             }
             let answer = run(&loaded.code, &mut state, &r.bank(), r.allowance).expect("never stuck");
             steps += answer.numbers()[1];
             answers.extend_from_slice(&answer.numbers());
+            runs.push(r);
         }
         let events = answers.chunks(4).filter(|a| a[0] >= 3).count();
         if steps > MOST_STEPS || (events == 0 && !rng.chance(15)) {
@@ -258,21 +281,34 @@ fn run_case(rng: &mut Rng, i: usize) -> String {
 
 /// `held (bytes N 0xHEX) (SEGMENTS) FLAG`
 fn state_case(rng: &mut Rng, i: usize) -> String {
+    if i % 3 == 1 {
+        let loaded = deep_macro();
+        let bytes = edge_state(rng, &loaded);
+        return held(&loaded, &bytes);
+    }
     let wanted = i % 2 == 0;
     loop {
         let loaded = small_macro(rng);
         let bytes = state_bytes(rng, &loaded, 40);
-        // A large state only now and then.
+        // A large state only now and then, and an ended one, too.
         let used = bytes.iter().filter(|b| **b != 0).count();
-        if used > 400 && !rng.chance(10) {
+        if (used > 400 || bytes[0] == 2) && !rng.chance(10) {
             continue;
         }
-        let flag = sound_state(&loaded, &bytes).is_some();
-        if flag == wanted {
-            let code = write_macro(&loaded.code);
-            return format!("held ({}) {} {}", bytes_text(&code), segments_text(&bytes), flag as u8);
+        // Mostly with more than the root alone, or with records.
+        if bytes[0] == 0 && bytes[2] < 2 && bytes[4] == 0 && !rng.chance(8) {
+            continue;
+        }
+        if sound_state(&loaded, &bytes).is_some() == wanted {
+            return held(&loaded, &bytes);
         }
     }
+}
+
+fn held(loaded: &Loaded, bytes: &[u8]) -> String {
+    let flag = sound_state(loaded, bytes).is_some();
+    let code = write_macro(&loaded.code);
+    format!("held ({}) {} {}", bytes_text(&code), segments_text(bytes), flag as u8)
 }
 
 /// GAP zero bytes, then N bytes, and so on, then zeros up to 24,576 bytes in all.

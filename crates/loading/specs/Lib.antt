@@ -1,0 +1,8 @@
+pub mod Tests
+pub mod Terms
+pub mod Reading
+pub mod Bodies
+pub mod Judging
+pub mod Found
+pub mod Ops
+pub mod Promises

@@ -1,0 +1,192 @@
+-- What each instruction finds, read off its effect; and what the numbers of an instruction stand for.
+use mathlib.Core.Path.{_≡_, refl, subst}
+use mathlib.Core.Bool.{Bool, true, false, _&&_}
+use mathlib.Core.List.{List, [], _∷_}
+use mathlib.Core.Option.{Option, none, some}
+use Prim.Native.Nat.{ℕ, zero, suc, _≤_, _<_}
+use native.Mathlib.Omega.{arith}
+use lib.Dec.{eqb, leb, ltb}
+use lib.ListN.{length, getElem?}
+use lib.Signed.{mag}
+use borrow.Author.Tests.{leb-true, ltb-true, lt-ltb}
+use Rattle.words.specs.Choice.{if_then_else_}
+use Rattle.words.specs.Numbers.{integerOf}
+use Rattle.words.specs.Laws.{integer-fits}
+use Rattle.values.specs.Types.{Ty, reference}
+use Rattle.values.specs.Operators.{Unary, unary, Binary, binary, opType}
+use Rattle.values.specs.Values.{Value, int, log, bit, ref, tyOf}
+use Rattle.bytecode.specs.Macro.{Body, Code, Shape, shape, Macro}
+use Rattle.bytecode.specs.Instructions.{Instr, end, push, load, store, operate, go, goUnless, call, return, make, getField, putField, setLevel, readFader, takeHold, letHold, assert, stop, exactly, ownerOf, operatorOf, instruction, bodyAt, instrAt}
+use Rattle.bytecode.specs.Rules.{plain, wrong, effect, giving, taking, operating, pushing, calling, calledBody, making, cellTy, fieldTy, resultsOf, endingIn, returningIn}
+use Rattle.bytecode.specs.Sound.{soundValue}
+use Rattle.loading.specs.Tests.{never-some, halves, kept}
+use Rattle.loading.specs.Terms.{Named, OfBytes, Passed, Allowed, Does, Literal, Finds}
+use Rattle.loading.specs.Bodies.{each-at, body-there}
+use Rattle.loading.specs.Found.{follows, does}
+
+-- ── the numbers of an instruction ──
+abbrev Proper : Instr → Type 0
+Proper end = Unit {0}
+Proper (push v) = Literal v
+Proper (load o x) = Unit {0}
+Proper (store o x) = Unit {0}
+Proper (operate o) = Unit {0}
+Proper (go i) = Unit {0}
+Proper (goUnless i) = Unit {0}
+Proper (call k) = Unit {0}
+Proper return = Unit {0}
+Proper (make c) = Unit {0}
+Proper (getField c x) = Unit {0}
+Proper (putField c x) = Unit {0}
+Proper setLevel = Unit {0}
+Proper readFader = Unit {0}
+Proper (takeHold g) = g ≤ 63
+Proper letHold = Unit {0}
+Proper assert = Unit {0}
+Proper stop = Unit {0}
+
+literal-integer : (n : ℕ) → n < 4294967296 → Literal (int (integerOf n))
+unfolding soundValue
+literal-integer n h rs = lt-ltb (mag (integerOf n)) 2147483648 (integer-fits n h .sfits)
+
+literal-bits : (n : ℕ) → n < 4294967296 → Literal (bit n)
+unfolding soundValue
+literal-bits n h rs = lt-ltb n 4294967296 h
+
+literal-logical : (b : Bool) → Literal (log b)
+unfolding soundValue
+literal-logical b rs = refl
+
+literal-null : (c : ℕ) → Literal (ref c none)
+unfolding soundValue
+literal-null c rs = refl
+
+either : (b : Bool) (o p : Option Instr) (x : Instr) → (o ≡ some x → Proper x) → (p ≡ some x → Proper x) → (if b then o else p) ≡ some x → Proper x
+either true o p x f g h = f h
+either false o p x f g h = g h
+
+just : (b : Bool) (y x : Instr) → (b ≡ true → Proper y) → exactly b y ≡ some x → Proper x
+just true y x f h = let e : y ≡ x = cc in subst Proper e (f refl)
+just false y x f h = never-some h
+
+made : (y x : Instr) → Proper y → some y ≡ some x → Proper x
+made y x p h = let e : y ≡ x = cc in subst Proper e p
+
+pub proper : (c : Code) (x : Instr) → OfBytes c → instruction c ≡ some x → Proper x
+unfolding instruction
+proper c x w h =
+    let n = c .b in let a = c .a in let p = eqb a 0 && eqb n 0 in
+    either (eqb (c .op) 0) _ _ x (just p end x (λ e. tt)) (
+    either (eqb (c .op) 1) _ _ x (just (eqb a 0) (push (int (integerOf n))) x (λ e. literal-integer n (w .b-word))) (
+    either (eqb (c .op) 2) _ _ x (just (eqb a 0 && ltb n 2) (push (log (eqb n 1))) x (λ e. literal-logical (eqb n 1))) (
+    either (eqb (c .op) 3) _ _ x (just (eqb a 0) (push (bit n)) x (λ e. literal-bits n (w .b-word))) (
+    either (eqb (c .op) 4) _ _ x (just (eqb n 0) (push (ref a none)) x (λ e. literal-null a)) (
+    either (eqb (c .op) 5) _ _ x (λ h. let q = kept (ownerOf a) (λ o. some (load o n)) x h in made (load (q .0) n) x tt (q .2)) (
+    either (eqb (c .op) 6) _ _ x (λ h. let q = kept (ownerOf a) (λ o. some (store o n)) x h in made (store (q .0) n) x tt (q .2)) (
+    either (eqb (c .op) 7) _ _ x (λ h. let q = kept (operatorOf a) (λ o. exactly (eqb n 0) (operate o)) x h in just (eqb n 0) (operate (q .0)) x (λ e. tt) (q .2)) (
+    either (eqb (c .op) 8) _ _ x (just (eqb a 0) (go n) x (λ e. tt)) (
+    either (eqb (c .op) 9) _ _ x (just (eqb a 0) (goUnless n) x (λ e. tt)) (
+    either (eqb (c .op) 10) _ _ x (just (eqb a 0) (call n) x (λ e. tt)) (
+    either (eqb (c .op) 11) _ _ x (just p return x (λ e. tt)) (
+    either (eqb (c .op) 12) _ _ x (just (eqb n 0) (make a) x (λ e. tt)) (
+    either (eqb (c .op) 13) _ _ x (made (getField a n) x tt) (
+    either (eqb (c .op) 14) _ _ x (made (putField a n) x tt) (
+    either (eqb (c .op) 15) _ _ x (just p setLevel x (λ e. tt)) (
+    either (eqb (c .op) 16) _ _ x (just p readFader x (λ e. tt)) (
+    either (eqb (c .op) 17) _ _ x (just (eqb a 0 && leb n 63) (takeHold n) x (λ e. leb-true n 63 (halves (eqb a 0) (leb n 63) e .1))) (
+    either (eqb (c .op) 18) _ _ x (just p letHold x (λ e. tt)) (
+    either (eqb (c .op) 19) _ _ x (just p assert x (λ e. tt)) (
+    either (eqb (c .op) 20) _ none x (just p stop x (λ e. tt)) never-some)))))))))))))))))))) h
+
+module _ (m : Macro) (w : Passed m) where
+  proper-at : (i : ℕ) (x : Instr) → instrAt m i ≡ some x → Proper x
+  proper-at i x h =
+      let q = kept (getElem? (m .code) i) instruction x h in
+      proper (q .0) x (each-at OfBytes (m .code) i (q .0) (w .narrow .instructions-narrow) (q .1)) (q .2)
+
+  module _ (k i : ℕ) (s : Shape) where
+    by-giving : (o : Option Ty) (ins : List Ty) → Does m k i s (giving o ins) → (t : Ty) × (o ≡ some t) × Does m k i s (plain ins (t ∷ []))
+    by-giving none ins d = absurd d
+    by-giving (some t) ins d = (t, refl, d)
+
+    by-taking : (o : Option Ty) (ins : List Ty) → Does m k i s (taking o ins) → (t : Ty) × (o ≡ some t) × Does m k i s (plain (t ∷ ins) [])
+    by-taking none ins d = absurd d
+    by-taking (some t) ins d = (t, refl, d)
+
+    by-unary : (o : Unary) (ts : List Ty) → Does m k i s (operating (unary o) ts)
+        → (t : Ty) × (u : Ty) × (opType (unary o) (t ∷ []) ≡ some u) × Does m k i s (plain (t ∷ []) (u ∷ []))
+    by-unary o [] d = absurd d
+    by-unary o (t ∷ ts) d = let q = by-giving (opType (unary o) (t ∷ [])) (t ∷ []) d in (t, q .0, q .1, q .2)
+
+    by-binary : (o : Binary) (ts : List Ty) → Does m k i s (operating (binary o) ts)
+        → (t : Ty) × (u : Ty) × (v : Ty) × (opType (binary o) (u ∷ t ∷ []) ≡ some v) × Does m k i s (plain (t ∷ u ∷ []) (v ∷ []))
+    by-binary o [] d = absurd d
+    by-binary o (t ∷ []) d = absurd d
+    by-binary o (t ∷ (u ∷ ts)) d = let q = by-giving (opType (binary o) (u ∷ t ∷ [])) (t ∷ u ∷ []) d in (t, u, q .0, q .1, q .2)
+
+    by-push : (v : Value) → Does m k i s (pushing m v) → Named (length (m .classes)) (tyOf v) × Does m k i s (plain [] (tyOf v ∷ []))
+    by-push (int z) d = (tt, d)
+    by-push (log b) d = (tt, d)
+    by-push (bit n) d = (tt, d)
+    by-push (ref c r) d = pick (ltb c (length (m .classes))) refl d
+      where
+        pick : (b : Bool) → ltb c (length (m .classes)) ≡ b → Does m k i s (if b then plain [] (reference c ∷ []) else wrong)
+            → (c < length (m .classes)) × Does m k i s (plain [] (reference c ∷ []))
+        pick true e d = (ltb-true c (length (m .classes)) e, d)
+        pick false e d = absurd d
+
+    by-call : (j : ℕ) → Does m k i s (calling (calledBody m j)) → Finds m k i s (call j)
+    by-call zero d = absurd d
+    by-call (suc j) d = pick (bodyAt m (suc j)) refl d
+      where
+        pick : (o : Option Body) → bodyAt m (suc j) ≡ o → Does m k i s (calling o) → Finds m k i s (call (suc j))
+        pick none e d = absurd d
+        pick (some b) e d = (b, omega arith, e, d)
+
+    by-make : (c : ℕ) (o : Option (List Ty)) → getElem? (m .classes) c ≡ o → Does m k i s (making o c) → Finds m k i s (make c)
+    by-make c none e d = absurd d
+    by-make c (some ts) e d = (ts, e, d)
+
+    by-field : (c x : ℕ) (t : Ty) → fieldTy m c x ≡ some t → (ts : List Ty) × (getElem? (m .classes) c ≡ some ts) × (getElem? ts x ≡ some t)
+    by-field c x t h = kept (getElem? (m .classes) c) (λ ts. getElem? ts x) t h
+
+    by-end : (n : ℕ) → Does m k i s (endingIn n) → (n ≡ 0) × (s ≡ shape 0 [])
+    by-end zero d = (refl, d)
+    by-end (suc n) d = absurd d
+
+    by-return : (n : ℕ) (b : Body) → bodyAt m n ≡ some b → Does m k i s (returningIn m n) → (0 < n) × (s ≡ shape 0 (b .results))
+    by-return zero b h d = absurd d
+    by-return (suc n) b h d = (omega arith, subst (λ (o : Option Body). s ≡ shape 0 (resultsOf o)) h d)
+
+    by-effect : (x : Instr) → Allowed m k i s → Proper x → Does m k i s (effect m k x (s .operands)) → Finds m k i s x
+    unfolding effect
+    by-effect end a p d = by-end k d
+    by-effect (push v) a p d = let q = by-push v d in (p, q .0, q .1)
+    by-effect (load o x) a p d = by-giving (cellTy m k o x) [] d
+    by-effect (store o x) a p d = by-taking (cellTy m k o x) [] d
+    by-effect (operate (unary o)) a p d = by-unary o (s .operands) d
+    by-effect (operate (binary o)) a p d = by-binary o (s .operands) d
+    by-effect (go j) a p d = d
+    by-effect (goUnless j) a p d = d
+    by-effect (call j) a p d = by-call j d
+    by-effect return a p d =
+        let b = body-there m (w .well-formed) k i (a .inside) in
+        let q = by-return k (b .0) (b .1) d in (b .0, q .0, b .1, q .1)
+    by-effect (make c) a p d = by-make c (getElem? (m .classes) c) refl d
+    by-effect (getField c x) a p d =
+        let q = by-giving (fieldTy m c x) (reference c ∷ []) d in
+        let f = by-field c x (q .0) (q .1) in (f .0, q .0, f .1, f .2, q .2)
+    by-effect (putField c x) a p d =
+        let q = by-taking (fieldTy m c x) (reference c ∷ []) d in
+        let f = by-field c x (q .0) (q .1) in (f .0, q .0, f .1, f .2, q .2)
+    by-effect setLevel a p d = d
+    by-effect readFader a p d = d
+    by-effect (takeHold g) a p d = (p, d)
+    by-effect letHold a p d = d
+    by-effect assert a p d = d
+    by-effect stop a p d = tt
+
+    pub finds : Allowed m k i s → (x : Instr) × (instrAt m i ≡ some x) × Finds m k i s x
+    finds a =
+        let f = follows m w k i s a in
+        (f .0, f .1, by-effect (f .0) a (proper-at i (f .0) (f .1)) (does m w k i s (effect m k (f .0) (s .operands)) (f .2)))

@@ -1,0 +1,1 @@
+// Theorems only: see specs/. What a compiled macro that passes the loading check promises.

@@ -1,0 +1,270 @@
+//! Names, types and reach: which number at which entry, sentence by sentence of paper 01 and
+//! of the decided points; and generated damage, which is judged without ever failing.
+
+use second::gen::{damaged_table, judged_table, plan, program, purposeful};
+use second::paper::*;
+use second::rng::Rng;
+use second::table::{bytes_of, read_table, write_tree};
+use second::{cases, deep, judge_table};
+
+/// "inner before outer, left to right"
+#[test]
+fn the_first_fault_in_postorder() {
+    // the undefined variable 2 (entry 5) is inside the wrong + (entry 4)
+    assert_eq!(verdict("1 1 1, 10 1 1, 21 0 0, 44 1 0, 49 1 0, 44 2 0, 41 0 1"), (3, 5));
+    // the target before the value
+    assert_eq!(verdict("1 0 1, 21 0 0, 44 1 0, 44 2 0"), (3, 2));
+    // a wrong type to the left (entry 3) before an undefined name to the right (entry 6)
+    assert_eq!(verdict("1 0 1, 28 0 0, 49 1 0, 41 0 1, 40 0 1, 44 7 0"), (4, 2));
+    // a procedure's body before the procedure itself: twice at entry 3, but inside it a goto
+    assert_eq!(verdict("1 2 0, 12 1 0, 1 0 0, 12 1 0, 25 9 0"), (3, 4));
+    assert_eq!(verdict("1 2 0, 12 1 0, 1 0 0, 12 1 0, 1 0 0"), (3, 3));
+    // statement operands before the statement's own fault
+    assert_eq!(verdict("1 0 1, 22 0 0, 40 0 1, 25 4 0"), (3, 3));
+    assert_eq!(verdict("1 0 1, 22 0 0, 40 0 1, 1 0 0"), (4, 1));
+}
+
+/// "among that entry's faults the least number"
+#[test]
+fn the_least_number_at_one_entry() {
+    // a kind 10 that is twice and whose class is no class
+    assert_eq!(verdict("1 2 0, 10 1 1, 10 1 65537"), (3, 2));
+    // a procedure that is twice and whose body has the wrong type
+    assert_eq!(verdict("1 2 0, 10 1 1, 12 1 1, 41 0 1"), (3, 2));
+    // an undefined function with wrong arguments
+    assert_eq!(verdict("1 0 1, 27 1 1, 40 0 1"), (3, 1));
+}
+
+/// "All names of a head are visible throughout it", also before their declaration.
+#[test]
+fn names_before_their_declaration() {
+    assert_eq!(verdict("1 2 0, 12 1 0, 21 0 0, 44 2 0, 40 0 1, 10 2 1"), (0, 0));
+    assert_eq!(verdict("1 2 0, 10 2 65539, 11 3 1, 10 4 65539"), (0, 0));
+    assert_eq!(verdict("1 2 0, 12 1 0, 27 2 0, 12 2 0, 27 1 0"), (0, 0));
+    // a later definition of the same block, not an outer one, is what is found
+    assert_eq!(verdict("1 1 1, 10 1 1, 1 0 2, 21 0 0, 44 1 0, 40 0 1, 20 1 0"), (4, 4));
+}
+
+/// "Of two definitions the first by index is what a lookup finds."
+#[test]
+fn the_first_of_two_definitions_is_found() {
+    // the procedure assigns 1 to 2, which is an integer first and then a logical
+    assert_eq!(verdict("1 3 0, 12 1 0, 21 0 0, 44 2 0, 40 0 1, 10 2 1, 10 2 2"), (3, 6));
+    assert_eq!(verdict("1 3 0, 12 1 0, 21 0 0, 44 2 0, 40 0 1, 10 2 2, 10 2 1"), (4, 2));
+    // a label that is twice is still a label; a label behind a variable is not found
+    assert_eq!(verdict("1 0 3, 25 1 0, 20 1 0, 20 1 0"), (3, 3));
+    assert_eq!(verdict("1 1 2, 10 1 1, 25 1 0, 20 1 0"), (4, 2));
+}
+
+/// "a procedure sees its own names and the root's"
+#[test]
+fn what_a_procedure_sees() {
+    assert_eq!(verdict("1 2 0, 10 1 1, 12 2 0, 21 0 0, 44 1 0, 40 0 1"), (0, 0));
+    // a variable of a block inside the root is not the root's
+    assert_eq!(verdict("1 1 1, 12 2 0, 21 0 0, 44 1 0, 40 0 1, 1 1 0, 10 1 1"), (3, 3));
+    // nor is another procedure's parameter
+    assert_eq!(verdict("1 2 0, 12 2 256, 10 1 1, 1 0 0, 12 3 0, 21 0 0, 44 1 0, 40 0 1"), (3, 6));
+    // a parameter hides the root's variable, and the procedure's own name
+    assert_eq!(verdict("1 1 0, 12 1 257, 10 1 1, 44 1 0"), (0, 0));
+    assert_eq!(verdict("1 1 0, 12 1 257, 10 1 1, 45 1 1, 40 0 1"), (4, 3));
+}
+
+/// "A type 65,536 + n: n is looked up from the block in whose head the kind 10 stands".
+#[test]
+fn types_that_name_classes() {
+    let class = "11 1 1, 10 2 1";
+    assert_eq!(verdict(&format!("1 2 0, {class}, 10 3 65537")), (0, 0));
+    assert_eq!(verdict(&format!("1 2 0, {class}, 10 3 65538")), (4, 3));
+    assert_eq!(verdict(&format!("1 2 0, {class}, 10 3 65540")), (3, 3));
+    // a variable of the block itself hides the class, even the one declared
+    assert_eq!(verdict(&format!("1 1 1, {class}, 1 1 0, 10 1 65537")), (4, 4));
+    // a parameter is looked up from its parameter block
+    assert_eq!(verdict(&format!("1 2 0, {class}, 12 3 256, 10 1 65537, 1 0 0")), (4, 4));
+    assert_eq!(verdict(&format!("1 2 0, {class}, 12 3 256, 10 4 65537, 1 0 0")), (0, 0));
+    // null and record look the class up where they stand
+    assert_eq!(verdict(&format!("1 1 1, {class}, 1 1 1, 10 1 1, 26 0 0, 49 10 0, 43 1 0, 43 1 0")), (4, 7));
+    assert_eq!(verdict(&format!("1 1 1, {class}, 26 0 0, 49 10 0, 43 1 0, 47 1 1, 40 0 1")), (0, 0));
+    assert_eq!(verdict(&format!("1 1 1, {class}, 26 0 0, 49 10 0, 43 1 0, 47 1 1, 41 0 1")), (4, 6));
+    assert_eq!(verdict(&format!("1 1 1, {class}, 26 0 0, 49 10 0, 43 1 0, 47 1 0")), (4, 6));
+}
+
+#[test]
+fn fields() {
+    let head = "11 1 1, 10 2 1, 11 3 1, 10 4 2";
+    let field = |name: u16, class: u16| verdict(&format!("1 2 1, {head}, 28 0 0, 40 0 1, 46 {name} 0, 43 {class} 0"));
+    assert_eq!(field(2, 1), (0, 0));
+    assert_eq!(field(2, 3), (4, 7));
+    assert_eq!(field(4, 3), (4, 5));
+    assert_eq!(field(5, 3), (3, 7));
+    assert_eq!(field(1, 1), (4, 7));
+    // a field's name is found like any name: an inner variable hides it
+    assert_eq!(verdict(&format!("1 2 1, {head}, 1 1 1, 10 2 1, 28 0 0, 40 0 1, 46 2 0, 43 1 0")), (4, 9));
+}
+
+#[test]
+fn calls() {
+    let head = "12 1 256, 10 5 1, 1 0 0, 12 2 258, 10 5 2, 44 5 0";
+    let call = |text: &str| verdict(&format!("1 2 1, {head}, {text}"));
+    assert_eq!(call("27 1 1, 40 0 1"), (0, 0));
+    assert_eq!(call("27 1 1, 41 0 1"), (4, 7));
+    assert_eq!(call("27 1 0"), (4, 7));
+    assert_eq!(call("27 1 2, 40 0 1, 40 0 1"), (4, 7));
+    assert_eq!(call("27 2 1, 41 0 1"), (4, 7));
+    assert_eq!(call("26 0 0, 45 2 1, 41 0 1"), (0, 0));
+    assert_eq!(call("26 0 0, 45 2 1, 40 0 1"), (4, 8));
+    assert_eq!(call("26 0 0, 45 1 1, 40 0 1"), (4, 8));
+    assert_eq!(call("26 0 0, 44 2 0"), (4, 8));
+}
+
+#[test]
+fn gotos() {
+    // a sibling's label: 3
+    assert_eq!(verdict("1 0 2, 1 0 1, 20 1 0, 25 1 0"), (3, 3));
+    // a variable: 4; an inner variable hides an outer label: 4
+    assert_eq!(verdict("1 1 1, 10 1 1, 25 1 0"), (4, 2));
+    assert_eq!(verdict("1 0 2, 20 1 0, 1 1 1, 10 1 1, 25 1 0"), (4, 4));
+    // an inner label hides an outer variable
+    assert_eq!(verdict("1 1 1, 10 1 1, 1 0 2, 20 1 0, 21 0 0, 44 1 0, 40 0 1"), (4, 5));
+    // out of loops, arms and blocks, freely
+    assert_eq!(
+        verdict("1 0 2, 24 0 0, 41 0 1, 30 1 0, 40 0 1, 22 0 0, 41 0 1, 1 0 1, 25 1 0, 20 1 0"),
+        (0, 0)
+    );
+    // into a block: not visible
+    assert_eq!(verdict("1 0 2, 25 1 0, 1 0 1, 20 1 0"), (3, 1));
+    // a block inside a block expression still may not leave it
+    assert_eq!(verdict("1 0 2, 20 1 0, 26 0 0, 53 0 1, 1 0 1, 25 1 0, 41 0 1"), (5, 5));
+    // a label between: the inner one is found, on this side of the boundary
+    assert_eq!(verdict("1 0 2, 20 1 0, 26 0 0, 53 0 2, 20 1 0, 1 0 1, 25 1 0, 41 0 1"), (0, 0));
+    // a procedure's parameter hides the root's label: 4, not 5
+    assert_eq!(verdict("1 1 1, 12 2 256, 10 1 1, 25 1 0, 20 1 0"), (4, 3));
+}
+
+/// "Types must be identical", operator by operator.
+#[test]
+fn operand_types() {
+    let of = ["40 0 1", "41 0 1", "42 0 1", "43 1 0"];
+    let mut fit = Vec::new();
+    for operator in 1..=15 {
+        for (i, x) in of.iter().enumerate() {
+            for (j, y) in of.iter().enumerate() {
+                // = of the result with itself, so that any type is taken by the assert
+                let e = format!("49 {operator} 0, {x}, {y}");
+                let (number, place) = verdict(&format!("1 1 1, 11 1 1, 10 2 1, 26 0 0, 49 10 0, {e}, {e}"));
+                if number == 0 {
+                    fit.push((operator, i, j));
+                } else {
+                    assert_eq!((number, place), (4, 5));
+                }
+            }
+        }
+    }
+    let mut asked = Vec::new();
+    for operator in 1..=15 {
+        match operator {
+            1..=9 => asked.push((operator, 0, 0)),
+            10 | 11 => asked.extend([(operator, 0, 0), (operator, 1, 1), (operator, 2, 2), (operator, 3, 3)]),
+            12 | 13 => asked.extend([(operator, 1, 1), (operator, 2, 2)]),
+            _ => asked.push((operator, 2, 0)),
+        }
+    }
+    assert_eq!(fit, asked);
+    for (operator, right) in [(20, [true, false, false, false]), (21, [true, false, false, false]), (22, [false, true, true, false])] {
+        for (x, fits) in of.iter().zip(right) {
+            let e = format!("48 {operator} 0, {x}");
+            let number = verdict(&format!("1 1 1, 11 1 1, 10 2 1, 26 0 0, 49 10 0, {e}, {e}")).0;
+            assert_eq!(number == 0, fits, "{operator} {x}");
+        }
+    }
+}
+
+/// Where each kind may stand.
+#[test]
+fn kinds_in_their_places() {
+    // 11 and 12 outside the root's head
+    assert_eq!(verdict("1 0 1, 1 1 0, 11 1 1, 10 2 1"), (2, 2));
+    assert_eq!(verdict("1 0 1, 1 1 0, 12 1 0, 1 0 0"), (2, 2));
+    assert_eq!(verdict("1 0 1, 26 0 0, 53 1 0, 12 1 0, 1 0 0, 41 0 1"), (2, 3));
+    // a label as an arm, a body or a loop's statement
+    assert_eq!(verdict("1 0 1, 24 0 0, 41 0 1, 20 1 0"), (2, 3));
+    assert_eq!(verdict("1 0 1, 30 1 0, 40 0 1, 20 1 0"), (2, 3));
+    assert_eq!(verdict("1 1 0, 12 1 0, 20 1 0"), (2, 2));
+    // a statement for an expression, an expression for a statement, a declaration for either
+    assert_eq!(verdict("1 0 1, 26 0 0, 25 1 0"), (2, 2));
+    assert_eq!(verdict("1 0 1, 40 0 1"), (2, 1));
+    assert_eq!(verdict("1 0 1, 10 1 1"), (2, 1));
+    assert_eq!(verdict("1 1 0, 25 1 0"), (2, 1));
+    // a hold as a field or a parameter
+    assert_eq!(verdict("1 1 0, 11 1 1, 14 1 0"), (2, 2));
+    assert_eq!(verdict("1 1 0, 12 1 256, 14 1 0, 1 0 0"), (2, 2));
+    // a root that is no block; what comes behind the root
+    assert_eq!(verdict("53 0 0, 40 0 1"), (2, 0));
+    assert_eq!(verdict("1 0 0, 1 0 0"), (2, 1));
+    assert_eq!(verdict("1 0 2, 1 0 0"), (2, 2));
+    // a target's own operand may be anything
+    assert_eq!(verdict("1 0 1, 21 0 0, 46 1 0, 40 0 1, 40 0 1"), (3, 2));
+}
+
+/// 2 comes before every 3, 4, 5; all of these before 6.
+#[test]
+fn two_before_three_before_six() {
+    assert_eq!(verdict("1 0 2, 25 9 0, 99 0 0"), (2, 2));
+    let mut text = String::from("1 33 1");
+    for i in 0..33 {
+        text.push_str(&format!(", 10 {i} 1"));
+    }
+    assert_eq!(verdict(&format!("{text}, 25 40 0")), (3, 34));
+    assert_eq!(verdict(&format!("{text}, 1 0 0")), (6, 0));
+}
+
+/// Damaged tables: judging is total, a place is an entry (or the count), and an accepted
+/// table is the table of its tree.
+#[test]
+fn damaged_tables_are_judged() {
+    deep(|| {
+        let mut tally = [0usize; 7];
+        let count = cases(20_000);
+        for seed in 0..count {
+            let mut rng = Rng::new(8_000_000 + seed as u64);
+            let size = 4 + rng.below(60);
+            let made = plan(&mut rng, size);
+            let valid = write_tree(&program(&mut rng, made));
+            let bytes = damaged_table(&mut rng, &valid);
+            match judge_table(&bytes) {
+                Ok(tree) => {
+                    tally[0] += 1;
+                    assert_eq!(bytes_of(&write_tree(&tree)), bytes);
+                }
+                Err(refusal) => {
+                    tally[refusal.number as usize] += 1;
+                    let entry_count = bytes.len() / 8;
+                    match refusal.number {
+                        1 => assert_eq!(refusal.place, 0),
+                        2 => assert!(refusal.place <= entry_count),
+                        _ => assert!(refusal.place < entry_count && read_table(&bytes).is_ok()),
+                    }
+                }
+            }
+        }
+        println!("{tally:?}");
+        if count >= 4_000 {
+            assert!(tally[..6].iter().all(|n| *n > 0), "{tally:?}");
+        }
+    });
+}
+
+#[test]
+fn purposeful_tables_are_refused_as_meant() {
+    deep(|| {
+        for number in 1..=6 {
+            let mut rng = Rng::new(number as u64);
+            let mut hits = 0;
+            for _ in 0..60 {
+                hits += (judged(&purposeful(&mut rng, number)).0 == number) as usize;
+            }
+            assert!(hits > 20, "{number}: {hits} of 60");
+            assert_eq!(judged(&judged_table(&mut rng, number, 30)).0, number);
+        }
+        assert_eq!(judged(&judged_table(&mut Rng::new(0), 0, 30)), (0, 0));
+    });
+}
