@@ -1,0 +1,48 @@
+-- What the theorems of Programs speak of: trees that can be read, tables that hold them, and what the check answers.
+use mathlib.Core.Path.{_≡_}
+use mathlib.Core.Bool.{true}
+use mathlib.Core.List.{List, [], _∷_, _++_}
+use Prim.Native.Nat.{ℕ, _/_, _%_, _≤_, _<_}
+use lib.ListN.{length}
+use Rattle.values.specs.Ends.{Refusal, refusal, Judged, accepted, refused}
+use Rattle.language.specs.Tree.{Tree}
+use Rattle.language.specs.Table.{Entry, inLayout, flatten, nesting, classCount, procedureCount, entries}
+use Rattle.language.specs.Faults.{faults}
+use Rattle.language.specs.Limits.{limits}
+use Rattle.language.specs.Judge.{all, total}
+
+-- a tree that entries can be read as: it keeps to the layout, the nesting and the counts
+pub record Readable (t : Tree) : Type 0 where
+  pub layout : all inLayout (flatten t) ≡ true
+  pub depth : nesting t ≤ 64
+  pub classes : total classCount (t .head) ≤ 16
+  pub procedures : total procedureCount (t .head) ≤ 63
+
+-- the entries that a table's bytes stand for
+abbrev pub entriesOf : List ℕ → List Entry
+entriesOf l = entries (length l / 8) l
+
+-- "empty, over 16,384 bytes, or not in eights"
+pub data Misshapen (l : List ℕ) : Type 0 where
+  empty : length l ≡ 0 → Misshapen l
+  over : 16384 < length l → Misshapen l
+  uneven : (length l % 8 ≡ 0 → ⊥) → Misshapen l
+
+pub record Shaped (l : List ℕ) : Type 0 where
+  pub some : 1 ≤ length l
+  pub most : length l ≤ 16384
+  pub eights : length l % 8 ≡ 0
+
+-- the table is the entries of a tree, and of nothing else
+pub record Holds (l : List ℕ) (t : Tree) : Type 0 where
+  pub shaped : Shaped l
+  pub readable : Readable t
+  pub same : entriesOf l ≡ flatten t
+
+-- what the check answers, and when: 1 at 0; 2, where the table holds no tree; the first of all faults of the tree that it holds and of the
+-- limits of its bodies; or that tree, if there is none
+pub data Verdict (l : List ℕ) : Judged Tree → Type 0 where
+  misshapen : Misshapen l → Verdict l (refused (refusal 1 0))
+  unread : Shaped l → ((t : Tree) → Holds l t → ⊥) → (place : ℕ) → Verdict l (refused (refusal 2 place))
+  faulty : (t : Tree) → Holds l t → (r : Refusal) (rs : List Refusal) → faults t ++ limits t ≡ r ∷ rs → Verdict l (refused r)
+  sound : (t : Tree) → Holds l t → faults t ++ limits t ≡ [] → Verdict l (accepted t)

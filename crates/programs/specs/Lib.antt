@@ -1,0 +1,13 @@
+pub mod Basics
+pub mod Codes
+pub mod Takes
+pub mod Yields
+pub mod ReadBack
+pub mod WriteBack
+pub mod Roots
+pub mod Bytes
+pub mod Claims
+pub mod Verdicts
+pub mod Spans
+pub mod Order
+pub mod Programs

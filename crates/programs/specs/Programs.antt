@@ -1,0 +1,67 @@
+-- Which tables are programs, and what a refusal says: the theorems, over the terms of Claims. The proofs stand in the other files.
+use mathlib.Core.Path.{_≡_}
+use mathlib.Core.Bool.{true}
+use mathlib.Core.List.{List, _∷_, _++_}
+use mathlib.Core.Logic.{_↔_}
+use Prim.Native.Nat.{ℕ, _*_, _/_, _%_, _≤_}
+use native.Mathlib.Omega.{arith}
+use lib.ListN.{length}
+use Rattle.words.specs.Laws.{Bytes}
+use Rattle.values.specs.Ends.{Refusal, accepted, refused}
+use Rattle.language.specs.Tree.{Tree}
+use Rattle.language.specs.Table.{Entry, flatten, bytesOf, took, first, formRoot}
+use Rattle.language.specs.Faults.{faults}
+use Rattle.language.specs.Judge.{judgeTable, all, inFields, Program}
+use Rattle.programs.specs.Bytes.{bytes-back, fields-kept, entries-all, length-bytes}
+use Rattle.programs.specs.Claims.{Readable, entriesOf, Verdict}
+use Rattle.programs.specs.Order.{spans-faults}
+use Rattle.programs.specs.Roots.{takes-root, yields-root}
+use Rattle.programs.specs.Spans.{spans-order}
+use Rattle.programs.specs.Verdicts
+
+-- ── trees and entries ──
+-- the entries of a tree are read as the tree, whatever comes after them
+pub read-flatten : (t : Tree) → Readable t → (rest : List Entry) → first formRoot (flatten t ++ rest) ≡ took t rest
+read-flatten t h = takes-root t h .takes
+
+-- entries that are read as a tree are its entries, and the tree is readable
+pub flatten-read : (es rest : List Entry) (t : Tree) → first formRoot es ≡ took t rest → (es ≡ flatten t ++ rest) × Readable t
+flatten-read es rest t h = let a = yields-root .yields es rest t h in (rw (← a .holds .0) (a .split), a .holds .1)
+
+-- two trees have two lists of entries
+pub flatten-injective : (t u : Tree) → Readable t → Readable u → flatten t ≡ flatten u → t ≡ u
+flatten-injective t u h k e = cc (Verdicts.read-whole t h, Verdicts.read-whole u k)
+
+-- ── entries and bytes ──
+pub bytes-entries : (l : List ℕ) → Bytes l → length l % 8 ≡ 0 → (bytesOf (entriesOf l) ≡ l) × (all inFields (entriesOf l) ≡ true)
+bytes-entries l b h = (bytes-back (length l / 8) l b (omega arith), fields-kept (length l / 8) l b)
+
+pub entries-bytes : (es : List Entry) → all inFields es ≡ true → (entriesOf (bytesOf es) ≡ es) × (length (bytesOf es) ≡ 8 * length es)
+entries-bytes es h = (entries-all es h, length-bytes es)
+
+-- ── what the check answers ──
+pub verdict : (l : List ℕ) → Verdict l (judgeTable l)
+verdict l = Verdicts.verdict l
+
+-- by cases, if it refuses
+pub refusal-says : (l : List ℕ) (r : Refusal) → judgeTable l ≡ refused r → Verdict l (refused r)
+refusal-says l r e = rw e at (verdict l)
+
+-- at one entry no larger number stands before a smaller one: 3, 4, 5 in that order
+pub faults-order : (t : Tree) (xs ys zs : List Refusal) (a b : Refusal) → faults t ≡ xs ++ (a ∷ (ys ++ (b ∷ zs))) → a .place ≡ b .place
+    → a .number ≤ b .number
+faults-order t xs ys zs a b e = spans-order xs ys zs a b (rw e at (spans-faults t))
+
+-- ── programs: the check accepts a table exactly if it is one, and answers its tree ──
+pub accepted-program : (l : List ℕ) → Bytes l → (t : Tree) → judgeTable l ≡ accepted t → (p : Program l) × (p .tree ≡ t)
+accepted-program l b t e = Verdicts.accepted-verdict b (rw e at (verdict l))
+
+pub program-accepted : (l : List ℕ) (p : Program l) → judgeTable l ≡ accepted (p .tree)
+program-accepted l p = Verdicts.program-verdict p (verdict l)
+
+pub accepts-programs : (l : List ℕ) → Bytes l → ((t : Tree) × (judgeTable l ≡ accepted t)) ↔ Program l
+accepts-programs l b = (λ a. accepted-program l b (a .0) (a .1) .0, λ p. (p .tree, program-accepted l p))
+
+-- a program has one tree
+pub one-tree : (l : List ℕ) (p q : Program l) → p .tree ≡ q .tree
+one-tree l p q = cc (program-accepted l p, program-accepted l q)
