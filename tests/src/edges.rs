@@ -102,7 +102,7 @@ fn holds(rng: &mut Rng) -> Vec<Entry> {
 
 /// About 64 deep, in the root's statements or in a function's body.
 fn nesting(rng: &mut Rng) -> Vec<Entry> {
-    let deep = about(rng, 64);
+    let deep = *rng.pick(&[63, 64, 64, 65]);
     let mut list = Vec::new();
     let mut depth;
     if rng.chance(50) {

@@ -173,6 +173,35 @@ fn what_is_sound() {
     assert!(sound(&loaded, &State::Releasing { condition: 20, holds: vec![1; 512] }));
 }
 
+/// "all but the top at a call of the next": of that body and no other like it. "each reference
+/// is null or a made record of its class": of that class and no other like it.
+#[test]
+fn the_next_body_and_the_own_class() {
+    let m = Macro {
+        classes: vec![vec![1], vec![1]],
+        bodies: vec![body(0, 0, 0, &[16, 17]), body(8, 0, 0, &[]), body(9, 0, 0, &[])],
+        code: code("1 0 1, 12 0 0, 6 0 0, 1 0 2, 12 1 0, 6 0 1, 10 0 1, 0 0 0, 11 0 0, 11 0 0"),
+        shapes: vec![],
+    };
+    let loaded = judge_macro(&write_macro(&m)).unwrap();
+    let called = after(&loaded, 7);
+    let bytes = encode(&called);
+    assert_eq!(sound_state(&loaded, &bytes), Some(called));
+    // the second activation becomes body 2 at its first address
+    let mut other = bytes.clone();
+    other[32 + 328] = 2;
+    other[32 + 328 + 4] = 9;
+    assert!(decode(&m, &other).is_some());
+    assert_eq!(sound_state(&loaded, &other), None);
+    // each of the root's references becomes one to the other's record
+    for (cell, word) in [(0, 2), (1, 1)] {
+        let mut other = bytes.clone();
+        other[32 + 8 + 4 * cell] = word;
+        assert!(decode(&m, &other).is_some());
+        assert_eq!(sound_state(&loaded, &other), None);
+    }
+}
+
 /// Thirty-two activations are sound, and the thirty-third call is a condition.
 #[test]
 fn thirty_two_activations() {

@@ -41,6 +41,12 @@ two : (verdict (e 1 0 1 ∷ e 99 0 0 ∷ []) ≡ 2 ∷ 1 ∷ [])
 unfolding casesCompute classes
 two = (refl, refl, refl, refl, refl, refl)
 
+-- 2, at depth 65: a function whose body is n signs before a number; entry k of them stands at depth k + 1
+deep : (verdict (e 1 1 0 ∷ e 12 9 1 ∷ (replicate 61 (e 48 20 0) ++ (e 40 0 1 ∷ []))) ≡ [])
+    × (verdict (e 1 1 0 ∷ e 12 9 1 ∷ (replicate 62 (e 48 20 0) ++ (e 40 0 1 ∷ []))) ≡ 2 ∷ 64 ∷ [])
+unfolding casesCompute
+deep = (refl, refl)
+
 -- 3: goto 5, no label 5; "the second of two"
 three : (verdict (e 1 0 1 ∷ e 25 5 0 ∷ []) ≡ 3 ∷ 1 ∷ []) × (verdict (e 1 2 1 ∷ e 10 5 1 ∷ e 10 6 1 ∷ e 20 5 0 ∷ []) ≡ 3 ∷ 3 ∷ [])
 unfolding casesCompute

@@ -44,7 +44,8 @@ module _ (n : ℕ) where
   ends-within (b ∷ (c ∷ bs)) (suc k) p = ends-within (c ∷ bs) k (p .1)
 
   -- a body has a first instruction
-  pub begins-before-end : (bs : List Body) (a k : ℕ) (b : Body) → RisesFrom a bs → Each (λ (b : Body). b .first < n) bs → getElem? bs k ≡ some b → b .first < endOf bs n k
+  pub begins-before-end : (bs : List Body) (a k : ℕ) (b : Body) → RisesFrom a bs → Each (λ (b : Body). b .first < n) bs → getElem? bs k ≡ some b
+      → b .first < endOf bs n k
   unfolding endOf
   begins-before-end [] a k b r p h = never-some h
   begins-before-end (c ∷ []) a zero b r p h = let e : c ≡ b = cc in subst (λ (x : Body). x .first < n) e (p .0)
@@ -146,7 +147,8 @@ module _ (m : Macro) (w : WellFormed m) where
   unfolding inBody
   inside-body i h = go (m .bodies) refl (w .some-body)
     where
-      go : (bs : List Body) → m .bodies ≡ bs → 1 ≤ length bs → fromTo (getElem? (m .bodies) (bodyOf (m .bodies) 0 i)) (endOf (m .bodies) (length (m .code)) (bodyOf (m .bodies) 0 i)) i ≡ true
+      go : (bs : List Body) → m .bodies ≡ bs → 1 ≤ length bs
+          → fromTo (getElem? (m .bodies) (bodyOf (m .bodies) 0 i)) (endOf (m .bodies) (length (m .code)) (bodyOf (m .bodies) 0 i)) i ≡ true
       go [] e p = absurd (omega arith)
       go (b ∷ bs) e p =
           let f : b .first ≡ 0 = w .root-first b (ap (λ (x : List Body). getElem? x 0) e) in
@@ -158,7 +160,8 @@ module _ (m : Macro) (w : WellFormed m) where
   pub first-inside : (k : ℕ) (b : Body) → bodyAt m k ≡ some b → inBody m k (b .first) ≡ true
   unfolding inBody
   first-inside k b h =
-      rw h (within b (endOf (m .bodies) (length (m .code)) k) (b .first) (omega arith) (begins-before-end (length (m .code)) (m .bodies) 0 k b (w .rises) all-begin h))
+      rw h (within b (endOf (m .bodies) (length (m .code)) k) (b .first) (omega arith)
+      (begins-before-end (length (m .code)) (m .bodies) 0 k b (w .rises) all-begin h))
 
   -- inside a body no other begins
   pub no-first : (k i : ℕ) → inBody m k i ≡ true → inBody m k (suc i) ≡ true → isFirst (m .bodies) (suc i) ≡ false

@@ -24,7 +24,8 @@ strip-length [] ts rest h = let e : ts ≡ rest = cc in rw e (omega arith)
 strip-length (u ∷ us) [] rest h = never-some h
 strip-length (u ∷ us) (t ∷ ts) rest h = go (fits t u) h (strip-length us ts rest)
   where
-    go : (b : Bool) → (if b then strip us ts else none) ≡ some rest → (strip us ts ≡ some rest → length rest ≤ length ts) → length rest ≤ suc (length ts)
+    go : (b : Bool) → (if b then strip us ts else none) ≡ some rest → (strip us ts ≡ some rest → length rest ≤ length ts)
+        → length rest ≤ suc (length ts)
     go true h r = let z = r h in omega arith
     go false h r = never-some h
 
@@ -34,7 +35,8 @@ strip-is [] ts rest h = cc
 strip-is (u ∷ us) [] rest h = never-some h
 strip-is (u ∷ us) (t ∷ ts) rest h = go (fits t u) refl h (strip-is us ts rest)
   where
-    go : (b : Bool) → fits t u ≡ b → (if b then strip us ts else none) ≡ some rest → (strip us ts ≡ some rest → ts ≡ us ++ rest) → (t ∷ ts) ≡ (u ∷ (us ++ rest))
+    go : (b : Bool) → fits t u ≡ b → (if b then strip us ts else none) ≡ some rest → (strip us ts ≡ some rest → ts ≡ us ++ rest)
+        → (t ∷ ts) ≡ (u ∷ (us ++ rest))
     go true e h r = ap₂ (λ x xs. x ∷ xs) (same→≡ t u e) (r h)
     go false e h r = never-some h
 
@@ -50,7 +52,8 @@ roomy-passed : (e : Effect) (s t : Shape) → roomy s ≡ true → passed (flow 
 unfolding flow
 roomy-passed (plain ins outs) s t r h = go (strip ins (s .operands)) h
   where
-    go : (o : Option (List Ty)) → passed (stripped o (λ ts. onIf (roomy (shape (s .holds) (outs ++ ts))) (on (shape (s .holds) (outs ++ ts))))) ≡ some t → roomy t ≡ true
+    go : (o : Option (List Ty))
+        → passed (stripped o (λ ts. onIf (roomy (shape (s .holds) (outs ++ ts))) (on (shape (s .holds) (outs ++ ts))))) ≡ some t → roomy t ≡ true
     go none h = never-some h
     go (some ts) h = roomy-on (shape (s .holds) (outs ++ ts)) t h
 roomy-passed takes s t r h = roomy-on (shape (suc (s .holds)) (s .operands)) t h
@@ -62,11 +65,14 @@ roomy-passed lets s t r h = go (s .holds) (halves (leb (s .holds) 16) (leb (leng
 roomy-passed (jumps j) s t r h = never-some h
 roomy-passed (forks j) s t r h = go (strip (logical ∷ []) (s .operands)) refl h
   where
-    go : (o : Option (List Ty)) → strip (logical ∷ []) (s .operands) ≡ o → passed (stripped o (λ ts. fork (shape (s .holds) ts) j)) ≡ some t → roomy t ≡ true
+    go : (o : Option (List Ty)) → strip (logical ∷ []) (s .operands) ≡ o → passed (stripped o (λ ts. fork (shape (s .holds) ts) j)) ≡ some t
+        → roomy t ≡ true
     go none e h = never-some h
     go (some ts) e h =
         let q = halves (leb (s .holds) 16) (leb (length (s .operands)) 32) r in
-        subst (λ (x : Shape). roomy x ≡ true) (same-some h) (both (q .0) (le-leb (length ts) 32 (omega (arith, strip-length (logical ∷ []) (s .operands) ts e, leb-true (length (s .operands)) 32 (q .1)))))
+        subst (λ (x : Shape). roomy x ≡ true) (same-some h)
+        (both (q .0) (le-leb (length ts) 32
+        (omega (arith, strip-length (logical ∷ []) (s .operands) ts e, leb-true (length (s .operands)) 32 (q .1)))))
 roomy-passed (leaves ts) s t r h = never-some (passed-if (sameShape s (shape 0 ts)) halt t h .1)
 roomy-passed stops s t r h = never-some h
 roomy-passed wrong s t r h = never-some h
@@ -90,12 +96,14 @@ head-fine (c ∷ bs) n (suc k) b h f =
     rw z (head-fine bs (suc n) k b h (neither (eqb (c .first) (b .first) && headFault n c) (bodyFault bs (suc n) (b .first)) f .1))
 
 few-cells : (k : ℕ) (b : Body) → headFault k b ≡ false → length (b .cells) ≤ 32
-few-cells zero b h = ltb-false 32 (length (b .cells)) (neither (not (eqb (b .parameters) 0 && sames (b .results) [])) (ltb 32 (length (b .cells))) h .1)
+few-cells zero b h = ltb-false 32 (length (b .cells))
+    (neither (not (eqb (b .parameters) 0 && sames (b .results) [])) (ltb 32 (length (b .cells))) h .1)
 few-cells (suc k) b h = ltb-false 32 (length (b .cells)) h
 
 root-head : (b : Body) → headFault 0 b ≡ false → (b .parameters ≡ 0) × (b .results ≡ [])
 root-head b h =
-    let p = not-false (eqb (b .parameters) 0 && sames (b .results) []) (neither (not (eqb (b .parameters) 0 && sames (b .results) [])) (ltb 32 (length (b .cells))) h .0) in
+    let p = not-false (eqb (b .parameters) 0 && sames (b .results) [])
+    (neither (not (eqb (b .parameters) 0 && sames (b .results) [])) (ltb 32 (length (b .cells))) h .0) in
     let q = halves (eqb (b .parameters) 0) (sames (b .results) []) p in
     (eqb-true (b .parameters) 0 (q .0), sames→≡ (b .results) [] (q .1))
 
@@ -111,7 +119,8 @@ module _ (m : Macro) (w : Passed m) where
   body-head : (k : ℕ) (b : Body) → bodyAt m k ≡ some b → headFault k b ≡ false
   body-head k b h =
       let z : 0 + k ≡ k = omega arith in
-      rw z at (head-fine (m .bodies) 0 k b h (faults (b .first) (inside-code m (w .well-formed) k (b .first) (first-inside m (w .well-formed) k b h)) .0))
+      rw z at (head-fine (m .bodies) 0 k b h
+      (faults (b .first) (inside-code m (w .well-formed) k (b .first) (first-inside m (w .well-formed) k b h)) .0))
 
   pub cells-few : (k : ℕ) (b : Body) → bodyAt m k ≡ some b → length (b .cells) ≤ 32
   cells-few k b h = few-cells k b (body-head k b h)
@@ -143,7 +152,8 @@ module _ (m : Macro) (w : Passed m) where
       go : (o f : Option Shape) → shapeFault o f ≡ false → ((t : Shape) → f ≡ some t → roomy t ≡ true) → orFlow o f ≡ some s → roomy s ≡ true
       go none f e r h = r s h
       go (some u) none e r h = subst (λ (x : Shape). roomy x ≡ true) (same-some h) (not-false (roomy u) e)
-      go (some u) (some t) e r h = subst (λ (x : Shape). roomy x ≡ true) (same-some h) (halves (roomy u) (sameShape t u) (not-false (roomy u && sameShape t u) e) .0)
+      go (some u) (some t) e r h = subst (λ (x : Shape). roomy x ≡ true) (same-some h)
+          (halves (roomy u) (sameShape t u) (not-false (roomy u && sameShape t u) e) .0)
 
   room-into : (i : ℕ) (t : Shape) → i < length (m .code) → into m i ≡ some t → roomy t ≡ true
   unfolding into foundAt
@@ -203,35 +213,45 @@ module _ (m : Macro) (w : Passed m) where
       go : (o : Option Instr) → instrAt m i ≡ o → flowFault m k i (flowOf o m k s) ≡ false
           → (x : Instr) × (o ≡ some x) × Follows m k i (flow (effect m k x (s .operands)) s)
       go none e h = never (sym h)
-      go (some x) e h = (x, refl, flows k i s a (flow (effect m k x (s .operands)) s) (ap₂ (λ o b. flowOf o m b s) e (body-is m (w .well-formed) k i (a .inside))) h)
+      go (some x) e h = (
+        x,
+        refl,
+        flows k i s a (flow (effect m k x (s .operands)) s)
+            (ap₂ (λ o b. flowOf o m b s) e (body-is m (w .well-formed) k i (a .inside))) h,
+      )
 
   pub does : (k i : ℕ) (s : Shape) (e : Effect) → Follows m k i (flow e s) → Does m k i s e
   unfolding flow
   does k i s (plain ins outs) f = go (strip ins (s .operands)) refl f
     where
-      pick : (ts : List Ty) (b : Bool) → Follows m k i (onIf b (on (shape (s .holds) (outs ++ ts)))) → Allowed m k (suc i) (shape (s .holds) (outs ++ ts))
+      pick : (ts : List Ty) (b : Bool) → Follows m k i (onIf b (on (shape (s .holds) (outs ++ ts))))
+          → Allowed m k (suc i) (shape (s .holds) (outs ++ ts))
       pick ts true f = f
       pick ts false f = absurd f
 
-      go : (o : Option (List Ty)) → strip ins (s .operands) ≡ o → Follows m k i (stripped o (λ ts. onIf (roomy (shape (s .holds) (outs ++ ts))) (on (shape (s .holds) (outs ++ ts)))))
+      go : (o : Option (List Ty)) → strip ins (s .operands) ≡ o
+          → Follows m k i (stripped o (λ ts. onIf (roomy (shape (s .holds) (outs ++ ts))) (on (shape (s .holds) (outs ++ ts)))))
           → (under : List Ty) × (s .operands ≡ ins ++ under) × Allowed m k (suc i) (shape (s .holds) (outs ++ under))
       go none e f = absurd f
       go (some ts) e f = (ts, strip-is ins (s .operands) ts e, pick ts (roomy (shape (s .holds) (outs ++ ts))) f)
   does k i s takes f = pick (roomy (shape (suc (s .holds)) (s .operands))) f
     where
-      pick : (b : Bool) → Follows m k i (onIf b (on (shape (suc (s .holds)) (s .operands)))) → Allowed m k (suc i) (shape (suc (s .holds)) (s .operands))
+      pick : (b : Bool) → Follows m k i (onIf b (on (shape (suc (s .holds)) (s .operands))))
+          → Allowed m k (suc i) (shape (suc (s .holds)) (s .operands))
       pick true f = f
       pick false f = absurd f
   does k i s lets f = go (s .holds) refl f
     where
-      go : (n : ℕ) → s .holds ≡ n → Follows m k i (oneLess n (s .operands)) → (h : ℕ) × (s .holds ≡ suc h) × Allowed m k (suc i) (shape h (s .operands))
+      go : (n : ℕ) → s .holds ≡ n → Follows m k i (oneLess n (s .operands)) → (h : ℕ) × (s .holds ≡ suc h)
+          × Allowed m k (suc i) (shape h (s .operands))
       go zero e f = absurd f
       go (suc n) e f = (n, e, f)
   does k i s (jumps j) f = f
   does k i s (forks j) f = go (strip (logical ∷ []) (s .operands)) refl f
     where
       go : (o : Option (List Ty)) → strip (logical ∷ []) (s .operands) ≡ o → Follows m k i (stripped o (λ ts. fork (shape (s .holds) ts) j))
-          → (under : List Ty) × (s .operands ≡ logical ∷ under) × Allowed m k (suc i) (shape (s .holds) under) × Allowed m k j (shape (s .holds) under)
+          → (under : List Ty) × (s .operands ≡ logical ∷ under) × Allowed m k (suc i) (shape (s .holds) under)
+          × Allowed m k j (shape (s .holds) under)
       go none e f = absurd f
       go (some ts) e f = (ts, strip-is (logical ∷ []) (s .operands) ts e, f .0, f .1)
   does k i s (leaves ts) f = go (sameShape s (shape 0 ts)) refl f
@@ -247,10 +267,12 @@ module _ (m : Macro) (w : Passed m) where
   behind i none e h = never h
   behind i (some u) e h = (u, shape-found i u e)
 
-  after : (k i : ℕ) (s : Shape) → Allowed m k i s → inBody m k (suc i) ≡ true → (f : Flow) → flowAt m i s ≡ f → flowFault m k i f ≡ false → (t : Shape) × (foundAt m (suc i) ≡ some t)
+  after : (k i : ℕ) (s : Shape) → Allowed m k i s → inBody m k (suc i) ≡ true → (f : Flow) → flowAt m i s ≡ f → flowFault m k i f ≡ false
+      → (t : Shape) × (foundAt m (suc i) ≡ some t)
   after k i s a p (on t) e h = (t, next k i s t a p (ap passed e) .found)
   after k i s a p (fork t j) e h = (t, next k i s t a p (ap passed e) .found)
-  after k i s a p (jump t j) e h = behind (suc i) (shapeIn (m .shapes) (suc i)) refl (rw p at (halves (closes m k i) (lands m k j t) (not-false (closes m k i && lands m k j t) h) .0))
+  after k i s a p (jump t j) e h = behind (suc i) (shapeIn (m .shapes) (suc i)) refl
+      (rw p at (halves (closes m k i) (lands m k j t) (not-false (closes m k i && lands m k j t) h) .0))
   after k i s a p halt e h = behind (suc i) (shapeIn (m .shapes) (suc i)) refl (rw p at (not-false (closes m k i) h))
   after k i s a p broken e h = never (sym h)
 
@@ -275,7 +297,11 @@ module _ (m : Macro) (w : Passed m) where
   pub begins-empty : (k : ℕ) (b : Body) → bodyAt m k ≡ some b → Allowed m k (b .first) (shape 0 [])
   begins-empty k b h =
       let p = first-inside m (w .well-formed) k b h in
-      record { inside = p; found = entered (b .first) (shape 0 []) (inside-code m (w .well-formed) k (b .first) p) (at-start (b .first) (at-first (m .bodies) k b h)) }
+      record {
+        inside = p;
+        found = entered (b .first) (shape 0 []) (inside-code m (w .well-formed) k (b .first) p)
+            (at-start (b .first) (at-first (m .bodies) k b h));
+      }
     where
       at-start : (i : ℕ) → isFirst (m .bodies) i ≡ true → into m i ≡ some (shape 0 [])
       at-start zero e = unfold into in refl

@@ -92,18 +92,21 @@ accepts l m = ((λ h. there (subst (Judges l) h (judged l))), λ h. back h (judg
     back h (accepted n) e (inl r) = let q : r .0 ≡ m = cc (r .1, h .0) in rw e (ap accepted (sym (r .2 .0) ∙ q))
     back h (refused s) e (inl r) =
         let q : r .0 ≡ m = cc (r .1, h .0) in
-        never (sym (h .1 (s .place) (subst (λ (x : Macro). s .place < length (x .code)) q (r .2 .1))) ∙ subst (λ (x : Macro). faultAt x (s .place) ≡ true) q (r .2 .2))
+        never (sym (h .1 (s .place) (subst (λ (x : Macro). s .place < length (x .code)) q (r .2 .1)))
+        ∙ subst (λ (x : Macro). faultAt x (s .place) ≡ true) q (r .2 .2))
     back h v e (inr r) = not-both (sym (h .0) ∙ r .1)
 
 pub refuses-9 : (l : List ℕ) (i : ℕ) → judgeMacro l ≡ refused (refusal 9 i)
     ↔ ((m : Macro) × (readMacro l ≡ accepted m) × (i < length (m .code)) × (faultAt m i ≡ true) × ((j : ℕ) → j < i → faultAt m j ≡ false))
 refuses-9 l i = ((λ h. there (subst (Judges l) h (judged l))), λ h. back h (judgeMacro l) refl (judged l))
   where
-    there : Judges l (refused (refusal 9 i)) → (m : Macro) × (readMacro l ≡ accepted m) × (i < length (m .code)) × (faultAt m i ≡ true) × ((j : ℕ) → j < i → faultAt m j ≡ false)
+    there : Judges l (refused (refusal 9 i)) → (m : Macro) × (readMacro l ≡ accepted m) × (i < length (m .code)) × (faultAt m i ≡ true)
+        × ((j : ℕ) → j < i → faultAt m j ≡ false)
     there (inl r) = (r .0, r .1, r .2 .1, r .2 .2, r .2 .3)
     there (inr r) = let e : refusal 9 i ≡ r .0 = cc (r .2) in absurd (omega (arith, refused-8 l (r .0) (r .1), ap (λ (x : Refusal). x .number) e))
 
-    lower : (m : Macro) (j : ℕ) → faultAt m i ≡ true → faultAt m j ≡ true → ((h : ℕ) → h < i → faultAt m h ≡ false) → ((h : ℕ) → h < j → faultAt m h ≡ false) → j ≡ i
+    lower : (m : Macro) (j : ℕ) → faultAt m i ≡ true → faultAt m j ≡ true → ((h : ℕ) → h < i → faultAt m h ≡ false)
+        → ((h : ℕ) → h < j → faultAt m h ≡ false) → j ≡ i
     lower m j p q f g = pick (decLt i j) (decLt j i)
       where
         pick : Dec (i < j) → Dec (j < i) → j ≡ i

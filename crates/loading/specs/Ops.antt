@@ -83,7 +83,8 @@ proper c x w h =
     either (eqb (c .op) 4) _ _ x (just (eqb n 0) (push (ref a none)) x (λ e. literal-null a)) (
     either (eqb (c .op) 5) _ _ x (λ h. let q = kept (ownerOf a) (λ o. some (load o n)) x h in made (load (q .0) n) x tt (q .2)) (
     either (eqb (c .op) 6) _ _ x (λ h. let q = kept (ownerOf a) (λ o. some (store o n)) x h in made (store (q .0) n) x tt (q .2)) (
-    either (eqb (c .op) 7) _ _ x (λ h. let q = kept (operatorOf a) (λ o. exactly (eqb n 0) (operate o)) x h in just (eqb n 0) (operate (q .0)) x (λ e. tt) (q .2)) (
+    either (eqb (c .op) 7) _ _ x
+    (λ h. let q = kept (operatorOf a) (λ o. exactly (eqb n 0) (operate o)) x h in just (eqb n 0) (operate (q .0)) x (λ e. tt) (q .2)) (
     either (eqb (c .op) 8) _ _ x (just (eqb a 0) (go n) x (λ e. tt)) (
     either (eqb (c .op) 9) _ _ x (just (eqb a 0) (goUnless n) x (λ e. tt)) (
     either (eqb (c .op) 10) _ _ x (just (eqb a 0) (call n) x (λ e. tt)) (

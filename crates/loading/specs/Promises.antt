@@ -91,7 +91,8 @@ module _ (m : Macro) (w : Passed m) where
   limits = within-limits m w
 
   -- an op stands at every allowed address: where control goes from it, by its flow, by its effect, and by the op itself
-  pub successors : (k i : ℕ) (s : Shape) → Allowed m k i s → (x : Instr) × (instrAt m i ≡ some x) × Follows m k i (flow (effect m k x (s .operands)) s)
+  pub successors : (k i : ℕ) (s : Shape) → Allowed m k i s → (x : Instr) × (instrAt m i ≡ some x)
+      × Follows m k i (flow (effect m k x (s .operands)) s)
   successors = follows m w
 
   pub effects : (k i : ℕ) (s : Shape) → Allowed m k i s → (x : Instr) × (instrAt m i ≡ some x) × Does m k i s (effect m k x (s .operands))

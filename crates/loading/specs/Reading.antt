@@ -62,7 +62,8 @@ types-read n (suc k) (t ∷ l) c h =
     let r = types-read n k l (q .0) (q .1) in
     subst (Types n (suc k) (t ∷ l)) (same-some (q .2)) (ap suc (r .0), (named-byte n t (p .0) (p .1), r .1), λ b. r .2 (λ k. b (suc k)))
 
-class-read : (n : ℕ) (before : List (List Ty)) (l : List ℕ) (c : Cut (List Ty)) → readClass n before l ≡ some c → ReadClass n (c .value) × Leaves l (c .rest)
+class-read : (n : ℕ) (before : List (List Ty)) (l : List ℕ) (c : Cut (List Ty)) → readClass n before l ≡ some c → ReadClass n (c .value)
+    × Leaves l (c .rest)
 unfolding readClass
 class-read n before l c h =
     let p = chosen (marked 67 76 3 l && (leb 1 (byteAt l 2) && leb (byteAt l 2) 8)) (readTypes n (byteAt l 2) (drop 3 l)) c h in
@@ -94,7 +95,8 @@ body-read : (n size : ℕ) (before : List Body) (l : List ℕ) (c : Cut Body) �
 unfolding readBody
 body-read n size before l c h =
     let first = halfAt l 2 in let params = byteAt l 4 in let cells = byteAt l 6 in
-    let made : List Ty → Cut (List Ty) → Option (Cut Body) = λ r c. some (cut (record { first = first; parameters = params; results = r; cells = c .value }) (c .rest)) in
+    let made : List Ty → Cut (List Ty)
+    → Option (Cut Body) = λ r c. some (cut (record { first = first; parameters = params; results = r; cells = c .value }) (c .rest)) in
     let after : List Ty → Option (Cut Body) = λ r. keep (readTypes n cells (drop 7 l)) (made r) in
     let test = marked 66 68 7 l in let fit = ltb first size && leb params cells in
     let p = chosen (test && (rises before first && fit)) (keep (readResult n (byteAt l 5)) after) c h in
@@ -128,13 +130,15 @@ shape-read : (n size : ℕ) (before : List Placed) (l : List ℕ) (c : Cut Place
 unfolding readShape
 shape-read n size before l c h =
     let at = halfAt l 2 in
-    let made : Cut (List Ty) → Option (Cut Placed) = λ c. some (cut (record { address = at; found = shape (byteAt l 4) (reverse (c .value)) }) (c .rest)) in
+    let made : Cut (List Ty)
+    → Option (Cut Placed) = λ c. some (cut (record { address = at; found = shape (byteAt l 4) (reverse (c .value)) }) (c .rest)) in
     let new = not (isSome (shapeIn before at)) in
     let p = chosen (marked 83 72 6 l && (ltb at size && new)) (keep (readTypes n (byteAt l 5) (drop 6 l)) made) c h in
     let t = halves (ltb at size) new (halves (marked 83 72 6 l) (ltb at size && new) (p .0) .1) in
     let q = kept (readTypes n (byteAt l 5) (drop 6 l)) made c (p .1) in
     let ts = types-read n (byteAt l 5) (drop 6 l) (q .0) (q .1) in
-    subst (λ (c : Cut Placed). ReadShape n size (c .value) × (isSome (shapeIn before (c .value .address)) ≡ false) × Leaves l (c .rest)) (same-some (q .2)) (
+    subst (λ (c : Cut Placed). ReadShape n size (c .value) × (isSome (shapeIn before (c .value .address)) ≡ false) × Leaves l (c .rest))
+    (same-some (q .2)) (
       record { stands = ltb-true at size (t .0); named = each-reverse (Named n) (q .0 .value) [] (ts .1) tt },
       not-true (isSome (shapeIn before at)) (t .1),
       λ b. ts .2 (bytes-drop 6 l b),
@@ -163,7 +167,8 @@ took {A} f P Q step (suc n) before i l xs j k p q h =
     go (f before l) refl h (λ c. took f P Q step n (c .value ∷ before) (suc i) (c .rest) xs j k)
   where
     go : (o : Option (Cut A)) → f before l ≡ o → orUnread o i (λ c. records f n (c .value ∷ before) (suc i) (c .rest)) ≡ parsed xs j k
-        → ((c : Cut A) → P (c .value ∷ before) → Q (c .rest) → records f n (c .value ∷ before) (suc i) (c .rest) ≡ parsed xs j k → Took P Q n (c .value ∷ before) xs k)
+        → ((c : Cut A) → P (c .value ∷ before) → Q (c .rest) → records f n (c .value ∷ before) (suc i) (c .rest) ≡ parsed xs j k
+        → Took P Q n (c .value ∷ before) xs k)
         → Took P Q (suc n) before xs k
     go none e h r = not-parsed h
     go (some c) e h r =
@@ -219,7 +224,8 @@ apart-reverse : (ys zs : List Placed) → Apart ys → Apart zs → Each (λ y. 
 apart-reverse [] zs a b c = b
 apart-reverse (y ∷ ys) zs a b c =
     apart-reverse ys (y ∷ zs) (a .1) (c .0, b)
-    (each-both (λ q. q .address ≡ y .address → ⊥) (λ x. Each (λ q. q .address ≡ x .address → ⊥) zs) (λ x. Each (λ q. q .address ≡ x .address → ⊥) (y ∷ zs))
+    (each-both (λ q. q .address ≡ y .address → ⊥) (λ x. Each (λ q. q .address ≡ x .address → ⊥) zs)
+    (λ x. Each (λ q. q .address ≡ x .address → ⊥) (y ∷ zs))
     (λ x p r. ((λ e. p (sym e)), r)) ys (a .0) (c .1))
 
 apart-none : (ys : List Placed) → Each (λ y. Each {A = Placed} (λ q. q .address ≡ y .address → ⊥) []) ys
@@ -283,14 +289,24 @@ reads l m h =
     let x = onwards _ _ m (w .0) (w .1) (b .4) in
     let s = onwards _ _ m (w .0) (w .1) (x .4) in
     let e = ended _ _ _ m (w .0) (w .1) (s .4) in
-    let tc = took (readClass n) (Each (ReadClass n)) (Leaves l) (λ before k c p q h. let r = class-read n before k c h in ((r .0, p), λ b. r .1 (q b))) n [] 1 (drop 8 l) (c .0) (c .1) (c .2) tt (bytes-drop 8 l) (c .3) in
-    let tb = took (readBody n size) (λ bs. Each (ReadBody n size) bs × Falls bs) (Leaves l) (λ before k c p q h. let r = body-read n size before k c h in (((r .0, p .0), (r .1, p .1)), λ b. r .2 (q b))) (byteAt l 3) [] (c .1) (c .2) (b .0) (b .1) (b .2) (tt, tt) (tc .3) (b .3) in
-    let tx = took readCode (λ xs. Bytes l → Each OfBytes xs) (Leaves l) (λ before k c p q h. ((λ b. (code-read before k c h (q b) .0, p b)), λ b. code-read before k c h (q b) .1)) size [] (b .1) (b .2) (x .0) (x .1) (x .2) (λ b. tt) (tb .3) (x .3) in
-    let ts = took (readShape n size) (λ ss. Each (ReadShape n size) ss × Apart ss) (Leaves l) (λ before k c p q h. let r = shape-read n size before k c h in (((r .0, p .0), (new-shape before (c .value .address) (r .1), p .1)), λ b. r .2 (q b))) (halfAt l 6) [] (x .1) (x .2) (s .0) (s .1) (s .2) (tt, tt) (tx .3) (s .3) in
+    let tc = took (readClass n) (Each (ReadClass n)) (Leaves l)
+    (λ before k c p q h. let r = class-read n before k c h in ((r .0, p), λ b. r .1 (q b))) n [] 1 (drop 8 l) (c .0) (c .1) (c .2) tt
+    (bytes-drop 8 l) (c .3) in
+    let tb = took (readBody n size) (λ bs. Each (ReadBody n size) bs × Falls bs) (Leaves l)
+    (λ before k c p q h. let r = body-read n size before k c h in (((r .0, p .0), (r .1, p .1)), λ b. r .2 (q b))) (byteAt l 3) [] (c .1) (c .2)
+    (b .0) (b .1) (b .2) (tt, tt) (tc .3) (b .3) in
+    let tx = took readCode (λ xs. Bytes l → Each OfBytes xs) (Leaves l)
+    (λ before k c p q h. ((λ b. (code-read before k c h (q b) .0, p b)), λ b. code-read before k c h (q b) .1)) size [] (b .1) (b .2) (x .0)
+    (x .1) (x .2) (λ b. tt) (tb .3) (x .3) in
+    let ts = took (readShape n size) (λ ss. Each (ReadShape n size) ss × Apart ss) (Leaves l)
+    (λ before k c p q h. let r = shape-read n size before k c h in
+    (((r .0, p .0), (new-shape before (c .value .address) (r .1), p .1)), λ b. r .2 (q b))) (halfAt l 6) [] (x .1) (x .2) (s .0) (s .1)
+    (s .2) (tt, tt) (tx .3) (s .3) in
     let cs = tc .0 in let bs = tb .0 in let xs = tx .0 in let ss = ts .0 in
     let all : whole cs bs xs ss ≡ m = (λ i. record { classes = tc .1 i; bodies = tb .1 i; code = tx .1 i; shapes = ts .1 i }) ∙ e in
     let counted : length (reverse cs) ≡ n = length-reverse cs ∙ omega (arith, tc .4) in
     let measured : length (reverse xs) ≡ size = length-reverse xs ∙ omega (arith, tx .4) in (
       subst WellFormed all (gathered cs bs xs ss n size counted measured (leb-true n 16 (fewClasses .0)) (omega (arith, tb .4, leb-true 1 (byteAt l 3) (fewBodies .0))) (omega (arith, tb .4, leb-true (byteAt l 3) 64 (fewBodies .1))) (tc .2) (tb .2 .0) (tb .2 .1) (ts .2 .0) (ts .2 .1)),
-      λ bytes. subst Narrow all (record { few-instructions = rw measured (number-below l bytes 4 two); instructions-narrow = each-reverse OfBytes xs [] (tx .2 bytes) tt }),
+      λ bytes. subst Narrow all
+          (record { few-instructions = rw measured (number-below l bytes 4 two); instructions-narrow = each-reverse OfBytes xs [] (tx .2 bytes) tt }),
     )

@@ -1,0 +1,107 @@
+-- `records::classes_pass` meets its contract. The loop has come to the k-th class, at p, met no bad one, and put the places passed into cx.
+use native.Mathlib.Omega.{arith}
+use mathlib.Core.Path.{_≡_, refl, sym, _∙_}
+use Prim.Native.Nat.{_+_, _*_, _-_, _≤_}
+use lib.ListN.{length, length-set}
+use Rattle.places.specs.Records.{badClass, classPlace}
+use Rattle.places.specs.Index.{Placed}
+use Rattle.records.specs.Answer.{Upto}
+use Rattle.records.proofs.Known as known
+use Rattle.records.proofs.Passing as law
+use Rattle.records.proofs.classes_pass.Statement.{statement}
+use Rattle.records.proofs.classes_pass.Tie as tie
+
+abbrev Inv-loop : tie.InvT-loop
+Inv-loop l cx₀ c k₀ p₀ cx k p = Upto (badClass l) (classPlace l) c k p × (p ≤ 8 + 258 * k) × (length cx ≡ length cx₀) × Placed (classPlace l) cx k
+
+abbrev μ-loop : tie.MeasureT-loop
+μ-loop l cx₀ c k₀ p₀ cx k p = c - k
+
+loop-holds : tie.Need-loop-holds Inv-loop μ-loop
+loop-holds c = (law.starts _ (law.class-start _), omega arith, refl, (λ j h. absurd (omega arith)))
+
+bad-class-requires : tie.Need-bad-class-requires Inv-loop μ-loop
+bad-class-requires c κs = (omega arith, c .before .before .before .before .pre .0)
+
+same-length : tie.Need-same-length Inv-loop μ-loop
+same-length c = c .before .before .before .loop .inv .2
+
+returns : tie.Need-returns Inv-loop μ-loop
+returns c =
+    let loop = c .before .before .before .loop in
+    let I = loop .inv in (
+      law.stops (I .0) (omega arith) (sym (c .before .bad-class .ensures _ (I .0 .stands)) ∙ c .if1 .taken),
+      omega arith,
+      I .3,
+    )
+
+cast-cx : tie.Need-cast-cx Inv-loop μ-loop
+cast-cx c = omega arith
+
+mul-cx : tie.Need-mul-cx Inv-loop μ-loop
+mul-cx c = omega arith
+
+slice-write-cx : tie.Need-slice-write-cx Inv-loop μ-loop
+slice-write-cx c = omega arith
+
+add-p : tie.Need-add-p Inv-loop μ-loop
+add-p c = omega arith
+
+add-byte-at : tie.Need-add-byte-at Inv-loop μ-loop
+add-byte-at c = omega arith
+
+byte-at-requires : tie.Need-byte-at-requires Inv-loop μ-loop
+byte-at-requires c κs =
+    let loop = c .before .before .before .loop in
+    let h = known.class-known _ _ (sym (c .before .bad-class .ensures _ (loop .inv .0 .stands)) ∙ c .if1 .left) in
+    let e = loop .inv .0 .stands in
+    omega arith
+
+add-p-2 : tie.Need-add-p-2 Inv-loop μ-loop
+add-p-2 c = omega arith
+
+add-k : tie.Need-add-k Inv-loop μ-loop
+add-k c = omega arith
+
+loop-less : tie.Need-loop-less Inv-loop μ-loop
+loop-less c = omega arith
+
+loop-again : tie.Need-loop-again Inv-loop μ-loop
+loop-again c =
+    let loop = c .before .before .before .before .loop in
+    let start = c .before .before .before .before .before .before .before in
+    let I = loop .inv in (
+      law.goes-on (I .0) _ (omega arith) (sym (c .before .before .bad-class .ensures _ (loop .inv .0 .stands)) ∙ c .before .if1 .left) (law.next-class _ _ _ _ (I .0 .stands) (c .byte-at .ensures .0)),
+      omega arith,
+      simp length-set (I .2),
+      law.placed-more (classPlace (start .args .l .now)) (loop .cx) (loop .k) (loop .p) (I .0 .stands) (omega arith) (I .3),
+    )
+
+same-length-2 : tie.Need-same-length-2 Inv-loop μ-loop
+same-length-2 c = c .before .loop .inv .2
+
+returns-2 : tie.Need-returns-2 Inv-loop μ-loop
+returns-2 c = let I = c .before .loop .inv in (law.finishes (I .0) (omega arith), omega (arith, I .0 .within), I .3)
+
+pub classes-pass-spec : {M : Type 1} → statement M
+classes-pass-spec =
+    tie.close
+    (tie.spec
+    Inv-loop
+    μ-loop
+    loop-holds
+    bad-class-requires
+    same-length
+    returns
+    cast-cx
+    mul-cx
+    slice-write-cx
+    add-p
+    add-byte-at
+    byte-at-requires
+    add-p-2
+    add-k
+    loop-less
+    loop-again
+    same-length-2
+    returns-2)

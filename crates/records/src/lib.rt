@@ -1,0 +1,347 @@
+// The record pass: whether a macro's records read, and where each class, body and shape stands.
+ghost use mathlib.Core.Path.{_≡_};
+ghost use mathlib.Core.Bool.{true, false, cond, not, _&&_, _||_};
+ghost use Prim.Native.Nat.{ℕ, _+_, _*_, _-_, _≤_, _<_};
+ghost use lib.ListN.{length};
+ghost use lib.Dec.{eqb};
+ghost use Rattle.words.specs.Numbers.{byteAt, halfAt, wordAt};
+ghost use Rattle.places.specs.Search.{first};
+ghost use Rattle.places.specs.Records.{classes, count, classPlace, bodyPlace, codeBase, shapePlace, noMark, noType, badTypes, badHead, badClass, rises, bodyFits, badBody, badCode, shapeFits, badShape, readEnd, readRecords};
+ghost use Rattle.places.specs.Index.{Indexed, Placed};
+ghost use Rattle.records.specs.Answer.{readOf, Left, BaseIs, Passes};
+
+// The place of the first instruction, or the index of the first record that does not read.
+pub enum Records {
+    Reads(usize),
+    Unread(usize),
+}
+
+// Bytes are parameters, so that their range is known where they are widened.
+fn wide(a: u8) -> usize
+    ensures { λ r. ⌜ (r ≡ a) × (r < 256) ⌝ }
+{
+    a as usize
+}
+
+fn join_half(a: u8, b: u8) -> usize
+    ensures { λ r. ⌜ (r ≡ a + b * 256) × (r < 65536) ⌝ }
+{
+    (a as usize) + (b as usize) * 256
+}
+
+fn join_word(a: u8, b: u8, c: u8, d: u8) -> usize
+    ensures { λ r. ⌜ (r ≡ a + b * 256 + c * 65536 + d * 16777216) × (r < 4294967296) ⌝ }
+{
+    (a as usize) + (b as usize) * 256 + (c as usize) * 65536 + (d as usize) * 16777216
+}
+
+pub fn byte_at(l: &[u8], i: usize) -> usize
+    requires { ⌜ i < length (now l) ⌝ }
+    ensures { λ r. ⌜ (r ≡ byteAt (now (l .entry)) i) × (r < 256) ⌝ }
+{
+    wide(l[i])
+}
+
+pub fn half_at(l: &[u8], i: usize) -> usize
+    requires { ⌜ i + 2 ≤ length (now l) ⌝ }
+    ensures { λ r. ⌜ (r ≡ halfAt (now (l .entry)) i) × (r < 65536) ⌝ }
+{
+    join_half(l[i], l[i + 1])
+}
+
+pub fn word_at(l: &[u8], i: usize) -> usize
+    requires { ⌜ i + 4 ≤ length (now l) ⌝ }
+    ensures { λ r. ⌜ (r ≡ wordAt (now (l .entry)) i) × (r < 4294967296) ⌝ }
+{
+    join_word(l[i], l[i + 1], l[i + 2], l[i + 3])
+}
+
+fn unmarked(a: u8, b: u8, x: u8, y: u8) -> bool
+    ensures { λ r. ⌜ r ≡ not (eqb a x && eqb b y) ⌝ }
+{
+    if a == x { b != y } else { true }
+}
+
+// A choice without a branch, for the loops that do not leave at the first that they look for.
+fn pick(t: bool, a: usize, b: usize) -> usize
+    ensures { λ r. ⌜ r ≡ cond t a b ⌝ }
+{
+    if t { a } else { b }
+}
+
+// Whether no record of n bytes with the mark x, y stands at p.
+fn no_mark(l: &[u8], p: usize, n: usize, x: u8, y: u8) -> bool
+    requires { ⌜ (p < 4294967296) × (2 ≤ n) × (n < 256) ⌝ }
+    ensures { λ r. ⌜ r ≡ noMark (now (l .entry)) p n x y ⌝ }
+{
+    if l.len() < p + n {
+        return true;
+    }
+    unmarked(l[p], l[p + 1], x, y)
+}
+
+// Whether t is no type byte where there are c classes.
+fn no_type(c: usize, t: usize) -> bool
+    ensures { λ r. ⌜ r ≡ noType c t ⌝ }
+{
+    if t < 16 {
+        if t < 1 {
+            return true;
+        }
+        return 3 < t;
+    }
+    c <= t - 16
+}
+
+// Whether one of the n bytes from p is no type. The loop does not leave at the first: it is short, and goes on without a branch.
+fn bad_types(l: &[u8], p: usize, n: usize, c: usize) -> bool
+    requires { ⌜ (p + n ≤ length (now l)) × (c ≡ classes (now l)) ⌝ }
+    ensures { λ r. ⌜ r ≡ badTypes (now (l .entry)) p n ⌝ }
+{
+    let mut bad = n;
+    let mut i = n;
+    while 0 < i {
+        i -= 1;
+        bad = pick(no_type(c, byte_at(l, p + i)), i, bad);
+    }
+    bad < n
+}
+
+pub fn bad_head(l: &[u8]) -> bool
+    ensures { λ r. ⌜ r ≡ badHead (now (l .entry)) ⌝ }
+{
+    if no_mark(l, 0, 8, 72, 68) {
+        return true;
+    }
+    if 16 < l[2] {
+        return true;
+    }
+    if l[3] < 1 {
+        return true;
+    }
+    64 < l[3]
+}
+
+// Whether the class whose record stands at p is bad.
+fn bad_class(l: &[u8], p: usize, c: usize) -> bool
+    requires { ⌜ (p < 4294967296) × (c ≡ classes (now l)) ⌝ }
+    ensures { λ r. ⌜ ((k : ℕ) → p ≡ classPlace (now (l .entry)) k → r ≡ badClass (now (l .entry)) k) ⌝ }
+{
+    if no_mark(l, p, 3, 67, 76) {
+        return true;
+    }
+    let fields = byte_at(l, p + 2);
+    if fields < 1 {
+        return true;
+    }
+    if 8 < fields {
+        return true;
+    }
+    if l.len() < p + 3 + fields {
+        return true;
+    }
+    bad_types(l, p + 3, fields, c)
+}
+
+// A result is none, 0, or a type.
+fn result_fits(c: usize, t: usize) -> bool
+    ensures { λ r. ⌜ r ≡ (eqb t 0 || not (noType c t)) ⌝ }
+{
+    if t == 0 {
+        return true;
+    }
+    !no_type(c, t)
+}
+
+// A body's record, all but that its first address rises.
+fn body_fits(l: &[u8], p: usize, c: usize, n: usize) -> bool
+    requires { ⌜ (p < 4294967296) × (c ≡ classes (now l)) × (n ≡ count (now l)) ⌝ }
+    ensures { λ r. ⌜ r ≡ bodyFits (now (l .entry)) p ⌝ }
+{
+    if no_mark(l, p, 7, 66, 68) {
+        return false;
+    }
+    let cells = byte_at(l, p + 6);
+    if l.len() < p + 7 + cells {
+        return false;
+    }
+    if !result_fits(c, byte_at(l, p + 5)) {
+        return false;
+    }
+    if cells < byte_at(l, p + 4) {
+        return false;
+    }
+    if bad_types(l, p + 7, cells, c) {
+        return false;
+    }
+    half_at(l, p + 2) < n
+}
+
+fn rises_from(k: usize, u: usize, a: usize) -> bool
+    ensures { λ r. ⌜ r ≡ rises k u a ⌝ }
+{
+    if k == 0 {
+        return a == 0;
+    }
+    u < a
+}
+
+// A shape's record, all but that it is the address's first.
+fn shape_fits(l: &[u8], p: usize, c: usize, n: usize) -> bool
+    requires { ⌜ (p < 4294967296) × (c ≡ classes (now l)) × (n ≡ count (now l)) ⌝ }
+    ensures { λ r. ⌜ r ≡ shapeFits (now (l .entry)) p ⌝ }
+{
+    if no_mark(l, p, 6, 83, 72) {
+        return false;
+    }
+    let depth = byte_at(l, p + 5);
+    if l.len() < p + 6 + depth {
+        return false;
+    }
+    if bad_types(l, p + 6, depth, c) {
+        return false;
+    }
+    half_at(l, p + 2) < n
+}
+
+fn read_end(l: &[u8], p: usize, k: usize, base: usize) -> Records
+    requires { ⌜ (p < 4294967296) × (k < 4294967296) ⌝ }
+    ensures { λ r. ⌜ (readOf r ≡ readEnd (now (l .entry)) p k) × BaseIs r base ⌝ }
+{
+    if no_mark(l, p, 2, 90, 90) {
+        return Records::Unread(k);
+    }
+    if l.len() == p + 2 {
+        Records::Reads(base)
+    } else {
+        Records::Unread(k + 1)
+    }
+}
+
+// How many records of a kind read before the first that does not, and where that would stand.
+struct Passed {
+    read: usize,
+    end: usize,
+}
+
+// The classes; their places go to cx.
+fn classes_pass(l: &[u8], cx: &mut [u32], c: usize) -> Passed
+    requires { ⌜ (c ≡ classes (now l)) × (c ≤ 16) × (16 ≤ length (now cx)) ⌝ }
+    ensures { λ r. ⌜ Passes (badClass (now (l .entry))) (classPlace (now (l .entry))) c (r .read) (r .end) × (r .end < 8192) × Placed (classPlace (now (l .entry))) (now (cx .exit)) (r .read) ⌝ }
+{
+    let mut k: usize = 0;
+    let mut p: usize = 8;
+    while k < c {
+        if bad_class(l, p, c) {
+            return Passed { read: k, end: p };
+        }
+        cx[k] = p as u32;
+        p = p + 3 + byte_at(l, p + 2);
+        k += 1;
+    }
+    Passed { read: k, end: p }
+}
+
+// The m bodies, from their place; their places go to bx.
+fn bodies_pass(l: &[u8], bx: &mut [u32], from: usize, c: usize, n: usize, m: usize) -> Passed
+    requires { ⌜ (from ≡ bodyPlace (now l) 0) × (from < 8192) × (c ≡ classes (now l)) × (n ≡ count (now l)) × (m ≤ 64) × (64 ≤ length (now bx)) ⌝ }
+    ensures { λ r. ⌜ Passes (badBody (now (l .entry))) (bodyPlace (now (l .entry))) m (r .read) (r .end) × (r .end < 65536) × Placed (bodyPlace (now (l .entry))) (now (bx .exit)) (r .read) ⌝ }
+{
+    let mut k: usize = 0;
+    let mut p: usize = from;
+    let mut last: usize = 0;
+    while k < m {
+        if !body_fits(l, p, c, n) {
+            return Passed { read: k, end: p };
+        }
+        let a = half_at(l, p + 2);
+        if !rises_from(k, last, a) {
+            return Passed { read: k, end: p };
+        }
+        bx[k] = p as u32;
+        last = a;
+        p = p + 7 + byte_at(l, p + 6);
+        k += 1;
+    }
+    Passed { read: k, end: p }
+}
+
+// How many of n instructions from base stand whole within len bytes.
+fn whole_code(len: usize, base: usize, n: usize) -> usize
+    ensures { λ r. ⌜ (r ≤ n) × (r < n → len < base + 8 * r + 8) × ((k : ℕ) → k < r → base + 8 * k + 8 ≤ len) ⌝ }
+{
+    if len < base {
+        return 0;
+    }
+    let k = (len - base) / 8;
+    if k < n {
+        return k;
+    }
+    n
+}
+
+// The first of n instructions that does not read. Their marks are looked at without a branch, from the last to the first.
+fn code_pass(l: &[u8], base: usize, n: usize) -> usize
+    requires { ⌜ (base ≡ codeBase (now l)) × (base < 65536) × (n < 65536) ⌝ }
+    ensures { λ r. ⌜ r ≡ first (badCode (now (l .entry))) n ⌝ }
+{
+    let whole = whole_code(l.len(), base, n);
+    let mut bad = whole;
+    let mut i = whole;
+    while 0 < i {
+        i -= 1;
+        let p = base + 8 * i;
+        bad = pick(unmarked(l[p], l[p + 1], 73, 78), i, bad);
+    }
+    bad
+}
+
+// The m shapes, from their place; ix gets each one's place at its address.
+fn shapes_pass(l: &[u8], ix: &mut [u32], from: usize, c: usize, n: usize, m: usize) -> Passed
+    requires { ⌜ (from ≡ shapePlace (now l) 0) × (from < 1000000) × (c ≡ classes (now l)) × (n ≡ count (now l)) × (m < 65536) × (n ≤ length (now ix)) × (Indexed (now l) (now ix) n 0) ⌝ }
+    ensures { λ r. ⌜ Passes (badShape (now (l .entry))) (shapePlace (now (l .entry))) m (r .read) (r .end) × (r .end < 4294967296) × Indexed (now (l .entry)) (now (ix .exit)) n (r .read) ⌝ }
+{
+    let mut k: usize = 0;
+    let mut p: usize = from;
+    while k < m {
+        if !shape_fits(l, p, c, n) {
+            return Passed { read: k, end: p };
+        }
+        let a = half_at(l, p + 2);
+        if ix[a] != 0 {
+            return Passed { read: k, end: p };
+        }
+        ix[a] = p as u32;
+        p = p + 6 + byte_at(l, p + 5);
+        k += 1;
+    }
+    Passed { read: k, end: p }
+}
+
+// The records after the head, of n instructions, into indexes that hold nothing yet.
+pub fn scan(l: &[u8], ix: &mut [u32], bx: &mut [u32], cx: &mut [u32], n: usize) -> Records
+    requires { ⌜ (badHead (now l) ≡ false) × (n ≡ count (now l)) × (n ≤ length (now ix)) × (64 ≤ length (now bx)) × (16 ≤ length (now cx)) × (Indexed (now l) (now ix) n 0) ⌝ }
+    ensures { λ r. ⌜ (readOf r ≡ readRecords (now (l .entry))) × Left (now (l .entry)) (now (ix .exit)) (now (bx .exit)) (now (cx .exit)) r ⌝ }
+{
+    let c = byte_at(l, 2);
+    let m = byte_at(l, 3);
+    let t = half_at(l, 6);
+    let k = classes_pass(l, cx, c);
+    if k.read < c {
+        return Records::Unread(1 + k.read);
+    }
+    let b = bodies_pass(l, bx, k.end, c, n, m);
+    if b.read < m {
+        return Records::Unread(1 + c + b.read);
+    }
+    let base = b.end;
+    let i = code_pass(l, base, n);
+    if i < n {
+        return Records::Unread(1 + c + m + i);
+    }
+    let s = shapes_pass(l, ix, base + 8 * n, c, n, t);
+    if s.read < t {
+        return Records::Unread(1 + c + m + n + s.read);
+    }
+    read_end(l, s.end, 1 + c + m + n + t, base)
+}

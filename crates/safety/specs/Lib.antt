@@ -1,0 +1,9 @@
+pub mod Terms
+pub mod Operators
+pub mod Lists
+pub mod States
+pub mod Records
+pub mod Operands
+pub mod Steps
+pub mod Running
+pub mod Safety
