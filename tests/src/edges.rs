@@ -24,11 +24,12 @@ fn about(rng: &mut Rng, limit: usize) -> usize {
 
 /// A table with one figure about its limit, in the root or in a procedure.
 pub fn edge_table(rng: &mut Rng) -> Vec<u8> {
-    let part = match rng.below(5) {
+    let part = match rng.below(6) {
         0 => cells(rng),
         1 => need(rng),
         2 => holds(rng),
-        3 => return bytes_of(&nesting(rng)),
+        3 => names(rng),
+        4 => return bytes_of(&nesting(rng)),
         _ => return bytes_of(&counts(rng)),
     };
     bytes_of(&placed(rng, part))
@@ -97,6 +98,42 @@ fn holds(rng: &mut Rng) -> Vec<Entry> {
         left -= here;
     }
     list.push(entry(1, 0, 0));
+    list
+}
+
+/// A block with variables, holds and labels of few names, so that some come twice; and uses of them.
+fn names(rng: &mut Rng) -> Vec<Entry> {
+    let few = |rng: &mut Rng| 5 + rng.below(6) as u16;
+    let declarations = rng.below(4);
+    let labels = rng.below(3);
+    let inner = rng.chance(60);
+    let uses = 1 + rng.below(2);
+    let expression = rng.chance(40);
+    let kind = if expression { 53 } else { 1 };
+    let mut list = Vec::new();
+    if expression {
+        list.extend([entry(1, 0, 1), entry(28, 0, 0), entry(40, 0, 1)]);
+    }
+    list.push(entry(kind, declarations as u16, (labels + uses + inner as usize) as i32));
+    for _ in 0..declarations {
+        list.push(if rng.chance(80) { entry(10, few(rng), 1 + rng.below(2) as i32) } else { entry(14, few(rng), 0) });
+    }
+    if inner {
+        list.extend([entry(1, 1, 2), entry(10, few(rng), 1), entry(20, few(rng), 0), entry(25, few(rng), 0)]);
+    }
+    for _ in 0..labels {
+        list.push(entry(20, few(rng), 0));
+    }
+    for _ in 0..uses {
+        if rng.chance(50) {
+            list.push(entry(25, few(rng), 0));
+        } else {
+            list.extend([entry(21, 0, 0), entry(44, few(rng), 0), entry(40, 0, 1)]);
+        }
+    }
+    if expression {
+        list.push(entry(44, few(rng), 0));
+    }
     list
 }
 
@@ -369,8 +406,19 @@ pub fn edge_state(rng: &mut Rng, loaded: &Loaded) -> Vec<u8> {
             4 => {
                 activations[k].holds.pop();
             }
-            // Another body at the same place; a call of another body.
-            5 => activations[k].body = rng.below(3),
+            // Another body; the twin of its body at the same place, whose caller calls the other.
+            5 if rng.chance(30) => activations[k].body = rng.below(3),
+            5 => match activations[k].body {
+                1 => {
+                    activations[k].body = 2;
+                    activations[k].address += 10;
+                }
+                2 => {
+                    activations[k].body = 1;
+                    activations[k].address -= 10;
+                }
+                _ => {}
+            },
             6 if n > 2 => activations.swap(n - 1, n - 2),
             7 if n > 1 => {
                 let copy = activations[n - 1].clone();

@@ -15,6 +15,7 @@ pub mod limits;
 pub mod machine;
 pub mod names;
 pub mod paper;
+pub mod plain_loader;
 pub mod rng;
 pub mod state;
 pub mod table;

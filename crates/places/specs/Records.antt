@@ -84,9 +84,9 @@ bodyFits l p =
     cond (noMark l p 7 66 68) false
     (cond (ltb (length l) (p + 7 + byteAt l (p + 6))) false
     (cond (eqb (byteAt l (p + 5)) 0 || not (noType (classes l) (byteAt l (p + 5))))
-      (cond (ltb (byteAt l (p + 6)) (byteAt l (p + 4))) false
-      (cond (badTypes l (p + 7) (byteAt l (p + 6))) false
-      (ltb (halfAt l (p + 2)) (count l))))
+    (cond (ltb (byteAt l (p + 6)) (byteAt l (p + 4))) false
+    (cond (badTypes l (p + 7) (byteAt l (p + 6))) false
+    (ltb (halfAt l (p + 2)) (count l))))
     false))
 
 unfoldable pub badBody : List ℕ → ℕ → Bool

@@ -137,7 +137,7 @@ handed t h s = cond (eqb t 0) (goes h s) (push t h s)
 unfoldable pub opCall : List ℕ → ℕ → ℕ → ℕ → List ℕ → Flow
 opCall l a b h s =
     unused a (need (not (eqb b 0)) (need (ltb b (bodies l))
-      (chain (takes l (bodyPlace l b + 7) (byteAt l (bodyPlace l b + 4)) h s) (λ g r. handed (byteAt l (bodyPlace l b + 5)) g r))))
+    (chain (takes l (bodyPlace l b + 7) (byteAt l (bodyPlace l b + 4)) h s) (λ g r. handed (byteAt l (bodyPlace l b + 5)) g r))))
 
 -- the stack holds just the result
 unfoldable pub justs : ℕ → ℕ → List ℕ → Flow
@@ -149,7 +149,7 @@ opReturn l k a b h s = unused a (unused b (need (not (eqb k 0)) (need (eqb h 0) 
 unfoldable pub opMake : List ℕ → ℕ → ℕ → ℕ → List ℕ → Flow
 opMake l a b h s =
     unused b (need (ltb a (classes l))
-      (chain (takes l (classPlace l a + 3) (byteAt l (classPlace l a + 2)) h s) (λ g r. push (16 + a) g r)))
+    (chain (takes l (classPlace l a + 3) (byteAt l (classPlace l a + 2)) h s) (λ g r. push (16 + a) g r)))
 
 unfoldable pub opGetField : List ℕ → ℕ → ℕ → ℕ → List ℕ → Flow
 opGetField l a b h s =
@@ -158,7 +158,7 @@ opGetField l a b h s =
 unfoldable pub opPutField : List ℕ → ℕ → ℕ → ℕ → List ℕ → Flow
 opPutField l a b h s =
     need (ltb a (classes l)) (need (ltb b (byteAt l (classPlace l a + 2)))
-      (chain (pop (byteAt l (classPlace l a + 3 + b)) h s) (λ g r. pop (16 + a) g r)))
+    (chain (pop (byteAt l (classPlace l a + 3 + b)) h s) (λ g r. pop (16 + a) g r)))
 
 unfoldable pub opSet : ℕ → ℕ → ℕ → List ℕ → Flow
 opSet a b h s = unused a (unused b (chain (pop 1 h s) (λ g r. pop 1 g r)))
@@ -230,7 +230,7 @@ unfoldable pub opens : List ℕ → ℕ → ℕ → Flow → Flow
 opens l k i f =
     cond (eqb (firstOf l k) i)
     (cond (ltb 32 (byteAt l (bodyPlace l k + 6))) bad
-      (need (plain k (byteAt l (bodyPlace l k + 4)) (byteAt l (bodyPlace l k + 5))) (goes 0 [])))
+    (need (plain k (byteAt l (bodyPlace l k + 4)) (byteAt l (bodyPlace l k + 5))) (goes 0 [])))
     f
 
 -- the state found at an address, given what flows in
