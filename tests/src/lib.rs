@@ -6,6 +6,8 @@ pub mod agree;
 pub mod answer;
 pub mod code;
 pub mod compile;
+#[cfg(desk)]
+pub mod desk;
 pub mod edges;
 pub mod execute;
 pub mod gen;

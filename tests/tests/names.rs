@@ -205,6 +205,31 @@ fn kinds_in_their_places() {
     assert_eq!(verdict("1 0 1, 21 0 0, 46 1 0, 40 0 1, 40 0 1"), (3, 2));
 }
 
+/// A kind that paper 01 does not name reads nowhere, and each named one only as its sort.
+#[test]
+fn every_kind_everywhere() {
+    let statements = [1, 20, 21, 22, 23, 24, 25, 26, 27, 28, 30];
+    let declarations = [10, 11, 12, 14];
+    let expressions = [40, 41, 42, 43, 44, 45, 46, 47, 48, 49, 50, 51, 53];
+    for kind in (0..400).chain([65_535]) {
+        // An entry that reads if its kind does: what is missing behind it shows at a later place.
+        let a = match kind {
+            30 => 1,
+            48 => 20,
+            49 => 1,
+            1 | 10 | 11 | 12 | 14 | 20 | 25 | 27 | 43..=47 | 53 => 1,
+            _ => 0,
+        };
+        let b = i32::from(matches!(kind, 10 | 11));
+        let refused_at = |text: String, at: usize| verdict(&text) == (2, at);
+        assert_eq!(refused_at(format!("1 0 1, {kind} {a} {b}"), 1), !statements.contains(&kind), "statement {kind}");
+        assert_eq!(refused_at(format!("1 1 0, {kind} {a} {b}"), 1), !declarations.contains(&kind), "declaration {kind}");
+        assert_eq!(refused_at(format!("1 0 1, 26 0 0, {kind} {a} {b}"), 2), !expressions.contains(&kind), "expression {kind}");
+        assert_eq!(refused_at(format!("1 0 1, 21 0 0, {kind} {a} {b}"), 2), !matches!(kind, 44 | 46), "target {kind}");
+        assert_eq!(refused_at(format!("{kind} 1 {b}"), 0), kind != 1, "root {kind}");
+    }
+}
+
 /// 2 comes before every 3, 4, 5; all of these before 6.
 #[test]
 fn two_before_three_before_six() {

@@ -378,6 +378,27 @@ fn recursive_function() {
     );
 }
 
+/// Fields are apart from each other, records too, and two references may be to one record.
+#[test]
+fn fields_of_records() {
+    // class 1 with fields 2, 3; x (4) := record (10, 20); y (5) := x; z (6) := record (1, 2);
+    // field 3 of y := 30; then the fields of x and z, and whether x = y and x = z
+    let field = |name: u16, of: u16| format!("28 0 0, 40 0 {name}, 46 {name} 0, 44 {of} 0");
+    let equal = |v: u16, w: u16| format!("28 0 0, 40 0 9, 50 0 0, 49 10 0, 44 {v} 0, 44 {w} 0, 40 0 1, 40 0 0");
+    let text = format!(
+        "1 4 10, 11 1 2, 10 2 1, 10 3 1, 10 4 65537, 10 5 65537, 10 6 65537,
+         21 0 0, 44 4 0, 47 1 2, 40 0 10, 40 0 20, 21 0 0, 44 5 0, 44 4 0, 21 0 0, 44 6 0, 47 1 2, 40 0 1, 40 0 2,
+         21 0 0, 46 3 0, 44 5 0, 40 0 30, {}, {}, {}, {}, {}, {}",
+        field(2, 4),
+        field(3, 4),
+        field(2, 6),
+        field(3, 6),
+        equal(4, 5),
+        equal(4, 6)
+    );
+    assert_eq!(lines(&text), ["set 2 10", "set 3 30", "set 2 1", "set 3 2", "set 9 1", "set 9 0", "end 0"]);
+}
+
 /// A loop that never ends goes on; its trace grows.
 #[test]
 fn a_loop_without_end() {

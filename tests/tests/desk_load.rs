@@ -1,0 +1,149 @@
+//! `cue_load`, through the C interface, against the second evaluator: number and place.
+#![cfg(desk)]
+
+use second::answer::Refusal;
+use second::code::{judge_macro, write_macro, Macro};
+use second::edges::edge_macro;
+use second::gen_code::{damaged_macro, good_macro, Size};
+use second::paper::{body, code, root_only, shape};
+use second::rng::Rng;
+use second::{cases, deep, desk, plain_loader};
+
+fn expected(bytes: &[u8]) -> [u64; 4] {
+    match judge_macro(bytes) {
+        Ok(_) => [1, 0, 0, 0],
+        Err(Refusal { number, place }) => [0, 0, number as u64, place as u64],
+    }
+}
+
+fn agrees(bytes: &[u8]) {
+    let wanted = expected(bytes);
+    assert_eq!(desk::unpacked(desk::load(bytes)), wanted, "macro {bytes:?}");
+    let plain = plain_loader::load(bytes);
+    let plain = if plain.0 == 0 { [1, 0, 0, 0] } else { [0, 0, plain.0 as u64, plain.1 as u64] };
+    assert_eq!(plain, wanted, "the plain loader, macro {bytes:?}");
+}
+
+fn given(m: &Macro) -> [u64; 4] {
+    let bytes = write_macro(m);
+    agrees(&bytes);
+    desk::unpacked(desk::load(&bytes))
+}
+
+#[test]
+fn generated_and_damaged_macros() {
+    deep(|| {
+        let mut rng = Rng::new(3);
+        let mut seen = [0usize; 3];
+        for i in 0..cases(120_000) {
+            let bytes = match i % 8 {
+                0 => edge_macro(&mut rng),
+                1 => write_macro(&good_macro(&mut rng, Size { bodies: 3, instructions: 10, classes: 2 })),
+                2 if i % 512 == 2 => write_macro(&good_macro(&mut rng, Size { bodies: 20, instructions: 40, classes: 16 })),
+                _ => {
+                    let good = good_macro(&mut rng, Size { bodies: 3, instructions: 8, classes: 2 });
+                    damaged_macro(&mut rng, &good)
+                }
+            };
+            agrees(&bytes);
+            seen[match desk::unpacked(desk::load(&bytes))[..] {
+                [1, ..] => 0,
+                [0, _, 8, _] => 1,
+                _ => 2,
+            }] += 1;
+        }
+        assert!(seen.iter().all(|n| *n > cases(120_000) / 20), "all three answers are frequent: {seen:?}");
+    });
+}
+
+#[test]
+fn bytes_that_are_no_macro() {
+    let mut rng = Rng::new(4);
+    for length in 0..400 {
+        let noise: Vec<u8> = (0..length).map(|_| rng.byte()).collect();
+        agrees(&noise);
+        // A head that lies, and then noise.
+        let mut lying = b"HD".to_vec();
+        lying.extend((0..length).map(|_| *rng.pick(&[0, 1, 2, 16, 64, 255, b'C', b'L', b'B', b'D', b'I', b'N'])));
+        agrees(&lying);
+    }
+}
+
+#[test]
+fn every_truncation() {
+    let m = root_only("17 0 7, 1 0 3, 1 0 200, 15 0 0, 18 0 0, 8 0 10, 18 0 0, 1 0 4, 1 0 9, 15 0 0, 0 0 0", vec![
+        shape(10, 0, &[]),
+        shape(6, 1, &[]),
+    ]);
+    let bytes = write_macro(&m);
+    for length in 0..=bytes.len() {
+        agrees(&bytes[..length]);
+    }
+    assert_eq!(given(&m), [1, 0, 0, 0]);
+}
+
+/// A root that ends, and procedures that return.
+fn bodies(n: usize) -> Macro {
+    let mut list = vec![body(0, 0, 0, &[])];
+    list.extend((1..n).map(|i| body(i as u16, 0, 0, &[])));
+    let text: Vec<&str> = (0..n).map(|i| if i == 0 { "0 0 0" } else { "11 0 0" }).collect();
+    Macro { classes: Vec::new(), bodies: list, code: code(&text.join(",")), shapes: Vec::new() }
+}
+
+fn with_classes(n: usize, fields: usize) -> Macro {
+    Macro { classes: vec![vec![1; fields]; n], ..bodies(1) }
+}
+
+#[test]
+fn counts_at_their_limits() {
+    assert_eq!(given(&bodies(64)), [1, 0, 0, 0]);
+    assert_eq!(given(&bodies(65)), [0, 0, 8, 0]);
+    assert_eq!(given(&with_classes(16, 8)), [1, 0, 0, 0]);
+    assert_eq!(given(&with_classes(17, 8)), [0, 0, 8, 0]);
+    assert_eq!(given(&with_classes(1, 0)), [0, 0, 8, 1]);
+    assert_eq!(given(&with_classes(2, 9)), [0, 0, 8, 1]);
+}
+
+#[test]
+fn cells_operands_and_holds_at_their_limits() {
+    for (cells, answer) in [(32, [1, 0, 0, 0]), (33, [0, 0, 9, 0])] {
+        let m = Macro { bodies: vec![body(0, 0, 0, &vec![1; cells])], ..bodies(1) };
+        assert_eq!(given(&m), answer);
+    }
+    for (n, answer) in [(32, [1, 0, 0, 0]), (33, [0, 0, 9, 32])] {
+        let text = format!("{}20 0 0", "1 0 7,".repeat(n));
+        assert_eq!(given(&root_only(&text, Vec::new())), answer);
+    }
+    for (n, answer) in [(16, [1, 0, 0, 0]), (17, [0, 0, 9, 16])] {
+        let text = format!("{}20 0 0", "17 0 63,".repeat(n));
+        assert_eq!(given(&root_only(&text, Vec::new())), answer);
+    }
+    for (holds, depth, answer) in [(16, 0, [1, 0, 0, 0]), (17, 0, [0, 0, 9, 1]), (0, 32, [1, 0, 0, 0]), (0, 33, [0, 0, 9, 1])] {
+        assert_eq!(given(&root_only("0 0 0, 20 0 0", vec![shape(1, holds, &vec![1; depth])])), answer);
+    }
+}
+
+#[test]
+fn jumps_at_the_first_and_last_address() {
+    let at = |target: i32, shapes: Vec<_>| given(&root_only(&format!("8 0 {target}, 0 0 0"), shapes));
+    assert_eq!(at(0, vec![shape(0, 0, &[]), shape(1, 0, &[])]), [1, 0, 0, 0]);
+    assert_eq!(at(1, vec![shape(1, 0, &[])]), [1, 0, 0, 0]);
+    assert_eq!(at(2, vec![shape(1, 0, &[])]), [0, 0, 9, 0]);
+    assert_eq!(at(0, vec![shape(1, 0, &[])]), [0, 0, 9, 0]);
+    assert_eq!(at(-1, vec![shape(1, 0, &[])]), [0, 0, 9, 0]);
+}
+
+/// As many instructions and shapes as the counts can say.
+#[test]
+fn the_largest_macro() {
+    let n = 65_535;
+    let mut text = "1 0 7, 20 0 0,".repeat(n / 2);
+    text.push_str("20 0 0");
+    let shapes: Vec<_> = (0..n as u16).map(|i| shape(i, 0, if i % 2 == 1 && (i as usize) < n - 1 { &[1] } else { &[] })).collect();
+    let m = root_only(&text, shapes);
+    assert_eq!(given(&m), [1, 0, 0, 0]);
+    let mut bytes = write_macro(&m);
+    let last = bytes.len() - 3;
+    bytes[last] = 17;
+    agrees(&bytes);
+}
