@@ -35,7 +35,8 @@ fn generated_and_damaged_macros() {
     deep(|| {
         let mut rng = Rng::new(3);
         let mut seen = [0usize; 3];
-        for i in 0..cases(120_000) {
+        let count = cases(120_000);
+        for i in 0..count {
             let bytes = match i % 8 {
                 0 => edge_macro(&mut rng),
                 1 => write_macro(&good_macro(&mut rng, Size { bodies: 3, instructions: 10, classes: 2 })),
@@ -52,7 +53,8 @@ fn generated_and_damaged_macros() {
                 _ => 2,
             }] += 1;
         }
-        assert!(seen.iter().all(|n| *n > cases(120_000) / 20), "all three answers are frequent: {seen:?}");
+        // Only many cases can be asked to be spread.
+        assert!(count < 1_000 || seen.iter().all(|n| *n > count / 20), "all three answers are frequent: {seen:?}");
     });
 }
 

@@ -303,6 +303,7 @@ fn damaged_macros_are_judged() {
             }
         }
         println!("{tally:?}");
-        assert!(tally.iter().all(|n| *n > count / 10), "{tally:?}");
+        // Only many cases can be asked to be spread.
+        assert!(count < 1_000 || tally.iter().all(|n| *n > count / 10), "{tally:?}");
     });
 }

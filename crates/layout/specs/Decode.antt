@@ -1,0 +1,264 @@
+-- A sound state is read back from its encoding.
+use mathlib.Core.Path.{_≡_, refl, sym, ap, _∙_}
+use mathlib.Core.Bool.{true}
+use mathlib.Core.List.{List, [], _∷_, _++_, map, reverse, reverseAux, append-assoc, append-nil, reverse-append, reverse-cons, reverse-reverse}
+use mathlib.Core.Option.{some}
+use Prim.Native.Nat.{ℕ, zero, suc, _+_, _*_, _-_, _≤_}
+use native.Mathlib.Nat.{suc-mul, zero-mul}
+use native.Mathlib.Omega.{arith}
+use lib.Dec.{leb}
+use lib.ListN.{length, getD, take, drop, replicate, length-append, length-reverse, length-map}
+use lib.Seq.{take-at, drop-at, drop-append-add}
+use borrow.Author.Tests.{leb-true, le-leb, eq-eqb}
+use Rattle.words.specs.Numbers.{byteAt, halfAt, word}
+use Rattle.words.specs.Laws.{two, four, number-of-bytes}
+use Rattle.values.specs.Ends.{isCondition}
+use Rattle.values.specs.Values.{Value, valueWord, Cell, assigned}
+use Rattle.bytecode.specs.Macro.{Macro}
+use Rattle.bytecode.specs.Machine.{Activation, Made, endBy, Machine, running, unwinding, ended, allHolds}
+use Rattle.bytecode.specs.Sound.{all, cellValues, soundGroup, sound}
+use Rattle.bytecode.specs.State.{pad, flat, zeros, wordsOf, typesOf, typeByte, activationBytes, recordBytes, headerBytes, stateBytes, encode, part, readValues, assignedAll, readActivation, readActivations, readRecord, readRecords, readRunning, readUnwinding, decode}
+use Rattle.layout.specs.Rows.{length-pad, pad-fill, flat-append}
+use Rattle.layout.specs.Parts.{frameOf, entryOf, frame-is, entry-is, wide-frame, wide-entry, length-words, length-header, length-zeros}
+use Rattle.layout.specs.Slots.{length-cells}
+use Rattle.layout.specs.Tests.{halves, Each, each-reverse}
+use Rattle.layout.specs.Sized.{Sized, GoodValue, GoodRecord, GoodActivation, Good, good}
+use Rattle.layout.specs.Bytes.{few-holds}
+use Rattle.layout.specs.Places.{phase, code, activations, records, holds}
+use Rattle.layout.specs.Reads.{encode-reads}
+
+-- ── values ──
+read-values : (n : ℕ) (vs : List Value) → Each (GoodValue n) vs → (x y : List ℕ) → readValues n (length vs) (flat word (map valueWord vs) ++ x) (map typeByte vs ++ y) ≡ some vs
+unfolding readValues flat
+read-values n [] g x y = refl
+read-values n (v ∷ vs) g x y = rw (number-of-bytes four (valueWord v), g .0 .readable, read-values n vs (g .1) x y)
+
+-- from rows that are longer
+module _ (n : ℕ) (vs : List Value) (g : Each (GoodValue n) vs) (w : ℕ) (few : length vs ≤ w) (x y : List ℕ) where
+  read-rows : readValues n (length vs) (wordsOf w vs ++ x) (typesOf w vs ++ y) ≡ some vs
+  read-rows =
+      rw (
+        pad-fill 0 w (map valueWord vs) (rw (length-map vs valueWord) few),
+        pad-fill 0 w (map typeByte vs) (rw (length-map vs typeByte) few),
+        flat-append word (map valueWord vs) (replicate (w - length (map valueWord vs)) 0),
+      )
+      (simp append-assoc (read-values n vs g _ _))
+
+drop-over : (p q : List ℕ) (n k : ℕ) → length p ≡ n → drop (n + k) (p ++ q) ≡ drop k q
+drop-over p q n k e = rw (← e) (drop-append-add p q k)
+
+all-assigned : (cs : List Cell) → assignedAll (cellValues cs) ≡ cs
+unfolding assignedAll cellValues
+all-assigned [] = refl
+all-assigned (assigned v ∷ cs) = ap (λ (l : List Cell). assigned v ∷ l) (all-assigned cs)
+
+-- ── activations ──
+pub wide-activation : (f : Activation) → length (activationBytes f) ≡ 328
+wide-activation f = rw (frame-is f) (wide-frame (frameOf f))
+
+pub wide-record : (r : Made) → length (recordBytes r) ≡ 44
+wide-record r = rw (entry-is r) (wide-entry (entryOf r))
+
+-- the four rows of an activation
+module _ (cs vs : List Value) where
+  abbrev rows : List ℕ
+  rows = wordsOf 32 cs ++ (wordsOf 32 vs ++ (typesOf 32 cs ++ typesOf 32 vs))
+
+  row-two : drop 128 rows ≡ wordsOf 32 vs ++ (typesOf 32 cs ++ typesOf 32 vs)
+  row-two = drop-at (wordsOf 32 cs) _ 128 (length-words 32 (map valueWord cs))
+
+  row-three : drop 256 rows ≡ typesOf 32 cs ++ typesOf 32 vs
+  row-three =
+      drop-over (wordsOf 32 cs) (wordsOf 32 vs ++ (typesOf 32 cs ++ typesOf 32 vs)) 128 128 (length-words 32 (map valueWord cs))
+      ∙ drop-at (wordsOf 32 vs) _ 128 (length-words 32 (map valueWord vs))
+
+  row-four : drop 288 rows ≡ typesOf 32 vs ++ []
+  row-four =
+      drop-over (wordsOf 32 cs) (wordsOf 32 vs ++ (typesOf 32 cs ++ typesOf 32 vs)) 128 160 (length-words 32 (map valueWord cs))
+      ∙ drop-over (wordsOf 32 vs) (typesOf 32 cs ++ typesOf 32 vs) 128 32 (length-words 32 (map valueWord vs))
+      ∙ drop-at (typesOf 32 cs) (typesOf 32 vs) 32 (length-pad 0 32 (map typeByte cs))
+      ∙ sym (append-nil (typesOf 32 vs))
+
+-- an activation's holds, the first taken first
+abbrev pub turned : Activation → List ℕ
+turned f = reverse (f .holds)
+
+open-byte : (f : Activation) (x : List ℕ) → getD (activationBytes f ++ x) 2 0 ≡ length (f .holds)
+unfolding activationBytes
+open-byte f x = refl
+
+module _ (m : Macro) where
+  read-activation : (f : Activation) → GoodActivation m f → (rest : List ℕ) → readActivation m (activationBytes f) (reverse (f .holds) ++ rest) ≡ some f
+  unfolding readActivation activationBytes
+  read-activation f g rest =
+      let n = length (m .classes) in
+      let cs = cellValues (f .cells) in
+      let vs = reverse (f .operands) in
+      let count : length (g .which .cells) ≡ length cs = sym (g .count) ∙ sym (length-cells (f .cells)) in
+      let depth : length (f .operands) ≡ length vs = sym (length-reverse (f .operands)) in
+      let few : length cs ≤ 32 = rw (length-cells (f .cells)) (g .few-cells) in
+      let room : length vs ≤ 32 = rw (length-reverse (f .operands)) (g .few-operands) in
+      let held : take (length (f .holds)) (reverse (f .holds) ++ rest) ≡ reverse (f .holds) = take-at (reverse (f .holds)) rest (length (f .holds)) (length-reverse (f .holds)) in
+      rw (g .body, count, le-leb (length cs) 32 few, le-leb (length (f .operands)) 32 (g .few-operands), le-leb (length (f .holds)) 16 (g .few-holds))
+      (rw (
+        row-three cs vs,
+        read-rows n cs (g .cells) 32 few (wordsOf 32 vs ++ (typesOf 32 cs ++ typesOf 32 vs)) (typesOf 32 vs),
+        row-two cs vs,
+        row-four cs vs,
+        depth,
+        read-rows n vs (each-reverse (GoodValue n) (f .operands) (g .operands)) 32 room (typesOf 32 cs ++ typesOf 32 vs) [],
+      )
+      (rw (number-of-bytes two (f .address), all-assigned (f .cells), reverse-reverse (f .operands), held, reverse-reverse (f .holds))))
+
+  -- from the root up; what is read stands on those below
+  read-activations : (xs : List Activation) → Each (GoodActivation m) xs → (a h : List ℕ) (below : List Activation)
+      → readActivations m (length xs) (flat activationBytes xs ++ a) (flat turned xs ++ h) below ≡ some (reverseAux xs below)
+  unfolding readActivations flat
+  read-activations [] g a h below = refl
+  read-activations (f ∷ xs) g a h below =
+      let as′ = flat activationBytes xs ++ a in
+      let hs = flat turned xs ++ h in
+      rw (append-assoc (activationBytes f) (flat activationBytes xs) a, append-assoc (reverse (f .holds)) (flat turned xs) h)
+      (rw (
+        take-at (activationBytes f) as′ 328 (wide-activation f),
+        read-activation f (g .0) hs,
+        drop-at (activationBytes f) as′ 328 (wide-activation f),
+        open-byte f as′,
+        drop-at (reverse (f .holds)) hs (length (f .holds)) (length-reverse (f .holds)),
+      )
+      (read-activations xs (g .1) a h (f ∷ below)))
+
+  -- ── records ──
+  read-record : (r : Made) → GoodRecord m r → readRecord m (recordBytes r) ≡ some r
+  unfolding readRecord recordBytes
+  read-record r g =
+      let ws = wordsOf 8 (r .fields) in
+      let ts = typesOf 8 (r .fields) in
+      let e : drop 32 (ws ++ ts) ≡ ts ++ [] = drop-at ws ts 32 (length-words 8 (map valueWord (r .fields))) ∙ sym (append-nil ts) in
+      rw (g .class, ← g .count, e, read-rows (length (m .classes)) (r .fields) (g .values) 8 (g .few) ts [])
+
+  read-records : (rs : List Made) → Each (GoodRecord m) rs → (a : List ℕ) → readRecords m (length rs) (flat recordBytes rs ++ a) ≡ some rs
+  unfolding readRecords flat
+  read-records [] g a = refl
+  read-records (r ∷ rs) g a =
+      let rest = flat recordBytes rs ++ a in
+      rw (append-assoc (recordBytes r) (flat recordBytes rs) a)
+      (rw (take-at (recordBytes r) rest 44 (wide-record r), read-record r (g .0), drop-at (recordBytes r) rest 44 (wide-record r), read-records rs (g .1) a))
+
+-- ── the parts of a state ──
+pub flat-written : {A : Type 0} (enc : A → List ℕ) (xs : List A) → flat (λ (l : List ℕ). l) (map enc xs) ≡ flat enc xs
+unfolding flat
+flat-written enc [] = refl
+flat-written enc (x ∷ xs) = ap (λ (l : List ℕ). enc x ++ l) (flat-written enc xs)
+
+module _ {A : Type 0} (enc : A → List ℕ) (w : ℕ) (wide : (x : A) → length (enc x) ≡ w) (n : ℕ) (xs : List A) where
+  chunks : length xs ≤ n → (a : List ℕ) × (flat (λ (l : List ℕ). l) (pad n (zeros w) (map enc xs)) ≡ flat enc xs ++ a)
+  chunks h = (
+    flat (λ (l : List ℕ). l) (replicate (n - length (map enc xs)) (zeros w)),
+    rw (pad-fill (zeros w) n (map enc xs) (rw (length-map xs enc) h), flat-append (λ (l : List ℕ). l) (map enc xs) (replicate (n - length (map enc xs)) (zeros w)), flat-written enc xs),
+  )
+
+length-chunks : {A : Type 0} (enc : A → List ℕ) (w : ℕ) → ((x : A) → length (enc x) ≡ w) → (n : ℕ) (xs : List A) → length (flat (λ (l : List ℕ). l) (pad n (zeros w) (map enc xs))) ≡ n * w
+unfolding flat pad
+length-chunks enc w wide zero xs = sym (zero-mul w)
+length-chunks enc w wide (suc n) [] = length-append (zeros w) _ ∙ rw (length-zeros w, length-chunks enc w wide n [], suc-mul n w) (omega arith)
+length-chunks enc w wide (suc n) (x ∷ xs) = length-append (enc x) _ ∙ rw (wide x, length-chunks enc w wide n xs, suc-mul n w) (omega arith)
+
+pub turned-holds : (fs : List Activation) → reverse (allHolds fs) ≡ flat turned (reverse fs)
+unfolding allHolds flat
+turned-holds [] = refl
+turned-holds (f ∷ fs) =
+    rw (reverse-append (f .holds) (allHolds fs), turned-holds fs, reverse-cons f fs, flat-append turned (reverse fs) (f ∷ []), append-nil (reverse (f .holds)))
+
+module _ (h : List ℕ) (wide : length h ≡ 32) (fs : List Activation) (gs : List ℕ) (rs : List Made) where
+  abbrev state : List ℕ
+  state = stateBytes h (map activationBytes (reverse fs)) (reverse gs) (map recordBytes rs)
+
+  abbrev activationRow : List ℕ
+  activationRow = flat (λ (l : List ℕ). l) (pad 32 (zeros 328) (map activationBytes (reverse fs)))
+
+  abbrev recordRow : List ℕ
+  recordRow = flat (λ (l : List ℕ). l) (pad 256 (zeros 44) (map recordBytes rs))
+
+  activations-at : drop 32 state ≡ activationRow ++ (pad 512 0 (reverse gs) ++ (recordRow ++ zeros 2272))
+  unfolding stateBytes
+  activations-at = drop-at h _ 32 wide
+
+  groups-at : drop 10528 state ≡ pad 512 0 (reverse gs) ++ (recordRow ++ zeros 2272)
+  unfolding stateBytes
+  groups-at =
+      drop-over h (activationRow ++ (pad 512 0 (reverse gs) ++ (recordRow ++ zeros 2272))) 32 10496 wide
+      ∙ drop-at activationRow _ 10496 (length-chunks activationBytes 328 wide-activation 32 (reverse fs))
+
+  records-at : drop 11040 state ≡ recordRow ++ zeros 2272
+  unfolding stateBytes
+  records-at =
+      drop-over h (activationRow ++ (pad 512 0 (reverse gs) ++ (recordRow ++ zeros 2272))) 32 11008 wide
+      ∙ drop-over activationRow (pad 512 0 (reverse gs) ++ (recordRow ++ zeros 2272)) 10496 512 (length-chunks activationBytes 328 wide-activation 32 (reverse fs))
+      ∙ drop-at (pad 512 0 (reverse gs)) _ 512 (length-pad 0 512 (reverse gs))
+
+-- what is decoded, from what stands at the places
+module _ (m : Macro) (l : List ℕ) where
+  decode-running : (n r h : ℕ) (x y z : List ℕ) → byteAt l 0 ≡ 0 → byteAt l 2 ≡ n → halfAt l 4 ≡ r → halfAt l 6 ≡ h → drop 32 l ≡ x → part 10528 512 l ≡ y → drop 11040 l ≡ z
+      → n ≤ 32 → r ≤ 256 → (f : Activation) (fs : List Activation) (rs : List Made) → readActivations m n x y [] ≡ some (f ∷ fs) → readRecords m r z ≡ some rs
+      → length (allHolds (f ∷ fs)) ≡ h → decode m l ≡ some (running rs f fs)
+  unfolding decode readRunning
+  decode-running n r h x y z e0 e2 e4 e6 ex ey ez few small f fs rs ea er eh =
+      rw (e0, e2, e4, e6, ex, ey, ez, le-leb n 32 few, le-leb r 256 small, ea, er, eq-eqb (length (allHolds (f ∷ fs))) h eh)
+
+  decode-unwinding : (n c : ℕ) (y : List ℕ) → byteAt l 0 ≡ 1 → byteAt l 1 ≡ c → halfAt l 6 ≡ n → part 10528 n l ≡ y → n ≤ 512 → decode m l ≡ some (unwinding (reverse y) (endBy c))
+  unfolding decode readUnwinding
+  decode-unwinding n c y e0 e1 e6 ey few = rw (e0, e6, le-leb n 512 few, e1, ey)
+
+  decode-ended : (c : ℕ) → byteAt l 0 ≡ 2 → byteAt l 1 ≡ c → decode m l ≡ some (ended c)
+  unfolding decode
+  decode-ended c e0 e1 = rw (e0, e1)
+
+module _ (m : Macro) (rs : List Made) (f : Activation) (fs : List Activation) (g : Good m rs f fs) where
+  few : length (reverse (f ∷ fs)) ≤ 32
+  few = rw (length-reverse (f ∷ fs)) (g .few)
+
+  held : length (reverse (allHolds (f ∷ fs))) ≤ 512
+  held = rw (length-reverse (allHolds (f ∷ fs))) (omega (arith, few-holds m (f ∷ fs) (g .activations), g .few))
+
+  read-back : decode m (encode (running rs f fs)) ≡ some (running rs f fs)
+  unfolding encode
+  read-back =
+      let s = running rs f fs in
+      let gs = allHolds (f ∷ fs) in
+      let xs = reverse (f ∷ fs) in
+      let head = headerBytes 0 0 (length (f ∷ fs)) (length rs) (length gs) in
+      let wide : length head ≡ 32 = length-header 0 0 (length (f ∷ fs)) (length rs) (length gs) in
+      let rest = recordRow head wide (f ∷ fs) gs rs ++ zeros 2272 in
+      let a = chunks activationBytes 328 wide-activation 32 xs few in
+      let b = chunks recordBytes 44 wide-record 256 rs (g .small) in
+      let z : List ℕ = replicate (512 - length (reverse gs)) 0 in
+      let ex : drop 32 (encode s) ≡ flat activationBytes xs ++ (a .0 ++ (pad 512 0 (reverse gs) ++ rest)) =
+      activations-at head wide (f ∷ fs) gs rs ∙ rw (a .1) (append-assoc (flat activationBytes xs) (a .0) (pad 512 0 (reverse gs) ++ rest)) in
+      let ey : part 10528 512 (encode s) ≡ flat turned xs ++ z =
+      rw (groups-at head wide (f ∷ fs) gs rs, take-at (pad 512 0 (reverse gs)) rest 512 (length-pad 0 512 (reverse gs)), ← turned-holds (f ∷ fs)) (pad-fill 0 512 (reverse gs) held) in
+      let ez : drop 11040 (encode s) ≡ flat recordBytes rs ++ (b .0 ++ zeros 2272) =
+      records-at head wide (f ∷ fs) gs rs ∙ rw (b .1) (append-assoc (flat recordBytes rs) (b .0) (zeros 2272)) in
+      decode-running m (encode s) (length xs) (length rs) (length gs) _ _ _ (encode-reads phase tt s) (encode-reads activations tt s ∙ sym (length-reverse (f ∷ fs))) (encode-reads records tt s)
+      (encode-reads holds tt s) ex ey ez few (g .small) f fs rs
+      (read-activations m xs (each-reverse (GoodActivation m) (f ∷ fs) (g .activations)) _ z [] ∙ ap some (reverse-reverse (f ∷ fs)))
+      (read-records m rs (g .records) _) refl
+
+read-unwinding : (m : Macro) (gs : List ℕ) (c : ℕ) → sound m (unwinding gs (endBy c)) ≡ true → decode m (encode (unwinding gs (endBy c))) ≡ some (unwinding gs (endBy c))
+unfolding encode sound
+read-unwinding m gs c h =
+    let s = unwinding gs (endBy c) in
+    let head = headerBytes 1 c 0 0 (length gs) in
+    let wide : length head ≡ 32 = length-header 1 c 0 0 (length gs) in
+    let rest = recordRow head wide [] gs [] ++ zeros 2272 in
+    let a = halves (isCondition c) _ h in
+    let n : length gs ≤ 512 = leb-true (length gs) 512 (halves (leb (length gs) 512) (all soundGroup gs) (a .1) .0) in
+    let ey : part 10528 (length gs) (encode s) ≡ reverse gs =
+    rw (groups-at head wide [] gs [], pad-fill 0 512 (reverse gs) (rw (length-reverse gs) n), append-assoc (reverse gs) (replicate (512 - length (reverse gs)) 0) rest)
+    (take-at (reverse gs) _ (length gs) (length-reverse gs)) in
+    decode-unwinding m (encode s) (length gs) c (reverse gs) (encode-reads phase tt s) (encode-reads code tt s) (encode-reads holds tt s) ey n ∙ rw (reverse-reverse gs)
+
+pub decode-encode : (m : Macro) → Sized m → (s : Machine) → sound m s ≡ true → decode m (encode s) ≡ some s
+decode-encode m sized (running rs f fs) h = read-back m rs f fs (good m sized rs f fs h)
+decode-encode m sized (unwinding gs (endBy c)) h = read-unwinding m gs c h
+decode-encode m sized (ended c) h = decode-ended m (encode (ended c)) c (encode-reads phase tt (ended c)) (encode-reads code tt (ended c))
