@@ -623,7 +623,7 @@ fn damage_parts(rng: &mut Rng, m: &mut Macro) {
         9 if !m.shapes.is_empty() => {
             let mut s = rng.pick(&m.shapes).clone();
             if rng.chance(50) {
-                s.holds += 1;
+                s.holds = s.holds.wrapping_add(1);
             }
             m.shapes.push(s);
         }

@@ -1,0 +1,49 @@
+-- `rules::lookup::end_of` meets its contract. Assumes nothing.
+use borrow.Author.Needs.{needs}
+use native.Mathlib.Omega.{arith}
+use mathlib.Core.Path.{sym, _∙_}
+use Rattle.records.proofs.Known.{head-of}
+use Rattle.rules.proofs.Laws as law
+use Rattle.rules.proofs.lookup.end_of.Statement.{statement}
+use Rattle.rules.proofs.lookup.end_of.Tie as tie
+
+byte-at-requires : tie.Need-byte-at-requires
+byte-at-requires c κs = omega (arith, head-of _ (c .before .before .pre .0 .well) .bytes)
+
+add-if1 : tie.Need-add-if1
+add-if1 c = search needs
+
+add-body-at : tie.Need-add-body-at
+add-body-at c = search needs
+
+body-at-requires : tie.Need-body-at-requires
+body-at-requires c κs = search needs
+
+add-half-at : tie.Need-add-half-at
+add-half-at c = search needs
+
+half-at-requires : tie.Need-half-at-requires
+half-at-requires c κs = search needs
+
+returns : tie.Need-returns
+returns c = c .half-at .ensures .0 ∙ rw (c .before .body-at .ensures .is) (sym (law.end-next _ _ (omega arith)))
+
+half-at-requires-2 : tie.Need-half-at-requires-2
+half-at-requires-2 c κs = omega (arith, head-of _ (c .before .before .before .before .pre .0 .well) .bytes)
+
+returns-2 : tie.Need-returns-2
+returns-2 c = c .half-at2 .ensures .0 ∙ sym (law.end-last _ _ (omega arith))
+
+pub end-of-spec : {M : Type 1} → statement M
+end-of-spec =
+    tie.close
+    (tie.spec
+    byte-at-requires
+    add-if1
+    add-body-at
+    body-at-requires
+    add-half-at
+    half-at-requires
+    returns
+    half-at-requires-2
+    returns-2)

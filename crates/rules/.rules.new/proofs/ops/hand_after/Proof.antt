@@ -1,0 +1,42 @@
+-- `rules::ops::hand_after` meets its contract. Assumes nothing.
+use borrow.Author.Needs.{needs}
+use Rattle.rules.proofs.Laws as law
+use Rattle.rules.proofs.ops.hand_after.Statement.{statement}
+use Rattle.rules.proofs.ops.hand_after.Tie as tie
+
+enum-known-f : tie.Need-enum-known-f
+enum-known-f c = search needs
+
+hand-requires : tie.Need-hand-requires
+hand-requires c κs = let w = law.fit-goes _ _ _ (c .before .before .before .before .before .pre .1) (c .before .before .f .given .1) in (c .before .before .before .before .before .pre .0, w .1, w .0)
+
+enum-told : tie.Need-enum-told
+enum-told c = search needs
+
+enum-told-2 : tie.Need-enum-told-2
+enum-told-2 c = search needs
+
+same-length : tie.Need-same-length
+same-length c = search needs
+
+returns : tie.Need-returns
+returns c = (rw (c .before .before .before .before .before .f .given .1) (c .before .before .hand .ensures .0), c .before .before .hand .ensures .1)
+
+returns-2 : tie.Need-returns-2
+returns-2 c = search needs
+
+returns-3 : tie.Need-returns-3
+returns-3 c = search needs
+
+pub hand-after-spec : {M : Type 1} → statement M
+hand-after-spec =
+    tie.close
+    (tie.spec
+    enum-known-f
+    hand-requires
+    enum-told
+    enum-told-2
+    same-length
+    returns
+    returns-2
+    returns-3)

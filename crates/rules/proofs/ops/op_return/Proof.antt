@@ -1,0 +1,53 @@
+-- `rules::ops::op_return` meets its contract. Assumes nothing.
+use borrow.Author.Needs.{needs}
+use mathlib.Core.Path.{_∙_}
+use borrow.Author.Tests.{eq-eqb, ne-eqb}
+use Rattle.places.specs.Rules.{opReturn}
+use Rattle.rules.proofs.Laws as law
+use Rattle.rules.proofs.ops.op_return.Statement.{statement}
+use Rattle.rules.proofs.ops.op_return.Tie as tie
+
+returns : tie.Need-returns
+unfolding opReturn
+returns c = (simp (ne-eqb _ _ (c .if1 .taken)), tt)
+
+returns-2 : tie.Need-returns-2
+unfolding opReturn
+returns-2 c = (simp (eq-eqb _ _ (c .before .if1 .left), ne-eqb _ _ (c .if2 .taken)), tt)
+
+returns-3 : tie.Need-returns-3
+unfolding opReturn
+returns-3 c = (simp (eq-eqb _ _ (c .before .before .if1 .left), eq-eqb _ _ (c .before .if2 .left), eq-eqb _ _ (c .if3 .taken)), tt)
+
+returns-4 : tie.Need-returns-4
+unfolding opReturn
+returns-4 c = (simp (eq-eqb _ _ (c .before .before .before .if1 .left), eq-eqb _ _ (c .before .before .if2 .left), ne-eqb _ _ (c .before .if3 .left), ne-eqb _ _ (c .if4 .taken)), tt)
+
+body-at-requires : tie.Need-body-at-requires
+body-at-requires c κs = search needs
+
+add-just : tie.Need-add-just
+add-just c = search needs
+
+shared-slice-read-just : tie.Need-shared-slice-read-just
+shared-slice-read-just c = search needs
+
+just-requires : tie.Need-just-requires
+just-requires c κs = search needs
+
+returns-5 : tie.Need-returns-5
+returns-5 c = (c .just .ensures .0 ∙ law.return-goes _ _ _ _ _ _ (c .before .before .before .before .before .before .if1 .left) (c .before .before .before .before .before .if2 .left) (c .before .before .before .before .if3 .left) (c .before .before .before .if4 .left) _ (c .before .before .body-at .ensures .is), c .just .ensures .1)
+
+pub op-return-spec : {M : Type 1} → statement M
+op-return-spec =
+    tie.close
+    (tie.spec
+    returns
+    returns-2
+    returns-3
+    returns-4
+    body-at-requires
+    add-just
+    shared-slice-read-just
+    just-requires
+    returns-5)

@@ -1,0 +1,78 @@
+// The loading check: the loading rules, address by address, over the places that the record pass found.
+mod lookup;
+mod ops;
+mod stack;
+mod walk;
+
+pub use lookup::Instruction;
+pub use lookup::body_at;
+pub use lookup::class_at;
+pub use lookup::instruction_at;
+use records::Records;
+pub use walk::state_at;
+ghost use mathlib.Core.Path.{_≡_};
+ghost use mathlib.Core.Bool.{false};
+ghost use Prim.Native.Nat.{_≤_};
+ghost use lib.ListN.{length};
+ghost use Rattle.places.specs.Records.{count, badHead};
+ghost use Rattle.places.specs.Rules.{judge};
+ghost use Rattle.places.specs.Index.{Indexed};
+ghost use Rattle.rules.specs.Moves.{verdictOf};
+
+// What flows on from an address: a state of holds and operands, whose types stand in a lent stack; nothing; or a fault.
+pub enum Moved {
+    Goes(usize, usize),
+    Ends,
+    Bad,
+}
+
+// Refused with the refusal's number and the place: a record's index for 8, an address for 9.
+pub enum Judged {
+    Passes,
+    Refused(usize, usize),
+}
+
+fn judge_in(l: &[u8], ix: &mut [u32], n: usize) -> Judged
+    requires { ⌜ (badHead (now l) ≡ false) × (n ≡ count (now l)) × (n ≤ length (now ix)) × (Indexed (now l) (now ix) n 0) ⌝ }
+    ensures { λ r. ⌜ verdictOf r ≡ judge (now (l .entry)) ⌝ }
+{
+    let mut bx = [0u32; 64];
+    let mut cx = [0u32; 16];
+    let mut st = [0u8; 32];
+    match records::scan(l, ix, &mut bx, &mut cx, n) {
+        Records::Unread(k) => Judged::Refused(8, k),
+        Records::Reads(base) => {
+            let w = walk::walk(l, ix, &bx, &cx, base, &mut st, n);
+            let at = w.at;
+            if at < n {
+                Judged::Refused(9, at)
+            } else {
+                Judged::Passes
+            }
+        }
+    }
+}
+
+// The index is cleared at each call, so that its size goes by the number of instructions.
+pub fn judge_places(l: &[u8]) -> Judged
+    ensures { λ r. ⌜ verdictOf r ≡ judge (now (l .entry)) ⌝ }
+{
+    if records::bad_head(l) {
+        return Judged::Refused(8, 0);
+    }
+    let n = records::half_at(l, 4);
+    if n <= 64 {
+        let mut ix = [0u32; 64];
+        return judge_in(l, &mut ix, n);
+    }
+    if n <= 1024 {
+        let mut ix = [0u32; 1024];
+        return judge_in(l, &mut ix, n);
+    }
+    if n <= 8192 {
+        let mut ix = [0u32; 8192];
+        return judge_in(l, &mut ix, n);
+    }
+    let mut ix = [0u32; 65536];
+    judge_in(l, &mut ix, n)
+}
