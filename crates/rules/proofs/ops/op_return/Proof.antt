@@ -1,5 +1,6 @@
 -- `rules::ops::op_return` meets its contract. Assumes nothing.
 use borrow.Author.Needs.{needs}
+use native.Mathlib.Omega.{arith}
 use mathlib.Core.Path.{_∙_}
 use borrow.Author.Tests.{eq-eqb, ne-eqb}
 use Rattle.places.specs.Rules.{opReturn}
@@ -21,7 +22,7 @@ returns-3 c = (simp (eq-eqb _ _ (c .before .before .if1 .left), eq-eqb _ _ (c .b
 
 returns-4 : tie.Need-returns-4
 unfolding opReturn
-returns-4 c = (simp (eq-eqb _ _ (c .before .before .before .if1 .left), eq-eqb _ _ (c .before .before .if2 .left), ne-eqb _ _ (c .before .if3 .left), ne-eqb _ _ (c .if4 .taken)), tt)
+returns-4 c = (simp (eq-eqb _ _ (c .before .before .before .if1 .left), eq-eqb _ _ (c .before .before .if2 .left), ne-eqb _ _ (c .before .if3 .left), ne-eqb (c .before .before .before .before .before .before .before .args .h) 0 (λ z. c .if4 .taken (omega arith))), tt)
 
 body-at-requires : tie.Need-body-at-requires
 body-at-requires c κs = search needs
@@ -36,7 +37,7 @@ just-requires : tie.Need-just-requires
 just-requires c κs = search needs
 
 returns-5 : tie.Need-returns-5
-returns-5 c = (c .just .ensures .0 ∙ law.return-goes _ _ _ _ _ _ (c .before .before .before .before .before .before .if1 .left) (c .before .before .before .before .before .if2 .left) (c .before .before .before .before .if3 .left) (c .before .before .before .if4 .left) _ (c .before .before .body-at .ensures .is), c .just .ensures .1)
+returns-5 c = (c .just .ensures .0 ∙ law.return-goes _ _ _ _ _ _ (omega arith) (omega arith) (c .before .before .before .before .if3 .left) (omega arith) _ (c .before .before .body-at .ensures .is), c .just .ensures .1)
 
 pub op-return-spec : {M : Type 1} → statement M
 op-return-spec =

@@ -1,5 +1,6 @@
 -- `rules::stack::equal_shape` meets its contract. Assumes nothing.
 use borrow.Author.Needs.{needs}
+use native.Mathlib.Omega.{arith}
 use mathlib.Core.Path.{sym, _∙_}
 use Rattle.rules.proofs.Laws as law
 use Rattle.rules.proofs.stack.equal_shape.Statement.{statement}
@@ -12,7 +13,7 @@ byte-at-requires : tie.Need-byte-at-requires
 byte-at-requires c κs = search needs
 
 returns : tie.Need-returns
-returns c = sym (law.equals-holds _ _ _ _ _ (λ z. c .if1 .taken (z ∙ sym (c .before .byte-at .ensures .0))))
+returns c = sym (law.equals-holds _ _ _ _ _ (λ z. c .if1 .taken (omega arith)))
 
 add-byte-at-2 : tie.Need-add-byte-at-2
 add-byte-at-2 c = search needs
@@ -21,7 +22,7 @@ byte-at-requires-2 : tie.Need-byte-at-requires-2
 byte-at-requires-2 c κs = search needs
 
 returns-2 : tie.Need-returns-2
-returns-2 c = sym (law.equals-depth _ _ _ _ _ (c .before .before .if1 .left ∙ c .before .before .before .byte-at .ensures .0) (λ z. c .if2 .taken (z ∙ sym (c .before .byte-at2 .ensures .0))))
+returns-2 c = sym (law.equals-depth _ _ _ _ _ (omega arith) (λ z. c .if2 .taken (omega arith)))
 
 add-same-types : tie.Need-add-same-types
 add-same-types c = search needs
@@ -30,7 +31,7 @@ same-types-requires : tie.Need-same-types-requires
 same-types-requires c κs = search needs
 
 returns-3 : tie.Need-returns-3
-returns-3 c = c .same-types .ensures ∙ sym (law.equals-types _ _ _ _ _ (c .before .before .before .if1 .left ∙ c .before .before .before .before .byte-at .ensures .0) (c .before .if2 .left ∙ c .before .before .byte-at2 .ensures .0))
+returns-3 c = c .same-types .ensures ∙ sym (law.equals-types _ _ _ _ _ (omega arith) (omega arith))
 
 pub equal-shape-spec : {M : Type 1} → statement M
 equal-shape-spec =
