@@ -1,0 +1,127 @@
+-- `fitting::frame_fits` meets its contract. Assumes nothing.
+use borrow.Author.Needs.{needs}
+use native.Mathlib.Omega.{arith}
+use mathlib.Core.Path.{_≡_, refl, sym, ap, _∙_}
+use Prim.Native.Nat.{ℕ, _+_, _*_, _-_, _≤_, _<_}
+use lib.Dec.{leb}
+use Rattle.words.specs.Numbers.{byteAt}
+use Rattle.places.specs.Records.{codePlace}
+use Rattle.fits.specs.Each.{each, each-none, each-more}
+use Rattle.fits.specs.Fits.{held}
+use Rattle.records.proofs.Tests as tests
+use Rattle.fitting.proofs.Laws as law
+use borrow.Author.Tests.{not-true, not-false}
+use Rattle.places.specs.Records.{classPlace, bodyPlace}
+use Rattle.fits.specs.Fits.{recordFits, frameFits}
+use Rattle.records.proofs.Known.{head-of, class-of}
+use Rattle.fitting.proofs.frame_fits.Statement.{statement}
+use Rattle.fitting.proofs.frame_fits.Tie as tie
+
+mul-p : tie.Need-mul-p
+mul-p c = search needs
+
+add-p : tie.Need-add-p
+add-p c = search needs
+
+byte-at-requires : tie.Need-byte-at-requires
+byte-at-requires c κs = search needs
+
+byte-at-requires-2 : tie.Need-byte-at-requires-2
+byte-at-requires-2 c κs = omega (arith, head-of _ (c .before .before .before .before .pre .0 .well) .bytes)
+
+returns : tie.Need-returns
+returns c = law.frame-1 (c .before .before .before .before .before .before .args .c .now) (c .before .before .before .before .before .before .args .l .now) (c .before .before .before .before .before .before .args .r) (c .before .before .before .before .before .before .args .n) (c .before .before .before .before .before .before .args .k) (omega arith)
+
+body-at-requires : tie.Need-body-at-requires
+body-at-requires c κs = search needs
+
+add-byte-at : tie.Need-add-byte-at
+add-byte-at c = search needs
+
+byte-at-requires-3 : tie.Need-byte-at-requires-3
+byte-at-requires-3 c κs = search needs
+
+returns-2 : tie.Need-returns-2
+returns-2 c = law.frame-2 (c .before .before .before .before .before .before .before .before .before .args .c .now) (c .before .before .before .before .before .before .before .before .before .args .l .now) (c .before .before .before .before .before .before .before .before .before .args .r) (c .before .before .before .before .before .before .before .before .before .args .n) (c .before .before .before .before .before .before .before .before .before .args .k) (omega arith) (c .before .before .body-at .result) (c .before .before .body-at .ensures .is ∙ ap (bodyPlace (c .before .before .before .before .before .before .before .before .before .args .c .now)) (c .before .before .before .before .before .byte-at .ensures .0)) (omega arith)
+
+add-byte-at-2 : tie.Need-add-byte-at-2
+add-byte-at-2 c = search needs
+
+byte-at-requires-4 : tie.Need-byte-at-requires-4
+byte-at-requires-4 c κs = search needs
+
+returns-3 : tie.Need-returns-3
+returns-3 c = law.frame-3 (c .before .before .before .before .before .before .before .before .before .before .before .args .c .now) (c .before .before .before .before .before .before .before .before .before .before .before .args .l .now) (c .before .before .before .before .before .before .before .before .before .before .before .args .r) (c .before .before .before .before .before .before .before .before .before .before .before .args .n) (c .before .before .before .before .before .before .before .before .before .before .before .args .k) (omega arith) (c .before .before .before .before .body-at .result) (c .before .before .before .before .body-at .ensures .is ∙ ap (bodyPlace (c .before .before .before .before .before .before .before .before .before .before .before .args .c .now)) (c .before .before .before .before .before .before .before .byte-at .ensures .0)) (omega arith) (omega arith)
+
+add-byte-at-3 : tie.Need-add-byte-at-3
+add-byte-at-3 c = search needs
+
+byte-at-requires-5 : tie.Need-byte-at-requires-5
+byte-at-requires-5 c κs = search needs
+
+returns-4 : tie.Need-returns-4
+returns-4 c = law.frame-4 (c .before .before .before .before .before .before .before .before .before .before .before .before .before .args .c .now) (c .before .before .before .before .before .before .before .before .before .before .before .before .before .args .l .now) (c .before .before .before .before .before .before .before .before .before .before .before .before .before .args .r) (c .before .before .before .before .before .before .before .before .before .before .before .before .before .args .n) (c .before .before .before .before .before .before .before .before .before .before .before .before .before .args .k) (omega arith) (c .before .before .before .before .before .before .body-at .result) (c .before .before .before .before .before .before .body-at .ensures .is ∙ ap (bodyPlace (c .before .before .before .before .before .before .before .before .before .before .before .before .before .args .c .now)) (c .before .before .before .before .before .before .before .before .before .byte-at .ensures .0)) (omega arith) (omega arith) (omega arith)
+
+add-half-at : tie.Need-add-half-at
+add-half-at c = search needs
+
+half-at-requires : tie.Need-half-at-requires
+half-at-requires c κs = search needs
+
+half-at-requires-2 : tie.Need-half-at-requires-2
+half-at-requires-2 c κs = search needs
+
+returns-5 : tie.Need-returns-5
+returns-5 c = law.frame-5 (c .before .before .before .before .before .before .before .before .before .before .before .before .before .before .before .before .args .c .now) (c .before .before .before .before .before .before .before .before .before .before .before .before .before .before .before .before .args .l .now) (c .before .before .before .before .before .before .before .before .before .before .before .before .before .before .before .before .args .r) (c .before .before .before .before .before .before .before .before .before .before .before .before .before .before .before .before .args .n) (c .before .before .before .before .before .before .before .before .before .before .before .before .before .before .before .before .args .k) (omega arith) (c .before .before .before .before .before .before .before .before .before .body-at .result) (c .before .before .before .before .before .before .before .before .before .body-at .ensures .is ∙ ap (bodyPlace (c .before .before .before .before .before .before .before .before .before .before .before .before .before .before .before .before .args .c .now)) (c .before .before .before .before .before .before .before .before .before .before .before .before .byte-at .ensures .0)) (omega arith) (omega arith) (omega arith) (omega arith)
+
+calls-next-requires : tie.Need-calls-next-requires
+calls-next-requires c κs = (c .before .before .before .before .before .before .before .before .before .before .before .before .before .before .before .before .pre .0 .well, c .before .before .before .before .before .before .before .before .before .before .before .before .before .before .before .before .pre .1, c .before .before .before .before .before .before .before .before .before .before .before .before .before .before .before .before .pre .2, c .before .before .before .before .before .before .before .before .before .before .before .before .before .before .before .before .pre .4, c .before .before .before .before .before .before .before .before .before .before .before .before .before .before .before .before .pre .5, omega arith)
+
+returns-6 : tie.Need-returns-6
+returns-6 c = law.frame-6 (c .before .before .before .before .before .before .before .before .before .before .before .before .before .before .before .before .before .before .args .c .now) (c .before .before .before .before .before .before .before .before .before .before .before .before .before .before .before .before .before .before .args .l .now) (c .before .before .before .before .before .before .before .before .before .before .before .before .before .before .before .before .before .before .args .r) (c .before .before .before .before .before .before .before .before .before .before .before .before .before .before .before .before .before .before .args .n) (c .before .before .before .before .before .before .before .before .before .before .before .before .before .before .before .before .before .before .args .k) (omega arith) (c .before .before .before .before .before .before .before .before .before .before .before .body-at .result) (c .before .before .before .before .before .before .before .before .before .before .before .body-at .ensures .is ∙ ap (bodyPlace (c .before .before .before .before .before .before .before .before .before .before .before .before .before .before .before .before .before .before .args .c .now)) (c .before .before .before .before .before .before .before .before .before .before .before .before .before .before .byte-at .ensures .0)) (omega arith) (omega arith) (omega arith) (omega arith) (sym (c .before .calls-next .ensures) ∙ not-true _ (c .if6 .taken))
+
+add-row-fits : tie.Need-add-row-fits
+add-row-fits c = search needs
+
+add-row-fits-2 : tie.Need-add-row-fits-2
+add-row-fits-2 c = search needs
+
+add-row-fits-3 : tie.Need-add-row-fits-3
+add-row-fits-3 c = search needs
+
+row-fits-requires : tie.Need-row-fits-requires
+row-fits-requires c κs = (head-of _ (c .before .before .before .before .before .before .before .before .before .before .before .before .before .before .before .before .before .before .pre .0 .well) .bytes, c .before .before .before .before .before .before .before .before .before .before .before .before .before .before .before .before .before .before .pre .2, c .before .before .before .before .before .before .before .before .before .before .before .before .before .before .before .before .before .before .pre .3, omega (arith, c .before .before .before .before .before .before .before .before .before .before .before .body-at .ensures .inside), omega arith, omega arith)
+
+returns-7 : tie.Need-returns-7
+returns-7 c = c .row-fits .ensures ∙ rw (c .before .before .before .before .before .before .before .before .before .before .before .byte-at3 .ensures .0) (law.frame-7 (c .before .before .before .before .before .before .before .before .before .before .before .before .before .before .before .before .before .before .before .args .c .now) (c .before .before .before .before .before .before .before .before .before .before .before .before .before .before .before .before .before .before .before .args .l .now) (c .before .before .before .before .before .before .before .before .before .before .before .before .before .before .before .before .before .before .before .args .r) (c .before .before .before .before .before .before .before .before .before .before .before .before .before .before .before .before .before .before .before .args .n) (c .before .before .before .before .before .before .before .before .before .before .before .before .before .before .before .before .before .before .before .args .k) (omega arith) (c .before .before .before .before .before .before .before .before .before .before .before .before .body-at .result) (c .before .before .before .before .before .before .before .before .before .before .before .before .body-at .ensures .is ∙ ap (bodyPlace (c .before .before .before .before .before .before .before .before .before .before .before .before .before .before .before .before .before .before .before .args .c .now)) (c .before .before .before .before .before .before .before .before .before .before .before .before .before .before .before .byte-at .ensures .0)) (omega arith) (omega arith) (omega arith) (omega arith) (sym (c .before .before .calls-next .ensures) ∙ not-false _ (c .before .if6 .left)))
+
+pub frame-fits-spec : {M : Type 1} → statement M
+frame-fits-spec =
+    tie.close
+    (tie.spec
+    mul-p
+    add-p
+    byte-at-requires
+    byte-at-requires-2
+    returns
+    body-at-requires
+    add-byte-at
+    byte-at-requires-3
+    returns-2
+    add-byte-at-2
+    byte-at-requires-4
+    returns-3
+    add-byte-at-3
+    byte-at-requires-5
+    returns-4
+    add-half-at
+    half-at-requires
+    half-at-requires-2
+    returns-5
+    calls-next-requires
+    returns-6
+    add-row-fits
+    add-row-fits-2
+    add-row-fits-3
+    row-fits-requires
+    returns-7)

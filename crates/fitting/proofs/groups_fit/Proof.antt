@@ -1,0 +1,67 @@
+-- `fitting::groups_fit` meets its contract. Assumes nothing.
+use borrow.Author.Needs.{needs}
+use native.Mathlib.Omega.{arith}
+use mathlib.Core.Path.{_≡_, refl, sym, ap, _∙_}
+use Prim.Native.Nat.{ℕ, _+_, _*_, _-_, _≤_, _<_}
+use lib.Dec.{leb}
+use Rattle.words.specs.Numbers.{byteAt}
+use Rattle.places.specs.Records.{codePlace}
+use Rattle.fits.specs.Each.{each, each-none, each-more}
+use Rattle.fits.specs.Fits.{held}
+use Rattle.records.proofs.Tests as tests
+use Rattle.fitting.proofs.Laws as law
+use borrow.Author.Tests.{not-true, not-false}
+use Rattle.places.specs.Records.{classPlace, bodyPlace}
+use Rattle.fits.specs.Fits.{recordFits, frameFits}
+use Rattle.records.proofs.Known.{head-of, class-of}
+use Rattle.fitting.proofs.groups_fit.Statement.{statement}
+use Rattle.fitting.proofs.groups_fit.Tie as tie
+
+abbrev Inv-loop : tie.InvT-loop
+Inv-loop l h ok₀ j₀ ok j = (j ≤ h) × (ok ≡ each (law.groupAt l) 0 j)
+
+abbrev μ-loop : tie.MeasureT-loop
+μ-loop l h ok₀ j₀ ok j = h - j
+
+returns : tie.Need-returns Inv-loop μ-loop
+returns c = law.groups-over _ _ (c .if1 .taken)
+
+loop-holds : tie.Need-loop-holds Inv-loop μ-loop
+loop-holds c = (omega arith, sym (each-none _))
+
+add-byte-at : tie.Need-add-byte-at Inv-loop μ-loop
+add-byte-at c = omega arith
+
+byte-at-requires : tie.Need-byte-at-requires Inv-loop μ-loop
+byte-at-requires c κs = omega arith
+
+both-requires : tie.Need-both-requires Inv-loop μ-loop
+both-requires c κs = tt
+
+add-j : tie.Need-add-j Inv-loop μ-loop
+add-j c = omega arith
+
+loop-less : tie.Need-loop-less Inv-loop μ-loop
+loop-less c = omega arith
+
+loop-again : tie.Need-loop-again Inv-loop μ-loop
+loop-again c = (omega arith, c .both .ensures ∙ rw (c .before .byte-at .ensures .0) (each-more (law.groupAt (c .before .before .before .before .before .before .args .l .now)) (c .before .before .before .loop .j) _ (c .before .before .before .loop .inv .1)))
+
+returns-2 : tie.Need-returns-2 Inv-loop μ-loop
+returns-2 c = law.groups-is _ _ (omega arith) _ _ (c .before .loop .inv .0) (omega arith) (c .before .loop .inv .1)
+
+pub groups-fit-spec : {M : Type 1} → statement M
+groups-fit-spec =
+    tie.close
+    (tie.spec
+    Inv-loop
+    μ-loop
+    returns
+    loop-holds
+    add-byte-at
+    byte-at-requires
+    both-requires
+    add-j
+    loop-less
+    loop-again
+    returns-2)

@@ -1,0 +1,23 @@
+-- `fitting::is_condition` meets its contract. Assumes nothing.
+use borrow.Author.Needs.{needs}
+use native.Mathlib.Omega.{arith}
+use mathlib.Core.Path.{_≡_, refl, sym, ap, _∙_}
+use Prim.Native.Nat.{ℕ, _+_, _*_, _-_, _≤_, _<_}
+use lib.Dec.{leb}
+use Rattle.words.specs.Numbers.{byteAt}
+use Rattle.places.specs.Records.{codePlace}
+use Rattle.fits.specs.Each.{each, each-none, each-more}
+use Rattle.fits.specs.Fits.{held}
+use Rattle.records.proofs.Tests as tests
+use Rattle.fitting.proofs.Laws as law
+use Rattle.fitting.proofs.is_condition.Statement.{statement}
+use Rattle.fitting.proofs.is_condition.Tie as tie
+
+returns : tie.Need-returns
+returns c = law.condition-low _ (c .if1 .taken)
+
+returns-2 : tie.Need-returns-2
+returns-2 c = law.condition-in _ (c .if1 .left)
+
+pub is-condition-spec : {M : Type 1} → statement M
+is-condition-spec = tie.close (tie.spec returns returns-2)

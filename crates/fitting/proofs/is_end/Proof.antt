@@ -1,0 +1,26 @@
+-- `fitting::is_end` meets its contract. Assumes nothing.
+use borrow.Author.Needs.{needs}
+use native.Mathlib.Omega.{arith}
+use mathlib.Core.Path.{_≡_, refl, sym, ap, _∙_}
+use Prim.Native.Nat.{ℕ, _+_, _*_, _-_, _≤_, _<_}
+use lib.Dec.{leb}
+use Rattle.words.specs.Numbers.{byteAt}
+use Rattle.places.specs.Records.{codePlace}
+use Rattle.fits.specs.Each.{each, each-none, each-more}
+use Rattle.fits.specs.Fits.{held}
+use Rattle.records.proofs.Tests as tests
+use Rattle.fitting.proofs.Laws as law
+use Rattle.fitting.proofs.is_end.Statement.{statement}
+use Rattle.fitting.proofs.is_end.Tie as tie
+
+returns : tie.Need-returns
+returns c = law.end-none _ (c .if1 .taken)
+
+is-condition-requires : tie.Need-is-condition-requires
+is-condition-requires c κs = search needs
+
+returns-2 : tie.Need-returns-2
+returns-2 c = c .is-condition .ensures ∙ law.end-some _ (c .before .if1 .left)
+
+pub is-end-spec : {M : Type 1} → statement M
+is-end-spec = tie.close (tie.spec returns is-condition-requires returns-2)

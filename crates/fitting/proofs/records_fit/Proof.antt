@@ -1,0 +1,59 @@
+-- `fitting::records_fit` meets its contract. Assumes nothing.
+use borrow.Author.Needs.{needs}
+use native.Mathlib.Omega.{arith}
+use mathlib.Core.Path.{_≡_, refl, sym, ap, _∙_}
+use Prim.Native.Nat.{ℕ, _+_, _*_, _-_, _≤_, _<_}
+use lib.Dec.{leb}
+use Rattle.words.specs.Numbers.{byteAt}
+use Rattle.places.specs.Records.{codePlace}
+use Rattle.fits.specs.Each.{each, each-none, each-more}
+use Rattle.fits.specs.Fits.{held}
+use Rattle.records.proofs.Tests as tests
+use Rattle.fitting.proofs.Laws as law
+use borrow.Author.Tests.{not-true, not-false}
+use Rattle.places.specs.Records.{classPlace, bodyPlace}
+use Rattle.fits.specs.Fits.{recordFits, frameFits}
+use Rattle.records.proofs.Known.{head-of, class-of}
+use Rattle.fitting.proofs.records_fit.Statement.{statement}
+use Rattle.fitting.proofs.records_fit.Tie as tie
+
+abbrev Inv-loop : tie.InvT-loop
+Inv-loop c cx l r ok₀ k₀ ok k = (k ≤ r) × (ok ≡ each (recordFits c l r) 0 k)
+
+abbrev μ-loop : tie.MeasureT-loop
+μ-loop c cx l r ok₀ k₀ ok k = r - k
+
+loop-holds : tie.Need-loop-holds Inv-loop μ-loop
+loop-holds c = (omega arith, sym (each-none _))
+
+record-fits-requires : tie.Need-record-fits-requires Inv-loop μ-loop
+record-fits-requires c κs = (c .before .before .before .before .before .pre .0, c .before .before .before .before .before .pre .1, c .before .before .before .before .before .pre .2, omega arith)
+
+both-requires : tie.Need-both-requires Inv-loop μ-loop
+both-requires c κs = tt
+
+add-k : tie.Need-add-k Inv-loop μ-loop
+add-k c = omega arith
+
+loop-less : tie.Need-loop-less Inv-loop μ-loop
+loop-less c = omega arith
+
+loop-again : tie.Need-loop-again Inv-loop μ-loop
+loop-again c = (omega arith, c .both .ensures ∙ rw (c .before .record-fits .ensures) (each-more (recordFits (c .before .before .before .before .before .before .before .args .c .now) (c .before .before .before .before .before .before .before .args .l .now) (c .before .before .before .before .before .before .before .args .r)) (c .before .before .before .loop .k) _ (c .before .before .before .loop .inv .1)))
+
+returns : tie.Need-returns Inv-loop μ-loop
+returns c = law.each-end _ _ _ _ (c .before .loop .inv .0) (omega arith) (c .before .loop .inv .1)
+
+pub records-fit-spec : {M : Type 1} → statement M
+records-fit-spec =
+    tie.close
+    (tie.spec
+    Inv-loop
+    μ-loop
+    loop-holds
+    record-fits-requires
+    both-requires
+    add-k
+    loop-less
+    loop-again
+    returns)

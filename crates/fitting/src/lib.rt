@@ -1,0 +1,302 @@
+// The tests of a run state's bytes that need no state found by the loading rules: values, records, activations, holds, header.
+ghost use mathlib.Core.Path.{_≡_};
+ghost use mathlib.Core.Bool.{Bool, true, false, _&&_, _||_};
+ghost use Prim.Native.Nat.{ℕ, _+_, _*_, _≤_, _<_};
+ghost use lib.ListN.{length};
+ghost use lib.Dec.{eqb};
+ghost use Rattle.words.specs.Numbers.{byteAt, halfAt};
+ghost use Rattle.values.specs.Ends.{isCondition};
+ghost use Rattle.places.specs.Records.{classes, bodies, count, codeBase, noType};
+ghost use Rattle.places.specs.Index.{Well};
+ghost use Rattle.rules.specs.Moves.{Bodied, Classed};
+ghost use Rattle.fits.specs.Each.{each};
+ghost use Rattle.fits.specs.Fits.{addressIn, pointsTo, valueFits, rowFits, recordFits, calls, frameFits, held, groupsFit, runningFits, plainFits};
+
+// Whether t is no type byte where there are c classes.
+fn no_type(c: usize, t: usize) -> bool
+    ensures { λ r. ⌜ r ≡ noType c t ⌝ }
+{
+    if t < 16 {
+        if t < 1 {
+            return true;
+        }
+        return 3 < t;
+    }
+    c <= t - 16
+}
+
+// Folds take their tests without a branch, so that they run over many bytes at an even pace.
+pub fn both(a: bool, b: bool) -> bool
+    ensures { λ r. ⌜ r ≡ (a && b) ⌝ }
+{
+    if a { b } else { false }
+}
+
+// Whether w is null or one of r records, of the class of type t.
+fn points_to(l: &[u8], r: usize, t: usize, w: usize) -> bool
+    requires { ⌜ (length (now l) ≡ 24576) × (r ≤ 256) × (16 ≤ t) ⌝ }
+    ensures { λ x. ⌜ x ≡ pointsTo (now (l .entry)) r t w ⌝ }
+{
+    if w == 0 {
+        return true;
+    }
+    let k = w - 1;
+    if r <= k {
+        return false;
+    }
+    records::byte_at(l, 11040 + 44 * k) == t - 16
+}
+
+// Whether the word w is a value of type t.
+fn value_fits(c: &[u8], l: &[u8], r: usize, t: usize, w: usize) -> bool
+    requires { ⌜ (8 ≤ length (now c)) × (length (now l) ≡ 24576) × (r ≤ 256) ⌝ }
+    ensures { λ x. ⌜ x ≡ valueFits (now (c .entry)) (now (l .entry)) r t w ⌝ }
+{
+    let n = records::byte_at(c, 2);
+    if no_type(n, t) {
+        return false;
+    }
+    if 16 <= t {
+        return points_to(l, r, t, w);
+    }
+    if t == 2 {
+        return w < 2;
+    }
+    true
+}
+
+// Whether the n values of a row, with type bytes at t and words at w, are of the types that stand in e at q.
+pub fn row_fits(
+    c: &[u8],
+    l: &[u8],
+    r: usize,
+    e: &[u8],
+    q: usize,
+    t: usize,
+    w: usize,
+    n: usize,
+) -> bool
+    requires { ⌜ (8 ≤ length (now c)) × (length (now l) ≡ 24576) × (r ≤ 256) × (q + n ≤ length (now e)) × (t + n ≤ 24576) × (w + 4 * n ≤ 24576) ⌝ }
+    ensures { λ x. ⌜ x ≡ rowFits (now (c .entry)) (now (l .entry)) r (now (e .entry)) q t w n ⌝ }
+{
+    let mut ok = true;
+    let mut j: usize = 0;
+    while j < n {
+        let a = records::byte_at(l, t + j);
+        let b = records::byte_at(e, q + j);
+        let v = records::word_at(l, w + 4 * j);
+        let f = value_fits(c, l, r, a, v);
+        ok = both(ok, both(a == b, f));
+        j += 1;
+    }
+    ok
+}
+
+fn record_fits(c: &[u8], cx: &[u32], l: &[u8], r: usize, k: usize) -> bool
+    requires { ⌜ (Classed (now c) (now cx)) × (length (now l) ≡ 24576) × (r ≤ 256) × (k < 256) ⌝ }
+    ensures { λ x. ⌜ x ≡ recordFits (now (c .entry)) (now (l .entry)) r k ⌝ }
+{
+    let p = 11040 + 44 * k;
+    let a = records::byte_at(l, p);
+    let n = records::byte_at(c, 2);
+    if n <= a {
+        return false;
+    }
+    let q = rules::class_at(c, cx, a);
+    let f = records::byte_at(c, q + 2);
+    row_fits(c, l, r, c, q + 3, p + 36, p + 4, f)
+}
+
+fn records_fit(c: &[u8], cx: &[u32], l: &[u8], r: usize) -> bool
+    requires { ⌜ (Classed (now c) (now cx)) × (length (now l) ≡ 24576) × (r ≤ 256) ⌝ }
+    ensures { λ x. ⌜ x ≡ each (recordFits (now (c .entry)) (now (l .entry)) r) 0 r ⌝ }
+{
+    let mut ok = true;
+    let mut k: usize = 0;
+    while k < r {
+        let f = record_fits(c, cx, l, r, k);
+        ok = both(ok, f);
+        k += 1;
+    }
+    ok
+}
+
+// Whether activation k, of n, stands at a call of the next, if there is a next.
+fn calls_next(c: &[u8], base: usize, l: &[u8], n: usize, k: usize) -> bool
+    requires { ⌜ (Well (now c)) × (base ≡ codeBase (now c)) × (length (now l) ≡ 24576) × (n ≤ 32) × (k < n) × (addressIn (now l) k < count (now c)) ⌝ }
+    ensures { λ x. ⌜ x ≡ calls (now (c .entry)) (now (l .entry)) n k ⌝ }
+{
+    let j = k + 1;
+    if n <= j {
+        return true;
+    }
+    let i = records::half_at(l, 32 + 328 * k + 4);
+    let x = rules::instruction_at(c, base, i);
+    if x.op != 10 {
+        return false;
+    }
+    if x.a != 0 {
+        return false;
+    }
+    x.b == records::byte_at(l, 32 + 328 * j)
+}
+
+fn frame_fits(c: &[u8], bx: &[u32], base: usize, l: &[u8], r: usize, n: usize, k: usize) -> bool
+    requires { ⌜ (Bodied (now c) (now bx)) × (base ≡ codeBase (now c)) × (length (now l) ≡ 24576) × (r ≤ 256) × (n ≤ 32) × (k < n) ⌝ }
+    ensures { λ x. ⌜ x ≡ frameFits (now (c .entry)) (now (l .entry)) r n k ⌝ }
+{
+    let p = 32 + 328 * k;
+    let b = records::byte_at(l, p);
+    let m = records::byte_at(c, 3);
+    if m <= b {
+        return false;
+    }
+    let q = rules::body_at(c, bx, b);
+    let cells = records::byte_at(c, q + 6);
+    if 32 < cells {
+        return false;
+    }
+    let depth = records::byte_at(l, p + 1);
+    if 32 < depth {
+        return false;
+    }
+    let open = records::byte_at(l, p + 2);
+    if 16 < open {
+        return false;
+    }
+    let i = records::half_at(l, p + 4);
+    let count = records::half_at(c, 4);
+    if count <= i {
+        return false;
+    }
+    if !calls_next(c, base, l, n, k) {
+        return false;
+    }
+    row_fits(c, l, r, c, q + 7, p + 264, p + 8, cells)
+}
+
+fn frames_fit(c: &[u8], bx: &[u32], base: usize, l: &[u8], r: usize, n: usize) -> bool
+    requires { ⌜ (Bodied (now c) (now bx)) × (base ≡ codeBase (now c)) × (length (now l) ≡ 24576) × (r ≤ 256) × (n ≤ 32) ⌝ }
+    ensures { λ x. ⌜ x ≡ each (frameFits (now (c .entry)) (now (l .entry)) r n) 0 n ⌝ }
+{
+    let mut ok = true;
+    let mut k: usize = 0;
+    while k < n {
+        let f = frame_fits(c, bx, base, l, r, n, k);
+        ok = both(ok, f);
+        k += 1;
+    }
+    ok
+}
+
+// The open holds of n activations.
+fn open_holds(l: &[u8], n: usize) -> usize
+    requires { ⌜ (length (now l) ≡ 24576) × (n ≤ 32) ⌝ }
+    ensures { λ x. ⌜ x ≡ held (now (l .entry)) n ⌝ }
+{
+    let mut sum: usize = 0;
+    let mut k: usize = 0;
+    while k < n {
+        sum += records::byte_at(l, 32 + 328 * k + 2);
+        k += 1;
+    }
+    sum
+}
+
+// Whether the h open holds are of groups 0 to 63.
+fn groups_fit(l: &[u8], h: usize) -> bool
+    requires { ⌜ length (now l) ≡ 24576 ⌝ }
+    ensures { λ x. ⌜ x ≡ groupsFit (now (l .entry)) h ⌝ }
+{
+    if 512 < h {
+        return false;
+    }
+    let mut ok = true;
+    let mut j: usize = 0;
+    while j < h {
+        ok = both(ok, records::byte_at(l, 10528 + j) <= 63);
+        j += 1;
+    }
+    ok
+}
+
+fn running_fits(
+    c: &[u8],
+    bx: &[u32],
+    cx: &[u32],
+    base: usize,
+    l: &[u8],
+    n: usize,
+    r: usize,
+    h: usize,
+) -> bool
+    requires { ⌜ (Bodied (now c) (now bx)) × (Classed (now c) (now cx)) × (base ≡ codeBase (now c)) × (length (now l) ≡ 24576) ⌝ }
+    ensures { λ x. ⌜ x ≡ runningFits (now (c .entry)) (now (l .entry)) n r h ⌝ }
+{
+    if n < 1 {
+        return false;
+    }
+    if 32 < n {
+        return false;
+    }
+    if 256 < r {
+        return false;
+    }
+    if records::byte_at(l, 32) != 0 {
+        return false;
+    }
+    if open_holds(l, n) != h {
+        return false;
+    }
+    if !groups_fit(l, h) {
+        return false;
+    }
+    if !records_fit(c, cx, l, r) {
+        return false;
+    }
+    frames_fit(c, bx, base, l, r, n)
+}
+
+fn is_condition(x: usize) -> bool
+    ensures { λ r. ⌜ r ≡ isCondition x ⌝ }
+{
+    if x < 20 {
+        return false;
+    }
+    x <= 27
+}
+
+fn is_end(x: usize) -> bool
+    ensures { λ r. ⌜ r ≡ (eqb x 0 || isCondition x) ⌝ }
+{
+    if x == 0 {
+        return true;
+    }
+    is_condition(x)
+}
+
+// All of a state but where its activations stand.
+pub fn plain_fits(c: &[u8], bx: &[u32], cx: &[u32], base: usize, l: &[u8]) -> bool
+    requires { ⌜ (Bodied (now c) (now bx)) × (Classed (now c) (now cx)) × (base ≡ codeBase (now c)) × (length (now l) ≡ 24576) ⌝ }
+    ensures { λ x. ⌜ x ≡ plainFits (now (c .entry)) (now (l .entry)) ⌝ }
+{
+    let phase = records::byte_at(l, 0);
+    let code = records::byte_at(l, 1);
+    let h = records::half_at(l, 6);
+    if phase == 0 {
+        let n = records::byte_at(l, 2);
+        let r = records::half_at(l, 4);
+        return running_fits(c, bx, cx, base, l, n, r, h);
+    }
+    if phase == 1 {
+        return if is_condition(code) {
+            groups_fit(l, h)
+        } else {
+            false
+        };
+    }
+    if phase == 2 {
+        return is_end(code);
+    }
+    false
+}

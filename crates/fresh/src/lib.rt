@@ -1,0 +1,52 @@
+// A fresh state written over lent bytes: the root alone, at its first address, its cells as variables start.
+ghost use mathlib.Core.Path.{_≡_};
+ghost use mathlib.Core.List.{[], _∷_};
+ghost use Prim.Native.Nat.{ℕ, _+_, _*_, _≤_, _<_};
+ghost use lib.ListN.{length};
+ghost use lib.Seq.{sets};
+ghost use Rattle.words.specs.Numbers.{byteAt, word};
+ghost use Rattle.bytecode.specs.State.{zeros, encode};
+ghost use Rattle.views.specs.View.{Typed};
+ghost use Rattle.fresh.specs.Fresh.{freshWith};
+
+fn clear_all(l: &mut [u8])
+    requires { ⌜ length (now l) ≡ 24576 ⌝ }
+    ensures { λ _. ⌜ now (l .exit) ≡ zeros 24576 ⌝ }
+{
+    let mut i: usize = 0;
+    while i < 24576 {
+        l[i] = 0;
+        i += 1;
+    }
+}
+
+// The root's cell j, of type t, which starts as 0, false, #0 or null: the word 0.
+fn write_cell(l: &mut [u8], j: usize, t: u8)
+    requires { ⌜ (length (now l) ≡ 24576) × (j < 32) ⌝ }
+    ensures { λ _. ⌜ now (l .exit) ≡ sets (sets (now (l .entry)) (40 + 4 * j) (word 0)) (296 + j) (t ∷ []) ⌝ }
+{
+    words::put_word(l, 40 + 4 * j, 0);
+    l[296 + j] = t;
+}
+
+// The n cells whose types stand in c at q, in a state that has none yet.
+fn write_cells(c: &[u8], q: usize, l: &mut [u8], n: usize)
+    requires { ⌜ (q + n ≤ length (now c)) × (n ≤ 32) × (Typed (now c) q n) × (now l ≡ encode (freshWith (now c) q 0)) ⌝ }
+    ensures { λ _. ⌜ now (l .exit) ≡ encode (freshWith (now (c .entry)) q n) ⌝ }
+{
+    let mut j: usize = 0;
+    while j < n {
+        write_cell(l, j, c[q + j]);
+        j += 1;
+    }
+}
+
+// The fresh state of a root whose n cells have the types that stand in c at q.
+pub fn write_fresh(c: &[u8], q: usize, l: &mut [u8], n: usize)
+    requires { ⌜ (q + n ≤ length (now c)) × (n ≤ 32) × (Typed (now c) q n) × (length (now l) ≡ 24576) ⌝ }
+    ensures { λ _. ⌜ now (l .exit) ≡ encode (freshWith (now (c .entry)) q n) ⌝ }
+{
+    clear_all(l);
+    l[2] = 1;
+    write_cells(c, q, l, n);
+}
