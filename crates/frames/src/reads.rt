@@ -1,0 +1,54 @@
+// The word and the type byte of a value: an operand, counted from the bottom, a cell, and a field of a record.
+ghost use mathlib.Core.Path.{_≡_};
+ghost use Prim.Native.Nat.{_+_, _*_, _≤_, _<_};
+ghost use lib.ListN.{length};
+ghost use Rattle.words.specs.Numbers.{byteAt, wordAt};
+ghost use Rattle.frames.specs.Bytes.{Framed, Recorded};
+
+pub fn wide(x: u8) -> usize
+    ensures { λ r. ⌜ (r ≡ x) × (r < 256) ⌝ }
+{
+    x as usize
+}
+
+pub fn operand_word(s: &[u8], f: usize, k: usize) -> u32
+    requires { ⌜ Framed (now s) f k ⌝ }
+    ensures { λ r. ⌜ r ≡ wordAt (now (s .entry)) (f + (136 + 4 * k)) ⌝ }
+{
+    words::word_at(s, f + (136 + 4 * k))
+}
+
+pub fn operand_type(s: &[u8], f: usize, k: usize) -> u8
+    requires { ⌜ Framed (now s) f k ⌝ }
+    ensures { λ r. ⌜ r ≡ byteAt (now (s .entry)) (f + (296 + k)) ⌝ }
+{
+    s[f + (296 + k)]
+}
+
+pub fn cell_word(s: &[u8], f: usize, j: usize) -> u32
+    requires { ⌜ Framed (now s) f j ⌝ }
+    ensures { λ r. ⌜ r ≡ wordAt (now (s .entry)) (f + (8 + 4 * j)) ⌝ }
+{
+    words::word_at(s, f + (8 + 4 * j))
+}
+
+pub fn cell_type(s: &[u8], f: usize, j: usize) -> u8
+    requires { ⌜ Framed (now s) f j ⌝ }
+    ensures { λ r. ⌜ r ≡ byteAt (now (s .entry)) (f + (264 + j)) ⌝ }
+{
+    s[f + (264 + j)]
+}
+
+pub fn field_word(s: &[u8], r: usize, x: usize) -> u32
+    requires { ⌜ Recorded (now s) r x ⌝ }
+    ensures { λ w. ⌜ w ≡ wordAt (now (s .entry)) (11040 + 44 * r + (4 + 4 * x)) ⌝ }
+{
+    words::word_at(s, 11040 + 44 * r + (4 + 4 * x))
+}
+
+pub fn field_type(s: &[u8], r: usize, x: usize) -> u8
+    requires { ⌜ Recorded (now s) r x ⌝ }
+    ensures { λ t. ⌜ t ≡ byteAt (now (s .entry)) (11040 + 44 * r + (36 + x)) ⌝ }
+{
+    s[11040 + 44 * r + (36 + x)]
+}

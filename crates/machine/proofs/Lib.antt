@@ -1,0 +1,4 @@
+pub mod Decode
+pub mod Asks
+pub mod Stepping
+pub mod Running
