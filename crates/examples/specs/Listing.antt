@@ -23,7 +23,7 @@ code = joined
     ∷ op 18 0 0 ∷ op 1 0 4 ∷ op 1 0 9 ∷ op 15 0 0 ∷ op 0 0 0
     ∷ sh 10 0 [] ∷ sh 6 1 [] ∷ [])
 
-passes : loading code ≡ []
+pub passes : loading code ≡ []
 unfolding casesCompute joined code
 passes = refl
 

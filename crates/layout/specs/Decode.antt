@@ -18,10 +18,11 @@ use Rattle.bytecode.specs.Macro.{Macro}
 use Rattle.bytecode.specs.Machine.{Activation, Made, endBy, Machine, running, unwinding, ended, allHolds}
 use Rattle.bytecode.specs.Sound.{all, cellValues, soundGroup, sound}
 use Rattle.bytecode.specs.State.{pad, flat, zeros, wordsOf, typesOf, typeByte, activationBytes, recordBytes, headerBytes, stateBytes, encode, part, readValues, assignedAll, readActivation, readActivations, readRecord, readRecords, readRunning, readUnwinding, decode}
+use Rattle.loading.specs.Terms.{Each}
 use Rattle.layout.specs.Rows.{length-pad, pad-fill, flat-append}
 use Rattle.layout.specs.Parts.{frameOf, entryOf, frame-is, entry-is, wide-frame, wide-entry, length-words, length-header, length-zeros}
 use Rattle.layout.specs.Slots.{length-cells}
-use Rattle.layout.specs.Tests.{halves, Each, each-reverse}
+use Rattle.layout.specs.Tests.{halves, each-reverse}
 use Rattle.layout.specs.Sized.{Sized, GoodValue, GoodRecord, GoodActivation, Good, good}
 use Rattle.layout.specs.Bytes.{few-holds}
 use Rattle.layout.specs.Places.{phase, code, activations, records, holds}

@@ -20,4 +20,5 @@ pub mod Cleared
 pub mod Normal
 pub mod Whole
 pub mod Found
+pub mod Passing
 pub mod Layout

@@ -20,16 +20,11 @@ use Rattle.bytecode.specs.Rules.{foundAt, onStack}
 use Rattle.bytecode.specs.Machine.{Activation, Made, running}
 use Rattle.bytecode.specs.Sound.{all, soundValue, classIs, typedValues, cellValues, ofClass, soundRecord, soundGroup, soundAt, soundActivation, callsBody, parametersOf, soundWaiting, sound}
 use Rattle.bytecode.specs.State.{typeByte, readValue}
+use Rattle.loading.specs.Terms.{Each, Named}
 use Rattle.layout.specs.Slots.{length-cells}
-use Rattle.layout.specs.Tests.{never, halves, Each, each-all, each-end, there, sames→≡}
+use Rattle.layout.specs.Tests.{never, halves, each-all, each-end, there, sames→≡}
 
--- a type that names a class, of n, that is there
-abbrev pub Named : ℕ → Ty → Type 0
-Named n integer = Unit {0}
-Named n logical = Unit {0}
-Named n bits = Unit {0}
-Named n (reference c) = c < n
-
+-- types that name classes that are there
 abbrev pub AllNamed : Macro → List Ty → Type 0
 AllNamed m ts = Each (Named (length (m .classes))) ts
 

@@ -11,6 +11,7 @@ use Rattle.words.specs.Choice.{if_then_else_}
 use Rattle.values.specs.Types.{Ty, integer, logical, bits, reference, same, sames}
 use Rattle.bytecode.specs.Macro.{keep}
 use Rattle.bytecode.specs.Sound.{all}
+use Rattle.loading.specs.Terms.{Each}
 
 pub never : {A : Type 0} → false ≡ true → A
 never h = let z : _≡_ {A = ℕ} 0 1 = cc h in absurd (omega arith)
@@ -31,10 +32,6 @@ kept none f y h = never-some h
 kept (some x) f y h = (x, refl, h)
 
 -- ── lists ──
-abbrev pub Each : {A : Type 0} → (A → Type 0) → List A → Type 0
-Each P [] = Unit {0}
-Each P (x ∷ xs) = P x × Each P xs
-
 pub each-all : {A : Type 0} (t : A → Bool) (P : A → Type 0) → ((x : A) → t x ≡ true → P x) → (xs : List A) → all t xs ≡ true → Each P xs
 unfolding all
 each-all t P f [] h = tt

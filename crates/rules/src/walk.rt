@@ -103,7 +103,15 @@ fn open_body(l: &[u8], bx: &[u32], k: usize, i: usize, st: &[u8], f: Moved) -> M
 }
 
 // The state found at i, in body k, where f flows in.
-fn found_at(l: &[u8], ix: &[u32], bx: &[u32], k: usize, i: usize, st: &mut [u8], f: Moved) -> Moved
+pub fn found_at(
+    l: &[u8],
+    ix: &[u32],
+    bx: &[u32],
+    k: usize,
+    i: usize,
+    st: &mut [u8],
+    f: Moved,
+) -> Moved
     requires { ⌜ (Shaped (now l) (now ix)) × (Bodied (now l) (now bx)) × (k < bodies (now l)) × (k ≡ bodyOf (now l) i) × (length (now st) ≡ 32) × (Fit f) ⌝ }
     ensures { λ r. ⌜ Moves (now (st .exit)) r (found (now (l .entry)) i (flowOf f (now (st .entry)))) ⌝ }
 {
@@ -134,6 +142,25 @@ fn effect_after(
     }
 }
 
+// What goes on from i, where f is the state found there.
+pub fn go_on(
+    l: &[u8],
+    ix: &[u32],
+    bx: &[u32],
+    cx: &[u32],
+    base: usize,
+    k: usize,
+    i: usize,
+    st: &mut [u8],
+    f: Moved,
+) -> Moved
+    requires { ⌜ (Able (now l) (now ix) (now bx) (now cx)) × (base ≡ codeBase (now l)) × (k < bodies (now l)) × (i < count (now l)) × (length (now st) ≡ 32) × (Fit f) ⌝ }
+    ensures { λ r. ⌜ Moves (now (st .exit)) r (leave (now (l .entry)) k i (chain (flowOf f (now (st .entry))) (λ h s. effect (now (l .entry)) k (byteAt (now (l .entry)) (codePlace (now (l .entry)) i + 2)) (byteAt (now (l .entry)) (codePlace (now (l .entry)) i + 3)) (wordAt (now (l .entry)) (codePlace (now (l .entry)) i + 4)) h s))) ⌝ }
+{
+    let e = effect_after(l, ix, bx, cx, base, k, i, st, f);
+    leave_to(l, ix, bx, k, i, st, e)
+}
+
 fn step_at(
     l: &[u8],
     ix: &[u32],
@@ -149,11 +176,10 @@ fn step_at(
     ensures { λ r. ⌜ Moves (now (st .exit)) r (step (now (l .entry)) i (flowOf f (now (st .entry)))) ⌝ }
 {
     let g = found_at(l, ix, bx, k, i, st, f);
-    let e = effect_after(l, ix, bx, cx, base, k, i, st, g);
-    leave_to(l, ix, bx, k, i, st, e)
+    go_on(l, ix, bx, cx, base, k, i, st, g)
 }
 
-fn next_body(l: &[u8], bx: &[u32], k: usize, i: usize) -> usize
+pub fn next_body(l: &[u8], bx: &[u32], k: usize, i: usize) -> usize
     requires { ⌜ (Bodied (now l) (now bx)) × (k < bodies (now l)) × (k ≡ bodyOf (now l) i) × (i < count (now l)) ⌝ }
     ensures { λ r. ⌜ (r ≡ bodyOf (now (l .entry)) (i + 1)) × (r < bodies (now (l .entry))) ⌝ }
 {
@@ -170,7 +196,7 @@ fn next_body(l: &[u8], bx: &[u32], k: usize, i: usize) -> usize
     k
 }
 
-fn is_bad(f: Moved) -> bool
+pub fn is_bad(f: Moved) -> bool
     ensures { λ r. ⌜ r ≡ isBadMove f ⌝ }
 {
     match f {

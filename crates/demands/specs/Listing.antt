@@ -1,0 +1,88 @@
+-- The third demand is not empty: the listing example's macro passes, and what is demanded of it comes to its four lines.
+use mathlib.Core.Path.{_≡_, refl, ap, _∙_, subst}
+use mathlib.Core.Bool.{true}
+use mathlib.Core.List.{List, [], _∷_, map}
+use Prim.Native.Nat.{ℕ, zero, suc}
+use native.Mathlib.Omega.{arith}
+use lib.Dec.{ltb}
+use lib.ListN.{length}
+use borrow.Author.Tests.{ltb-true}
+use Rattle.words.specs.Laws.{Bytes}
+use Rattle.values.specs.Ends.{Judged, accepted, refused}
+use Rattle.values.specs.Trace.{set, hold, release}
+use Rattle.bytecode.specs.Macro.{Macro}
+use Rattle.bytecode.specs.Rules.{judgeMacro}
+use Rattle.bytecode.specs.Machine.{freshMachine}
+use Rattle.bytecode.specs.Runs.{Answer, happens, finishes, Ran, Feed, runs}
+use Rattle.bytecode.specs.Sound.{all, sound}
+use Rattle.bytecode.specs.State.{stateLength}
+use Rattle.bytecode.specs.Lent.{RanOn, startOn}
+use Rattle.examples.specs.Cases.{casesCompute}
+use Rattle.examples.specs.Notation.{refusalOf, joined, feed}
+use Rattle.examples.specs.Listing.{code, passes}
+use Rattle.layout.specs.Tests.{halves}
+use Rattle.loading.specs.Promises.{passed}
+use Rattle.safety.specs.Safety.{fresh-safe}
+use Rattle.demands.specs.Terms.{Fed, runsOn, onBytes, Demanded}
+use Rattle.demands.specs.Third.{third}
+
+judged : (j : Judged Macro) → refusalOf j ≡ [] → (m : Macro) × (j ≡ accepted m)
+judged (accepted m) h = (m, refl)
+judged (refused r) h = let z : _≡_ {A = ℕ} 2 0 = ap length h in absurd (omega arith)
+
+-- numbers that are bytes, by a test of each
+all-bytes : (l : List ℕ) → all (λ x. ltb x 256) l ≡ true → Bytes l
+unfolding all
+all-bytes [] h k = omega arith
+all-bytes (x ∷ l) h zero = ltb-true x 256 (halves (ltb x 256) (all (λ x. ltb x 256) l) h .0)
+all-bytes (x ∷ l) h (suc k) = all-bytes l (halves (ltb x 256) (all (λ x. ltb x 256) l) h .1) k
+
+bytes : Bytes code
+bytes = all-bytes code (unfold casesCompute joined code in refl)
+
+-- ── its four runs, each with all the allowance that there is ──
+abbrev pub feeds : List Feed
+feeds = feed 65535 ∷ feed 65535 ∷ feed 65535 ∷ feed 65535 ∷ []
+
+fed : Fed feeds
+fed =
+    let b : Bytes (feed 65535 .readings) = all-bytes (feed 65535 .readings) (unfold all in refl) in
+    (b, (b, (b, (b, tt))))
+
+abbrev answersIn : List Ran → List Answer
+answersIn [] = []
+answersIn (r ∷ rs) = r .answer ∷ answersIn rs
+
+-- the answers of runs on lent bytes
+abbrev pub answersOn : List RanOn → List Answer
+answersOn [] = []
+answersOn (r ∷ rs) = r .answer ∷ answersOn rs
+
+answers-on : (rs : List Ran) → answersOn (map onBytes rs) ≡ answersIn rs
+answers-on [] = refl
+answers-on (r ∷ rs) = ap (λ x. r .answer ∷ x) (answers-on rs)
+
+abbrev plainAnswers : Judged Macro → List Answer
+plainAnswers (accepted m) = answersIn (runs m feeds (freshMachine m))
+plainAnswers (refused r) = []
+
+-- "hold 7, set 3 200, release 7, end 0"
+abbrev pub lines : List Answer
+lines = happens (hold 7) 1 ∷ happens (set 3 200) 3 ∷ happens (release 7) 1 ∷ finishes 0 2 ∷ []
+
+plain : plainAnswers (judgeMacro code) ≡ lines
+unfolding casesCompute joined code
+plain = refl
+
+pub listing : (m : Macro) × (judgeMacro code ≡ accepted m) × (sound m (freshMachine m) ≡ true)
+    × ((l : List ℕ) → length l ≡ stateLength → Demanded code m l feeds × (answersOn (runsOn code feeds (startOn code l .bytes)) ≡ lines))
+listing =
+    let j = judged (judgeMacro code) passes in
+    let m = j .0 in
+    let h = j .1 in
+    let told : answersIn (runs m feeds (freshMachine m)) ≡ lines = subst (λ x. plainAnswers x ≡ lines) h plain in (
+      m,
+      h,
+      fresh-safe m (passed code m bytes h),
+      λ l n. let d = third code m bytes h l n feeds fed in (d, ap answersOn (d .equals) ∙ (answers-on (runs m feeds (freshMachine m)) ∙ told)),
+    )

@@ -1,0 +1,1 @@
+// Theorems only: see specs/. The demands on the whole, each a statement that is read without its proof.

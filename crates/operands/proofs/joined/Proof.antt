@@ -1,0 +1,16 @@
+use borrow.Author.Tests.{eq-eqb, ne-eqb}
+use borrow.Author.Needs.{needs}
+use Rattle.operands.proofs.joined.Statement.{statement}
+use Rattle.operands.proofs.joined.Tie as tie
+
+if-either-requires : tie.Need-if-either-requires
+if-either-requires c κs = search needs
+
+returns : tie.Need-returns
+returns c = rw (eq-eqb _ _ (c .before .if1 .taken)) (c .if-either .ensures)
+
+returns-2 : tie.Need-returns-2
+returns-2 c = rw (ne-eqb _ _ (c .if1 .left))
+
+pub joined-spec : {M : Type 1} → statement M
+joined-spec = tie.close (tie.spec if-either-requires returns returns-2)

@@ -1,0 +1,4 @@
+pub mod Settle
+pub mod Operations
+pub mod Types
+pub mod Settles

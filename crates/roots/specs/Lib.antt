@@ -1,0 +1,4 @@
+pub mod Globals
+pub mod Root
+pub mod Procedures
+pub mod Tables

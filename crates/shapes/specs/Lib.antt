@@ -1,0 +1,4 @@
+pub mod Forms
+pub mod Walk
+pub mod Steps
+pub mod Ends

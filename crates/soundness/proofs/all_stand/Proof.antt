@@ -1,0 +1,59 @@
+-- `soundness::all_stand` meets its contract. Assumes nothing.
+use borrow.Author.Needs.{needs}
+use borrow.Author.Tests.{not-true, not-false}
+use native.Mathlib.Omega.{arith}
+use mathlib.Core.Path.{_≡_, refl, sym, ap, _∙_}
+use Prim.Native.Nat.{ℕ, _+_, _*_, _-_, _≤_, _<_}
+use Rattle.fits.specs.Each.{each, each-none, each-more}
+use Rattle.fits.specs.Fits.{addressIn}
+use Rattle.fitting.proofs.Laws.{each-end}
+use Rattle.soundness.proofs.Rows.{sameAt}
+use Rattle.soundness.proofs.Laws as law
+use borrow.Author.Tests.{eq-eqb, ne-eqb}
+use Rattle.places.specs.Search.{tops}
+use Rattle.places.specs.Records.{bodyPlace}
+use Rattle.records.proofs.Known.{head-of}
+use Rattle.soundness.specs.Tested.{argsFit}
+use Rattle.soundness.proofs.all_stand.Statement.{statement}
+use Rattle.soundness.proofs.all_stand.Tie as tie
+
+abbrev Inv-loop : tie.InvT-loop
+Inv-loop c bx l r n i b st h d ok₀ k₀ ok k = (k ≤ n) × (ok ≡ each (law.standAt c l r n i b h (tops st 0 d)) 0 k)
+
+abbrev μ-loop : tie.MeasureT-loop
+μ-loop c bx l r n i b st h d ok₀ k₀ ok k = n - k
+
+loop-holds : tie.Need-loop-holds Inv-loop μ-loop
+loop-holds c = (omega arith, sym (each-none _))
+
+stands-if-requires : tie.Need-stands-if-requires Inv-loop μ-loop
+stands-if-requires c κs = (c .before .before .before .before .before .before .pre .0, c .before .before .before .before .before .before .pre .1, c .before .before .before .before .before .before .pre .2, omega arith, c .before .before .before .before .before .before .pre .3, c .before .before .before .before .before .before .pre .4)
+
+both-requires : tie.Need-both-requires Inv-loop μ-loop
+both-requires c κs = tt
+
+add-k : tie.Need-add-k Inv-loop μ-loop
+add-k c = omega (arith, c .before .before .before .before .before .before .before .before .pre .1 .few)
+
+loop-less : tie.Need-loop-less Inv-loop μ-loop
+loop-less c = omega arith
+
+loop-again : tie.Need-loop-again Inv-loop μ-loop
+loop-again c = (omega arith, c .both .ensures ∙ rw (c .before .stands-if .ensures) (each-more (law.standAt (c .before .before .before .before .before .before .before .before .args .c .now) (c .before .before .before .before .before .before .before .before .args .l .now) (c .before .before .before .before .before .before .before .before .args .r) (c .before .before .before .before .before .before .before .before .args .n) (c .before .before .before .before .before .before .before .before .args .i) (c .before .before .before .before .before .before .before .before .args .b) (c .before .before .before .before .before .before .before .before .args .h) (tops (c .before .before .before .before .before .before .before .before .args .st .now) 0 (c .before .before .before .before .before .before .before .before .args .d))) (c .before .before .before .loop .k) _ (c .before .before .before .loop .inv .1)))
+
+returns : tie.Need-returns Inv-loop μ-loop
+returns c = each-end _ _ _ _ (c .before .loop .inv .0) (omega arith) (c .before .loop .inv .1)
+
+pub all-stand-spec : {M : Type 1} → statement M
+all-stand-spec =
+    tie.close
+    (tie.spec
+    Inv-loop
+    μ-loop
+    loop-holds
+    stands-if-requires
+    both-requires
+    add-k
+    loop-less
+    loop-again
+    returns)

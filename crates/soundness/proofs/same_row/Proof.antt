@@ -1,0 +1,66 @@
+-- `soundness::same_row` meets its contract. Assumes nothing.
+use borrow.Author.Needs.{needs}
+use borrow.Author.Tests.{not-true, not-false}
+use native.Mathlib.Omega.{arith}
+use mathlib.Core.Path.{_≡_, refl, sym, ap, _∙_}
+use Prim.Native.Nat.{ℕ, _+_, _*_, _-_, _≤_, _<_}
+use Rattle.fits.specs.Each.{each, each-none, each-more}
+use Rattle.fits.specs.Fits.{addressIn}
+use Rattle.fitting.proofs.Laws.{each-end}
+use Rattle.soundness.proofs.Rows.{sameAt}
+use Rattle.soundness.proofs.Laws as law
+use Rattle.soundness.proofs.same_row.Statement.{statement}
+use Rattle.soundness.proofs.same_row.Tie as tie
+
+abbrev Inv-loop : tie.InvT-loop
+Inv-loop c q e p n ok₀ j₀ ok j = (j ≤ n) × (ok ≡ each (sameAt c e q p) 0 j)
+
+abbrev μ-loop : tie.MeasureT-loop
+μ-loop c q e p n ok₀ j₀ ok j = n - j
+
+loop-holds : tie.Need-loop-holds Inv-loop μ-loop
+loop-holds c = (omega arith, sym (each-none _))
+
+add-byte-at : tie.Need-add-byte-at Inv-loop μ-loop
+add-byte-at c = omega arith
+
+byte-at-requires : tie.Need-byte-at-requires Inv-loop μ-loop
+byte-at-requires c κs = omega arith
+
+add-byte-at-2 : tie.Need-add-byte-at-2 Inv-loop μ-loop
+add-byte-at-2 c = omega arith
+
+byte-at-requires-2 : tie.Need-byte-at-requires-2 Inv-loop μ-loop
+byte-at-requires-2 c κs = omega arith
+
+both-requires : tie.Need-both-requires Inv-loop μ-loop
+both-requires c κs = tt
+
+add-j : tie.Need-add-j Inv-loop μ-loop
+add-j c = omega arith
+
+loop-less : tie.Need-loop-less Inv-loop μ-loop
+loop-less c = omega arith
+
+loop-again : tie.Need-loop-again Inv-loop μ-loop
+loop-again c = (omega arith, c .both .ensures ∙ rw (c .before .byte-at2 .ensures .0, c .before .before .byte-at .ensures .0) (each-more (sameAt (c .before .before .before .before .before .before .before .args .c .now) (c .before .before .before .before .before .before .before .args .e .now) (c .before .before .before .before .before .before .before .args .q) (c .before .before .before .before .before .before .before .args .p)) (c .before .before .before .before .loop .j) _ (c .before .before .before .before .loop .inv .1)))
+
+returns : tie.Need-returns Inv-loop μ-loop
+returns c = each-end _ _ _ _ (c .before .loop .inv .0) (omega arith) (c .before .loop .inv .1)
+
+pub same-row-spec : {M : Type 1} → statement M
+same-row-spec =
+    tie.close
+    (tie.spec
+    Inv-loop
+    μ-loop
+    loop-holds
+    add-byte-at
+    byte-at-requires
+    add-byte-at-2
+    byte-at-requires-2
+    both-requires
+    add-j
+    loop-less
+    loop-again
+    returns)

@@ -1,0 +1,322 @@
+// The walkers: statements and expressions call each other, the remaining nesting falling. Each gets the part of the table that begins
+// where it stands and passes on parts that start inside it; the whole table is there for the types that a declaration elsewhere gives.
+use heads::Verdict;
+ghost use mathlib.Core.Path.{_≡_};
+ghost use Prim.Native.Nat.{_+_, _*_, _≤_};
+ghost use lib.ListN.{length};
+ghost use Rattle.shapes.specs.Forms.{ExprForm, StmtForm, SimpleForm, GuardForm, BlockForm, BodyForm};
+ghost use Rattle.shapes.specs.Walk.{Asks, Answers, Typed, AsksEs, AnswersEs, AsksItems, AnswersItems, operandsBy, guardedBy, testedBy};
+
+// The expressions below an entry that has no other operands.
+fn operands_of(kind: u16, b: u32) -> usize
+    ensures { λ r. ⌜ r ≡ operandsBy kind b ⌝ }
+{
+    match kind {
+        21 => 2,
+        26 => 1,
+        27 => b as usize,
+        28 => 2,
+        45 => b as usize,
+        46 => 1,
+        47 => b as usize,
+        48 => 1,
+        49 => 2,
+        50 => 3,
+        51 => 1,
+        _ => 0,
+    }
+}
+
+// The statements below an entry that has one expression before them.
+fn guarded_of(kind: u16, a: u16) -> usize
+    ensures { λ r. ⌜ r ≡ guardedBy kind a ⌝ }
+{
+    match kind {
+        23 => 2,
+        30 => a as usize,
+        _ => 1,
+    }
+}
+
+// The condition of an if or a while is logical, the selector of a case an integer.
+fn tested(kind: u16, t: u32, at: usize) -> Verdict
+    ensures { λ r. ⌜ r ≡ testedBy kind t at ⌝ }
+{
+    if kind == 30 {
+        if t == 1 {
+            Verdict::Fine(1)
+        } else {
+            Verdict::Refused(4, at)
+        }
+    } else {
+        if t == 2 {
+            Verdict::Fine(1)
+        } else {
+            Verdict::Refused(4, at)
+        }
+    }
+}
+
+// Expressions one after the other, whose types are left above the names in sight.
+fn operands(
+    table: &[u8],
+    part: &[u8],
+    count: usize,
+    nesting: usize,
+    at: usize,
+    sizes: &[u16],
+    env: &mut [u32],
+    top: usize,
+) -> Verdict
+    requires { ⌜ AsksEs (now table) (now part) count nesting at (now sizes) (now env) top ⌝ }
+    ensures { λ r. ⌜ AnswersEs (now (table .entry)) (now (part .entry)) count nesting at (now (sizes .entry)) (now (env .entry)) (now (env .exit)) top r ⌝ }
+{
+    let mut rest = part;
+    let mut place = at;
+    let mut i = 0;
+    while i < count {
+        match expression(table, rest, nesting, place, sizes, env, top + i) {
+            Verdict::Fine(t) => {
+                scopes::push(env, top + i, 65538, 0, t, 0);
+                let n = spans::size_at(sizes, place);
+                let from = 8 * n;
+                rest = &rest[from..];
+                place += n;
+                i += 1;
+            }
+            Verdict::Refused(n, p) => {
+                return Verdict::Refused(n, p);
+            }
+        }
+    }
+    Verdict::Fine(0)
+}
+
+// An entry with expressions only below it.
+fn simple(
+    table: &[u8],
+    part: &[u8],
+    nesting: usize,
+    at: usize,
+    sizes: &[u16],
+    env: &mut [u32],
+    top: usize,
+) -> Verdict
+    requires { ⌜ Asks SimpleForm (now table) (now part) nesting at (now sizes) (now env) top ⌝ }
+    ensures { λ r. ⌜ Typed SimpleForm (now (table .entry)) (now (part .entry)) nesting at (now (sizes .entry)) (now (env .entry)) (now (env .exit)) top r ⌝ }
+{
+    let kind = words::half_at(part, 0);
+    let name = words::half_at(part, 2);
+    let count = operands_of(kind, words::word_at(part, 4));
+    match operands(
+        table,
+        &part[8..],
+        count,
+        nesting - 1,
+        at + 1,
+        sizes,
+        env,
+        top,
+    ) {
+        Verdict::Fine(_) => operands::settle(table, kind as u32, name as u32, at, count, env, top),
+        Verdict::Refused(n, p) => Verdict::Refused(n, p),
+    }
+}
+
+// An expression, and the statements that it guards.
+fn guarded(
+    table: &[u8],
+    part: &[u8],
+    nesting: usize,
+    at: usize,
+    sizes: &[u16],
+    env: &mut [u32],
+    top: usize,
+) -> Verdict
+    requires { ⌜ Asks GuardForm (now table) (now part) nesting at (now sizes) (now env) top ⌝ }
+    ensures { λ r. ⌜ Answers GuardForm (now (table .entry)) (now (part .entry)) nesting at (now (sizes .entry)) (now (env .entry)) (now (env .exit)) top r ⌝ }
+{
+    let kind = words::half_at(part, 0);
+    let count = guarded_of(kind, words::half_at(part, 2));
+    match expression(table, &part[8..], nesting - 1, at + 1, sizes, env, top) {
+        Verdict::Fine(t) => {
+            let n = spans::size_at(sizes, at + 1);
+            let from = 8 * (1 + n);
+            match items(
+                table,
+                &part[from..],
+                count,
+                nesting - 1,
+                at + 1 + n,
+                sizes,
+                env,
+                top,
+            ) {
+                Verdict::Fine(_) => tested(kind, t, at),
+                Verdict::Refused(k, p) => Verdict::Refused(k, p),
+            }
+        }
+        Verdict::Refused(k, p) => Verdict::Refused(k, p),
+    }
+}
+
+// Labels and statements one after the other.
+pub fn items(
+    table: &[u8],
+    part: &[u8],
+    count: usize,
+    nesting: usize,
+    at: usize,
+    sizes: &[u16],
+    env: &mut [u32],
+    top: usize,
+) -> Verdict
+    requires { ⌜ AsksItems (now table) (now part) count nesting at (now sizes) (now env) top ⌝ }
+    ensures { λ r. ⌜ AnswersItems (now (table .entry)) (now (part .entry)) count nesting at (now (sizes .entry)) (now (env .entry)) (now (env .exit)) top r ⌝ }
+{
+    let mut rest = part;
+    let mut place = at;
+    let mut left = count;
+    while 0 < left {
+        match statement(table, rest, nesting, place, sizes, env, top) {
+            Verdict::Fine(_) => {
+                let n = spans::size_at(sizes, place);
+                let from = 8 * n;
+                rest = &rest[from..];
+                place += n;
+                left -= 1;
+            }
+            Verdict::Refused(k, p) => {
+                return Verdict::Refused(k, p);
+            }
+        }
+    }
+    Verdict::Fine(0)
+}
+
+// A block: its names, then its head, then its items.
+fn block(
+    table: &[u8],
+    part: &[u8],
+    nesting: usize,
+    at: usize,
+    sizes: &[u16],
+    env: &mut [u32],
+    top: usize,
+) -> Verdict
+    requires { ⌜ Asks BlockForm (now table) (now part) nesting at (now sizes) (now env) top ⌝ }
+    ensures { λ r. ⌜ Answers BlockForm (now (table .entry)) (now (part .entry)) nesting at (now (sizes .entry)) (now (env .entry)) (now (env .exit)) top r ⌝ }
+{
+    let heads = words::half_at(part, 2) as usize;
+    let count = words::word_at(part, 4) as usize;
+    let up = heads::enter(table, at + 1, heads, count, 65536, sizes, env, top);
+    match heads::head(table, at + 1, heads, env, up) {
+        Verdict::Fine(_) => {
+            let from = 8 * (1 + heads);
+            items(
+                table,
+                &part[from..],
+                count,
+                nesting - 1,
+                at + 1 + heads,
+                sizes,
+                env,
+                up,
+            )
+        }
+        Verdict::Refused(k, p) => Verdict::Refused(k, p),
+    }
+}
+
+// A block expression: the same behind a wall, which no goto passes, and then its expression.
+fn body(
+    table: &[u8],
+    part: &[u8],
+    nesting: usize,
+    at: usize,
+    sizes: &[u16],
+    env: &mut [u32],
+    top: usize,
+) -> Verdict
+    requires { ⌜ Asks BodyForm (now table) (now part) nesting at (now sizes) (now env) top ⌝ }
+    ensures { λ r. ⌜ Typed BodyForm (now (table .entry)) (now (part .entry)) nesting at (now (sizes .entry)) (now (env .entry)) (now (env .exit)) top r ⌝ }
+{
+    let heads = words::half_at(part, 2) as usize;
+    let count = words::word_at(part, 4) as usize;
+    let up = heads::enter(table, at + 1, heads, count, 65537, sizes, env, top);
+    match heads::head(table, at + 1, heads, env, up) {
+        Verdict::Fine(_) => {
+            let from = 8 * (1 + heads);
+            match items(
+                table,
+                &part[from..],
+                count,
+                nesting - 1,
+                at + 1 + heads,
+                sizes,
+                env,
+                up,
+            ) {
+                Verdict::Fine(_) => {
+                    let n = spans::spanned(table, sizes, at + 1 + heads, count);
+                    let after = 8 * (1 + heads + n);
+                    expression(
+                        table,
+                        &part[after..],
+                        nesting - 1,
+                        at + 1 + heads + n,
+                        sizes,
+                        env,
+                        up,
+                    )
+                }
+                Verdict::Refused(k, p) => Verdict::Refused(k, p),
+            }
+        }
+        Verdict::Refused(k, p) => Verdict::Refused(k, p),
+    }
+}
+
+pub fn expression(
+    table: &[u8],
+    part: &[u8],
+    nesting: usize,
+    at: usize,
+    sizes: &[u16],
+    env: &mut [u32],
+    top: usize,
+) -> Verdict
+    requires { ⌜ Asks ExprForm (now table) (now part) nesting at (now sizes) (now env) top ⌝ }
+    ensures { λ r. ⌜ Typed ExprForm (now (table .entry)) (now (part .entry)) nesting at (now (sizes .entry)) (now (env .entry)) (now (env .exit)) top r ⌝ }
+{
+    if words::half_at(part, 0) == 53 {
+        body(table, part, nesting, at, sizes, env, top)
+    } else {
+        simple(table, part, nesting, at, sizes, env, top)
+    }
+}
+
+// A statement, or a label among them.
+pub fn statement(
+    table: &[u8],
+    part: &[u8],
+    nesting: usize,
+    at: usize,
+    sizes: &[u16],
+    env: &mut [u32],
+    top: usize,
+) -> Verdict
+    requires { ⌜ Asks StmtForm (now table) (now part) nesting at (now sizes) (now env) top ⌝ }
+    ensures { λ r. ⌜ Answers StmtForm (now (table .entry)) (now (part .entry)) nesting at (now (sizes .entry)) (now (env .entry)) (now (env .exit)) top r ⌝ }
+{
+    let kind = words::half_at(part, 0);
+    match kind {
+        1 => block(table, part, nesting, at, sizes, env, top),
+        20 => heads::once(env, top, words::half_at(part, 2) as u32, at),
+        22 => guarded(table, part, nesting, at, sizes, env, top),
+        23 => guarded(table, part, nesting, at, sizes, env, top),
+        24 => guarded(table, part, nesting, at, sizes, env, top),
+        30 => guarded(table, part, nesting, at, sizes, env, top),
+        _ => simple(table, part, nesting, at, sizes, env, top),
+    }
+}
