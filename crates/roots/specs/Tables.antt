@@ -1,7 +1,7 @@
 -- All declarations of the root, and the whole table.
 use mathlib.Core.Path.{_≡_, refl, ap, sym, _∙_}
 use mathlib.Core.Bool.{Bool, true, false}
-use mathlib.Core.List.{List, [], _∷_, _++_, map, append-nil}
+use mathlib.Core.List.{List, [], _∷_, _++_, append-nil}
 use mathlib.Core.Option.{none}
 use Prim.Native.Nat.{ℕ, zero, suc, _+_, _-_, _*_, _/_, _%_, _≤_, _<_}
 use native.Mathlib.Omega.{arith}
@@ -14,7 +14,7 @@ use Rattle.words.specs.Laws.{Bytes}
 use Rattle.values.specs.Types.{same}
 use Rattle.values.specs.Ends.{accepted}
 use Rattle.language.specs.Tree.{Global, local, class, procedure, Tree, countItems}
-use Rattle.language.specs.Table.{Entry, inLayout, flatTyped, flatItems, flatBody, flatGlobal, flatHead, flatten, deepGlobals, nesting, Read, took, stop, first, formRoot, oneTree, readTable}
+use Rattle.language.specs.Table.{Entry, inLayout, flatItems, flatGlobal, flatHead, flatten, deepGlobals, nesting, Read, took, stop, first, formRoot, oneTree, readTable}
 use Rattle.language.specs.Judge.{all}
 use Rattle.language.specs.Names.{Scope, definesGlobals, definesItems, rootOf}
 use Rattle.language.specs.Faults.{faultsItems, namesGlobal, faultsGlobal, faults, sizeGlobal}
@@ -30,7 +30,7 @@ use Rattle.heads.specs.declared.Verdict.{Verdict}
 use Rattle.heads.specs.declared.Verdict.the-variants.{Fine, Refused}
 use Rattle.heads.specs.Items.{labelsFrom, globalsFrom, rootItems, Reach, ReachGlobals}
 use Rattle.heads.specs.Flaws.{Says, says-first, says-then, says-fine}
-use Rattle.heads.specs.Trees.{length-map, length-Body, length-Global, length-Items, spans-Global}
+use Rattle.heads.specs.Trees.{length-Global, length-Items, spans-Global}
 use Rattle.heads.specs.Sees.{Legible, Sees, matches-append, sees-none, sees-block}
 use Rattle.heads.specs.Once.{once-block}
 use Rattle.heads.specs.Defines.{labels-small, labelItems, label-items, label-matches, label-rising, labels-bulk, length-labels, OnceItems, once-items}
@@ -48,7 +48,7 @@ pub record ReadyGlobals (gs : List Global) (ss : List Scope) (seen l : List ℕ)
   pub known : Known l sizes 0
   pub stands : Stands (entriesOf l) place (flatHead gs)
   pub deep : deepGlobals gs ≤ 63
-  pub room : 4 * (top + 2048) ≤ length env
+  pub room : 4 * (top + length l / 8) ≤ length env
   pub sees : Sees l (envOf env top) ss
   pub once : OnceGlobals (envOf env top) seen place gs
   pub many : count ≡ length gs
@@ -87,11 +87,8 @@ pub record NextG (gs : List Global) (ss : List Scope) (seen l : List ℕ) (place
   pub once : OnceGlobals (envOf env top) (namesGlobal this seen) (place + sizeGlobal this) later
   pub many : left ≡ suc (length later)
 
-size-bound : {l : List ℕ} (legible : Legible l) {place : ℕ} (g : Global) → Stands (entriesOf l) place (flatGlobal g) → sizeGlobal g ≤ 2048
-unfolding flatGlobal
-size-bound {l} legible (local d) h = omega arith
-size-bound {l} legible (class c xs) h = omega (arith, stands-within _ _ h, length-entries (length l / 8) l, legible .short, length-map flatTyped xs)
-size-bound {l} legible (procedure a xs b) h = omega (arith, stands-within _ _ h, length-entries (length l / 8) l, legible .short, length-append (map flatTyped xs) (flatBody b), length-map flatTyped xs, length-Body b)
+size-bound : (l : List ℕ) {place : ℕ} (g : Global) → Stands (entriesOf l) place (flatGlobal g) → sizeGlobal g ≤ length l / 8
+size-bound l {place} g h = omega (arith, length-drop place (entriesOf l), ap length (h .split), length-append (flatGlobal g) (h .rest), length-Global g, length-entries (length l / 8) l)
 
 next-g : (gs : List Global) (ss : List Scope) (seen : List ℕ) {l : List ℕ} {place left : ℕ} {sizes env : List ℕ} {top : ℕ} → ReadyGlobals gs ss seen l left place sizes env top → 0 < left → NextG gs ss seen l place sizes env top left
 unfolding flatHead deepGlobals OnceGlobals
@@ -106,7 +103,7 @@ next-g (g ∷ gs) ss seen {l} {place} {left} {sizes} {env} {top} r h =
         table = record { whole = take-all (length l - 8 * place) (drop (8 * place) l) (omega (arith, length-drop (8 * place) l)); legible = r .legible; known = r .known };
         stands = w;
         deep = omega (arith, r .deep);
-        room = omega (arith, r .room, size-bound (r .legible) g w);
+        room = omega (arith, r .room, size-bound l g w);
         sees = r .sees;
         once = r .once .0;
       };
@@ -194,7 +191,7 @@ pub record Whole (t : Tree) (l sizes env : List ℕ) : Type 0 where
   pub known : Known l sizes 0
   pub same : entriesOf l ≡ flatten t
   pub depth : nesting t ≤ 64
-  pub room : 16384 ≤ length env
+  pub room : length l ≤ length env
 
 length-globals : (p : ℕ) (gs : List Global) → length (globalItems p gs) ≤ length (flatHead gs)
 unfolding globalItems flatHead
@@ -254,7 +251,7 @@ module _ {t : Tree} {l sizes env : List ℕ} (w : Whole t l sizes env) where
     pub root-reach : ReachGlobals l 1 heads × Reach l after rest
     root-reach = let p = parts c in rw (p .many, p .place, p .count) (globals-at (w .legible) 1 (t .head) (p .head) .0, label-items (w .legible) (1 + length (flatHead (t .head))) (t .items) (p .items) .0)
 
-    most : 1 + length (rootItems l heads after rest) ≤ 2048
+    most : 1 + length (rootItems l heads after rest) ≤ length l / 8
     most = let p = parts c in
         omega (arith, ap length root-items, length-append (globalItems 1 (t .head)) (labelItems (1 + length (flatHead (t .head))) (t .items)), length-globals 1 (t .head), length-labels (1 + length (flatHead (t .head))) (t .items), labels-bulk (t .items), length-Items (t .items), p .fits, w .legible .short)
 
@@ -281,7 +278,7 @@ module _ {t : Tree} {l sizes env : List ℕ} (w : Whole t l sizes env) where
           let o = once-globals (envOf mid up) [] 1 (t .head) js (rw now-is (once-block opened (globalItems 1 (t .head) ++ js) [] 1 (omega arith) (rw root-items at root-small) (globals-rising 1 (t .head) js (label-rising (1 + length (flatHead (t .head))) (t .items))))) in
           (o .0, once-items (envOf mid up) (seenGlobals (t .head) []) (1 + length (flatHead (t .head))) (t .items) (o .1))
 
-      top-most : up ≤ 2048
+      top-most : up ≤ length l / 8
       top-most = omega (arith, g .most, most)
 
       pub ready-globals : ReadyGlobals (t .head) (rootOf t ∷ []) [] l heads 1 sizes mid up
@@ -355,7 +352,7 @@ all-at [] (suc p) e ys h k = clash (cc)
 all-at (x ∷ xs) zero e ys h k = let z : x ≡ e = cc in rw z at (both-left (inLayout x) (all inLayout xs) h)
 all-at (x ∷ xs) (suc p) e ys h k = all-at xs p e ys (both-right (inLayout x) (all inLayout xs) h) k
 
-pub held-whole : {l sizes env : List ℕ} (t : Tree) → Bytes l → Known l sizes 0 → 16384 ≤ length env → Held l t → Whole t l sizes env
+pub held-whole : {l sizes env : List ℕ} (t : Tree) → Bytes l → Known l sizes 0 → length l ≤ length env → Held l t → Whole t l sizes env
 held-whole {l} t b k r h =
     record { legible = record { bytes = b; short = h .short; layout = λ p e us s. all-at (flatten t) p e (us ++ s .rest) (h .readable .layout) (rw (h .same) at (s .split)) }; known = k; same = h .same; depth = h .readable .depth; room = r }
 
