@@ -1,0 +1,74 @@
+-- What the wrappers pack are the numbers of what the definitions answer.
+use mathlib.Core.Path.{_≡_, refl}
+use mathlib.Core.List.{List}
+use Prim.Native.Nat.{ℕ, _<_}
+use native.Mathlib.Omega.{arith}
+use Rattle.words.specs.Laws.{Bytes}
+use Rattle.values.specs.Ends.{refusal, Judged, accepted, refused}
+use Rattle.language.specs.Tree.{Tree}
+use Rattle.language.specs.Judge.{judgeTable}
+use Rattle.bytecode.specs.Macro.{Macro}
+use Rattle.bytecode.specs.Rules.{judgeMacro}
+use Rattle.bytecode.specs.Lent.{startOn, runOn}
+use Rattle.bytecode.specs.Answers.{Numbers, doneNumbers, refusalNumbers, verdictNumbers, answerNumbers, packed}
+use Rattle.table.specs.Checked.{checkedOf, place-small}
+use Rattle.table.specs.declared.Checked.{Checked}
+use Rattle.table.specs.declared.Checked.the-variants.{Accepted, Refused as Rejected}
+use Rattle.loader.specs.Loaded.{loadedOf, fields}
+use Rattle.loader.specs.declared.Loaded.{Loaded}
+use Rattle.loader.specs.declared.Loaded.the-variants.{Passes, Refused}
+use Rattle.running.specs.Answers.{verdictOf, answerOf}
+use Rattle.running.specs.Fields.{start-small, run-small}
+use Rattle.running.specs.declared.Started.{Started}
+use Rattle.running.specs.declared.Started.the-variants.{Refused as Declined}
+use Rattle.running.specs.declared.Ran.{Ran}
+use Rattle.running.specs.declared.Ran.the-variants.{Refused as Unrun}
+
+-- ── the table check ──
+abbrev checkedNumbers : Checked → Numbers
+checkedNumbers Accepted = doneNumbers 0
+checkedNumbers (Rejected n p) = refusalNumbers (refusal n p)
+
+checked-numbers : (j : Judged Tree) → checkedNumbers (checkedOf j) ≡ verdictNumbers j
+checked-numbers (accepted t) = refl
+checked-numbers (refused r) = refl
+
+module _ (l : List ℕ) (a : Checked) (e : a ≡ checkedOf (judgeTable l)) where
+  pub checked : (v : Checked) → a ≡ v → packed (checkedNumbers v) ≡ packed (verdictNumbers (judgeTable l))
+  checked v d = rw (← d, e, checked-numbers (judgeTable l))
+
+  pub checked-small : (n p : ℕ) → a ≡ Rejected n p → p < 16777216
+  checked-small n p d = let h = place-small l n p (rw d at e) in omega arith
+
+-- ── the loading check ──
+abbrev loadedNumbers : Loaded → Numbers
+loadedNumbers Passes = doneNumbers 0
+loadedNumbers (Refused n p) = refusalNumbers (refusal n p)
+
+loaded-numbers : (j : Judged Macro) → loadedNumbers (loadedOf j) ≡ verdictNumbers j
+loaded-numbers (accepted m) = refl
+loaded-numbers (refused r) = refl
+
+module _ (c : List ℕ) (a : Loaded) (e : a ≡ loadedOf (judgeMacro c)) where
+  pub loaded : (v : Loaded) → a ≡ v → packed (loadedNumbers v) ≡ packed (verdictNumbers (judgeMacro c))
+  loaded v d = rw (← d, e, loaded-numbers (judgeMacro c))
+
+  pub loaded-small : Bytes c → (n p : ℕ) → a ≡ Refused n p → p < 16777216
+  loaded-small B n p d = fields c B n p (rw d at e) .1
+
+-- ── the start ──
+module _ (c l k : List ℕ) (a : Started) (e : startOn c l ≡ record { verdict = verdictOf a; bytes = k }) where
+  pub started : (v : Started) → a ≡ v → (r : ℕ) → r ≡ packed (verdictNumbers (verdictOf v)) → (r ≡ packed (verdictNumbers (startOn c l .verdict))) × (k ≡ startOn c l .bytes)
+  started v d r h = rw (e, d) (h, refl)
+
+  pub started-small : Bytes c → (n p : ℕ) → a ≡ Declined n p → p < 16777216
+  started-small B n p d = start-small c B l (refusal n p) (rw (e, d)) .1
+
+-- ── the run ──
+module _ (c l readings : List ℕ) (allowance : ℕ) (k : List ℕ) (a : Ran) (e : runOn c l readings allowance ≡ record { answer = answerOf a; bytes = k }) where
+  pub ran : (v : Ran) → a ≡ v → (r : ℕ) → r ≡ packed (answerNumbers (answerOf v))
+      → (r ≡ packed (answerNumbers (runOn c l readings allowance .answer))) × (k ≡ runOn c l readings allowance .bytes)
+  ran v d r h = rw (e, d) (h, refl)
+
+  pub ran-small : Bytes c → Bytes readings → (n p : ℕ) → a ≡ Unrun n p → p < 16777216
+  ran-small B R n p d = run-small c B l readings allowance R (refusal n p) (rw (e, d)) .1

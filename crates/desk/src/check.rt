@@ -1,0 +1,17 @@
+// The table check.
+use crate::pack;
+use crate::pack_refusal;
+use table::Checked;
+ghost use mathlib.Core.Path.{_≡_};
+ghost use Rattle.language.specs.Judge.{judgeTable};
+ghost use Rattle.bytecode.specs.Answers.{packed, verdictNumbers};
+
+#[no_mangle]
+pub extern "C" fn cue_check(table: &[u8]) -> u64
+    ensures { λ r. ⌜ r ≡ packed (verdictNumbers (judgeTable (now (table .entry)))) ⌝ }
+{
+    match table::check(table) {
+        Checked::Accepted => pack(1, 0, 0, 0),
+        Checked::Refused(number, place) => pack_refusal(number, place),
+    }
+}

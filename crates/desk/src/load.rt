@@ -1,0 +1,17 @@
+// The loading check.
+use crate::pack;
+use crate::pack_refusal;
+use loader::Loaded;
+ghost use mathlib.Core.Path.{_≡_};
+ghost use Rattle.bytecode.specs.Rules.{judgeMacro};
+ghost use Rattle.bytecode.specs.Answers.{packed, verdictNumbers};
+
+#[no_mangle]
+pub extern "C" fn cue_load(code: &[u8]) -> u64
+    ensures { λ r. ⌜ r ≡ packed (verdictNumbers (judgeMacro (now (code .entry)))) ⌝ }
+{
+    match loader::load(code) {
+        Loaded::Passes => pack(1, 0, 0, 0),
+        Loaded::Refused(number, place) => pack_refusal(number, place),
+    }
+}

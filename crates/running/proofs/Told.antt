@@ -1,0 +1,106 @@
+-- What a run gives, by what the inspection told.
+use mathlib.Core.Path.{_≡_, _∙_}
+use mathlib.Core.List.{List}
+use Prim.Native.Nat.{ℕ, zero, suc, _+_, _*_, _≤_, _<_}
+use native.Mathlib.Omega.{arith}
+use lib.ListN.{length}
+use borrow.Author.Tests.{ne-eqb}
+use Rattle.words.specs.Laws.{Bytes}
+use Rattle.values.specs.Ends.{refusal, refused}
+use Rattle.bytecode.specs.Rules.{judgeMacro}
+use Rattle.bytecode.specs.Machine.{Machine}
+use Rattle.bytecode.specs.Runs.{Answer, happens, spends, finishes, refuses, halts, Ran, run}
+use Rattle.bytecode.specs.State.{encode}
+use Rattle.bytecode.specs.Lent.{written, runOn}
+use Rattle.loading.specs.Promises.{passed}
+use Rattle.places.specs.Records.{classes, bodies, classPlace, bodyPlace, codeBase}
+use Rattle.places.specs.Index.{Well}
+use Rattle.records.proofs.Known.{head-of, class-of}
+use Rattle.views.specs.Views.{passing}
+use Rattle.soundness.specs.Inspecting.{Placed, Held, NotHeld, Inspects}
+use Rattle.soundness.specs.declared.Inspected.{Inspected}
+use Rattle.soundness.specs.declared.Inspected.the-variants.{Sound, Unsound, Refused}
+use Rattle.clearing.specs.Clearing.{Encodes}
+use Rattle.machine.specs.Held.{Found, Answers, Runs}
+use Rattle.machine.specs.Held as machine
+use Rattle.machine.specs.declared.Answer as machine-answer
+use Rattle.running.specs.Answers.{answerOf, ranOf, back-event}
+use Rattle.running.specs.Fields.{state-sound}
+
+-- ── the place of the first instruction is small ──
+module _ (c : List ℕ) (W : Well c) (B : Bytes c) where
+  class-high : (k : ℕ) → k ≤ classes c → classPlace c k ≤ 8 + 11 * k
+  unfolding classPlace
+  class-high zero h = omega arith
+  class-high (suc k) h = omega (arith, class-high k (omega arith), class-of c W k h .few)
+
+  body-high : (k : ℕ) → bodyPlace c k ≤ 184 + 262 * k
+  unfolding bodyPlace
+  body-high zero = omega (arith, class-high (classes c) (omega arith), head-of c W .few-classes)
+  body-high (suc k) = omega (arith, body-high k, B (bodyPlace c k + 6))
+
+  base-small : codeBase c < 65536
+  base-small = omega (arith, body-high (bodies c), head-of c W .few-bodies)
+
+pub found : (c bx cx : List ℕ) (base : ℕ) → Bytes c → Placed c bx cx base → Found c bx cx base
+found c bx cx base B P = record { bodied = P .bodied; classed = P .classed; based = P .based; small = rw (P .based) (base-small c (P .bodied .well) B) }
+
+-- ── what the inspection told ──
+module _ (c l bx cx : List ℕ) (x : Inspected) (I : Inspects c l bx cx x) where
+  pub told-sound : (base : ℕ) → x ≡ Sound base → Held c l × Placed c bx cx base
+  told-sound base e = rw e at I
+
+  pub told-unsound : x ≡ Unsound → NotHeld c l
+  told-unsound e = rw e at I
+
+  pub told-refused : (n k : ℕ) → x ≡ Refused n k → judgeMacro c ≡ refused (refusal n k)
+  told-refused n k e = rw e at I
+
+-- the state that the bytes hold once they are cleared
+pub held : (c l e : List ℕ) → Bytes c → Held c l → Encodes c l e → machine.Held c e
+held c l e B H C = record {
+  macro = H .macro;
+  reads = passing c (H .macro) (H .passes) .0;
+  passed = passed c (H .macro) B (H .passes);
+  state = H .state;
+  sounds = state-sound (H .macro) l (H .state) (H .sound);
+  bytes = C (H .macro) (H .passes) (H .state) (H .sound);
+}
+
+module _ (c l readings : List ℕ) (allowance : ℕ) where
+  -- ── the refusals ──
+  pub run-refused : (n p : ℕ) → judgeMacro c ≡ refused (refusal n p) → runOn c l readings allowance ≡ record { answer = refuses (refusal n p); bytes = l }
+  unfolding runOn
+  run-refused n p e = rw e
+
+  pub run-unsound : NotHeld c l → runOn c l readings allowance ≡ record { answer = refuses (refusal 10 0); bytes = l }
+  unfolding runOn
+  run-unsound H = rw (H .passes, H .unsound)
+
+  module _ (H : Held c l) where
+    abbrev ran : Ran
+    ran = run (H .macro) readings allowance (H .state)
+
+    run-held : runOn c l readings allowance ≡ written (ran .answer) (ran .state) l
+    unfolding runOn
+    run-held = rw (H .passes, H .sound)
+
+    pub run-unread : (length readings ≡ 64 → ⊥) → runOn c l readings allowance ≡ record { answer = refuses (refusal 11 0); bytes = l }
+    unfolding run
+    run-unread n = run-held ∙ rw (ne-eqb (length readings) 64 n)
+
+    -- ── the machine ──
+    ends-in : (a : Answer) (t : Machine) (k : List ℕ) (o : machine-answer.Answer) → Answers a o → k ≡ encode t → written a t l ≡ record { answer = answerOf (ranOf o); bytes = k }
+    ends-in (happens v n) t k o h b = rw (h, b, back-event v)
+    ends-in (spends n) t k o h b = rw (h, b)
+    ends-in (finishes d n) t k o h b = rw (h, b)
+    ends-in (refuses r) t k o h b = absurd h
+    ends-in (halts why) t k o h b = absurd h
+
+    pub run-told : (e k : List ℕ) (o : machine-answer.Answer) → Bytes c → Encodes c l e → Runs c readings allowance e k o
+        → runOn c l readings allowance ≡ record { answer = answerOf (ranOf o); bytes = k }
+    unfolding held
+    run-told e k o B C R =
+        let h = held c l e B H C in
+        let x = R (h .macro) (h .reads) (h .passed) (h .state) (h .sounds) (h .bytes) in
+        run-held ∙ ends-in (ran .answer) (ran .state) k o (x .answer) (x .bytes)
