@@ -1,7 +1,13 @@
 //! The C interface of the proved library (include/desk.h), declared for Rust, and its answers unpacked.
 
+use std::cell::RefCell;
+
+use crate::lent::Lent;
+use crate::table::MOST_BYTES;
+
 extern "C" {
     fn cue_load(code: *const u8, n: usize) -> u64;
+    fn cue_check(table: *const u8, n: usize) -> u64;
 }
 
 /// "packed = tag + 2^8 × steps + 2^24 × first + 2^40 × second"
@@ -13,4 +19,24 @@ pub fn unpacked(packed: u64) -> [u64; 4] {
 pub fn load(code: &[u8]) -> u64 {
     // SAFETY: the function reads code and nothing else, for any bytes and any length.
     unsafe { cue_load(code.as_ptr(), code.len()) }
+}
+
+/// The table check's answer.
+pub fn check(table: &[u8]) -> u64 {
+    // SAFETY: the function reads table and nothing else, for any bytes and any length.
+    unsafe { cue_check(table.as_ptr(), table.len()) }
+}
+
+thread_local! {
+    static TABLE: RefCell<Lent> = RefCell::new(Lent::new(2 * MOST_BYTES));
+}
+
+/// Number and place of the table check's verdict on bytes lent to it, (0, 0) where it accepts.
+pub fn checked(table: &[u8]) -> (u8, usize) {
+    let answer = TABLE.with_borrow_mut(|lent| lent.lend(table, check));
+    match unpacked(answer) {
+        [1, 0, 0, 0] => (0, 0),
+        [0, 0, number @ 1..=6, place] => (number as u8, place as usize),
+        other => panic!("no answer of a table check: {other:?}, table {table:?}"),
+    }
 }

@@ -1156,7 +1156,7 @@ fn damage_once(rng: &mut Rng, list: &mut Vec<Entry>) {
 }
 
 /// How many operands an entry of a valid table has.
-fn operand_count(e: Entry) -> usize {
+pub fn operand_count(e: Entry) -> usize {
     match e.kind {
         1 => e.a as usize + e.b as usize,
         53 => e.a as usize + e.b as usize + 1,
@@ -1171,7 +1171,7 @@ fn operand_count(e: Entry) -> usize {
 }
 
 /// The entry after an entry's last operand, in a valid table.
-fn end_of(list: &[Entry], at: usize) -> usize {
+pub fn end_of(list: &[Entry], at: usize) -> usize {
     let mut next = at + 1;
     for _ in 0..operand_count(list[at]) {
         next = end_of(list, next);
@@ -1180,7 +1180,7 @@ fn end_of(list: &[Entry], at: usize) -> usize {
 }
 
 /// 0 a declaration, 1 a statement, 2 an expression.
-fn sort_of(kind: u16) -> usize {
+pub fn sort_of(kind: u16) -> usize {
     match kind {
         10..=14 => 0,
         1 | 20..=30 => 1,

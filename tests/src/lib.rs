@@ -4,8 +4,10 @@
 
 pub mod agree;
 pub mod answer;
+pub mod blind;
 pub mod code;
 pub mod compile;
+pub mod damage;
 #[cfg(desk)]
 pub mod desk;
 pub mod edges;
@@ -13,15 +15,19 @@ pub mod execute;
 pub mod gen;
 pub mod gen_code;
 pub mod gen_state;
+#[cfg(desk)]
+pub mod lent;
 pub mod limits;
 pub mod machine;
 pub mod names;
 pub mod paper;
+pub mod plain_check;
 pub mod plain_loader;
 pub mod rng;
 pub mod state;
 pub mod table;
 pub mod values;
+pub mod worst;
 
 pub use names::judge_table;
 

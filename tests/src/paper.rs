@@ -59,13 +59,19 @@ use crate::answer::{Event, Item};
 use crate::code::{judge_macro, write_macro};
 use crate::execute::budget;
 use crate::names::judge_table;
+use crate::plain_check;
 
-/// The verdict on a table: number and place, (0, 0) where it is accepted.
+/// The verdict on a table: number and place, (0, 0) where it is accepted. The plain check must give
+/// the same, and so must the proved one where it is linked.
 pub fn judged(bytes: &[u8]) -> (u8, usize) {
-    match judge_table(bytes) {
+    let verdict = match judge_table(bytes) {
         Ok(_) => (0, 0),
         Err(refusal) => (refusal.number, refusal.place),
-    }
+    };
+    assert_eq!(plain_check::check(bytes), verdict, "the plain check, table {bytes:?}");
+    #[cfg(desk)]
+    assert_eq!(crate::desk::checked(bytes), verdict, "cue_check, table {bytes:?}");
+    verdict
 }
 
 /// The verdict on a table in the papers' notation.
@@ -89,6 +95,7 @@ pub fn loads(m: &Macro) -> (u8, usize) {
 /// Events as the listing prints them, and `end` with its number. The tree and its compiled
 /// code must agree; all readings are this byte.
 pub fn listing_of(bytes: &[u8], reading: u8) -> Vec<String> {
+    judged(bytes);
     let tree = match judge_table(bytes) {
         Ok(tree) => tree,
         Err(refusal) => return vec![format!("refused {} {}", refusal.number, refusal.place)],

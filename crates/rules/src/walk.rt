@@ -143,7 +143,7 @@ fn effect_after(
 }
 
 // What goes on from i, where f is the state found there.
-pub fn go_on(
+fn onward(
     l: &[u8],
     ix: &[u32],
     bx: &[u32],
@@ -159,6 +159,35 @@ pub fn go_on(
 {
     let e = effect_after(l, ix, bx, cx, base, k, i, st, f);
     leave_to(l, ix, bx, k, i, st, e)
+}
+
+// The same value built anew. An answer that comes back through memory is copied with its padding, and that stalls the walk at each address: three times its
+// time when this was left out.
+fn rebuilt(f: Moved) -> Moved
+    ensures { λ r. ⌜ r ≡ f ⌝ }
+{
+    match f {
+        Moved::Goes(h, d) => Moved::Goes(h, d),
+        Moved::Ends => Moved::Ends,
+        Moved::Bad => Moved::Bad,
+    }
+}
+
+pub fn go_on(
+    l: &[u8],
+    ix: &[u32],
+    bx: &[u32],
+    cx: &[u32],
+    base: usize,
+    k: usize,
+    i: usize,
+    st: &mut [u8],
+    f: Moved,
+) -> Moved
+    requires { ⌜ (Able (now l) (now ix) (now bx) (now cx)) × (base ≡ codeBase (now l)) × (k < bodies (now l)) × (i < count (now l)) × (length (now st) ≡ 32) × (Fit f) ⌝ }
+    ensures { λ r. ⌜ Moves (now (st .exit)) r (leave (now (l .entry)) k i (chain (flowOf f (now (st .entry))) (λ h s. effect (now (l .entry)) k (byteAt (now (l .entry)) (codePlace (now (l .entry)) i + 2)) (byteAt (now (l .entry)) (codePlace (now (l .entry)) i + 3)) (wordAt (now (l .entry)) (codePlace (now (l .entry)) i + 4)) h s))) ⌝ }
+{
+    rebuilt(onward(l, ix, bx, cx, base, k, i, st, f))
 }
 
 fn step_at(

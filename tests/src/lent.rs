@@ -1,0 +1,58 @@
+//! Memory as the desk's shell lends it, between two pages that nobody may touch: what is read or written
+//! outside a slice ends the test at once, and what is written inside shows afterwards.
+
+use std::ffi::c_void;
+
+extern "C" {
+    fn mmap(at: *mut c_void, bytes: usize, protection: i32, flags: i32, file: i32, offset: i64) -> *mut c_void;
+    fn mprotect(at: *mut c_void, bytes: usize, protection: i32) -> i32;
+    fn munmap(at: *mut c_void, bytes: usize) -> i32;
+}
+
+const PAGE: usize = 4096;
+const READ_WRITE: i32 = 3;
+const PRIVATE_ANONYMOUS: i32 = 0x22;
+
+pub struct Lent {
+    pages: *mut u8,
+    /// Between the two pages.
+    room: usize,
+    calls: usize,
+}
+
+impl Lent {
+    pub fn new(most: usize) -> Lent {
+        let room = most.div_ceil(PAGE) * PAGE;
+        // SAFETY: new pages of this process, of which the first and the last are closed.
+        let pages = unsafe {
+            let pages = mmap(std::ptr::null_mut(), room + 2 * PAGE, 0, PRIVATE_ANONYMOUS, -1, 0) as *mut u8;
+            assert_ne!(pages as isize, -1, "no memory");
+            assert_eq!(mprotect(pages.add(PAGE).cast(), room, READ_WRITE), 0);
+            pages
+        };
+        Lent { pages, room, calls: 0 }
+    }
+
+    /// Lends these bytes: in turn up to the last page, from the first page on, and at every other alignment.
+    pub fn lend<T>(&mut self, bytes: &[u8], work: impl FnOnce(&[u8]) -> T) -> T {
+        let free = self.room - bytes.len();
+        self.calls += 1;
+        let from = match self.calls % 9 {
+            0 => 0,
+            gap => free.saturating_sub(gap - 1),
+        };
+        // SAFETY: the slice lies between the two pages; nothing else refers to it.
+        let copy = unsafe { std::slice::from_raw_parts_mut(self.pages.add(PAGE + from), bytes.len()) };
+        copy.copy_from_slice(bytes);
+        let answer = work(std::hint::black_box(copy));
+        assert_eq!(std::hint::black_box(&*copy), bytes, "lent bytes stay");
+        answer
+    }
+}
+
+impl Drop for Lent {
+    fn drop(&mut self) {
+        // SAFETY: the pages of new, which no slice outlives.
+        unsafe { munmap(self.pages.cast(), self.room + 2 * PAGE) };
+    }
+}
