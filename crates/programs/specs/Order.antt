@@ -14,20 +14,20 @@ use Rattle.programs.specs.Spans.{Before, Spans, none, widen, spans-appen
 
 -- ── the faults at one entry ──
 spans-named : (f : Found) (g : Sort → Bool) (p : ℕ) → Spans p (suc p) (named f g p)
-spans-named nowhere g p = spans-one 3 p
-spans-named (found s w) g p = spans-if (not (g s)) 4 p
+spans-named nowhere g p = spans-one 3 p (omega arith)
+spans-named (found s w) g p = spans-if (not (g s)) 4 p (omega arith)
 
 before-named : (f : Found) (g : Sort → Bool) (p : ℕ) → Before (refusal 3 p) (named f g p)
 before-named nowhere g p = before-if true 3 p (omega arith)
 before-named (found s w) g p = before-if (not (g s)) 4 p (omega arith)
 
 spans-aimed : (f : Found) (p : ℕ) → Spans p (suc p) (aimed f p)
-spans-aimed nowhere p = spans-one 3 p
-spans-aimed (found (isVariable t) w) p = spans-one 4 p
-spans-aimed (found isLabel w) p = spans-if w 5 p
-spans-aimed (found (isClass ts) w) p = spans-one 4 p
-spans-aimed (found (isField c t) w) p = spans-one 4 p
-spans-aimed (found (isProcedure ts us) w) p = spans-one 4 p
+spans-aimed nowhere p = spans-one 3 p (omega arith)
+spans-aimed (found (isVariable t) w) p = spans-one 4 p (omega arith)
+spans-aimed (found isLabel w) p = spans-if w 5 p (omega arith)
+spans-aimed (found (isClass ts) w) p = spans-one 4 p (omega arith)
+spans-aimed (found (isField c t) w) p = spans-one 4 p (omega arith)
+spans-aimed (found (isProcedure ts us) w) p = spans-one 4 p (omega arith)
 
 -- a declaration with a type: its name twice, and then its class
 spans-declared : (ss : List Scope) (b : Bool) (t : Ty) (p : ℕ) → Spans p (suc p) (faultIf b 3 p ++ typeFaults ss t p)
@@ -58,23 +58,23 @@ mutual
   spans-stmt (block ds is) ss p =
       spans-append (spans-head ds (blockOf ds is ∷ ss) [] (suc p)) (spans-items is (blockOf ds is ∷ ss) (namesHead ds) (suc p + length ds)) (omega arith)
   spans-stmt (assign x e) ss p =
-      post-two (spans-target x ss (suc p)) (spans-expr e ss (suc p + sizeTarget x)) (spans-if (not (fitsTy (typeE ss e) (typeTarget ss x))) 4 p) (omega arith)
-  spans-stmt (when e s) ss p = post-two (spans-expr e ss (suc p)) (spans-stmt s ss (suc p + sizeE e)) (spans-if (not (isTy logical (typeE ss e))) 4 p) (omega arith)
+      post-two (spans-target x ss (suc p)) (spans-expr e ss (suc p + sizeTarget x)) (spans-if (not (fitsTy (typeE ss e) (typeTarget ss x))) 4 p (omega arith)) (omega arith)
+  spans-stmt (when e s) ss p = post-two (spans-expr e ss (suc p)) (spans-stmt s ss (suc p + sizeE e)) (spans-if (not (isTy logical (typeE ss e))) 4 p (omega arith)) (omega arith)
   spans-stmt (choose e s t) ss p =
       post-three (spans-expr e ss (suc p)) (spans-stmt s ss (suc p + sizeE e)) (spans-stmt t ss (suc p + sizeE e + sizeS s))
-      (spans-if (not (isTy logical (typeE ss e))) 4 p) (omega arith)
-  spans-stmt (while e s) ss p = post-two (spans-expr e ss (suc p)) (spans-stmt s ss (suc p + sizeE e)) (spans-if (not (isTy logical (typeE ss e))) 4 p) (omega arith)
+      (spans-if (not (isTy logical (typeE ss e))) 4 p (omega arith)) (omega arith)
+  spans-stmt (while e s) ss p = post-two (spans-expr e ss (suc p)) (spans-stmt s ss (suc p + sizeE e)) (spans-if (not (isTy logical (typeE ss e))) 4 p (omega arith)) (omega arith)
   spans-stmt (goto a) ss p = widen (spans-aimed (lookup a ss) p) (omega arith) (omega arith)
-  spans-stmt (assert e) ss p = post-one (spans-expr e ss (suc p)) (spans-if (not (isTy logical (typeE ss e))) 4 p) (omega arith)
+  spans-stmt (assert e) ss p = post-one (spans-expr e ss (suc p)) (spans-if (not (isTy logical (typeE ss e))) 4 p (omega arith)) (omega arith)
   spans-stmt (call a es) ss p = post-one (spans-exprs es ss (suc p)) (spans-named (lookup a ss) (callOf 0 (typesE ss es)) p) (omega arith)
   spans-stmt (setLevel e f) ss p =
       post-two (spans-expr e ss (suc p)) (spans-expr f ss (suc p + sizeE e))
-      (spans-if (not (isTy integer (typeE ss e) && isTy integer (typeE ss f))) 4 p) (omega arith)
-  spans-stmt (select e r) ss p = post-two (spans-expr e ss (suc p)) (spans-arms r ss (suc p + sizeE e)) (spans-if (not (isTy integer (typeE ss e))) 4 p) (omega arith)
+      (spans-if (not (isTy integer (typeE ss e) && isTy integer (typeE ss f))) 4 p (omega arith)) (omega arith)
+  spans-stmt (select e r) ss p = post-two (spans-expr e ss (suc p)) (spans-arms r ss (suc p + sizeE e)) (spans-if (not (isTy integer (typeE ss e))) 4 p (omega arith)) (omega arith)
 
   spans-items : (is : Items) (ss : List Scope) (seen : List ℕ) (p : ℕ) → Spans p (p + sizeItems is) (faultsItems ss seen p is)
   spans-items noItem ss seen p = none
-  spans-items (label a is) ss seen p = spans-append (spans-if (among a seen) 3 p) (spans-items is ss (a ∷ seen) (suc p)) (omega arith)
+  spans-items (label a is) ss seen p = spans-append (spans-if (among a seen) 3 p (omega arith)) (spans-items is ss (a ∷ seen) (suc p)) (omega arith)
   spans-items (item s is) ss seen p = spans-append (spans-stmt s ss p) (spans-items is ss seen (p + sizeS s)) (omega arith)
 
   spans-arms : (r : Arms) (ss : List Scope) (p : ℕ) → Spans p (p + sizeArms r) (faultsArms ss p r)
@@ -94,13 +94,13 @@ mutual
   spans-expr (invoke a es) ss p = post-one (spans-exprs es ss (suc p)) (spans-named (lookup a ss) (callOf 1 (typesE ss es)) p) (omega arith)
   spans-expr (field a e) ss p = post-one (spans-expr e ss (suc p)) (spans-named (lookup a ss) (fieldOf (typeE ss e)) p) (omega arith)
   spans-expr (make c es) ss p = post-one (spans-exprs es ss (suc p)) (spans-named (lookup c ss) (classFrom (typesE ss es)) p) (omega arith)
-  spans-expr (operate1 o e) ss p = post-one (spans-expr e ss (suc p)) (spans-if (not (hasTy (typeE ss (operate1 o e)))) 4 p) (omega arith)
+  spans-expr (operate1 o e) ss p = post-one (spans-expr e ss (suc p)) (spans-if (not (hasTy (typeE ss (operate1 o e)))) 4 p (omega arith)) (omega arith)
   spans-expr (operate2 o e f) ss p =
-      post-two (spans-expr e ss (suc p)) (spans-expr f ss (suc p + sizeE e)) (spans-if (not (hasTy (typeE ss (operate2 o e f)))) 4 p) (omega arith)
+      post-two (spans-expr e ss (suc p)) (spans-expr f ss (suc p + sizeE e)) (spans-if (not (hasTy (typeE ss (operate2 o e f)))) 4 p (omega arith)) (omega arith)
   spans-expr (conditional e f g) ss p =
       post-three (spans-expr e ss (suc p)) (spans-expr f ss (suc p + sizeE e)) (spans-expr g ss (suc p + sizeE e + sizeE f))
-      (spans-if (not (isTy logical (typeE ss e) && sameTy (typeE ss f) (typeE ss g))) 4 p) (omega arith)
-  spans-expr (fader e) ss p = post-one (spans-expr e ss (suc p)) (spans-if (not (isTy integer (typeE ss e))) 4 p) (omega arith)
+      (spans-if (not (isTy logical (typeE ss e) && sameTy (typeE ss f) (typeE ss g))) 4 p (omega arith)) (omega arith)
+  spans-expr (fader e) ss p = post-one (spans-expr e ss (suc p)) (spans-if (not (isTy integer (typeE ss e))) 4 p (omega arith)) (omega arith)
   spans-expr (blockExpr ds is e) ss p =
       let inner = expressionOf ds is ∷ ss in
       let k = suc p + length ds in
@@ -117,12 +117,12 @@ spans-body (function t e) ss p = spans-expr e ss p
 
 spans-global : (g : Global) (ss : List Scope) (seen : List ℕ) (p : ℕ) → Spans p (p + sizeGlobal g) (faultsGlobal ss seen p g)
 spans-global (local d) ss seen p = spans-head (d ∷ []) ss seen p
-spans-global (class c xs) ss seen p = post-one (spans-typed xs ss (c ∷ seen) (suc p)) (spans-if (among c seen) 3 p) (omega arith)
+spans-global (class c xs) ss seen p = post-one (spans-typed xs ss (c ∷ seen) (suc p)) (spans-if (among c seen) 3 p (omega arith)) (omega arith)
 spans-global (procedure a xs b) ss seen p =
     let inner = procedureOf xs ∷ ss in
     let f = not (bodyFits inner b) in
     post-two (spans-typed xs inner [] (suc p)) (spans-body b inner (suc p + length xs))
-    (three-first (among a seen) p (before-if f 4 p (omega arith)) (spans-if f 4 p)) (omega arith)
+    (three-first (among a seen) p (before-if f 4 p (omega arith)) (spans-if f 4 p (omega arith))) (omega arith)
 
 spans-globals : (gs : List Global) (ss : List Scope) (seen : List ℕ) (p n : ℕ) (k : List ℕ → ℕ → List Refusal)
     → ((names : List ℕ) (q : ℕ) → Spans q (q + n) (k names q)) → Spans p (p + (total sizeGlobal gs + n)) (faultsGlobals ss seen p gs k)

@@ -1,4 +1,4 @@
--- Refusals of a range of places of which those at one place come in the order of their numbers.
+-- Refusals by 3, 4, 5 of a range of places, of which those at one place come in the order of their numbers.
 use mathlib.Core.Path.{_≡_}
 use mathlib.Core.Bool.{Bool, true, false}
 use mathlib.Core.List.{List, [], _∷_, _++_, append-assoc}
@@ -14,17 +14,17 @@ Before r (s ∷ ss) = (r .place ≡ s .place → r .number ≤ s .number) × Bef
 
 pub data Spans (lo hi : ℕ) : List Refusal → Type 0 where
   none : Spans lo hi []
-  more : {r : Refusal} {rs : List Refusal} → lo ≤ r .place → r .place < hi → Before r rs → Spans lo hi rs → Spans lo hi (r ∷ rs)
+  more : {r : Refusal} {rs : List Refusal} → (lo ≤ r .place) × (r .place < hi) × (r .number ≤ 5) → Before r rs → Spans lo hi rs → Spans lo hi (r ∷ rs)
 
 -- a refusal and another that stands somewhere after it
 pub spans-order : {lo hi : ℕ} (xs ys zs : List Refusal) (a b : Refusal) → Spans lo hi (xs ++ (a ∷ (ys ++ (b ∷ zs)))) → a .place ≡ b .place
     → a .number ≤ b .number
-spans-order [] ys zs a b (more l h c s) e = here ys c
+spans-order [] ys zs a b (more h c s) e = here ys c
   where
     here : (ys : List Refusal) → Before a (ys ++ (b ∷ zs)) → a .number ≤ b .number
     here [] c = c .0 e
     here (y ∷ ys) c = here ys (c .1)
-spans-order (x ∷ xs) ys zs a b (more l h c s) e = spans-order xs ys zs a b s e
+spans-order (x ∷ xs) ys zs a b (more h c s) e = spans-order xs ys zs a b s e
 
 -- ── one after the other ──
 before-append : (r : Refusal) (xs ys : List Refusal) → Before r xs → Before r ys → Before r (xs ++ ys)
@@ -42,16 +42,16 @@ pub record Room (lo hi a b c d : ℕ) : Type 0 where
 before-apart : {a b c d : ℕ} → ((n m : ℕ) → a ≤ n → n < b → c ≤ m → m < d → n ≡ m → ⊥) → (r : Refusal) {ys : List Refusal} → a ≤ r .place
     → r .place < b → Spans c d ys → Before r ys
 before-apart g r l h none = tt
-before-apart g r l h (more {r = s} l₂ h₂ e rest) = (λ p. absurd (g (r .place) (s .place) l h l₂ h₂ p), before-apart g r l h rest)
+before-apart g r l h (more {r = s} k e rest) = (λ p. absurd (g (r .place) (s .place) l h (k .0) (k .1) p), before-apart g r l h rest)
 
 pub widen : {lo hi c d : ℕ} {ys : List Refusal} → Spans c d ys → lo ≤ c → d ≤ hi → Spans lo hi ys
 widen none p q = none
-widen (more {r = r} l h e s) p q = more {r = r} (omega arith) (omega arith) e (widen s p q)
+widen (more {r = r} h e s) p q = more {r = r} (omega (arith, h .0), omega (arith, h .1), h .2) e (widen s p q)
 
 pub spans-append : {lo hi a b c d : ℕ} {xs ys : List Refusal} → Spans a b xs → Spans c d ys → Room lo hi a b c d → Spans lo hi (xs ++ ys)
 spans-append none k g = widen k (g .low₂) (g .high₂)
-spans-append {ys = ys} (more {r = r} {rs = rs} l h e s) k g =
-    more {r = r} (omega arith) (omega arith) (before-append r rs ys e (before-apart (g .apart) r l h k)) (spans-append s k g)
+spans-append {ys = ys} (more {r = r} {rs = rs} h e s) k g =
+    more {r = r} (omega (arith, h .0), omega (arith, h .1), h .2) (before-append r rs ys e (before-apart (g .apart) r (h .0) (h .1) k)) (spans-append s k g)
 
 pub spans-then : {a b c : ℕ} {xs ys : List Refusal} → Spans a b xs → Spans b c ys → (a ≤ b) × (b ≤ c) → Spans a c (xs ++ ys)
 spans-then h k g = spans-append h k (omega arith)
@@ -75,12 +75,12 @@ module _ {p x hi : ℕ} {xs own : List Refusal} (a : Spans (suc p) x xs) where
       rw (← append-assoc ys zs own, ← append-assoc xs (ys ++ zs) own, ← append-assoc xs ys zs) (spans-append abc k (omega arith))
 
 -- ── the faults at one entry ──
-pub spans-one : (n p : ℕ) → Spans p (suc p) (refusal n p ∷ [])
-spans-one n p = more {r = refusal n p} (omega arith) (omega arith) tt none
+pub spans-one : (n p : ℕ) → n ≤ 5 → Spans p (suc p) (refusal n p ∷ [])
+spans-one n p h = more {r = refusal n p} (omega arith, omega arith, h) tt none
 
-pub spans-if : (b : Bool) (n p : ℕ) → Spans p (suc p) (faultIf b n p)
-spans-if true n p = spans-one n p
-spans-if false n p = none
+pub spans-if : (b : Bool) (n p : ℕ) → n ≤ 5 → Spans p (suc p) (faultIf b n p)
+spans-if true n p h = spans-one n p h
+spans-if false n p h = none
 
 pub before-if : (b : Bool) (n p : ℕ) → 3 ≤ n → Before (refusal 3 p) (faultIf b n p)
 before-if true n p h = (λ e. h, tt)
@@ -89,5 +89,5 @@ before-if false n p h = tt
 -- 3 before others at the same entry
 pub three-first : {ys : List Refusal} (b : Bool) (p : ℕ) → Before (refusal 3 p) ys → Spans p (suc p) ys
     → Spans p (suc p) (faultIf b 3 p ++ ys)
-three-first true p c s = more {r = refusal 3 p} (omega arith) (omega arith) c s
+three-first true p c s = more {r = refusal 3 p} (omega arith, omega arith, omega arith) c s
 three-first false p c s = s

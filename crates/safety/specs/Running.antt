@@ -23,7 +23,7 @@ use Rattle.bytecode.specs.Sound.{all, soundGroup, sound}
 use Rattle.loading.specs.Tests.{both, halves}
 use Rattle.loading.specs.Terms.{Each, Passed, Allowed}
 use Rattle.loading.specs.Promises.{entry}
-use Rattle.safety.specs.Terms.{counted, occurs, isHold, isRelease, holdsOf, releasesOf, openHolds, Moves, Steps, eventOf, eventsOf, stateAfter, Answers, SafeRun, EachSafe}
+use Rattle.safety.specs.Terms.{counted, occurs, isHold, isRelease, holdsOf, releasesOf, openHolds, InRange, Moves, Steps, eventOf, eventsOf, stateAfter, Answers, SafeRun, EachSafe}
 use Rattle.safety.specs.Lists.{all-first, all-none, fresh-types, fresh-values}
 use Rattle.safety.specs.States.{running-sound, running-back}
 use Rattle.safety.specs.Steps.{safe-running}
@@ -55,6 +55,7 @@ module _ (m : Macro) (w : Passed m) where
         still-sound = both (a .0)
             (both (le-leb (length gs) 512 (omega (arith, leb-true (length (g ∷ gs)) 512 (b .0)))) (all-first soundGroup g gs (b .1) .1));
         one-item = omega arith;
+        in-range = (leb-true g 63 (all-first soundGroup g gs (b .1) .0), tt);
         account = λ x. less-one (eqb g x) (occurs x gs);
       }
   safe-any bank low (unwinding [] (endBy c)) h =
@@ -62,9 +63,10 @@ module _ (m : Macro) (w : Passed m) where
         still-sound = or-condition (eqb c 0) (isCondition c)
             (halves (isCondition c) (leb 0 512 && all soundGroup []) h .0);
         one-item = omega arith;
+        in-range = tt;
         account = λ g. refl;
       }
-  safe-any bank low (ended c) h = record { still-sound = h; one-item = omega arith; account = λ g. refl }
+  safe-any bank low (ended c) h = record { still-sound = h; one-item = omega arith; in-range = tt; account = λ g. refl }
 
   -- ── the fresh machine ──
   first-body : (bs : List Body) → 1 ≤ length bs → (b : Body) × (getElem? bs 0 ≡ some b)
@@ -98,7 +100,7 @@ module _ (m : Macro) (w : Passed m) where
   -- ── a run ──
   -- what n steps, and at most `left` more, from state s may answer
   abbrev Goes : ℕ → ℕ → Answer → Machine → Type 0
-  Goes n left (happens e k) t = k ≤ n + left
+  Goes n left (happens e k) t = (k ≤ n + left) × InRange e
   Goes n left (spends k) t = k ≡ n + left
   Goes n left (finishes c k) t = (k ≤ n + left) × (t ≡ ended c) × ((c ≡ 0) ⊎ (isCondition c ≡ true))
   Goes n left (refuses r) t = ⊥
@@ -113,7 +115,7 @@ module _ (m : Macro) (w : Passed m) where
     account : Account s x
 
   later : (n left : ℕ) (a : Answer) (t : Machine) → Goes (suc n) left a t → Goes n (suc left) a t
-  later n left (happens e k) t h = omega arith
+  later n left (happens e k) t h = (omega (arith, h .0), h .1)
   later n left (spends k) t h = omega arith
   later n left (finishes c k) t h = (omega (arith, h .0), h .1, h .2)
   later n left (refuses r) t h = h
@@ -153,7 +155,7 @@ module _ (m : Macro) (w : Passed m) where
         → Went n (suc left) s (visible is t (suc n) (λ t. steps m bank left (suc n) t))
     unfolding holdsOf releasesOf
     shown n left s [] t v ih = silent n left s t (v .still-sound) (λ g. omega (arith, v .account g)) ih
-    shown n left s (event e ∷ []) t v ih = record { sounds = v .still-sound; goes = omega arith; account = v .account }
+    shown n left s (event e ∷ []) t v ih = record { sounds = v .still-sound; goes = (omega arith, v .in-range .0); account = v .account }
     shown n left s (event e ∷ (i ∷ is)) t v ih = absurd (omega (arith, v .one-item))
     shown n left s (reading x y ∷ []) t v ih = silent n left s t (v .still-sound) (λ g. omega (arith, v .account g)) ih
     shown n left s (reading x y ∷ (i ∷ is)) t v ih = absurd (omega (arith, v .one-item))
@@ -171,7 +173,7 @@ module _ (m : Macro) (w : Passed m) where
 
   -- from 0 steps of a run of 64 readings
   answers-of : (f : Feed) (s : Machine) (a : Answer) (t : Machine) → length (f .readings) ≡ 64 → Goes 0 (f .allowance) a t → Answers f s a t
-  answers-of f s (happens e k) t n h = (n, omega arith)
+  answers-of f s (happens e k) t n h = (n, omega (arith, h .0), h .1)
   answers-of f s (spends k) t n h = (n, omega arith)
   answers-of f s (finishes c k) t n h = (n, omega (arith, h .0), h .1, h .2)
   answers-of f s (refuses r) t n h = absurd h

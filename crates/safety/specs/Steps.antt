@@ -6,11 +6,11 @@ use mathlib.Core.Option.{Option, none, some}
 use Prim.Native.Nat.{ℕ, suc, _+_, _≤_, _<_}
 use native.Mathlib.Omega.{arith}
 use lib.Dec.{eqb, leb, ltb}
-use lib.IntN.{pos}
+use lib.IntN.{ℤ, pos, negsuc}
 use lib.ListN.{length, length-set, getElem?, take, drop, length-append, take-append-drop}
 use lib.ListN.{set as put}
 use lib.Seq.{length-take-le}
-use borrow.Author.Tests.{eq-eqb, le-leb, ltb-true, lt-ltb}
+use borrow.Author.Tests.{eq-eqb, le-leb, leb-true, ltb-true, lt-ltb}
 use Rattle.words.specs.Choice.{if_then_else_}
 use Rattle.values.specs.Types.{Ty, integer, logical, reference, fits, sames, allFit}
 use Rattle.values.specs.Ends.{isCondition, fieldOfNull, assertFalse, caseIndex, outOfRange, tooManyActivations, tooManyRecords}
@@ -24,15 +24,19 @@ use Rattle.bytecode.specs.Rules.{onStack, cellsOf}
 use Rattle.bytecode.specs.Rules.{cellTy as cellType}
 use Rattle.bytecode.specs.Machine.{Activation, Made, Here, Machine, running, ended, noStep, badType, badFrame, Stepped, moved, demand, allHolds, condition, at, withHolds, goesOn, settled, given, cellsFor, putCells, doLoad, doStore, doOperate, goes, doGoUnless, popMany, assignAll, activation, entering, doCall, handDown, isEmpty, doReturn, doEnd, withRecords, recording, doMake, onMade, doGetField, fieldPut, doPutField, doSet, doFader, doTakeHold, letting, doAssert, doPush, act, fetch, step}
 use Rattle.bytecode.specs.Sound.{all, soundValue, cellValues, soundRecord, soundGroup, parametersOf, sound}
-use Rattle.loading.specs.Tests.{same-some, sames-refl}
-use Rattle.loading.specs.Terms.{Named, ReadBody, Passed, Allowed, Finds}
+use Rattle.loading.specs.Tests.{same-some, halves, sames-refl}
+use Rattle.loading.specs.Terms.{Each, Named, ReadBody, Passed, Allowed, Finds}
 use Rattle.loading.specs.Promises.{at-place, cells-at-most-32, entry, limits, ops}
-use Rattle.safety.specs.Terms.{Fine, counted, occurs, holdsOf, releasesOf, eventsIn, Moves, Steps}
+use Rattle.safety.specs.Terms.{Fine, counted, occurs, holdsOf, releasesOf, eventsIn, InRange, Moves, Steps}
 use Rattle.safety.specs.Operators.{unary-fine, binary-fine}
 use Rattle.safety.specs.Lists.{all-append, all-at, all-put, all-first, all-cons, all-none, all-weaker, tys-length, tys-append, tys-none, tys-at, tys-put, fits-itself, cell-at, cells-put, cells-append, assigned-values, fresh-types, fresh-values}
 use Rattle.safety.specs.States.{Stands, Waits, Waiting, Around, frame-at, around-at, typed, typed-back, running-back, unwinds}
 use Rattle.safety.specs.Operands.{OnTop, on-top, take-off, resumes, not-root, fits-same, empty, demanded, chosen, supplied, topped, an-integer, a-logical, a-reference}
 use Rattle.safety.specs.Records.{ownerBody, keeps-append, keeps-put, last-made, made-at, record-typed, record-sound, keeps-records, around-records, root-frame, put-holds, put-stands, around-put}
+
+size-between : (lo hi : ℕ) (x : ℤ) → between lo hi x ≡ true → (lo ≤ size x) × (size x ≤ hi)
+size-between lo hi (pos n) h = let q = halves (leb lo n) (leb n hi) h in (leb-true lo n (q .0), leb-true n hi (q .1))
+size-between lo hi (negsuc n) h = let z : _≡_ {A = ℕ} 0 1 = cc h in absurd (omega arith)
 
 module _ (m : Macro) (w : Passed m) (bank : ℕ → ℕ) (low : (n : ℕ) → bank n < 256)
     (rs : List Made) (f : Activation) (fs : List Activation) (r : Around m (record { records = rs; top = f; below = fs }))
@@ -49,23 +53,26 @@ module _ (m : Macro) (w : Passed m) (bank : ℕ → ℕ) (low : (n : ℕ) → ba
 
   -- at most one item, and no hold or release
   abbrev Quiet : List Item → Type 0
-  Quiet is = (length is ≤ 1) × ((g : ℕ) → (holdsOf g (eventsIn is) ≡ 0) × (releasesOf g (eventsIn is) ≡ 0))
+  Quiet is = (length is ≤ 1) × ((g : ℕ) → (holdsOf g (eventsIn is) ≡ 0) × (releasesOf g (eventsIn is) ≡ 0)) × Each InRange (eventsIn is)
 
   nothing : Quiet []
   unfolding holdsOf releasesOf
-  nothing = (omega arith, λ g. (refl, refl))
+  nothing = (omega arith, λ g. (refl, refl), tt)
 
-  a-set : (c l : ℕ) → Quiet (event (set c l) ∷ [])
+  a-set : (x y : ℤ) → (between 1 512 x && between 0 255 y) ≡ true → Quiet (event (set (size x) (size y)) ∷ [])
   unfolding holdsOf releasesOf
-  a-set c l = (omega arith, λ g. (refl, refl))
+  a-set x y e =
+      let h = halves (between 1 512 x) (between 0 255 y) e in
+      let c = size-between 1 512 x (h .0) in
+      (omega arith, λ g. (refl, refl), ((c .0, c .1, size-between 0 255 y (h .1) .1), tt))
 
   a-reading : (n v : ℕ) → Quiet (reading n v ∷ [])
   unfolding holdsOf releasesOf
-  a-reading n v = (omega arith, λ g. (refl, refl))
+  a-reading n v = (omega arith, λ g. (refl, refl), tt)
 
   by-condition : (c : ℕ) → isCondition c ≡ true → Steps m state (condition c here)
   unfolding condition holdsOf releasesOf
-  by-condition c h = record { still-sound = unwinds m w rs f fs c s r h; one-item = omega arith; account = λ g. refl }
+  by-condition c h = record { still-sound = unwinds m w rs f fs c s r h; one-item = omega arith; in-range = tt; account = λ g. refl }
 
   -- the top goes on, after a change that leaves its holds as they are
   goes-on : (is : List Item) (vs : List Value) (h : Here) → Quiet is → Around m h
@@ -80,6 +87,7 @@ module _ (m : Macro) (w : Passed m) (bank : ℕ → ℕ) (low : (n : ℕ) → ba
         still-sound = running-back m w (h .records) (at (suc (h .top .address)) vs (h .top)) (h .below)
             (around-at m h (suc (h .top .address)) vs x) a v;
         one-item = q .0;
+        in-range = q .2;
         account = λ g. ap₂ (λ x y. x + y) (q .1 g .0 ∙ sym (q .1 g .1)) (ap (occurs g) e);
       })
 
@@ -196,6 +204,7 @@ module _ (m : Macro) (w : Passed m) (bank : ℕ → ℕ) (low : (n : ℕ) → ba
     still-sound = running-back m w rs (at j vs f) fs
         (around-at m here j vs r) a v;
     one-item = omega arith;
+    in-range = tt;
     account = λ g. refl;
   }
 
@@ -262,6 +271,7 @@ module _ (m : Macro) (w : Passed m) (bank : ℕ → ℕ) (low : (n : ℕ) → ba
                 })
                 (entry m w k b e) (all-none (soundValue rs));
             one-item = omega arith;
+            in-range = tt;
             account = λ g. refl;
           }
 
@@ -332,6 +342,7 @@ module _ (m : Macro) (w : Passed m) (bank : ℕ → ℕ) (low : (n : ℕ) → ba
       finish e z = record {
         still-sound = unfold sound in refl;
         one-item = omega arith;
+        in-range = tt;
         account = λ g. unfold holdsOf releasesOf allHolds occurs in ap₂
             (λ (x : List ℕ) (y : List Activation). 0 + occurs g (x ++ allHolds y)) e z;
       }
@@ -440,7 +451,7 @@ module _ (m : Macro) (w : Passed m) (bank : ℕ → ℕ) (low : (n : ℕ) → ba
       (an-integer m state (p .value) _ (p .its-type) (λ x.
       an-integer m state (q .value) _ (q .its-type) (λ y.
       chosen m state (between 1 512 x && between 0 255 y) _ _
-      (λ e. drops (event (set (size x) (size y)) ∷ []) (p .others) (d .0) (a-set (size x) (size y)) (p .their-types) (p .they-sound) (d .2))
+      (λ e. drops (event (set (size x) (size y)) ∷ []) (p .others) (d .0) (a-set x y e) (p .their-types) (p .they-sound) (d .2))
       (λ e. by-condition outOfRange refl)))))
 
   a-byte : (n : ℕ) → soundValue rs (int (pos (bank n))) ≡ true
@@ -485,6 +496,7 @@ module _ (m : Macro) (w : Passed m) (bank : ℕ → ℕ) (low : (n : ℕ) → ba
       (record {
         still-sound = holding (g ∷ f .holds) (all-cons soundGroup g (f .holds) (le-leb g 63 (d .0)) (r .frame .groups)) (d .1);
         one-item = omega arith;
+        in-range = (d .0, tt);
         account = λ x. one-more (eqb g x) (occurs x (f .holds ++ allHolds fs));
       })
 
@@ -495,10 +507,12 @@ module _ (m : Macro) (w : Passed m) (bank : ℕ → ℕ) (low : (n : ℕ) → ba
       pick [] e h = absurd (omega (arith, ap length e))
       pick (g ∷ gs) e h =
           let n : length gs ≡ d .0 = omega (arith, ap length e) in
+          let groups = all-first soundGroup g gs (subst (λ z. all soundGroup z ≡ true) e (r .frame .groups)) in
           record {
-            still-sound = holding gs (all-first soundGroup g gs (subst (λ z. all soundGroup z ≡ true) e (r .frame .groups)) .1)
+            still-sound = holding gs (groups .1)
                 (subst (λ z. Allowed m (f .body) (suc (f .address)) (shape z (tysOf (f .operands)))) (sym n) (d .2));
             one-item = omega arith;
+            in-range = (leb-true g 63 (groups .0), tt);
             account = λ x. unfold holdsOf releasesOf allHolds occurs in ap (λ (z : List ℕ). 0 + occurs x (z ++ allHolds fs)) e
                 ∙ sym (one-more (eqb g x) (occurs x (gs ++ allHolds fs)));
           }

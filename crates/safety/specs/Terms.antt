@@ -15,6 +15,7 @@ use Rattle.bytecode.specs.Macro.{Macro}
 use Rattle.bytecode.specs.Machine.{Made, Machine, running, unwinding, ended, Stepped, moved, stuck, allHolds, step}
 use Rattle.bytecode.specs.Runs.{Answer, happens, spends, finishes, refuses, halts, Ran, Feed}
 use Rattle.bytecode.specs.Sound.{soundValue, sound}
+use Rattle.loading.specs.Terms.{Each}
 
 -- ── operators ──
 -- what an operator that gives type t may come to: a value of that type, sound whatever records are made, or a condition
@@ -65,10 +66,17 @@ eventsIn [] = []
 eventsIn (event e ∷ is) = e ∷ eventsIn is
 eventsIn (reading f v ∷ is) = eventsIn is
 
+-- channel, level and group as the paper numbers them
+abbrev pub InRange : Event → Type 0
+InRange (set c l) = (1 ≤ c) × (c ≤ 512) × (l ≤ 255)
+InRange (hold g) = g ≤ 63
+InRange (release g) = g ≤ 63
+
 -- a safe step from s to t: t is sound, at most one item is given, and each hold open in s or given is open in t or released
 pub record Moves (m : Macro) (s : Machine) (is : List Item) (t : Machine) : Type 0 where
   pub still-sound : sound m t ≡ true
   pub one-item : length is ≤ 1
+  pub in-range : Each InRange (eventsIn is)
   pub account : (g : ℕ) → holdsOf g (eventsIn is) + openHolds g s ≡ releasesOf g (eventsIn is) + openHolds g t
 
 -- a step from s: there is one, and it is safe
@@ -99,9 +107,9 @@ stateAfter s [] = s
 stateAfter s (r ∷ rs) = stateAfter (r .state) rs
 
 -- what a run of this feed from state s may answer, with state t after it: never without a next step; a refusal is 11, given exactly
--- where the readings are not 64 bytes, and leaves the state as it is; an end is 0 or a condition
+-- where the readings are not 64 bytes, and leaves the state as it is; an event's numbers are in range; an end is 0 or a condition
 abbrev pub Answers : Feed → Machine → Answer → Machine → Type 0
-Answers f s (happens e n) t = (length (f .readings) ≡ 64) × (n ≤ f .allowance)
+Answers f s (happens e n) t = (length (f .readings) ≡ 64) × (n ≤ f .allowance) × InRange e
 Answers f s (spends n) t = (length (f .readings) ≡ 64) × (n ≡ f .allowance)
 Answers f s (finishes c n) t = (length (f .readings) ≡ 64) × (n ≤ f .allowance) × (t ≡ ended c) × ((c ≡ 0) ⊎ (isCondition c ≡ true))
 Answers f s (refuses r) t = (length (f .readings) ≡ 64 → ⊥) × (r ≡ refusal 11 0) × (t ≡ s)

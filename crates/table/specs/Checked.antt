@@ -86,4 +86,4 @@ place-small l n p e = go (judgeTable l) (narrow l) e
   where
     go : (j : Judged Tree) → Narrow j → Refused n p ≡ checkedOf j → p ≤ 2048
     go (accepted t) h k = clash (cc)
-    go (refused r) h k = let z : p ≡ r .place = cc in omega arith
+    go (refused r) h k = let z : p ≡ r .place = cc in omega (arith, h .1)

@@ -1,4 +1,4 @@
--- How large the place of a refusal can be: at most the number of entries, of which a table has at most 2,048.
+-- How large the numbers of a refusal can be: its number is 1 to 6, its place at most the number of entries, of which a table has at most 2,048.
 use mathlib.Core.Path.{_≡_, refl, ap}
 use mathlib.Core.Bool.{Bool, true, false, not, _||_}
 use mathlib.Core.List.{List, [], _∷_, _++_}
@@ -23,7 +23,7 @@ use Rattle.roots.specs.Tables.{read-held}
 
 abbrev pub Narrow : Judged Tree → Type 0
 Narrow (accepted t) = Unit {0}
-Narrow (refused r) = r .place ≤ 2048
+Narrow (refused r) = (r .number ≤ 6) × (r .place ≤ 2048)
 
 -- ── how many entries a tree has ──
 length-head : (gs : List Global) → length (flatHead gs) ≡ total sizeGlobal gs
@@ -72,8 +72,8 @@ sixes l t e =
 one-narrow : (es : List Entry) → length es ≤ 2048 → (x : Read Tree) → Narrow (oneTree es x)
 unfolding oneTree
 one-narrow es h (took t []) = tt
-one-narrow es h (took t (x ∷ xs)) = omega arith
-one-narrow es h (stop xs) = omega arith
+one-narrow es h (took t (x ∷ xs)) = (omega arith, omega arith)
+one-narrow es h (stop xs) = (omega arith, omega arith)
 
 read-narrow : (l : List ℕ) → Narrow (readTable l)
 unfolding readTable
@@ -81,16 +81,16 @@ read-narrow l = go (eqb (length l) 0) (ltb 16384 (length l)) (eqb (length l % 8)
   where
     go : (a b c : Bool) → ltb 16384 (length l) ≡ b
         → Narrow (if a || (b || not c) then refused (refusal 1 0) else oneTree (entriesOf l) (first formRoot (entriesOf l)))
-    go true b c e = omega arith
-    go false true c e = omega arith
-    go false false false e = omega arith
+    go true b c e = (omega arith, omega arith)
+    go false true c e = (omega arith, omega arith)
+    go false false false e = (omega arith, omega arith)
     go false false true e =
         one-narrow (entriesOf l) (omega (arith, length-entries (length l / 8) l, ltb-false 16384 (length l) e)) (first formRoot (entriesOf l))
 
 first-narrow : (t : Tree) {lo hi : ℕ} {fs : List Refusal} (ls : List Refusal) → Spans lo hi fs → hi ≤ 2048 → Sixes 2048 ls → Narrow (firstFault t (fs ++ ls))
 first-narrow t [] none h s = tt
-first-narrow t (r ∷ rs) none h s = omega (arith, s .1)
-first-narrow t ls (more a b c d) h s = omega arith
+first-narrow t (r ∷ rs) none h s = (omega (arith, s .0), omega (arith, s .1))
+first-narrow t ls (more a b c) h s = (omega (arith, a .2), omega (arith, a .1))
 
 pub narrow : (l : List ℕ) → Narrow (judgeTable l)
 unfolding judgeTable
