@@ -2,24 +2,24 @@
 use mathlib.Core.Path.{_≡_, refl, ap, sym, _∙_}
 use mathlib.Core.Bool.{Bool, true, false, _&&_, _||_}
 use mathlib.Core.List.{List, [], _∷_}
-use Prim.Native.Nat.{ℕ, suc, _+_, _-_, _*_, _≤_, _<_}
+use Prim.Native.Nat.{ℕ, zero, suc, _+_, _-_, _*_, _≤_, _<_}
 use native.Mathlib.Omega.{arith}
 use native.Mathlib.Nat.{add-assoc, zero-add}
 use native.Mathlib.Numerals.{add-one}
-use lib.Dec.{eqb}
+use lib.Dec.{eqb, leb}
 use lib.ListN.{length, getD, drop}
 use lib.Seq.{drop-cons, drop-length}
-use borrow.Author.Tests.{eqb-true}
+use borrow.Author.Tests.{eqb-true, leb-true}
 use Rattle.words.specs.Choice.{if_then_else_}
 use Rattle.language.specs.Table.{Entry, below}
-use Rattle.programs.specs.Basics.{both-left}
+use Rattle.programs.specs.Basics.{both-left, both-right}
 use Rattle.programs.specs.Claims.{entriesOf}
 use Rattle.reader.specs.declared.kinds.Sort.{Sort}
 use Rattle.reader.specs.declared.kinds.Sort.the-variants.{Typed, Decl, Part, Stmt, Target, Expr}
 use Rattle.reader.specs.declared.Read.{Read}
 use Rattle.reader.specs.declared.Read.the-variants.{Tree, Fault}
 use Rattle.reader.specs.Operands.{isS, isE, sorts}
-use Rattle.reader.specs.Walk.{shapeOf, leafOf, counted, moved, chain, kindAt, nameAt, sizeAt, laidAt, standsAt, sortsAt, admits, entered, walk}
+use Rattle.reader.specs.Walk.{shapeOf, leafOf, counted, moved, chain, kindAt, nameAt, sizeAt, laidAt, standsAt, atomAt, sortsAt, admits, entered, walk}
 use Rattle.reader.proofs.Ends.{ends-shape, ends-count}
 use Rattle.reader.proofs.Forms.{walks}
 use Rattle.reader.proofs.Parts.{entries-length}
@@ -123,6 +123,19 @@ either-true : {A : Type 0} (a b : Bool) → (a || b) ≡ true → (a ≡ true �
 either-true true b e f g = f refl
 either-true false b e f g = g e
 
+-- the kinds from 40 to 44 are expressions and have no operands
+atoms : (k : ℕ) → 40 ≤ k → k ≤ 44 → (isE k ≡ true) × ((a n : ℕ) → sorts k a n ≡ [])
+unfolding isE sorts
+atoms k h g = let e : k ≡ 40 + (k - 40) = omega arith in rw e (go (k - 40) (omega arith))
+  where
+    go : (j : ℕ) → j ≤ 4 → (isE (40 + j) ≡ true) × ((a n : ℕ) → sorts (40 + j) a n ≡ [])
+    go zero h = (refl, λ a n. refl)
+    go (suc zero) h = (refl, λ a n. refl)
+    go (suc (suc zero)) h = (refl, λ a n. refl)
+    go (suc (suc (suc zero))) h = (refl, λ a n. refl)
+    go (suc (suc (suc (suc zero)))) h = (refl, λ a n. refl)
+    go (suc (suc (suc (suc (suc j))))) h = absurd (omega arith)
+
 pub walk-none : (d : ℕ) (s : Sort) (es : List Entry) → d ≡ 0 → walk d s es ≡ Fault 0
 unfolding walk
 walk-none d s es e = rw e
@@ -158,14 +171,25 @@ module _ (d : ℕ) (es : List Entry) (pos : d ≡ 0 → ⊥) where
   walk-unlabelled t =
       walk-open Stmt ∙ sym (walk-open Part ∙ rw (spread (laidAt es) (eqb (kindAt es) 20) (isS (kindAt es)), t, swap (isS (kindAt es)) (laidAt es)))
 
-  pub walk-target : (standsAt 44 es || standsAt 46 es) ≡ true → walk d Expr es ≡ walk d Target es
+  pub walk-variable : standsAt 44 es ≡ true → walk d Target es ≡ Tree 1
+  unfolding entered admits sorts
+  walk-variable t =
+      walk-open Target ∙ rw (spread (laidAt es) (eqb (kindAt es) 44) (eqb (kindAt es) 46), t)
+      (entered-leaf (walk (d - 1)) (admits Target) es (stands-kind 44 es t) (λ a n. refl))
+
+  pub walk-atom : atomAt es ≡ true → walk d Expr es ≡ Tree 1
+  unfolding admits chain
+  walk-atom t =
+      let k = kindAt es in
+      let b = both-left (leb 40 k && leb k 44) (laidAt es) t in
+      let a = atoms k (leb-true 40 k (both-left (leb 40 k) (leb k 44) b)) (leb-true k 44 (both-right (leb 40 k) (leb k 44) b)) in
+      walk-open Expr ∙ entered-whole (walk (d - 1)) (admits Expr) es (both-right (leb 40 k && leb k 44) (laidAt es) t) (a .0) ∙ rw (a .1 (nameAt es) (sizeAt es))
+
+  pub walk-target : standsAt 46 es ≡ true → walk d Expr es ≡ walk d Target es
   unfolding admits isE
   walk-target t =
-      walk-open Expr
-      ∙ entered-same (walk (d - 1)) (admits Expr) (admits Target) es
-      (either-true (standsAt 44 es) (standsAt 46 es) t (λ u. rw (stands-kind 44 es u)) (λ u. rw (stands-kind 46 es u)))
-      ∙ sym (walk-open Target)
+      walk-open Expr ∙ entered-same (walk (d - 1)) (admits Expr) (admits Target) es (rw (stands-kind 46 es t)) ∙ sym (walk-open Target)
 
-  pub walk-no-target : (standsAt 44 es || standsAt 46 es) ≡ false → walk d Target es ≡ Fault 0
+  pub walk-no-target : standsAt 44 es ≡ false → standsAt 46 es ≡ false → walk d Target es ≡ Fault 0
   unfolding entered admits
-  walk-no-target t = walk-open Target ∙ rw (spread (laidAt es) (eqb (kindAt es) 44) (eqb (kindAt es) 46), t)
+  walk-no-target t u = walk-open Target ∙ rw (spread (laidAt es) (eqb (kindAt es) 44) (eqb (kindAt es) 46), t, u)

@@ -2,7 +2,7 @@
 use mathlib.Core.Bool.{Bool, false, _&&_, _||_}
 use mathlib.Core.List.{List, [], _∷_}
 use Prim.Native.Nat.{ℕ, zero, suc, _+_, _-_}
-use lib.Dec.{eqb, ltb}
+use lib.Dec.{eqb, leb, ltb}
 use lib.IntN.{natAbs}
 use lib.ListN.{length, drop, replicate}
 use Rattle.words.specs.Choice.{if_then_else_}
@@ -64,6 +64,10 @@ laidAt (e ∷ es) = inLayout e
 
 abbrev pub standsAt : ℕ → List Entry → Bool
 standsAt k es = eqb (kindAt es) k && laidAt es
+
+-- an expression with no operands
+abbrev pub atomAt : List Entry → Bool
+atomAt es = (leb 40 (kindAt es) && leb (kindAt es) 44) && laidAt es
 
 abbrev pub sortsOf : Entry → List Sort
 sortsOf e = sorts (e .kind) (e .a) (natAbs (e .b))

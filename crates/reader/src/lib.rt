@@ -11,7 +11,7 @@ ghost use lib.ListN.{length};
 ghost use Rattle.language.specs.Table.{below, readTable};
 ghost use Rattle.programs.specs.Claims.{entriesOf};
 ghost use Rattle.reader.specs.Operands.{sorts};
-ghost use Rattle.reader.specs.Walk.{shapeOf, readingOf, leafOf, counted, moved, chain, laidAt, standsAt, kindAt, nameAt, sizeAt, walk, entered, isGlobal, tally as tallyOf, walkHead, walkRoot};
+ghost use Rattle.reader.specs.Walk.{shapeOf, readingOf, leafOf, counted, moved, chain, laidAt, standsAt, atomAt, kindAt, nameAt, sizeAt, walk, entered, isGlobal, tally as tallyOf, walkHead, walkRoot};
 
 pub enum Read {
     // a whole tree, and how many entries it has
@@ -84,6 +84,24 @@ fn either(part: &[u8], one: u16, other: u16) -> bool
     stands(part, other)
 }
 
+// Whether an expression with no operands stands there. Most operands are such, and nothing is read below them. The kind is tested first,
+// so that the layout of few kinds is left to look at.
+fn atom(part: &[u8]) -> bool
+    ensures { λ r. ⌜ r ≡ atomAt (entriesOf (now (part .entry))) ⌝ }
+{
+    if part.len() < 8 {
+        return false;
+    }
+    let kind = kind_of(part);
+    if kind < 40 {
+        return false;
+    }
+    if 44 < kind {
+        return false;
+    }
+    layout::in_layout(kind, words::half_at(part, 2), words::integer_at(part, 4))
+}
+
 // An entry with no operands.
 fn leaf(stands_here: bool) -> Read
     ensures { λ r. ⌜ r ≡ leafOf «stands_here» ⌝ }
@@ -122,12 +140,18 @@ fn operand(part: &[u8], sort: Sort, nesting: usize) -> Read
             read_statement(part, nesting)
         },
         Sort::Stmt => read_statement(part, nesting),
-        Sort::Target => if either(part, 44, 46) {
+        Sort::Target => if stands(part, 44) {
+            Read::Tree(1)
+        } else if stands(part, 46) {
             read_expression(part, nesting)
         } else {
             Read::Fault(0)
         },
-        Sort::Expr => read_expression(part, nesting),
+        Sort::Expr => if atom(part) {
+            Read::Tree(1)
+        } else {
+            read_expression(part, nesting)
+        },
     }
 }
 

@@ -1,15 +1,17 @@
 -- What the code comes to at each operand, and the bounds that keep its sums from wrapping. Assumes nothing.
 use mathlib.Core.Path.{_≡_, refl, ap, sym, _∙_}
-use mathlib.Core.Bool.{Bool, true, false}
-use mathlib.Core.List.{List}
-use Prim.Native.Nat.{ℕ, zero, suc, _+_, _-_, _≤_, _<_}
+use mathlib.Core.Bool.{Bool, true, false, _&&_, _||_}
+use mathlib.Core.List.{List, []}
+use Prim.Native.Nat.{ℕ, zero, suc, _+_, _-_, _*_, _≤_, _<_}
 use native.Mathlib.Omega.{arith}
+use native.Mathlib.Decide.{decLe}
 use native.Mathlib.Numerals.{add-one}
 use lib.Dec.{eqb, ltb}
 use lib.ListN.{length, drop}
-use borrow.Author.Tests.{le-ltb}
+use borrow.Author.Tests.{eqb-true, ltb-true, le-ltb}
 use Rattle.words.specs.Choice.{if_then_else_}
 use Rattle.language.specs.Table.{Entry}
+use Rattle.programs.specs.Basics.{clash, both-left, both-right}
 use Rattle.programs.specs.Claims.{entriesOf}
 use Rattle.reader.specs.Operands.{sorts}
 use Rattle.reader.specs.Walk.{kindAt, nameAt, sizeAt}
@@ -19,8 +21,8 @@ use Rattle.usage.specs.declared.sums.Used.{Used}
 use Rattle.usage.specs.declared.Usage.{Usage}
 use Rattle.usage.specs.declared.Usage.the-variants.{Of, Unread}
 use Rattle.usage.specs.declared.Head.the-variants.{Own, Exceeds, Ended}
-use Rattle.usage.specs.Sums.{used, aloneOf, stacks, weightOf, headOf, keptOf, joined, overOf, declaredOf, Level}
-use Rattle.usage.specs.Usage.{through, usageAt, headFrom}
+use Rattle.usage.specs.Sums.{used, isLeaf, aloneOf, stacks, weightOf, headOf, keptOf, joined, overOf, declaredOf, Level}
+use Rattle.usage.specs.Usage.{through, usageAt, leafAt, Bounded, headFrom}
 
 -- ── operands ──
 module _ (f : List Entry → Usage) (k head count i o : ℕ) (u : Used) (es : List Entry) where
@@ -106,6 +108,42 @@ alone-level k = go (eqb k 10) (eqb k 14) (eqb k 30)
     go false true c = (omega arith, refl)
     go false false true = (omega arith, refl)
     go false false false = (omega arith, refl)
+
+-- ── an entry without operands ──
+kind-or : {A : Type 0} (k j : ℕ) {b : Bool} → (k ≡ j → A) → (b ≡ true → A) → (eqb k j || b) ≡ true → A
+kind-or {A} k j {b} f g = go (eqb k j) (λ t. f (eqb-true k j t))
+  where
+    go : (a : Bool) → (a ≡ true → A) → (a || b) ≡ true → A
+    go true h t = h refl
+    go false h t = g t
+
+leaf-sorts : (k a n : ℕ) → isLeaf k ≡ true → sorts k a n ≡ []
+unfolding isLeaf sorts
+leaf-sorts k a n =
+    kind-or k 10 (λ e. rw e) (kind-or k 14 (λ e. rw e) (kind-or k 20 (λ e. rw e) (kind-or k 25 (λ e. rw e) (kind-or k 40 (λ e. rw e)
+    (kind-or k 41 (λ e. rw e) (kind-or k 42 (λ e. rw e) (kind-or k 43 (λ e. rw e) (λ t. rw (eqb-true k 44 t)))))))))
+
+pub leaf-short : (d : ℕ) (l : List ℕ) → length l < 8 → false ≡ leafAt d (entriesOf l)
+unfolding isLeaf
+leaf-short d l h = rw (entries-none l h) (never (ltb 0 d))
+  where
+    never : (b : Bool) → false ≡ (b && false)
+    never true = refl
+    never false = refl
+
+pub leaf-here : (d : ℕ) (l : List ℕ) → leafAt d (entriesOf l) ≡ true → 8 ≤ length l
+leaf-here d l t = elim (decLe 8 (length l)) [ yes k ↦ k | no k ↦ clash (let e = leaf-short d l (omega arith) in cc) ]
+
+pub leaf-found : (d : ℕ) (l : List ℕ) {x : Usage} → leafAt d (entriesOf l) ≡ true → x ≡ Of (aloneOf (kindAt (entriesOf l)))
+    → (x ≡ usageAt d (entriesOf l)) × Bounded x (length l)
+unfolding through
+leaf-found d l t e =
+    let k = kindAt (entriesOf l) in
+    let h = leaf-here d l t in
+    let p = ltb-true 0 d (both-left (ltb 0 d) (isLeaf k) t) in
+    let s = leaf-sorts k (nameAt (entriesOf l)) (sizeAt (entriesOf l)) (both-right (ltb 0 d) (isLeaf k) t) in
+    let a = alone-level k in
+    (e ∙ sym (usage-whole d l (omega arith) h ∙ rw s), rw e (a .0, omega arith, omega arith))
 
 pub joined-level : (w o : ℕ) (u v : Used) → Level u → Level v → w ≤ u .entries → o ≤ u .entries → Level (joined w o u v)
 joined-level w o u v h k a b = (omega arith, omega arith, omega arith)

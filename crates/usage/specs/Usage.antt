@@ -1,7 +1,9 @@
 -- What an entry and all below it take, as the code finds it: over entries, whatever they are.
 use mathlib.Core.Path.{_≡_}
+use mathlib.Core.Bool.{Bool, _&&_}
 use mathlib.Core.List.{List, [], _∷_}
 use Prim.Native.Nat.{ℕ, zero, suc, _+_, _*_, _≤_}
+use lib.Dec.{ltb}
 use lib.ListN.{length, drop}
 use Rattle.words.specs.Choice.{if_then_else_}
 use Rattle.values.specs.Ends.{Refusal, accepted}
@@ -16,7 +18,7 @@ use Rattle.usage.specs.declared.Head.{Head}
 use Rattle.usage.specs.declared.Head.the-variants.{Own, Exceeds, Ended}
 use Rattle.usage.specs.declared.Limited.{Limited}
 use Rattle.usage.specs.declared.Limited.the-variants.{Within, Over}
-use Rattle.usage.specs.Sums.{aloneOf, weightOf, headOf, keptOf, joined, keepsAll, overOf, declaredOf, Level}
+use Rattle.usage.specs.Sums.{isLeaf, aloneOf, weightOf, headOf, keptOf, joined, keepsAll, overOf, declaredOf, Level}
 
 -- ── entries ──
 abbrev pub onward : Usage → (Used → Usage) → Usage
@@ -37,6 +39,10 @@ entryUsage f (e ∷ es) = through f (e .kind) (headOf (e .kind) (e .a)) (length 
 unfoldable pub usageAt : ℕ → List Entry → Usage
 usageAt zero es = Unread
 usageAt (suc d) es = entryUsage (λ x. usageAt d x) es
+
+-- an entry that takes what it takes alone
+abbrev pub leafAt : ℕ → List Entry → Bool
+leafAt d es = ltb 0 d && isLeaf (kindAt es)
 
 abbrev pub Bounded : Usage → ℕ → Type 0
 Bounded (Of u) l = Level u × (1 ≤ u .entries) × (8 * u .entries ≤ l)

@@ -3,11 +3,12 @@ pub mod sums;
 
 use sums::Used;
 ghost use mathlib.Core.Path.{_≡_};
-ghost use Prim.Native.Nat.{_^_, _<_};
+ghost use Prim.Native.Nat.{_^_, _≤_, _<_};
 ghost use lib.ListN.{length};
 ghost use Rattle.programs.specs.Claims.{entriesOf};
-ghost use Rattle.usage.specs.Sums.{Level};
-ghost use Rattle.usage.specs.Usage.{usageAt, Bounded, headAt, HeadBounded, itemsAt, rootOf, Limits};
+ghost use Rattle.reader.specs.Walk.{kindAt};
+ghost use Rattle.usage.specs.Sums.{aloneOf, Level};
+ghost use Rattle.usage.specs.Usage.{leafAt, usageAt, Bounded, headAt, HeadBounded, itemsAt, rootOf, Limits};
 
 pub enum Usage {
     // what an entry and all that stands below it take
@@ -29,6 +30,26 @@ pub enum Limited {
     Over(usize),
 }
 
+// Whether an entry of a kind without operands stands there, and is not nested too deep: most entries are such.
+fn leaf(part: &[u8], nesting: usize) -> bool
+    ensures { λ r. ⌜ r ≡ leafAt nesting (entriesOf (now (part .entry))) ⌝ }
+{
+    if nesting == 0 {
+        return false;
+    }
+    if part.len() < 8 {
+        return false;
+    }
+    sums::is_leaf(reader::kind_of(part))
+}
+
+fn leaf_usage(part: &[u8]) -> Usage
+    requires { ⌜ 8 ≤ length (now part) ⌝ }
+    ensures { λ r. ⌜ r ≡ Usage.Of (aloneOf (kindAt (entriesOf (now (part .entry))))) ⌝ }
+{
+    Usage::Of(sums::alone(reader::kind_of(part)))
+}
+
 // An entry's working need, with what else it takes. The function calls itself on each operand, on the part that begins with it.
 pub fn usage_of(part: &[u8], nesting: usize) -> Usage
     ensures { λ r. ⌜ (r ≡ usageAt nesting (entriesOf (now (part .entry)))) × Bounded r (length (now (part .entry))) ⌝ }
@@ -48,7 +69,12 @@ pub fn usage_of(part: &[u8], nesting: usize) -> Usage
     let mut open: usize = 0;
     let mut i: usize = 0;
     while i < count {
-        match usage_of(rest, nesting - 1) {
+        let found = if leaf(rest, nesting - 1) {
+            leaf_usage(rest)
+        } else {
+            usage_of(rest, nesting - 1)
+        };
+        match found {
             Usage::Of(u) => {
                 let at = 8 * u.entries;
                 rest = &rest[at..];

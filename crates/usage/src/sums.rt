@@ -1,7 +1,7 @@
 // What entries take of a body's limits, and how the operands of an entry are summed.
 ghost use mathlib.Core.Path.{_≡_};
 ghost use Prim.Native.Nat.{_+_, _^_, _<_, max};
-ghost use Rattle.usage.specs.Sums.{used, aloneOf, weightOf, headOf, keptOf, joined, Small, keepsAll, overOf, declaredOf};
+ghost use Rattle.usage.specs.Sums.{used, isLeaf, aloneOf, weightOf, headOf, keptOf, joined, Small, keepsAll, overOf, declaredOf};
 
 pub struct Used {
     pub entries: usize,
@@ -24,6 +24,24 @@ fn one(need: usize, cells: usize, holds: usize) -> Used
         need,
         cells,
         holds,
+    }
+}
+
+// The kinds that have no operands.
+pub fn is_leaf(kind: u16) -> bool
+    ensures { λ r. ⌜ r ≡ isLeaf kind ⌝ }
+{
+    match kind {
+        10 => true,
+        14 => true,
+        20 => true,
+        25 => true,
+        40 => true,
+        41 => true,
+        42 => true,
+        43 => true,
+        44 => true,
+        _ => false,
     }
 }
 

@@ -11,7 +11,7 @@ use Rattle.reader.specs.declared.Read.the-variants.{Tree}
 use Rattle.reader.specs.Operands.{sorts}
 use Rattle.reader.specs.Walk.{leafOf, moved, counted, chain, walk, admits}
 use Rattle.reader.proofs.Parts.{rest, entries-rest, laid-here}
-use Rattle.reader.proofs.Steps.{statement-shape, expression-shape, walk-fits, moved-moved, chain-step, chain-stop, chain-end, entered-unlaid, entered-other, entered-whole, walk-none, walk-open, walk-typed, walk-declaration, walk-label, walk-unlabelled, walk-target, walk-no-target}
+use Rattle.reader.proofs.Steps.{statement-shape, expression-shape, walk-fits, moved-moved, chain-step, chain-stop, chain-end, entered-unlaid, entered-other, entered-whole, walk-none, walk-open, walk-typed, walk-declaration, walk-label, walk-unlabelled, walk-variable, walk-atom, walk-target, walk-no-target}
 use borrow.Fn.Kinds.{In}
 use borrow.Fn.PlainCycle.{Measures, is, falls, and}
 use Rattle.reader.proofs.operand.Reads as operand
@@ -26,6 +26,7 @@ use Rattle.reader.proofs.+operand+operands+read_expression+read_stateme
 use Rattle.reader.proofs.read_statement.Reads as read-statement
 use Rattle.reader.proofs.read_statement.Kinds as read-statement-kinds
 use Rattle.reader.proofs.+operand+operands+read_expression+read_statement.Lts-read_statement as read-statement-lts
+use Rattle.reader.proofs.atom.Reads as atom-reads
 use Rattle.reader.proofs.either.Reads as either-reads
 use Rattle.reader.proofs.kind_of.Reads as kind-of-reads
 use Rattle.reader.proofs.kinds.count.Reads as count-reads
@@ -77,8 +78,8 @@ read-statement-at t = and 1 read-statement-kinds.ps (is 1 read-statement-kinds.p
 abbrev read-statement-below : ℕ → In 1 read-statement-kinds.ps
 read-statement-below t = and 1 read-statement-kinds.ps (falls 1 read-statement-kinds.ps _<_ μ-read-statement t) read-statement.Pre
 
-operand-meets : {M : Type 1} (t : ℕ) → operand-lts.Closed (stands-reads.Asked, stands-reads.Learnt, leaf-reads.Asked, leaf-reads.Learnt, either-reads.Asked, either-reads.Learnt, read-statement-below t, read-statement.Post, read-expression-below t, read-expression.Post) (operand-at t) operand.Post M
-operand-meets t = operand-lts.spec (stands-reads.Asked, stands-reads.Learnt, leaf-reads.Asked, leaf-reads.Learnt, either-reads.Asked, either-reads.Learnt, read-statement-below t, read-statement.Post, read-expression-below t, read-expression.Post) (operand-at t) operand.Post
+operand-meets : {M : Type 1} (t : ℕ) → operand-lts.Closed (stands-reads.Asked, stands-reads.Learnt, leaf-reads.Asked, leaf-reads.Learnt, either-reads.Asked, either-reads.Learnt, read-statement-below t, read-statement.Post, read-expression-below t, read-expression.Post, atom-reads.Asked, atom-reads.Learnt) (operand-at t) operand.Post M
+operand-meets t = operand-lts.spec (stands-reads.Asked, stands-reads.Learnt, leaf-reads.Asked, leaf-reads.Learnt, either-reads.Asked, either-reads.Learnt, read-statement-below t, read-statement.Post, read-expression-below t, read-expression.Post, atom-reads.Asked, atom-reads.Learnt) (operand-at t) operand.Post
     -- returns
     (λ c. sym (walk-none (c .before .before .args .nesting) (c .before .before .args .sort) (entriesOf (c .before .before .args .part .now)) (c .if1 .taken)))
     -- enum-told
@@ -105,12 +106,16 @@ operand-meets t = operand-lts.spec (stands-reads.Asked, stands-reads.Learnt, lea
     (λ c κs. search needs)
     -- enum-told-5
     (λ c. search needs)
-    -- either-requires-2
+    -- stands-requires-3
+    (λ c κs. search needs)
+    -- stands-requires-4
     (λ c κs. search needs)
     -- read-expression-requires
     (λ c κs. search needs)
     -- enum-told-6
     (λ c. search needs)
+    -- atom-requires
+    (λ c κs. search needs)
     -- read-expression-requires-2
     (λ c κs. search needs)
     -- returns-2
@@ -145,22 +150,34 @@ operand-meets t = operand-lts.spec (stands-reads.Asked, stands-reads.Learnt, lea
     rw (c .before .enum-told4 .given .1) (c .read-statement2 .ensures ∙ sym (statement-shape d es)))
     -- returns-7
     (λ c.
-    let q = c .before .before .before .before .before in
+    let q = c .before .before .before .before in
     let d = q .before .before .args .nesting in
     let es = entriesOf (q .before .before .args .part .now) in
-    rw (c .before .before .before .enum-told5 .given .1) (c .read-expression .ensures ∙ sym (expression-shape d es) ∙ walk-target d es (q .if1 .left) (sym (c .before .before .either2 .ensures) ∙ c .before .if3 .taken)))
+    rw (c .before .before .enum-told5 .given .1) (sym (walk-variable d es (q .if1 .left) (sym (c .before .stands3 .ensures) ∙ c .if3 .taken))))
     -- returns-8
+    (λ c.
+    let q = c .before .before .before .before .before .before .before in
+    let d = q .before .before .args .nesting in
+    let es = entriesOf (q .before .before .args .part .now) in
+    rw (c .before .before .before .before .before .enum-told5 .given .1) (c .read-expression .ensures ∙ sym (expression-shape d es) ∙ walk-target d es (q .if1 .left) (sym (c .before .before .stands4 .ensures) ∙ c .before .if4 .taken)))
+    -- returns-9
+    (λ c.
+    let q = c .before .before .before .before .before .before in
+    let d = q .before .before .args .nesting in
+    let es = entriesOf (q .before .before .args .part .now) in
+    rw (c .before .before .before .before .enum-told5 .given .1) (sym (walk-no-target d es (q .if1 .left) (sym (c .before .before .before .stands3 .ensures) ∙ c .before .before .if3 .left) (sym (c .before .stands4 .ensures) ∙ c .if4 .left))))
+    -- returns-10
     (λ c.
     let q = c .before .before .before .before in
     let d = q .before .before .args .nesting in
     let es = entriesOf (q .before .before .args .part .now) in
-    rw (c .before .before .enum-told5 .given .1) (sym (walk-no-target d es (q .if1 .left) (sym (c .before .either2 .ensures) ∙ c .if3 .left))))
-    -- returns-9
+    rw (c .before .before .enum-told6 .given .1) (sym (walk-atom d es (q .if1 .left) (sym (c .before .atom .ensures) ∙ c .if5 .taken))))
+    -- returns-11
     (λ c.
-    let q = c .before .before .before in
+    let q = c .before .before .before .before .before in
     let d = q .before .before .args .nesting in
     let es = entriesOf (q .before .before .args .part .now) in
-    rw (c .before .enum-told6 .given .1) (c .read-expression2 .ensures ∙ sym (expression-shape d es)))
+    rw (c .before .before .before .enum-told6 .given .1) (c .read-expression2 .ensures ∙ sym (expression-shape d es)))
 
 abbrev operands-Inv-loop : operands-lts.InvT-loop
 operands-Inv-loop part kind a n nesting all rest₀ passed₀ i₀ rest passed i =
