@@ -10,7 +10,7 @@ use native.Mathlib.Decide.{ℕ-discrete}
 use lib.Dec.{eqb, ltb}
 use lib.ListN.{length, getD, drop, length-append, drop-of-length-le}
 use lib.Seq.{drop-cons}
-use borrow.Author.Tests.{eq-eqb, ne-eqb}
+use borrow.Author.Tests.{eq-eqb, ne-eqb, ltb-true, ltb-false}
 use Rattle.words.specs.Choice.{if_then_else_}
 use Rattle.scopes.specs.declared.Found.{Found}
 use Rattle.scopes.specs.declared.Found.the-variants.{Nothing, Def}
@@ -100,6 +100,54 @@ typeBy k a vs = typedBy k a (getD vs 0 0) (getD vs 1 0) (getD vs 2 0)
 
 unfoldable pub settledBy : List ℕ → ℕ → ℕ → ℕ → Found → List ℕ → Verdict
 settledBy l k a p f vs = if namesBy k then foundBy l k a p f vs else rightIf (not (eqb (typeBy k a vs) 0)) (typeBy k a vs) p
+
+-- an expression with nothing below it: a constant, null or a variable
+unfoldable pub isLeaf : ℕ → Bool
+isLeaf k = if ltb k 40 then false else ltb k 45
+
+abbrev pub leafOf : ℕ → ℕ → ℕ → Found → Verdict
+leafOf k a p Nothing = Refused 3 p
+leafOf k a p (Def s n q w) = if eqb k 43 then rightIf (eqb s 6) (65536 + a) p else rightIf (eqb s 4) n p
+
+unfoldable pub leafBy : ℕ → ℕ → ℕ → Found → Verdict
+leafBy k a p f = if eqb k 40 then Fine 1 else if eqb k 41 then Fine 2 else if eqb k 42 then Fine 3 else leafOf k a p f
+
+pub leaf-kind : (k : ℕ) → isLeaf k ≡ true → (40 ≤ k) × (k < 45)
+unfolding isLeaf
+leaf-kind k e = go (ltb k 40) refl (ltb k 45) refl
+  where
+    go : (b : Bool) → ltb k 40 ≡ b → (c : Bool) → ltb k 45 ≡ c → (40 ≤ k) × (k < 45)
+    go true x c y = let z : false ≡ true = rw x at e in absurd (let w : _≡_ {A = ℕ} 0 1 = cc in omega arith)
+    go false x true y = (ltb-false k 40 x, ltb-true k 45 y)
+    go false x false y = let z : false ≡ true = rw (x, y) at e in absurd (let w : _≡_ {A = ℕ} 0 1 = cc in omega arith)
+
+leaf-null : (l : List ℕ) (a p : ℕ) (f : Found) → foundBy l 43 a p f [] ≡ leafOf 43 a p f
+unfolding namedBy
+leaf-null l a p Nothing = refl
+leaf-null l a p (Def s n q w) = refl
+
+leaf-variable : (l : List ℕ) (a p : ℕ) (f : Found) → foundBy l 44 a p f [] ≡ leafOf 44 a p f
+unfolding namedBy
+leaf-variable l a p Nothing = refl
+leaf-variable l a p (Def s n q w) = refl
+
+pub leaf-settled : (l : List ℕ) (k a p : ℕ) (f : Found) → isLeaf k ≡ true → settledBy l k a p f [] ≡ leafBy k a p f
+unfolding settledBy leafBy namesBy typedBy
+leaf-settled l k a p f e =
+    let h = leaf-kind k e in
+    elim (ℕ-discrete k 40) [
+      | yes z ↦ rw z
+      | no x ↦ elim (ℕ-discrete k 41) [
+        | yes z ↦ rw z
+        | no y ↦ elim (ℕ-discrete k 42) [
+          | yes z ↦ rw z
+          | no w ↦ elim (ℕ-discrete k 43) [
+            | yes z ↦ rw z (leaf-null l a p f)
+            | no v ↦ let z : k ≡ 44 = omega (arith, h .0, h .1) in rw z (leaf-variable l a p f)
+          ]
+        ]
+      ]
+    ]
 
 -- what is declared stands within the table
 abbrev pub WithinCall : List ℕ → ℕ → ℕ → ℕ → Type 0

@@ -7,7 +7,7 @@ ghost use lib.ListN.{length, getD};
 ghost use lib.Dec.{eqb};
 ghost use mathlib.Core.Bool.{true};
 ghost use Rattle.scopes.specs.Environment.{envOf, find};
-ghost use Rattle.operands.specs.Settle.{values, ifBoth, ifEither, operatedBy, typedBy, sameAll, typesAt, rightIf, aimedBy, calledBy, recordedBy, namedBy, namesBy, settledBy, Within, WithinCall, WithinRecord};
+ghost use Rattle.operands.specs.Settle.{values, ifBoth, ifEither, operatedBy, typedBy, sameAll, typesAt, rightIf, aimedBy, calledBy, recordedBy, namedBy, namesBy, settledBy, isLeaf, leafBy, Within, WithinCall, WithinRecord};
 
 fn operand(env: &[u32], top: usize, i: usize, count: usize) -> u32
     requires { ⌜ 4 * (top + count) ≤ length (now env) ⌝ }
@@ -300,5 +300,35 @@ pub fn settle(
             operand(env, top, 2, count),
         );
         right_if(t != 0, t, at)
+    }
+}
+
+// An expression with nothing below it.
+pub fn is_leaf(kind: u16) -> bool
+    ensures { λ r. ⌜ r ≡ isLeaf kind ⌝ }
+{
+    if kind < 40 {
+        return false;
+    }
+    kind < 45
+}
+
+// Such an expression at once: what `settle` gives for it.
+pub fn leaf(kind: u16, a: u32, at: usize, env: &[u32], top: usize) -> Verdict
+    requires { ⌜ (4 * top ≤ length (now env)) × (a < 65536) ⌝ }
+    ensures { λ r. ⌜ r ≡ leafBy kind a at (find a (envOf (now (env .entry)) top)) ⌝ }
+{
+    match kind {
+        40 => Verdict::Fine(1),
+        41 => Verdict::Fine(2),
+        42 => Verdict::Fine(3),
+        _ => match scopes::find(env, top, a) {
+            Found::Nothing => Verdict::Refused(3, at),
+            Found::Def(sort, number, _, _) => if kind == 43 {
+                right_if(sort == 6, 65536 + a, at)
+            } else {
+                right_if(sort == 4, number, at)
+            },
+        },
     }
 }

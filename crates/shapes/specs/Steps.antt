@@ -11,6 +11,7 @@ use lib.Dec.{eqb}
 use lib.IntN.{pos}
 use lib.ListN.{length, drop, take, getD, length-append, length-drop}
 use lib.Seq.{take-all, drop-drop}
+use borrow.Author.Tests.{ne-eqb}
 use Rattle.words.specs.Choice.{if_then_else_}
 use Rattle.words.specs.Numbers.{halfAt, wordAt}
 use Rattle.values.specs.Types.{Ty, integer, logical}
@@ -21,7 +22,7 @@ use Rattle.language.specs.Faults.{typeE, isTy, mistypedUnless, sizeS, sizeItems
 use Rattle.programs.specs.Basics.{clash}
 use Rattle.programs.specs.Claims.{entriesOf}
 use Rattle.scopes.specs.Environment.{Item, item as pushed, envOf, find, addAll, Grown, opened, shut, value}
-use Rattle.scopes.specs.Laws.{fewer, grown-push, stored}
+use Rattle.scopes.specs.Laws.{fewer, grown-push, stored, past-mark, passing-none}
 use Rattle.spans.specs.Spans.{Spans, parts, spans-one, spans-none}
 use Rattle.spans.specs.Stands.{Stands, stands-left, stands-right, stands-tail, stands-within, fields, half-part, word-part, length-entries}
 use Rattle.spans.specs.Sizes.{Known}
@@ -32,13 +33,13 @@ use Rattle.heads.specs.Flaws.{Says, says-first, says-then, says-fine, onceFlaw,
 use Rattle.heads.specs.Trees.{length-map, length-S, length-E, length-Items, spans-S, spans-E}
 use Rattle.heads.specs.Sees.{sees-value}
 use Rattle.heads.specs.Defines.{number-here, name-small, span-here, OnceItems, bulk, labels, labels-bulk, Enters, enters, Entered, entered-block, entered-expression, heads-stand, items-stand, head-faults}
-use Rattle.operands.specs.Settle.{values, settledBy, Within}
+use Rattle.operands.specs.Settle.{values, settledBy, isLeaf, leafBy, leaf-kind, leaf-settled, Within}
 use Rattle.operands.specs.Operations as op
 use Rattle.operands.specs.Operations.{Operation, kindOp, nameOp, numberOp, Takes, gives, own}
 use Rattle.operands.specs.Types.{tyNum, is-number}
 use Rattle.operands.specs.Settles.{Types, Settled, settles, found-within}
-use Rattle.shapes.specs.Forms.{Guard, ifOnly, ifElse, loops, cases, kindG, countG, TakesG, askG, Form, simple, guard, blocked, bodied, labelled, headF, flatF, Valid, typesOf, typeF, faultsF, formS, formE, ExprForm, StmtForm, SimpleForm, GuardForm, BlockForm, BodyForm, LabelForm, is-label, flat-S, flat-E, deep-S, deep-E, valid-S, valid-E, type-E, faults-S, faults-E, form-expr, form-stmt, once-S, once-E, unlabelled-once}
-use Rattle.shapes.specs.Walk.{Table, roomF, Ready, Asks, Answers, Typed, ReadyEs, AsksEs, Holds, Listed, AnswersEs, ReadyItems, AsksItems, AnswersItems, operandsBy, guardedBy, testedBy}
+use Rattle.shapes.specs.Forms.{Guard, ifOnly, ifElse, loops, cases, kindG, countG, TakesG, askG, Form, simple, guard, blocked, bodied, labelled, headF, flatF, Valid, typesOf, typeF, faultsF, formS, formE, ExprForm, StmtForm, SimpleForm, GuardForm, BlockForm, BodyForm, LabelForm, is-label, is-simple, is-other, flat-S, flat-E, deep-S, deep-E, valid-S, valid-E, type-E, faults-S, faults-E, form-expr, form-stmt, once-S, once-E, unlabelled-once}
+use Rattle.shapes.specs.Walk.{Table, roomF, Ready, Asks, Answers, Typed, ReadyEs, AsksEs, Holds, Listed, AnswersEs, Alike, ReadyItems, AsksItems, AnswersItems, operandsBy, isPlain, guardedBy, testedBy}
 
 -- ── the entry at the start of a part ──
 pub record Head (l part : List ℕ) (at : ℕ) (e : Entry) : Type 0 where
@@ -133,12 +134,13 @@ pub record EsSoFar (l part : List ℕ) (count nesting at : ℕ) (sizes old : Lis
   pub kept : envOf env top ≡ envOf old top
   pub same : length env ≡ length old
   pub most : i ≤ count
+  pub alike : Alike env top i
   pub goes : (es : Exprs) (ss : List Scope) → ReadyEs es ss l part count nesting at sizes old top → Going es ss l rest count nesting at sizes env top place i
 
 pub es-start : (l part : List ℕ) (count nesting at : ℕ) (sizes old : List ℕ) (top : ℕ) → EsSoFar l part count nesting at sizes old top old part at 0
 unfolding values
 es-start l part count nesting at sizes old top =
-    record { kept = refl; same = refl; most = omega arith; goes = λ es ss r. record { left = es; ready = rw (sub-zero count, add-zero top) r; same = refl; held = refl } }
+    record { kept = refl; same = refl; most = omega arith; alike = record { finds = λ a h. rw (add-zero top) }; goes = λ es ss r. record { left = es; ready = rw (sub-zero count, add-zero top) r; same = refl; held = refl } }
 
 -- the next expression
 pub record NextE (left : Exprs) (ss : List Scope) (l rest : List ℕ) (nesting place : ℕ) (sizes env : List ℕ) (top : ℕ) : Type 0 where
@@ -170,6 +172,11 @@ next-e (expr e es) ss {l} {rest} {n} {nesting} {place} {sizes} {env} {top} r h =
 above-is : {mid new : List ℕ} (top i t : ℕ) (env : List ℕ) → Grown (top + i) mid new (top + i + 1) (pushed value 0 t 0 ∷ envOf mid (top + i)) 1 → envOf mid (top + i) ≡ envOf env (top + i)
     → envOf new (top + (i + 1)) ≡ pushed value 0 t 0 ∷ envOf env (top + i)
 above-is top i t env g e = rw (← add-assoc top i 1) (g .now ∙ rw e)
+
+alike-next : {env mid new : List ℕ} (top i t : ℕ) → Grown (top + i) mid new (top + i + 1) (pushed value 0 t 0 ∷ envOf mid (top + i)) 1 → envOf mid (top + i) ≡ envOf env (top + i) → envOf new top ≡ envOf env top
+    → Alike env top i → Alike new top (i + 1)
+alike-next {env} top i t g e k h =
+    record { finds = λ a small. rw (above-is top i t env g e, k) (past-mark a small value 0 t 0 (envOf env (top + i)) (omega arith) ∙ sym (passing-none (find a (envOf env (top + i)))) ∙ h .finds a small) }
 
 es-moves : {es : Exprs} {ss : List Scope} {l rest : List ℕ} {count nesting at : ℕ} {sizes env : List ℕ} {top place i : ℕ} (g : Going es ss l rest count nesting at sizes env top place i)
     (x : NextE (g .left) ss l rest nesting place sizes env (top + i)) {mid new : List ℕ} {r : Verdict} (t n : ℕ) → Typed ExprForm l rest nesting place sizes env mid (top + i) r → r ≡ Fine t → n ≡ getD sizes place 0
@@ -233,10 +240,12 @@ module _ {l part : List ℕ} {count nesting at : ℕ} {sizes old : List ℕ} {to
     pub es-next : 4 * (top + i + 1) ≤ length mid → EsSoFar l part count nesting at sizes old top new (take (length rest - 8 * n) (drop (8 * n) rest)) (place + n) (i + 1)
     es-next w =
         let g = fresh w in
+        let k = fewer new mid top (top + i) (omega arith) (g .kept) ∙ fewer mid env top (top + i) (omega arith) (y .kept) in
         record {
-          kept = fewer new mid top (top + i) (omega arith) (g .kept) ∙ fewer mid env top (top + i) (omega arith) (y .kept) ∙ s .kept;
+          kept = k ∙ s .kept;
           same = g .same ∙ y .same ∙ s .same;
           most = omega arith;
+          alike = alike-next top i t g (y .kept) k (s .alike);
           goes = λ es ss q. go es ss q g;
         }
       where
@@ -421,6 +430,12 @@ module _ {P Q : Form → Type 0} {l part : List ℕ} {nesting at : ℕ} {sizes :
   pub typed-answer : {old new : List ℕ} {r : Verdict} → Typed Q l part nesting at sizes old new top r → Answers P l part nesting at sizes old new top r
   typed-answer t = record { kept = t .kept; same = t .same; judged = λ f ss seen h q. t .judged f ss seen (to f h (kind-of q)) q .says }
 
+pub plain-form : (f : Form) → StmtForm f → (k : ℕ) → isPlain k ≡ true → k ≡ headF f .kind → SimpleForm f
+unfolding isPlain
+plain-form f h k e z =
+    let differs : (m : ℕ) → isPlain m ≡ false → ¬ (headF f .kind ≡ m) = λ m d y. clash (let w : isPlain m ≡ true = rw (z ∙ y) at e in let x : true ≡ false = sym w ∙ d in cc) in
+    is-other f h (differs 1 refl) (differs 20 refl) (differs 22 refl) (differs 23 refl) (differs 24 refl) (differs 30 refl)
+
 -- a label
 label-says : (f : Form) → LabelForm f → {ss : List Scope} {seen l part : List ℕ} {nesting at : ℕ} {sizes env : List ℕ} {top : ℕ} (r : Verdict) → Ready f ss seen l part nesting at sizes env top
     → Says r (onceFlaw (envOf env top) (halfAt part 2) at) → Says r (faultsF ss seen at f)
@@ -568,6 +583,27 @@ module _ {l part : List ℕ} {nesting at : ℕ} {sizes old : List ℕ} {top : �
               says = rw (simple-faults at f h ss seen) (says-then r s u (faultsEs ss (at + 1) (esOf f)) (own ss (opOf f) (typesOf ss (esOf f)) at) e (y .says) (d .says));
               types = rw (simple-type f h ss) (d .types);
             }
+
+-- ── an expression with nothing below it, whose name is looked up below the types of i operands ──
+leaf-count : (k b : ℕ) → isLeaf k ≡ true → 0 ≡ operandsBy k b
+unfolding operandsBy
+leaf-count k b e =
+    let h = leaf-kind k e in
+    let n : (m : ℕ) → m < 40 → eqb k m ≡ false = λ m z. ne-eqb k m (λ y. omega (arith, h .0)) in
+    let o : (m : ℕ) → 44 < m → eqb k m ≡ false = λ m z. ne-eqb k m (λ y. omega (arith, h .1)) in
+    rw (n 21 (omega arith), n 26 (omega arith), n 27 (omega arith), n 28 (omega arith), o 45 (omega arith), o 46 (omega arith), o 47 (omega arith), o 48 (omega arith), o 49 (omega arith), o 50 (omega arith), o 51 (omega arith))
+
+pub leaf-judged : {l part : List ℕ} {nesting at : ℕ} {sizes env : List ℕ} {top i : ℕ} {r : Verdict} → isLeaf (halfAt part 0) ≡ true → Alike env top i → r ≡ leafBy (halfAt part 0) (halfAt part 2) at (find (halfAt part 2) (envOf env top))
+    → halfAt part 2 < 65536 → Typed ExprForm l part nesting at sizes env env (top + i) r
+unfolding values
+leaf-judged {l} {part} {nesting} {at} {sizes} {env} {top} {i} {r} e h z small =
+    let k = leaf-kind (halfAt part 0) e in
+    let n = es-end (es-start l (below part 8) 0 (nesting - 1) (at + 1) sizes env (top + i)) (omega arith) in
+    typed-as (λ f x y. is-simple f x (λ w. omega (arith, k .0, k .1)))
+    (simple-judged 0 (leaf-count (halfAt part 0) (wordAt part 4) e) n 0 refl (z ∙ rw (h .finds (halfAt part 2) small) (sym (leaf-settled l (halfAt part 0) (halfAt part 2) at (find (halfAt part 2) (envOf env top)) e))))
+
+pub leaf-small : {P : Form → Type 0} {l part : List ℕ} {nesting at : ℕ} {sizes env : List ℕ} {top : ℕ} → Asks P l part nesting at sizes env top → halfAt part 2 < 65536
+leaf-small q = small-name (q .ready .table)
 
 -- ── an expression and the statements that it guards ──
 guard-count : (g : Guard) (n a : ℕ) → TakesG g n → a ≡ countG g n → guardedBy (kindG g) a ≡ n

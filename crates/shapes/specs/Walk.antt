@@ -1,8 +1,9 @@
 -- What a walker asks, and what it answers: for every tree that stands where it is called, and all blocks around that the names in sight agree with.
 use mathlib.Core.Path.{_≡_}
+use mathlib.Core.Bool.{Bool, true, false}
 use mathlib.Core.List.{List, map}
-use Prim.Native.Nat.{ℕ, _+_, _*_, _≤_}
-use lib.Dec.{eqb}
+use Prim.Native.Nat.{ℕ, _+_, _*_, _≤_, _<_}
+use lib.Dec.{eqb, ltb}
 use lib.ListN.{length, drop}
 use Rattle.words.specs.Choice.{if_then_else_}
 use Rattle.values.specs.Ends.{Refusal}
@@ -11,7 +12,7 @@ use Rattle.language.specs.Table.{flatItems, flatEs, deepItems, deepEs}
 use Rattle.language.specs.Names.{Scope}
 use Rattle.language.specs.Faults.{faultsItems, faultsEs}
 use Rattle.programs.specs.Claims.{entriesOf}
-use Rattle.scopes.specs.Environment.{envOf}
+use Rattle.scopes.specs.Environment.{envOf, find}
 use Rattle.spans.specs.Stands.{Stands}
 use Rattle.spans.specs.Sizes.{Known}
 use Rattle.heads.specs.declared.Verdict.{Verdict}
@@ -93,6 +94,10 @@ pub record AnswersEs (l part : List ℕ) (count nesting at : ℕ) (sizes old new
   pub judged : (es : Exprs) (ss : List Scope) → ReadyEs es ss l part count nesting at sizes old top
       → Listed r (faultsEs ss at es) (values count (envOf new (top + count))) (map tyNum (typesOf ss es))
 
+-- the types of i operands stand above the names: below them a lookup finds the same
+pub record Alike (env : List ℕ) (top i : ℕ) : Type 0 where
+  pub finds : (a : ℕ) → a < 65536 → find a (envOf env (top + i)) ≡ find a (envOf env top)
+
 -- ── labels and statements one after the other ──
 pub record ReadyItems (is : Items) (ss : List Scope) (seen l part : List ℕ) (count nesting at : ℕ) (sizes env : List ℕ) (top : ℕ) : Type 0 where
   pub table : Table l part sizes at
@@ -128,6 +133,10 @@ operandsBy k b =
     if eqb k 49 then 2 else
     if eqb k 50 then 3 else
     if eqb k 51 then 1 else 0
+
+-- a statement with expressions only below it
+unfoldable pub isPlain : ℕ → Bool
+isPlain k = if eqb k 21 then true else if ltb k 25 then false else ltb k 29
 
 unfoldable pub guardedBy : ℕ → ℕ → ℕ
 guardedBy k a = if eqb k 23 then 2 else if eqb k 30 then a else 1

@@ -5,7 +5,7 @@ ghost use mathlib.Core.Path.{_≡_};
 ghost use Prim.Native.Nat.{_+_, _*_, _≤_};
 ghost use lib.ListN.{length};
 ghost use Rattle.shapes.specs.Forms.{ExprForm, StmtForm, SimpleForm, GuardForm, BlockForm, BodyForm};
-ghost use Rattle.shapes.specs.Walk.{Asks, Answers, Typed, AsksEs, AnswersEs, AsksItems, AnswersItems, operandsBy, guardedBy, testedBy};
+ghost use Rattle.shapes.specs.Walk.{Asks, Answers, Typed, AsksEs, AnswersEs, Alike, AsksItems, AnswersItems, operandsBy, isPlain, guardedBy, testedBy};
 
 // The expressions below an entry that has no other operands.
 fn operands_of(kind: u16, b: u32) -> usize
@@ -25,6 +25,19 @@ fn operands_of(kind: u16, b: u32) -> usize
         51 => 1,
         _ => 0,
     }
+}
+
+// A statement with expressions only below it.
+fn is_plain(kind: u16) -> bool
+    ensures { λ r. ⌜ r ≡ isPlain kind ⌝ }
+{
+    if kind == 21 {
+        return true;
+    }
+    if kind < 25 {
+        return false;
+    }
+    kind < 29
 }
 
 // The statements below an entry that has one expression before them.
@@ -75,7 +88,7 @@ fn operands(
     let mut place = at;
     let mut i = 0;
     while i < count {
-        match expression(table, rest, nesting, place, sizes, env, top + i) {
+        match operand(table, rest, nesting, place, sizes, env, top, i) {
             Verdict::Fine(t) => {
                 scopes::push(env, top + i, 65538, 0, t, 0);
                 let n = spans::size_at(sizes, place);
@@ -90,6 +103,28 @@ fn operands(
         }
     }
     Verdict::Fine(0)
+}
+
+// The expression after i of them. Most are leaves: such a one is answered without a call, and its name is looked up below the types.
+fn operand(
+    table: &[u8],
+    part: &[u8],
+    nesting: usize,
+    at: usize,
+    sizes: &[u16],
+    env: &mut [u32],
+    top: usize,
+    i: usize,
+) -> Verdict
+    requires { ⌜ Asks ExprForm (now table) (now part) nesting at (now sizes) (now env) (top + i) × Alike (now env) top i ⌝ }
+    ensures { λ r. ⌜ Typed ExprForm (now (table .entry)) (now (part .entry)) nesting at (now (sizes .entry)) (now (env .entry)) (now (env .exit)) (top + i) r ⌝ }
+{
+    let kind = words::half_at(part, 0);
+    if operands::is_leaf(kind) {
+        operands::leaf(kind, words::half_at(part, 2) as u32, at, env, top)
+    } else {
+        expression(table, part, nesting, at, sizes, env, top + i)
+    }
 }
 
 // An entry with expressions only below it.
@@ -178,7 +213,7 @@ pub fn items(
     let mut place = at;
     let mut left = count;
     while 0 < left {
-        match statement(table, rest, nesting, place, sizes, env, top) {
+        match item(table, rest, nesting, place, sizes, env, top) {
             Verdict::Fine(_) => {
                 let n = spans::size_at(sizes, place);
                 let from = 8 * n;
@@ -192,6 +227,26 @@ pub fn items(
         }
     }
     Verdict::Fine(0)
+}
+
+// One of them. Most are plain: such a one is not handed on twice.
+fn item(
+    table: &[u8],
+    part: &[u8],
+    nesting: usize,
+    at: usize,
+    sizes: &[u16],
+    env: &mut [u32],
+    top: usize,
+) -> Verdict
+    requires { ⌜ Asks StmtForm (now table) (now part) nesting at (now sizes) (now env) top ⌝ }
+    ensures { λ r. ⌜ Answers StmtForm (now (table .entry)) (now (part .entry)) nesting at (now (sizes .entry)) (now (env .entry)) (now (env .exit)) top r ⌝ }
+{
+    if is_plain(words::half_at(part, 0)) {
+        simple(table, part, nesting, at, sizes, env, top)
+    } else {
+        statement(table, part, nesting, at, sizes, env, top)
+    }
 }
 
 // A block: its names, then its head, then its items.

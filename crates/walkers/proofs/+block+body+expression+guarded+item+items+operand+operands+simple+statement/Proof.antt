@@ -2,73 +2,88 @@ use mathlib.Core.Path.{refl, sym, _∙_}
 use native.Mathlib.Omega.{arith}
 use borrow.Author.Needs.{needs}
 use Rattle.shapes.specs.Forms.{is-body, is-simple, is-block, is-guard, is-other}
-use Rattle.shapes.specs.Steps.{EsSoFar, es-start, es-asks, es-room, es-passes, es-stop, es-next, es-end, ItemsSoFar, items-start, items-asks, items-passes, items-stop, items-next, items-end, ask-as, answer-as, typed-as, typed-answer, label-answer, simple-asks, settle-asks, simple-stop, simple-judged}
+use Rattle.shapes.specs.Steps.{EsSoFar, es-start, es-asks, es-room, es-passes, es-stop, es-next, es-end, ItemsSoFar, items-start, items-asks, items-passes, items-stop, items-next, items-end, ask-as, answer-as, typed-as, typed-answer, label-answer, simple-asks, settle-asks, simple-stop, simple-judged, leaf-judged, leaf-small, plain-form}
 use Rattle.shapes.specs.Ends.{asked, guard-asks, guard-passes, guard-stop, guard-items, guard-stop-2, guard-judged, block-asks, block-within, block-top, block-stop, block-inner, block-judged, known-from, body-asks, body-within, body-top, body-stop, body-inner, body-stop-2, body-result, body-fits, body-judged}
 use Prim.Native.Nat.{ℕ, _+_, _-_, _*_, _<_}
 use borrow.Fn.Kinds.{In}
 use borrow.Fn.PlainCycle.{Measures, is, falls, and}
 use Rattle.walkers.proofs.block.Reads as block
 use Rattle.walkers.proofs.block.Kinds as block-kinds
-use Rattle.walkers.proofs.+block+body+expression+guarded+items+operands+simple+statement.Lts-block as block-lts
+use Rattle.walkers.proofs.+block+body+expression+guarded+item+items+operand+operands+simple+statement.Lts-block as block-lts
 use Rattle.walkers.proofs.body.Reads as body
 use Rattle.walkers.proofs.body.Kinds as body-kinds
-use Rattle.walkers.proofs.+block+body+expression+guarded+items+operands+simple+statement.Lts-body as body-lts
+use Rattle.walkers.proofs.+block+body+expression+guarded+item+items+operand+operands+simple+statement.Lts-body as body-lts
 use Rattle.walkers.proofs.expression.Reads as expression
 use Rattle.walkers.proofs.expression.Kinds as expression-kinds
-use Rattle.walkers.proofs.+block+body+expression+guarded+items+operands+simple+statement.Lts-expression as expression-lts
+use Rattle.walkers.proofs.+block+body+expression+guarded+item+items+operand+operands+simple+statement.Lts-expression as expression-lts
 use Rattle.walkers.proofs.guarded.Reads as guarded
 use Rattle.walkers.proofs.guarded.Kinds as guarded-kinds
-use Rattle.walkers.proofs.+block+body+expression+guarded+items+operands+simple+statement.Lts-guarded as guarded-lts
+use Rattle.walkers.proofs.+block+body+expression+guarded+item+items+operand+operands+simple+statement.Lts-guarded as guarded-lts
+use Rattle.walkers.proofs.item.Reads as item
+use Rattle.walkers.proofs.item.Kinds as item-kinds
+use Rattle.walkers.proofs.+block+body+expression+guarded+item+items+operand+operands+simple+statement.Lts-item as item-lts
 use Rattle.walkers.proofs.items.Reads as items
 use Rattle.walkers.proofs.items.Kinds as items-kinds
-use Rattle.walkers.proofs.+block+body+expression+guarded+items+operands+simple+statement.Lts-items as items-lts
+use Rattle.walkers.proofs.+block+body+expression+guarded+item+items+operand+operands+simple+statement.Lts-items as items-lts
+use Rattle.walkers.proofs.operand.Reads as operand
+use Rattle.walkers.proofs.operand.Kinds as operand-kinds
+use Rattle.walkers.proofs.+block+body+expression+guarded+item+items+operand+operands+simple+statement.Lts-operand as operand-lts
 use Rattle.walkers.proofs.operands.Reads as operands
 use Rattle.walkers.proofs.operands.Kinds as operands-kinds
-use Rattle.walkers.proofs.+block+body+expression+guarded+items+operands+simple+statement.Lts-operands as operands-lts
+use Rattle.walkers.proofs.+block+body+expression+guarded+item+items+operand+operands+simple+statement.Lts-operands as operands-lts
 use Rattle.walkers.proofs.simple.Reads as simple
 use Rattle.walkers.proofs.simple.Kinds as simple-kinds
-use Rattle.walkers.proofs.+block+body+expression+guarded+items+operands+simple+statement.Lts-simple as simple-lts
+use Rattle.walkers.proofs.+block+body+expression+guarded+item+items+operand+operands+simple+statement.Lts-simple as simple-lts
 use Rattle.walkers.proofs.statement.Reads as statement′
 use Rattle.walkers.proofs.statement.Kinds as statement-kinds
-use Rattle.walkers.proofs.+block+body+expression+guarded+items+operands+simple+statement.Lts-statement as statement-lts
+use Rattle.walkers.proofs.+block+body+expression+guarded+item+items+operand+operands+simple+statement.Lts-statement as statement-lts
 use Rattle.heads.proofs.enter.Reads as enter-reads
 use Rattle.heads.proofs.head.Reads as head-reads
 use Rattle.heads.proofs.once.Reads as once-reads
+use Rattle.operands.proofs.is_leaf.Reads as is-leaf-reads
+use Rattle.operands.proofs.leaf.Reads as leaf-reads
 use Rattle.operands.proofs.settle.Reads as settle-reads
 use Rattle.scopes.proofs.push.Reads as push-reads
 use Rattle.spans.proofs.size_at.Reads as size-at-reads
 use Rattle.spans.proofs.spanned.Reads as spanned-reads
 use Rattle.walkers.proofs.guarded_of.Reads as guarded-of-reads
+use Rattle.walkers.proofs.is_plain.Reads as is-plain-reads
 use Rattle.walkers.proofs.operands_of.Reads as operands-of-reads
 use Rattle.walkers.proofs.tested.Reads as tested-reads
 use Rattle.words.proofs.half_at.Reads as half-at-reads
 use Rattle.words.proofs.word_at.Reads as word-at-reads
-use Rattle.walkers.proofs.+block+body+expression+guarded+items+operands+simple+statement.{statement}
-use Rattle.walkers.proofs.+block+body+expression+guarded+items+operands+simple+statement.Tie.{close}
+use Rattle.walkers.proofs.+block+body+expression+guarded+item+items+operand+operands+simple+statement.{statement}
+use Rattle.walkers.proofs.+block+body+expression+guarded+item+items+operand+operands+simple+statement.Tie.{close}
 
 abbrev μ-block : Measures 4 block-kinds.ps ℕ
-μ-block κs a = 3 * a .1 .1 .0
+μ-block κs a = 4 * a .1 .1 .0
 
 abbrev μ-body : Measures 4 body-kinds.ps ℕ
-μ-body κs a = 3 * a .1 .1 .0
+μ-body κs a = 4 * a .1 .1 .0
 
 abbrev μ-expression : Measures 4 expression-kinds.ps ℕ
-μ-expression κs a = 3 * a .1 .1 .0 + 1
+μ-expression κs a = 4 * a .1 .1 .0 + 1
 
 abbrev μ-guarded : Measures 4 guarded-kinds.ps ℕ
-μ-guarded κs a = 3 * a .1 .1 .0
+μ-guarded κs a = 4 * a .1 .1 .0
+
+abbrev μ-item : Measures 4 item-kinds.ps ℕ
+μ-item κs a = 4 * a .1 .1 .0 + 2
 
 abbrev μ-items : Measures 4 items-kinds.ps ℕ
-μ-items κs a = 3 * a .1 .1 .1 .0 + 2
+μ-items κs a = 4 * a .1 .1 .1 .0 + 3
+
+abbrev μ-operand : Measures 4 operand-kinds.ps ℕ
+μ-operand κs a = 4 * a .1 .1 .0 + 2
 
 abbrev μ-operands : Measures 4 operands-kinds.ps ℕ
-μ-operands κs a = 3 * a .1 .1 .1 .0 + 2
+μ-operands κs a = 4 * a .1 .1 .1 .0 + 3
 
 abbrev μ-simple : Measures 4 simple-kinds.ps ℕ
-μ-simple κs a = 3 * a .1 .1 .0
+μ-simple κs a = 4 * a .1 .1 .0
 
 abbrev μ-statement : Measures 4 statement-kinds.ps ℕ
-μ-statement κs a = 3 * a .1 .1 .0 + 1
+μ-statement κs a = 4 * a .1 .1 .0 + 1
 
 -- what each is given at the measure t, and what a call of it asks below t
 abbrev block-at : ℕ → In 4 block-kinds.ps
@@ -95,11 +110,23 @@ guarded-at t = and 4 guarded-kinds.ps (is 4 guarded-kinds.ps μ-guarded t) guard
 abbrev guarded-below : ℕ → In 4 guarded-kinds.ps
 guarded-below t = and 4 guarded-kinds.ps (falls 4 guarded-kinds.ps _<_ μ-guarded t) guarded.Pre
 
+abbrev item-at : ℕ → In 4 item-kinds.ps
+item-at t = and 4 item-kinds.ps (is 4 item-kinds.ps μ-item t) item.Pre
+
+abbrev item-below : ℕ → In 4 item-kinds.ps
+item-below t = and 4 item-kinds.ps (falls 4 item-kinds.ps _<_ μ-item t) item.Pre
+
 abbrev items-at : ℕ → In 4 items-kinds.ps
 items-at t = and 4 items-kinds.ps (is 4 items-kinds.ps μ-items t) items.Pre
 
 abbrev items-below : ℕ → In 4 items-kinds.ps
 items-below t = and 4 items-kinds.ps (falls 4 items-kinds.ps _<_ μ-items t) items.Pre
+
+abbrev operand-at : ℕ → In 4 operand-kinds.ps
+operand-at t = and 4 operand-kinds.ps (is 4 operand-kinds.ps μ-operand t) operand.Pre
+
+abbrev operand-below : ℕ → In 4 operand-kinds.ps
+operand-below t = and 4 operand-kinds.ps (falls 4 operand-kinds.ps _<_ μ-operand t) operand.Pre
 
 abbrev operands-at : ℕ → In 4 operands-kinds.ps
 operands-at t = and 4 operands-kinds.ps (is 4 operands-kinds.ps μ-operands t) operands.Pre
@@ -341,11 +368,30 @@ items-Inv-loop table part count nesting at sizes env₀ top rest₀ place₀ lef
 abbrev items-μ-loop : items-lts.MeasureT-loop
 items-μ-loop table part count nesting at sizes env₀ top rest₀ place₀ left₀ env rest place left = left
 
-items-meets : {M : Type 1} (t : ℕ) → items-lts.Closed (statement-below t, statement′.Post, size-at-reads.Asked, size-at-reads.Learnt) (items-at t) items.Post M
-items-meets t = items-lts.spec (statement-below t, statement′.Post, size-at-reads.Asked, size-at-reads.Learnt) (items-at t) items.Post items-Inv-loop items-μ-loop
+item-meets : {M : Type 1} (t : ℕ) → item-lts.Closed (half-at-reads.Asked, half-at-reads.Learnt, is-plain-reads.Asked, is-plain-reads.Learnt, simple-below t, simple.Post, statement-below t, statement′.Post) (item-at t) item.Post M
+item-meets t = item-lts.spec (half-at-reads.Asked, half-at-reads.Learnt, is-plain-reads.Asked, is-plain-reads.Learnt, simple-below t, simple.Post, statement-below t, statement′.Post) (item-at t) item.Post
+    -- half-at-requires
+    (λ c κs. omega (arith, asked (c .before .before .before .before .pre .1) .long))
+    -- is-plain-requires
+    (λ c κs. search needs)
+    -- simple-requires
+    (λ c κs. (omega arith, ask-as (λ f h e. plain-form f h _ (sym (c .before .before .is-plain .ensures) ∙ c .before .if1 .taken) (c .before .before .before .half-at .ensures ∙ e)) (c .before .before .before .before .before .before .before .before .pre .1)))
+    -- statement-requires
+    (λ c κs. (omega arith, c .before .before .before .before .before .before .before .before .pre .1))
+    -- same-length
+    (λ c. search needs)
+    -- returns
+    (λ c. typed-answer (λ f h e. plain-form f h _ (sym (c .before .before .before .before .before .is-plain .ensures) ∙ c .before .before .before .before .if1 .taken) (c .before .before .before .before .before .before .half-at .ensures ∙ e)) (c .before .before .simple .ensures))
+    -- same-length-2
+    (λ c. search needs)
+    -- returns-2
+    (λ c. c .before .before .statement .ensures)
+
+items-meets : {M : Type 1} (t : ℕ) → items-lts.Closed (item-below t, item.Post, size-at-reads.Asked, size-at-reads.Learnt) (items-at t) items.Post M
+items-meets t = items-lts.spec (item-below t, item.Post, size-at-reads.Asked, size-at-reads.Learnt) (items-at t) items.Post items-Inv-loop items-μ-loop
     -- loop-holds
     (λ c. items-start (c .before .before .before .before .args .table .now) (c .before .before .before .before .args .part .now) (c .before .before .before .before .args .count) (c .before .before .before .before .args .nesting) (c .before .before .before .before .args .at) (c .before .before .before .before .args .sizes .now) (c .before .before .before .before .args .env .now) (c .before .before .before .before .args .top))
-    -- statement-requires
+    -- item-requires
     (λ c κs. (omega arith, items-asks (c .before .before .loop .inv) (omega arith) (c .before .before .before .before .before .before .before .pre .1)))
     -- enum-told
     (λ c. search needs)
@@ -366,13 +412,13 @@ items-meets t = items-lts.spec (statement-below t, statement′.Post, size-at-re
     -- loop-less
     (λ c. omega arith)
     -- loop-again
-    (λ c. items-next (c .before .before .before .before .before .before .before .before .before .loop .inv) (omega arith) _ (c .before .size-at .result) (c .before .before .before .before .before .before .statement .ensures) (c .before .before .enum-told .given .1) (c .before .size-at .ensures))
+    (λ c. items-next (c .before .before .before .before .before .before .before .before .before .loop .inv) (omega arith) _ (c .before .size-at .result) (c .before .before .before .before .before .before .item .ensures) (c .before .before .enum-told .given .1) (c .before .size-at .ensures))
     -- enum-known-k
     (λ c. search needs)
     -- same-length
     (λ c. search needs)
     -- returns
-    (λ c. items-stop (c .before .before .before .before .before .before .before .before .loop .inv) (omega arith) _ _ (c .before .before .before .before .before .statement .ensures) (c .before .k .given .1))
+    (λ c. items-stop (c .before .before .before .before .before .before .before .before .loop .inv) (omega arith) _ _ (c .before .before .before .before .before .item .ensures) (c .before .k .given .1))
     -- same-length-2
     (λ c. search needs)
     -- returns-2
@@ -384,20 +430,43 @@ operands-Inv-loop table part count nesting at sizes env₀ top rest₀ place₀ 
 abbrev operands-μ-loop : operands-lts.MeasureT-loop
 operands-μ-loop table part count nesting at sizes env₀ top rest₀ place₀ i₀ env rest place i = count - i
 
-operands-meets : {M : Type 1} (t : ℕ) → operands-lts.Closed (expression-below t, expression.Post, push-reads.Asked, push-reads.Learnt, size-at-reads.Asked, size-at-reads.Learnt) (operands-at t) operands.Post M
-operands-meets t = operands-lts.spec (expression-below t, expression.Post, push-reads.Asked, push-reads.Learnt, size-at-reads.Asked, size-at-reads.Learnt) (operands-at t) operands.Post operands-Inv-loop operands-μ-loop
+operand-meets : {M : Type 1} (t : ℕ) → operand-lts.Closed (half-at-reads.Asked, half-at-reads.Learnt, is-leaf-reads.Asked, is-leaf-reads.Learnt, leaf-reads.Asked, leaf-reads.Learnt, expression-below t, expression.Post) (operand-at t) operand.Post M
+operand-meets t = operand-lts.spec (half-at-reads.Asked, half-at-reads.Learnt, is-leaf-reads.Asked, is-leaf-reads.Learnt, leaf-reads.Asked, leaf-reads.Learnt, expression-below t, expression.Post) (operand-at t) operand.Post
+    -- half-at-requires
+    (λ c κs. omega (arith, asked (c .before .before .before .before .pre .1 .0) .long))
+    -- is-leaf-requires
+    (λ c κs. search needs)
+    -- half-at-requires-2
+    (λ c κs. omega (arith, asked (c .before .before .before .before .before .before .before .pre .1 .0) .long))
+    -- cast-leaf
+    (λ c. search needs)
+    -- leaf-requires
+    (λ c κs. (omega (arith, asked (c .before .before .before .before .before .before .before .before .before .pre .1 .0) .room), rw (c .before .half-at2 .ensures) (leaf-small (c .before .before .before .before .before .before .before .before .before .pre .1 .0))))
+    -- add-expression
+    (λ c. omega (arith, asked (c .before .before .before .before .before .before .before .before .pre .1 .0) .room))
+    -- expression-requires
+    (λ c κs. (omega arith, c .before .before .before .before .before .before .before .before .pre .1 .0))
+    -- same-length
+    (λ c. search needs)
+    -- returns
+    (λ c. leaf-judged (rw (c .before .before .before .before .before .half-at .ensures) at (sym (c .before .before .before .before .is-leaf .ensures) ∙ c .before .before .before .if1 .taken)) (c .before .before .before .before .before .before .before .before .before .before .pre .1 .1) (c .leaf .ensures ∙ rw (c .before .before .before .before .before .half-at .ensures, c .before .before .half-at2 .ensures)) (leaf-small (c .before .before .before .before .before .before .before .before .before .before .pre .1 .0)))
+    -- same-length-2
+    (λ c. search needs)
+    -- returns-2
+    (λ c. c .before .before .expression .ensures)
+
+operands-meets : {M : Type 1} (t : ℕ) → operands-lts.Closed (operand-below t, operand.Post, push-reads.Asked, push-reads.Learnt, size-at-reads.Asked, size-at-reads.Learnt) (operands-at t) operands.Post M
+operands-meets t = operands-lts.spec (operand-below t, operand.Post, push-reads.Asked, push-reads.Learnt, size-at-reads.Asked, size-at-reads.Learnt) (operands-at t) operands.Post operands-Inv-loop operands-μ-loop
     -- loop-holds
     (λ c. es-start (c .before .before .before .before .args .table .now) (c .before .before .before .before .args .part .now) (c .before .before .before .before .args .count) (c .before .before .before .before .args .nesting) (c .before .before .before .before .args .at) (c .before .before .before .before .args .sizes .now) (c .before .before .before .before .args .env .now) (c .before .before .before .before .args .top))
-    -- add-expression
-    (λ c. omega (arith, es-room (c .before .before .loop .inv) (omega arith) (c .before .before .before .before .before .before .before .pre .1)))
-    -- expression-requires
-    (λ c κs. (omega arith, es-asks (c .before .before .loop .inv) (omega arith) (c .before .before .before .before .before .before .before .pre .1)))
+    -- operand-requires
+    (λ c κs. (omega arith, (es-asks (c .before .before .loop .inv) (omega arith) (c .before .before .before .before .before .before .before .pre .1), c .before .before .loop .inv .alike)))
     -- enum-known-t
     (λ c. search needs)
     -- add-push
     (λ c. omega (arith, es-room (c .before .before .before .before .before .before .before .before .before .loop .inv) (omega arith) (c .before .before .before .before .before .before .before .before .before .before .before .before .before .before .pre .1)))
     -- push-requires
-    (λ c κs. omega (arith, es-room (c .before .before .before .before .before .before .before .before .before .loop .inv) (omega arith) (c .before .before .before .before .before .before .before .before .before .before .before .before .before .before .pre .1), c .before .before .before .before .before .before .expression .ensures .same))
+    (λ c κs. omega (arith, es-room (c .before .before .before .before .before .before .before .before .before .loop .inv) (omega arith) (c .before .before .before .before .before .before .before .before .before .before .before .before .before .before .pre .1), c .before .before .before .before .before .before .operand .ensures .same))
     -- size-at-requires
     (λ c κs. es-passes (c .before .before .before .before .before .before .before .before .before .before .before .before .loop .inv) (omega arith) (c .before .before .before .before .before .before .before .before .before .before .before .before .before .before .before .before .before .pre .1) _ refl .known)
     -- mul-from
@@ -415,13 +484,13 @@ operands-meets t = operands-lts.spec (expression-below t, expression.Post, push-
     -- loop-less
     (λ c. omega arith)
     -- loop-again
-    (λ c. es-next (c .before .before .before .before .before .before .before .before .before .before .before .before .before .before .loop .inv) (omega arith) _ (c .before .size-at .result) (c .before .before .before .before .before .before .before .before .before .before .before .expression .ensures) (c .before .before .before .before .before .before .before .t .given .1) (c .before .before .before .before .push .ensures) (c .before .size-at .ensures) (omega (arith, es-room (c .before .before .before .before .before .before .before .before .before .before .before .before .before .before .loop .inv) (omega arith) (c .before .before .before .before .before .before .before .before .before .before .before .before .before .before .before .before .before .before .before .pre .1), c .before .before .before .before .before .before .before .before .before .before .before .expression .ensures .same)))
+    (λ c. es-next (c .before .before .before .before .before .before .before .before .before .before .before .before .before .before .loop .inv) (omega arith) _ (c .before .size-at .result) (c .before .before .before .before .before .before .before .before .before .before .before .operand .ensures) (c .before .before .before .before .before .before .before .t .given .1) (c .before .before .before .before .push .ensures) (c .before .size-at .ensures) (omega (arith, es-room (c .before .before .before .before .before .before .before .before .before .before .before .before .before .before .loop .inv) (omega arith) (c .before .before .before .before .before .before .before .before .before .before .before .before .before .before .before .before .before .before .before .pre .1), c .before .before .before .before .before .before .before .before .before .before .before .operand .ensures .same)))
     -- enum-known-n
     (λ c. search needs)
     -- same-length
     (λ c. search needs)
     -- returns
-    (λ c. es-stop (c .before .before .before .before .before .before .before .before .loop .inv) (omega arith) _ _ (c .before .before .before .before .before .expression .ensures) (c .before .n .given .1))
+    (λ c. es-stop (c .before .before .before .before .before .before .before .before .loop .inv) (omega arith) _ _ (c .before .before .before .before .before .operand .ensures) (c .before .n .given .1))
     -- same-length-2
     (λ c. search needs)
     -- returns-2
@@ -519,5 +588,5 @@ statement-meets t = statement-lts.spec (half-at-reads.Asked, half-at-reads.Learn
     -- returns-7
     (λ c. typed-answer (λ f h e. is-other f h (λ z. c .before .before .before .before .match .rest .0 .0 .0 .0 .0 .1 (c .before .before .before .before .before .half-at .ensures ∙ e ∙ z)) (λ z. c .before .before .before .before .match .rest .0 .0 .0 .0 .1 (c .before .before .before .before .before .half-at .ensures ∙ e ∙ z)) (λ z. c .before .before .before .before .match .rest .0 .0 .0 .1 (c .before .before .before .before .before .half-at .ensures ∙ e ∙ z)) (λ z. c .before .before .before .before .match .rest .0 .0 .1 (c .before .before .before .before .before .half-at .ensures ∙ e ∙ z)) (λ z. c .before .before .before .before .match .rest .0 .1 (c .before .before .before .before .before .half-at .ensures ∙ e ∙ z)) (λ z. c .before .before .before .before .match .rest .1 (c .before .before .before .before .before .half-at .ensures ∙ e ∙ z))) (c .before .before .simple .ensures))
 
-pub +block+body+expression+guarded+items+operands+simple+statement-spec : {M : Type 1} → statement M
-+block+body+expression+guarded+items+operands+simple+statement-spec = close μ-block μ-body μ-expression μ-guarded μ-items μ-operands μ-simple μ-statement block-meets body-meets expression-meets guarded-meets items-meets operands-meets simple-meets statement-meets
+pub +block+body+expression+guarded+item+items+operand+operands+simple+statement-spec : {M : Type 1} → statement M
++block+body+expression+guarded+item+items+operand+operands+simple+statement-spec = close μ-block μ-body μ-expression μ-guarded μ-item μ-items μ-operand μ-operands μ-simple μ-statement block-meets body-meets expression-meets guarded-meets item-meets items-meets operand-meets operands-meets simple-meets statement-meets
