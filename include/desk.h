@@ -1,16 +1,23 @@
 /* The cue macros' library for the desk's shell: libdesk.a (rt staticlib desk).
  *
- * A byte slice is a pointer and then a length. What the caller ensures: the pointer is valid for that many bytes (it may be anything where
- * the length is 0), the bytes are not changed by anybody during a call, and slices of one call do not overlap. Nothing is asked of what
- * the bytes hold: any bytes are answered.
+ * A byte slice is a pointer and then a length. What the caller ensures: each pointer is valid for that many bytes (it may be anything where
+ * the length is 0), to be read and, where it is not const, to be written; nobody else reads or writes the bytes during a call; and the slices of one
+ * call do not overlap. Nothing is asked of what the bytes hold, nor of the lengths: anything is answered.
  *
- * An answer is one number: tag + 2^8 * steps + 2^24 * first + 2^40 * second.
+ * An answer is one number: tag + 2^8 * steps + 2^24 * first + 2^40 * second. The steps are 0 but for the answers of a run.
  *
- *   tag          first                   second
- *   0 refusal    its number              its place
- *   1 done       0                       0
+ *   tag                 first                       second
+ *   0 refusal           its number                  its place
+ *   1 done              0                           0
+ *   2 allowance used    0                           0
+ *   3 end               0, or the condition         0
+ *   4 set               the channel, 1 to 512       the level, 0 to 255
+ *   5 hold              the group, 0 to 63          0
+ *   6 release           the group, 0 to 63          0
  *
- * A refusal writes nothing.
+ * Stack: the numbers below were read off the object code of this build with objdump, or measured where a function calls itself.
+ *
+ * A refusal writes nothing. No function keeps anything between calls, allocates or locks: calls on different states may go on at once.
  */
 #ifndef DESK_H
 #define DESK_H
@@ -27,12 +34,57 @@ extern "C" {
 #define CUE_FIRST(answer) ((unsigned)((answer) >> 24 & 0xffff))
 #define CUE_SECOND(answer) ((unsigned)((answer) >> 40))
 
-enum cue_tag { CUE_REFUSAL = 0, CUE_DONE = 1 };
+enum cue_tag {
+    CUE_REFUSAL = 0,
+    CUE_DONE = 1,
+    CUE_USED = 2,
+    CUE_END = 3,
+    CUE_SET = 4,
+    CUE_HOLD = 5,
+    CUE_RELEASE = 6
+};
+
+/* The length of a run state and of a bank of readings, in bytes. */
+#define CUE_STATE_BYTES 24576
+#define CUE_READINGS 64
+
+/* The table check: done, or a refusal by the first that holds of these, with its place (entries count from 0):
+ *
+ *   1  the table is empty, over 16,384 bytes or not in eights    0
+ *   2  it does not read as one tree within the layout            the first entry that does not read; the entry count where it ends early
+ *   3  a name is undefined, or twice in a block                  the entry; of two the second
+ *   4  a type, a sort of name or a count of operands is wrong    the entry
+ *   5  a label is out of a goto's reach                          the goto
+ *   6  a body is over its limits                                 the procedure's entry, the first such; 0 for the root if no procedure is
+ *
+ * Of 3, 4 and 5 the refusal is at the first entry, inner before outer and left to right, that has one of them, and is the least of that entry's.
+ * The table is read only. The work is linear in its entries but for looking names up: an entry may walk all names in sight.
+ * It takes about 70 KB of stack at every call, whatever the table's size (a frame of 69,792 bytes, which holds the arrays of all sizes), and up to
+ * 39 KB more for nesting (about 610 bytes a level, for an if or while in another): 108,152 bytes is the most that was measured, at nesting 64. */
+uint64_t cue_check(const uint8_t *table, size_t n);
 
 /* The loading check: refusal 8 (place: the first record that does not read) or 9 (place: the lowest address at fault), or done.
- * It takes about 300 KB of stack at every call, whatever the macro's size: the compiler gives the indexes of all sizes one frame (299,320 bytes,
- * read off the object code of this build, and some 500 in the function below it). */
+ * It takes about 300 KB of stack at every call, whatever the macro's size: the compiler gives the indexes of all sizes one frame (300,088 bytes
+ * in all). */
 uint64_t cue_load(const uint8_t *code, size_t n);
+
+/* The start of a macro: refusal 8 or 9 as above, 10 where len is not CUE_STATE_BYTES, or done; then all of the state has been written,
+ * whatever it held: it stands before the macro's first instruction. Stack: 300,136 bytes. */
+uint64_t cue_start(const uint8_t *code, size_t n, uint8_t *state, size_t len);
+
+/* A run of at most `allowance` steps from a state that a start or a run of the same macro left (docs/STATE.md has the layout; any other bytes are
+ * refused or, where they are a sound state of this macro, run). Fader n reads readings[n - 1].
+ *
+ *   refusal 8, 9      as above
+ *   refusal 10        len is not CUE_STATE_BYTES, or the bytes are no sound state of this macro
+ *   refusal 11        m is not CUE_READINGS
+ *   set, hold, release  what the last of the steps taken gave; run again to go on
+ *   allowance used    the steps are the allowance; run again to go on
+ *   end               by 0, or by the condition (20 to 27) after its releases; further runs give the end again, with 0 steps
+ *
+ * The refusals are tested in this order. Every run makes the loading check anew and tests the state, so that its time grows with the
+ * macro's length and not with the allowance alone. Stack: 300,216 bytes, and 599,832 where len is not CUE_STATE_BYTES. */
+uint64_t cue_run(const uint8_t *code, size_t n, uint8_t *state, size_t len, const uint8_t *readings, size_t m, uint16_t allowance);
 
 #ifdef __cplusplus
 }

@@ -355,6 +355,57 @@ fn many_parameters(rng: &mut Rng) -> Macro {
     }
 }
 
+// Runs.
+
+/// A root and a procedure that calls itself for ever, each with so many cells, and with so many holds and operands at its call.
+pub fn spiral(cells: usize, holds: usize, operands: usize) -> Macro {
+    let level: String = (0..holds).map(|g| format!("17 0 {},", 63 - g)).chain((0..operands).map(|n| format!("1 0 {n},"))).collect();
+    let body_text = format!("{level} 10 0 1, 20 0 0");
+    let first = (holds + operands + 2) as u16;
+    Macro {
+        classes: Vec::new(),
+        bodies: vec![body(0, 0, 0, &vec![1; cells]), body(first, 0, 0, &vec![1; cells])],
+        code: code(&format!("{body_text}, {body_text}")),
+        shapes: Vec::new(),
+    }
+}
+
+/// A root that makes records for ever, each of so many integers and a reference to the one before.
+pub fn chain(integers: usize) -> Macro {
+    let mut fields = vec![1; integers];
+    fields.push(16);
+    let pushes: String = (0..integers).map(|n| format!("1 0 {n},")).collect();
+    Macro {
+        classes: vec![fields],
+        bodies: vec![body(0, 0, 0, &[16])],
+        code: code(&format!("{pushes} 5 0 0, 12 0 0, 6 0 0, 8 0 0")),
+        shapes: vec![shape(0, 0, &[])],
+    }
+}
+
+/// A root that counts for ever, with a hold open; from time to time a set tells how far it is.
+pub fn counter(every: i32) -> Macro {
+    Macro {
+        classes: Vec::new(),
+        bodies: vec![body(0, 0, 0, &[1])],
+        code: code(&format!(
+            "17 0 9, 5 0 0, 1 0 1, 7 1 0, 6 0 0, 5 0 0, 1 0 {every}, 7 5 0, 1 0 0, 7 10 0, 9 0 1,
+             5 0 0, 1 0 512, 7 5 0, 1 0 1, 7 1 0, 1 0 7, 15 0 0, 8 0 1"
+        )),
+        shapes: vec![shape(1, 1, &[])],
+    }
+}
+
+/// A macro that goes on for long: it reaches the limits of a run, or counts.
+pub fn long_macro(rng: &mut Rng) -> Macro {
+    match rng.below(4) {
+        0 => spiral(rng.below(33), rng.below(17), rng.below(33)),
+        1 => chain(rng.below(8)),
+        2 => counter(1 + rng.below(3_000) as i32),
+        _ => deep_macro().code,
+    }
+}
+
 // States.
 
 /// A macro that makes records of two classes and calls itself with a hold and an operand at each

@@ -1,7 +1,7 @@
 //! Generated run states: reached by steps of the plain machine, or made up, and then damaged
 //! field by field and byte by byte, so that sound and unsound ones are both frequent.
 
-use crate::code::Loaded;
+use crate::code::{Loaded, Macro};
 use crate::machine::{fresh, step, State};
 use crate::rng::Rng;
 use crate::state::{encode, LENGTH};
@@ -17,6 +17,15 @@ fn richness(state: &State) -> usize {
         State::Releasing { holds, .. } => holds.len(),
         State::Ended { .. } => 0,
     }
+}
+
+/// The state after so many steps, all readings 0.
+pub fn after(loaded: &Loaded, steps: usize) -> State {
+    let mut state = fresh(&loaded.code);
+    for _ in 0..steps {
+        step(&loaded.code, &mut state, &mut |_| 0).unwrap();
+    }
+    state
 }
 
 /// A state that some number of steps, at most this many, reaches; mostly a rich one.
@@ -162,6 +171,73 @@ fn damage(rng: &mut Rng, state: &State, bytes: &mut [u8]) {
         }
         _ => unused_byte(rng, bytes),
     }
+}
+
+/// One structure of a state, an activation, a record, a hold, a value's word or its type byte, copied over another of its kind,
+/// exchanged with it or made 0. Mostly among the first of them, which are in use.
+pub fn move_structure(rng: &mut Rng, bytes: &mut [u8]) {
+    let activation = 32 + 328 * rng.below(1 + bytes[2] as usize).min(31);
+    let record = 11_040 + 44 * rng.below(1 + bytes[4] as usize).min(255);
+    // The first of them, their size and how many there are.
+    let (first, size, count) = *rng.pick(&[
+        (32, 328, 32),
+        (10_528, 1, 512),
+        (11_040, 44, 256),
+        (activation, 1, 6),
+        (activation + 8, 4, 32),
+        (activation + 136, 4, 32),
+        (activation + 264, 1, 32),
+        (activation + 296, 1, 32),
+        (record + 4, 4, 8),
+        (record + 36, 1, 8),
+    ]);
+    let most = if rng.chance(80) { count.min(4) } else { count };
+    let (one, other) = (first + size * rng.below(most), first + size * rng.below(most));
+    match rng.below(5) {
+        0 => bytes[one..one + size].fill(0),
+        1 | 2 => bytes.copy_within(one..one + size, other),
+        _ => (0..size).for_each(|i| bytes.swap(one + i, other + i)),
+    }
+}
+
+/// An activation gets some operands more, of likely types: as if a call had not taken its arguments.
+pub fn add_operands(rng: &mut Rng, bytes: &mut [u8]) {
+    let at = 32 + 328 * rng.below(bytes[2].clamp(1, 32) as usize);
+    for _ in 0..1 + rng.below(3) {
+        let depth = bytes[at + 1] as usize;
+        if depth < 32 {
+            bytes[at + 296 + depth] = *rng.pick(&[1, 1, 1, 2, 3, 16, 17]);
+            bytes[at + 1] += 1;
+        }
+    }
+}
+
+/// Which bytes a state uses (docs/STATE.md).
+pub fn used(m: &Macro, state: &State) -> Vec<bool> {
+    // Where runs of used bytes begin, and how long they are.
+    let mut runs = Vec::new();
+    match state {
+        State::Running { records, activations } => {
+            runs.extend([(0, 1), (2, 1), (4, 4)]);
+            for (k, t) in activations.iter().enumerate() {
+                let at = 32 + 328 * k;
+                let (cells, operands) = (m.bodies[t.body].cells.len(), t.stack.len());
+                runs.extend([(at, 3), (at + 4, 2), (at + 8, 4 * cells), (at + 136, 4 * operands), (at + 264, cells), (at + 296, operands)]);
+            }
+            runs.push((10_528, activations.iter().map(|t| t.holds.len()).sum()));
+            for (k, r) in records.iter().enumerate() {
+                let (at, fields) = (11_040 + 44 * k, r.fields.len());
+                runs.extend([(at, 1), (at + 4, 4 * fields), (at + 36, fields)]);
+            }
+        }
+        State::Releasing { holds, .. } => runs.extend([(0, 2), (6, 2), (10_528, holds.len())]),
+        State::Ended { .. } => runs.push((0, 2)),
+    }
+    let mut used = vec![false; LENGTH];
+    for (from, count) in runs {
+        used[from..from + count].fill(true);
+    }
+    used
 }
 
 /// A byte that few states use.

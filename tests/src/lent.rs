@@ -12,6 +12,9 @@ extern "C" {
 const PAGE: usize = 4096;
 const READ_WRITE: i32 = 3;
 const PRIVATE_ANONYMOUS: i32 = 0x22;
+/// What stands on both sides of a slice, as far as there is room between the two pages.
+const BESIDE: usize = 64;
+const GUARD: u8 = 0xA5;
 
 pub struct Lent {
     pages: *mut u8,
@@ -33,20 +36,33 @@ impl Lent {
         Lent { pages, room, calls: 0 }
     }
 
-    /// Lends these bytes: in turn up to the last page, from the first page on, and at every other alignment.
+    /// Lends these bytes to be read.
     pub fn lend<T>(&mut self, bytes: &[u8], work: impl FnOnce(&[u8]) -> T) -> T {
+        let (answer, left) = self.lend_to_write(bytes, |lent| work(lent));
+        assert_eq!(left, bytes, "lent bytes stay");
+        answer
+    }
+
+    /// Lends these bytes to be read and written, in turn up to the last page, from the first page on, and at every other alignment. What
+    /// they are then.
+    pub fn lend_to_write<T>(&mut self, bytes: &[u8], work: impl FnOnce(&mut [u8]) -> T) -> (T, &[u8]) {
         let free = self.room - bytes.len();
         self.calls += 1;
         let from = match self.calls % 9 {
             0 => 0,
             gap => free.saturating_sub(gap - 1),
         };
-        // SAFETY: the slice lies between the two pages; nothing else refers to it.
-        let copy = unsafe { std::slice::from_raw_parts_mut(self.pages.add(PAGE + from), bytes.len()) };
-        copy.copy_from_slice(bytes);
-        let answer = work(std::hint::black_box(copy));
-        assert_eq!(std::hint::black_box(&*copy), bytes, "lent bytes stay");
-        answer
+        let (before, behind) = (from.min(BESIDE), (free - from).min(BESIDE));
+        // SAFETY: the slice and what stands beside it lie between the two pages; nothing else refers to them.
+        let all = unsafe { std::slice::from_raw_parts_mut(self.pages.add(PAGE + from - before), before + bytes.len() + behind) };
+        all.fill(GUARD);
+        let place = before..before + bytes.len();
+        all[place.clone()].copy_from_slice(bytes);
+        let answer = work(std::hint::black_box(&mut all[place.clone()]));
+        let all = std::hint::black_box(&*all);
+        let beside = [&all[..before], &all[place.end..]].concat();
+        assert!(beside.iter().all(|byte| *byte == GUARD), "nothing is written beside what was lent");
+        (answer, &all[place])
     }
 }
 

@@ -2,6 +2,8 @@
 //! more in Rust, from the papers alone. The prover's definitions and the proved code are
 //! held against it, so it is plain rather than quick; comments cite the paper's sentence.
 
+#[cfg(desk)]
+pub mod abreast;
 pub mod agree;
 pub mod answer;
 pub mod blind;
@@ -23,6 +25,8 @@ pub mod names;
 pub mod paper;
 pub mod plain_check;
 pub mod plain_loader;
+pub mod plain_machine;
+mod plain_state;
 pub mod rng;
 pub mod state;
 pub mod table;

@@ -4,15 +4,17 @@
 
 const CELLS: usize = 32;
 
-struct Records {
-    classes: Vec<usize>,
-    bodies: Vec<usize>,
-    base: usize,
+/// Where the records of a macro stand.
+pub(crate) struct Records {
+    pub(crate) classes: Vec<usize>,
+    pub(crate) bodies: Vec<usize>,
+    /// The first IN.
+    pub(crate) base: usize,
     shapes: Vec<u32>,
-    count: usize,
+    pub(crate) count: usize,
 }
 
-fn half(l: &[u8], p: usize) -> usize {
+pub(crate) fn half(l: &[u8], p: usize) -> usize {
     l[p] as usize | (l[p + 1] as usize) << 8
 }
 
@@ -33,7 +35,7 @@ fn all_types(l: &[u8], p: usize, n: usize, classes: usize) -> bool {
 }
 
 /// The records, or the index of the first that does not read.
-fn records(l: &[u8]) -> Result<Records, usize> {
+pub(crate) fn records(l: &[u8]) -> Result<Records, usize> {
     if !marked(l, 0, 8, b"HD") || l[2] > 16 || l[3] < 1 || l[3] > 64 {
         return Err(0);
     }
@@ -97,10 +99,10 @@ fn records(l: &[u8]) -> Result<Records, usize> {
 }
 
 /// The operand types, and the open holds.
-struct Stack {
-    types: [u8; 32],
-    depth: usize,
-    holds: u8,
+pub(crate) struct Stack {
+    pub(crate) types: [u8; 32],
+    pub(crate) depth: usize,
+    pub(crate) holds: u8,
 }
 
 impl Stack {
@@ -156,15 +158,15 @@ impl Stack {
 pub fn load(l: &[u8]) -> (u8, usize) {
     match records(l) {
         Err(i) => (8, i),
-        Ok(r) => match walk(l, &r) {
+        Ok(r) => match walk(l, &r, |_, _, _| {}) {
             None => (0, 0),
             Some(i) => (9, i),
         },
     }
 }
 
-/// The lowest address with a fault.
-fn walk(l: &[u8], r: &Records) -> Option<usize> {
+/// The lowest address with a fault. Whoever looks is told of each address its body and the state found there.
+pub(crate) fn walk(l: &[u8], r: &Records, mut look: impl FnMut(usize, usize, &Stack)) -> Option<usize> {
     let mut s = Stack { types: [0; 32], depth: 0, holds: 0 };
     let mut live = false;
     let mut k = 0;
@@ -195,6 +197,7 @@ fn walk(l: &[u8], r: &Records) -> Option<usize> {
         if !live {
             return Some(i);
         }
+        look(i, k, &s);
         let at = r.base + 8 * i;
         match op(l, r, k, end, &mut s, l[at + 2], l[at + 3], word(l, at + 4)) {
             None => return Some(i),

@@ -4,7 +4,7 @@
 use second::answer::{Answer, Event, Refusal};
 use second::code::*;
 use second::gen_code::{good_macro, Size};
-use second::gen_state::state_bytes;
+use second::gen_state::{after, state_bytes};
 use second::machine::*;
 use second::paper::*;
 use second::rng::Rng;
@@ -25,14 +25,6 @@ fn sample() -> Loaded {
         shapes: vec![shape(10, 1, &[]), ],
     };
     judge_macro(&write_macro(&m)).unwrap()
-}
-
-fn after(loaded: &Loaded, steps: usize) -> State {
-    let mut state = fresh(&loaded.code);
-    for _ in 0..steps {
-        step(&loaded.code, &mut state, &mut |_| 0).unwrap();
-    }
-    state
 }
 
 #[test]

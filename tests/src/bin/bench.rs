@@ -6,6 +6,8 @@
 fn main() {
     load::table();
     check::table();
+    runs::steps();
+    runs::fixed();
 }
 
 #[cfg(not(desk))]
@@ -66,7 +68,7 @@ mod load {
     use second::{desk, plain_loader};
 
     /// Counting, testing and jumping, eight instructions at a time, each time to the next eight.
-    fn counting(instructions: usize) -> Vec<u8> {
+    pub fn counting(instructions: usize) -> Vec<u8> {
         let blocks = (instructions - 4) / 8;
         let mut text = String::new();
         let mut shapes = Vec::new();
@@ -156,5 +158,126 @@ mod check {
         for (what, table, _) in worst_tables() {
             row(what, &[table]);
         }
+    }
+}
+
+#[cfg(desk)]
+mod runs {
+    use super::{in_turn, load};
+    use second::code::{write_macro, Macro};
+    use second::edges::chain;
+    use second::paper::{body, code, shape};
+    use second::state::LENGTH;
+    use second::{desk, plain_loader, plain_machine};
+
+    type Run = fn(&[u8], &mut [u8], &[u8], u16) -> u64;
+
+    /// The proved run, the plain one, and the plain one that keeps address, depth and top operand in locals.
+    const RUNS: [Run; 3] = [desk::run, plain_machine::run::<false>, plain_machine::run::<true>];
+
+    /// Counts to 100 in a cell, again and again.
+    fn count() -> Macro {
+        Macro {
+            classes: Vec::new(),
+            bodies: vec![body(0, 0, 0, &[1])],
+            code: code("1 0 0, 6 0 0, 5 0 0, 1 0 1, 7 1 0, 6 0 0, 5 0 0, 1 0 100, 7 6 0, 9 0 0, 8 0 2"),
+            shapes: vec![shape(0, 0, &[]), shape(2, 0, &[])],
+        }
+    }
+
+    /// Calls a function of two arguments that gives their sum, again and again.
+    fn call() -> Macro {
+        Macro {
+            classes: Vec::new(),
+            bodies: vec![body(0, 0, 0, &[1]), body(5, 2, 1, &[1, 1])],
+            code: code("1 0 3, 1 0 4, 10 0 1, 6 0 0, 8 0 0, 5 0 0, 5 0 1, 7 1 0, 11 0 0"),
+            shapes: vec![shape(0, 0, &[])],
+        }
+    }
+
+    /// Sets bits in a field of a record, which it reaches by a field of another, again and again.
+    fn fields() -> Macro {
+        Macro {
+            classes: vec![vec![3], vec![16]],
+            bodies: vec![body(0, 0, 0, &[17])],
+            code: code("3 0 0, 12 0 0, 12 1 0, 6 0 0, 5 0 0, 13 1 0, 5 0 0, 13 1 0, 13 0 0, 3 0 1, 7 13 0, 14 0 0, 8 0 4"),
+            shapes: vec![shape(4, 0, &[])],
+        }
+    }
+
+    /// As much as a state can hold: 255 records of eight fields, then 31 calls with 31 operands below each, of bodies with 32 cells.
+    fn full() -> Macro {
+        let making = format!("{} 5 0 1, 12 0 0, 6 0 1, 5 0 0, 1 0 1, 7 1 0, 6 0 0", "1 0 7,".repeat(7));
+        let calling = format!("{} 10 0 1, 20 0 0", "1 0 7,".repeat(31));
+        Macro {
+            classes: vec![vec![1, 1, 1, 1, 1, 1, 1, 16]],
+            bodies: vec![body(0, 0, 0, &[vec![1], vec![16; 31]].concat()), body(52, 0, 0, &[16; 32])],
+            code: code(&format!("{making}, 5 0 0, 1 0 255, 7 6 0, 9 0 19, 8 0 0, {calling}, {calling}")),
+            shapes: vec![shape(0, 0, &[]), shape(19, 0, &[])],
+        }
+    }
+
+    fn started(code: &[u8]) -> Vec<u8> {
+        let mut state = vec![0; LENGTH];
+        assert_eq!(desk::unpacked(desk::start(code, &mut state)), [1, 0, 0, 0]);
+        state
+    }
+
+    /// A run from this state, of just so many steps.
+    fn timed(run: Run, code: &[u8], state: &[u8], steps: u16) -> impl FnMut() -> u64 {
+        let (code, state) = (code.to_vec(), state.to_vec());
+        let mut copy = state.clone();
+        move || {
+            copy.copy_from_slice(&state);
+            let answer = run(&code, &mut copy, &[0; 64], steps);
+            assert_eq!(answer, 2 + ((steps as u64) << 8));
+            answer
+        }
+    }
+
+    /// What a step takes: a run of many, less the same run with none.
+    pub fn steps() {
+        println!("machine: ns per step, one run, same bytes");
+        println!("{:>13} {:>10} {:>10} {:>7} {:>10} {:>7}", "loop", "cue_run", "plain", "ratio", "in locals", "ratio");
+        // Of the records 255 are made.
+        let loops = [("counting", count(), 65_535), ("calls", call(), 65_535), ("fields", fields(), 65_535), ("records", chain(3), 7 * 255)];
+        for (name, m, steps) in loops {
+            let code = write_macro(&m);
+            let state = started(&code);
+            let mut many = RUNS.map(|run| timed(run, &code, &state, steps));
+            let mut none = RUNS.map(|run| timed(run, &code, &state, 0));
+            let many = in_turn(many.each_mut().map(|work| work as &mut dyn FnMut() -> u64));
+            let none = in_turn(none.each_mut().map(|work| work as &mut dyn FnMut() -> u64));
+            let [proved, plain, locals] = [0, 1, 2].map(|i| (many[i] - none[i]) / steps as f64);
+            println!("{name:>13} {proved:>10.2} {plain:>10.2} {:>7.2} {locals:>10.2} {:>7.2}", proved / plain, proved / locals);
+        }
+    }
+
+    /// A run that takes no step: what it takes in all, and beyond the loading check alone.
+    pub fn fixed() {
+        println!("a run of no step: ns in all, and beyond the loading check; one run, same bytes");
+        println!("{:>13} {:>10} {:>10} {:>7} {:>10} {:>10}", "instructions", "cue_run", "plain", "ratio", "beyond", "plain");
+        for n in [20, 200, 2_000] {
+            let code = load::counting(n);
+            row(&n.to_string(), &code, &started(&code));
+        }
+        let code = write_macro(&full());
+        let mut state = started(&code);
+        while state[2] < 32 {
+            desk::run(&code, &mut state, &[0; 64], 1);
+        }
+        assert_eq!(state[4], 255);
+        row("full state", &code, &state);
+    }
+
+    fn row(name: &str, code: &[u8], state: &[u8]) {
+        // A run of no step leaves the state as it is.
+        let (mut one, mut other) = (state.to_vec(), state.to_vec());
+        let mut proved = || desk::run(code, &mut one, &[0; 64], 0);
+        let mut plain = || plain_machine::run::<false>(code, &mut other, &[0; 64], 0);
+        let mut load = || desk::load(code);
+        let mut plain_load = || plain_loader::load(code).1 as u64;
+        let [proved, plain, load, plain_load] = in_turn([&mut proved, &mut plain, &mut load, &mut plain_load]);
+        println!("{name:>13} {proved:>10.0} {plain:>10.0} {:>7.2} {:>10.0} {:>10.0}", proved / plain, proved - load, plain - plain_load);
     }
 }
