@@ -15,7 +15,7 @@
  *   5 hold              the group, 0 to 63          0
  *   6 release           the group, 0 to 63          0
  *
- * Stack: the numbers below were read off the object code of this build with objdump, or measured where a function calls itself.
+ * Stack: the numbers below were read off the object code with objdump and, where a function calls itself, measured; then rounded up.
  *
  * A refusal writes nothing. No function keeps anything between calls, allocates or locks: calls on different states may go on at once.
  */
@@ -59,17 +59,16 @@ enum cue_tag {
  *
  * Of 3, 4 and 5 the refusal is at the first entry, inner before outer and left to right, that has one of them, and is the least of that entry's.
  * The table is read only. The work is linear in its entries but for looking names up: an entry may walk all names in sight.
- * It takes about 70 KB of stack at every call, whatever the table's size (a frame of 69,792 bytes, which holds the arrays of all sizes), and up to
- * 39 KB more for nesting (about 610 bytes a level, for an if or while in another): 108,152 bytes is the most that was measured, at nesting 64. */
+ * Stack: under 110,000 bytes: some 70,000 at every call, whatever the table's size, and about 610 for each level of nesting (measured with an if in an if,
+ * 64 deep, which takes the most). */
 uint64_t cue_check(const uint8_t *table, size_t n);
 
 /* The loading check: refusal 8 (place: the first record that does not read) or 9 (place: the lowest address at fault), or done.
- * It takes about 300 KB of stack at every call, whatever the macro's size: the compiler gives the indexes of all sizes one frame (300,088 bytes
- * in all). */
+ * Stack: under 301,000 bytes, at every call and whatever the macro's size, since the compiler gives the indexes of all sizes one frame. */
 uint64_t cue_load(const uint8_t *code, size_t n);
 
 /* The start of a macro: refusal 8 or 9 as above, 10 where len is not CUE_STATE_BYTES, or done; then all of the state has been written,
- * whatever it held: it stands before the macro's first instruction. Stack: 300,136 bytes. */
+ * whatever it held: it stands before the macro's first instruction. Stack: under 301,000 bytes. */
 uint64_t cue_start(const uint8_t *code, size_t n, uint8_t *state, size_t len);
 
 /* A run of at most `allowance` steps from a state that a start or a run of the same macro left (docs/STATE.md has the layout; any other bytes are
@@ -83,7 +82,7 @@ uint64_t cue_start(const uint8_t *code, size_t n, uint8_t *state, size_t len);
  *   end               by 0, or by the condition (20 to 27) after its releases; further runs give the end again, with 0 steps
  *
  * The refusals are tested in this order. Every run makes the loading check anew and tests the state, so that its time grows with the
- * macro's length and not with the allowance alone. Stack: 300,216 bytes, and 599,832 where len is not CUE_STATE_BYTES. */
+ * macro's length and not with the allowance alone. Stack: under 301,000 bytes, and under 601,000 where len is not CUE_STATE_BYTES. */
 uint64_t cue_run(const uint8_t *code, size_t n, uint8_t *state, size_t len, const uint8_t *readings, size_t m, uint16_t allowance);
 
 #ifdef __cplusplus

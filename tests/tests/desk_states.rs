@@ -116,6 +116,32 @@ fn arguments_not_taken() {
     }
 }
 
+/// The top at the same place of its body's twin, ten instructions on or back: its body, its address or both are no longer what they were, and
+/// where it is called by its own caller none of that is sound.
+#[test]
+fn the_place_of_another_body() {
+    let (loaded, code) = loaded_of(deep_macro().code);
+    let mut tops = [0; 3];
+    for steps in 0..80 {
+        let State::Running { activations, .. } = after(&loaded, steps) else { break };
+        let top = &activations[activations.len() - 1];
+        tops[top.body] += 1;
+        if top.body == 0 {
+            continue;
+        }
+        let good = encode(&after(&loaded, steps));
+        let at = 32 + 328 * (activations.len() - 1);
+        let (twin, there) = if top.body == 1 { (2, top.address + 10) } else { (1, top.address - 10) };
+        for (body, address) in [(twin, top.address), (top.body, there), (twin, there)] {
+            let mut bytes = good.clone();
+            bytes[at] = body as u8;
+            bytes[at + 4] = address as u8;
+            assert_eq!(run(&code, &mut bytes, &[0; 64], 1), UNSOUND, "body {body} at {address} after {steps} steps");
+        }
+    }
+    assert!(tops.iter().all(|n| *n > 10), "{tops:?}");
+}
+
 /// All bytes that a state does not use become noise: it runs as it does without, and afterwards they are 0.
 #[test]
 fn noise_where_nothing_is_used() {

@@ -57,7 +57,7 @@ fn stack_as_the_header_says() {
     let code = write_macro(&counter(40_000));
     let held = Answer::Event { steps: 1, event: Event::Hold { group: 9 } }.packed();
     let unsound = Answer::Refusal(Refusal { number: 10, place: 0 }).packed();
-    for (stack, length, wanted) in [(300_216, LENGTH, (1, held)), (599_832, LENGTH - 1, (unsound, unsound))] {
+    for (stack, length, wanted) in [(301_000, LENGTH, (1, held)), (601_000, LENGTH - 1, (unsound, unsound))] {
         let mut state = vec![0; length];
         let work = || (desk::start(&code, &mut state), desk::run(&code, &mut state, &[0; 64], 9));
         std::thread::scope(|scope| {

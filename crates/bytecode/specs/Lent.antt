@@ -1,6 +1,5 @@
 -- Start and run on lent bytes: what they answer and what the state's bytes hold after. (paper 01, Running; Refusals and ends)
-use mathlib.Core.Bool.{Bool, true, false}
-use mathlib.Core.List.{List, [], _∷_}
+use mathlib.Core.List.{List}
 use mathlib.Core.Option.{Option, none, some}
 use Prim.Native.Nat.{ℕ}
 use lib.Dec.{eqb}
@@ -10,7 +9,7 @@ use Rattle.values.specs.Ends.{Refusal, refusal, Judged, accepted, refused}
 use Rattle.bytecode.specs.Macro.{Macro, keep}
 use Rattle.bytecode.specs.Rules.{judgeMacro}
 use Rattle.bytecode.specs.Machine.{Machine, freshMachine}
-use Rattle.bytecode.specs.Runs.{Answer, happens, spends, finishes, refuses, halts, Ran, run}
+use Rattle.bytecode.specs.Runs.{Answer, happens, spends, finishes, refuses, halts, run}
 use Rattle.bytecode.specs.Sound.{sound}
 use Rattle.bytecode.specs.State.{stateLength, encode, decode}
 

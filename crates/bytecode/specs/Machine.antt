@@ -1,20 +1,20 @@
 -- The plain machine: one step at a time, with every way of having no next step named. It calls nothing of the loading rules.
 -- (paper 01, Running)
-use mathlib.Core.Bool.{Bool, true, false, not, _&&_, _||_}
-use mathlib.Core.List.{List, [], _∷_, _++_, reverse}
+use mathlib.Core.Bool.{Bool, true, false, _&&_}
+use mathlib.Core.List.{List, [], _∷_, _++_}
 use mathlib.Core.Option.{Option, none, some}
-use Prim.Native.Nat.{ℕ, zero, suc, _+_, _-_}
+use Prim.Native.Nat.{ℕ, zero, suc, _+_}
 use lib.Dec.{eqb, leb, ltb}
-use lib.IntN.{ℤ, pos, negsuc}
+use lib.IntN.{ℤ, pos}
 use lib.ListN.{length, getElem?, take, drop}
 use lib.ListN.{set as put}
 use Rattle.words.specs.Choice.{if_then_else_}
-use Rattle.values.specs.Types.{Ty, reference, fits, allFit, sames}
+use Rattle.values.specs.Types.{Ty, fits, allFit, sames}
 use Rattle.values.specs.Ends.{fieldOfNull, assertFalse, caseIndex, outOfRange, tooManyActivations, tooManyRecords}
 use Rattle.values.specs.Operators.{Operator, unary, binary}
 use Rattle.values.specs.Arithmetic.{Outcome, gives, ends, mistyped}
-use Rattle.values.specs.Values.{Value, int, log, bit, ref, tyOf, tysOf, Cell, assigned, fresh, freshAll, between, size, apply1, apply2}
-use Rattle.values.specs.Trace.{Event, set, hold, release, Item, event, reading}
+use Rattle.values.specs.Values.{Value, int, log, bit, ref, tyOf, tysOf, Cell, assigned, freshAll, between, size, apply1, apply2}
+use Rattle.values.specs.Trace.{set, hold, release, Item, event, reading}
 use Rattle.bytecode.specs.Macro.{Body, Macro}
 use Rattle.bytecode.specs.Instructions.{Owner, own, root, Instr, end, push, load, store, operate, go, goUnless, call, return, make, getField, putField, setLevel, readFader, takeHold, letHold, assert, stop, bodyAt, inBody, instrAt}
 

@@ -1,14 +1,14 @@
 -- The records of a compiled macro and how they are read (refusal 8). (paper 01, Compiled macro)
-use mathlib.Core.Bool.{Bool, true, false, not, _&&_, _||_}
-use mathlib.Core.List.{List, [], _∷_, _++_, reverse}
+use mathlib.Core.Bool.{Bool, true, false, not, _&&_}
+use mathlib.Core.List.{List, [], _∷_, reverse}
 use mathlib.Core.Option.{Option, none, some}
-use Prim.Native.Nat.{ℕ, zero, suc, _+_, _-_}
+use Prim.Native.Nat.{ℕ, zero, suc, _-_}
 use lib.Dec.{eqb, leb, ltb}
 use lib.ListN.{length, drop}
 use Rattle.words.specs.Choice.{if_then_else_}
 use Rattle.words.specs.Numbers.{byteAt, halfAt, wordAt}
 use Rattle.values.specs.Types.{Ty, integer, logical, bits, reference}
-use Rattle.values.specs.Ends.{Refusal, refusal, Judged, accepted, refused}
+use Rattle.values.specs.Ends.{refusal, Judged, accepted, refused}
 
 -- ── what a macro holds ──
 -- "BD: first address u16, parameters u8, result u8 (0 or a type), cells u8, cell types"

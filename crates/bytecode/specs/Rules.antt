@@ -6,11 +6,11 @@ use Prim.Native.Nat.{ℕ, zero, suc, _+_, _-_}
 use lib.Dec.{eqb, leb, ltb}
 use lib.ListN.{length, getElem?, take}
 use Rattle.words.specs.Choice.{if_then_else_}
-use Rattle.values.specs.Types.{Ty, integer, logical, bits, reference, same, sames, fits}
-use Rattle.values.specs.Ends.{Refusal, refusal, Judged, accepted, refused}
+use Rattle.values.specs.Types.{Ty, integer, logical, bits, reference, sames, fits}
+use Rattle.values.specs.Ends.{refusal, Judged, accepted, refused}
 use Rattle.values.specs.Operators.{Operator, unary, binary, opType}
-use Rattle.values.specs.Values.{Value, int, log, bit, ref, tyOf}
-use Rattle.bytecode.specs.Macro.{Body, Code, Shape, shape, Placed, Macro, shapeIn, isSome, keep, readMacro}
+use Rattle.values.specs.Values.{Value, int, log, bit, ref}
+use Rattle.bytecode.specs.Macro.{Body, Shape, shape, Macro, shapeIn, isSome, keep, readMacro}
 use Rattle.bytecode.specs.Instructions.{Owner, own, root, Instr, end, push, load, store, operate, go, goUnless, call, return, make, getField, putField, setLevel, readFader, takeHold, letHold, assert, stop, bodyAt, inBody, instrAt}
 
 -- ── bodies and addresses ──

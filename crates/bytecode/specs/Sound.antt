@@ -1,20 +1,18 @@
 -- Sound states. (paper 01, Running)
 use mathlib.Core.Bool.{Bool, true, false, _&&_, _||_}
-use mathlib.Core.List.{List, [], _∷_, _++_, reverse}
+use mathlib.Core.List.{List, [], _∷_, _++_}
 use mathlib.Core.Option.{Option, none, some}
-use Prim.Native.Nat.{ℕ, zero, suc}
+use Prim.Native.Nat.{ℕ}
 use lib.Dec.{eqb, leb, ltb}
-use lib.IntN.{ℤ}
 use lib.ListN.{length, getElem?, take}
 use lib.Signed.{mag}
-use Rattle.words.specs.Choice.{if_then_else_}
-use Rattle.values.specs.Types.{Ty, same, sames}
+use Rattle.values.specs.Types.{Ty, sames}
 use Rattle.values.specs.Ends.{isCondition}
-use Rattle.values.specs.Values.{Value, int, log, bit, ref, tyOf, tysOf, Cell, assigned}
-use Rattle.bytecode.specs.Macro.{Body, Macro, Shape, shape}
+use Rattle.values.specs.Values.{Value, int, log, bit, ref, tysOf, Cell, assigned}
+use Rattle.bytecode.specs.Macro.{Body, Macro, Shape}
 use Rattle.bytecode.specs.Instructions.{Instr, end, push, load, store, operate, go, goUnless, call, return, make, getField, putField, setLevel, readFader, takeHold, letHold, assert, stop, bodyAt, inBody, instrAt}
 use Rattle.bytecode.specs.Rules.{foundAt, onStack}
-use Rattle.bytecode.specs.Machine.{Activation, Made, After, endBy, Machine, running, unwinding, ended, maxActivations, maxRecords}
+use Rattle.bytecode.specs.Machine.{Activation, Made, endBy, Machine, running, unwinding, ended, maxActivations, maxRecords}
 
 unfoldable pub all : {A : Type 0} → (A → Bool) → List A → Bool
 all f [] = true

@@ -1,17 +1,17 @@
 -- The 24,576 bytes of a run state: a machine state written into them, and read back from the bytes in use. (docs/STATE.md)
-use mathlib.Core.Bool.{Bool, true, false, not, _&&_, _||_}
+use mathlib.Core.Bool.{_&&_}
 use mathlib.Core.List.{List, [], _∷_, _++_, reverse, map}
 use mathlib.Core.Option.{Option, none, some}
-use Prim.Native.Nat.{ℕ, zero, suc, _+_, _*_, _-_}
-use lib.Dec.{eqb, leb, ltb}
+use Prim.Native.Nat.{ℕ, zero, suc, _+_}
+use lib.Dec.{eqb, leb}
 use lib.ListN.{length, take, drop, replicate}
 use Rattle.words.specs.Choice.{if_then_else_}
 use Rattle.words.specs.Numbers.{byteAt, halfAt, wordAt, half, word}
-use Rattle.values.specs.Types.{Ty, tyByte}
+use Rattle.values.specs.Types.{tyByte}
 use Rattle.values.specs.Values.{Value, tyOf, valueWord, validWord, wordValue, Cell, assigned}
-use Rattle.bytecode.specs.Macro.{Body, Macro, keep, tyOfByte}
+use Rattle.bytecode.specs.Macro.{Macro, keep, tyOfByte}
 use Rattle.bytecode.specs.Instructions.{bodyAt}
-use Rattle.bytecode.specs.Machine.{Activation, Made, After, endBy, Machine, running, unwinding, ended, allHolds, maxOperands, maxHolds, maxActivations, maxRecords}
+use Rattle.bytecode.specs.Machine.{Activation, Made, endBy, Machine, running, unwinding, ended, allHolds, maxOperands, maxHolds, maxActivations, maxRecords}
 use Rattle.bytecode.specs.Sound.{cellValues}
 use lib.ListN.{getElem?}
 

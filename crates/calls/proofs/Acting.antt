@@ -23,7 +23,7 @@ use Rattle.views.specs.Lists.{span, span-length}
 use Rattle.views.specs.View.{tyOn, classOn, bodyOn, typesOn, below}
 use Rattle.views.specs.Views.{viewed}
 use Rattle.safety.specs.Lists.{pops}
-use Rattle.layout.specs.Tests.{there}
+use Rattle.layout.specs.Elements.{there}
 use Rattle.layout.specs.Places.{framePlace}
 use Rattle.layout.specs.Steps.{activation}
 use Rattle.layout.specs.Records.{made}

@@ -13,10 +13,10 @@ use Rattle.values.specs.Trace.{Item}
 use Rattle.bytecode.specs.Macro.{Macro, keep}
 use Rattle.bytecode.specs.Rules.{judgeMacro}
 use Rattle.bytecode.specs.Machine.{Machine, Stuck, moved, stuck, freshMachine, step}
-use Rattle.bytecode.specs.Runs.{Answer, happens, spends, finishes, refuses, halts, Ran, run, Feed, runs}
+use Rattle.bytecode.specs.Runs.{Answer, happens, spends, finishes, refuses, halts, run, Feed, runs}
 use Rattle.bytecode.specs.Sound.{sound}
 use Rattle.bytecode.specs.State.{stateLength, encode, decode}
-use Rattle.bytecode.specs.Lent.{RanOn, written, runRefused, startOn, onlySound, soundState, runOn}
+use Rattle.bytecode.specs.Lent.{written, runRefused, startOn, onlySound, soundState, runOn}
 use Rattle.loading.specs.Terms.{Passed}
 use Rattle.layout.specs.Layout.{soundState-encode}
 use Rattle.layout.specs.Passing.{sized}

@@ -20,7 +20,7 @@ use Rattle.bytecode.specs.Lent.{RanOn, startOn}
 use Rattle.examples.specs.Cases.{casesCompute}
 use Rattle.examples.specs.Notation.{refusalOf, joined, feed}
 use Rattle.examples.specs.Listing.{code, passes}
-use Rattle.layout.specs.Tests.{halves}
+use Rattle.loading.specs.Tests.{halves}
 use Rattle.loading.specs.Promises.{passed}
 use Rattle.safety.specs.Safety.{fresh-safe}
 use Rattle.demands.specs.Terms.{Fed, runsOn, onBytes, Demanded}

@@ -3,7 +3,7 @@ use mathlib.Core.Path.{_≡_}
 use mathlib.Core.Bool.{true}
 use mathlib.Core.List.{List, [], _∷_, map}
 use Prim.Native.Nat.{ℕ, _<_}
-use lib.ListN.{length, take}
+use lib.ListN.{take}
 use Rattle.words.specs.Laws.{Bytes}
 use Rattle.values.specs.Ends.{accepted}
 use Rattle.bytecode.specs.Macro.{Macro}

@@ -3,7 +3,7 @@ use mathlib.Core.Path.{_≡_, refl, sym, _∙_, subst}
 use mathlib.Core.Bool.{true}
 use mathlib.Core.List.{List}
 use mathlib.Core.Logic.{_⊎_, inl, inr}
-use Prim.Native.Nat.{ℕ, _≤_, _<_}
+use Prim.Native.Nat.{ℕ, _<_}
 use native.Mathlib.Omega.{arith}
 use lib.Dec.{leb}
 use borrow.Author.Tests.{leb-true}
@@ -15,7 +15,7 @@ use Rattle.bytecode.specs.Rules.{judgeMacro}
 use Rattle.bytecode.specs.Runs.{Answer, happens, spends, finishes, refuses, halts}
 use Rattle.bytecode.specs.Lent.{startOn, runOn}
 use Rattle.bytecode.specs.Answers.{verdictNumbers, answerNumbers, packed}
-use Rattle.layout.specs.Tests.{halves}
+use Rattle.loading.specs.Tests.{halves}
 use Rattle.table.specs.Small.{Narrow, narrow}
 use Rattle.running.specs.Fields.{Small, Ranged, judged-small, start-small, run-ranged}
 use Rattle.desk.specs.Packing.{Fits, bare, verdicts-differ, Told, answers-differ}

@@ -1,14 +1,14 @@
 -- Cases for the definitions, with the answers that a second evaluator expects, and what each claims. `tests/cases` makes lists of them from
 -- a seed and has the prover compute that none fails.
-use mathlib.Core.Bool.{Bool, true, false, not, _&&_}
+use mathlib.Core.Bool.{Bool, true, false, _&&_}
 use mathlib.Core.List.{List, [], _∷_, _++_}
 use mathlib.Core.Option.{Option, none, some}
 use Prim.Native.Nat.{ℕ, zero, suc, _+_, _*_, _-_, _/_, _%_}
 use lib.Dec.{eqb}
-use lib.ListN.{length, replicate}
+use lib.ListN.{replicate}
 use Rattle.words.specs.Choice.{if_then_else_}
-use Rattle.values.specs.Ends.{Refusal, Judged, accepted, refused}
-use Rattle.values.specs.Trace.{Event, set, hold, release, Item, event, reading}
+use Rattle.values.specs.Ends.{Judged, accepted, refused}
+use Rattle.values.specs.Trace.{set, hold, release, Item, event, reading}
 use Rattle.values.specs.Computes.{valuesCompute}
 use Rattle.language.specs.Tree.{Tree}
 use Rattle.language.specs.Judge.{judgeTable}
@@ -19,9 +19,9 @@ use Rattle.bytecode.specs.Rules.{judgeMacro}
 use Rattle.bytecode.specs.Machine.{Machine, freshMachine}
 use Rattle.bytecode.specs.Runs.{Feed, runs}
 use Rattle.bytecode.specs.Runs as Runs
-use Rattle.bytecode.specs.State.{encode, decode}
+use Rattle.bytecode.specs.State.{encode}
 use Rattle.bytecode.specs.Lent.{soundState}
-use Rattle.bytecode.specs.Answers.{Numbers, answerNumbers}
+use Rattle.bytecode.specs.Answers.{answerNumbers}
 use Rattle.bytecode.specs.Computes.{bytecodeComputes}
 
 -- n bytes as one number, the first byte lowest

@@ -4,7 +4,7 @@ use mathlib.Core.List.{List, [], _∷_}
 use Prim.Native.Nat.{ℕ}
 use Rattle.language.specs.Table.{Entry}
 use Rattle.examples.specs.Cases.{casesCompute}
-use Rattle.examples.specs.Notation.{e, executed, verdict, hd, bd, op, sh, joined, loading, feed, answers}
+use Rattle.examples.specs.Notation.{e, executed, hd, bd, op, sh, joined, loading, feed, answers}
 
 abbrev pub table : List Entry
 table =

@@ -1,6 +1,6 @@
 -- Further examples, each of which some wrong definition would miss.
 use mathlib.Core.Path.{_≡_, refl}
-use mathlib.Core.List.{List, [], _∷_, _++_}
+use mathlib.Core.List.{List, [], _∷_}
 use Prim.Native.Nat.{ℕ}
 use lib.ListN.{replicate}
 use Rattle.language.specs.Table.{Entry}

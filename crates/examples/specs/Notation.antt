@@ -1,10 +1,10 @@
 -- Short forms for tables, macros and what is said of them, for the examples.
-use mathlib.Core.List.{List, [], _∷_, _++_, map}
+use mathlib.Core.List.{List, [], _∷_, _++_}
 use Prim.Native.Nat.{ℕ}
 use lib.IntN.{pos}
 use lib.ListN.{length, replicate}
 use Rattle.words.specs.Numbers.{half, word}
-use Rattle.values.specs.Ends.{Refusal, Judged, accepted, refused}
+use Rattle.values.specs.Ends.{Judged, accepted, refused}
 use Rattle.language.specs.Tree.{Tree}
 use Rattle.language.specs.Table.{Entry, entry, bytesOf}
 use Rattle.language.specs.Judge.{judgeTable}
@@ -13,7 +13,7 @@ use Rattle.bytecode.specs.Macro.{Macro}
 use Rattle.bytecode.specs.Rules.{judgeMacro}
 use Rattle.bytecode.specs.Machine.{freshMachine}
 use Rattle.bytecode.specs.Runs.{Feed, runs}
-use Rattle.examples.specs.Cases.{bytes, itemNumbers, answersOf}
+use Rattle.examples.specs.Cases.{itemNumbers, answersOf}
 
 -- an entry: kind, a and b as paper 01 writes them
 abbrev pub e : ℕ → ℕ → ℕ → Entry

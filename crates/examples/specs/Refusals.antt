@@ -1,18 +1,15 @@
 -- The examples of paper 01's table of refusals and ends, with number and place.
 use mathlib.Core.Path.{_≡_, refl}
-use mathlib.Core.Bool.{true, false}
 use mathlib.Core.List.{List, [], _∷_, _++_}
 use Prim.Native.Nat.{ℕ, zero, suc, _+_}
-use lib.IntN.{pos, negsuc}
-use lib.ListN.{length, replicate}
-use Rattle.language.specs.Table.{Entry, entry, bytesOf}
+use lib.ListN.{replicate}
+use Rattle.language.specs.Table.{Entry, bytesOf}
 use Rattle.language.specs.Judge.{judgeTable, compileOn}
-use Rattle.bytecode.specs.State.{encode}
-use Rattle.bytecode.specs.Runs.{Answer, happens, spends, finishes, refuses, halts}
+use Rattle.bytecode.specs.Runs.{refuses}
 use Rattle.bytecode.specs.Lent.{startOn, runOn}
 use Rattle.bytecode.specs.Answers.{answerNumbers}
 use Rattle.examples.specs.Cases.{casesCompute}
-use Rattle.examples.specs.Notation.{e, executed, verdict, refusalOf, hd, cl, bd, op, sh, zz, joined, loading, feed, answers}
+use Rattle.examples.specs.Notation.{e, executed, verdict, refusalOf, hd, cl, bd, op, sh, zz, joined, loading}
 use Rattle.examples.specs.Listing as Listing
 
 -- ── tables ──

@@ -1,28 +1,27 @@
 -- The records and activations that stand in a state's bytes, and that they are read exactly where their values read.
-use mathlib.Core.Path.{_≡_, refl, sym, ap, ap₂, _∙_}
-use mathlib.Core.Bool.{Bool, true, false, cond, not, _&&_}
-use mathlib.Core.List.{List, [], _∷_, _++_, reverse, reverseAux}
+use mathlib.Core.Path.{_≡_, refl, ap, _∙_}
+use mathlib.Core.Bool.{Bool, true, false, _&&_}
+use mathlib.Core.List.{List, _∷_, reverse, reverseAux}
 use mathlib.Core.Option.{Option, none, some}
 use Prim.Native.Nat.{ℕ, zero, suc, _+_, _*_, _-_, _≤_, _<_}
-use native.Mathlib.Nat.{add-zero, add-suc, suc-add, zero-add}
+use native.Mathlib.Nat.{add-zero, zero-add}
 use native.Mathlib.Omega.{arith}
-use lib.Dec.{eqb, leb, ltb}
-use lib.ListN.{length, drop, take, getElem?}
+use lib.Dec.{leb, ltb}
+use lib.ListN.{length, drop, take}
 use lib.Seq.{getD-drop, getD-take, drop-drop}
-use borrow.Author.Tests.{leb-true, ltb-true, ltb-false, lt-ltb, le-ltb}
+use borrow.Author.Tests.{leb-true, ltb-true, ltb-false}
 use Rattle.words.specs.Choice.{if_then_else_}
 use Rattle.words.specs.Numbers.{byteAt, halfAt, wordAt}
 use Rattle.words.specs.Laws.{Size, one, two, four, numberAt, bytesIn, same-number}
 use Rattle.values.specs.Values.{Value}
-use Rattle.bytecode.specs.Macro.{Body, Macro, keep}
-use Rattle.bytecode.specs.Instructions.{bodyAt}
+use Rattle.bytecode.specs.Macro.{Macro, keep}
 use Rattle.bytecode.specs.Machine.{Activation, Made}
 use Rattle.bytecode.specs.State.{part, readValues, assignedAll, readActivation, readActivations, readRecord, readRecords}
-use Rattle.places.specs.Records.{classes, bodies, count, classPlace, bodyPlace, noMark, badClass}
+use Rattle.places.specs.Records.{classes, bodies, classPlace, bodyPlace, noMark, badClass}
 use Rattle.places.specs.Index.{Well}
 use Rattle.views.specs.Lists.{span, span-length}
 use Rattle.views.specs.Tests.{by-test, past}
-use Rattle.views.specs.View.{view, bodyOn}
+use Rattle.views.specs.View.{view}
 use Rattle.views.specs.Bodies.{body-at}
 use Rattle.views.specs.Ops.{class-at}
 use Rattle.fits.specs.Each.{each, halves}

@@ -1,7 +1,7 @@
 -- Whether bytes hold a sound state of a macro, by tests of numbers at places: c has the macro's bytes, l the state's.
 -- (docs/STATE.md has the places; decode and sound of bytecode say what is meant.)
-use mathlib.Core.Bool.{Bool, true, false, cond, not, _&&_, _||_}
-use mathlib.Core.List.{List, [], _∷_, _++_}
+use mathlib.Core.Bool.{Bool, true, false, cond, _&&_, _||_}
+use mathlib.Core.List.{List, _++_}
 use Prim.Native.Nat.{ℕ, zero, suc, _+_, _*_, _-_}
 use lib.Dec.{eqb, leb, ltb}
 use lib.ListN.{length}

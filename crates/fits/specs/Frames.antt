@@ -1,42 +1,39 @@
 -- A record and an activation that are read are sound exactly where the tests of their bytes pass.
-use mathlib.Core.Path.{_≡_, refl, sym, ap, ap₂, _∙_}
-use mathlib.Core.Bool.{Bool, true, false, cond, not, _&&_, true≢false, false≢true}
-use mathlib.Core.List.{List, [], _∷_, _++_, reverse, reverseAux, map}
-use mathlib.Core.Option.{Option, none, some}
+use mathlib.Core.Path.{_≡_, refl, sym, ap, _∙_}
+use mathlib.Core.Bool.{Bool, true, false, cond, _&&_, false≢true}
+use mathlib.Core.List.{List, [], _∷_, _++_, reverse, reverseAux}
 use Prim.Native.Nat.{ℕ, zero, suc, _+_, _*_, _-_, _≤_, _<_}
-use native.Mathlib.Nat.{add-zero, add-suc, suc-add, zero-add}
+use native.Mathlib.Nat.{zero-add}
 use native.Mathlib.Omega.{arith}
 use lib.Dec.{eqb, leb, ltb}
-use lib.ListN.{length, drop, take, getElem?, length-reverse, length-drop}
+use lib.ListN.{length, drop, length-reverse, length-drop}
 use lib.Seq.{length-take-le}
-use borrow.Author.Tests.{leb-true, ltb-true, ltb-false, lt-ltb, le-ltb, lt-leb, le-leb, eq-eqb, ne-eqb, eqb-true}
-use Rattle.words.specs.Choice.{if_then_else_}
-use Rattle.words.specs.Numbers.{byteAt, halfAt, wordAt}
+use borrow.Author.Tests.{ltb-true, lt-ltb, le-ltb, lt-leb, le-leb, eqb-true}
+use Rattle.words.specs.Numbers.{byteAt}
 use Rattle.words.specs.Laws.{four, Bytes, number-below}
 use Rattle.values.specs.Types.{Ty, tyByte, sames}
 use Rattle.values.specs.Values.{Value, tyOf, tysOf}
-use Rattle.bytecode.specs.Macro.{Body, Macro, Shape, keep}
-use Rattle.bytecode.specs.Instructions.{bodyAt, inBody}
-use Rattle.bytecode.specs.Rules.{foundAt}
-use Rattle.bytecode.specs.Machine.{Activation, Made}
-use Rattle.bytecode.specs.Sound.{all, soundValue, typedValues, cellValues, soundRecord, ofClass, soundGroup, soundAt, soundActivation}
+use Rattle.bytecode.specs.Macro.{Macro}
+use Rattle.bytecode.specs.Instructions.{inBody}
+use Rattle.bytecode.specs.Machine.{Made}
+use Rattle.bytecode.specs.Sound.{all, soundValue, typedValues, cellValues, soundRecord, soundGroup, soundActivation}
 use Rattle.bytecode.specs.State.{part, assignedAll}
 use Rattle.places.specs.Search.{tops, alike, Clean}
 use Rattle.places.specs.Records.{classes, bodies, count, classPlace, bodyPlace, firstOf}
-use Rattle.places.specs.Rules.{goes, bodyOf, endOf, found, into, broken}
+use Rattle.places.specs.Rules.{bodyOf, endOf, broken}
 use Rattle.places.specs.Index.{Well}
-use Rattle.views.specs.Lists.{span, backs, span-length, span-at, reverse-span}
-use Rattle.views.specs.Tests.{tests, by-test, cond-and, both-true}
-use Rattle.views.specs.View.{view, bodyOn, tyOn, bytes, below}
+use Rattle.views.specs.Lists.{span, backs, span-at, reverse-span}
+use Rattle.views.specs.Tests.{tests, by-test}
+use Rattle.views.specs.View.{view, bodyOn, bytes, below}
 use Rattle.views.specs.Stack.{alike-bytes}
 use Rattle.views.specs.Known.{known-class, known-body, first-rises}
-use Rattle.views.specs.Bodies.{body-at, in-body, stands as standing, Stands, before-end}
+use Rattle.views.specs.Bodies.{body-at, in-body, stands as standing, before-end}
 use Rattle.views.specs.Ops.{class-at}
 use Rattle.views.specs.Views.{Viewed}
 use Rattle.fits.specs.Each.{each, halves, both, same-test}
-use Rattle.fits.specs.Fits.{frameAt, entryAt, bodyIn, depthIn, openIn, addressIn, classIn, held, valueFits, valueIn, rowFits, recordFits, cellsFit, operandsIn, takenIn, standsIn, standsBy, stands}
-use Rattle.fits.specs.Rows.{Recorded, rowReads, rowOn, row-bytes, row-sound, row-typed}
-use Rattle.fits.specs.Decoded.{typesAt, wordsAt, fieldCount, fieldsRead, fieldsOn, recordOn, recordReads, cellCount, cellsRead, cellsOn, operandsRead, operandsOn, holdsOn, frameOn, frameReads}
+use Rattle.fits.specs.Fits.{frameAt, entryAt, bodyIn, depthIn, openIn, addressIn, classIn, held, valueIn, rowFits, recordFits, cellsFit, operandsIn, takenIn, standsIn, stands}
+use Rattle.fits.specs.Rows.{Recorded, row-bytes, row-sound, row-typed}
+use Rattle.fits.specs.Decoded.{typesAt, wordsAt, fieldCount, recordOn, recordReads, cellCount, cellsRead, cellsOn, operandsRead, operandsOn, holdsOn, frameOn, frameReads}
 
 -- ── lists ──
 pub all-span : {A : Type 0} (t : A → Bool) (f : ℕ → A) (n j : ℕ) → all t (span f j n) ≡ each (λ k. t (f k)) j n

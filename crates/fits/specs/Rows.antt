@@ -1,32 +1,33 @@
 -- Values and rows of them, as they are read from a state's bytes: what is read is sound exactly where the tests of the bytes pass.
 use mathlib.Core.Path.{_≡_, refl, sym, ap, ap₂, _∙_}
-use mathlib.Core.Bool.{Bool, true, false, cond, not, _&&_}
-use mathlib.Core.List.{List, [], _∷_, _++_, reverse, reverseAux}
-use mathlib.Core.Option.{Option, none, some}
-use Prim.Native.Nat.{ℕ, zero, suc, _+_, _*_, _-_, _≤_, _<_}
-use native.Mathlib.Nat.{add-zero, add-suc, suc-add, zero-add}
+use mathlib.Core.Bool.{Bool, true, false, not, _&&_}
+use mathlib.Core.List.{List, _∷_}
+use mathlib.Core.Option.{none, some}
+use Prim.Native.Nat.{ℕ, zero, suc, _+_, _*_, _-_, _<_}
+use native.Mathlib.Nat.{add-zero, add-suc, suc-add}
 use native.Mathlib.Omega.{arith}
 use lib.Dec.{eqb, leb, ltb}
-use lib.ListN.{length, drop, getElem?}
+use lib.ListN.{drop, getElem?}
 use lib.Seq.{getD-drop}
 use lib.Signed.{mag}
-use borrow.Author.Tests.{ne-eqb, eq-eqb, lt-ltb, le-ltb, lt-leb, le-leb}
+use borrow.Author.Tests.{ne-eqb, lt-ltb, le-ltb}
 use Rattle.words.specs.Choice.{if_then_else_}
-use Rattle.words.specs.Numbers.{byteAt, halfAt, wordAt, integerOf}
+use Rattle.words.specs.Numbers.{byteAt, wordAt, integerOf}
 use Rattle.words.specs.Laws.{four, same-number, integer-fits}
 use Rattle.values.specs.Types.{Ty, integer, logical, bits, reference, tyByte, same, sames}
-use Rattle.values.specs.Values.{Value, int, log, bit, ref, tyOf, tysOf, validWord, wordValue, wordRef}
-use Rattle.bytecode.specs.Macro.{keep, tyOfByte}
+use Rattle.values.specs.Values.{Value, tyOf, tysOf, validWord, wordValue, wordRef}
+use Rattle.bytecode.specs.Macro.{keep}
 use Rattle.bytecode.specs.Machine.{Made}
-use Rattle.bytecode.specs.Sound.{all, soundValue, points, classIs, typedValues}
+use Rattle.bytecode.specs.Sound.{all, soundValue, points, typedValues}
 use Rattle.bytecode.specs.State.{readValue, readValues}
 use Rattle.places.specs.Records.{classes, noType}
 use Rattle.views.specs.Lists.{span}
-use Rattle.views.specs.Tests.{tests, by-test, leb-not, if-not}
+use Rattle.views.specs.Tests.{by-test}
 use Rattle.views.specs.View.{tyOn}
 use Rattle.views.specs.Known.{type-byte}
 use Rattle.views.specs.Stack.{same-byte}
 use Rattle.fits.specs.Each.{each, each-at, and-true}
+use Rattle.views.specs.Readers.{type-reads}
 use Rattle.fits.specs.Fits.{pointsTo, valueFits, classIn}
 
 -- ── one value ──
@@ -35,21 +36,6 @@ valueOn t w = wordValue (tyOn t) w
 
 abbrev pub readable : ℕ → ℕ → ℕ → Bool
 readable n t w = not (noType n t) && validWord (tyOn t) w
-
-type-reads : (c t : ℕ) → tyOfByte c t ≡ (if noType c t then none else some (tyOn t))
-unfolding tyOfByte noType tyOn
-type-reads c zero = refl
-type-reads c (suc zero) = refl
-type-reads c (suc (suc zero)) = refl
-type-reads c (suc (suc (suc zero))) = refl
-type-reads c (suc (suc (suc (suc n)))) = high (suc (suc (suc (suc n)))) (omega arith)
-  where
-    high : (t : ℕ) → 3 < t → tyOfByte c t ≡ (if noType c t then none else some (tyOn t))
-    high t h =
-        rw (ne-eqb t 1 (omega arith), ne-eqb t 2 (omega arith), ne-eqb t 3 (omega arith))
-        (by-test (ltb t 16)
-        (λ p. rw (p, lt-leb 16 t (omega tests), le-ltb t 1 (omega arith), lt-ltb 3 t h))
-        (λ p. rw (p, le-leb 16 t (omega tests), leb-not c (t - 16)) (sym (if-not (ltb (t - 16) c) _ _))))
 
 value-reads : (n t w : ℕ) → readValue n t w ≡ (if readable n t w then some (valueOn t w) else none)
 unfolding readValue

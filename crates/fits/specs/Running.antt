@@ -1,15 +1,14 @@
 -- A running state that is read is sound exactly where the tests of its bytes pass.
-use mathlib.Core.Path.{_≡_, refl, sym, ap, ap₂, _∙_}
-use mathlib.Core.Bool.{Bool, true, false, cond, not, _&&_, true≢false, false≢true}
-use mathlib.Core.List.{List, [], _∷_, _++_, reverse}
-use mathlib.Core.Option.{Option, none, some}
+use mathlib.Core.Path.{_≡_, refl, sym, _∙_}
+use mathlib.Core.Bool.{Bool, true, false, cond, _&&_}
+use mathlib.Core.List.{List, [], _∷_}
+use mathlib.Core.Option.{none, some}
 use Prim.Native.Nat.{ℕ, zero, suc, _+_, _*_, _-_, _≤_, _<_}
-use native.Mathlib.Nat.{add-zero, add-suc, suc-add, zero-add}
 use native.Mathlib.Numerals.{add-one}
 use native.Mathlib.Omega.{arith}
 use lib.Dec.{eqb, leb, ltb}
-use lib.ListN.{length, drop, take}
-use borrow.Author.Tests.{leb-true, ltb-true, ltb-false, lt-ltb, le-ltb, lt-leb, le-leb, eq-eqb, ne-eqb, eqb-true}
+use lib.ListN.{length, drop}
+use borrow.Author.Tests.{leb-true, ltb-true, ltb-false, lt-ltb, le-ltb, le-leb, eq-eqb, eqb-true}
 use Rattle.words.specs.Choice.{if_then_else_}
 use Rattle.words.specs.Numbers.{byteAt, halfAt, wordAt}
 use Rattle.words.specs.Laws.{Bytes}
@@ -29,8 +28,8 @@ use Rattle.views.specs.View.{view, bytes}
 use Rattle.views.specs.Address.{code-at}
 use Rattle.views.specs.Views.{Viewed}
 use Rattle.fits.specs.Each.{each, halves, both, same-test, each-get, each-all}
-use Rattle.fits.specs.Fits.{frameAt, bodyIn, depthIn, openIn, addressIn, held, calls, takenIn, recordFits, cellsFit, frameFits, groupsFit, runningFits, stands}
-use Rattle.fits.specs.Decoded.{recordOn, recordReads, records-read, cellCount, cellsRead, operandsRead, holdsOn, frameOn, frameReads, activations-read}
+use Rattle.fits.specs.Fits.{bodyIn, depthIn, openIn, addressIn, held, calls, takenIn, recordFits, cellsFit, frameFits, groupsFit, runningFits, stands}
+use Rattle.fits.specs.Decoded.{recordOn, recordReads, records-read, cellCount, holdsOn, frameOn, frameReads, activations-read}
 use Rattle.fits.specs.Frames.{Rough, chosen, choose, all-span, record-fits, stands-not, frame-fits}
 use Rattle.fits.specs.Waiting.{calls-only, groupAt, groups-all, holds-all, argumentsOn, arguments-bytes, waitsAt, waiting-is}
 

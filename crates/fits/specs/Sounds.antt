@@ -1,12 +1,12 @@
 -- Bytes hold a sound state of a macro that passes the loading check exactly where the tests of them pass.
 use mathlib.Core.Path.{_≡_, refl, sym, ap, _∙_, subst}
 use mathlib.Core.Bool.{Bool, true, false, cond, _&&_, _||_}
-use mathlib.Core.List.{List, [], _∷_, reverse}
-use mathlib.Core.Option.{Option, none, some}
-use Prim.Native.Nat.{ℕ, zero, suc, _+_, _≤_, _<_}
+use mathlib.Core.List.{List, reverse}
+use mathlib.Core.Option.{none, some}
+use Prim.Native.Nat.{ℕ, _+_, _≤_}
 use native.Mathlib.Omega.{arith}
-use lib.Dec.{eqb, leb, ltb}
-use lib.ListN.{length, drop, take, length-drop, length-reverse}
+use lib.Dec.{eqb, leb}
+use lib.ListN.{length, drop, length-drop, length-reverse}
 use lib.Seq.{length-take-le, getD-drop}
 use borrow.Author.Tests.{eqb-true, eq-eqb, leb-true}
 use Rattle.words.specs.Choice.{if_then_else_}
@@ -17,7 +17,7 @@ use Rattle.bytecode.specs.Macro.{Macro, keep, isSome}
 use Rattle.bytecode.specs.Rules.{judgeMacro}
 use Rattle.bytecode.specs.Machine.{Machine, unwinding, ended, endBy}
 use Rattle.bytecode.specs.Sound.{all, soundGroup, sound}
-use Rattle.bytecode.specs.State.{part, readRunning, readUnwinding, decode}
+use Rattle.bytecode.specs.State.{part, readUnwinding, decode}
 use Rattle.bytecode.specs.Lent.{onlySound, soundState}
 use Rattle.places.specs.Search.{Clean}
 use Rattle.places.specs.Records.{count}
@@ -27,7 +27,7 @@ use Rattle.views.specs.View.{view}
 use Rattle.views.specs.Known.{reads-view}
 use Rattle.views.specs.Views.{Viewed, viewed, passing}
 use Rattle.fits.specs.Each.{each, each-same}
-use Rattle.fits.specs.Fits.{groupsFit, runningFits, plainFits, stands, activationsIn, soundBytes}
+use Rattle.fits.specs.Fits.{groupsFit, plainFits, stands, activationsIn, soundBytes}
 use Rattle.fits.specs.Frames.{all-reverse}
 use Rattle.fits.specs.Waiting.{groupAt, all-part}
 use Rattle.fits.specs.Running.{running-is}

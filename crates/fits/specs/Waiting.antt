@@ -1,42 +1,36 @@
 -- The activations below the top stand at calls, and the holds of all activations lie one after the other.
-use mathlib.Core.Path.{_≡_, refl, sym, ap, ap₂, _∙_}
-use mathlib.Core.Bool.{Bool, true, false, cond, not, _&&_, true≢false, false≢true}
-use mathlib.Core.List.{List, [], _∷_, _++_, reverse}
+use mathlib.Core.Path.{_≡_, refl, sym, ap, _∙_}
+use mathlib.Core.Bool.{Bool, true, false, cond, _&&_}
+use mathlib.Core.List.{List, reverse}
 use mathlib.Core.Option.{Option, none, some}
-use Prim.Native.Nat.{ℕ, zero, suc, _+_, _*_, _-_, _≤_, _<_}
+use Prim.Native.Nat.{ℕ, zero, suc, _+_, _-_, _≤_, _<_}
 use native.Mathlib.Nat.{add-zero, add-suc, suc-add, zero-add}
-use native.Mathlib.Numerals.{add-one}
 use native.Mathlib.Omega.{arith}
 use lib.Dec.{eqb, leb, ltb}
 use lib.ListN.{length, drop, take, length-append, length-reverse, length-drop}
 use lib.Seq.{length-take-le, drop-cons, getD-take, getD-drop}
-use borrow.Author.Tests.{leb-true, ltb-true, ltb-false, lt-ltb, le-ltb, lt-leb, le-leb, eq-eqb, ne-eqb, eqb-true}
+use borrow.Author.Tests.{lt-ltb, eqb-true}
 use Rattle.words.specs.Choice.{if_then_else_}
-use Rattle.words.specs.Numbers.{byteAt, halfAt, wordAt}
-use Rattle.words.specs.Laws.{Bytes}
+use Rattle.words.specs.Numbers.{byteAt}
 use Rattle.values.specs.Types.{Ty}
-use Rattle.bytecode.specs.Macro.{Code, Macro, keep}
-use Rattle.bytecode.specs.Instructions.{Instr, call, exactly, ownerOf, operatorOf, instruction, bodyAt, inBody, instrAt}
+use Rattle.bytecode.specs.Macro.{keep}
+use Rattle.bytecode.specs.Instructions.{Instr, exactly, ownerOf, operatorOf, instruction, bodyAt, instrAt}
 use Rattle.bytecode.specs.Rules.{onStack}
-use Rattle.bytecode.specs.Machine.{Activation, Made, allHolds}
+use Rattle.bytecode.specs.Machine.{Made, allHolds}
 use Rattle.bytecode.specs.Sound.{all, soundGroup, soundActivation, callsBody, parametersOf, soundWaiting}
 use Rattle.bytecode.specs.State.{part}
-use Rattle.places.specs.Search.{tops, Clean}
-use Rattle.places.specs.Records.{bodies, count, bodyPlace, codePlace}
-use Rattle.places.specs.Rules.{broken}
+use Rattle.places.specs.Search.{tops}
+use Rattle.places.specs.Records.{bodies, bodyPlace}
 use Rattle.places.specs.Index.{Well}
-use Rattle.views.specs.Lists.{span, backs, span-take, reverse-span}
-use Rattle.views.specs.Tests.{tests, by-test}
+use Rattle.views.specs.Lists.{backs, span-take, reverse-span}
+use Rattle.views.specs.Tests.{by-test}
 use Rattle.views.specs.View.{view, bytes}
 use Rattle.views.specs.Stack.{stack-bytes}
 use Rattle.views.specs.Known.{known-body}
 use Rattle.views.specs.Bodies.{body-at}
-use Rattle.views.specs.Address.{code-at}
-use Rattle.views.specs.Views.{Viewed}
-use Rattle.fits.specs.Each.{each, halves, both, same-test, and-assoc, each-snoc, each-same}
-use Rattle.fits.specs.Fits.{frameAt, bodyIn, depthIn, openIn, addressIn, held, calls, takenIn, cellsFit, frameFits, stands}
-use Rattle.fits.specs.Decoded.{recordOn, cellCount, holdsOn, frameOn, frameReads}
-use Rattle.fits.specs.Frames.{Rough, chosen, choose, stands-not, frame-fits}
+use Rattle.fits.specs.Each.{each, and-assoc, each-snoc, each-same}
+use Rattle.fits.specs.Fits.{bodyIn, openIn, addressIn, held}
+use Rattle.fits.specs.Decoded.{cellCount, holdsOn, frameOn}
 
 -- ── an instruction that is a call ──
 -- not a call of any body

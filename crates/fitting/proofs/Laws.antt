@@ -1,21 +1,19 @@
 -- The tests of a state's bytes, exit by exit as the code leaves them.
 use mathlib.Core.Path.{_≡_, refl, sym, ap, _∙_}
-use mathlib.Core.Bool.{Bool, true, false, cond, _&&_, _||_}
+use mathlib.Core.Bool.{Bool, true, false, _&&_, _||_}
 use mathlib.Core.List.{List}
-use Prim.Native.Nat.{ℕ, zero, suc, _+_, _*_, _-_, _<_, _≤_}
+use Prim.Native.Nat.{ℕ, _+_, _*_, _-_, _<_, _≤_}
 use native.Mathlib.Omega.{arith}
 use native.Mathlib.Numerals.{add-one}
-use lib.ListN.{length}
 use lib.Dec.{ltb, leb, eqb}
 use borrow.Author.Tests.{eq-eqb, ne-eqb, lt-ltb, le-ltb, lt-leb, le-leb}
 use Rattle.words.specs.Numbers.{byteAt, halfAt, wordAt}
-use Rattle.words.specs.Laws.{Bytes}
 use Rattle.values.specs.Ends.{isCondition}
 use Rattle.places.specs.Records.{classes, bodies, count, classPlace, bodyPlace, codePlace, noType}
 use Rattle.places.specs.Index.{Well}
 use Rattle.records.proofs.Known.{class-of}
-use Rattle.fits.specs.Each.{each, each-none, each-more}
-use Rattle.fits.specs.Fits.{frameAt, entryAt, bodyIn, depthIn, openIn, addressIn, classIn, pointsTo, valueFits, valueIn, rowFits, recordFits, calls, cellsFit, frameFits, held, groupsFit, runningFits, plainFits}
+use Rattle.fits.specs.Each.{each}
+use Rattle.fits.specs.Fits.{frameAt, entryAt, bodyIn, depthIn, openIn, addressIn, classIn, pointsTo, valueFits, valueIn, rowFits, recordFits, calls, frameFits, held, groupsFit, runningFits, plainFits}
 
 -- a test of what is equal to something else
 pub not-is : {a b : ℕ} → a ≡ b → (k : ℕ) → (a ≡ k → ⊥) → b ≡ k → ⊥

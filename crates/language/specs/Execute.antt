@@ -4,13 +4,12 @@ use mathlib.Core.Bool.{Bool, true, false, _&&_}
 use mathlib.Core.List.{List, [], _∷_, _++_, reverse}
 use mathlib.Core.Option.{Option, none, some}
 use Prim.Native.Nat.{ℕ, zero, suc, _+_}
-use lib.Dec.{eqb, leb, ltb}
-use lib.IntN.{ℤ, pos, negsuc}
+use lib.Dec.{eqb, ltb}
+use lib.IntN.{ℤ, pos}
 use lib.ListN.{length, getElem?}
 use lib.ListN.{set as put}
 use Rattle.words.specs.Choice.{if_then_else_}
 use Rattle.words.specs.Numbers.{wordOf}
-use Rattle.values.specs.Types.{Ty}
 use Rattle.values.specs.Ends.{fieldOfNull, assertFalse, caseIndex, outOfRange, tooManyActivations, tooManyRecords}
 use Rattle.values.specs.Operators.{Binary, plus, minus, times, divide, remainder, less, atMost, greater, atLeast, equal, unequal, both, either, shiftLeft, shiftRight}
 use Rattle.values.specs.Arithmetic.{Outcome, gives, ends, mistyped}

@@ -7,7 +7,7 @@ use Prim.Native.Nat.{ℕ, suc, _+_}
 use lib.Dec.{eqb}
 use lib.ListN.{length}
 use Rattle.words.specs.Choice.{if_then_else_}
-use Rattle.values.specs.Types.{Ty, integer, logical, bits, reference, same, sames, fits, allFit}
+use Rattle.values.specs.Types.{Ty, integer, logical, bits, reference, same, fits, allFit}
 use Rattle.values.specs.Ends.{Refusal, refusal}
 use Rattle.values.specs.Operators.{unary, binary, opType}
 use Rattle.language.specs.Tree.{Typed, Decl, declare, holding, Stmt, block, assign, when, choose, while, goto, assert, call, setLevel, select, Items, noItem, label, item, Arms, lastArm, arm, Target, toVariable, toField, Expr, number, truth, pattern, null, variable, invoke, field, make, operate1, operate2, conditional, fader, blockExpr, Exprs, noExpr, expr, Body, proper, function, Global, local, class, procedure, Tree}

@@ -1,15 +1,15 @@
 -- The verdict on a table (refusals 1 to 6), and what a program of the subset is, stated apart from it.
 use mathlib.Core.Path.{_≡_}
-use mathlib.Core.Bool.{Bool, true, false, _&&_}
+use mathlib.Core.Bool.{Bool, true, _&&_}
 use mathlib.Core.List.{List, [], _∷_, _++_}
-use Prim.Native.Nat.{ℕ, _+_, _≤_, _^_}
+use Prim.Native.Nat.{ℕ, _+_, _≤_}
 use lib.Dec.{leb, ltb}
 use lib.ListN.{length}
 use lib.Signed.{mag}
 use lib.Seq.{sets}
 use Rattle.words.specs.Choice.{if_then_else_}
 use Rattle.values.specs.Ends.{Refusal, refusal, Judged, accepted, refused}
-use Rattle.language.specs.Tree.{Tree, Global}
+use Rattle.language.specs.Tree.{Tree}
 use Rattle.language.specs.Table.{Entry, inLayout, flatten, bytesOf, nesting, classCount, procedureCount, readTable}
 use Rattle.language.specs.Faults.{faults}
 use Rattle.language.specs.Limits.{limits}

@@ -1,7 +1,6 @@
 -- Blocks, the names that they define, and the lookup of section 3 of 000. "Names follow section 3 of 000: innermost block first."
 use mathlib.Core.Bool.{Bool, true, false}
 use mathlib.Core.List.{List, [], _∷_, _++_}
-use mathlib.Core.Option.{Option, none, some}
 use Prim.Native.Nat.{ℕ}
 use lib.Dec.{eqb}
 use Rattle.words.specs.Choice.{if_then_else_}

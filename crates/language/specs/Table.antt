@@ -5,12 +5,11 @@ use mathlib.Core.Option.{Option, none, some, Option·getD}
 use Prim.Native.Nat.{ℕ, zero, suc, _+_, _*_, _-_, _/_, _%_, max}
 use lib.Dec.{eqb, leb, ltb}
 use lib.IntN.{ℤ, pos, negsuc, natAbs}
-use lib.Signed.{mag}
 use lib.ListN.{length, drop}
 use Rattle.words.specs.Choice.{if_then_else_}
 use Rattle.words.specs.Numbers.{half, word, halfAt, wordAt, integerOf, wordOf}
 use Rattle.values.specs.Types.{Ty, integer, logical, bits, reference, tyCode}
-use Rattle.values.specs.Ends.{Refusal, refusal, Judged, accepted, refused}
+use Rattle.values.specs.Ends.{refusal, Judged, accepted, refused}
 use Rattle.values.specs.Operators.{negate, plus, unaryCode, binaryCode, unaryOf, binaryOf}
 use Rattle.language.specs.Tree.{Typed, typed, Decl, declare, holding, Stmt, block, assign, when, choose, while, goto, assert, call, setLevel, select, Items, noItem, label, item, Arms, lastArm, arm, Target, toVariable, toField, Expr, number, truth, pattern, null, variable, invoke, field, make, operate1, operate2, conditional, fader, blockExpr, Exprs, noExpr, expr, Body, proper, function, Global, local, class, procedure, Tree, countItems, countArms, countExprs}
 

@@ -1,6 +1,6 @@
 -- The tree of a macro: what the entries of a table stand for. (paper 01, The syntax table)
 use mathlib.Core.Bool.{Bool}
-use mathlib.Core.List.{List, [], _∷_}
+use mathlib.Core.List.{List}
 use Prim.Native.Nat.{ℕ, suc}
 use lib.IntN.{ℤ}
 use Rattle.values.specs.Types.{Ty}

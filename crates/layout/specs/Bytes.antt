@@ -16,7 +16,8 @@ use Rattle.bytecode.specs.Machine.{Activation, Made, endBy, Machine, running, u
 use Rattle.bytecode.specs.Sound.{all, cellValues, soundGroup, sound}
 use Rattle.bytecode.specs.State.{pad, flat, zeros, wordsOf, typesOf, typeByte, activationBytes, recordBytes, headerBytes, stateBytes, encode}
 use Rattle.loading.specs.Terms.{Each}
-use Rattle.layout.specs.Tests.{halves, each-all, each-both, each-map, each-reverse, there}
+use Rattle.loading.specs.Tests.{halves}
+use Rattle.layout.specs.Elements.{each-all, each-both, each-map, each-reverse, there}
 use Rattle.layout.specs.Sized.{Sized, GoodValue, GoodRecord, GoodActivation, good}
 
 abbrev Small : List ℕ → Type 0

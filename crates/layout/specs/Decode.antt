@@ -22,7 +22,8 @@ use Rattle.loading.specs.Terms.{Each}
 use Rattle.layout.specs.Rows.{length-pad, pad-fill, flat-append}
 use Rattle.layout.specs.Parts.{frameOf, entryOf, frame-is, entry-is, wide-frame, wide-entry, length-words, length-header, length-zeros}
 use Rattle.layout.specs.Slots.{length-cells}
-use Rattle.layout.specs.Tests.{halves, each-reverse}
+use Rattle.loading.specs.Tests.{halves}
+use Rattle.layout.specs.Elements.{each-reverse}
 use Rattle.layout.specs.Sized.{Sized, GoodValue, GoodRecord, GoodActivation, Good, good}
 use Rattle.layout.specs.Bytes.{few-holds}
 use Rattle.layout.specs.Places.{phase, code, activations, records, holds}

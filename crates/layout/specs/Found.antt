@@ -17,7 +17,8 @@ use Rattle.bytecode.specs.Macro.{Body, Shape, shape, Macro, shapeIn, keep}
 use Rattle.bytecode.specs.Instructions.{Owner, own, root, Instr, end, push, load, store, operate, go, goUnless, call, return, make, getField, putField, setLevel, readFader, takeHold, letHold, assert, stop, bodyAt, inBody, instrAt}
 use Rattle.bytecode.specs.Rules.{Effect, plain, takes, lets, jumps, forks, leaves, stops, wrong, Flow, on, halt, strip, stripped, onIf, oneLess, roomy, flow, flowOf, flowAt, passed, orFlow, atFirst, into, foundAt, isFirst, bodyOf, effect, giving, taking, operating, pushing, calling, calledBody, making, cellsOf, cellTy, fieldTy, endingIn, returningIn, sameShape}
 use Rattle.loading.specs.Terms.{Each, Named}
-use Rattle.layout.specs.Tests.{never-some, each-both, there, chosen, kept}
+use Rattle.loading.specs.Tests.{never-some, chosen, kept}
+use Rattle.layout.specs.Elements.{each-both, there}
 use Rattle.layout.specs.Inverse.{same-some}
 use Rattle.layout.specs.Sized.{AllNamed, Sized}
 

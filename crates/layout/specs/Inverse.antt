@@ -20,7 +20,7 @@ use Rattle.bytecode.specs.Instructions.{bodyAt}
 use Rattle.bytecode.specs.Machine.{Activation, Made}
 use Rattle.bytecode.specs.Sound.{cellValues}
 use Rattle.bytecode.specs.State.{flat, typeByte, readValue, readValues, assignedAll, readActivation, readRecord}
-use Rattle.layout.specs.Tests.{halves, chosen, kept}
+use Rattle.loading.specs.Tests.{halves, chosen, kept}
 
 pub same-some : {A : Type 0} {x y : A} → some x ≡ some y → x ≡ y
 same-some h = cc

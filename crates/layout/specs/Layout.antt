@@ -14,7 +14,7 @@ use Rattle.bytecode.specs.Machine.{Machine}
 use Rattle.bytecode.specs.Sound.{sound}
 use Rattle.bytecode.specs.State.{stateLength, encode, decode}
 use Rattle.bytecode.specs.Lent.{onlySound, soundState}
-use Rattle.layout.specs.Tests.{chosen, kept}
+use Rattle.loading.specs.Tests.{chosen, kept}
 use Rattle.layout.specs.Inverse.{same-some}
 use Rattle.layout.specs.Sized.{Sized}
 use Rattle.layout.specs.Parts.{Parts, partsBytes, partsOf}

@@ -3,7 +3,7 @@ pub mod Focus
 pub mod Parts
 pub mod Blank
 pub mod Places
-pub mod Tests
+pub mod Elements
 pub mod Stores
 pub mod Slots
 pub mod Edits

@@ -17,7 +17,7 @@ use Rattle.bytecode.specs.Sound.{cellValues}
 use Rattle.bytecode.specs.State.{flat, zeros, wordsOf, typesOf, typeByte, activationBytes, recordBytes, readActivation, readActivations, readRecord, readRecords}
 use Rattle.layout.specs.Rows.{length-pad, pad-fill, flat-append}
 use Rattle.layout.specs.Parts.{length-words}
-use Rattle.layout.specs.Tests.{kept}
+use Rattle.loading.specs.Tests.{kept}
 use Rattle.layout.specs.Decode.{turned, wide-activation, wide-record}
 use Rattle.layout.specs.Inverse.{same-some, RowRead, ActivationRead, RecordRead, activation-read, record-read, bytes-drop}
 use Rattle.layout.specs.Cleared.{Gap, _⋯_, wipes, activationGaps, recordGaps, cellCount, fieldCount, clearActivations, clearRecords, Clears, kept-part, cleared-from, both-parts, clears-as}

@@ -10,7 +10,7 @@ use Rattle.words.specs.Choice.{if_then_else_}
 use Rattle.bytecode.specs.Macro.{Macro, Shape, Placed, shapeIn}
 use Rattle.loading.specs.Terms.{Each, Passed, ReadShape}
 use Rattle.loading.specs.Promises.{at-place, in-code, cells-at-most-32, limits}
-use Rattle.layout.specs.Tests.{never-some}
+use Rattle.loading.specs.Tests.{never-some}
 use Rattle.layout.specs.Inverse.{same-some}
 use Rattle.layout.specs.Sized.{Sized, AllNamed}
 use Rattle.layout.specs.Found.{sized-by}

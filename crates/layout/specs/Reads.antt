@@ -14,7 +14,7 @@ use Rattle.bytecode.specs.State.{pad, encode}
 use Rattle.layout.specs.Rows.{getD-pad}
 use Rattle.layout.specs.Parts.{noFrame, noEntry, partsOf, frameOf, entryOf, groupsOf, encode-parts}
 use Rattle.layout.specs.Places.{Place, inFrame, inEntry, InFrame, FrameHas, frameSize, frameOffset, frameGet, framePlace, InEntry, EntryHas, entrySize, entryOffset, entryGet, entryPlace, placeOf, sizeOf, There, get, reads}
-use Rattle.layout.specs.Tests.{never-some}
+use Rattle.loading.specs.Tests.{never-some}
 use Rattle.layout.specs.Slots.{map-turned-at}
 use Rattle.layout.specs.Edits.{on}
 use Rattle.layout.specs.Records.{entry-there, root-first}

@@ -13,7 +13,8 @@ use Rattle.layout.specs.Rows.{alter, alter-alter, pad-inner, pad-next, p
 use Rattle.layout.specs.Parts.{Frame, Entry, noFrame, noEntry, partsOf, frameOf, framesOf, entryOf, entriesOf, groupsOf}
 use Rattle.layout.specs.Places.{records, inEntry, class, fieldWord, fieldType, parts}
 use Rattle.layout.specs.Stores.{Store, _≔_, stores, turns}
-use Rattle.layout.specs.Tests.{never-some, there}
+use Rattle.loading.specs.Tests.{never-some}
+use Rattle.layout.specs.Elements.{there}
 use Rattle.layout.specs.Slots.{field-put, field-next, cell-put}
 use Rattle.layout.specs.Edits.{inside}
 use Rattle.layout.specs.Steps.{cellIs}

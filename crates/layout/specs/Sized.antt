@@ -12,7 +12,7 @@ use mir.Val.{SFits}
 use mir.Syntax.{w32}
 use lib.Signed.{mag}
 use Rattle.words.specs.Laws.{integer-back, word-below}
-use Rattle.values.specs.Types.{Ty, integer, logical, bits, reference, sames}
+use Rattle.values.specs.Types.{Ty, reference, sames}
 use Rattle.values.specs.Values.{Value, int, log, bit, ref, tyOf, tysOf, valueWord}
 use Rattle.bytecode.specs.Macro.{Body, Macro, Shape, tyOfByte}
 use Rattle.bytecode.specs.Instructions.{bodyAt, inBody, instrAt}
@@ -22,7 +22,8 @@ use Rattle.bytecode.specs.Sound.{all, soundValue, classIs, typedValues, cellVal
 use Rattle.bytecode.specs.State.{typeByte, readValue}
 use Rattle.loading.specs.Terms.{Each, Named}
 use Rattle.layout.specs.Slots.{length-cells}
-use Rattle.layout.specs.Tests.{never, halves, each-all, each-end, there, sames→≡}
+use Rattle.loading.specs.Tests.{never, halves, sames→≡}
+use Rattle.layout.specs.Elements.{each-all, each-end, there}
 
 -- types that name classes that are there
 abbrev pub AllNamed : Macro → List Ty → Type 0

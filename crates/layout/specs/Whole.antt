@@ -21,7 +21,7 @@ use Rattle.bytecode.specs.State.{pad, flat, zeros, part, activationBytes, recor
 use Rattle.layout.specs.Rows.{pad-fill, flat-append, length-flat}
 use Rattle.layout.specs.Parts.{length-zeros, length-header}
 use Rattle.layout.specs.Blank.{no-zeros, zeros-join}
-use Rattle.layout.specs.Tests.{never-some, halves, chosen, kept}
+use Rattle.loading.specs.Tests.{never-some, halves, chosen, kept}
 use Rattle.layout.specs.Decode.{turned, turned-holds, flat-written, wide-activation, wide-record}
 use Rattle.layout.specs.Inverse.{same-some, pick, bytes-drop}
 use Rattle.layout.specs.Cleared.{_⋯_, wipes, clearActivations, clearRecords, clearRunning, cleared, Clears, cleared-from}

@@ -4,7 +4,7 @@ use mathlib.Core.List.{List}
 use Prim.Native.Nat.{ℕ, _<_}
 use native.Mathlib.Omega.{arith}
 use Rattle.words.specs.Laws.{Bytes}
-use Rattle.values.specs.Ends.{Refusal, Judged, accepted, refused}
+use Rattle.values.specs.Ends.{Judged, accepted, refused}
 use Rattle.bytecode.specs.Macro.{Macro}
 use Rattle.bytecode.specs.Rules.{judgeMacro}
 use Rattle.places.specs.Rules.{Verdict, judge}

@@ -24,7 +24,8 @@ use Rattle.loading.specs.Terms.{Passed, Finds}
 use Rattle.loading.specs.Promises.{limits, in-code, cells-at-most-32, at-place}
 use Rattle.safety.specs.Lists.{all-at, tys-length}
 use Rattle.safety.specs.States.{Frame, Waiting, typed}
-use Rattle.layout.specs.Tests.{there, sames→≡}
+use Rattle.loading.specs.Tests.{sames→≡}
+use Rattle.layout.specs.Elements.{there}
 use Rattle.layout.specs.Slots.{length-cells}
 use Rattle.layout.specs.Places.{framePlace}
 use Rattle.frames.specs.On.{on-long, read-count, read-records, read-holds, read-open, read-operand, read-depth, read-address}

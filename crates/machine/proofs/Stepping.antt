@@ -26,7 +26,7 @@ use Rattle.safety.specs.Safety.{step-safe}
 use Rattle.places.specs.Records.{count, codePlace, codeBase}
 use Rattle.views.specs.View.{codeOn, below}
 use Rattle.views.specs.Views.{viewed}
-use Rattle.layout.specs.Tests.{halves}
+use Rattle.loading.specs.Tests.{halves}
 use Rattle.layout.specs.Places.{framePlace, phase}
 use Rattle.layout.specs.Parts.{length-encode}
 use Rattle.layout.specs.Reads.{encode-reads}

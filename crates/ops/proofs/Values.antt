@@ -19,7 +19,7 @@ use Rattle.bytecode.specs.Machine.{Activation, Made, badFrame, badType, conditi
 use Rattle.bytecode.specs.Sound.{soundValue, cellValue}
 use Rattle.bytecode.specs.State.{typeByte}
 use Rattle.safety.specs.Lists.{all-first}
-use Rattle.layout.specs.Tests.{there}
+use Rattle.layout.specs.Elements.{there}
 use Rattle.layout.specs.Steps.{activation}
 use Rattle.frames.specs.Bytes.{wentTo, pushed, popped, operandSet, cellSet, conditioned}
 use Rattle.frames.specs.On.{on-push, on-pop, on-operand, on-cell, on-root, on-condition, read-operand, read-cell, read-root}

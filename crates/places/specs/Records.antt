@@ -1,10 +1,10 @@
 -- The records of a macro by their places in its bytes, and the first that does not read (refusal 8).
 use mathlib.Core.Bool.{Bool, true, false, cond, not, _&&_, _||_}
-use mathlib.Core.List.{List, [], _∷_}
+use mathlib.Core.List.{List}
 use Prim.Native.Nat.{ℕ, zero, suc, _+_, _*_, _-_}
 use lib.Dec.{ltb, leb, eqb}
 use lib.ListN.{length}
-use Rattle.words.specs.Numbers.{byteAt, halfAt, wordAt}
+use Rattle.words.specs.Numbers.{byteAt, halfAt}
 use Rattle.places.specs.Search.{first}
 
 -- HD: classes u8, bodies u8, instructions u16, shapes u16

@@ -3,9 +3,9 @@
 use mathlib.Core.Bool.{Bool, true, false, cond, not, _&&_, _||_}
 use mathlib.Core.List.{List, [], _∷_}
 use Prim.Native.Nat.{ℕ, zero, suc, _+_, _-_}
-use lib.Dec.{ltb, leb, eqb}
+use lib.Dec.{ltb, eqb}
 use lib.ListN.{length}
-use Rattle.words.specs.Numbers.{byteAt, halfAt, wordAt}
+use Rattle.words.specs.Numbers.{byteAt, wordAt}
 use Rattle.places.specs.Search.{first, tops, alike}
 use Rattle.places.specs.Records.{classes, bodies, count, shapes, classPlace, bodyPlace, firstOf, codePlace, find, Read, reads, unread, readRecords}
 

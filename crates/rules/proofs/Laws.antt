@@ -12,7 +12,7 @@ use borrow.Author.Tests.{eq-eqb, ne-eqb, lt-ltb, le-ltb}
 use Rattle.words.specs.Numbers.{byteAt, halfAt, wordAt}
 use Rattle.places.specs.Search.{first, Clean, tops, alike}
 use Rattle.places.specs.Records.{classes, bodies, count, shapes, classPlace, bodyPlace, firstOf, codePlace, find, badHead, readRecords}
-use Rattle.places.specs.Rules.{Flow, goes, ends, bad, shapeAt, equals, bodyOf, endOf, need, push, pop, topOf, chain, takes, trade1, trade2, lands, opNull, ownerBody, opLoad, opStore, twofold, operates, opGo, opUnless, handed, opCall, justs, opReturn, opMake, opGetField, opPutField, effect, meet, agree, leave, plain, opens, found, step, into, isBad, broken, judge, verdict, passes, refused}
+use Rattle.places.specs.Rules.{Flow, goes, ends, bad, shapeAt, equals, bodyOf, endOf, need, push, pop, topOf, chain, takes, trade1, trade2, lands, opNull, ownerBody, opLoad, opStore, twofold, operates, opGo, opUnless, handed, opCall, justs, opReturn, opMake, opGetField, opPutField, effect, meet, agree, leave, plain, opens, found, step, into, isBad, broken, judge, passes, refused}
 use Rattle.places.specs.Index.{Ready, Indexed}
 use Rattle.rules.specs.declared.Moved.{Moved}
 use Rattle.rules.specs.declared.Moved.the-variants.{Goes, Ends, Bad}

@@ -161,8 +161,8 @@ fn onward(
     leave_to(l, ix, bx, k, i, st, e)
 }
 
-// The same value built anew. An answer that comes back through memory is copied with its padding, and that stalls the walk at each address: three times its
-// time when this was left out.
+// The same value built anew. The answer of a function that is not inlined comes back through memory and is copied on with its padding, which stalls the walk at each
+// address: four times its time. So `onward` has two callers, and each builds its answer anew.
 fn rebuilt(f: Moved) -> Moved
     ensures { λ r. ⌜ r ≡ f ⌝ }
 {
@@ -205,7 +205,7 @@ fn step_at(
     ensures { λ r. ⌜ Moves (now (st .exit)) r (step (now (l .entry)) i (flowOf f (now (st .entry)))) ⌝ }
 {
     let g = found_at(l, ix, bx, k, i, st, f);
-    go_on(l, ix, bx, cx, base, k, i, st, g)
+    rebuilt(onward(l, ix, bx, cx, base, k, i, st, g))
 }
 
 pub fn next_body(l: &[u8], bx: &[u32], k: usize, i: usize) -> usize

@@ -19,7 +19,7 @@ use Rattle.bytecode.specs.Sound.{sound}
 use Rattle.bytecode.specs.State.{stateLength, encode, decode}
 use Rattle.bytecode.specs.Lent.{onlySound, soundState, startRefused, startMacro, startOn, written, runState, runMacro, runOn}
 use Rattle.loading.specs.Promises.{passed}
-use Rattle.layout.specs.Tests.{chosen, kept}
+use Rattle.loading.specs.Tests.{chosen, kept}
 use Rattle.layout.specs.Inverse.{same-some}
 use Rattle.safety.specs.Terms.{InRange, Answers}
 use Rattle.safety.specs.Safety.{run-safe}

@@ -1,21 +1,19 @@
 -- Laws of the walk that tests where activations stand.
 use mathlib.Core.Path.{_≡_, refl, sym, ap, _∙_}
 use mathlib.Core.Bool.{Bool, true, false, cond, _&&_, false≢true, true≢false}
-use mathlib.Core.List.{List, [], _∷_, _++_}
-use Prim.Native.Nat.{ℕ, zero, suc, _+_, _*_, _<_, _≤_}
+use mathlib.Core.List.{List}
+use Prim.Native.Nat.{ℕ, _+_, _<_, _≤_}
 use native.Mathlib.Omega.{arith}
-use native.Mathlib.Numerals.{add-one}
-use lib.ListN.{length}
 use lib.Dec.{ltb, eqb}
 use borrow.Author.Tests.{eq-eqb, ne-eqb, lt-ltb, le-ltb, eqb-true, eqb-false, ltb-true, ltb-false}
-use Rattle.words.specs.Numbers.{byteAt, halfAt, wordAt}
+use Rattle.words.specs.Numbers.{byteAt, halfAt}
 use Rattle.places.specs.Search.{tops, alike}
-use Rattle.places.specs.Records.{bodies, count, bodyPlace, codePlace}
-use Rattle.places.specs.Rules.{Flow, goes, ends, bad, chain, effect, leave, bodyOf, found, step, into, isBad, broken}
+use Rattle.places.specs.Records.{bodyPlace}
+use Rattle.places.specs.Rules.{Flow, goes, ends, bad, chain, leave, bodyOf, found, step, into, broken}
 use Rattle.fits.specs.Each.{each, each-alike, each-none, each-all}
-use Rattle.fits.specs.Fits.{frameAt, bodyIn, depthIn, openIn, addressIn, takenIn, operandsIn, valueIn, rowFits, standsIn, standsBy, stands, activationsIn}
+use Rattle.fits.specs.Fits.{frameAt, bodyIn, depthIn, openIn, addressIn, takenIn, operandsIn, valueIn, rowFits, standsIn, stands, activationsIn}
 use Rattle.soundness.specs.Inspecting.{recordsIn}
-use Rattle.soundness.specs.Tested.{Counted, argsFit, standing, fitBefore, Upto}
+use Rattle.soundness.specs.Tested.{argsFit, standing, fitBefore, Upto}
 use Rattle.soundness.proofs.Rows.{by-test, alike-rows, each-and}
 
 -- ── the arguments ──

@@ -1,16 +1,16 @@
 -- What the tests and the walk together tell of a macro and a state.
-use mathlib.Core.Path.{_≡_, refl, sym, ap, _∙_}
+use mathlib.Core.Path.{_≡_, refl, sym, _∙_}
 use mathlib.Core.Bool.{Bool, true, false, cond, _&&_, false≢true, true≢false}
 use mathlib.Core.List.{List}
 use mathlib.Core.Option.{Option, none, some}
-use Prim.Native.Nat.{ℕ, zero, suc, _+_, _<_, _≤_}
+use Prim.Native.Nat.{ℕ, _<_, _≤_}
 use native.Mathlib.Omega.{arith}
 use lib.ListN.{length}
 use lib.Dec.{ltb, leb, eqb}
-use borrow.Author.Tests.{eq-eqb, ne-eqb, lt-ltb, eqb-true, ltb-true, leb-true}
+use borrow.Author.Tests.{eq-eqb, ne-eqb, lt-ltb, ltb-true, leb-true}
 use Rattle.words.specs.Numbers.{byteAt, halfAt}
 use Rattle.words.specs.Laws.{Bytes}
-use Rattle.values.specs.Ends.{Refusal, refusal, Judged, accepted, refused as refusedBy}
+use Rattle.values.specs.Ends.{refusal, Judged, accepted, refused as refusedBy}
 use Rattle.bytecode.specs.Macro.{Macro, isSome}
 use Rattle.bytecode.specs.Rules.{judgeMacro}
 use Rattle.bytecode.specs.Machine.{Machine}
@@ -30,7 +30,7 @@ use Rattle.fits.specs.Sounds.{sounds}
 use Rattle.soundness.specs.declared.Inspected.{Inspected}
 use Rattle.soundness.specs.declared.Inspected.the-variants.{Sound, Unsound, Refused}
 use Rattle.soundness.specs.Tested.{Counted, fitBefore}
-use Rattle.soundness.specs.Inspecting.{recordsIn, shortOf, Placed, Tells, Held, NotHeld, Inspects}
+use Rattle.soundness.specs.Inspecting.{recordsIn, shortOf, Tells, Held, NotHeld, Inspects}
 use Rattle.soundness.proofs.Rows.{by-test}
 
 -- ── a running state that passes ──

@@ -11,7 +11,7 @@ use Rattle.words.specs.Choice.{if_then_else_}
 use Rattle.values.specs.Ends.{Refusal, refusal, Judged, accepted, refused}
 use Rattle.language.specs.Tree.{Global, local, class, procedure, Tree}
 use Rattle.language.specs.Table.{Entry, flatItems, flatGlobal, flatHead, flatten, Read, took, stop, first, formRoot, oneTree, readTable}
-use Rattle.language.specs.Faults.{faultIf, sizeItems, sizeGlobal, faults}
+use Rattle.language.specs.Faults.{faultIf, sizeItems, sizeGlobal}
 use Rattle.language.specs.Limits.{Usage, keepsLimits, bodyUsage, rootUsage, overLimits, procedureLimits, limits}
 use Rattle.language.specs.Judge.{firstFault, judgeTree, judgeTable, total}
 use Rattle.programs.specs.Claims.{entriesOf}

@@ -1,11 +1,10 @@
 -- The operators of kinds 48 and 49 and of op 7: their numbers, and the types that they take and give.
-use mathlib.Core.Bool.{Bool, true, false, _&&_}
 use mathlib.Core.List.{List, [], _∷_}
 use mathlib.Core.Option.{Option, none, some}
 use Prim.Native.Nat.{ℕ}
 use lib.Dec.{eqb}
 use Rattle.words.specs.Choice.{if_then_else_}
-use Rattle.values.specs.Types.{Ty, integer, logical, bits, reference, same, sames}
+use Rattle.values.specs.Types.{Ty, integer, logical, bits, sames}
 
 -- "48 unary a (E)", "49 binary a (E, E)"
 pub data Unary : Type 0 where

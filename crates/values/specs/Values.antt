@@ -5,7 +5,7 @@ use mathlib.Core.Option.{Option, none, some}
 use Prim.Native.Nat.{ℕ, zero, suc}
 use lib.Dec.{eqb, leb, ltb}
 use lib.IntN.{ℤ, pos, negsuc}
-use lib.Signed.{mag, ltZ, leZ}
+use lib.Signed.{ltZ, leZ}
 use Rattle.words.specs.Choice.{if_then_else_}
 use Rattle.words.specs.Numbers.{integerOf, wordOf}
 use Rattle.values.specs.Types.{Ty, integer, logical, bits, reference}

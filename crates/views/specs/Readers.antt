@@ -23,7 +23,7 @@ use Rattle.views.specs.Tests.{tests, by-test, leb-not, if-same, if-not, 
 use Rattle.views.specs.View.{tyOn, typesOn, resultOn, classOn, bodyOn, codeOn, placedOn}
 
 -- ── types ──
-type-reads : (c t : ℕ) → tyOfByte c t ≡ (if noType c t then none else some (tyOn t))
+pub type-reads : (c t : ℕ) → tyOfByte c t ≡ (if noType c t then none else some (tyOn t))
 unfolding tyOfByte noType tyOn
 type-reads c zero = refl
 type-reads c (suc zero) = refl

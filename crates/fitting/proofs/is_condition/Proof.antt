@@ -1,13 +1,5 @@
 -- `fitting::is_condition` meets its contract. Assumes nothing.
-use borrow.Author.Needs.{needs}
-use native.Mathlib.Omega.{arith}
-use mathlib.Core.Path.{_≡_, refl, sym, ap, _∙_}
-use Prim.Native.Nat.{ℕ, _+_, _*_, _-_, _≤_, _<_}
-use lib.Dec.{leb}
-use Rattle.words.specs.Numbers.{byteAt}
-use Rattle.places.specs.Records.{codePlace}
-use Rattle.fits.specs.Each.{each, each-none, each-more}
-use Rattle.fits.specs.Fits.{held}
+use Prim.Native.Nat.{_-_}
 use Rattle.records.proofs.Tests as tests
 use Rattle.fitting.proofs.Laws as law
 use Rattle.fitting.proofs.is_condition.Statement.{statement}

@@ -1,13 +1,8 @@
 -- `fitting::row_fits` meets its contract. Assumes nothing.
-use borrow.Author.Needs.{needs}
 use native.Mathlib.Omega.{arith}
-use mathlib.Core.Path.{_≡_, refl, sym, ap, _∙_}
-use Prim.Native.Nat.{ℕ, _+_, _*_, _-_, _≤_, _<_}
-use lib.Dec.{leb}
-use Rattle.words.specs.Numbers.{byteAt}
-use Rattle.places.specs.Records.{codePlace}
+use mathlib.Core.Path.{_≡_, sym, _∙_}
+use Prim.Native.Nat.{_-_, _≤_}
 use Rattle.fits.specs.Each.{each, each-none, each-more}
-use Rattle.fits.specs.Fits.{held}
 use Rattle.records.proofs.Tests as tests
 use Rattle.fitting.proofs.Laws as law
 use Rattle.fitting.proofs.row_fits.Statement.{statement}

@@ -1,20 +1,11 @@
 -- `fitting::running_fits` meets its contract. Assumes nothing.
 use borrow.Author.Needs.{needs}
 use native.Mathlib.Omega.{arith}
-use mathlib.Core.Path.{_≡_, refl, sym, ap, _∙_}
-use Prim.Native.Nat.{ℕ, _+_, _*_, _-_, _≤_, _<_}
-use lib.Dec.{leb}
-use Rattle.words.specs.Numbers.{byteAt}
-use Rattle.places.specs.Records.{codePlace}
-use Rattle.fits.specs.Each.{each, each-none, each-more}
-use Rattle.fits.specs.Fits.{held}
+use mathlib.Core.Path.{sym, _∙_}
+use Prim.Native.Nat.{_-_}
 use Rattle.records.proofs.Tests as tests
 use Rattle.fitting.proofs.Laws as law
 use borrow.Author.Tests.{not-true, not-false}
-use Rattle.places.specs.Records.{classPlace, bodyPlace}
-use Rattle.fits.specs.Fits.{recordFits, frameFits}
-use Rattle.records.proofs.Known.{head-of, class-of}
-use Rattle.values.specs.Ends.{isCondition}
 use Rattle.fitting.proofs.running_fits.Statement.{statement}
 use Rattle.fitting.proofs.running_fits.Tie as tie
 

@@ -1,12 +1,9 @@
 -- `fresh::clear_all` meets its contract. Assumes nothing.
-use borrow.Author.Needs.{needs}
 use native.Mathlib.Omega.{arith}
-use mathlib.Core.Path.{_≡_, refl, sym, ap, _∙_}
-use Prim.Native.Nat.{ℕ, _+_, _*_, _-_, _≤_, _<_}
+use mathlib.Core.Path.{_≡_, sym, _∙_}
+use Prim.Native.Nat.{ℕ, _-_, _≤_, _<_}
 use lib.ListN.{length, getD, length-set}
-use Rattle.bytecode.specs.State.{encode}
-use Rattle.layout.specs.Parts.{length-encode}
-use Rattle.fresh.specs.Fresh.{freshWith, cleared-all, cleared-more, fresh-none, fresh-next}
+use Rattle.fresh.specs.Fresh.{cleared-all, cleared-more}
 use Rattle.fresh.proofs.clear_all.Statement.{statement}
 use Rattle.fresh.proofs.clear_all.Tie as tie
 

@@ -1,12 +1,6 @@
 -- `fresh::write_cell` meets its contract. Assumes nothing.
 use borrow.Author.Needs.{needs}
-use native.Mathlib.Omega.{arith}
-use mathlib.Core.Path.{_≡_, refl, sym, ap, _∙_}
-use Prim.Native.Nat.{ℕ, _+_, _*_, _-_, _≤_, _<_}
-use lib.ListN.{length, getD, length-set}
-use Rattle.bytecode.specs.State.{encode}
-use Rattle.layout.specs.Parts.{length-encode}
-use Rattle.fresh.specs.Fresh.{freshWith, cleared-all, cleared-more, fresh-none, fresh-next}
+use Prim.Native.Nat.{_-_}
 use Rattle.fresh.proofs.write_cell.Statement.{statement}
 use Rattle.fresh.proofs.write_cell.Tie as tie
 

@@ -1,12 +1,10 @@
 -- `fresh::write_fresh` meets its contract. Assumes nothing.
 use borrow.Author.Needs.{needs}
-use native.Mathlib.Omega.{arith}
-use mathlib.Core.Path.{_≡_, refl, sym, ap, _∙_}
-use Prim.Native.Nat.{ℕ, _+_, _*_, _-_, _≤_, _<_}
-use lib.ListN.{length, getD, length-set}
-use Rattle.bytecode.specs.State.{encode}
+use mathlib.Core.Path.{sym, ap, _∙_}
+use Prim.Native.Nat.{_-_}
+use lib.ListN.{length}
 use Rattle.layout.specs.Parts.{length-encode}
-use Rattle.fresh.specs.Fresh.{freshWith, cleared-all, cleared-more, fresh-none, fresh-next}
+use Rattle.fresh.specs.Fresh.{fresh-none}
 use Rattle.fresh.proofs.write_fresh.Statement.{statement}
 use Rattle.fresh.proofs.write_fresh.Tie as tie
 

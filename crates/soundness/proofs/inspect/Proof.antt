@@ -1,28 +1,8 @@
 -- `soundness::inspect` meets its contract. Assumes nothing.
 use borrow.Author.Needs.{needs}
-use borrow.Author.Tests.{not-true, not-false}
-use native.Mathlib.Omega.{arith}
-use mathlib.Core.Path.{_≡_, refl, sym, ap, _∙_}
-use Prim.Native.Nat.{ℕ, _+_, _*_, _-_, _≤_, _<_}
-use Rattle.fits.specs.Each.{each, each-none, each-more}
-use Rattle.fits.specs.Fits.{addressIn}
-use Rattle.fitting.proofs.Laws.{each-end}
-use Rattle.soundness.proofs.Rows.{sameAt}
+use Prim.Native.Nat.{_-_}
 use Rattle.soundness.proofs.Laws as law
-use borrow.Author.Tests.{eq-eqb, ne-eqb}
-use Rattle.places.specs.Search.{tops}
-use Rattle.places.specs.Records.{bodyPlace}
-use Rattle.records.proofs.Known.{head-of}
-use Rattle.soundness.specs.Tested.{argsFit}
-use Rattle.places.specs.Search.{Clean}
-use Rattle.places.specs.Records.{bodies, count}
-use Rattle.places.specs.Rules.{bodyOf, found, into, broken}
-use Rattle.records.proofs.Search.{first-hit, first-none, clean-none, clean-more}
-use Rattle.rules.specs.Moves.{Moves}
 use Rattle.rules.proofs.Laws as rule
-use Rattle.soundness.specs.Tested.{Upto}
-use Rattle.records.proofs.Known.{ready, head-known}
-use Rattle.soundness.specs.Inspecting.{Inspects}
 use Rattle.soundness.proofs.Telling as telling
 use Rattle.soundness.proofs.inspect.Statement.{statement}
 use Rattle.soundness.proofs.inspect.Tie as tie

@@ -1,13 +1,7 @@
 -- `soundness::next_wanted` meets its contract. Assumes nothing.
-use borrow.Author.Needs.{needs}
-use borrow.Author.Tests.{not-true, not-false}
 use native.Mathlib.Omega.{arith}
-use mathlib.Core.Path.{_≡_, refl, sym, ap, _∙_}
-use Prim.Native.Nat.{ℕ, _+_, _*_, _-_, _≤_, _<_}
-use Rattle.fits.specs.Each.{each, each-none, each-more}
+use Prim.Native.Nat.{ℕ, _-_, _≤_, _<_}
 use Rattle.fits.specs.Fits.{addressIn}
-use Rattle.fitting.proofs.Laws.{each-end}
-use Rattle.soundness.proofs.Rows.{sameAt}
 use Rattle.soundness.proofs.Laws as law
 use Rattle.soundness.proofs.next_wanted.Statement.{statement}
 use Rattle.soundness.proofs.next_wanted.Tie as tie

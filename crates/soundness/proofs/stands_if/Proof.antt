@@ -1,19 +1,10 @@
 -- `soundness::stands_if` meets its contract. Assumes nothing.
 use borrow.Author.Needs.{needs}
-use borrow.Author.Tests.{not-true, not-false}
-use native.Mathlib.Omega.{arith}
-use mathlib.Core.Path.{_≡_, refl, sym, ap, _∙_}
-use Prim.Native.Nat.{ℕ, _+_, _*_, _-_, _≤_, _<_}
-use Rattle.fits.specs.Each.{each, each-none, each-more}
+use mathlib.Core.Path.{sym, _∙_}
+use Prim.Native.Nat.{_-_}
 use Rattle.fits.specs.Fits.{addressIn}
-use Rattle.fitting.proofs.Laws.{each-end}
-use Rattle.soundness.proofs.Rows.{sameAt}
 use Rattle.soundness.proofs.Laws as law
 use borrow.Author.Tests.{eq-eqb, ne-eqb}
-use Rattle.places.specs.Search.{tops}
-use Rattle.places.specs.Records.{bodyPlace}
-use Rattle.records.proofs.Known.{head-of}
-use Rattle.soundness.specs.Tested.{argsFit}
 use Rattle.soundness.proofs.stands_if.Statement.{statement}
 use Rattle.soundness.proofs.stands_if.Tie as tie
 
