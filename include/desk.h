@@ -60,7 +60,7 @@ enum cue_tag {
  * Of 3, 4 and 5 the refusal is at the first entry, inner before outer and left to right, that has one of them, and is the least of that entry's.
  * The table is read only. The work is linear in its entries but for looking names up: an entry may walk all names in sight.
  * Stack: under 110,000 bytes: some 70,000 at every call, whatever the table's size, and about 610 for each level of nesting (measured with an if in an if,
- * 64 deep, which takes the most). */
+ * 64 deep, the most of all that was tried). */
 uint64_t cue_check(const uint8_t *table, size_t n);
 
 /* The loading check: refusal 8 (place: the first record that does not read) or 9 (place: the lowest address at fault), or done.
