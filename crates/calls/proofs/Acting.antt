@@ -19,9 +19,7 @@ use Rattle.bytecode.specs.Instructions.{bodyAt}
 use Rattle.bytecode.specs.Machine.{Activation, Made, noStep, badType, badRecord, badFrame, groupHeld, Stepped, at, condition, goesOn, demand, popMany, assignAll, entering, notRoot, handDown, isEmpty, doCall, doReturn, withRecords, recording, onMade, doMake, doGetField, fieldPut, doPutField}
 use Rattle.bytecode.specs.Machine as machine
 use Rattle.places.specs.Records.{classes, bodies, classPlace, bodyPlace}
-use Rattle.views.specs.Lists.{span, span-length}
-use Rattle.views.specs.View.{tyOn, classOn, bodyOn, typesOn, below}
-use Rattle.views.specs.Views.{viewed}
+use Rattle.loader.specs.Views.{span, span-length, tyOn, classOn, bodyOn, typesOn, below, viewed}
 use Rattle.safety.specs.Lists.{pops}
 use Rattle.layout.specs.Elements.{there}
 use Rattle.layout.specs.Places.{framePlace}

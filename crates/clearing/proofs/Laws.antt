@@ -22,12 +22,7 @@ use Rattle.layout.specs.Cleared.{Gap, _⋯_, wipes, activationGaps, recordGaps,
 use Rattle.layout.specs.Passing.{sized}
 use Rattle.layout.specs.Layout.{cleared-sound}
 use Rattle.places.specs.Records.{classes, bodies, classPlace, bodyPlace}
-use Rattle.views.specs.Lists.{span-length}
-use Rattle.views.specs.View.{view}
-use Rattle.views.specs.Known.{reads-view}
-use Rattle.views.specs.Bodies.{body-at}
-use Rattle.views.specs.Ops.{class-at}
-use Rattle.views.specs.Views.{passing}
+use Rattle.loader.specs.Views.{span-length, view, reads-view, body-at, class-at, passing}
 use Rattle.fits.specs.Each.{each, each-get}
 use Rattle.fits.specs.Fits.{bodyIn, classIn, held, groupsFit, recordFits, frameFits, runningFits, plainFits, stands, activationsIn, soundBytes}
 use Rattle.fits.specs.Frames.{chosen}

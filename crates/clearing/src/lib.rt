@@ -1,13 +1,13 @@
 // Makes 0 all bytes of a run state that a sound state does not use, so that they are the state's encoding.
 ghost use mathlib.Core.Path.{_≡_};
 ghost use mathlib.Core.List.{[], _∷_};
-ghost use Prim.Native.Nat.{ℕ, _+_, _*_, _≤_, _<_};
+ghost use Prim.Native.Nat.{_+_, _*_, _≤_, _<_};
 ghost use lib.ListN.{length};
 ghost use Rattle.words.specs.Numbers.{byteAt, halfAt};
 ghost use Rattle.places.specs.Records.{classes, bodies};
-ghost use Rattle.views.specs.View.{view};
+ghost use Rattle.loader.specs.Views.{view};
 ghost use Rattle.layout.specs.Cleared.{_⋯_, wipes, activationGaps, recordGaps, cellCount, fieldCount, clearActivations, clearRecords, clearRunning};
-ghost use Rattle.rules.specs.Moves.{Bodied, Classed};
+ghost use Rattle.loader.specs.Lookups.{Bodied, Classed};
 ghost use Rattle.soundness.specs.Inspecting.{Held};
 ghost use Rattle.clearing.specs.Clearing.{Below, Uncleared, Encodes};
 
@@ -52,10 +52,10 @@ fn clear_activation(c: &[u8], bx: &[u32], l: &mut [u8], b: usize)
     requires { ⌜ (Bodied (now c) (now bx)) × (length (now l) ≡ 24576) × (b + 328 ≤ 24576) × (byteAt (now l) b < bodies (now c)) ⌝ }
     ensures { λ _. ⌜ now (l .exit) ≡ wipes (now (l .entry)) b (activationGaps (cellCount (view (now (c .entry))) (byteAt (now (l .entry)) b)) (byteAt (now (l .entry)) (b + 1))) ⌝ }
 {
-    let k = records::byte_at(l, b);
-    let operands = records::byte_at(l, b + 1);
-    let q = rules::body_at(c, bx, k);
-    let cells = records::byte_at(c, q + 6);
+    let k = words::wide::byte_at(l, b);
+    let operands = words::wide::byte_at(l, b + 1);
+    let q = loader::body_at(c, bx, k);
+    let cells = words::wide::byte_at(c, q + 6);
     wipe_activation(l, b, cells, operands);
 }
 
@@ -63,9 +63,9 @@ fn clear_record(c: &[u8], cx: &[u32], l: &mut [u8], b: usize)
     requires { ⌜ (Classed (now c) (now cx)) × (length (now l) ≡ 24576) × (b + 44 ≤ 24576) × (byteAt (now l) b < classes (now c)) ⌝ }
     ensures { λ _. ⌜ now (l .exit) ≡ wipes (now (l .entry)) b (recordGaps (fieldCount (view (now (c .entry))) (byteAt (now (l .entry)) b))) ⌝ }
 {
-    let a = records::byte_at(l, b);
-    let q = rules::class_at(c, cx, a);
-    let fields = records::byte_at(c, q + 2);
+    let a = words::wide::byte_at(l, b);
+    let q = loader::class_at(c, cx, a);
+    let fields = words::wide::byte_at(c, q + 2);
     wipe_record(l, b, fields);
 }
 
@@ -117,9 +117,9 @@ fn clear_running(c: &[u8], bx: &[u32], cx: &[u32], l: &mut [u8])
     requires { ⌜ (Bodied (now c) (now bx)) × (Classed (now c) (now cx)) × (length (now l) ≡ 24576) × (Uncleared (now c) (now l)) ⌝ }
     ensures { λ _. ⌜ now (l .exit) ≡ clearRunning (view (now (c .entry))) (byteAt (now (l .entry)) 2) (halfAt (now (l .entry)) 4) (halfAt (now (l .entry)) 6) (now (l .entry)) ⌝ }
 {
-    let n = records::byte_at(l, 2);
-    let r = records::half_at(l, 4);
-    let h = records::half_at(l, 6);
+    let n = words::wide::byte_at(l, 2);
+    let r = words::wide::half_at(l, 4);
+    let h = words::wide::half_at(l, 6);
     clear_header(l);
     clear_activations(c, bx, l, n);
     clear_room(l, n, h);
@@ -131,7 +131,7 @@ fn clear_releasing(l: &mut [u8])
     requires { ⌜ length (now l) ≡ 24576 ⌝ }
     ensures { λ _. ⌜ now (l .exit) ≡ wipes (now (l .entry)) 0 ((2 ⋯ 6) ∷ (8 ⋯ 10528) ∷ (10528 + halfAt (now (l .entry)) 6 ⋯ 24576) ∷ []) ⌝ }
 {
-    let h = records::half_at(l, 6);
+    let h = words::wide::half_at(l, 6);
     wipe(l, 0, 2, 6);
     wipe(l, 0, 8, 10528);
     wipe(l, 0, 10528 + h, 24576);
@@ -142,7 +142,7 @@ pub fn clear(c: &[u8], bx: &[u32], cx: &[u32], l: &mut [u8])
     requires { ⌜ (Held (now c) (now l)) × (Bodied (now c) (now bx)) × (Classed (now c) (now cx)) ⌝ }
     ensures { λ _. ⌜ Encodes (now (c .entry)) (now (l .entry)) (now (l .exit)) ⌝ }
 {
-    let phase = records::byte_at(l, 0);
+    let phase = words::wide::byte_at(l, 0);
     if phase == 0 {
         clear_running(c, bx, cx, l);
         return;

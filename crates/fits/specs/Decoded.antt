@@ -19,11 +19,7 @@ use Rattle.bytecode.specs.Machine.{Activation, Made}
 use Rattle.bytecode.specs.State.{part, readValues, assignedAll, readActivation, readActivations, readRecord, readRecords}
 use Rattle.places.specs.Records.{classes, bodies, classPlace, bodyPlace, noMark, badClass}
 use Rattle.places.specs.Index.{Well}
-use Rattle.views.specs.Lists.{span, span-length}
-use Rattle.views.specs.Tests.{by-test, past}
-use Rattle.views.specs.View.{view}
-use Rattle.views.specs.Bodies.{body-at}
-use Rattle.views.specs.Ops.{class-at}
+use Rattle.loader.specs.Views.{span, span-length, by-test, past, view, body-at, class-at}
 use Rattle.fits.specs.Each.{each, halves}
 use Rattle.fits.specs.Fits.{frameAt, entryAt, bodyIn, depthIn, openIn, addressIn, classIn, held}
 use Rattle.fits.specs.Rows.{rowReads, rowOn, values-read}

@@ -22,14 +22,7 @@ use Rattle.places.specs.Search.{tops, alike, Clean}
 use Rattle.places.specs.Records.{classes, bodies, count, classPlace, bodyPlace, firstOf}
 use Rattle.places.specs.Rules.{bodyOf, endOf, broken}
 use Rattle.places.specs.Index.{Well}
-use Rattle.views.specs.Lists.{span, backs, span-at, reverse-span}
-use Rattle.views.specs.Tests.{tests, by-test}
-use Rattle.views.specs.View.{view, bodyOn, bytes, below}
-use Rattle.views.specs.Stack.{alike-bytes}
-use Rattle.views.specs.Known.{known-class, known-body, first-rises}
-use Rattle.views.specs.Bodies.{body-at, in-body, stands as standing, before-end}
-use Rattle.views.specs.Ops.{class-at}
-use Rattle.views.specs.Views.{Viewed}
+use Rattle.loader.specs.Views.{span, backs, span-at, reverse-span, tests, by-test, view, bodyOn, bytes, below, alike-bytes, known-class, known-body, first-rises, body-at, in-body, stands as standing, before-end, class-at, Viewed}
 use Rattle.fits.specs.Each.{each, halves, both, same-test}
 use Rattle.fits.specs.Fits.{frameAt, entryAt, bodyIn, depthIn, openIn, addressIn, classIn, held, valueIn, rowFits, recordFits, cellsFit, operandsIn, takenIn, standsIn, stands}
 use Rattle.fits.specs.Rows.{Recorded, row-bytes, row-sound, row-typed}

@@ -21,13 +21,8 @@ use Rattle.bytecode.specs.Machine.{Made}
 use Rattle.bytecode.specs.Sound.{all, soundValue, points, typedValues}
 use Rattle.bytecode.specs.State.{readValue, readValues}
 use Rattle.places.specs.Records.{classes, noType}
-use Rattle.views.specs.Lists.{span}
-use Rattle.views.specs.Tests.{by-test}
-use Rattle.views.specs.View.{tyOn}
-use Rattle.views.specs.Known.{type-byte}
-use Rattle.views.specs.Stack.{same-byte}
+use Rattle.loader.specs.Views.{span, by-test, tyOn, type-byte, same-byte, type-reads}
 use Rattle.fits.specs.Each.{each, each-at, and-true}
-use Rattle.views.specs.Readers.{type-reads}
 use Rattle.fits.specs.Fits.{pointsTo, valueFits, classIn}
 
 -- ── one value ──

@@ -22,11 +22,7 @@ use Rattle.bytecode.specs.Lent.{onlySound}
 use Rattle.places.specs.Search.{tops, Clean}
 use Rattle.places.specs.Records.{bodies, count, bodyPlace, codePlace}
 use Rattle.places.specs.Rules.{broken}
-use Rattle.views.specs.Lists.{span, backs, span-length, backs-length, reverse-span}
-use Rattle.views.specs.Tests.{tests, by-test}
-use Rattle.views.specs.View.{view, bytes}
-use Rattle.views.specs.Address.{code-at}
-use Rattle.views.specs.Views.{Viewed}
+use Rattle.loader.specs.Views.{span, backs, span-length, backs-length, reverse-span, tests, by-test, view, bytes, code-at, Viewed}
 use Rattle.fits.specs.Each.{each, halves, both, same-test, each-get, each-all}
 use Rattle.fits.specs.Fits.{bodyIn, depthIn, openIn, addressIn, held, calls, takenIn, recordFits, cellsFit, frameFits, groupsFit, runningFits, stands}
 use Rattle.fits.specs.Decoded.{recordOn, recordReads, records-read, cellCount, holdsOn, frameOn, frameReads, activations-read}

@@ -22,10 +22,7 @@ use Rattle.bytecode.specs.Lent.{onlySound, soundState}
 use Rattle.places.specs.Search.{Clean}
 use Rattle.places.specs.Records.{count}
 use Rattle.places.specs.Rules.{broken}
-use Rattle.views.specs.Tests.{by-test}
-use Rattle.views.specs.View.{view}
-use Rattle.views.specs.Known.{reads-view}
-use Rattle.views.specs.Views.{Viewed, viewed, passing}
+use Rattle.loader.specs.Views.{by-test, view, reads-view, Viewed, viewed, passing}
 use Rattle.fits.specs.Each.{each, each-same}
 use Rattle.fits.specs.Fits.{groupsFit, plainFits, stands, activationsIn, soundBytes}
 use Rattle.fits.specs.Frames.{all-reverse}

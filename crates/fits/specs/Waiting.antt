@@ -22,12 +22,7 @@ use Rattle.bytecode.specs.State.{part}
 use Rattle.places.specs.Search.{tops}
 use Rattle.places.specs.Records.{bodies, bodyPlace}
 use Rattle.places.specs.Index.{Well}
-use Rattle.views.specs.Lists.{backs, span-take, reverse-span}
-use Rattle.views.specs.Tests.{by-test}
-use Rattle.views.specs.View.{view, bytes}
-use Rattle.views.specs.Stack.{stack-bytes}
-use Rattle.views.specs.Known.{known-body}
-use Rattle.views.specs.Bodies.{body-at}
+use Rattle.loader.specs.Views.{backs, span-take, reverse-span, by-test, view, bytes, stack-bytes, known-body, body-at}
 use Rattle.fits.specs.Each.{each, and-assoc, each-snoc, each-same}
 use Rattle.fits.specs.Fits.{bodyIn, openIn, addressIn, held}
 use Rattle.fits.specs.Decoded.{cellCount, holdsOn, frameOn}

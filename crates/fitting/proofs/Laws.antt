@@ -11,7 +11,7 @@ use Rattle.words.specs.Numbers.{byteAt, halfAt, wordAt}
 use Rattle.values.specs.Ends.{isCondition}
 use Rattle.places.specs.Records.{classes, bodies, count, classPlace, bodyPlace, codePlace, noType}
 use Rattle.places.specs.Index.{Well}
-use Rattle.records.proofs.Known.{class-of}
+use Rattle.loader.specs.Lookups.{class-of}
 use Rattle.fits.specs.Each.{each}
 use Rattle.fits.specs.Fits.{frameAt, entryAt, bodyIn, depthIn, openIn, addressIn, classIn, pointsTo, valueFits, valueIn, rowFits, recordFits, calls, frameFits, held, groupsFit, runningFits, plainFits}
 

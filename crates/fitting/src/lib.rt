@@ -1,29 +1,15 @@
 // The tests of a run state's bytes that need no state found by the loading rules: values, records, activations, holds, header.
 ghost use mathlib.Core.Path.{_≡_};
-ghost use mathlib.Core.Bool.{Bool, true, false, _&&_, _||_};
-ghost use Prim.Native.Nat.{ℕ, _+_, _*_, _≤_, _<_};
+ghost use mathlib.Core.Bool.{true, false, _&&_, _||_};
+ghost use Prim.Native.Nat.{_+_, _*_, _≤_, _<_};
 ghost use lib.ListN.{length};
 ghost use lib.Dec.{eqb};
-ghost use Rattle.words.specs.Numbers.{byteAt, halfAt};
 ghost use Rattle.values.specs.Ends.{isCondition};
-ghost use Rattle.places.specs.Records.{classes, bodies, count, codeBase, noType};
+ghost use Rattle.places.specs.Records.{count, codeBase};
 ghost use Rattle.places.specs.Index.{Well};
-ghost use Rattle.rules.specs.Moves.{Bodied, Classed};
+ghost use Rattle.loader.specs.Lookups.{Bodied, Classed};
 ghost use Rattle.fits.specs.Each.{each};
 ghost use Rattle.fits.specs.Fits.{addressIn, pointsTo, valueFits, rowFits, recordFits, calls, frameFits, held, groupsFit, runningFits, plainFits};
-
-// Whether t is no type byte where there are c classes.
-fn no_type(c: usize, t: usize) -> bool
-    ensures { λ r. ⌜ r ≡ noType c t ⌝ }
-{
-    if t < 16 {
-        if t < 1 {
-            return true;
-        }
-        return 3 < t;
-    }
-    c <= t - 16
-}
 
 // Folds take their tests without a branch, so that they run over many bytes at an even pace.
 pub fn both(a: bool, b: bool) -> bool
@@ -44,7 +30,7 @@ fn points_to(l: &[u8], r: usize, t: usize, w: usize) -> bool
     if r <= k {
         return false;
     }
-    records::byte_at(l, 11040 + 44 * k) == t - 16
+    words::wide::byte_at(l, 11040 + 44 * k) == t - 16
 }
 
 // Whether the word w is a value of type t.
@@ -52,8 +38,8 @@ fn value_fits(c: &[u8], l: &[u8], r: usize, t: usize, w: usize) -> bool
     requires { ⌜ (8 ≤ length (now c)) × (length (now l) ≡ 24576) × (r ≤ 256) ⌝ }
     ensures { λ x. ⌜ x ≡ valueFits (now (c .entry)) (now (l .entry)) r t w ⌝ }
 {
-    let n = records::byte_at(c, 2);
-    if no_type(n, t) {
+    let n = words::wide::byte_at(c, 2);
+    if loader::no_type(n, t) {
         return false;
     }
     if 16 <= t {
@@ -82,9 +68,9 @@ pub fn row_fits(
     let mut ok = true;
     let mut j: usize = 0;
     while j < n {
-        let a = records::byte_at(l, t + j);
-        let b = records::byte_at(e, q + j);
-        let v = records::word_at(l, w + 4 * j);
+        let a = words::wide::byte_at(l, t + j);
+        let b = words::wide::byte_at(e, q + j);
+        let v = words::wide::word_at(l, w + 4 * j);
         let f = value_fits(c, l, r, a, v);
         ok = both(ok, both(a == b, f));
         j += 1;
@@ -97,13 +83,13 @@ fn record_fits(c: &[u8], cx: &[u32], l: &[u8], r: usize, k: usize) -> bool
     ensures { λ x. ⌜ x ≡ recordFits (now (c .entry)) (now (l .entry)) r k ⌝ }
 {
     let p = 11040 + 44 * k;
-    let a = records::byte_at(l, p);
-    let n = records::byte_at(c, 2);
+    let a = words::wide::byte_at(l, p);
+    let n = words::wide::byte_at(c, 2);
     if n <= a {
         return false;
     }
-    let q = rules::class_at(c, cx, a);
-    let f = records::byte_at(c, q + 2);
+    let q = loader::class_at(c, cx, a);
+    let f = words::wide::byte_at(c, q + 2);
     row_fits(c, l, r, c, q + 3, p + 36, p + 4, f)
 }
 
@@ -130,15 +116,15 @@ fn calls_next(c: &[u8], base: usize, l: &[u8], n: usize, k: usize) -> bool
     if n <= j {
         return true;
     }
-    let i = records::half_at(l, 32 + 328 * k + 4);
-    let x = rules::instruction_at(c, base, i);
+    let i = words::wide::half_at(l, 32 + 328 * k + 4);
+    let x = loader::instruction_at(c, base, i);
     if x.op != 10 {
         return false;
     }
     if x.a != 0 {
         return false;
     }
-    x.b == records::byte_at(l, 32 + 328 * j)
+    x.b == words::wide::byte_at(l, 32 + 328 * j)
 }
 
 fn frame_fits(c: &[u8], bx: &[u32], base: usize, l: &[u8], r: usize, n: usize, k: usize) -> bool
@@ -146,26 +132,26 @@ fn frame_fits(c: &[u8], bx: &[u32], base: usize, l: &[u8], r: usize, n: usize, k
     ensures { λ x. ⌜ x ≡ frameFits (now (c .entry)) (now (l .entry)) r n k ⌝ }
 {
     let p = 32 + 328 * k;
-    let b = records::byte_at(l, p);
-    let m = records::byte_at(c, 3);
+    let b = words::wide::byte_at(l, p);
+    let m = words::wide::byte_at(c, 3);
     if m <= b {
         return false;
     }
-    let q = rules::body_at(c, bx, b);
-    let cells = records::byte_at(c, q + 6);
+    let q = loader::body_at(c, bx, b);
+    let cells = words::wide::byte_at(c, q + 6);
     if 32 < cells {
         return false;
     }
-    let depth = records::byte_at(l, p + 1);
+    let depth = words::wide::byte_at(l, p + 1);
     if 32 < depth {
         return false;
     }
-    let open = records::byte_at(l, p + 2);
+    let open = words::wide::byte_at(l, p + 2);
     if 16 < open {
         return false;
     }
-    let i = records::half_at(l, p + 4);
-    let count = records::half_at(c, 4);
+    let i = words::wide::half_at(l, p + 4);
+    let count = words::wide::half_at(c, 4);
     if count <= i {
         return false;
     }
@@ -197,7 +183,7 @@ fn open_holds(l: &[u8], n: usize) -> usize
     let mut sum: usize = 0;
     let mut k: usize = 0;
     while k < n {
-        sum += records::byte_at(l, 32 + 328 * k + 2);
+        sum += words::wide::byte_at(l, 32 + 328 * k + 2);
         k += 1;
     }
     sum
@@ -214,7 +200,7 @@ fn groups_fit(l: &[u8], h: usize) -> bool
     let mut ok = true;
     let mut j: usize = 0;
     while j < h {
-        ok = both(ok, records::byte_at(l, 10528 + j) <= 63);
+        ok = both(ok, words::wide::byte_at(l, 10528 + j) <= 63);
         j += 1;
     }
     ok
@@ -242,7 +228,7 @@ fn running_fits(
     if 256 < r {
         return false;
     }
-    if records::byte_at(l, 32) != 0 {
+    if words::wide::byte_at(l, 32) != 0 {
         return false;
     }
     if open_holds(l, n) != h {
@@ -280,12 +266,12 @@ pub fn plain_fits(c: &[u8], bx: &[u32], cx: &[u32], base: usize, l: &[u8]) -> bo
     requires { ⌜ (Bodied (now c) (now bx)) × (Classed (now c) (now cx)) × (base ≡ codeBase (now c)) × (length (now l) ≡ 24576) ⌝ }
     ensures { λ x. ⌜ x ≡ plainFits (now (c .entry)) (now (l .entry)) ⌝ }
 {
-    let phase = records::byte_at(l, 0);
-    let code = records::byte_at(l, 1);
-    let h = records::half_at(l, 6);
+    let phase = words::wide::byte_at(l, 0);
+    let code = words::wide::byte_at(l, 1);
+    let h = words::wide::half_at(l, 6);
     if phase == 0 {
-        let n = records::byte_at(l, 2);
-        let r = records::half_at(l, 4);
+        let n = words::wide::byte_at(l, 2);
+        let r = words::wide::half_at(l, 4);
         return running_fits(c, bx, cx, base, l, n, r, h);
     }
     if phase == 1 {

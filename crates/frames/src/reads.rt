@@ -1,7 +1,6 @@
 // The word and the type byte of a value: an operand, counted from the bottom, a cell, and a field of a record.
 ghost use mathlib.Core.Path.{_≡_};
-ghost use Prim.Native.Nat.{_+_, _*_, _≤_, _<_};
-ghost use lib.ListN.{length};
+ghost use Prim.Native.Nat.{_+_, _*_, _<_};
 ghost use Rattle.words.specs.Numbers.{byteAt, wordAt};
 ghost use Rattle.frames.specs.Bytes.{Framed, Recorded};
 

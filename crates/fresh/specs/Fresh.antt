@@ -15,9 +15,7 @@ use Rattle.bytecode.specs.Machine.{Machine, running, rootCells, freshMachine}
 use Rattle.bytecode.specs.State.{zeros, typeByte, encode}
 use Rattle.places.specs.Records.{bodies, bodyPlace}
 use Rattle.places.specs.Index.{Well}
-use Rattle.views.specs.Lists.{span, span-length, span-snoc}
-use Rattle.views.specs.View.{view, tyOn, typesOn, bodyOn, Typed}
-use Rattle.views.specs.Known.{some-body}
+use Rattle.loader.specs.Views.{span, span-length, span-snoc, view, tyOn, typesOn, bodyOn, Typed, some-body}
 use Rattle.layout.specs.Steps.{cell-next-law}
 use Rattle.layout.specs.Phases.{begin-law}
 

@@ -1,12 +1,12 @@
 // A fresh state written over lent bytes: the root alone, at its first address, its cells as variables start.
 ghost use mathlib.Core.Path.{_≡_};
 ghost use mathlib.Core.List.{[], _∷_};
-ghost use Prim.Native.Nat.{ℕ, _+_, _*_, _≤_, _<_};
+ghost use Prim.Native.Nat.{_+_, _*_, _≤_, _<_};
 ghost use lib.ListN.{length};
 ghost use lib.Seq.{sets};
-ghost use Rattle.words.specs.Numbers.{byteAt, word};
+ghost use Rattle.words.specs.Numbers.{word};
 ghost use Rattle.bytecode.specs.State.{zeros, encode};
-ghost use Rattle.views.specs.View.{Typed};
+ghost use Rattle.loader.specs.Views.{Typed};
 ghost use Rattle.fresh.specs.Fresh.{freshWith};
 
 fn clear_all(l: &mut [u8])

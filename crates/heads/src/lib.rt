@@ -1,13 +1,10 @@
 // Heads: the names of a block, a parameter list or the root are pushed before anything in it is judged, since all are visible
 // throughout; then its declarations are judged.
 use scopes::Found;
-ghost use mathlib.Core.Path.{_≡_};
 ghost use mathlib.Core.List.{_∷_, _++_};
 ghost use Prim.Native.Nat.{_+_, _*_, _/_, _≤_, _<_};
-ghost use lib.ListN.{length, drop};
-ghost use Rattle.programs.specs.Claims.{entriesOf};
+ghost use lib.ListN.{length};
 ghost use Rattle.scopes.specs.Environment.{item, addAll, envOf, Grown};
-ghost use Rattle.spans.specs.Spans.{span};
 ghost use Rattle.spans.specs.Sizes.{Known};
 ghost use Rattle.heads.specs.Items.{oneAt, itemsAt, labelsFrom, Reach, globalAt, globalsFrom, WithinGlobal, ReachGlobals, blockItems, rootItems, aAt, bAt};
 ghost use Rattle.heads.specs.Flaws.{Says, onceFlaw, classFlaw, declFlaws, headFlaws};

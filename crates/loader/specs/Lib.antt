@@ -1,2 +1,5 @@
 pub mod Loaded
 pub mod Small
+pub mod Lookups
+pub mod Walk
+pub mod Views

@@ -1,16 +1,18 @@
--- How large the numbers of a refusal can be: they fit the fields that answers are packed into.
+-- How large the numbers of a refusal can be: they fit the fields that answers are packed into. And the place of the first instruction.
 use mathlib.Core.Path.{_≡_, refl}
 use mathlib.Core.Bool.{Bool, true, false, cond}
 use mathlib.Core.List.{List}
-use Prim.Native.Nat.{ℕ, _+_, _≤_, _<_}
+use Prim.Native.Nat.{ℕ, zero, suc, _+_, _*_, _≤_, _<_}
 use native.Mathlib.Omega.{arith}
 use lib.Dec.{ltb, eqb}
 use lib.ListN.{length}
 use borrow.Author.Tests.{ltb-true}
 use Rattle.words.specs.Laws.{Bytes}
 use Rattle.places.specs.Search.{first}
-use Rattle.places.specs.Records.{classes, bodies, count, shapes, shapePlace, badHead, badClass, badBody, badCode, badShape, noMark, Read, reads, unread, among, readEnd, readRecords}
+use Rattle.places.specs.Records.{classes, bodies, count, shapes, classPlace, bodyPlace, codeBase, shapePlace, badHead, badClass, badBody, badCode, badShape, noMark, Read, reads, unread, among, readEnd, readRecords}
 use Rattle.places.specs.Rules.{Verdict, passes, refused, verdict, broken, judge}
+use Rattle.places.specs.Index.{Well}
+use Rattle.records.proofs.Known.{head-of, class-of}
 
 -- a record's index below N
 abbrev Below : ℕ → Read → Type 0
@@ -58,3 +60,18 @@ module _ (l : List ℕ) (b : Bytes l) where
       go : (r : Read) → Below 16777216 r → Narrow (verdict l r)
       go (unread k) h = (omega arith, h)
       go reads h = at-address (ltb (first (broken l) (count l)) (count l)) refl
+
+-- ── the place of the first instruction is small ──
+module _ (c : List ℕ) (W : Well c) (B : Bytes c) where
+  class-high : (k : ℕ) → k ≤ classes c → classPlace c k ≤ 8 + 11 * k
+  unfolding classPlace
+  class-high zero h = omega arith
+  class-high (suc k) h = omega (arith, class-high k (omega arith), class-of c W k h .few)
+
+  body-high : (k : ℕ) → bodyPlace c k ≤ 184 + 262 * k
+  unfolding bodyPlace
+  body-high zero = omega (arith, class-high (classes c) (omega arith), head-of c W .few-classes)
+  body-high (suc k) = omega (arith, body-high k, B (bodyPlace c k + 6))
+
+  pub base-small : codeBase c < 65536
+  base-small = omega (arith, body-high (bodies c), head-of c W .few-bodies)

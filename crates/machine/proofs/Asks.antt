@@ -33,11 +33,9 @@ use Rattle.ops.specs.Acts.{here, Now, Room, Holding}
 use Rattle.ops.proofs.Facts.{never, around, stands, few-operands, few-holds, few-records}
 use Rattle.calls.specs.Moves.{CallRoom, ReturnRoom, FieldRoom, MakeRoom}
 use Rattle.calls.specs.Moves.{given as given-of}
-use Rattle.rules.specs.Moves.{BodyAt, ClassAt}
+use Rattle.loader.specs.Lookups.{BodyAt, ClassAt}
 use Rattle.places.specs.Records.{classes, bodies, classPlace, bodyPlace}
-use Rattle.views.specs.Lists.{span-length}
-use Rattle.views.specs.View.{tyOn, classOn, bodyOn, below}
-use Rattle.views.specs.Views.{viewed}
+use Rattle.loader.specs.Views.{span-length, tyOn, classOn, bodyOn, below, viewed}
 use Rattle.calls.proofs.Lists.{below-top}
 use Rattle.machine.specs.Held.{Poised}
 use Rattle.machine.proofs.Decode.{is-integer, is-logical, is-bits, is-null, is-load, is-store, is-operate, is-go, is-unless, is-call, is-return, is-make, is-get, is-put, is-set, is-fader, is-hold, is-release, is-assert}

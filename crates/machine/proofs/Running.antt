@@ -14,7 +14,6 @@ use Rattle.values.specs.Trace.{Item, event, reading}
 use Rattle.bytecode.specs.Macro.{Macro, readMacro}
 use Rattle.bytecode.specs.Machine.{Machine, running, unwinding, ended, moved, step}
 use Rattle.bytecode.specs.Runs.{bankOf, Ran, visible, steps, run}
-use Rattle.bytecode.specs.Runs as runs
 use Rattle.bytecode.specs.Sound.{sound}
 use Rattle.bytecode.specs.State.{encode}
 use Rattle.loading.specs.Terms.{Passed}

@@ -24,8 +24,7 @@ use Rattle.loading.specs.Promises.{ops, in-code}
 use Rattle.safety.specs.States.{running-sound}
 use Rattle.safety.specs.Safety.{step-safe}
 use Rattle.places.specs.Records.{count, codePlace, codeBase}
-use Rattle.views.specs.View.{codeOn, below}
-use Rattle.views.specs.Views.{viewed}
+use Rattle.loader.specs.Views.{codeOn, below, viewed}
 use Rattle.loading.specs.Tests.{halves}
 use Rattle.layout.specs.Places.{framePlace, phase}
 use Rattle.layout.specs.Parts.{length-encode}

@@ -17,7 +17,7 @@ use Rattle.bytecode.specs.Sound.{sound}
 use Rattle.bytecode.specs.State.{encode}
 use Rattle.loading.specs.Terms.{Passed, Finds}
 use Rattle.places.specs.Records.{codeBase}
-use Rattle.rules.specs.Moves.{Bodied, Classed}
+use Rattle.loader.specs.Lookups.{Bodied, Classed}
 use Rattle.ops.specs.declared.Out.{Out}
 use Rattle.ops.specs.Acts.{here, Now, Told, eventOf}
 use Rattle.machine.specs.declared.Answer.{Answer}

@@ -1,12 +1,11 @@
 // The op of a number. What each asks is shown here, from the loading check's promise.
 ghost use mathlib.Core.Path.{_≡_};
-ghost use Prim.Native.Nat.{_<_};
 ghost use lib.ListN.{length};
 ghost use Rattle.bytecode.specs.Machine.{doCall, doMake};
 ghost use Rattle.ops.specs.Acts.{Room};
 ghost use Rattle.calls.specs.Moves.{TellsOf};
-ghost use Rattle.rules.specs.Moves.{Bodied, Classed};
-ghost use Rattle.machine.specs.Held.{Found, Poised, Acts};
+ghost use Rattle.loader.specs.Lookups.{Bodied, Classed};
+ghost use Rattle.machine.specs.Held.{Poised, Acts};
 use ops::Out;
 
 // Op 10: the body's record, then the call.
@@ -24,7 +23,7 @@ fn call(
     requires { ⌜ (Room (now s) f n i) × (Bodied (now code) (now bx)) × (Poised (now code) (now readings) 10 a b (now s) f n i) ⌝ }
     ensures { λ r. ⌜ TellsOf (now (code .entry)) (λ m h. doCall m b h) (now (s .entry)) f n i (now (s .exit)) r ⌝ }
 {
-    let q = rules::body_at(code, bx, b as usize);
+    let q = loader::body_at(code, bx, b as usize);
     calls::op_call(code, q, s, f, n, i, b as u8)
 }
 
@@ -43,7 +42,7 @@ fn make(
     requires { ⌜ (Room (now s) f n i) × (Classed (now code) (now cx)) × (Poised (now code) (now readings) 12 a b (now s) f n i) ⌝ }
     ensures { λ r. ⌜ TellsOf (now (code .entry)) (λ m h. doMake m a h) (now (s .entry)) f n i (now (s .exit)) r ⌝ }
 {
-    let q = rules::class_at(code, cx, frames::wide(a));
+    let q = loader::class_at(code, cx, frames::wide(a));
     calls::op_make(code, q, s, f, n, i, a)
 }
 

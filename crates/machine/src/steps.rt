@@ -1,6 +1,6 @@
 // A step in each phase, and a run: steps until an event, an end or the allowance.
 ghost use mathlib.Core.Path.{_≡_};
-ghost use Prim.Native.Nat.{_<_, _≤_};
+ghost use Prim.Native.Nat.{_<_};
 ghost use lib.ListN.{length};
 ghost use Rattle.words.specs.Numbers.{byteAt};
 ghost use Rattle.machine.specs.Held.{Found, Held, Steps, Runs};

@@ -1,8 +1,7 @@
 // Ops 0, 17, 18 and 20: end, hold, release, stop.
-ghost use mathlib.Core.Path.{_≡_};
 ghost use Prim.Native.Nat.{_+_, _≤_, _<_};
 ghost use Rattle.words.specs.Numbers.{byteAt, halfAt};
-ghost use Rattle.bytecode.specs.Machine.{condition, doEnd, doTakeHold, letting, Here};
+ghost use Rattle.bytecode.specs.Machine.{condition, doEnd, doTakeHold, letting};
 ghost use Rattle.ops.specs.Acts.{Room, Tells, Holding};
 use crate::Event;
 use crate::Out;

@@ -1,7 +1,6 @@
 // Ops 8 and 9: go to b, and go to b if the operand is false.
-ghost use mathlib.Core.Path.{_≡_};
-ghost use Prim.Native.Nat.{_≤_, _<_};
-ghost use Rattle.bytecode.specs.Machine.{goes, doGoUnless};
+ghost use Prim.Native.Nat.{_<_};
+ghost use Rattle.bytecode.specs.Machine.{doGoUnless};
 ghost use Rattle.ops.specs.Acts.{Room, Tells, Jumps};
 use crate::Out;
 

@@ -1,13 +1,10 @@
 // Ops 1 to 7: values onto the working stack, cells, operators.
 ghost use mathlib.Core.Path.{_≡_};
-ghost use mathlib.Core.List.{_∷_};
 ghost use mathlib.Core.Option.{some};
 ghost use Prim.Native.Nat.{_≤_, _<_};
 ghost use Rattle.bytecode.specs.Instructions.{Owner, ownerOf, operatorOf};
 ghost use Rattle.values.specs.Operators.{Operator, Unary, Binary, unary, binary, unaryOf, binaryOf};
-ghost use Rattle.values.specs.Values.{Value, valueWord};
-ghost use Rattle.bytecode.specs.State.{typeByte};
-ghost use Rattle.bytecode.specs.Machine.{goesOn, doLoad, doStore, doOperate, condition};
+ghost use Rattle.bytecode.specs.Machine.{doLoad, doStore, doOperate, condition};
 ghost use Rattle.ops.specs.Acts.{Room, Tells, Pushes};
 use crate::Out;
 use operate::Worked;

@@ -1,1 +1,27 @@
-// Definitions only: see specs/. A compiled macro by the places of its records: the form that the loading check computes.
+// A compiled macro by the places of its records: the form that the loading check computes. The definitions are in specs/; here the types of
+// what the check's functions answer, so that whoever calls them names no crate of the check but its face, `loader`.
+
+// What the record pass tells: the place of the first instruction, or the index of the first record that does not read.
+pub enum Records {
+    Reads(usize),
+    Unread(usize),
+}
+
+pub struct Instruction {
+    pub op: usize,
+    pub a: usize,
+    pub b: usize,
+}
+
+// What flows on from an address: a state of holds and operands, whose types stand in a lent stack; nothing; or a fault.
+pub enum Moved {
+    Goes(usize, usize),
+    Ends,
+    Bad,
+}
+
+// Refused with the refusal's number and the place: a record's index for 8, an address for 9.
+pub enum Judged {
+    Passes,
+    Refused(usize, usize),
+}

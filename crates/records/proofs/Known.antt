@@ -13,8 +13,8 @@ use Rattle.words.specs.Numbers.{byteAt, halfAt}
 use Rattle.words.specs.Laws.{Bytes}
 use Rattle.places.specs.Records.{classes, bodies, count, shapes, classPlace, bodyPlace, firstOf, codePlace, shapePlace, find, noMark, noType, badTypes, badHead, badClass, rises, bodyFits, badBody, shapeFits, badShape}
 use Rattle.places.specs.Index.{Well, Ready}
-use Rattle.records.specs.declared.Records.{Records}
-use Rattle.records.specs.declared.Records.the-variants.{Reads}
+use Rattle.places.specs.declared.Records.{Records}
+use Rattle.places.specs.declared.Records.the-variants.{Reads}
 use Rattle.records.specs.Answer.{Left}
 use Rattle.records.proofs.Search.{first-clean}
 use Rattle.records.proofs.Tests.{unlike, no-true, no-false, no-else, neither, room}

@@ -8,8 +8,8 @@ use borrow.Author.Tests.{lt-ltb, le-ltb}
 use Rattle.places.specs.Search.{first}
 use Rattle.places.specs.Records.{classes, bodies, count, classPlace, bodyPlace, codeBase, shapePlace, find, badHead, badClass, badBody, badCode, badShape, unread, readEnd, readRecords}
 use Rattle.places.specs.Index.{Indexed, Placed, Well, Ready}
-use Rattle.records.specs.declared.Records.{Records}
-use Rattle.records.specs.declared.Records.the-variants.{Reads, Unread}
+use Rattle.places.specs.declared.Records.{Records}
+use Rattle.places.specs.declared.Records.the-variants.{Reads, Unread}
 use Rattle.records.specs.Answer.{Left, BaseIs, Passes, Counts}
 use Rattle.records.proofs.Search.{first-le, first-clean}
 

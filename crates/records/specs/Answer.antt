@@ -6,8 +6,8 @@ use Prim.Native.Nat.{ℕ, _≤_}
 use Rattle.places.specs.Search.{first, Clean}
 use Rattle.places.specs.Records.{classes, bodies, count, shapes, Read, reads, unread}
 use Rattle.places.specs.Index.{Ready}
-use Rattle.records.specs.declared.Records.{Records}
-use Rattle.records.specs.declared.Records.the-variants.{Reads, Unread}
+use Rattle.places.specs.declared.Records.{Records}
+use Rattle.places.specs.declared.Records.the-variants.{Reads, Unread}
 
 abbrev pub readOf : Records → Read
 readOf (Reads b) = reads

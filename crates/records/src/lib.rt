@@ -1,60 +1,14 @@
 // The record pass: whether a macro's records read, and where each class, body and shape stands.
+use places::Records;
 ghost use mathlib.Core.Path.{_≡_};
 ghost use mathlib.Core.Bool.{true, false, cond, not, _&&_, _||_};
 ghost use Prim.Native.Nat.{ℕ, _+_, _*_, _-_, _≤_, _<_};
 ghost use lib.ListN.{length};
 ghost use lib.Dec.{eqb};
-ghost use Rattle.words.specs.Numbers.{byteAt, halfAt, wordAt};
 ghost use Rattle.places.specs.Search.{first};
 ghost use Rattle.places.specs.Records.{classes, count, classPlace, bodyPlace, codeBase, shapePlace, noMark, noType, badTypes, badHead, badClass, rises, bodyFits, badBody, badCode, shapeFits, badShape, readEnd, readRecords};
 ghost use Rattle.places.specs.Index.{Indexed, Placed};
 ghost use Rattle.records.specs.Answer.{readOf, Left, BaseIs, Passes};
-
-// The place of the first instruction, or the index of the first record that does not read.
-pub enum Records {
-    Reads(usize),
-    Unread(usize),
-}
-
-// Bytes are parameters, so that their range is known where they are widened.
-fn wide(a: u8) -> usize
-    ensures { λ r. ⌜ (r ≡ a) × (r < 256) ⌝ }
-{
-    a as usize
-}
-
-fn join_half(a: u8, b: u8) -> usize
-    ensures { λ r. ⌜ (r ≡ a + b * 256) × (r < 65536) ⌝ }
-{
-    (a as usize) + (b as usize) * 256
-}
-
-fn join_word(a: u8, b: u8, c: u8, d: u8) -> usize
-    ensures { λ r. ⌜ (r ≡ a + b * 256 + c * 65536 + d * 16777216) × (r < 4294967296) ⌝ }
-{
-    (a as usize) + (b as usize) * 256 + (c as usize) * 65536 + (d as usize) * 16777216
-}
-
-pub fn byte_at(l: &[u8], i: usize) -> usize
-    requires { ⌜ i < length (now l) ⌝ }
-    ensures { λ r. ⌜ (r ≡ byteAt (now (l .entry)) i) × (r < 256) ⌝ }
-{
-    wide(l[i])
-}
-
-pub fn half_at(l: &[u8], i: usize) -> usize
-    requires { ⌜ i + 2 ≤ length (now l) ⌝ }
-    ensures { λ r. ⌜ (r ≡ halfAt (now (l .entry)) i) × (r < 65536) ⌝ }
-{
-    join_half(l[i], l[i + 1])
-}
-
-pub fn word_at(l: &[u8], i: usize) -> usize
-    requires { ⌜ i + 4 ≤ length (now l) ⌝ }
-    ensures { λ r. ⌜ (r ≡ wordAt (now (l .entry)) i) × (r < 4294967296) ⌝ }
-{
-    join_word(l[i], l[i + 1], l[i + 2], l[i + 3])
-}
 
 fn unmarked(a: u8, b: u8, x: u8, y: u8) -> bool
     ensures { λ r. ⌜ r ≡ not (eqb a x && eqb b y) ⌝ }
@@ -81,7 +35,7 @@ fn no_mark(l: &[u8], p: usize, n: usize, x: u8, y: u8) -> bool
 }
 
 // Whether t is no type byte where there are c classes.
-fn no_type(c: usize, t: usize) -> bool
+pub fn no_type(c: usize, t: usize) -> bool
     ensures { λ r. ⌜ r ≡ noType c t ⌝ }
 {
     if t < 16 {
@@ -102,7 +56,7 @@ fn bad_types(l: &[u8], p: usize, n: usize, c: usize) -> bool
     let mut i = n;
     while 0 < i {
         i -= 1;
-        bad = pick(no_type(c, byte_at(l, p + i)), i, bad);
+        bad = pick(no_type(c, words::wide::byte_at(l, p + i)), i, bad);
     }
     bad < n
 }
@@ -130,7 +84,7 @@ fn bad_class(l: &[u8], p: usize, c: usize) -> bool
     if no_mark(l, p, 3, 67, 76) {
         return true;
     }
-    let fields = byte_at(l, p + 2);
+    let fields = words::wide::byte_at(l, p + 2);
     if fields < 1 {
         return true;
     }
@@ -161,20 +115,20 @@ fn body_fits(l: &[u8], p: usize, c: usize, n: usize) -> bool
     if no_mark(l, p, 7, 66, 68) {
         return false;
     }
-    let cells = byte_at(l, p + 6);
+    let cells = words::wide::byte_at(l, p + 6);
     if l.len() < p + 7 + cells {
         return false;
     }
-    if !result_fits(c, byte_at(l, p + 5)) {
+    if !result_fits(c, words::wide::byte_at(l, p + 5)) {
         return false;
     }
-    if cells < byte_at(l, p + 4) {
+    if cells < words::wide::byte_at(l, p + 4) {
         return false;
     }
     if bad_types(l, p + 7, cells, c) {
         return false;
     }
-    half_at(l, p + 2) < n
+    words::wide::half_at(l, p + 2) < n
 }
 
 fn rises_from(k: usize, u: usize, a: usize) -> bool
@@ -194,14 +148,14 @@ fn shape_fits(l: &[u8], p: usize, c: usize, n: usize) -> bool
     if no_mark(l, p, 6, 83, 72) {
         return false;
     }
-    let depth = byte_at(l, p + 5);
+    let depth = words::wide::byte_at(l, p + 5);
     if l.len() < p + 6 + depth {
         return false;
     }
     if bad_types(l, p + 6, depth, c) {
         return false;
     }
-    half_at(l, p + 2) < n
+    words::wide::half_at(l, p + 2) < n
 }
 
 fn read_end(l: &[u8], p: usize, k: usize, base: usize) -> Records
@@ -236,7 +190,7 @@ fn classes_pass(l: &[u8], cx: &mut [u32], c: usize) -> Passed
             return Passed { read: k, end: p };
         }
         cx[k] = p as u32;
-        p = p + 3 + byte_at(l, p + 2);
+        p = p + 3 + words::wide::byte_at(l, p + 2);
         k += 1;
     }
     Passed { read: k, end: p }
@@ -254,13 +208,13 @@ fn bodies_pass(l: &[u8], bx: &mut [u32], from: usize, c: usize, n: usize, m: usi
         if !body_fits(l, p, c, n) {
             return Passed { read: k, end: p };
         }
-        let a = half_at(l, p + 2);
+        let a = words::wide::half_at(l, p + 2);
         if !rises_from(k, last, a) {
             return Passed { read: k, end: p };
         }
         bx[k] = p as u32;
         last = a;
-        p = p + 7 + byte_at(l, p + 6);
+        p = p + 7 + words::wide::byte_at(l, p + 6);
         k += 1;
     }
     Passed { read: k, end: p }
@@ -307,12 +261,12 @@ fn shapes_pass(l: &[u8], ix: &mut [u32], from: usize, c: usize, n: usize, m: usi
         if !shape_fits(l, p, c, n) {
             return Passed { read: k, end: p };
         }
-        let a = half_at(l, p + 2);
+        let a = words::wide::half_at(l, p + 2);
         if ix[a] != 0 {
             return Passed { read: k, end: p };
         }
         ix[a] = p as u32;
-        p = p + 6 + byte_at(l, p + 5);
+        p = p + 6 + words::wide::byte_at(l, p + 5);
         k += 1;
     }
     Passed { read: k, end: p }
@@ -323,9 +277,9 @@ pub fn scan(l: &[u8], ix: &mut [u32], bx: &mut [u32], cx: &mut [u32], n: usize) 
     requires { ⌜ (badHead (now l) ≡ false) × (n ≡ count (now l)) × (n ≤ length (now ix)) × (64 ≤ length (now bx)) × (16 ≤ length (now cx)) × (Indexed (now l) (now ix) n 0) ⌝ }
     ensures { λ r. ⌜ (readOf r ≡ readRecords (now (l .entry))) × Left (now (l .entry)) (now (ix .exit)) (now (bx .exit)) (now (cx .exit)) r ⌝ }
 {
-    let c = byte_at(l, 2);
-    let m = byte_at(l, 3);
-    let t = half_at(l, 6);
+    let c = words::wide::byte_at(l, 2);
+    let m = words::wide::byte_at(l, 3);
+    let t = words::wide::half_at(l, 6);
     let k = classes_pass(l, cx, c);
     if k.read < c {
         return Records::Unread(1 + k.read);

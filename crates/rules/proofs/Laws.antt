@@ -14,11 +14,11 @@ use Rattle.places.specs.Search.{first, Clean, tops, alike}
 use Rattle.places.specs.Records.{classes, bodies, count, shapes, classPlace, bodyPlace, firstOf, codePlace, find, badHead, readRecords}
 use Rattle.places.specs.Rules.{Flow, goes, ends, bad, shapeAt, equals, bodyOf, endOf, need, push, pop, topOf, chain, takes, trade1, trade2, lands, opNull, ownerBody, opLoad, opStore, twofold, operates, opGo, opUnless, handed, opCall, justs, opReturn, opMake, opGetField, opPutField, effect, meet, agree, leave, plain, opens, found, step, into, isBad, broken, judge, passes, refused}
 use Rattle.places.specs.Index.{Ready, Indexed}
-use Rattle.rules.specs.declared.Moved.{Moved}
-use Rattle.rules.specs.declared.Moved.the-variants.{Goes, Ends, Bad}
+use Rattle.places.specs.declared.Moved.{Moved}
+use Rattle.places.specs.declared.Moved.the-variants.{Goes, Ends, Bad}
 use Rattle.rules.specs.Moves.{flowOf, Fit, isBadMove, Bodied, Classed, Shaped, Able, BodyAt, ClassAt, ShapeAt}
-use Rattle.records.specs.declared.Records.{Records}
-use Rattle.records.specs.declared.Records.the-variants.{Reads, Unread}
+use Rattle.places.specs.declared.Records.{Records}
+use Rattle.places.specs.declared.Records.the-variants.{Reads, Unread}
 use Rattle.records.specs.Answer.{readOf}
 use Rattle.records.proofs.Search.{first-none}
 use Rattle.records.proofs.Tests.{unlike}

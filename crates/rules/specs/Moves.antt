@@ -9,10 +9,10 @@ use Rattle.places.specs.Search.{tops}
 use Rattle.places.specs.Records.{classes, bodies, count, shapes, classPlace, bodyPlace}
 use Rattle.places.specs.Rules.{Flow, goes, ends, bad, shapeAt, Verdict, passes, refused}
 use Rattle.places.specs.Index.{Well, Indexed, Placed}
-use Rattle.rules.specs.declared.Moved.{Moved}
-use Rattle.rules.specs.declared.Moved.the-variants.{Goes, Ends, Bad}
-use Rattle.rules.specs.declared.Judged.{Judged}
-use Rattle.rules.specs.declared.Judged.the-variants.{Passes, Refused}
+use Rattle.places.specs.declared.Moved.{Moved}
+use Rattle.places.specs.declared.Moved.the-variants.{Goes, Ends, Bad}
+use Rattle.places.specs.declared.Judged.{Judged}
+use Rattle.places.specs.declared.Judged.the-variants.{Passes, Refused}
 
 -- the type bytes stand in st from the bottom; a move says how many of them count
 abbrev pub flowOf : Moved → List ℕ → Flow

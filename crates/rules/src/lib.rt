@@ -4,11 +4,11 @@ mod ops;
 mod stack;
 mod walk;
 
-pub use lookup::Instruction;
 pub use lookup::body_at;
 pub use lookup::class_at;
 pub use lookup::instruction_at;
-use records::Records;
+use places::Judged;
+use places::Records;
 pub use walk::found_at;
 pub use walk::go_on;
 pub use walk::is_bad;
@@ -22,19 +22,6 @@ ghost use Rattle.places.specs.Records.{count, badHead};
 ghost use Rattle.places.specs.Rules.{judge};
 ghost use Rattle.places.specs.Index.{Indexed};
 ghost use Rattle.rules.specs.Moves.{verdictOf};
-
-// What flows on from an address: a state of holds and operands, whose types stand in a lent stack; nothing; or a fault.
-pub enum Moved {
-    Goes(usize, usize),
-    Ends,
-    Bad,
-}
-
-// Refused with the refusal's number and the place: a record's index for 8, an address for 9.
-pub enum Judged {
-    Passes,
-    Refused(usize, usize),
-}
 
 fn judge_in(l: &[u8], ix: &mut [u32], n: usize) -> Judged
     requires { ⌜ (badHead (now l) ≡ false) × (n ≡ count (now l)) × (n ≤ length (now ix)) × (Indexed (now l) (now ix) n 0) ⌝ }
@@ -64,7 +51,7 @@ pub fn judge_places(l: &[u8]) -> Judged
     if records::bad_head(l) {
         return Judged::Refused(8, 0);
     }
-    let n = records::half_at(l, 4);
+    let n = words::wide::half_at(l, 4);
     if n <= 64 {
         let mut ix = [0u32; 64];
         return judge_in(l, &mut ix, n);

@@ -1,4 +1,5 @@
 // What stands where in a macro whose records read.
+use places::Instruction;
 ghost use mathlib.Core.Path.{_≡_};
 ghost use Prim.Native.Nat.{_+_, _<_};
 ghost use Rattle.words.specs.Numbers.{byteAt, wordAt};
@@ -31,7 +32,7 @@ pub fn shape_at(l: &[u8], ix: &[u32], x: usize) -> usize
     requires { ⌜ Shaped (now l) (now ix) ⌝ }
     ensures { λ r. ⌜ ShapeAt (now (l .entry)) x r ⌝ }
 {
-    let n = records::half_at(l, 4);
+    let n = words::wide::half_at(l, 4);
     if n <= x {
         return 0;
     }
@@ -42,18 +43,12 @@ pub fn end_of(l: &[u8], bx: &[u32], k: usize) -> usize
     requires { ⌜ (Bodied (now l) (now bx)) × (k < bodies (now l)) ⌝ }
     ensures { λ r. ⌜ r ≡ endOf (now (l .entry)) k ⌝ }
 {
-    let m = records::byte_at(l, 3);
+    let m = words::wide::byte_at(l, 3);
     if k + 1 < m {
         let q = body_at(l, bx, k + 1);
-        return records::half_at(l, q + 2);
+        return words::wide::half_at(l, q + 2);
     }
-    records::half_at(l, 4)
-}
-
-pub struct Instruction {
-    pub op: usize,
-    pub a: usize,
-    pub b: usize,
+    words::wide::half_at(l, 4)
 }
 
 pub fn instruction_at(l: &[u8], base: usize, i: usize) -> Instruction
@@ -61,8 +56,8 @@ pub fn instruction_at(l: &[u8], base: usize, i: usize) -> Instruction
     ensures { λ r. ⌜ (r .op ≡ byteAt (now (l .entry)) (codePlace (now (l .entry)) i + 2)) × (r .a ≡ byteAt (now (l .entry)) (codePlace (now (l .entry)) i + 3)) × (r .b ≡ wordAt (now (l .entry)) (codePlace (now (l .entry)) i + 4)) ⌝ }
 {
     let at = base + 8 * i;
-    let op = records::byte_at(l, at + 2);
-    let a = records::byte_at(l, at + 3);
-    let b = records::word_at(l, at + 4);
+    let op = words::wide::byte_at(l, at + 2);
+    let a = words::wide::byte_at(l, at + 3);
+    let b = words::wide::word_at(l, at + 4);
     Instruction { op: op, a: a, b: b }
 }

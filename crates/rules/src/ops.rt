@@ -1,5 +1,4 @@
 // The ops 0 to 20: what each leaves of a state, or a fault. Tests are made in the order of the definitions.
-use crate::Moved;
 use crate::lookup::body_at;
 use crate::lookup::class_at;
 use crate::lookup::end_of;
@@ -13,6 +12,7 @@ use crate::stack::take_types;
 use crate::stack::top_of;
 use crate::stack::trade_one;
 use crate::stack::trade_two;
+use places::Moved;
 ghost use mathlib.Core.Path.{_≡_};
 ghost use mathlib.Core.Bool.{true, false};
 ghost use Prim.Native.Nat.{_+_, _≤_, _<_};
@@ -92,7 +92,7 @@ fn op_null(l: &[u8], a: usize, b: usize, st: &mut [u8], h: usize, d: usize) -> M
     if b != 0 {
         return Moved::Bad;
     }
-    let n = records::byte_at(l, 2);
+    let n = words::wide::byte_at(l, 2);
     if n <= a {
         return Moved::Bad;
     }
@@ -127,7 +127,7 @@ fn op_load(
     }
     let o = owner_body(k, a);
     let q = body_at(l, bx, o);
-    let c = records::byte_at(l, q + 6);
+    let c = words::wide::byte_at(l, q + 6);
     if c <= b {
         return Moved::Bad;
     }
@@ -152,7 +152,7 @@ fn op_store(
     }
     let o = owner_body(k, a);
     let q = body_at(l, bx, o);
-    let c = records::byte_at(l, q + 6);
+    let c = words::wide::byte_at(l, q + 6);
     if c <= b {
         return Moved::Bad;
     }
@@ -251,7 +251,7 @@ fn lands_at(
     ensures { λ r. ⌜ r ≡ lands (now (l .entry)) k b h (tops (now (st .entry)) 0 d) ⌝ }
 {
     let q = body_at(l, bx, k);
-    let f = records::half_at(l, q + 2);
+    let f = words::wide::half_at(l, q + 2);
     if b < f {
         return false;
     }
@@ -350,12 +350,12 @@ fn op_call(l: &[u8], bx: &[u32], a: usize, b: usize, st: &mut [u8], h: usize, d:
     if b == 0 {
         return Moved::Bad;
     }
-    let m = records::byte_at(l, 3);
+    let m = words::wide::byte_at(l, 3);
     if m <= b {
         return Moved::Bad;
     }
     let q = body_at(l, bx, b);
-    let n = records::byte_at(l, q + 4);
+    let n = words::wide::byte_at(l, q + 4);
     let f = take_types(l, q + 7, n, st, h, d);
     hand_after(st, l[q + 5], f)
 }
@@ -411,12 +411,12 @@ fn op_make(l: &[u8], cx: &[u32], a: usize, b: usize, st: &mut [u8], h: usize, d:
     if b != 0 {
         return Moved::Bad;
     }
-    let n = records::byte_at(l, 2);
+    let n = words::wide::byte_at(l, 2);
     if n <= a {
         return Moved::Bad;
     }
     let q = class_at(l, cx, a);
-    let m = records::byte_at(l, q + 2);
+    let m = words::wide::byte_at(l, q + 2);
     let f = take_types(l, q + 3, m, st, h, d);
     push_after(st, class_type(a), f)
 }
@@ -433,12 +433,12 @@ fn op_get_field(
     requires { ⌜ (Classed (now l) (now cx)) × (Stack (now st) h d) ⌝ }
     ensures { λ r. ⌜ Moves (now (st .exit)) r (opGetField (now (l .entry)) a b h (tops (now (st .entry)) 0 d)) ⌝ }
 {
-    let n = records::byte_at(l, 2);
+    let n = words::wide::byte_at(l, 2);
     if n <= a {
         return Moved::Bad;
     }
     let q = class_at(l, cx, a);
-    let m = records::byte_at(l, q + 2);
+    let m = words::wide::byte_at(l, q + 2);
     if m <= b {
         return Moved::Bad;
     }
@@ -449,12 +449,12 @@ fn op_put_field(l: &[u8], cx: &[u32], a: usize, b: usize, st: &[u8], h: usize, d
     requires { ⌜ (Classed (now l) (now cx)) × (Stack (now st) h d) ⌝ }
     ensures { λ r. ⌜ Moves (now (st .entry)) r (opPutField (now (l .entry)) a b h (tops (now (st .entry)) 0 d)) ⌝ }
 {
-    let n = records::byte_at(l, 2);
+    let n = words::wide::byte_at(l, 2);
     if n <= a {
         return Moved::Bad;
     }
     let q = class_at(l, cx, a);
-    let m = records::byte_at(l, q + 2);
+    let m = words::wide::byte_at(l, q + 2);
     if m <= b {
         return Moved::Bad;
     }

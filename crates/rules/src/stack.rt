@@ -1,5 +1,5 @@
 // The stack of operand types: at most 32 type bytes in a lent slice, the last on top.
-use crate::Moved;
+use places::Moved;
 ghost use mathlib.Core.Path.{_≡_};
 ghost use mathlib.Core.Bool.{true, false};
 ghost use Prim.Native.Nat.{_+_, _≤_, _<_};
@@ -105,11 +105,11 @@ pub fn equal_shape(l: &[u8], p: usize, st: &[u8], h: usize, d: usize) -> bool
     requires { ⌜ (p + 6 + byteAt (now l) (p + 5) ≤ length (now l)) × (length (now st) ≡ 32) × (d ≤ 32) ⌝ }
     ensures { λ r. ⌜ r ≡ equals (now (l .entry)) p h (tops (now (st .entry)) 0 d) ⌝ }
 {
-    let g = records::byte_at(l, p + 4);
+    let g = words::wide::byte_at(l, p + 4);
     if h != g {
         return false;
     }
-    let e = records::byte_at(l, p + 5);
+    let e = words::wide::byte_at(l, p + 5);
     if d != e {
         return false;
     }

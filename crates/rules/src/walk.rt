@@ -1,5 +1,4 @@
 // An address after another: what flows in meets the shape there, the op works on it, and what it leaves flows on.
-use crate::Moved;
 use crate::lookup::body_at;
 use crate::lookup::end_of;
 use crate::lookup::instruction_at;
@@ -7,6 +6,7 @@ use crate::lookup::shape_at;
 use crate::ops::effect_of;
 use crate::stack::equal_shape;
 use crate::stack::load_types;
+use places::Moved;
 ghost use mathlib.Core.Path.{_≡_};
 ghost use mathlib.Core.Bool.{true, false};
 ghost use Prim.Native.Nat.{_+_, _≤_, _<_};
@@ -25,11 +25,11 @@ fn meet_shape(l: &[u8], ix: &[u32], i: usize, st: &mut [u8], f: Moved) -> Moved
     if p == 0 {
         return f;
     }
-    let h = records::byte_at(l, p + 4);
+    let h = words::wide::byte_at(l, p + 4);
     if 16 < h {
         return Moved::Bad;
     }
-    let d = records::byte_at(l, p + 5);
+    let d = words::wide::byte_at(l, p + 5);
     if 32 < d {
         return Moved::Bad;
     }
@@ -85,16 +85,16 @@ fn open_body(l: &[u8], bx: &[u32], k: usize, i: usize, st: &[u8], f: Moved) -> M
     ensures { λ r. ⌜ Moves (now (st .entry)) r (opens (now (l .entry)) k i (flowOf f (now (st .entry)))) ⌝ }
 {
     let q = body_at(l, bx, k);
-    let a = records::half_at(l, q + 2);
+    let a = words::wide::half_at(l, q + 2);
     if a != i {
         return f;
     }
-    let c = records::byte_at(l, q + 6);
+    let c = words::wide::byte_at(l, q + 6);
     if 32 < c {
         return Moved::Bad;
     }
-    let x = records::byte_at(l, q + 4);
-    let y = records::byte_at(l, q + 5);
+    let x = words::wide::byte_at(l, q + 4);
+    let y = words::wide::byte_at(l, q + 5);
     if is_plain(k, x, y) {
         Moved::Goes(0, 0)
     } else {
@@ -212,12 +212,12 @@ pub fn next_body(l: &[u8], bx: &[u32], k: usize, i: usize) -> usize
     requires { ⌜ (Bodied (now l) (now bx)) × (k < bodies (now l)) × (k ≡ bodyOf (now l) i) × (i < count (now l)) ⌝ }
     ensures { λ r. ⌜ (r ≡ bodyOf (now (l .entry)) (i + 1)) × (r < bodies (now (l .entry))) ⌝ }
 {
-    let m = records::byte_at(l, 3);
+    let m = words::wide::byte_at(l, 3);
     if m <= k + 1 {
         return k;
     }
     let q = body_at(l, bx, k + 1);
-    let a = records::half_at(l, q + 2);
+    let a = words::wide::half_at(l, q + 2);
     let j = i + 1;
     if a == j {
         return k + 1;

@@ -16,14 +16,10 @@ use Rattle.bytecode.specs.Machine.{freshMachine}
 use Rattle.bytecode.specs.State.{encode}
 use Rattle.bytecode.specs.Lent.{startOn}
 use Rattle.loading.specs.Promises.{passed, cells-at-most-32}
-use Rattle.places.specs.Records.{classes, bodies, classPlace, bodyPlace}
+use Rattle.places.specs.Records.{bodies, bodyPlace}
 use Rattle.places.specs.Index.{Well}
-use Rattle.records.proofs.Known.{body-of, class-below}
-use Rattle.rules.specs.Moves.{BodyAt}
-use Rattle.views.specs.Lists.{span-length}
-use Rattle.views.specs.View.{Typed, bodyOn, view}
-use Rattle.views.specs.Known.{reads-view, some-body}
-use Rattle.views.specs.Views.{Viewed, viewed, passing}
+use Rattle.loader.specs.Lookups.{BodyAt}
+use Rattle.loader.specs.Views.{span-length, Typed, bodyOn, view, reads-view, some-body, Viewed, viewed, passing}
 use Rattle.loader.specs.Loaded.{loadedOf}
 use Rattle.loader.specs.declared.Loaded.the-variants.{Passes, Refused}
 use Rattle.fresh.specs.Fresh.{freshWith, fresh-is}
@@ -75,11 +71,3 @@ module _ (c : List ℕ) (P : Passes ≡ loadedOf (judgeMacro c)) where
         let v : view c ≡ macro = reads-view c macro (passing c macro judged .0) .0 in
         let f : freshWith c (p + 7) n ≡ freshMachine macro = rw (e, R .is) (fresh-is c well ∙ ap freshMachine v) in
         rw (judged, eq-eqb (length l) 24576 long, d, f)
-
--- ── the root's place ──
-pub root-is : (c : List ℕ) → Well c → Bytes c → (k p : ℕ) → k ≡ classes c → p ≡ classPlace c k → BodyAt c 0 p
-unfolding bodyPlace
-root-is c W B k p d e =
-    let q : p ≡ classPlace c (classes c) = e ∙ ap (classPlace c) d in
-    let b = body-of c W 0 (some-body c W) in
-    rw q (record { is = refl; small = class-below c B (classes c) (omega arith); inside = b .bytes; parameters = b .parameters })

@@ -1,10 +1,12 @@
 -- What a run gives, by what the inspection told.
-use mathlib.Core.Path.{_≡_, _∙_}
+use mathlib.Core.Path.{_≡_, refl, _∙_}
+use mathlib.Core.Bool.{Bool, true, false, cond}
 use mathlib.Core.List.{List}
-use Prim.Native.Nat.{ℕ, zero, suc, _+_, _*_, _≤_, _<_}
+use Prim.Native.Nat.{ℕ}
 use native.Mathlib.Omega.{arith}
 use lib.ListN.{length}
-use borrow.Author.Tests.{ne-eqb}
+use lib.Dec.{eqb}
+use borrow.Author.Tests.{ne-eqb, eqb-true, eqb-false}
 use Rattle.words.specs.Laws.{Bytes}
 use Rattle.values.specs.Ends.{refusal, refused}
 use Rattle.bytecode.specs.Rules.{judgeMacro}
@@ -13,10 +15,8 @@ use Rattle.bytecode.specs.Runs.{Answer, happens, spends, finishes, refuses, hal
 use Rattle.bytecode.specs.State.{encode}
 use Rattle.bytecode.specs.Lent.{written, runOn}
 use Rattle.loading.specs.Promises.{passed}
-use Rattle.places.specs.Records.{classes, bodies, classPlace, bodyPlace, codeBase}
-use Rattle.places.specs.Index.{Well}
-use Rattle.records.proofs.Known.{head-of, class-of}
-use Rattle.views.specs.Views.{passing}
+use Rattle.loader.specs.Small.{base-small}
+use Rattle.loader.specs.Views.{passing}
 use Rattle.soundness.specs.Inspecting.{Placed, Held, NotHeld, Inspects}
 use Rattle.soundness.specs.declared.Inspected.{Inspected}
 use Rattle.soundness.specs.declared.Inspected.the-variants.{Sound, Unsound, Refused}
@@ -26,21 +26,7 @@ use Rattle.machine.specs.Held as machine
 use Rattle.machine.specs.declared.Answer as machine-answer
 use Rattle.running.specs.Answers.{answerOf, ranOf, back-event}
 use Rattle.running.specs.Fields.{state-sound}
-
--- ── the place of the first instruction is small ──
-module _ (c : List ℕ) (W : Well c) (B : Bytes c) where
-  class-high : (k : ℕ) → k ≤ classes c → classPlace c k ≤ 8 + 11 * k
-  unfolding classPlace
-  class-high zero h = omega arith
-  class-high (suc k) h = omega (arith, class-high k (omega arith), class-of c W k h .few)
-
-  body-high : (k : ℕ) → bodyPlace c k ≤ 184 + 262 * k
-  unfolding bodyPlace
-  body-high zero = omega (arith, class-high (classes c) (omega arith), head-of c W .few-classes)
-  body-high (suc k) = omega (arith, body-high k, B (bodyPlace c k + 6))
-
-  base-small : codeBase c < 65536
-  base-small = omega (arith, body-high (bodies c), head-of c W .few-bodies)
+use Rattle.running.specs.Order.{Seen}
 
 pub found : (c bx cx : List ℕ) (base : ℕ) → Bytes c → Placed c bx cx base → Found c bx cx base
 found c bx cx base B P = record { bodied = P .bodied; classed = P .classed; based = P .based; small = rw (P .based) (base-small c (P .bodied .well) B) }
@@ -104,3 +90,28 @@ module _ (c l readings : List ℕ) (allowance : ℕ) where
         let h = held c l e B H C in
         let x = R (h .macro) (h .reads) (h .passed) (h .state) (h .sounds) (h .bytes) in
         run-held ∙ ends-in (ran .answer) (ran .state) k o (x .answer) (x .bytes)
+
+  -- ── 10 before 11: u is the number of the one, v of the other, n of the first ──
+  module _ (bx cx : List ℕ) (base : ℕ) where
+    ordered : (s t : Bool) (u v n : ℕ) → u ≡ cond s 0 10 → v ≡ cond t 0 11 → n ≡ cond (eqb u 0) v u → n ≡ cond s (cond t 0 11) 10
+    ordered true t u v n eu ev en = en ∙ rw (eu, ev)
+    ordered false t u v n eu ev en = en ∙ rw eu
+
+    pub refused-first : (s : Bool) → Seen c l bx cx base s → (u v n : ℕ) → u ≡ cond s 0 10 → v ≡ cond (eqb (length readings) 64) 0 11 → n ≡ cond (eqb u 0) v u → (n ≡ 0 → ⊥)
+        → runOn c l readings allowance ≡ record { answer = refuses (refusal n 0); bytes = l }
+    refused-first s S u v n eu ev en some = go s S (eqb (length readings) 64) refl (ordered s (eqb (length readings) 64) u v n eu ev en)
+      where
+        go : (s : Bool) → Seen c l bx cx base s → (t : Bool) → eqb (length readings) 64 ≡ t → n ≡ cond s (cond t 0 11) 10
+            → runOn c l readings allowance ≡ record { answer = refuses (refusal n 0); bytes = l }
+        go true S true e h = absurd (some h)
+        go true S false e h = rw h (run-unread (S .0) (eqb-false _ _ e))
+        go false S t e h = rw h (run-unsound S)
+
+    pub none-first : (s : Bool) → Seen c l bx cx base s → (u v n : ℕ) → u ≡ cond s 0 10 → v ≡ cond (eqb (length readings) 64) 0 11 → n ≡ cond (eqb u 0) v u → n ≡ 0
+        → (Held c l × Placed c bx cx base) × (length readings ≡ 64)
+    none-first s S u v n eu ev en none = go s S (eqb (length readings) 64) refl (ordered s (eqb (length readings) 64) u v n eu ev en)
+      where
+        go : (s : Bool) → Seen c l bx cx base s → (t : Bool) → eqb (length readings) 64 ≡ t → n ≡ cond s (cond t 0 11) 10 → (Held c l × Placed c bx cx base) × (length readings ≡ 64)
+        go true S true e h = (S, eqb-true _ _ e)
+        go true S false e h = absurd (omega arith)
+        go false S t e h = absurd (omega arith)

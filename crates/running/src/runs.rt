@@ -3,9 +3,11 @@ use crate::Ran;
 use machine::Answer;
 use soundness::Inspected;
 ghost use mathlib.Core.Path.{_≡_};
+ghost use mathlib.Core.Bool.{cond};
+ghost use lib.Dec.{eqb};
 ghost use Rattle.bytecode.specs.Lent.{runOn};
-ghost use Rattle.soundness.specs.Inspecting.{Placed, Held};
 ghost use Rattle.running.specs.Answers.{answerOf, ranOf};
+ghost use Rattle.running.specs.Order.{Seen};
 
 fn ran(a: Answer) -> Ran
     ensures { λ r. ⌜ r ≡ ranOf a ⌝ }
@@ -17,21 +19,39 @@ fn ran(a: Answer) -> Ran
     }
 }
 
-// From a sound state. What it does not use is made 0 first, so that the bytes after the run are those of the state alone.
-fn run_held(
+// The number by which a test refuses that does not hold; 0 where it holds.
+fn refusal_unless(holds: bool, number: u8) -> u8
+    ensures { λ r. ⌜ r ≡ cond holds 0 number ⌝ }
+{
+    if holds { 0 } else { number }
+}
+
+// Of two refusals the one that is tested first; 0 is none.
+fn first_of(a: u8, b: u8) -> u8
+    ensures { λ r. ⌜ r ≡ cond (eqb a 0) b a ⌝ }
+{
+    if a == 0 { b } else { a }
+}
+
+// Of a macro that passes. What a sound state does not use is made 0 first, so that the bytes after the run are those of the state alone.
+fn run_passed(
     code: &[u8],
     bx: &[u32],
     cx: &[u32],
     base: usize,
+    sound: bool,
     state: &mut [u8],
     readings: &[u8],
     allowance: u16,
 ) -> Ran
-    requires { ⌜ (Held (now code) (now state)) × (Placed (now code) (now bx) (now cx) base) ⌝ }
+    requires { ⌜ Seen (now code) (now state) (now bx) (now cx) base sound ⌝ }
     ensures { λ r. ⌜ runOn (now (code .entry)) (now (state .entry)) (now (readings .entry)) allowance ≡ record { answer = answerOf r; bytes = now (state .exit) } ⌝ }
 {
-    if readings.len() != 64 {
-        return Ran::Refused(11, 0);
+    let unsound = refusal_unless(sound, 10);
+    let unread = refusal_unless(readings.len() == 64, 11);
+    let number = first_of(unsound, unread);
+    if number != 0 {
+        return Ran::Refused(number, 0);
     }
     clearing::clear(code, bx, cx, state);
     ran(machine::run_sound(code, bx, cx, base, state, readings, allowance))
@@ -44,7 +64,16 @@ pub fn run(code: &[u8], state: &mut [u8], readings: &[u8], allowance: u16) -> Ra
     let mut cx = [0u32; 16];
     match soundness::inspect(code, state, &mut bx, &mut cx) {
         Inspected::Refused(number, place) => Ran::Refused(number as u8, place as u32),
-        Inspected::Unsound => Ran::Refused(10, 0),
-        Inspected::Sound(base) => run_held(code, &bx, &cx, base, state, readings, allowance),
+        Inspected::Unsound => run_passed(code, &bx, &cx, 0, false, state, readings, allowance),
+        Inspected::Sound(base) => run_passed(
+            code,
+            &bx,
+            &cx,
+            base,
+            true,
+            state,
+            readings,
+            allowance,
+        ),
     }
 }

@@ -5,7 +5,7 @@ ghost use Prim.Native.Nat.{_+_, _*_, _≤_};
 ghost use lib.ListN.{length};
 ghost use lib.Seq.{sets};
 ghost use lib.Dec.{eqb};
-ghost use Rattle.scopes.specs.Environment.{Item, item, find, here, adding, envOf, orElse, shut, Grown};
+ghost use Rattle.scopes.specs.Environment.{item, find, here, adding, envOf, orElse, shut, Grown};
 
 pub enum Found {
     Nothing,

@@ -17,11 +17,7 @@ use Rattle.bytecode.specs.Machine.{Machine}
 use Rattle.bytecode.specs.Lent.{soundState}
 use Rattle.places.specs.Records.{bodies, count}
 use Rattle.places.specs.Rules.{Verdict, judge, passes, refused}
-use Rattle.views.specs.View.{verdictOf}
-use Rattle.views.specs.Views.{judges}
-use Rattle.rules.specs.declared.Judged.{Judged as Found}
-use Rattle.rules.specs.declared.Judged.the-variants.{Passes, Refused as Refuses}
-use Rattle.rules.specs.Moves.{verdictOf as foundOf}
+use Rattle.loader.specs.Views.{verdictOf, judges}
 use Rattle.fits.specs.Each.{each, each-get, each-alike, each-none}
 use Rattle.fits.specs.Fits.{bodyIn, depthIn, openIn, addressIn, held, groupsFit, recordFits, frameFits, runningFits, plainFits, stands, activationsIn, soundBytes}
 use Rattle.fits.specs.Frames.{chosen}
@@ -130,6 +126,11 @@ module _ (c l : List ℕ) where
   unfolding soundState
   short m n = rw (ne-eqb (length l) 24576 n)
 
-  pub told-short : (length l ≡ 24576 → ⊥) → (bx cx : List ℕ) (j : Found) → foundOf j ≡ judge c → Inspects c l bx cx (shortOf j)
-  told-short n bx cx Passes e = let a = accepts (sym e) in record { macro = a .0; passes = a .1; unsound = short (a .0) n }
-  told-short n bx cx (Refuses i k) e = refuses i k (sym e)
+  unsound-by : judge c ≡ passes → (length l ≡ 24576 → ⊥) → NotHeld c l
+  unsound-by e n = let a = accepts e in record { macro = a .0; passes = a .1; unsound = short (a .0) n }
+
+  -- whatever bytes the macro was judged beside
+  pub told-short : (length l ≡ 24576 → ⊥) → (k bx cx : List ℕ) (x : Inspected) → Tells c k bx cx x → Inspects c l bx cx (shortOf x)
+  told-short n k bx cx (Sound base) t = unsound-by (t .0) n
+  told-short n k bx cx Unsound t = unsound-by (t .0) n
+  told-short n k bx cx (Refused i p) t = refuses i p t

@@ -13,9 +13,7 @@ use Rattle.bytecode.specs.Machine.{Machine}
 use Rattle.bytecode.specs.Lent.{soundState}
 use Rattle.places.specs.Records.{codeBase}
 use Rattle.places.specs.Rules.{judge, passes, refused}
-use Rattle.rules.specs.Moves.{Bodied, Classed}
-use Rattle.rules.specs.declared.Judged.{Judged}
-use Rattle.rules.specs.declared.Judged.the-variants.{Passes, Refused as Refuses}
+use Rattle.loader.specs.Lookups.{Bodied, Classed}
 use Rattle.fits.specs.Fits.{soundBytes}
 use Rattle.soundness.specs.declared.Inspected.{Inspected}
 use Rattle.soundness.specs.declared.Inspected.the-variants.{Sound, Unsound, Refused}
@@ -25,9 +23,10 @@ abbrev pub recordsIn : List ℕ → ℕ
 recordsIn l = cond (eqb (byteAt l 0) 0) (halfAt l 4) 0
 
 -- what is told of a state of wrong length
-abbrev pub shortOf : Judged → Inspected
-shortOf Passes = Unsound
-shortOf (Refuses n k) = Refused n k
+abbrev pub shortOf : Inspected → Inspected
+shortOf (Sound base) = Unsound
+shortOf Unsound = Unsound
+shortOf (Refused n k) = Refused n k
 
 -- the places of the bodies, of the classes and of the first instruction are there
 pub record Placed (c bx cx : List ℕ) (base : ℕ) : Type 0 where

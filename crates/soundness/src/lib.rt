@@ -2,20 +2,20 @@
 use fitting::both;
 use fitting::plain_fits;
 use fitting::row_fits;
-use records::Records;
-use rules::Judged;
-use rules::Moved;
+use places::Moved;
+use places::Records;
 ghost use mathlib.Core.Path.{_≡_};
-ghost use mathlib.Core.Bool.{Bool, true, false, cond};
+ghost use mathlib.Core.Bool.{true, false, cond};
 ghost use Prim.Native.Nat.{ℕ, _+_, _*_, _≤_, _<_};
 ghost use lib.ListN.{length};
 ghost use lib.Dec.{eqb};
-ghost use Rattle.words.specs.Numbers.{byteAt, halfAt};
+ghost use Rattle.words.specs.Numbers.{byteAt};
 ghost use Rattle.places.specs.Search.{first, tops};
 ghost use Rattle.places.specs.Records.{bodies, count, codeBase, badHead};
 ghost use Rattle.places.specs.Rules.{bodyOf, found, into, broken};
 ghost use Rattle.places.specs.Index.{Indexed};
-ghost use Rattle.rules.specs.Moves.{flowOf, Fit, Bodied, Able};
+ghost use Rattle.loader.specs.Lookups.{Bodied};
+ghost use Rattle.loader.specs.Walk.{flowOf, Fit, Able};
 ghost use Rattle.fits.specs.Each.{each};
 ghost use Rattle.fits.specs.Fits.{addressIn, standsIn, activationsIn};
 ghost use Rattle.soundness.specs.Tested.{Counted, argsFit, standing, Upto, Tests};
@@ -36,8 +36,8 @@ fn same_row(c: &[u8], q: usize, e: &[u8], p: usize, n: usize) -> bool
     let mut ok = true;
     let mut j: usize = 0;
     while j < n {
-        let a = records::byte_at(c, q + j);
-        let b = records::byte_at(e, p + j);
+        let a = words::wide::byte_at(c, q + j);
+        let b = words::wide::byte_at(e, p + j);
         ok = both(ok, a == b);
         j += 1;
     }
@@ -62,9 +62,9 @@ fn args_fit(
     if n <= j {
         return a == d;
     }
-    let b = records::byte_at(l, 32 + 328 * j);
-    let q = rules::body_at(c, bx, b);
-    let t = records::byte_at(c, q + 4);
+    let b = words::wide::byte_at(l, 32 + 328 * j);
+    let q = loader::body_at(c, bx, b);
+    let t = words::wide::byte_at(c, q + 4);
     if a + t != d {
         return false;
     }
@@ -88,15 +88,15 @@ fn stands_at(
     ensures { λ x. ⌜ x ≡ standsIn (now (c .entry)) (now (l .entry)) r n k b h (tops (now (st .entry)) 0 d) ⌝ }
 {
     let p = 32 + 328 * k;
-    let o = records::byte_at(l, p);
+    let o = words::wide::byte_at(l, p);
     if o != b {
         return false;
     }
-    let g = records::byte_at(l, p + 2);
+    let g = words::wide::byte_at(l, p + 2);
     if g != h {
         return false;
     }
-    let a = records::byte_at(l, p + 1);
+    let a = words::wide::byte_at(l, p + 1);
     if !args_fit(c, bx, l, n, k, st, a, d) {
         return false;
     }
@@ -120,7 +120,7 @@ fn stands_if(
     requires { ⌜ (Bodied (now c) (now bx)) × (Counted (now c) (now l) n) × (r ≤ 256) × (k < n) × (length (now st) ≡ 32) × (d ≤ 32) ⌝ }
     ensures { λ x. ⌜ x ≡ cond (eqb (addressIn (now (l .entry)) k) i) (standsIn (now (c .entry)) (now (l .entry)) r n k b h (tops (now (st .entry)) 0 d)) true ⌝ }
 {
-    let a = records::half_at(l, 32 + 328 * k + 4);
+    let a = words::wide::half_at(l, 32 + 328 * k + 4);
     if a != i {
         return true;
     }
@@ -196,7 +196,7 @@ fn next_wanted(l: &[u8], n: usize, i: usize) -> usize
     let mut best: usize = 65536;
     let mut k: usize = 0;
     while k < n {
-        let a = records::half_at(l, 32 + 328 * k + 4);
+        let a = words::wide::half_at(l, 32 + 328 * k + 4);
         best = nearer(best, a, i);
         k += 1;
     }
@@ -257,20 +257,20 @@ fn walk_tests(
     requires { ⌜ (Able (now c) (now ix) (now bx) (now cx)) × (base ≡ codeBase (now c)) × (length (now st) ≡ 32) × (Counted (now c) (now l) n) × (r ≤ 256) ⌝ }
     ensures { λ x. ⌜ Tests (now (c .entry)) (now (l .entry)) r n (x .at) (x .ok) ⌝ }
 {
-    let stop = records::half_at(c, 4);
+    let stop = words::wide::half_at(c, 4);
     let mut i: usize = 0;
     let mut k: usize = 0;
     let mut f = Moved::Ends;
     let mut ok = true;
     let mut next = next_wanted(l, n, 0);
     while i < stop {
-        let g = rules::found_at(c, ix, bx, k, i, st, f);
+        let g = loader::found_at(c, ix, bx, k, i, st, f);
         let w = look(c, bx, l, r, n, i, k, st, g, ok, next);
-        let e = rules::go_on(c, ix, bx, cx, base, k, i, st, g);
-        if rules::is_bad(e) {
+        let e = loader::go_on(c, ix, bx, cx, base, k, i, st, g);
+        if loader::is_bad(e) {
             return Tested { at: i, ok: false };
         }
-        k = rules::next_body(c, bx, k, i);
+        k = loader::next_body(c, bx, k, i);
         f = e;
         ok = w.ok;
         next = w.next;
@@ -295,15 +295,15 @@ fn count_wanted(l: &[u8], plain: bool) -> Counts
             records: 0,
         };
     }
-    let phase = records::byte_at(l, 0);
+    let phase = words::wide::byte_at(l, 0);
     if phase != 0 {
         return Counts {
             activations: 0,
             records: 0,
         };
     }
-    let n = records::byte_at(l, 2);
-    let r = records::half_at(l, 4);
+    let n = words::wide::byte_at(l, 2);
+    let r = words::wide::half_at(l, 4);
     Counts {
         activations: n,
         records: r,
@@ -322,7 +322,7 @@ fn inspect_in(
     ensures { λ x. ⌜ Tells (now (c .entry)) (now (l .entry)) (now (bx .exit)) (now (cx .exit)) x ⌝ }
 {
     let mut st = [0u8; 32];
-    match records::scan(c, ix, bx, cx, m) {
+    match loader::scan(c, ix, bx, cx, m) {
         Records::Unread(k) => Inspected::Refused(8, k),
         Records::Reads(base) => {
             let plain = plain_fits(c, bx, cx, base, l);
@@ -346,10 +346,10 @@ fn inspect_long(c: &[u8], l: &[u8], bx: &mut [u32], cx: &mut [u32]) -> Inspected
     requires { ⌜ (64 ≤ length (now bx)) × (16 ≤ length (now cx)) × (length (now l) ≡ 24576) ⌝ }
     ensures { λ x. ⌜ Tells (now (c .entry)) (now (l .entry)) (now (bx .exit)) (now (cx .exit)) x ⌝ }
 {
-    if records::bad_head(c) {
+    if loader::bad_head(c) {
         return Inspected::Refused(8, 0);
     }
-    let m = records::half_at(c, 4);
+    let m = words::wide::half_at(c, 4);
     if m <= 1024 {
         let mut ix = [0u32; 1024];
         return inspect_in(c, l, &mut ix, bx, cx, m);
@@ -362,23 +362,27 @@ fn inspect_long(c: &[u8], l: &[u8], bx: &mut [u32], cx: &mut [u32]) -> Inspected
     inspect_in(c, l, &mut ix, bx, cx, m)
 }
 
-fn judged(j: Judged) -> Inspected
-    ensures { λ x. ⌜ x ≡ shortOf j ⌝ }
+// What is told of a state of wrong length, which is never sound.
+fn short(x: Inspected) -> Inspected
+    ensures { λ r. ⌜ r ≡ shortOf x ⌝ }
 {
-    match j {
-        Judged::Passes => Inspected::Unsound,
-        Judged::Refused(n, k) => Inspected::Refused(n, k),
+    match x {
+        Inspected::Sound(_) => Inspected::Unsound,
+        Inspected::Unsound => Inspected::Unsound,
+        Inspected::Refused(n, k) => Inspected::Refused(n, k),
     }
 }
 
 // A macro and a state's bytes, whatever they are: the refusal 8 or 9 of the loading check, or whether a sound state decodes from the bytes.
-// The places of bodies and classes are left in bx and cx.
+// The places of bodies and classes are left in bx and cx. At a wrong length the macro is judged beside bytes that hold nothing, so that one frame of
+// indexes serves both.
 pub fn inspect(c: &[u8], l: &[u8], bx: &mut [u32], cx: &mut [u32]) -> Inspected
     requires { ⌜ (64 ≤ length (now bx)) × (16 ≤ length (now cx)) ⌝ }
     ensures { λ x. ⌜ Inspects (now (c .entry)) (now (l .entry)) (now (bx .exit)) (now (cx .exit)) x ⌝ }
 {
     if l.len() != 24576 {
-        return judged(rules::judge_places(c));
+        let nothing = [0u8; 24576];
+        return short(inspect_long(c, &nothing, bx, cx));
     }
     inspect_long(c, l, bx, cx)
 }

@@ -2,8 +2,7 @@
 // where it stands and passes on parts that start inside it; the whole table is there for the types that a declaration elsewhere gives.
 use heads::Verdict;
 ghost use mathlib.Core.Path.{_≡_};
-ghost use Prim.Native.Nat.{_+_, _*_, _≤_};
-ghost use lib.ListN.{length};
+ghost use Prim.Native.Nat.{_+_, _*_};
 ghost use Rattle.shapes.specs.Forms.{ExprForm, StmtForm, SimpleForm, GuardForm, BlockForm, BodyForm};
 ghost use Rattle.shapes.specs.Walk.{Asks, Answers, Typed, AsksEs, AnswersEs, Alike, AsksItems, AnswersItems, operandsBy, isPlain, guardedBy, testedBy};
 

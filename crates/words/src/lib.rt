@@ -1,4 +1,6 @@
 // Numbers in byte slices, little-endian, and the two readings of 32 bits: as a number and as an integer in two's complement.
+pub mod wide;
+
 ghost use mathlib.Core.Path.{_≡_};
 ghost use Prim.Native.Nat.{_+_, _*_, _≤_};
 ghost use lib.ListN.{length};

@@ -4,7 +4,6 @@ use mathlib.Core.Path.{sym, _∙_}
 use Prim.Native.Nat.{ℕ, _+_, _-_}
 use Rattle.words.specs.Numbers.{byteAt}
 use Rattle.places.specs.Records.{codePlace}
-use Rattle.records.proofs.Tests as tests
 use Rattle.fitting.proofs.Laws as law
 use Rattle.words.specs.Numbers.{wordAt}
 use Rattle.fitting.proofs.calls_next.Statement.{statement}

@@ -3,11 +3,10 @@ use borrow.Author.Needs.{needs}
 use native.Mathlib.Omega.{arith}
 use mathlib.Core.Path.{sym, ap, _∙_}
 use Prim.Native.Nat.{_-_}
-use Rattle.records.proofs.Tests as tests
 use Rattle.fitting.proofs.Laws as law
 use borrow.Author.Tests.{not-true, not-false}
 use Rattle.places.specs.Records.{bodyPlace}
-use Rattle.records.proofs.Known.{head-of}
+use Rattle.loader.specs.Lookups.{head-of}
 use Rattle.fitting.proofs.frame_fits.Statement.{statement}
 use Rattle.fitting.proofs.frame_fits.Tie as tie
 

@@ -3,7 +3,6 @@ use native.Mathlib.Omega.{arith}
 use mathlib.Core.Path.{_≡_, sym, _∙_}
 use Prim.Native.Nat.{_-_, _≤_}
 use Rattle.fits.specs.Each.{each, each-none, each-more}
-use Rattle.records.proofs.Tests as tests
 use Rattle.fitting.proofs.Laws as law
 use Rattle.fitting.proofs.groups_fit.Statement.{statement}
 use Rattle.fitting.proofs.groups_fit.Tie as tie

@@ -1,6 +1,5 @@
 -- `fitting::is_condition` meets its contract. Assumes nothing.
 use Prim.Native.Nat.{_-_}
-use Rattle.records.proofs.Tests as tests
 use Rattle.fitting.proofs.Laws as law
 use Rattle.fitting.proofs.is_condition.Statement.{statement}
 use Rattle.fitting.proofs.is_condition.Tie as tie

@@ -2,7 +2,6 @@
 use borrow.Author.Needs.{needs}
 use mathlib.Core.Path.{sym, ap, _∙_}
 use Prim.Native.Nat.{ℕ, _-_}
-use Rattle.records.proofs.Tests as tests
 use Rattle.fitting.proofs.Laws as law
 use Rattle.values.specs.Ends.{isCondition}
 use Rattle.fitting.proofs.plain_fits.Statement.{statement}

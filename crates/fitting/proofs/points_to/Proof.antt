@@ -1,7 +1,6 @@
 -- `fitting::points_to` meets its contract. Assumes nothing.
 use borrow.Author.Needs.{needs}
 use Prim.Native.Nat.{_-_}
-use Rattle.records.proofs.Tests as tests
 use Rattle.fitting.proofs.Laws as law
 use Rattle.fitting.proofs.points_to.Statement.{statement}
 use Rattle.fitting.proofs.points_to.Tie as tie

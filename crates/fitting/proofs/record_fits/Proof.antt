@@ -3,10 +3,9 @@ use borrow.Author.Needs.{needs}
 use native.Mathlib.Omega.{arith}
 use mathlib.Core.Path.{ap, _∙_}
 use Prim.Native.Nat.{_-_}
-use Rattle.records.proofs.Tests as tests
 use Rattle.fitting.proofs.Laws as law
 use Rattle.places.specs.Records.{classPlace}
-use Rattle.records.proofs.Known.{head-of}
+use Rattle.loader.specs.Lookups.{head-of}
 use Rattle.fitting.proofs.record_fits.Statement.{statement}
 use Rattle.fitting.proofs.record_fits.Tie as tie
 

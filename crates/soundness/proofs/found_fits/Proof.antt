@@ -1,8 +1,7 @@
 -- `soundness::found_fits` meets its contract. Assumes nothing.
 use borrow.Author.Needs.{needs}
 use Prim.Native.Nat.{_-_}
-use Rattle.soundness.proofs.Laws as law
-use Rattle.rules.proofs.Laws as rule
+use Rattle.loader.specs.Walk as rule
 use Rattle.soundness.proofs.found_fits.Statement.{statement}
 use Rattle.soundness.proofs.found_fits.Tie as tie
 

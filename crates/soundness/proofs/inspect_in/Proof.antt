@@ -3,10 +3,9 @@ use borrow.Author.Needs.{needs}
 use native.Mathlib.Omega.{arith}
 use mathlib.Core.Path.{refl, sym, ap, _∙_}
 use Prim.Native.Nat.{_-_}
-use Rattle.soundness.proofs.Laws as law
 use Rattle.places.specs.Rules.{broken}
-use Rattle.rules.proofs.Laws as rule
-use Rattle.records.proofs.Known.{ready}
+use Rattle.loader.specs.Walk as rule
+use Rattle.loader.specs.Lookups.{ready}
 use Rattle.soundness.proofs.Telling as telling
 use Rattle.places.specs.Search.{first}
 use Rattle.soundness.proofs.inspect_in.Statement.{statement}

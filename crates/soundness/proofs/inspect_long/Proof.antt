@@ -3,10 +3,8 @@ use borrow.Author.Needs.{needs}
 use native.Mathlib.Omega.{arith}
 use mathlib.Core.Path.{sym, _∙_}
 use Prim.Native.Nat.{_-_}
-use Rattle.soundness.proofs.Laws as law
-use Rattle.rules.proofs.Laws as rule
-use Rattle.records.proofs.Known.{head-known}
-use Rattle.soundness.proofs.Telling as telling
+use Rattle.loader.specs.Walk as rule
+use Rattle.loader.specs.Lookups.{head-known}
 use Rattle.soundness.proofs.inspect_long.Statement.{statement}
 use Rattle.soundness.proofs.inspect_long.Tie as tie
 

@@ -2,7 +2,6 @@
 use borrow.Author.Needs.{needs}
 use Prim.Native.Nat.{_-_}
 use Rattle.soundness.proofs.Laws as law
-use Rattle.rules.proofs.Laws as rule
 use Rattle.soundness.proofs.look.Statement.{statement}
 use Rattle.soundness.proofs.look.Tie as tie
 

@@ -5,7 +5,6 @@ use Prim.Native.Nat.{_-_, _≤_}
 use Rattle.fits.specs.Each.{each, each-none, each-more}
 use Rattle.fitting.proofs.Laws.{each-end}
 use Rattle.soundness.proofs.Rows.{sameAt}
-use Rattle.soundness.proofs.Laws as law
 use Rattle.soundness.proofs.same_row.Statement.{statement}
 use Rattle.soundness.proofs.same_row.Tie as tie
 

@@ -5,7 +5,7 @@ use native.Mathlib.Omega.{arith}
 use mathlib.Core.Path.{sym, ap, _∙_}
 use Prim.Native.Nat.{ℕ, _-_}
 use Rattle.soundness.proofs.Laws as law
-use Rattle.records.proofs.Known.{head-of}
+use Rattle.loader.specs.Lookups.{head-of}
 use Rattle.soundness.specs.Tested.{argsFit}
 use Rattle.soundness.proofs.stands_at.Statement.{statement}
 use Rattle.soundness.proofs.stands_at.Tie as tie

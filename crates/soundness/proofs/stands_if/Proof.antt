@@ -3,7 +3,6 @@ use borrow.Author.Needs.{needs}
 use mathlib.Core.Path.{sym, _∙_}
 use Prim.Native.Nat.{_-_}
 use Rattle.fits.specs.Fits.{addressIn}
-use Rattle.soundness.proofs.Laws as law
 use borrow.Author.Tests.{eq-eqb, ne-eqb}
 use Rattle.soundness.proofs.stands_if.Statement.{statement}
 use Rattle.soundness.proofs.stands_if.Tie as tie

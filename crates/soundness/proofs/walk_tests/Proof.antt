@@ -3,13 +3,12 @@ use native.Mathlib.Omega.{arith}
 use mathlib.Core.Path.{_≡_, refl, sym, ap, _∙_}
 use Prim.Native.Nat.{_-_, _≤_, _<_}
 use Rattle.soundness.proofs.Laws as law
-use Rattle.records.proofs.Known.{head-of}
+use Rattle.loader.specs.Lookups.{head-of}
 use Rattle.places.specs.Search.{Clean}
 use Rattle.places.specs.Records.{bodies}
 use Rattle.places.specs.Rules.{bodyOf, found, into, broken}
-use Rattle.records.proofs.Search.{first-hit, first-none, clean-none, clean-more}
-use Rattle.rules.specs.Moves.{Moves}
-use Rattle.rules.proofs.Laws as rule
+use Rattle.loader.specs.Walk.{first-hit, first-none, clean-none, clean-more, Moves}
+use Rattle.loader.specs.Walk as rule
 use Rattle.soundness.specs.Tested.{Upto}
 use lib.ListN.{length}
 use Rattle.soundness.proofs.walk_tests.Statement.{statement}

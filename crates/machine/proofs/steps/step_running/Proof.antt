@@ -2,7 +2,7 @@
 use native.Mathlib.Omega.{arith}
 use mathlib.Core.Path.{refl}
 use denote.Ref.{now}
-use Rattle.records.proofs.Known.{code-of}
+use Rattle.loader.specs.Lookups.{code-of}
 use Rattle.machine.proofs.Asks.{room}
 use Rattle.machine.proofs.Stepping.{held-long, top-of, address-in, read-of, poised, running-steps}
 use borrow.Author.Needs.{needs}

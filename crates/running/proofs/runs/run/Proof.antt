@@ -27,17 +27,26 @@ cast-t19 c = record { fits = omega (arith, judged-small _ (λ k. c .before .befo
 enum-told : tie.Need-enum-told
 enum-told c = search needs
 
+slice-aggregate-run-passed : tie.Need-slice-aggregate-run-passed
+slice-aggregate-run-passed c = search needs
+
+slice-aggregate-run-passed-2 : tie.Need-slice-aggregate-run-passed-2
+slice-aggregate-run-passed-2 c = search needs
+
+run-passed-requires : tie.Need-run-passed-requires
+run-passed-requires c κs = law.told-unsound _ _ _ _ (c .before .before .before .before .before .before .before .inspect .result) (c .before .before .before .before .before .before .before .inspect .ensures) (c .before .before .before .enum-told .given .1)
+
 enum-known-base : tie.Need-enum-known-base
 enum-known-base c = search needs
 
-slice-aggregate-run-held : tie.Need-slice-aggregate-run-held
-slice-aggregate-run-held c = search needs
+slice-aggregate-run-passed-3 : tie.Need-slice-aggregate-run-passed-3
+slice-aggregate-run-passed-3 c = search needs
 
-slice-aggregate-run-held-2 : tie.Need-slice-aggregate-run-held-2
-slice-aggregate-run-held-2 c = search needs
+slice-aggregate-run-passed-4 : tie.Need-slice-aggregate-run-passed-4
+slice-aggregate-run-passed-4 c = search needs
 
-run-held-requires : tie.Need-run-held-requires
-run-held-requires c κs = law.told-sound _ _ _ _ (c .before .before .before .before .before .before .before .before .inspect .result) (c .before .before .before .before .before .before .before .before .inspect .ensures) _ (c .before .before .before .before .base .given .1)
+run-passed-requires-2 : tie.Need-run-passed-requires-2
+run-passed-requires-2 c κs = law.told-sound _ _ _ _ (c .before .before .before .before .before .before .before .before .inspect .result) (c .before .before .before .before .before .before .before .before .inspect .ensures) _ (c .before .before .before .before .base .given .1)
 
 same-length : tie.Need-same-length
 same-length c = search needs
@@ -49,7 +58,7 @@ same-length-2 : tie.Need-same-length-2
 same-length-2 c = search needs
 
 returns-2 : tie.Need-returns-2
-returns-2 c = law.run-unsound _ _ _ _ (law.told-unsound _ _ _ _ (c .before .before .before .before .inspect .result) (c .before .before .before .before .inspect .ensures) (c .enum-told .given .1))
+returns-2 c = search needs
 
 same-length-3 : tie.Need-same-length-3
 same-length-3 c = search needs
@@ -68,10 +77,13 @@ run-spec =
     cast-t18
     cast-t19
     enum-told
+    slice-aggregate-run-passed
+    slice-aggregate-run-passed-2
+    run-passed-requires
     enum-known-base
-    slice-aggregate-run-held
-    slice-aggregate-run-held-2
-    run-held-requires
+    slice-aggregate-run-passed-3
+    slice-aggregate-run-passed-4
+    run-passed-requires-2
     same-length
     returns
     same-length-2

@@ -1,13 +1,13 @@
--- `running::starts::root_at` meets its contract. The loop has come to the place of the k-th class. Assumes nothing.
+-- `loader::root::root_at` meets its contract. The loop has come to the place of the k-th class. Assumes nothing.
 use native.Mathlib.Omega.{arith}
 use mathlib.Core.Path.{_≡_}
 use Prim.Native.Nat.{_-_, _≤_}
 use Rattle.places.specs.Records.{classPlace}
 use Rattle.records.proofs.Known.{head-of, class-of}
 use Rattle.records.proofs.Passing.{class-start, next-class}
-use Rattle.running.proofs.Starting as law
-use Rattle.running.proofs.starts.root_at.Statement.{statement}
-use Rattle.running.proofs.starts.root_at.Tie as tie
+use Rattle.loader.proofs.RootPlace as law
+use Rattle.loader.proofs.root.root_at.Statement.{statement}
+use Rattle.loader.proofs.root.root_at.Tie as tie
 
 abbrev Inv-loop : tie.InvT-loop
 Inv-loop code n p₀ k₀ p k = (k ≤ n) × (p ≡ classPlace code k)
