@@ -64,11 +64,11 @@ enum cue_tag {
 uint64_t cue_check(const uint8_t *table, size_t n);
 
 /* The loading check: refusal 8 (place: the first record that does not read) or 9 (place: the lowest address at fault), or done.
- * Stack: under 301,000 bytes, at every call and whatever the macro's size, since the compiler gives the indexes of all sizes one frame. */
+ * Stack: under 265,000 bytes, at every call and whatever the macro's size, since the compiler gives the indexes of all sizes one frame. */
 uint64_t cue_load(const uint8_t *code, size_t n);
 
 /* The start of a macro: refusal 8 or 9 as above, 10 where len is not CUE_STATE_BYTES, or done; then all of the state has been written,
- * whatever it held: it stands before the macro's first instruction. Stack: under 301,000 bytes. */
+ * whatever it held: it stands before the macro's first instruction. Stack: under 265,000 bytes. */
 uint64_t cue_start(const uint8_t *code, size_t n, uint8_t *state, size_t len);
 
 /* A run of at most `allowance` steps from a state that a start or a run of the same macro left (docs/STATE.md has the layout; any other bytes are
@@ -82,7 +82,7 @@ uint64_t cue_start(const uint8_t *code, size_t n, uint8_t *state, size_t len);
  *   end               by 0, or by the condition (20 to 27) after its releases; further runs give the end again, with 0 steps
  *
  * The refusals are tested in this order. Every run makes the loading check anew and tests the state, so that its time grows with the
- * macro's length and not with the allowance alone. Stack: under 301,000 bytes, and under 601,000 where len is not CUE_STATE_BYTES. */
+ * macro's length and not with the allowance alone. Stack: under 327,000 bytes. */
 uint64_t cue_run(const uint8_t *code, size_t n, uint8_t *state, size_t len, const uint8_t *readings, size_t m, uint16_t allowance);
 
 #ifdef __cplusplus

@@ -51,18 +51,27 @@ fn a_shell_in_c() {
     assert_eq!(printed(&shell, &cut[..cut.len() - 1]), ("refused 8 3\n".to_string(), false));
 }
 
-/// Threads with as much stack as include/desk.h says, and a little of their own, can start and run; where they could not, this process would end.
+/// On a thread with this much stack; where it is not enough, this process ends.
+fn on_stack(bytes: usize, work: impl FnOnce() -> u64 + Send) -> u64 {
+    // what a thread takes for itself, measured as 5,000
+    const THREAD: usize = 8_192;
+    std::thread::scope(|scope| {
+        let small = std::thread::Builder::new().stack_size(bytes + THREAD);
+        small.spawn_scoped(scope, work).unwrap().join().unwrap()
+    })
+}
+
+/// As much stack as include/desk.h says is enough: also for the deepest table, and for a state of wrong length.
 #[test]
 fn stack_as_the_header_says() {
     let code = write_macro(&counter(40_000));
     let held = Answer::Event { steps: 1, event: Event::Hold { group: 9 } }.packed();
     let unsound = Answer::Refusal(Refusal { number: 10, place: 0 }).packed();
-    for (stack, length, wanted) in [(301_000, LENGTH, (1, held)), (601_000, LENGTH - 1, (unsound, unsound))] {
-        let mut state = vec![0; length];
-        let work = || (desk::start(&code, &mut state), desk::run(&code, &mut state, &[0; 64], 9));
-        std::thread::scope(|scope| {
-            let small = std::thread::Builder::new().stack_size(stack + 32_768);
-            assert_eq!(small.spawn_scoped(scope, work).unwrap().join().unwrap(), wanted);
-        });
-    }
+    let mut state = vec![0; LENGTH];
+    let ifs = table(&format!("1 0 1 {}, 1 0 0", ", 22 0 0, 41 0 1".repeat(62)));
+    assert_eq!(on_stack(110_000, || desk::check(&ifs)), 1);
+    assert_eq!(on_stack(265_000, || desk::load(&code)), 1);
+    assert_eq!(on_stack(265_000, || desk::start(&code, &mut state)), 1);
+    assert_eq!(on_stack(327_000, || desk::run(&code, &mut state, &[0; 64], 9)), held);
+    assert_eq!(on_stack(327_000, || desk::run(&code, &mut state[1..], &[0; 64], 9)), unsound);
 }
