@@ -72,6 +72,6 @@ fn stack_as_the_header_says() {
     assert_eq!(on_stack(110_000, || desk::check(&ifs)), 1);
     assert_eq!(on_stack(265_000, || desk::load(&code)), 1);
     assert_eq!(on_stack(265_000, || desk::start(&code, &mut state)), 1);
-    assert_eq!(on_stack(327_000, || desk::run(&code, &mut state, &[0; 64], 9)), held);
-    assert_eq!(on_stack(327_000, || desk::run(&code, &mut state[1..], &[0; 64], 9)), unsound);
+    assert_eq!(on_stack(290_000, || desk::run(&code, &mut state, &[0; 64], 9)), held);
+    assert_eq!(on_stack(290_000, || desk::run(&code, &mut state[1..], &[0; 64], 9)), unsound);
 }

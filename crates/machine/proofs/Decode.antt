@@ -122,7 +122,7 @@ pub data Other (op : ℕ) : Type 0 where
   other : (op ≡ 0 → ⊥) → (op ≡ 1 → ⊥) → (op ≡ 2 → ⊥) → (op ≡ 3 → ⊥) → (op ≡ 4 → ⊥) → (op ≡ 5 → ⊥) → (op ≡ 6 → ⊥) → (op ≡ 7 → ⊥) → (op ≡ 8 → ⊥) → (op ≡ 9 → ⊥) → (op ≡ 10 → ⊥)
       → (op ≡ 11 → ⊥) → (op ≡ 12 → ⊥) → (op ≡ 13 → ⊥) → (op ≡ 14 → ⊥) → (op ≡ 15 → ⊥) → (op ≡ 16 → ⊥) → (op ≡ 17 → ⊥) → (op ≡ 18 → ⊥) → (op ≡ 19 → ⊥) → Other op
 
-is-stop : (op a b : ℕ) (x : Instr) → instruction (record-of op a b) ≡ some x → Other op → x ≡ stop
+pub is-stop : (op a b : ℕ) (x : Instr) → instruction (record-of op a b) ≡ some x → Other op → x ≡ stop
 unfolding instruction
 is-stop op a b x d (other n0 n1 n2 n3 n4 n5 n6 n7 n8 n9 n10 n11 n12 n13 n14 n15 n16 n17 n18 n19) = go (eqb op 20) q
   where

@@ -24,19 +24,9 @@ use Rattle.ops.specs.declared.Out.{Out}
 use Rattle.ops.specs.declared.Out.the-variants.{Goes, Gives, Ends}
 use Rattle.ops.specs.Acts.{Are, outOf, eventOf}
 use Rattle.machine.specs.declared.Answer.the-variants.{Happens, Spends, Finishes}
-use Rattle.machine.specs.Held.{Held, Steps, Runs}
+use Rattle.machine.specs.Held.{Held, Steps, Runs, Reaches}
 use Rattle.machine.specs.Held as held
 use Rattle.machine.proofs.Stepping.{in-ended}
-
--- after i steps of k from the state s₀ the bytes hold a sound state from which the run goes on
-pub record Reached (code readings l : List ℕ) (k i : ℕ) (m : Macro) (s₀ : Machine) : Type 0 where
-  pub state : Machine
-  pub sounds : sound m state ≡ true
-  pub bytes : l ≡ encode state
-  pub same : steps m (bankOf readings) k 0 s₀ ≡ steps m (bankOf readings) (k - i) i state
-
-abbrev pub Reaches : List ℕ → List ℕ → ℕ → List ℕ → List ℕ → ℕ → Type 0
-Reaches code readings k l₀ l i = (m : Macro) → readMacro code ≡ accepted m → Passed m → (s : Machine) → sound m s ≡ true → l₀ ≡ encode s → Reached code readings l k i m s
 
 pub begin : (code readings l : List ℕ) (k : ℕ) → Reaches code readings k l l 0
 begin code readings l k m r w s S e = record { state = s; sounds = S; bytes = e; same = ap (λ (j : ℕ). steps m (bankOf readings) j 0 s) (omega arith) }
@@ -49,9 +39,9 @@ module _ (code readings l : List ℕ) (sixty-four : length readings ≡ 64) wher
   run-is k m (unwinding gs a) e n = rw (eq-eqb (length readings) 64 sixty-four)
   run-is k m (ended c) e n = absurd (n (read-ended l c e .0))
 
-  pub ended-runs : (k : ℕ) → byteAt l 0 ≡ 2 → Runs code readings k l l (Finishes (byteAt l 1) 0)
+  pub ended-runs : (k : ℕ) → (byteAt l 0 ≡ 0 → ⊥) → (byteAt l 0 ≡ 1 → ⊥) → Runs code readings k l l (Finishes (byteAt l 1) 0)
   unfolding run
-  ended-runs k z m r w s S e = in-ended (λ s. held.Ends (run m readings k s) l (Finishes (byteAt l 1) 0)) l s e (λ q. omega arith) (λ q. omega arith)
+  ended-runs k n0 n1 m r w s S e = in-ended (λ s. held.Ends (run m readings k s) l (Finishes (byteAt l 1) 0)) l s e n0 n1
       (λ c q. rw (eq-eqb (length readings) 64 sixty-four) (record { answer = ap (λ (x : ℕ). Finishes x 0) (read-ended l c q .1); bytes = q }))
 
 -- ── one step more ──

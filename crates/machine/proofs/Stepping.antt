@@ -126,6 +126,7 @@ module _ (code l : List ℕ) (m : Macro) (reads : readMacro code ≡ accepted m)
         items = q .0;
         next = q .1;
         moves = sym (step-is (bankOf readings) (o .0) (o .1)) ∙ q .2;
+        still = q .3 .still-sound;
         finds = o .2;
       }
 
@@ -186,11 +187,6 @@ module _ (code l : List ℕ) where
           let c : halfAt l 6 ≡ suc (length gs) = read-releasing l d (x ∷ gs) e .2 in
           let n : h - 1 ≡ length gs = omega arith in
           record { are = (ek ∙ releases-last l d x gs (h - 1) e n (omega arith), ap (λ (y : ℕ). Gives (Release y)) (eg ∙ read-last l d x gs (h - 1) e n (omega arith))) }
-
-  pub ended-steps : (readings k : List ℕ) (r : Out) → (byteAt l 0 ≡ 0 → ⊥) → (byteAt l 0 ≡ 1 → ⊥) → k ≡ l → r ≡ Ends (byteAt l 1) → Steps code readings l k r
-  unfolding step
-  ended-steps readings k r n0 n1 ek er m reads w s sounds bytes = in-ended (λ s. Told (step m (bankOf readings) s) k r) l s bytes n0 n1
-      (λ c e. record { are = (ek ∙ e, er ∙ ap Ends (read-ended l c e .1)) })
 
 -- the numbers as the code reads them
 pub read-of : (code l : List ℕ) (base w f n i op a b : ℕ) → base ≡ codeBase code → w ≡ byteAt l 2 → f ≡ 32 + 328 * (w - 1) → n ≡ byteAt l (f + 1) → i ≡ halfAt l (f + 4)

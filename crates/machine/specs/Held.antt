@@ -3,15 +3,16 @@ use mathlib.Core.Path.{_≡_}
 use mathlib.Core.Bool.{true}
 use mathlib.Core.List.{List}
 use mathlib.Core.Option.{some}
-use Prim.Native.Nat.{ℕ, _<_}
+use Prim.Native.Nat.{ℕ, _-_, _<_}
 use lib.ListN.{length}
+use Rattle.words.specs.Numbers.{byteAt}
 use Rattle.values.specs.Ends.{accepted}
 use Rattle.values.specs.Trace.{Item}
 use Rattle.values.specs.Values.{tysOf}
 use Rattle.bytecode.specs.Macro.{Code, Macro, shape, readMacro}
 use Rattle.bytecode.specs.Instructions.{Instr, instruction}
 use Rattle.bytecode.specs.Machine.{Activation, Made, Machine, moved, act, step}
-use Rattle.bytecode.specs.Runs.{bankOf, happens, spends, finishes, refuses, halts, Ran, run}
+use Rattle.bytecode.specs.Runs.{bankOf, happens, spends, finishes, refuses, halts, Ran, steps, run}
 use Rattle.bytecode.specs.Runs as runs
 use Rattle.bytecode.specs.Sound.{sound}
 use Rattle.bytecode.specs.State.{encode}
@@ -56,6 +57,7 @@ pub record Poised (code readings : List ℕ) (op a b : ℕ) (l : List ℕ) (f n 
   pub items : List Item
   pub next : Machine
   pub moves : act macro (bankOf readings) instr (here records top below) ≡ moved items next
+  pub still : sound macro next ≡ true
   pub finds : Finds macro (top .body) (top .address) (shape (length (top .holds)) (tysOf (top .operands))) instr
 
 -- what it does
@@ -85,3 +87,17 @@ pub record Ends (w : Ran) (k : List ℕ) (a : Answer) : Type 0 where
 abbrev pub Runs : List ℕ → List ℕ → ℕ → List ℕ → List ℕ → Answer → Type 0
 Runs code readings allowance l k a =
     (m : Macro) → readMacro code ≡ accepted m → Passed m → (s : Machine) → sound m s ≡ true → l ≡ encode s → Ends (run m readings allowance s) k a
+
+-- after i steps of k from the state s₀ the bytes hold a sound state from which the run goes on
+pub record Reached (readings l : List ℕ) (k i : ℕ) (m : Macro) (s₀ : Machine) : Type 0 where
+  pub state : Machine
+  pub sounds : sound m state ≡ true
+  pub bytes : l ≡ encode state
+  pub same : steps m (bankOf readings) k 0 s₀ ≡ steps m (bankOf readings) (k - i) i state
+
+abbrev pub Reaches : List ℕ → List ℕ → ℕ → List ℕ → List ℕ → ℕ → Type 0
+Reaches code readings k l₀ l i = (m : Macro) → readMacro code ≡ accepted m → Passed m → (s : Machine) → sound m s ≡ true → l₀ ≡ encode s → Reached readings l k i m s
+
+-- the rest of a run of k steps, after i of them, whatever bytes it began with
+abbrev pub RunsFrom : List ℕ → List ℕ → ℕ → ℕ → List ℕ → List ℕ → Answer → Type 0
+RunsFrom code readings k i l l′ a = (l₀ : List ℕ) → (byteAt l₀ 0 ≡ 2 → ⊥) → Reaches code readings k l₀ l i → Runs code readings k l₀ l′ a

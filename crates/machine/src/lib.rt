@@ -1,10 +1,9 @@
-// The machine on lent bytes: a step and a run from a sound state of a macro that passes the loading check.
+// The machine on lent bytes: a run from a sound state of a macro that passes the loading check.
 mod dispatch;
 mod steps;
 
 use ops::Event;
 pub use steps::run_sound;
-pub use steps::step;
 
 // With the steps taken: an event, the allowance used, an end by 0 or a condition.
 pub enum Answer {

@@ -1,63 +1,116 @@
-// A step in each phase, and a run: steps until an event, an end or the allowance.
+// A run: steps until an event, an end or the allowance.
 ghost use mathlib.Core.Path.{_≡_};
-ghost use Prim.Native.Nat.{_<_};
+ghost use Prim.Native.Nat.{_+_, _*_, _-_, _≤_};
 ghost use lib.ListN.{length};
-ghost use Rattle.words.specs.Numbers.{byteAt};
-ghost use Rattle.machine.specs.Held.{Found, Held, Steps, Runs};
+ghost use Rattle.words.specs.Numbers.{byteAt, halfAt};
+ghost use Rattle.machine.specs.Held.{Found, Held, Runs, RunsFrom};
 use crate::Answer;
 use crate::dispatch::dispatch;
 use ops::Event;
 use ops::Out;
 
-fn step_running(
+// The place of the top activation, and its address.
+struct Top {
+    place: usize,
+    address: u16,
+}
+
+fn top_of(s: &[u8]) -> Top
+    requires { ⌜ (length (now s) ≡ 24576) × (1 ≤ byteAt (now s) 2) × (byteAt (now s) 2 ≤ 32) ⌝ }
+    ensures { λ r. ⌜ (r .place ≡ 32 + 328 * (byteAt (now (s .entry)) 2 - 1)) × (r .address ≡ halfAt (now (s .entry)) (r .place + 4)) ⌝ }
+{
+    let f = 32 + 328 * (frames::wide(s[2]) - 1);
+    let i = words::half_at(s, f + 4);
+    Top {
+        place: f,
+        address: i,
+    }
+}
+
+// The step after i others, of a state that is releasing: the last taken hold is released; once none is open the state has ended.
+fn release(code: &[u8], s: &mut [u8], readings: &[u8], i: u16, allowance: u16) -> Answer
+    requires { ⌜ (Held (now code) (now s)) × (byteAt (now s) 0 ≡ 1) × (length (now readings) ≡ 64) × (i ≤ allowance) ⌝ }
+    ensures { λ r. ⌜ RunsFrom (now (code .entry)) (now (readings .entry)) allowance i (now (s .entry)) (now (s .exit)) r ⌝ }
+{
+    if allowance <= i {
+        return Answer::Spends(i);
+    }
+    let h = words::half_at(s, 6);
+    if h == 0 {
+        let c = s[1];
+        frames::put_byte(s, 0, 2);
+        return Answer::Finishes(c, i + 1);
+    }
+    let g = s[10528 + ((h as usize) - 1)];
+    frames::release(s, h - 1);
+    Answer::Happens(Event::Release(g), i + 1)
+}
+
+// From a running state. The place of the top activation and its address are kept in locals beside the bytes: only ops 8 to 11 do otherwise than go
+// on to the next address, and only 10 and 11 leave the activation. Each kept local changes in an arm of its own, so that a branch decides on
+// it, which is foreseen, and no conditional move, which waits for the op.
+fn run_running(
     code: &[u8],
     bx: &[u32],
     cx: &[u32],
     base: usize,
     s: &mut [u8],
     readings: &[u8],
-) -> Out
+    allowance: u16,
+) -> Answer
     requires { ⌜ (Found (now code) (now bx) (now cx) base) × (Held (now code) (now s)) × (length (now readings) ≡ 64) × (byteAt (now s) 0 ≡ 0) ⌝ }
-    ensures { λ r. ⌜ Steps (now (code .entry)) (now (readings .entry)) (now (s .entry)) (now (s .exit)) r ⌝ }
+    ensures { λ r. ⌜ Runs (now (code .entry)) (now (readings .entry)) allowance (now (s .entry)) (now (s .exit)) r ⌝ }
 {
-    let f = 32 + 328 * (frames::wide(s[2]) - 1);
-    let n = frames::wide(s[f + 1]);
-    let i = words::half_at(s, f + 4);
-    let p = base + 8 * (i as usize);
-    let op = code[p + 2];
-    let a = code[p + 3];
-    let b = words::word_at(code, p + 4);
-    dispatch(code, bx, cx, s, readings, f, n, i, op, a, b)
-}
-
-// The last taken hold is released; once none is open the state has ended.
-fn step_releasing(code: &[u8], s: &mut [u8], readings: &[u8]) -> Out
-    requires { ⌜ (Held (now code) (now s)) × (byteAt (now s) 0 ≡ 1) ⌝ }
-    ensures { λ r. ⌜ Steps (now (code .entry)) (now (readings .entry)) (now (s .entry)) (now (s .exit)) r ⌝ }
-{
-    let h = words::half_at(s, 6);
-    if h == 0 {
-        let c = s[1];
-        frames::put_byte(s, 0, 2);
-        return Out::Ends(c);
+    let t = top_of(s);
+    let mut f = t.place;
+    let mut at = t.address;
+    let mut i: u16 = 0;
+    while i < allowance {
+        let n = frames::wide(s[f + 1]);
+        let p = base + 8 * (at as usize);
+        let op = code[p + 2];
+        let a = code[p + 3];
+        let b = words::word_at(code, p + 4);
+        match dispatch(code, bx, cx, s, readings, f, n, at, op, a, b) {
+            Out::Goes => {
+                i += 1;
+                match op {
+                    8 => {
+                        at = words::half_at(s, f + 4);
+                    }
+                    9 => {
+                        at = words::half_at(s, f + 4);
+                    }
+                    10 => {
+                        if s[0] != 0 {
+                            return release(code, s, readings, i, allowance);
+                        }
+                        let t = top_of(s);
+                        f = t.place;
+                        at = t.address;
+                    }
+                    11 => {
+                        let t = top_of(s);
+                        f = t.place;
+                        at = t.address;
+                    }
+                    _ => {
+                        if s[0] != 0 {
+                            return release(code, s, readings, i, allowance);
+                        }
+                        at += 1;
+                    }
+                }
+            }
+            Out::Gives(e) => {
+                return Answer::Happens(e, i + 1);
+            }
+            Out::Ends(c) => {
+                return Answer::Finishes(c, i + 1);
+            }
+        }
     }
-    let g = s[10528 + ((h as usize) - 1)];
-    frames::release(s, h - 1);
-    Out::Gives(Event::Release(g))
-}
-
-pub fn step(code: &[u8], bx: &[u32], cx: &[u32], base: usize, s: &mut [u8], readings: &[u8]) -> Out
-    requires { ⌜ (Found (now code) (now bx) (now cx) base) × (Held (now code) (now s)) × (length (now readings) ≡ 64) ⌝ }
-    ensures { λ r. ⌜ Steps (now (code .entry)) (now (readings .entry)) (now (s .entry)) (now (s .exit)) r ⌝ }
-{
-    let phase = s[0];
-    if phase == 0 {
-        return step_running(code, bx, cx, base, s, readings);
-    }
-    if phase == 1 {
-        return step_releasing(code, s, readings);
-    }
-    Out::Ends(s[1])
+    Answer::Spends(i)
 }
 
 pub fn run_sound(
@@ -72,22 +125,12 @@ pub fn run_sound(
     requires { ⌜ (Found (now code) (now bx) (now cx) base) × (Held (now code) (now s)) × (length (now readings) ≡ 64) ⌝ }
     ensures { λ r. ⌜ Runs (now (code .entry)) (now (readings .entry)) allowance (now (s .entry)) (now (s .exit)) r ⌝ }
 {
-    if s[0] == 2 {
-        return Answer::Finishes(s[1], 0);
+    let phase = s[0];
+    if phase == 0 {
+        return run_running(code, bx, cx, base, s, readings, allowance);
     }
-    let mut i: u16 = 0;
-    while i < allowance {
-        match step(code, bx, cx, base, s, readings) {
-            Out::Goes => {
-                i += 1;
-            }
-            Out::Gives(e) => {
-                return Answer::Happens(e, i + 1);
-            }
-            Out::Ends(c) => {
-                return Answer::Finishes(c, i + 1);
-            }
-        }
+    if phase == 1 {
+        return release(code, s, readings, 0, allowance);
     }
-    Answer::Spends(i)
+    Answer::Finishes(s[1], 0)
 }

@@ -26,7 +26,7 @@ use Rattle.fits.specs.Sounds.{sounds}
 use Rattle.soundness.specs.declared.Inspected.{Inspected}
 use Rattle.soundness.specs.declared.Inspected.the-variants.{Sound, Unsound, Refused}
 use Rattle.soundness.specs.Tested.{Counted, fitBefore}
-use Rattle.soundness.specs.Inspecting.{recordsIn, shortOf, Tells, Held, NotHeld, Inspects}
+use Rattle.soundness.specs.Inspecting.{recordsIn, shortOf, Tells, Sees, Held, NotHeld, Inspects}
 use Rattle.soundness.proofs.Rows.{by-test}
 
 -- ── a running state that passes ──
@@ -126,11 +126,13 @@ module _ (c l : List ℕ) where
   unfolding soundState
   short m n = rw (ne-eqb (length l) 24576 n)
 
-  unsound-by : judge c ≡ passes → (length l ≡ 24576 → ⊥) → NotHeld c l
-  unsound-by e n = let a = accepts e in record { macro = a .0; passes = a .1; unsound = short (a .0) n }
+  pub told-short : (length l ≡ 24576 → ⊥) → (bx cx : List ℕ) (x : Inspected) → Sees c x → Inspects c l bx cx x
+  told-short n bx cx (Sound base) t = absurd t
+  told-short n bx cx Unsound t = let a = accepts t in record { macro = a .0; passes = a .1; unsound = short (a .0) n }
+  told-short n bx cx (Refused i p) t = refuses i p t
 
-  -- whatever bytes the macro was judged beside
-  pub told-short : (length l ≡ 24576 → ⊥) → (k bx cx : List ℕ) (x : Inspected) → Tells c k bx cx x → Inspects c l bx cx (shortOf x)
-  told-short n k bx cx (Sound base) t = unsound-by (t .0) n
-  told-short n k bx cx Unsound t = unsound-by (t .0) n
-  told-short n k bx cx (Refused i p) t = refuses i p t
+-- whatever bytes the macro was judged beside
+pub seen-by : (c l bx cx : List ℕ) (x : Inspected) → Tells c l bx cx x → Sees c (shortOf x)
+seen-by c l bx cx (Sound base) t = t .0
+seen-by c l bx cx Unsound t = t .0
+seen-by c l bx cx (Refused n k) t = t

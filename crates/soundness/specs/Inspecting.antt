@@ -39,6 +39,12 @@ Tells c l bx cx (Sound base) = (judge c ≡ passes) × (soundBytes c l ≡ true)
 Tells c l bx cx Unsound = (judge c ≡ passes) × (soundBytes c l ≡ false)
 Tells c l bx cx (Refused n k) = judge c ≡ refused n k
 
+-- of the macro alone
+abbrev pub Sees : List ℕ → Inspected → Type 0
+Sees c (Sound base) = ⊥
+Sees c Unsound = judge c ≡ passes
+Sees c (Refused n k) = judge c ≡ refused n k
+
 -- a macro that passes and a sound state of it
 pub record Held (c l : List ℕ) : Type 0 where
   pub macro : Macro

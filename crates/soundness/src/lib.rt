@@ -19,7 +19,7 @@ ghost use Rattle.loader.specs.Walk.{flowOf, Fit, Able};
 ghost use Rattle.fits.specs.Each.{each};
 ghost use Rattle.fits.specs.Fits.{addressIn, standsIn, activationsIn};
 ghost use Rattle.soundness.specs.Tested.{Counted, argsFit, standing, Upto, Tests};
-ghost use Rattle.soundness.specs.Inspecting.{recordsIn, shortOf, Inspects, Tells};
+ghost use Rattle.soundness.specs.Inspecting.{recordsIn, shortOf, Inspects, Tells, Sees};
 
 // Sound, with the place of the first instruction; unsound (10); or refused with the refusal's number and place.
 pub enum Inspected {
@@ -341,6 +341,19 @@ fn inspect_in(
     }
 }
 
+// The larger indexes: for more than 1,024 instructions, and for a state of wrong length, which is refused whatever the macro's size.
+fn inspect_large(c: &[u8], l: &[u8], bx: &mut [u32], cx: &mut [u32], m: usize) -> Inspected
+    requires { ⌜ (badHead (now c) ≡ false) × (m ≡ count (now c)) × (m < 65536) × (64 ≤ length (now bx)) × (16 ≤ length (now cx)) × (length (now l) ≡ 24576) ⌝ }
+    ensures { λ x. ⌜ Tells (now (c .entry)) (now (l .entry)) (now (bx .exit)) (now (cx .exit)) x ⌝ }
+{
+    if m <= 8192 {
+        let mut ix = [0u32; 8192];
+        return inspect_in(c, l, &mut ix, bx, cx, m);
+    }
+    let mut ix = [0u32; 65536];
+    inspect_in(c, l, &mut ix, bx, cx, m)
+}
+
 // The index of shapes is cleared at each call, so that its size goes by the number of instructions.
 fn inspect_long(c: &[u8], l: &[u8], bx: &mut [u32], cx: &mut [u32]) -> Inspected
     requires { ⌜ (64 ≤ length (now bx)) × (16 ≤ length (now cx)) × (length (now l) ≡ 24576) ⌝ }
@@ -350,16 +363,15 @@ fn inspect_long(c: &[u8], l: &[u8], bx: &mut [u32], cx: &mut [u32]) -> Inspected
         return Inspected::Refused(8, 0);
     }
     let m = words::wide::half_at(c, 4);
+    if m <= 64 {
+        let mut ix = [0u32; 64];
+        return inspect_in(c, l, &mut ix, bx, cx, m);
+    }
     if m <= 1024 {
         let mut ix = [0u32; 1024];
         return inspect_in(c, l, &mut ix, bx, cx, m);
     }
-    if m <= 8192 {
-        let mut ix = [0u32; 8192];
-        return inspect_in(c, l, &mut ix, bx, cx, m);
-    }
-    let mut ix = [0u32; 65536];
-    inspect_in(c, l, &mut ix, bx, cx, m)
+    inspect_large(c, l, bx, cx, m)
 }
 
 // What is told of a state of wrong length, which is never sound.
@@ -373,16 +385,27 @@ fn short(x: Inspected) -> Inspected
     }
 }
 
+// The macro is judged beside bytes that hold nothing, as long as a state.
+fn inspect_short(c: &[u8], bx: &mut [u32], cx: &mut [u32]) -> Inspected
+    requires { ⌜ (64 ≤ length (now bx)) × (16 ≤ length (now cx)) ⌝ }
+    ensures { λ x. ⌜ Sees (now (c .entry)) x ⌝ }
+{
+    if loader::bad_head(c) {
+        return Inspected::Refused(8, 0);
+    }
+    let m = words::wide::half_at(c, 4);
+    let nothing = [0u8; 24576];
+    short(inspect_large(c, &nothing, bx, cx, m))
+}
+
 // A macro and a state's bytes, whatever they are: the refusal 8 or 9 of the loading check, or whether a sound state decodes from the bytes.
-// The places of bodies and classes are left in bx and cx. At a wrong length the macro is judged beside bytes that hold nothing, so that one frame of
-// indexes serves both.
+// The places of bodies and classes are left in bx and cx.
 pub fn inspect(c: &[u8], l: &[u8], bx: &mut [u32], cx: &mut [u32]) -> Inspected
     requires { ⌜ (64 ≤ length (now bx)) × (16 ≤ length (now cx)) ⌝ }
     ensures { λ x. ⌜ Inspects (now (c .entry)) (now (l .entry)) (now (bx .exit)) (now (cx .exit)) x ⌝ }
 {
     if l.len() != 24576 {
-        let nothing = [0u8; 24576];
-        return short(inspect_long(c, &nothing, bx, cx));
+        return inspect_short(c, bx, cx);
     }
     inspect_long(c, l, bx, cx)
 }

@@ -2,7 +2,6 @@
 use borrow.Author.Needs.{needs}
 use native.Mathlib.Omega.{arith}
 use mathlib.Core.Path.{sym, _∙_}
-use Prim.Native.Nat.{_-_}
 use Rattle.loader.specs.Walk as rule
 use Rattle.loader.specs.Lookups.{head-known}
 use Rattle.soundness.proofs.inspect_long.Statement.{statement}
@@ -21,7 +20,7 @@ slice-aggregate-inspect-in : tie.Need-slice-aggregate-inspect-in
 slice-aggregate-inspect-in c = search needs
 
 inspect-in-requires : tie.Need-inspect-in-requires
-inspect-in-requires c κs = (sym (c .before .before .before .before .before .before .bad-head .ensures) ∙ c .before .before .before .before .before .if1 .left, c .before .before .before .before .half-at .ensures .0, rule.zeros-long _ 1024 (omega arith), c .before .before .before .before .before .before .before .before .before .before .before .pre .0, c .before .before .before .before .before .before .before .before .before .before .before .pre .1, rule.zeros-index _ 1024 _, c .before .before .before .before .before .before .before .before .before .before .before .pre .2)
+inspect-in-requires c κs = (sym (c .before .before .before .before .before .before .bad-head .ensures) ∙ c .before .before .before .before .before .if1 .left, c .before .before .before .before .half-at .ensures .0, rule.zeros-long _ 64 (omega arith), c .before .before .before .before .before .before .before .before .before .before .before .pre .0, c .before .before .before .before .before .before .before .before .before .before .before .pre .1, rule.zeros-index _ 64 _, c .before .before .before .before .before .before .before .before .before .before .before .pre .2)
 
 same-length : tie.Need-same-length
 same-length c = search needs
@@ -36,7 +35,7 @@ slice-aggregate-inspect-in-2 : tie.Need-slice-aggregate-inspect-in-2
 slice-aggregate-inspect-in-2 c = search needs
 
 inspect-in-requires-2 : tie.Need-inspect-in-requires-2
-inspect-in-requires-2 c κs = (sym (c .before .before .before .before .before .before .before .bad-head .ensures) ∙ c .before .before .before .before .before .before .if1 .left, c .before .before .before .before .before .half-at .ensures .0, rule.zeros-long _ 8192 (omega arith), c .before .before .before .before .before .before .before .before .before .before .before .before .pre .0, c .before .before .before .before .before .before .before .before .before .before .before .before .pre .1, rule.zeros-index _ 8192 _, c .before .before .before .before .before .before .before .before .before .before .before .before .pre .2)
+inspect-in-requires-2 c κs = (sym (c .before .before .before .before .before .before .before .bad-head .ensures) ∙ c .before .before .before .before .before .before .if1 .left, c .before .before .before .before .before .half-at .ensures .0, rule.zeros-long _ 1024 (omega arith), c .before .before .before .before .before .before .before .before .before .before .before .before .pre .0, c .before .before .before .before .before .before .before .before .before .before .before .before .pre .1, rule.zeros-index _ 1024 _, c .before .before .before .before .before .before .before .before .before .before .before .before .pre .2)
 
 same-length-3 : tie.Need-same-length-3
 same-length-3 c = search needs
@@ -47,11 +46,8 @@ same-length-4 c = search needs
 returns-3 : tie.Need-returns-3
 returns-3 c = search needs
 
-slice-aggregate-inspect-in-3 : tie.Need-slice-aggregate-inspect-in-3
-slice-aggregate-inspect-in-3 c = search needs
-
-inspect-in-requires-3 : tie.Need-inspect-in-requires-3
-inspect-in-requires-3 c κs = (sym (c .before .before .before .before .before .before .before .bad-head .ensures) ∙ c .before .before .before .before .before .before .if1 .left, c .before .before .before .before .before .half-at .ensures .0, rule.zeros-long _ 65536 (omega arith), c .before .before .before .before .before .before .before .before .before .before .before .before .pre .0, c .before .before .before .before .before .before .before .before .before .before .before .before .pre .1, rule.zeros-index _ 65536 _, c .before .before .before .before .before .before .before .before .before .before .before .before .pre .2)
+inspect-large-requires : tie.Need-inspect-large-requires
+inspect-large-requires c κs = (sym (c .before .before .before .before .before .before .bad-head .ensures) ∙ c .before .before .before .before .before .if1 .left, c .before .before .before .before .half-at .ensures .0, c .before .before .before .before .half-at .ensures .1, c .before .before .before .before .before .before .before .before .before .before .before .pre .0, c .before .before .before .before .before .before .before .before .before .before .before .pre .1, c .before .before .before .before .before .before .before .before .before .before .before .pre .2)
 
 same-length-5 : tie.Need-same-length-5
 same-length-5 c = search needs
@@ -79,8 +75,7 @@ inspect-long-spec =
     same-length-3
     same-length-4
     returns-3
-    slice-aggregate-inspect-in-3
-    inspect-in-requires-3
+    inspect-large-requires
     same-length-5
     same-length-6
     returns-4)

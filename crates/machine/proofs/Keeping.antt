@@ -1,0 +1,286 @@
+-- What a step leaves where it was: the activation it was in and, but for ops 8 to 11, the next address.
+use mathlib.Core.Path.{_≡_, refl, ap}
+use mathlib.Core.Bool.{Bool, true, false, _&&_}
+use mathlib.Core.List.{List, [], _∷_, _++_}
+use mathlib.Core.Option.{Option, none, some}
+use Prim.Native.Nat.{ℕ, zero, suc}
+use lib.IntN.{ℤ, pos}
+use lib.Dec.{eqb, leb, ltb}
+use lib.ListN.{length, getElem?}
+use lib.ListN.{set as put}
+use Rattle.words.specs.Choice.{if_then_else_}
+use Rattle.values.specs.Operators.{Operator, unary, binary}
+use Rattle.values.specs.Arithmetic.{Outcome, gives, ends, mistyped}
+use Rattle.values.specs.Types.{fits, allFit, sames}
+use Rattle.values.specs.Ends.{assertFalse, caseIndex, outOfRange, tooManyRecords}
+use Rattle.values.specs.Values.{Value, int, log, bit, ref, tyOf, tysOf, Cell, assigned, between, size, apply1, apply2}
+use Rattle.values.specs.Trace.{set, hold, Item, event, reading}
+use Rattle.bytecode.specs.Macro.{Macro}
+use Rattle.bytecode.specs.Instructions.{Owner, own, root, Instr, end, push, load, store, operate, go, goUnless, call, return, make, getField, putField, setLevel, readFader, takeHold, letHold, assert, stop}
+use Rattle.bytecode.specs.Machine.{Activation, Made, running, unwinding, ended, Stuck, noStep, badType, badRecord, badFrame, groupHeld, Stepped, moved, stuck, demand, Here, at, withHolds, withRecords, fieldPut, cellsFor, cellTy, isEmpty, notRoot, condition, goesOn, settled, pop, onInteger, onLogical, onReference, given, putLowest, putTop, putCells, pushCell, popMany, recording, onMade, letting, handDown, doLoad, doStore, doOperate, doGoUnless, doReturn, doEnd, doMake, doGetField, doPutField, doSet, doFader, doTakeHold, doAssert, doPush, act}
+use Rattle.ops.specs.Acts.{here}
+
+lowest-length : (cs : List Cell) (fs : List Activation) → length (putLowest cs fs) ≡ length fs
+unfolding putLowest
+lowest-length cs [] = refl
+lowest-length cs (f ∷ []) = refl
+lowest-length cs (f ∷ (g ∷ gs)) = ap suc (lowest-length cs (g ∷ gs))
+
+top-address : (cs : List Cell) (t : Activation) (fs : List Activation) → putTop cs t fs .address ≡ t .address
+top-address cs t [] = refl
+top-address cs t (g ∷ gs) = refl
+
+-- ops 0 to 7 and 12 to 20
+abbrev pub Plain : Instr → Type 0
+Plain (go i) = ⊥
+Plain (goUnless i) = ⊥
+Plain (call k) = ⊥
+Plain return = ⊥
+Plain end = Unit {0}
+Plain (push v) = Unit {0}
+Plain (load o x) = Unit {0}
+Plain (store o x) = Unit {0}
+Plain (operate o) = Unit {0}
+Plain (make c) = Unit {0}
+Plain (getField c x) = Unit {0}
+Plain (putField c x) = Unit {0}
+Plain setLevel = Unit {0}
+Plain readFader = Unit {0}
+Plain (takeHold g) = Unit {0}
+Plain letHold = Unit {0}
+Plain assert = Unit {0}
+Plain stop = Unit {0}
+
+-- ── an op that goes on to the next address, or leaves off running ──
+module _ (t : Activation) (fs : List Activation) where
+  abbrev pub Next : Stepped → Type 0
+  Next (moved is (running rs u us)) = (u .address ≡ suc (t .address)) × (length us ≡ length fs)
+  Next (moved is (unwinding gs a)) = Unit {0}
+  Next (moved is (ended c)) = Unit {0}
+  Next (stuck why) = Unit {0}
+
+  pub record Onward (s : Stepped) : Type 0 where
+    pub next : Next s
+
+  nowhere : {why : Stuck} → Onward (stuck why)
+  nowhere = record { next = tt }
+
+  -- as it is found, its cells and the records apart
+  record Alike (h : Here) : Type 0 where
+    address : h .top .address ≡ t .address
+    count : length (h .below) ≡ length fs
+
+  on-demand : (b : Bool) (why : Stuck) (s : Stepped) → Onward s → Onward (demand b why s)
+  on-demand true why s p = p
+  on-demand false why s p = nowhere
+
+  on-if : (b : Bool) (s r : Stepped) → Onward s → Onward r → Onward (if b then s else r)
+  on-if true s r p q = p
+  on-if false s r p q = q
+
+  on-given : {A : Type 0} (o : Option A) (why : Stuck) (g : A → Stepped) → ((x : A) → Onward (g x)) → Onward (given o why g)
+  on-given none why g p = nowhere
+  on-given (some x) why g p = p x
+
+  on-pop : (vs : List Value) (g : Value → List Value → Stepped) → ((v : Value) (us : List Value) → Onward (g v us)) → Onward (pop vs g)
+  on-pop [] g p = nowhere
+  on-pop (v ∷ vs) g p = p v vs
+
+  on-integer : (v : Value) (g : ℤ → Stepped) → ((z : ℤ) → Onward (g z)) → Onward (onInteger v g)
+  on-integer (int z) g p = p z
+  on-integer (log b) g p = nowhere
+  on-integer (bit n) g p = nowhere
+  on-integer (ref c r) g p = nowhere
+
+  on-logical : (v : Value) (g : Bool → Stepped) → ((b : Bool) → Onward (g b)) → Onward (onLogical v g)
+  on-logical (int z) g p = nowhere
+  on-logical (log b) g p = p b
+  on-logical (bit n) g p = nowhere
+  on-logical (ref c r) g p = nowhere
+
+  on-reference : (v : Value) (g : ℕ → Option ℕ → Stepped) → ((c : ℕ) (r : Option ℕ) → Onward (g c r)) → Onward (onReference v g)
+  on-reference (int z) g p = nowhere
+  on-reference (log b) g p = nowhere
+  on-reference (bit n) g p = nowhere
+  on-reference (ref c r) g p = p c r
+
+  on-many : (n : ℕ) (taken vs : List Value) (g : List Value → List Value → Stepped) → ((us ws : List Value) → Onward (g us ws)) → Onward (popMany n taken vs g)
+  unfolding popMany
+  on-many zero taken vs g p = p taken vs
+  on-many (suc n) taken [] g p = nowhere
+  on-many (suc n) taken (v ∷ vs) g p = on-many n (v ∷ taken) vs g p
+
+  on-condition : (c : ℕ) (h : Here) → Onward (condition c h)
+  unfolding condition
+  on-condition c h = record { next = tt }
+
+  on-goes : (is : List Item) (vs : List Value) (h : Here) → Alike h → Onward (goesOn is vs h)
+  on-goes is vs h p =
+      let s : Stepped = moved is (running (h .records) (at (suc (h .top .address)) vs (h .top)) (h .below)) in
+      let q : Onward s = record { next = (ap suc (p .address), p .count) } in
+      on-demand (leb (length vs) 32) badFrame s q
+
+  on-settled : (o : Outcome Value) (vs : List Value) (h : Here) → Alike h → Onward (settled o vs h)
+  on-settled (gives v) vs h p = on-goes [] (v ∷ vs) h p
+  on-settled (ends c) vs h p = on-condition c h
+  on-settled mistyped vs h p = nowhere
+
+  on-cell : (c : Cell) (vs : List Value) (h : Here) → Alike h → Onward (pushCell c vs h)
+  on-cell (assigned v) vs h p = on-goes [] (v ∷ vs) h p
+
+  on-made : (c : ℕ) (r : Option ℕ) (h : Here) (g : ℕ → Made → Stepped) → ((n : ℕ) (q : Made) → Onward (g n q)) → Onward (onMade c r h g)
+  on-made c none h g p = on-condition _ h
+  on-made c (some n) h g p =
+      on-given (getElem? (h .records) n) badRecord (λ q. demand (eqb (q .class) c) badRecord (g n q)) (λ q. on-demand (eqb (q .class) c) badRecord (g n q) (p n q))
+
+  on-letting : (gs : List ℕ) (rs : List Made) → Onward (letting gs (here rs t fs))
+  on-letting [] rs = nowhere
+  on-letting (g ∷ gs) rs = record { next = (refl, refl) }
+
+  module _ (m : Macro) (bank : ℕ → ℕ) (rs : List Made) where
+    abbrev h : Here
+    h = here rs t fs
+
+    found : Alike h
+    found = record { address = refl; count = refl }
+
+    with-cells : (o : Owner) (cs : List Cell) → Alike (putCells o cs h)
+    with-cells own cs = record { address = refl; count = refl }
+    with-cells root cs = record { address = top-address cs t fs; count = lowest-length cs fs }
+
+    on-push : (v : Value) → Onward (doPush m v h)
+    on-push (int z) = on-goes [] (int z ∷ t .operands) h found
+    on-push (log b) = on-goes [] (log b ∷ t .operands) h found
+    on-push (bit n) = on-goes [] (bit n ∷ t .operands) h found
+    on-push (ref c r) = on-demand (ltb c (length (m .classes))) noStep (goesOn [] (ref c r ∷ t .operands) h) (on-goes [] (ref c r ∷ t .operands) h found)
+
+    on-operate : (o : Operator) → Onward (doOperate o h)
+    unfolding doOperate
+    on-operate (unary o) = on-pop (t .operands) (λ v vs. settled (apply1 o v) vs h) (λ v vs. on-settled (apply1 o v) vs h found)
+    on-operate (binary o) = on-pop (t .operands) (λ w vs. pop vs (λ v us. settled (apply2 o v w) us h)) (λ w vs. on-pop vs (λ v us. settled (apply2 o v w) us h) (λ v us. on-settled (apply2 o v w) us h found))
+
+    on-store : (o : Owner) (x : ℕ) → Onward (doStore o x h)
+    unfolding doStore
+    on-store o x = on-pop (t .operands) _ (λ v vs. on-given (getElem? (cellsFor o h) x) badFrame _ (λ c.
+        let h′ = putCells o (put (cellsFor o h) x (assigned v)) h in
+        on-demand (fits (tyOf v) (cellTy c)) badType (goesOn [] vs h′) (on-goes [] vs h′ (with-cells o (put (cellsFor o h) x (assigned v))))))
+
+    on-make : (c : ℕ) → Onward (doMake m c h)
+    unfolding doMake
+    on-make c = on-given (getElem? (m .classes) c) noStep _ (λ ts. on-many (length ts) [] (t .operands) _ (λ vs us.
+        let h′ = withRecords (rs ++ (record { class = c; fields = vs } ∷ [])) h in
+        let ws = ref c (some (length rs)) ∷ us in
+        on-demand (allFit (tysOf vs) ts) badType (recording c vs us h)
+        (on-if (ltb (length rs) 256) (goesOn [] ws h′) (condition tooManyRecords h) (on-goes [] ws h′ (record { address = refl; count = refl })) (on-condition tooManyRecords h))))
+
+    on-get : (c x : ℕ) → Onward (doGetField c x h)
+    unfolding doGetField
+    on-get c x = on-pop (t .operands) _ (λ v vs. on-reference v _ (λ d r.
+        on-demand (eqb d c) badRecord _ (on-made c r h _ (λ n q. on-given (getElem? (q .fields) x) badType _ (λ w. on-goes [] (w ∷ vs) h found)))))
+
+    on-put : (c x : ℕ) → Onward (doPutField c x h)
+    unfolding doPutField
+    on-put c x = on-pop (t .operands) _ (λ w vs. on-pop vs _ (λ v us. on-reference v _ (λ d r.
+        on-demand (eqb d c) badRecord _ (on-made c r h _ (λ n q. on-given (getElem? (q .fields) x) badType _ (λ u.
+        let h′ = withRecords (fieldPut n x w q rs) h in
+        on-demand (fits (tyOf w) (tyOf u)) badType (goesOn [] us h′) (on-goes [] us h′ (record { address = refl; count = refl }))))))))
+
+    on-set : Onward (doSet h)
+    unfolding doSet
+    on-set = on-pop (t .operands) _ (λ w vs. on-pop vs _ (λ v us. on-integer v _ (λ x. on-integer w _ (λ y.
+        let is = event (set (size x) (size y)) ∷ [] in
+        on-if (between 1 512 x && between 0 255 y) (goesOn is us h) (condition outOfRange h) (on-goes is us h found) (on-condition outOfRange h)))))
+
+    on-fader : Onward (doFader bank h)
+    unfolding doFader
+    on-fader = on-pop (t .operands) _ (λ v vs. on-integer v _ (λ x.
+        let is = reading (size x) (bank (size x)) ∷ [] in let ws = int (pos (bank (size x))) ∷ vs in
+        on-if (between 1 64 x) (goesOn is ws h) (condition outOfRange h) (on-goes is ws h found) (on-condition outOfRange h)))
+
+    on-hold : (g : ℕ) → Onward (doTakeHold g h)
+    unfolding doTakeHold
+    on-hold g =
+        let s : Stepped = moved (event (hold g) ∷ []) (running rs (withHolds (g ∷ t .holds) t) fs) in
+        let q : Onward s = record { next = (refl, refl) } in
+        on-demand (ltb (length (t .holds)) 16) badFrame s q
+
+    on-assert : Onward (doAssert h)
+    unfolding doAssert
+    on-assert = on-pop (t .operands) _ (λ v vs. on-logical v _ (λ b. on-if b (goesOn [] vs h) (condition assertFalse h) (on-goes [] vs h found) (on-condition assertFalse h)))
+
+    on-end : Onward (doEnd h)
+    unfolding doEnd
+    on-end =
+        let e : Onward (moved [] (ended 0)) = record { next = tt } in
+        on-demand (eqb (t .body) 0) noStep _ (on-demand (isEmpty (t .operands)) badType _ (on-demand (isEmpty fs) badFrame _ (on-demand (isEmpty (t .holds)) groupHeld (moved [] (ended 0)) e)))
+
+    pub onward : (x : Instr) → Plain x → Onward (act m bank x h)
+    unfolding act doLoad
+    onward end p = on-end
+    onward (push v) p = on-push v
+    onward (load o x) p = on-given (getElem? (cellsFor o h) x) badFrame (λ c. pushCell c (t .operands) h) (λ c. on-cell c (t .operands) h found)
+    onward (store o x) p = on-store o x
+    onward (operate o) p = on-operate o
+    onward (go i) p = absurd p
+    onward (goUnless i) p = absurd p
+    onward (call k) p = absurd p
+    onward return p = absurd p
+    onward (make c) p = on-make c
+    onward (getField c x) p = on-get c x
+    onward (putField c x) p = on-put c x
+    onward setLevel p = on-set
+    onward readFader p = on-fader
+    onward (takeHold g) p = on-hold g
+    onward letHold p = on-letting (t .holds) rs
+    onward assert p = on-assert
+    onward stop p = on-condition caseIndex h
+
+-- ── a jump stays in its activation, and a return goes on in one ──
+abbrev pub Within : ℕ → Stepped → Type 0
+Within n (moved is (running rs u us)) = length us ≡ n
+Within n (moved is (unwinding gs a)) = ⊥
+Within n (moved is (ended c)) = ⊥
+Within n (stuck why) = Unit {0}
+
+abbrev pub Ran : Stepped → Type 0
+Ran (moved is (running rs u us)) = Unit {0}
+Ran (moved is (unwinding gs a)) = ⊥
+Ran (moved is (ended c)) = ⊥
+Ran (stuck why) = Unit {0}
+
+pub record Stays (s : Stepped) : Type 0 where
+  pub ran : Ran s
+
+module _ (m : Macro) (bank : ℕ → ℕ) (rs : List Made) (t : Activation) (fs : List Activation) where
+  pub jumps : (i : ℕ) → Within (length fs) (act m bank (go i) (here rs t fs))
+  unfolding act
+  jumps i = refl
+
+  pub jumps-unless : (i : ℕ) → Within (length fs) (act m bank (goUnless i) (here rs t fs))
+  unfolding act doGoUnless
+  jumps-unless i = go-pop (t .operands)
+    where
+      go-pop : (vs : List Value) → Within (length fs) (pop vs (λ v us. onLogical v (λ b. moved [] (running rs (record { body = t .body; address = if b then suc (t .address) else i; cells = t .cells; operands = us; holds = t .holds }) fs))))
+      go-pop [] = tt
+      go-pop (int z ∷ vs) = tt
+      go-pop (log b ∷ vs) = refl
+      go-pop (bit n ∷ vs) = tt
+      go-pop (ref c r ∷ vs) = tt
+
+  pub returns : Stays (act m bank return (here rs t fs))
+  unfolding act doReturn
+  returns = by-given (notRoot m (t .body)) noStep _ (λ b. by-demand (sames (tysOf (t .operands)) (b .results)) badType _ (by-demand (isEmpty (t .holds)) groupHeld _ (by-hand (t .operands) fs)))
+    where
+      by-demand : (b : Bool) (why : Stuck) (s : Stepped) → Stays s → Stays (demand b why s)
+      by-demand true why s p = p
+      by-demand false why s p = record { ran = tt }
+
+      by-given : {A : Type 0} (o : Option A) (why : Stuck) (g : A → Stepped) → ((x : A) → Stays (g x)) → Stays (given o why g)
+      by-given none why g p = record { ran = tt }
+      by-given (some x) why g p = p x
+
+      by-hand : (vs : List Value) (gs : List Activation) → Stays (handDown vs rs gs)
+      by-hand vs [] = record { ran = tt }
+      by-hand vs (f ∷ gs) =
+          let s : Stepped = moved [] (running rs (at (suc (f .address)) (vs ++ f .operands) f) gs) in
+          by-demand (leb (length (vs ++ f .operands)) 32) badFrame s (record { ran = tt })
