@@ -8,6 +8,7 @@ use crate::answer::{Answer, Refusal};
 use crate::code::Macro;
 use crate::lent::Lent;
 use crate::machine::{self, State};
+use crate::plain_machine::{BESIDE_BYTES, IN_BYTES, IN_LOCALS};
 use crate::state::{self, encode};
 use crate::{desk, plain_machine};
 
@@ -77,8 +78,9 @@ impl Call<'_> {
     fn ran(&self) {
         let Call { code, readings, allowance, .. } = *self;
         self.by_desk("cue_run", |code, state, readings| desk::run(code, state, readings, allowance));
-        self.by_plain("the plain run", |state| plain_machine::run::<false>(code, state, readings, allowance));
-        self.by_plain("the plain run in locals", |state| plain_machine::run::<true>(code, state, readings, allowance));
+        self.by_plain("the plain run", |state| plain_machine::run::<IN_BYTES>(code, state, readings, allowance));
+        self.by_plain("the plain run beside bytes", |state| plain_machine::run::<BESIDE_BYTES>(code, state, readings, allowance));
+        self.by_plain("the plain run in locals", |state| plain_machine::run::<IN_LOCALS>(code, state, readings, allowance));
     }
 }
 

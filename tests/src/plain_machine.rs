@@ -24,9 +24,13 @@ pub fn start(code: &[u8], state: &mut [u8]) -> u64 {
     1
 }
 
-/// With LOCALS the place of the top activation, its address, its depth and its top operand are kept in locals between steps; without,
-/// each step reads them from the bytes and writes them back.
-pub fn run<const LOCALS: bool>(code: &[u8], state: &mut [u8], readings: &[u8], allowance: u16) -> u64 {
+/// What is kept of the top activation between steps: nothing, so that each step reads it from the bytes and writes it back; its place, address and
+/// depth beside the bytes, which are written at each step; or these and the top operand instead of the bytes.
+pub const IN_BYTES: u8 = 0;
+pub const BESIDE_BYTES: u8 = 1;
+pub const IN_LOCALS: u8 = 2;
+
+pub fn run<const KEPT: u8>(code: &[u8], state: &mut [u8], readings: &[u8], allowance: u16) -> u64 {
     let r = match records(code) {
         Ok(r) => r,
         Err(i) => return refused(8, i),
@@ -45,7 +49,7 @@ pub fn run<const LOCALS: bool>(code: &[u8], state: &mut [u8], readings: &[u8], a
         Err(_) => return refused(11, 0),
     };
     s.clear_unused(code, &r);
-    Machine::<LOCALS> { code, r: &r, s, readings }.run(allowance).packed()
+    Machine::<KEPT> { code, r: &r, s, readings }.run(allowance).packed()
 }
 
 /// What a step of a running state gives.
@@ -56,7 +60,7 @@ enum Out {
     Condition(u8),
 }
 
-/// The top activation: its place, its operands, its address; with LOCALS also its top operand, whose bytes are 0 meanwhile.
+/// The top activation: its place, its operands, its address; if kept in locals also its top operand, whose bytes are 0 meanwhile.
 #[derive(Clone, Copy)]
 struct Top {
     f: usize,
@@ -66,14 +70,16 @@ struct Top {
     t: u8,
 }
 
-struct Machine<'a, const LOCALS: bool> {
+struct Machine<'a, const KEPT: u8> {
     code: &'a [u8],
     r: &'a Records,
     s: Lent<'a>,
     readings: &'a [u8; 64],
 }
 
-impl<const LOCALS: bool> Machine<'_, LOCALS> {
+impl<const KEPT: u8> Machine<'_, KEPT> {
+    const LOCALS: bool = KEPT == IN_LOCALS;
+
     fn run(&mut self, allowance: u16) -> Answer {
         match self.s.byte(0) {
             0 => self.run_on(allowance),
@@ -87,7 +93,7 @@ impl<const LOCALS: bool> Machine<'_, LOCALS> {
         let mut top = self.fetch();
         while steps < allowance {
             steps += 1;
-            if !LOCALS {
+            if KEPT == IN_BYTES {
                 top = self.fetch();
             }
             match self.step(&mut top) {
@@ -141,7 +147,7 @@ impl<const LOCALS: bool> Machine<'_, LOCALS> {
     fn fetch(&mut self) -> Top {
         let f = FRAMES + FRAME * (self.s.byte(2) - 1);
         let mut top = Top { f, n: self.s.byte(f + 1), i: self.s.half(f + 4), w: 0, t: 0 };
-        if LOCALS {
+        if Self::LOCALS {
             self.raise(&mut top);
         }
         top
@@ -149,7 +155,7 @@ impl<const LOCALS: bool> Machine<'_, LOCALS> {
 
     #[inline(always)]
     fn keep(&mut self, top: Top) {
-        if LOCALS {
+        if Self::LOCALS {
             self.lower(top);
             self.s.put_byte(top.f + 1, top.n);
             self.s.put_half(top.f + 4, top.i);
@@ -186,7 +192,7 @@ impl<const LOCALS: bool> Machine<'_, LOCALS> {
 
     #[inline(always)]
     fn push(&mut self, top: &mut Top, w: u32, t: u8) {
-        if LOCALS {
+        if Self::LOCALS {
             self.lower(*top);
             (top.w, top.t) = (w, t);
         } else {
@@ -198,12 +204,12 @@ impl<const LOCALS: bool> Machine<'_, LOCALS> {
 
     #[inline(always)]
     fn top(&self, top: &Top) -> (u32, u8) {
-        if LOCALS { (top.w, top.t) } else { self.operand(top.f, top.n - 1) }
+        if Self::LOCALS { (top.w, top.t) } else { self.operand(top.f, top.n - 1) }
     }
 
     #[inline(always)]
     fn set_top(&mut self, top: &mut Top, w: u32, t: u8) {
-        if LOCALS {
+        if Self::LOCALS {
             (top.w, top.t) = (w, t);
         } else {
             self.put_operand(top.f, top.n - 1, w, t);
@@ -214,7 +220,7 @@ impl<const LOCALS: bool> Machine<'_, LOCALS> {
     fn pop(&mut self, top: &mut Top) -> (u32, u8) {
         let value = self.top(top);
         top.n -= 1;
-        if LOCALS {
+        if Self::LOCALS {
             self.raise(top);
         } else {
             self.put_operand(top.f, top.n, 0, 0);
@@ -226,7 +232,7 @@ impl<const LOCALS: bool> Machine<'_, LOCALS> {
     #[inline(always)]
     fn go(&mut self, top: &mut Top, i: usize) -> Out {
         top.i = i;
-        if !LOCALS {
+        if !Self::LOCALS {
             self.s.put_half(top.f + 4, i);
         }
         Out::Goes
@@ -411,7 +417,7 @@ impl<const LOCALS: bool> Machine<'_, LOCALS> {
 
     /// A record of class a from the operands; the word of its reference.
     fn make(&mut self, top: &mut Top, a: u8) -> u32 {
-        if LOCALS {
+        if Self::LOCALS {
             self.lower(*top);
         }
         let made = self.s.half(4);
@@ -426,7 +432,7 @@ impl<const LOCALS: bool> Machine<'_, LOCALS> {
             self.s.put_byte(p + 36 + j, t as usize);
         }
         self.s.put_half(4, made + 1);
-        if LOCALS {
+        if Self::LOCALS {
             self.raise(top);
         }
         made as u32 + 1

@@ -168,12 +168,13 @@ mod runs {
     use second::edges::chain;
     use second::paper::{body, code, shape};
     use second::state::LENGTH;
+    use second::plain_machine::{BESIDE_BYTES, IN_BYTES, IN_LOCALS};
     use second::{desk, plain_loader, plain_machine};
 
     type Run = fn(&[u8], &mut [u8], &[u8], u16) -> u64;
 
-    /// The proved run, the plain one, and the plain one that keeps address, depth and top operand in locals.
-    const RUNS: [Run; 3] = [desk::run, plain_machine::run::<false>, plain_machine::run::<true>];
+    /// The proved run, the plain one, the plain one that keeps place, address and depth beside the bytes, and the one that has also the top operand in locals.
+    const RUNS: [Run; 4] = [desk::run, plain_machine::run::<IN_BYTES>, plain_machine::run::<BESIDE_BYTES>, plain_machine::run::<IN_LOCALS>];
 
     /// Counts to 100 in a cell, again and again.
     fn count() -> Macro {
@@ -238,7 +239,7 @@ mod runs {
     /// What a step takes: a run of many, less the same run with none.
     pub fn steps() {
         println!("machine: ns per step, one run, same bytes");
-        println!("{:>13} {:>10} {:>10} {:>7} {:>10} {:>7}", "loop", "cue_run", "plain", "ratio", "in locals", "ratio");
+        println!("{:>13} {:>10} {:>10} {:>7} {:>10} {:>7} {:>10} {:>7}", "loop", "cue_run", "plain", "ratio", "beside", "ratio", "in locals", "ratio");
         // Of the records 255 are made.
         let loops = [("counting", count(), 65_535), ("calls", call(), 65_535), ("fields", fields(), 65_535), ("records", chain(3), 7 * 255)];
         for (name, m, steps) in loops {
@@ -248,8 +249,12 @@ mod runs {
             let mut none = RUNS.map(|run| timed(run, &code, &state, 0));
             let many = in_turn(many.each_mut().map(|work| work as &mut dyn FnMut() -> u64));
             let none = in_turn(none.each_mut().map(|work| work as &mut dyn FnMut() -> u64));
-            let [proved, plain, locals] = [0, 1, 2].map(|i| (many[i] - none[i]) / steps as f64);
-            println!("{name:>13} {proved:>10.2} {plain:>10.2} {:>7.2} {locals:>10.2} {:>7.2}", proved / plain, proved / locals);
+            let [proved, plain, beside, locals] = [0, 1, 2, 3].map(|i| (many[i] - none[i]) / steps as f64);
+            print!("{name:>13} {proved:>10.2}");
+            for other in [plain, beside, locals] {
+                print!(" {other:>10.2} {:>7.2}", proved / other);
+            }
+            println!();
         }
     }
 
@@ -274,7 +279,7 @@ mod runs {
         // A run of no step leaves the state as it is.
         let (mut one, mut other) = (state.to_vec(), state.to_vec());
         let mut proved = || desk::run(code, &mut one, &[0; 64], 0);
-        let mut plain = || plain_machine::run::<false>(code, &mut other, &[0; 64], 0);
+        let mut plain = || plain_machine::run::<IN_BYTES>(code, &mut other, &[0; 64], 0);
         let mut load = || desk::load(code);
         let mut plain_load = || plain_loader::load(code).1 as u64;
         let [proved, plain, load, plain_load] = in_turn([&mut proved, &mut plain, &mut load, &mut plain_load]);
