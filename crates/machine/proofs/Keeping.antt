@@ -51,6 +51,16 @@ Plain letHold = Unit {0}
 Plain assert = Unit {0}
 Plain stop = Unit {0}
 
+-- ── a claim that holds of every stuck step holds on where a test is made ──
+module _ (P : Stepped → Type 0) (of-stuck : (why : Stuck) → P (stuck why)) where
+  by-demand : (b : Bool) (why : Stuck) (s : Stepped) → P s → P (demand b why s)
+  by-demand true why s p = p
+  by-demand false why s p = of-stuck why
+
+  by-given : {A : Type 0} (o : Option A) (why : Stuck) (g : A → Stepped) → ((x : A) → P (g x)) → P (given o why g)
+  by-given none why g p = of-stuck why
+  by-given (some x) why g p = p x
+
 -- ── an op that goes on to the next address, or leaves off running ──
 module _ (t : Activation) (fs : List Activation) where
   abbrev pub Next : Stepped → Type 0
@@ -71,16 +81,14 @@ module _ (t : Activation) (fs : List Activation) where
     count : length (h .below) ≡ length fs
 
   on-demand : (b : Bool) (why : Stuck) (s : Stepped) → Onward s → Onward (demand b why s)
-  on-demand true why s p = p
-  on-demand false why s p = nowhere
+  on-demand = by-demand Onward (λ why. nowhere)
 
   on-if : (b : Bool) (s r : Stepped) → Onward s → Onward r → Onward (if b then s else r)
   on-if true s r p q = p
   on-if false s r p q = q
 
   on-given : {A : Type 0} (o : Option A) (why : Stuck) (g : A → Stepped) → ((x : A) → Onward (g x)) → Onward (given o why g)
-  on-given none why g p = nowhere
-  on-given (some x) why g p = p x
+  on-given = by-given Onward (λ why. nowhere)
 
   on-pop : (vs : List Value) (g : Value → List Value → Stepped) → ((v : Value) (us : List Value) → Onward (g v us)) → Onward (pop vs g)
   on-pop [] g p = nowhere
@@ -269,18 +277,16 @@ module _ (m : Macro) (bank : ℕ → ℕ) (rs : List Made) (t : Activation) (fs 
 
   pub returns : Stays (act m bank return (here rs t fs))
   unfolding act doReturn
-  returns = by-given (notRoot m (t .body)) noStep _ (λ b. by-demand (sames (tysOf (t .operands)) (b .results)) badType _ (by-demand (isEmpty (t .holds)) groupHeld _ (by-hand (t .operands) fs)))
+  returns = stays-given (notRoot m (t .body)) noStep _ (λ b. stays (sames (tysOf (t .operands)) (b .results)) badType _ (stays (isEmpty (t .holds)) groupHeld _ (by-hand (t .operands) fs)))
     where
-      by-demand : (b : Bool) (why : Stuck) (s : Stepped) → Stays s → Stays (demand b why s)
-      by-demand true why s p = p
-      by-demand false why s p = record { ran = tt }
+      stays : (b : Bool) (why : Stuck) (s : Stepped) → Stays s → Stays (demand b why s)
+      stays = by-demand Stays (λ why. record { ran = tt })
 
-      by-given : {A : Type 0} (o : Option A) (why : Stuck) (g : A → Stepped) → ((x : A) → Stays (g x)) → Stays (given o why g)
-      by-given none why g p = record { ran = tt }
-      by-given (some x) why g p = p x
+      stays-given : {A : Type 0} (o : Option A) (why : Stuck) (g : A → Stepped) → ((x : A) → Stays (g x)) → Stays (given o why g)
+      stays-given = by-given Stays (λ why. record { ran = tt })
 
       by-hand : (vs : List Value) (gs : List Activation) → Stays (handDown vs rs gs)
       by-hand vs [] = record { ran = tt }
       by-hand vs (f ∷ gs) =
           let s : Stepped = moved [] (running rs (at (suc (f .address)) (vs ++ f .operands) f) gs) in
-          by-demand (leb (length (vs ++ f .operands)) 32) badFrame s (record { ran = tt })
+          stays (leb (length (vs ++ f .operands)) 32) badFrame s (record { ran = tt })
