@@ -1,0 +1,155 @@
+-- The bodies of a compiled macro: what is asked of the tree, and that each body's code keeps the loading rules.
+use mathlib.Core.Bool.{Bool, true, false, _&&_}
+use mathlib.Core.Path.{_≡_, refl, ap, ap₂, sym, _∙_, subst}
+use mathlib.Core.List.{List, [], _∷_, _++_, map}
+use mathlib.Core.Option.{Option, none, some}
+use Prim.Native.Nat.{ℕ, zero, suc, _+_, _≤_, _<_}
+use native.Mathlib.Omega.{arith}
+use lib.Dec.{eqb, leb, ltb}
+use lib.ListN.{length, getElem?, drop}
+use Rattle.words.specs.Choice.{if_then_else_}
+use Rattle.values.specs.Types.{Ty, integer, logical, bits, reference, sames}
+use Rattle.values.specs.Values.{Value, initial}
+use Rattle.language.specs.Tree.{Typed, Decl, declare, holding, Stmt, Items, Expr, Global, Tree}
+use Rattle.language.specs.Tree.{Body as TreeBody, proper, function}
+use Rattle.language.specs.Names.{Scope, types, procedureOf, rootOf}
+use Rattle.language.specs.Names.{results as resultsOf}
+use Rattle.language.specs.Limits.{locals, headHolds, headCells, holdsS, holdsItems, holdsE, needS, needItems, needE, cellsS, cellsItems, cellsE}
+use Rattle.bytecode.specs.Macro.{Body, Shape, shape, Macro}
+use Rattle.bytecode.specs.Instructions.{Owner, own, root, Instr, end, push, return, bodyAt}
+use Rattle.bytecode.specs.Rules.{Effect, plain, effect, cellTy, flow, atFirst, sameShape}
+use Rattle.bytecode.specs.Rules.{resultsOf as bodyResults}
+use Rattle.loading.specs.Terms.{Each, Named}
+use Rattle.compile_code.specs.Code.{Code, nil, op, mark, cell, _▸_, At, at, skip, after, cellsIn}
+use Rattle.compile_code.specs.Compile.{Around, inside, outermost, bound, global, held, labels, heldIn, found, codeHead, codeS, codeItems, codeE, tyE, tyIn, Proc}
+use Rattle.compile_code.specs.Encode.{codeRoot, codeProc, codeBody, parameterCells, rootVariables, startOfRoot, aroundBody}
+use Rattle.compile_simulation.specs.Calls.{held-past}
+use Rattle.compile_rules.specs.Flows.{Goes, Seg, Marks, pushes, stores, holds, frees}
+use Rattle.compile_rules.specs.Faultless.{shape-refl}
+use Rattle.compile_rules.specs.Pass.{Celled, okS, okItems, okE, Reaches, passS, passItems, passE, items-need, aims}
+use Rattle.compile_macro.specs.Laid.{Ops}
+use Rattle.compile_macro.specs.Cells.{Cells, Known, of-initial, cellsOkS, cellsOkItems, cellsOkE}
+use Rattle.compile_macro.specs.Shapes.{Heads, Typed!, markS, markItems, markE}
+
+module _ (m : Macro) (gs : List Global) where
+  -- the root's head, by types: as `okHead` of a block, with the root's variables
+  unfoldable pub okRootTy : List Decl → List Around → (List Around → Type 0) → Type 0
+  okRootTy [] Γ P = P Γ
+  okRootTy (declare x ∷ ds) Γ P = ((ts : List Ty) → effect m 0 (push (initial (tyIn gs (x .type)))) ts ≡ plain [] (tyIn gs (x .type) ∷ []))
+      × ((c : ℕ) → cellTy m 0 own c ≡ some (tyIn gs (x .type)) → okRootTy ds (global own (x .name) c ∷ Γ) P)
+  okRootTy (holding g ∷ ds) Γ P = okRootTy ds (held g ∷ Γ) P
+
+  -- what holds at the end of the root's head, for its code
+  root-cells : (ds : List Decl) (Γ : List Around) (p : At) (P : List Around → Type 0) (f : List Around → At → Code) → ((Δ : List Around) (q : At) → P Δ → Celled m 0 gs (f Δ q) q → Cells (Known m 0 gs) (f Δ q))
+      → okRootTy ds Γ P → Celled m 0 gs (codeHead gs (global own) ds Γ p f) p → Cells (Known m 0 gs) (codeHead gs (global own) ds Γ p f)
+  unfolding okRootTy codeHead Cells Celled after
+  root-cells [] Γ p P f g o c = g Γ p o c
+  root-cells (declare x ∷ ds) Γ p P f g o c = (of-initial m 0 gs (tyIn gs (x .type)) (o .0 []), (tt, (tt, root-cells ds (global own (x .name) (p .cell) ∷ Γ) (at (suc (suc (p .address))) (suc (p .cell))) P f g (o .1 (p .cell) (c .0)) (c .1 .1 .1))))
+  root-cells (holding x ∷ ds) Γ p P f g o c = (tt, (root-cells ds (held x ∷ Γ) (skip 1 p) P f g o (c .1 .0), tt))
+
+  root-marks : (H : Heads m) (ds : List Decl) (Γ : List Around) (p : At) (P : List Around → Type 0) (f : List Around → At → Code) → ((Δ : List Around) (q : At) → P Δ → Celled m 0 gs (f Δ q) q → Marks m 0 (Typed! m 0 gs H) (f Δ q) q)
+      → okRootTy ds Γ P → Celled m 0 gs (codeHead gs (global own) ds Γ p f) p → Marks m 0 (Typed! m 0 gs H) (codeHead gs (global own) ds Γ p f) p
+  unfolding okRootTy codeHead Marks Celled after
+  root-marks H [] Γ p P f g o c = g Γ p o c
+  root-marks H (declare x ∷ ds) Γ p P f g o c = (tt, (tt, (tt, root-marks H ds (global own (x .name) (p .cell) ∷ Γ) (at (suc (suc (p .address))) (suc (p .cell))) P f g (o .1 (p .cell) (c .0)) (c .1 .1 .1))))
+  root-marks H (holding x ∷ ds) Γ p P f g o c = (tt, (root-marks H ds (held x ∷ Γ) (skip 1 p) P f g o (c .1 .0), tt))
+
+  passRoot : (Aim : ℕ → Shape → Type 0) (ds : List Decl) (Γ : List Around) (p : At) (P : List Around → Type 0) (f : List Around → At → Code) (n : ℕ)
+      → ((Δ : List Around) (q : At) → P Δ → Reaches m 0 gs Aim Δ [] → length (heldIn Δ) + n ≤ 16 → Celled m 0 gs (f Δ q) q → Marks m 0 Aim (f Δ q) q → Seg m 0 Aim (f Δ q) (some (found Δ [])) (some (found Δ [])))
+      → okRootTy ds Γ P → Reaches m 0 gs Aim Γ [] → length (heldIn Γ) + (headHolds ds + n) ≤ 16 → Celled m 0 gs (codeHead gs (global own) ds Γ p f) p → Marks m 0 Aim (codeHead gs (global own) ds Γ p f) p
+      → Seg m 0 Aim (codeHead gs (global own) ds Γ p f) (some (found Γ [])) (some (found Γ []))
+  unfolding okRootTy codeHead headHolds Celled Marks after heldIn Reaches Seg
+  passRoot Aim [] Γ p P f n i o r l c g = i Γ p o r (omega arith) c g
+  passRoot Aim (declare x ∷ ds) Γ p P f n i o r l c g =
+      let t = tyIn gs (x .type) in let h = length (heldIn Γ) in
+      (some (shape h []), refl, (some (shape h (t ∷ [])), pushes m 0 Aim (push (initial t)) h t [] (o .0 []) (omega arith) (omega arith),
+        (some (shape h []), stores m 0 Aim own (p .cell) h t [] (c .0) (omega arith) (omega arith),
+          passRoot Aim ds (global own (x .name) (p .cell) ∷ Γ) (at (suc (suc (p .address))) (suc (p .cell))) P f n i (o .1 (p .cell) (c .0)) r (omega arith) (c .1 .1 .1) (g .1 .1 .1))))
+  passRoot Aim (holding x ∷ ds) Γ p P f n i o r l c g =
+      (some (found (held x ∷ Γ) []), holds m 0 Aim x (length (heldIn Γ)) [] (omega arith) (omega arith),
+        (some (found (held x ∷ Γ) []), passRoot Aim ds (held x ∷ Γ) (skip 1 p) P f n i o r (omega arith) (c .1 .0) (g .1 .0), frees m 0 Aim (length (heldIn Γ)) []))
+
+-- ── what is asked of the tree, by types and limits ──
+abbrev pub okBodyTy : Macro → ℕ → List Global → TreeBody → List Around → Type 0
+okBodyTy m k gs (proper s) Γ = okS m k gs s Γ
+okBodyTy m k gs (function t e) Γ = okE m k gs e Γ × (tyE gs Γ e ≡ tyIn gs t)
+
+abbrev pub holdsBody : TreeBody → ℕ
+holdsBody (proper s) = holdsS s
+holdsBody (function t e) = holdsE e
+
+abbrev pub needBody : TreeBody → ℕ
+needBody (proper s) = needS s
+needBody (function t e) = needE e
+
+abbrev pub cellsBody : TreeBody → ℕ
+cellsBody (proper s) = cellsS s
+cellsBody (function t e) = cellsE e
+
+module _ (m : Macro) (t : Tree) where
+  abbrev gs : List Global
+  gs = t .head
+
+  -- the root
+  abbrev pub RootOk : Type 0
+  RootOk = okRootTy m (t .head) (locals (t .head)) (startOfRoot t) (λ Δ. (x : ℕ) → okItems m 0 (t .head) (t .items) (labels (t .items) x ∷ Δ))
+
+  module _ (o : RootOk) (c : Celled m 0 (t .head) (codeRoot t) (at 0 0)) where
+    pub root-cells-known : Cells (Known m 0 (t .head)) (codeRoot t)
+    unfolding Celled Cells
+    root-cells-known = (root-cells m (t .head) (locals (t .head)) (startOfRoot t) (at 0 0) (λ Δ. (x : ℕ) → okItems m 0 (t .head) (t .items) (labels (t .items) x ∷ Δ)) (λ Δ q. codeItems (t .head) (t .items) (labels (t .items) (q .address) ∷ Δ) [] q)
+        (λ Δ q o' c'. cellsOkItems m 0 (t .head) (t .items) (labels (t .items) (q .address) ∷ Δ) [] q (o' (q .address)) c') o (c .0), tt)
+
+    pub root-marks-known : (H : Heads m) → Marks m 0 (Typed! m 0 (t .head) H) (codeRoot t) (at 0 0)
+    unfolding Celled Marks
+    root-marks-known H = (root-marks m (t .head) H (locals (t .head)) (startOfRoot t) (at 0 0) (λ Δ. (x : ℕ) → okItems m 0 (t .head) (t .items) (labels (t .items) x ∷ Δ)) (λ Δ q. codeItems (t .head) (t .items) (labels (t .items) (q .address) ∷ Δ) [] q)
+        (λ Δ q o' c'. markItems m 0 (t .head) H (t .items) (labels (t .items) (q .address) ∷ Δ) [] q (o' (q .address)) c' tt) o (c .0), tt)
+
+    pub root-flows : headHolds (locals (t .head)) + holdsItems (t .items) ≤ 16 → needItems (t .items) ≤ 32 → (Aim : ℕ → Shape → Type 0) → Marks m 0 Aim (codeRoot t) (at 0 0) → Seg m 0 Aim (codeRoot t) atFirst none
+    unfolding Celled Marks Seg heldIn Reaches effect flow sames
+    root-flows l n Aim g =
+        (some (shape 0 []), passRoot m (t .head) Aim (locals (t .head)) (startOfRoot t) (at 0 0) (λ Δ. (x : ℕ) → okItems m 0 (t .head) (t .items) (labels (t .items) x ∷ Δ)) (λ Δ q. codeItems (t .head) (t .items) (labels (t .items) (q .address) ∷ Δ) [] q) (holdsItems (t .items))
+          (λ Δ q o' r l' c' g'. passItems m 0 (t .head) Aim (t .items) (labels (t .items) (q .address) ∷ Δ) [] q (o' (q .address)) (aims m 0 (t .head) Aim (t .items) Δ [] q g', r) l' (omega arith) c' g') o tt (omega arith) (c .0) (g .0),
+          (shape 0 [], refl, refl))
+
+  -- a procedure
+  reaches-params : (k : ℕ) (Aim : ℕ → Shape → Type 0) (xs : List Typed) (n : ℕ) (ys : List Typed) (Γ : List Around) (ts : List Ty) → Reaches m k (t .head) Aim (parameterCells xs n (inside (procedureOf ys) ∷ Γ)) ts
+  unfolding parameterCells Reaches
+  reaches-params k Aim [] n ys Γ ts = tt
+  reaches-params k Aim (x ∷ xs) n ys Γ ts = reaches-params k Aim xs (suc n) ys Γ ts
+
+  module _ (k : ℕ) (q : Proc) (a : ℕ) (o : okBodyTy m (suc k) (t .head) (q .body) (aroundBody t (q .parameters))) (c : Celled m (suc k) (t .head) (codeProc t q a) (at a (length (q .parameters)))) where
+    pub proc-cells-known : Cells (Known m (suc k) (t .head)) (codeProc t q a)
+    unfolding Celled Cells
+    proc-cells-known = (go (q .body) o (c .0), tt)
+      where
+        go : (b : TreeBody) → okBodyTy m (suc k) (t .head) b (aroundBody t (q .parameters)) → Celled m (suc k) (t .head) (codeBody (t .head) b (aroundBody t (q .parameters)) (at a (length (q .parameters)))) (at a (length (q .parameters))) → Cells (Known m (suc k) (t .head)) (codeBody (t .head) b (aroundBody t (q .parameters)) (at a (length (q .parameters))))
+        go (proper s) o c = cellsOkS m (suc k) (t .head) s (aroundBody t (q .parameters)) [] (at a (length (q .parameters))) o c
+        go (function u e) o c = cellsOkE m (suc k) (t .head) e (aroundBody t (q .parameters)) [] (at a (length (q .parameters))) (o .0) c
+
+    pub proc-marks-known : (H : Heads m) → Marks m (suc k) (Typed! m (suc k) (t .head) H) (codeProc t q a) (at a (length (q .parameters)))
+    unfolding Celled Marks
+    proc-marks-known H = (go (q .body) o (c .0), tt)
+      where
+        go : (b : TreeBody) → okBodyTy m (suc k) (t .head) b (aroundBody t (q .parameters)) → Celled m (suc k) (t .head) (codeBody (t .head) b (aroundBody t (q .parameters)) (at a (length (q .parameters)))) (at a (length (q .parameters))) → Marks m (suc k) (Typed! m (suc k) (t .head) H) (codeBody (t .head) b (aroundBody t (q .parameters)) (at a (length (q .parameters)))) (at a (length (q .parameters)))
+        go (proper s) o c = markS m (suc k) (t .head) H s (aroundBody t (q .parameters)) [] (at a (length (q .parameters))) o c tt
+        go (function u e) o c = markE m (suc k) (t .head) H e (aroundBody t (q .parameters)) [] (at a (length (q .parameters))) (o .0) c tt .0
+
+    pub proc-flows : heldIn (aroundBody t (q .parameters)) ≡ [] → bodyResults (bodyAt m (suc k)) ≡ map (tyIn (t .head)) (resultsOf (q .body)) → holdsBody (q .body) ≤ 16 → needBody (q .body) ≤ 32
+        → (Aim : ℕ → Shape → Type 0) → Marks m (suc k) Aim (codeProc t q a) (at a (length (q .parameters))) → Seg m (suc k) Aim (codeProc t q a) atFirst none
+    unfolding Celled Marks Seg effect flow
+    proc-flows z e l n Aim g = go (q .body) o (c .0) e l n (g .0)
+      where
+        empty : length (heldIn (aroundBody t (q .parameters))) ≡ 0
+        empty = ap length z
+        go : (b : TreeBody) → okBodyTy m (suc k) (t .head) b (aroundBody t (q .parameters)) → Celled m (suc k) (t .head) (codeBody (t .head) b (aroundBody t (q .parameters)) (at a (length (q .parameters)))) (at a (length (q .parameters)))
+            → bodyResults (bodyAt m (suc k)) ≡ map (tyIn (t .head)) (resultsOf b) → holdsBody b ≤ 16 → needBody b ≤ 32 → Marks m (suc k) Aim (codeBody (t .head) b (aroundBody t (q .parameters)) (at a (length (q .parameters)))) (at a (length (q .parameters)))
+            → (h : Option Shape) × Seg m (suc k) Aim (codeBody (t .head) b (aroundBody t (q .parameters)) (at a (length (q .parameters)))) atFirst h × ((s : Shape) × (h ≡ some s) × Goes Aim (flow (effect m (suc k) return (s .operands)) s) none)
+        go (proper s) o c e l n g =
+            let w = passS m (suc k) (t .head) Aim s (aroundBody t (q .parameters)) [] (at a (length (q .parameters))) o (reaches-params (suc k) Aim (q .parameters) 0 (q .parameters) (rootVariables (locals (t .head)) 0 (startOfRoot t)) []) (omega (arith, empty)) (omega arith) c g in
+            (some (shape 0 []), subst (λ i. Seg m (suc k) Aim (codeS (t .head) s (aroundBody t (q .parameters)) [] (at a (length (q .parameters)))) (some (shape i [])) (some (shape i []))) empty w, (shape 0 [], refl, rw (e, shape-refl (shape 0 [])) refl))
+        go (function u x) o c e l n g =
+            let w = passE m (suc k) (t .head) Aim x (aroundBody t (q .parameters)) [] (at a (length (q .parameters))) (o .0) (omega (arith, empty)) (omega arith) c g in
+            (some (shape 0 (tyIn (t .head) u ∷ [])), subst (λ ty. Seg m (suc k) Aim (codeE (t .head) x (aroundBody t (q .parameters)) [] (at a (length (q .parameters)))) (some (shape 0 [])) (some (shape 0 (ty ∷ [])))) (o .1)
+                (subst (λ i. Seg m (suc k) Aim (codeE (t .head) x (aroundBody t (q .parameters)) [] (at a (length (q .parameters)))) (some (shape i [])) (some (shape i (tyE (t .head) (aroundBody t (q .parameters)) x ∷ [])))) empty w),
+              (shape 0 (tyIn (t .head) u ∷ []), refl, rw (e, shape-refl (shape 0 (tyIn (t .head) u ∷ []))) refl))

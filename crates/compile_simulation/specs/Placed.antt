@@ -1,0 +1,198 @@
+-- What the simulation speaks of: an activation at work, code that stands, where control arrives, where gotos land.
+use mathlib.Core.Bool.{Bool, true, false}
+use mathlib.Core.Path.{_≡_, refl, ap, ap₂, sym, _∙_, subst, subst₂}
+use mathlib.Core.List.{List, [], _∷_, _++_, map, reverse}
+use mathlib.Core.Option.{Option, none, some}
+use Prim.Native.Nat.{ℕ, zero, suc, _+_, _≤_, _<_}
+use native.Mathlib.Omega.{arith}
+use lib.Dec.{eqb}
+use lib.ListN.{length, getElem?}
+use lib.ListN.{set as put}
+use Rattle.words.specs.Choice.{if_then_else_}
+use Rattle.values.specs.Values.{Value, Cell}
+use Rattle.values.specs.Trace.{release, event}
+use Rattle.language.specs.Tree.{Global, Items}
+use Rattle.language.specs.Names.{Scope, inBlock, inExpression, inProcedure}
+use Rattle.language.specs.Execute.{Store, Result, done, jump, next, Place, say, withBlocks, innerBlocks, releaseAll}
+use Rattle.bytecode.specs.Macro.{shapeIn}
+use Rattle.bytecode.specs.Instructions.{Owner, own, root, go, letHold}
+use Rattle.bytecode.specs.Machine.{Activation, allHolds, fetch, step, act, letting}
+use Rattle.compile_code.specs.Code.{Code, nil, op, mark, cell, _▸_, At, at, skip, after}
+use Rattle.compile_code.specs.Compile.{Around, inside, outermost, bound, global, held, labels, heldIn, scopesOf, passing, theLabels, hasLabel, labelAt, codeGoto, kept, boundAt, globalAt, orCell}
+use Rattle.compile_code.specs.Compile.{Cell as Kept, cellOf as keptOf}
+use Rattle.compile_simulation.specs.Meets.{Conf, live, dead, stepped, Setting, Reach, Meets, crash, ends, here, prior, binds, onward}
+use Rattle.compile_simulation.specs.Meets.{go as goConf}
+use Rattle.compile_simulation.specs.View.{Data, written, ownPut, rootPut, seen, seenV, blocksOf, rootsOf, inFirst, cellAt, Apart, Distinct, Below, below-apart, below-more}
+use Rattle.compile_simulation.specs.Ops.{Owners, conf, says}
+
+-- an activation at work: its body, those below it, and what is kept of the cells while it works
+pub record Work : Type 1 where
+  pub body : ℕ
+  pub below : List Activation
+  pub keeps : List Cell → List Cell → Type 0
+
+-- whose the root's cells are, and which
+abbrev pub ownerOf : List Activation → Owner
+ownerOf [] = own
+ownerOf (f ∷ fs) = root
+
+abbrev pub lowestOf : List Activation → List Cell → List Cell → List Cell
+lowestOf [] cs ls = cs
+lowestOf (f ∷ fs) cs ls = ls
+
+abbrev pub Holds : Work → Data → Type 0
+Holds C D = C .keeps (D .cells) (D .lowest)
+
+-- what lies around a part, with new cells from n on, is in order
+pub record Fit (W : Setting) (gs : List Global) (C : Work) (Γ : List Around) (n : ℕ) : Type 0 where
+  pub distinct : Distinct Γ
+  pub below-n : Below n Γ
+  pub owners : (a c : ℕ) (o : Owner) → keptOf a Γ ≡ some (kept o c) → Owners (C .below) o
+  pub stable : (a c : ℕ) (o : Owner) (x : Cell) (cs ls : List Cell) → keptOf a Γ ≡ some (kept o c) → C .keeps cs ls → C .keeps (ownPut o c x cs) (rootPut o c x ls)
+  pub stable-global : (a c : ℕ) (o : Owner) (x : Cell) (cs ls : List Cell) → globalAt a Γ ≡ some (kept o c) → C .keeps cs ls → C .keeps (ownPut o c x cs) (rootPut o c x ls)
+  pub roots : (cs ls ds : List Cell) → rootsOf gs Γ cs ls ≡ rootsOf gs (W .shared-names) ds (lowestOf (C .below) cs ls)
+  pub shared : (a c : ℕ) (o : Owner) → globalAt a (W .shared-names) ≡ some (kept o c) → (o ≡ root) × (globalAt a Γ ≡ some (kept (ownerOf (C .below)) c))
+  pub fresh : (c : ℕ) (x : Cell) (cs ls : List Cell) → n ≤ c → C .keeps cs ls → C .keeps (put cs c x) ls
+
+pub fit-on : {W : Setting} {gs : List Global} {C : Work} {Γ : List Around} {n k : ℕ} → n ≤ k → Fit W gs C Γ n → Fit W gs C Γ k
+fit-on {Γ = Γ} {n = n} {k = k} e h = record {
+  distinct = h .distinct;
+  below-n = below-more n k Γ e (h .below-n);
+  owners = h .owners;
+  stable = h .stable;
+  stable-global = h .stable-global;
+  roots = h .roots;
+  shared = h .shared;
+  fresh = λ c x cs ls p. h .fresh c x cs ls (omega arith);
+}
+
+pub fit-inside : {W : Setting} {gs : List Global} {C : Work} {Γ : List Around} {n : ℕ} (s : Scope) → Fit W gs C Γ n → Fit W gs C (inside s ∷ Γ) n
+unfolding Distinct Below boundAt globalAt rootsOf
+fit-inside s h = record { distinct = h .distinct; below-n = h .below-n; owners = h .owners; stable = h .stable; stable-global = h .stable-global; roots = h .roots; shared = h .shared; fresh = h .fresh }
+
+pub fit-held : {W : Setting} {gs : List Global} {C : Work} {Γ : List Around} {n : ℕ} (g : ℕ) → Fit W gs C Γ n → Fit W gs C (held g ∷ Γ) n
+unfolding Distinct Below boundAt globalAt rootsOf
+fit-held g h = record { distinct = h .distinct; below-n = h .below-n; owners = h .owners; stable = h .stable; stable-global = h .stable-global; roots = h .roots; shared = h .shared; fresh = h .fresh }
+
+pub fit-labels : {W : Setting} {gs : List Global} {C : Work} {Γ : List Around} {n : ℕ} (is : Items) (x : ℕ) → Fit W gs C Γ n → Fit W gs C (labels is x ∷ Γ) n
+unfolding Distinct Below boundAt globalAt rootsOf
+fit-labels is x h = record { distinct = h .distinct; below-n = h .below-n; owners = h .owners; stable = h .stable; stable-global = h .stable-global; roots = h .roots; shared = h .shared; fresh = h .fresh }
+
+-- a new variable of a block
+bound-cases : (P : Owner → ℕ → Type 0) (b n a c : ℕ) (o : Owner) (Γ : List Around) → keptOf a (bound b n ∷ Γ) ≡ some (kept o c) → P own n → (keptOf a Γ ≡ some (kept o c) → P o c) → P o c
+unfolding boundAt globalAt
+bound-cases P b n a c o Γ h p f = go (eqb b a) h
+  where
+    its : Kept → Type 0
+    its (kept o c) = P o c
+    go : (t : Bool) → orCell (if t then some (kept own n) else boundAt a Γ) (globalAt a Γ) ≡ some (kept o c) → P o c
+    go true e = let z : kept own n ≡ kept o c = cc e in subst its z p
+    go false e = f e
+
+pub fit-bound : {W : Setting} {gs : List Global} {C : Work} {Γ : List Around} {n : ℕ} (b : ℕ) → Fit W gs C Γ n → Fit W gs C (bound b n ∷ Γ) (suc n)
+unfolding Distinct Below globalAt rootsOf
+fit-bound {W} {gs} {C} {Γ} {n} b h = record {
+  distinct = (below-apart n Γ (h .below-n), h .distinct);
+  below-n = (omega arith, below-more n (suc n) Γ (omega arith) (h .below-n));
+  owners = λ a c o e. bound-cases (λ q d. Owners (C .below) q) b n a c o Γ e tt (h .owners a c o);
+  stable = λ a c o x cs ls e k. bound-cases (λ q d. C .keeps (ownPut q d x cs) (rootPut q d x ls)) b n a c o Γ e (h .fresh n x cs ls (omega arith) k) (λ u. h .stable a c o x cs ls u k);
+  stable-global = h .stable-global;
+  roots = h .roots;
+  shared = h .shared;
+  fresh = λ c x cs ls p. h .fresh c x cs ls (omega arith);
+}
+
+abbrev pub landsAt : Bool → Type 0 → Type 0 → Type 0
+landsAt b P Q = if b then P else Q
+
+-- ── code that stands ──
+module _ (W : Setting) where
+  unfoldable pub Stands : ℕ → Code → At → Type 0
+  Stands k nil p = Unit {0}
+  Stands k (op i) p = fetch (W .macro) k (p .address) ≡ some i
+  Stands k (mark s) p = shapeIn (W .macro .shapes) (p .address) ≡ some s
+  Stands k (cell t) p = Unit {0}
+  Stands k (x ▸ y) p = Stands k x p × Stands k y (after x p)
+
+  module _ (gs : List Global) (C : Work) where
+    abbrev pub at-work : ℕ → List Value → List ℕ → Data → Conf
+    at-work a st K D = conf W gs (C .body) (C .below) a st K D
+
+    abbrev pub placeOf : List Around → Place
+    placeOf Γ = record { holds = heldIn Γ ++ allHolds (C .below); activations = suc (length (C .below)) }
+
+    -- ── where control arrives ──
+    abbrev pub Sees : List Around → Store → Data → Type 0
+    Sees Γ σ D = seen gs Γ D ≡ σ
+
+    -- with a block more that is about to be left
+    abbrev pub Within : List Around → Store → Data → Type 0
+    Within Γ σ D = seen gs Γ D ≡ withBlocks (innerBlocks (σ .blocks)) σ
+
+    abbrev pub Nothing : Unit {0} → List Value → Type 0
+    Nothing u vs = vs ≡ []
+
+    abbrev pub One : Value → List Value → Type 0
+    One v vs = (w : Value) × (vs ≡ w ∷ []) × (seenV gs w ≡ v)
+
+    pub record Arrives {A : Type 0} (G : A → List Value → Type 0) (S : Store → Data → Type 0) (K : List ℕ) (b : ℕ) (st : List Value) (v : A) (σ : Store) (y : Conf) : Type 0 where
+      pub top : List Value
+      pub now : Data
+      pub there : y ≡ at-work b (top ++ st) K now
+      pub sees : S σ now
+      pub gave : G v top
+      pub holding : Holds C now
+
+    -- ── where gotos land ──
+    unfoldable pub lands : List Around → List Value → ℕ → Store → Conf → Type 0
+    lands [] st a σ y = ⊥
+    lands (inside (inBlock ds) ∷ Γ) st a σ y = lands Γ st a (withBlocks (innerBlocks (σ .blocks)) σ) y
+    lands (inside (inExpression ds) ∷ Γ) st a σ y = ⊥
+    lands (inside (inProcedure ds) ∷ Γ) st a σ y = ⊥
+    lands (outermost s ∷ Γ) st a σ y = ⊥
+    lands (bound b c ∷ Γ) st a σ y = lands Γ st a σ y
+    lands (global o b c ∷ Γ) st a σ y = lands Γ st a σ y
+    lands (held g ∷ Γ) st a σ y = lands Γ st a (say (release g) σ) y
+    lands (labels is x ∷ Γ) st a σ y =
+        landsAt (hasLabel a is) (Arrives Nothing (Sees Γ) (heldIn Γ) (labelAt is (scopesOf Γ) (theLabels is ∷ passing Γ) x a) st tt σ y) (lands Γ st a σ y)
+
+    abbrev pub nowhere : ℕ → Store → Conf → Type 0
+    nowhere a σ y = ⊥
+
+    -- ── one thing after another ──
+    module _ (Γ : List Around) {n : ℕ} {L : ℕ → Store → Conf → Type 0} {b : ℕ} {st : List Value} where
+      pub bindE : {B : Type 0} {F : B → Store → Conf → Type 0} {x : Conf} {r : Result Value} (f : Value → Store → Result B)
+          → Meets W n nowhere (Arrives One (Sees Γ) (heldIn Γ) b st) x r
+          → ((w : Value) (D : Data) → Holds C D → Meets W n L F (at-work b (w ∷ st) (heldIn Γ) D) (f (seenV gs w) (seen gs Γ D))) → Meets W n L F x (next r f)
+      bindE {F = F} {r = r} f h g = binds r (λ l σ q. absurd (q .there)) h (λ v σ y a.
+          let w = a .gave .0 in
+          let e : at-work b (w ∷ st) (heldIn Γ) (a .now) ≡ y = sym (a .there ∙ ap (λ t. at-work b (t ++ st) (heldIn Γ) (a .now)) (a .gave .1)) in
+          subst (λ z. Meets W n L F z (f v σ)) e (subst₂ (λ p q. Meets W n L F (at-work b (w ∷ st) (heldIn Γ) (a .now)) (f p q)) (a .gave .2) (a .sees) (g w (a .now) (a .holding))))
+
+      pub alsoE : {F : Value → Store → Conf → Type 0} {x : Conf} {r : Result Value}
+          → Meets W n nowhere (Arrives One (Sees Γ) (heldIn Γ) b st) x r
+          → ((w : Value) (D : Data) → Holds C D → Meets W n L F (at-work b (w ∷ st) (heldIn Γ) D) (done (seenV gs w) (seen gs Γ D))) → Meets W n L F x r
+      alsoE {F = F} {r = r} h g = onward r (λ l σ q. absurd (q .there)) h (λ v σ y a.
+          let w = a .gave .0 in
+          let e : at-work b (w ∷ st) (heldIn Γ) (a .now) ≡ y = sym (a .there ∙ ap (λ t. at-work b (t ++ st) (heldIn Γ) (a .now)) (a .gave .1)) in
+          subst (λ z. Meets W n L F z (done v σ)) e (subst₂ (λ p q. Meets W n L F (at-work b (w ∷ st) (heldIn Γ) (a .now)) (done p q)) (a .gave .2) (a .sees) (g w (a .now) (a .holding))))
+
+      pub bindS : {B : Type 0} {F : B → Store → Conf → Type 0} {x : Conf} {r : Result (Unit {0})} (f : Unit {0} → Store → Result B)
+          → Meets W n L (Arrives Nothing (Sees Γ) (heldIn Γ) b st) x r
+          → ((u : Unit {0}) (D : Data) → Holds C D → Meets W n L F (at-work b st (heldIn Γ) D) (f u (seen gs Γ D))) → Meets W n L F x (next r f)
+      bindS {F = F} {r = r} f h g = binds r (λ l σ q. q) h (λ v σ y a.
+          let e : at-work b st (heldIn Γ) (a .now) ≡ y = sym (a .there ∙ ap (λ t. at-work b (t ++ st) (heldIn Γ) (a .now)) (a .gave)) in
+          subst (λ z. Meets W n L F z (f v σ)) e (subst (λ q. Meets W n L F (at-work b st (heldIn Γ) (a .now)) (f v q)) (a .sees) (g v (a .now) (a .holding))))
+
+      pub alsoS : {F : Unit {0} → Store → Conf → Type 0} {x : Conf} {r : Result (Unit {0})}
+          → Meets W n L (Arrives Nothing (Sees Γ) (heldIn Γ) b st) x r
+          → ((u : Unit {0}) (D : Data) → Holds C D → Meets W n L F (at-work b st (heldIn Γ) D) (done u (seen gs Γ D))) → Meets W n L F x r
+      alsoS {F = F} {r = r} h g = onward r (λ l σ q. q) h (λ v σ y a.
+          let e : at-work b st (heldIn Γ) (a .now) ≡ y = sym (a .there ∙ ap (λ t. at-work b (t ++ st) (heldIn Γ) (a .now)) (a .gave)) in
+          subst (λ z. Meets W n L F z (done v σ)) e (subst (λ q. Meets W n L F (at-work b st (heldIn Γ) (a .now)) (done v q)) (a .sees) (g v (a .now) (a .holding))))
+
+      pub given-one : (w : Value) (D : Data) → Holds C D → Meets W n L (Arrives One (Sees Γ) (heldIn Γ) b st) (at-work b (w ∷ st) (heldIn Γ) D) (done (seenV gs w) (seen gs Γ D))
+      given-one w D h = ends (here (record { top = w ∷ []; now = D; there = refl; sees = refl; gave = (w, refl, refl); holding = h }))
+
+      pub arrived : (u : Unit {0}) (D : Data) → Holds C D → Meets W n L (Arrives Nothing (Sees Γ) (heldIn Γ) b st) (at-work b st (heldIn Γ) D) (done u (seen gs Γ D))
+      arrived u D h = ends (here (record { top = []; now = D; there = refl; sees = refl; gave = refl; holding = h }))
