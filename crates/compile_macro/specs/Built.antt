@@ -106,7 +106,7 @@ each-app : {A : Type 0} (P : A → Type 0) (xs ys : List A) → Each P xs → Ea
 each-app P [] ys h g = g
 each-app P (x ∷ xs) ys h g = (h .0, each-app P xs ys (h .1) g)
 
-params-length : (f : Ty → Ty) (xs : List Typed) → length (map f (types xs)) ≡ length xs
+pub params-length : (f : Ty → Ty) (xs : List Typed) → length (map f (types xs)) ≡ length xs
 unfolding types
 params-length f [] = refl
 params-length f (x ∷ xs) = ap suc (params-length f xs)
@@ -173,7 +173,7 @@ module _ (t : Tree) where
   proc-part (q ∷ ps) a zero p h = (q, a, refl, same-some h)
   proc-part (q ∷ ps) a (suc j) p h = proc-part ps (after (codeProc t q a) (at a 0) .address) j p h
 
-  part-proc : (ps : List Proc) (a j : ℕ) (q : Proc) → getElem? ps j ≡ some q → (b : ℕ) × (getElem? (procParts t ps a) j ≡ some (procPart t q b))
+  pub part-proc : (ps : List Proc) (a j : ℕ) (q : Proc) → getElem? ps j ≡ some q → (b : ℕ) × (getElem? (procParts t ps a) j ≡ some (procPart t q b))
   unfolding procParts
   part-proc [] a j q h = never-some h
   part-proc (x ∷ ps) a zero q h = let e : x ≡ q = same-some h in (a, ap (λ y. some (procPart t y a)) e)
@@ -213,7 +213,7 @@ module _ (t : Tree) where
   unfolding compiled
   shapes-are = refl
 
-  head-of : (k : ℕ) (p : Part) → getElem? (parts t) k ≡ some p → bodyAt (compiled t) k ≡ some (p .head)
+  pub head-of : (k : ℕ) (p : Part) → getElem? (parts t) k ≡ some p → bodyAt (compiled t) k ≡ some (p .head)
   head-of k p h = ap (λ (bs : List Body). getElem? bs k) bodies-are ∙ head-at (parts t) k p h
 
   root-there : getElem? (parts t) 0 ≡ some (rootPart t)
@@ -224,7 +224,7 @@ module _ (t : Tree) where
   abbrev startOf : Part → At
   startOf p = at (p .head .first) (p .head .parameters)
 
-  root-celled : Celled (compiled t) 0 (t .head) (codeRoot t) (at 0 0)
+  pub root-celled : Celled (compiled t) 0 (t .head) (codeRoot t) (at 0 0)
   root-celled = celled (compiled t) 0 (t .head) (rootPart t .head) (head-of 0 (rootPart t) root-there) (codeRoot t) (at 0 0) [] refl .0
 
   proc-celled : (j : ℕ) (q : Proc) (b : ℕ) → getElem? (parts t) (suc j) ≡ some (procPart t q b) → Celled (compiled t) (suc j) (t .head) (codeProc t q b) (at b (length (q .parameters)))
