@@ -16,7 +16,7 @@ use Rattle.language.specs.Tree.{Typed, Decl, declare, holding, Global, local, c
 use Rattle.language.specs.Tree.{Body as TreeBody, proper, function}
 use Rattle.language.specs.Names.{types, procedureOf, rootOf, definesTyped}
 use Rattle.language.specs.Names.{results as resultsOf}
-use Rattle.language.specs.Limits.{locals, headHolds, headCells, holdsItems, needItems, cellsItems}
+use Rattle.language.specs.Limits.{Usage, bodyUsage, rootUsage, locals, cellsS, cellsE, cellsItems}
 use Rattle.language.specs.Table.{flatDecl, flatItems, flatBody}
 use Rattle.language.specs.Execute.{Procedure, procedureIn, classIn}
 use Rattle.bytecode.specs.Macro.{Body, Shape, shape, Placed, Macro, shapeIn}
@@ -51,7 +51,7 @@ use Rattle.compile_macro.specs.Shapes.{Heads}
 use Rattle.compile_macro.specs.Narrow.{roomy-marks, IfSome, ShapeLines, shape-lines, both-marks, placed-each, placed-apart, placed-few, flowing, two-ops, narrow-op, narrow-lines, each-more}
 use Rattle.language.specs.Faults.{sizeItems}
 use Rattle.compile_macro.specs.Short.{sizeHeads, short}
-use Rattle.compile_macro.specs.Right.{RootOk, okBodyTy, holdsBody, needBody, cellsBody, root-cells-known, root-marks-known, root-flows, proc-cells-known, proc-marks-known, proc-flows}
+use Rattle.compile_macro.specs.Right.{RootOk, okBodyTy, Keeps, root-cells-known, root-marks-known, root-flows, proc-cells-known, proc-marks-known, proc-flows}
 
 abbrev pub shared : Tree → List Around
 shared t = rootVariables (locals (t .head)) 0 (startOfRoot t)
@@ -62,32 +62,28 @@ settingOf t o = record { macro = compiled t; oracle = o; shared-names = shared t
 abbrev pub classCount : Tree → ℕ
 classCount t = length (compiled t .classes)
 
--- what is asked of the tree: what `passing` and `simulating` ask of its bodies, and the limits
+-- what is asked of a procedure, the k-th, as body suc k
+pub record ProcInOrder (t : Tree) (k : ℕ) (q : Proc) : Type 0 where
+  pub typed : okBodyTy (compiled t) (suc k) (t .head) (q .body) (aroundBody t (q .parameters))
+  pub named : okBody (t .head) (q .body) (aroundBody t (q .parameters))
+  pub static : Static (t .head) (shared t) (q .parameters) (procedureOf (q .parameters))
+  pub parameters-known : Each (Named (classCount t)) (map (tyIn (t .head)) (types (q .parameters)))
+  pub results-known : Each (Named (classCount t)) (map (tyIn (t .head)) (resultsOf (q .body)))
+  pub keeps : Keeps (bodyUsage (q .parameters) (q .body))
+  pub entries : Each Entered (flatBody (q .body))
+
+-- what is asked of the tree: of the root's body and of each procedure's, what the loading rules ask by types, the simulation by names, and the limits
 pub record InOrder (t : Tree) : Type 0 where
-  -- by types
   pub root-typed : RootOk (compiled t) t
-  pub proc-typed : (k : ℕ) (q : Proc) → getElem? (procsOf (t .head)) k ≡ some q → okBodyTy (compiled t) (suc k) (t .head) (q .body) (aroundBody t (q .parameters))
-  pub fields-known : Each (ReadClass (classCount t)) (compiled t .classes)
-  pub parameters-known : (k : ℕ) (q : Proc) → getElem? (procsOf (t .head)) k ≡ some q → Each (Named (classCount t)) (map (tyIn (t .head)) (types (q .parameters)))
-  pub results-known : (k : ℕ) (q : Proc) → getElem? (procsOf (t .head)) k ≡ some q → Each (Named (classCount t)) (map (tyIn (t .head)) (resultsOf (q .body)))
-  -- limits
-  pub few-classes : classCount t ≤ 16
-  pub few-procs : length (procsOf (t .head)) ≤ 63
-  pub root-holds : headHolds (locals (t .head)) + holdsItems (t .items) ≤ 16
-  pub root-need : needItems (t .items) ≤ 32
-  pub root-cells : headCells (locals (t .head)) + cellsItems (t .items) ≤ 32
-  pub proc-holds : (k : ℕ) (q : Proc) → getElem? (procsOf (t .head)) k ≡ some q → holdsBody (q .body) ≤ 16
-  pub proc-need : (k : ℕ) (q : Proc) → getElem? (procsOf (t .head)) k ≡ some q → needBody (q .body) ≤ 32
-  pub proc-cells : (k : ℕ) (q : Proc) → getElem? (procsOf (t .head)) k ≡ some q → length (q .parameters) + cellsBody (q .body) ≤ 32
-  pub entries : sizeHeads (t .head) + sizeItems (t .items) ≤ 2048
-  -- the entries' fields
-  pub root-entries : Each Entered (map flatDecl (locals (t .head))) × Each Entered (flatItems (t .items))
-  pub proc-entries : (k : ℕ) (q : Proc) → getElem? (procsOf (t .head)) k ≡ some q → Each Entered (flatBody (q .body))
-  -- by names
   pub root-named : (o : ℕ → ℕ → ℕ) → okRoot (t .head) (locals (t .head)) (startOfRoot t) 0
       (λ Δ n. Fit (settingOf t o) (t .head) (atRoot (settingOf t o) (t .head)) Δ n × ((x : ℕ) → okNames (t .head) (t .items) (labels (t .items) x ∷ Δ)))
-  pub proc-named : (k : ℕ) (q : Proc) → getElem? (procsOf (t .head)) k ≡ some q → okBody (t .head) (q .body) (inside-proc (q .parameters) (procedureOf (q .parameters)) (shared t))
-  pub proc-static : (k : ℕ) (q : Proc) → getElem? (procsOf (t .head)) k ≡ some q → Static (t .head) (shared t) (q .parameters) (procedureOf (q .parameters))
+  pub root-keeps : Keeps (rootUsage t)
+  pub root-entries : Each Entered (map flatDecl (locals (t .head))) × Each Entered (flatItems (t .items))
+  pub procs : (k : ℕ) (q : Proc) → getElem? (procsOf (t .head)) k ≡ some q → ProcInOrder t k q
+  pub fields-known : Each (ReadClass (classCount t)) (compiled t .classes)
+  pub few-classes : classCount t ≤ 16
+  pub few-procs : length (procsOf (t .head)) ≤ 63
+  pub entries : sizeHeads (t .head) + sizeItems (t .items) ≤ 2048
 
 -- ── lists ──
 each-from : {A : Type 0} (P : A → Type 0) (xs : List A) → ((k : ℕ) (x : A) → getElem? xs k ≡ some x → P x) → Each P xs
@@ -240,11 +236,11 @@ module _ (t : Tree) where
     cells-known : (k : ℕ) (p : Part) → getElem? (parts t) k ≡ some p → Each N (p .head .cells)
     cells-known = by-part (λ k p. Each N (p .head .cells))
         (each-cell N (codeRoot t) [] (root-cells-known (compiled t) t (O .root-typed) root-celled) tt)
-        (λ j q b h g. each-app N (map (tyIn (t .head)) (types (q .parameters))) (cellsIn (codeProc t q b) []) (O .parameters-known j q h)
-          (each-cell N (codeProc t q b) [] (proc-cells-known (compiled t) t j q b (O .proc-typed j q h) (proc-celled j q b g)) tt))
+        (λ j q b h g. each-app N (map (tyIn (t .head)) (types (q .parameters))) (cellsIn (codeProc t q b) []) (O .procs j q h .parameters-known)
+          (each-cell N (codeProc t q b) [] (proc-cells-known (compiled t) t j q b (O .procs j q h .typed) (proc-celled j q b g)) tt))
 
     results-are : (k : ℕ) (p : Part) → getElem? (parts t) k ≡ some p → Each N (p .head .results) × (length (p .head .results) ≤ 1)
-    results-are = by-part (λ k p. Each N (p .head .results) × (length (p .head .results) ≤ 1)) (tt, omega arith) (λ j q b h g. (O .results-known j q h, one (q .body)))
+    results-are = by-part (λ k p. Each N (p .head .results) × (length (p .head .results) ≤ 1)) (tt, omega arith) (λ j q b h g. (O .procs j q h .results-known, one (q .body)))
       where
         one : (x : TreeBody) → length (map (tyIn (t .head)) (resultsOf x)) ≤ 1
         one (proper s) = omega arith
@@ -254,13 +250,13 @@ module _ (t : Tree) where
     unfolding newCells
     few-cells = by-part (λ k p. length (p .head .cells) ≤ 32)
         (let z = cells-length (codeRoot t) [] in let y = count-head (t .head) (global own) (locals (t .head)) (startOfRoot t) (at 0 0) (λ Δ q. codeItems (t .head) (t .items) (labels (t .items) (q .address) ∷ Δ) [] q) (cellsItems (t .items)) (λ Δ q. countItems (t .head) (t .items) (labels (t .items) (q .address) ∷ Δ) [] q) in
-          let x = O .root-cells in omega arith)
-        (λ j q b h g. let z = cells-length (codeProc t q b) [] in let y = body-count (q .body) (aroundBody t (q .parameters)) (at b (length (q .parameters))) in let x = O .proc-cells j q h in
+          let x = O .root-keeps .0 in omega arith)
+        (λ j q b h g. let z = cells-length (codeProc t q b) [] in let y = body-count (q .body) (q .parameters) (at b (length (q .parameters))) in let x = O .procs j q h .keeps .0 in
           let v = params-length (tyIn (t .head)) (q .parameters) in let u = len-app (map (tyIn (t .head)) (types (q .parameters))) (cellsIn (codeProc t q b) []) in omega arith)
       where
-        body-count : (x : TreeBody) (Γ : List Around) (p : At) → newCells (codeBody (t .head) x Γ p) ≡ cellsBody x
-        body-count (proper s) Γ p = countS (t .head) s Γ [] p
-        body-count (function u e) Γ p = countE (t .head) e Γ [] p
+        body-count : (x : TreeBody) (xs : List Typed) (p : At) → length xs + newCells (codeBody (t .head) x (aroundBody t xs) p) ≡ bodyUsage xs x .cells
+        body-count (proper s) xs p = let z = countS (t .head) s (aroundBody t xs) [] p in omega arith
+        body-count (function u e) xs p = let z = countE (t .head) e (aroundBody t xs) [] p in omega arith
 
     known-part : (k : ℕ) (b : Body) → bodyAt (compiled t) k ≡ some b → (p : Part) × (getElem? (parts t) k ≡ some p) × (p .head ≡ b)
     known-part k b h = part-of (parts t) k b (ap (λ (bs : List Body). getElem? bs k) (sym bodies-are) ∙ h)
@@ -290,7 +286,7 @@ module _ (t : Tree) where
     unfolding Ops flatBody
     holdable = by-part (λ k p. Ops Holdable (p .code))
         (of-head (t .head) (global own) (locals (t .head)) (startOfRoot t) (at 0 0) (λ Δ q. codeItems (t .head) (t .items) (labels (t .items) (q .address) ∷ Δ) [] q) (O .root-entries .0) (λ Δ q. fieldsItems (t .head) (t .items) (labels (t .items) (q .address) ∷ Δ) [] q (O .root-entries .1)), tt)
-        (λ j q b h g. (in-body (q .body) (aroundBody t (q .parameters)) (at b (length (q .parameters))) (O .proc-entries j q h), tt))
+        (λ j q b h g. (in-body (q .body) (aroundBody t (q .parameters)) (at b (length (q .parameters))) (O .procs j q h .entries), tt))
       where
         in-body : (x : TreeBody) (Γ : List Around) (p : At) → Each Entered (flatBody x) → Ops Holdable (codeBody (t .head) x Γ p)
         in-body (proper s) Γ p h = fieldsS (t .head) s Γ [] p h
@@ -302,13 +298,13 @@ module _ (t : Tree) where
 
     flows : (k : ℕ) (p : Part) → getElem? (parts t) k ≡ some p → (Aim : ℕ → Shape → Type 0) → Marks (compiled t) k Aim (p .code) (startOf p) → Seg (compiled t) k Aim (p .code) atFirst none
     flows k p e Aim = by-part (λ k p. Marks (compiled t) k Aim (p .code) (startOf p) → Seg (compiled t) k Aim (p .code) atFirst none)
-        (λ g. root-flows (compiled t) t (O .root-typed) root-celled (O .root-holds) (O .root-need) Aim g)
-        (λ j q b h g w. proc-flows (compiled t) t j q b (O .proc-typed j q h) (proc-celled j q b g) (proc-held q) (rw (head-of (suc j) (procPart t q b) g) refl) (O .proc-holds j q h) (O .proc-need j q h) Aim w) k p e
+        (λ g. root-flows (compiled t) t (O .root-typed) root-celled (O .root-keeps) Aim g)
+        (λ j q b h g w. proc-flows (compiled t) t j q b (O .procs j q h .typed) (proc-celled j q b g) (proc-held q) (rw (head-of (suc j) (procPart t q b) g) refl) (O .procs j q h .keeps) Aim w) k p e
 
     marks-known : (k : ℕ) (p : Part) → getElem? (parts t) k ≡ some p → Marks (compiled t) k (λ a s. Each N (s .operands)) (p .code) (startOf p)
     marks-known = by-part (λ k p. Marks (compiled t) k (λ a s. Each N (s .operands)) (p .code) (startOf p))
         (root-marks-known (compiled t) t (O .root-typed) root-celled heads)
-        (λ j q b h g. proc-marks-known (compiled t) t j q b (O .proc-typed j q h) (proc-celled j q b g) heads)
+        (λ j q b h g. proc-marks-known (compiled t) t j q b (O .procs j q h .typed) (proc-celled j q b g) heads)
 
     -- ── the macro is well-formed, and no head is at fault ──
     code-size : length (compiled t .code) ≡ total (parts t)
@@ -402,7 +398,7 @@ module _ (t : Tree) where
         passes (compiled t) k (p .code) (startOf p) (flows k p h) (lined k p h) (begins-empty (compiled t) (parts t) bodies-are code-is shapes-are well-formed heads-right chain k p h))
 
     is-short : total (parts t) < 65536
-    is-short = short t (O .root-holds) (O .proc-holds) (O .few-procs) (O .entries)
+    is-short = short t (O .root-keeps .1) (λ k q h. O .procs k q h .keeps .1) (O .few-procs) (O .entries)
 
     code-short : length (compiled t .code) < 65536
     code-short = rw code-size is-short
@@ -463,8 +459,8 @@ module _ (t : Tree) where
             is-procedure = refl;
             stand = subst (λ n. Stands (settingOf t o) n (codeBody (t .head) (r .body) (aroundBody t (r .parameters)) (at (b .0) (length (r .parameters)))) (at (b .0) (length (r .parameters)))) (sym e) (s .0);
             ret = subst (λ n. fetch (compiled t) n (after (codeBody (t .head) (r .body) (aroundBody t (r .parameters)) (at (b .0) (length (r .parameters)))) (at (b .0) (length (r .parameters))) .address) ≡ some return) (sym e) (s .1);
-            static = O .proc-static k r h;
-            good = O .proc-named k r h;
+            static = O .procs k r h .static;
+            good = O .procs k r h .named;
           }
 
       pub built : Built (settingOf t o) t

@@ -14,7 +14,7 @@ use Rattle.language.specs.Tree.{Typed, Decl, declare, holding, Stmt, Items, Exp
 use Rattle.language.specs.Tree.{Body as TreeBody, proper, function}
 use Rattle.language.specs.Names.{Scope, types, procedureOf, rootOf}
 use Rattle.language.specs.Names.{results as resultsOf}
-use Rattle.language.specs.Limits.{locals, headHolds, headCells, holdsS, holdsItems, holdsE, needS, needItems, needE, cellsS, cellsItems, cellsE}
+use Rattle.language.specs.Limits.{Usage, bodyUsage, rootUsage, locals, headHolds, holdsItems}
 use Rattle.bytecode.specs.Macro.{Body, Shape, shape, Macro}
 use Rattle.bytecode.specs.Instructions.{Owner, own, root, Instr, end, push, return, bodyAt}
 use Rattle.bytecode.specs.Rules.{Effect, plain, effect, cellTy, flow, atFirst, sameShape}
@@ -74,17 +74,9 @@ abbrev pub okBodyTy : Macro → ℕ → List Global → TreeBody → List Around
 okBodyTy m k gs (proper s) Γ = okS m k gs s Γ
 okBodyTy m k gs (function t e) Γ = okE m k gs e Γ × (tyE gs Γ e ≡ tyIn gs t)
 
-abbrev pub holdsBody : TreeBody → ℕ
-holdsBody (proper s) = holdsS s
-holdsBody (function t e) = holdsE e
-
-abbrev pub needBody : TreeBody → ℕ
-needBody (proper s) = needS s
-needBody (function t e) = needE e
-
-abbrev pub cellsBody : TreeBody → ℕ
-cellsBody (proper s) = cellsS s
-cellsBody (function t e) = cellsE e
+-- "at most 32 cells (…), 16 holds open together, and a working need of 32"
+abbrev pub Keeps : Usage → Type 0
+Keeps u = (u .cells ≤ 32) × (u .holds ≤ 16) × (u .need ≤ 32)
 
 module _ (m : Macro) (t : Tree) where
   abbrev gs : List Global
@@ -105,9 +97,10 @@ module _ (m : Macro) (t : Tree) where
     root-marks-known H = (root-marks m (t .head) H (locals (t .head)) (startOfRoot t) (at 0 0) (λ Δ. (x : ℕ) → okItems m 0 (t .head) (t .items) (labels (t .items) x ∷ Δ)) (λ Δ q. codeItems (t .head) (t .items) (labels (t .items) (q .address) ∷ Δ) [] q)
         (λ Δ q o' c'. markItems m 0 (t .head) H (t .items) (labels (t .items) (q .address) ∷ Δ) [] q (o' (q .address)) c' tt) o (c .0), tt)
 
-    pub root-flows : headHolds (locals (t .head)) + holdsItems (t .items) ≤ 16 → needItems (t .items) ≤ 32 → (Aim : ℕ → Shape → Type 0) → Marks m 0 Aim (codeRoot t) (at 0 0) → Seg m 0 Aim (codeRoot t) atFirst none
+    pub root-flows : Keeps (rootUsage t) → (Aim : ℕ → Shape → Type 0) → Marks m 0 Aim (codeRoot t) (at 0 0) → Seg m 0 Aim (codeRoot t) atFirst none
     unfolding Celled Marks Seg heldIn Reaches effect flow sames
-    root-flows l n Aim g =
+    root-flows u Aim g =
+        let l = u .1 in let n = u .2 in
         (some (shape 0 []), passRoot m (t .head) Aim (locals (t .head)) (startOfRoot t) (at 0 0) (λ Δ. (x : ℕ) → okItems m 0 (t .head) (t .items) (labels (t .items) x ∷ Δ)) (λ Δ q. codeItems (t .head) (t .items) (labels (t .items) (q .address) ∷ Δ) [] q) (holdsItems (t .items))
           (λ Δ q o' r l' c' g'. passItems m 0 (t .head) Aim (t .items) (labels (t .items) (q .address) ∷ Δ) [] q (o' (q .address)) (aims m 0 (t .head) Aim (t .items) Δ [] q g', r) l' (omega arith) c' g') o tt (omega arith) (c .0) (g .0),
           (shape 0 [], refl, refl))
@@ -135,15 +128,15 @@ module _ (m : Macro) (t : Tree) where
         go (proper s) o c = markS m (suc k) (t .head) H s (aroundBody t (q .parameters)) [] (at a (length (q .parameters))) o c tt
         go (function u e) o c = markE m (suc k) (t .head) H e (aroundBody t (q .parameters)) [] (at a (length (q .parameters))) (o .0) c tt .0
 
-    pub proc-flows : heldIn (aroundBody t (q .parameters)) ≡ [] → bodyResults (bodyAt m (suc k)) ≡ map (tyIn (t .head)) (resultsOf (q .body)) → holdsBody (q .body) ≤ 16 → needBody (q .body) ≤ 32
+    pub proc-flows : heldIn (aroundBody t (q .parameters)) ≡ [] → bodyResults (bodyAt m (suc k)) ≡ map (tyIn (t .head)) (resultsOf (q .body)) → Keeps (bodyUsage (q .parameters) (q .body))
         → (Aim : ℕ → Shape → Type 0) → Marks m (suc k) Aim (codeProc t q a) (at a (length (q .parameters))) → Seg m (suc k) Aim (codeProc t q a) atFirst none
     unfolding Celled Marks Seg effect flow
-    proc-flows z e l n Aim g = go (q .body) o (c .0) e l n (g .0)
+    proc-flows z e u Aim g = go (q .body) o (c .0) e (u .1) (u .2) (g .0)
       where
         empty : length (heldIn (aroundBody t (q .parameters))) ≡ 0
         empty = ap length z
         go : (b : TreeBody) → okBodyTy m (suc k) (t .head) b (aroundBody t (q .parameters)) → Celled m (suc k) (t .head) (codeBody (t .head) b (aroundBody t (q .parameters)) (at a (length (q .parameters)))) (at a (length (q .parameters)))
-            → bodyResults (bodyAt m (suc k)) ≡ map (tyIn (t .head)) (resultsOf b) → holdsBody b ≤ 16 → needBody b ≤ 32 → Marks m (suc k) Aim (codeBody (t .head) b (aroundBody t (q .parameters)) (at a (length (q .parameters)))) (at a (length (q .parameters)))
+            → bodyResults (bodyAt m (suc k)) ≡ map (tyIn (t .head)) (resultsOf b) → bodyUsage (q .parameters) b .holds ≤ 16 → bodyUsage (q .parameters) b .need ≤ 32 → Marks m (suc k) Aim (codeBody (t .head) b (aroundBody t (q .parameters)) (at a (length (q .parameters)))) (at a (length (q .parameters)))
             → (h : Option Shape) × Seg m (suc k) Aim (codeBody (t .head) b (aroundBody t (q .parameters)) (at a (length (q .parameters)))) atFirst h × ((s : Shape) × (h ≡ some s) × Goes Aim (flow (effect m (suc k) return (s .operands)) s) none)
         go (proper s) o c e l n g =
             let w = passS m (suc k) (t .head) Aim s (aroundBody t (q .parameters)) [] (at a (length (q .parameters))) o (reaches-params (suc k) Aim (q .parameters) 0 (q .parameters) (rootVariables (locals (t .head)) 0 (startOfRoot t)) []) (omega (arith, empty)) (omega arith) c g in

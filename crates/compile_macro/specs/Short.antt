@@ -9,7 +9,7 @@ use Rattle.language.specs.Tree.{Typed, Decl, declare, holding, Global, local, c
 use Rattle.language.specs.Tree.{Body as TreeBody, proper, function}
 use Rattle.language.specs.Names.{procedureOf, rootOf}
 use Rattle.language.specs.Faults.{sizeItems, sizeBody, sizeGlobal}
-use Rattle.language.specs.Limits.{locals, headHolds, holdsItems}
+use Rattle.language.specs.Limits.{bodyUsage, rootUsage, locals, headHolds, holdsItems}
 use Rattle.bytecode.specs.Instructions.{own, root}
 use Rattle.compile_code.specs.Code.{at, after, At}
 use Rattle.compile_code.specs.Compile.{Around, inside, outermost, bound, global, labels, scopesOf, passing, theLabels, opsItems, codeHead, codeItems, Proc, procsOf}
@@ -17,7 +17,6 @@ use Rattle.compile_code.specs.Encode.{rootPart, procParts, parts, codeRoot, cod
 use Rattle.compile_simulation.specs.Sizes.{lenS, lenE, lenItems, lenHead}
 use Rattle.compile_simulation.specs.Bound.{holdsIn, few-head, fewS, fewItems, fewE}
 use Rattle.compile_macro.specs.Laid.{ops, after-ops, total}
-use Rattle.compile_macro.specs.Right.{holdsBody}
 
 unfoldable pub sizeHeads : List Global → ℕ
 sizeHeads [] = 0
@@ -50,7 +49,7 @@ module _ (t : Tree) where
   unfolding passing holdsIn
   none-around xs = ap holdsIn (pass-params xs 0 (inside (procedureOf xs) ∷ rootVariables (locals (t .head)) 0 (startOfRoot t)) ∙ pass-roots (locals (t .head)) 0 (startOfRoot t))
 
-  body-few : (b : TreeBody) (xs : List Typed) (p : At) → holdsBody b ≤ 16 → ops (codeBody (t .head) b (aroundBody t xs) p) ≤ 22 * sizeBody b
+  body-few : (b : TreeBody) (xs : List Typed) (p : At) → bodyUsage xs b .holds ≤ 16 → ops (codeBody (t .head) b (aroundBody t xs) p) ≤ 22 * sizeBody b
   body-few (proper s) xs p h =
       let z = none-around xs in let q = fewS s (scopesOf (aroundBody t xs)) (passing (aroundBody t xs)) (omega arith) in
       let r = lenS (t .head) s (aroundBody t xs) [] p in let u = after-ops (codeBody (t .head) (proper s) (aroundBody t xs) p) p in omega arith
@@ -58,7 +57,7 @@ module _ (t : Tree) where
       let z = none-around xs in let q = fewE e (scopesOf (aroundBody t xs)) (passing (aroundBody t xs)) (omega arith) in
       let r = lenE (t .head) e (aroundBody t xs) [] p in let u = after-ops (codeBody (t .head) (function y e) (aroundBody t xs) p) p in omega arith
 
-  procs-few : (ps : List Proc) (a : ℕ) → ((k : ℕ) (q : Proc) → getElem? ps k ≡ some q → holdsBody (q .body) ≤ 16) → total (procParts t ps a) ≤ 22 * sizeProcs ps + length ps
+  procs-few : (ps : List Proc) (a : ℕ) → ((k : ℕ) (q : Proc) → getElem? ps k ≡ some q → bodyUsage (q .parameters) (q .body) .holds ≤ 16) → total (procParts t ps a) ≤ 22 * sizeProcs ps + length ps
   unfolding procParts total sizeProcs ops
   procs-few [] a f = omega arith
   procs-few (q ∷ ps) a f =
@@ -79,7 +78,7 @@ module _ (t : Tree) where
       let u = after-ops x (at 0 0) in omega arith
 
   -- "At most 2,048 entries": sizeHeads and sizeItems count those below the root's own
-  pub short : headHolds (locals (t .head)) + holdsItems (t .items) ≤ 16 → ((k : ℕ) (q : Proc) → getElem? (procsOf (t .head)) k ≡ some q → holdsBody (q .body) ≤ 16) → length (procsOf (t .head)) ≤ 63
+  pub short : rootUsage t .holds ≤ 16 → ((k : ℕ) (q : Proc) → getElem? (procsOf (t .head)) k ≡ some q → bodyUsage (q .parameters) (q .body) .holds ≤ 16) → length (procsOf (t .head)) ≤ 63
       → sizeHeads (t .head) + sizeItems (t .items) ≤ 2048 → total (parts t) < 65536
   unfolding parts total
   short h f n l =

@@ -99,7 +99,7 @@ module _ (gs : List Global) where
     far = h .far; apart = h .apart; few = h .few; no-own = h .no-own; no-block = h .no-block; no-hold = h .no-hold;
   }
 
-  root-ok : (ss : List Scope) (seen : List ℕ) (ds : List Decl) (Γ Θ : List Around) (n : ℕ) (Q : List Around → ℕ → Type 0) → GlobalsIn gs ss → goodHead ss seen ds → Alike Γ Θ n
+  pub root-ok : (ss : List Scope) (seen : List ℕ) (ds : List Decl) (Γ Θ : List Around) (n : ℕ) (Q : List Around → ℕ → Type 0) → GlobalsIn gs ss → goodHead ss seen ds → Alike Γ Θ n
       → ((Δ : List Around) (n' : ℕ) → Entered AnyCell ofRoot ds Γ Δ → Alike Δ (rootVariables ds n Θ) n' → Q Δ n') → okRoot gs ds Γ n Q
   unfolding goodHead Entered okRoot rootVariables
   root-ok ss seen [] Γ Θ n Q g h al f = f Γ n refl al
@@ -113,7 +113,7 @@ module _ (gs : List Global) where
   alike-all (declare x ∷ ds) Γ Θ n al = alike-all ds (global own (x .name) n ∷ Γ) (global root (x .name) n ∷ Θ) (suc n) (alike-declare (x .name) Γ Θ n al)
   alike-all (holding q ∷ ds) Γ Θ n al = alike-all ds (held q ∷ Γ) Θ n (alike-hold q Γ Θ n al)
 
-  entered-shared : (ds : List Decl) (n : ℕ) (Γ : List Around) → Entered AnyCell ofShared ds Γ (rootVariables ds n Γ)
+  pub entered-shared : (ds : List Decl) (n : ℕ) (Γ : List Around) → Entered AnyCell ofShared ds Γ (rootVariables ds n Γ)
   unfolding Entered rootVariables
   entered-shared [] n Γ = refl
   entered-shared (declare x ∷ ds) n Γ = (n, tt, entered-shared ds (suc n) (global root (x .name) n ∷ Γ))
@@ -122,7 +122,7 @@ module _ (gs : List Global) where
   pub kept-global : (a : ℕ) (Γ : List Around) → boundAt a Γ ≡ none → keptOf a Γ ≡ globalAt a Γ
   kept-global a Γ h = ap (λ x. orCell x (globalAt a Γ)) h
 
-  fit-root : (W : Setting) (Δ : List Around) (n : ℕ) → Alike Δ (W .shared-names) n → Fit W gs (atRoot W gs) Δ n
+  pub fit-root : (W : Setting) (Δ : List Around) (n : ℕ) → Alike Δ (W .shared-names) n → Fit W gs (atRoot W gs) Δ n
   fit-root W Δ n h = record {
     distinct = h .distinct;
     below-n = h .below;
@@ -186,7 +186,7 @@ procedure-in (procedure b ys d ∷ gs) a q h = pick (eqb a b) refl h (λ k. proc
     pick false e k f = rw (eqb-comm b a ∙ e) (f k)
 
 -- ── the whole ──
-any-given : (xs : List Typed) (n : ℕ) → Given AnyCell xs n
+pub any-given : (xs : List Typed) (n : ℕ) → Given AnyCell xs n
 unfolding Given
 any-given [] n = tt
 any-given (x ∷ xs) n = (tt, any-given xs (suc n))

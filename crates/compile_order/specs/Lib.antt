@@ -1,2 +1,6 @@
 pub mod Entries
+pub mod Limited
+pub mod Classes
 pub mod Typed
+pub mod Named
+pub mod Order
