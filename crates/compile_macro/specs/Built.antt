@@ -1,11 +1,11 @@
 -- A tree in order compiles to a macro that is accepted, and that is `Built` for the simulation.
-use mathlib.Core.Bool.{Bool, true, false, not, _&&_, _||_}
-use mathlib.Core.Path.{_≡_, refl, ap, ap₂, sym, _∙_, subst}
+use mathlib.Core.Bool.{Bool, true, false, _&&_, _||_}
+use mathlib.Core.Path.{_≡_, refl, ap, sym, _∙_, subst}
 use mathlib.Core.List.{List, [], _∷_, _++_, map}
 use mathlib.Core.Option.{Option, none, some}
 use Prim.Native.Nat.{ℕ, zero, suc, _+_, _≤_, _<_}
 use native.Mathlib.Omega.{arith}
-use lib.Dec.{eqb, leb, ltb}
+use lib.Dec.{eqb, leb}
 use lib.ListN.{length, getElem?, drop}
 use borrow.Author.Tests.{le-ltb, leb-true, eqb-true, eqb-false, eq-eqb, ne-eqb}
 use Rattle.words.specs.Choice.{if_then_else_}
@@ -14,41 +14,41 @@ use Rattle.values.specs.Types.{Ty, sames}
 use Rattle.values.specs.Ends.{accepted}
 use Rattle.language.specs.Tree.{Typed, Decl, declare, holding, Global, local, class, procedure, Tree}
 use Rattle.language.specs.Tree.{Body as TreeBody, proper, function}
-use Rattle.language.specs.Names.{types, procedureOf, rootOf, definesTyped}
+use Rattle.language.specs.Names.{types, procedureOf, definesTyped}
 use Rattle.language.specs.Names.{results as resultsOf}
-use Rattle.language.specs.Limits.{Usage, bodyUsage, rootUsage, locals, cellsS, cellsE, cellsItems}
+use Rattle.language.specs.Limits.{bodyUsage, rootUsage, locals, cellsItems}
 use Rattle.language.specs.Table.{flatDecl, flatItems, flatBody}
 use Rattle.language.specs.Execute.{Procedure, procedureIn, classIn}
-use Rattle.bytecode.specs.Macro.{Body, Shape, shape, Placed, Macro, shapeIn}
-use Rattle.bytecode.specs.Instructions.{Owner, own, root, Instr, end, return, bodyAt, inBody}
+use Rattle.bytecode.specs.Macro.{Body, Shape, Placed}
+use Rattle.bytecode.specs.Instructions.{Owner, own, root, return, bodyAt}
 use Rattle.bytecode.specs.Machine.{fetch, notRoot}
-use Rattle.bytecode.specs.Rules.{atFirst, headFault, bodyFault, cellTy, cellsOf, fieldTy, calledBody, roomy, faultAt, judgeMacro}
+use Rattle.bytecode.specs.Rules.{atFirst, headFault, bodyFault, cellTy, cellsOf, calledBody, roomy, faultAt, judgeMacro}
 use Rattle.loading.specs.Terms.{Each, Named, ReadClass, ReadBody, ReadShape, WellFormed, OfBytes, Narrow, Passed}
 use Rattle.loading.specs.Bodies.{each-at}
 use Rattle.loading.specs.Tests.{never-some, same-some, halves, kept}
-use Rattle.compile_code.specs.Code.{Code, nil, op, mark, cell, _▸_, At, at, after, cellsIn, Line, lay, placed}
-use Rattle.compile_code.specs.Compile.{Around, inside, outermost, global, labels, heldIn, codeHead, codeItems, tyIn, Proc, procsOf, Class, classesOf, indexOf, procNames, classNames, classNumber, bodyNumber}
-use Rattle.compile_code.specs.Encode.{Part, rootPart, procPart, procParts, parts, linesOf, headsOf, recordOf, recordsOf, fieldTypes, compiled, macroBytes, macroOf, codeRoot, codeProc, codeBody, parameterCells, rootVariables, startOfRoot, aroundBody}
+use Rattle.compile_code.specs.Code.{Code, nil, op, mark, cell, _▸_, At, at, after, cellsIn, Line, placed}
+use Rattle.compile_code.specs.Compile.{Around, inside, global, labels, heldIn, codeItems, tyIn, Proc, procsOf, classesOf, indexOf, procNames, classNames, bodyNumber}
+use Rattle.compile_code.specs.Encode.{Part, rootPart, procPart, procParts, parts, linesOf, headsOf, recordOf, recordsOf, fieldTypes, compiled, macroOf, codeRoot, codeProc, codeBody, rootVariables, startOfRoot, aroundBody}
 use Rattle.compile_simulation.specs.Meets.{Setting}
 use Rattle.compile_simulation.specs.Placed.{Fit, Stands}
-use Rattle.compile_simulation.specs.Calls.{inside-proc, Static, held-past}
+use Rattle.compile_simulation.specs.Calls.{Static, held-past}
 use Rattle.compile_simulation.specs.Sim.{okBody, Called}
 use Rattle.compile_simulation.specs.Sim.{okItems as okNames}
 use Rattle.compile_simulation.specs.Root.{okRoot, atRoot}
 use Rattle.compile_simulation.specs.Top.{Built}
 use Rattle.compile_rules.specs.Flows.{Goes, Seg, Marks}
 use Rattle.bytecode.specs.Rules.{flow, effect}
-use Rattle.compile_rules.specs.Faultless.{Aimed, Lined, Faultless}
+use Rattle.compile_rules.specs.Faultless.{Aimed, Lined}
 use Rattle.compile_rules.specs.Bodies.{linesAlone, shown-marks, segged, passes}
 use Rattle.compile_rules.specs.Pass.{Celled}
 use Rattle.compile_rules.specs.Records.{Writable}
 use Rattle.compile_records.specs.Writing.{judged, bytes}
 use Rattle.compile_records.specs.Writing.{Writable as CanWrite, SmallBody, SmallShape, passes as all-passed}
-use Rattle.compile_macro.specs.Laid.{ops, after-ops, Closed, Chain, total, lines-length, rises, begins, Ops, Lines, ops-lines, code-length, begins-empty, its-lined, stands, no-fault, part-of, located}
+use Rattle.compile_macro.specs.Laid.{ops, after-ops, Chain, total, lines-length, rises, begins, Ops, Lines, ops-lines, begins-empty, its-lined, stands, no-fault, part-of}
 use Rattle.compile_macro.specs.Fields.{Entered, Holdable, holdable-writable, more-ops, of-head, fieldsS, fieldsItems, fieldsE}
-use Rattle.compile_macro.specs.Cells.{newCells, cells-length, count-head, countS, countItems, countE, celled, Cells, each-cell, Known}
+use Rattle.compile_macro.specs.Cells.{newCells, cells-length, count-head, countS, countItems, countE, celled, each-cell}
 use Rattle.compile_macro.specs.Shapes.{Heads}
-use Rattle.compile_macro.specs.Narrow.{roomy-marks, IfSome, ShapeLines, shape-lines, both-marks, placed-each, placed-apart, placed-few, flowing, two-ops, narrow-op, narrow-lines, each-more}
+use Rattle.compile_macro.specs.Narrow.{roomy-marks, ShapeLines, shape-lines, both-marks, placed-each, placed-apart, placed-few, flowing, two-ops, narrow-op, narrow-lines, each-more}
 use Rattle.language.specs.Faults.{sizeItems}
 use Rattle.compile_macro.specs.Short.{sizeHeads, short}
 use Rattle.compile_macro.specs.Right.{RootOk, okBodyTy, Keeps, root-cells-known, root-marks-known, root-flows, proc-cells-known, proc-marks-known, proc-flows}

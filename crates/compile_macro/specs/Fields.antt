@@ -1,24 +1,22 @@
 -- The numbers of entries fit their fields: so do those of the ops that they compile to.
 use mathlib.Core.Bool.{Bool, true, false, _&&_}
-use mathlib.Core.Path.{_≡_, refl, ap, sym, _∙_, subst}
+use mathlib.Core.Path.{_≡_}
 use mathlib.Core.List.{List, [], _∷_, _++_, map}
 use mathlib.Core.Option.{Option, none, some}
-use Prim.Native.Nat.{ℕ, zero, suc, _+_, _≤_, _<_}
+use Prim.Native.Nat.{ℕ, suc, _+_, _<_}
 use native.Mathlib.Omega.{arith}
-use lib.Dec.{eqb, leb, ltb}
-use lib.IntN.{ℤ, pos}
-use lib.ListN.{length}
+use lib.Dec.{leb, ltb}
+use lib.IntN.{pos}
 use lib.Signed.{mag}
 use mir.Syntax.{w32}
 use mir.Val.{SFits}
 use borrow.Author.Tests.{ltb-true}
 use Rattle.words.specs.Choice.{if_then_else_}
-use Rattle.words.specs.Numbers.{wordOf}
 use Rattle.words.specs.Laws.{integer-back, word-below}
 use Rattle.values.specs.Types.{Ty, integer, logical, bits, reference}
-use Rattle.values.specs.Operators.{Binary, binary}
-use Rattle.values.specs.Values.{Value, int, log, bit, ref, initial}
-use Rattle.language.specs.Tree.{Typed, Decl, declare, holding, Stmt, block, assign, when, choose, while, goto, assert, call, setLevel, select, Items, noItem, label, item, Arms, lastArm, arm, Target, toVariable, toField, Expr, number, truth, pattern, null, variable, invoke, field, make, operate1, operate2, conditional, fader, blockExpr, Exprs, noExpr, expr, Global, countArms}
+use Rattle.values.specs.Operators.{Binary}
+use Rattle.values.specs.Values.{int, log, bit, ref, initial}
+use Rattle.language.specs.Tree.{Decl, declare, holding, Stmt, block, assign, when, choose, while, goto, assert, call, setLevel, select, Items, noItem, label, item, Arms, lastArm, arm, Target, toVariable, toField, Expr, number, truth, pattern, null, variable, invoke, field, make, operate1, operate2, conditional, fader, blockExpr, Exprs, noExpr, expr, Global, countArms}
 use Rattle.language.specs.Names.{blockOf, expressionOf}
 use Rattle.language.specs.Faults.{typeE, isTy}
 use Rattle.language.specs.Table.{Entry, entry, inLayout, nothing, flatDecl, flatS, flatItems, flatArms, flatTarget, flatE, flatEs}
@@ -27,8 +25,8 @@ use Rattle.bytecode.specs.Instructions.{Instr, end, push, load, store, operate,
 use Rattle.bytecode.specs.Instructions.{call as callOp, make as makeOp, setLevel as setOp, assert as assertOp}
 use Rattle.loading.specs.Terms.{Each}
 use Rattle.loading.specs.Tests.{halves}
-use Rattle.compile_code.specs.Code.{Code, nil, op, mark, cell, _▸_, At, at, skip, after}
-use Rattle.compile_code.specs.Compile.{Around, inside, outermost, bound, global, held, labels, scopesOf, passing, theLabels, hasLabel, labelAt, opsArms, kept, loading, storing, Way, plainly, marked, ifTrue, ifFalse, wayOf, codeWay, codeGoto, codeHead, codeS, codeItems, codeArms, codeTarget, codeE, codeEs, opTarget, tyTarget, tyE, tyIn}
+use Rattle.compile_code.specs.Code.{Code, nil, op, mark, cell, _▸_, At, skip, after}
+use Rattle.compile_code.specs.Compile.{Around, inside, outermost, bound, global, held, labels, scopesOf, passing, theLabels, hasLabel, labelAt, kept, loading, storing, Way, plainly, marked, ifTrue, ifFalse, wayOf, codeWay, codeGoto, codeHead, codeS, codeItems, codeArms, codeTarget, codeE, codeEs, opTarget, tyE, tyIn}
 use Rattle.compile_code.specs.Compile.{Cell as Kept, cellOf as keptOf}
 use Rattle.compile_rules.specs.Records.{Writable}
 use Rattle.compile_macro.specs.Laid.{Ops}

@@ -1,31 +1,30 @@
 -- The code of bodies one after the other: where each body's lines lie in the macro.
-use mathlib.Core.Bool.{Bool, true, false, _||_, _&&_}
-use mathlib.Core.Path.{_≡_, refl, ap, ap₂, sym, _∙_, subst}
+use mathlib.Core.Bool.{Bool, true, false, _&&_}
+use mathlib.Core.Path.{_≡_, refl, ap, sym, _∙_, subst}
 use mathlib.Core.List.{List, [], _∷_, _++_}
 use mathlib.Core.Option.{Option, none, some}
 use Prim.Native.Nat.{ℕ, zero, suc, _+_, _≤_, _<_}
 use native.Mathlib.Omega.{arith}
-use lib.Dec.{eqb, leb, ltb}
+use lib.Dec.{leb}
 use lib.ListN.{length, getElem?, drop}
-use borrow.Author.Tests.{le-ltb, le-leb, lt-ltb, ltb-true}
-use Rattle.words.specs.Choice.{if_then_else_}
-use Rattle.bytecode.specs.Macro.{Body, Shape, Placed, Macro, shapeIn}
-use Rattle.bytecode.specs.Instructions.{Instr, bodyAt, endOf, fromTo, inBody, instrAt}
+use borrow.Author.Tests.{le-ltb}
+use Rattle.bytecode.specs.Macro.{Body, Shape, Macro, shapeIn}
+use Rattle.bytecode.specs.Instructions.{Instr, bodyAt, endOf, inBody}
 use Rattle.bytecode.specs.Machine.{fetch}
-use Rattle.bytecode.specs.Rules.{bodyOf, isFirst, bodyFault, headFault, into, atFirst, faultAt}
-use Rattle.loading.specs.Terms.{Each, RisesFrom, ReadBody, WellFormed}
+use Rattle.bytecode.specs.Rules.{bodyOf, isFirst, bodyFault, into, atFirst, faultAt}
+use Rattle.loading.specs.Terms.{Each, RisesFrom, WellFormed}
 use Rattle.loading.specs.Bodies.{within, bounds, body-is, no-first, inside-body, at-first}
 use Rattle.loading.specs.Tests.{never-some, same-some}
-use Rattle.compile_code.specs.Code.{Code, nil, op, mark, cell, _▸_, At, at, after, Line, line, first, lay, placed, placedAt}
+use Rattle.compile_code.specs.Code.{Code, nil, op, mark, cell, _▸_, At, after, Line, line, first, lay, placed}
 use Rattle.compile_code.specs.Encode.{Part, linesOf, headsOf, recordsOf}
 use Rattle.compile_simulation.specs.Meets.{Setting}
 use Rattle.compile_simulation.specs.Placed.{Stands}
 use Rattle.compile_rules.specs.Records.{Writable}
 use Rattle.compile_rules.specs.Shown.{shapeAt, shown, fetched}
 use Rattle.compile_rules.specs.Lines.{dropped}
-use Rattle.compile_rules.specs.Flows.{Marks, Seg}
+use Rattle.compile_rules.specs.Flows.{Marks}
 use Rattle.compile_rules.specs.Faultless.{Lined, NotFirst, Faultless}
-use Rattle.compile_rules.specs.Bodies.{linesAlone, shown-marks, passes}
+use Rattle.compile_rules.specs.Bodies.{linesAlone}
 
 -- ── lengths ──
 unfoldable pub ops : Code → ℕ

@@ -1,26 +1,26 @@
 -- Code that keeps the loading rules has shapes within the limits and numbers within their bytes.
-use mathlib.Core.Bool.{Bool, true, false, _&&_}
-use mathlib.Core.Path.{_≡_, refl, ap, ap₂, sym, _∙_, subst}
-use mathlib.Core.List.{List, [], _∷_, _++_, map}
+use mathlib.Core.Bool.{Bool, true, false}
+use mathlib.Core.Path.{_≡_, refl}
+use mathlib.Core.List.{List, [], _∷_}
 use mathlib.Core.Option.{Option, none, some}
 use Prim.Native.Nat.{ℕ, zero, suc, _+_, _≤_, _<_}
 use native.Mathlib.Omega.{arith}
-use lib.Dec.{eqb, leb, ltb}
+use lib.Dec.{ltb}
 use lib.ListN.{length, getElem?}
 use borrow.Author.Tests.{leb-true, ltb-true}
 use Rattle.words.specs.Choice.{if_then_else_}
 use Rattle.words.specs.Laws.{word-below}
-use Rattle.values.specs.Types.{Ty, integer, logical, bits, reference}
-use Rattle.values.specs.Operators.{Operator, unary, binary, negate, absolute, complement, plus, minus, times, divide, remainder, less, atMost, greater, atLeast, equal, unequal, both, either, shiftLeft, shiftRight, unaryCode, binaryCode}
-use Rattle.values.specs.Values.{Value, int, log, bit, ref}
+use Rattle.values.specs.Types.{Ty, logical, reference}
+use Rattle.values.specs.Operators.{Operator, unary, binary, negate, absolute, complement, plus, minus, times, divide, remainder, less, atMost, greater, atLeast, equal, unequal, both, either, shiftLeft, shiftRight}
+use Rattle.values.specs.Values.{int, log, bit, ref}
 use Rattle.bytecode.specs.Macro.{Body, Shape, shape, Placed, Macro, keep, shapeIn}
 use Rattle.bytecode.specs.Instructions.{Owner, own, root, Instr, end, push, load, store, operate, go, goUnless, return, getField, putField, readFader, takeHold, letHold, stop, bodyAt, inBody}
 use Rattle.bytecode.specs.Instructions.{call as callOp, make as makeOp, setLevel as setOp, assert as assertOp}
-use Rattle.bytecode.specs.Rules.{Effect, plain, wrong, Flow, on, fork, jump, halt, broken, strip, stripped, flow, effect, giving, taking, calling, making, calledBody, cellTy, cellsOf, fieldTy, roomy, lands, equalShape}
+use Rattle.bytecode.specs.Rules.{plain, wrong, fork, strip, stripped, flow, effect, giving, taking, calling, making, calledBody, cellTy, cellsOf, fieldTy, roomy, equalShape}
 use Rattle.loading.specs.Terms.{Each, Apart, OfBytes, WellFormed, ReadClass}
 use Rattle.loading.specs.Bodies.{inside-code, each-at}
-use Rattle.loading.specs.Tests.{never-some, same-some, halves}
-use Rattle.compile_code.specs.Code.{Code, nil, op, mark, cell, _▸_, At, at, skip, after, Line, line, first, lay, placed, placedAt}
+use Rattle.loading.specs.Tests.{never-some, halves}
+use Rattle.compile_code.specs.Code.{Code, nil, op, mark, cell, _▸_, At, after, Line, first, lay, placed, placedAt}
 use Rattle.compile_code.specs.Encode.{recordOf, recordsOf, operatorCode}
 use Rattle.compile_rules.specs.Flows.{Goes, Comes, Seg, Marks}
 use Rattle.compile_rules.specs.Faultless.{Aimed}

@@ -1,33 +1,27 @@
 -- The bodies of a compiled macro: what is asked of the tree, and that each body's code keeps the loading rules.
-use mathlib.Core.Bool.{Bool, true, false, _&&_}
-use mathlib.Core.Path.{_≡_, refl, ap, ap₂, sym, _∙_, subst}
-use mathlib.Core.List.{List, [], _∷_, _++_, map}
+use mathlib.Core.Path.{_≡_, refl, ap, subst}
+use mathlib.Core.List.{List, [], _∷_, map}
 use mathlib.Core.Option.{Option, none, some}
-use Prim.Native.Nat.{ℕ, zero, suc, _+_, _≤_, _<_}
+use Prim.Native.Nat.{ℕ, suc, _+_, _≤_}
 use native.Mathlib.Omega.{arith}
-use lib.Dec.{eqb, leb, ltb}
-use lib.ListN.{length, getElem?, drop}
-use Rattle.words.specs.Choice.{if_then_else_}
-use Rattle.values.specs.Types.{Ty, integer, logical, bits, reference, sames}
-use Rattle.values.specs.Values.{Value, initial}
-use Rattle.language.specs.Tree.{Typed, Decl, declare, holding, Stmt, Items, Expr, Global, Tree}
+use lib.ListN.{length}
+use Rattle.values.specs.Types.{Ty, sames}
+use Rattle.values.specs.Values.{initial}
+use Rattle.language.specs.Tree.{Typed, Decl, declare, holding, Global, Tree}
 use Rattle.language.specs.Tree.{Body as TreeBody, proper, function}
-use Rattle.language.specs.Names.{Scope, types, procedureOf, rootOf}
+use Rattle.language.specs.Names.{procedureOf}
 use Rattle.language.specs.Names.{results as resultsOf}
 use Rattle.language.specs.Limits.{Usage, bodyUsage, rootUsage, locals, headHolds, holdsItems}
-use Rattle.bytecode.specs.Macro.{Body, Shape, shape, Macro}
-use Rattle.bytecode.specs.Instructions.{Owner, own, root, Instr, end, push, return, bodyAt}
-use Rattle.bytecode.specs.Rules.{Effect, plain, effect, cellTy, flow, atFirst, sameShape}
+use Rattle.bytecode.specs.Macro.{Shape, shape, Macro}
+use Rattle.bytecode.specs.Instructions.{own, push, return, bodyAt}
+use Rattle.bytecode.specs.Rules.{plain, effect, cellTy, flow, atFirst}
 use Rattle.bytecode.specs.Rules.{resultsOf as bodyResults}
-use Rattle.loading.specs.Terms.{Each, Named}
-use Rattle.compile_code.specs.Code.{Code, nil, op, mark, cell, _▸_, At, at, skip, after, cellsIn}
-use Rattle.compile_code.specs.Compile.{Around, inside, outermost, bound, global, held, labels, heldIn, found, codeHead, codeS, codeItems, codeE, tyE, tyIn, Proc}
+use Rattle.compile_code.specs.Code.{Code, cell, At, at, skip, after}
+use Rattle.compile_code.specs.Compile.{Around, inside, global, held, labels, heldIn, found, codeHead, codeS, codeItems, codeE, tyE, tyIn, Proc}
 use Rattle.compile_code.specs.Encode.{codeRoot, codeProc, codeBody, parameterCells, rootVariables, startOfRoot, aroundBody}
-use Rattle.compile_simulation.specs.Calls.{held-past}
 use Rattle.compile_rules.specs.Flows.{Goes, Seg, Marks, pushes, stores, holds, frees}
 use Rattle.compile_rules.specs.Faultless.{shape-refl}
-use Rattle.compile_rules.specs.Pass.{Celled, okS, okItems, okE, Reaches, passS, passItems, passE, items-need, aims}
-use Rattle.compile_macro.specs.Laid.{Ops}
+use Rattle.compile_rules.specs.Pass.{Celled, okS, okItems, okE, Reaches, passS, passItems, passE, aims}
 use Rattle.compile_macro.specs.Cells.{Cells, Known, of-initial, cellsOkS, cellsOkItems, cellsOkE}
 use Rattle.compile_macro.specs.Shapes.{Heads, Typed!, markS, markItems, markE}
 

@@ -1,28 +1,25 @@
 -- The shapes of compiled code: of known types, within the limits, by rising address.
-use mathlib.Core.Bool.{Bool, true, false, _&&_}
-use mathlib.Core.Path.{_≡_, refl, ap, ap₂, sym, _∙_, subst}
-use mathlib.Core.List.{List, [], _∷_, _++_, map}
-use mathlib.Core.Option.{Option, none, some}
-use Prim.Native.Nat.{ℕ, zero, suc, _+_, _≤_, _<_}
+use mathlib.Core.Bool.{Bool, true, false}
+use mathlib.Core.Path.{_≡_, sym, subst}
+use mathlib.Core.List.{List, [], _∷_}
+use mathlib.Core.Option.{none, some}
+use Prim.Native.Nat.{ℕ, zero, suc, _<_}
 use native.Mathlib.Omega.{arith}
-use lib.Dec.{eqb, leb, ltb}
-use lib.ListN.{length, getElem?, drop}
-use borrow.Author.Tests.{leb-true}
+use lib.ListN.{length, getElem?}
 use Rattle.words.specs.Choice.{if_then_else_}
 use Rattle.values.specs.Types.{Ty, integer, logical, bits, reference, sames}
 use Rattle.values.specs.Operators.{Operator, unary, binary, negate, absolute, complement, plus, minus, times, divide, remainder, less, atMost, greater, atLeast, equal, unequal, both, either, shiftLeft, shiftRight, Binary, takes, logicalOrBits, anyOne, orElse, opType}
-use Rattle.values.specs.Values.{Value, ref, initial}
-use Rattle.language.specs.Tree.{Typed, Decl, declare, holding, Stmt, block, assign, when, choose, while, goto, assert, call, setLevel, select, Items, noItem, label, item, Arms, lastArm, arm, Target, toVariable, toField, Expr, number, truth, pattern, null, variable, invoke, field, make, operate1, operate2, conditional, fader, blockExpr, Exprs, noExpr, expr, Global}
+use Rattle.language.specs.Tree.{Decl, declare, holding, Stmt, block, assign, when, choose, while, goto, assert, call, setLevel, select, Items, noItem, label, item, Arms, lastArm, arm, Target, toVariable, toField, Expr, number, truth, pattern, null, variable, invoke, field, make, operate1, operate2, conditional, fader, blockExpr, Exprs, noExpr, expr, Global}
 use Rattle.language.specs.Names.{blockOf, expressionOf}
 use Rattle.language.specs.Faults.{typeE, isTy}
-use Rattle.bytecode.specs.Macro.{Body, Shape, shape, Placed, Macro}
-use Rattle.bytecode.specs.Instructions.{Owner, own, push, go, bodyAt}
-use Rattle.bytecode.specs.Rules.{Effect, plain, effect, cellTy, fieldTy, calledBody, roomy}
-use Rattle.loading.specs.Terms.{Each, Named, ReadShape, Apart}
-use Rattle.loading.specs.Tests.{never-some, same-some, halves}
-use Rattle.compile_code.specs.Code.{Code, nil, op, mark, cell, _▸_, At, at, skip, after, Line, line, first, lay, placed, placedAt}
-use Rattle.compile_code.specs.Compile.{Around, inside, outermost, bound, global, held, labels, heldIn, scopesOf, passing, theLabels, hasLabel, labelAt, found, Way, plainly, marked, ifTrue, ifFalse, wayOf, codeWay, codeGoto, codeHead, codeS, codeItems, codeArms, codeTarget, codeE, codeEs, opsArms, tyTarget, tyE, tyIn, classNumber, fieldNumber, bodyNumber}
-use Rattle.compile_rules.specs.Flows.{Seg, Marks, Comes}
+use Rattle.bytecode.specs.Macro.{Body, Shape, Macro}
+use Rattle.bytecode.specs.Instructions.{Owner, go}
+use Rattle.bytecode.specs.Rules.{cellTy, fieldTy, calledBody}
+use Rattle.loading.specs.Terms.{Each, Named}
+use Rattle.loading.specs.Tests.{never-some, same-some}
+use Rattle.compile_code.specs.Code.{Code, op, cell, _▸_, At, at, skip, after}
+use Rattle.compile_code.specs.Compile.{Around, inside, outermost, bound, global, held, labels, scopesOf, passing, theLabels, hasLabel, labelAt, Way, plainly, marked, ifTrue, ifFalse, wayOf, codeWay, codeGoto, codeHead, codeS, codeItems, codeArms, codeTarget, codeE, codeEs, tyTarget, tyE, classNumber, fieldNumber, bodyNumber}
+use Rattle.compile_rules.specs.Flows.{Marks}
 use Rattle.compile_rules.specs.Pass.{Celled, okHead, okS, okItems, okArms, okTarget, okE, okEs, WayOk, tysE}
 use Rattle.compile_macro.specs.Cells.{Known, of-initial}
 

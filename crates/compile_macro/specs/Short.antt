@@ -1,8 +1,8 @@
 -- The whole code is short: 22 ops an entry, and a last op for each body.
-use mathlib.Core.Path.{_≡_, refl, ap, sym, _∙_, subst}
-use mathlib.Core.List.{List, [], _∷_, _++_}
-use mathlib.Core.Option.{Option, some}
-use Prim.Native.Nat.{ℕ, zero, suc, _+_, _*_, _≤_, _<_}
+use mathlib.Core.Path.{_≡_, refl, ap, _∙_}
+use mathlib.Core.List.{List, [], _∷_}
+use mathlib.Core.Option.{some}
+use Prim.Native.Nat.{ℕ, suc, _+_, _*_, _≤_, _<_}
 use native.Mathlib.Omega.{arith}
 use lib.ListN.{length, getElem?}
 use Rattle.language.specs.Tree.{Typed, Decl, declare, holding, Global, local, class, procedure, Tree}
@@ -12,8 +12,8 @@ use Rattle.language.specs.Faults.{sizeItems, sizeBody, sizeGlobal}
 use Rattle.language.specs.Limits.{bodyUsage, rootUsage, locals, headHolds, holdsItems}
 use Rattle.bytecode.specs.Instructions.{own, root}
 use Rattle.compile_code.specs.Code.{at, after, At}
-use Rattle.compile_code.specs.Compile.{Around, inside, outermost, bound, global, labels, scopesOf, passing, theLabels, opsItems, codeHead, codeItems, Proc, procsOf}
-use Rattle.compile_code.specs.Encode.{rootPart, procParts, parts, codeRoot, codeProc, codeBody, parameterCells, rootVariables, startOfRoot, aroundBody}
+use Rattle.compile_code.specs.Compile.{Around, inside, global, labels, scopesOf, passing, theLabels, opsItems, codeHead, codeItems, Proc, procsOf}
+use Rattle.compile_code.specs.Encode.{procParts, parts, codeRoot, codeProc, codeBody, parameterCells, rootVariables, startOfRoot, aroundBody}
 use Rattle.compile_simulation.specs.Sizes.{lenS, lenE, lenItems, lenHead}
 use Rattle.compile_simulation.specs.Bound.{holdsIn, few-head, fewS, fewItems, fewE}
 use Rattle.compile_macro.specs.Laid.{ops, after-ops, total}

@@ -1,36 +1,25 @@
 -- The root and the procedures: what lies around their bodies is in order for the simulation.
 use mathlib.Core.Bool.{Bool, true, false}
-use mathlib.Core.Path.{_≡_, refl, ap, ap₂, sym, _∙_, subst}
-use mathlib.Core.List.{List, [], _∷_, _++_, map}
-use mathlib.Core.Option.{Option, none, some}
-use Prim.Native.Nat.{ℕ, zero, suc, _+_, _≤_, _<_}
+use mathlib.Core.Path.{_≡_, refl, sym, _∙_, subst}
+use mathlib.Core.List.{List, [], _∷_, _++_}
+use Prim.Native.Nat.{ℕ}
 use native.Mathlib.Omega.{arith}
 use lib.Dec.{eqb}
-use lib.ListN.{length, getElem?}
 use Rattle.words.specs.Choice.{if_then_else_}
 use Rattle.values.specs.Types.{Ty}
-use Rattle.values.specs.Values.{Cell}
-use Rattle.language.specs.Tree.{Typed, Decl, declare, holding, Items, Global, local, class, procedure, Tree}
-use Rattle.language.specs.Names.{Sort, isVariable, isLabel, isClass, isField, isProcedure, Definition, types, results, definesHead, definesFields, definesGlobals, Scope, procedureOf, rootOf, Found, nowhere, found, firstOf, otherwise, across, lookup, definesTyped, definesItems}
+use Rattle.language.specs.Tree.{Typed, declare, holding, Global, local, class, procedure, Tree}
+use Rattle.language.specs.Names.{Sort, isVariable, isLabel, isClass, isField, isProcedure, Definition, types, results, definesHead, definesFields, definesGlobals, procedureOf, rootOf, Found, nowhere, found, firstOf, otherwise, across, lookup, definesTyped, definesItems}
 use Rattle.language.specs.Limits.{locals}
-use Rattle.bytecode.specs.Instructions.{Owner, own, root}
-use Rattle.compile_code.specs.Compile.{Around, inside, outermost, bound, global, held, labels, scopesOf, heldIn, boundAt, globalAt, kept, orCell, hasLabel}
-use Rattle.compile_code.specs.Compile.{Cell as Kept, cellOf as keptOf}
-use Rattle.compile_code.specs.Encode.{rootVariables, parameterCells, startOfRoot, aroundBody}
-use Rattle.compile_simulation.specs.Meets.{Setting}
-use Rattle.compile_simulation.specs.View.{blocksOf, rootsOf, seenC, cellAt, Apart, Distinct, Below, below-apart, below-more, Differs}
-use Rattle.compile_simulation.specs.Ops.{Owners}
-use Rattle.compile_simulation.specs.Placed.{Fit}
-use Rattle.compile_simulation.specs.Blocks.{gotoOk, okTyped}
-use Rattle.compile_simulation.specs.Calls.{Static, inside-proc}
-use Rattle.compile_simulation.specs.Sim.{okItems}
-use Rattle.compile_simulation.specs.Root.{okRoot, atRoot}
-use Rattle.compile_names.specs.Good.{goodHead, goodItems, never}
-use Rattle.compile_names.specs.Known.{Style, ofRoot, ofShared, Entered, entered-scopes, entered-new, Has, Known, Given, known-procedure, known-labels, scopes-parameters, outer, first-append, only-labels, IsLabel, nothing}
+use Rattle.bytecode.specs.Instructions.{Owner}
+use Rattle.compile_code.specs.Compile.{Around, inside, labels, scopesOf, hasLabel}
+use Rattle.compile_code.specs.Compile.{cellOf as keptOf}
+use Rattle.compile_code.specs.Encode.{parameterCells, startOfRoot}
+use Rattle.compile_simulation.specs.Blocks.{gotoOk}
+use Rattle.compile_names.specs.Good.{never}
+use Rattle.compile_names.specs.Known.{Style, Entered, entered-scopes, entered-new, Has, Known, Given, known-procedure, scopes-parameters, outer, first-append, nothing}
 use Rattle.compile_names.specs.Labels.{Reached, here-or, has-label}
 use Rattle.compile_names.specs.Globals.{goodGlobals, GlobalsIn, globals-root, globals-procedure, variable-found, good-locals}
-use Rattle.compile_names.specs.Inside.{Inside, in-labels}
-use Rattle.compile_names.specs.Named.{AnyCell, typed-ok, named-items}
+use Rattle.compile_names.specs.Inside.{Inside}
 
 -- ── no label is defined by a head ──
 label-not : (a b : ℕ) (s : Sort) (w : Bool) (f : Found) → ((s ≡ isLabel) → ⊥) → (if eqb b a then found s false else f) ≡ found isLabel w → f ≡ found isLabel w

@@ -1,31 +1,30 @@
 -- A part without faults is in order for the loading rules: every operand has its type, every cell, field and argument its own.
-use mathlib.Core.Bool.{Bool, true, false}
+use mathlib.Core.Bool.{true}
 use mathlib.Core.Path.{_≡_, refl, ap, ap₂, sym, _∙_, subst}
 use mathlib.Core.List.{List, [], _∷_, map}
-use mathlib.Core.Option.{Option, none, some}
-use Prim.Native.Nat.{ℕ, zero, suc, _+_, _<_}
+use mathlib.Core.Option.{none, some}
+use Prim.Native.Nat.{ℕ, zero, suc, _<_}
 use native.Mathlib.Omega.{arith}
-use lib.Dec.{T, ltb, lt→ltb}
+use lib.Dec.{ltb, lt→ltb}
 use lib.ListN.{length, getElem?, take}
-use Rattle.words.specs.Choice.{if_then_else_}
 use Rattle.values.specs.Types.{Ty, integer, logical, bits, reference}
 use Rattle.values.specs.Operators.{Binary, unary, binary, opType}
-use Rattle.values.specs.Values.{Value, ref, initial}
-use Rattle.language.specs.Tree.{Typed, Decl, declare, holding, Stmt, block, assign, when, choose, while, goto, assert, call, setLevel, select, Items, noItem, label, item, Arms, lastArm, arm, Target, toVariable, toField, Expr, number, truth, pattern, null, variable, invoke, field, make, operate1, operate2, conditional, fader, blockExpr, Exprs, noExpr, expr, Global}
-use Rattle.language.specs.Names.{isVariable, isLabel, isClass, isField, isProcedure, types, results, Scope, blockOf, expressionOf, found, lookup}
-use Rattle.language.specs.Faults.{withTy, typeE, typesE, typeTarget, consTy, isTy, variableTy, resultTy}
+use Rattle.values.specs.Values.{ref, initial}
+use Rattle.language.specs.Tree.{Decl, declare, holding, Stmt, block, assign, when, choose, while, goto, assert, call, setLevel, select, Items, noItem, label, item, Arms, lastArm, arm, Target, toVariable, toField, Expr, number, truth, pattern, null, variable, invoke, field, make, operate1, operate2, conditional, fader, blockExpr, Exprs, noExpr, expr, Global}
+use Rattle.language.specs.Names.{isVariable, isClass, isField, isProcedure, types, results, Scope, blockOf, expressionOf}
+use Rattle.language.specs.Faults.{withTy, typeE, typesE, typeTarget, isTy, variableTy, resultTy}
 use Rattle.language.specs.Faults.{fieldTy as treeFieldTy}
 use Rattle.bytecode.specs.Macro.{Body, Macro, keep}
-use Rattle.bytecode.specs.Instructions.{Owner, own, push}
-use Rattle.bytecode.specs.Rules.{Effect, plain, wrong, effect, cellTy, fieldTy, calledBody}
-use Rattle.compile_code.specs.Compile.{Around, inside, bound, held, labels, scopesOf, kept, Class, classesOf, classNames, namesOf, indexOf, Proc, procsOf, procNames, classNumber, bodyNumber, fieldNumber, orInteger, wayOf, tyIn, tyE}
+use Rattle.bytecode.specs.Instructions.{Owner, push}
+use Rattle.bytecode.specs.Rules.{plain, effect, cellTy, fieldTy, calledBody}
+use Rattle.compile_code.specs.Compile.{Around, inside, bound, held, labels, scopesOf, kept, Class, classesOf, namesOf, indexOf, Proc, procsOf, classNumber, bodyNumber, fieldNumber, orInteger, wayOf, tyIn, tyE}
 use Rattle.compile_code.specs.Compile.{cellOf as keptOf}
 use Rattle.compile_code.specs.Encode.{fieldTypes}
 use Rattle.compile_rules.specs.Pass.{tysE, okHead, WayOk, okS, okItems, okArms, okTarget, okE, okEs}
 use Rattle.compile_names.specs.Good.{ClassAt, IsA, is-ty, goodTy, goodHead, HasTy, goodS, goodItems, goodArms, goodTarget, goodE, goodEs}
-use Rattle.compile_names.specs.Known.{yes, ofBlock, Entered, Has}
+use Rattle.compile_names.specs.Known.{yes, ofBlock, Entered}
 use Rattle.compile_names.specs.Labels.{Reached, reached-block, reached-expression}
-use Rattle.compile_names.specs.Globals.{classAs, goodGlobals, GlobalsIn, globals-block, globals-expression, ClassFound, class-found, ProcedureFound, procedure-found, FieldFound, field-found}
+use Rattle.compile_names.specs.Globals.{classAs, goodGlobals, GlobalsIn, globals-block, globals-expression, ClassFound, class-found, procedure-found, field-found}
 use Rattle.compile_names.specs.Inside.{Inside, block-scopes, in-labels, in-block, in-expression, good-inside, good-value}
 use Rattle.compile_names.specs.Named.{types-split}
 use Rattle.compile_names.specs.Types.{unary-in, ways-in}

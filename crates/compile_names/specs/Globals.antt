@@ -1,23 +1,23 @@
 -- The root's head without faults: its classes, fields, procedures and variables, found by name where the compiler numbers them.
-use mathlib.Core.Bool.{Bool, true, false, not, _&&_, _||_}
-use mathlib.Core.Path.{_≡_, refl, ap, ap₂, sym, _∙_, subst}
+use mathlib.Core.Bool.{Bool, true, false, _||_}
+use mathlib.Core.Path.{_≡_, refl, ap, sym, _∙_, subst}
 use mathlib.Core.List.{List, [], _∷_, _++_}
-use mathlib.Core.Option.{Option, none, some}
+use mathlib.Core.Option.{some}
 use Prim.Native.Nat.{ℕ, zero, suc, _+_}
 use native.Mathlib.Omega.{arith}
-use lib.Dec.{T, eqb, eqb→eq, eqb-refl}
+use lib.Dec.{eqb}
 use lib.ListN.{length, getElem?}
 use Rattle.words.specs.Choice.{if_then_else_}
-use Rattle.values.specs.Types.{Ty, integer, logical, bits, reference}
-use Rattle.values.specs.Ends.{Refusal, refusal}
-use Rattle.language.specs.Tree.{Typed, Decl, declare, holding, Stmt, Items, Expr, Body, proper, function, Global, local, class, procedure, Tree}
-use Rattle.language.specs.Names.{Sort, isVariable, isLabel, isClass, isField, isProcedure, Definition, define, types, results, definesTyped, definesHead, definesItems, definesFields, definesGlobals, Scope, inBlock, inExpression, inProcedure, blockOf, expressionOf, procedureOf, rootOf, Found, nowhere, found, firstOf, otherwise, across, lookup}
-use Rattle.language.specs.Faults.{isTy, typeE, mistypedUnless, faultIf, among, twice, faultsTyped, faultsHead, namesHead, namesTyped, namesGlobal, bodyFits, faultsBody, faultsGlobal, faultsGlobals, faultsItems, faults, sizeGlobal}
+use Rattle.values.specs.Types.{Ty}
+use Rattle.values.specs.Ends.{Refusal}
+use Rattle.language.specs.Tree.{Typed, Decl, declare, holding, Items, Body, proper, function, Global, local, class, procedure, Tree}
+use Rattle.language.specs.Names.{Sort, isVariable, isLabel, isClass, isField, isProcedure, Definition, types, results, definesTyped, definesHead, definesFields, definesGlobals, Scope, blockOf, expressionOf, procedureOf, rootOf, Found, nowhere, found, firstOf, otherwise, across, lookup}
+use Rattle.language.specs.Faults.{isTy, typeE, mistypedUnless, among, twice, faultsTyped, namesHead, namesTyped, namesGlobal, bodyFits, faultsBody, faultsGlobal, faultsGlobals, faultsItems, faults, sizeGlobal}
 use Rattle.language.specs.Limits.{locals}
-use Rattle.language.specs.Execute.{Procedure, procedureIn, classIn, elseFind}
-use Rattle.compile_code.specs.Compile.{indexOf, amongNames, namesOf, Class, classesOf, classNames, Proc, procsOf, procNames, Field, fieldIn}
-use Rattle.compile_names.specs.Good.{goodTy, goodTyped, goodHead, goodS, goodE, goodItems, HasTy, split, never, fault-if, unless, is-ty, good-typed, good-head, good-S, good-E, good-items}
-use Rattle.compile_names.specs.Known.{nothing, first-append, IsLabel, outer, uncross, equal-names, same-names, or-left, or-right}
+use Rattle.language.specs.Execute.{Procedure, procedureIn, classIn}
+use Rattle.compile_code.specs.Compile.{indexOf, amongNames, namesOf, Class, classesOf, classNames, Proc, procsOf, procNames, fieldIn}
+use Rattle.compile_names.specs.Good.{goodTyped, goodHead, goodS, goodE, goodItems, HasTy, split, never, fault-if, unless, is-ty, good-typed, good-head, good-S, good-E, good-items}
+use Rattle.compile_names.specs.Known.{nothing, first-append, IsLabel, outer, uncross, equal-names, same-names}
 
 -- ── the root's head ──
 abbrev pub goodBody : List Scope → Body → Type 0
@@ -331,18 +331,13 @@ good-locals (local (holding h) ∷ gs) ss l m f g = good-locals gs ss l m f (g .
 good-locals (class c xs ∷ gs) ss l m f g = good-locals gs ss l (namesTyped xs (c ∷ m)) (λ b h. f b (neither (eqb b c) (among b m) (unseen b xs (c ∷ m) h) .1)) (g .1)
 good-locals (procedure a xs d ∷ gs) ss l m f g = good-locals gs ss l (a ∷ m) (λ b h. f b (neither (eqb b a) (among b m) h .1)) (g .1)
 
--- a procedure that the tree finds is without faults
-pub procedure-good : (gs : List Global) (ss : List Scope) (seen : List ℕ) (a : ℕ) (q : Procedure) → goodGlobals ss seen gs → procedureIn a gs ≡ some q
-    → goodTyped (procedureOf (q .parameters) ∷ ss) [] (q .parameters) × goodBody (procedureOf (q .parameters) ∷ ss) (q .body)
-unfolding goodGlobals procedureIn
-procedure-good [] ss seen a q g h = let z : _≡_ {A = ℕ} 0 1 = cc h in absurd (omega arith)
-procedure-good (local d ∷ gs) ss seen a q g h = procedure-good gs ss (namesGlobal (local d) seen) a q (g .1) h
-procedure-good (class c xs ∷ gs) ss seen a q g h = procedure-good gs ss (namesGlobal (class c xs) seen) a q (g .1) h
-procedure-good (procedure b xs d ∷ gs) ss seen a q g h = pick (eqb a b) h (λ k. procedure-good gs ss (b ∷ seen) a q (g .1) k)
-  where
-    pick : (t : Bool) → elseFind t (record { parameters = xs; body = d }) (procedureIn a gs) ≡ some q
-        → (procedureIn a gs ≡ some q → goodTyped (procedureOf (q .parameters) ∷ ss) [] (q .parameters) × goodBody (procedureOf (q .parameters) ∷ ss) (q .body))
-        → goodTyped (procedureOf (q .parameters) ∷ ss) [] (q .parameters) × goodBody (procedureOf (q .parameters) ∷ ss) (q .body)
-    pick true k f = let z : record { parameters = xs; body = d } ≡ q = cc k in
-        subst (λ y. goodTyped (procedureOf (y .parameters) ∷ ss) [] (y .parameters) × goodBody (procedureOf (y .parameters) ∷ ss) (y .body)) z (g .0 .0, g .0 .1)
-    pick false k f = f k
+-- a procedure of the root's head, by its number, is without faults
+pub procedure-at : (gs : List Global) (ss : List Scope) (seen : List ℕ) (i : ℕ) (p : Proc) → goodGlobals ss seen gs → getElem? (procsOf gs) i ≡ some p
+    → goodTyped (procedureOf (p .parameters) ∷ ss) [] (p .parameters) × goodBody (procedureOf (p .parameters) ∷ ss) (p .body)
+unfolding goodGlobals procsOf
+procedure-at [] ss seen i p g e = let z : _≡_ {A = ℕ} 0 1 = cc e in absurd (omega arith)
+procedure-at (local d ∷ gs) ss seen i p g e = procedure-at gs ss (namesGlobal (local d) seen) i p (g .1) e
+procedure-at (class c xs ∷ gs) ss seen i p g e = procedure-at gs ss (namesGlobal (class c xs) seen) i p (g .1) e
+procedure-at (procedure a xs b ∷ gs) ss seen zero p g e = let z : record { name = a; parameters = xs; body = b } ≡ p = cc e in
+    subst (λ y. goodTyped (procedureOf (y .parameters) ∷ ss) [] (y .parameters) × goodBody (procedureOf (y .parameters) ∷ ss) (y .body)) z (g .0 .0, g .0 .1)
+procedure-at (procedure a xs b ∷ gs) ss seen (suc i) p g e = procedure-at gs ss (a ∷ seen) i p (g .1) e

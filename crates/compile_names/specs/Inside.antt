@@ -1,5 +1,5 @@
 -- What is known of the names at a place, kept by entering blocks and block expressions.
-use mathlib.Core.Path.{_≡_, refl, ap, sym, _∙_, subst}
+use mathlib.Core.Path.{_≡_, sym, subst}
 use mathlib.Core.List.{List, [], _∷_}
 use Prim.Native.Nat.{ℕ}
 use Rattle.values.specs.Types.{Ty}

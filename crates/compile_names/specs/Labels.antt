@@ -1,13 +1,13 @@
 -- A label that the lookup finds within reach is one that the compiled goto reaches.
 use mathlib.Core.Bool.{Bool, true, false}
-use mathlib.Core.Path.{_≡_, refl, ap, sym, _∙_, subst}
+use mathlib.Core.Path.{_≡_, refl, sym, _∙_, subst}
 use mathlib.Core.List.{List, [], _∷_, _++_}
 use Prim.Native.Nat.{ℕ}
 use native.Mathlib.Omega.{arith}
 use lib.Dec.{T, eqb, eqb→eq, eqb-refl}
 use Rattle.words.specs.Choice.{if_then_else_}
 use Rattle.language.specs.Tree.{Decl, declare, holding, Items, noItem, label, item}
-use Rattle.language.specs.Names.{Sort, isVariable, isLabel, definesHead, definesItems, blockOf, expressionOf, inBlock, Found, nowhere, found, firstOf, otherwise, across, lookup}
+use Rattle.language.specs.Names.{Sort, isVariable, isLabel, definesHead, definesItems, blockOf, expressionOf, Found, nowhere, found, firstOf, otherwise, across, lookup}
 use Rattle.compile_code.specs.Compile.{Around, inside, bound, held, labels, scopesOf, hasLabel}
 use Rattle.compile_simulation.specs.Placed.{landsAt}
 use Rattle.compile_simulation.specs.Blocks.{gotoOk}

@@ -1,28 +1,25 @@
 -- A part without faults is in order for the simulation: names are found, gotos reach, counts agree.
-use mathlib.Core.Bool.{Bool, true, false}
-use mathlib.Core.Path.{_≡_, refl, ap, sym, _∙_, subst}
-use mathlib.Core.List.{List, [], _∷_, map}
+use mathlib.Core.Path.{_≡_, refl, ap, sym, _∙_}
+use mathlib.Core.List.{List, [], _∷_}
 use mathlib.Core.Option.{Option, none, some}
-use Prim.Native.Nat.{ℕ, zero, suc, _+_}
+use Prim.Native.Nat.{ℕ, zero, suc}
 use native.Mathlib.Omega.{arith}
 use lib.ListN.{length, getElem?}
 use Rattle.values.specs.Types.{Ty, integer, logical, bits, reference}
-use Rattle.values.specs.Values.{Value, ref, initial}
+use Rattle.values.specs.Values.{ref, initial}
 use Rattle.language.specs.Tree.{Typed, Decl, declare, holding, Stmt, block, assign, when, choose, while, goto, assert, call, setLevel, select, Items, noItem, label, item, Arms, lastArm, arm, Target, toVariable, toField, Expr, number, truth, pattern, null, variable, invoke, field, make, operate1, operate2, conditional, fader, blockExpr, Exprs, noExpr, expr, Body, proper, function, Global, countExprs}
-use Rattle.language.specs.Names.{isVariable, isLabel, isClass, isField, isProcedure, types, results, Scope, blockOf, expressionOf, found, lookup}
+use Rattle.language.specs.Names.{isClass, isField, isProcedure, types, results, Scope, blockOf, expressionOf}
 use Rattle.language.specs.Faults.{typeE, typesE, consTy}
-use Rattle.language.specs.Execute.{Procedure, procedureIn}
 use Rattle.bytecode.specs.Instructions.{Owner}
-use Rattle.compile_code.specs.Compile.{Around, inside, bound, held, labels, scopesOf, kept, Class, classesOf, classNames, namesOf, indexOf, classNumber, fieldNumber, fieldIn, tyIn}
-use Rattle.compile_code.specs.Compile.{cellOf as keptOf}
+use Rattle.compile_code.specs.Compile.{Around, inside, bound, held, labels, scopesOf, Class, classesOf, namesOf, indexOf, classNumber, fieldNumber, tyIn}
 use Rattle.compile_simulation.specs.View.{classOf, seenV}
 use Rattle.compile_simulation.specs.Records.{okField, field-there}
-use Rattle.compile_simulation.specs.Blocks.{gotoOk, okTyped, okHead}
+use Rattle.compile_simulation.specs.Blocks.{okTyped, okHead}
 use Rattle.compile_simulation.specs.Sim.{IsProper, IsFunction, okS, okItems, okArms, okTarget, okE, okEs}
-use Rattle.compile_names.specs.Good.{ClassAt, IsA, goodTy, goodHead, HasTy, goodS, goodItems, goodArms, goodTarget, goodE, goodEs}
-use Rattle.compile_names.specs.Known.{ofBlock, Entered, Has}
+use Rattle.compile_names.specs.Good.{ClassAt, IsA, goodTy, goodHead, goodS, goodItems, goodArms, goodTarget, goodE, goodEs}
+use Rattle.compile_names.specs.Known.{ofBlock, Entered}
 use Rattle.compile_names.specs.Labels.{Reached, reached-block, reached-expression}
-use Rattle.compile_names.specs.Globals.{classAs, goodGlobals, GlobalsIn, globals-block, globals-expression, ClassFound, class-found, ProcedureFound, procedure-found, FieldFound, field-found}
+use Rattle.compile_names.specs.Globals.{classAs, goodGlobals, GlobalsIn, globals-block, globals-expression, ClassFound, class-found, procedure-found, FieldFound, field-found}
 use Rattle.compile_names.specs.Inside.{Inside, in-labels, in-block, in-expression, good-inside, good-value}
 
 pub class-of : (cs : List Class) (k : ℕ) (x : Class) → getElem? cs k ≡ some x → classOf cs k ≡ x

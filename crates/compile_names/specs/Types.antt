@@ -1,20 +1,18 @@
 -- Types in the tree and in the macro: classes by name, classes by number.
-use mathlib.Core.Bool.{Bool, true, false, _&&_}
-use mathlib.Core.Path.{_≡_, refl, ap, ap₂, sym, _∙_, subst}
+use mathlib.Core.Bool.{Bool, true, false}
+use mathlib.Core.Path.{_≡_, refl, ap, sym, _∙_}
 use mathlib.Core.List.{List, [], _∷_, map}
 use mathlib.Core.Option.{Option, none, some}
-use Prim.Native.Nat.{ℕ, zero, suc, _<_}
+use Prim.Native.Nat.{ℕ}
 use native.Mathlib.Omega.{arith}
-use lib.ListN.{length, getElem?}
 use Rattle.words.specs.Choice.{if_then_else_}
-use Rattle.values.specs.Types.{Ty, integer, logical, bits, reference, same, sames}
-use Rattle.values.specs.Operators.{Operator, unary, binary, Unary, negate, absolute, complement, Binary, plus, minus, times, divide, remainder, less, atMost, greater, atLeast, equal, unequal, both, either, shiftLeft, shiftRight, takes, orElse, logicalOrBits, anyOne, opType}
+use Rattle.values.specs.Types.{Ty, integer, logical, bits, reference, sames}
+use Rattle.values.specs.Operators.{unary, binary, Unary, negate, absolute, complement, Binary, plus, minus, times, divide, remainder, less, atMost, greater, atLeast, equal, unequal, both, either, shiftLeft, shiftRight, takes, orElse, logicalOrBits, anyOne, opType}
 use Rattle.loading.specs.Tests.{sames→≡, sames-refl}
 use Rattle.bytecode.specs.Macro.{Macro}
 use Rattle.language.specs.Tree.{Global}
-use Rattle.compile_code.specs.Compile.{tyIn, Way, plainly, marked, ifTrue, ifFalse, logically, wayOf}
+use Rattle.compile_code.specs.Compile.{tyIn, wayOf}
 use Rattle.compile_rules.specs.Pass.{WayOk}
-use Rattle.compile_names.specs.Good.{never}
 
 none-some : {A B : Type 0} (x : A) → _≡_ {A = Option A} none (some x) → B
 none-some x h = let z : _≡_ {A = ℕ} 0 1 = cc h in absurd (omega arith)

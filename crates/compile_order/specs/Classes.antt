@@ -1,8 +1,8 @@
 -- Every type that a tree without faults declares is that of a class there is.
-use mathlib.Core.Path.{_≡_, refl, subst}
+use mathlib.Core.Path.{_≡_}
 use mathlib.Core.List.{List, [], _∷_, map}
-use mathlib.Core.Option.{Option, none, some}
-use Prim.Native.Nat.{ℕ, _≤_, _<_}
+use mathlib.Core.Option.{some}
+use Prim.Native.Nat.{ℕ, _≤_}
 use native.Mathlib.Omega.{arith}
 use lib.ListN.{length, getElem?}
 use Rattle.values.specs.Types.{Ty, integer, logical, bits, reference}
@@ -14,9 +14,8 @@ use Rattle.compile_code.specs.Compile.{Class, classesOf, classNumber, Proc, pro
 use Rattle.compile_code.specs.Encode.{fieldTypes, compiled}
 use Rattle.compile_macro.specs.Built.{classCount, params-length}
 use Rattle.compile_names.specs.Good.{goodTy, goodTyped}
-use Rattle.compile_names.specs.Globals.{classAs, goodGlobals, GlobalsIn, globals-root, globals-procedure, class-found, good-tree}
+use Rattle.compile_names.specs.Globals.{classAs, goodGlobals, GlobalsIn, globals-root, globals-procedure, class-found, good-tree, procedure-at}
 use Rattle.compile_names.specs.Fitting.{class-types, within}
-use Rattle.compile_names.specs.Flowing.{procedure-at}
 
 module _ (gs : List Global) where
   -- a type whose class is found by name has it by number

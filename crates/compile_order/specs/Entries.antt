@@ -1,18 +1,18 @@
 -- The entries of a program keep to their fields and to the layout: what this says of its head, its classes and its procedures.
-use mathlib.Core.Bool.{Bool, true, false, _&&_}
-use mathlib.Core.Path.{_≡_, refl, ap, sym, _∙_, subst}
-use mathlib.Core.List.{List, [], _∷_, _++_, map}
-use mathlib.Core.Option.{Option, none, some}
+use mathlib.Core.Bool.{true}
+use mathlib.Core.Path.{_≡_, refl, subst}
+use mathlib.Core.List.{List, [], _∷_, map}
+use mathlib.Core.Option.{some}
 use Prim.Native.Nat.{ℕ, zero, suc, _+_, _*_, _/_, _%_, _≤_}
 use native.Mathlib.Omega.{arith}
-use lib.Dec.{eqb, leb}
+use lib.Dec.{leb}
 use lib.IntN.{pos}
 use lib.ListN.{length, getElem?, length-append}
 use borrow.Author.Tests.{leb-true}
-use Rattle.values.specs.Types.{Ty, integer, logical, bits, reference}
-use Rattle.language.specs.Tree.{Typed, Decl, Body, proper, function, Global, local, class, procedure, Tree}
-use Rattle.language.specs.Names.{types, results}
-use Rattle.language.specs.Faults.{sizeItems, sizeGlobal}
+use Rattle.values.specs.Types.{integer, logical, bits, reference}
+use Rattle.language.specs.Tree.{Body, proper, function, Global, local, class, procedure, Tree}
+use Rattle.language.specs.Names.{results}
+use Rattle.language.specs.Faults.{sizeItems}
 use Rattle.language.specs.Limits.{locals}
 use Rattle.language.specs.Table.{Entry, entry, inLayout, flatTyped, flatDecl, flatItems, flatBody, flatGlobal, flatHead, flatten, resultCode, classCount, procedureCount}
 use Rattle.language.specs.Judge.{all, total, inFields}

@@ -1,13 +1,13 @@
 -- Every body of a tree within its limits keeps to them.
-use mathlib.Core.Bool.{Bool, true, false, not, _&&_}
+use mathlib.Core.Bool.{Bool, true, false, not}
 use mathlib.Core.Path.{_≡_, refl, sym, subst}
 use mathlib.Core.List.{List, [], _∷_}
-use mathlib.Core.Option.{Option, none, some}
-use Prim.Native.Nat.{ℕ, zero, suc, _+_, _≤_}
+use mathlib.Core.Option.{some}
+use Prim.Native.Nat.{ℕ, zero, suc, _+_}
 use lib.Dec.{leb}
-use lib.ListN.{length, getElem?}
+use lib.ListN.{getElem?}
 use borrow.Author.Tests.{leb-true}
-use Rattle.language.specs.Tree.{Typed, Body, proper, function, Global, local, class, procedure, Tree}
+use Rattle.language.specs.Tree.{Global, local, class, procedure, Tree}
 use Rattle.language.specs.Faults.{sizeGlobal}
 use Rattle.language.specs.Limits.{Usage, keepsLimits, bodyUsage, rootUsage, overLimits, procedureLimits, limits}
 use Rattle.loading.specs.Tests.{never, never-some, same-some, halves}

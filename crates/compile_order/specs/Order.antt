@@ -1,14 +1,10 @@
 -- Every program of the subset is in order for the compiler: its macro passes the loading check, and is short.
-use mathlib.Core.Path.{_≡_, refl}
 use mathlib.Core.List.{List}
-use Prim.Native.Nat.{ℕ, _≤_}
+use Prim.Native.Nat.{ℕ}
 use native.Mathlib.Omega.{arith}
-use Rattle.language.specs.Tree.{Tree}
 use Rattle.language.specs.Judge.{Program}
-use Rattle.values.specs.Ends.{accepted}
-use Rattle.bytecode.specs.Rules.{judgeMacro}
-use Rattle.compile_code.specs.Encode.{compiled, macroOf}
-use Rattle.compile_macro.specs.Built.{InOrder, accepted-macro}
+use Rattle.compile_code.specs.Encode.{compiled}
+use Rattle.compile_macro.specs.Built.{InOrder}
 use Rattle.compile_order.specs.Entries.{few-classes, few-procs, length-tree, root-entries, proc-entries, proc-results, class-fields}
 use Rattle.compile_order.specs.Limited.{root-keeps, proc-keeps}
 use Rattle.compile_order.specs.Classes.{fields-known, parameters-known}

@@ -1,17 +1,17 @@
 -- A tree without faults is in order for the loading rules: every body, by its types.
 use mathlib.Core.Path.{_≡_, refl, ap, sym, _∙_, subst}
 use mathlib.Core.List.{List, [], _∷_, _++_, map, append-assoc}
-use mathlib.Core.Option.{Option, none, some}
-use Prim.Native.Nat.{ℕ, zero, suc, _+_}
+use mathlib.Core.Option.{none, some}
+use Prim.Native.Nat.{ℕ, suc}
 use native.Mathlib.Omega.{arith}
 use lib.ListN.{length, getElem?, take, length-append}
 use Rattle.values.specs.Types.{Ty}
-use Rattle.language.specs.Tree.{Typed, Decl, declare, holding, Items, Body, proper, function, Global, Tree}
-use Rattle.language.specs.Names.{Scope, types, procedureOf, rootOf}
+use Rattle.language.specs.Tree.{Typed, Decl, declare, holding, Body, proper, function, Global, Tree}
+use Rattle.language.specs.Names.{Scope, types, rootOf}
 use Rattle.language.specs.Faults.{faults}
 use Rattle.language.specs.Limits.{locals}
 use Rattle.bytecode.specs.Macro.{Macro}
-use Rattle.bytecode.specs.Instructions.{Owner, own, root, bodyAt}
+use Rattle.bytecode.specs.Instructions.{own, root, bodyAt}
 use Rattle.bytecode.specs.Rules.{cellsOf}
 use Rattle.compile_code.specs.Code.{Code, At, at, skip, after, cellsIn}
 use Rattle.compile_code.specs.Compile.{Around, global, held, labels, scopesOf, boundAt, Proc, procsOf, codeHead, codeItems, tyIn}
@@ -21,12 +21,12 @@ use Rattle.compile_macro.specs.Right.{okRootTy, RootOk, okBodyTy}
 use Rattle.compile_macro.specs.Built.{shared, params-length, part-proc, head-of, root-celled}
 use Rattle.compile_names.specs.Good.{goodHead, goodItems}
 use Rattle.compile_names.specs.Known.{ofRoot, ofShared, Entered, entered-scopes, Given}
-use Rattle.compile_names.specs.Globals.{goodGlobals, goodBody, GlobalsIn, globals-root, good-locals, good-tree}
+use Rattle.compile_names.specs.Globals.{goodGlobals, goodBody, GlobalsIn, globals-root, good-locals, good-tree, procedure-at}
 use Rattle.compile_names.specs.Inside.{Inside, in-labels}
 use Rattle.compile_names.specs.Fitting.{Tabled, CellTy, push-ok, has-type, typed-S, typed-E, typed-items}
 use Rattle.compile_names.specs.Bodies.{inside-root, reached-root, reached-procedure, inside-procedure}
-use Rattle.compile_names.specs.Simulated.{kept-global, unbound-shared, body-scopes}
-use Rattle.compile_names.specs.Flowing.{procedure-at}
+use Rattle.compile_names.specs.Shared.{kept-global}
+use Rattle.compile_order.specs.Around.{shared-unbound, body-scopes}
 
 -- ── classes and procedures stand by their numbers ──
 take-front : (xs ys : List Ty) → take (length xs) (xs ++ ys) ≡ xs
@@ -100,11 +100,11 @@ module _ (t : Tree) (h : faults t ≡ []) where
   inside-body k q e =
       let P = CellTy (compiled t) (suc k) (t .head) in let r = proc-there t k q e in
       inside-procedure P t good (q .parameters) (shared t) (given-typed (compiled t) (t .head) (suc k) (q .parameters) 0 [] (cellsIn (codeProc t q (r .0)) []) (ap cellsOf (r .1)) refl)
-        (inside-root P t good ofShared (shared t) (λ a. kept-global (t .head) a (shared t) (unbound-shared t h a))
+        (inside-root P t good ofShared (shared t) (λ a. kept-global (t .head) a (shared t) (shared-unbound t a))
           (shared-typed (compiled t) (t .head) (suc k) (locals (t .head)) (startOfRoot t) (startOfRoot t) (at 0 0) (λ Δ p. codeItems (t .head) (t .items) (labels (t .items) (p .address) ∷ Δ) [] p) (root-celled t .0)))
 
   pub proc-typed : (k : ℕ) (q : Proc) → getElem? (procsOf (t .head)) k ≡ some q → okBodyTy (compiled t) (suc k) (t .head) (q .body) (aroundBody t (q .parameters))
-  proc-typed k q e = pick (q .body) (subst (λ ss. goodBody ss (q .body)) (sym (body-scopes t h (q .parameters))) (procedure-at (t .head) (rootOf t ∷ []) [] k q good e .1))
+  proc-typed k q e = pick (q .body) (subst (λ ss. goodBody ss (q .body)) (sym (body-scopes t (q .parameters))) (procedure-at (t .head) (rootOf t ∷ []) [] k q good e .1))
     where
       pick : (b : Body) → goodBody (scopesOf (aroundBody t (q .parameters))) b → okBodyTy (compiled t) (suc k) (t .head) b (aroundBody t (q .parameters))
       pick (proper s) g = typed-S (compiled t) (suc k) (t .head) (tabled t) (rootOf t ∷ []) good s (aroundBody t (q .parameters)) (inside-body k q e)
