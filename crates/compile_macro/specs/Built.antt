@@ -49,8 +49,9 @@ use Rattle.compile_macro.specs.Fields.{Entered, Holdable, holdable-writa
 use Rattle.compile_macro.specs.Cells.{newCells, cells-length, count-head, countS, countItems, countE, celled, each-cell}
 use Rattle.compile_macro.specs.Shapes.{Heads}
 use Rattle.compile_macro.specs.Narrow.{roomy-marks, ShapeLines, shape-lines, both-marks, placed-each, placed-apart, placed-few, flowing, two-ops, narrow-op, narrow-lines, each-more}
-use Rattle.language.specs.Faults.{sizeItems}
-use Rattle.compile_macro.specs.Short.{sizeHeads, short}
+use Rattle.language.specs.Faults.{sizeItems, sizeGlobal}
+use Rattle.language.specs.Judge.{total as sumOf}
+use Rattle.compile_macro.specs.Short.{short}
 use Rattle.compile_macro.specs.Right.{RootOk, okBodyTy, Keeps, root-cells-known, root-marks-known, root-flows, proc-cells-known, proc-marks-known, proc-flows}
 
 abbrev pub shared : Tree → List Around
@@ -83,7 +84,7 @@ pub record InOrder (t : Tree) : Type 0 where
   pub fields-known : Each (ReadClass (classCount t)) (compiled t .classes)
   pub few-classes : classCount t ≤ 16
   pub few-procs : length (procsOf (t .head)) ≤ 63
-  pub entries : sizeHeads (t .head) + sizeItems (t .items) ≤ 2048
+  pub entries : sumOf sizeGlobal (t .head) + sizeItems (t .items) ≤ 2048
 
 -- ── lists ──
 each-from : {A : Type 0} (P : A → Type 0) (xs : List A) → ((k : ℕ) (x : A) → getElem? xs k ≡ some x → P x) → Each P xs
@@ -397,11 +398,17 @@ module _ (t : Tree) where
     right-everywhere = no-fault (compiled t) (parts t) bodies-are code-is shapes-are well-formed heads-right chain (λ k p h.
         passes (compiled t) k (p .code) (startOf p) (flows k p h) (lined k p h) (begins-empty (compiled t) (parts t) bodies-are code-is shapes-are well-formed heads-right chain k p h))
 
-    is-short : total (parts t) < 65536
+    is-short : total (parts t) ≤ 45120
     is-short = short t (O .root-keeps .1) (λ k q h. O .procs k q h .keeps .1) (O .few-procs) (O .entries)
 
+    pub few-instructions : length (compiled t .code) ≤ 45120
+    few-instructions = rw code-size is-short
+
+    pub few-shapes : length (compiled t .shapes) ≤ 45120
+    few-shapes = rw shapes-are (let z = placed-few (linesOf (parts t)) 0 in let y = lines-length (parts t) 0 chain in let x = is-short in omega arith)
+
     code-short : length (compiled t .code) < 65536
-    code-short = rw code-size is-short
+    code-short = let x = few-instructions in omega arith
 
     narrow-lines-of : (i : ℕ) (ps : List Part) → ((k : ℕ) (p : Part) → getElem? ps k ≡ some p → Ops (λ x. OfBytes (recordOf x)) (p .code)) → Lines (λ x. OfBytes (recordOf x)) (linesOf ps)
     unfolding linesOf
@@ -421,7 +428,7 @@ module _ (t : Tree) where
     writable = record {
       well-formed = well-formed;
       narrow = narrow;
-      few-shapes = rw shapes-are (let z = placed-few (linesOf (parts t)) 0 in let y = lines-length (parts t) 0 chain in let x = is-short in omega arith);
+      few-shapes = let x = few-shapes in omega arith;
       small-bodies = each-from SmallBody (compiled t .bodies) (λ k b h. let z = body-cells k b h .1 in omega arith);
       small-shapes = each-more (λ (p : Placed). (0 ≤ p .address) × (p .address < total (parts t)) × Fine (p .found)) SmallShape (λ p h.
           let q = halves (leb (p .found .holds) 16) (leb (length (p .found .operands)) 32) (h .2 .1) in

@@ -1,4 +1,4 @@
--- The whole code is short: 22 ops an entry, and a last op for each body.
+-- The whole code is short: at most 22 ops an entry, and a last op for each body, so at most 22 × 2,048 + 64 = 45,120.
 use mathlib.Core.Path.{_≡_, refl, ap, _∙_}
 use mathlib.Core.List.{List, [], _∷_}
 use mathlib.Core.Option.{some}
@@ -9,6 +9,7 @@ use Rattle.language.specs.Tree.{Typed, Decl, declare, holding, Global, local, c
 use Rattle.language.specs.Tree.{Body as TreeBody, proper, function}
 use Rattle.language.specs.Names.{procedureOf, rootOf}
 use Rattle.language.specs.Faults.{sizeItems, sizeBody, sizeGlobal}
+use Rattle.language.specs.Judge.{total as sumOf}
 use Rattle.language.specs.Limits.{bodyUsage, rootUsage, locals, headHolds, holdsItems}
 use Rattle.bytecode.specs.Instructions.{own, root}
 use Rattle.compile_code.specs.Code.{at, after, At}
@@ -18,16 +19,12 @@ use Rattle.compile_simulation.specs.Sizes.{lenS, lenE, lenItems, lenHead}
 use Rattle.compile_simulation.specs.Bound.{holdsIn, few-head, fewS, fewItems, fewE}
 use Rattle.compile_macro.specs.Laid.{ops, after-ops, total}
 
-unfoldable pub sizeHeads : List Global → ℕ
-sizeHeads [] = 0
-sizeHeads (g ∷ gs) = sizeGlobal g + sizeHeads gs
-
 unfoldable sizeProcs : List Proc → ℕ
 sizeProcs [] = 0
 sizeProcs (q ∷ ps) = sizeBody (q .body) + sizeProcs ps
 
-in-heads : (gs : List Global) → length (locals gs) + sizeProcs (procsOf gs) ≤ sizeHeads gs
-unfolding locals procsOf sizeProcs sizeHeads
+in-heads : (gs : List Global) → length (locals gs) + sizeProcs (procsOf gs) ≤ sumOf sizeGlobal gs
+unfolding locals procsOf sizeProcs sumOf
 in-heads [] = omega arith
 in-heads (local d ∷ gs) = let q = in-heads gs in omega arith
 in-heads (class c xs ∷ gs) = let q = in-heads gs in omega arith
@@ -77,9 +74,9 @@ module _ (t : Tree) where
       let f = few-head (locals (t .head)) [] (λ Φ. opsItems (t .items) (rootOf t ∷ []) (theLabels (t .items) ∷ Φ)) (22 * sizeItems (t .items)) (holdsItems (t .items)) (λ Φ m. fewItems (t .items) (rootOf t ∷ []) (theLabels (t .items) ∷ Φ) m) (omega arith) in
       let u = after-ops x (at 0 0) in omega arith
 
-  -- "At most 2,048 entries": sizeHeads and sizeItems count those below the root's own
+  -- "At most 2,048 entries": the sizes count those below the root's own
   pub short : rootUsage t .holds ≤ 16 → ((k : ℕ) (q : Proc) → getElem? (procsOf (t .head)) k ≡ some q → bodyUsage (q .parameters) (q .body) .holds ≤ 16) → length (procsOf (t .head)) ≤ 63
-      → sizeHeads (t .head) + sizeItems (t .items) ≤ 2048 → total (parts t) < 65536
+      → sumOf sizeGlobal (t .head) + sizeItems (t .items) ≤ 2048 → total (parts t) ≤ 45120
   unfolding parts total
   short h f n l =
       let a = root-few h in let b = procs-few (procsOf (t .head)) (after (codeRoot t) (at 0 0) .address) f in let c = in-heads (t .head) in omega arith

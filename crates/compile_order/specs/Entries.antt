@@ -12,7 +12,7 @@ use borrow.Author.Tests.{leb-true}
 use Rattle.values.specs.Types.{integer, logical, bits, reference}
 use Rattle.language.specs.Tree.{Body, proper, function, Global, local, class, procedure, Tree}
 use Rattle.language.specs.Names.{results}
-use Rattle.language.specs.Faults.{sizeItems}
+use Rattle.language.specs.Faults.{sizeItems, sizeGlobal}
 use Rattle.language.specs.Limits.{locals}
 use Rattle.language.specs.Table.{Entry, entry, inLayout, flatTyped, flatDecl, flatItems, flatBody, flatGlobal, flatHead, flatten, resultCode, classCount, procedureCount}
 use Rattle.language.specs.Judge.{all, total, inFields}
@@ -22,7 +22,6 @@ use Rattle.heads.specs.Trees.{length-Items, length-Global}
 use Rattle.compile_code.specs.Compile.{Class, classesOf, Proc, procsOf, tyIn}
 use Rattle.compile_code.specs.Encode.{fieldTypes}
 use Rattle.compile_macro.specs.Fields.{Entered, parted}
-use Rattle.compile_macro.specs.Short.{sizeHeads}
 
 -- ── the root's head, its classes and its procedures ──
 -- what holds of every definition of the root's head holds of the procedures and classes that the compiler numbers
@@ -56,12 +55,12 @@ few-procs (class c xs ∷ gs) = let q = few-procs gs in omega arith
 few-procs (procedure a xs b ∷ gs) = let q = few-procs gs in omega arith
 
 -- ── how many entries ──
-length-head : (gs : List Global) → length (flatHead gs) ≡ sizeHeads gs
-unfolding flatHead sizeHeads
+length-head : (gs : List Global) → length (flatHead gs) ≡ total sizeGlobal gs
+unfolding flatHead total
 length-head [] = refl
 length-head (g ∷ gs) = omega (arith, length-append (flatGlobal g) (flatHead gs), length-Global g, length-head gs)
 
-pub length-tree : (t : Tree) → length (flatten t) ≡ suc (sizeHeads (t .head) + sizeItems (t .items))
+pub length-tree : (t : Tree) → length (flatten t) ≡ suc (total sizeGlobal (t .head) + sizeItems (t .items))
 unfolding flatten
 length-tree t = omega (arith, length-append (flatHead (t .head)) (flatItems (t .items)), length-head (t .head), length-Items (t .items))
 
