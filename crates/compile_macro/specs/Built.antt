@@ -6,7 +6,7 @@ use mathlib.Core.Option.{Option, none, some}
 use Prim.Native.Nat.{ℕ, zero, suc, _+_, _≤_, _<_}
 use native.Mathlib.Omega.{arith}
 use lib.Dec.{eqb, leb}
-use lib.ListN.{length, getElem?, drop}
+use lib.ListN.{length, getElem?, drop, length-append}
 use borrow.Author.Tests.{le-ltb, leb-true, eqb-true, eqb-false, eq-eqb, ne-eqb}
 use Rattle.words.specs.Choice.{if_then_else_}
 use Rattle.words.specs.Laws.{Bytes}
@@ -94,10 +94,6 @@ each-from P (x ∷ xs) f = (f 0 x refl, each-from P xs (λ k y h. f (suc k) y h)
 drop-len : {A : Type 0} (xs ys : List A) → drop (length xs) (xs ++ ys) ≡ ys
 drop-len [] ys = refl
 drop-len (x ∷ xs) ys = drop-len xs ys
-
-len-app : {A : Type 0} (xs ys : List A) → length (xs ++ ys) ≡ length xs + length ys
-len-app [] ys = omega arith
-len-app (x ∷ xs) ys = let q = len-app xs ys in omega arith
 
 each-app : {A : Type 0} (P : A → Type 0) (xs ys : List A) → Each P xs → Each P ys → Each P (xs ++ ys)
 each-app P [] ys h g = g
@@ -253,7 +249,7 @@ module _ (t : Tree) where
         (let z = cells-length (codeRoot t) [] in let y = count-head (t .head) (global own) (locals (t .head)) (startOfRoot t) (at 0 0) (λ Δ q. codeItems (t .head) (t .items) (labels (t .items) (q .address) ∷ Δ) [] q) (cellsItems (t .items)) (λ Δ q. countItems (t .head) (t .items) (labels (t .items) (q .address) ∷ Δ) [] q) in
           let x = O .root-keeps .0 in omega arith)
         (λ j q b h g. let z = cells-length (codeProc t q b) [] in let y = body-count (q .body) (q .parameters) (at b (length (q .parameters))) in let x = O .procs j q h .keeps .0 in
-          let v = params-length (tyIn (t .head)) (q .parameters) in let u = len-app (map (tyIn (t .head)) (types (q .parameters))) (cellsIn (codeProc t q b) []) in omega arith)
+          let v = params-length (tyIn (t .head)) (q .parameters) in let u = length-append (map (tyIn (t .head)) (types (q .parameters))) (cellsIn (codeProc t q b) []) in omega arith)
       where
         body-count : (x : TreeBody) (xs : List Typed) (p : At) → length xs + newCells (codeBody (t .head) x (aroundBody t xs) p) ≡ bodyUsage xs x .cells
         body-count (proper s) xs p = let z = countS (t .head) s (aroundBody t xs) [] p in omega arith
@@ -349,7 +345,7 @@ module _ (t : Tree) where
         subst (λ (x : Body). ReadBody (classCount t) (length (compiled t .code)) x) (q .2) (record {
           begins = rw code-size (let z = begins (parts t) 0 chain p k (q .1) in let y = some-op k p (q .1) in omega arith);
           fewer-parameters = by-part (λ k (p : Part). p .head .parameters ≤ length (p .head .cells)) (omega arith)
-              (λ j r c h' g. let z = len-app (map (tyIn (t .head)) (types (r .parameters))) (cellsIn (codeProc t r c) []) in let y = params-length (tyIn (t .head)) (r .parameters) in omega arith) k p (q .1);
+              (λ j r c h' g. let z = length-append (map (tyIn (t .head)) (types (r .parameters))) (cellsIn (codeProc t r c) []) in let y = params-length (tyIn (t .head)) (r .parameters) in omega arith) k p (q .1);
           one-result = results-are k p (q .1) .1;
           named-results = results-are k p (q .1) .0;
           named-cells = cells-known k p (q .1);

@@ -3,7 +3,7 @@ use mathlib.Core.Bool.{Bool, true, false}
 use mathlib.Core.Path.{_≡_, refl, ap, ap₂, _∙_}
 use mathlib.Core.List.{List, [], _∷_}
 use mathlib.Core.Option.{some}
-use Prim.Native.Nat.{ℕ, zero, suc, _+_, _<_}
+use Prim.Native.Nat.{ℕ, suc, _+_, _<_}
 use native.Mathlib.Omega.{arith}
 use lib.Dec.{ltb}
 use lib.ListN.{length, getElem?, drop}
@@ -22,6 +22,7 @@ use Rattle.bytecode.specs.Rules.{plain, wrong, effect, cellsOf}
 use Rattle.loading.specs.Terms.{Each, Named}
 use Rattle.compile_code.specs.Code.{Code, nil, op, mark, cell, _▸_, At, at, skip, after, cellsIn}
 use Rattle.compile_code.specs.Compile.{Around, inside, outermost, bound, global, held, labels, scopesOf, passing, theLabels, hasLabel, labelAt, Way, plainly, marked, ifTrue, ifFalse, wayOf, codeWay, codeGoto, codeHead, codeS, codeItems, codeArms, codeTarget, codeE, codeEs, opsArms, tyTarget, tyE, tyIn}
+use Rattle.compile_rules.specs.Lines.{dropped}
 use Rattle.compile_rules.specs.Pass.{Celled, okHead, okS, okItems, okArms, okTarget, okE, okEs}
 
 unfoldable pub newCells : Code → ℕ
@@ -122,19 +123,13 @@ module _ (gs : List Global) where
     countEs (expr e es) Γ ts p = let q = countE e Γ ts p in let r = countEs es Γ (tyE gs Γ e ∷ ts) (after (codeE gs e Γ ts p) p) in omega arith
 
 -- ── each where its number says ──
-dropped-ty : (xs : List Ty) (n : ℕ) (t : Ty) (rest : List Ty) → drop n xs ≡ t ∷ rest → (getElem? xs n ≡ some t) × (drop (suc n) xs ≡ rest)
-dropped-ty [] zero l rest h = let z : _≡_ {A = ℕ} 0 1 = cc h in absurd (omega arith)
-dropped-ty [] (suc n) l rest h = let z : _≡_ {A = ℕ} 0 1 = cc h in absurd (omega arith)
-dropped-ty (x ∷ xs) zero l rest h = (cc h, cc h)
-dropped-ty (x ∷ xs) (suc n) l rest h = dropped-ty xs n l rest h
-
 module _ (m : Macro) (k : ℕ) (gs : List Global) (B : Body) (there : bodyAt m k ≡ some B) where
   pub celled : (x : Code) (p : At) (rest : List Ty) → drop (p .cell) (B .cells) ≡ cellsIn x rest → Celled m k gs x p × (drop (after x p .cell) (B .cells) ≡ rest)
   unfolding Celled cellsIn after
   celled nil p rest h = (tt, h)
   celled (op i) p rest h = (tt, h)
   celled (mark s) p rest h = (tt, h)
-  celled (cell t) p rest h = let q = dropped-ty (B .cells) (p .cell) t rest h in (ap (λ o. getElem? (cellsOf o) (p .cell)) there ∙ q .0, q .1)
+  celled (cell t) p rest h = let q = dropped (B .cells) (p .cell) t rest h in (ap (λ o. getElem? (cellsOf o) (p .cell)) there ∙ q .0, q .1)
   celled (x ▸ y) p rest h = let q = celled x p (cellsIn y rest) h in let r = celled y (after x p) rest (q .1) in ((q .0, r .0), r .1)
 
 -- ── each of a known type ──

@@ -104,7 +104,7 @@ begins (q ∷ ps) a c p (suc k) h = let z = begins ps (a + ops (q .code)) (c .2)
 drop-more : (xs whole ys : List Line) (n : ℕ) → drop n whole ≡ xs ++ ys → drop (n + length xs) whole ≡ ys
 drop-more [] whole ys n h = let e : n ≡ n + 0 = omega arith in subst (λ z. drop z whole ≡ ys) e h
 drop-more (x ∷ xs) whole ys n h =
-    let d = dropped (record { classes = []; bodies = []; code = []; shapes = [] }) 0 whole whole n x (xs ++ ys) h in
+    let d = dropped whole n x (xs ++ ys) h in
     let e : suc n + length xs ≡ n + suc (length xs) = omega arith in
     subst (λ z. drop z whole ≡ ys) e (drop-more xs whole ys (suc n) (d .1))
 
@@ -170,7 +170,7 @@ module _ (m : Macro) (ps : List Part) (eb : m .bodies ≡ headsOf ps) (ec : m .c
   lined : (k e : ℕ) (ls rest : List Line) (i : ℕ) → drop i (linesOf ps) ≡ ls ++ rest → e ≡ i + length ls → ((j : ℕ) → i ≤ j → j < e → inBody m k j ≡ true) → inBody m k e ≡ false → Lines Writable ls → Lined m k ls i
   lined k e [] rest i d q b z h = let u : e ≡ i = q ∙ omega arith in subst (λ y. inBody m k y ≡ false) u z
   lined k e (l ∷ ls) rest i d q b z h =
-      let v = dropped m k (linesOf ps) (linesOf ps) i l (ls ++ rest) d in
+      let v = dropped (linesOf ps) i l (ls ++ rest) d in
       let here = b i (omega arith) (omega arith) in
       (fetched m (linesOf ps) i l ec (v .0) (h .0),
         ap (λ s. shapeIn s i) es ∙ subst (λ y. shapeIn (placed 0 (linesOf ps)) y ≡ shapeAt (linesOf ps) i) (omega arith) (shown (linesOf ps) 0 i) ∙ shape-at (linesOf ps) i l (v .0),
@@ -206,9 +206,6 @@ module _ (m : Macro) (ps : List Part) (eb : m .bodies ≡ headsOf ps) (ec : m .c
           no : (b : Bool) → (b && false) ≡ false
           no true = refl
           no false = refl
-
-      pub there : bodyAt m k ≡ some (p .head)
-      there = its .its-head
 
       pub begins-empty : into m (p .head .first) ≡ atFirst
       unfolding into

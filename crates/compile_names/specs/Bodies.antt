@@ -11,11 +11,11 @@ use Rattle.language.specs.Tree.{Typed, declare, holding, Global, local, class, 
 use Rattle.language.specs.Names.{Sort, isVariable, isLabel, isClass, isField, isProcedure, Definition, types, results, definesHead, definesFields, definesGlobals, procedureOf, rootOf, Found, nowhere, found, firstOf, otherwise, across, lookup, definesTyped, definesItems}
 use Rattle.language.specs.Limits.{locals}
 use Rattle.bytecode.specs.Instructions.{Owner}
+use Rattle.loading.specs.Tests.{never}
 use Rattle.compile_code.specs.Compile.{Around, inside, labels, scopesOf, hasLabel}
 use Rattle.compile_code.specs.Compile.{cellOf as keptOf}
 use Rattle.compile_code.specs.Encode.{parameterCells, startOfRoot}
 use Rattle.compile_simulation.specs.Blocks.{gotoOk}
-use Rattle.compile_names.specs.Good.{never}
 use Rattle.compile_names.specs.Known.{Style, Entered, entered-scopes, entered-new, Has, Known, Given, known-procedure, scopes-parameters, outer, first-append, nothing}
 use Rattle.compile_names.specs.Labels.{Reached, here-or, has-label}
 use Rattle.compile_names.specs.Globals.{goodGlobals, GlobalsIn, globals-root, globals-procedure, variable-found, good-locals}

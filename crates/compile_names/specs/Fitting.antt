@@ -5,8 +5,9 @@ use mathlib.Core.List.{List, [], _∷_, map}
 use mathlib.Core.Option.{none, some}
 use Prim.Native.Nat.{ℕ, zero, suc, _<_}
 use native.Mathlib.Omega.{arith}
-use lib.Dec.{ltb, lt→ltb}
+use lib.Dec.{ltb}
 use lib.ListN.{length, getElem?, take}
+use borrow.Author.Tests.{lt-ltb}
 use Rattle.values.specs.Types.{Ty, integer, logical, bits, reference}
 use Rattle.values.specs.Operators.{Binary, unary, binary, opType}
 use Rattle.values.specs.Values.{ref, initial}
@@ -22,7 +23,7 @@ use Rattle.compile_code.specs.Compile.{cellOf as keptOf}
 use Rattle.compile_code.specs.Encode.{fieldTypes}
 use Rattle.compile_rules.specs.Pass.{tysE, okHead, WayOk, okS, okItems, okArms, okTarget, okE, okEs}
 use Rattle.compile_names.specs.Good.{ClassAt, IsA, is-ty, goodTy, goodHead, HasTy, goodS, goodItems, goodArms, goodTarget, goodE, goodEs}
-use Rattle.compile_names.specs.Known.{yes, ofBlock, Entered}
+use Rattle.compile_names.specs.Known.{ofBlock, Entered}
 use Rattle.compile_names.specs.Labels.{Reached, reached-block, reached-expression}
 use Rattle.compile_names.specs.Globals.{classAs, goodGlobals, GlobalsIn, globals-block, globals-expression, ClassFound, class-found, procedure-found, field-found}
 use Rattle.compile_names.specs.Inside.{Inside, block-scopes, in-labels, in-block, in-expression, good-inside, good-value}
@@ -73,7 +74,7 @@ module _ (m : Macro) (k : ℕ) (gs : List Global) where
     unfolding effect
     push-null ss c g h us =
         let q = g c (isClass (h .0)) (h .1 .0) tt (h .1 .1) in let f = class-typed c (h .0) (class-found gs c (h .0) (q .0) (q .1)) in
-        let l : ltb (classNumber gs c) (length (m .classes)) ≡ true = yes (ltb (classNumber gs c) (length (m .classes))) (lt→ltb (classNumber gs c) (length (m .classes)) (within (m .classes) (classNumber gs c) (map (tyIn gs) (h .0)) f)) in
+        let l : ltb (classNumber gs c) (length (m .classes)) ≡ true = lt-ltb (classNumber gs c) (length (m .classes)) (within (m .classes) (classNumber gs c) (map (tyIn gs) (h .0)) f) in
         rw l refl
 
     pub push-ok : (ss : List Scope) (t : Ty) → GlobalsIn gs ss → goodTy ss t → (us : List Ty) → effect m k (push (initial (tyIn gs t))) us ≡ plain [] (tyIn gs t ∷ [])

@@ -7,6 +7,7 @@ use Prim.Native.Nat.{ℕ, zero, suc, _+_}
 use native.Mathlib.Omega.{arith}
 use lib.Dec.{eqb}
 use lib.ListN.{length, getElem?}
+use borrow.Author.Tests.{eqb-true, eq-eqb}
 use Rattle.words.specs.Choice.{if_then_else_}
 use Rattle.values.specs.Types.{Ty}
 use Rattle.values.specs.Ends.{Refusal}
@@ -15,9 +16,10 @@ use Rattle.language.specs.Names.{Sort, isVariable, isLabel, isClass, isField, i
 use Rattle.language.specs.Faults.{isTy, typeE, mistypedUnless, among, twice, faultsTyped, namesHead, namesTyped, namesGlobal, bodyFits, faultsBody, faultsGlobal, faultsGlobals, faultsItems, faults, sizeGlobal}
 use Rattle.language.specs.Limits.{locals}
 use Rattle.language.specs.Execute.{Procedure, procedureIn, classIn}
+use Rattle.loading.specs.Tests.{never, neither}
 use Rattle.compile_code.specs.Compile.{indexOf, amongNames, namesOf, Class, classesOf, classNames, Proc, procsOf, procNames, fieldIn}
-use Rattle.compile_names.specs.Good.{goodTyped, goodHead, goodS, goodE, goodItems, HasTy, split, never, fault-if, unless, is-ty, good-typed, good-head, good-S, good-E, good-items}
-use Rattle.compile_names.specs.Known.{nothing, first-append, IsLabel, outer, uncross, equal-names, same-names}
+use Rattle.compile_names.specs.Good.{goodTyped, goodHead, goodS, goodE, goodItems, HasTy, split, fault-if, unless, is-ty, good-typed, good-head, good-S, good-E, good-items}
+use Rattle.compile_names.specs.Known.{nothing, first-append, IsLabel, outer, uncross}
 
 -- ── the root's head ──
 abbrev pub goodBody : List Scope → Body → Type 0
@@ -126,8 +128,8 @@ eqb-comm a b = pick (eqb a b) refl (eqb b a) refl
   where
     pick : (x : Bool) → eqb a b ≡ x → (y : Bool) → eqb b a ≡ y → x ≡ y
     pick true e true f = refl
-    pick true e false f = never (sym f ∙ same-names b a (sym (equal-names a b e)))
-    pick false e true f = never (sym e ∙ same-names a b (sym (equal-names b a f)))
+    pick true e false f = never (sym f ∙ eq-eqb b a (sym (eqb-true a b e)))
+    pick false e true f = never (sym e ∙ eq-eqb a b (sym (eqb-true b a f)))
     pick false e false f = refl
 
 abbrev IsField : ℕ → Found → Type 0
@@ -186,7 +188,7 @@ class-found (class c xs ∷ gs) a ts w h = pick (eqb c a) refl h (λ k. class-fo
         → (firstOf a (definesFields c xs ++ definesGlobals gs) ≡ found (isClass ts) w → ClassFound gs a ts) → ClassFound (class c xs ∷ gs) a ts
     pick true e k f =
         let z : types xs ≡ ts = cc k in
-        record { fields = xs; in-tree = rw (eqb-comm a c ∙ e) refl; its-types = z; at-number = rw e (ap (λ n. some (classAs n xs)) (equal-names c a e)) }
+        record { fields = xs; in-tree = rw (eqb-comm a c ∙ e) refl; its-types = z; at-number = rw e (ap (λ n. some (classAs n xs)) (eqb-true c a e)) }
     pick false e k f = let r = f k in record { fields = r .fields; in-tree = rw (eqb-comm a c ∙ e) (r .in-tree); its-types = r .its-types; at-number = rw e (r .at-number) }
 class-found (procedure b xs d ∷ gs) a ts w h =
     let q = skips a b (isProcedure (types xs) (results d)) (isClass ts) w (firstOf a (definesGlobals gs)) (λ e. let z : _≡_ {A = ℕ} 0 1 = cc e in absurd (omega arith)) h in
@@ -220,14 +222,10 @@ procedure-found (procedure b xs d ∷ gs) a ts us w h = pick (eqb b a) refl h (�
         → (firstOf a (definesGlobals gs) ≡ found (isProcedure ts us) w → ProcedureFound gs a ts us) → ProcedureFound (procedure b xs d ∷ gs) a ts us
     pick true e k f =
         let y : types xs ≡ ts = cc k in let z : results d ≡ us = cc k in
-        record { its = record { parameters = xs; body = d }; in-tree = rw (eqb-comm a b ∙ e) refl; takes-types = y; gives-types = z; at-number = rw e (ap (λ n. some (procAs n (record { parameters = xs; body = d }))) (equal-names b a e)) }
+        record { its = record { parameters = xs; body = d }; in-tree = rw (eqb-comm a b ∙ e) refl; takes-types = y; gives-types = z; at-number = rw e (ap (λ n. some (procAs n (record { parameters = xs; body = d }))) (eqb-true b a e)) }
     pick false e k f = let r = f k in record { its = r .its; in-tree = rw (eqb-comm a b ∙ e) (r .in-tree); takes-types = r .takes-types; gives-types = r .gives-types; at-number = rw e (r .at-number) }
 
 -- ── fields: their class's number needs that no class is named twice ──
-neither : (a b : Bool) → (a || b) ≡ false → (a ≡ false) × (b ≡ false)
-neither true b h = never (sym h)
-neither false b h = (refl, h)
-
 unseen : (c : ℕ) (xs : List Typed) (l : List ℕ) → among c (namesTyped xs l) ≡ false → among c l ≡ false
 unfolding namesTyped among
 unseen c [] l h = h
@@ -282,7 +280,7 @@ field-found (class d xs ∷ gs) ss seen k a c t w g h =
   where
     here : InFields xs a d c t → FieldFound (class d xs ∷ gs) seen k a c t
     here r =
-        let e : eqb d c ≡ true = same-names d c (sym (r .same-class)) in
+        let e : eqb d c ≡ true = eq-eqb d c (sym (r .same-class)) in
         record { fields = xs; at-number = rw e (ap (λ n. some (classAs n xs)) (sym (r .same-class))); its-class = rw (e, r .there) (omega arith); its-index = rw (r .there) refl; there = r .there; its-type = r .its-type; new = subst (λ z. among z seen ≡ false) (sym (r .same-class)) (g .0 .1) }
     further : amongNames a (namesOf xs) ≡ false → FieldFound gs (namesTyped xs (d ∷ seen)) (suc k) a c t → FieldFound (class d xs ∷ gs) seen k a c t
     further n r =

@@ -5,17 +5,19 @@ use mathlib.Core.List.{List, [], _∷_, _++_}
 use mathlib.Core.Option.{Option, some}
 use Prim.Native.Nat.{ℕ, suc}
 use native.Mathlib.Omega.{arith}
-use lib.Dec.{T, eqb, eqb→eq, eqb-refl}
+use lib.Dec.{eqb}
+use borrow.Author.Tests.{eqb-true, eq-eqb}
 use Rattle.words.specs.Choice.{if_then_else_}
 use Rattle.values.specs.Types.{Ty}
 use Rattle.language.specs.Tree.{Typed, Decl, declare, holding, Items, noItem, label, item}
 use Rattle.language.specs.Names.{Sort, isVariable, isLabel, isClass, isField, isProcedure, Definition, definesTyped, definesHead, definesItems, Scope, blockOf, expressionOf, procedureOf, Found, nowhere, found, firstOf, otherwise, across, lookup}
 use Rattle.language.specs.Faults.{among}
 use Rattle.bytecode.specs.Instructions.{Owner, own, root}
+use Rattle.loading.specs.Tests.{never}
 use Rattle.compile_code.specs.Compile.{Around, inside, bound, global, held, labels, scopesOf, boundAt, globalAt, kept, orCell}
 use Rattle.compile_code.specs.Compile.{Cell as Kept, cellOf as keptOf}
 use Rattle.compile_code.specs.Encode.{parameterCells}
-use Rattle.compile_names.specs.Good.{goodHead, never}
+use Rattle.compile_names.specs.Good.{goodHead}
 
 -- how the variables of a head are known inside, and how they are looked up
 pub record Style : Type 0 where
@@ -71,10 +73,6 @@ abbrev pub ofShared : Style
 ofShared = record { owner = root; name = global root; hold = λ g Γ. Γ; look = λ a Γ. globalAt a Γ; look-name = global-look root; look-hold = λ a g Γ. refl; scopes-name = global-scopes root; scopes-hold = λ g Γ. refl }
 
 -- ── names of a head stand in it once ──
-pub yes : (b : Bool) → T b → b ≡ true
-yes true u = refl
-yes false u = absurd u
-
 pub or-left : (a b : Bool) → a ≡ true → (a || b) ≡ true
 or-left true b h = refl
 or-left false b h = never h
@@ -83,19 +81,13 @@ pub or-right : (a b : Bool) → b ≡ true → (a || b) ≡ true
 or-right true b h = refl
 or-right false b h = h
 
-pub equal-names : (a b : ℕ) → eqb a b ≡ true → a ≡ b
-equal-names a b h = eqb→eq a b (subst T (sym h) tt)
-
-pub same-names : (a b : ℕ) → a ≡ b → eqb a b ≡ true
-same-names a b h = subst (λ z. eqb a z ≡ true) h (yes (eqb a a) (eqb-refl a))
-
 pub not-again : (a : ℕ) (ss : List Scope) (seen : List ℕ) (ds : List Decl) → goodHead ss seen ds → among a seen ≡ true → firstOf a (definesHead ds) ≡ nowhere
 unfolding goodHead definesHead firstOf among
 not-again a ss seen [] g h = refl
 not-again a ss seen (declare x ∷ ds) g h = pick (eqb (x .name) a) refl (not-again a ss (x .name ∷ seen) ds (g .2) (or-right (eqb a (x .name)) (among a seen) h))
   where
     pick : (t : Bool) → eqb (x .name) a ≡ t → firstOf a (definesHead ds) ≡ nowhere → (if t then found (isVariable (x .type)) false else firstOf a (definesHead ds)) ≡ nowhere
-    pick true e f = never (sym (g .0) ∙ subst (λ z. among z seen ≡ true) (sym (equal-names (x .name) a e)) h)
+    pick true e f = never (sym (g .0) ∙ subst (λ z. among z seen ≡ true) (sym (eqb-true (x .name) a e)) h)
     pick false e f = f
 not-again a ss seen (holding q ∷ ds) g h = not-again a ss seen ds g h
 
@@ -144,7 +136,7 @@ module _ (P : Owner → ℕ → Ty → Type 0) where
             → (firstOf a (definesHead ds) ≡ found (isVariable t) w → Has (S .look a Δ) t) → Has (S .look a Δ) t
         pick true u k f =
             let z : x .type ≡ t = cc k in
-            let new : among a (x .name ∷ seen) ≡ true = or-left (eqb a (x .name)) (among a seen) (same-names a (x .name) (sym (equal-names (x .name) a u))) in
+            let new : among a (x .name ∷ seen) ≡ true = or-left (eqb a (x .name)) (among a seen) (eq-eqb a (x .name) (sym (eqb-true (x .name) a u))) in
             (S .owner, e .0, entered-past ds (S .name (x .name) (e .0) ∷ Γ) Δ a (e .2) (not-again a ss (x .name ∷ seen) ds (g .2) new)
               ∙ S .look-name a (x .name) (e .0) Γ ∙ ap (λ b. if b then some (kept (S .owner) (e .0)) else S .look a Γ) u, subst (λ y. P (S .owner) (e .0) y) z (e .1))
         pick false u k f = f k

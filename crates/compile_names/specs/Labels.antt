@@ -4,7 +4,8 @@ use mathlib.Core.Path.{_≡_, refl, sym, _∙_, subst}
 use mathlib.Core.List.{List, [], _∷_, _++_}
 use Prim.Native.Nat.{ℕ}
 use native.Mathlib.Omega.{arith}
-use lib.Dec.{T, eqb, eqb→eq, eqb-refl}
+use lib.Dec.{eqb}
+use borrow.Author.Tests.{eqb-true, eq-eqb}
 use Rattle.words.specs.Choice.{if_then_else_}
 use Rattle.language.specs.Tree.{Decl, declare, holding, Items, noItem, label, item}
 use Rattle.language.specs.Names.{Sort, isVariable, isLabel, definesHead, definesItems, blockOf, expressionOf, Found, nowhere, found, firstOf, otherwise, across, lookup}
@@ -29,13 +30,6 @@ no-label a (declare x ∷ ds) w h = pick (eqb (x .name) a) h (no-label a ds w)
     pick false h f = f h
 no-label a (holding g ∷ ds) w h = no-label a ds w h
 
-same-way : (a b : ℕ) → eqb b a ≡ true → eqb a b ≡ true
-same-way a b h = let e : b ≡ a = eqb→eq b a (subst T (sym h) tt) in subst (λ z. eqb a z ≡ true) (sym e) (yes (eqb a a) (eqb-refl a))
-  where
-    yes : (t : Bool) → T t → t ≡ true
-    yes true u = refl
-    yes false u = absurd u
-
 pub has-label : (a : ℕ) (is : Items) (s : Sort) (w : Bool) → firstOf a (definesItems is) ≡ found s w → hasLabel a is ≡ true
 unfolding firstOf definesItems hasLabel
 has-label a noItem s w h = let z : _≡_ {A = ℕ} 0 1 = cc h in absurd (omega arith)
@@ -43,7 +37,7 @@ has-label a (label b is) s w h = pick (eqb b a) refl h (eqb a b) refl (has-label
   where
     pick : (t : Bool) → eqb b a ≡ t → (if t then found isLabel false else firstOf a (definesItems is)) ≡ found s w → (u : Bool) → eqb a b ≡ u → (firstOf a (definesItems is) ≡ found s w → hasLabel a is ≡ true) → (if u then true else hasLabel a is) ≡ true
     pick t e h true v f = refl
-    pick true e h false v f = let z : false ≡ true = sym v ∙ same-way a b e in let y : _≡_ {A = ℕ} 0 1 = cc z in absurd (omega arith)
+    pick true e h false v f = let z : false ≡ true = sym v ∙ eq-eqb a b (sym (eqb-true b a e)) in let y : _≡_ {A = ℕ} 0 1 = cc z in absurd (omega arith)
     pick false e h false v f = f h
 has-label a (item x is) s w h = has-label a is s w h
 

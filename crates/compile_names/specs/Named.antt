@@ -57,9 +57,6 @@ module _ (gs : List Global) where
   class-at : (ss : List Scope) (c : ℕ) → GlobalsIn gs ss → (k : ClassAt ss c) → ClassFound gs c (k .0)
   class-at ss c g k = let q = g c (isClass (k .0)) (k .1 .0) tt (k .1 .1) in class-found gs c (k .0) (q .0) (q .1)
 
-  pub class-is : (c : ℕ) (ts : List Ty) → ClassFound gs c ts → (xs : List Typed) × (classOf (classesOf gs) (classNumber gs c) ≡ classAs c xs)
-  class-is c ts k = (k .fields, class-of (classesOf gs) (classNumber gs c) (classAs c (k .fields)) (k .at-number))
-
   pub typed-ok : (ss : List Scope) (x : Typed) → GlobalsIn gs ss → goodTy ss (x .type) → okTyped gs x
   typed-ok ss x g = pick (x .type)
     where

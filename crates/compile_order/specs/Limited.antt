@@ -1,27 +1,23 @@
 -- Every body of a tree within its limits keeps to them.
-use mathlib.Core.Bool.{Bool, true, false, not}
-use mathlib.Core.Path.{_≡_, refl, sym, subst}
+use mathlib.Core.Bool.{not}
+use mathlib.Core.Path.{_≡_, subst}
 use mathlib.Core.List.{List, [], _∷_}
 use mathlib.Core.Option.{some}
 use Prim.Native.Nat.{ℕ, zero, suc, _+_}
 use lib.Dec.{leb}
 use lib.ListN.{getElem?}
-use borrow.Author.Tests.{leb-true}
+use borrow.Author.Tests.{leb-true, not-false}
 use Rattle.language.specs.Tree.{Global, local, class, procedure, Tree}
 use Rattle.language.specs.Faults.{sizeGlobal}
 use Rattle.language.specs.Limits.{Usage, keepsLimits, bodyUsage, rootUsage, overLimits, procedureLimits, limits}
-use Rattle.loading.specs.Tests.{never, never-some, same-some, halves}
+use Rattle.loading.specs.Tests.{never-some, same-some, halves}
 use Rattle.compile_code.specs.Compile.{Proc, procsOf}
 use Rattle.compile_macro.specs.Right.{Keeps}
 use Rattle.compile_names.specs.Good.{split, fault-if}
 
-not-not : (b : Bool) → not b ≡ false → b ≡ true
-not-not true h = refl
-not-not false h = never (sym h)
-
 keeps : (u : Usage) (p : ℕ) → overLimits u p ≡ [] → Keeps u
 keeps u p h =
-    let q = halves (leb (u .cells) 32) _ (not-not (keepsLimits u) (fault-if (not (keepsLimits u)) 6 p h)) in let r = halves (leb (u .holds) 16) (leb (u .need) 32) (q .1) in
+    let q = halves (leb (u .cells) 32) _ (not-false (keepsLimits u) (fault-if (not (keepsLimits u)) 6 p h)) in let r = halves (leb (u .holds) 16) (leb (u .need) 32) (q .1) in
     (leb-true (u .cells) 32 (q .0), leb-true (u .holds) 16 (r .0), leb-true (u .need) 32 (r .1))
 
 procedure-keeps : (gs : List Global) (n k : ℕ) (q : Proc) → procedureLimits n gs ≡ [] → getElem? (procsOf gs) k ≡ some q → Keeps (bodyUsage (q .parameters) (q .body))

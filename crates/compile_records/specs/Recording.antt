@@ -1,21 +1,16 @@
 -- A macro that is well-formed reads back from its bytes; where its numbers are narrow these are bytes.
-use mathlib.Core.Path.{_≡_, refl, ap, ap₂, sym, _∙_, subst}
-use mathlib.Core.Bool.{Bool, true, false, not, _&&_}
+use mathlib.Core.Path.{_≡_, refl, ap, sym, _∙_}
+use mathlib.Core.Bool.{true, false}
 use mathlib.Core.List.{List, [], _∷_, _++_, map, reverse, reverseAux}
-use mathlib.Core.Option.{Option, none, some}
-use Prim.Native.Nat.{ℕ, zero, suc, _+_, _-_, _*_, _/_, _%_, _≤_, _<_}
+use mathlib.Core.Option.{Option, some}
+use Prim.Native.Nat.{ℕ, suc, _+_, _-_, _*_, _/_, _%_, _≤_}
 use native.Mathlib.Omega.{arith}
-use lib.Dec.{eqb, leb, ltb}
-use lib.ListN.{length, getElem?, getD, drop}
-use borrow.Author.Tests.{le-leb, lt-ltb, ne-eqb, eq-eqb, eqb-true}
-use Rattle.words.specs.Choice.{if_then_else_}
-use Rattle.words.specs.Numbers.{byteAt, halfAt, wordAt, half, word}
-use Rattle.words.specs.Laws.{Bytes}
+use lib.ListN.{length, getElem?}
+use borrow.Author.Tests.{le-leb, lt-ltb, ne-eqb, eq-eqb}
 use Rattle.values.specs.Types.{Ty, integer, logical, bits, reference, tyByte}
 use Rattle.values.specs.Ends.{accepted}
-use Rattle.bytecode.specs.Macro.{Body, Code, Shape, shape, Placed, Macro, Cut, cut, marked, tyOfByte, keep, readTypes, readClass, readResult, rises, readBody, readCode, shapeIn, isSome, readShape, Parsed, parsed, unread, orUnread, records, onward, headReads, readEnd, parseMacro, readOr8, readMacro}
-use Rattle.bytecode.specs.Instructions.{bodyAt}
-use Rattle.loading.specs.Terms.{Each, Named, ReadClass, ReadBody, ReadShape, RisesFrom, Apart, WellFormed, OfBytes, Narrow}
+use Rattle.bytecode.specs.Macro.{Body, Code, Placed, Macro, Cut, cut, tyOfByte, readTypes, readClass, readResult, rises, readBody, readCode, shapeIn, isSome, readShape, parsed, orUnread, records, onward, headReads, readEnd, parseMacro, readMacro}
+use Rattle.loading.specs.Terms.{Each, Named, ReadClass, ReadBody, ReadShape, RisesFrom, Apart, WellFormed}
 use Rattle.compile_code.specs.Encode.{classBytes, resultByte, bodyBytes, codeBytes, shapeBytes, each, macroBytes}
 
 -- ── lists ──
@@ -29,10 +24,6 @@ app-nil (x ∷ xs) = ap (λ ys. x ∷ ys) (app-nil xs)
 
 pub twice : {A : Type 0} (xs : List A) → reverse (reverse xs) ≡ xs
 twice xs = rev-aux xs [] [] ∙ app-nil xs
-
-len-map : {A B : Type 0} (f : A → B) (xs : List A) → length (map f xs) ≡ length xs
-len-map f [] = refl
-len-map f (x ∷ xs) = ap suc (len-map f xs)
 
 pub len-rev : {A : Type 0} (xs ys : List A) → length (reverseAux xs ys) ≡ length xs + length ys
 len-rev [] ys = omega arith

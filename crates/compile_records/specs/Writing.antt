@@ -1,11 +1,11 @@
 -- A macro that can be written: its bytes are bytes, they read back, and where no address has a fault they are accepted.
-use mathlib.Core.Path.{_≡_, refl, ap, sym, _∙_, subst}
-use mathlib.Core.Bool.{Bool, true, false}
-use mathlib.Core.List.{List, [], _∷_, _++_, map, reverse, reverseAux}
-use Prim.Native.Nat.{ℕ, zero, suc, _+_, _/_, _%_, _≤_, _<_}
+use mathlib.Core.Path.{_≡_}
+use mathlib.Core.Bool.{false}
+use mathlib.Core.List.{List, [], _∷_, _++_, map, reverse}
+use Prim.Native.Nat.{ℕ, zero, suc, _≤_, _<_}
 use native.Mathlib.Omega.{arith}
-use lib.ListN.{length, getD}
-use Rattle.words.specs.Numbers.{half, word}
+use lib.ListN.{length}
+use Rattle.words.specs.Numbers.{word}
 use Rattle.words.specs.Laws.{Bytes}
 use Rattle.values.specs.Types.{Ty, integer, logical, bits, reference, tyByte}
 use Rattle.values.specs.Ends.{accepted}
@@ -14,7 +14,7 @@ use Rattle.bytecode.specs.Rules.{faultAt, judgeMacro}
 use Rattle.loading.specs.Terms.{Each, Named, ReadClass, ReadBody, ReadShape, WellFormed, OfBytes, Narrow, Passed}
 use Rattle.loading.specs.Promises.{passes-exactly}
 use Rattle.compile_code.specs.Encode.{classBytes, resultByte, bodyBytes, codeBytes, shapeBytes, each, macroBytes}
-use Rattle.compile_records.specs.Recording.{read-back, each-rev, len-rev}
+use Rattle.compile_records.specs.Recording.{read-back, each-rev}
 
 abbrev pub SmallBody : Body → Type 0
 SmallBody b = length (b .cells) < 256
@@ -38,9 +38,6 @@ small-bytes : (l : List ℕ) → Small l → Bytes l
 small-bytes [] h k = omega arith
 small-bytes (x ∷ l) h zero = h .0
 small-bytes (x ∷ l) h (suc k) = small-bytes l (h .1) k
-
-of-half : (n : ℕ) (l : List ℕ) → n < 65536 → Small l → Small (half n ++ l)
-of-half n l h b = (omega arith, (omega arith, b))
 
 of-word : (n : ℕ) (l : List ℕ) → n < 4294967296 → Small l → Small (word n ++ l)
 of-word n l h b = (omega arith, (omega arith, (omega arith, (omega arith, b))))

@@ -39,9 +39,9 @@ module _ (m : Macro) (k : ℕ) where
         → ((o' : Option Shape) → Agree m k o' g → drop (after x q .address) whole ≡ c o' → Later whole o' (after x q .address) × P) → Later whole o (q .address) × (Marks m k (Real lo whole) x p × P)
     unfolding Seg lay Marks after Shows
     marked Aim P nil p q f g o c e h w d z = let u = z o (subst (λ y. Agree m k o y) h w) d in (u .0, (tt, u .1))
-    marked Aim P (op i) p q f g none c e h w d z = (tt, (tt, z none tt (dropped m k whole whole (q .address) (line none i) (c none) d .1) .1))
+    marked Aim P (op i) p q f g none c e h w d z = (tt, (tt, z none tt (dropped whole (q .address) (line none i) (c none) d .1) .1))
     marked Aim P (op i) p q f g (some s) c e h w d z =
-        let u = dropped m k whole whole (q .address) (line (some s) i) (c none) d in ((line (some s) i, u .0, refl), (tt, z none tt (u .1) .1))
+        let u = dropped whole (q .address) (line (some s) i) (c none) d in ((line (some s) i, u .0, refl), (tt, z none tt (u .1) .1))
     marked Aim P (cell t) p q f g o c e h w d z = let u = z o (subst (λ y. Agree m k o y) h w) d in (u .0, (tt, u .1))
     marked Aim P (mark s) p q f g o c e h w d z =
         let a = agree-on m k o f s w (h .0) in

@@ -67,9 +67,6 @@ module _ (m : Macro) (k : ℕ) (Aim : ℕ → Shape → Type 0) where
   pub pushes : (i : Instr) (h : ℕ) (t : Ty) (ts : List Ty) → effect m k i ts ≡ plain [] (t ∷ []) → h ≤ 16 → suc (length ts) ≤ 32 → Seg (op i) (some (shape h ts)) (some (shape h (t ∷ ts)))
   pushes i h t ts e p q = plainly i h [] (t ∷ []) ts e p q
 
-  pub pushed : (v : Value) (h : ℕ) (ts : List Ty) (t : Ty) → effect m k (push v) ts ≡ plain [] (t ∷ []) → h ≤ 16 → suc (length ts) ≤ 32 → Seg (op (push v)) (some (shape h ts)) (some (shape h (t ∷ ts)))
-  pushed v h ts t e p q = pushes (push v) h t ts e p q
-
   pub loads : (o : Owner) (c h : ℕ) (t : Ty) (ts : List Ty) → cellTy m k o c ≡ some t → h ≤ 16 → suc (length ts) ≤ 32 → Seg (op (load o c)) (some (shape h ts)) (some (shape h (t ∷ ts)))
   unfolding effect
   loads o c h t ts e p q = pushes (load o c) h t ts (rw e refl) p q

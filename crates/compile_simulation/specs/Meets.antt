@@ -125,9 +125,6 @@ module _ {W : Setting} where
     pub lost : {n : ℕ} {r : Result A} → Meets W n L F dead r
     lost = crash (here tt)
 
-    pub ready : {n : ℕ} {v : A} {σ : Store} {x : Conf} → F v σ x → Meets W n L F x (done v σ)
-    ready p = ends (here p)
-
     -- tests that only the machine makes
     pub demanded : {n : ℕ} {r : Result A} (tr : List Item) (k : ℕ) (b : Bool) (why : Stuck) (s : Stepped) → Meets W n L F (stepped s tr k) r → Meets W n L F (stepped (demand b why s) tr k) r
     demanded tr k true why s h = h
@@ -170,13 +167,3 @@ module _ {W : Setting} where
     onward (ended c σ) j (ends h) f = ends h
     onward (later σ) j (ends h) f = ends h
     onward wrong j (ends h) f = ends h
-
-  module _ {A B : Type 0} {n : ℕ} {L : ℕ → Store → Conf → Type 0} {F : A → Store → Conf → Type 0} {F' : B → Store → Conf → Type 0} where
-    pub bind : {x : Conf} {r : Result A} {k : A → Store → Result B} → Meets W n L F x r
-        → ((v : A) (σ : Store) (y : Conf) → F v σ y → Meets W n L F' y (k v σ)) → Meets W n L F' x (next r k)
-    bind {r = r} h f = binds r (λ l σ q. q) h f
-
-  module _ {A : Type 0} {n : ℕ} {L : ℕ → Store → Conf → Type 0} {F F' : A → Store → Conf → Type 0} where
-    pub also : {x : Conf} {r : Result A} → Meets W n L F x r
-        → ((v : A) (σ : Store) (y : Conf) → F v σ y → Meets W n L F' y (done v σ)) → Meets W n L F' x r
-    also {r = r} h f = onward r (λ l σ q. q) h f

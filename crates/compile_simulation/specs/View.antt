@@ -354,9 +354,6 @@ module _ (gs : List Global) (a : ℕ) (u : Cell) where
   kept-roots (labels is k ∷ Γ) c x cs ls h d = kept-roots Γ c x cs ls h d
 
 -- ── a new variable ──
-abbrev pub withCells : List Cell → Data → Data
-withCells cs D = record { records = D .records; cells = cs; lowest = D .lowest; trace = D .trace; taken = D .taken }
-
 abbrev pub written : Owner → ℕ → Cell → Data → Data
 written o c x D = record { records = D .records; cells = ownPut o c x (D .cells); lowest = rootPut o c x (D .lowest); trace = D .trace; taken = D .taken }
 
