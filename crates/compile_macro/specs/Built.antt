@@ -223,7 +223,7 @@ module _ (t : Tree) where
   proc-celled : (j : ℕ) (q : Proc) (b : ℕ) → getElem? (parts t) (suc j) ≡ some (procPart t q b) → Celled (compiled t) (suc j) (t .head) (codeProc t q b) (at b (length (q .parameters)))
   proc-celled j q b h =
       celled (compiled t) (suc j) (t .head) (procPart t q b .head) (head-of (suc j) (procPart t q b) h) (codeProc t q b) (at b (length (q .parameters))) []
-        (subst (λ n. drop n (map (tyIn (t .head)) (types (q .parameters)) ++ cellsIn (codeProc t q b) []) ≡ cellsIn (codeProc t q b) []) (params-length (tyIn (t .head)) (q .parameters)) (drop-len (map (tyIn (t .head)) (types (q .parameters))) (cellsIn (codeProc t q b) []))) .0
+      (subst (λ n. drop n (map (tyIn (t .head)) (types (q .parameters)) ++ cellsIn (codeProc t q b) []) ≡ cellsIn (codeProc t q b) []) (params-length (tyIn (t .head)) (q .parameters)) (drop-len (map (tyIn (t .head)) (types (q .parameters))) (cellsIn (codeProc t q b) []))) .0
 
   module _ (O : InOrder t) where
     abbrev N : Ty → Type 0
@@ -234,7 +234,7 @@ module _ (t : Tree) where
     cells-known = by-part (λ k p. Each N (p .head .cells))
         (each-cell N (codeRoot t) [] (root-cells-known (compiled t) t (O .root-typed) root-celled) tt)
         (λ j q b h g. each-app N (map (tyIn (t .head)) (types (q .parameters))) (cellsIn (codeProc t q b) []) (O .procs j q h .parameters-known)
-          (each-cell N (codeProc t q b) [] (proc-cells-known (compiled t) t j q b (O .procs j q h .typed) (proc-celled j q b g)) tt))
+        (each-cell N (codeProc t q b) [] (proc-cells-known (compiled t) t j q b (O .procs j q h .typed) (proc-celled j q b g)) tt))
 
     results-are : (k : ℕ) (p : Part) → getElem? (parts t) k ≡ some p → Each N (p .head .results) × (length (p .head .results) ≤ 1)
     results-are = by-part (λ k p. Each N (p .head .results) × (length (p .head .results) ≤ 1)) (tt, omega arith) (λ j q b h g. (O .procs j q h .results-known, one (q .body)))
@@ -247,9 +247,9 @@ module _ (t : Tree) where
     unfolding newCells
     few-cells = by-part (λ k p. length (p .head .cells) ≤ 32)
         (let z = cells-length (codeRoot t) [] in let y = count-head (t .head) (global own) (locals (t .head)) (startOfRoot t) (at 0 0) (λ Δ q. codeItems (t .head) (t .items) (labels (t .items) (q .address) ∷ Δ) [] q) (cellsItems (t .items)) (λ Δ q. countItems (t .head) (t .items) (labels (t .items) (q .address) ∷ Δ) [] q) in
-          let x = O .root-keeps .0 in omega arith)
+        let x = O .root-keeps .0 in omega arith)
         (λ j q b h g. let z = cells-length (codeProc t q b) [] in let y = body-count (q .body) (q .parameters) (at b (length (q .parameters))) in let x = O .procs j q h .keeps .0 in
-          let v = params-length (tyIn (t .head)) (q .parameters) in let u = length-append (map (tyIn (t .head)) (types (q .parameters))) (cellsIn (codeProc t q b) []) in omega arith)
+        let v = params-length (tyIn (t .head)) (q .parameters) in let u = length-append (map (tyIn (t .head)) (types (q .parameters))) (cellsIn (codeProc t q b) []) in omega arith)
       where
         body-count : (x : TreeBody) (xs : List Typed) (p : At) → length xs + newCells (codeBody (t .head) x (aroundBody t xs) p) ≡ bodyUsage xs x .cells
         body-count (proper s) xs p = let z = countS (t .head) s (aroundBody t xs) [] p in omega arith
@@ -271,9 +271,11 @@ module _ (t : Tree) where
         of-body : (o : Option Body) (c : ℕ) (ty : Ty) → ((b : Body) → o ≡ some b → Each N (b .cells)) → getElem? (cellsOf o) c ≡ some ty → N ty
         of-body none c ty f h = never-some h
         of-body (some b) c ty f h = each-at N (b .cells) c ty (f b refl) h
+
         of-cell : (k : ℕ) (o : Owner) (c : ℕ) (ty : Ty) → cellTy (compiled t) k o c ≡ some ty → N ty
         of-cell k own c ty h = of-body (bodyAt (compiled t) k) c ty (λ b e. body-cells k b e .0) h
         of-cell k root c ty h = of-body (bodyAt (compiled t) 0) c ty (λ b e. body-cells 0 b e .0) h
+
         of-result : (b : ℕ) (B : Body) → calledBody (compiled t) b ≡ some B → Each N (B .results)
         of-result zero B h = never-some h
         of-result (suc b) B h = let q = known-part (suc b) B h in subst (λ (x : Body). Each N (x .results)) (q .2) (results-are (suc b) (q .0) (q .1) .0)
@@ -378,9 +380,11 @@ module _ (t : Tree) where
         right : (k : ℕ) (p : Part) → getElem? (parts t) k ≡ some p → headFault k (p .head) ≡ false
         right zero p h = let e : rootPart t ≡ p = same-some (sym root-there ∙ h) in subst (λ (x : Part). headFault 0 (x .head) ≡ false) e (rw (le-ltb 32 (length (rootPart t .head .cells)) (few-cells 0 (rootPart t) root-there)) refl)
         right (suc k) p h = le-ltb 32 (length (p .head .cells)) (few-cells (suc k) p h)
+
         fault-not : (a b c : Bool) → b ≡ false → c ≡ false → ((a && b) || c) ≡ false
         fault-not true b c e f = rw (e, f) refl
         fault-not false b c e f = rw f refl
+
         all-right : (bs : List Body) (n : ℕ) → ((k : ℕ) (b : Body) → getElem? bs k ≡ some b → headFault (n + k) b ≡ false) → bodyFault bs n i ≡ false
         all-right [] n f = refl
         all-right (b ∷ bs) n f = fault-not (eqb (b .first) i) (headFault n b) (bodyFault bs (suc n) i) (let e : n + 0 ≡ n = omega arith in subst (λ k. headFault k b ≡ false) e (f 0 b refl))
@@ -416,7 +420,7 @@ module _ (t : Tree) where
       few-instructions = code-short;
       instructions-narrow = rw code-is (narrow-lines (linesOf (parts t)) (narrow-lines-of 0 (parts t) (λ k p h.
           two-ops Holdable (λ i. (s : Shape) × (g : Option Shape) × Goes (Aimed (compiled t) k) (flow (effect (compiled t) k i (s .operands)) s) g) (λ x. OfBytes (recordOf x))
-            (narrow-op (compiled t) k well-formed code-short (λ j b e. body-cells j b e .1)) (p .code) (holdable k p h) (flowing (compiled t) k (p .code) atFirst none (segged (compiled t) k (p .code) (startOf p) (flows k p h) (lined k p h))))));
+          (narrow-op (compiled t) k well-formed code-short (λ j b e. body-cells j b e .1)) (p .code) (holdable k p h) (flowing (compiled t) k (p .code) atFirst none (segged (compiled t) k (p .code) (startOf p) (flows k p h) (lined k p h))))));
     }
 
     -- ── the macro can be written, and is accepted ──

@@ -71,6 +71,7 @@ module _ (gs : List Global) where
 
   mutual
     unfolding newCells codeS cellsS after
+
     pub countS : (s : Stmt) (Γ : List Around) (ts : List Ty) (p : At) → newCells (codeS gs s Γ ts p) ≡ cellsS s
     countS (block ds is) Γ ts p = count-head bound ds (inside (blockOf ds is) ∷ Γ) p (λ Δ q. codeItems gs is (labels is (q .address) ∷ Δ) ts q) (cellsItems is) (λ Δ q. countItems is (labels is (q .address) ∷ Δ) ts q)
     countS (assign x e) Γ ts p = let q = countTarget x Γ ts p in let r = countE e Γ (tyTarget gs Γ x ts) (after (codeTarget gs x Γ ts p) p) in omega arith
@@ -193,6 +194,7 @@ module _ (m : Macro) (k : ℕ) (gs : List Global) where
 
   mutual
     unfolding okS codeS Celled after Cells
+
     pub cellsOkS : (s : Stmt) (Γ : List Around) (ts : List Ty) (p : At) → okS m k gs s Γ → Celled m k gs (codeS gs s Γ ts p) p → Cells Known (codeS gs s Γ ts p)
     cellsOkS (block ds is) Γ ts p o c = cells-head ds (inside (blockOf ds is) ∷ Γ) p (λ Δ. (x : ℕ) → okItems m k gs is (labels is x ∷ Δ)) (λ Δ q. codeItems gs is (labels is (q .address) ∷ Δ) ts q)
         (λ Δ q o' c'. cellsOkItems is (labels is (q .address) ∷ Δ) ts q (o' (q .address)) c') o c

@@ -158,6 +158,7 @@ module _ (gs : List Global) where
 
   mutual
     unfolding Ops codeS flatS countArms
+
     pub fieldsS : (s : Stmt) (Γ : List Around) (ts : List Ty) (p : At) → Each Entered (flatS s) → Ops Holdable (codeS gs s Γ ts p)
     fieldsS (block ds is) Γ ts p h = let q = parted Entered (map flatDecl ds) (flatItems is) (h .1) in
         of-head bound ds (inside (blockOf ds is) ∷ Γ) p (λ Δ q. codeItems gs is (labels is (q .address) ∷ Δ) ts q) (q .0) (λ Δ r. fieldsItems is (labels is (r .address) ∷ Δ) ts r (q .1))
@@ -204,7 +205,7 @@ module _ (gs : List Global) where
     fieldsE (fader e) Γ ts p h = (fieldsE e Γ ts p (h .1), tt)
     fieldsE (blockExpr ds is e) Γ ts p h = let q = parted Entered (map flatDecl ds) (flatItems is ++ flatE e) (h .1) in let r = parted Entered (flatItems is) (flatE e) (q .1) in
         of-head bound ds (inside (expressionOf ds is) ∷ Γ) p (λ Δ q. let y = codeItems gs is (labels is (q .address) ∷ Δ) ts q in y ▸ codeE gs e Δ ts (after y q)) (q .0)
-          (λ Δ u. (fieldsItems is (labels is (u .address) ∷ Δ) ts u (r .0), fieldsE e Δ ts _ (r .1)))
+        (λ Δ u. (fieldsItems is (labels is (u .address) ∷ Δ) ts u (r .0), fieldsE e Δ ts _ (r .1)))
 
     fieldsEs : (es : Exprs) (Γ : List Around) (ts : List Ty) (p : At) → Each Entered (flatEs es) → Ops Holdable (codeEs gs es Γ ts p)
     fieldsEs noExpr Γ ts p h = tt

@@ -122,12 +122,12 @@ located whole n [] a k p c e d h = never-some h
 located whole n (q ∷ []) a zero p c e d h =
     let z : q ≡ p = same-some h in
     subst (λ (x : Part). Located whole n (q .head ∷ []) 0 x) z
-      (record { its-head = refl; its-end = let u = c .0 in omega arith; rest = []; its-lines = ap (λ i. drop i whole) (c .0) ∙ d ∙ closed-app (q .code) [] (c .1); closed = c .1 })
+    (record { its-head = refl; its-end = let u = c .0 in omega arith; rest = []; its-lines = ap (λ i. drop i whole) (c .0) ∙ d ∙ closed-app (q .code) [] (c .1); closed = c .1 })
 located whole n (q ∷ []) a (suc k) p c e d h = never-some h
 located whole n (q ∷ (r ∷ ps)) a zero p c e d h =
     let z : q ≡ p = same-some h in
     subst (λ (x : Part). Located whole n (q .head ∷ (r .head ∷ headsOf ps)) 0 x) z
-      (record { its-head = refl; its-end = let u = c .0 in let v = c .2 .0 in omega arith; rest = linesOf (r ∷ ps); its-lines = ap (λ i. drop i whole) (c .0) ∙ d ∙ closed-app (q .code) (linesOf (r ∷ ps)) (c .1); closed = c .1 })
+    (record { its-head = refl; its-end = let u = c .0 in let v = c .2 .0 in omega arith; rest = linesOf (r ∷ ps); its-lines = ap (λ i. drop i whole) (c .0) ∙ d ∙ closed-app (q .code) (linesOf (r ∷ ps)) (c .1); closed = c .1 })
 located whole n (q ∷ (r ∷ ps)) a (suc k) p c e d h =
     let i : drop a whole ≡ alone (q .code) ++ linesOf (r ∷ ps) = d ∙ closed-app (q .code) (linesOf (r ∷ ps)) (c .1) in
     let j : drop (a + ops (q .code)) whole ≡ linesOf (r ∷ ps) = subst (λ z. drop (a + z) whole ≡ linesOf (r ∷ ps)) (alone-length (q .code)) (drop-more (alone (q .code)) whole (linesOf (r ∷ ps)) a i) in
@@ -171,11 +171,15 @@ module _ (m : Macro) (ps : List Part) (eb : m .bodies ≡ headsOf ps) (ec : m .c
   lined k e [] rest i d q b z h = let u : e ≡ i = q ∙ omega arith in subst (λ y. inBody m k y ≡ false) u z
   lined k e (l ∷ ls) rest i d q b z h =
       let v = dropped (linesOf ps) i l (ls ++ rest) d in
-      let here = b i (omega arith) (omega arith) in
-      (fetched m (linesOf ps) i l ec (v .0) (h .0),
+      let here = b i (omega arith) (omega arith) in (
+        fetched m (linesOf ps) i l ec (v .0) (h .0),
         ap (λ s. shapeIn s i) es ∙ subst (λ y. shapeIn (placed 0 (linesOf ps)) y ≡ shapeAt (linesOf ps) i) (omega arith) (shown (linesOf ps) 0 i) ∙ shape-at (linesOf ps) i l (v .0),
-        body-is m w k i here, heads i, here, not-first ls (λ p. b (suc i) (omega arith) (omega arith)),
-        lined k e ls rest (suc i) (v .1) (omega arith) (λ j p r. b j (omega arith) r) z (h .1))
+        body-is m w k i here,
+        heads i,
+        here,
+        not-first ls (λ p. b (suc i) (omega arith) (omega arith)),
+        lined k e ls rest (suc i) (v .1) (omega arith) (λ j p r. b j (omega arith) r) z (h .1),
+      )
     where
       not-first : (ls : List Line) → (1 ≤ length ls → inBody m k (suc i) ≡ true) → NotFirst m k ls (suc i)
       not-first [] f = tt

@@ -55,13 +55,24 @@ module _ (m : Macro) (gs : List Global) where
   unfolding okRootTy codeHead headHolds Celled Marks after heldIn Reaches Seg
   passRoot Aim [] Γ p P f n i o r l c g = i Γ p o r (omega arith) c g
   passRoot Aim (declare x ∷ ds) Γ p P f n i o r l c g =
-      let t = tyIn gs (x .type) in let h = length (heldIn Γ) in
-      (some (shape h []), refl, (some (shape h (t ∷ [])), pushes m 0 Aim (push (initial t)) h t [] (o .0 []) (omega arith) (omega arith),
-        (some (shape h []), stores m 0 Aim own (p .cell) h t [] (c .0) (omega arith) (omega arith),
-          passRoot Aim ds (global own (x .name) (p .cell) ∷ Γ) (at (suc (suc (p .address))) (suc (p .cell))) P f n i (o .1 (p .cell) (c .0)) r (omega arith) (c .1 .1 .1) (g .1 .1 .1))))
-  passRoot Aim (holding x ∷ ds) Γ p P f n i o r l c g =
-      (some (found (held x ∷ Γ) []), holds m 0 Aim x (length (heldIn Γ)) [] (omega arith) (omega arith),
-        (some (found (held x ∷ Γ) []), passRoot Aim ds (held x ∷ Γ) (skip 1 p) P f n i o r (omega arith) (c .1 .0) (g .1 .0), frees m 0 Aim (length (heldIn Γ)) []))
+      let t = tyIn gs (x .type) in let h = length (heldIn Γ) in (
+        some (shape h []),
+        refl,
+        (
+          some (shape h (t ∷ [])),
+          pushes m 0 Aim (push (initial t)) h t [] (o .0 []) (omega arith) (omega arith),
+          (
+            some (shape h []),
+            stores m 0 Aim own (p .cell) h t [] (c .0) (omega arith) (omega arith),
+            passRoot Aim ds (global own (x .name) (p .cell) ∷ Γ) (at (suc (suc (p .address))) (suc (p .cell))) P f n i (o .1 (p .cell) (c .0)) r (omega arith) (c .1 .1 .1) (g .1 .1 .1),
+          ),
+        ),
+      )
+  passRoot Aim (holding x ∷ ds) Γ p P f n i o r l c g = (
+    some (found (held x ∷ Γ) []),
+    holds m 0 Aim x (length (heldIn Γ)) [] (omega arith) (omega arith),
+    (some (found (held x ∷ Γ) []), passRoot Aim ds (held x ∷ Γ) (skip 1 p) P f n i o r (omega arith) (c .1 .0) (g .1 .0), frees m 0 Aim (length (heldIn Γ)) []),
+  )
 
 -- ── what is asked of the tree, by types and limits ──
 abbrev pub okBodyTy : Macro → ℕ → List Global → TreeBody → List Around → Type 0
@@ -83,21 +94,29 @@ module _ (m : Macro) (t : Tree) where
   module _ (o : RootOk) (c : Celled m 0 (t .head) (codeRoot t) (at 0 0)) where
     pub root-cells-known : Cells (Known m 0 (t .head)) (codeRoot t)
     unfolding Celled Cells
-    root-cells-known = (root-cells m (t .head) (locals (t .head)) (startOfRoot t) (at 0 0) (λ Δ. (x : ℕ) → okItems m 0 (t .head) (t .items) (labels (t .items) x ∷ Δ)) (λ Δ q. codeItems (t .head) (t .items) (labels (t .items) (q .address) ∷ Δ) [] q)
-        (λ Δ q o' c'. cellsOkItems m 0 (t .head) (t .items) (labels (t .items) (q .address) ∷ Δ) [] q (o' (q .address)) c') o (c .0), tt)
+    root-cells-known = (
+      root-cells m (t .head) (locals (t .head)) (startOfRoot t) (at 0 0) (λ Δ. (x : ℕ) → okItems m 0 (t .head) (t .items) (labels (t .items) x ∷ Δ)) (λ Δ q. codeItems (t .head) (t .items) (labels (t .items) (q .address) ∷ Δ) [] q)
+          (λ Δ q o' c'. cellsOkItems m 0 (t .head) (t .items) (labels (t .items) (q .address) ∷ Δ) [] q (o' (q .address)) c') o (c .0),
+      tt,
+    )
 
     pub root-marks-known : (H : Heads m) → Marks m 0 (Typed! m 0 (t .head) H) (codeRoot t) (at 0 0)
     unfolding Celled Marks
-    root-marks-known H = (root-marks m (t .head) H (locals (t .head)) (startOfRoot t) (at 0 0) (λ Δ. (x : ℕ) → okItems m 0 (t .head) (t .items) (labels (t .items) x ∷ Δ)) (λ Δ q. codeItems (t .head) (t .items) (labels (t .items) (q .address) ∷ Δ) [] q)
-        (λ Δ q o' c'. markItems m 0 (t .head) H (t .items) (labels (t .items) (q .address) ∷ Δ) [] q (o' (q .address)) c' tt) o (c .0), tt)
+    root-marks-known H = (
+      root-marks m (t .head) H (locals (t .head)) (startOfRoot t) (at 0 0) (λ Δ. (x : ℕ) → okItems m 0 (t .head) (t .items) (labels (t .items) x ∷ Δ)) (λ Δ q. codeItems (t .head) (t .items) (labels (t .items) (q .address) ∷ Δ) [] q)
+          (λ Δ q o' c'. markItems m 0 (t .head) H (t .items) (labels (t .items) (q .address) ∷ Δ) [] q (o' (q .address)) c' tt) o (c .0),
+      tt,
+    )
 
     pub root-flows : Keeps (rootUsage t) → (Aim : ℕ → Shape → Type 0) → Marks m 0 Aim (codeRoot t) (at 0 0) → Seg m 0 Aim (codeRoot t) atFirst none
     unfolding Celled Marks Seg heldIn Reaches effect flow sames
     root-flows u Aim g =
-        let l = u .1 in let n = u .2 in
-        (some (shape 0 []), passRoot m (t .head) Aim (locals (t .head)) (startOfRoot t) (at 0 0) (λ Δ. (x : ℕ) → okItems m 0 (t .head) (t .items) (labels (t .items) x ∷ Δ)) (λ Δ q. codeItems (t .head) (t .items) (labels (t .items) (q .address) ∷ Δ) [] q) (holdsItems (t .items))
-          (λ Δ q o' r l' c' g'. passItems m 0 (t .head) Aim (t .items) (labels (t .items) (q .address) ∷ Δ) [] q (o' (q .address)) (aims m 0 (t .head) Aim (t .items) Δ [] q g', r) l' (omega arith) c' g') o tt (omega arith) (c .0) (g .0),
-          (shape 0 [], refl, refl))
+        let l = u .1 in let n = u .2 in (
+          some (shape 0 []),
+          passRoot m (t .head) Aim (locals (t .head)) (startOfRoot t) (at 0 0) (λ Δ. (x : ℕ) → okItems m 0 (t .head) (t .items) (labels (t .items) x ∷ Δ)) (λ Δ q. codeItems (t .head) (t .items) (labels (t .items) (q .address) ∷ Δ) [] q) (holdsItems (t .items))
+              (λ Δ q o' r l' c' g'. passItems m 0 (t .head) Aim (t .items) (labels (t .items) (q .address) ∷ Δ) [] q (o' (q .address)) (aims m 0 (t .head) Aim (t .items) Δ [] q g', r) l' (omega arith) c' g') o tt (omega arith) (c .0) (g .0),
+          (shape 0 [], refl, refl),
+        )
 
   -- a procedure
   reaches-params : (k : ℕ) (Aim : ℕ → Shape → Type 0) (xs : List Typed) (n : ℕ) (ys : List Typed) (Γ : List Around) (ts : List Ty) → Reaches m k (t .head) Aim (parameterCells xs n (inside (procedureOf ys) ∷ Γ)) ts
@@ -129,6 +148,7 @@ module _ (m : Macro) (t : Tree) where
       where
         empty : length (heldIn (aroundBody t (q .parameters))) ≡ 0
         empty = ap length z
+
         go : (b : TreeBody) → okBodyTy m (suc k) (t .head) b (aroundBody t (q .parameters)) → Celled m (suc k) (t .head) (codeBody (t .head) b (aroundBody t (q .parameters)) (at a (length (q .parameters)))) (at a (length (q .parameters)))
             → bodyResults (bodyAt m (suc k)) ≡ map (tyIn (t .head)) (resultsOf b) → bodyUsage (q .parameters) b .holds ≤ 16 → bodyUsage (q .parameters) b .need ≤ 32 → Marks m (suc k) Aim (codeBody (t .head) b (aroundBody t (q .parameters)) (at a (length (q .parameters)))) (at a (length (q .parameters)))
             → (h : Option Shape) × Seg m (suc k) Aim (codeBody (t .head) b (aroundBody t (q .parameters)) (at a (length (q .parameters)))) atFirst h × ((s : Shape) × (h ≡ some s) × Goes Aim (flow (effect m (suc k) return (s .operands)) s) none)
@@ -136,7 +156,9 @@ module _ (m : Macro) (t : Tree) where
             let w = passS m (suc k) (t .head) Aim s (aroundBody t (q .parameters)) [] (at a (length (q .parameters))) o (reaches-params (suc k) Aim (q .parameters) 0 (q .parameters) (rootVariables (locals (t .head)) 0 (startOfRoot t)) []) (omega (arith, empty)) (omega arith) c g in
             (some (shape 0 []), subst (λ i. Seg m (suc k) Aim (codeS (t .head) s (aroundBody t (q .parameters)) [] (at a (length (q .parameters)))) (some (shape i [])) (some (shape i []))) empty w, (shape 0 [], refl, rw (e, shape-refl (shape 0 [])) refl))
         go (function u x) o c e l n g =
-            let w = passE m (suc k) (t .head) Aim x (aroundBody t (q .parameters)) [] (at a (length (q .parameters))) (o .0) (omega (arith, empty)) (omega arith) c g in
-            (some (shape 0 (tyIn (t .head) u ∷ [])), subst (λ ty. Seg m (suc k) Aim (codeE (t .head) x (aroundBody t (q .parameters)) [] (at a (length (q .parameters)))) (some (shape 0 [])) (some (shape 0 (ty ∷ [])))) (o .1)
-                (subst (λ i. Seg m (suc k) Aim (codeE (t .head) x (aroundBody t (q .parameters)) [] (at a (length (q .parameters)))) (some (shape i [])) (some (shape i (tyE (t .head) (aroundBody t (q .parameters)) x ∷ [])))) empty w),
-              (shape 0 (tyIn (t .head) u ∷ []), refl, rw (e, shape-refl (shape 0 (tyIn (t .head) u ∷ []))) refl))
+            let w = passE m (suc k) (t .head) Aim x (aroundBody t (q .parameters)) [] (at a (length (q .parameters))) (o .0) (omega (arith, empty)) (omega arith) c g in (
+              some (shape 0 (tyIn (t .head) u ∷ [])),
+              subst (λ ty. Seg m (suc k) Aim (codeE (t .head) x (aroundBody t (q .parameters)) [] (at a (length (q .parameters)))) (some (shape 0 [])) (some (shape 0 (ty ∷ [])))) (o .1)
+                  (subst (λ i. Seg m (suc k) Aim (codeE (t .head) x (aroundBody t (q .parameters)) [] (at a (length (q .parameters)))) (some (shape i [])) (some (shape i (tyE (t .head) (aroundBody t (q .parameters)) x ∷ [])))) empty w),
+              (shape 0 (tyIn (t .head) u ∷ []), refl, rw (e, shape-refl (shape 0 (tyIn (t .head) u ∷ []))) refl),
+            )

@@ -120,6 +120,7 @@ module _ (m : Macro) (k : ℕ) (gs : List Global) (H : Heads m) where
 
   mutual
     unfolding okS codeS Celled after Marks typeE tysE
+
     pub markS : (s : Stmt) (Γ : List Around) (ts : List Ty) (p : At) → okS m k gs s Γ → Celled m k gs (codeS gs s Γ ts p) p → KnownAll ts → Marks m k Typed! (codeS gs s Γ ts p) p
     markS (block ds is) Γ ts p o c n = mark-head (Unit {0}) ds (inside (blockOf ds is) ∷ Γ) p (λ Δ. (x : ℕ) → okItems m k gs is (labels is x ∷ Δ)) (λ Δ q. codeItems gs is (labels is (q .address) ∷ Δ) ts q)
         (λ Δ q o' c'. (markItems is (labels is (q .address) ∷ Δ) ts q (o' (q .address)) c' n, tt)) o c .0
@@ -156,9 +157,10 @@ module _ (m : Macro) (k : ℕ) (gs : List Global) (H : Heads m) where
     markE (field a e) Γ ts p o c n = ((markE e Γ ts p (o .0) (c .0) n .0, tt), H .fields (fieldNumber gs a .class) (fieldNumber gs a .index) (tyE gs Γ (field a e)) (o .2))
     markE (make x es) Γ ts p o c n = ((markEs es Γ ts p (o .0) (c .0) n, tt), there-below (m .classes) (classNumber gs x) (tysE gs Γ es) (o .1))
     markE (operate1 u e) Γ ts p o c n = ((markE e Γ ts p (o .0) (c .0) n .0, tt), of-operator (length (m .classes)) (unary u) (tyE gs Γ e ∷ []) (tyE gs Γ (operate1 u e)) (o .1))
-    markE (operate2 u e f) Γ ts p o c n =
-        (mark-way (wayOf u (isTy logical (typeE (scopesOf Γ) e))) u Γ ts (tyE gs Γ e) (codeE gs e Γ ts p) p (λ us q. codeE gs f Γ us q) c n (λ c'. markE e Γ ts p (o .0) c' n) (λ us q n' c'. markE f Γ us q (o .1) c' n' .0),
-          way-type (wayOf u (isTy logical (typeE (scopesOf Γ) e))) u (tyE gs Γ e) (tyE gs Γ f) (tyE gs Γ (operate2 u e f)) (o .2))
+    markE (operate2 u e f) Γ ts p o c n = (
+      mark-way (wayOf u (isTy logical (typeE (scopesOf Γ) e))) u Γ ts (tyE gs Γ e) (codeE gs e Γ ts p) p (λ us q. codeE gs f Γ us q) c n (λ c'. markE e Γ ts p (o .0) c' n) (λ us q n' c'. markE f Γ us q (o .1) c' n' .0),
+      way-type (wayOf u (isTy logical (typeE (scopesOf Γ) e))) u (tyE gs Γ e) (tyE gs Γ f) (tyE gs Γ (operate2 u e f)) (o .2),
+    )
     markE (conditional e f g) Γ ts p o c n = let u = markE f Γ ts (skip 1 (after (codeE gs e Γ ts p) p)) (o .2) (c .1 .1 .0) n in
         ((markE e Γ ts p (o .0) (c .0) n .0, (tt, (u .0, (tt, (n, (markE g Γ ts _ (o .3) (c .1 .1 .1 .1 .1 .0) n .0, (u .1, n))))))), subst (Known m k gs) (sym (o .5)) (u .1))
     markE (fader e) Γ ts p o c n = ((markE e Γ ts p (o .0) (c .0) n .0, tt), subst (Known m k gs) (sym (o .2)) tt)

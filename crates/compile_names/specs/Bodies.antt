@@ -53,7 +53,7 @@ module _ (P : Owner → ℕ → Ty → Type 0) (t : Tree) (whole : goodGlobals (
   unfolding lookup scopesOf
   known-root S Δ same e a u w h =
       let q = outer (definesGlobals (t .head)) (t .items) a (isVariable u) w nowhere (λ z. z) (subst (λ ss. lookup a ss ≡ found (isVariable u) w) (entered-scopes P S (locals (t .head)) (startOfRoot t) Δ e) h)
-          (firstOf a (definesGlobals (t .head)) ≡ found (isVariable u) w) (λ z. z) (λ n z. nothing (isVariable u) w z) in
+      (firstOf a (definesGlobals (t .head)) ≡ found (isVariable u) w) (λ z. z) (λ n z. nothing (isVariable u) w z) in
       subst (λ z. Has P z u) (sym (same a)) (entered-new P S (locals (t .head)) (startOfRoot t) Δ a u w (rootOf t ∷ []) [] e (good-locals (t .head) (rootOf t ∷ []) [] [] (λ b z. z) whole) (variable-found (t .head) a u w q))
 
   pub inside-root : (S : Style) (Δ : List Around) → ((a : ℕ) → keptOf a Δ ≡ S .look a Δ) → Entered P S (locals (t .head)) (startOfRoot t) Δ → Inside P (t .head) Δ
@@ -69,7 +69,7 @@ module _ (P : Owner → ℕ → Ty → Type 0) (t : Tree) (whole : goodGlobals (
   reached-root S Δ x e a h =
       let h' : otherwise (firstOf a (definesGlobals (t .head) ++ definesItems (t .items))) nowhere ≡ found isLabel false = subst (λ ss. lookup a ss ≡ found isLabel false) (entered-scopes P S (locals (t .head)) (startOfRoot t) Δ e) h in
       here-or (hasLabel a (t .items)) (gotoOk true Δ a) (λ n. absurd (pick (firstOf a (definesGlobals (t .head))) refl (firstOf a (definesItems (t .items))) refl n
-        (subst (λ z. otherwise z nowhere ≡ found isLabel false) (first-append a (definesGlobals (t .head)) (definesItems (t .items))) h')))
+      (subst (λ z. otherwise z nowhere ≡ found isLabel false) (first-append a (definesGlobals (t .head)) (definesItems (t .items))) h')))
     where
       pick : (u : Found) → firstOf a (definesGlobals (t .head)) ≡ u → (v : Found) → firstOf a (definesItems (t .items)) ≡ v → hasLabel a (t .items) ≡ false → otherwise (otherwise u v) nowhere ≡ found isLabel false → ⊥
       pick nowhere p nowhere q n k = nothing isLabel false k

@@ -130,10 +130,11 @@ module _ (m : Macro) (k : ℕ) (gs : List Global) where
 
       mutual
         unfolding goodS okS typeE withTy
+
         pub typed-S : (s : Stmt) (Γ : List Around) → Inside CellTy gs Γ → Reached Γ → goodS (scopesOf Γ) s → okS m k gs s Γ
         typed-S (block ds is) Γ h r g =
             typed-head (blockOf ds is ∷ scopesOf Γ) [] ds (inside (blockOf ds is) ∷ Γ) (λ Δ. (x : ℕ) → okItems m k gs is (labels is x ∷ Δ)) (globals-block gs ds is (scopesOf Γ) (h .globals)) (g .0)
-              (λ Δ e x. typed-items is (labels is x ∷ Δ) (in-labels CellTy gs is x Δ (in-block CellTy gs ds is Γ Δ (blockOf ds is ∷ scopesOf Γ) (g .0) e h)) (reached-block CellTy ds is x Γ Δ e r) (good-inside CellTy gs (blockOf ds is) ds is x Γ Δ e (g .1)))
+            (λ Δ e x. typed-items is (labels is x ∷ Δ) (in-labels CellTy gs is x Δ (in-block CellTy gs ds is Γ Δ (blockOf ds is ∷ scopesOf Γ) (g .0) e h)) (reached-block CellTy ds is x Γ Δ e r) (good-inside CellTy gs (blockOf ds is) ds is x Γ Δ e (g .1)))
         typed-S (assign x e) Γ h r g = (typed-target x Γ (tyE gs Γ e) (g .2 .0) h (g .0) (g .2 .2) (has-type Γ e (g .2 .0) (g .2 .1)), typed-E e Γ h (g .1))
         typed-S (when e s) Γ h r g = (typed-E e Γ h (g .0), has-type Γ e logical (g .1), typed-S s Γ h r (g .2))
         typed-S (choose e s t) Γ h r g = (typed-E e Γ h (g .0), has-type Γ e logical (g .1), typed-S s Γ h r (g .2), typed-S t Γ h r (g .3))
@@ -182,7 +183,7 @@ module _ (m : Macro) (k : ℕ) (gs : List Global) where
         typed-E (operate2 o e f) Γ h g =
             let t = g .2 .0 in let u = g .2 .1 in let r = g .2 .2 in
             let x : typeE (scopesOf Γ) (operate2 o e f) ≡ some r =
-                ap (λ y. withTy y (λ t. withTy (typeE (scopesOf Γ) f) (λ u. opType (binary o) (t ∷ u ∷ [])))) (g .2 .3) ∙ ap (λ y. withTy y (λ u. opType (binary o) (t ∷ u ∷ []))) (g .2 .4) ∙ g .2 .5 in
+            ap (λ y. withTy y (λ t. withTy (typeE (scopesOf Γ) f) (λ u. opType (binary o) (t ∷ u ∷ [])))) (g .2 .3) ∙ ap (λ y. withTy y (λ u. opType (binary o) (t ∷ u ∷ []))) (g .2 .4) ∙ g .2 .5 in
             let b = isTy logical (typeE (scopesOf Γ) e) in
             let w = ways-in gs m k o t u r b (λ y. let z : some t ≡ some logical = sym (g .2 .3) ∙ is-ty logical (typeE (scopesOf Γ) e) y in cc z) (g .2 .5) in
             (typed-E e Γ h (g .0), typed-E f Γ h (g .1), fit-way Γ o e f t u r (has-type Γ e t (g .2 .3)) (has-type Γ f u (g .2 .4)) (has-type Γ (operate2 o e f) r x) w)
@@ -191,9 +192,11 @@ module _ (m : Macro) (k : ℕ) (gs : List Global) where
         typed-E (fader e) Γ h g = (typed-E e Γ h (g .0), has-type Γ e integer (g .1), refl)
         typed-E (blockExpr ds is v) Γ h g =
             typed-head (expressionOf ds is ∷ scopesOf Γ) [] ds (inside (expressionOf ds is) ∷ Γ) (λ Δ. ((x : ℕ) → okItems m k gs is (labels is x ∷ Δ)) × okE m k gs v Δ × (tyE gs Δ v ≡ tyE gs Γ (blockExpr ds is v))) (globals-expression gs ds is (scopesOf Γ) (h .globals)) (g .0)
-              (λ Δ e. let h' = in-expression CellTy gs ds is Γ Δ (expressionOf ds is ∷ scopesOf Γ) (g .0) e h in
-                ((λ x. typed-items is (labels is x ∷ Δ) (in-labels CellTy gs is x Δ h') (reached-expression CellTy ds is x Γ Δ e) (good-inside CellTy gs (expressionOf ds is) ds is x Γ Δ e (g .1))),
-                  typed-E v Δ h' (good-value CellTy gs (expressionOf ds is) ds v Γ Δ e (g .2)), ap (λ ss. tyIn gs (orInteger (typeE ss v))) (block-scopes CellTy gs (expressionOf ds is) ds Γ Δ e)))
+            (λ Δ e. let h' = in-expression CellTy gs ds is Γ Δ (expressionOf ds is ∷ scopesOf Γ) (g .0) e h in (
+              (λ x. typed-items is (labels is x ∷ Δ) (in-labels CellTy gs is x Δ h') (reached-expression CellTy ds is x Γ Δ e) (good-inside CellTy gs (expressionOf ds is) ds is x Γ Δ e (g .1))),
+              typed-E v Δ h' (good-value CellTy gs (expressionOf ds is) ds v Γ Δ e (g .2)),
+              ap (λ ss. tyIn gs (orInteger (typeE ss v))) (block-scopes CellTy gs (expressionOf ds is) ds Γ Δ e),
+            ))
 
         typed-Es : (es : Exprs) (Γ : List Around) → Inside CellTy gs Γ → goodEs (scopesOf Γ) es → okEs m k gs es Γ
         typed-Es noExpr Γ h g = tt

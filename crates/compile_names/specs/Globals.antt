@@ -282,10 +282,12 @@ field-found (class d xs ∷ gs) ss seen k a c t w g h =
     here r =
         let e : eqb d c ≡ true = eq-eqb d c (sym (r .same-class)) in
         record { fields = xs; at-number = rw e (ap (λ n. some (classAs n xs)) (sym (r .same-class))); its-class = rw (e, r .there) (omega arith); its-index = rw (r .there) refl; there = r .there; its-type = r .its-type; new = subst (λ z. among z seen ≡ false) (sym (r .same-class)) (g .0 .1) }
+
     further : amongNames a (namesOf xs) ≡ false → FieldFound gs (namesTyped xs (d ∷ seen)) (suc k) a c t → FieldFound (class d xs ∷ gs) seen k a c t
     further n r =
         let u = neither (eqb c d) (among c seen) (unseen c xs (d ∷ seen) (r .new)) in let e : eqb d c ≡ false = eqb-comm d c ∙ u .0 in let z = r .its-class in
         record { fields = r .fields; at-number = rw e (r .at-number); its-class = rw (e, n) (omega arith); its-index = rw n (r .its-index); there = r .there; its-type = r .its-type; new = u .1 }
+
     pick : (f : Found) → firstOf a (definesFields d xs) ≡ f → otherwise f (firstOf a (definesGlobals gs)) ≡ found (isField c t) w
         → (firstOf a (definesGlobals gs) ≡ found (isField c t) w → FieldFound gs (namesTyped xs (d ∷ seen)) (suc k) a c t) → FieldFound (class d xs ∷ gs) seen k a c t
     pick nowhere e y f = further (not-in-fields xs a d e) (f y)

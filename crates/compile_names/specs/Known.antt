@@ -136,9 +136,13 @@ module _ (P : Owner → ℕ → Ty → Type 0) where
             → (firstOf a (definesHead ds) ≡ found (isVariable t) w → Has (S .look a Δ) t) → Has (S .look a Δ) t
         pick true u k f =
             let z : x .type ≡ t = cc k in
-            let new : among a (x .name ∷ seen) ≡ true = or-left (eqb a (x .name)) (among a seen) (eq-eqb a (x .name) (sym (eqb-true (x .name) a u))) in
-            (S .owner, e .0, entered-past ds (S .name (x .name) (e .0) ∷ Γ) Δ a (e .2) (not-again a ss (x .name ∷ seen) ds (g .2) new)
-              ∙ S .look-name a (x .name) (e .0) Γ ∙ ap (λ b. if b then some (kept (S .owner) (e .0)) else S .look a Γ) u, subst (λ y. P (S .owner) (e .0) y) z (e .1))
+            let new : among a (x .name ∷ seen) ≡ true = or-left (eqb a (x .name)) (among a seen) (eq-eqb a (x .name) (sym (eqb-true (x .name) a u))) in (
+              S .owner,
+              e .0,
+              entered-past ds (S .name (x .name) (e .0) ∷ Γ) Δ a (e .2) (not-again a ss (x .name ∷ seen) ds (g .2) new)
+                  ∙ S .look-name a (x .name) (e .0) Γ ∙ ap (λ b. if b then some (kept (S .owner) (e .0)) else S .look a Γ) u,
+              subst (λ y. P (S .owner) (e .0) y) z (e .1),
+            )
         pick false u k f = f k
     entered-new (holding q ∷ ds) Γ Δ a t w ss seen e g h = entered-new ds (S .hold q Γ) Δ a t w ss seen e g h
 
@@ -194,15 +198,15 @@ module _ (P : Owner → ℕ → Ty → Type 0) where
   unfolding lookup scopesOf
   known-block ds is Γ Δ ss g e k a t w h =
       outer (definesHead ds) is a (isVariable t) w (lookup a (scopesOf Γ)) (λ q. q) (subst (λ ss. lookup a ss ≡ found (isVariable t) w) (entered-scopes P ofBlock ds (inside (blockOf ds is) ∷ Γ) Δ e) h) (Has P (keptOf a Δ) t)
-        (λ q. entered-new P ofBlock ds (inside (blockOf ds is) ∷ Γ) Δ a t w ss [] e g q)
-        (λ n q. subst (λ z. Has P z t) (sym (entered-past P ofBlock ds (inside (blockOf ds is) ∷ Γ) Δ a e n ∙ inside-look a (blockOf ds is) Γ)) (k a t w q))
+      (λ q. entered-new P ofBlock ds (inside (blockOf ds is) ∷ Γ) Δ a t w ss [] e g q)
+      (λ n q. subst (λ z. Has P z t) (sym (entered-past P ofBlock ds (inside (blockOf ds is) ∷ Γ) Δ a e n ∙ inside-look a (blockOf ds is) Γ)) (k a t w q))
 
   pub known-expression : (ds : List Decl) (is : Items) (Γ Δ : List Around) (ss : List Scope) → goodHead ss [] ds → Entered P ofBlock ds (inside (expressionOf ds is) ∷ Γ) Δ → Known P Γ → Known P Δ
   unfolding lookup scopesOf
   known-expression ds is Γ Δ ss g e k a t w h =
       outer (definesHead ds) is a (isVariable t) w (across (lookup a (scopesOf Γ))) (λ q. q) (subst (λ ss. lookup a ss ≡ found (isVariable t) w) (entered-scopes P ofBlock ds (inside (expressionOf ds is) ∷ Γ) Δ e) h) (Has P (keptOf a Δ) t)
-        (λ q. entered-new P ofBlock ds (inside (expressionOf ds is) ∷ Γ) Δ a t w ss [] e g q)
-        (λ n q. let z = uncross (lookup a (scopesOf Γ)) (isVariable t) w q in subst (λ z. Has P z t) (sym (entered-past P ofBlock ds (inside (expressionOf ds is) ∷ Γ) Δ a e n ∙ inside-look a (expressionOf ds is) Γ)) (k a t (z .0) (z .1)))
+      (λ q. entered-new P ofBlock ds (inside (expressionOf ds is) ∷ Γ) Δ a t w ss [] e g q)
+      (λ n q. let z = uncross (lookup a (scopesOf Γ)) (isVariable t) w q in subst (λ z. Has P z t) (sym (entered-past P ofBlock ds (inside (expressionOf ds is) ∷ Γ) Δ a e n ∙ inside-look a (expressionOf ds is) Γ)) (k a t (z .0) (z .1)))
 
   -- labels do not matter
   pub known-labels : (is : Items) (x : ℕ) (Γ : List Around) → Known P Γ → Known P (labels is x ∷ Γ)

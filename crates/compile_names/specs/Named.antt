@@ -86,10 +86,11 @@ module _ (gs : List Global) where
 
     mutual
       unfolding goodS okS
+
       pub named-S : (s : Stmt) (Γ : List Around) → Inside AnyCell gs Γ → Reached Γ → goodS (scopesOf Γ) s → okS gs s Γ
       named-S (block ds is) Γ k r g =
           head-ok (blockOf ds is ∷ scopesOf Γ) [] ds (inside (blockOf ds is) ∷ Γ) (λ Δ. (x : ℕ) → okItems gs is (labels is x ∷ Δ)) (globals-block gs ds is (scopesOf Γ) (k .globals)) (g .0)
-            (λ Δ e x. named-items is (labels is x ∷ Δ) (in-labels AnyCell gs is x Δ (in-block AnyCell gs ds is Γ Δ (blockOf ds is ∷ scopesOf Γ) (g .0) e k)) (reached-block AnyCell ds is x Γ Δ e r) (good-inside AnyCell gs (blockOf ds is) ds is x Γ Δ e (g .1)))
+          (λ Δ e x. named-items is (labels is x ∷ Δ) (in-labels AnyCell gs is x Δ (in-block AnyCell gs ds is Γ Δ (blockOf ds is ∷ scopesOf Γ) (g .0) e k)) (reached-block AnyCell ds is x Γ Δ e r) (good-inside AnyCell gs (blockOf ds is) ds is x Γ Δ e (g .1)))
       named-S (assign x e) Γ k r g = (named-target x Γ k (g .0), named-E e Γ k (g .1))
       named-S (when e s) Γ k r g = (named-E e Γ k (g .0), named-S s Γ k r (g .2))
       named-S (choose e s t) Γ k r g = (named-E e Γ k (g .0), named-S s Γ k r (g .2), named-S t Γ k r (g .3))
@@ -135,9 +136,10 @@ module _ (gs : List Global) where
       named-E (fader e) Γ k g = named-E e Γ k (g .0)
       named-E (blockExpr ds is v) Γ k g =
           head-ok (expressionOf ds is ∷ scopesOf Γ) [] ds (inside (expressionOf ds is) ∷ Γ) (λ Δ. ((x : ℕ) → okItems gs is (labels is x ∷ Δ)) × okE gs v Δ) (globals-expression gs ds is (scopesOf Γ) (k .globals)) (g .0)
-            (λ Δ e. let k' = in-expression AnyCell gs ds is Γ Δ (expressionOf ds is ∷ scopesOf Γ) (g .0) e k in
-              ((λ x. named-items is (labels is x ∷ Δ) (in-labels AnyCell gs is x Δ k') (reached-expression AnyCell ds is x Γ Δ e) (good-inside AnyCell gs (expressionOf ds is) ds is x Γ Δ e (g .1))),
-                named-E v Δ k' (good-value AnyCell gs (expressionOf ds is) ds v Γ Δ e (g .2))))
+          (λ Δ e. let k' = in-expression AnyCell gs ds is Γ Δ (expressionOf ds is ∷ scopesOf Γ) (g .0) e k in (
+            (λ x. named-items is (labels is x ∷ Δ) (in-labels AnyCell gs is x Δ k') (reached-expression AnyCell ds is x Γ Δ e) (good-inside AnyCell gs (expressionOf ds is) ds is x Γ Δ e (g .1))),
+            named-E v Δ k' (good-value AnyCell gs (expressionOf ds is) ds v Γ Δ e (g .2)),
+          ))
 
       named-Es : (es : Exprs) (Γ : List Around) → Inside AnyCell gs Γ → goodEs (scopesOf Γ) es → okEs gs es Γ
       named-Es noExpr Γ k g = tt

@@ -47,8 +47,19 @@ module _ (gs : List Global) where
   pub alike-start : (s : Scope) → Alike (outermost s ∷ []) (outermost s ∷ []) 0
   unfolding Distinct Below globalAt boundAt rootsOf Apart blocksOf heldIn
   alike-start s = record {
-    distinct = tt; below = tt; owns = λ a c o h. let z : _≡_ {A = ℕ} 0 1 = cc h in absurd (omega arith); unbound = λ a. refl; unbound-there = λ a. refl;
-    shared = λ a c o h. let z : _≡_ {A = ℕ} 0 1 = cc h in absurd (omega arith); same-roots = λ cs ls ds. refl; far = λ c h. tt; apart = tt; few = λ k. tt; no-own = λ c. tt; no-block = λ cs. refl; no-hold = refl;
+    distinct = tt;
+    below = tt;
+    owns = λ a c o h. let z : _≡_ {A = ℕ} 0 1 = cc h in absurd (omega arith);
+    unbound = λ a. refl;
+    unbound-there = λ a. refl;
+    shared = λ a c o h. let z : _≡_ {A = ℕ} 0 1 = cc h in absurd (omega arith);
+    same-roots = λ cs ls ds. refl;
+    far = λ c h. tt;
+    apart = tt;
+    few = λ k. tt;
+    no-own = λ c. tt;
+    no-block = λ cs. refl;
+    no-hold = refl;
   }
 
   pub alike-declare : (b : ℕ) (Γ Θ : List Around) (n : ℕ) → Alike Γ Θ n → Alike (global own b n ∷ Γ) (global root b n ∷ Θ) (suc n)
@@ -71,11 +82,14 @@ module _ (gs : List Global) where
     where
       owner-is : Kept → Owner
       owner-is (kept o c) = o
+
       number-is : Kept → ℕ
       number-is (kept o c) = c
+
       mine : {x : Option Kept} (t : Bool) (c : ℕ) (o : Owner) → (if t then some (kept own n) else x) ≡ some (kept o c) → (x ≡ some (kept o c) → o ≡ own) → o ≡ own
       mine true c o e f = let z : kept own n ≡ kept o c = cc e in sym (ap owner-is z)
       mine false c o e f = f e
+
       both : {x y : Option Kept} (t : Bool) (c : ℕ) (o : Owner) → (if t then some (kept root n) else x) ≡ some (kept o c) → (x ≡ some (kept o c) → (o ≡ root) × (y ≡ some (kept own c))) → (o ≡ root) × ((if t then some (kept own n) else y) ≡ some (kept own c))
       both true c o e f = let z : kept root n ≡ kept o c = cc e in (sym (ap owner-is z), ap (λ d. some (kept own d)) (ap number-is z))
       both false c o e f = f e
@@ -83,8 +97,19 @@ module _ (gs : List Global) where
   pub alike-hold : (g : ℕ) (Γ Θ : List Around) (n : ℕ) → Alike Γ Θ n → Alike (held g ∷ Γ) Θ n
   unfolding Distinct Below globalAt boundAt rootsOf
   alike-hold g Γ Θ n h = record {
-    distinct = h .distinct; below = h .below; owns = h .owns; unbound = h .unbound; unbound-there = h .unbound-there; shared = h .shared; same-roots = h .same-roots;
-    far = h .far; apart = h .apart; few = h .few; no-own = h .no-own; no-block = h .no-block; no-hold = h .no-hold;
+    distinct = h .distinct;
+    below = h .below;
+    owns = h .owns;
+    unbound = h .unbound;
+    unbound-there = h .unbound-there;
+    shared = h .shared;
+    same-roots = h .same-roots;
+    far = h .far;
+    apart = h .apart;
+    few = h .few;
+    no-own = h .no-own;
+    no-block = h .no-block;
+    no-hold = h .no-hold;
   }
 
   pub root-ok : (ss : List Scope) (seen : List ℕ) (ds : List Decl) (Γ Θ : List Around) (n : ℕ) (Q : List Around → ℕ → Type 0) → GlobalsIn gs ss → goodHead ss seen ds → Alike Γ Θ n

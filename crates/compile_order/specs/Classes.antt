@@ -7,15 +7,16 @@ use native.Mathlib.Omega.{arith}
 use lib.ListN.{length, getElem?}
 use Rattle.values.specs.Types.{Ty, integer, logical, bits, reference}
 use Rattle.language.specs.Tree.{Typed, Global, local, class, procedure, Tree}
-use Rattle.language.specs.Names.{Scope, types, isClass, procedureOf, rootOf}
+use Rattle.language.specs.Names.{Scope, types, isClass, procedureOf}
 use Rattle.language.specs.Faults.{faults, namesGlobal}
 use Rattle.loading.specs.Terms.{Each, Named, ReadClass}
 use Rattle.compile_code.specs.Compile.{Class, classesOf, classNumber, Proc, procsOf, tyIn}
 use Rattle.compile_code.specs.Encode.{fieldTypes, compiled}
 use Rattle.compile_macro.specs.Built.{classCount, params-length}
 use Rattle.compile_names.specs.Good.{goodTy, goodTyped}
-use Rattle.compile_names.specs.Globals.{classAs, goodGlobals, GlobalsIn, globals-root, globals-procedure, class-found, good-tree, procedure-at}
+use Rattle.compile_names.specs.Globals.{classAs, goodGlobals, GlobalsIn, globals-root, globals-procedure, class-found}
 use Rattle.compile_names.specs.Fitting.{class-types, within}
+use Rattle.compile_order.specs.Around.{rootScopes, good-globals, good-parameters}
 
 module _ (gs : List Global) where
   -- a type whose class is found by name has it by number
@@ -46,9 +47,9 @@ module _ (gs : List Global) where
 module _ (t : Tree) (h : faults t ≡ []) where
   pub fields-known : Each (λ (c : Class). (1 ≤ length (c .fields)) × (length (c .fields) ≤ 8)) (classesOf (t .head)) → Each (ReadClass (classCount t)) (compiled t .classes)
   unfolding compiled
-  fields-known n = read-classes (t .head) (rootOf t ∷ []) [] (t .head) (globals-root t) (good-tree t h .0) n
+  fields-known n = read-classes (t .head) (rootScopes t) [] (t .head) (globals-root t) (good-globals t h) n
 
   pub parameters-known : (k : ℕ) (q : Proc) → getElem? (procsOf (t .head)) k ≡ some q → Each (Named (classCount t)) (map (tyIn (t .head)) (types (q .parameters)))
   unfolding compiled
-  parameters-known k q e = named-typed (t .head) (procedureOf (q .parameters) ∷ (rootOf t ∷ [])) [] (q .parameters) (globals-procedure (t .head) (q .parameters) (rootOf t ∷ []) (globals-root t))
-      (procedure-at (t .head) (rootOf t ∷ []) [] k q (good-tree t h .0) e .0)
+  parameters-known k q e = named-typed (t .head) (procedureOf (q .parameters) ∷ (rootScopes t)) [] (q .parameters) (globals-procedure (t .head) (q .parameters) (rootScopes t) (globals-root t))
+      (good-parameters t h k q e)

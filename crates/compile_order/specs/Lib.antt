@@ -1,7 +1,7 @@
 pub mod Entries
 pub mod Limited
-pub mod Classes
 pub mod Around
+pub mod Classes
 pub mod Typed
 pub mod Named
 pub mod Order

@@ -1,32 +1,30 @@
 -- A tree without faults is in order for the loading rules: every body, by its types.
-use mathlib.Core.Path.{_≡_, refl, ap, sym, _∙_, subst}
+use mathlib.Core.Path.{_≡_, refl, ap, sym, _∙_}
 use mathlib.Core.List.{List, [], _∷_, _++_, map, append-assoc}
-use mathlib.Core.Option.{none, some}
+use mathlib.Core.Option.{some}
 use Prim.Native.Nat.{ℕ, suc}
 use native.Mathlib.Omega.{arith}
 use lib.ListN.{length, getElem?, take, length-append}
 use Rattle.values.specs.Types.{Ty}
 use Rattle.language.specs.Tree.{Typed, Decl, declare, holding, Body, proper, function, Global, Tree}
-use Rattle.language.specs.Names.{Scope, types, rootOf}
+use Rattle.language.specs.Names.{Scope, types}
 use Rattle.language.specs.Faults.{faults}
 use Rattle.language.specs.Limits.{locals}
 use Rattle.bytecode.specs.Macro.{Macro}
-use Rattle.bytecode.specs.Instructions.{own, root, bodyAt}
+use Rattle.bytecode.specs.Instructions.{Owner, own, root, bodyAt}
 use Rattle.bytecode.specs.Rules.{cellsOf}
 use Rattle.compile_code.specs.Code.{Code, At, at, skip, after, cellsIn}
-use Rattle.compile_code.specs.Compile.{Around, global, held, labels, scopesOf, boundAt, Proc, procsOf, codeHead, codeItems, tyIn}
+use Rattle.compile_code.specs.Compile.{Around, global, held, labels, scopesOf, Proc, procsOf, codeHead, codeItems, tyIn}
 use Rattle.compile_code.specs.Encode.{rootVariables, startOfRoot, aroundBody, codeRoot, codeProc, procPart, parts, compiled}
 use Rattle.compile_rules.specs.Pass.{Celled, okItems}
 use Rattle.compile_macro.specs.Right.{okRootTy, RootOk, okBodyTy}
 use Rattle.compile_macro.specs.Built.{shared, params-length, part-proc, head-of, root-celled}
-use Rattle.compile_names.specs.Good.{goodHead, goodItems}
-use Rattle.compile_names.specs.Known.{ofRoot, ofShared, Entered, entered-scopes, Given}
-use Rattle.compile_names.specs.Globals.{goodGlobals, goodBody, GlobalsIn, globals-root, good-locals, good-tree, procedure-at}
-use Rattle.compile_names.specs.Inside.{Inside, in-labels}
+use Rattle.compile_names.specs.Good.{goodHead}
+use Rattle.compile_names.specs.Known.{ofRoot, ofShared, Entered, Given}
+use Rattle.compile_names.specs.Globals.{goodBody, GlobalsIn, globals-root}
+use Rattle.compile_names.specs.Inside.{Inside}
 use Rattle.compile_names.specs.Fitting.{Tabled, CellTy, push-ok, has-type, typed-S, typed-E, typed-items}
-use Rattle.compile_names.specs.Bodies.{inside-root, reached-root, reached-procedure, inside-procedure}
-use Rattle.compile_names.specs.Shared.{kept-global}
-use Rattle.compile_order.specs.Around.{shared-unbound, body-scopes}
+use Rattle.compile_order.specs.Around.{rootScopes, good-globals, good-head, good-procedure, root-inside, root-reached, root-good, body-inside, body-reached}
 
 -- ── classes and procedures stand by their numbers ──
 take-front : (xs ys : List Ty) → take (length xs) (xs ++ ys) ≡ xs
@@ -56,12 +54,6 @@ module _ (m : Macro) (gs : List Global) where
       (push-ok m 0 gs tables ss (x .type) g (h .1), λ c e. root-ok tables ss (x .name ∷ seen) ds (global own (x .name) c ∷ Γ) Q g (h .2) (λ Δ r. f Δ (c, e, r)))
   root-ok tables ss seen (holding q ∷ ds) Γ Q g h f = root-ok tables ss seen ds (held q ∷ Γ) Q g h f
 
-  entered-unbound : (ds : List Decl) (Γ Δ : List Around) (a : ℕ) → Entered (CellTy m 0 gs) ofRoot ds Γ Δ → boundAt a Γ ≡ none → boundAt a Δ ≡ none
-  unfolding Entered boundAt
-  entered-unbound [] Γ Δ a e h = ap (boundAt a) e ∙ h
-  entered-unbound (declare x ∷ ds) Γ Δ a e h = entered-unbound ds (global own (x .name) (e .0) ∷ Γ) Δ a (e .2) h
-  entered-unbound (holding g ∷ ds) Γ Δ a e h = entered-unbound ds (held g ∷ Γ) Δ a e h
-
   module _ (k : ℕ) where
     get-next : (pre post : List Ty) (t : Ty) → getElem? (pre ++ (t ∷ post)) (length pre) ≡ some t
     get-next [] post t = refl
@@ -83,30 +75,28 @@ module _ (m : Macro) (gs : List Global) where
 
 -- ── the bodies ──
 module _ (t : Tree) (h : faults t ≡ []) where
-  good : goodGlobals (rootOf t ∷ []) [] (t .head)
-  good = good-tree t h .0
-
   pub root-typed : RootOk (compiled t) t
-  unfolding scopesOf boundAt
-  root-typed = root-ok (compiled t) (t .head) (tabled t) (rootOf t ∷ []) [] (locals (t .head)) (startOfRoot t) (λ Δ. (x : ℕ) → okItems (compiled t) 0 (t .head) (t .items) (labels (t .items) x ∷ Δ))
-      (globals-root t) (good-locals (t .head) (rootOf t ∷ []) [] [] (λ b z. z) good) (λ Δ e x.
-        let P = CellTy (compiled t) 0 (t .head) in
-        let i = inside-root P t good ofRoot Δ (λ a. kept-global (t .head) a Δ (entered-unbound (compiled t) (t .head) (locals (t .head)) (startOfRoot t) Δ a e refl)) e in
-        typed-items (compiled t) 0 (t .head) (tabled t) (rootOf t ∷ []) good (t .items) (labels (t .items) x ∷ Δ) (in-labels P (t .head) (t .items) x Δ i) (reached-root P t good ofRoot Δ x e)
-          (subst (λ ss. goodItems ss (t .items)) (sym (entered-scopes P ofRoot (locals (t .head)) (startOfRoot t) Δ e)) (good-tree t h .1)))
-
-  inside-body : (k : ℕ) (q : Proc) → getElem? (procsOf (t .head)) k ≡ some q → Inside (CellTy (compiled t) (suc k) (t .head)) (t .head) (aroundBody t (q .parameters))
-  unfolding Celled
-  inside-body k q e =
-      let P = CellTy (compiled t) (suc k) (t .head) in let r = proc-there t k q e in
-      inside-procedure P t good (q .parameters) (shared t) (given-typed (compiled t) (t .head) (suc k) (q .parameters) 0 [] (cellsIn (codeProc t q (r .0)) []) (ap cellsOf (r .1)) refl)
-        (inside-root P t good ofShared (shared t) (λ a. kept-global (t .head) a (shared t) (shared-unbound t a))
-          (shared-typed (compiled t) (t .head) (suc k) (locals (t .head)) (startOfRoot t) (startOfRoot t) (at 0 0) (λ Δ p. codeItems (t .head) (t .items) (labels (t .items) (p .address) ∷ Δ) [] p) (root-celled t .0)))
+  root-typed =
+      let m = compiled t in let P = CellTy m 0 (t .head) in
+      root-ok m (t .head) (tabled t) (rootScopes t) [] (locals (t .head)) (startOfRoot t) (λ Δ. (x : ℕ) → okItems m 0 (t .head) (t .items) (labels (t .items) x ∷ Δ)) (globals-root t) (good-head t h)
+        (λ Δ e x. typed-items m 0 (t .head) (tabled t) (rootScopes t) (good-globals t h) (t .items) (labels (t .items) x ∷ Δ) (root-inside t h P Δ e x) (root-reached t h P Δ e x) (root-good t h P Δ e x))
 
   pub proc-typed : (k : ℕ) (q : Proc) → getElem? (procsOf (t .head)) k ≡ some q → okBodyTy (compiled t) (suc k) (t .head) (q .body) (aroundBody t (q .parameters))
-  proc-typed k q e = pick (q .body) (subst (λ ss. goodBody ss (q .body)) (sym (body-scopes t (q .parameters))) (procedure-at (t .head) (rootOf t ∷ []) [] k q good e .1))
+  unfolding Celled
+  proc-typed k q e = pick (q .body) (good-procedure t h k q e)
     where
-      pick : (b : Body) → goodBody (scopesOf (aroundBody t (q .parameters))) b → okBodyTy (compiled t) (suc k) (t .head) b (aroundBody t (q .parameters))
-      pick (proper s) g = typed-S (compiled t) (suc k) (t .head) (tabled t) (rootOf t ∷ []) good s (aroundBody t (q .parameters)) (inside-body k q e)
-          (reached-procedure (CellTy (compiled t) (suc k) (t .head)) t good (q .parameters) (shared t)) g
-      pick (function u v) g = (typed-E (compiled t) (suc k) (t .head) (tabled t) (rootOf t ∷ []) good v (aroundBody t (q .parameters)) (inside-body k q e) (g .0), has-type (compiled t) (suc k) (t .head) (aroundBody t (q .parameters)) v u (g .1))
+      m : Macro
+      m = compiled t
+      Γ : List Around
+      Γ = aroundBody t (q .parameters)
+      P : Owner → ℕ → Ty → Type 0
+      P = CellTy m (suc k) (t .head)
+      given : Given P (q .parameters) 0
+      given = let r = proc-there t k q e in given-typed m (t .head) (suc k) (q .parameters) 0 [] (cellsIn (codeProc t q (r .0)) []) (ap cellsOf (r .1)) refl
+      entered : Entered P ofShared (locals (t .head)) (startOfRoot t) (shared t)
+      entered = shared-typed m (t .head) (suc k) (locals (t .head)) (startOfRoot t) (startOfRoot t) (at 0 0) (λ Δ p. codeItems (t .head) (t .items) (labels (t .items) (p .address) ∷ Δ) [] p) (root-celled t .0)
+      known : Inside P (t .head) Γ
+      known = body-inside t h P (q .parameters) given entered
+      pick : (b : Body) → goodBody (scopesOf Γ) b → okBodyTy m (suc k) (t .head) b Γ
+      pick (proper s) g = typed-S m (suc k) (t .head) (tabled t) (rootScopes t) (good-globals t h) s Γ known (body-reached t h P (q .parameters)) g
+      pick (function u v) g = (typed-E m (suc k) (t .head) (tabled t) (rootScopes t) (good-globals t h) v Γ known (g .0), has-type m (suc k) (t .head) Γ v u (g .1))

@@ -140,7 +140,7 @@ module _ (m : Macro) (w : WellFormed m) where
   bodies-back : (i : ℕ) (l : List ℕ) → (j : ℕ) × (records (readBody (length (m .classes)) (length (m .code))) (length (m .bodies)) [] i (each bodyBytes (m .bodies) l) ≡ parsed (m .bodies) j l)
   bodies-back i l =
       let q = all-back (readBody (length (m .classes)) (length (m .code))) bodyBytes (λ before xs. Each (ReadBody (length (m .classes)) (length (m .code))) xs × Rising before xs)
-          (λ before x xs r h. let u = rising before x xs (h .1) in (body-back (length (m .classes)) (length (m .code)) before x r (h .0 .0) (u .0), (h .0 .1, u .1))) (m .bodies) [] i l (w .bodies-read, from-root (m .bodies) refl (w .rises)) in
+      (λ before x xs r h. let u = rising before x xs (h .1) in (body-back (length (m .classes)) (length (m .code)) before x r (h .0 .0) (u .0), (h .0 .1, u .1))) (m .bodies) [] i l (w .bodies-read, from-root (m .bodies) refl (w .rises)) in
       (q .0, q .1 ∙ ap (λ xs. parsed xs (q .0) l) (twice (m .bodies)))
 
   codes-back : (i : ℕ) (l : List ℕ) → (j : ℕ) × (records readCode (length (m .code)) [] i (each codeBytes (m .code) l) ≡ parsed (m .code) j l)
@@ -151,8 +151,8 @@ module _ (m : Macro) (w : WellFormed m) where
   shapes-back : (i : ℕ) (l : List ℕ) → (j : ℕ) × (records (readShape (length (m .classes)) (length (m .code))) (length (m .shapes)) [] i (each shapeBytes (m .shapes) l) ≡ parsed (m .shapes) j l)
   shapes-back i l =
       let q = all-back (readShape (length (m .classes)) (length (m .code))) shapeBytes (λ before xs. Each (ReadShape (length (m .classes)) (length (m .code))) xs × (Unlike before xs × Apart xs))
-          (λ before x xs r h. (shape-back (length (m .classes)) (length (m .code)) before x r (h .0 .0) (h .1 .0 .0), (h .0 .1, (unlike before x xs (h .1 .0 .1) (h .1 .1 .0), h .1 .1 .1))))
-          (m .shapes) [] i l (w .shapes-read, (unlike-none (m .shapes), w .shapes-apart)) in
+      (λ before x xs r h. (shape-back (length (m .classes)) (length (m .code)) before x r (h .0 .0) (h .1 .0 .0), (h .0 .1, (unlike before x xs (h .1 .0 .1) (h .1 .1 .0), h .1 .1 .1))))
+      (m .shapes) [] i l (w .shapes-read, (unlike-none (m .shapes), w .shapes-apart)) in
       (q .0, q .1 ∙ ap (λ xs. parsed xs (q .0) l) (twice (m .shapes)))
 
   pub read-back : readMacro (macroBytes m) ≡ accepted m

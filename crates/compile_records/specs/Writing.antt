@@ -82,7 +82,6 @@ of-shape n size x r p q h s b =
     (omega arith, (omega arith, (omega arith, (omega arith, (s .0, (s .1, of-types n (reverse ts) r p (each-rev (Named n) ts [] (h .named) tt) b))))))
 
 module _ (m : Macro) (w : Writable m) where
-
   pub bytes : Bytes (macroBytes m)
   unfolding macroBytes
   bytes =

@@ -54,7 +54,7 @@ module _ (m : Macro) (k : ℕ) where
         before (some t) v = v
     marked Aim P (x ▸ y) p q f g o c e h w d z =
         let u = marked Aim (Marks m k (Real lo whole) y (after x p) × P) x p q f (h .0) o (λ o'. lay y o' c) e (h .1) w d
-            (λ o' a v. marked Aim P y (after x p) (after x q) (h .0) g o' c (shift lo x p q e) (h .2) a v z) in
+        (λ o' a v. marked Aim P y (after x p) (after x q) (h .0) g o' c (shift lo x p q e) (h .2) a v z) in
         (u .0, ((u .1 .0, u .1 .1 .0), u .1 .1 .1))
 
   unfoldable pub linesAlone : Code → List Line
