@@ -186,17 +186,18 @@ module _ (m : Macro) (k : ℕ) (gs : List Global) where
   cells-way ifTrue o Γ ts t x p f c h g = (h (c .0), (tt, (g ts (skip 1 (after x p)) (c .1 .1 .0), (tt, (tt, (tt, tt))))))
   cells-way ifFalse o Γ ts t x p f c h g = (h (c .0), (tt, (tt, (tt, (tt, (g ts (skip 3 (after x p)) (c .1 .1 .1 .1 .1 .0), tt))))))
 
-  pub cells-head : (ds : List Decl) (Γ : List Around) (p : At) (P : List Around → Type 0) (f : List Around → At → Code) → ((Δ : List Around) (q : At) → P Δ → Celled m k gs (f Δ q) q → Cells Known (f Δ q)) → okHead m k gs ds Γ P → Celled m k gs (codeHead gs bound ds Γ p f) p → Cells Known (codeHead gs bound ds Γ p f)
+  pub cells-head : (name : ℕ → ℕ → Around) (ds : List Decl) (Γ : List Around) (p : At) (P : List Around → Type 0) (f : List Around → At → Code) → ((Δ : List Around) (q : At) → P Δ → Celled m k gs (f Δ q) q → Cells Known (f Δ q)) 
+      → okHead m k gs name ds Γ P → Celled m k gs (codeHead gs name ds Γ p f) p → Cells Known (codeHead gs name ds Γ p f)
   unfolding okHead codeHead Cells Celled after
-  cells-head [] Γ p P f g o c = g Γ p o c
-  cells-head (declare x ∷ ds) Γ p P f g o c = (of-initial (tyIn gs (x .type)) (o .0 []), (tt, (tt, cells-head ds (bound (x .name) (p .cell) ∷ Γ) (at (suc (suc (p .address))) (suc (p .cell))) P f g (o .1 (p .cell) (c .0)) (c .1 .1 .1))))
-  cells-head (holding x ∷ ds) Γ p P f g o c = (tt, (cells-head ds (held x ∷ Γ) (skip 1 p) P f g o (c .1 .0), tt))
+  cells-head name [] Γ p P f g o c = g Γ p o c
+  cells-head name (declare x ∷ ds) Γ p P f g o c = (of-initial (tyIn gs (x .type)) (o .0 []), (tt, (tt, cells-head name ds (name (x .name) (p .cell) ∷ Γ) (at (suc (suc (p .address))) (suc (p .cell))) P f g (o .1 (p .cell) (c .0)) (c .1 .1 .1))))
+  cells-head name (holding x ∷ ds) Γ p P f g o c = (tt, (cells-head name ds (held x ∷ Γ) (skip 1 p) P f g o (c .1 .0), tt))
 
   mutual
     unfolding okS codeS Celled after Cells
 
     pub cellsOkS : (s : Stmt) (Γ : List Around) (ts : List Ty) (p : At) → okS m k gs s Γ → Celled m k gs (codeS gs s Γ ts p) p → Cells Known (codeS gs s Γ ts p)
-    cellsOkS (block ds is) Γ ts p o c = cells-head ds (inside (blockOf ds is) ∷ Γ) p (λ Δ. (x : ℕ) → okItems m k gs is (labels is x ∷ Δ)) (λ Δ q. codeItems gs is (labels is (q .address) ∷ Δ) ts q)
+    cellsOkS (block ds is) Γ ts p o c = cells-head bound ds (inside (blockOf ds is) ∷ Γ) p (λ Δ. (x : ℕ) → okItems m k gs is (labels is x ∷ Δ)) (λ Δ q. codeItems gs is (labels is (q .address) ∷ Δ) ts q)
         (λ Δ q o' c'. cellsOkItems is (labels is (q .address) ∷ Δ) ts q (o' (q .address)) c') o c
     cellsOkS (assign x e) Γ ts p o c = (cellsOkTarget x Γ ts p (tyE gs Γ e) (o .0) (c .0), (cellsOkE e Γ _ _ (o .1) (c .1 .0), tt))
     cellsOkS (when e s) Γ ts p o c = (cellsOkE e Γ ts p (o .0) (c .0), (tt, (cellsOkS s Γ ts _ (o .2) (c .1 .1 .0), tt)))
@@ -235,7 +236,7 @@ module _ (m : Macro) (k : ℕ) (gs : List Global) where
         cells-way (wayOf u (isTy logical (typeE (scopesOf Γ) e))) u Γ ts (tyE gs Γ e) (codeE gs e Γ ts p) p (λ us q. codeE gs f Γ us q) c (λ c'. cellsOkE e Γ ts p (o .0) c') (λ us q c'. cellsOkE f Γ us q (o .1) c')
     cellsOkE (conditional e f g) Γ ts p o c = (cellsOkE e Γ ts p (o .0) (c .0), (tt, (cellsOkE f Γ ts _ (o .2) (c .1 .1 .0), (tt, (tt, (cellsOkE g Γ ts _ (o .3) (c .1 .1 .1 .1 .1 .0), tt))))))
     cellsOkE (fader e) Γ ts p o c = (cellsOkE e Γ ts p (o .0) (c .0), tt)
-    cellsOkE (blockExpr ds is e) Γ ts p o c = cells-head ds (inside (expressionOf ds is) ∷ Γ) p (λ Δ. ((x : ℕ) → okItems m k gs is (labels is x ∷ Δ)) × okE m k gs e Δ × (tyE gs Δ e ≡ tyE gs Γ (blockExpr ds is e)))
+    cellsOkE (blockExpr ds is e) Γ ts p o c = cells-head bound ds (inside (expressionOf ds is) ∷ Γ) p (λ Δ. ((x : ℕ) → okItems m k gs is (labels is x ∷ Δ)) × okE m k gs e Δ × (tyE gs Δ e ≡ tyE gs Γ (blockExpr ds is e)))
         (λ Δ q. let y = codeItems gs is (labels is (q .address) ∷ Δ) ts q in y ▸ codeE gs e Δ ts (after y q))
         (λ Δ q o' c'. (cellsOkItems is (labels is (q .address) ∷ Δ) ts q (o' .0 (q .address)) (c' .0), cellsOkE e Δ ts _ (o' .1) (c' .1))) o c
 

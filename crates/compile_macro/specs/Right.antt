@@ -2,77 +2,27 @@
 use mathlib.Core.Path.{_≡_, refl, ap, subst}
 use mathlib.Core.List.{List, [], _∷_, map}
 use mathlib.Core.Option.{Option, none, some}
-use Prim.Native.Nat.{ℕ, suc, _+_, _≤_}
+use Prim.Native.Nat.{ℕ, suc, _≤_}
 use native.Mathlib.Omega.{arith}
 use lib.ListN.{length}
 use Rattle.values.specs.Types.{Ty, sames}
-use Rattle.values.specs.Values.{initial}
-use Rattle.language.specs.Tree.{Typed, Decl, declare, holding, Global, Tree}
+use Rattle.language.specs.Tree.{Typed, Global, Tree}
 use Rattle.language.specs.Tree.{Body as TreeBody, proper, function}
 use Rattle.language.specs.Names.{procedureOf}
 use Rattle.language.specs.Names.{results as resultsOf}
-use Rattle.language.specs.Limits.{Usage, bodyUsage, rootUsage, locals, headHolds, holdsItems}
+use Rattle.language.specs.Limits.{Usage, bodyUsage, rootUsage, locals, holdsItems}
 use Rattle.bytecode.specs.Macro.{Shape, shape, Macro}
-use Rattle.bytecode.specs.Instructions.{own, push, return, bodyAt}
-use Rattle.bytecode.specs.Rules.{plain, effect, cellTy, flow, atFirst}
+use Rattle.bytecode.specs.Instructions.{own, return, bodyAt}
+use Rattle.bytecode.specs.Rules.{effect, flow, atFirst}
 use Rattle.bytecode.specs.Rules.{resultsOf as bodyResults}
-use Rattle.compile_code.specs.Code.{Code, cell, At, at, skip, after}
-use Rattle.compile_code.specs.Compile.{Around, inside, global, held, labels, heldIn, found, codeHead, codeS, codeItems, codeE, tyE, tyIn, Proc}
+use Rattle.compile_code.specs.Code.{Code, At, at}
+use Rattle.compile_code.specs.Compile.{Around, inside, global, labels, heldIn, codeS, codeItems, codeE, tyE, tyIn, Proc}
 use Rattle.compile_code.specs.Encode.{codeRoot, codeProc, codeBody, parameterCells, rootVariables, startOfRoot, aroundBody}
-use Rattle.compile_rules.specs.Flows.{Goes, Seg, Marks, pushes, stores, holds, frees}
+use Rattle.compile_rules.specs.Flows.{Goes, Seg, Marks, holds}
 use Rattle.compile_rules.specs.Faultless.{shape-refl}
-use Rattle.compile_rules.specs.Pass.{Celled, okS, okItems, okE, Reaches, passS, passItems, passE, aims}
-use Rattle.compile_macro.specs.Cells.{Cells, Known, of-initial, cellsOkS, cellsOkItems, cellsOkE}
-use Rattle.compile_macro.specs.Shapes.{Heads, Typed!, markS, markItems, markE}
-
-module _ (m : Macro) (gs : List Global) where
-  -- the root's head, by types: as `okHead` of a block, with the root's variables
-  unfoldable pub okRootTy : List Decl → List Around → (List Around → Type 0) → Type 0
-  okRootTy [] Γ P = P Γ
-  okRootTy (declare x ∷ ds) Γ P = ((ts : List Ty) → effect m 0 (push (initial (tyIn gs (x .type)))) ts ≡ plain [] (tyIn gs (x .type) ∷ []))
-      × ((c : ℕ) → cellTy m 0 own c ≡ some (tyIn gs (x .type)) → okRootTy ds (global own (x .name) c ∷ Γ) P)
-  okRootTy (holding g ∷ ds) Γ P = okRootTy ds (held g ∷ Γ) P
-
-  -- what holds at the end of the root's head, for its code
-  root-cells : (ds : List Decl) (Γ : List Around) (p : At) (P : List Around → Type 0) (f : List Around → At → Code) → ((Δ : List Around) (q : At) → P Δ → Celled m 0 gs (f Δ q) q → Cells (Known m 0 gs) (f Δ q))
-      → okRootTy ds Γ P → Celled m 0 gs (codeHead gs (global own) ds Γ p f) p → Cells (Known m 0 gs) (codeHead gs (global own) ds Γ p f)
-  unfolding okRootTy codeHead Cells Celled after
-  root-cells [] Γ p P f g o c = g Γ p o c
-  root-cells (declare x ∷ ds) Γ p P f g o c = (of-initial m 0 gs (tyIn gs (x .type)) (o .0 []), (tt, (tt, root-cells ds (global own (x .name) (p .cell) ∷ Γ) (at (suc (suc (p .address))) (suc (p .cell))) P f g (o .1 (p .cell) (c .0)) (c .1 .1 .1))))
-  root-cells (holding x ∷ ds) Γ p P f g o c = (tt, (root-cells ds (held x ∷ Γ) (skip 1 p) P f g o (c .1 .0), tt))
-
-  root-marks : (H : Heads m) (ds : List Decl) (Γ : List Around) (p : At) (P : List Around → Type 0) (f : List Around → At → Code) → ((Δ : List Around) (q : At) → P Δ → Celled m 0 gs (f Δ q) q → Marks m 0 (Typed! m 0 gs H) (f Δ q) q)
-      → okRootTy ds Γ P → Celled m 0 gs (codeHead gs (global own) ds Γ p f) p → Marks m 0 (Typed! m 0 gs H) (codeHead gs (global own) ds Γ p f) p
-  unfolding okRootTy codeHead Marks Celled after
-  root-marks H [] Γ p P f g o c = g Γ p o c
-  root-marks H (declare x ∷ ds) Γ p P f g o c = (tt, (tt, (tt, root-marks H ds (global own (x .name) (p .cell) ∷ Γ) (at (suc (suc (p .address))) (suc (p .cell))) P f g (o .1 (p .cell) (c .0)) (c .1 .1 .1))))
-  root-marks H (holding x ∷ ds) Γ p P f g o c = (tt, (root-marks H ds (held x ∷ Γ) (skip 1 p) P f g o (c .1 .0), tt))
-
-  passRoot : (Aim : ℕ → Shape → Type 0) (ds : List Decl) (Γ : List Around) (p : At) (P : List Around → Type 0) (f : List Around → At → Code) (n : ℕ)
-      → ((Δ : List Around) (q : At) → P Δ → Reaches m 0 gs Aim Δ [] → length (heldIn Δ) + n ≤ 16 → Celled m 0 gs (f Δ q) q → Marks m 0 Aim (f Δ q) q → Seg m 0 Aim (f Δ q) (some (found Δ [])) (some (found Δ [])))
-      → okRootTy ds Γ P → Reaches m 0 gs Aim Γ [] → length (heldIn Γ) + (headHolds ds + n) ≤ 16 → Celled m 0 gs (codeHead gs (global own) ds Γ p f) p → Marks m 0 Aim (codeHead gs (global own) ds Γ p f) p
-      → Seg m 0 Aim (codeHead gs (global own) ds Γ p f) (some (found Γ [])) (some (found Γ []))
-  unfolding okRootTy codeHead headHolds Celled Marks after heldIn Reaches Seg
-  passRoot Aim [] Γ p P f n i o r l c g = i Γ p o r (omega arith) c g
-  passRoot Aim (declare x ∷ ds) Γ p P f n i o r l c g =
-      let t = tyIn gs (x .type) in let h = length (heldIn Γ) in (
-        some (shape h []),
-        refl,
-        (
-          some (shape h (t ∷ [])),
-          pushes m 0 Aim (push (initial t)) h t [] (o .0 []) (omega arith) (omega arith),
-          (
-            some (shape h []),
-            stores m 0 Aim own (p .cell) h t [] (c .0) (omega arith) (omega arith),
-            passRoot Aim ds (global own (x .name) (p .cell) ∷ Γ) (at (suc (suc (p .address))) (suc (p .cell))) P f n i (o .1 (p .cell) (c .0)) r (omega arith) (c .1 .1 .1) (g .1 .1 .1),
-          ),
-        ),
-      )
-  passRoot Aim (holding x ∷ ds) Γ p P f n i o r l c g = (
-    some (found (held x ∷ Γ) []),
-    holds m 0 Aim x (length (heldIn Γ)) [] (omega arith) (omega arith),
-    (some (found (held x ∷ Γ) []), passRoot Aim ds (held x ∷ Γ) (skip 1 p) P f n i o r (omega arith) (c .1 .0) (g .1 .0), frees m 0 Aim (length (heldIn Γ)) []),
-  )
+use Rattle.compile_rules.specs.Pass.{Celled, okHead, okS, okItems, okE, Reaches, quiet-global, passHead, passS, passItems, passE, aims}
+use Rattle.compile_macro.specs.Cells.{Cells, Known, cells-head, cellsOkS, cellsOkItems, cellsOkE}
+use Rattle.compile_macro.specs.Shapes.{Heads, Typed!, mark-head, markS, markItems, markE}
 
 -- ── what is asked of the tree, by types and limits ──
 abbrev pub okBodyTy : Macro → ℕ → List Global → TreeBody → List Around → Type 0
@@ -84,39 +34,36 @@ abbrev pub Keeps : Usage → Type 0
 Keeps u = (u .cells ≤ 32) × (u .holds ≤ 16) × (u .need ≤ 32)
 
 module _ (m : Macro) (t : Tree) where
-  abbrev gs : List Global
-  gs = t .head
+  -- what holds of the statements, whatever lies around them; their code
+  abbrev Statements : List Around → Type 0
+  Statements Δ = (x : ℕ) → okItems m 0 (t .head) (t .items) (labels (t .items) x ∷ Δ)
+
+  abbrev statements : List Around → At → Code
+  statements Δ q = codeItems (t .head) (t .items) (labels (t .items) (q .address) ∷ Δ) [] q
 
   -- the root
   abbrev pub RootOk : Type 0
-  RootOk = okRootTy m (t .head) (locals (t .head)) (startOfRoot t) (λ Δ. (x : ℕ) → okItems m 0 (t .head) (t .items) (labels (t .items) x ∷ Δ))
+  RootOk = okHead m 0 (t .head) (global own) (locals (t .head)) (startOfRoot t) Statements
 
   module _ (o : RootOk) (c : Celled m 0 (t .head) (codeRoot t) (at 0 0)) where
     pub root-cells-known : Cells (Known m 0 (t .head)) (codeRoot t)
     unfolding Celled Cells
-    root-cells-known = (
-      root-cells m (t .head) (locals (t .head)) (startOfRoot t) (at 0 0) (λ Δ. (x : ℕ) → okItems m 0 (t .head) (t .items) (labels (t .items) x ∷ Δ)) (λ Δ q. codeItems (t .head) (t .items) (labels (t .items) (q .address) ∷ Δ) [] q)
-          (λ Δ q o' c'. cellsOkItems m 0 (t .head) (t .items) (labels (t .items) (q .address) ∷ Δ) [] q (o' (q .address)) c') o (c .0),
-      tt,
-    )
+    root-cells-known = (cells-head m 0 (t .head) (global own) (locals (t .head)) (startOfRoot t) (at 0 0) Statements statements
+        (λ Δ q o' c'. cellsOkItems m 0 (t .head) (t .items) (labels (t .items) (q .address) ∷ Δ) [] q (o' (q .address)) c') o (c .0), tt)
 
     pub root-marks-known : (H : Heads m) → Marks m 0 (Typed! m 0 (t .head) H) (codeRoot t) (at 0 0)
     unfolding Celled Marks
-    root-marks-known H = (
-      root-marks m (t .head) H (locals (t .head)) (startOfRoot t) (at 0 0) (λ Δ. (x : ℕ) → okItems m 0 (t .head) (t .items) (labels (t .items) x ∷ Δ)) (λ Δ q. codeItems (t .head) (t .items) (labels (t .items) (q .address) ∷ Δ) [] q)
-          (λ Δ q o' c'. markItems m 0 (t .head) H (t .items) (labels (t .items) (q .address) ∷ Δ) [] q (o' (q .address)) c' tt) o (c .0),
-      tt,
-    )
+    root-marks-known H = (mark-head m 0 (t .head) H (global own) (Unit {0}) (locals (t .head)) (startOfRoot t) (at 0 0) Statements statements
+        (λ Δ q o' c'. (markItems m 0 (t .head) H (t .items) (labels (t .items) (q .address) ∷ Δ) [] q (o' (q .address)) c' tt, tt)) o (c .0) .0, tt)
 
     pub root-flows : Keeps (rootUsage t) → (Aim : ℕ → Shape → Type 0) → Marks m 0 Aim (codeRoot t) (at 0 0) → Seg m 0 Aim (codeRoot t) atFirst none
     unfolding Celled Marks Seg heldIn Reaches effect flow sames
     root-flows u Aim g =
-        let l = u .1 in let n = u .2 in (
-          some (shape 0 []),
-          passRoot m (t .head) Aim (locals (t .head)) (startOfRoot t) (at 0 0) (λ Δ. (x : ℕ) → okItems m 0 (t .head) (t .items) (labels (t .items) x ∷ Δ)) (λ Δ q. codeItems (t .head) (t .items) (labels (t .items) (q .address) ∷ Δ) [] q) (holdsItems (t .items))
-              (λ Δ q o' r l' c' g'. passItems m 0 (t .head) Aim (t .items) (labels (t .items) (q .address) ∷ Δ) [] q (o' (q .address)) (aims m 0 (t .head) Aim (t .items) Δ [] q g', r) l' (omega arith) c' g') o tt (omega arith) (c .0) (g .0),
-          (shape 0 [], refl, refl),
-        )
+        let l = u .1 in let n = u .2 in
+        (some (shape 0 []), passHead m 0 (t .head) Aim (global own) (quiet-global m 0 (t .head) Aim) (locals (t .head)) (startOfRoot t) [] [] (at 0 0) Statements statements (holdsItems (t .items))
+            (λ Δ q o' r l' c' g'. passItems m 0 (t .head) Aim (t .items) (labels (t .items) (q .address) ∷ Δ) [] q (o' (q .address)) (aims m 0 (t .head) Aim (t .items) Δ [] q g', r) l' (omega arith) c' g')
+            o tt (omega arith) (omega arith) (c .0) (g .0),
+          (shape 0 [], refl, refl))
 
   -- a procedure
   reaches-params : (k : ℕ) (Aim : ℕ → Shape → Type 0) (xs : List Typed) (n : ℕ) (ys : List Typed) (Γ : List Around) (ts : List Ty) → Reaches m k (t .head) Aim (parameterCells xs n (inside (procedureOf ys) ∷ Γ)) ts

@@ -110,19 +110,19 @@ module _ (m : Macro) (k : ℕ) (gs : List Global) (H : Heads m) where
   mark-way ifTrue o Γ ts t x p f c n h g = (h (c .0) .0, (tt, (g ts (skip 1 (after x p)) n (c .1 .1 .0), (tt, (n, (tt, (tt, n)))))))
   mark-way ifFalse o Γ ts t x p f c n h g = (h (c .0) .0, (tt, (tt, (tt, (n, (g ts (skip 3 (after x p)) n (c .1 .1 .1 .1 .1 .0), (tt, n)))))))
 
-  mark-head : (R : Type 0) (ds : List Decl) (Γ : List Around) (p : At) (P : List Around → Type 0) (f : List Around → At → Code) → ((Δ : List Around) (q : At) → P Δ → Celled m k gs (f Δ q) q → Marks m k Typed! (f Δ q) q × R)
-      → okHead m k gs ds Γ P → Celled m k gs (codeHead gs bound ds Γ p f) p → Marks m k Typed! (codeHead gs bound ds Γ p f) p × R
+  pub mark-head : (name : ℕ → ℕ → Around) (R : Type 0) (ds : List Decl) (Γ : List Around) (p : At) (P : List Around → Type 0) (f : List Around → At → Code) → ((Δ : List Around) (q : At) → P Δ → Celled m k gs (f Δ q) q → Marks m k Typed! (f Δ q) q × R)
+      → okHead m k gs name ds Γ P → Celled m k gs (codeHead gs name ds Γ p f) p → Marks m k Typed! (codeHead gs name ds Γ p f) p × R
   unfolding okHead codeHead Marks Celled after
-  mark-head R [] Γ p P f g o c = g Γ p o c
-  mark-head R (declare x ∷ ds) Γ p P f g o c =
-      let q = mark-head R ds (bound (x .name) (p .cell) ∷ Γ) (at (suc (suc (p .address))) (suc (p .cell))) P f g (o .1 (p .cell) (c .0)) (c .1 .1 .1) in ((tt, (tt, (tt, q .0))), q .1)
-  mark-head R (holding x ∷ ds) Γ p P f g o c = let q = mark-head R ds (held x ∷ Γ) (skip 1 p) P f g o (c .1 .0) in ((tt, (q .0, tt)), q .1)
+  mark-head name R [] Γ p P f g o c = g Γ p o c
+  mark-head name R (declare x ∷ ds) Γ p P f g o c =
+      let q = mark-head name R ds (name (x .name) (p .cell) ∷ Γ) (at (suc (suc (p .address))) (suc (p .cell))) P f g (o .1 (p .cell) (c .0)) (c .1 .1 .1) in ((tt, (tt, (tt, q .0))), q .1)
+  mark-head name R (holding x ∷ ds) Γ p P f g o c = let q = mark-head name R ds (held x ∷ Γ) (skip 1 p) P f g o (c .1 .0) in ((tt, (q .0, tt)), q .1)
 
   mutual
     unfolding okS codeS Celled after Marks typeE tysE
 
     pub markS : (s : Stmt) (Γ : List Around) (ts : List Ty) (p : At) → okS m k gs s Γ → Celled m k gs (codeS gs s Γ ts p) p → KnownAll ts → Marks m k Typed! (codeS gs s Γ ts p) p
-    markS (block ds is) Γ ts p o c n = mark-head (Unit {0}) ds (inside (blockOf ds is) ∷ Γ) p (λ Δ. (x : ℕ) → okItems m k gs is (labels is x ∷ Δ)) (λ Δ q. codeItems gs is (labels is (q .address) ∷ Δ) ts q)
+    markS (block ds is) Γ ts p o c n = mark-head bound (Unit {0}) ds (inside (blockOf ds is) ∷ Γ) p (λ Δ. (x : ℕ) → okItems m k gs is (labels is x ∷ Δ)) (λ Δ q. codeItems gs is (labels is (q .address) ∷ Δ) ts q)
         (λ Δ q o' c'. (markItems is (labels is (q .address) ∷ Δ) ts q (o' (q .address)) c' n, tt)) o c .0
     markS (assign x e) Γ ts p o c n = let u = markTarget x Γ ts p (tyE gs Γ e) (o .0) (c .0) n in (u .0, (markE e Γ _ _ (o .1) (c .1 .0) (u .1) .0, tt))
     markS (when e s) Γ ts p o c n = (markE e Γ ts p (o .0) (c .0) n .0, (tt, (markS s Γ ts _ (o .2) (c .1 .1 .0) n, n)))
@@ -164,7 +164,7 @@ module _ (m : Macro) (k : ℕ) (gs : List Global) (H : Heads m) where
     markE (conditional e f g) Γ ts p o c n = let u = markE f Γ ts (skip 1 (after (codeE gs e Γ ts p) p)) (o .2) (c .1 .1 .0) n in
         ((markE e Γ ts p (o .0) (c .0) n .0, (tt, (u .0, (tt, (n, (markE g Γ ts _ (o .3) (c .1 .1 .1 .1 .1 .0) n .0, (u .1, n))))))), subst (Known m k gs) (sym (o .5)) (u .1))
     markE (fader e) Γ ts p o c n = ((markE e Γ ts p (o .0) (c .0) n .0, tt), subst (Known m k gs) (sym (o .2)) tt)
-    markE (blockExpr ds is e) Γ ts p o c n = mark-head (Known m k gs (tyE gs Γ (blockExpr ds is e))) ds (inside (expressionOf ds is) ∷ Γ) p (λ Δ. ((x : ℕ) → okItems m k gs is (labels is x ∷ Δ)) × okE m k gs e Δ × (tyE gs Δ e ≡ tyE gs Γ (blockExpr ds is e)))
+    markE (blockExpr ds is e) Γ ts p o c n = mark-head bound (Known m k gs (tyE gs Γ (blockExpr ds is e))) ds (inside (expressionOf ds is) ∷ Γ) p (λ Δ. ((x : ℕ) → okItems m k gs is (labels is x ∷ Δ)) × okE m k gs e Δ × (tyE gs Δ e ≡ tyE gs Γ (blockExpr ds is e)))
         (λ Δ q. let y = codeItems gs is (labels is (q .address) ∷ Δ) ts q in y ▸ codeE gs e Δ ts (after y q))
         (λ Δ q o' c'. let u = markE e Δ ts (after (codeItems gs is (labels is (q .address) ∷ Δ) ts q) q) (o' .1) (c' .1) n in ((markItems is (labels is (q .address) ∷ Δ) ts q (o' .0 (q .address)) (c' .0) n, u .0), subst (Known m k gs) (o' .2) (u .1))) o c
 

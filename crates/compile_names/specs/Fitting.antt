@@ -84,7 +84,7 @@ module _ (m : Macro) (k : ℕ) (gs : List Global) where
     push-ok ss bits g h us = refl
     push-ok ss (reference c) g h us = push-null ss c g h us
 
-    pub typed-head : (ss : List Scope) (seen : List ℕ) (ds : List Decl) (Γ : List Around) (Q : List Around → Type 0) → GlobalsIn gs ss → goodHead ss seen ds → ((Δ : List Around) → Entered CellTy ofBlock ds Γ Δ → Q Δ) → okHead m k gs ds Γ Q
+    pub typed-head : (ss : List Scope) (seen : List ℕ) (ds : List Decl) (Γ : List Around) (Q : List Around → Type 0) → GlobalsIn gs ss → goodHead ss seen ds → ((Δ : List Around) → Entered CellTy ofBlock ds Γ Δ → Q Δ) → okHead m k gs bound ds Γ Q
     unfolding goodHead Entered okHead
     typed-head ss seen [] Γ Q g h f = f Γ refl
     typed-head ss seen (declare x ∷ ds) Γ Q g h f = (push-ok ss (x .type) g (h .1), λ c t. typed-head ss (x .name ∷ seen) ds (bound (x .name) c ∷ Γ) Q g (h .2) (λ Δ e. f Δ (c, t, e)))

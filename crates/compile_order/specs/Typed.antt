@@ -16,8 +16,8 @@ use Rattle.bytecode.specs.Rules.{cellsOf}
 use Rattle.compile_code.specs.Code.{Code, At, at, skip, after, cellsIn}
 use Rattle.compile_code.specs.Compile.{Around, global, held, labels, scopesOf, Proc, procsOf, codeHead, codeItems, tyIn}
 use Rattle.compile_code.specs.Encode.{rootVariables, startOfRoot, aroundBody, codeRoot, codeProc, procPart, parts, compiled}
-use Rattle.compile_rules.specs.Pass.{Celled, okItems}
-use Rattle.compile_macro.specs.Right.{okRootTy, RootOk, okBodyTy}
+use Rattle.compile_rules.specs.Pass.{Celled, okHead, okItems}
+use Rattle.compile_macro.specs.Right.{RootOk, okBodyTy}
 use Rattle.compile_macro.specs.Built.{shared, params-length, part-proc, head-of, root-celled}
 use Rattle.compile_names.specs.Good.{goodHead}
 use Rattle.compile_names.specs.Known.{ofRoot, ofShared, Entered, Given}
@@ -47,8 +47,8 @@ module _ (t : Tree) where
 -- ── cells: of the root, of parameters, of the root's variables as a procedure finds them ──
 module _ (m : Macro) (gs : List Global) where
   root-ok : (tables : Tabled m gs) (ss : List Scope) (seen : List ℕ) (ds : List Decl) (Γ : List Around) (Q : List Around → Type 0) → GlobalsIn gs ss → goodHead ss seen ds
-      → ((Δ : List Around) → Entered (CellTy m 0 gs) ofRoot ds Γ Δ → Q Δ) → okRootTy m gs ds Γ Q
-  unfolding goodHead Entered okRootTy
+      → ((Δ : List Around) → Entered (CellTy m 0 gs) ofRoot ds Γ Δ → Q Δ) → okHead m 0 gs (global own) ds Γ Q
+  unfolding goodHead Entered okHead
   root-ok tables ss seen [] Γ Q g h f = f Γ refl
   root-ok tables ss seen (declare x ∷ ds) Γ Q g h f =
       (push-ok m 0 gs tables ss (x .type) g (h .1), λ c e. root-ok tables ss (x .name ∷ seen) ds (global own (x .name) c ∷ Γ) Q g (h .2) (λ Δ r. f Δ (c, e, r)))

@@ -45,11 +45,12 @@ module _ (m : Macro) (k : ℕ) (gs : List Global) where
   Celled (cell t) p = cellTy m k own (p .cell) ≡ some t
   Celled (x ▸ y) p = Celled x p × Celled y (after x p)
 
-  unfoldable pub okHead : List Decl → List Around → (List Around → Type 0) → Type 0
-  okHead [] Γ P = P Γ
-  okHead (declare x ∷ ds) Γ P = ((ts : List Ty) → effect m k (push (initial (tyIn gs (x .type)))) ts ≡ plain [] (tyIn gs (x .type) ∷ []))
-      × ((c : ℕ) → cellTy m k own c ≡ some (tyIn gs (x .type)) → okHead ds (bound (x .name) c ∷ Γ) P)
-  okHead (holding g ∷ ds) Γ P = okHead ds (held g ∷ Γ) P
+  -- a head, and P of what then lies around; a variable is known inside as `name` says: `bound` in a block, `global own` in the root
+  unfoldable pub okHead : (ℕ → ℕ → Around) → List Decl → List Around → (List Around → Type 0) → Type 0
+  okHead name [] Γ P = P Γ
+  okHead name (declare x ∷ ds) Γ P = ((ts : List Ty) → effect m k (push (initial (tyIn gs (x .type)))) ts ≡ plain [] (tyIn gs (x .type) ∷ []))
+      × ((c : ℕ) → cellTy m k own c ≡ some (tyIn gs (x .type)) → okHead name ds (name (x .name) c ∷ Γ) P)
+  okHead name (holding g ∷ ds) Γ P = okHead name ds (held g ∷ Γ) P
 
   abbrev pub WayOk : Way → Binary → Ty → Ty → Ty → Type 0
   WayOk plainly o t u r = opType (binary o) (t ∷ u ∷ []) ≡ some r
@@ -59,7 +60,7 @@ module _ (m : Macro) (k : ℕ) (gs : List Global) where
 
   unfoldable mutual
     pub okS : Stmt → List Around → Type 0
-    okS (block ds is) Γ = okHead ds (inside (blockOf ds is) ∷ Γ) (λ Δ. (x : ℕ) → okItems is (labels is x ∷ Δ))
+    okS (block ds is) Γ = okHead bound ds (inside (blockOf ds is) ∷ Γ) (λ Δ. (x : ℕ) → okItems is (labels is x ∷ Δ))
     okS (assign x e) Γ = okTarget x Γ (tyE gs Γ e) × okE e Γ
     okS (when e s) Γ = okE e Γ × (tyE gs Γ e ≡ logical) × okS s Γ
     okS (choose e s t) Γ = okE e Γ × (tyE gs Γ e ≡ logical) × okS s Γ × okS t Γ
@@ -100,7 +101,7 @@ module _ (m : Macro) (k : ℕ) (gs : List Global) where
     okE (operate2 o e f) Γ = okE e Γ × okE f Γ × WayOk (wayOf o (isTy logical (typeE (scopesOf Γ) e))) o (tyE gs Γ e) (tyE gs Γ f) (tyE gs Γ (operate2 o e f))
     okE (conditional e f g) Γ = okE e Γ × (tyE gs Γ e ≡ logical) × okE f Γ × okE g Γ × (tyE gs Γ g ≡ tyE gs Γ f) × (tyE gs Γ (conditional e f g) ≡ tyE gs Γ f)
     okE (fader e) Γ = okE e Γ × (tyE gs Γ e ≡ integer) × (tyE gs Γ (fader e) ≡ integer)
-    okE (blockExpr ds is e) Γ = okHead ds (inside (expressionOf ds is) ∷ Γ) (λ Δ. ((x : ℕ) → okItems is (labels is x ∷ Δ)) × okE e Δ × (tyE gs Δ e ≡ tyE gs Γ (blockExpr ds is e)))
+    okE (blockExpr ds is e) Γ = okHead bound ds (inside (expressionOf ds is) ∷ Γ) (λ Δ. ((x : ℕ) → okItems is (labels is x ∷ Δ)) × okE e Δ × (tyE gs Δ e ≡ tyE gs Γ (blockExpr ds is e)))
 
   module _ (Aim : ℕ → Shape → Type 0) where
     -- where the gotos of a place may land
@@ -133,20 +134,34 @@ module _ (m : Macro) (k : ℕ) (gs : List Global) where
         pick false e o f = f o
     passGoto (labels is x ∷ Γ) false a ts o r = absurd o
 
-    passHead : (ds : List Decl) (Γ : List Around) (ts us : List Ty) (p : At) (P : List Around → Type 0) (f : List Around → At → Code) (n : ℕ)
+    -- a variable matters neither to the holds nor to the gotos
+    abbrev pub Quiet : (ℕ → ℕ → Around) → Type 0
+    Quiet name = (b c : ℕ) (Γ : List Around) → (heldIn (name b c ∷ Γ) ≡ heldIn Γ) × ((ts : List Ty) → Reaches Γ ts → Reaches (name b c ∷ Γ) ts)
+
+    quiet-bound : Quiet bound
+    unfolding heldIn Reaches
+    quiet-bound b c Γ = (refl, λ ts r. r)
+
+    pub quiet-global : Quiet (global own)
+    unfolding heldIn Reaches
+    quiet-global b c Γ = (refl, λ ts r. r)
+
+    pub passHead : (name : ℕ → ℕ → Around) → Quiet name → (ds : List Decl) (Γ : List Around) (ts us : List Ty) (p : At) (P : List Around → Type 0) (f : List Around → At → Code) (n : ℕ)
         → ((Δ : List Around) (q : At) → P Δ → Reaches Δ ts → length (heldIn Δ) + n ≤ 16 → Celled (f Δ q) q → Marks m k Aim (f Δ q) q → Seg m k Aim (f Δ q) (some (found Δ ts)) (some (found Δ us)))
-        → okHead ds Γ P → Reaches Γ ts → length (heldIn Γ) + (headHolds ds + n) ≤ 16 → suc (length ts) ≤ 32 → Celled (codeHead gs bound ds Γ p f) p → Marks m k Aim (codeHead gs bound ds Γ p f) p
-        → Seg m k Aim (codeHead gs bound ds Γ p f) (some (found Γ ts)) (some (found Γ us))
+        → okHead name ds Γ P → Reaches Γ ts → length (heldIn Γ) + (headHolds ds + n) ≤ 16 → suc (length ts) ≤ 32 → Celled (codeHead gs name ds Γ p f) p → Marks m k Aim (codeHead gs name ds Γ p f) p
+        → Seg m k Aim (codeHead gs name ds Γ p f) (some (found Γ ts)) (some (found Γ us))
     unfolding okHead codeHead headHolds Celled Marks after heldIn Reaches Seg
-    passHead [] Γ ts us p P f n i o r l s c g = i Γ p o r (omega arith) c g
-    passHead (declare x ∷ ds) Γ ts us p P f n i o r l s c g =
-        let t = tyIn gs (x .type) in let h = length (heldIn Γ) in
+    passHead name quiet [] Γ ts us p P f n i o r l s c g = i Γ p o r (omega arith) c g
+    passHead name quiet (declare x ∷ ds) Γ ts us p P f n i o r l s c g =
+        let t = tyIn gs (x .type) in let h = length (heldIn Γ) in let q = at (suc (suc (p .address))) (suc (p .cell)) in
+        let Δ = name (x .name) (p .cell) ∷ Γ in let same = quiet (x .name) (p .cell) Γ in let e : length (heldIn Δ) ≡ h = ap length (same .0) in
         (some (shape h ts), refl, (some (shape h (t ∷ ts)), pushes m k Aim (push (initial t)) h t ts (o .0 ts) (omega arith) s,
           (some (shape h ts), stores m k Aim own (p .cell) h t ts (c .0) (omega arith) (omega arith),
-            passHead ds (bound (x .name) (p .cell) ∷ Γ) ts us (at (suc (suc (p .address))) (suc (p .cell))) P f n i (o .1 (p .cell) (c .0)) r (omega arith) s (c .1 .1 .1) (g .1 .1 .1))))
-    passHead (holding x ∷ ds) Γ ts us p P f n i o r l s c g =
+            subst (λ j. Seg m k Aim (codeHead gs name ds Δ q f) (some (shape j ts)) (some (shape j us))) e
+              (passHead name quiet ds Δ ts us q P f n i (o .1 (p .cell) (c .0)) (same .1 ts r) (omega arith) s (c .1 .1 .1) (g .1 .1 .1)))))
+    passHead name quiet (holding x ∷ ds) Γ ts us p P f n i o r l s c g =
         (some (found (held x ∷ Γ) ts), holds m k Aim x (length (heldIn Γ)) ts (omega arith) (omega arith),
-          (some (found (held x ∷ Γ) us), passHead ds (held x ∷ Γ) ts us (skip 1 p) P f n i o r (omega arith) s (c .1 .0) (g .1 .0), frees m k Aim (length (heldIn Γ)) us))
+          (some (found (held x ∷ Γ) us), passHead name quiet ds (held x ∷ Γ) ts us (skip 1 p) P f n i o r (omega arith) s (c .1 .0) (g .1 .0), frees m k Aim (length (heldIn Γ)) us))
 
     -- the labels of a block stand where its gotos aim
     labelled : (is : Items) (Γ : List Around) (ts : List Ty) (p : At) (a : ℕ) → Marks m k Aim (codeItems gs is Γ ts p) p → hasLabel a is ≡ true → Aim (labelAt is (scopesOf Γ) (passing Γ) (p .address) a) (found Γ ts)
@@ -245,7 +260,7 @@ module _ (m : Macro) (k : ℕ) (gs : List Global) where
       pub passS : (s : Stmt) (Γ : List Around) (ts : List Ty) (p : At) → okS s Γ → Reaches Γ ts → length (heldIn Γ) + holdsS s ≤ 16 → length ts + needS s ≤ 32 → Celled (codeS gs s Γ ts p) p → Marks m k Aim (codeS gs s Γ ts p) p
           → Seg m k Aim (codeS gs s Γ ts p) (some (found Γ ts)) (some (found Γ ts))
       passS (block ds is) Γ ts p o r l n c g =
-          passHead ds (inside (blockOf ds is) ∷ Γ) ts ts p (λ Δ. (x : ℕ) → okItems is (labels is x ∷ Δ)) (λ Δ q. codeItems gs is (labels is (q .address) ∷ Δ) ts q) (holdsItems is)
+          passHead bound quiet-bound ds (inside (blockOf ds is) ∷ Γ) ts ts p (λ Δ. (x : ℕ) → okItems is (labels is x ∷ Δ)) (λ Δ q. codeItems gs is (labels is (q .address) ∷ Δ) ts q) (holdsItems is)
             (λ Δ q o' r' l' c' g'. passItems is (labels is (q .address) ∷ Δ) ts q (o' (q .address)) (aims is Δ ts q g', r') l' n c' g') o r l (let z = items-need is in omega arith) c g
       passS (assign x e) Γ ts p o r l n c g =
           let y = codeTarget gs x Γ ts p in let q = after y p in
@@ -311,7 +326,7 @@ module _ (m : Macro) (k : ℕ) (gs : List Global) where
               (some (found Γ (tyE gs Γ f ∷ ts)), subst (λ t. Seg m k Aim (codeE gs w Γ ts v) (some (found Γ ts)) (some (found Γ (t ∷ ts)))) (o .4) (passE w Γ ts v (o .3) (omega arith) (omega arith) (c .1 .1 .1 .1 .1 .0) (g .1 .1 .1 .1 .1 .0)), marks-on m k Aim h (tyE gs Γ f ∷ ts) (omega arith) (omega arith)))))))
       passE (fader e) Γ ts p o l n c g = rw (o .2) (some (found Γ (tyE gs Γ e ∷ ts)), passE e Γ ts p (o .0) l n (c .0) (g .0), fades m k Aim (length (heldIn Γ)) (tyE gs Γ e) ts (o .1) (omega arith) (let z = some-need e in omega arith))
       passE (blockExpr ds is e) Γ ts p o l n c g =
-          passHead ds (inside (expressionOf ds is) ∷ Γ) ts (tyE gs Γ (blockExpr ds is e) ∷ ts) p (λ Δ. ((x : ℕ) → okItems is (labels is x ∷ Δ)) × okE e Δ × (tyE gs Δ e ≡ tyE gs Γ (blockExpr ds is e)))
+          passHead bound quiet-bound ds (inside (expressionOf ds is) ∷ Γ) ts (tyE gs Γ (blockExpr ds is e) ∷ ts) p (λ Δ. ((x : ℕ) → okItems is (labels is x ∷ Δ)) × okE e Δ × (tyE gs Δ e ≡ tyE gs Γ (blockExpr ds is e)))
             (λ Δ q. let y = codeItems gs is (labels is (q .address) ∷ Δ) ts q in y ▸ codeE gs e Δ ts (after y q)) (max (holdsItems is) (holdsE e))
             (λ Δ q o' r' l' c' g'. let y = codeItems gs is (labels is (q .address) ∷ Δ) ts q in
               (some (found Δ ts), passItems is (labels is (q .address) ∷ Δ) ts q (o' .0 (q .address)) (aims is Δ ts q (g' .0), r') (omega arith) (omega arith) (c' .0) (g' .0),
