@@ -186,7 +186,7 @@ module _ (m : Macro) (k : ℕ) (gs : List Global) where
   cells-way ifTrue o Γ ts t x p f c h g = (h (c .0), (tt, (g ts (skip 1 (after x p)) (c .1 .1 .0), (tt, (tt, (tt, tt))))))
   cells-way ifFalse o Γ ts t x p f c h g = (h (c .0), (tt, (tt, (tt, (tt, (g ts (skip 3 (after x p)) (c .1 .1 .1 .1 .1 .0), tt))))))
 
-  pub cells-head : (name : ℕ → ℕ → Around) (ds : List Decl) (Γ : List Around) (p : At) (P : List Around → Type 0) (f : List Around → At → Code) → ((Δ : List Around) (q : At) → P Δ → Celled m k gs (f Δ q) q → Cells Known (f Δ q)) 
+  pub cells-head : (name : ℕ → ℕ → Around) (ds : List Decl) (Γ : List Around) (p : At) (P : List Around → Type 0) (f : List Around → At → Code) → ((Δ : List Around) (q : At) → P Δ → Celled m k gs (f Δ q) q → Cells Known (f Δ q))
       → okHead m k gs name ds Γ P → Celled m k gs (codeHead gs name ds Γ p f) p → Cells Known (codeHead gs name ds Γ p f)
   unfolding okHead codeHead Cells Celled after
   cells-head name [] Γ p P f g o c = g Γ p o c

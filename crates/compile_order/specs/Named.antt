@@ -29,16 +29,20 @@ module _ (t : Tree) (h : faults t ≡ []) where
 
     pub root-named : okRoot (t .head) (locals (t .head)) (startOfRoot t) 0 Entered
     root-named = root-ok (t .head) (rootScopes t) [] (locals (t .head)) (startOfRoot t) (startOfRoot t) 0 Entered
-        (globals-root t) (good-head t h) (alike-start (t .head) (rootOf t)) (λ Δ n e al. (fit-root (t .head) (settingOf t o) Δ n al,
-          λ x. named-items (t .head) (rootScopes t) (good-globals t h) (t .items) (labels (t .items) x ∷ Δ) (root-inside t h AnyCell Δ e x) (root-reached t h AnyCell Δ e x) (root-good t h AnyCell Δ e x)))
+        (globals-root t) (good-head t h) (alike-start (t .head) (rootOf t)) (λ Δ n e al. (
+          fit-root (t .head) (settingOf t o) Δ n al,
+          λ x. named-items (t .head) (rootScopes t) (good-globals t h) (t .items) (labels (t .items) x ∷ Δ) (root-inside t h AnyCell Δ e x) (root-reached t h AnyCell Δ e x) (root-good t h AnyCell Δ e x),
+        ))
 
   pub proc-named : (k : ℕ) (q : Proc) → getElem? (procsOf (t .head)) k ≡ some q → okBody (t .head) (q .body) (aroundBody t (q .parameters))
   proc-named k q e = pick (q .body) (good-procedure t h k q e)
     where
       Γ : List Around
       Γ = aroundBody t (q .parameters)
+
       known : Inside AnyCell (t .head) Γ
       known = body-inside t h AnyCell (q .parameters) (any-given (q .parameters) 0) (entered-shared (t .head) (locals (t .head)) 0 (startOfRoot t))
+
       pick : (b : Body) → goodBody (scopesOf Γ) b → okBody (t .head) b Γ
       pick (proper s) g = named-S (t .head) (rootScopes t) (good-globals t h) s Γ known (body-reached t h AnyCell (q .parameters)) g
       pick (function u v) g = named-E (t .head) (rootScopes t) (good-globals t h) v Γ known (g .0)

@@ -79,7 +79,7 @@ module _ (t : Tree) (h : faults t ≡ []) where
   root-typed =
       let m = compiled t in let P = CellTy m 0 (t .head) in
       root-ok m (t .head) (tabled t) (rootScopes t) [] (locals (t .head)) (startOfRoot t) (λ Δ. (x : ℕ) → okItems m 0 (t .head) (t .items) (labels (t .items) x ∷ Δ)) (globals-root t) (good-head t h)
-        (λ Δ e x. typed-items m 0 (t .head) (tabled t) (rootScopes t) (good-globals t h) (t .items) (labels (t .items) x ∷ Δ) (root-inside t h P Δ e x) (root-reached t h P Δ e x) (root-good t h P Δ e x))
+      (λ Δ e x. typed-items m 0 (t .head) (tabled t) (rootScopes t) (good-globals t h) (t .items) (labels (t .items) x ∷ Δ) (root-inside t h P Δ e x) (root-reached t h P Δ e x) (root-good t h P Δ e x))
 
   pub proc-typed : (k : ℕ) (q : Proc) → getElem? (procsOf (t .head)) k ≡ some q → okBodyTy (compiled t) (suc k) (t .head) (q .body) (aroundBody t (q .parameters))
   unfolding Celled
@@ -87,16 +87,22 @@ module _ (t : Tree) (h : faults t ≡ []) where
     where
       m : Macro
       m = compiled t
+
       Γ : List Around
       Γ = aroundBody t (q .parameters)
+
       P : Owner → ℕ → Ty → Type 0
       P = CellTy m (suc k) (t .head)
+
       given : Given P (q .parameters) 0
       given = let r = proc-there t k q e in given-typed m (t .head) (suc k) (q .parameters) 0 [] (cellsIn (codeProc t q (r .0)) []) (ap cellsOf (r .1)) refl
+
       entered : Entered P ofShared (locals (t .head)) (startOfRoot t) (shared t)
       entered = shared-typed m (t .head) (suc k) (locals (t .head)) (startOfRoot t) (startOfRoot t) (at 0 0) (λ Δ p. codeItems (t .head) (t .items) (labels (t .items) (p .address) ∷ Δ) [] p) (root-celled t .0)
+
       known : Inside P (t .head) Γ
       known = body-inside t h P (q .parameters) given entered
+
       pick : (b : Body) → goodBody (scopesOf Γ) b → okBodyTy m (suc k) (t .head) b Γ
       pick (proper s) g = typed-S m (suc k) (t .head) (tabled t) (rootScopes t) (good-globals t h) s Γ known (body-reached t h P (q .parameters)) g
       pick (function u v) g = (typed-E m (suc k) (t .head) (tabled t) (rootScopes t) (good-globals t h) v Γ known (g .0), has-type m (suc k) (t .head) Γ v u (g .1))

@@ -1,4 +1,4 @@
--- A part in order, within the limits, compiles to code through which the loading rules' state flows. 
+-- A part in order, within the limits, compiles to code through which the loading rules' state flows.
 use mathlib.Core.Bool.{Bool, true, false}
 use mathlib.Core.Path.{_≡_, refl, ap, ap₂, sym, _∙_, subst}
 use mathlib.Core.List.{List, [], _∷_, _++_, reverse, reverseAux}
@@ -154,14 +154,25 @@ module _ (m : Macro) (k : ℕ) (gs : List Global) where
     passHead name quiet [] Γ ts us p P f n i o r l s c g = i Γ p o r (omega arith) c g
     passHead name quiet (declare x ∷ ds) Γ ts us p P f n i o r l s c g =
         let t = tyIn gs (x .type) in let h = length (heldIn Γ) in let q = at (suc (suc (p .address))) (suc (p .cell)) in
-        let Δ = name (x .name) (p .cell) ∷ Γ in let same = quiet (x .name) (p .cell) Γ in let e : length (heldIn Δ) ≡ h = ap length (same .0) in
-        (some (shape h ts), refl, (some (shape h (t ∷ ts)), pushes m k Aim (push (initial t)) h t ts (o .0 ts) (omega arith) s,
-          (some (shape h ts), stores m k Aim own (p .cell) h t ts (c .0) (omega arith) (omega arith),
-            subst (λ j. Seg m k Aim (codeHead gs name ds Δ q f) (some (shape j ts)) (some (shape j us))) e
-              (passHead name quiet ds Δ ts us q P f n i (o .1 (p .cell) (c .0)) (same .1 ts r) (omega arith) s (c .1 .1 .1) (g .1 .1 .1)))))
-    passHead name quiet (holding x ∷ ds) Γ ts us p P f n i o r l s c g =
-        (some (found (held x ∷ Γ) ts), holds m k Aim x (length (heldIn Γ)) ts (omega arith) (omega arith),
-          (some (found (held x ∷ Γ) us), passHead name quiet ds (held x ∷ Γ) ts us (skip 1 p) P f n i o r (omega arith) s (c .1 .0) (g .1 .0), frees m k Aim (length (heldIn Γ)) us))
+        let Δ = name (x .name) (p .cell) ∷ Γ in let same = quiet (x .name) (p .cell) Γ in let e : length (heldIn Δ) ≡ h = ap length (same .0) in (
+          some (shape h ts),
+          refl,
+          (
+            some (shape h (t ∷ ts)),
+            pushes m k Aim (push (initial t)) h t ts (o .0 ts) (omega arith) s,
+            (
+              some (shape h ts),
+              stores m k Aim own (p .cell) h t ts (c .0) (omega arith) (omega arith),
+              subst (λ j. Seg m k Aim (codeHead gs name ds Δ q f) (some (shape j ts)) (some (shape j us))) e
+                  (passHead name quiet ds Δ ts us q P f n i (o .1 (p .cell) (c .0)) (same .1 ts r) (omega arith) s (c .1 .1 .1) (g .1 .1 .1)),
+            ),
+          ),
+        )
+    passHead name quiet (holding x ∷ ds) Γ ts us p P f n i o r l s c g = (
+      some (found (held x ∷ Γ) ts),
+      holds m k Aim x (length (heldIn Γ)) ts (omega arith) (omega arith),
+      (some (found (held x ∷ Γ) us), passHead name quiet ds (held x ∷ Γ) ts us (skip 1 p) P f n i o r (omega arith) s (c .1 .0) (g .1 .0), frees m k Aim (length (heldIn Γ)) us),
+    )
 
     -- the labels of a block stand where its gotos aim
     labelled : (is : Items) (Γ : List Around) (ts : List Ty) (p : At) (a : ℕ) → Marks m k Aim (codeItems gs is Γ ts p) p → hasLabel a is ≡ true → Aim (labelAt is (scopesOf Γ) (passing Γ) (p .address) a) (found Γ ts)
@@ -221,21 +232,61 @@ module _ (m : Macro) (k : ℕ) (gs : List Global) where
     unfolding Celled Marks after Seg
     passWay plainly o Γ ts t u r x p F e h s c g a b =
         (some (found Γ (t ∷ ts)), a (c .0) (g .0), (some (found Γ (u ∷ (t ∷ ts))), b (t ∷ ts) (after x p) (omega arith) (c .1 .0) (g .1 .0), operates m k Aim o (length (heldIn Γ)) t u r ts e h (omega arith)))
-    passWay marked o Γ ts t u r x p F e h s c g a b =
-        (some (found Γ (t ∷ ts)), a (c .0) (g .0), (some (found Γ (t ∷ ts)), marks-on m k Aim (length (heldIn Γ)) (t ∷ ts) h (omega arith),
-          (some (found Γ (u ∷ (t ∷ ts))), b (t ∷ ts) (after x p) (omega arith) (c .1 .1 .0) (g .1 .1 .0), operates m k Aim o (length (heldIn Γ)) t u r ts e h (omega arith))))
+    passWay marked o Γ ts t u r x p F e h s c g a b = (
+      some (found Γ (t ∷ ts)),
+      a (c .0) (g .0),
+      (
+        some (found Γ (t ∷ ts)),
+        marks-on m k Aim (length (heldIn Γ)) (t ∷ ts) h (omega arith),
+        (some (found Γ (u ∷ (t ∷ ts))), b (t ∷ ts) (after x p) (omega arith) (c .1 .1 .0) (g .1 .1 .0), operates m k Aim o (length (heldIn Γ)) t u r ts e h (omega arith)),
+      ),
+    )
     passWay ifTrue o Γ ts t u r x p F e h s c g a b =
         let q = skip 1 (after x p) in let n = length (heldIn Γ) in
-        rw (e .2) (some (found Γ (t ∷ ts)), a (c .0) (g .0), (some (found Γ ts), tests m k Aim _ n t ts (e .0) (g .1 .1 .1 .1 .0),
-          (some (found Γ (logical ∷ ts)), subst (λ z. Seg m k Aim (F ts q) (some (found Γ ts)) (some (found Γ (z ∷ ts)))) (e .1) (b ts q (omega arith) (c .1 .1 .0) (g .1 .1 .0)),
-            (none, goes m k Aim _ n (logical ∷ ts) (g .1 .1 .1 .1 .1 .1), (some (found Γ ts), marks-here m k Aim n ts h (omega arith),
-              (some (found Γ (logical ∷ ts)), pushes m k Aim (push (log false)) n logical ts (push-log false ts) h (omega arith), marks-on m k Aim n (logical ∷ ts) h (omega arith)))))))
+        rw (e .2) (
+          some (found Γ (t ∷ ts)),
+          a (c .0) (g .0),
+          (
+            some (found Γ ts),
+            tests m k Aim _ n t ts (e .0) (g .1 .1 .1 .1 .0),
+            (
+              some (found Γ (logical ∷ ts)),
+              subst (λ z. Seg m k Aim (F ts q) (some (found Γ ts)) (some (found Γ (z ∷ ts)))) (e .1) (b ts q (omega arith) (c .1 .1 .0) (g .1 .1 .0)),
+              (
+                none,
+                goes m k Aim _ n (logical ∷ ts) (g .1 .1 .1 .1 .1 .1),
+                (
+                  some (found Γ ts),
+                  marks-here m k Aim n ts h (omega arith),
+                  (some (found Γ (logical ∷ ts)), pushes m k Aim (push (log false)) n logical ts (push-log false ts) h (omega arith), marks-on m k Aim n (logical ∷ ts) h (omega arith)),
+                ),
+              ),
+            ),
+          ),
+        )
     passWay ifFalse o Γ ts t u r x p F e h s c g a b =
         let q = skip 3 (after x p) in let n = length (heldIn Γ) in
-        rw (e .2) (some (found Γ (t ∷ ts)), a (c .0) (g .0), (some (found Γ ts), tests m k Aim _ n t ts (e .0) (g .1 .1 .1 .1 .0),
-          (some (found Γ (logical ∷ ts)), pushes m k Aim (push (log true)) n logical ts (push-log true ts) h (omega arith),
-            (none, goes m k Aim _ n (logical ∷ ts) (g .1 .1 .1 .1 .1 .1), (some (found Γ ts), marks-here m k Aim n ts h (omega arith),
-              (some (found Γ (logical ∷ ts)), subst (λ z. Seg m k Aim (F ts q) (some (found Γ ts)) (some (found Γ (z ∷ ts)))) (e .1) (b ts q (omega arith) (c .1 .1 .1 .1 .1 .0) (g .1 .1 .1 .1 .1 .0)), marks-on m k Aim n (logical ∷ ts) h (omega arith)))))))
+        rw (e .2) (
+          some (found Γ (t ∷ ts)),
+          a (c .0) (g .0),
+          (
+            some (found Γ ts),
+            tests m k Aim _ n t ts (e .0) (g .1 .1 .1 .1 .0),
+            (
+              some (found Γ (logical ∷ ts)),
+              pushes m k Aim (push (log true)) n logical ts (push-log true ts) h (omega arith),
+              (
+                none,
+                goes m k Aim _ n (logical ∷ ts) (g .1 .1 .1 .1 .1 .1),
+                (
+                  some (found Γ ts),
+                  marks-here m k Aim n ts h (omega arith),
+                  (some (found Γ (logical ∷ ts)), subst (λ z. Seg m k Aim (F ts q) (some (found Γ ts)) (some (found Γ (z ∷ ts)))) (e .1) (b ts q (omega arith) (c .1 .1 .1 .1 .1 .0) (g .1 .1 .1 .1 .1 .0)), marks-on m k Aim n (logical ∷ ts) h (omega arith)),
+                ),
+              ),
+            ),
+          ),
+        )
 
     -- the labels of a block, from around its statements
     pub aims : (is : Items) (Δ : List Around) (ts : List Ty) (q : At) → Marks m k Aim (codeItems gs is (labels is (q .address) ∷ Δ) ts q) q
@@ -257,42 +308,100 @@ module _ (m : Macro) (k : ℕ) (gs : List Global) where
 
     mutual
       unfolding okS codeS Celled Marks after Seg holdsS needS Reaches heldIn typeE tysE
+
       pub passS : (s : Stmt) (Γ : List Around) (ts : List Ty) (p : At) → okS s Γ → Reaches Γ ts → length (heldIn Γ) + holdsS s ≤ 16 → length ts + needS s ≤ 32 → Celled (codeS gs s Γ ts p) p → Marks m k Aim (codeS gs s Γ ts p) p
           → Seg m k Aim (codeS gs s Γ ts p) (some (found Γ ts)) (some (found Γ ts))
       passS (block ds is) Γ ts p o r l n c g =
           passHead bound quiet-bound ds (inside (blockOf ds is) ∷ Γ) ts ts p (λ Δ. (x : ℕ) → okItems is (labels is x ∷ Δ)) (λ Δ q. codeItems gs is (labels is (q .address) ∷ Δ) ts q) (holdsItems is)
-            (λ Δ q o' r' l' c' g'. passItems is (labels is (q .address) ∷ Δ) ts q (o' (q .address)) (aims is Δ ts q g', r') l' n c' g') o r l (let z = items-need is in omega arith) c g
+          (λ Δ q o' r' l' c' g'. passItems is (labels is (q .address) ∷ Δ) ts q (o' (q .address)) (aims is Δ ts q g', r') l' n c' g') o r l (let z = items-need is in omega arith) c g
       passS (assign x e) Γ ts p o r l n c g =
-          let y = codeTarget gs x Γ ts p in let q = after y p in
-          (some (found Γ (tyTarget gs Γ x ts)), passTarget x Γ ts p (tyE gs Γ e) (o .0) (omega arith) (omega arith) (c .0) (g .0), (some (found Γ (tyE gs Γ e ∷ tyTarget gs Γ x ts)), passE e Γ (tyTarget gs Γ x ts) q (o .1) (omega arith) (let z = target-types gs x Γ ts in omega arith) (c .1 .0) (g .1 .0),
-            storing! x Γ ts (tyE gs Γ e) (o .0) (omega arith) (omega arith)))
+          let y = codeTarget gs x Γ ts p in let q = after y p in (
+            some (found Γ (tyTarget gs Γ x ts)),
+            passTarget x Γ ts p (tyE gs Γ e) (o .0) (omega arith) (omega arith) (c .0) (g .0),
+            (
+              some (found Γ (tyE gs Γ e ∷ tyTarget gs Γ x ts)),
+              passE e Γ (tyTarget gs Γ x ts) q (o .1) (omega arith) (let z = target-types gs x Γ ts in omega arith) (c .1 .0) (g .1 .0),
+              storing! x Γ ts (tyE gs Γ e) (o .0) (omega arith) (omega arith),
+            ),
+          )
       passS (when e s) Γ ts p o r l n c g =
-          let x = codeE gs e Γ ts p in let q = skip 1 (after x p) in let h = length (heldIn Γ) in
-          (some (found Γ (tyE gs Γ e ∷ ts)), passE e Γ ts p (o .0) (omega arith) (omega arith) (c .0) (g .0), (some (found Γ ts), tests m k Aim _ h (tyE gs Γ e) ts (o .1) (g .1 .1 .1),
-            (some (found Γ ts), passS s Γ ts q (o .2) r (omega arith) (omega arith) (c .1 .1 .0) (g .1 .1 .0), marks-on m k Aim h ts (omega arith) (omega arith))))
+          let x = codeE gs e Γ ts p in let q = skip 1 (after x p) in let h = length (heldIn Γ) in (
+            some (found Γ (tyE gs Γ e ∷ ts)),
+            passE e Γ ts p (o .0) (omega arith) (omega arith) (c .0) (g .0),
+            (
+              some (found Γ ts),
+              tests m k Aim _ h (tyE gs Γ e) ts (o .1) (g .1 .1 .1),
+              (some (found Γ ts), passS s Γ ts q (o .2) r (omega arith) (omega arith) (c .1 .1 .0) (g .1 .1 .0), marks-on m k Aim h ts (omega arith) (omega arith)),
+            ),
+          )
       passS (choose e s t) Γ ts p o r l n c g =
-          let x = codeE gs e Γ ts p in let q = skip 1 (after x p) in let y = codeS gs s Γ ts q in let v = skip 1 (after y q) in let h = length (heldIn Γ) in
-          (some (found Γ (tyE gs Γ e ∷ ts)), passE e Γ ts p (o .0) (omega arith) (omega arith) (c .0) (g .0), (some (found Γ ts), tests m k Aim _ h (tyE gs Γ e) ts (o .1) (g .1 .1 .1 .1 .0),
-            (some (found Γ ts), passS s Γ ts q (o .2) r (omega arith) (omega arith) (c .1 .1 .0) (g .1 .1 .0), (none, goes m k Aim _ h ts (g .1 .1 .1 .1 .1 .1), (some (found Γ ts), marks-here m k Aim h ts (omega arith) (omega arith),
-              (some (found Γ ts), passS t Γ ts v (o .3) r (omega arith) (omega arith) (c .1 .1 .1 .1 .1 .0) (g .1 .1 .1 .1 .1 .0), marks-on m k Aim h ts (omega arith) (omega arith)))))))
+          let x = codeE gs e Γ ts p in let q = skip 1 (after x p) in let y = codeS gs s Γ ts q in let v = skip 1 (after y q) in let h = length (heldIn Γ) in (
+            some (found Γ (tyE gs Γ e ∷ ts)),
+            passE e Γ ts p (o .0) (omega arith) (omega arith) (c .0) (g .0),
+            (
+              some (found Γ ts),
+              tests m k Aim _ h (tyE gs Γ e) ts (o .1) (g .1 .1 .1 .1 .0),
+              (
+                some (found Γ ts),
+                passS s Γ ts q (o .2) r (omega arith) (omega arith) (c .1 .1 .0) (g .1 .1 .0),
+                (
+                  none,
+                  goes m k Aim _ h ts (g .1 .1 .1 .1 .1 .1),
+                  (
+                    some (found Γ ts),
+                    marks-here m k Aim h ts (omega arith) (omega arith),
+                    (some (found Γ ts), passS t Γ ts v (o .3) r (omega arith) (omega arith) (c .1 .1 .1 .1 .1 .0) (g .1 .1 .1 .1 .1 .0), marks-on m k Aim h ts (omega arith) (omega arith)),
+                  ),
+                ),
+              ),
+            ),
+          )
       passS (while e s) Γ ts p o r l n c g =
-          let x = codeE gs e Γ ts p in let q = skip 1 (after x p) in let h = length (heldIn Γ) in
-          (some (found Γ ts), marks-on m k Aim h ts (omega arith) (omega arith), (some (found Γ (tyE gs Γ e ∷ ts)), passE e Γ ts p (o .0) (omega arith) (omega arith) (c .1 .0) (g .1 .0), (some (found Γ ts), tests m k Aim _ h (tyE gs Γ e) ts (o .1) (g .1 .1 .1 .1 .1),
-            (some (found Γ ts), passS s Γ ts q (o .2) r (omega arith) (omega arith) (c .1 .1 .1 .0) (g .1 .1 .1 .0), (none, goes m k Aim _ h ts (g .0), marks-here m k Aim h ts (omega arith) (omega arith))))))
+          let x = codeE gs e Γ ts p in let q = skip 1 (after x p) in let h = length (heldIn Γ) in (
+            some (found Γ ts),
+            marks-on m k Aim h ts (omega arith) (omega arith),
+            (
+              some (found Γ (tyE gs Γ e ∷ ts)),
+              passE e Γ ts p (o .0) (omega arith) (omega arith) (c .1 .0) (g .1 .0),
+              (
+                some (found Γ ts),
+                tests m k Aim _ h (tyE gs Γ e) ts (o .1) (g .1 .1 .1 .1 .1),
+                (some (found Γ ts), passS s Γ ts q (o .2) r (omega arith) (omega arith) (c .1 .1 .1 .0) (g .1 .1 .1 .0), (none, goes m k Aim _ h ts (g .0), marks-here m k Aim h ts (omega arith) (omega arith))),
+              ),
+            ),
+          )
       passS (goto a) Γ ts p o r l n c g = (none, passGoto Γ true a ts o r, marks-here m k Aim (length (heldIn Γ)) ts (omega arith) (omega arith))
       passS (assert e) Γ ts p o r l n c g = (some (found Γ (tyE gs Γ e ∷ ts)), passE e Γ ts p (o .0) l n (c .0) (g .0), asserts m k Aim (length (heldIn Γ)) (tyE gs Γ e) ts (o .1) (omega arith) (omega arith))
       passS (call a es) Γ ts p o r l n c g =
           (some (found Γ (reverseAux (tysE gs Γ es) ts)), passEs es Γ ts p (length ts) 0 (omega arith) (o .0) l n (c .0) (g .0), calls m k Aim (bodyNumber gs a) (length (heldIn Γ)) (o .1 .0) (tysE gs Γ es) [] ts (o .1 .1) (o .1 .2) (o .1 .3) (omega arith) (omega arith))
-      passS (setLevel e f) Γ ts p o r l n c g = let x = codeE gs e Γ ts p in
-          (some (found Γ (tyE gs Γ e ∷ ts)), passE e Γ ts p (o .0) (omega arith) (omega arith) (c .0) (g .0), (some (found Γ (tyE gs Γ f ∷ (tyE gs Γ e ∷ ts))), passE f Γ (tyE gs Γ e ∷ ts) (after x p) (o .2) (omega arith) (omega arith) (c .1 .0) (g .1 .0),
-            sets m k Aim (length (heldIn Γ)) (tyE gs Γ e) (tyE gs Γ f) ts (o .1) (o .3) (omega arith) (omega arith)))
+      passS (setLevel e f) Γ ts p o r l n c g = let x = codeE gs e Γ ts p in (
+        some (found Γ (tyE gs Γ e ∷ ts)),
+        passE e Γ ts p (o .0) (omega arith) (omega arith) (c .0) (g .0),
+        (
+          some (found Γ (tyE gs Γ f ∷ (tyE gs Γ e ∷ ts))),
+          passE f Γ (tyE gs Γ e ∷ ts) (after x p) (o .2) (omega arith) (omega arith) (c .1 .0) (g .1 .0),
+          sets m k Aim (length (heldIn Γ)) (tyE gs Γ e) (tyE gs Γ f) ts (o .1) (o .3) (omega arith) (omega arith),
+        ),
+      )
       passS (select e rs) Γ ts p o r l n c g =
-          let q = at (p .address) (suc (p .cell)) in let x = codeE gs e Γ ts q in let b = skip 1 (after x q) in let h = length (heldIn Γ) in
-          (some (found Γ ts), refl, (some (found Γ (tyE gs Γ e ∷ ts)), passE e Γ ts q (o .0) (omega arith) (omega arith) (c .1 .0) (g .1 .0),
-            (some (found Γ ts), stores m k Aim own (p .cell) h (tyE gs Γ e) ts (c .0 ∙ ap some (sym (o .1))) (omega arith) (omega arith),
-              (none, passArms rs (p .cell) 1 (b .address + opsArms rs (scopesOf Γ) (passing Γ)) Γ ts b (c .0) (o .2) r (omega arith) (omega arith) (omega arith) (c .1 .1 .1 .0)
-                  (subst (λ z. Aim z (found Γ ts)) (lenArms gs rs (p .cell) 1 (b .address + opsArms rs (scopesOf Γ) (passing Γ)) Γ ts b) (g .1 .1 .1 .1)) (g .1 .1 .1 .0),
-                marks-here m k Aim h ts (omega arith) (omega arith)))))
+          let q = at (p .address) (suc (p .cell)) in let x = codeE gs e Γ ts q in let b = skip 1 (after x q) in let h = length (heldIn Γ) in (
+            some (found Γ ts),
+            refl,
+            (
+              some (found Γ (tyE gs Γ e ∷ ts)),
+              passE e Γ ts q (o .0) (omega arith) (omega arith) (c .1 .0) (g .1 .0),
+              (
+                some (found Γ ts),
+                stores m k Aim own (p .cell) h (tyE gs Γ e) ts (c .0 ∙ ap some (sym (o .1))) (omega arith) (omega arith),
+                (
+                  none,
+                  passArms rs (p .cell) 1 (b .address + opsArms rs (scopesOf Γ) (passing Γ)) Γ ts b (c .0) (o .2) r (omega arith) (omega arith) (omega arith) (c .1 .1 .1 .0)
+                      (subst (λ z. Aim z (found Γ ts)) (lenArms gs rs (p .cell) 1 (b .address + opsArms rs (scopesOf Γ) (passing Γ)) Γ ts b) (g .1 .1 .1 .1)) (g .1 .1 .1 .0),
+                  marks-here m k Aim h ts (omega arith) (omega arith),
+                ),
+              ),
+            ),
+          )
 
       pub passItems : (is : Items) (Γ : List Around) (ts : List Ty) (p : At) → okItems is Γ → Reaches Γ ts → length (heldIn Γ) + holdsItems is ≤ 16 → length ts + needItems is ≤ 32 → Celled (codeItems gs is Γ ts p) p → Marks m k Aim (codeItems gs is Γ ts p) p
           → Seg m k Aim (codeItems gs is Γ ts p) (some (found Γ ts)) (some (found Γ ts))
@@ -307,9 +416,11 @@ module _ (m : Macro) (k : ℕ) (gs : List Global) where
       passE (pattern z) Γ ts p o l n c g = pushes m k Aim (push (bit (wordOf z))) (length (heldIn Γ)) bits ts (push-bit (wordOf z) ts) (omega arith) (omega arith)
       passE (null x) Γ ts p o l n c g = pushes m k Aim (push (ref (classNumber gs x) none)) (length (heldIn Γ)) (tyE gs Γ (null x)) ts (o ts) (omega arith) (omega arith)
       passE (variable a) Γ ts p o l n c g = rw (o .2) (loads m k Aim (o .0) (o .1) (length (heldIn Γ)) (tyE gs Γ (variable a)) ts (o .3) (omega arith) (omega arith))
-      passE (invoke a es) Γ ts p o l n c g =
-          (some (found Γ (reverseAux (tysE gs Γ es) ts)), passEs es Γ ts p (length ts) 0 (omega arith) (o .0) l n (c .0) (g .0),
-            calls m k Aim (bodyNumber gs a) (length (heldIn Γ)) (o .1 .0) (tysE gs Γ es) (tyE gs Γ (invoke a es) ∷ []) ts (o .1 .1) (o .1 .2) (o .1 .3) (omega arith) (let z = some-needs 0 es in omega arith))
+      passE (invoke a es) Γ ts p o l n c g = (
+        some (found Γ (reverseAux (tysE gs Γ es) ts)),
+        passEs es Γ ts p (length ts) 0 (omega arith) (o .0) l n (c .0) (g .0),
+        calls m k Aim (bodyNumber gs a) (length (heldIn Γ)) (o .1 .0) (tysE gs Γ es) (tyE gs Γ (invoke a es) ∷ []) ts (o .1 .1) (o .1 .2) (o .1 .3) (omega arith) (let z = some-needs 0 es in omega arith),
+      )
       passE (field a e) Γ ts p o l n c g =
           (some (found Γ (tyE gs Γ e ∷ ts)), passE e Γ ts p (o .0) l n (c .0) (g .0), gets m k Aim (fieldNumber gs a .class) (fieldNumber gs a .index) (length (heldIn Γ)) (tyE gs Γ e) (tyE gs Γ (field a e)) ts (o .1) (o .2) (omega arith) (let z = some-need e in omega arith))
       passE (make x es) Γ ts p o l n c g =
@@ -318,20 +429,40 @@ module _ (m : Macro) (k : ℕ) (gs : List Global) where
           (some (found Γ (tyE gs Γ e ∷ ts)), passE e Γ ts p (o .0) l n (c .0) (g .0), operates1 m k Aim u (length (heldIn Γ)) (tyE gs Γ e) (tyE gs Γ (operate1 u e)) ts (o .1) (omega arith) (let z = some-need e in omega arith))
       passE (operate2 u e f) Γ ts p o l n c g =
           passWay (wayOf u (isTy logical (typeE (scopesOf Γ) e))) u Γ ts (tyE gs Γ e) (tyE gs Γ f) (tyE gs Γ (operate2 u e f)) (codeE gs e Γ ts p) p (λ us q. codeE gs f Γ us q) (o .2) (omega arith) (let z = some-need f in omega arith) c g
-            (λ c' g'. passE e Γ ts p (o .0) (omega arith) (omega arith) c' g') (λ us q z c' g'. passE f Γ us q (o .1) (omega arith) (omega arith) c' g')
+          (λ c' g'. passE e Γ ts p (o .0) (omega arith) (omega arith) c' g') (λ us q z c' g'. passE f Γ us q (o .1) (omega arith) (omega arith) c' g')
       passE (conditional e f w) Γ ts p o l n c g =
           let x = codeE gs e Γ ts p in let q = skip 1 (after x p) in let y = codeE gs f Γ ts q in let v = skip 1 (after y q) in let h = length (heldIn Γ) in let z = some-need f in
-          rw (o .5) (some (found Γ (tyE gs Γ e ∷ ts)), passE e Γ ts p (o .0) (omega arith) (omega arith) (c .0) (g .0), (some (found Γ ts), tests m k Aim _ h (tyE gs Γ e) ts (o .1) (g .1 .1 .1 .1 .0),
-            (some (found Γ (tyE gs Γ f ∷ ts)), passE f Γ ts q (o .2) (omega arith) (omega arith) (c .1 .1 .0) (g .1 .1 .0), (none, goes m k Aim _ h (tyE gs Γ f ∷ ts) (g .1 .1 .1 .1 .1 .1), (some (found Γ ts), marks-here m k Aim h ts (omega arith) (omega arith),
-              (some (found Γ (tyE gs Γ f ∷ ts)), subst (λ t. Seg m k Aim (codeE gs w Γ ts v) (some (found Γ ts)) (some (found Γ (t ∷ ts)))) (o .4) (passE w Γ ts v (o .3) (omega arith) (omega arith) (c .1 .1 .1 .1 .1 .0) (g .1 .1 .1 .1 .1 .0)), marks-on m k Aim h (tyE gs Γ f ∷ ts) (omega arith) (omega arith)))))))
+          rw (o .5) (
+            some (found Γ (tyE gs Γ e ∷ ts)),
+            passE e Γ ts p (o .0) (omega arith) (omega arith) (c .0) (g .0),
+            (
+              some (found Γ ts),
+              tests m k Aim _ h (tyE gs Γ e) ts (o .1) (g .1 .1 .1 .1 .0),
+              (
+                some (found Γ (tyE gs Γ f ∷ ts)),
+                passE f Γ ts q (o .2) (omega arith) (omega arith) (c .1 .1 .0) (g .1 .1 .0),
+                (
+                  none,
+                  goes m k Aim _ h (tyE gs Γ f ∷ ts) (g .1 .1 .1 .1 .1 .1),
+                  (
+                    some (found Γ ts),
+                    marks-here m k Aim h ts (omega arith) (omega arith),
+                    (some (found Γ (tyE gs Γ f ∷ ts)), subst (λ t. Seg m k Aim (codeE gs w Γ ts v) (some (found Γ ts)) (some (found Γ (t ∷ ts)))) (o .4) (passE w Γ ts v (o .3) (omega arith) (omega arith) (c .1 .1 .1 .1 .1 .0) (g .1 .1 .1 .1 .1 .0)), marks-on m k Aim h (tyE gs Γ f ∷ ts) (omega arith) (omega arith)),
+                  ),
+                ),
+              ),
+            ),
+          )
       passE (fader e) Γ ts p o l n c g = rw (o .2) (some (found Γ (tyE gs Γ e ∷ ts)), passE e Γ ts p (o .0) l n (c .0) (g .0), fades m k Aim (length (heldIn Γ)) (tyE gs Γ e) ts (o .1) (omega arith) (let z = some-need e in omega arith))
       passE (blockExpr ds is e) Γ ts p o l n c g =
           passHead bound quiet-bound ds (inside (expressionOf ds is) ∷ Γ) ts (tyE gs Γ (blockExpr ds is e) ∷ ts) p (λ Δ. ((x : ℕ) → okItems is (labels is x ∷ Δ)) × okE e Δ × (tyE gs Δ e ≡ tyE gs Γ (blockExpr ds is e)))
-            (λ Δ q. let y = codeItems gs is (labels is (q .address) ∷ Δ) ts q in y ▸ codeE gs e Δ ts (after y q)) (max (holdsItems is) (holdsE e))
-            (λ Δ q o' r' l' c' g'. let y = codeItems gs is (labels is (q .address) ∷ Δ) ts q in
-              (some (found Δ ts), passItems is (labels is (q .address) ∷ Δ) ts q (o' .0 (q .address)) (aims is Δ ts q (g' .0), r') (omega arith) (omega arith) (c' .0) (g' .0),
-                subst (λ t. Seg m k Aim (codeE gs e Δ ts (after y q)) (some (found Δ ts)) (some (found Δ (t ∷ ts)))) (o' .2) (passE e Δ ts (after y q) (o' .1) (omega arith) (omega arith) (c' .1) (g' .1))))
-            o tt l (let z = some-need e in omega arith) c g
+          (λ Δ q. let y = codeItems gs is (labels is (q .address) ∷ Δ) ts q in y ▸ codeE gs e Δ ts (after y q)) (max (holdsItems is) (holdsE e))
+          (λ Δ q o' r' l' c' g'. let y = codeItems gs is (labels is (q .address) ∷ Δ) ts q in (
+            some (found Δ ts),
+            passItems is (labels is (q .address) ∷ Δ) ts q (o' .0 (q .address)) (aims is Δ ts q (g' .0), r') (omega arith) (omega arith) (c' .0) (g' .0),
+            subst (λ t. Seg m k Aim (codeE gs e Δ ts (after y q)) (some (found Δ ts)) (some (found Δ (t ∷ ts)))) (o' .2) (passE e Δ ts (after y q) (o' .1) (omega arith) (omega arith) (c' .1) (g' .1)),
+          ))
+          o tt l (let z = some-need e in omega arith) c g
 
       passEs : (es : Exprs) (Γ : List Around) (ts : List Ty) (p : At) (b i : ℕ) → length ts ≡ b + i → okEs es Γ → length (heldIn Γ) + holdsEs es ≤ 16 → b + needEs i es ≤ 32 → Celled (codeEs gs es Γ ts p) p → Marks m k Aim (codeEs gs es Γ ts p) p
           → Seg m k Aim (codeEs gs es Γ ts p) (some (found Γ ts)) (some (found Γ (reverseAux (tysE gs Γ es) ts)))
@@ -347,13 +478,50 @@ module _ (m : Macro) (k : ℕ) (gs : List Global) where
       passArms : (rs : Arms) (x i z : ℕ) (Γ : List Around) (ts : List Ty) (p : At) → cellTy m k own x ≡ some integer → okArms rs Γ → Reaches Γ ts → length (heldIn Γ) + holdsArms rs ≤ 16 → length ts + needArms rs ≤ 32 → suc (suc (length ts)) ≤ 32
           → Celled (codeArms gs rs x i z Γ ts p) p → Aim z (found Γ ts) → Marks m k Aim (codeArms gs rs x i z Γ ts p) p → Seg m k Aim (codeArms gs rs x i z Γ ts p) (some (found Γ ts)) none
       passArms (lastArm s) x i z Γ ts p e o r l n w c a g =
-          let q = skip 4 p in let h = length (heldIn Γ) in
-          (some (found Γ (integer ∷ ts)), loads m k Aim own x h integer ts e (omega arith) (omega arith), (some (found Γ (integer ∷ (integer ∷ ts))), pushes m k Aim (push (int (pos i))) h integer (integer ∷ ts) (push-int (pos i) (integer ∷ ts)) (omega arith) w,
-            (some (found Γ (logical ∷ ts)), equals h ts (omega arith) (omega arith), (some (found Γ ts), tests m k Aim _ h logical ts refl (g .1 .1 .1 .1 .1 .1 .0),
-              (some (found Γ ts), passS s Γ ts q o r l n (c .1 .1 .1 .1 .0) (g .1 .1 .1 .1 .0), (none, goes m k Aim z h ts a, (some (found Γ ts), marks-here m k Aim h ts (omega arith) (omega arith), stopped m k Aim h ts)))))))
+          let q = skip 4 p in let h = length (heldIn Γ) in (
+            some (found Γ (integer ∷ ts)),
+            loads m k Aim own x h integer ts e (omega arith) (omega arith),
+            (
+              some (found Γ (integer ∷ (integer ∷ ts))),
+              pushes m k Aim (push (int (pos i))) h integer (integer ∷ ts) (push-int (pos i) (integer ∷ ts)) (omega arith) w,
+              (
+                some (found Γ (logical ∷ ts)),
+                equals h ts (omega arith) (omega arith),
+                (
+                  some (found Γ ts),
+                  tests m k Aim _ h logical ts refl (g .1 .1 .1 .1 .1 .1 .0),
+                  (some (found Γ ts), passS s Γ ts q o r l n (c .1 .1 .1 .1 .0) (g .1 .1 .1 .1 .0), (none, goes m k Aim z h ts a, (some (found Γ ts), marks-here m k Aim h ts (omega arith) (omega arith), stopped m k Aim h ts))),
+                ),
+              ),
+            ),
+          )
       passArms (arm s rs) x i z Γ ts p e o r l n w c a g =
-          let q = skip 4 p in let h = length (heldIn Γ) in let v = skip 1 (after (codeS gs s Γ ts q) q) in
-          (some (found Γ (integer ∷ ts)), loads m k Aim own x h integer ts e (omega arith) (omega arith), (some (found Γ (integer ∷ (integer ∷ ts))), pushes m k Aim (push (int (pos i))) h integer (integer ∷ ts) (push-int (pos i) (integer ∷ ts)) (omega arith) w,
-            (some (found Γ (logical ∷ ts)), equals h ts (omega arith) (omega arith), (some (found Γ ts), tests m k Aim _ h logical ts refl (g .1 .1 .1 .1 .1 .1 .0),
-              (some (found Γ ts), passS s Γ ts q (o .0) r (omega arith) (omega arith) (c .1 .1 .1 .1 .0) (g .1 .1 .1 .1 .0), (none, goes m k Aim z h ts a, (some (found Γ ts), marks-here m k Aim h ts (omega arith) (omega arith),
-                passArms rs x (suc i) z Γ ts v e (o .1) r (omega arith) (omega arith) w (c .1 .1 .1 .1 .1 .1 .1) a (g .1 .1 .1 .1 .1 .1 .1))))))))
+          let q = skip 4 p in let h = length (heldIn Γ) in let v = skip 1 (after (codeS gs s Γ ts q) q) in (
+            some (found Γ (integer ∷ ts)),
+            loads m k Aim own x h integer ts e (omega arith) (omega arith),
+            (
+              some (found Γ (integer ∷ (integer ∷ ts))),
+              pushes m k Aim (push (int (pos i))) h integer (integer ∷ ts) (push-int (pos i) (integer ∷ ts)) (omega arith) w,
+              (
+                some (found Γ (logical ∷ ts)),
+                equals h ts (omega arith) (omega arith),
+                (
+                  some (found Γ ts),
+                  tests m k Aim _ h logical ts refl (g .1 .1 .1 .1 .1 .1 .0),
+                  (
+                    some (found Γ ts),
+                    passS s Γ ts q (o .0) r (omega arith) (omega arith) (c .1 .1 .1 .1 .0) (g .1 .1 .1 .1 .0),
+                    (
+                      none,
+                      goes m k Aim z h ts a,
+                      (
+                        some (found Γ ts),
+                        marks-here m k Aim h ts (omega arith) (omega arith),
+                        passArms rs x (suc i) z Γ ts v e (o .1) r (omega arith) (omega arith) w (c .1 .1 .1 .1 .1 .1 .1) a (g .1 .1 .1 .1 .1 .1 .1),
+                      ),
+                    ),
+                  ),
+                ),
+              ),
+            ),
+          )
