@@ -26,7 +26,7 @@ use Rattle.bytecode.specs.Rules.{atFirst, headFault, bodyFault, cellTy, cellsOf
 use Rattle.loading.specs.Terms.{Each, Named, ReadClass, ReadBody, ReadShape, WellFormed, OfBytes, Narrow, Passed}
 use Rattle.loading.specs.Bodies.{each-at}
 use Rattle.loading.specs.Tests.{never-some, same-some, halves, kept}
-use Rattle.compile_code.specs.Code.{Code, nil, op, mark, cell, _▸_, At, at, after, cellsIn, Line, placed}
+use Rattle.compile_code.specs.Code.{Code, nil, op, mark, cell, _▸_, At, at, after, cellsIn, placed}
 use Rattle.compile_code.specs.Compile.{Around, inside, global, labels, heldIn, codeItems, tyIn, Proc, procsOf, classesOf, indexOf, procNames, classNames, bodyNumber}
 use Rattle.compile_code.specs.Encode.{Part, rootPart, procPart, procParts, parts, linesOf, headsOf, recordOf, recordsOf, fieldTypes, compiled, macroOf, codeRoot, codeProc, codeBody, rootVariables, startOfRoot, aroundBody}
 use Rattle.compile_simulation.specs.Meets.{Setting}
@@ -44,7 +44,7 @@ use Rattle.compile_rules.specs.Pass.{Celled}
 use Rattle.compile_rules.specs.Records.{Writable}
 use Rattle.compile_records.specs.Writing.{judged, bytes}
 use Rattle.compile_records.specs.Writing.{Writable as CanWrite, SmallBody, SmallShape, passes as all-passed}
-use Rattle.compile_macro.specs.Laid.{ops, after-ops, Chain, total, lines-length, rises, begins, Ops, Lines, ops-lines, begins-empty, its-lined, stands, no-fault, part-of}
+use Rattle.compile_macro.specs.Laid.{ops, after-ops, Chain, total, lines-length, records-length, rises, begins, Ops, Lines, ops-lines, begins-empty, its-lined, stands, no-fault, part-of}
 use Rattle.compile_macro.specs.Fields.{Entered, Holdable, holdable-writable, more-ops, of-head, fieldsS, fieldsItems, fieldsE}
 use Rattle.compile_macro.specs.Cells.{newCells, cells-length, count-head, countS, countItems, countE, celled, each-cell}
 use Rattle.compile_macro.specs.Shapes.{Heads}
@@ -307,12 +307,7 @@ module _ (t : Tree) where
 
     -- ── the macro is well-formed, and no head is at fault ──
     code-size : length (compiled t .code) ≡ total (parts t)
-    unfolding recordsOf
-    code-size = ap length code-is ∙ records-length (linesOf (parts t)) ∙ lines-length (parts t) 0 chain
-      where
-        records-length : (ls : List Line) → length (recordsOf ls) ≡ length ls
-        records-length [] = refl
-        records-length (l ∷ ls) = ap suc (records-length ls)
+    code-size = ap length code-is ∙ records-length (parts t) chain
 
     -- what a shape must keep to
     abbrev Fine : Shape → Type 0

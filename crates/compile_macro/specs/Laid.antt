@@ -165,6 +165,15 @@ ops-lines P (mark s) o f h g = g (first o s)
 ops-lines P (cell t) o f h g = g o
 ops-lines P (x ▸ y) o f h g = ops-lines P x o (λ p. lay y p f) (h .0) (λ p. ops-lines P y p f (h .1) g)
 
+-- there are as many instructions as ops
+pub records-length : (ps : List Part) → Chain 0 ps → length (recordsOf (linesOf ps)) ≡ total ps
+unfolding recordsOf
+records-length ps chain = each (linesOf ps) ∙ lines-length ps 0 chain
+  where
+    each : (ls : List Line) → length (recordsOf ls) ≡ length ls
+    each [] = refl
+    each (l ∷ ls) = ap suc (each ls)
+
 module _ (m : Macro) (ps : List Part) (eb : m .bodies ≡ headsOf ps) (ec : m .code ≡ recordsOf (linesOf ps)) (es : m .shapes ≡ placed 0 (linesOf ps))
     (w : WellFormed m) (heads : (i : ℕ) → bodyFault (m .bodies) 0 i ≡ false) where
   lined : (k e : ℕ) (ls rest : List Line) (i : ℕ) → drop i (linesOf ps) ≡ ls ++ rest → e ≡ i + length ls → ((j : ℕ) → i ≤ j → j < e → inBody m k j ≡ true) → inBody m k e ≡ false → Lines Writable ls → Lined m k ls i
@@ -186,13 +195,8 @@ module _ (m : Macro) (ps : List Part) (eb : m .bodies ≡ headsOf ps) (ec : m .c
       not-first (x ∷ ls) f = no-first m w k i (b i (omega arith) (omega arith)) (f (omega arith))
 
   module _ (chain : Chain 0 ps) where
-    records-length : (ls : List Line) → length (recordsOf ls) ≡ length ls
-    unfolding recordsOf
-    records-length [] = refl
-    records-length (l ∷ ls) = ap suc (records-length ls)
-
-    pub code-length : length (m .code) ≡ total ps
-    code-length = ap length ec ∙ records-length (linesOf ps) ∙ lines-length ps 0 chain
+    code-length : length (m .code) ≡ total ps
+    code-length = ap length ec ∙ records-length ps chain
 
     -- of the part with number k
     module _ (k : ℕ) (p : Part) (h : getElem? ps k ≡ some p) where

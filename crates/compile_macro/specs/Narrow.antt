@@ -22,6 +22,7 @@ use Rattle.loading.specs.Bodies.{inside-code, each-at}
 use Rattle.loading.specs.Tests.{never-some, halves}
 use Rattle.compile_code.specs.Code.{Code, nil, op, mark, cell, _▸_, At, after, Line, first, lay, placed, placedAt}
 use Rattle.compile_code.specs.Encode.{recordOf, recordsOf, operatorCode}
+use Rattle.compile_rules.specs.Lines.{index-below}
 use Rattle.compile_rules.specs.Flows.{Goes, Comes, Seg, Marks}
 use Rattle.compile_rules.specs.Faultless.{Aimed}
 use Rattle.compile_macro.specs.Laid.{Ops}
@@ -151,11 +152,6 @@ operator-byte (binary either) = omega arith
 operator-byte (binary shiftLeft) = omega arith
 operator-byte (binary shiftRight) = omega arith
 
-there-below : {A : Type 0} (xs : List A) (i : ℕ) (x : A) → getElem? xs i ≡ some x → i < length xs
-there-below [] i x h = never-some h
-there-below (y ∷ xs) zero x h = omega arith
-there-below (y ∷ xs) (suc i) x h = let q = there-below xs i x h in omega arith
-
 module _ (m : Macro) (k : ℕ) (w : WellFormed m) (short : length (m .code) < 65536) (few : (j : ℕ) (b : Body) → bodyAt m j ≡ some b → length (b .cells) ≤ 32) where
   -- what must be there for the effect not to be wrong
   from-giving : (o : Option Ty) (ins : List Ty) (s : Shape) (g : Option Shape) → Goes (Aimed m k) (flow (giving o ins) s) g → (t : Ty) × (o ≡ some t)
@@ -184,7 +180,7 @@ module _ (m : Macro) (k : ℕ) (w : WellFormed m) (short : length (m .code) < 65
 
   cell-of : (o : Option Body) (c : ℕ) (t : Ty) → ((b : Body) → o ≡ some b → length (b .cells) ≤ 32) → getElem? (cellsOf o) c ≡ some t → c < 32
   cell-of none c t f h = never-some h
-  cell-of (some b) c t f h = let z = there-below (b .cells) c t h in let y = f b refl in omega arith
+  cell-of (some b) c t f h = let z = index-below (b .cells) c t h in let y = f b refl in omega arith
 
   small-cell : (o : Owner) (c : ℕ) (t : Ty) → cellTy m k o c ≡ some t → c < 32
   small-cell own c t h = cell-of (bodyAt m k) c t (few k) h
@@ -192,14 +188,14 @@ module _ (m : Macro) (k : ℕ) (w : WellFormed m) (short : length (m .code) < 65
 
   small-field : (o : Option (List Ty)) (x : ℕ) (t : Ty) → keep o (λ ts. getElem? ts x) ≡ some t → (ts : List Ty) × (o ≡ some ts) × (x < length ts)
   small-field none x t h = never-some h
-  small-field (some ts) x t h = (ts, refl, there-below ts x t h)
+  small-field (some ts) x t h = (ts, refl, index-below ts x t h)
 
   small-body : (b : ℕ) (B : Body) → calledBody m b ≡ some B → b < 64
   small-body zero B h = never-some h
-  small-body (suc b) B h = let z = there-below (m .bodies) (suc b) B h in let y = w .few-bodies in omega arith
+  small-body (suc b) B h = let z = index-below (m .bodies) (suc b) B h in let y = w .few-bodies in omega arith
 
   small-class : (c : ℕ) (ts : List Ty) → getElem? (m .classes) c ≡ some ts → (c < 16) × (length ts ≤ 8)
-  small-class c ts h = let z = there-below (m .classes) c ts h in let y = w .few-classes in (omega arith, each-at (ReadClass (length (m .classes))) (m .classes) c ts (w .classes-read) h .few-fields)
+  small-class c ts h = let z = index-below (m .classes) c ts h in let y = w .few-classes in (omega arith, each-at (ReadClass (length (m .classes))) (m .classes) c ts (w .classes-read) h .few-fields)
 
   small-target : (t : ℕ) (s : Shape) → Aimed m k t s → t < 65536
   small-target t s h = let z = inside-code m w k t (halves (inBody m k t) (equalShape (shapeIn (m .shapes) t) s) h .0) in omega arith

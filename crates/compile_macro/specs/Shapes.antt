@@ -3,9 +3,8 @@ use mathlib.Core.Bool.{Bool, true, false}
 use mathlib.Core.Path.{_≡_, sym, subst}
 use mathlib.Core.List.{List, [], _∷_}
 use mathlib.Core.Option.{none, some}
-use Prim.Native.Nat.{ℕ, zero, suc, _<_}
-use native.Mathlib.Omega.{arith}
-use lib.ListN.{length, getElem?}
+use Prim.Native.Nat.{ℕ, suc}
+use lib.ListN.{length}
 use Rattle.words.specs.Choice.{if_then_else_}
 use Rattle.values.specs.Types.{Ty, integer, logical, bits, reference, sames}
 use Rattle.values.specs.Operators.{Operator, unary, binary, negate, absolute, complement, plus, minus, times, divide, remainder, less, atMost, greater, atLeast, equal, unequal, both, either, shiftLeft, shiftRight, Binary, takes, logicalOrBits, anyOne, orElse, opType}
@@ -19,6 +18,7 @@ use Rattle.loading.specs.Terms.{Each, Named}
 use Rattle.loading.specs.Tests.{never-some, same-some}
 use Rattle.compile_code.specs.Code.{Code, op, cell, _▸_, At, at, skip, after}
 use Rattle.compile_code.specs.Compile.{Around, inside, outermost, bound, global, held, labels, scopesOf, passing, theLabels, hasLabel, labelAt, Way, plainly, marked, ifTrue, ifFalse, wayOf, codeWay, codeGoto, codeHead, codeS, codeItems, codeArms, codeTarget, codeE, codeEs, tyTarget, tyE, classNumber, fieldNumber, bodyNumber}
+use Rattle.compile_rules.specs.Lines.{index-below}
 use Rattle.compile_rules.specs.Flows.{Marks}
 use Rattle.compile_rules.specs.Pass.{Celled, okHead, okS, okItems, okArms, okTarget, okE, okEs, WayOk, tysE}
 use Rattle.compile_macro.specs.Cells.{Known, of-initial}
@@ -63,11 +63,6 @@ of-operator n (binary both) ts r h = of-both n (λ t. t ∷ t ∷ []) ts r h
 of-operator n (binary either) ts r h = of-both n (λ t. t ∷ t ∷ []) ts r h
 of-operator n (binary shiftLeft) ts r h = of-takes n (bits ∷ integer ∷ []) bits ts r tt h
 of-operator n (binary shiftRight) ts r h = of-takes n (bits ∷ integer ∷ []) bits ts r tt h
-
-there-below : {A : Type 0} (xs : List A) (i : ℕ) (x : A) → getElem? xs i ≡ some x → i < length xs
-there-below [] i x h = never-some h
-there-below (y ∷ xs) zero x h = omega arith
-there-below (y ∷ xs) (suc i) x h = let q = there-below xs i x h in omega arith
 
 -- what is known of the macro's heads: types of cells, results and fields are known
 pub record Heads (m : Macro) : Type 0 where
@@ -155,7 +150,7 @@ module _ (m : Macro) (k : ℕ) (gs : List Global) (H : Heads m) where
     markE (variable a) Γ ts p o c n = (tt, H .cells k (o .0) (o .1) (tyE gs Γ (variable a)) (o .3))
     markE (invoke a es) Γ ts p o c n = ((markEs es Γ ts p (o .0) (c .0) n, tt), subst KnownAll (o .1 .3) (H .results (bodyNumber gs a) (o .1 .0) (o .1 .1)) .0)
     markE (field a e) Γ ts p o c n = ((markE e Γ ts p (o .0) (c .0) n .0, tt), H .fields (fieldNumber gs a .class) (fieldNumber gs a .index) (tyE gs Γ (field a e)) (o .2))
-    markE (make x es) Γ ts p o c n = ((markEs es Γ ts p (o .0) (c .0) n, tt), there-below (m .classes) (classNumber gs x) (tysE gs Γ es) (o .1))
+    markE (make x es) Γ ts p o c n = ((markEs es Γ ts p (o .0) (c .0) n, tt), index-below (m .classes) (classNumber gs x) (tysE gs Γ es) (o .1))
     markE (operate1 u e) Γ ts p o c n = ((markE e Γ ts p (o .0) (c .0) n .0, tt), of-operator (length (m .classes)) (unary u) (tyE gs Γ e ∷ []) (tyE gs Γ (operate1 u e)) (o .1))
     markE (operate2 u e f) Γ ts p o c n = (
       mark-way (wayOf u (isTy logical (typeE (scopesOf Γ) e))) u Γ ts (tyE gs Γ e) (codeE gs e Γ ts p) p (λ us q. codeE gs f Γ us q) c n (λ c'. markE e Γ ts p (o .0) c' n) (λ us q n' c'. markE f Γ us q (o .1) c' n' .0),

@@ -3,7 +3,7 @@ use mathlib.Core.Bool.{true}
 use mathlib.Core.Path.{_≡_, refl, ap, ap₂, sym, _∙_, subst}
 use mathlib.Core.List.{List, [], _∷_, map}
 use mathlib.Core.Option.{none, some}
-use Prim.Native.Nat.{ℕ, zero, suc, _<_}
+use Prim.Native.Nat.{ℕ, zero, suc}
 use native.Mathlib.Omega.{arith}
 use lib.Dec.{ltb}
 use lib.ListN.{length, getElem?, take}
@@ -21,6 +21,7 @@ use Rattle.bytecode.specs.Rules.{plain, effect, cellTy, fieldTy, calledBody}
 use Rattle.compile_code.specs.Compile.{Around, inside, bound, held, labels, scopesOf, kept, Class, classesOf, namesOf, indexOf, Proc, procsOf, classNumber, bodyNumber, fieldNumber, orInteger, wayOf, tyIn, tyE}
 use Rattle.compile_code.specs.Compile.{cellOf as keptOf}
 use Rattle.compile_code.specs.Encode.{fieldTypes}
+use Rattle.compile_rules.specs.Lines.{index-below}
 use Rattle.compile_rules.specs.Pass.{tysE, okHead, WayOk, okS, okItems, okArms, okTarget, okE, okEs}
 use Rattle.compile_names.specs.Good.{ClassAt, IsA, is-ty, goodTy, goodHead, HasTy, goodS, goodItems, goodArms, goodTarget, goodE, goodEs}
 use Rattle.compile_names.specs.Known.{ofBlock, Entered}
@@ -41,11 +42,6 @@ unfolding fieldTypes
 class-types gs [] k x h = let z : _≡_ {A = ℕ} 0 1 = cc h in absurd (omega arith)
 class-types gs (c ∷ cs) zero x h = let z : c ≡ x = cc h in ap (λ y. some (map (tyIn gs) (types (y .fields)))) z
 class-types gs (c ∷ cs) (suc k) x h = class-types gs cs k x h
-
-pub within : {A : Type 0} (xs : List A) (k : ℕ) (x : A) → getElem? xs k ≡ some x → k < length xs
-within [] k x h = let z : _≡_ {A = ℕ} 0 1 = cc h in absurd (omega arith)
-within (y ∷ xs) zero x h = omega arith
-within (y ∷ xs) (suc k) x h = let q = within xs k x h in omega arith
 
 map-get : (f : Ty → Ty) (ts : List Ty) (i : ℕ) (t : Ty) → getElem? ts i ≡ some t → getElem? (map f ts) i ≡ some (f t)
 map-get f [] i t h = let z : _≡_ {A = ℕ} 0 1 = cc h in absurd (omega arith)
@@ -74,7 +70,7 @@ module _ (m : Macro) (k : ℕ) (gs : List Global) where
     unfolding effect
     push-null ss c g h us =
         let q = g c (isClass (h .0)) (h .1 .0) tt (h .1 .1) in let f = class-typed c (h .0) (class-found gs c (h .0) (q .0) (q .1)) in
-        let l : ltb (classNumber gs c) (length (m .classes)) ≡ true = lt-ltb (classNumber gs c) (length (m .classes)) (within (m .classes) (classNumber gs c) (map (tyIn gs) (h .0)) f) in
+        let l : ltb (classNumber gs c) (length (m .classes)) ≡ true = lt-ltb (classNumber gs c) (length (m .classes)) (index-below (m .classes) (classNumber gs c) (map (tyIn gs) (h .0)) f) in
         rw l refl
 
     pub push-ok : (ss : List Scope) (t : Ty) → GlobalsIn gs ss → goodTy ss t → (us : List Ty) → effect m k (push (initial (tyIn gs t))) us ≡ plain [] (tyIn gs t ∷ [])

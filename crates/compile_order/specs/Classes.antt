@@ -12,10 +12,11 @@ use Rattle.language.specs.Faults.{faults, namesGlobal}
 use Rattle.loading.specs.Terms.{Each, Named, ReadClass}
 use Rattle.compile_code.specs.Compile.{Class, classesOf, classNumber, Proc, procsOf, tyIn}
 use Rattle.compile_code.specs.Encode.{fieldTypes, compiled}
+use Rattle.compile_rules.specs.Lines.{index-below}
 use Rattle.compile_macro.specs.Built.{classCount, params-length}
 use Rattle.compile_names.specs.Good.{goodTy, goodTyped}
 use Rattle.compile_names.specs.Globals.{classAs, goodGlobals, GlobalsIn, globals-root, globals-procedure, class-found}
-use Rattle.compile_names.specs.Fitting.{class-types, within}
+use Rattle.compile_names.specs.Fitting.{class-types}
 use Rattle.compile_order.specs.Around.{rootScopes, good-globals, good-parameters}
 
 module _ (gs : List Global) where
@@ -26,7 +27,7 @@ module _ (gs : List Global) where
   named-ty ss bits g h = tt
   named-ty ss (reference c) g h =
       let q = g c (isClass (h .0)) (h .1 .0) tt (h .1 .1) in let f = class-found gs c (h .0) (q .0) (q .1) in
-      within (fieldTypes gs (classesOf gs)) (classNumber gs c) _ (class-types gs (classesOf gs) (classNumber gs c) (classAs c (f .fields)) (f .at-number))
+      index-below (fieldTypes gs (classesOf gs)) (classNumber gs c) _ (class-types gs (classesOf gs) (classNumber gs c) (classAs c (f .fields)) (f .at-number))
 
   named-typed : (ss : List Scope) (seen : List ℕ) (xs : List Typed) → GlobalsIn gs ss → goodTyped ss seen xs → Each (Named (length (fieldTypes gs (classesOf gs)))) (map (tyIn gs) (types xs))
   unfolding goodTyped types

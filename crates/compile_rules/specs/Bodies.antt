@@ -1,6 +1,6 @@
 -- A body's code that flows whatever its marks can be aimed at has no fault.
-use mathlib.Core.Bool.{Bool, true, false, _&&_}
-use mathlib.Core.Path.{_≡_, refl, ap, ap₂, sym, _∙_, subst}
+use mathlib.Core.Bool.{true}
+use mathlib.Core.Path.{_≡_, refl, ap, sym, _∙_, subst}
 use mathlib.Core.List.{List, [], _∷_}
 use mathlib.Core.Option.{Option, none, some}
 use Prim.Native.Nat.{ℕ, zero, suc, _+_}
@@ -8,9 +8,9 @@ use native.Mathlib.Omega.{arith}
 use lib.ListN.{getElem?, drop}
 use Rattle.bytecode.specs.Macro.{Shape, shape, Macro, shapeIn}
 use Rattle.bytecode.specs.Instructions.{inBody}
-use Rattle.bytecode.specs.Rules.{atFirst, into, lands, sameShape, equalShape}
+use Rattle.bytecode.specs.Rules.{atFirst, into}
 use Rattle.compile_code.specs.Code.{Code, nil, op, mark, cell, _▸_, At, at, after, Line, line, first, lay}
-use Rattle.compile_rules.specs.Flows.{Goes, Comes, Seg, Marks}
+use Rattle.compile_rules.specs.Flows.{Seg, Marks}
 use Rattle.compile_rules.specs.Lines.{Agree, agree-on, clash, Rel, Good, laid, dropped}
 use Rattle.compile_rules.specs.Faultless.{Aimed, Lined, Faultless, faultless, shape-refl}
 

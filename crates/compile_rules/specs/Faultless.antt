@@ -1,18 +1,17 @@
 -- Lines through which the state flows have no fault: the loading rules at each address of a body.
-use mathlib.Core.Bool.{Bool, true, false, not, _&&_, _||_}
-use mathlib.Core.Path.{_≡_, refl, ap, ap₂, sym, _∙_, subst}
+use mathlib.Core.Bool.{true, false, not, _&&_, _||_}
+use mathlib.Core.Path.{_≡_, refl, ap, ap₂, sym, _∙_}
 use mathlib.Core.List.{List, [], _∷_}
 use mathlib.Core.Option.{Option, none, some}
-use Prim.Native.Nat.{ℕ, zero, suc}
+use Prim.Native.Nat.{ℕ, suc}
 use native.Mathlib.Omega.{arith}
-use lib.Dec.{T, eqb, eqb-refl}
-use Rattle.words.specs.Choice.{if_then_else_}
-use Rattle.values.specs.Types.{Ty, same, sames}
+use borrow.Author.Tests.{eq-eqb}
+use Rattle.values.specs.Types.{Ty, sames}
 use Rattle.bytecode.specs.Macro.{Shape, shape, Macro, shapeIn, isSome, keep}
 use Rattle.bytecode.specs.Instructions.{inBody, instrAt}
-use Rattle.bytecode.specs.Rules.{Flow, on, fork, jump, halt, broken, roomy, sameShape, flow, flowAt, effect, passed, orFlow, into, foundAt, bodyOf, isFirst, bodyFault, shapeFault, equalShape, lands, closes, flowFault, opFault, faultAt}
+use Rattle.bytecode.specs.Rules.{Flow, on, fork, jump, halt, broken, sameShape, flow, flowAt, effect, passed, orFlow, into, foundAt, bodyOf, isFirst, bodyFault, shapeFault, lands, flowFault, opFault, faultAt}
 use Rattle.compile_code.specs.Code.{Line}
-use Rattle.compile_rules.specs.Flows.{yes, same-refl, Goes}
+use Rattle.compile_rules.specs.Flows.{same-refl, Goes}
 use Rattle.compile_rules.specs.Lines.{Enters, Good}
 
 sames-refl : (ts : List Ty) → sames ts ts ≡ true
@@ -21,7 +20,7 @@ sames-refl [] = refl
 sames-refl (t ∷ ts) = ap₂ (λ a b. a && b) (same-refl t) (sames-refl ts)
 
 pub shape-refl : (s : Shape) → sameShape s s ≡ true
-shape-refl s = ap₂ (λ a b. a && b) (yes (eqb (s .holds) (s .holds)) (eqb-refl (s .holds))) (sames-refl (s .operands))
+shape-refl s = ap₂ (λ a b. a && b) (eq-eqb (s .holds) (s .holds) refl) (sames-refl (s .operands))
 
 module _ (m : Macro) (k : ℕ) where
   abbrev pub Aimed : ℕ → Shape → Type 0

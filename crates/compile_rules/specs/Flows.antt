@@ -1,27 +1,20 @@
 -- The state that flows through a piece of code, by the loading rules; one law for each way that an op goes on.
-use mathlib.Core.Bool.{Bool, true, false, _&&_}
-use mathlib.Core.Path.{_≡_, refl, ap, ap₂, sym, _∙_, subst}
+use mathlib.Core.Bool.{true, _&&_}
+use mathlib.Core.Path.{_≡_, refl, ap₂}
 use mathlib.Core.List.{List, [], _∷_, _++_, reverse, reverseAux, reverseAux-eq}
 use mathlib.Core.Option.{Option, none, some}
-use Prim.Native.Nat.{ℕ, zero, suc, _≤_}
-use native.Mathlib.Omega.{arith}
-use lib.Dec.{T, eqb, eqb-refl, leb, le→leb}
+use Prim.Native.Nat.{ℕ, suc, _≤_}
 use lib.ListN.{length, getElem?, take}
-use Rattle.words.specs.Choice.{if_then_else_}
-use Rattle.values.specs.Types.{Ty, integer, logical, bits, reference, tyCode, same}
-use Rattle.values.specs.Operators.{Operator, unary, binary, Unary, Binary, opType}
-use Rattle.values.specs.Values.{Value, int, log, bit, ref}
+use borrow.Author.Tests.{le-leb, eq-eqb}
+use Rattle.values.specs.Types.{Ty, integer, logical, reference, tyCode, same}
+use Rattle.values.specs.Operators.{unary, binary, Unary, Binary, opType}
 use Rattle.bytecode.specs.Macro.{Body, Shape, shape, Macro}
-use Rattle.bytecode.specs.Instructions.{Owner, own, root, Instr, push, load, store, operate, go, goUnless, setLevel, readFader, takeHold, letHold, assert, stop, call, make, getField, putField}
-use Rattle.bytecode.specs.Rules.{Effect, plain, takes, lets, jumps, forks, leaves, stops, wrong, Flow, on, fork, jump, halt, broken, strip, roomy, flow, effect, cellTy, fieldTy, calledBody, giving, taking}
+use Rattle.bytecode.specs.Instructions.{Owner, Instr, load, store, operate, go, goUnless, setLevel, readFader, takeHold, letHold, assert, stop, call, make, getField, putField}
+use Rattle.bytecode.specs.Rules.{plain, Flow, on, fork, jump, halt, broken, strip, roomy, flow, effect, cellTy, fieldTy, calledBody}
 use Rattle.compile_code.specs.Code.{Code, nil, op, mark, cell, _▸_, At, after}
 
-pub yes : (b : Bool) → T b → b ≡ true
-yes true h = refl
-yes false h = absurd h
-
 pub same-refl : (t : Ty) → same t t ≡ true
-same-refl t = yes (eqb (tyCode t) (tyCode t)) (eqb-refl (tyCode t))
+same-refl t = eq-eqb (tyCode t) (tyCode t) refl
 
 pub strip-app : (ins r : List Ty) → strip ins (ins ++ r) ≡ some r
 unfolding strip
@@ -29,7 +22,7 @@ strip-app [] r = refl
 strip-app (t ∷ ins) r = rw (same-refl t) (strip-app ins r)
 
 pub room : (h : ℕ) (ts : List Ty) → h ≤ 16 → length ts ≤ 32 → roomy (shape h ts) ≡ true
-room h ts p q = ap₂ (λ a b. a && b) (yes (leb h 16) (le→leb h 16 p)) (yes (leb (length ts) 32) (le→leb (length ts) 32 q))
+room h ts p q = ap₂ (λ a b. a && b) (le-leb h 16 p) (le-leb (length ts) 32 q)
 
 abbrev pub Goes : (ℕ → Shape → Type 0) → Flow → Option Shape → Type 0
 Goes Aim (on s) g = g ≡ some s

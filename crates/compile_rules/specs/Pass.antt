@@ -1,9 +1,9 @@
 -- A part in order, within the limits, compiles to code through which the loading rules' state flows.
 use mathlib.Core.Bool.{Bool, true, false}
-use mathlib.Core.Path.{_≡_, refl, ap, ap₂, sym, _∙_, subst}
-use mathlib.Core.List.{List, [], _∷_, _++_, reverse, reverseAux}
-use mathlib.Core.Option.{Option, none, some}
-use Prim.Native.Nat.{ℕ, zero, suc, _+_, _≤_, max}
+use mathlib.Core.Path.{_≡_, refl, ap, sym, _∙_, subst}
+use mathlib.Core.List.{List, [], _∷_, reverseAux}
+use mathlib.Core.Option.{none, some}
+use Prim.Native.Nat.{ℕ, suc, _+_, _≤_, max}
 use native.Mathlib.Omega.{arith}
 use lib.Dec.{eqb}
 use lib.IntN.{ℤ, pos}
@@ -12,21 +12,21 @@ use Rattle.words.specs.Choice.{if_then_else_}
 use Rattle.words.specs.Numbers.{wordOf}
 use Rattle.values.specs.Types.{Ty, integer, logical, bits, reference, sames}
 use Rattle.values.specs.Operators.{unary, binary, Binary, equal, opType}
-use Rattle.values.specs.Values.{Value, int, log, bit, ref, initial}
+use Rattle.values.specs.Values.{int, log, bit, ref, initial}
 use Rattle.language.specs.Tree.{Decl, declare, holding, Stmt, block, assign, when, choose, while, goto, assert, call, setLevel, select, Items, noItem, label, item, Arms, lastArm, arm, Target, toVariable, toField, Expr, number, truth, pattern, null, variable, invoke, field, make, operate1, operate2, conditional, fader, blockExpr, Exprs, noExpr, expr, Global}
-use Rattle.language.specs.Names.{Scope, inBlock, inExpression, inProcedure, blockOf, expressionOf}
+use Rattle.language.specs.Names.{inBlock, inExpression, inProcedure, blockOf, expressionOf}
 use Rattle.language.specs.Faults.{typeE, isTy}
 use Rattle.language.specs.Limits.{headHolds, holdsS, holdsItems, holdsArms, holdsTarget, holdsE, holdsEs, needS, needItems, needArms, needTarget, needE, needEs}
 use Rattle.bytecode.specs.Macro.{Body, Shape, shape, Macro}
-use Rattle.bytecode.specs.Instructions.{Owner, own, root, Instr, push, go, goUnless, letHold, operate}
-use Rattle.bytecode.specs.Rules.{Effect, plain, effect, cellTy, fieldTy, calledBody}
+use Rattle.bytecode.specs.Instructions.{Owner, own, push, go, letHold, operate}
+use Rattle.bytecode.specs.Rules.{plain, effect, cellTy, fieldTy, calledBody}
 use Rattle.compile_code.specs.Code.{Code, nil, op, mark, cell, _▸_, At, at, skip, after}
-use Rattle.compile_code.specs.Compile.{Around, inside, outermost, bound, global, held, labels, heldIn, scopesOf, passing, theLabels, hasLabel, labelAt, opsS, found, kept, Way, plainly, marked, ifTrue, ifFalse, wayOf, codeWay, codeGoto, codeHead, codeS, codeItems, codeArms, codeTarget, codeE, codeEs, opsArms, opTarget, tyTarget, tyE, tyIn, classNumber, bodyNumber, fieldNumber}
+use Rattle.compile_code.specs.Compile.{Around, inside, outermost, bound, global, held, labels, heldIn, scopesOf, passing, theLabels, hasLabel, labelAt, found, kept, Way, plainly, marked, ifTrue, ifFalse, wayOf, codeWay, codeGoto, codeHead, codeS, codeItems, codeArms, codeTarget, codeE, codeEs, opsArms, opTarget, tyTarget, tyE, tyIn, classNumber, bodyNumber, fieldNumber}
 use Rattle.compile_code.specs.Compile.{cellOf as keptOf}
 use Rattle.compile_simulation.specs.Sizes.{lenS, lenArms}
 use Rattle.compile_simulation.specs.Placed.{landsAt}
 use Rattle.compile_simulation.specs.Blocks.{gotoOk}
-use Rattle.compile_rules.specs.Flows.{Goes, Comes, Seg, Marks, room, pushes, loads, stores, operates, operates1, asserts, sets, fades, tests, goes, holds, frees, marks-on, marks-here, joins, calls, makes, gets, puts, stopped}
+use Rattle.compile_rules.specs.Flows.{Seg, Marks, pushes, loads, stores, operates, operates1, asserts, sets, fades, tests, goes, holds, frees, marks-on, marks-here, joins, calls, makes, gets, puts, stopped}
 
 target-types : (gs : List Global) (x : Target) (Γ : List Around) (ts : List Ty) → length (tyTarget gs Γ x ts) ≤ suc (length ts)
 target-types gs (toVariable a) Γ ts = omega arith

@@ -1,14 +1,12 @@
 -- An instruction written as a record reads back.
-use mathlib.Core.Bool.{Bool, true, false}
-use mathlib.Core.Path.{_≡_, refl, ap, sym, _∙_}
-use mathlib.Core.Option.{Option, none, some}
-use Prim.Native.Nat.{ℕ}
+use mathlib.Core.Bool.{true, false}
+use mathlib.Core.Path.{_≡_, refl, ap}
+use mathlib.Core.Option.{none, some}
 use lib.Dec.{leb}
-use lib.IntN.{ℤ}
 use Rattle.words.specs.Numbers.{integerOf, wordOf}
 use Rattle.values.specs.Operators.{unary, binary, negate, absolute, complement, plus, minus, times, divide, remainder, less, atMost, greater, atLeast, equal, unequal, both, either, shiftLeft, shiftRight, unaryOf, binaryOf}
 use Rattle.values.specs.Values.{int, log, bit, ref}
-use Rattle.bytecode.specs.Instructions.{Owner, own, root, Instr, end, push, load, store, operate, go, goUnless, call, return, make, getField, putField, setLevel, readFader, takeHold, letHold, assert, stop, instruction}
+use Rattle.bytecode.specs.Instructions.{own, root, Instr, end, push, load, store, operate, go, goUnless, call, return, make, getField, putField, setLevel, readFader, takeHold, letHold, assert, stop, instruction}
 use Rattle.compile_code.specs.Encode.{recordOf}
 
 -- what a record can hold: 32 bits, a null, a group

@@ -5,9 +5,9 @@ use mathlib.Core.List.{List, [], _∷_}
 use mathlib.Core.Option.{Option, none, some}
 use Prim.Native.Nat.{ℕ, zero, suc, _+_, _<_}
 use native.Mathlib.Omega.{arith}
-use lib.Dec.{T, eqb, eqb→eq, eqb-refl}
+use lib.Dec.{T, eqb, eqb→eq}
 use lib.ListN.{getElem?}
-use Rattle.words.specs.Choice.{if_then_else_}
+use borrow.Author.Tests.{eq-eqb}
 use Rattle.bytecode.specs.Macro.{Shape, Placed, Macro, shapeIn, keep}
 use Rattle.bytecode.specs.Instructions.{instrAt, instruction}
 use Rattle.compile_code.specs.Code.{Line, placed, placedAt}
@@ -26,13 +26,6 @@ differ x y f = go (eqb x y) refl
     go false e = refl
     go true e = absurd (f (eqb→eq x y (subst T (sym e) tt)))
 
-agree : (x y : ℕ) → x ≡ y → eqb x y ≡ true
-agree x y e = subst (λ z. eqb x z ≡ true) e (yes (eqb x x) (eqb-refl x))
-  where
-    yes : (b : Bool) → T b → b ≡ true
-    yes true h = refl
-    yes false h = absurd h
-
 past : (o : Option Shape) (j i : ℕ) (ps : List Placed) → (j ≡ i → ⊥) → shapeIn (placedAt o j ps) i ≡ shapeIn ps i
 unfolding shapeIn
 past none j i ps f = refl
@@ -50,7 +43,7 @@ shown (l ∷ ls) j zero = pick (l .shape)
   where
     pick : (o : Option Shape) → shapeIn (placedAt o j (placed (suc j) ls)) (j + 0) ≡ o
     pick none = before ls (suc j) (j + 0) (omega arith)
-    pick (some s) = rw (agree j (j + 0) (omega arith)) refl
+    pick (some s) = rw (eq-eqb j (j + 0) (omega arith)) refl
 shown (l ∷ ls) j (suc n) =
     let e : suc j + n ≡ j + suc n = omega arith in
     past (l .shape) j (j + suc n) (placed (suc j) ls) (λ u. omega arith) ∙ subst (λ z. shapeIn (placed (suc j) ls) z ≡ shapeAt ls n) e (shown ls (suc j) n)
