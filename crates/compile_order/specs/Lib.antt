@@ -4,4 +4,5 @@ pub mod Around
 pub mod Classes
 pub mod Typed
 pub mod Named
+pub mod Whole
 pub mod Order

@@ -1,9 +1,8 @@
 -- Every program of the subset is in order for the compiler, and so: no table that the check accepts compiles to a macro that the loading check turns down.
--- What the statements rest on stands in the other files: Entries (fields and layout), Limited (limits), Classes (types of classes there are), Typed and Named (bodies).
+-- What they rest on stands in the other files, put together in Whole: Entries (fields and layout), Limited (limits), Classes (types of classes there are), Typed and Named (bodies).
 use mathlib.Core.Path.{_≡_, subst}
 use mathlib.Core.List.{List}
 use Prim.Native.Nat.{ℕ, _≤_}
-use native.Mathlib.Omega.{arith}
 use lib.ListN.{length}
 use Rattle.words.specs.Laws.{Bytes}
 use Rattle.values.specs.Ends.{accepted}
@@ -15,35 +14,10 @@ use Rattle.compile_code.specs.Encode.{compiled, macroOf}
 use Rattle.compile_simulation.specs.Top.{Built}
 use Rattle.compile_records.specs.Writing.{Writable}
 use Rattle.compile_macro.specs.Built.{InOrder, settingOf, accepted-macro, built, few-instructions, few-shapes, writable, macro-bytes}
-use Rattle.compile_order.specs.Entries.{few-classes, few-procs, length-tree, root-entries, proc-entries, proc-results, class-fields}
-use Rattle.compile_order.specs.Limited.{root-keeps, proc-keeps}
-use Rattle.compile_order.specs.Classes.{fields-known, parameters-known}
-use Rattle.compile_order.specs.Typed.{root-typed, proc-typed}
-use Rattle.compile_order.specs.Named.{root-named, proc-named, proc-static}
+use Rattle.compile_order.specs.Whole.{orderly}
 
 pub in-order : (l : List ℕ) (P : Program l) → InOrder (P .tree)
-unfolding compiled
-in-order l P =
-    let t = P .tree in let h = P .faultless in
-    record {
-      root-typed = root-typed t h;
-      root-named = root-named t h;
-      root-keeps = root-keeps t (P .limited);
-      root-entries = root-entries t (P .fields) (P .layout);
-      procs = λ k q e. record {
-        typed = proc-typed t h k q e;
-        named = proc-named t h k q e;
-        static = proc-static t h q;
-        parameters-known = parameters-known t h k q e;
-        results-known = proc-results t (P .fields) (P .layout) _ k q e;
-        keeps = proc-keeps t (P .limited) k q e;
-        entries = proc-entries t (P .fields) (P .layout) k q e;
-      };
-      fields-known = fields-known t h (class-fields t (P .fields) (P .layout));
-      few-classes = let n = few-classes (t .head) (t .head) in let m = P .classes in omega arith;
-      few-procs = let n = few-procs (t .head) in let m = P .procedures in omega arith;
-      entries = let n = length-tree t in let m = P .entries in omega arith;
-    }
+in-order l P = orderly l P
 
 module _ (l : List ℕ) (P : Program l) where
   -- a program's macro passes the loading check, which reads from its bytes what was compiled
