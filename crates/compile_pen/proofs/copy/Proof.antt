@@ -1,0 +1,72 @@
+-- `compile_pen::copy` meets its contract: after i turns the output is `paste out at from i`. Assumes nothing.
+use native.Mathlib.Omega.{arith}
+use mathlib.Core.Path.{_≡_, refl, sym, ap, _∙_}
+use mathlib.Core.List.{List}
+use Prim.Native.Nat.{ℕ, _+_, _-_, _≤_}
+use lib.ListN.{length, set, getD}
+use lib.Seq.{paste, paste-zero, length-paste}
+use Rattle.compile_pen.specs.Ink.{pasted, paste-turn}
+use Rattle.compile_pen.proofs.copy.Statement.{statement}
+use Rattle.compile_pen.proofs.copy.Tie as tie
+use Rattle.compile_pen.proofs.copy.Reads as reads
+use Rattle.compile_pen.proofs.copy.Lts as lts
+
+abbrev Inv-loop : tie.InvT-loop
+Inv-loop from count out₀ at i₀ out i = (i ≤ count) × (out ≡ paste out₀ at from i)
+
+abbrev μ-loop : tie.MeasureT-loop
+μ-loop from count out₀ at i₀ out i = count - i
+
+loop-holds : tie.Need-loop-holds Inv-loop μ-loop
+loop-holds c = (omega arith, paste-zero (c .args .out .now) (c .args .at) (c .args .from .now))
+
+shared-slice-read-out : tie.Need-shared-slice-read-out Inv-loop μ-loop
+shared-slice-read-out c = omega arith
+
+add-out : tie.Need-add-out Inv-loop μ-loop
+add-out c = omega arith
+
+slice-write-out : tie.Need-slice-write-out Inv-loop μ-loop
+slice-write-out c =
+    let a = c .before .before .before .args in
+    let e : length (c .before .before .loop .out) ≡ length (a .out .now) = ap (length {A = ℕ}) (c .before .before .loop .inv .1) ∙ length-paste (a .out .now) (a .at) (a .from .now) (c .before .before .loop .i) (omega arith) (omega arith) in
+    omega (arith, e)
+
+add-i : tie.Need-add-i Inv-loop μ-loop
+add-i c = omega arith
+
+loop-less : tie.Need-loop-less Inv-loop μ-loop
+loop-less c = omega arith
+
+loop-again : tie.Need-loop-again Inv-loop μ-loop
+loop-again c =
+    let a = c .before .before .before .args in
+    let i = c .before .before .loop .i in
+    (omega arith, ap (λ (x : List ℕ). set x (a .at + i) (getD (a .from .now) i 0)) (c .before .before .loop .inv .1) ∙ paste-turn (a .out .now) (a .from .now) (a .at) i (omega arith) (omega arith))
+
+same-length : tie.Need-same-length Inv-loop μ-loop
+same-length c =
+    let a = c .before .before .args in
+    ap (length {A = ℕ}) (c .before .loop .inv .1) ∙ length-paste (a .out .now) (a .at) (a .from .now) (c .before .loop .i) (omega arith) (omega arith)
+
+returns : tie.Need-returns Inv-loop μ-loop
+returns c =
+    let a = c .before .before .args in
+    let e : c .before .loop .i ≡ a .count = omega arith in
+    c .before .loop .inv .1 ∙ (ap (λ (k : ℕ). paste (a .out .now) (a .at) (a .from .now) k) e ∙ pasted (a .out .now) (a .from .now) (a .at) (a .count) (omega arith) (omega arith))
+
+pub copy-spec : {M : Type 1} → statement M
+copy-spec =
+    tie.close
+    (tie.spec
+    Inv-loop
+    μ-loop
+    loop-holds
+    shared-slice-read-out
+    add-out
+    slice-write-out
+    add-i
+    loop-less
+    loop-again
+    same-length
+    returns)

@@ -1,0 +1,81 @@
+-- `compile_pen::put_shape` meets its contract: the stores are those of `sets` (`shape-written`). Assumes nothing.
+use native.Mathlib.Omega.{arith}
+use mathlib.Core.Path.{_≡_, ap, _∙_}
+use Prim.Native.Nat.{ℕ}
+use lib.ListN.{length, length-set, take}
+use lib.Seq.{length-sets}
+use Rattle.compile_pen.specs.Ink.{shape-written}
+use borrow.Author.Needs.{needs}
+use Rattle.compile_pen.proofs.put_shape.Statement.{statement}
+use Rattle.compile_pen.proofs.put_shape.Tie as tie
+use Rattle.compile_pen.proofs.put_shape.Reads as reads
+use Rattle.compile_pen.proofs.put_shape.Lts as lts
+use Rattle.compile_pen.proofs.copy.Reads as copy-reads
+use Rattle.words.proofs.put_half.Reads as put-half-reads
+
+slice-write-out : tie.Need-slice-write-out
+slice-write-out c = search needs
+
+add-out : tie.Need-add-out
+add-out c = search needs
+
+slice-write-out-2 : tie.Need-slice-write-out-2
+slice-write-out-2 c = simp length-set (omega arith)
+
+add-put-half : tie.Need-add-put-half
+add-put-half c = search needs
+
+put-half-requires : tie.Need-put-half-requires
+put-half-requires c κs = simp length-set (omega arith)
+
+add-out-2 : tie.Need-add-out-2
+add-out-2 c = search needs
+
+slice-write-out-3 : tie.Need-slice-write-out-3
+slice-write-out-3 c =
+    let l : length (c .before .before .put-half .last .0) ≡ length (c .before .before .before .before .before .before .args .out .now) = ap (length {A = ℕ}) (c .before .before .put-half .ensures) ∙ simp (length-sets, length-set) in
+    omega (arith, l)
+
+add-out-3 : tie.Need-add-out-3
+add-out-3 c = search needs
+
+slice-write-out-4 : tie.Need-slice-write-out-4
+slice-write-out-4 c =
+    let l : length (c .before .before .put-half .last .0) ≡ length (c .before .before .before .before .before .before .args .out .now) = ap (length {A = ℕ}) (c .before .before .put-half .ensures) ∙ simp (length-sets, length-set) in
+    simp length-set (omega (arith, l))
+
+add-copy : tie.Need-add-copy
+add-copy c = search needs
+
+copy-requires : tie.Need-copy-requires
+copy-requires c κs =
+    let l : length (c .before .before .before .put-half .last .0) ≡ length (c .before .before .before .before .before .before .before .args .out .now) = ap (length {A = ℕ}) (c .before .before .before .put-half .ensures) ∙ simp (length-sets, length-set) in
+    (omega arith, simp length-set (omega (arith, l)))
+
+same-length : tie.Need-same-length
+same-length c =
+    let l : length (c .before .before .before .before .before .before .put-half .last .0) ≡ length (c .before .before .before .before .before .before .before .before .before .before .args .out .now) = ap (length {A = ℕ}) (c .before .before .before .before .before .before .put-half .ensures) ∙ simp (length-sets, length-set) in
+    ap (length {A = ℕ}) (c .before .before .copy .ensures) ∙ simp (length-sets, length-set) l
+
+returns : tie.Need-returns
+returns c =
+    let a = c .before .before .before .before .before .before .before .before .before .before .args in
+    (rw (c .before .before .before .before .before .before .put-half .ensures) at (c .before .before .copy .ensures)) ∙ shape-written (a .out .now) (a .at) (a .address) (a .holds) (a .depth) (take (a .depth) (a .stack .now))
+
+pub put-shape-spec : {M : Type 1} → statement M
+put-shape-spec =
+    tie.close
+    (tie.spec
+    slice-write-out
+    add-out
+    slice-write-out-2
+    add-put-half
+    put-half-requires
+    add-out-2
+    slice-write-out-3
+    add-out-3
+    slice-write-out-4
+    add-copy
+    copy-requires
+    same-length
+    returns)
