@@ -24,6 +24,7 @@ pub mod machine;
 pub mod names;
 pub mod paper;
 pub mod plain_check;
+pub mod plain_compiler;
 pub mod plain_loader;
 pub mod plain_machine;
 mod plain_state;

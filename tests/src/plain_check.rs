@@ -9,16 +9,17 @@ type Refused = (u8, usize);
 
 /// 0 and 0, or the refusal's number and place.
 pub fn check(table: &[u8]) -> Refused {
-    if table.is_empty() || table.len() > MOST_BYTES || table.len() % 8 != 0 {
-        return (1, 0);
-    }
-    match judged(table) {
-        Ok(()) => (0, 0),
+    match accepted(table) {
+        Ok(_) => (0, 0),
         Err(refused) => refused,
     }
 }
 
-fn judged(table: &[u8]) -> Result<(), Refused> {
+/// The entries of each entry's tree, where the table is accepted.
+pub(crate) fn accepted(table: &[u8]) -> Result<Vec<u16>, Refused> {
+    if table.is_empty() || table.len() > MOST_BYTES || table.len() % 8 != 0 {
+        return Err((1, 0));
+    }
     let mut reader = Reader::new(table);
     if let Err(place) = reader.table() {
         return Err((2, place));
@@ -26,18 +27,18 @@ fn judged(table: &[u8]) -> Result<(), Refused> {
     Judge::new(table, &reader.size).root()?;
     match reader.over {
         Some(place) => Err((6, place)),
-        None => Ok(()),
+        None => Ok(reader.size),
     }
 }
 
 #[derive(Clone, Copy)]
-struct Entry {
-    kind: u16,
-    a: u16,
-    b: i32,
+pub(crate) struct Entry {
+    pub(crate) kind: u16,
+    pub(crate) a: u16,
+    pub(crate) b: i32,
 }
 
-fn entry(table: &[u8], at: usize) -> Entry {
+pub(crate) fn entry(table: &[u8], at: usize) -> Entry {
     let word = u64::from_le_bytes(table[8 * at..8 * at + 8].try_into().unwrap());
     Entry { kind: word as u16, a: (word >> 16) as u16, b: (word >> 32) as i32 }
 }
