@@ -2,12 +2,14 @@
 
 use std::cell::RefCell;
 
+use crate::answer::{refuse, Refusal};
 use crate::lent::Lent;
 use crate::table::MOST_BYTES;
 
 extern "C" {
     fn cue_load(code: *const u8, n: usize) -> u64;
     fn cue_check(table: *const u8, n: usize) -> u64;
+    fn cue_compile(table: *const u8, n: usize, out: *mut u8, room: usize) -> u64;
     fn cue_start(code: *const u8, n: usize, state: *mut u8, len: usize) -> u64;
     fn cue_run(code: *const u8, n: usize, state: *mut u8, len: usize, readings: *const u8, m: usize, allowance: u16) -> u64;
 }
@@ -29,6 +31,12 @@ pub fn check(table: &[u8]) -> u64 {
     unsafe { cue_check(table.as_ptr(), table.len()) }
 }
 
+/// The compiler's answer.
+pub fn compile(table: &[u8], out: &mut [u8]) -> u64 {
+    // SAFETY: the function reads table, writes out and touches nothing else, for any bytes and any lengths.
+    unsafe { cue_compile(table.as_ptr(), table.len(), out.as_mut_ptr(), out.len()) }
+}
+
 /// The answer of a start.
 pub fn start(code: &[u8], state: &mut [u8]) -> u64 {
     // SAFETY: the function reads code, writes state and touches nothing else, for any bytes and any lengths.
@@ -41,8 +49,12 @@ pub fn run(code: &[u8], state: &mut [u8], readings: &[u8], allowance: u16) -> u6
     unsafe { cue_run(code.as_ptr(), code.len(), state.as_mut_ptr(), state.len(), readings.as_ptr(), readings.len(), allowance) }
 }
 
+/// More than the longest macro of any table.
+pub const MOST_MACRO_BYTES: usize = 1 << 19;
+
 thread_local! {
     static TABLE: RefCell<Lent> = RefCell::new(Lent::new(2 * MOST_BYTES));
+    static MACRO: RefCell<Lent> = RefCell::new(Lent::new(MOST_MACRO_BYTES));
 }
 
 /// Number and place of the table check's verdict on bytes lent to it, (0, 0) where it accepts.
@@ -53,4 +65,27 @@ pub fn checked(table: &[u8]) -> (u8, usize) {
         [0, 0, number @ 1..=6, place] => (number as u8, place as usize),
         other => panic!("no answer of a table check: {other:?}, table {table:?}"),
     }
+}
+
+/// The macro of a table in so much room, both lent between closed pages, or the refusal. What is not the macro's must stay: all of the
+/// room at a refusal, else what is behind the macro.
+pub fn compiled(table: &[u8], room: usize) -> Result<Vec<u8>, Refusal> {
+    let noise: Vec<u8> = (0..room).map(|i| (i * 167 + 13) as u8).collect();
+    TABLE.with_borrow_mut(|lent_table| {
+        MACRO.with_borrow_mut(|lent_macro| {
+            let (answer, left) = lent_table.lend(table, |table| lent_macro.lend_to_write(&noise, |out| compile(table, out)));
+            match unpacked(answer) {
+                [1, 0, 0, length] if length as usize <= room => {
+                    let length = length as usize;
+                    assert!(left[length..] == noise[length..], "bytes behind the macro stay: table {table:?}");
+                    Ok(left[..length].to_vec())
+                }
+                [0, 0, number @ 1..=7, place] => {
+                    assert!(left == noise, "a refusal writes nothing: table {table:?}");
+                    refuse(number as u8, place as usize)
+                }
+                other => panic!("no answer of a compiler in {room} bytes: {other:?}, table {table:?}"),
+            }
+        })
+    })
 }
