@@ -200,7 +200,7 @@ impl Spread {
         for condition in 20..=27 {
             assert!(self.ends.get(&condition).is_some_and(|n| *n > count / 2_000), "condition {condition}: {self:?}");
         }
-        assert!(self.open > count / 100 && self.open < count / 2, "{self:?}");
+        assert!(self.open > count / 200 && self.open < count / 2, "{self:?}");
         assert!(self.largest > 1_500 && self.longest > 1_500, "{self:?}");
         assert!(self.events > 4 * count && self.readings > count / 2 && self.banks > count / 100, "{self:?}");
     }

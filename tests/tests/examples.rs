@@ -1,0 +1,172 @@
+//! The macros of examples/: the table is what its commented text stands for, and the listing beside it is what the tree does, what the
+//! machine does with two compilers' code and, where it is linked, what the proved library does.
+
+use std::collections::BTreeSet;
+use std::path::{Path, PathBuf};
+
+use cue_tools::entries::{to_table, to_text};
+use second::answer::{Answer, Event, Item};
+use second::code::{judge_macro, write_macro, Macro};
+use second::compile::compile;
+use second::execute::{budget, execute};
+use second::machine::{fresh, run};
+use second::paper::{judged, table, LISTING_EXAMPLE};
+use second::table::Tree;
+use second::{deep, judge_table, plain_compiler};
+
+/// "or `open 0` after 65,535 steps"
+const LISTED_STEPS: u64 = 65_535;
+/// "It lends 65,536 bytes for the macro"
+const LISTED_ROOM: usize = 65_536;
+
+fn folder() -> PathBuf {
+    Path::new(env!("CARGO_MANIFEST_DIR")).join("../examples")
+}
+
+/// The names of the examples: each has a text, a table and a listing, and there is nothing else.
+fn names() -> BTreeSet<String> {
+    let mut names = BTreeSet::new();
+    for file in std::fs::read_dir(folder()).expect("examples/ is there") {
+        let path = file.unwrap().path();
+        let part = |part: Option<&std::ffi::OsStr>| part.unwrap_or_default().to_str().unwrap().to_string();
+        let (name, sort) = (part(path.file_stem()), part(path.extension()));
+        assert!(["entries", "table", "listing"].contains(&sort.as_str()), "{path:?} is no part of an example");
+        names.insert(name);
+    }
+    names
+}
+
+fn bytes_of(name: &str, sort: &str) -> Vec<u8> {
+    let path = folder().join(format!("{name}.{sort}"));
+    std::fs::read(&path).unwrap_or_else(|error| panic!("{path:?}: {error}"))
+}
+
+fn text_of(name: &str, sort: &str) -> String {
+    String::from_utf8(bytes_of(name, sort)).expect("a text")
+}
+
+// Listings.
+
+fn event_line(event: &Event) -> String {
+    match event {
+        Event::Set { channel, level } => format!("set {channel} {level}\n"),
+        Event::Hold { group } => format!("hold {group}\n"),
+        Event::Release { group } => format!("release {group}\n"),
+    }
+}
+
+/// The listing of a macro, by whatever answers a run with an allowance.
+fn listing(mut run: impl FnMut(u16) -> Answer) -> String {
+    let mut lines = String::new();
+    let mut left = LISTED_STEPS;
+    while left > 0 {
+        let answer = run(left as u16);
+        left -= answer.numbers()[1];
+        match answer {
+            Answer::Event { event, .. } => lines.push_str(&event_line(&event)),
+            Answer::End { code, .. } => return lines + &format!("end {code}\n"),
+            Answer::AllowanceUsed { .. } => assert_eq!(left, 0),
+            Answer::Refusal(refusal) => panic!("{refusal:?}"),
+        }
+    }
+    lines + "open 0\n"
+}
+
+fn machine_listing(m: &Macro) -> String {
+    let mut state = fresh(m);
+    listing(|allowance| run(m, &mut state, &[0; 64], allowance).expect("a passed macro is never stuck"))
+}
+
+/// The events of the tree, more than any machine can answer in the steps of a listing, and the end.
+fn tree_events(tree: &Tree) -> (Vec<String>, Option<u8>) {
+    let x = execute(tree, &mut |_, _| 0, budget(LISTED_STEPS + 2));
+    let line = |item: &Item| match item {
+        Item::Event(event) => Some(event_line(event)),
+        Item::Reading { .. } => None,
+    };
+    (x.items.iter().filter_map(line).collect(), x.end)
+}
+
+#[test]
+fn there_are_eight_examples() {
+    assert_eq!(names().len(), 8, "{:?}", names());
+}
+
+/// Text to table and back: the table is that of the text, and its text without comments gives it again.
+#[test]
+fn texts_and_tables_are_the_same() {
+    for name in names() {
+        let bytes = bytes_of(&name, "table");
+        assert_eq!(to_table(&text_of(&name, "entries")).unwrap(), bytes, "{name}: make the table anew, tools/: entries < {name}.entries > {name}.table");
+        assert_eq!(to_table(&to_text(&bytes).unwrap()).unwrap(), bytes, "{name}");
+    }
+    assert_eq!(bytes_of("listing", "table"), table(LISTING_EXAMPLE));
+}
+
+/// Texts that people read: no line is too long, every line is an entry, a comment or empty, and operands stand further in than their entry by a step.
+#[test]
+fn texts_are_laid_out_as_their_tree() {
+    for name in names() {
+        let text = text_of(&name, "entries");
+        let entries = second::table::entries_of(&bytes_of(&name, "table"));
+        // How many entries are still to come at each depth.
+        let mut left = vec![1];
+        let mut next = 0;
+        for line in text.lines() {
+            assert!(line.len() <= 120 && line.is_ascii(), "{name}: {line}");
+            let entry = line.split('#').next().unwrap();
+            if entry.trim().is_empty() {
+                continue;
+            }
+            while left.last() == Some(&0) {
+                left.pop();
+            }
+            let depth = left.len() - 1;
+            assert_eq!(entry.len() - entry.trim_start().len(), 2 * depth, "{name}: {line}");
+            *left.last_mut().unwrap() -= 1;
+            left.push(second::gen::operand_count(entries[next]));
+            next += 1;
+        }
+        assert_eq!(next, entries.len());
+    }
+}
+
+#[test]
+fn listings() {
+    deep(|| {
+        for name in names() {
+            let bytes = bytes_of(&name, "table");
+            let wanted = text_of(&name, "listing");
+            assert_eq!(judged(&bytes), (0, 0), "{name}");
+            let tree = judge_table(&bytes).unwrap();
+            // two compilers, two codes
+            let mut code = vec![0; LISTED_ROOM];
+            let length = plain_compiler::compile(&bytes, &mut code).unwrap();
+            for code in [&code[..length], &write_macro(&compile(&tree))] {
+                assert_eq!(machine_listing(&judge_macro(code).unwrap().code), wanted, "{name}");
+            }
+            // the tree
+            let (events, end) = tree_events(&tree);
+            match end {
+                Some(end) => assert_eq!(events.concat() + &format!("end {end}\n"), wanted, "{name}"),
+                None => {
+                    let open = wanted.strip_suffix("open 0\n").expect("the tree does not end");
+                    assert!(events.concat().starts_with(open), "{name}");
+                }
+            }
+        }
+    });
+}
+
+/// The same through the C interface.
+#[cfg(desk)]
+#[test]
+fn listings_of_the_library() {
+    use second::abreast::{run, started};
+    use second::desk::compiled;
+    for name in names() {
+        let code = compiled(&bytes_of(&name, "table"), LISTED_ROOM).unwrap();
+        let mut state = started(&code);
+        assert_eq!(listing(|allowance| run(&code, &mut state, &[0; 64], allowance)), text_of(&name, "listing"), "{name}");
+    }
+}
