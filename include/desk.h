@@ -8,7 +8,7 @@
  *
  *   tag                 first                       second
  *   0 refusal           its number                  its place
- *   1 done              0                           0
+ *   1 done              0                           the macro's length, of a compile; else 0
  *   2 allowance used    0                           0
  *   3 end               0, or the condition         0
  *   4 set               the channel, 1 to 512       the level, 0 to 255
@@ -44,9 +44,10 @@ enum cue_tag {
     CUE_RELEASE = 6
 };
 
-/* The length of a run state and of a bank of readings, in bytes. */
+/* The length of a run state and of a bank of readings, and the most that a table has, in bytes. */
 #define CUE_STATE_BYTES 24576
 #define CUE_READINGS 64
+#define CUE_TABLE_BYTES 16384
 
 /* The table check: done, or a refusal by the first that holds of these, with its place (entries count from 0):
  *
@@ -62,6 +63,11 @@ enum cue_tag {
  * Stack: under 110,000 bytes: some 70,000 at every call, whatever the table's size, and about 610 for each level of nesting (measured with an if in an if,
  * 64 deep, the most of all that was tried). */
 uint64_t cue_check(const uint8_t *table, size_t n);
+
+/* The compiler: the table check's refusal, whatever `out` is; or 7 (place 0) where the macro is longer than m bytes; or done, with the macro's length
+ * as `second`: then the macro is the first so many bytes of `out`, and those behind it are as they were. A macro that was compiled passes the
+ * loading check. The work is linear in the table's entries but for looking names up, as the check's. Stack: under TO BE MEASURED bytes. */
+uint64_t cue_compile(const uint8_t *table, size_t n, uint8_t *out, size_t m);
 
 /* The loading check: refusal 8 (place: the first record that does not read) or 9 (place: the lowest address at fault), or done.
  * Stack: under 265,000 bytes, at every call and whatever the macro's size, since the compiler gives the indexes of all sizes one frame. */

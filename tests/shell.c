@@ -1,12 +1,15 @@
-/* A desk's shell in small, over include/desk.h: loads the macro on standard input, starts it, runs it a few steps at a time and prints
- * each event and the end as paper 01's listing does. Before the first run it lends a bank of 63 readings, to see it refused. */
+/* A desk's shell in small, over include/desk.h: takes the table on standard input through check, compile, start and run, a few steps at a
+ * time, and prints each event and the end as paper 01's listing does. Called as `shell macro` it loads a compiled macro instead. Before the
+ * first run it lends a bank of 63 readings, to see it refused. */
 #include <stdio.h>
+#include <string.h>
 
 #include "desk.h"
 
-enum { SLICE = 3, MOST_STEPS = 65535 };
+enum { SLICE = 3, MOST_STEPS = 65535, MACRO_BYTES = 65536 };
 
-static uint8_t code[65536];
+static uint8_t table[CUE_TABLE_BYTES + 1]; /* one byte more, so that a longer table is seen to be one */
+static uint8_t code[MACRO_BYTES];
 static uint8_t state[CUE_STATE_BYTES];
 static uint8_t readings[CUE_READINGS];
 
@@ -36,13 +39,30 @@ static int shown(uint64_t answer)
     }
 }
 
-int main(void)
+/* The length of the macro that is then in `code`, 0 where there is none. */
+static size_t macro(int compiled)
 {
-    size_t n = fread(code, 1, sizeof code, stdin);
+    uint64_t answer;
+    size_t n;
+
+    if (compiled) {
+        n = fread(code, 1, sizeof code, stdin);
+        return shown(cue_load(code, n)) ? n : 0;
+    }
+    n = fread(table, 1, sizeof table, stdin);
+    if (!shown(cue_check(table, n)))
+        return 0;
+    answer = cue_compile(table, n, code, sizeof code);
+    return shown(answer) ? CUE_SECOND(answer) : 0;
+}
+
+int main(int count, char **arguments)
+{
+    size_t n = macro(count == 2 && strcmp(arguments[1], "macro") == 0);
     unsigned long steps = 0;
     uint64_t answer;
 
-    if (!shown(cue_load(code, n)) || !shown(cue_start(code, n, state, sizeof state)))
+    if (n == 0 || !shown(cue_start(code, n, state, sizeof state)))
         return 1;
     shown(cue_run(code, n, state, sizeof state, readings, sizeof readings - 1, SLICE));
     while (steps < MOST_STEPS) {
