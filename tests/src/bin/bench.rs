@@ -6,6 +6,8 @@
 fn main() {
     load::table();
     check::table();
+    compile::table();
+    compile::to_first_event();
     runs::steps();
     runs::fixed();
 }
@@ -107,8 +109,13 @@ mod check {
     use second::{desk, plain_check};
 
     /// Counting, testing, a call and a held block, over and over, filled up by empty blocks to so many entries.
-    fn counting(count: usize) -> Vec<u8> {
-        let mut list = entries("1 3 0, 10 1 1, 10 2 1, 12 3 256, 10 4 1, 28 0 0, 40 0 1, 44 4 0");
+    pub fn counting(count: usize) -> Vec<u8> {
+        filled("1 3 0, 10 1 1, 10 2 1, 12 3 256, 10 4 1, 28 0 0, 40 0 1, 44 4 0", count)
+    }
+
+    /// The same behind these entries: a root, its declarations and its first statements.
+    pub fn filled(first: &str, count: usize) -> Vec<u8> {
+        let mut list = entries(first);
         let statements = [
             entries("21 0 0, 44 1 0, 49 1 0, 44 1 0, 40 0 1"),
             entries("22 0 0, 49 6 0, 44 1 0, 40 0 100, 28 0 0, 40 0 1, 44 2 0"),
@@ -128,7 +135,7 @@ mod check {
     }
 
     /// Programs as the tests make them, of about so many entries.
-    fn generated(count: usize) -> Vec<Vec<u8>> {
+    pub fn generated(count: usize) -> Vec<Vec<u8>> {
         let mut rng = Rng::new(count as u64);
         let plan = Plan { entries: count, wild: false, forever: 0, provoke: None };
         let mut made = || write_tree(&program(&mut rng, plan));
@@ -157,6 +164,93 @@ mod check {
         }
         for (what, table, _) in worst_tables() {
             row(what, &[table]);
+        }
+    }
+}
+
+#[cfg(desk)]
+mod compile {
+    use super::check::{counting, filled, generated};
+    use super::in_turn;
+    use second::desk::{self, MOST_MACRO_BYTES};
+    use second::plain_compiler;
+    use second::plain_machine::{self, IN_BYTES};
+    use second::state::LENGTH;
+    use second::worst::worst_tables;
+
+    /// The length of the macro in `out`, by the proved compiler and by the plain one.
+    fn proved(table: &[u8], out: &mut [u8]) -> usize {
+        let [tag, _, _, length] = desk::unpacked(desk::compile(table, out));
+        assert_eq!(tag, 1);
+        length as usize
+    }
+
+    fn plain(table: &[u8], out: &mut [u8]) -> usize {
+        plain_compiler::compile(table, out).expect("the table is accepted")
+    }
+
+    /// Both write the same bytes. The output is not cleared between calls.
+    fn row(what: &str, tables: &[Vec<u8>]) {
+        let count: usize = tables.iter().map(|t| t.len() / 8).sum();
+        let (mut one, mut other) = (vec![0; MOST_MACRO_BYTES], vec![0; MOST_MACRO_BYTES]);
+        let mut bytes = 0;
+        for t in tables {
+            let (length, same) = (proved(t, &mut one), plain(t, &mut other));
+            assert!(one[..length] == other[..same]);
+            bytes += length;
+        }
+        let mut by_proved = || tables.iter().map(|t| proved(t, &mut one) as u64).sum();
+        let mut by_plain = || tables.iter().map(|t| plain(t, &mut other) as u64).sum();
+        let mut check = || tables.iter().map(|t| desk::check(t)).sum();
+        let times = in_turn([&mut by_proved, &mut by_plain, &mut check]);
+        let [proved, plain, check] = times.map(|time| time / count as f64);
+        print!("{what:>20} {:>8} {:>8} {proved:>12.2} {plain:>10.2} {:>7.2}", count / tables.len(), bytes / tables.len(), proved / plain);
+        println!(" {check:>10.2} {:>7.2}", proved / check);
+    }
+
+    pub fn table() {
+        println!("compiler: ns per entry, the check inside it, one run, same bytes; and beside the check alone");
+        print!("{:>20} {:>8} {:>8} {:>12} {:>10} {:>7}", "table", "entries", "macro", "cue_compile", "plain", "ratio");
+        println!(" {:>10} {:>7}", "cue_check", "ratio");
+        for count in [10, 200, 2_048] {
+            row("counting", &[counting(count)]);
+        }
+        for count in [10, 200, 2_000] {
+            row("generated", &generated(count));
+        }
+        for (what, table, number) in worst_tables() {
+            if number == 0 {
+                row(what, &[table]);
+            }
+        }
+    }
+
+    /// The whole way: compile, start, and a run that gives the event of the first statement.
+    pub fn to_first_event() {
+        println!("from a table to its first event (compile, start, run): ns in all and per entry, one run, same bytes");
+        println!("{:>20} {:>12} {:>10} {:>7} {:>10} {:>10}", "entries", "proved", "plain", "ratio", "per entry", "plain");
+        for count in [10, 200, 2_048] {
+            let table = filled("1 3 1, 10 1 1, 10 2 1, 12 3 256, 10 4 1, 1 0 0, 28 0 0, 40 0 1, 40 0 255", count);
+            let mut one = (vec![0; MOST_MACRO_BYTES], vec![0; LENGTH]);
+            let mut other = one.clone();
+            let mut by_proved = || {
+                let (code, state) = (&mut one.0, &mut one.1);
+                let length = proved(&table, code);
+                desk::start(&code[..length], state);
+                desk::run(&code[..length], state, &[0; 64], 100)
+            };
+            let mut by_plain = || {
+                let (code, state) = (&mut other.0, &mut other.1);
+                let length = plain(&table, code);
+                plain_machine::start(&code[..length], state);
+                plain_machine::run::<IN_BYTES>(&code[..length], state, &[0; 64], 100)
+            };
+            // set 1 255
+            let first = |answer: u64| desk::unpacked(answer)[0] == 4 && desk::unpacked(answer)[2..] == [1, 255];
+            assert!(first(by_proved()) && first(by_plain()));
+            let [proved, plain] = in_turn([&mut by_proved, &mut by_plain]);
+            let each = |time: f64| time / count as f64;
+            println!("{count:>20} {proved:>12.0} {plain:>10.0} {:>7.2} {:>10.2} {:>10.2}", proved / plain, each(proved), each(plain));
         }
     }
 }
