@@ -1,5 +1,5 @@
 //! Prints cases for the prover: `cases SORT SEED COUNT`, SORT one of tables, executions,
-//! macros, runs, states. Each case is one line ending in ` ∷`; the last line is `[]`.
+//! compiled, macros, runs, states. Each case is one line ending in ` ∷`; the last line is `[]`.
 
 use second::answer::{Event, Item};
 use second::code::{judge_macro, write_macro, Loaded};
@@ -17,7 +17,7 @@ use second::table::{bytes_of, write_tree, Tree};
 
 fn main() {
     let arguments: Vec<String> = std::env::args().collect();
-    let usage = "usage: cases tables|executions|macros|runs|states SEED COUNT";
+    let usage = "usage: cases tables|executions|compiled|macros|runs|states SEED COUNT";
     if arguments.len() != 4 {
         eprintln!("{usage}");
         std::process::exit(2);
@@ -30,12 +30,14 @@ fn main() {
 }
 
 fn print_cases(sort: &str, seed: u64, count: usize) {
-    let mut rng = Rng::new(seed);
+    // What is compiled are other programs than those that are executed.
+    let stream = if sort == "compiled" { 1_000_000 } else { 0 };
+    let mut rng = Rng::new(seed + stream);
     for i in 0..count {
         let line = match sort {
             "tables" => table_case(&mut rng, i),
             "macros" => macro_case(&mut rng, i),
-            "executions" => execution_case(&mut rng, i),
+            "executions" | "compiled" => execution_case(&mut rng, i),
             "runs" => run_case(&mut rng, i),
             "states" => state_case(&mut rng, i),
             _ => {
