@@ -49,8 +49,8 @@ pub fn run(code: &[u8], state: &mut [u8], readings: &[u8], allowance: u16) -> u6
     unsafe { cue_run(code.as_ptr(), code.len(), state.as_mut_ptr(), state.len(), readings.as_ptr(), readings.len(), allowance) }
 }
 
-/// More than the longest macro of any table.
-pub const MOST_MACRO_BYTES: usize = 1 << 19;
+/// More than the longest macro of any table: 45,120 instructions (L12), a shape at each with 32 types, and the heads.
+pub const MOST_MACRO_BYTES: usize = 1 << 21;
 
 thread_local! {
     static TABLE: RefCell<Lent> = RefCell::new(Lent::new(2 * MOST_BYTES));

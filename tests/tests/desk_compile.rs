@@ -2,12 +2,13 @@
 //! second evaluator's execution of their tree does; the bytes are those of the plain compiler; refused tables, and every room.
 #![cfg(desk)]
 
+use std::cell::RefCell;
 use std::collections::BTreeMap;
 
 use second::abreast::run_along;
 use second::answer::{Answer, Event, Item, Refusal};
 use second::blind::{blind_table, loose_table};
-use second::code::{judge_macro, Loaded, Macro};
+use second::code::{judge_macro, Macro};
 use second::damage::reshaped_table;
 use second::desk::{self, compiled, MOST_MACRO_BYTES};
 use second::edges::{deciding_table, edge_table};
@@ -24,24 +25,28 @@ use second::{cases, deep, judge_table, plain_compiler};
 
 // Compiling.
 
+thread_local! {
+    static OUT: RefCell<Vec<u8>> = RefCell::new(vec![0; MOST_MACRO_BYTES]);
+}
+
 /// The bytes of the plain compiler, or its refusal.
 fn plainly(table: &[u8]) -> Result<Vec<u8>, (u8, usize)> {
-    let mut out = vec![0; MOST_MACRO_BYTES];
-    let length = plain_compiler::compile(table, &mut out)?;
-    out.truncate(length);
-    Ok(out)
+    OUT.with_borrow_mut(|out| {
+        let length = plain_compiler::compile(table, out)?;
+        Ok(out[..length].to_vec())
+    })
 }
 
 /// The macro of an accepted table: the bytes of the plain compiler, in exactly their room; it passes the loading check, and the addresses
 /// of its shapes rise.
-fn macro_of(table: &[u8]) -> Loaded {
+fn macro_of(table: &[u8]) -> (Vec<u8>, Macro) {
     let wanted = plainly(table).expect("the table is accepted");
     let code = compiled(table, wanted.len()).expect("there is room");
     assert!(code == wanted, "other bytes than the plain compiler's: table {table:?}");
     assert_eq!(desk::unpacked(desk::load(&code)), [1, 0, 0, 0], "no compiled macro is refused: table {table:?}");
-    let loaded = judge_macro(&code).expect("no compiled macro is refused");
-    assert!(loaded.code.shapes.windows(2).all(|pair| pair[0].address < pair[1].address), "shapes rise: table {table:?}");
-    loaded
+    let m = judge_macro(&code).expect("no compiled macro is refused").code;
+    assert!(m.shapes.windows(2).all(|pair| pair[0].address < pair[1].address), "shapes rise: table {table:?}");
+    (code, m)
 }
 
 // Runs.
@@ -236,8 +241,7 @@ fn programs_do_what_their_tree_does() {
             };
             assert_eq!(desk::checked(&bytes), (0, 0));
             let tree = judge_table(&bytes).unwrap();
-            let m = macro_of(&bytes).code;
-            let code = plainly(&bytes).unwrap();
+            let (code, m) = macro_of(&bytes);
             let most = if rng.chance(5) { 2_000 } else { 80 };
             let runs = some_runs(&mut rng, &m, &code, most);
             as_the_tree(&tree, &runs);
@@ -355,9 +359,8 @@ fn worst_tables_as_the_check() {
 /// What runs of a program in the papers' notation answer, and how they end.
 fn events_of(text: &str) -> (Vec<Event>, Option<u8>) {
     let bytes = table(text);
-    let loaded = macro_of(&bytes);
-    let code = plainly(&bytes).unwrap();
-    let runs = some_runs(&mut Rng::new(43), &loaded.code, &code, 2_000);
+    let (code, m) = macro_of(&bytes);
+    let runs = some_runs(&mut Rng::new(43), &m, &code, 2_000);
     as_the_tree(&judge_table(&bytes).unwrap(), &runs);
     (runs.events, runs.end)
 }
@@ -411,15 +414,36 @@ fn a_condition_releases_the_callers_holds() {
 
 /// The most instructions that are known of a table (L12): a goto out of 16 holds as every arm of a case, 22 for each.
 #[test]
-fn the_longest_macro() {
+fn the_most_instructions() {
     deep(|| {
         let arms = 2_048 - 21;
-        let text = format!("1 0 2, 1 16 1 {}, 30 {arms} 0, 40 0 {arms} {}, 20 5 0", ", 14 7 0".repeat(16), ", 25 5 0".repeat(arms));
+        let text = format!("1 0 2, {}, 20 5 0", gotos_out_of_holds(arms));
         let bytes = table(&text);
         assert_eq!(bytes.len(), 16_384);
-        let m = macro_of(&bytes).code;
+        let (_, m) = macro_of(&bytes);
         assert_eq!(m.code.len(), 22 * arms + 35 + 1);
         let (events, end) = events_of(&text);
         assert_eq!((events.len(), end), (32, Some(0)));
     });
+}
+
+/// The same in a block expression while 30 values wait, so that the shapes are long: the longest macro that is known.
+#[test]
+fn the_longest_macro() {
+    deep(|| {
+        let arms = 2_048 - 83;
+        let waiting = "49 1 0, 40 0 1, ".repeat(29);
+        let text = format!("1 0 1, 28 0 0, 40 0 1, {waiting} 53 0 2, {}, 20 5 0, 40 0 1", gotos_out_of_holds(arms));
+        let bytes = table(&text);
+        assert_eq!(bytes.len(), 16_384);
+        // docs/REFERENCE.md has this number
+        assert_eq!(macro_of(&bytes).0.len(), 488_186);
+        let (events, end) = events_of(&text);
+        assert_eq!((events.len(), events.last(), end), (33, Some(&set(1, 30)), Some(0)));
+    });
+}
+
+/// A block with 16 holds, and in it a case that takes the last of its arms; each is a goto to label 5.
+fn gotos_out_of_holds(arms: usize) -> String {
+    format!("1 16 1 {}, 30 {arms} 0, 40 0 {arms} {}", ", 14 7 0".repeat(16), ", 25 5 0".repeat(arms))
 }
