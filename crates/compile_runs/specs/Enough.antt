@@ -166,17 +166,23 @@ module _ (m : Macro) (w : Passed m) where
     where
       r : Ran
       r = run m (f .readings) (f .allowance) s
+
       bank : ℕ → ℕ
       bank = bankOf (f .readings)
+
       Or : Type 0
       Or = (length fs ≤ totalSteps (runs m fs (r .state))) ⊎ ((c : ℕ) × (stateAfter (r .state) (runs m fs (r .state)) ≡ ended c))
+
       Sum : Type 0
       Sum = (length (f ∷ fs) ≤ stepsOf (r .answer) + totalSteps (runs m fs (r .state))) ⊎ ((c : ℕ) × (stateAfter (r .state) (runs m fs (r .state)) ≡ ended c))
+
       on : 1 ≤ stepsOf (r .answer) → Or → Sum
       on z (inl y) = inl (omega arith)
       on z (inr y) = inr y
+
       stepping : Going s → 1 ≤ stepsOf (r .answer)
       stepping g = subst (λ (x : Ran). 1 ≤ stepsOf (x .answer)) (sym (as-steps f s (p .0 .0) g)) (takes-one bank (λ n. b .0 (n - 1)) (f .allowance) s h (p .0 .1))
+
       by : (t : Machine) → s ≡ t → Or → Sum
       by (ended c) e o = inr (c, subst (λ (t : Machine). stateAfter t (runs m fs t) ≡ ended c) (sym (ap (λ x. run m (f .readings) (f .allowance) x .state) e ∙ still-ended c f)) (stays-ended c fs))
       by (running rs x ys) e o = on (stepping (subst Going (sym e) tt)) o

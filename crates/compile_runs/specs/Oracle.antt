@@ -82,10 +82,12 @@ quiet-fader a b h q = pick (h .top .operands) q
   where
     F : (ℕ → ℕ) → Value → List Value → Stepped
     F bank v vs = onInteger v (λ x. if between 1 64 x then goesOn (reading (size x) (bank (size x)) ∷ []) (int (pos (bank (size x))) ∷ vs) h else condition outOfRange h)
+
     far : (x y : Bool) (s u w z : Stepped) → (Quiet s → ⊥) → Quiet (if x then (if y then s else u) else w) → (if x then (if y then z else u) else w) ≡ (if x then (if y then s else u) else w)
     far true true s u w z n q = absurd (n q)
     far true false s u w z n q = refl
     far false y s u w z n q = refl
+
     pick : (vs : List Value) → Quiet (pop vs (F b)) → pop vs (F a) ≡ pop vs (F b)
     pick [] q = refl
     pick (int x ∷ us) q = far (between 1 64 x) (leb (suc (length us)) maxOperands) _ (stuck badFrame) (condition outOfRange h) _ (λ z. z) q
@@ -122,11 +124,13 @@ module _ (a b : ℕ → ℕ) (same : (n : ℕ) → 1 ≤ n → n ≤ 64 → a n 
     where
       F : (ℕ → ℕ) → Value → List Value → Stepped
       F bank v vs = onInteger v (λ x. if between 1 64 x then goesOn (reading (size x) (bank (size x)) ∷ []) (int (pos (bank (size x))) ∷ vs) h else condition outOfRange h)
+
       on-x : (x : ℤ) (vs : List Value) (t : Bool) → between 1 64 x ≡ t
           → (if t then goesOn (reading (size x) (a (size x)) ∷ []) (int (pos (a (size x))) ∷ vs) h else condition outOfRange h)
           ≡ (if t then goesOn (reading (size x) (b (size x)) ∷ []) (int (pos (b (size x))) ∷ vs) h else condition outOfRange h)
       on-x x vs true e = let r = size-between 1 64 x e in ap (λ (n : ℕ). goesOn (reading (size x) n ∷ []) (int (pos n) ∷ vs) h) (same (size x) (r .0) (r .1))
       on-x x vs false e = refl
+
       pick : (vs : List Value) → pop vs (F a) ≡ pop vs (F b)
       pick [] = refl
       pick (int x ∷ us) = on-x x us (between 1 64 x) refl
@@ -161,6 +165,7 @@ module _ (a b : ℕ → ℕ) (same : (n : ℕ) → 1 ≤ n → n ≤ 64 → a n 
     where
       h : Here
       h = record { records = rs; top = f; below = fs }
+
       pick : (o : Option Instr) → given o noStep (λ i. act m a i h) ≡ given o noStep (λ i. act m b i h)
       pick none = refl
       pick (some i) = agree-act m i h
@@ -220,14 +225,16 @@ module _ (W : Setting) (w : Passed (W .macro)) where
     steps-as (suc left) n s tr k h a =
         let q = step-safe m w bank low s h in
         subst (λ x. Gives n s tr k (afterStep x s (suc n) (λ t. steps m bank left (suc n) t)) (takesBy x (λ t. takes m bank left t))) (sym (q .2))
-          (go (q .0) (q .1) (q .3) (λ e. ap (λ x. stepped x tr k) (same s k (q .0) (q .1) (λ t. takes m bank left t) (q .2) e)) (subst (λ x. Ask k (takesBy x (λ t. takes m bank left t))) (q .2) a)
-            (λ tr' k' u. steps-as left (suc n) (q .1) tr' k' (q .3 .still-sound) u))
+        (go (q .0) (q .1) (q .3) (λ e. ap (λ x. stepped x tr k) (same s k (q .0) (q .1) (λ t. takes m bank left t) (q .2) e)) (subst (λ x. Ask k (takesBy x (λ t. takes m bank left t))) (q .2) a)
+        (λ tr' k' u. steps-as left (suc n) (q .1) tr' k' (q .3 .still-sound) u))
       where
         on : (is : List Item) (t : Machine) → told (is ++ tr) ≡ told tr ++ [] → (c : ℕ) → (c' : ℕ) → counted is k + c ≡ k + c' → goConf W (live s tr k) ≡ live t (is ++ tr) (counted is k)
             → Gives (suc n) t (is ++ tr) (counted is k) (steps m bank left (suc n) t) c → Gives n s tr k (steps m bank left (suc n) t) c'
         on is t x c c' z e (d, y, g) = (suc d, omega arith, then-on s t (steps m bank left (suc n) t .state) tr is k d c [] (eventOf (steps m bank left (suc n) t .answer)) e x g c' z)
+
         over : (is : List Item) (c c' : ℕ) → told (is ++ tr) ≡ told tr ++ [] → counted is k + 0 ≡ k + c' → goConf W (live s tr k) ≡ live (ended c) (is ++ tr) (counted is k) → Gives n s tr k (record { answer = finishes c (suc n); state = ended c }) c'
         over is c c' x z e = (1, omega arith, then-on s (ended c) (ended c) tr is k 0 0 [] [] e x (stay (ended c) (is ++ tr) (counted is k)) c' z)
+
         go : (is : List Item) (t : Machine) → Moves m s is t → (Ask k (takesBy (moved is t) (λ t. takes m bank left t)) → goConf W (live s tr k) ≡ live t (is ++ tr) (counted is k)) → Ask k (takesBy (moved is t) (λ t. takes m bank left t))
             → ((tr' : List Item) (k' : ℕ) → Ask k' (takes m bank left t) → Gives (suc n) t tr' k' (steps m bank left (suc n) t) (takes m bank left t))
             → Gives n s tr k (afterStep (moved is t) s (suc n) (λ t. steps m bank left (suc n) t)) (takesBy (moved is t) (λ t. takes m bank left t))
@@ -250,14 +257,16 @@ module _ (W : Setting) (w : Passed (W .macro)) where
     where
       bank : ℕ → ℕ
       bank = bankOf (f .readings)
+
       by : (s : Machine) → sound m s ≡ true → ((j : ℕ) → j < unlessEnded s (takes m (bankOf (f .readings)) (f .allowance) s) → Reads (W .oracle) (k + j) (f .readings))
           → let r = endsRun s 0 (λ t. steps m (bankOf (f .readings)) (f .allowance) 0 t) in (d : ℕ) × (d ≡ stepsOf (r .answer)) × Comes s tr k d (r .state) (eventOf (r .answer)) (unlessEnded s (takes m (bankOf (f .readings)) (f .allowance) s))
       by (ended c) h a = (0, refl, stay (ended c) tr k)
       by (running rs x fs) h a = let q = steps-as (bankOf (f .readings)) (λ n. b (n - 1)) (f .allowance) 0 (running rs x fs) tr k h a in (q .0, (let z = q .1 in omega arith), q .2)
       by (unwinding gs x) h a = let q = steps-as (bankOf (f .readings)) (λ n. b (n - 1)) (f .allowance) 0 (unwinding gs x) tr k h a in (q .0, (let z = q .1 in omega arith), q .2)
+
       go : (t : Bool) → ((j : ℕ) → j < (if t then unlessEnded s (takes m (bankOf (f .readings)) (f .allowance) s) else 0) → Reads (W .oracle) (k + j) (f .readings))
           → let r = if t then endsRun s 0 (λ t. steps m (bankOf (f .readings)) (f .allowance) 0 t) else record { answer = refuses (refusal 11 0); state = s } in
-            (d : ℕ) × (d ≡ stepsOf (r .answer)) × Comes s tr k d (r .state) (eventOf (r .answer)) (if t then unlessEnded s (takes m (bankOf (f .readings)) (f .allowance) s) else 0)
+          (d : ℕ) × (d ≡ stepsOf (r .answer)) × Comes s tr k d (r .state) (eventOf (r .answer)) (if t then unlessEnded s (takes m (bankOf (f .readings)) (f .allowance) s) else 0)
       go true a = by s h a
       go false a = (0, refl, stay s tr k)
 
@@ -274,8 +283,9 @@ module _ (W : Setting) (w : Passed (W .macro)) where
   runs-as (f ∷ fs) b s tr k h a =
       let r = run m (f .readings) (f .allowance) s in let c = takesIn m f s in
       let q = run-as f (b .0) s tr k h (a .0) in
-      let g = runs-as fs (b .1) (r .state) (q .2 .0) (k + c) (run-safe m w f (b .0) s h .still-sound) (a .1) in
-      (g .0, g .1,
+      let g = runs-as fs (b .1) (r .state) (q .2 .0) (k + c) (run-safe m w f (b .0) s h .still-sound) (a .1) in (
+        g .0,
+        g .1,
         ap (λ n. runConf W (n + totalSteps (runs m fs (r .state))) (live s tr k)) (sym (q .1)) ∙ run-sum (q .0) (totalSteps (runs m fs (r .state))) (live s tr k) ∙ ap (runConf W (totalSteps (runs m fs (r .state)))) (q .2 .1) ∙ g .2,
-        g .3 ∙ ap (λ l. l ++ eventsOf (runs m fs (r .state))) (q .2 .2) ∙ app-assoc (told tr) (eventOf (r .answer)) (eventsOf (runs m fs (r .state))))
-
+        g .3 ∙ ap (λ l. l ++ eventsOf (runs m fs (r .state))) (q .2 .2) ∙ app-assoc (told tr) (eventOf (r .answer)) (eventsOf (runs m fs (r .state))),
+      )

@@ -57,11 +57,12 @@ pub follows : (m : Macro) (o : ℕ → ℕ → ℕ) (fs : List Feed) (s : Machin
 unfolding oracleOf
 follows m o [] s k a = tt
 follows m o (f ∷ fs) s k a =
-    let r = run m (f .readings) (f .allowance) s in let c = takesIn m f s in
-    ((λ j l n lo hi. ap (λ (b : ℕ → ℕ). b n) (a j ∙ ap (λ t. if t then bankOf (f .readings) else oracleOf m fs (r .state) (j - c)) (lt-ltb j c l))),
+    let r = run m (f .readings) (f .allowance) s in let c = takesIn m f s in (
+      (λ j l n lo hi. ap (λ (b : ℕ → ℕ). b n) (a j ∙ ap (λ t. if t then bankOf (f .readings) else oracleOf m fs (r .state) (j - c)) (lt-ltb j c l))),
       follows m o fs (r .state) (k + c) (λ j.
           let e1 : k + c + j ≡ k + (c + j) = omega arith in let e2 : c + j - c ≡ j = omega arith in
-          ap o e1 ∙ a (c + j) ∙ ap (λ t. if t then bankOf (f .readings) else oracleOf m fs (r .state) (c + j - c)) (le-ltb (c + j) c (omega arith)) ∙ ap (oracleOf m fs (r .state)) e2))
+          ap o e1 ∙ a (c + j) ∙ ap (λ t. if t then bankOf (f .readings) else oracleOf m fs (r .state) (c + j - c)) (le-ltb (c + j) c (omega arith)) ∙ ap (oracleOf m fs (r .state)) e2),
+    )
 
 -- the oracle gives bytes
 pub oracle-bytes : (m : Macro) (fs : List Feed) → Each (λ (f : Feed). Bytes (f .readings)) fs → (s : Machine) (k n : ℕ) → oracleOf m fs s k n < 256

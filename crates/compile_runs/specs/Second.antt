@@ -219,9 +219,10 @@ module _ (t : Tree) (O : InOrder t) (o : ℕ → ℕ → ℕ) (low : (k n : ℕ)
           let q = z .1 gs (bs .0) (follows-left m o gs hs 0 (freshMachine m) (subst (Agrees t o) (sym (two .0)) a)) (ss .0) (omega (arith, two .1)) in
           let late : 1 ≤ length hs = omega (arith, length-drop (z .0) fs) in
           let parts : answers t fs ≡ answers t gs ++ runs m hs (stopped c) =
-          ap (answers t) (sym (two .0)) ∙ runs-split m gs hs (freshMachine m) ∙ ap (λ (s : Machine). answers t gs ++ runs m hs s) (q .0) in
-          (subst (EndAnswered c) (sym parts) (end-right c (answers t gs) (runs m hs (stopped c)) (says-end m (passed-macro t O) c hs (ss .1) late)),
-            ap eventsOf parts ∙ events-split (answers t gs) (runs m hs (stopped c)) ∙ ap (λ (es : List Event). eventsOf (answers t gs) ++ es) (after-end m (passed-macro t O) c hs (ss .1) .1) ∙ app-nil (eventsOf (answers t gs)) ∙ q .1)
+          ap (answers t) (sym (two .0)) ∙ runs-split m gs hs (freshMachine m) ∙ ap (λ (s : Machine). answers t gs ++ runs m hs s) (q .0) in (
+            subst (EndAnswered c) (sym parts) (end-right c (answers t gs) (runs m hs (stopped c)) (says-end m (passed-macro t O) c hs (ss .1) late)),
+            ap eventsOf parts ∙ events-split (answers t gs) (runs m hs (stopped c)) ∙ ap (λ (es : List Event). eventsOf (answers t gs) ++ es) (after-end m (passed-macro t O) c hs (ss .1) .1) ∙ app-nil (eventsOf (answers t gs)) ∙ q .1,
+          )
 
   ended-runs : (fs : List Feed) → FedBytes fs → Agrees t o fs → (c : ℕ) → EndAnswered c (answers t fs) → (is : List Item) × EndsBy o t is c × (eventsIn is ≡ eventsOf (answers t fs))
   ended-runs fs fed a c e =

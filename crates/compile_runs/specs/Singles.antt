@@ -56,6 +56,7 @@ takes-few m bank s = by (step m bank s)
     none-more (running rs f fs) = refl
     none-more (unwinding gs x) = refl
     none-more (ended c) = refl
+
     by : (z : Stepped) → takesBy z (λ t. 0) ≤ 1
     by (moved [] t) = let e = none-more t in omega arith
     by (moved (event e ∷ is) t) = omega arith
@@ -93,8 +94,9 @@ module _ (m : Macro) (o : ℕ → ℕ → ℕ) (low : ByteReadings o) where
   unfolding singles
   singles-follow zero k s = tt
   singles-follow (suc n) k s =
-      let f = single (o k) in
-      ((λ j l i lo hi.
-          let few = takes-in-few m (o k) s in let here : k + j ≡ k = omega arith in let at : i ≡ 1 + (i - 1) = omega arith in
-          ap (λ (q : ℕ). o q i) here ∙ ap (o k) at ∙ sym (bank-at 64 1 (i - 1) (o k) (omega arith))),
-        singles-follow n (k + takesIn m f s) (run m (f .readings) (f .allowance) s .state))
+      let f = single (o k) in (
+        (λ j l i lo hi.
+            let few = takes-in-few m (o k) s in let here : k + j ≡ k = omega arith in let at : i ≡ 1 + (i - 1) = omega arith in
+            ap (λ (q : ℕ). o q i) here ∙ ap (o k) at ∙ sym (bank-at 64 1 (i - 1) (o k) (omega arith))),
+        singles-follow n (k + takesIn m f s) (run m (f .readings) (f .allowance) s .state),
+      )

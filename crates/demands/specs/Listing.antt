@@ -94,6 +94,7 @@ listing =
       fresh-safe m (passed code m bytes h),
       λ l n. let d = third code m bytes h l n feeds fed in (d, ap answersOn (d .equals) ∙ (answers-on (runs m feeds (freshMachine m)) ∙ told)),
     )
+
 -- ── the second demand ──
 -- the listing example is a program
 abbrev pub listingTree : Tree

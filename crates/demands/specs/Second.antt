@@ -124,8 +124,11 @@ module _ (l : List ℕ) (P : Program l) (oracle : ℕ → ℕ → ℕ) (low : By
     prefix = λ fs fed same. let q = plain .prefix fs fed same in (q .0, (q .1, q .2 ∙ ap (λ es. es ++ q .1) (sym (heard fs fed))));
     ends = λ fs fed same c e. let q = plain .ends fs fed same c (same-ends c (answers t fs) (subst (EndsOn c) (on-bytes fs fed) e)) in
         (q .0, q .1, q .2 ∙ sym (heard fs fed));
-    enough = λ is c e. let q = plain .enough is c e in (q .0, λ fs fed same st more. let r = q .1 fs fed same st more in
-        (subst (EndsOn c) (sym (on-bytes fs fed)) (ends-same c (answers t fs) (r .0)), heard fs fed ∙ r .1));
+    enough = λ is c e. let q = plain .enough is c e in (
+      q .0,
+      λ fs fed same st more. let r = q .1 fs fed same st more in
+          (subst (EndsOn c) (sym (on-bytes fs fed)) (ends-same c (answers t fs) (r .0)), heard fs fed ∙ r .1),
+    );
     for-ever = λ g fs fed same c e. plain .for-ever g fs fed same c (same-ends c (answers t fs) (subst (EndsOn c) (on-bytes fs fed) e));
     comes = λ k. let q = plain .comes k in (q .0, λ fs fed same st more. let r = q .1 fs fed same st more in (r .0, heard fs fed ∙ r .1));
   }
@@ -142,7 +145,11 @@ second l P =
       produces = λ oracle low state n. produced l P oracle low state n;
       some-oracle = λ fs fed. let o = oracleOf m fs (freshMachine m) in
           (o, oracle-bytes m fs fed (freshMachine m), follows m o fs (freshMachine m) 0 (λ j. let z : 0 + j ≡ j = omega arith in ap o z));
-      some-runs = λ oracle low k.
-          (singles m oracle k 0 (freshMachine m), singles-length m oracle low k 0 (freshMachine m), singles-fed m oracle low k 0 (freshMachine m),
-            singles-follow m oracle low k 0 (freshMachine m), singles-step m oracle low k 0 (freshMachine m));
+      some-runs = λ oracle low k. (
+        singles m oracle k 0 (freshMachine m),
+        singles-length m oracle low k 0 (freshMachine m),
+        singles-fed m oracle low k 0 (freshMachine m),
+        singles-follow m oracle low k 0 (freshMachine m),
+        singles-step m oracle low k 0 (freshMachine m),
+      );
     }
