@@ -1,20 +1,20 @@
 -- What code comes to under a pen: the pen after a part, and the output after it. Both are folds over the definition's code.
 use mathlib.Core.Path.{_≡_, refl, ap, sym, _∙_}
 use mathlib.Core.Bool.{Bool, true, false}
-use mathlib.Core.List.{List, [], _∷_, _++_, map, reverse}
-use Prim.Native.Nat.{ℕ, zero, suc, _+_, _-_, _*_, _≤_, _<_}
+use mathlib.Core.List.{List, map, reverse}
+use Prim.Native.Nat.{ℕ, zero, suc, _-_, _≤_}
 use native.Mathlib.Omega.{arith}
 use lib.ListN.{length, take}
 use lib.Seq.{sets, length-sets}
 use Rattle.words.specs.Choice.{if_then_else_}
 use Rattle.values.specs.Types.{tyByte}
-use Rattle.bytecode.specs.Macro.{Shape, Placed}
+use Rattle.bytecode.specs.Macro.{Shape}
 use Rattle.bytecode.specs.Macro.{Code as Record}
 use Rattle.bytecode.specs.Instructions.{Instr, letHold}
 use Rattle.compile_code.specs.Code.{Code, nil, op, mark, cell, _▸_, At, at, after}
 use Rattle.compile_code.specs.Encode.{rec, recordOf, codeBytes, shapeBytes}
 use Rattle.compile_pen.specs.declared.Pen.{Pen}
-use Rattle.compile_pen.specs.Ink.{instruction, shapeRecord, moved, penMarked, penShaped, inkOp, inkShape, Fits, length-shape}
+use Rattle.compile_pen.specs.Ink.{instruction, moved, penMarked, penShaped, inkOp, inkShape, Fits, length-shape}
 
 -- the pen after a part
 unfoldable pub penAfter : Code → Pen → Pen

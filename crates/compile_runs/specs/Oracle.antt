@@ -1,4 +1,4 @@
--- The oracle that a list of runs determines: the k-th reading is taken from the bytes of the run in which it falls.
+-- The machine with an oracle does what the runs do that follow it.
 use mathlib.Core.Bool.{Bool, true, false}
 use mathlib.Core.Path.{_≡_, refl, ap, sym, _∙_, subst}
 use mathlib.Core.List.{List, [], _∷_, _++_, reverse, reverseAux}
@@ -22,50 +22,11 @@ use Rattle.bytecode.specs.Runs.{Answer, happens, spends, finishes, refuses, hal
 use Rattle.bytecode.specs.Sound.{sound}
 use Rattle.loading.specs.Terms.{Each, Passed}
 use Rattle.safety.specs.Safety.{step-safe, run-safe}
+use Rattle.safety.specs.Steps.{size-between}
 use Rattle.safety.specs.Terms.{eventsIn, eventOf, eventsOf, stateAfter, Moves}
+use Rattle.compile_runs.specs.Readings.{unlessEnded, takesBy, takes, takesIn, Reads, Follows}
 use Rattle.compile_simulation.specs.Meets.{Conf, live, dead, counted, stepped, Setting}
 use Rattle.compile_simulation.specs.Meets.{run as runConf, go as goConf}
-
--- ── how many readings a run takes ──
-abbrev pub unlessEnded : Machine → ℕ → ℕ
-unlessEnded (running rs f fs) n = n
-unlessEnded (unwinding gs a) n = n
-unlessEnded (ended c) n = 0
-
-abbrev pub takesBy : Stepped → (Machine → ℕ) → ℕ
-takesBy (moved [] t) k = unlessEnded t (k t)
-takesBy (moved (event e ∷ is) t) k = 0
-takesBy (moved (reading f v ∷ is) t) k = suc (unlessEnded t (k t))
-takesBy (stuck why) k = 0
-
-unfoldable pub takes : Macro → (ℕ → ℕ) → ℕ → Machine → ℕ
-takes m bank zero s = 0
-takes m bank (suc left) s = takesBy (step m bank s) (λ t. takes m bank left t)
-
-abbrev pub takesIn : Macro → Feed → Machine → ℕ
-takesIn m f s = if eqb (length (f .readings)) 64 then unlessEnded s (takes m (bankOf (f .readings)) (f .allowance) s) else 0
-
--- the bank of each reading: of the run in which it falls
-unfoldable pub oracleOf : Macro → List Feed → Machine → ℕ → ℕ → ℕ
-oracleOf m [] s k = λ n. 0
-oracleOf m (f ∷ fs) s k =
-    let c = takesIn m f s in
-    if ltb k c then bankOf (f .readings) else oracleOf m fs (run m (f .readings) (f .allowance) s .state) (k - c)
-
--- an oracle that the runs' banks agree with: each reading taken in a run is from that run's bytes
-abbrev pub Follows : Macro → (ℕ → ℕ → ℕ) → ℕ → List Feed → Machine → Type 0
-Follows m o k [] s = Unit {0}
-Follows m o k (f ∷ fs) s = ((j : ℕ) → j < takesIn m f s → o (k + j) ≡ bankOf (f .readings)) × Follows m o (k + takesIn m f s) fs (run m (f .readings) (f .allowance) s .state)
-
-pub follows : (m : Macro) (o : ℕ → ℕ → ℕ) (fs : List Feed) (s : Machine) (k : ℕ) → ((j : ℕ) → o (k + j) ≡ oracleOf m fs s j) → Follows m o k fs s
-unfolding oracleOf
-follows m o [] s k a = tt
-follows m o (f ∷ fs) s k a =
-    let r = run m (f .readings) (f .allowance) s in let c = takesIn m f s in
-    ((λ j l. a j ∙ ap (λ t. if t then bankOf (f .readings) else oracleOf m fs (r .state) (j - c)) (lt-ltb j c l)),
-      follows m o fs (r .state) (k + c) (λ j.
-          let e1 : k + c + j ≡ k + (c + j) = omega arith in let e2 : c + j - c ≡ j = omega arith in
-          ap o e1 ∙ a (c + j) ∙ ap (λ t. if t then bankOf (f .readings) else oracleOf m fs (r .state) (c + j - c)) (le-ltb (c + j) c (omega arith)) ∙ ap (oracleOf m fs (r .state)) e2))
 
 -- the steps that a list of runs takes
 abbrev pub stepsOf : Answer → ℕ
@@ -121,10 +82,12 @@ quiet-fader a b h q = pick (h .top .operands) q
   where
     F : (ℕ → ℕ) → Value → List Value → Stepped
     F bank v vs = onInteger v (λ x. if between 1 64 x then goesOn (reading (size x) (bank (size x)) ∷ []) (int (pos (bank (size x))) ∷ vs) h else condition outOfRange h)
+
     far : (x y : Bool) (s u w z : Stepped) → (Quiet s → ⊥) → Quiet (if x then (if y then s else u) else w) → (if x then (if y then z else u) else w) ≡ (if x then (if y then s else u) else w)
     far true true s u w z n q = absurd (n q)
     far true false s u w z n q = refl
     far false y s u w z n q = refl
+
     pick : (vs : List Value) → Quiet (pop vs (F b)) → pop vs (F a) ≡ pop vs (F b)
     pick [] q = refl
     pick (int x ∷ us) q = far (between 1 64 x) (leb (suc (length us)) maxOperands) _ (stuck badFrame) (condition outOfRange h) _ (λ z. z) q
@@ -152,6 +115,63 @@ quiet-act m a b (takeHold g) h q = refl
 quiet-act m a b letHold h q = refl
 quiet-act m a b assert h q = refl
 quiet-act m a b stop h q = refl
+
+-- ── banks that agree on the faders there are give the same step ──
+module _ (a b : ℕ → ℕ) (same : (n : ℕ) → 1 ≤ n → n ≤ 64 → a n ≡ b n) where
+  agree-fader : (h : Here) → doFader a h ≡ doFader b h
+  unfolding doFader
+  agree-fader h = pick (h .top .operands)
+    where
+      F : (ℕ → ℕ) → Value → List Value → Stepped
+      F bank v vs = onInteger v (λ x. if between 1 64 x then goesOn (reading (size x) (bank (size x)) ∷ []) (int (pos (bank (size x))) ∷ vs) h else condition outOfRange h)
+
+      on-x : (x : ℤ) (vs : List Value) (t : Bool) → between 1 64 x ≡ t
+          → (if t then goesOn (reading (size x) (a (size x)) ∷ []) (int (pos (a (size x))) ∷ vs) h else condition outOfRange h)
+          ≡ (if t then goesOn (reading (size x) (b (size x)) ∷ []) (int (pos (b (size x))) ∷ vs) h else condition outOfRange h)
+      on-x x vs true e = let r = size-between 1 64 x e in ap (λ (n : ℕ). goesOn (reading (size x) n ∷ []) (int (pos n) ∷ vs) h) (same (size x) (r .0) (r .1))
+      on-x x vs false e = refl
+
+      pick : (vs : List Value) → pop vs (F a) ≡ pop vs (F b)
+      pick [] = refl
+      pick (int x ∷ us) = on-x x us (between 1 64 x) refl
+      pick (log x ∷ us) = refl
+      pick (bit x ∷ us) = refl
+      pick (ref c x ∷ us) = refl
+
+  agree-act : (m : Macro) (i : Instr) (h : Here) → act m a i h ≡ act m b i h
+  unfolding act
+  agree-act m end h = refl
+  agree-act m (push v) h = refl
+  agree-act m (load o x) h = refl
+  agree-act m (store o x) h = refl
+  agree-act m (operate o) h = refl
+  agree-act m (go t) h = refl
+  agree-act m (goUnless t) h = refl
+  agree-act m (call k) h = refl
+  agree-act m return h = refl
+  agree-act m (make c) h = refl
+  agree-act m (getField c x) h = refl
+  agree-act m (putField c x) h = refl
+  agree-act m setLevel h = refl
+  agree-act m readFader h = agree-fader h
+  agree-act m (takeHold g) h = refl
+  agree-act m letHold h = refl
+  agree-act m assert h = refl
+  agree-act m stop h = refl
+
+  agree : (m : Macro) (s : Machine) → step m a s ≡ step m b s
+  unfolding step
+  agree m (running rs f fs) = pick (fetch m (f .body) (f .address))
+    where
+      h : Here
+      h = record { records = rs; top = f; below = fs }
+
+      pick : (o : Option Instr) → given o noStep (λ i. act m a i h) ≡ given o noStep (λ i. act m b i h)
+      pick none = refl
+      pick (some i) = agree-act m i h
+  agree m (unwinding [] (endBy c)) = refl
+  agree m (unwinding (g ∷ gs) x) = refl
+  agree m (ended c) = refl
 
 quiet : (m : Macro) (a b : ℕ → ℕ) (s : Machine) → Quiet (step m b s) → step m a s ≡ step m b s
 unfolding step
@@ -186,15 +206,15 @@ module _ (W : Setting) (w : Passed (W .macro)) where
 
   module _ (bank : ℕ → ℕ) (low : (n : ℕ) → bank n < 256) where
     abbrev Ask : ℕ → ℕ → Type 0
-    Ask k c = (j : ℕ) → j < c → W .oracle (k + j) ≡ bank
+    Ask k c = (j : ℕ) → j < c → (n : ℕ) → 1 ≤ n → n ≤ 64 → W .oracle (k + j) n ≡ bank n
 
     -- the same step with the oracle's bank
     same : (s : Machine) (k : ℕ) (is : List Item) (t : Machine) (f : Machine → ℕ) → step m bank s ≡ moved is t → Ask k (takesBy (moved is t) f) → step m (W .oracle k) s ≡ moved is t
     same s k [] t f e a = quiet m (W .oracle k) bank s (subst Quiet (sym e) tt) ∙ e
     same s k (event x ∷ is) t f e a = quiet m (W .oracle k) bank s (subst Quiet (sym e) tt) ∙ e
     same s k (reading x v ∷ is) t f e a =
-        let z : W .oracle k ≡ bank = ap (W .oracle) (omega arith) ∙ a 0 (omega arith) in
-        ap (λ b. step m b s) z ∙ e
+        let z : k + 0 ≡ k = omega arith in
+        agree (W .oracle k) bank (λ n lo hi. ap (λ (i : ℕ). W .oracle i n) (sym z) ∙ a 0 (omega arith) n lo hi) m s ∙ e
 
     abbrev Gives : ℕ → Machine → List Item → ℕ → Ran → ℕ → Type 0
     Gives n s tr k r c = (d : ℕ) × (d + n ≡ stepsOf (r .answer)) × Comes s tr k d (r .state) (eventOf (r .answer)) c
@@ -205,14 +225,16 @@ module _ (W : Setting) (w : Passed (W .macro)) where
     steps-as (suc left) n s tr k h a =
         let q = step-safe m w bank low s h in
         subst (λ x. Gives n s tr k (afterStep x s (suc n) (λ t. steps m bank left (suc n) t)) (takesBy x (λ t. takes m bank left t))) (sym (q .2))
-          (go (q .0) (q .1) (q .3) (λ e. ap (λ x. stepped x tr k) (same s k (q .0) (q .1) (λ t. takes m bank left t) (q .2) e)) (subst (λ x. Ask k (takesBy x (λ t. takes m bank left t))) (q .2) a)
-            (λ tr' k' u. steps-as left (suc n) (q .1) tr' k' (q .3 .still-sound) u))
+        (go (q .0) (q .1) (q .3) (λ e. ap (λ x. stepped x tr k) (same s k (q .0) (q .1) (λ t. takes m bank left t) (q .2) e)) (subst (λ x. Ask k (takesBy x (λ t. takes m bank left t))) (q .2) a)
+        (λ tr' k' u. steps-as left (suc n) (q .1) tr' k' (q .3 .still-sound) u))
       where
         on : (is : List Item) (t : Machine) → told (is ++ tr) ≡ told tr ++ [] → (c : ℕ) → (c' : ℕ) → counted is k + c ≡ k + c' → goConf W (live s tr k) ≡ live t (is ++ tr) (counted is k)
             → Gives (suc n) t (is ++ tr) (counted is k) (steps m bank left (suc n) t) c → Gives n s tr k (steps m bank left (suc n) t) c'
         on is t x c c' z e (d, y, g) = (suc d, omega arith, then-on s t (steps m bank left (suc n) t .state) tr is k d c [] (eventOf (steps m bank left (suc n) t .answer)) e x g c' z)
+
         over : (is : List Item) (c c' : ℕ) → told (is ++ tr) ≡ told tr ++ [] → counted is k + 0 ≡ k + c' → goConf W (live s tr k) ≡ live (ended c) (is ++ tr) (counted is k) → Gives n s tr k (record { answer = finishes c (suc n); state = ended c }) c'
         over is c c' x z e = (1, omega arith, then-on s (ended c) (ended c) tr is k 0 0 [] [] e x (stay (ended c) (is ++ tr) (counted is k)) c' z)
+
         go : (is : List Item) (t : Machine) → Moves m s is t → (Ask k (takesBy (moved is t) (λ t. takes m bank left t)) → goConf W (live s tr k) ≡ live t (is ++ tr) (counted is k)) → Ask k (takesBy (moved is t) (λ t. takes m bank left t))
             → ((tr' : List Item) (k' : ℕ) → Ask k' (takes m bank left t) → Gives (suc n) t tr' k' (steps m bank left (suc n) t) (takes m bank left t))
             → Gives n s tr k (afterStep (moved is t) s (suc n) (λ t. steps m bank left (suc n) t)) (takesBy (moved is t) (λ t. takes m bank left t))
@@ -222,27 +244,29 @@ module _ (W : Setting) (w : Passed (W .macro)) where
         go (event x ∷ []) t v e a f = (1, omega arith, then-on s t t tr (event x ∷ []) k 0 0 (x ∷ []) [] (e a) refl (stay t (event x ∷ tr) k) 0 refl)
         go (reading x y ∷ []) (ended c) v e a f = over (reading x y ∷ []) c 1 (sym (app-nil (told tr))) (omega arith) (e a)
         go (reading x y ∷ []) (running rs z fs) v e a f = on (reading x y ∷ []) (running rs z fs) (sym (app-nil (told tr))) (takes m bank left (running rs z fs)) (suc (takes m bank left (running rs z fs))) (omega arith) (e a)
-            (f (reading x y ∷ tr) (suc k) (λ j l. ap (W .oracle) (omega arith) ∙ a (suc j) (omega arith)))
+            (f (reading x y ∷ tr) (suc k) (λ j l n lo hi. ap (λ (i : ℕ). W .oracle i n) (omega arith) ∙ a (suc j) (omega arith) n lo hi))
         go (reading x y ∷ []) (unwinding gs z) v e a f = on (reading x y ∷ []) (unwinding gs z) (sym (app-nil (told tr))) (takes m bank left (unwinding gs z)) (suc (takes m bank left (unwinding gs z))) (omega arith) (e a)
-            (f (reading x y ∷ tr) (suc k) (λ j l. ap (W .oracle) (omega arith) ∙ a (suc j) (omega arith)))
+            (f (reading x y ∷ tr) (suc k) (λ j l n lo hi. ap (λ (i : ℕ). W .oracle i n) (omega arith) ∙ a (suc j) (omega arith) n lo hi))
         go (i ∷ (j ∷ is)) t v e a f = absurd (let z = v .one-item in omega arith)
 
   -- a run
-  run-as : (f : Feed) → Bytes (f .readings) → (s : Machine) (tr : List Item) (k : ℕ) → sound m s ≡ true → ((j : ℕ) → j < takesIn m f s → W .oracle (k + j) ≡ bankOf (f .readings))
+  run-as : (f : Feed) → Bytes (f .readings) → (s : Machine) (tr : List Item) (k : ℕ) → sound m s ≡ true → ((j : ℕ) → j < takesIn m f s → Reads (W .oracle) (k + j) (f .readings))
       → (d : ℕ) × (d ≡ stepsOf (run m (f .readings) (f .allowance) s .answer)) × Comes s tr k d (run m (f .readings) (f .allowance) s .state) (eventOf (run m (f .readings) (f .allowance) s .answer)) (takesIn m f s)
   unfolding run
   run-as f b s tr k h a = go (eqb (length (f .readings)) 64) a
     where
       bank : ℕ → ℕ
       bank = bankOf (f .readings)
-      by : (s : Machine) → sound m s ≡ true → ((j : ℕ) → j < unlessEnded s (takes m (bankOf (f .readings)) (f .allowance) s) → W .oracle (k + j) ≡ bankOf (f .readings))
+
+      by : (s : Machine) → sound m s ≡ true → ((j : ℕ) → j < unlessEnded s (takes m (bankOf (f .readings)) (f .allowance) s) → Reads (W .oracle) (k + j) (f .readings))
           → let r = endsRun s 0 (λ t. steps m (bankOf (f .readings)) (f .allowance) 0 t) in (d : ℕ) × (d ≡ stepsOf (r .answer)) × Comes s tr k d (r .state) (eventOf (r .answer)) (unlessEnded s (takes m (bankOf (f .readings)) (f .allowance) s))
       by (ended c) h a = (0, refl, stay (ended c) tr k)
       by (running rs x fs) h a = let q = steps-as (bankOf (f .readings)) (λ n. b (n - 1)) (f .allowance) 0 (running rs x fs) tr k h a in (q .0, (let z = q .1 in omega arith), q .2)
       by (unwinding gs x) h a = let q = steps-as (bankOf (f .readings)) (λ n. b (n - 1)) (f .allowance) 0 (unwinding gs x) tr k h a in (q .0, (let z = q .1 in omega arith), q .2)
-      go : (t : Bool) → ((j : ℕ) → j < (if t then unlessEnded s (takes m (bankOf (f .readings)) (f .allowance) s) else 0) → W .oracle (k + j) ≡ bankOf (f .readings))
+
+      go : (t : Bool) → ((j : ℕ) → j < (if t then unlessEnded s (takes m (bankOf (f .readings)) (f .allowance) s) else 0) → Reads (W .oracle) (k + j) (f .readings))
           → let r = if t then endsRun s 0 (λ t. steps m (bankOf (f .readings)) (f .allowance) 0 t) else record { answer = refuses (refusal 11 0); state = s } in
-            (d : ℕ) × (d ≡ stepsOf (r .answer)) × Comes s tr k d (r .state) (eventOf (r .answer)) (if t then unlessEnded s (takes m (bankOf (f .readings)) (f .allowance) s) else 0)
+          (d : ℕ) × (d ≡ stepsOf (r .answer)) × Comes s tr k d (r .state) (eventOf (r .answer)) (if t then unlessEnded s (takes m (bankOf (f .readings)) (f .allowance) s) else 0)
       go true a = by s h a
       go false a = (0, refl, stay s tr k)
 
@@ -259,17 +283,9 @@ module _ (W : Setting) (w : Passed (W .macro)) where
   runs-as (f ∷ fs) b s tr k h a =
       let r = run m (f .readings) (f .allowance) s in let c = takesIn m f s in
       let q = run-as f (b .0) s tr k h (a .0) in
-      let g = runs-as fs (b .1) (r .state) (q .2 .0) (k + c) (run-safe m w f (b .0) s h .still-sound) (a .1) in
-      (g .0, g .1,
+      let g = runs-as fs (b .1) (r .state) (q .2 .0) (k + c) (run-safe m w f (b .0) s h .still-sound) (a .1) in (
+        g .0,
+        g .1,
         ap (λ n. runConf W (n + totalSteps (runs m fs (r .state))) (live s tr k)) (sym (q .1)) ∙ run-sum (q .0) (totalSteps (runs m fs (r .state))) (live s tr k) ∙ ap (runConf W (totalSteps (runs m fs (r .state)))) (q .2 .1) ∙ g .2,
-        g .3 ∙ ap (λ l. l ++ eventsOf (runs m fs (r .state))) (q .2 .2) ∙ app-assoc (told tr) (eventOf (r .answer)) (eventsOf (runs m fs (r .state))))
-
--- the oracle gives bytes
-pub oracle-bytes : (m : Macro) (fs : List Feed) → Each (λ (f : Feed). Bytes (f .readings)) fs → (s : Machine) (k n : ℕ) → oracleOf m fs s k n < 256
-unfolding oracleOf
-oracle-bytes m [] b s k n = omega arith
-oracle-bytes m (f ∷ fs) b s k n = go (ltb k (takesIn m f s)) (oracle-bytes m fs (b .1) (run m (f .readings) (f .allowance) s .state) (k - takesIn m f s) n)
-  where
-    go : (t : Bool) → oracleOf m fs (run m (f .readings) (f .allowance) s .state) (k - takesIn m f s) n < 256 → (if t then bankOf (f .readings) else oracleOf m fs (run m (f .readings) (f .allowance) s .state) (k - takesIn m f s)) n < 256
-    go true h = b .0 (n - 1)
-    go false h = h
+        g .3 ∙ ap (λ l. l ++ eventsOf (runs m fs (r .state))) (q .2 .2) ∙ app-assoc (told tr) (eventOf (r .answer)) (eventsOf (runs m fs (r .state))),
+      )

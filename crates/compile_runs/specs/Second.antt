@@ -5,7 +5,9 @@ use mathlib.Core.List.{List, [], _∷_, _++_, reverse}
 use Prim.Native.Nat.{ℕ, zero, suc, _+_, _≤_, _<_}
 use native.Mathlib.Omega.{arith}
 use native.Mathlib.Decide.{decLe}
-use lib.ListN.{length}
+use mathlib.Core.Logic.{_⊎_, inl, inr}
+use lib.ListN.{length, take, drop, length-drop}
+use Rattle.bytecode.specs.Sound.{sound}
 use Rattle.words.specs.Laws.{Bytes}
 use Rattle.values.specs.Trace.{Event, Item, event, reading}
 use Rattle.language.specs.Tree.{Tree}
@@ -20,10 +22,15 @@ use Rattle.safety.specs.Terms.{eventsIn, eventsOf, stateAfter}
 use Rattle.compile_code.specs.Encode.{compiled}
 use Rattle.compile_simulation.specs.Meets.{Conf, live, dead, stepped, Setting, Reach}
 use Rattle.compile_simulation.specs.Meets.{run as runConf, go as goConf}
-use Rattle.compile_simulation.specs.Top.{start, Running, EndedAs, GoesOn}
+use Rattle.compile_simulation.specs.Top.{start, Running, EndedAs}
+use Rattle.compile_simulation.specs.Top.{GoesOn as GoesOnSo}
+use Rattle.language_laws.specs.Endings.{ByteReadings, EndsBy, GoesOn, Prefix, Continues}
+use Rattle.language_laws.specs.Fuel.{stays-finished, prefix-so-far, ends-one-way, not-both}
 use Rattle.compile_safety.specs.Second.{sound-tree, ends-alike, goes-alike, ended-alike}
 use Rattle.compile_macro.specs.Built.{InOrder, settingOf, built, passed-macro}
-use Rattle.compile_runs.specs.Oracle.{Follows, totalSteps, told, told-is, told-more, app-nil, run-sum, runs-as}
+use Rattle.compile_runs.specs.Readings.{Follows}
+use Rattle.compile_runs.specs.Enough.{FedBytes, Stepping, EndAnswered, runs-split, events-split, each-split, follows-left, in-two, end-right, after-end, says-end, ended-so, steps-or-end}
+use Rattle.compile_runs.specs.Oracle.{totalSteps, told, told-is, told-more, app-nil, run-sum, runs-as}
 
 abbrev pub itemsOf : Ran → List Item
 itemsOf (finished is c) = is
@@ -41,25 +48,22 @@ after-all t fs = stateAfter (freshMachine (compiled t)) (answers t fs)
 abbrev pub Agrees : Tree → (ℕ → ℕ → ℕ) → List Feed → Type 0
 Agrees t o fs = Follows (compiled t) o 0 fs (freshMachine (compiled t))
 
-abbrev pub FedBytes : List Feed → Type 0
-FedBytes fs = Each (λ (f : Feed). Bytes (f .readings)) fs
-
 -- of a tree and an oracle
-pub record Second (t : Tree) (o : ℕ → ℕ → ℕ) : Type 0 where
+pub record AsTree (t : Tree) (o : ℕ → ℕ → ℕ) : Type 0 where
   -- the execution is never ill-formed
   pub formed : (n : ℕ) → execute o t n ≡ illFormed → ⊥
   -- the events that runs answer are the first of the tree's
   pub prefix : (fs : List Feed) → FedBytes fs → Agrees t o fs → (n : ℕ) × (rest : List Event) × (eventsIn (itemsOf (execute o t n)) ≡ eventsOf (answers t fs) ++ rest)
   -- the runs come to an end: the tree ends so, with exactly these events
-  pub ends : (fs : List Feed) → FedBytes fs → Agrees t o fs → (c : ℕ) → after-all t fs ≡ stopped c → (n : ℕ) × (is : List Item) × (execute o t n ≡ finished is c) × (eventsIn is ≡ eventsOf (answers t fs))
-  -- the tree ends: so do all runs that take enough steps, with exactly its events
-  pub enough : (n c : ℕ) (is : List Item) → execute o t n ≡ finished is c
-      → (N : ℕ) × ((fs : List Feed) → FedBytes fs → Agrees t o fs → N ≤ totalSteps (answers t fs) → (after-all t fs ≡ stopped c) × (eventsOf (answers t fs) ≡ eventsIn is))
+  pub ends : (fs : List Feed) → FedBytes fs → Agrees t o fs → (c : ℕ) → EndAnswered c (answers t fs) → (is : List Item) × EndsBy o t is c × (eventsIn is ≡ eventsOf (answers t fs))
+  -- the tree ends: so does every list of enough runs, with exactly its events
+  pub enough : (is : List Item) (c : ℕ) → EndsBy o t is c
+      → (N : ℕ) × ((fs : List Feed) → FedBytes fs → Agrees t o fs → Stepping fs → N ≤ length fs → EndAnswered c (answers t fs) × (eventsOf (answers t fs) ≡ eventsIn is))
   -- the tree goes on for ever: no runs end
-  pub for-ever : ((n : ℕ) → (is : List Item) × (execute o t n ≡ going is)) → (fs : List Feed) → FedBytes fs → Agrees t o fs → (c : ℕ) → after-all t fs ≡ stopped c → ⊥
-  -- every event that the tree comes to is answered by all runs that take enough steps
-  pub comes : (n : ℕ) (is : List Item) → execute o t n ≡ going is
-      → (N : ℕ) × ((fs : List Feed) → FedBytes fs → Agrees t o fs → N ≤ totalSteps (answers t fs) → (rest : List Event) × (eventsOf (answers t fs) ≡ eventsIn is ++ rest))
+  pub for-ever : GoesOn o t → (fs : List Feed) → FedBytes fs → Agrees t o fs → (c : ℕ) → EndAnswered c (answers t fs) → ⊥
+  -- every event that the tree comes to is answered by every list of enough runs
+  pub comes : (n : ℕ) → (N : ℕ) × ((fs : List Feed) → FedBytes fs → Agrees t o fs → Stepping fs → N ≤ length fs
+      → (rest : List Event) × (eventsOf (answers t fs) ≡ eventsIn (itemsOf (execute o t n)) ++ rest))
 
 -- ── traces only grow, and an end stays ──
 abbrev Later : List Item → Conf → Type 0
@@ -154,7 +158,7 @@ module _ (t : Tree) (O : InOrder t) (o : ℕ → ℕ → ℕ) (low : (k n : ℕ)
           side (no l) = let q = beyond (h .steps) (omega arith) (stopped c) (h .there .0) (h .there .1) (h .there .2) in (q .0, ap eventsIn (sym (h .there .3)) ∙ q .1)
   its-prefix (going is) e = pick (goes-alike (settingOf t o) (passed-macro t O) low t (built t O o) (totalSteps (answers t fs)) is e)
     where
-      pick : GoesOn (settingOf t o) t (suc (totalSteps (answers t fs))) is → (rest : List Event) × (eventsIn is ≡ eventsOf (answers t fs) ++ rest)
+      pick : GoesOnSo (settingOf t o) t (suc (totalSteps (answers t fs))) is → (rest : List Event) × (eventsIn is ≡ eventsOf (answers t fs) ++ rest)
       pick h = at-conf (go-on (h .steps)) refl (h .alive)
         where
           at-conf : (y : Conf) → go-on (h .steps) ≡ y → Running (settingOf t o) t is y → (rest : List Event) × (eventsIn is ≡ eventsOf (answers t fs) ++ rest)
@@ -165,7 +169,7 @@ module _ (t : Tree) (O : InOrder t) (o : ℕ → ℕ → ℕ) (low : (k n : ℕ)
   its-prefix illFormed e = absurd (sound-tree (settingOf t o) (passed-macro t O) low t (built t O o) (totalSteps (answers t fs)) e)
 
 -- the runs that take as many steps as the machine took, or more
-come-by : (t : Tree) (O : InOrder t) (o : ℕ → ℕ → ℕ) (low : (k n : ℕ) → o k n < 256) (n : ℕ) (is : List Item) (h : GoesOn (settingOf t o) t n is) (fs : List Feed) (fed : FedBytes fs) (agrees : Agrees t o fs)
+come-by : (t : Tree) (O : InOrder t) (o : ℕ → ℕ → ℕ) (low : (k n : ℕ) → o k n < 256) (n : ℕ) (is : List Item) (h : GoesOnSo (settingOf t o) t n is) (fs : List Feed) (fed : FedBytes fs) (agrees : Agrees t o fs)
     → h .steps ≤ totalSteps (answers t fs) → (rest : List Event) × (eventsOf (answers t fs) ≡ eventsIn is ++ rest)
 come-by t O o low n is h fs fed agrees l = at-conf (runConf (settingOf t o) (h .steps) (live (freshMachine (compiled t)) [] 0)) refl (h .alive)
   where
@@ -178,13 +182,87 @@ come-by t O o low n is h fs fed agrees l = at-conf (runConf (settingOf t o) (h .
 apart : (is js : List Item) (c : ℕ) → finished is c ≡ going js → ⊥
 apart is js c h = let z : _≡_ {A = ℕ} 0 1 = cc h in omega arith
 
-pub second : (t : Tree) → InOrder t → (o : ℕ → ℕ → ℕ) → ((k n : ℕ) → o k n < 256) → Second t o
-second t O o low = record {
+-- ── by the number of runs ──
+module _ (t : Tree) (O : InOrder t) (o : ℕ → ℕ → ℕ) (low : (k n : ℕ) → o k n < 256) where
+  fresh : sound (compiled t) (freshMachine (compiled t)) ≡ true
+  fresh = fresh-safe (compiled t) (passed-macro t O)
+
+  -- so many runs come to the end that so many steps come to
+  settles : (n c : ℕ) (is : List Item) → execute o t n ≡ finished is c
+      → (N : ℕ) × ((fs : List Feed) → FedBytes fs → Agrees t o fs → Stepping fs → N ≤ length fs → (after-all t fs ≡ stopped c) × (eventsOf (answers t fs) ≡ eventsIn is))
+  settles n c is e =
+      let h = ends-alike (settingOf t o) (passed-macro t O) low t (built t O o) n c is e in
+      (h .steps, λ fs fed a st l. by h fs fed a st l (steps-or-end (compiled t) (passed-macro t O) fs fed st (freshMachine (compiled t)) fresh))
+    where
+      by : (h : Reach (settingOf t o) (start (settingOf t o) t) (EndedAs (settingOf t o) t is c)) (fs : List Feed) (fed : FedBytes fs) (a : Agrees t o fs) → Stepping fs → h .steps ≤ length fs
+          → (length fs ≤ totalSteps (answers t fs)) ⊎ ((d : ℕ) × (after-all t fs ≡ stopped d)) → (after-all t fs ≡ stopped c) × (eventsOf (answers t fs) ≡ eventsIn is)
+      by h fs fed a st l (inl k) =
+          let q = stopped-there t O o low fs fed a (h .steps) (omega arith) c (h .there .0) (h .there .1) (h .there .2) in
+          (q .0, q .1 ∙ ap eventsIn (h .there .3))
+      by h fs fed a st l (inr (d, k)) =
+          let q = its-end t O o low fs fed a d k in
+          let one = ends-one-way o t (n, e) (q .0, q .2) in
+          (k ∙ ap stopped (sym (one .1)), sym (q .3) ∙ ap eventsIn (sym (one .0)))
+
+  -- and one run more answers it
+  answers-end : (n c : ℕ) (is : List Item) → execute o t n ≡ finished is c
+      → (N : ℕ) × ((fs : List Feed) → FedBytes fs → Agrees t o fs → Stepping fs → N ≤ length fs → EndAnswered c (answers t fs) × (eventsOf (answers t fs) ≡ eventsIn is))
+  answers-end n c is e = let z = settles n c is e in (suc (z .0), λ fs fed a st l. by z fs fed a st l (in-two (z .0) fs (omega arith)))
+    where
+      by : (z : (N : ℕ) × ((fs : List Feed) → FedBytes fs → Agrees t o fs → Stepping fs → N ≤ length fs → (after-all t fs ≡ stopped c) × (eventsOf (answers t fs) ≡ eventsIn is)))
+          (fs : List Feed) → FedBytes fs → Agrees t o fs → Stepping fs → suc (z .0) ≤ length fs → (take (z .0) fs ++ drop (z .0) fs ≡ fs) × (length (take (z .0) fs) ≡ z .0)
+          → EndAnswered c (answers t fs) × (eventsOf (answers t fs) ≡ eventsIn is)
+      by z fs fed a st l two =
+          let gs = take (z .0) fs in let hs = drop (z .0) fs in let m = compiled t in
+          let bs = each-split (λ (f : Feed). Bytes (f .readings)) gs hs (subst FedBytes (sym (two .0)) fed) in
+          let ss = each-split (λ (f : Feed). (length (f .readings) ≡ 64) × (1 ≤ f .allowance)) gs hs (subst Stepping (sym (two .0)) st) in
+          let q = z .1 gs (bs .0) (follows-left m o gs hs 0 (freshMachine m) (subst (Agrees t o) (sym (two .0)) a)) (ss .0) (omega (arith, two .1)) in
+          let late : 1 ≤ length hs = omega (arith, length-drop (z .0) fs) in
+          let parts : answers t fs ≡ answers t gs ++ runs m hs (stopped c) =
+          ap (answers t) (sym (two .0)) ∙ runs-split m gs hs (freshMachine m) ∙ ap (λ (s : Machine). answers t gs ++ runs m hs s) (q .0) in (
+            subst (EndAnswered c) (sym parts) (end-right c (answers t gs) (runs m hs (stopped c)) (says-end m (passed-macro t O) c hs (ss .1) late)),
+            ap eventsOf parts ∙ events-split (answers t gs) (runs m hs (stopped c)) ∙ ap (λ (es : List Event). eventsOf (answers t gs) ++ es) (after-end m (passed-macro t O) c hs (ss .1) .1) ∙ app-nil (eventsOf (answers t gs)) ∙ q .1,
+          )
+
+  ended-runs : (fs : List Feed) → FedBytes fs → Agrees t o fs → (c : ℕ) → EndAnswered c (answers t fs) → (is : List Item) × EndsBy o t is c × (eventsIn is ≡ eventsOf (answers t fs))
+  ended-runs fs fed a c e =
+      let q = its-end t O o low fs fed a c (ended-so (compiled t) (passed-macro t O) c fs fed (freshMachine (compiled t)) fresh e) in
+      (q .1, (q .0, q .2), q .3)
+
+  -- ── the events of an execution with fuel n come ──
+  abbrev Begins : List Item → List Feed → Type 0
+  Begins is fs = (rest : List Event) × (eventsOf (answers t fs) ≡ eventsIn is ++ rest)
+
+  items-split : (is js : List Item) → eventsIn (is ++ js) ≡ eventsIn is ++ eventsIn js
+  items-split [] js = refl
+  items-split (event e ∷ is) js = ap (λ (l : List Event). e ∷ l) (items-split is js)
+  items-split (reading f v ∷ is) js = items-split is js
+
+  -- what was going on with fuel n, and came to an end
+  before-end : (n k c : ℕ) (is js : List Item) (fs : List Feed) → execute o t n ≡ going is → execute o t k ≡ finished js c → eventsIn js ≡ eventsOf (answers t fs) → Dec (n ≤ k) → Begins is fs
+  before-end n k c is js fs e f g (yes l) =
+      let q : Prefix is js = subst (Continues is) f (prefix-so-far o t e l) in
+      (eventsIn (q .0), sym g ∙ ap eventsIn (q .1) ∙ items-split is (q .0))
+  before-end n k c is js fs e f g (no l) = absurd (apart js is c (sym (stays-finished o t f (omega arith)) ∙ e))
+
+  come : (n : ℕ) (r : Ran) → execute o t n ≡ r → (N : ℕ) × ((fs : List Feed) → FedBytes fs → Agrees t o fs → Stepping fs → N ≤ length fs → Begins (itemsOf r) fs)
+  come n (finished is c) e = let z = settles n c is e in (z .0, λ fs fed a st l. ([], z .1 fs fed a st l .1 ∙ sym (app-nil (eventsIn is))))
+  come n illFormed e = absurd (sound-tree (settingOf t o) (passed-macro t O) low t (built t O o) n e)
+  come n (going is) e =
+      let h = goes-alike (settingOf t o) (passed-macro t O) low t (built t O o) n is e in
+      (h .steps, λ fs fed a st l. by h fs fed a l (steps-or-end (compiled t) (passed-macro t O) fs fed st (freshMachine (compiled t)) fresh))
+    where
+      by : (h : GoesOnSo (settingOf t o) t (suc n) is) (fs : List Feed) → FedBytes fs → Agrees t o fs → h .steps ≤ length fs
+          → (length fs ≤ totalSteps (answers t fs)) ⊎ ((d : ℕ) × (after-all t fs ≡ stopped d)) → Begins is fs
+      by h fs fed a l (inl k) = come-by t O o low (suc n) is h fs fed a (omega arith)
+      by h fs fed a l (inr (d, k)) = let q = its-end t O o low fs fed a d k in before-end n (q .0) d is (q .1) fs e (q .2) (q .3) (decLe n (q .0))
+
+pub as-tree : (t : Tree) → InOrder t → (o : ℕ → ℕ → ℕ) → ByteReadings o → AsTree t o
+as-tree t O o low = record {
   formed = sound-tree (settingOf t o) (passed-macro t O) low t (built t O o);
   prefix = λ fs fed a. let q = its-prefix t O o low fs fed a (execute o t (totalSteps (answers t fs))) refl in (totalSteps (answers t fs), q .0, q .1);
-  ends = λ fs fed a. its-end t O o low fs fed a;
-  enough = λ n c is e. let h = ends-alike (settingOf t o) (passed-macro t O) low t (built t O o) n c is e in
-      (h .steps, λ fs fed a l. let q = stopped-there t O o low fs fed a (h .steps) l c (h .there .0) (h .there .1) (h .there .2) in (q .0, q .1 ∙ ap eventsIn (h .there .3)));
-  for-ever = λ g fs fed a c e. let q = its-end t O o low fs fed a c e in let p = g (q .0) in apart (q .1) (p .0) c (sym (q .2) ∙ p .1);
-  comes = λ n is e. let h = goes-alike (settingOf t o) (passed-macro t O) low t (built t O o) n is e in (h .steps, λ fs fed a l. come-by t O o low (suc n) is h fs fed a l);
+  ends = λ fs fed a c e. ended-runs t O o low fs fed a c e;
+  enough = λ is c e. answers-end t O o low (e .0) c is (e .1);
+  for-ever = λ g fs fed a c e. not-both o t (ended-runs t O o low fs fed a c e .1) g;
+  comes = λ n. come t O o low n (execute o t n) refl;
 }

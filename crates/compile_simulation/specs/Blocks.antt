@@ -102,10 +102,11 @@ module _ (W : Setting) (gs : List Global) (C : Work) where
     where
       t : ℕ
       t = labelAt is (scopesOf Γ) (theLabels is ∷ passing Γ) x a
+
       pick : (b : Bool) → landsAt b (Unit {0}) (gotoOk true Γ a) → Stands W (C .body) (if b then op (go (labelAt is (scopesOf Γ) (theLabels is ∷ passing Γ) x a)) else codeGoto Γ a) p
           → (gotoOk true Γ a → Stands W (C .body) (codeGoto Γ a) p → Reach W (goConf W (at-work W gs C (p .address) st (heldIn Γ) D)) (lands W gs C Γ st a σ))
           → Reach W (goConf W (at-work W gs C (p .address) st (heldIn Γ) D))
-            (λ y. landsAt b (Arrives W gs C (Nothing W gs C) (Sees W gs C Γ) (heldIn Γ) (labelAt is (scopesOf Γ) (theLabels is ∷ passing Γ) x a) st tt σ y) (lands W gs C Γ st a σ y))
+          (λ y. landsAt b (Arrives W gs C (Nothing W gs C) (Sees W gs C Γ) (heldIn Γ) (labelAt is (scopesOf Γ) (theLabels is ∷ passing Γ) x a) st tt σ y) (lands W gs C Γ st a σ y))
       pick true o h f = rw h (here (record { top = []; now = D; there = refl; sees = e; gave = refl; holding = k }))
       pick false o h f = f o h
   goes (labels is x ∷ Γ) false a p st D σ o h e k = absurd o
@@ -118,8 +119,8 @@ module _ (W : Setting) (gs : List Global) (C : Work) where
   letsGo Γ₀ Γ g m st x r i (crash h) = crash h
   letsGo {G = G} {n = n} Γ₀ Γ g m st x (done v σ) i (ends h) = begin h (λ y a.
       subst (λ z. Meets W n (lands W gs C Γ st) (Arrives W gs C G (Within W gs C Γ₀) (heldIn Γ) (suc m) st) z (done v (say (release g) σ))) (sym (a .there))
-        (lets W gs (C .body) (C .below) g m (a .top ++ st) (heldIn Γ) (a .now) i
-          (ends (here (record { top = a .top; now = says (event (release g) ∷ []) (a .now); there = refl; sees = ap (λ s. say (release g) s) (a .sees); gave = a .gave; holding = a .holding })))))
+      (lets W gs (C .body) (C .below) g m (a .top ++ st) (heldIn Γ) (a .now) i
+      (ends (here (record { top = a .top; now = says (event (release g) ∷ []) (a .now); there = refl; sees = ap (λ s. say (release g) s) (a .sees); gave = a .gave; holding = a .holding })))))
   letsGo Γ₀ Γ g m st x (jump a σ) i (ends h) = ends h
   letsGo Γ₀ Γ g m st x (ended c σ) i (ends h) = ends h
   letsGo Γ₀ Γ g m st x (later σ) i (ends h) = ends h
@@ -139,19 +140,19 @@ module _ (W : Setting) (gs : List Global) (C : Work) where
       let u = initial (tyIn gs (x .type)) in
       let Δ = bound (x .name) (p .cell) ∷ Γ in
       pushes W gs (C .body) (C .below) u (p .address) st (heldIn Γ) D (h .1 .0)
-        (stores W gs (C .body) (C .below) own (p .cell) u (suc (p .address)) st (heldIn Γ) D tt (h .1 .1 .0) (λ y e.
-          let D' = written own (p .cell) (assigned u) D in
-          let z = b (D .cells) in
-          subst (λ s. Meets W n (lands W gs C Γ st) (Arrives W gs C G (Within W gs C Γ₀) (heldIn Γ) (after (codeHead gs bound ds Δ (at (suc (suc (p .address))) (suc (p .cell))) f) (at (suc (suc (p .address))) (suc (p .cell))) .address) st)
-              (at-work W gs C (suc (suc (p .address))) st (heldIn Γ) D') (within ds (placeOf W gs C Γ) s g))
-            (declared gs x Γ D (p .cell) y (z .0) (blocksOf gs Γ₀ (D .cells)) (o .0) (below-apart (p .cell) Γ (w .below-n)) e (z .1))
-            (heads G ds Γ₀ Δ (at (suc (suc (p .address))) (suc (p .cell))) st P f g D' i (o .1 (p .cell)) (fit-bound (x .name) w)
-              (λ cs. (slot (x .name) (seenC gs (cellAt cs (p .cell))) ∷ (b cs .0), ap (λ l. inFirst (slot (x .name) (seenC gs (cellAt cs (p .cell)))) l) (b cs .1)))
-              r (h .1 .1 .1) (w .fresh (p .cell) (assigned u) (D .cells) (D .lowest) (omega arith) k))))
+      (stores W gs (C .body) (C .below) own (p .cell) u (suc (p .address)) st (heldIn Γ) D tt (h .1 .1 .0) (λ y e.
+      let D' = written own (p .cell) (assigned u) D in
+      let z = b (D .cells) in
+      subst (λ s. Meets W n (lands W gs C Γ st) (Arrives W gs C G (Within W gs C Γ₀) (heldIn Γ) (after (codeHead gs bound ds Δ (at (suc (suc (p .address))) (suc (p .cell))) f) (at (suc (suc (p .address))) (suc (p .cell))) .address) st)
+      (at-work W gs C (suc (suc (p .address))) st (heldIn Γ) D') (within ds (placeOf W gs C Γ) s g))
+      (declared gs x Γ D (p .cell) y (z .0) (blocksOf gs Γ₀ (D .cells)) (o .0) (below-apart (p .cell) Γ (w .below-n)) e (z .1))
+      (heads G ds Γ₀ Δ (at (suc (suc (p .address))) (suc (p .cell))) st P f g D' i (o .1 (p .cell)) (fit-bound (x .name) w)
+      (λ cs. (slot (x .name) (seenC gs (cellAt cs (p .cell))) ∷ (b cs .0), ap (λ l. inFirst (slot (x .name) (seenC gs (cellAt cs (p .cell)))) l) (b cs .1)))
+      r (h .1 .1 .1) (w .fresh (p .cell) (assigned u) (D .cells) (D .lowest) (omega arith) k))))
   heads G (holding x ∷ ds) Γ₀ Γ p st P f g D i o w b r h k =
       takes W gs (C .body) (C .below) x (p .address) st (heldIn Γ) D (h .0)
-        (letsGo Γ₀ Γ x (after (codeHead gs bound ds (held x ∷ Γ) (skip 1 p) f) (skip 1 p) .address) st _ (within ds (under x (placeOf W gs C Γ)) (say (hold x) (seen gs Γ D)) g) (h .1 .1)
-          (heads G ds Γ₀ (held x ∷ Γ) (skip 1 p) st P f g (says (event (hold x) ∷ []) D) i o (fit-held x w) b r (h .1 .0) k))
+      (letsGo Γ₀ Γ x (after (codeHead gs bound ds (held x ∷ Γ) (skip 1 p) f) (skip 1 p) .address) st _ (within ds (under x (placeOf W gs C Γ)) (say (hold x) (seen gs Γ D)) g) (h .1 .1)
+      (heads G ds Γ₀ (held x ∷ Γ) (skip 1 p) st P f g (says (event (hold x) ∷ []) D) i o (fit-held x w) b r (h .1 .0) k))
 
   -- ── labels and caught gotos ──
   -- what a label leads to: the statements after it, standing where the goto aims
@@ -188,7 +189,7 @@ module _ (W : Setting) (gs : List Global) (C : Work) where
       let q = after (codeS gs s Γ ts p) p in
       let r = found-label P l i is Γ ts q a (i s is o) (h .1) in
       subst (λ z. Found (hasLabel a is) (from a is) Γ ts (labelAt is (scopesOf Γ) (passing Γ) z a) (p .cell) (after (codeItems gs is Γ ts q) q) P) (lenS gs s Γ ts p)
-        (earlier (hasLabel a is) (from a is) Γ ts (labelAt is (scopesOf Γ) (passing Γ) (q .address) a) (q .cell) (p .cell) (after (codeItems gs is Γ ts q) q) P (more-cells (codeS gs s Γ ts p) p) r)
+      (earlier (hasLabel a is) (from a is) Γ ts (labelAt is (scopesOf Γ) (passing Γ) (q .address) a) (q .cell) (p .cell) (after (codeItems gs is Γ ts q) q) P (more-cells (codeS gs s Γ ts p) p) r)
 
   -- what is known of the statements from a label on, at less fuel
   abbrev pub Resumes : ℕ → Less → Items → List Around → List Ty → List Value → ℕ → At → (Items → Type 0) → Type 0
@@ -207,18 +208,19 @@ module _ (W : Setting) (gs : List Global) (C : Work) where
     where
       F : Unit {0} → Store → Conf → Type 0
       F = Arrives W gs C (Nothing W gs C) (Sees W gs C Γ) (heldIn Γ) (e .address) st
+
       go : (o : Option Items) (t : Bool) → Found t o (labels is (p .address) ∷ Γ) ts (labelAt is (scopesOf Γ) (theLabels is ∷ passing Γ) (p .address) a) (p .cell) e P
           → Reach W (goConf W x) (λ y. landsAt t (Arrives W gs C (Nothing W gs C) (Sees W gs C Γ) (heldIn Γ) (labelAt is (scopesOf Γ) (theLabels is ∷ passing Γ) (p .address) a) st tt σ y) (lands W gs C Γ st a σ y))
           → Meets W (suc n) (lands W gs C Γ st) (Arrives W gs C (Nothing W gs C) (Sees W gs C Γ) (heldIn Γ) (e .address) st) x (caught r is o a (placeOf W gs C Γ) σ)
       go none t g h = ends (subst (λ t. Reach W (goConf W x) (λ y. landsAt t (Arrives W gs C (Nothing W gs C) (Sees W gs C Γ) (heldIn Γ) (labelAt is (scopesOf Γ) (theLabels is ∷ passing Γ) (p .address) a) st tt σ y) (lands W gs C Γ st a σ y))) g h)
       go (some js) t g h =
           let h' : Reach W (goConf W x) (Arrives W gs C (Nothing W gs C) (Sees W gs C Γ) (heldIn Γ) (labelAt is (scopesOf Γ) (theLabels is ∷ passing Γ) (p .address) a) st tt σ) =
-              subst (λ t. Reach W (goConf W x) (λ y. landsAt t (Arrives W gs C (Nothing W gs C) (Sees W gs C Γ) (heldIn Γ) (labelAt is (scopesOf Γ) (theLabels is ∷ passing Γ) (p .address) a) st tt σ y) (lands W gs C Γ st a σ y))) (g .0) h in
+          subst (λ t. Reach W (goConf W x) (λ y. landsAt t (Arrives W gs C (Nothing W gs C) (Sees W gs C Γ) (heldIn Γ) (labelAt is (scopesOf Γ) (theLabels is ∷ passing Γ) (p .address) a) st tt σ y) (lands W gs C Γ st a σ y))) (g .0) h in
           let q = g .1 .place in
           tick (r .resume is js (placeOf W gs C Γ) σ) (begin h' (λ y m.
-            let at-q : at-work W gs C (q .address) st (heldIn Γ) (m .now) ≡ y = ap (λ z. at-work W gs C z st (heldIn Γ) (m .now)) (sym (g .1 .aim)) ∙ sym (m .there ∙ ap (λ v. at-work W gs C (labelAt is (scopesOf Γ) (theLabels is ∷ passing Γ) (p .address) a) (v ++ st) (heldIn Γ) (m .now)) (m .gave)) in
-            subst₂ (λ z s. Meets W n (lands W gs C Γ st) F z (r .resume is js (placeOf W gs C Γ) s)) at-q (m .sees)
-              (b js q (m .now) (g .1 .good) (fit-on (g .1 .later-cells) w) (g .1 .stand) (g .1 .same-end) (m .holding))))
+          let at-q : at-work W gs C (q .address) st (heldIn Γ) (m .now) ≡ y = ap (λ z. at-work W gs C z st (heldIn Γ) (m .now)) (sym (g .1 .aim)) ∙ sym (m .there ∙ ap (λ v. at-work W gs C (labelAt is (scopesOf Γ) (theLabels is ∷ passing Γ) (p .address) a) (v ++ st) (heldIn Γ) (m .now)) (m .gave)) in
+          subst₂ (λ z s. Meets W n (lands W gs C Γ st) F z (r .resume is js (placeOf W gs C Γ) s)) at-q (m .sees)
+          (b js q (m .now) (g .1 .good) (fit-on (g .1 .later-cells) w) (g .1 .stand) (g .1 .same-end) (m .holding))))
   catches r is Γ ts st p e P x (ended c σ) f w b (ends h) = ends h
   catches r is Γ ts st p e P x (later σ) f w b (ends h) = ends h
   catches r is Γ ts st p e P x wrong f w b (ends h) = ends h

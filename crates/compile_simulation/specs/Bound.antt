@@ -42,6 +42,7 @@ few-way ifFalse = omega arith
 
 mutual
   unfolding opsS sizeS holdsS holdsIn
+
   pub fewS : (s : Stmt) (ss : List Scope) (Θ : List Passing) → holdsIn Θ + holdsS s ≤ 16 → opsS s ss Θ + 5 ≤ 22 * sizeS s
   fewS (block ds is) ss Θ l = let q = few-head ds Θ (λ Φ. opsItems is (blockOf ds is ∷ ss) (theLabels is ∷ Φ)) (22 * sizeItems is) (holdsItems is) (λ Φ m. fewItems is (blockOf ds is ∷ ss) (theLabels is ∷ Φ) m) l in omega arith
   fewS (assign x e) ss Θ l = let q = fewTarget x ss Θ (omega arith) in let r = fewE e ss Θ (omega arith) in omega arith
@@ -83,7 +84,7 @@ mutual
   fewE (blockExpr ds is e) ss Θ l =
       let inner = expressionOf ds is ∷ ss in
       let q = few-head ds Θ (λ Φ. opsItems is inner (theLabels is ∷ Φ) + opsE e inner Φ) (22 * sizeItems is + 22 * sizeE e) (max (holdsItems is) (holdsE e))
-          (λ Φ m. let r = fewItems is inner (theLabels is ∷ Φ) (omega arith) in let u = fewE e inner Φ (omega arith) in omega arith) l in omega arith
+      (λ Φ m. let r = fewItems is inner (theLabels is ∷ Φ) (omega arith) in let u = fewE e inner Φ (omega arith) in omega arith) l in omega arith
 
   fewEs : (es : Exprs) (ss : List Scope) (Θ : List Passing) → holdsIn Θ + holdsEs es ≤ 16 → opsEs es ss Θ ≤ 22 * sizeEs es
   fewEs noExpr ss Θ l = omega arith

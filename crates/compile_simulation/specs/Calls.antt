@@ -153,17 +153,20 @@ fit-callee W gs C k Γ a st D n xs s w t = record {
     anyone : (o : Owner) → Owners (waits a st (heldIn Γ) (C .body) D ∷ C .below) o
     anyone own = tt
     anyone root = tt
+
     low-write : (fs : List Activation) (b c : ℕ) (x : Cell) (ls : List Cell) → globalAt b Γ ≡ some (kept (ownerOf fs) c)
         → ((x' : Cell) (cs' ls' : List Cell) → C .keeps cs' ls' → C .keeps (ownPut (ownerOf fs) c x' cs') (rootPut (ownerOf fs) c x' ls'))
         → (blocksOf gs Γ (cellsBack fs D ls) ≡ blocksOf gs Γ (D .cells)) × C .keeps (cellsBack fs D ls) (lowestBack fs D ls)
         → (blocksOf gs Γ (cellsBack fs D (put ls c x)) ≡ blocksOf gs Γ (D .cells)) × C .keeps (cellsBack fs D (put ls c x)) (lowestBack fs D (put ls c x))
     low-write [] b c x ls e g h = (global-blocks gs b Γ c x ls e (w .distinct) ∙ h .0, g x ls (D .lowest) (h .1))
     low-write (f ∷ fs) b c x ls e g h = (h .0, g x (D .cells) ls (h .1))
+
     global-write : (b c : ℕ) (o : Owner) (x : Cell) (cs ls : List Cell) → globalAt b (W .shared-names) ≡ some (kept o c) → keptBelow gs C Γ D cs ls → keptBelow gs C Γ D (ownPut o c x cs) (rootPut o c x ls)
     global-write b c o x cs ls e h =
         let q = w .shared b c o e in
         subst (λ z. keptBelow gs C Γ D (ownPut z c x cs) (rootPut z c x ls)) (sym (q .0))
-          (low-write (C .below) b c x ls (q .1) (λ x' cs' ls' m. w .stable-global b c (ownerOf (C .below)) x' cs' ls' (q .1) m) h)
+        (low-write (C .below) b c x ls (q .1) (λ x' cs' ls' m. w .stable-global b c (ownerOf (C .below)) x' cs' ls' (q .1) m) h)
+
     any-write : (b c : ℕ) (o : Owner) (x : Cell) (cs ls : List Cell) → (o ≡ own) ⊎ (globalAt b (inside-proc xs s (W .shared-names)) ≡ some (kept o c)) → keptBelow gs C Γ D cs ls → keptBelow gs C Γ D (ownPut o c x cs) (rootPut o c x ls)
     any-write b c o x cs ls (inl e) h = subst (λ z. keptBelow gs C Γ D (ownPut z c x cs) (rootPut z c x ls)) (sym e) h
     any-write b c o x cs ls (inr e) h = global-write b c o x cs ls (sym (global-past b xs 0 (inside s ∷ W .shared-names)) ∙ e) h
@@ -184,8 +187,8 @@ params-seen gs (x ∷ xs) (v ∷ vs) pre rest n Γ bs l e h =
     let l' : length vs ≡ length xs = omega arith in
     let k : suc n ≡ length (pre ++ (assigned v ∷ [])) = simp length-append (omega arith) in
     let rest-is : blocksOf gs (parameterCells xs (suc n) Γ) cs ≡ pairUp xs (map (seenV gs) vs) ∷ bs =
-        subst (λ z. blocksOf gs (parameterCells xs (suc n) Γ) z ≡ pairUp xs (map (seenV gs) vs) ∷ bs) moved-on
-          (params-seen gs xs vs (pre ++ (assigned v ∷ [])) rest (suc n) Γ bs l' k (subst (λ z. blocksOf gs Γ z ≡ [] ∷ bs) (sym moved-on) h)) in
+    subst (λ z. blocksOf gs (parameterCells xs (suc n) Γ) z ≡ pairUp xs (map (seenV gs) vs) ∷ bs) moved-on
+    (params-seen gs xs vs (pre ++ (assigned v ∷ [])) rest (suc n) Γ bs l' k (subst (λ z. blocksOf gs Γ z ≡ [] ∷ bs) (sym moved-on) h)) in
     let here-is : cellAt cs n ≡ assigned v = subst (λ z. cellAt cs z ≡ assigned v) (sym e) (cell-next pre (assigned v) (assignAll vs ++ rest)) in
     ap₂ (λ c l. inFirst (slot (x .name) (seenC gs c)) l) here-is rest-is
 
@@ -195,16 +198,16 @@ unfolding blocksOf rootsOf
 entered-seen W gs C Γ D b xs s vs n w t l =
     let cs = assignAll vs ++ freshAll (drop (length vs) (b .cells)) in
     ap₂ (λ x y. record { root = x; blocks = y; records = map (seenR gs) (D .records); trace = D .trace; taken = D .taken })
-      (roots-past gs xs 0 (inside s ∷ W .shared-names) cs (lowestOf (C .below) (D .cells) (D .lowest)) ∙ sym (w .roots (D .cells) (D .lowest) cs))
-      (params-seen gs xs vs [] (freshAll (drop (length vs) (b .cells))) 0 (inside s ∷ W .shared-names) [] l refl (ap (λ z. [] ∷ z) (t .no-block cs)))
+    (roots-past gs xs 0 (inside s ∷ W .shared-names) cs (lowestOf (C .below) (D .cells) (D .lowest)) ∙ sym (w .roots (D .cells) (D .lowest) cs))
+    (params-seen gs xs vs [] (freshAll (drop (length vs) (b .cells))) 0 (inside s ∷ W .shared-names) [] l refl (ap (λ z. [] ∷ z) (t .no-block cs)))
 
 -- ── returning ──
 pub returned-seen : (W : Setting) (gs : List Global) (C : Work) (Γ Δ : List Around) (D E : Data) (n : ℕ) → Fit W gs C Γ n → ((cs ls : List Cell) → rootsOf gs Δ cs ls ≡ rootsOf gs (W .shared-names) cs ls) → keptBelow gs C Γ D (E .cells) (E .lowest)
     → seen gs Γ (returned (C .below) D E) ≡ withBlocks (blocksOf gs Γ (D .cells)) (seen gs Δ E)
 returned-seen W gs C Γ Δ D E n w r k =
     ap₂ (λ x y. record { root = x; blocks = y; records = map (seenR gs) (E .records); trace = E .trace; taken = E .taken })
-      (w .roots (cellsBack (C .below) D (E .lowest)) (lowestBack (C .below) D (E .lowest)) (E .cells) ∙ ap (λ z. rootsOf gs (W .shared-names) (E .cells) z) (low (C .below)) ∙ sym (r (E .cells) (E .lowest)))
-      (k .0)
+    (w .roots (cellsBack (C .below) D (E .lowest)) (lowestBack (C .below) D (E .lowest)) (E .cells) ∙ ap (λ z. rootsOf gs (W .shared-names) (E .cells) z) (low (C .below)) ∙ sym (r (E .cells) (E .lowest)))
+    (k .0)
   where
     low : (fs : List Activation) → lowestOf fs (cellsBack fs D (E .lowest)) (lowestBack fs D (E .lowest)) ≡ E .lowest
     low [] = refl
@@ -230,15 +233,15 @@ module _ (W : Setting) (gs : List Global) where
     leaves Γ Δ k a e n' b st D x z p q w r (crash h) = crash h
     leaves {G = G} {n = n} {L = L} Γ Δ k a e n' b st D x (done v τ) p q w r (ends h) = from h (λ y m.
         subst (λ z. Meets W n L (Arrives W gs C G (Sees W gs C Γ) (heldIn Γ) (suc a) st) z (done v (withBlocks (blocksOf gs Γ (D .cells)) τ))) (sym (m .there ∙ ap (λ us. conf W gs k (waits a st (heldIn Γ) (C .body) D ∷ C .below) e us [] (m .now)) (append-nil (m .top))))
-          (hands-down (C .below) k (C .body) a e b (m .top) st (heldIn Γ) D (m .now) p q
-            (ends (here (record {
-              top = m .top;
-              now = returned (C .below) D (m .now);
-              there = refl;
-              sees = returned-seen W gs C Γ Δ D (m .now) n' w r (m .holding) ∙ ap (λ σ. withBlocks (blocksOf gs Γ (D .cells)) σ) (m .sees);
-              gave = m .gave;
-              holding = m .holding .1;
-            })))))
+        (hands-down (C .below) k (C .body) a e b (m .top) st (heldIn Γ) D (m .now) p q
+        (ends (here (record {
+          top = m .top;
+          now = returned (C .below) D (m .now);
+          there = refl;
+          sees = returned-seen W gs C Γ Δ D (m .now) n' w r (m .holding) ∙ ap (λ σ. withBlocks (blocksOf gs Γ (D .cells)) σ) (m .sees);
+          gave = m .gave;
+          holding = m .holding .1;
+        })))))
     leaves Γ Δ k a e n' b st D x (jump l τ) p q w r (ends h) = absurd (h .there)
     leaves Γ Δ k a e n' b st D x (over c τ) p q w r (ends h) = ends h
     leaves Γ Δ k a e n' b st D x (later τ) p q w r (ends h) = ends h
@@ -248,31 +251,34 @@ module _ (W : Setting) (gs : List Global) where
         → fetch (W .macro) (C .body) a ≡ some (call k) → fetch (W .macro) k e ≡ some return → notRoot (W .macro) k ≡ some b → b .parameters ≡ length (q .parameters) → length top ≡ length (q .parameters)
         → Fit W gs C Γ n' → Static gs (W .shared-names) (q .parameters) s → Holds C D
         → ((E : Data) → Holds (callee gs C k Γ a st D) E → Meets W n (nowhere W gs C) (Arrives W gs (callee gs C k Γ a st D) G (Sees W gs (callee gs C k Γ a st D) (inside-proc (q .parameters) s (W .shared-names))) [] e [])
-            (at-work W gs (callee gs C k Γ a st D) (b .first) [] [] E) (f (q .body) (deeper (placeOf W gs C Γ)) (seen gs (inside-proc (q .parameters) s (W .shared-names)) E)))
+        (at-work W gs (callee gs C k Γ a st D) (b .first) [] [] E) (f (q .body) (deeper (placeOf W gs C Γ)) (seen gs (inside-proc (q .parameters) s (W .shared-names)) E)))
         → Meets W (suc n) L (Arrives W gs C G (Sees W gs C Γ) (heldIn Γ) (suc a) st) (at-work W gs C a (top ++ st) (heldIn Γ) D) (activate (some q) f (map (seenV gs) (onto top [])) (placeOf W gs C Γ) (seen gs Γ D))
     unfolding act doCall activate rootsOf
     calls G {n} {L} Γ k a e n' b q s top st D f p pr pb c l w t h sim = op-tick W gs (C .body) (C .below) (call k) a (top ++ st) (heldIn Γ) D p
         (rw (pb, c, sym l) (rw (pops top st [] _)
-          (demanded (D .trace) (D .taken) (allFit (tysOf (onto top [])) (take (length top) (b .cells))) badType _
-            (demanded (D .trace) (D .taken) (leb (length (b .cells)) 32) badFrame _
-              (rw (lowest-length (C .below) (D .lowest)) (enters (ltb (suc (length (C .below))) 32)))))))
+        (demanded (D .trace) (D .taken) (allFit (tysOf (onto top [])) (take (length top) (b .cells))) badType _
+        (demanded (D .trace) (D .taken) (leb (length (b .cells)) 32) badFrame _
+        (rw (lowest-length (C .below) (D .lowest)) (enters (ltb (suc (length (C .below))) 32)))))))
       where
         counts : length (onto top []) ≡ length (q .parameters)
         counts = let z = onto-length top [] in omega arith
+
         holding : Holds (callee gs C k Γ a st D) (entered (C .below) b (onto top []) D)
         holding = (same-blocks (C .below), same-kept (C .below) h)
           where
             same-blocks : (fs : List Activation) → blocksOf gs Γ (cellsBack fs D (lowestOf fs (D .cells) (D .lowest))) ≡ blocksOf gs Γ (D .cells)
             same-blocks [] = refl
             same-blocks (g ∷ fs) = refl
+
             same-kept : (fs : List Activation) → C .keeps (D .cells) (D .lowest) → C .keeps (cellsBack fs D (lowestOf fs (D .cells) (D .lowest))) (lowestBack fs D (lowestOf fs (D .cells) (D .lowest)))
             same-kept [] h = h
             same-kept (g ∷ fs) h = h
+
         enters : (t : Bool) → Meets W n L (Arrives W gs C G (Sees W gs C Γ) (heldIn Γ) (suc a) st)
             (stepped (if t then moved [] (running (D .records) (activation k b (onto top [])) (at a st (topOf W gs (C .body) (C .below) a (top ++ st) (heldIn Γ) D) ∷ putLowest (D .lowest) (C .below))) else condition tooManyActivations (hereOf W gs (C .body) (C .below) a (top ++ st) (heldIn Γ) D)) (D .trace) (D .taken))
             (if t then leaving (λ τ. blocksOf gs Γ (D .cells)) (f (q .body) (deeper (placeOf W gs C Γ)) (withBlocks (pairUp (q .parameters) (map (seenV gs) (onto top [])) ∷ []) (seen gs Γ D)))
-              else over tooManyActivations (releaseAll (heldIn Γ ++ allHolds (C .below)) (seen gs Γ D)))
+            else over tooManyActivations (releaseAll (heldIn Γ ++ allHolds (C .below)) (seen gs Γ D)))
         enters true = rw (waits-below (C .below) a st (heldIn Γ) (C .body) D)
             (leaves Γ (inside-proc (q .parameters) s (W .shared-names)) k a e n' b st D _ _ pr pb w (λ cs ls. roots-past gs (q .parameters) 0 (inside s ∷ W .shared-names) cs ls)
-              (rw (sym (entered-seen W gs C Γ D b (q .parameters) s (onto top []) n' w t counts)) (sim (entered (C .below) b (onto top []) D) holding)))
+            (rw (sym (entered-seen W gs C Γ D b (q .parameters) s (onto top []) n' w t counts)) (sim (entered (C .below) b (onto top []) D) holding)))
         enters false = conds W gs (C .body) (C .below) tooManyActivations Γ a (top ++ st) D

@@ -64,6 +64,6 @@ module _ (W : Setting) (gs : List Global) (k : ℕ) (fs : List Activation) {A : 
   tests z i c t a st K D b e g p₁ p₂ p₃ p₄ f h = loads W gs k fs own c a st K D tt p₁ (λ v q.
       let u : v ≡ int z = cc (sym (found-at (D .cells) c (assigned v) q) ∙ g) in
       rw u (pushes W gs k fs (int (pos i)) (suc a) (int z ∷ st) K D p₂
-        (op-at W gs k fs (operate (binary equal)) (suc (suc a)) (int (pos i) ∷ (int z ∷ st)) K D p₃
-          (goes-on W gs k fs [] (log (sameInteger z (pos i)) ∷ st) (suc (suc a)) (int (pos i) ∷ (int z ∷ st)) K D
-            (forks W gs k fs t (log (sameInteger z (pos i))) (suc (suc (suc a))) st K D p₄ (λ y. f (cc (y, e))) (λ y. h (cc (y, e))))))))
+      (op-at W gs k fs (operate (binary equal)) (suc (suc a)) (int (pos i) ∷ (int z ∷ st)) K D p₃
+      (goes-on W gs k fs [] (log (sameInteger z (pos i)) ∷ st) (suc (suc a)) (int (pos i) ∷ (int z ∷ st)) K D
+      (forks W gs k fs t (log (sameInteger z (pos i))) (suc (suc (suc a))) st K D p₄ (λ y. f (cc (y, e))) (λ y. h (cc (y, e))))))))

@@ -91,6 +91,7 @@ module _ (gs : List Global) where
           yes : (b : Bool) → T b → b ≡ true
           yes true h = refl
           yes false h = absurd h
+
       go : (t : Bool) → eqb c d ≡ t → Agrees (if t then gives (log (f (sameRef r s))) else mistyped)
           (if eqb (classOf (classesOf gs) c .name) (classOf (classesOf gs) d .name) then gives (log (f (sameRef r s))) else mistyped)
       go true e = rw (same (classOf (classesOf gs) c .name) (classOf (classesOf gs) d .name) (ap (λ k. classOf (classesOf gs) k .name) (eqb→eq c d (subst T (sym e) tt)))) refl

@@ -112,6 +112,7 @@ module _ (W : Setting) (gs : List Global) (k : ℕ) (fs : List Activation) where
         pushed : (x : Cell) → ((v : Value) → x ≡ assigned v → Meets W n L F (conf (suc a) (v ∷ st) K D) r)
             → Meets W n L F (stepped (pushCell x st (hereOf a st K D)) (D .trace) (D .taken)) r
         pushed (assigned v) f = goes-on [] (v ∷ st) a st K D (f v refl)
+
         go : (q : Owner) → Owners fs q → ((v : Value) → getElem? (ofOwner gs q (D .cells) (D .lowest)) c ≡ some (assigned v) → Meets W n L F (conf (suc a) (v ∷ st) K D) r)
             → Meets W n L F (stepped (given (getElem? (cellsFor q (hereOf a st K D)) c) badFrame (λ x. pushCell x st (hereOf a st K D))) (D .trace) (D .taken)) r
         go own w f = had (D .trace) (D .taken) (getElem? (D .cells) c) badFrame _ (λ x e. pushed x (λ v u. f v (e ∙ ap some u)))
@@ -128,14 +129,15 @@ module _ (W : Setting) (gs : List Global) (k : ℕ) (fs : List Activation) where
       where
         h : Here
         h = hereOf a (v ∷ st) K D
+
         go : (q : Owner) → Owners fs q → ((y : Cell) → getElem? (ofOwner gs q (D .cells) (D .lowest)) c ≡ some y → Meets W n L F (conf (suc a) st K (written q c (assigned v) D)) r)
             → Meets W n L F (stepped (given (getElem? (cellsFor q h) c) badFrame (λ x. demand (fits (tyOf v) (cellTy x)) badType (goesOn [] st (putCells q (put (cellsFor q h) c (assigned v)) h)))) (D .trace) (D .taken)) r
         go own w f = had (D .trace) (D .taken) (getElem? (D .cells) c) badFrame _ (λ x e. demanded (D .trace) (D .taken) (fits (tyOf v) (cellTy x)) badType _
             (demanded (D .trace) (D .taken) (leb (length st) 32) badFrame _ (f x e)))
         go root w f = had (D .trace) (D .taken) (getElem? (cellsFor root h) c) badFrame _ (λ x e. demanded (D .trace) (D .taken) (fits (tyOf v) (cellTy x)) badType _
             (demanded (D .trace) (D .taken) (leb (length st) 32) badFrame _
-              (subst (λ y. Meets W n L F y r) (sym (root-put (D .records) (topOf a (v ∷ st) K D) st fs (D .lowest) c (assigned v) (D .trace) (D .taken) w (rootOf (topOf a (v ∷ st) K D) (putLowest (D .lowest) fs) .cells) (lowest fs w)))
-                (f x (ap (λ z. getElem? z c) (sym (lowest fs w)) ∙ e)))))
+            (subst (λ y. Meets W n L F y r) (sym (root-put (D .records) (topOf a (v ∷ st) K D) st fs (D .lowest) c (assigned v) (D .trace) (D .taken) w (rootOf (topOf a (v ∷ st) K D) (putLowest (D .lowest) fs) .cells) (lowest fs w)))
+            (f x (ap (λ z. getElem? z c) (sym (lowest fs w)) ∙ e)))))
           where
             lowest : (xs : List Activation) → Owners xs root → rootOf (topOf a (v ∷ st) K D) (putLowest (D .lowest) xs) .cells ≡ D .lowest
             lowest [] w = absurd w

@@ -85,6 +85,7 @@ bound-cases P b n a c o Γ h p f = go (eqb b a) h
   where
     its : Kept → Type 0
     its (kept o c) = P o c
+
     go : (t : Bool) → orCell (if t then some (kept own n) else boundAt a Γ) (globalAt a Γ) ≡ some (kept o c) → P o c
     go true e = let z : kept own n ≡ kept o c = cc e in subst its z p
     go false e = f e

@@ -40,10 +40,10 @@ module _ (gs : List Global) where
     where
       pick : (t : Bool) → eqb (x .name) a ≡ t → (t || amongNames a (namesOf xs)) ≡ true → getElem? (v ∷ ws) (if t then 0 else suc (indexOf a (namesOf xs))) ≡ some w
           → (amongNames a (namesOf xs) ≡ true → getElem? ws (indexOf a (namesOf xs)) ≡ some w
-            → (cellIn a (pairUp xs (map (seenV gs) ws)) ≡ some (assigned (seenV gs w))) × ((u : Value) → putIn a (assigned (seenV gs u)) (pairUp xs (map (seenV gs) ws)) ≡ pairUp xs (map (seenV gs) (put ws (indexOf a (namesOf xs)) u))))
+          → (cellIn a (pairUp xs (map (seenV gs) ws)) ≡ some (assigned (seenV gs w))) × ((u : Value) → putIn a (assigned (seenV gs u)) (pairUp xs (map (seenV gs) ws)) ≡ pairUp xs (map (seenV gs) (put ws (indexOf a (namesOf xs)) u))))
           → ((if t then some (assigned (seenV gs v)) else cellIn a (pairUp xs (map (seenV gs) ws))) ≡ some (assigned (seenV gs w)))
-            × ((u : Value) → (if t then slot a (assigned (seenV gs u)) ∷ pairUp xs (map (seenV gs) ws) else slot (x .name) (assigned (seenV gs v)) ∷ putIn a (assigned (seenV gs u)) (pairUp xs (map (seenV gs) ws)))
-              ≡ pairUp (x ∷ xs) (map (seenV gs) (put (v ∷ ws) (if t then 0 else suc (indexOf a (namesOf xs))) u)))
+          × ((u : Value) → (if t then slot a (assigned (seenV gs u)) ∷ pairUp xs (map (seenV gs) ws) else slot (x .name) (assigned (seenV gs v)) ∷ putIn a (assigned (seenV gs u)) (pairUp xs (map (seenV gs) ws)))
+          ≡ pairUp (x ∷ xs) (map (seenV gs) (put (v ∷ ws) (if t then 0 else suc (indexOf a (namesOf xs))) u)))
       pick true t h e f = let z : v ≡ w = cc e in (ap (λ y. some (assigned (seenV gs y))) z, λ u. ap (λ y. slot y (assigned (seenV gs u)) ∷ pairUp xs (map (seenV gs) ws)) (sym (eqb→eq (x .name) a (subst T (sym t) tt))))
       pick false t h e f = let q = f h e in (q .0, λ u. ap (λ l. slot (x .name) (assigned (seenV gs v)) ∷ l) (q .1 u))
 
@@ -85,12 +85,12 @@ module _ (W : Setting) (gs : List Global) (C : Work) {n : ℕ} {L : ℕ → Stor
     where
       checked : (m : Made) (b : Bool) → eqb (m .class) c ≡ b → getElem? (D .records) i ≡ some m
           → Meets W n L (Arrives W gs C (One W gs C) (Sees W gs C Γ) (heldIn Γ) (suc a) st)
-            (stepped (demand b badRecord (given (getElem? (m .fields) x) badType (λ w. goesOn [] (w ∷ st) (hereOf W gs (C .body) (C .below) a (ref d (some i) ∷ st) (heldIn Γ) D)))) (D .trace) (D .taken))
-            (ofRecord (getElem? (map (seenR gs) (D .records)) i) (λ q. cellValue (cellIn f (q .fields)) (seen gs Γ D)))
+          (stepped (demand b badRecord (given (getElem? (m .fields) x) badType (λ w. goesOn [] (w ∷ st) (hereOf W gs (C .body) (C .below) a (ref d (some i) ∷ st) (heldIn Γ) D)))) (D .trace) (D .taken))
+          (ofRecord (getElem? (map (seenR gs) (D .records)) i) (λ q. cellValue (cellIn f (q .fields)) (seen gs Γ D)))
       checked m false u e = lost
       checked m true u e = had (D .trace) (D .taken) (getElem? (m .fields) x) badType _ (λ w g.
           let q : cellIn f (pairUp (classOf (classesOf gs) (m .class) .fields) (map (seenV gs) (m .fields))) ≡ some (assigned (seenV gs w)) =
-              subst (λ j. cellIn f (pairUp (classOf (classesOf gs) j .fields) (map (seenV gs) (m .fields))) ≡ some (assigned (seenV gs w))) (sym (is-it (m .class) c true u refl)) (o (m .fields) w g .0) in
+          subst (λ j. cellIn f (pairUp (classOf (classesOf gs) j .fields) (map (seenV gs) (m .fields))) ≡ some (assigned (seenV gs w))) (sym (is-it (m .class) c true u refl)) (o (m .fields) w g .0) in
           rw (got gs (D .records) i m e) (rw q (goes-on W gs (C .body) (C .below) [] (w ∷ st) a (ref d (some i) ∷ st) (heldIn Γ) D (given-one W gs C Γ w D k))))
 
   pub puts : (Γ : List Around) (f c x : ℕ) (v w : Value) (a : ℕ) (st : List Value) (D : Data) → okField gs f c x → fetch (W .macro) (C .body) a ≡ some (putField c x) → Holds C D
@@ -106,16 +106,16 @@ module _ (W : Setting) (gs : List Global) (C : Work) {n : ℕ} {L : ℕ → Stor
     where
       checked : (m : Made) (b : Bool) → eqb (m .class) c ≡ b → getElem? (D .records) i ≡ some m
           → Meets W n L (Arrives W gs C (Nothing W gs C) (Sees W gs C Γ) (heldIn Γ) (suc a) st)
-            (stepped (demand b badRecord (given (getElem? (m .fields) x) badType (λ u. demand (fits (tyOf w) (tyOf u)) badType (goesOn [] st (machineWith (fieldPut i x w m (D .records)) (hereOf W gs (C .body) (C .below) a (w ∷ (ref d (some i) ∷ st)) (heldIn Γ) D)))))) (D .trace) (D .taken))
-            (ofRecord (getElem? (map (seenR gs) (D .records)) i) (λ q. done tt (withRecords (put (map (seenR gs) (D .records)) i (record { class = q .class; fields = putIn f (assigned (seenV gs w)) (q .fields) })) (seen gs Γ D))))
+          (stepped (demand b badRecord (given (getElem? (m .fields) x) badType (λ u. demand (fits (tyOf w) (tyOf u)) badType (goesOn [] st (machineWith (fieldPut i x w m (D .records)) (hereOf W gs (C .body) (C .below) a (w ∷ (ref d (some i) ∷ st)) (heldIn Γ) D)))))) (D .trace) (D .taken))
+          (ofRecord (getElem? (map (seenR gs) (D .records)) i) (λ q. done tt (withRecords (put (map (seenR gs) (D .records)) i (record { class = q .class; fields = putIn f (assigned (seenV gs w)) (q .fields) })) (seen gs Γ D))))
       checked m false u e = lost
       checked m true u e = had (D .trace) (D .taken) (getElem? (m .fields) x) badType _ (λ y g. demanded (D .trace) (D .taken) (fits (tyOf w) (tyOf y)) badType _
           (let j = is-it (m .class) c true u refl in
           let q : putIn f (assigned (seenV gs w)) (pairUp (classOf (classesOf gs) (m .class) .fields) (map (seenV gs) (m .fields))) ≡ pairUp (classOf (classesOf gs) (m .class) .fields) (map (seenV gs) (put (m .fields) x w)) =
-              subst (λ j. putIn f (assigned (seenV gs w)) (pairUp (classOf (classesOf gs) j .fields) (map (seenV gs) (m .fields))) ≡ pairUp (classOf (classesOf gs) j .fields) (map (seenV gs) (put (m .fields) x w))) (sym j) (o (m .fields) y g .1 w) in
+          subst (λ j. putIn f (assigned (seenV gs w)) (pairUp (classOf (classesOf gs) j .fields) (map (seenV gs) (m .fields))) ≡ pairUp (classOf (classesOf gs) j .fields) (map (seenV gs) (put (m .fields) x w))) (sym j) (o (m .fields) y g .1 w) in
           let new : Made = record { class = m .class; fields = put (m .fields) x w } in
           rw (got gs (D .records) i m e) (rw q (rw (sym (put-map gs (D .records) i new))
-            (demanded (D .trace) (D .taken) (leb (length st) 32) badFrame _ (arrived W gs C Γ tt (withMade (put (D .records) i new) D) k))))))
+          (demanded (D .trace) (D .taken) (leb (length st) 32) badFrame _ (arrived W gs C Γ tt (withMade (put (D .records) i new) D) k))))))
 
   -- a new record
   pub makes : (Γ : List Around) (c k : ℕ) (xs : List Typed) (ts : List Ty) (a : ℕ) (top st : List Value) (D : Data) → fetch (W .macro) (C .body) a ≡ some (make k) → getElem? (W .macro .classes) k ≡ some ts → length top ≡ length ts
@@ -127,12 +127,13 @@ module _ (W : Setting) (gs : List Global) (C : Work) {n : ℕ} {L : ℕ → Stor
     where
       new : Made
       new = record { class = k; fields = onto top [] }
+
       pick : (b : Bool) → Meets W n L (Arrives W gs C (One W gs C) (Sees W gs C Γ) (heldIn Γ) (suc a) st)
           (stepped (if b then goesOn [] (ref k (some (length (D .records))) ∷ st) (machineWith (D .records ++ (record { class = k; fields = onto top [] } ∷ [])) (hereOf W gs (C .body) (C .below) a (top ++ st) (heldIn Γ) D)) else condition tooManyRecords (hereOf W gs (C .body) (C .below) a (top ++ st) (heldIn Γ) D)) (D .trace) (D .taken))
           (if b then done (ref c (some (length (D .records)))) (withRecords (map (seenR gs) (D .records) ++ (record { class = c; fields = pairUp xs (map (seenV gs) (onto top [])) } ∷ [])) (seen gs Γ D)) else treeCondition tooManyRecords (placeOf W gs C Γ) (seen gs Γ D))
       pick true = demanded (D .trace) (D .taken) (leb (length (ref k (some (length (D .records))) ∷ st)) 32) badFrame _
           (subst₂ (λ d rs. Meets W n L (Arrives W gs C (One W gs C) (Sees W gs C Γ) (heldIn Γ) (suc a) st) (at-work W gs C (suc a) (ref k (some (length (D .records))) ∷ st) (heldIn Γ) (withMade (D .records ++ (record { class = k; fields = onto top [] } ∷ [])) D))
-              (done (ref d (some (length (D .records)))) (withRecords rs (seen gs Γ D)))) e
-            (add-map gs (D .records) (record { class = k; fields = onto top [] }) ∙ ap₂ (λ d ys. map (seenR gs) (D .records) ++ (record { class = d; fields = pairUp ys (map (seenV gs) (onto top [])) } ∷ [])) e f)
-            (given-one W gs C Γ (ref k (some (length (D .records)))) (withMade (D .records ++ (record { class = k; fields = onto top [] } ∷ [])) D) h))
+          (done (ref d (some (length (D .records)))) (withRecords rs (seen gs Γ D)))) e
+          (add-map gs (D .records) (record { class = k; fields = onto top [] }) ∙ ap₂ (λ d ys. map (seenR gs) (D .records) ++ (record { class = d; fields = pairUp ys (map (seenV gs) (onto top [])) } ∷ [])) e f)
+          (given-one W gs C Γ (ref k (some (length (D .records)))) (withMade (D .records ++ (record { class = k; fields = onto top [] } ∷ [])) D) h))
       pick false = conds W gs (C .body) (C .below) tooManyRecords Γ a (top ++ st) D

@@ -56,8 +56,8 @@ module _ (W : Setting) (gs : List Global) where
   letsGo Γ g m x r i (crash h) = crash h
   letsGo {n} Γ g m x (done v σ) i (ends h) = begin h (λ y a.
       subst (λ z. Meets W n (lands W gs atRoot Γ []) (Arrives W gs atRoot (Nothing W gs atRoot) Told (heldIn Γ) (suc m) []) z (done v (say (release g) σ))) (sym (a .there))
-        (lets W gs 0 [] g m (a .top ++ []) (heldIn Γ) (a .now) i
-          (ends (here (record { top = a .top; now = says (event (release g) ∷ []) (a .now); there = refl; sees = (ap (λ t. event (release g) ∷ t) (a .sees .0), a .sees .1); gave = a .gave; holding = tt })))))
+      (lets W gs 0 [] g m (a .top ++ []) (heldIn Γ) (a .now) i
+      (ends (here (record { top = a .top; now = says (event (release g) ∷ []) (a .now); there = refl; sees = (ap (λ t. event (release g) ∷ t) (a .sees .0), a .sees .1); gave = a .gave; holding = tt })))))
   letsGo Γ g m x (jump a σ) i (ends h) = ends h
   letsGo Γ g m x (ended c σ) i (ends h) = ends h
   letsGo Γ g m x (later σ) i (ends h) = ends h
@@ -76,16 +76,16 @@ module _ (W : Setting) (gs : List Global) where
       let u = initial (tyIn gs (x .type)) in
       let Δ = global own (x .name) (p .cell) ∷ Γ in
       pushes W gs 0 [] u (p .address) [] (heldIn Γ) D (h .1 .0)
-        (stores W gs 0 [] own (p .cell) u (suc (p .address)) [] (heldIn Γ) D tt (h .1 .1 .0) (λ y e.
-          let D' = written own (p .cell) (assigned u) D in
-          subst (λ s. Meets W n (lands W gs atRoot Γ []) (Arrives W gs atRoot (Nothing W gs atRoot) Told (heldIn Γ) (after (codeHead gs (global own) ds Δ (at (suc (suc (p .address))) (suc (p .cell))) f) (at (suc (suc (p .address))) (suc (p .cell))) .address) [])
-              (at-work W gs atRoot (suc (suc (p .address))) [] (heldIn Γ) D') (within ds (placeOf W gs atRoot Γ) s g))
-            (declared gs x Γ D (p .cell) y (o .0) (o .1) e (b (D .cells)))
-            (rootHead ds Δ (at (suc (suc (p .address))) (suc (p .cell))) P f g D' i (o .2) b (h .1 .1 .1))))
+      (stores W gs 0 [] own (p .cell) u (suc (p .address)) [] (heldIn Γ) D tt (h .1 .1 .0) (λ y e.
+      let D' = written own (p .cell) (assigned u) D in
+      subst (λ s. Meets W n (lands W gs atRoot Γ []) (Arrives W gs atRoot (Nothing W gs atRoot) Told (heldIn Γ) (after (codeHead gs (global own) ds Δ (at (suc (suc (p .address))) (suc (p .cell))) f) (at (suc (suc (p .address))) (suc (p .cell))) .address) [])
+      (at-work W gs atRoot (suc (suc (p .address))) [] (heldIn Γ) D') (within ds (placeOf W gs atRoot Γ) s g))
+      (declared gs x Γ D (p .cell) y (o .0) (o .1) e (b (D .cells)))
+      (rootHead ds Δ (at (suc (suc (p .address))) (suc (p .cell))) P f g D' i (o .2) b (h .1 .1 .1))))
   rootHead (holding x ∷ ds) Γ p P f g D i o b h =
       takes W gs 0 [] x (p .address) [] (heldIn Γ) D (h .0)
-        (letsGo Γ x (after (codeHead gs (global own) ds (held x ∷ Γ) (skip 1 p) f) (skip 1 p) .address) _ (within ds (under x (placeOf W gs atRoot Γ)) (say (hold x) (seen gs Γ D)) g) (h .1 .1)
-          (rootHead ds (held x ∷ Γ) (skip 1 p) P f g (says (event (hold x) ∷ []) D) i o b (h .1 .0)))
+      (letsGo Γ x (after (codeHead gs (global own) ds (held x ∷ Γ) (skip 1 p) f) (skip 1 p) .address) _ (within ds (under x (placeOf W gs atRoot Γ)) (say (hold x) (seen gs Γ D)) g) (h .1 .1)
+      (rootHead ds (held x ∷ Γ) (skip 1 p) P f g (says (event (hold x) ∷ []) D) i o b (h .1 .0)))
 
   module _ (table : (a : ℕ) (q : Procedure) → procedureIn a gs ≡ some q → Called W gs a q)
       (classes : (c : ℕ) (xs : List Typed) → classIn c gs ≡ some xs → (ts : List Ty) × (getElem? (W .macro .classes) (classNumber gs c) ≡ some ts) × (length ts ≡ length xs)) where
@@ -99,11 +99,11 @@ module _ (W : Setting) (gs : List Global) where
         → okRoot gs ds (outermost s ∷ []) 0 (λ Δ n'. Fit W gs atRoot Δ n' × ((x : ℕ) → okItems gs is (labels is x ∷ Δ)))
         → Stands W 0 (codeHead gs (global own) ds (outermost s ∷ []) (at 0 0) (λ Δ q. codeItems gs is (labels is (q .address) ∷ Δ) [] q)) (at 0 0)
         → Meets W (suc n) (lands W gs atRoot (outermost s ∷ []) []) (Arrives W gs atRoot (Nothing W gs atRoot) Told [] (after (codeHead gs (global own) ds (outermost s ∷ []) (at 0 0) (λ Δ q. codeItems gs is (labels is (q .address) ∷ Δ) [] q)) (at 0 0) .address) [])
-          (at-work W gs atRoot 0 [] [] D) (within ds (placeOf W gs atRoot (outermost s ∷ [])) (seen gs (outermost s ∷ []) D) (λ X σ. catch (fueled (world W gs) n) is X (execItems (world W gs) (fueled (world W gs) n) is X σ)))
+        (at-work W gs atRoot 0 [] [] D) (within ds (placeOf W gs atRoot (outermost s ∷ [])) (seen gs (outermost s ∷ []) D) (λ X σ. catch (fueled (world W gs) n) is X (execItems (world W gs) (fueled (world W gs) n) is X σ)))
     unfolding heldIn blocksOf
     rooted n ds s is D o h =
         let r = fueled (world W gs) n in let b = all W gs table classes n in
         rootHead ds (outermost s ∷ []) (at 0 0) (λ Δ n'. Fit W gs atRoot Δ n' × ((x : ℕ) → okItems gs is (labels is x ∷ Δ))) (λ Δ q. codeItems gs is (labels is (q .address) ∷ Δ) [] q)
-          (λ X σ. catch r is X (execItems (world W gs) r is X σ)) D
-          (λ Δ q E o' h'. told Δ (blockItems W gs table classes n r b atRoot is Δ [] [] q (o' .1) (o' .0) h' (λ E₁ k₁. simItems W gs table classes n r b is atRoot (labels is (q .address) ∷ Δ) [] q [] (o' .1 (q .address)) (fit-labels is (q .address) (o' .0)) h' E₁ k₁) E tt))
-          o (λ cs. refl) h
+        (λ X σ. catch r is X (execItems (world W gs) r is X σ)) D
+        (λ Δ q E o' h'. told Δ (blockItems W gs table classes n r b atRoot is Δ [] [] q (o' .1) (o' .0) h' (λ E₁ k₁. simItems W gs table classes n r b is atRoot (labels is (q .address) ∷ Δ) [] q [] (o' .1 (q .address)) (fit-labels is (q .address) (o' .0)) h' E₁ k₁) E tt))
+        o (λ cs. refl) h

@@ -173,9 +173,9 @@ module _ (W : Setting) (gs : List Global) where
         let e = after (codeItems gs is (labels is (p .address) ∷ Γ) ts p) p in
         let P : Items → Type 0 = λ js. okItems gs js (labels is (p .address) ∷ Γ) in
         let f : (a : ℕ) → Found W gs C (hasLabel a is) (from a is) (labels is (p .address) ∷ Γ) ts (labelAt is (scopesOf Γ) (theLabels is ∷ passing Γ) (p .address) a) (p .cell) e P =
-            λ a. found-label W gs C P (λ b js q. q) (λ s js q. q .1) is (labels is (p .address) ∷ Γ) ts p a (o (p .address)) h in
+        λ a. found-label W gs C P (λ b js q. q) (λ s js q. q .1) is (labels is (p .address) ∷ Γ) ts p a (o (p .address)) h in
         catches W gs C r is Γ ts st p e P (at-work W gs C (p .address) st (heldIn Γ) D) (execItems world r is (placeOf W gs C Γ) (seen gs Γ D)) f w
-          (below .b-resume C is Γ ts st (p .address) (p .cell) e f w) (g D k)
+        (below .b-resume C is Γ ts st (p .address) (p .cell) e f w) (g D k)
 
     -- inside a block, and about to leave it
     inward : {A : Type 0} {G : A → List Value → Type 0} {L : ℕ → Store → Conf → Type 0} (C : Work) (Γ Δ : List Around) (K : List ℕ) (b : ℕ) (st : List Value) (x : Conf) (z : Result A) → Opens gs Γ Δ → SameRoots gs Γ Δ
@@ -210,7 +210,7 @@ module _ (W : Setting) (gs : List Global) where
 
     asserts : {L : ℕ → Store → Conf → Type 0} (C : Work) (Γ : List Around) (w : Value) (a : ℕ) (st : List Value) (D : Data) → fetch (W .macro) (C .body) a ≡ some assertOp → Holds C D
         → Meets W (suc n) L (Arrives W gs C (Nothing W gs C) (Sees W gs C Γ) (heldIn Γ) (suc a) st) (at-work W gs C a (w ∷ st) (heldIn Γ) D)
-          (branch (seenV gs w) (λ ρ. done tt ρ) (λ ρ. treeCondition assertFalse (placeOf W gs C Γ) ρ) (seen gs Γ D))
+        (branch (seenV gs w) (λ ρ. done tt ρ) (λ ρ. treeCondition assertFalse (placeOf W gs C Γ) ρ) (seen gs Γ D))
     unfolding act doAssert branch
     asserts C Γ (int z) a st D p k = op-at W gs (C .body) (C .below) assertOp a (int z ∷ st) (heldIn Γ) D p lost
     asserts C Γ (log true) a st D p k = op-at W gs (C .body) (C .below) assertOp a (log true ∷ st) (heldIn Γ) D p (goes-on W gs (C .body) (C .below) [] st a (log true ∷ st) (heldIn Γ) D (arrived W gs C Γ tt D k))
@@ -279,7 +279,7 @@ module _ (W : Setting) (gs : List Global) where
     secondOf : (C : Work) (Γ : List Around) (o : Binary) (f : Expr) (v : Value) (D : Data) (a b : ℕ) (st : List Value) → fetch (W .macro) (C .body) b ≡ some (operate (binary o))
         → Gives C Γ (v ∷ st) a b (eval world r f) → Holds C D → decides o v ≡ false
         → Meets W (suc n) (nowhere W gs C) (Arrives W gs C (One W gs C) (Sees W gs C Γ) (heldIn Γ) (suc b) st) (at-work W gs C a (v ∷ st) (heldIn Γ) D)
-          (if decides o (seenV gs v) then done (seenV gs v) (seen gs Γ D) else next (eval world r f (placeOf W gs C Γ) (seen gs Γ D)) (λ w ρ. treeSettled (apply2 o (seenV gs v) w) (placeOf W gs C Γ) ρ))
+        (if decides o (seenV gs v) then done (seenV gs v) (seen gs Γ D) else next (eval world r f (placeOf W gs C Γ) (seen gs Γ D)) (λ w ρ. treeSettled (apply2 o (seenV gs v) w) (placeOf W gs C Γ) ρ))
     unfolding act doOperate
     secondOf C Γ o f v D a b st p g k e = rw (seen-decides gs o v, e) (bindE W gs C Γ (λ w ρ. treeSettled (apply2 o (seenV gs v) w) (placeOf W gs C Γ) ρ) (g D k) (λ w D' k'.
         op-at W gs (C .body) (C .below) (operate (binary o)) b (w ∷ (v ∷ st)) (heldIn Γ) D' p (settles C Γ b (w ∷ (v ∷ st)) st D' (apply2 o v w) (apply2 o (seenV gs v) (seenV gs w)) (seen-2 gs o v w) k')))
@@ -288,7 +288,7 @@ module _ (W : Setting) (gs : List Global) where
     abbrev Two : Work → List Around → Binary → Expr → Expr → List Value → ℕ → ℕ → Type 0
     Two C Γ u e f st a b = (D : Data) → Holds C D
         → Meets W (suc n) (nowhere W gs C) (Arrives W gs C (One W gs C) (Sees W gs C Γ) (heldIn Γ) b st) (at-work W gs C a st (heldIn Γ) D)
-          (next (eval world r e (placeOf W gs C Γ) (seen gs Γ D)) (λ v τ. if decides u v then done v τ else next (eval world r f (placeOf W gs C Γ) τ) (λ w ρ. treeSettled (apply2 u v w) (placeOf W gs C Γ) ρ)))
+        (next (eval world r e (placeOf W gs C Γ) (seen gs Γ D)) (λ v τ. if decides u v then done v τ else next (eval world r f (placeOf W gs C Γ) τ) (λ w ρ. treeSettled (apply2 u v w) (placeOf W gs C Γ) ρ)))
 
     -- at the end of a logical `and` or `or` the shape says that the second operand is logical, and it is the result
     joins : (C : Work) (Γ : List Around) (ts : List Ty) (u : Binary) (v w : Value) (a : ℕ) (st : List Value) (D : Data) → shapeIn (W .macro .shapes) a ≡ some (found Γ (logical ∷ ts)) → Holds C D
@@ -310,25 +310,25 @@ module _ (W : Setting) (gs : List Global) where
         bindE W gs C Γ _ (g (h .0) D k) (λ v D' k'. secondOf C Γ u f v D' (after x p .address) (after (F (tyE gs Γ e ∷ ts) (after x p)) (after x p) .address) st (h .1 .1) (i (tyE gs Γ e ∷ ts) (after x p) (v ∷ st) (more-cells x p) (h .1 .0)) k' (q v))
     ways marked u C Γ ts x p F e f st q h g i D k =
         bindE W gs C Γ _ (g (h .0) D k) (λ v D' k'. typed W gs (C .body) (C .below) Γ v st (after x p .address) (tyE gs Γ e) ts (heldIn Γ) D' (h .1 .0) (λ m.
-          secondOf C Γ u f v D' (after x p .address) (after (F (tyE gs Γ e ∷ ts) (after x p)) (after x p) .address) st (h .1 .1 .1) (i (tyE gs Γ e ∷ ts) (after x p) (v ∷ st) (more-cells x p) (h .1 .1 .0)) k'
-            (q .1 v (not-log gs (typeE (scopesOf Γ) e) v (q .0) m))))
+        secondOf C Γ u f v D' (after x p .address) (after (F (tyE gs Γ e ∷ ts) (after x p)) (after x p) .address) st (h .1 .1 .1) (i (tyE gs Γ e ∷ ts) (after x p) (v ∷ st) (more-cells x p) (h .1 .1 .0)) k'
+        (q .1 v (not-log gs (typeE (scopesOf Γ) e) v (q .0) m))))
     ways ifTrue u C Γ ts x p F e f st q h g i D k =
         let m = skip 1 (after x p) in let y = F ts m in let d = suc (after y m .address) in
         subst (λ z. Meets W (suc n) (nowhere W gs C) (Arrives W gs C (One W gs C) (Sees W gs C Γ) (heldIn Γ) (suc d) st) (at-work W gs C (p .address) st (heldIn Γ) D)
-            (next (eval world r e (placeOf W gs C Γ) (seen gs Γ D)) (λ v τ. if decides z v then done v τ else next (eval world r f (placeOf W gs C Γ) τ) (λ w ρ. treeSettled (apply2 z v w) (placeOf W gs C Γ) ρ)))) (sym q)
-          (bindE W gs C Γ _ (g (h .0) D k) (λ v D' k'. forks W gs (C .body) (C .below) d v (after x p .address) st (heldIn Γ) D' (h .1 .0)
-            (λ t. rw t (bindE W gs C Γ _ (i ts m st (more-cells x p) (h .1 .1 .0) D' k') (λ w D'' k''. jumps W gs (C .body) (C .below) (suc d) (after y m .address) (w ∷ st) (heldIn Γ) D'' (h .1 .1 .1 .0)
-              (joins C Γ ts both (log true) w (suc d) st D'' (h .1 .1 .1 .1 .1 .1) k'' (λ b. refl)))))
-            (λ t. rw t (pushes W gs (C .body) (C .below) (log false) d st (heldIn Γ) D' (h .1 .1 .1 .1 .1 .0) (given-one W gs C Γ (log false) D' k')))))
+        (next (eval world r e (placeOf W gs C Γ) (seen gs Γ D)) (λ v τ. if decides z v then done v τ else next (eval world r f (placeOf W gs C Γ) τ) (λ w ρ. treeSettled (apply2 z v w) (placeOf W gs C Γ) ρ)))) (sym q)
+        (bindE W gs C Γ _ (g (h .0) D k) (λ v D' k'. forks W gs (C .body) (C .below) d v (after x p .address) st (heldIn Γ) D' (h .1 .0)
+        (λ t. rw t (bindE W gs C Γ _ (i ts m st (more-cells x p) (h .1 .1 .0) D' k') (λ w D'' k''. jumps W gs (C .body) (C .below) (suc d) (after y m .address) (w ∷ st) (heldIn Γ) D'' (h .1 .1 .1 .0)
+        (joins C Γ ts both (log true) w (suc d) st D'' (h .1 .1 .1 .1 .1 .1) k'' (λ b. refl)))))
+        (λ t. rw t (pushes W gs (C .body) (C .below) (log false) d st (heldIn Γ) D' (h .1 .1 .1 .1 .1 .0) (given-one W gs C Γ (log false) D' k')))))
     ways ifFalse u C Γ ts x p F e f st q h g i D k =
         let m = skip 3 (after x p) in let y = F ts m in
         subst (λ z. Meets W (suc n) (nowhere W gs C) (Arrives W gs C (One W gs C) (Sees W gs C Γ) (heldIn Γ) (after y m .address) st) (at-work W gs C (p .address) st (heldIn Γ) D)
-            (next (eval world r e (placeOf W gs C Γ) (seen gs Γ D)) (λ v τ. if decides z v then done v τ else next (eval world r f (placeOf W gs C Γ) τ) (λ w ρ. treeSettled (apply2 z v w) (placeOf W gs C Γ) ρ)))) (sym q)
-          (bindE W gs C Γ _ (g (h .0) D k) (λ v D' k'. forks W gs (C .body) (C .below) (m .address) v (after x p .address) st (heldIn Γ) D' (h .1 .0)
-            (λ t. rw t (pushes W gs (C .body) (C .below) (log true) (suc (after x p .address)) st (heldIn Γ) D' (h .1 .1 .0)
-              (jumps W gs (C .body) (C .below) (after y m .address) (suc (suc (after x p .address))) (log true ∷ st) (heldIn Γ) D' (h .1 .1 .1 .0) (given-one W gs C Γ (log true) D' k'))))
-            (λ t. rw t (bindE W gs C Γ _ (i ts m st (more-cells x p) (h .1 .1 .1 .1 .1 .0) D' k') (λ w D'' k''.
-              joins C Γ ts either (log false) w (after y m .address) st D'' (h .1 .1 .1 .1 .1 .1) k'' (λ b. refl))))))
+        (next (eval world r e (placeOf W gs C Γ) (seen gs Γ D)) (λ v τ. if decides z v then done v τ else next (eval world r f (placeOf W gs C Γ) τ) (λ w ρ. treeSettled (apply2 z v w) (placeOf W gs C Γ) ρ)))) (sym q)
+        (bindE W gs C Γ _ (g (h .0) D k) (λ v D' k'. forks W gs (C .body) (C .below) (m .address) v (after x p .address) st (heldIn Γ) D' (h .1 .0)
+        (λ t. rw t (pushes W gs (C .body) (C .below) (log true) (suc (after x p .address)) st (heldIn Γ) D' (h .1 .1 .0)
+        (jumps W gs (C .body) (C .below) (after y m .address) (suc (suc (after x p .address))) (log true ∷ st) (heldIn Γ) D' (h .1 .1 .1 .0) (given-one W gs C Γ (log true) D' k'))))
+        (λ t. rw t (bindE W gs C Γ _ (i ts m st (more-cells x p) (h .1 .1 .1 .1 .1 .0) D' k') (λ w D'' k''.
+        joins C Γ ts either (log false) w (after y m .address) st D'' (h .1 .1 .1 .1 .1 .1) k'' (λ b. refl))))))
 
     never : {A : Type 0} → false ≡ true → A
     never h = let z : _≡_ {A = ℕ} 0 1 = cc h in absurd (omega arith)
@@ -385,75 +385,76 @@ module _ (W : Setting) (gs : List Global) where
     called : {A : Type 0} (G : A → List Value → Type 0) (C : Work) (Γ : List Around) (a : ℕ) (q : Procedure) (c : Called a q) (m n' : ℕ) (top st : List Value) (D : Data) (f : TreeBody → Place → Store → Result A)
         → fetch (W .macro) (C .body) m ≡ some (callOp (bodyNumber gs a)) → length top ≡ length (q .parameters) → Fit W gs C Γ n' → Holds C D
         → ((C' : Work) (E : Data) → C' .body ≡ bodyNumber gs a → Fit W gs C' (around a q c) (length (q .parameters)) → Holds C' E
-            → Meets W n (nowhere W gs C') (Arrives W gs C' G (Sees W gs C' (around a q c)) (heldIn (around a q c)) (endOf a q c) []) (at-work W gs C' (c .head .first) [] (heldIn (around a q c)) E) (f (q .body) (placeOf W gs C' (around a q c)) (seen gs (around a q c) E)))
+        → Meets W n (nowhere W gs C') (Arrives W gs C' G (Sees W gs C' (around a q c)) (heldIn (around a q c)) (endOf a q c) []) (at-work W gs C' (c .head .first) [] (heldIn (around a q c)) E) (f (q .body) (placeOf W gs C' (around a q c)) (seen gs (around a q c) E)))
         → Meets W (suc n) (nowhere W gs C) (Arrives W gs C G (Sees W gs C Γ) (heldIn Γ) (suc m) st) (at-work W gs C m (top ++ st) (heldIn Γ) D) (activate (some q) f (map (seenV gs) (onto top [])) (placeOf W gs C Γ) (seen gs Γ D))
     unfolding allHolds heldIn
     called G C Γ a q c m n' top st D f p l w k sim =
         let C' = callee gs C (bodyNumber gs a) Γ m st D in
         let none-held : heldIn (around a q c) ≡ [] = held-past (q .parameters) 0 (inside (c .scope) ∷ W .shared-names) ∙ c .static .no-hold in
         calls W gs C G Γ (bodyNumber gs a) m (endOf a q c) n' (c .head) q (c .scope) top st D f p (c .ret) (c .there) (c .counts) l w (c .static) k (λ E h.
-          subst (λ K. Meets W n (nowhere W gs C) (Arrives W gs C' G (Sees W gs C' (around a q c)) K (endOf a q c) []) (at-work W gs C' (c .head .first) [] K E)
-              (f (q .body) (record { holds = K ++ allHolds (C' .below); activations = suc (length (C' .below)) }) (seen gs (around a q c) E))) none-held
-            (sim C' E refl (fit-callee W gs C (bodyNumber gs a) Γ m st D n' (q .parameters) (c .scope) w (c .static)) h))
+        subst (λ K. Meets W n (nowhere W gs C) (Arrives W gs C' G (Sees W gs C' (around a q c)) K (endOf a q c) []) (at-work W gs C' (c .head .first) [] K E)
+        (f (q .body) (record { holds = K ++ allHolds (C' .below); activations = suc (length (C' .below)) }) (seen gs (around a q c) E))) none-held
+        (sim C' E refl (fit-callee W gs C (bodyNumber gs a) Γ m st D n' (q .parameters) (c .scope) w (c .static)) h))
 
     mutual
       unfolding exec codeS okS Stands after act next doOperate lands blocksOf rootsOf heldIn doAssign onto countExprs
+
       simS : (s : Stmt) (C : Work) (Γ : List Around) (ts : List Ty) (p : At) (st : List Value) → okS gs s Γ → Fit W gs C Γ (p .cell) → Stands W (C .body) (codeS gs s Γ ts p) p
           → Goes C Γ st (p .address) (after (codeS gs s Γ ts p) p .address) (exec world r s)
       simS (block ds is) C Γ ts p st o w h D k =
           left W gs C Γ (heldIn Γ) _ st _ _ (heads W gs C (Nothing W gs C) ds Γ (inside (blockOf ds is) ∷ Γ) p st (λ Δ. (x : ℕ) → okItems gs is (labels is x ∷ Δ)) (λ Δ q. codeItems gs is (labels is (q .address) ∷ Δ) ts q)
-            (λ Y τ. catch r is Y (execItems world r is Y τ)) D
-            (λ Δ q D' o' w' b' c' h' k'. inward C Γ Δ (heldIn Δ) _ st _ _ b' c' (blockItems C is Δ ts st q o' w' h' (λ D₁ k₁. simItems is C (labels is (q .address) ∷ Δ) ts q st (o' (q .address)) (fit-labels is (q .address) w') h' D₁ k₁) D' k'))
-            o (fit-inside (blockOf ds is) w) (λ cs. ([], refl)) (λ cs ls. refl) h k)
+          (λ Y τ. catch r is Y (execItems world r is Y τ)) D
+          (λ Δ q D' o' w' b' c' h' k'. inward C Γ Δ (heldIn Δ) _ st _ _ b' c' (blockItems C is Δ ts st q o' w' h' (λ D₁ k₁. simItems is C (labels is (q .address) ∷ Δ) ts q st (o' (q .address)) (fit-labels is (q .address) w') h' D₁ k₁) D' k'))
+          o (fit-inside (blockOf ds is) w) (λ cs. ([], refl)) (λ cs ls. refl) h k)
       simS (assign x e) C Γ ts p st o w h D k =
           let y = codeTarget gs x Γ ts p in
           simTarget x C Γ ts p (after (codeE gs e Γ (tyTarget gs Γ x ts) (after y p)) (after y p) .address) st e (o .0) w (h .0) (h .1 .1) D k
-            (λ st' D' k'. simE e C Γ (tyTarget gs Γ x ts) (after y p) st' (o .1) (fit-on (more-cells y p) w) (h .1 .0) D' k')
+          (λ st' D' k'. simE e C Γ (tyTarget gs Γ x ts) (after y p) st' (o .1) (fit-on (more-cells y p) w) (h .1 .0) D' k')
       simS (when e s) C Γ ts p st o w h D k =
           let x = codeE gs e Γ ts p in let q = skip 1 (after x p) in
           bindE W gs C Γ _ (simE e C Γ ts p st (o .0) w (h .0) D k) (λ v D' k'.
-            branches C (after (codeS gs s Γ ts q) q .address) v (after x p .address) st (heldIn Γ) D' _ _ (seen gs Γ D') (h .1 .0)
-              (simS s C Γ ts q st (o .1) (fit-on (more-cells x p) w) (h .1 .1 .0) D' k') (arrived W gs C Γ tt D' k'))
+          branches C (after (codeS gs s Γ ts q) q .address) v (after x p .address) st (heldIn Γ) D' _ _ (seen gs Γ D') (h .1 .0)
+          (simS s C Γ ts q st (o .1) (fit-on (more-cells x p) w) (h .1 .1 .0) D' k') (arrived W gs C Γ tt D' k'))
       simS (choose e s t) C Γ ts p st o w h D k =
           let x = codeE gs e Γ ts p in let q = skip 1 (after x p) in let y = codeS gs s Γ ts q in let m = skip 1 (after y q) in let z = codeS gs t Γ ts m in
           let w₁ = fit-on (more-cells x p) w in
           bindE W gs C Γ _ (simE e C Γ ts p st (o .0) w (h .0) D k) (λ v D' k'.
-            branches C (m .address) v (after x p .address) st (heldIn Γ) D' _ _ (seen gs Γ D') (h .1 .0)
-              (alsoS W gs C Γ (simS s C Γ ts q st (o .1) w₁ (h .1 .1 .0) D' k') (λ u D'' k''.
-                jumps W gs (C .body) (C .below) (after z m .address) (after y q .address) st (heldIn Γ) D'' (h .1 .1 .1 .0) (arrived W gs C Γ u D'' k'')))
-              (simS t C Γ ts m st (o .2) (fit-on (more-cells y q) w₁) (h .1 .1 .1 .1 .1 .0) D' k'))
+          branches C (m .address) v (after x p .address) st (heldIn Γ) D' _ _ (seen gs Γ D') (h .1 .0)
+          (alsoS W gs C Γ (simS s C Γ ts q st (o .1) w₁ (h .1 .1 .0) D' k') (λ u D'' k''.
+          jumps W gs (C .body) (C .below) (after z m .address) (after y q .address) st (heldIn Γ) D'' (h .1 .1 .1 .0) (arrived W gs C Γ u D'' k'')))
+          (simS t C Γ ts m st (o .2) (fit-on (more-cells y q) w₁) (h .1 .1 .1 .1 .1 .0) D' k'))
       simS (while e s) C Γ ts p st o w h D k =
           let x = codeE gs e Γ ts p in let q = skip 1 (after x p) in let y = codeS gs s Γ ts q in
           bindE W gs C Γ _ (simE e C Γ ts p st (o .0) w (h .1 .0) D k) (λ v D' k'.
-            branches C (suc (after y q .address)) v (after x p .address) st (heldIn Γ) D' _ _ (seen gs Γ D') (h .1 .1 .0)
-              (bindS W gs C Γ _ (simS s C Γ ts q st (o .1) (fit-on (more-cells x p) w) (h .1 .1 .1 .0) D' k') (λ u D'' k''.
-                op-tick W gs (C .body) (C .below) (go (p .address)) (after y q .address) st (heldIn Γ) D'' (h .1 .1 .1 .1 .0) (below .b-again C e s Γ ts p st D'' o w h k'')))
-              (arrived W gs C Γ tt D' k'))
+          branches C (suc (after y q .address)) v (after x p .address) st (heldIn Γ) D' _ _ (seen gs Γ D') (h .1 .1 .0)
+          (bindS W gs C Γ _ (simS s C Γ ts q st (o .1) (fit-on (more-cells x p) w) (h .1 .1 .1 .0) D' k') (λ u D'' k''.
+          op-tick W gs (C .body) (C .below) (go (p .address)) (after y q .address) st (heldIn Γ) D'' (h .1 .1 .1 .1 .0) (below .b-again C e s Γ ts p st D'' o w h k'')))
+          (arrived W gs C Γ tt D' k'))
       simS (goto a) C Γ ts p st o w h D k = ends (goes W gs C Γ true a p st D (seen gs Γ D) o (h .0) refl k)
       simS (assert e) C Γ ts p st o w h D k =
           bindE W gs C Γ _ (simE e C Γ ts p st o w (h .0) D k) (λ v D' k'. asserts C Γ v (after (codeE gs e Γ ts p) p .address) st D' (h .1) k')
       simS (call a es) C Γ ts p st o w h D k =
           let q = o .0 in let c = table a q (o .1) in
           binds (evals world r es (placeOf W gs C Γ) (seen gs Γ D)) (λ l σ z. absurd (z .there)) (simEs es C Γ ts p st (o .4) w (h .0) D k) (λ vs σ y m.
-            rw (o .1) (subst (λ x. Meets W (suc n) (lands W gs C Γ st) (Arrives W gs C (Nothing W gs C) (Sees W gs C Γ) (heldIn Γ) (suc (after (codeEs gs es Γ ts p) p .address)) st) x (activate (some q) (r .callS) vs (placeOf W gs C Γ) σ)) (sym (m .there))
-              (subst₂ (λ us τ. Meets W (suc n) (lands W gs C Γ st) (Arrives W gs C (Nothing W gs C) (Sees W gs C Γ) (heldIn Γ) (suc (after (codeEs gs es Γ ts p) p .address)) st) (at-work W gs C (after (codeEs gs es Γ ts p) p .address) (m .top ++ st) (heldIn Γ) (m .now)) (activate (some q) (r .callS) us (placeOf W gs C Γ) τ)) (m .gave .0) (m .sees)
-                (onward _ (λ l σ z. absurd (z .there)) (called (Nothing W gs C) C Γ a q c (after (codeEs gs es Γ ts p) p .address) (p .cell) (m .top) st (m .now) (r .callS) (h .1) (m .gave .1 ∙ o .3) w (m .holding) (λ C' E b w' h'. below .b-callS a q c C' E (o .2) b w' h'))
-                  (λ v τ x z. ends (here z))))))
+          rw (o .1) (subst (λ x. Meets W (suc n) (lands W gs C Γ st) (Arrives W gs C (Nothing W gs C) (Sees W gs C Γ) (heldIn Γ) (suc (after (codeEs gs es Γ ts p) p .address)) st) x (activate (some q) (r .callS) vs (placeOf W gs C Γ) σ)) (sym (m .there))
+          (subst₂ (λ us τ. Meets W (suc n) (lands W gs C Γ st) (Arrives W gs C (Nothing W gs C) (Sees W gs C Γ) (heldIn Γ) (suc (after (codeEs gs es Γ ts p) p .address)) st) (at-work W gs C (after (codeEs gs es Γ ts p) p .address) (m .top ++ st) (heldIn Γ) (m .now)) (activate (some q) (r .callS) us (placeOf W gs C Γ) τ)) (m .gave .0) (m .sees)
+          (onward _ (λ l σ z. absurd (z .there)) (called (Nothing W gs C) C Γ a q c (after (codeEs gs es Γ ts p) p .address) (p .cell) (m .top) st (m .now) (r .callS) (h .1) (m .gave .1 ∙ o .3) w (m .holding) (λ C' E b w' h'. below .b-callS a q c C' E (o .2) b w' h'))
+          (λ v τ x z. ends (here z))))))
       simS (setLevel e f) C Γ ts p st o w h D k =
           let x = codeE gs e Γ ts p in let us = tyE gs Γ e ∷ ts in
           bindE W gs C Γ _ (simE e C Γ ts p st (o .0) w (h .0) D k) (λ v D' k'.
-            bindE W gs C Γ _ (simE f C Γ us (after x p) (v ∷ st) (o .1) (fit-on (more-cells x p) w) (h .1 .0) D' k') (λ u D'' k''.
-              sets C Γ v u (after (codeE gs f Γ us (after x p)) (after x p) .address) st D'' (h .1 .1) k''))
+          bindE W gs C Γ _ (simE f C Γ us (after x p) (v ∷ st) (o .1) (fit-on (more-cells x p) w) (h .1 .0) D' k') (λ u D'' k''.
+          sets C Γ v u (after (codeE gs f Γ us (after x p)) (after x p) .address) st D'' (h .1 .1) k''))
       simS (select e rs) C Γ ts p st o w h D k =
           let q = at (p .address) (suc (p .cell)) in let x = codeE gs e Γ ts q in let b = skip 1 (after x q) in
           bindE W gs C Γ _ (simE e C Γ ts q st (o .0) (fit-on (omega arith) w) (h .1 .0) D k) (λ v D' k'.
-            stores W gs (C .body) (C .below) own (p .cell) v (after x q .address) st (heldIn Γ) D' tt (h .1 .1 .0) (λ y g.
-              let E = written own (p .cell) (assigned v) D' in
-              rw (sym (hidden gs Γ (p .cell) (assigned v) D' (below-apart (p .cell) Γ (w .below-n))))
-                (subst (λ e''. Meets W (suc n) (lands W gs C Γ st) (Arrives W gs C (Nothing W gs C) (Sees W gs C Γ) (heldIn Γ) e'' st) (at-work W gs C (b .address) st (heldIn Γ) E) (treeInteger (seenV gs v) (λ z. execArm world r rs (size z) (placeOf W gs C Γ) (seen gs Γ E))))
-                    (sym (lenArms gs rs (p .cell) 1 (b .address + opsArms rs (scopesOf Γ) (passing Γ)) Γ ts b)) (cased C Γ v (λ z. execArm world r rs (size z) (placeOf W gs C Γ) (seen gs Γ E)) (p .cell) 1 (b .address) st E (put-same (D' .cells) (p .cell) (assigned v) y g) (begins rs (C .body) (p .cell) 1 (b .address + opsArms rs (scopesOf Γ) (passing Γ)) Γ ts b (h .1 .1 .1 .0)) (λ z e'.
-                  simArms rs (p .cell) 1 (b .address + opsArms rs (scopesOf Γ) (passing Γ)) z C Γ ts b st (size z) (starts z) (o .1) (fit-on (cells-after x (p .address) (p .cell)) w) (h .1 .1 .1 .0)
-                    (lenArms gs rs (p .cell) 1 (b .address + opsArms rs (scopesOf Γ) (passing Γ)) Γ ts b) E (put-same (D' .cells) (p .cell) (assigned v) y g ∙ ap assigned e') (w .fresh (p .cell) (assigned v) (D' .cells) (D' .lowest) (omega arith) k'))))))
+          stores W gs (C .body) (C .below) own (p .cell) v (after x q .address) st (heldIn Γ) D' tt (h .1 .1 .0) (λ y g.
+          let E = written own (p .cell) (assigned v) D' in
+          rw (sym (hidden gs Γ (p .cell) (assigned v) D' (below-apart (p .cell) Γ (w .below-n))))
+          (subst (λ e''. Meets W (suc n) (lands W gs C Γ st) (Arrives W gs C (Nothing W gs C) (Sees W gs C Γ) (heldIn Γ) e'' st) (at-work W gs C (b .address) st (heldIn Γ) E) (treeInteger (seenV gs v) (λ z. execArm world r rs (size z) (placeOf W gs C Γ) (seen gs Γ E))))
+          (sym (lenArms gs rs (p .cell) 1 (b .address + opsArms rs (scopesOf Γ) (passing Γ)) Γ ts b)) (cased C Γ v (λ z. execArm world r rs (size z) (placeOf W gs C Γ) (seen gs Γ E)) (p .cell) 1 (b .address) st E (put-same (D' .cells) (p .cell) (assigned v) y g) (begins rs (C .body) (p .cell) 1 (b .address + opsArms rs (scopesOf Γ) (passing Γ)) Γ ts b (h .1 .1 .1 .0)) (λ z e'.
+          simArms rs (p .cell) 1 (b .address + opsArms rs (scopesOf Γ) (passing Γ)) z C Γ ts b st (size z) (starts z) (o .1) (fit-on (cells-after x (p .address) (p .cell)) w) (h .1 .1 .1 .0)
+          (lenArms gs rs (p .cell) 1 (b .address + opsArms rs (scopesOf Γ) (passing Γ)) Γ ts b) E (put-same (D' .cells) (p .cell) (assigned v) y g ∙ ap assigned e') (w .fresh (p .cell) (assigned v) (D' .cells) (D' .lowest) (omega arith) k'))))))
 
       pub simItems : (is : Items) (C : Work) (Γ : List Around) (ts : List Ty) (p : At) (st : List Value) → okItems gs is Γ → Fit W gs C Γ (p .cell) → Stands W (C .body) (codeItems gs is Γ ts p) p
           → Goes C Γ st (p .address) (after (codeItems gs is Γ ts p) p .address) (execItems world r is)
@@ -469,41 +470,41 @@ module _ (W : Setting) (gs : List Global) where
       simArms (lastArm s) c i z' z C Γ ts p st zero x o w h e D g k =
           let q = skip 4 p in let y = codeS gs s Γ ts q in
           tests W gs (C .body) (C .below) z i c (suc (after y q .address)) (p .address) st (heldIn Γ) D false (x i (omega arith)) g (h .0) (h .1 .0) (h .1 .1 .0) (h .1 .1 .1 .0) (λ u. never u)
-            (λ u. stops C Γ (suc (after y q .address)) st D (h .1 .1 .1 .1 .1 .1 .1))
+          (λ u. stops C Γ (suc (after y q .address)) st D (h .1 .1 .1 .1 .1 .1 .1))
       simArms (lastArm s) c i z' z C Γ ts p st (suc zero) x o w h e D g k =
           let q = skip 4 p in let y = codeS gs s Γ ts q in
           tests W gs (C .body) (C .below) z i c (suc (after y q .address)) (p .address) st (heldIn Γ) D true (hits z i x) g (h .0) (h .1 .0) (h .1 .1 .0) (h .1 .1 .1 .0)
-            (λ u. alsoS W gs C Γ (simS s C Γ ts q st o w (h .1 .1 .1 .1 .0) D k) (λ v D' k'. jumps W gs (C .body) (C .below) z' (after y q .address) st (heldIn Γ) D' (h .1 .1 .1 .1 .1 .0) (arrived W gs C Γ v D' k'))) (λ u. never (sym u))
+          (λ u. alsoS W gs C Γ (simS s C Γ ts q st o w (h .1 .1 .1 .1 .0) D k) (λ v D' k'. jumps W gs (C .body) (C .below) z' (after y q .address) st (heldIn Γ) D' (h .1 .1 .1 .1 .1 .0) (arrived W gs C Γ v D' k'))) (λ u. never (sym u))
       simArms (lastArm s) c i z' z C Γ ts p st (suc (suc m)) x o w h e D g k =
           let q = skip 4 p in let y = codeS gs s Γ ts q in
           tests W gs (C .body) (C .below) z i c (suc (after y q .address)) (p .address) st (heldIn Γ) D false (misses z i m x) g (h .0) (h .1 .0) (h .1 .1 .0) (h .1 .1 .1 .0) (λ u. never u)
-            (λ u. stops C Γ (suc (after y q .address)) st D (h .1 .1 .1 .1 .1 .1 .1))
+          (λ u. stops C Γ (suc (after y q .address)) st D (h .1 .1 .1 .1 .1 .1 .1))
       simArms (arm s rs) c i z' z C Γ ts p st zero x o w h e D g k =
           let q = skip 4 p in let y = codeS gs s Γ ts q in let v = skip 1 (after y q) in
           tests W gs (C .body) (C .below) z i c (v .address) (p .address) st (heldIn Γ) D false (x i (omega arith)) g (h .0) (h .1 .0) (h .1 .1 .0) (h .1 .1 .1 .0) (λ u. never u)
-            (λ u. rw (sym (arms-none rs (placeOf W gs C Γ) (seen gs Γ D))) (simArms rs c (suc i) z' z C Γ ts v st zero (λ j l. x j (omega arith)) (o .1) (fit-on (more-cells y q) w) (h .1 .1 .1 .1 .1 .1 .1) e D g k))
+          (λ u. rw (sym (arms-none rs (placeOf W gs C Γ) (seen gs Γ D))) (simArms rs c (suc i) z' z C Γ ts v st zero (λ j l. x j (omega arith)) (o .1) (fit-on (more-cells y q) w) (h .1 .1 .1 .1 .1 .1 .1) e D g k))
       simArms (arm s rs) c i z' z C Γ ts p st (suc zero) x o w h e D g k =
           let q = skip 4 p in let y = codeS gs s Γ ts q in let v = skip 1 (after y q) in
           tests W gs (C .body) (C .below) z i c (v .address) (p .address) st (heldIn Γ) D true (hits z i x) g (h .0) (h .1 .0) (h .1 .1 .0) (h .1 .1 .1 .0)
-            (λ u. alsoS W gs C Γ (simS s C Γ ts q st (o .0) w (h .1 .1 .1 .1 .0) D k) (λ v D' k'. jumps W gs (C .body) (C .below) z' (after y q .address) st (heldIn Γ) D' (h .1 .1 .1 .1 .1 .0) (arrived W gs C Γ v D' k'))) (λ u. never (sym u))
+          (λ u. alsoS W gs C Γ (simS s C Γ ts q st (o .0) w (h .1 .1 .1 .1 .0) D k) (λ v D' k'. jumps W gs (C .body) (C .below) z' (after y q .address) st (heldIn Γ) D' (h .1 .1 .1 .1 .1 .0) (arrived W gs C Γ v D' k'))) (λ u. never (sym u))
       simArms (arm s rs) c i z' z C Γ ts p st (suc (suc m)) x o w h e D g k =
           let q = skip 4 p in let y = codeS gs s Γ ts q in let v = skip 1 (after y q) in
           tests W gs (C .body) (C .below) z i c (v .address) (p .address) st (heldIn Γ) D false (misses z i m x) g (h .0) (h .1 .0) (h .1 .1 .0) (h .1 .1 .1 .0) (λ u. never u)
-            (λ u. simArms rs c (suc i) z' z C Γ ts v st (suc m) (nexts z i m x) (o .1) (fit-on (more-cells y q) w) (h .1 .1 .1 .1 .1 .1 .1) e D g k)
+          (λ u. simArms rs c (suc i) z' z C Γ ts v st (suc m) (nexts z i m x) (o .1) (fit-on (more-cells y q) w) (h .1 .1 .1 .1 .1 .1 .1) e D g k)
 
       simTarget : (x : Target) (C : Work) (Γ : List Around) (ts : List Ty) (p : At) (m : ℕ) (st : List Value) (f : Expr) → okTarget gs x Γ → Fit W gs C Γ (p .cell) → Stands W (C .body) (codeTarget gs x Γ ts p) p
           → fetch (W .macro) (C .body) m ≡ some (opTarget gs Γ x) → (D : Data) → Holds C D → ((st' : List Value) → Gives C Γ st' (after (codeTarget gs x Γ ts p) p .address) m (eval world r f))
           → Meets W (suc n) (lands W gs C Γ st) (Arrives W gs C (Nothing W gs C) (Sees W gs C Γ) (heldIn Γ) (suc m) st) (at-work W gs C (p .address) st (heldIn Γ) D)
-            (next (locate world r x (placeOf W gs C Γ) (seen gs Γ D)) (λ l τ. next (eval world r f (placeOf W gs C Γ) τ) (λ v ρ. doAssign l v (placeOf W gs C Γ) ρ)))
+          (next (locate world r x (placeOf W gs C Γ) (seen gs Γ D)) (λ l τ. next (eval world r f (placeOf W gs C Γ) τ) (λ v ρ. doAssign l v (placeOf W gs C Γ) ρ)))
       simTarget (toVariable a) C Γ ts p m st f o w h i D k g =
           bindE W gs C Γ _ (g st D k) (λ v D' k'.
-            stores W gs (C .body) (C .below) (o .0) (o .1) v m st (heldIn Γ) D' (w .owners a (o .1) (o .0) (o .2)) (rw (o .2) at i) (λ y z.
-              rw (writes gs a Γ (o .0) (o .1) v y D' (o .2) (w .distinct) z)
-                (arrived W gs C Γ tt (written (o .0) (o .1) (assigned v) D') (w .stable a (o .1) (o .0) (assigned v) (D' .cells) (D' .lowest) (o .2) k'))))
+          stores W gs (C .body) (C .below) (o .0) (o .1) v m st (heldIn Γ) D' (w .owners a (o .1) (o .0) (o .2)) (rw (o .2) at i) (λ y z.
+          rw (writes gs a Γ (o .0) (o .1) v y D' (o .2) (w .distinct) z)
+          (arrived W gs C Γ tt (written (o .0) (o .1) (assigned v) D') (w .stable a (o .1) (o .0) (assigned v) (D' .cells) (D' .lowest) (o .2) k'))))
       simTarget (toField a e) C Γ ts p m st f o w h i D k g =
           rw (next-next (eval world r e (placeOf W gs C Γ) (seen gs Γ D)) (λ v τ. done (ofField a v) τ) (λ l τ. next (eval world r f (placeOf W gs C Γ) τ) (λ v ρ. doAssign l v (placeOf W gs C Γ) ρ)))
-            (bindE W gs C Γ _ (simE e C Γ ts p st (o .0) w h D k) (λ v D' k'.
-              bindE W gs C Γ _ (g (v ∷ st) D' k') (λ u D'' k''. puts W gs C Γ a (fieldNumber gs a .class) (fieldNumber gs a .index) v u m st D'' (o .1) i k'')))
+          (bindE W gs C Γ _ (simE e C Γ ts p st (o .0) w h D k) (λ v D' k'.
+          bindE W gs C Γ _ (g (v ∷ st) D' k') (λ u D'' k''. puts W gs C Γ a (fieldNumber gs a .class) (fieldNumber gs a .index) v u m st D'' (o .1) i k'')))
 
       simE : (e : Expr) (C : Work) (Γ : List Around) (ts : List Ty) (p : At) (st : List Value) → okE gs e Γ → Fit W gs C Γ (p .cell) → Stands W (C .body) (codeE gs e Γ ts p) p
           → Gives C Γ st (p .address) (after (codeE gs e Γ ts p) p .address) (eval world r e)
@@ -512,51 +513,51 @@ module _ (W : Setting) (gs : List Global) where
       simE (pattern z) C Γ ts p st o w h D k = pushes W gs (C .body) (C .below) (bit (wordOf z)) (p .address) st (heldIn Γ) D h (given-one W gs C Γ (bit (wordOf z)) D k)
       simE (null c) C Γ ts p st o w h D k =
           pushes W gs (C .body) (C .below) (ref (classNumber gs c) none) (p .address) st (heldIn Γ) D h
-            (subst (λ v. Meets W (suc n) (nowhere W gs C) (Arrives W gs C (One W gs C) (Sees W gs C Γ) (heldIn Γ) (suc (p .address)) st) (at-work W gs C (suc (p .address)) (ref (classNumber gs c) none ∷ st) (heldIn Γ) D) (done v (seen gs Γ D))) o
-              (given-one W gs C Γ (ref (classNumber gs c) none) D k))
+          (subst (λ v. Meets W (suc n) (nowhere W gs C) (Arrives W gs C (One W gs C) (Sees W gs C Γ) (heldIn Γ) (suc (p .address)) st) (at-work W gs C (suc (p .address)) (ref (classNumber gs c) none ∷ st) (heldIn Γ) D) (done v (seen gs Γ D))) o
+          (given-one W gs C Γ (ref (classNumber gs c) none) D k))
       simE (variable a) C Γ ts p st o w h D k =
           loads W gs (C .body) (C .below) (o .0) (o .1) (p .address) st (heldIn Γ) D (w .owners a (o .1) (o .0) (o .2)) (rw (o .2) at h) (λ v g.
-            let e : valueOf a (seen gs Γ D) ≡ some (assigned (seenV gs v)) = reads gs a Γ D ∙ ap (λ z. cellFor gs z (D .cells) (D .lowest)) (o .2) ∙ ap (λ z. some (seenC gs z)) (found-at (ofOwner gs (o .0) (D .cells) (D .lowest)) (o .1) (assigned v) g) in
-            rw e (given-one W gs C Γ v D k))
+          let e : valueOf a (seen gs Γ D) ≡ some (assigned (seenV gs v)) = reads gs a Γ D ∙ ap (λ z. cellFor gs z (D .cells) (D .lowest)) (o .2) ∙ ap (λ z. some (seenC gs z)) (found-at (ofOwner gs (o .0) (D .cells) (D .lowest)) (o .1) (assigned v) g) in
+          rw e (given-one W gs C Γ v D k))
       simE (invoke a es) C Γ ts p st o w h D k =
           let q = o .0 in let c = table a q (o .1) in
           binds (evals world r es (placeOf W gs C Γ) (seen gs Γ D)) (λ l σ z. z) (simEs es C Γ ts p st (o .4) w (h .0) D k) (λ vs σ y m.
-            rw (o .1) (subst (λ x. Meets W (suc n) (nowhere W gs C) (Arrives W gs C (One W gs C) (Sees W gs C Γ) (heldIn Γ) (suc (after (codeEs gs es Γ ts p) p .address)) st) x (activate (some q) (r .callE) vs (placeOf W gs C Γ) σ)) (sym (m .there))
-              (subst₂ (λ us τ. Meets W (suc n) (nowhere W gs C) (Arrives W gs C (One W gs C) (Sees W gs C Γ) (heldIn Γ) (suc (after (codeEs gs es Γ ts p) p .address)) st) (at-work W gs C (after (codeEs gs es Γ ts p) p .address) (m .top ++ st) (heldIn Γ) (m .now)) (activate (some q) (r .callE) us (placeOf W gs C Γ) τ)) (m .gave .0) (m .sees)
-                (called (One W gs C) C Γ a q c (after (codeEs gs es Γ ts p) p .address) (p .cell) (m .top) st (m .now) (r .callE) (h .1) (m .gave .1 ∙ o .3) w (m .holding) (λ C' E b w' h'. below .b-callE a q c C' E (o .2) b w' h')))))
+          rw (o .1) (subst (λ x. Meets W (suc n) (nowhere W gs C) (Arrives W gs C (One W gs C) (Sees W gs C Γ) (heldIn Γ) (suc (after (codeEs gs es Γ ts p) p .address)) st) x (activate (some q) (r .callE) vs (placeOf W gs C Γ) σ)) (sym (m .there))
+          (subst₂ (λ us τ. Meets W (suc n) (nowhere W gs C) (Arrives W gs C (One W gs C) (Sees W gs C Γ) (heldIn Γ) (suc (after (codeEs gs es Γ ts p) p .address)) st) (at-work W gs C (after (codeEs gs es Γ ts p) p .address) (m .top ++ st) (heldIn Γ) (m .now)) (activate (some q) (r .callE) us (placeOf W gs C Γ) τ)) (m .gave .0) (m .sees)
+          (called (One W gs C) C Γ a q c (after (codeEs gs es Γ ts p) p .address) (p .cell) (m .top) st (m .now) (r .callE) (h .1) (m .gave .1 ∙ o .3) w (m .holding) (λ C' E b w' h'. below .b-callE a q c C' E (o .2) b w' h')))))
       simE (field a e) C Γ ts p st o w h D k =
           bindE W gs C Γ _ (simE e C Γ ts p st (o .0) w (h .0) D k) (λ v D' k'. gets W gs C Γ a (fieldNumber gs a .class) (fieldNumber gs a .index) v (after (codeE gs e Γ ts p) p .address) st D' (o .1) (h .1) k')
       simE (make c es) C Γ ts p st o w h D k =
           let m' = after (codeEs gs es Γ ts p) p .address in
           let t = classes c (o .1 .0) (o .1 .1) in
           binds (evals world r es (placeOf W gs C Γ) (seen gs Γ D)) (λ l σ z. z) (simEs es C Γ ts p st (o .0) w (h .0) D k) (λ vs σ y m.
-            rw (o .1 .1) (subst (λ x. Meets W (suc n) (nowhere W gs C) (Arrives W gs C (One W gs C) (Sees W gs C Γ) (heldIn Γ) (suc m') st) x (doMake c (some (o .1 .0)) vs (placeOf W gs C Γ) σ)) (sym (m .there))
-              (subst₂ (λ us τ. Meets W (suc n) (nowhere W gs C) (Arrives W gs C (One W gs C) (Sees W gs C Γ) (heldIn Γ) (suc m') st) (at-work W gs C m' (m .top ++ st) (heldIn Γ) (m .now)) (doMake c (some (o .1 .0)) us (placeOf W gs C Γ) τ)) (m .gave .0) (m .sees)
-                (makes W gs C Γ c (classNumber gs c) (o .1 .0) (t .0) m' (m .top) st (m .now) (h .1) (t .1) (m .gave .1 ∙ o .1 .2 ∙ sym (t .2)) (o .1 .3) (o .1 .4) (m .holding)))))
+          rw (o .1 .1) (subst (λ x. Meets W (suc n) (nowhere W gs C) (Arrives W gs C (One W gs C) (Sees W gs C Γ) (heldIn Γ) (suc m') st) x (doMake c (some (o .1 .0)) vs (placeOf W gs C Γ) σ)) (sym (m .there))
+          (subst₂ (λ us τ. Meets W (suc n) (nowhere W gs C) (Arrives W gs C (One W gs C) (Sees W gs C Γ) (heldIn Γ) (suc m') st) (at-work W gs C m' (m .top ++ st) (heldIn Γ) (m .now)) (doMake c (some (o .1 .0)) us (placeOf W gs C Γ) τ)) (m .gave .0) (m .sees)
+          (makes W gs C Γ c (classNumber gs c) (o .1 .0) (t .0) m' (m .top) st (m .now) (h .1) (t .1) (m .gave .1 ∙ o .1 .2 ∙ sym (t .2)) (o .1 .3) (o .1 .4) (m .holding)))))
       simE (operate1 u e) C Γ ts p st o w h D k =
           let m = after (codeE gs e Γ ts p) p .address in
           bindE W gs C Γ _ (simE e C Γ ts p st o w (h .0) D k) (λ v D' k'.
-            op-at W gs (C .body) (C .below) (operate (unary u)) m (v ∷ st) (heldIn Γ) D' (h .1) (settles C Γ m (v ∷ st) st D' (apply1 u v) (apply1 u (seenV gs v)) (seen-1 gs u v) k'))
+          op-at W gs (C .body) (C .below) (operate (unary u)) m (v ∷ st) (heldIn Γ) D' (h .1) (settles C Γ m (v ∷ st) st D' (apply1 u v) (apply1 u (seenV gs v)) (seen-1 gs u v) k'))
       simE (operate2 u e f) C Γ ts p st o w h D k =
           ways (wayOf u (isTy logical (typeE (scopesOf Γ) e))) u C Γ ts (codeE gs e Γ ts p) p (λ us q. codeE gs f Γ us q) e f st (way-for u (isTy logical (typeE (scopesOf Γ) e))) h
-            (λ h' D' k'. simE e C Γ ts p st (o .0) w h' D' k') (λ us q vs l h' D' k'. simE f C Γ us q vs (o .1) (fit-on l w) h' D' k') D k
+          (λ h' D' k'. simE e C Γ ts p st (o .0) w h' D' k') (λ us q vs l h' D' k'. simE f C Γ us q vs (o .1) (fit-on l w) h' D' k') D k
       simE (conditional e f g) C Γ ts p st o w h D k =
           let x = codeE gs e Γ ts p in let q = skip 1 (after x p) in let y = codeE gs f Γ ts q in let m = skip 1 (after y q) in let z = codeE gs g Γ ts m in
           let w₁ = fit-on (more-cells x p) w in
           bindE W gs C Γ _ (simE e C Γ ts p st (o .0) w (h .0) D k) (λ v D' k'.
-            branches C (m .address) v (after x p .address) st (heldIn Γ) D' _ _ (seen gs Γ D') (h .1 .0)
-              (alsoE W gs C Γ (simE f C Γ ts q st (o .1) w₁ (h .1 .1 .0) D' k') (λ u D'' k''.
-                jumps W gs (C .body) (C .below) (after z m .address) (after y q .address) (u ∷ st) (heldIn Γ) D'' (h .1 .1 .1 .0) (given-one W gs C Γ u D'' k'')))
-              (simE g C Γ ts m st (o .2) (fit-on (more-cells y q) w₁) (h .1 .1 .1 .1 .1 .0) D' k'))
+          branches C (m .address) v (after x p .address) st (heldIn Γ) D' _ _ (seen gs Γ D') (h .1 .0)
+          (alsoE W gs C Γ (simE f C Γ ts q st (o .1) w₁ (h .1 .1 .0) D' k') (λ u D'' k''.
+          jumps W gs (C .body) (C .below) (after z m .address) (after y q .address) (u ∷ st) (heldIn Γ) D'' (h .1 .1 .1 .0) (given-one W gs C Γ u D'' k'')))
+          (simE g C Γ ts m st (o .2) (fit-on (more-cells y q) w₁) (h .1 .1 .1 .1 .1 .0) D' k'))
       simE (fader e) C Γ ts p st o w h D k = bindE W gs C Γ _ (simE e C Γ ts p st o w (h .0) D k) (λ v D' k'. fades C Γ v (after (codeE gs e Γ ts p) p .address) st D' (h .1) k')
       simE (blockExpr ds is e) C Γ ts p st o w h D k =
           left W gs C Γ (heldIn Γ) _ st _ _ (heads W gs C (One W gs C) ds Γ (inside (expressionOf ds is) ∷ Γ) p st (λ Δ. ((x : ℕ) → okItems gs is (labels is x ∷ Δ)) × okE gs e Δ)
-            (λ Δ q. let y = codeItems gs is (labels is (q .address) ∷ Δ) ts q in y ▸ codeE gs e Δ ts (after y q))
-            (λ Y τ. next (catch r is Y (execItems world r is Y τ)) (λ u ρ. eval world r e Y ρ)) D
-            (λ Δ q D' o' w' b' c' h' k'. let y = codeItems gs is (labels is (q .address) ∷ Δ) ts q in
-              bindS W gs C Δ _ (blockItems C is Δ ts st q (o' .0) w' (h' .0) (λ D₁ k₁. simItems is C (labels is (q .address) ∷ Δ) ts q st (o' .0 (q .address)) (fit-labels is (q .address) w') (h' .0) D₁ k₁) D' k') (λ u D'' k''.
-                inward C Γ Δ (heldIn Δ) _ st _ _ b' c' (alsoE W gs C Δ (simE e C Δ ts (after y q) st (o' .1) (fit-on (more-cells y q) w') (h' .1) D'' k'') (λ v D₃ k₃. given-one W gs C Δ v D₃ k₃))))
-            o (fit-inside (expressionOf ds is) w) (λ cs. ([], refl)) (λ cs ls. refl) h k)
+          (λ Δ q. let y = codeItems gs is (labels is (q .address) ∷ Δ) ts q in y ▸ codeE gs e Δ ts (after y q))
+          (λ Y τ. next (catch r is Y (execItems world r is Y τ)) (λ u ρ. eval world r e Y ρ)) D
+          (λ Δ q D' o' w' b' c' h' k'. let y = codeItems gs is (labels is (q .address) ∷ Δ) ts q in
+          bindS W gs C Δ _ (blockItems C is Δ ts st q (o' .0) w' (h' .0) (λ D₁ k₁. simItems is C (labels is (q .address) ∷ Δ) ts q st (o' .0 (q .address)) (fit-labels is (q .address) w') (h' .0) D₁ k₁) D' k') (λ u D'' k''.
+          inward C Γ Δ (heldIn Δ) _ st _ _ b' c' (alsoE W gs C Δ (simE e C Δ ts (after y q) st (o' .1) (fit-on (more-cells y q) w') (h' .1) D'' k'') (λ v D₃ k₃. given-one W gs C Δ v D₃ k₃))))
+          o (fit-inside (expressionOf ds is) w) (λ cs. ([], refl)) (λ cs ls. refl) h k)
 
       simEs : (es : Exprs) (C : Work) (Γ : List Around) (ts : List Ty) (p : At) (st : List Value) → okEs gs es Γ → Fit W gs C Γ (p .cell) → Stands W (C .body) (codeEs gs es Γ ts p) p → (D : Data) → Holds C D
           → Meets W (suc n) (nowhere W gs C) (Arrives W gs C (Many (countExprs es)) (Sees W gs C Γ) (heldIn Γ) (after (codeEs gs es Γ ts p) p .address) st) (at-work W gs C (p .address) st (heldIn Γ) D) (evals world r es (placeOf W gs C Γ) (seen gs Γ D))
@@ -564,15 +565,15 @@ module _ (W : Setting) (gs : List Global) where
       simEs (expr e es) C Γ ts p st o w h D k =
           let x = codeE gs e Γ ts p in let us = tyE gs Γ e ∷ ts in
           bindE W gs C Γ _ (simE e C Γ ts p st (o .0) w (h .0) D k) (λ v D' k'.
-            binds (evals world r es (placeOf W gs C Γ) (seen gs Γ D')) (λ l σ z. z) (simEs es C Γ us (after x p) (v ∷ st) (o .1) (fit-on (more-cells x p) w) (h .1) D' k') (λ vs σ y m.
-              ends (here (record {
-                top = m .top ++ (v ∷ []);
-                now = m .now;
-                there = m .there ∙ ap (λ z. at-work W gs C (after (codeEs gs es Γ us (after x p)) (after x p) .address) z (heldIn Γ) (m .now)) (sym (append-assoc (m .top) (v ∷ []) st));
-                sees = m .sees;
-                gave = (ap (map (seenV gs)) (onto-last (m .top) v []) ∙ ap (λ z. seenV gs v ∷ z) (m .gave .0), length-append (m .top) (v ∷ []) ∙ counted-more (length (m .top)) (countExprs es) (m .gave .1));
-                holding = m .holding;
-              }))))
+          binds (evals world r es (placeOf W gs C Γ) (seen gs Γ D')) (λ l σ z. z) (simEs es C Γ us (after x p) (v ∷ st) (o .1) (fit-on (more-cells x p) w) (h .1) D' k') (λ vs σ y m.
+          ends (here (record {
+            top = m .top ++ (v ∷ []);
+            now = m .now;
+            there = m .there ∙ ap (λ z. at-work W gs C (after (codeEs gs es Γ us (after x p)) (after x p) .address) z (heldIn Γ) (m .now)) (sym (append-assoc (m .top) (v ∷ []) st));
+            sees = m .sees;
+            gave = (ap (map (seenV gs)) (onto-last (m .top) v []) ∙ ap (λ z. seenV gs v ∷ z) (m .gave .0), length-append (m .top) (v ∷ []) ∙ counted-more (length (m .top)) (countExprs es) (m .gave .1));
+            holding = m .holding;
+          }))))
 
     -- a block's statements from a label on
     resumed : (C : Work) (is : Items) (Γ : List Around) (ts : List Ty) (st : List Value) (x n' : ℕ) (e : At) → ((a : ℕ) → Found W gs C (hasLabel a is) (from a is) (labels is x ∷ Γ) ts (labelAt is (scopesOf Γ) (theLabels is ∷ passing Γ) x a) n' e (λ js. okItems gs js (labels is x ∷ Γ)))
@@ -581,9 +582,9 @@ module _ (W : Setting) (gs : List Global) where
     unfolding heldIn blocksOf rootsOf
     resumed C is Γ ts st x n' e f w js q D o w' h g k =
         catches W gs C r is Γ ts st (at x n') e (λ js. okItems gs js (labels is x ∷ Γ)) (at-work W gs C (q .address) st (heldIn Γ) D) (execItems world r js (placeOf W gs C Γ) (seen gs Γ D)) f w
-          (below .b-resume C is Γ ts st x n' e f w)
-          (subst (λ z. Meets W (suc n) (lands W gs C (labels is x ∷ Γ) st) (Arrives W gs C (Nothing W gs C) (Sees W gs C Γ) (heldIn Γ) (z .address) st) (at-work W gs C (q .address) st (heldIn Γ) D) (execItems world r js (placeOf W gs C Γ) (seen gs Γ D))) g
-            (simItems js C (labels is x ∷ Γ) ts q st o (fit-labels is x w') h D k))
+        (below .b-resume C is Γ ts st x n' e f w)
+        (subst (λ z. Meets W (suc n) (lands W gs C (labels is x ∷ Γ) st) (Arrives W gs C (Nothing W gs C) (Sees W gs C Γ) (heldIn Γ) (z .address) st) (at-work W gs C (q .address) st (heldIn Γ) D) (execItems world r js (placeOf W gs C Γ) (seen gs Γ D))) g
+        (simItems js C (labels is x ∷ Γ) ts q st o (fit-labels is x w') h D k))
 
     -- the bodies of procedures: no goto leaves them
     walled : (C : Work) (xs : List Typed) (k : ℕ) (s : Scope) (ds : List Definition) (Γ : List Around) (st : List Value) (a : ℕ) (σ : Store) (y : Conf) → s ≡ inProcedure ds → lands W gs C (parameterCells xs k (inside s ∷ Γ)) st a σ y → ⊥
@@ -607,8 +608,8 @@ module _ (W : Setting) (gs : List Global) where
         → Meets W (suc n) (nowhere W gs C) (Arrives W gs C (Nothing W gs C) (Sees W gs C (around a q c)) (heldIn (around a q c)) (endOf a q c) []) (at-work W gs C (c .head .first) [] (heldIn (around a q c)) D) (execBody world r (q .body) (placeOf W gs C (around a q c)) (seen gs (around a q c) D))
     bodyS a q c C D i e w k =
         onward _ (λ l σ h. absurd (walled C (q .parameters) 0 (c .scope) (c .names) (W .shared-names) [] l σ _ (c .is-procedure) (h .there)))
-          (runsS (q .body) (around a q c) (at (c .head .first) (length (q .parameters))) C D i (c .good) w (subst (λ z. Stands W z (codeBody gs (q .body) (around a q c) (at (c .head .first) (length (q .parameters)))) (at (c .head .first) (length (q .parameters)))) (sym e) (c .stand)) k)
-          (λ v σ y m. ends (here m))
+        (runsS (q .body) (around a q c) (at (c .head .first) (length (q .parameters))) C D i (c .good) w (subst (λ z. Stands W z (codeBody gs (q .body) (around a q c) (at (c .head .first) (length (q .parameters)))) (at (c .head .first) (length (q .parameters)))) (sym e) (c .stand)) k)
+        (λ v σ y m. ends (here m))
 
     bodyE : (a : ℕ) (q : Procedure) (c : Called a q) (C : Work) (D : Data) → IsFunction (q .body) → C .body ≡ bodyNumber gs a → Fit W gs C (around a q c) (length (q .parameters)) → Holds C D
         → Meets W (suc n) (nowhere W gs C) (Arrives W gs C (One W gs C) (Sees W gs C (around a q c)) (heldIn (around a q c)) (endOf a q c) []) (at-work W gs C (c .head .first) [] (heldIn (around a q c)) D) (evalBody world r (q .body) (placeOf W gs C (around a q c)) (seen gs (around a q c) D))

@@ -66,6 +66,7 @@ module _ (gs : List Global) where
 
   mutual
     unfolding codeS opsS after passing scopesOf
+
     pub lenS : (s : Stmt) (Γ : List Around) (ts : List Ty) (p : At) → after (codeS gs s Γ ts p) p .address ≡ p .address + opsS s (scopesOf Γ) (passing Γ)
     lenS (block ds is) Γ ts p = lenHead bound by-bound ds (inside (blockOf ds is) ∷ Γ) p (λ Δ q. codeItems gs is (labels is (q .address) ∷ Δ) ts q)
         (λ Φ. opsItems is (blockOf ds is ∷ scopesOf Γ) (theLabels is ∷ Φ)) (blockOf ds is ∷ scopesOf Γ)
@@ -115,8 +116,8 @@ module _ (gs : List Global) where
         (λ Δ q. let y = codeItems gs is (labels is (q .address) ∷ Δ) ts q in y ▸ codeE gs e Δ ts (after y q))
         (λ Φ. opsItems is (expressionOf ds is ∷ scopesOf Γ) (theLabels is ∷ Φ) + opsE e (expressionOf ds is ∷ scopesOf Γ) Φ) (expressionOf ds is ∷ scopesOf Γ)
         (λ Δ q d. let u = lenItems is (labels is (q .address) ∷ Δ) ts q in let v = lenE e Δ ts (after (codeItems gs is (labels is (q .address) ∷ Δ) ts q) q) in
-          let w : opsItems is (scopesOf Δ) (theLabels is ∷ passing Δ) ≡ opsItems is (expressionOf ds is ∷ scopesOf Γ) (theLabels is ∷ passing Δ) = ap (λ z. opsItems is z (theLabels is ∷ passing Δ)) d in
-          let w' : opsE e (scopesOf Δ) (passing Δ) ≡ opsE e (expressionOf ds is ∷ scopesOf Γ) (passing Δ) = ap (λ z. opsE e z (passing Δ)) d in omega arith) refl
+        let w : opsItems is (scopesOf Δ) (theLabels is ∷ passing Δ) ≡ opsItems is (expressionOf ds is ∷ scopesOf Γ) (theLabels is ∷ passing Δ) = ap (λ z. opsItems is z (theLabels is ∷ passing Δ)) d in
+        let w' : opsE e (scopesOf Δ) (passing Δ) ≡ opsE e (expressionOf ds is ∷ scopesOf Γ) (passing Δ) = ap (λ z. opsE e z (passing Δ)) d in omega arith) refl
 
     lenEs : (es : Exprs) (Γ : List Around) (ts : List Ty) (p : At) → after (codeEs gs es Γ ts p) p .address ≡ p .address + opsEs es (scopesOf Γ) (passing Γ)
     lenEs noExpr Γ ts p = omega arith

@@ -76,7 +76,7 @@ module _ (W : Setting) (t : Tree) where
     closes n r (crash h) = inl h
     closes n (done u σ) (ends h) = finishes (begin h (λ y m.
         subst (λ z. Meets W n (λ a τ y. ⊥) (λ v τ y. EndedAs (reverse (σ .trace)) 0 y) z (done u σ)) (sym (m .there ∙ ap (λ us. at-work W (t .head) (atRoot W (t .head)) lastAt (us ++ []) [] (m .now)) (m .gave)))
-          (op-at W (t .head) 0 [] end lastAt [] [] (m .now) (B .last) (ends (here (m .now .trace, m .now .taken, refl, ap reverse (m .sees .0)))))))
+        (op-at W (t .head) 0 [] end lastAt [] [] (m .now) (B .last) (ends (here (m .now .trace, m .now .taken, refl, ap reverse (m .sees .0)))))))
       where
         finishes : Meets W n (λ a τ y. ⊥) (λ v τ y. EndedAs (reverse (σ .trace)) 0 y) start (done u σ) → Reach W start (Bad W) ⊎ Reach W start (EndedAs (reverse (σ .trace)) 0)
         finishes (crash h) = inl h

@@ -328,11 +328,11 @@ module _ (gs : List Global) (a : ℕ) (u : Cell) where
           let name : b ≡ a = eqb→eq b a (subst T (sym t) tt) in
           put-here (slot b (seenC gs (cellAt cs e))) (blocksOf gs Γ cs) t
           ∙ ap₂ inFirst (ap₂ slot (sym name) (w ∙ ap (seenC gs) (sym (subst (λ z. cellAt (put cs c (assigned v)) z ≡ assigned v) (sym same) (put-same cs c (assigned v) y g)))))
-            (sym (apart-blocks gs own c (assigned v) cs cs Γ (subst (λ z. Apart own z Γ) same (d .0))))
+          (sym (apart-blocks gs own c (assigned v) cs cs Γ (subst (λ z. Apart own z Γ) same (d .0))))
       go false f t q =
           put-first (slot b (seenC gs (cellAt cs e))) (blocksOf gs Γ cs) t
           ∙ ap₂ inFirst (ap (λ z. slot b (seenC gs z)) (sym (put-other cs c e (assigned v) (λ r. bound-apart a Γ c e q (d .0) (sym r)))))
-            (f q)
+          (f q)
   wrote-block (global q b e ∷ Γ) c v y cs w h d g = wrote-block Γ c v y cs w h (d .1) g
   wrote-block (held k ∷ Γ) c v y cs w h d g = wrote-block Γ c v y cs w h d g
   wrote-block (labels is k ∷ Γ) c v y cs w h d g = wrote-block Γ c v y cs w h d g
@@ -405,14 +405,15 @@ module _ (gs : List Global) (a : ℕ) (u : Cell) (o : Owner) (c : ℕ) (v : Valu
       go : (t : Bool) → eqb b a ≡ t → (globalAt a Γ ≡ some (kept o c) → (putIn a u (rootsOf gs Γ cs ls) ≡ rootsOf gs Γ (ownPut o c (assigned v) cs) (rootPut o c (assigned v) ls)) × (blocksOf gs Γ (ownPut o c (assigned v) cs) ≡ blocksOf gs Γ cs))
           → (if t then some (kept q e) else globalAt a Γ) ≡ some (kept o c)
           → ((if t then slot a u ∷ rootsOf gs Γ cs ls else slot b (seenC gs (cellAt (ofOwner gs q cs ls) e)) ∷ putIn a u (rootsOf gs Γ cs ls))
-              ≡ slot b (seenC gs (cellAt (ofOwner gs q (ownPut o c (assigned v) cs) (rootPut o c (assigned v) ls)) e)) ∷ rootsOf gs Γ (ownPut o c (assigned v) cs) (rootPut o c (assigned v) ls))
-            × (blocksOf gs Γ (ownPut o c (assigned v) cs) ≡ blocksOf gs Γ cs)
+          ≡ slot b (seenC gs (cellAt (ofOwner gs q (ownPut o c (assigned v) cs) (rootPut o c (assigned v) ls)) e)) ∷ rootsOf gs Γ (ownPut o c (assigned v) cs) (rootPut o c (assigned v) ls))
+          × (blocksOf gs Γ (ownPut o c (assigned v) cs) ≡ blocksOf gs Γ cs)
       go true t k f =
           let z = some-is (kept q e) (kept o c) f in
           let ap' : Apart o c Γ = subst (λ x. Apart (owner-of x) (number-of x) Γ) z (d .0) in
-          let n : cellAt (ofOwner gs q (ownPut o c (assigned v) cs) (rootPut o c (assigned v) ls)) e ≡ assigned v = subst (λ x. cellAt (ofOwner gs q (ownPut o c (assigned v) cs) (rootPut o c (assigned v) ls)) x ≡ assigned v) (sym (ap number-of z)) (now q (ap owner-of z)) in
-          (ap₂ (λ x l. x ∷ l) (ap₂ slot (sym (eqb→eq b a (subst T (sym t) tt))) (w ∙ ap (seenC gs) (sym n))) (sym (apart-roots gs o c (assigned v) cs ls Γ ap')),
-            apart-blocks gs o c (assigned v) cs ls Γ ap')
+          let n : cellAt (ofOwner gs q (ownPut o c (assigned v) cs) (rootPut o c (assigned v) ls)) e ≡ assigned v = subst (λ x. cellAt (ofOwner gs q (ownPut o c (assigned v) cs) (rootPut o c (assigned v) ls)) x ≡ assigned v) (sym (ap number-of z)) (now q (ap owner-of z)) in (
+            ap₂ (λ x l. x ∷ l) (ap₂ slot (sym (eqb→eq b a (subst T (sym t) tt))) (w ∙ ap (seenC gs) (sym n))) (sym (apart-roots gs o c (assigned v) cs ls Γ ap')),
+            apart-blocks gs o c (assigned v) cs ls Γ ap',
+          )
       go false t k f =
           let r = k f in
           (ap₂ (λ x l. slot b (seenC gs x) ∷ l) (sym (other q e (λ p z. global-apart a Γ o c e f (subst (λ s. Apart s e Γ) (sym p) (d .0)) z))) (r .0), r .1)
@@ -427,8 +428,8 @@ writes gs a Γ o c v y D h d g = go (boundAt a Γ) refl (rw (in-blocks gs a Γ (
   where
     go : (x : Option Kept) → boundAt a Γ ≡ x → isIn (cellOf a (blocksOf gs Γ (D .cells))) ≡ isIn (cellFor gs (boundAt a Γ) (D .cells) (D .lowest)) → orCell x (globalAt a Γ) ≡ some (kept o c)
         → (if isIn (cellOf a (blocksOf gs Γ (D .cells))) then withBlocks (putOf a (assigned (seenV gs v)) (blocksOf gs Γ (D .cells))) (seen gs Γ D)
-            else withRoot (putIn a (assigned (seenV gs v)) (rootsOf gs Γ (D .cells) (D .lowest))) (seen gs Γ D))
-          ≡ seen gs Γ (written o c (assigned v) D)
+        else withRoot (putIn a (assigned (seenV gs v)) (rootsOf gs Γ (D .cells) (D .lowest))) (seen gs Γ D))
+        ≡ seen gs Γ (written o c (assigned v) D)
     go none e q f =
         let r = wrote-root gs a (assigned (seenV gs v)) o c v y (D .cells) (D .lowest) refl g Γ f d in
         rw (q, e) (ap₂ (λ x z. withRoot x (withBlocks z (seen gs Γ D))) (r .0) (sym (r .1)))
@@ -438,6 +439,6 @@ writes gs a Γ o c v y D h d g = go (boundAt a Γ) refl (rw (in-blocks gs a Γ (
         let k : o ≡ own = sym (ap owner-of z) ∙ w in
         let b : boundAt a Γ ≡ some (kept own c) = e ∙ ap some z ∙ ap (λ t. some (kept t c)) k in
         rw (q, e) (subst (λ s. withBlocks (putOf a (assigned (seenV gs v)) (blocksOf gs Γ (D .cells))) (seen gs Γ D) ≡ seen gs Γ (written s c (assigned v) D)) (sym k)
-          (ap₂ (λ l m. withBlocks l (withRoot m (seen gs Γ D)))
-            (wrote-block gs a (assigned (seenV gs v)) Γ c v y (D .cells) refl b d (subst (λ s. getElem? (ofOwner gs s (D .cells) (D .lowest)) c ≡ some y) k g))
-            (sym (kept-roots gs a (assigned (seenV gs v)) Γ c (assigned v) (D .cells) (D .lowest) b d))))
+        (ap₂ (λ l m. withBlocks l (withRoot m (seen gs Γ D)))
+        (wrote-block gs a (assigned (seenV gs v)) Γ c v y (D .cells) refl b d (subst (λ s. getElem? (ofOwner gs s (D .cells) (D .lowest)) c ≡ some y) k g))
+        (sym (kept-roots gs a (assigned (seenV gs v)) Γ c (assigned v) (D .cells) (D .lowest) b d))))

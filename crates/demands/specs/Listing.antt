@@ -1,15 +1,20 @@
--- The third demand is not empty: the listing example's macro passes, and what is demanded of it comes to its four lines.
+-- The demands are not empty: the listing example's macro passes, and what is demanded of it comes to its four lines.
 use mathlib.Core.Path.{_≡_, refl, ap, _∙_, subst}
 use mathlib.Core.Bool.{true}
 use mathlib.Core.List.{List, [], _∷_, map}
-use Prim.Native.Nat.{ℕ, zero, suc}
+use Prim.Native.Nat.{ℕ, zero, suc, _≤_}
+use lib.IntN.{pos}
 use native.Mathlib.Omega.{arith}
 use lib.Dec.{ltb}
 use lib.ListN.{length}
 use borrow.Author.Tests.{ltb-true}
 use Rattle.words.specs.Laws.{Bytes}
 use Rattle.values.specs.Ends.{Judged, accepted, refused}
-use Rattle.values.specs.Trace.{set, hold, release}
+use Rattle.values.specs.Trace.{set, hold, release, Item, event}
+use Rattle.language.specs.Tree.{Tree, holding, block, setLevel, goto, item, label, noItem, number}
+use Rattle.language.specs.Table.{bytesOf}
+use Rattle.language.specs.Judge.{Program}
+use Rattle.language_laws.specs.Endings.{ByteReadings, EndsBy}
 use Rattle.bytecode.specs.Macro.{Macro}
 use Rattle.bytecode.specs.Rules.{judgeMacro}
 use Rattle.bytecode.specs.Machine.{freshMachine}
@@ -19,12 +24,15 @@ use Rattle.bytecode.specs.State.{stateLength}
 use Rattle.bytecode.specs.Lent.{RanOn, startOn}
 use Rattle.examples.specs.Cases.{casesCompute}
 use Rattle.examples.specs.Notation.{refusalOf, joined, feed}
-use Rattle.examples.specs.Listing.{code, passes}
+use Rattle.examples.specs.Listing.{table, code, passes}
 use Rattle.loading.specs.Tests.{halves}
 use Rattle.loading.specs.Promises.{passed}
 use Rattle.safety.specs.Safety.{fresh-safe}
 use Rattle.demands.specs.Terms.{Fed, runsOn, onBytes, Demanded}
 use Rattle.demands.specs.Third.{third}
+use Rattle.demands.specs.Second.{SameReadings, answered, events, EndsOn, second}
+use Rattle.compile_code.specs.Encode.{macroOf}
+use Rattle.compile_runs.specs.Enough.{Stepping}
 
 judged : (j : Judged Macro) → refusalOf j ≡ [] → (m : Macro) × (j ≡ accepted m)
 judged (accepted m) h = (m, refl)
@@ -86,3 +94,41 @@ listing =
       fresh-safe m (passed code m bytes h),
       λ l n. let d = third code m bytes h l n feeds fed in (d, ap answersOn (d .equals) ∙ (answers-on (runs m feeds (freshMachine m)) ∙ told)),
     )
+
+-- ── the second demand ──
+-- the listing example is a program
+abbrev pub listingTree : Tree
+listingTree = record {
+  head = [];
+  items = item (block (holding 7 ∷ []) (item (setLevel (number (pos 3)) (number (pos 200))) (item (goto 5) noItem)))
+      (item (setLevel (number (pos 4)) (number (pos 9))) (label 5 noItem));
+}
+
+pub listing-program : Program (bytesOf table)
+unfolding casesCompute
+listing-program = record {
+  tree = listingTree;
+  written = refl;
+  fields = refl;
+  layout = refl;
+  entries = omega arith;
+  depth = omega arith;
+  classes = omega arith;
+  procedures = omega arith;
+  faultless = refl;
+  limited = refl;
+}
+
+abbrev pub listingItems : List Item
+listingItems = event (hold 7) ∷ event (set 3 200) ∷ event (release 7) ∷ []
+
+tree-ends : (oracle : ℕ → ℕ → ℕ) → EndsBy oracle listingTree listingItems 0
+unfolding casesCompute
+tree-ends oracle = (1, refl)
+
+-- what compiling writes of it, started on any lent bytes: whatever the faders read, every list of enough runs answers exactly its three events and ends by 0
+pub listing-second : (oracle : ℕ → ℕ → ℕ) → ByteReadings oracle → (state : List ℕ) → length state ≡ stateLength
+    → (N : ℕ) × ((fs : List Feed) → Fed fs → SameReadings listingTree oracle fs → Stepping fs → N ≤ length fs
+    → let answers = answered (macroOf listingTree) state fs in EndsOn 0 answers × (events answers ≡ hold 7 ∷ set 3 200 ∷ release 7 ∷ []))
+unfolding listing-program
+listing-second oracle low state n = second (bytesOf table) listing-program .produces oracle low state n .enough listingItems 0 (tree-ends oracle)

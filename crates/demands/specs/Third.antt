@@ -1,15 +1,20 @@
--- The third demand: what the loading check gives for every macro that passes it. Each statement is read without its proof; the terms are in
--- Terms.antt and in safety/specs/Terms.antt (SafeRun, Reaches). Its last sentence, on compiled macros, comes with the compiler.
-use mathlib.Core.Path.{_≡_}
-use mathlib.Core.Bool.{true}
+-- The third demand, whole in `Third` at the end: what the loading check gives for every macro that passes it, and that every compiled macro does. Each
+-- statement is read without its proof; the terms are in Terms.antt and in safety/specs/Terms.antt (SafeRun, Reaches).
+use mathlib.Core.Path.{_≡_, refl, ap, sym, _∙_}
+use mathlib.Core.Bool.{Bool, true, false}
 use mathlib.Core.List.{List}
+use mathlib.Core.Logic.{_↔_}
 use mathlib.Core.Option.{some}
-use Prim.Native.Nat.{ℕ}
-use lib.ListN.{length}
+use Prim.Native.Nat.{ℕ, _+_, _≤_, _<_}
+use native.Mathlib.Omega.{arith}
+use lib.Dec.{leb}
+use lib.ListN.{length, take, drop}
+use lib.Seq.{sets, sets-eq, take-append-seam}
+use borrow.Author.Tests.{leb-true}
 use Rattle.words.specs.Laws.{Bytes}
-use Rattle.values.specs.Ends.{refusal, accepted}
-use Rattle.bytecode.specs.Macro.{Macro}
-use Rattle.bytecode.specs.Rules.{judgeMacro}
+use Rattle.values.specs.Ends.{Refusal, refusal, Judged, accepted, refused}
+use Rattle.bytecode.specs.Macro.{Macro, readMacro}
+use Rattle.bytecode.specs.Rules.{faultAt, judgeMacro}
 use Rattle.bytecode.specs.Machine.{Machine, freshMachine}
 use Rattle.bytecode.specs.Runs.{Feed, refuses}
 use Rattle.bytecode.specs.Sound.{sound}
@@ -19,6 +24,12 @@ use Rattle.loading.specs.Promises.{passed}
 use Rattle.layout.specs.Layout
 use Rattle.layout.specs.Passing.{sized}
 use Rattle.safety.specs.Safety.{step-safe, fresh-safe, reached-safe, runs-safe}
+use Rattle.words.specs.Choice.{if_then_else_}
+use Rattle.language.specs.Tree.{Tree}
+use Rattle.language.specs.Judge.{Compiled, judgeTable, compileTree, compileRefused, writeMacro, compileOn}
+use Rattle.loading.specs.Promises.{passes-exactly}
+use Rattle.compile_code.specs.Encode.{macroOf, compiled}
+use Rattle.compile_order.specs.Order.{accepted-passes}
 use Rattle.demands.specs.Terms.{Fed, Demanded}
 use Rattle.demands.specs.Bytes.{NoneSound, runs-are, started, not-stuck, ten-if, ten-only}
 
@@ -46,3 +57,46 @@ module _ (code : List ℕ) (m : Macro) (b : Bytes code) (h : judgeMacro code ≡
   -- A sound state is read back from its bytes.
   pub read-back : (s : Machine) → sound m s ≡ true → decode m (encode s) ≡ some s
   read-back = Layout.decode-encode m (sized m (passed code m b h))
+
+-- ── the compiler ──
+same-number : {m n : ℕ} → _≡_ {A = Judged ℕ} (accepted m) (accepted n) → m ≡ n
+same-number h = cc h
+
+never-accepted : {r : Refusal} {n : ℕ} → _≡_ {A = Judged ℕ} (refused r) (accepted n) → ⊥
+never-accepted h = let z : _≡_ {A = ℕ} 0 1 = cc h in omega arith
+
+-- what stands at the front of an output is what was written there
+front-of : (code out : List ℕ) → length code ≤ length out → take (length code) (sets out 0 code) ≡ code
+front-of code out h = ap (take (length code)) (sets-eq code out 0 (omega arith)) ∙ take-append-seam code (drop (0 + length code) out)
+
+abbrev Written : Compiled → List ℕ → Type 0
+Written r code = (n : ℕ) (b : List ℕ) → r ≡ record { verdict = accepted n; bytes = b } → take n b ≡ code
+
+written : (code out : List ℕ) → Written (writeMacro code out) code
+written code out = by (leb (length code) (length out)) refl
+  where
+    by : (t : Bool) → leb (length code) (length out) ≡ t → Written (if t then record { verdict = accepted (length code); bytes = sets out 0 code } else compileRefused (refusal 7 0) out) code
+    by true h n b e =
+        let k : length code ≡ n = same-number (ap (λ (r : Compiled). r .verdict) e) in
+        let l : sets out 0 code ≡ b = ap (λ (r : Compiled). r .bytes) e in
+        ap (λ (i : ℕ). take i b) (sym k) ∙ ap (take (length code)) (sym l) ∙ front-of code out (leb-true (length code) (length out) h)
+    by false h n b e = absurd (never-accepted (ap (λ (r : Compiled). r .verdict) e))
+
+judged-so : (l out : List ℕ) → Bytes l → (j : Judged Tree) → judgeTable l ≡ j → (n : ℕ) (b : List ℕ) → compileTree macroOf j out ≡ record { verdict = accepted n; bytes = b } → (m : Macro) × (judgeMacro (take n b) ≡ accepted m)
+judged-so l out bytes (accepted t) h n b e = (compiled t, ap judgeMacro (written (macroOf t) out n b e) ∙ accepted-passes l bytes t h)
+judged-so l out bytes (refused r) h n b e = absurd (never-accepted (ap (λ (x : Compiled). x .verdict) e))
+
+-- ── the whole ──
+pub record Third : Type 0 where
+  -- "The loading check passes exactly the macros to which paper 01 gives neither 8 nor 9": those that read, and have a fault at no address
+  pub exactly : (code : List ℕ) (m : Macro) → judgeMacro code ≡ accepted m ↔ ((readMacro code ≡ accepted m) × ((i : ℕ) → i < length (m .code) → faultAt m i ≡ false))
+  -- each that passes, over every list of runs from its fresh state
+  pub each-passed : (code : List ℕ) (m : Macro) → Bytes code → judgeMacro code ≡ accepted m
+      → (l : List ℕ) → length l ≡ stateLength → (fs : List Feed) → Fed fs → Demanded code m l fs
+  -- "No accepted table compiles to a macro that the check turns down."
+  pub each-compiled : (table out : List ℕ) → Bytes table → (n : ℕ) (b : List ℕ) → compileOn macroOf table out ≡ record { verdict = accepted n; bytes = b }
+      → (m : Macro) × (judgeMacro (take n b) ≡ accepted m)
+
+pub third-demand : Third
+unfolding compileOn
+third-demand = record { exactly = passes-exactly; each-passed = third; each-compiled = λ table out bytes n b e. judged-so table out bytes (judgeTable table) refl n b e }

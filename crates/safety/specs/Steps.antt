@@ -34,7 +34,7 @@ use Rattle.safety.specs.States.{Stands, Waits, Waiting, Around, frame-at
 use Rattle.safety.specs.Operands.{OnTop, on-top, take-off, resumes, not-root, fits-same, empty, demanded, chosen, supplied, topped, an-integer, a-logical, a-reference}
 use Rattle.safety.specs.Records.{ownerBody, keeps-append, keeps-put, last-made, made-at, record-typed, record-sound, keeps-records, around-records, root-frame, put-holds, put-stands, around-put}
 
-size-between : (lo hi : ℕ) (x : ℤ) → between lo hi x ≡ true → (lo ≤ size x) × (size x ≤ hi)
+pub size-between : (lo hi : ℕ) (x : ℤ) → between lo hi x ≡ true → (lo ≤ size x) × (size x ≤ hi)
 size-between lo hi (pos n) h = let q = halves (leb lo n) (leb n hi) h in (leb-true lo n (q .0), leb-true n hi (q .1))
 size-between lo hi (negsuc n) h = let z : _≡_ {A = ℕ} 0 1 = cc h in absurd (omega arith)
 

@@ -1,6 +1,6 @@
 -- `compile_pen::copy` meets its contract: after i turns the output is `paste out at from i`. Assumes nothing.
 use native.Mathlib.Omega.{arith}
-use mathlib.Core.Path.{_≡_, refl, sym, ap, _∙_}
+use mathlib.Core.Path.{_≡_, ap, _∙_}
 use mathlib.Core.List.{List}
 use Prim.Native.Nat.{ℕ, _+_, _-_, _≤_}
 use lib.ListN.{length, set, getD}
@@ -8,8 +8,6 @@ use lib.Seq.{paste, paste-zero, length-paste}
 use Rattle.compile_pen.specs.Ink.{pasted, paste-turn}
 use Rattle.compile_pen.proofs.copy.Statement.{statement}
 use Rattle.compile_pen.proofs.copy.Tie as tie
-use Rattle.compile_pen.proofs.copy.Reads as reads
-use Rattle.compile_pen.proofs.copy.Lts as lts
 
 abbrev Inv-loop : tie.InvT-loop
 Inv-loop from count out₀ at i₀ out i = (i ≤ count) × (out ≡ paste out₀ at from i)
@@ -29,7 +27,9 @@ add-out c = omega arith
 slice-write-out : tie.Need-slice-write-out Inv-loop μ-loop
 slice-write-out c =
     let a = c .before .before .before .args in
-    let e : length (c .before .before .loop .out) ≡ length (a .out .now) = ap (length {A = ℕ}) (c .before .before .loop .inv .1) ∙ length-paste (a .out .now) (a .at) (a .from .now) (c .before .before .loop .i) (omega arith) (omega arith) in
+    let turn = c .before .before .loop in
+    let e : length (turn .out) ≡ length (a .out .now) =
+    ap (length {A = ℕ}) (turn .inv .1) ∙ length-paste (a .out .now) (a .at) (a .from .now) (turn .i) (omega arith) (omega arith) in
     omega (arith, e)
 
 add-i : tie.Need-add-i Inv-loop μ-loop
@@ -42,7 +42,8 @@ loop-again : tie.Need-loop-again Inv-loop μ-loop
 loop-again c =
     let a = c .before .before .before .args in
     let i = c .before .before .loop .i in
-    (omega arith, ap (λ (x : List ℕ). set x (a .at + i) (getD (a .from .now) i 0)) (c .before .before .loop .inv .1) ∙ paste-turn (a .out .now) (a .from .now) (a .at) i (omega arith) (omega arith))
+    let e = ap (λ (x : List ℕ). set x (a .at + i) (getD (a .from .now) i 0)) (c .before .before .loop .inv .1) in
+    (omega arith, e ∙ paste-turn (a .out .now) (a .from .now) (a .at) i (omega arith) (omega arith))
 
 same-length : tie.Need-same-length Inv-loop μ-loop
 same-length c =

@@ -8,9 +8,6 @@ use lib.Seq.{length-sets}
 use borrow.Author.Needs.{needs}
 use Rattle.compile_pen.proofs.put_instruction.Statement.{statement}
 use Rattle.compile_pen.proofs.put_instruction.Tie as tie
-use Rattle.compile_pen.proofs.put_instruction.Reads as reads
-use Rattle.compile_pen.proofs.put_instruction.Lts as lts
-use Rattle.words.proofs.put_word.Reads as put-word-reads
 
 slice-write-out : tie.Need-slice-write-out
 slice-write-out c = search needs

@@ -31,36 +31,37 @@ put-half-requires c κs = simp length-set (omega arith)
 add-out-2 : tie.Need-add-out-2
 add-out-2 c = search needs
 
+-- the address leaves the output's length as it is
+same : (c : lts.After-put-half (put-half-reads.Asked, put-half-reads.Learnt, copy-reads.Asked, copy-reads.Learnt) reads.Pre reads.Post)
+    → length (c .put-half .last .0) ≡ length (c .before .before .before .before .args .out .now)
+same c = ap (length {A = ℕ}) (c .put-half .ensures) ∙ simp (length-sets, length-set)
+
 slice-write-out-3 : tie.Need-slice-write-out-3
-slice-write-out-3 c =
-    let l : length (c .before .before .put-half .last .0) ≡ length (c .before .before .before .before .before .before .args .out .now) = ap (length {A = ℕ}) (c .before .before .put-half .ensures) ∙ simp (length-sets, length-set) in
-    omega (arith, l)
+slice-write-out-3 c = omega (arith, same (c .before .before))
 
 add-out-3 : tie.Need-add-out-3
 add-out-3 c = search needs
 
 slice-write-out-4 : tie.Need-slice-write-out-4
-slice-write-out-4 c =
-    let l : length (c .before .before .put-half .last .0) ≡ length (c .before .before .before .before .before .before .args .out .now) = ap (length {A = ℕ}) (c .before .before .put-half .ensures) ∙ simp (length-sets, length-set) in
-    simp length-set (omega (arith, l))
+slice-write-out-4 c = simp length-set (omega (arith, same (c .before .before)))
 
 add-copy : tie.Need-add-copy
 add-copy c = search needs
 
 copy-requires : tie.Need-copy-requires
-copy-requires c κs =
-    let l : length (c .before .before .before .put-half .last .0) ≡ length (c .before .before .before .before .before .before .before .args .out .now) = ap (length {A = ℕ}) (c .before .before .before .put-half .ensures) ∙ simp (length-sets, length-set) in
-    (omega arith, simp length-set (omega (arith, l)))
+copy-requires c κs = (omega arith, simp length-set (omega (arith, same (c .before .before .before))))
 
 same-length : tie.Need-same-length
 same-length c =
-    let l : length (c .before .before .before .before .before .before .put-half .last .0) ≡ length (c .before .before .before .before .before .before .before .before .before .before .args .out .now) = ap (length {A = ℕ}) (c .before .before .before .before .before .before .put-half .ensures) ∙ simp (length-sets, length-set) in
-    ap (length {A = ℕ}) (c .before .before .copy .ensures) ∙ simp (length-sets, length-set) l
+    let half = c .before .before .before .before .before .before in
+    ap (length {A = ℕ}) (c .before .before .copy .ensures) ∙ simp (length-sets, length-set) (same half)
 
 returns : tie.Need-returns
 returns c =
-    let a = c .before .before .before .before .before .before .before .before .before .before .args in
-    (rw (c .before .before .before .before .before .before .put-half .ensures) at (c .before .before .copy .ensures)) ∙ shape-written (a .out .now) (a .at) (a .address) (a .holds) (a .depth) (take (a .depth) (a .stack .now))
+    let half = c .before .before .before .before .before .before in
+    let a = half .before .before .before .before .args in
+    (rw (half .put-half .ensures) at (c .before .before .copy .ensures))
+    ∙ shape-written (a .out .now) (a .at) (a .address) (a .holds) (a .depth) (take (a .depth) (a .stack .now))
 
 pub put-shape-spec : {M : Type 1} → statement M
 put-shape-spec =

@@ -8,9 +8,6 @@ use Rattle.compile_pen.specs.Ink.{Fits, length-ink}
 use Rattle.compile_pen.specs.Folds.{lets, penAfter, inked, lets-pen, lets-inked, lets-none, lets-fits}
 use Rattle.compile_pen.proofs.releases.Statement.{statement}
 use Rattle.compile_pen.proofs.releases.Tie as tie
-use Rattle.compile_pen.proofs.releases.Reads as reads
-use Rattle.compile_pen.proofs.releases.Lts as lts
-use Rattle.compile_pen.proofs.emit.Reads as emit-reads
 
 abbrev Inv-loop : tie.InvT-loop
 Inv-loop out₀ count left₀ p₀ out left p =
@@ -34,15 +31,17 @@ loop-less c = omega arith
 
 loop-again : tie.Need-loop-again Inv-loop μ-loop
 loop-again c =
-    let n = c .before .before .before .before .before .loop .left in
-    let p = c .before .before .before .before .before .loop .p in
-    let l = c .before .before .before .before .before .loop .out in
-    let s : length (c .before .before .emit .last .0) ≡ length l = ap (length {A = ℕ}) (c .before .before .emit .ensures .1) ∙ length-ink p l 18 0 0 in (
+    let turn = c .before .before .before .before .before .loop in
+    let wrote = c .before .before .emit in
+    let n = turn .left in
+    let p = turn .p in
+    let l = turn .out in
+    let s : length (wrote .last .0) ≡ length l = ap (length {A = ℕ}) (wrote .ensures .1) ∙ length-ink p l 18 0 0 in (
       omega arith,
-      rw (c .before .before .emit .ensures .0) (c .before .before .before .before .before .loop .inv .1 ∙ lets-pen n p (omega arith)),
-      rw (c .before .before .emit .ensures .0, c .before .before .emit .ensures .1) (c .before .before .before .before .before .loop .inv .2 ∙ lets-inked n p l (omega arith)),
-      rw (c .before .before .emit .ensures .0, s, ← lets-pen n p (omega arith)) (c .before .before .before .before .before .loop .inv .3),
-      s ∙ c .before .before .before .before .before .loop .inv .4,
+      rw (wrote .ensures .0) (turn .inv .1 ∙ lets-pen n p (omega arith)),
+      rw (wrote .ensures .0, wrote .ensures .1) (turn .inv .2 ∙ lets-inked n p l (omega arith)),
+      rw (wrote .ensures .0, s, ← lets-pen n p (omega arith)) (turn .inv .3),
+      s ∙ turn .inv .4,
     )
 
 same-length : tie.Need-same-length Inv-loop μ-loop
@@ -50,8 +49,10 @@ same-length c = c .before .loop .inv .4
 
 returns : tie.Need-returns Inv-loop μ-loop
 returns c =
-    let e : c .before .loop .left ≡ 0 = omega arith in
-    (sym (c .before .loop .inv .1 ∙ lets-none (c .before .loop .left) (c .before .loop .p) (c .before .loop .out) e .0), sym (c .before .loop .inv .2 ∙ lets-none (c .before .loop .left) (c .before .loop .p) (c .before .loop .out) e .1))
+    let last = c .before .loop in
+    let e : last .left ≡ 0 = omega arith in
+    let none-left = lets-none (last .left) (last .p) (last .out) e in
+    (sym (last .inv .1 ∙ none-left .0), sym (last .inv .2 ∙ none-left .1))
 
 pub releases-spec : {M : Type 1} → statement M
 releases-spec =

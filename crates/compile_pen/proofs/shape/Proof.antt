@@ -1,11 +1,11 @@
 -- `compile_pen::shape` meets its contract, by whether a shape waits and whether the pen is dry. Assumes nothing.
 use native.Mathlib.Omega.{arith}
-use mathlib.Core.Path.{_≡_, refl, ap, sym, _∙_}
+use mathlib.Core.Path.{_≡_, ap, _∙_}
 use mathlib.Core.Logic.{⊎-elim}
 use borrow.Author.Tests.{not-true, not-false}
 use Prim.Native.Nat.{ℕ}
 use lib.ListN.{length, take}
-use Rattle.compile_pen.specs.Ink.{inkShape, penShaped, shape-kept, shape-dry, shape-wet, length-shape, pen-kept, pen-marked, fits-marked}
+use Rattle.compile_pen.specs.Ink.{Fits, penMarked, inkShape, shape-kept, shape-dry, shape-wet, length-shape, pen-kept, pen-marked, fits-marked}
 use borrow.Author.Needs.{needs}
 use Rattle.compile_pen.proofs.shape.Statement.{statement}
 use Rattle.compile_pen.proofs.shape.Tie as tie
@@ -18,8 +18,15 @@ returns c =
     let a = c .before .before .before .args in
     (pen-kept (a .depth) (a .p) (c .if1 .taken), shape-kept (a .p) (a .out .now) (a .holds) (a .depth) (take (a .depth) (a .stack .now)) (c .if1 .taken))
 
+-- what the contract asks, once it is known that no shape waits
+asked : (c : lts.Else1 (put-shape-reads.Asked, put-shape-reads.Learnt) reads.Pre reads.Post)
+    → let a = c .before .before .before .args in Fits (penMarked (a .depth) (a .p)) (length (a .out .now))
+asked c =
+    let start = c .before .before .before in
+    fits-marked (start .args .depth) (start .args .p) (length (start .args .out .now)) (c .if1 .left) (start .pre .3)
+
 cast-put-shape : tie.Need-cast-put-shape
-cast-put-shape c = let f = fits-marked (c .before .before .before .before .before .before .before .args .depth) (c .before .before .before .before .before .before .before .args .p) (length (c .before .before .before .before .before .before .before .args .out .now)) (c .before .before .before .before .if1 .left) (c .before .before .before .before .before .before .before .pre .3) in omega arith
+cast-put-shape c = let f = asked (c .before .before .before .before) in omega arith
 
 cast-put-shape-2 : tie.Need-cast-put-shape-2
 cast-put-shape-2 c = search needs
@@ -30,17 +37,17 @@ cast-put-shape-3 c = search needs
 put-shape-requires : tie.Need-put-shape-requires
 put-shape-requires c κs =
     let a = c .before .before .before .before .before .before .before .args in
-    let r = fits-marked (a .depth) (a .p) (length (a .out .now)) (c .before .before .before .before .if1 .left) (c .before .before .before .before .before .before .before .pre .3) .room (not-true (a .p .dry) (c .before .before .if2 .taken)) in
+    let r = asked (c .before .before .before .before) .room (not-true (a .p .dry) (c .before .before .if2 .taken)) in
     (omega arith, omega (arith, r))
 
 add-t13 : tie.Need-add-t13
-add-t13 c = let f = fits-marked (c .before .before .before .before .before .before .args .depth) (c .before .before .before .before .before .before .args .p) (length (c .before .before .before .before .before .before .args .out .now)) (c .before .before .before .if1 .left) (c .before .before .before .before .before .before .pre .3) in omega arith
+add-t13 c = let f = asked (c .before .before .before) in omega arith
 
 add-t14 : tie.Need-add-t14
-add-t14 c = let f = fits-marked (c .before .before .before .before .before .before .args .depth) (c .before .before .before .before .before .before .args .p) (length (c .before .before .before .before .before .before .args .out .now)) (c .before .before .before .if1 .left) (c .before .before .before .before .before .before .pre .3) in omega arith
+add-t14 c = let f = asked (c .before .before .before) in omega arith
 
 add-t15 : tie.Need-add-t15
-add-t15 c = let f = fits-marked (c .before .before .before .before .before .before .before .args .depth) (c .before .before .before .before .before .before .before .args .p) (length (c .before .before .before .before .before .before .before .args .out .now)) (c .before .before .before .before .if1 .left) (c .before .before .before .before .before .before .before .pre .3) in omega arith
+add-t15 c = let f = asked (c .before .before .before .before) in omega arith
 
 -- the output after the tests
 inks : (c : lts.After-struct-known4 (put-shape-reads.Asked, put-shape-reads.Learnt) reads.Pre reads.Post)
@@ -59,7 +66,10 @@ same-length c =
     ap (length {A = ℕ}) (inks c) ∙ length-shape (a .p) (a .out .now) (a .holds) (a .depth) (take (a .depth) (a .stack .now))
 
 returns-2 : tie.Need-returns-2
-returns-2 c = (pen-marked (c .before .before .before .before .before .before .before .args .depth) (c .before .before .before .before .before .before .before .args .p) (c .before .before .before .before .if1 .left), inks c)
+returns-2 c =
+    let free = c .before .before .before .before in
+    let a = free .before .before .before .args in
+    (pen-marked (a .depth) (a .p) (free .if1 .left), inks c)
 
 pub shape-spec : {M : Type 1} → statement M
 shape-spec =

@@ -1,4 +1,4 @@
--- macroOf on the listing example and others, judged and run by evaluation.
+-- Tables compiled by macroOf, judged and run by evaluation: the listing example of paper 01 comes to its four lines, and a larger one loads.
 use mathlib.Core.Path.{_≡_, refl}
 use mathlib.Core.List.{List, [], _∷_, _++_}
 use Prim.Native.Nat.{ℕ}

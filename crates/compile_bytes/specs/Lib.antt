@@ -1,0 +1,5 @@
+pub mod Stores
+pub mod Lines
+pub mod Bytes
+pub mod Whole
+pub mod Room

@@ -1,0 +1,124 @@
+-- A macro within the limits fits: what the pens of both walks may have come to (`Fits`) follows from the macro's length and the number of its instructions.
+use mathlib.Core.Path.{_≡_, refl, ap, sym, _∙_}
+use mathlib.Core.Bool.{Bool, true, false, true≢false}
+use mathlib.Core.List.{List, [], _∷_}
+use Prim.Native.Nat.{ℕ, _+_, _*_, _^_, _≤_, _<_}
+use native.Mathlib.Omega.{arith}
+use lib.ListN.{length}
+use Rattle.values.specs.Types.{Ty}
+use Rattle.language.specs.Tree.{Tree}
+use Rattle.bytecode.specs.Macro.{Body, Macro}
+use Rattle.loading.specs.Terms.{Each}
+use Rattle.compile_code.specs.Code.{Code}
+use Rattle.compile_code.specs.Encode.{parts, linesOf, compiled, macroOf}
+use Rattle.compile_pen.specs.declared.Pen.{Pen}
+use Rattle.compile_pen.specs.Ink.{Fits}
+use Rattle.compile_pen.specs.Folds.{penAfter, inked, Later, later-self, later-trans, grows, fits-before, within, pen-within, inked-within}
+use Rattle.compile_bytes.specs.Bytes.{penAll, inkedAll, codesOf, records-length, placed-few, shapes-short}
+use Rattle.compile_bytes.specs.Whole.{front, classesLength, bodiesLength, front-length, macro-length, measured}
+
+-- ── bodies one after the other ──
+pub grows-all : (xs : List Code) (p : Pen) → Later p (penAll xs p)
+unfolding penAll
+grows-all [] p = later-self p
+grows-all (x ∷ xs) p = later-trans (grows x p) (grows-all xs (penAfter x p))
+
+-- if all fits, the first body does
+pub fits-first : (x : Code) (xs : List Code) (p : Pen) (n : ℕ) → Fits (penAll (x ∷ xs) p) n → Fits (penAfter x p) n
+unfolding penAll
+fits-first x xs p n f = fits-before n (grows-all xs (penAfter x p)) f
+
+pub all-within : (b : Bool) (xs : List Code) (p : Pen) → penAll xs (within b p) ≡ within b (penAll xs p)
+unfolding penAll
+all-within b [] p = refl
+all-within b (x ∷ xs) p = ap (penAll xs) (pen-within b x p) ∙ all-within b xs (penAfter x p)
+
+pub inked-all-within : (b : Bool) (xs : List Code) (p : Pen) (l : List ℕ) → inkedAll xs (within b p) l ≡ inkedAll xs p l
+unfolding inkedAll
+inked-all-within b [] p l = refl
+inked-all-within b (x ∷ xs) p l =
+    ap (λ (q : Pen). inkedAll xs q (inked x (within b p) l)) (pen-within b x p)
+    ∙ (inked-all-within b xs (penAfter x p) (inked x (within b p) l) ∙ ap (inkedAll xs (penAfter x p)) (inked-within b x p l))
+
+pub fits-within : (b : Bool) (p : Pen) (n : ℕ) → Fits p n → Fits (within b p) n
+fits-within b p n f = record {
+  at-small = f .at-small;
+  sh-small = f .sh-small;
+  shapes-small = f .shapes-small;
+  address-small = f .address-small;
+  room = f .room;
+}
+
+-- ── a tree's macro ──
+few-shapes : (t : Tree) → length (compiled t .shapes) ≤ length (compiled t .code)
+unfolding compiled
+few-shapes t =
+    let n = records-length (linesOf (parts t)) in
+    let h = placed-few 0 (linesOf (parts t)) in
+    omega arith
+
+module _ (t : Tree) (code-small : length (compiled t .code) < 65536) (small : length (macroOf t) < 2 ^ 62) where
+  -- a pen that counts from nothing
+  pub fits-dry : (p : Pen) (n : ℕ) → p .at ≡ 0 → p .address ≡ 0 → p .sh ≡ 0 → p .shapes ≡ 0 → p .waits ≡ false → p .dry ≡ true
+      → Fits (penAll (codesOf (parts t)) p) n
+  unfolding macroOf
+  fits-dry p n i a s k w d =
+      let h = measured t p a w in
+      let e = macro-length (compiled t) in
+      let f = few-shapes t in
+      let q = penAll (codesOf (parts t)) p in
+      let b : q .dry ≡ true = grows-all (codesOf (parts t)) p .same-dry ∙ d in
+      record {
+        at-small = omega arith;
+        sh-small = omega arith;
+        shapes-small = omega arith;
+        address-small = omega arith;
+        room = λ c. absurd (true≢false (sym b ∙ c));
+      }
+
+  -- a pen that writes, in an output of n bytes
+  pub fits-real : (p : Pen) (n : ℕ) → p .at ≡ length (front (compiled t)) → p .address ≡ 0 → p .sh ≡ p .at + 8 * length (compiled t .code) → p .shapes ≡ 0 → p .waits ≡ false
+      → length (macroOf t) ≤ n → Fits (penAll (codesOf (parts t)) p) n
+  unfolding macroOf
+  fits-real p n i a s k w r =
+      let h = measured t p a w in
+      let e = macro-length (compiled t) in
+      let f = few-shapes t in
+      let g = front-length (compiled t) in
+      record {
+        at-small = omega arith;
+        sh-small = omega arith;
+        shapes-small = omega arith;
+        address-small = omega arith;
+        room = λ c. (omega arith, omega arith);
+      }
+
+-- ── the limits ──
+pub record Limited (m : Macro) : Type 0 where
+  pub few-classes : length (m .classes) ≤ 16
+  pub few-fields : Each (λ ts. length ts ≤ 8) (m .classes)
+  pub few-bodies : length (m .bodies) ≤ 64
+  pub few-cells : Each (λ b. length (b .cells) ≤ 32) (m .bodies)
+  pub few-instructions : length (m .code) < 65536
+  pub few-operands : Each (λ s. length (s .found .operands) ≤ 32) (m .shapes)
+
+classes-short : (cs : List (List Ty)) → Each (λ ts. length ts ≤ 8) cs → classesLength cs ≤ 11 * length cs
+unfolding classesLength
+classes-short [] h = omega arith
+classes-short (ts ∷ cs) h = let a = h .0 in let b = classes-short cs (h .1) in omega arith
+
+bodies-short : (bs : List Body) → Each (λ b. length (b .cells) ≤ 32) bs → bodiesLength bs ≤ 39 * length bs
+unfolding bodiesLength
+bodies-short [] h = omega arith
+bodies-short (b ∷ bs) h = let a = h .0 in let c = bodies-short bs (h .1) in omega arith
+
+-- 8 + 11 a class + 39 a body + 8 an instruction + 38 a shape + 2, and no more shapes than instructions
+pub macro-small : (t : Tree) → Limited (compiled t) → length (macroOf t) < 3100000
+unfolding macroOf
+macro-small t h =
+    let e = macro-length (compiled t) in
+    let a = classes-short (compiled t .classes) (h .few-fields) in
+    let b = bodies-short (compiled t .bodies) (h .few-cells) in
+    let c = shapes-short 32 (compiled t .shapes) (h .few-operands) in
+    let f = few-shapes t in
+    omega arith

@@ -1,0 +1,1 @@
+// Examples only: see specs/. Tables compiled, judged and run by evaluation.
