@@ -221,7 +221,6 @@ impl<'t, P: Pen> Walk<'t, P> {
             self.number_globals(e.a);
             self.type_declarations();
         }
-        let outside = Outside { names: 0, holds: 0 };
         for _ in 0..e.a {
             let at = self.next;
             self.declaration(at);
@@ -229,7 +228,7 @@ impl<'t, P: Pen> Walk<'t, P> {
         }
         self.open_labels(e.b);
         self.statements(e.b);
-        self.release(self.holds - outside.holds);
+        self.release(self.holds);
         self.holds = 0;
         self.op(0, 0, 0);
         self.body(0, 0, 0);

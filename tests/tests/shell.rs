@@ -58,10 +58,10 @@ fn a_shell_in_c() {
     let longest = table(&format!("1 0 2047 {labels}"));
     assert_eq!(printed(&shell, &[], &longest), ("refused 11 0\nend 0\n".to_string(), true));
     assert_eq!(printed(&shell, &[], &[&longest[..], &[0]].concat()), ("refused 1 0\n".to_string(), false));
-    // over 65,536 bytes of macro
+    // many events
     let sets = ", 28 0 0, 40 0 1, 40 0 1".repeat(682);
-    let many = format!("1 0 682 {sets}");
-    prints(&many, &format!("refused 11 0\n{}end 0\n", "set 1 1\n".repeat(682)), true);
+    prints(&format!("1 0 682 {sets}"), &format!("refused 11 0\n{}end 0\n", "set 1 1\n".repeat(682)), true);
+    // a macro of more than 65,536 bytes
     let gotos = ", 25 5 0".repeat(500);
     prints(&format!("1 0 2, 1 16 500 {} {gotos}, 20 5 0", ", 14 1 0".repeat(16)), "refused 7 0\n", false);
 }
