@@ -1,3 +1,4 @@
 pub mod Lies
 pub mod Lengths
 pub mod Marks
+pub mod Means
