@@ -2,3 +2,4 @@ pub mod Lies
 pub mod Lengths
 pub mod Marks
 pub mod Means
+pub mod Heads

@@ -88,6 +88,12 @@ module _ (W : Walk) where
   known-moved Γ Δ a (Def s n q w) nowhere e k = tt
   known-moved Γ Δ a (Def s n q w) (found t b) e k = means-moved Γ Δ a q e t k
 
+  pub both-moved : (Γ Δ : List Around) (a : ℕ) (f : Found) (x : names.Found) → cellOf a Δ ≡ cellOf a Γ → Both (λ q t. Means W Γ a q t) f x → Both (λ q t. Means W Δ a q t) f x
+  both-moved Γ Δ a Nothing nowhere e k = tt
+  both-moved Γ Δ a Nothing (found t b) e k = absurd k
+  both-moved Γ Δ a (Def s n q w) nowhere e k = absurd k
+  both-moved Γ Δ a (Def s n q w) (found t b) e k = means-moved Γ Δ a q e t k
+
   known-passing : (Γ : List Around) (a : ℕ) (f : Found) (x : names.Found) (b : Bool) → Known W Γ a f x → Known W Γ a (passing b f) x
   known-passing Γ a Nothing x b k = tt
   known-passing Γ a (Def s n q w) nowhere b k = tt
