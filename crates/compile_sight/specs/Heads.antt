@@ -229,7 +229,7 @@ module _ (W : Walk) (a : ℕ) where
   labels-mean p (item s is) Γ = labels-mean (p + sizeS s) is Γ
 
 -- ── a goto within the block ──
-abbrev isDef : Found → Bool
+abbrev pub isDef : Found → Bool
 isDef Nothing = false
 isDef (Def s n q w) = true
 

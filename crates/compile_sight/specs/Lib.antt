@@ -3,3 +3,4 @@ pub mod Lengths
 pub mod Marks
 pub mod Means
 pub mod Heads
+pub mod Blocks
