@@ -4,3 +4,4 @@ pub mod Marks
 pub mod Means
 pub mod Heads
 pub mod Blocks
+pub mod Sight

@@ -19,6 +19,9 @@ module _ {l : List ℕ} {p : ℕ} where
   pub lies-tail : (u : ℕ) (us : List ℕ) → Lies l p (u ∷ us) → Lies l (suc p) us
   lies-tail u us h = rw (add-one p) at (lies-right (u ∷ []) us h)
 
+  pub lies-next : (u : ℕ) (us : List ℕ) → Lies l p (u ∷ us) → Lies l (p + 1) us
+  lies-next u us h = lies-right (u ∷ []) us h
+
   pub lies-here : (u : ℕ) (us : List ℕ) → Lies l p (u ∷ us) → getD l p 0 ≡ u
   lies-here u us h =
       let e : getD (drop p l) 0 0 ≡ getD l p 0 = getD-drop p l 0 0 ∙ rw (add-zero p) in
