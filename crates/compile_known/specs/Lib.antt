@@ -1,1 +1,6 @@
 pub mod Numbers
+pub mod Meaning
+pub mod Packed
+pub mod Tabled
+pub mod Entries
+pub mod Whole
