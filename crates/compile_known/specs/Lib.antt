@@ -1,6 +1,3 @@
 pub mod Numbers
 pub mod Meaning
 pub mod Packed
-pub mod Tabled
-pub mod Entries
-pub mod Whole
