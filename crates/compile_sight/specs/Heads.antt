@@ -43,7 +43,7 @@ use Rattle.compile_nodes.specs.Knows.{Lies, Walk, MeansCell, MeansClass, Means,
 use Rattle.compile_sight.specs.Lies.{lies-tail, lies-here, lies-right}
 use Rattle.compile_sight.specs.Lengths.{length-below}
 use Rattle.compile_sight.specs.Marks.{openIn}
-use Rattle.compile_sight.specs.Means.{Both, both-moved, byte-type}
+use Rattle.compile_sight.specs.Means.{Both, both-moved, byte-type, byte-small, length-class-names}
 
 -- ── what lies around after a head, in each of its styles ──
 unfoldable pub entering : Style → List Decl → ℕ → List Around → List Around
@@ -69,7 +69,7 @@ around-shared [] n Γ = refl
 around-shared (declare x ∷ ds) n Γ = around-shared ds (suc n) (global root (x .name) n ∷ Γ)
 around-shared (holding g ∷ ds) n Γ = around-shared ds n Γ
 
-abbrev Anything : Owner → ℕ → Ty → Type 0
+abbrev pub Anything : Owner → ℕ → Ty → Type 0
 Anything o c t = Unit {0}
 
 module _ (S : Style) where
@@ -130,6 +130,12 @@ module _ {l : List ℕ} (legible : Legible l) (gs : List Global) (ss : List Scop
   bytes-head p seen [] h g = tt
   bytes-head p seen (declare x ∷ ds) h g = (byte-of x p (map flatDecl ds) h (x .type) refl (g .1), bytes-head (p + 1) (x .name ∷ seen) ds (stands-tail _ _ h) (g .2))
   bytes-head p seen (holding q ∷ ds) h g = bytes-head (p + 1) seen ds (stands-tail _ _ h) g
+
+-- where there are few classes
+pub bytes-typed : (gs : List Global) → length (classesOf gs) ≤ 16 → (xs : List Typed) → Bytes gs (map declare xs)
+unfolding Bytes
+bytes-typed gs h [] = tt
+bytes-typed gs h (x ∷ xs) = (byte-small (classNames (classesOf gs)) (x .type) (omega (arith, length-class-names (classesOf gs))), bytes-typed gs h xs)
 
 pub classes-known : {W : Walk} {l : List ℕ} {v : List Item} {Γ : List Around} → Sees l v (scopesOf Γ) → Knows W v Γ → Classes (W .globals) (scopesOf Γ)
 classes-known {W} {l} {v} {Γ} s k c ts w h e = go (find c v) (lookup c (scopesOf Γ)) e (s .sees c h) (k .knows c h)
@@ -215,6 +221,16 @@ module _ (W : Walk) (a : ℕ) where
           (if t then Def 4 (tyCode (x .type)) p false else firstIn a (headItems 4 (suc p) (map declare xs))) (if t then found (isVariable (x .type)) false else firstOf a (definesTyped xs))
       pick true e r = cell-means (bound (x .name) n ∷ parameterCells xs (suc n) Γ) p n x (look true e) (lies-here _ _ k) (b .0) (omega arith)
       pick false e r = both-moved W (parameterCells xs (suc n) Γ) (bound (x .name) n ∷ parameterCells xs (suc n) Γ) a (firstIn a (headItems 4 (suc p) (map declare xs))) (firstOf a (definesTyped xs)) (look false e) r
+
+  pub past-parameters : (xs : List Typed) (n : ℕ) (Γ : List Around) → firstOf a (definesTyped xs) ≡ nowhere → cellOf a (parameterCells xs n Γ) ≡ cellOf a Γ
+  unfolding definesTyped firstOf parameterCells
+  past-parameters [] n Γ h = refl
+  past-parameters (x ∷ xs) n Γ h = bound-look a (x .name) n (parameterCells xs (suc n) Γ) ∙ pick (eqb (x .name) a) h (λ k. past-parameters xs (suc n) Γ k)
+    where
+      pick : (b : Bool) → (if b then found (isVariable (x .type)) false else firstOf a (definesTyped xs)) ≡ nowhere → (firstOf a (definesTyped xs) ≡ nowhere → cellOf a (parameterCells xs (suc n) Γ) ≡ cellOf a Γ)
+          → (if b then some (kept own n) else cellOf a (parameterCells xs (suc n) Γ)) ≡ cellOf a Γ
+      pick true k f = nothing (isVariable (x .type)) false (sym k)
+      pick false k f = f k
 
   -- labels
   pub labels-mean : (p : ℕ) (is : Items) (Γ : List Around) → Both (λ q t. Means W Γ a q t) (firstIn a (labelItems p is)) (firstOf a (definesItems is))

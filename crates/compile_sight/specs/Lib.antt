@@ -4,4 +4,6 @@ pub mod Marks
 pub mod Means
 pub mod Heads
 pub mod Blocks
+pub mod RootHead
+pub mod Roots
 pub mod Sight

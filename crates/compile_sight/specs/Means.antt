@@ -14,12 +14,12 @@ use Rattle.language.specs.Tree.{Items, Global}
 use Rattle.language.specs.Names.{Sort, isVariable, isLabel, isClass, isField, isProcedure, Definition, Scope, nowhere, found, firstOf, otherwise, across, lookup}
 use Rattle.language.specs.Names as names
 use Rattle.bytecode.specs.Instructions.{Owner, own, root}
-use Rattle.compile_code.specs.Compile.{Around, labels, scopesOf, boundAt, globalAt, kept, cellOf, tyIn, numbered, indexOf, classesOf, classNames}
+use Rattle.compile_code.specs.Compile.{Around, labels, scopesOf, boundAt, globalAt, kept, cellOf, tyIn, numbered, indexOf, Class, classesOf, classNames}
 use Rattle.compile_code.specs.Encode.{ownerCode}
 use Rattle.compile_known.specs.Numbers.{packed, byteOf}
 use Rattle.scopes.specs.declared.Found.{Found}
 use Rattle.scopes.specs.declared.Found.the-variants.{Nothing, Def}
-use Rattle.scopes.specs.Environment.{Item, item, find, addAll, passing, shut}
+use Rattle.scopes.specs.Environment.{Item, item, find, addAll, passing, opened, shut}
 use Rattle.scopes.specs.Laws.{firstIn, orOuter, Small, find-block}
 use Rattle.compile_nodes.specs.Knows.{Walk, MeansCell, MeansClass, MeansField, MeansBody, Means, Known, Knows}
 
@@ -64,6 +64,11 @@ index-most a (b ∷ cs) = pick (eqb b a) (index-most a cs)
     pick : (t : Bool) → indexOf a cs ≤ length cs → (if t then 0 else suc (indexOf a cs)) ≤ suc (length cs)
     pick true h = omega arith
     pick false h = omega arith
+
+pub length-class-names : (cl : List Class) → length (classNames cl) ≡ length cl
+unfolding classNames
+length-class-names [] = refl
+length-class-names (c ∷ cl) = ap suc (length-class-names cl)
 
 pub byte-small : (cs : List ℕ) (t : Ty) → length cs ≤ 16 → tyByte (numbered cs t) < 256
 byte-small cs integer h = omega arith
@@ -114,6 +119,13 @@ module _ (W : Walk) where
   pub knows-labels : {v : List Item} {Γ : List Around} (is : Items) (x : ℕ) → Knows W v Γ → Knows W v (labels is x ∷ Γ)
   unfolding scopesOf boundAt globalAt
   knows-labels {v} {Γ} is x h = record { knows = λ a k. known-moved Γ (labels is x ∷ Γ) a (find a v) (lookup a (scopesOf Γ)) refl (h .knows a k) }
+
+  -- within the root, outside which there is nothing
+  pub knows-root : {Δ : List Around} (is : List Item) (ds : List Definition) → Small is → ((a : ℕ) → lookup a (scopesOf Δ) ≡ otherwise (firstOf a ds) nowhere)
+      → ((a : ℕ) → Both (λ q t. Means W Δ a q t) (firstIn a is) (firstOf a ds)) → Knows W (addAll is (item opened 0 0 0 ∷ [])) Δ
+  unfolding find
+  knows-root {Δ} is ds small looks new = record { knows = λ a z.
+      rw (find-block a z opened is [] (omega arith) small, looks a) (known-or Δ a (firstIn a is) Nothing (firstOf a ds) nowhere (new a) (λ e. tt)) }
 
   -- within a block, a block expression or a procedure that begins with the mark k, and in it the definitions ds, which are pushed as is;
   -- `outside` is how a name that they lack is looked up

@@ -8,30 +8,19 @@ use lib.Seq.{sets, length-sets, getD-set-same}
 use Rattle.language.specs.Tree.{Typed, Body, proper, function, Global, local, class, procedure, Tree}
 use Rattle.language.specs.Table.{flatItems, flatGlobal, flatHead}
 use Rattle.language.specs.Faults.{sizeBody, sizeGlobal}
-use Rattle.language.specs.Limits.{locals}
 use Rattle.heads.specs.Trees.{length-Global, length-Items}
-use Rattle.compile_code.specs.Code.{Code, At, at, after}
-use Rattle.compile_code.specs.Compile.{Around, global, labels, Proc, procsOf, codeItems}
-use Rattle.compile_code.specs.Encode.{startOfRoot, aroundBody, codeRoot, codeProc}
-use Rattle.bytecode.specs.Instructions.{own}
-use Rattle.compile_nodes.specs.Ends.{aroundHead, atHead, endsS, endsE, endsItems}
+use Rattle.compile_code.specs.Code.{At, at, after}
+use Rattle.compile_code.specs.Compile.{Around, Proc}
+use Rattle.compile_code.specs.Encode.{aroundBody, codeRoot, codeProc}
+use Rattle.compile_nodes.specs.Ends.{endsS, endsE, endsItems}
 use Rattle.compile_nodes.specs.Knows.{Lies}
 use Rattle.compile_sight.specs.Lengths.{length-items, length-below, length-belowE}
+use Rattle.compile_sight.specs.Sight.{afterHead, startOfItems, aroundRoot}
 use Rattle.compile_whole.specs.Apart.{Apart, apart-self, apart-then, apart-wider, apart-set, apart-sets, lies-before, lies-behind, lies-sets}
 
 -- ── the root ──
--- where its items begin, in the table and in the code, and what lies around them
-abbrev pub itemsPlace : Tree → ℕ
-itemsPlace t = 1 + length (flatHead (t .head))
-
-abbrev pub itemsStart : Tree → At
-itemsStart t = atHead (locals (t .head)) (at 0 0)
-
-abbrev pub itemsAround : Tree → List Around
-itemsAround t = labels (t .items) (itemsStart t .address) ∷ aroundHead (global own) (locals (t .head)) (startOfRoot t) (at 0 0)
-
 abbrev pub itemsEnds : Tree → List ℕ
-itemsEnds t = endsItems (t .head) (t .items) (itemsAround t) [] (itemsStart t)
+itemsEnds t = endsItems (t .head) (t .items) (aroundRoot t) [] (startOfItems t)
 
 abbrev pub rootEnd : Tree → ℕ
 rootEnd t = after (codeRoot t) (at 0 0) .address
@@ -52,7 +41,7 @@ procEnd t q a = after (codeProc t q a) (at a 0) .address
 
 -- ── what a walk leaves ──
 abbrev pub endedRoot : Tree → List ℕ → List ℕ
-endedRoot t l = set (sets l (itemsPlace t) (itemsEnds t)) 0 (rootEnd t)
+endedRoot t l = set (sets l (afterHead t) (itemsEnds t)) 0 (rootEnd t)
 
 -- of the declaration at a place, a procedure, whose code begins at an address
 abbrev pub endedProc : Tree → Proc → ℕ → ℕ → List ℕ → List ℕ
@@ -80,7 +69,7 @@ AimsProcs t l (procedure n xs b ∷ gs) p a =
 
 pub record Aims (t : Tree) (l : List ℕ) : Type 0 where
   pub of-root : getD l 0 0 ≡ rootEnd t
-  pub of-items : Lies l (itemsPlace t) (itemsEnds t)
+  pub of-items : Lies l (afterHead t) (itemsEnds t)
   pub of-procs : AimsProcs t l (t .head) 1 (rootEnd t)
 
 -- ── the one gives the other ──
@@ -143,21 +132,21 @@ module _ (t : Tree) where
       procs-aims gs (p + sizeGlobal g) z e (omega (arith, proc-apart q p a l .same-length)))
 
   -- an array with a number for each entry holds all ends after a walk
-  pub aims : (l : List ℕ) → itemsPlace t + length (flatItems (t .items)) ≤ length l → Aims t (ended t l)
+  pub aims : (l : List ℕ) → afterHead t + length (flatItems (t .items)) ≤ length l → Aims t (ended t l)
   aims l h =
-      let n = length-items (t .head) (t .items) (itemsAround t) [] (itemsStart t) in
+      let n = length-items (t .head) (t .items) (aroundRoot t) [] (startOfItems t) in
       let m = length-Items (t .items) in
-      let s = sets l (itemsPlace t) (itemsEnds t) in
+      let s = sets l (afterHead t) (itemsEnds t) in
       let e = endedRoot t l in
-      let k : length e ≡ length l = length-set s 0 (rootEnd t) ∙ length-sets l (itemsPlace t) (itemsEnds t) in
+      let k : length e ≡ length l = length-set s 0 (rootEnd t) ∙ length-sets l (afterHead t) (itemsEnds t) in
       let y = procs-apart (t .head) 1 (rootEnd t) e in
       record {
-        of-root = y .before 0 (omega arith) ∙ getD-set-same s 0 (rootEnd t) 0 (omega (arith, length-sets l (itemsPlace t) (itemsEnds t)));
-        of-items = lies-behind y (itemsEnds t) (omega arith) (lies-behind (apart-set s 0 (rootEnd t)) (itemsEnds t) (omega arith) (lies-sets l (itemsPlace t) (itemsEnds t) (omega arith)));
+        of-root = y .before 0 (omega arith) ∙ getD-set-same s 0 (rootEnd t) 0 (omega (arith, length-sets l (afterHead t) (itemsEnds t)));
+        of-items = lies-behind y (itemsEnds t) (omega arith) (lies-behind (apart-set s 0 (rootEnd t)) (itemsEnds t) (omega arith) (lies-sets l (afterHead t) (itemsEnds t) (omega arith)));
         of-procs = procs-aims (t .head) 1 (rootEnd t) e (omega arith);
       }
 
   pub length-ended : (l : List ℕ) → length (ended t l) ≡ length l
   length-ended l =
       procs-apart (t .head) 1 (rootEnd t) (endedRoot t l) .same-length
-      ∙ (length-set (sets l (itemsPlace t) (itemsEnds t)) 0 (rootEnd t) ∙ length-sets l (itemsPlace t) (itemsEnds t))
+      ∙ (length-set (sets l (afterHead t) (itemsEnds t)) 0 (rootEnd t) ∙ length-sets l (afterHead t) (itemsEnds t))
