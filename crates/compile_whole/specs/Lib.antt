@@ -1,2 +1,4 @@
 pub mod Apart
 pub mod Ends
+pub mod Cells
+pub mod Heads
