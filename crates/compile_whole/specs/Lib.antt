@@ -2,3 +2,4 @@ pub mod Apart
 pub mod Ends
 pub mod Cells
 pub mod Heads
+pub mod Numbers
