@@ -3,3 +3,4 @@ pub mod Ends
 pub mod Cells
 pub mod Heads
 pub mod Numbers
+pub mod Stage
