@@ -17,10 +17,8 @@ use Rattle.words.specs.Numbers.{wordAt}
 use Rattle.programs.specs.Claims.{entriesOf, Readable}
 use Rattle.scopes.specs.Environment.{Item, item, envOf, addAll, shut, Grown}
 use Rattle.spans.specs.Stands.{Stands, stands-left, stands-right, stands-tail, stands-within, length-entries}
-use Rattle.spans.specs.Sizes.{Known}
 use Rattle.heads.specs.Items.{kindAt, aAt, bAt, oneAt, itemsAt}
 use Rattle.heads.specs.Trees.{Heads, length-map, length-Body, length-Items, length-Global}
-use Rattle.heads.specs.Sees.{Legible}
 use Rattle.heads.specs.Defines.{bulk, labels-bulk}
 use Rattle.shapes.specs.Walk.{Table}
 use Rattle.shapes.specs.Steps.{head-of, table-next, below}
@@ -36,6 +34,7 @@ use Rattle.compile_names.specs.Good.{goodItems}
 use Rattle.compile_names.specs.Known.{ofRoot, ofShared, scopes-parameters}
 use Rattle.compile_names.specs.Globals.{goodBody, good-tree}
 use Rattle.compile_known.specs.Numbers.{numbersFrom, numbersOf}
+use Rattle.compile_known.specs.Tabled.{Tabled}
 use Rattle.compile_pen.specs.declared.Pen.{Pen}
 use Rattle.compile_pen.specs.Ink.{Fits}
 use Rattle.compile_pen.specs.Folds.{penAfter, grows, fits-before, later-moved}
@@ -50,15 +49,15 @@ use Rattle.compile_whole.specs.Heads.{open-holds, head-held, head-cells,
 use Rattle.compile_whole.specs.Numbers.{classesBy, numbers-items, numbers-body}
 use Rattle.compile_whole.specs.Ends.{itemsEnds, procOf, procEnds}
 
--- ── the table, the tree that it holds, what its entries stand for, and the root's names in sight ──
-pub record Stage (t : Tree) (l sizes env : List ℕ) (top : ℕ) (known : List ℕ) : Type 0 where
-  pub legible : Legible l
-  pub sized : Known l sizes 0
-  pub same : entriesOf l ≡ flatten t
-  pub readable : Readable t
+-- ── the table, the tree that it holds, what its entries stand for; and the root's names in sight ──
+pub record Prepared (t : Tree) (l sizes known : List ℕ) : Type 0 where
+  pub tabled : Tabled l sizes t
   pub faultless : faults t ≡ []
   pub limited : limits t ≡ []
   pub numbered : Lies known 1 (numbersOf t)
+
+pub record Stage (t : Tree) (l sizes env : List ℕ) (top : ℕ) (known : List ℕ) : Type 0 where
+  pub prepared : Prepared t l sizes known
   pub sight : envOf env top ≡ rootSight l t
   pub room : 4 * (top + length l / 8) ≤ length env
 
@@ -71,10 +70,10 @@ lentOf env ends stack out = record { env = env; ends = ends; stack = stack; out 
 
 module _ {t : Tree} {l sizes env : List ℕ} {top : ℕ} {known : List ℕ} (s : Stage t l sizes env top known) where
   abbrev rooted : (aims : List ℕ) (pen : Pen) → Rooted l t (walkOf t known aims pen)
-  rooted aims pen = record { readable = s .readable; good = s .faultless; cells = omega (arith, root-keeps t (s .limited) .0); globals = refl; numbered = s .numbered }
+  rooted aims pen = record { readable = s .prepared .tabled .readable; good = s .prepared .faultless; cells = omega (arith, root-keeps t (s .prepared .limited) .0); globals = refl; numbered = s .prepared .numbered }
 
   entries-fit : length (flatten t) ≡ length l / 8
-  entries-fit = ap length (sym (s .same)) ∙ length-entries (length l / 8) l
+  entries-fit = ap length (sym (s .prepared .tabled .same)) ∙ length-entries (length l / 8) l
 
   pub items-fit : afterHead t + length (flatItems (t .items)) ≡ length l / 8
   unfolding flatten
@@ -102,21 +101,21 @@ module _ {t : Tree} {l sizes env : List ℕ} {top : ℕ} {known : List ℕ} (s :
       (lentOf env ends stack out) top (openIn (locals (t .head))) 0 pen
   unfolding nesting
   ready-items part after a e aimed ending stacked address outer fits =
-      let k = root-keeps t (s .limited) in
+      let k = root-keeps t (s .prepared .limited) in
       let n : startOfItems t .cell ≡ headCells (locals (t .head)) = head-cells (t .head) (locals (t .head)) (at 0 0) ∙ omega arith in
       let h = open-holds (locals (t .head)) in
       let r = rooted s aims pen in
       record {
-        table = record { whole = e; legible = s .legible; known = s .sized };
+        table = record { whole = e; legible = s .prepared .tabled .legible; known = s .prepared .tabled .known };
         laid = record {
-          stands = rw a (root-items-stand (s .legible) t (s .same));
+          stands = rw a (root-items-stand (s .prepared .tabled .legible) t (s .prepared .tabled .same));
           cells = omega (arith, cells-items (t .items), k .0);
-          numbered = rw (a, n) (numbers-items t (s .numbered));
+          numbered = rw (a, n) (numbers-items t (s .prepared .numbered));
           aimed = λ d. rw a (aimed d);
         };
         stood = record {
-          sees = rw (s .sight) (sees-in-root (s .legible) t (s .same));
-          knows = rw (s .sight) (knows-in-root (s .legible) t (s .same) r outer);
+          sees = rw (s .sight) (sees-in-root (s .prepared .tabled .legible) t (s .prepared .tabled .same));
+          knows = rw (s .sight) (knows-in-root (s .prepared .tabled .legible) t (s .prepared .tabled .same) r outer);
           held = sym (root-held t);
           deep = refl;
           typed = refl;
@@ -128,9 +127,9 @@ module _ {t : Tree} {l sizes env : List ℕ} {top : ℕ} {known : List ℕ} (s :
         room = omega (arith, s .room, items-fit s, labels-bulk (t .items), length-Items (t .items));
         ending = omega (arith, ending, items-fit s);
         fits = fits;
-        deep = omega (arith, s .readable .depth);
-        good = rw (root-scopes t) (good-tree t (s .faultless) .1);
-        lands = rw (s .sight) (lands-in-root (s .legible) t (s .same) (walkOf t known aims pen) aimed);
+        deep = omega (arith, s .prepared .tabled .readable .depth);
+        good = rw (root-scopes t) (good-tree t (s .prepared .faultless) .1);
+        lands = rw (s .sight) (lands-in-root (s .prepared .tabled .legible) t (s .prepared .tabled .same) (walkOf t known aims pen) aimed);
         few-holds = omega (arith, k .1);
         few-values = omega (arith, k .2);
         many = refl;
@@ -164,13 +163,13 @@ pub record Heading (l part : List ℕ) (place heading : ℕ) (q : Proc) : Type 0
 module _ {t : Tree} {q : Proc} {l part : List ℕ} {place : ℕ} {sizes env : List ℕ} {top : ℕ} {known aims ends stack out : List ℕ} {pen : Pen}
     (r : ReadyProc t q l part place sizes env top known aims ends stack out pen) where
   proc-table : Table l part sizes place
-  proc-table = record { whole = r .whole; legible = r .stage .legible; known = r .stage .sized }
+  proc-table = record { whole = r .whole; legible = r .stage .prepared .tabled .legible; known = r .stage .prepared .tabled .known }
 
   pub heading-of : (heading : ℕ) → heading ≡ wordAt part 4 → Heading l part place heading q
   unfolding flatGlobal Heads
   heading-of heading e =
       let d = head-of _ _ proc-table (r .stands) in
-      let k = heads-here (r .stage .legible) (globalOf q) (r .stands) in
+      let k = heads-here (r .stage .prepared .tabled .legible) (globalOf q) (r .stands) in
       let n : heading ≡ 256 * length (q .parameters) + resultCode (q .body) = e ∙ d .b (256 * length (q .parameters) + resultCode (q .body)) refl in
       record {
         many = omega arith;
@@ -241,9 +240,9 @@ module _ (t : Tree) (l part : List ℕ) (place : ℕ) (sizes env : List ℕ) (to
     stood b r =
         let s = r .stage in
         record {
-          sees = rw (sight-here b r) (sees-in-procedure (s .legible) place xs (flatBody b) (tail b r) (aroundProcedures t) (sees-in-procedures (s .legible) t (s .same)));
-          knows = rw (sight-here b r) (knows-in-procedure (s .legible) place xs (flatBody b) (tail b r) (knows-in-procedures (s .legible) t (s .same) (rooted s aims pen) (r .within))
-              (omega (arith, length-classes (t .head), s .readable .classes)) (few-parameters xs b (r .keeps)) (r .numbered));
+          sees = rw (sight-here b r) (sees-in-procedure (s .prepared .tabled .legible) place xs (flatBody b) (tail b r) (aroundProcedures t) (sees-in-procedures (s .prepared .tabled .legible) t (s .prepared .tabled .same)));
+          knows = rw (sight-here b r) (knows-in-procedure (s .prepared .tabled .legible) place xs (flatBody b) (tail b r) (knows-in-procedures (s .prepared .tabled .legible) t (s .prepared .tabled .same) (rooted s aims pen) (r .within))
+              (omega (arith, length-classes (t .head), s .prepared .tabled .readable .classes)) (few-parameters xs b (r .keeps)) (r .numbered));
           held = body-held t xs;
           deep = refl;
           typed = refl;
@@ -254,7 +253,7 @@ module _ (t : Tree) (l part : List ℕ) (place : ℕ) (sizes env : List ℕ) (to
         }
 
     table-here : (b : Body) → Here b → Table l (below part (8 * (1 + length xs))) sizes (place + 1 + length xs)
-    table-here b r = rw (add-assoc place 1 (length xs)) (table-next (record { whole = r .whole; legible = r .stage .legible; known = r .stage .sized }) (8 * (1 + length xs)) (1 + length xs) refl)
+    table-here b r = rw (add-assoc place 1 (length xs)) (table-next (record { whole = r .whole; legible = r .stage .prepared .tabled .legible; known = r .stage .prepared .tabled .known }) (8 * (1 + length xs)) (1 + length xs) refl)
 
     stands-here : (b : Body) → Here b → Stands (entriesOf l) (place + 1 + length xs) (flatBody b)
     stands-here b r = rw (length-map flatTyped xs) at (stands-right (map flatTyped xs) (flatBody b) (tail b r))
@@ -282,7 +281,7 @@ module _ (t : Tree) (l part : List ℕ) (place : ℕ) (sizes env : List ℕ) (to
           fits = fits-here (proper z) r;
           deep = omega (arith, r .deep);
           good = rw (body-scopes t xs) (r .good);
-          lands = rw (sight-here (proper z) r) (lands-in-procedure (r .stage .legible) place xs (flatS z) (tail (proper z) r) (walkOf t known aims pen) (rootSight l t) (aroundBody t xs));
+          lands = rw (sight-here (proper z) r) (lands-in-procedure (r .stage .prepared .tabled .legible) place xs (flatS z) (tail (proper z) r) (walkOf t known aims pen) (rootSight l t) (aroundBody t xs));
           few-holds = omega (arith, r .keeps .1);
           few-values = omega (arith, r .keeps .2);
         }
