@@ -4,3 +4,4 @@ pub mod Cells
 pub mod Heads
 pub mod Numbers
 pub mod Stage
+pub mod Declares
