@@ -203,3 +203,55 @@ module _ {l sizes known old : List ℕ} {pen : Pen} {out : List ℕ} {place left
   pub head-end : left ≡ 0 → (p ≡ penAfter (rootHead (theTree l)) pen) × (out ≡ inked (rootHead (theTree l)) pen old)
   unfolding penAfter inked headOps locals
   head-end m = let e = none-left (s .globals) (s .remain) m in (rw e at (s .penned), rw e at (s .written))
+
+-- ── the loop that counts holds ──
+abbrev pub holdsOf : ℕ → ℕ
+holdsOf kind = if eqb kind 14 then 1 else 0
+
+open-next : (g : Global) (gs : List Global) → openIn (locals (g ∷ gs)) ≡ holdsOf (kindOf g) + openIn (locals gs)
+unfolding openIn locals kindOf
+open-next (local (declare x)) gs = omega arith
+open-next (local (holding g)) gs = omega arith
+open-next (class c xs) gs = omega arith
+open-next (procedure a xs b) gs = omega arith
+
+pub record HoldsSoFar (l : List ℕ) (place left n : ℕ) : Type 0 where
+  pub globals : List Global
+  pub remain : Left l place left globals
+  pub same : n + openIn (locals globals) ≡ openIn (locals (theTree l .head))
+  pub few : n < place
+
+pub holds-start : {l sizes : List ℕ} {count : ℕ} → Headed l sizes count → HoldsSoFar l 1 count 0
+holds-start {l} h = record { globals = theTree l .head; remain = left-start h; same = omega arith; few = omega arith }
+
+record NextHold (l sizes : List ℕ) (place left n : ℕ) : Type 0 where
+  pub this : Global
+  pub later : List Global
+  pub next : Next l sizes place left this later
+  pub same : n + openIn (locals (this ∷ later)) ≡ openIn (locals (theTree l .head))
+
+next-hold : (gs : List Global) {l sizes : List ℕ} {place left n : ℕ} → Tabled l sizes (theTree l) → 0 < left → Left l place left gs → n + openIn (locals gs) ≡ openIn (locals (theTree l .head))
+    → NextHold l sizes place left n
+next-hold [] t h k e = absurd (omega (arith, k .many))
+next-hold (g ∷ gs) t h k e = record { this = g; later = gs; next = next-global g gs t k; same = e }
+
+module _ {l sizes : List ℕ} {place left n : ℕ} (t : Tabled l sizes (theTree l)) (s : HoldsSoFar l place left n) where
+  pub holds-within : 0 < left → Within l sizes place
+  holds-within m = next-hold (s .globals) t m (s .remain) (s .same) .next .within
+
+  pub holds-next : (k size : ℕ) → 0 < left → k ≡ holdsOf (halfAt l (8 * place)) → size ≡ getD sizes place 0 → HoldsSoFar l (place + size) (left - 1) (n + k)
+  holds-next k size m e z =
+      let x = next-hold (s .globals) t m (s .remain) (s .same) in
+      let f : k ≡ holdsOf (kindOf (x .this)) = e ∙ ap holdsOf (kind-here l place (x .this) (x .later) (x .next)) in
+      record { globals = x .later; remain = rw z (x .next .next); same = omega (arith, x .same, open-next (x .this) (x .later)); few = omega (arith, s .few, x .next .within .some, one (kindOf (x .this))) }
+    where
+      one : (k : ℕ) → holdsOf k ≤ 1
+      one k = by (eqb k 14)
+        where
+          by : (b : Bool) → (if b then 1 else 0) ≤ 1
+          by true = omega arith
+          by false = omega arith
+
+  pub holds-end : left ≡ 0 → n ≡ openIn (locals (theTree l .head))
+  unfolding openIn locals
+  holds-end m = let e = rw (none-left (s .globals) (s .remain) m) at (s .same) in omega arith

@@ -5,3 +5,4 @@ pub mod Heads
 pub mod Numbers
 pub mod Stage
 pub mod Declares
+pub mod Procs
