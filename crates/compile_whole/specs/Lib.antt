@@ -6,3 +6,4 @@ pub mod Numbers
 pub mod Stage
 pub mod Declares
 pub mod Procs
+pub mod Loop
