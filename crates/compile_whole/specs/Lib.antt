@@ -7,3 +7,4 @@ pub mod Stage
 pub mod Declares
 pub mod Procs
 pub mod Loop
+pub mod Walks

@@ -170,7 +170,7 @@ procs-start {l} q =
     }
 
 -- ── a turn ──
-kept-then : {L M N : Lent} {top : ℕ} → Kept L M top 0 → Kept M N top 0 → Kept L N top 0
+pub kept-then : {L M N : Lent} {top : ℕ} → Kept L M top 0 → Kept M N top 0 → Kept L N top 0
 kept-then a b = record { env = b .env ∙ a .env; same-env = b .same-env ∙ a .same-env; same-ends = b .same-ends ∙ a .same-ends; stack = refl; same-stack = b .same-stack ∙ a .same-stack; same-out = b .same-out ∙ a .same-out }
 
 -- what is ready of the next declaration
