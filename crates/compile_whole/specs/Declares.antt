@@ -170,6 +170,11 @@ module _ {l sizes known old : List ℕ} {pen : Pen} {out : List ℕ} {place left
     table-here : Table l (below l (8 * place)) sizes place
     table-here = record { whole = take-all (length l - 8 * place) (drop (8 * place) l) (omega (arith, length-drop (8 * place) l)); legible = h .tabled .legible; known = h .tabled .known }
 
+    pub head-part : 8 ≤ length (below l (8 * place))
+    head-part =
+        let w = head-within in
+        rw (take-all (length l - 8 * place) (drop (8 * place) l) (omega (arith, length-drop (8 * place) l)), length-drop (8 * place) l) (omega (arith, w .some, w .within))
+
     same-out : length out ≡ length old
     same-out = sym (length-inked (headOps (theTree l .head) (locals (s .globals)) (s .cells)) p out) ∙ (ap (length {A = ℕ}) (s .written) ∙ length-inked (rootHead (theTree l)) pen old)
 
@@ -251,6 +256,9 @@ module _ {l sizes : List ℕ} {place left n : ℕ} (t : Tabled l sizes (theTree 
           by : (b : Bool) → (if b then 1 else 0) ≤ 1
           by true = omega arith
           by false = omega arith
+
+  pub holds-few : (k size : ℕ) → 0 < left → k ≡ holdsOf (halfAt l (8 * place)) → size ≡ getD sizes place 0 → n + k < place + size
+  holds-few k size m e z = holds-next k size m e z .few
 
   pub holds-end : left ≡ 0 → n ≡ openIn (locals (theTree l .head))
   unfolding openIn locals
