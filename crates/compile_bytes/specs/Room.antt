@@ -1,4 +1,4 @@
--- A macro within the limits fits: what the pens of both walks may have come to (`Fits`) follows from the macro's length and the number of its instructions.
+-- A macro that can be written fits: what the pens of both walks may have come to (`Fits`) follows from the macro's length and the number of its instructions.
 use mathlib.Core.Path.{_≡_, refl, ap, sym, _∙_}
 use mathlib.Core.Bool.{Bool, true, false, true≢false}
 use mathlib.Core.List.{List, [], _∷_}
@@ -7,8 +7,9 @@ use native.Mathlib.Omega.{arith}
 use lib.ListN.{length}
 use Rattle.values.specs.Types.{Ty}
 use Rattle.language.specs.Tree.{Tree}
-use Rattle.bytecode.specs.Macro.{Body, Macro}
-use Rattle.loading.specs.Terms.{Each}
+use Rattle.bytecode.specs.Macro.{Body, Placed}
+use Rattle.loading.specs.Terms.{Each, ReadClass}
+use Rattle.compile_records.specs.Writing.{Writable, SmallBody, SmallShape}
 use Rattle.compile_code.specs.Code.{Code}
 use Rattle.compile_code.specs.Encode.{parts, linesOf, compiled, macroOf}
 use Rattle.compile_pen.specs.declared.Pen.{Pen}
@@ -93,32 +94,31 @@ module _ (t : Tree) (code-small : length (compiled t .code) < 65536) (small : le
         room = λ c. (omega arith, omega arith);
       }
 
--- ── the limits ──
-pub record Limited (m : Macro) : Type 0 where
-  pub few-classes : length (m .classes) ≤ 16
-  pub few-fields : Each (λ ts. length ts ≤ 8) (m .classes)
-  pub few-bodies : length (m .bodies) ≤ 64
-  pub few-cells : Each (λ b. length (b .cells) ≤ 32) (m .bodies)
-  pub few-instructions : length (m .code) < 65536
-  pub few-operands : Each (λ s. length (s .found .operands) ≤ 32) (m .shapes)
-
-classes-short : (cs : List (List Ty)) → Each (λ ts. length ts ≤ 8) cs → classesLength cs ≤ 11 * length cs
+-- ── a macro that can be written is short ──
+classes-short : (n : ℕ) (cs : List (List Ty)) → Each (ReadClass n) cs → classesLength cs ≤ 11 * length cs
 unfolding classesLength
-classes-short [] h = omega arith
-classes-short (ts ∷ cs) h = let a = h .0 in let b = classes-short cs (h .1) in omega arith
+classes-short n [] h = omega arith
+classes-short n (ts ∷ cs) h = let a = h .0 .few-fields in let b = classes-short n cs (h .1) in omega arith
 
-bodies-short : (bs : List Body) → Each (λ b. length (b .cells) ≤ 32) bs → bodiesLength bs ≤ 39 * length bs
+bodies-short : (bs : List Body) → Each SmallBody bs → bodiesLength bs ≤ 262 * length bs
 unfolding bodiesLength
 bodies-short [] h = omega arith
 bodies-short (b ∷ bs) h = let a = h .0 in let c = bodies-short bs (h .1) in omega arith
 
--- 8 + 11 a class + 39 a body + 8 an instruction + 38 a shape + 2, and no more shapes than instructions
-pub macro-small : (t : Tree) → Limited (compiled t) → length (macroOf t) < 3100000
+small-operands : (ss : List Placed) → Each SmallShape ss → Each (λ s. length (s .found .operands) ≤ 255) ss
+small-operands [] h = tt
+small-operands (s ∷ ss) h = let a = h .0 .1 in (omega arith, small-operands ss (h .1))
+
+-- 8 + 11 a class + 262 a body + 8 an instruction + 261 a shape + 2, and no more shapes than instructions
+pub macro-small : (t : Tree) → Writable (compiled t) → length (macroOf t) < 2 ^ 62
 unfolding macroOf
 macro-small t h =
     let e = macro-length (compiled t) in
-    let a = classes-short (compiled t .classes) (h .few-fields) in
-    let b = bodies-short (compiled t .bodies) (h .few-cells) in
-    let c = shapes-short 32 (compiled t .shapes) (h .few-operands) in
+    let a = classes-short (length (compiled t .classes)) (compiled t .classes) (h .well-formed .classes-read) in
+    let b = bodies-short (compiled t .bodies) (h .small-bodies) in
+    let c = shapes-short 255 (compiled t .shapes) (small-operands (compiled t .shapes) (h .small-shapes)) in
     let f = few-shapes t in
+    let i = h .well-formed .few-classes in
+    let j = h .well-formed .few-bodies in
+    let k = h .narrow .few-instructions in
     omega arith

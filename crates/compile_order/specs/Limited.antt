@@ -15,7 +15,7 @@ use Rattle.compile_code.specs.Compile.{Proc, procsOf}
 use Rattle.compile_macro.specs.Right.{Keeps}
 use Rattle.compile_names.specs.Good.{split, fault-if}
 
-keeps : (u : Usage) (p : ℕ) → overLimits u p ≡ [] → Keeps u
+pub keeps : (u : Usage) (p : ℕ) → overLimits u p ≡ [] → Keeps u
 keeps u p h =
     let q = halves (leb (u .cells) 32) _ (not-false (keepsLimits u) (fault-if (not (keepsLimits u)) 6 p h)) in let r = halves (leb (u .holds) 16) (leb (u .need) 32) (q .1) in
     (leb-true (u .cells) 32 (q .0), leb-true (u .holds) 16 (r .0), leb-true (u .need) 32 (r .1))

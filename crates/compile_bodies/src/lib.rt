@@ -1,0 +1,290 @@
+// The code of the root and of the procedures, one after the other.
+mod compile_walk;
+
+use compile_pen::Pen;
+ghost use mathlib.Core.Path.{_≡_};
+ghost use mathlib.Core.Bool.{true};
+ghost use Prim.Native.Nat.{_≤_};
+ghost use lib.ListN.{length};
+ghost use Rattle.language.specs.Limits.{locals};
+ghost use Rattle.compile_pen.specs.Ink.{Fits};
+ghost use Rattle.compile_pen.specs.Folds.{penAfter, inked, within};
+ghost use Rattle.compile_known.specs.Tabled.{theTree, Headed};
+ghost use Rattle.compile_sight.specs.Marks.{openIn};
+ghost use Rattle.compile_whole.specs.Heads.{rootHead};
+ghost use Rattle.compile_whole.specs.Stage.{Prepared, lentOf};
+ghost use Rattle.compile_whole.specs.Declares.{holdsOf};
+ghost use Rattle.compile_whole.specs.Procs.{AsksProc, AnswersProc};
+ghost use Rattle.compile_whole.specs.Loop.{AsksGlobal, AnswersGlobal, AsksProcs, AnswersProcs};
+ghost use Rattle.compile_whole.specs.Walks.{AsksRoot, AnswersRoot, AsksWalk, AnswersWalk};
+
+// The root's own declarations; classes and procedures have no code there.
+fn declare_globals(
+    table: &[u8],
+    count: usize,
+    sizes: &[u16],
+    known: &[u32],
+    out: &mut [u8],
+    pen: Pen,
+) -> Pen
+    requires { ⌜ Prepared (theTree (now table)) (now table) (now sizes) (now known) × (count ≡ length (theTree (now table) .head)) × Fits (penAfter (rootHead (theTree (now table))) pen) (length (now out)) ⌝ }
+    ensures { λ r. ⌜ (r ≡ penAfter (rootHead (theTree (now (table .entry)))) pen) × (now (out .exit) ≡ inked (rootHead (theTree (now (table .entry)))) pen (now (out .entry))) ⌝ }
+{
+    let mut place = 1;
+    let mut left = count;
+    let mut p = pen;
+    while 0 < left {
+        let from = 8 * place;
+        let k = compile_known::known_at(known, place);
+        p = compile_own::declare_one(&table[from..], k, out, p);
+        place += spans::size_at(sizes, place);
+        left -= 1;
+    }
+    p
+}
+
+fn holds_of(kind: u16) -> usize
+    ensures { λ r. ⌜ r ≡ holdsOf kind ⌝ }
+{
+    if kind == 14 { 1 } else { 0 }
+}
+
+// How many of them are holds.
+fn root_holds(table: &[u8], count: usize, sizes: &[u16]) -> usize
+    requires { ⌜ Headed (now table) (now sizes) count ⌝ }
+    ensures { λ r. ⌜ r ≡ openIn (locals (theTree (now (table .entry)) .head)) ⌝ }
+{
+    let mut place = 1;
+    let mut left = count;
+    let mut n = 0;
+    while 0 < left {
+        n += holds_of(spans::kind_at(table, place));
+        place += spans::size_at(sizes, place);
+        left -= 1;
+    }
+    n
+}
+
+// Its head, its items, the releases, and the end.
+fn root(
+    table: &[u8],
+    count: usize,
+    after: usize,
+    sizes: &[u16],
+    env: &mut [u32],
+    top: usize,
+    known: &[u32],
+    aims: &[u16],
+    ends: &mut [u16],
+    stack: &mut [u8],
+    out: &mut [u8],
+    pen: Pen,
+) -> Pen
+    requires { ⌜ AsksRoot (now table) count after (now sizes) (lentOf (now env) (now ends) (now stack) (now out)) top (now known) (now aims) pen ⌝ }
+    ensures { λ r. ⌜ AnswersRoot (now (table .entry)) (lentOf (now (env .entry)) (now (ends .entry)) (now (stack .entry)) (now (out .entry))) (lentOf (now (env .exit)) (now (ends .exit)) (now (stack .exit)) (now (out .exit))) top pen r ⌝ }
+{
+    let items = words::word_at(table, 4) as usize;
+    let held = root_holds(table, count, sizes);
+    let p = declare_globals(table, count, sizes, known, out, pen);
+    let from = 8 * after;
+    let q = compile_walk::items(
+        table,
+        &table[from..],
+        items,
+        63,
+        after,
+        sizes,
+        env,
+        top,
+        known,
+        aims,
+        ends,
+        held,
+        stack,
+        0,
+        out,
+        p,
+    );
+    let r = compile_pen::releases(out, q, held);
+    compile_own::finish(ends, 0, compile_pen::emit(out, r, 0, 0, 0))
+}
+
+// A procedure: its parameters' names behind a wall, its body, and the return.
+fn procedure(
+    table: &[u8],
+    part: &[u8],
+    at: usize,
+    sizes: &[u16],
+    env: &mut [u32],
+    top: usize,
+    known: &[u32],
+    aims: &[u16],
+    ends: &mut [u16],
+    stack: &mut [u8],
+    out: &mut [u8],
+    pen: Pen,
+) -> Pen
+    requires { ⌜ AsksProc (now table) (now part) at (now sizes) (now env) top (now known) (now aims) (now ends) (now stack) (now out) pen ⌝ }
+    ensures { λ r. ⌜ AnswersProc (now (table .entry)) (now (part .entry)) at (now (sizes .entry)) (lentOf (now (env .entry)) (now (ends .entry)) (now (stack .entry)) (now (out .entry))) (lentOf (now (env .exit)) (now (ends .exit)) (now (stack .exit)) (now (out .exit))) top (now (known .entry)) (now (aims .entry)) pen r ⌝ }
+{
+    let heading = words::word_at(part, 4);
+    let parameters = heading as usize / 256;
+    scopes::push(env, top, 65537, 0, 0, 0);
+    let up = heads::add_head(table, at + 1, parameters, 4, env, top + 1);
+    let from = 8 * (1 + parameters);
+    if heading % 256 == 0 {
+        let p = compile_walk::statement(
+            table,
+            &part[from..],
+            62,
+            at + 1 + parameters,
+            sizes,
+            env,
+            up,
+            known,
+            aims,
+            ends,
+            0,
+            stack,
+            0,
+            out,
+            pen,
+        );
+        return compile_own::finish(ends, at, compile_pen::emit(out, p, 11, 0, 0));
+    }
+    let p = compile_walk::expression(
+        table,
+        &part[from..],
+        62,
+        at + 1 + parameters,
+        sizes,
+        env,
+        up,
+        known,
+        aims,
+        ends,
+        0,
+        stack,
+        0,
+        out,
+        pen,
+    );
+    compile_own::finish(ends, at, compile_pen::emit(out, p, 11, 0, 0))
+}
+
+// A declaration of the root: only a procedure has code of its own.
+fn global(
+    table: &[u8],
+    part: &[u8],
+    at: usize,
+    sizes: &[u16],
+    env: &mut [u32],
+    top: usize,
+    known: &[u32],
+    aims: &[u16],
+    ends: &mut [u16],
+    stack: &mut [u8],
+    out: &mut [u8],
+    pen: Pen,
+) -> Pen
+    requires { ⌜ AsksGlobal (now table) (now part) at (now sizes) (lentOf (now env) (now ends) (now stack) (now out)) top (now known) (now aims) pen ⌝ }
+    ensures { λ r. ⌜ AnswersGlobal (now (table .entry)) (now (part .entry)) at (now (sizes .entry)) (lentOf (now (env .entry)) (now (ends .entry)) (now (stack .entry)) (now (out .entry))) (lentOf (now (env .exit)) (now (ends .exit)) (now (stack .exit)) (now (out .exit))) top (now (known .entry)) (now (aims .entry)) pen r ⌝ }
+{
+    if words::half_at(part, 0) == 12 {
+        return procedure(
+            table, part, at, sizes, env, top, known, aims, ends, stack, out, pen,
+        );
+    }
+    pen
+}
+
+fn procedures(
+    table: &[u8],
+    count: usize,
+    sizes: &[u16],
+    env: &mut [u32],
+    top: usize,
+    known: &[u32],
+    aims: &[u16],
+    ends: &mut [u16],
+    stack: &mut [u8],
+    out: &mut [u8],
+    pen: Pen,
+) -> Pen
+    requires { ⌜ AsksProcs (now table) count (now sizes) (lentOf (now env) (now ends) (now stack) (now out)) top (now known) (now aims) pen ⌝ }
+    ensures { λ r. ⌜ AnswersProcs (now (table .entry)) (lentOf (now (env .entry)) (now (ends .entry)) (now (stack .entry)) (now (out .entry))) (lentOf (now (env .exit)) (now (ends .exit)) (now (stack .exit)) (now (out .exit))) top pen r ⌝ }
+{
+    let mut place = 1;
+    let mut left = count;
+    let mut p = pen;
+    while 0 < left {
+        let from = 8 * place;
+        p = global(
+            table,
+            &table[from..],
+            place,
+            sizes,
+            env,
+            top,
+            known,
+            aims,
+            ends,
+            stack,
+            out,
+            p,
+        );
+        place += spans::size_at(sizes, place);
+        left -= 1;
+    }
+    p
+}
+
+fn inside(p: Pen) -> Pen
+    ensures { λ r. ⌜ r ≡ within true p ⌝ }
+{
+    Pen {
+        at: p.at,
+        address: p.address,
+        sh: p.sh,
+        shapes: p.shapes,
+        waits: p.waits,
+        dry: p.dry,
+        inside: true,
+    }
+}
+
+// One walk of the whole table, from a pen; the root's names are in sight.
+pub fn walk(
+    table: &[u8],
+    count: usize,
+    after: usize,
+    sizes: &[u16],
+    env: &mut [u32],
+    top: usize,
+    known: &[u32],
+    aims: &[u16],
+    ends: &mut [u16],
+    stack: &mut [u8],
+    out: &mut [u8],
+    pen: Pen,
+) -> Pen
+    requires { ⌜ AsksWalk (now table) count after (now sizes) (now env) top (now known) (now aims) (now ends) (now out) pen × (32 ≤ length (now stack)) ⌝ }
+    ensures { λ r. ⌜ AnswersWalk (now (table .entry)) (lentOf (now (env .entry)) (now (ends .entry)) (now (stack .entry)) (now (out .entry))) (lentOf (now (env .exit)) (now (ends .exit)) (now (stack .exit)) (now (out .exit))) top pen r ⌝ }
+{
+    let p = root(
+        table, count, after, sizes, env, top, known, aims, ends, stack, out, pen,
+    );
+    procedures(
+        table,
+        count,
+        sizes,
+        env,
+        top,
+        known,
+        aims,
+        ends,
+        stack,
+        out,
+        inside(p),
+    )
+}

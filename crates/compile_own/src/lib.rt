@@ -1,0 +1,379 @@
+// What entries add themselves to the code of their operands: their instructions and shapes, and the types of their results.
+use compile_pen::Pen;
+use scopes::Found;
+ghost use mathlib.Core.Path.{_≡_};
+ghost use Prim.Native.Nat.{_+_, _*_, _≤_, _<_};
+ghost use lib.ListN.{length, getD, take, set};
+ghost use lib.Seq.{sets};
+ghost use mathlib.Core.List.{_++_};
+ghost use Rattle.words.specs.Numbers.{halfAt};
+ghost use Rattle.scopes.specs.Environment.{envOf, Grown};
+ghost use Rattle.compile_known.specs.Numbers.{typeIn, firstIn, secondIn};
+ghost use Rattle.compile_known.specs.Meaning.{meaningOf};
+ghost use Rattle.compile_pen.specs.Ink.{moved, penShaped, inkOp, Fits};
+ghost use Rattle.compile_own.specs.Owns.{names, knownFor, ownerBy, inkLeaf, leafType, inkLast, lastType, inkInitial, penDeclared, inkDeclared, pensHead, inksHead, finishes, holdsBy, holdsHead, wayBy, waitingBy, penBetween, inkBetween, penBehind, inkBehind, pairType, penBefore, inkBefore, penBehindArm, inkBehindArm, penGoto, inkGoto};
+ghost use Rattle.compile_sight.specs.Marks.{marks};
+ghost use Rattle.compile_nodes.specs.Knows.{passedTo};
+
+// The address after the code of an entry; of a label, its own.
+pub fn finish(ends: &mut [u16], at: usize, p: Pen) -> Pen
+    requires { ⌜ (at < length (now ends)) × (p .address < 65536) ⌝ }
+    ensures { λ r. ⌜ (r ≡ p) × (now (ends .exit) ≡ set (now (ends .entry)) at (p .address)) ⌝ }
+{
+    ends[at] = p.address as u16;
+    p
+}
+
+// Where the code of the entry at a place ends, as the walk before this one has found.
+pub fn end_of(aims: &[u16], place: usize) -> u32
+    ensures { λ r. ⌜ (r ≡ getD (now (aims .entry)) place 0) × (r < 65536) ⌝ }
+{
+    if place < aims.len() {
+        aims[place] as u32
+    } else {
+        0
+    }
+}
+
+// ── entries with no operands, or expressions only ──
+fn names(kind: u16) -> bool
+    ensures { λ r. ⌜ r ≡ names kind ⌝ }
+{
+    match kind {
+        27 => true,
+        43 => true,
+        44 => true,
+        45 => true,
+        46 => true,
+        47 => true,
+        _ => false,
+    }
+}
+
+// What is known of the definition that an entry names.
+pub fn known_of(kind: u16, a: u16, env: &[u32], top: usize, known: &[u32]) -> u32
+    requires { ⌜ 4 * top ≤ length (now env) ⌝ }
+    ensures { λ r. ⌜ r ≡ knownFor kind a (envOf (now (env .entry)) top) (now (known .entry)) ⌝ }
+{
+    if names(kind) {
+        compile_known::meaning(env, top, a, known)
+    } else {
+        0
+    }
+}
+
+// Whose cell: in the root's code, the root's variables are its own.
+pub fn owner(p: Pen, known: u32) -> u8
+    ensures { λ r. ⌜ r ≡ ownerBy (p .inside) known ⌝ }
+{
+    if p.inside {
+        compile_known::first_in(known)
+    } else {
+        0
+    }
+}
+
+// The instruction of an expression with nothing below it.
+pub fn leaf(kind: u16, b: u32, known: u32, out: &mut [u8], p: Pen) -> Pen
+    requires { ⌜ Fits (moved p) (length (now out)) ⌝ }
+    ensures { λ r. ⌜ (r ≡ moved p) × (now (out .exit) ≡ inkLeaf kind b known p (now (out .entry))) ⌝ }
+{
+    match kind {
+        40 => compile_pen::emit(out, p, 1, 0, b),
+        41 => compile_pen::emit(out, p, 2, 0, b),
+        42 => compile_pen::emit(out, p, 3, 0, b),
+        43 => compile_pen::emit(out, p, 4, compile_known::first_in(known), 0),
+        _ => compile_pen::emit(out, p, 5, owner(p, known), compile_known::second_in(known)),
+    }
+}
+
+pub fn leaf_type(kind: u16, known: u32) -> u8
+    ensures { λ r. ⌜ r ≡ leafType kind known ⌝ }
+{
+    match kind {
+        40 => 1,
+        41 => 2,
+        42 => 3,
+        _ => compile_known::type_in(known),
+    }
+}
+
+// The instruction of an entry with expressions only below it.
+pub fn last(kind: u16, a: u16, known: u32, out: &mut [u8], p: Pen) -> Pen
+    requires { ⌜ Fits (moved p) (length (now out)) ⌝ }
+    ensures { λ r. ⌜ (r ≡ moved p) × (now (out .exit) ≡ inkLast kind a known p (now (out .entry))) ⌝ }
+{
+    let first = compile_known::first_in(known);
+    let second = compile_known::second_in(known);
+    match kind {
+        26 => compile_pen::emit(out, p, 19, 0, 0),
+        27 => compile_pen::emit(out, p, 10, 0, second),
+        28 => compile_pen::emit(out, p, 15, 0, 0),
+        45 => compile_pen::emit(out, p, 10, 0, second),
+        46 => compile_pen::emit(out, p, 13, first, second),
+        47 => compile_pen::emit(out, p, 12, first, 0),
+        48 => compile_pen::emit(out, p, 7, (a % 256) as u8, 0),
+        _ => compile_pen::emit(out, p, 16, 0, 0),
+    }
+}
+
+// The type of its result, by that of its first operand.
+pub fn last_type(kind: u16, a: u16, known: u32, first: u8) -> u8
+    ensures { λ r. ⌜ r ≡ lastType kind a known first ⌝ }
+{
+    match kind {
+        45 => compile_known::type_in(known),
+        46 => compile_known::type_in(known),
+        47 => compile_known::type_in(known),
+        48 => if a == 22 { first } else { 1 },
+        _ => 1,
+    }
+}
+
+// ── heads ──
+// The initial value of a variable, by the byte of its type.
+fn initial(ty: u8, out: &mut [u8], p: Pen) -> Pen
+    requires { ⌜ Fits (moved p) (length (now out)) ⌝ }
+    ensures { λ r. ⌜ (r ≡ moved p) × (now (out .exit) ≡ inkInitial ty p (now (out .entry))) ⌝ }
+{
+    if ty < 16 {
+        compile_pen::emit(out, p, ty, 0, 0)
+    } else {
+        compile_pen::emit(out, p, 4, ty - 16, 0)
+    }
+}
+
+// One declaration of a head; classes and procedures have no code there.
+pub fn declare_one(part: &[u8], known: u32, out: &mut [u8], p: Pen) -> Pen
+    requires { ⌜ (8 ≤ length (now part)) × Fits (penDeclared (halfAt (now part) 0) p) (length (now out)) ⌝ }
+    ensures { λ r. ⌜ (r ≡ penDeclared (halfAt (now (part .entry)) 0) p) × (now (out .exit) ≡ inkDeclared (halfAt (now (part .entry)) 0) (halfAt (now (part .entry)) 2) known p (now (out .entry))) ⌝ }
+{
+    let kind = words::half_at(part, 0);
+    match kind {
+        10 => {
+            let q = initial(compile_known::type_in(known), out, p);
+            compile_pen::emit(out, q, 6, 0, compile_known::second_in(known))
+        }
+        14 => compile_pen::emit(out, p, 17, 0, words::half_at(part, 2) as u32),
+        _ => p,
+    }
+}
+
+// The declarations of a head.
+pub fn declare(
+    part: &[u8],
+    at: usize,
+    count: usize,
+    known: &[u32],
+    ends: &mut [u16],
+    out: &mut [u8],
+    pen: Pen,
+) -> Pen
+    requires { ⌜ (8 * count ≤ length (now part)) × (at + count ≤ length (now ends)) × Fits (pensHead (now part) count pen) (length (now out)) ⌝ }
+    ensures { λ r. ⌜ (r ≡ pensHead (now (part .entry)) count pen) × (now (out .exit) ≡ inksHead (now (part .entry)) (now (known .entry)) at count pen (now (out .entry))) × (now (ends .exit) ≡ sets (now (ends .entry)) at (finishes (now (part .entry)) count pen)) ⌝ }
+{
+    let mut i = 0;
+    let mut p = pen;
+    while i < count {
+        let from = 8 * i;
+        let k = compile_known::known_at(known, at + i);
+        p = finish(ends, at + i, declare_one(&part[from..], k, out, p));
+        i += 1;
+    }
+    p
+}
+
+// How many holds a declaration of this kind takes.
+fn holds_by(kind: u16) -> usize
+    ensures { λ r. ⌜ r ≡ holdsBy kind ⌝ }
+{
+    if kind == 14 { 1 } else { 0 }
+}
+
+// How many holds a head takes.
+pub fn holds_in(part: &[u8], count: usize) -> usize
+    requires { ⌜ 8 * count ≤ length (now part) ⌝ }
+    ensures { λ r. ⌜ r ≡ holdsHead (now (part .entry)) count ⌝ }
+{
+    let mut i = 0;
+    let mut n = 0;
+    while i < count {
+        n += holds_by(words::half_at(part, 8 * i));
+        i += 1;
+    }
+    n
+}
+
+// The holds of a block, below its names: a goto to a label beneath them passes them.
+pub fn mark_holds(env: &mut [u32], top: usize, count: usize)
+    requires { ⌜ 4 * (top + count) ≤ length (now env) ⌝ }
+    ensures { λ _. ⌜ Grown top (now (env .entry)) (now (env .exit)) (top + count) (marks count ++ envOf (now (env .entry)) top) count ⌝ }
+{
+    let mut i = 0;
+    while i < count {
+        scopes::push(env, top + i, 65539, 0, 0, 0);
+        i += 1;
+    }
+}
+
+// ── gotos ──
+// The holds that lie between here and the definition of a name.
+pub fn passed(env: &[u32], top: usize, name: u32) -> usize
+    requires { ⌜ 4 * top ≤ length (now env) ⌝ }
+    ensures { λ r. ⌜ r ≡ passedTo name (envOf (now (env .entry)) top) ⌝ }
+{
+    let mut i = top;
+    let mut n = 0;
+    while 0 < i {
+        i -= 1;
+        let m = env[4 * i];
+        if m == name {
+            return n;
+        }
+        if m == 65539 {
+            n += 1;
+        }
+    }
+    n
+}
+
+// The address of a label in sight.
+pub fn aim(env: &[u32], top: usize, name: u32, aims: &[u16]) -> u32
+    requires { ⌜ 4 * top ≤ length (now env) ⌝ }
+    ensures { λ r. ⌜ r ≡ meaningOf name (envOf (now (env .entry)) top) (now (aims .entry)) ⌝ }
+{
+    match scopes::find(env, top, name) {
+        Found::Nothing => 0,
+        Found::Def(_, _, place, _) => end_of(aims, place as usize),
+    }
+}
+
+// The holds between here and its label's block are let go, and what follows it is found as it was before.
+pub fn goto(
+    name: u16,
+    env: &[u32],
+    top: usize,
+    aims: &[u16],
+    holds: usize,
+    stack: &[u8],
+    depth: usize,
+    out: &mut [u8],
+    pen: Pen,
+) -> Pen
+    requires { ⌜ (4 * top ≤ length (now env)) × (depth ≤ length (now stack)) × (depth < 256) × (holds < 256) × Fits (penGoto (passedTo name (envOf (now env) top)) depth pen) (length (now out)) ⌝ }
+    ensures { λ r. ⌜ (r ≡ penGoto (passedTo name (envOf (now (env .entry)) top)) depth pen) × (now (out .exit) ≡ inkGoto (passedTo name (envOf (now (env .entry)) top)) (meaningOf name (envOf (now (env .entry)) top) (now (aims .entry))) holds (now (stack .entry)) depth pen (now (out .entry))) ⌝ }
+{
+    let p = compile_pen::releases(out, pen, passed(env, top, name as u32));
+    let q = compile_pen::emit(out, p, 8, 0, aim(env, top, name as u32, aims));
+    compile_pen::shape(out, q, holds, stack, depth)
+}
+
+// ── operators ──
+// How the second operand follows the first: 0 plainly, 1 marked (`and`, `or` of bits), 2 if the first is true, 3 if it is false.
+pub fn way_of(operator: u16, first: u8) -> u8
+    ensures { λ r. ⌜ r ≡ wayBy operator first ⌝ }
+{
+    match operator {
+        12 => if first == 2 { 2 } else { 1 },
+        13 => if first == 2 { 3 } else { 1 },
+        _ => 0,
+    }
+}
+
+// How many values of the first operand wait while the second is computed.
+pub fn waiting(way: u8) -> usize
+    ensures { λ r. ⌜ r ≡ waitingBy way ⌝ }
+{
+    if way < 2 { 1 } else { 0 }
+}
+
+// Between the operands; `end` is where the second one's code ends.
+pub fn between(
+    way: u8,
+    end: u32,
+    holds: usize,
+    stack: &[u8],
+    depth: usize,
+    out: &mut [u8],
+    p: Pen,
+) -> Pen
+    requires { ⌜ (end < 65536) × (depth < length (now stack)) × (depth < 255) × (holds < 256) × Fits (penBetween way depth p) (length (now out)) ⌝ }
+    ensures { λ r. ⌜ (r ≡ penBetween way depth p) × (now (out .exit) ≡ inkBetween way end holds (now (stack .entry)) depth p (now (out .entry))) ⌝ }
+{
+    match way {
+        0 => p,
+        1 => compile_pen::shape(out, p, holds, stack, depth + 1),
+        2 => compile_pen::emit(out, p, 9, 0, end + 1),
+        _ => {
+            let landing = p.address as u32 + 3;
+            let q = compile_pen::emit(out, p, 9, 0, landing);
+            let r = compile_pen::emit(out, q, 2, 0, 1);
+            let s = compile_pen::emit(out, r, 8, 0, end);
+            compile_pen::shape(out, s, holds, stack, depth)
+        }
+    }
+}
+
+// Behind them, where the type of the result stands on the stack.
+pub fn behind(
+    way: u8,
+    operator: u16,
+    end: u32,
+    holds: usize,
+    stack: &[u8],
+    depth: usize,
+    out: &mut [u8],
+    p: Pen,
+) -> Pen
+    requires { ⌜ (end < 65536) × (depth < length (now stack)) × (depth < 255) × (holds < 256) × Fits (penBehind way depth p) (length (now out)) ⌝ }
+    ensures { λ r. ⌜ (r ≡ penBehind way depth p) × (now (out .exit) ≡ inkBehind way operator end holds (now (stack .entry)) depth p (now (out .entry))) ⌝ }
+{
+    match way {
+        2 => {
+            let q = compile_pen::emit(out, p, 8, 0, end + 2);
+            let r = compile_pen::shape(out, q, holds, stack, depth);
+            let s = compile_pen::emit(out, r, 2, 0, 0);
+            compile_pen::shape(out, s, holds, stack, depth + 1)
+        }
+        3 => compile_pen::shape(out, p, holds, stack, depth + 1),
+        _ => compile_pen::emit(out, p, 7, (operator % 256) as u8, 0),
+    }
+}
+
+// The type of the result, by that of the first operand.
+pub fn pair_type(operator: u16, first: u8) -> u8
+    ensures { λ r. ⌜ r ≡ pairType operator first ⌝ }
+{
+    if operator < 6 {
+        return 1;
+    }
+    if operator < 12 { 2 } else { first }
+}
+
+// ── cases ──
+// Before the statement after i others, whose code ends at `end`: its number is looked for.
+pub fn before_arm(cell: u32, i: usize, end: u32, out: &mut [u8], p: Pen) -> Pen
+    requires { ⌜ (i < 65536) × (end < 65536) × Fits (penBefore p) (length (now out)) ⌝ }
+    ensures { λ r. ⌜ (r ≡ penBefore p) × (now (out .exit) ≡ inkBefore cell i end p (now (out .entry))) ⌝ }
+{
+    let q = compile_pen::emit(out, p, 5, 0, cell);
+    let r = compile_pen::emit(out, q, 1, 0, i as u32 + 1);
+    let s = compile_pen::emit(out, r, 7, 10, 0);
+    compile_pen::emit(out, s, 9, 0, end + 1)
+}
+
+// Behind it; `end` is where the case ends.
+pub fn after_arm(
+    end: u32,
+    holds: usize,
+    stack: &[u8],
+    depth: usize,
+    out: &mut [u8],
+    p: Pen,
+) -> Pen
+    requires { ⌜ (depth ≤ length (now stack)) × (depth < 256) × (holds < 256) × Fits (penBehindArm depth p) (length (now out)) ⌝ }
+    ensures { λ r. ⌜ (r ≡ penBehindArm depth p) × (now (out .exit) ≡ inkBehindArm end holds (now (stack .entry)) depth p (now (out .entry))) ⌝ }
+{
+    let q = compile_pen::emit(out, p, 8, 0, end);
+    compile_pen::shape(out, q, holds, stack, depth)
+}

@@ -1,0 +1,9 @@
+pub mod Lies
+pub mod Lengths
+pub mod Marks
+pub mod Means
+pub mod Heads
+pub mod Blocks
+pub mod RootHead
+pub mod Roots
+pub mod Sight

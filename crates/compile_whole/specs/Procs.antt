@@ -1,0 +1,210 @@
+-- A procedure, a declaration of the root, and all of them: what their walkers ask and answer.
+use mathlib.Core.Path.{_≡_, refl, ap, sym, _∙_}
+use mathlib.Core.Bool.{Bool, true, false}
+use mathlib.Core.List.{List, [], _∷_, _++_, map}
+use Prim.Native.Nat.{ℕ, zero, suc, _+_, _-_, _*_, _/_, _%_, _≤_, _<_}
+use native.Mathlib.Omega.{arith}
+use lib.ListN.{length, drop, getD, set, length-set}
+use lib.Seq.{sets, length-sets}
+use Rattle.words.specs.Numbers.{wordAt, halfAt}
+use Rattle.language.specs.Tree.{Typed, Stmt, Expr, Body, proper, function, Global, local, class, procedure, Tree}
+use Rattle.language.specs.Table.{flatBody, flatGlobal, resultCode}
+use Rattle.programs.specs.Claims.{entriesOf}
+use Rattle.scopes.specs.Environment.{envOf, Grown}
+use Rattle.scopes.specs.Laws.{fewer}
+use Rattle.spans.specs.Stands.{Stands}
+use Rattle.shapes.specs.Steps.{below}
+use Rattle.operands.specs.Types.{code-some}
+use Rattle.roots.specs.Procedures.{Walled}
+use Rattle.bytecode.specs.Instructions.{return}
+use Rattle.compile_code.specs.Code.{Code, op, _▸_, at, after}
+use Rattle.compile_code.specs.Compile.{Proc, procsOf}
+use Rattle.compile_code.specs.Encode.{rec, recordOf, aroundBody, codeBody, codeProc, procParts}
+use Rattle.compile_pen.specs.declared.Pen.{Pen}
+use Rattle.compile_pen.specs.Ink.{moved, inkOp, Fits, length-ink}
+use Rattle.compile_pen.specs.Folds.{penAfter, inked, inked-op, length-inked, address-after}
+use Rattle.compile_nodes.specs.Knows.{Walk}
+use Rattle.compile_nodes.specs.Ready.{Node, stmt, expr, name, codeN, endsN, Place, Lent, Kept, Ready, Done, Asks, Answers}
+use Rattle.compile_known.specs.Tabled.{theTree}
+use Rattle.compile_whole.specs.Ends.{procOf, procEnds, procEnd, endedProc, endsBody}
+use Rattle.compile_whole.specs.Stage.{Stage, walkOf, lentOf, ReadyProc, Heading, heading-of, nodeOf, bodyPlace, ready-body}
+
+-- ── a procedure ──
+pub record AsksProc (l part : List ℕ) (place : ℕ) (sizes env : List ℕ) (top : ℕ) (known aims ends stack out : List ℕ) (pen : Pen) : Type 0 where
+  pub proc : Proc
+  pub ready : ReadyProc (theTree l) proc l part place sizes env top known aims ends stack out pen
+
+pub record DoneProc (t : Tree) (q : Proc) (place : ℕ) (ends out : List ℕ) (later written : List ℕ) (pen r : Pen) : Type 0 where
+  pub penned : r ≡ penAfter (codeProc t q (pen .address)) pen
+  pub inks : written ≡ inked (codeProc t q (pen .address)) pen out
+  pub ended : later ≡ endedProc t q place (pen .address) ends
+
+pub record AnswersProc (l part : List ℕ) (place : ℕ) (sizes : List ℕ) (L M : Lent) (top : ℕ) (known aims : List ℕ) (pen r : Pen) : Type 0 where
+  pub kept : Kept L M top 0
+  pub done : (q : Proc) → ReadyProc (theTree l) q l part place sizes (L .env) top known aims (L .ends) (L .stack) (L .out) pen → DoneProc (theTree l) q place (L .ends) (L .out) (M .ends) (M .out) pen r
+
+-- a statement, an expression
+abbrev pub IsStmt : Node → Type 0
+IsStmt (stmt s) = Unit {0}
+IsStmt (expr e) = ⊥
+IsStmt (name a) = ⊥
+
+abbrev pub IsExpr : Node → Type 0
+IsExpr (stmt s) = ⊥
+IsExpr (expr e) = Unit {0}
+IsExpr (name a) = ⊥
+
+-- the numbers that the code works with
+pub record ProcAsks (l part : List ℕ) (heading place : ℕ) (ends env : List ℕ) (top : ℕ) : Type 0 where
+  pub small : place + 1 + heading / 256 ≤ 2048
+  pub inside : 8 * (1 + heading / 256) ≤ length part
+  pub within : 8 * (place + 1 + heading / 256) ≤ length l
+  pub short : length l ≤ 16384
+  pub room : 4 * (top + 1 + heading / 256) ≤ length env
+  pub ending : place < length ends
+
+stmt-in : (b : Body) → resultCode b ≡ 0 → IsStmt (nodeOf b)
+stmt-in (proper s) e = tt
+stmt-in (function u x) e = code-some u e
+
+expr-in : (b : Body) → ¬ (resultCode b ≡ 0) → IsExpr (nodeOf b)
+expr-in (proper s) e = e refl
+expr-in (function u x) e = tt
+
+module _ (t : Tree) (xs : List Typed) (a : ℕ) where
+  code-is : (b : Body) → codeN (t .head) (nodeOf b) (aroundBody t xs) [] (at a (length xs)) ≡ codeBody (t .head) b (aroundBody t xs) (at a (length xs))
+  code-is (proper s) = refl
+  code-is (function u e) = refl
+
+  ends-are : (b : Body) → endsN (t .head) (nodeOf b) (aroundBody t xs) [] (at a (length xs)) ≡ endsBody (t .head) b (aroundBody t xs) (at a (length xs))
+  ends-are (proper s) = refl
+  ends-are (function u e) = refl
+
+-- what is asked of the body's walker, and what it has done
+abbrev pub BodyAsks : (Node → Type 0) → List ℕ → List ℕ → List ℕ → List ℕ → ℕ → ℕ → List ℕ → Lent → ℕ → Pen → Type 0
+BodyAsks P known aims l part heading place sizes L up pen = Asks P known aims l (below part (8 * (1 + heading / 256))) 62 (place + 1 + heading / 256) sizes L up 0 0 pen
+
+abbrev pub BodyAnswers : (Node → Type 0) → List ℕ → List ℕ → List ℕ → List ℕ → ℕ → ℕ → List ℕ → Lent → Lent → ℕ → Pen → Pen → Type 0
+BodyAnswers P known aims l part heading place sizes L M up pen p = Answers P known aims l (below part (8 * (1 + heading / 256))) 62 (place + 1 + heading / 256) sizes L M up 0 0 pen p
+
+module _ {l part : List ℕ} {place : ℕ} {sizes env : List ℕ} {top : ℕ} {known aims ends stack out : List ℕ} {pen : Pen} {q : Proc}
+    (r : ReadyProc (theTree l) q l part place sizes env top known aims ends stack out pen) (heading : ℕ) (c : heading ≡ wordAt part 4) {mid : List ℕ} {up : ℕ}
+    (w : Walled l place (heading / 256) top env mid up) where
+  -- the body, with what is pushed
+  body-ready : Ready (nodeOf (q .body)) (walkOf (theTree l) known aims pen) (bodyPlace (theTree l) (q .parameters) (pen .address)) l (below part (8 * (1 + heading / 256))) 62 (place + 1 + heading / 256) sizes
+      (lentOf mid ends stack out) up 0 0 pen
+  body-ready =
+      let h = heading-of r heading c in
+      rw (h .many) (ready-body (theTree l) l part place sizes env top known aims ends stack out pen (q .name) (q .parameters) mid up (rw (h .many) at w) (q .body) r)
+
+  body-asks : (P : Node → Type 0) → P (nodeOf (q .body)) → BodyAsks P known aims l part heading place sizes (lentOf mid ends stack out) up pen
+  body-asks P s =
+      record {
+        node = nodeOf (q .body);
+        walk = walkOf (theTree l) known aims pen;
+        place = bodyPlace (theTree l) (q .parameters) (pen .address);
+        such = s;
+        same-known = refl;
+        same-aims = refl;
+        ready = body-ready;
+      }
+
+  body-stmt : heading % 256 ≡ 0 → IsStmt (nodeOf (q .body))
+  body-stmt e = stmt-in (q .body) (sym (heading-of r heading c .result) ∙ e)
+
+  body-expr : ¬ (heading % 256 ≡ 0) → IsExpr (nodeOf (q .body))
+  body-expr e = expr-in (q .body) (λ z. e (heading-of r heading c .result ∙ z))
+
+  -- ── it is walked: the return, and its end ──
+  module _ {P : Node → Type 0} (such : P (nodeOf (q .body))) {M : Lent} {p : Pen} (y : BodyAnswers P known aims l part heading place sizes (lentOf mid ends stack out) M up pen p) where
+    done-here : Done (nodeOf (q .body)) (walkOf (theTree l) known aims pen) (bodyPlace (theTree l) (q .parameters) (pen .address)) (place + 1 + heading / 256) (lentOf mid ends stack out) M 0 pen p
+    done-here = y .done (nodeOf (q .body)) (walkOf (theTree l) known aims pen) (bodyPlace (theTree l) (q .parameters) (pen .address)) such refl refl body-ready
+
+    last-pen : moved p ≡ penAfter (codeProc (theTree l) q (pen .address)) pen
+    unfolding penAfter
+    last-pen = ap moved (done-here .wrote .penned ∙ ap (λ (x : Code). penAfter x pen) (code-is (theTree l) (q .parameters) (pen .address) (q .body)))
+
+    last-fits : Fits (moved p) (length (M .out))
+    last-fits = rw (last-pen, y .kept .same-out) (r .fits)
+
+    last-ink : inkOp p (M .out) 11 0 0 ≡ inked (codeProc (theTree l) q (pen .address)) pen out
+    unfolding inked penAfter recordOf
+    last-ink =
+        let x = code-is (theTree l) (q .parameters) (pen .address) (q .body) in
+        let b = codeBody (theTree l .head) (q .body) (aroundBody (theTree l) (q .parameters)) (at (pen .address) (length (q .parameters))) in
+        inked-op return 11 0 0 p (λ e. refl) (M .out)
+        ∙ (ap (λ (z : Pen). inked (op return) z (M .out)) (done-here .wrote .penned ∙ ap (λ (y : Code). penAfter y pen) x)
+        ∙ ap (inked (op return) (penAfter b pen)) (done-here .wrote .written ∙ ap (λ (y : Code). inked y pen out) x))
+
+    proc-done-in : (s : Pen) (written later : List ℕ) → s ≡ moved p → written ≡ inkOp p (M .out) 11 0 0 → later ≡ set (M .ends) place (s .address) → DoneProc (theTree l) q place ends out later written pen s
+    proc-done-in s written later e f g =
+        let h = heading-of r heading c in
+        let a = e ∙ last-pen in
+        let z : s .address ≡ procEnd (theTree l) q (pen .address) = ap (λ (x : Pen). x .address) a ∙ address-after (codeProc (theTree l) q (pen .address)) pen (at (pen .address) 0) refl in
+        record {
+          penned = a;
+          inks = f ∙ last-ink;
+          ended = g ∙ (ap (λ (n : ℕ). set (M .ends) place n) z ∙ ap (λ (m : List ℕ). set m place (procEnd (theTree l) q (pen .address)))
+              (done-here .ended ∙ (ap (λ (n : ℕ). sets ends (place + 1 + n) (endsN (theTree l .head) (nodeOf (q .body)) (aroundBody (theTree l) (q .parameters)) [] (at (pen .address) (length (q .parameters))))) (h .many)
+              ∙ ap (λ (us : List ℕ). sets ends (place + 1 + length (q .parameters)) us) (ends-are (theTree l) (q .parameters) (pen .address) (q .body)))));
+        }
+
+module _ {l part : List ℕ} {place : ℕ} {sizes env : List ℕ} {top : ℕ} {known aims ends stack out : List ℕ} {pen : Pen}
+    (q : AsksProc l part place sizes env top known aims ends stack out pen) where
+  pub proc-long : 8 ≤ length part
+  proc-long = let h = heading-of (q .ready) (wordAt part 4) refl in omega (arith, h .within, h .long)
+
+  module _ (heading : ℕ) (c : heading ≡ wordAt part 4) where
+    pub proc-asks : ProcAsks l part heading place ends env top
+    proc-asks =
+        let h = heading-of (q .ready) heading c in
+        let r = q .ready in
+        record {
+          small = omega (arith, h .within, h .many, r .stage .prepared .tabled .legible .short);
+          inside = omega (arith, h .within, h .many, h .long);
+          within = omega (arith, h .within, h .many);
+          short = r .stage .prepared .tabled .legible .short;
+          room = omega (arith, r .stage .room, h .within, h .many);
+          ending = omega (arith, r .ending, h .within);
+        }
+
+    module _ {mid : List ℕ} {up : ℕ} (w : Walled l place (heading / 256) top env mid up) where
+      pub proc-statement : heading % 256 ≡ 0 → BodyAsks IsStmt known aims l part heading place sizes (lentOf mid ends stack out) up pen
+      proc-statement e = body-asks (q .ready) heading c w IsStmt (body-stmt (q .ready) heading c w e)
+
+      pub proc-expression : ¬ (heading % 256 ≡ 0) → BodyAsks IsExpr known aims l part heading place sizes (lentOf mid ends stack out) up pen
+      proc-expression e = body-asks (q .ready) heading c w IsExpr (body-expr (q .ready) heading c w e)
+
+      proc-kept : {P : Node → Type 0} {M : Lent} {p : Pen} → BodyAnswers P known aims l part heading place sizes (lentOf mid ends stack out) M up pen p → (written later : List ℕ)
+          → length written ≡ length (M .out) → length later ≡ length (M .ends) → Kept (lentOf env ends stack out) (lentOf (M .env) later (M .stack) written) top 0
+      proc-kept {P} {M} y written later e f =
+          record {
+            env = fewer (M .env) mid top up (w .least) (y .kept .env) ∙ w .kept;
+            same-env = y .kept .same-env ∙ w .same;
+            same-ends = f ∙ y .kept .same-ends;
+            stack = refl;
+            same-stack = y .kept .same-stack;
+            same-out = e ∙ y .kept .same-out;
+          }
+
+      module _ (M : Lent) (p : Pen) (s : Pen) (written later : List ℕ) (e : s ≡ moved p) (f : written ≡ inkOp p (M .out) 11 0 0) (g : later ≡ set (M .ends) place (s .address)) where
+        abbrev Returned : Type 0
+        Returned = AnswersProc l part place sizes (lentOf env ends stack out) (lentOf (M .env) later (M .stack) written) top known aims pen s
+
+        same-written : length written ≡ length (M .out)
+        same-written = ap (length {A = ℕ}) f ∙ length-ink p (M .out) 11 0 0
+
+        same-later : length later ≡ length (M .ends)
+        same-later = ap (length {A = ℕ}) g ∙ length-set (M .ends) place (s .address)
+
+        pub proc-proper : heading % 256 ≡ 0 → BodyAnswers IsStmt known aims l part heading place sizes (lentOf mid ends stack out) M up pen p → Returned
+        proc-proper z y = record { kept = proc-kept y written later same-written same-later; done = λ x r. proc-done-in r heading c w (body-stmt r heading c w z) y s written later e f g }
+
+        pub proc-function : ¬ (heading % 256 ≡ 0) → BodyAnswers IsExpr known aims l part heading place sizes (lentOf mid ends stack out) M up pen p → Returned
+        proc-function z y = record { kept = proc-kept y written later same-written same-later; done = λ x r. proc-done-in r heading c w (body-expr r heading c w z) y s written later e f g }
+
+      pub proper-fits : {M : Lent} {p : Pen} → heading % 256 ≡ 0 → BodyAnswers IsStmt known aims l part heading place sizes (lentOf mid ends stack out) M up pen p → Fits (moved p) (length (M .out))
+      proper-fits z y = last-fits (q .ready) heading c w (body-stmt (q .ready) heading c w z) y
+
+      pub function-fits : {M : Lent} {p : Pen} → ¬ (heading % 256 ≡ 0) → BodyAnswers IsExpr known aims l part heading place sizes (lentOf mid ends stack out) M up pen p → Fits (moved p) (length (M .out))
+      function-fits z y = last-fits (q .ready) heading c w (body-expr (q .ready) heading c w z) y

@@ -1,0 +1,301 @@
+-- What is asked of every body of a program, and what its walkers then ask: the root's items, and the body of a procedure.
+use mathlib.Core.Path.{_≡_, refl, ap, sym, _∙_, subst}
+use mathlib.Core.Bool.{Bool, true, false}
+use mathlib.Core.List.{List, [], _∷_, _++_, map}
+use Prim.Native.Nat.{ℕ, zero, suc, _+_, _-_, _*_, _/_, _%_, _≤_}
+use native.Mathlib.Omega.{arith}
+use native.Mathlib.Nat.{add-assoc}
+use lib.Dec.{eqb}
+use lib.ListN.{length, drop, length-append}
+use Rattle.language.specs.Tree.{Typed, Decl, declare, holding, Items, Body, proper, function, Global, procedure, Tree, countItems}
+use Rattle.language.specs.Table.{Entry, flatTyped, flatS, flatE, flatItems, flatBody, flatHead, flatGlobal, flatten, deepItems, deepBody, deepGlobal, deepGlobals, nesting, resultCode}
+use Rattle.language.specs.Names.{Scope, procedureOf, rootOf}
+use Rattle.language.specs.Faults.{faults}
+use Rattle.language.specs.Limits.{limits, bodyUsage, rootUsage, locals, headCells, cellsS, cellsE}
+use Rattle.words.specs.Choice.{if_then_else_}
+use Rattle.words.specs.Numbers.{wordAt}
+use Rattle.programs.specs.Claims.{entriesOf, Readable}
+use Rattle.scopes.specs.Environment.{Item, item, envOf, addAll, shut, Grown}
+use Rattle.spans.specs.Stands.{Stands, stands-left, stands-right, stands-tail, stands-within, length-entries}
+use Rattle.heads.specs.Items.{kindAt, aAt, bAt, oneAt, itemsAt}
+use Rattle.heads.specs.Trees.{Heads, length-map, length-Body, length-Items, length-Global}
+use Rattle.heads.specs.Defines.{bulk, labels-bulk}
+use Rattle.shapes.specs.Walk.{Table}
+use Rattle.shapes.specs.Steps.{head-of, table-next, below}
+use Rattle.roots.specs.Globals.{heads-here}
+use Rattle.roots.specs.Procedures.{Walled}
+use Rattle.bytecode.specs.Instructions.{own, root}
+use Rattle.compile_code.specs.Code.{At, at}
+use Rattle.compile_code.specs.Compile.{Around, inside, global, scopesOf, heldIn, classesOf, Proc}
+use Rattle.compile_code.specs.Encode.{startOfRoot, aroundBody, parameterCells, rootVariables, codeProc, codeBody}
+use Rattle.compile_macro.specs.Right.{Keeps}
+use Rattle.compile_order.specs.Limited.{root-keeps}
+use Rattle.compile_names.specs.Good.{goodItems}
+use Rattle.compile_names.specs.Known.{ofRoot, ofShared, scopes-parameters}
+use Rattle.compile_names.specs.Globals.{goodBody, good-tree}
+use Rattle.compile_known.specs.Numbers.{numbersFrom, numbersOf}
+use Rattle.compile_known.specs.Tabled.{Tabled}
+use Rattle.compile_pen.specs.declared.Pen.{Pen}
+use Rattle.compile_pen.specs.Ink.{Fits}
+use Rattle.compile_pen.specs.Folds.{penAfter, grows, fits-before, later-moved}
+use Rattle.compile_nodes.specs.Knows.{Lies, Walk}
+use Rattle.compile_nodes.specs.Ready.{Node, stmt, expr, Place, Lent, Laid, Stood, Ready, ReadyItems}
+use Rattle.compile_sight.specs.Marks.{openIn}
+use Rattle.compile_sight.specs.Heads.{Anything, around-root, around-shared, scopes-entering}
+use Rattle.compile_sight.specs.Roots.{length-classes, root-items-stand}
+use Rattle.compile_sight.specs.Sight.{afterHead, rootSight, startOfItems, aroundRoot, aroundProcedures, Rooted, sees-in-root, sees-in-procedures, knows-in-root, knows-in-procedures, lands-in-root, procedureSight, sees-in-procedure, knows-in-procedure, lands-in-procedure}
+use Rattle.compile_whole.specs.Cells.{cells-items, cells-S, cells-E}
+use Rattle.compile_whole.specs.Heads.{open-holds, head-held, head-cells, head-address, rootHead, rootItems}
+use Rattle.compile_whole.specs.Numbers.{classesBy, numbers-items, numbers-body}
+use Rattle.compile_whole.specs.Ends.{itemsEnds, procOf, procEnds}
+
+-- ── the table, the tree that it holds, what its entries stand for; and the root's names in sight ──
+pub record Prepared (t : Tree) (l sizes known : List ℕ) : Type 0 where
+  pub tabled : Tabled l sizes t
+  pub faultless : faults t ≡ []
+  pub limited : limits t ≡ []
+  pub numbered : Lies known 1 (numbersOf t)
+
+pub record Stage (t : Tree) (l sizes env : List ℕ) (top : ℕ) (known : List ℕ) : Type 0 where
+  pub prepared : Prepared t l sizes known
+  pub sight : envOf env top ≡ rootSight l t
+  pub room : 4 * (top + length l / 8) ≤ length env
+
+-- what is the same while a body is walked
+abbrev pub walkOf : Tree → List ℕ → List ℕ → Pen → Walk
+walkOf t known aims pen = record { globals = t .head; known = known; aims = aims; dry = pen .dry; within = pen .inside }
+
+abbrev pub lentOf : List ℕ → List ℕ → List ℕ → List ℕ → Lent
+lentOf env ends stack out = record { env = env; ends = ends; stack = stack; out = out }
+
+module _ {t : Tree} {l sizes env : List ℕ} {top : ℕ} {known : List ℕ} (s : Stage t l sizes env top known) where
+  abbrev rooted : (aims : List ℕ) (pen : Pen) → Rooted l t (walkOf t known aims pen)
+  rooted aims pen = record { readable = s .prepared .tabled .readable; good = s .prepared .faultless; cells = omega (arith, root-keeps t (s .prepared .limited) .0); globals = refl; numbered = s .prepared .numbered }
+
+  entries-fit : length (flatten t) ≡ length l / 8
+  entries-fit = ap length (sym (s .prepared .tabled .same)) ∙ length-entries (length l / 8) l
+
+  pub items-fit : afterHead t + length (flatItems (t .items)) ≡ length l / 8
+  unfolding flatten
+  items-fit = omega (arith, entries-fit, length-append (flatHead (t .head)) (flatItems (t .items)))
+
+-- ── the root's items, a pen having written its head ──
+root-scopes : (t : Tree) → scopesOf (aroundRoot t) ≡ rootOf t ∷ []
+unfolding scopesOf
+root-scopes t = ap scopesOf (around-root (locals (t .head)) (startOfRoot t) (at 0 0)) ∙ scopes-entering ofRoot (locals (t .head)) 0 (startOfRoot t)
+
+global-held : (a n : ℕ) (Γ : List Around) → heldIn (global own a n ∷ Γ) ≡ heldIn Γ
+unfolding heldIn
+global-held a n Γ = refl
+
+root-held : (t : Tree) → length (heldIn (aroundRoot t)) ≡ openIn (locals (t .head))
+unfolding heldIn
+root-held t = omega (arith, head-held (t .head) (global own) global-held (locals (t .head)) (startOfRoot t) (at 0 0))
+
+module _ {t : Tree} {l sizes env : List ℕ} {top : ℕ} {known : List ℕ} (s : Stage t l sizes env top known)
+    (aims ends stack out : List ℕ) (pen : Pen) where
+  pub ready-items : (part : List ℕ) (after : ℕ) → after ≡ afterHead t → part ≡ drop (8 * after) l
+      → (pen .dry ≡ false → Lies aims (afterHead t) (itemsEnds t))
+      → length l / 8 ≤ length ends → 32 ≤ length stack → pen .address ≡ startOfItems t .address → pen .inside ≡ false → Fits (penAfter (rootItems t) pen) (length out)
+      → ReadyItems (t .items) (walkOf t known aims pen) (record { around = aroundRoot t; types = []; start = startOfItems t }) l part (countItems (t .items)) 63 after sizes
+      (lentOf env ends stack out) top (openIn (locals (t .head))) 0 pen
+  unfolding nesting
+  ready-items part after a e aimed ending stacked address outer fits =
+      let k = root-keeps t (s .prepared .limited) in
+      let n : startOfItems t .cell ≡ headCells (locals (t .head)) = head-cells (t .head) (locals (t .head)) (at 0 0) ∙ omega arith in
+      let h = open-holds (locals (t .head)) in
+      let r = rooted s aims pen in
+      record {
+        table = record { whole = e; legible = s .prepared .tabled .legible; known = s .prepared .tabled .known };
+        laid = record {
+          stands = rw a (root-items-stand (s .prepared .tabled .legible) t (s .prepared .tabled .same));
+          cells = omega (arith, cells-items (t .items), k .0);
+          numbered = rw (a, n) (numbers-items t (s .prepared .numbered));
+          aimed = λ d. rw a (aimed d);
+        };
+        stood = record {
+          sees = rw (s .sight) (sees-in-root (s .prepared .tabled .legible) t (s .prepared .tabled .same));
+          knows = rw (s .sight) (knows-in-root (s .prepared .tabled .legible) t (s .prepared .tabled .same) r outer);
+          held = sym (root-held t);
+          deep = refl;
+          typed = refl;
+          stacked = stacked;
+          address = address;
+          dryness = refl;
+          inside = refl;
+        };
+        room = omega (arith, s .room, items-fit s, labels-bulk (t .items), length-Items (t .items));
+        ending = omega (arith, ending, items-fit s);
+        fits = fits;
+        deep = omega (arith, s .prepared .tabled .readable .depth);
+        good = rw (root-scopes t) (good-tree t (s .prepared .faultless) .1);
+        lands = rw (s .sight) (lands-in-root (s .prepared .tabled .legible) t (s .prepared .tabled .same) (walkOf t known aims pen) aimed);
+        few-holds = omega (arith, k .1);
+        few-values = omega (arith, k .2);
+        many = refl;
+      }
+
+-- ── a procedure that stands at a place ──
+abbrev pub globalOf : Proc → Global
+globalOf q = procedure (q .name) (q .parameters) (q .body)
+
+pub record ReadyProc (t : Tree) (q : Proc) (l part : List ℕ) (place : ℕ) (sizes env : List ℕ) (top : ℕ) (known aims ends stack out : List ℕ) (pen : Pen) : Type 0 where
+  pub stage : Stage t l sizes env top known
+  pub whole : part ≡ drop (8 * place) l
+  pub stands : Stands (entriesOf l) place (flatGlobal (globalOf q))
+  pub deep : deepGlobal (globalOf q) ≤ 63
+  pub good : goodBody (procedureOf (q .parameters) ∷ rootOf t ∷ []) (q .body)
+  pub keeps : Keeps (bodyUsage (q .parameters) (q .body))
+  pub numbered : Lies known (place + 1) (numbersFrom (classesBy t) 0 (map flatTyped (q .parameters) ++ flatBody (q .body)))
+  pub aimed : pen .dry ≡ false → Lies aims (place + 1 + length (q .parameters)) (procEnds t q (pen .address))
+  pub ending : length l / 8 ≤ length ends
+  pub stacked : 32 ≤ length stack
+  pub within : pen .inside ≡ true
+  pub fits : Fits (penAfter (codeProc t q (pen .address)) pen) (length out)
+
+-- what its heading says
+pub record Heading (l part : List ℕ) (place heading : ℕ) (q : Proc) : Type 0 where
+  pub many : heading / 256 ≡ length (q .parameters)
+  pub result : heading % 256 ≡ resultCode (q .body)
+  pub long : length part ≡ length l - 8 * place
+  pub within : 8 * (place + 1 + length (q .parameters)) + 8 * length (flatBody (q .body)) ≤ length l
+
+module _ {t : Tree} {q : Proc} {l part : List ℕ} {place : ℕ} {sizes env : List ℕ} {top : ℕ} {known aims ends stack out : List ℕ} {pen : Pen}
+    (r : ReadyProc t q l part place sizes env top known aims ends stack out pen) where
+  proc-table : Table l part sizes place
+  proc-table = record { whole = r .whole; legible = r .stage .prepared .tabled .legible; known = r .stage .prepared .tabled .known }
+
+  pub heading-of : (heading : ℕ) → heading ≡ wordAt part 4 → Heading l part place heading q
+  unfolding flatGlobal Heads
+  heading-of heading e =
+      let d = head-of _ _ proc-table (r .stands) in
+      let k = heads-here (r .stage .prepared .tabled .legible) (globalOf q) (r .stands) in
+      let n : heading ≡ 256 * length (q .parameters) + resultCode (q .body) = e ∙ d .b (256 * length (q .parameters) + resultCode (q .body)) refl in
+      record {
+        many = omega arith;
+        result = omega arith;
+        long = d .long;
+        within = omega (arith, stands-within _ _ (r .stands), length-append (map flatTyped (q .parameters)) (flatBody (q .body)), length-map flatTyped (q .parameters), length-entries (length l / 8) l);
+      }
+
+-- its parameters are pushed behind a wall: so many at most
+pub items-few : (sort : ℕ) (l : List ℕ) (p n : ℕ) → length (itemsAt sort l p n) ≤ n
+unfolding itemsAt oneAt
+items-few sort l p zero = omega arith
+items-few sort l p (suc n) = by (eqb (kindAt l p) 10) (items-few sort l (p + 1) n)
+  where
+    by : (b : Bool) → length (itemsAt sort l (p + 1) n) ≤ n → length ((if b then item (aAt l p) sort (bAt l p) p ∷ [] else []) ++ itemsAt sort l (p + 1) n) ≤ suc n
+    by true h = omega arith
+    by false h = omega arith
+
+abbrev pub nodeOf : Body → Node
+nodeOf (proper s) = stmt s
+nodeOf (function u e) = expr e
+
+abbrev pub bodyPlace : Tree → List Typed → ℕ → Place
+bodyPlace t xs a = record { around = aroundBody t xs; types = []; start = at a (length xs) }
+
+body-scopes : (t : Tree) (xs : List Typed) → scopesOf (aroundBody t xs) ≡ procedureOf xs ∷ rootOf t ∷ []
+unfolding scopesOf
+body-scopes t xs =
+    scopes-parameters Anything xs 0 (inside (procedureOf xs) ∷ aroundProcedures t)
+    ∙ ap (λ (ss : List Scope). procedureOf xs ∷ ss) (ap scopesOf (around-shared (locals (t .head)) 0 (startOfRoot t)) ∙ scopes-entering ofShared (locals (t .head)) 0 (startOfRoot t))
+
+held-parameters : (xs : List Typed) (n : ℕ) (Γ : List Around) → heldIn (parameterCells xs n Γ) ≡ heldIn Γ
+unfolding parameterCells heldIn
+held-parameters [] n Γ = refl
+held-parameters (x ∷ xs) n Γ = held-parameters xs (suc n) Γ
+
+held-shared : (ds : List Decl) (n : ℕ) (Γ : List Around) → heldIn (rootVariables ds n Γ) ≡ heldIn Γ
+unfolding rootVariables heldIn
+held-shared [] n Γ = refl
+held-shared (declare x ∷ ds) n Γ = held-shared ds (suc n) (global root (x .name) n ∷ Γ)
+held-shared (holding g ∷ ds) n Γ = held-shared ds n Γ
+
+body-held : (t : Tree) (xs : List Typed) → 0 ≡ length (heldIn (aroundBody t xs))
+unfolding heldIn
+body-held t xs = sym (ap length (held-parameters xs 0 (inside (procedureOf xs) ∷ aroundProcedures t) ∙ held-shared (locals (t .head)) 0 (startOfRoot t)))
+
+-- all parameters are cells
+few-parameters : (xs : List Typed) (b : Body) → Keeps (bodyUsage xs b) → length xs ≤ 32
+few-parameters xs (proper s) k = omega (arith, k .0)
+few-parameters xs (function u e) k = omega (arith, k .0)
+
+module _ (t : Tree) (l part : List ℕ) (place : ℕ) (sizes env : List ℕ) (top : ℕ) (known aims ends stack out : List ℕ) (pen : Pen) (a : ℕ) (xs : List Typed) where
+  abbrev Here : Body → Type 0
+  Here b = ReadyProc t (procOf a xs b) l part place sizes env top known aims ends stack out pen
+
+  tail : (b : Body) → Here b → Stands (entriesOf l) (place + 1) (map flatTyped xs ++ flatBody b)
+  unfolding flatGlobal
+  tail b r = stands-tail _ _ (r .stands)
+
+  module _ (mid : List ℕ) (up : ℕ) (w : Walled l place (length xs) top env mid up) where
+    abbrev Body-ready : Body → Type 0
+    Body-ready b = Ready (nodeOf b) (walkOf t known aims pen) (bodyPlace t xs (pen .address)) l (below part (8 * (1 + length xs))) 62 (place + 1 + length xs) sizes (lentOf mid ends stack out) up 0 0 pen
+
+    sight-here : (b : Body) → Here b → envOf mid up ≡ procedureSight l place xs (rootSight l t)
+    sight-here b r = w .now ∙ ap (λ (v : List Item). procedureSight l place xs v) (r .stage .sight)
+
+    stood : (b : Body) → Here b → Stood (walkOf t known aims pen) (bodyPlace t xs (pen .address)) l (lentOf mid ends stack out) up 0 0 pen
+    stood b r =
+        let s = r .stage in
+        record {
+          sees = rw (sight-here b r) (sees-in-procedure (s .prepared .tabled .legible) place xs (flatBody b) (tail b r) (aroundProcedures t) (sees-in-procedures (s .prepared .tabled .legible) t (s .prepared .tabled .same)));
+          knows = rw (sight-here b r) (knows-in-procedure (s .prepared .tabled .legible) place xs (flatBody b) (tail b r) (knows-in-procedures (s .prepared .tabled .legible) t (s .prepared .tabled .same) (rooted s aims pen) (r .within))
+              (omega (arith, length-classes (t .head), s .prepared .tabled .readable .classes)) (few-parameters xs b (r .keeps)) (r .numbered));
+          held = body-held t xs;
+          deep = refl;
+          typed = refl;
+          stacked = r .stacked;
+          address = refl;
+          dryness = refl;
+          inside = refl;
+        }
+
+    table-here : (b : Body) → Here b → Table l (below part (8 * (1 + length xs))) sizes (place + 1 + length xs)
+    table-here b r = rw (add-assoc place 1 (length xs)) (table-next (record { whole = r .whole; legible = r .stage .prepared .tabled .legible; known = r .stage .prepared .tabled .known }) (8 * (1 + length xs)) (1 + length xs) refl)
+
+    stands-here : (b : Body) → Here b → Stands (entriesOf l) (place + 1 + length xs) (flatBody b)
+    stands-here b r = rw (length-map flatTyped xs) at (stands-right (map flatTyped xs) (flatBody b) (tail b r))
+
+    fits-here : (b : Body) → Here b → Fits (penAfter (codeBody (t .head) b (aroundBody t xs) (at (pen .address) (length xs))) pen) (length out)
+    unfolding penAfter
+    fits-here b r = fits-before (length out) (later-moved _) (r .fits)
+
+    entries-here : (b : Body) → Here b → place + 1 + length xs + length (flatBody b) ≤ length l / 8
+    unfolding flatGlobal
+    entries-here b r = omega (arith, stands-within _ _ (r .stands), length-append (map flatTyped xs) (flatBody b), length-map flatTyped xs, length-entries (length l / 8) l)
+
+    room-here : (b : Body) → Here b → 4 * (up + length (flatBody b)) ≤ length mid
+    room-here b r = omega (arith, r .stage .room, w .most, w .same, items-few 4 l (place + 1) (length xs), entries-here b r)
+
+    pub ready-body : (b : Body) → Here b → Body-ready b
+    unfolding flatBody
+    ready-body (proper z) r =
+        record {
+          table = table-here (proper z) r;
+          laid = record { stands = stands-here (proper z) r; cells = omega (arith, cells-S z, r .keeps .0); numbered = numbers-body (classesBy t) place xs (proper z) (r .numbered); aimed = r .aimed };
+          stood = stood (proper z) r;
+          room = room-here (proper z) r;
+          ending = omega (arith, entries-here (proper z) r, r .ending);
+          fits = fits-here (proper z) r;
+          deep = omega (arith, r .deep);
+          good = rw (body-scopes t xs) (r .good);
+          lands = rw (sight-here (proper z) r) (lands-in-procedure (r .stage .prepared .tabled .legible) place xs (flatS z) (tail (proper z) r) (walkOf t known aims pen) (rootSight l t) (aroundBody t xs));
+          few-holds = omega (arith, r .keeps .1);
+          few-values = omega (arith, r .keeps .2);
+        }
+    ready-body (function u e) r =
+        record {
+          table = table-here (function u e) r;
+          laid = record { stands = stands-here (function u e) r; cells = omega (arith, cells-E e, r .keeps .0); numbered = numbers-body (classesBy t) place xs (function u e) (r .numbered); aimed = r .aimed };
+          stood = stood (function u e) r;
+          room = room-here (function u e) r;
+          ending = omega (arith, entries-here (function u e) r, r .ending);
+          fits = fits-here (function u e) r;
+          deep = omega (arith, r .deep);
+          good = rw (body-scopes t xs) (r .good .0);
+          lands = tt;
+          few-holds = omega (arith, r .keeps .1);
+          few-values = omega (arith, r .keeps .2);
+        }
