@@ -1,16 +1,13 @@
 // The code of the root and of the procedures, one after the other.
-mod compile_walk;
-
 use compile_pen::Pen;
 ghost use mathlib.Core.Path.{_≡_};
 ghost use mathlib.Core.Bool.{true};
 ghost use Prim.Native.Nat.{_≤_};
 ghost use lib.ListN.{length};
-ghost use Rattle.language.specs.Limits.{locals};
+ghost use Rattle.language.specs.Limits.{locals, headHolds};
 ghost use Rattle.compile_pen.specs.Ink.{Fits};
 ghost use Rattle.compile_pen.specs.Folds.{penAfter, inked, within};
 ghost use Rattle.compile_known.specs.Tabled.{theTree, Headed};
-ghost use Rattle.compile_sight.specs.Marks.{openIn};
 ghost use Rattle.compile_whole.specs.Heads.{rootHead};
 ghost use Rattle.compile_whole.specs.Stage.{Prepared, lentOf};
 ghost use Rattle.compile_whole.specs.Declares.{holdsOf};
@@ -52,7 +49,7 @@ fn holds_of(kind: u16) -> usize
 // How many of them are holds.
 fn root_holds(table: &[u8], count: usize, sizes: &[u16]) -> usize
     requires { ⌜ Headed (now table) (now sizes) count ⌝ }
-    ensures { λ r. ⌜ r ≡ openIn (locals (theTree (now (table .entry)) .head)) ⌝ }
+    ensures { λ r. ⌜ r ≡ headHolds (locals (theTree (now (table .entry)) .head)) ⌝ }
 {
     let mut place = 1;
     let mut left = count;
@@ -192,7 +189,18 @@ fn global(
 {
     if words::half_at(part, 0) == 12 {
         return procedure(
-            table, part, at, sizes, env, top, known, aims, ends, stack, out, pen,
+            table,
+            part,
+            at,
+            sizes,
+            env,
+            top,
+            known,
+            aims,
+            ends,
+            stack,
+            out,
+            pen,
         );
     }
     pen
@@ -272,7 +280,18 @@ pub fn walk(
     ensures { λ r. ⌜ AnswersWalk (now (table .entry)) (lentOf (now (env .entry)) (now (ends .entry)) (now (stack .entry)) (now (out .entry))) (lentOf (now (env .exit)) (now (ends .exit)) (now (stack .exit)) (now (out .exit))) top pen r ⌝ }
 {
     let p = root(
-        table, count, after, sizes, env, top, known, aims, ends, stack, out, pen,
+        table,
+        count,
+        after,
+        sizes,
+        env,
+        top,
+        known,
+        aims,
+        ends,
+        stack,
+        out,
+        pen,
     );
     procedures(
         table,

@@ -110,9 +110,9 @@ small-operands [] h = tt
 small-operands (s ∷ ss) h = let a = h .0 .1 in (omega arith, small-operands ss (h .1))
 
 -- 8 + 11 a class + 262 a body + 8 an instruction + 261 a shape + 2, and no more shapes than instructions
-pub macro-small : (t : Tree) → Writable (compiled t) → length (macroOf t) < 2 ^ 62
+pub macro-most : (t : Tree) → Writable (compiled t) → length (macroOf t) ≤ 16954 + 269 * length (compiled t .code)
 unfolding macroOf
-macro-small t h =
+macro-most t h =
     let e = macro-length (compiled t) in
     let a = classes-short (length (compiled t .classes)) (compiled t .classes) (h .well-formed .classes-read) in
     let b = bodies-short (compiled t .bodies) (h .small-bodies) in
@@ -120,5 +120,7 @@ macro-small t h =
     let f = few-shapes t in
     let i = h .well-formed .few-classes in
     let j = h .well-formed .few-bodies in
-    let k = h .narrow .few-instructions in
     omega arith
+
+pub macro-small : (t : Tree) → Writable (compiled t) → length (macroOf t) < 2 ^ 62
+macro-small t h = let a = macro-most t h in let k = h .narrow .few-instructions in omega arith

@@ -1,20 +1,19 @@
 -- The number of a class by its name: the loop over the root's declarations.
 use mathlib.Core.Path.{_≡_, refl, ap, sym, _∙_}
-use mathlib.Core.Bool.{Bool, true, false}
+use mathlib.Core.Bool.{true, false}
 use mathlib.Core.List.{List, [], _∷_, _++_, map}
-use Prim.Native.Nat.{ℕ, zero, suc, _+_, _-_, _*_, _/_, _≤_, _<_}
+use Prim.Native.Nat.{ℕ, _+_, _-_, _*_, _/_, _≤_, _<_}
 use native.Mathlib.Omega.{arith}
 use lib.Dec.{eqb}
 use lib.ListN.{length, getD, length-append}
-use Rattle.words.specs.Choice.{if_then_else_}
 use Rattle.words.specs.Numbers.{halfAt}
-use Rattle.language.specs.Tree.{Decl, declare, holding, Global, local, class, procedure, Tree}
-use Rattle.language.specs.Table.{Entry, entry, flatTyped, flatDecl, flatItems, flatBody, flatGlobal, flatHead, flatten}
+use Rattle.language.specs.Tree.{declare, holding, Global, local, class, procedure, Tree}
+use Rattle.language.specs.Table.{Entry, flatTyped, flatDecl, flatItems, flatBody, flatGlobal, flatHead, flatten}
 use Rattle.programs.specs.Basics.{clash}
 use Rattle.programs.specs.Claims.{entriesOf}
-use Rattle.spans.specs.Stands.{Stands, Fields, fields, entryAt, length-entries}
+use Rattle.spans.specs.Stands.{Stands, fields, entryAt, length-entries}
 use Rattle.compile_code.specs.Compile.{indexOf, classesOf, classNames}
-use Rattle.compile_known.specs.Tabled.{Tabled, Headed, entries-few, classesIn, theTree, Within, Left, left-start, Next, next-global}
+use Rattle.compile_known.specs.Tabled.{Tabled, Headed, entries-few, classesIn, theTree, Within, Left, left-start, next-global}
 use Rattle.compile_known.specs.Entries.{oneIf, namesClass, one-few, index-small}
 
 -- the entry that stands at a place

@@ -1,32 +1,31 @@
 -- The numbers of entries, as the loops make them: each from what stands at its place and how many cells there were before.
-use mathlib.Core.Path.{_≡_, refl, ap, sym, _∙_}
+use mathlib.Core.Path.{_≡_, refl, sym, _∙_}
 use mathlib.Core.Bool.{Bool, true, false, _&&_}
 use mathlib.Core.Logic.{_⊎_, inl, inr}
-use mathlib.Core.List.{List, [], _∷_, _++_, map}
+use mathlib.Core.List.{List, [], _∷_, _++_}
 use mathlib.Core.Option.{Option·getD}
-use Prim.Native.Nat.{ℕ, zero, suc, _+_, _-_, _*_, _/_, _%_, _≤_, _<_}
+use Prim.Native.Nat.{ℕ, suc, _+_, _-_, _*_, _/_, _%_, _≤_, _<_}
 use native.Mathlib.Omega.{arith}
 use native.Mathlib.Numerals.{add-one}
 use native.Mathlib.Nat.{add-zero, add-suc, suc-add}
-use lib.Dec.{eqb, ltb}
-use lib.IntN.{ℤ, pos, natAbs}
-use lib.ListN.{length, drop, getD, set, length-set}
+use lib.Dec.{eqb}
+use lib.IntN.{natAbs}
+use lib.ListN.{length, getD, set, length-set}
 use lib.Seq.{sets}
 use borrow.Author.Tests.{eq-eqb, ne-eqb, lt-ltb, le-ltb}
 use Rattle.words.specs.Choice.{if_then_else_}
 use Rattle.words.specs.Numbers.{halfAt, wordAt, integerOf, wordOf}
 use Rattle.words.specs.Laws.{four, number-below, word-back}
 use Rattle.values.specs.Types.{Ty, integer, logical, bits, reference, tyCode}
-use Rattle.language.specs.Tree.{Typed}
-use Rattle.language.specs.Table.{Entry, entry, inLayout, isSome, tyOfCode, natural, flatTyped}
+use Rattle.language.specs.Table.{Entry, entry, inLayout, isSome, tyOfCode, natural}
 use Rattle.programs.specs.Basics.{both-left, both-right}
 use Rattle.programs.specs.Claims.{entriesOf}
-use Rattle.programs.specs.Codes.{Coded, type-coded, natural-pos}
+use Rattle.programs.specs.Codes.{type-coded, natural-pos}
 use Rattle.spans.specs.Stands.{entryAt, field-number}
 use Rattle.heads.specs.Sees.{Legible}
 use Rattle.compile_code.specs.Compile.{indexOf}
 use Rattle.compile_known.specs.declared.Numbers.{Numbers}
-use Rattle.compile_known.specs.Numbers.{packed, byteOf, cellsOf, numberOf, numbersFrom, numbersFields}
+use Rattle.compile_known.specs.Numbers.{packed, byteOf, cellsOf, numberOf}
 use Rattle.compile_known.specs.Tabled.{Within, between, partAt, between-entry, between-none, layout-at}
 
 -- ── definitions ──

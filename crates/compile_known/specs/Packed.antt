@@ -1,6 +1,6 @@
 -- Laws of one number of three: what was put in is taken out again.
-use mathlib.Core.Path.{_≡_, refl, ap, sym, _∙_}
-use Prim.Native.Nat.{ℕ, zero, suc, _+_, _*_, _/_, _%_, _≤_, _<_}
+use mathlib.Core.Path.{_≡_}
+use Prim.Native.Nat.{ℕ, _<_}
 use native.Mathlib.Omega.{arith}
 use Rattle.compile_known.specs.Numbers.{packed, typeIn, firstIn, secondIn}
 

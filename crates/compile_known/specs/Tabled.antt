@@ -2,7 +2,7 @@
 use mathlib.Core.Path.{_≡_, refl, ap, sym, _∙_}
 use mathlib.Core.Bool.{true}
 use mathlib.Core.List.{List, [], _∷_, _++_, map, append-nil, append-assoc}
-use Prim.Native.Nat.{ℕ, zero, suc, _+_, _-_, _*_, _/_, _%_, _≤_, _<_}
+use Prim.Native.Nat.{ℕ, suc, _+_, _-_, _*_, _/_, _%_, _≤_, _<_}
 use native.Mathlib.Omega.{arith}
 use lib.Dec.{leb}
 use lib.IntN.{pos}
@@ -10,13 +10,12 @@ use lib.ListN.{length, take, drop, getD, length-append, length-drop}
 use lib.Seq.{take-at, drop-at, drop-drop}
 use borrow.Author.Tests.{leb-true}
 use Rattle.values.specs.Types.{integer, logical, bits, reference}
-use Rattle.language.specs.Tree.{Items, noItem, Body, proper, function, Global, local, class, procedure, Tree}
+use Rattle.language.specs.Tree.{noItem, Body, proper, function, Global, local, class, procedure, Tree}
 use Rattle.language.specs.Table.{Entry, entry, inLayout, flatTyped, flatItems, flatBody, flatGlobal, flatHead, flatten, resultCode, Read, took, stop, first, formRoot}
 use Rattle.language.specs.Judge.{all}
 use Rattle.programs.specs.Basics.{both-left}
 use Rattle.programs.specs.Claims.{entriesOf, Readable}
 use Rattle.programs.specs.Programs.{read-flatten}
-use Rattle.spans.specs.Spans.{Spans}
 use Rattle.spans.specs.Stands.{Stands, length-entries, entryAt, entry-here}
 use Rattle.spans.specs.Sizes.{Known}
 use Rattle.heads.specs.Trees.{Heads, spans-Global}

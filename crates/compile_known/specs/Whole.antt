@@ -1,27 +1,24 @@
 -- The numbers of a whole table: the loop over the root's declarations, and what it comes to for the tree.
 use mathlib.Core.Path.{_≡_, refl, ap, sym, _∙_}
-use mathlib.Core.Bool.{Bool, true, false}
-use mathlib.Core.List.{List, [], _∷_, _++_, map}
-use Prim.Native.Nat.{ℕ, zero, suc, _+_, _-_, _*_, _/_, _%_, _≤_, _<_}
+use mathlib.Core.List.{List, [], _∷_, _++_, map, append-assoc}
+use Prim.Native.Nat.{ℕ, suc, _+_, _-_, _*_, _/_, _%_, _≤_, _<_}
 use native.Mathlib.Omega.{arith}
 use native.Mathlib.Numerals.{add-one}
 use native.Mathlib.Nat.{add-zero}
-use lib.Dec.{eqb}
-use lib.IntN.{pos, natAbs}
-use lib.ListN.{length, drop, getD, length-append, length-drop}
-use lib.Seq.{sets, length-sets, take-all}
-use Rattle.words.specs.Choice.{if_then_else_}
+use lib.IntN.{natAbs}
+use lib.ListN.{length, take, drop, getD, length-append, length-drop}
+use lib.Seq.{sets, length-sets, sets-eq, take-all, drop-at, length-take-le}
 use Rattle.words.specs.Numbers.{halfAt}
-use Rattle.language.specs.Tree.{Typed, Decl, declare, holding, Body, Global, local, class, procedure, Tree}
-use Rattle.language.specs.Table.{Entry, entry, flatTyped, flatDecl, flatItems, flatBody, flatGlobal, flatHead, flatten, resultCode}
+use Rattle.language.specs.Tree.{Typed, declare, holding, Global, local, class, procedure, Tree}
+use Rattle.language.specs.Table.{Entry, flatTyped, flatDecl, flatItems, flatBody, flatGlobal, flatHead, flatten, resultCode}
 use Rattle.language.specs.Limits.{locals, headCells}
 use Rattle.programs.specs.Claims.{entriesOf}
-use Rattle.spans.specs.Stands.{Fields, fields, length-entries}
+use Rattle.spans.specs.Stands.{fields, length-entries}
 use Rattle.heads.specs.Trees.{Heads}
-use Rattle.compile_code.specs.Compile.{classesOf, procsOf}
+use Rattle.compile_code.specs.Compile.{classesOf, classNames, procsOf}
 use Rattle.compile_known.specs.declared.Numbers.{Numbers}
 use Rattle.compile_known.specs.Numbers.{packed, byteOf, cellsOf, numberOf, numbersFrom, numbersFields, numbersGlobals, numbersOf}
-use Rattle.compile_known.specs.Tabled.{Tabled, Headed, theTree, the-tree, classesIn, Within, between, partAt, Left, left-start, Next, next-global, heads-here}
+use Rattle.compile_known.specs.Tabled.{Tabled, Headed, theTree, classesIn, Within, between, partAt, Left, left-start, Next, next-global, heads-here}
 use Rattle.compile_known.specs.Entries.{oneIf, cellsOfKind, cells-few, one-few, numbersOwned, numbersGlobal, Counts, sets-append}
 use Rattle.compile_known.specs.Classes.{left-within, none-left}
 
@@ -113,7 +110,7 @@ pub record NumbersSoFar (l old new : List ℕ) (place left : ℕ) (n : Numbers) 
   pub few-classes : n .classes ≤ place
   pub few-bodies : n .bodies ≤ place
 
-table-some : {l sizes : List ℕ} {count : ℕ} → Headed l sizes count → 1 ≤ length l / 8
+pub table-some : {l sizes : List ℕ} {count : ℕ} → Headed l sizes count → 1 ≤ length l / 8
 unfolding flatten
 table-some {l} h = let e = ap length (h .tabled .same) in omega (arith, length-entries (length l / 8) l)
 
@@ -188,3 +185,32 @@ module _ {l sizes old new : List ℕ} {place left : ℕ} {n : Numbers} (h : Tabl
         classes = rw (z, add-zero) at (s .classes);
         bodies = rw (z, add-zero) at (s .bodies);
       }
+
+-- ── they stand after the root's ──
+module _ (cs : List ℕ) (f : ℕ → List ℕ) (m : ℕ) (long : (n : ℕ) → length (f n) ≡ m) where
+  length-globals : (n k b : ℕ) (gs : List Global) → length (numbersGlobals cs n k b gs f) ≡ length (flatHead gs) + m
+  unfolding numbersGlobals flatHead flatGlobal
+  length-globals n k b [] = omega (arith, long n)
+  length-globals n k b (local d ∷ gs) = omega (arith, length-globals (n + cellsOf (flatDecl d)) k b gs)
+  length-globals n k b (class c xs ∷ gs) =
+      let us = numbersGlobals cs n (suc k) b gs f in
+      omega (arith, length-globals n (suc k) b gs, length-append (numbersFields cs k 0 xs) us, ap length (owned-fields cs k 0 xs), length-owned cs k 0 (map flatTyped xs), length-append (map flatTyped xs) (flatHead gs))
+  length-globals n k b (procedure a xs d ∷ gs) =
+      let es = map flatTyped xs ++ flatBody d in
+      let us = numbersGlobals cs n k (suc b) gs f in
+      omega (arith, length-globals n k (suc b) gs, length-append (numbersFrom cs 0 es) us, ap length (owned-body cs 0 es), length-owned cs 0 0 es, length-append es (flatHead gs))
+
+pub length-numbers : (t : Tree) → length (numbersOf t) ≡ length (flatHead (t .head)) + length (flatItems (t .items))
+length-numbers t =
+    let cs = classNames (classesOf (t .head)) in let es = flatItems (t .items) in
+    length-globals cs (λ n. numbersFrom cs n es) (length es) (λ n. ap length (owned-body cs n es) ∙ length-owned cs 0 n es) 0 0 1 (t .head)
+
+pub numbers-lie : {l sizes new : List ℕ} (old : List ℕ) (t : Tree) → Tabled l sizes t → length l / 8 ≤ length old → new ≡ sets old 1 (numbersOf t) → drop 1 new ≡ numbersOf t ++ drop (1 + length (numbersOf t)) old
+unfolding flatten
+numbers-lie {l} {sizes} {new} old t h w e =
+    let us = numbersOf t in
+    let n = length-numbers t in
+    let m = length-append (flatHead (t .head)) (flatItems (t .items)) in
+    let k : 1 + length us ≤ length old = omega (arith, ap length (h .same), length-entries (length l / 8) l) in
+    ap (λ (x : List ℕ). drop 1 x) (e ∙ (sets-eq us old 1 k ∙ append-assoc (take 1 old) us (drop (1 + length us) old)))
+    ∙ drop-at (take 1 old) (us ++ drop (1 + length us) old) 1 (length-take-le 1 old (omega arith))

@@ -140,7 +140,7 @@ module _ (part : List ℕ) (count i : ℕ) (p : Pen) (h : i < count) where
   pub inks-step : (known : List ℕ) (at : ℕ) (l : List ℕ)
       → inksHead (drop (8 * i) part) known (at + i) (count - i) p l
       ≡ inksHead (drop (8 * (i + 1)) part) known (at + (i + 1)) (count - (i + 1)) (penDeclared (halfAt (drop (8 * i) part) 0) p)
-          (inkDeclared (halfAt (drop (8 * i) part) 0) (halfAt (drop (8 * i) part) 2) (getD known (at + i) 0) p l)
+      (inkDeclared (halfAt (drop (8 * i) part) 0) (halfAt (drop (8 * i) part) 2) (getD known (at + i) 0) p l)
   unfolding inksHead
   inks-step known at l =
       let k : at + i + 1 ≡ at + (i + 1) = omega arith in

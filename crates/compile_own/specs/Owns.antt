@@ -45,6 +45,18 @@ inkLeaf k b known p l =
 unfoldable pub leafType : ℕ → ℕ → ℕ
 leafType k known = if eqb k 40 then 1 else if eqb k 41 then 2 else if eqb k 42 then 3 else typeIn known
 
+-- the expressions below an entry that has no other operands
+unfoldable pub operandsBy : ℕ → ℕ → ℕ
+operandsBy k b =
+    if eqb k 26 then 1 else
+    if eqb k 27 then b else
+    if eqb k 28 then 2 else
+    if eqb k 45 then b else
+    if eqb k 46 then 1 else
+    if eqb k 47 then b else
+    if eqb k 48 then 1 else
+    if eqb k 51 then 1 else 0
+
 -- the instruction of an entry with expressions only below it
 unfoldable pub inkLast : ℕ → ℕ → ℕ → Pen → List ℕ → List ℕ
 inkLast k a known p l =
@@ -126,7 +138,7 @@ unfoldable pub inkBehind : ℕ → ℕ → ℕ → ℕ → List ℕ → ℕ → 
 inkBehind w o end h st d p l =
     if eqb w 2
     then (let q = penShaped d (moved p) in
-      inkShape (moved q) (inkOp q (inkShape (moved p) (inkOp p l 8 0 (end + 2)) h d (take d st)) 2 0 0) h (d + 1) (take (d + 1) st))
+    inkShape (moved q) (inkOp q (inkShape (moved p) (inkOp p l 8 0 (end + 2)) h d (take d st)) 2 0 0) h (d + 1) (take (d + 1) st))
     else if eqb w 3 then inkShape p l h (d + 1) (take (d + 1) st) else inkOp p l 7 (o % 256) 0
 
 unfoldable pub pairType : ℕ → ℕ → ℕ

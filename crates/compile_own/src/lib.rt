@@ -11,7 +11,7 @@ ghost use Rattle.scopes.specs.Environment.{envOf, Grown};
 ghost use Rattle.compile_known.specs.Numbers.{typeIn, firstIn, secondIn};
 ghost use Rattle.compile_known.specs.Meaning.{meaningOf};
 ghost use Rattle.compile_pen.specs.Ink.{moved, penShaped, inkOp, Fits};
-ghost use Rattle.compile_own.specs.Owns.{names, knownFor, ownerBy, inkLeaf, leafType, inkLast, lastType, inkInitial, penDeclared, inkDeclared, pensHead, inksHead, finishes, holdsBy, holdsHead, wayBy, waitingBy, penBetween, inkBetween, penBehind, inkBehind, pairType, penBefore, inkBefore, penBehindArm, inkBehindArm, penGoto, inkGoto};
+ghost use Rattle.compile_own.specs.Owns.{names, knownFor, ownerBy, inkLeaf, leafType, operandsBy, inkLast, lastType, inkInitial, penDeclared, inkDeclared, pensHead, inksHead, finishes, holdsBy, holdsHead, wayBy, waitingBy, penBetween, inkBetween, penBehind, inkBehind, pairType, penBefore, inkBefore, penBehindArm, inkBehindArm, penGoto, inkGoto};
 ghost use Rattle.compile_sight.specs.Marks.{marks};
 ghost use Rattle.compile_nodes.specs.Knows.{passedTo};
 
@@ -95,6 +95,23 @@ pub fn leaf_type(kind: u16, known: u32) -> u8
         41 => 2,
         42 => 3,
         _ => compile_known::type_in(known),
+    }
+}
+
+// The expressions below an entry that has no other operands.
+pub fn operands_of(kind: u16, b: u32) -> usize
+    ensures { λ r. ⌜ r ≡ operandsBy kind b ⌝ }
+{
+    match kind {
+        26 => 1,
+        27 => b as usize,
+        28 => 2,
+        45 => b as usize,
+        46 => 1,
+        47 => b as usize,
+        48 => 1,
+        51 => 1,
+        _ => 0,
     }
 }
 
@@ -363,14 +380,7 @@ pub fn before_arm(cell: u32, i: usize, end: u32, out: &mut [u8], p: Pen) -> Pen
 }
 
 // Behind it; `end` is where the case ends.
-pub fn after_arm(
-    end: u32,
-    holds: usize,
-    stack: &[u8],
-    depth: usize,
-    out: &mut [u8],
-    p: Pen,
-) -> Pen
+pub fn after_arm(end: u32, holds: usize, stack: &[u8], depth: usize, out: &mut [u8], p: Pen) -> Pen
     requires { ⌜ (depth ≤ length (now stack)) × (depth < 256) × (holds < 256) × Fits (penBehindArm depth p) (length (now out)) ⌝ }
     ensures { λ r. ⌜ (r ≡ penBehindArm depth p) × (now (out .exit) ≡ inkBehindArm end holds (now (stack .entry)) depth p (now (out .entry))) ⌝ }
 {

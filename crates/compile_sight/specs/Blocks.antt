@@ -1,17 +1,15 @@
 -- Entering a block or a block expression, and its labels: one law for both, by the mark that it begins with.
-use mathlib.Core.Path.{_≡_, refl, ap, sym, _∙_, subst}
+use mathlib.Core.Path.{_≡_, refl, ap, sym, _∙_}
 use mathlib.Core.Bool.{Bool, true, false}
 use mathlib.Core.List.{List, [], _∷_, _++_, map}
-use Prim.Native.Nat.{ℕ, zero, suc, _+_, _≤_, _<_}
-use native.Mathlib.Omega.{arith}
-use lib.Dec.{eqb, ltb}
+use Prim.Native.Nat.{ℕ, suc, _+_, _≤_, _<_}
+use lib.Dec.{eqb}
 use lib.ListN.{length, getD}
 use borrow.Author.Tests.{lt-ltb}
-use Rattle.words.specs.Choice.{if_then_else_}
 use Rattle.values.specs.Types.{Ty}
 use Rattle.language.specs.Tree.{Decl, Items, countItems}
 use Rattle.language.specs.Table.{flatDecl, flatItems}
-use Rattle.language.specs.Names.{Sort, definesHead, definesItems, Scope, nowhere, found, firstOf, otherwise, lookup}
+use Rattle.language.specs.Names.{definesHead, definesItems, Scope, nowhere, found, firstOf, otherwise, lookup}
 use Rattle.language.specs.Names as names
 use Rattle.programs.specs.Claims.{entriesOf}
 use Rattle.spans.specs.Stands.{Stands}
@@ -19,7 +17,7 @@ use Rattle.heads.specs.Items.{itemsAt, labelsFrom, blockItems}
 use Rattle.heads.specs.Defines.{headItems, labelItems, head-items, label-items, heads-stand, items-stand, items-small, labels-small}
 use Rattle.heads.specs.Sees.{Legible}
 use Rattle.compile_code.specs.Code.{At, at}
-use Rattle.compile_code.specs.Compile.{Around, inside, bound, labels, scopesOf, boundAt, globalAt, cellOf, passing, theLabels, hasLabel, sizeGoto, labelAt, classesOf, classNames}
+use Rattle.compile_code.specs.Compile.{Around, inside, bound, labels, scopesOf, boundAt, globalAt, cellOf, passing, hasLabel, sizeGoto, classesOf, classNames}
 use Rattle.compile_names.specs.Good.{goodHead}
 use Rattle.compile_names.specs.Known.{ofBlock, first-append, nothing}
 use Rattle.compile_known.specs.Numbers.{numbersFrom, cellsWithin}
@@ -30,9 +28,9 @@ use Rattle.scopes.specs.Environment as env
 use Rattle.scopes.specs.Laws.{firstIn, orOuter, Small, small-append, find-block}
 use Rattle.compile_nodes.specs.Ends.{aroundHead, atHead, endsItems}
 use Rattle.compile_nodes.specs.Knows.{Lies, Walk, MeansLabel, Means, Known, Knows, Lands, passedTo, targetOf}
-use Rattle.compile_sight.specs.Marks.{openIn, marks, find-marks, passed-marks, passed-mark, passed-others, passed-here}
-use Rattle.compile_sight.specs.Means.{Both, both-or, in-append, knows-inside}
-use Rattle.compile_sight.specs.Heads.{entering, around-block, scopes-entering, past-entering, Bytes, head-means, labels-mean, isDef, has-first, label-aim}
+use Rattle.compile_sight.specs.Marks.{openIn, marks, passed-mark, passed-others, passed-here}
+use Rattle.compile_sight.specs.Means.{both-or, in-append, knows-inside}
+use Rattle.compile_sight.specs.Heads.{entering, around-block, scopes-entering, past-entering, Bytes, head-means, labels-mean, has-first, label-aim}
 
 -- the names in sight within a block or block expression at a place: a mark for each hold of its head, the mark that it begins with, its names
 abbrev pub within : ℕ → List ℕ → ℕ → List Decl → Items → List Item → List Item
@@ -58,7 +56,8 @@ module _ {l : List ℕ} (legible : Legible l) (place : ℕ) (ds : List Decl) (is
   items-are = rw (head-items legible 4 place ds (heads-stand legible place ds is h), label-items legible (place + length ds) is (items-stand legible place ds is h) .1)
 
   pub items-are-small : Small (headItems 4 place ds ++ labelItems (place + length ds) is)
-  items-are-small = rw items-are at (small-append (itemsAt 4 l place (length ds)) (labelsFrom l (place + length ds) (countItems is)) (items-small legible 4 place (length ds)) (labels-small legible (place + length ds) (countItems is)))
+  items-are-small = rw items-are at (small-append (itemsAt 4 l place (length ds)) (labelsFrom l (place + length ds) (countItems is)) (items-small legible 4 place (length ds))
+      (labels-small legible (place + length ds) (countItems is)))
 
 -- ── what names stand for ──
 head-nowhere : (a : ℕ) (ds : List Decl) (is : Items) → firstOf a (definesHead ds ++ definesItems is) ≡ nowhere → firstOf a (definesHead ds) ≡ nowhere
@@ -85,25 +84,30 @@ module _ {W : Walk} {v : List Item} {Γ : List Around} (known : Knows W v Γ) (k
       (λ a. ap (lookup a) (scopes-value s ds Γ p) ∙ looks (scopesOf Γ) a) goes
       (λ a e. ap (cellOf a) (around-block ds (inside s ∷ Γ) p) ∙ past-entering ofBlock a ds (p .cell) (inside s ∷ Γ) (head-nowhere a ds is e) ∙ inside-look a s Γ)
       (λ a. rw (in-append a (headItems 4 place ds) (labelItems (place + length ds) is), first-append a (definesHead ds) (definesItems is), around-block ds (inside s ∷ Γ) p)
-        (both-or (λ q t. Means W (entering ofBlock ds (p .cell) (inside s ∷ Γ)) a q t)
-          (firstIn a (headItems 4 place ds)) (firstIn a (labelItems (place + length ds) is)) (firstOf a (definesHead ds)) (firstOf a (definesItems is))
-          (head-means W a ds place (p .cell) (inside s ∷ Γ) (s ∷ scopesOf Γ) [] good bytes lies few)
-          (labels-mean W a (place + length ds) is (entering ofBlock ds (p .cell) (inside s ∷ Γ)))))
+      (both-or (λ q t. Means W (entering ofBlock ds (p .cell) (inside s ∷ Γ)) a q t)
+      (firstIn a (headItems 4 place ds)) (firstIn a (labelItems (place + length ds) is)) (firstOf a (definesHead ds)) (firstOf a (definesItems is))
+      (head-means W a ds place (p .cell) (inside s ∷ Γ) (s ∷ scopesOf Γ) [] good bytes lies few)
+      (labels-mean W a (place + length ds) is (entering ofBlock ds (p .cell) (inside s ∷ Γ)))))
 
 -- ── where a goto lands ──
 abbrev pub NoLabel : List Item → Type 0
 NoLabel hs = (a s n q : ℕ) (w : Bool) → firstIn a hs ≡ Def s n q w → s ≡ 5 → ⊥
 
 abbrev pub LandsOuter : Walk → ℕ → List Item → List Around → Type 0
-LandsOuter W k u Δ = (a n q : ℕ) → a < 65536 → env.passing (eqb k shut) (find a u) ≡ Def 5 n q false → (suc (passedTo a u) ≡ sizeGoto (passing Δ) a) × (W .dry ≡ false → getD (W .aims) q 0 ≡ targetOf Δ a)
+LandsOuter W k u Δ =
+    (a n q : ℕ) → a < 65536 → env.passing (eqb k shut) (find a u) ≡ Def 5 n q false
+    → (suc (passedTo a u) ≡ sizeGoto (passing Δ) a) × (W .dry ≡ false → getD (W .aims) q 0 ≡ targetOf Δ a)
 
 module _ (W : Walk) (k : ℕ) (hs : List Item) (place : ℕ) (is : Items) (u : List Item) (Δ : List Around) (st : List Ty) (x : At) where
   pub lands-within : 65535 < k → k < 65539 → Small (hs ++ labelItems place is) → NoLabel hs
       → (W .dry ≡ false → Lies (W .aims) place (endsItems (W .globals) is (labels is (x .address) ∷ Δ) st x)) → LandsOuter W k u Δ
       → Lands W (addAll (hs ++ labelItems place is) (env.item k 0 0 0 ∷ u)) (labels is (x .address) ∷ Δ)
   unfolding passing sizeGoto targetOf scopesOf here
-  lands-within mark low small none aimed outer = record { lands = λ a n q z e.
-      go a n q z (firstIn a hs) refl (firstIn a (labelItems place is)) refl (sym (find-block a z k (hs ++ labelItems place is) u mark small ∙ ap (λ f. orOuter f (env.passing (eqb k shut) (find a u))) (in-append a hs (labelItems place is))) ∙ e) }
+  lands-within mark low small none aimed outer = record {
+    lands = λ a n q z e.
+        go a n q z (firstIn a hs) refl (firstIn a (labelItems place is)) refl
+        (sym (find-block a z k (hs ++ labelItems place is) u mark small ∙ ap (λ f. orOuter f (env.passing (eqb k shut) (find a u))) (in-append a hs (labelItems place is))) ∙ e);
+  }
     where
       js : List Item
       js = hs ++ labelItems place is

@@ -1,9 +1,9 @@
 -- The variables of a head and the labels of a block: the items that are pushed for them stand for what the definition of the code finds.
 use mathlib.Core.Path.{_≡_, refl, ap, sym, _∙_, subst}
-use mathlib.Core.Bool.{Bool, true, false, _||_}
-use mathlib.Core.List.{List, [], _∷_, _++_, map}
-use mathlib.Core.Option.{Option, none, some}
-use Prim.Native.Nat.{ℕ, zero, suc, _+_, _-_, _≤_, _<_}
+use mathlib.Core.Bool.{Bool, true, false}
+use mathlib.Core.List.{List, [], _∷_, map}
+use mathlib.Core.Option.{none, some}
+use Prim.Native.Nat.{ℕ, suc, _+_, _-_, _≤_, _<_}
 use native.Mathlib.Omega.{arith}
 use native.Mathlib.Nat.{add-zero}
 use native.Mathlib.Numerals.{add-one}
@@ -15,7 +15,7 @@ use Rattle.words.specs.Choice.{if_then_else_}
 use Rattle.values.specs.Types.{Ty, integer, logical, bits, reference, tyCode, tyByte}
 use Rattle.language.specs.Tree.{Typed, Decl, declare, holding, Items, noItem, label, item, Global}
 use Rattle.language.specs.Table.{Entry, entry, inLayout, isSome, flatTyped, flatDecl}
-use Rattle.language.specs.Names.{Sort, isVariable, isLabel, isClass, isField, isProcedure, Definition, definesTyped, definesHead, definesItems, Scope, blockOf, expressionOf, procedureOf, nowhere, found, firstOf, otherwise, across, lookup}
+use Rattle.language.specs.Names.{isVariable, isLabel, isClass, definesTyped, definesHead, definesItems, Scope, blockOf, expressionOf, nowhere, found, firstOf, across, lookup}
 use Rattle.language.specs.Names as names
 use Rattle.language.specs.Faults.{among, sizeS}
 use Rattle.programs.specs.Basics.{clash}
@@ -24,21 +24,20 @@ use Rattle.spans.specs.Stands.{Stands, stands-tail}
 use Rattle.heads.specs.Defines.{headItems, labelItems}
 use Rattle.heads.specs.Sees.{Legible, Sees, Agrees}
 use Rattle.bytecode.specs.Instructions.{Owner, own, root}
-use Rattle.loading.specs.Tests.{never}
 use Rattle.compile_code.specs.Code.{At, at, skip, after}
-use Rattle.compile_code.specs.Compile.{Around, inside, outermost, bound, global, held, labels, scopesOf, boundAt, globalAt, kept, cellOf, passing, aHold, theLabels, hasLabel, sizeGoto, opsS, labelAt, codeS, tyIn, numbered, indexOf, classNumber, classesOf, classNames}
+use Rattle.compile_code.specs.Compile.{Around, bound, global, held, scopesOf, kept, cellOf, passing, hasLabel, sizeGoto, labelAt, codeS, tyIn, numbered, classNumber, classesOf, classNames}
 use Rattle.compile_code.specs.Encode.{ownerCode, rootVariables, parameterCells}
 use Rattle.compile_simulation.specs.Sizes.{lenS}
-use Rattle.compile_names.specs.Good.{goodTy, goodTyped, goodHead}
+use Rattle.compile_names.specs.Good.{goodTy, goodHead}
 use Rattle.compile_names.specs.Globals.{eqb-comm}
 use Rattle.compile_names.specs.Known.{Style, ofBlock, ofRoot, ofShared, Entered, entered-scopes, entered-past, bound-look, not-again, or-left, outer, uncross, nothing}
-use Rattle.compile_known.specs.Numbers.{packed, byteOf, numberOf, numbersFrom, cellsOf, cellsWithin}
+use Rattle.compile_known.specs.Numbers.{packed, numberOf, numbersFrom, cellsWithin}
 use Rattle.scopes.specs.declared.Found.{Found}
 use Rattle.scopes.specs.declared.Found.the-variants.{Nothing, Def}
 use Rattle.scopes.specs.Environment.{Item, find}
 use Rattle.scopes.specs.Environment as env
 use Rattle.scopes.specs.Laws.{firstIn}
-use Rattle.compile_nodes.specs.Ends.{aroundHead, atHead, belowS, endsItems}
+use Rattle.compile_nodes.specs.Ends.{aroundHead, belowS, endsItems}
 use Rattle.compile_nodes.specs.Knows.{Lies, Walk, MeansCell, MeansClass, Means, Known, Knows, targetOf}
 use Rattle.compile_sight.specs.Lies.{lies-tail, lies-here, lies-right}
 use Rattle.compile_sight.specs.Lengths.{length-below}
@@ -183,8 +182,15 @@ module _ (W : Walk) (a : ℕ) where
   pub cell-means : (Γ : List Around) (q n : ℕ) (x : Typed) → cellOf a Γ ≡ some (kept own n) → getD (W .known) q 0 ≡ numberOf Names 0 n (flatTyped x)
       → tyByte (tyIn (W .globals) (x .type)) < 256 → n < 32 → MeansCell W Γ a q (x .type)
   cell-means Γ q n x f g t c = record {
-    owner = own; cell = n; whose = 0; found = f; number = g ∙ number-typed Names 0 n x;
-    owned = owned-here (W .within); small-type = t; small-whose = omega arith; small-cell = omega arith;
+    owner = own;
+    cell = n;
+    whose = 0;
+    found = f;
+    number = g ∙ number-typed Names 0 n x;
+    owned = owned-here (W .within);
+    small-type = t;
+    small-whose = omega arith;
+    small-cell = omega arith;
   }
 
   pub head-means : (ds : List Decl) (p n : ℕ) (Γ : List Around) (ss : List Scope) (seen : List ℕ) → goodHead ss seen ds → Bytes (W .globals) ds
@@ -220,14 +226,16 @@ module _ (W : Walk) (a : ℕ) where
           → Both (λ q t. Means W (bound (x .name) n ∷ parameterCells xs (suc n) Γ) a q t)
           (if t then Def 4 (tyCode (x .type)) p false else firstIn a (headItems 4 (suc p) (map declare xs))) (if t then found (isVariable (x .type)) false else firstOf a (definesTyped xs))
       pick true e r = cell-means (bound (x .name) n ∷ parameterCells xs (suc n) Γ) p n x (look true e) (lies-here _ _ k) (b .0) (omega arith)
-      pick false e r = both-moved W (parameterCells xs (suc n) Γ) (bound (x .name) n ∷ parameterCells xs (suc n) Γ) a (firstIn a (headItems 4 (suc p) (map declare xs))) (firstOf a (definesTyped xs)) (look false e) r
+      pick false e r = both-moved W (parameterCells xs (suc n) Γ) (bound (x .name) n ∷ parameterCells xs (suc n) Γ) a (firstIn a (headItems 4 (suc p) (map declare xs)))
+          (firstOf a (definesTyped xs)) (look false e) r
 
   pub past-parameters : (xs : List Typed) (n : ℕ) (Γ : List Around) → firstOf a (definesTyped xs) ≡ nowhere → cellOf a (parameterCells xs n Γ) ≡ cellOf a Γ
   unfolding definesTyped firstOf parameterCells
   past-parameters [] n Γ h = refl
   past-parameters (x ∷ xs) n Γ h = bound-look a (x .name) n (parameterCells xs (suc n) Γ) ∙ pick (eqb (x .name) a) h (λ k. past-parameters xs (suc n) Γ k)
     where
-      pick : (b : Bool) → (if b then found (isVariable (x .type)) false else firstOf a (definesTyped xs)) ≡ nowhere → (firstOf a (definesTyped xs) ≡ nowhere → cellOf a (parameterCells xs (suc n) Γ) ≡ cellOf a Γ)
+      pick : (b : Bool) → (if b then found (isVariable (x .type)) false else firstOf a (definesTyped xs)) ≡ nowhere
+          → (firstOf a (definesTyped xs) ≡ nowhere → cellOf a (parameterCells xs (suc n) Γ) ≡ cellOf a Γ)
           → (if b then some (kept own n) else cellOf a (parameterCells xs (suc n) Γ)) ≡ cellOf a Γ
       pick true k f = nothing (isVariable (x .type)) false (sym k)
       pick false k f = f k
@@ -281,7 +289,7 @@ module _ (a : ℕ) where
   pub size-head : (ds : List Decl) (Γ : List Around) (p : At) → sizeGoto (passing (aroundHead bound ds Γ p)) a ≡ openIn ds + sizeGoto (passing Γ) a
   unfolding aroundHead passing sizeGoto openIn
   size-head [] Γ p = omega arith
-  size-head (declare x ∷ ds) Γ p = size-head ds (bound (x .name) (p .cell) ∷ Γ) (at (suc (suc (p .address))) (suc (p .cell)))
+  size-head (declare x ∷ ds) Γ p = omega (arith, size-head ds (bound (x .name) (p .cell) ∷ Γ) (at (suc (suc (p .address))) (suc (p .cell))))
   size-head (holding g ∷ ds) Γ p = omega (arith, size-head ds (held g ∷ Γ) (skip 1 p))
 
   pub target-head : (ds : List Decl) (Γ : List Around) (p : At) → targetOf (aroundHead bound ds Γ p) a ≡ targetOf Γ a

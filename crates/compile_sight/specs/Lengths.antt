@@ -1,16 +1,15 @@
 -- There is an end, and a number, for each entry of a part.
-use mathlib.Core.Path.{_≡_, refl, ap, sym, _∙_}
-use mathlib.Core.List.{List, [], _∷_, _++_, map}
-use Prim.Native.Nat.{ℕ, zero, suc, _+_}
+use mathlib.Core.Path.{_≡_, refl, ap, _∙_}
+use mathlib.Core.List.{List, [], _∷_, _++_}
+use Prim.Native.Nat.{ℕ, suc, _+_}
 use native.Mathlib.Omega.{arith}
-use native.Mathlib.Nat.{add-assoc}
 use lib.ListN.{length, length-append}
 use Rattle.values.specs.Types.{Ty, logical}
 use Rattle.language.specs.Tree.{Decl, declare, holding, Stmt, block, assign, when, choose, while, goto, assert, call, setLevel, select, Items, noItem, label, item, Arms, lastArm, arm, Target, toVariable, toField, Expr, number, truth, pattern, null, variable, invoke, field, make, operate1, operate2, conditional, fader, blockExpr, Exprs, noExpr, expr, Global}
 use Rattle.language.specs.Table.{Entry}
 use Rattle.language.specs.Names.{blockOf, expressionOf}
 use Rattle.language.specs.Faults.{typeE, isTy, sizeS, sizeItems, sizeArms, sizeTarget, sizeE, sizeEs}
-use Rattle.compile_code.specs.Code.{Code, At, at, skip, after}
+use Rattle.compile_code.specs.Code.{At, at, skip, after}
 use Rattle.compile_code.specs.Compile.{Around, inside, bound, labels, scopesOf, wayOf, codeS, codeItems, codeTarget, codeE, tyE, tyTarget}
 use Rattle.compile_known.specs.Numbers.{numbersFrom, cellsOf, cellsWithin, numberOf}
 use Rattle.compile_nodes.specs.Ends.{aroundHead, atHead, endsHead, seconds, begins, belowS, endsItems, endsArms, endsTarget, belowE, endsEs}

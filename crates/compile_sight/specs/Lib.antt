@@ -7,3 +7,5 @@ pub mod Blocks
 pub mod RootHead
 pub mod Roots
 pub mod Sight
+pub mod Cells
+pub mod Onward

@@ -1,19 +1,17 @@
 -- The marks of open holds among the names in sight: a lookup goes past them, and a goto counts them.
-use mathlib.Core.Path.{_≡_, refl, ap, sym, _∙_}
+use mathlib.Core.Path.{_≡_, refl, sym, _∙_}
 use mathlib.Core.Bool.{Bool, true, false}
 use mathlib.Core.List.{List, [], _∷_, _++_}
-use Prim.Native.Nat.{ℕ, zero, suc, _+_, _<_, _≤_}
+use Prim.Native.Nat.{ℕ, zero, suc, _+_, _<_}
 use native.Mathlib.Omega.{arith}
 use lib.Dec.{eqb}
-use borrow.Author.Tests.{eq-eqb, ne-eqb, eqb-true, lt-ltb, le-ltb}
+use borrow.Author.Tests.{ne-eqb, eqb-true, le-ltb}
 use Rattle.words.specs.Choice.{if_then_else_}
 use Rattle.language.specs.Tree.{Decl, declare, holding}
-use Rattle.scopes.specs.declared.Found.{Found}
 use Rattle.scopes.specs.declared.Found.the-variants.{Nothing, Def}
-use Rattle.scopes.specs.Environment.{Item, item, nameOf, find, here, adding, addAll}
+use Rattle.scopes.specs.Environment.{Item, item, find, here, adding, addAll}
 use Rattle.scopes.specs.Laws.{firstIn, Small, past-mark, passing-none}
-use Rattle.loading.specs.Tests.{never}
-use Rattle.compile_code.specs.Compile.{Around, scopesOf}
+use Rattle.compile_code.specs.Compile.{Around}
 use Rattle.compile_nodes.specs.Knows.{holdMark, passedTo, Walk, Knows}
 use Rattle.heads.specs.Sees.{Sees}
 use Rattle.language.specs.Names.{Scope}

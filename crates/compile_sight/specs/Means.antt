@@ -1,27 +1,24 @@
 -- What a definition stands for, found among items and among definitions alike; kept where no nearer definition of the name comes between.
-use mathlib.Core.Path.{_≡_, refl, ap, sym, _∙_, subst}
+use mathlib.Core.Path.{_≡_, refl, ap, _∙_}
 use mathlib.Core.Bool.{Bool, true, false}
 use mathlib.Core.List.{List, [], _∷_, _++_}
-use mathlib.Core.Option.{Option, none, some}
-use Prim.Native.Nat.{ℕ, zero, suc, _+_, _-_, _≤_, _<_}
+use Prim.Native.Nat.{ℕ, suc, _+_, _-_, _≤_, _<_}
 use native.Mathlib.Omega.{arith}
-use lib.Dec.{eqb, ltb}
-use lib.ListN.{length, getD}
+use lib.Dec.{eqb}
+use lib.ListN.{length}
 use borrow.Author.Tests.{le-ltb}
 use Rattle.words.specs.Choice.{if_then_else_}
 use Rattle.values.specs.Types.{Ty, integer, logical, bits, reference, tyCode, tyByte}
-use Rattle.language.specs.Tree.{Items, Global}
-use Rattle.language.specs.Names.{Sort, isVariable, isLabel, isClass, isField, isProcedure, Definition, Scope, nowhere, found, firstOf, otherwise, across, lookup}
+use Rattle.language.specs.Tree.{Items}
+use Rattle.language.specs.Names.{Sort, isVariable, isLabel, isClass, isField, isProcedure, Definition, nowhere, found, firstOf, otherwise, across, lookup}
 use Rattle.language.specs.Names as names
-use Rattle.bytecode.specs.Instructions.{Owner, own, root}
-use Rattle.compile_code.specs.Compile.{Around, labels, scopesOf, boundAt, globalAt, kept, cellOf, tyIn, numbered, indexOf, Class, classesOf, classNames}
-use Rattle.compile_code.specs.Encode.{ownerCode}
-use Rattle.compile_known.specs.Numbers.{packed, byteOf}
+use Rattle.compile_code.specs.Compile.{Around, labels, scopesOf, boundAt, globalAt, cellOf, numbered, indexOf, Class, classNames}
+use Rattle.compile_known.specs.Numbers.{byteOf}
 use Rattle.scopes.specs.declared.Found.{Found}
 use Rattle.scopes.specs.declared.Found.the-variants.{Nothing, Def}
 use Rattle.scopes.specs.Environment.{Item, item, find, addAll, passing, opened, shut}
 use Rattle.scopes.specs.Laws.{firstIn, orOuter, Small, find-block}
-use Rattle.compile_nodes.specs.Knows.{Walk, MeansCell, MeansClass, MeansField, MeansBody, Means, Known, Knows}
+use Rattle.compile_nodes.specs.Knows.{Walk, Means, Known, Knows}
 
 -- ── both lookups find nothing, or both a definition that P holds of ──
 abbrev pub Both : (ℕ → Sort → Type 0) → Found → names.Found → Type 0
@@ -80,8 +77,15 @@ byte-small cs (reference c) h = omega (arith, index-most c cs)
 module _ (W : Walk) where
   pub means-moved : (Γ Δ : List Around) (a q : ℕ) → cellOf a Δ ≡ cellOf a Γ → (t : Sort) → Means W Γ a q t → Means W Δ a q t
   means-moved Γ Δ a q e (isVariable t) m = record {
-    owner = m .owner; cell = m .cell; whose = m .whose; found = e ∙ m .found; number = m .number;
-    owned = m .owned; small-type = m .small-type; small-whose = m .small-whose; small-cell = m .small-cell;
+    owner = m .owner;
+    cell = m .cell;
+    whose = m .whose;
+    found = e ∙ m .found;
+    number = m .number;
+    owned = m .owned;
+    small-type = m .small-type;
+    small-whose = m .small-whose;
+    small-cell = m .small-cell;
   }
   means-moved Γ Δ a q e isLabel m = tt
   means-moved Γ Δ a q e (isClass ts) m = m
@@ -124,8 +128,10 @@ module _ (W : Walk) where
   pub knows-root : {Δ : List Around} (is : List Item) (ds : List Definition) → Small is → ((a : ℕ) → lookup a (scopesOf Δ) ≡ otherwise (firstOf a ds) nowhere)
       → ((a : ℕ) → Both (λ q t. Means W Δ a q t) (firstIn a is) (firstOf a ds)) → Knows W (addAll is (item opened 0 0 0 ∷ [])) Δ
   unfolding find
-  knows-root {Δ} is ds small looks new = record { knows = λ a z.
-      rw (find-block a z opened is [] (omega arith) small, looks a) (known-or Δ a (firstIn a is) Nothing (firstOf a ds) nowhere (new a) (λ e. tt)) }
+  knows-root {Δ} is ds small looks new = record {
+    knows = λ a z.
+        rw (find-block a z opened is [] (omega arith) small, looks a) (known-or Δ a (firstIn a is) Nothing (firstOf a ds) nowhere (new a) (λ e. tt));
+  }
 
   -- within a block, a block expression or a procedure that begins with the mark k, and in it the definitions ds, which are pushed as is;
   -- `outside` is how a name that they lack is looked up
@@ -136,8 +142,10 @@ module _ (W : Walk) where
         → ((a : ℕ) → firstOf a ds ≡ nowhere → cellOf a Δ ≡ cellOf a Γ)
         → ((a : ℕ) → Both (λ q t. Means W Δ a q t) (firstIn a is) (firstOf a ds))
         → Knows W (addAll is (item k 0 0 0 ∷ v)) Δ
-    knows-inside mark small looks goes past new = record { knows = λ a z.
-        rw (find-block a z k is v mark small, looks a)
-        (known-or Δ a (firstIn a is) (passing (eqb k shut) (find a v)) (firstOf a ds) (outside (lookup a (scopesOf Γ))) (new a) (λ e.
+    knows-inside mark small looks goes past new = record {
+      knows = λ a z.
+          rw (find-block a z k is v mark small, looks a)
+          (known-or Δ a (firstIn a is) (passing (eqb k shut) (find a v)) (firstOf a ds) (outside (lookup a (scopesOf Γ))) (new a) (λ e.
           known-passing Δ a (find a v) (outside (lookup a (scopesOf Γ))) (eqb k shut)
-          (known-moved Γ Δ a (find a v) (outside (lookup a (scopesOf Γ))) (past a e) (goes a (find a v) (lookup a (scopesOf Γ)) (h .knows a z))))) }
+          (known-moved Γ Δ a (find a v) (outside (lookup a (scopesOf Γ))) (past a e) (goes a (find a v) (lookup a (scopesOf Γ)) (h .knows a z)))));
+    }

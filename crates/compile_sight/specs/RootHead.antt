@@ -1,10 +1,10 @@
 -- The root's head: its variables, classes, fields and procedures stand for what the definition of the code finds. One induction over the head, for
 -- the root's own body and for the bodies of its procedures.
-use mathlib.Core.Path.{_≡_, refl, ap, sym, _∙_, subst}
+use mathlib.Core.Path.{_≡_, refl, ap, sym, _∙_}
 use mathlib.Core.Bool.{Bool, true, false, _||_}
 use mathlib.Core.List.{List, [], _∷_, _++_, map}
-use mathlib.Core.Option.{Option, none, some}
-use Prim.Native.Nat.{ℕ, zero, suc, _+_, _-_, _*_, _≤_, _<_}
+use mathlib.Core.Option.{some}
+use Prim.Native.Nat.{ℕ, suc, _+_, _-_, _*_, _≤_, _<_}
 use native.Mathlib.Omega.{arith}
 use native.Mathlib.Nat.{add-zero, zero-add}
 use native.Mathlib.Numerals.{add-one}
@@ -14,11 +14,11 @@ use lib.ListN.{length, getD, length-append}
 use borrow.Author.Tests.{leb-true}
 use Rattle.words.specs.Choice.{if_then_else_}
 use Rattle.values.specs.Types.{Ty, integer, logical, bits, reference, tyCode, tyByte}
-use Rattle.language.specs.Tree.{Typed, Decl, declare, holding, Items, Body, proper, function, Global, local, class, procedure}
+use Rattle.language.specs.Tree.{Typed, declare, holding, Body, proper, function, Global, local, class, procedure}
 use Rattle.language.specs.Table.{entry, inLayout, flatTyped, flatDecl, flatBody, flatGlobal, flatHead, resultCode}
 use Rattle.language.specs.Names.{Sort, isVariable, isLabel, isClass, isField, isProcedure, types, results, definesHead, definesFields, definesGlobals, Scope, nowhere, found, firstOf, otherwise}
 use Rattle.language.specs.Names as names
-use Rattle.language.specs.Faults.{namesHead, namesTyped, namesGlobal, sizeBody, sizeGlobal}
+use Rattle.language.specs.Faults.{namesHead, namesTyped, sizeBody, sizeGlobal}
 use Rattle.language.specs.Limits.{headCells, locals}
 use Rattle.programs.specs.Basics.{both-right}
 use Rattle.programs.specs.Claims.{entriesOf}
@@ -27,23 +27,26 @@ use Rattle.heads.specs.Trees.{length-map, length-Body, length-Global, Heads}
 use Rattle.heads.specs.Sees.{Legible}
 use Rattle.heads.specs.Defines.{headItems}
 use Rattle.roots.specs.Globals.{itemsOf, globalItems, heads-here}
-use Rattle.compile_code.specs.Compile.{Around, kept, indexOf, amongNames, namesOf, Class, classesOf, classNames, Proc, procsOf, procNames, fieldIn, tyIn, numbered}
+use Rattle.compile_code.specs.Compile.{Around, kept, indexOf, amongNames, namesOf, Class, classesOf, classNames, Proc, procsOf, procNames, fieldIn, tyIn}
 use Rattle.compile_names.specs.Known.{Style, first-append, nothing}
 use Rattle.compile_names.specs.Globals.{goodGlobals, good-locals}
-use Rattle.compile_names.specs.Good.{goodHead}
-use Rattle.compile_known.specs.Numbers.{packed, byteOf, numbersFrom, numbersFields, numbersGlobals}
+use Rattle.compile_known.specs.Numbers.{packed, numbersFrom, numbersFields, numbersGlobals}
 use Rattle.scopes.specs.declared.Found.{Found}
 use Rattle.scopes.specs.declared.Found.the-variants.{Nothing, Def}
-use Rattle.scopes.specs.Environment.{Item, item}
 use Rattle.scopes.specs.Laws.{firstIn, orOuter}
 use Rattle.compile_nodes.specs.Knows.{Lies, Walk, resultOf}
-use Rattle.compile_sight.specs.Lies.{lies-left, lies-right, lies-tail, lies-next, lies-here, lies-at}
+use Rattle.compile_sight.specs.Lies.{lies-right, lies-tail, lies-next, lies-here}
 use Rattle.compile_sight.specs.Lengths.{length-numbers}
 use Rattle.compile_sight.specs.Means.{Both, in-append, byte-type}
 use Rattle.compile_sight.specs.Heads.{entering, new-entering, number-typed}
 
-sum : (p n : ℕ) → suc p + n ≡ p + suc n
+pub sum : (p n : ℕ) → suc p + n ≡ p + suc n
 sum p n = omega arith
+
+pub length-fields : (cs : List ℕ) (k i : ℕ) (xs : List Typed) → length (numbersFields cs k i xs) ≡ length xs
+unfolding numbersFields
+length-fields cs k i [] = refl
+length-fields cs k i (x ∷ xs) = ap suc (length-fields cs k (suc i) xs)
 
 -- ── both lookups, step by step ──
 pub both-more : (P Q : ℕ → Sort → Type 0) (f : Found) (x : names.Found) → ((q : ℕ) (t : Sort) → P q t → Q q t) → Both P f x → Both Q f x
@@ -142,14 +145,15 @@ module _ (W : Walk) (S : Style) (a : ℕ) where
       both-if (λ q t. Fielded k i (x ∷ xs) q t) (eqb (x .name) a) s (tyCode (x .type)) p (isField c (x .type)) (firstIn a (headItems s (suc p) (map declare xs))) (firstOf a (definesFields c xs))
       (λ e. record { number = rw (e, add-zero i) (lies-here _ _ m ∙ ap (λ t. packed t k i) (byte-type classes (x .type))); most = rw e (omega arith); there = rw e })
       (λ e. both-more (λ q t. Fielded k (suc i) xs q t) (λ q t. Fielded k i (x ∷ xs) q t) (firstIn a (headItems s (suc p) (map declare xs))) (firstOf a (definesFields c xs))
-        (λ q t y. later-field k i x xs e q t y) (fields-mean xs c s (suc p) k (suc i) us (lies-tail _ _ m)))
+      (λ q t y. later-field k i x xs e q t y) (fields-mean xs c s (suc p) k (suc i) us (lies-tail _ _ m)))
 
   no-field : (xs : List Typed) (c : ℕ) → firstOf a (definesFields c xs) ≡ nowhere → amongNames a (namesOf xs) ≡ false
   unfolding firstOf definesFields amongNames namesOf
   no-field [] c h = refl
   no-field (x ∷ xs) c h = pick (eqb (x .name) a) h (λ k. no-field xs c k)
     where
-      pick : (b : Bool) → (if b then found (isField c (x .type)) false else firstOf a (definesFields c xs)) ≡ nowhere → (firstOf a (definesFields c xs) ≡ nowhere → amongNames a (namesOf xs) ≡ false) → (b || amongNames a (namesOf xs)) ≡ false
+      pick : (b : Bool) → (if b then found (isField c (x .type)) false else firstOf a (definesFields c xs)) ≡ nowhere
+          → (firstOf a (definesFields c xs) ≡ nowhere → amongNames a (namesOf xs) ≡ false) → (b || amongNames a (namesOf xs)) ≡ false
       pick true k f = nothing (isField c (x .type)) false (sym k)
       pick false k f = f k
 
@@ -160,11 +164,6 @@ module _ (W : Walk) (S : Style) (a : ℕ) where
   field-here c cl ps k b Γ h q (isClass ts) m = absurd m
   field-here c cl ps k b Γ h q (isField d t) m = record { number = rw (m .there) (rw (zero-add (indexOf a (namesOf (c .fields)))) at (m .number)); small = rw (m .there) (omega (arith, m .most)) }
   field-here c cl ps k b Γ h q (isProcedure ts us) m = absurd m
-
-  length-fields : (cs : List ℕ) (k i : ℕ) (xs : List Typed) → length (numbersFields cs k i xs) ≡ length xs
-  unfolding numbersFields
-  length-fields cs k i [] = refl
-  length-fields cs k i (x ∷ xs) = ap suc (length-fields cs k (suc i) xs)
 
   result-byte : (d : Body) → resultCode d < 256 → resultCode d ≡ resultOf (W .globals) (results d)
   result-byte (proper s) h = refl
@@ -194,7 +193,7 @@ module _ (W : Walk) (S : Style) (a : ℕ) where
           small = omega arith;
         })
         (λ e. globals-mean gs (p + 1) (suc n) k b (S .name (x .name) n ∷ Γ) ss (x .name ∷ seen) f (stands-right (flatGlobal (local (declare x))) (flatHead gs) h) (g .1) (omega arith)
-          (rw (add-one n) at (lies-next _ _ m)))
+        (rw (add-one n) at (lies-next _ _ m)))
     globals-mean (local (holding y) ∷ gs) p n k b Γ ss seen f h g c m =
         globals-mean gs (p + 1) n k b (S .hold y Γ) ss seen f (stands-right (flatGlobal (local (holding y))) (flatHead gs) h) (g .1) (omega arith) (rw (add-zero n) at (lies-next _ _ m))
     globals-mean (class d xs ∷ gs) p n k b Γ ss seen f h g c m =
@@ -207,22 +206,26 @@ module _ (W : Walk) (S : Style) (a : ℕ) where
         both-if all (eqb d a) 6 (length xs) p (isClass (types xs)) (firstIn a (hs ++ js)) (firstOf a (definesFields d xs ++ definesGlobals gs))
         (λ e. rw (e, add-zero k) (lies-here _ _ m))
         (λ e. rw (in-append a hs js, first-append a (definesFields d xs) (definesGlobals gs))
-          (both-then all (firstIn a hs) (firstIn a js) (firstOf a (definesFields d xs)) (firstOf a (definesGlobals gs))
-            (both-more (λ q t. Fielded k 0 xs q t) all (firstIn a hs) (firstOf a (definesFields d xs))
-              (λ q t y. field-here r (classesOf gs) (procsOf gs) k b Δ (few-fields d xs (stands-left (flatGlobal (class d xs)) (flatHead gs) h)) q t y) (fields-mean xs d (65536 + d) (suc p) k 0 _ (lies-tail _ _ m)))
-            (λ z. both-more rest all (firstIn a js) (firstOf a (definesGlobals gs)) (λ q t y. past-class r (classesOf gs) (procsOf gs) k b Δ e (no-field xs d z) q t y)
-              (globals-mean gs (p + suc (length xs)) n (suc k) b Γ ss (namesTyped xs (d ∷ seen)) f (rw (length-Global (class d xs)) at (stands-right (flatGlobal (class d xs)) (flatHead gs) h)) (g .1) c numbers))))
+        (both-then all (firstIn a hs) (firstIn a js) (firstOf a (definesFields d xs)) (firstOf a (definesGlobals gs))
+        (both-more (λ q t. Fielded k 0 xs q t) all (firstIn a hs) (firstOf a (definesFields d xs))
+        (λ q t y. field-here r (classesOf gs) (procsOf gs) k b Δ (few-fields d xs (stands-left (flatGlobal (class d xs)) (flatHead gs) h)) q t y)
+        (fields-mean xs d (65536 + d) (suc p) k 0 _ (lies-tail _ _ m)))
+        (λ z. both-more rest all (firstIn a js) (firstOf a (definesGlobals gs)) (λ q t y. past-class r (classesOf gs) (procsOf gs) k b Δ e (no-field xs d z) q t y)
+        (globals-mean gs (p + suc (length xs)) n (suc k) b Γ ss (namesTyped xs (d ∷ seen)) f (rw (length-Global (class d xs)) at (stands-right (flatGlobal (class d xs)) (flatHead gs) h))
+        (g .1) c numbers))))
     globals-mean (procedure d xs y ∷ gs) p n k b Γ ss seen f h g c m =
         let r : Proc = record { name = d; parameters = xs; body = y } in
         let Δ = entering S (locals gs) n Γ in let js = globalItems (p + sizeGlobal (procedure d xs y)) gs in
         let rest : ℕ → Sort → Type 0 = λ q t. Numbered (classesOf gs) (procsOf gs) k (suc b) Δ q t in
         let all : ℕ → Sort → Type 0 = λ q t. Numbered (classesOf gs) (r ∷ procsOf gs) k b Δ q t in
         let us = map flatTyped xs ++ flatBody y in
-        let long : length (numbersFrom classes 0 us) ≡ length xs + sizeBody y = length-numbers classes 0 us ∙ length-append (map flatTyped xs) (flatBody y) ∙ rw (length-map flatTyped xs, length-Body y) in
+        let long : length (numbersFrom classes 0 us) ≡ length xs + sizeBody y
+        = length-numbers classes 0 us ∙ length-append (map flatTyped xs) (flatBody y) ∙ rw (length-map flatTyped xs, length-Body y) in
         let numbers = rw (long, sum p (length xs + sizeBody y)) at (lies-right (numbersFrom classes 0 us) (numbersGlobals classes n k (suc b) gs f) (lies-tail _ _ m)) in
         let head = heads-here legible (procedure d xs y) (stands-left (flatGlobal (procedure d xs y)) (flatHead gs) h) in
         let same = result-byte y head in
         both-if all (eqb d a) 7 (256 * length xs + resultCode y) p (isProcedure (types xs) (results y)) (firstIn a js) (firstOf a (definesGlobals gs))
         (λ e. record { number = rw (e, add-zero b, ← same) (lies-here _ _ m); small = omega arith })
         (λ e. both-more rest all (firstIn a js) (firstOf a (definesGlobals gs)) (λ q t z. past-procedure r (classesOf gs) (procsOf gs) k b Δ e q t z)
-          (globals-mean gs (p + sizeGlobal (procedure d xs y)) n k (suc b) Γ ss (d ∷ seen) f (rw (length-Global (procedure d xs y)) at (stands-right (flatGlobal (procedure d xs y)) (flatHead gs) h)) (g .1) c numbers))
+        (globals-mean gs (p + sizeGlobal (procedure d xs y)) n k (suc b) Γ ss (d ∷ seen) f
+        (rw (length-Global (procedure d xs y)) at (stands-right (flatGlobal (procedure d xs y)) (flatHead gs) h)) (g .1) c numbers))

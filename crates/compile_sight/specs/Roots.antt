@@ -2,17 +2,16 @@
 use mathlib.Core.Path.{_≡_, refl, ap, sym, _∙_, subst}
 use mathlib.Core.Bool.{Bool, true, false}
 use mathlib.Core.List.{List, [], _∷_, _++_, map, append-nil}
-use mathlib.Core.Option.{none}
-use Prim.Native.Nat.{ℕ, zero, suc, _+_, _*_, _≤_, _<_}
+use Prim.Native.Nat.{ℕ, suc, _+_, _*_, _≤_, _<_}
 use native.Mathlib.Omega.{arith}
 use native.Mathlib.Nat.{zero-add}
 use lib.Dec.{eqb}
 use lib.ListN.{length}
 use Rattle.words.specs.Choice.{if_then_else_}
 use Rattle.values.specs.Types.{Ty, tyByte}
-use Rattle.language.specs.Tree.{Typed, Decl, declare, holding, Items, Global, local, class, procedure, Tree, countItems}
+use Rattle.language.specs.Tree.{Decl, declare, holding, Global, local, class, procedure, Tree, countItems}
 use Rattle.language.specs.Table.{flatItems, flatHead, flatten, resultCode, classCount, procedureCount}
-use Rattle.language.specs.Names.{Sort, isVariable, isLabel, isClass, isField, isProcedure, definesItems, definesGlobals, Scope, rootOf, nowhere, found, firstOf, otherwise, lookup}
+use Rattle.language.specs.Names.{Sort, isVariable, isLabel, isClass, isField, isProcedure, definesItems, definesGlobals, Scope, rootOf, found, firstOf, lookup}
 use Rattle.language.specs.Names as names
 use Rattle.language.specs.Faults.{faults, sizeGlobal}
 use Rattle.language.specs.Limits.{headCells, locals}
@@ -23,22 +22,22 @@ use Rattle.heads.specs.Items.{labelsFrom, globalsFrom, rootItems}
 use Rattle.heads.specs.Sees.{Legible, Sees, matches-append, sees-none, sees-block}
 use Rattle.heads.specs.Defines.{headItems, labelItems, label-items, label-matches, labels-small}
 use Rattle.roots.specs.Globals.{itemsOf, globalItems, globals-at, globals-small, globals-match}
-use Rattle.bytecode.specs.Instructions.{Owner, own, root}
-use Rattle.compile_code.specs.Compile.{Around, outermost, global, labels, scopesOf, boundAt, globalAt, orCell, cellOf, numbered, Class, classesOf, classNames, Proc, procsOf, procNames, fieldIn, amongNames, namesOf, indexOf, classNumber, bodyNumber, fieldNumber}
+use Rattle.bytecode.specs.Instructions.{own, root}
+use Rattle.compile_code.specs.Compile.{Around, outermost, global, scopesOf, boundAt, globalAt, cellOf, numbered, Class, classesOf, classNames, Proc, procsOf, procNames, fieldIn, amongNames, namesOf, indexOf, classNumber, bodyNumber}
 use Rattle.compile_code.specs.Encode.{ownerCode, startOfRoot}
 use Rattle.compile_names.specs.Known.{Style, ofRoot, ofShared, first-append}
-use Rattle.compile_names.specs.Globals.{goodGlobals, good-tree}
-use Rattle.compile_known.specs.Numbers.{packed, numbersFrom, numbersGlobals, numbersOf}
+use Rattle.compile_names.specs.Globals.{good-tree}
+use Rattle.compile_known.specs.Numbers.{numbersFrom, numbersGlobals, numbersOf}
 use Rattle.scopes.specs.declared.Found.{Found}
 use Rattle.scopes.specs.declared.Found.the-variants.{Nothing, Def}
-use Rattle.scopes.specs.Environment.{Item, opened, addAll}
+use Rattle.scopes.specs.Environment.{opened, addAll}
 use Rattle.scopes.specs.Environment as env
 use Rattle.scopes.specs.Laws.{firstIn, orOuter, Small, small-append}
-use Rattle.compile_nodes.specs.Knows.{Lies, Walk, MeansCell, Means, Knows}
+use Rattle.compile_nodes.specs.Knows.{Lies, Walk, Means, Knows}
 use Rattle.compile_sight.specs.Means.{Both, both-or, in-append, index-most, byte-small, length-class-names, knows-root}
 use Rattle.compile_sight.specs.Heads.{entering, scopes-entering, labels-mean, head-sort}
 use Rattle.compile_sight.specs.Blocks.{NoLabel}
-use Rattle.compile_sight.specs.RootHead.{VariableIn, FieldIn, ProcIn, Numbered, globals-mean, both-more}
+use Rattle.compile_sight.specs.RootHead.{Numbered, globals-mean, both-more}
 
 -- ── counts ──
 pub length-classes : (gs : List Global) → length (classesOf gs) ≡ total classCount gs
@@ -65,7 +64,8 @@ unfolding fieldIn
 class-most a k [] = omega arith
 class-most a k (c ∷ cl) = pick (amongNames a (namesOf (c .fields))) (class-most a (suc k) cl)
   where
-    pick : (b : Bool) → fieldIn a (suc k) cl .class ≤ suc k + length cl → (if b then record { class = k; index = indexOf a (namesOf (c .fields)) } else fieldIn a (suc k) cl) .class ≤ k + suc (length cl)
+    pick : (b : Bool) → fieldIn a (suc k) cl .class ≤ suc k + length cl
+        → (if b then record { class = k; index = indexOf a (namesOf (c .fields)) } else fieldIn a (suc k) cl) .class ≤ k + suc (length cl)
     pick true h = omega arith
     pick false h = omega arith
 
@@ -76,8 +76,15 @@ module _ (W : Walk) (S : Style) (a : ℕ) (owned : (if W .within then 1 else 0) 
 
   root-means : (Γ : List Around) → cellOf a Γ ≡ S .look a Γ → (q : ℕ) (t : Sort) → Numbered W S a (classesOf (W .globals)) (procsOf (W .globals)) 0 1 Γ q t → Means W Γ a q t
   root-means Γ e q (isVariable t) m = record {
-    owner = S .owner; cell = m .cell; whose = 1; found = e ∙ m .found; number = m .number;
-    owned = owned; small-type = root-byte t; small-whose = omega arith; small-cell = omega (arith, m .small);
+    owner = S .owner;
+    cell = m .cell;
+    whose = 1;
+    found = e ∙ m .found;
+    number = m .number;
+    owned = owned;
+    small-type = root-byte t;
+    small-whose = omega arith;
+    small-cell = omega (arith, m .small);
   }
   root-means Γ e q isLabel m = tt
   root-means Γ e q (isClass ts) m =
@@ -128,11 +135,13 @@ module _ {l : List ℕ} (legible : Legible l) (t : Tree) (same : entriesOf l ≡
   root-items-are = rw (globals-at legible 1 (t .head) globals-stand .1, label-items legible rest (t .items) root-items-stand .1)
 
   pub root-items-small : Small (globalItems 1 (t .head) ++ labelItems rest (t .items))
-  root-items-small = rw root-items-are at (small-append (globalsFrom l 1 (length (t .head))) (labelsFrom l rest (countItems (t .items))) (globals-small legible 1 (length (t .head))) (labels-small legible rest (countItems (t .items))))
+  root-items-small = rw root-items-are at (small-append (globalsFrom l 1 (length (t .head))) (labelsFrom l rest (countItems (t .items))) (globals-small legible 1 (length (t .head)))
+      (labels-small legible rest (countItems (t .items))))
 
   pub root-sees : Sees l (addAll (globalItems 1 (t .head) ++ labelItems rest (t .items)) (env.item opened 0 0 0 ∷ [])) (rootOf t ∷ [])
   root-sees = sees-block (sees-none l) (globalItems 1 (t .head) ++ labelItems rest (t .items)) (definesGlobals (t .head) ++ definesItems (t .items))
-      (matches-append l (globalItems 1 (t .head)) (labelItems rest (t .items)) (definesGlobals (t .head)) (definesItems (t .items)) (globals-match legible 1 (t .head) globals-stand) (label-matches l rest (t .items)))
+      (matches-append l (globalItems 1 (t .head)) (labelItems rest (t .items)) (definesGlobals (t .head)) (definesItems (t .items)) (globals-match legible 1 (t .head) globals-stand)
+      (label-matches l rest (t .items)))
       root-items-small
 
   -- what the names stand for, in each style of the root's variables
@@ -146,10 +155,11 @@ module _ {l : List ℕ} (legible : Legible l) (t : Tree) (same : entriesOf l ≡
         knows-root W (globalItems 1 (t .head) ++ labelItems rest (t .items)) (definesGlobals (t .head) ++ definesItems (t .items)) root-items-small
         (λ a. ap (lookup a) (scopes-entering S (locals (t .head)) 0 (startOfRoot t)))
         (λ a. rw (in-append a (globalItems 1 (t .head)) (labelItems rest (t .items)), first-append a (definesGlobals (t .head)) (definesItems (t .items)))
-          (both-or (λ q s. Means W Δ a q s) (firstIn a (globalItems 1 (t .head))) (firstIn a (labelItems rest (t .items))) (firstOf a (definesGlobals (t .head))) (firstOf a (definesItems (t .items)))
-            (both-more (λ q s. Numbered W S a (classesOf (W .globals)) (procsOf (W .globals)) 0 1 Δ q s) (λ q s. Means W Δ a q s) (firstIn a (globalItems 1 (t .head))) (firstOf a (definesGlobals (t .head)))
-              (λ q s m. root-means W S a owned few-classes few-procedures Δ (looks a) q s m) (head a))
-            (labels-mean W a rest (t .items) Δ)))
+        (both-or (λ q s. Means W Δ a q s) (firstIn a (globalItems 1 (t .head))) (firstIn a (labelItems rest (t .items))) (firstOf a (definesGlobals (t .head))) (firstOf a (definesItems (t .items)))
+        (both-more (λ q s. Numbered W S a (classesOf (W .globals)) (procsOf (W .globals)) 0 1 Δ q s) (λ q s. Means W Δ a q s) (firstIn a (globalItems 1 (t .head)))
+        (firstOf a (definesGlobals (t .head)))
+        (λ q s m. root-means W S a owned few-classes few-procedures Δ (looks a) q s m) (head a))
+        (labels-mean W a rest (t .items) Δ)))
       where
         Δ : List Around
         Δ = entering S (locals (t .head)) 0 (startOfRoot t)
@@ -160,15 +170,23 @@ module _ {l : List ℕ} (legible : Legible l) (t : Tree) (same : entriesOf l ≡
         few-procedures : length (procsOf (W .globals)) ≤ 63
         few-procedures = rw globals (omega (arith, readable .procedures, length-procedures (t .head)))
 
-        numbers : Lies (W .known) 1 (numbersGlobals (classNames (classesOf (W .globals))) 0 0 1 (t .head) (λ n. numbersFrom (classNames (classesOf (W .globals))) n (flatItems (t .items))))
-        numbers = subst (λ gs. Lies (W .known) 1 (numbersGlobals (classNames (classesOf gs)) 0 0 1 (t .head) (λ n. numbersFrom (classNames (classesOf gs)) n (flatItems (t .items))))) (sym globals) lies
+        classesIn : List Global → List ℕ
+        classesIn gs = classNames (classesOf gs)
 
-        head : (a : ℕ) → Both (λ q s. Numbered W S a (classesOf (W .globals)) (procsOf (W .globals)) 0 1 (entering S (locals (t .head)) 0 (startOfRoot t)) q s) (firstIn a (globalItems 1 (t .head))) (firstOf a (definesGlobals (t .head)))
-        head a = subst (λ gs. Both (λ q s. Numbered W S a (classesOf gs) (procsOf gs) 0 1 (entering S (locals (t .head)) 0 (startOfRoot t)) q s) (firstIn a (globalItems 1 (t .head))) (firstOf a (definesGlobals (t .head)))) (sym globals)
-            (globals-mean W S a legible (t .head) 1 0 0 1 (startOfRoot t) (rootOf t ∷ []) [] (λ n. numbersFrom (classNames (classesOf (W .globals))) n (flatItems (t .items))) globals-stand (good-tree t good .0) (omega (arith, cells)) numbers)
+        numbers : Lies (W .known) 1 (numbersGlobals (classesIn (W .globals)) 0 0 1 (t .head) (λ n. numbersFrom (classesIn (W .globals)) n (flatItems (t .items))))
+        numbers = subst (λ gs. Lies (W .known) 1 (numbersGlobals (classesIn gs) 0 0 1 (t .head) (λ n. numbersFrom (classesIn gs) n (flatItems (t .items))))) (sym globals) lies
+
+        InHead : List Global → ℕ → Type 0
+        InHead gs a = Both (λ q s. Numbered W S a (classesOf gs) (procsOf gs) 0 1 Δ q s) (firstIn a (globalItems 1 (t .head))) (firstOf a (definesGlobals (t .head)))
+
+        head : (a : ℕ) → InHead (W .globals) a
+        head a = subst (λ gs. InHead gs a) (sym globals)
+            (globals-mean W S a legible (t .head) 1 0 0 1 (startOfRoot t) (rootOf t ∷ []) [] (λ n. numbersFrom (classesIn (W .globals)) n (flatItems (t .items)))
+            globals-stand (good-tree t good .0) (omega (arith, cells)) numbers)
 
 -- no declaration of the root is a label
-sort-then : (f g : Found) {s n q : ℕ} {w : Bool} (P : ℕ → Type 0) → ((s n q : ℕ) (w : Bool) → f ≡ Def s n q w → P s) → ((s n q : ℕ) (w : Bool) → g ≡ Def s n q w → P s) → orOuter f g ≡ Def s n q w → P s
+sort-then : (f g : Found) {s n q : ℕ} {w : Bool} (P : ℕ → Type 0) → ((s n q : ℕ) (w : Bool) → f ≡ Def s n q w → P s) → ((s n q : ℕ) (w : Bool) → g ≡ Def s n q w → P s)
+    → orOuter f g ≡ Def s n q w → P s
 sort-then Nothing g {s} {n} {q} {w} P h k e = k s n q w e
 sort-then (Def t m r v) g {s} {n} {q} {w} P h k e = h s n q w e
 
@@ -190,5 +208,6 @@ pub globals-labels : (p : ℕ) (gs : List Global) → NoLabel (globalItems p gs)
 unfolding globalItems firstIn
 globals-labels p [] a s n q w e = let z : _≡_ {A = ℕ} 0 1 = cc in absurd (omega arith)
 globals-labels p (g ∷ gs) a s n q w e =
-    sort-then (firstIn a (itemsOf p g)) (firstIn a (globalItems (p + sizeGlobal g) gs)) (λ s. s ≡ 5 → ⊥) (λ s n q w k. one-label p g a s n q w k) (λ s n q w k. globals-labels (p + sizeGlobal g) gs a s n q w k)
+    sort-then (firstIn a (itemsOf p g)) (firstIn a (globalItems (p + sizeGlobal g) gs)) (λ s. s ≡ 5 → ⊥) (λ s n q w k. one-label p g a s n q w k)
+    (λ s n q w k. globals-labels (p + sizeGlobal g) gs a s n q w k)
     (sym (in-append a (itemsOf p g) (globalItems (p + sizeGlobal g) gs)) ∙ e)

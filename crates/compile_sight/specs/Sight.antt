@@ -1,16 +1,16 @@
 -- The names in sight of the compiler's walkers agree with the blocks around (`Sees`), stand for what the definition of the code finds (`Knows`),
 -- and lead gotos where it leads them (`Lands`): kept by entering a block, a block expression and a procedure, and so at the root.
-use mathlib.Core.Path.{_≡_, refl, ap, sym, _∙_, subst}
-use mathlib.Core.Bool.{Bool, true, false}
+use mathlib.Core.Path.{_≡_, refl, ap, sym, _∙_}
+use mathlib.Core.Bool.{true, false}
 use mathlib.Core.List.{List, [], _∷_, _++_, map, append-assoc}
-use Prim.Native.Nat.{ℕ, zero, suc, _+_, _≤_, _<_}
+use Prim.Native.Nat.{ℕ, _+_, _≤_}
 use native.Mathlib.Omega.{arith}
 use native.Mathlib.Nat.{add-zero}
 use lib.ListN.{length}
 use Rattle.values.specs.Types.{Ty}
-use Rattle.language.specs.Tree.{Typed, Decl, declare, Stmt, block, Expr, blockExpr, Items, Tree, countItems}
-use Rattle.language.specs.Table.{Entry, entry, flatTyped, flatDecl, flatS, flatItems, flatE, flatHead, flatten}
-use Rattle.language.specs.Names.{definesTyped, blockOf, expressionOf, procedureOf, rootOf, nowhere, firstOf, otherwise, across, lookup}
+use Rattle.language.specs.Tree.{Typed, Decl, declare, block, Expr, blockExpr, Items, Tree, countItems}
+use Rattle.language.specs.Table.{Entry, flatTyped, flatDecl, flatS, flatItems, flatE, flatHead, flatten}
+use Rattle.language.specs.Names.{definesTyped, blockOf, expressionOf, procedureOf, rootOf, across, lookup}
 use Rattle.language.specs.Faults.{faults}
 use Rattle.language.specs.Limits.{headCells, locals}
 use Rattle.bytecode.specs.Instructions.{own}
@@ -20,11 +20,11 @@ use Rattle.spans.specs.Stands.{Stands, stands-left, stands-tail}
 use Rattle.loading.specs.Tests.{never}
 use Rattle.heads.specs.Items.{itemsAt, rootItems}
 use Rattle.heads.specs.Trees.{length-map, typed-decls}
-use Rattle.heads.specs.Defines.{headItems, labelItems, head-items, items-small, typed-matches, heads-stand, entered-block, entered-expression}
+use Rattle.heads.specs.Defines.{headItems, head-items, items-small, typed-matches, heads-stand, entered-block, entered-expression}
 use Rattle.heads.specs.Sees.{Legible, Sees, sees-procedure}
 use Rattle.roots.specs.Globals.{globalItems}
 use Rattle.compile_code.specs.Code.{At, at}
-use Rattle.compile_code.specs.Compile.{Around, inside, global, labels, scopesOf, boundAt, globalAt, cellOf, passing, sizeGoto, classesOf, classNames}
+use Rattle.compile_code.specs.Compile.{Around, inside, global, labels, scopesOf, boundAt, globalAt, passing, classesOf, classNames}
 use Rattle.compile_code.specs.Encode.{rootVariables, parameterCells, startOfRoot}
 use Rattle.compile_names.specs.Good.{goodHead}
 use Rattle.compile_names.specs.Known.{ofRoot, ofShared, scopes-parameters}
@@ -35,14 +35,14 @@ use Rattle.scopes.specs.Environment.{Item, find, addAll, opened, shut}
 use Rattle.scopes.specs.Environment as env
 use Rattle.scopes.specs.Laws.{firstIn, orOuter, Small, find-block, passing-none}
 use Rattle.compile_nodes.specs.Ends.{aroundHead, atHead, endsHead, endsItems, endsS, endsE, belowS, belowE}
-use Rattle.compile_nodes.specs.Knows.{Lies, Walk, Known, Knows, Lands, passedTo, targetOf}
+use Rattle.compile_nodes.specs.Knows.{Lies, Walk, Knows, Lands, targetOf}
 use Rattle.compile_sight.specs.Lies.{lies-left, lies-right, lies-next}
 use Rattle.compile_sight.specs.Lengths.{length-head, numbers-append, cells-append}
 use Rattle.compile_sight.specs.Marks.{openIn, marks, find-marks, passed-marks, sees-marks, knows-marks}
 use Rattle.compile_sight.specs.Means.{known-across, knows-labels, knows-inside}
 use Rattle.compile_sight.specs.Heads.{Anything, scopes-entering, around-root, around-shared, parameters-mean, past-parameters, bytes-typed, classes-known, classes-block, classes-expression, bytes-head, size-head, target-head, head-sort}
 use Rattle.compile_sight.specs.Blocks.{within, aroundValue, aroundItems, scopes-value, scopes-items, items-are, items-are-small, knows-within, lands-within, NoLabel, LandsOuter}
-use Rattle.compile_sight.specs.Roots.{look-root, look-shared, root-items-are, root-items-small, root-sees, root-knows, globals-labels}
+use Rattle.compile_sight.specs.Roots.{length-classes, look-root, look-shared, root-items-are, root-items-small, root-sees, root-knows, globals-labels}
 
 -- the names of the classes, in the order of their numbers
 abbrev pub classesIn : Walk → List ℕ
@@ -75,8 +75,8 @@ module _ {l : List ℕ} (legible : Legible l) (place : ℕ) (ds : List Decl) (is
       let bytes = bytes-head legible (W .globals) (blockOf ds is ∷ scopesOf Γ) classes (place + 1) [] ds (heads-stand legible (place + 1) ds is block-stands) good in
       knows-labels W is (atHead ds p .address)
       (rw (items-are legible (place + 1) ds is block-stands)
-        (knows-within (knows-marks (openIn ds) know) opened (blockOf ds is) (place + 1) ds is p (λ x. x) (omega arith) (λ ss a. refl) (λ a f x k. k)
-          (items-are-small legible (place + 1) ds is block-stands) good bytes (lies-left _ _ numbers) (omega (arith, cells-append (map flatDecl ds) (flatItems is)))))
+      (knows-within (knows-marks (openIn ds) know) opened (blockOf ds is) (place + 1) ds is p (λ x. x) (omega arith) (λ ss a. refl) (λ a f x k. k)
+      (items-are-small legible (place + 1) ds is block-stands) good bytes (lies-left _ _ numbers) (omega (arith, cells-append (map flatDecl ds) (flatItems is)))))
 
   pub lands-in-block : {W : Walk} {v : List Item} {Γ : List Around} (st : List Ty) → Lands W v Γ → (W .dry ≡ false → Lies (W .aims) place (endsS (W .globals) (block ds is) Γ st p))
       → Lands W (within opened l place ds is v) (aroundItems (blockOf ds is) ds is Γ p)
@@ -84,8 +84,8 @@ module _ {l : List ℕ} (legible : Legible l) (place : ℕ) (ds : List Decl) (is
   lands-in-block {W} {v} {Γ} st land aims =
       rw (items-are legible (place + 1) ds is block-stands)
       (lands-within W opened (headItems 4 (place + 1) ds) (place + 1 + length ds) is (marks (openIn ds) ++ v) (aroundValue (blockOf ds is) ds Γ p) st (atHead ds p)
-        (omega arith) (omega arith) (items-are-small legible (place + 1) ds is block-stands) (head-labels (place + 1) ds)
-        (λ d. rw (length-head ds p) at (lies-right (endsHead ds p) _ (lies-next _ _ (aims d)))) outer)
+      (omega arith) (omega arith) (items-are-small legible (place + 1) ds is block-stands) (head-labels (place + 1) ds)
+      (λ d. rw (length-head ds p) at (lies-right (endsHead ds p) _ (lies-next _ _ (aims d)))) outer)
     where
       outer : LandsOuter W opened (marks (openIn ds) ++ v) (aroundValue (blockOf ds is) ds Γ p)
       outer a n q z e =
@@ -114,7 +114,7 @@ module _ {l : List ℕ} (legible : Legible l) (place : ℕ) (ds : List Decl) (is
       let bytes = bytes-head legible (W .globals) (expressionOf ds is ∷ scopesOf Γ) classes (place + 1) [] ds (heads-stand legible (place + 1) ds is expression-stands) good in
       rw (items-are legible (place + 1) ds is expression-stands)
       (knows-within (knows-marks (openIn ds) know) shut (expressionOf ds is) (place + 1) ds is p across (omega arith) (λ ss a. refl) (λ a f y k. known-across W Γ a f y k)
-        (items-are-small legible (place + 1) ds is expression-stands) good bytes (lies-left _ _ numbers) (omega (arith, cells-append (map flatDecl ds) (flatItems is ++ flatE x))))
+      (items-are-small legible (place + 1) ds is expression-stands) good bytes (lies-left _ _ numbers) (omega (arith, cells-append (map flatDecl ds) (flatItems is ++ flatE x))))
 
   pub knows-in-expression : {W : Walk} {v : List Item} {Γ : List Around} → Sees l v (scopesOf Γ) → Knows W v Γ → goodHead (expressionOf ds is ∷ scopesOf Γ) [] ds
       → Lies (W .known) place (numbersFrom (classesIn W) (p .cell) (flatE (blockExpr ds is x))) → p .cell + cellsWithin (flatE (blockExpr ds is x)) ≤ 32
@@ -127,8 +127,8 @@ module _ {l : List ℕ} (legible : Legible l) (place : ℕ) (ds : List Decl) (is
   lands-in-expression W v Γ st aims =
       rw (items-are legible (place + 1) ds is expression-stands)
       (lands-within W shut (headItems 4 (place + 1) ds) (place + 1 + length ds) is (marks (openIn ds) ++ v) (aroundValue (expressionOf ds is) ds Γ p) st (atHead ds p)
-        (omega arith) (omega arith) (items-are-small legible (place + 1) ds is expression-stands) (head-labels (place + 1) ds)
-        (λ d. lies-left _ _ (rw (length-head ds p) at (lies-right (endsHead ds p) _ (lies-next _ _ (aims d))))) (λ a n q z e. absurd (walled (find a (marks (openIn ds) ++ v)) n q e)))
+      (omega arith) (omega arith) (items-are-small legible (place + 1) ds is expression-stands) (head-labels (place + 1) ds)
+      (λ d. lies-left _ _ (rw (length-head ds p) at (lies-right (endsHead ds p) _ (lies-next _ _ (aims d))))) (λ a n q z e. absurd (walled (find a (marks (openIn ds) ++ v)) n q e)))
 
 -- ── the root: its statements, and what its procedures see of it ──
 abbrev pub afterHead : Tree → ℕ
@@ -147,12 +147,15 @@ abbrev pub aroundProcedures : Tree → List Around
 aroundProcedures t = rootVariables (locals (t .head)) 0 (startOfRoot t)
 
 -- a program's tree, its classes numbered, and what its definitions stand for
-pub record Rooted (l : List ℕ) (t : Tree) (W : Walk) : Type 0 where
+pub record Rooted (t : Tree) (W : Walk) : Type 0 where
   pub readable : Readable t
   pub good : faults t ≡ []
   pub cells : headCells (locals (t .head)) ≤ 32
   pub globals : W .globals ≡ t .head
   pub numbered : Lies (W .known) 1 (numbersOf t)
+
+pub few-classes : {t : Tree} {W : Walk} → Rooted t W → length (classesOf (W .globals)) ≤ 16
+few-classes {t} r = rw (r .globals) (omega (arith, r .readable .classes, length-classes (t .head)))
 
 module _ {l : List ℕ} (legible : Legible l) (t : Tree) (same : entriesOf l ≡ flatten t) where
   pub sees-in-root : Sees l (rootSight l t) (scopesOf (aroundRoot t))
@@ -163,13 +166,13 @@ module _ {l : List ℕ} (legible : Legible l) (t : Tree) (same : entriesOf l ≡
   unfolding scopesOf
   sees-in-procedures = rw (root-items-are legible t same, around-shared (locals (t .head)) 0 (startOfRoot t), scopes-entering ofShared (locals (t .head)) 0 (startOfRoot t)) (root-sees legible t same)
 
-  pub knows-in-root : {W : Walk} → Rooted l t W → W .within ≡ false → Knows W (rootSight l t) (aroundRoot t)
+  pub knows-in-root : {W : Walk} → Rooted t W → W .within ≡ false → Knows W (rootSight l t) (aroundRoot t)
   knows-in-root {W} r w =
       knows-labels W (t .items) (startOfItems t .address)
       (rw (root-items-are legible t same, around-root (locals (t .head)) (startOfRoot t) (at 0 0))
-        (root-knows legible t same W ofRoot (rw w) (λ a. look-root a (locals (t .head)) (rootOf t)) (r .readable) (r .good) (r .cells) (r .globals) (r .numbered)))
+      (root-knows legible t same W ofRoot (rw w) (λ a. look-root a (locals (t .head)) (rootOf t)) (r .readable) (r .good) (r .cells) (r .globals) (r .numbered)))
 
-  pub knows-in-procedures : {W : Walk} → Rooted l t W → W .within ≡ true → Knows W (rootSight l t) (aroundProcedures t)
+  pub knows-in-procedures : {W : Walk} → Rooted t W → W .within ≡ true → Knows W (rootSight l t) (aroundProcedures t)
   knows-in-procedures {W} r w =
       rw (root-items-are legible t same, around-shared (locals (t .head)) 0 (startOfRoot t))
       (root-knows legible t same W ofShared (rw w) (λ a. look-shared a (locals (t .head)) (rootOf t)) (r .readable) (r .good) (r .cells) (r .globals) (r .numbered))
@@ -179,7 +182,7 @@ module _ {l : List ℕ} (legible : Legible l) (t : Tree) (same : entriesOf l ≡
   lands-in-root W aims =
       rw (root-items-are legible t same)
       (lands-within W opened (globalItems 1 (t .head)) (afterHead t) (t .items) [] (aroundHead (global own) (locals (t .head)) (startOfRoot t) (at 0 0)) [] (startOfItems t)
-        (omega arith) (omega arith) (root-items-small legible t same) (globals-labels 1 (t .head)) aims (λ a n q z e. let y : _≡_ {A = ℕ} 0 1 = cc in absurd (omega arith)))
+      (omega arith) (omega arith) (root-items-small legible t same) (globals-labels 1 (t .head)) aims (λ a n q z e. let y : _≡_ {A = ℕ} 0 1 = cc in absurd (omega arith)))
 
 -- ── the body of a procedure, whose entry stands at a place ──
 abbrev pub procedureSight : List ℕ → ℕ → List Typed → List Item → List Item
@@ -206,15 +209,17 @@ module _ {l : List ℕ} (legible : Legible l) (place : ℕ) (xs : List Typed) (u
   knows-in-procedure {W} {v} {Γ} know classes few lies =
       rw parameters-are
       (knows-inside W know shut (headItems 4 (place + 1) (map declare xs)) (definesTyped xs) across (omega arith) parameters-small
-        (λ a. ap (lookup a) (scopes-parameters Anything xs 0 (inside (procedureOf xs) ∷ Γ))) (λ a f x k. known-across W Γ a f x k)
-        (λ a e. past-parameters W a xs 0 (inside (procedureOf xs) ∷ Γ) e)
-        (λ a. parameters-mean W a xs (place + 1) 0 (inside (procedureOf xs) ∷ Γ) (bytes-typed (W .globals) classes xs)
-          (lies-left _ _ (rw (numbers-append (classesIn W) 0 (map flatTyped xs) us) at lies)) (omega arith)))
+      (λ a. ap (lookup a) (scopes-parameters Anything xs 0 (inside (procedureOf xs) ∷ Γ))) (λ a f x k. known-across W Γ a f x k)
+      (λ a e. past-parameters W a xs 0 (inside (procedureOf xs) ∷ Γ) e)
+      (λ a. parameters-mean W a xs (place + 1) 0 (inside (procedureOf xs) ∷ Γ) (bytes-typed (W .globals) classes xs)
+      (lies-left _ _ (rw (numbers-append (classesIn W) 0 (map flatTyped xs) us) at lies)) (omega arith)))
 
   pub lands-in-procedure : (W : Walk) (v : List Item) (Γ : List Around) → Lands W (procedureSight l place xs v) Γ
-  lands-in-procedure W v Γ = record { lands = λ a n q z e.
-      absurd (go a n q (firstIn a (headItems 4 (place + 1) (map declare xs))) refl
-        (sym (find-block a z shut (headItems 4 (place + 1) (map declare xs)) v (omega arith) parameters-small) ∙ ap (λ is. find a (addAll is (env.item shut 0 0 0 ∷ v))) (sym parameters-are) ∙ e)) }
+  lands-in-procedure W v Γ = record {
+    lands = λ a n q z e.
+        absurd (go a n q (firstIn a (headItems 4 (place + 1) (map declare xs))) refl
+        (sym (find-block a z shut (headItems 4 (place + 1) (map declare xs)) v (omega arith) parameters-small) ∙ ap (λ is. find a (addAll is (env.item shut 0 0 0 ∷ v))) (sym parameters-are) ∙ e));
+  }
     where
       go : (a n q : ℕ) (f : Found) → firstIn a (headItems 4 (place + 1) (map declare xs)) ≡ f → orOuter f (env.passing true (find a v)) ≡ Def 5 n q false → ⊥
       go a n q Nothing e k = walled (find a v) n q k

@@ -1,22 +1,22 @@
 -- The loops over the root's declarations: their instructions, and how many of them are holds.
 use mathlib.Core.Path.{_≡_, refl, ap, sym, _∙_}
 use mathlib.Core.Bool.{Bool, true, false}
-use mathlib.Core.List.{List, [], _∷_, _++_}
-use Prim.Native.Nat.{ℕ, zero, suc, _+_, _-_, _*_, _/_, _≤_, _<_}
+use mathlib.Core.List.{List, [], _∷_}
+use Prim.Native.Nat.{ℕ, _+_, _-_, _*_, _≤_, _<_}
 use native.Mathlib.Omega.{arith}
 use native.Mathlib.Nat.{add-zero}
 use native.Mathlib.Numerals.{add-one}
 use lib.Dec.{eqb}
 use lib.ListN.{length, drop, getD, length-drop}
 use lib.Seq.{take-all}
-use borrow.Author.Tests.{eq-eqb, ne-eqb, eqb-true, eqb-false, le-ltb}
+use borrow.Author.Tests.{le-ltb}
 use Rattle.words.specs.Choice.{if_then_else_}
 use Rattle.words.specs.Numbers.{halfAt}
 use Rattle.values.specs.Types.{Ty, integer, logical, bits, reference, tyByte}
 use Rattle.values.specs.Values.{initial}
-use Rattle.language.specs.Tree.{Typed, Decl, declare, holding, Global, local, class, procedure, Tree}
-use Rattle.language.specs.Table.{Entry, flatTyped, flatDecl, flatGlobal}
-use Rattle.language.specs.Limits.{locals, headCells}
+use Rattle.language.specs.Tree.{Typed, declare, holding, Global, local, class, procedure, Tree}
+use Rattle.language.specs.Table.{flatTyped, flatDecl, flatGlobal}
+use Rattle.language.specs.Limits.{locals, headCells, headHolds}
 use Rattle.programs.specs.Claims.{entriesOf}
 use Rattle.heads.specs.Trees.{length-Global}
 use Rattle.compile_order.specs.Limited.{root-keeps}
@@ -30,12 +30,11 @@ use Rattle.compile_code.specs.Encode.{recordOf}
 use Rattle.compile_pen.specs.declared.Pen.{Pen}
 use Rattle.compile_pen.specs.Ink.{moved, inkOp, Fits}
 use Rattle.compile_pen.specs.Folds.{penAfter, inked, grows, fits-before, length-inked}
-use Rattle.compile_known.specs.Numbers.{packed, typeIn, firstIn, secondIn, numberOf}
+use Rattle.compile_known.specs.Numbers.{packed, typeIn, secondIn, numberOf}
 use Rattle.compile_known.specs.Packed.{type-packed, second-packed}
 use Rattle.compile_known.specs.Whole.{kindOf, kind-here}
 use Rattle.compile_known.specs.Tabled.{Tabled, theTree, Headed, Left, left-start, Next, next-global, Within}
 use Rattle.compile_own.specs.Owns.{inkInitial, penDeclared, inkDeclared}
-use Rattle.compile_sight.specs.Marks.{openIn}
 use Rattle.compile_sight.specs.Means.{byte-small, length-class-names}
 use Rattle.compile_sight.specs.Heads.{number-typed}
 use Rattle.compile_sight.specs.Roots.{length-classes}
@@ -160,6 +159,9 @@ none-left [] k h = refl
 none-left (g ∷ gs) k h = absurd (omega (arith, k .many))
 
 module _ {l sizes known old : List ℕ} {pen : Pen} {out : List ℕ} {place left : ℕ} {p : Pen} (h : Prepared (theTree l) l sizes known) (s : HeadSoFar l known old pen out place left p) where
+  pub same-out : length out ≡ length old
+  same-out = sym (length-inked (headOps (theTree l .head) (locals (s .globals)) (s .cells)) p out) ∙ (ap (length {A = ℕ}) (s .written) ∙ length-inked (rootHead (theTree l)) pen old)
+
   module _ (m : 0 < left) where
     head-next-in : NextHead l sizes known old pen out place left p
     head-next-in = next-in (s .globals) (s .cells) (h .tabled) m (s .remain) (s .numbers) (s .few) (s .penned) (s .written)
@@ -174,9 +176,6 @@ module _ {l sizes known old : List ℕ} {pen : Pen} {out : List ℕ} {place left
     head-part =
         let w = head-within in
         rw (take-all (length l - 8 * place) (drop (8 * place) l) (omega (arith, length-drop (8 * place) l)), length-drop (8 * place) l) (omega (arith, w .some, w .within))
-
-    same-out : length out ≡ length old
-    same-out = sym (length-inked (headOps (theTree l .head) (locals (s .globals)) (s .cells)) p out) ∙ (ap (length {A = ℕ}) (s .written) ∙ length-inked (rootHead (theTree l)) pen old)
 
     pub head-fits : Fits (penAfter (rootHead (theTree l)) pen) (length old) → Fits (penDeclared (halfAt (below l (8 * place)) 0) p) (length out)
     head-fits f =
@@ -194,7 +193,7 @@ module _ {l sizes known old : List ℕ} {pen : Pen} {out : List ℕ} {place left
         let ph : q ≡ penAfter (declOps (t .head) (x .this) (x .cells)) p = w .0 ∙ declared-pen table-here (t .head) (x .this) (x .cells) p (x .next .stands) in
         let ih : new ≡ inked (declOps (t .head) (x .this) (x .cells)) p out
         = w .1 ∙ declared-inked table-here (t .head) (x .this) (x .cells) k p out (x .next .stands) (rw e (known-here t (x .this) (x .later) (x .numbers))) (omega (arith, x .few))
-            (omega (arith, length-classes (t .head), h .tabled .readable .classes)) in
+        (omega (arith, length-classes (t .head), h .tabled .readable .classes)) in
         record {
           globals = x .later;
           cells = x .cells + cellsGlobal (x .this);
@@ -213,8 +212,8 @@ module _ {l sizes known old : List ℕ} {pen : Pen} {out : List ℕ} {place left
 abbrev pub holdsOf : ℕ → ℕ
 holdsOf kind = if eqb kind 14 then 1 else 0
 
-open-next : (g : Global) (gs : List Global) → openIn (locals (g ∷ gs)) ≡ holdsOf (kindOf g) + openIn (locals gs)
-unfolding openIn locals kindOf
+open-next : (g : Global) (gs : List Global) → headHolds (locals (g ∷ gs)) ≡ holdsOf (kindOf g) + headHolds (locals gs)
+unfolding headHolds locals kindOf
 open-next (local (declare x)) gs = omega arith
 open-next (local (holding g)) gs = omega arith
 open-next (class c xs) gs = omega arith
@@ -223,7 +222,7 @@ open-next (procedure a xs b) gs = omega arith
 pub record HoldsSoFar (l : List ℕ) (place left n : ℕ) : Type 0 where
   pub globals : List Global
   pub remain : Left l place left globals
-  pub same : n + openIn (locals globals) ≡ openIn (locals (theTree l .head))
+  pub same : n + headHolds (locals globals) ≡ headHolds (locals (theTree l .head))
   pub few : n < place
 
 pub holds-start : {l sizes : List ℕ} {count : ℕ} → Headed l sizes count → HoldsSoFar l 1 count 0
@@ -233,9 +232,9 @@ record NextHold (l sizes : List ℕ) (place left n : ℕ) : Type 0 where
   pub this : Global
   pub later : List Global
   pub next : Next l sizes place left this later
-  pub same : n + openIn (locals (this ∷ later)) ≡ openIn (locals (theTree l .head))
+  pub same : n + headHolds (locals (this ∷ later)) ≡ headHolds (locals (theTree l .head))
 
-next-hold : (gs : List Global) {l sizes : List ℕ} {place left n : ℕ} → Tabled l sizes (theTree l) → 0 < left → Left l place left gs → n + openIn (locals gs) ≡ openIn (locals (theTree l .head))
+next-hold : (gs : List Global) {l sizes : List ℕ} {place left n : ℕ} → Tabled l sizes (theTree l) → 0 < left → Left l place left gs → n + headHolds (locals gs) ≡ headHolds (locals (theTree l .head))
     → NextHold l sizes place left n
 next-hold [] t h k e = absurd (omega (arith, k .many))
 next-hold (g ∷ gs) t h k e = record { this = g; later = gs; next = next-global g gs t k; same = e }
@@ -260,6 +259,6 @@ module _ {l sizes : List ℕ} {place left n : ℕ} (t : Tabled l sizes (theTree 
   pub holds-few : (k size : ℕ) → 0 < left → k ≡ holdsOf (halfAt l (8 * place)) → size ≡ getD sizes place 0 → n + k < place + size
   holds-few k size m e z = holds-next k size m e z .few
 
-  pub holds-end : left ≡ 0 → n ≡ openIn (locals (theTree l .head))
-  unfolding openIn locals
+  pub holds-end : left ≡ 0 → n ≡ headHolds (locals (theTree l .head))
+  unfolding headHolds locals
   holds-end m = let e = rw (none-left (s .globals) (s .remain) m) at (s .same) in omega arith

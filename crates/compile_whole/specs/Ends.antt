@@ -1,7 +1,7 @@
 -- Where the code of each entry of a tree ends: what a walk over all bodies leaves by entry, and that the next walk finds all of it there.
-use mathlib.Core.Path.{_≡_, refl, ap, sym, _∙_}
-use mathlib.Core.List.{List, [], _∷_, _++_}
-use Prim.Native.Nat.{ℕ, zero, suc, _+_, _≤_, _<_}
+use mathlib.Core.Path.{_≡_, _∙_}
+use mathlib.Core.List.{List, [], _∷_}
+use Prim.Native.Nat.{ℕ, suc, _+_, _≤_}
 use native.Mathlib.Omega.{arith}
 use lib.ListN.{length, getD, set, length-append, length-set}
 use lib.Seq.{sets, length-sets, getD-set-same}
@@ -110,9 +110,10 @@ module _ (t : Tree) where
   proc-aims q p a l h =
       let n = length-body (t .head) (q .body) (aroundBody t (q .parameters)) (at a (length (q .parameters))) in
       let k = p + 1 + length (q .parameters) in
-      let m = sets l k (procEnds t q a) in
-      (getD-set-same m p (procEnd t q a) 0 (omega (arith, length-sets l k (procEnds t q a))),
-      lies-behind (apart-set m p (procEnd t q a)) (procEnds t q a) (omega arith) (lies-sets l k (procEnds t q a) (omega arith)))
+      let m = sets l k (procEnds t q a) in (
+        getD-set-same m p (procEnd t q a) 0 (omega (arith, length-sets l k (procEnds t q a))),
+        lies-behind (apart-set m p (procEnd t q a)) (procEnds t q a) (omega arith) (lies-sets l k (procEnds t q a) (omega arith)),
+      )
 
   pub procs-aims : (gs : List Global) (p a : ℕ) (l : List ℕ) → p + length (flatHead gs) ≤ length l → AimsProcs t (endedProcs t gs p a l) gs p a
   unfolding endedProcs AimsProcs
@@ -126,10 +127,11 @@ module _ (t : Tree) where
       let e = endedProc t q p a l in
       let x = proc-aims q p a l (omega arith) in
       let y = procs-apart gs (p + sizeGlobal g) z e in
-      let s = length-body (t .head) b (aroundBody t xs) (at a (length xs)) in
-      (y .before p (omega arith) ∙ x .0,
-      lies-before y (procEnds t q a) (omega arith) (x .1),
-      procs-aims gs (p + sizeGlobal g) z e (omega (arith, proc-apart q p a l .same-length)))
+      let s = length-body (t .head) b (aroundBody t xs) (at a (length xs)) in (
+        y .before p (omega arith) ∙ x .0,
+        lies-before y (procEnds t q a) (omega arith) (x .1),
+        procs-aims gs (p + sizeGlobal g) z e (omega (arith, proc-apart q p a l .same-length)),
+      )
 
   -- an array with a number for each entry holds all ends after a walk
   pub aims : (l : List ℕ) → afterHead t + length (flatItems (t .items)) ≤ length l → Aims t (ended t l)

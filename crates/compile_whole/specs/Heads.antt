@@ -1,8 +1,9 @@
 -- A head under a pen: its declarations, what stands inside, and the releases, one after the other.
-use mathlib.Core.Path.{_≡_, refl, ap, sym, _∙_}
+use mathlib.Core.Path.{_≡_, refl, ap, _∙_}
 use mathlib.Core.List.{List, [], _∷_}
 use Prim.Native.Nat.{ℕ, suc, _+_}
 use native.Mathlib.Omega.{arith}
+use native.Mathlib.Nat.{zero-add}
 use lib.ListN.{length}
 use Rattle.values.specs.Values.{initial}
 use Rattle.language.specs.Tree.{Decl, declare, holding, Global, Tree}
@@ -15,14 +16,10 @@ use Rattle.compile_pen.specs.declared.Pen.{Pen}
 use Rattle.compile_pen.specs.Ink.{moved}
 use Rattle.compile_pen.specs.Folds.{lets, penAfter, inked, lets-last, lets-last-inked}
 use Rattle.compile_nodes.specs.Ends.{aroundHead, atHead}
-use Rattle.compile_sight.specs.Marks.{openIn}
 use Rattle.compile_sight.specs.Sight.{startOfItems, aroundRoot}
 
-pub open-holds : (ds : List Decl) → openIn ds ≡ headHolds ds
-unfolding openIn headHolds
-open-holds [] = refl
-open-holds (declare x ∷ ds) = omega (arith, open-holds ds)
-open-holds (holding g ∷ ds) = omega (arith, open-holds ds)
+one-add : (n : ℕ) → 1 + n ≡ suc n
+one-add n = omega arith
 
 module _ (gs : List Global) where
   -- the declarations of a head before which there are n cells
@@ -33,32 +30,35 @@ module _ (gs : List Global) where
 
   module _ (name : ℕ → ℕ → Around) (f : List Around → At → Code) where
     pub head-pen : (ds : List Decl) (Γ : List Around) (p : At) (pen : Pen)
-        → penAfter (codeHead gs name ds Γ p f) pen ≡ penAfter (lets (openIn ds)) (penAfter (f (aroundHead name ds Γ p) (atHead ds p)) (penAfter (headOps ds (p .cell)) pen))
-    unfolding penAfter codeHead headOps aroundHead atHead openIn lets
+        → penAfter (codeHead gs name ds Γ p f) pen ≡ penAfter (lets (headHolds ds)) (penAfter (f (aroundHead name ds Γ p) (atHead ds p)) (penAfter (headOps ds (p .cell)) pen))
+    unfolding penAfter codeHead headOps aroundHead atHead headHolds lets
     head-pen [] Γ p pen = refl
-    head-pen (declare x ∷ ds) Γ p pen = head-pen ds (name (x .name) (p .cell) ∷ Γ) (at (suc (suc (p .address))) (suc (p .cell))) (moved (moved pen))
+    head-pen (declare x ∷ ds) Γ p pen = rw (zero-add (headHolds ds)) (head-pen ds (name (x .name) (p .cell) ∷ Γ) (at (suc (suc (p .address))) (suc (p .cell))) (moved (moved pen)))
     head-pen (holding g ∷ ds) Γ p pen =
-        ap moved (head-pen ds (held g ∷ Γ) (skip 1 p) (moved pen)) ∙ lets-last (openIn ds) (penAfter (f (aroundHead name ds (held g ∷ Γ) (skip 1 p)) (atHead ds (skip 1 p))) (penAfter (headOps ds (p .cell)) (moved pen)))
+        rw (one-add (headHolds ds))
+        (ap moved (head-pen ds (held g ∷ Γ) (skip 1 p) (moved pen)) ∙ lets-last (headHolds ds) (penAfter (f (aroundHead name ds (held g ∷ Γ) (skip 1 p)) (atHead ds (skip 1 p))) (penAfter (headOps ds (p .cell)) (moved pen))))
 
     pub head-inked : (ds : List Decl) (Γ : List Around) (p : At) (pen : Pen) (l : List ℕ)
         → let h = headOps ds (p .cell) in let x = f (aroundHead name ds Γ p) (atHead ds p) in let q = penAfter h pen in
-        inked (codeHead gs name ds Γ p f) pen l ≡ inked (lets (openIn ds)) (penAfter x q) (inked x q (inked h pen l))
-    unfolding penAfter inked codeHead headOps aroundHead atHead openIn lets
+        inked (codeHead gs name ds Γ p f) pen l ≡ inked (lets (headHolds ds)) (penAfter x q) (inked x q (inked h pen l))
+    unfolding penAfter inked codeHead headOps aroundHead atHead headHolds lets
     head-inked [] Γ p pen l = refl
     head-inked (declare x ∷ ds) Γ p pen l =
-        head-inked ds (name (x .name) (p .cell) ∷ Γ) (at (suc (suc (p .address))) (suc (p .cell))) (moved (moved pen))
-        (inked (op (store own (p .cell))) (moved pen) (inked (op (push (initial (tyIn gs (x .type))))) pen l))
+        rw (zero-add (headHolds ds))
+        (head-inked ds (name (x .name) (p .cell) ∷ Γ) (at (suc (suc (p .address))) (suc (p .cell))) (moved (moved pen))
+        (inked (op (store own (p .cell))) (moved pen) (inked (op (push (initial (tyIn gs (x .type))))) pen l)))
     head-inked (holding g ∷ ds) Γ p pen l =
         let Δ = aroundHead name ds (held g ∷ Γ) (skip 1 p) in let q = atHead ds (skip 1 p) in
         let r = penAfter (headOps ds (p .cell)) (moved pen) in let m = inked (op (takeHold g)) pen l in
-        ap (λ (z : Pen). inked (op letHold) z (inked (codeHead gs name ds (held g ∷ Γ) (skip 1 p) f) (moved pen) m)) (head-pen ds (held g ∷ Γ) (skip 1 p) (moved pen))
-        ∙ (ap (inked (op letHold) (penAfter (lets (openIn ds)) (penAfter (f Δ q) r))) (head-inked ds (held g ∷ Γ) (skip 1 p) (moved pen) m)
-        ∙ lets-last-inked (openIn ds) (penAfter (f Δ q) r) (inked (f Δ q) r (inked (headOps ds (p .cell)) (moved pen) m)))
+        rw (one-add (headHolds ds))
+        (ap (λ (z : Pen). inked (op letHold) z (inked (codeHead gs name ds (held g ∷ Γ) (skip 1 p) f) (moved pen) m)) (head-pen ds (held g ∷ Γ) (skip 1 p) (moved pen))
+        ∙ (ap (inked (op letHold) (penAfter (lets (headHolds ds)) (penAfter (f Δ q) r))) (head-inked ds (held g ∷ Γ) (skip 1 p) (moved pen) m)
+        ∙ lets-last-inked (headHolds ds) (penAfter (f Δ q) r) (inked (f Δ q) r (inked (headOps ds (p .cell)) (moved pen) m))))
 
   -- as many holds lie around what stands inside
   pub head-held : (name : ℕ → ℕ → Around) → ((a n : ℕ) (Γ : List Around) → heldIn (name a n ∷ Γ) ≡ heldIn Γ) → (ds : List Decl) (Γ : List Around) (p : At)
-      → length (heldIn (aroundHead name ds Γ p)) ≡ openIn ds + length (heldIn Γ)
-  unfolding heldIn aroundHead openIn
+      → length (heldIn (aroundHead name ds Γ p)) ≡ headHolds ds + length (heldIn Γ)
+  unfolding heldIn aroundHead headHolds
   head-held name k [] Γ p = omega arith
   head-held name k (declare x ∷ ds) Γ p =
       head-held name k ds (name (x .name) (p .cell) ∷ Γ) (at (suc (suc (p .address))) (suc (p .cell))) ∙ rw (k (x .name) (p .cell) Γ) (omega arith)
@@ -87,7 +87,7 @@ module _ (t : Tree) where
   rootItems = codeItems (t .head) (t .items) (aroundRoot t) [] (startOfItems t)
 
   abbrev pub rootLets : Code
-  rootLets = lets (openIn (locals (t .head)))
+  rootLets = lets (headHolds (locals (t .head)))
 
   module _ (pen : Pen) where
     pub root-pen : penAfter (codeRoot t) pen ≡ moved (penAfter rootLets (penAfter rootItems (penAfter rootHead pen)))

@@ -1,6 +1,5 @@
 pub mod Apart
 pub mod Ends
-pub mod Cells
 pub mod Heads
 pub mod Numbers
 pub mod Stage
@@ -8,3 +7,4 @@ pub mod Declares
 pub mod Procs
 pub mod Loop
 pub mod Walks
+pub mod Compiling

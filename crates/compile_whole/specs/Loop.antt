@@ -1,27 +1,26 @@
 -- The loop over the root's declarations that walks its procedures, one after the other.
 use mathlib.Core.Path.{_≡_, refl, ap, sym, _∙_}
-use mathlib.Core.Bool.{Bool, true, false}
-use mathlib.Core.List.{List, [], _∷_, _++_, map}
-use Prim.Native.Nat.{ℕ, zero, suc, _+_, _-_, _*_, _/_, _%_, _≤_, _<_}
+use mathlib.Core.Bool.{true, false}
+use mathlib.Core.List.{List, [], _∷_}
+use Prim.Native.Nat.{ℕ, _+_, _-_, _*_, _/_, _≤_, _<_}
 use native.Mathlib.Omega.{arith}
 use lib.ListN.{length, drop, getD, length-drop}
 use lib.Seq.{take-all}
 use Rattle.words.specs.Numbers.{halfAt}
 use Rattle.language.specs.Tree.{Typed, Body, Global, local, class, procedure, Tree}
 use Rattle.language.specs.Tree.{declare, holding}
-use Rattle.language.specs.Table.{flatTyped, flatDecl, flatGlobal, deepGlobal, deepGlobals, nesting}
-use Rattle.language.specs.Names.{Scope, procedureOf, rootOf}
-use Rattle.language.specs.Faults.{sizeGlobal, namesGlobal}
+use Rattle.language.specs.Table.{flatTyped, flatDecl, flatGlobal, deepGlobals, nesting}
+use Rattle.language.specs.Names.{rootOf}
+use Rattle.language.specs.Faults.{sizeGlobal}
 use Rattle.language.specs.Limits.{bodyUsage, overLimits, procedureLimits, limits}
 use Rattle.programs.specs.Claims.{entriesOf}
-use Rattle.scopes.specs.Environment.{envOf}
 use Rattle.spans.specs.Stands.{Stands}
 use Rattle.heads.specs.Trees.{length-Global}
 use Rattle.shapes.specs.Walk.{Table}
 use Rattle.shapes.specs.Steps.{head-of, below}
 use Rattle.compile_code.specs.Code.{Code, at, after}
-use Rattle.compile_code.specs.Compile.{Proc, procsOf}
-use Rattle.compile_code.specs.Encode.{Part, codeProc, procParts}
+use Rattle.compile_code.specs.Compile.{procsOf}
+use Rattle.compile_code.specs.Encode.{codeProc, procParts}
 use Rattle.compile_order.specs.Limited.{keeps}
 use Rattle.compile_names.specs.Good.{split}
 use Rattle.compile_names.specs.Globals.{goodGlobals, good-tree}
@@ -32,10 +31,9 @@ use Rattle.compile_bytes.specs.Bytes.{penAll, inkedAll, codesOf}
 use Rattle.compile_bytes.specs.Room.{fits-first}
 use Rattle.compile_nodes.specs.Ready.{Lent, Kept}
 use Rattle.compile_known.specs.Tabled.{Tabled, theTree, Left, left-start, Next, next-global, Within}
-use Rattle.compile_sight.specs.Sight.{rootSight}
-use Rattle.compile_whole.specs.Numbers.{cellsGlobal, classesBy, itemsBy, Numbers, numbers-next, numbers-procedure, numbers-all}
-use Rattle.compile_whole.specs.Ends.{procOf, procEnd, procEnds, endedProc, endedProcs, AimsProcs}
-use Rattle.compile_whole.specs.Stage.{Prepared, Stage, lentOf, ReadyProc}
+use Rattle.compile_whole.specs.Numbers.{classesBy, itemsBy, Numbers, numbers-next, numbers-procedure, numbers-all}
+use Rattle.compile_whole.specs.Ends.{procOf, procEnd, endedProcs, AimsProcs}
+use Rattle.compile_whole.specs.Stage.{Stage, ReadyProc}
 use Rattle.compile_whole.specs.Procs.{AsksProc, DoneProc, AnswersProc}
 
 -- ── one declaration: only procedures have code of their own ──
@@ -213,19 +211,36 @@ remaining-next : (l : List ℕ) (place : ℕ) (sizes : List ℕ) (L M : Lent) (k
 unfolding goodGlobals procedureLimits deepGlobals AimsProcs
 remaining-next l place sizes L M known aims p q (local d) gs e r =
     record {
-      cells = _; numbers = numbers-next (classesBy (theTree l)) (itemsBy (theTree l)) (local d) gs (r .numbers); seen = _; good = r .good .1; from = _; limited = r .limited;
-      deep = omega (arith, r .deep); aimed = λ z. rw (e .0) (r .aimed (sym (ap (λ (y : Pen). y .dry) (e .0)) ∙ z));
+      cells = _;
+      numbers = numbers-next (classesBy (theTree l)) (itemsBy (theTree l)) (local d) gs (r .numbers);
+      seen = _;
+      good = r .good .1;
+      from = _;
+      limited = r .limited;
+      deep = omega (arith, r .deep);
+      aimed = λ z. rw (e .0) (r .aimed (sym (ap (λ (y : Pen). y .dry) (e .0)) ∙ z));
     }
 remaining-next l place sizes L M known aims p q (class c xs) gs e r =
     record {
-      cells = _; numbers = numbers-next (classesBy (theTree l)) (itemsBy (theTree l)) (class c xs) gs (r .numbers); seen = _; good = r .good .1; from = _; limited = r .limited;
-      deep = omega (arith, r .deep); aimed = λ z. rw (e .0) (r .aimed (sym (ap (λ (y : Pen). y .dry) (e .0)) ∙ z));
+      cells = _;
+      numbers = numbers-next (classesBy (theTree l)) (itemsBy (theTree l)) (class c xs) gs (r .numbers);
+      seen = _;
+      good = r .good .1;
+      from = _;
+      limited = r .limited;
+      deep = omega (arith, r .deep);
+      aimed = λ z. rw (e .0) (r .aimed (sym (ap (λ (y : Pen). y .dry) (e .0)) ∙ z));
     }
 remaining-next l place sizes L M known aims p q (procedure a xs b) gs e r =
     record {
-      cells = _; numbers = numbers-next (classesBy (theTree l)) (itemsBy (theTree l)) (procedure a xs b) gs (r .numbers); seen = _; good = r .good .1; from = _;
+      cells = _;
+      numbers = numbers-next (classesBy (theTree l)) (itemsBy (theTree l)) (procedure a xs b) gs (r .numbers);
+      seen = _;
+      good = r .good .1;
+      from = _;
       limited = split (overLimits (bodyUsage xs b) (r .from)) _ (r .limited) .1;
-      deep = omega (arith, r .deep); aimed = λ z. rw (done-address l place L M p q a xs b e) (r .aimed (sym (done-dry l place L M p q (procedure a xs b) e .0) ∙ z) .2);
+      deep = omega (arith, r .deep);
+      aimed = λ z. rw (done-address l place L M p q a xs b e) (r .aimed (sym (done-dry l place L M p q (procedure a xs b) e .0) ∙ z) .2);
     }
 
 module _ (l : List ℕ) (place : ℕ) (L M : Lent) (p q : Pen) (gs : List Global) where

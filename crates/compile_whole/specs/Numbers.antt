@@ -1,12 +1,12 @@
 -- What the entries of a table stand for, by its declarations: the numbers of the whole (`numbersOf`) hold those of each body.
-use mathlib.Core.Path.{_≡_, refl, ap, sym, _∙_}
+use mathlib.Core.Path.{_≡_, refl, ap}
 use mathlib.Core.List.{List, [], _∷_, _++_, map}
-use Prim.Native.Nat.{ℕ, zero, suc, _+_, _≤_}
+use Prim.Native.Nat.{ℕ, suc, _+_}
 use native.Mathlib.Omega.{arith}
 use lib.ListN.{length, getD, length-append}
 use Rattle.language.specs.Tree.{Typed, Decl, declare, holding, Body, Global, local, class, procedure, Tree}
 use Rattle.language.specs.Table.{flatTyped, flatDecl, flatItems, flatBody, flatHead, flatGlobal}
-use Rattle.language.specs.Faults.{sizeBody, sizeGlobal}
+use Rattle.language.specs.Faults.{sizeGlobal}
 use Rattle.language.specs.Limits.{locals, headCells}
 use Rattle.heads.specs.Trees.{length-map, length-Body, length-Global}
 use Rattle.compile_code.specs.Compile.{classesOf, classNames}
@@ -14,7 +14,7 @@ use Rattle.compile_known.specs.Numbers.{cellsOf, numberOf, numbersFrom, numbers
 use Rattle.compile_nodes.specs.Knows.{Lies}
 use Rattle.compile_sight.specs.Lies.{lies-left, lies-right, lies-next, lies-here, lies-at, lies-same}
 use Rattle.compile_sight.specs.Lengths.{length-numbers, numbers-append}
-use Rattle.compile_whole.specs.Cells.{cells-typed}
+use Rattle.compile_sight.specs.Cells.{within-typed}
 
 length-fields : (cs : List ℕ) (k i : ℕ) (xs : List Typed) → length (numbersFields cs k i xs) ≡ length xs
 unfolding numbersFields
@@ -85,7 +85,7 @@ numbers-body cs p xs b h =
     let us = map flatTyped xs in
     let k : 0 + length xs ≡ length xs = omega arith in
     lies-at (omega (arith, length-numbers cs 0 us, length-map flatTyped xs))
-    (lies-right (numbersFrom cs 0 us) _ (rw (cells-typed xs, k) at (lies-same (numbers-append cs 0 us (flatBody b)) h)))
+    (lies-right (numbersFrom cs 0 us) _ (rw (within-typed xs, k) at (lies-same (numbers-append cs 0 us (flatBody b)) h)))
 
 -- ── the whole table ──
 module _ (t : Tree) where

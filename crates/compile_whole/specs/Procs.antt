@@ -1,33 +1,30 @@
 -- A procedure, a declaration of the root, and all of them: what their walkers ask and answer.
 use mathlib.Core.Path.{_≡_, refl, ap, sym, _∙_}
-use mathlib.Core.Bool.{Bool, true, false}
-use mathlib.Core.List.{List, [], _∷_, _++_, map}
-use Prim.Native.Nat.{ℕ, zero, suc, _+_, _-_, _*_, _/_, _%_, _≤_, _<_}
+use mathlib.Core.List.{List, []}
+use Prim.Native.Nat.{ℕ, _+_, _*_, _/_, _%_, _≤_, _<_}
 use native.Mathlib.Omega.{arith}
-use lib.ListN.{length, drop, getD, set, length-set}
-use lib.Seq.{sets, length-sets}
-use Rattle.words.specs.Numbers.{wordAt, halfAt}
-use Rattle.language.specs.Tree.{Typed, Stmt, Expr, Body, proper, function, Global, local, class, procedure, Tree}
-use Rattle.language.specs.Table.{flatBody, flatGlobal, resultCode}
-use Rattle.programs.specs.Claims.{entriesOf}
-use Rattle.scopes.specs.Environment.{envOf, Grown}
-use Rattle.scopes.specs.Laws.{fewer}
-use Rattle.spans.specs.Stands.{Stands}
+use lib.ListN.{length, set, length-set}
+use lib.Seq.{sets}
+use Rattle.words.specs.Numbers.{wordAt}
+use Rattle.language.specs.Tree.{Typed, Stmt, Expr, Body, proper, function, procedure, Tree}
+use Rattle.language.specs.Table.{resultCode}
+use Rattle.scopes.specs.Environment.{item, envOf, addAll, Grown}
+use Rattle.scopes.specs.Laws.{stored, grown-push, fewer}
+use Rattle.heads.specs.Items.{itemsAt, grown-marked}
 use Rattle.shapes.specs.Steps.{below}
 use Rattle.operands.specs.Types.{code-some}
 use Rattle.roots.specs.Procedures.{Walled}
 use Rattle.bytecode.specs.Instructions.{return}
-use Rattle.compile_code.specs.Code.{Code, op, _▸_, at, after}
-use Rattle.compile_code.specs.Compile.{Proc, procsOf}
-use Rattle.compile_code.specs.Encode.{rec, recordOf, aroundBody, codeBody, codeProc, procParts}
+use Rattle.compile_code.specs.Code.{Code, op, at}
+use Rattle.compile_code.specs.Compile.{Proc}
+use Rattle.compile_code.specs.Encode.{recordOf, aroundBody, codeBody, codeProc}
 use Rattle.compile_pen.specs.declared.Pen.{Pen}
 use Rattle.compile_pen.specs.Ink.{moved, inkOp, Fits, length-ink}
-use Rattle.compile_pen.specs.Folds.{penAfter, inked, inked-op, length-inked, address-after}
-use Rattle.compile_nodes.specs.Knows.{Walk}
-use Rattle.compile_nodes.specs.Ready.{Node, stmt, expr, name, codeN, endsN, Place, Lent, Kept, Ready, Done, Asks, Answers}
+use Rattle.compile_pen.specs.Folds.{penAfter, inked, inked-op, address-after}
+use Rattle.compile_nodes.specs.Ready.{Node, stmt, expr, name, codeN, endsN, Lent, Kept, Ready, Done, Asks, Answers}
 use Rattle.compile_known.specs.Tabled.{theTree}
-use Rattle.compile_whole.specs.Ends.{procOf, procEnds, procEnd, endedProc, endsBody}
-use Rattle.compile_whole.specs.Stage.{Stage, walkOf, lentOf, ReadyProc, Heading, heading-of, nodeOf, bodyPlace, ready-body}
+use Rattle.compile_whole.specs.Ends.{procEnd, endedProc, endsBody}
+use Rattle.compile_whole.specs.Stage.{walkOf, lentOf, ReadyProc, heading-of, nodeOf, bodyPlace, ready-body}
 
 -- ── a procedure ──
 pub record AsksProc (l part : List ℕ) (place : ℕ) (sizes env : List ℕ) (top : ℕ) (known aims ends stack out : List ℕ) (pen : Pen) : Type 0 where
@@ -43,17 +40,6 @@ pub record AnswersProc (l part : List ℕ) (place : ℕ) (sizes : List ℕ) (L M
   pub kept : Kept L M top 0
   pub done : (q : Proc) → ReadyProc (theTree l) q l part place sizes (L .env) top known aims (L .ends) (L .stack) (L .out) pen → DoneProc (theTree l) q place (L .ends) (L .out) (M .ends) (M .out) pen r
 
--- a statement, an expression
-abbrev pub IsStmt : Node → Type 0
-IsStmt (stmt s) = Unit {0}
-IsStmt (expr e) = ⊥
-IsStmt (name a) = ⊥
-
-abbrev pub IsExpr : Node → Type 0
-IsExpr (stmt s) = ⊥
-IsExpr (expr e) = Unit {0}
-IsExpr (name a) = ⊥
-
 -- the numbers that the code works with
 pub record ProcAsks (l part : List ℕ) (heading place : ℕ) (ends env : List ℕ) (top : ℕ) : Type 0 where
   pub small : place + 1 + heading / 256 ≤ 2048
@@ -63,13 +49,20 @@ pub record ProcAsks (l part : List ℕ) (heading place : ℕ) (ends env : List �
   pub room : 4 * (top + 1 + heading / 256) ≤ length env
   pub ending : place < length ends
 
-stmt-in : (b : Body) → resultCode b ≡ 0 → IsStmt (nodeOf b)
-stmt-in (proper s) e = tt
-stmt-in (function u x) e = code-some u e
+-- what holds of every statement, of every expression
+abbrev pub OfStmt : (Node → Type 0) → Type 0
+OfStmt P = (s : Stmt) → P (stmt s)
 
-expr-in : (b : Body) → ¬ (resultCode b ≡ 0) → IsExpr (nodeOf b)
-expr-in (proper s) e = e refl
-expr-in (function u x) e = tt
+abbrev pub OfExpr : (Node → Type 0) → Type 0
+OfExpr P = (e : Expr) → P (expr e)
+
+stmt-in : (P : Node → Type 0) → OfStmt P → (b : Body) → resultCode b ≡ 0 → P (nodeOf b)
+stmt-in P f (proper s) e = f s
+stmt-in P f (function u x) e = absurd (code-some u e)
+
+expr-in : (P : Node → Type 0) → OfExpr P → (b : Body) → ¬ (resultCode b ≡ 0) → P (nodeOf b)
+expr-in P f (proper s) e = absurd (e refl)
+expr-in P f (function u x) e = f x
 
 module _ (t : Tree) (xs : List Typed) (a : ℕ) where
   code-is : (b : Body) → codeN (t .head) (nodeOf b) (aroundBody t xs) [] (at a (length xs)) ≡ codeBody (t .head) b (aroundBody t xs) (at a (length xs))
@@ -109,11 +102,11 @@ module _ {l part : List ℕ} {place : ℕ} {sizes env : List ℕ} {top : ℕ} {k
         ready = body-ready;
       }
 
-  body-stmt : heading % 256 ≡ 0 → IsStmt (nodeOf (q .body))
-  body-stmt e = stmt-in (q .body) (sym (heading-of r heading c .result) ∙ e)
+  body-stmt : (P : Node → Type 0) → OfStmt P → heading % 256 ≡ 0 → P (nodeOf (q .body))
+  body-stmt P f e = stmt-in P f (q .body) (sym (heading-of r heading c .result) ∙ e)
 
-  body-expr : ¬ (heading % 256 ≡ 0) → IsExpr (nodeOf (q .body))
-  body-expr e = expr-in (q .body) (λ z. e (heading-of r heading c .result ∙ z))
+  body-expr : (P : Node → Type 0) → OfExpr P → ¬ (heading % 256 ≡ 0) → P (nodeOf (q .body))
+  body-expr P f e = expr-in P f (q .body) (λ z. e (heading-of r heading c .result ∙ z))
 
   -- ── it is walked: the return, and its end ──
   module _ {P : Node → Type 0} (such : P (nodeOf (q .body))) {M : Lent} {p : Pen} (y : BodyAnswers P known aims l part heading place sizes (lentOf mid ends stack out) M up pen p) where
@@ -168,16 +161,23 @@ module _ {l part : List ℕ} {place : ℕ} {sizes env : List ℕ} {top : ℕ} {k
           ending = omega (arith, r .ending, h .within);
         }
 
-    module _ {mid : List ℕ} {up : ℕ} (w : Walled l place (heading / 256) top env mid up) where
-      pub proc-statement : heading % 256 ≡ 0 → BodyAsks IsStmt known aims l part heading place sizes (lentOf mid ends stack out) up pen
-      proc-statement e = body-asks (q .ready) heading c w IsStmt (body-stmt (q .ready) heading c w e)
+    -- its parameters, pushed behind a wall
+    pub proc-walled : {mid new : List ℕ} {up : ℕ} → mid ≡ stored env top 65537 0 0 0
+        → Grown (top + 1) mid new up (addAll (itemsAt 4 l (place + 1) (heading / 256)) (envOf mid (top + 1))) (length (itemsAt 4 l (place + 1) (heading / 256))) → Walled l place (heading / 256) top env new up
+    proc-walled {mid} e g =
+        grown-marked (item 65537 0 0 0) (itemsAt 4 l (place + 1) (heading / 256)) (grown-push env mid top 65537 0 0 0 (omega (arith, proc-asks .room)) e) g
 
-      pub proc-expression : ¬ (heading % 256 ≡ 0) → BodyAsks IsExpr known aims l part heading place sizes (lentOf mid ends stack out) up pen
-      proc-expression e = body-asks (q .ready) heading c w IsExpr (body-expr (q .ready) heading c w e)
+    -- P is what the walker of the body takes
+    module _ {mid : List ℕ} {up : ℕ} (w : Walled l place (heading / 256) top env mid up) (P : Node → Type 0) where
+      pub proc-statement : OfStmt P → heading % 256 ≡ 0 → BodyAsks P known aims l part heading place sizes (lentOf mid ends stack out) up pen
+      proc-statement k e = body-asks (q .ready) heading c w P (body-stmt (q .ready) heading c w P k e)
 
-      proc-kept : {P : Node → Type 0} {M : Lent} {p : Pen} → BodyAnswers P known aims l part heading place sizes (lentOf mid ends stack out) M up pen p → (written later : List ℕ)
+      pub proc-expression : OfExpr P → ¬ (heading % 256 ≡ 0) → BodyAsks P known aims l part heading place sizes (lentOf mid ends stack out) up pen
+      proc-expression k e = body-asks (q .ready) heading c w P (body-expr (q .ready) heading c w P k e)
+
+      proc-kept : {M : Lent} {p : Pen} → BodyAnswers P known aims l part heading place sizes (lentOf mid ends stack out) M up pen p → (written later : List ℕ)
           → length written ≡ length (M .out) → length later ≡ length (M .ends) → Kept (lentOf env ends stack out) (lentOf (M .env) later (M .stack) written) top 0
-      proc-kept {P} {M} y written later e f =
+      proc-kept {M} y written later e f =
           record {
             env = fewer (M .env) mid top up (w .least) (y .kept .env) ∙ w .kept;
             same-env = y .kept .same-env ∙ w .same;
@@ -187,24 +187,29 @@ module _ {l part : List ℕ} {place : ℕ} {sizes env : List ℕ} {top : ℕ} {k
             same-out = e ∙ y .kept .same-out;
           }
 
-      module _ (M : Lent) (p : Pen) (s : Pen) (written later : List ℕ) (e : s ≡ moved p) (f : written ≡ inkOp p (M .out) 11 0 0) (g : later ≡ set (M .ends) place (s .address)) where
-        abbrev Returned : Type 0
-        Returned = AnswersProc l part place sizes (lentOf env ends stack out) (lentOf (M .env) later (M .stack) written) top known aims pen s
+      returned : ((x : Proc) → ReadyProc (theTree l) x l part place sizes env top known aims ends stack out pen → P (nodeOf (x .body)))
+          → {M : Lent} {p : Pen} → BodyAnswers P known aims l part heading place sizes (lentOf mid ends stack out) M up pen p → {s v : Pen} {written later : List ℕ}
+          → (v ≡ moved p) × (written ≡ inkOp p (M .out) 11 0 0) → (s ≡ v) × (later ≡ set (M .ends) place (v .address))
+          → AnswersProc l part place sizes (lentOf env ends stack out) (lentOf (M .env) later (M .stack) written) top known aims pen s
+      returned such {M} {p} y {s} {v} {written} {later} a b =
+          let g : later ≡ set (M .ends) place (s .address) = b .1 ∙ ap (λ (x : Pen). set (M .ends) place (x .address)) (sym (b .0)) in
+          record {
+            kept = proc-kept y written later (ap (length {A = ℕ}) (a .1) ∙ length-ink p (M .out) 11 0 0) (ap (length {A = ℕ}) g ∙ length-set (M .ends) place (s .address));
+            done = λ x r. proc-done-in r heading c w (such x r) y s written later (b .0 ∙ a .0) (a .1) g;
+          }
 
-        same-written : length written ≡ length (M .out)
-        same-written = ap (length {A = ℕ}) f ∙ length-ink p (M .out) 11 0 0
+      pub proc-proper : OfStmt P → heading % 256 ≡ 0 → {M : Lent} {p : Pen} → BodyAnswers P known aims l part heading place sizes (lentOf mid ends stack out) M up pen p → {s v : Pen} {written later : List ℕ}
+          → (v ≡ moved p) × (written ≡ inkOp p (M .out) 11 0 0) → (s ≡ v) × (later ≡ set (M .ends) place (v .address))
+          → AnswersProc l part place sizes (lentOf env ends stack out) (lentOf (M .env) later (M .stack) written) top known aims pen s
+      proc-proper k z y a b = returned (λ x r. body-stmt r heading c w P k z) y a b
 
-        same-later : length later ≡ length (M .ends)
-        same-later = ap (length {A = ℕ}) g ∙ length-set (M .ends) place (s .address)
+      pub proc-function : OfExpr P → ¬ (heading % 256 ≡ 0) → {M : Lent} {p : Pen} → BodyAnswers P known aims l part heading place sizes (lentOf mid ends stack out) M up pen p → {s v : Pen} {written later : List ℕ}
+          → (v ≡ moved p) × (written ≡ inkOp p (M .out) 11 0 0) → (s ≡ v) × (later ≡ set (M .ends) place (v .address))
+          → AnswersProc l part place sizes (lentOf env ends stack out) (lentOf (M .env) later (M .stack) written) top known aims pen s
+      proc-function k z y a b = returned (λ x r. body-expr r heading c w P k z) y a b
 
-        pub proc-proper : heading % 256 ≡ 0 → BodyAnswers IsStmt known aims l part heading place sizes (lentOf mid ends stack out) M up pen p → Returned
-        proc-proper z y = record { kept = proc-kept y written later same-written same-later; done = λ x r. proc-done-in r heading c w (body-stmt r heading c w z) y s written later e f g }
+      pub proper-fits : OfStmt P → {M : Lent} {p : Pen} → heading % 256 ≡ 0 → BodyAnswers P known aims l part heading place sizes (lentOf mid ends stack out) M up pen p → Fits (moved p) (length (M .out))
+      proper-fits k z y = last-fits (q .ready) heading c w (body-stmt (q .ready) heading c w P k z) y
 
-        pub proc-function : ¬ (heading % 256 ≡ 0) → BodyAnswers IsExpr known aims l part heading place sizes (lentOf mid ends stack out) M up pen p → Returned
-        proc-function z y = record { kept = proc-kept y written later same-written same-later; done = λ x r. proc-done-in r heading c w (body-expr r heading c w z) y s written later e f g }
-
-      pub proper-fits : {M : Lent} {p : Pen} → heading % 256 ≡ 0 → BodyAnswers IsStmt known aims l part heading place sizes (lentOf mid ends stack out) M up pen p → Fits (moved p) (length (M .out))
-      proper-fits z y = last-fits (q .ready) heading c w (body-stmt (q .ready) heading c w z) y
-
-      pub function-fits : {M : Lent} {p : Pen} → ¬ (heading % 256 ≡ 0) → BodyAnswers IsExpr known aims l part heading place sizes (lentOf mid ends stack out) M up pen p → Fits (moved p) (length (M .out))
-      function-fits z y = last-fits (q .ready) heading c w (body-expr (q .ready) heading c w z) y
+      pub function-fits : OfExpr P → {M : Lent} {p : Pen} → ¬ (heading % 256 ≡ 0) → BodyAnswers P known aims l part heading place sizes (lentOf mid ends stack out) M up pen p → Fits (moved p) (length (M .out))
+      function-fits k z y = last-fits (q .ready) heading c w (body-expr (q .ready) heading c w P k z) y

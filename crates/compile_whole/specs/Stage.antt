@@ -1,5 +1,5 @@
 -- What is asked of every body of a program, and what its walkers then ask: the root's items, and the body of a procedure.
-use mathlib.Core.Path.{_≡_, refl, ap, sym, _∙_, subst}
+use mathlib.Core.Path.{_≡_, refl, ap, sym, _∙_}
 use mathlib.Core.Bool.{Bool, true, false}
 use mathlib.Core.List.{List, [], _∷_, _++_, map}
 use Prim.Native.Nat.{ℕ, zero, suc, _+_, _-_, _*_, _/_, _%_, _≤_}
@@ -7,45 +7,43 @@ use native.Mathlib.Omega.{arith}
 use native.Mathlib.Nat.{add-assoc}
 use lib.Dec.{eqb}
 use lib.ListN.{length, drop, length-append}
-use Rattle.language.specs.Tree.{Typed, Decl, declare, holding, Items, Body, proper, function, Global, procedure, Tree, countItems}
-use Rattle.language.specs.Table.{Entry, flatTyped, flatS, flatE, flatItems, flatBody, flatHead, flatGlobal, flatten, deepItems, deepBody, deepGlobal, deepGlobals, nesting, resultCode}
+use Rattle.language.specs.Tree.{Typed, Decl, declare, holding, Body, proper, function, Global, procedure, Tree, countItems}
+use Rattle.language.specs.Table.{flatTyped, flatS, flatItems, flatBody, flatHead, flatGlobal, flatten, deepGlobal, nesting, resultCode}
 use Rattle.language.specs.Names.{Scope, procedureOf, rootOf}
 use Rattle.language.specs.Faults.{faults}
-use Rattle.language.specs.Limits.{limits, bodyUsage, rootUsage, locals, headCells, cellsS, cellsE}
+use Rattle.language.specs.Limits.{limits, bodyUsage, locals, headCells, headHolds}
 use Rattle.words.specs.Choice.{if_then_else_}
 use Rattle.words.specs.Numbers.{wordAt}
-use Rattle.programs.specs.Claims.{entriesOf, Readable}
-use Rattle.scopes.specs.Environment.{Item, item, envOf, addAll, shut, Grown}
-use Rattle.spans.specs.Stands.{Stands, stands-left, stands-right, stands-tail, stands-within, length-entries}
+use Rattle.programs.specs.Claims.{entriesOf}
+use Rattle.scopes.specs.Environment.{Item, item, envOf}
+use Rattle.spans.specs.Stands.{Stands, stands-right, stands-tail, stands-within, length-entries}
 use Rattle.heads.specs.Items.{kindAt, aAt, bAt, oneAt, itemsAt}
-use Rattle.heads.specs.Trees.{Heads, length-map, length-Body, length-Items, length-Global}
-use Rattle.heads.specs.Defines.{bulk, labels-bulk}
+use Rattle.heads.specs.Trees.{Heads, length-map, length-Items}
+use Rattle.heads.specs.Defines.{labels-bulk}
 use Rattle.shapes.specs.Walk.{Table}
 use Rattle.shapes.specs.Steps.{head-of, table-next, below}
 use Rattle.roots.specs.Globals.{heads-here}
 use Rattle.roots.specs.Procedures.{Walled}
 use Rattle.bytecode.specs.Instructions.{own, root}
-use Rattle.compile_code.specs.Code.{At, at}
-use Rattle.compile_code.specs.Compile.{Around, inside, global, scopesOf, heldIn, classesOf, Proc}
+use Rattle.compile_code.specs.Code.{at}
+use Rattle.compile_code.specs.Compile.{Around, inside, global, scopesOf, heldIn, Proc}
 use Rattle.compile_code.specs.Encode.{startOfRoot, aroundBody, parameterCells, rootVariables, codeProc, codeBody}
 use Rattle.compile_macro.specs.Right.{Keeps}
 use Rattle.compile_order.specs.Limited.{root-keeps}
-use Rattle.compile_names.specs.Good.{goodItems}
 use Rattle.compile_names.specs.Known.{ofRoot, ofShared, scopes-parameters}
 use Rattle.compile_names.specs.Globals.{goodBody, good-tree}
 use Rattle.compile_known.specs.Numbers.{numbersFrom, numbersOf}
 use Rattle.compile_known.specs.Tabled.{Tabled}
 use Rattle.compile_pen.specs.declared.Pen.{Pen}
 use Rattle.compile_pen.specs.Ink.{Fits}
-use Rattle.compile_pen.specs.Folds.{penAfter, grows, fits-before, later-moved}
+use Rattle.compile_pen.specs.Folds.{penAfter, fits-before, later-moved}
 use Rattle.compile_nodes.specs.Knows.{Lies, Walk}
-use Rattle.compile_nodes.specs.Ready.{Node, stmt, expr, Place, Lent, Laid, Stood, Ready, ReadyItems}
-use Rattle.compile_sight.specs.Marks.{openIn}
+use Rattle.compile_nodes.specs.Ready.{Node, stmt, expr, Place, Lent, Stood, Ready, ReadyItems}
 use Rattle.compile_sight.specs.Heads.{Anything, around-root, around-shared, scopes-entering}
 use Rattle.compile_sight.specs.Roots.{length-classes, root-items-stand}
 use Rattle.compile_sight.specs.Sight.{afterHead, rootSight, startOfItems, aroundRoot, aroundProcedures, Rooted, sees-in-root, sees-in-procedures, knows-in-root, knows-in-procedures, lands-in-root, procedureSight, sees-in-procedure, knows-in-procedure, lands-in-procedure}
-use Rattle.compile_whole.specs.Cells.{cells-items, cells-S, cells-E}
-use Rattle.compile_whole.specs.Heads.{open-holds, head-held, head-cells, head-address, rootHead, rootItems}
+use Rattle.compile_sight.specs.Cells.{within-items, within-S, within-E}
+use Rattle.compile_whole.specs.Heads.{head-held, head-cells, rootItems}
 use Rattle.compile_whole.specs.Numbers.{classesBy, numbers-items, numbers-body}
 use Rattle.compile_whole.specs.Ends.{itemsEnds, procOf, procEnds}
 
@@ -69,7 +67,7 @@ abbrev pub lentOf : List ℕ → List ℕ → List ℕ → List ℕ → Lent
 lentOf env ends stack out = record { env = env; ends = ends; stack = stack; out = out }
 
 module _ {t : Tree} {l sizes env : List ℕ} {top : ℕ} {known : List ℕ} (s : Stage t l sizes env top known) where
-  abbrev rooted : (aims : List ℕ) (pen : Pen) → Rooted l t (walkOf t known aims pen)
+  abbrev rooted : (aims : List ℕ) (pen : Pen) → Rooted t (walkOf t known aims pen)
   rooted aims pen = record { readable = s .prepared .tabled .readable; good = s .prepared .faultless; cells = omega (arith, root-keeps t (s .prepared .limited) .0); globals = refl; numbered = s .prepared .numbered }
 
   entries-fit : length (flatten t) ≡ length l / 8
@@ -88,7 +86,7 @@ global-held : (a n : ℕ) (Γ : List Around) → heldIn (global own a n ∷ Γ) 
 unfolding heldIn
 global-held a n Γ = refl
 
-root-held : (t : Tree) → length (heldIn (aroundRoot t)) ≡ openIn (locals (t .head))
+root-held : (t : Tree) → length (heldIn (aroundRoot t)) ≡ headHolds (locals (t .head))
 unfolding heldIn
 root-held t = omega (arith, head-held (t .head) (global own) global-held (locals (t .head)) (startOfRoot t) (at 0 0))
 
@@ -98,18 +96,17 @@ module _ {t : Tree} {l sizes env : List ℕ} {top : ℕ} {known : List ℕ} (s :
       → (pen .dry ≡ false → Lies aims (afterHead t) (itemsEnds t))
       → length l / 8 ≤ length ends → 32 ≤ length stack → pen .address ≡ startOfItems t .address → pen .inside ≡ false → Fits (penAfter (rootItems t) pen) (length out)
       → ReadyItems (t .items) (walkOf t known aims pen) (record { around = aroundRoot t; types = []; start = startOfItems t }) l part (countItems (t .items)) 63 after sizes
-      (lentOf env ends stack out) top (openIn (locals (t .head))) 0 pen
+      (lentOf env ends stack out) top (headHolds (locals (t .head))) 0 pen
   unfolding nesting
   ready-items part after a e aimed ending stacked address outer fits =
       let k = root-keeps t (s .prepared .limited) in
       let n : startOfItems t .cell ≡ headCells (locals (t .head)) = head-cells (t .head) (locals (t .head)) (at 0 0) ∙ omega arith in
-      let h = open-holds (locals (t .head)) in
       let r = rooted s aims pen in
       record {
         table = record { whole = e; legible = s .prepared .tabled .legible; known = s .prepared .tabled .known };
         laid = record {
           stands = rw a (root-items-stand (s .prepared .tabled .legible) t (s .prepared .tabled .same));
-          cells = omega (arith, cells-items (t .items), k .0);
+          cells = omega (arith, within-items (t .items), k .0);
           numbered = rw (a, n) (numbers-items t (s .prepared .numbered));
           aimed = λ d. rw a (aimed d);
         };
@@ -274,7 +271,7 @@ module _ (t : Tree) (l part : List ℕ) (place : ℕ) (sizes env : List ℕ) (to
     ready-body (proper z) r =
         record {
           table = table-here (proper z) r;
-          laid = record { stands = stands-here (proper z) r; cells = omega (arith, cells-S z, r .keeps .0); numbered = numbers-body (classesBy t) place xs (proper z) (r .numbered); aimed = r .aimed };
+          laid = record { stands = stands-here (proper z) r; cells = omega (arith, within-S z, r .keeps .0); numbered = numbers-body (classesBy t) place xs (proper z) (r .numbered); aimed = r .aimed };
           stood = stood (proper z) r;
           room = room-here (proper z) r;
           ending = omega (arith, entries-here (proper z) r, r .ending);
@@ -288,7 +285,7 @@ module _ (t : Tree) (l part : List ℕ) (place : ℕ) (sizes env : List ℕ) (to
     ready-body (function u e) r =
         record {
           table = table-here (function u e) r;
-          laid = record { stands = stands-here (function u e) r; cells = omega (arith, cells-E e, r .keeps .0); numbered = numbers-body (classesBy t) place xs (function u e) (r .numbered); aimed = r .aimed };
+          laid = record { stands = stands-here (function u e) r; cells = omega (arith, within-E e, r .keeps .0); numbered = numbers-body (classesBy t) place xs (function u e) (r .numbered); aimed = r .aimed };
           stood = stood (function u e) r;
           room = room-here (function u e) r;
           ending = omega (arith, entries-here (function u e) r, r .ending);

@@ -1,36 +1,34 @@
 -- The root's body, and one walk of the whole table from a pen.
 use mathlib.Core.Path.{_≡_, refl, ap, sym, _∙_}
-use mathlib.Core.Bool.{Bool, true, false}
-use mathlib.Core.List.{List, [], _∷_, _++_, append-nil}
-use Prim.Native.Nat.{ℕ, zero, suc, _+_, _-_, _*_, _/_, _≤_, _<_}
+use mathlib.Core.Bool.{true, false}
+use mathlib.Core.List.{List, [], _∷_, append-nil}
+use Prim.Native.Nat.{ℕ, _-_, _*_, _/_, _≤_, _<_}
 use native.Mathlib.Omega.{arith}
-use lib.ListN.{length, drop, set, length-append, length-drop, length-set}
+use lib.ListN.{length, drop, set, length-drop, length-set}
 use lib.Seq.{sets, take-all}
-use Rattle.words.specs.Numbers.{halfAt, wordAt}
-use Rattle.language.specs.Tree.{Tree, countItems}
-use Rattle.language.specs.Table.{flatItems, flatHead, flatten}
-use Rattle.language.specs.Limits.{locals}
+use Rattle.words.specs.Numbers.{wordAt}
+use Rattle.language.specs.Tree.{countItems}
+use Rattle.language.specs.Table.{flatten}
+use Rattle.language.specs.Limits.{locals, headHolds}
 use Rattle.programs.specs.Claims.{entriesOf}
-use Rattle.spans.specs.Stands.{Stands, length-entries}
-use Rattle.shapes.specs.Walk.{Table}
+use Rattle.spans.specs.Stands.{Stands}
 use Rattle.shapes.specs.Steps.{head-of, below}
 use Rattle.bytecode.specs.Instructions.{end}
-use Rattle.compile_code.specs.Code.{Code, op, at, after}
+use Rattle.compile_code.specs.Code.{op, at}
 use Rattle.compile_code.specs.Compile.{procsOf}
 use Rattle.compile_code.specs.Encode.{recordOf, codeRoot, procParts, parts}
 use Rattle.compile_pen.specs.declared.Pen.{Pen}
 use Rattle.compile_pen.specs.Ink.{moved, inkOp, Fits, length-ink}
-use Rattle.compile_pen.specs.Folds.{lets, penAfter, inked, inked-op, grows, later-trans, later-moved, fits-before, address-after, length-inked, within}
+use Rattle.compile_pen.specs.Folds.{lets, penAfter, inked, inked-op, grows, later-moved, fits-before, address-after, length-inked, within}
 use Rattle.compile_bytes.specs.Bytes.{penAll, inkedAll, codesOf}
 use Rattle.compile_bytes.specs.Room.{fits-first, fits-within, all-within, inked-all-within}
-use Rattle.compile_nodes.specs.Knows.{Lies, Walk}
-use Rattle.compile_nodes.specs.Ready.{Place, Lent, Kept, ReadyItems, DoneItems, AsksItems, AnswersItems}
-use Rattle.compile_known.specs.Tabled.{Tabled, theTree, Headed}
-use Rattle.compile_sight.specs.Marks.{openIn}
+use Rattle.compile_nodes.specs.Knows.{Lies}
+use Rattle.compile_nodes.specs.Ready.{Lent, Kept, ReadyItems, DoneItems, AsksItems, AnswersItems}
+use Rattle.compile_known.specs.Tabled.{theTree, Headed}
 use Rattle.compile_sight.specs.Sight.{afterHead, startOfItems, aroundRoot}
 use Rattle.compile_whole.specs.Heads.{rootHead, rootItems, rootLets, root-pen, root-inked, head-address}
 use Rattle.compile_whole.specs.Ends.{itemsEnds, rootEnd, endedRoot, endedProcs, ended, Aims}
-use Rattle.compile_whole.specs.Stage.{Prepared, Stage, walkOf, lentOf, items-fit, ready-items}
+use Rattle.compile_whole.specs.Stage.{Stage, walkOf, lentOf, items-fit, ready-items}
 use Rattle.compile_whole.specs.Loop.{AsksProcs, AnswersProcs, kept-then, penProcs, inkProcs}
 
 -- ── the root ──
@@ -82,7 +80,7 @@ module _ {l : List ℕ} {count behind : ℕ} {sizes : List ℕ} {L : Lent} {top 
   head-fits = fits-before (length (L .out)) (grows (rootItems (theTree l)) _) items-fits
 
   -- ── its items ──
-  module _ (items held : ℕ) (i : items ≡ wordAt l 4) (o : held ≡ openIn (locals (theTree l .head))) {p : Pen} {out : List ℕ}
+  module _ (items held : ℕ) (i : items ≡ wordAt l 4) (o : held ≡ headHolds (locals (theTree l .head))) {p : Pen} {out : List ℕ}
       (h : (p ≡ penAfter (rootHead (theTree l)) pen) × (out ≡ inked (rootHead (theTree l)) pen (L .out))) where
     same-out : length out ≡ length (L .out)
     same-out = ap (length {A = ℕ}) (h .1) ∙ length-inked (rootHead (theTree l)) pen (L .out)
@@ -96,10 +94,10 @@ module _ {l : List ℕ} {count behind : ℕ} {sizes : List ℕ} {L : Lent} {top 
         let t = theTree l in
         rw (i ∙ root-long .1, o)
         (ready-items (q .stage) aims (L .ends) (L .stack) out p (below l (8 * behind)) behind (q .placed) (take-all (length l - 8 * behind) (drop (8 * behind) l) (omega (arith, length-drop (8 * behind) l)))
-          (λ d. q .aimed (sym same-dry ∙ d)) (q .ending) (q .stacked)
-          (ap (λ (z : Pen). z .address) (h .0) ∙ head-address (t .head) (locals (t .head)) (at 0 0) pen (q .first))
-          (ap (λ (z : Pen). z .inside) (h .0) ∙ (grows (rootHead t) pen .same-inside ∙ q .outer))
-          (rw (h .0, same-out) items-fits))
+        (λ d. q .aimed (sym same-dry ∙ d)) (q .ending) (q .stacked)
+        (ap (λ (z : Pen). z .address) (h .0) ∙ head-address (t .head) (locals (t .head)) (at 0 0) pen (q .first))
+        (ap (λ (z : Pen). z .inside) (h .0) ∙ (grows (rootHead t) pen .same-inside ∙ q .outer))
+        (rw (h .0, same-out) items-fits))
 
     pub root-asks : AsksItems known aims l (below l (8 * behind)) items 63 behind sizes (lentOf (L .env) (L .ends) (L .stack) out) top held 0 p
     root-asks = record {
@@ -145,10 +143,13 @@ module _ {l : List ℕ} {count behind : ℕ} {sizes : List ℕ} {L : Lent} {top 
         pub ends-some : 0 < length (M .ends)
         ends-some = omega (arith, y .kept .same-ends, q .ending, root-long .0)
 
-        pub root-done : (u : Pen) (last later : List ℕ) → u ≡ moved s → last ≡ inkOp s freed 0 0 0 → later ≡ set (M .ends) 0 (u .address) → AnswersRoot l L (lentOf (M .env) later (M .stack) last) top pen u
+        pub root-done : {u v : Pen} {last later : List ℕ} → (v ≡ moved s) × (last ≡ inkOp s freed 0 0 0) → (u ≡ v) × (later ≡ set (M .ends) 0 (v .address)) → AnswersRoot l L (lentOf (M .env) later (M .stack) last) top pen u
         unfolding inked recordOf
-        root-done u last later a b c =
+        root-done {u} {v} {last} {later} d g =
             let t = theTree l in
+            let a = g .0 ∙ d .0 in
+            let b = d .1 in
+            let c : later ≡ set (M .ends) 0 (u .address) = g .1 ∙ ap (λ (x : Pen). set (M .ends) 0 (x .address)) (sym (g .0)) in
             let pu : u ≡ penAfter (codeRoot t) pen = a ∙ (ap moved (f .0 ∙ lets-pen) ∙ sym (root-pen t pen)) in
             let z : u .address ≡ rootEnd t = ap (λ (x : Pen). x .address) pu ∙ address-after (codeRoot t) pen (at 0 0) (q .first) in
             record {

@@ -6,11 +6,16 @@ use native.Mathlib.Omega.{arith}
 use Rattle.words.specs.Laws.{Bytes}
 use Rattle.values.specs.Ends.{refusal, Judged, accepted, refused}
 use Rattle.language.specs.Tree.{Tree}
-use Rattle.language.specs.Judge.{judgeTable}
+use Rattle.language.specs.Judge.{judgeTable, compileOn}
 use Rattle.bytecode.specs.Macro.{Macro}
 use Rattle.bytecode.specs.Rules.{judgeMacro}
 use Rattle.bytecode.specs.Lent.{startOn, runOn}
 use Rattle.bytecode.specs.Answers.{Numbers, doneNumbers, refusalNumbers, verdictNumbers, answerNumbers, packed}
+use Rattle.compile_code.specs.Encode.{macroOf}
+use Rattle.compile.specs.Verdict.{verdictOf as compiledOf}
+use Rattle.compile.specs.declared.Compiled.{Compiled}
+use Rattle.compile.specs.declared.Compiled.the-variants.{Done, Refused as Unmade}
+use Rattle.desk.specs.Compiled.{compiledNumbers, Short, short}
 use Rattle.table.specs.Checked.{checkedOf, place-small}
 use Rattle.table.specs.declared.Checked.{Checked}
 use Rattle.table.specs.declared.Checked.the-variants.{Accepted, Refused as Rejected}
@@ -72,3 +77,18 @@ module _ (c l readings : List ℕ) (allowance : ℕ) (k : List ℕ) (a : Ran) (e
 
   pub ran-small : Bytes c → Bytes readings → (n p : ℕ) → a ≡ Unrun n p → p < 16777216
   ran-small B R n p d = run-small c B l readings allowance R (refusal n p) (rw (e, d)) .1
+
+-- ── the compiler ──
+module _ (l out k : List ℕ) (a : Compiled) (e : compileOn macroOf l out ≡ record { verdict = compiledOf a; bytes = k }) where
+  pub compiled : (v : Compiled) → a ≡ v → (r : ℕ) → r ≡ packed (compiledNumbers (compiledOf v))
+      → (r ≡ packed (compiledNumbers (compileOn macroOf l out .verdict))) × (k ≡ compileOn macroOf l out .bytes)
+  compiled v d r h = rw (e, d) (h, refl)
+
+  in-short : Bytes l → Short (compiledOf a)
+  in-short B = rw e at (short l out B)
+
+  pub macro-short : Bytes l → (n : ℕ) → a ≡ Done n → n < 16777216
+  macro-short B n d = rw d at (in-short B)
+
+  pub compiled-small : Bytes l → (n p : ℕ) → a ≡ Unmade n p → p < 16777216
+  compiled-small B n p d = let h : Short (compiledOf (Unmade n p)) = rw d at (in-short B) in h .1

@@ -1,24 +1,27 @@
 -- No two answers of the exported functions pack to one number: their numbers fit the fields, and the packing loses nothing.
-use mathlib.Core.Path.{_≡_, refl, sym, _∙_, subst}
+use mathlib.Core.Path.{_≡_, refl, sym, ap, _∙_, subst}
 use mathlib.Core.Bool.{true}
 use mathlib.Core.List.{List}
 use mathlib.Core.Logic.{_⊎_, inl, inr}
 use Prim.Native.Nat.{ℕ, _<_}
 use native.Mathlib.Omega.{arith}
-use lib.Dec.{leb}
+use lib.Dec.{eqb, leb}
 use borrow.Author.Tests.{leb-true}
 use Rattle.words.specs.Laws.{Bytes}
-use Rattle.values.specs.Ends.{Refusal, Judged, accepted, refused, overflow, tooManyRecords, isCondition}
+use Rattle.values.specs.Ends.{Refusal, refusal, Judged, accepted, refused, overflow, tooManyRecords, isCondition}
 use Rattle.values.specs.Trace.{set, hold, release}
-use Rattle.language.specs.Judge.{judgeTable}
+use Rattle.language.specs.Judge.{judgeTable, compileOn}
 use Rattle.bytecode.specs.Rules.{judgeMacro}
 use Rattle.bytecode.specs.Runs.{Answer, happens, spends, finishes, refuses, halts}
 use Rattle.bytecode.specs.Lent.{startOn, runOn}
-use Rattle.bytecode.specs.Answers.{verdictNumbers, answerNumbers, packed}
+use Rattle.bytecode.specs.Answers.{Numbers, verdictNumbers, answerNumbers, packed}
 use Rattle.loading.specs.Tests.{halves}
 use Rattle.table.specs.Small.{Narrow, narrow}
 use Rattle.running.specs.Fields.{Small, Ranged, judged-small, start-small, run-ranged}
-use Rattle.desk.specs.Packing.{Fits, bare, verdicts-differ, Told, answers-differ}
+use Rattle.words.specs.Choice.{if_then_else_}
+use Rattle.compile_code.specs.Encode.{macroOf}
+use Rattle.desk.specs.Compiled.{compiledNumbers, Short, short}
+use Rattle.desk.specs.Packing.{Fits, packed-injective, bare, verdicts-differ, Told, answers-differ}
 
 -- ── runs ──
 low-end : (c : ℕ) → (c ≡ 0) ⊎ (isCondition c ≡ true) → c < 65536
@@ -82,3 +85,22 @@ table-small l r e = let h : Narrow (refused r) = subst Narrow e (narrow l) in (o
 
 pub check-told : (l k : List ℕ) → packed (verdictNumbers (judgeTable l)) ≡ packed (verdictNumbers (judgeTable k)) → bare (judgeTable l) ≡ bare (judgeTable k)
 check-told l k e = verdicts-differ (judgeTable l) (judgeTable k) (verdict-fits (judgeTable l) (table-small l)) (verdict-fits (judgeTable k) (table-small k)) e
+
+-- ── compilations: the macro's length is told ──
+abbrev compiledFrom : Numbers → Judged ℕ
+compiledFrom x = if eqb (x .tag) 0 then refused (refusal (x .first) (x .second)) else accepted (x .second)
+
+compiled-from : (v : Judged ℕ) → compiledFrom (compiledNumbers v) ≡ v
+compiled-from (accepted n) = refl
+compiled-from (refused r) = refl
+
+compiled-fits : (v : Judged ℕ) → Short v → Fits (compiledNumbers v)
+compiled-fits (accepted n) h = record { tag-fits = omega arith; steps-fit = omega arith; first-fits = omega arith; second-fits = h }
+compiled-fits (refused r) h = record { tag-fits = omega arith; steps-fit = omega arith; first-fits = omega (arith, h .0); second-fits = h .1 }
+
+pub compile-told : (l out k room : List ℕ) → Bytes l → Bytes k
+    → packed (compiledNumbers (compileOn macroOf l out .verdict)) ≡ packed (compiledNumbers (compileOn macroOf k room .verdict))
+    → compileOn macroOf l out .verdict ≡ compileOn macroOf k room .verdict
+compile-told l out k room b d e =
+    let v = compileOn macroOf l out .verdict in let w = compileOn macroOf k room .verdict in
+    sym (compiled-from v) ∙ ap compiledFrom (packed-injective (compiledNumbers v) (compiledNumbers w) (compiled-fits v (short l out b)) (compiled-fits w (short k room d)) e) ∙ compiled-from w

@@ -1,7 +1,7 @@
 -- `declare_globals`: whatever finishes the declarations that are left finishes the whole (crates/compile_whole/specs/Declares).
 use borrow.Author.Needs.{needs}
 use native.Mathlib.Omega.{arith}
-use Rattle.compile_whole.specs.Declares.{HeadSoFar, head-start, head-within, head-part, head-fits, head-again, head-end}
+use Rattle.compile_whole.specs.Declares.{HeadSoFar, head-start, head-within, head-part, head-fits, head-again, head-end, same-out}
 use Rattle.compile_bodies.proofs.declare_globals.Statement.{statement}
 use Rattle.compile_bodies.proofs.declare_globals.Tie as tie
 
@@ -48,7 +48,7 @@ loop-again : tie.Need-loop-again Inv-loop μ-loop
 loop-again c = head-again (c .before .before .before .before .before .before .before .before .before .before .before .before .before .pre .0) (c .before .before .before .before .before .before .before .before .loop .inv) (omega arith) (c .before .before .before .before .before .before .known-at .result) (c .size-at .result) _ _ (c .before .before .before .before .before .before .known-at .ensures) (c .size-at .ensures) (c .before .before .before .declare-one .ensures)
 
 same-length : tie.Need-same-length Inv-loop μ-loop
-same-length c = search needs
+same-length c = same-out (c .before .before .before .before .before .before .pre .0) (c .before .loop .inv)
 
 returns : tie.Need-returns Inv-loop μ-loop
 returns c = head-end (c .before .before .before .before .before .before .pre .0) (c .before .loop .inv) (omega arith)

@@ -6,15 +6,6 @@ use native.Mathlib.Omega.{arith}
 use Rattle.compile_known.proofs.known_at.Statement.{statement}
 use Rattle.compile_known.proofs.known_at.Tie as tie
 
-mul-result : tie.Need-mul-result
-mul-result c = search needs
-
-shared-slice-read-result : tie.Need-shared-slice-read-result
-shared-slice-read-result c = search needs
-
-returns : tie.Need-returns
-returns c = search needs
-
 -- a place past the end
 returns-2 : tie.Need-returns-2
 returns-2 c =
@@ -22,4 +13,4 @@ returns-2 c =
     sym (List·getD-eq-default (c .before .args .known .now) 0 past)
 
 pub known-at-spec : {M : Type 1} → statement M
-known-at-spec = tie.close (tie.spec mul-result shared-slice-read-result returns returns-2)
+known-at-spec = tie.close (tie.spec (λ c. search needs) (λ c. search needs) (λ c. search needs) returns-2)

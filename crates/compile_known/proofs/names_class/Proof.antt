@@ -8,18 +8,6 @@ use Rattle.compile_known.proofs.names_class.Lts as lts
 use Rattle.spans.proofs.a_at.Reads as a-at-reads
 use Rattle.spans.proofs.kind_at.Reads as kind-at-reads
 
--- src/lib.rt:71:8
-kind-at-requires : tie.Need-kind-at-requires
-kind-at-requires c κs = search needs
-
--- src/lib.rt:72:9
-a-at-requires : tie.Need-a-at-requires
-a-at-requires c κs = search needs
-
--- src/lib.rt:72:9
-cast-result : tie.Need-cast-result
-cast-result c = search needs
-
 -- src/lib.rt:67:1
 returns : tie.Need-returns
 returns c = rw (sym (c .before .before .kind-at .ensures) ∙ c .before .if1 .taken, sym (c .a-at .ensures))
@@ -30,4 +18,4 @@ returns-2 c = rw (sym (c .before .kind-at .ensures), ne-eqb _ _ (c .if1 .left))
 
 pub names-class-spec : {M : Type 1} → statement M
 names-class-spec =
-    tie.close (tie.spec kind-at-requires a-at-requires cast-result returns returns-2)
+    tie.close (tie.spec (λ c κs. search needs) (λ c κs. search needs) (λ c. search needs) returns returns-2)

@@ -1,5 +1,6 @@
-use mathlib.Core.Path.{sym, _∙_, ap}
-use Prim.Native.Nat.{ℕ, _+_, _*_, _-_}
+-- The loop's invariant, CellsSoFar: the numbers of the entries that are left, put after what is written, are all numbers (specs/Entries).
+use mathlib.Core.Path.{_∙_, ap}
+use Prim.Native.Nat.{_-_}
 use native.Mathlib.Omega.{arith}
 use Rattle.compile_known.specs.Entries.{cellsOfKind, cells-few, CellsSoFar, cells-start, cells-next, cells-end}
 use Rattle.compile_known.specs.Tabled.{classesIn, entries-few}
@@ -14,10 +15,14 @@ abbrev μ-loop : tie.MeasureT-loop
 μ-loop table count sizes from to owner first known₀ place₀ cell₀ known place cell = to - place
 
 loop-holds : tie.Need-loop-holds Inv-loop μ-loop
-loop-holds c = cells-start _ _ _ _ _ _ _ (c .before .before .before .pre .1) (c .before .before .before .pre .5)
+loop-holds c =
+    let at-start = c .before .before .before in
+    cells-start _ _ _ _ _ _ _ (at-start .pre .1) (at-start .pre .5)
 
 entry-known-requires : tie.Need-entry-known-requires Inv-loop μ-loop
-entry-known-requires c κs = let s = c .before .loop .inv in (c .before .before .before .before .before .pre .0, omega (arith, s .most), c .before .before .before .before .before .pre .4, omega (arith, s .few, s .most, entries-few (c .before .before .before .before .before .pre .0 .tabled)))
+entry-known-requires c κs =
+    let at-start = c .before .before .before .before .before in
+    let s = c .before .loop .inv in (at-start .pre .0, omega (arith, s .most), at-start .pre .4, omega (arith, s .few, s .most, entries-few (at-start .pre .0 .tabled)))
 
 mul-known : tie.Need-mul-known Inv-loop μ-loop
 mul-known c = omega (arith, c .before .before .loop .inv .long)
@@ -25,23 +30,17 @@ mul-known c = omega (arith, c .before .before .loop .inv .long)
 slice-write-known : tie.Need-slice-write-known Inv-loop μ-loop
 slice-write-known c = omega (arith, c .before .before .loop .inv .long)
 
-kind-at-requires : tie.Need-kind-at-requires Inv-loop μ-loop
-kind-at-requires c κs = omega arith
-
-cells-of-requires : tie.Need-cells-of-requires Inv-loop μ-loop
-cells-of-requires c κs = search needs
-
 add-cell : tie.Need-add-cell Inv-loop μ-loop
-add-cell c = omega (arith, c .before .before .before .before .loop .inv .few, cells-few (c .before .kind-at .result))
-
-add-place : tie.Need-add-place Inv-loop μ-loop
-add-place c = omega arith
-
-loop-less : tie.Need-loop-less Inv-loop μ-loop
-loop-less c = omega arith
+add-cell c =
+    let at-loop = c .before .before .before .before in
+    omega (arith, at-loop .loop .inv .few, cells-few (c .before .kind-at .result))
 
 loop-again : tie.Need-loop-again Inv-loop μ-loop
-loop-again c = cells-next (c .before .before .before .before .loop .inv) (c .before .before .entry-known .result) (c .cells-of .result) (c .before .before .before .loop-test .taken) (c .before .before .before .before .before .before .before .before .pre .2) (c .before .before .entry-known .ensures) (c .cells-of .ensures ∙ ap cellsOfKind (c .before .kind-at .ensures))
+loop-again c =
+    let at-entry-known = c .before .before in
+    let at-loop = at-entry-known .before .before in
+    let at-start = at-loop .before .before .before .before in
+    cells-next (at-loop .loop .inv) (at-entry-known .entry-known .result) (c .cells-of .result) (c .before .before .before .loop-test .taken) (at-start .pre .2) (at-entry-known .entry-known .ensures) (c .cells-of .ensures ∙ ap cellsOfKind (c .before .kind-at .ensures))
 
 same-length : tie.Need-same-length Inv-loop μ-loop
 same-length c = c .before .loop .inv .long
@@ -59,11 +58,11 @@ number-cells-spec =
     entry-known-requires
     mul-known
     slice-write-known
-    kind-at-requires
-    cells-of-requires
+    (λ c κs. omega arith)
+    (λ c κs. search needs)
     add-cell
-    add-place
-    loop-less
+    (λ c. omega arith)
+    (λ c. omega arith)
     loop-again
     same-length
     returns)

@@ -1,3 +1,4 @@
+-- A class's number is at most the count of entries, so that the sum fits (specs/Classes).
 use mathlib.Core.Path.{sym, _∙_, ap}
 use Prim.Native.Nat.{ℕ, _+_, _-_}
 use native.Mathlib.Omega.{arith}
@@ -7,14 +8,15 @@ use borrow.Author.Needs.{needs}
 use Rattle.compile_known.proofs.type_byte.Statement.{statement}
 use Rattle.compile_known.proofs.type_byte.Tie as tie
 
-class-number-requires : tie.Need-class-number-requires
-class-number-requires c κs = search needs
-
 cast-result : tie.Need-cast-result
-cast-result c = omega (arith, class-few (c .before .before .before .before .pre) (c .before .before .before .before .args .ty - 65536))
+cast-result c =
+    let at-start = c .before .before .before .before in
+    omega (arith, class-few (at-start .pre) (at-start .args .ty - 65536))
 
 add-result : tie.Need-add-result
-add-result c = omega (arith, class-few (c .before .before .before .before .pre) (c .before .before .before .before .args .ty - 65536))
+add-result c =
+    let at-start = c .before .before .before .before in
+    omega (arith, class-few (at-start .pre) (at-start .args .ty - 65536))
 
 returns : tie.Need-returns
 returns c = sym (byte-below _ _ (c .if1 .taken))
@@ -24,4 +26,4 @@ returns-2 c = ap (λ (n : ℕ). 16 + n) (c .class-number .ensures) ∙ sym (byte
 
 pub type-byte-spec : {M : Type 1} → statement M
 type-byte-spec =
-    tie.close (tie.spec class-number-requires cast-result add-result returns returns-2)
+    tie.close (tie.spec (λ c κs. search needs) cast-result add-result returns returns-2)

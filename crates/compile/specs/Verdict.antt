@@ -1,0 +1,40 @@
+-- What the code answers, in the terms of the definition.
+use mathlib.Core.Path.{_≡_, refl}
+use mathlib.Core.List.{List}
+use Prim.Native.Nat.{ℕ}
+use lib.ListN.{length}
+use Rattle.values.specs.Ends.{refusal, Judged, accepted, refused}
+use Rattle.language.specs.Tree.{Tree}
+use Rattle.language.specs.Judge.{judgeTable, compileOn}
+use Rattle.programs.specs.Basics.{clash}
+use Rattle.table.specs.Checked.{checkedOf}
+use Rattle.table.specs.declared.Checked.the-variants.{Accepted}
+use Rattle.table.specs.declared.Checked.the-variants as checked
+use Rattle.compile_code.specs.Encode.{macroOf}
+use Rattle.compile.specs.declared.Compiled.{Compiled}
+use Rattle.compile.specs.declared.Compiled.the-variants.{Done, Refused}
+
+-- the macro's length, or the refusal
+abbrev pub verdictOf : Compiled → Judged ℕ
+verdictOf (Done n) = accepted n
+verdictOf (Refused n p) = refused (refusal n p)
+
+-- a table that the check accepts
+abbrev pub Accepts : List ℕ → Type 0
+Accepts l = (t : Tree) × (judgeTable l ≡ accepted t)
+
+-- ── by the check's answer ──
+pub compile-accepted : (l : List ℕ) → Accepted ≡ checkedOf (judgeTable l) → Accepts l
+compile-accepted l e = go (judgeTable l) refl e
+  where
+    go : (j : Judged Tree) → judgeTable l ≡ j → Accepted ≡ checkedOf j → Accepts l
+    go (accepted t) h k = (t, h)
+    go (refused r) h k = clash (cc)
+
+pub compile-refused : (l out : List ℕ) (n p : ℕ) → checked.Refused n p ≡ checkedOf (judgeTable l) → compileOn macroOf l out ≡ record { verdict = verdictOf (Refused n p); bytes = out }
+unfolding compileOn
+compile-refused l out n p e = go (judgeTable l) refl e
+  where
+    go : (j : Judged Tree) → judgeTable l ≡ j → checked.Refused n p ≡ checkedOf j → compileOn macroOf l out ≡ record { verdict = refused (refusal n p); bytes = out }
+    go (accepted t) h k = clash (cc)
+    go (refused r) h k = let a : r .number ≡ n = cc in let b : r .place ≡ p = cc in rw (h, a, b)

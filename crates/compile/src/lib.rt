@@ -1,0 +1,203 @@
+// Compiles a table: the check, what its definitions stand for, a dry walk that finds the places of its code and the length of its macro
+// (refusal 7), and the walk that writes it.
+use compile_pen::Pen;
+use table::Checked;
+ghost use mathlib.Core.Path.{_≡_};
+ghost use Prim.Native.Nat.{_≤_};
+ghost use lib.ListN.{length};
+ghost use Rattle.language.specs.Judge.{compileOn};
+ghost use Rattle.compile_code.specs.Encode.{macroOf};
+ghost use Rattle.compile_whole.specs.Compiling.{AsksCompile, AsksWrite, penAt};
+ghost use Rattle.compile.specs.Verdict.{verdictOf, Accepts};
+
+pub enum Compiled {
+    // the macro's length
+    Done(usize),
+    Refused(u8, u32),
+}
+
+fn pen(at: usize, sh: usize, dry: bool) -> Pen
+    ensures { λ r. ⌜ r ≡ penAt at sh dry ⌝ }
+{
+    Pen {
+        at,
+        address: 0,
+        sh,
+        shapes: 0,
+        waits: false,
+        dry,
+        inside: false,
+    }
+}
+
+// A table whose entries are measured and numbered, and the root's names in sight. The dry walk finds the ends that the other one aims at.
+fn write(
+    table: &[u8],
+    count: usize,
+    after: usize,
+    classes: usize,
+    bodies: usize,
+    sizes: &[u16],
+    env: &mut [u32],
+    top: usize,
+    known: &[u32],
+    aims: &mut [u16],
+    ends: &mut [u16],
+    stack: &mut [u8],
+    out: &mut [u8],
+) -> Compiled
+    requires { ⌜ AsksWrite (now table) count after classes bodies (now sizes) (now env) top (now known) (now aims) (now ends) × (32 ≤ length (now stack)) ⌝ }
+    ensures { λ r. ⌜ compileOn macroOf (now (table .entry)) (now (out .entry)) ≡ record { verdict = verdictOf r; bytes = now (out .exit) } ⌝ }
+{
+    let dry = compile_bodies::walk(
+        table,
+        count,
+        after,
+        sizes,
+        env,
+        top,
+        known,
+        ends,
+        aims,
+        stack,
+        out,
+        pen(0, 0, true),
+    );
+    let front = compile_heads::length(table, classes, bodies);
+    let shapes = front + 8 * dry.address;
+    let length = shapes + dry.sh + 2;
+    if out.len() < length {
+        return Compiled::Refused(7, 0);
+    }
+    compile_heads::put(
+        table,
+        count,
+        after,
+        sizes,
+        known,
+        aims,
+        classes,
+        bodies,
+        dry.address,
+        dry.shapes,
+        out,
+    );
+    compile_bodies::walk(
+        table,
+        count,
+        after,
+        sizes,
+        env,
+        top,
+        known,
+        aims,
+        ends,
+        stack,
+        out,
+        pen(front, shapes, false),
+    );
+    out[length - 2] = 90;
+    out[length - 1] = 90;
+    Compiled::Done(length)
+}
+
+// A table that is accepted; the lent arrays have room for its entries.
+fn compile_in(
+    table: &[u8],
+    sizes: &mut [u16],
+    env: &mut [u32],
+    known: &mut [u32],
+    aims: &mut [u16],
+    ends: &mut [u16],
+    out: &mut [u8],
+) -> Compiled
+    requires { ⌜ AsksCompile (now table) (now sizes) (now env) (now known) (now aims) (now ends) ⌝ }
+    ensures { λ r. ⌜ compileOn macroOf (now (table .entry)) (now (out .entry)) ≡ record { verdict = verdictOf r; bytes = now (out .exit) } ⌝ }
+{
+    spans::measure(table, sizes);
+    let count = words::half_at(table, 2) as usize;
+    let items = words::word_at(table, 4) as usize;
+    let after = 1 + spans::spanned(table, sizes, 1, count);
+    let top = heads::enter_root(table, count, after, items, sizes, env);
+    let n = compile_known::number_all(table, count, sizes, known);
+    let mut stack = [0u8; 32];
+    write(
+        table,
+        count,
+        after,
+        n.classes,
+        n.bodies,
+        sizes,
+        env,
+        top,
+        known,
+        aims,
+        ends,
+        &mut stack,
+        out,
+    )
+}
+
+// The arrays are cleared at each call, so that their size goes by the number of entries.
+fn compile_accepted(table: &[u8], out: &mut [u8]) -> Compiled
+    requires { ⌜ Accepts (now table) ⌝ }
+    ensures { λ r. ⌜ compileOn macroOf (now (table .entry)) (now (out .entry)) ≡ record { verdict = verdictOf r; bytes = now (out .exit) } ⌝ }
+{
+    let bytes = table.len();
+    if bytes <= 512 {
+        let mut sizes = [0u16; 64];
+        let mut env = [0u32; 512];
+        let mut known = [0u32; 64];
+        let mut aims = [0u16; 64];
+        let mut ends = [0u16; 64];
+        return compile_in(
+            table,
+            &mut sizes,
+            &mut env,
+            &mut known,
+            &mut aims,
+            &mut ends,
+            out,
+        );
+    }
+    if bytes <= 4096 {
+        let mut sizes = [0u16; 512];
+        let mut env = [0u32; 4096];
+        let mut known = [0u32; 512];
+        let mut aims = [0u16; 512];
+        let mut ends = [0u16; 512];
+        return compile_in(
+            table,
+            &mut sizes,
+            &mut env,
+            &mut known,
+            &mut aims,
+            &mut ends,
+            out,
+        );
+    }
+    let mut sizes = [0u16; 2048];
+    let mut env = [0u32; 16384];
+    let mut known = [0u32; 2048];
+    let mut aims = [0u16; 2048];
+    let mut ends = [0u16; 2048];
+    compile_in(
+        table,
+        &mut sizes,
+        &mut env,
+        &mut known,
+        &mut aims,
+        &mut ends,
+        out,
+    )
+}
+
+// For all bytes: the verdict, and what the output then holds.
+pub fn compile(table: &[u8], out: &mut [u8]) -> Compiled
+    ensures { λ r. ⌜ compileOn macroOf (now (table .entry)) (now (out .entry)) ≡ record { verdict = verdictOf r; bytes = now (out .exit) } ⌝ }
+{
+    match table::check(table) {
+        Checked::Accepted => compile_accepted(table, out),
+        Checked::Refused(number, place) => Compiled::Refused(number, place),
+    }
+}

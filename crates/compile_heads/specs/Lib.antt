@@ -1,0 +1,11 @@
+pub mod Types
+pub mod Cells
+pub mod Bodies
+pub mod Told
+pub mod Writing
+pub mod Front
+pub mod Leaves
+pub mod Records
+pub mod Lengths
+pub mod Top
+pub mod Declared

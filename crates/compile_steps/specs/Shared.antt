@@ -1,0 +1,237 @@
+-- What is left of an entry while its parts are walked one after the other: their entries, where they end, their code.
+use mathlib.Core.Path.{_≡_, refl, ap, sym, _∙_}
+use mathlib.Core.Bool.{Bool, true, false}
+use mathlib.Core.List.{List, [], _∷_, _++_}
+use Prim.Native.Nat.{ℕ, zero, suc, _+_, _-_, _*_, _≤_, _<_}
+use native.Mathlib.Omega.{arith}
+use native.Mathlib.Nat.{add-zero}
+use native.Mathlib.Numerals.{add-one}
+use lib.ListN.{length, getD, set, take, drop, length-append, length-set, length-drop}
+use lib.Seq.{sets, set-comm, take-all}
+use Rattle.values.specs.Types.{Ty, tyByte}
+use Rattle.bytecode.specs.Macro.{Shape}
+use Rattle.bytecode.specs.Instructions.{Instr}
+use Rattle.language.specs.Tree.{Stmt, Expr}
+use Rattle.language.specs.Table.{Entry, flatS, flatE}
+use Rattle.heads.specs.Trees.{length-S, length-E}
+use Rattle.scopes.specs.Environment.{envOf}
+use Rattle.spans.specs.Stands.{Stands, stands-right}
+use Rattle.shapes.specs.Walk.{Table}
+use Rattle.shapes.specs.Steps.{table-next}
+use Rattle.compile_code.specs.Code.{Code, nil, op, mark, cell, _▸_, At, at, skip, after}
+use Rattle.compile_code.specs.Compile.{Around, scopesOf, found, codeE, tyE}
+use Rattle.compile_code.specs.Encode.{rec, recordOf}
+use Rattle.compile_known.specs.Numbers.{cellsOf, cellsWithin}
+use Rattle.compile_pen.specs.declared.Pen.{Pen}
+use Rattle.compile_pen.specs.Ink.{Fits, moved, penShaped, inkOp, inkShape}
+use Rattle.compile_pen.specs.Folds.{penAfter, inked, Stacked, pen-mark, pen-op, later-self}
+use Rattle.compile_nodes.specs.Ends.{belowE, endsE}
+use Rattle.compile_nodes.specs.Knows.{Walk, Lands}
+use Rattle.compile_nodes.specs.Ready.{Node, stmt, expr, name, flatN, roomN, deepN, holdsN, needN, goodN, codeN, endsN, Place, Lent, Laid, Stood, Kept, Wrote, LandsN, Ready, Done}
+use Rattle.compile_sight.specs.Lengths.{length-below, length-belowE}
+use Rattle.compile_steps.specs.Cells.{cell-S, cell-E}
+use Rattle.compile_steps.specs.Parts.{lent, movedTo, heldOn, below, laid-tail, laid-left, laid-right, laid-at, laid-aim, room-N, stood-next, stood-push, stood-shape, wrote-length, wrote-later, wrote-address, wrote-op, wrote-mark, fits-first, fits-rest, kept-out, kept-self}
+
+pub record Rest (W : Walk) (X : Place) (l : List ℕ) (at : ℕ) (L : Lent) (top holds depth : ℕ) (pen : Pen) (us : List Entry) (es : List ℕ) (x : Code) : Type 0 where
+  pub laid : Laid W l at (X .start) us es
+  pub stood : Stood W X l L top holds depth pen
+  pub room : 4 * (top + length us) ≤ length (L .env)
+  pub ending : at + length us ≤ length (L .ends)
+  pub fits : Fits (penAfter x pen) (length (L .out))
+
+-- ── ends ──
+pub sets-append : (l : List ℕ) (i : ℕ) (us vs : List ℕ) → sets l i (us ++ vs) ≡ sets (sets l i us) (i + length us) vs
+sets-append l i [] vs = ap (λ (k : ℕ). sets l k vs) (sym (add-zero i))
+sets-append l i (u ∷ us) vs =
+    let z : suc i + length us ≡ i + suc (length us) = omega arith in
+    sets-append (set l i u) (suc i) us vs ∙ ap (λ (k : ℕ). sets (sets (set l i u) (suc i) us) k vs) z
+
+-- an entry's own end is set last
+pub set-sets : (l : List ℕ) (i j v : ℕ) (us : List ℕ) → i < j → set (sets l j us) i v ≡ sets (set l i v) j us
+set-sets l i j v [] h = refl
+set-sets l i j v (u ∷ us) h =
+    set-sets (set l j u) i (suc j) v us (omega arith) ∙ ap (λ (k : List ℕ). sets k (suc j) us) (set-comm l j i u v (λ e. absurd (omega (arith, e))))
+
+pub cell-N : (n : Node) (W : Walk) (X : Place) → after (codeN (W .globals) n (X .around) (X .types) (X .start)) (X .start) .cell ≡ X .start .cell + cellsWithin (flatN n)
+unfolding after cellsWithin
+cell-N (stmt s) W X = cell-S (W .globals) s (X .around) (X .types) (X .start)
+cell-N (expr e) W X = cell-E (W .globals) e (X .around) (X .types) (X .start)
+cell-N (name a) W X = omega arith
+
+pub ends-N : (n : Node) (W : Walk) (X : Place) → length (endsN (W .globals) n (X .around) (X .types) (X .start)) ≡ length (flatN n)
+ends-N (stmt s) W X = length-below (W .globals) s (X .around) (X .types) (X .start) ∙ sym (length-S s)
+ends-N (expr e) W X = length-belowE (W .globals) e (X .around) (X .types) (X .start) ∙ sym (length-E e)
+ends-N (name a) W X = refl
+
+-- parts one after the other, and the entry's own end after them
+pub ends-then : (a : List ℕ) {b c : List ℕ} (i n : ℕ) (es fs : List ℕ) → n ≡ length es → b ≡ sets a i es → c ≡ sets b (i + n) fs → c ≡ sets a i (es ++ fs)
+ends-then a i n es fs e h k = k ∙ (rw (h, e) refl ∙ sym (sets-append a i es fs))
+
+pub ends-own : (a : List ℕ) {b c : List ℕ} (i v e : ℕ) (es : List ℕ) → b ≡ sets a (i + 1) es → c ≡ set b i v → v ≡ e → c ≡ sets a i (e ∷ es)
+ends-own a i v e es h k s = k ∙ (rw (h, s) (set-sets a i (i + 1) e es (omega arith)) ∙ ap (λ (j : ℕ). sets (set a i e) j es) (add-one i))
+
+-- the part of a table at a later place
+pub table-from : {l part sizes : List ℕ} {at : ℕ} (place : ℕ) → at ≤ place → Table l part sizes at → Table l (below part (8 * (place - at))) sizes place
+table-from {l} {part} {sizes} {at} place h t =
+    let m : at + (place - at) ≡ place = omega arith in
+    move m (table-next t (8 * (place - at)) (place - at) refl)
+  where
+    move : {k : ℕ} {u : List ℕ} → k ≡ place → Table l u sizes k → Table l u sizes place
+    move e q = rw e at q
+
+-- ── steps ──
+module _ {W : Walk} {X : Place} {l : List ℕ} {at : ℕ} {L : Lent} {top holds depth : ℕ} {pen : Pen} where
+  -- below an entry
+  pub rest-enter : (u : Entry) (us : List Entry) (e : ℕ) (es : List ℕ) (x : Code) (q : At) → q .cell ≡ X .start .cell + cellsOf u → q .address ≡ X .start .address
+      → Rest W X l at L top holds depth pen (u ∷ us) (e ∷ es) x → Rest W (movedTo X q) l (at + 1) L top holds depth pen us es x
+  rest-enter u us e es x q c a h =
+      record {
+        laid = laid-tail u us e es q c (h .laid);
+        stood = record { sees = h .stood .sees; knows = h .stood .knows; held = h .stood .held; deep = h .stood .deep; typed = h .stood .typed; stacked = h .stood .stacked; address = h .stood .address ∙ sym a; dryness = h .stood .dryness; inside = h .stood .inside };
+        room = omega (arith, h .room);
+        ending = omega (arith, h .ending);
+        fits = h .fits;
+      }
+
+  -- where one stands, and what fits, after a part of the code
+  module _ {M : Lent} {r : Pen} {x y : Code} (q : At) (e : q .address ≡ after x (X .start) .address) (k : Kept L M top depth) (w : Wrote (L .out) (M .out) pen r x) where
+    pub rest-stood : {us : List Entry} {es : List ℕ} → Rest W X l at L top holds depth pen us es (x ▸ y) → Stood W (movedTo X q) l M top holds depth r
+    rest-stood h = stood-next (h .stood) k (wrote-later w) q (wrote-address (X .start) w (h .stood .address) ∙ sym e)
+
+    pub rest-fits : {us : List Entry} {es : List ℕ} → Rest W X l at L top holds depth pen us es (x ▸ y) → Fits (penAfter y r) (length (M .out))
+    rest-fits h = fits-rest x y w (h .fits)
+
+    -- its own code: no entry is passed
+    pub rest-own : (us : List Entry) (es : List ℕ) → q .cell ≡ X .start .cell → Rest W X l at L top holds depth pen us es (x ▸ y) → Rest W (movedTo X q) l at M top holds depth r us es y
+    rest-own us es c h =
+        record {
+          laid = record { stands = h .laid .stands; cells = rw c (h .laid .cells); numbered = rw c (h .laid .numbered); aimed = h .laid .aimed };
+          stood = rest-stood h;
+          room = rw (k .same-env) (h .room);
+          ending = rw (k .same-ends) (h .ending);
+          fits = rest-fits h;
+        }
+
+  -- a node before others
+  pub rest-left : (us vs : List Entry) (es fs : List ℕ) {x : Code} → Rest W X l at L top holds depth pen (us ++ vs) (es ++ fs) x → Rest W X l at L top holds depth pen us es x
+  rest-left us vs es fs h =
+      record {
+        laid = laid-left us vs es fs (h .laid);
+        stood = h .stood;
+        room = omega (arith, h .room, length-append us vs);
+        ending = omega (arith, h .ending, length-append us vs);
+        fits = h .fits;
+      }
+
+  -- … is walked
+  pub rest-node : (n : Node) (us : List Entry) (es : List ℕ) {y : Code} {M : Lent} {r : Pen} (k : ℕ) → k ≡ length (flatN n) → Kept L M top depth
+      → Wrote (L .out) (M .out) pen r (codeN (W .globals) n (X .around) (X .types) (X .start))
+      → Rest W X l at L top holds depth pen (flatN n ++ us) (endsN (W .globals) n (X .around) (X .types) (X .start) ++ es) (codeN (W .globals) n (X .around) (X .types) (X .start) ▸ y)
+      → Rest W (movedTo X (after (codeN (W .globals) n (X .around) (X .types) (X .start)) (X .start))) l (at + k) M top holds depth r us es y
+  rest-node n us es k e kept w h =
+      let x = codeN (W .globals) n (X .around) (X .types) (X .start) in
+      let q = after x (X .start) in
+      record {
+        laid = laid-at (ap (λ (i : ℕ). at + i) (sym e)) (laid-right (flatN n) us (endsN (W .globals) n (X .around) (X .types) (X .start)) es q (ends-N n W X) (cell-N n W X) (h .laid));
+        stood = rest-stood q refl kept w h;
+        room = omega (arith, h .room, length-append (flatN n) us, kept .same-env);
+        ending = omega (arith, h .ending, length-append (flatN n) us, kept .same-ends, e);
+        fits = rest-fits q refl kept w h;
+      }
+
+  -- … leaves its type on the stack
+  pub rest-push : (e : Expr) (us : List Entry) (es : List ℕ) {y : Code} {M : Lent} {r : Pen} (k : ℕ) → k ≡ length (flatE e) → Kept L M top depth
+      → Wrote (L .out) (M .out) pen r (codeE (W .globals) e (X .around) (X .types) (X .start)) → getD (M .stack) depth 0 ≡ tyByte (tyE (W .globals) (X .around) e) → depth < 32
+      → Rest W X l at L top holds depth pen (flatE e ++ us) (endsE (W .globals) e (X .around) (X .types) (X .start) ++ es) (codeE (W .globals) e (X .around) (X .types) (X .start) ▸ y)
+      → Rest W (heldOn (tyE (W .globals) (X .around) e) X (after (codeE (W .globals) e (X .around) (X .types) (X .start)) (X .start))) l (at + k) M top holds (depth + 1) r us es y
+  rest-push e us es k z kept w leaves small h =
+      let f = rest-node (expr e) us es k z kept w h in
+      record {
+        laid = f .laid;
+        stood = stood-push (h .stood) kept (wrote-later w) _ (wrote-address (X .start) w (h .stood .address)) (tyE (W .globals) (X .around) e) leaves small;
+        room = f .room;
+        ending = f .ending;
+        fits = f .fits;
+      }
+
+  -- the same place, other things lent
+  pub rest-lent : {M : Lent} {p : Pen} (us : List Entry) (es : List ℕ) {x : Code} → Kept L M top depth → p ≡ pen → Rest W X l at L top holds depth pen us es x → Rest W X l at M top holds depth p us es x
+  rest-lent us es {x} k e h =
+      record {
+        laid = h .laid;
+        stood = rw e (stood-next (h .stood) k (later-self pen) (X .start) (h .stood .address));
+        room = rw (k .same-env) (h .room);
+        ending = rw (k .same-ends) (h .ending);
+        fits = rw (e, k .same-out) (h .fits);
+      }
+
+  pub rest-at : {place : ℕ} {us : List Entry} {es : List ℕ} {x : Code} → at ≡ place → Rest W X l at L top holds depth pen us es x → Rest W X l place L top holds depth pen us es x
+  rest-at e h = rw e at h
+
+  -- … is ready
+  pub rest-ready : (n : Node) {y : Code} {part : List ℕ} {nesting : ℕ} {sizes : List ℕ} → Table l part sizes at → deepN n ≤ nesting → goodN (scopesOf (X .around)) n → LandsN W (L .env) top (X .around) n
+      → holds + holdsN n ≤ 16 → depth + needN n ≤ 32
+      → Rest W X l at L top holds depth pen (flatN n) (endsN (W .globals) n (X .around) (X .types) (X .start)) (codeN (W .globals) n (X .around) (X .types) (X .start) ▸ y)
+      → Ready n W X l part nesting at sizes L top holds depth pen
+  rest-ready n {y} table deep good lands few more h =
+      record {
+        table = table;
+        laid = h .laid;
+        stood = h .stood;
+        room = omega (arith, h .room, room-N n);
+        ending = h .ending;
+        fits = fits-first (codeN (W .globals) n (X .around) (X .types) (X .start)) y pen (length (L .out)) (h .fits);
+        deep = deep;
+        good = good;
+        lands = lands;
+        few-holds = few;
+        few-values = more;
+      }
+
+pub lands-kept : {W : Walk} {L M : Lent} {top d : ℕ} {Γ : List Around} → Kept L M top d → Lands W (envOf (L .env) top) Γ → Lands W (envOf (M .env) top) Γ
+lands-kept k h = rw (k .env) h
+
+-- ── what a shape asks ──
+abbrev pub Shaping : List ℕ → List ℕ → ℕ → ℕ → Pen → Type 0
+Shaping stack out holds depth p = (depth ≤ length stack) × (depth < 256) × (holds < 256) × Fits (penShaped depth p) (length out)
+
+module _ {W : Walk} {X : Place} {l : List ℕ} {L : Lent} {top holds depth : ℕ} {pen : Pen} (s : Stood W X l L top holds depth pen) (few : holds ≤ 16) (more : depth ≤ 32) where
+  pub shaping-last : Fits (penAfter (mark (found (X .around) (X .types))) pen) (length (L .out)) → Shaping (L .stack) (L .out) holds depth pen
+  shaping-last f = (omega (arith, s .stacked), omega arith, omega arith, rw (pen-mark _ holds depth (L .stack) (stood-shape s) pen) f)
+
+  pub shaping : (y : Code) → Fits (penAfter (mark (found (X .around) (X .types)) ▸ y) pen) (length (L .out)) → Shaping (L .stack) (L .out) holds depth pen
+  shaping y f = shaping-last (fits-first (mark (found (X .around) (X .types))) y pen (length (L .out)) f)
+
+  pub shaped-wrote : {q : Pen} {o : List ℕ} → (q ≡ penShaped depth pen) × (o ≡ inkShape pen (L .out) holds depth (take depth (L .stack))) → Wrote (L .out) o pen q (mark (found (X .around) (X .types)))
+  shaped-wrote e = wrote-mark (found (X .around) (X .types)) holds depth (L .stack) (stood-shape s) e
+
+pub fits-op : (i : Instr) (y : Code) (p : Pen) (n : ℕ) → Fits (penAfter (op i ▸ y) p) n → Fits (moved p) n
+fits-op i y p n f = rw (pen-op i p) (fits-first (op i) y p n f)
+
+-- what the end of an entry asks
+pub finishing : {p q : Pen} {at m n a b : ℕ} → at + n ≤ a → 1 ≤ n → b ≡ a → q ≡ p → Fits p m → (at < b) × (q .address < 65536)
+finishing h one same e f = (omega arith, rw e (f .address-small))
+
+-- ── a node by another name ──
+pub ready-as : {n m : Node} {W : Walk} {X : Place} {l part : List ℕ} {nesting at : ℕ} {sizes : List ℕ} {L : Lent} {top holds depth : ℕ} {pen : Pen} → n ≡ m
+    → Ready n W X l part nesting at sizes L top holds depth pen → Ready m W X l part nesting at sizes L top holds depth pen
+ready-as e h = rw e at h
+
+pub done-as : {n m : Node} {W : Walk} {X : Place} {at : ℕ} {L M : Lent} {depth : ℕ} {pen r : Pen} → n ≡ m → Done m W X at L M depth pen r → Done n W X at L M depth pen r
+done-as e h = rw e h
+
+pub aim-as : {us vs : List ℕ} {b : ℕ} (i : ℕ) → vs ≡ us → b ≡ getD us i 0 → b ≡ getD vs i 0
+aim-as i e h = rw e h
+
+pub stands-after : {l : List Entry} {p : ℕ} (us vs : List Entry) (n : ℕ) → n ≡ length us → Stands l p (us ++ vs) → Stands l (p + n) vs
+stands-after us vs n e h = rw e (stands-right us vs h)
+
+-- ── slices: a later part begins within the part ──
+pub length-from : (part : List ℕ) (k : ℕ) → length (below part k) ≡ length part - k
+length-from part k = ap (length {A = ℕ}) (take-all (length part - k) (drop k part) (omega (arith, length-drop k part))) ∙ length-drop k part
+
+pub from-second : (part : List ℕ) (at n : ℕ) → 8 ≤ length part → 8 * n ≤ length (below part 8) → 8 * (at + 1 + n - at) ≤ length part
+from-second part at n h k = omega (arith, length-from part 8)
+
+pub from-third : (part : List ℕ) (at n m : ℕ) → 8 * (at + 1 + n - at) ≤ length part → 8 * m ≤ length (below part (8 * (at + 1 + n - at))) → 8 * (at + 1 + n + m - at) ≤ length part
+from-third part at n m h k = omega (arith, length-from part (8 * (at + 1 + n - at)))

@@ -1,0 +1,38 @@
+-- The walkers meet their contracts: every fact is a law of crates/compile_steps, applied to what is known where it is needed.
+mod Base
+mod Arms
+mod Assign
+mod Block
+mod Body
+mod Choose
+mod Conditional
+mod Expression
+mod Items
+mod Operands
+mod Pair
+mod Repeat
+mod Select
+mod Simple
+mod Statement
+mod When
+use Rattle.compile_walk.proofs.+arms+assign+block+body+choose+conditional+expression+items+operands+pair+repeat+select+simple+statement+when.{statement}
+use Rattle.compile_walk.proofs.+arms+assign+block+body+choose+conditional+expression+items+operands+pair+repeat+select+simple+statement+when.Tie.{close}
+use Rattle.compile_walk.proofs.+arms+assign+block+body+choose+conditional+expression+items+operands+pair+repeat+select+simple+statement+when.Proof.Base.{μ-arms, μ-assign, μ-block, μ-body, μ-choose, μ-conditional, μ-expression, μ-items, μ-operands, μ-pair, μ-repeat, μ-select, μ-simple, μ-statement, μ-when}
+use Rattle.compile_walk.proofs.+arms+assign+block+body+choose+conditional+expression+items+operands+pair+repeat+select+simple+statement+when.Proof.Arms.{arms-meets}
+use Rattle.compile_walk.proofs.+arms+assign+block+body+choose+conditional+expression+items+operands+pair+repeat+select+simple+statement+when.Proof.Assign.{assign-meets}
+use Rattle.compile_walk.proofs.+arms+assign+block+body+choose+conditional+expression+items+operands+pair+repeat+select+simple+statement+when.Proof.Block.{block-meets}
+use Rattle.compile_walk.proofs.+arms+assign+block+body+choose+conditional+expression+items+operands+pair+repeat+select+simple+statement+when.Proof.Body.{body-meets}
+use Rattle.compile_walk.proofs.+arms+assign+block+body+choose+conditional+expression+items+operands+pair+repeat+select+simple+statement+when.Proof.Choose.{choose-meets}
+use Rattle.compile_walk.proofs.+arms+assign+block+body+choose+conditional+expression+items+operands+pair+repeat+select+simple+statement+when.Proof.Conditional.{conditional-meets}
+use Rattle.compile_walk.proofs.+arms+assign+block+body+choose+conditional+expression+items+operands+pair+repeat+select+simple+statement+when.Proof.Expression.{expression-meets}
+use Rattle.compile_walk.proofs.+arms+assign+block+body+choose+conditional+expression+items+operands+pair+repeat+select+simple+statement+when.Proof.Items.{items-meets}
+use Rattle.compile_walk.proofs.+arms+assign+block+body+choose+conditional+expression+items+operands+pair+repeat+select+simple+statement+when.Proof.Operands.{operands-meets}
+use Rattle.compile_walk.proofs.+arms+assign+block+body+choose+conditional+expression+items+operands+pair+repeat+select+simple+statement+when.Proof.Pair.{pair-meets}
+use Rattle.compile_walk.proofs.+arms+assign+block+body+choose+conditional+expression+items+operands+pair+repeat+select+simple+statement+when.Proof.Repeat.{repeat-meets}
+use Rattle.compile_walk.proofs.+arms+assign+block+body+choose+conditional+expression+items+operands+pair+repeat+select+simple+statement+when.Proof.Select.{select-meets}
+use Rattle.compile_walk.proofs.+arms+assign+block+body+choose+conditional+expression+items+operands+pair+repeat+select+simple+statement+when.Proof.Simple.{simple-meets}
+use Rattle.compile_walk.proofs.+arms+assign+block+body+choose+conditional+expression+items+operands+pair+repeat+select+simple+statement+when.Proof.Statement.{statement-meets}
+use Rattle.compile_walk.proofs.+arms+assign+block+body+choose+conditional+expression+items+operands+pair+repeat+select+simple+statement+when.Proof.When.{when-meets}
+
+pub +arms+assign+block+body+choose+conditional+expression+items+operands+pair+repeat+select+simple+statement+when-spec : {M : Type 1} → statement M
++arms+assign+block+body+choose+conditional+expression+items+operands+pair+repeat+select+simple+statement+when-spec = close μ-arms μ-assign μ-block μ-body μ-choose μ-conditional μ-expression μ-items μ-operands μ-pair μ-repeat μ-select μ-simple μ-statement μ-when arms-meets assign-meets block-meets body-meets choose-meets conditional-meets expression-meets items-meets operands-meets pair-meets repeat-meets select-meets simple-meets statement-meets when-meets

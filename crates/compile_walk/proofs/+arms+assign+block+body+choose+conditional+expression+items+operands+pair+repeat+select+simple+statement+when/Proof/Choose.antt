@@ -1,0 +1,284 @@
+-- The walker `choose` meets its contract.
+use mathlib.Core.Path.{refl}
+use native.Mathlib.Omega.{arith}
+use borrow.Author.Needs.{needs}
+use Rattle.compile_steps.specs.Parts.{asked}
+use Rattle.compile_steps.specs.Choose.{asks-choose-first, asks-choose-passes, asks-choose-passes₂, asks-choose-emit, asks-choose-second, asks-choose-emit₂, asks-choose-shape, asks-choose-third, asks-choose-shape₂, asks-choose-finish, answers-choose}
+use Rattle.compile_steps.specs.Adapt.{second-within, third-within}
+use Prim.Native.Nat.{ℕ, _+_}
+use Rattle.compile_walk.proofs.choose.Reads as choose
+use Rattle.compile_walk.proofs.+arms+assign+block+body+choose+conditional+expression+items+operands+pair+repeat+select+simple+statement+when.Lts-choose as choose-lts
+use Rattle.compile_walk.proofs.expression.Reads as expression
+use Rattle.compile_walk.proofs.statement.Reads as statement′
+use Rattle.compile_own.proofs.end_of.Reads as end-of-reads
+use Rattle.compile_own.proofs.finish.Reads as finish-reads
+use Rattle.compile_pen.proofs.emit.Reads as emit-reads
+use Rattle.compile_pen.proofs.shape.Reads as shape-reads
+use Rattle.spans.proofs.size_at.Reads as size-at-reads
+use Rattle.compile_walk.proofs.+arms+assign+block+body+choose+conditional+expression+items+operands+pair+repeat+select+simple+statement+when.{statement}
+use Rattle.compile_walk.proofs.+arms+assign+block+body+choose+conditional+expression+items+operands+pair+repeat+select+simple+statement+when.Proof.Base.{choose-at, expression-below, statement-below}
+
+pub choose-meets : {M : Type 1} (t : ℕ) → choose-lts.Closed (expression-below t, expression.Post, size-at-reads.Asked, size-at-reads.Learnt, end-of-reads.Asked, end-of-reads.Learnt, emit-reads.Asked, emit-reads.Learnt, statement-below t, statement′.Post, shape-reads.Asked, shape-reads.Learnt, finish-reads.Asked, finish-reads.Learnt) (choose-at t) choose.Post M
+choose-meets t = choose-lts.spec (expression-below t, expression.Post, size-at-reads.Asked, size-at-reads.Learnt, end-of-reads.Asked, end-of-reads.Learnt, emit-reads.Asked, emit-reads.Learnt, statement-below t, statement′.Post, shape-reads.Asked, shape-reads.Learnt, finish-reads.Asked, finish-reads.Learnt) (choose-at t) choose.Post
+    -- sub-expression
+    (λ c. omega (arith, asked (c .before .before .before .before .before .before .before .before .before .pre .1) .long))
+    -- part-expression-start
+    (λ c. omega (arith, asked (c .before .before .before .before .before .before .before .before .before .pre .1) .long))
+    -- part-expression-end
+    (λ c. search needs)
+    -- sub-expression-2
+    (λ c. omega (arith, asked (c .before .before .before .before .before .before .before .before .before .before .pre .1) .nested))
+    -- add-expression
+    (λ c. omega (arith, asked (c .before .before .before .before .before .before .before .before .before .before .pre .1) .small))
+    -- expression-requires
+    (λ c κs.
+    let c1 = c .before .before .before .before .before .before .before .before .before .before .before .before .before .before in
+    (omega (arith, asked (c1 .pre .1) .nested, c1 .pre .0), asks-choose-first (c1 .pre .1)))
+    -- add-second
+    (λ c. omega (arith, asked (c .before .before .before .before .before .before .before .before .before .before .before .before .before .before .before .before .before .before .before .before .before .before .before .pre .1) .small))
+    -- add-size-at
+    (λ c. omega (arith, asked (c .before .before .before .before .before .before .before .before .before .before .before .before .before .before .before .before .before .before .before .before .before .before .before .pre .1) .small))
+    -- size-at-requires
+    (λ c κs. asks-choose-passes (c .before .before .before .before .before .before .before .before .before .before .before .before .before .before .before .before .before .before .before .before .before .before .before .pre .1) _ refl .known)
+    -- add-second-2
+    (λ c.
+    let c2 = c .before .before .before .before .before .before .before .before .before .before .before .before .before .before .before .before .before .before .before .before .before .before .before .before in
+    omega (arith, asks-choose-passes (c2 .pre .1) (c .size-at .result) (c .size-at .ensures) .small))
+    -- size-at-requires-2
+    (λ c κs.
+    let c2 = c .before .before .before .before .before .before .before .before .before .before .before .before .before .before .before .before .before .before .before .before .before .before .before .before in
+    asks-choose-passes₂ (c2 .pre .1) (c .size-at .result) (c .size-at .ensures) _ refl .known)
+    -- add-third
+    (λ c.
+    let c2 = c .before in
+    let c3 = c2 .before .before .before .before .before .before .before .before .before .before .before .before .before .before .before .before .before .before .before .before .before .before .before .before in
+    omega (arith, asks-choose-passes₂ (c3 .pre .1) (c2 .size-at .result) (c2 .size-at .ensures) (c .size-at2 .result) (c .size-at2 .ensures) .small))
+    -- end-of-requires
+    (λ c κs. search needs)
+    -- add-emit
+    (λ c. omega (arith, c .end-of .ensures .1))
+    -- emit-requires
+    (λ c κs.
+    let c1 = c .before .before in
+    let c2 = c1 .before in
+    let c3 = c2 .before .before .before .before .before .before .before .before .before in
+    let c4 = c3 .before .before .before .before .before .before .before .before .before .before .before .before .before .before .before in
+    asks-choose-emit (c4 .pre .1) (c2 .size-at .result) (c2 .size-at .ensures) (c1 .size-at2 .result) (c1 .size-at2 .ensures) (c3 .expression .ensures))
+    -- sub-from
+    (λ c. omega arith)
+    -- mul-from
+    (λ c.
+    let c1 = c .before .before .before .before .before .before in
+    let c2 = c1 .before .before .before .before .before .before .before .before .before .before .before .before .before .before .before .before .before .before .before .before .before .before .before .before in
+    omega (arith, asks-choose-passes (c2 .pre .1) (c1 .size-at .result) (c1 .size-at .ensures) .small))
+    -- sub-statement
+    (λ c.
+    let c1 = c .before .before .before .before .before .before in
+    let c2 = c1 .before .before .before .before .before .before .before .before .before .before .before .before .before .before .before .before .before .before .before .before .before .before .before .before in
+    second-within (c2 .args .part .now) (c2 .args .at) (c1 .size-at .result) (asked (c2 .pre .1) .long) (asks-choose-passes (c2 .pre .1) (c1 .size-at .result) (c1 .size-at .ensures)))
+    -- part-statement-start
+    (λ c.
+    let c1 = c .before .before .before .before .before .before in
+    let c2 = c1 .before .before .before .before .before .before .before .before .before .before .before .before .before .before .before .before .before .before .before .before .before .before .before .before in
+    second-within (c2 .args .part .now) (c2 .args .at) (c1 .size-at .result) (asked (c2 .pre .1) .long) (asks-choose-passes (c2 .pre .1) (c1 .size-at .result) (c1 .size-at .ensures)))
+    -- part-statement-end
+    (λ c. search needs)
+    -- sub-statement-2
+    (λ c. omega (arith, asked (c .before .before .before .before .before .before .before .before .before .before .before .before .before .before .before .before .before .before .before .before .before .before .before .before .before .before .before .before .before .before .before .pre .1) .nested))
+    -- statement-requires
+    (λ c κs.
+    let c1 = c .before .before .before .before .before .before .before in
+    let c2 = c1 .before in
+    let c3 = c2 .before .before in
+    let c4 = c3 .before in
+    let c5 = c4 .before .before .before .before .before .before .before .before .before in
+    let c6 = c5 .before .before .before .before .before .before .before .before .before .before .before .before .before .before .before in (
+      omega (arith, asked (c6 .pre .1) .nested, c6 .pre .0),
+      asks-choose-second (c6 .pre .1) (c4 .size-at .result) (c4 .size-at .ensures) (c3 .size-at2 .result) (c3 .size-at2 .ensures) (c5 .expression .ensures) (c2 .end-of .ensures .0) (c1 .emit .ensures),
+    ))
+    -- end-of-requires-2
+    (λ c κs. search needs)
+    -- emit-requires-2
+    (λ c κs.
+    let c1 = c .before .before .before .before .before .before .before .before .before .before in
+    let c2 = c1 .before .before .before .before .before .before .before .before in
+    let c3 = c2 .before in
+    let c4 = c3 .before .before in
+    let c5 = c4 .before in
+    let c6 = c5 .before .before .before .before .before .before .before .before .before in
+    let c7 = c6 .before .before .before .before .before .before .before .before .before .before .before .before .before .before .before in
+    asks-choose-emit₂ (c7 .pre .1) (c5 .size-at .result) (c5 .size-at .ensures) (c4 .size-at2 .result) (c4 .size-at2 .ensures) (c6 .expression .ensures) (c3 .end-of .ensures .0) (c2 .emit .ensures)
+    (c1 .statement .ensures))
+    -- shape-requires
+    (λ c κs.
+    let c1 = c .before .before .before .before in
+    let c2 = c1 .before in
+    let c3 = c2 .before .before .before .before .before .before .before .before .before .before in
+    let c4 = c3 .before .before .before .before .before .before .before .before in
+    let c5 = c4 .before in
+    let c6 = c5 .before .before in
+    let c7 = c6 .before in
+    let c8 = c7 .before .before .before .before .before .before .before .before .before in
+    let c9 = c8 .before .before .before .before .before .before .before .before .before .before .before .before .before .before .before in
+    asks-choose-shape (c9 .pre .1) (c7 .size-at .result) (c7 .size-at .ensures) (c6 .size-at2 .result) (c6 .size-at2 .ensures) (c8 .expression .ensures) (c5 .end-of .ensures .0) (c4 .emit .ensures)
+    (c3 .statement .ensures) (c2 .end-of2 .ensures .0) (c1 .emit2 .ensures))
+    -- sub-last
+    (λ c. omega arith)
+    -- mul-last
+    (λ c.
+    let c1 = c .before .before .before .before .before .before .before .before .before .before .before .before .before .before .before .before .before .before .before .before .before .before .before .before .before .before .before .before .before in
+    let c2 = c1 .before in
+    let c3 = c2 .before .before .before .before .before .before .before .before .before .before .before .before .before .before .before .before .before .before .before .before .before .before .before .before in
+    omega (arith, asks-choose-passes₂ (c3 .pre .1) (c2 .size-at .result) (c2 .size-at .ensures) (c1 .size-at2 .result) (c1 .size-at2 .ensures) .small))
+    -- sub-statement-3
+    (λ c.
+    let c1 = c .before .before .before .before .before .before .before .before .before .before .before .before .before .before .before .before .before .before .before .before .before .before .before .before .before .before .before .before .before in
+    let c2 = c1 .before in
+    let c3 = c2 .before .before .before .before .before .before .before .before .before .before .before .before .before .before .before .before .before .before .before .before .before .before .before .before in
+    third-within (c3 .args .part .now) (c3 .args .at) ((c3 .args .at) + 1 + c2 .size-at .result) (c1 .size-at2 .result) (omega arith)
+    (second-within (c3 .args .part .now) (c3 .args .at) (c2 .size-at .result) (asked (c3 .pre .1) .long) (asks-choose-passes (c3 .pre .1) (c2 .size-at .result) (c2 .size-at .ensures)))
+    (asks-choose-passes₂ (c3 .pre .1) (c2 .size-at .result) (c2 .size-at .ensures) (c1 .size-at2 .result) (c1 .size-at2 .ensures)))
+    -- part-statement-start-2
+    (λ c.
+    let c1 = c .before .before .before .before .before .before .before .before .before .before .before .before .before .before .before .before .before .before .before .before .before .before .before .before .before .before .before .before .before in
+    let c2 = c1 .before in
+    let c3 = c2 .before .before .before .before .before .before .before .before .before .before .before .before .before .before .before .before .before .before .before .before .before .before .before .before in
+    third-within (c3 .args .part .now) (c3 .args .at) ((c3 .args .at) + 1 + c2 .size-at .result) (c1 .size-at2 .result) (omega arith)
+    (second-within (c3 .args .part .now) (c3 .args .at) (c2 .size-at .result) (asked (c3 .pre .1) .long) (asks-choose-passes (c3 .pre .1) (c2 .size-at .result) (c2 .size-at .ensures)))
+    (asks-choose-passes₂ (c3 .pre .1) (c2 .size-at .result) (c2 .size-at .ensures) (c1 .size-at2 .result) (c1 .size-at2 .ensures)))
+    -- part-statement-end-2
+    (λ c. search needs)
+    -- sub-statement-4
+    (λ c. omega (arith, asked (c .before .before .before .before .before .before .before .before .before .before .before .before .before .before .before .before .before .before .before .before .before .before .before .before .before .before .before .before .before .before .before .before .before .before .before .before .before .before .before .before .before .before .before .before .before .before .before .before .before .before .before .before .before .before .before .pre .1) .nested))
+    -- statement-requires-2
+    (λ c κs.
+    let c1 = c .before .before .before .before .before .before .before in
+    let c2 = c1 .before .before .before .before .before in
+    let c3 = c2 .before in
+    let c4 = c3 .before .before .before .before .before .before .before .before .before .before in
+    let c5 = c4 .before .before .before .before .before .before .before .before in
+    let c6 = c5 .before in
+    let c7 = c6 .before .before in
+    let c8 = c7 .before in
+    let c9 = c8 .before .before .before .before .before .before .before .before .before in
+    let c10 = c9 .before .before .before .before .before .before .before .before .before .before .before .before .before .before .before in (
+      omega (arith, asked (c10 .pre .1) .nested, c10 .pre .0),
+      asks-choose-third (c10 .pre .1) (c8 .size-at .result) (c8 .size-at .ensures) (c7 .size-at2 .result) (c7 .size-at2 .ensures) (c9 .expression .ensures) (c6 .end-of .ensures .0) (c5 .emit .ensures)
+          (c4 .statement .ensures) (c3 .end-of2 .ensures .0) (c2 .emit2 .ensures) (c1 .shape .ensures),
+    ))
+    -- shape-requires-2
+    (λ c κs.
+    let c1 = c .before .before .before .before .before .before .before .before .before .before .before in
+    let c2 = c1 .before .before .before .before .before .before .before .before in
+    let c3 = c2 .before .before .before .before .before in
+    let c4 = c3 .before in
+    let c5 = c4 .before .before .before .before .before .before .before .before .before .before in
+    let c6 = c5 .before .before .before .before .before .before .before .before in
+    let c7 = c6 .before in
+    let c8 = c7 .before .before in
+    let c9 = c8 .before in
+    let c10 = c9 .before .before .before .before .before .before .before .before .before in
+    let c11 = c10 .before .before .before .before .before .before .before .before .before .before .before .before .before .before .before in
+    asks-choose-shape₂ (c11 .pre .1) (c9 .size-at .result) (c9 .size-at .ensures) (c8 .size-at2 .result) (c8 .size-at2 .ensures) (c10 .expression .ensures) (c7 .end-of .ensures .0) (c6 .emit .ensures)
+    (c5 .statement .ensures) (c4 .end-of2 .ensures .0) (c3 .emit2 .ensures) (c2 .shape .ensures) (c1 .statement2 .ensures))
+    -- finish-requires
+    (λ c κs.
+    let c1 = c .before .before in
+    let c2 = c1 .before .before .before .before .before .before .before .before .before .before .before .before in
+    let c3 = c2 .before .before .before .before .before .before .before .before in
+    let c4 = c3 .before .before .before .before .before in
+    let c5 = c4 .before in
+    let c6 = c5 .before .before .before .before .before .before .before .before .before .before in
+    let c7 = c6 .before .before .before .before .before .before .before .before in
+    let c8 = c7 .before in
+    let c9 = c8 .before .before in
+    let c10 = c9 .before in
+    let c11 = c10 .before .before .before .before .before .before .before .before .before in
+    let c12 = c11 .before .before .before .before .before .before .before .before .before .before .before .before .before .before .before in
+    asks-choose-finish (c12 .pre .1) (c10 .size-at .result) (c10 .size-at .ensures) (c9 .size-at2 .result) (c9 .size-at2 .ensures) (c11 .expression .ensures) (c8 .end-of .ensures .0) (c7 .emit .ensures)
+    (c6 .statement .ensures) (c5 .end-of2 .ensures .0) (c4 .emit2 .ensures) (c3 .shape .ensures) (c2 .statement2 .ensures) (c1 .shape2 .ensures))
+    -- same-length
+    (λ c.
+    let c1 = c .before .before in
+    let c2 = c1 .before .before .before in
+    let c3 = c2 .before .before .before .before .before .before .before .before .before .before .before .before in
+    let c4 = c3 .before .before .before .before .before .before .before .before in
+    let c5 = c4 .before .before .before .before .before in
+    let c6 = c5 .before in
+    let c7 = c6 .before .before .before .before .before .before .before .before .before .before in
+    let c8 = c7 .before .before .before .before .before .before .before .before in
+    let c9 = c8 .before in
+    let c10 = c9 .before .before in
+    let c11 = c10 .before in
+    let c12 = c11 .before .before .before .before .before .before .before .before .before in
+    let c13 = c12 .before .before .before .before .before .before .before .before .before .before .before .before .before .before .before in
+    (answers-choose (c13 .pre .1) (c11 .size-at .result) (c11 .size-at .ensures) (c10 .size-at2 .result) (c10 .size-at2 .ensures) (c12 .expression .ensures) (c9 .end-of .ensures .0) (c8 .emit .ensures)
+    (c7 .statement .ensures) (c6 .end-of2 .ensures .0) (c5 .emit2 .ensures) (c4 .shape .ensures) (c3 .statement2 .ensures) (c2 .shape2 .ensures) (c1 .finish .ensures)) .kept .same-env)
+    -- same-length-2
+    (λ c.
+    let c1 = c .before .before in
+    let c2 = c1 .before .before .before in
+    let c3 = c2 .before .before .before .before .before .before .before .before .before .before .before .before in
+    let c4 = c3 .before .before .before .before .before .before .before .before in
+    let c5 = c4 .before .before .before .before .before in
+    let c6 = c5 .before in
+    let c7 = c6 .before .before .before .before .before .before .before .before .before .before in
+    let c8 = c7 .before .before .before .before .before .before .before .before in
+    let c9 = c8 .before in
+    let c10 = c9 .before .before in
+    let c11 = c10 .before in
+    let c12 = c11 .before .before .before .before .before .before .before .before .before in
+    let c13 = c12 .before .before .before .before .before .before .before .before .before .before .before .before .before .before .before in
+    (answers-choose (c13 .pre .1) (c11 .size-at .result) (c11 .size-at .ensures) (c10 .size-at2 .result) (c10 .size-at2 .ensures) (c12 .expression .ensures) (c9 .end-of .ensures .0) (c8 .emit .ensures)
+    (c7 .statement .ensures) (c6 .end-of2 .ensures .0) (c5 .emit2 .ensures) (c4 .shape .ensures) (c3 .statement2 .ensures) (c2 .shape2 .ensures) (c1 .finish .ensures)) .kept .same-ends)
+    -- same-length-3
+    (λ c.
+    let c1 = c .before .before in
+    let c2 = c1 .before .before .before in
+    let c3 = c2 .before .before .before .before .before .before .before .before .before .before .before .before in
+    let c4 = c3 .before .before .before .before .before .before .before .before in
+    let c5 = c4 .before .before .before .before .before in
+    let c6 = c5 .before in
+    let c7 = c6 .before .before .before .before .before .before .before .before .before .before in
+    let c8 = c7 .before .before .before .before .before .before .before .before in
+    let c9 = c8 .before in
+    let c10 = c9 .before .before in
+    let c11 = c10 .before in
+    let c12 = c11 .before .before .before .before .before .before .before .before .before in
+    let c13 = c12 .before .before .before .before .before .before .before .before .before .before .before .before .before .before .before in
+    (answers-choose (c13 .pre .1) (c11 .size-at .result) (c11 .size-at .ensures) (c10 .size-at2 .result) (c10 .size-at2 .ensures) (c12 .expression .ensures) (c9 .end-of .ensures .0) (c8 .emit .ensures)
+    (c7 .statement .ensures) (c6 .end-of2 .ensures .0) (c5 .emit2 .ensures) (c4 .shape .ensures) (c3 .statement2 .ensures) (c2 .shape2 .ensures) (c1 .finish .ensures)) .kept .same-stack)
+    -- same-length-4
+    (λ c.
+    let c1 = c .before .before in
+    let c2 = c1 .before .before .before in
+    let c3 = c2 .before .before .before .before .before .before .before .before .before .before .before .before in
+    let c4 = c3 .before .before .before .before .before .before .before .before in
+    let c5 = c4 .before .before .before .before .before in
+    let c6 = c5 .before in
+    let c7 = c6 .before .before .before .before .before .before .before .before .before .before in
+    let c8 = c7 .before .before .before .before .before .before .before .before in
+    let c9 = c8 .before in
+    let c10 = c9 .before .before in
+    let c11 = c10 .before in
+    let c12 = c11 .before .before .before .before .before .before .before .before .before in
+    let c13 = c12 .before .before .before .before .before .before .before .before .before .before .before .before .before .before .before in
+    (answers-choose (c13 .pre .1) (c11 .size-at .result) (c11 .size-at .ensures) (c10 .size-at2 .result) (c10 .size-at2 .ensures) (c12 .expression .ensures) (c9 .end-of .ensures .0) (c8 .emit .ensures)
+    (c7 .statement .ensures) (c6 .end-of2 .ensures .0) (c5 .emit2 .ensures) (c4 .shape .ensures) (c3 .statement2 .ensures) (c2 .shape2 .ensures) (c1 .finish .ensures)) .kept .same-out)
+    -- returns
+    (λ c.
+    let c1 = c .before .before in
+    let c2 = c1 .before .before .before in
+    let c3 = c2 .before .before .before .before .before .before .before .before .before .before .before .before in
+    let c4 = c3 .before .before .before .before .before .before .before .before in
+    let c5 = c4 .before .before .before .before .before in
+    let c6 = c5 .before in
+    let c7 = c6 .before .before .before .before .before .before .before .before .before .before in
+    let c8 = c7 .before .before .before .before .before .before .before .before in
+    let c9 = c8 .before in
+    let c10 = c9 .before .before in
+    let c11 = c10 .before in
+    let c12 = c11 .before .before .before .before .before .before .before .before .before in
+    let c13 = c12 .before .before .before .before .before .before .before .before .before .before .before .before .before .before .before in
+    answers-choose (c13 .pre .1) (c11 .size-at .result) (c11 .size-at .ensures) (c10 .size-at2 .result) (c10 .size-at2 .ensures) (c12 .expression .ensures) (c9 .end-of .ensures .0) (c8 .emit .ensures)
+    (c7 .statement .ensures) (c6 .end-of2 .ensures .0) (c5 .emit2 .ensures) (c4 .shape .ensures) (c3 .statement2 .ensures) (c2 .shape2 .ensures) (c1 .finish .ensures))

@@ -1,0 +1,200 @@
+-- The walker `expression` meets its contract.
+use mathlib.Core.Path.{sym, _∙_}
+use native.Mathlib.Omega.{arith}
+use borrow.Author.Needs.{needs}
+use Rattle.compile_steps.specs.Parts.{asked}
+use Rattle.compile_steps.specs.Views.{leaf-of, simple-expr}
+use Rattle.compile_steps.specs.Dispatch.{ask-as, answer-as, asks-leaf, asks-leaf-finish, answers-leaf}
+use Prim.Native.Nat.{ℕ}
+use Rattle.compile_walk.proofs.body.Reads as body
+use Rattle.compile_walk.proofs.conditional.Reads as conditional
+use Rattle.compile_walk.proofs.expression.Reads as expression
+use Rattle.compile_walk.proofs.+arms+assign+block+body+choose+conditional+expression+items+operands+pair+repeat+select+simple+statement+when.Lts-expression as expression-lts
+use Rattle.compile_walk.proofs.pair.Reads as pair
+use Rattle.compile_walk.proofs.simple.Reads as simple
+use Rattle.compile_own.proofs.finish.Reads as finish-reads
+use Rattle.compile_own.proofs.known_of.Reads as known-of-reads
+use Rattle.compile_own.proofs.leaf.Reads as leaf-reads
+use Rattle.compile_own.proofs.leaf_type.Reads as leaf-type-reads
+use Rattle.words.proofs.half_at.Reads as half-at-reads
+use Rattle.words.proofs.word_at.Reads as word-at-reads
+use Rattle.compile_walk.proofs.+arms+assign+block+body+choose+conditional+expression+items+operands+pair+repeat+select+simple+statement+when.Proof.Base.{body-below, conditional-below, expression-at, pair-below, simple-below}
+
+pub expression-meets : {M : Type 1} (t : ℕ) → expression-lts.Closed (half-at-reads.Asked, half-at-reads.Learnt, pair-below t, pair.Post, conditional-below t, conditional.Post, body-below t, body.Post, known-of-reads.Asked, known-of-reads.Learnt, leaf-type-reads.Asked, leaf-type-reads.Learnt, word-at-reads.Asked, word-at-reads.Learnt, leaf-reads.Asked, leaf-reads.Learnt, finish-reads.Asked, finish-reads.Learnt, simple-below t, simple.Post) (expression-at t) expression.Post M
+expression-meets t = expression-lts.spec (half-at-reads.Asked, half-at-reads.Learnt, pair-below t, pair.Post, conditional-below t, conditional.Post, body-below t, body.Post, known-of-reads.Asked, known-of-reads.Learnt, leaf-type-reads.Asked, leaf-type-reads.Learnt, word-at-reads.Asked, word-at-reads.Learnt, leaf-reads.Asked, leaf-reads.Learnt, finish-reads.Asked, finish-reads.Learnt, simple-below t, simple.Post) (expression-at t) expression.Post
+    -- half-at-requires
+    (λ c κs. omega (arith, asked (c .before .before .before .before .before .before .before .before .before .pre .1) .long))
+    -- pair-requires
+    (λ c κs.
+    let c1 = c .before .before .before .before in
+    let c2 = c1 .before in
+    let c3 = c2 .before .before .before .before .before .before .before .before .before .before in
+    (omega (arith, c3 .pre .0), ask-as (λ n h e. e ∙ (sym (c2 .half-at .ensures) ∙ c1 .match .keys1)) (c3 .pre .1)))
+    -- conditional-requires
+    (λ c κs.
+    let c1 = c .before .before .before .before in
+    let c2 = c1 .before in
+    let c3 = c2 .before .before .before .before .before .before .before .before .before .before in
+    (omega (arith, c3 .pre .0), ask-as (λ n h e. e ∙ (sym (c2 .half-at .ensures) ∙ c1 .match .keys2)) (c3 .pre .1)))
+    -- body-requires
+    (λ c κs.
+    let c1 = c .before .before .before .before in
+    let c2 = c1 .before in
+    let c3 = c2 .before .before .before .before .before .before .before .before .before .before in
+    (omega (arith, c3 .pre .0), ask-as (λ n h e. e ∙ (sym (c2 .half-at .ensures) ∙ c1 .match .keys3)) (c3 .pre .1)))
+    -- half-at-requires-2
+    (λ c κs. omega (arith, asked (c .before .before .before .before .before .before .before .before .before .before .before .before .pre .1) .long))
+    -- known-of-requires
+    (λ c κs. asked (c .before .before .before .before .before .before .before .before .before .before .before .before .before .before .pre .1) .room)
+    -- leaf-type-requires
+    (λ c κs. search needs)
+    -- slice-write-stack
+    (λ c.
+    let c1 = c .before .before .before .before .before .before .before .before .before .before .before .before .before .before .before .before in
+    omega (arith, asked (c1 .pre .1) .deep, asked (c1 .pre .1) .stacked))
+    -- word-at-requires
+    (λ c κs. omega (arith, asked (c .before .before .before .before .before .before .before .before .before .before .before .before .before .before .before .before .before .pre .1) .long))
+    -- leaf-requires
+    (λ c κs.
+    let c1 = c .before .before .before .before .before .before .before in
+    let c2 = c1 .before in
+    let c3 = c2 .before in
+    let c4 = c3 .before .before .before .before .before .before .before .before .before .before in
+    asks-leaf (ask-as (λ n h e. leaf-of n h (λ z. c2 .match .rest .0 .0 .1 (c3 .half-at .ensures ∙ (sym e ∙ z))) (λ z. c2 .match .rest .0 .1 (c3 .half-at .ensures ∙ (sym e ∙ z))) (λ z. c2 .match .rest .1 (c3 .half-at .ensures ∙ (sym e ∙ z))) (omega (arith, e, c3 .half-at .ensures, c1 .if1 .taken))) (c4 .pre .1)))
+    -- finish-requires
+    (λ c κs.
+    let c1 = c .before .before in
+    let c2 = c1 .before .before .before .before .before .before .before .before in
+    let c3 = c2 .before in
+    let c4 = c3 .before in
+    let c5 = c4 .before .before .before .before .before .before .before .before .before .before in
+    asks-leaf-finish (ask-as (λ n h e. leaf-of n h (λ z. c3 .match .rest .0 .0 .1 (c4 .half-at .ensures ∙ (sym e ∙ z))) (λ z. c3 .match .rest .0 .1 (c4 .half-at .ensures ∙ (sym e ∙ z))) (λ z. c3 .match .rest .1 (c4 .half-at .ensures ∙ (sym e ∙ z))) (omega (arith, e, c4 .half-at .ensures, c2 .if1 .taken))) (c5 .pre .1)) (c1 .leaf .ensures .0))
+    -- simple-requires
+    (λ c κs.
+    let c1 = c .before .before .before .before in
+    let c2 = c1 .before in
+    let c3 = c2 .before in
+    let c4 = c3 .before .before .before .before .before .before .before .before .before .before in
+    (omega (arith, c4 .pre .0), ask-as (λ n h e. simple-expr n h (λ z. c2 .match .rest .0 .0 .1 (c3 .half-at .ensures ∙ (sym e ∙ z))) (λ z. c2 .match .rest .0 .1 (c3 .half-at .ensures ∙ (sym e ∙ z))) (λ z. c2 .match .rest .1 (c3 .half-at .ensures ∙ (sym e ∙ z))) (omega (arith, e, c3 .half-at .ensures, c1 .if1 .left))) (c4 .pre .1)))
+    -- same-length
+    (λ c. (c .before .before .before .before .before .before .before .before .pair .ensures) .kept .same-env)
+    -- same-length-2
+    (λ c. (c .before .before .before .before .before .before .before .before .pair .ensures) .kept .same-ends)
+    -- same-length-3
+    (λ c. (c .before .before .before .before .before .before .before .before .pair .ensures) .kept .same-stack)
+    -- same-length-4
+    (λ c. (c .before .before .before .before .before .before .before .before .pair .ensures) .kept .same-out)
+    -- returns
+    (λ c.
+    let c1 = c .before .before .before .before .before .before .before .before in
+    let c2 = c1 .before .before .before .before .before in
+    let c3 = c2 .before in
+    answer-as (λ n h e. e ∙ (sym (c3 .half-at .ensures) ∙ c2 .match .keys1)) (c1 .pair .ensures))
+    -- same-length-5
+    (λ c. (c .before .before .before .before .before .before .before .before .conditional .ensures) .kept .same-env)
+    -- same-length-6
+    (λ c. (c .before .before .before .before .before .before .before .before .conditional .ensures) .kept .same-ends)
+    -- same-length-7
+    (λ c. (c .before .before .before .before .before .before .before .before .conditional .ensures) .kept .same-stack)
+    -- same-length-8
+    (λ c. (c .before .before .before .before .before .before .before .before .conditional .ensures) .kept .same-out)
+    -- returns-2
+    (λ c.
+    let c1 = c .before .before .before .before .before .before .before .before in
+    let c2 = c1 .before .before .before .before .before in
+    let c3 = c2 .before in
+    answer-as (λ n h e. e ∙ (sym (c3 .half-at .ensures) ∙ c2 .match .keys2)) (c1 .conditional .ensures))
+    -- same-length-9
+    (λ c. (c .before .before .before .before .before .before .before .before .body .ensures) .kept .same-env)
+    -- same-length-10
+    (λ c. (c .before .before .before .before .before .before .before .before .body .ensures) .kept .same-ends)
+    -- same-length-11
+    (λ c. (c .before .before .before .before .before .before .before .before .body .ensures) .kept .same-stack)
+    -- same-length-12
+    (λ c. (c .before .before .before .before .before .before .before .before .body .ensures) .kept .same-out)
+    -- returns-3
+    (λ c.
+    let c1 = c .before .before .before .before .before .before .before .before in
+    let c2 = c1 .before .before .before .before .before in
+    let c3 = c2 .before in
+    answer-as (λ n h e. e ∙ (sym (c3 .half-at .ensures) ∙ c2 .match .keys3)) (c1 .body .ensures))
+    -- same-length-13
+    (λ c.
+    let c1 = c .before .before in
+    let c2 = c1 .before .before .before in
+    let c3 = c2 .before .before in
+    let c4 = c3 .before .before in
+    let c5 = c4 .before in
+    let c6 = c5 .before .before in
+    let c7 = c6 .before in
+    let c8 = c7 .before in
+    let c9 = c8 .before in
+    let c10 = c9 .before .before .before .before .before .before .before .before .before .before in
+    (answers-leaf (ask-as (λ n h e. leaf-of n h (λ z. c8 .match .rest .0 .0 .1 (c9 .half-at .ensures ∙ (sym e ∙ z))) (λ z. c8 .match .rest .0 .1 (c9 .half-at .ensures ∙ (sym e ∙ z))) (λ z. c8 .match .rest .1 (c9 .half-at .ensures ∙ (sym e ∙ z))) (omega (arith, e, c9 .half-at .ensures, c7 .if1 .taken))) (c10 .pre .1)) (c9 .half-at .ensures) (c6 .half-at2 .ensures) (c3 .word-at .ensures) (c5 .known-of .ensures) (c4 .leaf-type .ensures) (c2 .leaf .ensures) (c1 .finish .ensures)) .kept .same-env)
+    -- same-length-14
+    (λ c.
+    let c1 = c .before .before in
+    let c2 = c1 .before .before .before in
+    let c3 = c2 .before .before in
+    let c4 = c3 .before .before in
+    let c5 = c4 .before in
+    let c6 = c5 .before .before in
+    let c7 = c6 .before in
+    let c8 = c7 .before in
+    let c9 = c8 .before in
+    let c10 = c9 .before .before .before .before .before .before .before .before .before .before in
+    (answers-leaf (ask-as (λ n h e. leaf-of n h (λ z. c8 .match .rest .0 .0 .1 (c9 .half-at .ensures ∙ (sym e ∙ z))) (λ z. c8 .match .rest .0 .1 (c9 .half-at .ensures ∙ (sym e ∙ z))) (λ z. c8 .match .rest .1 (c9 .half-at .ensures ∙ (sym e ∙ z))) (omega (arith, e, c9 .half-at .ensures, c7 .if1 .taken))) (c10 .pre .1)) (c9 .half-at .ensures) (c6 .half-at2 .ensures) (c3 .word-at .ensures) (c5 .known-of .ensures) (c4 .leaf-type .ensures) (c2 .leaf .ensures) (c1 .finish .ensures)) .kept .same-ends)
+    -- same-length-15
+    (λ c.
+    let c1 = c .before .before in
+    let c2 = c1 .before .before .before in
+    let c3 = c2 .before .before in
+    let c4 = c3 .before .before in
+    let c5 = c4 .before in
+    let c6 = c5 .before .before in
+    let c7 = c6 .before in
+    let c8 = c7 .before in
+    let c9 = c8 .before in
+    let c10 = c9 .before .before .before .before .before .before .before .before .before .before in
+    (answers-leaf (ask-as (λ n h e. leaf-of n h (λ z. c8 .match .rest .0 .0 .1 (c9 .half-at .ensures ∙ (sym e ∙ z))) (λ z. c8 .match .rest .0 .1 (c9 .half-at .ensures ∙ (sym e ∙ z))) (λ z. c8 .match .rest .1 (c9 .half-at .ensures ∙ (sym e ∙ z))) (omega (arith, e, c9 .half-at .ensures, c7 .if1 .taken))) (c10 .pre .1)) (c9 .half-at .ensures) (c6 .half-at2 .ensures) (c3 .word-at .ensures) (c5 .known-of .ensures) (c4 .leaf-type .ensures) (c2 .leaf .ensures) (c1 .finish .ensures)) .kept .same-stack)
+    -- same-length-16
+    (λ c.
+    let c1 = c .before .before in
+    let c2 = c1 .before .before .before in
+    let c3 = c2 .before .before in
+    let c4 = c3 .before .before in
+    let c5 = c4 .before in
+    let c6 = c5 .before .before in
+    let c7 = c6 .before in
+    let c8 = c7 .before in
+    let c9 = c8 .before in
+    let c10 = c9 .before .before .before .before .before .before .before .before .before .before in
+    (answers-leaf (ask-as (λ n h e. leaf-of n h (λ z. c8 .match .rest .0 .0 .1 (c9 .half-at .ensures ∙ (sym e ∙ z))) (λ z. c8 .match .rest .0 .1 (c9 .half-at .ensures ∙ (sym e ∙ z))) (λ z. c8 .match .rest .1 (c9 .half-at .ensures ∙ (sym e ∙ z))) (omega (arith, e, c9 .half-at .ensures, c7 .if1 .taken))) (c10 .pre .1)) (c9 .half-at .ensures) (c6 .half-at2 .ensures) (c3 .word-at .ensures) (c5 .known-of .ensures) (c4 .leaf-type .ensures) (c2 .leaf .ensures) (c1 .finish .ensures)) .kept .same-out)
+    -- returns-4
+    (λ c.
+    let c1 = c .before .before in
+    let c2 = c1 .before .before .before in
+    let c3 = c2 .before .before in
+    let c4 = c3 .before .before in
+    let c5 = c4 .before in
+    let c6 = c5 .before .before in
+    let c7 = c6 .before in
+    let c8 = c7 .before in
+    let c9 = c8 .before in
+    let c10 = c9 .before .before .before .before .before .before .before .before .before .before in
+    answer-as (λ n h e. leaf-of n h (λ z. c8 .match .rest .0 .0 .1 (c9 .half-at .ensures ∙ (sym e ∙ z))) (λ z. c8 .match .rest .0 .1 (c9 .half-at .ensures ∙ (sym e ∙ z))) (λ z. c8 .match .rest .1 (c9 .half-at .ensures ∙ (sym e ∙ z))) (omega (arith, e, c9 .half-at .ensures, c7 .if1 .taken))) (answers-leaf (ask-as (λ n h e. leaf-of n h (λ z. c8 .match .rest .0 .0 .1 (c9 .half-at .ensures ∙ (sym e ∙ z))) (λ z. c8 .match .rest .0 .1 (c9 .half-at .ensures ∙ (sym e ∙ z))) (λ z. c8 .match .rest .1 (c9 .half-at .ensures ∙ (sym e ∙ z))) (omega (arith, e, c9 .half-at .ensures, c7 .if1 .taken))) (c10 .pre .1)) (c9 .half-at .ensures) (c6 .half-at2 .ensures) (c3 .word-at .ensures) (c5 .known-of .ensures) (c4 .leaf-type .ensures) (c2 .leaf .ensures) (c1 .finish .ensures)))
+    -- same-length-17
+    (λ c. (c .before .before .before .before .before .before .before .before .simple .ensures) .kept .same-env)
+    -- same-length-18
+    (λ c. (c .before .before .before .before .before .before .before .before .simple .ensures) .kept .same-ends)
+    -- same-length-19
+    (λ c. (c .before .before .before .before .before .before .before .before .simple .ensures) .kept .same-stack)
+    -- same-length-20
+    (λ c. (c .before .before .before .before .before .before .before .before .simple .ensures) .kept .same-out)
+    -- returns-5
+    (λ c.
+    let c1 = c .before .before .before .before .before .before .before .before in
+    let c2 = c1 .before .before .before .before .before in
+    let c3 = c2 .before in
+    let c4 = c3 .before in
+    answer-as (λ n h e. simple-expr n h (λ z. c3 .match .rest .0 .0 .1 (c4 .half-at .ensures ∙ (sym e ∙ z))) (λ z. c3 .match .rest .0 .1 (c4 .half-at .ensures ∙ (sym e ∙ z))) (λ z. c3 .match .rest .1 (c4 .half-at .ensures ∙ (sym e ∙ z))) (omega (arith, e, c4 .half-at .ensures, c2 .if1 .left))) (c1 .simple .ensures))

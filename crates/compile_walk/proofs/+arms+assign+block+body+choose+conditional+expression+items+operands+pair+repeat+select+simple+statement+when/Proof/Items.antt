@@ -1,0 +1,84 @@
+-- The walker `items` meets its contract.
+use mathlib.Core.Path.{refl}
+use native.Mathlib.Omega.{arith}
+use borrow.Author.Needs.{needs}
+use Rattle.compile_steps.specs.Parts.{lent}
+use Rattle.compile_steps.specs.Lists.{ItemsSoFar, items-start, items-asks, items-passes, items-next, items-end}
+use Prim.Native.Nat.{ℕ}
+use Rattle.compile_walk.proofs.items.Reads as items
+use Rattle.compile_walk.proofs.+arms+assign+block+body+choose+conditional+expression+items+operands+pair+repeat+select+simple+statement+when.Lts-items as items-lts
+use Rattle.compile_walk.proofs.statement.Reads as statement′
+use Rattle.spans.proofs.size_at.Reads as size-at-reads
+use Rattle.compile_walk.proofs.+arms+assign+block+body+choose+conditional+expression+items+operands+pair+repeat+select+simple+statement+when.{statement}
+use Rattle.compile_walk.proofs.+arms+assign+block+body+choose+conditional+expression+items+operands+pair+repeat+select+simple+statement+when.Proof.Base.{items-at, statement-below}
+
+abbrev items-Inv-loop : items-lts.InvT-loop
+items-Inv-loop table part count nesting at sizes env₀ top known aims ends₀ holds stack₀ depth out₀ rest₀ place₀ left₀ p₀ env ends stack out rest place left p = ItemsSoFar known aims table part count nesting at sizes (lent env₀ ends₀ stack₀ out₀) top holds depth p₀ (lent env ends stack out) rest place left p
+
+abbrev items-μ-loop : items-lts.MeasureT-loop
+items-μ-loop table part count nesting at sizes env₀ top known aims ends₀ holds stack₀ depth out₀ rest₀ place₀ left₀ p₀ env ends stack out rest place left p = left
+
+pub items-meets : {M : Type 1} (t : ℕ) → items-lts.Closed (statement-below t, statement′.Post, size-at-reads.Asked, size-at-reads.Learnt) (items-at t) items.Post M
+items-meets t = items-lts.spec (statement-below t, statement′.Post, size-at-reads.Asked, size-at-reads.Learnt) (items-at t) items.Post items-Inv-loop items-μ-loop
+    -- loop-holds
+    (λ c. items-start _ _ _ _ _ _ _ _ _ _ _ _ _)
+    -- statement-requires
+    (λ c κs.
+    let c1 = c .before .before .before .before in
+    let c2 = c1 .before in
+    let c3 = c2 .before .before .before .before .before .before .before .before .before .before in
+    (omega (arith, c3 .pre .0), items-asks (c2 .loop .inv) (c1 .loop-test .taken) (c3 .pre .1)))
+    -- size-at-requires
+    (λ c κs.
+    let c1 = c .before .before .before .before .before .before .before .before .before .before .before .before .before in
+    let c2 = c1 .before in
+    let c3 = c2 .before .before .before .before .before .before .before .before .before .before in
+    items-passes (c2 .loop .inv) (c1 .loop-test .taken) (c3 .pre .1) _ refl .known)
+    -- mul-from
+    (λ c.
+    let c2 = c .before .before .before .before .before .before .before .before .before .before .before .before .before .before in
+    let c3 = c2 .before in
+    let c4 = c3 .before .before .before .before .before .before .before .before .before .before in
+    omega (arith, items-passes (c3 .loop .inv) (c2 .loop-test .taken) (c4 .pre .1) (c .size-at .result) (c .size-at .ensures) .small))
+    -- sub-rest
+    (λ c.
+    let c2 = c .before .before .before .before .before .before .before .before .before .before .before .before .before .before in
+    let c3 = c2 .before in
+    let c4 = c3 .before .before .before .before .before .before .before .before .before .before in
+    items-passes (c3 .loop .inv) (c2 .loop-test .taken) (c4 .pre .1) (c .size-at .result) (c .size-at .ensures) .fits)
+    -- part-rest-start
+    (λ c.
+    let c2 = c .before .before .before .before .before .before .before .before .before .before .before .before .before .before in
+    let c3 = c2 .before in
+    let c4 = c3 .before .before .before .before .before .before .before .before .before .before in
+    items-passes (c3 .loop .inv) (c2 .loop-test .taken) (c4 .pre .1) (c .size-at .result) (c .size-at .ensures) .fits)
+    -- part-rest-end
+    (λ c. search needs)
+    -- add-place
+    (λ c.
+    let c1 = c .before in
+    let c2 = c1 .before .before .before .before .before .before .before .before .before .before .before .before .before .before in
+    let c3 = c2 .before in
+    let c4 = c3 .before .before .before .before .before .before .before .before .before .before in
+    omega (arith, items-passes (c3 .loop .inv) (c2 .loop-test .taken) (c4 .pre .1) (c1 .size-at .result) (c1 .size-at .ensures) .small))
+    -- sub-left
+    (λ c. omega (arith, c .before .before .before .before .before .before .before .before .before .before .before .before .before .before .before .loop-test .taken))
+    -- loop-less
+    (λ c. omega (arith, c .before .before .before .before .before .before .before .before .before .before .before .before .before .before .before .loop-test .taken))
+    -- loop-again
+    (λ c.
+    let c1 = c .before in
+    let c2 = c1 .before .before .before .before .before .before .before .before .before in
+    let c3 = c2 .before .before .before .before .before in
+    let c4 = c3 .before in
+    items-next (c4 .loop .inv) (c3 .loop-test .taken) (c2 .statement .ensures) (c1 .size-at .result) (c1 .size-at .ensures))
+    -- same-length
+    (λ c. (items-end (c .before .loop .inv) (omega arith)) .kept .same-env)
+    -- same-length-2
+    (λ c. (items-end (c .before .loop .inv) (omega arith)) .kept .same-ends)
+    -- same-length-3
+    (λ c. (items-end (c .before .loop .inv) (omega arith)) .kept .same-stack)
+    -- same-length-4
+    (λ c. (items-end (c .before .loop .inv) (omega arith)) .kept .same-out)
+    -- returns
+    (λ c. items-end (c .before .loop .inv) (omega arith))

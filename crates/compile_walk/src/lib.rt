@@ -1,0 +1,1129 @@
+// The walkers: statements and expressions call each other, the remaining nesting falling. Each gets the part of the table that begins
+// where it stands and passes on parts that start inside it. An expression leaves the type of its value at `depth` of the stack. The
+// walkers go over a table twice: with a dry pen they only find where the code of each entry ends; then `aims` has what they found.
+use compile_pen::Pen;
+ghost use mathlib.Core.Path.{_≡_};
+ghost use Prim.Native.Nat.{_+_, _*_};
+ghost use Rattle.compile_nodes.specs.Ready.{Asks, Answers, AsksEs, AnswersEs, AsksItems, AnswersItems, AsksArms, AnswersArms};
+ghost use Rattle.compile_steps.specs.Parts.{lent};
+ghost use Rattle.compile_steps.specs.Views.{IsExpr, IsStmt, IsKind, IsSimple};
+
+// Expressions one after the other; the values of those before wait.
+fn operands(
+    table: &[u8],
+    part: &[u8],
+    count: usize,
+    nesting: usize,
+    at: usize,
+    sizes: &[u16],
+    env: &mut [u32],
+    top: usize,
+    known: &[u32],
+    aims: &[u16],
+    ends: &mut [u16],
+    holds: usize,
+    stack: &mut [u8],
+    depth: usize,
+    out: &mut [u8],
+    pen: Pen,
+) -> Pen
+    requires { ⌜ AsksEs (now known) (now aims) (now table) (now part) count nesting at (now sizes) (lent (now env) (now ends) (now stack) (now out)) top holds depth pen ⌝ }
+    ensures { λ r. ⌜ AnswersEs (now (known .entry)) (now (aims .entry)) (now (table .entry)) (now (part .entry)) count nesting at (now (sizes .entry)) (lent (now (env .entry)) (now (ends .entry)) (now (stack .entry)) (now (out .entry))) (lent (now (env .exit)) (now (ends .exit)) (now (stack .exit)) (now (out .exit))) top holds depth pen r ⌝ }
+{
+    let mut rest = part;
+    let mut place = at;
+    let mut i = 0;
+    let mut p = pen;
+    while i < count {
+        p = expression(
+            table,
+            rest,
+            nesting,
+            place,
+            sizes,
+            env,
+            top,
+            known,
+            aims,
+            ends,
+            holds,
+            stack,
+            depth + i,
+            out,
+            p,
+        );
+        let n = spans::size_at(sizes, place);
+        let from = 8 * n;
+        rest = &rest[from..];
+        place += n;
+        i += 1;
+    }
+    p
+}
+
+// An entry with expressions only below it: they, and its instruction.
+fn simple(
+    table: &[u8],
+    part: &[u8],
+    nesting: usize,
+    at: usize,
+    sizes: &[u16],
+    env: &mut [u32],
+    top: usize,
+    known: &[u32],
+    aims: &[u16],
+    ends: &mut [u16],
+    holds: usize,
+    stack: &mut [u8],
+    depth: usize,
+    out: &mut [u8],
+    pen: Pen,
+) -> Pen
+    requires { ⌜ Asks IsSimple (now known) (now aims) (now table) (now part) nesting at (now sizes) (lent (now env) (now ends) (now stack) (now out)) top holds depth pen ⌝ }
+    ensures { λ r. ⌜ Answers IsSimple (now (known .entry)) (now (aims .entry)) (now (table .entry)) (now (part .entry)) nesting at (now (sizes .entry)) (lent (now (env .entry)) (now (ends .entry)) (now (stack .entry)) (now (out .entry))) (lent (now (env .exit)) (now (ends .exit)) (now (stack .exit)) (now (out .exit))) top holds depth pen r ⌝ }
+{
+    let kind = words::half_at(part, 0);
+    let a = words::half_at(part, 2);
+    let count = compile_own::operands_of(kind, words::word_at(part, 4));
+    let p = operands(
+        table,
+        &part[8..],
+        count,
+        nesting - 1,
+        at + 1,
+        sizes,
+        env,
+        top,
+        known,
+        aims,
+        ends,
+        holds,
+        stack,
+        depth,
+        out,
+        pen,
+    );
+    let k = compile_own::known_of(kind, a, env, top, known);
+    stack[depth] = compile_own::last_type(kind, a, k, stack[depth]);
+    compile_own::finish(ends, at, compile_own::last(kind, a, k, out, p))
+}
+
+// A binary operator.
+fn pair(
+    table: &[u8],
+    part: &[u8],
+    nesting: usize,
+    at: usize,
+    sizes: &[u16],
+    env: &mut [u32],
+    top: usize,
+    known: &[u32],
+    aims: &[u16],
+    ends: &mut [u16],
+    holds: usize,
+    stack: &mut [u8],
+    depth: usize,
+    out: &mut [u8],
+    pen: Pen,
+) -> Pen
+    requires { ⌜ Asks (IsKind 49) (now known) (now aims) (now table) (now part) nesting at (now sizes) (lent (now env) (now ends) (now stack) (now out)) top holds depth pen ⌝ }
+    ensures { λ r. ⌜ Answers (IsKind 49) (now (known .entry)) (now (aims .entry)) (now (table .entry)) (now (part .entry)) nesting at (now (sizes .entry)) (lent (now (env .entry)) (now (ends .entry)) (now (stack .entry)) (now (out .entry))) (lent (now (env .exit)) (now (ends .exit)) (now (stack .exit)) (now (out .exit))) top holds depth pen r ⌝ }
+{
+    let operator = words::half_at(part, 2);
+    let p = expression(
+        table,
+        &part[8..],
+        nesting - 1,
+        at + 1,
+        sizes,
+        env,
+        top,
+        known,
+        aims,
+        ends,
+        holds,
+        stack,
+        depth,
+        out,
+        pen,
+    );
+    let second = at + 1 + spans::size_at(sizes, at + 1);
+    let end = compile_own::end_of(aims, second);
+    let first = stack[depth];
+    let way = compile_own::way_of(operator, first);
+    let q = compile_own::between(way, end, holds, stack, depth, out, p);
+    let from = 8 * (second - at);
+    let r = expression(
+        table,
+        &part[from..],
+        nesting - 1,
+        second,
+        sizes,
+        env,
+        top,
+        known,
+        aims,
+        ends,
+        holds,
+        stack,
+        depth + compile_own::waiting(way),
+        out,
+        q,
+    );
+    stack[depth] = compile_own::pair_type(operator, first);
+    compile_own::finish(
+        ends,
+        at,
+        compile_own::behind(way, operator, end, holds, stack, depth, out, r),
+    )
+}
+
+// An if-expression.
+fn conditional(
+    table: &[u8],
+    part: &[u8],
+    nesting: usize,
+    at: usize,
+    sizes: &[u16],
+    env: &mut [u32],
+    top: usize,
+    known: &[u32],
+    aims: &[u16],
+    ends: &mut [u16],
+    holds: usize,
+    stack: &mut [u8],
+    depth: usize,
+    out: &mut [u8],
+    pen: Pen,
+) -> Pen
+    requires { ⌜ Asks (IsKind 50) (now known) (now aims) (now table) (now part) nesting at (now sizes) (lent (now env) (now ends) (now stack) (now out)) top holds depth pen ⌝ }
+    ensures { λ r. ⌜ Answers (IsKind 50) (now (known .entry)) (now (aims .entry)) (now (table .entry)) (now (part .entry)) nesting at (now (sizes .entry)) (lent (now (env .entry)) (now (ends .entry)) (now (stack .entry)) (now (out .entry))) (lent (now (env .exit)) (now (ends .exit)) (now (stack .exit)) (now (out .exit))) top holds depth pen r ⌝ }
+{
+    let p = expression(
+        table,
+        &part[8..],
+        nesting - 1,
+        at + 1,
+        sizes,
+        env,
+        top,
+        known,
+        aims,
+        ends,
+        holds,
+        stack,
+        depth,
+        out,
+        pen,
+    );
+    let second = at + 1 + spans::size_at(sizes, at + 1);
+    let third = second + spans::size_at(sizes, second);
+    let q = compile_pen::emit(out, p, 9, 0, compile_own::end_of(aims, second) + 1);
+    let from = 8 * (second - at);
+    let r = expression(
+        table,
+        &part[from..],
+        nesting - 1,
+        second,
+        sizes,
+        env,
+        top,
+        known,
+        aims,
+        ends,
+        holds,
+        stack,
+        depth,
+        out,
+        q,
+    );
+    let ty = stack[depth];
+    let s = compile_pen::emit(out, r, 8, 0, compile_own::end_of(aims, third));
+    let t = compile_pen::shape(out, s, holds, stack, depth);
+    let last = 8 * (third - at);
+    let u = expression(
+        table,
+        &part[last..],
+        nesting - 1,
+        third,
+        sizes,
+        env,
+        top,
+        known,
+        aims,
+        ends,
+        holds,
+        stack,
+        depth,
+        out,
+        t,
+    );
+    stack[depth] = ty;
+    compile_own::finish(
+        ends,
+        at,
+        compile_pen::shape(out, u, holds, stack, depth + 1),
+    )
+}
+
+// An if without else.
+fn when(
+    table: &[u8],
+    part: &[u8],
+    nesting: usize,
+    at: usize,
+    sizes: &[u16],
+    env: &mut [u32],
+    top: usize,
+    known: &[u32],
+    aims: &[u16],
+    ends: &mut [u16],
+    holds: usize,
+    stack: &mut [u8],
+    depth: usize,
+    out: &mut [u8],
+    pen: Pen,
+) -> Pen
+    requires { ⌜ Asks (IsKind 22) (now known) (now aims) (now table) (now part) nesting at (now sizes) (lent (now env) (now ends) (now stack) (now out)) top holds depth pen ⌝ }
+    ensures { λ r. ⌜ Answers (IsKind 22) (now (known .entry)) (now (aims .entry)) (now (table .entry)) (now (part .entry)) nesting at (now (sizes .entry)) (lent (now (env .entry)) (now (ends .entry)) (now (stack .entry)) (now (out .entry))) (lent (now (env .exit)) (now (ends .exit)) (now (stack .exit)) (now (out .exit))) top holds depth pen r ⌝ }
+{
+    let p = expression(
+        table,
+        &part[8..],
+        nesting - 1,
+        at + 1,
+        sizes,
+        env,
+        top,
+        known,
+        aims,
+        ends,
+        holds,
+        stack,
+        depth,
+        out,
+        pen,
+    );
+    let second = at + 1 + spans::size_at(sizes, at + 1);
+    let q = compile_pen::emit(out, p, 9, 0, compile_own::end_of(aims, second));
+    let from = 8 * (second - at);
+    let r = statement(
+        table,
+        &part[from..],
+        nesting - 1,
+        second,
+        sizes,
+        env,
+        top,
+        known,
+        aims,
+        ends,
+        holds,
+        stack,
+        depth,
+        out,
+        q,
+    );
+    compile_own::finish(ends, at, compile_pen::shape(out, r, holds, stack, depth))
+}
+
+// An if with else.
+fn choose(
+    table: &[u8],
+    part: &[u8],
+    nesting: usize,
+    at: usize,
+    sizes: &[u16],
+    env: &mut [u32],
+    top: usize,
+    known: &[u32],
+    aims: &[u16],
+    ends: &mut [u16],
+    holds: usize,
+    stack: &mut [u8],
+    depth: usize,
+    out: &mut [u8],
+    pen: Pen,
+) -> Pen
+    requires { ⌜ Asks (IsKind 23) (now known) (now aims) (now table) (now part) nesting at (now sizes) (lent (now env) (now ends) (now stack) (now out)) top holds depth pen ⌝ }
+    ensures { λ r. ⌜ Answers (IsKind 23) (now (known .entry)) (now (aims .entry)) (now (table .entry)) (now (part .entry)) nesting at (now (sizes .entry)) (lent (now (env .entry)) (now (ends .entry)) (now (stack .entry)) (now (out .entry))) (lent (now (env .exit)) (now (ends .exit)) (now (stack .exit)) (now (out .exit))) top holds depth pen r ⌝ }
+{
+    let p = expression(
+        table,
+        &part[8..],
+        nesting - 1,
+        at + 1,
+        sizes,
+        env,
+        top,
+        known,
+        aims,
+        ends,
+        holds,
+        stack,
+        depth,
+        out,
+        pen,
+    );
+    let second = at + 1 + spans::size_at(sizes, at + 1);
+    let third = second + spans::size_at(sizes, second);
+    let q = compile_pen::emit(out, p, 9, 0, compile_own::end_of(aims, second) + 1);
+    let from = 8 * (second - at);
+    let r = statement(
+        table,
+        &part[from..],
+        nesting - 1,
+        second,
+        sizes,
+        env,
+        top,
+        known,
+        aims,
+        ends,
+        holds,
+        stack,
+        depth,
+        out,
+        q,
+    );
+    let s = compile_pen::emit(out, r, 8, 0, compile_own::end_of(aims, third));
+    let t = compile_pen::shape(out, s, holds, stack, depth);
+    let last = 8 * (third - at);
+    let u = statement(
+        table,
+        &part[last..],
+        nesting - 1,
+        third,
+        sizes,
+        env,
+        top,
+        known,
+        aims,
+        ends,
+        holds,
+        stack,
+        depth,
+        out,
+        t,
+    );
+    compile_own::finish(ends, at, compile_pen::shape(out, u, holds, stack, depth))
+}
+
+// A while.
+fn repeat(
+    table: &[u8],
+    part: &[u8],
+    nesting: usize,
+    at: usize,
+    sizes: &[u16],
+    env: &mut [u32],
+    top: usize,
+    known: &[u32],
+    aims: &[u16],
+    ends: &mut [u16],
+    holds: usize,
+    stack: &mut [u8],
+    depth: usize,
+    out: &mut [u8],
+    pen: Pen,
+) -> Pen
+    requires { ⌜ Asks (IsKind 24) (now known) (now aims) (now table) (now part) nesting at (now sizes) (lent (now env) (now ends) (now stack) (now out)) top holds depth pen ⌝ }
+    ensures { λ r. ⌜ Answers (IsKind 24) (now (known .entry)) (now (aims .entry)) (now (table .entry)) (now (part .entry)) nesting at (now (sizes .entry)) (lent (now (env .entry)) (now (ends .entry)) (now (stack .entry)) (now (out .entry))) (lent (now (env .exit)) (now (ends .exit)) (now (stack .exit)) (now (out .exit))) top holds depth pen r ⌝ }
+{
+    let start = pen.address as u32;
+    let p = compile_pen::shape(out, pen, holds, stack, depth);
+    let q = expression(
+        table,
+        &part[8..],
+        nesting - 1,
+        at + 1,
+        sizes,
+        env,
+        top,
+        known,
+        aims,
+        ends,
+        holds,
+        stack,
+        depth,
+        out,
+        p,
+    );
+    let second = at + 1 + spans::size_at(sizes, at + 1);
+    let r = compile_pen::emit(out, q, 9, 0, compile_own::end_of(aims, second) + 1);
+    let from = 8 * (second - at);
+    let s = statement(
+        table,
+        &part[from..],
+        nesting - 1,
+        second,
+        sizes,
+        env,
+        top,
+        known,
+        aims,
+        ends,
+        holds,
+        stack,
+        depth,
+        out,
+        r,
+    );
+    let t = compile_pen::emit(out, s, 8, 0, start);
+    compile_own::finish(ends, at, compile_pen::shape(out, t, holds, stack, depth))
+}
+
+// The statements of the case at `owner`: its index is in a cell.
+fn arms(
+    table: &[u8],
+    part: &[u8],
+    owner: usize,
+    count: usize,
+    nesting: usize,
+    at: usize,
+    sizes: &[u16],
+    env: &mut [u32],
+    top: usize,
+    known: &[u32],
+    aims: &[u16],
+    ends: &mut [u16],
+    holds: usize,
+    stack: &mut [u8],
+    depth: usize,
+    out: &mut [u8],
+    pen: Pen,
+) -> Pen
+    requires { ⌜ AsksArms (now known) (now aims) (now table) (now part) owner count nesting at (now sizes) (lent (now env) (now ends) (now stack) (now out)) top holds depth pen ⌝ }
+    ensures { λ r. ⌜ AnswersArms (now (known .entry)) (now (aims .entry)) (now (table .entry)) (now (part .entry)) owner count nesting at (now (sizes .entry)) (lent (now (env .entry)) (now (ends .entry)) (now (stack .entry)) (now (out .entry))) (lent (now (env .exit)) (now (ends .exit)) (now (stack .exit)) (now (out .exit))) top holds depth pen r ⌝ }
+{
+    let cell = compile_known::second_in(compile_known::known_at(known, owner));
+    let end = compile_own::end_of(aims, owner);
+    let mut rest = part;
+    let mut place = at;
+    let mut i = 0;
+    let mut p = pen;
+    while i < count {
+        let q = compile_own::before_arm(cell, i, compile_own::end_of(aims, place), out, p);
+        let r = statement(
+            table,
+            rest,
+            nesting,
+            place,
+            sizes,
+            env,
+            top,
+            known,
+            aims,
+            ends,
+            holds,
+            stack,
+            depth,
+            out,
+            q,
+        );
+        p = compile_own::after_arm(end, holds, stack, depth, out, r);
+        let n = spans::size_at(sizes, place);
+        let from = 8 * n;
+        rest = &rest[from..];
+        place += n;
+        i += 1;
+    }
+    p
+}
+
+// A case.
+fn select(
+    table: &[u8],
+    part: &[u8],
+    nesting: usize,
+    at: usize,
+    sizes: &[u16],
+    env: &mut [u32],
+    top: usize,
+    known: &[u32],
+    aims: &[u16],
+    ends: &mut [u16],
+    holds: usize,
+    stack: &mut [u8],
+    depth: usize,
+    out: &mut [u8],
+    pen: Pen,
+) -> Pen
+    requires { ⌜ Asks (IsKind 30) (now known) (now aims) (now table) (now part) nesting at (now sizes) (lent (now env) (now ends) (now stack) (now out)) top holds depth pen ⌝ }
+    ensures { λ r. ⌜ Answers (IsKind 30) (now (known .entry)) (now (aims .entry)) (now (table .entry)) (now (part .entry)) nesting at (now (sizes .entry)) (lent (now (env .entry)) (now (ends .entry)) (now (stack .entry)) (now (out .entry))) (lent (now (env .exit)) (now (ends .exit)) (now (stack .exit)) (now (out .exit))) top holds depth pen r ⌝ }
+{
+    let count = words::half_at(part, 2) as usize;
+    let cell = compile_known::second_in(compile_known::known_at(known, at));
+    let p = expression(
+        table,
+        &part[8..],
+        nesting - 1,
+        at + 1,
+        sizes,
+        env,
+        top,
+        known,
+        aims,
+        ends,
+        holds,
+        stack,
+        depth,
+        out,
+        pen,
+    );
+    let q = compile_pen::emit(out, p, 6, 0, cell);
+    let second = at + 1 + spans::size_at(sizes, at + 1);
+    let from = 8 * (second - at);
+    let r = arms(
+        table,
+        &part[from..],
+        at,
+        count,
+        nesting - 1,
+        second,
+        sizes,
+        env,
+        top,
+        known,
+        aims,
+        ends,
+        holds,
+        stack,
+        depth,
+        out,
+        q,
+    );
+    let s = compile_pen::emit(out, r, 20, 0, 0);
+    compile_own::finish(ends, at, compile_pen::shape(out, s, holds, stack, depth))
+}
+
+// An assignment: to a variable its value alone is computed, to a field the reference before it.
+fn assign(
+    table: &[u8],
+    part: &[u8],
+    nesting: usize,
+    at: usize,
+    sizes: &[u16],
+    env: &mut [u32],
+    top: usize,
+    known: &[u32],
+    aims: &[u16],
+    ends: &mut [u16],
+    holds: usize,
+    stack: &mut [u8],
+    depth: usize,
+    out: &mut [u8],
+    pen: Pen,
+) -> Pen
+    requires { ⌜ Asks (IsKind 21) (now known) (now aims) (now table) (now part) nesting at (now sizes) (lent (now env) (now ends) (now stack) (now out)) top holds depth pen ⌝ }
+    ensures { λ r. ⌜ Answers (IsKind 21) (now (known .entry)) (now (aims .entry)) (now (table .entry)) (now (part .entry)) nesting at (now (sizes .entry)) (lent (now (env .entry)) (now (ends .entry)) (now (stack .entry)) (now (out .entry))) (lent (now (env .exit)) (now (ends .exit)) (now (stack .exit)) (now (out .exit))) top holds depth pen r ⌝ }
+{
+    let k = compile_known::meaning(env, top, words::half_at(part, 10), known);
+    let second = at + 1 + spans::size_at(sizes, at + 1);
+    let from = 8 * (second - at);
+    if words::half_at(part, 8) == 44 {
+        let p = compile_own::finish(ends, at + 1, pen);
+        let q = expression(
+            table,
+            &part[from..],
+            nesting - 1,
+            second,
+            sizes,
+            env,
+            top,
+            known,
+            aims,
+            ends,
+            holds,
+            stack,
+            depth,
+            out,
+            p,
+        );
+        let r = compile_pen::emit(
+            out,
+            q,
+            6,
+            compile_own::owner(q, k),
+            compile_known::second_in(k),
+        );
+        return compile_own::finish(ends, at, r);
+    }
+    let p = expression(
+        table,
+        &part[16..],
+        nesting - 2,
+        at + 2,
+        sizes,
+        env,
+        top,
+        known,
+        aims,
+        ends,
+        holds,
+        stack,
+        depth,
+        out,
+        pen,
+    );
+    let q = compile_own::finish(ends, at + 1, p);
+    let r = expression(
+        table,
+        &part[from..],
+        nesting - 1,
+        second,
+        sizes,
+        env,
+        top,
+        known,
+        aims,
+        ends,
+        holds,
+        stack,
+        depth + 1,
+        out,
+        q,
+    );
+    let s = compile_pen::emit(
+        out,
+        r,
+        14,
+        compile_known::first_in(k),
+        compile_known::second_in(k),
+    );
+    compile_own::finish(ends, at, s)
+}
+
+// Labels and statements one after the other.
+pub fn items(
+    table: &[u8],
+    part: &[u8],
+    count: usize,
+    nesting: usize,
+    at: usize,
+    sizes: &[u16],
+    env: &mut [u32],
+    top: usize,
+    known: &[u32],
+    aims: &[u16],
+    ends: &mut [u16],
+    holds: usize,
+    stack: &mut [u8],
+    depth: usize,
+    out: &mut [u8],
+    pen: Pen,
+) -> Pen
+    requires { ⌜ AsksItems (now known) (now aims) (now table) (now part) count nesting at (now sizes) (lent (now env) (now ends) (now stack) (now out)) top holds depth pen ⌝ }
+    ensures { λ r. ⌜ AnswersItems (now (known .entry)) (now (aims .entry)) (now (table .entry)) (now (part .entry)) count nesting at (now (sizes .entry)) (lent (now (env .entry)) (now (ends .entry)) (now (stack .entry)) (now (out .entry))) (lent (now (env .exit)) (now (ends .exit)) (now (stack .exit)) (now (out .exit))) top holds depth pen r ⌝ }
+{
+    let mut rest = part;
+    let mut place = at;
+    let mut left = count;
+    let mut p = pen;
+    while 0 < left {
+        p = statement(
+            table,
+            rest,
+            nesting,
+            place,
+            sizes,
+            env,
+            top,
+            known,
+            aims,
+            ends,
+            holds,
+            stack,
+            depth,
+            out,
+            p,
+        );
+        let n = spans::size_at(sizes, place);
+        let from = 8 * n;
+        rest = &rest[from..];
+        place += n;
+        left -= 1;
+    }
+    p
+}
+
+// A block: its names, its head, its items; then its holds are let go.
+fn block(
+    table: &[u8],
+    part: &[u8],
+    nesting: usize,
+    at: usize,
+    sizes: &[u16],
+    env: &mut [u32],
+    top: usize,
+    known: &[u32],
+    aims: &[u16],
+    ends: &mut [u16],
+    holds: usize,
+    stack: &mut [u8],
+    depth: usize,
+    out: &mut [u8],
+    pen: Pen,
+) -> Pen
+    requires { ⌜ Asks (IsKind 1) (now known) (now aims) (now table) (now part) nesting at (now sizes) (lent (now env) (now ends) (now stack) (now out)) top holds depth pen ⌝ }
+    ensures { λ r. ⌜ Answers (IsKind 1) (now (known .entry)) (now (aims .entry)) (now (table .entry)) (now (part .entry)) nesting at (now (sizes .entry)) (lent (now (env .entry)) (now (ends .entry)) (now (stack .entry)) (now (out .entry))) (lent (now (env .exit)) (now (ends .exit)) (now (stack .exit)) (now (out .exit))) top holds depth pen r ⌝ }
+{
+    let heads = words::half_at(part, 2) as usize;
+    let count = words::word_at(part, 4) as usize;
+    let open = compile_own::holds_in(&part[8..], heads);
+    compile_own::mark_holds(env, top, open);
+    let up = heads::enter(table, at + 1, heads, count, 65536, sizes, env, top + open);
+    let p = compile_own::declare(&part[8..], at + 1, heads, known, ends, out, pen);
+    let from = 8 * (1 + heads);
+    let q = items(
+        table,
+        &part[from..],
+        count,
+        nesting - 1,
+        at + 1 + heads,
+        sizes,
+        env,
+        up,
+        known,
+        aims,
+        ends,
+        holds + open,
+        stack,
+        depth,
+        out,
+        p,
+    );
+    compile_own::finish(ends, at, compile_pen::releases(out, q, open))
+}
+
+// A block expression: the same behind a wall, and its value before the releases.
+fn body(
+    table: &[u8],
+    part: &[u8],
+    nesting: usize,
+    at: usize,
+    sizes: &[u16],
+    env: &mut [u32],
+    top: usize,
+    known: &[u32],
+    aims: &[u16],
+    ends: &mut [u16],
+    holds: usize,
+    stack: &mut [u8],
+    depth: usize,
+    out: &mut [u8],
+    pen: Pen,
+) -> Pen
+    requires { ⌜ Asks (IsKind 53) (now known) (now aims) (now table) (now part) nesting at (now sizes) (lent (now env) (now ends) (now stack) (now out)) top holds depth pen ⌝ }
+    ensures { λ r. ⌜ Answers (IsKind 53) (now (known .entry)) (now (aims .entry)) (now (table .entry)) (now (part .entry)) nesting at (now (sizes .entry)) (lent (now (env .entry)) (now (ends .entry)) (now (stack .entry)) (now (out .entry))) (lent (now (env .exit)) (now (ends .exit)) (now (stack .exit)) (now (out .exit))) top holds depth pen r ⌝ }
+{
+    let heads = words::half_at(part, 2) as usize;
+    let count = words::word_at(part, 4) as usize;
+    let open = compile_own::holds_in(&part[8..], heads);
+    compile_own::mark_holds(env, top, open);
+    let up = heads::enter(table, at + 1, heads, count, 65537, sizes, env, top + open);
+    let p = compile_own::declare(&part[8..], at + 1, heads, known, ends, out, pen);
+    let from = 8 * (1 + heads);
+    let q = items(
+        table,
+        &part[from..],
+        count,
+        nesting - 1,
+        at + 1 + heads,
+        sizes,
+        env,
+        up,
+        known,
+        aims,
+        ends,
+        holds + open,
+        stack,
+        depth,
+        out,
+        p,
+    );
+    let n = spans::spanned(table, sizes, at + 1 + heads, count);
+    let after = 8 * (1 + heads + n);
+    let r = expression(
+        table,
+        &part[after..],
+        nesting - 1,
+        at + 1 + heads + n,
+        sizes,
+        env,
+        up,
+        known,
+        aims,
+        ends,
+        holds + open,
+        stack,
+        depth,
+        out,
+        q,
+    );
+    compile_own::finish(ends, at, compile_pen::releases(out, r, open))
+}
+
+pub fn expression(
+    table: &[u8],
+    part: &[u8],
+    nesting: usize,
+    at: usize,
+    sizes: &[u16],
+    env: &mut [u32],
+    top: usize,
+    known: &[u32],
+    aims: &[u16],
+    ends: &mut [u16],
+    holds: usize,
+    stack: &mut [u8],
+    depth: usize,
+    out: &mut [u8],
+    pen: Pen,
+) -> Pen
+    requires { ⌜ Asks IsExpr (now known) (now aims) (now table) (now part) nesting at (now sizes) (lent (now env) (now ends) (now stack) (now out)) top holds depth pen ⌝ }
+    ensures { λ r. ⌜ Answers IsExpr (now (known .entry)) (now (aims .entry)) (now (table .entry)) (now (part .entry)) nesting at (now (sizes .entry)) (lent (now (env .entry)) (now (ends .entry)) (now (stack .entry)) (now (out .entry))) (lent (now (env .exit)) (now (ends .exit)) (now (stack .exit)) (now (out .exit))) top holds depth pen r ⌝ }
+{
+    let kind = words::half_at(part, 0);
+    match kind {
+        49 => pair(
+            table,
+            part,
+            nesting,
+            at,
+            sizes,
+            env,
+            top,
+            known,
+            aims,
+            ends,
+            holds,
+            stack,
+            depth,
+            out,
+            pen,
+        ),
+        50 => conditional(
+            table,
+            part,
+            nesting,
+            at,
+            sizes,
+            env,
+            top,
+            known,
+            aims,
+            ends,
+            holds,
+            stack,
+            depth,
+            out,
+            pen,
+        ),
+        53 => body(
+            table,
+            part,
+            nesting,
+            at,
+            sizes,
+            env,
+            top,
+            known,
+            aims,
+            ends,
+            holds,
+            stack,
+            depth,
+            out,
+            pen,
+        ),
+        _ => if kind < 45 {
+            let k = compile_own::known_of(kind, words::half_at(part, 2), env, top, known);
+            stack[depth] = compile_own::leaf_type(kind, k);
+            compile_own::finish(
+                ends,
+                at,
+                compile_own::leaf(kind, words::word_at(part, 4), k, out, pen),
+            )
+        } else {
+            simple(
+                table,
+                part,
+                nesting,
+                at,
+                sizes,
+                env,
+                top,
+                known,
+                aims,
+                ends,
+                holds,
+                stack,
+                depth,
+                out,
+                pen,
+            )
+        },
+    }
+}
+
+// A statement, or a label among them.
+pub fn statement(
+    table: &[u8],
+    part: &[u8],
+    nesting: usize,
+    at: usize,
+    sizes: &[u16],
+    env: &mut [u32],
+    top: usize,
+    known: &[u32],
+    aims: &[u16],
+    ends: &mut [u16],
+    holds: usize,
+    stack: &mut [u8],
+    depth: usize,
+    out: &mut [u8],
+    pen: Pen,
+) -> Pen
+    requires { ⌜ Asks IsStmt (now known) (now aims) (now table) (now part) nesting at (now sizes) (lent (now env) (now ends) (now stack) (now out)) top holds depth pen ⌝ }
+    ensures { λ r. ⌜ Answers IsStmt (now (known .entry)) (now (aims .entry)) (now (table .entry)) (now (part .entry)) nesting at (now (sizes .entry)) (lent (now (env .entry)) (now (ends .entry)) (now (stack .entry)) (now (out .entry))) (lent (now (env .exit)) (now (ends .exit)) (now (stack .exit)) (now (out .exit))) top holds depth pen r ⌝ }
+{
+    let kind = words::half_at(part, 0);
+    match kind {
+        1 => block(
+            table,
+            part,
+            nesting,
+            at,
+            sizes,
+            env,
+            top,
+            known,
+            aims,
+            ends,
+            holds,
+            stack,
+            depth,
+            out,
+            pen,
+        ),
+        20 => compile_own::finish(ends, at, compile_pen::shape(out, pen, holds, stack, depth)),
+        21 => assign(
+            table,
+            part,
+            nesting,
+            at,
+            sizes,
+            env,
+            top,
+            known,
+            aims,
+            ends,
+            holds,
+            stack,
+            depth,
+            out,
+            pen,
+        ),
+        22 => when(
+            table,
+            part,
+            nesting,
+            at,
+            sizes,
+            env,
+            top,
+            known,
+            aims,
+            ends,
+            holds,
+            stack,
+            depth,
+            out,
+            pen,
+        ),
+        23 => choose(
+            table,
+            part,
+            nesting,
+            at,
+            sizes,
+            env,
+            top,
+            known,
+            aims,
+            ends,
+            holds,
+            stack,
+            depth,
+            out,
+            pen,
+        ),
+        24 => repeat(
+            table,
+            part,
+            nesting,
+            at,
+            sizes,
+            env,
+            top,
+            known,
+            aims,
+            ends,
+            holds,
+            stack,
+            depth,
+            out,
+            pen,
+        ),
+        25 => compile_own::finish(
+            ends,
+            at,
+            compile_own::goto(
+                words::half_at(part, 2),
+                env,
+                top,
+                aims,
+                holds,
+                stack,
+                depth,
+                out,
+                pen,
+            ),
+        ),
+        30 => select(
+            table,
+            part,
+            nesting,
+            at,
+            sizes,
+            env,
+            top,
+            known,
+            aims,
+            ends,
+            holds,
+            stack,
+            depth,
+            out,
+            pen,
+        ),
+        _ => simple(
+            table,
+            part,
+            nesting,
+            at,
+            sizes,
+            env,
+            top,
+            known,
+            aims,
+            ends,
+            holds,
+            stack,
+            depth,
+            out,
+            pen,
+        ),
+    }
+}

@@ -1,0 +1,151 @@
+-- How long the lines of a listing are: an event's at most 12 bytes, any other at most 23.
+use mathlib.Core.Path.{_≡_, refl, ap}
+use mathlib.Core.Bool.{Bool, true, false}
+use mathlib.Core.Logic.{_⊎_, inl, inr}
+use mathlib.Core.List.{List, [], _∷_, _++_}
+use Prim.Native.Nat.{ℕ, zero, suc, _+_, _-_, _*_, _/_, _%_, _≤_, _<_}
+use native.Mathlib.Omega.{arith}
+use lib.Dec.{ltb, leb}
+use lib.ListN.{length, replicate, length-append}
+use borrow.Author.Tests.{ltb-true, ltb-false, lt-ltb, le-ltb, leb-true}
+use Rattle.words.specs.Choice.{if_then_else_}
+use Rattle.words.specs.Laws.{Bytes}
+use Rattle.values.specs.Ends.{Refusal, refusal, isCondition}
+use Rattle.values.specs.Trace.{Event, set, hold, release}
+use Rattle.bytecode.specs.Runs.{Answer, happens, spends, finishes, refuses, halts}
+use Rattle.bytecode.specs.Lent.{runOn}
+use Rattle.loading.specs.Tests.{halves}
+use Rattle.safety.specs.Terms.{InRange}
+use Rattle.running.specs.Fields.{Ranged, run-ranged}
+use Rattle.listing_text.specs.Text.{digit, digits, decimal, numbers, line, eventLine, endLine, openLine, refusedLine, answerLine, afterEvent, zeros, runsText, linesOf}
+use Rattle.listing_text.specs.Steps.{Within, event-within}
+
+-- ── decimals ──
+-- as many digits as there are to come do not matter, if they are enough
+same-digits : (d e n : ℕ) → n ≤ d → n ≤ e → digits d n ≡ digits e n
+unfolding digits
+same-digits zero zero n h k = refl
+same-digits zero (suc e) n h k = rw (lt-ltb n 10 (omega arith))
+same-digits (suc d) zero n h k = rw (lt-ltb n 10 (omega arith))
+same-digits (suc d) (suc e) n h k = go (ltb n 10) refl (λ g. same-digits d e (n / 10) (omega arith) (omega arith))
+  where
+    go : (b : Bool) → ltb n 10 ≡ b → (10 ≤ n → digits d (n / 10) ≡ digits e (n / 10))
+        → (if b then digit n ∷ [] else digits d (n / 10) ++ (digit (n % 10) ∷ [])) ≡ (if b then digit n ∷ [] else digits e (n / 10) ++ (digit (n % 10) ∷ []))
+    go true q f = refl
+    go false q f = ap (λ x. x ++ (digit (n % 10) ∷ [])) (f (ltb-false n 10 q))
+
+pub one-digit : (n : ℕ) → n < 10 → decimal n ≡ digit n ∷ []
+unfolding digits decimal
+one-digit zero h = refl
+one-digit (suc n) h = rw (lt-ltb (suc n) 10 h)
+
+pub more-digits : (n : ℕ) → 10 ≤ n → decimal n ≡ decimal (n / 10) ++ (digit (n % 10) ∷ [])
+unfolding digits decimal
+more-digits zero h = absurd (omega arith)
+more-digits (suc n) h =
+    rw (le-ltb (suc n) 10 h) (ap (λ x. x ++ (digit (suc n % 10) ∷ [])) (same-digits n (suc n / 10) (suc n / 10) (omega arith) (omega arith)))
+
+-- numbers below b have at most k digits
+abbrev pub Short : ℕ → ℕ → Type 0
+Short b k = (n : ℕ) → n < b → length (decimal n) ≤ k
+
+short-1 : Short 10 1
+short-1 n h = rw (one-digit n h) (omega arith)
+
+next : (b k : ℕ) → Short b k → 10 ≤ b → 0 < k → Short (10 * b) (suc k)
+next b k f p q n h = go (ltb n 10) refl
+  where
+    go : (t : Bool) → ltb n 10 ≡ t → length (decimal n) ≤ suc k
+    go true e = rw (one-digit n (ltb-true n 10 e)) (omega arith)
+    go false e =
+        let i = f (n / 10) (omega arith) in
+        rw (more-digits n (ltb-false n 10 e), length-append (decimal (n / 10)) (digit (n % 10) ∷ [])) (omega arith)
+
+pub short-2 : Short 100 2
+short-2 = next 10 1 short-1 (omega arith) (omega arith)
+
+pub short-3 : Short 1000 3
+short-3 = next 100 2 short-2 (omega arith) (omega arith)
+
+short-6 : Short 1000000 6
+short-6 = next 100000 5 (next 10000 4 (next 1000 3 short-3 (omega arith) (omega arith)) (omega arith) (omega arith)) (omega arith) (omega arith)
+
+pub short-10 : Short 10000000000 10
+short-10 =
+    next 1000000000 9
+    (next 100000000 8 (next 10000000 7 (next 1000000 6 short-6 (omega arith) (omega arith)) (omega arith) (omega arith)) (omega arith) (omega arith))
+    (omega arith) (omega arith)
+
+-- ── lines ──
+pub one-number : (n : ℕ) → length (numbers (n ∷ [])) ≡ length (decimal n) + 2
+unfolding numbers
+one-number n = let e = length-append (decimal n) (10 ∷ []) in omega arith
+
+pub two-numbers : (m n : ℕ) → length (numbers (m ∷ (n ∷ []))) ≡ length (decimal m) + length (decimal n) + 3
+two-numbers m n =
+    let h = one-number n in
+    let e : length (numbers (m ∷ (n ∷ []))) ≡ suc (length (decimal m ++ numbers (n ∷ []))) = unfold numbers in refl in
+    let k = length-append (decimal m) (numbers (n ∷ [])) in
+    omega arith
+
+pub event-line : (e : Event) → InRange e → length (eventLine e) ≤ 12
+event-line (set c v) r = let k = two-numbers c v in omega (arith, short-3 c (omega (arith, r .1)), short-3 v (omega (arith, r .2)))
+event-line (hold g) r = let k = one-number g in omega (arith, short-2 g (omega arith))
+event-line (release g) r = let k = one-number g in omega (arith, short-2 g (omega arith))
+
+pub end-line : (c : ℕ) → c < 256 → length (endLine c) ≤ 23
+end-line c h = let k = one-number c in omega (arith, short-3 c (omega arith))
+
+pub open-line : length openLine ≤ 23
+open-line = let k = one-number 0 in omega (arith, short-2 0 (omega arith))
+
+pub refused-line : (r : Refusal) → r .number < 256 → r .place < 4294967296 → length (refusedLine r) ≤ 23
+refused-line r h i = let k = two-numbers (r .number) (r .place) in omega (arith, short-3 (r .number) (omega arith), short-10 (r .place) (omega arith))
+
+-- ── the whole ──
+end-small : (c : ℕ) → (c ≡ 0) ⊎ (isCondition c ≡ true) → c < 256
+end-small c (inl e) = omega arith
+end-small c (inr t) = let z = leb-true c 27 (halves (leb 20 c) (leb c 27) t .1) in omega arith
+
+after-answer : (left : ℕ) (a : Answer) (more : ℕ → List ℕ) → Ranged left a → Within 0 left a
+    → ((n : ℕ) → 0 < n → n ≤ left → length (more n) ≤ 12 * (left - n) + 23) → length (answerLine a ++ afterEvent a more) ≤ 12 * left + 23
+after-answer left (happens e n) more r w h =
+    let i = event-line e (r .1) in
+    let j = h n (w .0) (omega (arith, w .1)) in
+    rw (length-append (eventLine e) (more n)) (omega (arith, w .0, r .0))
+after-answer left (spends n) more r w h = rw (length-append openLine []) (omega (arith, open-line))
+after-answer left (finishes c n) more r w h = rw (length-append (endLine c) []) (omega (arith, end-line c (end-small c (r .1))))
+after-answer left (refuses q) more r w h =
+    rw (length-append (refusedLine q) []) (omega (arith, refused-line q (r .0) (omega (arith, r .1))))
+after-answer left (halts why) more r w h = absurd r
+
+replicate-bytes : (n : ℕ) → Bytes (replicate n 0)
+replicate-bytes zero k = omega arith
+replicate-bytes (suc n) zero = omega arith
+replicate-bytes (suc n) (suc k) = replicate-bytes n k
+
+zeros-bytes : Bytes zeros
+zeros-bytes = replicate-bytes 64
+
+runs-length : (k : ℕ) (code : List ℕ) → Bytes code → (state : List ℕ) (left : ℕ) → length (runsText k code state left) ≤ 12 * left + 23
+unfolding runsText
+runs-length zero code B state left = omega arith
+runs-length (suc k) code B state left =
+    let r = runOn code state zeros left in
+    after-answer left (r .answer) (λ n. runsText k code (r .bytes) (left - n)) (run-ranged code B state zeros left zeros-bytes) (event-within code state zeros left)
+    (λ n p q. runs-length k code B (r .bytes) (left - n))
+
+pub lines-length : (code : List ℕ) → Bytes code → (state : List ℕ) (left : ℕ) → length (linesOf code state left) ≤ 12 * left + 23
+unfolding linesOf
+lines-length code B state left = runs-length (suc left) code B state left
+
+-- ── the bytes that are enough for a listing ──
+abbrev pub textRoom : ℕ
+textRoom = 786443
+
+-- a line of 12 bytes for each step, and a last line of 23
+pub lines-fit : (code : List ℕ) → Bytes code → (state : List ℕ) → length (linesOf code state 65535) ≤ textRoom
+lines-fit code B state = lines-length code B state 65535
+
+pub refused-fits : (number place : ℕ) → number < 256 → place < 4294967296 → length (refusedLine (refusal number place)) ≤ textRoom
+refused-fits number place h i = let k = refused-line (refusal number place) h i in omega arith

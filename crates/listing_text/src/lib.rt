@@ -1,0 +1,69 @@
+// The listing of a table, as text in lent bytes: its events, and its end, `open 0`, or a refusal.
+mod lines;
+
+use compile::Compiled;
+use running::Ran;
+use running::Started;
+ghost use mathlib.Core.Path.{_≡_};
+ghost use Prim.Native.Nat.{_≤_};
+ghost use lib.ListN.{length};
+ghost use Rattle.running.specs.Answers.{answerOf};
+ghost use Rattle.listing_text.specs.Text.{linesOf, macroText, listingOf};
+ghost use Rattle.listing_text.specs.Steps.{eventSteps};
+ghost use Rattle.listing_text.specs.Length.{textRoom};
+ghost use Rattle.listing_text.specs.Writing.{Lists};
+
+// The steps of a run that gave an event; 0 where it gave none, after which there is no further run.
+fn event_steps(a: Ran) -> u16
+    ensures { λ r. ⌜ r ≡ eventSteps (answerOf a) ⌝ }
+{
+    match a {
+        Ran::Happens(_, n) => n,
+        Ran::Spends(_) => 0,
+        Ran::Finishes(_, _) => 0,
+        Ran::Refused(_, _) => 0,
+    }
+}
+
+// A line for each run, all readings 0, until one gives no event. The steps are counted over all runs together (S14).
+fn list_runs(code: &[u8], state: &mut [u8], text: &mut [u8]) -> usize
+    requires { ⌜ length (linesOf (now code) (now state) 65535) ≤ length (now text) ⌝ }
+    ensures { λ r. ⌜ Lists (linesOf (now (code .entry)) (now (state .entry)) 65535) (now (text .entry)) (now (text .exit)) r ⌝ }
+{
+    let readings = [0u8; 64];
+    let mut left: u16 = 65535;
+    let mut at = 0;
+    let mut goes = true;
+    while goes {
+        let a = running::run(code, state, &readings, left);
+        at = lines::put_answer(text, at, a);
+        let n = event_steps(a);
+        left -= n;
+        goes = 0 < n;
+    }
+    at
+}
+
+// A macro's listing: a start's refusal, or its runs.
+fn list_macro(code: &[u8], state: &mut [u8], text: &mut [u8]) -> usize
+    requires { ⌜ textRoom ≤ length (now text) ⌝ }
+    ensures { λ r. ⌜ Lists (macroText (now (code .entry)) (now (state .entry))) (now (text .entry)) (now (text .exit)) r ⌝ }
+{
+    match running::start(code, state) {
+        Started::Refused(number, place) => lines::put_refused(text, 0, number, place),
+        Started::Fresh => list_runs(code, state, text),
+    }
+}
+
+// The listing of `table`: its text stands at the front of `text`, and its length is answered.
+pub fn list(table: &[u8], text: &mut [u8]) -> usize
+    requires { ⌜ textRoom ≤ length (now text) ⌝ }
+    ensures { λ r. ⌜ Lists (listingOf (now (table .entry))) (now (text .entry)) (now (text .exit)) r ⌝ }
+{
+    let mut code = [0u8; 65536];
+    let mut state = [0u8; 24576];
+    match compile::compile(table, &mut code) {
+        Compiled::Refused(number, place) => lines::put_refused(text, 0, number, place),
+        Compiled::Done(n) => list_macro(&code[..n], &mut state, text),
+    }
+}

@@ -1,0 +1,103 @@
+// The lines of a listing, written into lent bytes from an index on. Each function answers the index after what it wrote.
+use ops::Event;
+use running::Ran;
+ghost use mathlib.Core.List.{_∷_, [], _++_};
+ghost use Prim.Native.Nat.{_+_, _≤_};
+ghost use lib.ListN.{length};
+ghost use Rattle.values.specs.Ends.{refusal};
+ghost use Rattle.running.specs.Answers.{eventBack, answerOf};
+ghost use Rattle.listing_text.specs.Text.{decimal, numbers, line, eventLine, refusedLine, answerLine};
+ghost use Rattle.listing_text.specs.Writing.{Puts};
+
+// A number in decimal.
+fn put_decimal(text: &mut [u8], at: usize, n: u32) -> usize
+    requires { ⌜ at + length (decimal n) ≤ length (now text) ⌝ }
+    ensures { λ r. ⌜ Puts (now (text .entry)) at (decimal n) (now (text .exit)) r ⌝ }
+{
+    if n < 10 {
+        text[at] = 48 + (n as u8);
+        return at + 1;
+    }
+    let next = put_decimal(text, at, n / 10);
+    text[next] = 48 + ((n % 10) as u8);
+    next + 1
+}
+
+fn put_word(text: &mut [u8], at: usize, word: &[u8]) -> usize
+    requires { ⌜ at + length (now word) ≤ length (now text) ⌝ }
+    ensures { λ r. ⌜ Puts (now (text .entry)) at (now (word .entry)) (now (text .exit)) r ⌝ }
+{
+    let mut i = 0;
+    while i < word.len() {
+        text[at + i] = word[i];
+        i += 1;
+    }
+    at + i
+}
+
+// A number after a space.
+fn put_number(text: &mut [u8], at: usize, n: u32) -> usize
+    requires { ⌜ at + 1 + length (decimal n) ≤ length (now text) ⌝ }
+    ensures { λ r. ⌜ Puts (now (text .entry)) at (32 ∷ decimal n) (now (text .exit)) r ⌝ }
+{
+    text[at] = b' ';
+    put_decimal(text, at + 1, n)
+}
+
+fn put_newline(text: &mut [u8], at: usize) -> usize
+    requires { ⌜ at + 1 ≤ length (now text) ⌝ }
+    ensures { λ r. ⌜ Puts (now (text .entry)) at (10 ∷ []) (now (text .exit)) r ⌝ }
+{
+    text[at] = b'\n';
+    at + 1
+}
+
+fn put_line_1(text: &mut [u8], at: usize, word: &[u8], n: u32) -> usize
+    requires { ⌜ at + length (line (now word) (n ∷ [])) ≤ length (now text) ⌝ }
+    ensures { λ r. ⌜ Puts (now (text .entry)) at (line (now (word .entry)) (n ∷ [])) (now (text .exit)) r ⌝ }
+{
+    let a = put_word(text, at, word);
+    let b = put_number(text, a, n);
+    put_newline(text, b)
+}
+
+fn put_line_2(text: &mut [u8], at: usize, word: &[u8], m: u32, n: u32) -> usize
+    requires { ⌜ at + length (line (now word) (m ∷ (n ∷ []))) ≤ length (now text) ⌝ }
+    ensures { λ r. ⌜ Puts (now (text .entry)) at (line (now (word .entry)) (m ∷ (n ∷ []))) (now (text .exit)) r ⌝ }
+{
+    let a = put_word(text, at, word);
+    let b = put_number(text, a, m);
+    let c = put_number(text, b, n);
+    put_newline(text, c)
+}
+
+fn put_event(text: &mut [u8], at: usize, e: Event) -> usize
+    requires { ⌜ at + length (eventLine (eventBack e)) ≤ length (now text) ⌝ }
+    ensures { λ r. ⌜ Puts (now (text .entry)) at (eventLine (eventBack e)) (now (text .exit)) r ⌝ }
+{
+    match e {
+        Event::Set(channel, level) => put_line_2(text, at, b"set", channel as u32, level as u32),
+        Event::Hold(group) => put_line_1(text, at, b"hold", group as u32),
+        Event::Release(group) => put_line_1(text, at, b"release", group as u32),
+    }
+}
+
+pub fn put_refused(text: &mut [u8], at: usize, number: u8, place: u32) -> usize
+    requires { ⌜ at + length (refusedLine (refusal number place)) ≤ length (now text) ⌝ }
+    ensures { λ r. ⌜ Puts (now (text .entry)) at (refusedLine (refusal number place)) (now (text .exit)) r ⌝ }
+{
+    put_line_2(text, at, b"refused", number as u32, place)
+}
+
+// The line of a run's answer.
+pub fn put_answer(text: &mut [u8], at: usize, a: Ran) -> usize
+    requires { ⌜ at + length (answerLine (answerOf a)) ≤ length (now text) ⌝ }
+    ensures { λ r. ⌜ Puts (now (text .entry)) at (answerLine (answerOf a)) (now (text .exit)) r ⌝ }
+{
+    match a {
+        Ran::Happens(e, _) => put_event(text, at, e),
+        Ran::Spends(_) => put_line_1(text, at, b"open", 0),
+        Ran::Finishes(c, _) => put_line_1(text, at, b"end", c as u32),
+        Ran::Refused(number, place) => put_refused(text, at, number, place),
+    }
+}
