@@ -13,8 +13,8 @@ use second::paper::{root_only, table, LISTING_EXAMPLE};
 use second::state::LENGTH;
 use second::{desk, plain_compiler};
 
-/// The stack that cue_compile is given, in bytes: what include/desk.h says is enough. TO BE SET from the object code, as the others were.
-const COMPILE_STACK: usize = 4_000_000;
+/// The stack that cue_compile is given, in bytes: what include/desk.h says is enough.
+const COMPILE_STACK: usize = 400_000;
 
 /// The shell, compiled for this test alone.
 fn compiled(name: &str) -> PathBuf {
