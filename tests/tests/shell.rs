@@ -14,7 +14,7 @@ use second::state::LENGTH;
 use second::{desk, plain_compiler};
 
 /// The stack that cue_compile is given, in bytes: what include/desk.h says is enough.
-const COMPILE_STACK: usize = 400_000;
+const COMPILE_STACK: usize = 230_000;
 
 /// The shell, compiled for this test alone.
 fn compiled(name: &str) -> PathBuf {
