@@ -12,10 +12,13 @@ use native.Mathlib.Numerals.{add-one}
 use borrow.Author.Tests.{eq-eqb, ne-eqb, lt-ltb, le-ltb}
 use Rattle.words.specs.Choice.{if_then_else_}
 use Rattle.words.specs.Numbers.{halfAt}
-use Rattle.scopes.specs.Environment.{Item, item, envOf, Grown}
+use Rattle.scopes.specs.Environment.{Item, item, find, passing, shut, envOf, Grown}
+use Rattle.scopes.specs.declared.Found.{Found}
+use Rattle.scopes.specs.declared.Found.the-variants.{Nothing, Def}
 use Rattle.scopes.specs.Laws.{top-item, grown-push, stored, fewer}
 use Rattle.spans.specs.Stands.{half-part}
 use Rattle.compile_known.specs.Numbers.{typeIn, secondIn}
+use Rattle.compile_known.specs.Meaning.{knownOf, meaningOf}
 use Rattle.compile_nodes.specs.Knows.{holdMark, passedTo}
 use Rattle.compile_pen.specs.declared.Pen.{Pen}
 use Rattle.compile_pen.specs.Ink.{moved, penShaped, inkOp, inkShape, Fits, length-ink, length-shape}
@@ -217,6 +220,24 @@ module _ (l : List ℕ) (a i : ℕ) (h : 0 < i) where
 pub passed-none : (l : List ℕ) (a i : ℕ) → i ≡ 0 → passedTo a (envOf l i) ≡ 0
 unfolding passedTo envOf
 passed-none l a i e = rw e
+
+-- what a name stands for, whatever lies between
+passing-known : (known : List ℕ) (b : Bool) (f : Found) → knownOf known (passing b f) ≡ knownOf known f
+passing-known known b Nothing = refl
+passing-known known b (Def s n q w) = refl
+
+module _ (l known : List ℕ) (a i : ℕ) (h : 0 < i) where
+  pub meant-hit : getD l (4 * (i - 1)) 0 ≡ a → meaningOf a (envOf l i) known ≡ getD known (getD l (4 * (i - 1) + 3) 0) 0
+  unfolding find
+  meant-hit e = rw (top-item l i h, eq-eqb _ _ e)
+
+  pub meant-miss : ¬ (getD l (4 * (i - 1)) 0 ≡ a) → meaningOf a (envOf l i) known ≡ meaningOf a (envOf l (i - 1)) known
+  unfolding find
+  meant-miss e = rw (top-item l i h, ne-eqb _ _ e) (passing-known known (eqb (getD l (4 * (i - 1)) 0) shut) (find a (envOf l (i - 1))))
+
+pub meant-none : (l known : List ℕ) (a i : ℕ) → i ≡ 0 → meaningOf a (envOf l i) known ≡ 0
+unfolding find envOf
+meant-none l known a i e = rw e
 
 -- releases, and what follows
 pub lets-length : (n : ℕ) (p : Pen) (l : List ℕ) {m : List ℕ} → m ≡ inked (lets n) p l → length m ≡ length l

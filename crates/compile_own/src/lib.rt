@@ -1,6 +1,5 @@
 // What entries add themselves to the code of their operands: their instructions and shapes, and the types of their results.
 use compile_pen::Pen;
-use scopes::Found;
 ghost use mathlib.Core.Path.{_≡_};
 ghost use Prim.Native.Nat.{_+_, _*_, _≤_, _<_};
 ghost use lib.ListN.{length, getD, take, set};
@@ -234,10 +233,17 @@ pub fn mark_holds(env: &mut [u32], top: usize, count: usize)
 }
 
 // ── gotos ──
-// The holds that lie between here and the definition of a name.
-pub fn passed(env: &[u32], top: usize, name: u32) -> usize
+pub struct Landing {
+    // the holds that lie between here and the definition of the name
+    pub passed: usize,
+    // the address of the label
+    pub address: u32,
+}
+
+// Where a goto to a name in sight lands, found in one search.
+pub fn land(env: &[u32], top: usize, name: u32, aims: &[u16]) -> Landing
     requires { ⌜ 4 * top ≤ length (now env) ⌝ }
-    ensures { λ r. ⌜ r ≡ passedTo name (envOf (now (env .entry)) top) ⌝ }
+    ensures { λ r. ⌜ (r .passed ≡ passedTo name (envOf (now (env .entry)) top)) × (r .address ≡ meaningOf name (envOf (now (env .entry)) top) (now (aims .entry))) ⌝ }
 {
     let mut i = top;
     let mut n = 0;
@@ -245,23 +251,18 @@ pub fn passed(env: &[u32], top: usize, name: u32) -> usize
         i -= 1;
         let m = env[4 * i];
         if m == name {
-            return n;
+            return Landing {
+                passed: n,
+                address: end_of(aims, env[4 * i + 3] as usize),
+            };
         }
         if m == 65539 {
             n += 1;
         }
     }
-    n
-}
-
-// The address of a label in sight.
-pub fn aim(env: &[u32], top: usize, name: u32, aims: &[u16]) -> u32
-    requires { ⌜ 4 * top ≤ length (now env) ⌝ }
-    ensures { λ r. ⌜ r ≡ meaningOf name (envOf (now (env .entry)) top) (now (aims .entry)) ⌝ }
-{
-    match scopes::find(env, top, name) {
-        Found::Nothing => 0,
-        Found::Def(_, _, place, _) => end_of(aims, place as usize),
+    Landing {
+        passed: n,
+        address: 0,
     }
 }
 
@@ -280,8 +281,9 @@ pub fn goto(
     requires { ⌜ (4 * top ≤ length (now env)) × (depth ≤ length (now stack)) × (depth < 256) × (holds < 256) × Fits (penGoto (passedTo name (envOf (now env) top)) depth pen) (length (now out)) ⌝ }
     ensures { λ r. ⌜ (r ≡ penGoto (passedTo name (envOf (now (env .entry)) top)) depth pen) × (now (out .exit) ≡ inkGoto (passedTo name (envOf (now (env .entry)) top)) (meaningOf name (envOf (now (env .entry)) top) (now (aims .entry))) holds (now (stack .entry)) depth pen (now (out .entry))) ⌝ }
 {
-    let p = compile_pen::releases(out, pen, passed(env, top, name as u32));
-    let q = compile_pen::emit(out, p, 8, 0, aim(env, top, name as u32, aims));
+    let l = land(env, top, name as u32, aims);
+    let p = compile_pen::releases(out, pen, l.passed);
+    let q = compile_pen::emit(out, p, 8, 0, l.address);
     compile_pen::shape(out, q, holds, stack, depth)
 }
 
