@@ -8,4 +8,3 @@ pub mod RootHead
 pub mod Roots
 pub mod Sight
 pub mod Cells
-pub mod Onward

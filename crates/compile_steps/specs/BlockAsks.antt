@@ -1,14 +1,14 @@
 -- A block, for its walker: what each of its calls is asked, in their order, and that it has done its code when its items have done theirs.
-use mathlib.Core.Path.{_≡_, refl, ap, sym, _∙_}
-use mathlib.Core.List.{List, [], _∷_, _++_}
-use Prim.Native.Nat.{ℕ, zero, suc, _+_, _-_, _*_, _≤_, _<_}
+use mathlib.Core.Path.{_≡_, ap, _∙_}
+use mathlib.Core.List.{List, _∷_, _++_}
+use Prim.Native.Nat.{ℕ, _+_, _-_, _*_, _≤_, _<_}
 use native.Mathlib.Omega.{arith}
-use lib.ListN.{length, getD, set, length-set}
+use lib.ListN.{length, set, length-set}
 use lib.Seq.{sets}
 use Rattle.words.specs.Numbers.{halfAt, wordAt}
 use Rattle.language.specs.Tree.{Decl, Items, block}
 use Rattle.language.specs.Names.{blockOf}
-use Rattle.language.specs.Limits.{holdsS, headHolds}
+use Rattle.language.specs.Limits.{holdsS}
 use Rattle.scopes.specs.Environment.{envOf, addAll, item, opened, Grown}
 use Rattle.heads.specs.Items.{blockItems}
 use Rattle.shapes.specs.Steps.{EnterAsks}
@@ -18,8 +18,8 @@ use Rattle.compile_pen.specs.Folds.{penAfter, inked, lets, length-inked}
 use Rattle.compile_own.specs.Owns.{pensHead, inksHead, finishes, holdsHead}
 use Rattle.compile_nodes.specs.Ends.{atHead}
 use Rattle.compile_nodes.specs.Knows.{Walk}
-use Rattle.compile_nodes.specs.Ready.{Node, stmt, Place, Lent, Kept, Ready, Done, Asks, Answers, ReadyItems, DoneItems, AsksItems, AnswersItems}
-use Rattle.compile_sight.specs.Marks.{openIn, marks}
+use Rattle.compile_nodes.specs.Ready.{stmt, Place, Lent, Kept, Ready, Asks, Answers, ReadyItems, DoneItems, AsksItems, AnswersItems}
+use Rattle.compile_sight.specs.Marks.{marks}
 use Rattle.compile_sight.specs.Blocks.{aroundItems}
 use Rattle.compile_steps.specs.Parts.{lent, below, asked, kept-then, kept-out, kept-ends}
 use Rattle.compile_steps.specs.Views.{IsKind, Block, block-of}

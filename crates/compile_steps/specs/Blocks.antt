@@ -1,50 +1,43 @@
 -- Blocks: what is ready below them, and what is done of them where it is done of what is below.
-use mathlib.Core.Path.{_≡_, refl, ap, sym, _∙_, subst}
-use mathlib.Core.Bool.{Bool, true, false}
+use mathlib.Core.Path.{_≡_, refl, ap, sym, _∙_}
 use mathlib.Core.List.{List, [], _∷_, _++_, map}
-use Prim.Native.Nat.{ℕ, zero, suc, _+_, _-_, _*_, _/_, _≤_, _<_}
+use Prim.Native.Nat.{ℕ, suc, _+_, _-_, _*_, _/_, _≤_, _<_}
 use native.Mathlib.Omega.{arith}
-use native.Mathlib.Nat.{add-assoc}
-use lib.ListN.{length, getD, take, drop, set, length-append, length-set, length-drop}
+use lib.ListN.{length, drop, set, length-append, length-drop}
 use lib.Seq.{sets, length-sets}
 use Rattle.words.specs.Numbers.{halfAt, wordAt}
-use Rattle.values.specs.Types.{Ty, tyByte}
-use Rattle.language.specs.Tree.{Decl, declare, holding, Stmt, block, Items, Expr, blockExpr, countItems, Global}
-use Rattle.language.specs.Table.{Entry, flatDecl, flatS, flatItems, flatE, deepHead, deepS, deepItems, deepE}
-use Rattle.language.specs.Limits.{headHolds, holdsS, holdsItems, holdsE, needS, needItems, needE}
-use Rattle.language.specs.Names.{Scope, blockOf, expressionOf}
+use Rattle.language.specs.Tree.{Decl, declare, holding, block, Items, countItems, Global}
+use Rattle.language.specs.Table.{flatDecl, flatS, flatItems, deepS}
+use Rattle.language.specs.Limits.{headHolds, holdsS, needS}
+use Rattle.language.specs.Names.{blockOf}
 use Rattle.programs.specs.Claims.{entriesOf}
-use Rattle.scopes.specs.Environment.{Item, item, envOf, addAll, opened, shut, Grown}
+use Rattle.scopes.specs.Environment.{Item, item, envOf, addAll, opened, Grown}
 use Rattle.scopes.specs.Laws.{fewer}
-use Rattle.spans.specs.Stands.{Stands, stands-left, stands-tail, stands-within, length-entries}
-use Rattle.spans.specs.Sizes.{Known}
-use Rattle.heads.specs.Items.{blockItems, Reach}
-use Rattle.heads.specs.Sees.{Legible, Sees}
+use Rattle.spans.specs.Stands.{Stands, stands-within, length-entries}
+use Rattle.heads.specs.Items.{blockItems}
+use Rattle.heads.specs.Sees.{Legible}
 use Rattle.heads.specs.Trees.{length-map, length-Items}
-use Rattle.heads.specs.Defines.{headItems, labelItems, length-labels, bulk, labels-bulk, enters, Enters, heads-stand}
+use Rattle.heads.specs.Defines.{headItems, labelItems, length-labels, labels-bulk, enters, Enters, heads-stand}
 use Rattle.heads.specs.Defines as defines
-use Rattle.shapes.specs.Walk.{Table}
-use Rattle.shapes.specs.Steps.{Head, table-next, EnterAsks}
-use Rattle.compile_code.specs.Code.{Code, nil, op, mark, cell, _▸_, At, at, skip, after}
-use Rattle.compile_code.specs.Compile.{Around, inside, bound, held, labels, scopesOf, heldIn, codeHead, codeS, codeItems, codeE}
-use Rattle.compile_names.specs.Good.{goodS, goodE, goodHead, goodItems}
-use Rattle.compile_known.specs.Numbers.{cellsOf, cellsWithin, numbersFrom}
+use Rattle.shapes.specs.Steps.{table-next, EnterAsks}
+use Rattle.compile_code.specs.Code.{Code, cell, _▸_, At, at, skip, after}
+use Rattle.compile_code.specs.Compile.{Around, inside, bound, held, labels, scopesOf, heldIn, codeS, codeItems}
+use Rattle.compile_names.specs.Good.{goodS}
 use Rattle.compile_pen.specs.declared.Pen.{Pen}
-use Rattle.compile_pen.specs.Ink.{Fits, moved}
+use Rattle.compile_pen.specs.Ink.{Fits}
 use Rattle.compile_pen.specs.Folds.{penAfter, inked, lets, grows, fits-before}
-use Rattle.compile_nodes.specs.Knows.{Walk, Lies, Knows, Lands}
-use Rattle.compile_nodes.specs.Ends.{aroundHead, atHead, endsHead, belowS, belowE, endsItems, endsS, endsE}
-use Rattle.compile_nodes.specs.Ready.{Node, stmt, expr, flatN, codeN, endsN, Place, Lent, Laid, Stood, Kept, Wrote, Ready, Done, ReadyItems, DoneItems}
+use Rattle.compile_nodes.specs.Knows.{Walk}
+use Rattle.compile_nodes.specs.Ends.{aroundHead, atHead, endsHead, belowS, endsItems}
+use Rattle.compile_nodes.specs.Ready.{stmt, flatN, Place, Lent, Laid, Stood, Kept, Wrote, Ready, Done, ReadyItems, DoneItems}
 use Rattle.compile_own.specs.Owns.{pensHead, inksHead, finishes, holdsHead}
-use Rattle.compile_own.specs.Laws.{part-from, later-head}
 use Rattle.compile_sight.specs.Marks.{openIn, marks}
 use Rattle.compile_sight.specs.Lengths.{length-head}
-use Rattle.compile_sight.specs.Heads.{classes-known, classes-block, classes-expression, bytes-head, Bytes}
-use Rattle.compile_sight.specs.Blocks.{within, aroundValue, aroundItems, scopes-value, scopes-items, items-are}
-use Rattle.compile_sight.specs.Sight.{sees-in-block, knows-in-block, lands-in-block, sees-in-expression, sees-in-value, knows-in-value, knows-in-expression, lands-in-expression}
-use Rattle.compile_steps.specs.Parts.{below, lent, laid-tail, laid-left, laid-right, laid-at, head-N, kept-then, wrote-then, wrote-later, wrote-length, wrote-address, fits-rest, fits-first, fits-start, movedTo, ended-own, ended-then}
+use Rattle.compile_sight.specs.Heads.{classes-known, classes-block, bytes-head, Bytes}
+use Rattle.compile_sight.specs.Blocks.{within, aroundItems, scopes-items, items-are}
+use Rattle.compile_sight.specs.Sight.{sees-in-block, knows-in-block, lands-in-block}
+use Rattle.compile_steps.specs.Parts.{below, lent, laid-tail, laid-left, laid-right, laid-at, head-N, wrote-then, wrote-later, wrote-length, wrote-address, ended-then}
 use Rattle.compile_steps.specs.Stages.{Finished, finished-done}
-use Rattle.compile_steps.specs.Cells.{at-head-cell, cell-items}
+use Rattle.compile_steps.specs.Cells.{at-head-cell}
 use Rattle.compile_steps.specs.HeadCode.{headCode, head-pen, head-inked, HeadRead, head-read}
 
 -- ── heads ──

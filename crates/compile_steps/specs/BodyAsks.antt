@@ -1,14 +1,14 @@
 -- A block expression, for its walker: what each of its calls is asked, in their order, and that it has done its code when its items and its value have done theirs.
-use mathlib.Core.Path.{_≡_, refl, ap, sym, _∙_}
-use mathlib.Core.List.{List, [], _∷_, _++_}
-use Prim.Native.Nat.{ℕ, zero, suc, _+_, _-_, _*_, _/_, _≤_, _<_}
+use mathlib.Core.Path.{_≡_, ap, _∙_}
+use mathlib.Core.List.{List, _∷_, _++_}
+use Prim.Native.Nat.{ℕ, _+_, _-_, _*_, _/_, _≤_, _<_}
 use native.Mathlib.Omega.{arith}
-use lib.ListN.{length, getD, drop, set, length-set}
+use lib.ListN.{length, drop, set, length-set}
 use lib.Seq.{sets}
 use Rattle.words.specs.Numbers.{halfAt, wordAt}
 use Rattle.language.specs.Tree.{Decl, Items, Expr, blockExpr}
 use Rattle.language.specs.Names.{expressionOf}
-use Rattle.language.specs.Limits.{holdsE, headHolds}
+use Rattle.language.specs.Limits.{holdsE}
 use Rattle.scopes.specs.Environment.{envOf, addAll, item, shut, Grown}
 use Rattle.heads.specs.Items.{blockItems}
 use Rattle.programs.specs.Claims.{entriesOf}
@@ -24,14 +24,14 @@ use Rattle.compile_pen.specs.Folds.{penAfter, inked, lets, length-inked}
 use Rattle.compile_own.specs.Owns.{pensHead, inksHead, finishes, holdsHead}
 use Rattle.compile_nodes.specs.Ends.{atHead}
 use Rattle.compile_nodes.specs.Knows.{Walk}
-use Rattle.compile_nodes.specs.Ready.{Node, expr, Place, Lent, Kept, Ready, Done, Asks, Answers, ReadyItems, DoneItems, AsksItems, AnswersItems}
-use Rattle.compile_sight.specs.Marks.{openIn, marks}
+use Rattle.compile_nodes.specs.Ready.{expr, Place, Lent, Kept, Ready, Done, Asks, Answers, ReadyItems, DoneItems, AsksItems, AnswersItems}
+use Rattle.compile_sight.specs.Marks.{marks}
 use Rattle.compile_sight.specs.Blocks.{aroundValue, aroundItems}
 use Rattle.compile_steps.specs.Parts.{lent, below, asked, kept-then, kept-out, kept-ends}
 use Rattle.compile_steps.specs.Views.{IsExpr, IsKind, Body, body-of}
 use Rattle.compile_steps.specs.Shared.{ready-as, done-as}
 use Rattle.compile_steps.specs.Blocks.{holds-open, Pushed}
-use Rattle.compile_steps.specs.Bodies.{body-within, body-open, body-marks, body-enter, body-declares, body-ready, body-kept, body-size, body-passes, body-ready-2, body-kept-2, body-fits, body-small, body-done}
+use Rattle.compile_steps.specs.Bodies.{body-within, body-open, body-marks, body-enter, body-declares, body-ready, body-passes, body-ready-2, body-kept-2, body-fits, body-small, body-done}
 
 -- where its items stand, and its value
 abbrev inItems : List Decl → Items → Place → Place

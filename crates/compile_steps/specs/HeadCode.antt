@@ -1,31 +1,24 @@
 -- The code of a head: its declarations, what lies within, and a release for each hold.
-use mathlib.Core.Path.{_≡_, refl, ap, sym, _∙_}
-use mathlib.Core.Bool.{Bool, true, false}
-use mathlib.Core.List.{List, [], _∷_, _++_, map}
-use mathlib.Core.Option.{Option, none, some}
-use Prim.Native.Nat.{ℕ, zero, suc, _+_, _-_, _*_, _≤_, _<_}
+use mathlib.Core.Path.{_≡_, refl, ap, _∙_}
+use mathlib.Core.List.{List, [], _∷_, map}
+use Prim.Native.Nat.{ℕ, suc, _+_, _-_, _*_, _≤_}
 use native.Mathlib.Omega.{arith}
 use native.Mathlib.Nat.{add-zero}
-use native.Mathlib.Numerals.{add-one}
-use lib.Dec.{ltb}
-use lib.IntN.{pos}
 use lib.ListN.{length, getD, drop}
-use lib.Seq.{sets, drop-drop}
+use lib.Seq.{drop-drop}
 use borrow.Author.Tests.{le-ltb}
-use Rattle.words.specs.Choice.{if_then_else_}
 use Rattle.words.specs.Numbers.{halfAt}
 use Rattle.values.specs.Types.{Ty, integer, logical, bits, reference, tyByte}
 use Rattle.values.specs.Values.{initial}
-use Rattle.bytecode.specs.Instructions.{own, push, store, takeHold, letHold}
-use Rattle.language.specs.Tree.{Typed, Decl, declare, holding, Global}
-use Rattle.language.specs.Table.{Entry, entry, flatTyped, flatDecl}
+use Rattle.bytecode.specs.Instructions.{own, push, store, takeHold}
+use Rattle.language.specs.Tree.{Decl, declare, holding, Global}
+use Rattle.language.specs.Table.{Entry, flatTyped, flatDecl}
 use Rattle.programs.specs.Claims.{entriesOf}
 use Rattle.spans.specs.Stands.{Stands, fields, stands-tail, half-part}
-use Rattle.heads.specs.Sees.{Legible}
-use Rattle.compile_code.specs.Code.{Code, nil, op, mark, cell, _▸_, At, at, skip, after}
-use Rattle.compile_code.specs.Compile.{Around, bound, held, codeHead, tyIn, classesOf, classNames}
-use Rattle.compile_code.specs.Encode.{rec, recordOf}
-use Rattle.compile_known.specs.Numbers.{packed, numberOf, numbersFrom, cellsOf, cellsWithin, typeIn, secondIn}
+use Rattle.compile_code.specs.Code.{Code, nil, op, cell, _▸_, At, at, skip}
+use Rattle.compile_code.specs.Compile.{Around, bound, held, codeHead, tyIn}
+use Rattle.compile_code.specs.Encode.{recordOf}
+use Rattle.compile_known.specs.Numbers.{packed, numbersFrom, cellsWithin, typeIn, secondIn}
 use Rattle.compile_known.specs.Packed.{type-packed, second-packed}
 use Rattle.compile_pen.specs.declared.Pen.{Pen}
 use Rattle.compile_pen.specs.Ink.{moved, inkOp}
@@ -33,7 +26,7 @@ use Rattle.compile_pen.specs.Folds.{penAfter, inked, lets, lets-last, lets-last
 use Rattle.compile_nodes.specs.Knows.{Lies, Walk}
 use Rattle.compile_nodes.specs.Ends.{aroundHead, atHead, endsHead}
 use Rattle.compile_nodes.specs.Ready.{Wrote}
-use Rattle.compile_own.specs.Owns.{inkInitial, penDeclared, inkDeclared, pensHead, inksHead, finishes, holdsBy, holdsHead}
+use Rattle.compile_own.specs.Owns.{inkInitial, penDeclared, inkDeclared, pensHead, inksHead, finishes, holdsHead}
 use Rattle.compile_sight.specs.Marks.{openIn}
 use Rattle.compile_sight.specs.Lies.{lies-here, lies-next}
 use Rattle.compile_sight.specs.Heads.{Bytes, number-typed}

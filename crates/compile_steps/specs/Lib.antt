@@ -9,17 +9,13 @@ pub mod Pairs
 pub mod Named
 pub mod Leaves
 pub mod Simples
-pub mod Assigns
 pub mod Lists
-pub mod Cases
-pub mod Selects
 pub mod HeadCode
 pub mod Blocks
 pub mod Bodies
 pub mod Shared
 pub mod When
 pub mod Choose
-pub mod Repeat
 pub mod Arms
 pub mod Select
 pub mod Assign

@@ -1,36 +1,33 @@
 -- What is left of an entry while its parts are walked one after the other: their entries, where they end, their code.
 use mathlib.Core.Path.{_≡_, refl, ap, sym, _∙_}
-use mathlib.Core.Bool.{Bool, true, false}
 use mathlib.Core.List.{List, [], _∷_, _++_}
-use Prim.Native.Nat.{ℕ, zero, suc, _+_, _-_, _*_, _≤_, _<_}
+use Prim.Native.Nat.{ℕ, suc, _+_, _-_, _*_, _≤_, _<_}
 use native.Mathlib.Omega.{arith}
 use native.Mathlib.Nat.{add-zero}
 use native.Mathlib.Numerals.{add-one}
-use lib.ListN.{length, getD, set, take, drop, length-append, length-set, length-drop}
-use lib.Seq.{sets, set-comm, take-all}
-use Rattle.values.specs.Types.{Ty, tyByte}
-use Rattle.bytecode.specs.Macro.{Shape}
+use lib.ListN.{length, getD, set, take, length-append}
+use lib.Seq.{sets, set-comm}
+use Rattle.values.specs.Types.{tyByte}
 use Rattle.bytecode.specs.Instructions.{Instr}
-use Rattle.language.specs.Tree.{Stmt, Expr}
-use Rattle.language.specs.Table.{Entry, flatS, flatE}
+use Rattle.language.specs.Tree.{Expr}
+use Rattle.language.specs.Table.{Entry, flatE}
 use Rattle.heads.specs.Trees.{length-S, length-E}
 use Rattle.scopes.specs.Environment.{envOf}
 use Rattle.spans.specs.Stands.{Stands, stands-right}
 use Rattle.shapes.specs.Walk.{Table}
 use Rattle.shapes.specs.Steps.{table-next}
-use Rattle.compile_code.specs.Code.{Code, nil, op, mark, cell, _▸_, At, at, skip, after}
+use Rattle.compile_code.specs.Code.{Code, op, mark, cell, _▸_, At, at, after}
 use Rattle.compile_code.specs.Compile.{Around, scopesOf, found, codeE, tyE}
-use Rattle.compile_code.specs.Encode.{rec, recordOf}
 use Rattle.compile_known.specs.Numbers.{cellsOf, cellsWithin}
 use Rattle.compile_pen.specs.declared.Pen.{Pen}
-use Rattle.compile_pen.specs.Ink.{Fits, moved, penShaped, inkOp, inkShape}
-use Rattle.compile_pen.specs.Folds.{penAfter, inked, Stacked, pen-mark, pen-op, later-self}
-use Rattle.compile_nodes.specs.Ends.{belowE, endsE}
+use Rattle.compile_pen.specs.Ink.{Fits, moved, penShaped, inkShape}
+use Rattle.compile_pen.specs.Folds.{penAfter, pen-mark, pen-op, later-self}
+use Rattle.compile_nodes.specs.Ends.{endsE}
 use Rattle.compile_nodes.specs.Knows.{Walk, Lands}
-use Rattle.compile_nodes.specs.Ready.{Node, stmt, expr, name, flatN, roomN, deepN, holdsN, needN, goodN, codeN, endsN, Place, Lent, Laid, Stood, Kept, Wrote, LandsN, Ready, Done}
+use Rattle.compile_nodes.specs.Ready.{Node, stmt, expr, name, flatN, deepN, holdsN, needN, goodN, codeN, endsN, Place, Lent, Laid, Stood, Kept, Wrote, LandsN, Ready, Done}
 use Rattle.compile_sight.specs.Lengths.{length-below, length-belowE}
 use Rattle.compile_steps.specs.Cells.{cell-S, cell-E}
-use Rattle.compile_steps.specs.Parts.{lent, movedTo, heldOn, below, laid-tail, laid-left, laid-right, laid-at, laid-aim, room-N, stood-next, stood-push, stood-shape, wrote-length, wrote-later, wrote-address, wrote-op, wrote-mark, fits-first, fits-rest, kept-out, kept-self}
+use Rattle.compile_steps.specs.Parts.{movedTo, heldOn, below, laid-tail, laid-left, laid-right, laid-at, room-N, stood-next, stood-push, stood-shape, wrote-later, wrote-address, wrote-mark, fits-first, fits-rest}
 
 pub record Rest (W : Walk) (X : Place) (l : List ℕ) (at : ℕ) (L : Lent) (top holds depth : ℕ) (pen : Pen) (us : List Entry) (es : List ℕ) (x : Code) : Type 0 where
   pub laid : Laid W l at (X .start) us es
@@ -225,13 +222,3 @@ aim-as i e h = rw e h
 
 pub stands-after : {l : List Entry} {p : ℕ} (us vs : List Entry) (n : ℕ) → n ≡ length us → Stands l p (us ++ vs) → Stands l (p + n) vs
 stands-after us vs n e h = rw e (stands-right us vs h)
-
--- ── slices: a later part begins within the part ──
-pub length-from : (part : List ℕ) (k : ℕ) → length (below part k) ≡ length part - k
-length-from part k = ap (length {A = ℕ}) (take-all (length part - k) (drop k part) (omega (arith, length-drop k part))) ∙ length-drop k part
-
-pub from-second : (part : List ℕ) (at n : ℕ) → 8 ≤ length part → 8 * n ≤ length (below part 8) → 8 * (at + 1 + n - at) ≤ length part
-from-second part at n h k = omega (arith, length-from part 8)
-
-pub from-third : (part : List ℕ) (at n m : ℕ) → 8 * (at + 1 + n - at) ≤ length part → 8 * m ≤ length (below part (8 * (at + 1 + n - at))) → 8 * (at + 1 + n + m - at) ≤ length part
-from-third part at n m h k = omega (arith, length-from part (8 * (at + 1 + n - at)))

@@ -1,61 +1,50 @@
 -- Entries with expressions only below them, and one instruction after those.
-use mathlib.Core.Path.{_≡_, refl, ap, sym, _∙_, subst}
-use mathlib.Core.Bool.{Bool, true, false}
+use mathlib.Core.Path.{_≡_, refl, ap, sym, _∙_}
 use mathlib.Core.List.{List, [], _∷_, _++_, append-nil, map, reverse, reverse-cons, map-append}
 use mathlib.Core.Option.{Option, none, some}
-use Prim.Native.Nat.{ℕ, zero, suc, _+_, _-_, _*_, _%_, _≤_, _<_}
+use Prim.Native.Nat.{ℕ, suc, _+_, _-_, _%_, _≤_, _<_}
 use native.Mathlib.Omega.{arith}
 use native.Mathlib.Nat.{add-zero}
-use lib.IntN.{ℤ, pos}
+use lib.IntN.{pos}
 use lib.ListN.{length, getD, take, set, length-reverse}
 use Rattle.heads.specs.Trees.{length-map}
-use lib.Seq.{sets, getD-set-same, take-suc, getD-at, length-take-le}
-use Rattle.words.specs.Choice.{if_then_else_}
-use Rattle.words.specs.Numbers.{halfAt, wordAt, wordOf, integerOf}
-use Rattle.values.specs.Types.{Ty, tyByte, integer, logical, bits, reference}
-use Rattle.values.specs.Values.{int, log, bit, ref, valueWord}
-use Rattle.bytecode.specs.Instructions.{Instr, push, operate, getField, readFader, stop}
+use lib.Seq.{getD-set-same, take-suc, getD-at, length-take-le}
+use Rattle.words.specs.Numbers.{halfAt, wordAt}
+use Rattle.values.specs.Types.{Ty, tyByte, integer, logical, bits}
+use Rattle.bytecode.specs.Instructions.{Instr, operate, getField, readFader, stop}
 use Rattle.bytecode.specs.Instructions.{call as callOp, make as makeOp, setLevel as setOp, assert as assertOp}
 use Rattle.values.specs.Operators.{unary, Unary, negate, absolute, complement, unaryCode, opType, takes, orElse, logicalOrBits}
 use Rattle.language.specs.Tree.{Exprs, noExpr, countExprs}
 use Rattle.language.specs.Tree.{expr as more}
 use Rattle.compile_names.specs.Types.{took}
-use Rattle.language.specs.Tree.{Stmt, block, assign, when, choose, while, goto, assert, call, setLevel, select, Expr, number, truth, pattern, null, variable, invoke, field, make, operate1, operate2, conditional, fader, blockExpr, Global}
-use Rattle.language.specs.Table.{Entry, entry, flatS, flatE, flatEs, deepS, deepE, deepEs}
+use Rattle.language.specs.Tree.{block, assign, when, choose, while, goto, assert, call, setLevel, select, Expr, number, truth, pattern, null, variable, invoke, field, make, operate1, operate2, conditional, fader, blockExpr, Global}
+use Rattle.language.specs.Table.{Entry, flatEs, deepS, deepEs}
 use Rattle.language.specs.Faults.{typeE, withTy}
-use Rattle.language.specs.Limits.{holdsS, holdsEs, needS, needE, needEs}
-use Rattle.language.specs.Names.{Sort, isVariable, isLabel, Scope, nowhere, found, lookup}
+use Rattle.language.specs.Limits.{holdsS, holdsEs, needS, needEs}
+use Rattle.language.specs.Names.{Scope}
 use Rattle.language.specs.Names as names
-use Rattle.programs.specs.Claims.{entriesOf}
-use Rattle.scopes.specs.declared.Found.{Found}
-use Rattle.scopes.specs.declared.Found.the-variants.{Nothing, Def}
-use Rattle.scopes.specs.Environment.{Item, envOf, find}
-use Rattle.spans.specs.Stands.{Stands, fields, half-part, word-part}
-use Rattle.heads.specs.Defines.{name-small}
-use Rattle.heads.specs.Sees.{Agrees, Sees}
-use Rattle.shapes.specs.Walk.{Table}
-use Rattle.shapes.specs.Forms.{headF, tailF, one, two}
+use Rattle.scopes.specs.Environment.{envOf}
+use Rattle.shapes.specs.Forms.{headF, one, two}
 use Rattle.shapes.specs.Steps.{table-next}
-use Rattle.compile_code.specs.Code.{Code, nil, op, mark, _▸_, At, skip, after}
-use Rattle.compile_code.specs.Compile.{Around, inside, outermost, bound, global, held, labels, scopesOf, passing, theLabels, hasLabel, sizeGoto, labelAt, codeGoto, codeS, codeE, codeEs, tyE, orInteger, bodyNumber, fieldNumber, tyIn, loading, cellOf, classNumber}
+use Rattle.compile_code.specs.Code.{nil, op, _▸_, At, after}
+use Rattle.compile_code.specs.Compile.{Around, scopesOf, codeS, codeEs, tyE, orInteger, bodyNumber, fieldNumber, tyIn, classNumber}
 use Rattle.compile_code.specs.Compile as compile
 use Rattle.compile_code.specs.Encode.{rec, recordOf}
-use Rattle.compile_names.specs.Good.{goodS, goodE, goodEs}
-use Rattle.compile_names.specs.Known.{nothing}
-use Rattle.compile_known.specs.Numbers.{typeIn, firstIn, secondIn}
-use Rattle.compile_known.specs.Meaning.{meaningOf, knownOf}
+use Rattle.compile_names.specs.Good.{goodS, goodEs}
+use Rattle.compile_known.specs.Numbers.{firstIn, secondIn}
+use Rattle.compile_known.specs.Meaning.{meaningOf}
 use Rattle.compile_pen.specs.declared.Pen.{Pen}
-use Rattle.compile_pen.specs.Ink.{Fits, moved, penShaped, inkOp, inkShape}
-use Rattle.compile_pen.specs.Folds.{penAfter, inked, lets, inked-op, grows}
-use Rattle.compile_nodes.specs.Knows.{Walk, Knows, Lands, MeansLabel, passedTo, targetOf}
-use Rattle.compile_nodes.specs.Ends.{belowS, belowE, endsEs}
-use Rattle.compile_nodes.specs.Ready.{Node, stmt, expr, name, flatN, formN, codeN, endsN, LeavesN, Place, Lent, Laid, Stood, Kept, Wrote, Ready, Done, deepN, holdsN, needN, goodN, pushed, ValuesEs, ReadyEs, DoneEs}
-use Rattle.compile_own.specs.Owns.{names as namesBy, knownFor, ownerBy, operandsBy, inkLast, lastType}
-use Rattle.compile_steps.specs.Parts.{below, laid-tail, need-E, fits-rest, lent, flat-N, head-N, wrote-then, wrote-op, wrote-length, kept-out, movedTo, fits-first, fits-start}
-use Rattle.compile_steps.specs.Stages.{Stage, stage-start, stage-fits-op, stage-fits-mark, stage-op, stage-mark, stage-part, stage-as, stage-done, Finished, finished, finished-done}
-use Rattle.compile_steps.specs.Named.{Meaning, meaning-of, class-type, class-first, field-type, field-first, field-second, body-type, body-second}
+use Rattle.compile_pen.specs.Ink.{Fits, moved}
+use Rattle.compile_pen.specs.Folds.{penAfter, inked}
+use Rattle.compile_nodes.specs.Knows.{Walk}
+use Rattle.compile_nodes.specs.Ends.{belowS, endsEs}
+use Rattle.compile_nodes.specs.Ready.{Node, stmt, expr, name, flatN, formN, codeN, endsN, LeavesN, Place, Lent, Kept, Wrote, Ready, Done, deepN, holdsN, needN, goodN, pushed, ValuesEs, ReadyEs, DoneEs}
+use Rattle.compile_own.specs.Owns.{names as namesBy, knownFor, operandsBy, inkLast, lastType}
+use Rattle.compile_steps.specs.Parts.{below, laid-tail, need-E, fits-rest, lent, flat-N, head-N, wrote-then, wrote-op, movedTo, fits-first}
+use Rattle.compile_steps.specs.Stages.{Stage, stage-start, stage-fits-op, stage-part, Finished, finished-done}
+use Rattle.compile_steps.specs.Named.{meaning-of, class-type, class-first, field-type, field-first, field-second, body-type, body-second}
 use Rattle.compile_steps.specs.Views.{IsSimple}
-use Rattle.compile_steps.specs.Leaves.{half-small, word-here}
+use Rattle.compile_steps.specs.Leaves.{half-small}
 use Rattle.compile_known.specs.Numbers.{cellsOf}
 use Rattle.compile_nodes.specs.Ready.{roomN}
 

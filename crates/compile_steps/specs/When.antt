@@ -1,31 +1,25 @@
 -- An if without else: what its walker asks of its parts, and that it has done its code when they have done theirs.
 use mathlib.Core.Path.{_≡_, refl, ap, sym, _∙_}
-use mathlib.Core.Bool.{Bool, true, false}
-use mathlib.Core.List.{List, [], _∷_, _++_}
-use Prim.Native.Nat.{ℕ, zero, suc, _+_, _-_, _*_, _≤_, _<_}
+use mathlib.Core.List.{List, _∷_, _++_}
+use Prim.Native.Nat.{ℕ, _+_, _-_, _*_, _≤_, _<_}
 use native.Mathlib.Omega.{arith}
-use native.Mathlib.Numerals.{add-one}
 use lib.IntN.{pos}
 use lib.ListN.{length, getD, set, take, length-set}
-use lib.Seq.{sets}
-use Rattle.values.specs.Types.{Ty}
 use Rattle.bytecode.specs.Instructions.{Instr, goUnless}
 use Rattle.language.specs.Tree.{Stmt, Expr, when}
-use Rattle.language.specs.Table.{Entry, entry, flatS, flatE, deepS}
+use Rattle.language.specs.Table.{entry, flatS, flatE, deepS}
 use Rattle.language.specs.Limits.{holdsS, needS}
 use Rattle.shapes.specs.Steps.{table-next, Passes}
-use Rattle.shapes.specs.Walk.{Table}
 use Rattle.compile_code.specs.Code.{Code, op, mark, _▸_, At, at, skip, after}
-use Rattle.compile_code.specs.Compile.{Around, scopesOf, found, codeS, codeE}
+use Rattle.compile_code.specs.Compile.{found, codeS, codeE}
 use Rattle.compile_code.specs.Encode.{rec, recordOf}
 use Rattle.compile_names.specs.Good.{goodS}
 use Rattle.compile_pen.specs.declared.Pen.{Pen}
 use Rattle.compile_pen.specs.Ink.{Fits, moved, penShaped, inkOp, inkShape}
-use Rattle.compile_pen.specs.Folds.{penAfter}
-use Rattle.compile_nodes.specs.Ends.{belowS, belowE, endsS, endsE}
+use Rattle.compile_nodes.specs.Ends.{belowS, endsS, endsE}
 use Rattle.compile_nodes.specs.Knows.{Walk}
-use Rattle.compile_nodes.specs.Ready.{Node, stmt, expr, codeN, endsN, flatN, Place, Lent, Stood, Kept, Wrote, Ready, Done, Asks, Answers}
-use Rattle.compile_steps.specs.Parts.{lent, below, movedTo, Scopes, head-N, size-N, passes-N, flat-one, laid-aim, kept-then, kept-out, kept-ends, wrote-then, wrote-op, wrote-later, wrote-address, wrote-length}
+use Rattle.compile_nodes.specs.Ready.{stmt, expr, Place, Lent, Stood, Kept, Wrote, Ready, Done, Asks, Answers}
+use Rattle.compile_steps.specs.Parts.{lent, below, movedTo, head-N, size-N, passes-N, flat-one, laid-aim, kept-then, kept-out, kept-ends, wrote-then, wrote-op, wrote-address, wrote-length}
 use Rattle.compile_steps.specs.Views.{IsExpr, IsStmt, IsKind, When, when-of}
 use Rattle.compile_steps.specs.Shared.{Rest, rest-enter, rest-left, rest-node, rest-own, rest-ready, rest-stood, rest-fits, lands-kept, Shaping, shaping-last, shaped-wrote, fits-op, ends-then, ends-own, ends-N, table-from, finishing, ready-as, done-as, aim-as}
 

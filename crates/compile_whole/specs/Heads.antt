@@ -9,7 +9,7 @@ use Rattle.values.specs.Values.{initial}
 use Rattle.language.specs.Tree.{Decl, declare, holding, Global, Tree}
 use Rattle.language.specs.Limits.{headCells, headHolds, locals}
 use Rattle.bytecode.specs.Instructions.{own, end, push, store, takeHold, letHold}
-use Rattle.compile_code.specs.Code.{Code, nil, op, _▸_, At, at, skip, after}
+use Rattle.compile_code.specs.Code.{Code, nil, op, _▸_, At, at, skip}
 use Rattle.compile_code.specs.Compile.{Around, held, global, labels, heldIn, codeHead, codeItems, tyIn}
 use Rattle.compile_code.specs.Encode.{codeRoot, startOfRoot}
 use Rattle.compile_pen.specs.declared.Pen.{Pen}

@@ -6,7 +6,7 @@ use native.Mathlib.Omega.{arith}
 use lib.ListN.{length, set, length-set}
 use lib.Seq.{sets}
 use Rattle.words.specs.Numbers.{wordAt}
-use Rattle.language.specs.Tree.{Typed, Stmt, Expr, Body, proper, function, procedure, Tree}
+use Rattle.language.specs.Tree.{Typed, Stmt, Expr, Body, proper, function, Tree}
 use Rattle.language.specs.Table.{resultCode}
 use Rattle.scopes.specs.Environment.{item, envOf, addAll, Grown}
 use Rattle.scopes.specs.Laws.{stored, grown-push, fewer}
