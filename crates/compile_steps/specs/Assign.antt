@@ -9,7 +9,7 @@ use lib.Seq.{sets}
 use Rattle.words.specs.Numbers.{halfAt}
 use Rattle.bytecode.specs.Instructions.{Instr, putField}
 use Rattle.language.specs.Tree.{assign, Target, toVariable, toField, Expr, variable, field}
-use Rattle.language.specs.Table.{entry, flatS, flatTarget, flatE, deepS}
+use Rattle.language.specs.Table.{entry, flatS, flatE, deepS}
 use Rattle.language.specs.Limits.{holdsS, needS}
 use Rattle.language.specs.Names.{isVariable, isField}
 use Rattle.programs.specs.Claims.{entriesOf}
@@ -49,10 +49,6 @@ module _ {x : Target} {e : Expr} {W : Walk} {X : Place} {l part : List ℕ} {nes
 
   target-table : Table l (below part 8) sizes (at + 1)
   target-table = table-next (h .table) 8 1 refl
-
-  target-stands : Stands (entriesOf l) (at + 1) (flatTarget x ++ flatE e)
-  unfolding flatS
-  target-stands = stands-tail _ _ (h .laid .stands)
 
   -- its name
   name-below : (a : ℕ) → halfAt part 10 ≡ a → a < 65536

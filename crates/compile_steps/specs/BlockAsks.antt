@@ -38,9 +38,6 @@ module _ {known aims l part : List ℕ} {nesting at : ℕ} {sizes : List ℕ} {L
   ready : Ready (stmt (block (v .ds) (v .is))) (a .walk) (a .place) l part nesting at sizes L top holds depth pen
   ready = ready-as (v .same) (a .ready)
 
-  pub asks-block-long : (8 ≤ length part) × (1 ≤ nesting)
-  asks-block-long = let q = asked a in (q .long, q .nested)
-
   pub asks-block-within : (8 * heads ≤ length (below part 8)) × (8 * (at + 1 + heads) ≤ length l) × (8 * (1 + heads) ≤ length part) × (at + 1 + heads ≤ 2048) × (at + 1 + heads ≤ length (L .ends))
   asks-block-within = block-within (v .ds) (v .is) ready heads count ha co
 

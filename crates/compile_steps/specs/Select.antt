@@ -95,13 +95,6 @@ module _ {e : Expr} {r : Arms} {W : Walk} {X : Place} {l part : List ℕ} {nesti
   select-first =
       rest-ready (expr e) (table-next (h .table) 8 1 refl) (omega (arith, h .deep)) (h .good .0) tt (omega (arith, h .few-holds)) (omega (arith, h .few-values)) (rest-left (flatE e) (flatArms r) _ _ below-all)
 
-  pub select-long : 8 ≤ length part
-  select-long = let d = head-of _ _ (h .table) (in-all .laid .stands) in omega (arith, d .long, d .within)
-
-  pub select-nests : 1 ≤ nesting
-  unfolding deepS
-  select-nests = omega (arith, h .deep)
-
   few : holds ≤ 16
   few = omega (arith, h .few-holds)
 
@@ -228,9 +221,6 @@ module _ {known aims l part : List ℕ} {nesting at : ℕ} {sizes : List ℕ} {L
 
   ready : Ready (stmt (select (v .e) (v .r))) (a .walk) (a .place) l part nesting at sizes L top holds depth pen
   ready = ready-as (v .same) (a .ready)
-
-  pub asks-select-long : (8 ≤ length part) × (1 ≤ nesting)
-  asks-select-long = (select-long ready, select-nests ready)
 
   pub asks-select-first : Asks IsExpr known aims l (below part 8) (nesting - 1) (at + 1) sizes L top holds depth pen
   asks-select-first = record { node = expr (v .e); walk = a .walk; place = _; such = tt; same-known = a .same-known; same-aims = a .same-aims; ready = select-first ready }

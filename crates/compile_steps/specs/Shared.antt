@@ -13,7 +13,6 @@ use Rattle.language.specs.Tree.{Expr}
 use Rattle.language.specs.Table.{Entry, flatE}
 use Rattle.heads.specs.Trees.{length-S, length-E}
 use Rattle.scopes.specs.Environment.{envOf}
-use Rattle.spans.specs.Stands.{Stands, stands-right}
 use Rattle.shapes.specs.Walk.{Table}
 use Rattle.shapes.specs.Steps.{table-next}
 use Rattle.compile_code.specs.Code.{Code, op, mark, cell, _▸_, At, at, after}
@@ -219,6 +218,3 @@ done-as e h = rw e h
 
 pub aim-as : {us vs : List ℕ} {b : ℕ} (i : ℕ) → vs ≡ us → b ≡ getD us i 0 → b ≡ getD vs i 0
 aim-as i e h = rw e h
-
-pub stands-after : {l : List Entry} {p : ℕ} (us vs : List Entry) (n : ℕ) → n ≡ length us → Stands l p (us ++ vs) → Stands l (p + n) vs
-stands-after us vs n e h = rw e (stands-right us vs h)
