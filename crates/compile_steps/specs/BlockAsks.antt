@@ -24,7 +24,8 @@ use Rattle.compile_sight.specs.Blocks.{aroundItems}
 use Rattle.compile_steps.specs.Parts.{lent, below, asked, kept-then, kept-out, kept-ends}
 use Rattle.compile_steps.specs.Views.{IsKind, Block, block-of}
 use Rattle.compile_steps.specs.Shared.{ready-as, done-as}
-use Rattle.compile_steps.specs.Blocks.{holds-open, Pushed, block-within, block-open, block-marks, block-enter, block-declares, block-ready, block-kept, block-fits, block-small, block-done}
+use Rattle.compile_sight.specs.HeadOps.{holds-open}
+use Rattle.compile_steps.specs.Blocks.{Pushed, block-within, block-open, block-marks, block-enter, block-declares, block-ready, block-kept, block-fits, block-small, block-done}
 
 -- where its items stand
 abbrev inBlock : List Decl → Items → Place → Place

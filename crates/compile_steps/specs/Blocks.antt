@@ -6,9 +6,9 @@ use native.Mathlib.Omega.{arith}
 use lib.ListN.{length, drop, set, length-append, length-drop}
 use lib.Seq.{sets, length-sets}
 use Rattle.words.specs.Numbers.{halfAt, wordAt}
-use Rattle.language.specs.Tree.{Decl, declare, holding, block, Items, countItems, Global}
+use Rattle.language.specs.Tree.{Decl, declare, holding, block, Items, countItems}
 use Rattle.language.specs.Table.{flatDecl, flatS, flatItems, deepS}
-use Rattle.language.specs.Limits.{headHolds, holdsS, needS}
+use Rattle.language.specs.Limits.{holdsS, needS}
 use Rattle.language.specs.Names.{blockOf}
 use Rattle.programs.specs.Claims.{entriesOf}
 use Rattle.scopes.specs.Environment.{Item, item, envOf, addAll, opened, Grown}
@@ -20,7 +20,7 @@ use Rattle.heads.specs.Trees.{length-map, length-Items}
 use Rattle.heads.specs.Defines.{headItems, labelItems, length-labels, labels-bulk, enters, Enters, heads-stand}
 use Rattle.heads.specs.Defines as defines
 use Rattle.shapes.specs.Steps.{table-next, EnterAsks}
-use Rattle.compile_code.specs.Code.{Code, cell, _▸_, At, at, skip, after}
+use Rattle.compile_code.specs.Code.{Code, cell, _▸_, At, at}
 use Rattle.compile_code.specs.Compile.{Around, inside, bound, held, labels, scopesOf, heldIn, codeS, codeItems}
 use Rattle.compile_names.specs.Good.{goodS}
 use Rattle.compile_pen.specs.declared.Pen.{Pen}
@@ -35,29 +35,17 @@ use Rattle.compile_sight.specs.Lengths.{length-head}
 use Rattle.compile_sight.specs.Heads.{classes-known, classes-block, bytes-head, Bytes}
 use Rattle.compile_sight.specs.Blocks.{within, aroundItems, scopes-items, items-are}
 use Rattle.compile_sight.specs.Sight.{sees-in-block, knows-in-block, lands-in-block}
-use Rattle.compile_steps.specs.Parts.{below, lent, laid-tail, laid-left, laid-right, laid-at, head-N, wrote-then, wrote-later, wrote-length, wrote-address, ended-then}
+use Rattle.compile_steps.specs.Parts.{below, lent, laid-tail, laid-left, laid-right, laid-at, head-N, wrote-then, wrote-later, wrote-length, ended-then}
 use Rattle.compile_steps.specs.Stages.{Finished, finished-done}
 use Rattle.compile_steps.specs.Cells.{at-head-cell}
-use Rattle.compile_steps.specs.HeadCode.{headCode, head-pen, head-inked, HeadRead, head-read}
+use Rattle.compile_sight.specs.HeadOps.{headOps, head-pen, head-inked, head-address, head-held, holds-open}
+use Rattle.compile_steps.specs.HeadCode.{HeadRead, head-read}
 
 -- ── heads ──
+-- a variable is no hold
 pub held-head : (ds : List Decl) (Γ : List Around) (p : At) → length (heldIn (aroundHead bound ds Γ p)) ≡ length (heldIn Γ) + openIn ds
-unfolding heldIn aroundHead openIn
-held-head [] Γ p = omega arith
-held-head (declare x ∷ ds) Γ p = held-head ds (bound (x .name) (p .cell) ∷ Γ) (at (suc (suc (p .address))) (suc (p .cell)))
-held-head (holding g ∷ ds) Γ p = omega (arith, held-head ds (held g ∷ Γ) (skip 1 p))
-
-pub holds-open : (ds : List Decl) → headHolds ds ≡ openIn ds
-unfolding headHolds openIn
-holds-open [] = refl
-holds-open (declare x ∷ ds) = omega (arith, holds-open ds)
-holds-open (holding g ∷ ds) = omega (arith, holds-open ds)
-
-pub head-after : (gs : List Global) (ds : List Decl) (p : At) → after (headCode gs ds p) p ≡ atHead ds p
-unfolding after headCode atHead
-head-after gs [] p = refl
-head-after gs (declare x ∷ ds) p = head-after gs ds (at (suc (suc (p .address))) (suc (p .cell)))
-head-after gs (holding g ∷ ds) p = head-after gs ds (skip 1 p)
+unfolding heldIn
+held-head = head-held bound (λ a n Γ. refl)
 
 -- a name or a mark for each declaration
 names-head : (sort p : ℕ) (ds : List Decl) → length (headItems sort p ds) + openIn ds ≡ length ds
@@ -104,7 +92,7 @@ module _ (ds : List Decl) (is : Items) {W : Walk} {X : Place} {l part : List ℕ
   block-place = record { around = block-Γ; types = X .types; start = block-q }
 
   abbrev block-head : Code
-  block-head = headCode (W .globals) ds (X .start)
+  block-head = headOps (W .globals) ds (X .start .cell)
 
   abbrev block-x : Code
   block-x = codeItems (W .globals) is block-Γ (X .types) block-q
@@ -146,7 +134,7 @@ module _ (ds : List Decl) (is : Items) {W : Walk} {X : Place} {l part : List ℕ
 
   block-left : Fits (penAfter (lets (openIn ds)) (penAfter block-x (penAfter block-head pen))) (length (L .out))
   unfolding codeS
-  block-left = rw (head-pen (W .globals) (λ Δ q. codeItems (W .globals) is (labels is (q .address) ∷ Δ) (X .types) q) ds (inside (blockOf ds is) ∷ X .around) (X .start) pen) at (r .fits)
+  block-left = rw (head-pen (W .globals) bound (λ Δ q. codeItems (W .globals) is (labels is (q .address) ∷ Δ) (X .types) q) ds (inside (blockOf ds is) ∷ X .around) (X .start) pen) at (r .fits)
 
   module _ (heads count : ℕ) (h : heads ≡ halfAt part 2) (c : count ≡ wordAt part 4) where
     pub block-heads : heads ≡ length ds
@@ -204,7 +192,7 @@ module _ (ds : List Decl) (is : Items) {W : Walk} {X : Place} {l part : List ℕ
         block-M = lent new ends (L .stack) out
 
         block-address : p .address ≡ block-q .address
-        block-address = wrote-address (X .start) block-wrote (r .stood .address) ∙ ap (λ (t : At). t .address) (head-after (W .globals) ds (X .start))
+        block-address = ap (λ (z : Pen). z .address) (block-wrote .penned) ∙ head-address (W .globals) ds (X .start) pen (r .stood .address)
 
         block-stood : Stood W block-place l block-M up (holds + opens) depth p
         unfolding heldIn goodS
@@ -280,5 +268,5 @@ module _ (ds : List Decl) (is : Items) {W : Walk} {X : Place} {l part : List ℕ
             unfolding codeS penAfter inked belowS
             block-done f =
                 finished-done (stmt (block ds is)) X block-over (r .stood .address)
-                (sym (head-pen (W .globals) (λ Δ q. codeItems (W .globals) is (labels is (q .address) ∷ Δ) (X .types) q) ds (inside (blockOf ds is) ∷ X .around) (X .start) pen))
-                (sym (head-inked (W .globals) (λ Δ q. codeItems (W .globals) is (labels is (q .address) ∷ Δ) (X .types) q) ds (inside (blockOf ds is) ∷ X .around) (X .start) pen (L .out))) refl f (N .env) (N .stack) tt
+                (sym (head-pen (W .globals) bound (λ Δ q. codeItems (W .globals) is (labels is (q .address) ∷ Δ) (X .types) q) ds (inside (blockOf ds is) ∷ X .around) (X .start) pen))
+                (sym (head-inked (W .globals) bound (λ Δ q. codeItems (W .globals) is (labels is (q .address) ∷ Δ) (X .types) q) ds (inside (blockOf ds is) ∷ X .around) (X .start) pen (L .out))) refl f (N .env) (N .stack) tt

@@ -37,13 +37,14 @@ use Rattle.compile_sight.specs.Sight.{sees-in-expression, sees-in-value, knows-
 use Rattle.compile_steps.specs.Parts.{below, lent, laid-tail, laid-left, laid-right, laid-at, head-N, wrote-then, wrote-later, wrote-length, wrote-address, fits-first, ended-then}
 use Rattle.compile_steps.specs.Stages.{Finished, finished-done}
 use Rattle.compile_steps.specs.Cells.{at-head-cell, cell-items}
-use Rattle.compile_steps.specs.HeadCode.{headCode, head-pen, head-inked, HeadRead, head-read}
+use Rattle.compile_sight.specs.HeadOps.{headOps, head-pen, head-inked, head-address, holds-open}
+use Rattle.compile_steps.specs.HeadCode.{HeadRead, head-read}
 use Rattle.compile_sight.specs.Lengths.{length-items}
-use Rattle.compile_steps.specs.Blocks.{held-head, holds-open, head-after, pushes, Pushed, pushed-now, pushed-kept, pushed-same, pushed-least, pushed-most}
+use Rattle.compile_steps.specs.Blocks.{held-head, pushes, Pushed, pushed-now, pushed-kept, pushed-same, pushed-least, pushed-most}
 use Rattle.spans.specs.Spans.{span}
 use Rattle.heads.specs.Trees.{spans-Items}
 use Rattle.language.specs.Faults.{typeE}
-use Rattle.compile_code.specs.Compile.{tyIn, orInteger}
+use Rattle.compile_code.specs.Compile.{bound, tyIn, orInteger}
 use mathlib.Core.List.{append-assoc}
 
 module _ (ds : List Decl) (is : Items) (v : Expr) {W : Walk} {X : Place} {l part : List ℕ} {nesting at : ℕ} {sizes : List ℕ} {L : Lent} {top holds depth : ℕ} {pen : Pen} (r : Ready (expr (blockExpr ds is v)) W X l part nesting at sizes L top holds depth pen) where
@@ -57,7 +58,7 @@ module _ (ds : List Decl) (is : Items) (v : Expr) {W : Walk} {X : Place} {l part
   body-place = record { around = body-Γ; types = X .types; start = body-q }
 
   abbrev body-head : Code
-  body-head = headCode (W .globals) ds (X .start)
+  body-head = headOps (W .globals) ds (X .start .cell)
 
   abbrev body-x : Code
   body-x = codeItems (W .globals) is body-Γ (X .types) body-q
@@ -123,7 +124,7 @@ module _ (ds : List Decl) (is : Items) (v : Expr) {W : Walk} {X : Place} {l part
 
   body-left : Fits (penAfter (lets (openIn ds)) (penAfter (body-x ▸ body-y) (penAfter body-head pen))) (length (L .out))
   unfolding codeE penAfter
-  body-left = rw (head-pen (W .globals) (λ Δ q. let y = codeItems (W .globals) is (labels is (q .address) ∷ Δ) (X .types) q in y ▸ codeE (W .globals) v Δ (X .types) (after y q)) ds (inside (expressionOf ds is) ∷ X .around) (X .start) pen) at (r .fits)
+  body-left = rw (head-pen (W .globals) bound (λ Δ q. let y = codeItems (W .globals) is (labels is (q .address) ∷ Δ) (X .types) q in y ▸ codeE (W .globals) v Δ (X .types) (after y q)) ds (inside (expressionOf ds is) ∷ X .around) (X .start) pen) at (r .fits)
 
   module _ (heads count : ℕ) (h : heads ≡ halfAt part 2) (c : count ≡ wordAt part 4) where
     pub body-heads : heads ≡ length ds
@@ -181,7 +182,7 @@ module _ (ds : List Decl) (is : Items) (v : Expr) {W : Walk} {X : Place} {l part
         body-M = lent new ends (L .stack) out
 
         body-address : p .address ≡ body-q .address
-        body-address = wrote-address (X .start) body-wrote (r .stood .address) ∙ ap (λ (t : At). t .address) (head-after (W .globals) ds (X .start))
+        body-address = ap (λ (z : Pen). z .address) (body-wrote .penned) ∙ head-address (W .globals) ds (X .start) pen (r .stood .address)
 
         body-stood : Stood W body-place l body-M up (holds + opens) depth p
         unfolding heldIn goodE
@@ -329,7 +330,7 @@ module _ (ds : List Decl) (is : Items) (v : Expr) {W : Walk} {X : Place} {l part
                 unfolding codeE penAfter inked belowE typeE
                 body-done f =
                     finished-done (expr (blockExpr ds is v)) X body-over (r .stood .address)
-                    (sym (head-pen (W .globals) (λ Δ q. let y = codeItems (W .globals) is (labels is (q .address) ∷ Δ) (X .types) q in y ▸ codeE (W .globals) v Δ (X .types) (after y q)) ds (inside (expressionOf ds is) ∷ X .around) (X .start) pen))
-                    (sym (head-inked (W .globals) (λ Δ q. let y = codeItems (W .globals) is (labels is (q .address) ∷ Δ) (X .types) q in y ▸ codeE (W .globals) v Δ (X .types) (after y q)) ds (inside (expressionOf ds is) ∷ X .around) (X .start) pen (L .out)))
+                    (sym (head-pen (W .globals) bound (λ Δ q. let y = codeItems (W .globals) is (labels is (q .address) ∷ Δ) (X .types) q in y ▸ codeE (W .globals) v Δ (X .types) (after y q)) ds (inside (expressionOf ds is) ∷ X .around) (X .start) pen))
+                    (sym (head-inked (W .globals) bound (λ Δ q. let y = codeItems (W .globals) is (labels is (q .address) ∷ Δ) (X .types) q in y ▸ codeE (W .globals) v Δ (X .types) (after y q)) ds (inside (expressionOf ds is) ∷ X .around) (X .start) pen (L .out)))
                     (ap (λ (us : List ℕ). after (codeE (W .globals) (blockExpr ds is v) (X .around) (X .types) (X .start)) (X .start) .address ∷ us) (sym (append-assoc body-es body-fs body-gs))) f (O .env) (O .stack)
                     (d2 .leaves ∙ ap (λ (ss : List Scope). tyByte (tyIn (W .globals) (orInteger (typeE ss v)))) (scopes-value (expressionOf ds is) ds (X .around) (X .start)))

@@ -30,7 +30,8 @@ use Rattle.compile_sight.specs.Blocks.{aroundValue, aroundItems}
 use Rattle.compile_steps.specs.Parts.{lent, below, asked, kept-then, kept-out, kept-ends}
 use Rattle.compile_steps.specs.Views.{IsExpr, IsKind, Body, body-of}
 use Rattle.compile_steps.specs.Shared.{ready-as, done-as}
-use Rattle.compile_steps.specs.Blocks.{holds-open, Pushed}
+use Rattle.compile_sight.specs.HeadOps.{holds-open}
+use Rattle.compile_steps.specs.Blocks.{Pushed}
 use Rattle.compile_steps.specs.Bodies.{body-within, body-open, body-marks, body-enter, body-declares, body-ready, body-passes, body-ready-2, body-kept-2, body-fits, body-small, body-done}
 
 -- where its items stand, and its value

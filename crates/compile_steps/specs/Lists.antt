@@ -18,13 +18,14 @@ use Rattle.heads.specs.Trees.{length-S}
 use Rattle.compile_code.specs.Code.{mark, _▸_, At, after}
 use Rattle.compile_code.specs.Compile.{found, codeS, codeE, codeEs, codeItems, tyE}
 use Rattle.compile_names.specs.Good.{goodEs, goodItems}
+use Rattle.compile_known.specs.Entries.{sets-append}
 use Rattle.compile_known.specs.Numbers.{cellsWithin}
 use Rattle.compile_pen.specs.declared.Pen.{Pen}
 use Rattle.compile_pen.specs.Folds.{penAfter, inked}
 use Rattle.compile_nodes.specs.Knows.{Walk}
 use Rattle.compile_nodes.specs.Ends.{endsS, endsE, endsItems, endsEs}
 use Rattle.compile_nodes.specs.Ready.{Node, stmt, expr, name, flatN, codeN, endsN, Place, Lent, Kept, Ready, Done, Asks, Answers, pushed, ValuesEs, ReadyEs, DoneEs, AsksEs, AnswersEs, ReadyItems, DoneItems, AsksItems, AnswersItems}
-use Rattle.compile_steps.specs.Parts.{below, laid-left, laid-right, size-N, passes-N, kept-self, kept-then, kept-less, wrote-later, wrote-address, fits-rest, fits-first, movedTo, heldOn, stood-next, stood-push, sets-append, need-E, need-items}
+use Rattle.compile_steps.specs.Parts.{below, laid-left, laid-right, size-N, passes-N, kept-self, kept-then, kept-less, wrote-later, wrote-address, fits-rest, fits-first, movedTo, heldOn, stood-next, stood-push, need-E, need-items}
 use Rattle.compile_steps.specs.Cells.{cell-E, cell-S, length-endsE, length-endsS}
 use Rattle.compile_steps.specs.Views.{IsExpr, IsStmt}
 
@@ -143,7 +144,7 @@ module _ {known aims l part : List ℕ} {count nesting at : ℕ} {sizes : List �
           ready = rw (z, w) at y;
           pens = g .pens ∙ rw (x .is, d .wrote .penned);
           inks = g .inks ∙ rw (x .is, d .wrote .written, d .wrote .penned);
-          ends = g .ends ∙ (rw (x .is, d .ended, ← k) (sym (sets-append f (endsEs (W .globals) (x .later) (X .around) (tyE (W .globals) (X .around) (x .this) ∷ g .types) (after e (g .start))) (M .ends) place)));
+          ends = g .ends ∙ (rw (x .is, d .ended, ← k) (sym (sets-append (M .ends) place f (endsEs (W .globals) (x .later) (X .around) (tyE (W .globals) (X .around) (x .this) ∷ g .types) (after e (g .start))))));
           stack = g .stack ∙ rw (x .is);
           many = g .many ∙ rw (x .is) (omega arith);
         }
@@ -313,7 +314,7 @@ module _ {known aims l part : List ℕ} {count nesting at : ℕ} {sizes : List �
           ready = x .next (a .kept) d n m;
           pens = g .pens ∙ rw (x .codes, d .wrote .penned);
           inks = g .inks ∙ rw (x .codes, d .wrote .written, d .wrote .penned);
-          ends = g .ends ∙ (rw (x .ends, d .ended, ← k) (sym (sets-append f (endsItems (W .globals) (x .later) (X .around) (X .types) (after e (g .start))) (M .ends) place)));
+          ends = g .ends ∙ (rw (x .ends, d .ended, ← k) (sym (sets-append (M .ends) place f (endsItems (W .globals) (x .later) (X .around) (X .types) (after e (g .start))))));
         }
 
     pub items-next : ItemsSoFar known aims l part count nesting at sizes L top holds depth pen N (below rest (8 * n)) (place + n) (left - 1) q

@@ -1,12 +1,10 @@
 -- What is left of an entry while its parts are walked one after the other: their entries, where they end, their code.
 use mathlib.Core.Path.{_≡_, refl, ap, sym, _∙_}
-use mathlib.Core.List.{List, [], _∷_, _++_}
-use Prim.Native.Nat.{ℕ, suc, _+_, _-_, _*_, _≤_, _<_}
+use mathlib.Core.List.{List, _∷_, _++_}
+use Prim.Native.Nat.{ℕ, _+_, _-_, _*_, _≤_, _<_}
 use native.Mathlib.Omega.{arith}
-use native.Mathlib.Nat.{add-zero}
-use native.Mathlib.Numerals.{add-one}
 use lib.ListN.{length, getD, set, take, length-append}
-use lib.Seq.{sets, set-comm}
+use lib.Seq.{sets}
 use Rattle.values.specs.Types.{tyByte}
 use Rattle.bytecode.specs.Instructions.{Instr}
 use Rattle.language.specs.Tree.{Expr}
@@ -26,7 +24,7 @@ use Rattle.compile_nodes.specs.Knows.{Walk, Lands}
 use Rattle.compile_nodes.specs.Ready.{Node, stmt, expr, name, flatN, deepN, holdsN, needN, goodN, codeN, endsN, Place, Lent, Laid, Stood, Kept, Wrote, LandsN, Ready, Done}
 use Rattle.compile_sight.specs.Lengths.{length-below, length-belowE}
 use Rattle.compile_steps.specs.Cells.{cell-S, cell-E}
-use Rattle.compile_steps.specs.Parts.{movedTo, heldOn, below, laid-tail, laid-left, laid-right, laid-at, room-N, stood-next, stood-push, stood-shape, wrote-later, wrote-address, wrote-mark, fits-first, fits-rest}
+use Rattle.compile_steps.specs.Parts.{movedTo, heldOn, below, laid-tail, laid-left, laid-right, laid-at, room-N, stood-next, stood-push, stood-shape, wrote-later, wrote-address, wrote-mark, fits-first, fits-rest, ended-then, ended-own}
 
 pub record Rest (W : Walk) (X : Place) (l : List ℕ) (at : ℕ) (L : Lent) (top holds depth : ℕ) (pen : Pen) (us : List Entry) (es : List ℕ) (x : Code) : Type 0 where
   pub laid : Laid W l at (X .start) us es
@@ -36,18 +34,6 @@ pub record Rest (W : Walk) (X : Place) (l : List ℕ) (at : ℕ) (L : Lent) (top
   pub fits : Fits (penAfter x pen) (length (L .out))
 
 -- ── ends ──
-pub sets-append : (l : List ℕ) (i : ℕ) (us vs : List ℕ) → sets l i (us ++ vs) ≡ sets (sets l i us) (i + length us) vs
-sets-append l i [] vs = ap (λ (k : ℕ). sets l k vs) (sym (add-zero i))
-sets-append l i (u ∷ us) vs =
-    let z : suc i + length us ≡ i + suc (length us) = omega arith in
-    sets-append (set l i u) (suc i) us vs ∙ ap (λ (k : ℕ). sets (sets (set l i u) (suc i) us) k vs) z
-
--- an entry's own end is set last
-pub set-sets : (l : List ℕ) (i j v : ℕ) (us : List ℕ) → i < j → set (sets l j us) i v ≡ sets (set l i v) j us
-set-sets l i j v [] h = refl
-set-sets l i j v (u ∷ us) h =
-    set-sets (set l j u) i (suc j) v us (omega arith) ∙ ap (λ (k : List ℕ). sets k (suc j) us) (set-comm l j i u v (λ e. absurd (omega (arith, e))))
-
 pub cell-N : (n : Node) (W : Walk) (X : Place) → after (codeN (W .globals) n (X .around) (X .types) (X .start)) (X .start) .cell ≡ X .start .cell + cellsWithin (flatN n)
 unfolding after cellsWithin
 cell-N (stmt s) W X = cell-S (W .globals) s (X .around) (X .types) (X .start)
@@ -61,10 +47,10 @@ ends-N (name a) W X = refl
 
 -- parts one after the other, and the entry's own end after them
 pub ends-then : (a : List ℕ) {b c : List ℕ} (i n : ℕ) (es fs : List ℕ) → n ≡ length es → b ≡ sets a i es → c ≡ sets b (i + n) fs → c ≡ sets a i (es ++ fs)
-ends-then a i n es fs e h k = k ∙ (rw (h, e) refl ∙ sym (sets-append a i es fs))
+ends-then a {b} {c} i n es fs e h k = ended-then a b c i (i + n) es fs h k (ap (λ (m : ℕ). i + m) e)
 
 pub ends-own : (a : List ℕ) {b c : List ℕ} (i v e : ℕ) (es : List ℕ) → b ≡ sets a (i + 1) es → c ≡ set b i v → v ≡ e → c ≡ sets a i (e ∷ es)
-ends-own a i v e es h k s = k ∙ (rw (h, s) (set-sets a i (i + 1) e es (omega arith)) ∙ ap (λ (j : ℕ). sets (set a i e) j es) (add-one i))
+ends-own a {b} {c} i v e es h k s = ended-own a b c i v es h k ∙ ap (λ (u : ℕ). sets a i (u ∷ es)) s
 
 -- the part of a table at a later place
 pub table-from : {l part sizes : List ℕ} {at : ℕ} (place : ℕ) → at ≤ place → Table l part sizes at → Table l (below part (8 * (place - at))) sizes place
