@@ -15,9 +15,9 @@ use Rattle.compile_nodes.specs.Knows.{Walk}
 use Rattle.compile_nodes.specs.Ready.{stmt, expr, Place, Lent, Ready, Done, Asks, Answers}
 use Rattle.compile_steps.specs.Parts.{lent, below, movedTo, asked}
 use Rattle.compile_steps.specs.Views.{IsExpr, IsStmt, IsKind, Choose, choose-of}
-use Rattle.compile_steps.specs.Shared.{Shaping, ready-as, done-as, aim-as}
+use Rattle.compile_steps.specs.Shared.{Shaping, ready-as, done-as, aim-as, kept-done}
 use Rattle.compile_steps.specs.Elses.{choose-test, choose-jump, choose-body, choose-jump-2, choose-mark, choose-else, choose-mark-2, choose-small, choose-done}
-use Rattle.compile_steps.specs.Adapt.{ready-passes, ready-size, kept-done, behind-test}
+use Rattle.compile_steps.specs.Adapt.{ready-passes, ready-size, behind-test}
 
 -- where the third part's code begins
 abbrev behind-then : Walk → Place → Expr → Stmt → At

@@ -11,6 +11,7 @@ pub mod Leaves
 pub mod Simples
 pub mod Lists
 pub mod HeadCode
+pub mod Headed
 pub mod Blocks
 pub mod Bodies
 pub mod Shared

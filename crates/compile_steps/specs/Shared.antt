@@ -4,7 +4,7 @@ use mathlib.Core.List.{List, _∷_, _++_}
 use Prim.Native.Nat.{ℕ, _+_, _-_, _*_, _≤_, _<_}
 use native.Mathlib.Omega.{arith}
 use lib.ListN.{length, getD, set, take, length-append}
-use lib.Seq.{sets}
+use lib.Seq.{sets, length-sets}
 use Rattle.values.specs.Types.{tyByte}
 use Rattle.bytecode.specs.Instructions.{Instr}
 use Rattle.language.specs.Tree.{Expr}
@@ -24,7 +24,7 @@ use Rattle.compile_nodes.specs.Knows.{Walk, Lands}
 use Rattle.compile_nodes.specs.Ready.{Node, stmt, expr, name, flatN, deepN, holdsN, needN, goodN, codeN, endsN, Place, Lent, Laid, Stood, Kept, Wrote, LandsN, Ready, Done}
 use Rattle.compile_sight.specs.Lengths.{length-below, length-belowE}
 use Rattle.compile_steps.specs.Cells.{cell-S, cell-E}
-use Rattle.compile_steps.specs.Parts.{movedTo, heldOn, below, laid-tail, laid-left, laid-right, laid-at, room-N, stood-next, stood-push, stood-shape, wrote-later, wrote-address, wrote-mark, fits-first, fits-rest, ended-then, ended-own}
+use Rattle.compile_steps.specs.Parts.{movedTo, heldOn, below, laid-tail, laid-left, laid-right, laid-at, room-N, stood-next, stood-push, stood-shape, wrote-later, wrote-length, wrote-address, wrote-mark, fits-first, fits-rest, ended-then, ended-own}
 
 pub record Rest (W : Walk) (X : Place) (l : List ℕ) (at : ℕ) (L : Lent) (top holds depth : ℕ) (pen : Pen) (us : List Entry) (es : List ℕ) (x : Code) : Type 0 where
   pub laid : Laid W l at (X .start) us es
@@ -204,3 +204,10 @@ done-as e h = rw e h
 
 pub aim-as : {us vs : List ℕ} {b : ℕ} (i : ℕ) → vs ≡ us → b ≡ getD us i 0 → b ≡ getD vs i 0
 aim-as i e h = rw e h
+
+-- what is kept where it is done: the names and the stack are what is left to say
+pub kept-done : {n : Node} {W : Walk} {X : Place} {at : ℕ} {L M : Lent} {depth : ℕ} {pen r : Pen} (top d : ℕ) → Done n W X at L M depth pen r
+    → envOf (M .env) top ≡ envOf (L .env) top → length (M .env) ≡ length (L .env) → take d (M .stack) ≡ take d (L .stack) → length (M .stack) ≡ length (L .stack) → Kept L M top d
+kept-done {n} {W} {X} {at} {L} top d h e f g k =
+    let all = endsN (W .globals) n (X .around) (X .types) (X .start) in
+    record { env = e; same-env = f; same-ends = ap (length {A = ℕ}) (h .ended) ∙ length-sets (L .ends) at all; stack = g; same-stack = k; same-out = wrote-length (h .wrote) }

@@ -25,16 +25,7 @@ IsKind k n = kindN n ≡ k
 
 -- an expression with nothing below it
 abbrev pub IsLeaf : Node → Type 0
-IsLeaf (stmt (block ds is)) = ⊥
-IsLeaf (stmt (assign x e)) = ⊥
-IsLeaf (stmt (when e s)) = ⊥
-IsLeaf (stmt (choose e s t)) = ⊥
-IsLeaf (stmt (while e s)) = ⊥
-IsLeaf (stmt (goto a)) = ⊥
-IsLeaf (stmt (assert e)) = ⊥
-IsLeaf (stmt (call a es)) = ⊥
-IsLeaf (stmt (setLevel e f)) = ⊥
-IsLeaf (stmt (select e r)) = ⊥
+IsLeaf (stmt s) = ⊥
 IsLeaf (expr (number z)) = Unit {0}
 IsLeaf (expr (truth b)) = Unit {0}
 IsLeaf (expr (pattern z)) = Unit {0}
