@@ -40,13 +40,6 @@ macro-split m =
     ap (λ (l : List ℕ). headBytes m ++ l)
     (each-end classBytes (m .classes) _ ∙ (ap (λ (l : List ℕ). C ++ l) b ∙ sym (append-assoc C B (I ++ (S ++ zz)))))
 
--- the front by its three pieces
-pub front-written : (m : Macro) (l : List ℕ) (b : ℕ) → b ≡ 8 + length (each classBytes (m .classes) [])
-    → sets (sets (sets l 0 (headBytes m)) 8 (each classBytes (m .classes) [])) b (each bodyBytes (m .bodies) []) ≡ sets l 0 (front m)
-front-written m l b e =
-    sets-join (sets l 0 (headBytes m)) 8 b (each classBytes (m .classes) []) (each bodyBytes (m .bodies) []) e
-    ∙ sets-join l 0 8 (headBytes m) (each classBytes (m .classes) [] ++ each bodyBytes (m .bodies) []) refl
-
 -- ── its length ──
 unfoldable pub classesLength : List (List Ty) → ℕ
 classesLength [] = 0
@@ -143,13 +136,3 @@ module _ (t : Tree) (p : Pen) (a : p .address ≡ 0) (w : p .waits ≡ false) wh
       ∙ (ap (λ (x : List ℕ). sets x z zz) (sets-join l 0 (p .sh) (F ++ I) S (omega arith))
       ∙ (sets-join l 0 z ((F ++ I) ++ S) zz (omega arith)
       ∙ ap (sets l 0) (append-assoc (F ++ I) S zz ∙ (append-assoc F I (S ++ zz) ∙ sym (macro-split m))))))
-
--- how long the output must be, from what a dry pen counted
-pub macro-measured : (t : Tree) (p : Pen) → p .address ≡ 0 → p .sh ≡ 0 → p .waits ≡ false
-    → let q = penAll (codesOf (parts t)) p in
-    length (macroOf t) ≡ 8 + classesLength (compiled t .classes) + bodiesLength (compiled t .bodies) + 8 * q .address + q .sh + 2
-unfolding macroOf
-macro-measured t p a s w =
-    let h = measured t p a w in
-    let n = macro-length (compiled t) in
-    omega arith

@@ -8,4 +8,4 @@ pub mod RootHead
 pub mod Roots
 pub mod Sight
 pub mod Cells
-pub mod Onward
+pub mod HeadOps

@@ -42,7 +42,7 @@ use Rattle.compile_sight.specs.Marks.{openIn, marks, find-marks, passed-
 use Rattle.compile_sight.specs.Means.{known-across, knows-labels, knows-inside}
 use Rattle.compile_sight.specs.Heads.{Anything, scopes-entering, around-root, around-shared, parameters-mean, past-parameters, bytes-typed, classes-known, classes-block, classes-expression, bytes-head, size-head, target-head, head-sort}
 use Rattle.compile_sight.specs.Blocks.{within, aroundValue, aroundItems, scopes-value, scopes-items, items-are, items-are-small, knows-within, lands-within, NoLabel, LandsOuter}
-use Rattle.compile_sight.specs.Roots.{length-classes, look-root, look-shared, root-items-are, root-items-small, root-sees, root-knows, globals-labels}
+use Rattle.compile_sight.specs.Roots.{look-root, look-shared, root-items-are, root-items-small, root-sees, root-knows, globals-labels}
 
 -- the names of the classes, in the order of their numbers
 abbrev pub classesIn : Walk → List ℕ
@@ -153,9 +153,6 @@ pub record Rooted (t : Tree) (W : Walk) : Type 0 where
   pub cells : headCells (locals (t .head)) ≤ 32
   pub globals : W .globals ≡ t .head
   pub numbered : Lies (W .known) 1 (numbersOf t)
-
-pub few-classes : {t : Tree} {W : Walk} → Rooted t W → length (classesOf (W .globals)) ≤ 16
-few-classes {t} r = rw (r .globals) (omega (arith, r .readable .classes, length-classes (t .head)))
 
 module _ {l : List ℕ} (legible : Legible l) (t : Tree) (same : entriesOf l ≡ flatten t) where
   pub sees-in-root : Sees l (rootSight l t) (scopesOf (aroundRoot t))

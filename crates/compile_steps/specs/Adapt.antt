@@ -1,29 +1,27 @@
 -- What the walkers ask and answer, from the laws of single entries.
-use mathlib.Core.Path.{_≡_, refl, ap, sym, _∙_}
+use mathlib.Core.Path.{_≡_, refl, ap, _∙_}
 use mathlib.Core.List.{List}
 use Prim.Native.Nat.{ℕ, _+_, _-_, _*_, _≤_, _<_}
 use native.Mathlib.Omega.{arith}
-use lib.ListN.{length, getD, take, drop, set, length-drop, length-set}
-use lib.Seq.{take-set-le, length-sets}
+use lib.ListN.{length, getD, take, set, length-drop, length-set}
 use Rattle.values.specs.Operators.{Binary, binaryCode}
 use Rattle.words.specs.Numbers.{halfAt}
 use Rattle.language.specs.Tree.{Stmt, while, Expr, conditional, operate2}
 use Rattle.language.specs.Table.{flatE}
 use Rattle.language.specs.Faults.{typeE, isTy}
-use Rattle.scopes.specs.Environment.{envOf}
 use Rattle.shapes.specs.Steps.{Passes}
 use Rattle.compile_code.specs.Code.{At, skip, after}
 use Rattle.values.specs.Types.{logical}
-use Rattle.compile_code.specs.Compile.{scopesOf, wayOf, codeS, codeE, tyE}
+use Rattle.compile_code.specs.Compile.{scopesOf, wayOf, codeE, tyE}
 use Rattle.compile_steps.specs.Ways.{secondPlace}
 use Rattle.compile_pen.specs.declared.Pen.{Pen}
 use Rattle.compile_pen.specs.Ink.{Fits, moved, penShaped, inkOp, inkShape}
 use Rattle.compile_own.specs.Owns.{wayBy, waitingBy, pairType, penBetween, inkBetween, penBehind, inkBehind}
 use Rattle.compile_own.specs.Laws.{part-from}
 use Rattle.compile_nodes.specs.Knows.{Walk}
-use Rattle.compile_nodes.specs.Ready.{Node, stmt, expr, name, flatN, kindN, endsN, Place, Lent, Kept, Ready, Done, Asks, Answers}
-use Rattle.compile_steps.specs.Parts.{below, lent, asked, head-N, size-N, passes-N, wrote-length, kept-then, kept-less, kept-stack, movedTo}
-use Rattle.compile_steps.specs.Shared.{Shaping, ready-as, done-as, aim-as}
+use Rattle.compile_nodes.specs.Ready.{Node, stmt, expr, flatN, Place, Lent, Ready, Done, Asks, Answers}
+use Rattle.compile_steps.specs.Parts.{below, lent, asked, head-N, size-N, passes-N, kept-then, kept-stack, movedTo}
+use Rattle.compile_steps.specs.Shared.{Shaping, ready-as, done-as, aim-as, kept-done}
 use Rattle.compile_steps.specs.Views.{IsExpr, IsStmt, IsKind, While, while-of, Conditional, conditional-of, Pair, pair-of}
 use Rattle.compile_steps.specs.Ifs.{while-mark, while-test, while-jump, while-body, while-jump-2, while-mark-2, while-small, while-done}
 use Rattle.compile_steps.specs.Elses.{cond-test, cond-jump, cond-body, cond-jump-2, cond-mark, cond-else, cond-mark-2, cond-small, cond-done}
@@ -41,20 +39,14 @@ third-within part at place n g h p = omega (arith, p .fits, length-below part (8
 
 -- the size of what is ready
 module _ {n : Node} {W : Walk} {X : Place} {l part : List ℕ} {nesting at : ℕ} {sizes : List ℕ} {L : Lent} {top holds depth : ℕ} {pen : Pen} (r : Ready n W X l part nesting at sizes L top holds depth pen) (k : ℕ) (e : k ≡ getD sizes at 0) where
-  ready-passes : Passes part sizes at k
+  pub ready-passes : Passes part sizes at k
   ready-passes = passes-N n (r .table) (r .laid .stands) k e
 
-  ready-size : k ≡ length (flatN n)
+  pub ready-size : k ≡ length (flatN n)
   ready-size = e ∙ size-N n (r .table) (r .laid .stands)
 
--- what is kept where it is done: the names and the stack are what is left to say
-kept-done : {n : Node} {W : Walk} {X : Place} {at : ℕ} {L M : Lent} {depth : ℕ} {pen r : Pen} (top d : ℕ) → Done n W X at L M depth pen r → envOf (M .env) top ≡ envOf (L .env) top → length (M .env) ≡ length (L .env)
-    → take d (M .stack) ≡ take d (L .stack) → length (M .stack) ≡ length (L .stack) → Kept L M top d
-kept-done {n} {W} {X} {at} {L} top d h e f g k =
-    record { env = e; same-env = f; same-ends = ap (length {A = ℕ}) (h .ended) ∙ length-sets (L .ends) at (endsN (W .globals) n (X .around) (X .types) (X .start)); stack = g; same-stack = k; same-out = wrote-length (h .wrote) }
-
 -- where the code behind a test begins, and behind what follows it
-abbrev behind-test : Walk → Place → Expr → At
+abbrev pub behind-test : Walk → Place → Expr → At
 behind-test W X e = skip 1 (after (codeE (W .globals) e (X .around) (X .types) (X .start)) (X .start))
 
 -- ── a while ──

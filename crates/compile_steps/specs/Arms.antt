@@ -1,17 +1,15 @@
 -- The statements of a case, one after the other: what its walker asks at each, and that they are done when each is.
 use mathlib.Core.Path.{_≡_, refl, ap, sym, _∙_}
-use mathlib.Core.Bool.{Bool, true, false}
-use mathlib.Core.List.{List, [], _∷_, _++_, append-nil}
-use Prim.Native.Nat.{ℕ, zero, suc, _+_, _-_, _*_, _≤_, _<_}
+use mathlib.Core.Bool.{false}
+use mathlib.Core.List.{List, [], _++_, append-nil}
+use Prim.Native.Nat.{ℕ, suc, _+_, _-_, _*_, _≤_, _<_}
 use native.Mathlib.Omega.{arith}
-use native.Mathlib.Nat.{add-zero, sub-zero}
+use native.Mathlib.Nat.{sub-zero}
 use native.Mathlib.Numerals.{add-one}
 use lib.IntN.{pos}
-use lib.ListN.{length, getD, take, length-append}
-use lib.Seq.{sets}
-use Rattle.values.specs.Types.{Ty}
-use Rattle.values.specs.Operators.{binary, equal, binaryCode}
-use Rattle.values.specs.Values.{int, valueWord}
+use lib.ListN.{length, getD, take}
+use Rattle.values.specs.Operators.{binary, equal}
+use Rattle.values.specs.Values.{int}
 use Rattle.bytecode.specs.Instructions.{Instr, own, load, push, operate, go, goUnless}
 use Rattle.language.specs.Tree.{Stmt, Arms, lastArm, arm, countArms}
 use Rattle.language.specs.Table.{Entry, flatS, flatArms, deepS, deepArms}
@@ -22,19 +20,19 @@ use Rattle.spans.specs.Stands.{Stands, stands-left}
 use Rattle.shapes.specs.Steps.{table-next, Passes}
 use Rattle.shapes.specs.Walk.{Table}
 use Rattle.compile_code.specs.Code.{Code, nil, op, mark, _▸_, At, at, skip, after}
-use Rattle.compile_code.specs.Compile.{Around, scopesOf, found, codeS}
+use Rattle.compile_code.specs.Compile.{scopesOf, found, codeS}
 use Rattle.compile_code.specs.Encode.{rec, recordOf}
 use Rattle.compile_known.specs.Numbers.{secondIn}
 use Rattle.compile_names.specs.Good.{goodS, goodArms}
 use Rattle.compile_pen.specs.declared.Pen.{Pen}
-use Rattle.compile_pen.specs.Ink.{Fits, moved, penShaped, inkOp, inkShape, length-ink}
-use Rattle.compile_pen.specs.Folds.{penAfter, inked, grows, fits-before}
+use Rattle.compile_pen.specs.Ink.{Fits, moved, penShaped, inkOp, inkShape}
+use Rattle.compile_pen.specs.Folds.{penAfter, inked}
 use Rattle.compile_nodes.specs.Ends.{endsS, endsArms}
 use Rattle.compile_nodes.specs.Knows.{Walk, Lands}
-use Rattle.compile_nodes.specs.Ready.{Node, stmt, codeN, endsN, flatN, Place, Lent, Laid, Stood, Kept, Wrote, Ready, Done, Answers, Asks, codeCases, ReadyArms, DoneArms, Owner, AsksArms, AnswersArms}
-use Rattle.compile_steps.specs.Parts.{lent, below, movedTo, size-N, passes-N, laid-aim, kept-self, kept-then, kept-out, wrote-then, wrote-op, wrote-nil, wrote-length, fits-first}
+use Rattle.compile_nodes.specs.Ready.{stmt, Place, Lent, Kept, Wrote, Ready, Done, Answers, Asks, codeCases, ReadyArms, DoneArms, Owner, AsksArms, AnswersArms}
+use Rattle.compile_steps.specs.Parts.{lent, below, movedTo, size-N, passes-N, laid-aim, kept-self, kept-then, kept-out, wrote-then, wrote-op, wrote-nil, wrote-length}
 use Rattle.compile_steps.specs.Views.{IsStmt}
-use Rattle.compile_steps.specs.Shared.{Rest, rest-left, rest-node, rest-own, rest-ready, lands-kept, Shaping, shaping, shaped-wrote, fits-op, ends-then, ends-N, aim-as}
+use Rattle.compile_steps.specs.Shared.{Rest, rest-left, rest-node, rest-own, rest-ready, lands-kept, shaping, shaped-wrote, fits-op, ends-then, ends-N, aim-as}
 
 -- ── one statement: before it its number is looked for, behind it the case is left ──
 module _ (s : Stmt) (us : List Entry) (ks : List ℕ) (tail : Code) (c j z : ℕ) (W : Walk) (X : Place) where

@@ -1,19 +1,16 @@
 -- An assignment, to a variable or to a field: what its walker asks of its parts, and that it has done its code when they have done theirs.
 use mathlib.Core.Path.{_≡_, refl, ap, sym, _∙_, subst}
-use mathlib.Core.Bool.{Bool, true, false}
 use mathlib.Core.List.{List, [], _∷_, _++_}
-use Prim.Native.Nat.{ℕ, zero, suc, _+_, _-_, _*_, _≤_, _<_}
+use Prim.Native.Nat.{ℕ, suc, _+_, _-_, _*_, _≤_, _<_}
 use native.Mathlib.Omega.{arith}
-use native.Mathlib.Nat.{add-zero}
 use lib.IntN.{pos}
-use lib.ListN.{length, getD, set, take, length-set, length-append}
+use lib.ListN.{length, getD, set, length-set}
 use lib.Seq.{sets}
 use Rattle.words.specs.Numbers.{halfAt}
-use Rattle.values.specs.Types.{Ty, tyByte}
 use Rattle.bytecode.specs.Instructions.{Instr, putField}
-use Rattle.language.specs.Tree.{Stmt, assign, Target, toVariable, toField, Expr, variable, field}
-use Rattle.language.specs.Table.{Entry, entry, flatS, flatTarget, flatE, deepS, deepTarget}
-use Rattle.language.specs.Limits.{holdsS, holdsTarget, needS, needTarget}
+use Rattle.language.specs.Tree.{assign, Target, toVariable, toField, Expr, variable, field}
+use Rattle.language.specs.Table.{entry, flatS, flatE, deepS}
+use Rattle.language.specs.Limits.{holdsS, needS}
 use Rattle.language.specs.Names.{isVariable, isField}
 use Rattle.programs.specs.Claims.{entriesOf}
 use Rattle.scopes.specs.Environment.{Item, envOf}
@@ -21,23 +18,23 @@ use Rattle.spans.specs.Stands.{Stands, stands-left, stands-tail, half-part}
 use Rattle.heads.specs.Defines.{name-small}
 use Rattle.shapes.specs.Steps.{Head, head-of, table-next, Passes}
 use Rattle.shapes.specs.Walk.{Table}
-use Rattle.compile_code.specs.Code.{Code, nil, op, _▸_, At, at, after}
-use Rattle.compile_code.specs.Compile.{Around, scopesOf, storing, cellOf, fieldNumber, codeS, codeTarget, codeE, tyE, tyTarget, opTarget}
+use Rattle.compile_code.specs.Code.{Code, nil, op, _▸_, at, after}
+use Rattle.compile_code.specs.Compile.{storing, cellOf, fieldNumber, codeS, codeE, tyE}
 use Rattle.compile_code.specs.Encode.{rec, recordOf}
 use Rattle.compile_known.specs.Numbers.{firstIn, secondIn}
 use Rattle.compile_known.specs.Meaning.{meaningOf}
-use Rattle.compile_names.specs.Good.{goodS, goodTarget}
+use Rattle.compile_names.specs.Good.{goodS}
 use Rattle.compile_pen.specs.declared.Pen.{Pen}
 use Rattle.compile_pen.specs.Ink.{Fits, moved, inkOp}
 use Rattle.compile_pen.specs.Folds.{penAfter, inked, pen-op}
 use Rattle.compile_own.specs.Owns.{ownerBy}
-use Rattle.compile_nodes.specs.Ends.{belowS, belowE, endsTarget, endsE}
+use Rattle.compile_nodes.specs.Ends.{belowS, endsE}
 use Rattle.compile_nodes.specs.Knows.{Walk}
-use Rattle.compile_nodes.specs.Ready.{Node, stmt, expr, codeN, endsN, flatN, Place, Lent, Stood, Kept, Wrote, Ready, Done, Asks, Answers}
-use Rattle.compile_steps.specs.Named.{Meaning, meaning-of, variable-store, field-first, field-second}
-use Rattle.compile_steps.specs.Parts.{lent, below, movedTo, heldOn, size-N, passes-N, flat-one, kept-self, kept-then, kept-out, kept-ends, kept-less, wrote-then, wrote-op, wrote-nil, wrote-address, wrote-length, fits-first, fits-start}
-use Rattle.compile_steps.specs.Views.{IsExpr, IsKind, Assign, assign-of}
-use Rattle.compile_steps.specs.Shared.{Rest, rest-enter, rest-left, rest-node, rest-own, rest-push, rest-lent, rest-at, rest-ready, rest-stood, rest-fits, lands-kept, ends-then, ends-own, ends-N, table-from, finishing, ready-as, done-as}
+use Rattle.compile_nodes.specs.Ready.{Node, stmt, expr, Place, Lent, Stood, Kept, Wrote, Ready, Done, Asks, Answers}
+use Rattle.compile_steps.specs.Named.{meaning-of, variable-store, field-first, field-second}
+use Rattle.compile_steps.specs.Parts.{lent, below, movedTo, heldOn, size-N, passes-N, flat-one, kept-then, kept-out, kept-ends, kept-less, wrote-then, wrote-op, wrote-address, wrote-length, fits-start}
+use Rattle.compile_steps.specs.Views.{IsExpr, IsKind, assign-of}
+use Rattle.compile_steps.specs.Shared.{Rest, rest-enter, rest-left, rest-push, rest-lent, rest-at, rest-ready, rest-stood, rest-fits, ends-then, ends-own, ends-N, table-from, finishing, ready-as, done-as}
 
 -- ── the second entry: the target's ──
 half-second : {l part sizes : List ℕ} {at : ℕ} → Table l part sizes at → (i : ℕ) → halfAt part (8 + i) ≡ halfAt (below part 8) i
@@ -52,10 +49,6 @@ module _ {x : Target} {e : Expr} {W : Walk} {X : Place} {l part : List ℕ} {nes
 
   target-table : Table l (below part 8) sizes (at + 1)
   target-table = table-next (h .table) 8 1 refl
-
-  target-stands : Stands (entriesOf l) (at + 1) (flatTarget x ++ flatE e)
-  unfolding flatS
-  target-stands = stands-tail _ _ (h .laid .stands)
 
   -- its name
   name-below : (a : ℕ) → halfAt part 10 ≡ a → a < 65536

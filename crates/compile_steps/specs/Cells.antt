@@ -2,24 +2,25 @@
 use mathlib.Core.Path.{_≡_, refl, ap, sym, _∙_}
 use mathlib.Core.Bool.{Bool, true, false}
 use mathlib.Core.List.{List, [], _∷_, _++_, map}
-use Prim.Native.Nat.{ℕ, zero, suc, _+_}
+use Prim.Native.Nat.{ℕ, suc, _+_}
 use native.Mathlib.Omega.{arith}
-use lib.ListN.{length, length-append}
+use lib.ListN.{length}
 use Rattle.words.specs.Choice.{if_then_else_}
 use Rattle.values.specs.Types.{Ty, logical}
 use Rattle.values.specs.Operators.{Binary}
 use Rattle.bytecode.specs.Instructions.{go}
 use Rattle.language.specs.Tree.{Decl, declare, holding, Stmt, block, assign, when, choose, while, goto, assert, call, setLevel, select, Items, noItem, label, item, Arms, lastArm, arm, Target, toVariable, toField, Expr, number, truth, pattern, null, variable, invoke, field, make, operate1, operate2, conditional, fader, blockExpr, Exprs, noExpr, expr, Global}
-use Rattle.language.specs.Table.{Entry, flatTyped, flatDecl, flatS, flatItems, flatArms, flatTarget, flatE, flatEs}
+use Rattle.language.specs.Table.{flatDecl, flatS, flatItems, flatArms, flatTarget, flatE, flatEs}
 use Rattle.language.specs.Names.{blockOf, expressionOf}
 use Rattle.language.specs.Faults.{typeE, isTy}
-use Rattle.heads.specs.Trees.{length-S, length-E, length-Items}
-use Rattle.compile_code.specs.Code.{Code, nil, op, mark, cell, _▸_, At, at, skip, after}
+use Rattle.heads.specs.Trees.{length-S, length-E}
+use Rattle.compile_code.specs.Code.{Code, op, cell, _▸_, At, at, skip, after}
 use Rattle.compile_code.specs.Compile.{Around, inside, outermost, bound, global, held, labels, scopesOf, passing, theLabels, hasLabel, labelAt, Way, plainly, marked, ifTrue, ifFalse, wayOf, codeWay, codeGoto, codeHead, codeS, codeItems, codeArms, codeTarget, codeE, codeEs, opsArms, tyTarget, tyE}
-use Rattle.compile_known.specs.Numbers.{cellsOf, cellsWithin}
-use Rattle.compile_nodes.specs.Ends.{aroundHead, atHead, belowS, belowE, endsItems, endsArms, endsTarget, endsEs, endsS, endsE}
-use Rattle.compile_nodes.specs.Ready.{codeCases}
-use Rattle.compile_sight.specs.Lengths.{cells-append, length-below, length-belowE, length-items}
+use Rattle.compile_known.specs.Numbers.{cellsWithin}
+use Rattle.compile_nodes.specs.Ends.{aroundHead, atHead, endsS, endsE}
+use Rattle.compile_sight.specs.HeadOps.{head-cells}
+use Rattle.compile_sight.specs.Cells.{within-head}
+use Rattle.compile_sight.specs.Lengths.{cells-append, length-below, length-belowE}
 
 goto-cell : (Γ : List Around) (a : ℕ) (p : At) → after (codeGoto Γ a) p .cell ≡ p .cell
 unfolding after codeGoto
@@ -36,10 +37,7 @@ goto-cell (labels is x ∷ Γ) a p = pick (hasLabel a is) (goto-cell Γ a p)
     pick false h = h
 
 pub at-head-cell : (ds : List Decl) (p : At) → atHead ds p .cell ≡ p .cell + cellsWithin (map flatDecl ds)
-unfolding atHead cellsWithin flatDecl flatTyped
-at-head-cell [] p = omega arith
-at-head-cell (declare x ∷ ds) p = let z : cellsOf (flatDecl (declare x)) ≡ 1 = refl in omega (arith, at-head-cell ds (at (suc (suc (p .address))) (suc (p .cell))))
-at-head-cell (holding g ∷ ds) p = let z : cellsOf (flatDecl (holding g)) ≡ 0 = refl in omega (arith, at-head-cell ds (skip 1 p))
+at-head-cell ds p = head-cells ds p ∙ ap (λ (n : ℕ). p .cell + n) (sym (within-head ds))
 
 module _ (gs : List Global) where
   head-cell : (ds : List Decl) (Γ : List Around) (p : At) (f : List Around → At → Code) → after (codeHead gs bound ds Γ p f) p .cell ≡ after (f (aroundHead bound ds Γ p) (atHead ds p)) (atHead ds p) .cell

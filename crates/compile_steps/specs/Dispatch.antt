@@ -1,10 +1,10 @@
 -- What the walkers ask and answer of entries that they pass on by their kind, and of those that have no statements below them.
-use mathlib.Core.Path.{_≡_, refl, ap, sym, _∙_}
+use mathlib.Core.Path.{_≡_, refl, sym, _∙_}
 use mathlib.Core.List.{List}
 use Prim.Native.Nat.{ℕ, _+_, _-_, _*_, _≤_, _<_}
 use native.Mathlib.Omega.{arith}
 use lib.ListN.{length, getD, take, set, length-set}
-use lib.Seq.{take-set-le, length-sets}
+use lib.Seq.{take-set-le}
 use Rattle.words.specs.Numbers.{halfAt, wordAt}
 use Rattle.language.specs.Tree.{goto}
 use Rattle.scopes.specs.Environment.{envOf}
@@ -13,18 +13,12 @@ use Rattle.compile_pen.specs.Ink.{Fits, moved, penShaped, inkShape}
 use Rattle.compile_known.specs.Meaning.{meaningOf}
 use Rattle.compile_own.specs.Owns.{knownFor, inkLeaf, leafType, operandsBy, inkLast, lastType, penGoto, inkGoto}
 use Rattle.compile_nodes.specs.Knows.{Walk, passedTo}
-use Rattle.compile_nodes.specs.Ready.{Node, stmt, expr, name, kindN, endsN, Place, Lent, Kept, Ready, Done, Asks, Answers, ReadyEs, DoneEs, AsksEs, AnswersEs}
-use Rattle.compile_steps.specs.Parts.{below, lent, asked, head-N, wrote-length, kept-then, kept-stack}
-use Rattle.compile_steps.specs.Shared.{Shaping, ready-as, done-as}
-use Rattle.compile_steps.specs.Views.{IsKind, IsLeaf, IsSimple, Label, label-of, Goto, goto-of}
+use Rattle.compile_nodes.specs.Ready.{Node, stmt, name, kindN, Place, Lent, Ready, Done, Asks, Answers, ReadyEs, DoneEs, AsksEs, AnswersEs}
+use Rattle.compile_steps.specs.Parts.{below, lent, asked, head-N, kept-then, kept-stack}
+use Rattle.compile_steps.specs.Shared.{Shaping, ready-as, done-as, kept-done}
+use Rattle.compile_steps.specs.Views.{IsKind, IsLeaf, IsSimple, label-of, goto-of}
 use Rattle.compile_steps.specs.Leaves.{leaf-fits, leaf-done, label-fits, label-small, label-done, goto-fits, goto-end, goto-done}
 use Rattle.compile_steps.specs.Simples.{opsOf, simple-operands, simple-fits, simple-small, simple-done}
-
--- what is kept where it is done: the names and the stack are what is left to say
-kept-done : {n : Node} {W : Walk} {X : Place} {at : ℕ} {L M : Lent} {depth : ℕ} {pen r : Pen} (top d : ℕ) → Done n W X at L M depth pen r → envOf (M .env) top ≡ envOf (L .env) top → length (M .env) ≡ length (L .env)
-    → take d (M .stack) ≡ take d (L .stack) → length (M .stack) ≡ length (L .stack) → Kept L M top d
-kept-done {n} {W} {X} {at} {L} top d h e f g k =
-    record { env = e; same-env = f; same-ends = ap (length {A = ℕ}) (h .ended) ∙ length-sets (L .ends) at (endsN (W .globals) n (X .around) (X .types) (X .start)); stack = g; same-stack = k; same-out = wrote-length (h .wrote) }
 
 -- ── the same entry, as another walker names it ──
 kind-here : {n : Node} {W : Walk} {X : Place} {l part : List ℕ} {nesting at : ℕ} {sizes : List ℕ} {L : Lent} {top holds depth : ℕ} {pen : Pen} → Ready n W X l part nesting at sizes L top holds depth pen → kindN n ≡ halfAt part 0

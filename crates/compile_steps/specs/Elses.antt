@@ -1,29 +1,27 @@
 -- If with else, and the if-expression: what is ready below them, and what is done of them where it is done of what is below.
 use mathlib.Core.Path.{_≡_, refl, ap, sym, _∙_}
-use mathlib.Core.Bool.{Bool, true, false}
 use mathlib.Core.List.{List, [], _∷_, _++_, append-assoc}
-use Prim.Native.Nat.{ℕ, zero, suc, _+_, _-_, _*_, _≤_, _<_}
+use Prim.Native.Nat.{ℕ, suc, _+_, _-_, _*_, _<_}
 use native.Mathlib.Omega.{arith}
-use lib.ListN.{length, getD, take, set, length-set, length-append}
-use lib.Seq.{sets, getD-set-same}
+use lib.ListN.{length, getD, take, set, length-append}
+use lib.Seq.{getD-set-same}
 use Rattle.language.specs.Faults.{typeE}
-use Rattle.values.specs.Types.{Ty, tyByte, logical}
+use Rattle.values.specs.Types.{Ty, tyByte}
 use Rattle.bytecode.specs.Instructions.{Instr, go, goUnless}
-use Rattle.language.specs.Tree.{Stmt, when, choose, while, Expr, conditional}
-use Rattle.language.specs.Table.{Entry, flatS, flatE, deepS, deepE}
+use Rattle.language.specs.Tree.{Stmt, choose, Expr, conditional}
+use Rattle.language.specs.Table.{flatS, flatE, deepS, deepE}
 use Rattle.language.specs.Limits.{holdsS, holdsE, needS, needE}
 use Rattle.compile_code.specs.Code.{Code, nil, op, mark, _▸_, At, skip, after}
-use Rattle.compile_code.specs.Compile.{Around, scopesOf, found, codeS, codeE, tyE}
+use Rattle.compile_code.specs.Compile.{found, codeS, codeE, tyE}
 use Rattle.compile_code.specs.Encode.{rec, recordOf}
 use Rattle.compile_names.specs.Good.{goodS, goodE}
-use Rattle.compile_known.specs.Numbers.{cellsOf, cellsWithin}
 use Rattle.compile_pen.specs.declared.Pen.{Pen}
 use Rattle.compile_pen.specs.Ink.{Fits, moved, penShaped, inkOp, inkShape}
 use Rattle.compile_pen.specs.Folds.{penAfter, inked}
 use Rattle.compile_nodes.specs.Knows.{Walk}
 use Rattle.compile_nodes.specs.Ends.{belowS, belowE, endsS, endsE}
-use Rattle.compile_nodes.specs.Ready.{Node, stmt, expr, flatN, codeN, endsN, Place, Lent, Laid, Stood, Kept, Wrote, Ready, Done, Asks, Answers}
-use Rattle.compile_steps.specs.Parts.{below, lent, laid-tail, laid-left, laid-right, laid-aim, laid-at, size-N, passes-N, kept-self, kept-then, kept-stack, fits-first, movedTo, heldOn, ready-part}
+use Rattle.compile_nodes.specs.Ready.{stmt, expr, flatN, Place, Lent, Laid, Kept, Ready, Done}
+use Rattle.compile_steps.specs.Parts.{below, lent, laid-tail, laid-left, laid-right, laid-aim, laid-at, kept-self, kept-then, kept-stack, fits-first, movedTo, heldOn, ready-part}
 use Rattle.compile_steps.specs.Stages.{Stage, stage-start, stage-fits-op, stage-fits-mark, stage-op, stage-mark, stage-part, stage-push, stage-done}
 use Rattle.compile_steps.specs.Cells.{cell-E, cell-S, length-endsE, length-endsS}
 

@@ -1,72 +1,38 @@
--- The code of a head: its declarations, what lies within, and a release for each hold.
-use mathlib.Core.Path.{_≡_, refl, ap, sym, _∙_}
-use mathlib.Core.Bool.{Bool, true, false}
-use mathlib.Core.List.{List, [], _∷_, _++_, map}
-use mathlib.Core.Option.{Option, none, some}
-use Prim.Native.Nat.{ℕ, zero, suc, _+_, _-_, _*_, _≤_, _<_}
+-- The code of a head, as it is read from a table.
+use mathlib.Core.Path.{_≡_, refl, ap, _∙_}
+use mathlib.Core.List.{List, [], _∷_, map}
+use Prim.Native.Nat.{ℕ, suc, _+_, _-_, _*_, _≤_}
 use native.Mathlib.Omega.{arith}
 use native.Mathlib.Nat.{add-zero}
-use native.Mathlib.Numerals.{add-one}
-use lib.Dec.{ltb}
-use lib.IntN.{pos}
 use lib.ListN.{length, getD, drop}
-use lib.Seq.{sets, drop-drop}
+use lib.Seq.{drop-drop}
 use borrow.Author.Tests.{le-ltb}
-use Rattle.words.specs.Choice.{if_then_else_}
 use Rattle.words.specs.Numbers.{halfAt}
 use Rattle.values.specs.Types.{Ty, integer, logical, bits, reference, tyByte}
 use Rattle.values.specs.Values.{initial}
-use Rattle.bytecode.specs.Instructions.{own, push, store, takeHold, letHold}
-use Rattle.language.specs.Tree.{Typed, Decl, declare, holding, Global}
-use Rattle.language.specs.Table.{Entry, entry, flatTyped, flatDecl}
+use Rattle.bytecode.specs.Instructions.{own, push, store, takeHold}
+use Rattle.language.specs.Tree.{Decl, declare, holding}
+use Rattle.language.specs.Table.{Entry, flatTyped, flatDecl}
 use Rattle.programs.specs.Claims.{entriesOf}
 use Rattle.spans.specs.Stands.{Stands, fields, stands-tail, half-part}
-use Rattle.heads.specs.Sees.{Legible}
-use Rattle.compile_code.specs.Code.{Code, nil, op, mark, cell, _▸_, At, at, skip, after}
-use Rattle.compile_code.specs.Compile.{Around, bound, held, codeHead, tyIn, classesOf, classNames}
-use Rattle.compile_code.specs.Encode.{rec, recordOf}
-use Rattle.compile_known.specs.Numbers.{packed, numberOf, numbersFrom, cellsOf, cellsWithin, typeIn, secondIn}
+use Rattle.compile_code.specs.Code.{Code, op, cell, At, at, skip}
+use Rattle.compile_code.specs.Compile.{tyIn}
+use Rattle.compile_code.specs.Encode.{recordOf}
+use Rattle.compile_known.specs.Numbers.{packed, numbersFrom, cellsWithin, typeIn, secondIn}
 use Rattle.compile_known.specs.Packed.{type-packed, second-packed}
 use Rattle.compile_pen.specs.declared.Pen.{Pen}
 use Rattle.compile_pen.specs.Ink.{moved, inkOp}
-use Rattle.compile_pen.specs.Folds.{penAfter, inked, lets, lets-last, lets-last-inked}
 use Rattle.compile_nodes.specs.Knows.{Lies, Walk}
-use Rattle.compile_nodes.specs.Ends.{aroundHead, atHead, endsHead}
+use Rattle.compile_nodes.specs.Ends.{endsHead}
 use Rattle.compile_nodes.specs.Ready.{Wrote}
-use Rattle.compile_own.specs.Owns.{inkInitial, penDeclared, inkDeclared, pensHead, inksHead, finishes, holdsBy, holdsHead}
+use Rattle.compile_own.specs.Owns.{inkInitial, penDeclared, inkDeclared, pensHead, inksHead, finishes, holdsHead}
 use Rattle.compile_sight.specs.Marks.{openIn}
 use Rattle.compile_sight.specs.Lies.{lies-here, lies-next}
 use Rattle.compile_sight.specs.Heads.{Bytes, number-typed}
+use Rattle.compile_sight.specs.HeadOps.{headOps}
 use Rattle.compile_sight.specs.Sight.{classesIn}
-use Rattle.compile_steps.specs.Parts.{wrote-then, wrote-op, wrote-nil, wrote-cell}
+use Rattle.compile_steps.specs.Parts.{wrote-then, wrote-op, wrote-nil}
 
-module _ (gs : List Global) where
-  -- what the declarations do
-  unfoldable pub headCode : List Decl → At → Code
-  headCode [] p = nil
-  headCode (declare x ∷ ds) p = cell (tyIn gs (x .type)) ▸ (op (push (initial (tyIn gs (x .type)))) ▸ (op (store own (p .cell)) ▸ headCode ds (at (suc (suc (p .address))) (suc (p .cell)))))
-  headCode (holding g ∷ ds) p = op (takeHold g) ▸ headCode ds (skip 1 p)
-
-  module _ (f : List Around → At → Code) where
-    pub head-pen : (ds : List Decl) (Γ : List Around) (p : At) (pen : Pen)
-        → penAfter (codeHead gs bound ds Γ p f) pen ≡ penAfter (lets (openIn ds)) (penAfter (f (aroundHead bound ds Γ p) (atHead ds p)) (penAfter (headCode ds p) pen))
-    unfolding penAfter codeHead headCode aroundHead atHead openIn lets
-    head-pen [] Γ p pen = refl
-    head-pen (declare x ∷ ds) Γ p pen = head-pen ds (bound (x .name) (p .cell) ∷ Γ) (at (suc (suc (p .address))) (suc (p .cell))) (moved (moved pen))
-    head-pen (holding g ∷ ds) Γ p pen = ap moved (head-pen ds (held g ∷ Γ) (skip 1 p) (moved pen)) ∙ lets-last (openIn ds) _
-
-    pub head-inked : (ds : List Decl) (Γ : List Around) (p : At) (pen : Pen) (l : List ℕ)
-        → (let q = penAfter (headCode ds p) pen in let x = f (aroundHead bound ds Γ p) (atHead ds p) in
-        inked (codeHead gs bound ds Γ p f) pen l ≡ inked (lets (openIn ds)) (penAfter x q) (inked x q (inked (headCode ds p) pen l)))
-    unfolding penAfter inked codeHead headCode aroundHead atHead openIn lets
-    head-inked [] Γ p pen l = refl
-    head-inked (declare x ∷ ds) Γ p pen l = head-inked ds (bound (x .name) (p .cell) ∷ Γ) (at (suc (suc (p .address))) (suc (p .cell))) (moved (moved pen)) _
-    head-inked (holding g ∷ ds) Γ p pen l =
-        let y = head-inked ds (held g ∷ Γ) (skip 1 p) (moved pen) (inked (op (takeHold g)) pen l) in
-        let z = head-pen ds (held g ∷ Γ) (skip 1 p) (moved pen) in
-        rw (y, z) (lets-last-inked (openIn ds) _ _)
-
--- ── as it is read from a table ──
 initial-wrote : (t : Ty) (p : Pen) (o : List ℕ) → Wrote o (inkInitial (tyByte t) p o) p (moved p) (op (push (initial t)))
 unfolding recordOf
 initial-wrote integer p o = wrote-op (push (initial integer)) 1 0 0 (refl, refl) (λ d. refl)
@@ -106,7 +72,7 @@ module _ (part known : List ℕ) (n place : ℕ) (pen : Pen) (o : List ℕ) wher
   ends-14 e = rw e
 
 pub record HeadRead (W : Walk) (l : List ℕ) (place : ℕ) (ds : List Decl) (p : At) (pen : Pen) (o : List ℕ) : Type 0 where
-  pub wrote : Wrote o (inksHead (drop (8 * place) l) (W .known) place (length ds) pen o) pen (pensHead (drop (8 * place) l) (length ds) pen) (headCode (W .globals) ds p)
+  pub wrote : Wrote o (inksHead (drop (8 * place) l) (W .known) place (length ds) pen o) pen (pensHead (drop (8 * place) l) (length ds) pen) (headOps (W .globals) ds (p .cell))
   pub ends : pen .address ≡ p .address → finishes (drop (8 * place) l) (length ds) pen ≡ endsHead ds p
   pub holds : holdsHead (drop (8 * place) l) (length ds) ≡ openIn ds
 
@@ -119,7 +85,7 @@ module _ (W : Walk) (l : List ℕ) where
 
   pub head-read : (ds : List Decl) (place : ℕ) (p : At) (pen : Pen) (o : List ℕ) → Stands (entriesOf l) place (map flatDecl ds) → Lies (W .known) place (numbersFrom (classesIn W) (p .cell) (map flatDecl ds))
       → Bytes (W .globals) ds → p .cell + cellsWithin (map flatDecl ds) ≤ 32 → HeadRead W l place ds p pen o
-  unfolding recordOf headCode inksHead pensHead finishes holdsHead endsHead openIn Bytes numbersFrom cellsWithin flatDecl flatTyped
+  unfolding recordOf headOps inksHead pensHead finishes holdsHead endsHead openIn Bytes numbersFrom cellsWithin flatDecl flatTyped
   head-read [] place p pen o h n b c = record { wrote = wrote-nil o pen; ends = λ e. refl; holds = refl }
   head-read (declare x ∷ ds) place p pen o h n b c =
       let k : halfAt (drop (8 * place) l) 0 ≡ 10 = kind-here place _ _ h in
@@ -132,7 +98,7 @@ module _ (W : Walk) (l : List ℕ) where
       let one : p .cell + 1 ≡ suc (p .cell) = omega arith in
       let r = head-read ds (place + 1) q (moved (moved pen)) (inkOp (moved pen) (inkInitial (tyByte t) pen o) 6 0 (p .cell)) (stands-tail _ _ h) (rw one at (lies-next _ _ n)) (b .1) (omega (arith, c)) in
       record {
-        wrote = wrote-same (inks-10 part (W .known) m place pen o k (tyByte t) (p .cell) a d ∙ rw (next-here place)) (pens-10 part (W .known) m place pen o k ∙ rw (next-here place)) (wrote-then (wrote-cell t o pen) (wrote-then (initial-wrote t pen o) (wrote-then (wrote-op (store own (p .cell)) 6 0 (p .cell) (refl, refl) (λ z. refl)) (r .wrote))));
+        wrote = wrote-same (inks-10 part (W .known) m place pen o k (tyByte t) (p .cell) a d ∙ rw (next-here place)) (pens-10 part (W .known) m place pen o k ∙ rw (next-here place)) (wrote-then (initial-wrote t pen o) (wrote-then (wrote-op (store own (p .cell)) 6 0 (p .cell) (refl, refl) (λ z. refl)) (r .wrote)));
         ends = λ e. ends-10 part (W .known) m place pen o k ∙ rw (next-here place, r .ends (omega (arith, e)), e) (ap (λ (i : ℕ). i ∷ endsHead ds q) (let z : p .address + 1 + 1 ≡ suc (suc (p .address)) = omega arith in z));
         holds = rw (k, next-here place) (omega (arith, r .holds));
       }

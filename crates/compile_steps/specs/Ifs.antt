@@ -1,30 +1,26 @@
 -- If without else, and while: what is ready below them, and what is done of them where it is done of what is below.
 use mathlib.Core.Path.{_≡_, refl, ap, sym, _∙_}
-use mathlib.Core.Bool.{Bool, true, false}
-use mathlib.Core.List.{List, [], _∷_, _++_, append-assoc}
-use Prim.Native.Nat.{ℕ, zero, suc, _+_, _-_, _*_, _≤_, _<_}
+use mathlib.Core.List.{List, [], _++_}
+use Prim.Native.Nat.{ℕ, suc, _+_, _-_, _*_, _<_}
 use native.Mathlib.Omega.{arith}
-use lib.ListN.{length, getD, take, set, length-set, length-append}
-use lib.Seq.{sets}
-use Rattle.values.specs.Types.{Ty, tyByte, logical}
+use lib.ListN.{length, getD, take, set, length-append}
 use Rattle.bytecode.specs.Instructions.{Instr, go, goUnless}
-use Rattle.language.specs.Tree.{Stmt, when, choose, while, Expr, conditional}
-use Rattle.language.specs.Table.{Entry, flatS, flatE, deepS, deepE}
-use Rattle.language.specs.Limits.{holdsS, holdsE, needS, needE}
+use Rattle.language.specs.Tree.{Stmt, when, while, Expr}
+use Rattle.language.specs.Table.{flatS, flatE, deepS}
+use Rattle.language.specs.Limits.{holdsS, needS}
 use Rattle.compile_code.specs.Code.{Code, nil, op, mark, _▸_, At, skip, after}
-use Rattle.compile_code.specs.Compile.{Around, scopesOf, found, codeS, codeE, tyE}
+use Rattle.compile_code.specs.Compile.{found, codeS, codeE}
 use Rattle.compile_code.specs.Encode.{rec, recordOf}
-use Rattle.compile_names.specs.Good.{goodS, goodE}
-use Rattle.compile_known.specs.Numbers.{cellsOf, cellsWithin}
+use Rattle.compile_names.specs.Good.{goodS}
 use Rattle.compile_pen.specs.declared.Pen.{Pen}
 use Rattle.compile_pen.specs.Ink.{Fits, moved, penShaped, inkOp, inkShape}
 use Rattle.compile_pen.specs.Folds.{penAfter, inked}
 use Rattle.compile_nodes.specs.Knows.{Walk}
-use Rattle.compile_nodes.specs.Ends.{belowS, belowE, endsS, endsE}
-use Rattle.compile_nodes.specs.Ready.{Node, stmt, expr, flatN, codeN, endsN, Place, Lent, Laid, Stood, Kept, Wrote, Ready, Done, Asks, Answers}
-use Rattle.compile_steps.specs.Parts.{below, lent, laid-tail, laid-left, laid-right, laid-aim, laid-at, size-N, passes-N, kept-self, fits-first, movedTo, heldOn, ready-part}
-use Rattle.compile_steps.specs.Stages.{Stage, stage-start, stage-fits-op, stage-fits-mark, stage-op, stage-mark, stage-part, stage-push, stage-done}
-use Rattle.compile_steps.specs.Cells.{cell-E, cell-S, length-endsE, length-endsS}
+use Rattle.compile_nodes.specs.Ends.{belowS, endsS, endsE}
+use Rattle.compile_nodes.specs.Ready.{stmt, expr, Place, Lent, Laid, Kept, Ready, Done}
+use Rattle.compile_steps.specs.Parts.{below, lent, laid-tail, laid-left, laid-right, laid-aim, laid-at, kept-self, fits-first, movedTo, ready-part}
+use Rattle.compile_steps.specs.Stages.{Stage, stage-start, stage-fits-op, stage-fits-mark, stage-op, stage-mark, stage-part, stage-done}
+use Rattle.compile_steps.specs.Cells.{cell-E, length-endsE}
 
 -- ── an if without else ──
 module _ (e : Expr) (s : Stmt) {W : Walk} {X : Place} {l part : List ℕ} {nesting at : ℕ} {sizes : List ℕ} {L : Lent} {top holds depth : ℕ} {pen : Pen} (r : Ready (stmt (when e s)) W X l part nesting at sizes L top holds depth pen) where

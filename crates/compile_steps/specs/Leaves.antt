@@ -85,16 +85,7 @@ module _ {W : Walk} {X : Place} {l part : List ℕ} {nesting at : ℕ} {sizes : 
   leaf-fits (expr (pattern z)) h r = r .fits
   leaf-fits (expr (null c)) h r = r .fits
   leaf-fits (expr (variable a)) h r = r .fits
-  leaf-fits (stmt (block ds is)) h ready = absurd h
-  leaf-fits (stmt (assign x e)) h ready = absurd h
-  leaf-fits (stmt (when e s)) h ready = absurd h
-  leaf-fits (stmt (choose e s t)) h ready = absurd h
-  leaf-fits (stmt (while e s)) h ready = absurd h
-  leaf-fits (stmt (goto a)) h ready = absurd h
-  leaf-fits (stmt (assert e)) h ready = absurd h
-  leaf-fits (stmt (call a es)) h ready = absurd h
-  leaf-fits (stmt (setLevel e f)) h ready = absurd h
-  leaf-fits (stmt (select e r)) h ready = absurd h
+  leaf-fits (stmt s) h ready = absurd h
   leaf-fits (expr (invoke a es)) h ready = absurd h
   leaf-fits (expr (field a e)) h ready = absurd h
   leaf-fits (expr (make c es)) h ready = absurd h
@@ -136,16 +127,7 @@ module _ {W : Walk} {X : Place} {l part : List ℕ} {nesting at : ℕ} {sizes : 
         let m = meaning-of (r .stood .sees) (r .stood .knows) a (rw (d .a) at (half-small (r .table))) _ _ (r .good .1 .1) in
         leaf-step (expr (variable a)) (loading (cellOf a (X .around))) r refl refl 5 (ownerBy (pen .inside) k) (secondIn k) (rw (d .kind) at j) (λ dry. variable-load m k e (pen .inside) (r .stood .inside)) f _
         (put (expr (variable a)) r (tyByte (tyE (W .globals) (X .around) (variable a))) (variable-ty (W .globals) (X .around) a (r .good .0) (r .good .1 .0) (r .good .1 .1) ∙ (sym (variable-type m k e) ∙ sym (rw (d .kind) at type))) (omega (arith, r .few-values)))
-    leaf-done (stmt (block ds is)) h ready = absurd h
-    leaf-done (stmt (assign x e)) h ready = absurd h
-    leaf-done (stmt (when e s)) h ready = absurd h
-    leaf-done (stmt (choose e s t)) h ready = absurd h
-    leaf-done (stmt (while e s)) h ready = absurd h
-    leaf-done (stmt (goto a)) h ready = absurd h
-    leaf-done (stmt (assert e)) h ready = absurd h
-    leaf-done (stmt (call a es)) h ready = absurd h
-    leaf-done (stmt (setLevel e f)) h ready = absurd h
-    leaf-done (stmt (select e r)) h ready = absurd h
+    leaf-done (stmt s) h ready = absurd h
     leaf-done (expr (invoke a es)) h ready = absurd h
     leaf-done (expr (field a e)) h ready = absurd h
     leaf-done (expr (make c es)) h ready = absurd h

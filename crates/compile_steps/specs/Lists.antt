@@ -1,34 +1,31 @@
 -- Expressions one after the other, and labels and statements one after the other: the loops' invariants and their steps.
-use mathlib.Core.Path.{_≡_, refl, ap, sym, _∙_}
-use mathlib.Core.Bool.{Bool, true, false}
-use mathlib.Core.List.{List, [], _∷_, _++_, map, reverse, append-nil}
-use Prim.Native.Nat.{ℕ, zero, suc, _+_, _-_, _*_, _≤_, _<_}
+use mathlib.Core.Path.{_≡_, refl, sym, _∙_}
+use mathlib.Core.List.{List, [], _∷_, _++_}
+use Prim.Native.Nat.{ℕ, suc, _+_, _-_, _*_, _≤_, _<_}
 use native.Mathlib.Omega.{arith}
 use native.Mathlib.Nat.{add-zero, sub-zero}
-use native.Mathlib.Numerals.{add-one}
 use lib.IntN.{pos}
-use lib.ListN.{length, getD, take, drop, set, length-append}
+use lib.ListN.{length, getD, length-append}
 use lib.Seq.{sets}
-use Rattle.values.specs.Types.{Ty, tyByte}
-use Rattle.language.specs.Tree.{Stmt, Items, noItem, label, item, Expr, Exprs, noExpr, countItems, countExprs}
+use Rattle.values.specs.Types.{Ty}
+use Rattle.language.specs.Tree.{Items, noItem, label, item, Expr, Exprs, noExpr, countItems, countExprs}
 use Rattle.language.specs.Tree.{expr as more}
-use Rattle.language.specs.Table.{Entry, entry, flatS, flatItems, flatE, flatEs, deepS, deepItems, deepE, deepEs}
-use Rattle.language.specs.Limits.{holdsS, holdsItems, holdsE, holdsEs, needS, needItems, needE, needEs}
-use Rattle.scopes.specs.Environment.{envOf}
+use Rattle.language.specs.Table.{entry, flatS, flatItems, flatE, flatEs, deepItems, deepEs}
+use Rattle.language.specs.Limits.{holdsItems, holdsEs, needItems}
 use Rattle.shapes.specs.Steps.{Passes, table-next}
 use Rattle.heads.specs.Defines.{bulk}
 use Rattle.heads.specs.Trees.{length-S}
-use Rattle.compile_code.specs.Code.{Code, nil, op, mark, _▸_, At, after}
-use Rattle.compile_code.specs.Compile.{Around, scopesOf, found, codeS, codeE, codeEs, codeItems, tyE}
-use Rattle.compile_names.specs.Good.{goodS, goodE, goodEs, goodItems}
-use Rattle.compile_known.specs.Numbers.{cellsOf, cellsWithin}
+use Rattle.compile_code.specs.Code.{mark, _▸_, At, after}
+use Rattle.compile_code.specs.Compile.{found, codeS, codeE, codeEs, codeItems, tyE}
+use Rattle.compile_names.specs.Good.{goodEs, goodItems}
+use Rattle.compile_known.specs.Entries.{sets-append}
+use Rattle.compile_known.specs.Numbers.{cellsWithin}
 use Rattle.compile_pen.specs.declared.Pen.{Pen}
-use Rattle.compile_pen.specs.Ink.{Fits}
 use Rattle.compile_pen.specs.Folds.{penAfter, inked}
-use Rattle.compile_nodes.specs.Knows.{Walk, Lands}
-use Rattle.compile_nodes.specs.Ends.{belowS, belowE, endsS, endsE, endsItems, endsEs}
-use Rattle.compile_nodes.specs.Ready.{Node, stmt, expr, name, flatN, roomN, codeN, endsN, deepN, Place, Lent, Laid, Stood, Kept, Wrote, Ready, Done, Asks, Answers, pushed, ValuesEs, ReadyEs, DoneEs, AsksEs, AnswersEs, ReadyItems, DoneItems, AsksItems, AnswersItems}
-use Rattle.compile_steps.specs.Parts.{below, laid-left, laid-right, laid-tail, laid-at, size-N, passes-N, flat-one, kept-self, kept-then, kept-less, wrote-later, wrote-address, wrote-length, fits-rest, fits-first, movedTo, heldOn, stood-next, stood-push, sets-append, need-E, need-items}
+use Rattle.compile_nodes.specs.Knows.{Walk}
+use Rattle.compile_nodes.specs.Ends.{endsS, endsE, endsItems, endsEs}
+use Rattle.compile_nodes.specs.Ready.{Node, stmt, expr, name, flatN, codeN, endsN, Place, Lent, Kept, Ready, Done, Asks, Answers, pushed, ValuesEs, ReadyEs, DoneEs, AsksEs, AnswersEs, ReadyItems, DoneItems, AsksItems, AnswersItems}
+use Rattle.compile_steps.specs.Parts.{below, laid-left, laid-right, size-N, passes-N, kept-self, kept-then, kept-less, wrote-later, wrote-address, fits-rest, fits-first, movedTo, heldOn, stood-next, stood-push, need-E, need-items}
 use Rattle.compile_steps.specs.Cells.{cell-E, cell-S, length-endsE, length-endsS}
 use Rattle.compile_steps.specs.Views.{IsExpr, IsStmt}
 
@@ -147,7 +144,7 @@ module _ {known aims l part : List ℕ} {count nesting at : ℕ} {sizes : List �
           ready = rw (z, w) at y;
           pens = g .pens ∙ rw (x .is, d .wrote .penned);
           inks = g .inks ∙ rw (x .is, d .wrote .written, d .wrote .penned);
-          ends = g .ends ∙ (rw (x .is, d .ended, ← k) (sym (sets-append f (endsEs (W .globals) (x .later) (X .around) (tyE (W .globals) (X .around) (x .this) ∷ g .types) (after e (g .start))) (M .ends) place)));
+          ends = g .ends ∙ (rw (x .is, d .ended, ← k) (sym (sets-append (M .ends) place f (endsEs (W .globals) (x .later) (X .around) (tyE (W .globals) (X .around) (x .this) ∷ g .types) (after e (g .start))))));
           stack = g .stack ∙ rw (x .is);
           many = g .many ∙ rw (x .is) (omega arith);
         }
@@ -317,7 +314,7 @@ module _ {known aims l part : List ℕ} {count nesting at : ℕ} {sizes : List �
           ready = x .next (a .kept) d n m;
           pens = g .pens ∙ rw (x .codes, d .wrote .penned);
           inks = g .inks ∙ rw (x .codes, d .wrote .written, d .wrote .penned);
-          ends = g .ends ∙ (rw (x .ends, d .ended, ← k) (sym (sets-append f (endsItems (W .globals) (x .later) (X .around) (X .types) (after e (g .start))) (M .ends) place)));
+          ends = g .ends ∙ (rw (x .ends, d .ended, ← k) (sym (sets-append (M .ends) place f (endsItems (W .globals) (x .later) (X .around) (X .types) (after e (g .start))))));
         }
 
     pub items-next : ItemsSoFar known aims l part count nesting at sizes L top holds depth pen N (below rest (8 * n)) (place + n) (left - 1) q

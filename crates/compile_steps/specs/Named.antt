@@ -1,28 +1,24 @@
 -- What is known of a name in sight is what the definition's code says of it.
-use mathlib.Core.Path.{_≡_, refl, ap, sym, _∙_, subst}
-use mathlib.Core.Bool.{Bool, true, false}
-use mathlib.Core.List.{List, [], _∷_, _++_}
-use mathlib.Core.Option.{Option, none, some}
-use Prim.Native.Nat.{ℕ, zero, suc, _+_, _*_, _≤_, _<_}
+use mathlib.Core.Path.{_≡_, refl, ap, _∙_, subst}
+use mathlib.Core.Bool.{Bool}
+use mathlib.Core.List.{List}
+use Prim.Native.Nat.{ℕ, _+_, _<_}
 use native.Mathlib.Omega.{arith}
-use lib.ListN.{length, getD}
-use Rattle.words.specs.Choice.{if_then_else_}
+use lib.ListN.{getD}
 use Rattle.values.specs.Types.{Ty, reference, tyByte}
-use Rattle.bytecode.specs.Instructions.{load, store}
-use Rattle.language.specs.Tree.{Global}
-use Rattle.language.specs.Names.{Sort, isVariable, isLabel, isClass, isField, isProcedure, Scope, nowhere, found, lookup}
+use Rattle.language.specs.Names.{Sort, isVariable, isClass, isField, isProcedure, nowhere, found, lookup}
 use Rattle.language.specs.Names as names
 use Rattle.scopes.specs.declared.Found.{Found}
 use Rattle.scopes.specs.declared.Found.the-variants.{Nothing, Def}
 use Rattle.scopes.specs.Environment.{Item, find}
 use Rattle.heads.specs.Sees.{Agrees, Sees}
-use Rattle.compile_code.specs.Compile.{Around, scopesOf, cellOf, kept, loading, storing, tyIn, classNumber, bodyNumber, fieldNumber}
+use Rattle.compile_code.specs.Compile.{Around, scopesOf, cellOf, loading, storing, tyIn, classNumber, bodyNumber, fieldNumber}
 use Rattle.compile_code.specs.Encode.{rec, recordOf, ownerCode}
 use Rattle.compile_names.specs.Known.{nothing}
 use Rattle.compile_known.specs.Numbers.{packed, typeIn, firstIn, secondIn}
 use Rattle.compile_known.specs.Packed.{type-packed, first-packed, second-packed}
 use Rattle.compile_known.specs.Meaning.{meaningOf, knownOf}
-use Rattle.compile_nodes.specs.Knows.{Walk, MeansCell, MeansClass, MeansField, MeansBody, MeansLabel, Means, Known, Knows, Lands, resultOf, passedTo, targetOf}
+use Rattle.compile_nodes.specs.Knows.{Walk, Means, Known, Knows, resultOf}
 use Rattle.compile_own.specs.Owns.{ownerBy}
 
 pub record Meaning (W : Walk) (v : List Item) (Γ : List Around) (a : ℕ) (s : Sort) : Type 0 where

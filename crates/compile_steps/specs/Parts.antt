@@ -4,7 +4,6 @@ use mathlib.Core.Bool.{Bool, true, false}
 use mathlib.Core.List.{List, [], _∷_, _++_, map, reverse, reverse-cons, map-append}
 use Prim.Native.Nat.{ℕ, zero, suc, _+_, _-_, _*_, _/_, _≤_, _<_}
 use native.Mathlib.Omega.{arith}
-use native.Mathlib.Nat.{add-zero}
 use lib.ListN.{length, getD, take, drop, set, length-set, length-append}
 use lib.Seq.{sets, take-take, take-suc, take-set-le, length-sets, set-comm}
 use Rattle.values.specs.Types.{Ty, tyByte}
@@ -26,6 +25,7 @@ use Rattle.compile_code.specs.Code.{Code, nil, op, mark, cell, _▸_, At, at, s
 use Rattle.language.specs.Names.{Scope}
 use Rattle.compile_code.specs.Compile.{Around, scopesOf, heldIn, found}
 use Rattle.compile_code.specs.Encode.{rec, recordOf}
+use Rattle.compile_known.specs.Entries.{sets-append}
 use Rattle.compile_known.specs.Numbers.{numbersFrom, cellsOf, cellsWithin}
 use Rattle.compile_pen.specs.declared.Pen.{Pen}
 use Rattle.compile_pen.specs.Ink.{Fits, moved, penShaped, inkOp, inkShape}
@@ -260,10 +260,6 @@ set-past : (xs l : List ℕ) (i j v : ℕ) → i < j → set (sets l j xs) i v �
 set-past [] l i j v h = refl
 set-past (x ∷ xs) l i j v h = set-past xs (set l j x) i (suc j) v (omega arith) ∙ ap (λ (m : List ℕ). sets m (suc j) xs) (set-comm l j i x v (λ e. omega arith))
 
-pub sets-append : (xs ys l : List ℕ) (i : ℕ) → sets (sets l i xs) (i + length xs) ys ≡ sets l i (xs ++ ys)
-sets-append [] ys l i = ap (λ (k : ℕ). sets l k ys) (add-zero i)
-sets-append (x ∷ xs) ys l i = ap (λ (k : ℕ). sets (sets (set l i x) (suc i) xs) k ys) (let z : i + suc (length xs) ≡ suc i + length xs = omega arith in z) ∙ sets-append xs ys (set l i x) (suc i)
-
 -- an entry's own end is noted last
 pub ended-own : (l m n : List ℕ) (i v : ℕ) (es : List ℕ) → m ≡ sets l (i + 1) es → n ≡ set m i v → n ≡ sets l i (v ∷ es)
 ended-own l m n i v es h k =
@@ -271,7 +267,7 @@ ended-own l m n i v es h k =
     k ∙ (ap (λ (x : List ℕ). set x i v) h ∙ (set-past es l i (i + 1) v (omega arith) ∙ ap (λ (j : ℕ). sets (set l i v) j es) z))
 
 pub ended-then : (l m n : List ℕ) (i j : ℕ) (es fs : List ℕ) → m ≡ sets l i es → n ≡ sets m j fs → j ≡ i + length es → n ≡ sets l i (es ++ fs)
-ended-then l m n i j es fs h k e = k ∙ (rw (h, e) (sets-append es fs l i))
+ended-then l m n i j es fs h k e = k ∙ (rw (h, e) (sets-append l i es fs))
 
 -- ── what every walker is asked with ──
 pub record Asked (part : List ℕ) (nesting at : ℕ) (L : Lent) (top holds depth : ℕ) (pen : Pen) : Type 0 where

@@ -1,34 +1,31 @@
 -- A case: what its walker asks of its index and of its statements, and that it has done its code when they have done theirs.
 use mathlib.Core.Path.{_≡_, refl, ap, sym, _∙_}
-use mathlib.Core.Bool.{Bool, true, false}
-use mathlib.Core.List.{List, [], _∷_, _++_}
-use Prim.Native.Nat.{ℕ, zero, suc, _+_, _-_, _*_, _≤_, _<_}
+use mathlib.Core.Bool.{false}
+use mathlib.Core.List.{List, _∷_, _++_}
+use Prim.Native.Nat.{ℕ, suc, _+_, _-_, _*_, _≤_, _<_}
 use native.Mathlib.Omega.{arith}
-use native.Mathlib.Numerals.{add-one}
 use lib.IntN.{pos}
 use lib.ListN.{length, getD, set, take, length-set, length-append}
-use lib.Seq.{sets}
 use Rattle.words.specs.Numbers.{halfAt}
 use Rattle.values.specs.Types.{Ty, integer}
-use Rattle.bytecode.specs.Instructions.{Instr, own, store, stop}
-use Rattle.language.specs.Tree.{Stmt, Expr, Arms, lastArm, arm, select, countArms, Global}
-use Rattle.language.specs.Table.{Entry, entry, flatS, flatE, flatArms, deepS}
+use Rattle.bytecode.specs.Instructions.{own, store, stop}
+use Rattle.language.specs.Tree.{Expr, Arms, lastArm, arm, select, countArms, Global}
+use Rattle.language.specs.Table.{entry, flatS, flatE, flatArms, deepS}
 use Rattle.language.specs.Limits.{holdsS, needS}
 use Rattle.shapes.specs.Steps.{head-of, table-next, Passes}
-use Rattle.shapes.specs.Walk.{Table}
 use Rattle.compile_simulation.specs.Sizes.{lenArms}
 use Rattle.compile_code.specs.Code.{Code, op, mark, cell, _▸_, At, at, skip, taken, after}
-use Rattle.compile_code.specs.Compile.{Around, scopesOf, passing, found, codeS, codeE, codeArms, opsArms, classesOf, classNames}
+use Rattle.compile_code.specs.Compile.{Around, scopesOf, passing, found, codeS, codeE, codeArms, opsArms}
 use Rattle.compile_code.specs.Encode.{rec, recordOf}
-use Rattle.compile_known.specs.Numbers.{numbersFrom, numberOf, cellsWithin, secondIn, packed}
+use Rattle.compile_known.specs.Numbers.{numbersFrom, cellsWithin, secondIn, packed}
 use Rattle.compile_known.specs.Packed.{second-packed}
 use Rattle.compile_names.specs.Good.{goodS}
 use Rattle.compile_pen.specs.declared.Pen.{Pen}
 use Rattle.compile_pen.specs.Ink.{Fits, moved, penShaped, inkOp, inkShape}
 use Rattle.compile_pen.specs.Folds.{penAfter, inked}
-use Rattle.compile_nodes.specs.Ends.{belowS, belowE, endsS, endsE, endsArms}
+use Rattle.compile_nodes.specs.Ends.{belowS, endsE, endsArms}
 use Rattle.compile_nodes.specs.Knows.{Walk}
-use Rattle.compile_nodes.specs.Ready.{Node, stmt, expr, codeN, endsN, flatN, Place, Lent, Stood, Kept, Wrote, Ready, Done, Asks, Answers, codeCases, ReadyArms, DoneArms, Owner, AsksArms, AnswersArms}
+use Rattle.compile_nodes.specs.Ready.{stmt, expr, Place, Lent, Stood, Kept, Wrote, Ready, Done, Asks, Answers, codeCases, ReadyArms, DoneArms, Owner, AsksArms, AnswersArms}
 use Rattle.compile_sight.specs.Lies.{lies-here}
 use Rattle.compile_steps.specs.Parts.{lent, below, movedTo, size-N, passes-N, flat-one, laid-aim, kept-then, kept-out, kept-ends, wrote-then, wrote-op, wrote-cell, wrote-address, wrote-length, fits-first}
 use Rattle.compile_steps.specs.Views.{IsExpr, IsKind, Select, select-of}
@@ -97,13 +94,6 @@ module _ {e : Expr} {r : Arms} {W : Walk} {X : Place} {l part : List ℕ} {nesti
   unfolding deepS goodS holdsS needS
   select-first =
       rest-ready (expr e) (table-next (h .table) 8 1 refl) (omega (arith, h .deep)) (h .good .0) tt (omega (arith, h .few-holds)) (omega (arith, h .few-values)) (rest-left (flatE e) (flatArms r) _ _ below-all)
-
-  pub select-long : 8 ≤ length part
-  select-long = let d = head-of _ _ (h .table) (in-all .laid .stands) in omega (arith, d .long, d .within)
-
-  pub select-nests : 1 ≤ nesting
-  unfolding deepS
-  select-nests = omega (arith, h .deep)
 
   few : holds ≤ 16
   few = omega (arith, h .few-holds)
@@ -231,9 +221,6 @@ module _ {known aims l part : List ℕ} {nesting at : ℕ} {sizes : List ℕ} {L
 
   ready : Ready (stmt (select (v .e) (v .r))) (a .walk) (a .place) l part nesting at sizes L top holds depth pen
   ready = ready-as (v .same) (a .ready)
-
-  pub asks-select-long : (8 ≤ length part) × (1 ≤ nesting)
-  asks-select-long = (select-long ready, select-nests ready)
 
   pub asks-select-first : Asks IsExpr known aims l (below part 8) (nesting - 1) (at + 1) sizes L top holds depth pen
   asks-select-first = record { node = expr (v .e); walk = a .walk; place = _; such = tt; same-known = a .same-known; same-aims = a .same-aims; ready = select-first ready }

@@ -1,36 +1,30 @@
 -- What is left of an entry while its parts are walked one after the other: their entries, where they end, their code.
 use mathlib.Core.Path.{_≡_, refl, ap, sym, _∙_}
-use mathlib.Core.Bool.{Bool, true, false}
-use mathlib.Core.List.{List, [], _∷_, _++_}
-use Prim.Native.Nat.{ℕ, zero, suc, _+_, _-_, _*_, _≤_, _<_}
+use mathlib.Core.List.{List, _∷_, _++_}
+use Prim.Native.Nat.{ℕ, _+_, _-_, _*_, _≤_, _<_}
 use native.Mathlib.Omega.{arith}
-use native.Mathlib.Nat.{add-zero}
-use native.Mathlib.Numerals.{add-one}
-use lib.ListN.{length, getD, set, take, drop, length-append, length-set, length-drop}
-use lib.Seq.{sets, set-comm, take-all}
-use Rattle.values.specs.Types.{Ty, tyByte}
-use Rattle.bytecode.specs.Macro.{Shape}
+use lib.ListN.{length, getD, set, take, length-append}
+use lib.Seq.{sets, length-sets}
+use Rattle.values.specs.Types.{tyByte}
 use Rattle.bytecode.specs.Instructions.{Instr}
-use Rattle.language.specs.Tree.{Stmt, Expr}
-use Rattle.language.specs.Table.{Entry, flatS, flatE}
+use Rattle.language.specs.Tree.{Expr}
+use Rattle.language.specs.Table.{Entry, flatE}
 use Rattle.heads.specs.Trees.{length-S, length-E}
 use Rattle.scopes.specs.Environment.{envOf}
-use Rattle.spans.specs.Stands.{Stands, stands-right}
 use Rattle.shapes.specs.Walk.{Table}
 use Rattle.shapes.specs.Steps.{table-next}
-use Rattle.compile_code.specs.Code.{Code, nil, op, mark, cell, _▸_, At, at, skip, after}
+use Rattle.compile_code.specs.Code.{Code, op, mark, cell, _▸_, At, at, after}
 use Rattle.compile_code.specs.Compile.{Around, scopesOf, found, codeE, tyE}
-use Rattle.compile_code.specs.Encode.{rec, recordOf}
 use Rattle.compile_known.specs.Numbers.{cellsOf, cellsWithin}
 use Rattle.compile_pen.specs.declared.Pen.{Pen}
-use Rattle.compile_pen.specs.Ink.{Fits, moved, penShaped, inkOp, inkShape}
-use Rattle.compile_pen.specs.Folds.{penAfter, inked, Stacked, pen-mark, pen-op, later-self}
-use Rattle.compile_nodes.specs.Ends.{belowE, endsE}
+use Rattle.compile_pen.specs.Ink.{Fits, moved, penShaped, inkShape}
+use Rattle.compile_pen.specs.Folds.{penAfter, pen-mark, pen-op, later-self}
+use Rattle.compile_nodes.specs.Ends.{endsE}
 use Rattle.compile_nodes.specs.Knows.{Walk, Lands}
-use Rattle.compile_nodes.specs.Ready.{Node, stmt, expr, name, flatN, roomN, deepN, holdsN, needN, goodN, codeN, endsN, Place, Lent, Laid, Stood, Kept, Wrote, LandsN, Ready, Done}
+use Rattle.compile_nodes.specs.Ready.{Node, stmt, expr, name, flatN, deepN, holdsN, needN, goodN, codeN, endsN, Place, Lent, Laid, Stood, Kept, Wrote, LandsN, Ready, Done}
 use Rattle.compile_sight.specs.Lengths.{length-below, length-belowE}
 use Rattle.compile_steps.specs.Cells.{cell-S, cell-E}
-use Rattle.compile_steps.specs.Parts.{lent, movedTo, heldOn, below, laid-tail, laid-left, laid-right, laid-at, laid-aim, room-N, stood-next, stood-push, stood-shape, wrote-length, wrote-later, wrote-address, wrote-op, wrote-mark, fits-first, fits-rest, kept-out, kept-self}
+use Rattle.compile_steps.specs.Parts.{movedTo, heldOn, below, laid-tail, laid-left, laid-right, laid-at, room-N, stood-next, stood-push, stood-shape, wrote-later, wrote-length, wrote-address, wrote-mark, fits-first, fits-rest, ended-then, ended-own}
 
 pub record Rest (W : Walk) (X : Place) (l : List ℕ) (at : ℕ) (L : Lent) (top holds depth : ℕ) (pen : Pen) (us : List Entry) (es : List ℕ) (x : Code) : Type 0 where
   pub laid : Laid W l at (X .start) us es
@@ -40,18 +34,6 @@ pub record Rest (W : Walk) (X : Place) (l : List ℕ) (at : ℕ) (L : Lent) (top
   pub fits : Fits (penAfter x pen) (length (L .out))
 
 -- ── ends ──
-pub sets-append : (l : List ℕ) (i : ℕ) (us vs : List ℕ) → sets l i (us ++ vs) ≡ sets (sets l i us) (i + length us) vs
-sets-append l i [] vs = ap (λ (k : ℕ). sets l k vs) (sym (add-zero i))
-sets-append l i (u ∷ us) vs =
-    let z : suc i + length us ≡ i + suc (length us) = omega arith in
-    sets-append (set l i u) (suc i) us vs ∙ ap (λ (k : ℕ). sets (sets (set l i u) (suc i) us) k vs) z
-
--- an entry's own end is set last
-pub set-sets : (l : List ℕ) (i j v : ℕ) (us : List ℕ) → i < j → set (sets l j us) i v ≡ sets (set l i v) j us
-set-sets l i j v [] h = refl
-set-sets l i j v (u ∷ us) h =
-    set-sets (set l j u) i (suc j) v us (omega arith) ∙ ap (λ (k : List ℕ). sets k (suc j) us) (set-comm l j i u v (λ e. absurd (omega (arith, e))))
-
 pub cell-N : (n : Node) (W : Walk) (X : Place) → after (codeN (W .globals) n (X .around) (X .types) (X .start)) (X .start) .cell ≡ X .start .cell + cellsWithin (flatN n)
 unfolding after cellsWithin
 cell-N (stmt s) W X = cell-S (W .globals) s (X .around) (X .types) (X .start)
@@ -65,10 +47,10 @@ ends-N (name a) W X = refl
 
 -- parts one after the other, and the entry's own end after them
 pub ends-then : (a : List ℕ) {b c : List ℕ} (i n : ℕ) (es fs : List ℕ) → n ≡ length es → b ≡ sets a i es → c ≡ sets b (i + n) fs → c ≡ sets a i (es ++ fs)
-ends-then a i n es fs e h k = k ∙ (rw (h, e) refl ∙ sym (sets-append a i es fs))
+ends-then a {b} {c} i n es fs e h k = ended-then a b c i (i + n) es fs h k (ap (λ (m : ℕ). i + m) e)
 
 pub ends-own : (a : List ℕ) {b c : List ℕ} (i v e : ℕ) (es : List ℕ) → b ≡ sets a (i + 1) es → c ≡ set b i v → v ≡ e → c ≡ sets a i (e ∷ es)
-ends-own a i v e es h k s = k ∙ (rw (h, s) (set-sets a i (i + 1) e es (omega arith)) ∙ ap (λ (j : ℕ). sets (set a i e) j es) (add-one i))
+ends-own a {b} {c} i v e es h k s = ended-own a b c i v es h k ∙ ap (λ (u : ℕ). sets a i (u ∷ es)) s
 
 -- the part of a table at a later place
 pub table-from : {l part sizes : List ℕ} {at : ℕ} (place : ℕ) → at ≤ place → Table l part sizes at → Table l (below part (8 * (place - at))) sizes place
@@ -223,15 +205,9 @@ done-as e h = rw e h
 pub aim-as : {us vs : List ℕ} {b : ℕ} (i : ℕ) → vs ≡ us → b ≡ getD us i 0 → b ≡ getD vs i 0
 aim-as i e h = rw e h
 
-pub stands-after : {l : List Entry} {p : ℕ} (us vs : List Entry) (n : ℕ) → n ≡ length us → Stands l p (us ++ vs) → Stands l (p + n) vs
-stands-after us vs n e h = rw e (stands-right us vs h)
-
--- ── slices: a later part begins within the part ──
-pub length-from : (part : List ℕ) (k : ℕ) → length (below part k) ≡ length part - k
-length-from part k = ap (length {A = ℕ}) (take-all (length part - k) (drop k part) (omega (arith, length-drop k part))) ∙ length-drop k part
-
-pub from-second : (part : List ℕ) (at n : ℕ) → 8 ≤ length part → 8 * n ≤ length (below part 8) → 8 * (at + 1 + n - at) ≤ length part
-from-second part at n h k = omega (arith, length-from part 8)
-
-pub from-third : (part : List ℕ) (at n m : ℕ) → 8 * (at + 1 + n - at) ≤ length part → 8 * m ≤ length (below part (8 * (at + 1 + n - at))) → 8 * (at + 1 + n + m - at) ≤ length part
-from-third part at n m h k = omega (arith, length-from part (8 * (at + 1 + n - at)))
+-- what is kept where it is done: the names and the stack are what is left to say
+pub kept-done : {n : Node} {W : Walk} {X : Place} {at : ℕ} {L M : Lent} {depth : ℕ} {pen r : Pen} (top d : ℕ) → Done n W X at L M depth pen r
+    → envOf (M .env) top ≡ envOf (L .env) top → length (M .env) ≡ length (L .env) → take d (M .stack) ≡ take d (L .stack) → length (M .stack) ≡ length (L .stack) → Kept L M top d
+kept-done {n} {W} {X} {at} {L} top d h e f g k =
+    let all = endsN (W .globals) n (X .around) (X .types) (X .start) in
+    record { env = e; same-env = f; same-ends = ap (length {A = ℕ}) (h .ended) ∙ length-sets (L .ends) at all; stack = g; same-stack = k; same-out = wrote-length (h .wrote) }

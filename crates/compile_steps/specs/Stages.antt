@@ -1,26 +1,22 @@
 -- A walk through the code of one entry, stage by stage: what is done, what is left, and that what is lent agrees with the place reached.
 use mathlib.Core.Path.{_≡_, refl, ap, sym, _∙_}
-use mathlib.Core.Bool.{Bool, true, false}
+use mathlib.Core.Bool.{false}
 use mathlib.Core.List.{List, [], _∷_, _++_}
-use Prim.Native.Nat.{ℕ, zero, suc, _+_, _-_, _*_, _≤_, _<_}
+use Prim.Native.Nat.{ℕ, _+_, _≤_, _<_}
 use native.Mathlib.Omega.{arith}
-use lib.ListN.{length, getD, take, set, length-set, length-append}
+use lib.ListN.{length, getD, take, set}
 use lib.Seq.{sets}
 use Rattle.values.specs.Types.{Ty, tyByte}
-use Rattle.bytecode.specs.Macro.{Shape}
 use Rattle.bytecode.specs.Instructions.{Instr}
-use Rattle.language.specs.Table.{Entry}
-use Rattle.language.specs.Tree.{Expr}
-use Rattle.compile_code.specs.Code.{Code, nil, op, mark, cell, _▸_, At, at, skip, after, taken}
-use Rattle.compile_code.specs.Compile.{found, codeE, tyE}
+use Rattle.compile_code.specs.Code.{Code, nil, op, mark, _▸_, at, skip, after}
+use Rattle.compile_code.specs.Compile.{found}
 use Rattle.compile_code.specs.Encode.{rec, recordOf}
 use Rattle.compile_pen.specs.declared.Pen.{Pen}
 use Rattle.compile_pen.specs.Ink.{Fits, moved, penShaped, inkOp, inkShape}
-use Rattle.compile_pen.specs.Folds.{penAfter, inked, Later, later-self, later-trans, address-after}
+use Rattle.compile_pen.specs.Folds.{penAfter, inked, later-self, address-after}
 use Rattle.compile_nodes.specs.Knows.{Walk}
-use Rattle.compile_nodes.specs.Ends.{endsE}
-use Rattle.compile_nodes.specs.Ready.{Node, stmt, expr, flatN, codeN, endsN, LeavesN, Place, Lent, Stood, Kept, Wrote, Ready, Done}
-use Rattle.compile_steps.specs.Parts.{lent, kept-self, kept-then, kept-less, kept-out, wrote-nil, wrote-cell, wrote-then, wrote-op, wrote-mark, wrote-length, wrote-later, wrote-address, fits-rest, fits-first, movedTo, heldOn, stood-next, stood-push, stood-shape, ended-own, ended-then}
+use Rattle.compile_nodes.specs.Ready.{Node, codeN, endsN, LeavesN, Place, Lent, Stood, Kept, Wrote, Done}
+use Rattle.compile_steps.specs.Parts.{lent, kept-self, kept-then, kept-less, kept-out, wrote-nil, wrote-then, wrote-op, wrote-mark, wrote-length, wrote-later, wrote-address, fits-rest, fits-first, movedTo, heldOn, stood-next, stood-push, stood-shape, ended-own, ended-then}
 
 -- from what was lent at first (L, with the pen) to what is now (M, with the pen p): the place reached is Y, with d values on the stack
 pub record Stage (W : Walk) (l : List ℕ) (L : Lent) (top holds depth : ℕ) (pen : Pen) (at : ℕ) (M : Lent) (Y : Place) (d : ℕ) (p : Pen) (before left : Code) (es : List ℕ) : Type 0 where
@@ -81,20 +77,6 @@ module _ {W : Walk} {l : List ℕ} {L : Lent} {top holds depth : ℕ} {pen : Pen
           fits = fits-rest (mark (found (Y .around) (Y .types))) left w (h .fits);
           ended = h .ended;
         }
-
-  -- a new cell
-  pub stage-cell : (t : Ty) (left : Code) → Stage W l L top holds depth pen at M Y d p before (cell t ▸ left) es
-      → Stage W l L top holds depth pen at M (movedTo Y (taken (Y .start))) d p (before ▸ cell t) left es
-  stage-cell t left h =
-      let w = wrote-cell t (M .out) p in
-      record {
-        kept = h .kept;
-        more = h .more;
-        stood = stood-next (h .stood) (kept-self M) (wrote-later w) (taken (Y .start)) (h .stood .address);
-        wrote = wrote-then (h .wrote) w;
-        fits = fits-rest (cell t) left w (h .fits);
-        ended = h .ended;
-      }
 
   -- a part that was walked
   module _ (x left : Code) (fs : List ℕ) (h : Stage W l L top holds depth pen at M Y d p before (x ▸ left) es) {N : Lent} {q : Pen} (place : ℕ) (k : Kept M N top d)

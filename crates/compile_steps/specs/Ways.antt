@@ -1,34 +1,33 @@
 -- Binary operators: how the second operand follows the first, the code between and behind them, the type of the result.
-use mathlib.Core.Path.{_≡_, refl, ap, sym, _∙_}
-use mathlib.Core.Bool.{Bool, true, false}
+use mathlib.Core.Path.{_≡_, refl, ap, sym}
+use mathlib.Core.Bool.{true, false}
 use mathlib.Core.List.{List, [], _∷_, _++_}
 use mathlib.Core.Option.{Option, none, some}
-use Prim.Native.Nat.{ℕ, zero, suc, _+_, _%_, _≤_, _<_}
+use Prim.Native.Nat.{ℕ, suc, _+_, _%_, _<_}
 use native.Mathlib.Omega.{arith}
 use native.Mathlib.Nat.{add-zero}
 use lib.Dec.{eqb}
-use lib.ListN.{length, getD, take, set}
+use lib.ListN.{length, getD, set}
 use lib.Seq.{sets}
 use borrow.Author.Tests.{ne-eqb}
-use Rattle.words.specs.Choice.{if_then_else_}
 use Rattle.values.specs.Types.{Ty, integer, logical, bits, reference, tyByte}
 use Rattle.values.specs.Values.{log}
-use Rattle.values.specs.Operators.{unary, binary, binaryCode, unaryCode, Unary, negate, absolute, complement, Binary, plus, minus, times, divide, remainder, less, atMost, greater, atLeast, equal, unequal, both, either, shiftLeft, shiftRight, takes, orElse, logicalOrBits, opType}
+use Rattle.values.specs.Operators.{binary, binaryCode, Binary, plus, minus, times, divide, remainder, less, atMost, greater, atLeast, equal, unequal, both, either, shiftLeft, shiftRight, takes, orElse, logicalOrBits, opType}
 use Rattle.bytecode.specs.Instructions.{push, operate, go, goUnless}
-use Rattle.language.specs.Tree.{Expr, Global}
+use Rattle.language.specs.Tree.{Global}
 use Rattle.language.specs.Faults.{isTy}
-use Rattle.compile_code.specs.Code.{Code, nil, op, mark, _▸_, At, skip, after}
+use Rattle.compile_code.specs.Code.{Code, nil, op, mark, _▸_, At, after}
 use Rattle.compile_code.specs.Compile.{Around, found, Way, plainly, marked, ifTrue, ifFalse, wayOf, codeWay, tyIn}
 use Rattle.compile_code.specs.Encode.{rec, recordOf}
 use Rattle.compile_names.specs.Types.{took}
 use Rattle.compile_pen.specs.declared.Pen.{Pen}
-use Rattle.compile_pen.specs.Ink.{Fits, moved, penShaped, inkOp, inkShape}
+use Rattle.compile_pen.specs.Ink.{moved, penShaped}
 use Rattle.compile_pen.specs.Folds.{penAfter, inked}
 use Rattle.compile_nodes.specs.Knows.{Walk}
 use Rattle.compile_nodes.specs.Ends.{seconds, begins}
 use Rattle.compile_nodes.specs.Ready.{Place, Lent, Kept, Wrote}
-use Rattle.compile_own.specs.Owns.{wayBy, waitingBy, pairType, lastType, penBetween, inkBetween, penBehind, inkBehind}
-use Rattle.compile_steps.specs.Parts.{lent, movedTo, heldOn, kept-then, kept-stack}
+use Rattle.compile_own.specs.Owns.{wayBy, waitingBy, pairType, penBetween, inkBetween, penBehind, inkBehind}
+use Rattle.compile_steps.specs.Parts.{lent, kept-then, kept-stack}
 use Rattle.compile_steps.specs.Stages.{Stage, stage-op, stage-mark, stage-part, stage-push, stage-as, stage-hold, Finished, finished}
 
 abbrev pub wayNumber : Way → ℕ

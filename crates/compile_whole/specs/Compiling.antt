@@ -233,10 +233,6 @@ module _ {l : List ℕ} {count behind classes bodies : ℕ} {sizes env : List �
     unfolding macroOf
     dry-length {f} h = omega (arith, h, front-length (compiled (theTree l)), macro-length (compiled (theTree l)), dry-address, dry-sh)
 
-    -- an output that is not shorter than what was counted
-    pub dry-fits : {f n : ℕ} → f ≡ length (front (compiled (theTree l))) → f + 8 * r .address + r .sh + 2 ≤ n → length (macroOf (theTree l)) ≤ n
-    dry-fits h k = omega (arith, dry-length h)
-
     dry-aims : Aims (theTree l) (M .ends)
     dry-aims = rw (y .ended) (ends-laws.aims (theTree l) aims (omega (arith, items-fit (q .stage), q .wide-aims)))
 

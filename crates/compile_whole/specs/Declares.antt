@@ -38,7 +38,8 @@ use Rattle.compile_own.specs.Owns.{inkInitial, penDeclared, inkDeclared}
 use Rattle.compile_sight.specs.Means.{byte-small, length-class-names}
 use Rattle.compile_sight.specs.Heads.{number-typed}
 use Rattle.compile_sight.specs.Roots.{length-classes}
-use Rattle.compile_whole.specs.Heads.{headOps, rootHead}
+use Rattle.compile_sight.specs.HeadOps.{headOps}
+use Rattle.compile_whole.specs.Heads.{rootHead}
 use Rattle.compile_whole.specs.Numbers.{cellsGlobal, cells-next, classesBy, itemsBy, Numbers, numbers-next, numbers-local, numbers-all}
 use Rattle.compile_whole.specs.Stage.{Prepared}
 

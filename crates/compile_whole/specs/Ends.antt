@@ -147,8 +147,3 @@ module _ (t : Tree) where
         of-items = lies-behind y (itemsEnds t) (omega arith) (lies-behind (apart-set s 0 (rootEnd t)) (itemsEnds t) (omega arith) (lies-sets l (afterHead t) (itemsEnds t) (omega arith)));
         of-procs = procs-aims (t .head) 1 (rootEnd t) e (omega arith);
       }
-
-  pub length-ended : (l : List ℕ) → length (ended t l) ≡ length l
-  length-ended l =
-      procs-apart (t .head) 1 (rootEnd t) (endedRoot t l) .same-length
-      ∙ (length-set (sets l (afterHead t) (itemsEnds t)) 0 (rootEnd t) ∙ length-sets l (afterHead t) (itemsEnds t))

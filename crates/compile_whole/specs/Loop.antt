@@ -18,7 +18,7 @@ use Rattle.spans.specs.Stands.{Stands}
 use Rattle.heads.specs.Trees.{length-Global}
 use Rattle.shapes.specs.Walk.{Table}
 use Rattle.shapes.specs.Steps.{head-of, below}
-use Rattle.compile_code.specs.Code.{Code, at, after}
+use Rattle.compile_code.specs.Code.{at}
 use Rattle.compile_code.specs.Compile.{procsOf}
 use Rattle.compile_code.specs.Encode.{codeProc, procParts}
 use Rattle.compile_order.specs.Limited.{keeps}
@@ -26,7 +26,7 @@ use Rattle.compile_names.specs.Good.{split}
 use Rattle.compile_names.specs.Globals.{goodGlobals, good-tree}
 use Rattle.compile_pen.specs.declared.Pen.{Pen}
 use Rattle.compile_pen.specs.Ink.{Fits}
-use Rattle.compile_pen.specs.Folds.{penAfter, inked, grows, address-after, length-inked}
+use Rattle.compile_pen.specs.Folds.{penAfter, grows, address-after}
 use Rattle.compile_bytes.specs.Bytes.{penAll, inkedAll, codesOf}
 use Rattle.compile_bytes.specs.Room.{fits-first}
 use Rattle.compile_nodes.specs.Ready.{Lent, Kept}
@@ -266,11 +266,6 @@ module _ (l : List ℕ) (place : ℕ) (L M : Lent) (p q : Pen) (gs : List Global
   ends-next (local d) e = rw (e .0, e .2)
   ends-next (class c xs) e = rw (e .0, e .2)
   ends-next (procedure a xs b) e = rw (done-address l place L M p q a xs b e, e .ended)
-
-length-ink-all : (xs : List Code) (p : Pen) (l : List ℕ) → length (inkedAll xs p l) ≡ length l
-unfolding inkedAll
-length-ink-all [] p l = refl
-length-ink-all (x ∷ xs) p l = length-ink-all xs (penAfter x p) (inked x p l) ∙ length-inked x p l
 
 record NextProc (l sizes known aims : List ℕ) (top : ℕ) (old : Lent) (pen : Pen) (new : Lent) (place left : ℕ) (p : Pen) : Type 0 where
   pub this : Global

@@ -6,11 +6,9 @@ use native.Mathlib.Omega.{arith}
 use lib.ListN.{length, set, length-set}
 use lib.Seq.{sets}
 use Rattle.words.specs.Numbers.{wordAt}
-use Rattle.language.specs.Tree.{Typed, Stmt, Expr, Body, proper, function, procedure, Tree}
+use Rattle.language.specs.Tree.{Typed, Stmt, Expr, Body, proper, function, Tree}
 use Rattle.language.specs.Table.{resultCode}
-use Rattle.scopes.specs.Environment.{item, envOf, addAll, Grown}
-use Rattle.scopes.specs.Laws.{stored, grown-push, fewer}
-use Rattle.heads.specs.Items.{itemsAt, grown-marked}
+use Rattle.scopes.specs.Laws.{fewer}
 use Rattle.shapes.specs.Steps.{below}
 use Rattle.operands.specs.Types.{code-some}
 use Rattle.roots.specs.Procedures.{Walled}
@@ -160,12 +158,6 @@ module _ {l part : List ℕ} {place : ℕ} {sizes env : List ℕ} {top : ℕ} {k
           room = omega (arith, r .stage .room, h .within, h .many);
           ending = omega (arith, r .ending, h .within);
         }
-
-    -- its parameters, pushed behind a wall
-    pub proc-walled : {mid new : List ℕ} {up : ℕ} → mid ≡ stored env top 65537 0 0 0
-        → Grown (top + 1) mid new up (addAll (itemsAt 4 l (place + 1) (heading / 256)) (envOf mid (top + 1))) (length (itemsAt 4 l (place + 1) (heading / 256))) → Walled l place (heading / 256) top env new up
-    proc-walled {mid} e g =
-        grown-marked (item 65537 0 0 0) (itemsAt 4 l (place + 1) (heading / 256)) (grown-push env mid top 65537 0 0 0 (omega (arith, proc-asks .room)) e) g
 
     -- P is what the walker of the body takes
     module _ {mid : List ℕ} {up : ℕ} (w : Walled l place (heading / 256) top env mid up) (P : Node → Type 0) where

@@ -43,7 +43,8 @@ use Rattle.compile_sight.specs.Heads.{Anything, around-root, around-shared, sco
 use Rattle.compile_sight.specs.Roots.{length-classes, root-items-stand}
 use Rattle.compile_sight.specs.Sight.{afterHead, rootSight, startOfItems, aroundRoot, aroundProcedures, Rooted, sees-in-root, sees-in-procedures, knows-in-root, knows-in-procedures, lands-in-root, procedureSight, sees-in-procedure, knows-in-procedure, lands-in-procedure}
 use Rattle.compile_sight.specs.Cells.{within-items, within-S, within-E}
-use Rattle.compile_whole.specs.Heads.{head-held, head-cells, rootItems}
+use Rattle.compile_sight.specs.HeadOps.{head-held, head-cells, holds-open}
+use Rattle.compile_whole.specs.Heads.{rootItems}
 use Rattle.compile_whole.specs.Numbers.{classesBy, numbers-items, numbers-body}
 use Rattle.compile_whole.specs.Ends.{itemsEnds, procOf, procEnds}
 
@@ -88,7 +89,7 @@ global-held a n Γ = refl
 
 root-held : (t : Tree) → length (heldIn (aroundRoot t)) ≡ headHolds (locals (t .head))
 unfolding heldIn
-root-held t = omega (arith, head-held (t .head) (global own) global-held (locals (t .head)) (startOfRoot t) (at 0 0))
+root-held t = omega (arith, head-held (global own) global-held (locals (t .head)) (startOfRoot t) (at 0 0), holds-open (locals (t .head)))
 
 module _ {t : Tree} {l sizes env : List ℕ} {top : ℕ} {known : List ℕ} (s : Stage t l sizes env top known)
     (aims ends stack out : List ℕ) (pen : Pen) where
@@ -100,7 +101,7 @@ module _ {t : Tree} {l sizes env : List ℕ} {top : ℕ} {known : List ℕ} (s :
   unfolding nesting
   ready-items part after a e aimed ending stacked address outer fits =
       let k = root-keeps t (s .prepared .limited) in
-      let n : startOfItems t .cell ≡ headCells (locals (t .head)) = head-cells (t .head) (locals (t .head)) (at 0 0) ∙ omega arith in
+      let n : startOfItems t .cell ≡ headCells (locals (t .head)) = head-cells (locals (t .head)) (at 0 0) ∙ omega arith in
       let r = rooted s aims pen in
       record {
         table = record { whole = e; legible = s .prepared .tabled .legible; known = s .prepared .tabled .known };

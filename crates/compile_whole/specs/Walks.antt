@@ -26,7 +26,8 @@ use Rattle.compile_nodes.specs.Knows.{Lies}
 use Rattle.compile_nodes.specs.Ready.{Lent, Kept, ReadyItems, DoneItems, AsksItems, AnswersItems}
 use Rattle.compile_known.specs.Tabled.{theTree, Headed}
 use Rattle.compile_sight.specs.Sight.{afterHead, startOfItems, aroundRoot}
-use Rattle.compile_whole.specs.Heads.{rootHead, rootItems, rootLets, root-pen, root-inked, head-address}
+use Rattle.compile_sight.specs.HeadOps.{head-address}
+use Rattle.compile_whole.specs.Heads.{rootHead, rootItems, rootLets, root-pen, root-inked}
 use Rattle.compile_whole.specs.Ends.{itemsEnds, rootEnd, endedRoot, endedProcs, ended, Aims}
 use Rattle.compile_whole.specs.Stage.{Stage, walkOf, lentOf, items-fit, ready-items}
 use Rattle.compile_whole.specs.Loop.{AsksProcs, AnswersProcs, kept-then, penProcs, inkProcs}

@@ -46,13 +46,15 @@ choose-meets t = choose-lts.spec (expression-below t, expression.Post, size-at-r
     omega (arith, asks-choose-passes (c2 .pre .1) (c .size-at .result) (c .size-at .ensures) .small))
     -- size-at-requires-2
     (λ c κs.
-    let c2 = c .before .before .before .before .before .before .before .before .before .before .before .before .before .before .before .before .before .before .before .before .before .before .before .before in
-    asks-choose-passes₂ (c2 .pre .1) (c .size-at .result) (c .size-at .ensures) _ refl .known)
+    let c2 = c .before .before .before .before .before .before .before .before .before in
+    let c3 = c2 .before .before .before .before .before .before .before .before .before .before .before .before .before .before .before in
+    asks-choose-passes₂ (c3 .pre .1) (c .size-at .result) (c .size-at .ensures) _ refl (c2 .expression .ensures) .known)
     -- add-third
     (λ c.
     let c2 = c .before in
-    let c3 = c2 .before .before .before .before .before .before .before .before .before .before .before .before .before .before .before .before .before .before .before .before .before .before .before .before in
-    omega (arith, asks-choose-passes₂ (c3 .pre .1) (c2 .size-at .result) (c2 .size-at .ensures) (c .size-at2 .result) (c .size-at2 .ensures) .small))
+    let c3 = c2 .before .before .before .before .before .before .before .before .before in
+    let c4 = c3 .before .before .before .before .before .before .before .before .before .before .before .before .before .before .before in
+    omega (arith, asks-choose-passes₂ (c4 .pre .1) (c2 .size-at .result) (c2 .size-at .ensures) (c .size-at2 .result) (c .size-at2 .ensures) (c3 .expression .ensures) .small))
     -- end-of-requires
     (λ c κs. search needs)
     -- add-emit
@@ -128,24 +130,27 @@ choose-meets t = choose-lts.spec (expression-below t, expression.Post, size-at-r
     (λ c.
     let c1 = c .before .before .before .before .before .before .before .before .before .before .before .before .before .before .before .before .before .before .before .before .before .before .before .before .before .before .before .before .before in
     let c2 = c1 .before in
-    let c3 = c2 .before .before .before .before .before .before .before .before .before .before .before .before .before .before .before .before .before .before .before .before .before .before .before .before in
-    omega (arith, asks-choose-passes₂ (c3 .pre .1) (c2 .size-at .result) (c2 .size-at .ensures) (c1 .size-at2 .result) (c1 .size-at2 .ensures) .small))
+    let c3 = c2 .before .before .before .before .before .before .before .before .before in
+    let c4 = c3 .before .before .before .before .before .before .before .before .before .before .before .before .before .before .before in
+    omega (arith, asks-choose-passes₂ (c4 .pre .1) (c2 .size-at .result) (c2 .size-at .ensures) (c1 .size-at2 .result) (c1 .size-at2 .ensures) (c3 .expression .ensures) .small))
     -- sub-statement-3
     (λ c.
     let c1 = c .before .before .before .before .before .before .before .before .before .before .before .before .before .before .before .before .before .before .before .before .before .before .before .before .before .before .before .before .before in
     let c2 = c1 .before in
-    let c3 = c2 .before .before .before .before .before .before .before .before .before .before .before .before .before .before .before .before .before .before .before .before .before .before .before .before in
-    third-within (c3 .args .part .now) (c3 .args .at) ((c3 .args .at) + 1 + c2 .size-at .result) (c1 .size-at2 .result) (omega arith)
-    (second-within (c3 .args .part .now) (c3 .args .at) (c2 .size-at .result) (asked (c3 .pre .1) .long) (asks-choose-passes (c3 .pre .1) (c2 .size-at .result) (c2 .size-at .ensures)))
-    (asks-choose-passes₂ (c3 .pre .1) (c2 .size-at .result) (c2 .size-at .ensures) (c1 .size-at2 .result) (c1 .size-at2 .ensures)))
+    let c3 = c2 .before .before .before .before .before .before .before .before .before in
+    let c4 = c3 .before .before .before .before .before .before .before .before .before .before .before .before .before .before .before in
+    third-within (c4 .args .part .now) (c4 .args .at) ((c4 .args .at) + 1 + c2 .size-at .result) (c1 .size-at2 .result) (omega arith)
+    (second-within (c4 .args .part .now) (c4 .args .at) (c2 .size-at .result) (asked (c4 .pre .1) .long) (asks-choose-passes (c4 .pre .1) (c2 .size-at .result) (c2 .size-at .ensures)))
+    (asks-choose-passes₂ (c4 .pre .1) (c2 .size-at .result) (c2 .size-at .ensures) (c1 .size-at2 .result) (c1 .size-at2 .ensures) (c3 .expression .ensures)))
     -- part-statement-start-2
     (λ c.
     let c1 = c .before .before .before .before .before .before .before .before .before .before .before .before .before .before .before .before .before .before .before .before .before .before .before .before .before .before .before .before .before in
     let c2 = c1 .before in
-    let c3 = c2 .before .before .before .before .before .before .before .before .before .before .before .before .before .before .before .before .before .before .before .before .before .before .before .before in
-    third-within (c3 .args .part .now) (c3 .args .at) ((c3 .args .at) + 1 + c2 .size-at .result) (c1 .size-at2 .result) (omega arith)
-    (second-within (c3 .args .part .now) (c3 .args .at) (c2 .size-at .result) (asked (c3 .pre .1) .long) (asks-choose-passes (c3 .pre .1) (c2 .size-at .result) (c2 .size-at .ensures)))
-    (asks-choose-passes₂ (c3 .pre .1) (c2 .size-at .result) (c2 .size-at .ensures) (c1 .size-at2 .result) (c1 .size-at2 .ensures)))
+    let c3 = c2 .before .before .before .before .before .before .before .before .before in
+    let c4 = c3 .before .before .before .before .before .before .before .before .before .before .before .before .before .before .before in
+    third-within (c4 .args .part .now) (c4 .args .at) ((c4 .args .at) + 1 + c2 .size-at .result) (c1 .size-at2 .result) (omega arith)
+    (second-within (c4 .args .part .now) (c4 .args .at) (c2 .size-at .result) (asked (c4 .pre .1) .long) (asks-choose-passes (c4 .pre .1) (c2 .size-at .result) (c2 .size-at .ensures)))
+    (asks-choose-passes₂ (c4 .pre .1) (c2 .size-at .result) (c2 .size-at .ensures) (c1 .size-at2 .result) (c1 .size-at2 .ensures) (c3 .expression .ensures)))
     -- part-statement-end-2
     (λ c. search needs)
     -- sub-statement-4
