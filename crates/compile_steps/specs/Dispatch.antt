@@ -4,7 +4,7 @@ use mathlib.Core.List.{List}
 use Prim.Native.Nat.{ℕ, _+_, _-_, _*_, _≤_, _<_}
 use native.Mathlib.Omega.{arith}
 use lib.ListN.{length, getD, take, set, length-set}
-use lib.Seq.{take-set-le}
+use lib.Seq.{take-set-le, take-all}
 use Rattle.words.specs.Numbers.{halfAt, wordAt}
 use Rattle.language.specs.Tree.{goto}
 use Rattle.scopes.specs.Environment.{envOf}
@@ -31,6 +31,17 @@ module _ {P Q : Node → Type 0} {known aims l part : List ℕ} {nesting at : �
 
   pub answer-as : {M : Lent} {r : Pen} → Answers Q known aims l part nesting at sizes L M top holds depth pen r → Answers P known aims l part nesting at sizes L M top holds depth pen r
   answer-as b = record { kept = b .kept; done = λ n W X h x y g. b .done n W X (to n h (kind-here g)) x y g }
+
+-- a part that is built anew is the part
+whole : (part : List ℕ) → below part 0 ≡ part
+whole part = take-all (length part - 0) part (omega arith)
+
+module _ {Q : Node → Type 0} {known aims l : List ℕ} (part : List ℕ) {nesting at : ℕ} {sizes : List ℕ} {L : Lent} {top holds depth : ℕ} {pen : Pen} where
+  pub asks-anew : Asks Q known aims l part nesting at sizes L top holds depth pen → Asks Q known aims l (below part 0) nesting at sizes L top holds depth pen
+  asks-anew a = rw (whole part) a
+
+  pub answers-anew : {M : Lent} {r : Pen} → Answers Q known aims l (below part 0) nesting at sizes L M top holds depth pen r → Answers Q known aims l part nesting at sizes L M top holds depth pen r
+  answers-anew b = rw (← whole part) b
 
 -- ── an expression with nothing below it ──
 module _ {known aims l part : List ℕ} {nesting at : ℕ} {sizes : List ℕ} {L : Lent} {top holds depth : ℕ} {pen : Pen} (a : Asks IsLeaf known aims l part nesting at sizes L top holds depth pen) where

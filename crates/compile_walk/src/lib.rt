@@ -61,7 +61,8 @@ fn operands(
     p
 }
 
-// An entry with expressions only below it: they, and its instruction.
+// An entry with expressions only below it: they, and its instruction. (Its part is handed over as `&part[0..]`, built anew: handed on as it
+// came, it is copied by one wide load behind two narrow stores, for which the processor waits.)
 fn simple(
     table: &[u8],
     part: &[u8],
@@ -948,7 +949,7 @@ pub fn expression(
         } else {
             simple(
                 table,
-                part,
+                &part[0..],
                 nesting,
                 at,
                 sizes,
@@ -1110,7 +1111,7 @@ pub fn statement(
         ),
         _ => simple(
             table,
-            part,
+            &part[0..],
             nesting,
             at,
             sizes,

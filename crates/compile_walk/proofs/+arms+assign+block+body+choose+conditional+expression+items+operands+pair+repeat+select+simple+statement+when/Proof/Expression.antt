@@ -4,7 +4,7 @@ use native.Mathlib.Omega.{arith}
 use borrow.Author.Needs.{needs}
 use Rattle.compile_steps.specs.Parts.{asked}
 use Rattle.compile_steps.specs.Views.{leaf-of, simple-expr}
-use Rattle.compile_steps.specs.Dispatch.{ask-as, answer-as, asks-leaf, asks-leaf-finish, answers-leaf}
+use Rattle.compile_steps.specs.Dispatch.{ask-as, answer-as, asks-leaf, asks-leaf-finish, answers-leaf, asks-anew, answers-anew}
 use Prim.Native.Nat.{ℕ}
 use Rattle.compile_walk.proofs.body.Reads as body
 use Rattle.compile_walk.proofs.conditional.Reads as conditional
@@ -69,13 +69,19 @@ expression-meets t = expression-lts.spec (half-at-reads.Asked, half-at-reads.Lea
     let c4 = c3 .before in
     let c5 = c4 .before .before .before .before .before .before .before .before .before .before in
     asks-leaf-finish (ask-as (λ n h e. leaf-of n h (λ z. c3 .match .rest .0 .0 .1 (c4 .half-at .ensures ∙ (sym e ∙ z))) (λ z. c3 .match .rest .0 .1 (c4 .half-at .ensures ∙ (sym e ∙ z))) (λ z. c3 .match .rest .1 (c4 .half-at .ensures ∙ (sym e ∙ z))) (omega (arith, e, c4 .half-at .ensures, c2 .if1 .taken))) (c5 .pre .1)) (c1 .leaf .ensures .0))
+    -- sub-simple
+    (λ c. omega arith)
+    -- part-simple-start
+    (λ c. omega arith)
+    -- part-simple-end
+    (λ c. search needs)
     -- simple-requires
     (λ c κs.
-    let c1 = c .before .before .before .before in
+    let c1 = c .before .before .before .before .before in
     let c2 = c1 .before in
     let c3 = c2 .before in
     let c4 = c3 .before .before .before .before .before .before .before .before .before .before in
-    (omega (arith, c4 .pre .0), ask-as (λ n h e. simple-expr n h (λ z. c2 .match .rest .0 .0 .1 (c3 .half-at .ensures ∙ (sym e ∙ z))) (λ z. c2 .match .rest .0 .1 (c3 .half-at .ensures ∙ (sym e ∙ z))) (λ z. c2 .match .rest .1 (c3 .half-at .ensures ∙ (sym e ∙ z))) (omega (arith, e, c3 .half-at .ensures, c1 .if1 .left))) (c4 .pre .1)))
+    (omega (arith, c4 .pre .0), asks-anew _ (ask-as (λ n h e. simple-expr n h (λ z. c2 .match .rest .0 .0 .1 (c3 .half-at .ensures ∙ (sym e ∙ z))) (λ z. c2 .match .rest .0 .1 (c3 .half-at .ensures ∙ (sym e ∙ z))) (λ z. c2 .match .rest .1 (c3 .half-at .ensures ∙ (sym e ∙ z))) (omega (arith, e, c3 .half-at .ensures, c1 .if1 .left))) (c4 .pre .1))))
     -- same-length
     (λ c. (c .before .before .before .before .before .before .before .before .pair .ensures) .kept .same-env)
     -- same-length-2
@@ -194,7 +200,7 @@ expression-meets t = expression-lts.spec (half-at-reads.Asked, half-at-reads.Lea
     -- returns-5
     (λ c.
     let c1 = c .before .before .before .before .before .before .before .before in
-    let c2 = c1 .before .before .before .before .before in
+    let c2 = c1 .before .before .before .before .before .before in
     let c3 = c2 .before in
     let c4 = c3 .before in
-    answer-as (λ n h e. simple-expr n h (λ z. c3 .match .rest .0 .0 .1 (c4 .half-at .ensures ∙ (sym e ∙ z))) (λ z. c3 .match .rest .0 .1 (c4 .half-at .ensures ∙ (sym e ∙ z))) (λ z. c3 .match .rest .1 (c4 .half-at .ensures ∙ (sym e ∙ z))) (omega (arith, e, c4 .half-at .ensures, c2 .if1 .left))) (c1 .simple .ensures))
+    answer-as (λ n h e. simple-expr n h (λ z. c3 .match .rest .0 .0 .1 (c4 .half-at .ensures ∙ (sym e ∙ z))) (λ z. c3 .match .rest .0 .1 (c4 .half-at .ensures ∙ (sym e ∙ z))) (λ z. c3 .match .rest .1 (c4 .half-at .ensures ∙ (sym e ∙ z))) (omega (arith, e, c4 .half-at .ensures, c2 .if1 .left))) (answers-anew _ (c1 .simple .ensures)))

@@ -1,9 +1,10 @@
 -- The walker `statement` meets its contract.
 use mathlib.Core.Path.{sym, _∙_}
 use native.Mathlib.Omega.{arith}
+use borrow.Author.Needs.{needs}
 use Rattle.compile_steps.specs.Parts.{asked}
 use Rattle.compile_steps.specs.Views.{simple-stmt}
-use Rattle.compile_steps.specs.Dispatch.{ask-as, answer-as, asks-label-shape, asks-label-finish, answers-label, asks-goto, asks-goto-finish, answers-goto}
+use Rattle.compile_steps.specs.Dispatch.{ask-as, answer-as, asks-label-shape, asks-label-finish, answers-label, asks-goto, asks-goto-finish, answers-goto, asks-anew, answers-anew}
 use Prim.Native.Nat.{ℕ}
 use Rattle.compile_walk.proofs.assign.Reads as assign
 use Rattle.compile_walk.proofs.block.Reads as block
@@ -90,12 +91,18 @@ statement-meets t = statement-lts.spec (half-at-reads.Asked, half-at-reads.Learn
     let c2 = c1 .before in
     let c3 = c2 .before .before .before .before .before .before .before .before .before .before in
     (omega (arith, c3 .pre .0), ask-as (λ n h e. e ∙ (sym (c2 .half-at .ensures) ∙ c1 .match .keys8)) (c3 .pre .1)))
+    -- sub-simple
+    (λ c. omega arith)
+    -- part-simple-start
+    (λ c. omega arith)
+    -- part-simple-end
+    (λ c. search needs)
     -- simple-requires
     (λ c κs.
-    let c1 = c .before .before .before .before in
+    let c1 = c .before .before .before .before .before in
     let c2 = c1 .before in
     let c3 = c2 .before .before .before .before .before .before .before .before .before .before in
-    (omega (arith, c3 .pre .0), ask-as (λ n h e. simple-stmt n h (λ z. c1 .match .rest .0 .0 .0 .0 .0 .0 .0 .1 (c2 .half-at .ensures ∙ (sym e ∙ z))) (λ z. c1 .match .rest .0 .0 .0 .0 .0 .0 .1 (c2 .half-at .ensures ∙ (sym e ∙ z))) (λ z. c1 .match .rest .0 .0 .0 .0 .0 .1 (c2 .half-at .ensures ∙ (sym e ∙ z))) (λ z. c1 .match .rest .0 .0 .0 .0 .1 (c2 .half-at .ensures ∙ (sym e ∙ z))) (λ z. c1 .match .rest .0 .0 .0 .1 (c2 .half-at .ensures ∙ (sym e ∙ z))) (λ z. c1 .match .rest .0 .0 .1 (c2 .half-at .ensures ∙ (sym e ∙ z))) (λ z. c1 .match .rest .0 .1 (c2 .half-at .ensures ∙ (sym e ∙ z))) (λ z. c1 .match .rest .1 (c2 .half-at .ensures ∙ (sym e ∙ z)))) (c3 .pre .1)))
+    (omega (arith, c3 .pre .0), asks-anew _ (ask-as (λ n h e. simple-stmt n h (λ z. c1 .match .rest .0 .0 .0 .0 .0 .0 .0 .1 (c2 .half-at .ensures ∙ (sym e ∙ z))) (λ z. c1 .match .rest .0 .0 .0 .0 .0 .0 .1 (c2 .half-at .ensures ∙ (sym e ∙ z))) (λ z. c1 .match .rest .0 .0 .0 .0 .0 .1 (c2 .half-at .ensures ∙ (sym e ∙ z))) (λ z. c1 .match .rest .0 .0 .0 .0 .1 (c2 .half-at .ensures ∙ (sym e ∙ z))) (λ z. c1 .match .rest .0 .0 .0 .1 (c2 .half-at .ensures ∙ (sym e ∙ z))) (λ z. c1 .match .rest .0 .0 .1 (c2 .half-at .ensures ∙ (sym e ∙ z))) (λ z. c1 .match .rest .0 .1 (c2 .half-at .ensures ∙ (sym e ∙ z))) (λ z. c1 .match .rest .1 (c2 .half-at .ensures ∙ (sym e ∙ z)))) (c3 .pre .1))))
     -- same-length
     (λ c. (c .before .before .before .before .before .before .before .before .block .ensures) .kept .same-env)
     -- same-length-2
@@ -268,6 +275,6 @@ statement-meets t = statement-lts.spec (half-at-reads.Asked, half-at-reads.Learn
     -- returns-9
     (λ c.
     let c1 = c .before .before .before .before .before .before .before .before in
-    let c2 = c1 .before .before .before .before .before in
+    let c2 = c1 .before .before .before .before .before .before in
     let c3 = c2 .before in
-    answer-as (λ n h e. simple-stmt n h (λ z. c2 .match .rest .0 .0 .0 .0 .0 .0 .0 .1 (c3 .half-at .ensures ∙ (sym e ∙ z))) (λ z. c2 .match .rest .0 .0 .0 .0 .0 .0 .1 (c3 .half-at .ensures ∙ (sym e ∙ z))) (λ z. c2 .match .rest .0 .0 .0 .0 .0 .1 (c3 .half-at .ensures ∙ (sym e ∙ z))) (λ z. c2 .match .rest .0 .0 .0 .0 .1 (c3 .half-at .ensures ∙ (sym e ∙ z))) (λ z. c2 .match .rest .0 .0 .0 .1 (c3 .half-at .ensures ∙ (sym e ∙ z))) (λ z. c2 .match .rest .0 .0 .1 (c3 .half-at .ensures ∙ (sym e ∙ z))) (λ z. c2 .match .rest .0 .1 (c3 .half-at .ensures ∙ (sym e ∙ z))) (λ z. c2 .match .rest .1 (c3 .half-at .ensures ∙ (sym e ∙ z)))) (c1 .simple .ensures))
+    answer-as (λ n h e. simple-stmt n h (λ z. c2 .match .rest .0 .0 .0 .0 .0 .0 .0 .1 (c3 .half-at .ensures ∙ (sym e ∙ z))) (λ z. c2 .match .rest .0 .0 .0 .0 .0 .0 .1 (c3 .half-at .ensures ∙ (sym e ∙ z))) (λ z. c2 .match .rest .0 .0 .0 .0 .0 .1 (c3 .half-at .ensures ∙ (sym e ∙ z))) (λ z. c2 .match .rest .0 .0 .0 .0 .1 (c3 .half-at .ensures ∙ (sym e ∙ z))) (λ z. c2 .match .rest .0 .0 .0 .1 (c3 .half-at .ensures ∙ (sym e ∙ z))) (λ z. c2 .match .rest .0 .0 .1 (c3 .half-at .ensures ∙ (sym e ∙ z))) (λ z. c2 .match .rest .0 .1 (c3 .half-at .ensures ∙ (sym e ∙ z))) (λ z. c2 .match .rest .1 (c3 .half-at .ensures ∙ (sym e ∙ z)))) (answers-anew _ (c1 .simple .ensures)))
