@@ -22,30 +22,33 @@ refused c = refused-fits (c .before .number .given .0 .0) (c .before .number .gi
 in-room : (c : tie.After-known-told2) → c .before .n .given .0 .0 ≤ length (c .before .before .before .before .compile .last .1 .0)
 in-room c =
     let done = c .before .before .before .before in
-    let entry = done .before .before .before .before in
+    let entry = done .before .before .before in
     within (entry .args .table .now) _ _ (c .before .n .given .0 .0)
     (done .compile .ensures ∙ ap (λ r. record { verdict = verdictOf r; bytes = done .compile .last .1 .0 }) (c .before .n .given .1))
 
 put-refused-requires : tie.Need-put-refused-requires
-put-refused-requires c κs = omega (arith, c .before .before .before .before .before .before .before .before .before .pre, refused (c .before))
+put-refused-requires c κs = omega (arith, refused (c .before))
 
 slice-aggregate-list-macro : tie.Need-slice-aggregate-list-macro
 slice-aggregate-list-macro c = sym (length-take-le _ _ (in-room (c .before)))
 
+list-macro-requires : tie.Need-list-macro-requires
+list-macro-requires c κs = omega arith
+
 returns : tie.Need-returns
 returns c =
-    let told = c .before .before .before .before in
+    let told = c .before .before in
     let done = told .before .before .before .before in
-    let entry = done .before .before .before .before in
+    let entry = done .before .before .before in
     rw (listing-is (entry .args .table .now), table-text (entry .args .table .now) _ _ (verdictOf (done .compile .result)) _ (done .compile .ensures), told .before .number .given .1)
-    (in-front _ _ _ _ (omega (arith, entry .pre, refused told)) (c .before .before .put-refused .ensures))
+    (in-front _ _ _ _ (omega (arith, refused told)) (c .put-refused .ensures))
 
 returns-2 : tie.Need-returns-2
 returns-2 c =
-    let listed = c .before .before .before in
+    let listed = c .before in
     let told = listed .before .before .before .before in
     let done = told .before .before .before .before in
-    let entry = done .before .before .before .before in
+    let entry = done .before .before .before in
     rw (listing-is (entry .args .table .now), table-text (entry .args .table .now) _ _ (verdictOf (done .compile .result)) _ (done .compile .ensures), told .before .n .given .1)
     (listed .list-macro .ensures)
 
@@ -61,8 +64,6 @@ list-spec =
     in-room
     slice-aggregate-list-macro
     (λ c. search needs)
-    (λ c κs. search needs)
-    (λ c. search needs)
+    list-macro-requires
     returns
-    (λ c. search needs)
     returns-2)
