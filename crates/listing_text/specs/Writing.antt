@@ -21,6 +21,10 @@ pub record Lists (whole text after : List ℕ) (length-of : ℕ) : Type 0 where
   pub fits : length-of ≤ length text
   pub bytes : after ≡ sets text 0 whole
 
+-- it is within the text
+pub within-text : {whole text after : List ℕ} {n : ℕ} → Lists whole text after n → n ≤ length after
+within-text {whole} {text} l = omega (arith, l .fits, ap (length {A = ℕ}) (l .bytes) ∙ length-sets text 0 whole)
+
 pub in-front : (whole text after : List ℕ) (n : ℕ) → length whole ≤ length text → Puts text 0 whole after n → Lists whole text after n
 in-front whole text after n h p = record { all = let e = p .index in omega arith; fits = let e = p .index in omega arith; bytes = p .bytes }
 
