@@ -19,8 +19,33 @@ use Rattle.words.proofs.half_at.Reads as half-at-reads
 use Rattle.words.proofs.word_at.Reads as word-at-reads
 use Rattle.compile_walk.proofs.+arms+assign+block+body+choose+conditional+expression+items+operands+pair+repeat+select+simple+statement+when.Proof.Base.{body-at, expression-below, items-below}
 
-pub body-meets : {M : Type 1} (t : ℕ) → body-lts.Closed (half-at-reads.Asked, half-at-reads.Learnt, word-at-reads.Asked, word-at-reads.Learnt, holds-in-reads.Asked, holds-in-reads.Learnt, mark-holds-reads.Asked, mark-holds-reads.Learnt, enter-reads.Asked, enter-reads.Learnt, declare-reads.Asked, declare-reads.Learnt, items-below t, items.Post, spanned-reads.Asked, spanned-reads.Learnt, expression-below t, expression.Post, releases-reads.Asked, releases-reads.Learnt, finish-reads.Asked, finish-reads.Learnt) (body-at t) body.Post M
-body-meets t = body-lts.spec (half-at-reads.Asked, half-at-reads.Learnt, word-at-reads.Asked, word-at-reads.Learnt, holds-in-reads.Asked, holds-in-reads.Learnt, mark-holds-reads.Asked, mark-holds-reads.Learnt, enter-reads.Asked, enter-reads.Learnt, declare-reads.Asked, declare-reads.Learnt, items-below t, items.Post, spanned-reads.Asked, spanned-reads.Learnt, expression-below t, expression.Post, releases-reads.Asked, releases-reads.Learnt, finish-reads.Asked, finish-reads.Learnt) (body-at t) body.Post
+-- what the functions that it calls are taken to ask and give
+abbrev claims : ℕ → body-lts.Claims
+claims t = (
+  half-at-reads.Asked, half-at-reads.Learnt, word-at-reads.Asked, word-at-reads.Learnt, holds-in-reads.Asked, holds-in-reads.Learnt, mark-holds-reads.Asked, mark-holds-reads.Learnt,
+  enter-reads.Asked, enter-reads.Learnt, declare-reads.Asked, declare-reads.Learnt, items-below t, items.Post, spanned-reads.Asked, spanned-reads.Learnt, expression-below t,
+  expression.Post, releases-reads.Asked, releases-reads.Learnt, finish-reads.Asked, finish-reads.Learnt,
+)
+
+-- what it has done where it returns
+body-ends : (t : ℕ) → body-lts.Need-returns (claims t) (body-at t) body.Post
+body-ends t c =
+    let c1 = c .before .before in
+    let c2 = c1 .before .before .before in
+    let c3 = c2 .before .before .before .before .before .before .before .before .before .before .before in
+    let c4 = c3 .before .before .before .before .before .before in
+    let c5 = c4 .before .before .before .before .before .before .before .before .before in
+    let c6 = c5 .before .before .before .before .before .before .before .before .before .before in
+    let c7 = c6 .before .before .before .before .before .before in
+    let c8 = c7 .before .before .before .before in
+    let c9 = c8 .before .before in
+    let c10 = c9 .before .before in
+    let c11 = c10 .before in
+    let c12 = c11 .before .before .before .before .before .before .before .before .before .before in
+    answers-body (c12 .pre .1) (c11 .half-at .ensures) (c10 .word-at .ensures) (c9 .holds-in .ensures) (c8 .mark-holds .ensures) (c7 .enter .ensures) (c6 .declare .ensures) (c5 .items .ensures) (c4 .spanned .ensures) (c3 .expression .ensures) (c2 .releases .ensures) (c1 .finish .ensures)
+
+pub body-meets : {M : Type 1} (t : ℕ) → body-lts.Closed (claims t) (body-at t) body.Post M
+body-meets t = body-lts.spec (claims t) (body-at t) body.Post
     -- half-at-requires
     (λ c κs. omega (arith, asked (c .before .before .before .before .before .before .before .before .before .pre .1) .long))
     -- cast-heads
@@ -268,77 +293,12 @@ body-meets t = body-lts.spec (half-at-reads.Asked, half-at-reads.Learnt, word-at
     let c11 = c10 .before .before .before .before .before .before .before .before .before .before in
     asks-body-finish (c11 .pre .1) (c10 .half-at .ensures) (c9 .word-at .ensures) (c8 .holds-in .ensures) (c7 .mark-holds .ensures) (c6 .enter .ensures) (c5 .declare .ensures) (c4 .items .ensures) (c3 .spanned .ensures) (c2 .expression .ensures) (c1 .releases .ensures))
     -- same-length
-    (λ c.
-    let c1 = c .before .before in
-    let c2 = c1 .before .before .before in
-    let c3 = c2 .before .before .before .before .before .before .before .before .before .before .before in
-    let c4 = c3 .before .before .before .before .before .before in
-    let c5 = c4 .before .before .before .before .before .before .before .before .before in
-    let c6 = c5 .before .before .before .before .before .before .before .before .before .before in
-    let c7 = c6 .before .before .before .before .before .before in
-    let c8 = c7 .before .before .before .before in
-    let c9 = c8 .before .before in
-    let c10 = c9 .before .before in
-    let c11 = c10 .before in
-    let c12 = c11 .before .before .before .before .before .before .before .before .before .before in
-    (answers-body (c12 .pre .1) (c11 .half-at .ensures) (c10 .word-at .ensures) (c9 .holds-in .ensures) (c8 .mark-holds .ensures) (c7 .enter .ensures) (c6 .declare .ensures) (c5 .items .ensures) (c4 .spanned .ensures) (c3 .expression .ensures) (c2 .releases .ensures) (c1 .finish .ensures)) .kept .same-env)
+    (λ c. body-ends t c .kept .same-env)
     -- same-length-2
-    (λ c.
-    let c1 = c .before .before in
-    let c2 = c1 .before .before .before in
-    let c3 = c2 .before .before .before .before .before .before .before .before .before .before .before in
-    let c4 = c3 .before .before .before .before .before .before in
-    let c5 = c4 .before .before .before .before .before .before .before .before .before in
-    let c6 = c5 .before .before .before .before .before .before .before .before .before .before in
-    let c7 = c6 .before .before .before .before .before .before in
-    let c8 = c7 .before .before .before .before in
-    let c9 = c8 .before .before in
-    let c10 = c9 .before .before in
-    let c11 = c10 .before in
-    let c12 = c11 .before .before .before .before .before .before .before .before .before .before in
-    (answers-body (c12 .pre .1) (c11 .half-at .ensures) (c10 .word-at .ensures) (c9 .holds-in .ensures) (c8 .mark-holds .ensures) (c7 .enter .ensures) (c6 .declare .ensures) (c5 .items .ensures) (c4 .spanned .ensures) (c3 .expression .ensures) (c2 .releases .ensures) (c1 .finish .ensures)) .kept .same-ends)
+    (λ c. body-ends t c .kept .same-ends)
     -- same-length-3
-    (λ c.
-    let c1 = c .before .before in
-    let c2 = c1 .before .before .before in
-    let c3 = c2 .before .before .before .before .before .before .before .before .before .before .before in
-    let c4 = c3 .before .before .before .before .before .before in
-    let c5 = c4 .before .before .before .before .before .before .before .before .before in
-    let c6 = c5 .before .before .before .before .before .before .before .before .before .before in
-    let c7 = c6 .before .before .before .before .before .before in
-    let c8 = c7 .before .before .before .before in
-    let c9 = c8 .before .before in
-    let c10 = c9 .before .before in
-    let c11 = c10 .before in
-    let c12 = c11 .before .before .before .before .before .before .before .before .before .before in
-    (answers-body (c12 .pre .1) (c11 .half-at .ensures) (c10 .word-at .ensures) (c9 .holds-in .ensures) (c8 .mark-holds .ensures) (c7 .enter .ensures) (c6 .declare .ensures) (c5 .items .ensures) (c4 .spanned .ensures) (c3 .expression .ensures) (c2 .releases .ensures) (c1 .finish .ensures)) .kept .same-stack)
+    (λ c. body-ends t c .kept .same-stack)
     -- same-length-4
-    (λ c.
-    let c1 = c .before .before in
-    let c2 = c1 .before .before .before in
-    let c3 = c2 .before .before .before .before .before .before .before .before .before .before .before in
-    let c4 = c3 .before .before .before .before .before .before in
-    let c5 = c4 .before .before .before .before .before .before .before .before .before in
-    let c6 = c5 .before .before .before .before .before .before .before .before .before .before in
-    let c7 = c6 .before .before .before .before .before .before in
-    let c8 = c7 .before .before .before .before in
-    let c9 = c8 .before .before in
-    let c10 = c9 .before .before in
-    let c11 = c10 .before in
-    let c12 = c11 .before .before .before .before .before .before .before .before .before .before in
-    (answers-body (c12 .pre .1) (c11 .half-at .ensures) (c10 .word-at .ensures) (c9 .holds-in .ensures) (c8 .mark-holds .ensures) (c7 .enter .ensures) (c6 .declare .ensures) (c5 .items .ensures) (c4 .spanned .ensures) (c3 .expression .ensures) (c2 .releases .ensures) (c1 .finish .ensures)) .kept .same-out)
+    (λ c. body-ends t c .kept .same-out)
     -- returns
-    (λ c.
-    let c1 = c .before .before in
-    let c2 = c1 .before .before .before in
-    let c3 = c2 .before .before .before .before .before .before .before .before .before .before .before in
-    let c4 = c3 .before .before .before .before .before .before in
-    let c5 = c4 .before .before .before .before .before .before .before .before .before in
-    let c6 = c5 .before .before .before .before .before .before .before .before .before .before in
-    let c7 = c6 .before .before .before .before .before .before in
-    let c8 = c7 .before .before .before .before in
-    let c9 = c8 .before .before in
-    let c10 = c9 .before .before in
-    let c11 = c10 .before in
-    let c12 = c11 .before .before .before .before .before .before .before .before .before .before in
-    answers-body (c12 .pre .1) (c11 .half-at .ensures) (c10 .word-at .ensures) (c9 .holds-in .ensures) (c8 .mark-holds .ensures) (c7 .enter .ensures) (c6 .declare .ensures) (c5 .items .ensures) (c4 .spanned .ensures) (c3 .expression .ensures) (c2 .releases .ensures) (c1 .finish .ensures))
+    (body-ends t)

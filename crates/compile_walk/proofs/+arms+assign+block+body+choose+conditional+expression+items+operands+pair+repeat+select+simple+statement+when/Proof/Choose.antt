@@ -18,8 +18,34 @@ use Rattle.spans.proofs.size_at.Reads as size-at-reads
 use Rattle.compile_walk.proofs.+arms+assign+block+body+choose+conditional+expression+items+operands+pair+repeat+select+simple+statement+when.{statement}
 use Rattle.compile_walk.proofs.+arms+assign+block+body+choose+conditional+expression+items+operands+pair+repeat+select+simple+statement+when.Proof.Base.{choose-at, expression-below, statement-below}
 
-pub choose-meets : {M : Type 1} (t : ℕ) → choose-lts.Closed (expression-below t, expression.Post, size-at-reads.Asked, size-at-reads.Learnt, end-of-reads.Asked, end-of-reads.Learnt, emit-reads.Asked, emit-reads.Learnt, statement-below t, statement′.Post, shape-reads.Asked, shape-reads.Learnt, finish-reads.Asked, finish-reads.Learnt) (choose-at t) choose.Post M
-choose-meets t = choose-lts.spec (expression-below t, expression.Post, size-at-reads.Asked, size-at-reads.Learnt, end-of-reads.Asked, end-of-reads.Learnt, emit-reads.Asked, emit-reads.Learnt, statement-below t, statement′.Post, shape-reads.Asked, shape-reads.Learnt, finish-reads.Asked, finish-reads.Learnt) (choose-at t) choose.Post
+-- what the functions that it calls are taken to ask and give
+abbrev claims : ℕ → choose-lts.Claims
+claims t = (
+  expression-below t, expression.Post, size-at-reads.Asked, size-at-reads.Learnt, end-of-reads.Asked, end-of-reads.Learnt, emit-reads.Asked, emit-reads.Learnt, statement-below t,
+  statement′.Post, shape-reads.Asked, shape-reads.Learnt, finish-reads.Asked, finish-reads.Learnt,
+)
+
+-- what it has done where it returns
+choose-ends : (t : ℕ) → choose-lts.Need-returns (claims t) (choose-at t) choose.Post
+choose-ends t c =
+    let c1 = c .before .before in
+    let c2 = c1 .before .before .before in
+    let c3 = c2 .before .before .before .before .before .before .before .before .before .before .before .before in
+    let c4 = c3 .before .before .before .before .before .before .before .before in
+    let c5 = c4 .before .before .before .before .before in
+    let c6 = c5 .before in
+    let c7 = c6 .before .before .before .before .before .before .before .before .before .before in
+    let c8 = c7 .before .before .before .before .before .before .before .before in
+    let c9 = c8 .before in
+    let c10 = c9 .before .before in
+    let c11 = c10 .before in
+    let c12 = c11 .before .before .before .before .before .before .before .before .before in
+    let c13 = c12 .before .before .before .before .before .before .before .before .before .before .before .before .before .before .before in
+    answers-choose (c13 .pre .1) (c11 .size-at .result) (c11 .size-at .ensures) (c10 .size-at2 .result) (c10 .size-at2 .ensures) (c12 .expression .ensures) (c9 .end-of .ensures .0) (c8 .emit .ensures)
+    (c7 .statement .ensures) (c6 .end-of2 .ensures .0) (c5 .emit2 .ensures) (c4 .shape .ensures) (c3 .statement2 .ensures) (c2 .shape2 .ensures) (c1 .finish .ensures)
+
+pub choose-meets : {M : Type 1} (t : ℕ) → choose-lts.Closed (claims t) (choose-at t) choose.Post M
+choose-meets t = choose-lts.spec (claims t) (choose-at t) choose.Post
     -- sub-expression
     (λ c. omega (arith, asked (c .before .before .before .before .before .before .before .before .before .pre .1) .long))
     -- part-expression-start
@@ -203,87 +229,12 @@ choose-meets t = choose-lts.spec (expression-below t, expression.Post, size-at-r
     asks-choose-finish (c12 .pre .1) (c10 .size-at .result) (c10 .size-at .ensures) (c9 .size-at2 .result) (c9 .size-at2 .ensures) (c11 .expression .ensures) (c8 .end-of .ensures .0) (c7 .emit .ensures)
     (c6 .statement .ensures) (c5 .end-of2 .ensures .0) (c4 .emit2 .ensures) (c3 .shape .ensures) (c2 .statement2 .ensures) (c1 .shape2 .ensures))
     -- same-length
-    (λ c.
-    let c1 = c .before .before in
-    let c2 = c1 .before .before .before in
-    let c3 = c2 .before .before .before .before .before .before .before .before .before .before .before .before in
-    let c4 = c3 .before .before .before .before .before .before .before .before in
-    let c5 = c4 .before .before .before .before .before in
-    let c6 = c5 .before in
-    let c7 = c6 .before .before .before .before .before .before .before .before .before .before in
-    let c8 = c7 .before .before .before .before .before .before .before .before in
-    let c9 = c8 .before in
-    let c10 = c9 .before .before in
-    let c11 = c10 .before in
-    let c12 = c11 .before .before .before .before .before .before .before .before .before in
-    let c13 = c12 .before .before .before .before .before .before .before .before .before .before .before .before .before .before .before in
-    (answers-choose (c13 .pre .1) (c11 .size-at .result) (c11 .size-at .ensures) (c10 .size-at2 .result) (c10 .size-at2 .ensures) (c12 .expression .ensures) (c9 .end-of .ensures .0) (c8 .emit .ensures)
-    (c7 .statement .ensures) (c6 .end-of2 .ensures .0) (c5 .emit2 .ensures) (c4 .shape .ensures) (c3 .statement2 .ensures) (c2 .shape2 .ensures) (c1 .finish .ensures)) .kept .same-env)
+    (λ c. choose-ends t c .kept .same-env)
     -- same-length-2
-    (λ c.
-    let c1 = c .before .before in
-    let c2 = c1 .before .before .before in
-    let c3 = c2 .before .before .before .before .before .before .before .before .before .before .before .before in
-    let c4 = c3 .before .before .before .before .before .before .before .before in
-    let c5 = c4 .before .before .before .before .before in
-    let c6 = c5 .before in
-    let c7 = c6 .before .before .before .before .before .before .before .before .before .before in
-    let c8 = c7 .before .before .before .before .before .before .before .before in
-    let c9 = c8 .before in
-    let c10 = c9 .before .before in
-    let c11 = c10 .before in
-    let c12 = c11 .before .before .before .before .before .before .before .before .before in
-    let c13 = c12 .before .before .before .before .before .before .before .before .before .before .before .before .before .before .before in
-    (answers-choose (c13 .pre .1) (c11 .size-at .result) (c11 .size-at .ensures) (c10 .size-at2 .result) (c10 .size-at2 .ensures) (c12 .expression .ensures) (c9 .end-of .ensures .0) (c8 .emit .ensures)
-    (c7 .statement .ensures) (c6 .end-of2 .ensures .0) (c5 .emit2 .ensures) (c4 .shape .ensures) (c3 .statement2 .ensures) (c2 .shape2 .ensures) (c1 .finish .ensures)) .kept .same-ends)
+    (λ c. choose-ends t c .kept .same-ends)
     -- same-length-3
-    (λ c.
-    let c1 = c .before .before in
-    let c2 = c1 .before .before .before in
-    let c3 = c2 .before .before .before .before .before .before .before .before .before .before .before .before in
-    let c4 = c3 .before .before .before .before .before .before .before .before in
-    let c5 = c4 .before .before .before .before .before in
-    let c6 = c5 .before in
-    let c7 = c6 .before .before .before .before .before .before .before .before .before .before in
-    let c8 = c7 .before .before .before .before .before .before .before .before in
-    let c9 = c8 .before in
-    let c10 = c9 .before .before in
-    let c11 = c10 .before in
-    let c12 = c11 .before .before .before .before .before .before .before .before .before in
-    let c13 = c12 .before .before .before .before .before .before .before .before .before .before .before .before .before .before .before in
-    (answers-choose (c13 .pre .1) (c11 .size-at .result) (c11 .size-at .ensures) (c10 .size-at2 .result) (c10 .size-at2 .ensures) (c12 .expression .ensures) (c9 .end-of .ensures .0) (c8 .emit .ensures)
-    (c7 .statement .ensures) (c6 .end-of2 .ensures .0) (c5 .emit2 .ensures) (c4 .shape .ensures) (c3 .statement2 .ensures) (c2 .shape2 .ensures) (c1 .finish .ensures)) .kept .same-stack)
+    (λ c. choose-ends t c .kept .same-stack)
     -- same-length-4
-    (λ c.
-    let c1 = c .before .before in
-    let c2 = c1 .before .before .before in
-    let c3 = c2 .before .before .before .before .before .before .before .before .before .before .before .before in
-    let c4 = c3 .before .before .before .before .before .before .before .before in
-    let c5 = c4 .before .before .before .before .before in
-    let c6 = c5 .before in
-    let c7 = c6 .before .before .before .before .before .before .before .before .before .before in
-    let c8 = c7 .before .before .before .before .before .before .before .before in
-    let c9 = c8 .before in
-    let c10 = c9 .before .before in
-    let c11 = c10 .before in
-    let c12 = c11 .before .before .before .before .before .before .before .before .before in
-    let c13 = c12 .before .before .before .before .before .before .before .before .before .before .before .before .before .before .before in
-    (answers-choose (c13 .pre .1) (c11 .size-at .result) (c11 .size-at .ensures) (c10 .size-at2 .result) (c10 .size-at2 .ensures) (c12 .expression .ensures) (c9 .end-of .ensures .0) (c8 .emit .ensures)
-    (c7 .statement .ensures) (c6 .end-of2 .ensures .0) (c5 .emit2 .ensures) (c4 .shape .ensures) (c3 .statement2 .ensures) (c2 .shape2 .ensures) (c1 .finish .ensures)) .kept .same-out)
+    (λ c. choose-ends t c .kept .same-out)
     -- returns
-    (λ c.
-    let c1 = c .before .before in
-    let c2 = c1 .before .before .before in
-    let c3 = c2 .before .before .before .before .before .before .before .before .before .before .before .before in
-    let c4 = c3 .before .before .before .before .before .before .before .before in
-    let c5 = c4 .before .before .before .before .before in
-    let c6 = c5 .before in
-    let c7 = c6 .before .before .before .before .before .before .before .before .before .before in
-    let c8 = c7 .before .before .before .before .before .before .before .before in
-    let c9 = c8 .before in
-    let c10 = c9 .before .before in
-    let c11 = c10 .before in
-    let c12 = c11 .before .before .before .before .before .before .before .before .before in
-    let c13 = c12 .before .before .before .before .before .before .before .before .before .before .before .before .before .before .before in
-    answers-choose (c13 .pre .1) (c11 .size-at .result) (c11 .size-at .ensures) (c10 .size-at2 .result) (c10 .size-at2 .ensures) (c12 .expression .ensures) (c9 .end-of .ensures .0) (c8 .emit .ensures)
-    (c7 .statement .ensures) (c6 .end-of2 .ensures .0) (c5 .emit2 .ensures) (c4 .shape .ensures) (c3 .statement2 .ensures) (c2 .shape2 .ensures) (c1 .finish .ensures))
+    (choose-ends t)

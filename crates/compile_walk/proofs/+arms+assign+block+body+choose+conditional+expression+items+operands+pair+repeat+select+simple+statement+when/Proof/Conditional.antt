@@ -16,8 +16,34 @@ use Rattle.compile_pen.proofs.shape.Reads as shape-reads
 use Rattle.spans.proofs.size_at.Reads as size-at-reads
 use Rattle.compile_walk.proofs.+arms+assign+block+body+choose+conditional+expression+items+operands+pair+repeat+select+simple+statement+when.Proof.Base.{conditional-at, expression-below}
 
-pub conditional-meets : {M : Type 1} (t : ℕ) → conditional-lts.Closed (expression-below t, expression.Post, size-at-reads.Asked, size-at-reads.Learnt, end-of-reads.Asked, end-of-reads.Learnt, emit-reads.Asked, emit-reads.Learnt, shape-reads.Asked, shape-reads.Learnt, finish-reads.Asked, finish-reads.Learnt) (conditional-at t) conditional.Post M
-conditional-meets t = conditional-lts.spec (expression-below t, expression.Post, size-at-reads.Asked, size-at-reads.Learnt, end-of-reads.Asked, end-of-reads.Learnt, emit-reads.Asked, emit-reads.Learnt, shape-reads.Asked, shape-reads.Learnt, finish-reads.Asked, finish-reads.Learnt) (conditional-at t) conditional.Post
+-- what the functions that it calls are taken to ask and give
+abbrev claims : ℕ → conditional-lts.Claims
+claims t = (
+  expression-below t, expression.Post, size-at-reads.Asked, size-at-reads.Learnt, end-of-reads.Asked, end-of-reads.Learnt, emit-reads.Asked, emit-reads.Learnt, shape-reads.Asked,
+  shape-reads.Learnt, finish-reads.Asked, finish-reads.Learnt,
+)
+
+-- what it has done where it returns
+conditional-ends : (t : ℕ) → conditional-lts.Need-returns (claims t) (conditional-at t) conditional.Post
+conditional-ends t c =
+    let c1 = c .before .before in
+    let c2 = c1 .before .before .before in
+    let c3 = c2 .before .before .before .before .before .before .before .before .before .before .before .before in
+    let c4 = c3 .before .before .before .before .before .before .before .before in
+    let c5 = c4 .before .before .before .before .before in
+    let c6 = c5 .before in
+    let c7 = c6 .before .before .before .before .before .before .before .before .before .before .before in
+    let c8 = c7 .before .before .before .before .before .before .before .before in
+    let c9 = c8 .before in
+    let c10 = c9 .before .before in
+    let c11 = c10 .before in
+    let c12 = c11 .before .before .before .before .before .before .before .before .before in
+    let c13 = c12 .before .before .before .before .before .before .before .before .before .before .before .before .before .before .before in
+    answers-cond (c13 .pre .1) (c11 .size-at .result) (c11 .size-at .ensures) (c12 .expression .ensures) (c9 .end-of .ensures .0) (c8 .emit .ensures) (c7 .expression2 .ensures) (c10 .size-at2 .result) (c10 .size-at2 .ensures)
+    (c6 .end-of2 .ensures .0) (c5 .emit2 .ensures) (c4 .shape .ensures) (c3 .expression3 .ensures) _ refl (c2 .shape2 .ensures) (c1 .finish .ensures)
+
+pub conditional-meets : {M : Type 1} (t : ℕ) → conditional-lts.Closed (claims t) (conditional-at t) conditional.Post M
+conditional-meets t = conditional-lts.spec (claims t) (conditional-at t) conditional.Post
     -- sub-expression
     (λ c. omega (arith, asked (c .before .before .before .before .before .before .before .before .before .pre .1) .long))
     -- part-expression-start
@@ -221,87 +247,12 @@ conditional-meets t = conditional-lts.spec (expression-below t, expression.Post,
     asks-cond-finish (c12 .pre .1) (c10 .size-at .result) (c10 .size-at .ensures) (c11 .expression .ensures) (c8 .end-of .ensures .0) (c7 .emit .ensures) (c6 .expression2 .ensures) (c9 .size-at2 .result) (c9 .size-at2 .ensures)
     (c5 .end-of2 .ensures .0) (c4 .emit2 .ensures) (c3 .shape .ensures) (c2 .expression3 .ensures) _ refl (c1 .shape2 .ensures))
     -- same-length
-    (λ c.
-    let c1 = c .before .before in
-    let c2 = c1 .before .before .before in
-    let c3 = c2 .before .before .before .before .before .before .before .before .before .before .before .before in
-    let c4 = c3 .before .before .before .before .before .before .before .before in
-    let c5 = c4 .before .before .before .before .before in
-    let c6 = c5 .before in
-    let c7 = c6 .before .before .before .before .before .before .before .before .before .before .before in
-    let c8 = c7 .before .before .before .before .before .before .before .before in
-    let c9 = c8 .before in
-    let c10 = c9 .before .before in
-    let c11 = c10 .before in
-    let c12 = c11 .before .before .before .before .before .before .before .before .before in
-    let c13 = c12 .before .before .before .before .before .before .before .before .before .before .before .before .before .before .before in
-    (answers-cond (c13 .pre .1) (c11 .size-at .result) (c11 .size-at .ensures) (c12 .expression .ensures) (c9 .end-of .ensures .0) (c8 .emit .ensures) (c7 .expression2 .ensures) (c10 .size-at2 .result) (c10 .size-at2 .ensures)
-    (c6 .end-of2 .ensures .0) (c5 .emit2 .ensures) (c4 .shape .ensures) (c3 .expression3 .ensures) _ refl (c2 .shape2 .ensures) (c1 .finish .ensures)) .kept .same-env)
+    (λ c. conditional-ends t c .kept .same-env)
     -- same-length-2
-    (λ c.
-    let c1 = c .before .before in
-    let c2 = c1 .before .before .before in
-    let c3 = c2 .before .before .before .before .before .before .before .before .before .before .before .before in
-    let c4 = c3 .before .before .before .before .before .before .before .before in
-    let c5 = c4 .before .before .before .before .before in
-    let c6 = c5 .before in
-    let c7 = c6 .before .before .before .before .before .before .before .before .before .before .before in
-    let c8 = c7 .before .before .before .before .before .before .before .before in
-    let c9 = c8 .before in
-    let c10 = c9 .before .before in
-    let c11 = c10 .before in
-    let c12 = c11 .before .before .before .before .before .before .before .before .before in
-    let c13 = c12 .before .before .before .before .before .before .before .before .before .before .before .before .before .before .before in
-    (answers-cond (c13 .pre .1) (c11 .size-at .result) (c11 .size-at .ensures) (c12 .expression .ensures) (c9 .end-of .ensures .0) (c8 .emit .ensures) (c7 .expression2 .ensures) (c10 .size-at2 .result) (c10 .size-at2 .ensures)
-    (c6 .end-of2 .ensures .0) (c5 .emit2 .ensures) (c4 .shape .ensures) (c3 .expression3 .ensures) _ refl (c2 .shape2 .ensures) (c1 .finish .ensures)) .kept .same-ends)
+    (λ c. conditional-ends t c .kept .same-ends)
     -- same-length-3
-    (λ c.
-    let c1 = c .before .before in
-    let c2 = c1 .before .before .before in
-    let c3 = c2 .before .before .before .before .before .before .before .before .before .before .before .before in
-    let c4 = c3 .before .before .before .before .before .before .before .before in
-    let c5 = c4 .before .before .before .before .before in
-    let c6 = c5 .before in
-    let c7 = c6 .before .before .before .before .before .before .before .before .before .before .before in
-    let c8 = c7 .before .before .before .before .before .before .before .before in
-    let c9 = c8 .before in
-    let c10 = c9 .before .before in
-    let c11 = c10 .before in
-    let c12 = c11 .before .before .before .before .before .before .before .before .before in
-    let c13 = c12 .before .before .before .before .before .before .before .before .before .before .before .before .before .before .before in
-    (answers-cond (c13 .pre .1) (c11 .size-at .result) (c11 .size-at .ensures) (c12 .expression .ensures) (c9 .end-of .ensures .0) (c8 .emit .ensures) (c7 .expression2 .ensures) (c10 .size-at2 .result) (c10 .size-at2 .ensures)
-    (c6 .end-of2 .ensures .0) (c5 .emit2 .ensures) (c4 .shape .ensures) (c3 .expression3 .ensures) _ refl (c2 .shape2 .ensures) (c1 .finish .ensures)) .kept .same-stack)
+    (λ c. conditional-ends t c .kept .same-stack)
     -- same-length-4
-    (λ c.
-    let c1 = c .before .before in
-    let c2 = c1 .before .before .before in
-    let c3 = c2 .before .before .before .before .before .before .before .before .before .before .before .before in
-    let c4 = c3 .before .before .before .before .before .before .before .before in
-    let c5 = c4 .before .before .before .before .before in
-    let c6 = c5 .before in
-    let c7 = c6 .before .before .before .before .before .before .before .before .before .before .before in
-    let c8 = c7 .before .before .before .before .before .before .before .before in
-    let c9 = c8 .before in
-    let c10 = c9 .before .before in
-    let c11 = c10 .before in
-    let c12 = c11 .before .before .before .before .before .before .before .before .before in
-    let c13 = c12 .before .before .before .before .before .before .before .before .before .before .before .before .before .before .before in
-    (answers-cond (c13 .pre .1) (c11 .size-at .result) (c11 .size-at .ensures) (c12 .expression .ensures) (c9 .end-of .ensures .0) (c8 .emit .ensures) (c7 .expression2 .ensures) (c10 .size-at2 .result) (c10 .size-at2 .ensures)
-    (c6 .end-of2 .ensures .0) (c5 .emit2 .ensures) (c4 .shape .ensures) (c3 .expression3 .ensures) _ refl (c2 .shape2 .ensures) (c1 .finish .ensures)) .kept .same-out)
+    (λ c. conditional-ends t c .kept .same-out)
     -- returns
-    (λ c.
-    let c1 = c .before .before in
-    let c2 = c1 .before .before .before in
-    let c3 = c2 .before .before .before .before .before .before .before .before .before .before .before .before in
-    let c4 = c3 .before .before .before .before .before .before .before .before in
-    let c5 = c4 .before .before .before .before .before in
-    let c6 = c5 .before in
-    let c7 = c6 .before .before .before .before .before .before .before .before .before .before .before in
-    let c8 = c7 .before .before .before .before .before .before .before .before in
-    let c9 = c8 .before in
-    let c10 = c9 .before .before in
-    let c11 = c10 .before in
-    let c12 = c11 .before .before .before .before .before .before .before .before .before in
-    let c13 = c12 .before .before .before .before .before .before .before .before .before .before .before .before .before .before .before in
-    answers-cond (c13 .pre .1) (c11 .size-at .result) (c11 .size-at .ensures) (c12 .expression .ensures) (c9 .end-of .ensures .0) (c8 .emit .ensures) (c7 .expression2 .ensures) (c10 .size-at2 .result) (c10 .size-at2 .ensures)
-    (c6 .end-of2 .ensures .0) (c5 .emit2 .ensures) (c4 .shape .ensures) (c3 .expression3 .ensures) _ refl (c2 .shape2 .ensures) (c1 .finish .ensures))
+    (conditional-ends t)
