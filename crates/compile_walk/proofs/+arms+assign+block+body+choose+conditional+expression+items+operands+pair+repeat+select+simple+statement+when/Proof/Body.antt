@@ -1,9 +1,10 @@
 -- The walker `body` meets its contract.
 use native.Mathlib.Omega.{arith}
+use lib.ListN.{length}
 use borrow.Author.Needs.{needs}
 use Rattle.compile_steps.specs.Parts.{asked}
 use Rattle.compile_steps.specs.BodyAsks.{asks-body-within, asks-body-few, asks-body-marks, asks-body-declare, asks-body-enter, asks-body-items, asks-body-spanned, asks-body-passes, asks-body-value, asks-body-releases, asks-body-finish, answers-body}
-use Prim.Native.Nat.{ℕ}
+use Prim.Native.Nat.{ℕ, _+_, _*_, _≤_}
 use Rattle.compile_walk.proofs.body.Reads as body
 use Rattle.compile_walk.proofs.+arms+assign+block+body+choose+conditional+expression+items+operands+pair+repeat+select+simple+statement+when.Lts-body as body-lts
 use Rattle.compile_walk.proofs.expression.Reads as expression
@@ -26,6 +27,22 @@ claims t = (
   enter-reads.Asked, enter-reads.Learnt, declare-reads.Asked, declare-reads.Learnt, items-below t, items.Post, spanned-reads.Asked, spanned-reads.Learnt, expression-below t,
   expression.Post, releases-reads.Asked, releases-reads.Learnt, finish-reads.Asked, finish-reads.Learnt,
 )
+
+-- the part behind its items
+body-passes : (t : ℕ) (c : body-lts.After-spanned (claims t) (body-at t) body.Post)
+    → let h = c .before .before .before .before .before .before .before .before .before .before .before .before .before .before .before .before .before .before .before .before .before .before .before .before .before .before .before .before .before .before .before .before .before .before in
+    let s = h .before .before .before .before .before .before .before .before .before .before in
+    (8 * (1 + h .half-at .result + c .spanned .result) ≤ length (s .args .part .now)) × (s .args .at + 1 + h .half-at .result + c .spanned .result ≤ 2048)
+body-passes t c =
+    let c2 = c .before .before .before .before .before .before .before .before .before in
+    let c3 = c2 .before .before .before .before .before .before .before .before .before .before in
+    let c4 = c3 .before .before .before .before .before .before in
+    let c5 = c4 .before .before .before .before in
+    let c6 = c5 .before .before in
+    let c7 = c6 .before .before in
+    let c8 = c7 .before in
+    let c9 = c8 .before .before .before .before .before .before .before .before .before .before in
+    asks-body-passes (c9 .pre .1) (c8 .half-at .ensures) (c7 .word-at .ensures) (c6 .holds-in .ensures) (c5 .mark-holds .ensures) (c4 .enter .ensures) (c3 .declare .ensures) (c2 .items .ensures) (c .spanned .ensures)
 
 -- what it has done where it returns
 body-ends : (t : ℕ) → body-lts.Need-returns (claims t) (body-at t) body.Post
@@ -179,49 +196,13 @@ body-meets t = body-lts.spec (claims t) (body-at t) body.Post
     let c3 = c2 .before .before .before .before .before .before .before .before .before .before in
     omega (arith, asks-body-within (c3 .pre .1) (c2 .half-at .ensures) (c1 .word-at .ensures) .3))
     -- add-after-2
-    (λ c.
-    let c2 = c .before .before .before .before .before .before .before .before .before in
-    let c3 = c2 .before .before .before .before .before .before .before .before .before .before in
-    let c4 = c3 .before .before .before .before .before .before in
-    let c5 = c4 .before .before .before .before in
-    let c6 = c5 .before .before in
-    let c7 = c6 .before .before in
-    let c8 = c7 .before in
-    let c9 = c8 .before .before .before .before .before .before .before .before .before .before in
-    omega (arith, asks-body-passes (c9 .pre .1) (c8 .half-at .ensures) (c7 .word-at .ensures) (c6 .holds-in .ensures) (c5 .mark-holds .ensures) (c4 .enter .ensures) (c3 .declare .ensures) (c2 .items .ensures) (c .spanned .ensures) .1))
+    (λ c. omega (arith, body-passes t c .1))
     -- mul-after
-    (λ c.
-    let c2 = c .before .before .before .before .before .before .before .before .before in
-    let c3 = c2 .before .before .before .before .before .before .before .before .before .before in
-    let c4 = c3 .before .before .before .before .before .before in
-    let c5 = c4 .before .before .before .before in
-    let c6 = c5 .before .before in
-    let c7 = c6 .before .before in
-    let c8 = c7 .before in
-    let c9 = c8 .before .before .before .before .before .before .before .before .before .before in
-    omega (arith, asks-body-passes (c9 .pre .1) (c8 .half-at .ensures) (c7 .word-at .ensures) (c6 .holds-in .ensures) (c5 .mark-holds .ensures) (c4 .enter .ensures) (c3 .declare .ensures) (c2 .items .ensures) (c .spanned .ensures) .1))
+    (λ c. omega (arith, body-passes t c .1))
     -- sub-expression
-    (λ c.
-    let c2 = c .before .before .before .before .before .before .before .before .before in
-    let c3 = c2 .before .before .before .before .before .before .before .before .before .before in
-    let c4 = c3 .before .before .before .before .before .before in
-    let c5 = c4 .before .before .before .before in
-    let c6 = c5 .before .before in
-    let c7 = c6 .before .before in
-    let c8 = c7 .before in
-    let c9 = c8 .before .before .before .before .before .before .before .before .before .before in
-    asks-body-passes (c9 .pre .1) (c8 .half-at .ensures) (c7 .word-at .ensures) (c6 .holds-in .ensures) (c5 .mark-holds .ensures) (c4 .enter .ensures) (c3 .declare .ensures) (c2 .items .ensures) (c .spanned .ensures) .0)
+    (λ c. body-passes t c .0)
     -- part-expression-start
-    (λ c.
-    let c2 = c .before .before .before .before .before .before .before .before .before in
-    let c3 = c2 .before .before .before .before .before .before .before .before .before .before in
-    let c4 = c3 .before .before .before .before .before .before in
-    let c5 = c4 .before .before .before .before in
-    let c6 = c5 .before .before in
-    let c7 = c6 .before .before in
-    let c8 = c7 .before in
-    let c9 = c8 .before .before .before .before .before .before .before .before .before .before in
-    asks-body-passes (c9 .pre .1) (c8 .half-at .ensures) (c7 .word-at .ensures) (c6 .holds-in .ensures) (c5 .mark-holds .ensures) (c4 .enter .ensures) (c3 .declare .ensures) (c2 .items .ensures) (c .spanned .ensures) .0)
+    (λ c. body-passes t c .0)
     -- part-expression-end
     (λ c. search needs)
     -- sub-expression-2
@@ -235,17 +216,7 @@ body-meets t = body-lts.spec (claims t) (body-at t) body.Post
     let c3 = c2 .before .before .before .before .before .before .before .before .before .before in
     omega (arith, asks-body-within (c3 .pre .1) (c2 .half-at .ensures) (c1 .word-at .ensures) .3))
     -- add-expression-3
-    (λ c.
-    let c1 = c .before in
-    let c2 = c1 .before .before .before .before .before .before .before .before .before in
-    let c3 = c2 .before .before .before .before .before .before .before .before .before .before in
-    let c4 = c3 .before .before .before .before .before .before in
-    let c5 = c4 .before .before .before .before in
-    let c6 = c5 .before .before in
-    let c7 = c6 .before .before in
-    let c8 = c7 .before in
-    let c9 = c8 .before .before .before .before .before .before .before .before .before .before in
-    omega (arith, asks-body-passes (c9 .pre .1) (c8 .half-at .ensures) (c7 .word-at .ensures) (c6 .holds-in .ensures) (c5 .mark-holds .ensures) (c4 .enter .ensures) (c3 .declare .ensures) (c2 .items .ensures) (c1 .spanned .ensures) .1))
+    (λ c. omega (arith, body-passes t (c .before) .1))
     -- add-expression-4
     (λ c.
     let c1 = c .before .before .before .before .before .before .before .before .before .before .before .before .before .before .before .before .before .before .before .before .before .before .before .before .before .before .before .before .before .before .before .before .before .before in

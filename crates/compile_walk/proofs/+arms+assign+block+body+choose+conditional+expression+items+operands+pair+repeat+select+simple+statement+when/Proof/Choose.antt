@@ -1,11 +1,13 @@
 -- The walker `choose` meets its contract.
 use mathlib.Core.Path.{refl}
 use native.Mathlib.Omega.{arith}
+use lib.ListN.{length}
 use borrow.Author.Needs.{needs}
-use Rattle.compile_steps.specs.Parts.{asked}
+use Rattle.shapes.specs.Steps.{Passes}
+use Rattle.compile_steps.specs.Parts.{asked, below}
 use Rattle.compile_steps.specs.Choose.{asks-choose-first, asks-choose-passes, asks-choose-passes₂, asks-choose-emit, asks-choose-second, asks-choose-emit₂, asks-choose-shape, asks-choose-third, asks-choose-shape₂, asks-choose-finish, answers-choose}
 use Rattle.compile_steps.specs.Adapt.{second-within, third-within}
-use Prim.Native.Nat.{ℕ, _+_}
+use Prim.Native.Nat.{ℕ, _+_, _-_, _*_, _≤_}
 use Rattle.compile_walk.proofs.choose.Reads as choose
 use Rattle.compile_walk.proofs.+arms+assign+block+body+choose+conditional+expression+items+operands+pair+repeat+select+simple+statement+when.Lts-choose as choose-lts
 use Rattle.compile_walk.proofs.expression.Reads as expression
@@ -24,6 +26,28 @@ claims t = (
   expression-below t, expression.Post, size-at-reads.Asked, size-at-reads.Learnt, end-of-reads.Asked, end-of-reads.Learnt, emit-reads.Asked, emit-reads.Learnt, statement-below t,
   statement′.Post, shape-reads.Asked, shape-reads.Learnt, finish-reads.Asked, finish-reads.Learnt,
 )
+
+-- the third part
+choose-passes : (t : ℕ) (c : choose-lts.After-size-at2 (claims t) (choose-at t) choose.Post)
+    → let d = c .before in
+    let s = d .before .before .before .before .before .before .before .before .before .before .before .before .before .before .before .before .before .before .before .before .before .before .before .before in
+    Passes (below (s .args .part .now) (8 * (s .args .at + 1 + d .size-at .result - s .args .at))) (s .args .sizes .now) (s .args .at + 1 + d .size-at .result) (c .size-at2 .result)
+choose-passes t c =
+    let d = c .before in
+    let e = d .before .before .before .before .before .before .before .before .before in
+    let s = e .before .before .before .before .before .before .before .before .before .before .before .before .before .before .before in
+    asks-choose-passes₂ (s .pre .1) (d .size-at .result) (d .size-at .ensures) (c .size-at2 .result) (c .size-at2 .ensures) (e .expression .ensures)
+
+choose-third : (t : ℕ) (c : choose-lts.After-size-at2 (claims t) (choose-at t) choose.Post)
+    → let d = c .before in
+    let s = d .before .before .before .before .before .before .before .before .before .before .before .before .before .before .before .before .before .before .before .before .before .before .before .before in
+    8 * (s .args .at + 1 + d .size-at .result + c .size-at2 .result - s .args .at) ≤ length (s .args .part .now)
+choose-third t c =
+    let d = c .before in
+    let s = d .before .before .before .before .before .before .before .before .before .before .before .before .before .before .before .before .before .before .before .before .before .before .before .before in
+    third-within (s .args .part .now) (s .args .at) (s .args .at + 1 + d .size-at .result) (c .size-at2 .result) (omega arith)
+    (second-within (s .args .part .now) (s .args .at) (d .size-at .result) (asked (s .pre .1) .long) (asks-choose-passes (s .pre .1) (d .size-at .result) (d .size-at .ensures)))
+    (choose-passes t c)
 
 -- what it has done where it returns
 choose-ends : (t : ℕ) → choose-lts.Need-returns (claims t) (choose-at t) choose.Post
@@ -76,11 +100,7 @@ choose-meets t = choose-lts.spec (claims t) (choose-at t) choose.Post
     let c3 = c2 .before .before .before .before .before .before .before .before .before .before .before .before .before .before .before in
     asks-choose-passes₂ (c3 .pre .1) (c .size-at .result) (c .size-at .ensures) _ refl (c2 .expression .ensures) .known)
     -- add-third
-    (λ c.
-    let c2 = c .before in
-    let c3 = c2 .before .before .before .before .before .before .before .before .before in
-    let c4 = c3 .before .before .before .before .before .before .before .before .before .before .before .before .before .before .before in
-    omega (arith, asks-choose-passes₂ (c4 .pre .1) (c2 .size-at .result) (c2 .size-at .ensures) (c .size-at2 .result) (c .size-at2 .ensures) (c3 .expression .ensures) .small))
+    (λ c. omega (arith, choose-passes t c .small))
     -- end-of-requires
     (λ c κs. search needs)
     -- add-emit
@@ -153,30 +173,11 @@ choose-meets t = choose-lts.spec (claims t) (choose-at t) choose.Post
     -- sub-last
     (λ c. omega arith)
     -- mul-last
-    (λ c.
-    let c1 = c .before .before .before .before .before .before .before .before .before .before .before .before .before .before .before .before .before .before .before .before .before .before .before .before .before .before .before .before .before in
-    let c2 = c1 .before in
-    let c3 = c2 .before .before .before .before .before .before .before .before .before in
-    let c4 = c3 .before .before .before .before .before .before .before .before .before .before .before .before .before .before .before in
-    omega (arith, asks-choose-passes₂ (c4 .pre .1) (c2 .size-at .result) (c2 .size-at .ensures) (c1 .size-at2 .result) (c1 .size-at2 .ensures) (c3 .expression .ensures) .small))
+    (λ c. omega (arith, choose-passes t (c .before .before .before .before .before .before .before .before .before .before .before .before .before .before .before .before .before .before .before .before .before .before .before .before .before .before .before .before .before) .small))
     -- sub-statement-3
-    (λ c.
-    let c1 = c .before .before .before .before .before .before .before .before .before .before .before .before .before .before .before .before .before .before .before .before .before .before .before .before .before .before .before .before .before in
-    let c2 = c1 .before in
-    let c3 = c2 .before .before .before .before .before .before .before .before .before in
-    let c4 = c3 .before .before .before .before .before .before .before .before .before .before .before .before .before .before .before in
-    third-within (c4 .args .part .now) (c4 .args .at) ((c4 .args .at) + 1 + c2 .size-at .result) (c1 .size-at2 .result) (omega arith)
-    (second-within (c4 .args .part .now) (c4 .args .at) (c2 .size-at .result) (asked (c4 .pre .1) .long) (asks-choose-passes (c4 .pre .1) (c2 .size-at .result) (c2 .size-at .ensures)))
-    (asks-choose-passes₂ (c4 .pre .1) (c2 .size-at .result) (c2 .size-at .ensures) (c1 .size-at2 .result) (c1 .size-at2 .ensures) (c3 .expression .ensures)))
+    (λ c. choose-third t (c .before .before .before .before .before .before .before .before .before .before .before .before .before .before .before .before .before .before .before .before .before .before .before .before .before .before .before .before .before))
     -- part-statement-start-2
-    (λ c.
-    let c1 = c .before .before .before .before .before .before .before .before .before .before .before .before .before .before .before .before .before .before .before .before .before .before .before .before .before .before .before .before .before in
-    let c2 = c1 .before in
-    let c3 = c2 .before .before .before .before .before .before .before .before .before in
-    let c4 = c3 .before .before .before .before .before .before .before .before .before .before .before .before .before .before .before in
-    third-within (c4 .args .part .now) (c4 .args .at) ((c4 .args .at) + 1 + c2 .size-at .result) (c1 .size-at2 .result) (omega arith)
-    (second-within (c4 .args .part .now) (c4 .args .at) (c2 .size-at .result) (asked (c4 .pre .1) .long) (asks-choose-passes (c4 .pre .1) (c2 .size-at .result) (c2 .size-at .ensures)))
-    (asks-choose-passes₂ (c4 .pre .1) (c2 .size-at .result) (c2 .size-at .ensures) (c1 .size-at2 .result) (c1 .size-at2 .ensures) (c3 .expression .ensures)))
+    (λ c. choose-third t (c .before .before .before .before .before .before .before .before .before .before .before .before .before .before .before .before .before .before .before .before .before .before .before .before .before .before .before .before .before))
     -- part-statement-end-2
     (λ c. search needs)
     -- sub-statement-4

@@ -1,11 +1,13 @@
 -- The walker `conditional` meets its contract.
 use mathlib.Core.Path.{refl}
 use native.Mathlib.Omega.{arith}
+use lib.ListN.{length}
 use borrow.Author.Needs.{needs}
-use Rattle.compile_steps.specs.Parts.{asked}
+use Rattle.shapes.specs.Steps.{Passes}
+use Rattle.compile_steps.specs.Parts.{asked, below}
 use Rattle.compile_steps.specs.Adapt.{second-within, third-within}
 use Rattle.compile_steps.specs.Adapt.{asks-cond-first, asks-cond-passes, asks-cond-passes₂, asks-cond-emit, asks-cond-second, asks-cond-read, asks-cond-emit₂, asks-cond-shape, asks-cond-third, asks-cond-write, asks-cond-shape₂, asks-cond-finish, answers-cond}
-use Prim.Native.Nat.{ℕ, _+_}
+use Prim.Native.Nat.{ℕ, _+_, _-_, _*_, _≤_}
 use Rattle.compile_walk.proofs.conditional.Reads as conditional
 use Rattle.compile_walk.proofs.+arms+assign+block+body+choose+conditional+expression+items+operands+pair+repeat+select+simple+statement+when.Lts-conditional as conditional-lts
 use Rattle.compile_walk.proofs.expression.Reads as expression
@@ -22,6 +24,28 @@ claims t = (
   expression-below t, expression.Post, size-at-reads.Asked, size-at-reads.Learnt, end-of-reads.Asked, end-of-reads.Learnt, emit-reads.Asked, emit-reads.Learnt, shape-reads.Asked,
   shape-reads.Learnt, finish-reads.Asked, finish-reads.Learnt,
 )
+
+-- the third part
+conditional-passes : (t : ℕ) (c : conditional-lts.After-size-at2 (claims t) (conditional-at t) conditional.Post)
+    → let d = c .before in
+    let s = d .before .before .before .before .before .before .before .before .before .before .before .before .before .before .before .before .before .before .before .before .before .before .before .before in
+    Passes (below (s .args .part .now) (8 * (s .args .at + 1 + d .size-at .result - s .args .at))) (s .args .sizes .now) (s .args .at + 1 + d .size-at .result) (c .size-at2 .result)
+conditional-passes t c =
+    let d = c .before in
+    let e = d .before .before .before .before .before .before .before .before .before in
+    let s = e .before .before .before .before .before .before .before .before .before .before .before .before .before .before .before in
+    asks-cond-passes₂ (s .pre .1) (d .size-at .result) (d .size-at .ensures) (e .expression .ensures) (c .size-at2 .result) (c .size-at2 .ensures)
+
+conditional-third : (t : ℕ) (c : conditional-lts.After-size-at2 (claims t) (conditional-at t) conditional.Post)
+    → let d = c .before in
+    let s = d .before .before .before .before .before .before .before .before .before .before .before .before .before .before .before .before .before .before .before .before .before .before .before .before in
+    8 * (s .args .at + 1 + d .size-at .result + c .size-at2 .result - s .args .at) ≤ length (s .args .part .now)
+conditional-third t c =
+    let d = c .before in
+    let s = d .before .before .before .before .before .before .before .before .before .before .before .before .before .before .before .before .before .before .before .before .before .before .before .before in
+    third-within (s .args .part .now) (s .args .at) (s .args .at + 1 + d .size-at .result) (c .size-at2 .result) (omega arith)
+    (second-within (s .args .part .now) (s .args .at) (d .size-at .result) (asked (s .pre .1) .long) (asks-cond-passes (s .pre .1) (d .size-at .result) (d .size-at .ensures)))
+    (conditional-passes t c)
 
 -- what it has done where it returns
 conditional-ends : (t : ℕ) → conditional-lts.Need-returns (claims t) (conditional-at t) conditional.Post
@@ -74,11 +98,7 @@ conditional-meets t = conditional-lts.spec (claims t) (conditional-at t) conditi
     let c3 = c2 .before .before .before .before .before .before .before .before .before .before .before .before .before .before .before in
     asks-cond-passes₂ (c3 .pre .1) (c .size-at .result) (c .size-at .ensures) (c2 .expression .ensures) _ refl .known)
     -- add-third
-    (λ c.
-    let c2 = c .before in
-    let c3 = c2 .before .before .before .before .before .before .before .before .before in
-    let c4 = c3 .before .before .before .before .before .before .before .before .before .before .before .before .before .before .before in
-    omega (arith, asks-cond-passes₂ (c4 .pre .1) (c2 .size-at .result) (c2 .size-at .ensures) (c3 .expression .ensures) (c .size-at2 .result) (c .size-at2 .ensures) .small))
+    (λ c. omega (arith, conditional-passes t c .small))
     -- end-of-requires
     (λ c κs. search needs)
     -- add-emit
@@ -154,30 +174,11 @@ conditional-meets t = conditional-lts.spec (claims t) (conditional-at t) conditi
     -- sub-last
     (λ c. omega arith)
     -- mul-last
-    (λ c.
-    let c1 = c .before .before .before .before .before .before .before .before .before .before .before .before .before .before .before .before .before .before .before .before .before .before .before .before .before .before .before .before .before .before in
-    let c2 = c1 .before in
-    let c3 = c2 .before .before .before .before .before .before .before .before .before in
-    let c4 = c3 .before .before .before .before .before .before .before .before .before .before .before .before .before .before .before in
-    omega (arith, asks-cond-passes₂ (c4 .pre .1) (c2 .size-at .result) (c2 .size-at .ensures) (c3 .expression .ensures) (c1 .size-at2 .result) (c1 .size-at2 .ensures) .small))
+    (λ c. omega (arith, conditional-passes t (c .before .before .before .before .before .before .before .before .before .before .before .before .before .before .before .before .before .before .before .before .before .before .before .before .before .before .before .before .before .before) .small))
     -- sub-expression-5
-    (λ c.
-    let c1 = c .before .before .before .before .before .before .before .before .before .before .before .before .before .before .before .before .before .before .before .before .before .before .before .before .before .before .before .before .before .before in
-    let c2 = c1 .before in
-    let c3 = c2 .before .before .before .before .before .before .before .before .before in
-    let c4 = c3 .before .before .before .before .before .before .before .before .before .before .before .before .before .before .before in
-    third-within (c4 .args .part .now) (c4 .args .at) ((c4 .args .at) + 1 + c2 .size-at .result) (c1 .size-at2 .result) (omega arith)
-    (second-within (c4 .args .part .now) (c4 .args .at) (c2 .size-at .result) (asked (c4 .pre .1) .long) (asks-cond-passes (c4 .pre .1) (c2 .size-at .result) (c2 .size-at .ensures)))
-    (asks-cond-passes₂ (c4 .pre .1) (c2 .size-at .result) (c2 .size-at .ensures) (c3 .expression .ensures) (c1 .size-at2 .result) (c1 .size-at2 .ensures)))
+    (λ c. conditional-third t (c .before .before .before .before .before .before .before .before .before .before .before .before .before .before .before .before .before .before .before .before .before .before .before .before .before .before .before .before .before .before))
     -- part-expression-start-3
-    (λ c.
-    let c1 = c .before .before .before .before .before .before .before .before .before .before .before .before .before .before .before .before .before .before .before .before .before .before .before .before .before .before .before .before .before .before in
-    let c2 = c1 .before in
-    let c3 = c2 .before .before .before .before .before .before .before .before .before in
-    let c4 = c3 .before .before .before .before .before .before .before .before .before .before .before .before .before .before .before in
-    third-within (c4 .args .part .now) (c4 .args .at) ((c4 .args .at) + 1 + c2 .size-at .result) (c1 .size-at2 .result) (omega arith)
-    (second-within (c4 .args .part .now) (c4 .args .at) (c2 .size-at .result) (asked (c4 .pre .1) .long) (asks-cond-passes (c4 .pre .1) (c2 .size-at .result) (c2 .size-at .ensures)))
-    (asks-cond-passes₂ (c4 .pre .1) (c2 .size-at .result) (c2 .size-at .ensures) (c3 .expression .ensures) (c1 .size-at2 .result) (c1 .size-at2 .ensures)))
+    (λ c. conditional-third t (c .before .before .before .before .before .before .before .before .before .before .before .before .before .before .before .before .before .before .before .before .before .before .before .before .before .before .before .before .before .before))
     -- part-expression-end-3
     (λ c. search needs)
     -- sub-expression-6
