@@ -22,8 +22,23 @@ use Rattle.compile_walk.proofs.+arms+assign+block+body+choose+condition
 -- what the functions that it calls are taken to ask and give
 abbrev claims : ℕ → assign-lts.Claims
 claims t = (
-  half-at-reads.Asked, half-at-reads.Learnt, meaning-reads.Asked, meaning-reads.Learnt, size-at-reads.Asked, size-at-reads.Learnt, finish-reads.Asked, finish-reads.Learnt,
-  expression-below t, expression.Post, owner-reads.Asked, owner-reads.Learnt, second-in-reads.Asked, second-in-reads.Learnt, emit-reads.Asked, emit-reads.Learnt, first-in-reads.Asked,
+  half-at-reads.Asked,
+  half-at-reads.Learnt,
+  meaning-reads.Asked,
+  meaning-reads.Learnt,
+  size-at-reads.Asked,
+  size-at-reads.Learnt,
+  finish-reads.Asked,
+  finish-reads.Learnt,
+  expression-below t,
+  expression.Post,
+  owner-reads.Asked,
+  owner-reads.Learnt,
+  second-in-reads.Asked,
+  second-in-reads.Learnt,
+  emit-reads.Asked,
+  emit-reads.Learnt,
+  first-in-reads.Asked,
   first-in-reads.Learnt,
 )
 
@@ -42,7 +57,8 @@ assign-ends t c =
     let c10 = c9 .before in
     let c11 = c10 .before in
     let c12 = c11 .before .before .before .before .before .before .before .before .before .before .before in
-    answers-variable (c12 .pre .1) (c9 .size-at .result) (c9 .size-at .ensures) (c10 .meaning .result) (rw (c11 .half-at .ensures) at (c10 .meaning .ensures)) (sym (c8 .half-at2 .ensures) ∙ c7 .if1 .taken) (c6 .finish .ensures) (c5 .expression .ensures) (rw (c4 .owner .ensures, c3 .second-in .ensures) at (c2 .emit .ensures)) (c1 .finish2 .ensures)
+    answers-variable (c12 .pre .1) (c9 .size-at .result) (c9 .size-at .ensures) (c10 .meaning .result) (rw (c11 .half-at .ensures) at (c10 .meaning .ensures))
+    (sym (c8 .half-at2 .ensures) ∙ c7 .if1 .taken) (c6 .finish .ensures) (c5 .expression .ensures) (rw (c4 .owner .ensures, c3 .second-in .ensures) at (c2 .emit .ensures)) (c1 .finish2 .ensures)
 
 assign-ends-2 : (t : ℕ) → assign-lts.Need-returns-2 (claims t) (assign-at t) assign.Post
 assign-ends-2 t c =
@@ -59,7 +75,9 @@ assign-ends-2 t c =
     let c11 = c10 .before in
     let c12 = c11 .before in
     let c13 = c12 .before .before .before .before .before .before .before .before .before .before .before in
-    answers-field (c13 .pre .1) (c10 .size-at .result) (c10 .size-at .ensures) (c11 .meaning .result) (rw (c12 .half-at .ensures) at (c11 .meaning .ensures)) (λ z. c8 .if1 .left (c9 .half-at2 .ensures ∙ z)) (c7 .expression2 .ensures) (c6 .finish3 .ensures) (c5 .expression3 .ensures) (rw (c4 .first-in .ensures, c3 .second-in2 .ensures) at (c2 .emit2 .ensures)) (c1 .finish4 .ensures)
+    answers-field (c13 .pre .1) (c10 .size-at .result) (c10 .size-at .ensures) (c11 .meaning .result) (rw (c12 .half-at .ensures) at (c11 .meaning .ensures))
+    (λ z. c8 .if1 .left (c9 .half-at2 .ensures ∙ z)) (c7 .expression2 .ensures) (c6 .finish3 .ensures) (c5 .expression3 .ensures)
+    (rw (c4 .first-in .ensures, c3 .second-in2 .ensures) at (c2 .emit2 .ensures)) (c1 .finish4 .ensures)
 
 pub assign-meets : {M : Type 1} (t : ℕ) → assign-lts.Closed (claims t) (assign-at t) assign.Post M
 assign-meets t = assign-lts.spec (claims t) (assign-at t) assign.Post

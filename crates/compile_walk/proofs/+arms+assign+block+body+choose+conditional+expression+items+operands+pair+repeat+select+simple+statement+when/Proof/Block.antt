@@ -20,8 +20,23 @@ use Rattle.compile_walk.proofs.+arms+assign+block+body+choose+condition
 -- what the functions that it calls are taken to ask and give
 abbrev claims : ℕ → block-lts.Claims
 claims t = (
-  half-at-reads.Asked, half-at-reads.Learnt, word-at-reads.Asked, word-at-reads.Learnt, holds-in-reads.Asked, holds-in-reads.Learnt, mark-holds-reads.Asked, mark-holds-reads.Learnt,
-  enter-reads.Asked, enter-reads.Learnt, declare-reads.Asked, declare-reads.Learnt, items-below t, items.Post, releases-reads.Asked, releases-reads.Learnt, finish-reads.Asked,
+  half-at-reads.Asked,
+  half-at-reads.Learnt,
+  word-at-reads.Asked,
+  word-at-reads.Learnt,
+  holds-in-reads.Asked,
+  holds-in-reads.Learnt,
+  mark-holds-reads.Asked,
+  mark-holds-reads.Learnt,
+  enter-reads.Asked,
+  enter-reads.Learnt,
+  declare-reads.Asked,
+  declare-reads.Learnt,
+  items-below t,
+  items.Post,
+  releases-reads.Asked,
+  releases-reads.Learnt,
+  finish-reads.Asked,
   finish-reads.Learnt,
 )
 
@@ -38,7 +53,8 @@ block-ends t c =
     let c8 = c7 .before .before in
     let c9 = c8 .before in
     let c10 = c9 .before .before .before .before .before .before .before .before .before .before in
-    answers-block (c10 .pre .1) (c9 .half-at .ensures) (c8 .word-at .ensures) (c7 .holds-in .ensures) (c6 .mark-holds .ensures) (c5 .enter .ensures) (c4 .declare .ensures) (c3 .items .ensures) (c2 .releases .ensures) (c1 .finish .ensures)
+    answers-block (c10 .pre .1) (c9 .half-at .ensures) (c8 .word-at .ensures) (c7 .holds-in .ensures) (c6 .mark-holds .ensures) (c5 .enter .ensures) (c4 .declare .ensures) (c3 .items .ensures)
+    (c2 .releases .ensures) (c1 .finish .ensures)
 
 pub block-meets : {M : Type 1} (t : ℕ) → block-lts.Closed (claims t) (block-at t) block.Post M
 block-meets t = block-lts.spec (claims t) (block-at t) block.Post

@@ -23,14 +23,34 @@ use Rattle.compile_walk.proofs.+arms+assign+block+body+choose+condition
 -- what the functions that it calls are taken to ask and give
 abbrev claims : ℕ → body-lts.Claims
 claims t = (
-  half-at-reads.Asked, half-at-reads.Learnt, word-at-reads.Asked, word-at-reads.Learnt, holds-in-reads.Asked, holds-in-reads.Learnt, mark-holds-reads.Asked, mark-holds-reads.Learnt,
-  enter-reads.Asked, enter-reads.Learnt, declare-reads.Asked, declare-reads.Learnt, items-below t, items.Post, spanned-reads.Asked, spanned-reads.Learnt, expression-below t,
-  expression.Post, releases-reads.Asked, releases-reads.Learnt, finish-reads.Asked, finish-reads.Learnt,
+  half-at-reads.Asked,
+  half-at-reads.Learnt,
+  word-at-reads.Asked,
+  word-at-reads.Learnt,
+  holds-in-reads.Asked,
+  holds-in-reads.Learnt,
+  mark-holds-reads.Asked,
+  mark-holds-reads.Learnt,
+  enter-reads.Asked,
+  enter-reads.Learnt,
+  declare-reads.Asked,
+  declare-reads.Learnt,
+  items-below t,
+  items.Post,
+  spanned-reads.Asked,
+  spanned-reads.Learnt,
+  expression-below t,
+  expression.Post,
+  releases-reads.Asked,
+  releases-reads.Learnt,
+  finish-reads.Asked,
+  finish-reads.Learnt,
 )
 
 -- the part behind its items
 body-passes : (t : ℕ) (c : body-lts.After-spanned (claims t) (body-at t) body.Post)
-    → let h = c .before .before .before .before .before .before .before .before .before .before .before .before .before .before .before .before .before .before .before .before .before .before .before .before .before .before .before .before .before .before .before .before .before .before in
+    → let h1 = c .before .before .before .before .before .before .before .before .before .before .before .before .before .before .before .before .before in
+    let h = h1 .before .before .before .before .before .before .before .before .before .before .before .before .before .before .before .before .before in
     let s = h .before .before .before .before .before .before .before .before .before .before in
     (8 * (1 + h .half-at .result + c .spanned .result) ≤ length (s .args .part .now)) × (s .args .at + 1 + h .half-at .result + c .spanned .result ≤ 2048)
 body-passes t c =
@@ -42,7 +62,8 @@ body-passes t c =
     let c7 = c6 .before .before in
     let c8 = c7 .before in
     let c9 = c8 .before .before .before .before .before .before .before .before .before .before in
-    asks-body-passes (c9 .pre .1) (c8 .half-at .ensures) (c7 .word-at .ensures) (c6 .holds-in .ensures) (c5 .mark-holds .ensures) (c4 .enter .ensures) (c3 .declare .ensures) (c2 .items .ensures) (c .spanned .ensures)
+    asks-body-passes (c9 .pre .1) (c8 .half-at .ensures) (c7 .word-at .ensures) (c6 .holds-in .ensures) (c5 .mark-holds .ensures) (c4 .enter .ensures) (c3 .declare .ensures) (c2 .items .ensures)
+    (c .spanned .ensures)
 
 -- what it has done where it returns
 body-ends : (t : ℕ) → body-lts.Need-returns (claims t) (body-at t) body.Post
@@ -59,7 +80,8 @@ body-ends t c =
     let c10 = c9 .before .before in
     let c11 = c10 .before in
     let c12 = c11 .before .before .before .before .before .before .before .before .before .before in
-    answers-body (c12 .pre .1) (c11 .half-at .ensures) (c10 .word-at .ensures) (c9 .holds-in .ensures) (c8 .mark-holds .ensures) (c7 .enter .ensures) (c6 .declare .ensures) (c5 .items .ensures) (c4 .spanned .ensures) (c3 .expression .ensures) (c2 .releases .ensures) (c1 .finish .ensures)
+    answers-body (c12 .pre .1) (c11 .half-at .ensures) (c10 .word-at .ensures) (c9 .holds-in .ensures) (c8 .mark-holds .ensures) (c7 .enter .ensures) (c6 .declare .ensures) (c5 .items .ensures)
+    (c4 .spanned .ensures) (c3 .expression .ensures) (c2 .releases .ensures) (c1 .finish .ensures)
 
 pub body-meets : {M : Type 1} (t : ℕ) → body-lts.Closed (claims t) (body-at t) body.Post M
 body-meets t = body-lts.spec (claims t) (body-at t) body.Post

@@ -17,20 +17,32 @@ use Rattle.compile_own.proofs.finish.Reads as finish-reads
 use Rattle.compile_pen.proofs.emit.Reads as emit-reads
 use Rattle.compile_pen.proofs.shape.Reads as shape-reads
 use Rattle.spans.proofs.size_at.Reads as size-at-reads
-use Rattle.compile_walk.proofs.+arms+assign+block+body+choose+conditional+expression+items+operands+pair+repeat+select+simple+statement+when.{statement}
 use Rattle.compile_walk.proofs.+arms+assign+block+body+choose+conditional+expression+items+operands+pair+repeat+select+simple+statement+when.Proof.Base.{choose-at, expression-below, statement-below}
 
 -- what the functions that it calls are taken to ask and give
 abbrev claims : ℕ → choose-lts.Claims
 claims t = (
-  expression-below t, expression.Post, size-at-reads.Asked, size-at-reads.Learnt, end-of-reads.Asked, end-of-reads.Learnt, emit-reads.Asked, emit-reads.Learnt, statement-below t,
-  statement′.Post, shape-reads.Asked, shape-reads.Learnt, finish-reads.Asked, finish-reads.Learnt,
+  expression-below t,
+  expression.Post,
+  size-at-reads.Asked,
+  size-at-reads.Learnt,
+  end-of-reads.Asked,
+  end-of-reads.Learnt,
+  emit-reads.Asked,
+  emit-reads.Learnt,
+  statement-below t,
+  statement′.Post,
+  shape-reads.Asked,
+  shape-reads.Learnt,
+  finish-reads.Asked,
+  finish-reads.Learnt,
 )
 
 -- the third part
 choose-passes : (t : ℕ) (c : choose-lts.After-size-at2 (claims t) (choose-at t) choose.Post)
     → let d = c .before in
-    let s = d .before .before .before .before .before .before .before .before .before .before .before .before .before .before .before .before .before .before .before .before .before .before .before .before in
+    let e = d .before .before .before .before .before .before .before .before .before in
+    let s = e .before .before .before .before .before .before .before .before .before .before .before .before .before .before .before in
     Passes (below (s .args .part .now) (8 * (s .args .at + 1 + d .size-at .result - s .args .at))) (s .args .sizes .now) (s .args .at + 1 + d .size-at .result) (c .size-at2 .result)
 choose-passes t c =
     let d = c .before in
@@ -40,11 +52,13 @@ choose-passes t c =
 
 choose-third : (t : ℕ) (c : choose-lts.After-size-at2 (claims t) (choose-at t) choose.Post)
     → let d = c .before in
-    let s = d .before .before .before .before .before .before .before .before .before .before .before .before .before .before .before .before .before .before .before .before .before .before .before .before in
+    let e = d .before .before .before .before .before .before .before .before .before in
+    let s = e .before .before .before .before .before .before .before .before .before .before .before .before .before .before .before in
     8 * (s .args .at + 1 + d .size-at .result + c .size-at2 .result - s .args .at) ≤ length (s .args .part .now)
 choose-third t c =
     let d = c .before in
-    let s = d .before .before .before .before .before .before .before .before .before .before .before .before .before .before .before .before .before .before .before .before .before .before .before .before in
+    let e = d .before .before .before .before .before .before .before .before .before in
+    let s = e .before .before .before .before .before .before .before .before .before .before .before .before .before .before .before in
     third-within (s .args .part .now) (s .args .at) (s .args .at + 1 + d .size-at .result) (c .size-at2 .result) (omega arith)
     (second-within (s .args .part .now) (s .args .at) (d .size-at .result) (asked (s .pre .1) .long) (asks-choose-passes (s .pre .1) (d .size-at .result) (d .size-at .ensures)))
     (choose-passes t c)
@@ -173,11 +187,17 @@ choose-meets t = choose-lts.spec (claims t) (choose-at t) choose.Post
     -- sub-last
     (λ c. omega arith)
     -- mul-last
-    (λ c. omega (arith, choose-passes t (c .before .before .before .before .before .before .before .before .before .before .before .before .before .before .before .before .before .before .before .before .before .before .before .before .before .before .before .before .before) .small))
+    (λ c.
+    let d = c .before .before .before .before .before .before .before .before .before .before .before .before .before .before in
+    omega (arith, choose-passes t (d .before .before .before .before .before .before .before .before .before .before .before .before .before .before .before) .small))
     -- sub-statement-3
-    (λ c. choose-third t (c .before .before .before .before .before .before .before .before .before .before .before .before .before .before .before .before .before .before .before .before .before .before .before .before .before .before .before .before .before))
+    (λ c.
+    let d = c .before .before .before .before .before .before .before .before .before .before .before .before .before .before in
+    choose-third t (d .before .before .before .before .before .before .before .before .before .before .before .before .before .before .before))
     -- part-statement-start-2
-    (λ c. choose-third t (c .before .before .before .before .before .before .before .before .before .before .before .before .before .before .before .before .before .before .before .before .before .before .before .before .before .before .before .before .before))
+    (λ c.
+    let d = c .before .before .before .before .before .before .before .before .before .before .before .before .before .before in
+    choose-third t (d .before .before .before .before .before .before .before .before .before .before .before .before .before .before .before))
     -- part-statement-end-2
     (λ c. search needs)
     -- sub-statement-4

@@ -21,14 +21,25 @@ use Rattle.compile_walk.proofs.+arms+assign+block+body+choose+condition
 -- what the functions that it calls are taken to ask and give
 abbrev claims : ℕ → conditional-lts.Claims
 claims t = (
-  expression-below t, expression.Post, size-at-reads.Asked, size-at-reads.Learnt, end-of-reads.Asked, end-of-reads.Learnt, emit-reads.Asked, emit-reads.Learnt, shape-reads.Asked,
-  shape-reads.Learnt, finish-reads.Asked, finish-reads.Learnt,
+  expression-below t,
+  expression.Post,
+  size-at-reads.Asked,
+  size-at-reads.Learnt,
+  end-of-reads.Asked,
+  end-of-reads.Learnt,
+  emit-reads.Asked,
+  emit-reads.Learnt,
+  shape-reads.Asked,
+  shape-reads.Learnt,
+  finish-reads.Asked,
+  finish-reads.Learnt,
 )
 
 -- the third part
 conditional-passes : (t : ℕ) (c : conditional-lts.After-size-at2 (claims t) (conditional-at t) conditional.Post)
     → let d = c .before in
-    let s = d .before .before .before .before .before .before .before .before .before .before .before .before .before .before .before .before .before .before .before .before .before .before .before .before in
+    let e = d .before .before .before .before .before .before .before .before .before in
+    let s = e .before .before .before .before .before .before .before .before .before .before .before .before .before .before .before in
     Passes (below (s .args .part .now) (8 * (s .args .at + 1 + d .size-at .result - s .args .at))) (s .args .sizes .now) (s .args .at + 1 + d .size-at .result) (c .size-at2 .result)
 conditional-passes t c =
     let d = c .before in
@@ -38,11 +49,13 @@ conditional-passes t c =
 
 conditional-third : (t : ℕ) (c : conditional-lts.After-size-at2 (claims t) (conditional-at t) conditional.Post)
     → let d = c .before in
-    let s = d .before .before .before .before .before .before .before .before .before .before .before .before .before .before .before .before .before .before .before .before .before .before .before .before in
+    let e = d .before .before .before .before .before .before .before .before .before in
+    let s = e .before .before .before .before .before .before .before .before .before .before .before .before .before .before .before in
     8 * (s .args .at + 1 + d .size-at .result + c .size-at2 .result - s .args .at) ≤ length (s .args .part .now)
 conditional-third t c =
     let d = c .before in
-    let s = d .before .before .before .before .before .before .before .before .before .before .before .before .before .before .before .before .before .before .before .before .before .before .before .before in
+    let e = d .before .before .before .before .before .before .before .before .before in
+    let s = e .before .before .before .before .before .before .before .before .before .before .before .before .before .before .before in
     third-within (s .args .part .now) (s .args .at) (s .args .at + 1 + d .size-at .result) (c .size-at2 .result) (omega arith)
     (second-within (s .args .part .now) (s .args .at) (d .size-at .result) (asked (s .pre .1) .long) (asks-cond-passes (s .pre .1) (d .size-at .result) (d .size-at .ensures)))
     (conditional-passes t c)
@@ -63,7 +76,8 @@ conditional-ends t c =
     let c11 = c10 .before in
     let c12 = c11 .before .before .before .before .before .before .before .before .before in
     let c13 = c12 .before .before .before .before .before .before .before .before .before .before .before .before .before .before .before in
-    answers-cond (c13 .pre .1) (c11 .size-at .result) (c11 .size-at .ensures) (c12 .expression .ensures) (c9 .end-of .ensures .0) (c8 .emit .ensures) (c7 .expression2 .ensures) (c10 .size-at2 .result) (c10 .size-at2 .ensures)
+    answers-cond (c13 .pre .1) (c11 .size-at .result) (c11 .size-at .ensures) (c12 .expression .ensures) (c9 .end-of .ensures .0) (c8 .emit .ensures) (c7 .expression2 .ensures)
+    (c10 .size-at2 .result) (c10 .size-at2 .ensures)
     (c6 .end-of2 .ensures .0) (c5 .emit2 .ensures) (c4 .shape .ensures) (c3 .expression3 .ensures) _ refl (c2 .shape2 .ensures) (c1 .finish .ensures)
 
 pub conditional-meets : {M : Type 1} (t : ℕ) → conditional-lts.Closed (claims t) (conditional-at t) conditional.Post M
@@ -174,11 +188,17 @@ conditional-meets t = conditional-lts.spec (claims t) (conditional-at t) conditi
     -- sub-last
     (λ c. omega arith)
     -- mul-last
-    (λ c. omega (arith, conditional-passes t (c .before .before .before .before .before .before .before .before .before .before .before .before .before .before .before .before .before .before .before .before .before .before .before .before .before .before .before .before .before .before) .small))
+    (λ c.
+    let d = c .before .before .before .before .before .before .before .before .before .before .before .before .before .before .before in
+    omega (arith, conditional-passes t (d .before .before .before .before .before .before .before .before .before .before .before .before .before .before .before) .small))
     -- sub-expression-5
-    (λ c. conditional-third t (c .before .before .before .before .before .before .before .before .before .before .before .before .before .before .before .before .before .before .before .before .before .before .before .before .before .before .before .before .before .before))
+    (λ c.
+    let d = c .before .before .before .before .before .before .before .before .before .before .before .before .before .before .before in
+    conditional-third t (d .before .before .before .before .before .before .before .before .before .before .before .before .before .before .before))
     -- part-expression-start-3
-    (λ c. conditional-third t (c .before .before .before .before .before .before .before .before .before .before .before .before .before .before .before .before .before .before .before .before .before .before .before .before .before .before .before .before .before .before))
+    (λ c.
+    let d = c .before .before .before .before .before .before .before .before .before .before .before .before .before .before .before in
+    conditional-third t (d .before .before .before .before .before .before .before .before .before .before .before .before .before .before .before))
     -- part-expression-end-3
     (λ c. search needs)
     -- sub-expression-6

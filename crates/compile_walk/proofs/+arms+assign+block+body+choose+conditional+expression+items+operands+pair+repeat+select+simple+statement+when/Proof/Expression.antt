@@ -23,9 +23,26 @@ use Rattle.compile_walk.proofs.+arms+assign+block+body+choose+condition
 -- what the functions that it calls are taken to ask and give
 abbrev claims : ℕ → expression-lts.Claims
 claims t = (
-  half-at-reads.Asked, half-at-reads.Learnt, pair-below t, pair.Post, conditional-below t, conditional.Post, body-below t, body.Post, known-of-reads.Asked, known-of-reads.Learnt,
-  leaf-type-reads.Asked, leaf-type-reads.Learnt, word-at-reads.Asked, word-at-reads.Learnt, leaf-reads.Asked, leaf-reads.Learnt, finish-reads.Asked, finish-reads.Learnt,
-  simple-below t, simple.Post,
+  half-at-reads.Asked,
+  half-at-reads.Learnt,
+  pair-below t,
+  pair.Post,
+  conditional-below t,
+  conditional.Post,
+  body-below t,
+  body.Post,
+  known-of-reads.Asked,
+  known-of-reads.Learnt,
+  leaf-type-reads.Asked,
+  leaf-type-reads.Learnt,
+  word-at-reads.Asked,
+  word-at-reads.Learnt,
+  leaf-reads.Asked,
+  leaf-reads.Learnt,
+  finish-reads.Asked,
+  finish-reads.Learnt,
+  simple-below t,
+  simple.Post,
 )
 
 -- what it has done where it returns
@@ -41,7 +58,11 @@ expression-ends-4 t c =
     let c8 = c7 .before in
     let c9 = c8 .before in
     let c10 = c9 .before .before .before .before .before .before .before .before .before .before in
-    answer-as (λ n h e. leaf-of n h (λ z. c8 .match .rest .0 .0 .1 (c9 .half-at .ensures ∙ (sym e ∙ z))) (λ z. c8 .match .rest .0 .1 (c9 .half-at .ensures ∙ (sym e ∙ z))) (λ z. c8 .match .rest .1 (c9 .half-at .ensures ∙ (sym e ∙ z))) (omega (arith, e, c9 .half-at .ensures, c7 .if1 .taken))) (answers-leaf (ask-as (λ n h e. leaf-of n h (λ z. c8 .match .rest .0 .0 .1 (c9 .half-at .ensures ∙ (sym e ∙ z))) (λ z. c8 .match .rest .0 .1 (c9 .half-at .ensures ∙ (sym e ∙ z))) (λ z. c8 .match .rest .1 (c9 .half-at .ensures ∙ (sym e ∙ z))) (omega (arith, e, c9 .half-at .ensures, c7 .if1 .taken))) (c10 .pre .1)) (c9 .half-at .ensures) (c6 .half-at2 .ensures) (c3 .word-at .ensures) (c5 .known-of .ensures) (c4 .leaf-type .ensures) (c2 .leaf .ensures) (c1 .finish .ensures))
+    answer-as (λ n h e. leaf-of n h (λ z. c8 .match .rest .0 .0 .1 (c9 .half-at .ensures ∙ (sym e ∙ z))) (λ z. c8 .match .rest .0 .1 (c9 .half-at .ensures ∙ (sym e ∙ z)))
+    (λ z. c8 .match .rest .1 (c9 .half-at .ensures ∙ (sym e ∙ z))) (omega (arith, e, c9 .half-at .ensures, c7 .if1 .taken)))
+    (answers-leaf (ask-as (λ n h e. leaf-of n h (λ z. c8 .match .rest .0 .0 .1 (c9 .half-at .ensures ∙ (sym e ∙ z))) (λ z. c8 .match .rest .0 .1 (c9 .half-at .ensures ∙ (sym e ∙ z)))
+    (λ z. c8 .match .rest .1 (c9 .half-at .ensures ∙ (sym e ∙ z))) (omega (arith, e, c9 .half-at .ensures, c7 .if1 .taken))) (c10 .pre .1)) (c9 .half-at .ensures) (c6 .half-at2 .ensures)
+    (c3 .word-at .ensures) (c5 .known-of .ensures) (c4 .leaf-type .ensures) (c2 .leaf .ensures) (c1 .finish .ensures))
 
 pub expression-meets : {M : Type 1} (t : ℕ) → expression-lts.Closed (claims t) (expression-at t) expression.Post M
 expression-meets t = expression-lts.spec (claims t) (expression-at t) expression.Post

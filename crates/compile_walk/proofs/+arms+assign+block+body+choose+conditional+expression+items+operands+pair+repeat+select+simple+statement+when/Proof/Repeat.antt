@@ -15,14 +15,25 @@ use Rattle.compile_own.proofs.finish.Reads as finish-reads
 use Rattle.compile_pen.proofs.emit.Reads as emit-reads
 use Rattle.compile_pen.proofs.shape.Reads as shape-reads
 use Rattle.spans.proofs.size_at.Reads as size-at-reads
-use Rattle.compile_walk.proofs.+arms+assign+block+body+choose+conditional+expression+items+operands+pair+repeat+select+simple+statement+when.{statement}
 use Rattle.compile_walk.proofs.+arms+assign+block+body+choose+conditional+expression+items+operands+pair+repeat+select+simple+statement+when.Proof.Base.{expression-below, repeat-at, statement-below}
 
 -- what the functions that it calls are taken to ask and give
 abbrev claims : ℕ → repeat-lts.Claims
 claims t = (
-  shape-reads.Asked, shape-reads.Learnt, expression-below t, expression.Post, size-at-reads.Asked, size-at-reads.Learnt, end-of-reads.Asked, end-of-reads.Learnt, emit-reads.Asked,
-  emit-reads.Learnt, statement-below t, statement′.Post, finish-reads.Asked, finish-reads.Learnt,
+  shape-reads.Asked,
+  shape-reads.Learnt,
+  expression-below t,
+  expression.Post,
+  size-at-reads.Asked,
+  size-at-reads.Learnt,
+  end-of-reads.Asked,
+  end-of-reads.Learnt,
+  emit-reads.Asked,
+  emit-reads.Learnt,
+  statement-below t,
+  statement′.Post,
+  finish-reads.Asked,
+  finish-reads.Learnt,
 )
 
 -- what it has done where it returns
@@ -38,7 +49,8 @@ repeat-ends t c =
     let c8 = c7 .before .before .before .before .before .before .before .before .before in
     let c9 = c8 .before .before .before .before .before .before .before .before in
     let c10 = c9 .before .before .before .before .before .before .before .before .before .before .before .before .before in
-    answers-while (c10 .pre .1) (c9 .shape .ensures) (c7 .size-at .result) (c7 .size-at .ensures) (c8 .expression .ensures) (c6 .end-of .ensures .0) (c5 .emit .ensures) (c4 .statement .ensures) refl (c3 .emit2 .ensures)
+    answers-while (c10 .pre .1) (c9 .shape .ensures) (c7 .size-at .result) (c7 .size-at .ensures) (c8 .expression .ensures) (c6 .end-of .ensures .0) (c5 .emit .ensures) (c4 .statement .ensures) refl
+    (c3 .emit2 .ensures)
     (c2 .shape2 .ensures) (c1 .finish .ensures)
 
 pub repeat-meets : {M : Type 1} (t : ℕ) → repeat-lts.Closed (claims t) (repeat-at t) repeat.Post M

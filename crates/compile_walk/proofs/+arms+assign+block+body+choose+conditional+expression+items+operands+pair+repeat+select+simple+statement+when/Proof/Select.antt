@@ -23,8 +23,23 @@ use Rattle.compile_walk.proofs.+arms+assign+block+body+choose+condition
 -- what the functions that it calls are taken to ask and give
 abbrev claims : ℕ → select-lts.Claims
 claims t = (
-  half-at-reads.Asked, half-at-reads.Learnt, known-at-reads.Asked, known-at-reads.Learnt, second-in-reads.Asked, second-in-reads.Learnt, expression-below t, expression.Post,
-  emit-reads.Asked, emit-reads.Learnt, size-at-reads.Asked, size-at-reads.Learnt, arms-below t, arms.Post, shape-reads.Asked, shape-reads.Learnt, finish-reads.Asked,
+  half-at-reads.Asked,
+  half-at-reads.Learnt,
+  known-at-reads.Asked,
+  known-at-reads.Learnt,
+  second-in-reads.Asked,
+  second-in-reads.Learnt,
+  expression-below t,
+  expression.Post,
+  emit-reads.Asked,
+  emit-reads.Learnt,
+  size-at-reads.Asked,
+  size-at-reads.Learnt,
+  arms-below t,
+  arms.Post,
+  shape-reads.Asked,
+  shape-reads.Learnt,
+  finish-reads.Asked,
   finish-reads.Learnt,
 )
 
@@ -42,7 +57,8 @@ select-ends t c =
     let c9 = c8 .before in
     let c10 = c9 .before in
     let c11 = c10 .before .before .before .before .before .before .before .before .before .before in
-    answers-select (c11 .pre .1) (c5 .size-at .result) (c5 .size-at .ensures) (c7 .expression .ensures) (c10 .half-at .ensures) (c8 .second-in .ensures ∙ ap secondIn (c9 .known-at .ensures)) (c6 .emit .ensures) (c4 .arms .ensures) (c3 .emit2 .ensures) (c2 .shape .ensures)
+    answers-select (c11 .pre .1) (c5 .size-at .result) (c5 .size-at .ensures) (c7 .expression .ensures) (c10 .half-at .ensures) (c8 .second-in .ensures ∙ ap secondIn (c9 .known-at .ensures))
+    (c6 .emit .ensures) (c4 .arms .ensures) (c3 .emit2 .ensures) (c2 .shape .ensures)
     (c1 .finish .ensures)
 
 pub select-meets : {M : Type 1} (t : ℕ) → select-lts.Closed (claims t) (select-at t) select.Post M

@@ -19,8 +19,22 @@ use Rattle.compile_walk.proofs.+arms+assign+block+body+choose+condition
 -- what the functions that it calls are taken to ask and give
 abbrev claims : ℕ → simple-lts.Claims
 claims t = (
-  half-at-reads.Asked, half-at-reads.Learnt, word-at-reads.Asked, word-at-reads.Learnt, operands-of-reads.Asked, operands-of-reads.Learnt, operands-below t, operands.Post,
-  known-of-reads.Asked, known-of-reads.Learnt, last-type-reads.Asked, last-type-reads.Learnt, last-reads.Asked, last-reads.Learnt, finish-reads.Asked, finish-reads.Learnt,
+  half-at-reads.Asked,
+  half-at-reads.Learnt,
+  word-at-reads.Asked,
+  word-at-reads.Learnt,
+  operands-of-reads.Asked,
+  operands-of-reads.Learnt,
+  operands-below t,
+  operands.Post,
+  known-of-reads.Asked,
+  known-of-reads.Learnt,
+  last-type-reads.Asked,
+  last-type-reads.Learnt,
+  last-reads.Asked,
+  last-reads.Learnt,
+  finish-reads.Asked,
+  finish-reads.Learnt,
 )
 
 -- what it has done where it returns
@@ -36,7 +50,8 @@ simple-ends t c =
     let c8 = c7 .before in
     let c9 = c8 .before in
     let c10 = c9 .before .before .before .before .before .before .before .before .before .before in
-    answers-simple (c10 .pre .1) (c9 .half-at .ensures) (c8 .half-at2 .ensures) (c7 .word-at .ensures) (c6 .operands-of .ensures) (c5 .operands .ensures) (c4 .known-of .ensures) (c2 .last .ensures) (c3 .last-type .ensures) (c1 .finish .ensures)
+    answers-simple (c10 .pre .1) (c9 .half-at .ensures) (c8 .half-at2 .ensures) (c7 .word-at .ensures) (c6 .operands-of .ensures) (c5 .operands .ensures) (c4 .known-of .ensures) (c2 .last .ensures)
+    (c3 .last-type .ensures) (c1 .finish .ensures)
 
 pub simple-meets : {M : Type 1} (t : ℕ) → simple-lts.Closed (claims t) (simple-at t) simple.Post M
 simple-meets t = simple-lts.spec (claims t) (simple-at t) simple.Post

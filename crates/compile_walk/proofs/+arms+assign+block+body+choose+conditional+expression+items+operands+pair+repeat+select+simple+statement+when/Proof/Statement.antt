@@ -23,8 +23,28 @@ use Rattle.compile_walk.proofs.+arms+assign+block+body+choose+condition
 -- what the functions that it calls are taken to ask and give
 abbrev claims : ℕ → statement-lts.Claims
 claims t = (
-  half-at-reads.Asked, half-at-reads.Learnt, block-below t, block.Post, shape-reads.Asked, shape-reads.Learnt, finish-reads.Asked, finish-reads.Learnt, assign-below t, assign.Post,
-  when-below t, when.Post, choose-below t, choose.Post, repeat-below t, repeat.Post, goto-reads.Asked, goto-reads.Learnt, select-below t, select.Post, simple-below t, simple.Post,
+  half-at-reads.Asked,
+  half-at-reads.Learnt,
+  block-below t,
+  block.Post,
+  shape-reads.Asked,
+  shape-reads.Learnt,
+  finish-reads.Asked,
+  finish-reads.Learnt,
+  assign-below t,
+  assign.Post,
+  when-below t,
+  when.Post,
+  choose-below t,
+  choose.Post,
+  repeat-below t,
+  repeat.Post,
+  goto-reads.Asked,
+  goto-reads.Learnt,
+  select-below t,
+  select.Post,
+  simple-below t,
+  simple.Post,
 )
 
 -- what it has done where it returns
@@ -35,7 +55,8 @@ statement-ends-2 t c =
     let c3 = c2 .before .before .before .before in
     let c4 = c3 .before in
     let c5 = c4 .before .before .before .before .before .before .before .before .before .before in
-    answer-as (λ n h e. e ∙ (sym (c4 .half-at .ensures) ∙ c3 .match .keys2)) (answers-label (ask-as (λ n h e. e ∙ (sym (c4 .half-at .ensures) ∙ c3 .match .keys2)) (c5 .pre .1)) (c2 .shape .ensures) (c1 .finish .ensures))
+    answer-as (λ n h e. e ∙ (sym (c4 .half-at .ensures) ∙ c3 .match .keys2))
+    (answers-label (ask-as (λ n h e. e ∙ (sym (c4 .half-at .ensures) ∙ c3 .match .keys2)) (c5 .pre .1)) (c2 .shape .ensures) (c1 .finish .ensures))
 
 statement-ends-7 : (t : ℕ) → statement-lts.Need-returns-7 (claims t) (statement-at t) statement′.Post
 statement-ends-7 t c =
@@ -45,7 +66,8 @@ statement-ends-7 t c =
     let c4 = c3 .before .before in
     let c5 = c4 .before in
     let c6 = c5 .before .before .before .before .before .before .before .before .before .before in
-    answer-as (λ n h e. e ∙ (sym (c5 .half-at .ensures) ∙ c4 .match .keys7)) (answers-goto (ask-as (λ n h e. e ∙ (sym (c5 .half-at .ensures) ∙ c4 .match .keys7)) (c6 .pre .1)) (c3 .half-at2 .ensures) (c2 .goto .ensures) (c1 .finish2 .ensures))
+    answer-as (λ n h e. e ∙ (sym (c5 .half-at .ensures) ∙ c4 .match .keys7))
+    (answers-goto (ask-as (λ n h e. e ∙ (sym (c5 .half-at .ensures) ∙ c4 .match .keys7)) (c6 .pre .1)) (c3 .half-at2 .ensures) (c2 .goto .ensures) (c1 .finish2 .ensures))
 
 pub statement-meets : {M : Type 1} (t : ℕ) → statement-lts.Closed (claims t) (statement-at t) statement′.Post M
 statement-meets t = statement-lts.spec (claims t) (statement-at t) statement′.Post

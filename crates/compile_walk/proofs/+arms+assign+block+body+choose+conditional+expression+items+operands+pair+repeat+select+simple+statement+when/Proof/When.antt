@@ -15,14 +15,25 @@ use Rattle.compile_own.proofs.finish.Reads as finish-reads
 use Rattle.compile_pen.proofs.emit.Reads as emit-reads
 use Rattle.compile_pen.proofs.shape.Reads as shape-reads
 use Rattle.spans.proofs.size_at.Reads as size-at-reads
-use Rattle.compile_walk.proofs.+arms+assign+block+body+choose+conditional+expression+items+operands+pair+repeat+select+simple+statement+when.{statement}
 use Rattle.compile_walk.proofs.+arms+assign+block+body+choose+conditional+expression+items+operands+pair+repeat+select+simple+statement+when.Proof.Base.{expression-below, statement-below, when-at}
 
 -- what the functions that it calls are taken to ask and give
 abbrev claims : ℕ → when-lts.Claims
 claims t = (
-  expression-below t, expression.Post, size-at-reads.Asked, size-at-reads.Learnt, end-of-reads.Asked, end-of-reads.Learnt, emit-reads.Asked, emit-reads.Learnt, statement-below t,
-  statement′.Post, shape-reads.Asked, shape-reads.Learnt, finish-reads.Asked, finish-reads.Learnt,
+  expression-below t,
+  expression.Post,
+  size-at-reads.Asked,
+  size-at-reads.Learnt,
+  end-of-reads.Asked,
+  end-of-reads.Learnt,
+  emit-reads.Asked,
+  emit-reads.Learnt,
+  statement-below t,
+  statement′.Post,
+  shape-reads.Asked,
+  shape-reads.Learnt,
+  finish-reads.Asked,
+  finish-reads.Learnt,
 )
 
 -- what it has done where it returns
@@ -36,7 +47,8 @@ when-ends t c =
     let c6 = c5 .before .before in
     let c7 = c6 .before .before .before .before .before .before .before .before .before in
     let c8 = c7 .before .before .before .before .before .before .before .before .before .before .before .before .before .before .before in
-    answers-when (c8 .pre .1) (c6 .size-at .result) (c6 .size-at .ensures) (c7 .expression .ensures) (c5 .end-of .ensures .0) (c4 .emit .ensures) (c3 .statement .ensures) (c2 .shape .ensures) (c1 .finish .ensures)
+    answers-when (c8 .pre .1) (c6 .size-at .result) (c6 .size-at .ensures) (c7 .expression .ensures) (c5 .end-of .ensures .0) (c4 .emit .ensures) (c3 .statement .ensures) (c2 .shape .ensures)
+    (c1 .finish .ensures)
 
 pub when-meets : {M : Type 1} (t : ℕ) → when-lts.Closed (claims t) (when-at t) when.Post M
 when-meets t = when-lts.spec (claims t) (when-at t) when.Post
