@@ -32,9 +32,11 @@ use Rattle.compile_nodes.specs.Ends.{belowS, endsE}
 use Rattle.compile_nodes.specs.Knows.{Walk}
 use Rattle.compile_nodes.specs.Ready.{Node, stmt, expr, Place, Lent, Stood, Kept, Wrote, Ready, Done, Asks, Answers}
 use Rattle.compile_steps.specs.Named.{meaning-of, variable-store, field-first, field-second}
-use Rattle.compile_steps.specs.Parts.{lent, below, movedTo, heldOn, size-N, passes-N, flat-one, kept-then, kept-out, kept-ends, kept-less, wrote-then, wrote-op, wrote-address, wrote-length, fits-start}
+use Rattle.compile_steps.specs.Parts.{lent, below, movedTo, heldOn, size-N, passes-N, flat-one, kept-then, kept-out, kept-ends, kept-less, wrote-then, wrote-op, wrote-address, wrote-length}
+use Rattle.compile_steps.specs.Parts.{fits-start}
 use Rattle.compile_steps.specs.Views.{IsExpr, IsKind, assign-of}
-use Rattle.compile_steps.specs.Shared.{Rest, rest-enter, rest-left, rest-push, rest-lent, rest-at, rest-ready, rest-stood, rest-fits, ends-then, ends-own, ends-N, table-from, finishing, ready-as, done-as}
+use Rattle.compile_steps.specs.Shared.{Rest, rest-enter, rest-left, rest-push, rest-lent, rest-at, rest-ready, rest-stood, rest-fits, ends-then, ends-own, ends-N, table-from, finishing}
+use Rattle.compile_steps.specs.Shared.{ready-as, done-as}
 
 -- ── the second entry: the target's ──
 half-second : {l part sizes : List ℕ} {at : ℕ} → Table l part sizes at → (i : ℕ) → halfAt part (8 + i) ≡ halfAt (below part 8) i

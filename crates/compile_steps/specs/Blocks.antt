@@ -101,7 +101,8 @@ module _ (ds : List Decl) (is : Items) {W : Walk} {X : Place} {l part : List ℕ
 
   module _ {heads count : ℕ} (hs : heads ≡ length ds) (cs : count ≡ countItems is) {opens : ℕ} (o : opens ≡ holdsHead (below part 8) heads)
       {mid new : List ℕ} {up : ℕ} (g : Pushed opened l at heads count top opens (L .env) mid new up) {ends : List ℕ} {out : List ℕ} {p : Pen}
-      (w : (p ≡ pensHead (below part 8) heads pen) × (out ≡ inksHead (below part 8) (W .known) (at + 1) heads pen (L .out)) × (ends ≡ sets (L .ends) (at + 1) (finishes (below part 8) heads pen))) where
+      (w : (p ≡ pensHead (below part 8) heads pen) × (out ≡ inksHead (below part 8) (W .known) (at + 1) heads pen (L .out)) ×
+      (ends ≡ sets (L .ends) (at + 1) (finishes (below part 8) heads pen))) where
     abbrev block-M : Lent
     block-M = lent new ends (L .stack) out
 
@@ -137,7 +138,8 @@ module _ (ds : List Decl) (is : Items) {W : Walk} {X : Place} {l part : List ℕ
             let f : Fits u (length (N .out)) = rw (j .0) block-fits in
             record {
               wrote = wrote-then (headed-wrote r block-headed hs cs o g w) (wrote-then (d .wrote) (record { penned = rw e at (j .0); written = rw e at (j .1) }));
-              ended = ended-then (L .ends) ends (N .ends) (at + 1) (at + 1 + heads) block-es block-fs (headed-ended r block-headed hs cs o g w) (d .ended) (omega (arith, hs, length-head ds (X .start)));
+              ended = ended-then (L .ends) ends (N .ends) (at + 1) (at + 1 + heads) block-es block-fs (headed-ended r block-headed hs cs o g w) (d .ended)
+                  (omega (arith, hs, length-head ds (X .start)));
               small = f .address-small;
             }
 

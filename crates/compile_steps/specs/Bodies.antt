@@ -134,7 +134,8 @@ module _ (ds : List Decl) (is : Items) (v : Expr) {W : Walk} {X : Place} {l part
 
   module _ {heads count : ℕ} (hs : heads ≡ length ds) (cs : count ≡ countItems is) {opens : ℕ} (o : opens ≡ holdsHead (below part 8) heads)
       {mid new : List ℕ} {up : ℕ} (g : Pushed shut l at heads count top opens (L .env) mid new up) {ends : List ℕ} {out : List ℕ} {p : Pen}
-      (w : (p ≡ pensHead (below part 8) heads pen) × (out ≡ inksHead (below part 8) (W .known) (at + 1) heads pen (L .out)) × (ends ≡ sets (L .ends) (at + 1) (finishes (below part 8) heads pen))) where
+      (w : (p ≡ pensHead (below part 8) heads pen) × (out ≡ inksHead (below part 8) (W .known) (at + 1) heads pen (L .out)) ×
+      (ends ≡ sets (L .ends) (at + 1) (finishes (below part 8) heads pen))) where
     abbrev body-M : Lent
     body-M = lent new ends (L .stack) out
 
@@ -251,5 +252,6 @@ module _ (ds : List Decl) (is : Items) (v : Expr) {W : Walk} {X : Place} {l part
                 finished-done (expr (blockExpr ds is v)) X body-over (r .stood .address)
                 (sym (head-pen (W .globals) bound body-f ds (inside (expressionOf ds is) ∷ X .around) (X .start) pen))
                 (sym (head-inked (W .globals) bound body-f ds (inside (expressionOf ds is) ∷ X .around) (X .start) pen (L .out)))
-                (ap (λ (us : List ℕ). after (codeE (W .globals) (blockExpr ds is v) (X .around) (X .types) (X .start)) (X .start) .address ∷ us) (sym (append-assoc body-es body-fs body-gs))) f (O .env) (O .stack)
+                (ap (λ (us : List ℕ). after (codeE (W .globals) (blockExpr ds is v) (X .around) (X .types) (X .start)) (X .start) .address ∷ us) (sym (append-assoc body-es body-fs body-gs))) f
+                (O .env) (O .stack)
                 (d2 .leaves ∙ ap (λ (ss : List Scope). tyByte (tyIn (W .globals) (orInteger (typeE ss v)))) (scopes-value (expressionOf ds is) ds (X .around) (X .start)))

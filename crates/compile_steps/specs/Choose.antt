@@ -89,13 +89,13 @@ module _ {known aims l part : List ℕ} {nesting at : ℕ} {sizes : List ℕ} {L
                 omega (arith, q .deep),
                 omega (arith, q .held),
                 choose-mark _ _ _ ready (b₁ .kept) (first x y ready) (at + 1 + n) (b + 1) (behind ready) (next y) i
-                (b₂ .kept) (second x y ready) (at + 1 + n + m) c (behind₂ x y ready) (aim-as (at + 1 + n + m) y aim₂) i₂,
+                    (b₂ .kept) (second x y ready) (at + 1 + n + m) c (behind₂ x y ready) (aim-as (at + 1 + n + m) y aim₂) i₂,
               )
 
           module _ {p₄ : Pen} {o₃ : List ℕ} (j : (p₄ ≡ penShaped depth p₃) × (o₃ ≡ inkShape p₃ o₂ holds depth (take depth (N .stack)))) where
             outer : {W : Walk} {X : Place} {e : Expr} {s t : Stmt} → W .known ≡ known → W .aims ≡ aims → (h : Ready (stmt (choose e s t)) W X l part nesting at sizes L top holds depth pen)
                 → Ready (stmt t) W (movedTo X (behind-then W X e s)) l (below part (8 * (at + 1 + n + m - at))) (nesting - 1) (at + 1 + n + m) sizes
-                    (lent (N .env) (N .ends) (N .stack) o₃) top holds depth p₄
+                (lent (N .env) (N .ends) (N .stack) o₃) top holds depth p₄
             outer {e = e} {s = s} {t = t} x y h =
                 choose-else e s t h (b₁ .kept) (first x y h) (at + 1 + n) (b + 1) (behind h) (next y) i
                 (b₂ .kept) (second x y h) (at + 1 + n + m) c (behind₂ x y h) (aim-as (at + 1 + n + m) y aim₂) i₂ j
@@ -117,8 +117,8 @@ module _ {known aims l part : List ℕ} {nesting at : ℕ} {sizes : List ℕ} {L
                     omega (arith, q .deep),
                     omega (arith, q .held),
                     choose-mark-2 _ _ _ ready (b₁ .kept) (first x y ready) (at + 1 + n) (b + 1) (behind ready) (next y) i
-                    (b₂ .kept) (second x y ready) (at + 1 + n + m) c (behind₂ x y ready) (aim-as (at + 1 + n + m) y aim₂) i₂ j
-                    (b₃ .kept) (third x y ready),
+                        (b₂ .kept) (second x y ready) (at + 1 + n + m) c (behind₂ x y ready) (aim-as (at + 1 + n + m) y aim₂) i₂ j
+                        (b₃ .kept) (third x y ready),
                   )
 
               module _ {p₅ : Pen} {o₄ : List ℕ} (j₂ : (p₅ ≡ penShaped depth u) × (o₄ ≡ inkShape u (K .out) holds depth (take depth (K .stack)))) where
@@ -127,8 +127,8 @@ module _ {known aims l part : List ℕ} {nesting at : ℕ} {sizes : List ℕ} {L
                     let x = a .same-known in let y = a .same-aims in (
                       omega (arith, asked a .ending, b₁ .kept .same-ends, b₂ .kept .same-ends, b₃ .kept .same-ends),
                       choose-small _ _ _ ready (b₁ .kept) (first x y ready) (at + 1 + n) (b + 1) (behind ready) (next y) i
-                      (b₂ .kept) (second x y ready) (at + 1 + n + m) c (behind₂ x y ready) (aim-as (at + 1 + n + m) y aim₂) i₂ j
-                      (b₃ .kept) (third x y ready) j₂,
+                          (b₂ .kept) (second x y ready) (at + 1 + n + m) c (behind₂ x y ready) (aim-as (at + 1 + n + m) y aim₂) i₂ j
+                          (b₃ .kept) (third x y ready) j₂,
                     )
 
                 module _ {w : Pen} {ends : List ℕ} (f : (w ≡ p₅) × (ends ≡ set (K .ends) at (p₅ .address))) where

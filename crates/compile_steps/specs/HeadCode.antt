@@ -98,7 +98,8 @@ module _ (W : Walk) (l : List ℕ) where
       let one : p .cell + 1 ≡ suc (p .cell) = omega arith in
       let r = head-read ds (place + 1) q (moved (moved pen)) (inkOp (moved pen) (inkInitial (tyByte t) pen o) 6 0 (p .cell)) (stands-tail _ _ h) (rw one at (lies-next _ _ n)) (b .1) (omega (arith, c)) in
       record {
-        wrote = wrote-same (inks-10 part (W .known) m place pen o k (tyByte t) (p .cell) a d ∙ rw (next-here place)) (pens-10 part (W .known) m place pen o k ∙ rw (next-here place)) (wrote-then (initial-wrote t pen o) (wrote-then (wrote-op (store own (p .cell)) 6 0 (p .cell) (refl, refl) (λ z. refl)) (r .wrote)));
+        wrote = wrote-same (inks-10 part (W .known) m place pen o k (tyByte t) (p .cell) a d ∙ rw (next-here place)) (pens-10 part (W .known) m place pen o k ∙ rw (next-here place))
+            (wrote-then (initial-wrote t pen o) (wrote-then (wrote-op (store own (p .cell)) 6 0 (p .cell) (refl, refl) (λ z. refl)) (r .wrote)));
         ends = λ e. ends-10 part (W .known) m place pen o k ∙ rw (next-here place, r .ends (omega (arith, e)), e) (ap (λ (i : ℕ). i ∷ endsHead ds q) (let z : p .address + 1 + 1 ≡ suc (suc (p .address)) = omega arith in z));
         holds = rw (k, next-here place) (omega (arith, r .holds));
       }

@@ -48,7 +48,8 @@ names-head sort p (holding g ∷ ds) = omega (arith, names-head sort (suc p) ds)
 -- ── what is pushed within a block or block expression at a place ──
 module _ {l : List ℕ} (legible : Legible l) (place : ℕ) (ds : List Decl) (is : Items) (h : Stands (entriesOf l) (place + 1) (map flatDecl ds ++ flatItems is)) where
   pushes : length (blockItems l (place + 1) (length ds) (countItems is)) + openIn ds ≡ length ds + defines.labels is
-  pushes = rw (items-are legible (place + 1) ds is h) (omega (arith, length-append (headItems 4 (place + 1) ds) (labelItems (place + 1 + length ds) is), names-head 4 (place + 1) ds, length-labels (place + 1 + length ds) is))
+  pushes = rw (items-are legible (place + 1) ds is h)
+      (omega (arith, length-append (headItems 4 (place + 1) ds) (labelItems (place + 1 + length ds) is), names-head 4 (place + 1) ds, length-labels (place + 1 + length ds) is))
 
 -- the stack of names once the marks of holds, the block's mark and its names are pushed
 pub record Pushed (k : ℕ) (l : List ℕ) (at heads count top opens : ℕ) (old mid new : List ℕ) (up : ℕ) : Type 0 where
@@ -125,7 +126,8 @@ module _ {n : Node} {ds : List Decl} {is : Items} {x : Code} {W : Walk} {X : Pla
         rw (part-here, hs, h .read .wrote .penned) (fits-before (length (L .out)) (grows x p) (fits-before (length (L .out)) (grows (lets (openIn ds)) (penAfter x p)) (h .left)))
 
     module _ {k : ℕ} {mid new : List ℕ} {up : ℕ} (g : Pushed k l at heads count top opens (L .env) mid new up) {ends out : List ℕ} {p : Pen}
-        (w : (p ≡ pensHead (below part 8) heads pen) × (out ≡ inksHead (below part 8) (W .known) (at + 1) heads pen (L .out)) × (ends ≡ sets (L .ends) (at + 1) (finishes (below part 8) heads pen))) where
+        (w : (p ≡ pensHead (below part 8) heads pen) × (out ≡ inksHead (below part 8) (W .known) (at + 1) heads pen (L .out)) ×
+        (ends ≡ sets (L .ends) (at + 1) (finishes (below part 8) heads pen))) where
       pushed : Pushed k l at (length ds) (countItems is) top (openIn ds) (L .env) mid new up
       pushed = rw (hs, cs, headed-open) at g
 

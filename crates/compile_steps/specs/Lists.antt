@@ -24,8 +24,10 @@ use Rattle.compile_pen.specs.declared.Pen.{Pen}
 use Rattle.compile_pen.specs.Folds.{penAfter, inked}
 use Rattle.compile_nodes.specs.Knows.{Walk}
 use Rattle.compile_nodes.specs.Ends.{endsS, endsE, endsItems, endsEs}
-use Rattle.compile_nodes.specs.Ready.{Node, stmt, expr, name, flatN, codeN, endsN, Place, Lent, Kept, Ready, Done, Asks, Answers, pushed, ValuesEs, ReadyEs, DoneEs, AsksEs, AnswersEs, ReadyItems, DoneItems, AsksItems, AnswersItems}
-use Rattle.compile_steps.specs.Parts.{below, laid-left, laid-right, size-N, passes-N, kept-self, kept-then, kept-less, wrote-later, wrote-address, fits-rest, fits-first, movedTo, heldOn, stood-next, stood-push, need-E, need-items}
+use Rattle.compile_nodes.specs.Ready.{Node, stmt, expr, name, flatN, codeN, endsN, Place, Lent, Kept, Ready, Done, Asks, Answers, pushed, ValuesEs, ReadyEs, DoneEs, AsksEs, AnswersEs, ReadyItems}
+use Rattle.compile_nodes.specs.Ready.{DoneItems, AsksItems, AnswersItems}
+use Rattle.compile_steps.specs.Parts.{below, laid-left, laid-right, size-N, passes-N, kept-self, kept-then, kept-less, wrote-later, wrote-address, fits-rest, fits-first, movedTo, heldOn}
+use Rattle.compile_steps.specs.Parts.{stood-next, stood-push, need-E, need-items}
 use Rattle.compile_steps.specs.Cells.{cell-E, cell-S, length-endsE, length-endsS}
 use Rattle.compile_steps.specs.Views.{IsExpr, IsStmt}
 
@@ -144,7 +146,8 @@ module _ {known aims l part : List ℕ} {count nesting at : ℕ} {sizes : List �
           ready = rw (z, w) at y;
           pens = g .pens ∙ rw (x .is, d .wrote .penned);
           inks = g .inks ∙ rw (x .is, d .wrote .written, d .wrote .penned);
-          ends = g .ends ∙ (rw (x .is, d .ended, ← k) (sym (sets-append (M .ends) place f (endsEs (W .globals) (x .later) (X .around) (tyE (W .globals) (X .around) (x .this) ∷ g .types) (after e (g .start))))));
+          ends = g .ends ∙ (rw (x .is, d .ended, ← k)
+              (sym (sets-append (M .ends) place f (endsEs (W .globals) (x .later) (X .around) (tyE (W .globals) (X .around) (x .this) ∷ g .types) (after e (g .start))))));
           stack = g .stack ∙ rw (x .is);
           many = g .many ∙ rw (x .is) (omega arith);
         }

@@ -24,7 +24,8 @@ use Rattle.compile_nodes.specs.Knows.{Walk, Lands}
 use Rattle.compile_nodes.specs.Ready.{Node, stmt, expr, name, flatN, deepN, holdsN, needN, goodN, codeN, endsN, Place, Lent, Laid, Stood, Kept, Wrote, LandsN, Ready, Done}
 use Rattle.compile_sight.specs.Lengths.{length-below, length-belowE}
 use Rattle.compile_steps.specs.Cells.{cell-S, cell-E}
-use Rattle.compile_steps.specs.Parts.{movedTo, heldOn, below, laid-tail, laid-left, laid-right, laid-at, room-N, stood-next, stood-push, stood-shape, wrote-later, wrote-length, wrote-address, wrote-mark, fits-first, fits-rest, ended-then, ended-own}
+use Rattle.compile_steps.specs.Parts.{movedTo, heldOn, below, laid-tail, laid-left, laid-right, laid-at, room-N, stood-next, stood-push, stood-shape, wrote-later, wrote-length, wrote-address}
+use Rattle.compile_steps.specs.Parts.{wrote-mark, fits-first, fits-rest, ended-then, ended-own}
 
 pub record Rest (W : Walk) (X : Place) (l : List ℕ) (at : ℕ) (L : Lent) (top holds depth : ℕ) (pen : Pen) (us : List Entry) (es : List ℕ) (x : Code) : Type 0 where
   pub laid : Laid W l at (X .start) us es

@@ -17,7 +17,8 @@ use Rattle.values.specs.Operators.{unary, Unary, negate, absolute, complement, 
 use Rattle.language.specs.Tree.{Exprs, noExpr, countExprs}
 use Rattle.language.specs.Tree.{expr as more}
 use Rattle.compile_names.specs.Types.{took}
-use Rattle.language.specs.Tree.{block, assign, when, choose, while, goto, assert, call, setLevel, select, Expr, number, truth, pattern, null, variable, invoke, field, make, operate1, operate2, conditional, fader, blockExpr, Global}
+use Rattle.language.specs.Tree.{block, assign, when, choose, while, goto, assert, call, setLevel, select, Expr, number, truth, pattern, null, variable, invoke, field, make, operate1, operate2}
+use Rattle.language.specs.Tree.{conditional, fader, blockExpr, Global}
 use Rattle.language.specs.Table.{Entry, flatEs, deepS, deepEs}
 use Rattle.language.specs.Faults.{typeE, withTy}
 use Rattle.language.specs.Limits.{holdsS, holdsEs, needS, needEs}
@@ -38,7 +39,8 @@ use Rattle.compile_pen.specs.Ink.{Fits, moved}
 use Rattle.compile_pen.specs.Folds.{penAfter, inked}
 use Rattle.compile_nodes.specs.Knows.{Walk}
 use Rattle.compile_nodes.specs.Ends.{belowS, endsEs}
-use Rattle.compile_nodes.specs.Ready.{Node, stmt, expr, name, flatN, formN, codeN, endsN, LeavesN, Place, Lent, Kept, Wrote, Ready, Done, deepN, holdsN, needN, goodN, pushed, ValuesEs, ReadyEs, DoneEs}
+use Rattle.compile_nodes.specs.Ready.{Node, stmt, expr, name, flatN, formN, codeN, endsN, LeavesN, Place, Lent, Kept, Wrote, Ready, Done, deepN, holdsN, needN, goodN, pushed, ValuesEs, ReadyEs}
+use Rattle.compile_nodes.specs.Ready.{DoneEs}
 use Rattle.compile_own.specs.Owns.{names as namesBy, knownFor, operandsBy, inkLast, lastType}
 use Rattle.compile_steps.specs.Parts.{below, laid-tail, need-E, fits-rest, lent, flat-N, head-N, wrote-then, wrote-op, movedTo, fits-first}
 use Rattle.compile_steps.specs.Stages.{Stage, stage-start, stage-fits-op, stage-part, Finished, finished-done}
@@ -277,7 +279,8 @@ module _ (n : Node) (hyp : IsSimple n) {W : Walk} {X : Place} {l part : List ℕ
       let z : length (flatN n) ≡ suc (length (flatEs (opsOf n))) = ap (length {A = Entry}) (simple-flat (simple-of n hyp)) in
       record {
         table = table-next (r .table) 8 1 refl;
-        laid = laid-tail _ _ _ _ (X .start) (omega (arith, simple-cells (simple-of n hyp))) (rw (simple-flat (simple-of n hyp), simple-ends (W .globals) (X .around) (X .types) (X .start) (simple-of n hyp)) at (r .laid));
+        laid = laid-tail _ _ _ _ (X .start) (omega (arith, simple-cells (simple-of n hyp)))
+            (rw (simple-flat (simple-of n hyp), simple-ends (W .globals) (X .around) (X .types) (X .start) (simple-of n hyp)) at (r .laid));
         stood = r .stood;
         room = omega (arith, r .room, simple-room (simple-of n hyp), z);
         ending = omega (arith, r .ending, z);
@@ -350,7 +353,8 @@ module _ {W : Walk} {X : Place} {l part : List ℕ} {nesting at : ℕ} {sizes : 
   simple-wrote (faders e) r j = let d = head-N (expr (fader e)) (r .table) (r .laid .stands) in wrote-op readFader 16 0 0 (rw (d .kind) at j) (λ z. refl)
 
   -- the type of the result; the first operand's stands on the stack
-  simple-leaves : {n : Node} → Simple n → Ready n W X l part nesting at sizes L top holds depth pen → (stack : List ℕ) → map tyByte (reverse (pushed (W .globals) (X .around) (opsOf n) (X .types))) ≡ take (depth + countExprs (opsOf n)) stack
+  simple-leaves : {n : Node} → Simple n → Ready n W X l part nesting at sizes L top holds depth pen → (stack : List ℕ) → map tyByte
+      (reverse (pushed (W .globals) (X .around) (opsOf n) (X .types))) ≡ take (depth + countExprs (opsOf n)) stack
       → length stack ≡ length (L .stack) → (v : ℕ) → v ≡ lastType (halfAt part 0) (halfAt part 2) k (getD stack depth 0) → LeavesN (W .globals) n (X .around) (set stack depth v) depth
   unfolding lastType namesBy goodS typeE pushed countExprs needS withTy
   simple-leaves (asserts e) r stack t s v g = tt
@@ -400,5 +404,7 @@ module _ {W : Walk} {X : Place} {l part : List ℕ} {nesting at : ℕ} {sizes : 
           → Done n W X at L (lent (M .env) ends (set (M .stack) depth v) out) depth pen q
       unfolding penAfter inked
       simple-done v t f =
-          finished-done n X simple-2 (r .stood .address) (sym (simple-pen (W .globals) (X .around) (X .types) (X .start) (simple-of n hyp) pen)) (sym (simple-inked (W .globals) (X .around) (X .types) (X .start) (simple-of n hyp) pen (L .out)))
-          (simple-ends (W .globals) (X .around) (X .types) (X .start) (simple-of n hyp)) f (M .env) (set (M .stack) depth v) (simple-leaves (simple-of n hyp) r (M .stack) (d .typed) (kept .same-stack) v t)
+          finished-done n X simple-2 (r .stood .address) (sym (simple-pen (W .globals) (X .around) (X .types) (X .start) (simple-of n hyp) pen))
+          (sym (simple-inked (W .globals) (X .around) (X .types) (X .start) (simple-of n hyp) pen (L .out)))
+          (simple-ends (W .globals) (X .around) (X .types) (X .start) (simple-of n hyp)) f (M .env) (set (M .stack) depth v)
+          (simple-leaves (simple-of n hyp) r (M .stack) (d .typed) (kept .same-stack) v t)

@@ -16,7 +16,8 @@ use Rattle.compile_pen.specs.Ink.{Fits, moved, penShaped, inkOp, inkShape}
 use Rattle.compile_pen.specs.Folds.{penAfter, inked, later-self, address-after}
 use Rattle.compile_nodes.specs.Knows.{Walk}
 use Rattle.compile_nodes.specs.Ready.{Node, codeN, endsN, LeavesN, Place, Lent, Stood, Kept, Wrote, Done}
-use Rattle.compile_steps.specs.Parts.{lent, kept-self, kept-then, kept-less, kept-out, wrote-nil, wrote-then, wrote-op, wrote-mark, wrote-length, wrote-later, wrote-address, fits-rest, fits-first, movedTo, heldOn, stood-next, stood-push, stood-shape, ended-own, ended-then}
+use Rattle.compile_steps.specs.Parts.{lent, kept-self, kept-then, kept-less, kept-out, wrote-nil, wrote-then, wrote-op, wrote-mark, wrote-length, wrote-later, wrote-address, fits-rest}
+use Rattle.compile_steps.specs.Parts.{fits-first, movedTo, heldOn, stood-next, stood-push, stood-shape, ended-own, ended-then}
 
 -- from what was lent at first (L, with the pen) to what is now (M, with the pen p): the place reached is Y, with d values on the stack
 pub record Stage (W : Walk) (l : List ℕ) (L : Lent) (top holds depth : ℕ) (pen : Pen) (at : ℕ) (M : Lent) (Y : Place) (d : ℕ) (p : Pen) (before left : Code) (es : List ℕ) : Type 0 where

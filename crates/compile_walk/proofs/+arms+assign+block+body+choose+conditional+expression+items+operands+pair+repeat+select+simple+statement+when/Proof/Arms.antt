@@ -15,7 +15,6 @@ use Rattle.compile_own.proofs.after_arm.Reads as after-arm-reads
 use Rattle.compile_own.proofs.before_arm.Reads as before-arm-reads
 use Rattle.compile_own.proofs.end_of.Reads as end-of-reads
 use Rattle.spans.proofs.size_at.Reads as size-at-reads
-use Rattle.compile_walk.proofs.+arms+assign+block+body+choose+conditional+expression+items+operands+pair+repeat+select+simple+statement+when.{statement}
 use Rattle.compile_walk.proofs.+arms+assign+block+body+choose+conditional+expression+items+operands+pair+repeat+select+simple+statement+when.Proof.Base.{arms-at, statement-below}
 
 abbrev arms-Inv-loop : arms-lts.InvT-loop

@@ -19,8 +19,68 @@ use Rattle.spans.proofs.size_at.Reads as size-at-reads
 use Rattle.words.proofs.half_at.Reads as half-at-reads
 use Rattle.compile_walk.proofs.+arms+assign+block+body+choose+conditional+expression+items+operands+pair+repeat+select+simple+statement+when.Proof.Base.{assign-at, expression-below}
 
-pub assign-meets : {M : Type 1} (t : ℕ) → assign-lts.Closed (half-at-reads.Asked, half-at-reads.Learnt, meaning-reads.Asked, meaning-reads.Learnt, size-at-reads.Asked, size-at-reads.Learnt, finish-reads.Asked, finish-reads.Learnt, expression-below t, expression.Post, owner-reads.Asked, owner-reads.Learnt, second-in-reads.Asked, second-in-reads.Learnt, emit-reads.Asked, emit-reads.Learnt, first-in-reads.Asked, first-in-reads.Learnt) (assign-at t) assign.Post M
-assign-meets t = assign-lts.spec (half-at-reads.Asked, half-at-reads.Learnt, meaning-reads.Asked, meaning-reads.Learnt, size-at-reads.Asked, size-at-reads.Learnt, finish-reads.Asked, finish-reads.Learnt, expression-below t, expression.Post, owner-reads.Asked, owner-reads.Learnt, second-in-reads.Asked, second-in-reads.Learnt, emit-reads.Asked, emit-reads.Learnt, first-in-reads.Asked, first-in-reads.Learnt) (assign-at t) assign.Post
+-- what the functions that it calls are taken to ask and give
+abbrev claims : ℕ → assign-lts.Claims
+claims t = (
+  half-at-reads.Asked,
+  half-at-reads.Learnt,
+  meaning-reads.Asked,
+  meaning-reads.Learnt,
+  size-at-reads.Asked,
+  size-at-reads.Learnt,
+  finish-reads.Asked,
+  finish-reads.Learnt,
+  expression-below t,
+  expression.Post,
+  owner-reads.Asked,
+  owner-reads.Learnt,
+  second-in-reads.Asked,
+  second-in-reads.Learnt,
+  emit-reads.Asked,
+  emit-reads.Learnt,
+  first-in-reads.Asked,
+  first-in-reads.Learnt,
+)
+
+-- what it has done where it returns
+assign-ends : (t : ℕ) → assign-lts.Need-returns (claims t) (assign-at t) assign.Post
+assign-ends t c =
+    let c1 = c .before .before in
+    let c2 = c1 .before .before .before .before in
+    let c3 = c2 .before in
+    let c4 = c3 .before in
+    let c5 = c4 .before .before .before .before .before .before .before .before .before .before in
+    let c6 = c5 .before .before .before .before .before .before .before .before in
+    let c7 = c6 .before .before in
+    let c8 = c7 .before in
+    let c9 = c8 .before in
+    let c10 = c9 .before in
+    let c11 = c10 .before in
+    let c12 = c11 .before .before .before .before .before .before .before .before .before .before .before in
+    answers-variable (c12 .pre .1) (c9 .size-at .result) (c9 .size-at .ensures) (c10 .meaning .result) (rw (c11 .half-at .ensures) at (c10 .meaning .ensures))
+    (sym (c8 .half-at2 .ensures) ∙ c7 .if1 .taken) (c6 .finish .ensures) (c5 .expression .ensures) (rw (c4 .owner .ensures, c3 .second-in .ensures) at (c2 .emit .ensures)) (c1 .finish2 .ensures)
+
+assign-ends-2 : (t : ℕ) → assign-lts.Need-returns-2 (claims t) (assign-at t) assign.Post
+assign-ends-2 t c =
+    let c1 = c .before .before in
+    let c2 = c1 .before .before .before .before in
+    let c3 = c2 .before in
+    let c4 = c3 .before in
+    let c5 = c4 .before .before .before .before .before .before .before .before .before .before in
+    let c6 = c5 .before .before .before .before .before .before .before .before in
+    let c7 = c6 .before .before .before .before .before .before .before .before .before .before in
+    let c8 = c7 .before .before .before .before .before .before in
+    let c9 = c8 .before in
+    let c10 = c9 .before in
+    let c11 = c10 .before in
+    let c12 = c11 .before in
+    let c13 = c12 .before .before .before .before .before .before .before .before .before .before .before in
+    answers-field (c13 .pre .1) (c10 .size-at .result) (c10 .size-at .ensures) (c11 .meaning .result) (rw (c12 .half-at .ensures) at (c11 .meaning .ensures))
+    (λ z. c8 .if1 .left (c9 .half-at2 .ensures ∙ z)) (c7 .expression2 .ensures) (c6 .finish3 .ensures) (c5 .expression3 .ensures)
+    (rw (c4 .first-in .ensures, c3 .second-in2 .ensures) at (c2 .emit2 .ensures)) (c1 .finish4 .ensures)
+
+pub assign-meets : {M : Type 1} (t : ℕ) → assign-lts.Closed (claims t) (assign-at t) assign.Post M
+assign-meets t = assign-lts.spec (claims t) (assign-at t) assign.Post
     -- half-at-requires
     (λ c κs. omega (arith, asks-assign (c .before .before .before .before .before .before .before .before .before .before .pre .1) .long))
     -- meaning-requires
@@ -108,80 +168,15 @@ assign-meets t = assign-lts.spec (half-at-reads.Asked, half-at-reads.Learnt, mea
     let c11 = c10 .before .before .before .before .before .before .before .before .before .before .before in
     asks-variable-finish (c11 .pre .1) (c8 .size-at .result) (c8 .size-at .ensures) (c9 .meaning .result) (rw (c10 .half-at .ensures) at (c9 .meaning .ensures)) (sym (c7 .half-at2 .ensures) ∙ c6 .if1 .taken) (c5 .finish .ensures) (c4 .expression .ensures) (rw (c3 .owner .ensures, c2 .second-in .ensures) at (c1 .emit .ensures)))
     -- same-length
-    (λ c.
-    let c1 = c .before .before in
-    let c2 = c1 .before .before .before .before in
-    let c3 = c2 .before in
-    let c4 = c3 .before in
-    let c5 = c4 .before .before .before .before .before .before .before .before .before .before in
-    let c6 = c5 .before .before .before .before .before .before .before .before in
-    let c7 = c6 .before .before in
-    let c8 = c7 .before in
-    let c9 = c8 .before in
-    let c10 = c9 .before in
-    let c11 = c10 .before in
-    let c12 = c11 .before .before .before .before .before .before .before .before .before .before .before in
-    (answers-variable (c12 .pre .1) (c9 .size-at .result) (c9 .size-at .ensures) (c10 .meaning .result) (rw (c11 .half-at .ensures) at (c10 .meaning .ensures)) (sym (c8 .half-at2 .ensures) ∙ c7 .if1 .taken) (c6 .finish .ensures) (c5 .expression .ensures) (rw (c4 .owner .ensures, c3 .second-in .ensures) at (c2 .emit .ensures)) (c1 .finish2 .ensures)) .kept .same-env)
+    (λ c. assign-ends t c .kept .same-env)
     -- same-length-2
-    (λ c.
-    let c1 = c .before .before in
-    let c2 = c1 .before .before .before .before in
-    let c3 = c2 .before in
-    let c4 = c3 .before in
-    let c5 = c4 .before .before .before .before .before .before .before .before .before .before in
-    let c6 = c5 .before .before .before .before .before .before .before .before in
-    let c7 = c6 .before .before in
-    let c8 = c7 .before in
-    let c9 = c8 .before in
-    let c10 = c9 .before in
-    let c11 = c10 .before in
-    let c12 = c11 .before .before .before .before .before .before .before .before .before .before .before in
-    (answers-variable (c12 .pre .1) (c9 .size-at .result) (c9 .size-at .ensures) (c10 .meaning .result) (rw (c11 .half-at .ensures) at (c10 .meaning .ensures)) (sym (c8 .half-at2 .ensures) ∙ c7 .if1 .taken) (c6 .finish .ensures) (c5 .expression .ensures) (rw (c4 .owner .ensures, c3 .second-in .ensures) at (c2 .emit .ensures)) (c1 .finish2 .ensures)) .kept .same-ends)
+    (λ c. assign-ends t c .kept .same-ends)
     -- same-length-3
-    (λ c.
-    let c1 = c .before .before in
-    let c2 = c1 .before .before .before .before in
-    let c3 = c2 .before in
-    let c4 = c3 .before in
-    let c5 = c4 .before .before .before .before .before .before .before .before .before .before in
-    let c6 = c5 .before .before .before .before .before .before .before .before in
-    let c7 = c6 .before .before in
-    let c8 = c7 .before in
-    let c9 = c8 .before in
-    let c10 = c9 .before in
-    let c11 = c10 .before in
-    let c12 = c11 .before .before .before .before .before .before .before .before .before .before .before in
-    (answers-variable (c12 .pre .1) (c9 .size-at .result) (c9 .size-at .ensures) (c10 .meaning .result) (rw (c11 .half-at .ensures) at (c10 .meaning .ensures)) (sym (c8 .half-at2 .ensures) ∙ c7 .if1 .taken) (c6 .finish .ensures) (c5 .expression .ensures) (rw (c4 .owner .ensures, c3 .second-in .ensures) at (c2 .emit .ensures)) (c1 .finish2 .ensures)) .kept .same-stack)
+    (λ c. assign-ends t c .kept .same-stack)
     -- same-length-4
-    (λ c.
-    let c1 = c .before .before in
-    let c2 = c1 .before .before .before .before in
-    let c3 = c2 .before in
-    let c4 = c3 .before in
-    let c5 = c4 .before .before .before .before .before .before .before .before .before .before in
-    let c6 = c5 .before .before .before .before .before .before .before .before in
-    let c7 = c6 .before .before in
-    let c8 = c7 .before in
-    let c9 = c8 .before in
-    let c10 = c9 .before in
-    let c11 = c10 .before in
-    let c12 = c11 .before .before .before .before .before .before .before .before .before .before .before in
-    (answers-variable (c12 .pre .1) (c9 .size-at .result) (c9 .size-at .ensures) (c10 .meaning .result) (rw (c11 .half-at .ensures) at (c10 .meaning .ensures)) (sym (c8 .half-at2 .ensures) ∙ c7 .if1 .taken) (c6 .finish .ensures) (c5 .expression .ensures) (rw (c4 .owner .ensures, c3 .second-in .ensures) at (c2 .emit .ensures)) (c1 .finish2 .ensures)) .kept .same-out)
+    (λ c. assign-ends t c .kept .same-out)
     -- returns
-    (λ c.
-    let c1 = c .before .before in
-    let c2 = c1 .before .before .before .before in
-    let c3 = c2 .before in
-    let c4 = c3 .before in
-    let c5 = c4 .before .before .before .before .before .before .before .before .before .before in
-    let c6 = c5 .before .before .before .before .before .before .before .before in
-    let c7 = c6 .before .before in
-    let c8 = c7 .before in
-    let c9 = c8 .before in
-    let c10 = c9 .before in
-    let c11 = c10 .before in
-    let c12 = c11 .before .before .before .before .before .before .before .before .before .before .before in
-    answers-variable (c12 .pre .1) (c9 .size-at .result) (c9 .size-at .ensures) (c10 .meaning .result) (rw (c11 .half-at .ensures) at (c10 .meaning .ensures)) (sym (c8 .half-at2 .ensures) ∙ c7 .if1 .taken) (c6 .finish .ensures) (c5 .expression .ensures) (rw (c4 .owner .ensures, c3 .second-in .ensures) at (c2 .emit .ensures)) (c1 .finish2 .ensures))
+    (assign-ends t)
     -- sub-expression-3
     (λ c. omega (arith, asks-assign (c .before .before .before .before .before .before .before .before .before .before .before .before .before .before .before .pre .1) .long))
     -- part-expression-start-2
@@ -279,82 +274,12 @@ assign-meets t = assign-lts.spec (half-at-reads.Asked, half-at-reads.Learnt, mea
     let c12 = c11 .before .before .before .before .before .before .before .before .before .before .before in
     asks-field-finish (c12 .pre .1) (c9 .size-at .result) (c9 .size-at .ensures) (c10 .meaning .result) (rw (c11 .half-at .ensures) at (c10 .meaning .ensures)) (λ z. c7 .if1 .left (c8 .half-at2 .ensures ∙ z)) (c6 .expression2 .ensures) (c5 .finish3 .ensures) (c4 .expression3 .ensures) (rw (c3 .first-in .ensures, c2 .second-in2 .ensures) at (c1 .emit2 .ensures)))
     -- same-length-5
-    (λ c.
-    let c1 = c .before .before in
-    let c2 = c1 .before .before .before .before in
-    let c3 = c2 .before in
-    let c4 = c3 .before in
-    let c5 = c4 .before .before .before .before .before .before .before .before .before .before in
-    let c6 = c5 .before .before .before .before .before .before .before .before in
-    let c7 = c6 .before .before .before .before .before .before .before .before .before .before in
-    let c8 = c7 .before .before .before .before .before .before in
-    let c9 = c8 .before in
-    let c10 = c9 .before in
-    let c11 = c10 .before in
-    let c12 = c11 .before in
-    let c13 = c12 .before .before .before .before .before .before .before .before .before .before .before in
-    (answers-field (c13 .pre .1) (c10 .size-at .result) (c10 .size-at .ensures) (c11 .meaning .result) (rw (c12 .half-at .ensures) at (c11 .meaning .ensures)) (λ z. c8 .if1 .left (c9 .half-at2 .ensures ∙ z)) (c7 .expression2 .ensures) (c6 .finish3 .ensures) (c5 .expression3 .ensures) (rw (c4 .first-in .ensures, c3 .second-in2 .ensures) at (c2 .emit2 .ensures)) (c1 .finish4 .ensures)) .kept .same-env)
+    (λ c. assign-ends-2 t c .kept .same-env)
     -- same-length-6
-    (λ c.
-    let c1 = c .before .before in
-    let c2 = c1 .before .before .before .before in
-    let c3 = c2 .before in
-    let c4 = c3 .before in
-    let c5 = c4 .before .before .before .before .before .before .before .before .before .before in
-    let c6 = c5 .before .before .before .before .before .before .before .before in
-    let c7 = c6 .before .before .before .before .before .before .before .before .before .before in
-    let c8 = c7 .before .before .before .before .before .before in
-    let c9 = c8 .before in
-    let c10 = c9 .before in
-    let c11 = c10 .before in
-    let c12 = c11 .before in
-    let c13 = c12 .before .before .before .before .before .before .before .before .before .before .before in
-    (answers-field (c13 .pre .1) (c10 .size-at .result) (c10 .size-at .ensures) (c11 .meaning .result) (rw (c12 .half-at .ensures) at (c11 .meaning .ensures)) (λ z. c8 .if1 .left (c9 .half-at2 .ensures ∙ z)) (c7 .expression2 .ensures) (c6 .finish3 .ensures) (c5 .expression3 .ensures) (rw (c4 .first-in .ensures, c3 .second-in2 .ensures) at (c2 .emit2 .ensures)) (c1 .finish4 .ensures)) .kept .same-ends)
+    (λ c. assign-ends-2 t c .kept .same-ends)
     -- same-length-7
-    (λ c.
-    let c1 = c .before .before in
-    let c2 = c1 .before .before .before .before in
-    let c3 = c2 .before in
-    let c4 = c3 .before in
-    let c5 = c4 .before .before .before .before .before .before .before .before .before .before in
-    let c6 = c5 .before .before .before .before .before .before .before .before in
-    let c7 = c6 .before .before .before .before .before .before .before .before .before .before in
-    let c8 = c7 .before .before .before .before .before .before in
-    let c9 = c8 .before in
-    let c10 = c9 .before in
-    let c11 = c10 .before in
-    let c12 = c11 .before in
-    let c13 = c12 .before .before .before .before .before .before .before .before .before .before .before in
-    (answers-field (c13 .pre .1) (c10 .size-at .result) (c10 .size-at .ensures) (c11 .meaning .result) (rw (c12 .half-at .ensures) at (c11 .meaning .ensures)) (λ z. c8 .if1 .left (c9 .half-at2 .ensures ∙ z)) (c7 .expression2 .ensures) (c6 .finish3 .ensures) (c5 .expression3 .ensures) (rw (c4 .first-in .ensures, c3 .second-in2 .ensures) at (c2 .emit2 .ensures)) (c1 .finish4 .ensures)) .kept .same-stack)
+    (λ c. assign-ends-2 t c .kept .same-stack)
     -- same-length-8
-    (λ c.
-    let c1 = c .before .before in
-    let c2 = c1 .before .before .before .before in
-    let c3 = c2 .before in
-    let c4 = c3 .before in
-    let c5 = c4 .before .before .before .before .before .before .before .before .before .before in
-    let c6 = c5 .before .before .before .before .before .before .before .before in
-    let c7 = c6 .before .before .before .before .before .before .before .before .before .before in
-    let c8 = c7 .before .before .before .before .before .before in
-    let c9 = c8 .before in
-    let c10 = c9 .before in
-    let c11 = c10 .before in
-    let c12 = c11 .before in
-    let c13 = c12 .before .before .before .before .before .before .before .before .before .before .before in
-    (answers-field (c13 .pre .1) (c10 .size-at .result) (c10 .size-at .ensures) (c11 .meaning .result) (rw (c12 .half-at .ensures) at (c11 .meaning .ensures)) (λ z. c8 .if1 .left (c9 .half-at2 .ensures ∙ z)) (c7 .expression2 .ensures) (c6 .finish3 .ensures) (c5 .expression3 .ensures) (rw (c4 .first-in .ensures, c3 .second-in2 .ensures) at (c2 .emit2 .ensures)) (c1 .finish4 .ensures)) .kept .same-out)
+    (λ c. assign-ends-2 t c .kept .same-out)
     -- returns-2
-    (λ c.
-    let c1 = c .before .before in
-    let c2 = c1 .before .before .before .before in
-    let c3 = c2 .before in
-    let c4 = c3 .before in
-    let c5 = c4 .before .before .before .before .before .before .before .before .before .before in
-    let c6 = c5 .before .before .before .before .before .before .before .before in
-    let c7 = c6 .before .before .before .before .before .before .before .before .before .before in
-    let c8 = c7 .before .before .before .before .before .before in
-    let c9 = c8 .before in
-    let c10 = c9 .before in
-    let c11 = c10 .before in
-    let c12 = c11 .before in
-    let c13 = c12 .before .before .before .before .before .before .before .before .before .before .before in
-    answers-field (c13 .pre .1) (c10 .size-at .result) (c10 .size-at .ensures) (c11 .meaning .result) (rw (c12 .half-at .ensures) at (c11 .meaning .ensures)) (λ z. c8 .if1 .left (c9 .half-at2 .ensures ∙ z)) (c7 .expression2 .ensures) (c6 .finish3 .ensures) (c5 .expression3 .ensures) (rw (c4 .first-in .ensures, c3 .second-in2 .ensures) at (c2 .emit2 .ensures)) (c1 .finish4 .ensures))
+    (assign-ends-2 t)

@@ -17,8 +17,47 @@ use Rattle.words.proofs.half_at.Reads as half-at-reads
 use Rattle.words.proofs.word_at.Reads as word-at-reads
 use Rattle.compile_walk.proofs.+arms+assign+block+body+choose+conditional+expression+items+operands+pair+repeat+select+simple+statement+when.Proof.Base.{block-at, items-below}
 
-pub block-meets : {M : Type 1} (t : ℕ) → block-lts.Closed (half-at-reads.Asked, half-at-reads.Learnt, word-at-reads.Asked, word-at-reads.Learnt, holds-in-reads.Asked, holds-in-reads.Learnt, mark-holds-reads.Asked, mark-holds-reads.Learnt, enter-reads.Asked, enter-reads.Learnt, declare-reads.Asked, declare-reads.Learnt, items-below t, items.Post, releases-reads.Asked, releases-reads.Learnt, finish-reads.Asked, finish-reads.Learnt) (block-at t) block.Post M
-block-meets t = block-lts.spec (half-at-reads.Asked, half-at-reads.Learnt, word-at-reads.Asked, word-at-reads.Learnt, holds-in-reads.Asked, holds-in-reads.Learnt, mark-holds-reads.Asked, mark-holds-reads.Learnt, enter-reads.Asked, enter-reads.Learnt, declare-reads.Asked, declare-reads.Learnt, items-below t, items.Post, releases-reads.Asked, releases-reads.Learnt, finish-reads.Asked, finish-reads.Learnt) (block-at t) block.Post
+-- what the functions that it calls are taken to ask and give
+abbrev claims : ℕ → block-lts.Claims
+claims t = (
+  half-at-reads.Asked,
+  half-at-reads.Learnt,
+  word-at-reads.Asked,
+  word-at-reads.Learnt,
+  holds-in-reads.Asked,
+  holds-in-reads.Learnt,
+  mark-holds-reads.Asked,
+  mark-holds-reads.Learnt,
+  enter-reads.Asked,
+  enter-reads.Learnt,
+  declare-reads.Asked,
+  declare-reads.Learnt,
+  items-below t,
+  items.Post,
+  releases-reads.Asked,
+  releases-reads.Learnt,
+  finish-reads.Asked,
+  finish-reads.Learnt,
+)
+
+-- what it has done where it returns
+block-ends : (t : ℕ) → block-lts.Need-returns (claims t) (block-at t) block.Post
+block-ends t c =
+    let c1 = c .before .before in
+    let c2 = c1 .before .before .before in
+    let c3 = c2 .before .before .before .before .before .before .before .before .before .before .before in
+    let c4 = c3 .before .before .before .before .before .before .before .before .before .before in
+    let c5 = c4 .before .before .before .before .before .before in
+    let c6 = c5 .before .before .before .before in
+    let c7 = c6 .before .before in
+    let c8 = c7 .before .before in
+    let c9 = c8 .before in
+    let c10 = c9 .before .before .before .before .before .before .before .before .before .before in
+    answers-block (c10 .pre .1) (c9 .half-at .ensures) (c8 .word-at .ensures) (c7 .holds-in .ensures) (c6 .mark-holds .ensures) (c5 .enter .ensures) (c4 .declare .ensures) (c3 .items .ensures)
+    (c2 .releases .ensures) (c1 .finish .ensures)
+
+pub block-meets : {M : Type 1} (t : ℕ) → block-lts.Closed (claims t) (block-at t) block.Post M
+block-meets t = block-lts.spec (claims t) (block-at t) block.Post
     -- half-at-requires
     (λ c κs. omega (arith, asked (c .before .before .before .before .before .before .before .before .before .pre .1) .long))
     -- cast-heads
@@ -155,67 +194,12 @@ block-meets t = block-lts.spec (half-at-reads.Asked, half-at-reads.Learnt, word-
     let c9 = c8 .before .before .before .before .before .before .before .before .before .before in
     asks-block-finish (c9 .pre .1) (c8 .half-at .ensures) (c7 .word-at .ensures) (c6 .holds-in .ensures) (c5 .mark-holds .ensures) (c4 .enter .ensures) (c3 .declare .ensures) (c2 .items .ensures) (c1 .releases .ensures))
     -- same-length
-    (λ c.
-    let c1 = c .before .before in
-    let c2 = c1 .before .before .before in
-    let c3 = c2 .before .before .before .before .before .before .before .before .before .before .before in
-    let c4 = c3 .before .before .before .before .before .before .before .before .before .before in
-    let c5 = c4 .before .before .before .before .before .before in
-    let c6 = c5 .before .before .before .before in
-    let c7 = c6 .before .before in
-    let c8 = c7 .before .before in
-    let c9 = c8 .before in
-    let c10 = c9 .before .before .before .before .before .before .before .before .before .before in
-    (answers-block (c10 .pre .1) (c9 .half-at .ensures) (c8 .word-at .ensures) (c7 .holds-in .ensures) (c6 .mark-holds .ensures) (c5 .enter .ensures) (c4 .declare .ensures) (c3 .items .ensures) (c2 .releases .ensures) (c1 .finish .ensures)) .kept .same-env)
+    (λ c. block-ends t c .kept .same-env)
     -- same-length-2
-    (λ c.
-    let c1 = c .before .before in
-    let c2 = c1 .before .before .before in
-    let c3 = c2 .before .before .before .before .before .before .before .before .before .before .before in
-    let c4 = c3 .before .before .before .before .before .before .before .before .before .before in
-    let c5 = c4 .before .before .before .before .before .before in
-    let c6 = c5 .before .before .before .before in
-    let c7 = c6 .before .before in
-    let c8 = c7 .before .before in
-    let c9 = c8 .before in
-    let c10 = c9 .before .before .before .before .before .before .before .before .before .before in
-    (answers-block (c10 .pre .1) (c9 .half-at .ensures) (c8 .word-at .ensures) (c7 .holds-in .ensures) (c6 .mark-holds .ensures) (c5 .enter .ensures) (c4 .declare .ensures) (c3 .items .ensures) (c2 .releases .ensures) (c1 .finish .ensures)) .kept .same-ends)
+    (λ c. block-ends t c .kept .same-ends)
     -- same-length-3
-    (λ c.
-    let c1 = c .before .before in
-    let c2 = c1 .before .before .before in
-    let c3 = c2 .before .before .before .before .before .before .before .before .before .before .before in
-    let c4 = c3 .before .before .before .before .before .before .before .before .before .before in
-    let c5 = c4 .before .before .before .before .before .before in
-    let c6 = c5 .before .before .before .before in
-    let c7 = c6 .before .before in
-    let c8 = c7 .before .before in
-    let c9 = c8 .before in
-    let c10 = c9 .before .before .before .before .before .before .before .before .before .before in
-    (answers-block (c10 .pre .1) (c9 .half-at .ensures) (c8 .word-at .ensures) (c7 .holds-in .ensures) (c6 .mark-holds .ensures) (c5 .enter .ensures) (c4 .declare .ensures) (c3 .items .ensures) (c2 .releases .ensures) (c1 .finish .ensures)) .kept .same-stack)
+    (λ c. block-ends t c .kept .same-stack)
     -- same-length-4
-    (λ c.
-    let c1 = c .before .before in
-    let c2 = c1 .before .before .before in
-    let c3 = c2 .before .before .before .before .before .before .before .before .before .before .before in
-    let c4 = c3 .before .before .before .before .before .before .before .before .before .before in
-    let c5 = c4 .before .before .before .before .before .before in
-    let c6 = c5 .before .before .before .before in
-    let c7 = c6 .before .before in
-    let c8 = c7 .before .before in
-    let c9 = c8 .before in
-    let c10 = c9 .before .before .before .before .before .before .before .before .before .before in
-    (answers-block (c10 .pre .1) (c9 .half-at .ensures) (c8 .word-at .ensures) (c7 .holds-in .ensures) (c6 .mark-holds .ensures) (c5 .enter .ensures) (c4 .declare .ensures) (c3 .items .ensures) (c2 .releases .ensures) (c1 .finish .ensures)) .kept .same-out)
+    (λ c. block-ends t c .kept .same-out)
     -- returns
-    (λ c.
-    let c1 = c .before .before in
-    let c2 = c1 .before .before .before in
-    let c3 = c2 .before .before .before .before .before .before .before .before .before .before .before in
-    let c4 = c3 .before .before .before .before .before .before .before .before .before .before in
-    let c5 = c4 .before .before .before .before .before .before in
-    let c6 = c5 .before .before .before .before in
-    let c7 = c6 .before .before in
-    let c8 = c7 .before .before in
-    let c9 = c8 .before in
-    let c10 = c9 .before .before .before .before .before .before .before .before .before .before in
-    answers-block (c10 .pre .1) (c9 .half-at .ensures) (c8 .word-at .ensures) (c7 .holds-in .ensures) (c6 .mark-holds .ensures) (c5 .enter .ensures) (c4 .declare .ensures) (c3 .items .ensures) (c2 .releases .ensures) (c1 .finish .ensures))
+    (block-ends t)

@@ -1,9 +1,10 @@
 -- The walker `body` meets its contract.
 use native.Mathlib.Omega.{arith}
+use lib.ListN.{length}
 use borrow.Author.Needs.{needs}
 use Rattle.compile_steps.specs.Parts.{asked}
 use Rattle.compile_steps.specs.BodyAsks.{asks-body-within, asks-body-few, asks-body-marks, asks-body-declare, asks-body-enter, asks-body-items, asks-body-spanned, asks-body-passes, asks-body-value, asks-body-releases, asks-body-finish, answers-body}
-use Prim.Native.Nat.{ℕ}
+use Prim.Native.Nat.{ℕ, _+_, _*_, _≤_}
 use Rattle.compile_walk.proofs.body.Reads as body
 use Rattle.compile_walk.proofs.+arms+assign+block+body+choose+conditional+expression+items+operands+pair+repeat+select+simple+statement+when.Lts-body as body-lts
 use Rattle.compile_walk.proofs.expression.Reads as expression
@@ -19,8 +20,71 @@ use Rattle.words.proofs.half_at.Reads as half-at-reads
 use Rattle.words.proofs.word_at.Reads as word-at-reads
 use Rattle.compile_walk.proofs.+arms+assign+block+body+choose+conditional+expression+items+operands+pair+repeat+select+simple+statement+when.Proof.Base.{body-at, expression-below, items-below}
 
-pub body-meets : {M : Type 1} (t : ℕ) → body-lts.Closed (half-at-reads.Asked, half-at-reads.Learnt, word-at-reads.Asked, word-at-reads.Learnt, holds-in-reads.Asked, holds-in-reads.Learnt, mark-holds-reads.Asked, mark-holds-reads.Learnt, enter-reads.Asked, enter-reads.Learnt, declare-reads.Asked, declare-reads.Learnt, items-below t, items.Post, spanned-reads.Asked, spanned-reads.Learnt, expression-below t, expression.Post, releases-reads.Asked, releases-reads.Learnt, finish-reads.Asked, finish-reads.Learnt) (body-at t) body.Post M
-body-meets t = body-lts.spec (half-at-reads.Asked, half-at-reads.Learnt, word-at-reads.Asked, word-at-reads.Learnt, holds-in-reads.Asked, holds-in-reads.Learnt, mark-holds-reads.Asked, mark-holds-reads.Learnt, enter-reads.Asked, enter-reads.Learnt, declare-reads.Asked, declare-reads.Learnt, items-below t, items.Post, spanned-reads.Asked, spanned-reads.Learnt, expression-below t, expression.Post, releases-reads.Asked, releases-reads.Learnt, finish-reads.Asked, finish-reads.Learnt) (body-at t) body.Post
+-- what the functions that it calls are taken to ask and give
+abbrev claims : ℕ → body-lts.Claims
+claims t = (
+  half-at-reads.Asked,
+  half-at-reads.Learnt,
+  word-at-reads.Asked,
+  word-at-reads.Learnt,
+  holds-in-reads.Asked,
+  holds-in-reads.Learnt,
+  mark-holds-reads.Asked,
+  mark-holds-reads.Learnt,
+  enter-reads.Asked,
+  enter-reads.Learnt,
+  declare-reads.Asked,
+  declare-reads.Learnt,
+  items-below t,
+  items.Post,
+  spanned-reads.Asked,
+  spanned-reads.Learnt,
+  expression-below t,
+  expression.Post,
+  releases-reads.Asked,
+  releases-reads.Learnt,
+  finish-reads.Asked,
+  finish-reads.Learnt,
+)
+
+-- the part behind its items
+body-passes : (t : ℕ) (c : body-lts.After-spanned (claims t) (body-at t) body.Post)
+    → let h1 = c .before .before .before .before .before .before .before .before .before .before .before .before .before .before .before .before .before in
+    let h = h1 .before .before .before .before .before .before .before .before .before .before .before .before .before .before .before .before .before in
+    let s = h .before .before .before .before .before .before .before .before .before .before in
+    (8 * (1 + h .half-at .result + c .spanned .result) ≤ length (s .args .part .now)) × (s .args .at + 1 + h .half-at .result + c .spanned .result ≤ 2048)
+body-passes t c =
+    let c2 = c .before .before .before .before .before .before .before .before .before in
+    let c3 = c2 .before .before .before .before .before .before .before .before .before .before in
+    let c4 = c3 .before .before .before .before .before .before in
+    let c5 = c4 .before .before .before .before in
+    let c6 = c5 .before .before in
+    let c7 = c6 .before .before in
+    let c8 = c7 .before in
+    let c9 = c8 .before .before .before .before .before .before .before .before .before .before in
+    asks-body-passes (c9 .pre .1) (c8 .half-at .ensures) (c7 .word-at .ensures) (c6 .holds-in .ensures) (c5 .mark-holds .ensures) (c4 .enter .ensures) (c3 .declare .ensures) (c2 .items .ensures)
+    (c .spanned .ensures)
+
+-- what it has done where it returns
+body-ends : (t : ℕ) → body-lts.Need-returns (claims t) (body-at t) body.Post
+body-ends t c =
+    let c1 = c .before .before in
+    let c2 = c1 .before .before .before in
+    let c3 = c2 .before .before .before .before .before .before .before .before .before .before .before in
+    let c4 = c3 .before .before .before .before .before .before in
+    let c5 = c4 .before .before .before .before .before .before .before .before .before in
+    let c6 = c5 .before .before .before .before .before .before .before .before .before .before in
+    let c7 = c6 .before .before .before .before .before .before in
+    let c8 = c7 .before .before .before .before in
+    let c9 = c8 .before .before in
+    let c10 = c9 .before .before in
+    let c11 = c10 .before in
+    let c12 = c11 .before .before .before .before .before .before .before .before .before .before in
+    answers-body (c12 .pre .1) (c11 .half-at .ensures) (c10 .word-at .ensures) (c9 .holds-in .ensures) (c8 .mark-holds .ensures) (c7 .enter .ensures) (c6 .declare .ensures) (c5 .items .ensures)
+    (c4 .spanned .ensures) (c3 .expression .ensures) (c2 .releases .ensures) (c1 .finish .ensures)
+
+pub body-meets : {M : Type 1} (t : ℕ) → body-lts.Closed (claims t) (body-at t) body.Post M
+body-meets t = body-lts.spec (claims t) (body-at t) body.Post
     -- half-at-requires
     (λ c κs. omega (arith, asked (c .before .before .before .before .before .before .before .before .before .pre .1) .long))
     -- cast-heads
@@ -154,49 +218,13 @@ body-meets t = body-lts.spec (half-at-reads.Asked, half-at-reads.Learnt, word-at
     let c3 = c2 .before .before .before .before .before .before .before .before .before .before in
     omega (arith, asks-body-within (c3 .pre .1) (c2 .half-at .ensures) (c1 .word-at .ensures) .3))
     -- add-after-2
-    (λ c.
-    let c2 = c .before .before .before .before .before .before .before .before .before in
-    let c3 = c2 .before .before .before .before .before .before .before .before .before .before in
-    let c4 = c3 .before .before .before .before .before .before in
-    let c5 = c4 .before .before .before .before in
-    let c6 = c5 .before .before in
-    let c7 = c6 .before .before in
-    let c8 = c7 .before in
-    let c9 = c8 .before .before .before .before .before .before .before .before .before .before in
-    omega (arith, asks-body-passes (c9 .pre .1) (c8 .half-at .ensures) (c7 .word-at .ensures) (c6 .holds-in .ensures) (c5 .mark-holds .ensures) (c4 .enter .ensures) (c3 .declare .ensures) (c2 .items .ensures) (c .spanned .ensures) .1))
+    (λ c. omega (arith, body-passes t c .1))
     -- mul-after
-    (λ c.
-    let c2 = c .before .before .before .before .before .before .before .before .before in
-    let c3 = c2 .before .before .before .before .before .before .before .before .before .before in
-    let c4 = c3 .before .before .before .before .before .before in
-    let c5 = c4 .before .before .before .before in
-    let c6 = c5 .before .before in
-    let c7 = c6 .before .before in
-    let c8 = c7 .before in
-    let c9 = c8 .before .before .before .before .before .before .before .before .before .before in
-    omega (arith, asks-body-passes (c9 .pre .1) (c8 .half-at .ensures) (c7 .word-at .ensures) (c6 .holds-in .ensures) (c5 .mark-holds .ensures) (c4 .enter .ensures) (c3 .declare .ensures) (c2 .items .ensures) (c .spanned .ensures) .1))
+    (λ c. omega (arith, body-passes t c .1))
     -- sub-expression
-    (λ c.
-    let c2 = c .before .before .before .before .before .before .before .before .before in
-    let c3 = c2 .before .before .before .before .before .before .before .before .before .before in
-    let c4 = c3 .before .before .before .before .before .before in
-    let c5 = c4 .before .before .before .before in
-    let c6 = c5 .before .before in
-    let c7 = c6 .before .before in
-    let c8 = c7 .before in
-    let c9 = c8 .before .before .before .before .before .before .before .before .before .before in
-    asks-body-passes (c9 .pre .1) (c8 .half-at .ensures) (c7 .word-at .ensures) (c6 .holds-in .ensures) (c5 .mark-holds .ensures) (c4 .enter .ensures) (c3 .declare .ensures) (c2 .items .ensures) (c .spanned .ensures) .0)
+    (λ c. body-passes t c .0)
     -- part-expression-start
-    (λ c.
-    let c2 = c .before .before .before .before .before .before .before .before .before in
-    let c3 = c2 .before .before .before .before .before .before .before .before .before .before in
-    let c4 = c3 .before .before .before .before .before .before in
-    let c5 = c4 .before .before .before .before in
-    let c6 = c5 .before .before in
-    let c7 = c6 .before .before in
-    let c8 = c7 .before in
-    let c9 = c8 .before .before .before .before .before .before .before .before .before .before in
-    asks-body-passes (c9 .pre .1) (c8 .half-at .ensures) (c7 .word-at .ensures) (c6 .holds-in .ensures) (c5 .mark-holds .ensures) (c4 .enter .ensures) (c3 .declare .ensures) (c2 .items .ensures) (c .spanned .ensures) .0)
+    (λ c. body-passes t c .0)
     -- part-expression-end
     (λ c. search needs)
     -- sub-expression-2
@@ -210,17 +238,7 @@ body-meets t = body-lts.spec (half-at-reads.Asked, half-at-reads.Learnt, word-at
     let c3 = c2 .before .before .before .before .before .before .before .before .before .before in
     omega (arith, asks-body-within (c3 .pre .1) (c2 .half-at .ensures) (c1 .word-at .ensures) .3))
     -- add-expression-3
-    (λ c.
-    let c1 = c .before in
-    let c2 = c1 .before .before .before .before .before .before .before .before .before in
-    let c3 = c2 .before .before .before .before .before .before .before .before .before .before in
-    let c4 = c3 .before .before .before .before .before .before in
-    let c5 = c4 .before .before .before .before in
-    let c6 = c5 .before .before in
-    let c7 = c6 .before .before in
-    let c8 = c7 .before in
-    let c9 = c8 .before .before .before .before .before .before .before .before .before .before in
-    omega (arith, asks-body-passes (c9 .pre .1) (c8 .half-at .ensures) (c7 .word-at .ensures) (c6 .holds-in .ensures) (c5 .mark-holds .ensures) (c4 .enter .ensures) (c3 .declare .ensures) (c2 .items .ensures) (c1 .spanned .ensures) .1))
+    (λ c. omega (arith, body-passes t (c .before) .1))
     -- add-expression-4
     (λ c.
     let c1 = c .before .before .before .before .before .before .before .before .before .before .before .before .before .before .before .before .before .before .before .before .before .before .before .before .before .before .before .before .before .before .before .before .before .before in
@@ -268,77 +286,12 @@ body-meets t = body-lts.spec (half-at-reads.Asked, half-at-reads.Learnt, word-at
     let c11 = c10 .before .before .before .before .before .before .before .before .before .before in
     asks-body-finish (c11 .pre .1) (c10 .half-at .ensures) (c9 .word-at .ensures) (c8 .holds-in .ensures) (c7 .mark-holds .ensures) (c6 .enter .ensures) (c5 .declare .ensures) (c4 .items .ensures) (c3 .spanned .ensures) (c2 .expression .ensures) (c1 .releases .ensures))
     -- same-length
-    (λ c.
-    let c1 = c .before .before in
-    let c2 = c1 .before .before .before in
-    let c3 = c2 .before .before .before .before .before .before .before .before .before .before .before in
-    let c4 = c3 .before .before .before .before .before .before in
-    let c5 = c4 .before .before .before .before .before .before .before .before .before in
-    let c6 = c5 .before .before .before .before .before .before .before .before .before .before in
-    let c7 = c6 .before .before .before .before .before .before in
-    let c8 = c7 .before .before .before .before in
-    let c9 = c8 .before .before in
-    let c10 = c9 .before .before in
-    let c11 = c10 .before in
-    let c12 = c11 .before .before .before .before .before .before .before .before .before .before in
-    (answers-body (c12 .pre .1) (c11 .half-at .ensures) (c10 .word-at .ensures) (c9 .holds-in .ensures) (c8 .mark-holds .ensures) (c7 .enter .ensures) (c6 .declare .ensures) (c5 .items .ensures) (c4 .spanned .ensures) (c3 .expression .ensures) (c2 .releases .ensures) (c1 .finish .ensures)) .kept .same-env)
+    (λ c. body-ends t c .kept .same-env)
     -- same-length-2
-    (λ c.
-    let c1 = c .before .before in
-    let c2 = c1 .before .before .before in
-    let c3 = c2 .before .before .before .before .before .before .before .before .before .before .before in
-    let c4 = c3 .before .before .before .before .before .before in
-    let c5 = c4 .before .before .before .before .before .before .before .before .before in
-    let c6 = c5 .before .before .before .before .before .before .before .before .before .before in
-    let c7 = c6 .before .before .before .before .before .before in
-    let c8 = c7 .before .before .before .before in
-    let c9 = c8 .before .before in
-    let c10 = c9 .before .before in
-    let c11 = c10 .before in
-    let c12 = c11 .before .before .before .before .before .before .before .before .before .before in
-    (answers-body (c12 .pre .1) (c11 .half-at .ensures) (c10 .word-at .ensures) (c9 .holds-in .ensures) (c8 .mark-holds .ensures) (c7 .enter .ensures) (c6 .declare .ensures) (c5 .items .ensures) (c4 .spanned .ensures) (c3 .expression .ensures) (c2 .releases .ensures) (c1 .finish .ensures)) .kept .same-ends)
+    (λ c. body-ends t c .kept .same-ends)
     -- same-length-3
-    (λ c.
-    let c1 = c .before .before in
-    let c2 = c1 .before .before .before in
-    let c3 = c2 .before .before .before .before .before .before .before .before .before .before .before in
-    let c4 = c3 .before .before .before .before .before .before in
-    let c5 = c4 .before .before .before .before .before .before .before .before .before in
-    let c6 = c5 .before .before .before .before .before .before .before .before .before .before in
-    let c7 = c6 .before .before .before .before .before .before in
-    let c8 = c7 .before .before .before .before in
-    let c9 = c8 .before .before in
-    let c10 = c9 .before .before in
-    let c11 = c10 .before in
-    let c12 = c11 .before .before .before .before .before .before .before .before .before .before in
-    (answers-body (c12 .pre .1) (c11 .half-at .ensures) (c10 .word-at .ensures) (c9 .holds-in .ensures) (c8 .mark-holds .ensures) (c7 .enter .ensures) (c6 .declare .ensures) (c5 .items .ensures) (c4 .spanned .ensures) (c3 .expression .ensures) (c2 .releases .ensures) (c1 .finish .ensures)) .kept .same-stack)
+    (λ c. body-ends t c .kept .same-stack)
     -- same-length-4
-    (λ c.
-    let c1 = c .before .before in
-    let c2 = c1 .before .before .before in
-    let c3 = c2 .before .before .before .before .before .before .before .before .before .before .before in
-    let c4 = c3 .before .before .before .before .before .before in
-    let c5 = c4 .before .before .before .before .before .before .before .before .before in
-    let c6 = c5 .before .before .before .before .before .before .before .before .before .before in
-    let c7 = c6 .before .before .before .before .before .before in
-    let c8 = c7 .before .before .before .before in
-    let c9 = c8 .before .before in
-    let c10 = c9 .before .before in
-    let c11 = c10 .before in
-    let c12 = c11 .before .before .before .before .before .before .before .before .before .before in
-    (answers-body (c12 .pre .1) (c11 .half-at .ensures) (c10 .word-at .ensures) (c9 .holds-in .ensures) (c8 .mark-holds .ensures) (c7 .enter .ensures) (c6 .declare .ensures) (c5 .items .ensures) (c4 .spanned .ensures) (c3 .expression .ensures) (c2 .releases .ensures) (c1 .finish .ensures)) .kept .same-out)
+    (λ c. body-ends t c .kept .same-out)
     -- returns
-    (λ c.
-    let c1 = c .before .before in
-    let c2 = c1 .before .before .before in
-    let c3 = c2 .before .before .before .before .before .before .before .before .before .before .before in
-    let c4 = c3 .before .before .before .before .before .before in
-    let c5 = c4 .before .before .before .before .before .before .before .before .before in
-    let c6 = c5 .before .before .before .before .before .before .before .before .before .before in
-    let c7 = c6 .before .before .before .before .before .before in
-    let c8 = c7 .before .before .before .before in
-    let c9 = c8 .before .before in
-    let c10 = c9 .before .before in
-    let c11 = c10 .before in
-    let c12 = c11 .before .before .before .before .before .before .before .before .before .before in
-    answers-body (c12 .pre .1) (c11 .half-at .ensures) (c10 .word-at .ensures) (c9 .holds-in .ensures) (c8 .mark-holds .ensures) (c7 .enter .ensures) (c6 .declare .ensures) (c5 .items .ensures) (c4 .spanned .ensures) (c3 .expression .ensures) (c2 .releases .ensures) (c1 .finish .ensures))
+    (body-ends t)

@@ -1,11 +1,13 @@
 -- The walker `choose` meets its contract.
 use mathlib.Core.Path.{refl}
 use native.Mathlib.Omega.{arith}
+use lib.ListN.{length}
 use borrow.Author.Needs.{needs}
-use Rattle.compile_steps.specs.Parts.{asked}
+use Rattle.shapes.specs.Steps.{Passes}
+use Rattle.compile_steps.specs.Parts.{asked, below}
 use Rattle.compile_steps.specs.Choose.{asks-choose-first, asks-choose-passes, asks-choose-passes₂, asks-choose-emit, asks-choose-second, asks-choose-emit₂, asks-choose-shape, asks-choose-third, asks-choose-shape₂, asks-choose-finish, answers-choose}
 use Rattle.compile_steps.specs.Adapt.{second-within, third-within}
-use Prim.Native.Nat.{ℕ, _+_}
+use Prim.Native.Nat.{ℕ, _+_, _-_, _*_, _≤_}
 use Rattle.compile_walk.proofs.choose.Reads as choose
 use Rattle.compile_walk.proofs.+arms+assign+block+body+choose+conditional+expression+items+operands+pair+repeat+select+simple+statement+when.Lts-choose as choose-lts
 use Rattle.compile_walk.proofs.expression.Reads as expression
@@ -15,11 +17,73 @@ use Rattle.compile_own.proofs.finish.Reads as finish-reads
 use Rattle.compile_pen.proofs.emit.Reads as emit-reads
 use Rattle.compile_pen.proofs.shape.Reads as shape-reads
 use Rattle.spans.proofs.size_at.Reads as size-at-reads
-use Rattle.compile_walk.proofs.+arms+assign+block+body+choose+conditional+expression+items+operands+pair+repeat+select+simple+statement+when.{statement}
 use Rattle.compile_walk.proofs.+arms+assign+block+body+choose+conditional+expression+items+operands+pair+repeat+select+simple+statement+when.Proof.Base.{choose-at, expression-below, statement-below}
 
-pub choose-meets : {M : Type 1} (t : ℕ) → choose-lts.Closed (expression-below t, expression.Post, size-at-reads.Asked, size-at-reads.Learnt, end-of-reads.Asked, end-of-reads.Learnt, emit-reads.Asked, emit-reads.Learnt, statement-below t, statement′.Post, shape-reads.Asked, shape-reads.Learnt, finish-reads.Asked, finish-reads.Learnt) (choose-at t) choose.Post M
-choose-meets t = choose-lts.spec (expression-below t, expression.Post, size-at-reads.Asked, size-at-reads.Learnt, end-of-reads.Asked, end-of-reads.Learnt, emit-reads.Asked, emit-reads.Learnt, statement-below t, statement′.Post, shape-reads.Asked, shape-reads.Learnt, finish-reads.Asked, finish-reads.Learnt) (choose-at t) choose.Post
+-- what the functions that it calls are taken to ask and give
+abbrev claims : ℕ → choose-lts.Claims
+claims t = (
+  expression-below t,
+  expression.Post,
+  size-at-reads.Asked,
+  size-at-reads.Learnt,
+  end-of-reads.Asked,
+  end-of-reads.Learnt,
+  emit-reads.Asked,
+  emit-reads.Learnt,
+  statement-below t,
+  statement′.Post,
+  shape-reads.Asked,
+  shape-reads.Learnt,
+  finish-reads.Asked,
+  finish-reads.Learnt,
+)
+
+-- the third part
+choose-passes : (t : ℕ) (c : choose-lts.After-size-at2 (claims t) (choose-at t) choose.Post)
+    → let d = c .before in
+    let e = d .before .before .before .before .before .before .before .before .before in
+    let s = e .before .before .before .before .before .before .before .before .before .before .before .before .before .before .before in
+    Passes (below (s .args .part .now) (8 * (s .args .at + 1 + d .size-at .result - s .args .at))) (s .args .sizes .now) (s .args .at + 1 + d .size-at .result) (c .size-at2 .result)
+choose-passes t c =
+    let d = c .before in
+    let e = d .before .before .before .before .before .before .before .before .before in
+    let s = e .before .before .before .before .before .before .before .before .before .before .before .before .before .before .before in
+    asks-choose-passes₂ (s .pre .1) (d .size-at .result) (d .size-at .ensures) (c .size-at2 .result) (c .size-at2 .ensures) (e .expression .ensures)
+
+choose-third : (t : ℕ) (c : choose-lts.After-size-at2 (claims t) (choose-at t) choose.Post)
+    → let d = c .before in
+    let e = d .before .before .before .before .before .before .before .before .before in
+    let s = e .before .before .before .before .before .before .before .before .before .before .before .before .before .before .before in
+    8 * (s .args .at + 1 + d .size-at .result + c .size-at2 .result - s .args .at) ≤ length (s .args .part .now)
+choose-third t c =
+    let d = c .before in
+    let e = d .before .before .before .before .before .before .before .before .before in
+    let s = e .before .before .before .before .before .before .before .before .before .before .before .before .before .before .before in
+    third-within (s .args .part .now) (s .args .at) (s .args .at + 1 + d .size-at .result) (c .size-at2 .result) (omega arith)
+    (second-within (s .args .part .now) (s .args .at) (d .size-at .result) (asked (s .pre .1) .long) (asks-choose-passes (s .pre .1) (d .size-at .result) (d .size-at .ensures)))
+    (choose-passes t c)
+
+-- what it has done where it returns
+choose-ends : (t : ℕ) → choose-lts.Need-returns (claims t) (choose-at t) choose.Post
+choose-ends t c =
+    let c1 = c .before .before in
+    let c2 = c1 .before .before .before in
+    let c3 = c2 .before .before .before .before .before .before .before .before .before .before .before .before in
+    let c4 = c3 .before .before .before .before .before .before .before .before in
+    let c5 = c4 .before .before .before .before .before in
+    let c6 = c5 .before in
+    let c7 = c6 .before .before .before .before .before .before .before .before .before .before in
+    let c8 = c7 .before .before .before .before .before .before .before .before in
+    let c9 = c8 .before in
+    let c10 = c9 .before .before in
+    let c11 = c10 .before in
+    let c12 = c11 .before .before .before .before .before .before .before .before .before in
+    let c13 = c12 .before .before .before .before .before .before .before .before .before .before .before .before .before .before .before in
+    answers-choose (c13 .pre .1) (c11 .size-at .result) (c11 .size-at .ensures) (c10 .size-at2 .result) (c10 .size-at2 .ensures) (c12 .expression .ensures) (c9 .end-of .ensures .0) (c8 .emit .ensures)
+    (c7 .statement .ensures) (c6 .end-of2 .ensures .0) (c5 .emit2 .ensures) (c4 .shape .ensures) (c3 .statement2 .ensures) (c2 .shape2 .ensures) (c1 .finish .ensures)
+
+pub choose-meets : {M : Type 1} (t : ℕ) → choose-lts.Closed (claims t) (choose-at t) choose.Post M
+choose-meets t = choose-lts.spec (claims t) (choose-at t) choose.Post
     -- sub-expression
     (λ c. omega (arith, asked (c .before .before .before .before .before .before .before .before .before .pre .1) .long))
     -- part-expression-start
@@ -50,11 +114,7 @@ choose-meets t = choose-lts.spec (expression-below t, expression.Post, size-at-r
     let c3 = c2 .before .before .before .before .before .before .before .before .before .before .before .before .before .before .before in
     asks-choose-passes₂ (c3 .pre .1) (c .size-at .result) (c .size-at .ensures) _ refl (c2 .expression .ensures) .known)
     -- add-third
-    (λ c.
-    let c2 = c .before in
-    let c3 = c2 .before .before .before .before .before .before .before .before .before in
-    let c4 = c3 .before .before .before .before .before .before .before .before .before .before .before .before .before .before .before in
-    omega (arith, asks-choose-passes₂ (c4 .pre .1) (c2 .size-at .result) (c2 .size-at .ensures) (c .size-at2 .result) (c .size-at2 .ensures) (c3 .expression .ensures) .small))
+    (λ c. omega (arith, choose-passes t c .small))
     -- end-of-requires
     (λ c κs. search needs)
     -- add-emit
@@ -128,29 +188,16 @@ choose-meets t = choose-lts.spec (expression-below t, expression.Post, size-at-r
     (λ c. omega arith)
     -- mul-last
     (λ c.
-    let c1 = c .before .before .before .before .before .before .before .before .before .before .before .before .before .before .before .before .before .before .before .before .before .before .before .before .before .before .before .before .before in
-    let c2 = c1 .before in
-    let c3 = c2 .before .before .before .before .before .before .before .before .before in
-    let c4 = c3 .before .before .before .before .before .before .before .before .before .before .before .before .before .before .before in
-    omega (arith, asks-choose-passes₂ (c4 .pre .1) (c2 .size-at .result) (c2 .size-at .ensures) (c1 .size-at2 .result) (c1 .size-at2 .ensures) (c3 .expression .ensures) .small))
+    let d = c .before .before .before .before .before .before .before .before .before .before .before .before .before .before in
+    omega (arith, choose-passes t (d .before .before .before .before .before .before .before .before .before .before .before .before .before .before .before) .small))
     -- sub-statement-3
     (λ c.
-    let c1 = c .before .before .before .before .before .before .before .before .before .before .before .before .before .before .before .before .before .before .before .before .before .before .before .before .before .before .before .before .before in
-    let c2 = c1 .before in
-    let c3 = c2 .before .before .before .before .before .before .before .before .before in
-    let c4 = c3 .before .before .before .before .before .before .before .before .before .before .before .before .before .before .before in
-    third-within (c4 .args .part .now) (c4 .args .at) ((c4 .args .at) + 1 + c2 .size-at .result) (c1 .size-at2 .result) (omega arith)
-    (second-within (c4 .args .part .now) (c4 .args .at) (c2 .size-at .result) (asked (c4 .pre .1) .long) (asks-choose-passes (c4 .pre .1) (c2 .size-at .result) (c2 .size-at .ensures)))
-    (asks-choose-passes₂ (c4 .pre .1) (c2 .size-at .result) (c2 .size-at .ensures) (c1 .size-at2 .result) (c1 .size-at2 .ensures) (c3 .expression .ensures)))
+    let d = c .before .before .before .before .before .before .before .before .before .before .before .before .before .before in
+    choose-third t (d .before .before .before .before .before .before .before .before .before .before .before .before .before .before .before))
     -- part-statement-start-2
     (λ c.
-    let c1 = c .before .before .before .before .before .before .before .before .before .before .before .before .before .before .before .before .before .before .before .before .before .before .before .before .before .before .before .before .before in
-    let c2 = c1 .before in
-    let c3 = c2 .before .before .before .before .before .before .before .before .before in
-    let c4 = c3 .before .before .before .before .before .before .before .before .before .before .before .before .before .before .before in
-    third-within (c4 .args .part .now) (c4 .args .at) ((c4 .args .at) + 1 + c2 .size-at .result) (c1 .size-at2 .result) (omega arith)
-    (second-within (c4 .args .part .now) (c4 .args .at) (c2 .size-at .result) (asked (c4 .pre .1) .long) (asks-choose-passes (c4 .pre .1) (c2 .size-at .result) (c2 .size-at .ensures)))
-    (asks-choose-passes₂ (c4 .pre .1) (c2 .size-at .result) (c2 .size-at .ensures) (c1 .size-at2 .result) (c1 .size-at2 .ensures) (c3 .expression .ensures)))
+    let d = c .before .before .before .before .before .before .before .before .before .before .before .before .before .before in
+    choose-third t (d .before .before .before .before .before .before .before .before .before .before .before .before .before .before .before))
     -- part-statement-end-2
     (λ c. search needs)
     -- sub-statement-4
@@ -203,87 +250,12 @@ choose-meets t = choose-lts.spec (expression-below t, expression.Post, size-at-r
     asks-choose-finish (c12 .pre .1) (c10 .size-at .result) (c10 .size-at .ensures) (c9 .size-at2 .result) (c9 .size-at2 .ensures) (c11 .expression .ensures) (c8 .end-of .ensures .0) (c7 .emit .ensures)
     (c6 .statement .ensures) (c5 .end-of2 .ensures .0) (c4 .emit2 .ensures) (c3 .shape .ensures) (c2 .statement2 .ensures) (c1 .shape2 .ensures))
     -- same-length
-    (λ c.
-    let c1 = c .before .before in
-    let c2 = c1 .before .before .before in
-    let c3 = c2 .before .before .before .before .before .before .before .before .before .before .before .before in
-    let c4 = c3 .before .before .before .before .before .before .before .before in
-    let c5 = c4 .before .before .before .before .before in
-    let c6 = c5 .before in
-    let c7 = c6 .before .before .before .before .before .before .before .before .before .before in
-    let c8 = c7 .before .before .before .before .before .before .before .before in
-    let c9 = c8 .before in
-    let c10 = c9 .before .before in
-    let c11 = c10 .before in
-    let c12 = c11 .before .before .before .before .before .before .before .before .before in
-    let c13 = c12 .before .before .before .before .before .before .before .before .before .before .before .before .before .before .before in
-    (answers-choose (c13 .pre .1) (c11 .size-at .result) (c11 .size-at .ensures) (c10 .size-at2 .result) (c10 .size-at2 .ensures) (c12 .expression .ensures) (c9 .end-of .ensures .0) (c8 .emit .ensures)
-    (c7 .statement .ensures) (c6 .end-of2 .ensures .0) (c5 .emit2 .ensures) (c4 .shape .ensures) (c3 .statement2 .ensures) (c2 .shape2 .ensures) (c1 .finish .ensures)) .kept .same-env)
+    (λ c. choose-ends t c .kept .same-env)
     -- same-length-2
-    (λ c.
-    let c1 = c .before .before in
-    let c2 = c1 .before .before .before in
-    let c3 = c2 .before .before .before .before .before .before .before .before .before .before .before .before in
-    let c4 = c3 .before .before .before .before .before .before .before .before in
-    let c5 = c4 .before .before .before .before .before in
-    let c6 = c5 .before in
-    let c7 = c6 .before .before .before .before .before .before .before .before .before .before in
-    let c8 = c7 .before .before .before .before .before .before .before .before in
-    let c9 = c8 .before in
-    let c10 = c9 .before .before in
-    let c11 = c10 .before in
-    let c12 = c11 .before .before .before .before .before .before .before .before .before in
-    let c13 = c12 .before .before .before .before .before .before .before .before .before .before .before .before .before .before .before in
-    (answers-choose (c13 .pre .1) (c11 .size-at .result) (c11 .size-at .ensures) (c10 .size-at2 .result) (c10 .size-at2 .ensures) (c12 .expression .ensures) (c9 .end-of .ensures .0) (c8 .emit .ensures)
-    (c7 .statement .ensures) (c6 .end-of2 .ensures .0) (c5 .emit2 .ensures) (c4 .shape .ensures) (c3 .statement2 .ensures) (c2 .shape2 .ensures) (c1 .finish .ensures)) .kept .same-ends)
+    (λ c. choose-ends t c .kept .same-ends)
     -- same-length-3
-    (λ c.
-    let c1 = c .before .before in
-    let c2 = c1 .before .before .before in
-    let c3 = c2 .before .before .before .before .before .before .before .before .before .before .before .before in
-    let c4 = c3 .before .before .before .before .before .before .before .before in
-    let c5 = c4 .before .before .before .before .before in
-    let c6 = c5 .before in
-    let c7 = c6 .before .before .before .before .before .before .before .before .before .before in
-    let c8 = c7 .before .before .before .before .before .before .before .before in
-    let c9 = c8 .before in
-    let c10 = c9 .before .before in
-    let c11 = c10 .before in
-    let c12 = c11 .before .before .before .before .before .before .before .before .before in
-    let c13 = c12 .before .before .before .before .before .before .before .before .before .before .before .before .before .before .before in
-    (answers-choose (c13 .pre .1) (c11 .size-at .result) (c11 .size-at .ensures) (c10 .size-at2 .result) (c10 .size-at2 .ensures) (c12 .expression .ensures) (c9 .end-of .ensures .0) (c8 .emit .ensures)
-    (c7 .statement .ensures) (c6 .end-of2 .ensures .0) (c5 .emit2 .ensures) (c4 .shape .ensures) (c3 .statement2 .ensures) (c2 .shape2 .ensures) (c1 .finish .ensures)) .kept .same-stack)
+    (λ c. choose-ends t c .kept .same-stack)
     -- same-length-4
-    (λ c.
-    let c1 = c .before .before in
-    let c2 = c1 .before .before .before in
-    let c3 = c2 .before .before .before .before .before .before .before .before .before .before .before .before in
-    let c4 = c3 .before .before .before .before .before .before .before .before in
-    let c5 = c4 .before .before .before .before .before in
-    let c6 = c5 .before in
-    let c7 = c6 .before .before .before .before .before .before .before .before .before .before in
-    let c8 = c7 .before .before .before .before .before .before .before .before in
-    let c9 = c8 .before in
-    let c10 = c9 .before .before in
-    let c11 = c10 .before in
-    let c12 = c11 .before .before .before .before .before .before .before .before .before in
-    let c13 = c12 .before .before .before .before .before .before .before .before .before .before .before .before .before .before .before in
-    (answers-choose (c13 .pre .1) (c11 .size-at .result) (c11 .size-at .ensures) (c10 .size-at2 .result) (c10 .size-at2 .ensures) (c12 .expression .ensures) (c9 .end-of .ensures .0) (c8 .emit .ensures)
-    (c7 .statement .ensures) (c6 .end-of2 .ensures .0) (c5 .emit2 .ensures) (c4 .shape .ensures) (c3 .statement2 .ensures) (c2 .shape2 .ensures) (c1 .finish .ensures)) .kept .same-out)
+    (λ c. choose-ends t c .kept .same-out)
     -- returns
-    (λ c.
-    let c1 = c .before .before in
-    let c2 = c1 .before .before .before in
-    let c3 = c2 .before .before .before .before .before .before .before .before .before .before .before .before in
-    let c4 = c3 .before .before .before .before .before .before .before .before in
-    let c5 = c4 .before .before .before .before .before in
-    let c6 = c5 .before in
-    let c7 = c6 .before .before .before .before .before .before .before .before .before .before in
-    let c8 = c7 .before .before .before .before .before .before .before .before in
-    let c9 = c8 .before in
-    let c10 = c9 .before .before in
-    let c11 = c10 .before in
-    let c12 = c11 .before .before .before .before .before .before .before .before .before in
-    let c13 = c12 .before .before .before .before .before .before .before .before .before .before .before .before .before .before .before in
-    answers-choose (c13 .pre .1) (c11 .size-at .result) (c11 .size-at .ensures) (c10 .size-at2 .result) (c10 .size-at2 .ensures) (c12 .expression .ensures) (c9 .end-of .ensures .0) (c8 .emit .ensures)
-    (c7 .statement .ensures) (c6 .end-of2 .ensures .0) (c5 .emit2 .ensures) (c4 .shape .ensures) (c3 .statement2 .ensures) (c2 .shape2 .ensures) (c1 .finish .ensures))
+    (choose-ends t)

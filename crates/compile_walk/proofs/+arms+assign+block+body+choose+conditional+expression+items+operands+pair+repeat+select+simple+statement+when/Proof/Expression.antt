@@ -20,8 +20,52 @@ use Rattle.words.proofs.half_at.Reads as half-at-reads
 use Rattle.words.proofs.word_at.Reads as word-at-reads
 use Rattle.compile_walk.proofs.+arms+assign+block+body+choose+conditional+expression+items+operands+pair+repeat+select+simple+statement+when.Proof.Base.{body-below, conditional-below, expression-at, pair-below, simple-below}
 
-pub expression-meets : {M : Type 1} (t : ℕ) → expression-lts.Closed (half-at-reads.Asked, half-at-reads.Learnt, pair-below t, pair.Post, conditional-below t, conditional.Post, body-below t, body.Post, known-of-reads.Asked, known-of-reads.Learnt, leaf-type-reads.Asked, leaf-type-reads.Learnt, word-at-reads.Asked, word-at-reads.Learnt, leaf-reads.Asked, leaf-reads.Learnt, finish-reads.Asked, finish-reads.Learnt, simple-below t, simple.Post) (expression-at t) expression.Post M
-expression-meets t = expression-lts.spec (half-at-reads.Asked, half-at-reads.Learnt, pair-below t, pair.Post, conditional-below t, conditional.Post, body-below t, body.Post, known-of-reads.Asked, known-of-reads.Learnt, leaf-type-reads.Asked, leaf-type-reads.Learnt, word-at-reads.Asked, word-at-reads.Learnt, leaf-reads.Asked, leaf-reads.Learnt, finish-reads.Asked, finish-reads.Learnt, simple-below t, simple.Post) (expression-at t) expression.Post
+-- what the functions that it calls are taken to ask and give
+abbrev claims : ℕ → expression-lts.Claims
+claims t = (
+  half-at-reads.Asked,
+  half-at-reads.Learnt,
+  pair-below t,
+  pair.Post,
+  conditional-below t,
+  conditional.Post,
+  body-below t,
+  body.Post,
+  known-of-reads.Asked,
+  known-of-reads.Learnt,
+  leaf-type-reads.Asked,
+  leaf-type-reads.Learnt,
+  word-at-reads.Asked,
+  word-at-reads.Learnt,
+  leaf-reads.Asked,
+  leaf-reads.Learnt,
+  finish-reads.Asked,
+  finish-reads.Learnt,
+  simple-below t,
+  simple.Post,
+)
+
+-- what it has done where it returns
+expression-ends-4 : (t : ℕ) → expression-lts.Need-returns-4 (claims t) (expression-at t) expression.Post
+expression-ends-4 t c =
+    let c1 = c .before .before in
+    let c2 = c1 .before .before .before in
+    let c3 = c2 .before .before in
+    let c4 = c3 .before .before in
+    let c5 = c4 .before in
+    let c6 = c5 .before .before in
+    let c7 = c6 .before in
+    let c8 = c7 .before in
+    let c9 = c8 .before in
+    let c10 = c9 .before .before .before .before .before .before .before .before .before .before in
+    answer-as (λ n h e. leaf-of n h (λ z. c8 .match .rest .0 .0 .1 (c9 .half-at .ensures ∙ (sym e ∙ z))) (λ z. c8 .match .rest .0 .1 (c9 .half-at .ensures ∙ (sym e ∙ z)))
+    (λ z. c8 .match .rest .1 (c9 .half-at .ensures ∙ (sym e ∙ z))) (omega (arith, e, c9 .half-at .ensures, c7 .if1 .taken)))
+    (answers-leaf (ask-as (λ n h e. leaf-of n h (λ z. c8 .match .rest .0 .0 .1 (c9 .half-at .ensures ∙ (sym e ∙ z))) (λ z. c8 .match .rest .0 .1 (c9 .half-at .ensures ∙ (sym e ∙ z)))
+    (λ z. c8 .match .rest .1 (c9 .half-at .ensures ∙ (sym e ∙ z))) (omega (arith, e, c9 .half-at .ensures, c7 .if1 .taken))) (c10 .pre .1)) (c9 .half-at .ensures) (c6 .half-at2 .ensures)
+    (c3 .word-at .ensures) (c5 .known-of .ensures) (c4 .leaf-type .ensures) (c2 .leaf .ensures) (c1 .finish .ensures))
+
+pub expression-meets : {M : Type 1} (t : ℕ) → expression-lts.Closed (claims t) (expression-at t) expression.Post M
+expression-meets t = expression-lts.spec (claims t) (expression-at t) expression.Post
     -- half-at-requires
     (λ c κs. omega (arith, asked (c .before .before .before .before .before .before .before .before .before .pre .1) .long))
     -- pair-requires
@@ -125,70 +169,15 @@ expression-meets t = expression-lts.spec (half-at-reads.Asked, half-at-reads.Lea
     let c3 = c2 .before in
     answer-as (λ n h e. e ∙ (sym (c3 .half-at .ensures) ∙ c2 .match .keys3)) (c1 .body .ensures))
     -- same-length-13
-    (λ c.
-    let c1 = c .before .before in
-    let c2 = c1 .before .before .before in
-    let c3 = c2 .before .before in
-    let c4 = c3 .before .before in
-    let c5 = c4 .before in
-    let c6 = c5 .before .before in
-    let c7 = c6 .before in
-    let c8 = c7 .before in
-    let c9 = c8 .before in
-    let c10 = c9 .before .before .before .before .before .before .before .before .before .before in
-    (answers-leaf (ask-as (λ n h e. leaf-of n h (λ z. c8 .match .rest .0 .0 .1 (c9 .half-at .ensures ∙ (sym e ∙ z))) (λ z. c8 .match .rest .0 .1 (c9 .half-at .ensures ∙ (sym e ∙ z))) (λ z. c8 .match .rest .1 (c9 .half-at .ensures ∙ (sym e ∙ z))) (omega (arith, e, c9 .half-at .ensures, c7 .if1 .taken))) (c10 .pre .1)) (c9 .half-at .ensures) (c6 .half-at2 .ensures) (c3 .word-at .ensures) (c5 .known-of .ensures) (c4 .leaf-type .ensures) (c2 .leaf .ensures) (c1 .finish .ensures)) .kept .same-env)
+    (λ c. expression-ends-4 t c .kept .same-env)
     -- same-length-14
-    (λ c.
-    let c1 = c .before .before in
-    let c2 = c1 .before .before .before in
-    let c3 = c2 .before .before in
-    let c4 = c3 .before .before in
-    let c5 = c4 .before in
-    let c6 = c5 .before .before in
-    let c7 = c6 .before in
-    let c8 = c7 .before in
-    let c9 = c8 .before in
-    let c10 = c9 .before .before .before .before .before .before .before .before .before .before in
-    (answers-leaf (ask-as (λ n h e. leaf-of n h (λ z. c8 .match .rest .0 .0 .1 (c9 .half-at .ensures ∙ (sym e ∙ z))) (λ z. c8 .match .rest .0 .1 (c9 .half-at .ensures ∙ (sym e ∙ z))) (λ z. c8 .match .rest .1 (c9 .half-at .ensures ∙ (sym e ∙ z))) (omega (arith, e, c9 .half-at .ensures, c7 .if1 .taken))) (c10 .pre .1)) (c9 .half-at .ensures) (c6 .half-at2 .ensures) (c3 .word-at .ensures) (c5 .known-of .ensures) (c4 .leaf-type .ensures) (c2 .leaf .ensures) (c1 .finish .ensures)) .kept .same-ends)
+    (λ c. expression-ends-4 t c .kept .same-ends)
     -- same-length-15
-    (λ c.
-    let c1 = c .before .before in
-    let c2 = c1 .before .before .before in
-    let c3 = c2 .before .before in
-    let c4 = c3 .before .before in
-    let c5 = c4 .before in
-    let c6 = c5 .before .before in
-    let c7 = c6 .before in
-    let c8 = c7 .before in
-    let c9 = c8 .before in
-    let c10 = c9 .before .before .before .before .before .before .before .before .before .before in
-    (answers-leaf (ask-as (λ n h e. leaf-of n h (λ z. c8 .match .rest .0 .0 .1 (c9 .half-at .ensures ∙ (sym e ∙ z))) (λ z. c8 .match .rest .0 .1 (c9 .half-at .ensures ∙ (sym e ∙ z))) (λ z. c8 .match .rest .1 (c9 .half-at .ensures ∙ (sym e ∙ z))) (omega (arith, e, c9 .half-at .ensures, c7 .if1 .taken))) (c10 .pre .1)) (c9 .half-at .ensures) (c6 .half-at2 .ensures) (c3 .word-at .ensures) (c5 .known-of .ensures) (c4 .leaf-type .ensures) (c2 .leaf .ensures) (c1 .finish .ensures)) .kept .same-stack)
+    (λ c. expression-ends-4 t c .kept .same-stack)
     -- same-length-16
-    (λ c.
-    let c1 = c .before .before in
-    let c2 = c1 .before .before .before in
-    let c3 = c2 .before .before in
-    let c4 = c3 .before .before in
-    let c5 = c4 .before in
-    let c6 = c5 .before .before in
-    let c7 = c6 .before in
-    let c8 = c7 .before in
-    let c9 = c8 .before in
-    let c10 = c9 .before .before .before .before .before .before .before .before .before .before in
-    (answers-leaf (ask-as (λ n h e. leaf-of n h (λ z. c8 .match .rest .0 .0 .1 (c9 .half-at .ensures ∙ (sym e ∙ z))) (λ z. c8 .match .rest .0 .1 (c9 .half-at .ensures ∙ (sym e ∙ z))) (λ z. c8 .match .rest .1 (c9 .half-at .ensures ∙ (sym e ∙ z))) (omega (arith, e, c9 .half-at .ensures, c7 .if1 .taken))) (c10 .pre .1)) (c9 .half-at .ensures) (c6 .half-at2 .ensures) (c3 .word-at .ensures) (c5 .known-of .ensures) (c4 .leaf-type .ensures) (c2 .leaf .ensures) (c1 .finish .ensures)) .kept .same-out)
+    (λ c. expression-ends-4 t c .kept .same-out)
     -- returns-4
-    (λ c.
-    let c1 = c .before .before in
-    let c2 = c1 .before .before .before in
-    let c3 = c2 .before .before in
-    let c4 = c3 .before .before in
-    let c5 = c4 .before in
-    let c6 = c5 .before .before in
-    let c7 = c6 .before in
-    let c8 = c7 .before in
-    let c9 = c8 .before in
-    let c10 = c9 .before .before .before .before .before .before .before .before .before .before in
-    answer-as (λ n h e. leaf-of n h (λ z. c8 .match .rest .0 .0 .1 (c9 .half-at .ensures ∙ (sym e ∙ z))) (λ z. c8 .match .rest .0 .1 (c9 .half-at .ensures ∙ (sym e ∙ z))) (λ z. c8 .match .rest .1 (c9 .half-at .ensures ∙ (sym e ∙ z))) (omega (arith, e, c9 .half-at .ensures, c7 .if1 .taken))) (answers-leaf (ask-as (λ n h e. leaf-of n h (λ z. c8 .match .rest .0 .0 .1 (c9 .half-at .ensures ∙ (sym e ∙ z))) (λ z. c8 .match .rest .0 .1 (c9 .half-at .ensures ∙ (sym e ∙ z))) (λ z. c8 .match .rest .1 (c9 .half-at .ensures ∙ (sym e ∙ z))) (omega (arith, e, c9 .half-at .ensures, c7 .if1 .taken))) (c10 .pre .1)) (c9 .half-at .ensures) (c6 .half-at2 .ensures) (c3 .word-at .ensures) (c5 .known-of .ensures) (c4 .leaf-type .ensures) (c2 .leaf .ensures) (c1 .finish .ensures)))
+    (expression-ends-4 t)
     -- same-length-17
     (λ c. (c .before .before .before .before .before .before .before .before .simple .ensures) .kept .same-env)
     -- same-length-18

@@ -9,7 +9,6 @@ use Rattle.compile_walk.proofs.items.Reads as items
 use Rattle.compile_walk.proofs.+arms+assign+block+body+choose+conditional+expression+items+operands+pair+repeat+select+simple+statement+when.Lts-items as items-lts
 use Rattle.compile_walk.proofs.statement.Reads as statement′
 use Rattle.spans.proofs.size_at.Reads as size-at-reads
-use Rattle.compile_walk.proofs.+arms+assign+block+body+choose+conditional+expression+items+operands+pair+repeat+select+simple+statement+when.{statement}
 use Rattle.compile_walk.proofs.+arms+assign+block+body+choose+conditional+expression+items+operands+pair+repeat+select+simple+statement+when.Proof.Base.{items-at, statement-below}
 
 abbrev items-Inv-loop : items-lts.InvT-loop

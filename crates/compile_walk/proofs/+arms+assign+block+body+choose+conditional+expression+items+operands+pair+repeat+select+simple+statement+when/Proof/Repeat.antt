@@ -15,11 +15,46 @@ use Rattle.compile_own.proofs.finish.Reads as finish-reads
 use Rattle.compile_pen.proofs.emit.Reads as emit-reads
 use Rattle.compile_pen.proofs.shape.Reads as shape-reads
 use Rattle.spans.proofs.size_at.Reads as size-at-reads
-use Rattle.compile_walk.proofs.+arms+assign+block+body+choose+conditional+expression+items+operands+pair+repeat+select+simple+statement+when.{statement}
 use Rattle.compile_walk.proofs.+arms+assign+block+body+choose+conditional+expression+items+operands+pair+repeat+select+simple+statement+when.Proof.Base.{expression-below, repeat-at, statement-below}
 
-pub repeat-meets : {M : Type 1} (t : ℕ) → repeat-lts.Closed (shape-reads.Asked, shape-reads.Learnt, expression-below t, expression.Post, size-at-reads.Asked, size-at-reads.Learnt, end-of-reads.Asked, end-of-reads.Learnt, emit-reads.Asked, emit-reads.Learnt, statement-below t, statement′.Post, finish-reads.Asked, finish-reads.Learnt) (repeat-at t) repeat.Post M
-repeat-meets t = repeat-lts.spec (shape-reads.Asked, shape-reads.Learnt, expression-below t, expression.Post, size-at-reads.Asked, size-at-reads.Learnt, end-of-reads.Asked, end-of-reads.Learnt, emit-reads.Asked, emit-reads.Learnt, statement-below t, statement′.Post, finish-reads.Asked, finish-reads.Learnt) (repeat-at t) repeat.Post
+-- what the functions that it calls are taken to ask and give
+abbrev claims : ℕ → repeat-lts.Claims
+claims t = (
+  shape-reads.Asked,
+  shape-reads.Learnt,
+  expression-below t,
+  expression.Post,
+  size-at-reads.Asked,
+  size-at-reads.Learnt,
+  end-of-reads.Asked,
+  end-of-reads.Learnt,
+  emit-reads.Asked,
+  emit-reads.Learnt,
+  statement-below t,
+  statement′.Post,
+  finish-reads.Asked,
+  finish-reads.Learnt,
+)
+
+-- what it has done where it returns
+repeat-ends : (t : ℕ) → repeat-lts.Need-returns (claims t) (repeat-at t) repeat.Post
+repeat-ends t c =
+    let c1 = c .before .before in
+    let c2 = c1 .before .before .before in
+    let c3 = c2 .before .before .before .before .before .before in
+    let c4 = c3 .before .before .before .before .before .before .before .before .before .before in
+    let c5 = c4 .before .before .before .before .before .before .before .before in
+    let c6 = c5 .before in
+    let c7 = c6 .before .before in
+    let c8 = c7 .before .before .before .before .before .before .before .before .before in
+    let c9 = c8 .before .before .before .before .before .before .before .before in
+    let c10 = c9 .before .before .before .before .before .before .before .before .before .before .before .before .before in
+    answers-while (c10 .pre .1) (c9 .shape .ensures) (c7 .size-at .result) (c7 .size-at .ensures) (c8 .expression .ensures) (c6 .end-of .ensures .0) (c5 .emit .ensures) (c4 .statement .ensures) refl
+    (c3 .emit2 .ensures)
+    (c2 .shape2 .ensures) (c1 .finish .ensures)
+
+pub repeat-meets : {M : Type 1} (t : ℕ) → repeat-lts.Closed (claims t) (repeat-at t) repeat.Post M
+repeat-meets t = repeat-lts.spec (claims t) (repeat-at t) repeat.Post
     -- cast-start
     (λ c. omega (arith, asked (c .before .before .before .before .before .before .before .before .before .before .pre .1) .address))
     -- shape-requires
@@ -134,72 +169,12 @@ repeat-meets t = repeat-lts.spec (shape-reads.Asked, shape-reads.Learnt, express
     asks-while-finish (c9 .pre .1) (c8 .shape .ensures) (c6 .size-at .result) (c6 .size-at .ensures) (c7 .expression .ensures) (c5 .end-of .ensures .0) (c4 .emit .ensures) (c3 .statement .ensures) refl (c2 .emit2 .ensures)
     (c1 .shape2 .ensures))
     -- same-length
-    (λ c.
-    let c1 = c .before .before in
-    let c2 = c1 .before .before .before in
-    let c3 = c2 .before .before .before .before .before .before in
-    let c4 = c3 .before .before .before .before .before .before .before .before .before .before in
-    let c5 = c4 .before .before .before .before .before .before .before .before in
-    let c6 = c5 .before in
-    let c7 = c6 .before .before in
-    let c8 = c7 .before .before .before .before .before .before .before .before .before in
-    let c9 = c8 .before .before .before .before .before .before .before .before in
-    let c10 = c9 .before .before .before .before .before .before .before .before .before .before .before .before .before in
-    (answers-while (c10 .pre .1) (c9 .shape .ensures) (c7 .size-at .result) (c7 .size-at .ensures) (c8 .expression .ensures) (c6 .end-of .ensures .0) (c5 .emit .ensures) (c4 .statement .ensures) refl (c3 .emit2 .ensures)
-    (c2 .shape2 .ensures) (c1 .finish .ensures)) .kept .same-env)
+    (λ c. repeat-ends t c .kept .same-env)
     -- same-length-2
-    (λ c.
-    let c1 = c .before .before in
-    let c2 = c1 .before .before .before in
-    let c3 = c2 .before .before .before .before .before .before in
-    let c4 = c3 .before .before .before .before .before .before .before .before .before .before in
-    let c5 = c4 .before .before .before .before .before .before .before .before in
-    let c6 = c5 .before in
-    let c7 = c6 .before .before in
-    let c8 = c7 .before .before .before .before .before .before .before .before .before in
-    let c9 = c8 .before .before .before .before .before .before .before .before in
-    let c10 = c9 .before .before .before .before .before .before .before .before .before .before .before .before .before in
-    (answers-while (c10 .pre .1) (c9 .shape .ensures) (c7 .size-at .result) (c7 .size-at .ensures) (c8 .expression .ensures) (c6 .end-of .ensures .0) (c5 .emit .ensures) (c4 .statement .ensures) refl (c3 .emit2 .ensures)
-    (c2 .shape2 .ensures) (c1 .finish .ensures)) .kept .same-ends)
+    (λ c. repeat-ends t c .kept .same-ends)
     -- same-length-3
-    (λ c.
-    let c1 = c .before .before in
-    let c2 = c1 .before .before .before in
-    let c3 = c2 .before .before .before .before .before .before in
-    let c4 = c3 .before .before .before .before .before .before .before .before .before .before in
-    let c5 = c4 .before .before .before .before .before .before .before .before in
-    let c6 = c5 .before in
-    let c7 = c6 .before .before in
-    let c8 = c7 .before .before .before .before .before .before .before .before .before in
-    let c9 = c8 .before .before .before .before .before .before .before .before in
-    let c10 = c9 .before .before .before .before .before .before .before .before .before .before .before .before .before in
-    (answers-while (c10 .pre .1) (c9 .shape .ensures) (c7 .size-at .result) (c7 .size-at .ensures) (c8 .expression .ensures) (c6 .end-of .ensures .0) (c5 .emit .ensures) (c4 .statement .ensures) refl (c3 .emit2 .ensures)
-    (c2 .shape2 .ensures) (c1 .finish .ensures)) .kept .same-stack)
+    (λ c. repeat-ends t c .kept .same-stack)
     -- same-length-4
-    (λ c.
-    let c1 = c .before .before in
-    let c2 = c1 .before .before .before in
-    let c3 = c2 .before .before .before .before .before .before in
-    let c4 = c3 .before .before .before .before .before .before .before .before .before .before in
-    let c5 = c4 .before .before .before .before .before .before .before .before in
-    let c6 = c5 .before in
-    let c7 = c6 .before .before in
-    let c8 = c7 .before .before .before .before .before .before .before .before .before in
-    let c9 = c8 .before .before .before .before .before .before .before .before in
-    let c10 = c9 .before .before .before .before .before .before .before .before .before .before .before .before .before in
-    (answers-while (c10 .pre .1) (c9 .shape .ensures) (c7 .size-at .result) (c7 .size-at .ensures) (c8 .expression .ensures) (c6 .end-of .ensures .0) (c5 .emit .ensures) (c4 .statement .ensures) refl (c3 .emit2 .ensures)
-    (c2 .shape2 .ensures) (c1 .finish .ensures)) .kept .same-out)
+    (λ c. repeat-ends t c .kept .same-out)
     -- returns
-    (λ c.
-    let c1 = c .before .before in
-    let c2 = c1 .before .before .before in
-    let c3 = c2 .before .before .before .before .before .before in
-    let c4 = c3 .before .before .before .before .before .before .before .before .before .before in
-    let c5 = c4 .before .before .before .before .before .before .before .before in
-    let c6 = c5 .before in
-    let c7 = c6 .before .before in
-    let c8 = c7 .before .before .before .before .before .before .before .before .before in
-    let c9 = c8 .before .before .before .before .before .before .before .before in
-    let c10 = c9 .before .before .before .before .before .before .before .before .before .before .before .before .before in
-    answers-while (c10 .pre .1) (c9 .shape .ensures) (c7 .size-at .result) (c7 .size-at .ensures) (c8 .expression .ensures) (c6 .end-of .ensures .0) (c5 .emit .ensures) (c4 .statement .ensures) refl (c3 .emit2 .ensures)
-    (c2 .shape2 .ensures) (c1 .finish .ensures))
+    (repeat-ends t)

@@ -20,8 +20,49 @@ use Rattle.spans.proofs.size_at.Reads as size-at-reads
 use Rattle.words.proofs.half_at.Reads as half-at-reads
 use Rattle.compile_walk.proofs.+arms+assign+block+body+choose+conditional+expression+items+operands+pair+repeat+select+simple+statement+when.Proof.Base.{arms-below, expression-below, select-at}
 
-pub select-meets : {M : Type 1} (t : ℕ) → select-lts.Closed (half-at-reads.Asked, half-at-reads.Learnt, known-at-reads.Asked, known-at-reads.Learnt, second-in-reads.Asked, second-in-reads.Learnt, expression-below t, expression.Post, emit-reads.Asked, emit-reads.Learnt, size-at-reads.Asked, size-at-reads.Learnt, arms-below t, arms.Post, shape-reads.Asked, shape-reads.Learnt, finish-reads.Asked, finish-reads.Learnt) (select-at t) select.Post M
-select-meets t = select-lts.spec (half-at-reads.Asked, half-at-reads.Learnt, known-at-reads.Asked, known-at-reads.Learnt, second-in-reads.Asked, second-in-reads.Learnt, expression-below t, expression.Post, emit-reads.Asked, emit-reads.Learnt, size-at-reads.Asked, size-at-reads.Learnt, arms-below t, arms.Post, shape-reads.Asked, shape-reads.Learnt, finish-reads.Asked, finish-reads.Learnt) (select-at t) select.Post
+-- what the functions that it calls are taken to ask and give
+abbrev claims : ℕ → select-lts.Claims
+claims t = (
+  half-at-reads.Asked,
+  half-at-reads.Learnt,
+  known-at-reads.Asked,
+  known-at-reads.Learnt,
+  second-in-reads.Asked,
+  second-in-reads.Learnt,
+  expression-below t,
+  expression.Post,
+  emit-reads.Asked,
+  emit-reads.Learnt,
+  size-at-reads.Asked,
+  size-at-reads.Learnt,
+  arms-below t,
+  arms.Post,
+  shape-reads.Asked,
+  shape-reads.Learnt,
+  finish-reads.Asked,
+  finish-reads.Learnt,
+)
+
+-- what it has done where it returns
+select-ends : (t : ℕ) → select-lts.Need-returns (claims t) (select-at t) select.Post
+select-ends t c =
+    let c1 = c .before .before in
+    let c2 = c1 .before .before .before in
+    let c3 = c2 .before .before .before .before .before .before in
+    let c4 = c3 .before .before .before .before .before .before .before .before .before .before in
+    let c5 = c4 .before .before .before .before .before .before in
+    let c6 = c5 .before .before .before in
+    let c7 = c6 .before .before .before .before .before .before .before .before .before .before in
+    let c8 = c7 .before .before .before .before .before .before in
+    let c9 = c8 .before in
+    let c10 = c9 .before in
+    let c11 = c10 .before .before .before .before .before .before .before .before .before .before in
+    answers-select (c11 .pre .1) (c5 .size-at .result) (c5 .size-at .ensures) (c7 .expression .ensures) (c10 .half-at .ensures) (c8 .second-in .ensures ∙ ap secondIn (c9 .known-at .ensures))
+    (c6 .emit .ensures) (c4 .arms .ensures) (c3 .emit2 .ensures) (c2 .shape .ensures)
+    (c1 .finish .ensures)
+
+pub select-meets : {M : Type 1} (t : ℕ) → select-lts.Closed (claims t) (select-at t) select.Post M
+select-meets t = select-lts.spec (claims t) (select-at t) select.Post
     -- half-at-requires
     (λ c κs. omega (arith, asked (c .before .before .before .before .before .before .before .before .before .pre .1) .long))
     -- cast-count
@@ -126,77 +167,12 @@ select-meets t = select-lts.spec (half-at-reads.Asked, half-at-reads.Learnt, kno
     let c10 = c9 .before .before .before .before .before .before .before .before .before .before in
     asks-select-finish (c10 .pre .1) (c4 .size-at .result) (c4 .size-at .ensures) (c6 .expression .ensures) (c9 .half-at .ensures) (c7 .second-in .ensures ∙ ap secondIn (c8 .known-at .ensures)) (c5 .emit .ensures) (c3 .arms .ensures) (c2 .emit2 .ensures) (c1 .shape .ensures))
     -- same-length
-    (λ c.
-    let c1 = c .before .before in
-    let c2 = c1 .before .before .before in
-    let c3 = c2 .before .before .before .before .before .before in
-    let c4 = c3 .before .before .before .before .before .before .before .before .before .before in
-    let c5 = c4 .before .before .before .before .before .before in
-    let c6 = c5 .before .before .before in
-    let c7 = c6 .before .before .before .before .before .before .before .before .before .before in
-    let c8 = c7 .before .before .before .before .before .before in
-    let c9 = c8 .before in
-    let c10 = c9 .before in
-    let c11 = c10 .before .before .before .before .before .before .before .before .before .before in
-    (answers-select (c11 .pre .1) (c5 .size-at .result) (c5 .size-at .ensures) (c7 .expression .ensures) (c10 .half-at .ensures) (c8 .second-in .ensures ∙ ap secondIn (c9 .known-at .ensures)) (c6 .emit .ensures) (c4 .arms .ensures) (c3 .emit2 .ensures) (c2 .shape .ensures)
-    (c1 .finish .ensures)) .kept .same-env)
+    (λ c. select-ends t c .kept .same-env)
     -- same-length-2
-    (λ c.
-    let c1 = c .before .before in
-    let c2 = c1 .before .before .before in
-    let c3 = c2 .before .before .before .before .before .before in
-    let c4 = c3 .before .before .before .before .before .before .before .before .before .before in
-    let c5 = c4 .before .before .before .before .before .before in
-    let c6 = c5 .before .before .before in
-    let c7 = c6 .before .before .before .before .before .before .before .before .before .before in
-    let c8 = c7 .before .before .before .before .before .before in
-    let c9 = c8 .before in
-    let c10 = c9 .before in
-    let c11 = c10 .before .before .before .before .before .before .before .before .before .before in
-    (answers-select (c11 .pre .1) (c5 .size-at .result) (c5 .size-at .ensures) (c7 .expression .ensures) (c10 .half-at .ensures) (c8 .second-in .ensures ∙ ap secondIn (c9 .known-at .ensures)) (c6 .emit .ensures) (c4 .arms .ensures) (c3 .emit2 .ensures) (c2 .shape .ensures)
-    (c1 .finish .ensures)) .kept .same-ends)
+    (λ c. select-ends t c .kept .same-ends)
     -- same-length-3
-    (λ c.
-    let c1 = c .before .before in
-    let c2 = c1 .before .before .before in
-    let c3 = c2 .before .before .before .before .before .before in
-    let c4 = c3 .before .before .before .before .before .before .before .before .before .before in
-    let c5 = c4 .before .before .before .before .before .before in
-    let c6 = c5 .before .before .before in
-    let c7 = c6 .before .before .before .before .before .before .before .before .before .before in
-    let c8 = c7 .before .before .before .before .before .before in
-    let c9 = c8 .before in
-    let c10 = c9 .before in
-    let c11 = c10 .before .before .before .before .before .before .before .before .before .before in
-    (answers-select (c11 .pre .1) (c5 .size-at .result) (c5 .size-at .ensures) (c7 .expression .ensures) (c10 .half-at .ensures) (c8 .second-in .ensures ∙ ap secondIn (c9 .known-at .ensures)) (c6 .emit .ensures) (c4 .arms .ensures) (c3 .emit2 .ensures) (c2 .shape .ensures)
-    (c1 .finish .ensures)) .kept .same-stack)
+    (λ c. select-ends t c .kept .same-stack)
     -- same-length-4
-    (λ c.
-    let c1 = c .before .before in
-    let c2 = c1 .before .before .before in
-    let c3 = c2 .before .before .before .before .before .before in
-    let c4 = c3 .before .before .before .before .before .before .before .before .before .before in
-    let c5 = c4 .before .before .before .before .before .before in
-    let c6 = c5 .before .before .before in
-    let c7 = c6 .before .before .before .before .before .before .before .before .before .before in
-    let c8 = c7 .before .before .before .before .before .before in
-    let c9 = c8 .before in
-    let c10 = c9 .before in
-    let c11 = c10 .before .before .before .before .before .before .before .before .before .before in
-    (answers-select (c11 .pre .1) (c5 .size-at .result) (c5 .size-at .ensures) (c7 .expression .ensures) (c10 .half-at .ensures) (c8 .second-in .ensures ∙ ap secondIn (c9 .known-at .ensures)) (c6 .emit .ensures) (c4 .arms .ensures) (c3 .emit2 .ensures) (c2 .shape .ensures)
-    (c1 .finish .ensures)) .kept .same-out)
+    (λ c. select-ends t c .kept .same-out)
     -- returns
-    (λ c.
-    let c1 = c .before .before in
-    let c2 = c1 .before .before .before in
-    let c3 = c2 .before .before .before .before .before .before in
-    let c4 = c3 .before .before .before .before .before .before .before .before .before .before in
-    let c5 = c4 .before .before .before .before .before .before in
-    let c6 = c5 .before .before .before in
-    let c7 = c6 .before .before .before .before .before .before .before .before .before .before in
-    let c8 = c7 .before .before .before .before .before .before in
-    let c9 = c8 .before in
-    let c10 = c9 .before in
-    let c11 = c10 .before .before .before .before .before .before .before .before .before .before in
-    answers-select (c11 .pre .1) (c5 .size-at .result) (c5 .size-at .ensures) (c7 .expression .ensures) (c10 .half-at .ensures) (c8 .second-in .ensures ∙ ap secondIn (c9 .known-at .ensures)) (c6 .emit .ensures) (c4 .arms .ensures) (c3 .emit2 .ensures) (c2 .shape .ensures)
-    (c1 .finish .ensures))
+    (select-ends t)

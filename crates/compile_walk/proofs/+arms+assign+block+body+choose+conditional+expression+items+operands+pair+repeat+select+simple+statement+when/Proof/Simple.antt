@@ -16,8 +16,45 @@ use Rattle.words.proofs.half_at.Reads as half-at-reads
 use Rattle.words.proofs.word_at.Reads as word-at-reads
 use Rattle.compile_walk.proofs.+arms+assign+block+body+choose+conditional+expression+items+operands+pair+repeat+select+simple+statement+when.Proof.Base.{operands-below, simple-at}
 
-pub simple-meets : {M : Type 1} (t : ℕ) → simple-lts.Closed (half-at-reads.Asked, half-at-reads.Learnt, word-at-reads.Asked, word-at-reads.Learnt, operands-of-reads.Asked, operands-of-reads.Learnt, operands-below t, operands.Post, known-of-reads.Asked, known-of-reads.Learnt, last-type-reads.Asked, last-type-reads.Learnt, last-reads.Asked, last-reads.Learnt, finish-reads.Asked, finish-reads.Learnt) (simple-at t) simple.Post M
-simple-meets t = simple-lts.spec (half-at-reads.Asked, half-at-reads.Learnt, word-at-reads.Asked, word-at-reads.Learnt, operands-of-reads.Asked, operands-of-reads.Learnt, operands-below t, operands.Post, known-of-reads.Asked, known-of-reads.Learnt, last-type-reads.Asked, last-type-reads.Learnt, last-reads.Asked, last-reads.Learnt, finish-reads.Asked, finish-reads.Learnt) (simple-at t) simple.Post
+-- what the functions that it calls are taken to ask and give
+abbrev claims : ℕ → simple-lts.Claims
+claims t = (
+  half-at-reads.Asked,
+  half-at-reads.Learnt,
+  word-at-reads.Asked,
+  word-at-reads.Learnt,
+  operands-of-reads.Asked,
+  operands-of-reads.Learnt,
+  operands-below t,
+  operands.Post,
+  known-of-reads.Asked,
+  known-of-reads.Learnt,
+  last-type-reads.Asked,
+  last-type-reads.Learnt,
+  last-reads.Asked,
+  last-reads.Learnt,
+  finish-reads.Asked,
+  finish-reads.Learnt,
+)
+
+-- what it has done where it returns
+simple-ends : (t : ℕ) → simple-lts.Need-returns (claims t) (simple-at t) simple.Post
+simple-ends t c =
+    let c1 = c .before .before in
+    let c2 = c1 .before .before .before in
+    let c3 = c2 .before .before .before in
+    let c4 = c3 .before .before in
+    let c5 = c4 .before .before .before .before .before .before .before .before .before .before in
+    let c6 = c5 .before .before .before .before .before .before in
+    let c7 = c6 .before in
+    let c8 = c7 .before in
+    let c9 = c8 .before in
+    let c10 = c9 .before .before .before .before .before .before .before .before .before .before in
+    answers-simple (c10 .pre .1) (c9 .half-at .ensures) (c8 .half-at2 .ensures) (c7 .word-at .ensures) (c6 .operands-of .ensures) (c5 .operands .ensures) (c4 .known-of .ensures) (c2 .last .ensures)
+    (c3 .last-type .ensures) (c1 .finish .ensures)
+
+pub simple-meets : {M : Type 1} (t : ℕ) → simple-lts.Closed (claims t) (simple-at t) simple.Post M
+simple-meets t = simple-lts.spec (claims t) (simple-at t) simple.Post
     -- half-at-requires
     (λ c κs. omega (arith, asked (c .before .before .before .before .before .before .before .before .before .pre .1) .long))
     -- half-at-requires-2
@@ -95,67 +132,12 @@ simple-meets t = simple-lts.spec (half-at-reads.Asked, half-at-reads.Learnt, wor
     let c8 = c7 .before .before .before .before .before .before .before .before .before .before in
     asks-simple-finish (c8 .pre .1) (c7 .half-at .ensures) (c6 .half-at2 .ensures) (c5 .word-at .ensures) (c4 .operands-of .ensures) (c3 .operands .ensures) (c2 .known-of .ensures) (c1 .last .ensures))
     -- same-length
-    (λ c.
-    let c1 = c .before .before in
-    let c2 = c1 .before .before .before in
-    let c3 = c2 .before .before .before in
-    let c4 = c3 .before .before in
-    let c5 = c4 .before .before .before .before .before .before .before .before .before .before in
-    let c6 = c5 .before .before .before .before .before .before in
-    let c7 = c6 .before in
-    let c8 = c7 .before in
-    let c9 = c8 .before in
-    let c10 = c9 .before .before .before .before .before .before .before .before .before .before in
-    (answers-simple (c10 .pre .1) (c9 .half-at .ensures) (c8 .half-at2 .ensures) (c7 .word-at .ensures) (c6 .operands-of .ensures) (c5 .operands .ensures) (c4 .known-of .ensures) (c2 .last .ensures) (c3 .last-type .ensures) (c1 .finish .ensures)) .kept .same-env)
+    (λ c. simple-ends t c .kept .same-env)
     -- same-length-2
-    (λ c.
-    let c1 = c .before .before in
-    let c2 = c1 .before .before .before in
-    let c3 = c2 .before .before .before in
-    let c4 = c3 .before .before in
-    let c5 = c4 .before .before .before .before .before .before .before .before .before .before in
-    let c6 = c5 .before .before .before .before .before .before in
-    let c7 = c6 .before in
-    let c8 = c7 .before in
-    let c9 = c8 .before in
-    let c10 = c9 .before .before .before .before .before .before .before .before .before .before in
-    (answers-simple (c10 .pre .1) (c9 .half-at .ensures) (c8 .half-at2 .ensures) (c7 .word-at .ensures) (c6 .operands-of .ensures) (c5 .operands .ensures) (c4 .known-of .ensures) (c2 .last .ensures) (c3 .last-type .ensures) (c1 .finish .ensures)) .kept .same-ends)
+    (λ c. simple-ends t c .kept .same-ends)
     -- same-length-3
-    (λ c.
-    let c1 = c .before .before in
-    let c2 = c1 .before .before .before in
-    let c3 = c2 .before .before .before in
-    let c4 = c3 .before .before in
-    let c5 = c4 .before .before .before .before .before .before .before .before .before .before in
-    let c6 = c5 .before .before .before .before .before .before in
-    let c7 = c6 .before in
-    let c8 = c7 .before in
-    let c9 = c8 .before in
-    let c10 = c9 .before .before .before .before .before .before .before .before .before .before in
-    (answers-simple (c10 .pre .1) (c9 .half-at .ensures) (c8 .half-at2 .ensures) (c7 .word-at .ensures) (c6 .operands-of .ensures) (c5 .operands .ensures) (c4 .known-of .ensures) (c2 .last .ensures) (c3 .last-type .ensures) (c1 .finish .ensures)) .kept .same-stack)
+    (λ c. simple-ends t c .kept .same-stack)
     -- same-length-4
-    (λ c.
-    let c1 = c .before .before in
-    let c2 = c1 .before .before .before in
-    let c3 = c2 .before .before .before in
-    let c4 = c3 .before .before in
-    let c5 = c4 .before .before .before .before .before .before .before .before .before .before in
-    let c6 = c5 .before .before .before .before .before .before in
-    let c7 = c6 .before in
-    let c8 = c7 .before in
-    let c9 = c8 .before in
-    let c10 = c9 .before .before .before .before .before .before .before .before .before .before in
-    (answers-simple (c10 .pre .1) (c9 .half-at .ensures) (c8 .half-at2 .ensures) (c7 .word-at .ensures) (c6 .operands-of .ensures) (c5 .operands .ensures) (c4 .known-of .ensures) (c2 .last .ensures) (c3 .last-type .ensures) (c1 .finish .ensures)) .kept .same-out)
+    (λ c. simple-ends t c .kept .same-out)
     -- returns
-    (λ c.
-    let c1 = c .before .before in
-    let c2 = c1 .before .before .before in
-    let c3 = c2 .before .before .before in
-    let c4 = c3 .before .before in
-    let c5 = c4 .before .before .before .before .before .before .before .before .before .before in
-    let c6 = c5 .before .before .before .before .before .before in
-    let c7 = c6 .before in
-    let c8 = c7 .before in
-    let c9 = c8 .before in
-    let c10 = c9 .before .before .before .before .before .before .before .before .before .before in
-    answers-simple (c10 .pre .1) (c9 .half-at .ensures) (c8 .half-at2 .ensures) (c7 .word-at .ensures) (c6 .operands-of .ensures) (c5 .operands .ensures) (c4 .known-of .ensures) (c2 .last .ensures) (c3 .last-type .ensures) (c1 .finish .ensures))
+    (simple-ends t)

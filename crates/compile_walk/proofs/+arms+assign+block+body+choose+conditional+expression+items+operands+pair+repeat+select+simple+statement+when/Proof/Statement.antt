@@ -21,8 +21,57 @@ use Rattle.compile_pen.proofs.shape.Reads as shape-reads
 use Rattle.words.proofs.half_at.Reads as half-at-reads
 use Rattle.compile_walk.proofs.+arms+assign+block+body+choose+conditional+expression+items+operands+pair+repeat+select+simple+statement+when.Proof.Base.{assign-below, block-below, choose-below, repeat-below, select-below, simple-below, statement-at, when-below}
 
-pub statement-meets : {M : Type 1} (t : ℕ) → statement-lts.Closed (half-at-reads.Asked, half-at-reads.Learnt, block-below t, block.Post, shape-reads.Asked, shape-reads.Learnt, finish-reads.Asked, finish-reads.Learnt, assign-below t, assign.Post, when-below t, when.Post, choose-below t, choose.Post, repeat-below t, repeat.Post, goto-reads.Asked, goto-reads.Learnt, select-below t, select.Post, simple-below t, simple.Post) (statement-at t) statement′.Post M
-statement-meets t = statement-lts.spec (half-at-reads.Asked, half-at-reads.Learnt, block-below t, block.Post, shape-reads.Asked, shape-reads.Learnt, finish-reads.Asked, finish-reads.Learnt, assign-below t, assign.Post, when-below t, when.Post, choose-below t, choose.Post, repeat-below t, repeat.Post, goto-reads.Asked, goto-reads.Learnt, select-below t, select.Post, simple-below t, simple.Post) (statement-at t) statement′.Post
+-- what the functions that it calls are taken to ask and give
+abbrev claims : ℕ → statement-lts.Claims
+claims t = (
+  half-at-reads.Asked,
+  half-at-reads.Learnt,
+  block-below t,
+  block.Post,
+  shape-reads.Asked,
+  shape-reads.Learnt,
+  finish-reads.Asked,
+  finish-reads.Learnt,
+  assign-below t,
+  assign.Post,
+  when-below t,
+  when.Post,
+  choose-below t,
+  choose.Post,
+  repeat-below t,
+  repeat.Post,
+  goto-reads.Asked,
+  goto-reads.Learnt,
+  select-below t,
+  select.Post,
+  simple-below t,
+  simple.Post,
+)
+
+-- what it has done where it returns
+statement-ends-2 : (t : ℕ) → statement-lts.Need-returns-2 (claims t) (statement-at t) statement′.Post
+statement-ends-2 t c =
+    let c1 = c .before .before in
+    let c2 = c1 .before .before .before in
+    let c3 = c2 .before .before .before .before in
+    let c4 = c3 .before in
+    let c5 = c4 .before .before .before .before .before .before .before .before .before .before in
+    answer-as (λ n h e. e ∙ (sym (c4 .half-at .ensures) ∙ c3 .match .keys2))
+    (answers-label (ask-as (λ n h e. e ∙ (sym (c4 .half-at .ensures) ∙ c3 .match .keys2)) (c5 .pre .1)) (c2 .shape .ensures) (c1 .finish .ensures))
+
+statement-ends-7 : (t : ℕ) → statement-lts.Need-returns-7 (claims t) (statement-at t) statement′.Post
+statement-ends-7 t c =
+    let c1 = c .before .before in
+    let c2 = c1 .before .before .before in
+    let c3 = c2 .before .before .before .before in
+    let c4 = c3 .before .before in
+    let c5 = c4 .before in
+    let c6 = c5 .before .before .before .before .before .before .before .before .before .before in
+    answer-as (λ n h e. e ∙ (sym (c5 .half-at .ensures) ∙ c4 .match .keys7))
+    (answers-goto (ask-as (λ n h e. e ∙ (sym (c5 .half-at .ensures) ∙ c4 .match .keys7)) (c6 .pre .1)) (c3 .half-at2 .ensures) (c2 .goto .ensures) (c1 .finish2 .ensures))
+
+pub statement-meets : {M : Type 1} (t : ℕ) → statement-lts.Closed (claims t) (statement-at t) statement′.Post M
+statement-meets t = statement-lts.spec (claims t) (statement-at t) statement′.Post
     -- half-at-requires
     (λ c κs. omega (arith, asked (c .before .before .before .before .before .before .before .before .before .pre .1) .long))
     -- block-requires
@@ -118,37 +167,13 @@ statement-meets t = statement-lts.spec (half-at-reads.Asked, half-at-reads.Learn
     let c3 = c2 .before in
     answer-as (λ n h e. e ∙ (sym (c3 .half-at .ensures) ∙ c2 .match .keys1)) (c1 .block .ensures))
     -- same-length-5
-    (λ c.
-    let c1 = c .before .before in
-    let c2 = c1 .before .before .before in
-    let c3 = c2 .before .before .before .before in
-    let c4 = c3 .before in
-    let c5 = c4 .before .before .before .before .before .before .before .before .before .before in
-    (answers-label (ask-as (λ n h e. e ∙ (sym (c4 .half-at .ensures) ∙ c3 .match .keys2)) (c5 .pre .1)) (c2 .shape .ensures) (c1 .finish .ensures)) .kept .same-ends)
+    (λ c. statement-ends-2 t c .kept .same-ends)
     -- same-length-6
-    (λ c.
-    let c1 = c .before .before in
-    let c2 = c1 .before .before .before in
-    let c3 = c2 .before .before .before .before in
-    let c4 = c3 .before in
-    let c5 = c4 .before .before .before .before .before .before .before .before .before .before in
-    (answers-label (ask-as (λ n h e. e ∙ (sym (c4 .half-at .ensures) ∙ c3 .match .keys2)) (c5 .pre .1)) (c2 .shape .ensures) (c1 .finish .ensures)) .kept .same-stack)
+    (λ c. statement-ends-2 t c .kept .same-stack)
     -- same-length-7
-    (λ c.
-    let c1 = c .before .before in
-    let c2 = c1 .before .before .before in
-    let c3 = c2 .before .before .before .before in
-    let c4 = c3 .before in
-    let c5 = c4 .before .before .before .before .before .before .before .before .before .before in
-    (answers-label (ask-as (λ n h e. e ∙ (sym (c4 .half-at .ensures) ∙ c3 .match .keys2)) (c5 .pre .1)) (c2 .shape .ensures) (c1 .finish .ensures)) .kept .same-out)
+    (λ c. statement-ends-2 t c .kept .same-out)
     -- returns-2
-    (λ c.
-    let c1 = c .before .before in
-    let c2 = c1 .before .before .before in
-    let c3 = c2 .before .before .before .before in
-    let c4 = c3 .before in
-    let c5 = c4 .before .before .before .before .before .before .before .before .before .before in
-    answer-as (λ n h e. e ∙ (sym (c4 .half-at .ensures) ∙ c3 .match .keys2)) (answers-label (ask-as (λ n h e. e ∙ (sym (c4 .half-at .ensures) ∙ c3 .match .keys2)) (c5 .pre .1)) (c2 .shape .ensures) (c1 .finish .ensures)))
+    (statement-ends-2 t)
     -- same-length-8
     (λ c. (c .before .before .before .before .before .before .before .before .assign .ensures) .kept .same-env)
     -- same-length-9
@@ -206,50 +231,15 @@ statement-meets t = statement-lts.spec (half-at-reads.Asked, half-at-reads.Learn
     let c3 = c2 .before in
     answer-as (λ n h e. e ∙ (sym (c3 .half-at .ensures) ∙ c2 .match .keys6)) (c1 .repeat .ensures))
     -- same-length-24
-    (λ c.
-    let c1 = c .before .before in
-    let c2 = c1 .before .before .before in
-    let c3 = c2 .before .before .before .before in
-    let c4 = c3 .before .before in
-    let c5 = c4 .before in
-    let c6 = c5 .before .before .before .before .before .before .before .before .before .before in
-    (answers-goto (ask-as (λ n h e. e ∙ (sym (c5 .half-at .ensures) ∙ c4 .match .keys7)) (c6 .pre .1)) (c3 .half-at2 .ensures) (c2 .goto .ensures) (c1 .finish2 .ensures)) .kept .same-env)
+    (λ c. statement-ends-7 t c .kept .same-env)
     -- same-length-25
-    (λ c.
-    let c1 = c .before .before in
-    let c2 = c1 .before .before .before in
-    let c3 = c2 .before .before .before .before in
-    let c4 = c3 .before .before in
-    let c5 = c4 .before in
-    let c6 = c5 .before .before .before .before .before .before .before .before .before .before in
-    (answers-goto (ask-as (λ n h e. e ∙ (sym (c5 .half-at .ensures) ∙ c4 .match .keys7)) (c6 .pre .1)) (c3 .half-at2 .ensures) (c2 .goto .ensures) (c1 .finish2 .ensures)) .kept .same-ends)
+    (λ c. statement-ends-7 t c .kept .same-ends)
     -- same-length-26
-    (λ c.
-    let c1 = c .before .before in
-    let c2 = c1 .before .before .before in
-    let c3 = c2 .before .before .before .before in
-    let c4 = c3 .before .before in
-    let c5 = c4 .before in
-    let c6 = c5 .before .before .before .before .before .before .before .before .before .before in
-    (answers-goto (ask-as (λ n h e. e ∙ (sym (c5 .half-at .ensures) ∙ c4 .match .keys7)) (c6 .pre .1)) (c3 .half-at2 .ensures) (c2 .goto .ensures) (c1 .finish2 .ensures)) .kept .same-stack)
+    (λ c. statement-ends-7 t c .kept .same-stack)
     -- same-length-27
-    (λ c.
-    let c1 = c .before .before in
-    let c2 = c1 .before .before .before in
-    let c3 = c2 .before .before .before .before in
-    let c4 = c3 .before .before in
-    let c5 = c4 .before in
-    let c6 = c5 .before .before .before .before .before .before .before .before .before .before in
-    (answers-goto (ask-as (λ n h e. e ∙ (sym (c5 .half-at .ensures) ∙ c4 .match .keys7)) (c6 .pre .1)) (c3 .half-at2 .ensures) (c2 .goto .ensures) (c1 .finish2 .ensures)) .kept .same-out)
+    (λ c. statement-ends-7 t c .kept .same-out)
     -- returns-7
-    (λ c.
-    let c1 = c .before .before in
-    let c2 = c1 .before .before .before in
-    let c3 = c2 .before .before .before .before in
-    let c4 = c3 .before .before in
-    let c5 = c4 .before in
-    let c6 = c5 .before .before .before .before .before .before .before .before .before .before in
-    answer-as (λ n h e. e ∙ (sym (c5 .half-at .ensures) ∙ c4 .match .keys7)) (answers-goto (ask-as (λ n h e. e ∙ (sym (c5 .half-at .ensures) ∙ c4 .match .keys7)) (c6 .pre .1)) (c3 .half-at2 .ensures) (c2 .goto .ensures) (c1 .finish2 .ensures)))
+    (statement-ends-7 t)
     -- same-length-28
     (λ c. (c .before .before .before .before .before .before .before .before .select .ensures) .kept .same-env)
     -- same-length-29

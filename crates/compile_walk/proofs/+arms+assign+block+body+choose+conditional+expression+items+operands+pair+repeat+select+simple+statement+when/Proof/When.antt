@@ -15,11 +15,43 @@ use Rattle.compile_own.proofs.finish.Reads as finish-reads
 use Rattle.compile_pen.proofs.emit.Reads as emit-reads
 use Rattle.compile_pen.proofs.shape.Reads as shape-reads
 use Rattle.spans.proofs.size_at.Reads as size-at-reads
-use Rattle.compile_walk.proofs.+arms+assign+block+body+choose+conditional+expression+items+operands+pair+repeat+select+simple+statement+when.{statement}
 use Rattle.compile_walk.proofs.+arms+assign+block+body+choose+conditional+expression+items+operands+pair+repeat+select+simple+statement+when.Proof.Base.{expression-below, statement-below, when-at}
 
-pub when-meets : {M : Type 1} (t : ℕ) → when-lts.Closed (expression-below t, expression.Post, size-at-reads.Asked, size-at-reads.Learnt, end-of-reads.Asked, end-of-reads.Learnt, emit-reads.Asked, emit-reads.Learnt, statement-below t, statement′.Post, shape-reads.Asked, shape-reads.Learnt, finish-reads.Asked, finish-reads.Learnt) (when-at t) when.Post M
-when-meets t = when-lts.spec (expression-below t, expression.Post, size-at-reads.Asked, size-at-reads.Learnt, end-of-reads.Asked, end-of-reads.Learnt, emit-reads.Asked, emit-reads.Learnt, statement-below t, statement′.Post, shape-reads.Asked, shape-reads.Learnt, finish-reads.Asked, finish-reads.Learnt) (when-at t) when.Post
+-- what the functions that it calls are taken to ask and give
+abbrev claims : ℕ → when-lts.Claims
+claims t = (
+  expression-below t,
+  expression.Post,
+  size-at-reads.Asked,
+  size-at-reads.Learnt,
+  end-of-reads.Asked,
+  end-of-reads.Learnt,
+  emit-reads.Asked,
+  emit-reads.Learnt,
+  statement-below t,
+  statement′.Post,
+  shape-reads.Asked,
+  shape-reads.Learnt,
+  finish-reads.Asked,
+  finish-reads.Learnt,
+)
+
+-- what it has done where it returns
+when-ends : (t : ℕ) → when-lts.Need-returns (claims t) (when-at t) when.Post
+when-ends t c =
+    let c1 = c .before .before in
+    let c2 = c1 .before .before .before in
+    let c3 = c2 .before .before .before .before .before .before .before .before .before .before .before .before in
+    let c4 = c3 .before .before .before .before .before .before .before .before in
+    let c5 = c4 .before in
+    let c6 = c5 .before .before in
+    let c7 = c6 .before .before .before .before .before .before .before .before .before in
+    let c8 = c7 .before .before .before .before .before .before .before .before .before .before .before .before .before .before .before in
+    answers-when (c8 .pre .1) (c6 .size-at .result) (c6 .size-at .ensures) (c7 .expression .ensures) (c5 .end-of .ensures .0) (c4 .emit .ensures) (c3 .statement .ensures) (c2 .shape .ensures)
+    (c1 .finish .ensures)
+
+pub when-meets : {M : Type 1} (t : ℕ) → when-lts.Closed (claims t) (when-at t) when.Post M
+when-meets t = when-lts.spec (claims t) (when-at t) when.Post
     -- sub-expression
     (λ c. omega (arith, asked (c .before .before .before .before .before .before .before .before .before .pre .1) .long))
     -- part-expression-start
@@ -103,57 +135,12 @@ when-meets t = when-lts.spec (expression-below t, expression.Post, size-at-reads
     let c7 = c6 .before .before .before .before .before .before .before .before .before .before .before .before .before .before .before in
     asks-when-finish (c7 .pre .1) (c5 .size-at .result) (c5 .size-at .ensures) (c6 .expression .ensures) (c4 .end-of .ensures .0) (c3 .emit .ensures) (c2 .statement .ensures) (c1 .shape .ensures))
     -- same-length
-    (λ c.
-    let c1 = c .before .before in
-    let c2 = c1 .before .before .before in
-    let c3 = c2 .before .before .before .before .before .before .before .before .before .before .before .before in
-    let c4 = c3 .before .before .before .before .before .before .before .before in
-    let c5 = c4 .before in
-    let c6 = c5 .before .before in
-    let c7 = c6 .before .before .before .before .before .before .before .before .before in
-    let c8 = c7 .before .before .before .before .before .before .before .before .before .before .before .before .before .before .before in
-    (answers-when (c8 .pre .1) (c6 .size-at .result) (c6 .size-at .ensures) (c7 .expression .ensures) (c5 .end-of .ensures .0) (c4 .emit .ensures) (c3 .statement .ensures) (c2 .shape .ensures) (c1 .finish .ensures)) .kept .same-env)
+    (λ c. when-ends t c .kept .same-env)
     -- same-length-2
-    (λ c.
-    let c1 = c .before .before in
-    let c2 = c1 .before .before .before in
-    let c3 = c2 .before .before .before .before .before .before .before .before .before .before .before .before in
-    let c4 = c3 .before .before .before .before .before .before .before .before in
-    let c5 = c4 .before in
-    let c6 = c5 .before .before in
-    let c7 = c6 .before .before .before .before .before .before .before .before .before in
-    let c8 = c7 .before .before .before .before .before .before .before .before .before .before .before .before .before .before .before in
-    (answers-when (c8 .pre .1) (c6 .size-at .result) (c6 .size-at .ensures) (c7 .expression .ensures) (c5 .end-of .ensures .0) (c4 .emit .ensures) (c3 .statement .ensures) (c2 .shape .ensures) (c1 .finish .ensures)) .kept .same-ends)
+    (λ c. when-ends t c .kept .same-ends)
     -- same-length-3
-    (λ c.
-    let c1 = c .before .before in
-    let c2 = c1 .before .before .before in
-    let c3 = c2 .before .before .before .before .before .before .before .before .before .before .before .before in
-    let c4 = c3 .before .before .before .before .before .before .before .before in
-    let c5 = c4 .before in
-    let c6 = c5 .before .before in
-    let c7 = c6 .before .before .before .before .before .before .before .before .before in
-    let c8 = c7 .before .before .before .before .before .before .before .before .before .before .before .before .before .before .before in
-    (answers-when (c8 .pre .1) (c6 .size-at .result) (c6 .size-at .ensures) (c7 .expression .ensures) (c5 .end-of .ensures .0) (c4 .emit .ensures) (c3 .statement .ensures) (c2 .shape .ensures) (c1 .finish .ensures)) .kept .same-stack)
+    (λ c. when-ends t c .kept .same-stack)
     -- same-length-4
-    (λ c.
-    let c1 = c .before .before in
-    let c2 = c1 .before .before .before in
-    let c3 = c2 .before .before .before .before .before .before .before .before .before .before .before .before in
-    let c4 = c3 .before .before .before .before .before .before .before .before in
-    let c5 = c4 .before in
-    let c6 = c5 .before .before in
-    let c7 = c6 .before .before .before .before .before .before .before .before .before in
-    let c8 = c7 .before .before .before .before .before .before .before .before .before .before .before .before .before .before .before in
-    (answers-when (c8 .pre .1) (c6 .size-at .result) (c6 .size-at .ensures) (c7 .expression .ensures) (c5 .end-of .ensures .0) (c4 .emit .ensures) (c3 .statement .ensures) (c2 .shape .ensures) (c1 .finish .ensures)) .kept .same-out)
+    (λ c. when-ends t c .kept .same-out)
     -- returns
-    (λ c.
-    let c1 = c .before .before in
-    let c2 = c1 .before .before .before in
-    let c3 = c2 .before .before .before .before .before .before .before .before .before .before .before .before in
-    let c4 = c3 .before .before .before .before .before .before .before .before in
-    let c5 = c4 .before in
-    let c6 = c5 .before .before in
-    let c7 = c6 .before .before .before .before .before .before .before .before .before in
-    let c8 = c7 .before .before .before .before .before .before .before .before .before .before .before .before .before .before .before in
-    answers-when (c8 .pre .1) (c6 .size-at .result) (c6 .size-at .ensures) (c7 .expression .ensures) (c5 .end-of .ensures .0) (c4 .emit .ensures) (c3 .statement .ensures) (c2 .shape .ensures) (c1 .finish .ensures))
+    (when-ends t)
