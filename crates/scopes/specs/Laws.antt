@@ -111,16 +111,9 @@ not-added l n a s b q e k = record { now = rw (sym e ∙ k); kept = refl; same =
 pub is-added : (l m : List ℕ) (n a s b q : ℕ) {x : Bool} → 4 * (n + 1) ≤ length l → x ≡ here a (envOf l n) → x ≡ false → m ≡ stored l n a s b q → Grown n l m (n + 1) (adding (item a s b q) (envOf l n)) 1
 is-added l m n a s b q h e k z = rw (sym e ∙ k) (grown-push l m n a s b q h z)
 
--- nothing more, and one after the other
+-- nothing more
 pub grown-none : (l : List ℕ) (n : ℕ) → Grown n l l n (envOf l n) 0
 grown-none l n = record { now = refl; kept = refl; same = refl; least = omega arith; most = omega arith }
-
-pub grown-then : {n i j : ℕ} {l m k : List ℕ} {v : List Item} {x y : ℕ} (f : List Item → List Item) → Grown n l m i v x → Grown i m k j (f (envOf m i)) y → Grown n l k j (f v) (x + y)
-grown-then {n} {i} {j} {l} {m} {k} f g h =
-    record { now = h .now ∙ ap f (g .now); kept = fewer k m n i (g .least) (h .kept) ∙ g .kept; same = h .same ∙ g .same; least = omega (arith, g .least, h .least); most = omega (arith, g .most, h .most) }
-
-pub grown-as : {n i : ℕ} {l m : List ℕ} {v w : List Item} {x y : ℕ} → Grown n l m i v x → v ≡ w → x ≤ y → Grown n l m i w y
-grown-as {n} {i} {l} {m} g e h = record { now = g .now ∙ e; kept = g .kept; same = g .same; least = g .least; most = omega (arith, g .most) }
 
 -- ── what is found after a block's definitions were added: of two the first, and else what is found outside ──
 pub all-append : (is js v : List Item) → addAll (is ++ js) v ≡ addAll js (addAll is v)

@@ -411,12 +411,6 @@ items-end {left = left} s h =
 pub kind-of : {f : Form} {ss : List Scope} {seen l part : List ℕ} {nesting at : ℕ} {sizes env : List ℕ} {top : ℕ} → Ready f ss seen l part nesting at sizes env top → halfAt part 0 ≡ headF f .kind
 kind-of r = head-of _ _ (r .table) (r .stands) .kind
 
-pub asks-long : {P : Form → Type 0} {l part : List ℕ} {nesting at : ℕ} {sizes env : List ℕ} {top : ℕ} → Asks P l part nesting at sizes env top → 8 ≤ length part
-asks-long q = let h = head-of _ _ (q .ready .table) (q .ready .stands) in omega (arith, h .long, h .within)
-
-pub asks-room : {P : Form → Type 0} {l part : List ℕ} {nesting at : ℕ} {sizes env : List ℕ} {top : ℕ} → Asks P l part nesting at sizes env top → 4 * top ≤ length env
-asks-room q = omega (arith, q .ready .room)
-
 module _ {P Q : Form → Type 0} {l part : List ℕ} {nesting at : ℕ} {sizes : List ℕ} {top : ℕ} (to : (f : Form) → P f → halfAt part 0 ≡ headF f .kind → Q f) where
   pub ask-as : {env : List ℕ} → Asks P l part nesting at sizes env top → Asks Q l part nesting at sizes env top
   ask-as q = record { form = q .form; scopes = q .scopes; seen = q .seen; holds = to (q .form) (q .holds) (kind-of (q .ready)); ready = q .ready }
