@@ -39,7 +39,7 @@ shape-requires c κs =
       omega (arith, held .2),
       omega (arith, held .3),
       op-fits (λ (q : Pen). penShaped (a .depth) q) (here .result) (here .last .0) 8 0 (at-land .land .result .address) (c .before .before .before .emit .ensures)
-      (rw (here .ensures .0, lets-length (at-land .land .result .passed) (a .pen) (a .out .now) (here .ensures .1), at-land .land .ensures .0) (held .4)),
+          (rw (here .ensures .0, lets-length (at-land .land .result .passed) (a .pen) (a .out .now) (here .ensures .1), at-land .land .ensures .0) (held .4)),
     )
 
 returns : tie.Need-returns

@@ -20,8 +20,51 @@ use Rattle.spans.proofs.size_at.Reads as size-at-reads
 use Rattle.words.proofs.half_at.Reads as half-at-reads
 use Rattle.compile_walk.proofs.+arms+assign+block+body+choose+conditional+expression+items+operands+pair+repeat+select+simple+statement+when.Proof.Base.{expression-below, pair-at}
 
-pub pair-meets : {M : Type 1} (t : ℕ) → pair-lts.Closed (half-at-reads.Asked, half-at-reads.Learnt, expression-below t, expression.Post, size-at-reads.Asked, size-at-reads.Learnt, end-of-reads.Asked, end-of-reads.Learnt, way-of-reads.Asked, way-of-reads.Learnt, between-reads.Asked, between-reads.Learnt, waiting-reads.Asked, waiting-reads.Learnt, pair-type-reads.Asked, pair-type-reads.Learnt, behind-reads.Asked, behind-reads.Learnt, finish-reads.Asked, finish-reads.Learnt) (pair-at t) pair.Post M
-pair-meets t = pair-lts.spec (half-at-reads.Asked, half-at-reads.Learnt, expression-below t, expression.Post, size-at-reads.Asked, size-at-reads.Learnt, end-of-reads.Asked, end-of-reads.Learnt, way-of-reads.Asked, way-of-reads.Learnt, between-reads.Asked, between-reads.Learnt, waiting-reads.Asked, waiting-reads.Learnt, pair-type-reads.Asked, pair-type-reads.Learnt, behind-reads.Asked, behind-reads.Learnt, finish-reads.Asked, finish-reads.Learnt) (pair-at t) pair.Post
+-- what the functions that it calls are taken to ask and give
+abbrev claims : ℕ → pair-lts.Claims
+claims t = (
+  half-at-reads.Asked,
+  half-at-reads.Learnt,
+  expression-below t,
+  expression.Post,
+  size-at-reads.Asked,
+  size-at-reads.Learnt,
+  end-of-reads.Asked,
+  end-of-reads.Learnt,
+  way-of-reads.Asked,
+  way-of-reads.Learnt,
+  between-reads.Asked,
+  between-reads.Learnt,
+  waiting-reads.Asked,
+  waiting-reads.Learnt,
+  pair-type-reads.Asked,
+  pair-type-reads.Learnt,
+  behind-reads.Asked,
+  behind-reads.Learnt,
+  finish-reads.Asked,
+  finish-reads.Learnt,
+)
+
+-- what it has done where it returns
+pair-ends : (t : ℕ) → pair-lts.Need-returns (claims t) (pair-at t) pair.Post
+pair-ends t c =
+    let c1 = c .before .before in
+    let c2 = c1 .before .before .before in
+    let c3 = c2 .before .before .before .before in
+    let c4 = c3 .before .before .before .before .before .before .before .before .before in
+    let c5 = c4 .before .before in
+    let c6 = c5 .before .before .before .before .before .before .before in
+    let c7 = c6 .before .before .before in
+    let c8 = c7 .before .before in
+    let c9 = c8 .before in
+    let c10 = c9 .before .before .before .before .before .before .before .before .before in
+    let c11 = c10 .before .before .before .before .before .before in
+    let c12 = c11 .before .before .before .before .before .before .before .before .before .before in
+    answers-pair (c12 .pre .1) (c9 .size-at .result) (c9 .size-at .ensures) (c10 .expression .ensures) (c11 .half-at .ensures) (c8 .end-of .ensures .0) (c7 .way-of .ensures) (c6 .between .ensures) (c12 .args .depth + c5 .waiting .result) (ap (λ (k : ℕ). c12 .args .depth + k) (c5 .waiting .ensures))
+    (c4 .expression2 .ensures) (c3 .pair-type .ensures) (c2 .behind .ensures) (c1 .finish .ensures)
+
+pub pair-meets : {M : Type 1} (t : ℕ) → pair-lts.Closed (claims t) (pair-at t) pair.Post M
+pair-meets t = pair-lts.spec (claims t) (pair-at t) pair.Post
     -- half-at-requires
     (λ c κs. omega (arith, asked (c .before .before .before .before .before .before .before .before .before .pre .1) .long))
     -- sub-expression
@@ -158,82 +201,12 @@ pair-meets t = pair-lts.spec (half-at-reads.Asked, half-at-reads.Learnt, express
     asks-pair-finish (c11 .pre .1) (c8 .size-at .result) (c8 .size-at .ensures) (c9 .expression .ensures) (c10 .half-at .ensures) (c7 .end-of .ensures .0) (c6 .way-of .ensures) (c5 .between .ensures) (c11 .args .depth + c4 .waiting .result) (ap (λ (k : ℕ). c11 .args .depth + k) (c4 .waiting .ensures))
     (c3 .expression2 .ensures) (c2 .pair-type .ensures) (c1 .behind .ensures))
     -- same-length
-    (λ c.
-    let c1 = c .before .before in
-    let c2 = c1 .before .before .before in
-    let c3 = c2 .before .before .before .before in
-    let c4 = c3 .before .before .before .before .before .before .before .before .before in
-    let c5 = c4 .before .before in
-    let c6 = c5 .before .before .before .before .before .before .before in
-    let c7 = c6 .before .before .before in
-    let c8 = c7 .before .before in
-    let c9 = c8 .before in
-    let c10 = c9 .before .before .before .before .before .before .before .before .before in
-    let c11 = c10 .before .before .before .before .before .before in
-    let c12 = c11 .before .before .before .before .before .before .before .before .before .before in
-    (answers-pair (c12 .pre .1) (c9 .size-at .result) (c9 .size-at .ensures) (c10 .expression .ensures) (c11 .half-at .ensures) (c8 .end-of .ensures .0) (c7 .way-of .ensures) (c6 .between .ensures) (c12 .args .depth + c5 .waiting .result) (ap (λ (k : ℕ). c12 .args .depth + k) (c5 .waiting .ensures))
-    (c4 .expression2 .ensures) (c3 .pair-type .ensures) (c2 .behind .ensures) (c1 .finish .ensures)) .kept .same-env)
+    (λ c. pair-ends t c .kept .same-env)
     -- same-length-2
-    (λ c.
-    let c1 = c .before .before in
-    let c2 = c1 .before .before .before in
-    let c3 = c2 .before .before .before .before in
-    let c4 = c3 .before .before .before .before .before .before .before .before .before in
-    let c5 = c4 .before .before in
-    let c6 = c5 .before .before .before .before .before .before .before in
-    let c7 = c6 .before .before .before in
-    let c8 = c7 .before .before in
-    let c9 = c8 .before in
-    let c10 = c9 .before .before .before .before .before .before .before .before .before in
-    let c11 = c10 .before .before .before .before .before .before in
-    let c12 = c11 .before .before .before .before .before .before .before .before .before .before in
-    (answers-pair (c12 .pre .1) (c9 .size-at .result) (c9 .size-at .ensures) (c10 .expression .ensures) (c11 .half-at .ensures) (c8 .end-of .ensures .0) (c7 .way-of .ensures) (c6 .between .ensures) (c12 .args .depth + c5 .waiting .result) (ap (λ (k : ℕ). c12 .args .depth + k) (c5 .waiting .ensures))
-    (c4 .expression2 .ensures) (c3 .pair-type .ensures) (c2 .behind .ensures) (c1 .finish .ensures)) .kept .same-ends)
+    (λ c. pair-ends t c .kept .same-ends)
     -- same-length-3
-    (λ c.
-    let c1 = c .before .before in
-    let c2 = c1 .before .before .before in
-    let c3 = c2 .before .before .before .before in
-    let c4 = c3 .before .before .before .before .before .before .before .before .before in
-    let c5 = c4 .before .before in
-    let c6 = c5 .before .before .before .before .before .before .before in
-    let c7 = c6 .before .before .before in
-    let c8 = c7 .before .before in
-    let c9 = c8 .before in
-    let c10 = c9 .before .before .before .before .before .before .before .before .before in
-    let c11 = c10 .before .before .before .before .before .before in
-    let c12 = c11 .before .before .before .before .before .before .before .before .before .before in
-    (answers-pair (c12 .pre .1) (c9 .size-at .result) (c9 .size-at .ensures) (c10 .expression .ensures) (c11 .half-at .ensures) (c8 .end-of .ensures .0) (c7 .way-of .ensures) (c6 .between .ensures) (c12 .args .depth + c5 .waiting .result) (ap (λ (k : ℕ). c12 .args .depth + k) (c5 .waiting .ensures))
-    (c4 .expression2 .ensures) (c3 .pair-type .ensures) (c2 .behind .ensures) (c1 .finish .ensures)) .kept .same-stack)
+    (λ c. pair-ends t c .kept .same-stack)
     -- same-length-4
-    (λ c.
-    let c1 = c .before .before in
-    let c2 = c1 .before .before .before in
-    let c3 = c2 .before .before .before .before in
-    let c4 = c3 .before .before .before .before .before .before .before .before .before in
-    let c5 = c4 .before .before in
-    let c6 = c5 .before .before .before .before .before .before .before in
-    let c7 = c6 .before .before .before in
-    let c8 = c7 .before .before in
-    let c9 = c8 .before in
-    let c10 = c9 .before .before .before .before .before .before .before .before .before in
-    let c11 = c10 .before .before .before .before .before .before in
-    let c12 = c11 .before .before .before .before .before .before .before .before .before .before in
-    (answers-pair (c12 .pre .1) (c9 .size-at .result) (c9 .size-at .ensures) (c10 .expression .ensures) (c11 .half-at .ensures) (c8 .end-of .ensures .0) (c7 .way-of .ensures) (c6 .between .ensures) (c12 .args .depth + c5 .waiting .result) (ap (λ (k : ℕ). c12 .args .depth + k) (c5 .waiting .ensures))
-    (c4 .expression2 .ensures) (c3 .pair-type .ensures) (c2 .behind .ensures) (c1 .finish .ensures)) .kept .same-out)
+    (λ c. pair-ends t c .kept .same-out)
     -- returns
-    (λ c.
-    let c1 = c .before .before in
-    let c2 = c1 .before .before .before in
-    let c3 = c2 .before .before .before .before in
-    let c4 = c3 .before .before .before .before .before .before .before .before .before in
-    let c5 = c4 .before .before in
-    let c6 = c5 .before .before .before .before .before .before .before in
-    let c7 = c6 .before .before .before in
-    let c8 = c7 .before .before in
-    let c9 = c8 .before in
-    let c10 = c9 .before .before .before .before .before .before .before .before .before in
-    let c11 = c10 .before .before .before .before .before .before in
-    let c12 = c11 .before .before .before .before .before .before .before .before .before .before in
-    answers-pair (c12 .pre .1) (c9 .size-at .result) (c9 .size-at .ensures) (c10 .expression .ensures) (c11 .half-at .ensures) (c8 .end-of .ensures .0) (c7 .way-of .ensures) (c6 .between .ensures) (c12 .args .depth + c5 .waiting .result) (ap (λ (k : ℕ). c12 .args .depth + k) (c5 .waiting .ensures))
-    (c4 .expression2 .ensures) (c3 .pair-type .ensures) (c2 .behind .ensures) (c1 .finish .ensures))
+    (pair-ends t)
