@@ -61,8 +61,8 @@ fn operands(
     p
 }
 
-// An entry with expressions only below it: they, and its instruction. (Its part is handed over as `&part[0..]`, built anew: handed on as it
-// came, it is copied by one wide load behind two narrow stores, for which the processor waits.)
+// An entry with expressions only below it: they, and its instruction. (Its part is handed over as `&part[0..]`, built anew: the compiler takes
+// 6 to 8 % less time so; docs/PROOFS.md, "Speed".)
 fn simple(
     table: &[u8],
     part: &[u8],
