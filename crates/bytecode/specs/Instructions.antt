@@ -1,15 +1,18 @@
 -- The instructions: what op, a and b of a record stand for. (paper 01, Compiled macro)
-use mathlib.Core.Bool.{Bool, false, _&&_}
+use mathlib.Core.Bool.{Bool, true, false, _&&_}
 use mathlib.Core.Option.{Option, none, some}
 use Prim.Native.Nat.{ℕ, zero, suc}
 use mathlib.Core.List.{List, [], _∷_}
 use lib.Dec.{eqb, leb, ltb}
 use lib.ListN.{length, getElem?}
 use Rattle.words.specs.Choice.{if_then_else_}
+use Rattle.words.specs.Options.{keep}
 use Rattle.words.specs.Numbers.{integerOf}
 use Rattle.values.specs.Operators.{Operator, unary, binary, unaryOf, binaryOf}
 use Rattle.values.specs.Values.{Value, int, log, bit, ref}
-use Rattle.bytecode.specs.Macro.{Body, Code, Macro, keep}
+use Rattle.values.specs.Types.{Ty, integer, logical, bits, reference}
+use Rattle.values.specs.Ends.{caseIndex}
+use Rattle.bytecode.specs.Macro.{Body, Code, Macro}
 
 -- whose cells: "a 0 own, 1 root's"
 pub data Owner : Type 0 where
@@ -33,7 +36,7 @@ pub data Instr : Type 0 where
   takeHold : ℕ → Instr  -- 17
   letHold : Instr  -- 18
   assert : Instr  -- 19
-  stop : Instr  -- 20
+  stop : ℕ → Instr  -- 20, by this condition
 
 abbrev pub exactly : {A : Type 0} → Bool → A → Option A
 exactly b x = if b then some x else none
@@ -73,7 +76,7 @@ instruction c =
     if eqb k 17 then exactly (eqb x 0 && leb n 63) (takeHold n) else  -- 17 hold b
     if eqb k 18 then exactly plain letHold else  -- 18 release
     if eqb k 19 then exactly plain assert else  -- 19 assert
-    if eqb k 20 then exactly plain stop else none  -- 20 stop by 24
+    if eqb k 20 then exactly plain (stop caseIndex) else none  -- 20 stop by 24
 
 -- ── where the code of each body lies ──
 abbrev pub bodyAt : Macro → ℕ → Option Body
@@ -96,3 +99,28 @@ inBody m k i = fromTo (bodyAt m k) (endOf (m .bodies) (length (m .code)) k) i
 
 abbrev pub instrAt : Macro → ℕ → Option Instr
 instrAt m i = keep (getElem? (m .code) i) instruction
+
+-- ── what a macro declares: the types of cells and fields, the classes of references ──
+abbrev pub cellsOf : Option Body → List Ty
+cellsOf none = []
+cellsOf (some b) = b .cells
+
+-- cell x, where code of body k names it
+abbrev pub cellTy : Macro → ℕ → Owner → ℕ → Option Ty
+cellTy m k own x = getElem? (cellsOf (bodyAt m k)) x
+cellTy m k root x = getElem? (cellsOf (bodyAt m 0)) x
+
+abbrev pub fieldTy : Macro → ℕ → ℕ → Option Ty
+fieldTy m c x = keep (getElem? (m .classes) c) (λ ts. getElem? ts x)
+
+-- a type whose class, if it has one, the macro has
+abbrev pub known : Macro → Ty → Bool
+known m integer = true
+known m logical = true
+known m bits = true
+known m (reference c) = ltb c (length (m .classes))
+
+-- body k, if it is a procedure's: the root is not called and does not return
+abbrev pub procedureAt : Macro → ℕ → Option Body
+procedureAt m zero = none
+procedureAt m (suc k) = bodyAt m (suc k)

@@ -5,8 +5,9 @@ use Prim.Native.Nat.{ℕ}
 use lib.Dec.{eqb}
 use lib.ListN.{length}
 use Rattle.words.specs.Choice.{if_then_else_}
+use Rattle.words.specs.Options.{keep}
 use Rattle.values.specs.Ends.{Refusal, refusal, Judged, accepted, refused}
-use Rattle.bytecode.specs.Macro.{Macro, keep}
+use Rattle.bytecode.specs.Macro.{Macro}
 use Rattle.bytecode.specs.Rules.{judgeMacro}
 use Rattle.bytecode.specs.Machine.{Machine, freshMachine}
 use Rattle.bytecode.specs.Runs.{Answer, happens, spends, finishes, refuses, halts, run}

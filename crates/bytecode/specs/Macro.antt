@@ -6,6 +6,7 @@ use Prim.Native.Nat.{ℕ, zero, suc, _-_}
 use lib.Dec.{eqb, leb, ltb}
 use lib.ListN.{length, drop}
 use Rattle.words.specs.Choice.{if_then_else_}
+use Rattle.words.specs.Options.{isSome, keep}
 use Rattle.words.specs.Numbers.{byteAt, halfAt, wordAt}
 use Rattle.values.specs.Types.{Ty, integer, logical, bits, reference}
 use Rattle.values.specs.Ends.{refusal, Judged, accepted, refused}
@@ -52,6 +53,25 @@ pub record Cut (A : Type 0) : Type 0 where
 abbrev pub cut : {A : Type 0} → A → List ℕ → Cut A
 cut x l = record { value = x; rest = l }
 
+-- how long each record is: HD, CL and BD up to their types, IN, SH up to its types, ZZ
+abbrev pub headLength : ℕ
+headLength = 8
+
+abbrev pub classLength : ℕ
+classLength = 3
+
+abbrev pub bodyLength : ℕ
+bodyLength = 7
+
+abbrev pub codeLength : ℕ
+codeLength = 8
+
+abbrev pub shapeLength : ℕ
+shapeLength = 6
+
+abbrev pub endLength : ℕ
+endLength = 2
+
 -- "Each record has a two-byte mark, in ASCII."; a record of at least n bytes with this mark stands here
 abbrev pub marked : ℕ → ℕ → ℕ → List ℕ → Bool
 marked x y n l = leb n (length l) && (eqb (byteAt l 0) x && eqb (byteAt l 1) y)
@@ -64,10 +84,6 @@ tyOfByte classes t =
     if eqb t 3 then some bits else
     if leb 16 t && ltb (t - 16) classes then some (reference (t - 16)) else none
 
-abbrev pub keep : {A B : Type 0} → Option A → (A → Option B) → Option B
-keep none f = none
-keep (some x) f = f x
-
 -- so many type bytes
 unfoldable pub readTypes : ℕ → ℕ → List ℕ → Option (Cut (List Ty))
 readTypes classes zero l = some (cut [] l)
@@ -78,7 +94,9 @@ readTypes classes (suc n) (t ∷ l) =
 -- "CL: field count u8, types"; "1 to 8 fields"
 unfoldable pub readClass : ℕ → List (List Ty) → List ℕ → Option (Cut (List Ty))
 readClass classes before l =
-    if marked 67 76 3 l && (leb 1 (byteAt l 2) && leb (byteAt l 2) 8) then readTypes classes (byteAt l 2) (drop 3 l) else none
+    if marked 67 76 classLength l && (leb 1 (byteAt l 2) && leb (byteAt l 2) 8)
+    then readTypes classes (byteAt l 2) (drop classLength l)
+    else none
 
 -- 0 or a type
 unfoldable pub readResult : ℕ → ℕ → Option (List Ty)
@@ -92,30 +110,28 @@ rises (b ∷ bs) a = ltb (b .first) a
 unfoldable pub readBody : ℕ → ℕ → List Body → List ℕ → Option (Cut Body)
 readBody classes instructions before l =
     let first = halfAt l 2 in let params = byteAt l 4 in let cells = byteAt l 6 in
-    if marked 66 68 7 l && (rises before first && (ltb first instructions && leb params cells))
-    then keep (readResult classes (byteAt l 5)) (λ r. keep (readTypes classes cells (drop 7 l)) (λ c.
+    if marked 66 68 bodyLength l && (rises before first && (ltb first instructions && leb params cells))
+    then keep (readResult classes (byteAt l 5)) (λ r. keep (readTypes classes cells (drop bodyLength l)) (λ c.
     some (cut (record { first = first; parameters = params; results = r; cells = c .value }) (c .rest))))
     else none
 
 unfoldable pub readCode : List Code → List ℕ → Option (Cut Code)
 readCode before l =
-    if marked 73 78 8 l then some (cut (record { op = byteAt l 2; a = byteAt l 3; b = wordAt l 4 }) (drop 8 l)) else none
+    if marked 73 78 codeLength l
+    then some (cut (record { op = byteAt l 2; a = byteAt l 3; b = wordAt l 4 }) (drop codeLength l))
+    else none
 
 -- the shape given for an address, the first there is
 unfoldable pub shapeIn : List Placed → ℕ → Option Shape
 shapeIn [] i = none
 shapeIn (p ∷ ps) i = if eqb (p .address) i then some (p .found) else shapeIn ps i
 
-abbrev pub isSome : {A : Type 0} → Option A → Bool
-isSome none = false
-isSome (some x) = true
-
 -- "no address has two SH"
 unfoldable pub readShape : ℕ → ℕ → List Placed → List ℕ → Option (Cut Placed)
 readShape classes instructions before l =
     let at = halfAt l 2 in
-    if marked 83 72 6 l && (ltb at instructions && not (isSome (shapeIn before at)))
-    then keep (readTypes classes (byteAt l 5) (drop 6 l)) (λ c.
+    if marked 83 72 shapeLength l && (ltb at instructions && not (isSome (shapeIn before at)))
+    then keep (readTypes classes (byteAt l 5) (drop shapeLength l)) (λ c.
     some (cut (record { address = at; found = shape (byteAt l 4) (reverse (c .value)) }) (c .rest)))
     else none
 
@@ -136,18 +152,14 @@ unfoldable pub onward : {A B : Type 0} → Parsed A → (A → ℕ → List ℕ 
 onward (parsed x i l) f = f x i l
 onward (unread i) f = unread i
 
--- "HD: classes u8, bodies u8, instructions u16, shapes u16"
-abbrev pub headLength : ℕ
-headLength = 8
-
--- "counts (1 to 64 bodies, 16 classes, …)"
+-- "HD: classes u8, bodies u8, instructions u16, shapes u16"; "counts (1 to 64 bodies, 16 classes, …)"
 unfoldable pub headReads : List ℕ → Bool
 headReads l = marked 72 68 headLength l && (leb (byteAt l 2) 16 && (leb 1 (byteAt l 3) && leb (byteAt l 3) 64))
 
 -- "ZZ: empty, last"; bytes after it are a record that does not read
 unfoldable pub readEnd : {A : Type 0} → A → ℕ → List ℕ → Parsed A
 readEnd x i l =
-    if marked 90 90 2 l then (if eqb (length l) 2 then parsed x (suc i) [] else unread (suc i)) else unread i
+    if marked 90 90 endLength l then (if eqb (length l) endLength then parsed x (suc i) [] else unread (suc i)) else unread i
 
 -- "Order: HD, CL, BD, IN by address, SH in any order, ZZ"
 unfoldable pub parseMacro : List ℕ → Parsed Macro

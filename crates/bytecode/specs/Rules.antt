@@ -6,12 +6,13 @@ use Prim.Native.Nat.{ℕ, zero, suc, _+_, _-_}
 use lib.Dec.{eqb, leb, ltb}
 use lib.ListN.{length, getElem?, take}
 use Rattle.words.specs.Choice.{if_then_else_}
+use Rattle.words.specs.Options.{isSome, keep, orElse}
 use Rattle.values.specs.Types.{Ty, integer, logical, bits, reference, sames, fits}
 use Rattle.values.specs.Ends.{refusal, Judged, accepted, refused}
 use Rattle.values.specs.Operators.{Operator, unary, binary, opType}
-use Rattle.values.specs.Values.{Value, int, log, bit, ref}
-use Rattle.bytecode.specs.Macro.{Body, Shape, shape, Macro, shapeIn, isSome, keep, readMacro}
-use Rattle.bytecode.specs.Instructions.{Owner, own, root, Instr, end, push, load, store, operate, go, goUnless, call, return, make, getField, putField, setLevel, readFader, takeHold, letHold, assert, stop, bodyAt, inBody, instrAt}
+use Rattle.values.specs.Values.{Value, tyOf}
+use Rattle.bytecode.specs.Macro.{Body, Shape, shape, Macro, shapeIn, readMacro}
+use Rattle.bytecode.specs.Instructions.{Owner, own, root, Instr, end, push, load, store, operate, go, goUnless, call, return, make, getField, putField, setLevel, readFader, takeHold, letHold, assert, stop, bodyAt, inBody, instrAt, cellTy, fieldTy, known, procedureAt}
 
 -- ── bodies and addresses ──
 -- the body that an address stands in: the last that begins at it or before
@@ -55,68 +56,46 @@ operating (binary o) (t ∷ []) = wrong
 operating (binary o) (t ∷ (u ∷ ts)) = giving (opType (binary o) (u ∷ t ∷ [])) (t ∷ u ∷ [])
 
 abbrev pub pushing : Macro → Value → Effect
-pushing m (int z) = plain [] (integer ∷ [])
-pushing m (log b) = plain [] (logical ∷ [])
-pushing m (bit n) = plain [] (bits ∷ [])
-pushing m (ref c r) = if ltb c (length (m .classes)) then plain [] (reference c ∷ []) else wrong
+pushing m v = if known m (tyOf v) then plain [] (tyOf v ∷ []) else wrong
 
 -- "10 call body b, not 0 (arguments fill its first cells …)"
 abbrev pub calling : Option Body → Effect
 calling none = wrong
 calling (some b) = plain (onStack (take (b .parameters) (b .cells))) (b .results)
 
-abbrev pub calledBody : Macro → ℕ → Option Body
-calledBody m zero = none
-calledBody m (suc k) = bodyAt m (suc k)
-
 abbrev pub making : Option (List Ty) → ℕ → Effect
 making none c = wrong
 making (some ts) c = plain (onStack ts) (reference c ∷ [])
-
-abbrev pub cellsOf : Option Body → List Ty
-cellsOf none = []
-cellsOf (some b) = b .cells
-
-abbrev pub cellTy : Macro → ℕ → Owner → ℕ → Option Ty
-cellTy m k own x = getElem? (cellsOf (bodyAt m k)) x
-cellTy m k root x = getElem? (cellsOf (bodyAt m 0)) x
-
-abbrev pub fieldTy : Macro → ℕ → ℕ → Option Ty
-fieldTy m c x = keep (getElem? (m .classes) c) (λ ts. getElem? ts x)
-
-abbrev pub resultsOf : Option Body → List Ty
-resultsOf none = []
-resultsOf (some b) = b .results
 
 -- "Op 0 (root only, empty stack) and 11 (procedures only, exactly the result)"
 abbrev pub endingIn : ℕ → Effect
 endingIn zero = leaves []
 endingIn (suc k) = wrong
 
-abbrev pub returningIn : Macro → ℕ → Effect
-returningIn m zero = wrong
-returningIn m (suc k) = leaves (resultsOf (bodyAt m (suc k)))
+abbrev pub returning : Option Body → Effect
+returning none = wrong
+returning (some b) = leaves (b .results)
 
--- the effect of an op in body k, where operands of these types lie on the stack
-unfoldable pub effect : Macro → ℕ → Instr → List Ty → Effect
-effect m k end ts = endingIn k
-effect m k (push v) ts = pushing m v
-effect m k (load o x) ts = giving (cellTy m k o x) []
-effect m k (store o x) ts = taking (cellTy m k o x) []
-effect m k (operate o) ts = operating o ts
-effect m k (go t) ts = jumps t
-effect m k (goUnless t) ts = forks t
-effect m k (call b) ts = calling (calledBody m b)
-effect m k return ts = returningIn m k
-effect m k (make c) ts = making (getElem? (m .classes) c) c
-effect m k (getField c x) ts = giving (fieldTy m c x) (reference c ∷ [])
-effect m k (putField c x) ts = taking (fieldTy m c x) (reference c ∷ [])
-effect m k setLevel ts = plain (integer ∷ integer ∷ []) []
-effect m k readFader ts = plain (integer ∷ []) (integer ∷ [])
-effect m k (takeHold g) ts = takes
-effect m k letHold ts = lets
-effect m k assert ts = plain (logical ∷ []) []
-effect m k stop ts = stops
+-- the effect of an op in body k, where this state is found
+unfoldable pub effect : Macro → ℕ → Instr → Shape → Effect
+effect m k end s = endingIn k
+effect m k (push v) s = pushing m v
+effect m k (load o x) s = giving (cellTy m k o x) []
+effect m k (store o x) s = taking (cellTy m k o x) []
+effect m k (operate o) s = operating o (s .operands)
+effect m k (go t) s = jumps t
+effect m k (goUnless t) s = forks t
+effect m k (call b) s = calling (procedureAt m b)
+effect m k return s = returning (procedureAt m k)
+effect m k (make c) s = making (getElem? (m .classes) c) c
+effect m k (getField c x) s = giving (fieldTy m c x) (reference c ∷ [])
+effect m k (putField c x) s = taking (fieldTy m c x) (reference c ∷ [])
+effect m k setLevel s = plain (integer ∷ integer ∷ []) []
+effect m k readFader s = plain (integer ∷ []) (integer ∷ [])
+effect m k (takeHold g) s = takes
+effect m k letHold s = lets
+effect m k assert s = plain (logical ∷ []) []
+effect m k (stop c) s = stops
 
 -- ── where control goes from an op, and with what state ──
 pub data Flow : Type 0 where
@@ -162,7 +141,7 @@ flow wrong s = broken
 
 abbrev pub flowOf : Option Instr → Macro → ℕ → Shape → Flow
 flowOf none m k s = broken
-flowOf (some x) m k s = flow (effect m k x (s .operands)) s
+flowOf (some x) m k s = flow (effect m k x s) s
 
 abbrev pub flowAt : Macro → ℕ → Shape → Flow
 flowAt m i s = flowOf (instrAt m i) m (bodyOf (m .bodies) 0 i) s
@@ -176,10 +155,6 @@ passed (jump s t) = none
 passed halt = none
 passed broken = none
 
-abbrev pub orFlow : Option Shape → Option Shape → Option Shape
-orFlow none f = f
-orFlow (some s) f = some s
-
 -- "The loading check follows each body from its first instruction with no holds and nothing on the working stack."
 abbrev pub atFirst : Option Shape
 atFirst = some (shape 0 [])
@@ -188,12 +163,12 @@ atFirst = some (shape 0 [])
 unfoldable pub into : Macro → ℕ → Option Shape
 into m zero = atFirst
 into m (suc i) =
-    let before = orFlow (shapeIn (m .shapes) i) (into m i) in
+    let before = orElse (shapeIn (m .shapes) i) (into m i) in
     if isFirst (m .bodies) (suc i) then atFirst else keep before (λ s. passed (flowAt m i s))
 
 -- an SH says what is found; code behind ops 0, 8, 11 and 20 is judged from its SH, reached or not
 unfoldable pub foundAt : Macro → ℕ → Option Shape
-foundAt m i = orFlow (shapeIn (m .shapes) i) (into m i)
+foundAt m i = orElse (shapeIn (m .shapes) i) (into m i)
 
 -- ── the faults at an address ──
 -- "its body's first address": the root without parameters or result, at most 32 cells

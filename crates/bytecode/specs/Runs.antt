@@ -32,7 +32,7 @@ bankOf bytes n = getD bytes (n - 1) 0
 -- "A run returns after the step that gives an event or ends, counting it, else with "allowance used" and steps equal to the allowance."
 -- n steps are taken; what is to be done with the rest of the allowance follows a step that gives no event and does not end
 abbrev pub ends : Machine → ℕ → (Machine → Ran) → Ran
-ends (running rs f fs) n k = k (running rs f fs)
+ends (running s f fs) n k = k (running s f fs)
 ends (unwinding gs a) n k = k (unwinding gs a)
 ends (ended c) n k = with (finishes c n) (ended c)
 

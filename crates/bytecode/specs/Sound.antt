@@ -1,22 +1,19 @@
 -- Sound states. (paper 01, Running)
 use mathlib.Core.Bool.{Bool, true, false, _&&_, _||_}
-use mathlib.Core.List.{List, [], _∷_, _++_}
+use mathlib.Core.List.{List, [], _∷_, _++_, map}
 use mathlib.Core.Option.{Option, none, some}
 use Prim.Native.Nat.{ℕ}
 use lib.Dec.{eqb, leb, ltb}
 use lib.ListN.{length, getElem?, take}
 use lib.Signed.{mag}
+use Rattle.words.specs.Lists.{all}
 use Rattle.values.specs.Types.{Ty, sames}
 use Rattle.values.specs.Ends.{isCondition}
-use Rattle.values.specs.Values.{Value, int, log, bit, ref, tysOf, Cell, assigned}
-use Rattle.bytecode.specs.Macro.{Body, Macro, Shape}
-use Rattle.bytecode.specs.Instructions.{Instr, end, push, load, store, operate, go, goUnless, call, return, make, getField, putField, setLevel, readFader, takeHold, letHold, assert, stop, bodyAt, inBody, instrAt}
+use Rattle.values.specs.Values.{Value, int, log, bit, ref, tysOf, Cell, assigned, tyOfCell}
+use Rattle.bytecode.specs.Macro.{Body, Code, Macro, Shape}
+use Rattle.bytecode.specs.Instructions.{bodyAt, inBody}
 use Rattle.bytecode.specs.Rules.{foundAt, onStack}
-use Rattle.bytecode.specs.Machine.{Activation, Made, endBy, Machine, running, unwinding, ended, maxActivations, maxRecords}
-
-unfoldable pub all : {A : Type 0} → (A → Bool) → List A → Bool
-all f [] = true
-all f (x ∷ xs) = f x && all f xs
+use Rattle.bytecode.specs.Machine.{Activation, Made, Shared, endBy, Machine, running, unwinding, ended, maxActivations, maxOpenHolds, maxRecords}
 
 -- ── values ──
 abbrev pub classIs : ℕ → Option Made → Bool
@@ -38,12 +35,11 @@ soundValue rs (ref c r) = points rs c r
 abbrev pub typedValues : List Made → List Value → List Ty → Bool
 typedValues rs vs ts = sames (tysOf vs) ts && all (soundValue rs) vs
 
-abbrev pub cellValue : Cell → Value
-cellValue (assigned v) = v
+abbrev pub soundCell : List Made → Cell → Bool
+soundCell rs (assigned v) = soundValue rs v
 
-unfoldable pub cellValues : List Cell → List Value
-cellValues [] = []
-cellValues (c ∷ cs) = cellValue c ∷ cellValues cs
+abbrev pub typedCells : List Made → List Cell → List Ty → Bool
+typedCells rs cs ts = sames (map tyOfCell cs) ts && all (soundCell rs) cs
 
 -- ── records: of a class that the macro has, with values of its fields' types ──
 abbrev pub ofClass : List Made → Made → Option (List Ty) → Bool
@@ -66,7 +62,7 @@ soundAt m rs f taken (some s) (some b) =
     && (all (soundValue rs) (f .operands)
     && (eqb (length (f .holds)) (s .holds)
     && (all soundGroup (f .holds)
-    && typedValues rs (cellValues (f .cells)) (b .cells))))
+    && typedCells rs (f .cells) (b .cells))))
 
 -- "each activation is where the loading rules allow, … with as many holds as found there, of groups 0 to 63, and values of the types found there"
 unfoldable pub soundActivation : Macro → List Made → List Ty → Activation → Bool
@@ -74,26 +70,9 @@ soundActivation m rs taken f =
     inBody m (f .body) (f .address) && soundAt m rs f taken (foundAt m (f .address)) (bodyAt m (f .body))
 
 -- "all but the top at a call of the next, arguments taken"
-abbrev pub callsBody : Option Instr → ℕ → Bool
+abbrev pub callsBody : Option Code → ℕ → Bool
 callsBody none k = false
-callsBody (some end) k = false
-callsBody (some (push v)) k = false
-callsBody (some (load o x)) k = false
-callsBody (some (store o x)) k = false
-callsBody (some (operate o)) k = false
-callsBody (some (go i)) k = false
-callsBody (some (goUnless i)) k = false
-callsBody (some (call j)) k = eqb j k
-callsBody (some return) k = false
-callsBody (some (make c)) k = false
-callsBody (some (getField c x)) k = false
-callsBody (some (putField c x)) k = false
-callsBody (some setLevel) k = false
-callsBody (some readFader) k = false
-callsBody (some (takeHold g)) k = false
-callsBody (some letHold) k = false
-callsBody (some assert) k = false
-callsBody (some stop) k = false
+callsBody (some c) k = eqb (c .op) 10 && eqb (c .b) k
 
 abbrev pub parametersOf : Option Body → List Ty
 parametersOf none = []
@@ -102,17 +81,18 @@ parametersOf (some b) = take (b .parameters) (b .cells)
 unfoldable pub soundWaiting : Macro → List Made → ℕ → List Activation → Bool
 soundWaiting m rs k [] = eqb k 0  -- "the lowest the root"
 soundWaiting m rs k (f ∷ fs) =
-    callsBody (instrAt m (f .address)) k
+    callsBody (getElem? (m .code) (f .address)) k
     && (soundActivation m rs (onStack (parametersOf (bodyAt m k))) f && soundWaiting m rs (f .body) fs)
 
 -- ── states ──
 -- "A state is sound if it has 1 to 32 activations, the lowest the root, and at most 256 records; …"
 -- "While a condition is releasing, only the holds count; an ended state has none."
 unfoldable pub sound : Macro → Machine → Bool
-sound m (running rs f fs) =
+sound m (running s f fs) =
+    let rs = s .records in
     leb (length (f ∷ fs)) maxActivations
     && (leb (length rs) maxRecords
     && (all (soundRecord m rs) rs
     && (soundActivation m rs [] f && soundWaiting m rs (f .body) fs)))
-sound m (unwinding gs (endBy c)) = isCondition c && (leb (length gs) 512 && all soundGroup gs)
+sound m (unwinding gs (endBy c)) = isCondition c && (leb (length gs) maxOpenHolds && all soundGroup gs)
 sound m (ended c) = eqb c 0 || isCondition c

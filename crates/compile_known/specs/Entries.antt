@@ -13,11 +13,12 @@ use lib.IntN.{natAbs}
 use lib.ListN.{length, getD, set, length-set}
 use lib.Seq.{sets}
 use borrow.Author.Tests.{eq-eqb, ne-eqb, lt-ltb, le-ltb}
+use Rattle.words.specs.Options.{isSome}
 use Rattle.words.specs.Choice.{if_then_else_}
 use Rattle.words.specs.Numbers.{halfAt, wordAt, integerOf, wordOf}
 use Rattle.words.specs.Laws.{four, number-below, word-back}
 use Rattle.values.specs.Types.{Ty, integer, logical, bits, reference, tyCode}
-use Rattle.language.specs.Table.{Entry, entry, inLayout, isSome, tyOfCode, natural}
+use Rattle.language.specs.Table.{Entry, entry, inLayout, tyOfCode, natural}
 use Rattle.programs.specs.Basics.{both-left, both-right}
 use Rattle.programs.specs.Claims.{entriesOf}
 use Rattle.programs.specs.Codes.{type-coded, natural-pos}

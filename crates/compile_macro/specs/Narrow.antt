@@ -8,12 +8,13 @@ use native.Mathlib.Omega.{arith}
 use lib.Dec.{ltb}
 use lib.ListN.{length, getElem?}
 use borrow.Author.Tests.{leb-true, ltb-true}
+use Rattle.words.specs.Options.{keep}
 use Rattle.words.specs.Choice.{if_then_else_}
 use Rattle.words.specs.Laws.{word-below}
 use Rattle.values.specs.Types.{Ty, logical, reference}
 use Rattle.values.specs.Operators.{Operator, unary, binary, negate, absolute, complement, plus, minus, times, divide, remainder, less, atMost, greater, atLeast, equal, unequal, both, either, shiftLeft, shiftRight}
 use Rattle.values.specs.Values.{int, log, bit, ref}
-use Rattle.bytecode.specs.Macro.{Body, Shape, shape, Placed, Macro, keep, shapeIn}
+use Rattle.bytecode.specs.Macro.{Body, Shape, shape, Placed, Macro, shapeIn}
 use Rattle.bytecode.specs.Instructions.{Owner, own, root, Instr, end, push, load, store, operate, go, goUnless, return, getField, putField, readFader, takeHold, letHold, stop, bodyAt, inBody}
 use Rattle.bytecode.specs.Instructions.{call as callOp, make as makeOp, setLevel as setOp, assert as assertOp}
 use Rattle.bytecode.specs.Rules.{plain, wrong, fork, strip, stripped, flow, effect, giving, taking, calling, making, calledBody, cellTy, cellsOf, fieldTy, roomy, equalShape}

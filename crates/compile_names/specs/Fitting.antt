@@ -8,6 +8,7 @@ use native.Mathlib.Omega.{arith}
 use lib.Dec.{ltb}
 use lib.ListN.{length, getElem?, take}
 use borrow.Author.Tests.{lt-ltb}
+use Rattle.words.specs.Options.{keep}
 use Rattle.values.specs.Types.{Ty, integer, logical, bits, reference}
 use Rattle.values.specs.Operators.{Binary, unary, binary, opType}
 use Rattle.values.specs.Values.{ref, initial}
@@ -15,7 +16,7 @@ use Rattle.language.specs.Tree.{Decl, declare, holding, Stmt, block, assign, wh
 use Rattle.language.specs.Names.{isVariable, isClass, isField, isProcedure, types, results, Scope, blockOf, expressionOf}
 use Rattle.language.specs.Faults.{withTy, typeE, typesE, typeTarget, isTy, variableTy, resultTy}
 use Rattle.language.specs.Faults.{fieldTy as treeFieldTy}
-use Rattle.bytecode.specs.Macro.{Body, Macro, keep}
+use Rattle.bytecode.specs.Macro.{Body, Macro}
 use Rattle.bytecode.specs.Instructions.{Owner, push}
 use Rattle.bytecode.specs.Rules.{plain, effect, cellTy, fieldTy, calledBody}
 use Rattle.compile_code.specs.Compile.{Around, inside, bound, held, labels, scopesOf, kept, Class, classesOf, namesOf, indexOf, Proc, procsOf, classNumber, bodyNumber, fieldNumber, orInteger, wayOf, tyIn, tyE}

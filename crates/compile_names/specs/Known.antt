@@ -7,11 +7,11 @@ use Prim.Native.Nat.{ℕ, suc}
 use native.Mathlib.Omega.{arith}
 use lib.Dec.{eqb}
 use borrow.Author.Tests.{eqb-true, eq-eqb}
+use Rattle.words.specs.Lists.{among}
 use Rattle.words.specs.Choice.{if_then_else_}
 use Rattle.values.specs.Types.{Ty}
 use Rattle.language.specs.Tree.{Typed, Decl, declare, holding, Items, noItem, label, item}
 use Rattle.language.specs.Names.{Sort, isVariable, isLabel, isClass, isField, isProcedure, Definition, definesTyped, definesHead, definesItems, Scope, blockOf, expressionOf, procedureOf, Found, nowhere, found, firstOf, otherwise, across, lookup}
-use Rattle.language.specs.Faults.{among}
 use Rattle.bytecode.specs.Instructions.{Owner, own, root}
 use Rattle.loading.specs.Tests.{never}
 use Rattle.compile_code.specs.Compile.{Around, inside, bound, global, held, labels, scopesOf, boundAt, globalAt, kept, orCell}

@@ -5,9 +5,10 @@ use mathlib.Core.List.{List, [], _∷_, map}
 use mathlib.Core.Option.{Option, none, some}
 use Prim.Native.Nat.{ℕ}
 use native.Mathlib.Omega.{arith}
+use Rattle.words.specs.Options.{orElse}
 use Rattle.words.specs.Choice.{if_then_else_}
 use Rattle.values.specs.Types.{Ty, integer, logical, bits, reference, sames}
-use Rattle.values.specs.Operators.{unary, binary, Unary, negate, absolute, complement, Binary, plus, minus, times, divide, remainder, less, atMost, greater, atLeast, equal, unequal, both, either, shiftLeft, shiftRight, takes, orElse, logicalOrBits, anyOne, opType}
+use Rattle.values.specs.Operators.{unary, binary, Unary, negate, absolute, complement, Binary, plus, minus, times, divide, remainder, less, atMost, greater, atLeast, equal, unequal, both, either, shiftLeft, shiftRight, takes, logicalOrBits, anyOne, opType}
 use Rattle.loading.specs.Tests.{sames→≡, sames-refl}
 use Rattle.bytecode.specs.Macro.{Macro}
 use Rattle.language.specs.Tree.{Global}

@@ -7,9 +7,10 @@ use Prim.Native.Nat.{ℕ, suc, _+_, _-_, _*_, _/_, _%_, _≤_}
 use native.Mathlib.Omega.{arith}
 use lib.ListN.{length, getElem?}
 use borrow.Author.Tests.{le-leb, lt-ltb, ne-eqb, eq-eqb}
+use Rattle.words.specs.Options.{isSome}
 use Rattle.values.specs.Types.{Ty, integer, logical, bits, reference, tyByte}
 use Rattle.values.specs.Ends.{accepted}
-use Rattle.bytecode.specs.Macro.{Body, Code, Placed, Macro, Cut, cut, tyOfByte, readTypes, readClass, readResult, rises, readBody, readCode, shapeIn, isSome, readShape, parsed, orUnread, records, onward, headReads, readEnd, parseMacro, readMacro}
+use Rattle.bytecode.specs.Macro.{Body, Code, Placed, Macro, Cut, cut, tyOfByte, readTypes, readClass, readResult, rises, readBody, readCode, shapeIn, readShape, parsed, orUnread, records, onward, headReads, readEnd, parseMacro, readMacro}
 use Rattle.loading.specs.Terms.{Each, Named, ReadClass, ReadBody, ReadShape, RisesFrom, Apart, WellFormed}
 use Rattle.compile_code.specs.Encode.{classBytes, resultByte, bodyBytes, codeBytes, shapeBytes, each, macroBytes}
 

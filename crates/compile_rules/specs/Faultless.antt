@@ -6,8 +6,9 @@ use mathlib.Core.Option.{Option, none, some}
 use Prim.Native.Nat.{ℕ, suc}
 use native.Mathlib.Omega.{arith}
 use borrow.Author.Tests.{eq-eqb}
+use Rattle.words.specs.Options.{keep, isSome}
 use Rattle.values.specs.Types.{Ty, sames}
-use Rattle.bytecode.specs.Macro.{Shape, shape, Macro, shapeIn, isSome, keep}
+use Rattle.bytecode.specs.Macro.{Shape, shape, Macro, shapeIn}
 use Rattle.bytecode.specs.Instructions.{inBody, instrAt}
 use Rattle.bytecode.specs.Rules.{Flow, on, fork, jump, halt, broken, sameShape, flow, flowAt, effect, passed, orFlow, into, foundAt, bodyOf, isFirst, bodyFault, shapeFault, lands, flowFault, opFault, faultAt}
 use Rattle.compile_code.specs.Code.{Line}

@@ -11,13 +11,15 @@ use lib.Dec.{eqb, leb}
 use lib.IntN.{pos}
 use lib.ListN.{length, getD}
 use borrow.Author.Tests.{eqb-true, eq-eqb, ne-eqb, le-leb, leb-true}
+use Rattle.words.specs.Lists.{among}
+use Rattle.words.specs.Options.{isSome}
 use Rattle.words.specs.Choice.{if_then_else_}
 use Rattle.values.specs.Types.{Ty, integer, logical, bits, reference, tyCode, tyByte}
 use Rattle.language.specs.Tree.{Typed, Decl, declare, holding, Items, noItem, label, item, Global}
-use Rattle.language.specs.Table.{Entry, entry, inLayout, isSome, flatTyped, flatDecl}
+use Rattle.language.specs.Table.{Entry, entry, inLayout, flatTyped, flatDecl}
 use Rattle.language.specs.Names.{isVariable, isLabel, isClass, definesTyped, definesHead, definesItems, Scope, blockOf, expressionOf, nowhere, found, firstOf, across, lookup}
 use Rattle.language.specs.Names as names
-use Rattle.language.specs.Faults.{among, sizeS}
+use Rattle.language.specs.Faults.{sizeS}
 use Rattle.programs.specs.Basics.{clash}
 use Rattle.programs.specs.Claims.{entriesOf}
 use Rattle.spans.specs.Stands.{Stands, stands-tail}

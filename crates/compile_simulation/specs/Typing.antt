@@ -7,6 +7,7 @@ use Prim.Native.Nat.{ℕ, _+_}
 use native.Mathlib.Omega.{arith}
 use lib.Dec.{T, eqb, eqb→eq, leb}
 use lib.ListN.{length}
+use Rattle.words.specs.Lists.{all}
 use Rattle.values.specs.Types.{Ty, integer, logical, bits, reference, tyCode, same, sames}
 use Rattle.values.specs.Values.{Value, int, log, bit, ref, tyOf, tysOf}
 use Rattle.language.specs.Tree.{Global}
@@ -16,7 +17,7 @@ use Rattle.bytecode.specs.Macro.{Body, Shape, shapeIn}
 use Rattle.bytecode.specs.Instructions.{bodyAt, inBody}
 use Rattle.bytecode.specs.Rules.{foundAt, orFlow, into}
 use Rattle.bytecode.specs.Machine.{Made, Activation, Machine, running, putLowest}
-use Rattle.bytecode.specs.Sound.{all, soundRecord, soundAt, soundActivation, soundWaiting, sound}
+use Rattle.bytecode.specs.Sound.{soundRecord, soundAt, soundActivation, soundWaiting, sound}
 use Rattle.compile_code.specs.Compile.{Around, heldIn, found, orInteger, tyIn, classNames, classesOf, indexOf}
 use Rattle.compile_simulation.specs.Meets.{Conf, live, Setting, Reach, Meets, crash, here}
 use Rattle.compile_simulation.specs.View.{Data}

@@ -9,11 +9,12 @@ use lib.Dec.{T, eqb, eqb→eq}
 use lib.IntN.{pos}
 use lib.ListN.{getD, getElem?}
 use lib.ListN.{set as put}
+use Rattle.words.specs.Options.{isSome, orElse}
 use Rattle.words.specs.Choice.{if_then_else_}
 use Rattle.values.specs.Trace.{Item}
 use Rattle.values.specs.Values.{Value, int, log, bit, ref, Cell, assigned}
 use Rattle.language.specs.Tree.{Typed, Global}
-use Rattle.language.specs.Execute.{Slot, slot, Store, withBlocks, withRoot, cellIn, orIn, cellOf, putIn, isIn, putOf, valueOf, assignTo, pairUp}
+use Rattle.language.specs.Execute.{Slot, slot, Store, withBlocks, withRoot, cellIn, cellOf, putIn, putOf, valueOf, assignTo, pairUp}
 use Rattle.language.specs.Execute.{Made as TreeMade}
 use Rattle.bytecode.specs.Instructions.{Owner, own, root}
 use Rattle.bytecode.specs.Machine.{Made}
@@ -97,12 +98,12 @@ module _ (gs : List Global) where
   unfolding cellOf cellIn
   in-first a s [] = go (eqb (s .name) a)
     where
-      go : (b : Bool) → orIn (if b then some (s .cell) else none) none ≡ (if b then some (s .cell) else none)
+      go : (b : Bool) → orElse (if b then some (s .cell) else none) none ≡ (if b then some (s .cell) else none)
       go true = refl
       go false = refl
   in-first a s (b ∷ bs) = go (eqb (s .name) a)
     where
-      go : (t : Bool) → orIn (if t then some (s .cell) else cellIn a b) (cellOf a bs) ≡ (if t then some (s .cell) else orIn (cellIn a b) (cellOf a bs))
+      go : (t : Bool) → orElse (if t then some (s .cell) else cellIn a b) (cellOf a bs) ≡ (if t then some (s .cell) else orElse (cellIn a b) (cellOf a bs))
       go true = refl
       go false = refl
 
@@ -133,9 +134,9 @@ module _ (gs : List Global) where
 
   pub reads : (a : ℕ) (Γ : List Around) (D : Data) → valueOf a (seen Γ D) ≡ cellFor (keptOf a Γ) (D .cells) (D .lowest)
   unfolding valueOf
-  reads a Γ D = ap₂ orIn (in-blocks a Γ (D .cells) (D .lowest)) (in-roots a Γ (D .cells) (D .lowest)) ∙ go (boundAt a Γ) (globalAt a Γ)
+  reads a Γ D = ap₂ orElse (in-blocks a Γ (D .cells) (D .lowest)) (in-roots a Γ (D .cells) (D .lowest)) ∙ go (boundAt a Γ) (globalAt a Γ)
     where
-      go : (x y : Option Kept) → orIn (cellFor x (D .cells) (D .lowest)) (cellFor y (D .cells) (D .lowest)) ≡ cellFor (orCell x y) (D .cells) (D .lowest)
+      go : (x y : Option Kept) → orElse (cellFor x (D .cells) (D .lowest)) (cellFor y (D .cells) (D .lowest)) ≡ cellFor (orCell x y) (D .cells) (D .lowest)
       go none y = refl
       go (some (kept o c)) y = refl
 
@@ -301,7 +302,7 @@ module _ (gs : List Global) (a : ℕ) (u : Cell) where
   put-first : (s : Slot) (bs : List (List Slot)) → (eqb (s .name) a ≡ false) → putOf a u (inFirst s bs) ≡ inFirst s (putOf a u bs)
   unfolding putOf putIn cellIn
   put-first s [] e = rw e refl
-  put-first s (b ∷ bs) e = rw e (go (isIn (cellIn a b)))
+  put-first s (b ∷ bs) e = rw e (go (isSome (cellIn a b)))
     where
       go : (t : Bool) → (if t then (s ∷ putIn a u b) ∷ bs else (s ∷ b) ∷ putOf a u bs) ≡ inFirst s (if t then putIn a u b ∷ bs else b ∷ putOf a u bs)
       go true = refl
@@ -426,8 +427,8 @@ pub writes : (gs : List Global) (a : ℕ) (Γ : List Around) (o : Owner) (c : �
 unfolding assignTo
 writes gs a Γ o c v y D h d g = go (boundAt a Γ) refl (rw (in-blocks gs a Γ (D .cells) (D .lowest)) refl) h
   where
-    go : (x : Option Kept) → boundAt a Γ ≡ x → isIn (cellOf a (blocksOf gs Γ (D .cells))) ≡ isIn (cellFor gs (boundAt a Γ) (D .cells) (D .lowest)) → orCell x (globalAt a Γ) ≡ some (kept o c)
-        → (if isIn (cellOf a (blocksOf gs Γ (D .cells))) then withBlocks (putOf a (assigned (seenV gs v)) (blocksOf gs Γ (D .cells))) (seen gs Γ D)
+    go : (x : Option Kept) → boundAt a Γ ≡ x → isSome (cellOf a (blocksOf gs Γ (D .cells))) ≡ isSome (cellFor gs (boundAt a Γ) (D .cells) (D .lowest)) → orCell x (globalAt a Γ) ≡ some (kept o c)
+        → (if isSome (cellOf a (blocksOf gs Γ (D .cells))) then withBlocks (putOf a (assigned (seenV gs v)) (blocksOf gs Γ (D .cells))) (seen gs Γ D)
         else withRoot (putIn a (assigned (seenV gs v)) (rootsOf gs Γ (D .cells) (D .lowest))) (seen gs Γ D))
         ≡ seen gs Γ (written o c (assigned v) D)
     go none e q f =

@@ -7,13 +7,14 @@ use native.Mathlib.Omega.{arith}
 use native.Mathlib.Nat.{add-zero}
 use lib.IntN.{pos}
 use lib.ListN.{length, getD, take, set, length-reverse}
+use Rattle.words.specs.Options.{orElse}
 use Rattle.heads.specs.Trees.{length-map}
 use lib.Seq.{getD-set-same, take-suc, getD-at, length-take-le}
 use Rattle.words.specs.Numbers.{halfAt, wordAt}
 use Rattle.values.specs.Types.{Ty, tyByte, integer, logical, bits}
 use Rattle.bytecode.specs.Instructions.{Instr, operate, getField, readFader, stop}
 use Rattle.bytecode.specs.Instructions.{call as callOp, make as makeOp, setLevel as setOp, assert as assertOp}
-use Rattle.values.specs.Operators.{unary, Unary, negate, absolute, complement, unaryCode, opType, takes, orElse, logicalOrBits}
+use Rattle.values.specs.Operators.{unary, Unary, negate, absolute, complement, unaryCode, opType, takes, logicalOrBits}
 use Rattle.language.specs.Tree.{Exprs, noExpr, countExprs}
 use Rattle.language.specs.Tree.{expr as more}
 use Rattle.compile_names.specs.Types.{took}

@@ -10,10 +10,11 @@ use lib.Dec.{eqb}
 use lib.ListN.{length, getD, set}
 use lib.Seq.{sets}
 use borrow.Author.Tests.{ne-eqb}
+use Rattle.words.specs.Options.{orElse}
 use Rattle.values.specs.Types.{Ty, integer, logical, bits, reference, tyByte}
 use Rattle.values.specs.Values.{log}
 use Rattle.values.specs.Operators.{binary, binaryCode, Binary, plus, minus, times, divide, remainder, less, atMost, greater, atLeast, equal, unequal, both, either, shiftLeft, shiftRight, takes}
-use Rattle.values.specs.Operators.{orElse, logicalOrBits, opType}
+use Rattle.values.specs.Operators.{logicalOrBits, opType}
 use Rattle.bytecode.specs.Instructions.{push, operate, go, goUnless}
 use Rattle.language.specs.Tree.{Global}
 use Rattle.language.specs.Faults.{isTy}

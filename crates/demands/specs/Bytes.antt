@@ -7,10 +7,11 @@ use Prim.Native.Nat.{ℕ}
 use native.Mathlib.Omega.{arith}
 use lib.ListN.{length}
 use borrow.Author.Tests.{eq-eqb}
+use Rattle.words.specs.Options.{keep}
 use Rattle.words.specs.Laws.{Bytes}
 use Rattle.values.specs.Ends.{Refusal, refusal, accepted}
 use Rattle.values.specs.Trace.{Item}
-use Rattle.bytecode.specs.Macro.{Macro, keep}
+use Rattle.bytecode.specs.Macro.{Macro}
 use Rattle.bytecode.specs.Rules.{judgeMacro}
 use Rattle.bytecode.specs.Machine.{Machine, Stuck, moved, stuck, freshMachine, step}
 use Rattle.bytecode.specs.Runs.{Answer, happens, spends, finishes, refuses, halts, run, Feed, runs}

@@ -8,6 +8,7 @@ use native.Mathlib.Omega.{arith}
 use lib.Dec.{ltb}
 use lib.ListN.{length}
 use borrow.Author.Tests.{ltb-true}
+use Rattle.words.specs.Lists.{all}
 use Rattle.words.specs.Laws.{Bytes}
 use Rattle.values.specs.Ends.{Judged, accepted, refused}
 use Rattle.values.specs.Trace.{set, hold, release, Item, event}
@@ -19,7 +20,7 @@ use Rattle.bytecode.specs.Macro.{Macro}
 use Rattle.bytecode.specs.Rules.{judgeMacro}
 use Rattle.bytecode.specs.Machine.{freshMachine}
 use Rattle.bytecode.specs.Runs.{Answer, happens, finishes, Ran, Feed, runs}
-use Rattle.bytecode.specs.Sound.{all, sound}
+use Rattle.bytecode.specs.Sound.{sound}
 use Rattle.bytecode.specs.State.{stateLength}
 use Rattle.bytecode.specs.Lent.{RanOn, startOn}
 use Rattle.examples.specs.Cases.{casesCompute}

@@ -6,6 +6,7 @@ use mathlib.Core.Option.{Option, none, some}
 use Prim.Native.Nat.{ℕ, zero, suc, _+_, _*_, _-_, _/_, _%_}
 use lib.Dec.{eqb}
 use lib.ListN.{replicate}
+use Rattle.words.specs.Options.{isSome}
 use Rattle.words.specs.Choice.{if_then_else_}
 use Rattle.values.specs.Ends.{Judged, accepted, refused}
 use Rattle.values.specs.Trace.{set, hold, release, Item, event, reading}
@@ -14,7 +15,7 @@ use Rattle.language.specs.Tree.{Tree}
 use Rattle.language.specs.Judge.{judgeTable}
 use Rattle.language.specs.Execute.{Ran, finished, going, illFormed, execute}
 use Rattle.language.specs.Computes.{languageComputes}
-use Rattle.bytecode.specs.Macro.{Macro, isSome}
+use Rattle.bytecode.specs.Macro.{Macro}
 use Rattle.bytecode.specs.Rules.{judgeMacro}
 use Rattle.bytecode.specs.Machine.{Machine, freshMachine}
 use Rattle.bytecode.specs.Runs.{Feed, runs}

@@ -10,11 +10,12 @@ use lib.Dec.{leb, ltb}
 use lib.ListN.{length, drop, take}
 use lib.Seq.{getD-drop, getD-take, drop-drop}
 use borrow.Author.Tests.{leb-true, ltb-true, ltb-false}
+use Rattle.words.specs.Options.{keep}
 use Rattle.words.specs.Choice.{if_then_else_}
 use Rattle.words.specs.Numbers.{byteAt, halfAt, wordAt}
 use Rattle.words.specs.Laws.{Size, one, two, four, numberAt, bytesIn, same-number}
 use Rattle.values.specs.Values.{Value}
-use Rattle.bytecode.specs.Macro.{Macro, keep}
+use Rattle.bytecode.specs.Macro.{Macro}
 use Rattle.bytecode.specs.Machine.{Activation, Made}
 use Rattle.bytecode.specs.State.{part, readValues, assignedAll, readActivation, readActivations, readRecord, readRecords}
 use Rattle.places.specs.Records.{classes, bodies, classPlace, bodyPlace, noMark, badClass}

@@ -9,6 +9,7 @@ use lib.Dec.{eqb, leb, ltb}
 use lib.ListN.{length, drop, length-reverse, length-drop}
 use lib.Seq.{length-take-le}
 use borrow.Author.Tests.{ltb-true, lt-ltb, le-ltb, lt-leb, le-leb, eqb-true}
+use Rattle.words.specs.Lists.{all}
 use Rattle.words.specs.Numbers.{byteAt}
 use Rattle.words.specs.Laws.{four, Bytes, number-below}
 use Rattle.values.specs.Types.{Ty, tyByte, sames}
@@ -16,7 +17,7 @@ use Rattle.values.specs.Values.{Value, tyOf, tysOf}
 use Rattle.bytecode.specs.Macro.{Macro}
 use Rattle.bytecode.specs.Instructions.{inBody}
 use Rattle.bytecode.specs.Machine.{Made}
-use Rattle.bytecode.specs.Sound.{all, soundValue, typedValues, cellValues, soundRecord, soundGroup, soundActivation}
+use Rattle.bytecode.specs.Sound.{soundValue, typedValues, cellValues, soundRecord, soundGroup, soundActivation}
 use Rattle.bytecode.specs.State.{part, assignedAll}
 use Rattle.places.specs.Search.{tops, alike, Clean}
 use Rattle.places.specs.Records.{classes, bodies, count, classPlace, bodyPlace, firstOf}

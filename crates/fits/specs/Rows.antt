@@ -11,14 +11,15 @@ use lib.ListN.{drop, getElem?}
 use lib.Seq.{getD-drop}
 use lib.Signed.{mag}
 use borrow.Author.Tests.{ne-eqb, lt-ltb, le-ltb}
+use Rattle.words.specs.Lists.{all}
+use Rattle.words.specs.Options.{keep}
 use Rattle.words.specs.Choice.{if_then_else_}
 use Rattle.words.specs.Numbers.{byteAt, wordAt, integerOf}
 use Rattle.words.specs.Laws.{four, same-number, integer-fits}
 use Rattle.values.specs.Types.{Ty, integer, logical, bits, reference, tyByte, same, sames}
 use Rattle.values.specs.Values.{Value, tyOf, tysOf, validWord, wordValue, wordRef}
-use Rattle.bytecode.specs.Macro.{keep}
 use Rattle.bytecode.specs.Machine.{Made}
-use Rattle.bytecode.specs.Sound.{all, soundValue, points, typedValues}
+use Rattle.bytecode.specs.Sound.{soundValue, points, typedValues}
 use Rattle.bytecode.specs.State.{readValue, readValues}
 use Rattle.places.specs.Records.{classes, noType}
 use Rattle.loader.specs.Views.{span, by-test, tyOn, type-byte, same-byte, type-reads}

@@ -9,14 +9,16 @@ use native.Mathlib.Omega.{arith}
 use lib.Dec.{eqb, leb, ltb}
 use lib.ListN.{length, drop}
 use borrow.Author.Tests.{leb-true, ltb-true, ltb-false, lt-ltb, le-ltb, le-leb, eq-eqb, eqb-true}
+use Rattle.words.specs.Lists.{all}
+use Rattle.words.specs.Options.{keep, isSome}
 use Rattle.words.specs.Choice.{if_then_else_}
 use Rattle.words.specs.Numbers.{byteAt, halfAt, wordAt}
 use Rattle.words.specs.Laws.{Bytes}
 use Rattle.values.specs.Types.{Ty}
-use Rattle.bytecode.specs.Macro.{Macro, keep, isSome}
+use Rattle.bytecode.specs.Macro.{Macro}
 use Rattle.bytecode.specs.Instructions.{instrAt}
 use Rattle.bytecode.specs.Machine.{Activation, Made, Machine, running, allHolds}
-use Rattle.bytecode.specs.Sound.{all, soundRecord, soundGroup, soundActivation, callsBody, soundWaiting, sound}
+use Rattle.bytecode.specs.Sound.{soundRecord, soundGroup, soundActivation, callsBody, soundWaiting, sound}
 use Rattle.bytecode.specs.State.{part, readActivations, readRecords, assemble, readRunning}
 use Rattle.bytecode.specs.Lent.{onlySound}
 use Rattle.places.specs.Search.{tops, Clean}

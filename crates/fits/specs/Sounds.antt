@@ -9,14 +9,16 @@ use lib.Dec.{eqb, leb}
 use lib.ListN.{length, drop, length-drop, length-reverse}
 use lib.Seq.{length-take-le, getD-drop}
 use borrow.Author.Tests.{eqb-true, eq-eqb, leb-true}
+use Rattle.words.specs.Lists.{all}
+use Rattle.words.specs.Options.{keep, isSome}
 use Rattle.words.specs.Choice.{if_then_else_}
 use Rattle.words.specs.Numbers.{byteAt, halfAt}
 use Rattle.words.specs.Laws.{Bytes}
 use Rattle.values.specs.Ends.{accepted, isCondition}
-use Rattle.bytecode.specs.Macro.{Macro, keep, isSome}
+use Rattle.bytecode.specs.Macro.{Macro}
 use Rattle.bytecode.specs.Rules.{judgeMacro}
 use Rattle.bytecode.specs.Machine.{Machine, unwinding, ended, endBy}
-use Rattle.bytecode.specs.Sound.{all, soundGroup, sound}
+use Rattle.bytecode.specs.Sound.{soundGroup, sound}
 use Rattle.bytecode.specs.State.{part, readUnwinding, decode}
 use Rattle.bytecode.specs.Lent.{onlySound, soundState}
 use Rattle.places.specs.Search.{Clean}

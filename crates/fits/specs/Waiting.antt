@@ -10,14 +10,15 @@ use lib.Dec.{eqb, leb, ltb}
 use lib.ListN.{length, drop, take, length-append, length-reverse, length-drop}
 use lib.Seq.{length-take-le, drop-cons, getD-take, getD-drop}
 use borrow.Author.Tests.{lt-ltb, eqb-true}
+use Rattle.words.specs.Lists.{all}
+use Rattle.words.specs.Options.{keep}
 use Rattle.words.specs.Choice.{if_then_else_}
 use Rattle.words.specs.Numbers.{byteAt}
 use Rattle.values.specs.Types.{Ty}
-use Rattle.bytecode.specs.Macro.{keep}
 use Rattle.bytecode.specs.Instructions.{Instr, exactly, ownerOf, operatorOf, instruction, bodyAt, instrAt}
 use Rattle.bytecode.specs.Rules.{onStack}
 use Rattle.bytecode.specs.Machine.{Made, allHolds}
-use Rattle.bytecode.specs.Sound.{all, soundGroup, soundActivation, callsBody, parametersOf, soundWaiting}
+use Rattle.bytecode.specs.Sound.{soundGroup, soundActivation, callsBody, parametersOf, soundWaiting}
 use Rattle.bytecode.specs.State.{part}
 use Rattle.places.specs.Search.{tops}
 use Rattle.places.specs.Records.{bodies, bodyPlace}

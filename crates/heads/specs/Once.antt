@@ -7,9 +7,10 @@ use native.Mathlib.Omega.{arith}
 use native.Mathlib.Decide.{ℕ-discrete}
 use lib.Dec.{eqb}
 use borrow.Author.Tests.{eq-eqb, ne-eqb}
+use Rattle.words.specs.Lists.{among}
 use Rattle.words.specs.Choice.{if_then_else_}
 use Rattle.values.specs.Ends.{refusal}
-use Rattle.language.specs.Faults.{among, twice}
+use Rattle.language.specs.Faults.{twice}
 use Rattle.scopes.specs.declared.Found.{Found}
 use Rattle.scopes.specs.declared.Found.the-variants.{Nothing, Def}
 use Rattle.scopes.specs.Environment.{Item, item, nameOf, find, addAll, passing, shut}

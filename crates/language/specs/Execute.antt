@@ -1,19 +1,20 @@
 -- How the tree runs: by names and blocks. (paper 01, How the tree runs; 000, section 7)
 -- Fuel bounds the loop rounds, caught gotos and calls under way; an execution that needs more is still going on.
-use mathlib.Core.Bool.{Bool, true, false, _&&_}
+use mathlib.Core.Bool.{Bool, true, false, _&&_, Bool·beq}
 use mathlib.Core.List.{List, [], _∷_, _++_, reverse}
 use mathlib.Core.Option.{Option, none, some}
 use Prim.Native.Nat.{ℕ, zero, suc, _+_}
 use lib.Dec.{eqb, ltb}
-use lib.IntN.{ℤ, pos}
+use lib.IntN.{pos}
 use lib.ListN.{length, getElem?}
 use lib.ListN.{set as put}
 use Rattle.words.specs.Choice.{if_then_else_}
+use Rattle.words.specs.Options.{isSome, orElse, ifSome}
 use Rattle.words.specs.Numbers.{wordOf}
 use Rattle.values.specs.Ends.{fieldOfNull, assertFalse, caseIndex, outOfRange, tooManyActivations, tooManyRecords}
-use Rattle.values.specs.Operators.{Binary, plus, minus, times, divide, remainder, less, atMost, greater, atLeast, equal, unequal, both, either, shiftLeft, shiftRight}
+use Rattle.values.specs.Operators.{Binary, both, either, binaryCode}
 use Rattle.values.specs.Arithmetic.{Outcome, gives, ends, mistyped}
-use Rattle.values.specs.Values.{Value, int, log, bit, ref, Cell, assigned, fresh, between, size, apply1, apply2}
+use Rattle.values.specs.Values.{Value, int, log, bit, ref, asInteger, asLogical, asReference, Cell, assigned, fresh, between, size, apply1, apply2}
 use Rattle.values.specs.Trace.{Event, set, hold, release, Item, event, reading}
 use Rattle.language.specs.Tree.{Typed, Decl, declare, holding, Stmt, block, assign, when, choose, while, goto, assert, call, setLevel, select, Items, noItem, label, item, Arms, lastArm, arm, Target, toVariable, toField, Expr, number, truth, pattern, null, variable, invoke, field, make, operate1, operate2, conditional, fader, blockExpr, Exprs, noExpr, expr, Body, proper, function, Global, local, class, procedure, Tree}
 use Rattle.language.specs.Limits.{locals}
@@ -28,7 +29,6 @@ abbrev pub slot : ℕ → Cell → Slot
 slot a c = record { name = a; cell = c }
 
 pub record Made : Type 0 where
-  pub class : ℕ
   pub fields : List Slot
 
 pub record Store : Type 0 where
@@ -58,33 +58,25 @@ unfoldable pub cellIn : ℕ → List Slot → Option Cell
 cellIn a [] = none
 cellIn a (s ∷ ss) = if eqb (s .name) a then some (s .cell) else cellIn a ss
 
-abbrev pub orIn : Option Cell → Option Cell → Option Cell
-orIn none y = y
-orIn (some c) y = some c
-
 unfoldable pub cellOf : ℕ → List (List Slot) → Option Cell
 cellOf a [] = none
-cellOf a (b ∷ bs) = orIn (cellIn a b) (cellOf a bs)
+cellOf a (b ∷ bs) = orElse (cellIn a b) (cellOf a bs)
 
 unfoldable pub putIn : ℕ → Cell → List Slot → List Slot
 putIn a c [] = []
 putIn a c (s ∷ ss) = if eqb (s .name) a then slot a c ∷ ss else s ∷ putIn a c ss
 
-abbrev pub isIn : Option Cell → Bool
-isIn none = false
-isIn (some c) = true
-
 -- the innermost block that has the variable
 unfoldable pub putOf : ℕ → Cell → List (List Slot) → List (List Slot)
 putOf a c [] = []
-putOf a c (b ∷ bs) = if isIn (cellIn a b) then putIn a c b ∷ bs else b ∷ putOf a c bs
+putOf a c (b ∷ bs) = if isSome (cellIn a b) then putIn a c b ∷ bs else b ∷ putOf a c bs
 
 unfoldable pub valueOf : ℕ → Store → Option Cell
-valueOf a σ = orIn (cellOf a (σ .blocks)) (cellIn a (σ .root))
+valueOf a σ = orElse (cellOf a (σ .blocks)) (cellIn a (σ .root))
 
 unfoldable pub assignTo : ℕ → Value → Store → Store
 assignTo a v σ =
-    if isIn (cellOf a (σ .blocks)) then withBlocks (putOf a (assigned v) (σ .blocks)) σ else withRoot (putIn a (assigned v) (σ .root)) σ
+    if isSome (cellOf a (σ .blocks)) then withBlocks (putOf a (assigned v) (σ .blocks)) σ else withRoot (putIn a (assigned v) (σ .root)) σ
 
 -- a block's variable; the root's own block is entered with no block open
 abbrev pub declareFirst : Slot → List (List Slot) → Store → Store
@@ -133,28 +125,22 @@ settled (gives x) X σ = done x σ
 settled (ends c) X σ = condition c X σ
 settled mistyped X σ = wrong
 
+-- of the type asked
+abbrev pub asked : {A B : Type 0} → Option A → (A → Result B) → Result B
+asked o f = ifSome o f wrong
+
 unfoldable pub branch : {A : Type 0} → Value → (Store → Result A) → (Store → Result A) → Store → Result A
-branch (int z) f g σ = wrong
-branch (log true) f g σ = f σ
-branch (log false) f g σ = g σ
-branch (bit n) f g σ = wrong
-branch (ref c r) f g σ = wrong
+branch v f g σ = asked (asLogical v) (λ b. if b then f σ else g σ)
 
 -- ── effects on values ──
-abbrev pub onInteger : {A : Type 0} → Value → (ℤ → Result A) → Result A
-onInteger (int z) f = f z
-onInteger (log b) f = wrong
-onInteger (bit n) f = wrong
-onInteger (ref c r) f = wrong
-
 -- "set (channel 1 to 512, level 0 to 255)"; 25: "channel, level or fader out of range"
 unfoldable pub doSet : Value → Value → Place → Store → Result (Unit {0})
-doSet v w X σ = onInteger v (λ x. onInteger w (λ y.
+doSet v w X σ = asked (asInteger v) (λ x. asked (asInteger w) (λ y.
     if between 1 512 x && between 0 255 y then done tt (say (set (size x) (size y)) σ) else condition outOfRange X σ))
 
 -- "A fader (1 to 64) reads a byte."
 unfoldable pub doFader : (ℕ → ℕ → ℕ) → Value → Place → Store → Result Value
-doFader oracle v X σ = onInteger v (λ x.
+doFader oracle v X σ = asked (asInteger v) (λ x.
     if between 1 64 x then (let r = oracle (σ .taken) (size x) in done (int (pos r)) (read (size x) r σ)) else condition outOfRange X σ)
 
 -- 22: "field of null"
@@ -162,23 +148,19 @@ abbrev pub cellValue : Option Cell → Store → Result Value
 cellValue none σ = wrong
 cellValue (some (assigned v)) σ = done v σ
 
-abbrev pub ofRecord : {A : Type 0} → Option Made → (Made → Result A) → Result A
-ofRecord none f = wrong
-ofRecord (some m) f = f m
+abbrev pub onMade : {A : Type 0} → Option ℕ → Place → Store → (ℕ → Made → Result A) → Result A
+onMade none X σ f = condition fieldOfNull X σ
+onMade (some n) X σ f = asked (getElem? (σ .records) n) (f n)
 
 abbrev pub onRecord : {A : Type 0} → Value → Place → Store → (ℕ → Made → Result A) → Result A
-onRecord (int z) X σ f = wrong
-onRecord (log b) X σ f = wrong
-onRecord (bit n) X σ f = wrong
-onRecord (ref c none) X σ f = condition fieldOfNull X σ
-onRecord (ref c (some n)) X σ f = ofRecord (getElem? (σ .records) n) (f n)
+onRecord v X σ f = asked (asReference v) (λ r. onMade (r .target) X σ f)
 
 unfoldable pub doField : ℕ → Value → Place → Store → Result Value
 doField a v X σ = onRecord v X σ (λ n m. cellValue (cellIn a (m .fields)) σ)
 
 unfoldable pub doPutField : ℕ → Value → Value → Place → Store → Result (Unit {0})
 doPutField a v w X σ = onRecord v X σ (λ n m.
-    done tt (withRecords (put (σ .records) n (record { class = m .class; fields = putIn a (assigned w) (m .fields) })) σ))
+    done tt (withRecords (put (σ .records) n (record { fields = putIn a (assigned w) (m .fields) })) σ))
 
 -- "a target's reference before the value, and a null target ends by 22 after the value"
 pub data Location : Type 0 where
@@ -199,34 +181,19 @@ unfoldable pub doMake : ℕ → Option (List Typed) → List Value → Place →
 doMake c none vs X σ = wrong
 doMake c (some xs) vs X σ =
     if ltb (length (σ .records)) 256
-    then done (ref c (some (length (σ .records)))) (withRecords (σ .records ++ (record { class = c; fields = pairUp xs vs } ∷ [])) σ)
+    then done (ref c (some (length (σ .records)))) (withRecords (σ .records ++ (record { fields = pairUp xs vs } ∷ [])) σ)
     else condition tooManyRecords X σ
 
 -- "Logical `X and Y` is Y only where X is true, and `or` likewise": the first operand may decide alone
+abbrev pub sameBinary : Binary → Binary → Bool
+sameBinary o p = eqb (binaryCode o) (binaryCode p)
+
+-- the value that decides
+unfoldable pub deciding : Binary → Option Bool
+deciding o = if sameBinary o both then some false else if sameBinary o either then some true else none
+
 unfoldable pub decides : Binary → Value → Bool
-decides both (log false) = true
-decides both (log true) = false
-decides both (int z) = false
-decides both (bit n) = false
-decides both (ref c r) = false
-decides either (log true) = true
-decides either (log false) = false
-decides either (int z) = false
-decides either (bit n) = false
-decides either (ref c r) = false
-decides plus v = false
-decides minus v = false
-decides times v = false
-decides divide v = false
-decides remainder v = false
-decides less v = false
-decides atMost v = false
-decides greater v = false
-decides atLeast v = false
-decides equal v = false
-decides unequal v = false
-decides shiftLeft v = false
-decides shiftRight v = false
+decides o v = ifSome (deciding o) (λ d. ifSome (asLogical v) (Bool·beq d) false) false
 
 -- ── blocks ──
 -- "Holds are taken in order when a block is entered, and released last first on every way out."
@@ -243,9 +210,9 @@ within [] X σ f = f X σ
 within (declare x ∷ ds) X σ f = within ds X (declareIn x σ) f
 within (holding g ∷ ds) X σ f = letGo g (within ds (under g X) (say (hold g) σ) f)
 
-unfoldable pub innerBlocks : List (List Slot) → List (List Slot)
-innerBlocks [] = []
-innerBlocks (b ∷ bs) = bs
+unfoldable pub outerBlocks : List (List Slot) → List (List Slot)
+outerBlocks [] = []
+outerBlocks (b ∷ bs) = bs
 
 -- the blocks as they were outside
 unfoldable pub leaving : {A : Type 0} → (Store → List (List Slot)) → Result A → Result A
@@ -255,8 +222,8 @@ leaving f (ended c σ) = ended c σ
 leaving f (later σ) = later σ
 leaving f wrong = wrong
 
-abbrev pub inBlock : {A : Type 0} → List Decl → Place → Store → (Place → Store → Result A) → Result A
-inBlock ds X σ f = leaving (λ τ. innerBlocks (τ .blocks)) (within ds X (withBlocks ([] ∷ σ .blocks) σ) f)
+abbrev pub newBlock : {A : Type 0} → List Decl → Place → Store → (Place → Store → Result A) → Result A
+newBlock ds X σ f = leaving (λ τ. outerBlocks (τ .blocks)) (within ds X (withBlocks ([] ∷ σ .blocks) σ) f)
 
 -- the statements after a label
 unfoldable pub from : ℕ → Items → Option Items
@@ -324,7 +291,7 @@ armAt (suc (suc n)) f g X σ = g (suc n) σ
 module _ (W : World) (r : Less) where
   unfoldable mutual
     pub exec : Stmt → Place → Store → Result (Unit {0})
-    exec (block ds is) X σ = inBlock ds X σ (λ Y τ. catch r is Y (execItems is Y τ))
+    exec (block ds is) X σ = newBlock ds X σ (λ Y τ. catch r is Y (execItems is Y τ))
     exec (assign x e) X σ = next (locate x X σ) (λ w τ. next (eval e X τ) (λ v ρ. doAssign w v X ρ))
     exec (when e s) X σ = next (eval e X σ) (λ v τ. branch v (λ ρ. exec s X ρ) (λ ρ. done tt ρ) τ)
     exec (choose e s t) X σ = next (eval e X σ) (λ v τ. branch v (λ ρ. exec s X ρ) (λ ρ. exec t X ρ) τ)
@@ -334,7 +301,7 @@ module _ (W : World) (r : Less) where
     exec (assert e) X σ = next (eval e X σ) (λ v τ. branch v (λ ρ. done tt ρ) (λ ρ. condition assertFalse X ρ) τ)
     exec (call a es) X σ = next (evals es X σ) (λ vs τ. activate (procedureIn a (W .globals)) (r .callS) vs X τ)
     exec (setLevel e f) X σ = next (eval e X σ) (λ v τ. next (eval f X τ) (λ w ρ. doSet v w X ρ))
-    exec (select e rs) X σ = next (eval e X σ) (λ v τ. onInteger v (λ z. execArm rs (size z) X τ))
+    exec (select e rs) X σ = next (eval e X σ) (λ v τ. asked (asInteger v) (λ z. execArm rs (size z) X τ))
 
     pub execItems : Items → Place → Store → Result (Unit {0})
     execItems noItem X σ = done tt σ
@@ -365,7 +332,7 @@ module _ (W : World) (r : Less) where
         next (eval e X σ) (λ v τ. if decides o v then done v τ else next (eval f X τ) (λ w ρ. settled (apply2 o v w) X ρ))
     eval (conditional e f g) X σ = next (eval e X σ) (λ v τ. branch v (λ ρ. eval f X ρ) (λ ρ. eval g X ρ) τ)
     eval (fader e) X σ = next (eval e X σ) (λ v τ. doFader (W .oracle) v X τ)
-    eval (blockExpr ds is e) X σ = inBlock ds X σ (λ Y τ. next (catch r is Y (execItems is Y τ)) (λ u ρ. eval e Y ρ))
+    eval (blockExpr ds is e) X σ = newBlock ds X σ (λ Y τ. next (catch r is Y (execItems is Y τ)) (λ u ρ. eval e Y ρ))
 
     pub evals : Exprs → Place → Store → Result (List Value)
     evals noExpr X σ = done [] σ

@@ -7,6 +7,7 @@ use Prim.Native.Nat.{ℕ, suc, _+_}
 use lib.Dec.{eqb}
 use lib.ListN.{length}
 use Rattle.words.specs.Choice.{if_then_else_}
+use Rattle.words.specs.Lists.{among}
 use Rattle.values.specs.Types.{Ty, integer, logical, bits, reference, same, fits, allFit}
 use Rattle.values.specs.Ends.{Refusal, refusal}
 use Rattle.values.specs.Operators.{unary, binary, opType}
@@ -159,10 +160,6 @@ aimed (found (isField c t) w) p = refusal 4 p ∷ []
 aimed (found (isProcedure ts us) w) p = refusal 4 p ∷ []
 
 -- 3: "twice in a block", at "the second of two"
-unfoldable pub among : ℕ → List ℕ → Bool
-among a [] = false
-among a (b ∷ bs) = eqb a b || among a bs
-
 abbrev pub twice : ℕ → List ℕ → ℕ → List Refusal
 twice a seen p = faultIf (among a seen) 3 p
 

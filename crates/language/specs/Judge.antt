@@ -8,6 +8,7 @@ use lib.ListN.{length}
 use lib.Signed.{mag}
 use lib.Seq.{sets}
 use Rattle.words.specs.Choice.{if_then_else_}
+use Rattle.words.specs.Lists.{all}
 use Rattle.values.specs.Ends.{Refusal, refusal, Judged, accepted, refused}
 use Rattle.language.specs.Tree.{Tree}
 use Rattle.language.specs.Table.{Entry, inLayout, flatten, bytesOf, nesting, classCount, procedureCount, readTable}
@@ -52,10 +53,6 @@ unfoldable pub compileOn : (Tree → List ℕ) → List ℕ → List ℕ → Com
 compileOn macroOf l out = compileTree macroOf (judgeTable l) out
 
 -- ── programs ──
-unfoldable pub all : {A : Type 0} → (A → Bool) → List A → Bool
-all f [] = true
-all f (x ∷ xs) = f x && all f xs
-
 unfoldable pub total : {A : Type 0} → (A → ℕ) → List A → ℕ
 total f [] = 0
 total f (x ∷ xs) = f x + total f xs

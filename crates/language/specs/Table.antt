@@ -7,6 +7,7 @@ use lib.Dec.{eqb, leb, ltb}
 use lib.IntN.{ℤ, pos, negsuc, natAbs}
 use lib.ListN.{length, drop}
 use Rattle.words.specs.Choice.{if_then_else_}
+use Rattle.words.specs.Options.{isSome}
 use Rattle.words.specs.Numbers.{half, word, halfAt, wordAt, integerOf, wordOf}
 use Rattle.values.specs.Types.{Ty, integer, logical, bits, reference, tyCode}
 use Rattle.values.specs.Ends.{refusal, Judged, accepted, refused}
@@ -33,10 +34,6 @@ natural (negsuc n) = false
 abbrev pub within : ℕ → ℕ → ℤ → Bool
 within lo hi (pos n) = leb lo n && leb n hi
 within lo hi (negsuc n) = false
-
-abbrev pub isSome : {A : Type 0} → Option A → Bool
-isSome none = false
-isSome (some x) = true
 
 -- "Types: 1 integer, 2 logical, 3 bits, 65,536 + class name for a reference."
 abbrev pub tyOfCode : ℕ → Option Ty

@@ -8,6 +8,7 @@ use Prim.Native.Nat.{ℕ, zero, suc}
 use lib.Dec.{ltb}
 use lib.IntN.{ℤ}
 use lib.ListN.{length, getElem?}
+use Rattle.words.specs.Options.{isSome}
 use Rattle.words.specs.Choice.{if_then_else_}
 use Rattle.values.specs.Arithmetic.{Outcome, gives, ends, mistyped}
 use Rattle.values.specs.Values.{Value, int, log, bit, ref, Cell, assigned, fresh, between, size, apply1, apply2}
@@ -15,7 +16,7 @@ use Rattle.values.specs.Trace.{set, hold, Item, event, reading}
 use Rattle.language.specs.Tree.{Typed, Decl, declare, holding, Target, toVariable, toField, Exprs, noExpr, expr, Body, proper, function}
 use Rattle.language.specs.Tree.{Stmt, block, assign, when, choose, while, goto, assert, call, setLevel, select, Items, noItem, label, item, Arms, lastArm, arm}
 use Rattle.language.specs.Tree.{Expr, number, truth, pattern, null, variable, invoke, field, make, operate1, operate2, conditional, fader, blockExpr}
-use Rattle.language.specs.Execute.{Slot, slot, Made, Store, withBlocks, withRoot, say, cellIn, cellOf, putIn, putOf, isIn, valueOf, assignTo, declareFirst, declareIn}
+use Rattle.language.specs.Execute.{Slot, slot, Made, Store, withBlocks, withRoot, say, cellIn, cellOf, putIn, putOf, valueOf, assignTo, declareFirst, declareIn}
 use Rattle.language.specs.Execute.{Result, done, jump, wrong, next, Place, under, deeper, condition, settled, branch, onInteger, cellValue, ofRecord, onRecord}
 use Rattle.language.specs.Execute.{doSet, doFader, doField, doPutField, ofVariable, ofField, Location, doAssign, pairUp, doMake, decides}
 use Rattle.language.specs.Execute.{letGo, within, leaving, inBlock, Less, catch, Procedure, procedureIn, classIn, World, activate, armAt}
@@ -78,7 +79,7 @@ chosen false σ τ ρ h k = k
 assigned-to : (a : ℕ) (v : Value) (σ : Store) → σ .trace ≡ assignTo a v σ .trace
 unfolding assignTo
 assigned-to a v σ =
-    chosen (isIn (cellOf a (σ .blocks))) σ (withBlocks (putOf a (assigned v) (σ .blocks)) σ) (withRoot (putIn a (assigned v) (σ .root)) σ) refl refl
+    chosen (isSome (cellOf a (σ .blocks))) σ (withBlocks (putOf a (assigned v) (σ .blocks)) σ) (withRoot (putIn a (assigned v) (σ .root)) σ) refl refl
 
 module _ (R : Claim) (L : Lawful R) where
   -- ── values and effects ──

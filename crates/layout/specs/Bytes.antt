@@ -7,13 +7,14 @@ use native.Mathlib.Omega.{arith}
 use lib.Dec.{eqb, leb}
 use lib.ListN.{length, length-append}
 use borrow.Author.Tests.{leb-true, eqb-true}
+use Rattle.words.specs.Lists.{all}
 use Rattle.words.specs.Numbers.{half, word}
 use Rattle.words.specs.Laws.{Bytes}
 use Rattle.values.specs.Ends.{isCondition}
 use Rattle.values.specs.Values.{Value, valueWord}
 use Rattle.bytecode.specs.Macro.{Macro}
 use Rattle.bytecode.specs.Machine.{Activation, Made, endBy, Machine, running, unwinding, ended, allHolds}
-use Rattle.bytecode.specs.Sound.{all, cellValues, soundGroup, sound}
+use Rattle.bytecode.specs.Sound.{cellValues, soundGroup, sound}
 use Rattle.bytecode.specs.State.{pad, flat, zeros, wordsOf, typesOf, typeByte, activationBytes, recordBytes, headerBytes, stateBytes, encode}
 use Rattle.loading.specs.Terms.{Each}
 use Rattle.loading.specs.Tests.{halves}

@@ -10,13 +10,14 @@ use lib.Dec.{leb}
 use lib.ListN.{length, getD, take, drop, replicate, length-append, length-reverse, length-map}
 use lib.Seq.{take-at, drop-at, drop-append-add}
 use borrow.Author.Tests.{leb-true, le-leb, eq-eqb}
+use Rattle.words.specs.Lists.{all}
 use Rattle.words.specs.Numbers.{byteAt, halfAt, word}
 use Rattle.words.specs.Laws.{two, four, number-of-bytes}
 use Rattle.values.specs.Ends.{isCondition}
 use Rattle.values.specs.Values.{Value, valueWord, Cell, assigned}
 use Rattle.bytecode.specs.Macro.{Macro}
 use Rattle.bytecode.specs.Machine.{Activation, Made, endBy, Machine, running, unwinding, ended, allHolds}
-use Rattle.bytecode.specs.Sound.{all, cellValues, soundGroup, sound}
+use Rattle.bytecode.specs.Sound.{cellValues, soundGroup, sound}
 use Rattle.bytecode.specs.State.{pad, flat, zeros, wordsOf, typesOf, typeByte, activationBytes, recordBytes, headerBytes, stateBytes, encode, part, readValues, assignedAll, readActivation, readActivations, readRecord, readRecords, readRunning, readUnwinding, decode}
 use Rattle.loading.specs.Terms.{Each}
 use Rattle.layout.specs.Rows.{length-pad, pad-fill, flat-append}

@@ -6,7 +6,7 @@ use mathlib.Core.Option.{some}
 use Prim.Native.Nat.{ℕ, zero, suc, _+_, _<_}
 use native.Mathlib.Omega.{arith}
 use lib.ListN.{length, getElem?}
-use Rattle.bytecode.specs.Sound.{all}
+use Rattle.words.specs.Lists.{all}
 use Rattle.loading.specs.Tests.{never-some, halves}
 use Rattle.loading.specs.Terms.{Each}
 

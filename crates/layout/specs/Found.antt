@@ -8,12 +8,13 @@ use Prim.Native.Nat.{ℕ, zero, suc, _≤_, _<_}
 use lib.Dec.{ltb}
 use lib.ListN.{length, getElem?}
 use borrow.Author.Tests.{ltb-true}
+use Rattle.words.specs.Options.{keep, orElse}
 use Rattle.words.specs.Choice.{if_then_else_}
 use Rattle.values.specs.Types.{Ty, integer, logical, bits, reference, sames, fits}
-use Rattle.values.specs.Operators.{negate, absolute, complement, plus, minus, times, divide, remainder, less, atMost, greater, atLeast, equal, unequal, both, either, shiftLeft, shiftRight, Operator, unary, binary, orElse, anyOne, opType}
+use Rattle.values.specs.Operators.{negate, absolute, complement, plus, minus, times, divide, remainder, less, atMost, greater, atLeast, equal, unequal, both, either, shiftLeft, shiftRight, Operator, unary, binary, anyOne, opType}
 use Rattle.values.specs.Operators.{takes as asks}
 use Rattle.values.specs.Values.{Value, int, log, bit, ref}
-use Rattle.bytecode.specs.Macro.{Body, Shape, shape, Macro, shapeIn, keep}
+use Rattle.bytecode.specs.Macro.{Body, Shape, shape, Macro, shapeIn}
 use Rattle.bytecode.specs.Instructions.{Owner, own, root, Instr, end, push, load, store, operate, go, goUnless, call, return, make, getField, putField, setLevel, readFader, takeHold, letHold, assert, stop, bodyAt, inBody, instrAt}
 use Rattle.bytecode.specs.Rules.{Effect, plain, takes, lets, jumps, forks, leaves, stops, wrong, Flow, on, halt, strip, stripped, onIf, oneLess, roomy, flow, flowOf, flowAt, passed, orFlow, atFirst, into, foundAt, isFirst, bodyOf, effect, giving, taking, operating, pushing, calling, calledBody, making, cellsOf, cellTy, fieldTy, endingIn, returningIn, sameShape}
 use Rattle.loading.specs.Terms.{Each, Named}

@@ -8,8 +8,9 @@ use lib.Dec.{eqb}
 use lib.ListN.{length}
 use lib.Seq.{sets}
 use borrow.Author.Tests.{eqb-true, eq-eqb}
+use Rattle.words.specs.Options.{keep}
 use Rattle.words.specs.Laws.{Bytes, numberAt, bytesOf}
-use Rattle.bytecode.specs.Macro.{Macro, keep}
+use Rattle.bytecode.specs.Macro.{Macro}
 use Rattle.bytecode.specs.Machine.{Machine}
 use Rattle.bytecode.specs.Sound.{sound}
 use Rattle.bytecode.specs.State.{stateLength, encode, decode}

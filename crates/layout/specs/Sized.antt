@@ -11,6 +11,7 @@ use borrow.Author.Tests.{ltb-true, leb-true, eqb-true, lt-ltb, le-leb, ne-eqb}
 use mir.Val.{SFits}
 use mir.Syntax.{w32}
 use lib.Signed.{mag}
+use Rattle.words.specs.Lists.{all}
 use Rattle.words.specs.Laws.{integer-back, word-below}
 use Rattle.values.specs.Types.{Ty, reference, sames}
 use Rattle.values.specs.Values.{Value, int, log, bit, ref, tyOf, tysOf, valueWord}
@@ -18,7 +19,7 @@ use Rattle.bytecode.specs.Macro.{Body, Macro, Shape, tyOfByte}
 use Rattle.bytecode.specs.Instructions.{bodyAt, inBody, instrAt}
 use Rattle.bytecode.specs.Rules.{foundAt, onStack}
 use Rattle.bytecode.specs.Machine.{Activation, Made, running}
-use Rattle.bytecode.specs.Sound.{all, soundValue, classIs, typedValues, cellValues, ofClass, soundRecord, soundGroup, soundAt, soundActivation, callsBody, parametersOf, soundWaiting, sound}
+use Rattle.bytecode.specs.Sound.{soundValue, classIs, typedValues, cellValues, ofClass, soundRecord, soundGroup, soundAt, soundActivation, callsBody, parametersOf, soundWaiting, sound}
 use Rattle.bytecode.specs.State.{typeByte, readValue}
 use Rattle.loading.specs.Terms.{Each, Named}
 use Rattle.layout.specs.Slots.{length-cells}

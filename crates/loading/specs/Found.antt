@@ -8,9 +8,10 @@ use native.Mathlib.Omega.{arith}
 use lib.Dec.{eqb, leb, ltb}
 use lib.ListN.{length, getElem?}
 use borrow.Author.Tests.{eqb-true, eq-eqb, leb-true, ltb-false, le-leb, not-false}
+use Rattle.words.specs.Options.{keep, isSome}
 use Rattle.words.specs.Choice.{if_then_else_}
 use Rattle.values.specs.Types.{Ty, logical, fits, sames}
-use Rattle.bytecode.specs.Macro.{Body, Shape, shape, Macro, shapeIn, isSome, keep}
+use Rattle.bytecode.specs.Macro.{Body, Shape, shape, Macro, shapeIn}
 use Rattle.bytecode.specs.Instructions.{Instr, bodyAt, inBody, instrAt}
 use Rattle.bytecode.specs.Rules.{bodyOf, isFirst, Effect, plain, takes, lets, jumps, forks, leaves, stops, wrong, effect, Flow, on, fork, jump, halt, broken, strip, roomy, onIf, stripped, oneLess, sameShape, flow, flowOf, flowAt, passed, orFlow, atFirst, into, foundAt, headFault, bodyFault, shapeFault, equalShape, lands, closes, flowFault, opFault, faultAt}
 use Rattle.loading.specs.Tests.{never, never-some, same-some, both, halves, neither, kept, same→≡, sames→≡, sameShape→≡}

@@ -9,12 +9,13 @@ use lib.Dec.{eqb, leb, ltb}
 use lib.ListN.{length, getElem?, drop, length-reverse}
 use lib.Seq.{getD-drop}
 use borrow.Author.Tests.{eqb-true, eqb-false, leb-true, ltb-true, not-true}
+use Rattle.words.specs.Options.{keep, isSome}
 use Rattle.words.specs.Choice.{if_then_else_}
 use Rattle.words.specs.Numbers.{byteAt, halfAt, wordAt}
 use Rattle.words.specs.Laws.{Bytes, two, four, number-below}
 use Rattle.values.specs.Types.{Ty, integer, logical, bits, reference}
 use Rattle.values.specs.Ends.{accepted}
-use Rattle.bytecode.specs.Macro.{Body, Code, shape, Placed, Macro, Cut, cut, marked, tyOfByte, keep, readTypes, readClass, readResult, rises, readBody, readCode, shapeIn, isSome, readShape, Parsed, parsed, unread, orUnread, records, onward, headReads, readEnd, parseMacro, readOr8, readMacro}
+use Rattle.bytecode.specs.Macro.{Body, Code, shape, Placed, Macro, Cut, cut, marked, tyOfByte, readTypes, readClass, readResult, rises, readBody, readCode, shapeIn, readShape, Parsed, parsed, unread, orUnread, records, onward, headReads, readEnd, parseMacro, readOr8, readMacro}
 use Rattle.loading.specs.Tests.{never, never-some, same-some, halves, chosen, kept}
 use Rattle.loading.specs.Terms.{Each, Named, ReadClass, ReadBody, ReadShape, RisesFrom, Apart, WellFormed, OfBytes, Narrow}
 

@@ -7,9 +7,10 @@ use Prim.Native.Nat.{ℕ, _+_}
 use native.Mathlib.Omega.{arith}
 use lib.Dec.{eqb}
 use borrow.Author.Tests.{eqb-true, eq-eqb}
+use Rattle.words.specs.Options.{keep}
 use Rattle.words.specs.Choice.{if_then_else_}
 use Rattle.values.specs.Types.{Ty, integer, logical, bits, reference, tyCode, same, sames}
-use Rattle.bytecode.specs.Macro.{Shape, shape, keep}
+use Rattle.bytecode.specs.Macro.{Shape, shape}
 use Rattle.bytecode.specs.Rules.{sameShape}
 
 pub never : {A : Type 0} → false ≡ true → A

@@ -8,12 +8,13 @@ use native.Mathlib.Omega.{arith}
 use lib.ListN.{length, getElem?}
 use lib.ListN.{set as replace}
 use borrow.Author.Tests.{ne-eqb}
+use Rattle.words.specs.Options.{keep}
 use Rattle.words.specs.Numbers.{byteAt, wordAt}
 use Rattle.values.specs.Types.{fits}
 use Rattle.values.specs.Operators.{Unary, Binary, Operator, unary, binary, unaryOf, binaryOf}
 use Rattle.values.specs.Arithmetic.{Outcome, gives, ends, mistyped}
 use Rattle.values.specs.Values.{Value, tyOf, valueWord, Cell, assigned, apply1, apply2}
-use Rattle.bytecode.specs.Macro.{Macro, keep}
+use Rattle.bytecode.specs.Macro.{Macro}
 use Rattle.bytecode.specs.Instructions.{Owner, own, root, ownerOf, operatorOf, orBinary}
 use Rattle.bytecode.specs.Machine.{Activation, Made, badFrame, badType, condition, goesOn, settled, given, pushCell, cellTy, cellsFor, rootOf, doLoad, doStore, doOperate}
 use Rattle.bytecode.specs.Sound.{soundValue, cellValue}

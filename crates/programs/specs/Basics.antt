@@ -4,7 +4,7 @@ use mathlib.Core.Bool.{Bool, true, false, _&&_}
 use mathlib.Core.List.{List, [], _∷_, _++_}
 use Prim.Native.Nat.{ℕ}
 use native.Mathlib.Omega.{arith}
-use Rattle.language.specs.Judge.{all}
+use Rattle.words.specs.Lists.{all}
 
 -- whatever from a contradiction, which `cc` finds among the equations at hand
 pub clash : {A : Type 0} → _≡_ {A = ℕ} 0 1 → A

@@ -11,10 +11,11 @@ use lib.Signed.{mag}
 use borrow.Author.Tests.{ltb-true, lt-ltb}
 use mir.Syntax.{w32}
 use mir.Val.{SFits}
+use Rattle.words.specs.Lists.{all}
 use Rattle.words.specs.Numbers.{half, word, halfAt, wordAt, integerOf, wordOf}
 use Rattle.words.specs.Laws.{Bytes, two, four, number-of-bytes, number-below, bytes-slice, integer-back, word-back, integer-fits}
 use Rattle.language.specs.Table.{Entry, bytesOf, entries}
-use Rattle.language.specs.Judge.{all, inFields}
+use Rattle.language.specs.Judge.{inFields}
 use Rattle.programs.specs.Basics.{both-left, both-right}
 
 -- eight bytes and those after them

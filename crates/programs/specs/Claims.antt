@@ -4,12 +4,13 @@ use mathlib.Core.Bool.{true}
 use mathlib.Core.List.{List, [], _∷_, _++_}
 use Prim.Native.Nat.{ℕ, _/_, _%_, _≤_, _<_}
 use lib.ListN.{length}
+use Rattle.words.specs.Lists.{all}
 use Rattle.values.specs.Ends.{Refusal, refusal, Judged, accepted, refused}
 use Rattle.language.specs.Tree.{Tree}
 use Rattle.language.specs.Table.{Entry, inLayout, flatten, nesting, classCount, procedureCount, entries}
 use Rattle.language.specs.Faults.{faults}
 use Rattle.language.specs.Limits.{limits}
-use Rattle.language.specs.Judge.{all, total}
+use Rattle.language.specs.Judge.{total}
 
 -- a tree that entries can be read as: it keeps to the layout, the nesting and the counts
 pub record Readable (t : Tree) : Type 0 where

@@ -7,10 +7,11 @@ use native.Mathlib.Omega.{arith}
 use lib.Dec.{eqb, leb}
 use lib.IntN.{ℤ, pos, negsuc, natAbs}
 use borrow.Author.Tests.{eqb-true, ne-eqb, le-leb, leb-true}
+use Rattle.words.specs.Options.{isSome}
 use Rattle.words.specs.Choice.{if_then_else_}
 use Rattle.values.specs.Types.{Ty, integer, logical, bits, reference, tyCode}
 use Rattle.values.specs.Operators.{Unary, negate, absolute, complement, Binary, plus, minus, times, divide, remainder, less, atMost, greater, atLeast, equal, unequal, both, either, shiftLeft, shiftRight, unaryCode, binaryCode, unaryOf, binaryOf}
-use Rattle.language.specs.Table.{nothing, natural, within, tyOfCode, isSome}
+use Rattle.language.specs.Table.{nothing, natural, within, tyOfCode}
 use Rattle.programs.specs.Basics.{clash, both-left}
 
 -- ── what a code stands for ──

@@ -4,11 +4,12 @@ use mathlib.Core.List.{List, [], _∷_, _++_, append-assoc}
 use Prim.Native.Nat.{ℕ, suc, _+_}
 use native.Mathlib.Omega.{arith}
 use lib.ListN.{length}
+use Rattle.words.specs.Lists.{among}
 use Rattle.values.specs.Types.{Ty, integer, logical, bits, reference}
 use Rattle.values.specs.Ends.{Refusal, refusal}
 use Rattle.language.specs.Tree.{Typed, Decl, declare, holding, Stmt, block, assign, when, choose, while, goto, assert, call, setLevel, select, Items, noItem, label, item, Arms, lastArm, arm, Target, toVariable, toField, Expr, number, truth, pattern, null, variable, invoke, field, make, operate1, operate2, conditional, fader, blockExpr, Exprs, noExpr, expr, Body, proper, function, Global, local, class, procedure, Tree}
 use Rattle.language.specs.Names.{Sort, isVariable, isLabel, isClass, isField, isProcedure, Scope, blockOf, expressionOf, procedureOf, rootOf, Found, nowhere, found, lookup}
-use Rattle.language.specs.Faults.{typeE, typesE, isTy, sameTy, fitsTy, hasTy, typeTarget, faultIf, named, variableSort, classSort, classFrom, fieldOf, callOf, aimed, among, typeFaults, sizeS, sizeItems, sizeArms, sizeTarget, sizeE, sizeEs, faultsTyped, faultsHead, namesHead, faultsS, faultsItems, faultsArms, faultsTarget, faultsE, faultsEs, sizeBody, sizeGlobal, faultsBody, bodyFits, namesGlobal, faultsGlobal, faultsGlobals, faults}
+use Rattle.language.specs.Faults.{typeE, typesE, isTy, sameTy, fitsTy, hasTy, typeTarget, faultIf, named, variableSort, classSort, classFrom, fieldOf, callOf, aimed, typeFaults, sizeS, sizeItems, sizeArms, sizeTarget, sizeE, sizeEs, faultsTyped, faultsHead, namesHead, faultsS, faultsItems, faultsArms, faultsTarget, faultsE, faultsEs, sizeBody, sizeGlobal, faultsBody, bodyFits, namesGlobal, faultsGlobal, faultsGlobals, faults}
 use Rattle.language.specs.Judge.{total}
 use Rattle.programs.specs.Spans.{Before, Spans, none, widen, spans-append, spans-then, post-one, post-two, post-three, spans-one, spans-if, before-if, three-first}
 

@@ -6,12 +6,13 @@ use mathlib.Core.Logic.{_↔_}
 use Prim.Native.Nat.{ℕ, _*_, _/_, _%_, _≤_}
 use native.Mathlib.Omega.{arith}
 use lib.ListN.{length}
+use Rattle.words.specs.Lists.{all}
 use Rattle.words.specs.Laws.{Bytes}
 use Rattle.values.specs.Ends.{Refusal, accepted, refused}
 use Rattle.language.specs.Tree.{Tree}
 use Rattle.language.specs.Table.{Entry, flatten, bytesOf, took, first, formRoot}
 use Rattle.language.specs.Faults.{faults}
-use Rattle.language.specs.Judge.{judgeTable, all, inFields, Program}
+use Rattle.language.specs.Judge.{judgeTable, inFields, Program}
 use Rattle.programs.specs.Bytes.{bytes-back, fields-kept, entries-all, length-bytes}
 use Rattle.programs.specs.Claims.{Readable, entriesOf, Verdict}
 use Rattle.programs.specs.Order.{spans-faults}

@@ -4,8 +4,8 @@ use mathlib.Core.Bool.{true}
 use mathlib.Core.List.{List, [], _∷_, _++_, append-assoc}
 use Prim.Native.Nat.{ℕ, suc, _≤_, max}
 use native.Mathlib.Omega.{arith}
+use Rattle.words.specs.Lists.{all}
 use Rattle.language.specs.Table.{Entry, inLayout, Reader, took, after, made, two, three, times, first}
-use Rattle.language.specs.Judge.{all}
 use Rattle.programs.specs.Basics.{both-left, both-right, all-append}
 
 -- ── entries that keep to the layout, nested no deeper than so ──

@@ -7,6 +7,7 @@ use native.Mathlib.Omega.{arith}
 use lib.Dec.{eqb, ltb}
 use lib.ListN.{length}
 use borrow.Author.Tests.{eqb-true, eqb-false, ltb-true, ltb-false}
+use Rattle.words.specs.Lists.{all}
 use Rattle.words.specs.Choice.{if_then_else_}
 use Rattle.words.specs.Laws.{Bytes}
 use Rattle.values.specs.Ends.{Refusal, refusal, Judged, accepted, refused}
@@ -14,7 +15,7 @@ use Rattle.language.specs.Tree.{Tree}
 use Rattle.language.specs.Table.{flatten, bytesOf, Read, took, stop, first, formRoot, oneTree, readTable}
 use Rattle.language.specs.Faults.{faults}
 use Rattle.language.specs.Limits.{limits}
-use Rattle.language.specs.Judge.{firstFault, judgeTree, judgeTable, all, inFields, Program}
+use Rattle.language.specs.Judge.{firstFault, judgeTree, judgeTable, inFields, Program}
 use Rattle.programs.specs.Basics.{clash}
 use Rattle.programs.specs.Bytes.{bytes-back, fields-kept, entries-all, length-bytes}
 use Rattle.programs.specs.Claims.{Readable, entriesOf, Misshapen, empty, over, uneven, Shaped, Holds, Verdict, misshapen, unread, faulty, sound}

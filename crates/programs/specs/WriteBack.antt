@@ -9,11 +9,12 @@ use lib.Dec.{eqb, leb}
 use lib.IntN.{ℤ, pos, negsuc, natAbs}
 use lib.ListN.{length}
 use borrow.Author.Tests.{eqb-true, leb-true}
+use Rattle.words.specs.Options.{isSome}
 use Rattle.words.specs.Choice.{if_then_else_}
 use Rattle.values.specs.Operators.{negate, plus, unaryOf, binaryOf}
 use Rattle.language.specs.Tree.{Typed, Decl, Items, Target, Exprs, Stmt, block, assign, when, choose, while, assert, call, setLevel, select, toField, Expr, invoke, field, make, operate1, operate2, conditional, fader, blockExpr, expr, countItems, countArms, countExprs}
 use Rattle.language.specs.Table as T
-use Rattle.language.specs.Table.{Entry, entry, inLayout, nothing, natural, within, flag, asTyped, tyOfCode, isSome, flatTyped, flatDecl, flatS, flatItems, flatArms, flatTarget, flatE, flatEs, deepHead, deepS, deepItems, deepArms, deepTarget, deepE, deepEs, Reader, made, first, formTyped, formDecl, Part, named, done, itemsOf, armsOf, exprsOf, Below, formS, formPart, formTarget, formE, below}
+use Rattle.language.specs.Table.{Entry, entry, inLayout, nothing, natural, within, flag, asTyped, tyOfCode, flatTyped, flatDecl, flatS, flatItems, flatArms, flatTarget, flatE, flatEs, deepHead, deepS, deepItems, deepArms, deepTarget, deepE, deepEs, Reader, made, first, formTyped, formDecl, Part, named, done, itemsOf, armsOf, exprsOf, Below, formS, formPart, formTarget, formE, below}
 use Rattle.programs.specs.Basics.{clash, both-left, both-right}
 use Rattle.programs.specs.Codes.{unary-coded, binary-coded, type-coded, nothing-zero, natural-pos}
 use Rattle.programs.specs.Takes.{Fits, fits-cons, fits-join, fits-none}

@@ -9,9 +9,10 @@ use lib.Dec.{leb, leb·zero}
 use lib.IntN.{ℤ, pos, negsuc, natAbs}
 use lib.Signed.{leZ}
 use borrow.Author.Tests.{ne-eqb, lt-leb}
+use Rattle.words.specs.Options.{isSome}
 use Rattle.words.specs.Choice.{if_then_else_}
 use Rattle.values.specs.Operators.{binaryOf}
-use Rattle.language.specs.Table.{natural, within, isSome}
+use Rattle.language.specs.Table.{natural, within}
 
 pub natural-least : (z : ℤ) → leZ (pos 0) z ≡ natural z
 natural-least (pos n) = leb·zero n

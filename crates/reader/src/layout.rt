@@ -2,8 +2,9 @@
 ghost use mathlib.Core.Path.{_≡_};
 ghost use mathlib.Core.Bool.{_&&_};
 ghost use lib.IntN.{natAbs};
+ghost use Rattle.words.specs.Options.{isSome};
 ghost use Rattle.values.specs.Operators.{unaryOf, binaryOf};
-ghost use Rattle.language.specs.Table.{natural as isNatural, entry, inLayout, isSome, tyOfCode, isHeading};
+ghost use Rattle.language.specs.Table.{natural as isNatural, entry, inLayout, tyOfCode, isHeading};
 
 // How far a signed field is from 0. A cast of a negative number is not defined, so it goes by way of 64 bits.
 pub fn magnitude(b: i32) -> u32

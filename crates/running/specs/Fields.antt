@@ -8,10 +8,11 @@ use Prim.Native.Nat.{ℕ, _≤_, _<_}
 use native.Mathlib.Omega.{arith}
 use lib.Dec.{eqb}
 use lib.ListN.{length}
+use Rattle.words.specs.Options.{keep}
 use Rattle.words.specs.Laws.{Bytes}
 use Rattle.words.specs.Choice.{if_then_else_}
 use Rattle.values.specs.Ends.{Refusal, refusal, Judged, accepted, refused, isCondition}
-use Rattle.bytecode.specs.Macro.{Macro, keep}
+use Rattle.bytecode.specs.Macro.{Macro}
 use Rattle.bytecode.specs.Rules.{judgeMacro}
 use Rattle.bytecode.specs.Machine.{Machine, freshMachine}
 use Rattle.bytecode.specs.Runs.{Answer, happens, spends, finishes, refuses, halts, run}

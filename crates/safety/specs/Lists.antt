@@ -7,10 +7,11 @@ use Prim.Native.Nat.{ℕ, zero, suc, _≤_}
 use native.Mathlib.Omega.{arith}
 use lib.ListN.{length, getElem?}
 use lib.ListN.{set as put}
+use Rattle.words.specs.Lists.{all}
 use Rattle.values.specs.Types.{Ty, integer, logical, bits, reference, allFit}
 use Rattle.values.specs.Values.{Value, tyOf, tysOf, Cell, assigned, initial, freshAll}
 use Rattle.bytecode.specs.Machine.{Made, Stepped, popMany, assignAll}
-use Rattle.bytecode.specs.Sound.{all, soundValue, cellValue, cellValues}
+use Rattle.bytecode.specs.Sound.{soundValue, cellValue, cellValues}
 use Rattle.loading.specs.Tests.{never-some, same-some, both, halves, same-refl}
 
 -- ── every element ──

@@ -7,6 +7,7 @@ use Prim.Native.Nat.{ℕ, zero, suc, _≤_, _<_}
 use native.Mathlib.Omega.{arith}
 use lib.IntN.{ℤ}
 use lib.ListN.{length, take, length-append, length-reverse}
+use Rattle.words.specs.Lists.{all}
 use Rattle.words.specs.Choice.{if_then_else_}
 use Rattle.values.specs.Types.{Ty, integer, logical, reference, fits}
 use Rattle.values.specs.Values.{Value, ref, tyOf, tysOf}
@@ -14,7 +15,7 @@ use Rattle.bytecode.specs.Macro.{Body, shape, Macro}
 use Rattle.bytecode.specs.Instructions.{call, bodyAt}
 use Rattle.bytecode.specs.Rules.{onStack}
 use Rattle.bytecode.specs.Machine.{Activation, Made, Machine, Stuck, Stepped, demand, pop, onInteger, onLogical, onReference, given, popMany, notRoot}
-use Rattle.bytecode.specs.Sound.{all, soundValue, parametersOf}
+use Rattle.bytecode.specs.Sound.{soundValue, parametersOf}
 use Rattle.loading.specs.Tests.{never, same-some, same-refl}
 use Rattle.loading.specs.Terms.{Passed, Allowed, Finds}
 use Rattle.loading.specs.Promises.{ops}

@@ -11,10 +11,11 @@ use lib.Dec.{eqb, ltb}
 use lib.IntN.{ℤ, pos, negsuc}
 use lib.Signed.{mag, ltZ, leZ}
 use borrow.Author.Tests.{ltb-true, lt-ltb, eq-eqb}
+use Rattle.words.specs.Options.{orElse}
 use Rattle.words.specs.Choice.{if_then_else_}
 use Rattle.values.specs.Types.{Ty, integer, logical, bits, reference, sames}
 use Rattle.values.specs.Ends.{overflow}
-use Rattle.values.specs.Operators.{Unary, negate, absolute, complement, Binary, plus, minus, times, divide, remainder, less, atMost, greater, atLeast, equal, unequal, both, either, shiftLeft, shiftRight, unary, binary, takes, orElse, logicalOrBits, anyOne, opType}
+use Rattle.values.specs.Operators.{Unary, negate, absolute, complement, Binary, plus, minus, times, divide, remainder, less, atMost, greater, atLeast, equal, unequal, both, either, shiftLeft, shiftRight, unary, binary, takes, logicalOrBits, anyOne, opType}
 use Rattle.values.specs.Arithmetic.{Outcome, gives, ends, settle, isZero, unlessZero, sum, difference, product, quotient, rest, eachBit, andBits, orBits, notBits, leftBy, rightBy, shiftedLeft, shiftedRight}
 use Rattle.values.specs.Values.{Value, int, log, bit, ref, tyOf, mapOutcome, arithmetic, ordering, shift, junction, equality, sameInteger, sameRef, apply1, apply2}
 use Rattle.bytecode.specs.Machine.{Made}

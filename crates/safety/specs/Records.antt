@@ -8,13 +8,14 @@ use native.Mathlib.Omega.{arith}
 use lib.ListN.{length, getElem?}
 use lib.ListN.{set as put}
 use borrow.Author.Tests.{eqb-true, eq-eqb}
+use Rattle.words.specs.Lists.{all}
 use Rattle.values.specs.Types.{Ty, sames}
 use Rattle.values.specs.Values.{Value, int, log, bit, ref, tysOf, Cell}
 use Rattle.bytecode.specs.Macro.{Macro}
 use Rattle.bytecode.specs.Instructions.{Owner, own, root, bodyAt}
 use Rattle.bytecode.specs.Rules.{cellsOf}
 use Rattle.bytecode.specs.Machine.{Activation, Made, allHolds, withCells, rootOf, putLowest, putCells}
-use Rattle.bytecode.specs.Sound.{all, classIs, soundValue, typedValues, cellValues, ofClass, soundRecord}
+use Rattle.bytecode.specs.Sound.{classIs, soundValue, typedValues, cellValues, ofClass, soundRecord}
 use Rattle.loading.specs.Tests.{never, both, halves}
 use Rattle.safety.specs.Lists.{all-weaker, all-at}
 use Rattle.safety.specs.States.{Frame, Waiting, Around}

@@ -9,6 +9,7 @@ use native.Mathlib.Omega.{arith}
 use lib.Dec.{eqb, leb}
 use lib.ListN.{length, getElem?, take}
 use borrow.Author.Tests.{eqb-true, eqb-false, leb-true, le-leb}
+use Rattle.words.specs.Lists.{all}
 use Rattle.words.specs.Choice.{if_then_else_}
 use Rattle.words.specs.Laws.{Bytes}
 use Rattle.values.specs.Ends.{refusal, isCondition}
@@ -19,7 +20,7 @@ use Rattle.bytecode.specs.Rules.{cellsOf}
 use Rattle.bytecode.specs.Machine.{Activation, Made, After, Machine, running, unwinding, ended, endBy, Stepped, moved, stuck, rootCells, freshMachine, step}
 use Rattle.bytecode.specs.Runs.{Answer, happens, spends, finishes, refuses, halts, Ran, with, bankOf, visible, afterStep, steps, run, Feed, runs}
 use Rattle.bytecode.specs.Runs.{ends as endsOr}
-use Rattle.bytecode.specs.Sound.{all, soundGroup, sound}
+use Rattle.bytecode.specs.Sound.{soundGroup, sound}
 use Rattle.loading.specs.Tests.{both, halves}
 use Rattle.loading.specs.Terms.{Each, Passed, Allowed}
 use Rattle.loading.specs.Promises.{entry}

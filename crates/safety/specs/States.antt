@@ -8,6 +8,7 @@ use native.Mathlib.Omega.{arith}
 use lib.Dec.{eqb, leb}
 use lib.ListN.{length, length-append}
 use borrow.Author.Tests.{eqb-true, eq-eqb, leb-true, le-leb}
+use Rattle.words.specs.Lists.{all}
 use Rattle.values.specs.Types.{Ty, sames}
 use Rattle.values.specs.Ends.{isCondition}
 use Rattle.values.specs.Values.{Value, tysOf}
@@ -15,7 +16,7 @@ use Rattle.bytecode.specs.Macro.{Body, Shape, shape, Macro}
 use Rattle.bytecode.specs.Instructions.{Instr, end, push, load, store, operate, go, goUnless, call, return, make, getField, putField, setLevel, readFader, takeHold, letHold, assert, stop, bodyAt, inBody, instrAt}
 use Rattle.bytecode.specs.Rules.{foundAt, onStack, cellsOf}
 use Rattle.bytecode.specs.Machine.{Activation, Made, Here, running, unwinding, endBy, allHolds, at}
-use Rattle.bytecode.specs.Sound.{all, soundValue, typedValues, cellValues, soundRecord, soundGroup, soundAt, soundActivation, callsBody, parametersOf, soundWaiting, sound}
+use Rattle.bytecode.specs.Sound.{soundValue, typedValues, cellValues, soundRecord, soundGroup, soundAt, soundActivation, callsBody, parametersOf, soundWaiting, sound}
 use Rattle.loading.specs.Tests.{never, both, halves, sames→≡, sames-refl}
 use Rattle.loading.specs.Terms.{Passed, Allowed}
 use Rattle.loading.specs.Promises.{body-exists, limits}

@@ -11,6 +11,7 @@ use lib.ListN.{length, length-set, getElem?, take, drop, length-append, take-app
 use lib.ListN.{set as put}
 use lib.Seq.{length-take-le}
 use borrow.Author.Tests.{eq-eqb, le-leb, leb-true, ltb-true, lt-ltb}
+use Rattle.words.specs.Lists.{all}
 use Rattle.words.specs.Choice.{if_then_else_}
 use Rattle.values.specs.Types.{Ty, integer, logical, reference, fits, sames, allFit}
 use Rattle.values.specs.Ends.{isCondition, fieldOfNull, assertFalse, caseIndex, outOfRange, tooManyActivations, tooManyRecords}
@@ -23,7 +24,7 @@ use Rattle.bytecode.specs.Instructions.{Owner, own, root, Instr, end, push, loa
 use Rattle.bytecode.specs.Rules.{onStack, cellsOf}
 use Rattle.bytecode.specs.Rules.{cellTy as cellType}
 use Rattle.bytecode.specs.Machine.{Activation, Made, Here, Machine, running, ended, noStep, badType, badFrame, Stepped, moved, demand, allHolds, condition, at, withHolds, goesOn, settled, given, cellsFor, putCells, doLoad, doStore, doOperate, goes, doGoUnless, popMany, assignAll, activation, entering, doCall, handDown, isEmpty, doReturn, doEnd, withRecords, recording, doMake, onMade, doGetField, fieldPut, doPutField, doSet, doFader, doTakeHold, letting, doAssert, doPush, act, fetch, step}
-use Rattle.bytecode.specs.Sound.{all, soundValue, cellValues, soundRecord, soundGroup, parametersOf, sound}
+use Rattle.bytecode.specs.Sound.{soundValue, cellValues, soundRecord, soundGroup, parametersOf, sound}
 use Rattle.loading.specs.Tests.{same-some, halves, sames-refl}
 use Rattle.loading.specs.Terms.{Each, Named, ReadBody, Passed, Allowed, Finds}
 use Rattle.loading.specs.Promises.{at-place, cells-at-most-32, entry, limits, ops}

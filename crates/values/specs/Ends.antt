@@ -1,7 +1,8 @@
 -- The numbers of refusals and conditions. (paper 01, Refusals and ends)
-use mathlib.Core.Bool.{Bool, _&&_}
+use mathlib.Core.Bool.{Bool}
+use mathlib.Core.List.{List, [], _∷_}
 use Prim.Native.Nat.{ℕ}
-use lib.Dec.{leb}
+use Rattle.words.specs.Lists.{among}
 
 -- "A refusal gives its number and place"
 pub record Refusal : Type 0 where
@@ -42,5 +43,9 @@ abbrev pub tooManyRecords : ℕ
 tooManyRecords = 27
 
 -- "A condition (20 to 27) stops execution"
+abbrev pub conditions : List ℕ
+conditions =
+    overflow ∷ zeroDivisor ∷ fieldOfNull ∷ assertFalse ∷ caseIndex ∷ outOfRange ∷ tooManyActivations ∷ tooManyRecords ∷ []
+
 abbrev pub isCondition : ℕ → Bool
-isCondition c = leb overflow c && leb c tooManyRecords
+isCondition c = among c conditions

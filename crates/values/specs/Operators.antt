@@ -4,6 +4,7 @@ use mathlib.Core.Option.{Option, none, some}
 use Prim.Native.Nat.{ℕ}
 use lib.Dec.{eqb}
 use Rattle.words.specs.Choice.{if_then_else_}
+use Rattle.words.specs.Options.{orElse}
 use Rattle.values.specs.Types.{Ty, integer, logical, bits, sames}
 
 -- "48 unary a (E)", "49 binary a (E, E)"
@@ -74,10 +75,6 @@ pub data Operator : Type 0 where
 -- the type given where the operands' types are those asked for
 abbrev pub takes : List Ty → Ty → List Ty → Option Ty
 takes asked given ts = if sames ts asked then some given else none
-
-abbrev pub orElse : {A : Type 0} → Option A → Option A → Option A
-orElse none y = y
-orElse (some x) y = some x
 
 -- "`and`, `or`, `not` take logical or bits"
 abbrev pub logicalOrBits : (Ty → List Ty) → List Ty → Option Ty

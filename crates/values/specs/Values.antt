@@ -7,6 +7,7 @@ use lib.Dec.{eqb, leb, ltb}
 use lib.IntN.{ℤ, pos, negsuc}
 use lib.Signed.{ltZ, leZ}
 use Rattle.words.specs.Choice.{if_then_else_}
+use Rattle.words.specs.Options.{ifSome}
 use Rattle.words.specs.Numbers.{integerOf, wordOf}
 use Rattle.values.specs.Types.{Ty, integer, logical, bits, reference}
 use Rattle.values.specs.Operators.{Unary, negate, absolute, complement, Binary, plus, minus, times, divide, remainder, less, atMost, greater, atLeast, equal, unequal, both, either, shiftLeft, shiftRight}
@@ -36,9 +37,41 @@ initial logical = log false
 initial bits = bit 0
 initial (reference c) = ref c none
 
+-- the integer that a value is, if it is one; and so for the other types
+abbrev pub asInteger : Value → Option ℤ
+asInteger (int z) = some z
+asInteger (log b) = none
+asInteger (bit n) = none
+asInteger (ref c r) = none
+
+abbrev pub asLogical : Value → Option Bool
+asLogical (int z) = none
+asLogical (log b) = some b
+asLogical (bit n) = none
+asLogical (ref c r) = none
+
+abbrev pub asBits : Value → Option ℕ
+asBits (int z) = none
+asBits (log b) = none
+asBits (bit n) = some n
+asBits (ref c r) = none
+
+pub record Reference : Type 0 where
+  pub class : ℕ
+  pub target : Option ℕ
+
+abbrev pub asReference : Value → Option Reference
+asReference (int z) = none
+asReference (log b) = none
+asReference (bit n) = none
+asReference (ref c r) = some (record { class = c; target = r })
+
 -- what a variable, parameter or cell holds
 pub data Cell : Type 0 where
   assigned : Value → Cell
+
+abbrev pub tyOfCell : Cell → Ty
+tyOfCell (assigned v) = tyOf v
 
 abbrev pub fresh : Ty → Cell
 fresh t = assigned (initial t)
@@ -94,42 +127,26 @@ mapOutcome f (gives a) = gives (f a)
 mapOutcome f (ends c) = ends c
 mapOutcome f mistyped = mistyped
 
-abbrev pub onInteger : (ℤ → Outcome Value) → Value → Outcome Value
-onInteger f (int x) = f x
-onInteger f (log a) = mistyped
-onInteger f (bit m) = mistyped
-onInteger f (ref c r) = mistyped
+-- an operand of the type asked
+abbrev pub asked : {A : Type 0} → Option A → (A → Outcome Value) → Outcome Value
+asked o f = ifSome o f mistyped
 
-abbrev pub onBits : (ℕ → Outcome Value) → Value → Outcome Value
-onBits f (int x) = mistyped
-onBits f (log a) = mistyped
-onBits f (bit m) = f m
-onBits f (ref c r) = mistyped
-
-abbrev pub onLogical : (Bool → Outcome Value) → Value → Outcome Value
-onLogical f (int x) = mistyped
-onLogical f (log a) = f a
-onLogical f (bit m) = mistyped
-onLogical f (ref c r) = mistyped
-
--- logical or bits
-abbrev pub onEither : (Bool → Outcome Value) → (ℕ → Outcome Value) → Value → Outcome Value
-onEither f g (int x) = mistyped
-onEither f g (log a) = f a
-onEither f g (bit m) = g m
-onEither f g (ref c r) = mistyped
+-- logical, or else bits
+abbrev pub logicalElseBits : Value → (Bool → Outcome Value) → (ℕ → Outcome Value) → Outcome Value
+logicalElseBits v f g = ifSome (asLogical v) f (asked (asBits v) g)
 
 abbrev pub arithmetic : (ℤ → ℤ → Outcome ℤ) → Value → Value → Outcome Value
-arithmetic f v w = onInteger (λ x. onInteger (λ y. mapOutcome int (f x y)) w) v
+arithmetic f v w = asked (asInteger v) (λ x. asked (asInteger w) (λ y. mapOutcome int (f x y)))
 
 abbrev pub ordering : (ℤ → ℤ → Bool) → Value → Value → Outcome Value
-ordering f v w = onInteger (λ x. onInteger (λ y. gives (log (f x y))) w) v
+ordering f v w = asked (asInteger v) (λ x. asked (asInteger w) (λ y. gives (log (f x y))))
 
 abbrev pub shift : (ℕ → ℤ → ℕ) → Value → Value → Outcome Value
-shift f v w = onBits (λ x. onInteger (λ n. gives (bit (f x n))) w) v
+shift f v w = asked (asBits v) (λ x. asked (asInteger w) (λ n. gives (bit (f x n))))
 
 abbrev pub junction : (Bool → Bool → Bool) → (ℕ → ℕ → ℕ) → Value → Value → Outcome Value
-junction f g v w = onEither (λ a. onLogical (λ b. gives (log (f a b))) w) (λ m. onBits (λ n. gives (bit (g m n))) w) v
+junction f g v w =
+    logicalElseBits v (λ a. asked (asLogical w) (λ b. gives (log (f a b)))) (λ m. asked (asBits w) (λ n. gives (bit (g m n))))
 
 abbrev pub sameInteger : ℤ → ℤ → Bool
 sameInteger x y = leZ x y && leZ y x
@@ -140,18 +157,16 @@ sameRef r s = eqb (refWord r) (refWord s)
 
 -- two values of one type
 abbrev pub equality : (Bool → Bool) → Value → Value → Outcome Value
-equality f (int x) w = onInteger (λ y. gives (log (f (sameInteger x y)))) w
-equality f (log a) w = onLogical (λ b. gives (log (f (Bool·beq a b)))) w
-equality f (bit m) w = onBits (λ n. gives (log (f (eqb m n)))) w
-equality f (ref c r) (int x) = mistyped
-equality f (ref c r) (log a) = mistyped
-equality f (ref c r) (bit m) = mistyped
-equality f (ref c r) (ref d s) = if eqb c d then gives (log (f (sameRef r s))) else mistyped
+equality f (int x) w = asked (asInteger w) (λ y. gives (log (f (sameInteger x y))))
+equality f (log a) w = asked (asLogical w) (λ b. gives (log (f (Bool·beq a b))))
+equality f (bit m) w = asked (asBits w) (λ n. gives (log (f (eqb m n))))
+equality f (ref c r) w =
+    asked (asReference w) (λ s. if eqb c (s .class) then gives (log (f (sameRef r (s .target)))) else mistyped)
 
 unfoldable pub apply1 : Unary → Value → Outcome Value
-apply1 negate = onInteger (λ x. mapOutcome int (negation x))
-apply1 absolute = onInteger (λ x. mapOutcome int (magnitude x))
-apply1 complement = onEither (λ a. gives (log (not a))) (λ m. gives (bit (notBits m)))
+apply1 negate v = asked (asInteger v) (λ x. mapOutcome int (negation x))
+apply1 absolute v = asked (asInteger v) (λ x. mapOutcome int (magnitude x))
+apply1 complement v = logicalElseBits v (λ a. gives (log (not a))) (λ m. gives (bit (notBits m)))
 
 -- both operands at hand; the tree itself decides when a logical `and` or `or` does not need its second
 unfoldable pub apply2 : Binary → Value → Value → Outcome Value

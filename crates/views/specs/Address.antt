@@ -9,9 +9,10 @@ use native.Mathlib.Omega.{arith}
 use lib.Dec.{eqb, ltb}
 use lib.ListN.{length, getElem?}
 use borrow.Author.Tests.{lt-ltb, le-leb, not-false}
+use Rattle.words.specs.Options.{keep, isSome}
 use Rattle.words.specs.Choice.{if_then_else_}
 use Rattle.words.specs.Numbers.{byteAt}
-use Rattle.bytecode.specs.Macro.{Shape, shapeIn, isSome, keep}
+use Rattle.bytecode.specs.Macro.{Shape, shapeIn}
 use Rattle.bytecode.specs.Instructions.{instruction, instrAt, inBody}
 use Rattle.bytecode.specs.Rules.{roomy, bodyOf as bodyIn, isFirst, atFirst, Flow as FlowIn, on, fork, jump, halt, passed, orFlow, flowOf, flowAt, into as intoIn, foundAt, bodyFault, shapeFault, closes, flowFault, opFault, faultAt, effect as effectIn}
 use Rattle.places.specs.Search.{Clean}

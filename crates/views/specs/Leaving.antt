@@ -9,9 +9,10 @@ use native.Mathlib.Omega.{arith}
 use lib.Dec.{eqb, leb, ltb, eqb·suc-zero}
 use lib.ListN.{length}
 use borrow.Author.Tests.{leb-true, le-leb, lt-ltb, le-ltb}
+use Rattle.words.specs.Options.{isSome}
 use Rattle.words.specs.Choice.{if_then_else_}
 use Rattle.values.specs.Types.{Ty, logical, sames}
-use Rattle.bytecode.specs.Macro.{Shape, shape, shapeIn, isSome}
+use Rattle.bytecode.specs.Macro.{Shape, shape, shapeIn}
 use Rattle.bytecode.specs.Instructions.{inBody}
 use Rattle.bytecode.specs.Rules.{Effect, plain, takes as takesHold, lets, jumps, forks, leaves, stops, wrong, Flow as FlowIn, on, fork, jump, halt, broken, strip, roomy, onIf, sameShape, oneLess, flow, passed, isFirst, atFirst, headFault, bodyFault, lands as landsIn, flowFault}
 use Rattle.places.specs.Records.{bodies, count, firstOf}

@@ -10,10 +10,11 @@ use native.Mathlib.Omega.{arith}
 use lib.Dec.{eqb, leb, ltb, leb·suc-suc, eqb·suc-zero}
 use lib.ListN.{length, getElem?}
 use borrow.Author.Tests.{ne-eqb, lt-ltb, le-ltb, ltb-true}
+use Rattle.words.specs.Options.{keep}
 use Rattle.words.specs.Numbers.{byteAt, integerOf}
 use Rattle.values.specs.Types.{Ty, integer, logical, bits, reference, tyByte, sames}
 use Rattle.values.specs.Values.{int, log, bit, ref}
-use Rattle.bytecode.specs.Macro.{shape, keep}
+use Rattle.bytecode.specs.Macro.{shape}
 use Rattle.bytecode.specs.Instructions.{Owner, own, root, Instr, end, load, store, operate, go, goUnless, call, return, make, getField, putField, setLevel, readFader, takeHold, letHold, assert, stop, push as pushes, exactly, ownerOf, operatorOf, instruction, bodyAt}
 use Rattle.bytecode.specs.Rules.{Effect, plain, leaves, endingIn, returningIn, calling, calledBody, onStack, oneLess, giving, taking, cellsOf, fieldTy, effect as effectIn, strip, roomy, flow, flowOf}
 use Rattle.places.specs.Search.{tops}

@@ -11,11 +11,12 @@ use lib.Dec.{eqb, ltb, eqb·suc-zero}
 use lib.ListN.{length, drop, length-drop, drop-of-length-le}
 use lib.Seq.{drop-cons, getD-drop, drop-drop}
 use borrow.Author.Tests.{lt-ltb, le-ltb, le-leb, lt-leb, ne-eqb}
+use Rattle.words.specs.Options.{isSome}
 use Rattle.words.specs.Choice.{if_then_else_}
 use Rattle.words.specs.Numbers.{byteAt, halfAt}
 use Rattle.words.specs.Laws.{Size, one, two, four, numberAt, same-number}
 use Rattle.values.specs.Types.{Ty}
-use Rattle.bytecode.specs.Macro.{Code, Cut, cut, marked, tyOfByte, readTypes, readClass, readResult, rises as risesAfter, readBody, readCode, shapeIn, isSome, readShape}
+use Rattle.bytecode.specs.Macro.{Code, Cut, cut, marked, tyOfByte, readTypes, readClass, readResult, rises as risesAfter, readBody, readCode, shapeIn, readShape}
 use Rattle.places.specs.Search.{seek}
 use Rattle.places.specs.Records.{classes, bodies, count, classPlace, bodyPlace, firstOf, codePlace, shapePlace, find, noMark, noType, badTypes, badClass, rises, bodyFits, badBody, badCode, shapeFits, badShape}
 use Rattle.views.specs.Lists.{span, backs, reverse-span}
