@@ -1,5 +1,5 @@
 -- What each instruction finds, read off its effect; and what the numbers of an instruction stand for.
-use mathlib.Core.Path.{_≡_, refl, subst}
+use mathlib.Core.Path.{_≡_, refl, ap, _∙_, subst}
 use mathlib.Core.Bool.{Bool, true, false, _&&_}
 use mathlib.Core.List.{List, [], _∷_}
 use mathlib.Core.Option.{Option, none, some}
@@ -22,7 +22,8 @@ use Rattle.bytecode.specs.Instructions.{Instr, end, push, load, store, operate,
 use Rattle.bytecode.specs.Rules.{plain, wrong, effect, giving, taking, operating, pushing, calling, making, endingIn, returning}
 use Rattle.bytecode.specs.Sound.{soundValue}
 use Rattle.loading.specs.Tests.{never-some, halves, kept}
-use Rattle.loading.specs.Terms.{Named, OfBytes, Passed, Allowed, Does, Literal, Finds}
+use Rattle.loading.specs.Terms.{Named, OfBytes, Passed, Allowed, Takes, Does, Literal, Finds}
+use Rattle.loading.specs.Takes.{takes-first, takes-one}
 use Rattle.loading.specs.Bodies.{each-at}
 use Rattle.loading.specs.Found.{follows, does}
 
@@ -127,16 +128,21 @@ module _ (m : Macro) (w : Passed m) where
     by-taking none ins d = absurd d
     by-taking (some t) ins d = (t, refl, d)
 
-    by-unary : (o : Unary) (ts : List Ty) → Does m k i s (operating (unary o) ts)
-        → (t : Ty) × (u : Ty) × (opType (unary o) (t ∷ []) ≡ some u) × Does m k i s (plain (t ∷ []) (u ∷ []))
-    by-unary o [] d = absurd d
-    by-unary o (t ∷ ts) d = let q = by-giving (opType (unary o) (t ∷ [])) (t ∷ []) d in (t, q .0, q .1, q .2)
+    by-unary : (o : Unary) (ts : List Ty) → s .operands ≡ ts → Does m k i s (operating (unary o) ts) → Finds m k i s (operate (unary o))
+    by-unary o [] e d = absurd d
+    by-unary o (t ∷ ts) e d =
+        let q = by-giving (opType (unary o) (t ∷ [])) (t ∷ []) d in
+        let u = takes-one t t ts (q .2 .0) (subst (λ x. Takes (t ∷ []) x (q .2 .0)) e (q .2 .1)) in
+        (t, q .0, q .2 .0, e ∙ ap (λ x. t ∷ x) u, q .1, q .2 .2)
 
-    by-binary : (o : Binary) (ts : List Ty) → Does m k i s (operating (binary o) ts)
-        → (t : Ty) × (u : Ty) × (v : Ty) × (opType (binary o) (u ∷ t ∷ []) ≡ some v) × Does m k i s (plain (t ∷ u ∷ []) (v ∷ []))
-    by-binary o [] d = absurd d
-    by-binary o (t ∷ []) d = absurd d
-    by-binary o (t ∷ (u ∷ ts)) d = let q = by-giving (opType (binary o) (u ∷ t ∷ [])) (t ∷ u ∷ []) d in (t, u, q .0, q .1, q .2)
+    by-binary : (o : Binary) (ts : List Ty) → s .operands ≡ ts → Does m k i s (operating (binary o) ts) → Finds m k i s (operate (binary o))
+    by-binary o [] e d = absurd d
+    by-binary o (t ∷ []) e d = absurd d
+    by-binary o (t ∷ (u ∷ ts)) e d =
+        let q = by-giving (opType (binary o) (u ∷ t ∷ [])) (t ∷ u ∷ []) d in
+        let r = takes-first t t (u ∷ []) (u ∷ ts) (q .2 .0) (subst (λ x. Takes (t ∷ u ∷ []) x (q .2 .0)) e (q .2 .1)) .1 in
+        let v = takes-one u u ts (q .2 .0) r in
+        (t, u, q .0, q .2 .0, e ∙ ap (λ x. t ∷ u ∷ x) v, q .1, q .2 .2)
 
     by-push : (v : Value) → Does m k i s (pushing m v) → Named (length (m .classes)) (tyOf v) × Does m k i s (plain [] (tyOf v ∷ []))
     by-push v d = pick (known m (tyOf v)) refl d
@@ -171,8 +177,8 @@ module _ (m : Macro) (w : Passed m) where
     by-effect (push v) p d = let q = by-push v d in (p, q .0, q .1)
     by-effect (load o x) p d = by-giving (cellTy m k o x) [] d
     by-effect (store o x) p d = by-taking (cellTy m k o x) [] d
-    by-effect (operate (unary o)) p d = by-unary o (s .operands) d
-    by-effect (operate (binary o)) p d = by-binary o (s .operands) d
+    by-effect (operate (unary o)) p d = by-unary o (s .operands) refl d
+    by-effect (operate (binary o)) p d = by-binary o (s .operands) refl d
     by-effect (go j) p d = d
     by-effect (goUnless j) p d = d
     by-effect (call j) p d = by-call j (procedureAt m j) refl d

@@ -116,16 +116,19 @@ Does m k i s wrong = ⊥
 abbrev pub Literal : Value → Type 0
 Literal v = (rs : List Made) → soundValue rs v ≡ true
 
--- the same by instruction, with what it names: an op takes operands off the stack and puts others on, the top first
+-- the same by instruction, with what it names: an op takes operands off the stack and puts others on, the top first; an operator is chosen
+-- by the very types that lie there, the others ask for operands that fit
 abbrev pub Finds : Macro → ℕ → ℕ → Shape → Instr → Type 0
 Finds m k i s end = (k ≡ 0) × (s ≡ shape 0 [])
 Finds m k i s (push v) = Literal v × Named (length (m .classes)) (tyOf v) × Does m k i s (plain [] (tyOf v ∷ []))
 Finds m k i s (load o x) = (t : Ty) × (cellTy m k o x ≡ some t) × Does m k i s (plain [] (t ∷ []))
 Finds m k i s (store o x) = (t : Ty) × (cellTy m k o x ≡ some t) × Does m k i s (plain (t ∷ []) [])
 Finds m k i s (operate (unary o)) =
-    (t : Ty) × (u : Ty) × (opType (unary o) (t ∷ []) ≡ some u) × Does m k i s (plain (t ∷ []) (u ∷ []))
+    (t : Ty) × (u : Ty) × (under : List Ty) × (s .operands ≡ t ∷ under) × (opType (unary o) (t ∷ []) ≡ some u)
+    × Allowed m k (suc i) (shape (s .holds) (u ∷ under))
 Finds m k i s (operate (binary o)) =
-    (t : Ty) × (u : Ty) × (v : Ty) × (opType (binary o) (u ∷ t ∷ []) ≡ some v) × Does m k i s (plain (t ∷ u ∷ []) (v ∷ []))
+    (t : Ty) × (u : Ty) × (v : Ty) × (under : List Ty) × (s .operands ≡ t ∷ u ∷ under) × (opType (binary o) (u ∷ t ∷ []) ≡ some v)
+    × Allowed m k (suc i) (shape (s .holds) (v ∷ under))
 Finds m k i s (go j) = Does m k i s (jumps j)
 Finds m k i s (goUnless j) = Does m k i s (forks j)
 Finds m k i s (call j) =
