@@ -105,11 +105,17 @@ proper c x w h =
     either c (eqb (c .op) 20) _ none x (λ t. just c p (stop caseIndex) x (λ e. unfold among in refl)) never-some)))))))))))))))))))) h
 
 -- ── what is declared ──
-known-named : (m : Macro) (t : Ty) → known m t ≡ true → Named (length (m .classes)) t
+pub known-named : (m : Macro) (t : Ty) → known m t ≡ true → Named (length (m .classes)) t
 known-named m integer h = tt
 known-named m logical h = tt
 known-named m bits h = tt
 known-named m (reference c) h = ltb-true c (length (m .classes)) h
+
+pub named-known : (m : Macro) (t : Ty) → Named (length (m .classes)) t → known m t ≡ true
+named-known m integer h = refl
+named-known m logical h = refl
+named-known m bits h = refl
+named-known m (reference c) h = lt-ltb c (length (m .classes)) h
 
 a-procedure : (m : Macro) (k : ℕ) (b : Body) → procedureAt m k ≡ some b → (0 < k) × (bodyAt m k ≡ some b)
 a-procedure m zero b h = never-some h
