@@ -36,10 +36,10 @@ never h = let z : _≡_ {A = ℕ} 0 1 = cc h in absurd (omega arith)
 -- ── a sound state ──
 module _ {m : Macro} {l : List ℕ} {f n i : ℕ} {rs : Shared} {t : Activation} {fs : List Activation} (N : Now m l f n i rs t fs) where
   pub around : Around m (record { shared = rs; top = t; below = fs })
-  around = running-sound m (N .passed) rs t fs (N .sounds) .0
+  around = running-sound m rs t fs (N .sounds) .0
 
   pub stands : Stands m (rs .records) [] t
-  stands = running-sound m (N .passed) rs t fs (N .sounds) .1
+  stands = running-sound m rs t fs (N .sounds) .1
 
   pub few-operands : length (t .operands) ≤ 32
   few-operands = omega (arith, tys-length (t .operands), limits m (N .passed) (t .body) (t .address) (shape (length (t .holds)) (tysOf (t .operands))) (stands .allowed) .1)
