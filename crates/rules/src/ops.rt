@@ -12,6 +12,8 @@ use crate::stack::take_types;
 use crate::stack::top_of;
 use crate::stack::trade_one;
 use crate::stack::trade_two;
+use formats::compiled::*;
+use formats::limits::*;
 use places::Moved;
 ghost use mathlib.Core.Path.{_≡_};
 ghost use mathlib.Core.Bool.{true, false};
@@ -92,7 +94,7 @@ fn op_null(l: &[u8], a: usize, b: usize, st: &mut [u8], h: usize, d: usize) -> M
     if b != 0 {
         return Moved::Bad;
     }
-    let n = words::wide::byte_at(l, 2);
+    let n = words::wide::byte_at(l, CLASS_COUNT_AT);
     if n <= a {
         return Moved::Bad;
     }
@@ -127,11 +129,11 @@ fn op_load(
     }
     let o = owner_body(k, a);
     let q = body_at(l, bx, o);
-    let c = words::wide::byte_at(l, q + 6);
+    let c = words::wide::byte_at(l, q + CELL_COUNT_AT);
     if c <= b {
         return Moved::Bad;
     }
-    push_type(st, l[q + 7 + b], h, d)
+    push_type(st, l[q + BODY_BYTES + b], h, d)
 }
 
 fn op_store(
@@ -152,11 +154,11 @@ fn op_store(
     }
     let o = owner_body(k, a);
     let q = body_at(l, bx, o);
-    let c = words::wide::byte_at(l, q + 6);
+    let c = words::wide::byte_at(l, q + CELL_COUNT_AT);
     if c <= b {
         return Moved::Bad;
     }
-    pop_type(st, l[q + 7 + b], h, d)
+    pop_type(st, l[q + BODY_BYTES + b], h, d)
 }
 
 fn is_twofold(t: u8) -> bool
@@ -251,7 +253,7 @@ fn lands_at(
     ensures { λ r. ⌜ r ≡ lands (now (l .entry)) k b h (tops (now (st .entry)) 0 d) ⌝ }
 {
     let q = body_at(l, bx, k);
-    let f = words::wide::half_at(l, q + 2);
+    let f = words::wide::half_at(l, q + FIRST_AT);
     if b < f {
         return false;
     }
@@ -350,14 +352,14 @@ fn op_call(l: &[u8], bx: &[u32], a: usize, b: usize, st: &mut [u8], h: usize, d:
     if b == 0 {
         return Moved::Bad;
     }
-    let m = words::wide::byte_at(l, 3);
+    let m = words::wide::byte_at(l, BODY_COUNT_AT);
     if m <= b {
         return Moved::Bad;
     }
     let q = body_at(l, bx, b);
-    let n = words::wide::byte_at(l, q + 4);
-    let f = take_types(l, q + 7, n, st, h, d);
-    hand_after(st, l[q + 5], f)
+    let n = words::wide::byte_at(l, q + PARAMETER_COUNT_AT);
+    let f = take_types(l, q + BODY_BYTES, n, st, h, d);
+    hand_after(st, l[q + RESULT_AT], f)
 }
 
 // The stack must hold just a result of type t, or nothing where t is 0.
@@ -401,7 +403,7 @@ fn op_return(
         return Moved::Bad;
     }
     let q = body_at(l, bx, k);
-    just(l[q + 5], st, h, d)
+    just(l[q + RESULT_AT], st, h, d)
 }
 
 fn op_make(l: &[u8], cx: &[u32], a: usize, b: usize, st: &mut [u8], h: usize, d: usize) -> Moved
@@ -411,13 +413,13 @@ fn op_make(l: &[u8], cx: &[u32], a: usize, b: usize, st: &mut [u8], h: usize, d:
     if b != 0 {
         return Moved::Bad;
     }
-    let n = words::wide::byte_at(l, 2);
+    let n = words::wide::byte_at(l, CLASS_COUNT_AT);
     if n <= a {
         return Moved::Bad;
     }
     let q = class_at(l, cx, a);
-    let m = words::wide::byte_at(l, q + 2);
-    let f = take_types(l, q + 3, m, st, h, d);
+    let m = words::wide::byte_at(l, q + FIELD_COUNT_AT);
+    let f = take_types(l, q + CLASS_BYTES, m, st, h, d);
     push_after(st, class_type(a), f)
 }
 
@@ -433,32 +435,32 @@ fn op_get_field(
     requires { ⌜ (Classed (now l) (now cx)) × (Stack (now st) h d) ⌝ }
     ensures { λ r. ⌜ Moves (now (st .exit)) r (opGetField (now (l .entry)) a b h (tops (now (st .entry)) 0 d)) ⌝ }
 {
-    let n = words::wide::byte_at(l, 2);
+    let n = words::wide::byte_at(l, CLASS_COUNT_AT);
     if n <= a {
         return Moved::Bad;
     }
     let q = class_at(l, cx, a);
-    let m = words::wide::byte_at(l, q + 2);
+    let m = words::wide::byte_at(l, q + FIELD_COUNT_AT);
     if m <= b {
         return Moved::Bad;
     }
-    trade_one(st, class_type(a), l[q + 3 + b], h, d)
+    trade_one(st, class_type(a), l[q + CLASS_BYTES + b], h, d)
 }
 
 fn op_put_field(l: &[u8], cx: &[u32], a: usize, b: usize, st: &[u8], h: usize, d: usize) -> Moved
     requires { ⌜ (Classed (now l) (now cx)) × (Stack (now st) h d) ⌝ }
     ensures { λ r. ⌜ Moves (now (st .entry)) r (opPutField (now (l .entry)) a b h (tops (now (st .entry)) 0 d)) ⌝ }
 {
-    let n = words::wide::byte_at(l, 2);
+    let n = words::wide::byte_at(l, CLASS_COUNT_AT);
     if n <= a {
         return Moved::Bad;
     }
     let q = class_at(l, cx, a);
-    let m = words::wide::byte_at(l, q + 2);
+    let m = words::wide::byte_at(l, q + FIELD_COUNT_AT);
     if m <= b {
         return Moved::Bad;
     }
-    let f = pop_type(st, l[q + 3 + b], h, d);
+    let f = pop_type(st, l[q + CLASS_BYTES + b], h, d);
     pop_after(st, class_type(a), f)
 }
 
@@ -496,10 +498,10 @@ fn op_hold(a: usize, b: usize, st: &[u8], h: usize, d: usize) -> Moved
     if a != 0 {
         return Moved::Bad;
     }
-    if 64 <= b {
+    if GROUPS <= b {
         return Moved::Bad;
     }
-    if 16 <= h {
+    if MAX_HOLDS <= h {
         return Moved::Bad;
     }
     Moved::Goes(h + 1, d)
