@@ -28,11 +28,11 @@ pub const CELL_COUNT_AT: usize = 6;
 pub const BODY_BYTES: usize = 7;
 
 // "IN: op u8, a u8, b 32 bits"
-pub const OP_AT: usize = 2;
+pub const CODE_OP_AT: usize = 2;
 
-pub const OP_A_AT: usize = 3;
+pub const CODE_A_AT: usize = 3;
 
-pub const OP_B_AT: usize = 4;
+pub const CODE_B_AT: usize = 4;
 
 pub const CODE_BYTES: usize = 8;
 
@@ -47,3 +47,56 @@ pub const SHAPE_BYTES: usize = 6;
 
 // "ZZ: empty, last"
 pub const END_BYTES: usize = 2;
+
+// ── type bytes ──
+// "A type byte is 1, 2, 3, or 16 + class number."
+pub const TYPE_INTEGER: u8 = 1;
+
+pub const TYPE_LOGICAL: u8 = 2;
+
+pub const TYPE_BITS: u8 = 3;
+
+pub const TYPE_CLASS: u8 = 16;
+
+// ── ops ──
+pub const OP_END: u8 = 0;
+
+pub const OP_INTEGER: u8 = 1;
+
+pub const OP_LOGICAL: u8 = 2;
+
+pub const OP_BITS: u8 = 3;
+
+pub const OP_NULL: u8 = 4;
+
+pub const OP_LOAD: u8 = 5;
+
+pub const OP_STORE: u8 = 6;
+
+pub const OP_OPERATOR: u8 = 7;
+
+pub const OP_GO: u8 = 8;
+
+pub const OP_UNLESS: u8 = 9;
+
+pub const OP_CALL: u8 = 10;
+
+pub const OP_RETURN: u8 = 11;
+
+pub const OP_MAKE: u8 = 12;
+
+pub const OP_GET_FIELD: u8 = 13;
+
+pub const OP_PUT_FIELD: u8 = 14;
+
+pub const OP_SET: u8 = 15;
+
+pub const OP_FADER: u8 = 16;
+
+pub const OP_HOLD: u8 = 17;
+
+pub const OP_RELEASE: u8 = 18;
+
+pub const OP_ASSERT: u8 = 19;
+
+pub const OP_STOP: u8 = 20;

@@ -1,4 +1,16 @@
 // How much there may be of what. (paper 01)
+use crate::entries::*;
+
+// "At most 2,048 entries, nesting at most 64 deep; the root, a block (kind 1), is depth 1."
+pub const MAX_ENTRIES: usize = 2048;
+
+pub const MAX_TABLE_BYTES: usize = ENTRY_BYTES * MAX_ENTRIES;
+
+pub const MAX_NESTING: usize = 64;
+
+pub const BELOW_ROOT: usize = MAX_NESTING - 1;
+
+pub const BELOW_HEAD: usize = BELOW_ROOT - 1;
 
 // "counts (1 to 64 bodies, 16 classes, 1 to 8 fields)"
 pub const MAX_BODIES: usize = 64;
@@ -6,6 +18,8 @@ pub const MAX_BODIES: usize = 64;
 pub const MAX_CLASSES: usize = 16;
 
 pub const MAX_FIELDS: usize = 8;
+
+pub const MAX_PROCEDURES: usize = MAX_BODIES - 1;
 
 // "A body has at most 32 cells (…), 16 holds open together, and a working need of 32."
 pub const MAX_CELLS: usize = 32;
