@@ -28,7 +28,7 @@ pub fn op_make(code: &[u8], q: usize, s: &mut [u8], f: usize, n: usize, i: u16, 
     frames::make_record(s, r, c);
     moves::fill_fields(s, f, n - k, r as usize, k);
     moves::drop_operands(s, f, n, k);
-    frames::push(s, f, n - k, (r as u32) + 1, 16 + c);
+    frames::push(s, f, n - k, (r as u32) + 1, TYPE_CLASS + c);
     frames::go_to(s, f, i + 1);
     Out::Goes
 }

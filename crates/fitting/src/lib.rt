@@ -34,7 +34,7 @@ fn points_to(l: &[u8], r: usize, t: usize, w: usize) -> bool
     if r <= k {
         return false;
     }
-    words::wide::byte_at(l, RECORDS_AT + RECORD_BYTES * k) == t - 16
+    words::wide::byte_at(l, RECORDS_AT + RECORD_BYTES * k) == t - wide::TYPE_CLASS
 }
 
 // Whether the word w is a value of type t.
@@ -46,10 +46,10 @@ fn value_fits(c: &[u8], l: &[u8], r: usize, t: usize, w: usize) -> bool
     if loader::no_type(n, t) {
         return false;
     }
-    if 16 <= t {
+    if wide::TYPE_CLASS <= t {
         return points_to(l, r, t, w);
     }
-    if t == 2 {
+    if t == wide::TYPE_LOGICAL {
         return w < 2;
     }
     true
@@ -131,7 +131,7 @@ fn calls_next(c: &[u8], base: usize, l: &[u8], n: usize, k: usize) -> bool
     }
     let i = words::wide::half_at(l, ACTIVATIONS_AT + ACTIVATION_BYTES * k + ADDRESS_AT);
     let x = loader::instruction_at(c, base, i);
-    if x.op != 10 {
+    if x.op != wide::OP_CALL {
         return false;
     }
     if x.a != 0 {

@@ -70,20 +70,20 @@ fn run_running(
     while i < allowance {
         let n = frames::wide(s[f + OPERAND_COUNT_AT]);
         let p = base + CODE_BYTES * (at as usize);
-        let op = code[p + OP_AT];
-        let a = code[p + OP_A_AT];
-        let b = words::word_at(code, p + OP_B_AT);
+        let op = code[p + CODE_OP_AT];
+        let a = code[p + CODE_A_AT];
+        let b = words::word_at(code, p + CODE_B_AT);
         match dispatch(code, bx, cx, s, readings, f, n, at, op, a, b) {
             Out::Goes => {
                 i += 1;
                 match op {
-                    8 => {
+                    OP_GO => {
                         at = words::half_at(s, f + ADDRESS_AT);
                     }
-                    9 => {
+                    OP_UNLESS => {
                         at = words::half_at(s, f + ADDRESS_AT);
                     }
-                    10 => {
+                    OP_CALL => {
                         if s[PHASE_AT] != RUNNING {
                             return release(code, s, readings, i, allowance);
                         }
@@ -91,7 +91,7 @@ fn run_running(
                         f = t.place;
                         at = t.address;
                     }
-                    11 => {
+                    OP_RETURN => {
                         let t = top_of(s);
                         f = t.place;
                         at = t.address;

@@ -8,6 +8,7 @@ ghost use Rattle.ops.specs.Acts.{Room, Tells};
 use crate::Event;
 use crate::Out;
 use crate::operands::op_condition;
+use formats::compiled::*;
 use formats::limits::*;
 
 // As a word's number.
@@ -51,7 +52,7 @@ pub fn op_fader(s: &mut [u8], f: usize, n: usize, i: u16, readings: &[u8]) -> Ou
         return op_condition(s, f, n, i, values::OUT_OF_RANGE);
     }
     let v = readings[(x as usize) - 1];
-    frames::put_operand(s, f, k, v as u32, 1);
+    frames::put_operand(s, f, k, v as u32, TYPE_INTEGER);
     frames::go_to(s, f, i + 1);
     Out::Goes
 }

@@ -1,6 +1,7 @@
 // The record pass: whether a macro's records read, and where each class, body and shape stands.
 use formats::compiled::*;
 use formats::limits::*;
+use formats::wide;
 use places::Records;
 ghost use mathlib.Core.Path.{_≡_};
 ghost use mathlib.Core.Bool.{true, false, cond, not, _&&_, _||_};
@@ -40,13 +41,13 @@ fn no_mark(l: &[u8], p: usize, n: usize, x: u8, y: u8) -> bool
 pub fn no_type(c: usize, t: usize) -> bool
     ensures { λ r. ⌜ r ≡ noType c t ⌝ }
 {
-    if t < 16 {
-        if t < 1 {
+    if t < wide::TYPE_CLASS {
+        if t < wide::TYPE_INTEGER {
             return true;
         }
-        return 3 < t;
+        return wide::TYPE_BITS < t;
     }
-    c <= t - 16
+    c <= t - wide::TYPE_CLASS
 }
 
 // Whether one of the n bytes from p is no type. The loop does not leave at the first: it is short, and goes on without a branch.

@@ -57,8 +57,8 @@ pub fn instruction_at(l: &[u8], base: usize, i: usize) -> Instruction
     ensures { λ r. ⌜ (r .op ≡ byteAt (now (l .entry)) (codePlace (now (l .entry)) i + 2)) × (r .a ≡ byteAt (now (l .entry)) (codePlace (now (l .entry)) i + 3)) × (r .b ≡ wordAt (now (l .entry)) (codePlace (now (l .entry)) i + 4)) ⌝ }
 {
     let at = base + CODE_BYTES * i;
-    let op = words::wide::byte_at(l, at + OP_AT);
-    let a = words::wide::byte_at(l, at + OP_A_AT);
-    let b = words::wide::word_at(l, at + OP_B_AT);
+    let op = words::wide::byte_at(l, at + CODE_OP_AT);
+    let a = words::wide::byte_at(l, at + CODE_A_AT);
+    let b = words::wide::word_at(l, at + CODE_B_AT);
     Instruction { op: op, a: a, b: b }
 }

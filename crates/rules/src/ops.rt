@@ -14,6 +14,7 @@ use crate::stack::trade_one;
 use crate::stack::trade_two;
 use formats::compiled::*;
 use formats::limits::*;
+use formats::wide;
 use places::Moved;
 ghost use mathlib.Core.Path.{_≡_};
 ghost use mathlib.Core.Bool.{true, false};
@@ -53,7 +54,7 @@ fn op_integer(a: usize, st: &mut [u8], h: usize, d: usize) -> Moved
     if a != 0 {
         return Moved::Bad;
     }
-    push_type(st, 1, h, d)
+    push_type(st, TYPE_INTEGER, h, d)
 }
 
 fn op_logical(a: usize, b: usize, st: &mut [u8], h: usize, d: usize) -> Moved
@@ -66,7 +67,7 @@ fn op_logical(a: usize, b: usize, st: &mut [u8], h: usize, d: usize) -> Moved
     if 2 <= b {
         return Moved::Bad;
     }
-    push_type(st, 2, h, d)
+    push_type(st, TYPE_LOGICAL, h, d)
 }
 
 fn op_bits(a: usize, st: &mut [u8], h: usize, d: usize) -> Moved
@@ -76,7 +77,7 @@ fn op_bits(a: usize, st: &mut [u8], h: usize, d: usize) -> Moved
     if a != 0 {
         return Moved::Bad;
     }
-    push_type(st, 3, h, d)
+    push_type(st, TYPE_BITS, h, d)
 }
 
 // The type byte of references to records of class a.
@@ -84,7 +85,7 @@ fn class_type(a: usize) -> u8
     requires { ⌜ a < 16 ⌝ }
     ensures { λ r. ⌜ r ≡ 16 + a ⌝ }
 {
-    (16 + a) as u8
+    (wide::TYPE_CLASS + a) as u8
 }
 
 fn op_null(l: &[u8], a: usize, b: usize, st: &mut [u8], h: usize, d: usize) -> Moved
@@ -164,10 +165,10 @@ fn op_store(
 fn is_twofold(t: u8) -> bool
     ensures { λ r. ⌜ r ≡ twofold t ⌝ }
 {
-    if t == 2 {
+    if t == TYPE_LOGICAL {
         return true;
     }
-    t == 3
+    t == TYPE_BITS
 }
 
 // The operators on two logical values or two bits, and on one.
@@ -202,25 +203,25 @@ fn operate(a: usize, st: &mut [u8], h: usize, d: usize) -> Moved
         return Moved::Bad;
     }
     if a < 6 {
-        return trade_two(st, 1, 1, 1, h, d);
+        return trade_two(st, TYPE_INTEGER, TYPE_INTEGER, TYPE_INTEGER, h, d);
     }
     if a < 10 {
-        return trade_two(st, 1, 1, 2, h, d);
+        return trade_two(st, TYPE_INTEGER, TYPE_INTEGER, TYPE_LOGICAL, h, d);
     }
     if a < 12 {
-        return trade_two(st, t, t, 2, h, d);
+        return trade_two(st, t, t, TYPE_LOGICAL, h, d);
     }
     if a < 14 {
         return trade_alike(st, t, h, d);
     }
     if a < 16 {
-        return trade_two(st, 3, 1, 3, h, d);
+        return trade_two(st, TYPE_BITS, TYPE_INTEGER, TYPE_BITS, h, d);
     }
     if a < 20 {
         return Moved::Bad;
     }
     if a < 22 {
-        return trade_one(st, 1, 1, h, d);
+        return trade_one(st, TYPE_INTEGER, TYPE_INTEGER, h, d);
     }
     if a < 23 {
         return trade_self(st, t, h, d);
@@ -309,7 +310,7 @@ fn op_unless(
     if a != 0 {
         return Moved::Bad;
     }
-    match pop_type(st, 2, h, d) {
+    match pop_type(st, TYPE_LOGICAL, h, d) {
         Moved::Goes(g, e) => if lands_at(l, ix, bx, k, b, st, g, e) {
             Moved::Goes(g, e)
         } else {
@@ -474,8 +475,8 @@ fn op_set(a: usize, b: usize, st: &[u8], h: usize, d: usize) -> Moved
     if b != 0 {
         return Moved::Bad;
     }
-    let f = pop_type(st, 1, h, d);
-    pop_after(st, 1, f)
+    let f = pop_type(st, TYPE_INTEGER, h, d);
+    pop_after(st, TYPE_INTEGER, f)
 }
 
 fn op_fader(a: usize, b: usize, st: &mut [u8], h: usize, d: usize) -> Moved
@@ -488,7 +489,7 @@ fn op_fader(a: usize, b: usize, st: &mut [u8], h: usize, d: usize) -> Moved
     if b != 0 {
         return Moved::Bad;
     }
-    trade_one(st, 1, 1, h, d)
+    trade_one(st, TYPE_INTEGER, TYPE_INTEGER, h, d)
 }
 
 fn op_hold(a: usize, b: usize, st: &[u8], h: usize, d: usize) -> Moved
@@ -533,7 +534,7 @@ fn op_assert(a: usize, b: usize, st: &[u8], h: usize, d: usize) -> Moved
     if b != 0 {
         return Moved::Bad;
     }
-    pop_type(st, 2, h, d)
+    pop_type(st, TYPE_LOGICAL, h, d)
 }
 
 fn op_stop(a: usize, b: usize, st: &[u8]) -> Moved
@@ -565,27 +566,27 @@ pub fn effect_of(
     ensures { λ r. ⌜ Moves (now (st .exit)) r (effect (now (l .entry)) k o a b h (tops (now (st .entry)) 0 d)) ⌝ }
 {
     match o {
-        0 => op_end(k, a, b, st, h, d),
-        1 => op_integer(a, st, h, d),
-        2 => op_logical(a, b, st, h, d),
-        3 => op_bits(a, st, h, d),
-        4 => op_null(l, a, b, st, h, d),
-        5 => op_load(l, bx, k, a, b, st, h, d),
-        6 => op_store(l, bx, k, a, b, st, h, d),
-        7 => op_operator(a, b, st, h, d),
-        8 => op_go(l, ix, bx, k, a, b, st, h, d),
-        9 => op_unless(l, ix, bx, k, a, b, st, h, d),
-        10 => op_call(l, bx, a, b, st, h, d),
-        11 => op_return(l, bx, k, a, b, st, h, d),
-        12 => op_make(l, cx, a, b, st, h, d),
-        13 => op_get_field(l, cx, a, b, st, h, d),
-        14 => op_put_field(l, cx, a, b, st, h, d),
-        15 => op_set(a, b, st, h, d),
-        16 => op_fader(a, b, st, h, d),
-        17 => op_hold(a, b, st, h, d),
-        18 => op_release(a, b, st, h, d),
-        19 => op_assert(a, b, st, h, d),
-        20 => op_stop(a, b, st),
+        wide::OP_END => op_end(k, a, b, st, h, d),
+        wide::OP_INTEGER => op_integer(a, st, h, d),
+        wide::OP_LOGICAL => op_logical(a, b, st, h, d),
+        wide::OP_BITS => op_bits(a, st, h, d),
+        wide::OP_NULL => op_null(l, a, b, st, h, d),
+        wide::OP_LOAD => op_load(l, bx, k, a, b, st, h, d),
+        wide::OP_STORE => op_store(l, bx, k, a, b, st, h, d),
+        wide::OP_OPERATOR => op_operator(a, b, st, h, d),
+        wide::OP_GO => op_go(l, ix, bx, k, a, b, st, h, d),
+        wide::OP_UNLESS => op_unless(l, ix, bx, k, a, b, st, h, d),
+        wide::OP_CALL => op_call(l, bx, a, b, st, h, d),
+        wide::OP_RETURN => op_return(l, bx, k, a, b, st, h, d),
+        wide::OP_MAKE => op_make(l, cx, a, b, st, h, d),
+        wide::OP_GET_FIELD => op_get_field(l, cx, a, b, st, h, d),
+        wide::OP_PUT_FIELD => op_put_field(l, cx, a, b, st, h, d),
+        wide::OP_SET => op_set(a, b, st, h, d),
+        wide::OP_FADER => op_fader(a, b, st, h, d),
+        wide::OP_HOLD => op_hold(a, b, st, h, d),
+        wide::OP_RELEASE => op_release(a, b, st, h, d),
+        wide::OP_ASSERT => op_assert(a, b, st, h, d),
+        wide::OP_STOP => op_stop(a, b, st),
         _ => Moved::Bad,
     }
 }
