@@ -2,6 +2,7 @@
 // (refusal 7), and the walk that writes it.
 use compile_pen::Pen;
 use formats::compiled::*;
+use formats::entries::*;
 use formats::limits::*;
 use table::Checked;
 ghost use mathlib.Core.Path.{_≡_};
@@ -117,8 +118,8 @@ fn compile_in(
     ensures { λ r. ⌜ compileOn macroOf (now (table .entry)) (now (out .entry)) ≡ record { verdict = verdictOf r; bytes = now (out .exit) } ⌝ }
 {
     spans::measure(table, sizes);
-    let count = words::half_at(table, 2) as usize;
-    let items = words::word_at(table, 4) as usize;
+    let count = words::half_at(table, A_AT) as usize;
+    let items = words::word_at(table, B_AT) as usize;
     let after = 1 + spans::spanned(table, sizes, 1, count);
     let top = heads::enter_root(table, count, after, items, sizes, env);
     let n = compile_known::number_all(table, count, sizes, known);

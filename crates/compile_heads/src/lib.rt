@@ -1,5 +1,6 @@
 // The front of a macro: HD, the CL records and the BD records.
 use formats::compiled::*;
+use formats::entries::*;
 ghost use mathlib.Core.Path.{_≡_};
 ghost use mathlib.Core.List.{_∷_, _++_};
 ghost use Prim.Native.Nat.{_+_, _-_, _*_, _/_, _%_, _≤_, _<_};
@@ -36,7 +37,10 @@ pub fn length(table: &[u8], classes: usize, bodies: usize) -> usize
     requires { ⌜ ((t : Tree) × Measuring t (now table) classes bodies) ⌝ }
     ensures { λ r. ⌜ ((t : Tree) → Measuring t (now (table .entry)) classes bodies → r ≡ length (front (compiled t))) ⌝ }
 {
-    HEAD_BYTES + CLASS_BYTES * classes + BODY_BYTES * bodies + typed_in(table, 0, table.len() / 8)
+    HEAD_BYTES
+        + CLASS_BYTES * classes
+        + BODY_BYTES * bodies
+        + typed_in(table, 0, table.len() / ENTRY_BYTES)
 }
 
 // ── types ──
@@ -104,7 +108,7 @@ fn put_if_class(
     requires { ⌜ TypesKnown (now table) (now known) × Within (now table) (now sizes) place × (halfAt (now table) (8 * place) ≡ 11 → getD (now sizes) place 0 ≤ 256) × (at + length (classAt (now table) (now sizes) place) ≤ length (now out)) ⌝ }
     ensures { λ r. ⌜ Wrote (now (out .entry)) at (classAt (now (table .entry)) (now (sizes .entry)) place) (now (out .exit)) r ⌝ }
 {
-    if spans::kind_at(table, place) == 11 {
+    if spans::kind_at(table, place) == KIND_CLASS {
         let end = place + spans::size_at(sizes, place);
         return put_class(table, place, end, known, out, at);
     }
@@ -184,7 +188,7 @@ fn put_root(
     ensures { λ r. ⌜ Wrote (now (out .entry)) at (bodyOf 0 0 0 (rootTypes (now (table .entry)))) (now (out .exit)) r ⌝ }
 {
     let types = put_variables(table, count, sizes, known, out, at + BODY_BYTES);
-    let end = put_types(table, after, table.len() / 8, known, out, types);
+    let end = put_types(table, after, table.len() / ENTRY_BYTES, known, out, types);
     put_body(out, at, 0, 0, 0, (end - at - BODY_BYTES) as u8);
     end
 }
@@ -228,7 +232,7 @@ fn put_if_procedure(
     requires { ⌜ TypesKnown (now table) (now known) × Within (now table) (now sizes) place × (halfAt (now table) (8 * place) ≡ 12 → Brief (now table) (partAt (now table) (now sizes) place)) × (at + length (bodyAt (now table) (now sizes) place first) ≤ length (now out)) ⌝ }
     ensures { λ r. ⌜ Wrote (now (out .entry)) at (bodyAt (now (table .entry)) (now (sizes .entry)) place first) (now (out .exit)) r ⌝ }
 {
-    if spans::kind_at(table, place) == 12 {
+    if spans::kind_at(table, place) == KIND_PROCEDURE {
         let end = place + spans::size_at(sizes, place);
         return put_procedure(table, place, end, first, known, out, at);
     }
@@ -240,7 +244,7 @@ fn next_first(table: &[u8], place: usize, ends: &[u16], first: u16) -> u16
     requires { ⌜ (place < length (now table) / 8) × (place < length (now ends)) ⌝ }
     ensures { λ r. ⌜ r ≡ firstAfter (halfAt (now (table .entry)) (8 * place)) (getD (now (ends .entry)) place 0) first ⌝ }
 {
-    if spans::kind_at(table, place) == 12 {
+    if spans::kind_at(table, place) == KIND_PROCEDURE {
         ends[place]
     } else {
         first

@@ -29,9 +29,9 @@ fn put_instruction(out: &mut [u8], at: usize, op: u8, a: u8, b: u32)
 {
     out[at] = b'I';
     out[at + 1] = b'N';
-    out[at + OP_AT] = op;
-    out[at + OP_A_AT] = a;
-    words::put_word(out, at + OP_B_AT, b);
+    out[at + CODE_OP_AT] = op;
+    out[at + CODE_A_AT] = a;
+    words::put_word(out, at + CODE_B_AT, b);
 }
 
 pub fn emit(out: &mut [u8], p: Pen, op: u8, a: u8, b: u32) -> Pen
@@ -62,7 +62,7 @@ pub fn releases(out: &mut [u8], pen: Pen, count: usize) -> Pen
     let mut left = count;
     let mut p = pen;
     while 0 < left {
-        p = emit(out, p, 18, 0, 0);
+        p = emit(out, p, OP_RELEASE, 0, 0);
         left -= 1;
     }
     p
