@@ -49,7 +49,7 @@ pub const SHAPE_BYTES: usize = 6;
 pub const END_BYTES: usize = 2;
 
 // ── type bytes ──
-// "A type byte is 1, 2, 3, or 16 + class number."
+// "A type byte is 1, 2, 3, or 16 + class number.": integer, logical, bits, the first class
 pub const TYPE_INTEGER: u8 = 1;
 
 pub const TYPE_LOGICAL: u8 = 2;
@@ -59,6 +59,7 @@ pub const TYPE_BITS: u8 = 3;
 pub const TYPE_CLASS: u8 = 16;
 
 // ── ops ──
+// "Ops: 0 end; 1, 2, 3 push integer, logical, bits b; 4 push null of class a; 5, 6 push, store cell b (…); 7 operator a; 8 go to b; 9 go to b if false; …"
 pub const OP_END: u8 = 0;
 
 pub const OP_INTEGER: u8 = 1;

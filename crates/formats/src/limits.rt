@@ -8,6 +8,7 @@ pub const MAX_TABLE_BYTES: usize = ENTRY_BYTES * MAX_ENTRIES;
 
 pub const MAX_NESTING: usize = 64;
 
+// what is left of it below the root, and below a procedure of the root's head
 pub const BELOW_ROOT: usize = MAX_NESTING - 1;
 
 pub const BELOW_HEAD: usize = BELOW_ROOT - 1;
@@ -19,6 +20,7 @@ pub const MAX_CLASSES: usize = 16;
 
 pub const MAX_FIELDS: usize = 8;
 
+// "Kinds 11 and 12 stand only in the root's head, at most 16 and 63."; the root is a body too
 pub const MAX_PROCEDURES: usize = MAX_BODIES - 1;
 
 // "A body has at most 32 cells (…), 16 holds open together, and a working need of 32."
