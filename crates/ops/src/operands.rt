@@ -7,6 +7,7 @@ ghost use Rattle.values.specs.Operators.{Operator, Unary, Binary, unary, binary
 ghost use Rattle.bytecode.specs.Machine.{doLoad, doStore, doOperate, condition};
 ghost use Rattle.ops.specs.Acts.{Room, Tells, Pushes};
 use crate::Out;
+use formats::state::*;
 use operate::Worked;
 
 // Every condition goes on by releasing.
@@ -35,7 +36,7 @@ fn owner(f: usize, a: u8) -> usize
     if a == 0 {
         return f;
     }
-    32
+    ACTIVATIONS_AT
 }
 
 pub fn op_load(s: &mut [u8], f: usize, n: usize, i: u16, a: u8, b: usize) -> Out
