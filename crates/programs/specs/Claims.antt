@@ -2,6 +2,7 @@
 use mathlib.Core.Path.{_≡_}
 use mathlib.Core.Bool.{true}
 use mathlib.Core.List.{List, [], _∷_, _++_}
+use mathlib.Core.Logic.{_⊎_}
 use Prim.Native.Nat.{ℕ, _/_, _%_, _≤_, _<_}
 use lib.ListN.{length}
 use Rattle.values.specs.Ends.{Refusal, refusal, Judged, accepted, refused}
@@ -38,6 +39,20 @@ pub record Holds (l : List ℕ) (t : Tree) : Type 0 where
   pub shaped : Shaped l
   pub readable : Readable t
   pub same : entriesOf l ≡ flatten t
+
+-- "at one entry 3, 4, 5 in that order": the faults that are met where these entries are judged one after the other, the first with numbers from n
+pub data Walk : ℕ → List ℕ → List Refusal → Type 0 where
+  end : Walk 3 [] []
+  pass : {n p : ℕ} {ps : List ℕ} {rs : List Refusal} → Walk 3 ps rs → Walk n (p ∷ ps) rs  -- on to the next entry
+  meet : {n m p : ℕ} {ps : List ℕ} {rs : List Refusal} → n ≤ m → m ≤ 5 → Walk m (p ∷ ps) rs → Walk n (p ∷ ps) (refusal m p ∷ rs)
+
+-- p stands before q
+abbrev pub Earlier : ℕ → ℕ → List ℕ → Type 0
+Earlier p q ps = (us : List ℕ) × (vs : List ℕ) × (ws : List ℕ) × (ps ≡ us ++ (p ∷ (vs ++ (q ∷ ws))))
+
+-- of two faults that were met the first stands at the same entry and has no larger number, or at an entry that was judged earlier
+abbrev pub Ordered : Refusal → Refusal → List ℕ → Type 0
+Ordered a b ps = ((a .place ≡ b .place) × (a .number ≤ b .number)) ⊎ Earlier (a .place) (b .place) ps
 
 -- what the check answers, and when: 1 at 0; 2, where the table holds no tree; the first of all faults of the tree that it holds and of the
 -- limits of its bodies; or that tree, if there is none

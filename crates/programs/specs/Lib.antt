@@ -6,8 +6,10 @@ pub mod ReadBack
 pub mod WriteBack
 pub mod Roots
 pub mod Bytes
+pub mod Outline
+pub mod Sizes
 pub mod Claims
 pub mod Verdicts
-pub mod Spans
+pub mod Walks
 pub mod Order
 pub mod Programs

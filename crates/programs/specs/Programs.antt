@@ -13,11 +13,12 @@ use Rattle.language.specs.Table.{Entry, flatten, bytesOf, took, first, formRoot
 use Rattle.language.specs.Faults.{faults}
 use Rattle.language.specs.Judge.{judgeTable, all, inFields, Program}
 use Rattle.programs.specs.Bytes.{bytes-back, fields-kept, entries-all, length-bytes}
-use Rattle.programs.specs.Claims.{Readable, entriesOf, Verdict}
-use Rattle.programs.specs.Order.{spans-faults}
+use Rattle.programs.specs.Claims.{Readable, entriesOf, Walk, Earlier, Ordered, Verdict}
+use Rattle.programs.specs.Order.{walk-faults}
+use Rattle.programs.specs.Outline.{postorder, outline}
 use Rattle.programs.specs.Roots.{takes-root, yields-root}
-use Rattle.programs.specs.Spans.{spans-order}
 use Rattle.programs.specs.Verdicts
+use Rattle.programs.specs.Walks.{walk-order, ordered-same, within-postorder, within-once}
 
 -- ── trees and entries ──
 -- the entries of a tree are read as the tree, whatever comes after them
@@ -47,10 +48,23 @@ verdict l = Verdicts.verdict l
 pub refusal-says : (l : List ℕ) (r : Refusal) → judgeTable l ≡ refused r → Verdict l (refused r)
 refusal-says l r e = rw e at (verdict l)
 
+-- ── the order of the faults ──
+-- "Table entries are judged inner before outer, left to right": all faults are met on one walk over the entries in postorder
+pub faults-postorder : (t : Tree) → Walk 3 (postorder 0 (outline t)) (faults t)
+faults-postorder t = walk-faults t
+
+-- which comes to no entry twice
+pub postorder-once : (t : Tree) (p : ℕ) → Earlier p p (postorder 0 (outline t)) → ⊥
+postorder-once t p h = within-once (within-postorder (outline t) 0) p h
+
+-- so of two faults the first stands at an entry earlier in postorder, or at the same entry with no larger number
+pub faults-ordered : (t : Tree) (xs ys zs : List Refusal) (a b : Refusal) → faults t ≡ xs ++ (a ∷ (ys ++ (b ∷ zs))) → Ordered a b (postorder 0 (outline t))
+faults-ordered t xs ys zs a b e = walk-order (walk-faults t) xs ys zs a b e
+
 -- at one entry no larger number stands before a smaller one: 3, 4, 5 in that order
 pub faults-order : (t : Tree) (xs ys zs : List Refusal) (a b : Refusal) → faults t ≡ xs ++ (a ∷ (ys ++ (b ∷ zs))) → a .place ≡ b .place
     → a .number ≤ b .number
-faults-order t xs ys zs a b e = spans-order xs ys zs a b (rw e at (spans-faults t))
+faults-order t xs ys zs a b e p = ordered-same (faults-ordered t xs ys zs a b e) p (postorder-once t (a .place))
 
 -- ── programs: the check accepts a table exactly if it is one, and answers its tree ──
 pub accepted-program : (l : List ℕ) → Bytes l → (t : Tree) → judgeTable l ≡ accepted t → (p : Program l) × (p .tree ≡ t)
