@@ -9,6 +9,7 @@ pub mod Bytes
 pub mod Outline
 pub mod Sizes
 pub mod Claims
+pub mod Stops
 pub mod Verdicts
 pub mod Walks
 pub mod Order
