@@ -10,6 +10,8 @@ pub mod Outline
 pub mod Sizes
 pub mod Claims
 pub mod Stops
+pub mod StopForms
+pub mod StopRoots
 pub mod Verdicts
 pub mod Walks
 pub mod Order

@@ -75,7 +75,7 @@ stops-here {D = D} x e =
     record { entries = []; blank = x; whole = w; reads = λ es. record { used = []; split = refl; whole = w; shallow = shallow-none (D x) } }
 
 pub stops-if : {A : Type 0} {r q s p : Reader A} {D : A → List ℕ} (b : Bool) → Stops r q D → Stops s p D
-    → Stops (λ es. if b then r es else s es) (λ es. if b then q es else p es) D
+    → Stops (if b then r else s) (if b then q else p) D
 stops-if true h k = h
 stops-if false h k = k
 
