@@ -41,8 +41,9 @@ pub record Holds (l : List ℕ) (t : Tree) : Type 0 where
   pub readable : Readable t
   pub same : entriesOf l ≡ flatten t
 
--- the first n entries begin a tree that keeps to the layout and the counts, and none of them is deeper than 64. What comes after them in the
--- tree may be deeper, and may be more than a table holds: the entries are read from left to right
+-- the first n entries begin a tree that keeps to the layout and the counts, and none of these n is deeper than 64. "An entry does not read if a
+-- reader that takes entries from left to right cannot accept it at its position" (R1): so nothing is asked of how deep the rest of the tree is, nor
+-- of how long
 pub record Begins (es : List Entry) (n : ℕ) : Type 0 where
   pub tree : Tree
   pub rest : List Entry
@@ -64,6 +65,9 @@ pub data Walk : ℕ → List ℕ → List Refusal → Type 0 where
   pass : {n p : ℕ} {ps : List ℕ} {rs : List Refusal} → Walk 3 ps rs → Walk n (p ∷ ps) rs  -- on to the next entry
   meet : {n m p : ℕ} {ps : List ℕ} {rs : List Refusal} → n ≤ m → m ≤ 5 → Walk m (p ∷ ps) rs → Walk n (p ∷ ps) (refusal m p ∷ rs)
 
+abbrev pub Stands : ℕ → List ℕ → Type 0
+Stands p ps = (us : List ℕ) × (ws : List ℕ) × (ps ≡ us ++ (p ∷ ws))
+
 -- p stands before q
 abbrev pub Earlier : ℕ → ℕ → List ℕ → Type 0
 Earlier p q ps = (us : List ℕ) × (vs : List ℕ) × (ws : List ℕ) × (ps ≡ us ++ (p ∷ (vs ++ (q ∷ ws))))
@@ -72,8 +76,8 @@ Earlier p q ps = (us : List ℕ) × (vs : List ℕ) × (ws : List ℕ) × (ps �
 abbrev pub Ordered : Refusal → Refusal → List ℕ → Type 0
 Ordered a b ps = ((a .place ≡ b .place) × (a .number ≤ b .number)) ⊎ Earlier (a .place) (b .place) ps
 
--- what the check answers, and when: 1 at 0; 2, where the table holds no tree, at the first entry that does not read; the first of all faults of the tree that it holds and of the
--- limits of its bodies; or that tree, if there is none
+-- what the check answers, and when: 1 at 0; 2, where the table holds no tree, at the first entry that does not read; the first of all faults of
+-- the tree that it holds and of the limits of its bodies; or that tree, if there is none
 pub data Verdict (l : List ℕ) : Judged Tree → Type 0 where
   misshapen : Misshapen l → Verdict l (refused (refusal 1 0))
   unread : Shaped l → ((t : Tree) → Holds l t → ⊥) → (place : ℕ) → FirstUnread (entriesOf l) place → Verdict l (refused (refusal 2 place))

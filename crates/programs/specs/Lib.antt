@@ -7,6 +7,7 @@ pub mod WriteBack
 pub mod Roots
 pub mod Bytes
 pub mod Outline
+pub mod Outlined
 pub mod Sizes
 pub mod Claims
 pub mod Stops

@@ -1,6 +1,6 @@
 -- Which entry of a tree stands under which, and from it the depth of each entry and the order in which entries are judged.
 use mathlib.Core.List.{List, [], _∷_, _++_}
-use Prim.Native.Nat.{ℕ, suc, _+_}
+use Prim.Native.Nat.{ℕ, suc, _+_, max}
 use Rattle.language.specs.Tree.{Typed, Decl, Stmt, block, assign, when, choose, while, goto, assert, call, setLevel, select, Items, noItem, label, item, Arms, lastArm, arm, Target, toVariable, toField, Expr, number, truth, pattern, null, variable, invoke, field, make, operate1, operate2, conditional, fader, blockExpr, Exprs, noExpr, expr, Body, proper, function, Global, local, class, procedure, Tree}
 
 infixr 60 _beside_
@@ -21,6 +21,10 @@ unfoldable pub depths : ℕ → Outline → List ℕ
 depths d none = []
 depths d (under o) = d ∷ depths (suc d) o
 depths d (a beside b) = depths d a ++ depths d b
+
+unfoldable pub deepest : List ℕ → ℕ
+deepest [] = 0
+deepest (d ∷ ds) = max d (deepest ds)
 
 -- the places of the entries, "inner before outer, left to right", where the first entry has place p
 unfoldable pub postorder : ℕ → Outline → List ℕ

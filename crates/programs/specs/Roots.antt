@@ -20,7 +20,7 @@ use Rattle.programs.specs.Yields.{Yields, yields-here, yields-stop, yiel
 use Rattle.programs.specs.ReadBack.{Reads, reads, leaves, takes-leaves, takes-items, decl-form}
 use Rattle.programs.specs.WriteBack.{Kept, kept-none, kept-cons, kept-join, kept-leaf, counted-is, kind-if, Gives, gives, decl-yields, yields-items}
 
-deep-list : (xs : List Typed) → deepList xs ≡ leaves xs
+pub deep-list : (xs : List Typed) → deepList xs ≡ leaves xs
 deep-list [] = refl
 deep-list (x ∷ xs) = refl
 

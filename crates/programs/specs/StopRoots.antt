@@ -6,15 +6,16 @@ use Prim.Native.Nat.{ℕ, zero, suc, _+_, _-_, _/_, _%_, _≤_, _<_}
 use native.Mathlib.Omega.{arith}
 use lib.Dec.{eqb, ltb}
 use lib.IntN.{pos, natAbs}
-use lib.ListN.{length, take, getD, length-append}
-use lib.Seq.{take-append-seam, take-append-add}
+use lib.ListN.{length, take, drop, getD, length-append, take-append-drop}
+use lib.Seq.{take-append-seam, take-append-add, take-take}
 use Rattle.values.specs.Types.{integer}
 use Rattle.language.specs.Tree.{Typed, holding, noItem, Body, proper, function, Global, local, class, procedure, Tree}
 use Rattle.language.specs.Table.{Entry, entry, inLayout, tyOfCode, flatten, nesting, Read, took, stop, after, times, first, formDecl, itemsOf, Below, below, bodyBelow, formGlobal, readHead, classCount, procedureCount, treeOf, formRoot}
 use Rattle.programs.specs.Basics.{clash}
-use Rattle.programs.specs.Claims.{Begins, FirstUnread}
-use Rattle.programs.specs.Outline.{depths, leavesOf, outlineBody, outlineGlobal, outlineHead, outlineS, outline}
-use Rattle.programs.specs.Roots.{formRootAt, takes-root-at, Written, yields-root-at}
+use Rattle.programs.specs.Claims.{Readable, Begins, FirstUnread}
+use Rattle.programs.specs.Outline.{size, depths, leavesOf, outlineBody, outlineGlobal, outlineHead, outlineS, outline}
+use Rattle.programs.specs.Roots.{formRootAt, takes-root, takes-root-at, Written, yields-root-at}
+use Rattle.programs.specs.Sizes.{length-depths}
 use Rattle.programs.specs.StopForms.{leavesAt, Beside, beside, decl-form, stops-items}
 use Rattle.programs.specs.Stops.{Whole, Through, Stopped, Fate, Stops, stops-here, stops-if, stops-with, stops-made, stops-two, stops-times, Forms, goes, forms-stop, forms-if, forms-made, Rooted, stops-first}
 use Rattle.programs.specs.Takes.{Takes}
@@ -146,3 +147,30 @@ first-after es t x xs e =
           let u : Through (first (formRootAt (63 + nesting (b .tree)))) treeAt es (x ∷ xs) t = fate (63 + nesting (b .tree)) (omega arith) es (took t (x ∷ xs)) e in
           clash (cc (taken (u .used) xs x (u .split) (ap suc (length-used (u .used) (x ∷ xs) (u .split))) b, u .whole .takes .takes (x ∷ b .rest)));
     }
+
+-- ── there is only one ──
+begins-fewer : {es : List Entry} {n m : ℕ} → Begins es n → m ≤ n → Begins es m
+begins-fewer {es} {n} {m} b h =
+    let us = drop m (take n es) in
+    let e : take n es ≡ take m es ++ us = rw (take-take m n es) at (sym (take-append-drop m (take n es))) in
+    record {
+      tree = b .tree;
+      rest = us ++ b .rest;
+      same = rw (← append-assoc (take m es) us (b .rest), ← e) (b .same);
+      layout = b .layout;
+      depth = λ i k. b .depth i (omega arith);
+      classes = b .classes;
+      procedures = b .procedures;
+    }
+
+pub one-unread : {es : List Entry} {p q : ℕ} → FirstUnread es p → FirstUnread es q → p ≡ q
+one-unread {es} {p} {q} f g =
+    let l : p < q → ⊥ = λ h. f .here (omega arith) (begins-fewer (g .before) h) in
+    let r : q < p → ⊥ = λ h. g .here (omega arith) (begins-fewer (f .before) h) in
+    omega arith
+
+-- a tree that was read has as many entries as its outline
+pub size-flatten : (t : Tree) → Readable t → size (outline t) ≡ length (flatten t)
+size-flatten t h =
+    let s : Through (first (formRootAt 63)) treeAt (flatten t) [] t = fate 63 (omega arith) (flatten t) (took t []) (rw (append-nil (flatten t)) at (takes-root t h .takes [])) in
+    omega (arith, s .whole .count, length-depths (outline t) 1, ap length (s .split), length-append (s .used) [])

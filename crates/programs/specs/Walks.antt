@@ -1,14 +1,15 @@
 -- Laws of judging entry by entry: parts one after the other, the faults of one entry, and what is told of two faults.
 use mathlib.Core.Path.{_≡_, refl, ap}
 use mathlib.Core.Bool.{Bool, true, false}
-use mathlib.Core.List.{List, [], _∷_, _++_}
+use mathlib.Core.List.{List, [], _∷_, _++_, append-assoc}
 use mathlib.Core.Logic.{_⊎_, inl, inr}
 use Prim.Native.Nat.{ℕ, suc, _+_, _≤_, _<_}
+use native.Mathlib.Decide.{decLt}
 use native.Mathlib.Omega.{arith}
 use Rattle.values.specs.Ends.{Refusal, refusal}
 use Rattle.language.specs.Faults.{faultIf}
 use Rattle.programs.specs.Basics.{clash}
-use Rattle.programs.specs.Claims.{Walk, end, pass, meet, Earlier, Ordered}
+use Rattle.programs.specs.Claims.{Walk, end, pass, meet, Stands, Earlier, Ordered}
 use Rattle.programs.specs.Outline.{Outline, none, under, _beside_, size, postorder}
 
 -- ── one after the other ──
@@ -36,11 +37,7 @@ three-first true p w = meet {n = 3} {m = 3} (omega arith) (omega arith) w
 three-first false p w = w
 
 -- ── two faults ──
-In : ℕ → List ℕ → Type 0
-In q ps = (us : List ℕ) × (ws : List ℕ) × (ps ≡ us ++ (q ∷ ws))
-
-met : {n : ℕ} {ps : List ℕ} {rs : List Refusal} → Walk n ps rs → (ys zs : List Refusal) (b : Refusal) → rs ≡ ys ++ (b ∷ zs) → In (b .place) ps
-unfolding In
+met : {n : ℕ} {ps : List ℕ} {rs : List Refusal} → Walk n ps rs → (ys zs : List Refusal) (b : Refusal) → rs ≡ ys ++ (b ∷ zs) → Stands (b .place) ps
 met end [] zs b e = clash (cc)
 met end (y ∷ ys) zs b e = clash (cc)
 met (pass {p = p} w) ys zs b e = let i = met w ys zs b e in (p ∷ i .0, i .1, ap (λ (l : List ℕ). p ∷ l) (i .2))
@@ -49,12 +46,12 @@ met (meet h j w) (y ∷ ys) zs b e = met w ys zs b (cc)
 
 -- at the entry that is judged, or at one after it
 here-or-later : {n p : ℕ} {ps : List ℕ} {rs : List Refusal} → Walk n (p ∷ ps) rs → (ys zs : List Refusal) (b : Refusal) → rs ≡ ys ++ (b ∷ zs)
-    → ((p ≡ b .place) × (n ≤ b .number)) ⊎ In (b .place) ps
+    → ((p ≡ b .place) × (n ≤ b .number)) ⊎ Stands (b .place) ps
 here-or-later (pass w) ys zs b e = inr (met w ys zs b e)
 here-or-later (meet {m = m} {p = p} h j w) [] zs b e = let q : refusal m p ≡ b = cc in rw (← q) (inl (refl, h))
 here-or-later {n} {p} {ps} (meet {m = m} h j w) (y ∷ ys) zs b e = go (here-or-later w ys zs b (cc))
   where
-    go : ((p ≡ b .place) × (m ≤ b .number)) ⊎ In (b .place) ps → ((p ≡ b .place) × (n ≤ b .number)) ⊎ In (b .place) ps
+    go : ((p ≡ b .place) × (m ≤ b .number)) ⊎ Stands (b .place) ps → ((p ≡ b .place) × (n ≤ b .number)) ⊎ Stands (b .place) ps
     go (inl k) = inl (k .0, omega arith)
     go (inr k) = inr k
 
@@ -64,14 +61,13 @@ ordered-later p (inr k) = inr (p ∷ k .0, k .1, k .2, ap (λ (l : List ℕ). p 
 
 pub walk-order : {n : ℕ} {ps : List ℕ} {rs : List Refusal} → Walk n ps rs → (xs ys zs : List Refusal) (a b : Refusal) → rs ≡ xs ++ (a ∷ (ys ++ (b ∷ zs)))
     → Ordered a b ps
-unfolding In
 walk-order end [] ys zs a b e = clash (cc)
 walk-order end (x ∷ xs) ys zs a b e = clash (cc)
 walk-order (pass {p = p} w) xs ys zs a b e = ordered-later p (walk-order w xs ys zs a b e)
 walk-order (meet {m = m} {p = p} {ps = ps} h j w) [] ys zs a b e =
     let q : refusal m p ≡ a = cc in rw (← q) (go (here-or-later w ys zs b (cc)))
   where
-    go : ((p ≡ b .place) × (m ≤ b .number)) ⊎ In (b .place) ps → Ordered (refusal m p) b (p ∷ ps)
+    go : ((p ≡ b .place) × (m ≤ b .number)) ⊎ Stands (b .place) ps → Ordered (refusal m p) b (p ∷ ps)
     go (inl k) = inl k
     go (inr k) = inr ([], k .0, k .1, ap (λ (l : List ℕ). p ∷ l) (k .2))
 walk-order (meet h j w) (x ∷ xs) ys zs a b e = walk-order w xs ys zs a b (cc)
@@ -132,6 +128,28 @@ within-once w p k = go w (k .0) (k .1) (k .2) (k .3)
 pub ordered-same : {a b : Refusal} {ps : List ℕ} → Ordered a b ps → a .place ≡ b .place → (Earlier (a .place) (a .place) ps → ⊥) → a .number ≤ b .number
 ordered-same (inl k) e h = k .1
 ordered-same (inr k) e h = absurd (h (rw (← e) at k))
+
+stands-left : {p : ℕ} {ps : List ℕ} (qs : List ℕ) → Stands p ps → Stands p (ps ++ qs)
+stands-left {p} qs k = (k .0, k .1 ++ qs, rw (k .2) (append-assoc (k .0) (p ∷ k .1) qs))
+
+stands-right : {p : ℕ} (ps : List ℕ) {qs : List ℕ} → Stands p qs → Stands p (ps ++ qs)
+stands-right {p} ps k = (ps ++ k .0, k .1, rw (k .2, append-assoc ps (k .0) (p ∷ k .1)))
+
+either : {A : Type 0} (n m : ℕ) → (n < m → A) → (m ≤ n → A) → A
+either {A} n m f g = go (decLt n m)
+  where
+    go : Dec (n < m) → A
+    go (yes k) = f k
+    go (no k) = g (omega arith)
+
+pub postorder-all : (o : Outline) (q p : ℕ) → q ≤ p → p < q + size o → Stands p (postorder q o)
+unfolding size postorder
+postorder-all none q p l h = absurd (omega arith)
+postorder-all (under o) q p l h =
+    either q p (λ k. stands-left (q ∷ []) (postorder-all o (suc q) p k (omega arith))) (λ k. let e : q ≡ p = omega arith in (postorder (suc q) o, [], rw e))
+postorder-all (a beside b) q p l h =
+    either p (q + size a) (λ k. stands-left (postorder (q + size a) b) (postorder-all a q p l k))
+    (λ k. stands-right (postorder q a) (postorder-all b (q + size a) p k (omega arith)))
 
 -- the first fault that is met
 pub walk-first : {n lo hi : ℕ} {ps : List ℕ} {r : Refusal} {rs : List Refusal} → Walk n ps (r ∷ rs) → Within lo hi ps → (r .number ≤ 5) × (r .place < hi)
