@@ -1,15 +1,15 @@
 -- The faults of a part are met where its entries are judged in postorder.
 use mathlib.Core.Path.{_≡_}
-use mathlib.Core.Bool.{Bool, true, not, _&&_}
+use mathlib.Core.Bool.{Bool, not, _&&_}
 use mathlib.Core.List.{List, [], _∷_, _++_, append-assoc, append-nil}
 use Prim.Native.Nat.{ℕ, suc, _+_, _≤_, _<_}
 use native.Mathlib.Omega.{arith}
 use lib.ListN.{length}
 use Rattle.values.specs.Types.{Ty, integer, logical, bits, reference}
-use Rattle.values.specs.Ends.{Refusal, refusal}
+use Rattle.values.specs.Ends.{Refusal}
 use Rattle.language.specs.Tree.{Typed, Decl, declare, holding, Stmt, block, assign, when, choose, while, goto, assert, call, setLevel, select, Items, noItem, label, item, Arms, lastArm, arm, Target, toVariable, toField, Expr, number, truth, pattern, null, variable, invoke, field, make, operate1, operate2, conditional, fader, blockExpr, Exprs, noExpr, expr, Body, proper, function, Global, local, class, procedure, Tree}
 use Rattle.language.specs.Names.{Sort, isVariable, isLabel, isClass, isField, isProcedure, Scope, blockOf, expressionOf, procedureOf, rootOf, Found, nowhere, found, lookup}
-use Rattle.language.specs.Faults.{typeE, typesE, isTy, sameTy, fitsTy, hasTy, typeTarget, faultIf, named, variableSort, classSort, classFrom, fieldOf, callOf, aimed, among, typeFaults, sizeS, sizeItems, sizeArms, sizeTarget, sizeE, sizeEs, faultsTyped, faultsHead, namesHead, faultsS, faultsItems, faultsArms, faultsTarget, faultsE, faultsEs, sizeBody, sizeGlobal, faultsBody, bodyFits, namesGlobal, faultsGlobal, faultsGlobals, faults}
+use Rattle.language.specs.Faults.{typeE, typesE, isTy, sameTy, fitsTy, hasTy, typeTarget, faultIf, named, variableSort, classSort, classFrom, fieldOf, callOf, aimed, among, typeFaults, sizeS, sizeItems, sizeTarget, sizeE, faultsTyped, faultsHead, namesHead, faultsS, faultsItems, faultsArms, faultsTarget, faultsE, faultsEs, sizeGlobal, faultsBody, bodyFits, namesGlobal, faultsGlobal, faultsGlobals, faults}
 use Rattle.language.specs.Judge.{total}
 use Rattle.programs.specs.Claims.{Walk, end, pass}
 use Rattle.programs.specs.Outline.{Outline, leaf, none, under, _beside_, size, postorder, leavesOf, outlineS, outlineItems, outlineArms, outlineTarget, outlineE, outlineEs, outlineBody, outlineGlobal, outlineHead, outline}

@@ -1,15 +1,14 @@
 -- Where the readers of parts of the tree stop, beside those that read deeper: what is left to fill in, and which entry is too deep.
-use mathlib.Core.Path.{_≡_, refl, sym, _∙_, ap}
+use mathlib.Core.Path.{_≡_, refl, sym, ap}
 use mathlib.Core.List.{List, [], _∷_, _++_, append-nil}
 use mathlib.Core.Option.{Option·getD}
-use Prim.Native.Nat.{ℕ, zero, suc, _+_, _-_, _≤_, _<_}
+use Prim.Native.Nat.{ℕ, zero, suc, _+_, _-_, _<_}
 use native.Mathlib.Omega.{arith}
 use lib.Dec.{eqb}
 use lib.IntN.{pos, natAbs}
-use lib.ListN.{drop}
 use Rattle.values.specs.Types.{integer}
 use Rattle.values.specs.Operators.{negate, plus, unaryOf, binaryOf}
-use Rattle.language.specs.Tree.{Typed, typed, Decl, holding, Stmt, block, assign, when, choose, while, goto, assert, call, setLevel, select, Items, Target, toVariable, toField, Expr, number, truth, pattern, null, variable, invoke, field, make, operate1, operate2, conditional, fader, blockExpr, Exprs}
+use Rattle.language.specs.Tree.{typed, holding, Stmt, block, assign, when, choose, while, goto, assert, call, setLevel, select, Items, Target, toVariable, toField, Expr, number, truth, pattern, null, variable, invoke, field, make, operate1, operate2, conditional, fader, blockExpr, Exprs}
 use Rattle.language.specs.Table as T
 use Rattle.language.specs.Table.{Entry, entry, inLayout, made, first, formTyped, formDecl, Part, named, done, itemsOf, armsOf, exprsOf, Below, formS, formPart, formTarget, formE, below}
 use Rattle.programs.specs.Outline.{Outline, leaf, depths, leavesOf, outlineS, outlineItems, outlineArms, outlineTarget, outlineE, outlineEs}

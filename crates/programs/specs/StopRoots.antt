@@ -9,8 +9,8 @@ use lib.IntN.{pos, natAbs}
 use lib.ListN.{length, take, drop, getD, length-append, take-append-drop}
 use lib.Seq.{take-append-seam, take-append-add, take-take}
 use Rattle.values.specs.Types.{integer}
-use Rattle.language.specs.Tree.{Typed, holding, noItem, Body, proper, function, Global, local, class, procedure, Tree}
-use Rattle.language.specs.Table.{Entry, entry, inLayout, tyOfCode, flatten, nesting, Read, took, stop, after, times, first, formDecl, itemsOf, Below, below, bodyBelow, formGlobal, readHead, classCount, procedureCount, treeOf, formRoot}
+use Rattle.language.specs.Tree.{holding, noItem, Body, proper, function, Global, local, class, procedure, Tree}
+use Rattle.language.specs.Table.{Entry, entry, inLayout, tyOfCode, flatten, nesting, Read, took, stop, after, times, first, formDecl, itemsOf, Below, bodyBelow, formGlobal, readHead, classCount, procedureCount, treeOf, formRoot}
 use Rattle.programs.specs.Basics.{clash}
 use Rattle.programs.specs.Claims.{Readable, Begins, FirstUnread}
 use Rattle.programs.specs.Outline.{size, depths, leavesOf, outlineBody, outlineGlobal, outlineHead, outlineS, outline}

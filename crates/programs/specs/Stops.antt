@@ -10,8 +10,8 @@ use lib.Seq.{getD-append-add}
 use Rattle.words.specs.Choice.{if_then_else_}
 use Rattle.language.specs.Table.{Entry, inLayout, Read, took, stop, Reader, after, made, two, three, times, first}
 use Rattle.programs.specs.Basics.{clash}
-use Rattle.programs.specs.Takes.{Takes, takes-here, takes-made, takes-after, takes-none}
-use Rattle.programs.specs.Yields.{Taken, split-after}
+use Rattle.programs.specs.Takes.{Takes, takes-here, takes-made, takes-after}
+use Rattle.programs.specs.Yields.{split-after}
 
 -- ── depths ──
 -- the first n are at most 64
@@ -30,8 +30,8 @@ shallow-left ms ns g h i k = rw (List·getD-append ms ns 0 i (omega arith)) (h i
 
 shallow-append : {n m : ℕ} (ms ns : List ℕ) → n ≡ length ms → Shallow ms n → Shallow ns m → Shallow (ms ++ ns) (n + m)
 shallow-append [] ns e h k i j = k i (omega arith)
-shallow-append {n = n} {m = m} (d ∷ ms) ns e h k zero j = h zero (omega arith)
-shallow-append {n = n} {m = m} (d ∷ ms) ns e h k (suc i) j = shallow-append {n = length ms} {m = m} ms ns refl (λ l g. h (suc l) (omega arith)) k i (omega arith)
+shallow-append (d ∷ ms) ns e h k zero j = h zero (omega arith)
+shallow-append {m = m} (d ∷ ms) ns e h k (suc i) j = shallow-append {n = length ms} {m = m} ms ns refl (λ l g. h (suc l) (omega arith)) k i (omega arith)
 
 deep-left : (ms ns : List ℕ) (i : ℕ) → 65 ≤ getD ms i 0 → 65 ≤ getD (ms ++ ns) i 0
 deep-left [] ns i h = absurd (omega arith)
@@ -39,16 +39,19 @@ deep-left (d ∷ ms) ns zero h = h
 deep-left (d ∷ ms) ns (suc i) h = deep-left ms ns i h
 
 -- ── what becomes of reading: r is the reader, q the one beside it, D the depths of what is read ──
+-- q takes these entries as x, whatever comes after them
 pub record Whole {A : Type 0} (q : Reader A) (D : A → List ℕ) (us : List Entry) (x : A) : Type 0 where
   pub takes : Takes q us x
   pub count : length us ≡ length (D x)
 
+-- r took x
 pub record Through {A : Type 0} (q : Reader A) (D : A → List ℕ) (es rest : List Entry) (x : A) : Type 0 where
   pub used : List Entry
   pub split : es ≡ used ++ rest
   pub whole : Whole q D used x
   pub shallow : Shallow (D x) (length used)
 
+-- r stopped: entries after those used complete them to a value; a value that goes on with the entry there has it too deep
 pub record Stopped {A : Type 0} (q : Reader A) (D : A → List ℕ) (es xs : List Entry) : Type 0 where
   pub used : List Entry
   pub split : es ≡ used ++ xs
