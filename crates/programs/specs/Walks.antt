@@ -18,11 +18,6 @@ walk-append end k = k
 walk-append (pass w) k = pass (walk-append w k)
 walk-append (meet h j w) k = meet h j (walk-append w k)
 
--- nothing met at any
-pub walk-none : (ps : List ℕ) → Walk 3 ps []
-walk-none [] = end
-walk-none (p ∷ ps) = pass (walk-none ps)
-
 -- ── the faults at one entry ──
 pub walk-one : (n p : ℕ) → (3 ≤ n) × (n ≤ 5) → Walk 3 (p ∷ []) (refusal n p ∷ [])
 walk-one n p h = meet (h .0) (h .1) (pass end)
