@@ -63,6 +63,11 @@ pub data Scope : Type 0 where
   inExpression : List Definition → Scope  -- a block expression, which no goto leaves
   inProcedure : List Definition → Scope  -- "parameters to one around the body", which no goto leaves
 
+abbrev pub definitions : Scope → List Definition
+definitions (inBlock ds) = ds
+definitions (inExpression ds) = ds
+definitions (inProcedure ds) = ds
+
 abbrev pub blockOf : List Decl → Items → Scope
 blockOf ds is = inBlock (definesHead ds ++ definesItems is)
 
