@@ -6,6 +6,9 @@ pub mod ReadBack
 pub mod WriteBack
 pub mod Roots
 pub mod Bytes
+pub mod Tests
+pub mod Once
+pub mod Typing
 pub mod Claims
 pub mod Verdicts
 pub mod Spans
