@@ -12,7 +12,7 @@ use Rattle.language.specs.Tree.{Decl, Stmt, block, assign, when, choose, while,
 use Rattle.language.specs.Names.{Sort, isVariable, isLabel, isClass, isField, isProcedure, Scope, define, definesHead, definesItems, blockOf, expressionOf, found, lookup}
 use Rattle.language.specs.Faults.{withTy, variableTy, resultTy, fieldTy, typeE, typeTarget, typesE, isTy, sameTy, fitTys, hasTy, mistypedUnless, named, variableSort, classSort, classFrom, fieldOf, callOf, aimed, among, twice, sizeS, sizeTarget, sizeE, sizeItems, namesHead, faultsHead, faultsS, faultsItems, faultsArms, faultsTarget, faultsE, faultsEs}
 use Rattle.language.specs.Formed.{Blocks, Denotes, Defines, HasType, t-number, t-truth, t-pattern, t-null, t-variable, t-invoke, t-field, t-make, t-operate1, t-operate2, t-conditional, t-fader, t-block, Fit, f-none, f-more, Assignable, a-variable, a-field, Formed, s-block, s-assign, s-when, s-choose, s-while, s-assert, s-goto, s-call, s-set, s-case, ItemsFormed, i-none, i-label, i-item, ArmsFormed, r-last, r-more}
-use Rattle.programs.specs.Basics.{clash, both-left, both-right}
+use Rattle.programs.specs.Basics.{clash, both-left, both-right, both-so}
 use Rattle.programs.specs.Tests.{none-left, none-right, none-both, fault-if, no-fault-if, unless, typed-so, is-ty, told, ty-is, same-ty, ty-same, fits-ty, ty-fits, fit-none, fit-more, more-fit, has-1, has-ty, named-so, so-named, class-named, record-named, field-named, no-result, one-result, variable-named, label-aimed}
 use Rattle.programs.specs.Once.{Adds, adds-all, adds-none, adds-more, adds-first, head-adds, adds-head}
 
@@ -137,3 +137,93 @@ mutual
   formed-arms : (ss : Blocks) (p : ℕ) (r : Arms) → faultsArms ss p r ≡ [] → ArmsFormed ss r
   formed-arms ss p (lastArm s) h = r-last (formed-S ss p s h)
   formed-arms ss p (arm s r) h = r-more (formed-S ss p s (none-left _ _ h)) (formed-arms ss (p + sizeS s) r (none-right (faultsS ss p s) _ h))
+
+-- ── from the rules to no fault ──
+mutual
+  unfolding typeE typesE withTy allFit
+
+  pub type-of : {ss : Blocks} {e : Expr} {t : Ty} → HasType ss e t → typeE ss e ≡ some t
+  type-of t-number = refl
+  type-of t-truth = refl
+  type-of t-pattern = refl
+  type-of (t-null d) = refl
+  type-of (t-variable d) = ap variableTy (d .is-found)
+  type-of (t-invoke d fs) = ap resultTy (d .is-found)
+  type-of (t-field d h) = ap fieldTy (d .is-found)
+  type-of (t-make d fs) = refl
+  type-of (t-operate1 h o) = rw (type-of h) o
+  type-of (t-operate2 h k o) = rw (type-of h, type-of k) o
+  type-of (t-conditional h k l) = type-of k
+  type-of (t-fader h) = refl
+  type-of (t-block o is h) = type-of h
+
+  fit-of : {ss : Blocks} {es : Exprs} {us : List Ty} → Fit ss es us → fitTys (typesE ss es) us ≡ true
+  fit-of f-none = refl
+  fit-of {ss} (f-more {es = es} {u = u} {us = us} h q fs) = more-fit (typesE ss es) u us (type-of h) q (fit-of fs)
+
+target-of : {ss : Blocks} {x : Target} {t : Ty} → Assignable ss x t → typeTarget ss x ≡ some t
+target-of (a-variable d) = ap variableTy (d .is-found)
+target-of (a-field d h) = ap fieldTy (d .is-found)
+
+-- what a block defines has no fault, and its labels are still to be defined after its head
+block-heads : (ss : Blocks) (p : ℕ) (ds : List Decl) (is : Items) → Defines ss (definesHead ds ++ definesItems is)
+    → (faultsHead ss [] p ds ≡ []) × Adds ss (namesHead ds) (definesItems is)
+block-heads ss p ds is o = let k = adds-head (definesItems is) [] p ds (adds-all o) in (k .0, rw (append-nil (namesHead ds)) at (k .1))
+
+mutual
+  unfolding faultsS typeE definesItems
+
+  pub no-fault-E : {ss : Blocks} {e : Expr} {t : Ty} → HasType ss e t → (p : ℕ) → faultsE ss p e ≡ []
+  no-fault-E t-number p = refl
+  no-fault-E t-truth p = refl
+  no-fault-E t-pattern p = refl
+  no-fault-E (t-null d) p = so-named classSort p d refl
+  no-fault-E (t-variable d) p = so-named variableSort p d refl
+  no-fault-E {ss} (t-invoke {es = es} d fs) p = none-both (no-fault-Es fs (suc p)) (so-named (callOf 1 (typesE ss es)) p d (fit-of fs))
+  no-fault-E {ss} (t-field {e = e} d h) p = none-both (no-fault-E h (suc p)) (so-named (fieldOf (typeE ss e)) p d (ty-is (type-of h)))
+  no-fault-E {ss} (t-make {es = es} d fs) p = none-both (no-fault-Es fs (suc p)) (so-named (classFrom (typesE ss es)) p d (fit-of fs))
+  no-fault-E (t-operate1 h o) p = none-both (no-fault-E h (suc p)) (typed-so p (has-ty (type-of (t-operate1 h o))))
+  no-fault-E (t-operate2 {e = e} h k o) p =
+      none-both (no-fault-E h (suc p)) (none-both (no-fault-E k (suc p + sizeE e)) (typed-so p (has-ty (type-of (t-operate2 h k o)))))
+  no-fault-E (t-conditional {e = e} {f = f} h k l) p =
+      none-both (no-fault-E h (suc p)) (none-both (no-fault-E k (suc p + sizeE e)) (none-both (no-fault-E l (suc p + sizeE e + sizeE f))
+      (typed-so p (both-so (ty-is (type-of h)) (ty-same (type-of k) (type-of l))))))
+  no-fault-E (t-fader h) p = none-both (no-fault-E h (suc p)) (typed-so p (ty-is (type-of h)))
+  no-fault-E {ss} (t-block {ds = ds} {is = is} o h k) p =
+      let b = block-heads (expressionOf ds is ∷ ss) (suc p) ds is o in
+      none-both (b .0) (none-both (no-fault-items h (namesHead ds) (suc p + length ds) (b .1)) (no-fault-E k (suc p + length ds + sizeItems is)))
+
+  no-fault-Es : {ss : Blocks} {es : Exprs} {us : List Ty} → Fit ss es us → (p : ℕ) → faultsEs ss p es ≡ []
+  no-fault-Es f-none p = refl
+  no-fault-Es (f-more {e = e} h q fs) p = none-both (no-fault-E h p) (no-fault-Es fs (p + sizeE e))
+
+  no-fault-target : {ss : Blocks} {x : Target} {t : Ty} → Assignable ss x t → (p : ℕ) → faultsTarget ss p x ≡ []
+  no-fault-target (a-variable d) p = so-named variableSort p d refl
+  no-fault-target {ss} (a-field {e = e} d h) p = none-both (no-fault-E h (suc p)) (so-named (fieldOf (typeE ss e)) p d (ty-is (type-of h)))
+
+  pub no-fault-S : {ss : Blocks} {s : Stmt} → Formed ss s → (p : ℕ) → faultsS ss p s ≡ []
+  no-fault-S {ss} (s-block {ds = ds} {is = is} o h) p =
+      let b = block-heads (blockOf ds is ∷ ss) (suc p) ds is o in
+      none-both (b .0) (no-fault-items h (namesHead ds) (suc p + length ds) (b .1))
+  no-fault-S (s-assign {x = x} a h q) p =
+      none-both (no-fault-target a (suc p)) (none-both (no-fault-E h (suc p + sizeTarget x)) (typed-so p (ty-fits (type-of h) (target-of a) q)))
+  no-fault-S (s-when {e = e} h k) p = none-both (no-fault-E h (suc p)) (none-both (no-fault-S k (suc p + sizeE e)) (typed-so p (ty-is (type-of h))))
+  no-fault-S (s-choose {e = e} {s = s} h k l) p =
+      none-both (no-fault-E h (suc p)) (none-both (no-fault-S k (suc p + sizeE e)) (none-both (no-fault-S l (suc p + sizeE e + sizeS s)) (typed-so p (ty-is (type-of h)))))
+  no-fault-S (s-while {e = e} h k) p = none-both (no-fault-E h (suc p)) (none-both (no-fault-S k (suc p + sizeE e)) (typed-so p (ty-is (type-of h))))
+  no-fault-S (s-assert h) p = none-both (no-fault-E h (suc p)) (typed-so p (ty-is (type-of h)))
+  no-fault-S (s-goto r) p = rw r refl
+  no-fault-S {ss} (s-call {es = es} d fs) p = none-both (no-fault-Es fs (suc p)) (so-named (callOf 0 (typesE ss es)) p d (fit-of fs))
+  no-fault-S (s-set {e = e} h k) p =
+      none-both (no-fault-E h (suc p)) (none-both (no-fault-E k (suc p + sizeE e)) (typed-so p (both-so (ty-is (type-of h)) (ty-is (type-of k)))))
+  no-fault-S (s-case {e = e} h k) p = none-both (no-fault-E h (suc p)) (none-both (no-fault-arms k (suc p + sizeE e)) (typed-so p (ty-is (type-of h))))
+
+  pub no-fault-items : {ss : Blocks} {is : Items} → ItemsFormed ss is → (seen : List ℕ) (p : ℕ) → Adds ss seen (definesItems is) → faultsItems ss seen p is ≡ []
+  no-fault-items i-none seen p a = refl
+  no-fault-items (i-label {a = b} h) seen p a =
+      let f = adds-first (define b isLabel) a in none-both (no-fault-if 3 p (f .0)) (no-fault-items h (b ∷ seen) (suc p) (f .2))
+  no-fault-items (i-item {s = s} h k) seen p a = none-both (no-fault-S h p) (no-fault-items k seen (p + sizeS s) a)
+
+  no-fault-arms : {ss : Blocks} {r : Arms} → ArmsFormed ss r → (p : ℕ) → faultsArms ss p r ≡ []
+  no-fault-arms (r-last h) p = no-fault-S h p
+  no-fault-arms (r-more {s = s} h k) p = none-both (no-fault-S h p) (no-fault-arms k (p + sizeS s))
