@@ -10,7 +10,7 @@ use lib.IntN.{ℤ}
 use lib.ListN.{getElem?}
 use Rattle.values.specs.Types.{Ty, integer, logical, bits, reference, fits}
 use Rattle.values.specs.Operators.{Unary, Binary, unary, binary, opType}
-use Rattle.language.specs.Tree.{Typed, Decl, Stmt, block, assign, when, choose, while, goto, assert, call, setLevel, select, Items, noItem, label, item, Arms, lastArm, arm, Target, toVariable, toField, Expr, number, truth, pattern, null, variable, invoke, field, make, operate1, operate2, conditional, fader, blockExpr, Exprs, noExpr, expr, Body, proper, function, procedure, Tree}
+use Rattle.language.specs.Tree.{Typed, Decl, Stmt, block, assign, when, choose, while, goto, assert, call, setLevel, select, Items, noItem, label, item, Arms, lastArm, arm, Target, toVariable, toField, Expr, number, truth, pattern, null, variable, invoke, field, make, operate1, operate2, conditional, fader, blockExpr, Exprs, noExpr, expr, Body, proper, function, Global, procedure, Tree}
 use Rattle.language.specs.Names.{Sort, isVariable, isLabel, isClass, isField, isProcedure, Definition, Scope, definitions, blockOf, expressionOf, procedureOf, rootOf, nowhere, found, firstOf, lookup}
 use Rattle.language.specs.Limits.{Usage, bodyUsage, rootUsage}
 
@@ -125,9 +125,9 @@ pub data BodyFormed (ss : Blocks) : Body → Type 0 where
   b-proper : {s : Stmt} → Formed ss s → BodyFormed ss (proper s)
   b-function : {t : Ty} {e : Expr} → HasType ss e t → BodyFormed ss (function t e)
 
--- something holds of the parameters and the body of every procedure of the root's head
-abbrev pub EveryProcedure : Tree → (List Typed → Body → Type 0) → Type 0
-EveryProcedure t P = (i a : ℕ) (xs : List Typed) (b : Body) → getElem? (t .head) i ≡ some (procedure a xs b) → P xs b
+-- something holds of the parameters and the body of every procedure of a head
+abbrev pub EveryProcedure : List Global → (List Typed → Body → Type 0) → Type 0
+EveryProcedure gs P = (i a : ℕ) (xs : List Typed) (b : Body) → getElem? gs i ≡ some (procedure a xs b) → P xs b
 
 -- "a procedure sees its own names and the root's": its "parameters [belong] to one [block] around the body"
 pub record ProcedureFormed (root : Blocks) (xs : List Typed) (b : Body) : Type 0 where
@@ -136,7 +136,7 @@ pub record ProcedureFormed (root : Blocks) (xs : List Typed) (b : Body) : Type 0
 
 pub record WellFormed (t : Tree) : Type 0 where
   pub names : Opens (rootOf t) []
-  pub procedures : EveryProcedure t (ProcedureFormed (rootOf t ∷ []))
+  pub procedures : EveryProcedure (t .head) (ProcedureFormed (rootOf t ∷ []))
   pub items : ItemsFormed (rootOf t ∷ []) (t .items)
 
 -- ── limits ──
@@ -148,5 +148,5 @@ pub record Within (u : Usage) : Type 0 where
 
 -- "A body is the root or a procedure"
 pub record KeepsLimits (t : Tree) : Type 0 where
-  pub procedures : EveryProcedure t (λ xs b. Within (bodyUsage xs b))
+  pub procedures : EveryProcedure (t .head) (λ xs b. Within (bodyUsage xs b))
   pub root : Within (rootUsage t)

@@ -9,6 +9,7 @@ pub mod Bytes
 pub mod Tests
 pub mod Once
 pub mod Typing
+pub mod Trees
 pub mod Claims
 pub mod Verdicts
 pub mod Spans
