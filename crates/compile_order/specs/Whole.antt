@@ -3,6 +3,7 @@ use mathlib.Core.List.{List}
 use Prim.Native.Nat.{ℕ}
 use native.Mathlib.Omega.{arith}
 use Rattle.language.specs.Judge.{Program}
+use Rattle.programs.specs.Trees.{formed-faultless, keeps-limited}
 use Rattle.compile_code.specs.Encode.{compiled}
 use Rattle.compile_macro.specs.Built.{InOrder}
 use Rattle.compile_order.specs.Entries.{few-classes, few-procs, length-tree, root-entries, proc-entries, proc-results, class-fields}
@@ -14,11 +15,11 @@ use Rattle.compile_order.specs.Named.{root-named, proc-named, proc-stati
 pub orderly : (l : List ℕ) (P : Program l) → InOrder (P .tree)
 unfolding compiled
 orderly l P =
-    let t = P .tree in let h = P .faultless in
+    let t = P .tree in let h = formed-faultless t (P .well-formed) in let w = keeps-limited t (P .keeps-limits) in
     record {
       root-typed = root-typed t h;
       root-named = root-named t h;
-      root-keeps = root-keeps t (P .limited);
+      root-keeps = root-keeps t w;
       root-entries = root-entries t (P .fields) (P .layout);
       procs = λ k q e. record {
         typed = proc-typed t h k q e;
@@ -26,7 +27,7 @@ orderly l P =
         static = proc-static t h q;
         parameters-known = parameters-known t h k q e;
         results-known = proc-results t (P .fields) (P .layout) _ k q e;
-        keeps = proc-keeps t (P .limited) k q e;
+        keeps = proc-keeps t w k q e;
         entries = proc-entries t (P .fields) (P .layout) k q e;
       };
       fields-known = fields-known t h (class-fields t (P .fields) (P .layout));
