@@ -125,7 +125,7 @@ module _ (m : Macro) (k : ℕ) (gs : List Global) where
           subst (λ a. F a (tyE gs Γ f) (tyE gs Γ (operate2 o e f))) (sym x) (subst (λ a. F (tyIn gs t) a (tyE gs Γ (operate2 o e f))) (sym y) (subst (λ a. F (tyIn gs t) (tyIn gs u) a) (sym z) w))
 
       mutual
-        unfolding goodS okS typeE withTy
+        unfolding goodS okS typeE
 
         pub typed-S : (s : Stmt) (Γ : List Around) → Inside CellTy gs Γ → Reached Γ → goodS (scopesOf Γ) s → okS m k gs s Γ
         typed-S (block ds is) Γ h r g =

@@ -8,7 +8,8 @@ use Rattle.values.specs.Types.{Ty, integer, logical, bits, reference}
 use Rattle.values.specs.Ends.{Refusal, refusal}
 use Rattle.language.specs.Tree.{Typed, Decl, declare, holding, Stmt, block, assign, when, choose, while, goto, assert, call, setLevel, select, Items, noItem, label, item, Arms, lastArm, arm, Target, toVariable, toField, Expr, number, truth, pattern, null, variable, invoke, field, make, operate1, operate2, conditional, fader, blockExpr, Exprs, noExpr, expr, Body, proper, function, Global, local, class, procedure, Tree}
 use Rattle.language.specs.Names.{Sort, isVariable, isLabel, isClass, isField, isProcedure, Scope, blockOf, expressionOf, procedureOf, rootOf, Found, nowhere, found, lookup}
-use Rattle.language.specs.Faults.{typeE, typesE, isTy, sameTy, fitsTy, hasTy, typeTarget, faultIf, named, variableSort, classSort, classFrom, fieldOf, callOf, aimed, among, typeFaults, sizeS, sizeItems, sizeArms, sizeTarget, sizeE, sizeEs, faultsTyped, faultsHead, namesHead, faultsS, faultsItems, faultsArms, faultsTarget, faultsE, faultsEs, sizeBody, sizeGlobal, faultsBody, bodyFits, namesGlobal, faultsGlobal, faultsGlobals, faults}
+use Rattle.language.specs.Table.{isSome}
+use Rattle.language.specs.Faults.{typeE, typesE, isTy, sameTy, fitsTy, typeTarget, faultIf, named, variableSort, classSort, classFrom, fieldOf, callOf, aimed, among, typeFaults, sizeS, sizeItems, sizeArms, sizeTarget, sizeE, sizeEs, faultsTyped, faultsHead, namesHead, faultsS, faultsItems, faultsArms, faultsTarget, faultsE, faultsEs, sizeBody, sizeGlobal, faultsBody, bodyFits, namesGlobal, faultsGlobal, faultsGlobals, faults}
 use Rattle.language.specs.Judge.{total}
 use Rattle.programs.specs.Spans.{Before, Spans, none, widen, spans-append, spans-then, post-one, post-two, post-three, spans-one, spans-if, before-if, three-first}
 
@@ -94,9 +95,9 @@ mutual
   spans-expr (invoke a es) ss p = post-one (spans-exprs es ss (suc p)) (spans-named (lookup a ss) (callOf 1 (typesE ss es)) p) (omega arith)
   spans-expr (field a e) ss p = post-one (spans-expr e ss (suc p)) (spans-named (lookup a ss) (fieldOf (typeE ss e)) p) (omega arith)
   spans-expr (make c es) ss p = post-one (spans-exprs es ss (suc p)) (spans-named (lookup c ss) (classFrom (typesE ss es)) p) (omega arith)
-  spans-expr (operate1 o e) ss p = post-one (spans-expr e ss (suc p)) (spans-if (not (hasTy (typeE ss (operate1 o e)))) 4 p (omega arith)) (omega arith)
+  spans-expr (operate1 o e) ss p = post-one (spans-expr e ss (suc p)) (spans-if (not (isSome (typeE ss (operate1 o e)))) 4 p (omega arith)) (omega arith)
   spans-expr (operate2 o e f) ss p =
-      post-two (spans-expr e ss (suc p)) (spans-expr f ss (suc p + sizeE e)) (spans-if (not (hasTy (typeE ss (operate2 o e f)))) 4 p (omega arith)) (omega arith)
+      post-two (spans-expr e ss (suc p)) (spans-expr f ss (suc p + sizeE e)) (spans-if (not (isSome (typeE ss (operate2 o e f)))) 4 p (omega arith)) (omega arith)
   spans-expr (conditional e f g) ss p =
       post-three (spans-expr e ss (suc p)) (spans-expr f ss (suc p + sizeE e)) (spans-expr g ss (suc p + sizeE e + sizeE f))
       (spans-if (not (isTy logical (typeE ss e) && sameTy (typeE ss f) (typeE ss g))) 4 p (omega arith)) (omega arith)

@@ -11,7 +11,8 @@ use borrow.Author.Tests.{eqb-true}
 use Rattle.values.specs.Types.{Ty, integer, logical, bits, reference, same, fits, allFit}
 use Rattle.values.specs.Identical.{same-refl, same→≡}
 use Rattle.language.specs.Names.{Sort, isVariable, isLabel, isClass, isField, isProcedure, Scope, Found, nowhere, found, lookup}
-use Rattle.language.specs.Faults.{withTy, variableTy, resultTy, fieldTy, isTy, sameTy, fitsTy, fitTys, hasTy, consTy, faultIf, mistypedUnless, named, variableSort, classSort, classFrom, fieldOf, callOf, aimed, typeFaults}
+use Rattle.language.specs.Table.{isSome}
+use Rattle.language.specs.Faults.{withTy, variableTy, resultTy, fieldTy, isTy, sameTy, fitsTy, fitTys, consTy, faultIf, mistypedUnless, named, variableSort, classSort, classFrom, fieldOf, callOf, aimed, typeFaults}
 use Rattle.language.specs.Formed.{Blocks, Denotes, Reachable, IsType, integer-type, logical-type, bits-type, reference-type}
 use Rattle.programs.specs.Basics.{clash, both-left, both-right}
 
@@ -90,11 +91,10 @@ more-fit (some ts) u us p q h = rw (p, q) h
 
 -- operands' types, and what the operator makes of them
 pub has-1 : (x : Option Ty) (f : Ty → Option Ty) (r : Ty) → withTy x f ≡ some r → (t : Ty) × (x ≡ some t) × (f t ≡ some r)
-unfolding withTy
 has-1 none f r h = clash (cc)
 has-1 (some t) f r h = (t, refl, h)
 
-pub has-ty : {t : Ty} {x : Option Ty} → x ≡ some t → hasTy x ≡ true
+pub has-ty : {t : Ty} {x : Option Ty} → x ≡ some t → isSome x ≡ true
 has-ty h = rw h refl
 
 -- ── names ──

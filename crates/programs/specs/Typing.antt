@@ -10,7 +10,8 @@ use Rattle.values.specs.Types.{Ty, integer, logical, bits, reference, allFit}
 use Rattle.values.specs.Operators.{unary, binary, opType}
 use Rattle.language.specs.Tree.{Decl, Stmt, block, assign, when, choose, while, goto, assert, call, setLevel, select, Items, noItem, label, item, Arms, lastArm, arm, Target, toVariable, toField, Expr, number, truth, pattern, null, variable, invoke, field, make, operate1, operate2, conditional, fader, blockExpr, Exprs, noExpr, expr}
 use Rattle.language.specs.Names.{Sort, isVariable, isLabel, isClass, isField, isProcedure, Scope, define, definesHead, definesItems, blockOf, expressionOf, found, lookup}
-use Rattle.language.specs.Faults.{withTy, variableTy, resultTy, fieldTy, typeE, typeTarget, typesE, isTy, sameTy, fitTys, hasTy, mistypedUnless, named, variableSort, classSort, classFrom, fieldOf, callOf, aimed, among, twice, sizeS, sizeTarget, sizeE, sizeItems, namesHead, faultsHead, faultsS, faultsItems, faultsArms, faultsTarget, faultsE, faultsEs}
+use Rattle.language.specs.Table.{isSome}
+use Rattle.language.specs.Faults.{withTy, variableTy, resultTy, fieldTy, typeE, typeTarget, typesE, isTy, sameTy, fitTys, mistypedUnless, named, variableSort, classSort, classFrom, fieldOf, callOf, aimed, among, twice, sizeS, sizeTarget, sizeE, sizeItems, namesHead, faultsHead, faultsS, faultsItems, faultsArms, faultsTarget, faultsE, faultsEs}
 use Rattle.language.specs.Formed.{Blocks, Denotes, Defines, HasType, t-number, t-truth, t-pattern, t-null, t-variable, t-invoke, t-field, t-make, t-operate1, t-operate2, t-conditional, t-fader, t-block, Fit, f-none, f-more, Assignable, a-variable, a-field, Formed, s-block, s-assign, s-when, s-choose, s-while, s-assert, s-goto, s-call, s-set, s-case, ItemsFormed, i-none, i-label, i-item, ArmsFormed, r-last, r-more}
 use Rattle.programs.specs.Basics.{clash, both-left, both-right, both-so}
 use Rattle.programs.specs.Tests.{none-left, none-right, none-both, fault-if, no-fault-if, unless, typed-so, is-ty, told, ty-is, same-ty, ty-same, fits-ty, ty-fits, fit-none, fit-more, more-fit, has-1, has-ty, named-so, so-named, class-named, record-named, field-named, no-result, one-result, variable-named, label-aimed}
@@ -34,7 +35,7 @@ retype : {ss : Blocks} {e : Expr} {t u : Ty} → some t ≡ some u → HasType s
 retype {ss} {e} q h = subst (HasType ss e) (cc q) h
 
 mutual
-  unfolding faultsS typeE typesE withTy allFit
+  unfolding faultsS typeE typesE allFit
 
   pub typed-E : (ss : Blocks) (p : ℕ) (e : Expr) → faultsE ss p e ≡ [] → (t : Ty) → typeE ss e ≡ some t → HasType ss e t
   typed-E ss p (number z) h t q = retype q t-number
@@ -140,7 +141,7 @@ mutual
 
 -- ── from the rules to no fault ──
 mutual
-  unfolding typeE typesE withTy allFit
+  unfolding typeE typesE allFit
 
   pub type-of : {ss : Blocks} {e : Expr} {t : Ty} → HasType ss e t → typeE ss e ≡ some t
   type-of t-number = refl
