@@ -23,7 +23,8 @@ use Rattle.compile_code.specs.Compile.{cellOf as keptOf}
 use Rattle.compile_code.specs.Encode.{fieldTypes}
 use Rattle.compile_rules.specs.Lines.{index-below}
 use Rattle.compile_rules.specs.Pass.{tysE, okHead, WayOk, okS, okItems, okArms, okTarget, okE, okEs}
-use Rattle.compile_names.specs.Good.{ClassAt, IsA, is-ty, goodTy, goodHead, HasTy, goodS, goodItems, goodArms, goodTarget, goodE, goodEs}
+use Rattle.programs.specs.Tests.{is-ty}
+use Rattle.compile_names.specs.Good.{ClassAt, IsA, goodTy, goodHead, HasTy, goodS, goodItems, goodArms, goodTarget, goodE, goodEs}
 use Rattle.compile_names.specs.Known.{ofBlock, Entered}
 use Rattle.compile_names.specs.Labels.{Reached, reached-block, reached-expression}
 use Rattle.compile_names.specs.Globals.{classAs, goodGlobals, GlobalsIn, globals-block, globals-expression, ClassFound, class-found, procedure-found, field-found}

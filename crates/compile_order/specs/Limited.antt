@@ -10,10 +10,11 @@ use borrow.Author.Tests.{leb-true, not-false}
 use Rattle.language.specs.Tree.{Global, local, class, procedure, Tree}
 use Rattle.language.specs.Faults.{sizeGlobal}
 use Rattle.language.specs.Limits.{Usage, keepsLimits, bodyUsage, rootUsage, overLimits, procedureLimits, limits}
+use Rattle.programs.specs.Tests.{fault-if}
 use Rattle.loading.specs.Tests.{never-some, same-some, halves}
 use Rattle.compile_code.specs.Compile.{Proc, procsOf}
 use Rattle.compile_macro.specs.Right.{Keeps}
-use Rattle.compile_names.specs.Good.{split, fault-if}
+use Rattle.compile_names.specs.Good.{split}
 
 pub keeps : (u : Usage) (p : ℕ) → overLimits u p ≡ [] → Keeps u
 keeps u p h =

@@ -162,12 +162,12 @@ mutual
   fit-of f-none = refl
   fit-of {ss} (f-more {es = es} {u = u} {us = us} h q fs) = more-fit (typesE ss es) u us (type-of h) q (fit-of fs)
 
-target-of : {ss : Blocks} {x : Target} {t : Ty} → Assignable ss x t → typeTarget ss x ≡ some t
+pub target-of : {ss : Blocks} {x : Target} {t : Ty} → Assignable ss x t → typeTarget ss x ≡ some t
 target-of (a-variable d) = ap variableTy (d .is-found)
 target-of (a-field d h) = ap fieldTy (d .is-found)
 
 -- what a block defines has no fault, and its labels are still to be defined after its head
-block-heads : (ss : Blocks) (p : ℕ) (ds : List Decl) (is : Items) → Defines ss (definesHead ds ++ definesItems is)
+pub block-heads : (ss : Blocks) (p : ℕ) (ds : List Decl) (is : Items) → Defines ss (definesHead ds ++ definesItems is)
     → (faultsHead ss [] p ds ≡ []) × Adds ss (namesHead ds) (definesItems is)
 block-heads ss p ds is o = let k = adds-head (definesItems is) [] p ds (adds-all o) in (k .0, rw (append-nil (namesHead ds)) at (k .1))
 
