@@ -141,12 +141,12 @@ pub record WellFormed (t : Tree) : Type 0 where
 
 -- ── limits ──
 -- "A body has at most 32 cells (…), 16 holds open together, and a working need of 32."
-pub record Within (u : Usage) : Type 0 where
+pub record InLimits (u : Usage) : Type 0 where
   pub cells : u .cells ≤ 32
   pub holds : u .holds ≤ 16
   pub need : u .need ≤ 32
 
 -- "A body is the root or a procedure"
 pub record KeepsLimits (t : Tree) : Type 0 where
-  pub procedures : EveryProcedure (t .head) (λ xs b. Within (bodyUsage xs b))
-  pub root : Within (rootUsage t)
+  pub procedures : EveryProcedure (t .head) (λ xs b. InLimits (bodyUsage xs b))
+  pub root : InLimits (rootUsage t)

@@ -13,7 +13,7 @@ use Rattle.language.specs.Tree.{Typed, Decl, declare, holding, Body, proper, fu
 use Rattle.language.specs.Names.{isVariable, isClass, isField, isProcedure, Definition, define, types, results, definesTyped, definesHead, definesFields, definesItems, definesGlobals, procedureOf, rootOf}
 use Rattle.language.specs.Faults.{among, twice, faultsTyped, faultsHead, namesHead, namesTyped, faultsBody, bodyFits, sizeGlobal, namesGlobal, faultsGlobal, faultsGlobals, faultsItems, faults, typeE}
 use Rattle.language.specs.Limits.{Usage, keepsLimits, bodyUsage, rootUsage, overLimits, procedureLimits, limits}
-use Rattle.language.specs.Formed.{Blocks, IsType, Defines, BodyFormed, b-proper, b-function, EveryProcedure, ProcedureFormed, WellFormed, Within, KeepsLimits}
+use Rattle.language.specs.Formed.{Blocks, IsType, Defines, BodyFormed, b-proper, b-function, EveryProcedure, ProcedureFormed, WellFormed, InLimits, KeepsLimits}
 use Rattle.programs.specs.Basics.{clash, both-left, both-right, both-so}
 use Rattle.programs.specs.Tests.{none-left, none-right, none-both, fault-if, no-fault-if, unless, typed-so, is-ty, ty-is}
 use Rattle.programs.specs.Once.{Adds, adds-all, adds-none, adds-more, adds-first, head-adds, adds-head, defined, fields-defined, parameters-defined, typed-adds, adds-typed}
@@ -145,7 +145,7 @@ formed-faultless t w =
     (adds-all (w .names)) (w .procedures)
 
 -- ── limits ──
-within : (u : Usage) (p : ℕ) → overLimits u p ≡ [] → Within u
+within : (u : Usage) (p : ℕ) → overLimits u p ≡ [] → InLimits u
 within u p h =
     let k = not-false (keepsLimits u) (fault-if (not (keepsLimits u)) 6 p h) in
     let l = both-right (leb (u .cells) 32) _ k in
@@ -155,19 +155,19 @@ within u p h =
       need = leb-true (u .need) 32 (both-right (leb (u .holds) 16) _ l);
     }
 
-not-over : (u : Usage) (p : ℕ) → Within u → overLimits u p ≡ []
+not-over : (u : Usage) (p : ℕ) → InLimits u → overLimits u p ≡ []
 not-over u p w = no-fault-if 6 p (ap not (both-so (le-leb (u .cells) 32 (w .cells)) (both-so (le-leb (u .holds) 16 (w .holds)) (le-leb (u .need) 32 (w .need)))))
 
-procedures-within : (p : ℕ) (gs : List Global) → procedureLimits p gs ≡ [] → EveryProcedure gs (λ xs b. Within (bodyUsage xs b))
+procedures-within : (p : ℕ) (gs : List Global) → procedureLimits p gs ≡ [] → EveryProcedure gs (λ xs b. InLimits (bodyUsage xs b))
 unfolding procedureLimits
 procedures-within p [] h = λ i a xs b e. clash (cc)
-procedures-within p (local d ∷ gs) h = every-local (λ xs b. Within (bodyUsage xs b)) gs d (procedures-within (suc p) gs h)
-procedures-within p (class c xs ∷ gs) h = every-class (λ xs b. Within (bodyUsage xs b)) gs c xs (procedures-within (p + sizeGlobal (class c xs)) gs h)
+procedures-within p (local d ∷ gs) h = every-local (λ xs b. InLimits (bodyUsage xs b)) gs d (procedures-within (suc p) gs h)
+procedures-within p (class c xs ∷ gs) h = every-class (λ xs b. InLimits (bodyUsage xs b)) gs c xs (procedures-within (p + sizeGlobal (class c xs)) gs h)
 procedures-within p (procedure a xs b ∷ gs) h =
-    every-procedure (λ xs b. Within (bodyUsage xs b)) gs a xs b (within (bodyUsage xs b) p (none-left _ _ h))
+    every-procedure (λ xs b. InLimits (bodyUsage xs b)) gs a xs b (within (bodyUsage xs b) p (none-left _ _ h))
     (procedures-within (p + sizeGlobal (procedure a xs b)) gs (none-right (overLimits (bodyUsage xs b) p) _ h))
 
-not-over-procedures : (p : ℕ) (gs : List Global) → EveryProcedure gs (λ xs b. Within (bodyUsage xs b)) → procedureLimits p gs ≡ []
+not-over-procedures : (p : ℕ) (gs : List Global) → EveryProcedure gs (λ xs b. InLimits (bodyUsage xs b)) → procedureLimits p gs ≡ []
 unfolding procedureLimits
 not-over-procedures p [] f = refl
 not-over-procedures p (local d ∷ gs) f = not-over-procedures (suc p) gs (λ i. f (suc i))
