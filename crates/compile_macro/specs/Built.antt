@@ -17,6 +17,7 @@ use Rattle.language.specs.Tree.{Body as TreeBody, proper, function}
 use Rattle.language.specs.Names.{types, procedureOf, definesTyped}
 use Rattle.language.specs.Names.{results as resultsOf}
 use Rattle.language.specs.Limits.{bodyUsage, rootUsage, locals, cellsItems}
+use Rattle.language.specs.Formed.{InLimits}
 use Rattle.language.specs.Table.{flatDecl, flatItems, flatBody}
 use Rattle.language.specs.Execute.{Procedure, procedureIn, classIn}
 use Rattle.bytecode.specs.Macro.{Body, Shape, Placed}
@@ -52,7 +53,7 @@ use Rattle.compile_macro.specs.Narrow.{roomy-marks, ShapeLines, shape-li
 use Rattle.language.specs.Faults.{sizeItems, sizeGlobal}
 use Rattle.language.specs.Judge.{total as sumOf}
 use Rattle.compile_macro.specs.Short.{short}
-use Rattle.compile_macro.specs.Right.{RootOk, okBodyTy, Keeps, root-cells-known, root-marks-known, root-flows, proc-cells-known, proc-marks-known, proc-flows}
+use Rattle.compile_macro.specs.Right.{RootOk, okBodyTy, root-cells-known, root-marks-known, root-flows, proc-cells-known, proc-marks-known, proc-flows}
 
 abbrev pub shared : Tree → List Around
 shared t = rootVariables (locals (t .head)) 0 (startOfRoot t)
@@ -70,7 +71,7 @@ pub record ProcInOrder (t : Tree) (k : ℕ) (q : Proc) : Type 0 where
   pub static : Static (t .head) (shared t) (q .parameters) (procedureOf (q .parameters))
   pub parameters-known : Each (Named (classCount t)) (map (tyIn (t .head)) (types (q .parameters)))
   pub results-known : Each (Named (classCount t)) (map (tyIn (t .head)) (resultsOf (q .body)))
-  pub keeps : Keeps (bodyUsage (q .parameters) (q .body))
+  pub keeps : InLimits (bodyUsage (q .parameters) (q .body))
   pub entries : Each Entered (flatBody (q .body))
 
 -- what is asked of the tree: of the root's body and of each procedure's, what the loading rules ask by types, the simulation by names, and the limits
@@ -78,7 +79,7 @@ pub record InOrder (t : Tree) : Type 0 where
   pub root-typed : RootOk (compiled t) t
   pub root-named : (o : ℕ → ℕ → ℕ) → okRoot (t .head) (locals (t .head)) (startOfRoot t) 0
       (λ Δ n. Fit (settingOf t o) (t .head) (atRoot (settingOf t o) (t .head)) Δ n × ((x : ℕ) → okNames (t .head) (t .items) (labels (t .items) x ∷ Δ)))
-  pub root-keeps : Keeps (rootUsage t)
+  pub root-keeps : InLimits (rootUsage t)
   pub root-entries : Each Entered (map flatDecl (locals (t .head))) × Each Entered (flatItems (t .items))
   pub procs : (k : ℕ) (q : Proc) → getElem? (procsOf (t .head)) k ≡ some q → ProcInOrder t k q
   pub fields-known : Each (ReadClass (classCount t)) (compiled t .classes)
@@ -247,8 +248,8 @@ module _ (t : Tree) where
     unfolding newCells
     few-cells = by-part (λ k p. length (p .head .cells) ≤ 32)
         (let z = cells-length (codeRoot t) [] in let y = count-head (t .head) (global own) (locals (t .head)) (startOfRoot t) (at 0 0) (λ Δ q. codeItems (t .head) (t .items) (labels (t .items) (q .address) ∷ Δ) [] q) (cellsItems (t .items)) (λ Δ q. countItems (t .head) (t .items) (labels (t .items) (q .address) ∷ Δ) [] q) in
-        let x = O .root-keeps .0 in omega arith)
-        (λ j q b h g. let z = cells-length (codeProc t q b) [] in let y = body-count (q .body) (q .parameters) (at b (length (q .parameters))) in let x = O .procs j q h .keeps .0 in
+        let x = O .root-keeps .cells in omega arith)
+        (λ j q b h g. let z = cells-length (codeProc t q b) [] in let y = body-count (q .body) (q .parameters) (at b (length (q .parameters))) in let x = O .procs j q h .keeps .cells in
         let v = params-length (tyIn (t .head)) (q .parameters) in let u = length-append (map (tyIn (t .head)) (types (q .parameters))) (cellsIn (codeProc t q b) []) in omega arith)
       where
         body-count : (x : TreeBody) (xs : List Typed) (p : At) → length xs + newCells (codeBody (t .head) x (aroundBody t xs) p) ≡ bodyUsage xs x .cells
@@ -394,7 +395,7 @@ module _ (t : Tree) where
         passes (compiled t) k (p .code) (startOf p) (flows k p h) (lined k p h) (begins-empty (compiled t) (parts t) bodies-are code-is shapes-are well-formed heads-right chain k p h))
 
     is-short : total (parts t) ≤ 45120
-    is-short = short t (O .root-keeps .1) (λ k q h. O .procs k q h .keeps .1) (O .few-procs) (O .entries)
+    is-short = short t (O .root-keeps .holds) (λ k q h. O .procs k q h .keeps .holds) (O .few-procs) (O .entries)
 
     pub few-instructions : length (compiled t .code) ≤ 45120
     few-instructions = rw code-size is-short

@@ -10,7 +10,8 @@ use Rattle.language.specs.Tree.{Typed, Global, Tree}
 use Rattle.language.specs.Tree.{Body as TreeBody, proper, function}
 use Rattle.language.specs.Names.{procedureOf}
 use Rattle.language.specs.Names.{results as resultsOf}
-use Rattle.language.specs.Limits.{Usage, bodyUsage, rootUsage, locals, holdsItems}
+use Rattle.language.specs.Limits.{bodyUsage, rootUsage, locals, holdsItems}
+use Rattle.language.specs.Formed.{InLimits}
 use Rattle.bytecode.specs.Macro.{Shape, shape, Macro}
 use Rattle.bytecode.specs.Instructions.{own, return, bodyAt}
 use Rattle.bytecode.specs.Rules.{effect, flow, atFirst}
@@ -28,10 +29,6 @@ use Rattle.compile_macro.specs.Shapes.{Heads, Typed!, mark-head, markS, 
 abbrev pub okBodyTy : Macro → ℕ → List Global → TreeBody → List Around → Type 0
 okBodyTy m k gs (proper s) Γ = okS m k gs s Γ
 okBodyTy m k gs (function t e) Γ = okE m k gs e Γ × (tyE gs Γ e ≡ tyIn gs t)
-
--- "at most 32 cells (…), 16 holds open together, and a working need of 32"
-abbrev pub Keeps : Usage → Type 0
-Keeps u = (u .cells ≤ 32) × (u .holds ≤ 16) × (u .need ≤ 32)
 
 module _ (m : Macro) (t : Tree) where
   -- what holds of the statements, whatever lies around them; their code
@@ -62,10 +59,10 @@ module _ (m : Macro) (t : Tree) where
       tt,
     )
 
-    pub root-flows : Keeps (rootUsage t) → (Aim : ℕ → Shape → Type 0) → Marks m 0 Aim (codeRoot t) (at 0 0) → Seg m 0 Aim (codeRoot t) atFirst none
+    pub root-flows : InLimits (rootUsage t) → (Aim : ℕ → Shape → Type 0) → Marks m 0 Aim (codeRoot t) (at 0 0) → Seg m 0 Aim (codeRoot t) atFirst none
     unfolding Celled Marks Seg heldIn Reaches effect flow sames
     root-flows u Aim g =
-        let l = u .1 in let n = u .2 in (
+        let l = u .holds in let n = u .need in (
           some (shape 0 []),
           passHead m 0 (t .head) Aim (global own) (quiet-global m 0 (t .head) Aim) (locals (t .head)) (startOfRoot t) [] [] (at 0 0) Statements statements (holdsItems (t .items))
               (λ Δ q o' r l' c' g'. passItems m 0 (t .head) Aim (t .items) (labels (t .items) (q .address) ∷ Δ) [] q (o' (q .address)) (aims m 0 (t .head) Aim (t .items) Δ [] q g', r) l' (omega arith) c' g')
@@ -107,10 +104,10 @@ module _ (m : Macro) (t : Tree) where
           go (proper s) o c = markS m (suc k) (t .head) H s Γ [] p o c tt
           go (function u e) o c = markE m (suc k) (t .head) H e Γ [] p (o .0) c tt .0
 
-      pub proc-flows : heldIn Γ ≡ [] → bodyResults (bodyAt m (suc k)) ≡ map (tyIn (t .head)) (resultsOf (q .body)) → Keeps (bodyUsage (q .parameters) (q .body))
+      pub proc-flows : heldIn Γ ≡ [] → bodyResults (bodyAt m (suc k)) ≡ map (tyIn (t .head)) (resultsOf (q .body)) → InLimits (bodyUsage (q .parameters) (q .body))
           → (Aim : ℕ → Shape → Type 0) → Marks m (suc k) Aim (codeProc t q a) p → Seg m (suc k) Aim (codeProc t q a) atFirst none
       unfolding Celled Marks Seg effect flow
-      proc-flows z e u Aim g = go (q .body) o (c .0) e (u .1) (u .2) (g .0)
+      proc-flows z e u Aim g = go (q .body) o (c .0) e (u .holds) (u .need) (g .0)
         where
           empty : length (heldIn Γ) ≡ 0
           empty = ap length z

@@ -24,7 +24,8 @@ use Rattle.compile_code.specs.Compile.{cellOf as keptOf}
 use Rattle.compile_code.specs.Encode.{fieldTypes}
 use Rattle.compile_rules.specs.Lines.{index-below}
 use Rattle.compile_rules.specs.Pass.{tysE, okHead, WayOk, okS, okItems, okArms, okTarget, okE, okEs}
-use Rattle.compile_names.specs.Good.{ClassAt, IsA, is-ty, goodTy, goodHead, HasTy, goodS, goodItems, goodArms, goodTarget, goodE, goodEs}
+use Rattle.programs.specs.Tests.{is-ty}
+use Rattle.compile_names.specs.Good.{ClassAt, IsA, goodTy, goodHead, HasTy, goodS, goodItems, goodArms, goodTarget, goodE, goodEs}
 use Rattle.compile_names.specs.Known.{ofBlock, Entered}
 use Rattle.compile_names.specs.Labels.{Reached, reached-block, reached-expression}
 use Rattle.compile_names.specs.Globals.{classAs, goodGlobals, GlobalsIn, globals-block, globals-expression, ClassFound, class-found, procedure-found, field-found}
@@ -126,7 +127,7 @@ module _ (m : Macro) (k : ℕ) (gs : List Global) where
           subst (λ a. F a (tyE gs Γ f) (tyE gs Γ (operate2 o e f))) (sym x) (subst (λ a. F (tyIn gs t) a (tyE gs Γ (operate2 o e f))) (sym y) (subst (λ a. F (tyIn gs t) (tyIn gs u) a) (sym z) w))
 
       mutual
-        unfolding goodS okS typeE withTy
+        unfolding goodS okS typeE
 
         pub typed-S : (s : Stmt) (Γ : List Around) → Inside CellTy gs Γ → Reached Γ → goodS (scopesOf Γ) s → okS m k gs s Γ
         typed-S (block ds is) Γ h r g =

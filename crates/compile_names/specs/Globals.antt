@@ -19,7 +19,9 @@ use Rattle.language.specs.Limits.{locals}
 use Rattle.language.specs.Execute.{Procedure, procedureIn, classIn}
 use Rattle.loading.specs.Tests.{never, neither}
 use Rattle.compile_code.specs.Compile.{indexOf, amongNames, namesOf, Class, classesOf, classNames, Proc, procsOf, procNames, fieldIn}
-use Rattle.compile_names.specs.Good.{goodTyped, goodHead, goodS, goodE, goodItems, HasTy, split, fault-if, unless, is-ty, good-typed, good-head, good-S, good-E, good-items}
+use Rattle.programs.specs.Tests.{fault-if, told}
+use Rattle.programs.specs.Typing.{typed-E, formed-S, formed-items}
+use Rattle.compile_names.specs.Good.{goodTyped, goodHead, goodS, goodE, goodItems, HasTy, split, good-typed, good-head, good-S, good-E, good-items}
 use Rattle.compile_names.specs.Known.{nothing, first-append, IsLabel, outer, uncross}
 
 -- ── the root's head ──
@@ -37,8 +39,8 @@ goodGlobals ss seen [] = Unit {0}
 goodGlobals ss seen (g ∷ gs) = goodGlobal ss seen g × goodGlobals ss (namesGlobal g seen) gs
 
 good-body : (ss : List Scope) (p q : ℕ) (b : Body) → faultsBody ss p b ≡ [] → mistypedUnless (bodyFits ss b) q ≡ [] → goodBody ss b
-good-body ss p q (proper s) h k = good-S ss p s h
-good-body ss p q (function t e) h k = (good-E ss p e h, is-ty t (typeE ss e) (unless (isTy t (typeE ss e)) q k))
+good-body ss p q (proper s) h k = good-S (formed-S ss p s h)
+good-body ss p q (function t e) h k = let r = told t (typeE ss e) q k in (good-E (typed-E ss p e h t r), r)
 
 good-global : (ss : List Scope) (seen : List ℕ) (p : ℕ) (g : Global) → faultsGlobal ss seen p g ≡ [] → goodGlobal ss seen g
 good-global ss seen p (local d) h = good-head ss seen p (d ∷ []) h
@@ -58,7 +60,7 @@ good-globals ss seen p (g ∷ gs) k h =
 pub good-tree : (t : Tree) → faults t ≡ [] → goodGlobals (rootOf t ∷ []) [] (t .head) × goodItems (rootOf t ∷ []) (t .items)
 unfolding faults
 good-tree t h = let q = good-globals (rootOf t ∷ []) [] 1 (t .head) (λ seen p. faultsItems (rootOf t ∷ []) seen p (t .items)) h in
-    (q .0, good-items (rootOf t ∷ []) (q .1 .0) (q .1 .1) (t .items) (q .1 .2))
+    (q .0, good-items (formed-items (rootOf t ∷ []) (q .1 .0) (q .1 .1) (t .items) (q .1 .2)))
 
 -- ── classes, fields and procedures are defined by the root alone ──
 abbrev pub IsGlobal : Sort → Type 0

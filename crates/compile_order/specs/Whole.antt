@@ -2,11 +2,14 @@
 use mathlib.Core.List.{List}
 use Prim.Native.Nat.{ℕ}
 use native.Mathlib.Omega.{arith}
+use Rattle.language.specs.Limits.{bodyUsage}
+use Rattle.language.specs.Formed.{InLimits}
 use Rattle.language.specs.Judge.{Program}
+use Rattle.programs.specs.Trees.{formed-faultless}
 use Rattle.compile_code.specs.Encode.{compiled}
 use Rattle.compile_macro.specs.Built.{InOrder}
 use Rattle.compile_order.specs.Entries.{few-classes, few-procs, length-tree, root-entries, proc-entries, proc-results, class-fields}
-use Rattle.compile_order.specs.Limited.{root-keeps, proc-keeps}
+use Rattle.compile_order.specs.Limited.{every-numbered}
 use Rattle.compile_order.specs.Classes.{fields-known, parameters-known}
 use Rattle.compile_order.specs.Typed.{root-typed, proc-typed}
 use Rattle.compile_order.specs.Named.{root-named, proc-named, proc-static}
@@ -14,11 +17,11 @@ use Rattle.compile_order.specs.Named.{root-named, proc-named, proc-stati
 pub orderly : (l : List ℕ) (P : Program l) → InOrder (P .tree)
 unfolding compiled
 orderly l P =
-    let t = P .tree in let h = P .faultless in
+    let t = P .tree in let h = formed-faultless t (P .well-formed) in
     record {
       root-typed = root-typed t h;
       root-named = root-named t h;
-      root-keeps = root-keeps t (P .limited);
+      root-keeps = P .keeps-limits .root;
       root-entries = root-entries t (P .fields) (P .layout);
       procs = λ k q e. record {
         typed = proc-typed t h k q e;
@@ -26,7 +29,7 @@ orderly l P =
         static = proc-static t h q;
         parameters-known = parameters-known t h k q e;
         results-known = proc-results t (P .fields) (P .layout) _ k q e;
-        keeps = proc-keeps t (P .limited) k q e;
+        keeps = every-numbered (λ xs b. InLimits (bodyUsage xs b)) (t .head) (P .keeps-limits .procedures) k q e;
         entries = proc-entries t (P .fields) (P .layout) k q e;
       };
       fields-known = fields-known t h (class-fields t (P .fields) (P .layout));

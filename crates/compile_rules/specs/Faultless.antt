@@ -6,19 +6,14 @@ use mathlib.Core.Option.{Option, none, some}
 use Prim.Native.Nat.{ℕ, suc}
 use native.Mathlib.Omega.{arith}
 use borrow.Author.Tests.{eq-eqb}
-use Rattle.words.specs.Options.{keep, isSome}
-use Rattle.values.specs.Types.{Ty, sames}
+use Rattle.words.specs.Options.{isSome, keep}
+use Rattle.values.specs.Identical.{sames-refl}
 use Rattle.bytecode.specs.Macro.{Shape, shape, Macro, shapeIn}
 use Rattle.bytecode.specs.Instructions.{inBody, instrAt}
 use Rattle.bytecode.specs.Rules.{Flow, on, fork, jump, halt, broken, sameShape, flow, flowAt, effect, passed, orFlow, into, foundAt, bodyOf, isFirst, bodyFault, shapeFault, lands, flowFault, opFault, faultAt}
 use Rattle.compile_code.specs.Code.{Line}
-use Rattle.compile_rules.specs.Flows.{same-refl, Goes}
+use Rattle.compile_rules.specs.Flows.{Goes}
 use Rattle.compile_rules.specs.Lines.{Enters, Good}
-
-sames-refl : (ts : List Ty) → sames ts ts ≡ true
-unfolding sames
-sames-refl [] = refl
-sames-refl (t ∷ ts) = ap₂ (λ a b. a && b) (same-refl t) (sames-refl ts)
 
 pub shape-refl : (s : Shape) → sameShape s s ≡ true
 shape-refl s = ap₂ (λ a b. a && b) (eq-eqb (s .holds) (s .holds) refl) (sames-refl (s .operands))

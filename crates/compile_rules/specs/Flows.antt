@@ -5,16 +5,14 @@ use mathlib.Core.List.{List, [], _∷_, _++_, reverse, reverseAux, reverseAux-eq
 use mathlib.Core.Option.{Option, none, some}
 use Prim.Native.Nat.{ℕ, suc, _≤_}
 use lib.ListN.{length, getElem?, take}
-use borrow.Author.Tests.{le-leb, eq-eqb}
-use Rattle.values.specs.Types.{Ty, integer, logical, reference, tyCode, same}
+use borrow.Author.Tests.{le-leb}
+use Rattle.values.specs.Types.{Ty, integer, logical, reference}
+use Rattle.values.specs.Identical.{same-refl}
 use Rattle.values.specs.Operators.{unary, binary, Unary, Binary, opType}
 use Rattle.bytecode.specs.Macro.{Body, Shape, shape, Macro}
 use Rattle.bytecode.specs.Instructions.{Owner, Instr, load, store, operate, go, goUnless, setLevel, readFader, takeHold, letHold, assert, stop, call, make, getField, putField}
 use Rattle.bytecode.specs.Rules.{plain, Flow, on, fork, jump, halt, broken, strip, roomy, flow, effect, cellTy, fieldTy, calledBody}
 use Rattle.compile_code.specs.Code.{Code, nil, op, mark, cell, _▸_, At, after}
-
-pub same-refl : (t : Ty) → same t t ≡ true
-same-refl t = eq-eqb (tyCode t) (tyCode t) refl
 
 pub strip-app : (ins r : List Ty) → strip ins (ins ++ r) ≡ some r
 unfolding strip

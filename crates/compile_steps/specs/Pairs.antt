@@ -9,7 +9,7 @@ use lib.Seq.{sets, getD-set-same}
 use Rattle.values.specs.Types.{Ty, tyByte, logical}
 use Rattle.bytecode.specs.Instructions.{Instr, go, goUnless}
 use Rattle.language.specs.Tree.{Expr, operate2, Global}
-use Rattle.language.specs.Faults.{typeE, isTy, withTy}
+use Rattle.language.specs.Faults.{typeE, isTy}
 use mathlib.Core.Option.{Option, none, some}
 use Rattle.values.specs.Operators.{Binary, binary, binaryCode, opType}
 use Rattle.language.specs.Table.{Entry, flatS, flatE, deepS, deepE}
@@ -112,7 +112,7 @@ module _ (o : Binary) (e f : Expr) {W : Walk} {X : Place} {l part : List ℕ} {n
 
   -- the type of the first operand, and of the result
   pair-types : (t : Ty) × (u : Ty) × (z : Ty) × (typeE (scopesOf (X .around)) e ≡ some t) × (typeE (scopesOf (X .around)) (operate2 o e f) ≡ some z) × (opType (binary o) (t ∷ u ∷ []) ≡ some z)
-  unfolding goodE typeE withTy
+  unfolding goodE typeE
   pair-types = let g = r .good .2 in (g .0, g .1, g .2, g .3, rw (g .3, g .4) (g .5), g .5)
 
   pub pair-way : (first : ℕ) → first ≡ tyByte pair-t → wayBy (binaryCode o) first ≡ wayNumber pair-w

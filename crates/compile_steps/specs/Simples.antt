@@ -21,7 +21,7 @@ use Rattle.compile_names.specs.Types.{took}
 use Rattle.language.specs.Tree.{block, assign, when, choose, while, goto, assert, call, setLevel, select, Expr, number, truth, pattern, null, variable, invoke, field, make, operate1, operate2}
 use Rattle.language.specs.Tree.{conditional, fader, blockExpr, Global}
 use Rattle.language.specs.Table.{Entry, flatEs, deepS, deepEs}
-use Rattle.language.specs.Faults.{typeE, withTy}
+use Rattle.language.specs.Faults.{typeE}
 use Rattle.language.specs.Limits.{holdsS, holdsEs, needS, needEs}
 use Rattle.language.specs.Names.{Scope}
 use Rattle.language.specs.Names as names
@@ -357,7 +357,7 @@ module _ {W : Walk} {X : Place} {l part : List ℕ} {nesting at : ℕ} {sizes : 
   simple-leaves : {n : Node} → Simple n → Ready n W X l part nesting at sizes L top holds depth pen → (stack : List ℕ) → map tyByte
       (reverse (pushed (W .globals) (X .around) (opsOf n) (X .types))) ≡ take (depth + countExprs (opsOf n)) stack
       → length stack ≡ length (L .stack) → (v : ℕ) → v ≡ lastType (halfAt part 0) (halfAt part 2) k (getD stack depth 0) → LeavesN (W .globals) n (X .around) (set stack depth v) depth
-  unfolding lastType namesBy goodS typeE pushed countExprs needS withTy
+  unfolding lastType namesBy goodS typeE pushed countExprs needS
   simple-leaves (asserts e) r stack t s v g = tt
   simple-leaves (calls a es) r stack t s v g = tt
   simple-leaves (levels e f) r stack t s v g = tt

@@ -14,10 +14,12 @@ use Rattle.language.specs.Tree.{Decl, declare, holding, Global, local, class, p
 use Rattle.language.specs.Table.{readTable}
 use Rattle.language.specs.Faults.{faults, sizeGlobal}
 use Rattle.language.specs.Limits.{limits}
+use Rattle.language.specs.Formed.{KeepsLimits}
 use Rattle.language.specs.Judge.{firstFault, judgeTree, judgeTable, compileOn}
 use Rattle.bytecode.specs.Macro.{Body}
 use Rattle.programs.specs.Basics.{clash}
 use Rattle.programs.specs.Programs.{accepted-program}
+use Rattle.programs.specs.Trees.{formed-faultless}
 use Rattle.scopes.specs.Environment.{envOf}
 use Rattle.spans.specs.Sizes.{Known}
 use Rattle.heads.specs.Trees.{length-Global}
@@ -126,8 +128,8 @@ module _ {l sizes env known aims ends : List ℕ} (q : AsksCompile l sizes env k
               stage = record {
                 prepared = record {
                   tabled = tabled-here;
-                  faultless = subst (λ (u : Tree). faults u ≡ []) (a .1) (a .0 .faultless);
-                  limited = subst (λ (u : Tree). limits u ≡ []) (a .1) (a .0 .limited);
+                  faultless = subst (λ (u : Tree). faults u ≡ []) (a .1) (formed-faultless _ (a .0 .well-formed));
+                  limited = subst KeepsLimits (a .1) (a .0 .keeps-limits);
                   numbered = record { rest = drop (1 + length (numbersOf t)) known; split = numbers-lie known t tabled-here (q .wide-known) (d .known) };
                 };
                 sight = sight-here;

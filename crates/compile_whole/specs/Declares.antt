@@ -19,7 +19,6 @@ use Rattle.language.specs.Table.{flatTyped, flatDecl, flatGlobal}
 use Rattle.language.specs.Limits.{locals, headCells, headHolds}
 use Rattle.programs.specs.Claims.{entriesOf}
 use Rattle.heads.specs.Trees.{length-Global}
-use Rattle.compile_order.specs.Limited.{root-keeps}
 use Rattle.spans.specs.Stands.{Stands}
 use Rattle.shapes.specs.Walk.{Table}
 use Rattle.shapes.specs.Steps.{head-of, below}
@@ -126,7 +125,7 @@ head-start {l} old pen h c =
       cells = 0;
       remain = left-start (record { tabled = h .tabled; counted = c });
       numbers = numbers-all (theTree l) (h .numbered);
-      few = omega (arith, root-keeps (theTree l) (h .limited) .0);
+      few = omega (arith, h .limited .root .cells);
       penned = refl;
       written = refl;
     }

@@ -2,7 +2,7 @@
 use mathlib.Core.Path.{_≡_, refl, ap, sym, _∙_}
 use mathlib.Core.Bool.{true, false}
 use mathlib.Core.List.{List, [], _∷_}
-use Prim.Native.Nat.{ℕ, _+_, _-_, _*_, _/_, _≤_, _<_}
+use Prim.Native.Nat.{ℕ, suc, _+_, _-_, _*_, _/_, _≤_, _<_}
 use native.Mathlib.Omega.{arith}
 use lib.ListN.{length, drop, getD, length-drop}
 use lib.Seq.{take-all}
@@ -12,7 +12,8 @@ use Rattle.language.specs.Tree.{declare, holding}
 use Rattle.language.specs.Table.{flatTyped, flatDecl, flatGlobal, deepGlobals, nesting}
 use Rattle.language.specs.Names.{rootOf}
 use Rattle.language.specs.Faults.{sizeGlobal}
-use Rattle.language.specs.Limits.{bodyUsage, overLimits, procedureLimits, limits}
+use Rattle.language.specs.Limits.{bodyUsage}
+use Rattle.language.specs.Formed.{EveryProcedure, InLimits}
 use Rattle.programs.specs.Claims.{entriesOf}
 use Rattle.spans.specs.Stands.{Stands}
 use Rattle.heads.specs.Trees.{length-Global}
@@ -21,8 +22,6 @@ use Rattle.shapes.specs.Steps.{head-of, below}
 use Rattle.compile_code.specs.Code.{at}
 use Rattle.compile_code.specs.Compile.{procsOf}
 use Rattle.compile_code.specs.Encode.{codeProc, procParts}
-use Rattle.compile_order.specs.Limited.{keeps}
-use Rattle.compile_names.specs.Good.{split}
 use Rattle.compile_names.specs.Globals.{goodGlobals, good-tree}
 use Rattle.compile_pen.specs.declared.Pen.{Pen}
 use Rattle.compile_pen.specs.Ink.{Fits}
@@ -112,8 +111,7 @@ pub record Remaining (t : Tree) (l sizes known aims : List ℕ) (pen : Pen) (gs 
   pub numbers : Numbers (classesBy t) (itemsBy t) known place cells gs
   pub seen : List ℕ
   pub good : goodGlobals (rootOf t ∷ []) seen gs
-  pub from : ℕ
-  pub limited : procedureLimits from gs ≡ []
+  pub limited : EveryProcedure gs (λ xs b. InLimits (bodyUsage xs b))
   pub deep : deepGlobals gs ≤ 63
   pub aimed : pen .dry ≡ false → AimsProcs t aims gs place (pen .address)
 
@@ -144,7 +142,7 @@ pub record AnswersProcs (l : List ℕ) (L M : Lent) (top : ℕ) (pen r : Pen) : 
   pub ended : M .ends ≡ endedProcs (theTree l) (theTree l .head) 1 (pen .address) (L .ends)
 
 pub procs-start : {l : List ℕ} {count : ℕ} {sizes : List ℕ} {L : Lent} {top : ℕ} {known aims : List ℕ} {pen : Pen} → AsksProcs l count sizes L top known aims pen → ProcsSoFar l sizes known aims top L pen L 1 count pen
-unfolding nesting limits
+unfolding nesting
 procs-start {l} q =
     let h = q .stage .prepared in let t = theTree l in
     record {
@@ -155,8 +153,7 @@ procs-start {l} q =
         numbers = numbers-all t (h .numbered);
         seen = [];
         good = good-tree t (h .faultless) .0;
-        from = 1;
-        limited = split (procedureLimits 1 (t .head)) _ (h .limited) .0;
+        limited = h .limited .procedures;
         deep = omega (arith, h .tabled .readable .depth);
         aimed = q .aimed;
       };
@@ -175,7 +172,7 @@ kept-then a b = record { env = b .env ∙ a .env; same-env = b .same-env ∙ a .
 ready-next : (l part : List ℕ) (place : ℕ) (sizes : List ℕ) (L : Lent) (top : ℕ) (known aims : List ℕ) (p : Pen) (g : Global) (gs : List Global)
     → Stage (theTree l) l sizes (L .env) top known → part ≡ drop (8 * place) l → Stands (entriesOf l) place (flatGlobal g) → Remaining (theTree l) l sizes known aims p (g ∷ gs) place
     → length l / 8 ≤ length (L .ends) → 32 ≤ length (L .stack) → p .inside ≡ true → Fits (penProcs (theTree l) (g ∷ gs) p) (length (L .out)) → ReadyG g l part place sizes L top known aims p
-unfolding goodGlobals procedureLimits deepGlobals procsOf procParts AimsProcs
+unfolding goodGlobals deepGlobals procsOf procParts AimsProcs
 ready-next l part place sizes L top known aims p (local d) gs s e h r ending stacked within fits = tt
 ready-next l part place sizes L top known aims p (class c xs) gs s e h r ending stacked within fits = tt
 ready-next l part place sizes L top known aims p (procedure a xs b) gs s e h r ending stacked within fits =
@@ -186,7 +183,7 @@ ready-next l part place sizes L top known aims p (procedure a xs b) gs s e h r e
       stands = h;
       deep = omega (arith, r .deep);
       good = r .good .0 .1;
-      keeps = keeps (bodyUsage xs b) (r .from) (split (overLimits (bodyUsage xs b) (r .from)) _ (r .limited) .0);
+      keeps = r .limited 0 a xs b refl;
       numbered = numbers-procedure (classesBy t) (itemsBy t) a xs b gs (r .numbers);
       aimed = λ d. r .aimed d .1;
       ending = ending;
@@ -208,15 +205,14 @@ done-dry l place L M p q (procedure a xs b) e =
 
 remaining-next : (l : List ℕ) (place : ℕ) (sizes : List ℕ) (L M : Lent) (known aims : List ℕ) (p q : Pen) (g : Global) (gs : List Global) → DoneG g l place L M p q
     → Remaining (theTree l) l sizes known aims p (g ∷ gs) place → Remaining (theTree l) l sizes known aims q gs (place + sizeGlobal g)
-unfolding goodGlobals procedureLimits deepGlobals AimsProcs
+unfolding goodGlobals deepGlobals AimsProcs
 remaining-next l place sizes L M known aims p q (local d) gs e r =
     record {
       cells = _;
       numbers = numbers-next (classesBy (theTree l)) (itemsBy (theTree l)) (local d) gs (r .numbers);
       seen = _;
       good = r .good .1;
-      from = _;
-      limited = r .limited;
+      limited = λ i. r .limited (suc i);
       deep = omega (arith, r .deep);
       aimed = λ z. rw (e .0) (r .aimed (sym (ap (λ (y : Pen). y .dry) (e .0)) ∙ z));
     }
@@ -226,8 +222,7 @@ remaining-next l place sizes L M known aims p q (class c xs) gs e r =
       numbers = numbers-next (classesBy (theTree l)) (itemsBy (theTree l)) (class c xs) gs (r .numbers);
       seen = _;
       good = r .good .1;
-      from = _;
-      limited = r .limited;
+      limited = λ i. r .limited (suc i);
       deep = omega (arith, r .deep);
       aimed = λ z. rw (e .0) (r .aimed (sym (ap (λ (y : Pen). y .dry) (e .0)) ∙ z));
     }
@@ -237,8 +232,7 @@ remaining-next l place sizes L M known aims p q (procedure a xs b) gs e r =
       numbers = numbers-next (classesBy (theTree l)) (itemsBy (theTree l)) (procedure a xs b) gs (r .numbers);
       seen = _;
       good = r .good .1;
-      from = _;
-      limited = split (overLimits (bodyUsage xs b) (r .from)) _ (r .limited) .1;
+      limited = λ i. r .limited (suc i);
       deep = omega (arith, r .deep);
       aimed = λ z. rw (done-address l place L M p q a xs b e) (r .aimed (sym (done-dry l place L M p q (procedure a xs b) e .0) ∙ z) .2);
     }

@@ -11,7 +11,8 @@ use Rattle.language.specs.Tree.{Typed, Decl, declare, holding, Body, proper, fu
 use Rattle.language.specs.Table.{flatTyped, flatS, flatItems, flatBody, flatHead, flatGlobal, flatten, deepGlobal, nesting, resultCode}
 use Rattle.language.specs.Names.{Scope, procedureOf, rootOf}
 use Rattle.language.specs.Faults.{faults}
-use Rattle.language.specs.Limits.{limits, bodyUsage, locals, headCells, headHolds}
+use Rattle.language.specs.Limits.{bodyUsage, locals, headCells, headHolds}
+use Rattle.language.specs.Formed.{InLimits, KeepsLimits}
 use Rattle.words.specs.Choice.{if_then_else_}
 use Rattle.words.specs.Numbers.{wordAt}
 use Rattle.programs.specs.Claims.{entriesOf}
@@ -28,8 +29,6 @@ use Rattle.bytecode.specs.Instructions.{own, root}
 use Rattle.compile_code.specs.Code.{at}
 use Rattle.compile_code.specs.Compile.{Around, inside, global, scopesOf, heldIn, Proc}
 use Rattle.compile_code.specs.Encode.{startOfRoot, aroundBody, parameterCells, rootVariables, codeProc, codeBody}
-use Rattle.compile_macro.specs.Right.{Keeps}
-use Rattle.compile_order.specs.Limited.{root-keeps}
 use Rattle.compile_names.specs.Known.{ofRoot, ofShared, scopes-parameters}
 use Rattle.compile_names.specs.Globals.{goodBody, good-tree}
 use Rattle.compile_known.specs.Numbers.{numbersFrom, numbersOf}
@@ -52,7 +51,7 @@ use Rattle.compile_whole.specs.Ends.{itemsEnds, procOf, procEnds}
 pub record Prepared (t : Tree) (l sizes known : List ℕ) : Type 0 where
   pub tabled : Tabled l sizes t
   pub faultless : faults t ≡ []
-  pub limited : limits t ≡ []
+  pub limited : KeepsLimits t
   pub numbered : Lies known 1 (numbersOf t)
 
 pub record Stage (t : Tree) (l sizes env : List ℕ) (top : ℕ) (known : List ℕ) : Type 0 where
@@ -69,7 +68,7 @@ lentOf env ends stack out = record { env = env; ends = ends; stack = stack; out 
 
 module _ {t : Tree} {l sizes env : List ℕ} {top : ℕ} {known : List ℕ} (s : Stage t l sizes env top known) where
   abbrev rooted : (aims : List ℕ) (pen : Pen) → Rooted t (walkOf t known aims pen)
-  rooted aims pen = record { readable = s .prepared .tabled .readable; good = s .prepared .faultless; cells = omega (arith, root-keeps t (s .prepared .limited) .0); globals = refl; numbered = s .prepared .numbered }
+  rooted aims pen = record { readable = s .prepared .tabled .readable; good = s .prepared .faultless; cells = omega (arith, s .prepared .limited .root .cells); globals = refl; numbered = s .prepared .numbered }
 
   entries-fit : length (flatten t) ≡ length l / 8
   entries-fit = ap length (sym (s .prepared .tabled .same)) ∙ length-entries (length l / 8) l
@@ -100,14 +99,14 @@ module _ {t : Tree} {l sizes env : List ℕ} {top : ℕ} {known : List ℕ} (s :
       (lentOf env ends stack out) top (headHolds (locals (t .head))) 0 pen
   unfolding nesting
   ready-items part after a e aimed ending stacked address outer fits =
-      let k = root-keeps t (s .prepared .limited) in
+      let k = s .prepared .limited .root in
       let n : startOfItems t .cell ≡ headCells (locals (t .head)) = head-cells (locals (t .head)) (at 0 0) ∙ omega arith in
       let r = rooted s aims pen in
       record {
         table = record { whole = e; legible = s .prepared .tabled .legible; known = s .prepared .tabled .known };
         laid = record {
           stands = rw a (root-items-stand (s .prepared .tabled .legible) t (s .prepared .tabled .same));
-          cells = omega (arith, within-items (t .items), k .0);
+          cells = omega (arith, within-items (t .items), k .cells);
           numbered = rw (a, n) (numbers-items t (s .prepared .numbered));
           aimed = λ d. rw a (aimed d);
         };
@@ -128,8 +127,8 @@ module _ {t : Tree} {l sizes env : List ℕ} {top : ℕ} {known : List ℕ} (s :
         deep = omega (arith, s .prepared .tabled .readable .depth);
         good = rw (root-scopes t) (good-tree t (s .prepared .faultless) .1);
         lands = rw (s .sight) (lands-in-root (s .prepared .tabled .legible) t (s .prepared .tabled .same) (walkOf t known aims pen) aimed);
-        few-holds = omega (arith, k .1);
-        few-values = omega (arith, k .2);
+        few-holds = omega (arith, k .holds);
+        few-values = omega (arith, k .need);
         many = refl;
       }
 
@@ -143,7 +142,7 @@ pub record ReadyProc (t : Tree) (q : Proc) (l part : List ℕ) (place : ℕ) (si
   pub stands : Stands (entriesOf l) place (flatGlobal (globalOf q))
   pub deep : deepGlobal (globalOf q) ≤ 63
   pub good : goodBody (procedureOf (q .parameters) ∷ rootOf t ∷ []) (q .body)
-  pub keeps : Keeps (bodyUsage (q .parameters) (q .body))
+  pub keeps : InLimits (bodyUsage (q .parameters) (q .body))
   pub numbered : Lies known (place + 1) (numbersFrom (classesBy t) 0 (map flatTyped (q .parameters) ++ flatBody (q .body)))
   pub aimed : pen .dry ≡ false → Lies aims (place + 1 + length (q .parameters)) (procEnds t q (pen .address))
   pub ending : length l / 8 ≤ length ends
@@ -215,9 +214,9 @@ unfolding heldIn
 body-held t xs = sym (ap length (held-parameters xs 0 (inside (procedureOf xs) ∷ aroundProcedures t) ∙ held-shared (locals (t .head)) 0 (startOfRoot t)))
 
 -- all parameters are cells
-few-parameters : (xs : List Typed) (b : Body) → Keeps (bodyUsage xs b) → length xs ≤ 32
-few-parameters xs (proper s) k = omega (arith, k .0)
-few-parameters xs (function u e) k = omega (arith, k .0)
+few-parameters : (xs : List Typed) (b : Body) → InLimits (bodyUsage xs b) → length xs ≤ 32
+few-parameters xs (proper s) k = omega (arith, k .cells)
+few-parameters xs (function u e) k = omega (arith, k .cells)
 
 module _ (t : Tree) (l part : List ℕ) (place : ℕ) (sizes env : List ℕ) (top : ℕ) (known aims ends stack out : List ℕ) (pen : Pen) (a : ℕ) (xs : List Typed) where
   abbrev Here : Body → Type 0
@@ -272,7 +271,7 @@ module _ (t : Tree) (l part : List ℕ) (place : ℕ) (sizes env : List ℕ) (to
     ready-body (proper z) r =
         record {
           table = table-here (proper z) r;
-          laid = record { stands = stands-here (proper z) r; cells = omega (arith, within-S z, r .keeps .0); numbered = numbers-body (classesBy t) place xs (proper z) (r .numbered); aimed = r .aimed };
+          laid = record { stands = stands-here (proper z) r; cells = omega (arith, within-S z, r .keeps .cells); numbered = numbers-body (classesBy t) place xs (proper z) (r .numbered); aimed = r .aimed };
           stood = stood (proper z) r;
           room = room-here (proper z) r;
           ending = omega (arith, entries-here (proper z) r, r .ending);
@@ -280,13 +279,13 @@ module _ (t : Tree) (l part : List ℕ) (place : ℕ) (sizes env : List ℕ) (to
           deep = omega (arith, r .deep);
           good = rw (body-scopes t xs) (r .good);
           lands = rw (sight-here (proper z) r) (lands-in-procedure (r .stage .prepared .tabled .legible) place xs (flatS z) (tail (proper z) r) (walkOf t known aims pen) (rootSight l t) (aroundBody t xs));
-          few-holds = omega (arith, r .keeps .1);
-          few-values = omega (arith, r .keeps .2);
+          few-holds = omega (arith, r .keeps .holds);
+          few-values = omega (arith, r .keeps .need);
         }
     ready-body (function u e) r =
         record {
           table = table-here (function u e) r;
-          laid = record { stands = stands-here (function u e) r; cells = omega (arith, within-E e, r .keeps .0); numbered = numbers-body (classesBy t) place xs (function u e) (r .numbered); aimed = r .aimed };
+          laid = record { stands = stands-here (function u e) r; cells = omega (arith, within-E e, r .keeps .cells); numbered = numbers-body (classesBy t) place xs (function u e) (r .numbered); aimed = r .aimed };
           stood = stood (function u e) r;
           room = room-here (function u e) r;
           ending = omega (arith, entries-here (function u e) r, r .ending);
@@ -294,6 +293,6 @@ module _ (t : Tree) (l part : List ℕ) (place : ℕ) (sizes env : List ℕ) (to
           deep = omega (arith, r .deep);
           good = rw (body-scopes t xs) (r .good .0);
           lands = tt;
-          few-holds = omega (arith, r .keeps .1);
-          few-values = omega (arith, r .keeps .2);
+          few-holds = omega (arith, r .keeps .holds);
+          few-values = omega (arith, r .keeps .need);
         }

@@ -12,7 +12,6 @@ use Rattle.words.specs.Lists.{all}
 use Rattle.words.specs.Laws.{Bytes}
 use Rattle.values.specs.Ends.{Judged, accepted, refused}
 use Rattle.values.specs.Trace.{set, hold, release, Item, event}
-use Rattle.language.specs.Tree.{Tree, holding, block, setLevel, goto, item, label, noItem, number}
 use Rattle.language.specs.Table.{bytesOf}
 use Rattle.language.specs.Judge.{Program}
 use Rattle.language_laws.specs.Endings.{ByteReadings, EndsBy}
@@ -26,6 +25,7 @@ use Rattle.bytecode.specs.Lent.{RanOn, startOn}
 use Rattle.examples.specs.Cases.{casesCompute}
 use Rattle.examples.specs.Notation.{refusalOf, joined, feed}
 use Rattle.examples.specs.Listing.{table, code, passes}
+use Rattle.examples.specs.Formed.{listingTree, listing-formed, listing-within}
 use Rattle.loading.specs.Tests.{halves}
 use Rattle.loading.specs.Promises.{passed}
 use Rattle.safety.specs.Safety.{fresh-safe}
@@ -99,13 +99,6 @@ listing =
 
 -- ── the second demand ──
 -- the listing example is a program
-abbrev pub listingTree : Tree
-listingTree = record {
-  head = [];
-  items = item (block (holding 7 ∷ []) (item (setLevel (number (pos 3)) (number (pos 200))) (item (goto 5) noItem)))
-      (item (setLevel (number (pos 4)) (number (pos 9))) (label 5 noItem));
-}
-
 pub listing-program : Program (bytesOf table)
 unfolding casesCompute
 listing-program = record {
@@ -117,8 +110,8 @@ listing-program = record {
   depth = omega arith;
   classes = omega arith;
   procedures = omega arith;
-  faultless = refl;
-  limited = refl;
+  well-formed = listing-formed;
+  keeps-limits = listing-within;
 }
 
 abbrev pub listingItems : List Item

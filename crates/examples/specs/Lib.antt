@@ -3,4 +3,5 @@ pub mod Notation
 pub mod Listing
 pub mod Stars
 pub mod Refusals
+pub mod Formed
 pub mod More

@@ -6,47 +6,44 @@ use mathlib.Core.Option.{Option, none, some}
 use Prim.Native.Nat.{ℕ, suc, _+_}
 use lib.Dec.{eqb}
 use lib.ListN.{length}
+use Rattle.words.specs.Options.{isSome}
 use Rattle.words.specs.Choice.{if_then_else_}
 use Rattle.words.specs.Lists.{among}
 use Rattle.values.specs.Types.{Ty, integer, logical, bits, reference, same, fits, allFit}
 use Rattle.values.specs.Ends.{Refusal, refusal}
 use Rattle.values.specs.Operators.{unary, binary, opType}
 use Rattle.language.specs.Tree.{Typed, Decl, declare, holding, Stmt, block, assign, when, choose, while, goto, assert, call, setLevel, select, Items, noItem, label, item, Arms, lastArm, arm, Target, toVariable, toField, Expr, number, truth, pattern, null, variable, invoke, field, make, operate1, operate2, conditional, fader, blockExpr, Exprs, noExpr, expr, Body, proper, function, Global, local, class, procedure, Tree}
-use Rattle.language.specs.Names.{Sort, isVariable, isLabel, isClass, isField, isProcedure, Scope, blockOf, expressionOf, procedureOf, rootOf, Found, nowhere, found, lookup}
+use Rattle.language.specs.Names.{Sort, asVariable, asLabel, asClass, asField, asProcedure, Scope, blockOf, expressionOf, procedureOf, rootOf, Found, nowhere, found, lookup}
+
+-- ── what is found ──
+-- as what a name was found, if as that
+abbrev pub foundAs : {A : Type 0} → (Sort → Option A) → Found → Option A
+foundAs f nowhere = none
+foundAs f (found s w) = f s
+
+-- something there is, and it holds of it
+abbrev pub holds : {A : Type 0} → Option A → (A → Bool) → Bool
+holds none f = false
+holds (some x) f = f x
 
 -- ── types ──
-unfoldable pub withTy : {A : Type 0} → Option A → (A → Option Ty) → Option Ty
+abbrev pub withTy : {A : Type 0} → Option A → (A → Option Ty) → Option Ty
 withTy none f = none
 withTy (some x) f = f x
-
-abbrev pub variableTy : Found → Option Ty
-variableTy nowhere = none
-variableTy (found (isVariable t) w) = some t
-variableTy (found isLabel w) = none
-variableTy (found (isClass ts) w) = none
-variableTy (found (isField c t) w) = none
-variableTy (found (isProcedure ts us) w) = none
 
 abbrev pub onlyTy : List Ty → Option Ty
 onlyTy [] = none
 onlyTy (t ∷ []) = some t
 onlyTy (t ∷ (u ∷ us)) = none
 
+abbrev pub variableTy : Found → Option Ty
+variableTy f = foundAs asVariable f
+
 abbrev pub resultTy : Found → Option Ty
-resultTy nowhere = none
-resultTy (found (isVariable t) w) = none
-resultTy (found isLabel w) = none
-resultTy (found (isClass ts) w) = none
-resultTy (found (isField c t) w) = none
-resultTy (found (isProcedure ts us) w) = onlyTy us
+resultTy f = withTy (foundAs asProcedure f) (λ x. onlyTy (x .1))
 
 abbrev pub fieldTy : Found → Option Ty
-fieldTy nowhere = none
-fieldTy (found (isVariable t) w) = none
-fieldTy (found isLabel w) = none
-fieldTy (found (isClass ts) w) = none
-fieldTy (found (isField c t) w) = some t
-fieldTy (found (isProcedure ts us) w) = none
+fieldTy f = withTy (foundAs asField f) (λ x. some (x .1))
 
 unfoldable pub typeE : List Scope → Expr → Option Ty
 typeE ss (number z) = some integer
@@ -79,25 +76,16 @@ typesE ss (expr e es) = consTy (typeE ss e) (typesE ss es)
 
 -- ── tests on types; an operand that has none is at fault before ──
 abbrev pub isTy : Ty → Option Ty → Bool
-isTy u none = false
-isTy u (some t) = same t u
+isTy u o = holds o (λ t. same t u)
 
 abbrev pub sameTy : Option Ty → Option Ty → Bool
-sameTy none r = false
-sameTy (some t) r = isTy t r
+sameTy o r = holds o (λ t. isTy t r)
 
 abbrev pub fitsTy : Option Ty → Option Ty → Bool
-fitsTy none r = false
-fitsTy (some t) none = false
-fitsTy (some t) (some u) = fits t u
+fitsTy o r = holds o (λ t. holds r (λ u. fits t u))
 
 abbrev pub fitTys : Option (List Ty) → List Ty → Bool
-fitTys none us = false
-fitTys (some ts) us = allFit ts us
-
-abbrev pub hasTy : Option Ty → Bool
-hasTy none = false
-hasTy (some t) = true
+fitTys o us = holds o (λ ts. allFit ts us)
 
 -- ── the faults at one entry ──
 abbrev pub faultIf : Bool → ℕ → ℕ → List Refusal
@@ -113,51 +101,27 @@ named nowhere f p = refusal 3 p ∷ []
 named (found s w) f p = mistypedUnless (f s) p
 
 abbrev pub variableSort : Sort → Bool
-variableSort (isVariable t) = true
-variableSort isLabel = false
-variableSort (isClass ts) = false
-variableSort (isField c t) = false
-variableSort (isProcedure ts us) = false
+variableSort s = isSome (asVariable s)
 
 abbrev pub classSort : Sort → Bool
-classSort (isVariable t) = false
-classSort isLabel = false
-classSort (isClass ts) = true
-classSort (isField c t) = false
-classSort (isProcedure ts us) = false
+classSort s = isSome (asClass s)
 
 -- a record of a class from values of these types
 abbrev pub classFrom : Option (List Ty) → Sort → Bool
-classFrom vs (isVariable t) = false
-classFrom vs isLabel = false
-classFrom vs (isClass ts) = fitTys vs ts
-classFrom vs (isField c t) = false
-classFrom vs (isProcedure ts us) = false
+classFrom vs s = holds (asClass s) (λ ts. fitTys vs ts)
 
 -- a field of a reference of this type
 abbrev pub fieldOf : Option Ty → Sort → Bool
-fieldOf r (isVariable t) = false
-fieldOf r isLabel = false
-fieldOf r (isClass ts) = false
-fieldOf r (isField c t) = isTy (reference c) r
-fieldOf r (isProcedure ts us) = false
+fieldOf r s = holds (asField s) (λ x. isTy (reference (x .0)) r)
 
 -- a procedure with as many results, called with arguments of these types
 abbrev pub callOf : ℕ → Option (List Ty) → Sort → Bool
-callOf n vs (isVariable t) = false
-callOf n vs isLabel = false
-callOf n vs (isClass ts) = false
-callOf n vs (isField c t) = false
-callOf n vs (isProcedure ts us) = eqb (length us) n && fitTys vs ts
+callOf n vs s = holds (asProcedure s) (λ x. eqb (length (x .1)) n && fitTys vs (x .0))
 
 -- 5: "label out of a goto's reach"
 abbrev pub aimed : Found → ℕ → List Refusal
 aimed nowhere p = refusal 3 p ∷ []
-aimed (found (isVariable t) w) p = refusal 4 p ∷ []
-aimed (found isLabel w) p = faultIf w 5 p
-aimed (found (isClass ts) w) p = refusal 4 p ∷ []
-aimed (found (isField c t) w) p = refusal 4 p ∷ []
-aimed (found (isProcedure ts us) w) p = refusal 4 p ∷ []
+aimed (found s w) p = if asLabel s then faultIf w 5 p else refusal 4 p ∷ []
 
 -- 3: "twice in a block", at "the second of two"
 abbrev pub twice : ℕ → List ℕ → ℕ → List Refusal
@@ -273,9 +237,9 @@ unfoldable mutual
   faultsE ss p (invoke a es) = faultsEs ss (suc p) es ++ named (lookup a ss) (callOf 1 (typesE ss es)) p
   faultsE ss p (field a e) = faultsE ss (suc p) e ++ named (lookup a ss) (fieldOf (typeE ss e)) p
   faultsE ss p (make c es) = faultsEs ss (suc p) es ++ named (lookup c ss) (classFrom (typesE ss es)) p
-  faultsE ss p (operate1 o e) = faultsE ss (suc p) e ++ mistypedUnless (hasTy (typeE ss (operate1 o e))) p
+  faultsE ss p (operate1 o e) = faultsE ss (suc p) e ++ mistypedUnless (isSome (typeE ss (operate1 o e))) p
   faultsE ss p (operate2 o e f) =
-      faultsE ss (suc p) e ++ (faultsE ss (suc p + sizeE e) f ++ mistypedUnless (hasTy (typeE ss (operate2 o e f))) p)
+      faultsE ss (suc p) e ++ (faultsE ss (suc p + sizeE e) f ++ mistypedUnless (isSome (typeE ss (operate2 o e f))) p)
   faultsE ss p (conditional e f g) =
       faultsE ss (suc p) e
       ++ (faultsE ss (suc p + sizeE e) f

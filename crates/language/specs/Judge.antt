@@ -14,6 +14,7 @@ use Rattle.language.specs.Tree.{Tree}
 use Rattle.language.specs.Table.{Entry, inLayout, flatten, bytesOf, nesting, classCount, procedureCount, readTable}
 use Rattle.language.specs.Faults.{faults}
 use Rattle.language.specs.Limits.{limits}
+use Rattle.language.specs.Formed.{WellFormed, KeepsLimits}
 
 -- ── the check ──
 abbrev pub firstFault : Tree → List Refusal → Judged Tree
@@ -61,7 +62,7 @@ total f (x ∷ xs) = f x + total f xs
 abbrev pub inFields : Entry → Bool
 inFields e = ltb (e .kind) 65536 && (ltb (e .a) 65536 && ltb (mag (e .b)) 2147483648)
 
--- a table is a program of the subset if some tree is written by it that keeps to the layout and has no fault
+-- a table is a program of the subset if some tree is written by it that keeps to the layout, is well formed and keeps its bodies' limits
 pub record Program (l : List ℕ) : Type 0 where
   pub tree : Tree
   pub written : bytesOf (flatten tree) ≡ l
@@ -71,5 +72,5 @@ pub record Program (l : List ℕ) : Type 0 where
   pub depth : nesting tree ≤ 64  -- "nesting at most 64 deep"
   pub classes : total classCount (tree .head) ≤ 16  -- "Kinds 11 and 12 stand only in the root's head, at most 16 and 63."
   pub procedures : total procedureCount (tree .head) ≤ 63
-  pub faultless : faults tree ≡ []  -- no fault 3, 4 or 5 at any entry
-  pub limited : limits tree ≡ []  -- every body within its limits
+  pub well-formed : WellFormed tree  -- names, types and reach: 3, 4, 5
+  pub keeps-limits : KeepsLimits tree  -- room in a body: 6

@@ -3,6 +3,7 @@ pub mod Table
 pub mod Names
 pub mod Faults
 pub mod Limits
+pub mod Formed
 pub mod Judge
 pub mod Execute
 pub mod Computes

@@ -1,6 +1,7 @@
 -- Blocks, the names that they define, and the lookup of section 3 of 000. "Names follow section 3 of 000: innermost block first."
 use mathlib.Core.Bool.{Bool, true, false}
 use mathlib.Core.List.{List, [], _∷_, _++_}
+use mathlib.Core.Option.{Option, none, some}
 use Prim.Native.Nat.{ℕ}
 use lib.Dec.{eqb}
 use Rattle.words.specs.Choice.{if_then_else_}
@@ -14,6 +15,42 @@ pub data Sort : Type 0 where
   isClass : List Ty → Sort  -- the types of its fields
   isField : ℕ → Ty → Sort  -- the class that owns it, and its type
   isProcedure : List Ty → List Ty → Sort  -- the types of its parameters, and of its result, if it has one
+
+-- what a name of a sort is, if it is that
+abbrev pub asVariable : Sort → Option Ty
+asVariable (isVariable t) = some t
+asVariable isLabel = none
+asVariable (isClass ts) = none
+asVariable (isField c t) = none
+asVariable (isProcedure ts us) = none
+
+abbrev pub asLabel : Sort → Bool
+asLabel (isVariable t) = false
+asLabel isLabel = true
+asLabel (isClass ts) = false
+asLabel (isField c t) = false
+asLabel (isProcedure ts us) = false
+
+abbrev pub asClass : Sort → Option (List Ty)
+asClass (isVariable t) = none
+asClass isLabel = none
+asClass (isClass ts) = some ts
+asClass (isField c t) = none
+asClass (isProcedure ts us) = none
+
+abbrev pub asField : Sort → Option (ℕ × Ty)
+asField (isVariable t) = none
+asField isLabel = none
+asField (isClass ts) = none
+asField (isField c t) = some (c, t)
+asField (isProcedure ts us) = none
+
+abbrev pub asProcedure : Sort → Option (List Ty × List Ty)
+asProcedure (isVariable t) = none
+asProcedure isLabel = none
+asProcedure (isClass ts) = none
+asProcedure (isField c t) = none
+asProcedure (isProcedure ts us) = some (ts, us)
 
 pub record Definition : Type 0 where
   pub name : ℕ
@@ -62,6 +99,11 @@ pub data Scope : Type 0 where
   inBlock : List Definition → Scope  -- a block
   inExpression : List Definition → Scope  -- a block expression, which no goto leaves
   inProcedure : List Definition → Scope  -- "parameters to one around the body", which no goto leaves
+
+abbrev pub definitions : Scope → List Definition
+definitions (inBlock ds) = ds
+definitions (inExpression ds) = ds
+definitions (inProcedure ds) = ds
 
 abbrev pub blockOf : List Decl → Items → Scope
 blockOf ds is = inBlock (definesHead ds ++ definesItems is)

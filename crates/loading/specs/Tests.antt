@@ -1,15 +1,15 @@
 -- What tests say: a test that gave true or false, turned into the fact that it tested, and back.
 use mathlib.Core.Path.{_≡_, refl, ap, ap₂, sym}
 use mathlib.Core.Bool.{Bool, true, false, _&&_, _||_}
-use mathlib.Core.List.{List, [], _∷_}
 use mathlib.Core.Option.{Option, none, some}
 use Prim.Native.Nat.{ℕ, _+_}
 use native.Mathlib.Omega.{arith}
 use lib.Dec.{eqb}
-use borrow.Author.Tests.{eqb-true, eq-eqb}
+use borrow.Author.Tests.{eqb-true}
 use Rattle.words.specs.Options.{keep}
 use Rattle.words.specs.Choice.{if_then_else_}
-use Rattle.values.specs.Types.{Ty, integer, logical, bits, reference, tyCode, same, fits, sames, allFit}
+use Rattle.values.specs.Types.{Ty, fits, sames, allFit}
+pub use Rattle.values.specs.Identical.{same-refl, same→≡, sames-refl, sames→≡}
 use Rattle.bytecode.specs.Macro.{Shape, shape}
 use Rattle.bytecode.specs.Rules.{sameShape}
 
@@ -43,27 +43,6 @@ kept none f y h = never-some h
 kept (some x) f y h = (x, refl, h)
 
 -- ── types and shapes ──
-pub same-refl : (t : Ty) → same t t ≡ true
-same-refl t = eq-eqb (tyCode t) (tyCode t) refl
-
-pub same→≡ : (t u : Ty) → same t u ≡ true → t ≡ u
-same→≡ integer integer h = refl
-same→≡ integer logical h = never h
-same→≡ integer bits h = never h
-same→≡ integer (reference d) h = absurd (omega (arith, eqb-true 1 (65536 + d) h))
-same→≡ logical integer h = never h
-same→≡ logical logical h = refl
-same→≡ logical bits h = never h
-same→≡ logical (reference d) h = absurd (omega (arith, eqb-true 2 (65536 + d) h))
-same→≡ bits integer h = never h
-same→≡ bits logical h = never h
-same→≡ bits bits h = refl
-same→≡ bits (reference d) h = absurd (omega (arith, eqb-true 3 (65536 + d) h))
-same→≡ (reference c) integer h = absurd (omega (arith, eqb-true (65536 + c) 1 h))
-same→≡ (reference c) logical h = absurd (omega (arith, eqb-true (65536 + c) 2 h))
-same→≡ (reference c) bits h = absurd (omega (arith, eqb-true (65536 + c) 3 h))
-same→≡ (reference c) (reference d) h = ap reference (omega (arith, eqb-true (65536 + c) (65536 + d) h))
-
 -- for now what fits a place is of its very type: all that turns on it goes through these two
 pub fits→≡ : (t u : Ty) → fits t u ≡ true → t ≡ u
 fits→≡ = same→≡
@@ -76,20 +55,6 @@ allFit→≡ (t ∷ ts) [] h = never h
 allFit→≡ (t ∷ ts) (u ∷ us) h =
     let q = halves (fits t u) (allFit ts us) h in
     ap₂ (λ x xs. x ∷ xs) (fits→≡ t u (q .0)) (allFit→≡ ts us (q .1))
-
-pub sames-refl : (ts : List Ty) → sames ts ts ≡ true
-unfolding sames
-sames-refl [] = refl
-sames-refl (t ∷ ts) = both (same-refl t) (sames-refl ts)
-
-pub sames→≡ : (ts us : List Ty) → sames ts us ≡ true → ts ≡ us
-unfolding sames
-sames→≡ [] [] h = refl
-sames→≡ [] (u ∷ us) h = never h
-sames→≡ (t ∷ ts) [] h = never h
-sames→≡ (t ∷ ts) (u ∷ us) h =
-    let q = halves (same t u) (sames ts us) h in
-    ap₂ (λ x xs. x ∷ xs) (same→≡ t u (q .0)) (sames→≡ ts us (q .1))
 
 pub sameShape→≡ : (s t : Shape) → sameShape s t ≡ true → s ≡ t
 sameShape→≡ s t h =

@@ -5,12 +5,13 @@ use mathlib.Core.List.{List, [], _∷_}
 use mathlib.Core.Option.{Option, none, some}
 use Prim.Native.Nat.{ℕ, zero, suc}
 use lib.IntN.{ℤ, pos}
+use Rattle.words.specs.Options.{isSome}
 use Rattle.values.specs.Types.{Ty, integer, logical, bits, reference}
 use Rattle.values.specs.Ends.{Refusal}
 use Rattle.values.specs.Operators.{Unary, Binary, Operator, unary, binary, unaryCode, binaryCode, opType}
 use Rattle.language.specs.Table.{Entry, entry}
 use Rattle.language.specs.Names.{Scope, lookup}
-use Rattle.language.specs.Faults.{variableTy, resultTy, fieldTy, consTy, isTy, sameTy, fitsTy, hasTy, mistypedUnless, named, variableSort, classSort, classFrom, fieldOf, callOf, aimed}
+use Rattle.language.specs.Faults.{variableTy, resultTy, fieldTy, consTy, isTy, sameTy, fitsTy, mistypedUnless, named, variableSort, classSort, classFrom, fieldOf, callOf, aimed}
 
 pub data Operation : Type 0 where
   numeral truth pattern : ℤ → Operation
@@ -148,8 +149,8 @@ own ss (fieldAt a) ts p = named (lookup a ss) (fieldOf (nth 0 ts)) p
 own ss (makes c) ts p = named (lookup c ss) (classFrom (sequence ts)) p
 own ss (calls a) ts p = named (lookup a ss) (callOf 0 (sequence ts)) p
 own ss (goesTo a) ts p = aimed (lookup a ss) p
-own ss (unaryOp o) ts p = mistypedUnless (hasTy (operTy (unary o) ts)) p
-own ss (binaryOp o) ts p = mistypedUnless (hasTy (operTy (binary o) ts)) p
+own ss (unaryOp o) ts p = mistypedUnless (isSome (operTy (unary o) ts)) p
+own ss (binaryOp o) ts p = mistypedUnless (isSome (operTy (binary o) ts)) p
 own ss chooses ts p = mistypedUnless (isTy logical (nth 0 ts) && sameTy (nth 1 ts) (nth 2 ts)) p
 own ss reads ts p = mistypedUnless (isTy integer (nth 0 ts)) p
 own ss assigns ts p = mistypedUnless (fitsTy (nth 1 ts) (nth 0 ts)) p

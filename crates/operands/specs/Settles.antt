@@ -8,6 +8,7 @@ use native.Mathlib.Omega.{arith}
 use lib.Dec.{eqb}
 use lib.ListN.{length}
 use borrow.Author.Tests.{eq-eqb, ne-eqb}
+use Rattle.words.specs.Options.{isSome}
 use Rattle.words.specs.Choice.{if_then_else_}
 use Rattle.values.specs.Types.{Ty, integer, logical, bits, reference, tyCode}
 use Rattle.values.specs.Ends.{Refusal, refusal}
@@ -16,7 +17,7 @@ use Rattle.language.specs.Tree.{Typed}
 use Rattle.language.specs.Table.{flatTyped}
 use Rattle.language.specs.Names.{isVariable, isLabel, isClass, isField, isProcedure, types, Scope, nowhere, found, lookup}
 use Rattle.language.specs.Names as names
-use Rattle.language.specs.Faults.{variableTy, resultTy, fieldTy, isTy, sameTy, fitsTy, fitTys, hasTy, mistypedUnless, named, variableSort, classSort, classFrom, fieldOf, callOf, aimed}
+use Rattle.language.specs.Faults.{variableTy, resultTy, fieldTy, isTy, sameTy, fitsTy, fitTys, mistypedUnless, named, variableSort, classSort, classFrom, fieldOf, callOf, aimed}
 use Rattle.programs.specs.Basics.{clash}
 use Rattle.programs.specs.Claims.{entriesOf}
 use Rattle.scopes.specs.declared.Found.{Found}
@@ -43,7 +44,7 @@ pub record Settled (r : Verdict) (fs : List Refusal) (o : Option Ty) : Type 0 wh
   pub types : Types r o
 
 -- ── by the types alone ──
-right-type : (o : Option Ty) (n p : ℕ) → n ≡ tyNum o → Settled (rightIf (not (eqb n 0)) n p) (mistypedUnless (hasTy o) p) o
+right-type : (o : Option Ty) (n p : ℕ) → n ≡ tyNum o → Settled (rightIf (not (eqb n 0)) n p) (mistypedUnless (isSome o) p) o
 right-type none n p e = rw e (record { says = ([], refl); types = tt })
 right-type (some t) n p e = rw (e, ne-eqb (tyCode t) 0 (code-some t)) (record { says = refl; types = refl })
 

@@ -18,6 +18,9 @@ pub both-right : (b c : Bool) → (b && c) ≡ true → c ≡ true
 both-right true c h = h
 both-right false c h = clash (cc)
 
+pub both-so : {b c : Bool} → b ≡ true → c ≡ true → (b && c) ≡ true
+both-so p q = rw (p, q) refl
+
 pub all-append : {A : Type 0} (f : A → Bool) (us vs : List A) → all f (us ++ vs) ≡ (all f us && all f vs)
 unfolding all
 all-append f [] vs = refl

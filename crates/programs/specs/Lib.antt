@@ -9,6 +9,10 @@ pub mod Bytes
 pub mod Outline
 pub mod Outlined
 pub mod Sizes
+pub mod Tests
+pub mod Once
+pub mod Typing
+pub mod Trees
 pub mod Claims
 pub mod Stops
 pub mod StopForms

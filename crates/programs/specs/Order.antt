@@ -1,16 +1,18 @@
 -- The faults of a part are met where its entries are judged in postorder.
 use mathlib.Core.Path.{_≡_}
-use mathlib.Core.Bool.{Bool, not, _&&_}
+use mathlib.Core.Bool.{Bool, true, false, not, _&&_}
 use mathlib.Core.List.{List, [], _∷_, _++_, append-assoc, append-nil}
 use Prim.Native.Nat.{ℕ, suc, _+_, _≤_, _<_}
 use native.Mathlib.Omega.{arith}
 use lib.ListN.{length}
+use Rattle.words.specs.Choice.{if_then_else_}
 use Rattle.words.specs.Lists.{among}
+use Rattle.words.specs.Options.{isSome}
 use Rattle.values.specs.Types.{Ty, integer, logical, bits, reference}
-use Rattle.values.specs.Ends.{Refusal}
+use Rattle.values.specs.Ends.{Refusal, refusal}
 use Rattle.language.specs.Tree.{Typed, Decl, declare, holding, Stmt, block, assign, when, choose, while, goto, assert, call, setLevel, select, Items, noItem, label, item, Arms, lastArm, arm, Target, toVariable, toField, Expr, number, truth, pattern, null, variable, invoke, field, make, operate1, operate2, conditional, fader, blockExpr, Exprs, noExpr, expr, Body, proper, function, Global, local, class, procedure, Tree}
-use Rattle.language.specs.Names.{Sort, isVariable, isLabel, isClass, isField, isProcedure, Scope, blockOf, expressionOf, procedureOf, rootOf, Found, nowhere, found, lookup}
-use Rattle.language.specs.Faults.{typeE, typesE, isTy, sameTy, fitsTy, hasTy, typeTarget, faultIf, named, variableSort, classSort, classFrom, fieldOf, callOf, aimed, typeFaults, sizeS, sizeItems, sizeTarget, sizeE, faultsTyped, faultsHead, namesHead, faultsS, faultsItems, faultsArms, faultsTarget, faultsE, faultsEs, sizeGlobal, faultsBody, bodyFits, namesGlobal, faultsGlobal, faultsGlobals, faults}
+use Rattle.language.specs.Names.{Sort, asLabel, Scope, blockOf, expressionOf, procedureOf, rootOf, Found, nowhere, found, lookup}
+use Rattle.language.specs.Faults.{typeE, typesE, isTy, sameTy, fitsTy, typeTarget, faultIf, named, variableSort, classSort, classFrom, fieldOf, callOf, aimed, typeFaults, sizeS, sizeItems, sizeTarget, sizeE, faultsTyped, faultsHead, namesHead, faultsS, faultsItems, faultsArms, faultsTarget, faultsE, faultsEs, sizeGlobal, faultsBody, bodyFits, namesGlobal, faultsGlobal, faultsGlobals, faults}
 use Rattle.language.specs.Judge.{total}
 use Rattle.programs.specs.Claims.{Walk, end, pass}
 use Rattle.programs.specs.Outline.{Outline, leaf, none, under, _beside_, size, postorder, leavesOf, outlineS, outlineItems, outlineArms, outlineTarget, outlineE, outlineEs, outlineBody, outlineGlobal, outlineHead, outline}
@@ -65,11 +67,11 @@ at-named (found s w) g p = wrong (not (g s)) p
 
 at-aimed : (f : Found) (p : ℕ) → Walk 3 (p ∷ []) (aimed f p)
 at-aimed nowhere p = walk-one 3 p (omega arith)
-at-aimed (found (isVariable t) w) p = walk-one 4 p (omega arith)
-at-aimed (found isLabel w) p = walk-if w 5 p (omega arith)
-at-aimed (found (isClass ts) w) p = walk-one 4 p (omega arith)
-at-aimed (found (isField c t) w) p = walk-one 4 p (omega arith)
-at-aimed (found (isProcedure ts us) w) p = walk-one 4 p (omega arith)
+at-aimed (found s w) p = go (asLabel s)
+  where
+    go : (b : Bool) → Walk 3 (p ∷ []) (if b then faultIf w 5 p else refusal 4 p ∷ [])
+    go true = walk-if w 5 p (omega arith)
+    go false = walk-one 4 p (omega arith)
 
 -- a declaration with a type: its name twice, and then its class
 at-declared : (ss : List Scope) (b : Bool) (t : Ty) (p : ℕ) → Walk 3 (p ∷ []) (faultIf b 3 p ++ typeFaults ss t p)
@@ -144,9 +146,9 @@ mutual
   met-expr (invoke a es) ss p = post (met-exprs es ss (suc p)) (at-named (lookup a ss) (callOf 1 (typesE ss es)) p)
   met-expr (field a e) ss p = post (met-expr e ss (suc p)) (at-named (lookup a ss) (fieldOf (typeE ss e)) p)
   met-expr (make c es) ss p = post (met-exprs es ss (suc p)) (at-named (lookup c ss) (classFrom (typesE ss es)) p)
-  met-expr (operate1 o e) ss p = post (met-expr e ss (suc p)) (wrong (not (hasTy (typeE ss (operate1 o e)))) p)
+  met-expr (operate1 o e) ss p = post (met-expr e ss (suc p)) (wrong (not (isSome (typeE ss (operate1 o e)))) p)
   met-expr (operate2 o e f) ss p =
-      post-two (met-expr e ss (suc p)) (met-expr f ss (suc p + sizeE e)) (omega (arith, size-expr e)) (wrong (not (hasTy (typeE ss (operate2 o e f)))) p)
+      post-two (met-expr e ss (suc p)) (met-expr f ss (suc p + sizeE e)) (omega (arith, size-expr e)) (wrong (not (isSome (typeE ss (operate2 o e f)))) p)
   met-expr (conditional e f g) ss p =
       post-three (met-expr e ss (suc p)) (met-expr f ss (suc p + sizeE e)) (met-expr g ss (suc p + sizeE e + sizeE f)) (omega (arith, size-expr e)) (omega (arith, size-expr f))
       (wrong (not (isTy logical (typeE ss e) && sameTy (typeE ss f) (typeE ss g))) p)

@@ -1,7 +1,7 @@
 -- Which tables are programs, and what a refusal says: the theorems, over the terms of Claims. The proofs stand in the other files.
 use mathlib.Core.Path.{_≡_}
 use mathlib.Core.Bool.{true}
-use mathlib.Core.List.{List, _∷_, _++_}
+use mathlib.Core.List.{List, [], _∷_, _++_}
 use mathlib.Core.Logic.{_↔_}
 use Prim.Native.Nat.{ℕ, _*_, _/_, _%_, _≤_, _<_}
 use native.Mathlib.Omega.{arith}
@@ -12,6 +12,8 @@ use Rattle.values.specs.Ends.{Refusal, accepted, refused}
 use Rattle.language.specs.Tree.{Tree}
 use Rattle.language.specs.Table.{Entry, flatten, bytesOf, nesting, took, first, formRoot}
 use Rattle.language.specs.Faults.{faults}
+use Rattle.language.specs.Limits.{limits}
+use Rattle.language.specs.Formed.{WellFormed, KeepsLimits}
 use Rattle.language.specs.Judge.{judgeTable, inFields, Program}
 use Rattle.programs.specs.Bytes.{bytes-back, fields-kept, entries-all, length-bytes}
 use Rattle.programs.specs.Claims.{Readable, entriesOf, FirstUnread, Walk, Stands, Earlier, Ordered, Verdict}
@@ -20,6 +22,7 @@ use Rattle.programs.specs.Outline.{depths, deepest, postorder, outline}
 use Rattle.programs.specs.Roots.{takes-root, yields-root}
 use Rattle.programs.specs.Sizes
 use Rattle.programs.specs.StopRoots
+use Rattle.programs.specs.Trees.{faultless-formed, formed-faultless, limited-keeps, keeps-limited}
 use Rattle.programs.specs.Verdicts
 use Rattle.programs.specs.Walks.{walk-order, ordered-same, within-postorder, within-once, postorder-all}
 
@@ -79,6 +82,13 @@ faults-ordered t xs ys zs a b e = walk-order (walk-faults t) xs ys zs a b e
 pub faults-order : (t : Tree) (xs ys zs : List Refusal) (a b : Refusal) → faults t ≡ xs ++ (a ∷ (ys ++ (b ∷ zs))) → a .place ≡ b .place
     → a .number ≤ b .number
 faults-order t xs ys zs a b e p = ordered-same (faults-ordered t xs ys zs a b e) p (postorder-once t (a .place))
+
+-- ── what the lists of faults come to: the rules, which know no place and no order ──
+pub faultless : (t : Tree) → (faults t ≡ []) ↔ WellFormed t
+faultless t = (faultless-formed t, formed-faultless t)
+
+pub within-limits : (t : Tree) → (limits t ≡ []) ↔ KeepsLimits t
+within-limits t = (limited-keeps t, keeps-limited t)
 
 -- ── programs: the check accepts a table exactly if it is one, and answers its tree ──
 pub accepted-program : (l : List ℕ) → Bytes l → (t : Tree) → judgeTable l ≡ accepted t → (p : Program l) × (p .tree ≡ t)

@@ -21,6 +21,8 @@ use Rattle.programs.specs.Bytes.{bytes-back, fields-kept, entries-all, l
 use Rattle.programs.specs.Claims.{Readable, entriesOf, Misshapen, empty, over, uneven, Shaped, Holds, Verdict, misshapen, unread, faulty, sound}
 use Rattle.programs.specs.Roots.{takes-root, yields-root}
 use Rattle.programs.specs.StopRoots.{first-stop, first-after}
+use Rattle.programs.specs.Tests.{none-left, none-right}
+use Rattle.programs.specs.Trees.{faultless-formed, formed-faultless, limited-keeps, keeps-limited}
 
 -- ── one tree ──
 pub read-whole : (t : Tree) → Readable t → first formRoot (flatten t) ≡ took t []
@@ -66,10 +68,6 @@ not-both (empty e) s = omega arith
 not-both (over e) s = omega arith
 not-both (uneven e) s = e (s .eights)
 
-no-more : {A : Type 0} (xs ys : List A) → xs ++ ys ≡ [] → (xs ≡ []) × (ys ≡ [])
-no-more [] ys e = (refl, e)
-no-more (x ∷ xs) ys e = clash (cc)
-
 flatten-some : (t : Tree) → 1 ≤ length (flatten t)
 unfolding flatten
 flatten-some t = omega arith
@@ -99,15 +97,16 @@ holds-program l b t h e =
       depth = h .readable .depth;
       classes = h .readable .classes;
       procedures = h .readable .procedures;
-      faultless = no-more (faults t) (limits t) e .0;
-      limited = no-more (faults t) (limits t) e .1;
+      well-formed = faultless-formed t (none-left _ _ e);
+      keeps-limits = limited-keeps t (none-right (faults t) _ e);
     }
 
 -- what the check answers of a program's table
 pub program-verdict : {l : List ℕ} {v : Judged Tree} (p : Program l) → Verdict l v → v ≡ accepted (p .tree)
 program-verdict {l} p (misshapen m) = absurd (not-both m (program-holds l p .shaped))
 program-verdict {l} p (unread s k n u) = absurd (k (p .tree) (program-holds l p))
-program-verdict {l} p (faulty t k r rs q) = clash (cc (holds-one k (program-holds l p), q, p .faultless, p .limited))
+program-verdict {l} p (faulty t k r rs q) =
+    clash (cc (holds-one k (program-holds l p), q, formed-faultless (p .tree) (p .well-formed), keeps-limited (p .tree) (p .keeps-limits)))
 program-verdict {l} p (sound t k q) = ap accepted (holds-one k (program-holds l p))
 
 -- and what is a program, if it accepts

@@ -432,12 +432,12 @@ sequence-types ss noExpr = refl
 sequence-types ss (expr e es) = ap (consTy (typeE ss e)) (sequence-types ss es)
 
 unary-type : (o : _) (t : Option Ty) → withTy t (λ x. opType (unary o) (x ∷ [])) ≡ operTy (unary o) (t ∷ [])
-unfolding withTy sequence
+unfolding sequence
 unary-type o none = refl
 unary-type o (some t) = refl
 
 binary-type : (o : _) (t u : Option Ty) → withTy t (λ x. withTy u (λ y. opType (binary o) (x ∷ y ∷ []))) ≡ operTy (binary o) (t ∷ u ∷ [])
-unfolding withTy sequence
+unfolding sequence
 binary-type o none u = refl
 binary-type o (some t) none = refl
 binary-type o (some t) (some u) = refl

@@ -1,4 +1,5 @@
 pub mod Types
+pub mod Identical
 pub mod Ends
 pub mod Conditions
 pub mod Operators
