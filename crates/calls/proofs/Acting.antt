@@ -15,8 +15,8 @@ use Rattle.values.specs.Types.{Ty, tyByte, sames, allFit, fits}
 use Rattle.values.specs.Ends.{accepted}
 use Rattle.values.specs.Values.{Value, int, log, bit, ref, tyOf, tysOf, valueWord, Cell}
 use Rattle.bytecode.specs.Macro.{Body, Macro, readMacro}
-use Rattle.bytecode.specs.Instructions.{bodyAt}
-use Rattle.bytecode.specs.Machine.{Activation, Made, noStep, badType, badRecord, badFrame, groupHeld, Stepped, at, condition, goesOn, demand, popMany, assignAll, entering, notRoot, handDown, isEmpty, doCall, doReturn, withRecords, recording, onMade, doMake, doGetField, fieldPut, doPutField}
+use Rattle.bytecode.specs.Instructions.{bodyAt, procedureAt}
+use Rattle.bytecode.specs.Machine.{Activation, Made, noStep, badType, badRecord, badFrame, groupHeld, Stepped, at, condition, goesOn, demand, popMany, assignAll, entering, handDown, isEmpty, doCall, doReturn, withRecords, recording, onMade, doMake, doGetField, fieldPut, doPutField}
 use Rattle.bytecode.specs.Machine as machine
 use Rattle.places.specs.Records.{classes, bodies, classPlace, bodyPlace}
 use Rattle.loader.specs.Views.{span, span-length, tyOn, classOn, bodyOn, typesOn, below, viewed}
@@ -50,11 +50,11 @@ drop-span f (suc p) (suc n) j h =
     let e : suc n - suc p ≡ n - p = omega arith in
     drop-span f p n (suc j) (omega arith) ∙ rw (suc-add j p, add-suc j p, e)
 
-not-root : (m : Macro) (k : ℕ) (b : Body) → notRoot m k ≡ some b → bodyAt m k ≡ some b
+not-root : (m : Macro) (k : ℕ) (b : Body) → procedureAt m k ≡ some b → bodyAt m k ≡ some b
 not-root m zero b e = let z : _≡_ {A = ℕ} 0 1 = cc in absurd (omega arith)
 not-root m (suc k) b e = e
 
-body-is : (code : List ℕ) (m : Macro) → readMacro code ≡ accepted m → (k : ℕ) (b : Body) → k < bodies code → notRoot m k ≡ some b → b ≡ bodyOn code (bodyPlace code k)
+body-is : (code : List ℕ) (m : Macro) → readMacro code ≡ accepted m → (k : ℕ) (b : Body) → k < bodies code → procedureAt m k ≡ some b → b ≡ bodyOn code (bodyPlace code k)
 body-is code m r k b h e =
     let v : bodyAt m k ≡ below k (bodies code) (bodyOn code (bodyPlace code k)) = viewed code m r .body k in
     let w : bodyAt m k ≡ some (bodyOn code (bodyPlace code k)) = v ∙ rw (lt-ltb k (bodies code) h) in
@@ -68,7 +68,7 @@ module _ (code : List ℕ) (q : ℕ) {l : List ℕ} {f n i : ℕ} (k0 : ℕ) (eq
       → Told (entering k0 (bodyOn code q) (reverse xs) us (here rs t fs)) k r)
       → TellsOf code (λ m h. doCall m k0 h) l f n i k r
   unfolding doCall
-  call-by k r enough G m rd rs t fs N = supplied (notRoot m k0) noStep _ (λ b e.
+  call-by k r enough G m rd rs t fs N = supplied (procedureAt m k0) noStep _ (λ b e.
       let eb : b ≡ bodyOn code q = body-is code m rd k0 b known e ∙ rw eq in
       rw eb (go (pops (given code q) [] (t .operands) checked (omega (arith, N .depth)))))
     where
@@ -124,7 +124,7 @@ module _ {l : List ℕ} {f n i : ℕ} where
       → ((m : Macro) (rs : List Made) (b a : ℕ) (cs : List Cell) (vs : List Value) (u : Activation) (fs : List Activation) → Now m l f n i rs (activation b a cs vs []) (u ∷ fs) → Told (goesOn [] (vs ++ u .operands) (here rs u fs)) k r)
       → Tells (λ m h. doReturn m h) l f n i k r
   unfolding doReturn
-  return-by k r G m rs t fs N = supplied (notRoot m (t .body)) noStep _ (λ b e. demanded (sames (tysOf (t .operands)) (b .results)) badType _ (λ s. demanded (isEmpty (t .holds)) groupHeld _ (λ h.
+  return-by k r G m rs t fs N = supplied (procedureAt m (t .body)) noStep _ (λ b e. demanded (sames (tysOf (t .operands)) (b .results)) badType _ (λ s. demanded (isEmpty (t .holds)) groupHeld _ (λ h.
       go (t .holds) fs h N)))
     where
       go : (gs : List ℕ) (fs : List Activation) → isEmpty gs ≡ true → Now m l f n i rs (activation (t .body) (t .address) (t .cells) (t .operands) gs) fs → Told (handDown (t .operands) rs fs) k r

@@ -12,8 +12,7 @@ use Rattle.words.specs.Choice.{if_then_else_}
 use Rattle.words.specs.Numbers.{byteAt, halfAt}
 use Rattle.values.specs.Types.{Ty}
 use Rattle.bytecode.specs.Macro.{Macro}
-use Rattle.bytecode.specs.Instructions.{bodyAt}
-use Rattle.bytecode.specs.Rules.{cellsOf}
+use Rattle.bytecode.specs.Instructions.{bodyAt, cellsOf}
 use Rattle.bytecode.specs.State.{zeros}
 use Rattle.layout.specs.Parts.{length-zeros}
 

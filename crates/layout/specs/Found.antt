@@ -8,15 +8,15 @@ use Prim.Native.Nat.{ℕ, zero, suc, _≤_, _<_}
 use lib.Dec.{ltb}
 use lib.ListN.{length, getElem?}
 use borrow.Author.Tests.{ltb-true}
-use Rattle.words.specs.Options.{keep, orElse}
+use Rattle.words.specs.Options.{keep, orElse, orElse}
 use Rattle.words.specs.Choice.{if_then_else_}
 use Rattle.values.specs.Types.{Ty, integer, logical, bits, reference, sames, fits}
 use Rattle.values.specs.Operators.{negate, absolute, complement, plus, minus, times, divide, remainder, less, atMost, greater, atLeast, equal, unequal, both, either, shiftLeft, shiftRight, Operator, unary, binary, anyOne, opType}
 use Rattle.values.specs.Operators.{takes as asks}
 use Rattle.values.specs.Values.{Value, int, log, bit, ref}
 use Rattle.bytecode.specs.Macro.{Body, Shape, shape, Macro, shapeIn}
-use Rattle.bytecode.specs.Instructions.{Owner, own, root, Instr, end, push, load, store, operate, go, goUnless, call, return, make, getField, putField, setLevel, readFader, takeHold, letHold, assert, stop, bodyAt, inBody, instrAt}
-use Rattle.bytecode.specs.Rules.{Effect, plain, takes, lets, jumps, forks, leaves, stops, wrong, Flow, on, halt, strip, stripped, onIf, oneLess, roomy, flow, flowOf, flowAt, passed, orFlow, atFirst, into, foundAt, isFirst, bodyOf, effect, giving, taking, operating, pushing, calling, calledBody, making, cellsOf, cellTy, fieldTy, endingIn, returningIn, sameShape}
+use Rattle.bytecode.specs.Instructions.{Owner, own, root, Instr, end, push, load, store, operate, go, goUnless, call, return, make, getField, putField, setLevel, readFader, takeHold, letHold, assert, stop, bodyAt, inBody, instrAt, cellsOf, cellTy, fieldTy, procedureAt}
+use Rattle.bytecode.specs.Rules.{Effect, plain, takes, lets, jumps, forks, leaves, stops, wrong, Flow, on, halt, strip, stripped, onIf, oneLess, roomy, flow, flowOf, flowAt, passed, atFirst, into, foundAt, isFirst, bodyOf, effect, giving, taking, operating, pushing, calling, making, endingIn, returningIn, sameShape}
 use Rattle.loading.specs.Terms.{Each, Named}
 use Rattle.loading.specs.Tests.{never-some, chosen, kept}
 use Rattle.layout.specs.Elements.{each-both, there}
@@ -122,7 +122,7 @@ module _ (m : Macro) (classes : (c : ℕ) (ts : List Ty) → getElem? (m .classe
   cell-named k own x t e = cells-named (bodyAt m k) (λ b i. bodies k b i .0) x t e
   cell-named k root x t e = cells-named (bodyAt m 0) (λ b i. bodies 0 b i .0) x t e
 
-  calling-named : (k : ℕ) → Gives m (calling (calledBody m k))
+  calling-named : (k : ℕ) → Gives m (calling (procedureAt m k))
   calling-named zero = tt
   calling-named (suc k) = go (bodyAt m (suc k)) refl
     where
@@ -213,7 +213,7 @@ module _ (m : Macro) (classes : (c : ℕ) (ts : List Ty) → getElem? (m .classe
   flow-at-named (some x) k s n = flow-named (effect m k x (s .operands)) (effect-named k x (s .operands)) s n
 
   -- ── what is found ──
-  or-named : (o p : Option Shape) → Fine o → Fine p → Fine (orFlow o p)
+  or-named : (o p : Option Shape) → Fine o → Fine p → Fine (orElse o p)
   or-named none p f g = g
   or-named (some s) p f g = f
 
@@ -222,11 +222,11 @@ module _ (m : Macro) (classes : (c : ℕ) (ts : List Ty) → getElem? (m .classe
   into-named zero = fine 0 [] tt
   into-named (suc i) = go (isFirst (m .bodies) (suc i)) (or-named (shapeIn (m .shapes) i) (into m i) (shapes i) (into-named i))
     where
-      go : (b : Bool) → Fine (orFlow (shapeIn (m .shapes) i) (into m i))
-          → Fine (if b then atFirst else keep (orFlow (shapeIn (m .shapes) i) (into m i)) (λ s. passed (flowAt m i s)))
+      go : (b : Bool) → Fine (orElse (shapeIn (m .shapes) i) (into m i))
+          → Fine (if b then atFirst else keep (orElse (shapeIn (m .shapes) i) (into m i)) (λ s. passed (flowAt m i s)))
       go true f = fine 0 [] tt
       go false f = λ s e.
-          let k = kept (orFlow (shapeIn (m .shapes) i) (into m i)) _ s e in
+          let k = kept (orElse (shapeIn (m .shapes) i) (into m i)) _ s e in
           flow-at-named (instrAt m i) (bodyOf (m .bodies) 0 i) (k .0) (f (k .0) (k .1)) s (k .2)
 
   pub found-named : (i : ℕ) (s : Shape) → foundAt m i ≡ some s → AllNamed m (s .operands)

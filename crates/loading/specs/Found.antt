@@ -8,14 +8,14 @@ use native.Mathlib.Omega.{arith}
 use lib.Dec.{eqb, leb, ltb}
 use lib.ListN.{length, getElem?}
 use borrow.Author.Tests.{eqb-true, eq-eqb, leb-true, ltb-false, le-leb, not-false}
-use Rattle.words.specs.Options.{keep, isSome}
+use Rattle.words.specs.Options.{keep, isSome, orElse}
 use Rattle.words.specs.Choice.{if_then_else_}
-use Rattle.values.specs.Types.{Ty, logical, fits, sames}
+use Rattle.values.specs.Types.{Ty, logical, fits, sames, allFit}
 use Rattle.bytecode.specs.Macro.{Body, Shape, shape, Macro, shapeIn}
 use Rattle.bytecode.specs.Instructions.{Instr, bodyAt, inBody, instrAt}
-use Rattle.bytecode.specs.Rules.{bodyOf, isFirst, Effect, plain, takes, lets, jumps, forks, leaves, stops, wrong, effect, Flow, on, fork, jump, halt, broken, strip, roomy, onIf, stripped, oneLess, sameShape, flow, flowOf, flowAt, passed, orFlow, atFirst, into, foundAt, headFault, bodyFault, shapeFault, equalShape, lands, closes, flowFault, opFault, faultAt}
-use Rattle.loading.specs.Tests.{never, never-some, same-some, both, halves, neither, kept, same→≡, sames→≡, sameShape→≡}
-use Rattle.loading.specs.Terms.{Passed, Allowed, Follows, Does}
+use Rattle.bytecode.specs.Rules.{bodyOf, isFirst, Effect, plain, takes, lets, jumps, forks, leaves, stops, wrong, effect, Flow, on, fork, jump, halt, broken, strip, roomy, onIf, stripped, oneLess, sameShape, flow, flowOf, flowAt, passed, atFirst, into, foundAt, headFault, bodyFault, shapeFault, equalShape, lands, closes, flowFault, opFault, faultAt}
+use Rattle.loading.specs.Tests.{never, never-some, same-some, both, halves, neither, kept, sames→≡, sameShape→≡}
+use Rattle.loading.specs.Terms.{Passed, Allowed, Follows, Takes, Does}
 use Rattle.loading.specs.Bodies.{inside-code, body-is, inside-body, first-inside, no-first, at-first, same-body}
 
 -- ── operands and limits ──
@@ -30,15 +30,16 @@ strip-length (u ∷ us) (t ∷ ts) rest h = go (fits t u) h (strip-length us ts 
     go true h r = let z = r h in omega arith
     go false h r = never-some h
 
-strip-is : (us ts rest : List Ty) → strip us ts ≡ some rest → ts ≡ us ++ rest
-unfolding strip
-strip-is [] ts rest h = cc
+strip-is : (us ts rest : List Ty) → strip us ts ≡ some rest → Takes us ts rest
+unfolding strip allFit
+strip-is [] ts rest h = record { taken = []; fit = refl; parts = cc }
 strip-is (u ∷ us) [] rest h = never-some h
 strip-is (u ∷ us) (t ∷ ts) rest h = go (fits t u) refl h (strip-is us ts rest)
   where
-    go : (b : Bool) → fits t u ≡ b → (if b then strip us ts else none) ≡ some rest → (strip us ts ≡ some rest → ts ≡ us ++ rest)
-        → (t ∷ ts) ≡ (u ∷ (us ++ rest))
-    go true e h r = ap₂ (λ x xs. x ∷ xs) (same→≡ t u e) (r h)
+    go : (b : Bool) → fits t u ≡ b → (if b then strip us ts else none) ≡ some rest → (strip us ts ≡ some rest → Takes us ts rest)
+        → Takes (u ∷ us) (t ∷ ts) rest
+    go true e h r =
+        let q = r h in record { taken = t ∷ q .taken; fit = both e (q .fit); parts = ap (λ xs. t ∷ xs) (q .parts) }
     go false e h r = never-some h
 
 -- what goes on from a state within the limits is within them
@@ -80,7 +81,7 @@ roomy-passed wrong s t r h = never-some h
 
 roomy-passed-of : (o : Option Instr) (m : Macro) (k : ℕ) (s t : Shape) → roomy s ≡ true → passed (flowOf o m k s) ≡ some t → roomy t ≡ true
 roomy-passed-of none m k s t r h = never-some h
-roomy-passed-of (some x) m k s t r h = roomy-passed (effect m k x (s .operands)) s t r h
+roomy-passed-of (some x) m k s t r h = roomy-passed (effect m k x s) s t r h
 
 -- ── bodies' heads ──
 head-fine : (bs : List Body) (n k : ℕ) (b : Body) → getElem? bs k ≡ some b → bodyFault bs n (b .first) ≡ false → headFault (n + k) b ≡ false
@@ -139,7 +140,7 @@ module _ (m : Macro) (w : Passed m) where
   unfolding foundAt
   entered i t p h = go (shapeIn (m .shapes) i) (faults i p .1)
     where
-      go : (o : Option Shape) → shapeFault o (into m i) ≡ false → orFlow o (into m i) ≡ some t
+      go : (o : Option Shape) → shapeFault o (into m i) ≡ false → orElse o (into m i) ≡ some t
       go none f = h
       go (some u) f =
           let g : not (roomy u && sameShape t u) ≡ false = rw h at f in
@@ -150,7 +151,7 @@ module _ (m : Macro) (w : Passed m) where
   unfolding foundAt
   room i s p r h = go (shapeIn (m .shapes) i) (into m i) (faults i p .1) r h
     where
-      go : (o f : Option Shape) → shapeFault o f ≡ false → ((t : Shape) → f ≡ some t → roomy t ≡ true) → orFlow o f ≡ some s → roomy s ≡ true
+      go : (o f : Option Shape) → shapeFault o f ≡ false → ((t : Shape) → f ≡ some t → roomy t ≡ true) → orElse o f ≡ some s → roomy s ≡ true
       go none f e r h = r s h
       go (some u) none e r h = subst (λ (x : Shape). roomy x ≡ true) (same-some h) (not-false (roomy u) e)
       go (some u) (some t) e r h = subst (λ (x : Shape). roomy x ≡ true) (same-some h)
@@ -208,16 +209,16 @@ module _ (m : Macro) (w : Passed m) where
       let p = inside-code m (w .well-formed) k i (a .inside) in
       rw (body-is m (w .well-formed) k i (a .inside)) at (rw (a .found) at (faults i p .2))
 
-  pub follows : (k i : ℕ) (s : Shape) → Allowed m k i s → (x : Instr) × (instrAt m i ≡ some x) × Follows m k i (flow (effect m k x (s .operands)) s)
+  pub follows : (k i : ℕ) (s : Shape) → Allowed m k i s → (x : Instr) × (instrAt m i ≡ some x) × Follows m k i (flow (effect m k x s) s)
   follows k i s a = go (instrAt m i) refl (op-fine k i s a)
     where
       go : (o : Option Instr) → instrAt m i ≡ o → flowFault m k i (flowOf o m k s) ≡ false
-          → (x : Instr) × (o ≡ some x) × Follows m k i (flow (effect m k x (s .operands)) s)
+          → (x : Instr) × (o ≡ some x) × Follows m k i (flow (effect m k x s) s)
       go none e h = never (sym h)
       go (some x) e h = (
         x,
         refl,
-        flows k i s a (flow (effect m k x (s .operands)) s)
+        flows k i s a (flow (effect m k x s) s)
             (ap₂ (λ o b. flowOf o m b s) e (body-is m (w .well-formed) k i (a .inside))) h,
       )
 
@@ -232,7 +233,7 @@ module _ (m : Macro) (w : Passed m) where
 
       go : (o : Option (List Ty)) → strip ins (s .operands) ≡ o
           → Follows m k i (stripped o (λ ts. onIf (roomy (shape (s .holds) (outs ++ ts))) (on (shape (s .holds) (outs ++ ts)))))
-          → (under : List Ty) × (s .operands ≡ ins ++ under) × Allowed m k (suc i) (shape (s .holds) (outs ++ under))
+          → (under : List Ty) × Takes ins (s .operands) under × Allowed m k (suc i) (shape (s .holds) (outs ++ under))
       go none e f = absurd f
       go (some ts) e f = (ts, strip-is ins (s .operands) ts e, pick ts (roomy (shape (s .holds) (outs ++ ts))) f)
   does k i s takes f = pick (roomy (shape (suc (s .holds)) (s .operands))) f
@@ -251,7 +252,7 @@ module _ (m : Macro) (w : Passed m) where
   does k i s (forks j) f = go (strip (logical ∷ []) (s .operands)) refl f
     where
       go : (o : Option (List Ty)) → strip (logical ∷ []) (s .operands) ≡ o → Follows m k i (stripped o (λ ts. fork (shape (s .holds) ts) j))
-          → (under : List Ty) × (s .operands ≡ logical ∷ under) × Allowed m k (suc i) (shape (s .holds) under)
+          → (under : List Ty) × Takes (logical ∷ []) (s .operands) under × Allowed m k (suc i) (shape (s .holds) under)
           × Allowed m k j (shape (s .holds) under)
       go none e f = absurd f
       go (some ts) e f = (ts, strip-is (logical ∷ []) (s .operands) ts e, f .0, f .1)

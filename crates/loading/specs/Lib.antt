@@ -1,5 +1,6 @@
 pub mod Tests
 pub mod Terms
+pub mod Takes
 pub mod Reading
 pub mod Bodies
 pub mod Judging

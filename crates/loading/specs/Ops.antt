@@ -1,5 +1,5 @@
 -- What each instruction finds, read off its effect; and what the numbers of an instruction stand for.
-use mathlib.Core.Path.{_≡_, refl, subst}
+use mathlib.Core.Path.{_≡_, refl, ap, _∙_, subst}
 use mathlib.Core.Bool.{Bool, true, false, _&&_}
 use mathlib.Core.List.{List, [], _∷_}
 use mathlib.Core.Option.{Option, none, some}
@@ -12,16 +12,19 @@ use borrow.Author.Tests.{leb-true, ltb-true, lt-ltb}
 use Rattle.words.specs.Choice.{if_then_else_}
 use Rattle.words.specs.Numbers.{integerOf}
 use Rattle.words.specs.Laws.{integer-fits}
-use Rattle.values.specs.Types.{Ty, reference}
+use Rattle.words.specs.Lists.{among}
+use Rattle.values.specs.Types.{Ty, integer, logical, bits, reference}
+use Rattle.values.specs.Ends.{isCondition, caseIndex}
 use Rattle.values.specs.Operators.{Unary, unary, Binary, binary, opType}
 use Rattle.values.specs.Values.{Value, int, log, bit, ref, tyOf}
 use Rattle.bytecode.specs.Macro.{Body, Code, Shape, shape, Macro}
-use Rattle.bytecode.specs.Instructions.{Instr, end, push, load, store, operate, go, goUnless, call, return, make, getField, putField, setLevel, readFader, takeHold, letHold, assert, stop, exactly, ownerOf, operatorOf, instruction, bodyAt, instrAt}
-use Rattle.bytecode.specs.Rules.{plain, wrong, effect, giving, taking, operating, pushing, calling, calledBody, making, cellTy, fieldTy, resultsOf, endingIn, returningIn}
+use Rattle.bytecode.specs.Instructions.{Instr, end, push, load, store, operate, go, goUnless, call, return, make, getField, putField, setLevel, readFader, takeHold, letHold, assert, stop, exactly, ownerOf, operatorOf, instruction, bodyAt, instrAt, cellTy, fieldTy, known, procedureAt}
+use Rattle.bytecode.specs.Rules.{plain, wrong, effect, giving, taking, operating, pushing, calling, making, endingIn, returning}
 use Rattle.bytecode.specs.Sound.{soundValue}
 use Rattle.loading.specs.Tests.{never-some, halves, kept}
-use Rattle.loading.specs.Terms.{Named, OfBytes, Passed, Allowed, Does, Literal, Finds}
-use Rattle.loading.specs.Bodies.{each-at, body-there}
+use Rattle.loading.specs.Terms.{Named, OfBytes, Passed, Allowed, Takes, Does, Literal, Finds}
+use Rattle.loading.specs.Takes.{takes-first, takes-one}
+use Rattle.loading.specs.Bodies.{each-at}
 use Rattle.loading.specs.Found.{follows, does}
 
 -- ── the numbers of an instruction ──
@@ -43,7 +46,7 @@ Proper readFader = Unit {0}
 Proper (takeHold g) = g ≤ 63
 Proper letHold = Unit {0}
 Proper assert = Unit {0}
-Proper stop = Unit {0}
+Proper (stop c) = isCondition c ≡ true
 
 literal-integer : (n : ℕ) → n < 4294967296 → Literal (int (integerOf n))
 unfolding soundValue
@@ -97,7 +100,18 @@ proper c x w h =
     either (eqb (c .op) 17) _ _ x (just (eqb a 0 && leb n 63) (takeHold n) x (λ e. leb-true n 63 (halves (eqb a 0) (leb n 63) e .1))) (
     either (eqb (c .op) 18) _ _ x (just p letHold x (λ e. tt)) (
     either (eqb (c .op) 19) _ _ x (just p assert x (λ e. tt)) (
-    either (eqb (c .op) 20) _ none x (just p stop x (λ e. tt)) never-some)))))))))))))))))))) h
+    either (eqb (c .op) 20) _ none x (just p (stop caseIndex) x (λ e. unfold among in refl)) never-some)))))))))))))))))))) h
+
+-- ── what is declared ──
+known-named : (m : Macro) (t : Ty) → known m t ≡ true → Named (length (m .classes)) t
+known-named m integer h = tt
+known-named m logical h = tt
+known-named m bits h = tt
+known-named m (reference c) h = ltb-true c (length (m .classes)) h
+
+a-procedure : (m : Macro) (k : ℕ) (b : Body) → procedureAt m k ≡ some b → (0 < k) × (bodyAt m k ≡ some b)
+a-procedure m zero b h = never-some h
+a-procedure m (suc k) b h = (omega arith, h)
 
 module _ (m : Macro) (w : Passed m) where
   proper-at : (i : ℕ) (x : Instr) → instrAt m i ≡ some x → Proper x
@@ -114,35 +128,33 @@ module _ (m : Macro) (w : Passed m) where
     by-taking none ins d = absurd d
     by-taking (some t) ins d = (t, refl, d)
 
-    by-unary : (o : Unary) (ts : List Ty) → Does m k i s (operating (unary o) ts)
-        → (t : Ty) × (u : Ty) × (opType (unary o) (t ∷ []) ≡ some u) × Does m k i s (plain (t ∷ []) (u ∷ []))
-    by-unary o [] d = absurd d
-    by-unary o (t ∷ ts) d = let q = by-giving (opType (unary o) (t ∷ [])) (t ∷ []) d in (t, q .0, q .1, q .2)
+    by-unary : (o : Unary) (ts : List Ty) → s .operands ≡ ts → Does m k i s (operating (unary o) ts) → Finds m k i s (operate (unary o))
+    by-unary o [] e d = absurd d
+    by-unary o (t ∷ ts) e d =
+        let q = by-giving (opType (unary o) (t ∷ [])) (t ∷ []) d in
+        let u = takes-one t t ts (q .2 .0) (subst (λ x. Takes (t ∷ []) x (q .2 .0)) e (q .2 .1)) in
+        (t, q .0, q .2 .0, e ∙ ap (λ x. t ∷ x) u, q .1, q .2 .2)
 
-    by-binary : (o : Binary) (ts : List Ty) → Does m k i s (operating (binary o) ts)
-        → (t : Ty) × (u : Ty) × (v : Ty) × (opType (binary o) (u ∷ t ∷ []) ≡ some v) × Does m k i s (plain (t ∷ u ∷ []) (v ∷ []))
-    by-binary o [] d = absurd d
-    by-binary o (t ∷ []) d = absurd d
-    by-binary o (t ∷ (u ∷ ts)) d = let q = by-giving (opType (binary o) (u ∷ t ∷ [])) (t ∷ u ∷ []) d in (t, u, q .0, q .1, q .2)
+    by-binary : (o : Binary) (ts : List Ty) → s .operands ≡ ts → Does m k i s (operating (binary o) ts) → Finds m k i s (operate (binary o))
+    by-binary o [] e d = absurd d
+    by-binary o (t ∷ []) e d = absurd d
+    by-binary o (t ∷ (u ∷ ts)) e d =
+        let q = by-giving (opType (binary o) (u ∷ t ∷ [])) (t ∷ u ∷ []) d in
+        let r = takes-first t t (u ∷ []) (u ∷ ts) (q .2 .0) (subst (λ x. Takes (t ∷ u ∷ []) x (q .2 .0)) e (q .2 .1)) .1 in
+        let v = takes-one u u ts (q .2 .0) r in
+        (t, u, q .0, q .2 .0, e ∙ ap (λ x. t ∷ u ∷ x) v, q .1, q .2 .2)
 
     by-push : (v : Value) → Does m k i s (pushing m v) → Named (length (m .classes)) (tyOf v) × Does m k i s (plain [] (tyOf v ∷ []))
-    by-push (int z) d = (tt, d)
-    by-push (log b) d = (tt, d)
-    by-push (bit n) d = (tt, d)
-    by-push (ref c r) d = pick (ltb c (length (m .classes))) refl d
+    by-push v d = pick (known m (tyOf v)) refl d
       where
-        pick : (b : Bool) → ltb c (length (m .classes)) ≡ b → Does m k i s (if b then plain [] (reference c ∷ []) else wrong)
-            → (c < length (m .classes)) × Does m k i s (plain [] (reference c ∷ []))
-        pick true e d = (ltb-true c (length (m .classes)) e, d)
+        pick : (b : Bool) → known m (tyOf v) ≡ b → Does m k i s (if b then plain [] (tyOf v ∷ []) else wrong)
+            → Named (length (m .classes)) (tyOf v) × Does m k i s (plain [] (tyOf v ∷ []))
+        pick true e d = (known-named m (tyOf v) e, d)
         pick false e d = absurd d
 
-    by-call : (j : ℕ) → Does m k i s (calling (calledBody m j)) → Finds m k i s (call j)
-    by-call zero d = absurd d
-    by-call (suc j) d = pick (bodyAt m (suc j)) refl d
-      where
-        pick : (o : Option Body) → bodyAt m (suc j) ≡ o → Does m k i s (calling o) → Finds m k i s (call (suc j))
-        pick none e d = absurd d
-        pick (some b) e d = (b, omega arith, e, d)
+    by-call : (j : ℕ) (o : Option Body) → procedureAt m j ≡ o → Does m k i s (calling o) → Finds m k i s (call j)
+    by-call j none e d = absurd d
+    by-call j (some b) e d = let p = a-procedure m j b e in (b, p .0, p .1, d)
 
     by-make : (c : ℕ) (o : Option (List Ty)) → getElem? (m .classes) c ≡ o → Does m k i s (making o c) → Finds m k i s (make c)
     by-make c none e d = absurd d
@@ -155,39 +167,37 @@ module _ (m : Macro) (w : Passed m) where
     by-end zero d = (refl, d)
     by-end (suc n) d = absurd d
 
-    by-return : (n : ℕ) (b : Body) → bodyAt m n ≡ some b → Does m k i s (returningIn m n) → (0 < n) × (s ≡ shape 0 (b .results))
-    by-return zero b h d = absurd d
-    by-return (suc n) b h d = (omega arith, subst (λ (o : Option Body). s ≡ shape 0 (resultsOf o)) h d)
+    by-return : (o : Option Body) → procedureAt m k ≡ o → Does m k i s (returning o) → Finds m k i s return
+    by-return none e d = absurd d
+    by-return (some b) e d = let p = a-procedure m k b e in (b, p .0, p .1, d)
 
-    by-effect : (x : Instr) → Allowed m k i s → Proper x → Does m k i s (effect m k x (s .operands)) → Finds m k i s x
+    by-effect : (x : Instr) → Proper x → Does m k i s (effect m k x s) → Finds m k i s x
     unfolding effect
-    by-effect end a p d = by-end k d
-    by-effect (push v) a p d = let q = by-push v d in (p, q .0, q .1)
-    by-effect (load o x) a p d = by-giving (cellTy m k o x) [] d
-    by-effect (store o x) a p d = by-taking (cellTy m k o x) [] d
-    by-effect (operate (unary o)) a p d = by-unary o (s .operands) d
-    by-effect (operate (binary o)) a p d = by-binary o (s .operands) d
-    by-effect (go j) a p d = d
-    by-effect (goUnless j) a p d = d
-    by-effect (call j) a p d = by-call j d
-    by-effect return a p d =
-        let b = body-there m (w .well-formed) k i (a .inside) in
-        let q = by-return k (b .0) (b .1) d in (b .0, q .0, b .1, q .1)
-    by-effect (make c) a p d = by-make c (getElem? (m .classes) c) refl d
-    by-effect (getField c x) a p d =
+    by-effect end p d = by-end k d
+    by-effect (push v) p d = let q = by-push v d in (p, q .0, q .1)
+    by-effect (load o x) p d = by-giving (cellTy m k o x) [] d
+    by-effect (store o x) p d = by-taking (cellTy m k o x) [] d
+    by-effect (operate (unary o)) p d = by-unary o (s .operands) refl d
+    by-effect (operate (binary o)) p d = by-binary o (s .operands) refl d
+    by-effect (go j) p d = d
+    by-effect (goUnless j) p d = d
+    by-effect (call j) p d = by-call j (procedureAt m j) refl d
+    by-effect return p d = by-return (procedureAt m k) refl d
+    by-effect (make c) p d = by-make c (getElem? (m .classes) c) refl d
+    by-effect (getField c x) p d =
         let q = by-giving (fieldTy m c x) (reference c ∷ []) d in
         let f = by-field c x (q .0) (q .1) in (f .0, q .0, f .1, f .2, q .2)
-    by-effect (putField c x) a p d =
+    by-effect (putField c x) p d =
         let q = by-taking (fieldTy m c x) (reference c ∷ []) d in
         let f = by-field c x (q .0) (q .1) in (f .0, q .0, f .1, f .2, q .2)
-    by-effect setLevel a p d = d
-    by-effect readFader a p d = d
-    by-effect (takeHold g) a p d = (p, d)
-    by-effect letHold a p d = d
-    by-effect assert a p d = d
-    by-effect stop a p d = tt
+    by-effect setLevel p d = d
+    by-effect readFader p d = d
+    by-effect (takeHold g) p d = (p, d)
+    by-effect letHold p d = d
+    by-effect assert p d = d
+    by-effect (stop c) p d = p
 
     pub finds : Allowed m k i s → (x : Instr) × (instrAt m i ≡ some x) × Finds m k i s x
     finds a =
         let f = follows m w k i s a in
-        (f .0, f .1, by-effect (f .0) a (proper-at i (f .0) (f .1)) (does m w k i s (effect m k (f .0) (s .operands)) (f .2)))
+        (f .0, f .1, by-effect (f .0) (proper-at i (f .0) (f .1)) (does m w k i s (effect m k (f .0) s) (f .2)))

@@ -92,11 +92,11 @@ module _ (m : Macro) (w : Passed m) where
 
   -- an op stands at every allowed address: where control goes from it, by its flow, by its effect, and by the op itself
   pub successors : (k i : ℕ) (s : Shape) → Allowed m k i s → (x : Instr) × (instrAt m i ≡ some x)
-      × Follows m k i (flow (effect m k x (s .operands)) s)
+      × Follows m k i (flow (effect m k x s) s)
   successors = follows m w
 
-  pub effects : (k i : ℕ) (s : Shape) → Allowed m k i s → (x : Instr) × (instrAt m i ≡ some x) × Does m k i s (effect m k x (s .operands))
-  effects k i s a = let f = follows m w k i s a in (f .0, f .1, does m w k i s (effect m k (f .0) (s .operands)) (f .2))
+  pub effects : (k i : ℕ) (s : Shape) → Allowed m k i s → (x : Instr) × (instrAt m i ≡ some x) × Does m k i s (effect m k x s)
+  effects k i s a = let f = follows m w k i s a in (f .0, f .1, does m w k i s (effect m k (f .0) s) (f .2))
 
   pub ops : (k i : ℕ) (s : Shape) → Allowed m k i s → (x : Instr) × (instrAt m i ≡ some x) × Finds m k i s x
   ops = finds m w

@@ -5,12 +5,13 @@ use mathlib.Core.List.{List, [], _∷_, _++_}
 use mathlib.Core.Option.{some}
 use Prim.Native.Nat.{ℕ, suc, _≤_, _<_}
 use lib.ListN.{length, getElem?, take}
-use Rattle.values.specs.Types.{Ty, integer, logical, bits, reference}
+use Rattle.values.specs.Types.{Ty, integer, logical, bits, reference, allFit}
+use Rattle.values.specs.Ends.{isCondition}
 use Rattle.values.specs.Operators.{unary, binary, opType}
 use Rattle.values.specs.Values.{Value, tyOf}
 use Rattle.bytecode.specs.Macro.{Body, Code, Shape, shape, Placed, Macro}
-use Rattle.bytecode.specs.Instructions.{Instr, end, push, load, store, operate, go, goUnless, call, return, make, getField, putField, setLevel, readFader, takeHold, letHold, assert, stop, bodyAt, inBody}
-use Rattle.bytecode.specs.Rules.{Effect, plain, takes, lets, jumps, forks, leaves, stops, wrong, Flow, on, fork, jump, halt, broken, foundAt, faultAt, onStack, cellTy}
+use Rattle.bytecode.specs.Instructions.{Instr, end, push, load, store, operate, go, goUnless, call, return, make, getField, putField, setLevel, readFader, takeHold, letHold, assert, stop, bodyAt, inBody, cellTy}
+use Rattle.bytecode.specs.Rules.{Effect, plain, takes, lets, jumps, forks, leaves, stops, wrong, Flow, on, fork, jump, halt, broken, foundAt, faultAt, onStack}
 use Rattle.bytecode.specs.Machine.{Made}
 use Rattle.bytecode.specs.Sound.{soundValue}
 
@@ -92,14 +93,21 @@ Follows m k i (jump t j) = Allowed m k j t
 Follows m k i halt = Unit {0}
 Follows m k i broken = ⊥
 
+-- the operands found are some that fit those asked for, the top first, and others under them
+pub record Takes (asked found under : List Ty) : Type 0 where
+  pub taken : List Ty
+  pub fit : allFit taken asked ≡ true
+  pub parts : found ≡ taken ++ under
+
 -- what an op of this effect finds and leaves behind, at address i of body k with state s
 abbrev pub Does : Macro → ℕ → ℕ → Shape → Effect → Type 0
-Does m k i s (plain ins outs) = (under : List Ty) × (s .operands ≡ ins ++ under) × Allowed m k (suc i) (shape (s .holds) (outs ++ under))
+Does m k i s (plain ins outs) = (under : List Ty) × Takes ins (s .operands) under × Allowed m k (suc i) (shape (s .holds) (outs ++ under))
 Does m k i s takes = Allowed m k (suc i) (shape (suc (s .holds)) (s .operands))
 Does m k i s lets = (h : ℕ) × (s .holds ≡ suc h) × Allowed m k (suc i) (shape h (s .operands))
 Does m k i s (jumps j) = Allowed m k j s
 Does m k i s (forks j) =
-    (under : List Ty) × (s .operands ≡ logical ∷ under) × Allowed m k (suc i) (shape (s .holds) under) × Allowed m k j (shape (s .holds) under)
+    (under : List Ty) × Takes (logical ∷ []) (s .operands) under × Allowed m k (suc i) (shape (s .holds) under)
+    × Allowed m k j (shape (s .holds) under)
 Does m k i s (leaves ts) = s ≡ shape 0 ts
 Does m k i s stops = Unit {0}
 Does m k i s wrong = ⊥
@@ -108,16 +116,19 @@ Does m k i s wrong = ⊥
 abbrev pub Literal : Value → Type 0
 Literal v = (rs : List Made) → soundValue rs v ≡ true
 
--- the same by instruction, with what it names: an op takes operands off the stack and puts others on, the top first
+-- the same by instruction, with what it names: an op takes operands off the stack and puts others on, the top first; an operator is chosen
+-- by the very types that lie there, the others ask for operands that fit
 abbrev pub Finds : Macro → ℕ → ℕ → Shape → Instr → Type 0
 Finds m k i s end = (k ≡ 0) × (s ≡ shape 0 [])
 Finds m k i s (push v) = Literal v × Named (length (m .classes)) (tyOf v) × Does m k i s (plain [] (tyOf v ∷ []))
 Finds m k i s (load o x) = (t : Ty) × (cellTy m k o x ≡ some t) × Does m k i s (plain [] (t ∷ []))
 Finds m k i s (store o x) = (t : Ty) × (cellTy m k o x ≡ some t) × Does m k i s (plain (t ∷ []) [])
 Finds m k i s (operate (unary o)) =
-    (t : Ty) × (u : Ty) × (opType (unary o) (t ∷ []) ≡ some u) × Does m k i s (plain (t ∷ []) (u ∷ []))
+    (t : Ty) × (u : Ty) × (under : List Ty) × (s .operands ≡ t ∷ under) × (opType (unary o) (t ∷ []) ≡ some u)
+    × Allowed m k (suc i) (shape (s .holds) (u ∷ under))
 Finds m k i s (operate (binary o)) =
-    (t : Ty) × (u : Ty) × (v : Ty) × (opType (binary o) (u ∷ t ∷ []) ≡ some v) × Does m k i s (plain (t ∷ u ∷ []) (v ∷ []))
+    (t : Ty) × (u : Ty) × (v : Ty) × (under : List Ty) × (s .operands ≡ t ∷ u ∷ under) × (opType (binary o) (u ∷ t ∷ []) ≡ some v)
+    × Allowed m k (suc i) (shape (s .holds) (v ∷ under))
 Finds m k i s (go j) = Does m k i s (jumps j)
 Finds m k i s (goUnless j) = Does m k i s (forks j)
 Finds m k i s (call j) =
@@ -133,4 +144,4 @@ Finds m k i s readFader = Does m k i s (plain (integer ∷ []) (integer ∷ []))
 Finds m k i s (takeHold g) = (g ≤ 63) × Does m k i s takes
 Finds m k i s letHold = Does m k i s lets
 Finds m k i s assert = Does m k i s (plain (logical ∷ []) [])
-Finds m k i s stop = Unit {0}
+Finds m k i s (stop c) = isCondition c ≡ true

@@ -16,11 +16,10 @@ use Rattle.values.specs.Trace.{Item}
 use Rattle.values.specs.Operators.{Operator, Binary, unary, binary, unaryOf, binaryOf}
 use Rattle.values.specs.Values.{Value, int, log, bit, ref, valueWord, tyOf, tysOf, Cell, assigned}
 use Rattle.bytecode.specs.Macro.{Macro, Body, shape}
-use Rattle.bytecode.specs.Instructions.{Owner, own, root, Instr, operatorOf, bodyAt}
-use Rattle.bytecode.specs.Machine.{Activation, Made, Machine, running, Stuck, Stepped, moved, stuck, badFrame, badRecord, badType, groupHeld, onReference, withRecords, fieldPut, demand, at, Here, pop, given, pushCell, noStep, goesOn, popMany, notRoot, allHolds, rootOf, cellsFor, doLoad, doStore, doOperate, doGoUnless, doCall, doReturn, doMake, onMade, doGetField, doPutField, doSet, doFader, doTakeHold, letting, doAssert, handDown, isEmpty, act}
+use Rattle.bytecode.specs.Instructions.{Owner, own, root, Instr, operatorOf, bodyAt, cellsOf, procedureAt}
+use Rattle.bytecode.specs.Machine.{Activation, Made, Machine, running, Stuck, Stepped, moved, stuck, badFrame, badRecord, badType, groupHeld, onReference, withRecords, fieldPut, demand, at, Here, pop, given, pushCell, noStep, goesOn, popMany, allHolds, rootOf, cellsFor, doLoad, doStore, doOperate, doGoUnless, doCall, doReturn, doMake, onMade, doGetField, doPutField, doSet, doFader, doTakeHold, letting, doAssert, handDown, isEmpty, act}
 use Rattle.bytecode.specs.Runs.{bankOf}
 use Rattle.bytecode.specs.Sound.{soundRecord, ofClass, cellValues}
-use Rattle.bytecode.specs.Rules.{cellsOf}
 use Rattle.loading.specs.Terms.{Passed, Finds}
 use Rattle.loading.specs.Promises.{limits, in-code, cells-at-most-32, at-place}
 use Rattle.safety.specs.Lists.{all-at, tys-length}
@@ -72,7 +71,7 @@ goes-room : (is : List Item) (vs : List Value) (h : Here) → Moved (goesOn is v
 goes-room is vs h e = leb-true (length vs) 32 (demand-there (leb (length vs) 32) badFrame (moved is (running (h .records) (at (suc (h .top .address)) vs (h .top)) (h .below))) e .0)
 
 -- ── what stands in the macro ──
-not-root : (m : Macro) (k : ℕ) (b : Body) → notRoot m k ≡ some b → bodyAt m k ≡ some b
+not-root : (m : Macro) (k : ℕ) (b : Body) → procedureAt m k ≡ some b → bodyAt m k ≡ some b
 not-root m zero b e = let z : _≡_ {A = ℕ} 0 1 = cc in absurd (omega arith)
 not-root m (suc k) b e = e
 
@@ -310,7 +309,7 @@ module _ {code readings : List ℕ} {op a b : ℕ} {l : List ℕ} {f n i : ℕ} 
       × ((q : ℕ) → BodyAt code b q → (given-of code q ≤ n) × (byteAt l 2 < 32 → CallRoom code q l f n))
   unfolding act doCall
   asks-call e =
-      let g = given-there (notRoot (P .macro) b) noStep _ (doing _ (is-call op a b (P .instr) (P .decoded) e)) in
+      let g = given-there (procedureAt (P .macro) b) noStep _ (doing _ (is-call op a b (P .instr) (P .decoded) e)) in
       let e1 = not-root (P .macro) b (g .0) (g .1) in
       let v = viewed code (P .macro) (P .reads) .body b in
       let k = below-there b (bodies code) (bodyOn code (bodyPlace code b)) (g .0) (sym v ∙ e1) in
@@ -358,7 +357,7 @@ module _ {code readings : List ℕ} {op a b : ℕ} {l : List ℕ} {f n i : ℕ} 
   pub asks-return : op ≡ 11 → ReturnRoom l f n
   unfolding act doReturn
   asks-return e =
-      let g = given-there (notRoot (P .macro) (P .top .body)) noStep _ (doing _ (is-return op a b (P .instr) (P .decoded) e)) in
+      let g = given-there (procedureAt (P .macro) (P .top .body)) noStep _ (doing _ (is-return op a b (P .instr) (P .decoded) e)) in
       let e1 = not-root (P .macro) (P .top .body) (g .0) (g .1) in
       let s = demand-there (sames (tysOf (P .top .operands)) (g .0 .results)) badType _ (g .2) in
       let h = demand-there (isEmpty (P .top .holds)) groupHeld _ (s .1) in

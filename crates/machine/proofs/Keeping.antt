@@ -16,8 +16,8 @@ use Rattle.values.specs.Ends.{assertFalse, caseIndex, outOfRange, tooManyRecord
 use Rattle.values.specs.Values.{Value, int, log, bit, ref, tyOf, tysOf, Cell, assigned, between, size, apply1, apply2}
 use Rattle.values.specs.Trace.{set, hold, Item, event, reading}
 use Rattle.bytecode.specs.Macro.{Macro}
-use Rattle.bytecode.specs.Instructions.{Owner, own, root, Instr, end, push, load, store, operate, go, goUnless, call, return, make, getField, putField, setLevel, readFader, takeHold, letHold, assert, stop}
-use Rattle.bytecode.specs.Machine.{Activation, Made, running, unwinding, ended, Stuck, noStep, badType, badRecord, badFrame, groupHeld, Stepped, moved, stuck, demand, Here, at, withHolds, withRecords, fieldPut, cellsFor, cellTy, isEmpty, notRoot, condition, goesOn, settled, pop, onInteger, onLogical, onReference, given, putLowest, putTop, putCells, pushCell, popMany, recording, onMade, letting, handDown, doLoad, doStore, doOperate, doGoUnless, doReturn, doEnd, doMake, doGetField, doPutField, doSet, doFader, doTakeHold, doAssert, doPush, act}
+use Rattle.bytecode.specs.Instructions.{Owner, own, root, Instr, end, push, load, store, operate, go, goUnless, call, return, make, getField, putField, setLevel, readFader, takeHold, letHold, assert, stop, procedureAt}
+use Rattle.bytecode.specs.Machine.{Activation, Made, running, unwinding, ended, Stuck, noStep, badType, badRecord, badFrame, groupHeld, Stepped, moved, stuck, demand, Here, at, withHolds, withRecords, fieldPut, cellsFor, cellTy, isEmpty, condition, goesOn, settled, pop, onInteger, onLogical, onReference, given, putLowest, putTop, putCells, pushCell, popMany, recording, onMade, letting, handDown, doLoad, doStore, doOperate, doGoUnless, doReturn, doEnd, doMake, doGetField, doPutField, doSet, doFader, doTakeHold, doAssert, doPush, act}
 use Rattle.ops.specs.Acts.{here}
 
 lowest-length : (cs : List Cell) (fs : List Activation) → length (putLowest cs fs) ≡ length fs
@@ -277,7 +277,7 @@ module _ (m : Macro) (bank : ℕ → ℕ) (rs : List Made) (t : Activation) (fs 
 
   pub returns : Stays (act m bank return (here rs t fs))
   unfolding act doReturn
-  returns = stays-given (notRoot m (t .body)) noStep _ (λ b. stays (sames (tysOf (t .operands)) (b .results)) badType _ (stays (isEmpty (t .holds)) groupHeld _ (by-hand (t .operands) fs)))
+  returns = stays-given (procedureAt m (t .body)) noStep _ (λ b. stays (sames (tysOf (t .operands)) (b .results)) badType _ (stays (isEmpty (t .holds)) groupHeld _ (by-hand (t .operands) fs)))
     where
       stays : (b : Bool) (why : Stuck) (s : Stepped) → Stays s → Stays (demand b why s)
       stays = by-demand Stays (λ why. record { ran = tt })

@@ -12,9 +12,9 @@ use Rattle.words.specs.Choice.{if_then_else_}
 use Rattle.values.specs.Types.{Ty, integer, logical, reference, fits}
 use Rattle.values.specs.Values.{Value, ref, tyOf, tysOf}
 use Rattle.bytecode.specs.Macro.{Body, shape, Macro}
-use Rattle.bytecode.specs.Instructions.{call, bodyAt}
+use Rattle.bytecode.specs.Instructions.{call, bodyAt, procedureAt}
 use Rattle.bytecode.specs.Rules.{onStack}
-use Rattle.bytecode.specs.Machine.{Activation, Made, Machine, Stuck, Stepped, demand, pop, onInteger, onLogical, onReference, given, popMany, notRoot}
+use Rattle.bytecode.specs.Machine.{Activation, Made, Machine, Stuck, Stepped, demand, pop, onInteger, onLogical, onReference, given, popMany}
 use Rattle.bytecode.specs.Sound.{soundValue, parametersOf}
 use Rattle.loading.specs.Tests.{never, same-some, same-refl}
 use Rattle.loading.specs.Terms.{Passed, Allowed, Finds}
@@ -99,7 +99,7 @@ resumes m w rs k f s =
     let u = append-same ps ps (tysOf (f .operands)) (d .3 .0) p refl .1 in
     (b, d .1, d .2, subst (λ x. Allowed m (f .body) (suc (f .address)) (shape (length (f .holds)) (b .results ++ x))) (sym u) (d .3 .2))
 
-pub not-root : (m : Macro) (k : ℕ) → 0 < k → notRoot m k ≡ bodyAt m k
+pub not-root : (m : Macro) (k : ℕ) → 0 < k → procedureAt m k ≡ bodyAt m k
 not-root m zero h = absurd (omega arith)
 not-root m (suc k) h = refl
 

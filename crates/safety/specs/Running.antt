@@ -9,6 +9,7 @@ use native.Mathlib.Omega.{arith}
 use lib.Dec.{eqb, leb}
 use lib.ListN.{length, getElem?, take}
 use borrow.Author.Tests.{eqb-true, eqb-false, leb-true, le-leb}
+use Rattle.bytecode.specs.Instructions.{cellsOf}
 use Rattle.words.specs.Lists.{all}
 use Rattle.words.specs.Choice.{if_then_else_}
 use Rattle.words.specs.Laws.{Bytes}
@@ -16,7 +17,6 @@ use Rattle.values.specs.Ends.{refusal, isCondition}
 use Rattle.values.specs.Values.{tysOf, freshAll}
 use Rattle.values.specs.Trace.{Event, Item, event, reading}
 use Rattle.bytecode.specs.Macro.{Body, shape, Macro}
-use Rattle.bytecode.specs.Rules.{cellsOf}
 use Rattle.bytecode.specs.Machine.{Activation, Made, After, Machine, running, unwinding, ended, endBy, Stepped, moved, stuck, rootCells, freshMachine, step}
 use Rattle.bytecode.specs.Runs.{Answer, happens, spends, finishes, refuses, halts, Ran, with, bankOf, visible, afterStep, steps, run, Feed, runs}
 use Rattle.bytecode.specs.Runs.{ends as endsOr}

@@ -13,8 +13,8 @@ use Rattle.values.specs.Types.{Ty, sames}
 use Rattle.values.specs.Ends.{isCondition}
 use Rattle.values.specs.Values.{Value, tysOf}
 use Rattle.bytecode.specs.Macro.{Body, Shape, shape, Macro}
-use Rattle.bytecode.specs.Instructions.{Instr, end, push, load, store, operate, go, goUnless, call, return, make, getField, putField, setLevel, readFader, takeHold, letHold, assert, stop, bodyAt, inBody, instrAt}
-use Rattle.bytecode.specs.Rules.{foundAt, onStack, cellsOf}
+use Rattle.bytecode.specs.Instructions.{Instr, end, push, load, store, operate, go, goUnless, call, return, make, getField, putField, setLevel, readFader, takeHold, letHold, assert, stop, bodyAt, inBody, instrAt, cellsOf}
+use Rattle.bytecode.specs.Rules.{foundAt, onStack}
 use Rattle.bytecode.specs.Machine.{Activation, Made, Here, running, unwinding, endBy, allHolds, at}
 use Rattle.bytecode.specs.Sound.{soundValue, typedValues, cellValues, soundRecord, soundGroup, soundAt, soundActivation, callsBody, parametersOf, soundWaiting, sound}
 use Rattle.loading.specs.Tests.{never, both, halves, sames→≡, sames-refl}

@@ -20,9 +20,8 @@ use Rattle.values.specs.Arithmetic.{Outcome, gives, ends, mistyped}
 use Rattle.values.specs.Values.{Value, int, log, bit, ref, tyOf, tysOf, Cell, assigned, freshAll, between, size, apply1, apply2}
 use Rattle.values.specs.Trace.{set, Item, event, reading}
 use Rattle.bytecode.specs.Macro.{Body, Shape, shape, Macro}
-use Rattle.bytecode.specs.Instructions.{Owner, own, root, Instr, end, push, load, store, operate, go, goUnless, call, return, make, getField, putField, setLevel, readFader, takeHold, letHold, assert, stop, bodyAt, instrAt}
-use Rattle.bytecode.specs.Rules.{onStack, cellsOf}
-use Rattle.bytecode.specs.Rules.{cellTy as cellType}
+use Rattle.bytecode.specs.Instructions.{Owner, own, root, Instr, end, push, load, store, operate, go, goUnless, call, return, make, getField, putField, setLevel, readFader, takeHold, letHold, assert, stop, bodyAt, instrAt, cellsOf, cellTy as cellType}
+use Rattle.bytecode.specs.Rules.{onStack}
 use Rattle.bytecode.specs.Machine.{Activation, Made, Here, Machine, running, ended, noStep, badType, badFrame, Stepped, moved, demand, allHolds, condition, at, withHolds, goesOn, settled, given, cellsFor, putCells, doLoad, doStore, doOperate, goes, doGoUnless, popMany, assignAll, activation, entering, doCall, handDown, isEmpty, doReturn, doEnd, withRecords, recording, doMake, onMade, doGetField, fieldPut, doPutField, doSet, doFader, doTakeHold, letting, doAssert, doPush, act, fetch, step}
 use Rattle.bytecode.specs.Sound.{soundValue, cellValues, soundRecord, soundGroup, parametersOf, sound}
 use Rattle.loading.specs.Tests.{same-some, halves, sames-refl}

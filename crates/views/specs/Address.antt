@@ -9,12 +9,12 @@ use native.Mathlib.Omega.{arith}
 use lib.Dec.{eqb, ltb}
 use lib.ListN.{length, getElem?}
 use borrow.Author.Tests.{lt-ltb, le-leb, not-false}
-use Rattle.words.specs.Options.{keep, isSome}
+use Rattle.words.specs.Options.{keep, isSome, orElse}
 use Rattle.words.specs.Choice.{if_then_else_}
 use Rattle.words.specs.Numbers.{byteAt}
 use Rattle.bytecode.specs.Macro.{Shape, shapeIn}
 use Rattle.bytecode.specs.Instructions.{instruction, instrAt, inBody}
-use Rattle.bytecode.specs.Rules.{roomy, bodyOf as bodyIn, isFirst, atFirst, Flow as FlowIn, on, fork, jump, halt, passed, orFlow, flowOf, flowAt, into as intoIn, foundAt, bodyFault, shapeFault, closes, flowFault, opFault, faultAt, effect as effectIn}
+use Rattle.bytecode.specs.Rules.{roomy, bodyOf as bodyIn, isFirst, atFirst, Flow as FlowIn, on, fork, jump, halt, passed, flowOf, flowAt, into as intoIn, foundAt, bodyFault, shapeFault, closes, flowFault, opFault, faultAt, effect as effectIn}
 use Rattle.places.specs.Search.{Clean}
 use Rattle.places.specs.Records.{bodies, count, firstOf, codePlace}
 use Rattle.places.specs.Rules.{bad, shapeAt, bodyOf, effect, meet, leave, opens, found, step, into, isBad, broken}
@@ -68,7 +68,7 @@ module _ (l : List ℕ) (w : Well l) (i : ℕ) (h : i < count l) (g : Agrees l i
   unfolding foundAt
   found-room = go (shapeIn (view l .shapes) i) (intoIn (view l) i) (g .room)
     where
-      go : (o f : Option Shape) → Room f → shapeFault o f ≡ false → Room (orFlow o f)
+      go : (o f : Option Shape) → Room f → shapeFault o f ≡ false → Room (orElse o f)
       go none f r e = r
       go (some s) none r e = not-false _ e
       go (some s) (some t) r e = both-true _ _ (not-false _ e) .0

@@ -15,8 +15,8 @@ use Rattle.words.specs.Numbers.{byteAt, integerOf}
 use Rattle.values.specs.Types.{Ty, integer, logical, bits, reference, tyByte, sames}
 use Rattle.values.specs.Values.{int, log, bit, ref}
 use Rattle.bytecode.specs.Macro.{shape}
-use Rattle.bytecode.specs.Instructions.{Owner, own, root, Instr, end, load, store, operate, go, goUnless, call, return, make, getField, putField, setLevel, readFader, takeHold, letHold, assert, stop, push as pushes, exactly, ownerOf, operatorOf, instruction, bodyAt}
-use Rattle.bytecode.specs.Rules.{Effect, plain, leaves, endingIn, returningIn, calling, calledBody, onStack, oneLess, giving, taking, cellsOf, fieldTy, effect as effectIn, strip, roomy, flow, flowOf}
+use Rattle.bytecode.specs.Instructions.{Owner, own, root, Instr, end, load, store, operate, go, goUnless, call, return, make, getField, putField, setLevel, readFader, takeHold, letHold, assert, stop, push as pushes, exactly, ownerOf, operatorOf, instruction, bodyAt, cellsOf, fieldTy, procedureAt}
+use Rattle.bytecode.specs.Rules.{Effect, plain, leaves, endingIn, returningIn, calling, onStack, oneLess, giving, taking, effect as effectIn, strip, roomy, flow, flowOf}
 use Rattle.places.specs.Search.{tops}
 use Rattle.places.specs.Records.{classes, bodies, classPlace, bodyPlace}
 use Rattle.places.specs.Rules.{Flow, goes, ends, need, push, pop, chain, takes, trade1, ownerBody, lands, handed, justs, opEnd, opInteger, opLogical, opBits, opNull, opLoad, opStore, opOperator, opGo, opUnless, opCall, opReturn, opMake, opGetField, opPutField, opSet, opFader, opHold, opRelease, opAssert, opStop, effect}
@@ -183,7 +183,7 @@ module _ (l : List ℕ) (w : Well l) (k : ℕ) (within : k < bodies l) (h : ℕ)
       called : (b : ℕ)
           → need (not (eqb b 0)) (need (ltb b (bodies l))
           (chain (takes l (bodyPlace l b + 7) (paramsAt l b) h (bytes ts)) (λ g r. handed (resultAt l b) g r)))
-          ≡ sent (calling (calledBody (view l) b))
+          ≡ sent (calling (procedureAt (view l) b))
       called zero = (unfold flow in refl)
       called (suc b) =
           rw (eqb·suc-zero b, body-at l (suc b), takes-draws)

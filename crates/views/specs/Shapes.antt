@@ -9,11 +9,12 @@ use native.Mathlib.Omega.{arith}
 use lib.Dec.{eqb, ltb}
 use lib.ListN.{length-map}
 use borrow.Author.Tests.{ltb-false, eqb-true, eq-eqb, ne-eqb}
+use Rattle.words.specs.Options.{orElse}
 use Rattle.words.specs.Choice.{if_then_else_}
 use Rattle.words.specs.Numbers.{byteAt, halfAt}
 use Rattle.values.specs.Types.{tyByte, sames}
 use Rattle.bytecode.specs.Macro.{Shape, Placed, shapeIn}
-use Rattle.bytecode.specs.Rules.{sameShape, orFlow, shapeFault, lands as landsIn}
+use Rattle.bytecode.specs.Rules.{sameShape, shapeFault, lands as landsIn}
 use Rattle.places.specs.Search.{alike}
 use Rattle.places.specs.Records.{bodies, count, shapes, shapePlace, firstOf, find}
 use Rattle.places.specs.Rules.{Flow, goes, ends, bad, shapeAt, shapeTypes, equals, endOf, lands, meet}
@@ -28,7 +29,7 @@ use Rattle.views.specs.Bodies.{in-body}
 
 -- ── the shape of an address ──
 shape-snoc : (ps : List Placed) (p : Placed) (x : ℕ)
-    → shapeIn (ps ++ (p ∷ [])) x ≡ orFlow (shapeIn ps x) (if eqb (p .address) x then some (p .found) else none)
+    → shapeIn (ps ++ (p ∷ [])) x ≡ orElse (shapeIn ps x) (if eqb (p .address) x then some (p .found) else none)
 unfolding shapeIn
 shape-snoc [] p x = refl
 shape-snoc (q ∷ ps) p x = by-test (eqb (q .address) x) (λ e. rw e) (λ e. rw e (shape-snoc ps p x))
@@ -115,7 +116,7 @@ module _ (l : List ℕ) (p : ℕ) (t : Typed l (p + 6) (byteAt l (p + 5))) where
 module _ (l : List ℕ) (w : Well l) where
   pub meets : (i : ℕ) (f : Option Shape)
       → meet l (shapeAt l i) (state f)
-      ≡ cond (shapeFault (shapeIn (view l .shapes) i) f) bad (state (orFlow (shapeIn (view l .shapes) i) f))
+      ≡ cond (shapeFault (shapeIn (view l .shapes) i) f) bad (state (orElse (shapeIn (view l .shapes) i) f))
   unfolding meet
   meets i f =
       rw (shape-at l w i)
