@@ -17,8 +17,8 @@ use Rattle.language.specs.Names.{blockOf, expressionOf}
 use Rattle.language.specs.Faults.{typeE, isTy}
 use Rattle.language.specs.Limits.{headCells, cellsS, cellsItems, cellsArms, cellsTarget, cellsE, cellsEs}
 use Rattle.bytecode.specs.Macro.{Body, Macro}
-use Rattle.bytecode.specs.Instructions.{push, go, bodyAt}
-use Rattle.bytecode.specs.Rules.{plain, wrong, effect, cellsOf}
+use Rattle.bytecode.specs.Instructions.{push, go, bodyAt, cellsOf}
+use Rattle.bytecode.specs.Rules.{plain, wrong, effect}
 use Rattle.loading.specs.Terms.{Each, Named}
 use Rattle.compile_code.specs.Code.{Code, nil, op, mark, cell, _▸_, At, at, skip, after, cellsIn}
 use Rattle.compile_code.specs.Compile.{Around, inside, outermost, bound, global, held, labels, scopesOf, passing, theLabels, hasLabel, labelAt, Way, plainly, marked, ifTrue, ifFalse, wayOf, codeWay, codeGoto, codeHead, codeS, codeItems, codeArms, codeTarget, codeE, codeEs, opsArms, tyTarget, tyE, tyIn}

@@ -117,7 +117,7 @@ module _ (m : Macro) (t : Tree) where
 
           go : (b : TreeBody) → okBodyTy m (suc k) (t .head) b Γ → Celled m (suc k) (t .head) (code b) p → bodyResults (bodyAt m (suc k)) ≡ map (tyIn (t .head)) (resultsOf b)
               → bodyUsage (q .parameters) b .holds ≤ 16 → bodyUsage (q .parameters) b .need ≤ 32 → Marks m (suc k) Aim (code b) p
-              → (h : Option Shape) × Seg m (suc k) Aim (code b) atFirst h × ((s : Shape) × (h ≡ some s) × Goes Aim (flow (effect m (suc k) return (s .operands)) s) none)
+              → (h : Option Shape) × Seg m (suc k) Aim (code b) atFirst h × ((s : Shape) × (h ≡ some s) × Goes Aim (flow (effect m (suc k) return s) s) none)
           go (proper s) o c e l n g =
               let reach = reaches-params (suc k) Aim (q .parameters) 0 (q .parameters) (rootVariables (locals (t .head)) 0 (startOfRoot t)) [] in
               let w = passS m (suc k) (t .head) Aim s Γ [] p o reach (omega (arith, empty)) (omega arith) c g in

@@ -13,8 +13,7 @@ use Rattle.language.specs.Tree.{Decl, declare, holding, Stmt, block, assign, wh
 use Rattle.language.specs.Names.{blockOf, expressionOf}
 use Rattle.language.specs.Faults.{typeE, isTy}
 use Rattle.bytecode.specs.Macro.{Body, Shape, Macro}
-use Rattle.bytecode.specs.Instructions.{Owner, go}
-use Rattle.bytecode.specs.Rules.{cellTy, fieldTy, calledBody}
+use Rattle.bytecode.specs.Instructions.{Owner, go, cellTy, fieldTy, procedureAt}
 use Rattle.loading.specs.Terms.{Each, Named}
 use Rattle.loading.specs.Tests.{never-some, same-some}
 use Rattle.compile_code.specs.Code.{Code, op, cell, _▸_, At, at, skip, after}
@@ -68,7 +67,7 @@ of-operator n (binary shiftRight) ts r h = of-takes n (bits ∷ integer ∷ []) 
 -- what is known of the macro's heads: types of cells, results and fields are known
 pub record Heads (m : Macro) : Type 0 where
   pub cells : (k : ℕ) (o : Owner) (c : ℕ) (t : Ty) → cellTy m k o c ≡ some t → Named (length (m .classes)) t
-  pub results : (b : ℕ) (B : Body) → calledBody m b ≡ some B → Each (Named (length (m .classes))) (B .results)
+  pub results : (b : ℕ) (B : Body) → procedureAt m b ≡ some B → Each (Named (length (m .classes))) (B .results)
   pub fields : (c x : ℕ) (t : Ty) → fieldTy m c x ≡ some t → Named (length (m .classes)) t
 
 module _ (m : Macro) (k : ℕ) (gs : List Global) (H : Heads m) where
