@@ -250,7 +250,7 @@ module _ (m : Macro) (k : ℕ) (w : WellFormed m) (short : length (m .code) < 65
   narrow-op (takeHold g) h f = let z = leb-true g 63 h in rec (takeHold g) (omega arith) (omega arith) (omega arith)
   narrow-op letHold h f = rec letHold (omega arith) (omega arith) (omega arith)
   narrow-op assertOp h f = rec assertOp (omega arith) (omega arith) (omega arith)
-  narrow-op stop h f = rec stop (omega arith) (omega arith) (omega arith)
+  narrow-op (stop c) h f = rec (stop c) (omega arith) (omega arith) (omega arith)
 
 -- each record of lines whose ops are so
 pub narrow-lines : (ls : List Line) → Each (λ (l : Line). OfBytes (recordOf (l .instr))) ls → Each OfBytes (recordsOf ls)
