@@ -8,7 +8,7 @@ use native.Mathlib.Omega.{arith}
 use lib.Dec.{eqb, leb, ltb}
 use lib.ListN.{length, getElem?}
 use lib.Signed.{mag}
-use borrow.Author.Tests.{leb-true, ltb-true, lt-ltb}
+use borrow.Author.Tests.{eqb-true, leb-true, ltb-true, lt-ltb}
 use Rattle.words.specs.Choice.{if_then_else_}
 use Rattle.words.specs.Numbers.{integerOf}
 use Rattle.words.specs.Laws.{integer-fits}
@@ -28,25 +28,25 @@ use Rattle.loading.specs.Bodies.{each-at}
 use Rattle.loading.specs.Found.{follows, does}
 
 -- ── the numbers of an instruction ──
-abbrev Proper : Instr → Type 0
-Proper end = Unit {0}
-Proper (push v) = Literal v
-Proper (load o x) = Unit {0}
-Proper (store o x) = Unit {0}
-Proper (operate o) = Unit {0}
-Proper (go i) = Unit {0}
-Proper (goUnless i) = Unit {0}
-Proper (call k) = Unit {0}
-Proper return = Unit {0}
-Proper (make c) = Unit {0}
-Proper (getField c x) = Unit {0}
-Proper (putField c x) = Unit {0}
-Proper setLevel = Unit {0}
-Proper readFader = Unit {0}
-Proper (takeHold g) = g ≤ 63
-Proper letHold = Unit {0}
-Proper assert = Unit {0}
-Proper (stop c) = isCondition c ≡ true
+abbrev Proper : Code → Instr → Type 0
+Proper c end = Unit {0}
+Proper c (push v) = Literal v
+Proper c (load o x) = Unit {0}
+Proper c (store o x) = Unit {0}
+Proper c (operate o) = Unit {0}
+Proper c (go i) = Unit {0}
+Proper c (goUnless i) = Unit {0}
+Proper c (call k) = (c .op ≡ 10) × (c .b ≡ k)
+Proper c return = Unit {0}
+Proper c (make d) = Unit {0}
+Proper c (getField d x) = Unit {0}
+Proper c (putField d x) = Unit {0}
+Proper c setLevel = Unit {0}
+Proper c readFader = Unit {0}
+Proper c (takeHold g) = g ≤ 63
+Proper c letHold = Unit {0}
+Proper c assert = Unit {0}
+Proper c (stop n) = isCondition n ≡ true
 
 literal-integer : (n : ℕ) → n < 4294967296 → Literal (int (integerOf n))
 unfolding soundValue
@@ -64,43 +64,45 @@ literal-null : (c : ℕ) → Literal (ref c none)
 unfolding soundValue
 literal-null c rs = refl
 
-either : (b : Bool) (o p : Option Instr) (x : Instr) → (o ≡ some x → Proper x) → (p ≡ some x → Proper x) → (if b then o else p) ≡ some x → Proper x
-either true o p x f g h = f h
-either false o p x f g h = g h
+module _ (c : Code) where
+  either : (b : Bool) (o p : Option Instr) (x : Instr) → (b ≡ true → o ≡ some x → Proper c x) → (p ≡ some x → Proper c x)
+      → (if b then o else p) ≡ some x → Proper c x
+  either true o p x f g h = f refl h
+  either false o p x f g h = g h
 
-just : (b : Bool) (y x : Instr) → (b ≡ true → Proper y) → exactly b y ≡ some x → Proper x
-just true y x f h = let e : y ≡ x = cc in subst Proper e (f refl)
-just false y x f h = never-some h
+  just : (b : Bool) (y x : Instr) → (b ≡ true → Proper c y) → exactly b y ≡ some x → Proper c x
+  just true y x f h = let e : y ≡ x = cc in subst (Proper c) e (f refl)
+  just false y x f h = never-some h
 
-made : (y x : Instr) → Proper y → some y ≡ some x → Proper x
-made y x p h = let e : y ≡ x = cc in subst Proper e p
+  made : (y x : Instr) → Proper c y → some y ≡ some x → Proper c x
+  made y x p h = let e : y ≡ x = cc in subst (Proper c) e p
 
-pub proper : (c : Code) (x : Instr) → OfBytes c → instruction c ≡ some x → Proper x
+pub proper : (c : Code) (x : Instr) → OfBytes c → instruction c ≡ some x → Proper c x
 unfolding instruction
 proper c x w h =
     let n = c .b in let a = c .a in let p = eqb a 0 && eqb n 0 in
-    either (eqb (c .op) 0) _ _ x (just p end x (λ e. tt)) (
-    either (eqb (c .op) 1) _ _ x (just (eqb a 0) (push (int (integerOf n))) x (λ e. literal-integer n (w .b-word))) (
-    either (eqb (c .op) 2) _ _ x (just (eqb a 0 && ltb n 2) (push (log (eqb n 1))) x (λ e. literal-logical (eqb n 1))) (
-    either (eqb (c .op) 3) _ _ x (just (eqb a 0) (push (bit n)) x (λ e. literal-bits n (w .b-word))) (
-    either (eqb (c .op) 4) _ _ x (just (eqb n 0) (push (ref a none)) x (λ e. literal-null a)) (
-    either (eqb (c .op) 5) _ _ x (λ h. let q = kept (ownerOf a) (λ o. some (load o n)) x h in made (load (q .0) n) x tt (q .2)) (
-    either (eqb (c .op) 6) _ _ x (λ h. let q = kept (ownerOf a) (λ o. some (store o n)) x h in made (store (q .0) n) x tt (q .2)) (
-    either (eqb (c .op) 7) _ _ x
-    (λ h. let q = kept (operatorOf a) (λ o. exactly (eqb n 0) (operate o)) x h in just (eqb n 0) (operate (q .0)) x (λ e. tt) (q .2)) (
-    either (eqb (c .op) 8) _ _ x (just (eqb a 0) (go n) x (λ e. tt)) (
-    either (eqb (c .op) 9) _ _ x (just (eqb a 0) (goUnless n) x (λ e. tt)) (
-    either (eqb (c .op) 10) _ _ x (just (eqb a 0) (call n) x (λ e. tt)) (
-    either (eqb (c .op) 11) _ _ x (just p return x (λ e. tt)) (
-    either (eqb (c .op) 12) _ _ x (just (eqb n 0) (make a) x (λ e. tt)) (
-    either (eqb (c .op) 13) _ _ x (made (getField a n) x tt) (
-    either (eqb (c .op) 14) _ _ x (made (putField a n) x tt) (
-    either (eqb (c .op) 15) _ _ x (just p setLevel x (λ e. tt)) (
-    either (eqb (c .op) 16) _ _ x (just p readFader x (λ e. tt)) (
-    either (eqb (c .op) 17) _ _ x (just (eqb a 0 && leb n 63) (takeHold n) x (λ e. leb-true n 63 (halves (eqb a 0) (leb n 63) e .1))) (
-    either (eqb (c .op) 18) _ _ x (just p letHold x (λ e. tt)) (
-    either (eqb (c .op) 19) _ _ x (just p assert x (λ e. tt)) (
-    either (eqb (c .op) 20) _ none x (just p (stop caseIndex) x (λ e. unfold among in refl)) never-some)))))))))))))))))))) h
+    either c (eqb (c .op) 0) _ _ x (λ t. just c p end x (λ e. tt)) (
+    either c (eqb (c .op) 1) _ _ x (λ t. just c (eqb a 0) (push (int (integerOf n))) x (λ e. literal-integer n (w .b-word))) (
+    either c (eqb (c .op) 2) _ _ x (λ t. just c (eqb a 0 && ltb n 2) (push (log (eqb n 1))) x (λ e. literal-logical (eqb n 1))) (
+    either c (eqb (c .op) 3) _ _ x (λ t. just c (eqb a 0) (push (bit n)) x (λ e. literal-bits n (w .b-word))) (
+    either c (eqb (c .op) 4) _ _ x (λ t. just c (eqb n 0) (push (ref a none)) x (λ e. literal-null a)) (
+    either c (eqb (c .op) 5) _ _ x (λ t h. let q = kept (ownerOf a) (λ o. some (load o n)) x h in made c (load (q .0) n) x tt (q .2)) (
+    either c (eqb (c .op) 6) _ _ x (λ t h. let q = kept (ownerOf a) (λ o. some (store o n)) x h in made c (store (q .0) n) x tt (q .2)) (
+    either c (eqb (c .op) 7) _ _ x
+    (λ t h. let q = kept (operatorOf a) (λ o. exactly (eqb n 0) (operate o)) x h in just c (eqb n 0) (operate (q .0)) x (λ e. tt) (q .2)) (
+    either c (eqb (c .op) 8) _ _ x (λ t. just c (eqb a 0) (go n) x (λ e. tt)) (
+    either c (eqb (c .op) 9) _ _ x (λ t. just c (eqb a 0) (goUnless n) x (λ e. tt)) (
+    either c (eqb (c .op) 10) _ _ x (λ t. just c (eqb a 0) (call n) x (λ e. (eqb-true (c .op) 10 t, refl))) (
+    either c (eqb (c .op) 11) _ _ x (λ t. just c p return x (λ e. tt)) (
+    either c (eqb (c .op) 12) _ _ x (λ t. just c (eqb n 0) (make a) x (λ e. tt)) (
+    either c (eqb (c .op) 13) _ _ x (λ t. made c (getField a n) x tt) (
+    either c (eqb (c .op) 14) _ _ x (λ t. made c (putField a n) x tt) (
+    either c (eqb (c .op) 15) _ _ x (λ t. just c p setLevel x (λ e. tt)) (
+    either c (eqb (c .op) 16) _ _ x (λ t. just c p readFader x (λ e. tt)) (
+    either c (eqb (c .op) 17) _ _ x (λ t. just c (eqb a 0 && leb n 63) (takeHold n) x (λ e. leb-true n 63 (halves (eqb a 0) (leb n 63) e .1))) (
+    either c (eqb (c .op) 18) _ _ x (λ t. just c p letHold x (λ e. tt)) (
+    either c (eqb (c .op) 19) _ _ x (λ t. just c p assert x (λ e. tt)) (
+    either c (eqb (c .op) 20) _ none x (λ t. just c p (stop caseIndex) x (λ e. unfold among in refl)) never-some)))))))))))))))))))) h
 
 -- ── what is declared ──
 known-named : (m : Macro) (t : Ty) → known m t ≡ true → Named (length (m .classes)) t
@@ -114,10 +116,14 @@ a-procedure m zero b h = never-some h
 a-procedure m (suc k) b h = (omega arith, h)
 
 module _ (m : Macro) (w : Passed m) where
-  proper-at : (i : ℕ) (x : Instr) → instrAt m i ≡ some x → Proper x
+  proper-at : (i : ℕ) (x : Instr) → instrAt m i ≡ some x → (c : Code) × (getElem? (m .code) i ≡ some c) × Proper c x
   proper-at i x h =
       let q = kept (getElem? (m .code) i) instruction x h in
-      proper (q .0) x (each-at OfBytes (m .code) i (q .0) (w .narrow .instructions-narrow) (q .1)) (q .2)
+      (q .0, q .1, proper (q .0) x (each-at OfBytes (m .code) i (q .0) (w .narrow .instructions-narrow) (q .1)) (q .2))
+
+  -- a call is op 10 of its body, on the code record too
+  pub call-there : (i k : ℕ) → instrAt m i ≡ some (call k) → (c : Code) × (getElem? (m .code) i ≡ some c) × (c .op ≡ 10) × (c .b ≡ k)
+  call-there i k h = let q = proper-at i (call k) h in (q .0, q .1, q .2 .0, q .2 .1)
 
   module _ (k i : ℕ) (s : Shape) where
     by-giving : (o : Option Ty) (ins : List Ty) → Does m k i s (giving o ins) → (t : Ty) × (o ≡ some t) × Does m k i s (plain ins (t ∷ []))
@@ -171,10 +177,10 @@ module _ (m : Macro) (w : Passed m) where
     by-return none e d = absurd d
     by-return (some b) e d = let p = a-procedure m k b e in (b, p .0, p .1, d)
 
-    by-effect : (x : Instr) → Proper x → Does m k i s (effect m k x s) → Finds m k i s x
+    by-effect : (x : Instr) → ((c : Code) × (getElem? (m .code) i ≡ some c) × Proper c x) → Does m k i s (effect m k x s) → Finds m k i s x
     unfolding effect
     by-effect end p d = by-end k d
-    by-effect (push v) p d = let q = by-push v d in (p, q .0, q .1)
+    by-effect (push v) p d = let q = by-push v d in (p .2, q .0, q .1)
     by-effect (load o x) p d = by-giving (cellTy m k o x) [] d
     by-effect (store o x) p d = by-taking (cellTy m k o x) [] d
     by-effect (operate (unary o)) p d = by-unary o (s .operands) refl d
@@ -192,10 +198,10 @@ module _ (m : Macro) (w : Passed m) where
         let f = by-field c x (q .0) (q .1) in (f .0, q .0, f .1, f .2, q .2)
     by-effect setLevel p d = d
     by-effect readFader p d = d
-    by-effect (takeHold g) p d = (p, d)
+    by-effect (takeHold g) p d = (p .2, d)
     by-effect letHold p d = d
     by-effect assert p d = d
-    by-effect (stop c) p d = p
+    by-effect (stop c) p d = p .2
 
     pub finds : Allowed m k i s → (x : Instr) × (instrAt m i ≡ some x) × Finds m k i s x
     finds a =

@@ -9,15 +9,15 @@ use Prim.Native.Nat.{ℕ, _≤_, _<_}
 use lib.ListN.{length, getElem?}
 use Rattle.words.specs.Laws.{Bytes}
 use Rattle.values.specs.Ends.{Refusal, refusal, accepted, refused}
-use Rattle.bytecode.specs.Macro.{Body, Shape, shape, Macro, readMacro}
-use Rattle.bytecode.specs.Instructions.{Instr, bodyAt, inBody, instrAt}
+use Rattle.bytecode.specs.Macro.{Body, Code, Shape, shape, Macro, readMacro}
+use Rattle.bytecode.specs.Instructions.{Instr, call, bodyAt, inBody, instrAt}
 use Rattle.bytecode.specs.Rules.{bodyOf, effect, flow, faultAt, judgeMacro}
 use Rattle.loading.specs.Terms.{Each, WellFormed, Narrow, Passed, Allowed, Follows, Does, Finds}
 use Rattle.loading.specs.Judging.{accepts, refuses-9, refuses-8, refuses-only}
 use Rattle.loading.specs.Reading.{reads}
 use Rattle.loading.specs.Bodies.{each-at, inside-code, body-there, body-is, inside-body}
 use Rattle.loading.specs.Found.{cells-few, root-takes-nothing, found-everywhere, begins-empty, within-limits, follows, does}
-use Rattle.loading.specs.Ops.{finds}
+use Rattle.loading.specs.Ops.{finds, call-there}
 
 -- ── the verdict on the bytes of a macro ──
 -- it passes exactly where it reads and no address has a fault
@@ -100,3 +100,7 @@ module _ (m : Macro) (w : Passed m) where
 
   pub ops : (k i : ℕ) (s : Shape) → Allowed m k i s → (x : Instr) × (instrAt m i ≡ some x) × Finds m k i s x
   ops = finds m w
+
+  -- a call is op 10 with its body's number, on the code record too
+  pub call-record : (i k : ℕ) → instrAt m i ≡ some (call k) → (c : Code) × (getElem? (m .code) i ≡ some c) × (c .op ≡ 10) × (c .b ≡ k)
+  call-record = call-there m w

@@ -9,7 +9,7 @@ use lib.Dec.{eqb}
 use borrow.Author.Tests.{eqb-true, eq-eqb}
 use Rattle.words.specs.Options.{keep}
 use Rattle.words.specs.Choice.{if_then_else_}
-use Rattle.values.specs.Types.{Ty, integer, logical, bits, reference, tyCode, same, sames}
+use Rattle.values.specs.Types.{Ty, integer, logical, bits, reference, tyCode, same, fits, sames, allFit}
 use Rattle.bytecode.specs.Macro.{Shape, shape}
 use Rattle.bytecode.specs.Rules.{sameShape}
 
@@ -63,6 +63,19 @@ same→≡ (reference c) integer h = absurd (omega (arith, eqb-true (65536 + c) 
 same→≡ (reference c) logical h = absurd (omega (arith, eqb-true (65536 + c) 2 h))
 same→≡ (reference c) bits h = absurd (omega (arith, eqb-true (65536 + c) 3 h))
 same→≡ (reference c) (reference d) h = ap reference (omega (arith, eqb-true (65536 + c) (65536 + d) h))
+
+-- for now what fits a place is of its very type: all that turns on it goes through these two
+pub fits→≡ : (t u : Ty) → fits t u ≡ true → t ≡ u
+fits→≡ = same→≡
+
+pub allFit→≡ : (ts us : List Ty) → allFit ts us ≡ true → ts ≡ us
+unfolding allFit
+allFit→≡ [] [] h = refl
+allFit→≡ [] (u ∷ us) h = never h
+allFit→≡ (t ∷ ts) [] h = never h
+allFit→≡ (t ∷ ts) (u ∷ us) h =
+    let q = halves (fits t u) (allFit ts us) h in
+    ap₂ (λ x xs. x ∷ xs) (fits→≡ t u (q .0)) (allFit→≡ ts us (q .1))
 
 pub sames-refl : (ts : List Ty) → sames ts ts ≡ true
 unfolding sames

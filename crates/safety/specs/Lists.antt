@@ -1,18 +1,18 @@
 -- Laws of lists of values and cells: their types, tests of every element, operands taken off.
 use mathlib.Core.Path.{_≡_, refl, ap, ap₂, sym, _∙_}
 use mathlib.Core.Bool.{Bool, true}
-use mathlib.Core.List.{List, [], _∷_, _++_, reverseAux}
+use mathlib.Core.List.{List, [], _∷_, _++_, map, reverseAux}
 use mathlib.Core.Option.{some}
 use Prim.Native.Nat.{ℕ, zero, suc, _≤_}
 use native.Mathlib.Omega.{arith}
 use lib.ListN.{length, getElem?}
 use lib.ListN.{set as put}
 use Rattle.words.specs.Lists.{all}
-use Rattle.values.specs.Types.{Ty, integer, logical, bits, reference, allFit}
-use Rattle.values.specs.Values.{Value, tyOf, tysOf, Cell, assigned, initial, freshAll}
+use Rattle.values.specs.Types.{Ty, integer, logical, bits, reference}
+use Rattle.values.specs.Values.{Value, tyOf, tysOf, Cell, assigned, tyOfCell, initial, freshAll}
 use Rattle.bytecode.specs.Machine.{Made, Stepped, popMany, assignAll}
-use Rattle.bytecode.specs.Sound.{soundValue, cellValue, cellValues}
-use Rattle.loading.specs.Tests.{never-some, same-some, both, halves, same-refl}
+use Rattle.bytecode.specs.Sound.{soundValue, soundCell}
+use Rattle.loading.specs.Tests.{never-some, same-some, both, halves}
 
 -- ── every element ──
 module _ {A : Type 0} (p : A → Bool) where
@@ -102,34 +102,33 @@ tys-put [] i u v h e = never-some h
 tys-put (x ∷ vs) zero u v h e = let q : x ≡ u = cc in ap (λ t. t ∷ tysOf vs) (e ∙ ap (λ (y : Value). tyOf y) (sym q))
 tys-put (x ∷ vs) (suc i) u v h e = ap (λ ts. tyOf x ∷ ts) (tys-put vs i u v h e)
 
-pub fits-itself : (ts : List Ty) → allFit ts ts ≡ true
-unfolding allFit
-fits-itself [] = refl
-fits-itself (t ∷ ts) = both (same-refl t) (fits-itself ts)
-
 -- ── cells ──
-pub cell-at : (cs : List Cell) (i : ℕ) (v : Value) → getElem? (cellValues cs) i ≡ some v → getElem? cs i ≡ some (assigned v)
-unfolding cellValues
-cell-at [] i v h = never-some h
-cell-at (assigned u ∷ cs) zero v h = ap (λ x. some (assigned x)) (same-some h)
-cell-at (assigned u ∷ cs) (suc i) v h = cell-at cs i v h
+pub cell-at : (cs : List Cell) (i : ℕ) (t : Ty) → getElem? (map tyOfCell cs) i ≡ some t
+    → (v : Value) × (getElem? cs i ≡ some (assigned v)) × (tyOf v ≡ t)
+cell-at [] i t h = never-some h
+cell-at (assigned v ∷ cs) zero t h = (v, refl, same-some h)
+cell-at (assigned v ∷ cs) (suc i) t h = cell-at cs i t h
 
-pub cells-put : (cs : List Cell) (i : ℕ) (v : Value) → cellValues (put cs i (assigned v)) ≡ put (cellValues cs) i v
-unfolding cellValues
-cells-put [] zero v = refl
-cells-put [] (suc i) v = refl
-cells-put (c ∷ cs) zero v = refl
-cells-put (c ∷ cs) (suc i) v = ap (λ vs. cellValue c ∷ vs) (cells-put cs i v)
+pub cells-put : (cs : List Cell) (i : ℕ) (v w : Value) → getElem? cs i ≡ some (assigned w) → tyOf v ≡ tyOf w
+    → map tyOfCell (put cs i (assigned v)) ≡ map tyOfCell cs
+cells-put [] i v w h e = never-some h
+cells-put (c ∷ cs) zero v w h e =
+    let q : c ≡ assigned w = cc in ap (λ t. t ∷ map tyOfCell cs) (e ∙ ap (λ (y : Cell). tyOfCell y) (sym q))
+cells-put (c ∷ cs) (suc i) v w h e = ap (λ ts. tyOfCell c ∷ ts) (cells-put cs i v w h e)
 
-pub cells-append : (cs ds : List Cell) → cellValues (cs ++ ds) ≡ cellValues cs ++ cellValues ds
-unfolding cellValues
+pub cells-append : (cs ds : List Cell) → map tyOfCell (cs ++ ds) ≡ map tyOfCell cs ++ map tyOfCell ds
 cells-append [] ds = refl
-cells-append (c ∷ cs) ds = ap (λ vs. cellValue c ∷ vs) (cells-append cs ds)
+cells-append (c ∷ cs) ds = ap (λ ts. tyOfCell c ∷ ts) (cells-append cs ds)
 
-pub assigned-values : (vs : List Value) → cellValues (assignAll vs) ≡ vs
-unfolding cellValues assignAll
-assigned-values [] = refl
-assigned-values (v ∷ vs) = ap (λ us. v ∷ us) (assigned-values vs)
+pub assigned-types : (vs : List Value) → map tyOfCell (assignAll vs) ≡ tysOf vs
+unfolding assignAll tysOf
+assigned-types [] = refl
+assigned-types (v ∷ vs) = ap (λ ts. tyOf v ∷ ts) (assigned-types vs)
+
+pub assigned-sound : (rs : List Made) (vs : List Value) → all (soundValue rs) vs ≡ true → all (soundCell rs) (assignAll vs) ≡ true
+unfolding all assignAll
+assigned-sound rs [] a = refl
+assigned-sound rs (v ∷ vs) a = let q = halves (soundValue rs v) (all (soundValue rs) vs) a in both (q .0) (assigned-sound rs vs (q .1))
 
 initial-type : (t : Ty) → tyOf (initial t) ≡ t
 initial-type integer = refl
@@ -137,8 +136,8 @@ initial-type logical = refl
 initial-type bits = refl
 initial-type (reference c) = refl
 
-pub fresh-types : (ts : List Ty) → tysOf (cellValues (freshAll ts)) ≡ ts
-unfolding cellValues freshAll tysOf
+pub fresh-types : (ts : List Ty) → map tyOfCell (freshAll ts) ≡ ts
+unfolding freshAll
 fresh-types [] = refl
 fresh-types (t ∷ ts) = ap₂ (λ x xs. x ∷ xs) (initial-type t) (fresh-types ts)
 
@@ -168,7 +167,7 @@ initial-sound rs logical = refl
 initial-sound rs bits = refl
 initial-sound rs (reference c) = refl
 
-pub fresh-values : (rs : List Made) (ts : List Ty) → all (soundValue rs) (cellValues (freshAll ts)) ≡ true
-unfolding all cellValues freshAll
+pub fresh-values : (rs : List Made) (ts : List Ty) → all (soundCell rs) (freshAll ts) ≡ true
+unfolding all freshAll
 fresh-values rs [] = refl
 fresh-values rs (t ∷ ts) = both (initial-sound rs t) (fresh-values rs ts)

@@ -11,10 +11,11 @@ use lib.Dec.{eqb, ltb}
 use lib.IntN.{ℤ, pos, negsuc}
 use lib.Signed.{mag, ltZ, leZ}
 use borrow.Author.Tests.{ltb-true, lt-ltb, eq-eqb}
+use Rattle.words.specs.Lists.{among}
 use Rattle.words.specs.Options.{orElse}
 use Rattle.words.specs.Choice.{if_then_else_}
 use Rattle.values.specs.Types.{Ty, integer, logical, bits, reference, sames}
-use Rattle.values.specs.Ends.{overflow}
+use Rattle.values.specs.Ends.{overflow, zeroDivisor}
 use Rattle.values.specs.Operators.{Unary, negate, absolute, complement, Binary, plus, minus, times, divide, remainder, less, atMost, greater, atLeast, equal, unequal, both, either, shiftLeft, shiftRight, unary, binary, takes, logicalOrBits, anyOne, opType}
 use Rattle.values.specs.Arithmetic.{Outcome, gives, ends, settle, isZero, unlessZero, sum, difference, product, quotient, rest, eachBit, andBits, orBits, notBits, leftBy, rightBy, shiftedLeft, shiftedRight}
 use Rattle.values.specs.Values.{Value, int, log, bit, ref, tyOf, mapOutcome, arithmetic, ordering, shift, junction, equality, sameInteger, sameRef, apply1, apply2}
@@ -54,7 +55,7 @@ on-reference P (ref d r) c h f = let e : c ≡ d = cc in subst (λ x. P (ref x r
 -- ── results ──
 -- "20 exact result outside 32 bits"
 settled : (z : ℤ) → Fine integer (mapOutcome int (settle z))
-unfolding settle soundValue
+unfolding settle soundValue among
 settled z = go (ltb (mag z) 2147483648) refl
   where
     go : (b : Bool) → ltb (mag z) 2147483648 ≡ b → Fine integer (mapOutcome int (if b then gives z else ends overflow))
@@ -62,9 +63,10 @@ settled z = go (ltb (mag z) 2147483648) refl
     go false e = refl
 
 divided : (d z : ℤ) → Fine integer (mapOutcome int (unlessZero d (settle z)))
+unfolding among
 divided d z = go (isZero d)
   where
-    go : (b : Bool) → Fine integer (mapOutcome int (if b then ends 21 else settle z))
+    go : (b : Bool) → Fine integer (mapOutcome int (if b then ends zeroDivisor else settle z))
     go true = refl
     go false = settled z
 

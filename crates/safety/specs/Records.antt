@@ -1,7 +1,7 @@
 -- Records and cells that change: what was sound stays sound.
 use mathlib.Core.Path.{_≡_, refl, ap, sym, subst}
 use mathlib.Core.Bool.{true}
-use mathlib.Core.List.{List, [], _∷_, _++_}
+use mathlib.Core.List.{List, [], _∷_, _++_, map}
 use mathlib.Core.Option.{Option, none, some}
 use Prim.Native.Nat.{ℕ, zero, suc, _≤_}
 use native.Mathlib.Omega.{arith}
@@ -10,11 +10,11 @@ use lib.ListN.{set as put}
 use borrow.Author.Tests.{eqb-true, eq-eqb}
 use Rattle.words.specs.Lists.{all}
 use Rattle.values.specs.Types.{Ty, sames}
-use Rattle.values.specs.Values.{Value, int, log, bit, ref, tysOf, Cell}
+use Rattle.values.specs.Values.{Value, int, log, bit, ref, tysOf, Cell, assigned, tyOfCell}
 use Rattle.bytecode.specs.Macro.{Macro}
 use Rattle.bytecode.specs.Instructions.{Owner, own, root, bodyAt, cellsOf}
-use Rattle.bytecode.specs.Machine.{Activation, Made, allHolds, withCells, rootOf, putLowest, putCells}
-use Rattle.bytecode.specs.Sound.{classIs, soundValue, typedValues, cellValues, ofClass, soundRecord}
+use Rattle.bytecode.specs.Machine.{Activation, Made, Shared, allHolds, withCells, rootOf, putLowest, putCells}
+use Rattle.bytecode.specs.Sound.{classIs, soundValue, typedValues, soundCell, ofClass, soundRecord}
 use Rattle.loading.specs.Tests.{never, both, halves}
 use Rattle.safety.specs.Lists.{all-weaker, all-at}
 use Rattle.safety.specs.States.{Frame, Waiting, Around}
@@ -100,12 +100,14 @@ module _ (m : Macro) where
     pub keeps-records : (xs : List Made) → all (soundRecord m rs) xs ≡ true → all (soundRecord m qs) xs ≡ true
     keeps-records xs h = all-weaker (soundRecord m rs) (soundRecord m qs) keeps-record xs h
 
+    keeps-cell : (c : Cell) → soundCell rs c ≡ true → soundCell qs c ≡ true
+    keeps-cell (assigned v) h = keeps v h
+
     keeps-frame : (f : Activation) → Frame m rs f → Frame m qs f
     keeps-frame f x = record {
       groups = x .groups;
       types = x .types;
-      values = all-weaker (soundValue rs) (soundValue qs) keeps
-          (cellValues (f .cells)) (x .values);
+      values = all-weaker (soundCell rs) (soundCell qs) keeps-cell (f .cells) (x .values);
     }
 
     keeps-waiting : (k : ℕ) (fs : List Activation) → Waiting m rs k fs → Waiting m qs k fs
@@ -122,21 +124,24 @@ module _ (m : Macro) where
       keeps-waiting (f .body) fs (h .1),
     )
 
-    pub around-records : (f : Activation) (fs : List Activation) → Around m (record { records = rs; top = f; below = fs }) → length qs ≤ 256
-        → all (soundRecord m qs) qs ≡ true
-        → Around m (record { records = qs; top = f; below = fs })
-    around-records f fs r n a =
-        record {
-          few = r .few;
-          few-records = n;
-          made = a;
-          frame = keeps-frame f (r .frame);
-          below-waits = keeps-waiting (f .body) fs
-              (r .below-waits);
-        }
+  pub around-records : (s t : Shared) → Keeps (s .records) (t .records) → (f : Activation) (fs : List Activation)
+      → Around m (record { shared = s; top = f; below = fs }) → length (t .records) ≤ 256
+      → all (soundRecord m (t .records)) (t .records) ≡ true
+      → Around m (record { shared = t; top = f; below = fs })
+  around-records s t keeps f fs r n a =
+      record {
+        few = r .few;
+        few-records = n;
+        made = a;
+        frame = keeps-frame (s .records) (t .records) keeps f (r .frame);
+        below-waits = keeps-waiting (s .records) (t .records) keeps (f .body) fs (r .below-waits);
+      }
 
   -- ── cells ──
-  module _ (rs : List Made) where
+  module _ (sh : Shared) where
+    abbrev rs : List Made
+    rs = sh .records
+
     -- the root is the lowest
     pub root-frame : (f : Activation) (fs : List Activation) → Frame m rs f → Waiting m rs (f .body) fs → (rootOf f fs .body ≡ 0)
         × Frame m rs (rootOf f fs)
@@ -145,13 +150,13 @@ module _ (m : Macro) where
     root-frame f (g ∷ gs) x h = root-frame g gs (h .0 .stands .frame) (h .1)
 
     module _ (cs : List Cell) where
-      put-frame : (f : Activation) → Frame m rs f → tysOf (cellValues cs) ≡ cellsOf (bodyAt m (f .body)) → all (soundValue rs) (cellValues cs) ≡ true
+      put-frame : (f : Activation) → Frame m rs f → map tyOfCell cs ≡ cellsOf (bodyAt m (f .body)) → all (soundCell rs) cs ≡ true
           → Frame m rs (withCells cs f)
       put-frame f x t v = record { groups = x .groups; types = t; values = v }
 
-      module _ (types : tysOf (cellValues cs) ≡ cellsOf (bodyAt m 0)) (values : all (soundValue rs) (cellValues cs) ≡ true) where
-        root-types : (k : ℕ) → k ≡ 0 → tysOf (cellValues cs) ≡ cellsOf (bodyAt m k)
-        root-types k e = subst (λ x. tysOf (cellValues cs) ≡ cellsOf (bodyAt m x)) (sym e) types
+      module _ (types : map tyOfCell cs ≡ cellsOf (bodyAt m 0)) (values : all (soundCell rs) cs ≡ true) where
+        root-types : (k : ℕ) → k ≡ 0 → map tyOfCell cs ≡ cellsOf (bodyAt m k)
+        root-types k e = subst (λ x. map tyOfCell cs ≡ cellsOf (bodyAt m x)) (sym e) types
 
         put-waiting : (k : ℕ) (fs : List Activation) → Waiting m rs k fs → Waiting m rs k (putLowest cs fs)
         unfolding putLowest
@@ -175,8 +180,8 @@ module _ (m : Macro) where
         lowest-length (g ∷ []) = refl
         lowest-length (g ∷ (x ∷ xs)) = ap suc (lowest-length (x ∷ xs))
 
-        around-root : (f : Activation) (fs : List Activation) → Around m (record { records = rs; top = f; below = fs })
-            → Around m (putCells root cs (record { records = rs; top = f; below = fs }))
+        around-root : (f : Activation) (fs : List Activation) → Around m (record { shared = sh; top = f; below = fs })
+            → Around m (putCells root cs (record { shared = sh; top = f; below = fs }))
         unfolding putLowest
         around-root f [] r =
             record {
@@ -203,8 +208,8 @@ module _ (m : Macro) where
 
       -- the holds stay as they are
       pub put-holds : (o : Owner) (f : Activation) (fs : List Activation)
-          → allHolds (putCells o cs (record { records = rs; top = f; below = fs }) .top ∷ putCells o cs
-          (record { records = rs; top = f; below = fs }) .below) ≡ allHolds (f ∷ fs)
+          → allHolds (putCells o cs (record { shared = sh; top = f; below = fs }) .top ∷ putCells o cs
+          (record { shared = sh; top = f; below = fs }) .below) ≡ allHolds (f ∷ fs)
       unfolding allHolds
       put-holds own f fs = refl
       put-holds root f [] = ap (λ gs. f .holds ++ gs) (lowest-holds [])
@@ -212,16 +217,16 @@ module _ (m : Macro) where
 
       -- the top stands where it stood
       pub put-stands : (P : ℕ → ℕ → List ℕ → Type 0) (o : Owner) (f : Activation) (fs : List Activation) → P (f .body) (f .address) (f .holds)
-          → P (putCells o cs (record { records = rs; top = f; below = fs }) .top .body)
-          (putCells o cs (record { records = rs; top = f; below = fs }) .top .address)
-          (putCells o cs (record { records = rs; top = f; below = fs }) .top .holds)
+          → P (putCells o cs (record { shared = sh; top = f; below = fs }) .top .body)
+          (putCells o cs (record { shared = sh; top = f; below = fs }) .top .address)
+          (putCells o cs (record { shared = sh; top = f; below = fs }) .top .holds)
       put-stands P own f fs h = h
       put-stands P root f [] h = h
       put-stands P root f (g ∷ gs) h = h
 
-    pub around-put : (o : Owner) (cs : List Cell) (f : Activation) (fs : List Activation) → Around m (record { records = rs; top = f; below = fs })
-        → tysOf (cellValues cs) ≡ cellsOf (bodyAt m (ownerBody o (f .body))) → all (soundValue rs) (cellValues cs) ≡ true
-        → Around m (putCells o cs (record { records = rs; top = f; below = fs }))
+    pub around-put : (o : Owner) (cs : List Cell) (f : Activation) (fs : List Activation) → Around m (record { shared = sh; top = f; below = fs })
+        → map tyOfCell cs ≡ cellsOf (bodyAt m (ownerBody o (f .body))) → all (soundCell rs) cs ≡ true
+        → Around m (putCells o cs (record { shared = sh; top = f; below = fs }))
     around-put own cs f fs r t v =
         record { few = r .few; few-records = r .few-records; made = r .made; frame = put-frame cs f (r .frame) t v; below-waits = r .below-waits }
     around-put root cs f fs r t v = around-root cs t v f fs r

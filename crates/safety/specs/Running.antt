@@ -17,7 +17,7 @@ use Rattle.values.specs.Ends.{refusal, isCondition}
 use Rattle.values.specs.Values.{tysOf, freshAll}
 use Rattle.values.specs.Trace.{Event, Item, event, reading}
 use Rattle.bytecode.specs.Macro.{Body, shape, Macro}
-use Rattle.bytecode.specs.Machine.{Activation, Made, After, Machine, running, unwinding, ended, endBy, Stepped, moved, stuck, rootCells, freshMachine, step}
+use Rattle.bytecode.specs.Machine.{Activation, Shared, After, Machine, running, unwinding, ended, endBy, Stepped, moved, stuck, rootCells, freshMachine, step}
 use Rattle.bytecode.specs.Runs.{Answer, happens, spends, finishes, refuses, halts, Ran, with, bankOf, visible, afterStep, steps, run, Feed, runs}
 use Rattle.bytecode.specs.Runs.{ends as endsOr}
 use Rattle.bytecode.specs.Sound.{soundGroup, sound}
@@ -48,7 +48,7 @@ less-one false n = refl
 module _ (m : Macro) (w : Passed m) where
   pub safe-any : (bank : ℕ → ℕ) → ((n : ℕ) → bank n < 256) → (s : Machine) → sound m s ≡ true → Steps m s (step m bank s)
   unfolding step sound holdsOf releasesOf occurs
-  safe-any bank low (running rs f fs) h = let q = running-sound m rs f fs h in safe-running m w bank low rs f fs (q .0) (q .1)
+  safe-any bank low (running s f fs) h = let q = running-sound m w s f fs h in safe-running m w bank low s f fs (q .0) (q .1)
   safe-any bank low (unwinding (g ∷ gs) (endBy c)) h =
       let a = halves (isCondition c) (leb (length (g ∷ gs)) 512 && all soundGroup (g ∷ gs)) h in
       let b = halves (leb (length (g ∷ gs)) 512) (all soundGroup (g ∷ gs)) (a .1) in
@@ -82,7 +82,7 @@ module _ (m : Macro) (w : Passed m) where
   unfolding freshMachine tysOf
   fresh-sound =
       let b = first-body (m .bodies) (w .well-formed .some-body) in
-      running-back m w [] (record { body = 0; address = 0; cells = freshAll (rootCells (m .bodies)); operands = []; holds = [] }) []
+      running-back m w (record { records = [] }) (record { body = 0; address = 0; cells = freshAll (rootCells (m .bodies)); operands = []; holds = [] }) []
       (record {
         few = omega arith;
         few-records = omega arith;
@@ -180,8 +180,8 @@ module _ (m : Macro) (w : Passed m) where
   answers-of f s (refuses r) t n h = absurd h
   answers-of f s (halts why) t n h = absurd h
 
-  running-not : (rs : List Made) (f : Activation) (fs : List Activation) (c : ℕ) → running rs f fs ≡ ended c → ⊥
-  running-not rs f fs c e = let z : _≡_ {A = ℕ} 0 1 = cc e in omega arith
+  running-not : (s : Shared) (f : Activation) (fs : List Activation) (c : ℕ) → running s f fs ≡ ended c → ⊥
+  running-not s f fs c e = let z : _≡_ {A = ℕ} 0 1 = cc e in omega arith
 
   unwinding-not : (gs : List ℕ) (a : After) (c : ℕ) → unwinding gs a ≡ ended c → ⊥
   unwinding-not gs a c e = let z : _≡_ {A = ℕ} 0 1 = cc e in omega arith

@@ -1,7 +1,7 @@
 -- A step of a sound state: each op at an allowed address goes on, soundly.
 use mathlib.Core.Path.{_≡_, refl, ap, ap₂, sym, _∙_, subst}
 use mathlib.Core.Bool.{Bool, true, false, _&&_}
-use mathlib.Core.List.{List, [], _∷_, _++_}
+use mathlib.Core.List.{List, [], _∷_, _++_, map}
 use mathlib.Core.Option.{Option, none, some}
 use Prim.Native.Nat.{ℕ, suc, _+_, _≤_, _<_}
 use native.Mathlib.Omega.{arith}
@@ -11,41 +11,52 @@ use lib.ListN.{length, length-set, getElem?, take, drop, length-append, take-app
 use lib.ListN.{set as put}
 use lib.Seq.{length-take-le}
 use borrow.Author.Tests.{eq-eqb, le-leb, leb-true, ltb-true, lt-ltb}
-use Rattle.words.specs.Lists.{all}
+use Rattle.words.specs.Lists.{all, among}
+use Rattle.words.specs.Options.{keep}
 use Rattle.words.specs.Choice.{if_then_else_}
-use Rattle.values.specs.Types.{Ty, integer, logical, reference, fits, sames, allFit}
-use Rattle.values.specs.Ends.{isCondition, fieldOfNull, assertFalse, caseIndex, outOfRange, tooManyActivations, tooManyRecords}
+use Rattle.values.specs.Types.{Ty, integer, logical, bits, reference, fits, sames, allFit}
+use Rattle.values.specs.Ends.{isCondition, fieldOfNull, assertFalse, outOfRange, tooManyActivations, tooManyRecords}
 use Rattle.values.specs.Operators.{Unary, unary, Binary, binary, opType}
 use Rattle.values.specs.Arithmetic.{Outcome, gives, ends, mistyped}
-use Rattle.values.specs.Values.{Value, int, log, bit, ref, tyOf, tysOf, Cell, assigned, freshAll, between, size, apply1, apply2}
+use Rattle.values.specs.Values.{Value, int, ref, tyOf, tysOf, Cell, assigned, tyOfCell, freshAll, between, size, apply1, apply2}
 use Rattle.values.specs.Trace.{set, Item, event, reading}
 use Rattle.bytecode.specs.Macro.{Body, Shape, shape, Macro}
-use Rattle.bytecode.specs.Instructions.{Owner, own, root, Instr, end, push, load, store, operate, go, goUnless, call, return, make, getField, putField, setLevel, readFader, takeHold, letHold, assert, stop, bodyAt, instrAt, cellsOf, cellTy as cellType}
+use Rattle.bytecode.specs.Instructions.{Owner, own, root, Instr, end, push, load, store, operate, go, goUnless, call, return, make, getField, putField, setLevel, readFader, takeHold, letHold, assert, stop, bodyAt, instrAt, cellsOf, cellTy as cellType, fieldTy, known}
 use Rattle.bytecode.specs.Rules.{onStack}
-use Rattle.bytecode.specs.Machine.{Activation, Made, Here, Machine, running, ended, noStep, badType, badFrame, Stepped, moved, demand, allHolds, condition, at, withHolds, goesOn, settled, given, cellsFor, putCells, doLoad, doStore, doOperate, goes, doGoUnless, popMany, assignAll, activation, entering, doCall, handDown, isEmpty, doReturn, doEnd, withRecords, recording, doMake, onMade, doGetField, fieldPut, doPutField, doSet, doFader, doTakeHold, letting, doAssert, doPush, act, fetch, step}
-use Rattle.bytecode.specs.Sound.{soundValue, cellValues, soundRecord, soundGroup, parametersOf, sound}
-use Rattle.loading.specs.Tests.{same-some, halves, sames-refl}
-use Rattle.loading.specs.Terms.{Each, Named, ReadBody, Passed, Allowed, Finds}
+use Rattle.bytecode.specs.Machine.{Activation, Made, Shared, Here, Machine, running, ended, noStep, badType, badFrame, Stepped, moved, demand, allHolds, condition, at, withHolds, goesOn, settled, given, cellsFor, putCells, inPlace, doLoad, doStore, doOperate, goes, doGoUnless, popMany, assignAll, activation, entering, doCall, handDown, isEmpty, doReturn, doEnd, withRecords, recording, doMake, onMade, doGetField, fieldPut, doPutField, doSet, doFader, doTakeHold, letting, doAssert, doPush, act, fetch, step}
+use Rattle.bytecode.specs.Sound.{soundValue, soundCell, soundRecord, soundGroup, parametersOf, sound}
+use Rattle.loading.specs.Tests.{same-some, halves, sames-refl, same-refl, fits→≡, allFit→≡}
+use Rattle.loading.specs.Terms.{Each, Named, ReadBody, Passed, Allowed, Takes, Finds}
+use Rattle.loading.specs.Takes.{takes-none}
 use Rattle.loading.specs.Promises.{at-place, cells-at-most-32, entry, limits, ops}
 use Rattle.safety.specs.Terms.{Fine, counted, occurs, holdsOf, releasesOf, eventsIn, InRange, Moves, Steps}
 use Rattle.safety.specs.Operators.{unary-fine, binary-fine}
-use Rattle.safety.specs.Lists.{all-append, all-at, all-put, all-first, all-cons, all-none, all-weaker, tys-length, tys-append, tys-none, tys-at, tys-put, fits-itself, cell-at, cells-put, cells-append, assigned-values, fresh-types, fresh-values}
+use Rattle.safety.specs.Lists.{all-append, all-at, all-put, all-first, all-cons, all-none, all-weaker, tys-length, tys-append, tys-none, tys-at, tys-put, cell-at, cells-put, cells-append, assigned-types, assigned-sound, fresh-types, fresh-values}
 use Rattle.safety.specs.States.{Stands, Waits, Waiting, Around, frame-at, around-at, typed, typed-back, running-back, unwinds}
-use Rattle.safety.specs.Operands.{OnTop, on-top, take-off, resumes, not-root, fits-same, empty, demanded, chosen, supplied, topped, an-integer, a-logical, a-reference}
+use Rattle.safety.specs.Operands.{OnTop, on-top, Exactly, exactly, take-off, resumes, not-root, empty, demanded, chosen, supplied, topped, an-integer, a-logical, a-reference}
 use Rattle.safety.specs.Records.{ownerBody, keeps-append, keeps-put, last-made, made-at, record-typed, record-sound, keeps-records, around-records, root-frame, put-holds, put-stands, around-put}
+
+named-known : (m : Macro) (t : Ty) → Named (length (m .classes)) t → known m t ≡ true
+named-known m integer h = refl
+named-known m logical h = refl
+named-known m bits h = refl
+named-known m (reference c) h = lt-ltb c (length (m .classes)) h
 
 pub size-between : (lo hi : ℕ) (x : ℤ) → between lo hi x ≡ true → (lo ≤ size x) × (size x ≤ hi)
 size-between lo hi (pos n) h = let q = halves (leb lo n) (leb n hi) h in (leb-true lo n (q .0), leb-true n hi (q .1))
 size-between lo hi (negsuc n) h = let z : _≡_ {A = ℕ} 0 1 = cc h in absurd (omega arith)
 
 module _ (m : Macro) (w : Passed m) (bank : ℕ → ℕ) (low : (n : ℕ) → bank n < 256)
-    (rs : List Made) (f : Activation) (fs : List Activation) (r : Around m (record { records = rs; top = f; below = fs }))
-    (s : Stands m rs [] f) where
+    (sh : Shared) (f : Activation) (fs : List Activation) (r : Around m (record { shared = sh; top = f; below = fs }))
+    (s : Stands m (sh .records) [] f) where
+  abbrev rs : List Made
+  rs = sh .records
+
   abbrev here : Here
-  here = record { records = rs; top = f; below = fs }
+  here = record { shared = sh; top = f; below = fs }
 
   abbrev state : Machine
-  state = running rs f fs
+  state = running sh f fs
 
   -- the state found here
   abbrev found : Shape
@@ -72,11 +83,11 @@ module _ (m : Macro) (w : Passed m) (bank : ℕ → ℕ) (low : (n : ℕ) → ba
 
   by-condition : (c : ℕ) → isCondition c ≡ true → Steps m state (condition c here)
   unfolding condition holdsOf releasesOf
-  by-condition c h = record { still-sound = unwinds m w rs f fs c s r h; one-item = omega arith; in-range = tt; account = λ g. refl }
+  by-condition c h = record { still-sound = unwinds m w sh f fs c s r h; one-item = omega arith; in-range = tt; account = λ g. refl }
 
   -- the top goes on, after a change that leaves its holds as they are
   goes-on : (is : List Item) (vs : List Value) (h : Here) → Quiet is → Around m h
-      → Allowed m (h .top .body) (suc (h .top .address)) (shape (length (h .top .holds)) (tysOf vs)) → all (soundValue (h .records)) vs ≡ true
+      → Allowed m (h .top .body) (suc (h .top .address)) (shape (length (h .top .holds)) (tysOf vs)) → all (soundValue (h .shared .records)) vs ≡ true
       → allHolds (f ∷ fs) ≡ allHolds (h .top ∷ h .below) → Steps m state (goesOn is vs h)
   unfolding allHolds
   goes-on is vs h q x a v e =
@@ -84,7 +95,7 @@ module _ (m : Macro) (w : Passed m) (bank : ℕ → ℕ) (low : (n : ℕ) → ba
       (arith, limits m w (h .top .body) (suc (h .top .address)) (shape (length (h .top .holds)) (tysOf vs)) a .1, tys-length vs) in
       demanded m state _ _ _ (le-leb (length vs) 32 n)
       (record {
-        still-sound = running-back m w (h .records) (at (suc (h .top .address)) vs (h .top)) (h .below)
+        still-sound = running-back m w (h .shared) (at (suc (h .top .address)) vs (h .top)) (h .below)
             (around-at m h (suc (h .top .address)) vs x) a v;
         one-item = q .0;
         in-range = q .2;
@@ -106,27 +117,26 @@ module _ (m : Macro) (w : Passed m) (bank : ℕ → ℕ) (low : (n : ℕ) → ba
   unfolding tysOf
   pushes is v vs t under q d e x y a = drops is (v ∷ vs) (t ∷ under) q (ap₂ (λ a l. a ∷ l) d e) (all-cons (soundValue rs) v vs x y) a
 
-  -- the operands of an op, from the top
-  first-of : (t : Ty) (ts : List Ty) → tysOf (f .operands) ≡ t ∷ ts → OnTop rs (f .operands) t ts
-  first-of t ts h = on-top rs (f .operands) t ts h (s .operands)
+  -- the operands of an op, from the top; after the last come those under them
+  first-of : (t : Ty) (ts under : List Ty) → Takes (t ∷ ts) (tysOf (f .operands)) under → OnTop rs (f .operands) t ts under
+  first-of t ts under x = on-top rs (f .operands) t ts under x (s .operands)
+
+  rest : {t : Ty} {vs : List Value} {under : List Ty} (q : OnTop rs vs t [] under) → tysOf (q .others) ≡ under
+  rest {under = under} q = takes-none (tysOf (q .others)) under (q .next)
 
   -- ── pushes ──
   safe-push : (v : Value) → Finds m (f .body) (f .address) found (push v) → Steps m state (doPush m v here)
-  safe-push v d = by-kind v (d .1) (pushes [] v (f .operands) (tyOf v) (d .2 .0) nothing refl (d .2 .1) (d .0 rs) (s .operands) (d .2 .2))
-    where
-      by-kind : (v : Value) → Named (length (m .classes)) (tyOf v) → Steps m state (goesOn [] (v ∷ f .operands) here)
-          → Steps m state (doPush m v here)
-      by-kind (int z) n g = g
-      by-kind (log b) n g = g
-      by-kind (bit x) n g = g
-      by-kind (ref c x) n g = demanded m state _ _ _ (lt-ltb c (length (m .classes)) n) g
+  safe-push v d =
+      let e = takes-none (tysOf (f .operands)) (d .2 .0) (d .2 .1) in
+      demanded m state _ _ _ (named-known m (tyOf v) (d .1))
+      (pushes [] v (f .operands) (tyOf v) (d .2 .0) nothing refl e (d .0 rs) (s .operands) (d .2 .2))
 
   -- ── cells ──
-  owner-frame : (o : Owner) → (tysOf (cellValues (cellsFor o here)) ≡ cellsOf (bodyAt m (ownerBody o (f .body))))
-      × (all (soundValue rs) (cellValues (cellsFor o here)) ≡ true)
+  owner-frame : (o : Owner) → (map tyOfCell (cellsFor o here) ≡ cellsOf (bodyAt m (ownerBody o (f .body))))
+      × (all (soundCell rs) (cellsFor o here) ≡ true)
   owner-frame own = (r .frame .types, r .frame .values)
   owner-frame root =
-      let q = root-frame m rs f fs (r .frame) (r .below-waits) in
+      let q = root-frame m sh f fs (r .frame) (r .below-waits) in
       (q .1 .types ∙ ap (λ k. cellsOf (bodyAt m k)) (q .0), q .1 .values)
 
   cell-type : (o : Owner) (x : ℕ) (t : Ty) → cellType m (f .body) o x ≡ some t → getElem? (cellsOf (bodyAt m (ownerBody o (f .body)))) x ≡ some t
@@ -134,39 +144,46 @@ module _ (m : Macro) (w : Passed m) (bank : ℕ → ℕ) (low : (n : ℕ) → ba
   cell-type root x t h = h
 
   cell-of : (o : Owner) (x : ℕ) (t : Ty) → cellType m (f .body) o x ≡ some t
-      → (v : Value) × (getElem? (cellValues (cellsFor o here)) x ≡ some v) × (tyOf v ≡ t)
-  cell-of o x t h = tys-at (cellValues (cellsFor o here)) x t (ap (λ ts. getElem? ts x) (owner-frame o .0) ∙ cell-type o x t h)
+      → (v : Value) × (getElem? (cellsFor o here) x ≡ some (assigned v)) × (tyOf v ≡ t)
+  cell-of o x t h = cell-at (cellsFor o here) x t (ap (λ ts. getElem? ts x) (owner-frame o .0) ∙ cell-type o x t h)
 
-  safe-load : (o : Owner) (x : ℕ) → Finds m (f .body) (f .address) found (load o x) → Steps m state (doLoad o x here)
+  -- a value of the declared type is in place
+  in-place : (v : Value) (t : Ty) (x : Stepped) → tyOf v ≡ t → Steps m state x → Steps m state (inPlace v t x)
+  in-place v t x e h = demanded m state _ _ _ (subst (λ u. fits (tyOf v) u ≡ true) e (same-refl (tyOf v))) h
+
+  safe-load : (o : Owner) (x : ℕ) → Finds m (f .body) (f .address) found (load o x) → Steps m state (doLoad m o x here)
   unfolding doLoad
   safe-load o x d =
       let c = cell-of o x (d .0) (d .1) in
-      supplied m state _ _ _ (assigned (c .0)) (cell-at (cellsFor o here) x (c .0) (c .1))
-      (pushes [] (c .0) (f .operands) (d .0) (d .2 .0) nothing (c .2) (d .2 .1)
-      (all-at (soundValue rs) (cellValues (cellsFor o here)) x (c .0) (owner-frame o .1) (c .1)) (s .operands) (d .2 .2))
+      let e = takes-none (tysOf (f .operands)) (d .2 .0) (d .2 .1) in
+      supplied m state _ _ _ (d .0) (d .1)
+      (supplied m state _ _ _ (assigned (c .0)) (c .1)
+      (in-place (c .0) (d .0) _ (c .2)
+      (pushes [] (c .0) (f .operands) (d .0) (d .2 .0) nothing (c .2) e
+      (all-at (soundCell rs) (cellsFor o here) x (assigned (c .0)) (owner-frame o .1) (c .1)) (s .operands) (d .2 .2))))
 
-  safe-store : (o : Owner) (x : ℕ) → Finds m (f .body) (f .address) found (store o x) → Steps m state (doStore o x here)
+  safe-store : (o : Owner) (x : ℕ) → Finds m (f .body) (f .address) found (store o x) → Steps m state (doStore m o x here)
   unfolding doStore
   safe-store o x d =
       let cells = cellsFor o here in
       let c = cell-of o x (d .0) (d .1) in
-      let q = first-of (d .0) (d .2 .0) (d .2 .1) in
+      let q = first-of (d .0) [] (d .2 .0) (d .2 .1) in
       let v = q .value in let us = q .others in
-      let same : tyOf v ≡ tyOf (c .0) = q .its-type ∙ sym (c .2) in
-      let stored = cells-put cells x v in
-      topped m state rs _ _ _ _ q
-      (supplied m state _ _ _ (assigned (c .0)) (cell-at cells x (c .0) (c .1))
-      (demanded m state _ _ _ (fits-same (tyOf v) (tyOf (c .0)) same)
+      let same : tyOf v ≡ tyOf (c .0) = fits→≡ (tyOf v) (d .0) (q .fit) ∙ sym (c .2) in
+      topped m state _ _ _ _ (q .is)
+      (supplied m state _ _ _ (d .0) (d .1)
+      (supplied m state _ _ _ (assigned (c .0)) (c .1)
+      (demanded m state _ _ _ (q .fit)
       (goes-on [] us (putCells o (put cells x (assigned v)) here) nothing
-      (around-put m rs o (put cells x (assigned v)) f fs r
-      (ap tysOf stored ∙ tys-put (cellValues cells) x (c .0) v (c .1) same ∙ owner-frame o .0)
-      (subst (λ y. all (soundValue rs) y ≡ true) (sym stored) (all-put (soundValue rs) (cellValues cells) x v (owner-frame o .1) (q .it-sound))))
-      (put-stands m rs (put cells x (assigned v)) (λ k i hs. Allowed m k (suc i) (shape (length hs) (tysOf us))) o f fs
-      (with-types (q .their-types) (d .2 .2)))
-      (same-values o us (put cells x (assigned v)) (q .they-sound)) (sym (put-holds m rs (put cells x (assigned v)) o f fs)))))
+      (around-put m sh o (put cells x (assigned v)) f fs r
+      (cells-put cells x v (c .0) (c .1) same ∙ owner-frame o .0)
+      (all-put (soundCell rs) cells x (assigned v) (owner-frame o .1) (q .it-sound)))
+      (put-stands m sh (put cells x (assigned v)) (λ k i hs. Allowed m k (suc i) (shape (length hs) (tysOf us))) o f fs
+      (with-types (rest q) (d .2 .2)))
+      (same-values o us (put cells x (assigned v)) (q .they-sound)) (sym (put-holds m sh (put cells x (assigned v)) o f fs))))))
     where
       same-values : (o : Owner) (vs : List Value) (cs : List Cell) → all (soundValue rs) vs ≡ true
-          → all (soundValue (putCells o cs here .records)) vs ≡ true
+          → all (soundValue (putCells o cs here .shared .records)) vs ≡ true
       same-values own vs cs h = h
       same-values root vs cs h = h
 
@@ -180,28 +197,28 @@ module _ (m : Macro) (w : Passed m) (bank : ℕ → ℕ) (low : (n : ℕ) → ba
   safe-unary : (o : Unary) → Finds m (f .body) (f .address) found (operate (unary o)) → Steps m state (doOperate (unary o) here)
   unfolding doOperate
   safe-unary o d =
-      let q = first-of (d .0) (d .3 .0) (d .3 .1) in
-      topped m state rs _ _ _ _ q
-      (outcome (d .1) (d .3 .0) (apply1 o (q .value)) (q .others)
-      (unary-fine o (q .value) (d .1) (ap (λ t. opType (unary o) (t ∷ [])) (q .its-type) ∙ d .2)) (q .their-types) (q .they-sound) (d .3 .2))
+      let q = exactly rs (f .operands) (d .0) (d .2) (d .3) (s .operands) in
+      topped m state _ _ _ _ (q .is)
+      (outcome (d .1) (d .2) (apply1 o (q .value)) (q .others)
+      (unary-fine o (q .value) (d .1) (ap (λ t. opType (unary o) (t ∷ [])) (q .its-type) ∙ d .4)) (q .their-types) (q .they-sound) (d .5))
 
   safe-binary : (o : Binary) → Finds m (f .body) (f .address) found (operate (binary o)) → Steps m state (doOperate (binary o) here)
   unfolding doOperate
   safe-binary o d =
-      let q = first-of (d .0) (d .1 ∷ d .4 .0) (d .4 .1) in
-      let p = on-top rs (q .others) (d .1) (d .4 .0) (q .their-types) (q .they-sound) in
-      topped m state rs _ _ _ _ q
-      (topped m state rs _ _ _ _ p
-      (outcome (d .2) (d .4 .0) (apply2 o (p .value) (q .value)) (p .others)
-      (binary-fine o (p .value) (q .value) (d .2) rs (p .it-sound) (ap₂ (λ t u. opType (binary o) (t ∷ u ∷ [])) (p .its-type) (q .its-type) ∙ d .3))
-      (p .their-types) (p .they-sound) (d .4 .2)))
+      let q = exactly rs (f .operands) (d .0) (d .1 ∷ d .3) (d .4) (s .operands) in
+      let p = exactly rs (q .others) (d .1) (d .3) (q .their-types) (q .they-sound) in
+      topped m state _ _ _ _ (q .is)
+      (topped m state _ _ _ _ (p .is)
+      (outcome (d .2) (d .3) (apply2 o (p .value) (q .value)) (p .others)
+      (binary-fine o (p .value) (q .value) (d .2) rs (p .it-sound) (ap₂ (λ t u. opType (binary o) (t ∷ u ∷ [])) (p .its-type) (q .its-type) ∙ d .5))
+      (p .their-types) (p .they-sound) (d .6)))
 
   -- ── jumps ──
   jumps-to : (j : ℕ) (vs : List Value) → Allowed m (f .body) j (shape (length (f .holds)) (tysOf vs)) → all (soundValue rs) vs ≡ true
       → Steps m state (goes j vs here)
   unfolding holdsOf releasesOf allHolds
   jumps-to j vs a v = record {
-    still-sound = running-back m w rs (at j vs f) fs
+    still-sound = running-back m w sh (at j vs f) fs
         (around-at m here j vs r) a v;
     one-item = omega arith;
     in-range = tt;
@@ -211,9 +228,9 @@ module _ (m : Macro) (w : Passed m) (bank : ℕ → ℕ) (low : (n : ℕ) → ba
   safe-unless : (j : ℕ) → Finds m (f .body) (f .address) found (goUnless j) → Steps m state (doGoUnless j here)
   unfolding doGoUnless
   safe-unless j d =
-      let q = first-of logical (d .0) (d .1) in
-      topped m state rs _ _ _ _ q
-      (a-logical m state (q .value) _ (q .its-type) (λ b. pick b (q .others) (q .their-types) (q .they-sound)))
+      let q = first-of logical [] (d .0) (d .1) in
+      topped m state _ _ _ _ (q .is)
+      (a-logical m state (q .value) _ (q .fit) (λ b. pick b (q .others) (rest q) (q .they-sound)))
     where
       pick : (b : Bool) (vs : List Value) → tysOf vs ≡ d .0 → all (soundValue rs) vs ≡ true
           → Steps m state (goes (if b then suc (f .address) else j) vs here)
@@ -231,19 +248,16 @@ module _ (m : Macro) (w : Passed m) (bank : ℕ → ℕ) (low : (n : ℕ) → ba
       count : length vs ≡ b .parameters
       count = sym (tys-length vs) ∙ ap length t ∙ length-take-le (b .parameters) (b .cells) n
 
-      cells : cellValues (activation k b vs .cells) ≡ vs ++ cellValues (freshAll (drop (length vs) (b .cells)))
-      cells = cells-append (assignAll vs) (freshAll (drop (length vs) (b .cells)))
-          ∙ ap (λ z. z ++ cellValues (freshAll (drop (length vs) (b .cells)))) (assigned-values vs)
-
-      cell-types : tysOf (cellValues (activation k b vs .cells)) ≡ b .cells
+      cell-types : map tyOfCell (activation k b vs .cells) ≡ b .cells
       cell-types =
-          ap tysOf cells ∙ tys-append vs (cellValues (freshAll (drop (length vs) (b .cells))))
-          ∙ ap₂ (λ p q. p ++ q) t (fresh-types (drop (length vs) (b .cells)) ∙ ap (λ z. drop z (b .cells)) count)
+          cells-append (assignAll vs) (freshAll (drop (length vs) (b .cells)))
+          ∙ ap₂ (λ p q. p ++ q) (assigned-types vs ∙ t) (fresh-types (drop (length vs) (b .cells)) ∙ ap (λ z. drop z (b .cells)) count)
           ∙ take-append-drop (b .parameters) (b .cells)
 
-      cell-values : all (soundValue rs) (cellValues (activation k b vs .cells)) ≡ true
-      cell-values = subst (λ z. all (soundValue rs) z ≡ true) (sym cells)
-          (all-append (soundValue rs) vs (cellValues (freshAll (drop (length vs) (b .cells)))) x (fresh-values rs (drop (length vs) (b .cells))))
+      cell-values : all (soundCell rs) (activation k b vs .cells) ≡ true
+      cell-values =
+          all-append (soundCell rs) (assignAll vs) (freshAll (drop (length vs) (b .cells))) (assigned-sound rs vs x)
+          (fresh-values rs (drop (length vs) (b .cells)))
 
       caller : Waits m rs k (at (f .address) us f)
       caller = record {
@@ -257,11 +271,11 @@ module _ (m : Macro) (w : Passed m) (bank : ℕ → ℕ) (low : (n : ℕ) → ba
       }
 
       pick : (c : Bool) → ltb (length (f ∷ fs)) 32 ≡ c
-          → Steps m state (if c then moved [] (running rs (activation k b vs) (at (f .address) us f ∷ fs)) else condition tooManyActivations here)
-      pick false c = by-condition tooManyActivations refl
+          → Steps m state (if c then moved [] (running sh (activation k b vs) (at (f .address) us f ∷ fs)) else condition tooManyActivations here)
+      pick false c = by-condition tooManyActivations (unfold among in refl)
       pick true c =
           record {
-            still-sound = running-back m w rs (activation k b vs) (at (f .address) us f ∷ fs)
+            still-sound = running-back m w sh (activation k b vs) (at (f .address) us f ∷ fs)
                 (record {
                   few = omega (arith, ltb-true (length (f ∷ fs)) 32 c);
                   few-records = r .few-records;
@@ -284,13 +298,14 @@ module _ (m : Macro) (w : Passed m) (bank : ℕ → ℕ) (low : (n : ℕ) → ba
       let body : List Value → List Value
       → Stepped = λ vs us. demand (allFit (tysOf vs) ts) badType (demand (leb (length (b .cells)) 32) badFrame (entering k b vs us here)) in
       let q = take-off rs (f .operands) ts (d .3 .0) body (d .3 .1) (s .operands) in
+      let e = allFit→≡ (tysOf (q .values)) ts (q .fit) in
       supplied m state _ _ _ b (not-root m k (d .1) ∙ d .2)
       (subst (λ z. Steps m state (popMany z [] (f .operands) body)) (length-take-le (b .parameters) (b .cells) n)
       (subst (Steps m state) (sym (q .pops-to))
-      (demanded m state _ _ _ (subst (λ z. allFit z ts ≡ true) (sym (q .value-types)) (fits-itself ts))
+      (demanded m state _ _ _ (q .fit)
       (demanded m state _ _ _ (le-leb (length (b .cells)) 32 (cells-at-most-32 m w k b (d .2)))
-      (enters k b (q .values) (q .others) i (d .2) (q .value-types) n (q .values-sound) (q .others-sound)
-      (d .3 .1 ∙ ap (λ z. onStack ts ++ z) (sym (q .other-types))))))))
+      (enters k b (q .values) (q .others) i (d .2) e n (q .values-sound) (q .others-sound)
+      (q .parts ∙ ap (λ z. onStack z ++ tysOf (q .others)) e))))))
 
   safe-return : Finds m (f .body) (f .address) found return → Steps m state (doReturn m here)
   unfolding doReturn
@@ -303,7 +318,7 @@ module _ (m : Macro) (w : Passed m) (bank : ℕ → ℕ) (low : (n : ℕ) → ba
       (down e t fs refl (r .below-waits))))
     where
       down : f .holds ≡ [] → tysOf (f .operands) ≡ d .0 .results → (gs : List Activation) → fs ≡ gs → Waiting m rs (f .body) gs
-          → Steps m state (handDown (f .operands) rs gs)
+          → Steps m state (handDown (f .operands) sh gs)
       down e t [] p h = absurd (omega (arith, d .1))
       down e t (x ∷ gs) p h =
           let q = resumes m w rs (f .body) x (h .0) in
@@ -311,7 +326,7 @@ module _ (m : Macro) (w : Passed m) (bank : ℕ → ℕ) (low : (n : ℕ) → ba
           let ts : q .0 .results ++ tysOf (x .operands) ≡ tysOf (f .operands ++ x .operands) =
           ap (λ (b : Body). b .results ++ tysOf (x .operands)) same ∙ ap (λ z. z ++ tysOf (x .operands)) (sym t)
           ∙ sym (tys-append (f .operands) (x .operands)) in
-          goes-on [] (f .operands ++ x .operands) (record { records = rs; top = x; below = gs }) nothing
+          goes-on [] (f .operands ++ x .operands) (record { shared = sh; top = x; below = gs }) nothing
           (record {
             few = omega (arith, r .few, ap length p);
             few-records = r .few-records;
@@ -360,21 +375,21 @@ module _ (m : Macro) (w : Passed m) (bank : ℕ → ℕ) (low : (n : ℕ) → ba
       let keeps = keeps-append rs (new ∷ []) in
       supplied m state _ _ _ ts (d .1)
       (subst (Steps m state) (sym (q .pops-to))
-      (demanded m state _ _ _ (subst (λ z. allFit z ts ≡ true) (sym (q .value-types)) (fits-itself ts))
+      (demanded m state _ _ _ (q .fit)
       (chosen m state _ _ _
       (λ (e : ltb (length rs) 256 ≡ true). goes-on [] (ref c (some (length rs)) ∷ us) (withRecords qs here) nothing
-      (around-records m rs qs keeps f fs r (omega (arith, length-append rs (new ∷ []), ltb-true (length rs) 256 e))
+      (around-records m sh (record { records = qs }) keeps f fs r (omega (arith, length-append rs (new ∷ []), ltb-true (length rs) 256 e))
       (all-append (soundRecord m qs) rs (new ∷ []) (keeps-records m rs qs keeps rs (r .made))
       (all-cons (soundRecord m qs) new []
       (record-sound m qs new ts (d .1)
-      (typed-back qs vs ts (q .value-types) (all-weaker (soundValue rs) (soundValue qs) keeps vs (q .values-sound))))
+      (typed-back qs vs ts (allFit→≡ (tysOf vs) ts (q .fit)) (all-weaker (soundValue rs) (soundValue qs) keeps vs (q .values-sound))))
       (all-none (soundRecord m qs)))))
       (unfold tysOf in subst (λ z. Allowed m (f .body) (suc (f .address)) (shape (length (f .holds)) (reference c ∷ z))) (sym (q .other-types))
       (d .2 .2))
       (all-cons (soundValue qs) (ref c (some (length rs))) us (unfold soundValue in last-made rs new)
       (all-weaker (soundValue rs) (soundValue qs) keeps us (q .others-sound)))
       refl)
-      (λ e. by-condition tooManyRecords refl))))
+      (λ e. by-condition tooManyRecords (unfold among in refl)))))
 
   -- the record that a reference of class c names, with the field of a type
   field-of : (c x n : ℕ) (ts : List Ty) (t : Ty) → getElem? (m .classes) c ≡ some ts → getElem? ts x ≡ some t → soundValue rs (ref c (some n)) ≡ true
@@ -386,73 +401,79 @@ module _ (m : Macro) (w : Passed m) (bank : ℕ → ℕ) (low : (n : ℕ) → ba
       let v = tys-at (p .0 .fields) x t (ap (λ z. getElem? z x) (y .0) ∙ d) in
       (p .0, v .0, p .1, p .2, v .1, v .2, y .0, y .1)
 
-  safe-get : (c x : ℕ) → Finds m (f .body) (f .address) found (getField c x) → Steps m state (doGetField c x here)
+  field-declared : (c x : ℕ) (ts : List Ty) (t : Ty) → getElem? (m .classes) c ≡ some ts → getElem? ts x ≡ some t → fieldTy m c x ≡ some t
+  field-declared c x ts t e d = ap (λ (o : Option (List Ty)). keep o (λ ts. getElem? ts x)) e ∙ d
+
+  safe-get : (c x : ℕ) → Finds m (f .body) (f .address) found (getField c x) → Steps m state (doGetField m c x here)
   unfolding doGetField
   safe-get c x d =
-      let q = first-of (reference c) (d .4 .0) (d .4 .1) in
-      topped m state rs _ _ _ _ q
-      (a-reference m state rs _ c _ (q .its-type) (q .it-sound) (λ n h.
-      demanded m state _ _ _ (eq-eqb c c refl) (get n (q .others) (q .their-types) (q .they-sound) h)))
+      let q = first-of (reference c) [] (d .4 .0) (d .4 .1) in
+      topped m state _ _ _ _ (q .is)
+      (a-reference m state rs _ c _ (q .fit) (q .it-sound) (λ n h.
+      demanded m state _ _ _ (eq-eqb c c refl) (get n (q .others) (rest q) (q .they-sound) h)))
     where
       get : (n : Option ℕ) (us : List Value) → tysOf us ≡ d .4 .0 → all (soundValue rs) us ≡ true → soundValue rs (ref c n) ≡ true
-          → Steps m state (onMade c n here (λ n p. given (getElem? (p .fields) x) badType (λ w. goesOn [] (w ∷ us) here)))
-      get none us t y h = by-condition fieldOfNull refl
+          → Steps m state (onMade c n here (λ n p. given (fieldTy m c x) badType (λ t. given (getElem? (p .fields) x) badType (λ w.
+          inPlace w t (goesOn [] (w ∷ us) here)))))
+      get none us t y h = by-condition fieldOfNull (unfold among in refl)
       get (some n) us t y h =
           let p = field-of c x n (d .0) (d .1) (d .2) (d .3) h in
           supplied m state _ _ _ (p .0) (p .2)
           (demanded m state _ _ _ (eq-eqb (p .0 .class) c (p .3))
+          (supplied m state _ _ _ (d .1) (field-declared c x (d .0) (d .1) (d .2) (d .3))
           (supplied m state _ _ _ (p .1) (p .4)
-          (pushes [] (p .1) us (d .1) (d .4 .0) nothing (p .5) t (all-at (soundValue rs) (p .0 .fields) x (p .1) (p .7) (p .4)) y (d .4 .2))))
+          (in-place (p .1) (d .1) _ (p .5)
+          (pushes [] (p .1) us (d .1) (d .4 .0) nothing (p .5) t (all-at (soundValue rs) (p .0 .fields) x (p .1) (p .7) (p .4)) y (d .4 .2))))))
 
-  safe-put : (c x : ℕ) → Finds m (f .body) (f .address) found (putField c x) → Steps m state (doPutField c x here)
+  safe-put : (c x : ℕ) → Finds m (f .body) (f .address) found (putField c x) → Steps m state (doPutField m c x here)
   unfolding doPutField
   safe-put c x d =
-      let q = first-of (d .1) (reference c ∷ d .4 .0) (d .4 .1) in
-      let p = on-top rs (q .others) (reference c) (d .4 .0) (q .their-types) (q .they-sound) in
-      topped m state rs _ _ _ _ q
-      (topped m state rs _ _ _ _ p
-      (a-reference m state rs _ c _ (p .its-type) (p .it-sound) (λ n h.
+      let q = first-of (d .1) (reference c ∷ []) (d .4 .0) (d .4 .1) in
+      let p = on-top rs (q .others) (reference c) [] (d .4 .0) (q .next) (q .they-sound) in
+      topped m state _ _ _ _ (q .is)
+      (topped m state _ _ _ _ (p .is)
+      (a-reference m state rs _ c _ (p .fit) (p .it-sound) (λ n h.
       demanded m state _ _ _ (eq-eqb c c refl)
-      (store-in n (q .value) (p .others) (q .its-type) (p .their-types) (q .it-sound) (p .they-sound) h))))
+      (store-in n (q .value) (p .others) (q .fit) (rest p) (q .it-sound) (p .they-sound) h))))
     where
-      store-in : (n : Option ℕ) (v : Value) (us : List Value) → tyOf v ≡ d .1 → tysOf us ≡ d .4 .0 → soundValue rs v ≡ true
+      store-in : (n : Option ℕ) (v : Value) (us : List Value) → fits (tyOf v) (d .1) ≡ true → tysOf us ≡ d .4 .0 → soundValue rs v ≡ true
           → all (soundValue rs) us ≡ true → soundValue rs (ref c n) ≡ true
-          → Steps m state (onMade c n here
-          (λ n z. given (getElem? (z .fields) x) badType
-          (λ u. demand (fits (tyOf v) (tyOf u)) badType (goesOn [] us (withRecords (fieldPut n x v z rs) here)))))
-      store-in none v us e t y z h = by-condition fieldOfNull refl
+          → Steps m state (onMade c n here (λ n z. given (fieldTy m c x) badType (λ t. given (getElem? (z .fields) x) badType (λ u.
+          inPlace v t (goesOn [] us (withRecords (fieldPut n x v z rs) here))))))
+      store-in none v us e t y z h = by-condition fieldOfNull (unfold among in refl)
       store-in (some n) v us e t y z h =
           let p = field-of c x n (d .0) (d .1) (d .2) (d .3) h in
-          let same : tyOf v ≡ tyOf (p .1) = e ∙ sym (p .5) in
+          let same : tyOf v ≡ tyOf (p .1) = fits→≡ (tyOf v) (d .1) e ∙ sym (p .5) in
           let new : Made = record { class = p .0 .class; fields = put (p .0 .fields) x v } in
           let qs = put rs n new in
           let keeps = keeps-put rs n (p .0) new (p .2) refl in
           supplied m state _ _ _ (p .0) (p .2)
           (demanded m state _ _ _ (eq-eqb (p .0 .class) c (p .3))
+          (supplied m state _ _ _ (d .1) (field-declared c x (d .0) (d .1) (d .2) (d .3))
           (supplied m state _ _ _ (p .1) (p .4)
-          (demanded m state _ _ _ (fits-same (tyOf v) (tyOf (p .1)) same)
+          (demanded m state _ _ _ e
           (goes-on [] us (withRecords qs here) nothing
-          (around-records m rs qs keeps f fs r (subst (λ k. k ≤ 256) (sym (length-set rs n new)) (r .few-records))
+          (around-records m sh (record { records = qs }) keeps f fs r (subst (λ k. k ≤ 256) (sym (length-set rs n new)) (r .few-records))
           (all-put (soundRecord m qs) rs n new (keeps-records m rs qs keeps rs (r .made))
           (record-sound m qs new (d .0) (ap (λ k. getElem? (m .classes) k) (p .3) ∙ d .2)
           (typed-back qs (put (p .0 .fields) x v) (d .0) (tys-put (p .0 .fields) x (p .1) v (p .4) same ∙ p .6)
           (all-weaker (soundValue rs) (soundValue qs) keeps (put (p .0 .fields) x v)
           (all-put (soundValue rs) (p .0 .fields) x v (p .7) y))))))
-          (with-types t (d .4 .2)) (all-weaker (soundValue rs) (soundValue qs) keeps us z) refl))))
+          (with-types t (d .4 .2)) (all-weaker (soundValue rs) (soundValue qs) keeps us z) refl)))))
 
   -- ── events and readings ──
   safe-set : Finds m (f .body) (f .address) found setLevel → Steps m state (doSet here)
   unfolding doSet
   safe-set d =
-      let q = first-of integer (integer ∷ d .0) (d .1) in
-      let p = on-top rs (q .others) integer (d .0) (q .their-types) (q .they-sound) in
-      topped m state rs _ _ _ _ q
-      (topped m state rs _ _ _ _ p
-      (an-integer m state (p .value) _ (p .its-type) (λ x.
-      an-integer m state (q .value) _ (q .its-type) (λ y.
+      let q = first-of integer (integer ∷ []) (d .0) (d .1) in
+      let p = on-top rs (q .others) integer [] (d .0) (q .next) (q .they-sound) in
+      topped m state _ _ _ _ (q .is)
+      (topped m state _ _ _ _ (p .is)
+      (an-integer m state (p .value) _ (p .fit) (λ x.
+      an-integer m state (q .value) _ (q .fit) (λ y.
       chosen m state (between 1 512 x && between 0 255 y) _ _
-      (λ e. drops (event (set (size x) (size y)) ∷ []) (p .others) (d .0) (a-set x y e) (p .their-types) (p .they-sound) (d .2))
-      (λ e. by-condition outOfRange refl)))))
+      (λ e. drops (event (set (size x) (size y)) ∷ []) (p .others) (d .0) (a-set x y e) (rest p) (p .they-sound) (d .2))
+      (λ e. by-condition outOfRange (unfold among in refl))))))
 
   a-byte : (n : ℕ) → soundValue rs (int (pos (bank n))) ≡ true
   unfolding soundValue
@@ -461,20 +482,20 @@ module _ (m : Macro) (w : Passed m) (bank : ℕ → ℕ) (low : (n : ℕ) → ba
   safe-fader : Finds m (f .body) (f .address) found readFader → Steps m state (doFader bank here)
   unfolding doFader
   safe-fader d =
-      let q = first-of integer (d .0) (d .1) in
-      topped m state rs _ _ _ _ q
-      (an-integer m state (q .value) _ (q .its-type) (λ x.
+      let q = first-of integer [] (d .0) (d .1) in
+      topped m state _ _ _ _ (q .is)
+      (an-integer m state (q .value) _ (q .fit) (λ x.
       let n = size x in
       chosen m state (between 1 64 x) _ _
-      (λ e. pushes (reading n (bank n) ∷ []) (int (pos (bank n))) (q .others) integer (d .0) (a-reading n (bank n)) refl (q .their-types)
+      (λ e. pushes (reading n (bank n) ∷ []) (int (pos (bank n))) (q .others) integer (d .0) (a-reading n (bank n)) refl (rest q)
       (a-byte n) (q .they-sound) (d .2))
-      (λ e. by-condition outOfRange refl)))
+      (λ e. by-condition outOfRange (unfold among in refl))))
 
   -- the top goes on with other holds
   holding : (gs : List ℕ) → all soundGroup gs ≡ true → Allowed m (f .body) (suc (f .address)) (shape (length gs) (tysOf (f .operands)))
-      → sound m (running rs (withHolds gs f) fs) ≡ true
+      → sound m (running sh (withHolds gs f) fs) ≡ true
   holding gs h a =
-      running-back m w rs (withHolds gs f) fs
+      running-back m w sh (withHolds gs f) fs
       (record {
         few = r .few;
         few-records = r .few-records;
@@ -520,10 +541,10 @@ module _ (m : Macro) (w : Passed m) (bank : ℕ → ℕ) (low : (n : ℕ) → ba
   safe-assert : Finds m (f .body) (f .address) found assert → Steps m state (doAssert here)
   unfolding doAssert
   safe-assert d =
-      let q = first-of logical (d .0) (d .1) in
-      topped m state rs _ _ _ _ q
-      (a-logical m state (q .value) _ (q .its-type) (λ b.
-      chosen m state b _ _ (λ e. drops [] (q .others) (d .0) nothing (q .their-types) (q .they-sound) (d .2)) (λ e. by-condition assertFalse refl)))
+      let q = first-of logical [] (d .0) (d .1) in
+      topped m state _ _ _ _ (q .is)
+      (a-logical m state (q .value) _ (q .fit) (λ b.
+      chosen m state b _ _ (λ e. drops [] (q .others) (d .0) nothing (rest q) (q .they-sound) (d .2)) (λ e. by-condition assertFalse (unfold among in refl))))
 
   -- ── every op ──
   safe-act : (x : Instr) → instrAt m (f .address) ≡ some x → Finds m (f .body) (f .address) found x → Steps m state (act m bank x here)
@@ -546,7 +567,7 @@ module _ (m : Macro) (w : Passed m) (bank : ℕ → ℕ) (low : (n : ℕ) → ba
   safe-act (takeHold g) i d = safe-hold g d
   safe-act letHold i d = safe-let d
   safe-act assert i d = safe-assert d
-  safe-act stop i d = by-condition caseIndex refl
+  safe-act (stop c) i d = by-condition c d
 
   pub safe-running : Steps m state (step m bank state)
   unfolding step fetch

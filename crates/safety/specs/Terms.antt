@@ -55,7 +55,7 @@ releasesOf g (e ∷ es) = counted (isRelease g e) (releasesOf g es)
 
 -- how many holds of group g are open in a state
 abbrev pub openHolds : ℕ → Machine → ℕ
-openHolds g (running rs f fs) = occurs g (allHolds (f ∷ fs))
+openHolds g (running s f fs) = occurs g (allHolds (f ∷ fs))
 openHolds g (unwinding gs a) = occurs g gs
 openHolds g (ended c) = 0
 

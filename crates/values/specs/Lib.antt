@@ -1,5 +1,6 @@
 pub mod Types
 pub mod Ends
+pub mod Conditions
 pub mod Operators
 pub mod Arithmetic
 pub mod Values
