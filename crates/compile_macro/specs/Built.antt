@@ -298,7 +298,7 @@ module _ (t : Tree) where
     flows : (k : ℕ) (p : Part) → getElem? (parts t) k ≡ some p → (Aim : ℕ → Shape → Type 0) → Marks (compiled t) k Aim (p .code) (startOf p) → Seg (compiled t) k Aim (p .code) atFirst none
     flows k p e Aim = by-part (λ k p. Marks (compiled t) k Aim (p .code) (startOf p) → Seg (compiled t) k Aim (p .code) atFirst none)
         (λ g. root-flows (compiled t) t (O .root-typed) root-celled (O .root-keeps) Aim g)
-        (λ j q b h g w. proc-flows (compiled t) t j q b (O .procs j q h .typed) (proc-celled j q b g) (proc-held q) (rw (head-of (suc j) (procPart t q b) g) refl) (O .procs j q h .keeps) Aim w) k p e
+        (λ j q b h g w. proc-flows (compiled t) t j q b (O .procs j q h .typed) (proc-celled j q b g) (proc-held q) (procPart t q b .head) (head-of (suc j) (procPart t q b) g) refl (O .procs j q h .keeps) Aim w) k p e
 
     marks-known : (k : ℕ) (p : Part) → getElem? (parts t) k ≡ some p → Marks (compiled t) k (λ a s. Each N (s .operands)) (p .code) (startOf p)
     marks-known = by-part (λ k p. Marks (compiled t) k (λ a s. Each N (s .operands)) (p .code) (startOf p))

@@ -12,7 +12,7 @@ use Rattle.values.specs.Operators.{Operator, unary, binary, negate, absolute, c
 use Rattle.language.specs.Tree.{Decl, declare, holding, Stmt, block, assign, when, choose, while, goto, assert, call, setLevel, select, Items, noItem, label, item, Arms, lastArm, arm, Target, toVariable, toField, Expr, number, truth, pattern, null, variable, invoke, field, make, operate1, operate2, conditional, fader, blockExpr, Exprs, noExpr, expr, Global}
 use Rattle.language.specs.Names.{blockOf, expressionOf}
 use Rattle.language.specs.Faults.{typeE, isTy}
-use Rattle.bytecode.specs.Macro.{Body, Shape, Macro}
+use Rattle.bytecode.specs.Macro.{Body, Shape, shape, Macro}
 use Rattle.bytecode.specs.Instructions.{Owner, go, cellTy, fieldTy, procedureAt}
 use Rattle.loading.specs.Terms.{Each, Named}
 use Rattle.loading.specs.Tests.{never-some, same-some}
@@ -146,7 +146,7 @@ module _ (m : Macro) (k : ℕ) (gs : List Global) (H : Heads m) where
     markE (number z) Γ ts p o c n = (tt, tt)
     markE (truth b) Γ ts p o c n = (tt, tt)
     markE (pattern z) Γ ts p o c n = (tt, tt)
-    markE (null x) Γ ts p o c n = (tt, of-initial m k gs (reference (classNumber gs x)) (o []))
+    markE (null x) Γ ts p o c n = (tt, of-initial m k gs (reference (classNumber gs x)) (o (shape 0 [])))
     markE (variable a) Γ ts p o c n = (tt, H .cells k (o .0) (o .1) (tyE gs Γ (variable a)) (o .3))
     markE (invoke a es) Γ ts p o c n = ((markEs es Γ ts p (o .0) (c .0) n, tt), subst KnownAll (o .1 .3) (H .results (bodyNumber gs a) (o .1 .0) (o .1 .1)) .0)
     markE (field a e) Γ ts p o c n = ((markE e Γ ts p (o .0) (c .0) n .0, tt), H .fields (fieldNumber gs a .class) (fieldNumber gs a .index) (tyE gs Γ (field a e)) (o .2))
