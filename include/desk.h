@@ -15,6 +15,10 @@
  *   5 hold              the group, 0 to 63          0
  *   6 release           the group, 0 to 63          0
  *
+ * There is no other tag. The definitions number a machine that has no next step 7 (answerNumbers, crates/bytecode/specs/Answers.antt), and no cue_run
+ * answers it, whatever bytes are lent: never-stuck in crates/desk/specs/Calls.antt. From a start of a macro on, over any list of runs, every number
+ * answered and every byte of the state are those of the plain machine of paper 01: calls, there.
+ *
  * Stack: the numbers below were read off the object code with objdump and, where a function calls itself, measured; then rounded up.
  *
  * A refusal writes nothing. No function keeps anything between calls, allocates or locks: calls on different states may go on at once.

@@ -10,7 +10,7 @@ use second::compile::compile;
 use second::edges::{chain, counter, edge_macro, long_macro, spiral};
 use second::gen_code::{damaged_macro, good_macro, some_run, some_runs, Run, Size};
 use second::machine::{fresh, step, State};
-use second::paper::{root_only, shape, table, LISTING_EXAMPLE};
+use second::paper::{self, body, root_only, shape, table, LISTING_EXAMPLE};
 use second::rng::Rng;
 use second::state::LENGTH;
 use second::{cases, deep, desk, judge_table};
@@ -268,4 +268,27 @@ fn the_listing_in_slices() {
     start(&code, &mut state);
     while !matches!(run_along(&m, &code, &mut machine, &mut state, &[0; 64], 1), Answer::End { .. }) {}
     assert_eq!(machine, State::Ended { code: 0 });
+}
+
+/// A condition inside a called procedure, with holds 3, 4 open in it and 1, 2 in the root (`releases-of-all` in crates/examples/specs/More):
+/// all are released, the procedure's last first, then the root's.
+#[test]
+fn a_condition_releases_the_callers_holds_too() {
+    let root = "17 0 1, 17 0 2, 10 0 1, 18 0 0, 18 0 0, 0 0 0";
+    let procedure = "17 0 3, 17 0 4, 2 0 0, 19 0 0, 18 0 0, 18 0 0, 11 0 0";
+    let m = Macro {
+        classes: vec![],
+        bodies: vec![body(0, 0, 0, &[]), body(6, 0, 0, &[])],
+        code: paper::code(&format!("{root}, {procedure}")),
+        shapes: vec![],
+    };
+    let code = write_macro(&m);
+    let mut machine = fresh(&m);
+    let mut state = vec![0; LENGTH];
+    assert_eq!(start(&code, &mut state), None);
+    let hold = |steps, group| Answer::Event { steps, event: Event::Hold { group } };
+    let release = |steps, group| Answer::Event { steps, event: Event::Release { group } };
+    for wanted in [hold(1, 1), hold(1, 2), hold(2, 3), hold(1, 4), release(3, 4), release(1, 3), release(1, 2), release(1, 1), Answer::End { steps: 1, code: 23 }] {
+        assert_eq!(run_along(&m, &code, &mut machine, &mut state, &[0; 64], 9), wanted);
+    }
 }

@@ -72,7 +72,7 @@ soundActivation m rs taken f =
 -- "all but the top at a call of the next, arguments taken"
 abbrev pub callsBody : Option Code → ℕ → Bool
 callsBody none k = false
-callsBody (some c) k = eqb (c .op) 10 && eqb (c .b) k
+callsBody (some c) k = eqb (c .op) 10 && (eqb (c .a) 0 && eqb (c .b) k)
 
 abbrev pub parametersOf : Option Body → List Ty
 parametersOf none = []

@@ -60,11 +60,11 @@ typeByte v = tyByte (tyOf v)
 unfoldable pub readValue : ℕ → ℕ → ℕ → Option Value
 readValue classes t w = keep (tyOfByte classes t) (λ ty. if validWord ty w then some (wordValue ty w) else none)
 
-abbrev pub cellWord : Cell → ℕ
-cellWord (assigned v) = valueWord v
+abbrev pub wordOfCell : Cell → ℕ
+wordOfCell (assigned v) = valueWord v
 
-abbrev pub cellByte : Cell → ℕ
-cellByte (assigned v) = typeByte v
+abbrev pub byteOfCell : Cell → ℕ
+byteOfCell (assigned v) = typeByte v
 
 unfoldable pub readCell : ℕ → ℕ → ℕ → Option Cell
 readCell classes t w = keep (readValue classes t w) (λ v. some (assigned v))
@@ -96,8 +96,8 @@ activationBytes f =
     (f .body ∷ length (f .operands) ∷ length (f .holds) ∷ 0 ∷ [])
     ++ (half (f .address)
     ++ ((0 ∷ 0 ∷ [])
-    ++ (wordsOf 32 (map cellWord (f .cells))
-    ++ (wordsOf 32 (map valueWord operands) ++ (typesOf 32 (map cellByte (f .cells)) ++ typesOf 32 (map typeByte operands))))))
+    ++ (wordsOf 32 (map wordOfCell (f .cells))
+    ++ (wordsOf 32 (map valueWord operands) ++ (typesOf 32 (map byteOfCell (f .cells)) ++ typesOf 32 (map typeByte operands))))))
 
 unfoldable pub recordBytes : Made → List ℕ
 recordBytes r = (r .class ∷ 0 ∷ 0 ∷ 0 ∷ []) ++ (wordsOf 8 (map valueWord (r .fields)) ++ typesOf 8 (map typeByte (r .fields)))

@@ -15,8 +15,8 @@ use Rattle.values.specs.Types.{Ty, tyByte, sames, allFit, fits}
 use Rattle.values.specs.Ends.{accepted}
 use Rattle.values.specs.Values.{Value, int, log, bit, ref, tyOf, tysOf, valueWord, Cell}
 use Rattle.bytecode.specs.Macro.{Body, Macro, readMacro}
-use Rattle.bytecode.specs.Instructions.{bodyAt, procedureAt}
-use Rattle.bytecode.specs.Machine.{Activation, Made, noStep, badType, badRecord, badFrame, groupHeld, Stepped, at, condition, goesOn, demand, popMany, assignAll, entering, handDown, isEmpty, doCall, doReturn, withRecords, recording, onMade, doMake, doGetField, fieldPut, doPutField}
+use Rattle.bytecode.specs.Instructions.{bodyAt, procedureAt, fieldTy}
+use Rattle.bytecode.specs.Machine.{Activation, Made, Shared, Here, inPlace, noStep, badType, badRecord, badFrame, groupHeld, Stepped, at, condition, goesOn, demand, popMany, assignAll, entering, handDown, isEmpty, doCall, doReturn, withRecords, recording, onMade, doMake, doGetField, fieldPut, doPutField}
 use Rattle.bytecode.specs.Machine as machine
 use Rattle.places.specs.Records.{classes, bodies, classPlace, bodyPlace}
 use Rattle.loader.specs.Views.{span, span-length, tyOn, classOn, bodyOn, typesOn, below, viewed}
@@ -64,7 +64,7 @@ body-is code m r k b h e =
 -- ── a call ──
 module _ (code : List ℕ) (q : ℕ) {l : List ℕ} {f n i : ℕ} (k0 : ℕ) (eq : q ≡ bodyPlace code k0) (known : k0 < bodies code) where
   call-by : (k : List ℕ) (r : Out) → given code q ≤ n
-      → ((m : Macro) → readMacro code ≡ accepted m → (rs : List Made) (t : Activation) (fs : List Activation) → Now m l f n i rs t fs → (xs us : List Value) → t .operands ≡ xs ++ us → length xs ≡ given code q
+      → ((m : Macro) → readMacro code ≡ accepted m → (rs : Shared) (t : Activation) (fs : List Activation) → Now m l f n i rs t fs → (xs us : List Value) → t .operands ≡ xs ++ us → length xs ≡ given code q
       → Told (entering k0 (bodyOn code q) (reverse xs) us (here rs t fs)) k r)
       → TellsOf code (λ m h. doCall m k0 h) l f n i k r
   unfolding doCall
@@ -114,14 +114,14 @@ module _ (code : List ℕ) (q : ℕ) {l : List ℕ} {f n i : ℕ} (k0 : ℕ) (eq
 
 -- ── a return ──
 -- the activation below, with the top dropped, and its numbers
-record Down (l : List ℕ) (f c a : ℕ) (rs : List Made) (u : Activation) (fs : List Activation) : Type 0 where
+record Down (l : List ℕ) (f c a : ℕ) (rs : Shared) (u : Activation) (fs : List Activation) : Type 0 where
   on : On (left l f c) (f - 328) rs [] u fs
   depth : byteAt l (f - 328 + 1) ≡ length (u .operands)
   address : a ≡ u .address
 
 module _ {l : List ℕ} {f n i : ℕ} where
   return-by : (k : List ℕ) (r : Out)
-      → ((m : Macro) (rs : List Made) (b a : ℕ) (cs : List Cell) (vs : List Value) (u : Activation) (fs : List Activation) → Now m l f n i rs (activation b a cs vs []) (u ∷ fs) → Told (goesOn [] (vs ++ u .operands) (here rs u fs)) k r)
+      → ((m : Macro) (rs : Shared) (b a : ℕ) (cs : List Cell) (vs : List Value) (u : Activation) (fs : List Activation) → Now m l f n i rs (activation b a cs vs []) (u ∷ fs) → Told (goesOn [] (vs ++ u .operands) (here rs u fs)) k r)
       → Tells (λ m h. doReturn m h) l f n i k r
   unfolding doReturn
   return-by k r G m rs t fs N = supplied (procedureAt m (t .body)) noStep _ (λ b e. demanded (sames (tysOf (t .operands)) (b .results)) badType _ (λ s. demanded (isEmpty (t .holds)) groupHeld _ (λ h.
@@ -133,7 +133,7 @@ module _ {l : List ℕ} {f n i : ℕ} where
       go (g ∷ gs) (u ∷ fs) h N = never h
 
   module _ (c a : ℕ) (R : ReturnRoom l f n) (ec : c ≡ byteAt l 2 - 1) (ea : a ≡ halfAt l (f - 328 + 4)) where
-    down : {m : Macro} {rs : List Made} {b j : ℕ} {cs : List Cell} {vs : List Value} {u : Activation} {fs : List Activation} → Now m l f n i rs (activation b j cs vs []) (u ∷ fs) → Down l f c a rs u fs
+    down : {m : Macro} {rs : Shared} {b j : ℕ} {cs : List Cell} {vs : List Value} {u : Activation} {fs : List Activation} → Now m l f n i rs (activation b j cs vs []) (u ∷ fs) → Down l f c a rs u fs
     down {fs = fs} N =
         let co : byteAt l 2 ≡ suc (suc (length fs)) = read-count (N .on) in
         let pl : f ≡ framePlace (suc (length fs)) = N .on .place in
@@ -143,7 +143,7 @@ module _ {l : List ℕ} {f n i : ℕ} where
     pub return-none : (k1 k2 : List ℕ) → n ≡ 0 → k1 ≡ left l f c → k2 ≡ wentTo k1 (f - 328) (a + 1) → Tells (λ m h. doReturn m h) l f n i k2 Goes
     return-none k1 k2 z e1 e2 = return-by k2 Goes (λ m rs b j cs vs u fs N. go rs b j cs vs u fs N)
       where
-        go : {m : Macro} (rs : List Made) (b j : ℕ) (cs : List Cell) (vs : List Value) (u : Activation) (fs : List Activation) → Now m l f n i rs (activation b j cs vs []) (u ∷ fs) → Told (goesOn [] (vs ++ u .operands) (here rs u fs)) k2 Goes
+        go : {m : Macro} (rs : Shared) (b j : ℕ) (cs : List Cell) (vs : List Value) (u : Activation) (fs : List Activation) → Now m l f n i rs (activation b j cs vs []) (u ∷ fs) → Told (goesOn [] (vs ++ u .operands) (here rs u fs)) k2 Goes
         go rs b j cs [] u fs N =
             let d = down N in
             goes-on u [] Goes (d .on) k2 (a + 1) (e2 ∙ rw e1) (omega (arith, d .address)) refl
@@ -153,7 +153,7 @@ module _ {l : List ℕ} {f n i : ℕ} where
         → k3 ≡ wentTo k2 (f - 328) (a + 1) → Tells (λ m h. doReturn m h) l f n i k3 Goes
     return-one w y k1 k2 k3 z ew ey e1 e2 e3 = return-by k3 Goes (λ m rs b j cs vs u fs N. go rs b j cs vs u fs N)
       where
-        go : {m : Macro} (rs : List Made) (b j : ℕ) (cs : List Cell) (vs : List Value) (u : Activation) (fs : List Activation) → Now m l f n i rs (activation b j cs vs []) (u ∷ fs) → Told (goesOn [] (vs ++ u .operands) (here rs u fs)) k3 Goes
+        go : {m : Macro} (rs : Shared) (b j : ℕ) (cs : List Cell) (vs : List Value) (u : Activation) (fs : List Activation) → Now m l f n i rs (activation b j cs vs []) (u ∷ fs) → Told (goesOn [] (vs ++ u .operands) (here rs u fs)) k3 Goes
         go rs b j cs [] u fs N = absurd (omega (arith, N .depth))
         go rs b j cs (v ∷ []) u fs N =
             let d = down N in
@@ -165,7 +165,7 @@ module _ {l : List ℕ} {f n i : ℕ} where
 -- ── a record made ──
 module _ (code : List ℕ) (q : ℕ) {l : List ℕ} {f n i : ℕ} (c : ℕ) (eq : q ≡ classPlace code c) (known : c < classes code) where
   make-by : (k : List ℕ) (r : Out) → byteAt code (q + 2) ≤ n
-      → ((m : Macro) (rs : List Made) (t : Activation) (fs : List Activation) → Now m l f n i rs t fs → (xs us : List Value) → t .operands ≡ xs ++ us → length xs ≡ byteAt code (q + 2)
+      → ((m : Macro) (rs : Shared) (t : Activation) (fs : List Activation) → Now m l f n i rs t fs → (xs us : List Value) → t .operands ≡ xs ++ us → length xs ≡ byteAt code (q + 2)
       → Told (recording c (reverse xs) us (here rs t fs)) k r)
       → TellsOf code (λ m h. doMake m c h) l f n i k r
   unfolding doMake
@@ -188,36 +188,44 @@ module _ (code : List ℕ) (q : ℕ) {l : List ℕ} {f n i : ℕ} (c : ℕ) (eq 
 
   pub make-full : (k : List ℕ) (r : Out) → byteAt code (q + 2) ≤ n → 256 ≤ halfAt l 4 → Tells (λ m h. condition 27 h) l f n i k r → TellsOf code (λ m h. doMake m c h) l f n i k r
   make-full k r enough full C = make-by k r enough (λ m rs t fs N xs us e x.
-      let co : halfAt l 4 ≡ length rs = read-records (N .on) in
-      rw (le-ltb (length rs) 256 (omega arith)) (C m rs t fs N))
+      let co : halfAt l 4 ≡ length (rs .records) = read-records (N .on) in
+      rw (le-ltb (length (rs .records)) 256 (omega arith)) (C m rs t fs N))
 
   pub make-tells : (r z : ℕ) (k1 k2 k3 k4 k5 : List ℕ) → MakeRoom code q n → n ≤ 32 → r ≡ halfAt l 4 → r < 256 → z ≡ byteAt code (q + 2) → k1 ≡ recordMade l r c → k2 ≡ fielded k1 f (n - z) r z → k3 ≡ dropped k2 f n z
       → k4 ≡ pushed k3 f (n - z) (r + 1) (16 + c) → k5 ≡ wentTo k4 f (i + 1) → TellsOf code (λ m h. doMake m c h) l f n i k5 Goes
   make-tells r z k1 k2 k3 k4 k5 R many er small ez e1 e2 e3 e4 e5 = make-by k5 Goes (R .arguments) (λ m rs t fs N xs us e x.
-      let co : r ≡ length rs = er ∙ read-records (N .on) in
-      let room : length rs < 256 = omega arith in
+      let co : r ≡ length (rs .records) = er ∙ read-records (N .on) in
+      let room : length (rs .records) < 256 = omega arith in
       let lz : length xs ≡ z = x ∙ sym ez in
       let ln : length (t .operands) ≡ length xs + length us = ap length e ∙ length-append xs us in
       let few : length (t .operands) ≤ 32 = few-operands N in
       let p1 = on-make (N .on) c r co small in
-      let p2 = on-fields rs c us f (n - z) room (omega (arith, N .depth)) few xs [] _ e (omega (arith, R .few)) p1 in
-      let p3 = subst (λ (vs : List Value). On (fielded (recordMade l r c) f (n - z) (length rs) (length xs)) f (rs ++ (made c (reverse xs) ∷ [])) [] (activation (t .body) (t .address) (t .cells) vs (t .holds)) fs) e p2 in
+      let p2 = on-fields (rs .records) c us f (n - z) room (omega (arith, N .depth)) few xs [] _ e (omega (arith, R .few)) p1 in
+      let p3 = subst (λ (vs : List Value). On (fielded (recordMade l r c) f (n - z) (length (rs .records)) (length xs)) f (record { records = rs .records ++ (made c (reverse xs) ∷ []) }) [] (activation (t .body) (t .address) (t .cells) vs (t .holds)) fs) e p2 in
       let p4 = on-drop us xs _ f n p3 (omega (arith, N .depth, length-append xs us)) many in
-      let p5 = on-push (ref c (some (length rs))) (r + 1) (16 + c) (rw co (add-one (length rs))) refl p4 (n - z) (omega (arith, N .depth)) (omega (arith, R .room)) in
-      rw (lt-ltb (length rs) 256 room) (goes-on t [] Goes p5 k5 (i + 1) (e5 ∙ rw (e4, e3, e2, e1, ← lz, ← co)) (omega (arith, N .address)) refl))
+      let p5 = on-push (ref c (some (length (rs .records)))) (r + 1) (16 + c) (rw co (add-one (length (rs .records)))) refl p4 (n - z) (omega (arith, N .depth)) (omega (arith, R .room)) in
+      rw (lt-ltb (length (rs .records)) 256 room) (goes-on t [] Goes p5 k5 (i + 1) (e5 ∙ rw (e4, e3, e2, e1, ← lz, ← co)) (omega (arith, N .address)) refl))
 
 -- ── fields ──
+-- the field of a record taken, and put
+abbrev getting : ℕ → ℕ → Macro → List Value → Here → ℕ → Made → Stepped
+getting c x m vs h n q = machine.given (fieldTy m c x) badType (λ t. machine.given (getElem? (q .fields) x) badType (λ u. inPlace u t (goesOn [] (u ∷ vs) h)))
+
+abbrev putting : ℕ → ℕ → Macro → Value → List Value → Here → ℕ → Made → Stepped
+putting c x m v vs h n q = machine.given (fieldTy m c x) badType (λ t. machine.given (getElem? (q .fields) x) badType (λ u.
+    inPlace v t (goesOn [] vs (withRecords (fieldPut n x v q (h .shared .records)) h))))
+
 module _ {l : List ℕ} {f n i : ℕ} (c x : ℕ) where
   -- of a reference d, r on top of vs
   module _ (some-operand : 0 < n) (many : n ≤ 32) (w : ℕ) (ew : w ≡ wordAt l (f + (136 + 4 * (n - 1)))) where
     get-by : (k : List ℕ) (o : Out)
-        → ((m : Macro) (rs : List Made) (b a : ℕ) (cs : List Cell) (r : Option ℕ) (vs : List Value) (gs : List ℕ) (fs : List Activation) → Now m l f n i rs (activation b a cs (ref c r ∷ vs) gs) fs → w ≡ valueWord (ref c r)
-        → Told (onMade c r (here rs (activation b a cs (ref c r ∷ vs) gs) fs) (λ n q. machine.given (getElem? (q .fields) x) badType (λ u. goesOn [] (u ∷ vs) (here rs (activation b a cs (ref c r ∷ vs) gs) fs)))) k o)
-        → Tells (λ m h. doGetField c x h) l f n i k o
+        → ((m : Macro) (rs : Shared) (b a : ℕ) (cs : List Cell) (r : Option ℕ) (vs : List Value) (gs : List ℕ) (fs : List Activation) → Now m l f n i rs (activation b a cs (ref c r ∷ vs) gs) fs → w ≡ valueWord (ref c r)
+        → Told (onMade c r (here rs (activation b a cs (ref c r ∷ vs) gs) fs) (getting c x m vs (here rs (activation b a cs (ref c r ∷ vs) gs) fs))) k o)
+        → Tells (λ m h. doGetField m c x h) l f n i k o
     unfolding doGetField
     get-by k o G m rs t fs N = go (t .body) (t .address) (t .cells) (t .operands) (t .holds) N
       where
-        go : (b a : ℕ) (cs : List Cell) (vs : List Value) (gs : List ℕ) → Now m l f n i rs (activation b a cs vs gs) fs → Told (doGetField c x (here rs (activation b a cs vs gs) fs)) k o
+        go : (b a : ℕ) (cs : List Cell) (vs : List Value) (gs : List ℕ) → Now m l f n i rs (activation b a cs vs gs) fs → Told (doGetField m c x (here rs (activation b a cs vs gs) fs)) k o
         go b a cs [] gs N = record { are = tt }
         go b a cs (int z ∷ vs) gs N = record { are = tt }
         go b a cs (log z ∷ vs) gs N = record { are = tt }
@@ -227,37 +235,36 @@ module _ {l : List ℕ} {f n i : ℕ} (c x : ℕ) where
             let N′ : Now m l f n i rs (activation b a cs (ref c r ∷ vs) gs) fs = rw e at N in
             rw e (G m rs b a cs r vs gs fs N′ (ew ∙ read-operand (N .on) [] (ref d r) vs (n - 1) refl (omega (arith, N .depth)) (omega arith) .0)))
 
-    pub get-null : (k : List ℕ) (o : Out) → w ≡ 0 → Tells (λ m h. condition 22 h) l f n i k o → Tells (λ m h. doGetField c x h) l f n i k o
+    pub get-null : (k : List ℕ) (o : Out) → w ≡ 0 → Tells (λ m h. condition 22 h) l f n i k o → Tells (λ m h. doGetField m c x h) l f n i k o
     get-null k o z C = get-by k o (λ m rs b a cs r vs gs fs N e. go m rs b a cs r vs gs fs N e)
       where
-        go : (m : Macro) (rs : List Made) (b a : ℕ) (cs : List Cell) (r : Option ℕ) (vs : List Value) (gs : List ℕ) (fs : List Activation) → Now m l f n i rs (activation b a cs (ref c r ∷ vs) gs) fs → w ≡ valueWord (ref c r)
-            → Told (onMade c r (here rs (activation b a cs (ref c r ∷ vs) gs) fs) (λ n q. machine.given (getElem? (q .fields) x) badType (λ u. goesOn [] (u ∷ vs) (here rs (activation b a cs (ref c r ∷ vs) gs) fs)))) k o
+        go : (m : Macro) (rs : Shared) (b a : ℕ) (cs : List Cell) (r : Option ℕ) (vs : List Value) (gs : List ℕ) (fs : List Activation) → Now m l f n i rs (activation b a cs (ref c r ∷ vs) gs) fs → w ≡ valueWord (ref c r)
+            → Told (onMade c r (here rs (activation b a cs (ref c r ∷ vs) gs) fs) (getting c x m vs (here rs (activation b a cs (ref c r ∷ vs) gs) fs))) k o
         go m rs b a cs none vs gs fs N e = C m rs _ fs N
         go m rs b a cs (some p) vs gs fs N e = absurd (omega arith)
 
     pub get-tells : (u y : ℕ) (k1 k2 : List ℕ) → (w ≡ 0 → ⊥) → FieldRoom w x → u ≡ wordAt l (11040 + 44 * (w - 1) + (4 + 4 * x)) → y ≡ byteAt l (11040 + 44 * (w - 1) + (36 + x))
-        → k1 ≡ operandSet l f (n - 1) u y → k2 ≡ wentTo k1 f (i + 1) → Tells (λ m h. doGetField c x h) l f n i k2 Goes
+        → k1 ≡ operandSet l f (n - 1) u y → k2 ≡ wentTo k1 f (i + 1) → Tells (λ m h. doGetField m c x h) l f n i k2 Goes
     get-tells u y k1 k2 nz R eu ey e1 e2 = get-by k2 Goes (λ m rs b a cs r vs gs fs N e. go m rs b a cs r vs gs fs N e)
       where
-        go : (m : Macro) (rs : List Made) (b a : ℕ) (cs : List Cell) (r : Option ℕ) (vs : List Value) (gs : List ℕ) (fs : List Activation) → Now m l f n i rs (activation b a cs (ref c r ∷ vs) gs) fs → w ≡ valueWord (ref c r)
-            → Told (onMade c r (here rs (activation b a cs (ref c r ∷ vs) gs) fs) (λ n q. machine.given (getElem? (q .fields) x) badType (λ u. goesOn [] (u ∷ vs) (here rs (activation b a cs (ref c r ∷ vs) gs) fs)))) k2 Goes
+        go : (m : Macro) (rs : Shared) (b a : ℕ) (cs : List Cell) (r : Option ℕ) (vs : List Value) (gs : List ℕ) (fs : List Activation) → Now m l f n i rs (activation b a cs (ref c r ∷ vs) gs) fs → w ≡ valueWord (ref c r)
+            → Told (onMade c r (here rs (activation b a cs (ref c r ∷ vs) gs) fs) (getting c x m vs (here rs (activation b a cs (ref c r ∷ vs) gs) fs))) k2 Goes
         go m rs b a cs none vs gs fs N e = absurd (nz e)
-        go m rs b a cs (some p) vs gs fs N e = supplied (getElem? rs p) badRecord _ (λ q eq. demanded (eqb (q .class) c) badRecord _ (λ h. supplied (getElem? (q .fields) x) badType _ (λ v ev.
+        go m rs b a cs (some p) vs gs fs N e = supplied (getElem? (rs .records) p) badRecord _ (λ q eq. demanded (eqb (q .class) c) badRecord _ (λ h. supplied (fieldTy m c x) badType _ (λ t et. supplied (getElem? (q .fields) x) badType _ (λ v ev. demanded (fits (tyOf v) t) badType _ (λ g.
             let s : w - 1 ≡ p = omega arith in
             let rd = read-field (N .on) p x q v eq ev (omega (arith, R .made)) (R .field) in
             let p1 = on-operand v u y (eu ∙ rw s (rd .0)) (ey ∙ rw s (rd .1)) [] (ref c (some p)) vs (N .on) (n - 1) (omega (arith, N .depth)) (omega arith) in
-            goes-on (activation b a cs (ref c (some p) ∷ vs) gs) [] Goes p1 k2 (i + 1) (e2 ∙ rw e1) (omega (arith, N .address)) refl)))
+            goes-on (activation b a cs (ref c (some p) ∷ vs) gs) [] Goes p1 k2 (i + 1) (e2 ∙ rw e1) (omega (arith, N .address)) refl)))))
 
   module _ (two-operands : 2 ≤ n) (many : n ≤ 32) (w : ℕ) (ew : w ≡ wordAt l (f + (136 + 4 * (n - 2)))) where
     put-by : (k : List ℕ) (o : Out)
-        → ((m : Macro) (rs : List Made) (b a : ℕ) (cs : List Cell) (v : Value) (r : Option ℕ) (vs : List Value) (gs : List ℕ) (fs : List Activation) → Now m l f n i rs (activation b a cs (v ∷ (ref c r ∷ vs)) gs) fs → w ≡ valueWord (ref c r)
-        → Told (onMade c r (here rs (activation b a cs (v ∷ (ref c r ∷ vs)) gs) fs) (λ n q. machine.given (getElem? (q .fields) x) badType (λ u.
-        demand (fits (tyOf v) (tyOf u)) badType (goesOn [] vs (withRecords (fieldPut n x v q rs) (here rs (activation b a cs (v ∷ (ref c r ∷ vs)) gs) fs)))))) k o)
-        → Tells (λ m h. doPutField c x h) l f n i k o
+        → ((m : Macro) (rs : Shared) (b a : ℕ) (cs : List Cell) (v : Value) (r : Option ℕ) (vs : List Value) (gs : List ℕ) (fs : List Activation) → Now m l f n i rs (activation b a cs (v ∷ (ref c r ∷ vs)) gs) fs → w ≡ valueWord (ref c r)
+        → Told (onMade c r (here rs (activation b a cs (v ∷ (ref c r ∷ vs)) gs) fs) (putting c x m v vs (here rs (activation b a cs (v ∷ (ref c r ∷ vs)) gs) fs))) k o)
+        → Tells (λ m h. doPutField m c x h) l f n i k o
     unfolding doPutField
     put-by k o G m rs t fs N = go (t .body) (t .address) (t .cells) (t .operands) (t .holds) N
       where
-        go : (b a : ℕ) (cs : List Cell) (vs : List Value) (gs : List ℕ) → Now m l f n i rs (activation b a cs vs gs) fs → Told (doPutField c x (here rs (activation b a cs vs gs) fs)) k o
+        go : (b a : ℕ) (cs : List Cell) (vs : List Value) (gs : List ℕ) → Now m l f n i rs (activation b a cs vs gs) fs → Told (doPutField m c x (here rs (activation b a cs vs gs) fs)) k o
         go b a cs [] gs N = record { are = tt }
         go b a cs (v ∷ []) gs N = record { are = tt }
         go b a cs (v ∷ (int z ∷ vs)) gs N = record { are = tt }
@@ -268,27 +275,25 @@ module _ {l : List ℕ} {f n i : ℕ} (c x : ℕ) where
             let N′ : Now m l f n i rs (activation b a cs (v ∷ (ref c r ∷ vs)) gs) fs = rw e at N in
             rw e (G m rs b a cs v r vs gs fs N′ (ew ∙ read-operand (N .on) (v ∷ []) (ref d r) vs (n - 2) refl (omega (arith, N .depth)) (omega arith) .0)))
 
-    pub put-null : (k : List ℕ) (o : Out) → w ≡ 0 → Tells (λ m h. condition 22 h) l f n i k o → Tells (λ m h. doPutField c x h) l f n i k o
+    pub put-null : (k : List ℕ) (o : Out) → w ≡ 0 → Tells (λ m h. condition 22 h) l f n i k o → Tells (λ m h. doPutField m c x h) l f n i k o
     put-null k o z C = put-by k o (λ m rs b a cs v r vs gs fs N e. go m rs b a cs v r vs gs fs N e)
       where
-        go : (m : Macro) (rs : List Made) (b a : ℕ) (cs : List Cell) (v : Value) (r : Option ℕ) (vs : List Value) (gs : List ℕ) (fs : List Activation) → Now m l f n i rs (activation b a cs (v ∷ (ref c r ∷ vs)) gs) fs → w ≡ valueWord (ref c r)
-            → Told (onMade c r (here rs (activation b a cs (v ∷ (ref c r ∷ vs)) gs) fs) (λ n q. machine.given (getElem? (q .fields) x) badType (λ u.
-            demand (fits (tyOf v) (tyOf u)) badType (goesOn [] vs (withRecords (fieldPut n x v q rs) (here rs (activation b a cs (v ∷ (ref c r ∷ vs)) gs) fs)))))) k o
+        go : (m : Macro) (rs : Shared) (b a : ℕ) (cs : List Cell) (v : Value) (r : Option ℕ) (vs : List Value) (gs : List ℕ) (fs : List Activation) → Now m l f n i rs (activation b a cs (v ∷ (ref c r ∷ vs)) gs) fs → w ≡ valueWord (ref c r)
+            → Told (onMade c r (here rs (activation b a cs (v ∷ (ref c r ∷ vs)) gs) fs) (putting c x m v vs (here rs (activation b a cs (v ∷ (ref c r ∷ vs)) gs) fs))) k o
         go m rs b a cs v none vs gs fs N e = C m rs _ fs N
         go m rs b a cs v (some p) vs gs fs N e = absurd (omega arith)
 
     pub put-tells : (u y : ℕ) (k1 k2 k3 k4 : List ℕ) → (w ≡ 0 → ⊥) → FieldRoom w x → u ≡ wordAt l (f + (136 + 4 * (n - 1))) → y ≡ byteAt l (f + (296 + (n - 1)))
-        → k1 ≡ fieldSet l (w - 1) x u y → k2 ≡ popped k1 f (n - 1) → k3 ≡ popped k2 f (n - 2) → k4 ≡ wentTo k3 f (i + 1) → Tells (λ m h. doPutField c x h) l f n i k4 Goes
+        → k1 ≡ fieldSet l (w - 1) x u y → k2 ≡ popped k1 f (n - 1) → k3 ≡ popped k2 f (n - 2) → k4 ≡ wentTo k3 f (i + 1) → Tells (λ m h. doPutField m c x h) l f n i k4 Goes
     put-tells u y k1 k2 k3 k4 nz R eu ey e1 e2 e3 e4 = put-by k4 Goes (λ m rs b a cs v r vs gs fs N e. go m rs b a cs v r vs gs fs N e)
       where
-        go : (m : Macro) (rs : List Made) (b a : ℕ) (cs : List Cell) (v : Value) (r : Option ℕ) (vs : List Value) (gs : List ℕ) (fs : List Activation) → Now m l f n i rs (activation b a cs (v ∷ (ref c r ∷ vs)) gs) fs → w ≡ valueWord (ref c r)
-            → Told (onMade c r (here rs (activation b a cs (v ∷ (ref c r ∷ vs)) gs) fs) (λ n q. machine.given (getElem? (q .fields) x) badType (λ u.
-            demand (fits (tyOf v) (tyOf u)) badType (goesOn [] vs (withRecords (fieldPut n x v q rs) (here rs (activation b a cs (v ∷ (ref c r ∷ vs)) gs) fs)))))) k4 Goes
+        go : (m : Macro) (rs : Shared) (b a : ℕ) (cs : List Cell) (v : Value) (r : Option ℕ) (vs : List Value) (gs : List ℕ) (fs : List Activation) → Now m l f n i rs (activation b a cs (v ∷ (ref c r ∷ vs)) gs) fs → w ≡ valueWord (ref c r)
+            → Told (onMade c r (here rs (activation b a cs (v ∷ (ref c r ∷ vs)) gs) fs) (putting c x m v vs (here rs (activation b a cs (v ∷ (ref c r ∷ vs)) gs) fs))) k4 Goes
         go m rs b a cs v none vs gs fs N e = absurd (nz e)
-        go m rs b a cs v (some p) vs gs fs N e = supplied (getElem? rs p) badRecord _ (λ q eq. demanded (eqb (q .class) c) badRecord _ (λ h. supplied (getElem? (q .fields) x) badType _ (λ z ez. demanded (fits (tyOf v) (tyOf z)) badType _ (λ g.
+        go m rs b a cs v (some p) vs gs fs N e = supplied (getElem? (rs .records) p) badRecord _ (λ q eq. demanded (eqb (q .class) c) badRecord _ (λ h. supplied (fieldTy m c x) badType _ (λ t et. supplied (getElem? (q .fields) x) badType _ (λ z ez. demanded (fits (tyOf v) t) badType _ (λ g.
             let s : w - 1 ≡ p = omega arith in
             let rd = read-operand (N .on) [] v (ref c (some p) ∷ vs) (n - 1) refl (omega (arith, N .depth)) (omega arith) in
             let p1 = on-field (N .on) v u y (eu ∙ rd .0) (ey ∙ rd .1) p x q eq (omega (arith, R .made)) (there (q .fields) x z ez) (R .field) in
             let p2 = on-pop v p1 (n - 1) (omega (arith, N .depth)) (omega arith) in
             let p3 = on-pop (ref c (some p)) p2 (n - 2) (omega (arith, N .depth)) (omega arith) in
-            goes-on (activation b a cs (v ∷ (ref c (some p) ∷ vs)) gs) [] Goes p3 k4 (i + 1) (e4 ∙ rw (e3, e2, e1, s)) (omega (arith, N .address)) refl))))
+            goes-on (activation b a cs (v ∷ (ref c (some p) ∷ vs)) gs) [] Goes p3 k4 (i + 1) (e4 ∙ rw (e3, e2, e1, s)) (omega (arith, N .address)) refl)))))

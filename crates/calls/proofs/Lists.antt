@@ -9,7 +9,7 @@ use lib.ListN.{set as replace}
 use Rattle.words.specs.Numbers.{byteAt}
 use Rattle.values.specs.Types.{Ty, integer, logical, bits, reference, tyByte}
 use Rattle.values.specs.Values.{Value, valueWord, Cell, assigned, initial, fresh, freshAll}
-use Rattle.bytecode.specs.Machine.{Activation, Made, assignAll}
+use Rattle.bytecode.specs.Machine.{Activation, Made, Shared, assignAll}
 use Rattle.bytecode.specs.State.{typeByte}
 use Rattle.layout.specs.Places.{framePlace}
 use Rattle.layout.specs.Steps.{activation}
@@ -42,16 +42,16 @@ last-replaced [] q p = refl
 last-replaced (r ∷ rs) q p = ap (λ (l : List Made). r ∷ l) (last-replaced rs q p)
 
 -- ── the activation below the top ──
-pub below-top : {l : List ℕ} {g : ℕ} {rs : List Made} {u t : Activation} {fs : List Activation} → On l g rs [] u (t ∷ fs) → (f : ℕ) → f ≡ framePlace (length fs) → On l f rs (u ∷ []) t fs
+pub below-top : {l : List ℕ} {g : ℕ} {rs : Shared} {u t : Activation} {fs : List Activation} → On l g rs [] u (t ∷ fs) → (f : ℕ) → f ≡ framePlace (length fs) → On l f rs (u ∷ []) t fs
 below-top {fs = fs} p f e =
     let few : suc (length fs) < 32 = p .few in
     record { few = omega arith; place = e; bytes = p .bytes }
 
-pub above-it : {l : List ℕ} {f : ℕ} {rs : List Made} {u t : Activation} {fs : List Activation} → On l f rs (u ∷ []) t fs → length (t ∷ fs) < 32 → (g : ℕ) → g ≡ framePlace (length (t ∷ fs)) → On l g rs [] u (t ∷ fs)
+pub above-it : {l : List ℕ} {f : ℕ} {rs : Shared} {u t : Activation} {fs : List Activation} → On l f rs (u ∷ []) t fs → length (t ∷ fs) < 32 → (g : ℕ) → g ≡ framePlace (length (t ∷ fs)) → On l g rs [] u (t ∷ fs)
 above-it p few g e = record { few = few; place = e; bytes = p .bytes }
 
 -- ── operands dropped: vs of them, us stay ──
-pub on-drop : {rs : List Made} {ts fs : List Activation} {b i : ℕ} {cs : List Cell} {gs : List ℕ} (us vs : List Value) (l : List ℕ) (f n : ℕ) → On l f rs ts (activation b i cs (vs ++ us) gs) fs
+pub on-drop : {rs : Shared} {ts fs : List Activation} {b i : ℕ} {cs : List Cell} {gs : List ℕ} (us vs : List Value) (l : List ℕ) (f n : ℕ) → On l f rs ts (activation b i cs (vs ++ us) gs) fs
     → n ≡ length (vs ++ us) → n ≤ 32 → On (dropped l f n (length vs)) f rs ts (activation b i cs us gs) fs
 unfolding dropped
 on-drop us [] l f n p e h = p
@@ -60,7 +60,7 @@ on-drop us (v ∷ vs) l f n p e h =
     on-drop us vs (popped l f (n - 1)) f (n - 1) (on-pop v p (n - 1) e′ (omega arith)) e′ (omega arith)
 
 -- ── arguments moved: vs of them, deepest first, with ws above and us below ──
-module _ {rs : List Made} {t : Activation} {fs : List Activation} (b i : ℕ) (us : List Value) (f g k : ℕ) (below : f ≡ framePlace (length fs)) (count : k ≡ length us) (few : length (t .operands) ≤ 32) where
+module _ {rs : Shared} {t : Activation} {fs : List Activation} (b i : ℕ) (us : List Value) (f g k : ℕ) (below : f ≡ framePlace (length fs)) (count : k ≡ length us) (few : length (t .operands) ≤ 32) where
   pub on-fill : (vs ws : List Value) (l : List ℕ) → t .operands ≡ ws ++ (vs ++ us) → On l g rs [] (activation b i [] [] []) (t ∷ fs)
       → On (filled l f k g (length vs)) g rs [] (activation b i (assignAll (reverse vs)) [] []) (t ∷ fs)
   unfolding filled assignAll
@@ -76,8 +76,8 @@ module _ {rs : List Made} {t : Activation} {fs : List Activation} (b i : ℕ) (u
 
 -- ── fields moved ──
 module _ {t : Activation} {fs : List Activation} (rs : List Made) (c : ℕ) (us : List Value) (f k : ℕ) (room : length rs < 256) (count : k ≡ length us) (few : length (t .operands) ≤ 32) where
-  pub on-fields : (vs ws : List Value) (l : List ℕ) → t .operands ≡ ws ++ (vs ++ us) → length vs ≤ 8 → On l f (rs ++ (made c [] ∷ [])) [] t fs
-      → On (fielded l f k (length rs) (length vs)) f (rs ++ (made c (reverse vs) ∷ [])) [] t fs
+  pub on-fields : (vs ws : List Value) (l : List ℕ) → t .operands ≡ ws ++ (vs ++ us) → length vs ≤ 8 → On l f (record { records = rs ++ (made c [] ∷ []) }) [] t fs
+      → On (fielded l f k (length rs) (length vs)) f (record { records = rs ++ (made c (reverse vs) ∷ []) }) [] t fs
   unfolding fielded
   on-fields [] ws l e s p = p
   on-fields (v ∷ vs) ws l e s p =
@@ -100,7 +100,7 @@ initial-word logical = (refl, refl)
 initial-word bits = (refl, refl)
 initial-word (reference c) = (refl, refl)
 
-pub on-begin : {rs : List Made} {fs : List Activation} {b i : ℕ} (code : List ℕ) (q g : ℕ) (ts : List Ty) (cs : List Cell) (j : ℕ) (l : List ℕ) → TypesAt code q j ts → j ≡ length cs → j + length ts ≤ 32
+pub on-begin : {rs : Shared} {fs : List Activation} {b i : ℕ} (code : List ℕ) (q g : ℕ) (ts : List Ty) (cs : List Cell) (j : ℕ) (l : List ℕ) → TypesAt code q j ts → j ≡ length cs → j + length ts ≤ 32
     → On l g rs [] (activation b i cs [] []) fs → On (begun code q l g j (length ts)) g rs [] (activation b i (cs ++ freshAll ts) [] []) fs
 unfolding begun freshAll
 on-begin code q g [] cs j l ty e h p = rw (append-nil cs) p

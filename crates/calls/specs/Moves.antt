@@ -6,7 +6,7 @@ use lib.ListN.{length}
 use Rattle.words.specs.Numbers.{byteAt, halfAt, wordAt}
 use Rattle.values.specs.Ends.{accepted}
 use Rattle.bytecode.specs.Macro.{Macro, readMacro}
-use Rattle.bytecode.specs.Machine.{Activation, Made, Here, Stepped}
+use Rattle.bytecode.specs.Machine.{Activation, Shared, Here, Stepped}
 use Rattle.frames.specs.Bytes.{popped, cellSet, fieldSet, entered}
 use Rattle.ops.specs.declared.Out.{Out}
 use Rattle.ops.specs.Acts.{here, Now, Told}
@@ -58,7 +58,7 @@ Entered code q l f n b k =
 -- an op that looks into the macro
 abbrev pub TellsOf : List ℕ → (Macro → Here → Stepped) → List ℕ → ℕ → ℕ → ℕ → List ℕ → Out → Type 0
 TellsOf code does l f n i k o =
-    (m : Macro) → readMacro code ≡ accepted m → (rs : List Made) (t : Activation) (fs : List Activation) → Now m l f n i rs t fs → Told (does m (here rs t fs)) k o
+    (m : Macro) → readMacro code ≡ accepted m → (rs : Shared) (t : Activation) (fs : List Activation) → Now m l f n i rs t fs → Told (does m (here rs t fs)) k o
 
 -- ── a return: an activation below finds room for the result ──
 pub record ReturnRoom (l : List ℕ) (f n : ℕ) : Type 0 where

@@ -7,6 +7,9 @@ ghost use Rattle.bytecode.specs.Machine.{doCall, doReturn};
 ghost use Rattle.ops.specs.Acts.{Room, Tells};
 ghost use Rattle.calls.specs.Moves.{TellsOf, given, CallRoom, ReturnRoom, Entered};
 use crate::moves;
+use formats::compiled::*;
+use formats::limits::*;
+use formats::state::*;
 use ops::Out;
 
 // A new activation of body b, whose record stands at q, above the top at f with n operands.
@@ -14,36 +17,39 @@ fn enter_body(code: &[u8], q: usize, s: &mut [u8], f: usize, n: usize, b: u8)
     requires { ⌜ CallRoom (now code) q (now s) f n ⌝ }
     ensures { λ _. ⌜ Entered (now (code .entry)) q (now (s .entry)) f n b (now (s .exit)) ⌝ }
 {
-    let k = s[2];
-    let i = words::half_at(code, q + 2);
-    let p = frames::wide(code[q + 4]);
-    let c = frames::wide(code[q + 6]);
-    let g = f + 328;
+    let k = s[ACTIVATION_COUNT_AT];
+    let i = words::half_at(code, q + FIRST_AT);
+    let p = frames::wide(code[q + PARAMETER_COUNT_AT]);
+    let c = frames::wide(code[q + CELL_COUNT_AT]);
+    let g = f + ACTIVATION_BYTES;
     frames::enter(s, g, k, b, i);
     moves::fill_cells(s, f, n - p, g, p);
     moves::drop_operands(s, f, n, p);
-    moves::begin_cells(code, q + 7, s, g, p, c);
+    moves::begin_cells(code, q + BODY_BYTES, s, g, p, c);
 }
+
+// The count's byte when no activation more is let in.
+const FULL: u8 = MAX_ACTIVATIONS as u8;
 
 // The 33rd activation is not let in.
 pub fn op_call(code: &[u8], q: usize, s: &mut [u8], f: usize, n: usize, i: u16, b: u8) -> Out
     requires { ⌜ (Room (now s) f n i) × (q ≡ bodyPlace (now code) b) × (b < bodies (now code)) × (given (now code) q ≤ n) × (byteAt (now s) 2 < 32 → CallRoom (now code) q (now s) f n) ⌝ }
     ensures { λ r. ⌜ TellsOf (now (code .entry)) (λ m h. doCall m b h) (now (s .entry)) f n i (now (s .exit)) r ⌝ }
 {
-    if s[2] < 32 {
+    if s[ACTIVATION_COUNT_AT] < FULL {
         enter_body(code, q, s, f, n, b);
         return Out::Goes;
     }
-    ops::op_condition(s, f, n, i, 26)
+    ops::op_condition(s, f, n, i, values::TOO_MANY_ACTIVATIONS)
 }
 
 fn return_nothing(s: &mut [u8], f: usize, n: usize, i: u16) -> Out
     requires { ⌜ (Room (now s) f n i) × (ReturnRoom (now s) f n) × (n ≡ 0) ⌝ }
     ensures { λ r. ⌜ Tells (λ m h. doReturn m h) (now (s .entry)) f n i (now (s .exit)) r ⌝ }
 {
-    let k = s[2] - 1;
-    let g = f - 328;
-    let a = words::half_at(s, g + 4);
+    let k = s[ACTIVATION_COUNT_AT] - 1;
+    let g = f - ACTIVATION_BYTES;
+    let a = words::half_at(s, g + ADDRESS_AT);
     frames::leave(s, f, k);
     frames::go_to(s, g, a + 1);
     Out::Goes
@@ -54,10 +60,10 @@ fn return_value(s: &mut [u8], f: usize, n: usize, i: u16) -> Out
     requires { ⌜ (Room (now s) f n i) × (ReturnRoom (now s) f n) × (n ≡ 1) ⌝ }
     ensures { λ r. ⌜ Tells (λ m h. doReturn m h) (now (s .entry)) f n i (now (s .exit)) r ⌝ }
 {
-    let k = s[2] - 1;
-    let g = f - 328;
-    let a = words::half_at(s, g + 4);
-    let d = frames::wide(s[g + 1]);
+    let k = s[ACTIVATION_COUNT_AT] - 1;
+    let g = f - ACTIVATION_BYTES;
+    let a = words::half_at(s, g + ADDRESS_AT);
+    let d = frames::wide(s[g + OPERAND_COUNT_AT]);
     let w = frames::operand_word(s, f, 0);
     let t = frames::operand_type(s, f, 0);
     frames::leave(s, f, k);

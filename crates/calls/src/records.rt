@@ -7,34 +7,40 @@ ghost use Rattle.bytecode.specs.Machine.{doMake, doGetField, doPutField};
 ghost use Rattle.ops.specs.Acts.{Room, Tells};
 ghost use Rattle.calls.specs.Moves.{TellsOf, MakeRoom, FieldRoom};
 use crate::moves;
+use formats::compiled::*;
+use formats::limits::*;
+use formats::state::*;
 use ops::Out;
+
+// The count when no record more is made.
+const FULL: u16 = MAX_RECORDS as u16;
 
 // The 257th record is not made. The class's record stands at q.
 pub fn op_make(code: &[u8], q: usize, s: &mut [u8], f: usize, n: usize, i: u16, c: u8) -> Out
     requires { ⌜ (Room (now s) f n i) × (q ≡ classPlace (now code) c) × (c < classes (now code)) × (c < 16) × (MakeRoom (now code) q n) ⌝ }
     ensures { λ r. ⌜ TellsOf (now (code .entry)) (λ m h. doMake m c h) (now (s .entry)) f n i (now (s .exit)) r ⌝ }
 {
-    let r = words::half_at(s, 4);
-    if 256 <= r {
-        return ops::op_condition(s, f, n, i, 27);
+    let r = words::half_at(s, RECORD_COUNT_AT);
+    if FULL <= r {
+        return ops::op_condition(s, f, n, i, values::TOO_MANY_RECORDS);
     }
-    let k = frames::wide(code[q + 2]);
+    let k = frames::wide(code[q + FIELD_COUNT_AT]);
     frames::make_record(s, r, c);
     moves::fill_fields(s, f, n - k, r as usize, k);
     moves::drop_operands(s, f, n, k);
-    frames::push(s, f, n - k, (r as u32) + 1, 16 + c);
+    frames::push(s, f, n - k, (r as u32) + 1, TYPE_CLASS + c);
     frames::go_to(s, f, i + 1);
     Out::Goes
 }
 
 pub fn op_get_field(s: &mut [u8], f: usize, n: usize, i: u16, c: u8, b: usize) -> Out
     requires { ⌜ (Room (now s) f n i) × (0 < n) × ((wordAt (now s) (f + (136 + 4 * (n - 1))) ≡ 0 → ⊥) → FieldRoom (wordAt (now s) (f + (136 + 4 * (n - 1)))) b) ⌝ }
-    ensures { λ r. ⌜ Tells (λ m h. doGetField c b h) (now (s .entry)) f n i (now (s .exit)) r ⌝ }
+    ensures { λ r. ⌜ Tells (λ m h. doGetField m c b h) (now (s .entry)) f n i (now (s .exit)) r ⌝ }
 {
     let k = n - 1;
     let r = frames::operand_word(s, f, k);
     if r == 0 {
-        return ops::op_condition(s, f, n, i, 22);
+        return ops::op_condition(s, f, n, i, values::FIELD_OF_NULL);
     }
     let x = (r as usize) - 1;
     let w = frames::field_word(s, x, b);
@@ -47,13 +53,13 @@ pub fn op_get_field(s: &mut [u8], f: usize, n: usize, i: u16, c: u8, b: usize) -
 // The value is on top of the reference.
 pub fn op_put_field(s: &mut [u8], f: usize, n: usize, i: u16, c: u8, b: usize) -> Out
     requires { ⌜ (Room (now s) f n i) × (2 ≤ n) × ((wordAt (now s) (f + (136 + 4 * (n - 2))) ≡ 0 → ⊥) → FieldRoom (wordAt (now s) (f + (136 + 4 * (n - 2)))) b) ⌝ }
-    ensures { λ r. ⌜ Tells (λ m h. doPutField c b h) (now (s .entry)) f n i (now (s .exit)) r ⌝ }
+    ensures { λ r. ⌜ Tells (λ m h. doPutField m c b h) (now (s .entry)) f n i (now (s .exit)) r ⌝ }
 {
     let k = n - 1;
     let j = n - 2;
     let r = frames::operand_word(s, f, j);
     if r == 0 {
-        return ops::op_condition(s, f, n, i, 22);
+        return ops::op_condition(s, f, n, i, values::FIELD_OF_NULL);
     }
     let w = frames::operand_word(s, f, k);
     let t = frames::operand_type(s, f, k);

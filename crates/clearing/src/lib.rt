@@ -1,4 +1,7 @@
 // Makes 0 all bytes of a run state that a sound state does not use, so that they are the state's encoding.
+use formats::compiled::*;
+use formats::state::*;
+use formats::wide;
 ghost use mathlib.Core.Path.{_≡_};
 ghost use mathlib.Core.List.{[], _∷_};
 ghost use Prim.Native.Nat.{_+_, _*_, _≤_, _<_};
@@ -10,6 +13,19 @@ ghost use Rattle.layout.specs.Cleared.{_⋯_, wipes, activationGaps, recordGaps
 ghost use Rattle.loader.specs.Lookups.{Bodied, Classed};
 ghost use Rattle.soundness.specs.Inspecting.{Held};
 ghost use Rattle.clearing.specs.Clearing.{Below, Uncleared, Encodes};
+
+// The ends of the numbers that bytes not in use stand behind.
+const AFTER_CONDITION: usize = CONDITION_AT + 1;
+
+const AFTER_ACTIVATION_COUNT: usize = ACTIVATION_COUNT_AT + 1;
+
+const AFTER_HOLD_COUNT: usize = HOLD_COUNT_AT + 2;
+
+const AFTER_OWN_HOLD_COUNT: usize = OWN_HOLD_COUNT_AT + 1;
+
+const AFTER_ADDRESS: usize = ADDRESS_AT + 2;
+
+const AFTER_CLASS: usize = 1; // a record begins with its class
 
 // The bytes from one place up to another, both counted from a base: none where the first is not before the second. So no count of
 // cells, operands, fields or holds has to be within its limit here; that the first is below 131,072 keeps the sum from overflow.
@@ -30,12 +46,17 @@ fn wipe_activation(l: &mut [u8], b: usize, cells: usize, operands: usize)
     requires { ⌜ (length (now l) ≡ 24576) × (b + 328 ≤ 24576) × (cells < 256) × (operands < 256) ⌝ }
     ensures { λ _. ⌜ now (l .exit) ≡ wipes (now (l .entry)) b (activationGaps cells operands) ⌝ }
 {
-    wipe(l, b, 3, 4);
-    wipe(l, b, 6, 8);
-    wipe(l, b, 8 + 4 * cells, 136);
-    wipe(l, b, 136 + 4 * operands, 264);
-    wipe(l, b, 264 + cells, 296);
-    wipe(l, b, 296 + operands, 328);
+    wipe(l, b, AFTER_OWN_HOLD_COUNT, ADDRESS_AT);
+    wipe(l, b, AFTER_ADDRESS, CELL_WORDS_AT);
+    wipe(l, b, CELL_WORDS_AT + WORD_BYTES * cells, OPERAND_WORDS_AT);
+    wipe(
+        l,
+        b,
+        OPERAND_WORDS_AT + WORD_BYTES * operands,
+        CELL_TYPES_AT,
+    );
+    wipe(l, b, CELL_TYPES_AT + cells, OPERAND_TYPES_AT);
+    wipe(l, b, OPERAND_TYPES_AT + operands, ACTIVATION_BYTES);
 }
 
 // The record at b, which has as many fields.
@@ -43,9 +64,9 @@ fn wipe_record(l: &mut [u8], b: usize, fields: usize)
     requires { ⌜ (length (now l) ≡ 24576) × (b + 44 ≤ 24576) × (fields < 256) ⌝ }
     ensures { λ _. ⌜ now (l .exit) ≡ wipes (now (l .entry)) b (recordGaps fields) ⌝ }
 {
-    wipe(l, b, 1, 4);
-    wipe(l, b, 4 + 4 * fields, 36);
-    wipe(l, b, 36 + fields, 44);
+    wipe(l, b, AFTER_CLASS, FIELD_WORDS_AT);
+    wipe(l, b, FIELD_WORDS_AT + WORD_BYTES * fields, FIELD_TYPES_AT);
+    wipe(l, b, FIELD_TYPES_AT + fields, RECORD_BYTES);
 }
 
 fn clear_activation(c: &[u8], bx: &[u32], l: &mut [u8], b: usize)
@@ -53,9 +74,9 @@ fn clear_activation(c: &[u8], bx: &[u32], l: &mut [u8], b: usize)
     ensures { λ _. ⌜ now (l .exit) ≡ wipes (now (l .entry)) b (activationGaps (cellCount (view (now (c .entry))) (byteAt (now (l .entry)) b)) (byteAt (now (l .entry)) (b + 1))) ⌝ }
 {
     let k = words::wide::byte_at(l, b);
-    let operands = words::wide::byte_at(l, b + 1);
+    let operands = words::wide::byte_at(l, b + OPERAND_COUNT_AT);
     let q = loader::body_at(c, bx, k);
-    let cells = words::wide::byte_at(c, q + 6);
+    let cells = words::wide::byte_at(c, q + CELL_COUNT_AT);
     wipe_activation(l, b, cells, operands);
 }
 
@@ -65,7 +86,7 @@ fn clear_record(c: &[u8], cx: &[u32], l: &mut [u8], b: usize)
 {
     let a = words::wide::byte_at(l, b);
     let q = loader::class_at(c, cx, a);
-    let fields = words::wide::byte_at(c, q + 2);
+    let fields = words::wide::byte_at(c, q + FIELD_COUNT_AT);
     wipe_record(l, b, fields);
 }
 
@@ -73,11 +94,11 @@ fn clear_activations(c: &[u8], bx: &[u32], l: &mut [u8], n: usize)
     requires { ⌜ (Bodied (now c) (now bx)) × (length (now l) ≡ 24576) × (n ≤ 32) × (Below (bodies (now c)) 328 (now l) 32 n) ⌝ }
     ensures { λ _. ⌜ now (l .exit) ≡ clearActivations (view (now (c .entry))) n 32 (now (l .entry)) ⌝ }
 {
-    let mut b: usize = 32;
+    let mut b: usize = ACTIVATIONS_AT;
     let mut left = n;
     while 0 < left {
         clear_activation(c, bx, l, b);
-        b += 328;
+        b += ACTIVATION_BYTES;
         left -= 1;
     }
 }
@@ -86,11 +107,11 @@ fn clear_records(c: &[u8], cx: &[u32], l: &mut [u8], n: usize)
     requires { ⌜ (Classed (now c) (now cx)) × (length (now l) ≡ 24576) × (n ≤ 256) × (Below (classes (now c)) 44 (now l) 11040 n) ⌝ }
     ensures { λ _. ⌜ now (l .exit) ≡ clearRecords (view (now (c .entry))) n 11040 (now (l .entry)) ⌝ }
 {
-    let mut b: usize = 11040;
+    let mut b: usize = RECORDS_AT;
     let mut left = n;
     while 0 < left {
         clear_record(c, cx, l, b);
-        b += 44;
+        b += RECORD_BYTES;
         left -= 1;
     }
 }
@@ -99,9 +120,9 @@ fn clear_header(l: &mut [u8])
     requires { ⌜ length (now l) ≡ 24576 ⌝ }
     ensures { λ _. ⌜ now (l .exit) ≡ wipes (now (l .entry)) 0 ((1 ⋯ 2) ∷ (3 ⋯ 4) ∷ (8 ⋯ 32) ∷ []) ⌝ }
 {
-    wipe(l, 0, 1, 2);
-    wipe(l, 0, 3, 4);
-    wipe(l, 0, 8, 32);
+    wipe(l, 0, CONDITION_AT, ACTIVATION_COUNT_AT);
+    wipe(l, 0, AFTER_ACTIVATION_COUNT, RECORD_COUNT_AT);
+    wipe(l, 0, AFTER_HOLD_COUNT, ACTIVATIONS_AT);
 }
 
 // The room behind n activations and behind h open holds.
@@ -109,32 +130,32 @@ fn clear_room(l: &mut [u8], n: usize, h: usize)
     requires { ⌜ (length (now l) ≡ 24576) × (n ≤ 32) × (h < 65536) ⌝ }
     ensures { λ _. ⌜ now (l .exit) ≡ wipes (now (l .entry)) 0 ((32 + 328 * n ⋯ 10528) ∷ (10528 + h ⋯ 11040) ∷ []) ⌝ }
 {
-    wipe(l, 0, 32 + 328 * n, 10528);
-    wipe(l, 0, 10528 + h, 11040);
+    wipe(l, 0, ACTIVATIONS_AT + ACTIVATION_BYTES * n, HOLDS_AT);
+    wipe(l, 0, HOLDS_AT + h, RECORDS_AT);
 }
 
 fn clear_running(c: &[u8], bx: &[u32], cx: &[u32], l: &mut [u8])
     requires { ⌜ (Bodied (now c) (now bx)) × (Classed (now c) (now cx)) × (length (now l) ≡ 24576) × (Uncleared (now c) (now l)) ⌝ }
     ensures { λ _. ⌜ now (l .exit) ≡ clearRunning (view (now (c .entry))) (byteAt (now (l .entry)) 2) (halfAt (now (l .entry)) 4) (halfAt (now (l .entry)) 6) (now (l .entry)) ⌝ }
 {
-    let n = words::wide::byte_at(l, 2);
-    let r = words::wide::half_at(l, 4);
-    let h = words::wide::half_at(l, 6);
+    let n = words::wide::byte_at(l, ACTIVATION_COUNT_AT);
+    let r = words::wide::half_at(l, RECORD_COUNT_AT);
+    let h = words::wide::half_at(l, HOLD_COUNT_AT);
     clear_header(l);
     clear_activations(c, bx, l, n);
     clear_room(l, n, h);
     clear_records(c, cx, l, r);
-    wipe(l, 0, 11040 + 44 * r, 24576);
+    wipe(l, 0, RECORDS_AT + RECORD_BYTES * r, STATE_BYTES);
 }
 
 fn clear_releasing(l: &mut [u8])
     requires { ⌜ length (now l) ≡ 24576 ⌝ }
     ensures { λ _. ⌜ now (l .exit) ≡ wipes (now (l .entry)) 0 ((2 ⋯ 6) ∷ (8 ⋯ 10528) ∷ (10528 + halfAt (now (l .entry)) 6 ⋯ 24576) ∷ []) ⌝ }
 {
-    let h = words::wide::half_at(l, 6);
-    wipe(l, 0, 2, 6);
-    wipe(l, 0, 8, 10528);
-    wipe(l, 0, 10528 + h, 24576);
+    let h = words::wide::half_at(l, HOLD_COUNT_AT);
+    wipe(l, 0, ACTIVATION_COUNT_AT, HOLD_COUNT_AT);
+    wipe(l, 0, AFTER_HOLD_COUNT, HOLDS_AT);
+    wipe(l, 0, HOLDS_AT + h, STATE_BYTES);
 }
 
 // The bytes, which hold a sound state of the macro, become that state's encoding.
@@ -142,14 +163,14 @@ pub fn clear(c: &[u8], bx: &[u32], cx: &[u32], l: &mut [u8])
     requires { ⌜ (Held (now c) (now l)) × (Bodied (now c) (now bx)) × (Classed (now c) (now cx)) ⌝ }
     ensures { λ _. ⌜ Encodes (now (c .entry)) (now (l .entry)) (now (l .exit)) ⌝ }
 {
-    let phase = words::wide::byte_at(l, 0);
-    if phase == 0 {
+    let phase = words::wide::byte_at(l, PHASE_AT);
+    if phase == wide::RUNNING {
         clear_running(c, bx, cx, l);
         return;
     }
-    if phase == 1 {
+    if phase == wide::RELEASING {
         clear_releasing(l);
         return;
     }
-    wipe(l, 0, 2, 24576);
+    wipe(l, 0, AFTER_CONDITION, STATE_BYTES);
 }

@@ -1,6 +1,9 @@
 // Compiles a table: the check, what its definitions stand for, a dry walk that finds the places of its code and the length of its macro
 // (refusal 7), and the walk that writes it.
 use compile_pen::Pen;
+use formats::compiled::*;
+use formats::entries::*;
+use formats::limits::*;
 use table::Checked;
 ghost use mathlib.Core.Path.{_≡_};
 ghost use Prim.Native.Nat.{_≤_};
@@ -64,8 +67,8 @@ fn write(
         pen(0, 0, true),
     );
     let front = compile_heads::length(table, classes, bodies);
-    let shapes = front + 8 * dry.address;
-    let length = shapes + dry.sh + 2;
+    let shapes = front + CODE_BYTES * dry.address;
+    let length = shapes + dry.sh + END_BYTES;
     if out.len() < length {
         return Compiled::Refused(7, 0);
     }
@@ -96,8 +99,8 @@ fn write(
         out,
         pen(front, shapes, false),
     );
-    out[length - 2] = 90;
-    out[length - 1] = 90;
+    out[length - END_BYTES] = b'Z';
+    out[length - 1] = b'Z';
     Compiled::Done(length)
 }
 
@@ -115,12 +118,12 @@ fn compile_in(
     ensures { λ r. ⌜ compileOn macroOf (now (table .entry)) (now (out .entry)) ≡ record { verdict = verdictOf r; bytes = now (out .exit) } ⌝ }
 {
     spans::measure(table, sizes);
-    let count = words::half_at(table, 2) as usize;
-    let items = words::word_at(table, 4) as usize;
+    let count = words::half_at(table, A_AT) as usize;
+    let items = words::word_at(table, B_AT) as usize;
     let after = 1 + spans::spanned(table, sizes, 1, count);
     let top = heads::enter_root(table, count, after, items, sizes, env);
     let n = compile_known::number_all(table, count, sizes, known);
-    let mut stack = [0u8; 32];
+    let mut stack = [0u8; MAX_OPERANDS];
     write(
         table,
         count,

@@ -1,5 +1,8 @@
 // The code of the root and of the procedures, one after the other.
 use compile_pen::Pen;
+use formats::compiled::*;
+use formats::entries::*;
+use formats::limits::*;
 ghost use mathlib.Core.Path.{_≡_};
 ghost use mathlib.Core.Bool.{true};
 ghost use Prim.Native.Nat.{_≤_};
@@ -31,7 +34,7 @@ fn declare_globals(
     let mut left = count;
     let mut p = pen;
     while 0 < left {
-        let from = 8 * place;
+        let from = ENTRY_BYTES * place;
         let k = compile_known::known_at(known, place);
         p = compile_own::declare_one(&table[from..], k, out, p);
         place += spans::size_at(sizes, place);
@@ -43,7 +46,7 @@ fn declare_globals(
 fn holds_of(kind: u16) -> usize
     ensures { λ r. ⌜ r ≡ holdsOf kind ⌝ }
 {
-    if kind == 14 { 1 } else { 0 }
+    if kind == KIND_HOLD { 1 } else { 0 }
 }
 
 // How many of them are holds.
@@ -80,15 +83,15 @@ fn root(
     requires { ⌜ AsksRoot (now table) count after (now sizes) (lentOf (now env) (now ends) (now stack) (now out)) top (now known) (now aims) pen ⌝ }
     ensures { λ r. ⌜ AnswersRoot (now (table .entry)) (lentOf (now (env .entry)) (now (ends .entry)) (now (stack .entry)) (now (out .entry))) (lentOf (now (env .exit)) (now (ends .exit)) (now (stack .exit)) (now (out .exit))) top pen r ⌝ }
 {
-    let items = words::word_at(table, 4) as usize;
+    let items = words::word_at(table, B_AT) as usize;
     let held = root_holds(table, count, sizes);
     let p = declare_globals(table, count, sizes, known, out, pen);
-    let from = 8 * after;
+    let from = ENTRY_BYTES * after;
     let q = compile_walk::items(
         table,
         &table[from..],
         items,
-        63,
+        BELOW_ROOT,
         after,
         sizes,
         env,
@@ -103,7 +106,7 @@ fn root(
         p,
     );
     let r = compile_pen::releases(out, q, held);
-    compile_own::finish(ends, 0, compile_pen::emit(out, r, 0, 0, 0))
+    compile_own::finish(ends, 0, compile_pen::emit(out, r, OP_END, 0, 0))
 }
 
 // A procedure: its parameters' names behind a wall, its body, and the return.
@@ -124,16 +127,16 @@ fn procedure(
     requires { ⌜ AsksProc (now table) (now part) at (now sizes) (now env) top (now known) (now aims) (now ends) (now stack) (now out) pen ⌝ }
     ensures { λ r. ⌜ AnswersProc (now (table .entry)) (now (part .entry)) at (now (sizes .entry)) (lentOf (now (env .entry)) (now (ends .entry)) (now (stack .entry)) (now (out .entry))) (lentOf (now (env .exit)) (now (ends .exit)) (now (stack .exit)) (now (out .exit))) top (now (known .entry)) (now (aims .entry)) pen r ⌝ }
 {
-    let heading = words::word_at(part, 4);
+    let heading = words::word_at(part, B_AT);
     let parameters = heading as usize / 256;
     scopes::push(env, top, 65537, 0, 0, 0);
     let up = heads::add_head(table, at + 1, parameters, 4, env, top + 1);
-    let from = 8 * (1 + parameters);
+    let from = ENTRY_BYTES * (1 + parameters);
     if heading % 256 == 0 {
         let p = compile_walk::statement(
             table,
             &part[from..],
-            62,
+            BELOW_HEAD,
             at + 1 + parameters,
             sizes,
             env,
@@ -147,12 +150,12 @@ fn procedure(
             out,
             pen,
         );
-        return compile_own::finish(ends, at, compile_pen::emit(out, p, 11, 0, 0));
+        return compile_own::finish(ends, at, compile_pen::emit(out, p, OP_RETURN, 0, 0));
     }
     let p = compile_walk::expression(
         table,
         &part[from..],
-        62,
+        BELOW_HEAD,
         at + 1 + parameters,
         sizes,
         env,
@@ -166,7 +169,7 @@ fn procedure(
         out,
         pen,
     );
-    compile_own::finish(ends, at, compile_pen::emit(out, p, 11, 0, 0))
+    compile_own::finish(ends, at, compile_pen::emit(out, p, OP_RETURN, 0, 0))
 }
 
 // A declaration of the root: only a procedure has code of its own.
@@ -187,7 +190,7 @@ fn global(
     requires { ⌜ AsksGlobal (now table) (now part) at (now sizes) (lentOf (now env) (now ends) (now stack) (now out)) top (now known) (now aims) pen ⌝ }
     ensures { λ r. ⌜ AnswersGlobal (now (table .entry)) (now (part .entry)) at (now (sizes .entry)) (lentOf (now (env .entry)) (now (ends .entry)) (now (stack .entry)) (now (out .entry))) (lentOf (now (env .exit)) (now (ends .exit)) (now (stack .exit)) (now (out .exit))) top (now (known .entry)) (now (aims .entry)) pen r ⌝ }
 {
-    if words::half_at(part, 0) == 12 {
+    if words::half_at(part, KIND_AT) == KIND_PROCEDURE {
         return procedure(
             table,
             part,
@@ -226,7 +229,7 @@ fn procedures(
     let mut left = count;
     let mut p = pen;
     while 0 < left {
-        let from = 8 * place;
+        let from = ENTRY_BYTES * place;
         p = global(
             table,
             &table[from..],

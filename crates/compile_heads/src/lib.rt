@@ -1,4 +1,6 @@
 // The front of a macro: HD, the CL records and the BD records.
+use formats::compiled::*;
+use formats::entries::*;
 ghost use mathlib.Core.Path.{_≡_};
 ghost use mathlib.Core.List.{_∷_, _++_};
 ghost use Prim.Native.Nat.{_+_, _-_, _*_, _/_, _%_, _≤_, _<_};
@@ -35,7 +37,10 @@ pub fn length(table: &[u8], classes: usize, bodies: usize) -> usize
     requires { ⌜ ((t : Tree) × Measuring t (now table) classes bodies) ⌝ }
     ensures { λ r. ⌜ ((t : Tree) → Measuring t (now (table .entry)) classes bodies → r ≡ length (front (compiled t))) ⌝ }
 {
-    8 + 3 * classes + 7 * bodies + typed_in(table, 0, table.len() / 8)
+    HEAD_BYTES
+        + CLASS_BYTES * classes
+        + BODY_BYTES * bodies
+        + typed_in(table, 0, table.len() / ENTRY_BYTES)
 }
 
 // ── types ──
@@ -85,10 +90,10 @@ fn put_class(
     requires { ⌜ TypesKnown (now table) (now known) × (place < end) × (end ≤ length (now table) / 8) × (end ≤ place + 256) × (at + (3 + length (typesBetween (now table) (place + 1) end)) ≤ length (now out)) ⌝ }
     ensures { λ r. ⌜ Wrote (now (out .entry)) at (67 ∷ 76 ∷ (end - (place + 1)) ∷ typesBetween (now (table .entry)) (place + 1) end) (now (out .exit)) r ⌝ }
 {
-    out[at] = 67;
-    out[at + 1] = 76;
-    out[at + 2] = (end - (place + 1)) as u8;
-    put_types(table, place + 1, end, known, out, at + 3)
+    out[at] = b'C';
+    out[at + 1] = b'L';
+    out[at + FIELD_COUNT_AT] = (end - (place + 1)) as u8;
+    put_types(table, place + 1, end, known, out, at + CLASS_BYTES)
 }
 
 // A declaration of the root, if it is a class.
@@ -103,7 +108,7 @@ fn put_if_class(
     requires { ⌜ TypesKnown (now table) (now known) × Within (now table) (now sizes) place × (halfAt (now table) (8 * place) ≡ 11 → getD (now sizes) place 0 ≤ 256) × (at + length (classAt (now table) (now sizes) place) ≤ length (now out)) ⌝ }
     ensures { λ r. ⌜ Wrote (now (out .entry)) at (classAt (now (table .entry)) (now (sizes .entry)) place) (now (out .exit)) r ⌝ }
 {
-    if spans::kind_at(table, place) == 11 {
+    if spans::kind_at(table, place) == KIND_CLASS {
         let end = place + spans::size_at(sizes, place);
         return put_class(table, place, end, known, out, at);
     }
@@ -138,12 +143,12 @@ fn put_body(out: &mut [u8], at: usize, first: u16, parameters: u8, result: u8, c
     requires { ⌜ at + 7 ≤ length (now out) ⌝ }
     ensures { λ _. ⌜ now (out .exit) ≡ sets (now (out .entry)) at (bodyHead first parameters result cells) ⌝ }
 {
-    out[at] = 66;
-    out[at + 1] = 68;
-    words::put_half(out, at + 2, first);
-    out[at + 4] = parameters;
-    out[at + 5] = result;
-    out[at + 6] = cells;
+    out[at] = b'B';
+    out[at + 1] = b'D';
+    words::put_half(out, at + FIRST_AT, first);
+    out[at + PARAMETER_COUNT_AT] = parameters;
+    out[at + RESULT_AT] = result;
+    out[at + CELL_COUNT_AT] = cells;
 }
 
 // The types of the root's variables.
@@ -182,9 +187,9 @@ fn put_root(
     requires { ⌜ Headed (now table) (now sizes) count × TypesKnown (now table) (now known) × (after ≡ afterHead (now table)) × (length (rootTypes (now table)) ≤ 255) × (at + (7 + length (rootTypes (now table))) ≤ length (now out)) ⌝ }
     ensures { λ r. ⌜ Wrote (now (out .entry)) at (bodyOf 0 0 0 (rootTypes (now (table .entry)))) (now (out .exit)) r ⌝ }
 {
-    let types = put_variables(table, count, sizes, known, out, at + 7);
-    let end = put_types(table, after, table.len() / 8, known, out, types);
-    put_body(out, at, 0, 0, 0, (end - at - 7) as u8);
+    let types = put_variables(table, count, sizes, known, out, at + BODY_BYTES);
+    let end = put_types(table, after, table.len() / ENTRY_BYTES, known, out, types);
+    put_body(out, at, 0, 0, 0, (end - at - BODY_BYTES) as u8);
     end
 }
 
@@ -202,14 +207,14 @@ fn put_procedure(
     ensures { λ r. ⌜ Wrote (now (out .entry)) at (bodyOf first (wordAt (now (table .entry)) (8 * place + 4) / 256) (wordAt (now (table .entry)) (8 * place + 4) % 256) (typesBetween (now (table .entry)) (place + 1) end)) (now (out .exit)) r ⌝ }
 {
     let heading = spans::b_at(table, place);
-    let last = put_types(table, place + 1, end, known, out, at + 7);
+    let last = put_types(table, place + 1, end, known, out, at + BODY_BYTES);
     put_body(
         out,
         at,
         first,
         (heading / 256) as u8,
         (heading % 256) as u8,
-        (last - at - 7) as u8,
+        (last - at - BODY_BYTES) as u8,
     );
     last
 }
@@ -227,7 +232,7 @@ fn put_if_procedure(
     requires { ⌜ TypesKnown (now table) (now known) × Within (now table) (now sizes) place × (halfAt (now table) (8 * place) ≡ 12 → Brief (now table) (partAt (now table) (now sizes) place)) × (at + length (bodyAt (now table) (now sizes) place first) ≤ length (now out)) ⌝ }
     ensures { λ r. ⌜ Wrote (now (out .entry)) at (bodyAt (now (table .entry)) (now (sizes .entry)) place first) (now (out .exit)) r ⌝ }
 {
-    if spans::kind_at(table, place) == 12 {
+    if spans::kind_at(table, place) == KIND_PROCEDURE {
         let end = place + spans::size_at(sizes, place);
         return put_procedure(table, place, end, first, known, out, at);
     }
@@ -239,7 +244,7 @@ fn next_first(table: &[u8], place: usize, ends: &[u16], first: u16) -> u16
     requires { ⌜ (place < length (now table) / 8) × (place < length (now ends)) ⌝ }
     ensures { λ r. ⌜ r ≡ firstAfter (halfAt (now (table .entry)) (8 * place)) (getD (now (ends .entry)) place 0) first ⌝ }
 {
-    if spans::kind_at(table, place) == 12 {
+    if spans::kind_at(table, place) == KIND_PROCEDURE {
         ends[place]
     } else {
         first
@@ -278,12 +283,12 @@ fn put_header(out: &mut [u8], classes: u8, bodies: u8, instructions: u16, shapes
     requires { ⌜ 8 ≤ length (now out) ⌝ }
     ensures { λ _. ⌜ now (out .exit) ≡ sets (now (out .entry)) 0 (72 ∷ 68 ∷ classes ∷ bodies ∷ (half instructions ++ half shapes)) ⌝ }
 {
-    out[0] = 72;
-    out[1] = 68;
-    out[2] = classes;
-    out[3] = bodies;
-    words::put_half(out, 4, instructions);
-    words::put_half(out, 6, shapes);
+    out[0] = b'H';
+    out[1] = b'D';
+    out[CLASS_COUNT_AT] = classes;
+    out[BODY_COUNT_AT] = bodies;
+    words::put_half(out, CODE_COUNT_AT, instructions);
+    words::put_half(out, SHAPE_COUNT_AT, shapes);
 }
 
 // The whole front; where the code begins.
@@ -310,7 +315,7 @@ pub fn put(
         instructions as u16,
         shapes as u16,
     );
-    let root = put_classes(table, count, sizes, known, out, 8);
+    let root = put_classes(table, count, sizes, known, out, HEAD_BYTES);
     let procedures = put_root(table, count, after, sizes, known, out, root);
     put_procedures(table, count, sizes, known, ends, out, procedures)
 }

@@ -2,6 +2,7 @@
 // second operand of the instructions that use it. A variable: whose cell (1: the root's), and the cell. A field: its class, and its
 // index. A class: its number, and as its type that of a reference to it. A procedure: its body, and the type of its result. A case has
 // a cell, too. Any other entry: 0.
+use formats::entries::*;
 use scopes::Found;
 ghost use mathlib.Core.Path.{_≡_};
 ghost use Prim.Native.Nat.{_+_, _*_, _/_, _≤_, _<_};
@@ -68,7 +69,7 @@ fn names_class(table: &[u8], place: usize, name: u32) -> bool
     requires { ⌜ place < length (now table) / 8 ⌝ }
     ensures { λ r. ⌜ r ≡ namesClass name (entryAt (now (table .entry)) place) ⌝ }
 {
-    if spans::kind_at(table, place) == 11 {
+    if spans::kind_at(table, place) == KIND_CLASS {
         spans::a_at(table, place) as u32 == name
     } else {
         false
@@ -94,7 +95,7 @@ fn class_number(table: &[u8], count: usize, sizes: &[u16], name: u32) -> usize
         if names_class(table, place, name) {
             return n;
         }
-        n += one_if(spans::kind_at(table, place), 11);
+        n += one_if(spans::kind_at(table, place), KIND_CLASS);
         place += spans::size_at(sizes, place);
         left -= 1;
     }
@@ -128,12 +129,12 @@ fn entry_known(
 {
     let kind = spans::kind_at(table, place);
     match kind {
-        10 => pack(
+        KIND_DECLARE => pack(
             type_byte(table, count, sizes, spans::b_at(table, place)),
             owner as u32,
             cell as u32,
         ),
-        30 => pack(1, 0, cell as u32),
+        KIND_CASE => pack(1, 0, cell as u32),
         _ => 0,
     }
 }
@@ -142,8 +143,8 @@ pub fn cells_of(kind: u16) -> usize
     ensures { λ r. ⌜ r ≡ cellsOfKind kind ⌝ }
 {
     match kind {
-        10 => 1,
-        30 => 1,
+        KIND_DECLARE => 1,
+        KIND_CASE => 1,
         _ => 0,
     }
 }
@@ -187,8 +188,8 @@ fn counted(kind: u16, n: Numbers) -> Numbers
 {
     Numbers {
         cells: n.cells + cells_of(kind),
-        classes: n.classes + one_if(kind, 11),
-        bodies: n.bodies + one_if(kind, 12),
+        classes: n.classes + one_if(kind, KIND_CLASS),
+        bodies: n.bodies + one_if(kind, KIND_PROCEDURE),
     }
 }
 
@@ -207,12 +208,12 @@ fn number_global(
     let end = place + spans::size_at(sizes, place);
     let kind = spans::kind_at(table, place);
     match kind {
-        11 => {
+        KIND_CLASS => {
             let class = n.classes;
             known[place] = pack(16 + class as u32, class as u32, 0);
             number_cells(table, count, sizes, place + 1, end, class, 0, known);
         }
-        12 => {
+        KIND_PROCEDURE => {
             known[place] = pack(spans::b_at(table, place) % 256, 0, n.bodies as u32);
             number_cells(table, count, sizes, place + 1, end, 0, 0, known);
         }
@@ -245,7 +246,7 @@ pub fn number_all(table: &[u8], count: usize, sizes: &[u16], known: &mut [u32]) 
         count,
         sizes,
         place,
-        table.len() / 8,
+        table.len() / ENTRY_BYTES,
         0,
         n.cells,
         known,

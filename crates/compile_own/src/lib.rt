@@ -1,5 +1,7 @@
 // What entries add themselves to the code of their operands: their instructions and shapes, and the types of their results.
 use compile_pen::Pen;
+use formats::compiled::*;
+use formats::entries::*;
 ghost use mathlib.Core.Path.{_≡_};
 ghost use Prim.Native.Nat.{_+_, _*_, _≤_, _<_};
 ghost use lib.ListN.{length, getD, take, set};
@@ -39,12 +41,12 @@ fn names(kind: u16) -> bool
     ensures { λ r. ⌜ r ≡ names kind ⌝ }
 {
     match kind {
-        27 => true,
-        43 => true,
-        44 => true,
-        45 => true,
-        46 => true,
-        47 => true,
+        KIND_CALL => true,
+        KIND_NULL => true,
+        KIND_VARIABLE => true,
+        KIND_FUNCTION => true,
+        KIND_FIELD => true,
+        KIND_RECORD => true,
         _ => false,
     }
 }
@@ -78,11 +80,17 @@ pub fn leaf(kind: u16, b: u32, known: u32, out: &mut [u8], p: Pen) -> Pen
     ensures { λ r. ⌜ (r ≡ moved p) × (now (out .exit) ≡ inkLeaf kind b known p (now (out .entry))) ⌝ }
 {
     match kind {
-        40 => compile_pen::emit(out, p, 1, 0, b),
-        41 => compile_pen::emit(out, p, 2, 0, b),
-        42 => compile_pen::emit(out, p, 3, 0, b),
-        43 => compile_pen::emit(out, p, 4, compile_known::first_in(known), 0),
-        _ => compile_pen::emit(out, p, 5, owner(p, known), compile_known::second_in(known)),
+        KIND_INTEGER => compile_pen::emit(out, p, OP_INTEGER, 0, b),
+        KIND_LOGICAL => compile_pen::emit(out, p, OP_LOGICAL, 0, b),
+        KIND_BITS => compile_pen::emit(out, p, OP_BITS, 0, b),
+        KIND_NULL => compile_pen::emit(out, p, OP_NULL, compile_known::first_in(known), 0),
+        _ => compile_pen::emit(
+            out,
+            p,
+            OP_LOAD,
+            owner(p, known),
+            compile_known::second_in(known),
+        ),
     }
 }
 
@@ -90,9 +98,9 @@ pub fn leaf_type(kind: u16, known: u32) -> u8
     ensures { λ r. ⌜ r ≡ leafType kind known ⌝ }
 {
     match kind {
-        40 => 1,
-        41 => 2,
-        42 => 3,
+        KIND_INTEGER => TYPE_INTEGER,
+        KIND_LOGICAL => TYPE_LOGICAL,
+        KIND_BITS => TYPE_BITS,
         _ => compile_known::type_in(known),
     }
 }
@@ -102,14 +110,14 @@ pub fn operands_of(kind: u16, b: u32) -> usize
     ensures { λ r. ⌜ r ≡ operandsBy kind b ⌝ }
 {
     match kind {
-        26 => 1,
-        27 => b as usize,
-        28 => 2,
-        45 => b as usize,
-        46 => 1,
-        47 => b as usize,
-        48 => 1,
-        51 => 1,
+        KIND_ASSERT => 1,
+        KIND_CALL => b as usize,
+        KIND_SET => 2,
+        KIND_FUNCTION => b as usize,
+        KIND_FIELD => 1,
+        KIND_RECORD => b as usize,
+        KIND_UNARY => 1,
+        KIND_FADER => 1,
         _ => 0,
     }
 }
@@ -122,14 +130,14 @@ pub fn last(kind: u16, a: u16, known: u32, out: &mut [u8], p: Pen) -> Pen
     let first = compile_known::first_in(known);
     let second = compile_known::second_in(known);
     match kind {
-        26 => compile_pen::emit(out, p, 19, 0, 0),
-        27 => compile_pen::emit(out, p, 10, 0, second),
-        28 => compile_pen::emit(out, p, 15, 0, 0),
-        45 => compile_pen::emit(out, p, 10, 0, second),
-        46 => compile_pen::emit(out, p, 13, first, second),
-        47 => compile_pen::emit(out, p, 12, first, 0),
-        48 => compile_pen::emit(out, p, 7, (a % 256) as u8, 0),
-        _ => compile_pen::emit(out, p, 16, 0, 0),
+        KIND_ASSERT => compile_pen::emit(out, p, OP_ASSERT, 0, 0),
+        KIND_CALL => compile_pen::emit(out, p, OP_CALL, 0, second),
+        KIND_SET => compile_pen::emit(out, p, OP_SET, 0, 0),
+        KIND_FUNCTION => compile_pen::emit(out, p, OP_CALL, 0, second),
+        KIND_FIELD => compile_pen::emit(out, p, OP_GET_FIELD, first, second),
+        KIND_RECORD => compile_pen::emit(out, p, OP_MAKE, first, 0),
+        KIND_UNARY => compile_pen::emit(out, p, OP_OPERATOR, (a % 256) as u8, 0),
+        _ => compile_pen::emit(out, p, OP_FADER, 0, 0),
     }
 }
 
@@ -138,11 +146,11 @@ pub fn last_type(kind: u16, a: u16, known: u32, first: u8) -> u8
     ensures { λ r. ⌜ r ≡ lastType kind a known first ⌝ }
 {
     match kind {
-        45 => compile_known::type_in(known),
-        46 => compile_known::type_in(known),
-        47 => compile_known::type_in(known),
-        48 => if a == 22 { first } else { 1 },
-        _ => 1,
+        KIND_FUNCTION => compile_known::type_in(known),
+        KIND_FIELD => compile_known::type_in(known),
+        KIND_RECORD => compile_known::type_in(known),
+        KIND_UNARY => if a == 22 { first } else { TYPE_INTEGER },
+        _ => TYPE_INTEGER,
     }
 }
 
@@ -152,10 +160,10 @@ fn initial(ty: u8, out: &mut [u8], p: Pen) -> Pen
     requires { ⌜ Fits (moved p) (length (now out)) ⌝ }
     ensures { λ r. ⌜ (r ≡ moved p) × (now (out .exit) ≡ inkInitial ty p (now (out .entry))) ⌝ }
 {
-    if ty < 16 {
+    if ty < TYPE_CLASS {
         compile_pen::emit(out, p, ty, 0, 0)
     } else {
-        compile_pen::emit(out, p, 4, ty - 16, 0)
+        compile_pen::emit(out, p, OP_NULL, ty - TYPE_CLASS, 0)
     }
 }
 
@@ -164,13 +172,13 @@ pub fn declare_one(part: &[u8], known: u32, out: &mut [u8], p: Pen) -> Pen
     requires { ⌜ (8 ≤ length (now part)) × Fits (penDeclared (halfAt (now part) 0) p) (length (now out)) ⌝ }
     ensures { λ r. ⌜ (r ≡ penDeclared (halfAt (now (part .entry)) 0) p) × (now (out .exit) ≡ inkDeclared (halfAt (now (part .entry)) 0) (halfAt (now (part .entry)) 2) known p (now (out .entry))) ⌝ }
 {
-    let kind = words::half_at(part, 0);
+    let kind = words::half_at(part, KIND_AT);
     match kind {
-        10 => {
+        KIND_DECLARE => {
             let q = initial(compile_known::type_in(known), out, p);
-            compile_pen::emit(out, q, 6, 0, compile_known::second_in(known))
+            compile_pen::emit(out, q, OP_STORE, 0, compile_known::second_in(known))
         }
-        14 => compile_pen::emit(out, p, 17, 0, words::half_at(part, 2) as u32),
+        KIND_HOLD => compile_pen::emit(out, p, OP_HOLD, 0, words::half_at(part, A_AT) as u32),
         _ => p,
     }
 }
@@ -191,7 +199,7 @@ pub fn declare(
     let mut i = 0;
     let mut p = pen;
     while i < count {
-        let from = 8 * i;
+        let from = ENTRY_BYTES * i;
         let k = compile_known::known_at(known, at + i);
         p = finish(ends, at + i, declare_one(&part[from..], k, out, p));
         i += 1;
@@ -203,7 +211,7 @@ pub fn declare(
 fn holds_by(kind: u16) -> usize
     ensures { λ r. ⌜ r ≡ holdsBy kind ⌝ }
 {
-    if kind == 14 { 1 } else { 0 }
+    if kind == KIND_HOLD { 1 } else { 0 }
 }
 
 // How many holds a head takes.
@@ -214,7 +222,7 @@ pub fn holds_in(part: &[u8], count: usize) -> usize
     let mut i = 0;
     let mut n = 0;
     while i < count {
-        n += holds_by(words::half_at(part, 8 * i));
+        n += holds_by(words::half_at(part, ENTRY_BYTES * i));
         i += 1;
     }
     n
@@ -283,7 +291,7 @@ pub fn goto(
 {
     let l = land(env, top, name as u32, aims);
     let p = compile_pen::releases(out, pen, l.passed);
-    let q = compile_pen::emit(out, p, 8, 0, l.address);
+    let q = compile_pen::emit(out, p, OP_GO, 0, l.address);
     compile_pen::shape(out, q, holds, stack, depth)
 }
 
@@ -293,8 +301,8 @@ pub fn way_of(operator: u16, first: u8) -> u8
     ensures { λ r. ⌜ r ≡ wayBy operator first ⌝ }
 {
     match operator {
-        12 => if first == 2 { 2 } else { 1 },
-        13 => if first == 2 { 3 } else { 1 },
+        12 => if first == TYPE_LOGICAL { 2 } else { 1 },
+        13 => if first == TYPE_LOGICAL { 3 } else { 1 },
         _ => 0,
     }
 }
@@ -322,12 +330,12 @@ pub fn between(
     match way {
         0 => p,
         1 => compile_pen::shape(out, p, holds, stack, depth + 1),
-        2 => compile_pen::emit(out, p, 9, 0, end + 1),
+        2 => compile_pen::emit(out, p, OP_UNLESS, 0, end + 1),
         _ => {
             let landing = p.address as u32 + 3;
-            let q = compile_pen::emit(out, p, 9, 0, landing);
-            let r = compile_pen::emit(out, q, 2, 0, 1);
-            let s = compile_pen::emit(out, r, 8, 0, end);
+            let q = compile_pen::emit(out, p, OP_UNLESS, 0, landing);
+            let r = compile_pen::emit(out, q, OP_LOGICAL, 0, 1);
+            let s = compile_pen::emit(out, r, OP_GO, 0, end);
             compile_pen::shape(out, s, holds, stack, depth)
         }
     }
@@ -349,13 +357,13 @@ pub fn behind(
 {
     match way {
         2 => {
-            let q = compile_pen::emit(out, p, 8, 0, end + 2);
+            let q = compile_pen::emit(out, p, OP_GO, 0, end + 2);
             let r = compile_pen::shape(out, q, holds, stack, depth);
-            let s = compile_pen::emit(out, r, 2, 0, 0);
+            let s = compile_pen::emit(out, r, OP_LOGICAL, 0, 0);
             compile_pen::shape(out, s, holds, stack, depth + 1)
         }
         3 => compile_pen::shape(out, p, holds, stack, depth + 1),
-        _ => compile_pen::emit(out, p, 7, (operator % 256) as u8, 0),
+        _ => compile_pen::emit(out, p, OP_OPERATOR, (operator % 256) as u8, 0),
     }
 }
 
@@ -364,9 +372,9 @@ pub fn pair_type(operator: u16, first: u8) -> u8
     ensures { λ r. ⌜ r ≡ pairType operator first ⌝ }
 {
     if operator < 6 {
-        return 1;
+        return TYPE_INTEGER;
     }
-    if operator < 12 { 2 } else { first }
+    if operator < 12 { TYPE_LOGICAL } else { first }
 }
 
 // ── cases ──
@@ -375,10 +383,10 @@ pub fn before_arm(cell: u32, i: usize, end: u32, out: &mut [u8], p: Pen) -> Pen
     requires { ⌜ (i < 65536) × (end < 65536) × Fits (penBefore p) (length (now out)) ⌝ }
     ensures { λ r. ⌜ (r ≡ penBefore p) × (now (out .exit) ≡ inkBefore cell i end p (now (out .entry))) ⌝ }
 {
-    let q = compile_pen::emit(out, p, 5, 0, cell);
-    let r = compile_pen::emit(out, q, 1, 0, i as u32 + 1);
-    let s = compile_pen::emit(out, r, 7, 10, 0);
-    compile_pen::emit(out, s, 9, 0, end + 1)
+    let q = compile_pen::emit(out, p, OP_LOAD, 0, cell);
+    let r = compile_pen::emit(out, q, OP_INTEGER, 0, i as u32 + 1);
+    let s = compile_pen::emit(out, r, OP_OPERATOR, 10, 0);
+    compile_pen::emit(out, s, OP_UNLESS, 0, end + 1)
 }
 
 // Behind it; `end` is where the case ends.
@@ -386,6 +394,6 @@ pub fn after_arm(end: u32, holds: usize, stack: &[u8], depth: usize, out: &mut [
     requires { ⌜ (depth ≤ length (now stack)) × (depth < 256) × (holds < 256) × Fits (penBehindArm depth p) (length (now out)) ⌝ }
     ensures { λ r. ⌜ (r ≡ penBehindArm depth p) × (now (out .exit) ≡ inkBehindArm end holds (now (stack .entry)) depth p (now (out .entry))) ⌝ }
 {
-    let q = compile_pen::emit(out, p, 8, 0, end);
+    let q = compile_pen::emit(out, p, OP_GO, 0, end);
     compile_pen::shape(out, q, holds, stack, depth)
 }

@@ -1,4 +1,5 @@
 // The pen: where the next instruction and the next shape go in the output. A dry pen writes nothing: it only counts, so that one walk serves to measure and to write.
+use formats::compiled::*;
 ghost use mathlib.Core.Path.{_≡_};
 ghost use mathlib.Core.Bool.{true, false};
 ghost use Prim.Native.Nat.{_+_, _≤_, _<_};
@@ -26,11 +27,11 @@ fn put_instruction(out: &mut [u8], at: usize, op: u8, a: u8, b: u32)
     requires { ⌜ at + 8 ≤ length (now out) ⌝ }
     ensures { λ _. ⌜ now (out .exit) ≡ sets (now (out .entry)) at (instruction op a b) ⌝ }
 {
-    out[at] = 73;
-    out[at + 1] = 78;
-    out[at + 2] = op;
-    out[at + 3] = a;
-    words::put_word(out, at + 4, b);
+    out[at] = b'I';
+    out[at + 1] = b'N';
+    out[at + CODE_OP_AT] = op;
+    out[at + CODE_A_AT] = a;
+    words::put_word(out, at + CODE_B_AT, b);
 }
 
 pub fn emit(out: &mut [u8], p: Pen, op: u8, a: u8, b: u32) -> Pen
@@ -43,7 +44,7 @@ pub fn emit(out: &mut [u8], p: Pen, op: u8, a: u8, b: u32) -> Pen
         put_instruction(out, at, op, a, b);
     }
     Pen {
-        at: at + 8,
+        at: at + CODE_BYTES,
         address: p.address + 1,
         sh: p.sh,
         shapes: p.shapes,
@@ -61,7 +62,7 @@ pub fn releases(out: &mut [u8], pen: Pen, count: usize) -> Pen
     let mut left = count;
     let mut p = pen;
     while 0 < left {
-        p = emit(out, p, 18, 0, 0);
+        p = emit(out, p, OP_RELEASE, 0, 0);
         left -= 1;
     }
     p
@@ -82,12 +83,12 @@ fn put_shape(out: &mut [u8], at: usize, address: u16, holds: u8, stack: &[u8], d
     requires { ⌜ (depth ≤ length (now stack)) × (at + 6 + depth ≤ length (now out)) ⌝ }
     ensures { λ _. ⌜ now (out .exit) ≡ sets (now (out .entry)) at (shapeRecord address holds depth (take depth (now (stack .entry)))) ⌝ }
 {
-    out[at] = 83;
-    out[at + 1] = 72;
-    words::put_half(out, at + 2, address);
-    out[at + 4] = holds;
-    out[at + 5] = depth;
-    copy(stack, depth as usize, out, at + 6);
+    out[at] = b'S';
+    out[at + 1] = b'H';
+    words::put_half(out, at + SHAPE_ADDRESS_AT, address);
+    out[at + SHAPE_HOLDS_AT] = holds;
+    out[at + SHAPE_DEPTH_AT] = depth;
+    copy(stack, depth as usize, out, at + SHAPE_BYTES);
 }
 
 // What is found at the next address: so many holds, and the operands whose types the stack begins with.
@@ -104,7 +105,7 @@ pub fn shape(out: &mut [u8], p: Pen, holds: usize, stack: &[u8], depth: usize) -
     Pen {
         at: p.at,
         address: p.address,
-        sh: p.sh + 6 + depth,
+        sh: p.sh + SHAPE_BYTES + depth,
         shapes: p.shapes + 1,
         waits: true,
         dry: p.dry,

@@ -2,6 +2,8 @@
 // where it stands and passes on parts that start inside it. An expression leaves the type of its value at `depth` of the stack. The
 // walkers go over a table twice: with a dry pen they only find where the code of each entry ends; then `aims` has what they found.
 use compile_pen::Pen;
+use formats::compiled::*;
+use formats::entries::*;
 ghost use mathlib.Core.Path.{_≡_};
 ghost use Prim.Native.Nat.{_+_, _*_};
 ghost use Rattle.compile_nodes.specs.Ready.{Asks, Answers, AsksEs, AnswersEs, AsksItems, AnswersItems, AsksArms, AnswersArms};
@@ -53,7 +55,7 @@ fn operands(
             p,
         );
         let n = spans::size_at(sizes, place);
-        let from = 8 * n;
+        let from = ENTRY_BYTES * n;
         rest = &rest[from..];
         place += n;
         i += 1;
@@ -83,12 +85,12 @@ fn simple(
     requires { ⌜ Asks IsSimple (now known) (now aims) (now table) (now part) nesting at (now sizes) (lent (now env) (now ends) (now stack) (now out)) top holds depth pen ⌝ }
     ensures { λ r. ⌜ Answers IsSimple (now (known .entry)) (now (aims .entry)) (now (table .entry)) (now (part .entry)) nesting at (now (sizes .entry)) (lent (now (env .entry)) (now (ends .entry)) (now (stack .entry)) (now (out .entry))) (lent (now (env .exit)) (now (ends .exit)) (now (stack .exit)) (now (out .exit))) top holds depth pen r ⌝ }
 {
-    let kind = words::half_at(part, 0);
-    let a = words::half_at(part, 2);
-    let count = compile_own::operands_of(kind, words::word_at(part, 4));
+    let kind = words::half_at(part, KIND_AT);
+    let a = words::half_at(part, A_AT);
+    let count = compile_own::operands_of(kind, words::word_at(part, B_AT));
     let p = operands(
         table,
-        &part[8..],
+        &part[ENTRY_BYTES..],
         count,
         nesting - 1,
         at + 1,
@@ -130,10 +132,10 @@ fn pair(
     requires { ⌜ Asks (IsKind 49) (now known) (now aims) (now table) (now part) nesting at (now sizes) (lent (now env) (now ends) (now stack) (now out)) top holds depth pen ⌝ }
     ensures { λ r. ⌜ Answers (IsKind 49) (now (known .entry)) (now (aims .entry)) (now (table .entry)) (now (part .entry)) nesting at (now (sizes .entry)) (lent (now (env .entry)) (now (ends .entry)) (now (stack .entry)) (now (out .entry))) (lent (now (env .exit)) (now (ends .exit)) (now (stack .exit)) (now (out .exit))) top holds depth pen r ⌝ }
 {
-    let operator = words::half_at(part, 2);
+    let operator = words::half_at(part, A_AT);
     let p = expression(
         table,
-        &part[8..],
+        &part[ENTRY_BYTES..],
         nesting - 1,
         at + 1,
         sizes,
@@ -153,7 +155,7 @@ fn pair(
     let first = stack[depth];
     let way = compile_own::way_of(operator, first);
     let q = compile_own::between(way, end, holds, stack, depth, out, p);
-    let from = 8 * (second - at);
+    let from = ENTRY_BYTES * (second - at);
     let r = expression(
         table,
         &part[from..],
@@ -202,7 +204,7 @@ fn conditional(
 {
     let p = expression(
         table,
-        &part[8..],
+        &part[ENTRY_BYTES..],
         nesting - 1,
         at + 1,
         sizes,
@@ -219,8 +221,8 @@ fn conditional(
     );
     let second = at + 1 + spans::size_at(sizes, at + 1);
     let third = second + spans::size_at(sizes, second);
-    let q = compile_pen::emit(out, p, 9, 0, compile_own::end_of(aims, second) + 1);
-    let from = 8 * (second - at);
+    let q = compile_pen::emit(out, p, OP_UNLESS, 0, compile_own::end_of(aims, second) + 1);
+    let from = ENTRY_BYTES * (second - at);
     let r = expression(
         table,
         &part[from..],
@@ -239,9 +241,9 @@ fn conditional(
         q,
     );
     let ty = stack[depth];
-    let s = compile_pen::emit(out, r, 8, 0, compile_own::end_of(aims, third));
+    let s = compile_pen::emit(out, r, OP_GO, 0, compile_own::end_of(aims, third));
     let t = compile_pen::shape(out, s, holds, stack, depth);
-    let last = 8 * (third - at);
+    let last = ENTRY_BYTES * (third - at);
     let u = expression(
         table,
         &part[last..],
@@ -290,7 +292,7 @@ fn when(
 {
     let p = expression(
         table,
-        &part[8..],
+        &part[ENTRY_BYTES..],
         nesting - 1,
         at + 1,
         sizes,
@@ -306,8 +308,8 @@ fn when(
         pen,
     );
     let second = at + 1 + spans::size_at(sizes, at + 1);
-    let q = compile_pen::emit(out, p, 9, 0, compile_own::end_of(aims, second));
-    let from = 8 * (second - at);
+    let q = compile_pen::emit(out, p, OP_UNLESS, 0, compile_own::end_of(aims, second));
+    let from = ENTRY_BYTES * (second - at);
     let r = statement(
         table,
         &part[from..],
@@ -351,7 +353,7 @@ fn choose(
 {
     let p = expression(
         table,
-        &part[8..],
+        &part[ENTRY_BYTES..],
         nesting - 1,
         at + 1,
         sizes,
@@ -368,8 +370,8 @@ fn choose(
     );
     let second = at + 1 + spans::size_at(sizes, at + 1);
     let third = second + spans::size_at(sizes, second);
-    let q = compile_pen::emit(out, p, 9, 0, compile_own::end_of(aims, second) + 1);
-    let from = 8 * (second - at);
+    let q = compile_pen::emit(out, p, OP_UNLESS, 0, compile_own::end_of(aims, second) + 1);
+    let from = ENTRY_BYTES * (second - at);
     let r = statement(
         table,
         &part[from..],
@@ -387,9 +389,9 @@ fn choose(
         out,
         q,
     );
-    let s = compile_pen::emit(out, r, 8, 0, compile_own::end_of(aims, third));
+    let s = compile_pen::emit(out, r, OP_GO, 0, compile_own::end_of(aims, third));
     let t = compile_pen::shape(out, s, holds, stack, depth);
-    let last = 8 * (third - at);
+    let last = ENTRY_BYTES * (third - at);
     let u = statement(
         table,
         &part[last..],
@@ -435,7 +437,7 @@ fn repeat(
     let p = compile_pen::shape(out, pen, holds, stack, depth);
     let q = expression(
         table,
-        &part[8..],
+        &part[ENTRY_BYTES..],
         nesting - 1,
         at + 1,
         sizes,
@@ -451,8 +453,8 @@ fn repeat(
         p,
     );
     let second = at + 1 + spans::size_at(sizes, at + 1);
-    let r = compile_pen::emit(out, q, 9, 0, compile_own::end_of(aims, second) + 1);
-    let from = 8 * (second - at);
+    let r = compile_pen::emit(out, q, OP_UNLESS, 0, compile_own::end_of(aims, second) + 1);
+    let from = ENTRY_BYTES * (second - at);
     let s = statement(
         table,
         &part[from..],
@@ -470,7 +472,7 @@ fn repeat(
         out,
         r,
     );
-    let t = compile_pen::emit(out, s, 8, 0, start);
+    let t = compile_pen::emit(out, s, OP_GO, 0, start);
     compile_own::finish(ends, at, compile_pen::shape(out, t, holds, stack, depth))
 }
 
@@ -524,7 +526,7 @@ fn arms(
         );
         p = compile_own::after_arm(end, holds, stack, depth, out, r);
         let n = spans::size_at(sizes, place);
-        let from = 8 * n;
+        let from = ENTRY_BYTES * n;
         rest = &rest[from..];
         place += n;
         i += 1;
@@ -553,11 +555,11 @@ fn select(
     requires { ⌜ Asks (IsKind 30) (now known) (now aims) (now table) (now part) nesting at (now sizes) (lent (now env) (now ends) (now stack) (now out)) top holds depth pen ⌝ }
     ensures { λ r. ⌜ Answers (IsKind 30) (now (known .entry)) (now (aims .entry)) (now (table .entry)) (now (part .entry)) nesting at (now (sizes .entry)) (lent (now (env .entry)) (now (ends .entry)) (now (stack .entry)) (now (out .entry))) (lent (now (env .exit)) (now (ends .exit)) (now (stack .exit)) (now (out .exit))) top holds depth pen r ⌝ }
 {
-    let count = words::half_at(part, 2) as usize;
+    let count = words::half_at(part, A_AT) as usize;
     let cell = compile_known::second_in(compile_known::known_at(known, at));
     let p = expression(
         table,
-        &part[8..],
+        &part[ENTRY_BYTES..],
         nesting - 1,
         at + 1,
         sizes,
@@ -572,9 +574,9 @@ fn select(
         out,
         pen,
     );
-    let q = compile_pen::emit(out, p, 6, 0, cell);
+    let q = compile_pen::emit(out, p, OP_STORE, 0, cell);
     let second = at + 1 + spans::size_at(sizes, at + 1);
-    let from = 8 * (second - at);
+    let from = ENTRY_BYTES * (second - at);
     let r = arms(
         table,
         &part[from..],
@@ -594,9 +596,14 @@ fn select(
         out,
         q,
     );
-    let s = compile_pen::emit(out, r, 20, 0, 0);
+    let s = compile_pen::emit(out, r, OP_STOP, 0, 0);
     compile_own::finish(ends, at, compile_pen::shape(out, s, holds, stack, depth))
 }
+
+// The target of an assignment is the entry right behind it.
+const TARGET_KIND_AT: usize = ENTRY_BYTES + KIND_AT;
+
+const TARGET_A_AT: usize = ENTRY_BYTES + A_AT;
 
 // An assignment: to a variable its value alone is computed, to a field the reference before it.
 fn assign(
@@ -619,10 +626,10 @@ fn assign(
     requires { ⌜ Asks (IsKind 21) (now known) (now aims) (now table) (now part) nesting at (now sizes) (lent (now env) (now ends) (now stack) (now out)) top holds depth pen ⌝ }
     ensures { λ r. ⌜ Answers (IsKind 21) (now (known .entry)) (now (aims .entry)) (now (table .entry)) (now (part .entry)) nesting at (now (sizes .entry)) (lent (now (env .entry)) (now (ends .entry)) (now (stack .entry)) (now (out .entry))) (lent (now (env .exit)) (now (ends .exit)) (now (stack .exit)) (now (out .exit))) top holds depth pen r ⌝ }
 {
-    let k = compile_known::meaning(env, top, words::half_at(part, 10), known);
+    let k = compile_known::meaning(env, top, words::half_at(part, TARGET_A_AT), known);
     let second = at + 1 + spans::size_at(sizes, at + 1);
-    let from = 8 * (second - at);
-    if words::half_at(part, 8) == 44 {
+    let from = ENTRY_BYTES * (second - at);
+    if words::half_at(part, TARGET_KIND_AT) == KIND_VARIABLE {
         let p = compile_own::finish(ends, at + 1, pen);
         let q = expression(
             table,
@@ -644,7 +651,7 @@ fn assign(
         let r = compile_pen::emit(
             out,
             q,
-            6,
+            OP_STORE,
             compile_own::owner(q, k),
             compile_known::second_in(k),
         );
@@ -688,7 +695,7 @@ fn assign(
     let s = compile_pen::emit(
         out,
         r,
-        14,
+        OP_PUT_FIELD,
         compile_known::first_in(k),
         compile_known::second_in(k),
     );
@@ -740,7 +747,7 @@ pub fn items(
             p,
         );
         let n = spans::size_at(sizes, place);
-        let from = 8 * n;
+        let from = ENTRY_BYTES * n;
         rest = &rest[from..];
         place += n;
         left -= 1;
@@ -769,13 +776,13 @@ fn block(
     requires { ⌜ Asks (IsKind 1) (now known) (now aims) (now table) (now part) nesting at (now sizes) (lent (now env) (now ends) (now stack) (now out)) top holds depth pen ⌝ }
     ensures { λ r. ⌜ Answers (IsKind 1) (now (known .entry)) (now (aims .entry)) (now (table .entry)) (now (part .entry)) nesting at (now (sizes .entry)) (lent (now (env .entry)) (now (ends .entry)) (now (stack .entry)) (now (out .entry))) (lent (now (env .exit)) (now (ends .exit)) (now (stack .exit)) (now (out .exit))) top holds depth pen r ⌝ }
 {
-    let heads = words::half_at(part, 2) as usize;
-    let count = words::word_at(part, 4) as usize;
-    let open = compile_own::holds_in(&part[8..], heads);
+    let heads = words::half_at(part, A_AT) as usize;
+    let count = words::word_at(part, B_AT) as usize;
+    let open = compile_own::holds_in(&part[ENTRY_BYTES..], heads);
     compile_own::mark_holds(env, top, open);
     let up = heads::enter(table, at + 1, heads, count, 65536, sizes, env, top + open);
-    let p = compile_own::declare(&part[8..], at + 1, heads, known, ends, out, pen);
-    let from = 8 * (1 + heads);
+    let p = compile_own::declare(&part[ENTRY_BYTES..], at + 1, heads, known, ends, out, pen);
+    let from = ENTRY_BYTES * (1 + heads);
     let q = items(
         table,
         &part[from..],
@@ -818,13 +825,13 @@ fn body(
     requires { ⌜ Asks (IsKind 53) (now known) (now aims) (now table) (now part) nesting at (now sizes) (lent (now env) (now ends) (now stack) (now out)) top holds depth pen ⌝ }
     ensures { λ r. ⌜ Answers (IsKind 53) (now (known .entry)) (now (aims .entry)) (now (table .entry)) (now (part .entry)) nesting at (now (sizes .entry)) (lent (now (env .entry)) (now (ends .entry)) (now (stack .entry)) (now (out .entry))) (lent (now (env .exit)) (now (ends .exit)) (now (stack .exit)) (now (out .exit))) top holds depth pen r ⌝ }
 {
-    let heads = words::half_at(part, 2) as usize;
-    let count = words::word_at(part, 4) as usize;
-    let open = compile_own::holds_in(&part[8..], heads);
+    let heads = words::half_at(part, A_AT) as usize;
+    let count = words::word_at(part, B_AT) as usize;
+    let open = compile_own::holds_in(&part[ENTRY_BYTES..], heads);
     compile_own::mark_holds(env, top, open);
     let up = heads::enter(table, at + 1, heads, count, 65537, sizes, env, top + open);
-    let p = compile_own::declare(&part[8..], at + 1, heads, known, ends, out, pen);
-    let from = 8 * (1 + heads);
+    let p = compile_own::declare(&part[ENTRY_BYTES..], at + 1, heads, known, ends, out, pen);
+    let from = ENTRY_BYTES * (1 + heads);
     let q = items(
         table,
         &part[from..],
@@ -844,7 +851,7 @@ fn body(
         p,
     );
     let n = spans::spanned(table, sizes, at + 1 + heads, count);
-    let after = 8 * (1 + heads + n);
+    let after = ENTRY_BYTES * (1 + heads + n);
     let r = expression(
         table,
         &part[after..],
@@ -885,9 +892,9 @@ pub fn expression(
     requires { ⌜ Asks IsExpr (now known) (now aims) (now table) (now part) nesting at (now sizes) (lent (now env) (now ends) (now stack) (now out)) top holds depth pen ⌝ }
     ensures { λ r. ⌜ Answers IsExpr (now (known .entry)) (now (aims .entry)) (now (table .entry)) (now (part .entry)) nesting at (now (sizes .entry)) (lent (now (env .entry)) (now (ends .entry)) (now (stack .entry)) (now (out .entry))) (lent (now (env .exit)) (now (ends .exit)) (now (stack .exit)) (now (out .exit))) top holds depth pen r ⌝ }
 {
-    let kind = words::half_at(part, 0);
+    let kind = words::half_at(part, KIND_AT);
     match kind {
-        49 => pair(
+        KIND_BINARY => pair(
             table,
             part,
             nesting,
@@ -904,7 +911,7 @@ pub fn expression(
             out,
             pen,
         ),
-        50 => conditional(
+        KIND_IF_EXPRESSION => conditional(
             table,
             part,
             nesting,
@@ -921,7 +928,7 @@ pub fn expression(
             out,
             pen,
         ),
-        53 => body(
+        KIND_BLOCK_EXPRESSION => body(
             table,
             part,
             nesting,
@@ -938,13 +945,13 @@ pub fn expression(
             out,
             pen,
         ),
-        _ => if kind < 45 {
-            let k = compile_own::known_of(kind, words::half_at(part, 2), env, top, known);
+        _ => if kind < KIND_FUNCTION {
+            let k = compile_own::known_of(kind, words::half_at(part, A_AT), env, top, known);
             stack[depth] = compile_own::leaf_type(kind, k);
             compile_own::finish(
                 ends,
                 at,
-                compile_own::leaf(kind, words::word_at(part, 4), k, out, pen),
+                compile_own::leaf(kind, words::word_at(part, B_AT), k, out, pen),
             )
         } else {
             simple(
@@ -989,9 +996,9 @@ pub fn statement(
     requires { ⌜ Asks IsStmt (now known) (now aims) (now table) (now part) nesting at (now sizes) (lent (now env) (now ends) (now stack) (now out)) top holds depth pen ⌝ }
     ensures { λ r. ⌜ Answers IsStmt (now (known .entry)) (now (aims .entry)) (now (table .entry)) (now (part .entry)) nesting at (now (sizes .entry)) (lent (now (env .entry)) (now (ends .entry)) (now (stack .entry)) (now (out .entry))) (lent (now (env .exit)) (now (ends .exit)) (now (stack .exit)) (now (out .exit))) top holds depth pen r ⌝ }
 {
-    let kind = words::half_at(part, 0);
+    let kind = words::half_at(part, KIND_AT);
     match kind {
-        1 => block(
+        KIND_BLOCK => block(
             table,
             part,
             nesting,
@@ -1008,8 +1015,12 @@ pub fn statement(
             out,
             pen,
         ),
-        20 => compile_own::finish(ends, at, compile_pen::shape(out, pen, holds, stack, depth)),
-        21 => assign(
+        KIND_LABEL => compile_own::finish(
+            ends,
+            at,
+            compile_pen::shape(out, pen, holds, stack, depth),
+        ),
+        KIND_ASSIGN => assign(
             table,
             part,
             nesting,
@@ -1026,7 +1037,7 @@ pub fn statement(
             out,
             pen,
         ),
-        22 => when(
+        KIND_IF => when(
             table,
             part,
             nesting,
@@ -1043,7 +1054,7 @@ pub fn statement(
             out,
             pen,
         ),
-        23 => choose(
+        KIND_IF_ELSE => choose(
             table,
             part,
             nesting,
@@ -1060,7 +1071,7 @@ pub fn statement(
             out,
             pen,
         ),
-        24 => repeat(
+        KIND_WHILE => repeat(
             table,
             part,
             nesting,
@@ -1077,11 +1088,11 @@ pub fn statement(
             out,
             pen,
         ),
-        25 => compile_own::finish(
+        KIND_GOTO => compile_own::finish(
             ends,
             at,
             compile_own::goto(
-                words::half_at(part, 2),
+                words::half_at(part, A_AT),
                 env,
                 top,
                 aims,
@@ -1092,7 +1103,7 @@ pub fn statement(
                 pen,
             ),
         ),
-        30 => select(
+        KIND_CASE => select(
             table,
             part,
             nesting,

@@ -1,5 +1,4 @@
 pub mod Terms
-pub mod Bytes
 pub mod Third
 pub mod Second
 pub mod Listing

@@ -29,7 +29,8 @@ use Rattle.examples.specs.Listing.{table, code, passes}
 use Rattle.loading.specs.Tests.{halves}
 use Rattle.loading.specs.Promises.{passed}
 use Rattle.safety.specs.Safety.{fresh-safe}
-use Rattle.demands.specs.Terms.{Fed, runsOn, onBytes, Demanded}
+use Rattle.lent_runs.specs.Terms.{Fed, runsOn, onBytes}
+use Rattle.demands.specs.Terms.{Demanded}
 use Rattle.demands.specs.Third.{third}
 use Rattle.demands.specs.Second.{SameReadings, answered, events, EndsOn, second}
 use Rattle.compile_code.specs.Encode.{macroOf}

@@ -27,7 +27,7 @@ use Rattle.compile_runs.specs.Readings.{Follows, oracleOf, follows, oracle-byte
 use Rattle.compile_runs.specs.Enough.{Stepping, EndAnswered}
 use Rattle.compile_runs.specs.Singles.{singles, singles-length, singles-fed, singles-step, singles-follow}
 use Rattle.compile_runs.specs.Second.{itemsOf, answers, AsTree, as-tree}
-use Rattle.demands.specs.Terms.{Fed, runsOn, onBytes}
+use Rattle.lent_runs.specs.Terms.{Fed, runsOn, onBytes}
 use Rattle.demands.specs.Third.{third}
 
 -- ── what the statement speaks of ──

@@ -1,32 +1,18 @@
 -- What the third demand says of a macro: start and a list of runs on lent bytes, beside the plain machine.
 use mathlib.Core.Path.{_≡_}
 use mathlib.Core.Bool.{true}
-use mathlib.Core.List.{List, [], _∷_, map}
+use mathlib.Core.List.{List, map}
 use Prim.Native.Nat.{ℕ, _<_}
 use lib.ListN.{take}
-use Rattle.words.specs.Laws.{Bytes}
 use Rattle.values.specs.Ends.{accepted}
 use Rattle.bytecode.specs.Macro.{Macro}
 use Rattle.bytecode.specs.Machine.{Machine, Stuck, ended, stuck, freshMachine, step}
-use Rattle.bytecode.specs.Runs.{Ran, Feed, runs}
+use Rattle.bytecode.specs.Runs.{Feed, runs}
 use Rattle.bytecode.specs.Sound.{sound}
 use Rattle.bytecode.specs.State.{encode}
-use Rattle.bytecode.specs.Lent.{RanOn, startOn, runOn}
-use Rattle.loading.specs.Terms.{Each}
+use Rattle.bytecode.specs.Lent.{startOn}
 use Rattle.safety.specs.Terms.{holdsOf, releasesOf, eventsOf, stateAfter, Reaches, EachSafe}
-
--- what is fed to a list of runs: any bytes as readings, of any length, and an allowance
-abbrev pub Fed : List Feed → Type 0
-Fed fs = Each (λ f. Bytes (f .readings)) fs
-
--- runs on lent bytes, each on what the one before it left there
-unfoldable pub runsOn : List ℕ → List Feed → List ℕ → List RanOn
-runsOn code [] l = []
-runsOn code (f ∷ fs) l = let r = runOn code l (f .readings) (f .allowance) in r ∷ runsOn code fs (r .bytes)
-
--- an answer of the plain machine, beside the bytes of its state
-abbrev pub onBytes : Ran → RanOn
-onBytes r = record { answer = r .answer; bytes = encode (r .state) }
+use Rattle.lent_runs.specs.Terms.{runsOn, onBytes}
 
 -- start on lent bytes l, and then a run for each feed
 pub record Demanded (code : List ℕ) (m : Macro) (l : List ℕ) (fs : List Feed) : Type 0 where

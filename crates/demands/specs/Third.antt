@@ -1,5 +1,5 @@
 -- The third demand, whole in `Third` at the end: what the loading check gives for every macro that passes it, and that every compiled macro does. Each
--- statement is read without its proof; the terms are in Terms.antt and in safety/specs/Terms.antt (SafeRun, Reaches).
+-- statement is read without its proof; the terms are in Terms.antt, in safety/specs/Terms.antt (SafeRun, Reaches) and in lent_runs/specs/Terms.antt (runsOn).
 use mathlib.Core.Path.{_≡_, refl, ap, sym, _∙_}
 use mathlib.Core.Bool.{Bool, true, false}
 use mathlib.Core.List.{List}
@@ -30,8 +30,9 @@ use Rattle.language.specs.Judge.{Compiled, judgeTable, compileTree, compileRefu
 use Rattle.loading.specs.Promises.{passes-exactly}
 use Rattle.compile_code.specs.Encode.{macroOf, compiled}
 use Rattle.compile_order.specs.Order.{accepted-passes}
-use Rattle.demands.specs.Terms.{Fed, Demanded}
-use Rattle.demands.specs.Bytes.{NoneSound, runs-are, started, not-stuck, ten-if, ten-only}
+use Rattle.lent_runs.specs.Terms.{Fed, NoneSound}
+use Rattle.lent_runs.specs.Bytes.{runs-are, started, not-stuck, ten-if, ten-only}
+use Rattle.demands.specs.Terms.{Demanded}
 
 -- A macro that passes, any lent bytes of the right length, and any list of runs.
 pub third : (code : List ℕ) (m : Macro) → Bytes code → judgeMacro code ≡ accepted m

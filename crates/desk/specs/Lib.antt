@@ -1,3 +1,4 @@
 pub mod Packing
 pub mod Compiled
 pub mod Told
+pub mod Calls

@@ -30,7 +30,7 @@ pub extern "C" fn cue_start(code: &[u8], state: &mut [u8]) -> u64
     }
 }
 
-// A run of a macro from a state, with the readings and the allowance of this run.
+// A run of a macro from a state, with the readings and the allowance of this run. What a list of calls comes to: specs/Calls.
 #[no_mangle]
 pub extern "C" fn cue_run(code: &[u8], state: &mut [u8], readings: &[u8], allowance: u16) -> u64
     ensures { λ r. ⌜ (r ≡ packed (answerNumbers (runOn (now (code .entry)) (now (state .entry)) (now (readings .entry)) allowance .answer))) × (now (state .exit) ≡ runOn (now (code .entry)) (now (state .entry)) (now (readings .entry)) allowance .bytes) ⌝ }

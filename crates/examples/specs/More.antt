@@ -110,3 +110,17 @@ releases-last-first : (loading failing ≡ [])
     ≡ 5 ∷ 1 ∷ 3 ∷ 0 ∷ 5 ∷ 1 ∷ 4 ∷ 0 ∷ 6 ∷ 3 ∷ 4 ∷ 0 ∷ 6 ∷ 1 ∷ 3 ∷ 0 ∷ 3 ∷ 1 ∷ 23 ∷ 0 ∷ [])
 unfolding casesCompute joined failing
 releases-last-first = (refl, refl)
+
+-- and inside a called procedure, with holds 3, 4 open in it and 1, 2 in the root: all are released, the procedure's last first, then the root's
+unfoldable failingInside : List ℕ
+failingInside = joined
+    (hd 0 2 13 0 ∷ bd 0 0 0 [] ∷ bd 6 0 0 []
+    ∷ op 17 0 1 ∷ op 17 0 2 ∷ op 10 0 1 ∷ op 18 0 0 ∷ op 18 0 0 ∷ op 0 0 0
+    ∷ op 17 0 3 ∷ op 17 0 4 ∷ op 2 0 0 ∷ op 19 0 0 ∷ op 18 0 0 ∷ op 18 0 0 ∷ op 11 0 0 ∷ [])
+
+releases-of-all : (loading failingInside ≡ [])
+    × (answers failingInside (feed 9 ∷ feed 9 ∷ feed 9 ∷ feed 9 ∷ feed 9 ∷ feed 9 ∷ feed 9 ∷ feed 9 ∷ feed 9 ∷ [])
+    ≡ 5 ∷ 1 ∷ 1 ∷ 0 ∷ 5 ∷ 1 ∷ 2 ∷ 0 ∷ 5 ∷ 2 ∷ 3 ∷ 0 ∷ 5 ∷ 1 ∷ 4 ∷ 0
+    ∷ 6 ∷ 3 ∷ 4 ∷ 0 ∷ 6 ∷ 1 ∷ 3 ∷ 0 ∷ 6 ∷ 1 ∷ 2 ∷ 0 ∷ 6 ∷ 1 ∷ 1 ∷ 0 ∷ 3 ∷ 1 ∷ 23 ∷ 0 ∷ [])
+unfolding casesCompute joined failingInside
+releases-of-all = (refl, refl)

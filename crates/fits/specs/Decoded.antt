@@ -14,16 +14,16 @@ use Rattle.words.specs.Options.{keep}
 use Rattle.words.specs.Choice.{if_then_else_}
 use Rattle.words.specs.Numbers.{byteAt, halfAt, wordAt}
 use Rattle.words.specs.Laws.{Size, one, two, four, numberAt, bytesIn, same-number}
-use Rattle.values.specs.Values.{Value}
+use Rattle.values.specs.Values.{Value, Cell}
 use Rattle.bytecode.specs.Macro.{Macro}
 use Rattle.bytecode.specs.Machine.{Activation, Made}
-use Rattle.bytecode.specs.State.{part, readValues, assignedAll, readActivation, readActivations, readRecord, readRecords}
+use Rattle.bytecode.specs.State.{part, readValue, readCell, readRow, readActivation, readActivations, readRecord, readRecords}
 use Rattle.places.specs.Records.{classes, bodies, classPlace, bodyPlace, noMark, badClass}
 use Rattle.places.specs.Index.{Well}
 use Rattle.loader.specs.Views.{span, span-length, by-test, past, view, body-at, class-at}
 use Rattle.fits.specs.Each.{each, halves}
 use Rattle.fits.specs.Fits.{frameAt, entryAt, bodyIn, depthIn, openIn, addressIn, classIn, held}
-use Rattle.fits.specs.Rows.{rowReads, rowOn, values-read}
+use Rattle.fits.specs.Rows.{rowReads, rowOn, cellRow, values-read, cells-read}
 
 -- ── a number in a part of the bytes ──
 part-number : (s : Size) (l : List ℕ) (p w o i : ℕ) → o + i + bytesIn s ≤ w → numberAt s (drop o (take w (drop p l))) i ≡ numberAt s l (p + o + i)
@@ -39,15 +39,23 @@ typesAt l p j = byteAt l (p + j)
 abbrev pub wordsAt : List ℕ → ℕ → ℕ → ℕ
 wordsAt l p j = wordAt l (p + 4 * j)
 
--- n values of a part: types at t, words at w
+-- n values or cells of a part: types at t, words at w
 module _ (l : List ℕ) (classes′ p width w t : ℕ) where
+  part-types : (n : ℕ) → t + n ≤ width → (i : ℕ) → i < n → byteAt (drop t (take width (drop p l))) i ≡ typesAt l (p + t) (0 + i)
+  part-types n b i h = rw (zero-add i) (part-number one l p width t i (omega arith))
+
+  part-words : (n : ℕ) → w + 4 * n ≤ width → (i : ℕ) → i < n → wordAt (drop w (take width (drop p l))) (4 * i) ≡ wordsAt l (p + w) (0 + i)
+  part-words n a i h = rw (zero-add i) (part-number four l p width w (4 * i) (omega arith))
+
   part-values : (n : ℕ) → w + 4 * n ≤ width → t + n ≤ width
-      → readValues classes′ n (drop w (take width (drop p l))) (drop t (take width (drop p l)))
+      → readRow (readValue classes′) n (drop w (take width (drop p l))) (drop t (take width (drop p l)))
       ≡ (if rowReads classes′ (typesAt l (p + t)) (wordsAt l (p + w)) 0 n then some (rowOn classes′ (typesAt l (p + t)) (wordsAt l (p + w)) 0 n) else none)
-  part-values n a b =
-      values-read classes′ (typesAt l (p + t)) (wordsAt l (p + w)) n 0 (drop w (take width (drop p l))) (drop t (take width (drop p l)))
-      (λ i h. rw (zero-add i) (part-number one l p width t i (omega arith)))
-      (λ i h. rw (zero-add i) (part-number four l p width w (4 * i) (omega arith)))
+  part-values n a b = values-read classes′ (typesAt l (p + t)) (wordsAt l (p + w)) n 0 _ _ (part-types n b) (part-words n a)
+
+  part-cells : (n : ℕ) → w + 4 * n ≤ width → t + n ≤ width
+      → readRow (readCell classes′) n (drop w (take width (drop p l))) (drop t (take width (drop p l)))
+      ≡ (if rowReads classes′ (typesAt l (p + t)) (wordsAt l (p + w)) 0 n then some (cellRow classes′ (typesAt l (p + t)) (wordsAt l (p + w)) 0 n) else none)
+  part-cells n a b = cells-read classes′ (typesAt l (p + t)) (wordsAt l (p + w)) n 0 _ _ (part-types n b) (part-words n a)
 
 keep-if-some : {A B : Type 0} (a : Bool) (x : A) (f : A → Option B) → keep (if a then some x else none) f ≡ (if a then f x else none)
 keep-if-some true x f = refl
@@ -78,8 +86,8 @@ module _ (c l : List ℕ) where
   abbrev pub cellsRead : ℕ → Bool
   cellsRead k = rowReads (classes c) (typesAt l (frameAt k + 264)) (wordsAt l (frameAt k + 8)) 0 (cellCount c l k)
 
-  abbrev pub cellsOn : ℕ → List Value
-  cellsOn k = rowOn (classes c) (typesAt l (frameAt k + 264)) (wordsAt l (frameAt k + 8)) 0 (cellCount c l k)
+  abbrev pub cellsOn : ℕ → List Cell
+  cellsOn k = cellRow (classes c) (typesAt l (frameAt k + 264)) (wordsAt l (frameAt k + 8)) 0 (cellCount c l k)
 
   abbrev pub operandsRead : ℕ → Bool
   operandsRead k = rowReads (classes c) (typesAt l (frameAt k + 296)) (wordsAt l (frameAt k + 136)) 0 (depthIn l k)
@@ -92,7 +100,7 @@ module _ (c l : List ℕ) where
   holdsOn k = take (openIn l k) (drop (held l k) (part 10528 512 l))
 
   unfoldable pub frameOn : ℕ → Activation
-  frameOn k = record { body = bodyIn l k; address = addressIn l k; cells = assignedAll (cellsOn k); operands = reverse (operandsOn k); holds = reverse (holdsOn k) }
+  frameOn k = record { body = bodyIn l k; address = addressIn l k; cells = cellsOn k; operands = reverse (operandsOn k); holds = reverse (holdsOn k) }
 
   abbrev pub frameReads : ℕ → Bool
   frameReads k =
@@ -109,10 +117,6 @@ class-few c W k h =
 class-count : (c : List ℕ) → length (view c .classes) ≡ classes c
 unfolding view
 class-count c = span-length _ (classes c) 0
-
-nested : {A : Type 0} (a b : Bool) (x : Option A) → (if a then (if b then x else none) else none) ≡ (if a && b then x else none)
-nested true b x = refl
-nested false b x = refl
 
 module _ (c l : List ℕ) (W : Well c) where
   abbrev m : Macro
@@ -159,12 +163,12 @@ module _ (c l : List ℕ) (W : Well c) where
       let b = halves (leb (depthIn l k) 32) _ (a .1) in
       let ca : cellCount c l k ≤ 32 = leb-true _ _ (a .0) in
       let da : depthIn l k ≤ 32 = leb-true _ _ (b .0) in
-      rw (q, part-values l (classes c) (frameAt k) 328 8 264 (cellCount c l k) (omega arith) (omega arith), part-values l (classes c) (frameAt k) 328 136 296 (depthIn l k) (omega arith) (omega arith))
+      rw (q, part-cells l (classes c) (frameAt k) 328 8 264 (cellCount c l k) (omega arith) (omega arith), part-values l (classes c) (frameAt k) 328 136 296 (depthIn l k) (omega arith) (omega arith))
       (pair (cellsRead c l k) (operandsRead c l k) _ _ _))
       (λ q. rw q)))
       (λ p. rw p))
     where
-      pair : (a b : Bool) (x y : List Value) (f : List Value → List Value → Activation)
+      pair : (a b : Bool) (x : List Cell) (y : List Value) (f : List Cell → List Value → Activation)
           → keep (if a then some x else none) (λ u. keep (if b then some y else none) (λ v. some (f u v))) ≡ (if a && b then some (f x y) else none)
       pair true true x y f = refl
       pair true false x y f = refl

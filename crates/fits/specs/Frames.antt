@@ -17,8 +17,8 @@ use Rattle.values.specs.Values.{Value, tyOf, tysOf}
 use Rattle.bytecode.specs.Macro.{Macro}
 use Rattle.bytecode.specs.Instructions.{inBody}
 use Rattle.bytecode.specs.Machine.{Made}
-use Rattle.bytecode.specs.Sound.{soundValue, typedValues, cellValues, soundRecord, soundGroup, soundActivation}
-use Rattle.bytecode.specs.State.{part, assignedAll}
+use Rattle.bytecode.specs.Sound.{soundValue, typedValues, typedCells, soundRecord, soundGroup, soundActivation}
+use Rattle.bytecode.specs.State.{part}
 use Rattle.places.specs.Search.{tops, alike, Clean}
 use Rattle.places.specs.Records.{classes, bodies, count, classPlace, bodyPlace, firstOf}
 use Rattle.places.specs.Rules.{bodyOf, endOf, broken}
@@ -26,7 +26,7 @@ use Rattle.places.specs.Index.{Well}
 use Rattle.loader.specs.Views.{span, backs, span-at, reverse-span, tests, by-test, view, bodyOn, bytes, below, alike-bytes, known-class, known-body, first-rises, body-at, in-body, stands as standing, before-end, class-at, Viewed}
 use Rattle.fits.specs.Each.{each, halves, both, same-test}
 use Rattle.fits.specs.Fits.{frameAt, entryAt, bodyIn, depthIn, openIn, addressIn, classIn, held, valueIn, rowFits, recordFits, cellsFit, operandsIn, takenIn, standsIn, stands}
-use Rattle.fits.specs.Rows.{Recorded, row-bytes, row-sound, row-typed}
+use Rattle.fits.specs.Rows.{cells-typed, Recorded, row-bytes, row-sound, row-typed}
 use Rattle.fits.specs.Decoded.{typesAt, wordsAt, fieldCount, recordOn, recordReads, cellCount, cellsRead, cellsOn, operandsRead, operandsOn, holdsOn, frameOn, frameReads}
 
 -- ── lists ──
@@ -134,11 +134,6 @@ unfolding backs tops tysOf
 bytes-backs l q f zero e = refl
 bytes-backs l q f (suc n) e = rw (e n (omega arith), bytes-backs l q f n (λ i h. e i (omega arith)))
 
-cells-assigned : (vs : List Value) → cellValues (assignedAll vs) ≡ vs
-unfolding cellValues assignedAll
-cells-assigned [] = refl
-cells-assigned (v ∷ vs) = ap (λ (l : List Value). v ∷ l) (cells-assigned vs)
-
 -- ── tests put together ──
 pub chosen : (a b : Bool) → cond a b false ≡ true → (a ≡ true) × (b ≡ true)
 chosen true b e = (refl, e)
@@ -195,11 +190,12 @@ module _ (c l : List ℕ) (seen : Viewed c (view c)) (clean : Clean (broken c) (
       rw (reverse-span _ (depthIn l k)) (bytes-backs l (frameAt k + 296) _ (depthIn l k) (λ i h. rw (zero-add i) at (row-bytes (classes c) (typesAt l (frameAt k + 296)) (wordsAt l (frameAt k + 136)) (depthIn l k) 0 e i h))) in
       sym (alike-bytes (taken ++ tysOf (reverse (operandsOn c l k))) s) ∙ rw (bytes-append taken (tysOf (reverse (operandsOn c l k))), T, g)
 
-  cells-fit : (cellsRead c l k && typedValues made (cellsOn c l k) (bodyOn c (bodyPlace c (bodyIn l k)) .cells)) ≡ cellsFit c l r k
+  cells-fit : (cellsRead c l k && typedCells made (cellsOn c l k) (bodyOn c (bodyPlace c (bodyIn l k)) .cells)) ≡ cellsFit c l r k
   unfolding rowFits
   cells-fit =
-      row-typed c l r made (recorded c l r) (typesAt l (frameAt k + 264)) (wordsAt l (frameAt k + 8)) (typesAt c (bodyPlace c (bodyIn l k) + 7)) (cellCount c l k) 0
-      (λ i h. number-below l B (frameAt k + 8 + 4 * (0 + i)) four) (λ i h. rw (zero-add i) (known-body c (seen .well) (bodyIn l k) (R .body) .cells i h))
+      rw (cells-typed (classes c) (typesAt l (frameAt k + 264)) (wordsAt l (frameAt k + 8)) made (cellCount c l k) 0)
+      (row-typed c l r made (recorded c l r) (typesAt l (frameAt k + 264)) (wordsAt l (frameAt k + 8)) (typesAt c (bodyPlace c (bodyIn l k) + 7)) (cellCount c l k) 0
+      (λ i h. number-below l B (frameAt k + 8 + 4 * (0 + i)) four) (λ i h. rw (zero-add i) (known-body c (seen .well) (bodyIn l k) (R .body) .cells i h)))
 
   operands-fit : (operandsRead c l k && all (soundValue made) (reverse (operandsOn c l k))) ≡ each (valueIn c l r (frameAt k + 296) (frameAt k + 136)) 0 (depthIn l k)
   operands-fit =
@@ -227,7 +223,6 @@ module _ (c l : List ℕ) (seen : Viewed c (view c)) (clean : Clean (broken c) (
         length-reverse (holdsOn c l k),
         holds-count,
         all-reverse soundGroup (holdsOn c l k),
-        cells-assigned (cellsOn c l k),
         ← cells-fit,
         ← operands-fit,
       )

@@ -1,8 +1,8 @@
 -- Values and rows of them, as they are read from a state's bytes: what is read is sound exactly where the tests of the bytes pass.
 use mathlib.Core.Path.{_≡_, refl, sym, ap, ap₂, _∙_}
 use mathlib.Core.Bool.{Bool, true, false, not, _&&_}
-use mathlib.Core.List.{List, _∷_}
-use mathlib.Core.Option.{none, some}
+use mathlib.Core.List.{List, _∷_, map}
+use mathlib.Core.Option.{Option, none, some}
 use Prim.Native.Nat.{ℕ, zero, suc, _+_, _*_, _-_, _<_}
 use native.Mathlib.Nat.{add-zero, add-suc, suc-add}
 use native.Mathlib.Omega.{arith}
@@ -17,10 +17,10 @@ use Rattle.words.specs.Choice.{if_then_else_}
 use Rattle.words.specs.Numbers.{byteAt, wordAt, integerOf}
 use Rattle.words.specs.Laws.{four, same-number, integer-fits}
 use Rattle.values.specs.Types.{Ty, integer, logical, bits, reference, tyByte, same, sames}
-use Rattle.values.specs.Values.{Value, tyOf, tysOf, validWord, wordValue, wordRef}
+use Rattle.values.specs.Values.{Value, tyOf, tysOf, validWord, wordValue, wordRef, Cell, assigned, tyOfCell}
 use Rattle.bytecode.specs.Machine.{Made}
-use Rattle.bytecode.specs.Sound.{soundValue, points, typedValues}
-use Rattle.bytecode.specs.State.{readValue, readValues}
+use Rattle.bytecode.specs.Sound.{soundValue, points, typedValues, soundCell, typedCells}
+use Rattle.bytecode.specs.State.{readValue, readCell, readRow}
 use Rattle.places.specs.Records.{classes, noType}
 use Rattle.loader.specs.Views.{span, by-test, tyOn, type-byte, same-byte, type-reads}
 use Rattle.fits.specs.Each.{each, each-at, and-true}
@@ -84,7 +84,32 @@ readable-type n t w e =
     never : false ≡ true → ⊥
     never z = let q : _≡_ {A = ℕ} 0 1 = cc z in omega arith
 
--- ── rows ──
+-- a cell is read as its value is
+cell-reads : (n t w : ℕ) → readCell n t w ≡ (if readable n t w then some (assigned (valueOn t w)) else none)
+unfolding readCell
+cell-reads n t w = rw (value-reads n t w) (by-test (readable n t w) (λ e. rw e) (λ e. rw e))
+
+-- ── rows: of elements that are read by a test and then known ──
+joined : {A : Type 0} (a b : Bool) (v : A) (vs : List A)
+    → keep (if a then some v else none) (λ x. keep (if b then some vs else none) (λ xs. some (x ∷ xs))) ≡ (if a && b then some (v ∷ vs) else none)
+joined true true v vs = refl
+joined true false v vs = refl
+joined false b v vs = refl
+
+module _ {A : Type 0} (read : ℕ → ℕ → Option A) (ok : ℕ → ℕ → Bool) (on : ℕ → ℕ → A) (reads : (t w : ℕ) → read t w ≡ (if ok t w then some (on t w) else none)) (t w : ℕ → ℕ) where
+  row-read : (k j : ℕ) (ws ts : List ℕ) → ((i : ℕ) → i < k → byteAt ts i ≡ t (j + i)) → ((i : ℕ) → i < k → wordAt ws (4 * i) ≡ w (j + i))
+      → readRow read k ws ts ≡ (if each (λ i. ok (t i) (w i)) j k then some (span (λ i. on (t i) (w i)) j k) else none)
+  unfolding readRow each span
+  row-read zero j ws ts p q = refl
+  row-read (suc k) j ws ts p q =
+      let e : byteAt ts 0 ≡ t j = rw (add-zero j) at (p 0 (omega arith)) in
+      let d : wordAt ws 0 ≡ w j = rw (add-zero j) at (q 0 (omega arith)) in
+      let g = row-read k (suc j) (drop 4 ws) (drop 1 ts)
+      (λ i h. getD-drop 1 ts i 0 ∙ ap (λ (z : ℕ). byteAt ts z) (let z : 1 + i ≡ suc i = omega arith in z) ∙ rw (suc-add j i, ← add-suc j i) (p (suc i) (omega arith)))
+      (λ i h. same-number four (drop 4 ws) ws (4 * i) (4 * suc i) (λ x y. getD-drop 4 ws (4 * i + x) 0 ∙ ap (λ (z : ℕ). byteAt ws z) (omega arith))
+      ∙ rw (suc-add j i, ← add-suc j i) (q (suc i) (omega arith))) in
+      rw (e, d, g, reads (t j) (w j)) (joined (ok (t j) (w j)) (each (λ i. ok (t i) (w i)) (suc j) k) _ _)
+
 module _ (n : ℕ) (t w : ℕ → ℕ) where
   abbrev pub rowReads : ℕ → ℕ → Bool
   rowReads j k = each (λ i. readable n (t i) (w i)) j k
@@ -92,24 +117,30 @@ module _ (n : ℕ) (t w : ℕ → ℕ) where
   abbrev pub rowOn : ℕ → ℕ → List Value
   rowOn j k = span (λ i. valueOn (t i) (w i)) j k
 
-  joined : (a b : Bool) (v : Value) (vs : List Value)
-      → keep (if a then some v else none) (λ x. keep (if b then some vs else none) (λ xs. some (x ∷ xs))) ≡ (if a && b then some (v ∷ vs) else none)
-  joined true true v vs = refl
-  joined true false v vs = refl
-  joined false b v vs = refl
+  abbrev pub cellRow : ℕ → ℕ → List Cell
+  cellRow j k = span (λ i. assigned (valueOn (t i) (w i))) j k
 
   pub values-read : (k j : ℕ) (ws ts : List ℕ) → ((i : ℕ) → i < k → byteAt ts i ≡ t (j + i)) → ((i : ℕ) → i < k → wordAt ws (4 * i) ≡ w (j + i))
-      → readValues n k ws ts ≡ (if rowReads j k then some (rowOn j k) else none)
-  unfolding readValues each span
-  values-read zero j ws ts p q = refl
-  values-read (suc k) j ws ts p q =
-      let e : byteAt ts 0 ≡ t j = rw (add-zero j) at (p 0 (omega arith)) in
-      let d : wordAt ws 0 ≡ w j = rw (add-zero j) at (q 0 (omega arith)) in
-      let g = values-read k (suc j) (drop 4 ws) (drop 1 ts)
-      (λ i h. getD-drop 1 ts i 0 ∙ ap (λ (z : ℕ). byteAt ts z) (let z : 1 + i ≡ suc i = omega arith in z) ∙ rw (suc-add j i, ← add-suc j i) (p (suc i) (omega arith)))
-      (λ i h. same-number four (drop 4 ws) ws (4 * i) (4 * suc i) (λ x y. getD-drop 4 ws (4 * i + x) 0 ∙ ap (λ (z : ℕ). byteAt ws z) (omega arith))
-      ∙ rw (suc-add j i, ← add-suc j i) (q (suc i) (omega arith))) in
-      rw (e, d, g, value-reads n (t j) (w j)) (joined (readable n (t j) (w j)) (each (λ i. readable n (t i) (w i)) (suc j) k) _ _)
+      → readRow (readValue n) k ws ts ≡ (if rowReads j k then some (rowOn j k) else none)
+  values-read = row-read (readValue n) (readable n) valueOn (value-reads n) t w
+
+  pub cells-read : (k j : ℕ) (ws ts : List ℕ) → ((i : ℕ) → i < k → byteAt ts i ≡ t (j + i)) → ((i : ℕ) → i < k → wordAt ws (4 * i) ≡ w (j + i))
+      → readRow (readCell n) k ws ts ≡ (if rowReads j k then some (cellRow j k) else none)
+  cells-read = row-read (readCell n) (readable n) (λ t w. assigned (valueOn t w)) (cell-reads n) t w
+
+  -- a row of cells is typed and sound as the row of their values
+  cell-types : (k j : ℕ) → map tyOfCell (cellRow j k) ≡ tysOf (rowOn j k)
+  unfolding span tysOf
+  cell-types zero j = refl
+  cell-types (suc k) j = ap (λ (ts : List Ty). tyOf (valueOn (t j) (w j)) ∷ ts) (cell-types k (suc j))
+
+  cell-sounds : (rs : List Made) (k j : ℕ) → all (soundCell rs) (cellRow j k) ≡ all (soundValue rs) (rowOn j k)
+  unfolding span all
+  cell-sounds rs zero j = refl
+  cell-sounds rs (suc k) j = ap (λ (b : Bool). soundValue rs (valueOn (t j) (w j)) && b) (cell-sounds rs k (suc j))
+
+  pub cells-typed : (rs : List Made) (k j : ℕ) (ts : List Ty) → typedCells rs (cellRow j k) ts ≡ typedValues rs (rowOn j k) ts
+  cells-typed rs k j ts = rw (cell-types k j, cell-sounds rs k j)
 
   -- the types of a row that reads
   pub row-bytes : (k j : ℕ) → rowReads j k ≡ true → (i : ℕ) → i < k → tyByte (tyOf (valueOn (t (j + i)) (w (j + i)))) ≡ t (j + i)

@@ -7,7 +7,7 @@ use Prim.Native.Nat.{ℕ, zero, suc, _+_, _*_, _-_, _≤_, _<_}
 use native.Mathlib.Numerals.{add-one}
 use native.Mathlib.Omega.{arith}
 use lib.Dec.{eqb, leb, ltb}
-use lib.ListN.{length, drop}
+use lib.ListN.{length, drop, getElem?}
 use borrow.Author.Tests.{leb-true, ltb-true, ltb-false, lt-ltb, le-ltb, le-leb, eq-eqb, eqb-true}
 use Rattle.words.specs.Lists.{all}
 use Rattle.words.specs.Options.{keep, isSome}
@@ -41,7 +41,7 @@ abbrev takenOn : List ℕ → List ℕ → ℕ → ℕ → List Ty
 takenOn c l n k = if ltb (k + 1) n then argumentsOn c l k else []
 
 abbrev callsNext : List ℕ → List ℕ → ℕ → ℕ → Bool
-callsNext c l n k = if ltb (k + 1) n then callsBody (instrAt (view c) (addressIn l k)) (bodyIn l (suc k)) else true
+callsNext c l n k = if ltb (k + 1) n then callsBody (getElem? (view c .code) (addressIn l k)) (bodyIn l (suc k)) else true
 
 module _ (c l : List ℕ) (seen : Viewed c (view c)) (clean : Clean (broken c) (count c)) (B : Bytes l) (long : length l ≡ 24576) (r n k : ℕ) (R : Rough c l k)
     (next : k + 1 < n → bodyIn l (k + 1) < bodies c) where
@@ -58,7 +58,7 @@ module _ (c l : List ℕ) (seen : Viewed c (view c)) (clean : Clean (broken c) (
   calls-same h =
       rw (code-at c (addressIn l k), lt-ltb (addressIn l k) (count c) h)
       (by-test (ltb (k + 1) n)
-      (λ e. rw (e, add-one k) (calls-only (byteAt c (codePlace c (addressIn l k) + 2)) (byteAt c (codePlace c (addressIn l k) + 3)) (wordAt c (codePlace c (addressIn l k) + 4)) (bodyIn l (suc k))))
+      (λ e. rw (e, add-one k) (calls-only (eqb (byteAt c (codePlace c (addressIn l k) + 2)) 10) (eqb (byteAt c (codePlace c (addressIn l k) + 3)) 0) (eqb (wordAt c (codePlace c (addressIn l k) + 4)) (bodyIn l (suc k)))))
       (λ e. rw e))
 
   fits-here : addressIn l k < count c → frameFits c l r n k ≡ cond (calls c l n k) (cellsFit c l r k) false
@@ -154,7 +154,7 @@ module _ (c l : List ℕ) (seen : Viewed c (view c)) (clean : Clean (broken c) (
   abbrev readAndSound : Bool
   readAndSound =
       (leb n 32 && leb r 256) && (each (frameReads c l) 0 n && (each (recordReads c l) 0 r
-      && (eqb (length (allHolds (backs (frameOn c l) n))) h && sound m (running rs (frameOn c l k) (backs (frameOn c l) k)))))
+      && (eqb (length (allHolds (backs (frameOn c l) n))) h && sound m (running (record { records = rs }) (frameOn c l k) (backs (frameOn c l) k)))))
 
   module _ (few : n ≤ 32) (L : (j : ℕ) → j < n → Limits c l j) where
     same-at : (j : ℕ) → j < n
@@ -192,7 +192,7 @@ module _ (c l : List ℕ) (seen : Viewed c (view c)) (clean : Clean (broken c) (
       let a1 = halves (leb n 32) (leb r 256) (a .0) in
       let b = halves (each (frameReads c l) 0 n) _ (a .1) in
       let q = halves (each (recordReads c l) 0 r) _ (b .1) in
-      let s = halves (eqb (length (allHolds (backs (frameOn c l) n))) h) (sound m (running rs (frameOn c l k) (backs (frameOn c l) k))) (q .1) in
+      let s = halves (eqb (length (allHolds (backs (frameOn c l) n))) h) (sound m (running (record { records = rs }) (frameOn c l k) (backs (frameOn c l) k))) (q .1) in
       let s1 = halves (leb (length (frameOn c l k ∷ backs (frameOn c l) k)) 32) _ (s .1) in
       let s2 = halves (leb (length rs) 256) _ (s1 .1) in
       let s3 = halves (all (soundRecord m rs) rs) _ (s2 .1) in
@@ -271,7 +271,7 @@ module _ (c l : List ℕ) (seen : Viewed c (view c)) (clean : Clean (broken c) (
       nothing true false d = refl
       nothing false b d = refl
   assembled (suc k) r h =
-      rw (isSome-two (view c) (eqb (length (allHolds (backs (frameOn c l) (suc k)))) h) (running (span (recordOn c l) 0 r) (frameOn c l k) (backs (frameOn c l) k)))
+      rw (isSome-two (view c) (eqb (length (allHolds (backs (frameOn c l) (suc k)))) h) (running (record { records = span (recordOn c l) 0 r }) (frameOn c l k) (backs (frameOn c l) k)))
       (running-same c l seen clean B long r h k)
 
   pub running-is : isSome (keep (readRunning (view c) l) (onlySound (view c)))

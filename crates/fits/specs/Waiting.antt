@@ -2,20 +2,18 @@
 use mathlib.Core.Path.{_≡_, refl, sym, ap, _∙_}
 use mathlib.Core.Bool.{Bool, true, false, cond, _&&_}
 use mathlib.Core.List.{List, reverse}
-use mathlib.Core.Option.{Option, none, some}
 use Prim.Native.Nat.{ℕ, zero, suc, _+_, _-_, _≤_, _<_}
 use native.Mathlib.Nat.{add-zero, add-suc, suc-add, zero-add}
 use native.Mathlib.Omega.{arith}
 use lib.Dec.{eqb, leb, ltb}
-use lib.ListN.{length, drop, take, length-append, length-reverse, length-drop}
+use lib.ListN.{length, getElem?, drop, take, length-append, length-reverse, length-drop}
 use lib.Seq.{length-take-le, drop-cons, getD-take, getD-drop}
 use borrow.Author.Tests.{lt-ltb, eqb-true}
 use Rattle.words.specs.Lists.{all}
-use Rattle.words.specs.Options.{keep}
 use Rattle.words.specs.Choice.{if_then_else_}
 use Rattle.words.specs.Numbers.{byteAt}
 use Rattle.values.specs.Types.{Ty}
-use Rattle.bytecode.specs.Instructions.{Instr, exactly, ownerOf, operatorOf, instruction, bodyAt, instrAt}
+use Rattle.bytecode.specs.Instructions.{bodyAt}
 use Rattle.bytecode.specs.Rules.{onStack}
 use Rattle.bytecode.specs.Machine.{Made, allHolds}
 use Rattle.bytecode.specs.Sound.{soundGroup, soundActivation, callsBody, parametersOf, soundWaiting}
@@ -28,57 +26,11 @@ use Rattle.fits.specs.Each.{each, and-assoc, each-snoc, each-same}
 use Rattle.fits.specs.Fits.{bodyIn, openIn, addressIn, held}
 use Rattle.fits.specs.Decoded.{cellCount, holdsOn, frameOn}
 
--- ── an instruction that is a call ──
--- not a call of any body
-abbrev NoCall : Option Instr → Type 0
-NoCall o = (b : ℕ) → callsBody o b ≡ false
-
-either : (t : Bool) (x y : Option Instr) → NoCall x → NoCall y → NoCall (if t then x else y)
-either true x y p q = p
-either false x y p q = q
-
-only : (t : Bool) (x : Instr) → NoCall (some x) → NoCall (exactly t x)
-only true x p = p
-only false x p = λ b. refl
-
-kept : {A : Type 0} (o : Option A) (f : A → Option Instr) → ((a : A) → NoCall (f a)) → NoCall (keep o f)
-kept none f p = λ b. refl
-kept (some a) f p = p a
-
-no-call : (op x n : ℕ) → eqb op 10 ≡ false → NoCall (instruction (record { op = op; a = x; b = n }))
-unfolding instruction
-no-call op x n e =
-    rw e
-    (either (eqb op 0) _ _ (only (eqb x 0 && eqb n 0) _ (λ b. refl))
-    (either (eqb op 1) _ _ (only (eqb x 0) _ (λ b. refl))
-    (either (eqb op 2) _ _ (only (eqb x 0 && ltb n 2) _ (λ b. refl))
-    (either (eqb op 3) _ _ (only (eqb x 0) _ (λ b. refl))
-    (either (eqb op 4) _ _ (only (eqb n 0) _ (λ b. refl))
-    (either (eqb op 5) _ _ (kept (ownerOf x) _ (λ o b. refl))
-    (either (eqb op 6) _ _ (kept (ownerOf x) _ (λ o b. refl))
-    (either (eqb op 7) _ _ (kept (operatorOf x) _ (λ o. only (eqb n 0) _ (λ b. refl)))
-    (either (eqb op 8) _ _ (only (eqb x 0) _ (λ b. refl))
-    (either (eqb op 9) _ _ (only (eqb x 0) _ (λ b. refl))
-    (either (eqb op 11) _ _ (only (eqb x 0 && eqb n 0) _ (λ b. refl))
-    (either (eqb op 12) _ _ (only (eqb n 0) _ (λ b. refl))
-    (either (eqb op 13) _ _ (λ b. refl)
-    (either (eqb op 14) _ _ (λ b. refl)
-    (either (eqb op 15) _ _ (only (eqb x 0 && eqb n 0) _ (λ b. refl))
-    (either (eqb op 16) _ _ (only (eqb x 0 && eqb n 0) _ (λ b. refl))
-    (either (eqb op 17) _ _ (only (eqb x 0 && leb n 63) _ (λ b. refl))
-    (either (eqb op 18) _ _ (only (eqb x 0 && eqb n 0) _ (λ b. refl))
-    (either (eqb op 19) _ _ (only (eqb x 0 && eqb n 0) _ (λ b. refl))
-    (either (eqb op 20) _ _ (only (eqb x 0 && eqb n 0) _ (λ b. refl)) (λ b. refl)))))))))))))))))))))
-
-ten : (x n b : ℕ) → callsBody (instruction (record { op = 10; a = x; b = n })) b ≡ cond (eqb x 0) (eqb n b) false
-unfolding instruction
-ten x n b = by-test (eqb x 0) (λ p. rw p) (λ p. rw p)
-
-pub calls-only : (op x n b : ℕ) → callsBody (instruction (record { op = op; a = x; b = n })) b ≡ cond (eqb op 10) (cond (eqb x 0) (eqb n b) false) false
-calls-only op x n b =
-    by-test (eqb op 10)
-    (λ e. rw (e, eqb-true op 10 e) (ten x n b))
-    (λ e. rw e (no-call op x n e b))
+-- ── a call, by the code record ──
+pub calls-only : (a b c : Bool) → (a && (b && c)) ≡ cond a (cond b c false) false
+calls-only true true c = refl
+calls-only true false c = refl
+calls-only false b c = refl
 
 -- ── one run of tests after another ──
 pub each-append : (f : ℕ → Bool) (a b j : ℕ) → each f j (a + b) ≡ (each f j a && each f (j + a) b)
@@ -128,13 +80,13 @@ argumentsOn c l k = onStack (parametersOf (bodyAt (view c) (bodyIn l (suc k))))
 
 module _ (c l : List ℕ) (rs : List Made) where
   abbrev pub waitsAt : ℕ → Bool
-  waitsAt k = callsBody (instrAt (view c) (addressIn l k)) (bodyIn l (suc k)) && soundActivation (view c) rs (argumentsOn c l k) (frameOn c l k)
+  waitsAt k = callsBody (getElem? (view c .code) (addressIn l k)) (bodyIn l (suc k)) && soundActivation (view c) rs (argumentsOn c l k) (frameOn c l k)
 
   pub waiting-is : (k : ℕ) → soundWaiting (view c) rs (bodyIn l k) (backs (frameOn c l) k) ≡ (each waitsAt 0 k && eqb (bodyIn l 0) 0)
   unfolding soundWaiting backs each frameOn
   waiting-is zero = refl
   waiting-is (suc k) =
-      rw (waiting-is k, each-snoc waitsAt k 0, zero-add k) (turn (callsBody (instrAt (view c) (addressIn l k)) (bodyIn l (suc k))) _ (each waitsAt 0 k) (eqb (bodyIn l 0) 0))
+      rw (waiting-is k, each-snoc waitsAt k 0, zero-add k) (turn (callsBody (getElem? (view c .code) (addressIn l k)) (bodyIn l (suc k))) _ (each waitsAt 0 k) (eqb (bodyIn l 0) 0))
     where
       turn : (a b e z : Bool) → (a && (b && (e && z))) ≡ ((e && (a && b)) && z)
       turn true true true z = refl

@@ -207,12 +207,6 @@ module _ (c l : List ℕ) (n r h : ℕ) where
               running-8 i = simp (le-leb 1 n a, le-leb n 32 b, le-leb r 256 d, eq-eqb (byteAt l 32) 0 e, eq-eqb (held l n) h f, g, i)
 
 module _ (x : ℕ) where
-  pub condition-low : x < 20 → false ≡ isCondition x
-  condition-low a = simp (lt-leb 20 x a)
-
-  pub condition-in : 20 ≤ x → leb x 27 ≡ isCondition x
-  condition-in a = simp (le-leb 20 x a)
-
   pub end-none : x ≡ 0 → true ≡ (eqb x 0 || isCondition x)
   end-none a = simp (eq-eqb x 0 a)
 

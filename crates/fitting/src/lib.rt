@@ -1,4 +1,8 @@
 // The tests of a run state's bytes that need no state found by the loading rules: values, records, activations, holds, header.
+use formats::compiled::*;
+use formats::limits::*;
+use formats::state::*;
+use formats::wide;
 ghost use mathlib.Core.Path.{_≡_};
 ghost use mathlib.Core.Bool.{true, false, _&&_, _||_};
 ghost use Prim.Native.Nat.{_+_, _*_, _≤_, _<_};
@@ -30,7 +34,7 @@ fn points_to(l: &[u8], r: usize, t: usize, w: usize) -> bool
     if r <= k {
         return false;
     }
-    words::wide::byte_at(l, 11040 + 44 * k) == t - 16
+    words::wide::byte_at(l, RECORDS_AT + RECORD_BYTES * k) == t - wide::TYPE_CLASS
 }
 
 // Whether the word w is a value of type t.
@@ -38,14 +42,14 @@ fn value_fits(c: &[u8], l: &[u8], r: usize, t: usize, w: usize) -> bool
     requires { ⌜ (8 ≤ length (now c)) × (length (now l) ≡ 24576) × (r ≤ 256) ⌝ }
     ensures { λ x. ⌜ x ≡ valueFits (now (c .entry)) (now (l .entry)) r t w ⌝ }
 {
-    let n = words::wide::byte_at(c, 2);
+    let n = words::wide::byte_at(c, CLASS_COUNT_AT);
     if loader::no_type(n, t) {
         return false;
     }
-    if 16 <= t {
+    if wide::TYPE_CLASS <= t {
         return points_to(l, r, t, w);
     }
-    if t == 2 {
+    if t == wide::TYPE_LOGICAL {
         return w < 2;
     }
     true
@@ -70,7 +74,7 @@ pub fn row_fits(
     while j < n {
         let a = words::wide::byte_at(l, t + j);
         let b = words::wide::byte_at(e, q + j);
-        let v = words::wide::word_at(l, w + 4 * j);
+        let v = words::wide::word_at(l, w + WORD_BYTES * j);
         let f = value_fits(c, l, r, a, v);
         ok = both(ok, both(a == b, f));
         j += 1;
@@ -82,15 +86,24 @@ fn record_fits(c: &[u8], cx: &[u32], l: &[u8], r: usize, k: usize) -> bool
     requires { ⌜ (Classed (now c) (now cx)) × (length (now l) ≡ 24576) × (r ≤ 256) × (k < 256) ⌝ }
     ensures { λ x. ⌜ x ≡ recordFits (now (c .entry)) (now (l .entry)) r k ⌝ }
 {
-    let p = 11040 + 44 * k;
+    let p = RECORDS_AT + RECORD_BYTES * k;
     let a = words::wide::byte_at(l, p);
-    let n = words::wide::byte_at(c, 2);
+    let n = words::wide::byte_at(c, CLASS_COUNT_AT);
     if n <= a {
         return false;
     }
     let q = loader::class_at(c, cx, a);
-    let f = words::wide::byte_at(c, q + 2);
-    row_fits(c, l, r, c, q + 3, p + 36, p + 4, f)
+    let f = words::wide::byte_at(c, q + FIELD_COUNT_AT);
+    row_fits(
+        c,
+        l,
+        r,
+        c,
+        q + CLASS_BYTES,
+        p + FIELD_TYPES_AT,
+        p + FIELD_WORDS_AT,
+        f,
+    )
 }
 
 fn records_fit(c: &[u8], cx: &[u32], l: &[u8], r: usize) -> bool
@@ -116,49 +129,58 @@ fn calls_next(c: &[u8], base: usize, l: &[u8], n: usize, k: usize) -> bool
     if n <= j {
         return true;
     }
-    let i = words::wide::half_at(l, 32 + 328 * k + 4);
+    let i = words::wide::half_at(l, ACTIVATIONS_AT + ACTIVATION_BYTES * k + ADDRESS_AT);
     let x = loader::instruction_at(c, base, i);
-    if x.op != 10 {
+    if x.op != wide::OP_CALL {
         return false;
     }
     if x.a != 0 {
         return false;
     }
-    x.b == words::wide::byte_at(l, 32 + 328 * j)
+    x.b == words::wide::byte_at(l, ACTIVATIONS_AT + ACTIVATION_BYTES * j)
 }
 
 fn frame_fits(c: &[u8], bx: &[u32], base: usize, l: &[u8], r: usize, n: usize, k: usize) -> bool
     requires { ⌜ (Bodied (now c) (now bx)) × (base ≡ codeBase (now c)) × (length (now l) ≡ 24576) × (r ≤ 256) × (n ≤ 32) × (k < n) ⌝ }
     ensures { λ x. ⌜ x ≡ frameFits (now (c .entry)) (now (l .entry)) r n k ⌝ }
 {
-    let p = 32 + 328 * k;
+    let p = ACTIVATIONS_AT + ACTIVATION_BYTES * k;
     let b = words::wide::byte_at(l, p);
-    let m = words::wide::byte_at(c, 3);
+    let m = words::wide::byte_at(c, BODY_COUNT_AT);
     if m <= b {
         return false;
     }
     let q = loader::body_at(c, bx, b);
-    let cells = words::wide::byte_at(c, q + 6);
-    if 32 < cells {
+    let cells = words::wide::byte_at(c, q + CELL_COUNT_AT);
+    if MAX_CELLS < cells {
         return false;
     }
-    let depth = words::wide::byte_at(l, p + 1);
-    if 32 < depth {
+    let depth = words::wide::byte_at(l, p + OPERAND_COUNT_AT);
+    if MAX_OPERANDS < depth {
         return false;
     }
-    let open = words::wide::byte_at(l, p + 2);
-    if 16 < open {
+    let open = words::wide::byte_at(l, p + OWN_HOLD_COUNT_AT);
+    if MAX_HOLDS < open {
         return false;
     }
-    let i = words::wide::half_at(l, p + 4);
-    let count = words::wide::half_at(c, 4);
+    let i = words::wide::half_at(l, p + ADDRESS_AT);
+    let count = words::wide::half_at(c, CODE_COUNT_AT);
     if count <= i {
         return false;
     }
     if !calls_next(c, base, l, n, k) {
         return false;
     }
-    row_fits(c, l, r, c, q + 7, p + 264, p + 8, cells)
+    row_fits(
+        c,
+        l,
+        r,
+        c,
+        q + BODY_BYTES,
+        p + CELL_TYPES_AT,
+        p + CELL_WORDS_AT,
+        cells,
+    )
 }
 
 fn frames_fit(c: &[u8], bx: &[u32], base: usize, l: &[u8], r: usize, n: usize) -> bool
@@ -183,24 +205,26 @@ fn open_holds(l: &[u8], n: usize) -> usize
     let mut sum: usize = 0;
     let mut k: usize = 0;
     while k < n {
-        sum += words::wide::byte_at(l, 32 + 328 * k + 2);
+        sum += words::wide::byte_at(l, ACTIVATIONS_AT + ACTIVATION_BYTES * k + OWN_HOLD_COUNT_AT);
         k += 1;
     }
     sum
 }
+
+const LAST_GROUP: usize = GROUPS - 1;
 
 // Whether the h open holds are of groups 0 to 63.
 fn groups_fit(l: &[u8], h: usize) -> bool
     requires { ⌜ length (now l) ≡ 24576 ⌝ }
     ensures { λ x. ⌜ x ≡ groupsFit (now (l .entry)) h ⌝ }
 {
-    if 512 < h {
+    if MAX_OPEN_HOLDS < h {
         return false;
     }
     let mut ok = true;
     let mut j: usize = 0;
     while j < h {
-        ok = both(ok, words::wide::byte_at(l, 10528 + j) <= 63);
+        ok = both(ok, words::wide::byte_at(l, HOLDS_AT + j) <= LAST_GROUP);
         j += 1;
     }
     ok
@@ -222,13 +246,13 @@ fn running_fits(
     if n < 1 {
         return false;
     }
-    if 32 < n {
+    if MAX_ACTIVATIONS < n {
         return false;
     }
-    if 256 < r {
+    if MAX_RECORDS < r {
         return false;
     }
-    if words::wide::byte_at(l, 32) != 0 {
+    if words::wide::byte_at(l, ACTIVATIONS_AT) != 0 {
         return false;
     }
     if open_holds(l, n) != h {
@@ -243,22 +267,13 @@ fn running_fits(
     frames_fit(c, bx, base, l, r, n)
 }
 
-fn is_condition(x: usize) -> bool
-    ensures { λ r. ⌜ r ≡ isCondition x ⌝ }
-{
-    if x < 20 {
-        return false;
-    }
-    x <= 27
-}
-
-fn is_end(x: usize) -> bool
+fn is_end(x: u8) -> bool
     ensures { λ r. ⌜ r ≡ (eqb x 0 || isCondition x) ⌝ }
 {
     if x == 0 {
         return true;
     }
-    is_condition(x)
+    values::is_condition(x)
 }
 
 // All of a state but where its activations stand.
@@ -266,22 +281,22 @@ pub fn plain_fits(c: &[u8], bx: &[u32], cx: &[u32], base: usize, l: &[u8]) -> bo
     requires { ⌜ (Bodied (now c) (now bx)) × (Classed (now c) (now cx)) × (base ≡ codeBase (now c)) × (length (now l) ≡ 24576) ⌝ }
     ensures { λ x. ⌜ x ≡ plainFits (now (c .entry)) (now (l .entry)) ⌝ }
 {
-    let phase = words::wide::byte_at(l, 0);
-    let code = words::wide::byte_at(l, 1);
-    let h = words::wide::half_at(l, 6);
-    if phase == 0 {
-        let n = words::wide::byte_at(l, 2);
-        let r = words::wide::half_at(l, 4);
+    let phase = words::wide::byte_at(l, PHASE_AT);
+    let code = l[CONDITION_AT];
+    let h = words::wide::half_at(l, HOLD_COUNT_AT);
+    if phase == wide::RUNNING {
+        let n = words::wide::byte_at(l, ACTIVATION_COUNT_AT);
+        let r = words::wide::half_at(l, RECORD_COUNT_AT);
         return running_fits(c, bx, cx, base, l, n, r, h);
     }
-    if phase == 1 {
-        return if is_condition(code) {
+    if phase == wide::RELEASING {
+        return if values::is_condition(code) {
             groups_fit(l, h)
         } else {
             false
         };
     }
-    if phase == 2 {
+    if phase == wide::ENDED {
         return is_end(code);
     }
     false

@@ -12,9 +12,8 @@ use lib.ListN.{set as replace}
 use lib.Seq.{sets}
 use Rattle.words.specs.Numbers.{byteAt, halfAt, wordAt}
 use Rattle.values.specs.Values.{Value, valueWord, Cell, assigned}
-use Rattle.bytecode.specs.Machine.{Activation, Made, endBy, running, unwinding, ended, allHolds, rootOf, putTop, putLowest, fieldPut}
-use Rattle.bytecode.specs.Sound.{cellValue}
-use Rattle.bytecode.specs.State.{typeByte, encode}
+use Rattle.bytecode.specs.Machine.{Activation, Made, Shared, endBy, running, unwinding, ended, allHolds, rootOf, putTop, putLowest, fieldPut}
+use Rattle.bytecode.specs.State.{typeByte, wordOfCell, byteOfCell, encode}
 use Rattle.layout.specs.Parts.{length-encode}
 use Rattle.layout.specs.Places.{framePlace, body, depth, open′, address, cellWord, operandWord, cellType, operandType, fieldWord, fieldType, phase, code, activations, records, holds, group}
 use Rattle.layout.specs.Edits.{on}
@@ -22,19 +21,19 @@ use Rattle.layout.specs.Steps.{activation, goes-law, push-law, pop-law, operand
 use Rattle.layout.specs.Records.{made, make-law, field-next-law, field-law, root-cell-law}
 use Rattle.layout.specs.Phases.{condition-law, end-law, release-law, finish-law}
 use Rattle.layout.specs.Leaves.{drop-law}
-use Rattle.layout.specs.Reads.{encode-reads, on-reads, root-reads, operand-is, value-is, cell-is, record-reads, group-is}
+use Rattle.layout.specs.Reads.{encode-reads, on-reads, root-reads, operand-is, value-is, record-reads, group-is}
 use Rattle.frames.specs.Bytes.{wentTo, operandSet, cellSet, fieldSet, pushed, popped, holdTaken, holdLet, released, entered, left, recordMade, conditioned, finished}
 
 -- t stands at f, with us above it and fs below it
-pub record On (l : List ℕ) (f : ℕ) (rs : List Made) (us : List Activation) (t : Activation) (fs : List Activation) : Type 0 where
+pub record On (l : List ℕ) (f : ℕ) (rs : Shared) (us : List Activation) (t : Activation) (fs : List Activation) : Type 0 where
   pub few : length fs < 32
   pub place : f ≡ framePlace (length fs)
   pub bytes : l ≡ encode (on rs us t fs)
 
-pub on-long : {l : List ℕ} {f : ℕ} {rs : List Made} {us : List Activation} {t : Activation} {fs : List Activation} → On l f rs us t fs → length l ≡ 24576
+pub on-long : {l : List ℕ} {f : ℕ} {rs : Shared} {us : List Activation} {t : Activation} {fs : List Activation} → On l f rs us t fs → length l ≡ 24576
 on-long {rs = rs} {us = us} {t = t} {fs = fs} p = rw (p .bytes) (length-encode (on rs us t fs))
 
-module _ {l : List ℕ} {f : ℕ} {rs : List Made} {us fs : List Activation} {t : Activation} (p : On l f rs us t fs) where
+module _ {l : List ℕ} {f : ℕ} {rs : Shared} {us fs : List Activation} {t : Activation} (p : On l f rs us t fs) where
   -- ── reading ──
   pub read-body : byteAt l f ≡ t .body
   read-body = rw (p .bytes, p .place, ← add-zero (framePlace (length fs))) (on-reads body tt rs us t fs (p .few))
@@ -58,10 +57,10 @@ module _ {l : List ℕ} {f : ℕ} {rs : List Made} {us fs : List Activation} {t 
       )
 
   pub read-cell : (j : ℕ) (c : Cell) → getElem? (t .cells) j ≡ some c → j < 32
-      → (wordAt l (f + (8 + 4 * j)) ≡ valueWord (cellValue c)) × (byteAt l (f + (264 + j)) ≡ typeByte (cellValue c))
+      → (wordAt l (f + (8 + 4 * j)) ≡ wordOfCell c) × (byteAt l (f + (264 + j)) ≡ byteOfCell c)
   read-cell j c e h = (
-    rw (p .bytes, p .place) (on-reads (cellWord j) h rs us t fs (p .few) ∙ cell-is valueWord (t .cells) j c e h),
-    rw (p .bytes, p .place) (on-reads (cellType j) h rs us t fs (p .few) ∙ cell-is typeByte (t .cells) j c e h),
+    rw (p .bytes, p .place) (on-reads (cellWord j) h rs us t fs (p .few) ∙ value-is wordOfCell 32 (t .cells) j c e h),
+    rw (p .bytes, p .place) (on-reads (cellType j) h rs us t fs (p .few) ∙ value-is byteOfCell 32 (t .cells) j c e h),
   )
 
 -- the root changes and no activation comes or goes
@@ -72,7 +71,7 @@ lowest-length cs (f ∷ []) = refl
 lowest-length cs (f ∷ (g ∷ gs)) = ap suc (lowest-length cs (g ∷ gs))
 
 -- ── stores within an activation ──
-module _ {l : List ℕ} {f : ℕ} {rs : List Made} {us fs : List Activation} {b i : ℕ} {cs : List Cell} {vs : List Value} {gs : List ℕ} where
+module _ {l : List ℕ} {f : ℕ} {rs : Shared} {us fs : List Activation} {b i : ℕ} {cs : List Cell} {vs : List Value} {gs : List ℕ} where
   pub on-go : On l f rs us (activation b i cs vs gs) fs → (j : ℕ) → On (wentTo l f j) f rs us (activation b j cs vs gs) fs
   on-go p j = record { few = p .few; place = p .place; bytes = rw (p .bytes, p .place) (goes-law rs us fs (p .few) b i cs vs gs j) }
 
@@ -99,7 +98,7 @@ module _ {l : List ℕ} {f : ℕ} {rs : List Made} {us fs : List Activation} {b 
       record { few = p .few; place = p .place; bytes = rw (p .bytes, p .place, e) (pop-law rs us fs (p .few) b i cs vs gs v h′) }
 
 -- an operand in the place of u, with ws above it and vs below it
-pub on-operand : {l : List ℕ} {f : ℕ} {rs : List Made} {us fs : List Activation} {b i : ℕ} {cs : List Cell} {gs : List ℕ} (v : Value) (w t : ℕ) → w ≡ valueWord v → t ≡ typeByte v
+pub on-operand : {l : List ℕ} {f : ℕ} {rs : Shared} {us fs : List Activation} {b i : ℕ} {cs : List Cell} {gs : List ℕ} (v : Value) (w t : ℕ) → w ≡ valueWord v → t ≡ typeByte v
     → (ws : List Value) (u : Value) (vs : List Value) → On l f rs us (activation b i cs (ws ++ (u ∷ vs)) gs) fs → (n : ℕ) → n ≡ length vs → n < 32
     → On (operandSet l f n w t) f rs us (activation b i cs (ws ++ (v ∷ vs)) gs) fs
 on-operand {rs = rs} {us = us} {fs = fs} {b = b} {i = i} {cs = cs} {gs = gs} v w t ew et ws u vs p n e h =
@@ -107,14 +106,14 @@ on-operand {rs = rs} {us = us} {fs = fs} {b = b} {i = i} {cs = cs} {gs = gs} v w
     record { few = p .few; place = p .place; bytes = rw (p .bytes, p .place, e, ew, et) (operand-law rs us fs (p .few) b i cs vs gs ws u v h′) }
 
 -- ── the top: what the header says ──
-module _ {l : List ℕ} {f : ℕ} {rs : List Made} {fs : List Activation} {t : Activation} (p : On l f rs [] t fs) where
+module _ {l : List ℕ} {f : ℕ} {rs : Shared} {fs : List Activation} {t : Activation} (p : On l f rs [] t fs) where
   pub read-phase : byteAt l 0 ≡ 0
   read-phase = rw (p .bytes) (encode-reads phase tt (running rs t fs))
 
   pub read-count : byteAt l 2 ≡ length (t ∷ fs)
   read-count = rw (p .bytes) (encode-reads activations tt (running rs t fs))
 
-  pub read-records : halfAt l 4 ≡ length rs
+  pub read-records : halfAt l 4 ≡ length (rs .records)
   read-records = rw (p .bytes) (encode-reads records tt (running rs t fs))
 
   pub read-holds : halfAt l 6 ≡ length (allHolds (t ∷ fs))
@@ -128,13 +127,13 @@ module _ {l : List ℕ} {f : ℕ} {rs : List Made} {fs : List Activation} {t : A
 
   -- the root stands first
   pub read-root : (j : ℕ) (c : Cell) → getElem? (rootOf t fs .cells) j ≡ some c → j < 32
-      → (wordAt l (32 + (8 + 4 * j)) ≡ valueWord (cellValue c)) × (byteAt l (32 + (264 + j)) ≡ typeByte (cellValue c))
+      → (wordAt l (32 + (8 + 4 * j)) ≡ wordOfCell c) × (byteAt l (32 + (264 + j)) ≡ byteOfCell c)
   read-root j c e h = (
-    rw (p .bytes) (root-reads (cellWord j) h rs t fs ∙ cell-is valueWord (rootOf t fs .cells) j c e h),
-    rw (p .bytes) (root-reads (cellType j) h rs t fs ∙ cell-is typeByte (rootOf t fs .cells) j c e h),
+    rw (p .bytes) (root-reads (cellWord j) h rs t fs ∙ value-is wordOfCell 32 (rootOf t fs .cells) j c e h),
+    rw (p .bytes) (root-reads (cellType j) h rs t fs ∙ value-is byteOfCell 32 (rootOf t fs .cells) j c e h),
   )
 
-  pub read-field : (n x : ℕ) (q : Made) (v : Value) → getElem? rs n ≡ some q → getElem? (q .fields) x ≡ some v → n < 256 → x < 8
+  pub read-field : (n x : ℕ) (q : Made) (v : Value) → getElem? (rs .records) n ≡ some q → getElem? (q .fields) x ≡ some v → n < 256 → x < 8
       → (wordAt l (11040 + 44 * n + (4 + 4 * x)) ≡ valueWord v) × (byteAt l (11040 + 44 * n + (36 + x)) ≡ typeByte v)
   read-field n x q v e e′ h k = (
     rw (p .bytes) (record-reads (fieldWord x) k rs t fs n q e h ∙ value-is valueWord 8 (q .fields) x v e′ k),
@@ -149,21 +148,21 @@ module _ {l : List ℕ} {f : ℕ} {rs : List Made} {fs : List Activation} {t : A
       record { few = h′; place = q; bytes = rw (p .bytes, q, e, add-one (length (t ∷ fs))) (rw (add-zero (framePlace (length (t ∷ fs)))) at (enter-law rs t fs h′ b i)) }
 
   -- ── records ──
-  pub on-make : (c r : ℕ) → r ≡ length rs → r < 256 → On (recordMade l r c) f (rs ++ (made c [] ∷ [])) [] t fs
+  pub on-make : (c r : ℕ) → r ≡ length (rs .records) → r < 256 → On (recordMade l r c) f (record { records = rs .records ++ (made c [] ∷ []) }) [] t fs
   on-make c r e h =
-      let h′ : length rs < 256 = omega arith in
-      record { few = p .few; place = p .place; bytes = rw (p .bytes, e, ← add-zero (11040 + 44 * length rs), add-one (length rs)) (make-law rs t fs c h′) }
+      let h′ : length (rs .records) < 256 = omega arith in
+      record { few = p .few; place = p .place; bytes = rw (p .bytes, e, ← add-zero (11040 + 44 * length (rs .records)), add-one (length (rs .records))) (make-law rs t fs c h′) }
 
   module _ (v : Value) (w y : ℕ) (ew : w ≡ valueWord v) (et : y ≡ typeByte v) where
     -- behind the last field of record n
-    pub on-field-next : (n c : ℕ) (vs : List Value) (x : ℕ) → getElem? rs n ≡ some (made c vs) → n < 256 → x ≡ length vs → x < 8
-        → On (fieldSet l n x w y) f (replace rs n (made c (vs ++ (v ∷ [])))) [] t fs
+    pub on-field-next : (n c : ℕ) (vs : List Value) (x : ℕ) → getElem? (rs .records) n ≡ some (made c vs) → n < 256 → x ≡ length vs → x < 8
+        → On (fieldSet l n x w y) f (record { records = replace (rs .records) n (made c (vs ++ (v ∷ []))) }) [] t fs
     on-field-next n c vs x e h ex k =
         let k′ : length vs < 8 = omega arith in
         record { few = p .few; place = p .place; bytes = rw (p .bytes, ew, et, ex) (field-next-law rs t fs n c vs v e h k′) }
 
-    pub on-field : (n x : ℕ) (q : Made) → getElem? rs n ≡ some q → n < 256 → x < length (q .fields) → x < 8
-        → On (fieldSet l n x w y) f (fieldPut n x v q rs) [] t fs
+    pub on-field : (n x : ℕ) (q : Made) → getElem? (rs .records) n ≡ some q → n < 256 → x < length (q .fields) → x < 8
+        → On (fieldSet l n x w y) f (record { records = fieldPut n x v q (rs .records) }) [] t fs
     on-field n x q e h i k = record { few = p .few; place = p .place; bytes = rw (p .bytes, ew, et) (field-law rs t fs n x q v e h i k) }
 
     -- a cell of the root
@@ -174,19 +173,19 @@ module _ {l : List ℕ} {f : ℕ} {rs : List Made} {fs : List Activation} {t : A
         record { few = rw n (p .few); place = rw n (p .place); bytes = rw (p .bytes, ew, et) (root-cell-law rs t fs j v h k) }
 
   -- ── the phases ──
-  module _ (small : length rs ≤ 256) where
+  module _ (small : length (rs .records) ≤ 256) where
     pub on-condition : (c : ℕ) → conditioned l c ≡ encode (unwinding (allHolds (t ∷ fs)) (endBy c))
     on-condition c =
         let few : length (t ∷ fs) ≤ 32 = omega (arith, p .few) in
-        rw (read-count, read-records, p .bytes) (condition-law rs t fs (length (t ∷ fs)) (length rs) (omega arith) few (omega arith) small c)
+        rw (read-count, read-records, p .bytes) (condition-law rs t fs (length (t ∷ fs)) (length (rs .records)) (omega arith) few (omega arith) small c)
 
     pub on-finish : allHolds (t ∷ fs) ≡ [] → finished l ≡ encode (ended 0)
     on-finish e =
         let few : length (t ∷ fs) ≤ 32 = omega (arith, p .few) in
-        rw (read-count, read-records, p .bytes) (end-law rs t fs (length (t ∷ fs)) (length rs) (omega arith) few (omega arith) small e)
+        rw (read-count, read-records, p .bytes) (end-law rs t fs (length (t ∷ fs)) (length (rs .records)) (omega arith) few (omega arith) small e)
 
 -- the top taken off
-pub on-leave : {l : List ℕ} {f : ℕ} {rs : List Made} {g t : Activation} {fs : List Activation} → On l f rs [] g (t ∷ fs) → g .holds ≡ [] → (k : ℕ) → k ≡ length (t ∷ fs)
+pub on-leave : {l : List ℕ} {f : ℕ} {rs : Shared} {g t : Activation} {fs : List Activation} → On l f rs [] g (t ∷ fs) → g .holds ≡ [] → (k : ℕ) → k ≡ length (t ∷ fs)
     → On (left l f k) (f - 328) rs [] t fs
 on-leave {f = f} {rs = rs} {g = g} {t = t} {fs = fs} p e k n =
     let few : length (t ∷ fs) < 32 = p .few in
@@ -195,7 +194,7 @@ on-leave {f = f} {rs = rs} {g = g} {t = t} {fs = fs} p e k n =
     record { few = few′; place = q; bytes = rw (p .bytes, p .place, n) (drop-law rs g t fs (p .few) e) }
 
 -- ── holds of the top ──
-module _ {l : List ℕ} {f : ℕ} {rs : List Made} {fs : List Activation} {b i : ℕ} {cs : List Cell} {vs : List Value} {gs : List ℕ} (g : ℕ) where
+module _ {l : List ℕ} {f : ℕ} {rs : Shared} {fs : List Activation} {b i : ℕ} {cs : List Cell} {vs : List Value} {gs : List ℕ} (g : ℕ) where
   pub on-take : On l f rs [] (activation b i cs vs gs) fs → halfAt l 6 < 512 → On (holdTaken l f g) f rs [] (activation b i cs vs (g ∷ gs)) fs
   unfolding allHolds
   on-take p h =

@@ -8,6 +8,7 @@ ghost use Rattle.bytecode.specs.State.{zeros};
 ghost use Rattle.frames.specs.Bytes.{Framed, holdTaken, holdLet, entered, left, recordMade, wipedAll, conditioned, finished, released};
 use crate::reads::wide;
 use crate::writes::put_byte;
+use formats::state::*;
 
 // A byte more than is cleared is never looked at: the loop has no exit of its own.
 pub fn clear(s: &mut [u8], p: usize, n: usize)
@@ -26,22 +27,22 @@ pub fn take_hold(s: &mut [u8], f: usize, g: u8)
     requires { ⌜ (Framed (now s) f 0) × (halfAt (now s) 6 < 512) × (byteAt (now s) (f + 2) < 255) ⌝ }
     ensures { λ _. ⌜ now (s .exit) ≡ holdTaken (now (s .entry)) f g ⌝ }
 {
-    let h = words::half_at(s, 6);
-    let n = s[f + 2];
-    put_byte(s, 10528 + (h as usize), g);
-    words::put_half(s, 6, h + 1);
-    put_byte(s, f + 2, n + 1);
+    let h = words::half_at(s, HOLD_COUNT_AT);
+    let n = s[f + OWN_HOLD_COUNT_AT];
+    put_byte(s, HOLDS_AT + (h as usize), g);
+    words::put_half(s, HOLD_COUNT_AT, h + 1);
+    put_byte(s, f + OWN_HOLD_COUNT_AT, n + 1);
 }
 
 pub fn let_hold(s: &mut [u8], f: usize)
     requires { ⌜ (Framed (now s) f 0) × (0 < halfAt (now s) 6) × (halfAt (now s) 6 ≤ 512) × (0 < byteAt (now s) (f + 2)) ⌝ }
     ensures { λ _. ⌜ now (s .exit) ≡ holdLet (now (s .entry)) f ⌝ }
 {
-    let h = words::half_at(s, 6) - 1;
-    let n = s[f + 2] - 1;
-    put_byte(s, 10528 + (h as usize), 0);
-    words::put_half(s, 6, h);
-    put_byte(s, f + 2, n);
+    let h = words::half_at(s, HOLD_COUNT_AT) - 1;
+    let n = s[f + OWN_HOLD_COUNT_AT] - 1;
+    put_byte(s, HOLDS_AT + (h as usize), 0);
+    words::put_half(s, HOLD_COUNT_AT, h);
+    put_byte(s, f + OWN_HOLD_COUNT_AT, n);
 }
 
 // Activation k, at f, of body b at address i.
@@ -50,16 +51,16 @@ pub fn enter(s: &mut [u8], f: usize, k: u8, b: u8, i: u16)
     ensures { λ _. ⌜ now (s .exit) ≡ entered (now (s .entry)) f k b i ⌝ }
 {
     put_byte(s, f, b);
-    words::put_half(s, f + 4, i);
-    put_byte(s, 2, k + 1);
+    words::put_half(s, f + ADDRESS_AT, i);
+    put_byte(s, ACTIVATION_COUNT_AT, k + 1);
 }
 
 pub fn leave(s: &mut [u8], f: usize, k: u8)
     requires { ⌜ Framed (now s) f 0 ⌝ }
     ensures { λ _. ⌜ now (s .exit) ≡ left (now (s .entry)) f k ⌝ }
 {
-    clear(s, f, 328);
-    put_byte(s, 2, k);
+    clear(s, f, ACTIVATION_BYTES);
+    put_byte(s, ACTIVATION_COUNT_AT, k);
 }
 
 // Record r, of class c, with no fields yet.
@@ -67,8 +68,8 @@ pub fn make_record(s: &mut [u8], r: u16, c: u8)
     requires { ⌜ (length (now s) ≡ 24576) × (r < 256) ⌝ }
     ensures { λ _. ⌜ now (s .exit) ≡ recordMade (now (s .entry)) r c ⌝ }
 {
-    put_byte(s, 11040 + 44 * (r as usize), c);
-    words::put_half(s, 4, r + 1);
+    put_byte(s, RECORDS_AT + RECORD_BYTES * (r as usize), c);
+    words::put_half(s, RECORD_COUNT_AT, r + 1);
 }
 
 // All activations and all records.
@@ -76,10 +77,10 @@ fn wipe(s: &mut [u8])
     requires { ⌜ (length (now s) ≡ 24576) × (byteAt (now s) 2 ≤ 32) × (halfAt (now s) 4 ≤ 256) ⌝ }
     ensures { λ _. ⌜ now (s .exit) ≡ wipedAll (now (s .entry)) ⌝ }
 {
-    let a = wide(s[2]);
-    let r = words::half_at(s, 4);
-    clear(s, 32, 328 * a);
-    clear(s, 11040, 44 * (r as usize));
+    let a = wide(s[ACTIVATION_COUNT_AT]);
+    let r = words::half_at(s, RECORD_COUNT_AT);
+    clear(s, ACTIVATIONS_AT, ACTIVATION_BYTES * a);
+    clear(s, RECORDS_AT, RECORD_BYTES * (r as usize));
 }
 
 // The holds stay where they are, to be released from the last on.
@@ -88,10 +89,10 @@ pub fn condition(s: &mut [u8], c: u8)
     ensures { λ _. ⌜ now (s .exit) ≡ conditioned (now (s .entry)) c ⌝ }
 {
     wipe(s);
-    put_byte(s, 0, 1);
-    put_byte(s, 1, c);
-    put_byte(s, 2, 0);
-    words::put_half(s, 4, 0);
+    put_byte(s, PHASE_AT, RELEASING);
+    put_byte(s, CONDITION_AT, c);
+    put_byte(s, ACTIVATION_COUNT_AT, 0);
+    words::put_half(s, RECORD_COUNT_AT, 0);
 }
 
 pub fn finish(s: &mut [u8])
@@ -99,9 +100,9 @@ pub fn finish(s: &mut [u8])
     ensures { λ _. ⌜ now (s .exit) ≡ finished (now (s .entry)) ⌝ }
 {
     wipe(s);
-    put_byte(s, 0, 2);
-    put_byte(s, 2, 0);
-    words::put_half(s, 4, 0);
+    put_byte(s, PHASE_AT, ENDED);
+    put_byte(s, ACTIVATION_COUNT_AT, 0);
+    words::put_half(s, RECORD_COUNT_AT, 0);
 }
 
 // One hold of a releasing state, the last of h + 1.
@@ -109,6 +110,6 @@ pub fn release(s: &mut [u8], h: u16)
     requires { ⌜ (length (now s) ≡ 24576) × (h < 512) ⌝ }
     ensures { λ _. ⌜ now (s .exit) ≡ released (now (s .entry)) h ⌝ }
 {
-    put_byte(s, 10528 + (h as usize), 0);
-    words::put_half(s, 6, h);
+    put_byte(s, HOLDS_AT + (h as usize), 0);
+    words::put_half(s, HOLD_COUNT_AT, h);
 }

@@ -1,4 +1,5 @@
 // Values stored in an activation or in a record, and the address at which an activation goes on.
+use formats::state::*;
 ghost use mathlib.Core.Path.{_≡_};
 ghost use Prim.Native.Nat.{_+_, _*_, _≤_, _<_};
 ghost use mathlib.Core.List.{[], _∷_};
@@ -26,21 +27,33 @@ pub fn go_to(s: &mut [u8], f: usize, i: u16)
     requires { ⌜ Framed (now s) f 0 ⌝ }
     ensures { λ _. ⌜ now (s .exit) ≡ wentTo (now (s .entry)) f i ⌝ }
 {
-    words::put_half(s, f + 4, i);
+    words::put_half(s, f + ADDRESS_AT, i);
 }
 
 pub fn put_operand(s: &mut [u8], f: usize, k: usize, w: u32, t: u8)
     requires { ⌜ Framed (now s) f k ⌝ }
     ensures { λ _. ⌜ now (s .exit) ≡ operandSet (now (s .entry)) f k w t ⌝ }
 {
-    put_value(s, f + (136 + 4 * k), f + (296 + k), w, t);
+    put_value(
+        s,
+        f + (OPERAND_WORDS_AT + WORD_BYTES * k),
+        f + (OPERAND_TYPES_AT + k),
+        w,
+        t,
+    );
 }
 
 pub fn put_cell(s: &mut [u8], f: usize, j: usize, w: u32, t: u8)
     requires { ⌜ Framed (now s) f j ⌝ }
     ensures { λ _. ⌜ now (s .exit) ≡ cellSet (now (s .entry)) f j w t ⌝ }
 {
-    put_value(s, f + (8 + 4 * j), f + (264 + j), w, t);
+    put_value(
+        s,
+        f + (CELL_WORDS_AT + WORD_BYTES * j),
+        f + (CELL_TYPES_AT + j),
+        w,
+        t,
+    );
 }
 
 pub fn put_field(s: &mut [u8], r: usize, x: usize, w: u32, t: u8)
@@ -49,8 +62,8 @@ pub fn put_field(s: &mut [u8], r: usize, x: usize, w: u32, t: u8)
 {
     put_value(
         s,
-        11040 + 44 * r + (4 + 4 * x),
-        11040 + 44 * r + (36 + x),
+        RECORDS_AT + RECORD_BYTES * r + (FIELD_WORDS_AT + WORD_BYTES * x),
+        RECORDS_AT + RECORD_BYTES * r + (FIELD_TYPES_AT + x),
         w,
         t,
     );
@@ -62,7 +75,7 @@ pub fn push(s: &mut [u8], f: usize, n: usize, w: u32, t: u8)
     ensures { λ _. ⌜ now (s .exit) ≡ pushed (now (s .entry)) f n w t ⌝ }
 {
     put_operand(s, f, n, w, t);
-    s[f + 1] = (n + 1) as u8;
+    s[f + OPERAND_COUNT_AT] = (n + 1) as u8;
 }
 
 // The last of n + 1 operands.
@@ -71,5 +84,5 @@ pub fn pop(s: &mut [u8], f: usize, n: usize)
     ensures { λ _. ⌜ now (s .exit) ≡ popped (now (s .entry)) f n ⌝ }
 {
     put_operand(s, f, n, 0, 0);
-    s[f + 1] = n as u8;
+    s[f + OPERAND_COUNT_AT] = n as u8;
 }

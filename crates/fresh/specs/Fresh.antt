@@ -21,7 +21,7 @@ use Rattle.layout.specs.Phases.{begin-law}
 
 -- the root with j cells, whose types stand in c at q
 unfoldable pub freshWith : List ℕ → ℕ → ℕ → Machine
-freshWith c q j = running [] (record { body = 0; address = 0; cells = freshAll (typesOn c q j); operands = []; holds = [] }) []
+freshWith c q j = running (record { records = [] }) (record { body = 0; address = 0; cells = freshAll (typesOn c q j); operands = []; holds = [] }) []
 
 -- ── with all its cells it is the fresh state ──
 root-of : (c : List ℕ) (n : ℕ) → 0 < n → rootCells (span (λ k. bodyOn c (bodyPlace c k)) 0 n) ≡ typesOn c (bodyPlace c 0 + 7) (byteAt c (bodyPlace c 0 + 6))
@@ -79,5 +79,5 @@ fresh-next c q n j t h few =
     let p : 40 + 4 * j ≡ 32 + 328 * 0 + (8 + 4 * j) = omega arith in
     let r : 296 + j ≡ 32 + 328 * 0 + (264 + j) = omega arith in
     let s : typesOn c q (j + 1) ≡ ts ++ (ty ∷ []) = ap (λ (k : ℕ). typesOn c q k) (add-one j) ∙ span-snoc (λ k. tyOn (byteAt c (q + k))) j 0 ∙ ap (λ (k : ℕ). ts ++ (tyOn (byteAt c (q + k)) ∷ [])) (zero-add j) in
-    let g = cell-next-law [] [] [] (omega arith) 0 0 (freshAll ts) [] [] (initial ty) (rw e (omega arith)) in
+    let g = cell-next-law (record { records = [] }) [] [] (omega arith) 0 0 (freshAll ts) [] [] (initial ty) (rw e (omega arith)) in
     rw (s, fresh-more ts ty, p, r) (rw (e, w .0, w .1, t j h) at g)

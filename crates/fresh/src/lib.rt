@@ -1,4 +1,5 @@
 // A fresh state written over lent bytes: the root alone, at its first address, its cells as variables start.
+use formats::state::*;
 ghost use mathlib.Core.Path.{_≡_};
 ghost use mathlib.Core.List.{[], _∷_};
 ghost use Prim.Native.Nat.{_+_, _*_, _≤_, _<_};
@@ -9,12 +10,17 @@ ghost use Rattle.bytecode.specs.State.{zeros, encode};
 ghost use Rattle.loader.specs.Views.{Typed};
 ghost use Rattle.fresh.specs.Fresh.{freshWith};
 
+// Where the root's cells have their words and their types: it is the first activation.
+const ROOT_WORDS_AT: usize = ACTIVATIONS_AT + CELL_WORDS_AT;
+
+const ROOT_TYPES_AT: usize = ACTIVATIONS_AT + CELL_TYPES_AT;
+
 fn clear_all(l: &mut [u8])
     requires { ⌜ length (now l) ≡ 24576 ⌝ }
     ensures { λ _. ⌜ now (l .exit) ≡ zeros 24576 ⌝ }
 {
     let mut i: usize = 0;
-    while i < 24576 {
+    while i < STATE_BYTES {
         l[i] = 0;
         i += 1;
     }
@@ -25,8 +31,8 @@ fn write_cell(l: &mut [u8], j: usize, t: u8)
     requires { ⌜ (length (now l) ≡ 24576) × (j < 32) ⌝ }
     ensures { λ _. ⌜ now (l .exit) ≡ sets (sets (now (l .entry)) (40 + 4 * j) (word 0)) (296 + j) (t ∷ []) ⌝ }
 {
-    words::put_word(l, 40 + 4 * j, 0);
-    l[296 + j] = t;
+    words::put_word(l, ROOT_WORDS_AT + WORD_BYTES * j, 0);
+    l[ROOT_TYPES_AT + j] = t;
 }
 
 // The n cells whose types stand in c at q, in a state that has none yet.
@@ -47,6 +53,6 @@ pub fn write_fresh(c: &[u8], q: usize, l: &mut [u8], n: usize)
     ensures { λ _. ⌜ now (l .exit) ≡ encode (freshWith (now (c .entry)) q n) ⌝ }
 {
     clear_all(l);
-    l[2] = 1;
+    l[ACTIVATION_COUNT_AT] = 1;
     write_cells(c, q, l, n);
 }

@@ -1,5 +1,6 @@
 // Heads: the names of a block, a parameter list or the root are pushed before anything in it is judged, since all are visible
 // throughout; then its declarations are judged.
+use formats::entries::*;
 use scopes::Found;
 ghost use mathlib.Core.List.{_∷_, _++_};
 ghost use Prim.Native.Nat.{_+_, _*_, _/_, _≤_, _<_};
@@ -51,7 +52,7 @@ pub fn add_head(
     let mut up = top;
     let mut left = count;
     while 0 < left {
-        up = add_one(table, place, 10, sort, env, up);
+        up = add_one(table, place, KIND_DECLARE, sort, env, up);
         place += 1;
         left -= 1;
     }
@@ -74,7 +75,7 @@ fn add_labels(
     let mut up = top;
     let mut left = count;
     while 0 < left {
-        up = add_one(table, place, 20, 5, env, up);
+        up = add_one(table, place, KIND_LABEL, 5, env, up);
         place += spans::size_at(sizes, place);
         left -= 1;
     }
@@ -88,9 +89,9 @@ fn add_global(table: &[u8], place: usize, env: &mut [u32], top: usize) -> usize
 {
     let kind = spans::kind_at(table, place);
     match kind {
-        11 => add_class(table, place, env, top),
-        12 => add_one(table, place, 12, 7, env, top),
-        _ => add_one(table, place, 10, 4, env, top),
+        KIND_CLASS => add_class(table, place, env, top),
+        KIND_PROCEDURE => add_one(table, place, KIND_PROCEDURE, 7, env, top),
+        _ => add_one(table, place, KIND_DECLARE, 4, env, top),
     }
 }
 
@@ -99,7 +100,7 @@ fn add_class(table: &[u8], place: usize, env: &mut [u32], top: usize) -> usize
     requires { ⌜ (8 * (place + 1 + bAt (now table) place) ≤ length (now table)) × (length (now table) ≤ 16384) × (4 * (top + length (oneAt 11 6 (now table) place ++ itemsAt (65536 + aAt (now table) place) (now table) (place + 1) (bAt (now table) place))) ≤ length (now env)) ⌝ }
     ensures { λ r. ⌜ Grown top (now (env .entry)) (now (env .exit)) r (addAll (oneAt 11 6 (now (table .entry)) place ++ itemsAt (65536 + aAt (now (table .entry)) place) (now (table .entry)) (place + 1) (bAt (now (table .entry)) place)) (envOf (now (env .entry)) top)) (length (oneAt 11 6 (now (table .entry)) place ++ itemsAt (65536 + aAt (now (table .entry)) place) (now (table .entry)) (place + 1) (bAt (now (table .entry)) place))) ⌝ }
 {
-    let up = add_one(table, place, 11, 6, env, top);
+    let up = add_one(table, place, KIND_CLASS, 6, env, top);
     let sort = 65536 + spans::a_at(table, place) as u32;
     add_head(
         table,
@@ -200,7 +201,7 @@ fn declared(table: &[u8], at: usize, env: &[u32], top: usize) -> Verdict
     requires { ⌜ (8 * (at + 1) ≤ length (now table)) × (4 * top ≤ length (now env)) ⌝ }
     ensures { λ r. ⌜ Says r (declFlaws (now (table .entry)) (envOf (now (env .entry)) top) at) ⌝ }
 {
-    if spans::kind_at(table, at) == 10 {
+    if spans::kind_at(table, at) == KIND_DECLARE {
         match once(env, top, spans::a_at(table, at) as u32, at) {
             Verdict::Fine(_) => classed(env, top, spans::b_at(table, at), at),
             Verdict::Refused(n, p) => Verdict::Refused(n, p),

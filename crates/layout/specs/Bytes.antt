@@ -2,6 +2,7 @@
 use mathlib.Core.Path.{_≡_, refl, ap}
 use mathlib.Core.Bool.{Bool, true, false, _||_}
 use mathlib.Core.List.{List, [], _∷_, _++_, map, reverse}
+use mathlib.Core.Option.{Option}
 use Prim.Native.Nat.{ℕ, zero, suc, _*_, _≤_, _<_}
 use native.Mathlib.Omega.{arith}
 use lib.Dec.{eqb, leb}
@@ -11,15 +12,16 @@ use Rattle.words.specs.Lists.{all}
 use Rattle.words.specs.Numbers.{half, word}
 use Rattle.words.specs.Laws.{Bytes}
 use Rattle.values.specs.Ends.{isCondition}
-use Rattle.values.specs.Values.{Value, valueWord}
+use Rattle.values.specs.Conditions.{condition-byte}
+use Rattle.values.specs.Values.{valueWord}
 use Rattle.bytecode.specs.Macro.{Macro}
 use Rattle.bytecode.specs.Machine.{Activation, Made, endBy, Machine, running, unwinding, ended, allHolds}
-use Rattle.bytecode.specs.Sound.{cellValues, soundGroup, sound}
-use Rattle.bytecode.specs.State.{pad, flat, zeros, wordsOf, typesOf, typeByte, activationBytes, recordBytes, headerBytes, stateBytes, encode}
+use Rattle.bytecode.specs.Sound.{soundGroup, sound}
+use Rattle.bytecode.specs.State.{pad, flat, zeros, wordsOf, typesOf, typeByte, readValue, wordOfCell, byteOfCell, readCell, activationBytes, recordBytes, headerBytes, stateBytes, encode}
 use Rattle.loading.specs.Terms.{Each}
 use Rattle.loading.specs.Tests.{halves}
 use Rattle.layout.specs.Elements.{each-all, each-both, each-map, each-reverse, there}
-use Rattle.layout.specs.Sized.{Sized, GoodValue, GoodRecord, GoodActivation, good}
+use Rattle.layout.specs.Sized.{Sized, Laid, GoodValue, GoodRecord, GoodActivation, good}
 
 abbrev Small : List ℕ → Type 0
 Small l = Each (λ (b : ℕ). b < 256) l
@@ -54,14 +56,17 @@ unfolding zeros
 small-zeros zero = tt
 small-zeros (suc n) = (omega arith, small-zeros n)
 
-module _ (classes : ℕ) (n : ℕ) (vs : List Value) (h : Each (GoodValue classes) vs) where
-  small-words : Small (wordsOf n vs)
+module _ {A : Type 0} (wordOf byteOf : A → ℕ) (read : ℕ → ℕ → Option A) (n : ℕ) (xs : List A) (h : Each (Laid wordOf byteOf read) xs) where
+  small-words : Small (wordsOf n (map wordOf xs))
   small-words =
-      small-flat (λ (w : ℕ). w < 4294967296) word small-word (pad n 0 (map valueWord vs))
-      (each-pad (λ (w : ℕ). w < 4294967296) n 0 (map valueWord vs) (omega arith) (each-map (GoodValue classes) (λ (w : ℕ). w < 4294967296) valueWord (λ v g. g .narrow) vs h))
+      small-flat (λ (w : ℕ). w < 4294967296) word small-word (pad n 0 (map wordOf xs))
+      (each-pad (λ (w : ℕ). w < 4294967296) n 0 (map wordOf xs) (omega arith)
+      (each-map (Laid wordOf byteOf read) (λ (w : ℕ). w < 4294967296) wordOf (λ v g. g .narrow) xs h))
 
-  small-types : Small (typesOf n vs)
-  small-types = each-pad (λ (b : ℕ). b < 256) n 0 (map typeByte vs) (omega arith) (each-map (GoodValue classes) (λ (b : ℕ). b < 256) typeByte (λ v g. g .type) vs h)
+  small-types : Small (typesOf n (map byteOf xs))
+  small-types =
+      each-pad (λ (b : ℕ). b < 256) n 0 (map byteOf xs) (omega arith)
+      (each-map (Laid wordOf byteOf read) (λ (b : ℕ). b < 256) byteOf (λ v g. g .type) xs h)
 
 -- ── holds ──
 pub few-holds : (m : Macro) (fs : List Activation) → Each (GoodActivation m) fs → length (allHolds fs) ≤ 16 * length fs
@@ -89,20 +94,18 @@ unfolding headerBytes
 small-header p c a r h hp hc ha hr hh =
     (hp, (hc, (ha, (omega arith, small-both (half r) (half h ++ zeros 24) (small-half r hr) (small-both (half h) (zeros 24) (small-half h hh) (small-zeros 24))))))
 
-small-condition : (c : ℕ) → isCondition c ≡ true → c < 256
-small-condition c h = let i = leb-true c 27 (halves (leb 20 c) (leb c 27) h .1) in omega arith
-
 small-end : (c : ℕ) (t : Bool) → eqb c 0 ≡ t → (t || isCondition c) ≡ true → c < 256
 small-end c true e h = omega (arith, eqb-true c 0 e)
-small-end c false e h = small-condition c h
+small-end c false e h = condition-byte c h
 
 module _ (m : Macro) (sized : Sized m) where
   small-activation : (f : Activation) → GoodActivation m f → Small (activationBytes f)
   unfolding activationBytes
   small-activation f g =
       let n = length (m .classes) in
-      let cs = cellValues (f .cells) in
+      let cw = map wordOfCell (f .cells) in let ct = map byteOfCell (f .cells) in
       let vs = reverse (f .operands) in
+      let vw = map valueWord vs in let vt = map typeByte vs in
       let ops = each-reverse (GoodValue n) (f .operands) (g .operands) in (
         omega (arith, there (m .bodies) (f .body) (g .which) (g .body), sized .few-bodies),
         (
@@ -111,13 +114,14 @@ module _ (m : Macro) (sized : Sized m) where
             omega (arith, g .few-holds),
             (
               omega arith,
-              small-both (half (f .address)) ((0 ∷ 0 ∷ []) ++ (wordsOf 32 cs ++ (wordsOf 32 vs ++ (typesOf 32 cs ++ typesOf 32 vs)))) (small-half (f .address) (g .address)) (
+              small-both (half (f .address)) ((0 ∷ 0 ∷ []) ++ (wordsOf 32 cw ++ (wordsOf 32 vw ++ (typesOf 32 ct ++ typesOf 32 vt)))) (small-half (f .address) (g .address)) (
                 omega arith,
                 (
                   omega arith,
-                  small-both (wordsOf 32 cs) (wordsOf 32 vs ++ (typesOf 32 cs ++ typesOf 32 vs)) (small-words n 32 cs (g .cells))
-                      (small-both (wordsOf 32 vs) (typesOf 32 cs ++ typesOf 32 vs) (small-words n 32 vs ops)
-                      (small-both (typesOf 32 cs) (typesOf 32 vs) (small-types n 32 cs (g .cells)) (small-types n 32 vs ops))),
+                  small-both (wordsOf 32 cw) (wordsOf 32 vw ++ (typesOf 32 ct ++ typesOf 32 vt)) (small-words wordOfCell byteOfCell (readCell n) 32 (f .cells) (g .cells))
+                      (small-both (wordsOf 32 vw) (typesOf 32 ct ++ typesOf 32 vt) (small-words valueWord typeByte (readValue n) 32 vs ops)
+                      (small-both (typesOf 32 ct) (typesOf 32 vt) (small-types wordOfCell byteOfCell (readCell n) 32 (f .cells) (g .cells))
+                      (small-types valueWord typeByte (readValue n) 32 vs ops))),
                 ),
               ),
             ),
@@ -136,7 +140,8 @@ module _ (m : Macro) (sized : Sized m) where
             omega arith,
             (
               omega arith,
-              small-both (wordsOf 8 (r .fields)) (typesOf 8 (r .fields)) (small-words n 8 (r .fields) (g .values)) (small-types n 8 (r .fields) (g .values)),
+              small-both (wordsOf 8 (map valueWord (r .fields))) (typesOf 8 (map typeByte (r .fields))) (small-words valueWord typeByte (readValue n) 8 (r .fields) (g .values))
+                  (small-types valueWord typeByte (readValue n) 8 (r .fields) (g .values)),
             ),
           ),
         ),
@@ -154,8 +159,9 @@ module _ (m : Macro) (sized : Sized m) where
 
   small-encode : (s : Machine) → sound m s ≡ true → Small (encode s)
   unfolding encode sound
-  small-encode (running rs f fs) h =
-      let g = good m sized rs f fs h in
+  small-encode (running s f fs) h =
+      let rs = s .records in
+      let g = good m sized s f fs h in
       let hs : length (allHolds (f ∷ fs)) ≤ 16 * length (f ∷ fs) = few-holds m (f ∷ fs) (g .activations) in
       small-state _ _ (allHolds (f ∷ fs)) _
       (small-header 0 0 (length (f ∷ fs)) (length rs) (length (allHolds (f ∷ fs))) (omega arith) (omega arith) (omega (arith, g .few)) (omega (arith, g .small)) (omega (arith, g .few)))
@@ -166,7 +172,7 @@ module _ (m : Macro) (sized : Sized m) where
       let a = halves (isCondition c) _ h in
       let b = halves (leb (length gs) 512) (all soundGroup gs) (a .1) in
       let n : length gs ≤ 512 = leb-true (length gs) 512 (b .0) in
-      small-state _ [] gs [] (small-header 1 c 0 0 (length gs) (omega arith) (small-condition c (a .0)) (omega arith) (omega arith) (omega arith)) tt
+      small-state _ [] gs [] (small-header 1 c 0 0 (length gs) (omega arith) (condition-byte c (a .0)) (omega arith) (omega arith) (omega arith)) tt
       (each-all soundGroup (λ (g : ℕ). g ≤ 63) (λ g h. leb-true g 63 h) gs (b .1)) tt
   small-encode (ended c) h = small-state _ [] [] [] (small-header 2 c 0 0 0 (omega arith) (small-end c (eqb c 0) refl h) (omega arith) (omega arith) (omega arith)) tt tt tt
 

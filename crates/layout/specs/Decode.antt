@@ -2,7 +2,7 @@
 use mathlib.Core.Path.{_≡_, refl, sym, ap, _∙_}
 use mathlib.Core.Bool.{true}
 use mathlib.Core.List.{List, [], _∷_, _++_, map, reverse, reverseAux, append-assoc, append-nil, reverse-append, reverse-cons, reverse-reverse}
-use mathlib.Core.Option.{some}
+use mathlib.Core.Option.{Option, some}
 use Prim.Native.Nat.{ℕ, zero, suc, _+_, _*_, _-_, _≤_}
 use native.Mathlib.Nat.{suc-mul, zero-mul}
 use native.Mathlib.Omega.{arith}
@@ -14,46 +14,42 @@ use Rattle.words.specs.Lists.{all}
 use Rattle.words.specs.Numbers.{byteAt, halfAt, word}
 use Rattle.words.specs.Laws.{two, four, number-of-bytes}
 use Rattle.values.specs.Ends.{isCondition}
-use Rattle.values.specs.Values.{Value, valueWord, Cell, assigned}
+use Rattle.values.specs.Values.{valueWord}
 use Rattle.bytecode.specs.Macro.{Macro}
-use Rattle.bytecode.specs.Machine.{Activation, Made, endBy, Machine, running, unwinding, ended, allHolds}
-use Rattle.bytecode.specs.Sound.{cellValues, soundGroup, sound}
-use Rattle.bytecode.specs.State.{pad, flat, zeros, wordsOf, typesOf, typeByte, activationBytes, recordBytes, headerBytes, stateBytes, encode, part, readValues, assignedAll, readActivation, readActivations, readRecord, readRecords, readRunning, readUnwinding, decode}
+use Rattle.bytecode.specs.Machine.{Activation, Made, Shared, endBy, Machine, running, unwinding, ended, allHolds}
+use Rattle.bytecode.specs.Sound.{soundGroup, sound}
+use Rattle.bytecode.specs.State.{pad, flat, zeros, wordsOf, typesOf, typeByte, activationBytes, recordBytes, headerBytes, stateBytes, encode, part, readValue, readCell, readRow, wordOfCell, byteOfCell, readActivation, readActivations, readRecord, readRecords, readRunning, readUnwinding, decode}
 use Rattle.loading.specs.Terms.{Each}
 use Rattle.layout.specs.Rows.{length-pad, pad-fill, flat-append}
 use Rattle.layout.specs.Parts.{frameOf, entryOf, frame-is, entry-is, wide-frame, wide-entry, length-words, length-header, length-zeros}
-use Rattle.layout.specs.Slots.{length-cells}
 use Rattle.loading.specs.Tests.{halves}
 use Rattle.layout.specs.Elements.{each-reverse}
-use Rattle.layout.specs.Sized.{Sized, GoodValue, GoodRecord, GoodActivation, Good, good}
+use Rattle.layout.specs.Sized.{Sized, Laid, GoodValue, GoodRecord, GoodActivation, Good, good}
 use Rattle.layout.specs.Bytes.{few-holds}
 use Rattle.layout.specs.Places.{phase, code, activations, records, holds}
 use Rattle.layout.specs.Reads.{encode-reads}
 
--- ── values ──
-read-values : (n : ℕ) (vs : List Value) → Each (GoodValue n) vs → (x y : List ℕ) → readValues n (length vs) (flat word (map valueWord vs) ++ x) (map typeByte vs ++ y) ≡ some vs
-unfolding readValues flat
-read-values n [] g x y = refl
-read-values n (v ∷ vs) g x y = rw (number-of-bytes four (valueWord v), g .0 .readable, read-values n vs (g .1) x y)
+-- ── rows of values or cells ──
+module _ {A : Type 0} (wordOf byteOf : A → ℕ) (read : ℕ → ℕ → Option A) where
+  read-row : (xs : List A) → Each (Laid wordOf byteOf read) xs → (x y : List ℕ)
+      → readRow read (length xs) (flat word (map wordOf xs) ++ x) (map byteOf xs ++ y) ≡ some xs
+  unfolding readRow flat
+  read-row [] g x y = refl
+  read-row (v ∷ vs) g x y = rw (number-of-bytes four (wordOf v), g .0 .readable, read-row vs (g .1) x y)
 
--- from rows that are longer
-module _ (n : ℕ) (vs : List Value) (g : Each (GoodValue n) vs) (w : ℕ) (few : length vs ≤ w) (x y : List ℕ) where
-  read-rows : readValues n (length vs) (wordsOf w vs ++ x) (typesOf w vs ++ y) ≡ some vs
-  read-rows =
+  -- from rows that are longer
+  read-rows : (xs : List A) → Each (Laid wordOf byteOf read) xs → (w : ℕ) → length xs ≤ w → (x y : List ℕ)
+      → readRow read (length xs) (wordsOf w (map wordOf xs) ++ x) (typesOf w (map byteOf xs) ++ y) ≡ some xs
+  read-rows xs g w few x y =
       rw (
-        pad-fill 0 w (map valueWord vs) (rw (length-map vs valueWord) few),
-        pad-fill 0 w (map typeByte vs) (rw (length-map vs typeByte) few),
-        flat-append word (map valueWord vs) (replicate (w - length (map valueWord vs)) 0),
+        pad-fill 0 w (map wordOf xs) (rw (length-map xs wordOf) few),
+        pad-fill 0 w (map byteOf xs) (rw (length-map xs byteOf) few),
+        flat-append word (map wordOf xs) (replicate (w - length (map wordOf xs)) 0),
       )
-      (simp append-assoc (read-values n vs g _ _))
+      (simp append-assoc (read-row xs g _ _))
 
 drop-over : (p q : List ℕ) (n k : ℕ) → length p ≡ n → drop (n + k) (p ++ q) ≡ drop k q
 drop-over p q n k e = rw (← e) (drop-append-add p q k)
-
-all-assigned : (cs : List Cell) → assignedAll (cellValues cs) ≡ cs
-unfolding assignedAll cellValues
-all-assigned [] = refl
-all-assigned (assigned v ∷ cs) = ap (λ (l : List Cell). assigned v ∷ l) (all-assigned cs)
 
 -- ── activations ──
 pub wide-activation : (f : Activation) → length (activationBytes f) ≡ 328
@@ -62,25 +58,25 @@ wide-activation f = rw (frame-is f) (wide-frame (frameOf f))
 pub wide-record : (r : Made) → length (recordBytes r) ≡ 44
 wide-record r = rw (entry-is r) (wide-entry (entryOf r))
 
--- the four rows of an activation
-module _ (cs vs : List Value) where
+-- the four rows of an activation: the words and type bytes of its cells and of its operands
+module _ (cw vw ct vt : List ℕ) where
   abbrev rows : List ℕ
-  rows = wordsOf 32 cs ++ (wordsOf 32 vs ++ (typesOf 32 cs ++ typesOf 32 vs))
+  rows = wordsOf 32 cw ++ (wordsOf 32 vw ++ (typesOf 32 ct ++ typesOf 32 vt))
 
-  row-two : drop 128 rows ≡ wordsOf 32 vs ++ (typesOf 32 cs ++ typesOf 32 vs)
-  row-two = drop-at (wordsOf 32 cs) _ 128 (length-words 32 (map valueWord cs))
+  row-two : drop 128 rows ≡ wordsOf 32 vw ++ (typesOf 32 ct ++ typesOf 32 vt)
+  row-two = drop-at (wordsOf 32 cw) _ 128 (length-words 32 cw)
 
-  row-three : drop 256 rows ≡ typesOf 32 cs ++ typesOf 32 vs
+  row-three : drop 256 rows ≡ typesOf 32 ct ++ typesOf 32 vt
   row-three =
-      drop-over (wordsOf 32 cs) (wordsOf 32 vs ++ (typesOf 32 cs ++ typesOf 32 vs)) 128 128 (length-words 32 (map valueWord cs))
-      ∙ drop-at (wordsOf 32 vs) _ 128 (length-words 32 (map valueWord vs))
+      drop-over (wordsOf 32 cw) (wordsOf 32 vw ++ (typesOf 32 ct ++ typesOf 32 vt)) 128 128 (length-words 32 cw)
+      ∙ drop-at (wordsOf 32 vw) _ 128 (length-words 32 vw)
 
-  row-four : drop 288 rows ≡ typesOf 32 vs ++ []
+  row-four : drop 288 rows ≡ typesOf 32 vt ++ []
   row-four =
-      drop-over (wordsOf 32 cs) (wordsOf 32 vs ++ (typesOf 32 cs ++ typesOf 32 vs)) 128 160 (length-words 32 (map valueWord cs))
-      ∙ drop-over (wordsOf 32 vs) (typesOf 32 cs ++ typesOf 32 vs) 128 32 (length-words 32 (map valueWord vs))
-      ∙ drop-at (typesOf 32 cs) (typesOf 32 vs) 32 (length-pad 0 32 (map typeByte cs))
-      ∙ sym (append-nil (typesOf 32 vs))
+      drop-over (wordsOf 32 cw) (wordsOf 32 vw ++ (typesOf 32 ct ++ typesOf 32 vt)) 128 160 (length-words 32 cw)
+      ∙ drop-over (wordsOf 32 vw) (typesOf 32 ct ++ typesOf 32 vt) 128 32 (length-words 32 vw)
+      ∙ drop-at (typesOf 32 ct) (typesOf 32 vt) 32 (length-pad 0 32 ct)
+      ∙ sym (append-nil (typesOf 32 vt))
 
 -- an activation's holds, the first taken first
 abbrev pub turned : Activation → List ℕ
@@ -95,23 +91,25 @@ module _ (m : Macro) where
   unfolding readActivation activationBytes
   read-activation f g rest =
       let n = length (m .classes) in
-      let cs = cellValues (f .cells) in
+      let cs = f .cells in
       let vs = reverse (f .operands) in
-      let count : length (g .which .cells) ≡ length cs = sym (g .count) ∙ sym (length-cells (f .cells)) in
+      let cw = map wordOfCell cs in let ct = map byteOfCell cs in
+      let vw = map valueWord vs in let vt = map typeByte vs in
+      let count : length (g .which .cells) ≡ length cs = sym (g .count) in
       let depth : length (f .operands) ≡ length vs = sym (length-reverse (f .operands)) in
-      let few : length cs ≤ 32 = rw (length-cells (f .cells)) (g .few-cells) in
+      let few : length cs ≤ 32 = g .few-cells in
       let room : length vs ≤ 32 = rw (length-reverse (f .operands)) (g .few-operands) in
       let held : take (length (f .holds)) (reverse (f .holds) ++ rest) ≡ reverse (f .holds) = take-at (reverse (f .holds)) rest (length (f .holds)) (length-reverse (f .holds)) in
       rw (g .body, count, le-leb (length cs) 32 few, le-leb (length (f .operands)) 32 (g .few-operands), le-leb (length (f .holds)) 16 (g .few-holds))
       (rw (
-        row-three cs vs,
-        read-rows n cs (g .cells) 32 few (wordsOf 32 vs ++ (typesOf 32 cs ++ typesOf 32 vs)) (typesOf 32 vs),
-        row-two cs vs,
-        row-four cs vs,
+        row-three cw vw ct vt,
+        read-rows wordOfCell byteOfCell (readCell n) cs (g .cells) 32 few (wordsOf 32 vw ++ (typesOf 32 ct ++ typesOf 32 vt)) (typesOf 32 vt),
+        row-two cw vw ct vt,
+        row-four cw vw ct vt,
         depth,
-        read-rows n vs (each-reverse (GoodValue n) (f .operands) (g .operands)) 32 room (typesOf 32 cs ++ typesOf 32 vs) [],
+        read-rows valueWord typeByte (readValue n) vs (each-reverse (GoodValue n) (f .operands) (g .operands)) 32 room (typesOf 32 ct ++ typesOf 32 vt) [],
       )
-      (rw (number-of-bytes two (f .address), all-assigned (f .cells), reverse-reverse (f .operands), held, reverse-reverse (f .holds))))
+      (rw (number-of-bytes two (f .address), reverse-reverse (f .operands), held, reverse-reverse (f .holds))))
 
   -- from the root up; what is read stands on those below
   read-activations : (xs : List Activation) → Each (GoodActivation m) xs → (a h : List ℕ) (below : List Activation)
@@ -135,10 +133,10 @@ module _ (m : Macro) where
   read-record : (r : Made) → GoodRecord m r → readRecord m (recordBytes r) ≡ some r
   unfolding readRecord recordBytes
   read-record r g =
-      let ws = wordsOf 8 (r .fields) in
-      let ts = typesOf 8 (r .fields) in
+      let ws = wordsOf 8 (map valueWord (r .fields)) in
+      let ts = typesOf 8 (map typeByte (r .fields)) in
       let e : drop 32 (ws ++ ts) ≡ ts ++ [] = drop-at ws ts 32 (length-words 8 (map valueWord (r .fields))) ∙ sym (append-nil ts) in
-      rw (g .class, ← g .count, e, read-rows (length (m .classes)) (r .fields) (g .values) 8 (g .few) ts [])
+      rw (g .class, ← g .count, e, read-rows valueWord typeByte (readValue (length (m .classes))) (r .fields) (g .values) 8 (g .few) ts [])
 
   read-records : (rs : List Made) → Each (GoodRecord m) rs → (a : List ℕ) → readRecords m (length rs) (flat recordBytes rs ++ a) ≡ some rs
   unfolding readRecords flat
@@ -204,7 +202,7 @@ module _ (h : List ℕ) (wide : length h ≡ 32) (fs : List Activation) (gs : Li
 module _ (m : Macro) (l : List ℕ) where
   decode-running : (n r h : ℕ) (x y z : List ℕ) → byteAt l 0 ≡ 0 → byteAt l 2 ≡ n → halfAt l 4 ≡ r → halfAt l 6 ≡ h → drop 32 l ≡ x → part 10528 512 l ≡ y → drop 11040 l ≡ z
       → n ≤ 32 → r ≤ 256 → (f : Activation) (fs : List Activation) (rs : List Made) → readActivations m n x y [] ≡ some (f ∷ fs) → readRecords m r z ≡ some rs
-      → length (allHolds (f ∷ fs)) ≡ h → decode m l ≡ some (running rs f fs)
+      → length (allHolds (f ∷ fs)) ≡ h → decode m l ≡ some (running (record { records = rs }) f fs)
   unfolding decode readRunning
   decode-running n r h x y z e0 e2 e4 e6 ex ey ez few small f fs rs ea er eh =
       rw (e0, e2, e4, e6, ex, ey, ez, le-leb n 32 few, le-leb r 256 small, ea, er, eq-eqb (length (allHolds (f ∷ fs))) h eh)
@@ -217,17 +215,17 @@ module _ (m : Macro) (l : List ℕ) where
   unfolding decode
   decode-ended c e0 e1 = rw (e0, e1)
 
-module _ (m : Macro) (rs : List Made) (f : Activation) (fs : List Activation) (g : Good m rs f fs) where
+module _ (m : Macro) (sh : Shared) (f : Activation) (fs : List Activation) (g : Good m sh f fs) where
   few : length (reverse (f ∷ fs)) ≤ 32
   few = rw (length-reverse (f ∷ fs)) (g .few)
 
   held : length (reverse (allHolds (f ∷ fs))) ≤ 512
   held = rw (length-reverse (allHolds (f ∷ fs))) (omega (arith, few-holds m (f ∷ fs) (g .activations), g .few))
 
-  read-back : decode m (encode (running rs f fs)) ≡ some (running rs f fs)
+  read-back : decode m (encode (running sh f fs)) ≡ some (running sh f fs)
   unfolding encode
   read-back =
-      let s = running rs f fs in
+      let s = running sh f fs in let rs = sh .records in
       let gs = allHolds (f ∷ fs) in
       let xs = reverse (f ∷ fs) in
       let head = headerBytes 0 0 (length (f ∷ fs)) (length rs) (length gs) in
@@ -262,6 +260,6 @@ read-unwinding m gs c h =
     decode-unwinding m (encode s) (length gs) c (reverse gs) (encode-reads phase tt s) (encode-reads code tt s) (encode-reads holds tt s) ey n ∙ rw (reverse-reverse gs)
 
 pub decode-encode : (m : Macro) → Sized m → (s : Machine) → sound m s ≡ true → decode m (encode s) ≡ some s
-decode-encode m sized (running rs f fs) h = read-back m rs f fs (good m sized rs f fs h)
+decode-encode m sized (running s f fs) h = read-back m s f fs (good m sized s f fs h)
 decode-encode m sized (unwinding gs (endBy c)) h = read-unwinding m gs c h
 decode-encode m sized (ended c) h = decode-ended m (encode (ended c)) c (encode-reads phase tt (ended c)) (encode-reads code tt (ended c))

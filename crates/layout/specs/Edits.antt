@@ -5,7 +5,7 @@ use mathlib.Core.List.{List, [], _∷_, _++_, reverse, map, append-assoc, revers
 use Prim.Native.Nat.{ℕ, _<_}
 use lib.ListN.{length, getD, length-reverse, length-map, length-append}
 use lib.Seq.{getD-at}
-use Rattle.bytecode.specs.Machine.{Activation, Made, Machine, running, allHolds}
+use Rattle.bytecode.specs.Machine.{Activation, Shared, Machine, running, allHolds}
 use Rattle.bytecode.specs.State.{pad, encode}
 use Rattle.layout.specs.Rows.{alter, getD-pad, pad-inner, map-append}
 use Rattle.layout.specs.Parts.{Frame, Parts, frameBytes, partsBytes, noFrame, partsOf, frameOf, framesOf, groupsOf, entriesOf, encode-parts}
@@ -14,7 +14,7 @@ use Rattle.layout.specs.Places.{InFrame, FrameHas, frameGet, framePut, i
 use Rattle.layout.specs.Stores.{Store, _≔_, stores, puts, AllThere, stores-put}
 
 -- a state with an activation f, those above it from the top down, and those below it
-abbrev pub on : List Made → List Activation → Activation → List Activation → Machine
+abbrev pub on : Shared → List Activation → Activation → List Activation → Machine
 on rs [] f fs = running rs f fs
 on rs (u ∷ us) f fs = running rs u (us ++ (f ∷ fs))
 
@@ -22,9 +22,9 @@ on rs (u ∷ us) f fs = running rs u (us ++ (f ∷ fs))
 abbrev pub framesWith : List Activation → Frame → List Activation → List Frame
 framesWith us a fs = pad 32 noFrame (map frameOf (reverse fs) ++ (a ∷ map frameOf (reverse us)))
 
-abbrev pub rawOn : List Made → List Activation → Activation → List Activation → Frame → Parts
+abbrev pub rawOn : Shared → List Activation → Activation → List Activation → Frame → Parts
 rawOn rs us f fs a =
-    let xs = us ++ (f ∷ fs) in parts 0 0 (length xs) (length rs) (length (allHolds xs)) (framesWith us a fs) (groupsOf (allHolds xs)) (entriesOf rs)
+    let xs = us ++ (f ∷ fs) in parts 0 0 (length xs) (length (rs .records)) (length (allHolds xs)) (framesWith us a fs) (groupsOf (allHolds xs)) (entriesOf (rs .records))
 
 frames-with : (us : List Activation) (f : Activation) (fs : List Activation) → framesOf (us ++ (f ∷ fs)) ≡ framesWith us (frameOf f) fs
 frames-with us f fs = rw (reverse-append us (f ∷ fs), reverse-cons f fs, append-assoc (reverse fs) (f ∷ []) (reverse us), map-append frameOf (reverse fs) (f ∷ reverse us))
@@ -45,7 +45,7 @@ unfolding allHolds
 same-holds [] f f′ fs e = rw e
 same-holds (u ∷ us) f f′ fs e = ap (λ (l : List ℕ). u .holds ++ l) (same-holds us f f′ fs e)
 
-module _ (rs : List Made) (us : List Activation) (f : Activation) (fs : List Activation) where
+module _ (rs : Shared) (us : List Activation) (f : Activation) (fs : List Activation) where
   parts-on : partsOf (on rs us f fs) ≡ rawOn rs us f fs (frameOf f)
   parts-on = go us
     where
@@ -111,10 +111,10 @@ all-there k few [] h = tt
 all-there k few (e ∷ es) h = ((few, h .0), all-there k few es (h .1))
 
 -- the bytes after edits of f
-abbrev pub written : List Made → List Activation → Activation → List Activation → List Edit → List ℕ
+abbrev pub written : Shared → List Activation → Activation → List Activation → List Edit → List ℕ
 written rs us f fs es = stores (encode (on rs us f fs)) (inside (length fs) es)
 
-module _ (rs : List Made) (us : List Activation) (f : Activation) (fs : List Activation) (few : length fs < 32) where
+module _ (rs : Shared) (us : List Activation) (f : Activation) (fs : List Activation) (few : length fs < 32) where
   raw-puts : (es : List Edit) (a : Frame) → puts (rawOn rs us f fs a) (inside (length fs) es) ≡ rawOn rs us f fs (edited es a)
   raw-puts [] a = refl
   raw-puts (e ∷ es) a = ap (λ (p : Parts). puts p (inside (length fs) es)) (raw-put rs us f fs few a (e .place) (e .number)) ∙ raw-puts es (framePut (e .place) (e .number) a)

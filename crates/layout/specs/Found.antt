@@ -13,10 +13,11 @@ use Rattle.words.specs.Choice.{if_then_else_}
 use Rattle.values.specs.Types.{Ty, integer, logical, bits, reference, sames, fits}
 use Rattle.values.specs.Operators.{negate, absolute, complement, plus, minus, times, divide, remainder, less, atMost, greater, atLeast, equal, unequal, both, either, shiftLeft, shiftRight, Operator, unary, binary, anyOne, opType}
 use Rattle.values.specs.Operators.{takes as asks}
-use Rattle.values.specs.Values.{Value, int, log, bit, ref}
+use Rattle.values.specs.Values.{Value, tyOf}
 use Rattle.bytecode.specs.Macro.{Body, Shape, shape, Macro, shapeIn}
-use Rattle.bytecode.specs.Instructions.{Owner, own, root, Instr, end, push, load, store, operate, go, goUnless, call, return, make, getField, putField, setLevel, readFader, takeHold, letHold, assert, stop, bodyAt, inBody, instrAt, cellsOf, cellTy, fieldTy, procedureAt}
-use Rattle.bytecode.specs.Rules.{Effect, plain, takes, lets, jumps, forks, leaves, stops, wrong, Flow, on, halt, strip, stripped, onIf, oneLess, roomy, flow, flowOf, flowAt, passed, atFirst, into, foundAt, isFirst, bodyOf, effect, giving, taking, operating, pushing, calling, making, endingIn, returningIn, sameShape}
+use Rattle.bytecode.specs.Instructions.{Owner, own, root, Instr, end, push, load, store, operate, go, goUnless, call, return, make, getField, putField, setLevel, readFader, takeHold, letHold, assert, stop, bodyAt, inBody, instrAt, cellsOf, cellTy, fieldTy, known, procedureAt}
+use Rattle.bytecode.specs.Rules.{Effect, plain, takes, lets, jumps, forks, leaves, stops, wrong, Flow, on, halt, strip, stripped, onIf, oneLess, roomy, flow, flowOf, flowAt, passed, atFirst, into, foundAt, isFirst, bodyOf, effect, giving, taking, operating, pushing, calling, making, endingIn, returning, sameShape}
+use Rattle.loading.specs.Ops.{known-named}
 use Rattle.loading.specs.Terms.{Each, Named}
 use Rattle.loading.specs.Tests.{never-some, chosen, kept}
 use Rattle.layout.specs.Elements.{each-both, there}
@@ -105,13 +106,10 @@ module _ (m : Macro) (classes : (c : ℕ) (ts : List Ty) → getElem? (m .classe
   operating-named (binary o) (t ∷ (u ∷ ts)) = giving-named (opType (binary o) (u ∷ t ∷ [])) (t ∷ u ∷ []) (λ v e. operator-plain (binary o) (u ∷ t ∷ []) v e (length (m .classes)))
 
   pushing-named : (v : Value) → Gives m (pushing m v)
-  pushing-named (int z) = (tt, tt)
-  pushing-named (log b) = (tt, tt)
-  pushing-named (bit n) = (tt, tt)
-  pushing-named (ref c r) = go (ltb c (length (m .classes))) refl
+  pushing-named v = go (known m (tyOf v)) refl
     where
-      go : (t : Bool) → ltb c (length (m .classes)) ≡ t → Gives m (if t then plain [] (reference c ∷ []) else wrong)
-      go true e = (ltb-true c (length (m .classes)) e, tt)
+      go : (b : Bool) → known m (tyOf v) ≡ b → Gives m (if b then plain [] (tyOf v ∷ []) else wrong)
+      go true e = (known-named m (tyOf v) e, tt)
       go false e = tt
 
   cells-named : (o : Option Body) → ((b : Body) → o ≡ some b → AllNamed m (b .cells)) → (x : ℕ) (t : Ty) → getElem? (cellsOf o) x ≡ some t → N t
@@ -144,30 +142,30 @@ module _ (m : Macro) (classes : (c : ℕ) (ts : List Ty) → getElem? (m .classe
   ending-named zero = tt
   ending-named (suc k) = tt
 
-  returning-named : (k : ℕ) → Gives m (returningIn m k)
-  returning-named zero = tt
-  returning-named (suc k) = tt
+  returning-named : (o : Option Body) → Gives m (returning o)
+  returning-named none = tt
+  returning-named (some b) = tt
 
-  effect-named : (k : ℕ) (x : Instr) (ts : List Ty) → Gives m (effect m k x ts)
+  effect-named : (k : ℕ) (x : Instr) (s : Shape) → Gives m (effect m k x s)
   unfolding effect
-  effect-named k end ts = ending-named k
-  effect-named k (push v) ts = pushing-named v
-  effect-named k (load o x) ts = giving-named (cellTy m k o x) [] (cell-named k o x)
-  effect-named k (store o x) ts = taking-named (cellTy m k o x) []
-  effect-named k (operate o) ts = operating-named o ts
-  effect-named k (go t) ts = tt
-  effect-named k (goUnless t) ts = tt
-  effect-named k (call b) ts = calling-named b
-  effect-named k return ts = returning-named k
-  effect-named k (make c) ts = making-named c
-  effect-named k (getField c x) ts = giving-named (fieldTy m c x) (reference c ∷ []) (field-named c x)
-  effect-named k (putField c x) ts = taking-named (fieldTy m c x) (reference c ∷ [])
-  effect-named k setLevel ts = tt
-  effect-named k readFader ts = (tt, tt)
-  effect-named k (takeHold g) ts = tt
-  effect-named k letHold ts = tt
-  effect-named k assert ts = tt
-  effect-named k stop ts = tt
+  effect-named k end s = ending-named k
+  effect-named k (push v) s = pushing-named v
+  effect-named k (load o x) s = giving-named (cellTy m k o x) [] (cell-named k o x)
+  effect-named k (store o x) s = taking-named (cellTy m k o x) []
+  effect-named k (operate o) s = operating-named o (s .operands)
+  effect-named k (go t) s = tt
+  effect-named k (goUnless t) s = tt
+  effect-named k (call b) s = calling-named b
+  effect-named k return s = returning-named (procedureAt m k)
+  effect-named k (make c) s = making-named c
+  effect-named k (getField c x) s = giving-named (fieldTy m c x) (reference c ∷ []) (field-named c x)
+  effect-named k (putField c x) s = taking-named (fieldTy m c x) (reference c ∷ [])
+  effect-named k setLevel s = tt
+  effect-named k readFader s = (tt, tt)
+  effect-named k (takeHold g) s = tt
+  effect-named k letHold s = tt
+  effect-named k assert s = tt
+  effect-named k (stop c) s = tt
 
   -- ── what flows on ──
   strip-named : (us ts rest : List Ty) → AllNamed m ts → strip us ts ≡ some rest → AllNamed m rest
@@ -210,7 +208,7 @@ module _ (m : Macro) (classes : (c : ℕ) (ts : List Ty) → getElem? (m .classe
 
   flow-at-named : (o : Option Instr) (k : ℕ) (s : Shape) → AllNamed m (s .operands) → Fine (passed (flowOf o m k s))
   flow-at-named none k s n = λ r e. never-some e
-  flow-at-named (some x) k s n = flow-named (effect m k x (s .operands)) (effect-named k x (s .operands)) s n
+  flow-at-named (some x) k s n = flow-named (effect m k x s) (effect-named k x s) s n
 
   -- ── what is found ──
   or-named : (o p : Option Shape) → Fine o → Fine p → Fine (orElse o p)

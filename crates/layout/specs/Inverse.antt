@@ -2,7 +2,7 @@
 use mathlib.Core.Path.{_≡_, refl, sym, ap, ap₂, _∙_}
 use mathlib.Core.Bool.{Bool, true, false, _&&_}
 use mathlib.Core.List.{List, [], _∷_, map, reverse, reverse-reverse}
-use mathlib.Core.Option.{none, some}
+use mathlib.Core.Option.{Option, none, some}
 use mathlib.Core.Logic.{_⊎_, inl, inr}
 use Prim.Native.Nat.{ℕ, zero, suc, _+_, _*_, _-_, _≤_, _<_}
 use native.Mathlib.Omega.{arith}
@@ -14,12 +14,11 @@ use Rattle.words.specs.Choice.{if_then_else_}
 use Rattle.words.specs.Numbers.{byteAt, halfAt, wordAt, word}
 use Rattle.words.specs.Laws.{four, Bytes, number-below, bytes-slice, word-back}
 use Rattle.values.specs.Types.{Ty, integer, logical, bits, reference, tyByte}
-use Rattle.values.specs.Values.{Value, valueWord, validWord, wordValue, logWord}
+use Rattle.values.specs.Values.{Value, valueWord, validWord, wordValue, logWord, Cell}
 use Rattle.bytecode.specs.Macro.{Body, Macro, tyOfByte}
 use Rattle.bytecode.specs.Instructions.{bodyAt}
 use Rattle.bytecode.specs.Machine.{Activation, Made}
-use Rattle.bytecode.specs.Sound.{cellValues}
-use Rattle.bytecode.specs.State.{flat, typeByte, readValue, readValues, assignedAll, readActivation, readRecord}
+use Rattle.bytecode.specs.State.{flat, typeByte, readValue, readCell, readRow, wordOfCell, byteOfCell, readActivation, readRecord}
 use Rattle.loading.specs.Tests.{halves, chosen, kept}
 
 pub same-some : {A : Type 0} {x y : A} → some x ≡ some y → x ≡ y
@@ -77,32 +76,54 @@ value-read n t w v h e =
     let c = word-read (a .0) w h (b .0) in
     rw (← same-some (b .1)) (c .0 ∙ type-read n t (a .0) (a .1), c .1)
 
--- ── rows of values ──
-pub record RowRead (k : ℕ) (ws ts : List ℕ) (vs : List Value) : Type 0 where
-  pub count : length vs ≡ k
-  pub words : flat word (map valueWord vs) ≡ take (4 * k) ws
-  pub types : map typeByte vs ≡ take k ts
+-- a cell's are its value's
+cell-read : (n t w : ℕ) (c : Cell) → w < 4294967296 → readCell n t w ≡ some c → (byteOfCell c ≡ t) × (wordOfCell c ≡ w)
+unfolding readCell
+cell-read n t w c h e =
+    let a = kept (readValue n t w) _ c e in
+    rw (← same-some (a .2)) (value-read n t w (a .0) h (a .1))
+
+-- ── rows of values or cells ──
+pub record RowRead {A : Type 0} (wordOf byteOf : A → ℕ) (k : ℕ) (ws ts : List ℕ) (xs : List A) : Type 0 where
+  pub count : length xs ≡ k
+  pub words : flat word (map wordOf xs) ≡ take (4 * k) ws
+  pub types : map byteOf xs ≡ take k ts
+
+abbrev pub ValuesRead : ℕ → List ℕ → List ℕ → List Value → Type 0
+ValuesRead k ws ts vs = RowRead valueWord typeByte k ws ts vs
+
+abbrev pub CellsRead : ℕ → List ℕ → List ℕ → List Cell → Type 0
+CellsRead k ws ts cs = RowRead wordOfCell byteOfCell k ws ts cs
 
 pub bytes-drop : (n : ℕ) (l : List ℕ) → Bytes l → Bytes (drop n l)
 bytes-drop n l b k = rw (getD-drop n l k 0) (b (n + k))
 
-pub values-read : (n k : ℕ) (ws ts : List ℕ) (vs : List Value) → Bytes ws → 4 * k ≤ length ws → k ≤ length ts → readValues n k ws ts ≡ some vs → RowRead k ws ts vs
-unfolding readValues flat
-values-read n zero ws ts vs b hw ht e = rw (← same-some e) (record { count = refl; words = refl; types = refl })
-values-read n (suc k) ws [] vs b hw ht e = absurd (omega arith)
-values-read n (suc k) ws (t ∷ ts) vs b hw ht e =
-    let x = kept (readValue n t (wordAt ws 0)) _ vs e in
-    let y = kept (readValues n k (drop 4 ws) ts) _ vs (x .2) in
-    let v = value-read n t (wordAt ws 0) (x .0) (number-below ws b 0 four) (x .1) in
-    let r = values-read n k (drop 4 ws) ts (y .0) (bytes-drop 4 ws b) (rw (length-drop 4 ws) (omega arith)) (omega arith) (y .1) in
-    let four′ : 4 * suc k ≡ 4 + 4 * k = omega arith in
-    let s : word (wordAt ws 0) ≡ take 4 ws = bytes-slice ws b 0 four (omega arith) in
-    rw (← same-some (y .2))
-    (record {
-      count = ap suc (r .count);
-      words = rw (four′, take-add 4 (4 * k) ws, ← s, ← r .words, v .1);
-      types = ap₂ (λ (x : ℕ) (xs : List ℕ). x ∷ xs) (v .0) (r .types);
-    })
+module _ {A : Type 0} (wordOf byteOf : A → ℕ) (read : ℕ → ℕ → Option A)
+    (back : (t w : ℕ) (x : A) → w < 4294967296 → read t w ≡ some x → (byteOf x ≡ t) × (wordOf x ≡ w)) where
+  row-read : (k : ℕ) (ws ts : List ℕ) (xs : List A) → Bytes ws → 4 * k ≤ length ws → k ≤ length ts → readRow read k ws ts ≡ some xs
+      → RowRead wordOf byteOf k ws ts xs
+  unfolding readRow flat
+  row-read zero ws ts xs b hw ht e = rw (← same-some e) (record { count = refl; words = refl; types = refl })
+  row-read (suc k) ws [] xs b hw ht e = absurd (omega arith)
+  row-read (suc k) ws (t ∷ ts) xs b hw ht e =
+      let x = kept (read t (wordAt ws 0)) _ xs e in
+      let y = kept (readRow read k (drop 4 ws) ts) _ xs (x .2) in
+      let v = back t (wordAt ws 0) (x .0) (number-below ws b 0 four) (x .1) in
+      let r = row-read k (drop 4 ws) ts (y .0) (bytes-drop 4 ws b) (rw (length-drop 4 ws) (omega arith)) (omega arith) (y .1) in
+      let four′ : 4 * suc k ≡ 4 + 4 * k = omega arith in
+      let s : word (wordAt ws 0) ≡ take 4 ws = bytes-slice ws b 0 four (omega arith) in
+      rw (← same-some (y .2))
+      (record {
+        count = ap suc (r .count);
+        words = rw (four′, take-add 4 (4 * k) ws, ← s, ← r .words, v .1);
+        types = ap₂ (λ (x : ℕ) (xs : List ℕ). x ∷ xs) (v .0) (r .types);
+      })
+
+values-read : (n k : ℕ) (ws ts : List ℕ) (vs : List Value) → Bytes ws → 4 * k ≤ length ws → k ≤ length ts → readRow (readValue n) k ws ts ≡ some vs → ValuesRead k ws ts vs
+values-read n = row-read valueWord typeByte (readValue n) (value-read n)
+
+cells-read : (n k : ℕ) (ws ts : List ℕ) (cs : List Cell) → Bytes ws → 4 * k ≤ length ws → k ≤ length ts → readRow (readCell n) k ws ts ≡ some cs → CellsRead k ws ts cs
+cells-read n = row-read wordOfCell byteOfCell (readCell n) (cell-read n)
 
 -- ── an activation, and a record ──
 pub record ActivationRead (m : Macro) (x hs : List ℕ) (f : Activation) : Type 0 where
@@ -113,20 +134,15 @@ pub record ActivationRead (m : Macro) (x hs : List ℕ) (f : Activation) : Type 
   pub few-holds : byteAt x 2 ≤ 16
   pub body : f .body ≡ byteAt x 0
   pub address : f .address ≡ halfAt x 4
-  pub cells : RowRead (length (which .cells)) (drop 8 x) (drop 264 x) (cellValues (f .cells))
-  pub operands : RowRead (byteAt x 1) (drop 136 x) (drop 296 x) (reverse (f .operands))
+  pub cells : CellsRead (length (which .cells)) (drop 8 x) (drop 264 x) (f .cells)
+  pub operands : ValuesRead (byteAt x 1) (drop 136 x) (drop 296 x) (reverse (f .operands))
   pub holds : reverse (f .holds) ≡ take (byteAt x 2) hs
 
 pub record RecordRead (m : Macro) (x : List ℕ) (r : Made) : Type 0 where
   pub types : List Ty
   pub known : getElem? (m .classes) (byteAt x 0) ≡ some types
   pub class : r .class ≡ byteAt x 0
-  pub fields : RowRead (length types) (drop 4 x) (drop 36 x) (r .fields)
-
-cells-assigned : (vs : List Value) → cellValues (assignedAll vs) ≡ vs
-unfolding cellValues assignedAll
-cells-assigned [] = refl
-cells-assigned (v ∷ vs) = ap (λ (l : List Value). v ∷ l) (cells-assigned vs)
+  pub fields : ValuesRead (length types) (drop 4 x) (drop 36 x) (r .fields)
 
 module _ (m : Macro) (x : List ℕ) (b : Bytes x) where
   pub activation-read : length x ≡ 328 → (hs : List ℕ) (f : Activation) → readActivation m x hs ≡ some f → ActivationRead m x hs f
@@ -139,9 +155,9 @@ module _ (m : Macro) (x : List ℕ) (b : Bytes x) where
       let t2 = halves (leb (byteAt x 1) 32) (leb (byteAt x 2) 16) (t1 .1) in
       let c32 : length (k .0 .cells) ≤ 32 = leb-true (length (k .0 .cells)) 32 (t1 .0) in
       let d32 : byteAt x 1 ≤ 32 = leb-true (byteAt x 1) 32 (t2 .0) in
-      let cs = kept (readValues n (length (k .0 .cells)) (drop 8 x) (drop 264 x)) _ f (t .1) in
-      let vs = kept (readValues n (byteAt x 1) (drop 136 x) (drop 296 x)) _ f (cs .2) in
-      let rc = values-read n (length (k .0 .cells)) (drop 8 x) (drop 264 x) (cs .0) (bytes-drop 8 x b) (rw (length-drop 8 x) (omega arith)) (rw (length-drop 264 x) (omega arith)) (cs .1) in
+      let cs = kept (readRow (readCell n) (length (k .0 .cells)) (drop 8 x) (drop 264 x)) _ f (t .1) in
+      let vs = kept (readRow (readValue n) (byteAt x 1) (drop 136 x) (drop 296 x)) _ f (cs .2) in
+      let rc = cells-read n (length (k .0 .cells)) (drop 8 x) (drop 264 x) (cs .0) (bytes-drop 8 x b) (rw (length-drop 8 x) (omega arith)) (rw (length-drop 264 x) (omega arith)) (cs .1) in
       let rv = values-read n (byteAt x 1) (drop 136 x) (drop 296 x) (vs .0) (bytes-drop 136 x b) (rw (length-drop 136 x) (omega arith)) (rw (length-drop 296 x) (omega arith)) (vs .1) in
       rw (← same-some (vs .2))
       (record {
@@ -152,7 +168,7 @@ module _ (m : Macro) (x : List ℕ) (b : Bytes x) where
         few-holds = leb-true (byteAt x 2) 16 (t2 .1);
         body = refl;
         address = refl;
-        cells = rw (cells-assigned (cs .0)) rc;
+        cells = rc;
         operands = rw (reverse-reverse (vs .0)) rv;
         holds = reverse-reverse (take (byteAt x 2) hs);
       })
@@ -163,6 +179,6 @@ module _ (m : Macro) (x : List ℕ) (b : Bytes x) where
       let n = length (m .classes) in
       let k = kept (getElem? (m .classes) (byteAt x 0)) _ r e in
       let f = few (k .0) (k .1) in
-      let vs = kept (readValues n (length (k .0)) (drop 4 x) (drop 36 x)) _ r (k .2) in
+      let vs = kept (readRow (readValue n) (length (k .0)) (drop 4 x) (drop 36 x)) _ r (k .2) in
       let rv = values-read n (length (k .0)) (drop 4 x) (drop 36 x) (vs .0) (bytes-drop 4 x b) (rw (length-drop 4 x) (omega arith)) (rw (length-drop 36 x) (omega arith)) (vs .1) in
       rw (← same-some (vs .2)) (record { types = k .0; known = k .1; class = refl; fields = rv })

@@ -8,16 +8,14 @@ use lib.Seq.{sets}
 use Rattle.words.specs.Numbers.{word}
 use Rattle.words.specs.Laws.{one, bytesOf}
 use Rattle.values.specs.Values.{Value, valueWord, Cell}
-use Rattle.bytecode.specs.Machine.{Activation, Made, running, allHolds}
-use Rattle.bytecode.specs.Sound.{cellValues}
-use Rattle.bytecode.specs.State.{pad, zeros, typeByte, encode}
+use Rattle.bytecode.specs.Machine.{Activation, Shared, running, allHolds}
+use Rattle.bytecode.specs.State.{pad, zeros, wordOfCell, byteOfCell, encode}
 use Rattle.layout.specs.Rows.{pad-pad, pad-blank}
 use Rattle.layout.specs.Focus.{within, part-sets, flat-bytes, as-bytes}
 use Rattle.layout.specs.Blank.{wipe-row}
 use Rattle.layout.specs.Parts.{Frame, partsBytes, noFrame, frameOf, wide-word, wide-frame, blank-frame, encode-parts}
 use Rattle.layout.specs.Places.{activations, framePlace, withCells, cell-words, cell-types}
 use Rattle.layout.specs.Stores.{_≔_, stores, stores-put}
-use Rattle.layout.specs.Slots.{length-cells}
 use Rattle.layout.specs.Edits.{on, rawOn, encode-raw, raw-focus, same-raw}
 use Rattle.layout.specs.Steps.{activation}
 
@@ -30,30 +28,29 @@ unfolding zeros
 blank-byte = refl
 
 -- the words and the type bytes of the first n cells
-module _ (rs : List Made) (us fs : List Activation) (few : length fs < 32) (b i : ℕ) (cs : List Cell) (vs : List Value) (gs : List ℕ) (n : ℕ) (all-cells : length cs ≤ n) (room : n ≤ 32) where
-  count : (g : Value → ℕ) → length (map g (cellValues cs)) ≤ n
-  count g = rw (length-map (cellValues cs) g, length-cells cs) all-cells
+module _ (rs : Shared) (us fs : List Activation) (few : length fs < 32) (b i : ℕ) (cs : List Cell) (vs : List Value) (gs : List ℕ) (n : ℕ) (all-cells : length cs ≤ n) (room : n ≤ 32) where
+  count : (g : Cell → ℕ) → length (map g cs) ≤ n
+  count g = rw (length-map cs g) all-cells
 
   abbrev bytesWith : Frame → List ℕ
   bytesWith a = partsBytes (rawOn rs us (activation b i cs vs gs) fs a)
 
   -- of any frame whose rows hold these cells' words and type bytes
-  words-off : (a : Frame) → a .cellWords ≡ pad 32 0 (map valueWord (cellValues cs)) → sets (bytesWith a) (framePlace (length fs) + 8) (zeros (4 * n)) ≡ bytesWith (withCells (pad 32 0 []) (a .cellTypes) a)
+  words-off : (a : Frame) → a .cellWords ≡ pad 32 0 (map wordOfCell cs) → sets (bytesWith a) (framePlace (length fs) + 8) (zeros (4 * n)) ≡ bytesWith (withCells (pad 32 0 []) (a .cellTypes) a)
   words-off a e =
       wipe-row 0 word 4 wide-word blank-word n 32
       (within (λ (ws : List ℕ). withCells ws (a .cellTypes) a) (raw-focus rs us (activation b i cs vs gs) fs few a) (cell-words a))
-      (map valueWord (cellValues cs)) (rw e (pad-pad 0 32 (map valueWord (cellValues cs)))) (count valueWord) room
+      (map wordOfCell cs) (rw e (pad-pad 0 32 (map wordOfCell cs))) (count wordOfCell) room
 
-  types-off : (a : Frame) → a .cellTypes ≡ pad 32 0 (map typeByte (cellValues cs)) → sets (bytesWith a) (framePlace (length fs) + 264) (zeros n) ≡ bytesWith (withCells (a .cellWords) (pad 32 0 []) a)
+  types-off : (a : Frame) → a .cellTypes ≡ pad 32 0 (map byteOfCell cs) → sets (bytesWith a) (framePlace (length fs) + 264) (zeros n) ≡ bytesWith (withCells (a .cellWords) (pad 32 0 []) a)
   types-off a e =
       let z : 1 * n ≡ n = omega arith in
       rw z at (wipe-row 0 (bytesOf one) 1 (λ x. refl) blank-byte n 32
       (as-bytes (pad 32 0) (λ ts. flat-bytes (pad 32 0 ts)) (within (λ (ts : List ℕ). withCells (a .cellWords) ts a) (raw-focus rs us (activation b i cs vs gs) fs few a) (cell-types a)))
-      (map typeByte (cellValues cs)) (rw e (pad-pad 0 32 (map typeByte (cellValues cs)))) (count typeByte) room)
+      (map byteOfCell cs) (rw e (pad-pad 0 32 (map byteOfCell cs))) (count byteOfCell) room)
 
   pub no-cells-law : sets (sets (encode (on rs us (activation b i cs vs gs) fs)) (framePlace (length fs) + 8) (zeros (4 * n))) (framePlace (length fs) + 264) (zeros n)
       ≡ encode (on rs us (activation b i [] vs gs) fs)
-  unfolding cellValues
   no-cells-law =
       let a = frameOf (activation b i cs vs gs) in
       rw (encode-raw rs us (activation b i cs vs gs) fs, encode-raw rs us (activation b i [] vs gs) fs)
@@ -61,7 +58,7 @@ module _ (rs : List Made) (us fs : List Activation) (few : length fs < 32) (b i 
       ∙ ap partsBytes (same-raw rs us (activation b i cs vs gs) fs (activation b i [] vs gs) refl (frameOf (activation b i [] vs gs))))
 
 -- all of the top's bytes, where it has no open hold
-pub drop-law : (rs : List Made) (g f : Activation) (fs : List Activation) → length (f ∷ fs) < 32 → g .holds ≡ []
+pub drop-law : (rs : Shared) (g f : Activation) (fs : List Activation) → length (f ∷ fs) < 32 → g .holds ≡ []
     → stores (sets (encode (running rs g (f ∷ fs))) (framePlace (length (f ∷ fs))) (zeros 328)) (activations ≔ length (f ∷ fs) ∷ []) ≡ encode (running rs f fs)
 unfolding allHolds
 drop-law rs g f fs few e =

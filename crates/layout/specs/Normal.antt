@@ -9,12 +9,11 @@ use lib.Seq.{length-take-le, take-take, take-add, drop-drop, drop-cons, getD-tak
 use Rattle.words.specs.Numbers.{byteAt, word}
 use Rattle.words.specs.Laws.{Bytes}
 use Rattle.values.specs.Types.{Ty}
-use Rattle.values.specs.Values.{Value, valueWord}
+use Rattle.values.specs.Values.{valueWord}
 use Rattle.bytecode.specs.Macro.{Body, Macro}
 use Rattle.bytecode.specs.Instructions.{bodyAt}
 use Rattle.bytecode.specs.Machine.{Activation, Made}
-use Rattle.bytecode.specs.Sound.{cellValues}
-use Rattle.bytecode.specs.State.{flat, zeros, wordsOf, typesOf, typeByte, activationBytes, recordBytes, readActivation, readActivations, readRecord, readRecords}
+use Rattle.bytecode.specs.State.{flat, zeros, wordsOf, typesOf, typeByte, wordOfCell, byteOfCell, activationBytes, recordBytes, readActivation, readActivations, readRecord, readRecords}
 use Rattle.layout.specs.Rows.{length-pad, pad-fill, flat-append}
 use Rattle.layout.specs.Parts.{length-words}
 use Rattle.loading.specs.Tests.{kept}
@@ -32,29 +31,30 @@ zeros-are : (k : ℕ) → replicate k 0 ≡ zeros k
 unfolding zeros
 zeros-are k = refl
 
-module _ (k n : ℕ) (ws ts : List ℕ) (vs : List Value) (r : RowRead k ws ts vs) (h : k ≤ n) where
-  words-filled : take (4 * k) ws ++ zeros (4 * n - 4 * k) ≡ wordsOf n vs
+module _ {A : Type 0} (wordOf byteOf : A → ℕ) (k n : ℕ) (ws ts : List ℕ) (xs : List A) (r : RowRead wordOf byteOf k ws ts xs) (h : k ≤ n) where
+  words-filled : take (4 * k) ws ++ zeros (4 * n - 4 * k) ≡ wordsOf n (map wordOf xs)
   words-filled =
-      let c : length (map valueWord vs) ≡ k = length-map vs valueWord ∙ r .count in
+      let c : length (map wordOf xs) ≡ k = length-map xs wordOf ∙ r .count in
       let e : 4 * (n - k) ≡ 4 * n - 4 * k = omega arith in
-      sym (rw (pad-fill 0 n (map valueWord vs) (rw c h), c, flat-append word (map valueWord vs) (replicate (n - k) 0), blank-words (n - k), r .words, e))
+      sym (rw (pad-fill 0 n (map wordOf xs) (rw c h), c, flat-append word (map wordOf xs) (replicate (n - k) 0), blank-words (n - k), r .words, e))
 
-  types-filled : take k ts ++ zeros (n - k) ≡ typesOf n vs
+  types-filled : take k ts ++ zeros (n - k) ≡ typesOf n (map byteOf xs)
   types-filled =
-      let c : length (map typeByte vs) ≡ k = length-map vs typeByte ∙ r .count in
-      sym (rw (pad-fill 0 n (map typeByte vs) (rw c h), c, r .types, zeros-are (n - k)))
+      let c : length (map byteOf xs) ≡ k = length-map xs byteOf ∙ r .count in
+      sym (rw (pad-fill 0 n (map byteOf xs) (rw c h), c, r .types, zeros-are (n - k)))
 
 -- rows of n, at an offset
-module _ (b o k n : ℕ) (l : List ℕ) (ts : List ℕ) (vs : List Value) (h : k ≤ n) where
-  clears-words : RowRead k l ts vs → 4 * n ≤ length l → Clears b o ((o + 4 * k ⋯ o + 4 * n) ∷ []) (take (4 * n) l) (wordsOf n vs)
+module _ {A : Type 0} (wordOf byteOf : A → ℕ) (b o k n : ℕ) (l : List ℕ) (ts : List ℕ) (xs : List A) (h : k ≤ n) where
+  clears-words : RowRead wordOf byteOf k l ts xs → 4 * n ≤ length l
+      → Clears b o ((o + 4 * k ⋯ o + 4 * n) ∷ []) (take (4 * n) l) (wordsOf n (map wordOf xs))
   clears-words r fits =
-      clears-as refl (rw (take-take (4 * k) (4 * n) l (omega arith)) (words-filled k n l ts vs r h))
+      clears-as refl (rw (take-take (4 * k) (4 * n) l (omega arith)) (words-filled wordOf byteOf k n l ts xs r h))
       (cleared-from b o (4 * k) (4 * n) (take (4 * n) l) (length-take-le (4 * n) l fits) (omega arith))
 
-module _ (b o k n : ℕ) (ws l : List ℕ) (vs : List Value) (h : k ≤ n) where
-  clears-types : RowRead k ws l vs → n ≤ length l → Clears b o ((o + k ⋯ o + n) ∷ []) (take n l) (typesOf n vs)
+module _ {A : Type 0} (wordOf byteOf : A → ℕ) (b o k n : ℕ) (ws l : List ℕ) (xs : List A) (h : k ≤ n) where
+  clears-types : RowRead wordOf byteOf k ws l xs → n ≤ length l → Clears b o ((o + k ⋯ o + n) ∷ []) (take n l) (typesOf n (map byteOf xs))
   clears-types r fits =
-      clears-as refl (rw (take-take k n l h) (types-filled k n ws l vs r h)) (cleared-from b o k n (take n l) (length-take-le n l fits) h)
+      clears-as refl (rw (take-take k n l h) (types-filled wordOf byteOf k n ws l xs r h)) (cleared-from b o k n (take n l) (length-take-le n l fits) h)
 
 -- the first four bytes
 pub four-bytes : (x : List ℕ) → 4 ≤ length x → x ≡ byteAt x 0 ∷ byteAt x 1 ∷ byteAt x 2 ∷ byteAt x 3 ∷ drop 4 x
@@ -110,8 +110,10 @@ module _ (x : List ℕ) (wide : length x ≡ 328) (small : Bytes x) where
     activation-cleared b =
         let c = length (r .which .cells) in
         let d = byteAt x 1 in
-        let cs = cellValues (f .cells) in
+        let cs = f .cells in
         let vs = reverse (f .operands) in
+        let cw = map wordOfCell cs in let ct = map byteOfCell cs in
+        let vw = map valueWord vs in let vt = map typeByte vs in
         let w1 = take 128 (drop 8 x) in
         let w2 = take 128 (drop 136 x) in
         let t1 = take 32 (drop 264 x) in
@@ -122,17 +124,17 @@ module _ (x : List ℕ) (wide : length x ≡ 328) (small : Bytes x) where
         let o1 : 8 + length w1 ≡ 136 = rw l1 in
         let o2 : 136 + length w2 ≡ 264 = rw l2 in
         let o3 : 264 + length t1 ≡ 296 = rw l3 in
-        let k1 : Clears b 8 ((8 + 4 * c ⋯ 136) ∷ []) w1 (wordsOf 32 cs) = clears-words b 8 c 32 (drop 8 x) (drop 264 x) cs (r .few-cells) (r .cells) (rw (length-drop 8 x) (omega arith)) in
-        let k2 : Clears b 136 ((136 + 4 * d ⋯ 264) ∷ []) w2 (wordsOf 32 vs) = clears-words b 136 d 32 (drop 136 x) (drop 296 x) vs (r .few-operands) (r .operands) (rw (length-drop 136 x) (omega arith)) in
-        let k3 : Clears b 264 ((264 + c ⋯ 296) ∷ []) t1 (typesOf 32 cs) = clears-types b 264 c 32 (drop 8 x) (drop 264 x) cs (r .few-cells) (r .cells) (rw (length-drop 264 x) (omega arith)) in
-        let k4 : Clears b 296 ((296 + d ⋯ 328) ∷ []) t2 (typesOf 32 vs) = clears-types b 296 d 32 (drop 136 x) (drop 296 x) vs (r .few-operands) (r .operands) (rw (length-drop 296 x) (omega arith)) in
+        let k1 : Clears b 8 ((8 + 4 * c ⋯ 136) ∷ []) w1 (wordsOf 32 cw) = clears-words wordOfCell byteOfCell b 8 c 32 (drop 8 x) (drop 264 x) cs (r .few-cells) (r .cells) (rw (length-drop 8 x) (omega arith)) in
+        let k2 : Clears b 136 ((136 + 4 * d ⋯ 264) ∷ []) w2 (wordsOf 32 vw) = clears-words valueWord typeByte b 136 d 32 (drop 136 x) (drop 296 x) vs (r .few-operands) (r .operands) (rw (length-drop 136 x) (omega arith)) in
+        let k3 : Clears b 264 ((264 + c ⋯ 296) ∷ []) t1 (typesOf 32 ct) = clears-types wordOfCell byteOfCell b 264 c 32 (drop 8 x) (drop 264 x) cs (r .few-cells) (r .cells) (rw (length-drop 264 x) (omega arith)) in
+        let k4 : Clears b 296 ((296 + d ⋯ 328) ∷ []) t2 (typesOf 32 vt) = clears-types valueWord typeByte b 296 d 32 (drop 136 x) (drop 296 x) vs (r .few-operands) (r .operands) (rw (length-drop 296 x) (omega arith)) in
         clears-as activation-split (rw (r .body, depth-is, open-is, low-is, high-is))
         (both-parts refl refl (first-four b (byteAt x 0) (byteAt x 1) (byteAt x 2) (byteAt x 3))
         (both-parts {o′ = 6} refl refl (kept-part b 4 (byteAt x 4 ∷ byteAt x 5 ∷ []))
         (both-parts refl refl (next-two b (byteAt x 6) (byteAt x 7))
-        (both-parts o1 (length-words 32 (map valueWord cs) ∙ sym l1) k1
-        (both-parts o2 (length-words 32 (map valueWord vs) ∙ sym l2) k2
-        (both-parts o3 (length-pad 0 32 (map typeByte cs) ∙ sym l3) k3 k4))))))
+        (both-parts o1 (length-words 32 cw ∙ sym l1) k1
+        (both-parts o2 (length-words 32 vw ∙ sym l2) k2
+        (both-parts o3 (length-pad 0 32 ct ∙ sym l3) k3 k4))))))
 
 -- ── a record ──
 module _ (x : List ℕ) (wide : length x ≡ 44) where
@@ -150,8 +152,8 @@ module _ (x : List ℕ) (wide : length x ≡ 44) where
       let w = take 32 (drop 4 x) in
       let n : length w ≡ 32 = length-take-le 32 (drop 4 x) (rw (length-drop 4 x) (omega arith)) in
       let o : 4 + length w ≡ 36 = rw n in
-      let k1 : Clears b 4 ((4 + 4 * k ⋯ 36) ∷ []) w (wordsOf 8 (r .fields)) = clears-words b 4 k 8 (drop 4 x) (drop 36 x) (r .fields) few (q .fields) (rw (length-drop 4 x) (omega arith)) in
-      let k2 : Clears b 36 ((36 + k ⋯ 44) ∷ []) (take 8 (drop 36 x)) (typesOf 8 (r .fields)) = clears-types b 36 k 8 (drop 4 x) (drop 36 x) (r .fields) few (q .fields) (rw (length-drop 36 x) (omega arith)) in
+      let k1 : Clears b 4 ((4 + 4 * k ⋯ 36) ∷ []) w (wordsOf 8 (map valueWord (r .fields))) = clears-words valueWord typeByte b 4 k 8 (drop 4 x) (drop 36 x) (r .fields) few (q .fields) (rw (length-drop 4 x) (omega arith)) in
+      let k2 : Clears b 36 ((36 + k ⋯ 44) ∷ []) (take 8 (drop 36 x)) (typesOf 8 (map typeByte (r .fields))) = clears-types valueWord typeByte b 36 k 8 (drop 4 x) (drop 36 x) (r .fields) few (q .fields) (rw (length-drop 36 x) (omega arith)) in
       clears-as record-split (rw (q .class))
       (both-parts refl refl (first-one b (byteAt x 0) (byteAt x 1) (byteAt x 2) (byteAt x 3)) (both-parts o (length-words 8 (map valueWord (r .fields)) ∙ sym n) k1 k2))
 

@@ -7,8 +7,7 @@ use lib.ListN.{length, length-append, length-replicate}
 use Rattle.words.specs.Numbers.{half, word}
 use Rattle.values.specs.Values.{valueWord}
 use Rattle.bytecode.specs.Machine.{Activation, Made, endBy, Machine, running, unwinding, ended, allHolds}
-use Rattle.bytecode.specs.Sound.{cellValues}
-use Rattle.bytecode.specs.State.{pad, flat, zeros, typeByte, activationBytes, recordBytes, headerBytes, stateBytes, encode}
+use Rattle.bytecode.specs.State.{pad, flat, zeros, typeByte, wordOfCell, byteOfCell, activationBytes, recordBytes, headerBytes, stateBytes, encode}
 use Rattle.layout.specs.Rows.{length-pad, pad-pad, length-flat, flat-map}
 
 -- an activation; the rows have 32 numbers, operands from the bottom
@@ -77,9 +76,9 @@ frameOf f = record {
   depth = length (f .operands);
   open′ = length (f .holds);
   address = f .address;
-  cellWords = pad 32 0 (map valueWord (cellValues (f .cells)));
+  cellWords = pad 32 0 (map wordOfCell (f .cells));
   operandWords = pad 32 0 (map valueWord (reverse (f .operands)));
-  cellTypes = pad 32 0 (map typeByte (cellValues (f .cells)));
+  cellTypes = pad 32 0 (map byteOfCell (f .cells));
   operandTypes = pad 32 0 (map typeByte (reverse (f .operands)));
 }
 
@@ -96,15 +95,15 @@ abbrev pub entriesOf : List Made → List Entry
 entriesOf rs = pad 256 noEntry (map entryOf rs)
 
 abbrev pub partsOf : Machine → Parts
-partsOf (running rs f fs) = record {
+partsOf (running s f fs) = record {
   phase = 0;
   code = 0;
   activations = length (f ∷ fs);
-  records = length rs;
+  records = length (s .records);
   holds = length (allHolds (f ∷ fs));
   frames = framesOf (f ∷ fs);
   groups = groupsOf (allHolds (f ∷ fs));
-  entries = entriesOf rs;
+  entries = entriesOf (s .records);
 }
 partsOf (unwinding gs (endBy c)) =
     record { phase = 1; code = c; activations = 0; records = 0; holds = length gs; frames = framesOf []; groups = groupsOf gs; entries = entriesOf [] }
@@ -154,7 +153,7 @@ state-is h fs gs rs =
 
 pub encode-parts : (s : Machine) → encode s ≡ partsBytes (partsOf s)
 unfolding encode partsBytes
-encode-parts (running rs f fs) = state-is _ (f ∷ fs) (allHolds (f ∷ fs)) rs
+encode-parts (running s f fs) = state-is _ (f ∷ fs) (allHolds (f ∷ fs)) (s .records)
 encode-parts (unwinding gs (endBy c)) = state-is _ [] gs []
 encode-parts (ended c) = state-is _ [] [] []
 

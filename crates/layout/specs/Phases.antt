@@ -4,8 +4,7 @@ use mathlib.Core.List.{List, [], _∷_, reverse, map}
 use Prim.Native.Nat.{ℕ, _*_, _≤_, _<_}
 use lib.ListN.{length, length-reverse, length-map}
 use lib.Seq.{sets}
-use Rattle.bytecode.specs.Machine.{Activation, Made, endBy, running, unwinding, ended, allHolds}
-use Rattle.bytecode.specs.Sound.{cellValues}
+use Rattle.bytecode.specs.Machine.{Activation, Shared, endBy, running, unwinding, ended, allHolds}
 use Rattle.bytecode.specs.State.{pad, zeros, headerBytes, encode}
 use Rattle.layout.specs.Rows.{pad-pad, pad-nil, pad-blank}
 use Rattle.layout.specs.Blank.{zeros-join, blank-row, wipe-row}
@@ -19,13 +18,14 @@ use Rattle.layout.specs.Steps.{activation}
 abbrev pub wiped : List ℕ → ℕ → ℕ → List ℕ
 wiped l n r = sets (sets l 32 (zeros (328 * n))) 11040 (zeros (44 * r))
 
-wipe-law : (rs : List Made) (f : Activation) (fs : List Activation) (n r : ℕ) → length (f ∷ fs) ≤ n → n ≤ 32 → length rs ≤ r → r ≤ 256
-    → wiped (encode (running rs f fs)) n r ≡ partsBytes (parts 0 0 (length (f ∷ fs)) (length rs) (length (allHolds (f ∷ fs))) (framesOf []) (groupsOf (allHolds (f ∷ fs))) (entriesOf []))
-wipe-law rs f fs n r a b c d =
-    let p : Parts = partsOf (running rs f fs) in
+wipe-law : (s : Shared) (f : Activation) (fs : List Activation) (n r : ℕ) → length (f ∷ fs) ≤ n → n ≤ 32 → length (s .records) ≤ r → r ≤ 256
+    → wiped (encode (running s f fs)) n r ≡ partsBytes (parts 0 0 (length (f ∷ fs)) (length (s .records)) (length (allHolds (f ∷ fs))) (framesOf []) (groupsOf (allHolds (f ∷ fs))) (entriesOf []))
+wipe-law s f fs n r a b c d =
+    let rs = s .records in
+    let p : Parts = partsOf (running s f fs) in
     let xs = map frameOf (reverse (f ∷ fs)) in
     let w : length xs ≤ n = rw (length-map (reverse (f ∷ fs)) frameOf, length-reverse (f ∷ fs)) a in
-    rw (encode-parts (running rs f fs))
+    rw (encode-parts (running s f fs))
     (ap (λ (l : List ℕ). sets l 11040 (zeros (44 * r))) (wipe-row noFrame frameBytes 328 wide-frame blank-frame n 32 (frames-at p) xs (pad-pad noFrame 32 xs) w b)
     ∙ wipe-row noEntry entryBytes 44 wide-entry blank-entry r 256 (entries-at (withFrames (framesOf []) p)) (map entryOf rs) (pad-pad noEntry 256 (map entryOf rs)) (rw (length-map rs entryOf) c) d)
 
@@ -36,7 +36,7 @@ conditionIs c = phase ≔ 1 ∷ code ≔ c ∷ activations ≔ 0 ∷ records ≔
 abbrev pub endsByZero : List Store
 endsByZero = phase ≔ 2 ∷ activations ≔ 0 ∷ records ≔ 0 ∷ []
 
-module _ (rs : List Made) (f : Activation) (fs : List Activation) (n r : ℕ) (a : length (f ∷ fs) ≤ n) (b : n ≤ 32) (c : length rs ≤ r) (d : r ≤ 256) where
+module _ (rs : Shared) (f : Activation) (fs : List Activation) (n r : ℕ) (a : length (f ∷ fs) ≤ n) (b : n ≤ 32) (c : length (rs .records) ≤ r) (d : r ≤ 256) where
   pub condition-law : (x : ℕ) → stores (wiped (encode (running rs f fs)) n r) (conditionIs x) ≡ encode (unwinding (allHolds (f ∷ fs)) (endBy x))
   condition-law x = rw (wipe-law rs f fs n r a b c d, encode-parts (unwinding (allHolds (f ∷ fs)) (endBy x))) (stores-put _ (conditionIs x) (tt, (tt, (tt, (tt, tt)))))
 
@@ -77,11 +77,10 @@ blank-state =
     (zeros-join 32 24544 ∙ rw (zeros-join 10496 14048, zeros-join 512 13536, zeros-join 11264 2272))
 
 first-frame : framesOf (activation 0 0 [] [] [] ∷ []) ≡ framesOf []
-unfolding cellValues
 first-frame = pad-blank noFrame 32 []
 
-pub begin-law : stores (zeros 24576) (activations ≔ 1 ∷ []) ≡ encode (running [] (activation 0 0 [] [] []) [])
+pub begin-law : stores (zeros 24576) (activations ≔ 1 ∷ []) ≡ encode (running (record { records = [] }) (activation 0 0 [] [] []) [])
 unfolding allHolds
 begin-law =
-    rw (blank-state, encode-parts (running [] (activation 0 0 [] [] []) []), first-frame)
+    rw (blank-state, encode-parts (running (record { records = [] }) (activation 0 0 [] [] []) []), first-frame)
     (stores-put (parts 0 0 0 0 0 (framesOf []) (groupsOf []) (entriesOf [])) (activations ≔ 1 ∷ []) (tt, tt))

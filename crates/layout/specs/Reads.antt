@@ -8,8 +8,7 @@ use lib.ListN.{length, getD, getElem?, length-reverse, length-map, List·getD-eq
 use lib.Seq.{getD-at}
 use Rattle.words.specs.Laws.{numberAt}
 use Rattle.values.specs.Values.{Value, Cell}
-use Rattle.bytecode.specs.Machine.{Activation, Made, Machine, running, rootOf}
-use Rattle.bytecode.specs.Sound.{cellValue, cellValues}
+use Rattle.bytecode.specs.Machine.{Activation, Made, Shared, Machine, running, rootOf}
 use Rattle.bytecode.specs.State.{pad, encode}
 use Rattle.layout.specs.Rows.{getD-pad}
 use Rattle.layout.specs.Parts.{noFrame, noEntry, partsOf, frameOf, entryOf, groupsOf, encode-parts}
@@ -27,7 +26,7 @@ turned-at : {A B : Type 0} (g : A → B) (z : B) (us : List A) (v : A) (vs : Lis
 turned-at g z us v vs = rw (map-turned-at g us v vs) (getD-at (map g (reverse vs)) (g v) (map g (reverse us)) z (length vs) (length-map (reverse vs) g ∙ length-reverse vs))
 
 -- ── activations: one with us above it and fs below it, and the root ──
-module _ (x : InFrame) (h : FrameHas x) (rs : List Made) where
+module _ (x : InFrame) (h : FrameHas x) (rs : Shared) where
   frame-reads : (f : Activation) (fs : List Activation) (k : ℕ) → k < 32 → (g : Activation) → getD (map frameOf (reverse (f ∷ fs))) k noFrame ≡ frameOf g
       → numberAt (frameSize x) (encode (running rs f fs)) (framePlace k + frameOffset x) ≡ frameGet x (frameOf g)
   frame-reads f fs k few g e =
@@ -45,32 +44,23 @@ module _ (x : InFrame) (h : FrameHas x) (rs : List Made) where
 pub operand-is : (g : Value → ℕ) (us : List Value) (v : Value) (vs : List Value) → length vs < 32 → getD (pad 32 0 (map g (reverse (us ++ (v ∷ vs))))) (length vs) 0 ≡ g v
 operand-is g us v vs h = getD-pad 0 32 (map g (reverse (us ++ (v ∷ vs)))) (length vs) h ∙ turned-at g 0 us v vs
 
-pub value-is : (g : Value → ℕ) (n : ℕ) (vs : List Value) (j : ℕ) (v : Value) → getElem? vs j ≡ some v → j < n → getD (pad n 0 (map g vs)) j 0 ≡ g v
-value-is g n vs j v e h = getD-pad 0 n (map g vs) j h ∙ go vs j e
+pub value-is : {A : Type 0} (g : A → ℕ) (n : ℕ) (vs : List A) (j : ℕ) (v : A) → getElem? vs j ≡ some v → j < n → getD (pad n 0 (map g vs)) j 0 ≡ g v
+value-is {A = A} g n vs j v e h = getD-pad 0 n (map g vs) j h ∙ go vs j e
   where
-    go : (us : List Value) (j : ℕ) → getElem? us j ≡ some v → getD (map g us) j 0 ≡ g v
+    go : (us : List A) (j : ℕ) → getElem? us j ≡ some v → getD (map g us) j 0 ≡ g v
     go [] j e = never-some e
     go (u ∷ us) zero e = let i : u ≡ v = cc in ap g i
     go (u ∷ us) (suc j) e = go us j e
 
 -- behind the last in use stands 0
-pub blank-is : (g : Value → ℕ) (n : ℕ) (vs : List Value) (j : ℕ) → length vs ≤ j → j < n → getD (pad n 0 (map g vs)) j 0 ≡ 0
+pub blank-is : {A : Type 0} (g : A → ℕ) (n : ℕ) (vs : List A) (j : ℕ) → length vs ≤ j → j < n → getD (pad n 0 (map g vs)) j 0 ≡ 0
 blank-is g n vs j h k = getD-pad 0 n (map g vs) j k ∙ List·getD-eq-default (map g vs) 0 (rw (length-map vs g) h)
 
-pub cell-is : (g : Value → ℕ) (cs : List Cell) (j : ℕ) (c : Cell) → getElem? cs j ≡ some c → j < 32 → getD (pad 32 0 (map g (cellValues cs))) j 0 ≡ g (cellValue c)
-unfolding cellValues
-cell-is g cs j c e h = value-is g 32 (cellValues cs) j (cellValue c) (go cs j e) h
-  where
-    go : (ds : List Cell) (j : ℕ) → getElem? ds j ≡ some c → getElem? (cellValues ds) j ≡ some (cellValue c)
-    go [] j e = never-some e
-    go (d ∷ ds) zero e = let i : d ≡ c = cc in ap (λ (b : Cell). some (cellValue b)) i
-    go (d ∷ ds) (suc j) e = go ds j e
-
 -- ── records ──
-pub record-reads : (x : InEntry) → EntryHas x → (rs : List Made) (f : Activation) (fs : List Activation) (n : ℕ) (q : Made) → getElem? rs n ≡ some q → n < 256
+pub record-reads : (x : InEntry) → EntryHas x → (rs : Shared) (f : Activation) (fs : List Activation) (n : ℕ) (q : Made) → getElem? (rs .records) n ≡ some q → n < 256
     → numberAt (entrySize x) (encode (running rs f fs)) (entryPlace n + entryOffset x) ≡ entryGet x (entryOf q)
 record-reads x h rs f fs n q e k =
-    encode-reads (inEntry n x) (k, h) (running rs f fs) ∙ ap (entryGet x) (getD-pad noEntry 256 (map entryOf rs) n k ∙ entry-there rs n q e)
+    encode-reads (inEntry n x) (k, h) (running rs f fs) ∙ ap (entryGet x) (getD-pad noEntry 256 (map entryOf (rs .records)) n k ∙ entry-there (rs .records) n q e)
 
 -- ── holds: the one with gs taken before it ──
 pub group-is : (us : List ℕ) (g : ℕ) (gs : List ℕ) → length gs < 512 → getD (groupsOf (us ++ (g ∷ gs))) (length gs) 0 ≡ g

@@ -7,15 +7,15 @@ use native.Mathlib.Omega.{arith}
 use lib.ListN.{length, getD, getElem?, length-append, length-map, length-set}
 use lib.ListN.{set as replace}
 use Rattle.values.specs.Values.{Value, valueWord, Cell, assigned}
-use Rattle.bytecode.specs.Machine.{Activation, Made, running, allHolds, rootOf, withCells, putTop, putLowest, fieldPut}
-use Rattle.bytecode.specs.State.{typeByte, encode}
+use Rattle.bytecode.specs.Machine.{Activation, Made, Shared, running, allHolds, rootOf, withCells, putTop, putLowest, fieldPut}
+use Rattle.bytecode.specs.State.{typeByte, wordOfCell, byteOfCell, encode}
 use Rattle.layout.specs.Rows.{alter, alter-alter, pad-inner, pad-next, pad-put, map-append}
 use Rattle.layout.specs.Parts.{Frame, Entry, noFrame, noEntry, partsOf, frameOf, framesOf, entryOf, entriesOf, groupsOf}
 use Rattle.layout.specs.Places.{records, inEntry, class, fieldWord, fieldType, parts}
 use Rattle.layout.specs.Stores.{Store, _≔_, stores, turns}
 use Rattle.loading.specs.Tests.{never-some}
 use Rattle.layout.specs.Elements.{there}
-use Rattle.layout.specs.Slots.{field-put, field-next, cell-put}
+use Rattle.layout.specs.Slots.{field-put, field-next}
 use Rattle.layout.specs.Edits.{inside}
 use Rattle.layout.specs.Steps.{cellIs}
 
@@ -50,8 +50,11 @@ entry-next : (g : Entry → Entry) (rs : List Made) (q : Made) → length rs < 2
 entry-next g rs q h e =
     rw (map-append entryOf rs (q ∷ []), ← e, ← length-map rs entryOf) (pad-next noEntry 256 g (map entryOf rs) (rw (length-map rs entryOf) h))
 
-module _ (rs : List Made) (f : Activation) (fs : List Activation) where
-  pub make-law : (c : ℕ) → length rs < 256 → stores (encode (running rs f fs)) (makes (length rs) c) ≡ encode (running (rs ++ (made c [] ∷ [])) f fs)
+module _ (s : Shared) (f : Activation) (fs : List Activation) where
+  abbrev rs : List Made
+  rs = s .records
+
+  pub make-law : (c : ℕ) → length rs < 256 → stores (encode (running s f fs)) (makes (length rs) c) ≡ encode (running (record { records = rs ++ (made c [] ∷ []) }) f fs)
   make-law c h =
       let e : length (rs ++ (made c [] ∷ [])) ≡ suc (length rs) = length-append rs (made c [] ∷ []) ∙ omega arith in
       turns _ _ (makes (length rs) c) ((h, tt), (tt, tt)) (rw (e, entry-next _ rs (made c []) h refl))
@@ -59,18 +62,18 @@ module _ (rs : List Made) (f : Activation) (fs : List Activation) where
   -- an edit of record n
   edit : (g : Entry → Entry) (n : ℕ) (q q′ : Made) → getElem? rs n ≡ some q → n < 256 → g (entryOf q) ≡ entryOf q′
       → parts 0 0 (length (f ∷ fs)) (length rs) (length (allHolds (f ∷ fs))) (framesOf (f ∷ fs)) (groupsOf (allHolds (f ∷ fs))) (alter noEntry g (entriesOf rs) n)
-      ≡ partsOf (running (replace rs n q′) f fs)
+      ≡ partsOf (running (record { records = replace rs n q′ }) f fs)
   edit g n q q′ e h i = rw (length-set rs n q′, entry-altered g rs n q q′ e h i)
 
   -- a field behind the last of record n, and a field exchanged
   pub field-next-law : (n c : ℕ) (vs : List Value) (v : Value) → getElem? rs n ≡ some (made c vs) → n < 256 → length vs < 8
-      → stores (encode (running rs f fs)) (fieldIs n (length vs) v) ≡ encode (running (replace rs n (made c (vs ++ (v ∷ [])))) f fs)
+      → stores (encode (running s f fs)) (fieldIs n (length vs) v) ≡ encode (running (record { records = replace rs n (made c (vs ++ (v ∷ []))) }) f fs)
   field-next-law n c vs v e h k =
       turns _ _ (fieldIs n (length vs) v) ((h, k), ((h, k), tt))
       (simp alter-alter (edit _ n (made c vs) (made c (vs ++ (v ∷ []))) e h (rw (field-next 8 valueWord v vs k, field-next 8 typeByte v vs k))))
 
   pub field-law : (n x : ℕ) (q : Made) (v : Value) → getElem? rs n ≡ some q → n < 256 → x < length (q .fields) → x < 8
-      → stores (encode (running rs f fs)) (fieldIs n x v) ≡ encode (running (fieldPut n x v q rs) f fs)
+      → stores (encode (running s f fs)) (fieldIs n x v) ≡ encode (running (record { records = fieldPut n x v q rs }) f fs)
   field-law n x q v e h i k =
       turns _ _ (fieldIs n x v) ((h, k), ((h, k), tt))
       (simp alter-alter
@@ -108,9 +111,9 @@ unfolding rootOf above putLowest
 root-put cs f [] = refl
 root-put cs f (g ∷ gs) = reverse-cons f (putLowest cs (g ∷ gs)) ∙ rw (put-lowest cs g gs, root-put cs g gs)
 
-module _ (rs : List Made) (f : Activation) (fs : List Activation) where
+module _ (rs : Shared) (f : Activation) (fs : List Activation) where
   root-edit : (g : Frame → Frame) (cs : List Cell) → g (frameOf (rootOf f fs)) ≡ frameOf (withCells cs (rootOf f fs))
-      → parts 0 0 (length (f ∷ fs)) (length rs) (length (allHolds (f ∷ fs))) (alter noFrame g (framesOf (f ∷ fs)) 0) (groupsOf (allHolds (f ∷ fs))) (entriesOf rs)
+      → parts 0 0 (length (f ∷ fs)) (length (rs .records)) (length (allHolds (f ∷ fs))) (alter noFrame g (framesOf (f ∷ fs)) 0) (groupsOf (allHolds (f ∷ fs))) (entriesOf (rs .records))
       ≡ partsOf (running rs (putTop cs f fs) (putLowest cs fs))
   root-edit g cs e =
       let a : alter noFrame g (framesOf (f ∷ fs)) 0 ≡ framesOf (putTop cs f fs ∷ putLowest cs fs) =
@@ -124,4 +127,4 @@ module _ (rs : List Made) (f : Activation) (fs : List Activation) where
       turns _ _ (inside 0 (cellIs j v)) ((omega arith, k), ((omega arith, k), tt))
       (simp alter-alter
       (root-edit _ (replace (rootOf f fs .cells) j (assigned v))
-      (rw (cell-put 32 valueWord v (rootOf f fs .cells) j h k, cell-put 32 typeByte v (rootOf f fs .cells) j h k))))
+      (rw (field-put 32 wordOfCell (assigned v) (rootOf f fs .cells) j h k, field-put 32 byteOfCell (assigned v) (rootOf f fs .cells) j h k))))

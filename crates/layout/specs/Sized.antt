@@ -1,12 +1,12 @@
 -- Macros whose states find room, and what a sound state of such a macro has: values, records and activations that can be written and read.
 use mathlib.Core.Path.{_≡_, refl, sym, ap, _∙_}
 use mathlib.Core.Bool.{true, false}
-use mathlib.Core.List.{List, [], _∷_, _++_}
+use mathlib.Core.List.{List, [], _∷_, _++_, map}
 use mathlib.Core.Option.{Option, none, some}
 use Prim.Native.Nat.{ℕ, suc, _+_, _-_, _≤_, _<_}
 use native.Mathlib.Omega.{arith}
 use lib.Dec.{eqb, leb}
-use lib.ListN.{length, getElem?, length-append}
+use lib.ListN.{length, getElem?, length-append, length-map}
 use borrow.Author.Tests.{ltb-true, leb-true, eqb-true, lt-ltb, le-leb, ne-eqb}
 use mir.Val.{SFits}
 use mir.Syntax.{w32}
@@ -14,15 +14,14 @@ use lib.Signed.{mag}
 use Rattle.words.specs.Lists.{all}
 use Rattle.words.specs.Laws.{integer-back, word-below}
 use Rattle.values.specs.Types.{Ty, reference, sames}
-use Rattle.values.specs.Values.{Value, int, log, bit, ref, tyOf, tysOf, valueWord}
+use Rattle.values.specs.Values.{Value, int, log, bit, ref, tyOf, tysOf, valueWord, Cell, assigned, tyOfCell}
 use Rattle.bytecode.specs.Macro.{Body, Macro, Shape, tyOfByte}
-use Rattle.bytecode.specs.Instructions.{bodyAt, inBody, instrAt}
+use Rattle.bytecode.specs.Instructions.{bodyAt, inBody}
 use Rattle.bytecode.specs.Rules.{foundAt, onStack}
-use Rattle.bytecode.specs.Machine.{Activation, Made, running}
-use Rattle.bytecode.specs.Sound.{soundValue, classIs, typedValues, cellValues, ofClass, soundRecord, soundGroup, soundAt, soundActivation, callsBody, parametersOf, soundWaiting, sound}
-use Rattle.bytecode.specs.State.{typeByte, readValue}
+use Rattle.bytecode.specs.Machine.{Activation, Made, Shared, running}
+use Rattle.bytecode.specs.Sound.{soundValue, classIs, typedValues, soundCell, typedCells, ofClass, soundRecord, soundGroup, soundAt, soundActivation, callsBody, parametersOf, soundWaiting, sound}
+use Rattle.bytecode.specs.State.{typeByte, readValue, wordOfCell, byteOfCell, readCell}
 use Rattle.loading.specs.Terms.{Each, Named}
-use Rattle.layout.specs.Slots.{length-cells}
 use Rattle.loading.specs.Tests.{never, halves, sames→≡}
 use Rattle.layout.specs.Elements.{each-all, each-end, there}
 
@@ -41,10 +40,17 @@ pub record Sized (m : Macro) : Type 0 where
   pub found : (k i : ℕ) (s : Shape) → inBody m k i ≡ true → foundAt m i ≡ some s → (s .holds ≤ 16) × (length (s .operands) ≤ 32) × AllNamed m (s .operands)
 
 -- ── values ──
-pub record GoodValue (classes : ℕ) (v : Value) : Type 0 where
-  pub readable : readValue classes (typeByte v) (valueWord v) ≡ some v
-  pub narrow : valueWord v < 4294967296
-  pub type : typeByte v < 256
+-- what is written as a word and a type byte, and read from them
+pub record Laid {A : Type 0} (wordOf byteOf : A → ℕ) (read : ℕ → ℕ → Option A) (x : A) : Type 0 where
+  pub readable : read (byteOf x) (wordOf x) ≡ some x
+  pub narrow : wordOf x < 4294967296
+  pub type : byteOf x < 256
+
+abbrev pub GoodValue : ℕ → Value → Type 0
+GoodValue classes v = Laid valueWord typeByte (readValue classes) v
+
+abbrev pub GoodCell : ℕ → Cell → Type 0
+GoodCell classes c = Laid wordOfCell byteOfCell (readCell classes) c
 
 reference-byte : (n c : ℕ) → c < n → tyOfByte n (16 + c) ≡ some (reference c)
 unfolding tyOfByte
@@ -77,6 +83,17 @@ module _ (n : ℕ) (few : n ≤ 16) (rs : List Made) (small : length rs ≤ 256)
       let a = halves (soundValue rs v) (all (soundValue rs) vs) h in
       (good-value v (t .0) (a .0), good-values vs (t .1) (a .1))
 
+  good-cell : (c : Cell) → Named n (tyOfCell c) → soundCell rs c ≡ true → GoodCell n c
+  unfolding readCell
+  good-cell (assigned v) t h = let g = good-value v t h in record { readable = rw (g .readable); narrow = g .narrow; type = g .type }
+
+  good-cells : (cs : List Cell) → Each (Named n) (map tyOfCell cs) → all (soundCell rs) cs ≡ true → Each (GoodCell n) cs
+  unfolding all
+  good-cells [] t h = tt
+  good-cells (c ∷ cs) t h =
+      let a = halves (soundCell rs c) (all (soundCell rs) cs) h in
+      (good-cell c (t .0) (a .0), good-cells cs (t .1) (a .1))
+
 length-types : (vs : List Value) → length (tysOf vs) ≡ length vs
 unfolding tysOf
 length-types [] = refl
@@ -98,7 +115,7 @@ pub record GoodActivation (m : Macro) (f : Activation) : Type 0 where
   pub few-operands : length (f .operands) ≤ 32
   pub few-holds : length (f .holds) ≤ 16
   pub address : f .address < 65536
-  pub cells : Each (GoodValue (length (m .classes))) (cellValues (f .cells))
+  pub cells : Each (GoodCell (length (m .classes))) (f .cells)
   pub operands : Each (GoodValue (length (m .classes))) (f .operands)
   pub holds : Each (λ (g : ℕ). g ≤ 63) (f .holds)
 
@@ -108,6 +125,12 @@ module _ (m : Macro) (sized : Sized m) (rs : List Made) (small : length rs ≤ 2
       let a = halves (sames (tysOf vs) ts) (all (soundValue rs) vs) h in
       let e : tysOf vs ≡ ts = sames→≡ (tysOf vs) ts (a .0) in
       (sym (length-types vs) ∙ ap length e, good-values (length (m .classes)) (sized .few-classes) rs small vs (rw e t) (a .1))
+
+  typed-cells : (cs : List Cell) (ts : List Ty) → typedCells rs cs ts ≡ true → AllNamed m ts → (length cs ≡ length ts) × Each (GoodCell (length (m .classes))) cs
+  typed-cells cs ts h t =
+      let a = halves (sames (map tyOfCell cs) ts) (all (soundCell rs) cs) h in
+      let e : map tyOfCell cs ≡ ts = sames→≡ (map tyOfCell cs) ts (a .0) in
+      (sym (length-map cs tyOfCell) ∙ ap length e, good-cells (length (m .classes)) (sized .few-classes) rs small cs (rw e t) (a .1))
 
   good-record : (r : Made) → soundRecord m rs r ≡ true → GoodRecord m r
   good-record r h = go (getElem? (m .classes) (r .class)) refl h
@@ -133,14 +156,14 @@ module _ (m : Macro) (sized : Sized m) (rs : List Made) (small : length rs ≤ 2
           let x1 = halves (sames (taken ++ tysOf (f .operands)) (s .operands)) _ h in
           let x2 = halves (all (soundValue rs) (f .operands)) _ (x1 .1) in
           let x3 = halves (eqb (length (f .holds)) (s .holds)) _ (x2 .1) in
-          let x4 = halves (all soundGroup (f .holds)) (typedValues rs (cellValues (f .cells)) (b .cells)) (x3 .1) in
+          let x4 = halves (all soundGroup (f .holds)) (typedCells rs (f .cells) (b .cells)) (x3 .1) in
           let c = sized .cells (f .body) b q in
-          let t = typed (cellValues (f .cells)) (b .cells) (x4 .1) (c .1) in
+          let t = typed-cells (f .cells) (b .cells) (x4 .1) (c .1) in
           let fd = sized .found (f .body) (f .address) s i p in
           let e : taken ++ tysOf (f .operands) ≡ s .operands = sames→≡ (taken ++ tysOf (f .operands)) (s .operands) (x1 .0) in
           let n : length taken + length (tysOf (f .operands)) ≡ length (s .operands) = sym (length-append taken (tysOf (f .operands))) ∙ ap length e in
           let hn : length (f .holds) ≡ s .holds = eqb-true (length (f .holds)) (s .holds) (x3 .0) in
-          let cn : length (f .cells) ≡ length (b .cells) = sym (length-cells (f .cells)) ∙ t .0 in
+          let cn : length (f .cells) ≡ length (b .cells) = t .0 in
           let cf : length (b .cells) ≤ 32 = c .0 in
           let ff : length (s .operands) ≤ 32 = fd .1 in
           let hf : s .holds ≤ 16 = fd .0 in
@@ -161,20 +184,21 @@ module _ (m : Macro) (sized : Sized m) (rs : List Made) (small : length rs ≤ 2
   unfolding soundWaiting
   good-waiting k [] h = tt
   good-waiting k (f ∷ fs) h =
-      let a = halves (callsBody (instrAt m (f .address)) k) _ h in
+      let a = halves (callsBody (getElem? (m .code) (f .address)) k) _ h in
       let b = halves (soundActivation m rs (onStack (parametersOf (bodyAt m k))) f) (soundWaiting m rs (f .body) fs) (a .1) in
       (good-activation (onStack (parametersOf (bodyAt m k))) f (b .0), good-waiting (f .body) fs (b .1))
 
 -- ── a running state ──
-pub record Good (m : Macro) (rs : List Made) (f : Activation) (fs : List Activation) : Type 0 where
+pub record Good (m : Macro) (s : Shared) (f : Activation) (fs : List Activation) : Type 0 where
   pub few : length (f ∷ fs) ≤ 32
-  pub small : length rs ≤ 256
-  pub records : Each (GoodRecord m) rs
+  pub small : length (s .records) ≤ 256
+  pub records : Each (GoodRecord m) (s .records)
   pub activations : Each (GoodActivation m) (f ∷ fs)
 
-pub good : (m : Macro) → Sized m → (rs : List Made) (f : Activation) (fs : List Activation) → sound m (running rs f fs) ≡ true → Good m rs f fs
+pub good : (m : Macro) → Sized m → (s : Shared) (f : Activation) (fs : List Activation) → sound m (running s f fs) ≡ true → Good m s f fs
 unfolding sound
-good m sized rs f fs h =
+good m sized s f fs h =
+    let rs = s .records in
     let a = halves (leb (length (f ∷ fs)) 32) _ h in
     let b = halves (leb (length rs) 256) _ (a .1) in
     let c = halves (all (soundRecord m rs) rs) _ (b .1) in

@@ -5,13 +5,12 @@ use Prim.Native.Nat.{ℕ, suc, _<_}
 use lib.ListN.{length, length-append}
 use lib.ListN.{set as replace}
 use Rattle.values.specs.Values.{Value, valueWord, Cell, assigned}
-use Rattle.bytecode.specs.Machine.{Activation, Made, running, allHolds}
-use Rattle.bytecode.specs.Sound.{cellValues}
-use Rattle.bytecode.specs.State.{typeByte, encode}
+use Rattle.bytecode.specs.Machine.{Activation, Shared, running, allHolds}
+use Rattle.bytecode.specs.State.{typeByte, wordOfCell, byteOfCell, encode}
 use Rattle.layout.specs.Rows.{alter-alter}
 use Rattle.layout.specs.Places.{activations, holds, group, inFrame, body, depth, open′, address, cellWord, operandWord, cellType, operandType}
 use Rattle.layout.specs.Stores.{Store, _≔_, stores, turns, next-altered, last-altered}
-use Rattle.layout.specs.Slots.{operand-put, operand-pushed, operand-popped, cell-put, cell-next, cell-last, group-pushed, group-popped}
+use Rattle.layout.specs.Slots.{operand-put, operand-pushed, operand-popped, field-put, field-next, field-last, group-pushed, group-popped}
 use Rattle.layout.specs.Edits.{on, activation-altered, Edit, _↤_, inside, written, edit-law}
 
 abbrev pub activation : ℕ → ℕ → List Cell → List Value → List ℕ → Activation
@@ -53,7 +52,7 @@ abbrev pub leaves : ℕ → List Store
 leaves k = inFrame k body ≔ 0 ∷ inFrame k address ≔ 0 ∷ activations ≔ k ∷ []
 
 -- ── the laws, for an activation with us above it and fs below it ──
-module _ (rs : List Made) (us fs : List Activation) (few : length fs < 32) (b i : ℕ) (cs : List Cell) (vs : List Value) (gs : List ℕ) where
+module _ (rs : Shared) (us fs : List Activation) (few : length fs < 32) (b i : ℕ) (cs : List Cell) (vs : List Value) (gs : List ℕ) where
   pub goes-law : (j : ℕ) → written rs us (activation b i cs vs gs) fs (goesTo j) ≡ encode (on rs us (activation b j cs vs gs) fs)
   goes-law j = edit-law rs us (activation b i cs vs gs) fs few (goesTo j) (tt, tt) (activation b j cs vs gs) refl refl
 
@@ -77,21 +76,21 @@ module _ (rs : List Made) (us fs : List Activation) (few : length fs < 32) (b i 
   pub cell-law : (j : ℕ) (v : Value) → j < length cs → j < 32 → written rs us (activation b i cs vs gs) fs (cellIs j v) ≡ encode (on rs us (activation b i (replace cs j (assigned v)) vs gs) fs)
   cell-law j v h k =
       edit-law rs us (activation b i cs vs gs) fs few (cellIs j v) (k, (k, tt)) (activation b i (replace cs j (assigned v)) vs gs)
-      (rw (cell-put 32 valueWord v cs j h k, cell-put 32 typeByte v cs j h k)) refl
+      (rw (field-put 32 wordOfCell (assigned v) cs j h k, field-put 32 byteOfCell (assigned v) cs j h k)) refl
 
   -- a cell behind the last, and the last taken off
   pub cell-next-law : (v : Value) → length cs < 32 → written rs us (activation b i cs vs gs) fs (cellIs (length cs) v) ≡ encode (on rs us (activation b i (cs ++ (assigned v ∷ [])) vs gs) fs)
   cell-next-law v h =
       edit-law rs us (activation b i cs vs gs) fs few (cellIs (length cs) v) (h, (h, tt)) (activation b i (cs ++ (assigned v ∷ [])) vs gs)
-      (rw (cell-next 32 valueWord v cs h, cell-next 32 typeByte v cs h)) refl
+      (rw (field-next 32 wordOfCell (assigned v) cs h, field-next 32 byteOfCell (assigned v) cs h)) refl
 
   pub cell-last-law : (v : Value) → length cs < 32 → written rs us (activation b i (cs ++ (assigned v ∷ [])) vs gs) fs (noCell (length cs)) ≡ encode (on rs us (activation b i cs vs gs) fs)
   cell-last-law v h =
       edit-law rs us (activation b i (cs ++ (assigned v ∷ [])) vs gs) fs few (noCell (length cs)) (h, (h, tt)) (activation b i cs vs gs)
-      (rw (cell-last 32 valueWord v cs h, cell-last 32 typeByte v cs h)) refl
+      (rw (field-last 32 wordOfCell (assigned v) cs h, field-last 32 byteOfCell (assigned v) cs h)) refl
 
 -- ── holds, of the top ──
-module _ (rs : List Made) (fs : List Activation) (few : length fs < 32) (b i : ℕ) (cs : List Cell) (vs : List Value) (g : ℕ) (gs : List ℕ) (room : length (gs ++ allHolds fs) < 512) where
+module _ (rs : Shared) (fs : List Activation) (few : length fs < 32) (b i : ℕ) (cs : List Cell) (vs : List Value) (g : ℕ) (gs : List ℕ) (room : length (gs ++ allHolds fs) < 512) where
   pub take-law : stores (encode (running rs (activation b i cs vs gs) fs)) (takes (length fs) (length (gs ++ allHolds fs)) (length gs) g) ≡ encode (running rs (activation b i cs vs (g ∷ gs)) fs)
   unfolding allHolds
   take-law =
@@ -105,12 +104,12 @@ module _ (rs : List Made) (fs : List Activation) (few : length fs < 32) (b i : �
       (rw (activation-altered [] fs few _ (activation b i cs vs (g ∷ gs)) (activation b i cs vs gs) refl, group-popped g (gs ++ allHolds fs) room))
 
 -- ── entering and leaving ──
-module _ (rs : List Made) (f : Activation) (fs : List Activation) (few : length (f ∷ fs) < 32) (b i : ℕ) where
+module _ (rs : Shared) (f : Activation) (fs : List Activation) (few : length (f ∷ fs) < 32) (b i : ℕ) where
   pub enter-law : stores (encode (running rs f fs)) (enters (length (f ∷ fs)) b i) ≡ encode (running rs (activation b i [] [] []) (f ∷ fs))
-  unfolding allHolds cellValues
+  unfolding allHolds
   enter-law =
       turns _ _ (enters (length (f ∷ fs)) b i) ((few, tt), ((few, tt), (tt, tt))) (simp alter-alter (rw (next-altered _ (activation b i [] [] []) (f ∷ fs) few refl)))
 
   pub leave-law : stores (encode (running rs (activation b i [] [] []) (f ∷ fs))) (leaves (length (f ∷ fs))) ≡ encode (running rs f fs)
-  unfolding allHolds cellValues
+  unfolding allHolds
   leave-law = turns _ _ (leaves (length (f ∷ fs))) ((few, tt), ((few, tt), (tt, tt))) (simp alter-alter (rw (last-altered _ (activation b i [] [] []) (f ∷ fs) few refl)))

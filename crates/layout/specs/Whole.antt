@@ -212,16 +212,16 @@ module _ (l : List ℕ) (long : length l ≡ 24576) (small : Bytes l) where
 
 -- ── from what decodes ──
 assembled : (h : ℕ) (rs : List Made) (fs : List Activation) (s : Machine) → assemble h rs fs ≡ some s
-    → (f : Activation) × (gs : List Activation) × (fs ≡ f ∷ gs) × (running rs f gs ≡ s) × (length (allHolds (f ∷ gs)) ≡ h)
+    → (f : Activation) × (gs : List Activation) × (fs ≡ f ∷ gs) × (running (record { records = rs }) f gs ≡ s) × (length (allHolds (f ∷ gs)) ≡ h)
 assembled h rs [] s e = never-some e
 assembled h rs (f ∷ gs) s e =
-    let c = chosen (eqb (length (allHolds (f ∷ gs))) h) (some (running rs f gs)) s e in
+    let c = chosen (eqb (length (allHolds (f ∷ gs))) h) (some (running (record { records = rs }) f gs)) s e in
     (f, gs, refl, same-some (c .1), eqb-true (length (allHolds (f ∷ gs))) h (c .0))
 
 module _ (m : Macro) (small-classes : (c : ℕ) (ts : List Ty) → getElem? (m .classes) c ≡ some ts → length ts ≤ 8) (l : List ℕ) (long : length l ≡ 24576) (small : Bytes l) where
   running-is : (rs : List Made) (f : Activation) (fs : List Activation) → byteAt l 0 ≡ 0 → byteAt l 2 ≤ 32 → halfAt l 4 ≤ 256
       → readActivations m (byteAt l 2) (drop 32 l) (part 10528 512 l) [] ≡ some (f ∷ fs) → readRecords m (halfAt l 4) (drop 11040 l) ≡ some rs → length (allHolds (f ∷ fs)) ≡ halfAt l 6
-      → clearRunning m (byteAt l 2) (halfAt l 4) (halfAt l 6) l ≡ encode (running rs f fs)
+      → clearRunning m (byteAt l 2) (halfAt l 4) (halfAt l 6) l ≡ encode (running (record { records = rs }) f fs)
   unfolding encode
   running-is rs f fs e0 few records ea er eh =
       let n = byteAt l 2 in

@@ -2,6 +2,8 @@
 mod lines;
 
 use compile::Compiled;
+use formats::limits::*;
+use formats::state::*;
 use running::Ran;
 use running::Started;
 ghost use mathlib.Core.Path.{_≡_};
@@ -30,7 +32,7 @@ fn list_runs(code: &[u8], state: &mut [u8], text: &mut [u8]) -> usize
     requires { ⌜ length (linesOf (now code) (now state) 65535) ≤ length (now text) ⌝ }
     ensures { λ r. ⌜ Lists (linesOf (now (code .entry)) (now (state .entry)) 65535) (now (text .entry)) (now (text .exit)) r ⌝ }
 {
-    let readings = [0u8; 64];
+    let readings = [0u8; FADERS];
     let mut left: u16 = 65535;
     let mut at = 0;
     let mut goes = true;
@@ -61,7 +63,7 @@ pub fn list(table: &[u8], text: &mut [u8; 786443]) -> usize
     ensures { λ r. ⌜ Lists (listingOf (now (table .entry))) (now (text .entry)) (now (text .exit)) r ⌝ }
 {
     let mut code = [0u8; 65536];
-    let mut state = [0u8; 24576];
+    let mut state = [0u8; STATE_BYTES];
     match compile::compile(table, &mut code) {
         Compiled::Refused(number, place) => lines::put_refused(text, 0, number, place),
         Compiled::Done(n) => list_macro(&code[..n], &mut state, text),

@@ -1,4 +1,5 @@
 // Where the root stands, for a caller who has no index of bodies.
+use formats::compiled::*;
 ghost use Rattle.places.specs.Index.{Well};
 ghost use Rattle.rules.specs.Moves.{BodyAt};
 
@@ -7,11 +8,11 @@ pub fn root_at(code: &[u8]) -> usize
     requires { ⌜ Well (now code) ⌝ }
     ensures { λ r. ⌜ BodyAt (now (code .entry)) 0 r ⌝ }
 {
-    let n = words::wide::byte_at(code, 2);
-    let mut p: usize = 8;
+    let n = words::wide::byte_at(code, CLASS_COUNT_AT);
+    let mut p: usize = HEAD_BYTES;
     let mut k: usize = 0;
     while k < n {
-        p = p + 3 + words::wide::byte_at(code, p + 2);
+        p = p + CLASS_BYTES + words::wide::byte_at(code, p + FIELD_COUNT_AT);
         k += 1;
     }
     p

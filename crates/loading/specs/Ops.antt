@@ -36,7 +36,7 @@ Proper c (store o x) = Unit {0}
 Proper c (operate o) = Unit {0}
 Proper c (go i) = Unit {0}
 Proper c (goUnless i) = Unit {0}
-Proper c (call k) = (c .op ≡ 10) × (c .b ≡ k)
+Proper c (call k) = (c .op ≡ 10) × (c .a ≡ 0) × (c .b ≡ k)
 Proper c return = Unit {0}
 Proper c (make d) = Unit {0}
 Proper c (getField d x) = Unit {0}
@@ -92,7 +92,7 @@ proper c x w h =
     (λ t h. let q = kept (operatorOf a) (λ o. exactly (eqb n 0) (operate o)) x h in just c (eqb n 0) (operate (q .0)) x (λ e. tt) (q .2)) (
     either c (eqb (c .op) 8) _ _ x (λ t. just c (eqb a 0) (go n) x (λ e. tt)) (
     either c (eqb (c .op) 9) _ _ x (λ t. just c (eqb a 0) (goUnless n) x (λ e. tt)) (
-    either c (eqb (c .op) 10) _ _ x (λ t. just c (eqb a 0) (call n) x (λ e. (eqb-true (c .op) 10 t, refl))) (
+    either c (eqb (c .op) 10) _ _ x (λ t. just c (eqb a 0) (call n) x (λ e. (eqb-true (c .op) 10 t, eqb-true a 0 e, refl))) (
     either c (eqb (c .op) 11) _ _ x (λ t. just c p return x (λ e. tt)) (
     either c (eqb (c .op) 12) _ _ x (λ t. just c (eqb n 0) (make a) x (λ e. tt)) (
     either c (eqb (c .op) 13) _ _ x (λ t. made c (getField a n) x tt) (
@@ -105,11 +105,17 @@ proper c x w h =
     either c (eqb (c .op) 20) _ none x (λ t. just c p (stop caseIndex) x (λ e. unfold among in refl)) never-some)))))))))))))))))))) h
 
 -- ── what is declared ──
-known-named : (m : Macro) (t : Ty) → known m t ≡ true → Named (length (m .classes)) t
+pub known-named : (m : Macro) (t : Ty) → known m t ≡ true → Named (length (m .classes)) t
 known-named m integer h = tt
 known-named m logical h = tt
 known-named m bits h = tt
 known-named m (reference c) h = ltb-true c (length (m .classes)) h
+
+pub named-known : (m : Macro) (t : Ty) → Named (length (m .classes)) t → known m t ≡ true
+named-known m integer h = refl
+named-known m logical h = refl
+named-known m bits h = refl
+named-known m (reference c) h = lt-ltb c (length (m .classes)) h
 
 a-procedure : (m : Macro) (k : ℕ) (b : Body) → procedureAt m k ≡ some b → (0 < k) × (bodyAt m k ≡ some b)
 a-procedure m zero b h = never-some h
@@ -122,8 +128,8 @@ module _ (m : Macro) (w : Passed m) where
       (q .0, q .1, proper (q .0) x (each-at OfBytes (m .code) i (q .0) (w .narrow .instructions-narrow) (q .1)) (q .2))
 
   -- a call is op 10 of its body, on the code record too
-  pub call-there : (i k : ℕ) → instrAt m i ≡ some (call k) → (c : Code) × (getElem? (m .code) i ≡ some c) × (c .op ≡ 10) × (c .b ≡ k)
-  call-there i k h = let q = proper-at i (call k) h in (q .0, q .1, q .2 .0, q .2 .1)
+  pub call-there : (i k : ℕ) → instrAt m i ≡ some (call k) → (c : Code) × (getElem? (m .code) i ≡ some c) × (c .op ≡ 10) × (c .a ≡ 0) × (c .b ≡ k)
+  call-there i k h = let q = proper-at i (call k) h in (q .0, q .1, q .2 .0, q .2 .1, q .2 .2)
 
   module _ (k i : ℕ) (s : Shape) where
     by-giving : (o : Option Ty) (ins : List Ty) → Does m k i s (giving o ins) → (t : Ty) × (o ≡ some t) × Does m k i s (plain ins (t ∷ []))

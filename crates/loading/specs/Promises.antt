@@ -102,5 +102,5 @@ module _ (m : Macro) (w : Passed m) where
   ops = finds m w
 
   -- a call is op 10 with its body's number, on the code record too
-  pub call-record : (i k : ℕ) → instrAt m i ≡ some (call k) → (c : Code) × (getElem? (m .code) i ≡ some c) × (c .op ≡ 10) × (c .b ≡ k)
+  pub call-record : (i k : ℕ) → instrAt m i ≡ some (call k) → (c : Code) × (getElem? (m .code) i ≡ some c) × (c .op ≡ 10) × (c .a ≡ 0) × (c .b ≡ k)
   call-record = call-there m w

@@ -1,12 +1,12 @@
 -- What each op asks, where it is the next: from there being a next step, and from the loading check's promise.
 use mathlib.Core.Path.{_≡_, refl, sym, ap, _∙_, subst}
 use mathlib.Core.Bool.{Bool, true, false}
-use mathlib.Core.List.{List, [], _∷_, _++_}
+use mathlib.Core.List.{List, [], _∷_, _++_, map}
 use mathlib.Core.Option.{Option, none, some}
 use Prim.Native.Nat.{ℕ, zero, suc, _+_, _*_, _-_, _≤_, _<_}
 use native.Mathlib.Omega.{arith}
 use lib.Dec.{eqb, leb, ltb}
-use lib.ListN.{length, getElem?, length-append}
+use lib.ListN.{length, getElem?, length-append, length-map}
 use borrow.Author.Tests.{leb-true, ltb-true, eqb-true, ne-eqb}
 use Rattle.words.specs.Options.{keep}
 use Rattle.words.specs.Choice.{if_then_else_}
@@ -14,19 +14,18 @@ use Rattle.words.specs.Numbers.{byteAt, halfAt, wordAt}
 use Rattle.values.specs.Types.{Ty, sames, fits}
 use Rattle.values.specs.Trace.{Item}
 use Rattle.values.specs.Operators.{Operator, Binary, unary, binary, unaryOf, binaryOf}
-use Rattle.values.specs.Values.{Value, int, log, bit, ref, valueWord, tyOf, tysOf, Cell, assigned}
+use Rattle.values.specs.Values.{Value, int, log, bit, ref, valueWord, tyOf, tysOf, Cell, assigned, tyOfCell}
 use Rattle.bytecode.specs.Macro.{Macro, Body, shape}
-use Rattle.bytecode.specs.Instructions.{Owner, own, root, Instr, operatorOf, bodyAt, cellsOf, procedureAt}
-use Rattle.bytecode.specs.Machine.{Activation, Made, Machine, running, Stuck, Stepped, moved, stuck, badFrame, badRecord, badType, groupHeld, onReference, withRecords, fieldPut, demand, at, Here, pop, given, pushCell, noStep, goesOn, popMany, allHolds, rootOf, cellsFor, doLoad, doStore, doOperate, doGoUnless, doCall, doReturn, doMake, onMade, doGetField, doPutField, doSet, doFader, doTakeHold, letting, doAssert, handDown, isEmpty, act}
+use Rattle.bytecode.specs.Instructions.{Owner, own, root, Instr, operatorOf, bodyAt, cellsOf, cellTy, fieldTy, procedureAt}
+use Rattle.bytecode.specs.Machine.{Activation, Made, Shared, Machine, running, Stuck, Stepped, moved, stuck, badFrame, badRecord, badType, groupHeld, demand, at, Here, pop, given, pushCell, noStep, goesOn, popMany, allHolds, rootOf, cellsFor, onField, doLoad, doStore, doOperate, doGoUnless, doCall, doReturn, doMake, onMade, doGetField, doPutField, doSet, doFader, doTakeHold, letting, doAssert, handDown, isEmpty, act}
 use Rattle.bytecode.specs.Runs.{bankOf}
-use Rattle.bytecode.specs.Sound.{soundRecord, ofClass, cellValues}
+use Rattle.bytecode.specs.Sound.{soundRecord, ofClass}
 use Rattle.loading.specs.Terms.{Passed, Finds}
 use Rattle.loading.specs.Promises.{limits, in-code, cells-at-most-32, at-place}
 use Rattle.safety.specs.Lists.{all-at, tys-length}
 use Rattle.safety.specs.States.{Frame, Waiting, typed}
 use Rattle.loading.specs.Tests.{sames→≡}
 use Rattle.layout.specs.Elements.{there}
-use Rattle.layout.specs.Slots.{length-cells}
 use Rattle.layout.specs.Places.{framePlace}
 use Rattle.frames.specs.On.{on-long, read-count, read-records, read-holds, read-open, read-operand, read-depth, read-address}
 use Rattle.ops.specs.Acts.{here, Now, Room, Holding}
@@ -68,7 +67,7 @@ many-there (suc k) taken [] g e = not-stuck e
 many-there (suc k) taken (v ∷ vs) g e = let h = many-there k (v ∷ taken) vs g e in omega arith
 
 goes-room : (is : List Item) (vs : List Value) (h : Here) → Moved (goesOn is vs h) → length vs ≤ 32
-goes-room is vs h e = leb-true (length vs) 32 (demand-there (leb (length vs) 32) badFrame (moved is (running (h .records) (at (suc (h .top .address)) vs (h .top)) (h .below))) e .0)
+goes-room is vs h e = leb-true (length vs) 32 (demand-there (leb (length vs) 32) badFrame (moved is (running (h .shared) (at (suc (h .top .address)) vs (h .top)) (h .below))) e .0)
 
 -- ── what stands in the macro ──
 not-root : (m : Macro) (k : ℕ) (b : Body) → procedureAt m k ≡ some b → bodyAt m k ≡ some b
@@ -86,9 +85,9 @@ below-there k n y x e = go (ltb k n) refl e
 frame-cells : (m : Macro) → Passed m → (rs : List Made) (f : Activation) → Frame m rs f → length (f .cells) ≤ 32
 frame-cells m w rs f F = go (bodyAt m (f .body)) refl (F .types)
   where
-    go : (o : Option Body) → bodyAt m (f .body) ≡ o → tysOf (cellValues (f .cells)) ≡ cellsOf o → length (f .cells) ≤ 32
-    go none e t = omega (arith, length-cells (f .cells), tys-length (cellValues (f .cells)), ap length t)
-    go (some b) e t = omega (arith, length-cells (f .cells), tys-length (cellValues (f .cells)), ap length t, cells-at-most-32 m w (f .body) b e)
+    go : (o : Option Body) → bodyAt m (f .body) ≡ o → map tyOfCell (f .cells) ≡ cellsOf o → length (f .cells) ≤ 32
+    go none e t = omega (arith, length-map (f .cells) tyOfCell, ap length t)
+    go (some b) e t = omega (arith, length-map (f .cells) tyOfCell, ap length t, cells-at-most-32 m w (f .body) b e)
 
 waiting-root : (m : Macro) → Passed m → (rs : List Made) (f : Activation) (fs : List Activation) (k : ℕ) → Frame m rs f → Waiting m rs k fs → length (rootOf f fs .cells) ≤ 32
 unfolding rootOf
@@ -103,7 +102,7 @@ waiting-holds m w rs k (f ∷ fs) W =
     let r = waiting-holds m w rs (f .body) fs (W .1) in
     omega (arith, length-append (f .holds) (allHolds fs))
 
-module _ {m : Macro} {l : List ℕ} {f n i : ℕ} {rs : List Made} {t : Activation} {fs : List Activation} (N : Now m l f n i rs t fs) where
+module _ {m : Macro} {l : List ℕ} {f n i : ℕ} {rs : Shared} {t : Activation} {fs : List Activation} (N : Now m l f n i rs t fs) where
   in-place : t .address < 65535
   in-place = omega (arith, in-code m (N .passed) (t .body) (t .address) (stands N .allowed .inside), N .passed .narrow .few-instructions)
 
@@ -120,36 +119,36 @@ module _ {m : Macro} {l : List ℕ} {f n i : ℕ} {rs : List Made} {t : Activati
       }
 
   cells-room : (o : Owner) → length (cellsFor o (here rs t fs)) ≤ 32
-  cells-room own = frame-cells m (N .passed) rs t (around N .frame)
-  cells-room root = waiting-root m (N .passed) rs t fs (t .body) (around N .frame) (around N .below-waits)
+  cells-room own = frame-cells m (N .passed) (rs .records) t (around N .frame)
+  cells-room root = waiting-root m (N .passed) (rs .records) t fs (t .body) (around N .frame) (around N .below-waits)
 
   all-holds : length (allHolds (t ∷ fs)) ≤ length (t .holds) + 16 * length fs
   unfolding allHolds
-  all-holds = omega (arith, length-append (t .holds) (allHolds fs), waiting-holds m (N .passed) rs (t .body) fs (around N .below-waits))
+  all-holds = omega (arith, length-append (t .holds) (allHolds fs), waiting-holds m (N .passed) (rs .records) (t .body) fs (around N .below-waits))
 
-  record-room : (p x : ℕ) (q : Made) (v : Value) → getElem? rs p ≡ some q → getElem? (q .fields) x ≡ some v → x < 8
-  record-room p x q v e e′ = go (getElem? (m .classes) (q .class)) refl (all-at (soundRecord m rs) rs p q (around N .made) e)
+  record-room : (p x : ℕ) (q : Made) (v : Value) → getElem? (rs .records) p ≡ some q → getElem? (q .fields) x ≡ some v → x < 8
+  record-room p x q v e e′ = go (getElem? (m .classes) (q .class)) refl (all-at (soundRecord m (rs .records)) (rs .records) p q (around N .made) e)
     where
-      go : (o : Option (List Ty)) → getElem? (m .classes) (q .class) ≡ o → ofClass rs q o ≡ true → x < 8
+      go : (o : Option (List Ty)) → getElem? (m .classes) (q .class) ≡ o → ofClass (rs .records) q o ≡ true → x < 8
       go none c h = never h
       go (some ts) c h =
-          let t = typed rs (q .fields) ts h .0 in
+          let t = typed (rs .records) (q .fields) ts h .0 in
           let r = at-place _ (m .classes) (q .class) ts (N .passed .well-formed .classes-read) c in
           omega (arith, there (q .fields) x v e′, tys-length (q .fields), ap length t, r .few-fields)
 
 -- ── each op ──
 module _ {code readings : List ℕ} {op a b : ℕ} {l : List ℕ} {f n i : ℕ} (P : Poised code readings op a b l f n i) where
-  N : Now (P .macro) l f n i (P .records) (P .top) (P .below)
+  N : Now (P .macro) l f n i (P .shared) (P .top) (P .below)
   N = P .at-hand
 
   depth : n ≡ length (P .top .operands)
   depth = N .depth
 
-  doing : (x : Instr) → P .instr ≡ x → Moved (act (P .macro) (bankOf readings) x (here (P .records) (P .top) (P .below)))
+  doing : (x : Instr) → P .instr ≡ x → Moved (act (P .macro) (bankOf readings) x (here (P .shared) (P .top) (P .below)))
   doing x e = record { items = P .items; next = P .next; is = rw (← e) (P .moves) }
 
-  fitting : (is : List Item) (v : Value) → Moved (goesOn is (v ∷ P .top .operands) (here (P .records) (P .top) (P .below))) → n < 32
-  fitting is v m = let r = goes-room is (v ∷ P .top .operands) (here (P .records) (P .top) (P .below)) m in omega (arith, depth)
+  fitting : (is : List Item) (v : Value) → Moved (goesOn is (v ∷ P .top .operands) (here (P .shared) (P .top) (P .below))) → n < 32
+  fitting is v m = let r = goes-room is (v ∷ P .top .operands) (here (P .shared) (P .top) (P .below)) m in omega (arith, depth)
 
   one : (g : Value → List Value → Stepped) → Moved (pop (P .top .operands) g) → 0 < n
   one g m = let v = pop-there (P .top .operands) g m in omega (arith, depth, ap length (v .2))
@@ -175,19 +174,20 @@ module _ {code readings : List ℕ} {op a b : ℕ} {l : List ℕ} {f n i : ℕ} 
   pub asks-null : op ≡ 4 → (n < 32) × (a < 16)
   unfolding act
   asks-null e =
-      let d = demand-there (ltb a (length (P .macro .classes))) noStep (goesOn [] (ref a none ∷ P .top .operands) (here (P .records) (P .top) (P .below))) (doing _ (is-null op a b (P .instr) (P .decoded) e)) in
+      let d = demand-there (ltb a (length (P .macro .classes))) noStep (goesOn [] (ref a none ∷ P .top .operands) (here (P .shared) (P .top) (P .below))) (doing _ (is-null op a b (P .instr) (P .decoded) e)) in
       (fitting [] _ (d .1), omega (arith, ltb-true a (length (P .macro .classes)) (d .0), N .passed .well-formed .few-classes))
 
   pub asks-load : op ≡ 5 → (n < 32) × (b < 32)
   unfolding act doLoad
   asks-load e =
       let q = is-load op a b (P .instr) (P .decoded) e in
-      let cs = cellsFor (q .0) (here (P .records) (P .top) (P .below)) in
-      let g = given-there (getElem? cs b) badFrame _ (doing _ (q .2)) in
-      (push-room (g .0) (g .2), omega (arith, there cs b (g .0) (g .1), cells-room N (q .0)))
+      let cs = cellsFor (q .0) (here (P .shared) (P .top) (P .below)) in
+      let u = given-there (cellTy (P .macro) (P .top .body) (q .0) b) badFrame _ (doing _ (q .2)) in
+      let g = given-there (getElem? cs b) badFrame _ (u .2) in
+      (push-room (u .0) (g .0) (g .2), omega (arith, there cs b (g .0) (g .1), cells-room N (q .0)))
     where
-      push-room : (c : Cell) → Moved (pushCell c (P .top .operands) (here (P .records) (P .top) (P .below))) → n < 32
-      push-room (assigned v) m = fitting [] v m
+      push-room : (u : Ty) (c : Cell) → Moved (pushCell u c (here (P .shared) (P .top) (P .below))) → n < 32
+      push-room u (assigned v) m = fitting [] v (demand-there (fits (tyOf v) u) badType _ m .1)
 
   pub asks-store : op ≡ 6 → (0 < n) × (b < 32)
   unfolding act doStore
@@ -195,15 +195,16 @@ module _ {code readings : List ℕ} {op a b : ℕ} {l : List ℕ} {f n i : ℕ} 
       let q = is-store op a b (P .instr) (P .decoded) e in
       let m = doing _ (q .2) in
       let v = pop-there (P .top .operands) _ m in
-      let cs = cellsFor (q .0) (here (P .records) (P .top) (P .below)) in
-      let g = given-there (getElem? cs b) badFrame _ (v .3) in
+      let cs = cellsFor (q .0) (here (P .shared) (P .top) (P .below)) in
+      let u = given-there (cellTy (P .macro) (P .top .body) (q .0) b) badFrame _ (v .3) in
+      let g = given-there (getElem? cs b) badFrame _ (u .2) in
       (one _ m, omega (arith, there cs b (g .0) (g .1), cells-room N (q .0)))
 
   pub asks-operate : op ≡ 7 → (0 < n) × (a < 20 → 2 ≤ n)
   unfolding act doOperate unaryOf
   asks-operate e = let q = is-operate op a b (P .instr) (P .decoded) e in go (q .0) (q .1) (doing _ (q .2))
     where
-      go : (o : Operator) → operatorOf a ≡ some o → Moved (doOperate o (here (P .records) (P .top) (P .below))) → (0 < n) × (a < 20 → 2 ≤ n)
+      go : (o : Operator) → operatorOf a ≡ some o → Moved (doOperate o (here (P .shared) (P .top) (P .below))) → (0 < n) × (a < 20 → 2 ≤ n)
       go (binary o) r m = let k = two _ m in (omega arith, λ h. k)
       go (unary o) r m = (one _ m, λ h. absurd (not-unary h r))
         where
@@ -251,7 +252,7 @@ module _ {code readings : List ℕ} {op a b : ℕ} {l : List ℕ} {f n i : ℕ} 
   unfolding act allHolds
   asks-release e = go (P .top .holds) refl (doing _ (is-release op a b (P .instr) (P .decoded) e))
     where
-      go : (gs : List ℕ) → P .top .holds ≡ gs → Moved (letting gs (here (P .records) (P .top) (P .below))) → (0 < halfAt l 6) × (halfAt l 6 ≤ 512) × (0 < byteAt l (f + 2))
+      go : (gs : List ℕ) → P .top .holds ≡ gs → Moved (letting gs (here (P .shared) (P .top) (P .below))) → (0 < halfAt l 6) × (halfAt l 6 ≤ 512) × (0 < byteAt l (f + 2))
       go [] q m = not-stuck m
       go (g ∷ gs) q m =
           let few : length (P .below) < 32 = N .on .few in
@@ -261,48 +262,46 @@ module _ {code readings : List ℕ} {op a b : ℕ} {l : List ℕ} {f n i : ℕ} 
           let s : length (allHolds (P .top ∷ P .below)) ≡ length (P .top .holds) + length (allHolds (P .below)) = length-append (P .top .holds) (allHolds (P .below)) in
           (omega arith, omega (arith, all-holds N, few-holds N), omega arith)
 
-  field-room : (c x w : ℕ) (r : Option ℕ) (g : ℕ → Made → Stepped) → w ≡ valueWord (ref c r) → ((p : ℕ) (q : Made) → getElem? (P .records) p ≡ some q → Moved (g p q) → x < 8)
-      → Moved (onMade c r (here (P .records) (P .top) (P .below)) g) → (w ≡ 0 → ⊥) → FieldRoom w x
+  field-room : (c x w : ℕ) (r : Option ℕ) (g : ℕ → Made → Stepped) → w ≡ valueWord (ref c r) → ((p : ℕ) (q : Made) → getElem? (P .shared .records) p ≡ some q → Moved (g p q) → x < 8)
+      → Moved (onMade c r (here (P .shared) (P .top) (P .below)) g) → (w ≡ 0 → ⊥) → FieldRoom w x
   field-room c x w none g e k m z = absurd (z e)
   field-room c x w (some p) g e k m z =
-      let q = given-there (getElem? (P .records) p) badRecord _ m in
+      let q = given-there (getElem? (P .shared .records) p) badRecord _ m in
       let d = demand-there (eqb (q .0 .class) c) badRecord (g p (q .0)) (q .2) in
-      record { made = omega (arith, there (P .records) p (q .0) (q .1), few-records N); field = k p (q .0) (q .1) (d .1) }
+      record { made = omega (arith, there (P .shared .records) p (q .0) (q .1), few-records N); field = k p (q .0) (q .1) (d .1) }
+
+  -- a field of the record that an operand with us below it refers to
+  field-asked : (ws : List Value) (v : Value) (us : List Value) (j : ℕ) (g : ℕ → Made → Ty → Value → Stepped) → P .top .operands ≡ ws ++ (v ∷ us) → j ≡ length us → j < 32
+      → Moved (onField (P .macro) a b v (here (P .shared) (P .top) (P .below)) g) → (wordAt l (f + (136 + 4 * j)) ≡ 0 → ⊥) → FieldRoom (wordAt l (f + (136 + 4 * j))) b
+  field-asked ws (int z) us j g e k h m = not-stuck m
+  field-asked ws (log z) us j g e k h m = not-stuck m
+  field-asked ws (bit z) us j g e k h m = not-stuck m
+  field-asked ws (ref d r) us j g e k h m =
+      let q = demand-there (eqb d a) badRecord _ m in
+      let c : d ≡ a = eqb-true d a (q .0) in
+      let rd = read-operand (N .on) ws (ref d r) us j e k h in
+      field-room a b (wordAt l (f + (136 + 4 * j))) r _ (rd .0) (λ p z ez mz.
+      let t = given-there (fieldTy (P .macro) a b) badType _ mz in
+      let y = given-there (getElem? (z .fields) b) badType _ (t .2) in
+      record-room N p b z (y .0) ez (y .1)) (q .1)
 
   pub asks-get : op ≡ 13 → (0 < n) × ((wordAt l (f + (136 + 4 * (n - 1))) ≡ 0 → ⊥) → FieldRoom (wordAt l (f + (136 + 4 * (n - 1)))) b)
   unfolding act doGetField
-  asks-get e = let m = doing _ (is-get op a b (P .instr) (P .decoded) e) in let k = one _ m in let v = pop-there (P .top .operands) _ m in
-      (k, go (v .0) (v .1) (v .2) (v .3) k)
-    where
-      go : (v : Value) (us : List Value) → P .top .operands ≡ v ∷ us
-          → Moved (onReference v (λ d r. demand (eqb d a) badRecord (onMade a r (here (P .records) (P .top) (P .below)) (λ p q. given (getElem? (q .fields) b) badType (λ w. goesOn [] (w ∷ us) (here (P .records) (P .top) (P .below)))))))
-          → 0 < n → (wordAt l (f + (136 + 4 * (n - 1))) ≡ 0 → ⊥) → FieldRoom (wordAt l (f + (136 + 4 * (n - 1)))) b
-      go (int z) us e m k = not-stuck m
-      go (log z) us e m k = not-stuck m
-      go (bit z) us e m k = not-stuck m
-      go (ref d r) us e m k =
-          let q = demand-there (eqb d a) badRecord _ m in
-          let c : d ≡ a = eqb-true d a (q .0) in
-          let rd = read-operand (N .on) [] (ref d r) us (n - 1) e (omega (arith, depth, ap length e)) (omega (arith, depth, few-operands N)) in
-          field-room a b (wordAt l (f + (136 + 4 * (n - 1)))) r _ (rd .0) (λ p z ez mz. let y = given-there (getElem? (z .fields) b) badType _ mz in record-room N p b z (y .0) ez (y .1)) (q .1)
+  asks-get e =
+      let m = doing _ (is-get op a b (P .instr) (P .decoded) e) in
+      let k = one _ m in
+      let v = pop-there (P .top .operands) _ m in
+      (k, field-asked [] (v .0) (v .1) (n - 1) _ (v .2) (omega (arith, depth, ap length (v .2))) (omega (arith, depth, few-operands N)) (v .3))
 
   pub asks-put : op ≡ 14 → (2 ≤ n) × ((wordAt l (f + (136 + 4 * (n - 2))) ≡ 0 → ⊥) → FieldRoom (wordAt l (f + (136 + 4 * (n - 2)))) b)
   unfolding act doPutField
-  asks-put e = let m = doing _ (is-put op a b (P .instr) (P .decoded) e) in let k = two _ m in let w = pop-there (P .top .operands) _ m in let v = pop-there (w .1) _ (w .3) in
-      (k, go (w .0) (v .0) (v .1) (w .2 ∙ ap (λ (x : List Value). w .0 ∷ x) (v .2)) (v .3) k)
-    where
-      go : (w v : Value) (us : List Value) → P .top .operands ≡ w ∷ (v ∷ us)
-          → Moved (onReference v (λ d r. demand (eqb d a) badRecord (onMade a r (here (P .records) (P .top) (P .below)) (λ p q. given (getElem? (q .fields) b) badType (λ u.
-          demand (fits (tyOf w) (tyOf u)) badType (goesOn [] us (withRecords (fieldPut p b w q (P .records)) (here (P .records) (P .top) (P .below)))))))))
-          → 2 ≤ n → (wordAt l (f + (136 + 4 * (n - 2))) ≡ 0 → ⊥) → FieldRoom (wordAt l (f + (136 + 4 * (n - 2)))) b
-      go w (int z) us e m k = not-stuck m
-      go w (log z) us e m k = not-stuck m
-      go w (bit z) us e m k = not-stuck m
-      go w (ref d r) us e m k =
-          let q = demand-there (eqb d a) badRecord _ m in
-          let c : d ≡ a = eqb-true d a (q .0) in
-          let rd = read-operand (N .on) (w ∷ []) (ref d r) us (n - 2) e (omega (arith, depth, ap length e)) (omega (arith, depth, few-operands N)) in
-          field-room a b (wordAt l (f + (136 + 4 * (n - 2)))) r _ (rd .0) (λ p z ez mz. let y = given-there (getElem? (z .fields) b) badType _ mz in record-room N p b z (y .0) ez (y .1)) (q .1)
+  asks-put e =
+      let m = doing _ (is-put op a b (P .instr) (P .decoded) e) in
+      let k = two _ m in
+      let w = pop-there (P .top .operands) _ m in
+      let v = pop-there (w .1) _ (w .3) in
+      let s : P .top .operands ≡ w .0 ∷ (v .0 ∷ v .1) = w .2 ∙ ap (λ (x : List Value). w .0 ∷ x) (v .2) in
+      (k, field-asked (w .0 ∷ []) (v .0) (v .1) (n - 2) _ s (omega (arith, depth, ap length s)) (omega (arith, depth, few-operands N)) (v .3))
 
   -- ── a call, and a record made ──
   pub asks-call : op ≡ 10 → (b < bodies code) × (b < 256)
@@ -366,13 +365,13 @@ module _ {code readings : List ℕ} {op a b : ℕ} {l : List ℕ} {f n i : ℕ} 
       let one-value : n ≤ 1 = omega (arith, depth, tys-length (P .top .operands), ap length t, r .one-result) in
       down (P .below) one-value (h .1) N (around N .below-waits)
     where
-      down : (fs : List Activation) → n ≤ 1 → Moved (handDown (P .top .operands) (P .records) fs) → Now (P .macro) l f n i (P .records) (P .top) fs → Waiting (P .macro) (P .records) (P .top .body) fs → ReturnRoom l f n
+      down : (fs : List Activation) → n ≤ 1 → Moved (handDown (P .top .operands) (P .shared) fs) → Now (P .macro) l f n i (P .shared) (P .top) fs → Waiting (P .macro) (P .shared .records) (P .top .body) fs → ReturnRoom l f n
       down [] o m M W = not-stuck m
       down (u ∷ us) o m M W =
           let few : suc (length us) < 32 = M .on .few in
           let pl : f ≡ framePlace (suc (length us)) = M .on .place in
           let under = below-top (M .on) (f - 328) (rw pl (omega arith)) in
-          let k = goes-room [] (P .top .operands ++ u .operands) (here (P .records) u us) m in
+          let k = goes-room [] (P .top .operands ++ u .operands) (here (P .shared) u us) m in
           record {
             long = on-long (M .on);
             low = omega arith;

@@ -4,20 +4,20 @@ use mathlib.Core.Bool.{Bool, true, false, _&&_}
 use mathlib.Core.List.{List, [], _∷_, _++_}
 use mathlib.Core.Option.{Option, none, some}
 use Prim.Native.Nat.{ℕ, zero, suc}
-use lib.IntN.{ℤ, pos}
+use lib.IntN.{pos}
 use lib.Dec.{eqb, leb, ltb}
 use lib.ListN.{length, getElem?}
 use lib.ListN.{set as put}
 use Rattle.words.specs.Choice.{if_then_else_}
 use Rattle.values.specs.Operators.{Operator, unary, binary}
 use Rattle.values.specs.Arithmetic.{Outcome, gives, ends, mistyped}
-use Rattle.values.specs.Types.{fits, allFit, sames}
-use Rattle.values.specs.Ends.{assertFalse, caseIndex, outOfRange, tooManyRecords}
-use Rattle.values.specs.Values.{Value, int, log, bit, ref, tyOf, tysOf, Cell, assigned, between, size, apply1, apply2}
+use Rattle.values.specs.Types.{Ty, fits, allFit, sames}
+use Rattle.values.specs.Ends.{assertFalse, outOfRange, tooManyRecords}
+use Rattle.values.specs.Values.{Value, int, log, bit, ref, tyOf, tysOf, asInteger, asLogical, asReference, Cell, assigned, between, size, apply1, apply2}
 use Rattle.values.specs.Trace.{set, hold, Item, event, reading}
 use Rattle.bytecode.specs.Macro.{Macro}
-use Rattle.bytecode.specs.Instructions.{Owner, own, root, Instr, end, push, load, store, operate, go, goUnless, call, return, make, getField, putField, setLevel, readFader, takeHold, letHold, assert, stop, procedureAt}
-use Rattle.bytecode.specs.Machine.{Activation, Made, running, unwinding, ended, Stuck, noStep, badType, badRecord, badFrame, groupHeld, Stepped, moved, stuck, demand, Here, at, withHolds, withRecords, fieldPut, cellsFor, cellTy, isEmpty, condition, goesOn, settled, pop, onInteger, onLogical, onReference, given, putLowest, putTop, putCells, pushCell, popMany, recording, onMade, letting, handDown, doLoad, doStore, doOperate, doGoUnless, doReturn, doEnd, doMake, doGetField, doPutField, doSet, doFader, doTakeHold, doAssert, doPush, act}
+use Rattle.bytecode.specs.Instructions.{Owner, own, root, Instr, end, push, load, store, operate, go, goUnless, call, return, make, getField, putField, setLevel, readFader, takeHold, letHold, assert, stop, cellTy, fieldTy, known, procedureAt}
+use Rattle.bytecode.specs.Machine.{Activation, Made, Shared, running, unwinding, ended, Stuck, noStep, badType, badRecord, badFrame, groupHeld, Stepped, moved, stuck, demand, Here, at, withHolds, withRecords, fieldPut, cellsFor, onField, isEmpty, condition, goesOn, settled, pop, given, putLowest, putTop, putCells, pushCell, popMany, recording, onMade, letting, handDown, doLoad, doStore, doOperate, doGoUnless, doReturn, doEnd, doMake, doGetField, doPutField, doSet, doFader, doTakeHold, doAssert, doPush, act}
 use Rattle.ops.specs.Acts.{here}
 
 lowest-length : (cs : List Cell) (fs : List Activation) → length (putLowest cs fs) ≡ length fs
@@ -49,7 +49,7 @@ Plain readFader = Unit {0}
 Plain (takeHold g) = Unit {0}
 Plain letHold = Unit {0}
 Plain assert = Unit {0}
-Plain stop = Unit {0}
+Plain (stop c) = Unit {0}
 
 -- ── a claim that holds of every stuck step holds on where a test is made ──
 module _ (P : Stepped → Type 0) (of-stuck : (why : Stuck) → P (stuck why)) where
@@ -94,24 +94,6 @@ module _ (t : Activation) (fs : List Activation) where
   on-pop [] g p = nowhere
   on-pop (v ∷ vs) g p = p v vs
 
-  on-integer : (v : Value) (g : ℤ → Stepped) → ((z : ℤ) → Onward (g z)) → Onward (onInteger v g)
-  on-integer (int z) g p = p z
-  on-integer (log b) g p = nowhere
-  on-integer (bit n) g p = nowhere
-  on-integer (ref c r) g p = nowhere
-
-  on-logical : (v : Value) (g : Bool → Stepped) → ((b : Bool) → Onward (g b)) → Onward (onLogical v g)
-  on-logical (int z) g p = nowhere
-  on-logical (log b) g p = p b
-  on-logical (bit n) g p = nowhere
-  on-logical (ref c r) g p = nowhere
-
-  on-reference : (v : Value) (g : ℕ → Option ℕ → Stepped) → ((c : ℕ) (r : Option ℕ) → Onward (g c r)) → Onward (onReference v g)
-  on-reference (int z) g p = nowhere
-  on-reference (log b) g p = nowhere
-  on-reference (bit n) g p = nowhere
-  on-reference (ref c r) g p = p c r
-
   on-many : (n : ℕ) (taken vs : List Value) (g : List Value → List Value → Stepped) → ((us ws : List Value) → Onward (g us ws)) → Onward (popMany n taken vs g)
   unfolding popMany
   on-many zero taken vs g p = p taken vs
@@ -124,7 +106,7 @@ module _ (t : Activation) (fs : List Activation) where
 
   on-goes : (is : List Item) (vs : List Value) (h : Here) → Alike h → Onward (goesOn is vs h)
   on-goes is vs h p =
-      let s : Stepped = moved is (running (h .records) (at (suc (h .top .address)) vs (h .top)) (h .below)) in
+      let s : Stepped = moved is (running (h .shared) (at (suc (h .top .address)) vs (h .top)) (h .below)) in
       let q : Onward s = record { next = (ap suc (p .address), p .count) } in
       on-demand (leb (length vs) 32) badFrame s q
 
@@ -133,19 +115,19 @@ module _ (t : Activation) (fs : List Activation) where
   on-settled (ends c) vs h p = on-condition c h
   on-settled mistyped vs h p = nowhere
 
-  on-cell : (c : Cell) (vs : List Value) (h : Here) → Alike h → Onward (pushCell c vs h)
-  on-cell (assigned v) vs h p = on-goes [] (v ∷ vs) h p
+  on-cell : (t : Ty) (c : Cell) (h : Here) → Alike h → Onward (pushCell t c h)
+  on-cell t (assigned v) h p = on-demand (fits (tyOf v) t) badType _ (on-goes [] (v ∷ h .top .operands) h p)
 
   on-made : (c : ℕ) (r : Option ℕ) (h : Here) (g : ℕ → Made → Stepped) → ((n : ℕ) (q : Made) → Onward (g n q)) → Onward (onMade c r h g)
   on-made c none h g p = on-condition _ h
   on-made c (some n) h g p =
-      on-given (getElem? (h .records) n) badRecord (λ q. demand (eqb (q .class) c) badRecord (g n q)) (λ q. on-demand (eqb (q .class) c) badRecord (g n q) (p n q))
+      on-given (getElem? (h .shared .records) n) badRecord (λ q. demand (eqb (q .class) c) badRecord (g n q)) (λ q. on-demand (eqb (q .class) c) badRecord (g n q) (p n q))
 
-  on-letting : (gs : List ℕ) (rs : List Made) → Onward (letting gs (here rs t fs))
+  on-letting : (gs : List ℕ) (rs : Shared) → Onward (letting gs (here rs t fs))
   on-letting [] rs = nowhere
   on-letting (g ∷ gs) rs = record { next = (refl, refl) }
 
-  module _ (m : Macro) (bank : ℕ → ℕ) (rs : List Made) where
+  module _ (m : Macro) (bank : ℕ → ℕ) (rs : Shared) where
     abbrev h : Here
     h = here rs t fs
 
@@ -157,51 +139,54 @@ module _ (t : Activation) (fs : List Activation) where
     with-cells root cs = record { address = top-address cs t fs; count = lowest-length cs fs }
 
     on-push : (v : Value) → Onward (doPush m v h)
-    on-push (int z) = on-goes [] (int z ∷ t .operands) h found
-    on-push (log b) = on-goes [] (log b ∷ t .operands) h found
-    on-push (bit n) = on-goes [] (bit n ∷ t .operands) h found
-    on-push (ref c r) = on-demand (ltb c (length (m .classes))) noStep (goesOn [] (ref c r ∷ t .operands) h) (on-goes [] (ref c r ∷ t .operands) h found)
+    on-push v = on-demand (known m (tyOf v)) noStep (goesOn [] (v ∷ t .operands) h) (on-goes [] (v ∷ t .operands) h found)
 
     on-operate : (o : Operator) → Onward (doOperate o h)
     unfolding doOperate
     on-operate (unary o) = on-pop (t .operands) (λ v vs. settled (apply1 o v) vs h) (λ v vs. on-settled (apply1 o v) vs h found)
     on-operate (binary o) = on-pop (t .operands) (λ w vs. pop vs (λ v us. settled (apply2 o v w) us h)) (λ w vs. on-pop vs (λ v us. settled (apply2 o v w) us h) (λ v us. on-settled (apply2 o v w) us h found))
 
-    on-store : (o : Owner) (x : ℕ) → Onward (doStore o x h)
+    on-load : (o : Owner) (x : ℕ) → Onward (doLoad m o x h)
+    unfolding doLoad
+    on-load o x = on-given (cellTy m (t .body) o x) badFrame _ (λ u. on-given (getElem? (cellsFor o h) x) badFrame _ (λ c. on-cell u c h found))
+
+    on-store : (o : Owner) (x : ℕ) → Onward (doStore m o x h)
     unfolding doStore
-    on-store o x = on-pop (t .operands) _ (λ v vs. on-given (getElem? (cellsFor o h) x) badFrame _ (λ c.
+    on-store o x = on-pop (t .operands) _ (λ v vs. on-given (cellTy m (t .body) o x) badFrame _ (λ u. on-given (getElem? (cellsFor o h) x) badFrame _ (λ c.
         let h′ = putCells o (put (cellsFor o h) x (assigned v)) h in
-        on-demand (fits (tyOf v) (cellTy c)) badType (goesOn [] vs h′) (on-goes [] vs h′ (with-cells o (put (cellsFor o h) x (assigned v))))))
+        on-demand (fits (tyOf v) u) badType (goesOn [] vs h′) (on-goes [] vs h′ (with-cells o (put (cellsFor o h) x (assigned v)))))))
 
     on-make : (c : ℕ) → Onward (doMake m c h)
     unfolding doMake
     on-make c = on-given (getElem? (m .classes) c) noStep _ (λ ts. on-many (length ts) [] (t .operands) _ (λ vs us.
-        let h′ = withRecords (rs ++ (record { class = c; fields = vs } ∷ [])) h in
-        let ws = ref c (some (length rs)) ∷ us in
+        let h′ = withRecords (rs .records ++ (record { class = c; fields = vs } ∷ [])) h in
+        let ws = ref c (some (length (rs .records))) ∷ us in
         on-demand (allFit (tysOf vs) ts) badType (recording c vs us h)
-        (on-if (ltb (length rs) 256) (goesOn [] ws h′) (condition tooManyRecords h) (on-goes [] ws h′ (record { address = refl; count = refl })) (on-condition tooManyRecords h))))
+        (on-if (ltb (length (rs .records)) 256) (goesOn [] ws h′) (condition tooManyRecords h) (on-goes [] ws h′ (record { address = refl; count = refl })) (on-condition tooManyRecords h))))
 
-    on-get : (c x : ℕ) → Onward (doGetField c x h)
+    on-field : (c x : ℕ) (v : Value) (g : ℕ → Made → Ty → Value → Stepped) → ((n : ℕ) (q : Made) (u : Ty) (w : Value) → Onward (g n q u w)) → Onward (onField m c x v h g)
+    on-field c x v g p = on-given (asReference v) badType _ (λ r. on-demand (eqb (r .class) c) badRecord _ (on-made c (r .target) h _ (λ n q.
+        on-given (fieldTy m c x) badType _ (λ u. on-given (getElem? (q .fields) x) badType _ (λ w. p n q u w)))))
+
+    on-get : (c x : ℕ) → Onward (doGetField m c x h)
     unfolding doGetField
-    on-get c x = on-pop (t .operands) _ (λ v vs. on-reference v _ (λ d r.
-        on-demand (eqb d c) badRecord _ (on-made c r h _ (λ n q. on-given (getElem? (q .fields) x) badType _ (λ w. on-goes [] (w ∷ vs) h found)))))
+    on-get c x = on-pop (t .operands) _ (λ v vs. on-field c x v _ (λ n q u w. on-demand (fits (tyOf w) u) badType _ (on-goes [] (w ∷ vs) h found)))
 
-    on-put : (c x : ℕ) → Onward (doPutField c x h)
+    on-put : (c x : ℕ) → Onward (doPutField m c x h)
     unfolding doPutField
-    on-put c x = on-pop (t .operands) _ (λ w vs. on-pop vs _ (λ v us. on-reference v _ (λ d r.
-        on-demand (eqb d c) badRecord _ (on-made c r h _ (λ n q. on-given (getElem? (q .fields) x) badType _ (λ u.
-        let h′ = withRecords (fieldPut n x w q rs) h in
-        on-demand (fits (tyOf w) (tyOf u)) badType (goesOn [] us h′) (on-goes [] us h′ (record { address = refl; count = refl }))))))))
+    on-put c x = on-pop (t .operands) _ (λ w vs. on-pop vs _ (λ v us. on-field c x v _ (λ n q u z.
+        let h′ = withRecords (fieldPut n x w q (rs .records)) h in
+        on-demand (fits (tyOf w) u) badType (goesOn [] us h′) (on-goes [] us h′ (record { address = refl; count = refl })))))
 
     on-set : Onward (doSet h)
     unfolding doSet
-    on-set = on-pop (t .operands) _ (λ w vs. on-pop vs _ (λ v us. on-integer v _ (λ x. on-integer w _ (λ y.
+    on-set = on-pop (t .operands) _ (λ w vs. on-pop vs _ (λ v us. on-given (asInteger v) badType _ (λ x. on-given (asInteger w) badType _ (λ y.
         let is = event (set (size x) (size y)) ∷ [] in
         on-if (between 1 512 x && between 0 255 y) (goesOn is us h) (condition outOfRange h) (on-goes is us h found) (on-condition outOfRange h)))))
 
     on-fader : Onward (doFader bank h)
     unfolding doFader
-    on-fader = on-pop (t .operands) _ (λ v vs. on-integer v _ (λ x.
+    on-fader = on-pop (t .operands) _ (λ v vs. on-given (asInteger v) badType _ (λ x.
         let is = reading (size x) (bank (size x)) ∷ [] in let ws = int (pos (bank (size x))) ∷ vs in
         on-if (between 1 64 x) (goesOn is ws h) (condition outOfRange h) (on-goes is ws h found) (on-condition outOfRange h)))
 
@@ -214,7 +199,7 @@ module _ (t : Activation) (fs : List Activation) where
 
     on-assert : Onward (doAssert h)
     unfolding doAssert
-    on-assert = on-pop (t .operands) _ (λ v vs. on-logical v _ (λ b. on-if b (goesOn [] vs h) (condition assertFalse h) (on-goes [] vs h found) (on-condition assertFalse h)))
+    on-assert = on-pop (t .operands) _ (λ v vs. on-given (asLogical v) badType _ (λ b. on-if b (goesOn [] vs h) (condition assertFalse h) (on-goes [] vs h found) (on-condition assertFalse h)))
 
     on-end : Onward (doEnd h)
     unfolding doEnd
@@ -223,10 +208,10 @@ module _ (t : Activation) (fs : List Activation) where
         on-demand (eqb (t .body) 0) noStep _ (on-demand (isEmpty (t .operands)) badType _ (on-demand (isEmpty fs) badFrame _ (on-demand (isEmpty (t .holds)) groupHeld (moved [] (ended 0)) e)))
 
     pub onward : (x : Instr) → Plain x → Onward (act m bank x h)
-    unfolding act doLoad
+    unfolding act
     onward end p = on-end
     onward (push v) p = on-push v
-    onward (load o x) p = on-given (getElem? (cellsFor o h) x) badFrame (λ c. pushCell c (t .operands) h) (λ c. on-cell c (t .operands) h found)
+    onward (load o x) p = on-load o x
     onward (store o x) p = on-store o x
     onward (operate o) p = on-operate o
     onward (go i) p = absurd p
@@ -241,7 +226,7 @@ module _ (t : Activation) (fs : List Activation) where
     onward (takeHold g) p = on-hold g
     onward letHold p = on-letting (t .holds) rs
     onward assert p = on-assert
-    onward stop p = on-condition caseIndex h
+    onward (stop c) p = on-condition c h
 
 -- ── a jump stays in its activation, and a return goes on in one ──
 abbrev pub Within : ℕ → Stepped → Type 0
@@ -259,7 +244,7 @@ Ran (stuck why) = Unit {0}
 pub record Stays (s : Stepped) : Type 0 where
   pub ran : Ran s
 
-module _ (m : Macro) (bank : ℕ → ℕ) (rs : List Made) (t : Activation) (fs : List Activation) where
+module _ (m : Macro) (bank : ℕ → ℕ) (rs : Shared) (t : Activation) (fs : List Activation) where
   pub jumps : (i : ℕ) → Within (length fs) (act m bank (go i) (here rs t fs))
   unfolding act
   jumps i = refl
@@ -268,7 +253,7 @@ module _ (m : Macro) (bank : ℕ → ℕ) (rs : List Made) (t : Activation) (fs 
   unfolding act doGoUnless
   jumps-unless i = go-pop (t .operands)
     where
-      go-pop : (vs : List Value) → Within (length fs) (pop vs (λ v us. onLogical v (λ b. moved [] (running rs (record { body = t .body; address = if b then suc (t .address) else i; cells = t .cells; operands = us; holds = t .holds }) fs))))
+      go-pop : (vs : List Value) → Within (length fs) (pop vs (λ v us. given (asLogical v) badType (λ b. moved [] (running rs (record { body = t .body; address = if b then suc (t .address) else i; cells = t .cells; operands = us; holds = t .holds }) fs))))
       go-pop [] = tt
       go-pop (int z ∷ vs) = tt
       go-pop (log b ∷ vs) = refl

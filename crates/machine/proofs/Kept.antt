@@ -11,7 +11,7 @@ use borrow.Author.Tests.{eqb-true, eqb-false}
 use Rattle.words.specs.Numbers.{byteAt, halfAt}
 use Rattle.values.specs.Trace.{Item, event, reading}
 use Rattle.bytecode.specs.Instructions.{Instr, instruction}
-use Rattle.bytecode.specs.Machine.{Activation, Made, endBy, Machine, running, unwinding, ended, moved, act}
+use Rattle.bytecode.specs.Machine.{Activation, Shared, endBy, Machine, running, unwinding, ended, moved, act}
 use Rattle.bytecode.specs.Runs.{bankOf}
 use Rattle.bytecode.specs.Sound.{sound}
 use Rattle.bytecode.specs.State.{encode}
@@ -57,9 +57,9 @@ plain-op op a b x d n8 n9 n10 n11 =
 -- ── after an op, by the bytes that it left ──
 module _ (code readings l : List ℕ) (op a b f n i : ℕ) (P : Poised code readings op a b l f n i) (k : List ℕ) (o : Out) (A : Acts code readings op a b l f n i k o) where
   are : (k ≡ encode (P .next)) × (o ≡ outOf (P .items) (P .next))
-  are = rw (P .moves) at (A (P .macro) (P .reads) (P .records) (P .top) (P .below) (P .at-hand) (P .instr) (P .decoded) .are)
+  are = rw (P .moves) at (A (P .macro) (P .reads) (P .shared) (P .top) (P .below) (P .at-hand) (P .instr) (P .decoded) .are)
 
-  is-running : (rs : List Made) (u : Activation) (us : List Activation) → k ≡ encode (running rs u us) → byteAt k 0 ≡ 0
+  is-running : (rs : Shared) (u : Activation) (us : List Activation) → k ≡ encode (running rs u us) → byteAt k 0 ≡ 0
   is-running rs u us e = rw e (encode-reads phase tt (running rs u us))
 
   -- a step that gave nothing and left off running is releasing
@@ -73,19 +73,19 @@ module _ (code readings l : List ℕ) (op a b f n i : ℕ) (P : Poised code read
       by (event v ∷ is) (ended c) e h = let z : _≡_ {A = ℕ} 0 1 = cc h in absurd (omega arith)
       by (reading x v ∷ is) (ended c) e h = let z : _≡_ {A = ℕ} 0 1 = cc h in absurd (omega arith)
 
-  counts : (rs : List Made) (u : Activation) (us : List Activation) → k ≡ encode (running rs u us) → sound (P .macro) (running rs u us) ≡ true → length us ≡ length (P .below)
+  counts : (rs : Shared) (u : Activation) (us : List Activation) → k ≡ encode (running rs u us) → sound (P .macro) (running rs u us) ≡ true → length us ≡ length (P .below)
       → On k f rs [] u us
   counts rs u us e s c =
       let few : suc (length us) ≤ 32 = running-sound (P .macro) rs u us s .0 .few in
       record { few = omega arith; place = P .at-hand .on .place ∙ ap framePlace (sym c); bytes = e }
 
-  same-count : {rs : List Made} {u : Activation} {us : List Activation} → On k f rs [] u us → length us ≡ length (P .below) → byteAt k 2 ≡ byteAt l 2
+  same-count : {rs : Shared} {u : Activation} {us : List Activation} → On k f rs [] u us → length us ≡ length (P .below) → byteAt k 2 ≡ byteAt l 2
   same-count q c = read-count q ∙ ap suc c ∙ sym (read-count (P .at-hand .on))
 
   pub goes-on : (op ≡ 8 → ⊥) → (op ≡ 9 → ⊥) → (op ≡ 10 → ⊥) → (op ≡ 11 → ⊥) → byteAt k 0 ≡ 0 → (byteAt k 2 ≡ byteAt l 2) × (halfAt k (f + 4) ≡ i + 1)
   goes-on n8 n9 n10 n11 z =
       by (P .next) (are .0) (P .still)
-      (subst (Next (P .top) (P .below)) (P .moves) (onward (P .top) (P .below) (P .macro) (bankOf readings) (P .records) (P .instr) (plain-op op a b (P .instr) (P .decoded) n8 n9 n10 n11) .next))
+      (subst (Next (P .top) (P .below)) (P .moves) (onward (P .top) (P .below) (P .macro) (bankOf readings) (P .shared) (P .instr) (plain-op op a b (P .instr) (P .decoded) n8 n9 n10 n11) .next))
     where
       by : (s : Machine) → k ≡ encode s → sound (P .macro) s ≡ true → Next (P .top) (P .below) (moved (P .items) s) → (byteAt k 2 ≡ byteAt l 2) × (halfAt k (f + 4) ≡ i + 1)
       by (running rs u us) e s x =
@@ -95,7 +95,7 @@ module _ (code readings l : List ℕ) (op a b f n i : ℕ) (P : Poised code read
       by (unwinding gs (endBy c)) e s x = absurd (omega (arith, read-releasing k c gs e .0))
       by (ended c) e s x = absurd (omega (arith, read-ended k c e .0))
 
-  within : Within (length (P .below)) (act (P .macro) (bankOf readings) (P .instr) (here (P .records) (P .top) (P .below))) → (byteAt k 0 ≡ 0) × (byteAt k 2 ≡ byteAt l 2)
+  within : Within (length (P .below)) (act (P .macro) (bankOf readings) (P .instr) (here (P .shared) (P .top) (P .below))) → (byteAt k 0 ≡ 0) × (byteAt k 2 ≡ byteAt l 2)
   within w = by (P .next) (are .0) (P .still) (subst (Within (length (P .below))) (P .moves) w)
     where
       by : (s : Machine) → k ≡ encode s → sound (P .macro) s ≡ true → Within (length (P .below)) (moved (P .items) s) → (byteAt k 0 ≡ 0) × (byteAt k 2 ≡ byteAt l 2)
@@ -104,13 +104,13 @@ module _ (code readings l : List ℕ) (op a b f n i : ℕ) (P : Poised code read
       by (ended c) e s x = absurd x
 
   pub goes-to : op ≡ 8 → (byteAt k 0 ≡ 0) × (byteAt k 2 ≡ byteAt l 2)
-  goes-to e = within (rw (is-go op a b (P .instr) (P .decoded) e) (jumps (P .macro) (bankOf readings) (P .records) (P .top) (P .below) b))
+  goes-to e = within (rw (is-go op a b (P .instr) (P .decoded) e) (jumps (P .macro) (bankOf readings) (P .shared) (P .top) (P .below) b))
 
   pub goes-unless : op ≡ 9 → (byteAt k 0 ≡ 0) × (byteAt k 2 ≡ byteAt l 2)
-  goes-unless e = within (rw (is-unless op a b (P .instr) (P .decoded) e) (jumps-unless (P .macro) (bankOf readings) (P .records) (P .top) (P .below) b))
+  goes-unless e = within (rw (is-unless op a b (P .instr) (P .decoded) e) (jumps-unless (P .macro) (bankOf readings) (P .shared) (P .top) (P .below) b))
 
   pub comes-back : op ≡ 11 → byteAt k 0 ≡ 0
-  comes-back e = by (P .next) (are .0) (subst Ran (P .moves) (rw (is-return op a b (P .instr) (P .decoded) e) (returns (P .macro) (bankOf readings) (P .records) (P .top) (P .below) .ran)))
+  comes-back e = by (P .next) (are .0) (subst Ran (P .moves) (rw (is-return op a b (P .instr) (P .decoded) e) (returns (P .macro) (bankOf readings) (P .shared) (P .top) (P .below) .ran)))
     where
       by : (s : Machine) → k ≡ encode s → Ran (moved (P .items) s) → byteAt k 0 ≡ 0
       by (running rs u us) e x = is-running rs u us e

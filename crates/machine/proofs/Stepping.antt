@@ -15,7 +15,7 @@ use Rattle.values.specs.Ends.{accepted, isCondition}
 use Rattle.values.specs.Values.{tysOf}
 use Rattle.bytecode.specs.Macro.{Macro, shape, readMacro}
 use Rattle.bytecode.specs.Instructions.{Instr, instruction, instrAt}
-use Rattle.bytecode.specs.Machine.{Activation, Made, endBy, Machine, running, unwinding, ended, act, fetch, step}
+use Rattle.bytecode.specs.Machine.{Activation, Made, Shared, endBy, Machine, running, unwinding, ended, act, fetch, step}
 use Rattle.bytecode.specs.Runs.{bankOf}
 use Rattle.bytecode.specs.Sound.{sound}
 use Rattle.bytecode.specs.State.{encode}
@@ -42,7 +42,7 @@ held-long H = rw (H .bytes) (length-encode (H .state))
 
 -- ── which phase ──
 -- the state of bytes whose first is 0, 1 and another
-in-running : (P : Machine → Type 0) (l : List ℕ) (s : Machine) → l ≡ encode s → byteAt l 0 ≡ 0 → ((rs : List Made) (t : Activation) (fs : List Activation) → l ≡ encode (running rs t fs) → P (running rs t fs)) → P s
+in-running : (P : Machine → Type 0) (l : List ℕ) (s : Machine) → l ≡ encode s → byteAt l 0 ≡ 0 → ((rs : Shared) (t : Activation) (fs : List Activation) → l ≡ encode (running rs t fs) → P (running rs t fs)) → P s
 in-running P l (running rs t fs) e z f = f rs t fs e
 in-running P l (unwinding gs (endBy c)) e z f = absurd (omega (arith, read-releasing l c gs e .0))
 in-running P l (ended c) e z f = absurd (omega (arith, read-ended l c e .0))
@@ -76,7 +76,7 @@ pub record Top (l : List ℕ) : Type 0 where
   pub low : 1 ≤ byteAt l 2
   pub high : byteAt l 2 ≤ 32
 
-module _ (code l : List ℕ) (m : Macro) (reads : readMacro code ≡ accepted m) (w : Passed m) (rs : List Made) (t : Activation) (fs : List Activation)
+module _ (code l : List ℕ) (m : Macro) (reads : readMacro code ≡ accepted m) (w : Passed m) (rs : Shared) (t : Activation) (fs : List Activation)
     (sounds : sound m (running rs t fs) ≡ true) (bytes : l ≡ encode (running rs t fs)) where
   on-at : (f : ℕ) → f ≡ 32 + 328 * (byteAt l 2 - 1) → On l f rs [] t fs
   on-at f e =
@@ -117,7 +117,7 @@ module _ (code l : List ℕ) (m : Macro) (reads : readMacro code ≡ accepted m)
       record {
         macro = m;
         reads = reads;
-        records = rs;
+        shared = rs;
         top = t;
         below = fs;
         at-hand = M;
@@ -140,7 +140,7 @@ module _ (code l : List ℕ) where
   pub top-of : Held code l → byteAt l 0 ≡ 0 → Top l
   top-of H z = in-running (λ s. sound (H .macro) s ≡ true → Top l) l (H .state) (H .bytes) z (λ rs t fs e s. go rs t fs e s) (H .sounds)
     where
-      go : (rs : List Made) (t : Activation) (fs : List Activation) → l ≡ encode (running rs t fs) → sound (H .macro) (running rs t fs) ≡ true → Top l
+      go : (rs : Shared) (t : Activation) (fs : List Activation) → l ≡ encode (running rs t fs) → sound (H .macro) (running rs t fs) ≡ true → Top l
       go rs t fs e s =
           let few : suc (length fs) ≤ 32 = running-sound (H .macro) rs t fs s .0 .few in
           let p0 : On l (framePlace (length fs)) rs [] t fs = record { few = omega arith; place = refl; bytes = e } in

@@ -11,7 +11,7 @@ use Rattle.values.specs.Trace.{Item}
 use Rattle.values.specs.Values.{tysOf}
 use Rattle.bytecode.specs.Macro.{Code, Macro, shape, readMacro}
 use Rattle.bytecode.specs.Instructions.{Instr, instruction}
-use Rattle.bytecode.specs.Machine.{Activation, Made, Machine, moved, act, step}
+use Rattle.bytecode.specs.Machine.{Activation, Shared, Machine, moved, act, step}
 use Rattle.bytecode.specs.Runs.{bankOf, happens, spends, finishes, refuses, halts, Ran, steps, run}
 use Rattle.bytecode.specs.Runs as runs
 use Rattle.bytecode.specs.Sound.{sound}
@@ -48,22 +48,22 @@ record-of op a b = record { op = op; a = a; b = b }
 pub record Poised (code readings : List ℕ) (op a b : ℕ) (l : List ℕ) (f n i : ℕ) : Type 0 where
   pub macro : Macro
   pub reads : readMacro code ≡ accepted macro
-  pub records : List Made
+  pub shared : Shared
   pub top : Activation
   pub below : List Activation
-  pub at-hand : Now macro l f n i records top below
+  pub at-hand : Now macro l f n i shared top below
   pub instr : Instr
   pub decoded : instruction (record-of op a b) ≡ some instr
   pub items : List Item
   pub next : Machine
-  pub moves : act macro (bankOf readings) instr (here records top below) ≡ moved items next
+  pub moves : act macro (bankOf readings) instr (here shared top below) ≡ moved items next
   pub still : sound macro next ≡ true
   pub finds : Finds macro (top .body) (top .address) (shape (length (top .holds)) (tysOf (top .operands))) instr
 
 -- what it does
 abbrev pub Acts : List ℕ → List ℕ → ℕ → ℕ → ℕ → List ℕ → ℕ → ℕ → ℕ → List ℕ → Out → Type 0
 Acts code readings op a b l f n i k o =
-    (m : Macro) → readMacro code ≡ accepted m → (rs : List Made) (t : Activation) (fs : List Activation) → Now m l f n i rs t fs
+    (m : Macro) → readMacro code ≡ accepted m → (rs : Shared) (t : Activation) (fs : List Activation) → Now m l f n i rs t fs
     → (x : Instr) → instruction (record-of op a b) ≡ some x → Told (act m (bankOf readings) x (here rs t fs)) k o
 
 -- ── a step ──

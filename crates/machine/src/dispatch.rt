@@ -6,6 +6,7 @@ ghost use Rattle.ops.specs.Acts.{Room};
 ghost use Rattle.calls.specs.Moves.{TellsOf};
 ghost use Rattle.loader.specs.Lookups.{Bodied, Classed};
 ghost use Rattle.machine.specs.Held.{Poised, Acts};
+use formats::compiled::*;
 use ops::Out;
 
 // Op 10: the body's record, then the call.
@@ -63,26 +64,26 @@ pub fn dispatch(
     ensures { λ r. ⌜ Acts (now (code .entry)) (now (readings .entry)) op a b (now (s .entry)) f n i (now (s .exit)) r ⌝ }
 {
     match op {
-        0 => ops::op_end(s, f, n, i),
-        1 => ops::op_push(s, f, n, i, b, 1),
-        2 => ops::op_push(s, f, n, i, b, 2),
-        3 => ops::op_push(s, f, n, i, b, 3),
-        4 => ops::op_push(s, f, n, i, 0, 16 + a),
-        5 => ops::op_load(s, f, n, i, a, b as usize),
-        6 => ops::op_store(s, f, n, i, a, b as usize),
-        7 => ops::op_operate(s, f, n, i, a),
-        8 => ops::op_go(s, f, n, i, b as u16),
-        9 => ops::op_unless(s, f, n, i, b as u16),
-        10 => call(code, bx, s, readings, f, n, i, a, b),
-        11 => calls::op_return(s, f, n, i),
-        12 => make(code, cx, s, readings, f, n, i, a, b),
-        13 => calls::op_get_field(s, f, n, i, a, b as usize),
-        14 => calls::op_put_field(s, f, n, i, a, b as usize),
-        15 => ops::op_set(s, f, n, i),
-        16 => ops::op_fader(s, f, n, i, readings),
-        17 => ops::op_hold(s, f, n, i, b as u8),
-        18 => ops::op_release(s, f, n, i),
-        19 => ops::op_assert(s, f, n, i),
+        OP_END => ops::op_end(s, f, n, i),
+        OP_INTEGER => ops::op_push(s, f, n, i, b, TYPE_INTEGER),
+        OP_LOGICAL => ops::op_push(s, f, n, i, b, TYPE_LOGICAL),
+        OP_BITS => ops::op_push(s, f, n, i, b, TYPE_BITS),
+        OP_NULL => ops::op_push(s, f, n, i, 0, TYPE_CLASS + a),
+        OP_LOAD => ops::op_load(s, f, n, i, a, b as usize),
+        OP_STORE => ops::op_store(s, f, n, i, a, b as usize),
+        OP_OPERATOR => ops::op_operate(s, f, n, i, a),
+        OP_GO => ops::op_go(s, f, n, i, b as u16),
+        OP_UNLESS => ops::op_unless(s, f, n, i, b as u16),
+        OP_CALL => call(code, bx, s, readings, f, n, i, a, b),
+        OP_RETURN => calls::op_return(s, f, n, i),
+        OP_MAKE => make(code, cx, s, readings, f, n, i, a, b),
+        OP_GET_FIELD => calls::op_get_field(s, f, n, i, a, b as usize),
+        OP_PUT_FIELD => calls::op_put_field(s, f, n, i, a, b as usize),
+        OP_SET => ops::op_set(s, f, n, i),
+        OP_FADER => ops::op_fader(s, f, n, i, readings),
+        OP_HOLD => ops::op_hold(s, f, n, i, b as u8),
+        OP_RELEASE => ops::op_release(s, f, n, i),
+        OP_ASSERT => ops::op_assert(s, f, n, i),
         _ => ops::op_stop(s, f, n, i),
     }
 }

@@ -6,6 +6,8 @@ ghost use Rattle.words.specs.Numbers.{byteAt, halfAt};
 ghost use Rattle.machine.specs.Held.{Found, Held, Runs, RunsFrom};
 use crate::Answer;
 use crate::dispatch::dispatch;
+use formats::compiled::*;
+use formats::state::*;
 use ops::Event;
 use ops::Out;
 
@@ -19,8 +21,8 @@ fn top_of(s: &[u8]) -> Top
     requires { ⌜ (length (now s) ≡ 24576) × (1 ≤ byteAt (now s) 2) × (byteAt (now s) 2 ≤ 32) ⌝ }
     ensures { λ r. ⌜ (r .place ≡ 32 + 328 * (byteAt (now (s .entry)) 2 - 1)) × (r .address ≡ halfAt (now (s .entry)) (r .place + 4)) ⌝ }
 {
-    let f = 32 + 328 * (frames::wide(s[2]) - 1);
-    let i = words::half_at(s, f + 4);
+    let f = ACTIVATIONS_AT + ACTIVATION_BYTES * (frames::wide(s[ACTIVATION_COUNT_AT]) - 1);
+    let i = words::half_at(s, f + ADDRESS_AT);
     Top {
         place: f,
         address: i,
@@ -35,13 +37,13 @@ fn release(code: &[u8], s: &mut [u8], readings: &[u8], i: u16, allowance: u16) -
     if allowance <= i {
         return Answer::Spends(i);
     }
-    let h = words::half_at(s, 6);
+    let h = words::half_at(s, HOLD_COUNT_AT);
     if h == 0 {
-        let c = s[1];
-        frames::put_byte(s, 0, 2);
+        let c = s[CONDITION_AT];
+        frames::put_byte(s, PHASE_AT, ENDED);
         return Answer::Finishes(c, i + 1);
     }
-    let g = s[10528 + ((h as usize) - 1)];
+    let g = s[HOLDS_AT + ((h as usize) - 1)];
     frames::release(s, h - 1);
     Answer::Happens(Event::Release(g), i + 1)
 }
@@ -66,36 +68,36 @@ fn run_running(
     let mut at = t.address;
     let mut i: u16 = 0;
     while i < allowance {
-        let n = frames::wide(s[f + 1]);
-        let p = base + 8 * (at as usize);
-        let op = code[p + 2];
-        let a = code[p + 3];
-        let b = words::word_at(code, p + 4);
+        let n = frames::wide(s[f + OPERAND_COUNT_AT]);
+        let p = base + CODE_BYTES * (at as usize);
+        let op = code[p + CODE_OP_AT];
+        let a = code[p + CODE_A_AT];
+        let b = words::word_at(code, p + CODE_B_AT);
         match dispatch(code, bx, cx, s, readings, f, n, at, op, a, b) {
             Out::Goes => {
                 i += 1;
                 match op {
-                    8 => {
-                        at = words::half_at(s, f + 4);
+                    OP_GO => {
+                        at = words::half_at(s, f + ADDRESS_AT);
                     }
-                    9 => {
-                        at = words::half_at(s, f + 4);
+                    OP_UNLESS => {
+                        at = words::half_at(s, f + ADDRESS_AT);
                     }
-                    10 => {
-                        if s[0] != 0 {
+                    OP_CALL => {
+                        if s[PHASE_AT] != RUNNING {
                             return release(code, s, readings, i, allowance);
                         }
                         let t = top_of(s);
                         f = t.place;
                         at = t.address;
                     }
-                    11 => {
+                    OP_RETURN => {
                         let t = top_of(s);
                         f = t.place;
                         at = t.address;
                     }
                     _ => {
-                        if s[0] != 0 {
+                        if s[PHASE_AT] != RUNNING {
                             return release(code, s, readings, i, allowance);
                         }
                         at += 1;
@@ -125,12 +127,12 @@ pub fn run_sound(
     requires { ⌜ (Found (now code) (now bx) (now cx) base) × (Held (now code) (now s)) × (length (now readings) ≡ 64) ⌝ }
     ensures { λ r. ⌜ Runs (now (code .entry)) (now (readings .entry)) allowance (now (s .entry)) (now (s .exit)) r ⌝ }
 {
-    let phase = s[0];
-    if phase == 0 {
+    let phase = s[PHASE_AT];
+    if phase == RUNNING {
         return run_running(code, bx, cx, base, s, readings, allowance);
     }
-    if phase == 1 {
+    if phase == RELEASING {
         return release(code, s, readings, 0, allowance);
     }
-    Answer::Finishes(s[1], 0)
+    Answer::Finishes(s[CONDITION_AT], 0)
 }

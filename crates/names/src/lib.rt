@@ -1,4 +1,6 @@
 // The first fault of a table that reads, in postorder: names, types and labels.
+use formats::entries::*;
+use formats::limits::*;
 use heads::Verdict;
 ghost use mathlib.Core.Path.{_≡_};
 ghost use mathlib.Core.List.{_++_};
@@ -40,9 +42,9 @@ fn body(
     ensures { λ r. ⌜ AnswersBody (now (table .entry)) (now (part .entry)) result at (now (sizes .entry)) (now (env .entry)) (now (env .exit)) top r ⌝ }
 {
     if result == 0 {
-        walkers::statement(table, part, 62, at, sizes, env, top)
+        walkers::statement(table, part, BELOW_HEAD, at, sizes, env, top)
     } else {
-        walkers::expression(table, part, 62, at, sizes, env, top)
+        walkers::expression(table, part, BELOW_HEAD, at, sizes, env, top)
     }
 }
 
@@ -84,14 +86,14 @@ fn procedure(
     requires { ⌜ AsksGlobal IsProcedure (now table) (now part) at (now sizes) (now env) top ⌝ }
     ensures { λ r. ⌜ AnswersGlobal IsProcedure (now (table .entry)) (now (part .entry)) at (now (sizes .entry)) (now (env .entry)) (now (env .exit)) top r ⌝ }
 {
-    let heading = words::word_at(part, 4);
-    let name = words::half_at(part, 2);
+    let heading = words::word_at(part, B_AT);
+    let name = words::half_at(part, A_AT);
     let parameters = heading as usize / 256;
     scopes::push(env, top, 65537, 0, 0, 0);
     let up = heads::add_head(table, at + 1, parameters, 4, env, top + 1);
     match heads::head(table, at + 1, parameters, env, up) {
         Verdict::Fine(_) => {
-            let from = 8 * (1 + parameters);
+            let from = ENTRY_BYTES * (1 + parameters);
             match body(
                 table,
                 &part[from..],
@@ -114,8 +116,8 @@ fn class(table: &[u8], part: &[u8], at: usize, env: &[u32], top: usize) -> Verdi
     requires { ⌜ (8 ≤ length (now part)) × (8 * (at + 1 + wordAt (now part) 4) ≤ length (now table)) × (4 * top ≤ length (now env)) ⌝ }
     ensures { λ r. ⌜ Says r (headFlaws (now (table .entry)) (envOf (now (env .entry)) top) (at + 1) (wordAt (now (part .entry)) 4) ++ onceFlaw (envOf (now (env .entry)) top) (halfAt (now (part .entry)) 2) at) ⌝ }
 {
-    let fields = words::word_at(part, 4) as usize;
-    let name = words::half_at(part, 2);
+    let fields = words::word_at(part, B_AT) as usize;
+    let name = words::half_at(part, A_AT);
     match heads::head(table, at + 1, fields, env, top) {
         Verdict::Fine(_) => heads::once(env, top, name as u32, at),
         Verdict::Refused(n, p) => Verdict::Refused(n, p),
@@ -133,10 +135,10 @@ fn global(
     requires { ⌜ AsksGlobal Any (now table) (now part) at (now sizes) (now env) top ⌝ }
     ensures { λ r. ⌜ AnswersGlobal Any (now (table .entry)) (now (part .entry)) at (now (sizes .entry)) (now (env .entry)) (now (env .exit)) top r ⌝ }
 {
-    let kind = words::half_at(part, 0);
+    let kind = words::half_at(part, KIND_AT);
     match kind {
-        11 => class(table, part, at, env, top),
-        12 => procedure(table, part, at, sizes, env, top),
+        KIND_CLASS => class(table, part, at, env, top),
+        KIND_PROCEDURE => procedure(table, part, at, sizes, env, top),
         _ => heads::head(table, at, 1, env, top),
     }
 }
@@ -148,7 +150,7 @@ fn globals(table: &[u8], count: usize, sizes: &[u16], env: &mut [u32], top: usiz
     let mut place = 1;
     let mut left = count;
     while 0 < left {
-        let from = 8 * place;
+        let from = ENTRY_BYTES * place;
         match global(table, &table[from..], place, sizes, env, top) {
             Verdict::Fine(_) => {
                 place += spans::size_at(sizes, place);
@@ -167,14 +169,23 @@ fn root(table: &[u8], sizes: &[u16], env: &mut [u32]) -> Verdict
     requires { ⌜ AsksRoot (now table) (now sizes) (now env) ⌝ }
     ensures { λ r. ⌜ AnswersRoot (now (table .entry)) (now (sizes .entry)) (now (env .entry)) r ⌝ }
 {
-    let count = words::half_at(table, 2) as usize;
-    let rest = words::word_at(table, 4) as usize;
+    let count = words::half_at(table, A_AT) as usize;
+    let rest = words::word_at(table, B_AT) as usize;
     let after = 1 + spans::spanned(table, sizes, 1, count);
     let top = heads::enter_root(table, count, after, rest, sizes, env);
     match globals(table, count, sizes, env, top) {
         Verdict::Fine(_) => {
-            let from = 8 * after;
-            walkers::items(table, &table[from..], rest, 63, after, sizes, env, top)
+            let from = ENTRY_BYTES * after;
+            walkers::items(
+                table,
+                &table[from..],
+                rest,
+                BELOW_ROOT,
+                after,
+                sizes,
+                env,
+                top,
+            )
         }
         Verdict::Refused(n, p) => Verdict::Refused(n, p),
     }

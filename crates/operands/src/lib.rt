@@ -1,4 +1,7 @@
 // What an entry makes of the types of its operands, which stand above the names in sight. A type is one number, 0 for none.
+mod kinds;
+
+use formats::entries::*;
 use heads::Verdict;
 use scopes::Found;
 ghost use mathlib.Core.Path.{_≡_};
@@ -74,14 +77,14 @@ fn typed(kind: u32, a: u32, t: u32, u: u32, w: u32) -> u32
     ensures { λ r. ⌜ r ≡ typedBy kind a t u w ⌝ }
 {
     match kind {
-        21 => if_both(t == u, t != 0, 1),
-        26 => if_both(t == 2, true, 1),
-        28 => if_both(t == 1, u == 1, 1),
-        40 => 1,
-        41 => 2,
-        42 => 3,
-        50 => if_both(t == 2, true, if_both(u == w, u != 0, u)),
-        51 => if_both(t == 1, true, 1),
+        kinds::ASSIGN => if_both(t == u, t != 0, 1),
+        kinds::ASSERT => if_both(t == 2, true, 1),
+        kinds::SET => if_both(t == 1, u == 1, 1),
+        kinds::INTEGER => 1,
+        kinds::LOGICAL => 2,
+        kinds::BITS => 3,
+        kinds::IF_EXPRESSION => if_both(t == 2, true, if_both(u == w, u != 0, u)),
+        kinds::FADER => if_both(t == 1, true, 1),
         _ => operated(a, t, u),
     }
 }
@@ -216,8 +219,8 @@ fn named(
     ensures { λ r. ⌜ r ≡ namedBy (now (table .entry)) kind a sort number place wall at (values count (envOf (now (env .entry)) (top + count))) ⌝ }
 {
     match kind {
-        25 => aimed(sort, wall, at),
-        27 => called(
+        kinds::GOTO => aimed(sort, wall, at),
+        kinds::CALL => called(
             table,
             sort,
             number,
@@ -228,9 +231,9 @@ fn named(
             env,
             top,
         ),
-        43 => right_if(sort == 6, 65536 + a, at),
-        44 => right_if(sort == 4, number, at),
-        45 => called(
+        kinds::NULL => right_if(sort == 6, 65536 + a, at),
+        kinds::VARIABLE => right_if(sort == 4, number, at),
+        kinds::FUNCTION => called(
             table,
             sort,
             number,
@@ -241,7 +244,7 @@ fn named(
             env,
             top,
         ),
-        46 => right_if(sort == operand(env, top, 0, count), number, at),
+        kinds::FIELD => right_if(sort == operand(env, top, 0, count), number, at),
         _ => recorded(table, a, sort, number, place, at, count, env, top),
     }
 }
@@ -249,16 +252,16 @@ fn named(
 fn names(kind: u32) -> bool
     ensures { λ r. ⌜ r ≡ namesBy kind ⌝ }
 {
-    if kind == 25 {
+    if kind == kinds::GOTO {
         return true;
     }
-    if kind == 27 {
+    if kind == kinds::CALL {
         return true;
     }
-    if kind < 43 {
+    if kind < kinds::NULL {
         return false;
     }
-    kind < 48
+    kind < kinds::UNARY
 }
 
 // The entry at `at`, whose operands' types were found.
@@ -307,10 +310,10 @@ pub fn settle(
 pub fn is_leaf(kind: u16) -> bool
     ensures { λ r. ⌜ r ≡ isLeaf kind ⌝ }
 {
-    if kind < 40 {
+    if kind < KIND_INTEGER {
         return false;
     }
-    kind < 45
+    kind < KIND_FUNCTION
 }
 
 // Such an expression at once: what `settle` gives for it.
@@ -319,12 +322,12 @@ pub fn leaf(kind: u16, a: u32, at: usize, env: &[u32], top: usize) -> Verdict
     ensures { λ r. ⌜ r ≡ leafBy kind a at (find a (envOf (now (env .entry)) top)) ⌝ }
 {
     match kind {
-        40 => Verdict::Fine(1),
-        41 => Verdict::Fine(2),
-        42 => Verdict::Fine(3),
+        KIND_INTEGER => Verdict::Fine(1),
+        KIND_LOGICAL => Verdict::Fine(2),
+        KIND_BITS => Verdict::Fine(3),
         _ => match scopes::find(env, top, a) {
             Found::Nothing => Verdict::Refused(3, at),
-            Found::Def(sort, number, _, _) => if kind == 43 {
+            Found::Def(sort, number, _, _) => if kind == KIND_NULL {
                 right_if(sort == 6, 65536 + a, at)
             } else {
                 right_if(sort == 4, number, at)

@@ -16,7 +16,7 @@ use Rattle.words.specs.Numbers.{integerOf}
 use Rattle.values.specs.Types.{Ty, integer, logical, bits, reference, tyByte}
 use Rattle.values.specs.Operators.{Unary, negate, absolute, complement, Binary, plus, minus, times, divide, remainder, less, atMost, greater, atLeast, equal, unequal, both, either, shiftLeft, shiftRight, unaryOf, binaryOf}
 use Rattle.values.specs.Arithmetic.{Outcome, gives, ends, mistyped, sum, difference, product, quotient, rest, negation, magnitude, eachBit, andBits, orBits, notBits, shiftedLeft, shiftedRight}
-use Rattle.values.specs.Values.{int, log, logWord, refWord, wordRef, validWord, wordValue, mapOutcome, arithmetic, ordering, shift, junction, equality, sameInteger, sameRef, onInteger, apply1, apply2}
+use Rattle.values.specs.Values.{int, log, logWord, refWord, wordRef, validWord, wordValue, mapOutcome, arithmetic, ordering, shift, junction, equality, sameInteger, sameRef, asInteger, asked, apply1, apply2}
 use Rattle.values.specs.Answers.{computed}
 use Rattle.operate.specs.declared.Worked.{Worked}
 use Rattle.operate.specs.declared.Worked.the-variants.{Gives}
@@ -213,7 +213,7 @@ module _ (n t x : ℕ) (r : Worked) where
       let s : o ≡ o′ = cc in
       rw (← s) (f ty et h)
 
-  integer-says : (f : ℤ → Outcome ℤ) (ty : Ty) → Says (onInteger (λ z. mapOutcome int (f z)) (wordValue ty x)) (worked (computed (f (integerOf x))))
+  integer-says : (f : ℤ → Outcome ℤ) (ty : Ty) → Says (asked (asInteger (wordValue ty x)) (λ z. mapOutcome int (f z))) (worked (computed (f (integerOf x))))
   integer-says f integer = number (f (integerOf x))
   integer-says f logical = tt
   integer-says f bits = tt

@@ -6,6 +6,7 @@ ghost use Rattle.words.specs.Numbers.{integerOf};
 ghost use Rattle.words.specs.Choice.{if_then_else_};
 ghost use Rattle.operate.specs.Works.{worked, Works1, Works2};
 ghost use Rattle.operate.specs.declared.Worked.the-variants.{Gives};
+use formats::compiled::*;
 use values::Computed;
 
 // A word and its type byte, or the condition that ends execution in its place.
@@ -18,7 +19,7 @@ fn number(c: Computed) -> Worked
     ensures { λ r. ⌜ r ≡ worked c ⌝ }
 {
     match c {
-        Computed::Gives(z) => Worked::Gives(words::word_of(z), 1),
+        Computed::Gives(z) => Worked::Gives(words::word_of(z), TYPE_INTEGER),
         Computed::Ends(e) => Worked::Ends(e),
     }
 }
@@ -27,16 +28,16 @@ fn truth(b: bool) -> Worked
     ensures { λ r. ⌜ r ≡ Gives (logWord b) 2 ⌝ }
 {
     if b {
-        return Worked::Gives(1, 2);
+        return Worked::Gives(1, TYPE_LOGICAL);
     }
-    Worked::Gives(0, 2)
+    Worked::Gives(0, TYPE_LOGICAL)
 }
 
 // The words of two values of one type are equal where the values are.
 fn same(t: u8, x: u32, y: u32) -> bool
     ensures { λ r. ⌜ r ≡ (if eqb t 1 then sameInteger (integerOf x) (integerOf y) else eqb x y) ⌝ }
 {
-    if t == 1 {
+    if t == TYPE_INTEGER {
         return values::equal(words::integer_of(x), words::integer_of(y));
     }
     x == y
@@ -49,7 +50,7 @@ pub fn unary(op: u8, t: u8, x: u32) -> Worked
         20 => number(values::negate(words::integer_of(x))),
         21 => number(values::absolute(words::integer_of(x))),
         _ => {
-            if t == 2 {
+            if t == TYPE_LOGICAL {
                 return truth(x == 0);
             }
             Worked::Gives(values::not_bits(x), t)

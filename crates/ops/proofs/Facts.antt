@@ -17,7 +17,7 @@ use Rattle.words.specs.Laws.{integer-back}
 use Rattle.values.specs.Values.{Value, int, log, bit, ref, tyOf, tysOf, valueWord, validWord, wordValue, between, size, Cell}
 use Rattle.bytecode.specs.Macro.{Macro, shape}
 use Rattle.bytecode.specs.Instructions.{Owner, own, root, ownerOf}
-use Rattle.bytecode.specs.Machine.{Activation, Made, running, Stuck, badFrame, Stepped, moved, demand, given, at, goesOn, maxOperands}
+use Rattle.bytecode.specs.Machine.{Activation, Made, Shared, running, Stuck, badFrame, Stepped, moved, demand, given, at, goesOn, maxOperands}
 use Rattle.bytecode.specs.Sound.{soundValue}
 use Rattle.bytecode.specs.State.{encode}
 use Rattle.loading.specs.Promises.{limits}
@@ -34,11 +34,11 @@ pub never : {A : Type 0} → false ≡ true → A
 never h = let z : _≡_ {A = ℕ} 0 1 = cc h in absurd (omega arith)
 
 -- ── a sound state ──
-module _ {m : Macro} {l : List ℕ} {f n i : ℕ} {rs : List Made} {t : Activation} {fs : List Activation} (N : Now m l f n i rs t fs) where
-  pub around : Around m (record { records = rs; top = t; below = fs })
+module _ {m : Macro} {l : List ℕ} {f n i : ℕ} {rs : Shared} {t : Activation} {fs : List Activation} (N : Now m l f n i rs t fs) where
+  pub around : Around m (record { shared = rs; top = t; below = fs })
   around = running-sound m rs t fs (N .sounds) .0
 
-  pub stands : Stands m rs [] t
+  pub stands : Stands m (rs .records) [] t
   stands = running-sound m rs t fs (N .sounds) .1
 
   pub few-operands : length (t .operands) ≤ 32
@@ -47,7 +47,7 @@ module _ {m : Macro} {l : List ℕ} {f n i : ℕ} {rs : List Made} {t : Activati
   pub few-holds : length (t .holds) ≤ 16
   few-holds = limits m (N .passed) (t .body) (t .address) (shape (length (t .holds)) (tysOf (t .operands))) (stands .allowed) .0
 
-  pub few-records : length rs ≤ 256
+  pub few-records : length (rs .records) ≤ 256
   few-records = around .few-records
 
 -- a sound value is that of its word
@@ -99,11 +99,11 @@ supplied none why g h = record { are = tt }
 supplied (some a) why g h = h a refl
 
 -- the top goes on at y
-pub goes-to : {k : List ℕ} {f : ℕ} {rs : List Made} {fs : List Activation} {b a : ℕ} {cs : List Cell} {vs : List Value} {gs : List ℕ} → On k f rs [] (activation b a cs vs gs) fs
+pub goes-to : {k : List ℕ} {f : ℕ} {rs : Shared} {fs : List Activation} {b a : ℕ} {cs : List Cell} {vs : List Value} {gs : List ℕ} → On k f rs [] (activation b a cs vs gs) fs
     → (j : List ℕ) (x y : ℕ) → j ≡ wentTo k f x → x ≡ y → j ≡ encode (running rs (activation b y cs vs gs) fs)
 goes-to p j x y e q = e ∙ rw q (on-go p y .bytes)
 
-pub goes-on : {k : List ℕ} {f : ℕ} {rs : List Made} {fs : List Activation} {us : List Value} {a : ℕ} (t : Activation) (is : List Item) (o : Out)
+pub goes-on : {k : List ℕ} {f : ℕ} {rs : Shared} {fs : List Activation} {us : List Value} {a : ℕ} (t : Activation) (is : List Item) (o : Out)
     → On k f rs [] (activation (t .body) a (t .cells) us (t .holds)) fs → (j : List ℕ) (x : ℕ) → j ≡ wentTo k f x → x ≡ suc (t .address)
     → o ≡ outOf is (running rs (at (suc (t .address)) us t) fs) → Told (goesOn is us (here rs t fs)) j o
 goes-on {rs = rs} {fs = fs} {us = us} t is o p j x e q eo =

@@ -12,7 +12,7 @@ use Rattle.words.specs.Numbers.{byteAt, halfAt, wordAt, wordOf}
 use Rattle.values.specs.Trace.{set, event, reading}
 use Rattle.values.specs.Values.{Value, int, log, bit, ref, valueWord, between, size, Cell}
 use Rattle.bytecode.specs.Macro.{Macro}
-use Rattle.bytecode.specs.Machine.{Activation, Made, noStep, badType, badFrame, groupHeld, isEmpty, allHolds, condition, goesOn, doGoUnless, doSet, doFader, doAssert, doTakeHold, letting, doEnd}
+use Rattle.bytecode.specs.Machine.{Activation, Shared, noStep, badType, badFrame, groupHeld, isEmpty, allHolds, condition, goesOn, doGoUnless, doSet, doFader, doAssert, doTakeHold, letting, doEnd}
 use Rattle.bytecode.specs.Sound.{soundValue}
 use Rattle.bytecode.specs.Runs.{bankOf}
 use Rattle.safety.specs.Lists.{all-first}
@@ -36,11 +36,11 @@ module _ {l : List ℕ} {f n i : ℕ} where
 
   module _ (some-operand : 0 < n) (many : n ≤ 32) (w : ℕ) (ew : w ≡ wordAt l (f + (136 + 4 * (n - 1)))) where
     -- with w the word of v on top of vs
-    word-on : {m : Macro} {rs : List Made} {c0 a0 : ℕ} {cs : List Cell} {v : Value} {vs : List Value} {gs : List ℕ} {fs : List Activation}
+    word-on : {m : Macro} {rs : Shared} {c0 a0 : ℕ} {cs : List Cell} {v : Value} {vs : List Value} {gs : List ℕ} {fs : List Activation}
         → Now m l f n i rs (activation c0 a0 cs (v ∷ vs) gs) fs → w ≡ valueWord v
     word-on {v = v} {vs = vs} N = ew ∙ read-operand (N .on) [] v vs (n - 1) refl (omega (arith, N .depth)) (omega arith) .0
 
-    off : {m : Macro} {rs : List Made} {c0 a0 : ℕ} {cs : List Cell} {v : Value} {vs : List Value} {gs : List ℕ} {fs : List Activation}
+    off : {m : Macro} {rs : Shared} {c0 a0 : ℕ} {cs : List Cell} {v : Value} {vs : List Value} {gs : List ℕ} {fs : List Activation}
         → Now m l f n i rs (activation c0 a0 cs (v ∷ vs) gs) fs → On (popped l f (n - 1)) f rs [] (activation c0 a0 cs vs gs) fs
     off {v = v} N = on-pop v (N .on) (n - 1) (omega (arith, N .depth)) (omega arith)
 
@@ -96,7 +96,7 @@ module _ {l : List ℕ} {f n i : ℕ} where
 
     -- ── fader ──
     fader-by : (readings k : List ℕ) (r : Out)
-        → ((m : Macro) (rs : List Made) (c0 a0 : ℕ) (cs : List Cell) (z : ℤ) (vs : List Value) (gs : List ℕ) (fs : List Activation) → Now m l f n i rs (activation c0 a0 cs (int z ∷ vs) gs) fs
+        → ((m : Macro) (rs : Shared) (c0 a0 : ℕ) (cs : List Cell) (z : ℤ) (vs : List Value) (gs : List ℕ) (fs : List Activation) → Now m l f n i rs (activation c0 a0 cs (int z ∷ vs) gs) fs
         → Told (if between 1 64 z then goesOn (reading (size z) (bankOf readings (size z)) ∷ []) (int (pos (bankOf readings (size z))) ∷ vs) (here rs (activation c0 a0 cs (int z ∷ vs) gs) fs) else condition 25 (here rs (activation c0 a0 cs (int z ∷ vs) gs) fs)) k r)
         → Tells (λ m h. doFader (bankOf readings) h) l f n i k r
     unfolding doFader
@@ -118,7 +118,7 @@ module _ {l : List ℕ} {f n i : ℕ} where
     pub fader-tells : (readings k1 k2 : List ℕ) (v : ℕ) → 1 ≤ w → w ≤ 64 → v ≡ getD readings (w - 1) 0 → k1 ≡ operandSet l f (n - 1) v 1 → k2 ≡ wentTo k1 f (i + 1)
         → Tells (λ m h. doFader (bankOf readings) h) l f n i k2 Goes
     fader-tells readings k1 k2 v h h′ ev e1 e2 = fader-by readings k2 Goes (λ m rs c0 a0 cs z vs gs fs N.
-        let small = integer-small rs z (all-first (soundValue rs) (int z) vs (stands N .operands) .0) in
+        let small = integer-small (rs .records) z (all-first (soundValue (rs .records)) (int z) vs (stands N .operands) .0) in
         let q = in-range 1 64 (omega arith) z w small (word-on N) h h′ in
         let b : v ≡ bankOf readings (size z) = rw (q .1) ev in
         let p = on-operand (int (pos (bankOf readings (size z)))) v 1 b refl [] (int z) vs (N .on) (n - 1) (omega (arith, N .depth)) (omega arith) in
@@ -127,7 +127,7 @@ module _ {l : List ℕ} {f n i : ℕ} where
   -- ── set ──
   module _ (two-operands : 2 ≤ n) (many : n ≤ 32) (x y : ℕ) (ey : y ≡ wordAt l (f + (136 + 4 * (n - 1)))) (ex : x ≡ wordAt l (f + (136 + 4 * (n - 2)))) where
     set-by : (k : List ℕ) (r : Out)
-        → ((m : Macro) (rs : List Made) (c0 a0 : ℕ) (cs : List Cell) (u z : ℤ) (vs : List Value) (gs : List ℕ) (fs : List Activation) → Now m l f n i rs (activation c0 a0 cs (int u ∷ (int z ∷ vs)) gs) fs
+        → ((m : Macro) (rs : Shared) (c0 a0 : ℕ) (cs : List Cell) (u z : ℤ) (vs : List Value) (gs : List ℕ) (fs : List Activation) → Now m l f n i rs (activation c0 a0 cs (int u ∷ (int z ∷ vs)) gs) fs
         → x ≡ wordOf z → y ≡ wordOf u
         → Told (if between 1 512 z && between 0 255 u then goesOn (event (set (size z) (size u)) ∷ []) vs (here rs (activation c0 a0 cs (int u ∷ (int z ∷ vs)) gs) fs) else condition 25 (here rs (activation c0 a0 cs (int u ∷ (int z ∷ vs)) gs) fs)) k r)
         → Tells (λ m h. doSet h) l f n i k r
@@ -161,10 +161,10 @@ module _ {l : List ℕ} {f n i : ℕ} where
     pub set-tells : (k1 k2 k3 : List ℕ) → 1 ≤ x → x ≤ 512 → y ≤ 255 → k1 ≡ popped l f (n - 1) → k2 ≡ popped k1 f (n - 2) → k3 ≡ wentTo k2 f (i + 1)
         → Tells (λ m h. doSet h) l f n i k3 (Gives (Set x y))
     set-tells k1 k2 k3 h1 h2 h3 e1 e2 e3 = set-by k3 (Gives (Set x y)) (λ m rs c0 a0 cs u z vs gs fs N ez eu.
-        let su = all-first (soundValue rs) (int u) (int z ∷ vs) (stands N .operands) in
-        let sz = all-first (soundValue rs) (int z) vs (su .1) in
-        let qz = in-range 1 512 (omega arith) z x (integer-small rs z (sz .0)) ez h1 h2 in
-        let qu = in-range 0 255 (omega arith) u y (integer-small rs u (su .0)) eu (omega arith) h3 in
+        let su = all-first (soundValue (rs .records)) (int u) (int z ∷ vs) (stands N .operands) in
+        let sz = all-first (soundValue (rs .records)) (int z) vs (su .1) in
+        let qz = in-range 1 512 (omega arith) z x (integer-small (rs .records) z (sz .0)) ez h1 h2 in
+        let qu = in-range 0 255 (omega arith) u y (integer-small (rs .records) u (su .0)) eu (omega arith) h3 in
         let p1 = on-pop (int u) (N .on) (n - 1) (omega (arith, N .depth)) (omega arith) in
         let p2 = on-pop (int z) p1 (n - 2) (omega (arith, N .depth)) (omega arith) in
         rw (qz .0, qu .0) (goes-on (activation c0 a0 cs (int u ∷ (int z ∷ vs)) gs) (event (set (size z) (size u)) ∷ []) (Gives (Set x y)) p2 k3 (i + 1) (e3 ∙ rw (e2, e1)) (omega (arith, N .address)) (rw (qz .1, qu .1))))

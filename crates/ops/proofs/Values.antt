@@ -10,15 +10,15 @@ use lib.ListN.{set as replace}
 use borrow.Author.Tests.{ne-eqb}
 use Rattle.words.specs.Options.{keep}
 use Rattle.words.specs.Numbers.{byteAt, wordAt}
-use Rattle.values.specs.Types.{fits}
+use Rattle.values.specs.Types.{Ty, fits}
 use Rattle.values.specs.Operators.{Unary, Binary, Operator, unary, binary, unaryOf, binaryOf}
 use Rattle.values.specs.Arithmetic.{Outcome, gives, ends, mistyped}
 use Rattle.values.specs.Values.{Value, tyOf, valueWord, Cell, assigned, apply1, apply2}
 use Rattle.bytecode.specs.Macro.{Macro}
-use Rattle.bytecode.specs.Instructions.{Owner, own, root, ownerOf, operatorOf, orBinary}
-use Rattle.bytecode.specs.Machine.{Activation, Made, badFrame, badType, condition, goesOn, settled, given, pushCell, cellTy, cellsFor, rootOf, doLoad, doStore, doOperate}
-use Rattle.bytecode.specs.Sound.{soundValue, cellValue}
-use Rattle.bytecode.specs.State.{typeByte}
+use Rattle.bytecode.specs.Instructions.{Owner, own, root, ownerOf, operatorOf, orBinary, cellTy}
+use Rattle.bytecode.specs.Machine.{Activation, Shared, badFrame, badType, condition, goesOn, settled, onCell, pushCell, rootOf, doLoad, doStore, doOperate}
+use Rattle.bytecode.specs.Sound.{soundValue}
+use Rattle.bytecode.specs.State.{typeByte, wordOfCell, byteOfCell}
 use Rattle.safety.specs.Lists.{all-first}
 use Rattle.layout.specs.Elements.{there}
 use Rattle.layout.specs.Steps.{activation}
@@ -37,7 +37,7 @@ unfolding condition
 condition-tells c k e m rs t fs N = record { are = (e ∙ on-condition (N .on) (few-records N) c, refl) }
 
 -- what an outcome that was worked out tells
-module _ (m : Macro) (rs : List Made) (t : Activation) (fs : List Activation) (r : Worked) (k : List ℕ) (o : Out) where
+module _ (m : Macro) (rs : Shared) (t : Activation) (fs : List Activation) (r : Worked) (k : List ℕ) (o : Out) where
   by-outcome : (x : Outcome Value) (vs : List Value) → Says x r
       → ((v : Value) → r ≡ worked.Gives (valueWord v) (typeByte v) → Told (goesOn [] (v ∷ vs) (here rs t fs)) k o)
       → ((c : ℕ) → r ≡ worked.Ends c → Told (condition c (here rs t fs)) k o) → Told (settled x vs (here rs t fs)) k o
@@ -54,57 +54,57 @@ module _ {l : List ℕ} {f n i : ℕ} where
   -- ── cells ──
   module _ (a b g w y : ℕ) (few : b < 32) (top : a ≡ 0 → g ≡ f) (low : a ≡ 1 → g ≡ 32) where
     pub load-tells : (k : List ℕ) (r : Out) → w ≡ wordAt l (g + (8 + 4 * b)) → y ≡ byteAt l (g + (264 + b)) → Pushes w y l f n i k r
-        → (o : Owner) → ownerOf a ≡ some o → Tells (λ m h. doLoad o b h) l f n i k r
+        → (o : Owner) → ownerOf a ≡ some o → Tells (λ m h. doLoad m o b h) l f n i k r
     unfolding doLoad
     load-tells k r ew ey P o eo m rs t fs N = go o (owner-is a o eo)
       where
-        cell : (c : Cell) → w ≡ valueWord (cellValue c) → y ≡ typeByte (cellValue c) → Told (pushCell c (t .operands) (here rs t fs)) k r
-        cell (assigned v) p q = P v p q m rs t fs N
+        cell : (u : Ty) (c : Cell) → w ≡ wordOfCell c → y ≡ byteOfCell c → Told (pushCell u c (here rs t fs)) k r
+        cell u (assigned v) p q = demanded (fits (tyOf v) u) badType _ (λ h. P v p q m rs t fs N)
 
-        go : (o : Owner) → ((a ≡ 0) × (o ≡ own)) ⊎ ((a ≡ 1) × (o ≡ root)) → Told (given (getElem? (cellsFor o (here rs t fs)) b) badFrame (λ c. pushCell c (t .operands) (here rs t fs))) k r
-        go own (inl q) = supplied _ badFrame _ (λ c e.
+        go : (o : Owner) → ((a ≡ 0) × (o ≡ own)) ⊎ ((a ≡ 1) × (o ≡ root)) → Told (onCell m o b (here rs t fs) (λ u c. pushCell u c (here rs t fs))) k r
+        go own (inl q) = supplied (cellTy m (t .body) own b) badFrame _ (λ u eu. supplied (getElem? (t .cells) b) badFrame _ (λ c e.
             let rd = read-cell (N .on) b c e few in
-            cell c (ew ∙ rw (top (q .0)) (rd .0)) (ey ∙ rw (top (q .0)) (rd .1)))
+            cell u c (ew ∙ rw (top (q .0)) (rd .0)) (ey ∙ rw (top (q .0)) (rd .1))))
         go own (inr q) = let z : _≡_ {A = ℕ} 0 1 = cc in absurd (omega arith)
         go root (inl q) = let z : _≡_ {A = ℕ} 0 1 = cc in absurd (omega arith)
-        go root (inr q) = supplied _ badFrame _ (λ c e.
+        go root (inr q) = supplied (cellTy m (t .body) root b) badFrame _ (λ u eu. supplied (getElem? (rootOf t fs .cells) b) badFrame _ (λ c e.
             let rd = read-root (N .on) b c e few in
-            cell c (ew ∙ rw (low (q .0)) (rd .0)) (ey ∙ rw (low (q .0)) (rd .1)))
+            cell u c (ew ∙ rw (low (q .0)) (rd .0)) (ey ∙ rw (low (q .0)) (rd .1))))
 
     pub store-tells : (k1 k2 k3 : List ℕ) → 0 < n → n ≤ 32 → w ≡ wordAt l (f + (136 + 4 * (n - 1))) → y ≡ byteAt l (f + (296 + (n - 1)))
         → k1 ≡ cellSet l g b w y → k2 ≡ popped k1 f (n - 1) → k3 ≡ wentTo k2 f (i + 1)
-        → (o : Owner) → ownerOf a ≡ some o → Tells (λ m h. doStore o b h) l f n i k3 Goes
+        → (o : Owner) → ownerOf a ≡ some o → Tells (λ m h. doStore m o b h) l f n i k3 Goes
     unfolding doStore rootOf
     store-tells k1 k2 k3 some-operand many ew ey e1 e2 e3 o eo m rs t fs N = go (t .body) (t .address) (t .cells) (t .operands) (t .holds) fs o (owner-is a o eo) N
       where
         go : (c0 a0 : ℕ) (cs : List Cell) (vs : List Value) (gs : List ℕ) (fs : List Activation) (o : Owner) → ((a ≡ 0) × (o ≡ own)) ⊎ ((a ≡ 1) × (o ≡ root))
-            → Now m l f n i rs (activation c0 a0 cs vs gs) fs → Told (doStore o b (here rs (activation c0 a0 cs vs gs) fs)) k3 Goes
+            → Now m l f n i rs (activation c0 a0 cs vs gs) fs → Told (doStore m o b (here rs (activation c0 a0 cs vs gs) fs)) k3 Goes
         go c0 a0 cs [] gs fs o q N = record { are = tt }
         go c0 a0 cs (v ∷ vs) gs fs own (inr q) N = let z : _≡_ {A = ℕ} 0 1 = cc in absurd (omega arith)
         go c0 a0 cs (v ∷ vs) gs fs root (inl q) N = let z : _≡_ {A = ℕ} 0 1 = cc in absurd (omega arith)
-        go c0 a0 cs (v ∷ vs) gs fs own (inl q) N = supplied (getElem? cs b) badFrame _ (λ c e. demanded (fits (tyOf v) (cellTy c)) badType _ (λ h.
+        go c0 a0 cs (v ∷ vs) gs fs own (inl q) N = supplied (cellTy m c0 own b) badFrame _ (λ z ez. supplied (getElem? cs b) badFrame _ (λ c e. demanded (fits (tyOf v) z) badType _ (λ h.
             let d : n - 1 ≡ length vs = omega (arith, N .depth) in
             let rd = read-operand (N .on) [] v vs (n - 1) refl d (omega arith) in
             let p1 = on-cell v w y (ew ∙ rd .0) (ey ∙ rd .1) (N .on) b (there cs b c e) few in
             let p2 = on-pop v p1 (n - 1) d (omega arith) in
-            goes-on (activation c0 a0 (replace cs b (assigned v)) (v ∷ vs) gs) [] Goes p2 k3 (i + 1) (e3 ∙ rw (e2, e1, top (q .0))) (omega (arith, N .address)) refl))
-        go c0 a0 cs (v ∷ vs) gs [] root (inr q) N = supplied (getElem? cs b) badFrame _ (λ c e. demanded (fits (tyOf v) (cellTy c)) badType _ (λ h.
+            goes-on (activation c0 a0 (replace cs b (assigned v)) (v ∷ vs) gs) [] Goes p2 k3 (i + 1) (e3 ∙ rw (e2, e1, top (q .0))) (omega (arith, N .address)) refl)))
+        go c0 a0 cs (v ∷ vs) gs [] root (inr q) N = supplied (cellTy m c0 root b) badFrame _ (λ z ez. supplied (getElem? cs b) badFrame _ (λ c e. demanded (fits (tyOf v) z) badType _ (λ h.
             let d : n - 1 ≡ length vs = omega (arith, N .depth) in
             let rd = read-operand (N .on) [] v vs (n - 1) refl d (omega arith) in
             let p1 = on-root (N .on) v w y (ew ∙ rd .0) (ey ∙ rd .1) b (there cs b c e) few in
             let p2 = on-pop v p1 (n - 1) d (omega arith) in
-            goes-on (activation c0 a0 (replace cs b (assigned v)) (v ∷ vs) gs) [] Goes p2 k3 (i + 1) (e3 ∙ rw (e2, e1, low (q .0))) (omega (arith, N .address)) refl))
-        go c0 a0 cs (v ∷ vs) gs (u ∷ us) root (inr q) N = supplied (getElem? (rootOf u us .cells) b) badFrame _ (λ c e. demanded (fits (tyOf v) (cellTy c)) badType _ (λ h.
+            goes-on (activation c0 a0 (replace cs b (assigned v)) (v ∷ vs) gs) [] Goes p2 k3 (i + 1) (e3 ∙ rw (e2, e1, low (q .0))) (omega (arith, N .address)) refl)))
+        go c0 a0 cs (v ∷ vs) gs (u ∷ us) root (inr q) N = supplied (cellTy m c0 root b) badFrame _ (λ z ez. supplied (getElem? (rootOf u us .cells) b) badFrame _ (λ c e. demanded (fits (tyOf v) z) badType _ (λ h.
             let d : n - 1 ≡ length vs = omega (arith, N .depth) in
             let rd = read-operand (N .on) [] v vs (n - 1) refl d (omega arith) in
             let p1 = on-root (N .on) v w y (ew ∙ rd .0) (ey ∙ rd .1) b (there (rootOf u us .cells) b c e) few in
             let p2 = on-pop v p1 (n - 1) d (omega arith) in
-            goes-on (activation c0 a0 cs (v ∷ vs) gs) [] Goes p2 k3 (i + 1) (e3 ∙ rw (e2, e1, low (q .0))) (omega (arith, N .address)) refl))
+            goes-on (activation c0 a0 cs (v ∷ vs) gs) [] Goes p2 k3 (i + 1) (e3 ∙ rw (e2, e1, low (q .0))) (omega (arith, N .address)) refl)))
 
   -- ── operators ──
   module _ (a x y : ℕ) (r : Worked) (some-operand : 0 < n) (many : n ≤ 32) (ex : x ≡ wordAt l (f + (136 + 4 * (n - 1)))) (ey : y ≡ byteAt l (f + (296 + (n - 1)))) (W : Works1 a y x r) where
     unary-by : (k : List ℕ) (z : Out)
-        → ((m : Macro) (rs : List Made) (c0 a0 : ℕ) (cs : List Cell) (v : Value) (vs : List Value) (gs : List ℕ) (fs : List Activation) → Now m l f n i rs (activation c0 a0 cs (v ∷ vs) gs) fs
+        → ((m : Macro) (rs : Shared) (c0 a0 : ℕ) (cs : List Cell) (v : Value) (vs : List Value) (gs : List ℕ) (fs : List Activation) → Now m l f n i rs (activation c0 a0 cs (v ∷ vs) gs) fs
         → (u : Value) → r ≡ worked.Gives (valueWord u) (typeByte u) → Told (goesOn [] (u ∷ vs) (here rs (activation c0 a0 cs (v ∷ vs) gs) fs)) k z)
         → ((c : ℕ) → r ≡ worked.Ends c → Tells (λ m h. condition c h) l f n i k z)
         → (o : Unary) → unaryOf a ≡ some o → Tells (λ m h. doOperate (unary o) h) l f n i k z
@@ -116,7 +116,7 @@ module _ {l : List ℕ} {f n i : ℕ} where
         go c0 a0 cs (v ∷ vs) gs N =
             let d : n - 1 ≡ length vs = omega (arith, N .depth) in
             let rd = read-operand (N .on) [] v vs (n - 1) refl d (omega arith) in
-            let vb = value-back rs v (all-first (soundValue rs) v vs (stands N .operands) .0) in
+            let vb = value-back (rs .records) v (all-first (soundValue (rs .records)) v vs (stands N .operands) .0) in
             let s : Says (apply1 o v) r = rw (← vb, ← rd .0, ← ex) (W o (tyOf v) eo (ey ∙ rd .1) (rw (ex ∙ rd .0) (word-valid v))) in
             by-outcome m rs (activation c0 a0 cs (v ∷ vs) gs) fs r k z (apply1 o v) vs s (λ u eu. G m rs c0 a0 cs v vs gs fs N u eu) (λ c ec. E c ec m rs _ fs N)
 
@@ -139,7 +139,7 @@ module _ {l : List ℕ} {f n i : ℕ} where
   module _ (a x t y : ℕ) (r : Worked) (two-operands : 2 ≤ n) (many : n ≤ 32) (ey : y ≡ wordAt l (f + (136 + 4 * (n - 1)))) (ex : x ≡ wordAt l (f + (136 + 4 * (n - 2))))
       (et : t ≡ byteAt l (f + (296 + (n - 2)))) (W : Works2 a t x y r) where
     binary-by : (k : List ℕ) (z : Out)
-        → ((m : Macro) (rs : List Made) (c0 a0 : ℕ) (cs : List Cell) (w v : Value) (vs : List Value) (gs : List ℕ) (fs : List Activation) → Now m l f n i rs (activation c0 a0 cs (w ∷ (v ∷ vs)) gs) fs
+        → ((m : Macro) (rs : Shared) (c0 a0 : ℕ) (cs : List Cell) (w v : Value) (vs : List Value) (gs : List ℕ) (fs : List Activation) → Now m l f n i rs (activation c0 a0 cs (w ∷ (v ∷ vs)) gs) fs
         → (u : Value) → r ≡ worked.Gives (valueWord u) (typeByte u) → Told (goesOn [] (u ∷ vs) (here rs (activation c0 a0 cs (w ∷ (v ∷ vs)) gs) fs)) k z)
         → ((c : ℕ) → r ≡ worked.Ends c → Tells (λ m h. condition c h) l f n i k z)
         → (o : Binary) → binaryOf a ≡ some o → Tells (λ m h. doOperate (binary o) h) l f n i k z
@@ -154,9 +154,9 @@ module _ {l : List ℕ} {f n i : ℕ} where
             let d2 : n - 2 ≡ length vs = omega (arith, N .depth) in
             let rw′ = read-operand (N .on) [] w (v ∷ vs) (n - 1) refl d (omega arith) in
             let rv = read-operand (N .on) (w ∷ []) v vs (n - 2) refl d2 (omega arith) in
-            let sw = all-first (soundValue rs) w (v ∷ vs) (stands N .operands) in
-            let wb = value-back rs w (sw .0) in
-            let vb = value-back rs v (all-first (soundValue rs) v vs (sw .1) .0) in
+            let sw = all-first (soundValue (rs .records)) w (v ∷ vs) (stands N .operands) in
+            let wb = value-back (rs .records) w (sw .0) in
+            let vb = value-back (rs .records) v (all-first (soundValue (rs .records)) v vs (sw .1) .0) in
             let s0 = W o (tyOf v) (tyOf w) eo (et ∙ rv .1) (rw (ex ∙ rv .0) (word-valid v)) (rw (ey ∙ rw′ .0) (word-valid w)) in
             let s : Says (apply2 o v w) r = rw (ex ∙ rv .0, vb, ey ∙ rw′ .0, wb) at s0 in
             by-outcome m rs (activation c0 a0 cs (w ∷ (v ∷ vs)) gs) fs r k z (apply2 o v w) vs s (λ u eu. G m rs c0 a0 cs w v vs gs fs N u eu) (λ c ec. E c ec m rs _ fs N)

@@ -9,7 +9,7 @@ use Rattle.values.specs.Trace.{Item, event, reading}
 use Rattle.values.specs.Trace as trace
 use Rattle.values.specs.Values.{Value, valueWord}
 use Rattle.bytecode.specs.Macro.{Macro}
-use Rattle.bytecode.specs.Machine.{Activation, Made, Machine, running, unwinding, ended, Stepped, moved, stuck, Here, goesOn, goes}
+use Rattle.bytecode.specs.Machine.{Activation, Shared, Machine, running, unwinding, ended, Stepped, moved, stuck, Here, goesOn, goes}
 use Rattle.bytecode.specs.Sound.{sound}
 use Rattle.bytecode.specs.State.{typeByte, encode}
 use Rattle.loading.specs.Terms.{Passed}
@@ -44,11 +44,11 @@ pub record Told (s : Stepped) (l : List ℕ) (o : Out) : Type 0 where
   pub are : Are s l o
 
 -- ── an op's function ──
-abbrev pub here : List Made → Activation → List Activation → Here
-here rs t fs = record { records = rs; top = t; below = fs }
+abbrev pub here : Shared → Activation → List Activation → Here
+here rs t fs = record { shared = rs; top = t; below = fs }
 
 -- the bytes hold a sound running state, with the top at f, n operands and the address i
-pub record Now (m : Macro) (l : List ℕ) (f n i : ℕ) (rs : List Made) (t : Activation) (fs : List Activation) : Type 0 where
+pub record Now (m : Macro) (l : List ℕ) (f n i : ℕ) (rs : Shared) (t : Activation) (fs : List Activation) : Type 0 where
   pub passed : Passed m
   pub sounds : sound m (running rs t fs) ≡ true
   pub on : On l f rs [] t fs
@@ -66,7 +66,7 @@ pub record Room (l : List ℕ) (f n i : ℕ) : Type 0 where
 
 -- from bytes l to bytes k with the answer o, as the plain machine does by `does`
 abbrev pub Tells : (Macro → Here → Stepped) → List ℕ → ℕ → ℕ → ℕ → List ℕ → Out → Type 0
-Tells does l f n i k o = (m : Macro) (rs : List Made) (t : Activation) (fs : List Activation) → Now m l f n i rs t fs → Told (does m (here rs t fs)) k o
+Tells does l f n i k o = (m : Macro) (rs : Shared) (t : Activation) (fs : List Activation) → Now m l f n i rs t fs → Told (does m (here rs t fs)) k o
 
 -- a value as a word and a type byte, pushed
 abbrev pub Pushes : ℕ → ℕ → List ℕ → ℕ → ℕ → ℕ → List ℕ → Out → Type 0

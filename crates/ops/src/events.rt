@@ -8,6 +8,11 @@ ghost use Rattle.ops.specs.Acts.{Room, Tells};
 use crate::Event;
 use crate::Out;
 use crate::operands::op_condition;
+use formats::compiled::*;
+use formats::limits::*;
+
+// As a word's number.
+const LAST_FADER: u32 = FADERS as u32;
 
 // An integer out of range as a word is too large, a negative one too.
 pub fn op_set(s: &mut [u8], f: usize, n: usize, i: u16) -> Out
@@ -19,13 +24,13 @@ pub fn op_set(s: &mut [u8], f: usize, n: usize, i: u16) -> Out
     let y = frames::operand_word(s, f, k);
     let x = frames::operand_word(s, f, j);
     if x < 1 {
-        return op_condition(s, f, n, i, 25);
+        return op_condition(s, f, n, i, values::OUT_OF_RANGE);
     }
-    if 512 < x {
-        return op_condition(s, f, n, i, 25);
+    if CHANNELS < x {
+        return op_condition(s, f, n, i, values::OUT_OF_RANGE);
     }
-    if 255 < y {
-        return op_condition(s, f, n, i, 25);
+    if MAX_LEVEL < y {
+        return op_condition(s, f, n, i, values::OUT_OF_RANGE);
     }
     frames::pop(s, f, k);
     frames::pop(s, f, j);
@@ -41,13 +46,13 @@ pub fn op_fader(s: &mut [u8], f: usize, n: usize, i: u16, readings: &[u8]) -> Ou
     let k = n - 1;
     let x = frames::operand_word(s, f, k);
     if x < 1 {
-        return op_condition(s, f, n, i, 25);
+        return op_condition(s, f, n, i, values::OUT_OF_RANGE);
     }
-    if 64 < x {
-        return op_condition(s, f, n, i, 25);
+    if LAST_FADER < x {
+        return op_condition(s, f, n, i, values::OUT_OF_RANGE);
     }
     let v = readings[(x as usize) - 1];
-    frames::put_operand(s, f, k, v as u32, 1);
+    frames::put_operand(s, f, k, v as u32, TYPE_INTEGER);
     frames::go_to(s, f, i + 1);
     Out::Goes
 }
@@ -59,7 +64,7 @@ pub fn op_assert(s: &mut [u8], f: usize, n: usize, i: u16) -> Out
     let k = n - 1;
     let w = frames::operand_word(s, f, k);
     if w == 0 {
-        return op_condition(s, f, n, i, 23);
+        return op_condition(s, f, n, i, values::ASSERT_FALSE);
     }
     frames::pop(s, f, k);
     frames::go_to(s, f, i + 1);

@@ -6,6 +6,7 @@ ghost use Rattle.ops.specs.Acts.{Room, Tells, Holding};
 use crate::Event;
 use crate::Out;
 use crate::operands::op_condition;
+use formats::state::*;
 
 pub fn op_hold(s: &mut [u8], f: usize, n: usize, i: u16, g: u8) -> Out
     requires { ⌜ (Room (now s) f n i) × (Holding (now s) f) ⌝ }
@@ -21,8 +22,8 @@ pub fn op_release(s: &mut [u8], f: usize, n: usize, i: u16) -> Out
     requires { ⌜ (Room (now s) f n i) × (0 < halfAt (now s) 6) × (halfAt (now s) 6 ≤ 512) × (0 < byteAt (now s) (f + 2)) ⌝ }
     ensures { λ r. ⌜ Tells (λ m h. letting (h .top .holds) h) (now (s .entry)) f n i (now (s .exit)) r ⌝ }
 {
-    let h = words::half_at(s, 6);
-    let g = s[10528 + ((h as usize) - 1)];
+    let h = words::half_at(s, HOLD_COUNT_AT);
+    let g = s[HOLDS_AT + ((h as usize) - 1)];
     frames::let_hold(s, f);
     frames::go_to(s, f, i + 1);
     Out::Gives(Event::Release(g))
@@ -32,7 +33,7 @@ pub fn op_stop(s: &mut [u8], f: usize, n: usize, i: u16) -> Out
     requires { ⌜ Room (now s) f n i ⌝ }
     ensures { λ r. ⌜ Tells (λ m h. condition 24 h) (now (s .entry)) f n i (now (s .exit)) r ⌝ }
 {
-    op_condition(s, f, n, i, 24)
+    op_condition(s, f, n, i, values::CASE_INDEX)
 }
 
 pub fn op_end(s: &mut [u8], f: usize, n: usize, i: u16) -> Out

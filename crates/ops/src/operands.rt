@@ -7,6 +7,7 @@ ghost use Rattle.values.specs.Operators.{Operator, Unary, Binary, unary, binary
 ghost use Rattle.bytecode.specs.Machine.{doLoad, doStore, doOperate, condition};
 ghost use Rattle.ops.specs.Acts.{Room, Tells, Pushes};
 use crate::Out;
+use formats::state::*;
 use operate::Worked;
 
 // Every condition goes on by releasing.
@@ -35,12 +36,12 @@ fn owner(f: usize, a: u8) -> usize
     if a == 0 {
         return f;
     }
-    32
+    ACTIVATIONS_AT
 }
 
 pub fn op_load(s: &mut [u8], f: usize, n: usize, i: u16, a: u8, b: usize) -> Out
     requires { ⌜ (Room (now s) f n i) × (n < 32) × (b < 32) ⌝ }
-    ensures { λ r. ⌜ ((o : Owner) → ownerOf a ≡ some o → Tells (λ m h. doLoad o b h) (now (s .entry)) f n i (now (s .exit)) r) ⌝ }
+    ensures { λ r. ⌜ ((o : Owner) → ownerOf a ≡ some o → Tells (λ m h. doLoad m o b h) (now (s .entry)) f n i (now (s .exit)) r) ⌝ }
 {
     let g = owner(f, a);
     let w = frames::cell_word(s, g, b);
@@ -50,7 +51,7 @@ pub fn op_load(s: &mut [u8], f: usize, n: usize, i: u16, a: u8, b: usize) -> Out
 
 pub fn op_store(s: &mut [u8], f: usize, n: usize, i: u16, a: u8, b: usize) -> Out
     requires { ⌜ (Room (now s) f n i) × (0 < n) × (b < 32) ⌝ }
-    ensures { λ r. ⌜ ((o : Owner) → ownerOf a ≡ some o → Tells (λ m h. doStore o b h) (now (s .entry)) f n i (now (s .exit)) r) ⌝ }
+    ensures { λ r. ⌜ ((o : Owner) → ownerOf a ≡ some o → Tells (λ m h. doStore m o b h) (now (s .entry)) f n i (now (s .exit)) r) ⌝ }
 {
     let k = n - 1;
     let w = frames::operand_word(s, f, k);

@@ -6,8 +6,14 @@ pub mod ReadBack
 pub mod WriteBack
 pub mod Roots
 pub mod Bytes
+pub mod Outline
+pub mod Outlined
+pub mod Sizes
 pub mod Claims
+pub mod Stops
+pub mod StopForms
+pub mod StopRoots
 pub mod Verdicts
-pub mod Spans
+pub mod Walks
 pub mod Order
 pub mod Programs

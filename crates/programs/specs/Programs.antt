@@ -3,22 +3,25 @@ use mathlib.Core.Path.{_≡_}
 use mathlib.Core.Bool.{true}
 use mathlib.Core.List.{List, _∷_, _++_}
 use mathlib.Core.Logic.{_↔_}
-use Prim.Native.Nat.{ℕ, _*_, _/_, _%_, _≤_}
+use Prim.Native.Nat.{ℕ, _*_, _/_, _%_, _≤_, _<_}
 use native.Mathlib.Omega.{arith}
 use lib.ListN.{length}
 use Rattle.words.specs.Lists.{all}
 use Rattle.words.specs.Laws.{Bytes}
 use Rattle.values.specs.Ends.{Refusal, accepted, refused}
 use Rattle.language.specs.Tree.{Tree}
-use Rattle.language.specs.Table.{Entry, flatten, bytesOf, took, first, formRoot}
+use Rattle.language.specs.Table.{Entry, flatten, bytesOf, nesting, took, first, formRoot}
 use Rattle.language.specs.Faults.{faults}
 use Rattle.language.specs.Judge.{judgeTable, inFields, Program}
 use Rattle.programs.specs.Bytes.{bytes-back, fields-kept, entries-all, length-bytes}
-use Rattle.programs.specs.Claims.{Readable, entriesOf, Verdict}
-use Rattle.programs.specs.Order.{spans-faults}
+use Rattle.programs.specs.Claims.{Readable, entriesOf, FirstUnread, Walk, Stands, Earlier, Ordered, Verdict}
+use Rattle.programs.specs.Order.{walk-faults}
+use Rattle.programs.specs.Outline.{depths, deepest, postorder, outline}
 use Rattle.programs.specs.Roots.{takes-root, yields-root}
-use Rattle.programs.specs.Spans.{spans-order}
+use Rattle.programs.specs.Sizes
+use Rattle.programs.specs.StopRoots
 use Rattle.programs.specs.Verdicts
+use Rattle.programs.specs.Walks.{walk-order, ordered-same, within-postorder, within-once, postorder-all}
 
 -- ── trees and entries ──
 -- the entries of a tree are read as the tree, whatever comes after them
@@ -32,6 +35,10 @@ flatten-read es rest t h = let a = yields-root .yields es rest t h in (rw (← a
 -- two trees have two lists of entries
 pub flatten-injective : (t u : Tree) → Readable t → Readable u → flatten t ≡ flatten u → t ≡ u
 flatten-injective t u h k e = cc (Verdicts.read-whole t h, Verdicts.read-whole u k)
+
+-- the nesting of a tree is the depth of its deepest entry
+pub nesting-deepest : (t : Tree) → nesting t ≡ deepest (depths 1 (outline t))
+nesting-deepest t = Sizes.nesting-deepest t
 
 -- ── entries and bytes ──
 pub bytes-entries : (l : List ℕ) → Bytes l → length l % 8 ≡ 0 → (bytesOf (entriesOf l) ≡ l) × (all inFields (entriesOf l) ≡ true)
@@ -48,10 +55,30 @@ verdict l = Verdicts.verdict l
 pub refusal-says : (l : List ℕ) (r : Refusal) → judgeTable l ≡ refused r → Verdict l (refused r)
 refusal-says l r e = rw e at (verdict l)
 
+-- there is only one first entry that does not read
+pub one-unread : (es : List Entry) (p q : ℕ) → FirstUnread es p → FirstUnread es q → p ≡ q
+one-unread es p q f g = StopRoots.one-unread f g
+
+-- ── the order of the faults ──
+-- "Table entries are judged inner before outer, left to right": all faults are met on one walk over the entries in postorder
+pub faults-postorder : (t : Tree) → Walk 3 (postorder 0 (outline t)) (faults t)
+faults-postorder t = walk-faults t
+
+-- which comes to every entry, and to none twice
+pub postorder-every : (t : Tree) → Readable t → (p : ℕ) → p < length (flatten t) → Stands p (postorder 0 (outline t))
+postorder-every t r p h = postorder-all (outline t) 0 p (omega arith) (omega (arith, StopRoots.size-flatten t r))
+
+pub postorder-once : (t : Tree) (p : ℕ) → Earlier p p (postorder 0 (outline t)) → ⊥
+postorder-once t p h = within-once (within-postorder (outline t) 0) p h
+
+-- so of two faults the first stands at an entry earlier in postorder, or at the same entry with no larger number
+pub faults-ordered : (t : Tree) (xs ys zs : List Refusal) (a b : Refusal) → faults t ≡ xs ++ (a ∷ (ys ++ (b ∷ zs))) → Ordered a b (postorder 0 (outline t))
+faults-ordered t xs ys zs a b e = walk-order (walk-faults t) xs ys zs a b e
+
 -- at one entry no larger number stands before a smaller one: 3, 4, 5 in that order
 pub faults-order : (t : Tree) (xs ys zs : List Refusal) (a b : Refusal) → faults t ≡ xs ++ (a ∷ (ys ++ (b ∷ zs))) → a .place ≡ b .place
     → a .number ≤ b .number
-faults-order t xs ys zs a b e = spans-order xs ys zs a b (rw e at (spans-faults t))
+faults-order t xs ys zs a b e p = ordered-same (faults-ordered t xs ys zs a b e) p (postorder-once t (a .place))
 
 -- ── programs: the check accepts a table exactly if it is one, and answers its tree ──
 pub accepted-program : (l : List ℕ) → Bytes l → (t : Tree) → judgeTable l ≡ accepted t → (p : Program l) × (p .tree ≡ t)

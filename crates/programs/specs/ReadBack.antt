@@ -64,7 +64,7 @@ takes-leaves {d = d} flat h (x ∷ xs) g =
     let k : Fits d (map flat (x ∷ xs)) (max 1 (leaves xs)) = record { layout = g .layout; depth = omega (arith, leaves-one xs) } in
     takes-more (length xs) k (h x) (takes-leaves flat h xs)
 
-deep-head : (ds : List Decl) → deepHead ds ≡ leaves ds
+pub deep-head : (ds : List Decl) → deepHead ds ≡ leaves ds
 deep-head [] = refl
 deep-head (x ∷ ds) = refl
 

@@ -3,13 +3,14 @@ use mathlib.Core.Path.{_≡_, refl, ap}
 use mathlib.Core.List.{List, [], _∷_, map}
 use Prim.Native.Nat.{ℕ, zero, suc, _+_, _*_, _/_, _%_, _≤_}
 use native.Mathlib.Omega.{arith}
-use lib.Dec.{leb, ltb}
+use lib.Dec.{eqb, leb, ltb}
 use lib.IntN.{natAbs}
 use lib.ListN.{length}
 use borrow.Author.Tests.{leb-true, ltb-true, lt-ltb}
+use Rattle.words.specs.Choice.{if_then_else_}
 use Rattle.values.specs.Types.{integer, logical, bits, reference}
 use Rattle.language.specs.Tree.{Typed, declare, holding, Body, proper, function, Global, local, class, procedure, Tree}
-use Rattle.language.specs.Table.{Entry, inLayout, natural, isHeading, flatTyped, flatDecl, resultCode, flatBody, flatGlobal, flatHead, flatten, deepList, deepBody, deepGlobal, deepGlobals, nesting, took, after, times, first, Below, bodyBelow, formGlobal, classCount, procedureCount, readHead, treeOf, formRoot}
+use Rattle.language.specs.Table.{Entry, inLayout, natural, isHeading, flatTyped, flatDecl, resultCode, flatBody, flatGlobal, flatHead, flatten, deepList, deepBody, deepGlobal, deepGlobals, nesting, took, stop, Reader, after, two, times, first, Below, itemsBelow, below, bodyBelow, formGlobal, classCount, procedureCount, readHead, treeOf, formRoot}
 use Rattle.language.specs.Judge.{total}
 use Rattle.programs.specs.Basics.{both-left, both-right}
 use Rattle.programs.specs.Claims.{Readable}
@@ -19,7 +20,7 @@ use Rattle.programs.specs.Yields.{Yields, yields-here, yields-stop, yiel
 use Rattle.programs.specs.ReadBack.{Reads, reads, leaves, takes-leaves, takes-items, decl-form}
 use Rattle.programs.specs.WriteBack.{Kept, kept-none, kept-cons, kept-join, kept-leaf, counted-is, kind-if, Gives, gives, decl-yields, yields-items}
 
-deep-list : (xs : List Typed) → deepList xs ≡ leaves xs
+pub deep-list : (xs : List Typed) → deepList xs ≡ leaves xs
 deep-list [] = refl
 deep-list (x ∷ xs) = refl
 
@@ -67,11 +68,20 @@ module _ {r : Below} {d : ℕ} (G : Reads r d) where
       (takes-global c p g (omega arith) (omega arith))
       (λ k. takes-made (λ xs. g ∷ xs) (takes-globals (c + classCount g) (p + procedureCount g) gs (omega arith) (omega arith) k))
 
+-- the root's form, where so much nesting is left below its declarations
+unfoldable pub formRootAt : ℕ → Entry → Reader Tree
+formRootAt n e es = if eqb (e .kind) 1 then two treeOf (readHead (below n) (e .a) 0 0) (itemsBelow (below (suc n)) e) es else stop (e ∷ es)
+
+pub takes-root-at : (n : ℕ) (t : Tree) → Fits (suc (suc n)) (flatten t) (nesting t) → total classCount (t .head) ≤ 16 → total procedureCount (t .head) ≤ 63
+    → Takes (first (formRootAt n)) (flatten t) t
+unfolding formRootAt flatten nesting
+takes-root-at n t h c p =
+    takes-first (formRootAt n) h
+    (λ k. takes-two treeOf k (takes-globals (reads n) 0 0 (t .head) (omega arith) (omega arith)) (takes-items (reads (suc n)) (t .items)))
+
 pub takes-root : (t : Tree) → Readable t → Takes (first formRoot) (flatten t) t
-unfolding formRoot flatten nesting
-takes-root t h =
-    takes-first formRoot (record { layout = h .layout; depth = h .depth })
-    (λ k. takes-two treeOf k (takes-globals (reads 62) 0 0 (t .head) (omega arith) (omega arith)) (takes-items (reads 63) (t .items)))
+unfolding formRoot formRootAt
+takes-root t h = takes-root-at 62 t (record { layout = h .layout; depth = h .depth }) (h .classes) (h .procedures)
 
 -- ── what is written ──
 module _ {r : Below} {d : ℕ} (G : Gives r d) where
@@ -112,15 +122,33 @@ module _ {r : Below} {d : ℕ} (G : Gives r d) where
       (λ us g a. yields-made (λ gs. g ∷ gs) (yields-globals n (c + classCount g) (p + procedureCount g) (a .1) (a .2))
       (λ vs gs b. (kept-join (a .0) (b .0), ap suc (b .1), omega (arith, b .2), omega (arith, b .3))))
 
-root-readable : {us : List Entry} (t : Tree) → Kept 64 us (flatten t) (nesting t) → total classCount (t .head) ≤ 16
-    → total procedureCount (t .head) ≤ 63 → (us ≡ flatten t) × Readable t
-root-readable t k c p =
-    (k .written, record { layout = rw (k .written) at (k .fits .layout); depth = k .fits .depth; classes = c; procedures = p })
+-- a tree, its entries, and how it keeps to the layout, the nesting and the counts
+pub record Written (d : ℕ) (us : List Entry) (t : Tree) : Type 0 where
+  pub same : us ≡ flatten t
+  pub fits : Fits d (flatten t) (nesting t)
+  pub classes : total classCount (t .head) ≤ 16
+  pub procedures : total procedureCount (t .head) ≤ 63
+
+root-written : {d : ℕ} {us : List Entry} (t : Tree) → Kept d us (flatten t) (nesting t) → total classCount (t .head) ≤ 16
+    → total procedureCount (t .head) ≤ 63 → Written d us t
+root-written t k c p =
+    record { same = k .written; fits = record { layout = rw (k .written) at (k .fits .layout); depth = k .fits .depth }; classes = c; procedures = p }
+
+pub yields-root-at : (n : ℕ) → Yields (first (formRootAt n)) (Written (suc (suc n)))
+unfolding formRootAt flatten nesting inLayout
+yields-root-at n =
+    yields-first (formRootAt n) λ e l.
+    kind-if e 1 l (λ q m. yields-two treeOf (yields-globals (gives n) (e .a) 0 0 (omega arith) (omega arith)) (yields-items (gives (suc n)) (natAbs (e .b)))
+    (λ us vs gs is a b. root-written (treeOf gs is) (kept-cons l (counted-is e q m (a .1) (b .1)) (kept-join (a .0) (b .0))) (omega (arith, a .2)) (omega (arith, a .3))))
+    yields-stop
 
 pub yields-root : Yields (first formRoot) (λ us t. (us ≡ flatten t) × Readable t)
-unfolding formRoot flatten nesting inLayout
+unfolding formRoot formRootAt
 yields-root =
-    yields-first formRoot λ e l.
-    kind-if e 1 l (λ q m. yields-two treeOf (yields-globals (gives 62) (e .a) 0 0 (omega arith) (omega arith)) (yields-items (gives 63) (natAbs (e .b)))
-    (λ us vs gs is a b. root-readable (treeOf gs is) (kept-cons l (counted-is e q m (a .1) (b .1)) (kept-join (a .0) (b .0))) (omega (arith, a .2)) (omega (arith, a .3))))
-    yields-stop
+    record {
+      yields = λ es rest t e.
+          let a = yields-root-at 62 .yields es rest t e in
+          let w = a .holds in
+          let k : Readable t = record { layout = w .fits .layout; depth = w .fits .depth; classes = w .classes; procedures = w .procedures } in
+          record { used = a .used; split = a .split; holds = (w .same, k) };
+    }

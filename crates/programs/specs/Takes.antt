@@ -58,13 +58,17 @@ pub takes-made : {A D : Type 0} {r : Reader A} {us : List Entry} {x : A} (f : A 
 unfolding after
 takes-made f h = record { takes = λ rest. rw (h .takes rest) }
 
--- one after the other, where each takes its entries if they fit
+-- one after the other
+pub takes-after : {A D : Type 0} {r : Reader A} {us vs : List Entry} {x : A} {y : D} (f : A → Reader D) → Takes r us x → Takes (f x) vs y
+    → Takes (λ es. after (r es) f) (us ++ vs) y
+unfolding after
+takes-after {us = us} {vs = vs} f h k = record { takes = λ rest. rw (append-assoc us vs rest, h .takes (vs ++ rest)) (k .takes rest) }
+
+-- where each takes its entries if they fit
 pub takes-then : {A D : Type 0} {r : Reader A} {us vs : List Entry} {x : A} {y : D} {d n m : ℕ} (f : A → Reader D)
     → Fits d (us ++ vs) (max n m) → (Fits d us n → Takes r us x) → (Fits d vs m → Takes (f x) vs y)
     → Takes (λ es. after (r es) f) (us ++ vs) y
-unfolding after
-takes-then {us = us} {vs = vs} {n = n} {m = m} f g h k =
-    record { takes = λ rest. rw (append-assoc us vs rest, h (fits-left n m us vs g) .takes (vs ++ rest)) (k (fits-right n m us vs g) .takes rest) }
+takes-then {us = us} {vs = vs} {n = n} {m = m} f g h k = takes-after f (h (fits-left n m us vs g)) (k (fits-right n m us vs g))
 
 pub takes-two : {A B D : Type 0} {r : Reader A} {q : Reader B} {us vs : List Entry} {x : A} {y : B} {d n m : ℕ} (f : A → B → D)
     → Fits d (us ++ vs) (max n m) → (Fits d us n → Takes r us x) → (Fits d vs m → Takes q vs y) → Takes (two f r q) (us ++ vs) (f x y)

@@ -20,6 +20,7 @@ use Rattle.programs.specs.Basics.{clash}
 use Rattle.programs.specs.Bytes.{bytes-back, fields-kept, entries-all, length-bytes}
 use Rattle.programs.specs.Claims.{Readable, entriesOf, Misshapen, empty, over, uneven, Shaped, Holds, Verdict, misshapen, unread, faulty, sound}
 use Rattle.programs.specs.Roots.{takes-root, yields-root}
+use Rattle.programs.specs.StopRoots.{first-stop, first-after}
 
 -- ── one tree ──
 pub read-whole : (t : Tree) → Readable t → first formRoot (flatten t) ≡ took t []
@@ -44,8 +45,8 @@ verdict-read l h (took t []) e = go (faults t ++ limits t) refl
     go [] q = sound t holds q
     go (r ∷ rs) q = faulty t holds r rs q
 verdict-read l h (took t (x ∷ xs)) e =
-    unread h (λ u k. clash (cc (read-whole u (k .readable), k .same, e))) _
-verdict-read l h (stop xs) e = unread h (λ u k. clash (cc (read-whole u (k .readable), k .same, e))) _
+    unread h (λ u k. clash (cc (read-whole u (k .readable), k .same, e))) _ (first-after (entriesOf l) t x xs e)
+verdict-read l h (stop xs) e = unread h (λ u k. clash (cc (read-whole u (k .readable), k .same, e))) _ (first-stop (entriesOf l) xs e)
 
 pub verdict : (l : List ℕ) → Verdict l (judgeTable l)
 unfolding judgeTable readTable
@@ -105,7 +106,7 @@ holds-program l b t h e =
 -- what the check answers of a program's table
 pub program-verdict : {l : List ℕ} {v : Judged Tree} (p : Program l) → Verdict l v → v ≡ accepted (p .tree)
 program-verdict {l} p (misshapen m) = absurd (not-both m (program-holds l p .shaped))
-program-verdict {l} p (unread s k n) = absurd (k (p .tree) (program-holds l p))
+program-verdict {l} p (unread s k n u) = absurd (k (p .tree) (program-holds l p))
 program-verdict {l} p (faulty t k r rs q) = clash (cc (holds-one k (program-holds l p), q, p .faultless, p .limited))
 program-verdict {l} p (sound t k q) = ap accepted (holds-one k (program-holds l p))
 

@@ -21,13 +21,13 @@ pub record Yields {A : Type 0} (r : Reader A) (Q : Claim A) : Type 0 where
   pub yields : (es rest : List Entry) (x : A) → r es ≡ took x rest → Took es rest (λ us. Q us x)
 
 -- what a reader took, and what was read after it
-record Taken {A B : Type 0} (s : Read A) (f : A → Reader B) (y : B) (rest : List Entry) : Type 0 where
-  value : A
-  middle : List Entry
-  before : s ≡ took value middle
-  next : f value middle ≡ took y rest
+pub record Taken {A B : Type 0} (s : Read A) (f : A → Reader B) (y : B) (rest : List Entry) : Type 0 where
+  pub value : A
+  pub middle : List Entry
+  pub before : s ≡ took value middle
+  pub next : f value middle ≡ took y rest
 
-split-after : {A B : Type 0} (s : Read A) (f : A → Reader B) (y : B) (rest : List Entry) → after s f ≡ took y rest → Taken s f y rest
+pub split-after : {A B : Type 0} (s : Read A) (f : A → Reader B) (y : B) (rest : List Entry) → after s f ≡ took y rest → Taken s f y rest
 unfolding after
 split-after (took x es) f y rest h = record { value = x; middle = es; before = refl; next = h }
 split-after (stop es) f y rest h = clash (cc)

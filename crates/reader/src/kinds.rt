@@ -1,4 +1,5 @@
 // Which kinds are statements and which are expressions, and the operands of each.
+use formats::entries::*;
 ghost use mathlib.Core.Path.{_≡_};
 ghost use Prim.Native.Nat.{_<_};
 ghost use lib.Dec.{eqb};
@@ -20,16 +21,16 @@ pub fn is_statement(kind: u16) -> bool
     ensures { λ r. ⌜ r ≡ isS kind ⌝ }
 {
     match kind {
-        1 => true,
-        21 => true,
-        22 => true,
-        23 => true,
-        24 => true,
-        25 => true,
-        26 => true,
-        27 => true,
-        28 => true,
-        30 => true,
+        KIND_BLOCK => true,
+        KIND_ASSIGN => true,
+        KIND_IF => true,
+        KIND_IF_ELSE => true,
+        KIND_WHILE => true,
+        KIND_GOTO => true,
+        KIND_ASSERT => true,
+        KIND_CALL => true,
+        KIND_SET => true,
+        KIND_CASE => true,
         _ => false,
     }
 }
@@ -38,19 +39,19 @@ pub fn is_expression(kind: u16) -> bool
     ensures { λ r. ⌜ r ≡ isE kind ⌝ }
 {
     match kind {
-        40 => true,
-        41 => true,
-        42 => true,
-        43 => true,
-        44 => true,
-        45 => true,
-        46 => true,
-        47 => true,
-        48 => true,
-        49 => true,
-        50 => true,
-        51 => true,
-        53 => true,
+        KIND_INTEGER => true,
+        KIND_LOGICAL => true,
+        KIND_BITS => true,
+        KIND_NULL => true,
+        KIND_VARIABLE => true,
+        KIND_FUNCTION => true,
+        KIND_FIELD => true,
+        KIND_RECORD => true,
+        KIND_UNARY => true,
+        KIND_BINARY => true,
+        KIND_IF_EXPRESSION => true,
+        KIND_FADER => true,
+        KIND_BLOCK_EXPRESSION => true,
         _ => false,
     }
 }
@@ -60,25 +61,25 @@ pub fn count(kind: u16, a: u16, n: u32) -> usize
     ensures { λ r. ⌜ r ≡ length (sorts kind a n) ⌝ }
 {
     match kind {
-        1 => a as usize + n as usize,
-        11 => n as usize,
-        12 => (n / 256) as usize + 1,
-        21 => 2,
-        22 => 2,
-        23 => 3,
-        24 => 2,
-        26 => 1,
-        27 => n as usize,
-        28 => 2,
-        30 => a as usize + 1,
-        45 => n as usize,
-        46 => 1,
-        47 => n as usize,
-        48 => 1,
-        49 => 2,
-        50 => 3,
-        51 => 1,
-        53 => a as usize + n as usize + 1,
+        KIND_BLOCK => a as usize + n as usize,
+        KIND_CLASS => n as usize,
+        KIND_PROCEDURE => (n / 256) as usize + 1,
+        KIND_ASSIGN => 2,
+        KIND_IF => 2,
+        KIND_IF_ELSE => 3,
+        KIND_WHILE => 2,
+        KIND_ASSERT => 1,
+        KIND_CALL => n as usize,
+        KIND_SET => 2,
+        KIND_CASE => a as usize + 1,
+        KIND_FUNCTION => n as usize,
+        KIND_FIELD => 1,
+        KIND_RECORD => n as usize,
+        KIND_UNARY => 1,
+        KIND_BINARY => 2,
+        KIND_IF_EXPRESSION => 3,
+        KIND_FADER => 1,
+        KIND_BLOCK_EXPRESSION => a as usize + n as usize + 1,
         _ => 0,
     }
 }
@@ -96,9 +97,9 @@ pub fn sort_of(kind: u16, a: u16, n: u32, i: usize) -> Sort
 {
     let head = a as usize;
     match kind {
-        1 => if i < head { Sort::Decl } else { Sort::Part },
-        11 => Sort::Typed,
-        12 => {
+        KIND_BLOCK => if i < head { Sort::Decl } else { Sort::Part },
+        KIND_CLASS => Sort::Typed,
+        KIND_PROCEDURE => {
             if i < (n / 256) as usize {
                 Sort::Typed
             } else if n % 256 == 0 {
@@ -107,12 +108,12 @@ pub fn sort_of(kind: u16, a: u16, n: u32, i: usize) -> Sort
                 Sort::Expr
             }
         }
-        21 => if i == 0 { Sort::Target } else { Sort::Expr },
-        22 => guarded(i),
-        23 => guarded(i),
-        24 => guarded(i),
-        30 => guarded(i),
-        53 => {
+        KIND_ASSIGN => if i == 0 { Sort::Target } else { Sort::Expr },
+        KIND_IF => guarded(i),
+        KIND_IF_ELSE => guarded(i),
+        KIND_WHILE => guarded(i),
+        KIND_CASE => guarded(i),
+        KIND_BLOCK_EXPRESSION => {
             if i < head {
                 Sort::Decl
             } else if i < head + n as usize {

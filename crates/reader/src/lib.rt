@@ -3,6 +3,8 @@
 pub mod kinds;
 pub mod layout;
 
+use formats::entries::*;
+use formats::limits::*;
 use kinds::Sort;
 ghost use mathlib.Core.Path.{_≡_};
 ghost use mathlib.Core.Bool.{_||_};
@@ -32,41 +34,41 @@ pub fn kind_of(part: &[u8]) -> u16
     requires { ⌜ 8 ≤ length (now part) ⌝ }
     ensures { λ r. ⌜ r ≡ kindAt (entriesOf (now (part .entry))) ⌝ }
 {
-    words::half_at(part, 0)
+    words::half_at(part, KIND_AT)
 }
 
 pub fn name_of(part: &[u8]) -> u16
     requires { ⌜ 8 ≤ length (now part) ⌝ }
     ensures { λ r. ⌜ r ≡ nameAt (entriesOf (now (part .entry))) ⌝ }
 {
-    words::half_at(part, 2)
+    words::half_at(part, A_AT)
 }
 
 pub fn size_of(part: &[u8]) -> u32
     requires { ⌜ 8 ≤ length (now part) ⌝ }
     ensures { λ r. ⌜ r ≡ sizeAt (entriesOf (now (part .entry))) ⌝ }
 {
-    layout::magnitude(words::integer_at(part, 4))
+    layout::magnitude(words::integer_at(part, B_AT))
 }
 
 // Whether an entry stands there and keeps to the layout.
 fn laid(part: &[u8]) -> bool
     ensures { λ r. ⌜ r ≡ laidAt (entriesOf (now (part .entry))) ⌝ }
 {
-    if part.len() < 8 {
+    if part.len() < ENTRY_BYTES {
         return false;
     }
     layout::in_layout(
-        words::half_at(part, 0),
-        words::half_at(part, 2),
-        words::integer_at(part, 4),
+        words::half_at(part, KIND_AT),
+        words::half_at(part, A_AT),
+        words::integer_at(part, B_AT),
     )
 }
 
 fn stands(part: &[u8], kind: u16) -> bool
     ensures { λ r. ⌜ r ≡ standsAt kind (entriesOf (now (part .entry))) ⌝ }
 {
-    if part.len() < 8 {
+    if part.len() < ENTRY_BYTES {
         return false;
     }
     if kind_of(part) != kind {
@@ -89,17 +91,21 @@ fn either(part: &[u8], one: u16, other: u16) -> bool
 fn atom(part: &[u8]) -> bool
     ensures { λ r. ⌜ r ≡ atomAt (entriesOf (now (part .entry))) ⌝ }
 {
-    if part.len() < 8 {
+    if part.len() < ENTRY_BYTES {
         return false;
     }
     let kind = kind_of(part);
-    if kind < 40 {
+    if kind < KIND_INTEGER {
         return false;
     }
-    if 44 < kind {
+    if KIND_VARIABLE < kind {
         return false;
     }
-    layout::in_layout(kind, words::half_at(part, 2), words::integer_at(part, 4))
+    layout::in_layout(
+        kind,
+        words::half_at(part, A_AT),
+        words::integer_at(part, B_AT),
+    )
 }
 
 // An entry with no operands.
@@ -132,17 +138,17 @@ fn operand(part: &[u8], sort: Sort, nesting: usize) -> Read
         return Read::Fault(0);
     }
     match sort {
-        Sort::Typed => leaf(stands(part, 10)),
-        Sort::Decl => leaf(either(part, 10, 14)),
-        Sort::Part => if stands(part, 20) {
+        Sort::Typed => leaf(stands(part, KIND_DECLARE)),
+        Sort::Decl => leaf(either(part, KIND_DECLARE, KIND_HOLD)),
+        Sort::Part => if stands(part, KIND_LABEL) {
             Read::Tree(1)
         } else {
             read_statement(part, nesting)
         },
         Sort::Stmt => read_statement(part, nesting),
-        Sort::Target => if stands(part, 44) {
+        Sort::Target => if stands(part, KIND_VARIABLE) {
             Read::Tree(1)
-        } else if stands(part, 46) {
+        } else if stands(part, KIND_FIELD) {
             read_expression(part, nesting)
         } else {
             Read::Fault(0)
@@ -166,7 +172,7 @@ fn operands(part: &[u8], kind: u16, a: u16, n: u32, nesting: usize) -> Read
     while i < all {
         match operand(rest, kinds::sort_of(kind, a, n, i), nesting) {
             Read::Tree(k) => {
-                let at = 8 * k;
+                let at = ENTRY_BYTES * k;
                 rest = &rest[at..];
                 passed += k;
                 i += 1;
@@ -192,7 +198,13 @@ pub fn read_statement(part: &[u8], nesting: usize) -> Read
     if !kinds::is_statement(kind) {
         return Read::Fault(0);
     }
-    operands(&part[8..], kind, name_of(part), size_of(part), nesting - 1)
+    operands(
+        &part[ENTRY_BYTES..],
+        kind,
+        name_of(part),
+        size_of(part),
+        nesting - 1,
+    )
 }
 
 pub fn read_expression(part: &[u8], nesting: usize) -> Read
@@ -208,7 +220,13 @@ pub fn read_expression(part: &[u8], nesting: usize) -> Read
     if !kinds::is_expression(kind) {
         return Read::Fault(0);
     }
-    operands(&part[8..], kind, name_of(part), size_of(part), nesting - 1)
+    operands(
+        &part[ENTRY_BYTES..],
+        kind,
+        name_of(part),
+        size_of(part),
+        nesting - 1,
+    )
 }
 
 // ── the root ──
@@ -217,10 +235,10 @@ fn is_global(kind: u16, classes: usize, procedures: usize) -> bool
     ensures { λ r. ⌜ r ≡ isGlobal classes procedures kind ⌝ }
 {
     match kind {
-        11 => classes < 16,
-        12 => procedures < 63,
-        10 => true,
-        14 => true,
+        KIND_CLASS => classes < MAX_CLASSES,
+        KIND_PROCEDURE => procedures < MAX_PROCEDURES,
+        KIND_DECLARE => true,
+        KIND_HOLD => true,
         _ => false,
     }
 }
@@ -235,7 +253,13 @@ fn read_global(part: &[u8], classes: usize, procedures: usize) -> Read
     if !is_global(kind, classes, procedures) {
         return Read::Fault(0);
     }
-    operands(&part[8..], kind, name_of(part), size_of(part), 62)
+    operands(
+        &part[ENTRY_BYTES..],
+        kind,
+        name_of(part),
+        size_of(part),
+        BELOW_HEAD,
+    )
 }
 
 pub fn tally(kind: u16, of: u16) -> usize
@@ -256,11 +280,11 @@ fn read_head(part: &[u8], count: u16) -> Read
         match read_global(rest, classes, procedures) {
             Read::Tree(k) => {
                 let kind = kind_of(rest);
-                let at = 8 * k;
+                let at = ENTRY_BYTES * k;
                 rest = &rest[at..];
                 passed += k;
-                classes += tally(kind, 11);
-                procedures += tally(kind, 12);
+                classes += tally(kind, KIND_CLASS);
+                procedures += tally(kind, KIND_PROCEDURE);
                 left -= 1;
             }
             Read::Fault(p) => {
@@ -275,14 +299,17 @@ fn read_head(part: &[u8], count: u16) -> Read
 fn read_root(part: &[u8]) -> Read
     ensures { λ r. ⌜ r ≡ walkRoot (entriesOf (now (part .entry))) ⌝ }
 {
-    if !stands(part, 1) {
+    if !stands(part, KIND_BLOCK) {
         return Read::Fault(0);
     }
-    let rest = &part[8..];
+    let rest = &part[ENTRY_BYTES..];
     match read_head(rest, name_of(part)) {
         Read::Tree(k) => {
-            let at = 8 * k;
-            later(k, operands(&rest[at..], 1, 0, size_of(part), 63))
+            let at = ENTRY_BYTES * k;
+            later(
+                k,
+                operands(&rest[at..], KIND_BLOCK, 0, size_of(part), BELOW_ROOT),
+            )
         }
         Read::Fault(p) => Read::Fault(1 + p),
     }
@@ -296,14 +323,14 @@ pub fn read_table(table: &[u8]) -> Reading
     if bytes == 0 {
         return Reading::Refused(1, 0);
     }
-    if 16384 < bytes {
+    if MAX_TABLE_BYTES < bytes {
         return Reading::Refused(1, 0);
     }
-    if bytes % 8 != 0 {
+    if bytes % ENTRY_BYTES != 0 {
         return Reading::Refused(1, 0);
     }
     match read_root(table) {
-        Read::Tree(n) => if n == bytes / 8 {
+        Read::Tree(n) => if n == bytes / ENTRY_BYTES {
             Reading::Reads
         } else {
             Reading::Refused(2, n)

@@ -1,4 +1,7 @@
 // The record pass: whether a macro's records read, and where each class, body and shape stands.
+use formats::compiled::*;
+use formats::limits::*;
+use formats::wide;
 use places::Records;
 ghost use mathlib.Core.Path.{_≡_};
 ghost use mathlib.Core.Bool.{true, false, cond, not, _&&_, _||_};
@@ -38,13 +41,13 @@ fn no_mark(l: &[u8], p: usize, n: usize, x: u8, y: u8) -> bool
 pub fn no_type(c: usize, t: usize) -> bool
     ensures { λ r. ⌜ r ≡ noType c t ⌝ }
 {
-    if t < 16 {
-        if t < 1 {
+    if t < wide::TYPE_CLASS {
+        if t < wide::TYPE_INTEGER {
             return true;
         }
-        return 3 < t;
+        return wide::TYPE_BITS < t;
     }
-    c <= t - 16
+    c <= t - wide::TYPE_CLASS
 }
 
 // Whether one of the n bytes from p is no type. The loop does not leave at the first: it is short, and goes on without a branch.
@@ -61,19 +64,24 @@ fn bad_types(l: &[u8], p: usize, n: usize, c: usize) -> bool
     bad < n
 }
 
+// The counts' most, as bytes.
+const CLASSES: u8 = MAX_CLASSES as u8;
+
+const BODIES: u8 = MAX_BODIES as u8;
+
 pub fn bad_head(l: &[u8]) -> bool
     ensures { λ r. ⌜ r ≡ badHead (now (l .entry)) ⌝ }
 {
-    if no_mark(l, 0, 8, 72, 68) {
+    if no_mark(l, 0, HEAD_BYTES, b'H', b'D') {
         return true;
     }
-    if 16 < l[2] {
+    if CLASSES < l[CLASS_COUNT_AT] {
         return true;
     }
-    if l[3] < 1 {
+    if l[BODY_COUNT_AT] < 1 {
         return true;
     }
-    64 < l[3]
+    BODIES < l[BODY_COUNT_AT]
 }
 
 // Whether the class whose record stands at p is bad.
@@ -81,20 +89,20 @@ fn bad_class(l: &[u8], p: usize, c: usize) -> bool
     requires { ⌜ (p < 4294967296) × (c ≡ classes (now l)) ⌝ }
     ensures { λ r. ⌜ ((k : ℕ) → p ≡ classPlace (now (l .entry)) k → r ≡ badClass (now (l .entry)) k) ⌝ }
 {
-    if no_mark(l, p, 3, 67, 76) {
+    if no_mark(l, p, CLASS_BYTES, b'C', b'L') {
         return true;
     }
-    let fields = words::wide::byte_at(l, p + 2);
+    let fields = words::wide::byte_at(l, p + FIELD_COUNT_AT);
     if fields < 1 {
         return true;
     }
-    if 8 < fields {
+    if MAX_FIELDS < fields {
         return true;
     }
-    if l.len() < p + 3 + fields {
+    if l.len() < p + CLASS_BYTES + fields {
         return true;
     }
-    bad_types(l, p + 3, fields, c)
+    bad_types(l, p + CLASS_BYTES, fields, c)
 }
 
 // A result is none, 0, or a type.
@@ -112,23 +120,23 @@ fn body_fits(l: &[u8], p: usize, c: usize, n: usize) -> bool
     requires { ⌜ (p < 4294967296) × (c ≡ classes (now l)) × (n ≡ count (now l)) ⌝ }
     ensures { λ r. ⌜ r ≡ bodyFits (now (l .entry)) p ⌝ }
 {
-    if no_mark(l, p, 7, 66, 68) {
+    if no_mark(l, p, BODY_BYTES, b'B', b'D') {
         return false;
     }
-    let cells = words::wide::byte_at(l, p + 6);
-    if l.len() < p + 7 + cells {
+    let cells = words::wide::byte_at(l, p + CELL_COUNT_AT);
+    if l.len() < p + BODY_BYTES + cells {
         return false;
     }
-    if !result_fits(c, words::wide::byte_at(l, p + 5)) {
+    if !result_fits(c, words::wide::byte_at(l, p + RESULT_AT)) {
         return false;
     }
-    if cells < words::wide::byte_at(l, p + 4) {
+    if cells < words::wide::byte_at(l, p + PARAMETER_COUNT_AT) {
         return false;
     }
-    if bad_types(l, p + 7, cells, c) {
+    if bad_types(l, p + BODY_BYTES, cells, c) {
         return false;
     }
-    words::wide::half_at(l, p + 2) < n
+    words::wide::half_at(l, p + FIRST_AT) < n
 }
 
 fn rises_from(k: usize, u: usize, a: usize) -> bool
@@ -145,27 +153,27 @@ fn shape_fits(l: &[u8], p: usize, c: usize, n: usize) -> bool
     requires { ⌜ (p < 4294967296) × (c ≡ classes (now l)) × (n ≡ count (now l)) ⌝ }
     ensures { λ r. ⌜ r ≡ shapeFits (now (l .entry)) p ⌝ }
 {
-    if no_mark(l, p, 6, 83, 72) {
+    if no_mark(l, p, SHAPE_BYTES, b'S', b'H') {
         return false;
     }
-    let depth = words::wide::byte_at(l, p + 5);
-    if l.len() < p + 6 + depth {
+    let depth = words::wide::byte_at(l, p + SHAPE_DEPTH_AT);
+    if l.len() < p + SHAPE_BYTES + depth {
         return false;
     }
-    if bad_types(l, p + 6, depth, c) {
+    if bad_types(l, p + SHAPE_BYTES, depth, c) {
         return false;
     }
-    words::wide::half_at(l, p + 2) < n
+    words::wide::half_at(l, p + SHAPE_ADDRESS_AT) < n
 }
 
 fn read_end(l: &[u8], p: usize, k: usize, base: usize) -> Records
     requires { ⌜ (p < 4294967296) × (k < 4294967296) ⌝ }
     ensures { λ r. ⌜ (readOf r ≡ readEnd (now (l .entry)) p k) × BaseIs r base ⌝ }
 {
-    if no_mark(l, p, 2, 90, 90) {
+    if no_mark(l, p, END_BYTES, b'Z', b'Z') {
         return Records::Unread(k);
     }
-    if l.len() == p + 2 {
+    if l.len() == p + END_BYTES {
         Records::Reads(base)
     } else {
         Records::Unread(k + 1)
@@ -184,13 +192,13 @@ fn classes_pass(l: &[u8], cx: &mut [u32], c: usize) -> Passed
     ensures { λ r. ⌜ Passes (badClass (now (l .entry))) (classPlace (now (l .entry))) c (r .read) (r .end) × (r .end < 8192) × Placed (classPlace (now (l .entry))) (now (cx .exit)) (r .read) ⌝ }
 {
     let mut k: usize = 0;
-    let mut p: usize = 8;
+    let mut p: usize = HEAD_BYTES;
     while k < c {
         if bad_class(l, p, c) {
             return Passed { read: k, end: p };
         }
         cx[k] = p as u32;
-        p = p + 3 + words::wide::byte_at(l, p + 2);
+        p = p + CLASS_BYTES + words::wide::byte_at(l, p + FIELD_COUNT_AT);
         k += 1;
     }
     Passed { read: k, end: p }
@@ -208,13 +216,13 @@ fn bodies_pass(l: &[u8], bx: &mut [u32], from: usize, c: usize, n: usize, m: usi
         if !body_fits(l, p, c, n) {
             return Passed { read: k, end: p };
         }
-        let a = words::wide::half_at(l, p + 2);
+        let a = words::wide::half_at(l, p + FIRST_AT);
         if !rises_from(k, last, a) {
             return Passed { read: k, end: p };
         }
         bx[k] = p as u32;
         last = a;
-        p = p + 7 + words::wide::byte_at(l, p + 6);
+        p = p + BODY_BYTES + words::wide::byte_at(l, p + CELL_COUNT_AT);
         k += 1;
     }
     Passed { read: k, end: p }
@@ -227,7 +235,7 @@ fn whole_code(len: usize, base: usize, n: usize) -> usize
     if len < base {
         return 0;
     }
-    let k = (len - base) / 8;
+    let k = (len - base) / CODE_BYTES;
     if k < n {
         return k;
     }
@@ -244,8 +252,8 @@ fn code_pass(l: &[u8], base: usize, n: usize) -> usize
     let mut i = whole;
     while 0 < i {
         i -= 1;
-        let p = base + 8 * i;
-        bad = pick(unmarked(l[p], l[p + 1], 73, 78), i, bad);
+        let p = base + CODE_BYTES * i;
+        bad = pick(unmarked(l[p], l[p + 1], b'I', b'N'), i, bad);
     }
     bad
 }
@@ -261,12 +269,12 @@ fn shapes_pass(l: &[u8], ix: &mut [u32], from: usize, c: usize, n: usize, m: usi
         if !shape_fits(l, p, c, n) {
             return Passed { read: k, end: p };
         }
-        let a = words::wide::half_at(l, p + 2);
+        let a = words::wide::half_at(l, p + SHAPE_ADDRESS_AT);
         if ix[a] != 0 {
             return Passed { read: k, end: p };
         }
         ix[a] = p as u32;
-        p = p + 6 + words::wide::byte_at(l, p + 5);
+        p = p + SHAPE_BYTES + words::wide::byte_at(l, p + SHAPE_DEPTH_AT);
         k += 1;
     }
     Passed { read: k, end: p }
@@ -277,9 +285,9 @@ pub fn scan(l: &[u8], ix: &mut [u32], bx: &mut [u32], cx: &mut [u32], n: usize) 
     requires { ⌜ (badHead (now l) ≡ false) × (n ≡ count (now l)) × (n ≤ length (now ix)) × (64 ≤ length (now bx)) × (16 ≤ length (now cx)) × (Indexed (now l) (now ix) n 0) ⌝ }
     ensures { λ r. ⌜ (readOf r ≡ readRecords (now (l .entry))) × Left (now (l .entry)) (now (ix .exit)) (now (bx .exit)) (now (cx .exit)) r ⌝ }
 {
-    let c = words::wide::byte_at(l, 2);
-    let m = words::wide::byte_at(l, 3);
-    let t = words::wide::half_at(l, 6);
+    let c = words::wide::byte_at(l, CLASS_COUNT_AT);
+    let m = words::wide::byte_at(l, BODY_COUNT_AT);
+    let t = words::wide::half_at(l, SHAPE_COUNT_AT);
     let k = classes_pass(l, cx, c);
     if k.read < c {
         return Records::Unread(1 + k.read);
@@ -293,7 +301,7 @@ pub fn scan(l: &[u8], ix: &mut [u32], bx: &mut [u32], cx: &mut [u32], n: usize) 
     if i < n {
         return Records::Unread(1 + c + m + i);
     }
-    let s = shapes_pass(l, ix, base + 8 * n, c, n, t);
+    let s = shapes_pass(l, ix, base + CODE_BYTES * n, c, n, t);
     if s.read < t {
         return Records::Unread(1 + c + m + n + s.read);
     }

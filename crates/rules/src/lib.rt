@@ -4,6 +4,8 @@ mod ops;
 mod stack;
 mod walk;
 
+use formats::compiled::*;
+use formats::limits::*;
 pub use lookup::body_at;
 pub use lookup::class_at;
 pub use lookup::instruction_at;
@@ -27,9 +29,9 @@ fn judge_in(l: &[u8], ix: &mut [u32], n: usize) -> Judged
     requires { ⌜ (badHead (now l) ≡ false) × (n ≡ count (now l)) × (n ≤ length (now ix)) × (Indexed (now l) (now ix) n 0) ⌝ }
     ensures { λ r. ⌜ verdictOf r ≡ judge (now (l .entry)) ⌝ }
 {
-    let mut bx = [0u32; 64];
-    let mut cx = [0u32; 16];
-    let mut st = [0u8; 32];
+    let mut bx = [0u32; MAX_BODIES];
+    let mut cx = [0u32; MAX_CLASSES];
+    let mut st = [0u8; MAX_OPERANDS];
     match records::scan(l, ix, &mut bx, &mut cx, n) {
         Records::Unread(k) => Judged::Refused(8, k),
         Records::Reads(base) => {
@@ -51,7 +53,7 @@ pub fn judge_places(l: &[u8]) -> Judged
     if records::bad_head(l) {
         return Judged::Refused(8, 0);
     }
-    let n = words::wide::half_at(l, 4);
+    let n = words::wide::half_at(l, CODE_COUNT_AT);
     if n <= 64 {
         let mut ix = [0u32; 64];
         return judge_in(l, &mut ix, n);

@@ -12,6 +12,9 @@ use crate::stack::take_types;
 use crate::stack::top_of;
 use crate::stack::trade_one;
 use crate::stack::trade_two;
+use formats::compiled::*;
+use formats::limits::*;
+use formats::wide;
 use places::Moved;
 ghost use mathlib.Core.Path.{_≡_};
 ghost use mathlib.Core.Bool.{true, false};
@@ -51,7 +54,7 @@ fn op_integer(a: usize, st: &mut [u8], h: usize, d: usize) -> Moved
     if a != 0 {
         return Moved::Bad;
     }
-    push_type(st, 1, h, d)
+    push_type(st, TYPE_INTEGER, h, d)
 }
 
 fn op_logical(a: usize, b: usize, st: &mut [u8], h: usize, d: usize) -> Moved
@@ -64,7 +67,7 @@ fn op_logical(a: usize, b: usize, st: &mut [u8], h: usize, d: usize) -> Moved
     if 2 <= b {
         return Moved::Bad;
     }
-    push_type(st, 2, h, d)
+    push_type(st, TYPE_LOGICAL, h, d)
 }
 
 fn op_bits(a: usize, st: &mut [u8], h: usize, d: usize) -> Moved
@@ -74,7 +77,7 @@ fn op_bits(a: usize, st: &mut [u8], h: usize, d: usize) -> Moved
     if a != 0 {
         return Moved::Bad;
     }
-    push_type(st, 3, h, d)
+    push_type(st, TYPE_BITS, h, d)
 }
 
 // The type byte of references to records of class a.
@@ -82,7 +85,7 @@ fn class_type(a: usize) -> u8
     requires { ⌜ a < 16 ⌝ }
     ensures { λ r. ⌜ r ≡ 16 + a ⌝ }
 {
-    (16 + a) as u8
+    (wide::TYPE_CLASS + a) as u8
 }
 
 fn op_null(l: &[u8], a: usize, b: usize, st: &mut [u8], h: usize, d: usize) -> Moved
@@ -92,7 +95,7 @@ fn op_null(l: &[u8], a: usize, b: usize, st: &mut [u8], h: usize, d: usize) -> M
     if b != 0 {
         return Moved::Bad;
     }
-    let n = words::wide::byte_at(l, 2);
+    let n = words::wide::byte_at(l, CLASS_COUNT_AT);
     if n <= a {
         return Moved::Bad;
     }
@@ -127,11 +130,11 @@ fn op_load(
     }
     let o = owner_body(k, a);
     let q = body_at(l, bx, o);
-    let c = words::wide::byte_at(l, q + 6);
+    let c = words::wide::byte_at(l, q + CELL_COUNT_AT);
     if c <= b {
         return Moved::Bad;
     }
-    push_type(st, l[q + 7 + b], h, d)
+    push_type(st, l[q + BODY_BYTES + b], h, d)
 }
 
 fn op_store(
@@ -152,20 +155,20 @@ fn op_store(
     }
     let o = owner_body(k, a);
     let q = body_at(l, bx, o);
-    let c = words::wide::byte_at(l, q + 6);
+    let c = words::wide::byte_at(l, q + CELL_COUNT_AT);
     if c <= b {
         return Moved::Bad;
     }
-    pop_type(st, l[q + 7 + b], h, d)
+    pop_type(st, l[q + BODY_BYTES + b], h, d)
 }
 
 fn is_twofold(t: u8) -> bool
     ensures { λ r. ⌜ r ≡ twofold t ⌝ }
 {
-    if t == 2 {
+    if t == TYPE_LOGICAL {
         return true;
     }
-    t == 3
+    t == TYPE_BITS
 }
 
 // The operators on two logical values or two bits, and on one.
@@ -200,25 +203,25 @@ fn operate(a: usize, st: &mut [u8], h: usize, d: usize) -> Moved
         return Moved::Bad;
     }
     if a < 6 {
-        return trade_two(st, 1, 1, 1, h, d);
+        return trade_two(st, TYPE_INTEGER, TYPE_INTEGER, TYPE_INTEGER, h, d);
     }
     if a < 10 {
-        return trade_two(st, 1, 1, 2, h, d);
+        return trade_two(st, TYPE_INTEGER, TYPE_INTEGER, TYPE_LOGICAL, h, d);
     }
     if a < 12 {
-        return trade_two(st, t, t, 2, h, d);
+        return trade_two(st, t, t, TYPE_LOGICAL, h, d);
     }
     if a < 14 {
         return trade_alike(st, t, h, d);
     }
     if a < 16 {
-        return trade_two(st, 3, 1, 3, h, d);
+        return trade_two(st, TYPE_BITS, TYPE_INTEGER, TYPE_BITS, h, d);
     }
     if a < 20 {
         return Moved::Bad;
     }
     if a < 22 {
-        return trade_one(st, 1, 1, h, d);
+        return trade_one(st, TYPE_INTEGER, TYPE_INTEGER, h, d);
     }
     if a < 23 {
         return trade_self(st, t, h, d);
@@ -251,7 +254,7 @@ fn lands_at(
     ensures { λ r. ⌜ r ≡ lands (now (l .entry)) k b h (tops (now (st .entry)) 0 d) ⌝ }
 {
     let q = body_at(l, bx, k);
-    let f = words::wide::half_at(l, q + 2);
+    let f = words::wide::half_at(l, q + FIRST_AT);
     if b < f {
         return false;
     }
@@ -307,7 +310,7 @@ fn op_unless(
     if a != 0 {
         return Moved::Bad;
     }
-    match pop_type(st, 2, h, d) {
+    match pop_type(st, TYPE_LOGICAL, h, d) {
         Moved::Goes(g, e) => if lands_at(l, ix, bx, k, b, st, g, e) {
             Moved::Goes(g, e)
         } else {
@@ -350,14 +353,14 @@ fn op_call(l: &[u8], bx: &[u32], a: usize, b: usize, st: &mut [u8], h: usize, d:
     if b == 0 {
         return Moved::Bad;
     }
-    let m = words::wide::byte_at(l, 3);
+    let m = words::wide::byte_at(l, BODY_COUNT_AT);
     if m <= b {
         return Moved::Bad;
     }
     let q = body_at(l, bx, b);
-    let n = words::wide::byte_at(l, q + 4);
-    let f = take_types(l, q + 7, n, st, h, d);
-    hand_after(st, l[q + 5], f)
+    let n = words::wide::byte_at(l, q + PARAMETER_COUNT_AT);
+    let f = take_types(l, q + BODY_BYTES, n, st, h, d);
+    hand_after(st, l[q + RESULT_AT], f)
 }
 
 // The stack must hold just a result of type t, or nothing where t is 0.
@@ -401,7 +404,7 @@ fn op_return(
         return Moved::Bad;
     }
     let q = body_at(l, bx, k);
-    just(l[q + 5], st, h, d)
+    just(l[q + RESULT_AT], st, h, d)
 }
 
 fn op_make(l: &[u8], cx: &[u32], a: usize, b: usize, st: &mut [u8], h: usize, d: usize) -> Moved
@@ -411,13 +414,13 @@ fn op_make(l: &[u8], cx: &[u32], a: usize, b: usize, st: &mut [u8], h: usize, d:
     if b != 0 {
         return Moved::Bad;
     }
-    let n = words::wide::byte_at(l, 2);
+    let n = words::wide::byte_at(l, CLASS_COUNT_AT);
     if n <= a {
         return Moved::Bad;
     }
     let q = class_at(l, cx, a);
-    let m = words::wide::byte_at(l, q + 2);
-    let f = take_types(l, q + 3, m, st, h, d);
+    let m = words::wide::byte_at(l, q + FIELD_COUNT_AT);
+    let f = take_types(l, q + CLASS_BYTES, m, st, h, d);
     push_after(st, class_type(a), f)
 }
 
@@ -433,32 +436,32 @@ fn op_get_field(
     requires { ⌜ (Classed (now l) (now cx)) × (Stack (now st) h d) ⌝ }
     ensures { λ r. ⌜ Moves (now (st .exit)) r (opGetField (now (l .entry)) a b h (tops (now (st .entry)) 0 d)) ⌝ }
 {
-    let n = words::wide::byte_at(l, 2);
+    let n = words::wide::byte_at(l, CLASS_COUNT_AT);
     if n <= a {
         return Moved::Bad;
     }
     let q = class_at(l, cx, a);
-    let m = words::wide::byte_at(l, q + 2);
+    let m = words::wide::byte_at(l, q + FIELD_COUNT_AT);
     if m <= b {
         return Moved::Bad;
     }
-    trade_one(st, class_type(a), l[q + 3 + b], h, d)
+    trade_one(st, class_type(a), l[q + CLASS_BYTES + b], h, d)
 }
 
 fn op_put_field(l: &[u8], cx: &[u32], a: usize, b: usize, st: &[u8], h: usize, d: usize) -> Moved
     requires { ⌜ (Classed (now l) (now cx)) × (Stack (now st) h d) ⌝ }
     ensures { λ r. ⌜ Moves (now (st .entry)) r (opPutField (now (l .entry)) a b h (tops (now (st .entry)) 0 d)) ⌝ }
 {
-    let n = words::wide::byte_at(l, 2);
+    let n = words::wide::byte_at(l, CLASS_COUNT_AT);
     if n <= a {
         return Moved::Bad;
     }
     let q = class_at(l, cx, a);
-    let m = words::wide::byte_at(l, q + 2);
+    let m = words::wide::byte_at(l, q + FIELD_COUNT_AT);
     if m <= b {
         return Moved::Bad;
     }
-    let f = pop_type(st, l[q + 3 + b], h, d);
+    let f = pop_type(st, l[q + CLASS_BYTES + b], h, d);
     pop_after(st, class_type(a), f)
 }
 
@@ -472,8 +475,8 @@ fn op_set(a: usize, b: usize, st: &[u8], h: usize, d: usize) -> Moved
     if b != 0 {
         return Moved::Bad;
     }
-    let f = pop_type(st, 1, h, d);
-    pop_after(st, 1, f)
+    let f = pop_type(st, TYPE_INTEGER, h, d);
+    pop_after(st, TYPE_INTEGER, f)
 }
 
 fn op_fader(a: usize, b: usize, st: &mut [u8], h: usize, d: usize) -> Moved
@@ -486,7 +489,7 @@ fn op_fader(a: usize, b: usize, st: &mut [u8], h: usize, d: usize) -> Moved
     if b != 0 {
         return Moved::Bad;
     }
-    trade_one(st, 1, 1, h, d)
+    trade_one(st, TYPE_INTEGER, TYPE_INTEGER, h, d)
 }
 
 fn op_hold(a: usize, b: usize, st: &[u8], h: usize, d: usize) -> Moved
@@ -496,10 +499,10 @@ fn op_hold(a: usize, b: usize, st: &[u8], h: usize, d: usize) -> Moved
     if a != 0 {
         return Moved::Bad;
     }
-    if 64 <= b {
+    if GROUPS <= b {
         return Moved::Bad;
     }
-    if 16 <= h {
+    if MAX_HOLDS <= h {
         return Moved::Bad;
     }
     Moved::Goes(h + 1, d)
@@ -531,7 +534,7 @@ fn op_assert(a: usize, b: usize, st: &[u8], h: usize, d: usize) -> Moved
     if b != 0 {
         return Moved::Bad;
     }
-    pop_type(st, 2, h, d)
+    pop_type(st, TYPE_LOGICAL, h, d)
 }
 
 fn op_stop(a: usize, b: usize, st: &[u8]) -> Moved
@@ -563,27 +566,27 @@ pub fn effect_of(
     ensures { λ r. ⌜ Moves (now (st .exit)) r (effect (now (l .entry)) k o a b h (tops (now (st .entry)) 0 d)) ⌝ }
 {
     match o {
-        0 => op_end(k, a, b, st, h, d),
-        1 => op_integer(a, st, h, d),
-        2 => op_logical(a, b, st, h, d),
-        3 => op_bits(a, st, h, d),
-        4 => op_null(l, a, b, st, h, d),
-        5 => op_load(l, bx, k, a, b, st, h, d),
-        6 => op_store(l, bx, k, a, b, st, h, d),
-        7 => op_operator(a, b, st, h, d),
-        8 => op_go(l, ix, bx, k, a, b, st, h, d),
-        9 => op_unless(l, ix, bx, k, a, b, st, h, d),
-        10 => op_call(l, bx, a, b, st, h, d),
-        11 => op_return(l, bx, k, a, b, st, h, d),
-        12 => op_make(l, cx, a, b, st, h, d),
-        13 => op_get_field(l, cx, a, b, st, h, d),
-        14 => op_put_field(l, cx, a, b, st, h, d),
-        15 => op_set(a, b, st, h, d),
-        16 => op_fader(a, b, st, h, d),
-        17 => op_hold(a, b, st, h, d),
-        18 => op_release(a, b, st, h, d),
-        19 => op_assert(a, b, st, h, d),
-        20 => op_stop(a, b, st),
+        wide::OP_END => op_end(k, a, b, st, h, d),
+        wide::OP_INTEGER => op_integer(a, st, h, d),
+        wide::OP_LOGICAL => op_logical(a, b, st, h, d),
+        wide::OP_BITS => op_bits(a, st, h, d),
+        wide::OP_NULL => op_null(l, a, b, st, h, d),
+        wide::OP_LOAD => op_load(l, bx, k, a, b, st, h, d),
+        wide::OP_STORE => op_store(l, bx, k, a, b, st, h, d),
+        wide::OP_OPERATOR => op_operator(a, b, st, h, d),
+        wide::OP_GO => op_go(l, ix, bx, k, a, b, st, h, d),
+        wide::OP_UNLESS => op_unless(l, ix, bx, k, a, b, st, h, d),
+        wide::OP_CALL => op_call(l, bx, a, b, st, h, d),
+        wide::OP_RETURN => op_return(l, bx, k, a, b, st, h, d),
+        wide::OP_MAKE => op_make(l, cx, a, b, st, h, d),
+        wide::OP_GET_FIELD => op_get_field(l, cx, a, b, st, h, d),
+        wide::OP_PUT_FIELD => op_put_field(l, cx, a, b, st, h, d),
+        wide::OP_SET => op_set(a, b, st, h, d),
+        wide::OP_FADER => op_fader(a, b, st, h, d),
+        wide::OP_HOLD => op_hold(a, b, st, h, d),
+        wide::OP_RELEASE => op_release(a, b, st, h, d),
+        wide::OP_ASSERT => op_assert(a, b, st, h, d),
+        wide::OP_STOP => op_stop(a, b, st),
         _ => Moved::Bad,
     }
 }

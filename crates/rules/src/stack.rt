@@ -1,4 +1,6 @@
 // The stack of operand types: at most 32 type bytes in a lent slice, the last on top.
+use formats::compiled::*;
+use formats::limits::*;
 use places::Moved;
 ghost use mathlib.Core.Path.{_≡_};
 ghost use mathlib.Core.Bool.{true, false};
@@ -13,7 +15,7 @@ pub fn push_type(st: &mut [u8], t: u8, h: usize, d: usize) -> Moved
     requires { ⌜ Stack (now st) h d ⌝ }
     ensures { λ r. ⌜ Moves (now (st .exit)) r (push t h (tops (now (st .entry)) 0 d)) ⌝ }
 {
-    if 32 <= d {
+    if MAX_OPERANDS <= d {
         return Moved::Bad;
     }
     st[d] = t;
@@ -105,15 +107,15 @@ pub fn equal_shape(l: &[u8], p: usize, st: &[u8], h: usize, d: usize) -> bool
     requires { ⌜ (p + 6 + byteAt (now l) (p + 5) ≤ length (now l)) × (length (now st) ≡ 32) × (d ≤ 32) ⌝ }
     ensures { λ r. ⌜ r ≡ equals (now (l .entry)) p h (tops (now (st .entry)) 0 d) ⌝ }
 {
-    let g = words::wide::byte_at(l, p + 4);
+    let g = words::wide::byte_at(l, p + SHAPE_HOLDS_AT);
     if h != g {
         return false;
     }
-    let e = words::wide::byte_at(l, p + 5);
+    let e = words::wide::byte_at(l, p + SHAPE_DEPTH_AT);
     if d != e {
         return false;
     }
-    same_types(l, p + 6, st, d)
+    same_types(l, p + SHAPE_BYTES, st, d)
 }
 
 pub fn load_types(l: &[u8], q: usize, st: &mut [u8], d: usize)

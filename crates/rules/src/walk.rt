@@ -6,6 +6,8 @@ use crate::lookup::shape_at;
 use crate::ops::effect_of;
 use crate::stack::equal_shape;
 use crate::stack::load_types;
+use formats::compiled::*;
+use formats::limits::*;
 use places::Moved;
 ghost use mathlib.Core.Path.{_≡_};
 ghost use mathlib.Core.Bool.{true, false};
@@ -25,12 +27,12 @@ fn meet_shape(l: &[u8], ix: &[u32], i: usize, st: &mut [u8], f: Moved) -> Moved
     if p == 0 {
         return f;
     }
-    let h = words::wide::byte_at(l, p + 4);
-    if 16 < h {
+    let h = words::wide::byte_at(l, p + SHAPE_HOLDS_AT);
+    if MAX_HOLDS < h {
         return Moved::Bad;
     }
-    let d = words::wide::byte_at(l, p + 5);
-    if 32 < d {
+    let d = words::wide::byte_at(l, p + SHAPE_DEPTH_AT);
+    if MAX_OPERANDS < d {
         return Moved::Bad;
     }
     match f {
@@ -40,7 +42,7 @@ fn meet_shape(l: &[u8], ix: &[u32], i: usize, st: &mut [u8], f: Moved) -> Moved
             Moved::Bad
         },
         Moved::Ends => {
-            load_types(l, p + 6, st, d);
+            load_types(l, p + SHAPE_BYTES, st, d);
             Moved::Goes(h, d)
         }
         Moved::Bad => Moved::Bad,
@@ -85,16 +87,16 @@ fn open_body(l: &[u8], bx: &[u32], k: usize, i: usize, st: &[u8], f: Moved) -> M
     ensures { λ r. ⌜ Moves (now (st .entry)) r (opens (now (l .entry)) k i (flowOf f (now (st .entry)))) ⌝ }
 {
     let q = body_at(l, bx, k);
-    let a = words::wide::half_at(l, q + 2);
+    let a = words::wide::half_at(l, q + FIRST_AT);
     if a != i {
         return f;
     }
-    let c = words::wide::byte_at(l, q + 6);
-    if 32 < c {
+    let c = words::wide::byte_at(l, q + CELL_COUNT_AT);
+    if MAX_CELLS < c {
         return Moved::Bad;
     }
-    let x = words::wide::byte_at(l, q + 4);
-    let y = words::wide::byte_at(l, q + 5);
+    let x = words::wide::byte_at(l, q + PARAMETER_COUNT_AT);
+    let y = words::wide::byte_at(l, q + RESULT_AT);
     if is_plain(k, x, y) {
         Moved::Goes(0, 0)
     } else {
@@ -212,12 +214,12 @@ pub fn next_body(l: &[u8], bx: &[u32], k: usize, i: usize) -> usize
     requires { ⌜ (Bodied (now l) (now bx)) × (k < bodies (now l)) × (k ≡ bodyOf (now l) i) × (i < count (now l)) ⌝ }
     ensures { λ r. ⌜ (r ≡ bodyOf (now (l .entry)) (i + 1)) × (r < bodies (now (l .entry))) ⌝ }
 {
-    let m = words::wide::byte_at(l, 3);
+    let m = words::wide::byte_at(l, BODY_COUNT_AT);
     if m <= k + 1 {
         return k;
     }
     let q = body_at(l, bx, k + 1);
-    let a = words::wide::half_at(l, q + 2);
+    let a = words::wide::half_at(l, q + FIRST_AT);
     let j = i + 1;
     if a == j {
         return k + 1;

@@ -1,5 +1,6 @@
 // The run: 8, 9, 10, 11 in this order, then the machine.
 use crate::Ran;
+use formats::limits::*;
 use machine::Answer;
 use soundness::Inspected;
 ghost use mathlib.Core.Path.{_≡_};
@@ -48,7 +49,7 @@ fn run_passed(
     ensures { λ r. ⌜ runOn (now (code .entry)) (now (state .entry)) (now (readings .entry)) allowance ≡ record { answer = answerOf r; bytes = now (state .exit) } ⌝ }
 {
     let unsound = refusal_unless(sound, 10);
-    let unread = refusal_unless(readings.len() == 64, 11);
+    let unread = refusal_unless(readings.len() == FADERS, 11);
     let number = first_of(unsound, unread);
     if number != 0 {
         return Ran::Refused(number, 0);
@@ -60,8 +61,8 @@ fn run_passed(
 pub fn run(code: &[u8], state: &mut [u8], readings: &[u8], allowance: u16) -> Ran
     ensures { λ r. ⌜ runOn (now (code .entry)) (now (state .entry)) (now (readings .entry)) allowance ≡ record { answer = answerOf r; bytes = now (state .exit) } ⌝ }
 {
-    let mut bx = [0u32; 64];
-    let mut cx = [0u32; 16];
+    let mut bx = [0u32; MAX_BODIES];
+    let mut cx = [0u32; MAX_CLASSES];
     match soundness::inspect(code, state, &mut bx, &mut cx) {
         Inspected::Refused(number, place) => Ran::Refused(number as u8, place as u32),
         Inspected::Unsound => run_passed(code, &bx, &cx, 0, false, state, readings, allowance),

@@ -1,5 +1,7 @@
 // The start: 8, 9, the length by 10, then the fresh state.
 use crate::Started;
+use formats::compiled::*;
+use formats::state::*;
 use loader::Loaded;
 ghost use mathlib.Core.Path.{_≡_};
 ghost use Rattle.bytecode.specs.Lent.{startOn};
@@ -11,12 +13,12 @@ pub fn start(code: &[u8], state: &mut [u8]) -> Started
     match loader::load(code) {
         Loaded::Refused(number, place) => Started::Refused(number, place),
         Loaded::Passes => {
-            if state.len() != 24576 {
+            if state.len() != STATE_BYTES {
                 return Started::Refused(10, 0);
             }
             let p = loader::root_at(code);
-            let n = words::wide::byte_at(code, p + 6);
-            fresh::write_fresh(code, p + 7, state, n);
+            let n = words::wide::byte_at(code, p + CELL_COUNT_AT);
+            fresh::write_fresh(code, p + BODY_BYTES, state, n);
             Started::Fresh
         }
     }

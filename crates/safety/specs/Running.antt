@@ -48,7 +48,7 @@ less-one false n = refl
 module _ (m : Macro) (w : Passed m) where
   pub safe-any : (bank : ℕ → ℕ) → ((n : ℕ) → bank n < 256) → (s : Machine) → sound m s ≡ true → Steps m s (step m bank s)
   unfolding step sound holdsOf releasesOf occurs
-  safe-any bank low (running s f fs) h = let q = running-sound m w s f fs h in safe-running m w bank low s f fs (q .0) (q .1)
+  safe-any bank low (running s f fs) h = let q = running-sound m s f fs h in safe-running m w bank low s f fs (q .0) (q .1)
   safe-any bank low (unwinding (g ∷ gs) (endBy c)) h =
       let a = halves (isCondition c) (leb (length (g ∷ gs)) 512 && all soundGroup (g ∷ gs)) h in
       let b = halves (leb (length (g ∷ gs)) 512) (all soundGroup (g ∷ gs)) (a .1) in

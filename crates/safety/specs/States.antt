@@ -20,7 +20,7 @@ use Rattle.bytecode.specs.Machine.{Activation, Made, Shared, Here, running, unw
 use Rattle.bytecode.specs.Sound.{soundValue, typedValues, soundCell, typedCells, soundRecord, soundGroup, soundAt, soundActivation, callsBody, parametersOf, soundWaiting, sound}
 use Rattle.loading.specs.Tests.{never, never-some, both, halves, sames→≡, sames-refl}
 use Rattle.loading.specs.Terms.{Passed, Allowed}
-use Rattle.loading.specs.Promises.{body-exists, limits, ops, call-record}
+use Rattle.loading.specs.Promises.{body-exists, limits, call-record}
 use Rattle.safety.specs.Lists.{all-append}
 
 -- ── activations ──
@@ -124,36 +124,28 @@ module _ (m : Macro) (rs : List Made) where
       (both (s .frame .groups)
       (typed-cells-back rs (f .cells) (b .0 .cells) (s .frame .types ∙ ap cellsOf (b .1)) (s .frame .values)))))))
 
-  -- a call on the code record, where an op stands: the first test of `instruction` that holds is that of op 10
-  calls : (o : Option Code) (x : Instr) (k : ℕ) → keep o instruction ≡ some x → callsBody o k ≡ true → keep o instruction ≡ some (call k)
-  calls none x k e h = never h
-  calls (some c) x k e h =
-      let q = halves (eqb (c .op) 10) (eqb (c .b) k) h in
-      let n : c .op ≡ 10 = eqb-true (c .op) 10 (q .0) in
-      let b : c .b ≡ k = eqb-true (c .b) k (q .1) in
-      let i = op-10 c n in
-      let y = just (eqb (c .a) 0) (sym i ∙ e) in
-      i ∙ ap (λ (t : Bool). exactly t (call (c .b))) y ∙ ap (λ (z : ℕ). some (call z)) b
-    where
-      just : (t : Bool) → exactly t (call (c .b)) ≡ some x → t ≡ true
-      just true h = refl
-      just false h = never-some h
+  -- a call, on the code record and as an instruction
+  calls : (o : Option Code) (k : ℕ) → callsBody o k ≡ true → keep o instruction ≡ some (call k)
+  calls none k h = never h
+  calls (some c) k h =
+      let p = halves (eqb (c .op) 10) _ h in
+      let q = halves (eqb (c .a) 0) (eqb (c .b) k) (p .1) in
+      op-10 c (eqb-true (c .op) 10 (p .0)) ∙ ap (λ (t : Bool). exactly t (call (c .b))) (q .0) ∙ ap (λ (z : ℕ). some (call z)) (eqb-true (c .b) k (q .1))
 
   calls-back : Passed m → (i k : ℕ) → instrAt m i ≡ some (call k) → callsBody (getElem? (m .code) i) k ≡ true
   calls-back w i k h =
       let q = call-record m w i k h in
-      rw (q .1) (both (eq-eqb (q .0 .op) 10 (q .2)) (eq-eqb (q .0 .b) k (q .3)))
+      rw (q .1) (both (eq-eqb (q .0 .op) 10 (q .2)) (both (eq-eqb (q .0 .a) 0 (q .3)) (eq-eqb (q .0 .b) k (q .4))))
 
-  waiting : Passed m → (k : ℕ) (fs : List Activation) → soundWaiting m rs k fs ≡ true → Waiting m rs k fs
+  waiting : (k : ℕ) (fs : List Activation) → soundWaiting m rs k fs ≡ true → Waiting m rs k fs
   unfolding soundWaiting
-  waiting w k [] h = eqb-true k 0 h
-  waiting w k (f ∷ fs) h =
+  waiting k [] h = eqb-true k 0 h
+  waiting k (f ∷ fs) h =
       let a = halves (callsBody (getElem? (m .code) (f .address)) k) _ h in
       let b = halves (soundActivation m rs (onStack (parametersOf (bodyAt m k))) f) (soundWaiting m rs (f .body) fs) (a .1) in
-      let st = stands (onStack (parametersOf (bodyAt m k))) f (b .0) in
-      let o = ops m w (f .body) (f .address) _ (st .allowed) in (
-        record { calls = calls (getElem? (m .code) (f .address)) (o .0) k (o .1) (a .0); stands = st },
-        waiting w (f .body) fs (b .1),
+      let st = stands (onStack (parametersOf (bodyAt m k))) f (b .0) in (
+        record { calls = calls (getElem? (m .code) (f .address)) k (a .0); stands = st },
+        waiting (f .body) fs (b .1),
       )
 
   waiting-back : Passed m → (k : ℕ) (fs : List Activation) → Waiting m rs k fs → soundWaiting m rs k fs ≡ true
@@ -162,10 +154,10 @@ module _ (m : Macro) (rs : List Made) where
   waiting-back w k (f ∷ fs) h =
       both (calls-back w (f .address) k (h .0 .calls)) (both (stands-back w (onStack (parametersOf (bodyAt m k))) f (h .0 .stands)) (waiting-back w (f .body) fs (h .1)))
 
-pub running-sound : (m : Macro) → Passed m → (s : Shared) (f : Activation) (fs : List Activation) → sound m (running s f fs) ≡ true
+pub running-sound : (m : Macro) (s : Shared) (f : Activation) (fs : List Activation) → sound m (running s f fs) ≡ true
     → Around m (record { shared = s; top = f; below = fs }) × Stands m (s .records) [] f
 unfolding sound
-running-sound m w s f fs h =
+running-sound m s f fs h =
     let rs = s .records in
     let a = halves (leb (length (f ∷ fs)) 32) _ h in
     let b = halves (leb (length rs) 256) _ (a .1) in
@@ -177,7 +169,7 @@ running-sound m w s f fs h =
         few-records = leb-true (length rs) 256 (b .0);
         made = c .0;
         frame = t .frame;
-        below-waits = waiting m rs w (f .body) fs (d .1);
+        below-waits = waiting m rs (f .body) fs (d .1);
       },
       t,
     )

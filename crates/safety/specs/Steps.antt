@@ -14,20 +14,21 @@ use borrow.Author.Tests.{eq-eqb, le-leb, leb-true, ltb-true, lt-ltb}
 use Rattle.words.specs.Lists.{all, among}
 use Rattle.words.specs.Options.{keep}
 use Rattle.words.specs.Choice.{if_then_else_}
-use Rattle.values.specs.Types.{Ty, integer, logical, bits, reference, fits, sames, allFit}
+use Rattle.values.specs.Types.{Ty, integer, logical, reference, fits, sames, allFit}
 use Rattle.values.specs.Ends.{isCondition, fieldOfNull, assertFalse, outOfRange, tooManyActivations, tooManyRecords}
 use Rattle.values.specs.Operators.{Unary, unary, Binary, binary, opType}
 use Rattle.values.specs.Arithmetic.{Outcome, gives, ends, mistyped}
 use Rattle.values.specs.Values.{Value, int, ref, tyOf, tysOf, Cell, assigned, tyOfCell, freshAll, between, size, apply1, apply2}
 use Rattle.values.specs.Trace.{set, Item, event, reading}
 use Rattle.bytecode.specs.Macro.{Body, Shape, shape, Macro}
-use Rattle.bytecode.specs.Instructions.{Owner, own, root, Instr, end, push, load, store, operate, go, goUnless, call, return, make, getField, putField, setLevel, readFader, takeHold, letHold, assert, stop, bodyAt, instrAt, cellsOf, cellTy as cellType, fieldTy, known}
+use Rattle.bytecode.specs.Instructions.{Owner, own, root, Instr, end, push, load, store, operate, go, goUnless, call, return, make, getField, putField, setLevel, readFader, takeHold, letHold, assert, stop, bodyAt, instrAt, cellsOf, cellTy as cellType, fieldTy}
 use Rattle.bytecode.specs.Rules.{onStack}
 use Rattle.bytecode.specs.Machine.{Activation, Made, Shared, Here, Machine, running, ended, noStep, badType, badFrame, Stepped, moved, demand, allHolds, condition, at, withHolds, goesOn, settled, given, cellsFor, putCells, inPlace, doLoad, doStore, doOperate, goes, doGoUnless, popMany, assignAll, activation, entering, doCall, handDown, isEmpty, doReturn, doEnd, withRecords, recording, doMake, onMade, doGetField, fieldPut, doPutField, doSet, doFader, doTakeHold, letting, doAssert, doPush, act, fetch, step}
 use Rattle.bytecode.specs.Sound.{soundValue, soundCell, soundRecord, soundGroup, parametersOf, sound}
 use Rattle.loading.specs.Tests.{same-some, halves, sames-refl, same-refl, fits→≡, allFit→≡}
-use Rattle.loading.specs.Terms.{Each, Named, ReadBody, Passed, Allowed, Takes, Finds}
+use Rattle.loading.specs.Terms.{Each, ReadBody, Passed, Allowed, Takes, Finds}
 use Rattle.loading.specs.Takes.{takes-none}
+use Rattle.loading.specs.Ops.{named-known}
 use Rattle.loading.specs.Promises.{at-place, cells-at-most-32, entry, limits, ops}
 use Rattle.safety.specs.Terms.{Fine, counted, occurs, holdsOf, releasesOf, eventsIn, InRange, Moves, Steps}
 use Rattle.safety.specs.Operators.{unary-fine, binary-fine}
@@ -35,12 +36,6 @@ use Rattle.safety.specs.Lists.{all-append, all-at, all-put, all-first, a
 use Rattle.safety.specs.States.{Stands, Waits, Waiting, Around, frame-at, around-at, typed, typed-back, running-back, unwinds}
 use Rattle.safety.specs.Operands.{OnTop, on-top, Exactly, exactly, take-off, resumes, not-root, empty, demanded, chosen, supplied, topped, an-integer, a-logical, a-reference}
 use Rattle.safety.specs.Records.{ownerBody, keeps-append, keeps-put, last-made, made-at, record-typed, record-sound, keeps-records, around-records, root-frame, put-holds, put-stands, around-put}
-
-named-known : (m : Macro) (t : Ty) → Named (length (m .classes)) t → known m t ≡ true
-named-known m integer h = refl
-named-known m logical h = refl
-named-known m bits h = refl
-named-known m (reference c) h = lt-ltb c (length (m .classes)) h
 
 pub size-between : (lo hi : ℕ) (x : ℤ) → between lo hi x ≡ true → (lo ≤ size x) × (size x ≤ hi)
 size-between lo hi (pos n) h = let q = halves (leb lo n) (leb n hi) h in (leb-true lo n (q .0), leb-true n hi (q .1))

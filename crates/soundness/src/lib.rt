@@ -2,6 +2,10 @@
 use fitting::both;
 use fitting::plain_fits;
 use fitting::row_fits;
+use formats::compiled::*;
+use formats::limits::*;
+use formats::state::*;
+use formats::wide;
 use places::Moved;
 use places::Records;
 ghost use mathlib.Core.Path.{_≡_};
@@ -62,13 +66,13 @@ fn args_fit(
     if n <= j {
         return a == d;
     }
-    let b = words::wide::byte_at(l, 32 + 328 * j);
+    let b = words::wide::byte_at(l, ACTIVATIONS_AT + ACTIVATION_BYTES * j);
     let q = loader::body_at(c, bx, b);
-    let t = words::wide::byte_at(c, q + 4);
+    let t = words::wide::byte_at(c, q + PARAMETER_COUNT_AT);
     if a + t != d {
         return false;
     }
-    same_row(c, q + 7, st, a, t)
+    same_row(c, q + BODY_BYTES, st, a, t)
 }
 
 // Whether activation k, of n, fits the state found where it stands, in body b.
@@ -87,20 +91,29 @@ fn stands_at(
     requires { ⌜ (Bodied (now c) (now bx)) × (Counted (now c) (now l) n) × (r ≤ 256) × (k < n) × (length (now st) ≡ 32) × (d ≤ 32) ⌝ }
     ensures { λ x. ⌜ x ≡ standsIn (now (c .entry)) (now (l .entry)) r n k b h (tops (now (st .entry)) 0 d) ⌝ }
 {
-    let p = 32 + 328 * k;
+    let p = ACTIVATIONS_AT + ACTIVATION_BYTES * k;
     let o = words::wide::byte_at(l, p);
     if o != b {
         return false;
     }
-    let g = words::wide::byte_at(l, p + 2);
+    let g = words::wide::byte_at(l, p + OWN_HOLD_COUNT_AT);
     if g != h {
         return false;
     }
-    let a = words::wide::byte_at(l, p + 1);
+    let a = words::wide::byte_at(l, p + OPERAND_COUNT_AT);
     if !args_fit(c, bx, l, n, k, st, a, d) {
         return false;
     }
-    row_fits(c, l, r, st, 0, p + 296, p + 136, a)
+    row_fits(
+        c,
+        l,
+        r,
+        st,
+        0,
+        p + OPERAND_TYPES_AT,
+        p + OPERAND_WORDS_AT,
+        a,
+    )
 }
 
 // The same, if it stands at i.
@@ -120,7 +133,7 @@ fn stands_if(
     requires { ⌜ (Bodied (now c) (now bx)) × (Counted (now c) (now l) n) × (r ≤ 256) × (k < n) × (length (now st) ≡ 32) × (d ≤ 32) ⌝ }
     ensures { λ x. ⌜ x ≡ cond (eqb (addressIn (now (l .entry)) k) i) (standsIn (now (c .entry)) (now (l .entry)) r n k b h (tops (now (st .entry)) 0 d)) true ⌝ }
 {
-    let a = words::wide::half_at(l, 32 + 328 * k + 4);
+    let a = words::wide::half_at(l, ACTIVATIONS_AT + ACTIVATION_BYTES * k + ADDRESS_AT);
     if a != i {
         return true;
     }
@@ -196,7 +209,7 @@ fn next_wanted(l: &[u8], n: usize, i: usize) -> usize
     let mut best: usize = 65536;
     let mut k: usize = 0;
     while k < n {
-        let a = words::wide::half_at(l, 32 + 328 * k + 4);
+        let a = words::wide::half_at(l, ACTIVATIONS_AT + ACTIVATION_BYTES * k + ADDRESS_AT);
         best = nearer(best, a, i);
         k += 1;
     }
@@ -257,7 +270,7 @@ fn walk_tests(
     requires { ⌜ (Able (now c) (now ix) (now bx) (now cx)) × (base ≡ codeBase (now c)) × (length (now st) ≡ 32) × (Counted (now c) (now l) n) × (r ≤ 256) ⌝ }
     ensures { λ x. ⌜ Tests (now (c .entry)) (now (l .entry)) r n (x .at) (x .ok) ⌝ }
 {
-    let stop = words::wide::half_at(c, 4);
+    let stop = words::wide::half_at(c, CODE_COUNT_AT);
     let mut i: usize = 0;
     let mut k: usize = 0;
     let mut f = Moved::Ends;
@@ -295,15 +308,15 @@ fn count_wanted(l: &[u8], plain: bool) -> Counts
             records: 0,
         };
     }
-    let phase = words::wide::byte_at(l, 0);
-    if phase != 0 {
+    let phase = words::wide::byte_at(l, PHASE_AT);
+    if phase != wide::RUNNING {
         return Counts {
             activations: 0,
             records: 0,
         };
     }
-    let n = words::wide::byte_at(l, 2);
-    let r = words::wide::half_at(l, 4);
+    let n = words::wide::byte_at(l, ACTIVATION_COUNT_AT);
+    let r = words::wide::half_at(l, RECORD_COUNT_AT);
     Counts {
         activations: n,
         records: r,
@@ -321,7 +334,7 @@ fn inspect_in(
     requires { ⌜ (badHead (now c) ≡ false) × (m ≡ count (now c)) × (m ≤ length (now ix)) × (64 ≤ length (now bx)) × (16 ≤ length (now cx)) × (Indexed (now c) (now ix) m 0) × (length (now l) ≡ 24576) ⌝ }
     ensures { λ x. ⌜ Tells (now (c .entry)) (now (l .entry)) (now (bx .exit)) (now (cx .exit)) x ⌝ }
 {
-    let mut st = [0u8; 32];
+    let mut st = [0u8; MAX_OPERANDS];
     match loader::scan(c, ix, bx, cx, m) {
         Records::Unread(k) => Inspected::Refused(8, k),
         Records::Reads(base) => {
@@ -362,7 +375,7 @@ fn inspect_long(c: &[u8], l: &[u8], bx: &mut [u32], cx: &mut [u32]) -> Inspected
     if loader::bad_head(c) {
         return Inspected::Refused(8, 0);
     }
-    let m = words::wide::half_at(c, 4);
+    let m = words::wide::half_at(c, CODE_COUNT_AT);
     if m <= 64 {
         let mut ix = [0u32; 64];
         return inspect_in(c, l, &mut ix, bx, cx, m);
@@ -393,8 +406,8 @@ fn inspect_short(c: &[u8], bx: &mut [u32], cx: &mut [u32]) -> Inspected
     if loader::bad_head(c) {
         return Inspected::Refused(8, 0);
     }
-    let m = words::wide::half_at(c, 4);
-    let nothing = [0u8; 24576];
+    let m = words::wide::half_at(c, CODE_COUNT_AT);
+    let nothing = [0u8; STATE_BYTES];
     short(inspect_large(c, &nothing, bx, cx, m))
 }
 
@@ -404,7 +417,7 @@ pub fn inspect(c: &[u8], l: &[u8], bx: &mut [u32], cx: &mut [u32]) -> Inspected
     requires { ⌜ (64 ≤ length (now bx)) × (16 ≤ length (now cx)) ⌝ }
     ensures { λ x. ⌜ Inspects (now (c .entry)) (now (l .entry)) (now (bx .exit)) (now (cx .exit)) x ⌝ }
 {
-    if l.len() != 24576 {
+    if l.len() != STATE_BYTES {
         return inspect_short(c, bx, cx);
     }
     inspect_long(c, l, bx, cx)

@@ -1,4 +1,5 @@
 // How many entries stand below each entry of a table, so that no later pass reads what it only passes by.
+use formats::entries::*;
 ghost use mathlib.Core.Path.{_≡_};
 ghost use Prim.Native.Nat.{_+_, _*_, _/_, _≤_, _<_};
 ghost use lib.ListN.{length, drop, getD};
@@ -12,21 +13,21 @@ pub fn kind_at(table: &[u8], place: usize) -> u16
     requires { ⌜ 8 * (place + 1) ≤ length (now table) ⌝ }
     ensures { λ r. ⌜ r ≡ halfAt (now (table .entry)) (8 * place) ⌝ }
 {
-    words::half_at(table, 8 * place)
+    words::half_at(table, ENTRY_BYTES * place)
 }
 
 pub fn a_at(table: &[u8], place: usize) -> u16
     requires { ⌜ 8 * (place + 1) ≤ length (now table) ⌝ }
     ensures { λ r. ⌜ r ≡ halfAt (now (table .entry)) (8 * place + 2) ⌝ }
 {
-    words::half_at(table, 8 * place + 2)
+    words::half_at(table, ENTRY_BYTES * place + A_AT)
 }
 
 pub fn b_at(table: &[u8], place: usize) -> u32
     requires { ⌜ 8 * (place + 1) ≤ length (now table) ⌝ }
     ensures { λ r. ⌜ r ≡ wordAt (now (table .entry)) (8 * place + 4) ⌝ }
 {
-    words::word_at(table, 8 * place + 4)
+    words::word_at(table, ENTRY_BYTES * place + B_AT)
 }
 
 // The parts directly below an entry, whatever they are. Arms that take a from b stand apart, so that each is one sum.
@@ -34,25 +35,25 @@ pub fn arity(kind: u16, a: u16, b: u32) -> usize
     ensures { λ r. ⌜ r ≡ parts kind a b ⌝ }
 {
     match kind {
-        1 => a as usize + b as usize,
-        11 => b as usize,
-        12 => b as usize / 256 + 1,
-        21 => 2,
-        22 => 2,
-        23 => 3,
-        24 => 2,
-        26 => 1,
-        27 => b as usize,
-        28 => 2,
-        30 => a as usize + 1,
-        45 => b as usize,
-        46 => 1,
-        47 => b as usize,
-        48 => 1,
-        49 => 2,
-        50 => 3,
-        51 => 1,
-        53 => a as usize + b as usize + 1,
+        KIND_BLOCK => a as usize + b as usize,
+        KIND_CLASS => b as usize,
+        KIND_PROCEDURE => b as usize / 256 + 1,
+        KIND_ASSIGN => 2,
+        KIND_IF => 2,
+        KIND_IF_ELSE => 3,
+        KIND_WHILE => 2,
+        KIND_ASSERT => 1,
+        KIND_CALL => b as usize,
+        KIND_SET => 2,
+        KIND_CASE => a as usize + 1,
+        KIND_FUNCTION => b as usize,
+        KIND_FIELD => 1,
+        KIND_RECORD => b as usize,
+        KIND_UNARY => 1,
+        KIND_BINARY => 2,
+        KIND_IF_EXPRESSION => 3,
+        KIND_FADER => 1,
+        KIND_BLOCK_EXPRESSION => a as usize + b as usize + 1,
         _ => 0,
     }
 }
@@ -69,7 +70,7 @@ pub fn spanned(table: &[u8], sizes: &[u16], from: usize, parts: usize) -> usize
     requires { ⌜ Known (now table) (now sizes) from × (from ≤ length (now table) / 8) ⌝ }
     ensures { λ r. ⌜ r ≡ span parts (drop from (entriesOf (now (table .entry)))) ⌝ }
 {
-    let count = table.len() / 8;
+    let count = table.len() / ENTRY_BYTES;
     let mut at = from;
     let mut left = parts;
     while 0 < left {
@@ -87,7 +88,7 @@ pub fn measure(table: &[u8], sizes: &mut [u16])
     requires { ⌜ (length (now table) ≤ 16384) × (length (now table) / 8 ≤ length (now sizes)) ⌝ }
     ensures { λ _. ⌜ Known (now (table .entry)) (now (sizes .exit)) 0 ⌝ }
 {
-    let count = table.len() / 8;
+    let count = table.len() / ENTRY_BYTES;
     let mut i = count;
     while 0 < i {
         i -= 1;

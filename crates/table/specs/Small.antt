@@ -11,12 +11,11 @@ use Rattle.words.specs.Choice.{if_then_else_}
 use Rattle.values.specs.Ends.{Refusal, refusal, Judged, accepted, refused}
 use Rattle.language.specs.Tree.{Global, local, class, procedure, Tree}
 use Rattle.language.specs.Table.{Entry, flatItems, flatGlobal, flatHead, flatten, Read, took, stop, first, formRoot, oneTree, readTable}
-use Rattle.language.specs.Faults.{faultIf, sizeItems, sizeGlobal}
+use Rattle.language.specs.Faults.{faultIf, sizeItems, sizeGlobal, faults}
 use Rattle.language.specs.Limits.{Usage, keepsLimits, bodyUsage, rootUsage, overLimits, procedureLimits, limits}
 use Rattle.language.specs.Judge.{firstFault, judgeTree, judgeTable, total}
 use Rattle.programs.specs.Claims.{entriesOf}
-use Rattle.programs.specs.Spans.{Spans, none, more}
-use Rattle.programs.specs.Order.{spans-faults}
+use Rattle.programs.specs.Order.{first-fault}
 use Rattle.spans.specs.Stands.{length-entries}
 use Rattle.heads.specs.Trees.{length-Items, length-Global}
 use Rattle.roots.specs.Tables.{read-held}
@@ -87,15 +86,17 @@ read-narrow l = go (eqb (length l) 0) (ltb 16384 (length l)) (eqb (length l % 8)
     go false false true e =
         one-narrow (entriesOf l) (omega (arith, length-entries (length l / 8) l, ltb-false 16384 (length l) e)) (first formRoot (entriesOf l))
 
-first-narrow : (t : Tree) {lo hi : ℕ} {fs : List Refusal} (ls : List Refusal) → Spans lo hi fs → hi ≤ 2048 → Sixes 2048 ls → Narrow (firstFault t (fs ++ ls))
-first-narrow t [] none h s = tt
-first-narrow t (r ∷ rs) none h s = (omega (arith, s .0), omega (arith, s .1))
-first-narrow t ls (more a b c) h s = (omega (arith, a .2), omega (arith, a .1))
+first-narrow : (t : Tree) (fs ls : List Refusal) → ((r : Refusal) (rs : List Refusal) → fs ≡ r ∷ rs → (r .number ≤ 5) × (r .place < 2048)) → Sixes 2048 ls
+    → Narrow (firstFault t (fs ++ ls))
+first-narrow t [] [] h s = tt
+first-narrow t [] (r ∷ rs) h s = (omega (arith, s .0), omega (arith, s .1))
+first-narrow t (r ∷ rs) ls h s = let k = h r rs refl in (omega (arith, k .0), omega (arith, k .1))
 
 pub narrow : (l : List ℕ) → Narrow (judgeTable l)
 unfolding judgeTable
 narrow l = go (readTable l) refl (read-narrow l)
   where
     go : (j : Judged Tree) → readTable l ≡ j → Narrow j → Narrow (judgeTree j)
-    go (accepted t) e h = first-narrow t (limits t) (spans-faults t) (entry-count l t e) (sixes l t e)
+    go (accepted t) e h =
+        first-narrow t (faults t) (limits t) (λ r rs k. (first-fault t r rs k .0, omega (arith, first-fault t r rs k .1, entry-count l t e))) (sixes l t e)
     go (refused r) e h = h

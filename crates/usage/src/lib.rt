@@ -1,6 +1,8 @@
 // What a body takes of its limits (refusal 6): working need, cells, and holds open together.
 pub mod sums;
 
+use formats::entries::*;
+use formats::limits::*;
 use sums::Used;
 ghost use mathlib.Core.Path.{_≡_};
 ghost use Prim.Native.Nat.{_^_, _≤_, _<_};
@@ -37,7 +39,7 @@ fn leaf(part: &[u8], nesting: usize) -> bool
     if nesting == 0 {
         return false;
     }
-    if part.len() < 8 {
+    if part.len() < ENTRY_BYTES {
         return false;
     }
     sums::is_leaf(reader::kind_of(part))
@@ -57,14 +59,14 @@ pub fn usage_of(part: &[u8], nesting: usize) -> Usage
     if nesting == 0 {
         return Usage::Unread;
     }
-    if part.len() < 8 {
+    if part.len() < ENTRY_BYTES {
         return Usage::Unread;
     }
     let kind = reader::kind_of(part);
     let name = reader::name_of(part);
     let head = sums::head_of(kind, name);
     let count = reader::kinds::count(kind, name, reader::size_of(part));
-    let mut rest = &part[8..];
+    let mut rest = &part[ENTRY_BYTES..];
     let mut sum = sums::alone(kind);
     let mut open: usize = 0;
     let mut i: usize = 0;
@@ -76,7 +78,7 @@ pub fn usage_of(part: &[u8], nesting: usize) -> Usage
         };
         match found {
             Usage::Of(u) => {
-                let at = 8 * u.entries;
+                let at = ENTRY_BYTES * u.entries;
                 rest = &rest[at..];
                 sum = sums::join(sum, u, sums::weight(kind, i), open);
                 open += sums::kept(head, i, u.holds);
@@ -98,14 +100,14 @@ fn root_head(part: &[u8], count: u16) -> Head
     let mut own = sums::alone(1);
     let mut left = count;
     while 0 < left {
-        match usage_of(rest, 63) {
+        match usage_of(rest, BELOW_ROOT) {
             Usage::Of(u) => {
                 let kind = reader::kind_of(rest);
                 if sums::over(kind, u) {
                     return Head::Exceeds(own.entries);
                 }
                 own = sums::declared(kind, own, u);
-                let at = 8 * u.entries;
+                let at = ENTRY_BYTES * u.entries;
                 rest = &rest[at..];
                 left -= 1;
             }
@@ -127,9 +129,9 @@ fn root_items(part: &[u8], count: u32, own: Used) -> Usage
     let mut sum = own;
     let mut left = count;
     while 0 < left {
-        match usage_of(rest, 63) {
+        match usage_of(rest, BELOW_ROOT) {
             Usage::Of(u) => {
-                let at = 8 * u.entries;
+                let at = ENTRY_BYTES * u.entries;
                 rest = &rest[at..];
                 sum = sums::join(sum, u, 0, open);
                 left -= 1;
@@ -146,12 +148,12 @@ fn root_items(part: &[u8], count: u32, own: Used) -> Usage
 pub fn over_limits(table: &[u8]) -> Limited
     ensures { λ r. ⌜ Limits (now (table .entry)) r ⌝ }
 {
-    if table.len() < 8 {
+    if table.len() < ENTRY_BYTES {
         return Limited::Within;
     }
     match root_head(&table[8..], reader::name_of(table)) {
         Head::Own(own) => {
-            let at = 8 * own.entries;
+            let at = ENTRY_BYTES * own.entries;
             root_limit(root_items(&table[at..], reader::size_of(table), own))
         }
         Head::Exceeds(p) => Limited::Over(p),

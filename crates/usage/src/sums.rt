@@ -1,4 +1,6 @@
 // What entries take of a body's limits, and how the operands of an entry are summed.
+use formats::entries::*;
+use formats::limits::*;
 ghost use mathlib.Core.Path.{_≡_};
 ghost use Prim.Native.Nat.{_+_, _^_, _<_, max};
 ghost use Rattle.usage.specs.Sums.{used, isLeaf, aloneOf, weightOf, headOf, keptOf, joined, Small, keepsAll, overOf, declaredOf};
@@ -32,15 +34,15 @@ pub fn is_leaf(kind: u16) -> bool
     ensures { λ r. ⌜ r ≡ isLeaf kind ⌝ }
 {
     match kind {
-        10 => true,
-        14 => true,
-        20 => true,
-        25 => true,
-        40 => true,
-        41 => true,
-        42 => true,
-        43 => true,
-        44 => true,
+        KIND_DECLARE => true,
+        KIND_HOLD => true,
+        KIND_LABEL => true,
+        KIND_GOTO => true,
+        KIND_INTEGER => true,
+        KIND_LOGICAL => true,
+        KIND_BITS => true,
+        KIND_NULL => true,
+        KIND_VARIABLE => true,
         _ => false,
     }
 }
@@ -50,9 +52,9 @@ pub fn alone(kind: u16) -> Used
     ensures { λ r. ⌜ r ≡ aloneOf kind ⌝ }
 {
     match kind {
-        10 => one(1, 1, 0),
-        14 => one(1, 0, 1),
-        30 => one(2, 1, 0),
+        KIND_DECLARE => one(1, 1, 0),
+        KIND_HOLD => one(1, 0, 1),
+        KIND_CASE => one(2, 1, 0),
         _ => one(1, 0, 0),
     }
 }
@@ -62,13 +64,13 @@ pub fn weight(kind: u16, i: usize) -> usize
     ensures { λ r. ⌜ r ≡ weightOf kind i ⌝ }
 {
     match kind {
-        21 => i,
-        27 => i,
-        28 => i,
-        45 => i,
-        47 => i,
-        49 => i,
-        50 => i,
+        KIND_ASSIGN => i,
+        KIND_CALL => i,
+        KIND_SET => i,
+        KIND_FUNCTION => i,
+        KIND_RECORD => i,
+        KIND_BINARY => i,
+        KIND_IF_EXPRESSION => i,
         _ => 0,
     }
 }
@@ -78,8 +80,8 @@ pub fn head_of(kind: u16, a: u16) -> usize
     ensures { λ r. ⌜ r ≡ headOf kind a ⌝ }
 {
     match kind {
-        1 => a as usize,
-        53 => a as usize,
+        KIND_BLOCK => a as usize,
+        KIND_BLOCK_EXPRESSION => a as usize,
         _ => 0,
     }
 }
@@ -108,20 +110,24 @@ pub fn join(u: Used, v: Used, waiting: usize, held: usize) -> Used
 pub fn keeps(u: Used) -> bool
     ensures { λ r. ⌜ r ≡ keepsAll u ⌝ }
 {
-    if 32 < u.cells {
+    if MAX_CELLS < u.cells {
         return false;
     }
-    if 16 < u.holds {
+    if MAX_HOLDS < u.holds {
         return false;
     }
-    u.need <= 32
+    u.need <= MAX_OPERANDS
 }
 
 // Whether a declaration of the root's head is a procedure over its limits.
 pub fn over(kind: u16, u: Used) -> bool
     ensures { λ r. ⌜ r ≡ overOf kind u ⌝ }
 {
-    if kind == 12 { !keeps(u) } else { false }
+    if kind == KIND_PROCEDURE {
+        !keeps(u)
+    } else {
+        false
+    }
 }
 
 // The root's own after one more declaration: classes and procedures have no cell and no hold of the root's.
@@ -132,7 +138,7 @@ pub fn declared(kind: u16, own: Used, u: Used) -> Used
     Used {
         entries: own.entries + u.entries,
         need: own.need,
-        cells: own.cells + reader::tally(kind, 10),
-        holds: own.holds + reader::tally(kind, 14),
+        cells: own.cells + reader::tally(kind, KIND_DECLARE),
+        holds: own.holds + reader::tally(kind, KIND_HOLD),
     }
 }

@@ -1,6 +1,8 @@
 // Operators on integers of 32 bits: exact, or ended by a condition. + − × go by way of 64 bits, which hold every exact result;
 // the others meet a zero divisor and the one operand pair that leaves 32 bits first, and compute in 32 bits.
 use crate::Computed;
+use crate::conditions::OVERFLOW;
+use crate::conditions::ZERO_DIVISOR;
 ghost use mathlib.Core.Path.{_≡_};
 ghost use mathlib.Core.Bool.{not};
 ghost use lib.Signed.{ltZ, leZ};
@@ -13,10 +15,10 @@ fn settle(z: i64) -> Computed
     ensures { λ r. ⌜ r ≡ computed (exactly z) ⌝ }
 {
     if z < -2147483648 {
-        return Computed::Ends(20);
+        return Computed::Ends(OVERFLOW);
     }
     if 2147483647 < z {
-        return Computed::Ends(20);
+        return Computed::Ends(OVERFLOW);
     }
     Computed::Gives(z as i32)
 }
@@ -43,7 +45,7 @@ pub fn negate(x: i32) -> Computed
     ensures { λ r. ⌜ r ≡ computed (negation x) ⌝ }
 {
     if x == -2147483648 {
-        return Computed::Ends(20);
+        return Computed::Ends(OVERFLOW);
     }
     Computed::Gives(-x)
 }
@@ -61,7 +63,7 @@ pub fn divide(x: i32, y: i32) -> Computed
     ensures { λ r. ⌜ r ≡ computed (quotient x y) ⌝ }
 {
     if y == 0 {
-        return Computed::Ends(21);
+        return Computed::Ends(ZERO_DIVISOR);
     }
     if y == -1 { // the only divisor by which a quotient can leave 32 bits
         return negate(x);
@@ -73,7 +75,7 @@ pub fn remainder(x: i32, y: i32) -> Computed
     ensures { λ r. ⌜ r ≡ computed (rest x y) ⌝ }
 {
     if y == 0 {
-        return Computed::Ends(21);
+        return Computed::Ends(ZERO_DIVISOR);
     }
     if y == -1 { // the machine has no remainder where it has no quotient
         return Computed::Gives(0);

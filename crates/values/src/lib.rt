@@ -1,6 +1,7 @@
 // The operators of kinds 48 and 49, each equal to its definition in specs/Arithmetic.antt and specs/Values.antt.
 // Equality on logical values, bits and references is `==` on their words and has no function here.
 mod bits;
+mod conditions;
 mod integers;
 
 pub use bits::and_bits;
@@ -8,6 +9,15 @@ pub use bits::not_bits;
 pub use bits::or_bits;
 pub use bits::shift_left;
 pub use bits::shift_right;
+pub use conditions::ASSERT_FALSE;
+pub use conditions::CASE_INDEX;
+pub use conditions::FIELD_OF_NULL;
+pub use conditions::OUT_OF_RANGE;
+pub use conditions::OVERFLOW;
+pub use conditions::TOO_MANY_ACTIVATIONS;
+pub use conditions::TOO_MANY_RECORDS;
+pub use conditions::ZERO_DIVISOR;
+pub use conditions::is_condition;
 pub use integers::absolute;
 pub use integers::add;
 pub use integers::at_least;

@@ -133,7 +133,7 @@ module _ (l : List ℕ) (w : Well l) (i : ℕ) (h : suc i < count l) (g : Agrees
   room-next =
       by-option (foundAt (view l) i) (λ e. rw e tt)
       (λ s e. rw e (by-option (instrAt (view l) i) (λ q. rw q tt)
-      (λ x q. rw q (flow-room (effectIn (view l) _ x (s .operands)) s (rw e at (found-room l w i (omega arith) g (no-fault .0)))))))
+      (λ x q. rw q (flow-room (effectIn (view l) _ x s) s (rw e at (found-room l w i (omega arith) g (no-fault .0)))))))
 
   -- the address after it, if no body begins there
   module _ (inner : isFirst (view l .bodies) (suc i) ≡ false) where

@@ -13,10 +13,11 @@ use borrow.Author.Tests.{ne-eqb, lt-ltb, le-ltb, ltb-true}
 use Rattle.words.specs.Options.{keep}
 use Rattle.words.specs.Numbers.{byteAt, integerOf}
 use Rattle.values.specs.Types.{Ty, integer, logical, bits, reference, tyByte, sames}
+use Rattle.values.specs.Ends.{caseIndex}
 use Rattle.values.specs.Values.{int, log, bit, ref}
 use Rattle.bytecode.specs.Macro.{shape}
 use Rattle.bytecode.specs.Instructions.{Owner, own, root, Instr, end, load, store, operate, go, goUnless, call, return, make, getField, putField, setLevel, readFader, takeHold, letHold, assert, stop, push as pushes, exactly, ownerOf, operatorOf, instruction, bodyAt, cellsOf, fieldTy, procedureAt}
-use Rattle.bytecode.specs.Rules.{Effect, plain, leaves, endingIn, returningIn, calling, onStack, oneLess, giving, taking, effect as effectIn, strip, roomy, flow, flowOf}
+use Rattle.bytecode.specs.Rules.{Effect, plain, leaves, endingIn, returning, calling, onStack, oneLess, giving, taking, effect as effectIn, strip, roomy, flow, flowOf}
 use Rattle.places.specs.Search.{tops}
 use Rattle.places.specs.Records.{classes, bodies, classPlace, bodyPlace}
 use Rattle.places.specs.Rules.{Flow, goes, ends, need, push, pop, chain, takes, trade1, ownerBody, lands, handed, justs, opEnd, opInteger, opLogical, opBits, opNull, opLoad, opStore, opOperator, opGo, opUnless, opCall, opReturn, opMake, opGetField, opPutField, opSet, opFader, opHold, opRelease, opAssert, opStop, effect}
@@ -194,7 +195,7 @@ module _ (l : List ℕ) (w : Well l) (k : ℕ) (within : k < bodies l) (h : ℕ)
   at-return a b = exact2 does refl (eqb a 0) (eqb b 0) _ _ (returned k within)
     where
       returned : (j : ℕ) → j < bodies l
-          → need (not (eqb j 0)) (need (eqb h 0) (justs (resultAt l j) h (bytes ts))) ≡ sent (returningIn (view l) j)
+          → need (not (eqb j 0)) (need (eqb h 0) (justs (resultAt l j) h (bytes ts))) ≡ sent (returning (procedureAt (view l) j))
       returned zero r = (unfold flow in refl)
       returned (suc j) r =
           rw (eqb·suc-zero j, body-at l (suc j), lt-ltb (suc j) (bodies l) r, justs-same (resultAt l (suc j)) h ts (known-result l w (suc j) r))
@@ -263,7 +264,7 @@ module _ (l : List ℕ) (w : Well l) (k : ℕ) (within : k < bodies l) (h : ℕ)
   unfolding opAssert effectIn
   at-assert a b = exact2 does refl (eqb a 0) (eqb b 0) _ _ (pop-draws 2 h (bytes ts) ∙ gives-none (view l) k h ts room (logical ∷ []))
 
-  at-stop : (a b : ℕ) → opStop a b ≡ does (exactly (eqb a 0 && eqb b 0) stop)
+  at-stop : (a b : ℕ) → opStop a b ≡ does (exactly (eqb a 0 && eqb b 0) (stop caseIndex))
   unfolding opStop effectIn flow
   at-stop a b = exact2 does refl (eqb a 0) (eqb b 0) _ _ refl
 

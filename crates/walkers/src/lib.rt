@@ -1,5 +1,6 @@
 // The walkers: statements and expressions call each other, the remaining nesting falling. Each gets the part of the table that begins
 // where it stands and passes on parts that start inside it; the whole table is there for the types that a declaration elsewhere gives.
+use formats::entries::*;
 use heads::Verdict;
 ghost use mathlib.Core.Path.{_≡_};
 ghost use Prim.Native.Nat.{_+_, _*_};
@@ -11,32 +12,34 @@ fn operands_of(kind: u16, b: u32) -> usize
     ensures { λ r. ⌜ r ≡ operandsBy kind b ⌝ }
 {
     match kind {
-        21 => 2,
-        26 => 1,
-        27 => b as usize,
-        28 => 2,
-        45 => b as usize,
-        46 => 1,
-        47 => b as usize,
-        48 => 1,
-        49 => 2,
-        50 => 3,
-        51 => 1,
+        KIND_ASSIGN => 2,
+        KIND_ASSERT => 1,
+        KIND_CALL => b as usize,
+        KIND_SET => 2,
+        KIND_FUNCTION => b as usize,
+        KIND_FIELD => 1,
+        KIND_RECORD => b as usize,
+        KIND_UNARY => 1,
+        KIND_BINARY => 2,
+        KIND_IF_EXPRESSION => 3,
+        KIND_FADER => 1,
         _ => 0,
     }
 }
+
+const AFTER_SET: u16 = KIND_SET + 1;
 
 // A statement with expressions only below it.
 fn is_plain(kind: u16) -> bool
     ensures { λ r. ⌜ r ≡ isPlain kind ⌝ }
 {
-    if kind == 21 {
+    if kind == KIND_ASSIGN {
         return true;
     }
-    if kind < 25 {
+    if kind < KIND_GOTO {
         return false;
     }
-    kind < 29
+    kind < AFTER_SET
 }
 
 // The statements below an entry that has one expression before them.
@@ -44,8 +47,8 @@ fn guarded_of(kind: u16, a: u16) -> usize
     ensures { λ r. ⌜ r ≡ guardedBy kind a ⌝ }
 {
     match kind {
-        23 => 2,
-        30 => a as usize,
+        KIND_IF_ELSE => 2,
+        KIND_CASE => a as usize,
         _ => 1,
     }
 }
@@ -54,7 +57,7 @@ fn guarded_of(kind: u16, a: u16) -> usize
 fn tested(kind: u16, t: u32, at: usize) -> Verdict
     ensures { λ r. ⌜ r ≡ testedBy kind t at ⌝ }
 {
-    if kind == 30 {
+    if kind == KIND_CASE {
         if t == 1 {
             Verdict::Fine(1)
         } else {
@@ -91,7 +94,7 @@ fn operands(
             Verdict::Fine(t) => {
                 scopes::push(env, top + i, 65538, 0, t, 0);
                 let n = spans::size_at(sizes, place);
-                let from = 8 * n;
+                let from = ENTRY_BYTES * n;
                 rest = &rest[from..];
                 place += n;
                 i += 1;
@@ -118,9 +121,9 @@ fn operand(
     requires { ⌜ Asks ExprForm (now table) (now part) nesting at (now sizes) (now env) (top + i) × Alike (now env) top i ⌝ }
     ensures { λ r. ⌜ Typed ExprForm (now (table .entry)) (now (part .entry)) nesting at (now (sizes .entry)) (now (env .entry)) (now (env .exit)) (top + i) r ⌝ }
 {
-    let kind = words::half_at(part, 0);
+    let kind = words::half_at(part, KIND_AT);
     if operands::is_leaf(kind) {
-        operands::leaf(kind, words::half_at(part, 2) as u32, at, env, top)
+        operands::leaf(kind, words::half_at(part, A_AT) as u32, at, env, top)
     } else {
         expression(table, part, nesting, at, sizes, env, top + i)
     }
@@ -139,12 +142,12 @@ fn simple(
     requires { ⌜ Asks SimpleForm (now table) (now part) nesting at (now sizes) (now env) top ⌝ }
     ensures { λ r. ⌜ Typed SimpleForm (now (table .entry)) (now (part .entry)) nesting at (now (sizes .entry)) (now (env .entry)) (now (env .exit)) top r ⌝ }
 {
-    let kind = words::half_at(part, 0);
-    let name = words::half_at(part, 2);
-    let count = operands_of(kind, words::word_at(part, 4));
+    let kind = words::half_at(part, KIND_AT);
+    let name = words::half_at(part, A_AT);
+    let count = operands_of(kind, words::word_at(part, B_AT));
     match operands(
         table,
-        &part[8..],
+        &part[ENTRY_BYTES..],
         count,
         nesting - 1,
         at + 1,
@@ -170,12 +173,20 @@ fn guarded(
     requires { ⌜ Asks GuardForm (now table) (now part) nesting at (now sizes) (now env) top ⌝ }
     ensures { λ r. ⌜ Answers GuardForm (now (table .entry)) (now (part .entry)) nesting at (now (sizes .entry)) (now (env .entry)) (now (env .exit)) top r ⌝ }
 {
-    let kind = words::half_at(part, 0);
-    let count = guarded_of(kind, words::half_at(part, 2));
-    match expression(table, &part[8..], nesting - 1, at + 1, sizes, env, top) {
+    let kind = words::half_at(part, KIND_AT);
+    let count = guarded_of(kind, words::half_at(part, A_AT));
+    match expression(
+        table,
+        &part[ENTRY_BYTES..],
+        nesting - 1,
+        at + 1,
+        sizes,
+        env,
+        top,
+    ) {
         Verdict::Fine(t) => {
             let n = spans::size_at(sizes, at + 1);
-            let from = 8 * (1 + n);
+            let from = ENTRY_BYTES * (1 + n);
             match items(
                 table,
                 &part[from..],
@@ -215,7 +226,7 @@ pub fn items(
         match item(table, rest, nesting, place, sizes, env, top) {
             Verdict::Fine(_) => {
                 let n = spans::size_at(sizes, place);
-                let from = 8 * n;
+                let from = ENTRY_BYTES * n;
                 rest = &rest[from..];
                 place += n;
                 left -= 1;
@@ -241,7 +252,7 @@ fn item(
     requires { ⌜ Asks StmtForm (now table) (now part) nesting at (now sizes) (now env) top ⌝ }
     ensures { λ r. ⌜ Answers StmtForm (now (table .entry)) (now (part .entry)) nesting at (now (sizes .entry)) (now (env .entry)) (now (env .exit)) top r ⌝ }
 {
-    if is_plain(words::half_at(part, 0)) {
+    if is_plain(words::half_at(part, KIND_AT)) {
         simple(table, part, nesting, at, sizes, env, top)
     } else {
         statement(table, part, nesting, at, sizes, env, top)
@@ -261,12 +272,12 @@ fn block(
     requires { ⌜ Asks BlockForm (now table) (now part) nesting at (now sizes) (now env) top ⌝ }
     ensures { λ r. ⌜ Answers BlockForm (now (table .entry)) (now (part .entry)) nesting at (now (sizes .entry)) (now (env .entry)) (now (env .exit)) top r ⌝ }
 {
-    let heads = words::half_at(part, 2) as usize;
-    let count = words::word_at(part, 4) as usize;
+    let heads = words::half_at(part, A_AT) as usize;
+    let count = words::word_at(part, B_AT) as usize;
     let up = heads::enter(table, at + 1, heads, count, 65536, sizes, env, top);
     match heads::head(table, at + 1, heads, env, up) {
         Verdict::Fine(_) => {
-            let from = 8 * (1 + heads);
+            let from = ENTRY_BYTES * (1 + heads);
             items(
                 table,
                 &part[from..],
@@ -295,12 +306,12 @@ fn body(
     requires { ⌜ Asks BodyForm (now table) (now part) nesting at (now sizes) (now env) top ⌝ }
     ensures { λ r. ⌜ Typed BodyForm (now (table .entry)) (now (part .entry)) nesting at (now (sizes .entry)) (now (env .entry)) (now (env .exit)) top r ⌝ }
 {
-    let heads = words::half_at(part, 2) as usize;
-    let count = words::word_at(part, 4) as usize;
+    let heads = words::half_at(part, A_AT) as usize;
+    let count = words::word_at(part, B_AT) as usize;
     let up = heads::enter(table, at + 1, heads, count, 65537, sizes, env, top);
     match heads::head(table, at + 1, heads, env, up) {
         Verdict::Fine(_) => {
-            let from = 8 * (1 + heads);
+            let from = ENTRY_BYTES * (1 + heads);
             match items(
                 table,
                 &part[from..],
@@ -313,7 +324,7 @@ fn body(
             ) {
                 Verdict::Fine(_) => {
                     let n = spans::spanned(table, sizes, at + 1 + heads, count);
-                    let after = 8 * (1 + heads + n);
+                    let after = ENTRY_BYTES * (1 + heads + n);
                     expression(
                         table,
                         &part[after..],
@@ -343,7 +354,7 @@ pub fn expression(
     requires { ⌜ Asks ExprForm (now table) (now part) nesting at (now sizes) (now env) top ⌝ }
     ensures { λ r. ⌜ Typed ExprForm (now (table .entry)) (now (part .entry)) nesting at (now (sizes .entry)) (now (env .entry)) (now (env .exit)) top r ⌝ }
 {
-    if words::half_at(part, 0) == 53 {
+    if words::half_at(part, KIND_AT) == KIND_BLOCK_EXPRESSION {
         body(table, part, nesting, at, sizes, env, top)
     } else {
         simple(table, part, nesting, at, sizes, env, top)
@@ -363,14 +374,14 @@ pub fn statement(
     requires { ⌜ Asks StmtForm (now table) (now part) nesting at (now sizes) (now env) top ⌝ }
     ensures { λ r. ⌜ Answers StmtForm (now (table .entry)) (now (part .entry)) nesting at (now (sizes .entry)) (now (env .entry)) (now (env .exit)) top r ⌝ }
 {
-    let kind = words::half_at(part, 0);
+    let kind = words::half_at(part, KIND_AT);
     match kind {
-        1 => block(table, part, nesting, at, sizes, env, top),
-        20 => heads::once(env, top, words::half_at(part, 2) as u32, at),
-        22 => guarded(table, part, nesting, at, sizes, env, top),
-        23 => guarded(table, part, nesting, at, sizes, env, top),
-        24 => guarded(table, part, nesting, at, sizes, env, top),
-        30 => guarded(table, part, nesting, at, sizes, env, top),
+        KIND_BLOCK => block(table, part, nesting, at, sizes, env, top),
+        KIND_LABEL => heads::once(env, top, words::half_at(part, A_AT) as u32, at),
+        KIND_IF => guarded(table, part, nesting, at, sizes, env, top),
+        KIND_IF_ELSE => guarded(table, part, nesting, at, sizes, env, top),
+        KIND_WHILE => guarded(table, part, nesting, at, sizes, env, top),
+        KIND_CASE => guarded(table, part, nesting, at, sizes, env, top),
         _ => simple(table, part, nesting, at, sizes, env, top),
     }
 }

@@ -23,7 +23,7 @@ use Rattle.layout.specs.Layout.{soundState-encode}
 use Rattle.layout.specs.Passing.{sized}
 use Rattle.safety.specs.Safety.{run-safe}
 use Rattle.safety.specs.Terms.{Answers, Moves}
-use Rattle.demands.specs.Terms.{Fed, runsOn, onBytes}
+use Rattle.lent_runs.specs.Terms.{Fed, runsOn, onBytes, NoneSound}
 
 -- what is written after an answer that is allowed
 written-is : (f : Feed) (s t : Machine) (a : Answer) → Answers f s a t → written a t (encode s) ≡ record { answer = a; bytes = encode t }
@@ -66,10 +66,6 @@ pub not-stuck : (m : Macro) (bank : ℕ → ℕ) (s : Machine) → (is : List It
 not-stuck m bank s (is, t, e, v) why i = let z : _≡_ {A = ℕ} 0 1 = cc (e, i) in absurd (omega arith)
 
 -- ── 10 ──
--- the state that decodes from bytes is not sound, if one does
-abbrev pub NoneSound : Macro → List ℕ → Type 0
-NoneSound m l = (s : Machine) → decode m l ≡ some s → sound m s ≡ false
-
 none-sound : (m : Macro) (o : Option Machine) → ((s : Machine) → o ≡ some s → sound m s ≡ false) → keep o (onlySound m) ≡ none
 none-sound m none h = refl
 none-sound m (some s) h = rw (h s refl)
