@@ -10,6 +10,7 @@ use Rattle.words.specs.Choice.{if_then_else_}
 use Rattle.words.specs.Numbers.{wordOf}
 use Rattle.values.specs.Types.{Ty, integer, logical, bits, reference}
 use Rattle.values.specs.Operators.{Operator, unary, binary, Unary, Binary, plus, minus, times, divide, remainder, less, atMost, greater, atLeast, equal, unequal, both, either, shiftLeft, shiftRight}
+use Rattle.values.specs.Ends.{caseIndex}
 use Rattle.values.specs.Values.{Value, int, log, bit, ref, initial}
 use Rattle.language.specs.Tree.{Typed, Decl, declare, holding, Stmt, block, assign, when, choose, while, goto, assert, call, setLevel, select, Items, noItem, label, item, Arms, lastArm, arm, Target, toVariable, toField, Expr, number, truth, pattern, null, variable, invoke, field, make, operate1, operate2, conditional, fader, blockExpr, Exprs, noExpr, expr, Body, proper, function, Global, local, class, procedure, Tree}
 use Rattle.language.specs.Names.{Scope, types, blockOf, expressionOf, procedureOf, rootOf, results}
@@ -364,7 +365,7 @@ module _ (gs : List Global) where
     codeArms (lastArm s) c i z Γ st p =
         let q = skip 4 p in let y = codeS s Γ st q in
         op (load own c) ▸ (op (push (int (pos i))) ▸ (op (operate (binary equal)) ▸ (op (goUnless (suc (after y q .address)))
-        ▸ (y ▸ (op (go z) ▸ (mark (found Γ st) ▸ op stop))))))
+        ▸ (y ▸ (op (go z) ▸ (mark (found Γ st) ▸ op (stop caseIndex)))))))
     codeArms (arm s r) c i z Γ st p =
         let q = skip 4 p in let y = codeS s Γ st q in let n = skip 1 (after y q) in
         op (load own c) ▸ (op (push (int (pos i))) ▸ (op (operate (binary equal)) ▸ (op (goUnless (n .address))

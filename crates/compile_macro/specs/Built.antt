@@ -21,9 +21,9 @@ use Rattle.language.specs.Formed.{InLimits}
 use Rattle.language.specs.Table.{flatDecl, flatItems, flatBody}
 use Rattle.language.specs.Execute.{Procedure, procedureIn, classIn}
 use Rattle.bytecode.specs.Macro.{Body, Shape, Placed}
-use Rattle.bytecode.specs.Instructions.{Owner, own, root, return, bodyAt}
-use Rattle.bytecode.specs.Machine.{fetch, notRoot}
-use Rattle.bytecode.specs.Rules.{atFirst, headFault, bodyFault, cellTy, cellsOf, calledBody, roomy, faultAt, judgeMacro}
+use Rattle.bytecode.specs.Instructions.{Owner, own, root, return, bodyAt, procedureAt, cellTy, cellsOf}
+use Rattle.bytecode.specs.Machine.{fetch}
+use Rattle.bytecode.specs.Rules.{atFirst, headFault, bodyFault, roomy, faultAt, judgeMacro}
 use Rattle.loading.specs.Terms.{Each, Named, ReadClass, ReadBody, ReadShape, WellFormed, OfBytes, Narrow, Passed}
 use Rattle.loading.specs.Bodies.{each-at}
 use Rattle.loading.specs.Tests.{never-some, same-some, halves, kept}
@@ -277,7 +277,7 @@ module _ (t : Tree) where
         of-cell k own c ty h = of-body (bodyAt (compiled t) k) c ty (λ b e. body-cells k b e .0) h
         of-cell k root c ty h = of-body (bodyAt (compiled t) 0) c ty (λ b e. body-cells 0 b e .0) h
 
-        of-result : (b : ℕ) (B : Body) → calledBody (compiled t) b ≡ some B → Each N (B .results)
+        of-result : (b : ℕ) (B : Body) → procedureAt (compiled t) b ≡ some B → Each N (B .results)
         of-result zero B h = never-some h
         of-result (suc b) B h = let q = known-part (suc b) B h in subst (λ (x : Body). Each N (x .results)) (q .2) (results-are (suc b) (q .0) (q .1) .0)
 
@@ -299,7 +299,7 @@ module _ (t : Tree) where
     flows : (k : ℕ) (p : Part) → getElem? (parts t) k ≡ some p → (Aim : ℕ → Shape → Type 0) → Marks (compiled t) k Aim (p .code) (startOf p) → Seg (compiled t) k Aim (p .code) atFirst none
     flows k p e Aim = by-part (λ k p. Marks (compiled t) k Aim (p .code) (startOf p) → Seg (compiled t) k Aim (p .code) atFirst none)
         (λ g. root-flows (compiled t) t (O .root-typed) root-celled (O .root-keeps) Aim g)
-        (λ j q b h g w. proc-flows (compiled t) t j q b (O .procs j q h .typed) (proc-celled j q b g) (proc-held q) (rw (head-of (suc j) (procPart t q b) g) refl) (O .procs j q h .keeps) Aim w) k p e
+        (λ j q b h g w. proc-flows (compiled t) t j q b (O .procs j q h .typed) (proc-celled j q b g) (proc-held q) (procPart t q b .head) (head-of (suc j) (procPart t q b) g) refl (O .procs j q h .keeps) Aim w) k p e
 
     marks-known : (k : ℕ) (p : Part) → getElem? (parts t) k ≡ some p → Marks (compiled t) k (λ a s. Each N (s .operands)) (p .code) (startOf p)
     marks-known = by-part (λ k p. Marks (compiled t) k (λ a s. Each N (s .operands)) (p .code) (startOf p))
@@ -415,7 +415,7 @@ module _ (t : Tree) where
     narrow = record {
       few-instructions = code-short;
       instructions-narrow = rw code-is (narrow-lines (linesOf (parts t)) (narrow-lines-of 0 (parts t) (λ k p h.
-          two-ops Holdable (λ i. (s : Shape) × (g : Option Shape) × Goes (Aimed (compiled t) k) (flow (effect (compiled t) k i (s .operands)) s) g) (λ x. OfBytes (recordOf x))
+          two-ops Holdable (λ i. (s : Shape) × (g : Option Shape) × Goes (Aimed (compiled t) k) (flow (effect (compiled t) k i s) s) g) (λ x. OfBytes (recordOf x))
           (narrow-op (compiled t) k well-formed code-short (λ j b e. body-cells j b e .1)) (p .code) (holdable k p h) (flowing (compiled t) k (p .code) atFirst none (segged (compiled t) k (p .code) (startOf p) (flows k p h) (lined k p h))))));
     }
 
@@ -455,7 +455,7 @@ module _ (t : Tree) where
           let s = all-stand (suc k) (procPart t r (b .0)) (b .1) in
           record {
             head = procPart t r (b .0) .head;
-            there = subst (λ n. notRoot (compiled t) n ≡ some (procPart t r (b .0) .head)) (sym e) (head-of (suc k) (procPart t r (b .0)) (b .1));
+            there = subst (λ n. procedureAt (compiled t) n ≡ some (procPart t r (b .0) .head)) (sym e) (head-of (suc k) (procPart t r (b .0)) (b .1));
             counts = refl;
             scope = procedureOf (r .parameters);
             names = definesTyped (r .parameters);

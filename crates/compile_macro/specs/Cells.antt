@@ -16,9 +16,9 @@ use Rattle.language.specs.Tree.{Decl, declare, holding, Stmt, block, assign, wh
 use Rattle.language.specs.Names.{blockOf, expressionOf}
 use Rattle.language.specs.Faults.{typeE, isTy}
 use Rattle.language.specs.Limits.{headCells, cellsS, cellsItems, cellsArms, cellsTarget, cellsE, cellsEs}
-use Rattle.bytecode.specs.Macro.{Body, Macro}
-use Rattle.bytecode.specs.Instructions.{push, go, bodyAt}
-use Rattle.bytecode.specs.Rules.{plain, wrong, effect, cellsOf}
+use Rattle.bytecode.specs.Macro.{Body, shape, Macro}
+use Rattle.bytecode.specs.Instructions.{push, go, bodyAt, cellsOf}
+use Rattle.bytecode.specs.Rules.{plain, wrong, effect}
 use Rattle.loading.specs.Terms.{Each, Named}
 use Rattle.compile_code.specs.Code.{Code, nil, op, mark, cell, _▸_, At, at, skip, after, cellsIn}
 use Rattle.compile_code.specs.Compile.{Around, inside, outermost, bound, global, held, labels, scopesOf, passing, theLabels, hasLabel, labelAt, Way, plainly, marked, ifTrue, ifFalse, wayOf, codeWay, codeGoto, codeHead, codeS, codeItems, codeArms, codeTarget, codeE, codeEs, opsArms, tyTarget, tyE, tyIn}
@@ -168,7 +168,7 @@ module _ (m : Macro) (k : ℕ) (gs : List Global) where
   Known t = Named (length (m .classes)) t
 
   -- a type whose initial value can be pushed is known
-  pub of-initial : (t : Ty) → effect m k (push (initial t)) [] ≡ plain [] (t ∷ []) → Known t
+  pub of-initial : (t : Ty) → effect m k (push (initial t)) (shape 0 []) ≡ plain [] (t ∷ []) → Known t
   unfolding effect
   of-initial integer h = tt
   of-initial logical h = tt
@@ -190,7 +190,7 @@ module _ (m : Macro) (k : ℕ) (gs : List Global) where
       → okHead m k gs name ds Γ P → Celled m k gs (codeHead gs name ds Γ p f) p → Cells Known (codeHead gs name ds Γ p f)
   unfolding okHead codeHead Cells Celled after
   cells-head name [] Γ p P f g o c = g Γ p o c
-  cells-head name (declare x ∷ ds) Γ p P f g o c = (of-initial (tyIn gs (x .type)) (o .0 []), (tt, (tt, cells-head name ds (name (x .name) (p .cell) ∷ Γ) (at (suc (suc (p .address))) (suc (p .cell))) P f g (o .1 (p .cell) (c .0)) (c .1 .1 .1))))
+  cells-head name (declare x ∷ ds) Γ p P f g o c = (of-initial (tyIn gs (x .type)) (o .0 (shape 0 [])), (tt, (tt, cells-head name ds (name (x .name) (p .cell) ∷ Γ) (at (suc (suc (p .address))) (suc (p .cell))) P f g (o .1 (p .cell) (c .0)) (c .1 .1 .1))))
   cells-head name (holding x ∷ ds) Γ p P f g o c = (tt, (cells-head name ds (held x ∷ Γ) (skip 1 p) P f g o (c .1 .0), tt))
 
   mutual

@@ -1,6 +1,6 @@
 -- The numbers of entries fit their fields: so do those of the ops that they compile to.
 use mathlib.Core.Bool.{Bool, true, false, _&&_}
-use mathlib.Core.Path.{_≡_}
+use mathlib.Core.Path.{_≡_, refl}
 use mathlib.Core.List.{List, [], _∷_, _++_, map}
 use mathlib.Core.Option.{Option, none, some}
 use Prim.Native.Nat.{ℕ, suc, _+_, _<_}
@@ -21,6 +21,7 @@ use Rattle.language.specs.Names.{blockOf, expressionOf}
 use Rattle.language.specs.Faults.{typeE, isTy}
 use Rattle.language.specs.Table.{Entry, entry, inLayout, nothing, flatDecl, flatS, flatItems, flatArms, flatTarget, flatE, flatEs}
 use Rattle.language.specs.Judge.{inFields}
+use Rattle.values.specs.Ends.{caseIndex}
 use Rattle.bytecode.specs.Instructions.{Instr, end, push, load, store, operate, go, goUnless, return, getField, putField, readFader, takeHold, letHold, stop}
 use Rattle.bytecode.specs.Instructions.{call as callOp, make as makeOp, setLevel as setOp, assert as assertOp}
 use Rattle.loading.specs.Terms.{Each}
@@ -58,7 +59,7 @@ Holdable readFader = Unit {0}
 Holdable (takeHold g) = leb g 63 ≡ true
 Holdable letHold = Unit {0}
 Holdable assertOp = Unit {0}
-Holdable stop = Unit {0}
+Holdable (stop c) = c ≡ caseIndex
 
 pub holdable-writable : (i : Instr) → Holdable i → Writable i
 holdable-writable end h = tt
@@ -82,7 +83,7 @@ holdable-writable readFader h = tt
 holdable-writable (takeHold g) h = h
 holdable-writable letHold h = tt
 holdable-writable assertOp h = tt
-holdable-writable stop h = tt
+holdable-writable (stop c) h = h
 
 pub more-ops : (P Q : Instr → Type 0) → ((i : Instr) → P i → Q i) → (x : Code) → Ops P x → Ops Q x
 unfolding Ops
@@ -180,7 +181,7 @@ module _ (gs : List Global) where
     fieldsItems (item s is) Γ ts p h = let q = parted Entered (flatS s) (flatItems is) h in (fieldsS s Γ ts p (q .0), fieldsItems is Γ ts _ (q .1))
 
     fieldsArms : (r : Arms) (c i z : ℕ) (Γ : List Around) (ts : List Ty) (p : At) → i + countArms r < 70000 → Each Entered (flatArms r) → Ops Holdable (codeArms gs r c i z Γ ts p)
-    fieldsArms (lastArm s) c i z Γ ts p l h = (tt, (small i (omega arith), (tt, (tt, (fieldsS s Γ ts _ h, (tt, (tt, tt)))))))
+    fieldsArms (lastArm s) c i z Γ ts p l h = (tt, (small i (omega arith), (tt, (tt, (fieldsS s Γ ts _ h, (tt, (tt, refl)))))))
     fieldsArms (arm s r) c i z Γ ts p l h = let q = parted Entered (flatS s) (flatArms r) h in
         (tt, (small i (omega arith), (tt, (tt, (fieldsS s Γ ts _ (q .0), (tt, (tt, fieldsArms r c (suc i) z Γ ts _ (omega arith) (q .1))))))))
 

@@ -15,9 +15,9 @@ use Rattle.values.specs.Types.{Ty, logical, reference}
 use Rattle.values.specs.Operators.{Operator, unary, binary, negate, absolute, complement, plus, minus, times, divide, remainder, less, atMost, greater, atLeast, equal, unequal, both, either, shiftLeft, shiftRight}
 use Rattle.values.specs.Values.{int, log, bit, ref}
 use Rattle.bytecode.specs.Macro.{Body, Shape, shape, Placed, Macro, shapeIn}
-use Rattle.bytecode.specs.Instructions.{Owner, own, root, Instr, end, push, load, store, operate, go, goUnless, return, getField, putField, readFader, takeHold, letHold, stop, bodyAt, inBody}
+use Rattle.bytecode.specs.Instructions.{Owner, own, root, Instr, end, push, load, store, operate, go, goUnless, return, getField, putField, readFader, takeHold, letHold, stop, bodyAt, inBody, procedureAt, cellTy, cellsOf, fieldTy}
 use Rattle.bytecode.specs.Instructions.{call as callOp, make as makeOp, setLevel as setOp, assert as assertOp}
-use Rattle.bytecode.specs.Rules.{plain, wrong, fork, strip, stripped, flow, effect, giving, taking, calling, making, calledBody, cellTy, cellsOf, fieldTy, roomy, equalShape}
+use Rattle.bytecode.specs.Rules.{plain, wrong, fork, strip, stripped, flow, effect, giving, taking, calling, making, roomy, equalShape}
 use Rattle.loading.specs.Terms.{Each, Apart, OfBytes, WellFormed, ReadClass}
 use Rattle.loading.specs.Bodies.{inside-code, each-at}
 use Rattle.loading.specs.Tests.{never-some, halves}
@@ -115,7 +115,7 @@ placed-few (x ∷ ls) i = pick (x .shape) (placed-few ls (suc i))
 -- ── ops ──
 -- an op that does not break the flow
 abbrev pub Flowing : Macro → ℕ → Instr → Type 0
-Flowing m k i = (s : Shape) × (g : Option Shape) × Goes (Aimed m k) (flow (effect m k i (s .operands)) s) g
+Flowing m k i = (s : Shape) × (g : Option Shape) × Goes (Aimed m k) (flow (effect m k i s) s) g
 
 pub flowing : (m : Macro) (k : ℕ) (x : Code) (f g : Option Shape) → Seg m k (Aimed m k) x f g → Ops (Flowing m k) x
 unfolding Seg Ops
@@ -191,7 +191,7 @@ module _ (m : Macro) (k : ℕ) (w : WellFormed m) (short : length (m .code) < 65
   small-field none x t h = never-some h
   small-field (some ts) x t h = (ts, refl, index-below ts x t h)
 
-  small-body : (b : ℕ) (B : Body) → calledBody m b ≡ some B → b < 64
+  small-body : (b : ℕ) (B : Body) → procedureAt m b ≡ some B → b < 64
   small-body zero B h = never-some h
   small-body (suc b) B h = let z = index-below (m .bodies) (suc b) B h in let y = w .few-bodies in omega arith
 
@@ -236,7 +236,7 @@ module _ (m : Macro) (k : ℕ) (w : WellFormed m) (short : length (m .code) < 65
   narrow-op (operate o) h f = rec (operate o) (omega arith) (operator-byte o) (omega arith)
   narrow-op (go t) h f = let z = small-target t (f .0) (f .2 .1) in rec (go t) (omega arith) (omega arith) (omega arith)
   narrow-op (goUnless t) h f = let q = from-fork (strip (logical ∷ []) (f .0 .operands)) t (f .0) (f .1) (f .2) in let z = small-target t (q .0) (q .1) in rec (goUnless t) (omega arith) (omega arith) (omega arith)
-  narrow-op (callOp b) h f = let q = from-calling (calledBody m b) (f .0) (f .1) (f .2) in let z = small-body b (q .0) (q .1) in rec (callOp b) (omega arith) (omega arith) (omega arith)
+  narrow-op (callOp b) h f = let q = from-calling (procedureAt m b) (f .0) (f .1) (f .2) in let z = small-body b (q .0) (q .1) in rec (callOp b) (omega arith) (omega arith) (omega arith)
   narrow-op return h f = rec return (omega arith) (omega arith) (omega arith)
   narrow-op (makeOp c) h f = let q = from-making (getElem? (m .classes) c) c (f .0) (f .1) (f .2) in let z = small-class c (q .0) (q .1) .0 in rec (makeOp c) (omega arith) (omega arith) (omega arith)
   narrow-op (getField c x) h f =
@@ -250,7 +250,7 @@ module _ (m : Macro) (k : ℕ) (w : WellFormed m) (short : length (m .code) < 65
   narrow-op (takeHold g) h f = let z = leb-true g 63 h in rec (takeHold g) (omega arith) (omega arith) (omega arith)
   narrow-op letHold h f = rec letHold (omega arith) (omega arith) (omega arith)
   narrow-op assertOp h f = rec assertOp (omega arith) (omega arith) (omega arith)
-  narrow-op stop h f = rec stop (omega arith) (omega arith) (omega arith)
+  narrow-op (stop c) h f = rec (stop c) (omega arith) (omega arith) (omega arith)
 
 -- each record of lines whose ops are so
 pub narrow-lines : (ls : List Line) → Each (λ (l : Line). OfBytes (recordOf (l .instr))) ls → Each OfBytes (recordsOf ls)

@@ -12,10 +12,9 @@ use Rattle.language.specs.Names.{procedureOf}
 use Rattle.language.specs.Names.{results as resultsOf}
 use Rattle.language.specs.Limits.{bodyUsage, rootUsage, locals, holdsItems}
 use Rattle.language.specs.Formed.{InLimits}
-use Rattle.bytecode.specs.Macro.{Shape, shape, Macro}
-use Rattle.bytecode.specs.Instructions.{own, return, bodyAt}
+use Rattle.bytecode.specs.Macro.{Body, Shape, shape, Macro}
+use Rattle.bytecode.specs.Instructions.{own, return, procedureAt}
 use Rattle.bytecode.specs.Rules.{effect, flow, atFirst}
-use Rattle.bytecode.specs.Rules.{resultsOf as bodyResults}
 use Rattle.compile_code.specs.Code.{Code, At, at}
 use Rattle.compile_code.specs.Compile.{Around, inside, global, labels, heldIn, codeItems, tyE, tyIn, Proc}
 use Rattle.compile_code.specs.Encode.{codeRoot, codeProc, codeBody, parameterCells, rootVariables, startOfRoot, aroundBody}
@@ -104,23 +103,23 @@ module _ (m : Macro) (t : Tree) where
           go (proper s) o c = markS m (suc k) (t .head) H s Γ [] p o c tt
           go (function u e) o c = markE m (suc k) (t .head) H e Γ [] p (o .0) c tt .0
 
-      pub proc-flows : heldIn Γ ≡ [] → bodyResults (bodyAt m (suc k)) ≡ map (tyIn (t .head)) (resultsOf (q .body)) → InLimits (bodyUsage (q .parameters) (q .body))
+      pub proc-flows : heldIn Γ ≡ [] → (B : Body) → procedureAt m (suc k) ≡ some B → B .results ≡ map (tyIn (t .head)) (resultsOf (q .body)) → InLimits (bodyUsage (q .parameters) (q .body))
           → (Aim : ℕ → Shape → Type 0) → Marks m (suc k) Aim (codeProc t q a) p → Seg m (suc k) Aim (codeProc t q a) atFirst none
       unfolding Celled Marks Seg effect flow
-      proc-flows z e u Aim g = go (q .body) o (c .0) e (u .holds) (u .need) (g .0)
+      proc-flows z B there e u Aim g = go (q .body) o (c .0) e (u .holds) (u .need) (g .0)
         where
           empty : length (heldIn Γ) ≡ 0
           empty = ap length z
 
-          go : (b : TreeBody) → okBodyTy m (suc k) (t .head) b Γ → Celled m (suc k) (t .head) (code b) p → bodyResults (bodyAt m (suc k)) ≡ map (tyIn (t .head)) (resultsOf b)
+          go : (b : TreeBody) → okBodyTy m (suc k) (t .head) b Γ → Celled m (suc k) (t .head) (code b) p → B .results ≡ map (tyIn (t .head)) (resultsOf b)
               → bodyUsage (q .parameters) b .holds ≤ 16 → bodyUsage (q .parameters) b .need ≤ 32 → Marks m (suc k) Aim (code b) p
-              → (h : Option Shape) × Seg m (suc k) Aim (code b) atFirst h × ((s : Shape) × (h ≡ some s) × Goes Aim (flow (effect m (suc k) return (s .operands)) s) none)
+              → (h : Option Shape) × Seg m (suc k) Aim (code b) atFirst h × ((s : Shape) × (h ≡ some s) × Goes Aim (flow (effect m (suc k) return s) s) none)
           go (proper s) o c e l n g =
               let reach = reaches-params (suc k) Aim (q .parameters) 0 (q .parameters) (rootVariables (locals (t .head)) 0 (startOfRoot t)) [] in
               let w = passS m (suc k) (t .head) Aim s Γ [] p o reach (omega (arith, empty)) (omega arith) c g in
-              (some (shape 0 []), subst (λ i. Seg m (suc k) Aim (code (proper s)) (some (shape i [])) (some (shape i []))) empty w, (shape 0 [], refl, rw (e, shape-refl (shape 0 [])) refl))
+              (some (shape 0 []), subst (λ i. Seg m (suc k) Aim (code (proper s)) (some (shape i [])) (some (shape i []))) empty w, (shape 0 [], refl, rw (there, e, shape-refl (shape 0 [])) refl))
           go (function u x) o c e l n g =
               let w = passE m (suc k) (t .head) Aim x Γ [] p (o .0) (omega (arith, empty)) (omega arith) c g in
               let v = subst (λ i. Seg m (suc k) Aim (code (function u x)) (some (shape i [])) (some (shape i (tyE (t .head) Γ x ∷ [])))) empty w in
               let r = shape 0 (tyIn (t .head) u ∷ []) in
-              (some r, subst (λ ty. Seg m (suc k) Aim (code (function u x)) (some (shape 0 [])) (some (shape 0 (ty ∷ [])))) (o .1) v, (r, refl, rw (e, shape-refl r) refl))
+              (some r, subst (λ ty. Seg m (suc k) Aim (code (function u x)) (some (shape 0 [])) (some (shape 0 (ty ∷ [])))) (o .1) v, (r, refl, rw (there, e, shape-refl r) refl))

@@ -12,9 +12,8 @@ use Rattle.values.specs.Operators.{Operator, unary, binary, negate, absolute, c
 use Rattle.language.specs.Tree.{Decl, declare, holding, Stmt, block, assign, when, choose, while, goto, assert, call, setLevel, select, Items, noItem, label, item, Arms, lastArm, arm, Target, toVariable, toField, Expr, number, truth, pattern, null, variable, invoke, field, make, operate1, operate2, conditional, fader, blockExpr, Exprs, noExpr, expr, Global}
 use Rattle.language.specs.Names.{blockOf, expressionOf}
 use Rattle.language.specs.Faults.{typeE, isTy}
-use Rattle.bytecode.specs.Macro.{Body, Shape, Macro}
-use Rattle.bytecode.specs.Instructions.{Owner, go}
-use Rattle.bytecode.specs.Rules.{cellTy, fieldTy, calledBody}
+use Rattle.bytecode.specs.Macro.{Body, Shape, shape, Macro}
+use Rattle.bytecode.specs.Instructions.{Owner, go, cellTy, fieldTy, procedureAt}
 use Rattle.loading.specs.Terms.{Each, Named}
 use Rattle.loading.specs.Tests.{never-some, same-some}
 use Rattle.compile_code.specs.Code.{Code, op, cell, _▸_, At, at, skip, after}
@@ -68,7 +67,7 @@ of-operator n (binary shiftRight) ts r h = of-takes n (bits ∷ integer ∷ []) 
 -- what is known of the macro's heads: types of cells, results and fields are known
 pub record Heads (m : Macro) : Type 0 where
   pub cells : (k : ℕ) (o : Owner) (c : ℕ) (t : Ty) → cellTy m k o c ≡ some t → Named (length (m .classes)) t
-  pub results : (b : ℕ) (B : Body) → calledBody m b ≡ some B → Each (Named (length (m .classes))) (B .results)
+  pub results : (b : ℕ) (B : Body) → procedureAt m b ≡ some B → Each (Named (length (m .classes))) (B .results)
   pub fields : (c x : ℕ) (t : Ty) → fieldTy m c x ≡ some t → Named (length (m .classes)) t
 
 module _ (m : Macro) (k : ℕ) (gs : List Global) (H : Heads m) where
@@ -147,7 +146,7 @@ module _ (m : Macro) (k : ℕ) (gs : List Global) (H : Heads m) where
     markE (number z) Γ ts p o c n = (tt, tt)
     markE (truth b) Γ ts p o c n = (tt, tt)
     markE (pattern z) Γ ts p o c n = (tt, tt)
-    markE (null x) Γ ts p o c n = (tt, of-initial m k gs (reference (classNumber gs x)) (o []))
+    markE (null x) Γ ts p o c n = (tt, of-initial m k gs (reference (classNumber gs x)) (o (shape 0 [])))
     markE (variable a) Γ ts p o c n = (tt, H .cells k (o .0) (o .1) (tyE gs Γ (variable a)) (o .3))
     markE (invoke a es) Γ ts p o c n = ((markEs es Γ ts p (o .0) (c .0) n, tt), subst KnownAll (o .1 .3) (H .results (bodyNumber gs a) (o .1 .0) (o .1 .1)) .0)
     markE (field a e) Γ ts p o c n = ((markE e Γ ts p (o .0) (c .0) n .0, tt), H .fields (fieldNumber gs a .class) (fieldNumber gs a .index) (tyE gs Γ (field a e)) (o .2))

@@ -16,9 +16,9 @@ use Rattle.language.specs.Tree.{Decl, declare, holding, Stmt, block, assign, wh
 use Rattle.language.specs.Names.{isVariable, isClass, isField, isProcedure, types, results, Scope, blockOf, expressionOf}
 use Rattle.language.specs.Faults.{withTy, typeE, typesE, typeTarget, isTy, variableTy, resultTy}
 use Rattle.language.specs.Faults.{fieldTy as treeFieldTy}
-use Rattle.bytecode.specs.Macro.{Body, Macro}
-use Rattle.bytecode.specs.Instructions.{Owner, push}
-use Rattle.bytecode.specs.Rules.{plain, effect, cellTy, fieldTy, calledBody}
+use Rattle.bytecode.specs.Macro.{Body, Shape, Macro}
+use Rattle.bytecode.specs.Instructions.{Owner, push, cellTy, fieldTy, procedureAt}
+use Rattle.bytecode.specs.Rules.{plain, effect}
 use Rattle.compile_code.specs.Compile.{Around, inside, bound, held, labels, scopesOf, kept, Class, classesOf, namesOf, indexOf, Proc, procsOf, classNumber, bodyNumber, fieldNumber, orInteger, wayOf, tyIn, tyE}
 use Rattle.compile_code.specs.Compile.{cellOf as keptOf}
 use Rattle.compile_code.specs.Encode.{fieldTypes}
@@ -37,7 +37,7 @@ use Rattle.compile_names.specs.Types.{unary-in, ways-in}
 pub record Tabled (m : Macro) (gs : List Global) : Type 0 where
   pub classes-are : m .classes ≡ fieldTypes gs (classesOf gs)
   pub called : (i : ℕ) (p : Proc) → getElem? (procsOf gs) i ≡ some p
-      → (B : Body) × (calledBody m (suc i) ≡ some B) × (take (B .parameters) (B .cells) ≡ map (tyIn gs) (types (p .parameters))) × (B .results ≡ map (tyIn gs) (results (p .body)))
+      → (B : Body) × (procedureAt m (suc i) ≡ some B) × (take (B .parameters) (B .cells) ≡ map (tyIn gs) (types (p .parameters))) × (B .results ≡ map (tyIn gs) (results (p .body)))
 
 pub class-types : (gs : List Global) (cs : List Class) (k : ℕ) (x : Class) → getElem? cs k ≡ some x → getElem? (fieldTypes gs cs) k ≡ some (map (tyIn gs) (types (x .fields)))
 unfolding fieldTypes
@@ -68,19 +68,19 @@ module _ (m : Macro) (k : ℕ) (gs : List Global) where
     class-typed : (c : ℕ) (ts : List Ty) → ClassFound gs c ts → getElem? (m .classes) (classNumber gs c) ≡ some (map (tyIn gs) ts)
     class-typed c ts f = ap (λ l. getElem? l (classNumber gs c)) (tables .classes-are) ∙ class-types gs (classesOf gs) (classNumber gs c) (classAs c (f .fields)) (f .at-number) ∙ ap (λ us. some (map (tyIn gs) us)) (f .its-types)
 
-    push-null : (ss : List Scope) (c : ℕ) → GlobalsIn gs ss → ClassAt ss c → (us : List Ty) → effect m k (push (ref (classNumber gs c) none)) us ≡ plain [] (tyIn gs (reference c) ∷ [])
+    push-null : (ss : List Scope) (c : ℕ) → GlobalsIn gs ss → ClassAt ss c → (s : Shape) → effect m k (push (ref (classNumber gs c) none)) s ≡ plain [] (tyIn gs (reference c) ∷ [])
     unfolding effect
-    push-null ss c g h us =
+    push-null ss c g h s =
         let q = g c (isClass (h .0)) (h .1 .0) tt (h .1 .1) in let f = class-typed c (h .0) (class-found gs c (h .0) (q .0) (q .1)) in
         let l : ltb (classNumber gs c) (length (m .classes)) ≡ true = lt-ltb (classNumber gs c) (length (m .classes)) (index-below (m .classes) (classNumber gs c) (map (tyIn gs) (h .0)) f) in
         rw l refl
 
-    pub push-ok : (ss : List Scope) (t : Ty) → GlobalsIn gs ss → goodTy ss t → (us : List Ty) → effect m k (push (initial (tyIn gs t))) us ≡ plain [] (tyIn gs t ∷ [])
+    pub push-ok : (ss : List Scope) (t : Ty) → GlobalsIn gs ss → goodTy ss t → (s : Shape) → effect m k (push (initial (tyIn gs t))) s ≡ plain [] (tyIn gs t ∷ [])
     unfolding effect
-    push-ok ss integer g h us = refl
-    push-ok ss logical g h us = refl
-    push-ok ss bits g h us = refl
-    push-ok ss (reference c) g h us = push-null ss c g h us
+    push-ok ss integer g h s = refl
+    push-ok ss logical g h s = refl
+    push-ok ss bits g h s = refl
+    push-ok ss (reference c) g h s = push-null ss c g h s
 
     pub typed-head : (ss : List Scope) (seen : List ℕ) (ds : List Decl) (Γ : List Around) (Q : List Around → Type 0) → GlobalsIn gs ss → goodHead ss seen ds → ((Δ : List Around) → Entered CellTy ofBlock ds Γ Δ → Q Δ) → okHead m k gs bound ds Γ Q
     unfolding goodHead Entered okHead
@@ -89,7 +89,7 @@ module _ (m : Macro) (k : ℕ) (gs : List Global) where
     typed-head ss seen (holding q ∷ ds) Γ Q g h f = typed-head ss seen ds (held q ∷ Γ) Q g h f
 
     calls-ok : (Γ : List Around) (a : ℕ) (es : Exprs) (ts us : List Ty) → GlobalsIn gs (scopesOf Γ) → IsA a (scopesOf Γ) (isProcedure ts us) → typesE (scopesOf Γ) es ≡ some ts
-        → (B : Body) × (calledBody m (bodyNumber gs a) ≡ some B) × (take (B .parameters) (B .cells) ≡ tysE gs Γ es) × (B .results ≡ map (tyIn gs) us)
+        → (B : Body) × (procedureAt m (bodyNumber gs a) ≡ some B) × (take (B .parameters) (B .cells) ≡ tysE gs Γ es) × (B .results ≡ map (tyIn gs) us)
     calls-ok Γ a es ts us g i h =
         let q = g a (isProcedure ts us) (i .0) tt (i .1) in let f = procedure-found gs a ts us (q .0) (q .1) in let b = tables .called _ _ (f .at-number) in
         (b .0, b .1, b .2 ∙ ap (map (tyIn gs)) (f .takes-types) ∙ sym (types-are Γ es ts h), b .3 ∙ ap (map (tyIn gs)) (f .gives-types))

@@ -11,8 +11,7 @@ use Rattle.language.specs.Names.{Scope, types}
 use Rattle.language.specs.Faults.{faults}
 use Rattle.language.specs.Limits.{locals}
 use Rattle.bytecode.specs.Macro.{Macro}
-use Rattle.bytecode.specs.Instructions.{Owner, own, root, bodyAt}
-use Rattle.bytecode.specs.Rules.{cellsOf}
+use Rattle.bytecode.specs.Instructions.{Owner, own, root, bodyAt, cellsOf}
 use Rattle.compile_code.specs.Code.{Code, At, at, skip, after, cellsIn}
 use Rattle.compile_code.specs.Compile.{Around, global, held, labels, scopesOf, Proc, procsOf, codeHead, codeItems, tyIn}
 use Rattle.compile_code.specs.Encode.{rootVariables, startOfRoot, aroundBody, codeRoot, codeProc, procPart, parts, compiled}

@@ -6,11 +6,11 @@ use mathlib.Core.Option.{Option, none, some}
 use Prim.Native.Nat.{ℕ, suc}
 use native.Mathlib.Omega.{arith}
 use borrow.Author.Tests.{eq-eqb}
-use Rattle.words.specs.Options.{isSome, keep}
+use Rattle.words.specs.Options.{keep, isSome, orElse}
 use Rattle.values.specs.Identical.{sames-refl}
 use Rattle.bytecode.specs.Macro.{Shape, shape, Macro, shapeIn}
 use Rattle.bytecode.specs.Instructions.{inBody, instrAt}
-use Rattle.bytecode.specs.Rules.{Flow, on, fork, jump, halt, broken, sameShape, flow, flowAt, effect, passed, orFlow, into, foundAt, bodyOf, isFirst, bodyFault, shapeFault, lands, flowFault, opFault, faultAt}
+use Rattle.bytecode.specs.Rules.{Flow, on, fork, jump, halt, broken, sameShape, flow, flowAt, effect, passed, into, foundAt, bodyOf, isFirst, bodyFault, shapeFault, lands, flowFault, opFault, faultAt}
 use Rattle.compile_code.specs.Code.{Line}
 use Rattle.compile_rules.specs.Flows.{Goes}
 use Rattle.compile_rules.specs.Lines.{Enters, Good}
@@ -35,7 +35,7 @@ module _ (m : Macro) (k : ℕ) where
   Faultless [] i = Unit {0}
   Faultless (l ∷ ls) i = (faultAt m i ≡ false) × Faultless ls (suc i)
 
-  found-is : (o f : Option Shape) (s : Shape) → Enters f o s → orFlow o f ≡ some s
+  found-is : (o f : Option Shape) (s : Shape) → Enters f o s → orElse o f ≡ some s
   found-is none f s h = h
   found-is (some t) none s h = ap some (h .0)
   found-is (some t) (some q) s h = ap some (h .1)
@@ -80,14 +80,14 @@ module _ (m : Macro) (k : ℕ) where
   faultless [] i f l e h = tt
   faultless (x ∷ ls) i f l e h =
       let s = h .0 in
-      let w = flow (effect m k (x .instr) (s .operands)) s in
+      let w = flow (effect m k (x .instr) s) s in
       let fl : flowAt m i s ≡ w = rw (l .0, l .2) refl in
-      let fd : orFlow (shapeIn (m .shapes) i) (into m i) ≡ some s = rw (l .1, e) (found-is (x .shape) f s (h .2)) in
+      let fd : orElse (shapeIn (m .shapes) i) (into m i) ≡ some s = rw (l .1, e) (found-is (x .shape) f s (h .2)) in
       let sf : shapeFault (shapeIn (m .shapes) i) (into m i) ≡ false = rw (l .1, e) (shape-right (x .shape) f s (h .2)) in
-      let of : opFault m i (orFlow (shapeIn (m .shapes) i) (into m i)) ≡ false = rw fd (rw (l .2, l .0) (flow-right w ls i (h .1) (h .3) (l .6) (h .4))) in
+      let of : opFault m i (orElse (shapeIn (m .shapes) i) (into m i)) ≡ false = rw fd (rw (l .2, l .0) (flow-right w ls i (h .1) (h .3) (l .6) (h .4))) in
       (rw (l .3, sf, of) refl, onward ls (l .5) (l .6) (h .4) (ap (λ z. keep z (λ q. passed (flowAt m i q))) fd ∙ ap passed fl ∙ goes-to w (h .1) (h .3)) (λ u v. faultless ls (suc i) (h .1) (l .6) u v))
     where
-      onward : (ls : List Line) → NotFirst ls (suc i) → Lined ls (suc i) → Good m k Aimed ls (h .1) → keep (orFlow (shapeIn (m .shapes) i) (into m i)) (λ q. passed (flowAt m i q)) ≡ h .1
+      onward : (ls : List Line) → NotFirst ls (suc i) → Lined ls (suc i) → Good m k Aimed ls (h .1) → keep (orElse (shapeIn (m .shapes) i) (into m i)) (λ q. passed (flowAt m i q)) ≡ h .1
           → (into m (suc i) ≡ h .1 → Good m k Aimed ls (h .1) → Faultless ls (suc i)) → Faultless ls (suc i)
       onward [] n l g u v = tt
       onward (y ∷ ls) n l g u v = v (rw n u) g

@@ -6,18 +6,21 @@ use mathlib.Core.Option.{Option, none, some}
 use Prim.Native.Nat.{ℕ, suc, _≤_}
 use lib.ListN.{length, getElem?, take}
 use borrow.Author.Tests.{le-leb}
-use Rattle.values.specs.Types.{Ty, integer, logical, reference}
+use Rattle.values.specs.Types.{Ty, integer, logical, reference, fits}
 use Rattle.values.specs.Identical.{same-refl}
 use Rattle.values.specs.Operators.{unary, binary, Unary, Binary, opType}
 use Rattle.bytecode.specs.Macro.{Body, Shape, shape, Macro}
-use Rattle.bytecode.specs.Instructions.{Owner, Instr, load, store, operate, go, goUnless, setLevel, readFader, takeHold, letHold, assert, stop, call, make, getField, putField}
-use Rattle.bytecode.specs.Rules.{plain, Flow, on, fork, jump, halt, broken, strip, roomy, flow, effect, cellTy, fieldTy, calledBody}
+use Rattle.bytecode.specs.Instructions.{Owner, Instr, load, store, operate, go, goUnless, setLevel, readFader, takeHold, letHold, assert, stop, call, make, getField, putField, cellTy, fieldTy, procedureAt}
+use Rattle.bytecode.specs.Rules.{plain, Flow, on, fork, jump, halt, broken, strip, roomy, flow, effect}
 use Rattle.compile_code.specs.Code.{Code, nil, op, mark, cell, _▸_, At, after}
+
+fits-refl : (t : Ty) → fits t t ≡ true
+fits-refl t = same-refl t
 
 pub strip-app : (ins r : List Ty) → strip ins (ins ++ r) ≡ some r
 unfolding strip
 strip-app [] r = refl
-strip-app (t ∷ ins) r = rw (same-refl t) (strip-app ins r)
+strip-app (t ∷ ins) r = rw (fits-refl t) (strip-app ins r)
 
 pub room : (h : ℕ) (ts : List Ty) → h ≤ 16 → length ts ≤ 32 → roomy (shape h ts) ≡ true
 room h ts p q = ap₂ (λ a b. a && b) (le-leb h 16 p) (le-leb (length ts) 32 q)
@@ -37,7 +40,7 @@ module _ (m : Macro) (k : ℕ) (Aim : ℕ → Shape → Type 0) where
   -- from f to g, with every rule kept on the way
   unfoldable pub Seg : Code → Option Shape → Option Shape → Type 0
   Seg nil f g = f ≡ g
-  Seg (op i) f g = (s : Shape) × (f ≡ some s) × Goes Aim (flow (effect m k i (s .operands)) s) g
+  Seg (op i) f g = (s : Shape) × (f ≡ some s) × Goes Aim (flow (effect m k i s) s) g
   Seg (mark s) f g = Comes f s × (g ≡ some s)
   Seg (cell t) f g = f ≡ g
   Seg (x ▸ y) f g = (h : Option Shape) × Seg x f h × Seg y h g
@@ -51,11 +54,11 @@ module _ (m : Macro) (k : ℕ) (Aim : ℕ → Shape → Type 0) where
   Marks (x ▸ y) p = Marks x p × Marks y (after x p)
 
   -- ── one law for each op ──
-  plainly : (i : Instr) (h : ℕ) (ins outs r : List Ty) → effect m k i (ins ++ r) ≡ plain ins outs → h ≤ 16 → length (outs ++ r) ≤ 32 → Seg (op i) (some (shape h (ins ++ r))) (some (shape h (outs ++ r)))
+  plainly : (i : Instr) (h : ℕ) (ins outs r : List Ty) → effect m k i (shape h (ins ++ r)) ≡ plain ins outs → h ≤ 16 → length (outs ++ r) ≤ 32 → Seg (op i) (some (shape h (ins ++ r))) (some (shape h (outs ++ r)))
   unfolding Seg flow
   plainly i h ins outs r e p q = (shape h (ins ++ r), refl, rw e (rw (strip-app ins r) (rw (room h (outs ++ r) p q) refl)))
 
-  pub pushes : (i : Instr) (h : ℕ) (t : Ty) (ts : List Ty) → effect m k i ts ≡ plain [] (t ∷ []) → h ≤ 16 → suc (length ts) ≤ 32 → Seg (op i) (some (shape h ts)) (some (shape h (t ∷ ts)))
+  pub pushes : (i : Instr) (h : ℕ) (t : Ty) (ts : List Ty) → effect m k i (shape h ts) ≡ plain [] (t ∷ []) → h ≤ 16 → suc (length ts) ≤ 32 → Seg (op i) (some (shape h ts)) (some (shape h (t ∷ ts)))
   pushes i h t ts e p q = plainly i h [] (t ∷ []) ts e p q
 
   pub loads : (o : Owner) (c h : ℕ) (t : Ty) (ts : List Ty) → cellTy m k o c ≡ some t → h ≤ 16 → suc (length ts) ≤ 32 → Seg (op (load o c)) (some (shape h ts)) (some (shape h (t ∷ ts)))
@@ -94,9 +97,9 @@ module _ (m : Macro) (k : ℕ) (Aim : ℕ → Shape → Type 0) where
   unfolding Seg effect flow
   goes a h ts g = (shape h ts, refl, (refl, g))
 
-  pub stopped : (h : ℕ) (ts : List Ty) → Seg (op stop) (some (shape h ts)) none
+  pub stopped : (c h : ℕ) (ts : List Ty) → Seg (op (stop c)) (some (shape h ts)) none
   unfolding Seg effect flow
-  stopped h ts = (shape h ts, refl, refl)
+  stopped c h ts = (shape h ts, refl, refl)
 
   pub holds : (g h : ℕ) (ts : List Ty) → suc h ≤ 16 → length ts ≤ 32 → Seg (op (takeHold g)) (some (shape h ts)) (some (shape (suc h) ts))
   unfolding Seg effect flow
@@ -119,7 +122,7 @@ module _ (m : Macro) (k : ℕ) (Aim : ℕ → Shape → Type 0) where
   joins x y f h g p q = (h, p, q)
 
   -- ── calls and records ──
-  pub calls : (b h : ℕ) (B : Body) (us rs ts : List Ty) → calledBody m b ≡ some B → take (B .parameters) (B .cells) ≡ us → B .results ≡ rs → h ≤ 16 → length (rs ++ ts) ≤ 32
+  pub calls : (b h : ℕ) (B : Body) (us rs ts : List Ty) → procedureAt m b ≡ some B → take (B .parameters) (B .cells) ≡ us → B .results ≡ rs → h ≤ 16 → length (rs ++ ts) ≤ 32
       → Seg (op (call b)) (some (shape h (reverseAux us ts))) (some (shape h (rs ++ ts)))
   unfolding effect
   calls b h B us rs ts e f g p q = rw (reverseAux-eq us ts) (plainly (call b) h (reverse us) rs ts (rw e (ap₂ (λ x y. plain (reverse x) y) f g)) p q)

@@ -32,7 +32,7 @@ index-below (y ∷ xs) (suc n) x h = let q = index-below xs n x h in omega arith
 module _ (m : Macro) (k : ℕ) where
   abbrev pub Good : (ℕ → Shape → Type 0) → List Line → Option Shape → Type 0
   Good Aim [] f = f ≡ none
-  Good Aim (l ∷ ls) f = (s : Shape) × (g : Option Shape) × Enters f (l .shape) s × Goes Aim (flow (effect m k (l .instr) (s .operands)) s) g × Good Aim ls g
+  Good Aim (l ∷ ls) f = (s : Shape) × (g : Option Shape) × Enters f (l .shape) s × Goes Aim (flow (effect m k (l .instr) s) s) g × Good Aim ls g
 
   -- what really flows in (r), with the waiting mark (o), is the state (f)
   abbrev pub Rel : Option Shape → Option Shape → Option Shape → Type 0

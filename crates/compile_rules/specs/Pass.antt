@@ -12,14 +12,15 @@ use Rattle.words.specs.Choice.{if_then_else_}
 use Rattle.words.specs.Numbers.{wordOf}
 use Rattle.values.specs.Types.{Ty, integer, logical, bits, reference, sames}
 use Rattle.values.specs.Operators.{unary, binary, Binary, equal, opType}
+use Rattle.values.specs.Ends.{caseIndex}
 use Rattle.values.specs.Values.{int, log, bit, ref, initial}
 use Rattle.language.specs.Tree.{Decl, declare, holding, Stmt, block, assign, when, choose, while, goto, assert, call, setLevel, select, Items, noItem, label, item, Arms, lastArm, arm, Target, toVariable, toField, Expr, number, truth, pattern, null, variable, invoke, field, make, operate1, operate2, conditional, fader, blockExpr, Exprs, noExpr, expr, Global}
 use Rattle.language.specs.Names.{inBlock, inExpression, inProcedure, blockOf, expressionOf}
 use Rattle.language.specs.Faults.{typeE, isTy}
 use Rattle.language.specs.Limits.{headHolds, holdsS, holdsItems, holdsArms, holdsTarget, holdsE, holdsEs, needS, needItems, needArms, needTarget, needE, needEs}
 use Rattle.bytecode.specs.Macro.{Body, Shape, shape, Macro}
-use Rattle.bytecode.specs.Instructions.{Owner, own, push, go, letHold, operate}
-use Rattle.bytecode.specs.Rules.{plain, effect, cellTy, fieldTy, calledBody}
+use Rattle.bytecode.specs.Instructions.{Owner, own, push, go, letHold, operate, cellTy, fieldTy, procedureAt}
+use Rattle.bytecode.specs.Rules.{plain, effect}
 use Rattle.compile_code.specs.Code.{Code, nil, op, mark, cell, _▸_, At, at, skip, after}
 use Rattle.compile_code.specs.Compile.{Around, inside, outermost, bound, global, held, labels, heldIn, scopesOf, passing, theLabels, hasLabel, labelAt, found, kept, Way, plainly, marked, ifTrue, ifFalse, wayOf, codeWay, codeGoto, codeHead, codeS, codeItems, codeArms, codeTarget, codeE, codeEs, opsArms, opTarget, tyTarget, tyE, tyIn, classNumber, bodyNumber, fieldNumber}
 use Rattle.compile_code.specs.Compile.{cellOf as keptOf}
@@ -48,7 +49,7 @@ module _ (m : Macro) (k : ℕ) (gs : List Global) where
   -- a head, and P of what then lies around; a variable is known inside as `name` says: `bound` in a block, `global own` in the root
   unfoldable pub okHead : (ℕ → ℕ → Around) → List Decl → List Around → (List Around → Type 0) → Type 0
   okHead name [] Γ P = P Γ
-  okHead name (declare x ∷ ds) Γ P = ((ts : List Ty) → effect m k (push (initial (tyIn gs (x .type)))) ts ≡ plain [] (tyIn gs (x .type) ∷ []))
+  okHead name (declare x ∷ ds) Γ P = ((s : Shape) → effect m k (push (initial (tyIn gs (x .type)))) s ≡ plain [] (tyIn gs (x .type) ∷ []))
       × ((c : ℕ) → cellTy m k own c ≡ some (tyIn gs (x .type)) → okHead name ds (name (x .name) c ∷ Γ) P)
   okHead name (holding g ∷ ds) Γ P = okHead name ds (held g ∷ Γ) P
 
@@ -67,7 +68,7 @@ module _ (m : Macro) (k : ℕ) (gs : List Global) where
     okS (while e s) Γ = okE e Γ × (tyE gs Γ e ≡ logical) × okS s Γ
     okS (goto a) Γ = gotoOk true Γ a
     okS (assert e) Γ = okE e Γ × (tyE gs Γ e ≡ logical)
-    okS (call a es) Γ = okEs es Γ × ((B : Body) × (calledBody m (bodyNumber gs a) ≡ some B) × (take (B .parameters) (B .cells) ≡ tysE gs Γ es) × (B .results ≡ []))
+    okS (call a es) Γ = okEs es Γ × ((B : Body) × (procedureAt m (bodyNumber gs a) ≡ some B) × (take (B .parameters) (B .cells) ≡ tysE gs Γ es) × (B .results ≡ []))
     okS (setLevel e f) Γ = okE e Γ × (tyE gs Γ e ≡ integer) × okE f Γ × (tyE gs Γ f ≡ integer)
     okS (select e r) Γ = okE e Γ × (tyE gs Γ e ≡ integer) × okArms r Γ
 
@@ -92,9 +93,9 @@ module _ (m : Macro) (k : ℕ) (gs : List Global) where
     okE (number z) Γ = Unit {0}
     okE (truth b) Γ = Unit {0}
     okE (pattern z) Γ = Unit {0}
-    okE (null c) Γ = (ts : List Ty) → effect m k (push (ref (classNumber gs c) none)) ts ≡ plain [] (tyE gs Γ (null c) ∷ [])
+    okE (null c) Γ = (s : Shape) → effect m k (push (ref (classNumber gs c) none)) s ≡ plain [] (tyE gs Γ (null c) ∷ [])
     okE (variable a) Γ = (o : Owner) × (c : ℕ) × (keptOf a Γ ≡ some (kept o c)) × (cellTy m k o c ≡ some (tyE gs Γ (variable a)))
-    okE (invoke a es) Γ = okEs es Γ × ((B : Body) × (calledBody m (bodyNumber gs a) ≡ some B) × (take (B .parameters) (B .cells) ≡ tysE gs Γ es) × (B .results ≡ tyE gs Γ (invoke a es) ∷ []))
+    okE (invoke a es) Γ = okEs es Γ × ((B : Body) × (procedureAt m (bodyNumber gs a) ≡ some B) × (take (B .parameters) (B .cells) ≡ tysE gs Γ es) × (B .results ≡ tyE gs Γ (invoke a es) ∷ []))
     okE (field a e) Γ = okE e Γ × (tyE gs Γ e ≡ reference (fieldNumber gs a .class)) × (fieldTy m (fieldNumber gs a .class) (fieldNumber gs a .index) ≡ some (tyE gs Γ (field a e)))
     okE (make c es) Γ = okEs es Γ × (getElem? (m .classes) (classNumber gs c) ≡ some (tysE gs Γ es))
     okE (operate1 o e) Γ = okE e Γ × (opType (unary o) (tyE gs Γ e ∷ []) ≡ some (tyE gs Γ (operate1 o e)))
@@ -159,7 +160,7 @@ module _ (m : Macro) (k : ℕ) (gs : List Global) where
           refl,
           (
             some (shape h (t ∷ ts)),
-            pushes m k Aim (push (initial t)) h t ts (o .0 ts) (omega arith) s,
+            pushes m k Aim (push (initial t)) h t ts (o .0 _) (omega arith) s,
             (
               some (shape h ts),
               stores m k Aim own (p .cell) h t ts (c .0) (omega arith) (omega arith),
@@ -185,17 +186,17 @@ module _ (m : Macro) (k : ℕ) (gs : List Global) where
         pick false e f = f e
     labelled (item s is) Γ ts p a g e = subst (λ z. Aim (labelAt is (scopesOf Γ) (passing Γ) z a) (found Γ ts)) (lenS gs s Γ ts p) (labelled is Γ ts (after (codeS gs s Γ ts p) p) a (g .1) e)
 
-    push-int : (z : ℤ) (ts : List Ty) → effect m k (push (int z)) ts ≡ plain [] (integer ∷ [])
+    push-int : (z : ℤ) (s : Shape) → effect m k (push (int z)) s ≡ plain [] (integer ∷ [])
     unfolding effect
-    push-int z ts = refl
+    push-int z s = refl
 
-    push-log : (b : Bool) (ts : List Ty) → effect m k (push (log b)) ts ≡ plain [] (logical ∷ [])
+    push-log : (b : Bool) (s : Shape) → effect m k (push (log b)) s ≡ plain [] (logical ∷ [])
     unfolding effect
-    push-log b ts = refl
+    push-log b s = refl
 
-    push-bit : (x : ℕ) (ts : List Ty) → effect m k (push (bit x)) ts ≡ plain [] (bits ∷ [])
+    push-bit : (x : ℕ) (s : Shape) → effect m k (push (bit x)) s ≡ plain [] (bits ∷ [])
     unfolding effect
-    push-bit x ts = refl
+    push-bit x s = refl
 
     some-needs : (i : ℕ) (es : Exprs) → 1 ≤ needEs i es
     unfolding needS
@@ -258,7 +259,7 @@ module _ (m : Macro) (k : ℕ) (gs : List Global) where
                 (
                   some (found Γ ts),
                   marks-here m k Aim n ts h (omega arith),
-                  (some (found Γ (logical ∷ ts)), pushes m k Aim (push (log false)) n logical ts (push-log false ts) h (omega arith), marks-on m k Aim n (logical ∷ ts) h (omega arith)),
+                  (some (found Γ (logical ∷ ts)), pushes m k Aim (push (log false)) n logical ts (push-log false _) h (omega arith), marks-on m k Aim n (logical ∷ ts) h (omega arith)),
                 ),
               ),
             ),
@@ -274,7 +275,7 @@ module _ (m : Macro) (k : ℕ) (gs : List Global) where
             tests m k Aim _ n t ts (e .0) (g .1 .1 .1 .1 .0),
             (
               some (found Γ (logical ∷ ts)),
-              pushes m k Aim (push (log true)) n logical ts (push-log true ts) h (omega arith),
+              pushes m k Aim (push (log true)) n logical ts (push-log true _) h (omega arith),
               (
                 none,
                 goes m k Aim _ n (logical ∷ ts) (g .1 .1 .1 .1 .1 .1),
@@ -411,10 +412,10 @@ module _ (m : Macro) (k : ℕ) (gs : List Global) where
 
       pub passE : (e : Expr) (Γ : List Around) (ts : List Ty) (p : At) → okE e Γ → length (heldIn Γ) + holdsE e ≤ 16 → length ts + needE e ≤ 32 → Celled (codeE gs e Γ ts p) p → Marks m k Aim (codeE gs e Γ ts p) p
           → Seg m k Aim (codeE gs e Γ ts p) (some (found Γ ts)) (some (found Γ (tyE gs Γ e ∷ ts)))
-      passE (number z) Γ ts p o l n c g = pushes m k Aim (push (int z)) (length (heldIn Γ)) integer ts (push-int z ts) (omega arith) (omega arith)
-      passE (truth b) Γ ts p o l n c g = pushes m k Aim (push (log b)) (length (heldIn Γ)) logical ts (push-log b ts) (omega arith) (omega arith)
-      passE (pattern z) Γ ts p o l n c g = pushes m k Aim (push (bit (wordOf z))) (length (heldIn Γ)) bits ts (push-bit (wordOf z) ts) (omega arith) (omega arith)
-      passE (null x) Γ ts p o l n c g = pushes m k Aim (push (ref (classNumber gs x) none)) (length (heldIn Γ)) (tyE gs Γ (null x)) ts (o ts) (omega arith) (omega arith)
+      passE (number z) Γ ts p o l n c g = pushes m k Aim (push (int z)) (length (heldIn Γ)) integer ts (push-int z _) (omega arith) (omega arith)
+      passE (truth b) Γ ts p o l n c g = pushes m k Aim (push (log b)) (length (heldIn Γ)) logical ts (push-log b _) (omega arith) (omega arith)
+      passE (pattern z) Γ ts p o l n c g = pushes m k Aim (push (bit (wordOf z))) (length (heldIn Γ)) bits ts (push-bit (wordOf z) _) (omega arith) (omega arith)
+      passE (null x) Γ ts p o l n c g = pushes m k Aim (push (ref (classNumber gs x) none)) (length (heldIn Γ)) (tyE gs Γ (null x)) ts (o _) (omega arith) (omega arith)
       passE (variable a) Γ ts p o l n c g = rw (o .2) (loads m k Aim (o .0) (o .1) (length (heldIn Γ)) (tyE gs Γ (variable a)) ts (o .3) (omega arith) (omega arith))
       passE (invoke a es) Γ ts p o l n c g = (
         some (found Γ (reverseAux (tysE gs Γ es) ts)),
@@ -483,14 +484,14 @@ module _ (m : Macro) (k : ℕ) (gs : List Global) where
             loads m k Aim own x h integer ts e (omega arith) (omega arith),
             (
               some (found Γ (integer ∷ (integer ∷ ts))),
-              pushes m k Aim (push (int (pos i))) h integer (integer ∷ ts) (push-int (pos i) (integer ∷ ts)) (omega arith) w,
+              pushes m k Aim (push (int (pos i))) h integer (integer ∷ ts) (push-int (pos i) _) (omega arith) w,
               (
                 some (found Γ (logical ∷ ts)),
                 equals h ts (omega arith) (omega arith),
                 (
                   some (found Γ ts),
                   tests m k Aim _ h logical ts refl (g .1 .1 .1 .1 .1 .1 .0),
-                  (some (found Γ ts), passS s Γ ts q o r l n (c .1 .1 .1 .1 .0) (g .1 .1 .1 .1 .0), (none, goes m k Aim z h ts a, (some (found Γ ts), marks-here m k Aim h ts (omega arith) (omega arith), stopped m k Aim h ts))),
+                  (some (found Γ ts), passS s Γ ts q o r l n (c .1 .1 .1 .1 .0) (g .1 .1 .1 .1 .0), (none, goes m k Aim z h ts a, (some (found Γ ts), marks-here m k Aim h ts (omega arith) (omega arith), stopped m k Aim caseIndex h ts))),
                 ),
               ),
             ),
@@ -501,7 +502,7 @@ module _ (m : Macro) (k : ℕ) (gs : List Global) where
             loads m k Aim own x h integer ts e (omega arith) (omega arith),
             (
               some (found Γ (integer ∷ (integer ∷ ts))),
-              pushes m k Aim (push (int (pos i))) h integer (integer ∷ ts) (push-int (pos i) (integer ∷ ts)) (omega arith) w,
+              pushes m k Aim (push (int (pos i))) h integer (integer ∷ ts) (push-int (pos i) _) (omega arith) w,
               (
                 some (found Γ (logical ∷ ts)),
                 equals h ts (omega arith) (omega arith),

@@ -5,18 +5,17 @@ use mathlib.Core.List.{List, [], _∷_, _++_, reverse, reverseAux}
 use mathlib.Core.Option.{Option, none, some}
 use Prim.Native.Nat.{ℕ, zero, suc, _+_, _-_, _≤_, _<_}
 use native.Mathlib.Omega.{arith}
-use lib.Dec.{eqb, ltb, leb}
+use lib.Dec.{eqb, leb}
 use lib.ListN.{length}
-use borrow.Author.Tests.{lt-ltb, le-ltb, ltb-true, ltb-false}
 use Rattle.words.specs.Choice.{if_then_else_}
 use Rattle.words.specs.Laws.{Bytes}
 use lib.IntN.{ℤ, pos}
-use Rattle.values.specs.Values.{Value, int, log, bit, ref, between, size}
+use Rattle.values.specs.Values.{Value, int, asInteger, between, size}
 use Rattle.values.specs.Ends.{outOfRange, refusal}
 use Rattle.values.specs.Trace.{Event, Item, event, reading}
 use Rattle.bytecode.specs.Macro.{Macro}
 use Rattle.bytecode.specs.Instructions.{Instr, end, push, load, store, operate, go, goUnless, call, return, make, getField, putField, setLevel, readFader, takeHold, letHold, assert, stop}
-use Rattle.bytecode.specs.Machine.{Machine, running, unwinding, endBy, ended, Stepped, moved, stuck, step, act, noStep, badFrame, fetch, given, Here, doFader, maxOperands, pop, onInteger, goesOn, condition}
+use Rattle.bytecode.specs.Machine.{Machine, running, unwinding, endBy, ended, Stepped, moved, stuck, step, act, noStep, badFrame, badType, fetch, given, Here, doFader, maxOperands, pop, goesOn, condition}
 use Rattle.bytecode.specs.Runs.{ends as endsRun}
 use Rattle.bytecode.specs.Runs.{Answer, happens, spends, finishes, refuses, halts, Ran, Feed, bankOf, afterStep, steps, run, runs}
 use Rattle.bytecode.specs.Sound.{sound}
@@ -25,7 +24,7 @@ use Rattle.safety.specs.Safety.{step-safe, run-safe}
 use Rattle.safety.specs.Steps.{size-between}
 use Rattle.safety.specs.Terms.{eventsIn, eventOf, eventsOf, stateAfter, Moves}
 use Rattle.compile_runs.specs.Readings.{unlessEnded, takesBy, takes, takesIn, Reads, Follows}
-use Rattle.compile_simulation.specs.Meets.{Conf, live, dead, counted, stepped, Setting}
+use Rattle.compile_simulation.specs.Meets.{Conf, live, counted, stepped, Setting}
 use Rattle.compile_simulation.specs.Meets.{run as runConf, go as goConf}
 
 -- the steps that a list of runs takes
@@ -80,20 +79,21 @@ quiet-fader : (a b : ℕ → ℕ) (h : Here) → Quiet (doFader b h) → doFader
 unfolding doFader
 quiet-fader a b h q = pick (h .top .operands) q
   where
-    F : (ℕ → ℕ) → Value → List Value → Stepped
-    F bank v vs = onInteger v (λ x. if between 1 64 x then goesOn (reading (size x) (bank (size x)) ∷ []) (int (pos (bank (size x))) ∷ vs) h else condition outOfRange h)
+    F : (ℕ → ℕ) → List Value → Option ℤ → Stepped
+    F bank vs o = given o badType (λ x. if between 1 64 x then goesOn (reading (size x) (bank (size x)) ∷ []) (int (pos (bank (size x))) ∷ vs) h else condition outOfRange h)
 
     far : (x y : Bool) (s u w z : Stepped) → (Quiet s → ⊥) → Quiet (if x then (if y then s else u) else w) → (if x then (if y then z else u) else w) ≡ (if x then (if y then s else u) else w)
     far true true s u w z n q = absurd (n q)
     far true false s u w z n q = refl
     far false y s u w z n q = refl
 
-    pick : (vs : List Value) → Quiet (pop vs (F b)) → pop vs (F a) ≡ pop vs (F b)
+    number : (o : Option ℤ) (us : List Value) → Quiet (F b us o) → F a us o ≡ F b us o
+    number none us q = refl
+    number (some x) us q = far (between 1 64 x) (leb (suc (length us)) maxOperands) _ (stuck badFrame) (condition outOfRange h) _ (λ z. z) q
+
+    pick : (vs : List Value) → Quiet (pop vs (λ v us. F b us (asInteger v))) → pop vs (λ v us. F a us (asInteger v)) ≡ pop vs (λ v us. F b us (asInteger v))
     pick [] q = refl
-    pick (int x ∷ us) q = far (between 1 64 x) (leb (suc (length us)) maxOperands) _ (stuck badFrame) (condition outOfRange h) _ (λ z. z) q
-    pick (log x ∷ us) q = refl
-    pick (bit x ∷ us) q = refl
-    pick (ref c x ∷ us) q = refl
+    pick (v ∷ us) q = number (asInteger v) us q
 
 quiet-act : (m : Macro) (a b : ℕ → ℕ) (i : Instr) (h : Here) → Quiet (act m b i h) → act m a i h ≡ act m b i h
 unfolding act
@@ -114,7 +114,7 @@ quiet-act m a b readFader h q = quiet-fader a b h q
 quiet-act m a b (takeHold g) h q = refl
 quiet-act m a b letHold h q = refl
 quiet-act m a b assert h q = refl
-quiet-act m a b stop h q = refl
+quiet-act m a b (stop c) h q = refl
 
 -- ── banks that agree on the faders there are give the same step ──
 module _ (a b : ℕ → ℕ) (same : (n : ℕ) → 1 ≤ n → n ≤ 64 → a n ≡ b n) where
@@ -122,8 +122,8 @@ module _ (a b : ℕ → ℕ) (same : (n : ℕ) → 1 ≤ n → n ≤ 64 → a n 
   unfolding doFader
   agree-fader h = pick (h .top .operands)
     where
-      F : (ℕ → ℕ) → Value → List Value → Stepped
-      F bank v vs = onInteger v (λ x. if between 1 64 x then goesOn (reading (size x) (bank (size x)) ∷ []) (int (pos (bank (size x))) ∷ vs) h else condition outOfRange h)
+      F : (ℕ → ℕ) → List Value → Option ℤ → Stepped
+      F bank vs o = given o badType (λ x. if between 1 64 x then goesOn (reading (size x) (bank (size x)) ∷ []) (int (pos (bank (size x))) ∷ vs) h else condition outOfRange h)
 
       on-x : (x : ℤ) (vs : List Value) (t : Bool) → between 1 64 x ≡ t
           → (if t then goesOn (reading (size x) (a (size x)) ∷ []) (int (pos (a (size x))) ∷ vs) h else condition outOfRange h)
@@ -131,12 +131,13 @@ module _ (a b : ℕ → ℕ) (same : (n : ℕ) → 1 ≤ n → n ≤ 64 → a n 
       on-x x vs true e = let r = size-between 1 64 x e in ap (λ (n : ℕ). goesOn (reading (size x) n ∷ []) (int (pos n) ∷ vs) h) (same (size x) (r .0) (r .1))
       on-x x vs false e = refl
 
-      pick : (vs : List Value) → pop vs (F a) ≡ pop vs (F b)
+      number : (o : Option ℤ) (us : List Value) → F a us o ≡ F b us o
+      number none us = refl
+      number (some x) us = on-x x us (between 1 64 x) refl
+
+      pick : (vs : List Value) → pop vs (λ v us. F a us (asInteger v)) ≡ pop vs (λ v us. F b us (asInteger v))
       pick [] = refl
-      pick (int x ∷ us) = on-x x us (between 1 64 x) refl
-      pick (log x ∷ us) = refl
-      pick (bit x ∷ us) = refl
-      pick (ref c x ∷ us) = refl
+      pick (v ∷ us) = number (asInteger v) us
 
   agree-act : (m : Macro) (i : Instr) (h : Here) → act m a i h ≡ act m b i h
   unfolding act
@@ -157,14 +158,14 @@ module _ (a b : ℕ → ℕ) (same : (n : ℕ) → 1 ≤ n → n ≤ 64 → a n 
   agree-act m (takeHold g) h = refl
   agree-act m letHold h = refl
   agree-act m assert h = refl
-  agree-act m stop h = refl
+  agree-act m (stop c) h = refl
 
   agree : (m : Macro) (s : Machine) → step m a s ≡ step m b s
   unfolding step
-  agree m (running rs f fs) = pick (fetch m (f .body) (f .address))
+  agree m (running s f fs) = pick (fetch m (f .body) (f .address))
     where
       h : Here
-      h = record { records = rs; top = f; below = fs }
+      h = record { shared = s; top = f; below = fs }
 
       pick : (o : Option Instr) → given o noStep (λ i. act m a i h) ≡ given o noStep (λ i. act m b i h)
       pick none = refl
@@ -175,11 +176,11 @@ module _ (a b : ℕ → ℕ) (same : (n : ℕ) → 1 ≤ n → n ≤ 64 → a n 
 
 quiet : (m : Macro) (a b : ℕ → ℕ) (s : Machine) → Quiet (step m b s) → step m a s ≡ step m b s
 unfolding step
-quiet m a b (running rs f fs) q = pick (fetch m (f .body) (f .address)) q
+quiet m a b (running s f fs) q = pick (fetch m (f .body) (f .address)) q
   where
-    pick : (o : Option Instr) → Quiet (given o noStep (λ i. act m b i (record { records = rs; top = f; below = fs }))) → given o noStep (λ i. act m a i (record { records = rs; top = f; below = fs })) ≡ given o noStep (λ i. act m b i (record { records = rs; top = f; below = fs }))
+    pick : (o : Option Instr) → Quiet (given o noStep (λ i. act m b i (record { shared = s; top = f; below = fs }))) → given o noStep (λ i. act m a i (record { shared = s; top = f; below = fs })) ≡ given o noStep (λ i. act m b i (record { shared = s; top = f; below = fs }))
     pick none q = refl
-    pick (some i) q = quiet-act m a b i (record { records = rs; top = f; below = fs }) q
+    pick (some i) q = quiet-act m a b i (record { shared = s; top = f; below = fs }) q
 quiet m a b (unwinding [] (endBy c)) q = refl
 quiet m a b (unwinding (g ∷ gs) x) q = refl
 quiet m a b (ended c) q = refl

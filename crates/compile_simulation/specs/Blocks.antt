@@ -1,31 +1,30 @@
 -- Gotos, heads of blocks and caught gotos.
 use mathlib.Core.Bool.{Bool, true, false}
 use mathlib.Core.Path.{_≡_, refl, ap, ap₂, sym, _∙_, subst, subst₂}
-use mathlib.Core.List.{List, [], _∷_, _++_, map, reverse}
+use mathlib.Core.List.{List, [], _∷_, _++_, map}
 use mathlib.Core.Option.{Option, none, some}
-use Prim.Native.Nat.{ℕ, zero, suc, _+_, _≤_, _<_}
+use Prim.Native.Nat.{ℕ, suc, _≤_}
 use native.Mathlib.Omega.{arith}
 use lib.Dec.{eqb}
-use lib.ListN.{length, getElem?}
+use lib.ListN.{getElem?}
 use lib.ListN.{set as put}
 use Rattle.words.specs.Choice.{if_then_else_}
 use Rattle.values.specs.Types.{Ty}
 use Rattle.values.specs.Values.{Value, Cell, assigned, initial, fresh}
 use Rattle.values.specs.Trace.{release, hold, event}
 use Rattle.language.specs.Tree.{Typed, Decl, declare, holding, Global, Items, noItem, label, item, Stmt}
-use Rattle.language.specs.Names.{Scope, inBlock, inExpression, inProcedure}
-use Rattle.language.specs.Execute.{Slot, slot, Store, Result, done, jump, ended, later, wrong, next, Place, under, say, withBlocks, innerBlocks, releaseAll, declareIn, letGo, within, leaving, Less, caught, catch, from}
-use Rattle.bytecode.specs.Macro.{shapeIn}
-use Rattle.bytecode.specs.Instructions.{Owner, own, root, go, letHold}
-use Rattle.bytecode.specs.Machine.{Activation, allHolds, fetch, step, act, letting}
-use Rattle.compile_code.specs.Code.{Code, nil, op, mark, cell, _▸_, At, at, skip, after}
-use Rattle.compile_code.specs.Compile.{Around, inside, outermost, bound, global, held, labels, heldIn, scopesOf, passing, theLabels, hasLabel, labelAt, opsS, codeGoto, codeHead, codeItems, codeS, tyIn, kept, boundAt, globalAt, orCell}
-use Rattle.compile_simulation.specs.Meets.{Conf, live, dead, stepped, Setting, Reach, Meets, crash, ends, here, prior, binds, onward, tick}
+use Rattle.language.specs.Names.{inBlock, inExpression, inProcedure}
+use Rattle.language.specs.Execute.{Slot, slot, Store, Result, done, jump, ended, later, wrong, Place, under, say, withBlocks, outerBlocks, declareIn, letGo, within, leaving, Less, caught, catch, from}
+use Rattle.bytecode.specs.Instructions.{own, root, go, letHold}
+use Rattle.bytecode.specs.Machine.{fetch, step, act}
+use Rattle.compile_code.specs.Code.{Code, op, cell, At, at, skip, after}
+use Rattle.compile_code.specs.Compile.{Around, inside, outermost, bound, global, held, labels, heldIn, scopesOf, passing, theLabels, hasLabel, labelAt, codeGoto, codeHead, codeItems, codeS, tyIn}
+use Rattle.compile_simulation.specs.Meets.{Conf, Setting, Reach, Meets, crash, ends, here, prior, tick}
 use Rattle.compile_simulation.specs.Meets.{go as goConf, from as begin}
-use Rattle.compile_simulation.specs.View.{Data, written, ownPut, rootPut, seen, seenV, seenC, seenR, blocksOf, rootsOf, inFirst, cellAt, put-same, Apart, Distinct, Below, below-apart, below-more, apart-blocks, apart-roots}
-use Rattle.compile_simulation.specs.Ops.{Owners, conf, says, pushes, stores, takes, lets}
+use Rattle.compile_simulation.specs.View.{Data, written, seen, seenV, seenC, seenR, blocksOf, rootsOf, inFirst, cellAt, put-same, Apart, below-apart, apart-blocks, apart-roots}
+use Rattle.compile_simulation.specs.Ops.{says, pushes, stores, takes, lets}
 use Rattle.compile_simulation.specs.Sizes.{lenS, more-cells}
-use Rattle.compile_simulation.specs.Placed.{Work, Holds, Fit, fit-on, fit-held, fit-bound, fit-labels, Stands, at-work, placeOf, Sees, Within, Nothing, Arrives, landsAt, lands}
+use Rattle.compile_simulation.specs.Placed.{Work, Holds, Fit, fit-on, fit-held, fit-bound, Stands, at-work, placeOf, Sees, Within, Nothing, Arrives, landsAt, lands}
 
 -- the goto finds its label among those around it; exactly: no variable of the block at hand was passed
 unfoldable pub gotoOk : Bool → List Around → ℕ → Type 0
@@ -55,8 +54,8 @@ module _ (gs : List Global) where
   abbrev pub SameRoots : List Around → List Around → Type 0
   SameRoots Γ Δ = (cs ls : List Cell) → rootsOf gs Δ cs ls ≡ rootsOf gs Γ cs ls
 
-  first-inner : (s : Slot) (bs : List (List Slot)) → innerBlocks (inFirst s bs) ≡ innerBlocks bs
-  unfolding innerBlocks
+  first-inner : (s : Slot) (bs : List (List Slot)) → outerBlocks (inFirst s bs) ≡ outerBlocks bs
+  unfolding outerBlocks
   first-inner s [] = refl
   first-inner s (b ∷ bs) = refl
 
@@ -75,10 +74,10 @@ module _ (W : Setting) (gs : List Global) (C : Work) where
   -- ── a goto's own code ──
   abbrev Agree : Bool → Store → List Around → Data → Type 0
   Agree true σ Γ D = seen gs Γ D ≡ σ
-  Agree false σ Γ D = withBlocks (innerBlocks (blocksOf gs Γ (D .cells))) (seen gs Γ D) ≡ withBlocks (innerBlocks (σ .blocks)) σ
+  Agree false σ Γ D = withBlocks (outerBlocks (blocksOf gs Γ (D .cells))) (seen gs Γ D) ≡ withBlocks (outerBlocks (σ .blocks)) σ
 
   looser : (exact : Bool) (σ : Store) (Γ : List Around) (D : Data) → Agree exact σ Γ D → Agree false σ Γ D
-  looser true σ Γ D h = ap (λ s. withBlocks (innerBlocks (s .blocks)) s) h
+  looser true σ Γ D h = ap (λ s. withBlocks (outerBlocks (s .blocks)) s) h
   looser false σ Γ D h = h
 
   said : (exact : Bool) (σ : Store) (Γ : List Around) (D : Data) (g : ℕ) → Agree exact σ (held g ∷ Γ) D → Agree exact (say (release g) σ) Γ (says (event (release g) ∷ []) D)
@@ -88,9 +87,9 @@ module _ (W : Setting) (gs : List Global) (C : Work) where
 
   pub goes : (Γ : List Around) (exact : Bool) (a : ℕ) (p : At) (st : List Value) (D : Data) (σ : Store) → gotoOk exact Γ a → Stands W (C .body) (codeGoto Γ a) p → Agree exact σ Γ D → Holds C D
       → Reach W (goConf W (at-work W gs C (p .address) st (heldIn Γ) D)) (lands W gs C Γ st a σ)
-  unfolding gotoOk Stands codeGoto lands heldIn blocksOf rootsOf after innerBlocks goConf step act
+  unfolding gotoOk Stands codeGoto lands heldIn blocksOf rootsOf after outerBlocks goConf step act
   goes [] exact a p st D σ o h e k = absurd o
-  goes (inside (inBlock ds) ∷ Γ) exact a p st D σ o h e k = goes Γ true a p st D (withBlocks (innerBlocks (σ .blocks)) σ) o h (looser exact σ (inside (inBlock ds) ∷ Γ) D e) k
+  goes (inside (inBlock ds) ∷ Γ) exact a p st D σ o h e k = goes Γ true a p st D (withBlocks (outerBlocks (σ .blocks)) σ) o h (looser exact σ (inside (inBlock ds) ∷ Γ) D e) k
   goes (inside (inExpression ds) ∷ Γ) exact a p st D σ o h e k = absurd o
   goes (inside (inProcedure ds) ∷ Γ) exact a p st D σ o h e k = absurd o
   goes (outermost s ∷ Γ) exact a p st D σ o h e k = absurd o
@@ -227,8 +226,8 @@ module _ (W : Setting) (gs : List Global) (C : Work) where
 
   -- ── leaving a block ──
   pub left : {A : Type 0} {G : A → List Value → Type 0} {n : ℕ} {L : ℕ → Store → Conf → Type 0} (Γ : List Around) (K : List ℕ) (b : ℕ) (st : List Value) (x : Conf) (r : Result A)
-      → Meets W n (λ a σ. L a (withBlocks (innerBlocks (σ .blocks)) σ)) (Arrives W gs C G (Within W gs C Γ) K b st) x r
-      → Meets W n L (Arrives W gs C G (Sees W gs C Γ) K b st) x (leaving (λ τ. innerBlocks (τ .blocks)) r)
+      → Meets W n (λ a σ. L a (withBlocks (outerBlocks (σ .blocks)) σ)) (Arrives W gs C G (Within W gs C Γ) K b st) x r
+      → Meets W n L (Arrives W gs C G (Sees W gs C Γ) K b st) x (leaving (λ τ. outerBlocks (τ .blocks)) r)
   unfolding leaving
   left Γ K b st x r (crash h) = crash h
   left {n = n} Γ K b st x (done v σ) (ends h) = ends (record { steps = h .steps; there = let a = h .there in record { top = a .top; now = a .now; there = a .there; sees = a .sees; gave = a .gave; holding = a .holding } })
@@ -239,8 +238,8 @@ module _ (W : Setting) (gs : List Global) (C : Work) where
 
   -- from inside a block: what is seen there is what is seen outside, with a block more
   pub inner-seen : (Γ Δ : List Around) (D : Data) (σ : Store) → Opens gs Γ Δ → SameRoots gs Γ Δ → Sees W gs C Δ σ D → Within W gs C Γ σ D
-  unfolding innerBlocks
+  unfolding outerBlocks
   inner-seen Γ Δ D σ o r h =
       let b = o (D .cells) in
-      ap₂ (λ x y. record { root = x; blocks = y; records = map (seenR gs) (D .records); trace = D .trace; taken = D .taken }) (sym (r (D .cells) (D .lowest))) (sym (ap innerBlocks (b .1)))
-      ∙ ap (λ s. withBlocks (innerBlocks (s .blocks)) s) h
+      ap₂ (λ x y. record { root = x; blocks = y; records = map (seenR gs) (D .shared .records); trace = D .trace; taken = D .taken }) (sym (r (D .cells) (D .lowest))) (sym (ap outerBlocks (b .1)))
+      ∙ ap (λ s. withBlocks (outerBlocks (s .blocks)) s) h

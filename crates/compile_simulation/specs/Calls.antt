@@ -1,13 +1,13 @@
 -- Calls: the caller waits, the callee works with its parameters, a return hands down.
-use mathlib.Core.Bool.{Bool, true, false, _&&_}
-use mathlib.Core.Path.{_≡_, refl, ap, ap₂, sym, _∙_, subst, subst₂}
+use mathlib.Core.Bool.{Bool, true, false}
+use mathlib.Core.Path.{_≡_, refl, ap, ap₂, sym, _∙_, subst}
 use mathlib.Core.List.{List, [], _∷_, _++_, map, append-assoc, append-nil}
 use mathlib.Core.Option.{Option, none, some}
 use mathlib.Core.Logic.{_⊎_, inl, inr}
-use Prim.Native.Nat.{ℕ, zero, suc, _+_, _≤_, _<_}
+use Prim.Native.Nat.{ℕ, suc, _+_}
 use native.Mathlib.Omega.{arith}
 use lib.Dec.{eqb, leb, ltb}
-use lib.ListN.{length, getElem?, take, drop, length-append}
+use lib.ListN.{length, take, drop, length-append}
 use lib.ListN.{set as put}
 use Rattle.words.specs.Choice.{if_then_else_}
 use Rattle.values.specs.Types.{allFit, sames}
@@ -18,17 +18,16 @@ use Rattle.language.specs.Tree.{Body as TreeBody}
 use Rattle.language.specs.Execute.{Slot, slot, Store, Result, done, jump, later, wrong, Place, deeper, withBlocks, pairUp, Procedure, activate, leaving, releaseAll}
 use Rattle.language.specs.Execute.{ended as over}
 use Rattle.bytecode.specs.Macro.{Body}
-use Rattle.bytecode.specs.Instructions.{Owner, own, root, call, return}
-use Rattle.bytecode.specs.Machine.{Made, Activation, Machine, running, badFrame, badType, noStep, groupHeld, Stepped, moved, demand, Here, condition, goesOn, given, at, popMany, assignAll, activation, entering, notRoot, doCall, doReturn, handDown, isEmpty, putLowest, allHolds, fetch, act}
-use Rattle.bytecode.specs.Machine.{withCells as atCells}
+use Rattle.bytecode.specs.Instructions.{Owner, own, root, call, return, procedureAt}
+use Rattle.bytecode.specs.Machine.{Activation, running, badFrame, badType, Stepped, moved, condition, at, popMany, assignAll, activation, doCall, doReturn, putLowest, allHolds, fetch, act}
 use Rattle.compile_code.specs.Compile.{Around, inside, outermost, bound, global, held, labels, heldIn, kept, boundAt, globalAt, orCell}
 use Rattle.compile_code.specs.Compile.{Cell as Kept, cellOf as keptOf}
 use Rattle.language.specs.Names.{Scope}
 use Rattle.compile_code.specs.Encode.{parameterCells}
-use Rattle.compile_simulation.specs.Meets.{Conf, live, dead, stepped, Setting, Reach, Meets, crash, ends, here, lost, demanded, had, from, tick, weaker}
-use Rattle.compile_simulation.specs.View.{Data, written, ownPut, rootPut, seen, seenV, seenC, seenR, blocksOf, rootsOf, inFirst, cellAt, Apart, Distinct, Below, global-apart, apart-blocks, wrote-root, put-other, owner-of, number-of, bound-own}
-use Rattle.compile_simulation.specs.Ops.{Owners, conf, hereOf, topOf, op-at, op-tick, conds, lowest-holds}
-use Rattle.compile_simulation.specs.Placed.{Work, Holds, ownerOf, lowestOf, Fit, Stands, at-work, placeOf, Sees, Arrives, lands, nowhere}
+use Rattle.compile_simulation.specs.Meets.{Conf, stepped, Setting, Meets, crash, ends, here, demanded, from}
+use Rattle.compile_simulation.specs.View.{Data, ownPut, rootPut, seen, seenV, seenC, seenR, blocksOf, rootsOf, inFirst, cellAt, Apart, Distinct, Below, global-apart, apart-blocks, put-other, owner-of, number-of, bound-own}
+use Rattle.compile_simulation.specs.Ops.{Owners, conf, hereOf, topOf, op-at, op-tick, conds}
+use Rattle.compile_simulation.specs.Placed.{Work, Holds, ownerOf, lowestOf, Fit, at-work, placeOf, Sees, Arrives, nowhere}
 
 -- the operands taken off, the deepest first
 unfoldable pub onto : List Value → List Value → List Value
@@ -66,11 +65,11 @@ lowestBack [] D ls = D .lowest
 lowestBack (f ∷ fs) D ls = ls
 
 abbrev pub returned : List Activation → Data → Data → Data
-returned fs D E = record { records = E .records; cells = cellsBack fs D (E .lowest); lowest = lowestBack fs D (E .lowest); trace = E .trace; taken = E .taken }
+returned fs D E = record { shared = E .shared; cells = cellsBack fs D (E .lowest); lowest = lowestBack fs D (E .lowest); trace = E .trace; taken = E .taken }
 
 -- the callee's data
 abbrev pub entered : List Activation → Body → List Value → Data → Data
-entered fs b vs D = record { records = D .records; cells = assignAll vs ++ freshAll (drop (length vs) (b .cells)); lowest = lowestOf fs (D .cells) (D .lowest); trace = D .trace; taken = D .taken }
+entered fs b vs D = record { shared = D .shared; cells = assignAll vs ++ freshAll (drop (length vs) (b .cells)); lowest = lowestOf fs (D .cells) (D .lowest); trace = D .trace; taken = D .taken }
 
 -- the waiting caller
 abbrev pub waits : ℕ → List Value → List ℕ → ℕ → Data → Activation
@@ -197,7 +196,7 @@ pub entered-seen : (W : Setting) (gs : List Global) (C : Work) (Γ : List Around
 unfolding blocksOf rootsOf
 entered-seen W gs C Γ D b xs s vs n w t l =
     let cs = assignAll vs ++ freshAll (drop (length vs) (b .cells)) in
-    ap₂ (λ x y. record { root = x; blocks = y; records = map (seenR gs) (D .records); trace = D .trace; taken = D .taken })
+    ap₂ (λ x y. record { root = x; blocks = y; records = map (seenR gs) (D .shared .records); trace = D .trace; taken = D .taken })
     (roots-past gs xs 0 (inside s ∷ W .shared-names) cs (lowestOf (C .below) (D .cells) (D .lowest)) ∙ sym (w .roots (D .cells) (D .lowest) cs))
     (params-seen gs xs vs [] (freshAll (drop (length vs) (b .cells))) 0 (inside s ∷ W .shared-names) [] l refl (ap (λ z. [] ∷ z) (t .no-block cs)))
 
@@ -205,7 +204,7 @@ entered-seen W gs C Γ D b xs s vs n w t l =
 pub returned-seen : (W : Setting) (gs : List Global) (C : Work) (Γ Δ : List Around) (D E : Data) (n : ℕ) → Fit W gs C Γ n → ((cs ls : List Cell) → rootsOf gs Δ cs ls ≡ rootsOf gs (W .shared-names) cs ls) → keptBelow gs C Γ D (E .cells) (E .lowest)
     → seen gs Γ (returned (C .below) D E) ≡ withBlocks (blocksOf gs Γ (D .cells)) (seen gs Δ E)
 returned-seen W gs C Γ Δ D E n w r k =
-    ap₂ (λ x y. record { root = x; blocks = y; records = map (seenR gs) (E .records); trace = E .trace; taken = E .taken })
+    ap₂ (λ x y. record { root = x; blocks = y; records = map (seenR gs) (E .shared .records); trace = E .trace; taken = E .taken })
     (w .roots (cellsBack (C .below) D (E .lowest)) (lowestBack (C .below) D (E .lowest)) (E .cells) ∙ ap (λ z. rootsOf gs (W .shared-names) (E .cells) z) (low (C .below)) ∙ sym (r (E .cells) (E .lowest)))
     (k .0)
   where
@@ -215,7 +214,7 @@ returned-seen W gs C Γ Δ D E n w r k =
 
 module _ (W : Setting) (gs : List Global) where
   hands-down : {A : Type 0} {n : ℕ} {L : ℕ → Store → Conf → Type 0} {F : A → Store → Conf → Type 0} {r : Result A} (fs : List Activation) (k k₀ a e : ℕ) (b : Body) (us st : List Value) (K : List ℕ) (D E : Data)
-      → fetch (W .macro) k e ≡ some return → notRoot (W .macro) k ≡ some b
+      → fetch (W .macro) k e ≡ some return → procedureAt (W .macro) k ≡ some b
       → Meets W n L F (conf W gs k₀ fs (suc a) (us ++ st) K (returned fs D E)) r → Meets W n L F (conf W gs k (waits a st K k₀ D ∷ fs) e us [] E) r
   unfolding act doReturn putLowest
   hands-down [] k k₀ a e b us st K D E p q h = op-at W gs k (waits a st K k₀ D ∷ []) return e us [] E p (rw q
@@ -226,7 +225,7 @@ module _ (W : Setting) (gs : List Global) where
   module _ (C : Work) where
     -- the callee's end, and then the caller's going on
     leaves : {A : Type 0} {G : A → List Value → Type 0} {n : ℕ} {L : ℕ → Store → Conf → Type 0} (Γ Δ : List Around) (k a e n' : ℕ) (b : Body) (st : List Value) (D : Data) (x : Conf) (z : Result A)
-        → fetch (W .macro) k e ≡ some return → notRoot (W .macro) k ≡ some b → Fit W gs C Γ n' → ((cs ls : List Cell) → rootsOf gs Δ cs ls ≡ rootsOf gs (W .shared-names) cs ls)
+        → fetch (W .macro) k e ≡ some return → procedureAt (W .macro) k ≡ some b → Fit W gs C Γ n' → ((cs ls : List Cell) → rootsOf gs Δ cs ls ≡ rootsOf gs (W .shared-names) cs ls)
         → Meets W n (nowhere W gs C) (Arrives W gs (callee gs C k Γ a st D) G (Sees W gs (callee gs C k Γ a st D) Δ) [] e []) x z
         → Meets W n L (Arrives W gs C G (Sees W gs C Γ) (heldIn Γ) (suc a) st) x (leaving (λ τ. blocksOf gs Γ (D .cells)) z)
     unfolding leaving
@@ -248,7 +247,7 @@ module _ (W : Setting) (gs : List Global) where
     leaves Γ Δ k a e n' b st D x wrong p q w r (ends h) = ends h
 
     pub calls : {A : Type 0} (G : A → List Value → Type 0) {n : ℕ} {L : ℕ → Store → Conf → Type 0} (Γ : List Around) (k a e n' : ℕ) (b : Body) (q : Procedure) (s : Scope) (top st : List Value) (D : Data) (f : TreeBody → Place → Store → Result A)
-        → fetch (W .macro) (C .body) a ≡ some (call k) → fetch (W .macro) k e ≡ some return → notRoot (W .macro) k ≡ some b → b .parameters ≡ length (q .parameters) → length top ≡ length (q .parameters)
+        → fetch (W .macro) (C .body) a ≡ some (call k) → fetch (W .macro) k e ≡ some return → procedureAt (W .macro) k ≡ some b → b .parameters ≡ length (q .parameters) → length top ≡ length (q .parameters)
         → Fit W gs C Γ n' → Static gs (W .shared-names) (q .parameters) s → Holds C D
         → ((E : Data) → Holds (callee gs C k Γ a st D) E → Meets W n (nowhere W gs C) (Arrives W gs (callee gs C k Γ a st D) G (Sees W gs (callee gs C k Γ a st D) (inside-proc (q .parameters) s (W .shared-names))) [] e [])
         (at-work W gs (callee gs C k Γ a st D) (b .first) [] [] E) (f (q .body) (deeper (placeOf W gs C Γ)) (seen gs (inside-proc (q .parameters) s (W .shared-names)) E)))
@@ -275,7 +274,7 @@ module _ (W : Setting) (gs : List Global) where
             same-kept (g ∷ fs) h = h
 
         enters : (t : Bool) → Meets W n L (Arrives W gs C G (Sees W gs C Γ) (heldIn Γ) (suc a) st)
-            (stepped (if t then moved [] (running (D .records) (activation k b (onto top [])) (at a st (topOf W gs (C .body) (C .below) a (top ++ st) (heldIn Γ) D) ∷ putLowest (D .lowest) (C .below))) else condition tooManyActivations (hereOf W gs (C .body) (C .below) a (top ++ st) (heldIn Γ) D)) (D .trace) (D .taken))
+            (stepped (if t then moved [] (running (D .shared) (activation k b (onto top [])) (at a st (topOf W gs (C .body) (C .below) a (top ++ st) (heldIn Γ) D) ∷ putLowest (D .lowest) (C .below))) else condition tooManyActivations (hereOf W gs (C .body) (C .below) a (top ++ st) (heldIn Γ) D)) (D .trace) (D .taken))
             (if t then leaving (λ τ. blocksOf gs Γ (D .cells)) (f (q .body) (deeper (placeOf W gs C Γ)) (withBlocks (pairUp (q .parameters) (map (seenV gs) (onto top [])) ∷ []) (seen gs Γ D)))
             else over tooManyActivations (releaseAll (heldIn Γ ++ allHolds (C .below)) (seen gs Γ D)))
         enters true = rw (waits-below (C .below) a st (heldIn Γ) (C .body) D)

@@ -1,19 +1,18 @@
 -- A case: the index in its cell, compared with each number in turn.
 use mathlib.Core.Bool.{Bool, true, false, _&&_}
 use mathlib.Core.Path.{_≡_, refl, ap, ap₂, sym, _∙_, subst}
-use mathlib.Core.List.{List, [], _∷_, _++_}
-use mathlib.Core.Option.{Option, none, some}
+use mathlib.Core.List.{List, [], _∷_}
+use mathlib.Core.Option.{some}
 use Prim.Native.Nat.{ℕ, zero, suc, _+_, _≤_, _<_}
 use native.Mathlib.Omega.{arith}
 use lib.Dec.{T, leb, leb→le, le→leb}
 use lib.IntN.{ℤ, pos, negsuc}
-use lib.ListN.{getElem?}
 use Rattle.values.specs.Operators.{binary, equal}
-use Rattle.values.specs.Values.{Value, int, log, Cell, assigned, size, sameInteger, apply2}
+use Rattle.values.specs.Values.{Value, int, log, assigned, size, sameInteger, apply2}
 use Rattle.language.specs.Execute.{Store, Result}
 use Rattle.language.specs.Tree.{Global}
 use Rattle.bytecode.specs.Instructions.{own, push, load, operate, goUnless}
-use Rattle.bytecode.specs.Machine.{Activation, fetch, act, doOperate, settled}
+use Rattle.bytecode.specs.Machine.{Activation, fetch, act, doOperate}
 use Rattle.compile_simulation.specs.Meets.{Conf, Setting, Meets}
 use Rattle.compile_simulation.specs.View.{Data, cellAt, found-at}
 use Rattle.compile_simulation.specs.Ops.{conf, op-at, pushes, loads, forks, goes-on}

@@ -1,15 +1,14 @@
 -- The plain machine with an oracle's readings; what it does where a part of the tree ends as `r`; laws to put this together.
 use mathlib.Core.Bool.{Bool, true, false}
-use mathlib.Core.Path.{_≡_, refl, ap, sym, _∙_, subst}
+use mathlib.Core.Path.{_≡_, refl}
 use mathlib.Core.List.{List, [], _∷_, _++_}
 use mathlib.Core.Option.{Option, none, some}
-use Prim.Native.Nat.{ℕ, zero, suc, _≤_, suc-le-suc, zero-le}
+use Prim.Native.Nat.{ℕ, zero, suc, _≤_, suc-le-suc}
 use native.Mathlib.Omega.{arith}
-use Rattle.words.specs.Choice.{if_then_else_}
 use Rattle.values.specs.Trace.{Item, event, reading, release}
-use Rattle.language.specs.Execute.{Store, Result, done, jump, ended, later, wrong, next, say, releaseAll}
+use Rattle.language.specs.Execute.{Store, Result, done, jump, ended, later, wrong, next, asked, say, releaseAll}
 use Rattle.bytecode.specs.Macro.{Macro}
-use Rattle.bytecode.specs.Machine.{Machine, running, unwinding, endBy, Made, Activation, Stuck, Stepped, moved, stuck, step, demand, given}
+use Rattle.bytecode.specs.Machine.{Machine, running, unwinding, endBy, Stuck, Stepped, moved, stuck, step, demand, given}
 use Rattle.bytecode.specs.Machine.{ended as stopped}
 use Rattle.bytecode.specs.Sound.{sound}
 use Rattle.compile_code.specs.Compile.{Around}
@@ -134,6 +133,12 @@ module _ {W : Setting} where
         → ((x : B) → o ≡ some x → Meets W n L F (stepped (f x) tr k) r) → Meets W n L F (stepped (given o why f) tr k) r
     had tr k none why f h = lost
     had tr k (some x) why f h = h x refl
+
+    -- tests that both make, of the same thing
+    pub asks : {B : Type 0} {n : ℕ} (tr : List Item) (k : ℕ) (o : Option B) (why : Stuck) (f : B → Stepped) (g : B → Result A)
+        → ((x : B) → o ≡ some x → Meets W n L F (stepped (f x) tr k) (g x)) → Meets W n L F (stepped (given o why f) tr k) (asked o g)
+    asks tr k none why f g h = lost
+    asks tr k (some x) why f g h = h x refl
 
   -- a condition: every hold is released, last first, and the machine ends
   closes : (c : ℕ) (gs : List ℕ) (σ : Store) → Reach W (live (unwinding gs (endBy c)) (σ .trace) (σ .taken)) (EndsBy W c (releaseAll gs σ))

@@ -1,29 +1,28 @@
 -- What the simulation speaks of: an activation at work, code that stands, where control arrives, where gotos land.
 use mathlib.Core.Bool.{Bool, true, false}
-use mathlib.Core.Path.{_≡_, refl, ap, ap₂, sym, _∙_, subst, subst₂}
-use mathlib.Core.List.{List, [], _∷_, _++_, map, reverse}
-use mathlib.Core.Option.{Option, none, some}
-use Prim.Native.Nat.{ℕ, zero, suc, _+_, _≤_, _<_}
+use mathlib.Core.Path.{_≡_, refl, ap, sym, _∙_, subst, subst₂}
+use mathlib.Core.List.{List, [], _∷_, _++_}
+use mathlib.Core.Option.{some}
+use Prim.Native.Nat.{ℕ, suc, _≤_}
 use native.Mathlib.Omega.{arith}
 use lib.Dec.{eqb}
-use lib.ListN.{length, getElem?}
+use lib.ListN.{length}
 use lib.ListN.{set as put}
 use Rattle.words.specs.Choice.{if_then_else_}
 use Rattle.values.specs.Values.{Value, Cell}
-use Rattle.values.specs.Trace.{release, event}
+use Rattle.values.specs.Trace.{release}
 use Rattle.language.specs.Tree.{Global, Items}
 use Rattle.language.specs.Names.{Scope, inBlock, inExpression, inProcedure}
-use Rattle.language.specs.Execute.{Store, Result, done, jump, next, Place, say, withBlocks, innerBlocks, releaseAll}
+use Rattle.language.specs.Execute.{Store, Result, done, next, Place, say, withBlocks, outerBlocks}
 use Rattle.bytecode.specs.Macro.{shapeIn}
-use Rattle.bytecode.specs.Instructions.{Owner, own, root, go, letHold}
-use Rattle.bytecode.specs.Machine.{Activation, allHolds, fetch, step, act, letting}
-use Rattle.compile_code.specs.Code.{Code, nil, op, mark, cell, _▸_, At, at, skip, after}
-use Rattle.compile_code.specs.Compile.{Around, inside, outermost, bound, global, held, labels, heldIn, scopesOf, passing, theLabels, hasLabel, labelAt, codeGoto, kept, boundAt, globalAt, orCell}
+use Rattle.bytecode.specs.Instructions.{Owner, own, root, go}
+use Rattle.bytecode.specs.Machine.{Activation, allHolds, fetch}
+use Rattle.compile_code.specs.Code.{Code, nil, op, mark, cell, _▸_, At, after}
+use Rattle.compile_code.specs.Compile.{Around, inside, outermost, bound, global, held, labels, heldIn, scopesOf, passing, theLabels, hasLabel, labelAt, kept, boundAt, globalAt, orCell}
 use Rattle.compile_code.specs.Compile.{Cell as Kept, cellOf as keptOf}
-use Rattle.compile_simulation.specs.Meets.{Conf, live, dead, stepped, Setting, Reach, Meets, crash, ends, here, prior, binds, onward}
-use Rattle.compile_simulation.specs.Meets.{go as goConf}
-use Rattle.compile_simulation.specs.View.{Data, written, ownPut, rootPut, seen, seenV, blocksOf, rootsOf, inFirst, cellAt, Apart, Distinct, Below, below-apart, below-more}
-use Rattle.compile_simulation.specs.Ops.{Owners, conf, says}
+use Rattle.compile_simulation.specs.Meets.{Conf, Setting, Meets, ends, here, binds, onward}
+use Rattle.compile_simulation.specs.View.{Data, ownPut, rootPut, seen, seenV, rootsOf, Distinct, Below, below-apart, below-more}
+use Rattle.compile_simulation.specs.Ops.{Owners, conf}
 
 -- an activation at work: its body, those below it, and what is kept of the cells while it works
 pub record Work : Type 1 where
@@ -128,7 +127,7 @@ module _ (W : Setting) where
 
     -- with a block more that is about to be left
     abbrev pub Within : List Around → Store → Data → Type 0
-    Within Γ σ D = seen gs Γ D ≡ withBlocks (innerBlocks (σ .blocks)) σ
+    Within Γ σ D = seen gs Γ D ≡ withBlocks (outerBlocks (σ .blocks)) σ
 
     abbrev pub Nothing : Unit {0} → List Value → Type 0
     Nothing u vs = vs ≡ []
@@ -147,7 +146,7 @@ module _ (W : Setting) where
     -- ── where gotos land ──
     unfoldable pub lands : List Around → List Value → ℕ → Store → Conf → Type 0
     lands [] st a σ y = ⊥
-    lands (inside (inBlock ds) ∷ Γ) st a σ y = lands Γ st a (withBlocks (innerBlocks (σ .blocks)) σ) y
+    lands (inside (inBlock ds) ∷ Γ) st a σ y = lands Γ st a (withBlocks (outerBlocks (σ .blocks)) σ) y
     lands (inside (inExpression ds) ∷ Γ) st a σ y = ⊥
     lands (inside (inProcedure ds) ∷ Γ) st a σ y = ⊥
     lands (outermost s ∷ Γ) st a σ y = ⊥

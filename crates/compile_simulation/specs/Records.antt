@@ -1,6 +1,6 @@
 -- Records: fields by name in the tree, by place in the machine.
 use mathlib.Core.Bool.{Bool, true, false, _||_}
-use mathlib.Core.Path.{_≡_, refl, ap, ap₂, sym, _∙_, subst, subst₂}
+use mathlib.Core.Path.{_≡_, refl, ap, sym, _∙_, subst, subst₂}
 use mathlib.Core.List.{List, [], _∷_, _++_, map}
 use mathlib.Core.Option.{Option, none, some}
 use Prim.Native.Nat.{ℕ, zero, suc}
@@ -9,19 +9,21 @@ use lib.Dec.{T, eqb, eqb→eq, ltb, leb}
 use lib.ListN.{length, getElem?}
 use lib.ListN.{set as put}
 use Rattle.words.specs.Choice.{if_then_else_}
+use Rattle.words.specs.Options.{keep}
 use Rattle.values.specs.Types.{Ty, fits, allFit}
 use Rattle.values.specs.Ends.{fieldOfNull, tooManyRecords}
-use Rattle.values.specs.Values.{Value, int, log, bit, ref, tyOf, tysOf, assigned}
+use Rattle.values.specs.Values.{Value, ref, Reference, asReference, tyOf, tysOf, assigned}
 use Rattle.language.specs.Tree.{Typed, Global}
-use Rattle.language.specs.Execute.{Store, Result, done, slot, cellIn, putIn, pairUp, doField, doPutField, doMake, cellValue, ofRecord, withRecords, releaseAll, Place}
-use Rattle.language.specs.Execute.{Made as TreeMade, ended as over, condition as treeCondition}
-use Rattle.bytecode.specs.Instructions.{make, getField, putField}
-use Rattle.bytecode.specs.Machine.{Made, Activation, badRecord, badType, badFrame, noStep, demand, given, goesOn, condition, act, fetch, onMade, fieldPut, popMany, recording, putLowest}
+use Rattle.language.specs.Execute.{Store, Result, done, slot, cellIn, putIn, pairUp, doField, doPutField, doMake, asked, onRecord, withRecords}
+use Rattle.language.specs.Execute.{Made as TreeMade, condition as treeCondition, onMade as treeMade}
+use Rattle.bytecode.specs.Instructions.{make, getField, putField, fieldTy}
+use Rattle.bytecode.specs.Machine.{Made, Here, Stepped, badRecord, badType, badFrame, demand, given, goesOn, condition, act, fetch, onMade, onField}
 use Rattle.bytecode.specs.Machine.{doGetField as machineGet, doPutField as machinePut, doMake as machineMake, withRecords as machineWith}
-use Rattle.compile_code.specs.Compile.{Around, heldIn, Class, classesOf, namesOf, indexOf, amongNames}
+use Rattle.compile_code.specs.Compile.{Around, heldIn, classesOf, namesOf, indexOf, amongNames}
 use Rattle.compile_simulation.specs.Meets.{Conf, stepped, Setting, Meets, lost, demanded, had}
-use Rattle.compile_simulation.specs.View.{Data, seen, seenV, seenR, classOf, blocksOf, rootsOf}
-use Rattle.compile_simulation.specs.Ops.{conf, hereOf, op-at, conds, goes-on}
+use Rattle.compile_simulation.specs.View.{Data, seen, seenV, seenR, classOf}
+use Rattle.compile_simulation.specs.Projections.{named, seen-reference}
+use Rattle.compile_simulation.specs.Ops.{hereOf, op-at, conds, goes-on}
 use Rattle.compile_simulation.specs.Calls.{onto, pops}
 use Rattle.compile_simulation.specs.Placed.{Work, Holds, at-work, placeOf, Sees, Nothing, One, Arrives, given-one, arrived}
 
@@ -66,56 +68,55 @@ module _ (gs : List Global) where
   len-map (x ∷ rs) = ap suc (len-map rs)
 
 abbrev pub withMade : List Made → Data → Data
-withMade rs D = record { records = rs; cells = D .cells; lowest = D .lowest; trace = D .trace; taken = D .taken }
+withMade rs D = record { shared = record { records = rs }; cells = D .cells; lowest = D .lowest; trace = D .trace; taken = D .taken }
 
 is-it : (c d : ℕ) → (b : Bool) → eqb c d ≡ b → b ≡ true → c ≡ d
 is-it c d b e h = eqb→eq c d (subst T (sym (e ∙ h)) tt)
 
 module _ (W : Setting) (gs : List Global) (C : Work) {n : ℕ} {L : ℕ → Store → Conf → Type 0} where
+  -- the field that an op works on: by its number in the machine, by its name in the tree
+  on-field : {A : Type 0} {F : A → Store → Conf → Type 0} (Γ : List Around) (c x : ℕ) (v : Value) (a : ℕ) (vs : List Value) (D : Data) (f : ℕ → Made → Ty → Value → Stepped) (g : ℕ → TreeMade → Result A)
+      → ((i : ℕ) (m : Made) (t : Ty) (w : Value) → getElem? (D .shared .records) i ≡ some m → m .class ≡ c → getElem? (m .fields) x ≡ some w → Meets W n L F (stepped (f i m t w) (D .trace) (D .taken)) (g i (seenR gs m)))
+      → Meets W n L F (stepped (onField (W .macro) c x v (hereOf W gs (C .body) (C .below) a vs (heldIn Γ) D) f) (D .trace) (D .taken)) (onRecord (seenV gs v) (placeOf W gs C Γ) (seen gs Γ D) g)
+  on-field {A} {F} Γ c x v a vs D f g h = rw (seen-reference gs v) (refers (asReference v))
+    where
+      here : Here
+      here = hereOf W gs (C .body) (C .below) a vs (heldIn Γ) D
+
+      field : ℕ → Made → Stepped
+      field i m = given (fieldTy (W .macro) c x) badType (λ t. given (getElem? (m .fields) x) badType (λ w. f i m t w))
+
+      checked : (i : ℕ) (m : Made) (b : Bool) → eqb (m .class) c ≡ b → getElem? (D .shared .records) i ≡ some m → Meets W n L F (stepped (demand b badRecord (field i m)) (D .trace) (D .taken)) (g i (seenR gs m))
+      checked i m false u e = lost
+      checked i m true u e =
+          had (D .trace) (D .taken) (fieldTy (W .macro) c x) badType _ (λ t z. had (D .trace) (D .taken) (getElem? (m .fields) x) badType _ (λ w j. h i m t w e (is-it (m .class) c true u refl) j))
+
+      made : (o : Option ℕ) → Meets W n L F (stepped (onMade c o here field) (D .trace) (D .taken)) (treeMade o (placeOf W gs C Γ) (seen gs Γ D) g)
+      made none = conds W gs (C .body) (C .below) fieldOfNull Γ a vs D
+      made (some i) = had (D .trace) (D .taken) (getElem? (D .shared .records) i) badRecord _ (λ m e. rw (got gs (D .shared .records) i m e) (checked i m (eqb (m .class) c) refl e))
+
+      refers : (o : Option Reference) → Meets W n L F (stepped (given o badType (λ r. demand (eqb (r .class) c) badRecord (onMade c (r .target) here field))) (D .trace) (D .taken))
+          (asked (keep o (λ r. some (named gs r))) (λ r. treeMade (r .target) (placeOf W gs C Γ) (seen gs Γ D) g))
+      refers none = lost
+      refers (some r) = demanded (D .trace) (D .taken) (eqb (r .class) c) badRecord _ (made (r .target))
+
   pub gets : (Γ : List Around) (f c x : ℕ) (w : Value) (a : ℕ) (st : List Value) (D : Data) → okField gs f c x → fetch (W .macro) (C .body) a ≡ some (getField c x) → Holds C D
       → Meets W n L (Arrives W gs C (One W gs C) (Sees W gs C Γ) (heldIn Γ) (suc a) st) (at-work W gs C a (w ∷ st) (heldIn Γ) D) (doField f (seenV gs w) (placeOf W gs C Γ) (seen gs Γ D))
   unfolding act machineGet doField
-  gets Γ f c x (int z) a st D o p k = op-at W gs (C .body) (C .below) (getField c x) a (int z ∷ st) (heldIn Γ) D p lost
-  gets Γ f c x (log z) a st D o p k = op-at W gs (C .body) (C .below) (getField c x) a (log z ∷ st) (heldIn Γ) D p lost
-  gets Γ f c x (bit z) a st D o p k = op-at W gs (C .body) (C .below) (getField c x) a (bit z ∷ st) (heldIn Γ) D p lost
-  gets Γ f c x (ref d none) a st D o p k = op-at W gs (C .body) (C .below) (getField c x) a (ref d none ∷ st) (heldIn Γ) D p
-      (demanded (D .trace) (D .taken) (eqb d c) badRecord _ (conds W gs (C .body) (C .below) fieldOfNull Γ a (ref d none ∷ st) D))
-  gets Γ f c x (ref d (some i)) a st D o p k = op-at W gs (C .body) (C .below) (getField c x) a (ref d (some i) ∷ st) (heldIn Γ) D p
-      (demanded (D .trace) (D .taken) (eqb d c) badRecord _ (had (D .trace) (D .taken) (getElem? (D .records) i) badRecord _ (λ m e. checked m (eqb (m .class) c) refl e)))
-    where
-      checked : (m : Made) (b : Bool) → eqb (m .class) c ≡ b → getElem? (D .records) i ≡ some m
-          → Meets W n L (Arrives W gs C (One W gs C) (Sees W gs C Γ) (heldIn Γ) (suc a) st)
-          (stepped (demand b badRecord (given (getElem? (m .fields) x) badType (λ w. goesOn [] (w ∷ st) (hereOf W gs (C .body) (C .below) a (ref d (some i) ∷ st) (heldIn Γ) D)))) (D .trace) (D .taken))
-          (ofRecord (getElem? (map (seenR gs) (D .records)) i) (λ q. cellValue (cellIn f (q .fields)) (seen gs Γ D)))
-      checked m false u e = lost
-      checked m true u e = had (D .trace) (D .taken) (getElem? (m .fields) x) badType _ (λ w g.
-          let q : cellIn f (pairUp (classOf (classesOf gs) (m .class) .fields) (map (seenV gs) (m .fields))) ≡ some (assigned (seenV gs w)) =
-          subst (λ j. cellIn f (pairUp (classOf (classesOf gs) j .fields) (map (seenV gs) (m .fields))) ≡ some (assigned (seenV gs w))) (sym (is-it (m .class) c true u refl)) (o (m .fields) w g .0) in
-          rw (got gs (D .records) i m e) (rw q (goes-on W gs (C .body) (C .below) [] (w ∷ st) a (ref d (some i) ∷ st) (heldIn Γ) D (given-one W gs C Γ w D k))))
+  gets Γ f c x v a st D o p k = op-at W gs (C .body) (C .below) (getField c x) a (v ∷ st) (heldIn Γ) D p (on-field Γ c x v a (v ∷ st) D _ _ (λ i m t w e j g.
+      let q : cellIn f (pairUp (classOf (classesOf gs) (m .class) .fields) (map (seenV gs) (m .fields))) ≡ some (assigned (seenV gs w)) =
+      subst (λ j. cellIn f (pairUp (classOf (classesOf gs) j .fields) (map (seenV gs) (m .fields))) ≡ some (assigned (seenV gs w))) (sym j) (o (m .fields) w g .0) in
+      rw q (demanded (D .trace) (D .taken) (fits (tyOf w) t) badType _ (goes-on W gs (C .body) (C .below) [] (w ∷ st) a (v ∷ st) (heldIn Γ) D (given-one W gs C Γ w D k)))))
 
   pub puts : (Γ : List Around) (f c x : ℕ) (v w : Value) (a : ℕ) (st : List Value) (D : Data) → okField gs f c x → fetch (W .macro) (C .body) a ≡ some (putField c x) → Holds C D
       → Meets W n L (Arrives W gs C (Nothing W gs C) (Sees W gs C Γ) (heldIn Γ) (suc a) st) (at-work W gs C a (w ∷ (v ∷ st)) (heldIn Γ) D) (doPutField f (seenV gs v) (seenV gs w) (placeOf W gs C Γ) (seen gs Γ D))
   unfolding act machinePut doPutField
-  puts Γ f c x (int z) w a st D o p k = op-at W gs (C .body) (C .below) (putField c x) a (w ∷ (int z ∷ st)) (heldIn Γ) D p lost
-  puts Γ f c x (log z) w a st D o p k = op-at W gs (C .body) (C .below) (putField c x) a (w ∷ (log z ∷ st)) (heldIn Γ) D p lost
-  puts Γ f c x (bit z) w a st D o p k = op-at W gs (C .body) (C .below) (putField c x) a (w ∷ (bit z ∷ st)) (heldIn Γ) D p lost
-  puts Γ f c x (ref d none) w a st D o p k = op-at W gs (C .body) (C .below) (putField c x) a (w ∷ (ref d none ∷ st)) (heldIn Γ) D p
-      (demanded (D .trace) (D .taken) (eqb d c) badRecord _ (conds W gs (C .body) (C .below) fieldOfNull Γ a (w ∷ (ref d none ∷ st)) D))
-  puts Γ f c x (ref d (some i)) w a st D o p k = op-at W gs (C .body) (C .below) (putField c x) a (w ∷ (ref d (some i) ∷ st)) (heldIn Γ) D p
-      (demanded (D .trace) (D .taken) (eqb d c) badRecord _ (had (D .trace) (D .taken) (getElem? (D .records) i) badRecord _ (λ m e. checked m (eqb (m .class) c) refl e)))
-    where
-      checked : (m : Made) (b : Bool) → eqb (m .class) c ≡ b → getElem? (D .records) i ≡ some m
-          → Meets W n L (Arrives W gs C (Nothing W gs C) (Sees W gs C Γ) (heldIn Γ) (suc a) st)
-          (stepped (demand b badRecord (given (getElem? (m .fields) x) badType (λ u. demand (fits (tyOf w) (tyOf u)) badType (goesOn [] st (machineWith (fieldPut i x w m (D .records)) (hereOf W gs (C .body) (C .below) a (w ∷ (ref d (some i) ∷ st)) (heldIn Γ) D)))))) (D .trace) (D .taken))
-          (ofRecord (getElem? (map (seenR gs) (D .records)) i) (λ q. done tt (withRecords (put (map (seenR gs) (D .records)) i (record { class = q .class; fields = putIn f (assigned (seenV gs w)) (q .fields) })) (seen gs Γ D))))
-      checked m false u e = lost
-      checked m true u e = had (D .trace) (D .taken) (getElem? (m .fields) x) badType _ (λ y g. demanded (D .trace) (D .taken) (fits (tyOf w) (tyOf y)) badType _
-          (let j = is-it (m .class) c true u refl in
-          let q : putIn f (assigned (seenV gs w)) (pairUp (classOf (classesOf gs) (m .class) .fields) (map (seenV gs) (m .fields))) ≡ pairUp (classOf (classesOf gs) (m .class) .fields) (map (seenV gs) (put (m .fields) x w)) =
-          subst (λ j. putIn f (assigned (seenV gs w)) (pairUp (classOf (classesOf gs) j .fields) (map (seenV gs) (m .fields))) ≡ pairUp (classOf (classesOf gs) j .fields) (map (seenV gs) (put (m .fields) x w))) (sym j) (o (m .fields) y g .1 w) in
-          let new : Made = record { class = m .class; fields = put (m .fields) x w } in
-          rw (got gs (D .records) i m e) (rw q (rw (sym (put-map gs (D .records) i new))
-          (demanded (D .trace) (D .taken) (leb (length st) 32) badFrame _ (arrived W gs C Γ tt (withMade (put (D .records) i new) D) k))))))
+  puts Γ f c x v w a st D o p k = op-at W gs (C .body) (C .below) (putField c x) a (w ∷ (v ∷ st)) (heldIn Γ) D p (on-field Γ c x v a (w ∷ (v ∷ st)) D _ _ (λ i m t u e j g.
+      let q : putIn f (assigned (seenV gs w)) (pairUp (classOf (classesOf gs) (m .class) .fields) (map (seenV gs) (m .fields))) ≡ pairUp (classOf (classesOf gs) (m .class) .fields) (map (seenV gs) (put (m .fields) x w)) =
+      subst (λ j. putIn f (assigned (seenV gs w)) (pairUp (classOf (classesOf gs) j .fields) (map (seenV gs) (m .fields))) ≡ pairUp (classOf (classesOf gs) j .fields) (map (seenV gs) (put (m .fields) x w))) (sym j) (o (m .fields) u g .1 w) in
+      let new : Made = record { class = m .class; fields = put (m .fields) x w } in
+      rw q (rw (sym (put-map gs (D .shared .records) i new))
+      (demanded (D .trace) (D .taken) (fits (tyOf w) t) badType _ (demanded (D .trace) (D .taken) (leb (length st) 32) badFrame _ (arrived W gs C Γ tt (withMade (put (D .shared .records) i new) D) k))))))
 
   -- a new record
   pub makes : (Γ : List Around) (c k : ℕ) (xs : List Typed) (ts : List Ty) (a : ℕ) (top st : List Value) (D : Data) → fetch (W .macro) (C .body) a ≡ some (make k) → getElem? (W .macro .classes) k ≡ some ts → length top ≡ length ts
@@ -123,17 +124,17 @@ module _ (W : Setting) (gs : List Global) (C : Work) {n : ℕ} {L : ℕ → Stor
       → Meets W n L (Arrives W gs C (One W gs C) (Sees W gs C Γ) (heldIn Γ) (suc a) st) (at-work W gs C a (top ++ st) (heldIn Γ) D) (doMake c (some xs) (map (seenV gs) (onto top [])) (placeOf W gs C Γ) (seen gs Γ D))
   unfolding act machineMake doMake
   makes Γ c k xs ts a top st D p t l e f h = op-at W gs (C .body) (C .below) (make k) a (top ++ st) (heldIn Γ) D p
-      (rw (t, sym l) (rw (pops top st [] _) (demanded (D .trace) (D .taken) (allFit (tysOf (onto top [])) ts) badType _ (rw (len-map gs (D .records)) (pick (ltb (length (D .records)) 256))))))
+      (rw (t, sym l) (rw (pops top st [] _) (demanded (D .trace) (D .taken) (allFit (tysOf (onto top [])) ts) badType _ (rw (len-map gs (D .shared .records)) (pick (ltb (length (D .shared .records)) 256))))))
     where
       new : Made
       new = record { class = k; fields = onto top [] }
 
       pick : (b : Bool) → Meets W n L (Arrives W gs C (One W gs C) (Sees W gs C Γ) (heldIn Γ) (suc a) st)
-          (stepped (if b then goesOn [] (ref k (some (length (D .records))) ∷ st) (machineWith (D .records ++ (record { class = k; fields = onto top [] } ∷ [])) (hereOf W gs (C .body) (C .below) a (top ++ st) (heldIn Γ) D)) else condition tooManyRecords (hereOf W gs (C .body) (C .below) a (top ++ st) (heldIn Γ) D)) (D .trace) (D .taken))
-          (if b then done (ref c (some (length (D .records)))) (withRecords (map (seenR gs) (D .records) ++ (record { class = c; fields = pairUp xs (map (seenV gs) (onto top [])) } ∷ [])) (seen gs Γ D)) else treeCondition tooManyRecords (placeOf W gs C Γ) (seen gs Γ D))
-      pick true = demanded (D .trace) (D .taken) (leb (length (ref k (some (length (D .records))) ∷ st)) 32) badFrame _
-          (subst₂ (λ d rs. Meets W n L (Arrives W gs C (One W gs C) (Sees W gs C Γ) (heldIn Γ) (suc a) st) (at-work W gs C (suc a) (ref k (some (length (D .records))) ∷ st) (heldIn Γ) (withMade (D .records ++ (record { class = k; fields = onto top [] } ∷ [])) D))
-          (done (ref d (some (length (D .records)))) (withRecords rs (seen gs Γ D)))) e
-          (add-map gs (D .records) (record { class = k; fields = onto top [] }) ∙ ap₂ (λ d ys. map (seenR gs) (D .records) ++ (record { class = d; fields = pairUp ys (map (seenV gs) (onto top [])) } ∷ [])) e f)
-          (given-one W gs C Γ (ref k (some (length (D .records)))) (withMade (D .records ++ (record { class = k; fields = onto top [] } ∷ [])) D) h))
+          (stepped (if b then goesOn [] (ref k (some (length (D .shared .records))) ∷ st) (machineWith (D .shared .records ++ (record { class = k; fields = onto top [] } ∷ [])) (hereOf W gs (C .body) (C .below) a (top ++ st) (heldIn Γ) D)) else condition tooManyRecords (hereOf W gs (C .body) (C .below) a (top ++ st) (heldIn Γ) D)) (D .trace) (D .taken))
+          (if b then done (ref c (some (length (D .shared .records)))) (withRecords (map (seenR gs) (D .shared .records) ++ (record { fields = pairUp xs (map (seenV gs) (onto top [])) } ∷ [])) (seen gs Γ D)) else treeCondition tooManyRecords (placeOf W gs C Γ) (seen gs Γ D))
+      pick true = demanded (D .trace) (D .taken) (leb (length (ref k (some (length (D .shared .records))) ∷ st)) 32) badFrame _
+          (subst₂ (λ d rs. Meets W n L (Arrives W gs C (One W gs C) (Sees W gs C Γ) (heldIn Γ) (suc a) st) (at-work W gs C (suc a) (ref k (some (length (D .shared .records))) ∷ st) (heldIn Γ) (withMade (D .shared .records ++ (record { class = k; fields = onto top [] } ∷ [])) D))
+          (done (ref d (some (length (D .shared .records)))) (withRecords rs (seen gs Γ D)))) e
+          (add-map gs (D .shared .records) (record { class = k; fields = onto top [] }) ∙ ap (λ ys. map (seenR gs) (D .shared .records) ++ (record { fields = pairUp ys (map (seenV gs) (onto top [])) } ∷ [])) f)
+          (given-one W gs C Γ (ref k (some (length (D .shared .records)))) (withMade (D .shared .records ++ (record { class = k; fields = onto top [] } ∷ [])) D) h))
       pick false = conds W gs (C .body) (C .below) tooManyRecords Γ a (top ++ st) D

@@ -1,28 +1,27 @@
 -- The root: its head, its statements, its end.
-use mathlib.Core.Bool.{Bool, true, false}
-use mathlib.Core.Path.{_≡_, refl, ap, ap₂, sym, _∙_, subst}
-use mathlib.Core.List.{List, [], _∷_, _++_, map}
-use mathlib.Core.Option.{Option, none, some}
-use Prim.Native.Nat.{ℕ, zero, suc}
+use mathlib.Core.Path.{_≡_, refl, ap, sym, _∙_, subst}
+use mathlib.Core.List.{List, [], _∷_, _++_}
+use mathlib.Core.Option.{some}
+use Prim.Native.Nat.{ℕ, suc}
 use lib.ListN.{length, getElem?}
 use lib.ListN.{set as put}
 use Rattle.values.specs.Types.{Ty}
-use Rattle.values.specs.Values.{Value, Cell, assigned, initial, fresh}
+use Rattle.values.specs.Values.{Cell, assigned, initial, fresh}
 use Rattle.values.specs.Trace.{release, hold, event}
 use Rattle.language.specs.Tree.{Typed, Decl, declare, holding, Global, Items}
 use Rattle.language.specs.Names.{Scope}
-use Rattle.language.specs.Execute.{Slot, slot, Store, Result, done, jump, ended, later, wrong, Place, under, say, declareIn, letGo, within, Less, catch, execItems, Procedure, procedureIn, classIn, fueled}
+use Rattle.language.specs.Execute.{Store, Result, done, jump, ended, later, wrong, Place, under, say, declareIn, letGo, within, catch, execItems, Procedure, procedureIn, classIn, fueled}
 use Rattle.bytecode.specs.Instructions.{own, letHold}
 use Rattle.bytecode.specs.Machine.{fetch}
 use Rattle.compile_code.specs.Code.{Code, At, at, skip, after}
 use Rattle.compile_code.specs.Compile.{Around, outermost, global, held, labels, heldIn, codeHead, codeItems, tyIn, classNumber}
-use Rattle.compile_simulation.specs.Meets.{Conf, Setting, Reach, Meets, crash, ends, here, onward}
+use Rattle.compile_simulation.specs.Meets.{Conf, Setting, Meets, crash, ends, here, onward}
 use Rattle.compile_simulation.specs.Meets.{from as begin}
-use Rattle.compile_simulation.specs.View.{Data, written, seen, seenV, seenC, seenR, blocksOf, rootsOf, cellAt, put-same, Apart, apart-blocks, apart-roots}
+use Rattle.compile_simulation.specs.View.{Data, written, seen, seenC, blocksOf, rootsOf, cellAt, put-same, Apart, apart-blocks, apart-roots}
 use Rattle.compile_simulation.specs.Ops.{says, pushes, stores, takes, lets}
-use Rattle.compile_simulation.specs.Placed.{Work, Holds, Fit, fit-labels, Stands, at-work, placeOf, Sees, Nothing, Arrives, lands}
+use Rattle.compile_simulation.specs.Placed.{Work, Fit, fit-labels, Stands, at-work, placeOf, Sees, Nothing, Arrives, lands}
 use Rattle.compile_simulation.specs.Blocks.{okTyped}
-use Rattle.compile_simulation.specs.Sim.{world, Called, Below, okItems, blockItems, simItems, all}
+use Rattle.compile_simulation.specs.Sim.{world, Called, okItems, blockItems, simItems, all}
 
 module _ (gs : List Global) where
   -- P holds of what lies around the statements, and of the next cell

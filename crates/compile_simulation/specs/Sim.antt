@@ -1,51 +1,50 @@
 -- The simulation: by fuel, and at one fuel by the tree.
-use mathlib.Core.Bool.{Bool, true, false, _&&_}
+use mathlib.Core.Bool.{Bool, true, false, _&&_, Bool·beq}
 use mathlib.Core.Path.{_≡_, refl, ap, ap₂, sym, _∙_, subst, subst₂}
-use mathlib.Core.List.{List, [], _∷_, _++_, map, reverse, append-assoc}
+use mathlib.Core.List.{List, [], _∷_, _++_, map, append-assoc}
 use mathlib.Core.Option.{Option, none, some}
-use Prim.Native.Nat.{ℕ, zero, suc, _+_, _≤_, _<_, zero-le}
+use Prim.Native.Nat.{ℕ, zero, suc, _+_, _≤_, zero-le}
 use native.Mathlib.Omega.{arith}
-use lib.Dec.{eqb}
-use lib.IntN.{ℤ, pos, negsuc}
+use lib.IntN.{ℤ, pos}
 use lib.ListN.{length, getElem?, length-append}
-use lib.ListN.{set as put}
 use Rattle.words.specs.Choice.{if_then_else_}
+use Rattle.words.specs.Options.{ifSome}
 use Rattle.words.specs.Numbers.{wordOf}
-use Rattle.values.specs.Types.{Ty, integer, logical, same}
+use Rattle.values.specs.Types.{Ty, logical}
 use Rattle.values.specs.Ends.{outOfRange, assertFalse, caseIndex}
-use Rattle.values.specs.Operators.{Unary, Binary, unary, binary, plus, minus, times, divide, remainder, less, atMost, greater, atLeast, equal, unequal, both, either, shiftLeft, shiftRight}
+use Rattle.values.specs.Operators.{Binary, unary, binary, plus, minus, times, divide, remainder, less, atMost, greater, atLeast, equal, unequal, both, either, shiftLeft, shiftRight}
 use Rattle.values.specs.Arithmetic.{Outcome, gives, mistyped}
 use Rattle.values.specs.Arithmetic.{ends as endsBy}
-use Rattle.values.specs.Values.{Value, int, log, bit, ref, tyOf, Cell, assigned, initial, between, size, apply1, apply2}
+use Rattle.values.specs.Values.{Value, int, log, bit, ref, asInteger, asLogical, tyOf, Cell, assigned, between, size, apply1, apply2}
 use Rattle.values.specs.Trace.{event, reading}
 use Rattle.values.specs.Trace.{set as setEvent}
-use Rattle.language.specs.Tree.{Typed, Decl, declare, holding, Stmt, block, assign, when, choose, while, goto, assert, call, setLevel, select, Items, noItem, label, item, Arms, lastArm, arm, Target, toVariable, toField, Expr, number, truth, pattern, null, variable, invoke, field, make, operate1, operate2, conditional, fader, blockExpr, Exprs, noExpr, expr, Global, proper, function, countExprs}
+use Rattle.language.specs.Tree.{Typed, holding, Stmt, block, assign, when, choose, while, goto, assert, call, setLevel, select, Items, noItem, label, item, Arms, lastArm, arm, Target, toVariable, toField, Expr, number, truth, pattern, null, variable, invoke, field, make, operate1, operate2, conditional, fader, blockExpr, Exprs, noExpr, expr, Global, proper, function, countExprs}
 use Rattle.language.specs.Tree.{Body as TreeBody}
-use Rattle.language.specs.Names.{Scope, Definition, inBlock, inProcedure, blockOf, expressionOf}
+use Rattle.language.specs.Names.{Scope, Definition, inProcedure, blockOf, expressionOf}
 use Rattle.language.specs.Faults.{typeE, isTy}
-use Rattle.language.specs.Execute.{Slot, slot, Store, Result, done, jump, ended, later, wrong, next, Place, World, Less, say, read, withBlocks, innerBlocks, valueOf, assignTo, cellValue, branch, doSet, doFader, doAssign, ofVariable, ofField, doMake, classIn, decides, inBlock as blockRun, within, leaving, catch, from, exec, execItems, execArm, execBody, evalBody, Procedure, procedureIn, activate, locate, eval, evals, fueled, armAt}
-use Rattle.language.specs.Execute.{settled as treeSettled, condition as treeCondition, onInteger as treeInteger}
-use Rattle.bytecode.specs.Instructions.{Owner, own, root, Instr, push, load, store, operate, go, goUnless, readFader, takeHold, letHold, stop}
-use Rattle.bytecode.specs.Instructions.{return}
+use Rattle.language.specs.Execute.{Store, Result, done, jump, ended, later, wrong, next, Place, World, Less, say, read, valueOf, asked, branch, doSet, doFader, doAssign, ofField, doMake, classIn, deciding, decides, catch, from, exec, execItems, execArm, execBody, evalBody, Procedure, procedureIn, activate, locate, eval, evals, fueled}
+use Rattle.language.specs.Execute.{settled as treeSettled, condition as treeCondition}
+use Rattle.bytecode.specs.Instructions.{Owner, own, root, push, load, operate, go, goUnless, readFader, stop}
+use Rattle.bytecode.specs.Instructions.{return, procedureAt}
 use Rattle.bytecode.specs.Instructions.{setLevel as setOp, assert as assertOp, call as callOp}
-use Rattle.bytecode.specs.Machine.{Activation, allHolds, fetch, act, settled, doOperate, doGoUnless, goesOn, doSet as machineSet, doFader as machineFader, doAssert, condition, badFrame}
-use Rattle.compile_code.specs.Code.{Code, nil, op, mark, cell, _▸_, At, at, skip, after}
-use Rattle.compile_code.specs.Compile.{Around, inside, outermost, bound, global, held, labels, heldIn, scopesOf, passing, theLabels, hasLabel, labelAt, found, loading, storing, kept, boundAt, globalAt, Way, plainly, marked, ifTrue, ifFalse, wayOf, codeWay, codeGoto, codeHead, codeS, codeItems, codeArms, codeTarget, codeE, codeEs, bodyNumber, fieldNumber, classesOf, opsArms, tyE, tyTarget, tyIn, classNumber, opTarget}
-use Rattle.compile_code.specs.Compile.{Cell as Kept, cellOf as keptOf}
-use Rattle.compile_simulation.specs.Meets.{Conf, live, run, Long, dead, stepped, Setting, Reach, Meets, crash, ends, here, back, tick, weaker, lost, demanded, onward, binds}
-use Rattle.compile_simulation.specs.View.{Data, written, ownPut, rootPut, ofOwner, seen, seenV, seenC, blocksOf, rootsOf, cellAt, found-at, cellFor, reads, writes, classOf, seenR, Apart, apart-blocks, apart-roots, below-apart, put-same}
-use Rattle.compile_simulation.specs.Ops.{Owners, conf, says, hereOf, op-at, op-tick, pushes, loads, stores, forks, conds, goes-on, jumps}
+use Rattle.bytecode.specs.Machine.{allHolds, fetch, act, settled, doOperate, doGoUnless, goesOn, doSet as machineSet, doFader as machineFader, doAssert, condition, badType, goes as goesTo}
+use Rattle.compile_code.specs.Code.{Code, cell, _▸_, At, at, skip, after}
+use Rattle.compile_code.specs.Compile.{Around, inside, labels, heldIn, scopesOf, passing, theLabels, hasLabel, labelAt, found, kept, Way, plainly, marked, ifTrue, ifFalse, wayOf, codeWay, codeS, codeItems, codeArms, codeTarget, codeE, codeEs, bodyNumber, fieldNumber, classesOf, opsArms, tyE, tyTarget, classNumber, opTarget}
+use Rattle.compile_code.specs.Compile.{cellOf as keptOf}
+use Rattle.compile_simulation.specs.Meets.{Conf, run, stepped, Setting, Meets, ends, here, lost, asks, onward, binds}
+use Rattle.compile_simulation.specs.View.{Data, written, ofOwner, seen, seenV, seenC, blocksOf, rootsOf, cellAt, found-at, cellFor, reads, writes, classOf, seenR, Apart, apart-blocks, apart-roots, below-apart, put-same}
+use Rattle.compile_simulation.specs.Projections.{is-integer, not-logical, unlike, seen-integer, seen-logical}
+use Rattle.compile_simulation.specs.Ops.{says, hereOf, op-at, op-tick, pushes, loads, stores, forks, conds, goes-on, jumps}
 use Rattle.compile_simulation.specs.Operate.{Agrees, seen-1, seen-2, seen-decides}
 use Rattle.compile_simulation.specs.Sizes.{more-cells, lenArms}
 use Rattle.compile_simulation.specs.Cases.{Index, starts, hits, misses, nexts, tests}
-use Rattle.compile_simulation.specs.Placed.{Work, Holds, Fit, fit-on, fit-inside, fit-held, fit-bound, fit-labels, Stands, at-work, placeOf, Sees, Within, Nothing, One, Arrives, lands, nowhere, bindE, alsoE, bindS, alsoS, given-one, arrived}
+use Rattle.compile_simulation.specs.Placed.{Work, Holds, Fit, fit-on, fit-inside, fit-labels, Stands, at-work, placeOf, Sees, Within, Nothing, One, Arrives, lands, nowhere, bindE, alsoE, bindS, alsoS, given-one, arrived}
 use Rattle.compile_simulation.specs.Typing.{typed, is-log, not-log}
 use Rattle.bytecode.specs.Macro.{Body, shapeIn}
-use Rattle.bytecode.specs.Machine.{notRoot}
 use Rattle.compile_code.specs.Encode.{codeBody, parameterCells}
 use Rattle.compile_simulation.specs.Records.{okField, gets, puts, makes}
 use Rattle.compile_simulation.specs.Calls.{onto, onto-last, callee, inside-proc, held-past, Static, fit-callee, calls}
-use Rattle.compile_simulation.specs.Blocks.{gotoOk, okTyped, okHead, Opens, SameRoots, goes, Inner, heads, Leads, Found, found-label, Resumes, catches, left, inner-seen}
+use Rattle.compile_simulation.specs.Blocks.{gotoOk, okHead, Opens, SameRoots, goes, heads, Found, found-label, Resumes, catches, left, inner-seen}
 
 abbrev pub IsProper : TreeBody → Type 0
 IsProper (proper s) = Unit {0}
@@ -108,7 +107,7 @@ module _ (gs : List Global) where
 
 -- a cell that no name has is not seen
 hidden : (gs : List Global) (Γ : List Around) (c : ℕ) (x : Cell) (D : Data) → Apart own c Γ → seen gs Γ (written own c x D) ≡ seen gs Γ D
-hidden gs Γ c x D a = ap₂ (λ l m. record { root = m; blocks = l; records = map (seenR gs) (D .records); trace = D .trace; taken = D .taken })
+hidden gs Γ c x D a = ap₂ (λ l m. record { root = m; blocks = l; records = map (seenR gs) (D .shared .records); trace = D .trace; taken = D .taken })
     (apart-blocks gs own c x (D .cells) (D .lowest) Γ a) (apart-roots gs own c x (D .cells) (D .lowest) Γ a)
 
 module _ (W : Setting) (gs : List Global) where
@@ -126,7 +125,7 @@ module _ (W : Setting) (gs : List Global) where
   -- a procedure that is there to be called
   pub record Called (a : ℕ) (q : Procedure) : Type 0 where
     pub head : Body
-    pub there : notRoot (W .macro) (bodyNumber gs a) ≡ some head
+    pub there : procedureAt (W .macro) (bodyNumber gs a) ≡ some head
     pub counts : head .parameters ≡ length (q .parameters)
     pub scope : Scope
     pub names : List Definition
@@ -187,53 +186,51 @@ module _ (W : Setting) (gs : List Global) where
         → fetch (W .macro) (C .body) a ≡ some (goUnless t)
         → Meets W (suc n) L F (at-work W gs C (suc a) st K D) (f σ) → Meets W (suc n) L F (at-work W gs C t st K D) (g σ) → Meets W (suc n) L F (at-work W gs C a (w ∷ st) K D) (branch (seenV gs w) f g σ)
     unfolding branch act doGoUnless
-    branches C t (int z) a st K D f g σ p x y = op-at W gs (C .body) (C .below) (goUnless t) a (int z ∷ st) K D p lost
-    branches C t (log true) a st K D f g σ p x y = op-at W gs (C .body) (C .below) (goUnless t) a (log true ∷ st) K D p x
-    branches C t (log false) a st K D f g σ p x y = op-at W gs (C .body) (C .below) (goUnless t) a (log false ∷ st) K D p y
-    branches C t (bit z) a st K D f g σ p x y = op-at W gs (C .body) (C .below) (goUnless t) a (bit z ∷ st) K D p lost
-    branches C t (ref c z) a st K D f g σ p x y = op-at W gs (C .body) (C .below) (goUnless t) a (ref c z ∷ st) K D p lost
+    branches {A} {L} {F} C t w a st K D f g σ p x y = op-at W gs (C .body) (C .below) (goUnless t) a (w ∷ st) K D p
+        (rw (seen-logical gs w) (asks (D .trace) (D .taken) (asLogical w) badType _ _ (λ b e. pick b)))
+      where
+        pick : (b : Bool) → Meets W (suc n) L F (stepped (goesTo (if b then suc a else t) st (hereOf W gs (C .body) (C .below) a (w ∷ st) K D)) (D .trace) (D .taken)) (if b then f σ else g σ)
+        pick true = x
+        pick false = y
 
     fades : {L : ℕ → Store → Conf → Type 0} (C : Work) (Γ : List Around) (w : Value) (a : ℕ) (st : List Value) (D : Data) → fetch (W .macro) (C .body) a ≡ some readFader → Holds C D
         → Meets W (suc n) L (Arrives W gs C (One W gs C) (Sees W gs C Γ) (heldIn Γ) (suc a) st) (at-work W gs C a (w ∷ st) (heldIn Γ) D) (doFader (W .oracle) (seenV gs w) (placeOf W gs C Γ) (seen gs Γ D))
     unfolding act machineFader doFader
-    fades {L = L} C Γ (int z) a st D p k = op-at W gs (C .body) (C .below) readFader a (int z ∷ st) (heldIn Γ) D p (pick (between 1 64 z))
+    fades {L = L} C Γ w a st D p k = op-at W gs (C .body) (C .below) readFader a (w ∷ st) (heldIn Γ) D p
+        (rw (seen-integer gs w) (asks (D .trace) (D .taken) (asInteger w) badType _ _ (λ z e. pick z (between 1 64 z))))
       where
-        pick : (b : Bool) → Meets W (suc n) L (Arrives W gs C (One W gs C) (Sees W gs C Γ) (heldIn Γ) (suc a) st)
-            (stepped (if b then goesOn (reading (size z) (W .oracle (D .taken) (size z)) ∷ []) (int (pos (W .oracle (D .taken) (size z))) ∷ st) (hereOf W gs (C .body) (C .below) a (int z ∷ st) (heldIn Γ) D) else condition outOfRange (hereOf W gs (C .body) (C .below) a (int z ∷ st) (heldIn Γ) D)) (D .trace) (D .taken))
+        pick : (z : ℤ) (b : Bool) → Meets W (suc n) L (Arrives W gs C (One W gs C) (Sees W gs C Γ) (heldIn Γ) (suc a) st)
+            (stepped (if b then goesOn (reading (size z) (W .oracle (D .taken) (size z)) ∷ []) (int (pos (W .oracle (D .taken) (size z))) ∷ st) (hereOf W gs (C .body) (C .below) a (w ∷ st) (heldIn Γ) D) else condition outOfRange (hereOf W gs (C .body) (C .below) a (w ∷ st) (heldIn Γ) D)) (D .trace) (D .taken))
             (if b then done (int (pos (W .oracle (D .taken) (size z)))) (read (size z) (W .oracle (D .taken) (size z)) (seen gs Γ D)) else treeCondition outOfRange (placeOf W gs C Γ) (seen gs Γ D))
-        pick true = goes-on W gs (C .body) (C .below) (reading (size z) (W .oracle (D .taken) (size z)) ∷ []) (int (pos (W .oracle (D .taken) (size z))) ∷ st) a (int z ∷ st) (heldIn Γ) D
+        pick z true = goes-on W gs (C .body) (C .below) (reading (size z) (W .oracle (D .taken) (size z)) ∷ []) (int (pos (W .oracle (D .taken) (size z))) ∷ st) a (w ∷ st) (heldIn Γ) D
             (given-one W gs C Γ (int (pos (W .oracle (D .taken) (size z)))) (says (reading (size z) (W .oracle (D .taken) (size z)) ∷ []) D) k)
-        pick false = conds W gs (C .body) (C .below) outOfRange Γ a (int z ∷ st) D
-    fades C Γ (log b) a st D p k = op-at W gs (C .body) (C .below) readFader a (log b ∷ st) (heldIn Γ) D p lost
-    fades C Γ (bit z) a st D p k = op-at W gs (C .body) (C .below) readFader a (bit z ∷ st) (heldIn Γ) D p lost
-    fades C Γ (ref c z) a st D p k = op-at W gs (C .body) (C .below) readFader a (ref c z ∷ st) (heldIn Γ) D p lost
+        pick z false = conds W gs (C .body) (C .below) outOfRange Γ a (w ∷ st) D
 
     asserts : {L : ℕ → Store → Conf → Type 0} (C : Work) (Γ : List Around) (w : Value) (a : ℕ) (st : List Value) (D : Data) → fetch (W .macro) (C .body) a ≡ some assertOp → Holds C D
         → Meets W (suc n) L (Arrives W gs C (Nothing W gs C) (Sees W gs C Γ) (heldIn Γ) (suc a) st) (at-work W gs C a (w ∷ st) (heldIn Γ) D)
         (branch (seenV gs w) (λ ρ. done tt ρ) (λ ρ. treeCondition assertFalse (placeOf W gs C Γ) ρ) (seen gs Γ D))
     unfolding act doAssert branch
-    asserts C Γ (int z) a st D p k = op-at W gs (C .body) (C .below) assertOp a (int z ∷ st) (heldIn Γ) D p lost
-    asserts C Γ (log true) a st D p k = op-at W gs (C .body) (C .below) assertOp a (log true ∷ st) (heldIn Γ) D p (goes-on W gs (C .body) (C .below) [] st a (log true ∷ st) (heldIn Γ) D (arrived W gs C Γ tt D k))
-    asserts C Γ (log false) a st D p k = op-at W gs (C .body) (C .below) assertOp a (log false ∷ st) (heldIn Γ) D p (conds W gs (C .body) (C .below) assertFalse Γ a (log false ∷ st) D)
-    asserts C Γ (bit z) a st D p k = op-at W gs (C .body) (C .below) assertOp a (bit z ∷ st) (heldIn Γ) D p lost
-    asserts C Γ (ref c z) a st D p k = op-at W gs (C .body) (C .below) assertOp a (ref c z ∷ st) (heldIn Γ) D p lost
+    asserts {L = L} C Γ w a st D p k = op-at W gs (C .body) (C .below) assertOp a (w ∷ st) (heldIn Γ) D p
+        (rw (seen-logical gs w) (asks (D .trace) (D .taken) (asLogical w) badType _ _ (λ b e. pick b)))
+      where
+        pick : (b : Bool) → Meets W (suc n) L (Arrives W gs C (Nothing W gs C) (Sees W gs C Γ) (heldIn Γ) (suc a) st)
+            (stepped (if b then goesOn [] st (hereOf W gs (C .body) (C .below) a (w ∷ st) (heldIn Γ) D) else condition assertFalse (hereOf W gs (C .body) (C .below) a (w ∷ st) (heldIn Γ) D)) (D .trace) (D .taken))
+            (if b then done tt (seen gs Γ D) else treeCondition assertFalse (placeOf W gs C Γ) (seen gs Γ D))
+        pick true = goes-on W gs (C .body) (C .below) [] st a (w ∷ st) (heldIn Γ) D (arrived W gs C Γ tt D k)
+        pick false = conds W gs (C .body) (C .below) assertFalse Γ a (w ∷ st) D
 
     sets : {L : ℕ → Store → Conf → Type 0} (C : Work) (Γ : List Around) (v w : Value) (a : ℕ) (st : List Value) (D : Data) → fetch (W .macro) (C .body) a ≡ some setOp → Holds C D
         → Meets W (suc n) L (Arrives W gs C (Nothing W gs C) (Sees W gs C Γ) (heldIn Γ) (suc a) st) (at-work W gs C a (w ∷ (v ∷ st)) (heldIn Γ) D) (doSet (seenV gs v) (seenV gs w) (placeOf W gs C Γ) (seen gs Γ D))
     unfolding act machineSet doSet
-    sets {L = L} C Γ (int x) (int y) a st D p k = op-at W gs (C .body) (C .below) setOp a (int y ∷ (int x ∷ st)) (heldIn Γ) D p (pick (between 1 512 x && between 0 255 y))
+    sets {L = L} C Γ v w a st D p k = op-at W gs (C .body) (C .below) setOp a (w ∷ (v ∷ st)) (heldIn Γ) D p
+        (rw (seen-integer gs v, seen-integer gs w) (asks (D .trace) (D .taken) (asInteger v) badType _ _ (λ x e.
+        asks (D .trace) (D .taken) (asInteger w) badType _ _ (λ y e'. pick x y (between 1 512 x && between 0 255 y)))))
       where
-        pick : (b : Bool) → Meets W (suc n) L (Arrives W gs C (Nothing W gs C) (Sees W gs C Γ) (heldIn Γ) (suc a) st)
-            (stepped (if b then goesOn (event (setEvent (size x) (size y)) ∷ []) st (hereOf W gs (C .body) (C .below) a (int y ∷ (int x ∷ st)) (heldIn Γ) D) else condition outOfRange (hereOf W gs (C .body) (C .below) a (int y ∷ (int x ∷ st)) (heldIn Γ) D)) (D .trace) (D .taken))
+        pick : (x y : ℤ) (b : Bool) → Meets W (suc n) L (Arrives W gs C (Nothing W gs C) (Sees W gs C Γ) (heldIn Γ) (suc a) st)
+            (stepped (if b then goesOn (event (setEvent (size x) (size y)) ∷ []) st (hereOf W gs (C .body) (C .below) a (w ∷ (v ∷ st)) (heldIn Γ) D) else condition outOfRange (hereOf W gs (C .body) (C .below) a (w ∷ (v ∷ st)) (heldIn Γ) D)) (D .trace) (D .taken))
             (if b then done tt (say (setEvent (size x) (size y)) (seen gs Γ D)) else treeCondition outOfRange (placeOf W gs C Γ) (seen gs Γ D))
-        pick true = goes-on W gs (C .body) (C .below) (event (setEvent (size x) (size y)) ∷ []) st a (int y ∷ (int x ∷ st)) (heldIn Γ) D (arrived W gs C Γ tt (says (event (setEvent (size x) (size y)) ∷ []) D) k)
-        pick false = conds W gs (C .body) (C .below) outOfRange Γ a (int y ∷ (int x ∷ st)) D
-    sets C Γ (log x) w a st D p k = op-at W gs (C .body) (C .below) setOp a (w ∷ (log x ∷ st)) (heldIn Γ) D p lost
-    sets C Γ (bit x) w a st D p k = op-at W gs (C .body) (C .below) setOp a (w ∷ (bit x ∷ st)) (heldIn Γ) D p lost
-    sets C Γ (ref x u) w a st D p k = op-at W gs (C .body) (C .below) setOp a (w ∷ (ref x u ∷ st)) (heldIn Γ) D p lost
-    sets C Γ (int x) (log y) a st D p k = op-at W gs (C .body) (C .below) setOp a (log y ∷ (int x ∷ st)) (heldIn Γ) D p lost
-    sets C Γ (int x) (bit y) a st D p k = op-at W gs (C .body) (C .below) setOp a (bit y ∷ (int x ∷ st)) (heldIn Γ) D p lost
-    sets C Γ (int x) (ref y u) a st D p k = op-at W gs (C .body) (C .below) setOp a (ref y u ∷ (int x ∷ st)) (heldIn Γ) D p lost
+        pick x y true = goes-on W gs (C .body) (C .below) (event (setEvent (size x) (size y)) ∷ []) st a (w ∷ (v ∷ st)) (heldIn Γ) D (arrived W gs C Γ tt (says (event (setEvent (size x) (size y)) ∷ []) D) k)
+        pick x y false = conds W gs (C .body) (C .below) outOfRange Γ a (w ∷ (v ∷ st)) D
 
     -- the second operand, by its way
     abbrev WayFor : Way → Binary → Bool → Type 0
@@ -242,8 +239,12 @@ module _ (W : Setting) (gs : List Global) where
     WayFor ifTrue o b = o ≡ both
     WayFor ifFalse o b = o ≡ either
 
+    no-log : (o : Option Bool) (v : Value) → (tyOf v ≡ logical → ⊥) → ifSome o (λ d. ifSome (asLogical v) (Bool·beq d) false) false ≡ false
+    no-log none v f = refl
+    no-log (some d) v f = ap (λ x. ifSome x (Bool·beq d) false) (not-logical v f)
+
     way-for : (o : Binary) (b : Bool) → WayFor (wayOf o b) o b
-    unfolding decides
+    unfolding decides deciding
     way-for plus b = λ v. refl
     way-for minus b = λ v. refl
     way-for times b = λ v. refl
@@ -258,23 +259,9 @@ module _ (W : Setting) (gs : List Global) where
     way-for shiftLeft b = λ v. refl
     way-for shiftRight b = λ v. refl
     way-for both true = refl
-    way-for both false = (refl, λ v f. unboth v f)
-      where
-        unboth : (v : Value) → (tyOf v ≡ logical → ⊥) → decides both v ≡ false
-        unboth (int z) f = refl
-        unboth (log true) f = absurd (f refl)
-        unboth (log false) f = absurd (f refl)
-        unboth (bit z) f = refl
-        unboth (ref c z) f = refl
+    way-for both false = (refl, λ v f. no-log (some false) v f)
     way-for either true = refl
-    way-for either false = (refl, λ v f. uneither v f)
-      where
-        uneither : (v : Value) → (tyOf v ≡ logical → ⊥) → decides either v ≡ false
-        uneither (int z) f = refl
-        uneither (log true) f = absurd (f refl)
-        uneither (log false) f = absurd (f refl)
-        uneither (bit z) f = refl
-        uneither (ref c z) f = refl
+    way-for either false = (refl, λ v f. no-log (some true) v f)
 
     secondOf : (C : Work) (Γ : List Around) (o : Binary) (f : Expr) (v : Value) (D : Data) (a b : ℕ) (st : List Value) → fetch (W .macro) (C .body) b ≡ some (operate (binary o))
         → Gives C Γ (v ∷ st) a b (eval world r f) → Holds C D → decides o v ≡ false
@@ -305,7 +292,7 @@ module _ (W : Setting) (gs : List Global) where
         → (Stands W (C .body) x p → Gives C Γ st (p .address) (after x p .address) (eval world r e))
         → ((us : List Ty) (q : At) (vs : List Value) → p .cell ≤ q .cell → Stands W (C .body) (F us q) q → Gives C Γ vs (q .address) (after (F us q) q .address) (eval world r f))
         → Two C Γ u e f st (p .address) (after (codeWay way u Γ ts (tyE gs Γ e) x p F) p .address)
-    unfolding Stands after decides apply2 act
+    unfolding Stands after decides deciding apply2 act
     ways plainly u C Γ ts x p F e f st q h g i D k =
         bindE W gs C Γ _ (g (h .0) D k) (λ v D' k'. secondOf C Γ u f v D' (after x p .address) (after (F (tyE gs Γ e ∷ ts) (after x p)) (after x p) .address) st (h .1 .1) (i (tyE gs Γ e ∷ ts) (after x p) (v ∷ st) (more-cells x p) (h .1 .0)) k' (q v))
     ways marked u C Γ ts x p F e f st q h g i D k =
@@ -346,20 +333,20 @@ module _ (W : Setting) (gs : List Global) where
     -- an index that is no integer leaves the machine nothing to do
     cased : {L : ℕ → Store → Conf → Type 0} {F : Unit {0} → Store → Conf → Type 0} (C : Work) (Γ : List Around) (v : Value) (f : ℤ → Result (Unit {0})) (c i a : ℕ) (st : List Value) (D : Data) → cellAt (D .cells) c ≡ assigned v
         → (fetch (W .macro) (C .body) a ≡ some (load own c)) × (fetch (W .macro) (C .body) (suc a) ≡ some (push (int (pos i)))) × (fetch (W .macro) (C .body) (suc (suc a)) ≡ some (operate (binary equal)))
-        → ((z : ℤ) → v ≡ int z → Meets W (suc n) L F (at-work W gs C a st (heldIn Γ) D) (f z)) → Meets W (suc n) L F (at-work W gs C a st (heldIn Γ) D) (treeInteger (seenV gs v) f)
+        → ((z : ℤ) → v ≡ int z → Meets W (suc n) L F (at-work W gs C a st (heldIn Γ) D) (f z)) → Meets W (suc n) L F (at-work W gs C a st (heldIn Γ) D) (asked (asInteger (seenV gs v)) f)
     unfolding act doOperate apply2
-    cased C Γ (int z) f c i a st D g p h = h z refl
-    cased C Γ (log b) f c i a st D g p h = loads W gs (C .body) (C .below) own c a st (heldIn Γ) D tt (p .0) (λ u q. let e : u ≡ log b = cc (sym (found-at (D .cells) c (assigned u) q) ∙ g) in
-        rw e (pushes W gs (C .body) (C .below) (int (pos i)) (suc a) (log b ∷ st) (heldIn Γ) D (p .1) (op-at W gs (C .body) (C .below) (operate (binary equal)) (suc (suc a)) (int (pos i) ∷ (log b ∷ st)) (heldIn Γ) D (p .2) lost)))
-    cased C Γ (bit b) f c i a st D g p h = loads W gs (C .body) (C .below) own c a st (heldIn Γ) D tt (p .0) (λ u q. let e : u ≡ bit b = cc (sym (found-at (D .cells) c (assigned u) q) ∙ g) in
-        rw e (pushes W gs (C .body) (C .below) (int (pos i)) (suc a) (bit b ∷ st) (heldIn Γ) D (p .1) (op-at W gs (C .body) (C .below) (operate (binary equal)) (suc (suc a)) (int (pos i) ∷ (bit b ∷ st)) (heldIn Γ) D (p .2) lost)))
-    cased C Γ (ref y b) f c i a st D g p h = loads W gs (C .body) (C .below) own c a st (heldIn Γ) D tt (p .0) (λ u q. let e : u ≡ ref y b = cc (sym (found-at (D .cells) c (assigned u) q) ∙ g) in
-        rw e (pushes W gs (C .body) (C .below) (int (pos i)) (suc a) (ref y b ∷ st) (heldIn Γ) D (p .1) (op-at W gs (C .body) (C .below) (operate (binary equal)) (suc (suc a)) (int (pos i) ∷ (ref y b ∷ st)) (heldIn Γ) D (p .2) lost)))
+    cased {L} {F} C Γ v f c i a st D g p h = rw (seen-integer gs v) (pick (asInteger v) refl)
+      where
+        pick : (o : Option ℤ) → asInteger v ≡ o → Meets W (suc n) L F (at-work W gs C a st (heldIn Γ) D) (asked o f)
+        pick (some z) e = h z (is-integer v z e)
+        pick none e = loads W gs (C .body) (C .below) own c a st (heldIn Γ) D tt (p .0) (λ u q. let same-value : u ≡ v = cc (sym (found-at (D .cells) c (assigned u) q) ∙ g) in
+            rw same-value (pushes W gs (C .body) (C .below) (int (pos i)) (suc a) (v ∷ st) (heldIn Γ) D (p .1)
+            (op-at W gs (C .body) (C .below) (operate (binary equal)) (suc (suc a)) (int (pos i) ∷ (v ∷ st)) (heldIn Γ) D (p .2) (rw (unlike (λ b. b) v (pos i) e) lost))))
 
-    stops : {L : ℕ → Store → Conf → Type 0} {F : Unit {0} → Store → Conf → Type 0} (C : Work) (Γ : List Around) (a : ℕ) (st : List Value) (D : Data) → fetch (W .macro) (C .body) a ≡ some stop
+    stops : {L : ℕ → Store → Conf → Type 0} {F : Unit {0} → Store → Conf → Type 0} (C : Work) (Γ : List Around) (a : ℕ) (st : List Value) (D : Data) → fetch (W .macro) (C .body) a ≡ some (stop caseIndex)
         → Meets W (suc n) L F (at-work W gs C a st (heldIn Γ) D) (treeCondition caseIndex (placeOf W gs C Γ) (seen gs Γ D))
     unfolding act
-    stops C Γ a st D p = op-at W gs (C .body) (C .below) stop a st (heldIn Γ) D p (conds W gs (C .body) (C .below) caseIndex Γ a st D)
+    stops C Γ a st D p = op-at W gs (C .body) (C .below) (stop caseIndex) a st (heldIn Γ) D p (conds W gs (C .body) (C .below) caseIndex Γ a st D)
 
     arms-none : (rs : Arms) (X : Place) (σ : Store) → execArm world r rs zero X σ ≡ treeCondition caseIndex X σ
     unfolding exec
@@ -451,7 +438,7 @@ module _ (W : Setting) (gs : List Global) where
           stores W gs (C .body) (C .below) own (p .cell) v (after x q .address) st (heldIn Γ) D' tt (h .1 .1 .0) (λ y g.
           let E = written own (p .cell) (assigned v) D' in
           rw (sym (hidden gs Γ (p .cell) (assigned v) D' (below-apart (p .cell) Γ (w .below-n))))
-          (subst (λ e''. Meets W (suc n) (lands W gs C Γ st) (Arrives W gs C (Nothing W gs C) (Sees W gs C Γ) (heldIn Γ) e'' st) (at-work W gs C (b .address) st (heldIn Γ) E) (treeInteger (seenV gs v) (λ z. execArm world r rs (size z) (placeOf W gs C Γ) (seen gs Γ E))))
+          (subst (λ e''. Meets W (suc n) (lands W gs C Γ st) (Arrives W gs C (Nothing W gs C) (Sees W gs C Γ) (heldIn Γ) e'' st) (at-work W gs C (b .address) st (heldIn Γ) E) (asked (asInteger (seenV gs v)) (λ z. execArm world r rs (size z) (placeOf W gs C Γ) (seen gs Γ E))))
           (sym (lenArms gs rs (p .cell) 1 (b .address + opsArms rs (scopesOf Γ) (passing Γ)) Γ ts b)) (cased C Γ v (λ z. execArm world r rs (size z) (placeOf W gs C Γ) (seen gs Γ E)) (p .cell) 1 (b .address) st E (put-same (D' .cells) (p .cell) (assigned v) y g) (begins rs (C .body) (p .cell) 1 (b .address + opsArms rs (scopesOf Γ) (passing Γ)) Γ ts b (h .1 .1 .1 .0)) (λ z e'.
           simArms rs (p .cell) 1 (b .address + opsArms rs (scopesOf Γ) (passing Γ)) z C Γ ts b st (size z) (starts z) (o .1) (fit-on (cells-after x (p .address) (p .cell)) w) (h .1 .1 .1 .0)
           (lenArms gs rs (p .cell) 1 (b .address + opsArms rs (scopesOf Γ) (passing Γ)) Γ ts b) E (put-same (D' .cells) (p .cell) (assigned v) y g ∙ ap assigned e') (w .fresh (p .cell) (assigned v) (D' .cells) (D' .lowest) (omega arith) k'))))))

@@ -1,8 +1,8 @@
 -- The sizes of parts are the lengths of their code.
 use mathlib.Core.Bool.{Bool, true, false}
-use mathlib.Core.Path.{_≡_, refl, ap, sym, _∙_, subst}
-use mathlib.Core.List.{List, [], _∷_, _++_}
-use Prim.Native.Nat.{ℕ, zero, suc, _+_, _≤_}
+use mathlib.Core.Path.{_≡_, refl, ap, _∙_}
+use mathlib.Core.List.{List, [], _∷_}
+use Prim.Native.Nat.{ℕ, suc, _+_, _≤_}
 use native.Mathlib.Omega.{arith}
 use Rattle.words.specs.Choice.{if_then_else_}
 use Rattle.values.specs.Types.{Ty, logical}
@@ -10,7 +10,7 @@ use Rattle.values.specs.Operators.{Binary}
 use Rattle.language.specs.Tree.{Decl, declare, holding, Stmt, block, assign, when, choose, while, goto, assert, call, setLevel, select, Items, noItem, label, item, Arms, lastArm, arm, Target, toVariable, toField, Expr, number, truth, pattern, null, variable, invoke, field, make, operate1, operate2, conditional, fader, blockExpr, Exprs, noExpr, expr, Global}
 use Rattle.language.specs.Names.{Scope, blockOf, expressionOf}
 use Rattle.language.specs.Faults.{typeE, isTy}
-use Rattle.bytecode.specs.Instructions.{go, letHold, takeHold}
+use Rattle.bytecode.specs.Instructions.{go}
 use Rattle.compile_code.specs.Code.{Code, nil, op, mark, cell, _▸_, At, at, skip, after}
 use Rattle.compile_code.specs.Compile.{Around, inside, outermost, bound, global, held, labels, scopesOf, passing, Passing, theLabels, hasLabel, sizeGoto, sizeHead, Way, plainly, marked, ifTrue, ifFalse, sizeWay, wayOf, opsS, opsItems, opsArms, opsTarget, opsE, opsEs, labelAt, codeGoto, codeWay, codeHead, codeS, codeItems, codeArms, codeTarget, codeE, codeEs, tyE, tyTarget}
 

@@ -1,10 +1,9 @@
 -- What a user of the compiler reads: the machine ends as the tree ends, with the same trace, and goes on if the tree goes on; and back.
-use mathlib.Core.Bool.{Bool, true, false}
 use mathlib.Core.Path.{_≡_, refl, ap, sym, _∙_, subst}
-use mathlib.Core.List.{List, [], _∷_, _++_, map, reverse}
-use mathlib.Core.Option.{Option, none, some}
+use mathlib.Core.List.{List, [], _∷_, _++_, reverse}
+use mathlib.Core.Option.{some}
 use mathlib.Core.Logic.{_⊎_, inl, inr}
-use Prim.Native.Nat.{ℕ, zero, suc, _≤_, _<_}
+use Prim.Native.Nat.{ℕ, zero, suc, _≤_}
 use native.Mathlib.Nat.{le-of-suc-le-suc, not-suc-le-zero}
 use native.Mathlib.Omega.{arith}
 use native.Mathlib.Decide.{decLe}
@@ -15,20 +14,19 @@ use Rattle.values.specs.Trace.{Item}
 use Rattle.language.specs.Tree.{Typed, Tree}
 use Rattle.language.specs.Names.{rootOf}
 use Rattle.language.specs.Limits.{locals}
-use Rattle.language.specs.Execute.{Store, Result, done, jump, later, wrong, Ran, finished, going, illFormed, ran, execute, Procedure, procedureIn, classIn, fueled, within, catch, execItems, atStart}
-use Rattle.language.specs.Execute.{ended as over, outermost as outside}
+use Rattle.language.specs.Execute.{Result, done, jump, later, wrong, Ran, finished, going, illFormed, ran, execute, Procedure, procedureIn, classIn}
+use Rattle.language.specs.Execute.{ended as over}
 use Rattle.bytecode.specs.Instructions.{own, end}
-use Rattle.bytecode.specs.Machine.{Machine, running, unwinding, freshMachine, rootCells, fetch, act, step, doEnd, allHolds, putLowest}
+use Rattle.bytecode.specs.Machine.{running, unwinding, freshMachine, rootCells, fetch, act, step, doEnd, allHolds, putLowest}
 use Rattle.bytecode.specs.Machine.{ended as stopped}
-use Rattle.bytecode.specs.Sound.{sound}
 use Rattle.compile_code.specs.Code.{at, after}
-use Rattle.compile_code.specs.Compile.{Around, outermost, global, labels, heldIn, codeHead, codeItems, classNumber}
-use Rattle.compile_simulation.specs.Meets.{Conf, live, dead, Setting, Reach, Long, Meets, crash, ends, here, run, Bad, EndsBy, Live}
+use Rattle.compile_code.specs.Compile.{outermost, global, labels, heldIn, codeHead, codeItems, classNumber}
+use Rattle.compile_simulation.specs.Meets.{Conf, live, dead, Setting, Reach, Meets, crash, ends, here, run, Bad, Live}
 use Rattle.compile_simulation.specs.Meets.{go as goConf, from as begin}
 use Rattle.compile_simulation.specs.View.{Data, blocksOf, rootsOf}
 use Rattle.compile_simulation.specs.Ops.{op-at}
 use Rattle.compile_simulation.specs.Placed.{Fit, Stands, at-work, Nothing, Arrives, lands}
-use Rattle.compile_simulation.specs.Sim.{Called, okItems, world}
+use Rattle.compile_simulation.specs.Sim.{Called, okItems}
 use Rattle.compile_simulation.specs.Root.{okRoot, atRoot, Told, rooted}
 
 module _ (W : Setting) (t : Tree) where
@@ -67,7 +65,7 @@ module _ (W : Setting) (t : Tree) where
 
   module _ (B : Built) where
     abbrev D₀ : Data
-    D₀ = record { records = []; cells = freshAll (rootCells (W .macro .bodies)); lowest = []; trace = []; taken = 0 }
+    D₀ = record { shared = record { records = [] }; cells = freshAll (rootCells (W .macro .bodies)); lowest = []; trace = []; taken = 0 }
 
     -- the root's last op
     closes : (n : ℕ) (r : Result (Unit {0})) → Meets W n (lands W (t .head) (atRoot W (t .head)) (outermost (rootOf t) ∷ []) []) (Arrives W (t .head) (atRoot W (t .head)) (Nothing W (t .head) (atRoot W (t .head))) (Told W (t .head)) [] lastAt []) start r

@@ -1,29 +1,29 @@
 -- What the tree sees of a machine: its store as a function of the machine's data and of what lies around a part.
 use mathlib.Core.Bool.{Bool, true, false}
 use mathlib.Core.Path.{_≡_, refl, ap, ap₂, sym, _∙_, subst}
-use mathlib.Core.List.{List, [], _∷_, _++_, map}
+use mathlib.Core.List.{List, [], _∷_, map}
 use mathlib.Core.Option.{Option, none, some}
 use Prim.Native.Nat.{ℕ, zero, suc, _<_, _≤_}
 use native.Mathlib.Omega.{arith}
 use lib.Dec.{T, eqb, eqb→eq}
 use lib.IntN.{pos}
-use lib.ListN.{getD, getElem?}
+use lib.ListN.{getElem?}
 use lib.ListN.{set as put}
 use Rattle.words.specs.Options.{isSome, orElse}
 use Rattle.words.specs.Choice.{if_then_else_}
 use Rattle.values.specs.Trace.{Item}
 use Rattle.values.specs.Values.{Value, int, log, bit, ref, Cell, assigned}
-use Rattle.language.specs.Tree.{Typed, Global}
+use Rattle.language.specs.Tree.{Global}
 use Rattle.language.specs.Execute.{Slot, slot, Store, withBlocks, withRoot, cellIn, cellOf, putIn, putOf, valueOf, assignTo, pairUp}
 use Rattle.language.specs.Execute.{Made as TreeMade}
 use Rattle.bytecode.specs.Instructions.{Owner, own, root}
-use Rattle.bytecode.specs.Machine.{Made}
-use Rattle.compile_code.specs.Compile.{Around, inside, outermost, bound, global, held, labels, kept, boundAt, globalAt, orCell, Class, classesOf, classNames}
+use Rattle.bytecode.specs.Machine.{Made, Shared}
+use Rattle.compile_code.specs.Compile.{Around, inside, outermost, bound, global, held, labels, kept, boundAt, globalAt, orCell, Class, classesOf}
 use Rattle.compile_code.specs.Compile.{Cell as Kept, cellOf as keptOf}
 
 -- ── the machine's data: what the ops of one activation change ──
 pub record Data : Type 0 where
-  pub records : List Made
+  pub shared : Shared
   pub cells : List Cell  -- of the activation at work
   pub lowest : List Cell  -- of the root, where that is another
   pub trace : List Item
@@ -56,7 +56,7 @@ module _ (gs : List Global) where
   seenC (assigned v) = assigned (seenV v)
 
   abbrev pub seenR : Made → TreeMade
-  seenR r = record { class = classOf (classesOf gs) (r .class) .name; fields = pairUp (classOf (classesOf gs) (r .class) .fields) (map seenV (r .fields)) }
+  seenR r = record { fields = pairUp (classOf (classesOf gs) (r .class) .fields) (map seenV (r .fields)) }
 
   unfoldable pub blocksOf : List Around → List Cell → List (List Slot)
   blocksOf [] cs = []
@@ -84,7 +84,7 @@ module _ (gs : List Global) where
   seen Γ D = record {
     root = rootsOf Γ (D .cells) (D .lowest);
     blocks = blocksOf Γ (D .cells);
-    records = map seenR (D .records);
+    records = map seenR (D .shared .records);
     trace = D .trace;
     taken = D .taken;
   }
@@ -356,7 +356,7 @@ module _ (gs : List Global) (a : ℕ) (u : Cell) where
 
 -- ── a new variable ──
 abbrev pub written : Owner → ℕ → Cell → Data → Data
-written o c x D = record { records = D .records; cells = ownPut o c x (D .cells); lowest = rootPut o c x (D .lowest); trace = D .trace; taken = D .taken }
+written o c x D = record { shared = D .shared; cells = ownPut o c x (D .cells); lowest = rootPut o c x (D .lowest); trace = D .trace; taken = D .taken }
 
 pub global-apart : (a : ℕ) (Γ : List Around) (o : Owner) (c d : ℕ) → globalAt a Γ ≡ some (kept o c) → Apart o d Γ → d ≡ c → ⊥
 unfolding globalAt Apart

@@ -8,6 +8,7 @@ use lib.IntN.{pos}
 use lib.ListN.{length, getD, set, take, length-set, length-append}
 use Rattle.words.specs.Numbers.{halfAt}
 use Rattle.values.specs.Types.{Ty, integer}
+use Rattle.values.specs.Ends.{caseIndex}
 use Rattle.bytecode.specs.Instructions.{own, store, stop}
 use Rattle.language.specs.Tree.{Expr, Arms, lastArm, arm, select, countArms, Global}
 use Rattle.language.specs.Table.{entry, flatS, flatE, flatArms, deepS}
@@ -33,17 +34,17 @@ use Rattle.compile_steps.specs.Shared.{Rest, rest-enter, rest-left, rest
 
 -- ── the code of the statements is that of the cases, and a stop ──
 module _ (gs : List Global) where
-  arms-pen : (r : Arms) (c i z : ℕ) (Γ : List Around) (st : List Ty) (p : At) (pen : Pen) → penAfter (codeArms gs r c i z Γ st p) pen ≡ penAfter (codeCases gs r c i z Γ st p ▸ op stop) pen
+  arms-pen : (r : Arms) (c i z : ℕ) (Γ : List Around) (st : List Ty) (p : At) (pen : Pen) → penAfter (codeArms gs r c i z Γ st p) pen ≡ penAfter (codeCases gs r c i z Γ st p ▸ op (stop caseIndex)) pen
   unfolding codeArms codeCases penAfter
   arms-pen (lastArm s) c i z Γ st p pen = refl
   arms-pen (arm s r) c i z Γ st p pen = arms-pen r c (suc i) z Γ st _ _
 
-  arms-inked : (r : Arms) (c i z : ℕ) (Γ : List Around) (st : List Ty) (p : At) (pen : Pen) (l : List ℕ) → inked (codeArms gs r c i z Γ st p) pen l ≡ inked (codeCases gs r c i z Γ st p ▸ op stop) pen l
+  arms-inked : (r : Arms) (c i z : ℕ) (Γ : List Around) (st : List Ty) (p : At) (pen : Pen) (l : List ℕ) → inked (codeArms gs r c i z Γ st p) pen l ≡ inked (codeCases gs r c i z Γ st p ▸ op (stop caseIndex)) pen l
   unfolding codeArms codeCases penAfter inked
   arms-inked (lastArm s) c i z Γ st p pen l = refl
   arms-inked (arm s r) c i z Γ st p pen l = arms-inked r c (suc i) z Γ st _ _ _
 
-  arms-wrote : (r : Arms) (c i z : ℕ) (Γ : List Around) (st : List Ty) (p : At) {a b : List ℕ} {pen t : Pen} → Wrote a b pen t (codeCases gs r c i z Γ st p ▸ op stop) → Wrote a b pen t (codeArms gs r c i z Γ st p)
+  arms-wrote : (r : Arms) (c i z : ℕ) (Γ : List Around) (st : List Ty) (p : At) {a b : List ℕ} {pen t : Pen} → Wrote a b pen t (codeCases gs r c i z Γ st p ▸ op (stop caseIndex)) → Wrote a b pen t (codeArms gs r c i z Γ st p)
   arms-wrote r c i z Γ st p {a} {b} {pen} {t} w = record { penned = w .penned ∙ sym (arms-pen r c i z Γ st p pen); written = w .written ∙ sym (arms-inked r c i z Γ st p pen a) }
 
 count-most : (r : Arms) → countArms r ≤ length (flatArms r)
@@ -83,11 +84,11 @@ module _ {e : Expr} {r : Arms} {W : Walk} {X : Place} {l part : List ℕ} {nesti
   abbrev all : Code
   all = cell integer ▸ (x ▸ (op (store own c) ▸ (codeArms (W .globals) r c 1 exit (X .around) (X .types) b ▸ seen)))
 
-  in-all : Rest W X l at L top holds depth pen (entry 30 (countArms r) (pos 0) ∷ (flatE e ++ flatArms r)) (after all (X .start) .address ∷ (es ++ fs)) (x ▸ (op (store own c) ▸ (y ▸ (op stop ▸ seen))))
+  in-all : Rest W X l at L top holds depth pen (entry 30 (countArms r) (pos 0) ∷ (flatE e ++ flatArms r)) (after all (X .start) .address ∷ (es ++ fs)) (x ▸ (op (store own c) ▸ (y ▸ (op (stop caseIndex) ▸ seen))))
   unfolding flatS codeS belowS penAfter
   in-all = record { laid = h .laid; stood = h .stood; room = h .room; ending = h .ending; fits = rw (arms-pen (W .globals) r c 1 exit (X .around) (X .types) b (moved (penAfter x pen))) at (h .fits) }
 
-  below-all : Rest W (movedTo X q) l (at + 1) L top holds depth pen (flatE e ++ flatArms r) (es ++ fs) (x ▸ (op (store own c) ▸ (y ▸ (op stop ▸ seen))))
+  below-all : Rest W (movedTo X q) l (at + 1) L top holds depth pen (flatE e ++ flatArms r) (es ++ fs) (x ▸ (op (store own c) ▸ (y ▸ (op (stop caseIndex) ▸ seen))))
   below-all = rest-enter (entry 30 (countArms r) (pos 0)) (flatE e ++ flatArms r) _ _ _ q (omega arith) refl in-all
 
   pub select-first : Ready (expr e) W (movedTo X q) l (below part 8) (nesting - 1) (at + 1) sizes L top holds depth pen
@@ -129,7 +130,7 @@ module _ {e : Expr} {r : Arms} {W : Walk} {X : Place} {l part : List ℕ} {nesti
     select-passes = passes-N (expr e) (select-first .table) (select-first .laid .stands) n z
 
     module _ {M : Lent} {p : Pen} (k : Kept L M top depth) (d : Done (expr e) W (movedTo X q) (at + 1) L M depth pen p) where
-      after-first : Rest W (movedTo X (after x q)) l (at + 1 + n) M top holds depth p (flatArms r) fs (op (store own c) ▸ (y ▸ (op stop ▸ seen)))
+      after-first : Rest W (movedTo X (after x q)) l (at + 1 + n) M top holds depth p (flatArms r) fs (op (store own c) ▸ (y ▸ (op (stop caseIndex) ▸ seen)))
       after-first = rest-node (expr e) (flatArms r) _ n size-first k (d .wrote) below-all
 
       pub select-fits : Fits (moved p) (length (M .out))
@@ -140,7 +141,7 @@ module _ {e : Expr} {r : Arms} {W : Walk} {X : Place} {l part : List ℕ} {nesti
         unfolding recordOf
         stored = wrote-op (store own c) 6 0 v i (λ w. ap (λ (a : ℕ). rec 6 0 a) (sym cl))
 
-        after-store : Rest W (movedTo X b) l (at + 1 + n) (lent (M .env) (M .ends) (M .stack) o) top holds depth p₂ (flatArms r) fs (y ▸ (op stop ▸ seen))
+        after-store : Rest W (movedTo X b) l (at + 1 + n) (lent (M .env) (M .ends) (M .stack) o) top holds depth p₂ (flatArms r) fs (y ▸ (op (stop caseIndex) ▸ seen))
         unfolding after
         after-store = rest-own b refl (kept-out M o (wrote-length stored)) stored (flatArms r) _ refl after-first
 
@@ -154,7 +155,7 @@ module _ {e : Expr} {r : Arms} {W : Walk} {X : Place} {l part : List ℕ} {nesti
               stood = after-store .stood;
               room = after-store .room;
               ending = after-store .ending;
-              fits = fits-first y (op stop ▸ seen) p₂ (length o) (after-store .fits);
+              fits = fits-first y (op (stop caseIndex) ▸ seen) p₂ (length o) (after-store .fits);
               deep = omega (arith, h .deep);
               good = h .good .2;
               lands = lands-kept k (h .lands);
@@ -169,19 +170,19 @@ module _ {e : Expr} {r : Arms} {W : Walk} {X : Place} {l part : List ℕ} {nesti
           abbrev there : At
           there = record { address = after y b .address; cell = b .cell }
 
-          after-arms : Rest W (movedTo X there) l (at + 1 + n) N top holds depth t (flatArms r) fs (op stop ▸ seen)
+          after-arms : Rest W (movedTo X there) l (at + 1 + n) N top holds depth t (flatArms r) fs (op (stop caseIndex) ▸ seen)
           after-arms = rest-own there refl k₂ (d₂ .wrote) (flatArms r) _ refl after-store
 
           kept-two : Kept L N top depth
           kept-two = kept-then k (kept-then (kept-out M o (wrote-length stored)) k₂)
 
           pub select-fits₂ : Fits (moved t) (length (N .out))
-          select-fits₂ = fits-op stop _ t (length (N .out)) (after-arms .fits)
+          select-fits₂ = fits-op (stop caseIndex) _ t (length (N .out)) (after-arms .fits)
 
           module _ {p₃ : Pen} {o₂ : List ℕ} (i₂ : (p₃ ≡ moved t) × (o₂ ≡ inkOp t (N .out) 20 0 0)) where
-            stopped : Wrote (N .out) o₂ t p₃ (op stop)
+            stopped : Wrote (N .out) o₂ t p₃ (op (stop caseIndex))
             unfolding recordOf
-            stopped = wrote-op stop 20 0 0 i₂ (λ w. refl)
+            stopped = wrote-op (stop caseIndex) 20 0 0 i₂ (λ w. refl)
 
             stood-last : Stood W (movedTo X (skip 1 there)) l (lent (N .env) (N .ends) (N .stack) o₂) top holds depth p₃
             unfolding after

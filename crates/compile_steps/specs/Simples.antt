@@ -12,6 +12,7 @@ use Rattle.heads.specs.Trees.{length-map}
 use lib.Seq.{getD-set-same, take-suc, getD-at, length-take-le}
 use Rattle.words.specs.Numbers.{halfAt, wordAt}
 use Rattle.values.specs.Types.{Ty, tyByte, integer, logical, bits}
+use Rattle.values.specs.Ends.{caseIndex}
 use Rattle.bytecode.specs.Instructions.{Instr, operate, getField, readFader, stop}
 use Rattle.bytecode.specs.Instructions.{call as callOp, make as makeOp, setLevel as setOp, assert as assertOp}
 use Rattle.values.specs.Operators.{unary, Unary, negate, absolute, complement, unaryCode, opType, takes, logicalOrBits}
@@ -125,22 +126,22 @@ module _ (gs : List Global) where
   lastOp (expr (make c es)) = makeOp (classNumber gs c)
   lastOp (expr (operate1 o e)) = operate (unary o)
   lastOp (expr (fader e)) = readFader
-  lastOp (stmt (block ds is)) = stop
-  lastOp (stmt (assign x e)) = stop
-  lastOp (stmt (when e s)) = stop
-  lastOp (stmt (choose e s t)) = stop
-  lastOp (stmt (while e s)) = stop
-  lastOp (stmt (goto a)) = stop
-  lastOp (stmt (select e r)) = stop
-  lastOp (expr (number z)) = stop
-  lastOp (expr (truth b)) = stop
-  lastOp (expr (pattern z)) = stop
-  lastOp (expr (null c)) = stop
-  lastOp (expr (variable a)) = stop
-  lastOp (expr (operate2 o e f)) = stop
-  lastOp (expr (conditional e f g)) = stop
-  lastOp (expr (blockExpr ds is e)) = stop
-  lastOp (name a) = stop
+  lastOp (stmt (block ds is)) = stop caseIndex
+  lastOp (stmt (assign x e)) = stop caseIndex
+  lastOp (stmt (when e s)) = stop caseIndex
+  lastOp (stmt (choose e s t)) = stop caseIndex
+  lastOp (stmt (while e s)) = stop caseIndex
+  lastOp (stmt (goto a)) = stop caseIndex
+  lastOp (stmt (select e r)) = stop caseIndex
+  lastOp (expr (number z)) = stop caseIndex
+  lastOp (expr (truth b)) = stop caseIndex
+  lastOp (expr (pattern z)) = stop caseIndex
+  lastOp (expr (null c)) = stop caseIndex
+  lastOp (expr (variable a)) = stop caseIndex
+  lastOp (expr (operate2 o e f)) = stop caseIndex
+  lastOp (expr (conditional e f g)) = stop caseIndex
+  lastOp (expr (blockExpr ds is e)) = stop caseIndex
+  lastOp (name a) = stop caseIndex
 
   module _ (Γ : List Around) (st : List Ty) (p : At) where
     simple-ends : {n : Node} → Simple n → endsN gs n Γ st p ≡ after (codeN gs n Γ st p) p .address ∷ endsEs gs (opsOf n) Γ st p

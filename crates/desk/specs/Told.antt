@@ -5,17 +5,16 @@ use mathlib.Core.List.{List}
 use mathlib.Core.Logic.{_⊎_, inl, inr}
 use Prim.Native.Nat.{ℕ, _<_}
 use native.Mathlib.Omega.{arith}
-use lib.Dec.{eqb, leb}
-use borrow.Author.Tests.{leb-true}
+use lib.Dec.{eqb}
 use Rattle.words.specs.Laws.{Bytes}
-use Rattle.values.specs.Ends.{Refusal, refusal, Judged, accepted, refused, overflow, tooManyRecords, isCondition}
+use Rattle.values.specs.Ends.{Refusal, refusal, Judged, accepted, refused, isCondition}
+use Rattle.values.specs.Conditions.{condition-byte}
 use Rattle.values.specs.Trace.{set, hold, release}
 use Rattle.language.specs.Judge.{judgeTable, compileOn}
 use Rattle.bytecode.specs.Rules.{judgeMacro}
 use Rattle.bytecode.specs.Runs.{Answer, happens, spends, finishes, refuses, halts}
 use Rattle.bytecode.specs.Lent.{startOn, runOn}
 use Rattle.bytecode.specs.Answers.{Numbers, verdictNumbers, answerNumbers, packed}
-use Rattle.loading.specs.Tests.{halves}
 use Rattle.table.specs.Small.{Narrow, narrow}
 use Rattle.running.specs.Fields.{Small, Ranged, judged-small, start-small, run-ranged}
 use Rattle.words.specs.Choice.{if_then_else_}
@@ -26,7 +25,7 @@ use Rattle.desk.specs.Packing.{Fits, packed-injective, bare, verdicts-di
 -- ── runs ──
 low-end : (c : ℕ) → (c ≡ 0) ⊎ (isCondition c ≡ true) → c < 65536
 low-end c (inl e) = omega arith
-low-end c (inr h) = let q = halves (leb overflow c) (leb c tooManyRecords) h in omega (arith, leb-true c tooManyRecords (q .1))
+low-end c (inr h) = omega (arith, condition-byte c h)
 
 answer-fits : (n : ℕ) → n < 65536 → (a : Answer) → Ranged n a → Told a × Fits (answerNumbers a)
 answer-fits n h (happens (set c l) k) r = (tt, record { tag-fits = omega arith; steps-fit = omega (arith, r .0); first-fits = omega (arith, r .1 .1); second-fits = omega (arith, r .1 .2) })

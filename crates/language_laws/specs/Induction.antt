@@ -6,20 +6,19 @@ use mathlib.Core.List.{List, [], _∷_}
 use mathlib.Core.Option.{Option, none, some}
 use Prim.Native.Nat.{ℕ, zero, suc}
 use lib.Dec.{ltb}
-use lib.IntN.{ℤ}
 use lib.ListN.{length, getElem?}
 use Rattle.words.specs.Options.{isSome}
 use Rattle.words.specs.Choice.{if_then_else_}
 use Rattle.values.specs.Arithmetic.{Outcome, gives, ends, mistyped}
-use Rattle.values.specs.Values.{Value, int, log, bit, ref, Cell, assigned, fresh, between, size, apply1, apply2}
+use Rattle.values.specs.Values.{Value, asInteger, asLogical, asReference, Cell, assigned, fresh, between, size, apply1, apply2}
 use Rattle.values.specs.Trace.{set, hold, Item, event, reading}
 use Rattle.language.specs.Tree.{Typed, Decl, declare, holding, Target, toVariable, toField, Exprs, noExpr, expr, Body, proper, function}
 use Rattle.language.specs.Tree.{Stmt, block, assign, when, choose, while, goto, assert, call, setLevel, select, Items, noItem, label, item, Arms, lastArm, arm}
 use Rattle.language.specs.Tree.{Expr, number, truth, pattern, null, variable, invoke, field, make, operate1, operate2, conditional, fader, blockExpr}
 use Rattle.language.specs.Execute.{Slot, slot, Made, Store, withBlocks, withRoot, say, cellIn, cellOf, putIn, putOf, valueOf, assignTo, declareFirst, declareIn}
-use Rattle.language.specs.Execute.{Result, done, jump, wrong, next, Place, under, deeper, condition, settled, branch, onInteger, cellValue, ofRecord, onRecord}
+use Rattle.language.specs.Execute.{Result, done, jump, wrong, next, Place, under, deeper, condition, settled, asked, branch, cellValue, onMade, onRecord}
 use Rattle.language.specs.Execute.{doSet, doFader, doField, doPutField, ofVariable, ofField, Location, doAssign, pairUp, doMake, decides}
-use Rattle.language.specs.Execute.{letGo, within, leaving, inBlock, Less, catch, Procedure, procedureIn, classIn, World, activate, armAt}
+use Rattle.language.specs.Execute.{letGo, within, leaving, newBlock, Less, catch, Procedure, procedureIn, classIn, World, activate, armAt}
 use Rattle.language.specs.Execute.{exec, execItems, execArm, locate, eval, evals, execBody, evalBody, fueled}
 use Rattle.language_laws.specs.Holds.{Quiet}
 
@@ -97,31 +96,22 @@ module _ (R : Claim) (L : Lawful R) where
   settles (ends c) = L .stops
   settles mistyped = L .fails
 
+  asks : {A B : Type 0} {X : Place} {σ : Store} (o : Option A) {f h : A → Result B} → ((x : A) → R B X σ (f x) (h x)) → R B X σ (asked o f) (asked o h)
+  asks none k = L .fails
+  asks (some x) k = k x
+
   branches : {A : Type 0} {X : Place} {σ : Store} (v : Value) {f h f′ h′ : Store → Result A} → Here R A X f h → Here R A X f′ h′ → R A X σ (branch v f f′ σ) (branch v h h′ σ)
   unfolding branch
-  branches (int z) t e = L .fails
-  branches {σ = σ} (log true) t e = t σ
-  branches {σ = σ} (log false) t e = e σ
-  branches (bit n) t e = L .fails
-  branches (ref c r) t e = L .fails
+  branches {σ = σ} v t e = asks (asLogical v) (λ b. either-way b (t σ) (e σ))
 
-  on-integer : {A : Type 0} {X : Place} {σ : Store} (v : Value) {f h : ℤ → Result A} → ((z : ℤ) → R A X σ (f z) (h z)) → R A X σ (onInteger v f) (onInteger v h)
-  on-integer (int z) k = k z
-  on-integer (log b) k = L .fails
-  on-integer (bit n) k = L .fails
-  on-integer (ref c r) k = L .fails
-
-  of-record : {A : Type 0} {X : Place} {σ : Store} (m : Option Made) {f h : Made → Result A} → ((m : Made) → R A X σ (f m) (h m)) → R A X σ (ofRecord m f) (ofRecord m h)
-  of-record none k = L .fails
-  of-record (some m) k = k m
+  on-made : {A : Type 0} {X : Place} {σ : Store} (r : Option ℕ) {f h : ℕ → Made → Result A}
+      → ((n : ℕ) (m : Made) → R A X σ (f n m) (h n m)) → R A X σ (onMade r X σ f) (onMade r X σ h)
+  on-made none k = L .stops
+  on-made {σ = σ} (some n) k = asks (getElem? (σ .records) n) (λ m. k n m)
 
   on-record : {A : Type 0} {X : Place} {σ : Store} (v : Value) {f h : ℕ → Made → Result A}
       → ((n : ℕ) (m : Made) → R A X σ (f n m) (h n m)) → R A X σ (onRecord v X σ f) (onRecord v X σ h)
-  on-record (int z) k = L .fails
-  on-record (log b) k = L .fails
-  on-record (bit n) k = L .fails
-  on-record (ref c none) k = L .stops
-  on-record {σ = σ} (ref c (some n)) k = of-record (getElem? (σ .records) n) (λ m. k n m)
+  on-record v k = asks (asReference v) (λ r. on-made (r .target) k)
 
   has-value : {X : Place} {σ : Store} (c : Option Cell) → R Value X σ (cellValue c σ) (cellValue c σ)
   has-value none = L .fails
@@ -129,12 +119,12 @@ module _ (R : Claim) (L : Lawful R) where
 
   sets-level : (v w : Value) → Anywhere R (Unit {0}) (doSet v w) (doSet v w)
   unfolding doSet
-  sets-level v w X σ = on-integer v (λ x. on-integer w (λ y.
+  sets-level v w X σ = asks (asInteger v) (λ x. asks (asInteger w) (λ y.
       either-way (between 1 512 x && between 0 255 y) (L .adds (event (set (size x) (size y))) tt refl) (L .stops)))
 
   reads-fader : (oracle : ℕ → ℕ → ℕ) (v : Value) → Anywhere R Value (doFader oracle v) (doFader oracle v)
   unfolding doFader
-  reads-fader oracle v X σ = on-integer v (λ x. either-way (between 1 64 x) (L .adds (reading (size x) (oracle (σ .taken) (size x))) tt refl) (L .stops))
+  reads-fader oracle v X σ = asks (asInteger v) (λ x. either-way (between 1 64 x) (L .adds (reading (size x) (oracle (σ .taken) (size x))) tt refl) (L .stops))
 
   gets-field : (a : ℕ) (v : Value) → Anywhere R Value (doField a v) (doField a v)
   unfolding doField
@@ -161,7 +151,7 @@ module _ (R : Claim) (L : Lawful R) where
   enters (declare x ∷ ds) X σ k = L .same (sym (declared x σ)) (enters ds X (declareIn x σ) k)
   enters (holding g ∷ ds) X σ k = L .holds (enters ds (under g X) (say (hold g) σ) k)
 
-  in-block : {A : Type 0} (ds : List Decl) (X : Place) (σ : Store) {f h : Place → Store → Result A} → Anywhere R A f h → R A X σ (inBlock ds X σ f) (inBlock ds X σ h)
+  in-block : {A : Type 0} (ds : List Decl) (X : Place) (σ : Store) {f h : Place → Store → Result A} → Anywhere R A f h → R A X σ (newBlock ds X σ f) (newBlock ds X σ h)
   in-block ds X σ k = L .leaves _ (L .same refl (enters ds X (withBlocks ([] ∷ σ .blocks) σ) k))
 
   calls : {A : Type 0} (p : Option Procedure) {f h : Body → Place → Store → Result A} (vs : List Value) (X : Place) (σ : Store)
@@ -193,7 +183,7 @@ module _ (R : Claim) (L : Lawful R) where
       statement (assert e) X σ = L .binds (expression e X σ) (λ v τ. branches v (λ ρ. L .gives) (λ ρ. L .stops))
       statement (call a es) X σ = L .binds (expressions es X σ) (λ vs τ. calls (procedureIn a (W .globals)) vs X τ (B .callS))
       statement (setLevel e f) X σ = L .binds (expression e X σ) (λ v τ. L .binds (expression f X τ) (λ w ρ. sets-level v w X ρ))
-      statement (select e cs) X σ = L .binds (expression e X σ) (λ v τ. on-integer v (λ z. arms cs (size z) X τ))
+      statement (select e cs) X σ = L .binds (expression e X σ) (λ v τ. asks (asInteger v) (λ z. arms cs (size z) X τ))
 
       pub items : (is : Items) → Anywhere R (Unit {0}) (execItems W r is) (execItems W s is)
       items noItem X σ = L .gives

@@ -5,19 +5,19 @@ use mathlib.Core.Logic.{_⊎_, inl, inr}
 use mathlib.Core.List.{List, [], _∷_, _++_}
 use Prim.Native.Nat.{ℕ, zero, suc, _+_, _-_, _*_, _/_, _%_, _≤_, _<_}
 use native.Mathlib.Omega.{arith}
-use lib.Dec.{ltb, leb}
+use lib.Dec.{ltb}
 use lib.ListN.{length, replicate, length-append}
-use borrow.Author.Tests.{ltb-true, ltb-false, lt-ltb, le-ltb, leb-true}
+use borrow.Author.Tests.{ltb-true, ltb-false, lt-ltb, le-ltb}
 use Rattle.words.specs.Choice.{if_then_else_}
 use Rattle.words.specs.Laws.{Bytes}
 use Rattle.values.specs.Ends.{Refusal, refusal, isCondition}
+use Rattle.values.specs.Conditions.{condition-byte}
 use Rattle.values.specs.Trace.{Event, set, hold, release}
 use Rattle.bytecode.specs.Runs.{Answer, happens, spends, finishes, refuses, halts}
 use Rattle.bytecode.specs.Lent.{runOn}
-use Rattle.loading.specs.Tests.{halves}
 use Rattle.safety.specs.Terms.{InRange}
 use Rattle.running.specs.Fields.{Ranged, run-ranged}
-use Rattle.listing_text.specs.Text.{digit, digits, decimal, numbers, line, eventLine, endLine, openLine, refusedLine, answerLine, afterEvent, zeros, runsText, linesOf}
+use Rattle.listing_text.specs.Text.{digit, digits, decimal, numbers, eventLine, endLine, openLine, refusedLine, answerLine, afterEvent, zeros, runsText, linesOf}
 use Rattle.listing_text.specs.Steps.{Within, event-within}
 
 -- ── decimals ──
@@ -105,7 +105,7 @@ refused-line r h i = let k = two-numbers (r .number) (r .place) in omega (arith,
 -- ── the whole ──
 end-small : (c : ℕ) → (c ≡ 0) ⊎ (isCondition c ≡ true) → c < 256
 end-small c (inl e) = omega arith
-end-small c (inr t) = let z = leb-true c 27 (halves (leb 20 c) (leb c 27) t .1) in omega arith
+end-small c (inr t) = condition-byte c t
 
 after-answer : (left : ℕ) (a : Answer) (more : ℕ → List ℕ) → Ranged left a → Within 0 left a
     → ((n : ℕ) → 0 < n → n ≤ left → length (more n) ≤ 12 * (left - n) + 23) → length (answerLine a ++ afterEvent a more) ≤ 12 * left + 23
