@@ -7,11 +7,10 @@ use Rattle.words.specs.Numbers.{half, word}
 use Rattle.values.specs.Types.{Ty, tyByte}
 use Rattle.values.specs.Operators.{Operator, unary, binary, unaryCode, binaryCode}
 use Rattle.values.specs.Values.{Value, int, log, bit, ref, valueWord}
-use Rattle.language.specs.Tree.{Typed, Decl, declare, holding, Stmt, Expr, Items, Global, Tree}
+use Rattle.language.specs.Tree.{Typed, Decl, declare, holding, Stmt, Expr, Items, Global, Tree, locals}
 use Rattle.language.specs.Tree.{Body as TreeBody, proper, function}
 use Rattle.language.specs.Names.{types, procedureOf, rootOf}
 use Rattle.language.specs.Names.{results as resultsOf}
-use Rattle.language.specs.Limits.{locals}
 use Rattle.bytecode.specs.Macro.{Body, Shape, Placed, Macro}
 use Rattle.bytecode.specs.Macro.{Code as Record}
 use Rattle.bytecode.specs.Instructions.{Owner, own, root, Instr, end, push, load, store, operate, go, goUnless, call, return, make, getField, putField, setLevel, readFader, takeHold, letHold, assert, stop}

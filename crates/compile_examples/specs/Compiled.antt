@@ -2,9 +2,10 @@
 use mathlib.Core.Path.{_≡_, refl}
 use mathlib.Core.List.{List, [], _∷_, _++_}
 use Prim.Native.Nat.{ℕ}
+use Rattle.language.specs.Program.{tableBytes}
 use Rattle.values.specs.Ends.{Judged, accepted, refused}
 use Rattle.language.specs.Tree.{Tree}
-use Rattle.language.specs.Table.{Entry, bytesOf}
+use Rattle.language.specs.Table.{Entry}
 use Rattle.language.specs.Judge.{judgeTable}
 use Rattle.examples.specs.Cases.{casesCompute}
 use Rattle.examples.specs.Notation.{e, executed, loading, feed, answers}
@@ -18,7 +19,7 @@ bytesFor (refused r) = []
 
 -- the macro of a table
 abbrev made : List Entry → List ℕ
-made es = bytesFor (judgeTable (bytesOf es))
+made es = bytesFor (judgeTable (tableBytes es))
 
 loads : loading (made table) ≡ []
 unfolding casesCompute compilingComputes

@@ -4,12 +4,11 @@ use mathlib.Core.List.{List, [], _∷_, _++_, map, append-nil, map-append}
 use Prim.Native.Nat.{ℕ, _<_}
 use native.Mathlib.Omega.{arith}
 use lib.ListN.{length, length-map}
+use Rattle.language.specs.Program.{flatTyped, flatDecl, flatItems, resultCode, flatBody}
 use Rattle.words.specs.Numbers.{half}
 use Rattle.values.specs.Types.{Ty, integer, logical, bits, reference, tyByte}
-use Rattle.language.specs.Tree.{Typed, Body, proper, function, Global, Tree}
-use Rattle.language.specs.Table.{flatTyped, flatDecl, flatItems, flatBody, resultCode}
+use Rattle.language.specs.Tree.{Typed, Body, proper, function, Global, Tree, locals}
 use Rattle.language.specs.Names.{types, results}
-use Rattle.language.specs.Limits.{locals}
 use Rattle.compile_code.specs.Code.{At, at, cellsIn}
 use Rattle.compile_code.specs.Compile.{classesOf, classNames, Proc, Around, global, labels, codeItems, tyIn}
 use Rattle.bytecode.specs.Instructions.{own}

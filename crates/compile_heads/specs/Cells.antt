@@ -5,11 +5,12 @@ use mathlib.Core.List.{List, [], _∷_, _++_, map}
 use Prim.Native.Nat.{ℕ, suc, _+_, _-_}
 use native.Mathlib.Omega.{arith}
 use borrow.Author.Tests.{le-ltb}
+use Rattle.language.specs.Program.{flatTyped, flatDecl, flatS, flatItems, flatArms, flatTarget, flatE, flatEs}
 use Rattle.words.specs.Choice.{if_then_else_}
 use Rattle.values.specs.Types.{Ty, integer, logical, bits, reference, tyCode, tyByte}
 use Rattle.values.specs.Operators.{Binary}
 use Rattle.language.specs.Tree.{Decl, declare, holding, Stmt, block, assign, when, choose, while, goto, assert, call, setLevel, select, Items, noItem, label, item, Arms, lastArm, arm, Target, toVariable, toField, Expr, number, truth, pattern, null, variable, invoke, field, make, operate1, operate2, conditional, fader, blockExpr, Exprs, noExpr, expr, Global}
-use Rattle.language.specs.Table.{Entry, flatTyped, flatDecl, flatS, flatItems, flatArms, flatTarget, flatE, flatEs}
+use Rattle.language.specs.Table.{Entry}
 use Rattle.language.specs.Names.{blockOf, expressionOf}
 use Rattle.language.specs.Faults.{typeE, isTy}
 use Rattle.bytecode.specs.Instructions.{go}

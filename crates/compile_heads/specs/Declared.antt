@@ -7,10 +7,10 @@ use lib.Dec.{leb}
 use lib.IntN.{pos}
 use lib.ListN.{length, getD, length-map}
 use borrow.Author.Tests.{leb-true}
+use Rattle.language.specs.Program.{flatTyped, flatDecl, resultCode, flatBody, flatGlobal}
 use Rattle.words.specs.Numbers.{halfAt}
-use Rattle.language.specs.Tree.{Typed, declare, holding, Global, local, class, procedure, Tree}
-use Rattle.language.specs.Table.{Entry, entry, inLayout, flatTyped, flatDecl, flatBody, flatGlobal, resultCode}
-use Rattle.language.specs.Limits.{locals}
+use Rattle.language.specs.Tree.{Typed, declare, holding, Global, local, class, procedure, Tree, locals}
+use Rattle.language.specs.Table.{Entry, entry, inLayout}
 use Rattle.programs.specs.Basics.{both-left, both-right}
 use Rattle.spans.specs.Stands.{entryAt}
 use Rattle.heads.specs.Trees.{Heads}

@@ -4,11 +4,11 @@ use mathlib.Core.List.{List, [], _∷_, _++_, map}
 use Prim.Native.Nat.{ℕ, _+_, _/_, _%_, _≤_, _<_}
 use lib.Dec.{eqb}
 use lib.ListN.{length, drop, getD}
+use Rattle.language.specs.Program.{flatDecl, flatItems, flatGlobal, flatHead, flatten}
 use Rattle.words.specs.Choice.{if_then_else_}
 use Rattle.words.specs.Numbers.{half, wordOf}
-use Rattle.language.specs.Tree.{Global, local, class, procedure, Tree}
-use Rattle.language.specs.Table.{Entry, flatDecl, flatItems, flatGlobal, flatHead, flatten}
-use Rattle.language.specs.Limits.{locals}
+use Rattle.language.specs.Tree.{Global, local, class, procedure, Tree, locals}
+use Rattle.language.specs.Table.{Entry}
 use Rattle.bytecode.specs.Macro.{Body}
 use Rattle.programs.specs.Claims.{entriesOf}
 use Rattle.spans.specs.Stands.{entryAt}

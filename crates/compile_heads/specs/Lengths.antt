@@ -5,11 +5,11 @@ use Prim.Native.Nat.{ℕ, _+_, _-_, _*_, _/_, _≤_}
 use native.Mathlib.Omega.{arith}
 use lib.ListN.{length, length-append, length-map}
 use lib.Seq.{take-all}
+use Rattle.language.specs.Program.{flatTyped, flatDecl, flatItems, flatBody, flatGlobal, flatHead, flatten}
 use Rattle.values.specs.Types.{Ty, tyByte}
-use Rattle.language.specs.Tree.{Typed, Global, local, class, procedure, Tree}
-use Rattle.language.specs.Table.{Entry, flatTyped, flatDecl, flatItems, flatBody, flatGlobal, flatHead, flatten}
+use Rattle.language.specs.Tree.{Typed, Global, local, class, procedure, Tree, locals}
+use Rattle.language.specs.Table.{Entry}
 use Rattle.language.specs.Names.{types}
-use Rattle.language.specs.Limits.{locals}
 use Rattle.programs.specs.Claims.{entriesOf}
 use Rattle.spans.specs.Stands.{length-entries}
 use Rattle.compile_code.specs.Code.{at, after, cellsIn}

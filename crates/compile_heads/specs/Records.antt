@@ -7,10 +7,11 @@ use native.Mathlib.Numerals.{towards-suc}
 use lib.ListN.{length, drop, set, getD, length-append, length-drop}
 use lib.Seq.{sets, drop-at, drop-drop, take-all, length-take-le}
 use borrow.Author.Tests.{ne-eqb}
+use Rattle.language.specs.Tree.{locals}
+use Rattle.language.specs.Program.{flatDecl, flatItems, flatHead, flatten}
 use Rattle.words.specs.Numbers.{halfAt, wordAt, wordOf}
 use Rattle.words.specs.Laws.{Bytes, four, number-below, word-back}
-use Rattle.language.specs.Table.{Entry, flatDecl, flatItems, flatHead, flatten}
-use Rattle.language.specs.Limits.{locals}
+use Rattle.language.specs.Table.{Entry}
 use Rattle.programs.specs.Claims.{entriesOf}
 use Rattle.spans.specs.Stands.{entryAt, length-entries}
 use Rattle.compile_bytes.specs.Stores.{sets-comm, sets-join}

@@ -9,12 +9,12 @@ use lib.IntN.{pos, natAbs}
 use lib.ListN.{length, drop, getD, length-append}
 use lib.Seq.{getD-drop, drop-drop}
 use borrow.Author.Tests.{eqb-true}
+use Rattle.language.specs.Program.{flatTyped, flatDecl, flatItems, resultCode, flatBody, flatGlobal, flatHead, flatten, total}
 use Rattle.words.specs.Lists.{all}
 use Rattle.words.specs.Choice.{if_then_else_}
 use Rattle.words.specs.Laws.{Bytes}
 use Rattle.language.specs.Tree.{declare, holding, Global, local, class, procedure, countItems}
-use Rattle.language.specs.Table.{Entry, entry, inLayout, resultCode, flatTyped, flatDecl, flatItems, flatBody, flatGlobal, flatHead, flatten, classCount}
-use Rattle.language.specs.Judge.{total}
+use Rattle.language.specs.Table.{Entry, entry, inLayout, classCount}
 use Rattle.programs.specs.Basics.{clash, both-left, both-right}
 use Rattle.programs.specs.Claims.{entriesOf}
 use Rattle.spans.specs.Stands.{entryAt, entry-here, length-entries}

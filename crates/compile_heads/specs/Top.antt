@@ -5,11 +5,11 @@ use Prim.Native.Nat.{ℕ, suc, _+_, _≤_, _<_}
 use native.Mathlib.Omega.{arith}
 use lib.ListN.{length, length-append, length-map}
 use lib.Seq.{sets}
+use Rattle.language.specs.Program.{total}
 use Rattle.words.specs.Numbers.{half}
 use Rattle.values.specs.Types.{tyByte}
 use Rattle.language.specs.Tree.{Global, local, class, procedure, Tree}
 use Rattle.language.specs.Table.{procedureCount}
-use Rattle.language.specs.Judge.{total}
 use Rattle.compile_code.specs.Code.{cellsIn}
 use Rattle.compile_code.specs.Compile.{Class, classesOf, Proc, procsOf}
 use Rattle.compile_code.specs.Encode.{codeRoot, procParts, parts, headsOf, fieldTypes, compiled, each}

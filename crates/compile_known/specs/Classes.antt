@@ -6,9 +6,10 @@ use Prim.Native.Nat.{ℕ, _+_, _-_, _*_, _/_, _≤_, _<_}
 use native.Mathlib.Omega.{arith}
 use lib.Dec.{eqb}
 use lib.ListN.{length, getD, length-append}
+use Rattle.language.specs.Program.{flatTyped, flatDecl, flatItems, flatBody, flatGlobal, flatHead, flatten}
 use Rattle.words.specs.Numbers.{halfAt}
 use Rattle.language.specs.Tree.{declare, holding, Global, local, class, procedure, Tree}
-use Rattle.language.specs.Table.{Entry, flatTyped, flatDecl, flatItems, flatBody, flatGlobal, flatHead, flatten}
+use Rattle.language.specs.Table.{Entry}
 use Rattle.programs.specs.Basics.{clash}
 use Rattle.programs.specs.Claims.{entriesOf}
 use Rattle.spans.specs.Stands.{Stands, fields, entryAt, length-entries}

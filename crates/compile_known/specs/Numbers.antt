@@ -5,9 +5,10 @@ use Prim.Native.Nat.{ℕ, zero, suc, _+_, _-_, _*_, _/_, _%_}
 use lib.Dec.{eqb, ltb}
 use lib.IntN.{natAbs}
 use lib.ListN.{length}
+use Rattle.language.specs.Program.{flatTyped, flatDecl, flatItems, resultCode, flatBody}
 use Rattle.words.specs.Choice.{if_then_else_}
 use Rattle.language.specs.Tree.{Typed, Decl, declare, holding, Items, Body, Global, local, class, procedure, Tree}
-use Rattle.language.specs.Table.{Entry, flatTyped, flatDecl, flatItems, flatBody, resultCode}
+use Rattle.language.specs.Table.{Entry}
 use Rattle.compile_code.specs.Compile.{indexOf, classesOf, classNames}
 
 -- ── one number of three ──

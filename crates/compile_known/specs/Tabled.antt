@@ -9,10 +9,11 @@ use lib.IntN.{pos}
 use lib.ListN.{length, take, drop, getD, length-append, length-drop}
 use lib.Seq.{take-at, drop-at, drop-drop}
 use borrow.Author.Tests.{leb-true}
+use Rattle.language.specs.Program.{flatTyped, flatItems, resultCode, flatBody, flatGlobal, flatHead, flatten}
 use Rattle.words.specs.Lists.{all}
 use Rattle.values.specs.Types.{integer, logical, bits, reference}
 use Rattle.language.specs.Tree.{noItem, Body, proper, function, Global, local, class, procedure, Tree}
-use Rattle.language.specs.Table.{Entry, entry, inLayout, flatTyped, flatItems, flatBody, flatGlobal, flatHead, flatten, resultCode, Read, took, stop, first, formRoot}
+use Rattle.language.specs.Table.{Entry, entry, inLayout, Read, took, stop, first, formRoot}
 use Rattle.programs.specs.Basics.{both-left}
 use Rattle.programs.specs.Claims.{entriesOf, Readable}
 use Rattle.programs.specs.Programs.{read-flatten}

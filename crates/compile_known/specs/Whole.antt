@@ -8,10 +8,11 @@ use native.Mathlib.Nat.{add-zero}
 use lib.IntN.{natAbs}
 use lib.ListN.{length, take, drop, getD, length-append, length-drop}
 use lib.Seq.{sets, length-sets, sets-eq, take-all, drop-at, length-take-le}
+use Rattle.language.specs.Program.{flatTyped, flatDecl, flatItems, resultCode, flatBody, flatGlobal, flatHead, flatten}
 use Rattle.words.specs.Numbers.{halfAt}
-use Rattle.language.specs.Tree.{Typed, declare, holding, Global, local, class, procedure, Tree}
-use Rattle.language.specs.Table.{Entry, flatTyped, flatDecl, flatItems, flatBody, flatGlobal, flatHead, flatten, resultCode}
-use Rattle.language.specs.Limits.{locals, headCells}
+use Rattle.language.specs.Tree.{Typed, declare, holding, Global, local, class, procedure, Tree, locals}
+use Rattle.language.specs.Table.{Entry}
+use Rattle.language.specs.Limits.{headCells}
 use Rattle.programs.specs.Claims.{entriesOf}
 use Rattle.spans.specs.Stands.{fields, length-entries}
 use Rattle.heads.specs.Trees.{Heads}

@@ -8,17 +8,17 @@ use native.Mathlib.Omega.{arith}
 use lib.Dec.{eqb, leb}
 use lib.ListN.{length, getElem?, drop, length-append}
 use borrow.Author.Tests.{le-ltb, leb-true, eqb-true, eqb-false, eq-eqb, ne-eqb}
+use Rattle.language.specs.Program.{flatDecl, flatItems, flatBody, total as sumOf}
 use Rattle.words.specs.Choice.{if_then_else_}
 use Rattle.words.specs.Laws.{Bytes}
 use Rattle.values.specs.Types.{Ty, sames}
 use Rattle.values.specs.Ends.{accepted}
-use Rattle.language.specs.Tree.{Typed, Decl, declare, holding, Global, local, class, procedure, Tree}
+use Rattle.language.specs.Tree.{Typed, Decl, declare, holding, Global, local, class, procedure, Tree, locals}
 use Rattle.language.specs.Tree.{Body as TreeBody, proper, function}
 use Rattle.language.specs.Names.{types, procedureOf, definesTyped}
 use Rattle.language.specs.Names.{results as resultsOf}
-use Rattle.language.specs.Limits.{bodyUsage, rootUsage, locals, cellsItems}
+use Rattle.language.specs.Limits.{bodyUsage, rootUsage, cellsItems}
 use Rattle.language.specs.Formed.{InLimits}
-use Rattle.language.specs.Table.{flatDecl, flatItems, flatBody}
 use Rattle.language.specs.Execute.{Procedure, procedureIn, classIn}
 use Rattle.bytecode.specs.Macro.{Body, Shape, Placed}
 use Rattle.bytecode.specs.Instructions.{Owner, own, root, return, bodyAt, procedureAt, cellTy, cellsOf}
@@ -51,7 +51,6 @@ use Rattle.compile_macro.specs.Cells.{newCells, cells-length, count-head
 use Rattle.compile_macro.specs.Shapes.{Heads}
 use Rattle.compile_macro.specs.Narrow.{roomy-marks, ShapeLines, shape-lines, both-marks, placed-each, placed-apart, placed-few, flowing, two-ops, narrow-op, narrow-lines, each-more}
 use Rattle.language.specs.Faults.{sizeItems, sizeGlobal}
-use Rattle.language.specs.Judge.{total as sumOf}
 use Rattle.compile_macro.specs.Short.{short}
 use Rattle.compile_macro.specs.Right.{RootOk, okBodyTy, root-cells-known, root-marks-known, root-flows, proc-cells-known, proc-marks-known, proc-flows}
 

@@ -11,6 +11,8 @@ use lib.Signed.{mag}
 use mir.Syntax.{w32}
 use mir.Val.{SFits}
 use borrow.Author.Tests.{ltb-true}
+use Rattle.values.specs.Arithmetic.{isZero}
+use Rattle.language.specs.Program.{flatDecl, flatS, flatItems, flatArms, flatTarget, flatE, flatEs, inFields}
 use Rattle.words.specs.Choice.{if_then_else_}
 use Rattle.words.specs.Laws.{integer-back, word-below}
 use Rattle.values.specs.Types.{Ty, integer, logical, bits, reference}
@@ -19,8 +21,7 @@ use Rattle.values.specs.Values.{int, log, bit, ref, initial}
 use Rattle.language.specs.Tree.{Decl, declare, holding, Stmt, block, assign, when, choose, while, goto, assert, call, setLevel, select, Items, noItem, label, item, Arms, lastArm, arm, Target, toVariable, toField, Expr, number, truth, pattern, null, variable, invoke, field, make, operate1, operate2, conditional, fader, blockExpr, Exprs, noExpr, expr, Global, countArms}
 use Rattle.language.specs.Names.{blockOf, expressionOf}
 use Rattle.language.specs.Faults.{typeE, isTy}
-use Rattle.language.specs.Table.{Entry, entry, inLayout, nothing, flatDecl, flatS, flatItems, flatArms, flatTarget, flatE, flatEs}
-use Rattle.language.specs.Judge.{inFields}
+use Rattle.language.specs.Table.{Entry, entry, inLayout}
 use Rattle.values.specs.Ends.{caseIndex}
 use Rattle.bytecode.specs.Instructions.{Instr, end, push, load, store, operate, go, goUnless, return, getField, putField, readFader, takeHold, letHold, stop}
 use Rattle.bytecode.specs.Instructions.{call as callOp, make as makeOp, setLevel as setOp, assert as assertOp}
@@ -106,7 +107,7 @@ its-a e h = ltb-true (e .a) 65536 (halves (ltb (e .a) 65536) (ltb (mag (e .b)) 2
 
 its-group : (g : ℕ) → inLayout (entry 14 g (pos 0)) ≡ true → leb g 63 ≡ true
 unfolding inLayout
-its-group g h = halves (leb g 63) (nothing (pos 0)) h .0
+its-group g h = halves (leb g 63) (isZero (pos 0)) h .0
 
 small : (n : ℕ) → n < 100000 → SFits w32 (pos n)
 small n h = record { sfits = omega arith }

@@ -6,11 +6,11 @@ use Prim.Native.Nat.{ℕ, suc, _≤_}
 use native.Mathlib.Omega.{arith}
 use lib.ListN.{length}
 use Rattle.values.specs.Types.{Ty, sames}
-use Rattle.language.specs.Tree.{Typed, Global, Tree}
+use Rattle.language.specs.Tree.{Typed, Global, Tree, locals}
 use Rattle.language.specs.Tree.{Body as TreeBody, proper, function}
 use Rattle.language.specs.Names.{procedureOf}
 use Rattle.language.specs.Names.{results as resultsOf}
-use Rattle.language.specs.Limits.{bodyUsage, rootUsage, locals, holdsItems}
+use Rattle.language.specs.Limits.{bodyUsage, rootUsage, holdsItems}
 use Rattle.language.specs.Formed.{InLimits}
 use Rattle.bytecode.specs.Macro.{Body, Shape, shape, Macro}
 use Rattle.bytecode.specs.Instructions.{own, return, procedureAt}

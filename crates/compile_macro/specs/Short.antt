@@ -5,12 +5,12 @@ use mathlib.Core.Option.{some}
 use Prim.Native.Nat.{ℕ, suc, _+_, _*_, _≤_}
 use native.Mathlib.Omega.{arith}
 use lib.ListN.{length, getElem?}
-use Rattle.language.specs.Tree.{Typed, Decl, declare, holding, Global, local, class, procedure, Tree}
+use Rattle.language.specs.Program.{total as sumOf}
+use Rattle.language.specs.Tree.{Typed, Decl, declare, holding, Global, local, class, procedure, Tree, locals}
 use Rattle.language.specs.Tree.{Body as TreeBody, proper, function}
 use Rattle.language.specs.Names.{procedureOf, rootOf}
 use Rattle.language.specs.Faults.{sizeItems, sizeBody, sizeGlobal}
-use Rattle.language.specs.Judge.{total as sumOf}
-use Rattle.language.specs.Limits.{bodyUsage, rootUsage, locals, headHolds, holdsItems}
+use Rattle.language.specs.Limits.{bodyUsage, rootUsage, headHolds, holdsItems}
 use Rattle.bytecode.specs.Instructions.{own, root}
 use Rattle.compile_code.specs.Code.{at, after, At}
 use Rattle.compile_code.specs.Compile.{Around, inside, global, labels, scopesOf, passing, theLabels, opsItems, codeHead, codeItems, Proc, procsOf}

@@ -7,9 +7,8 @@ use native.Mathlib.Omega.{arith}
 use lib.Dec.{eqb}
 use Rattle.words.specs.Choice.{if_then_else_}
 use Rattle.values.specs.Types.{Ty}
-use Rattle.language.specs.Tree.{Typed, declare, holding, Global, local, class, procedure, Tree}
+use Rattle.language.specs.Tree.{Typed, declare, holding, Global, local, class, procedure, Tree, locals}
 use Rattle.language.specs.Names.{Sort, isVariable, isLabel, isClass, isField, isProcedure, Definition, types, results, definesHead, definesFields, definesGlobals, procedureOf, rootOf, Found, nowhere, found, firstOf, otherwise, across, lookup, definesTyped, definesItems}
-use Rattle.language.specs.Limits.{locals}
 use Rattle.bytecode.specs.Instructions.{Owner}
 use Rattle.loading.specs.Tests.{never}
 use Rattle.compile_code.specs.Compile.{Around, inside, labels, scopesOf, hasLabel}

@@ -6,10 +6,11 @@ use Prim.Native.Nat.{ℕ, zero, suc, _+_, _*_, _≤_, _<_}
 use lib.IntN.{pos}
 use lib.ListN.{length, getD, take}
 use lib.Seq.{sets}
+use Rattle.language.specs.Program.{flatS, flatItems, flatArms, flatE, flatEs, deepS, deepItems, deepArms, deepE, deepEs}
 use Rattle.values.specs.Types.{Ty, tyByte}
 use Rattle.language.specs.Tree.{Stmt, Expr, Items, Arms, lastArm, arm, Exprs, noExpr, Global, countItems, countArms, countExprs}
 use Rattle.language.specs.Tree.{expr as more}
-use Rattle.language.specs.Table.{Entry, entry, flatS, flatE, flatItems, flatArms, flatEs, deepS, deepE, deepItems, deepArms, deepEs}
+use Rattle.language.specs.Table.{Entry, entry}
 use Rattle.language.specs.Limits.{holdsS, holdsE, holdsItems, holdsArms, holdsEs, needS, needE, needItems, needArms, needEs}
 use Rattle.language.specs.Names.{Scope}
 use Rattle.programs.specs.Claims.{entriesOf}

@@ -5,10 +5,9 @@ use mathlib.Core.Option.{none, some}
 use Prim.Native.Nat.{ℕ}
 use lib.ListN.{getElem?}
 use Rattle.values.specs.Types.{Ty}
-use Rattle.language.specs.Tree.{Typed, Decl, declare, holding, Tree}
+use Rattle.language.specs.Tree.{Typed, Decl, declare, holding, Tree, locals}
 use Rattle.language.specs.Names.{Scope, procedureOf, rootOf}
 use Rattle.language.specs.Faults.{faults}
-use Rattle.language.specs.Limits.{locals}
 use Rattle.bytecode.specs.Instructions.{Owner, own}
 use Rattle.compile_code.specs.Compile.{Around, inside, global, held, labels, scopesOf, boundAt, Proc, procsOf}
 use Rattle.compile_code.specs.Encode.{startOfRoot, aroundBody}

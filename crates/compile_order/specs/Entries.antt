@@ -9,14 +9,13 @@ use lib.Dec.{leb}
 use lib.IntN.{pos}
 use lib.ListN.{length, getElem?, length-append}
 use borrow.Author.Tests.{leb-true}
+use Rattle.language.specs.Program.{flatTyped, flatDecl, flatItems, resultCode, flatBody, flatGlobal, flatHead, flatten, total, inFields}
 use Rattle.words.specs.Lists.{all}
 use Rattle.values.specs.Types.{integer, logical, bits, reference}
-use Rattle.language.specs.Tree.{Body, proper, function, Global, local, class, procedure, Tree}
+use Rattle.language.specs.Tree.{Body, proper, function, Global, local, class, procedure, Tree, locals}
 use Rattle.language.specs.Names.{results}
 use Rattle.language.specs.Faults.{sizeItems, sizeGlobal}
-use Rattle.language.specs.Limits.{locals}
-use Rattle.language.specs.Table.{Entry, entry, inLayout, flatTyped, flatDecl, flatItems, flatBody, flatGlobal, flatHead, flatten, resultCode, classCount, procedureCount}
-use Rattle.language.specs.Judge.{total, inFields}
+use Rattle.language.specs.Table.{Entry, entry, inLayout, classCount, procedureCount}
 use Rattle.loading.specs.Terms.{Each, Named}
 use Rattle.loading.specs.Tests.{never-some, same-some, halves}
 use Rattle.heads.specs.Trees.{length-Items, length-Global}

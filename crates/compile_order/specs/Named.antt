@@ -4,9 +4,8 @@ use mathlib.Core.List.{List, [], _∷_}
 use mathlib.Core.Option.{some}
 use Prim.Native.Nat.{ℕ}
 use lib.ListN.{getElem?}
-use Rattle.language.specs.Tree.{Body, proper, function, Tree}
+use Rattle.language.specs.Tree.{Body, proper, function, Tree, locals}
 use Rattle.language.specs.Names.{procedureOf, rootOf}
-use Rattle.language.specs.Limits.{locals}
 use Rattle.language.specs.Faults.{faults}
 use Rattle.compile_code.specs.Compile.{Around, labels, scopesOf, Proc, procsOf}
 use Rattle.compile_code.specs.Encode.{startOfRoot, aroundBody}

@@ -4,10 +4,11 @@ use mathlib.Core.Path.{_≡_, subst}
 use mathlib.Core.List.{List}
 use Prim.Native.Nat.{ℕ, _≤_}
 use lib.ListN.{length}
+use Rattle.language.specs.Program.{Program}
 use Rattle.words.specs.Laws.{Bytes}
 use Rattle.values.specs.Ends.{accepted}
 use Rattle.language.specs.Tree.{Tree}
-use Rattle.language.specs.Judge.{Program, judgeTable}
+use Rattle.language.specs.Judge.{judgeTable}
 use Rattle.bytecode.specs.Rules.{judgeMacro}
 use Rattle.programs.specs.Programs.{accepted-program}
 use Rattle.compile_code.specs.Encode.{compiled, macroOf}

@@ -6,10 +6,9 @@ use Prim.Native.Nat.{ℕ, suc}
 use native.Mathlib.Omega.{arith}
 use lib.ListN.{length, getElem?, take, length-append}
 use Rattle.values.specs.Types.{Ty}
-use Rattle.language.specs.Tree.{Typed, Decl, declare, holding, Body, proper, function, Global, Tree}
+use Rattle.language.specs.Tree.{Typed, Decl, declare, holding, Body, proper, function, Global, Tree, locals}
 use Rattle.language.specs.Names.{Scope, types}
 use Rattle.language.specs.Faults.{faults}
-use Rattle.language.specs.Limits.{locals}
 use Rattle.bytecode.specs.Macro.{Macro}
 use Rattle.bytecode.specs.Instructions.{Owner, own, root, bodyAt, cellsOf}
 use Rattle.compile_code.specs.Code.{Code, At, at, skip, after, cellsIn}

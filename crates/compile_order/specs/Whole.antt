@@ -2,9 +2,9 @@
 use mathlib.Core.List.{List}
 use Prim.Native.Nat.{ℕ}
 use native.Mathlib.Omega.{arith}
+use Rattle.language.specs.Program.{Program}
 use Rattle.language.specs.Limits.{bodyUsage}
 use Rattle.language.specs.Formed.{InLimits}
-use Rattle.language.specs.Judge.{Program}
 use Rattle.programs.specs.Trees.{formed-faultless}
 use Rattle.compile_code.specs.Encode.{compiled}
 use Rattle.compile_macro.specs.Built.{InOrder}

@@ -6,9 +6,9 @@ use Prim.Native.Nat.{ℕ, suc, _+_, _≤_, _<_}
 use lib.Dec.{eqb}
 use lib.ListN.{length, getD}
 use borrow.Author.Tests.{lt-ltb}
+use Rattle.language.specs.Program.{flatDecl, flatItems}
 use Rattle.values.specs.Types.{Ty}
 use Rattle.language.specs.Tree.{Decl, Items, countItems}
-use Rattle.language.specs.Table.{flatDecl, flatItems}
 use Rattle.language.specs.Names.{definesHead, definesItems, Scope, nowhere, found, firstOf, otherwise, lookup}
 use Rattle.language.specs.Names as names
 use Rattle.programs.specs.Claims.{entriesOf}

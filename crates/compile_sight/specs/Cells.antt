@@ -4,8 +4,8 @@ use mathlib.Core.List.{List, [], _∷_, _++_, map}
 use Prim.Native.Nat.{_+_}
 use native.Mathlib.Omega.{arith}
 use lib.ListN.{length}
+use Rattle.language.specs.Program.{flatTyped, flatDecl, flatS, flatItems, flatArms, flatTarget, flatE, flatEs}
 use Rattle.language.specs.Tree.{Typed, Decl, declare, holding, Stmt, block, assign, when, choose, while, goto, assert, call, setLevel, select, Items, noItem, label, item, Arms, lastArm, arm, Target, toVariable, toField, Expr, number, truth, pattern, null, variable, invoke, field, make, operate1, operate2, conditional, fader, blockExpr, Exprs, noExpr, expr}
-use Rattle.language.specs.Table.{flatTyped, flatDecl, flatS, flatItems, flatArms, flatTarget, flatE, flatEs}
 use Rattle.language.specs.Limits.{headCells, cellsS, cellsItems, cellsArms, cellsTarget, cellsE, cellsEs}
 use Rattle.compile_known.specs.Numbers.{cellsWithin}
 use Rattle.compile_sight.specs.Lengths.{cells-append}

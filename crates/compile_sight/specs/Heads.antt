@@ -11,12 +11,13 @@ use lib.Dec.{eqb, leb}
 use lib.IntN.{pos}
 use lib.ListN.{length, getD}
 use borrow.Author.Tests.{eqb-true, eq-eqb, ne-eqb, le-leb, leb-true}
+use Rattle.language.specs.Program.{flatTyped, flatDecl}
 use Rattle.words.specs.Lists.{among}
 use Rattle.words.specs.Options.{isSome}
 use Rattle.words.specs.Choice.{if_then_else_}
 use Rattle.values.specs.Types.{Ty, integer, logical, bits, reference, tyCode, tyByte}
 use Rattle.language.specs.Tree.{Typed, Decl, declare, holding, Items, noItem, label, item, Global}
-use Rattle.language.specs.Table.{Entry, entry, inLayout, flatTyped, flatDecl}
+use Rattle.language.specs.Table.{Entry, entry, inLayout}
 use Rattle.language.specs.Names.{isVariable, isLabel, isClass, definesTyped, definesHead, definesItems, Scope, blockOf, expressionOf, nowhere, found, firstOf, across, lookup}
 use Rattle.language.specs.Names as names
 use Rattle.language.specs.Faults.{sizeS}

@@ -12,14 +12,15 @@ use lib.Dec.{eqb, leb}
 use lib.IntN.{pos}
 use lib.ListN.{length, getD, length-append}
 use borrow.Author.Tests.{leb-true}
+use Rattle.language.specs.Program.{flatTyped, flatDecl, resultCode, flatBody, flatGlobal, flatHead}
 use Rattle.words.specs.Choice.{if_then_else_}
 use Rattle.values.specs.Types.{Ty, integer, logical, bits, reference, tyCode, tyByte}
-use Rattle.language.specs.Tree.{Typed, declare, holding, Body, proper, function, Global, local, class, procedure}
-use Rattle.language.specs.Table.{entry, inLayout, flatTyped, flatDecl, flatBody, flatGlobal, flatHead, resultCode}
+use Rattle.language.specs.Tree.{Typed, declare, holding, Body, proper, function, Global, local, class, procedure, locals}
+use Rattle.language.specs.Table.{entry, inLayout}
 use Rattle.language.specs.Names.{Sort, isVariable, isLabel, isClass, isField, isProcedure, types, results, definesHead, definesFields, definesGlobals, Scope, nowhere, found, firstOf, otherwise}
 use Rattle.language.specs.Names as names
 use Rattle.language.specs.Faults.{namesHead, namesTyped, sizeBody, sizeGlobal}
-use Rattle.language.specs.Limits.{headCells, locals}
+use Rattle.language.specs.Limits.{headCells}
 use Rattle.programs.specs.Basics.{both-right}
 use Rattle.programs.specs.Claims.{entriesOf}
 use Rattle.spans.specs.Stands.{Stands, stands-left, stands-right}

@@ -7,15 +7,15 @@ use native.Mathlib.Omega.{arith}
 use native.Mathlib.Nat.{zero-add}
 use lib.Dec.{eqb}
 use lib.ListN.{length}
+use Rattle.language.specs.Program.{flatItems, resultCode, flatHead, flatten, total}
 use Rattle.words.specs.Choice.{if_then_else_}
 use Rattle.values.specs.Types.{Ty, tyByte}
-use Rattle.language.specs.Tree.{Decl, declare, holding, Global, local, class, procedure, Tree, countItems}
-use Rattle.language.specs.Table.{flatItems, flatHead, flatten, resultCode, classCount, procedureCount}
+use Rattle.language.specs.Tree.{Decl, declare, holding, Global, local, class, procedure, Tree, countItems, locals}
+use Rattle.language.specs.Table.{classCount, procedureCount}
 use Rattle.language.specs.Names.{Sort, isVariable, isLabel, isClass, isField, isProcedure, definesItems, definesGlobals, Scope, rootOf, found, firstOf, lookup}
 use Rattle.language.specs.Names as names
 use Rattle.language.specs.Faults.{faults, sizeGlobal}
-use Rattle.language.specs.Limits.{headCells, locals}
-use Rattle.language.specs.Judge.{total}
+use Rattle.language.specs.Limits.{headCells}
 use Rattle.programs.specs.Claims.{entriesOf, Readable}
 use Rattle.spans.specs.Stands.{Stands, stands-left, stands-right, stands-tail}
 use Rattle.heads.specs.Items.{labelsFrom, globalsFrom, rootItems}

@@ -7,12 +7,13 @@ use Prim.Native.Nat.{ℕ, _+_, _≤_}
 use native.Mathlib.Omega.{arith}
 use native.Mathlib.Nat.{add-zero}
 use lib.ListN.{length}
+use Rattle.language.specs.Program.{flatTyped, flatDecl, flatS, flatItems, flatE, flatHead, flatten}
 use Rattle.values.specs.Types.{Ty}
-use Rattle.language.specs.Tree.{Typed, Decl, declare, block, Expr, blockExpr, Items, Tree, countItems}
-use Rattle.language.specs.Table.{Entry, flatTyped, flatDecl, flatS, flatItems, flatE, flatHead, flatten}
+use Rattle.language.specs.Tree.{Typed, Decl, declare, block, Expr, blockExpr, Items, Tree, countItems, locals}
+use Rattle.language.specs.Table.{Entry}
 use Rattle.language.specs.Names.{definesTyped, blockOf, expressionOf, procedureOf, rootOf, across, lookup}
 use Rattle.language.specs.Faults.{faults}
-use Rattle.language.specs.Limits.{headCells, locals}
+use Rattle.language.specs.Limits.{headCells}
 use Rattle.bytecode.specs.Instructions.{own}
 use Rattle.language.specs.Names as names
 use Rattle.programs.specs.Claims.{entriesOf, Readable}

@@ -11,9 +11,8 @@ use lib.ListN.{length, getElem?}
 use Rattle.values.specs.Types.{Ty}
 use Rattle.values.specs.Values.{freshAll}
 use Rattle.values.specs.Trace.{Item}
-use Rattle.language.specs.Tree.{Typed, Tree}
+use Rattle.language.specs.Tree.{Typed, Tree, locals}
 use Rattle.language.specs.Names.{rootOf}
-use Rattle.language.specs.Limits.{locals}
 use Rattle.language.specs.Execute.{Result, done, jump, later, wrong, Ran, finished, going, illFormed, ran, execute, Procedure, procedureIn, classIn}
 use Rattle.language.specs.Execute.{ended as over}
 use Rattle.bytecode.specs.Instructions.{own, end}

@@ -4,10 +4,10 @@ use mathlib.Core.List.{List}
 use Prim.Native.Nat.{ℕ, _+_, _-_, _*_, _≤_, _<_}
 use native.Mathlib.Omega.{arith}
 use lib.ListN.{length, getD, take, set, length-drop, length-set}
+use Rattle.language.specs.Program.{flatE}
 use Rattle.values.specs.Operators.{Binary, binaryCode}
 use Rattle.words.specs.Numbers.{halfAt}
 use Rattle.language.specs.Tree.{Stmt, while, Expr, conditional, operate2}
-use Rattle.language.specs.Table.{flatE}
 use Rattle.language.specs.Faults.{typeE, isTy}
 use Rattle.shapes.specs.Steps.{Passes}
 use Rattle.compile_code.specs.Code.{At, skip, after}

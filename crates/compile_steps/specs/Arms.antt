@@ -8,11 +8,12 @@ use native.Mathlib.Nat.{sub-zero}
 use native.Mathlib.Numerals.{add-one}
 use lib.IntN.{pos}
 use lib.ListN.{length, getD, take}
+use Rattle.language.specs.Program.{flatS, flatArms, deepS, deepArms}
 use Rattle.values.specs.Operators.{binary, equal}
 use Rattle.values.specs.Values.{int}
 use Rattle.bytecode.specs.Instructions.{Instr, own, load, push, operate, go, goUnless}
 use Rattle.language.specs.Tree.{Stmt, Arms, lastArm, arm, countArms}
-use Rattle.language.specs.Table.{Entry, flatS, flatArms, deepS, deepArms}
+use Rattle.language.specs.Table.{Entry}
 use Rattle.language.specs.Limits.{holdsS, holdsArms, needS, needArms}
 use Rattle.programs.specs.Claims.{entriesOf}
 use Rattle.scopes.specs.Environment.{envOf}

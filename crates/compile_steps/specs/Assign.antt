@@ -6,10 +6,11 @@ use native.Mathlib.Omega.{arith}
 use lib.IntN.{pos}
 use lib.ListN.{length, getD, set, length-set}
 use lib.Seq.{sets}
+use Rattle.language.specs.Program.{flatS, flatE, deepS}
 use Rattle.words.specs.Numbers.{halfAt}
 use Rattle.bytecode.specs.Instructions.{Instr, putField}
 use Rattle.language.specs.Tree.{assign, Target, toVariable, toField, Expr, variable, field}
-use Rattle.language.specs.Table.{entry, flatS, flatE, deepS}
+use Rattle.language.specs.Table.{entry}
 use Rattle.language.specs.Limits.{holdsS, needS}
 use Rattle.language.specs.Names.{isVariable, isField}
 use Rattle.programs.specs.Claims.{entriesOf}

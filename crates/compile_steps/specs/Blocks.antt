@@ -5,9 +5,9 @@ use Prim.Native.Nat.{ℕ, suc, _+_, _-_, _*_, _<_}
 use native.Mathlib.Omega.{arith}
 use lib.ListN.{length, set, length-append}
 use lib.Seq.{sets}
+use Rattle.language.specs.Program.{flatDecl, flatS, flatItems, deepS}
 use Rattle.words.specs.Numbers.{halfAt, wordAt}
 use Rattle.language.specs.Tree.{Decl, block, Items, countItems}
-use Rattle.language.specs.Table.{flatDecl, flatS, flatItems, deepS}
 use Rattle.language.specs.Limits.{holdsS, needS}
 use Rattle.language.specs.Names.{blockOf}
 use Rattle.scopes.specs.Environment.{opened}

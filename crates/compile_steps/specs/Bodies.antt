@@ -5,10 +5,11 @@ use Prim.Native.Nat.{ℕ, suc, _+_, _-_, _*_, _/_, _≤_, _<_}
 use native.Mathlib.Omega.{arith}
 use lib.ListN.{length, drop, set, length-append}
 use lib.Seq.{sets}
+use Rattle.language.specs.Program.{flatDecl, flatItems, flatE, deepE}
 use Rattle.words.specs.Numbers.{halfAt, wordAt}
 use Rattle.values.specs.Types.{tyByte}
 use Rattle.language.specs.Tree.{Decl, Items, Expr, blockExpr, countItems}
-use Rattle.language.specs.Table.{Entry, flatDecl, flatItems, flatE, deepE}
+use Rattle.language.specs.Table.{Entry}
 use Rattle.language.specs.Limits.{holdsE, needE}
 use Rattle.language.specs.Names.{Scope, expressionOf}
 use Rattle.programs.specs.Claims.{entriesOf}

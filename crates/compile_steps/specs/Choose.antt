@@ -4,8 +4,8 @@ use mathlib.Core.List.{List}
 use Prim.Native.Nat.{ℕ, _+_, _-_, _*_, _<_}
 use native.Mathlib.Omega.{arith}
 use lib.ListN.{length, getD, set, take}
+use Rattle.language.specs.Program.{flatS, flatE}
 use Rattle.language.specs.Tree.{Stmt, Expr, choose}
-use Rattle.language.specs.Table.{flatS, flatE}
 use Rattle.shapes.specs.Steps.{Passes}
 use Rattle.compile_code.specs.Code.{At, skip, after}
 use Rattle.compile_code.specs.Compile.{codeS}

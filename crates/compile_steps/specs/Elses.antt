@@ -5,11 +5,11 @@ use Prim.Native.Nat.{ℕ, suc, _+_, _-_, _*_, _<_}
 use native.Mathlib.Omega.{arith}
 use lib.ListN.{length, getD, take, set, length-append}
 use lib.Seq.{getD-set-same}
+use Rattle.language.specs.Program.{flatS, flatE, deepS, deepE}
 use Rattle.language.specs.Faults.{typeE}
 use Rattle.values.specs.Types.{Ty, tyByte}
 use Rattle.bytecode.specs.Instructions.{Instr, go, goUnless}
 use Rattle.language.specs.Tree.{Stmt, choose, Expr, conditional}
-use Rattle.language.specs.Table.{flatS, flatE, deepS, deepE}
 use Rattle.language.specs.Limits.{holdsS, holdsE, needS, needE}
 use Rattle.compile_code.specs.Code.{Code, nil, op, mark, _▸_, At, skip, after}
 use Rattle.compile_code.specs.Compile.{found, codeS, codeE, tyE}

@@ -7,12 +7,13 @@ use native.Mathlib.Nat.{add-zero}
 use lib.ListN.{length, getD, drop}
 use lib.Seq.{drop-drop}
 use borrow.Author.Tests.{le-ltb}
+use Rattle.language.specs.Program.{flatTyped, flatDecl}
 use Rattle.words.specs.Numbers.{halfAt}
 use Rattle.values.specs.Types.{Ty, integer, logical, bits, reference, tyByte}
 use Rattle.values.specs.Values.{initial}
 use Rattle.bytecode.specs.Instructions.{own, push, store, takeHold}
 use Rattle.language.specs.Tree.{Decl, declare, holding}
-use Rattle.language.specs.Table.{Entry, flatTyped, flatDecl}
+use Rattle.language.specs.Table.{Entry}
 use Rattle.programs.specs.Claims.{entriesOf}
 use Rattle.spans.specs.Stands.{Stands, fields, stands-tail, half-part}
 use Rattle.compile_code.specs.Code.{Code, op, cell, At, at, skip}

@@ -5,8 +5,8 @@ use Prim.Native.Nat.{ℕ, suc, _+_, _*_, _/_, _≤_}
 use native.Mathlib.Omega.{arith}
 use lib.ListN.{length, drop, length-append, length-drop}
 use lib.Seq.{sets, length-sets}
+use Rattle.language.specs.Program.{flatDecl, flatItems}
 use Rattle.language.specs.Tree.{Decl, declare, holding, Items, countItems}
-use Rattle.language.specs.Table.{flatDecl, flatItems}
 use Rattle.programs.specs.Claims.{entriesOf}
 use Rattle.scopes.specs.Environment.{Item, item, envOf, addAll, Grown}
 use Rattle.scopes.specs.Laws.{fewer}

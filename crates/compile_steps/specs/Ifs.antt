@@ -4,9 +4,9 @@ use mathlib.Core.List.{List, [], _++_}
 use Prim.Native.Nat.{ℕ, suc, _+_, _-_, _*_, _<_}
 use native.Mathlib.Omega.{arith}
 use lib.ListN.{length, getD, take, set, length-append}
+use Rattle.language.specs.Program.{flatS, flatE, deepS}
 use Rattle.bytecode.specs.Instructions.{Instr, go, goUnless}
 use Rattle.language.specs.Tree.{Stmt, when, while, Expr}
-use Rattle.language.specs.Table.{flatS, flatE, deepS}
 use Rattle.language.specs.Limits.{holdsS, needS}
 use Rattle.compile_code.specs.Code.{Code, nil, op, mark, _▸_, At, skip, after}
 use Rattle.compile_code.specs.Compile.{found, codeS, codeE}

@@ -9,6 +9,7 @@ use native.Mathlib.Nat.{add-zero}
 use lib.IntN.{ℤ, pos}
 use lib.ListN.{length, getD, take, set}
 use lib.Seq.{sets, getD-set-same}
+use Rattle.language.specs.Program.{flag, flatS, flatE}
 use Rattle.words.specs.Choice.{if_then_else_}
 use Rattle.words.specs.Numbers.{halfAt, wordAt, wordOf, integerOf}
 use Rattle.words.specs.Laws.{two, four, number-below, word-back}
@@ -16,7 +17,7 @@ use Rattle.values.specs.Types.{Ty, tyByte, integer, logical, bits, reference}
 use Rattle.values.specs.Values.{int, log, bit, ref, valueWord}
 use Rattle.bytecode.specs.Instructions.{Instr, push, go, letHold}
 use Rattle.language.specs.Tree.{Stmt, block, assign, when, choose, while, goto, assert, call, setLevel, select, Expr, number, truth, pattern, null, variable, invoke, field, make, operate1, operate2, conditional, fader, blockExpr, Global}
-use Rattle.language.specs.Table.{Entry, entry, flag, flatS, flatE}
+use Rattle.language.specs.Table.{Entry, entry}
 use Rattle.language.specs.Faults.{typeE}
 use Rattle.language.specs.Limits.{needS, needE}
 use Rattle.language.specs.Names.{Sort, isVariable, isLabel, Scope, nowhere, found, lookup}

@@ -7,10 +7,11 @@ use native.Mathlib.Nat.{add-zero, sub-zero}
 use lib.IntN.{pos}
 use lib.ListN.{length, getD, length-append}
 use lib.Seq.{sets}
+use Rattle.language.specs.Program.{flatS, flatItems, flatE, flatEs, deepItems, deepEs}
 use Rattle.values.specs.Types.{Ty}
 use Rattle.language.specs.Tree.{Items, noItem, label, item, Expr, Exprs, noExpr, countItems, countExprs}
 use Rattle.language.specs.Tree.{expr as more}
-use Rattle.language.specs.Table.{entry, flatS, flatItems, flatE, flatEs, deepItems, deepEs}
+use Rattle.language.specs.Table.{entry}
 use Rattle.language.specs.Limits.{holdsItems, holdsEs, needItems}
 use Rattle.shapes.specs.Steps.{Passes, table-next}
 use Rattle.heads.specs.Defines.{bulk}

@@ -6,13 +6,14 @@ use Prim.Native.Nat.{ℕ, zero, suc, _+_, _-_, _*_, _≤_, _<_}
 use native.Mathlib.Omega.{arith}
 use lib.ListN.{length, getD, take, set, length-set, length-append}
 use lib.Seq.{sets, getD-set-same}
+use Rattle.language.specs.Program.{flatS, flatE, deepS, deepE}
 use Rattle.values.specs.Types.{Ty, tyByte, logical}
 use Rattle.bytecode.specs.Instructions.{Instr, go, goUnless}
 use Rattle.language.specs.Tree.{Expr, operate2, Global}
 use Rattle.language.specs.Faults.{typeE, isTy}
 use mathlib.Core.Option.{Option, none, some}
 use Rattle.values.specs.Operators.{Binary, binary, binaryCode, opType}
-use Rattle.language.specs.Table.{Entry, flatS, flatE, deepS, deepE}
+use Rattle.language.specs.Table.{Entry}
 use Rattle.language.specs.Limits.{holdsS, holdsE, needS, needE}
 use Rattle.compile_code.specs.Code.{Code, nil, op, mark, _▸_, At, skip, after}
 use Rattle.compile_code.specs.Compile.{Around, scopesOf, found, codeS, codeE, tyE, tyIn, Way, plainly, marked, ifTrue, ifFalse, wayOf, codeWay, orInteger}

@@ -6,13 +6,14 @@ use Prim.Native.Nat.{ℕ, zero, suc, _+_, _-_, _*_, _/_, _≤_, _<_}
 use native.Mathlib.Omega.{arith}
 use lib.ListN.{length, getD, take, drop, set, length-set, length-append}
 use lib.Seq.{sets, take-take, take-suc, take-set-le, length-sets, set-comm}
+use Rattle.language.specs.Program.{deepS}
 use Rattle.values.specs.Types.{Ty, tyByte}
 use Rattle.words.specs.Numbers.{halfAt, wordAt}
 use Rattle.bytecode.specs.Macro.{Shape, shape}
 use Rattle.bytecode.specs.Instructions.{Instr}
 use Rattle.language.specs.Tree.{Stmt, block, assign, when, choose, while, goto, assert, call, setLevel, select, Items, noItem, label, item, Expr, number, truth, pattern, null, variable, invoke, field, make, operate1, operate2, conditional, fader, blockExpr, Exprs, noExpr}
 use Rattle.language.specs.Tree.{expr as more}
-use Rattle.language.specs.Table.{Entry, entry, deepS}
+use Rattle.language.specs.Table.{Entry, entry}
 use Rattle.language.specs.Limits.{needS, needItems, needE, needEs}
 use Rattle.programs.specs.Claims.{entriesOf}
 use Rattle.scopes.specs.Environment.{envOf}

@@ -6,12 +6,13 @@ use Prim.Native.Nat.{ℕ, suc, _+_, _-_, _*_, _≤_, _<_}
 use native.Mathlib.Omega.{arith}
 use lib.IntN.{pos}
 use lib.ListN.{length, getD, set, take, length-set, length-append}
+use Rattle.language.specs.Program.{flatS, flatArms, flatE, deepS}
 use Rattle.words.specs.Numbers.{halfAt}
 use Rattle.values.specs.Types.{Ty, integer}
 use Rattle.values.specs.Ends.{caseIndex}
 use Rattle.bytecode.specs.Instructions.{own, store, stop}
 use Rattle.language.specs.Tree.{Expr, Arms, lastArm, arm, select, countArms, Global}
-use Rattle.language.specs.Table.{entry, flatS, flatE, flatArms, deepS}
+use Rattle.language.specs.Table.{entry}
 use Rattle.language.specs.Limits.{holdsS, needS}
 use Rattle.shapes.specs.Steps.{head-of, table-next, Passes}
 use Rattle.compile_simulation.specs.Sizes.{lenArms}

@@ -5,10 +5,11 @@ use Prim.Native.Nat.{ℕ, _+_, _-_, _*_, _≤_, _<_}
 use native.Mathlib.Omega.{arith}
 use lib.ListN.{length, getD, set, take, length-append}
 use lib.Seq.{sets, length-sets}
+use Rattle.language.specs.Program.{flatE}
 use Rattle.values.specs.Types.{tyByte}
 use Rattle.bytecode.specs.Instructions.{Instr}
 use Rattle.language.specs.Tree.{Expr}
-use Rattle.language.specs.Table.{Entry, flatE}
+use Rattle.language.specs.Table.{Entry}
 use Rattle.heads.specs.Trees.{length-S, length-E}
 use Rattle.scopes.specs.Environment.{envOf}
 use Rattle.shapes.specs.Walk.{Table}

@@ -7,6 +7,7 @@ use native.Mathlib.Omega.{arith}
 use native.Mathlib.Nat.{add-zero}
 use lib.IntN.{pos}
 use lib.ListN.{length, getD, take, set, length-reverse}
+use Rattle.language.specs.Program.{flatEs, deepS, deepEs}
 use Rattle.words.specs.Options.{orElse}
 use Rattle.heads.specs.Trees.{length-map}
 use lib.Seq.{getD-set-same, take-suc, getD-at, length-take-le}
@@ -21,7 +22,7 @@ use Rattle.language.specs.Tree.{expr as more}
 use Rattle.compile_names.specs.Types.{took}
 use Rattle.language.specs.Tree.{block, assign, when, choose, while, goto, assert, call, setLevel, select, Expr, number, truth, pattern, null, variable, invoke, field, make, operate1, operate2}
 use Rattle.language.specs.Tree.{conditional, fader, blockExpr, Global}
-use Rattle.language.specs.Table.{Entry, flatEs, deepS, deepEs}
+use Rattle.language.specs.Table.{Entry}
 use Rattle.language.specs.Faults.{typeE}
 use Rattle.language.specs.Limits.{holdsS, holdsEs, needS, needEs}
 use Rattle.language.specs.Names.{Scope}

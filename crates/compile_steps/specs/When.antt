@@ -4,8 +4,8 @@ use mathlib.Core.List.{List}
 use Prim.Native.Nat.{ℕ, _+_, _-_, _*_, _<_}
 use native.Mathlib.Omega.{arith}
 use lib.ListN.{length, getD, set, take}
+use Rattle.language.specs.Program.{flatE}
 use Rattle.language.specs.Tree.{Stmt, Expr, when}
-use Rattle.language.specs.Table.{flatE}
 use Rattle.shapes.specs.Steps.{Passes}
 use Rattle.compile_pen.specs.declared.Pen.{Pen}
 use Rattle.compile_pen.specs.Ink.{Fits, moved, penShaped, inkOp, inkShape}

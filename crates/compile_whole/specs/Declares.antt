@@ -10,13 +10,13 @@ use lib.Dec.{eqb}
 use lib.ListN.{length, drop, getD, length-drop}
 use lib.Seq.{take-all}
 use borrow.Author.Tests.{le-ltb}
+use Rattle.language.specs.Program.{flatTyped, flatDecl, flatGlobal}
 use Rattle.words.specs.Choice.{if_then_else_}
 use Rattle.words.specs.Numbers.{halfAt}
 use Rattle.values.specs.Types.{Ty, integer, logical, bits, reference, tyByte}
 use Rattle.values.specs.Values.{initial}
-use Rattle.language.specs.Tree.{Typed, declare, holding, Global, local, class, procedure, Tree}
-use Rattle.language.specs.Table.{flatTyped, flatDecl, flatGlobal}
-use Rattle.language.specs.Limits.{locals, headCells, headHolds}
+use Rattle.language.specs.Tree.{Typed, declare, holding, Global, local, class, procedure, Tree, locals}
+use Rattle.language.specs.Limits.{headCells, headHolds}
 use Rattle.programs.specs.Claims.{entriesOf}
 use Rattle.heads.specs.Trees.{length-Global}
 use Rattle.spans.specs.Stands.{Stands}

@@ -5,8 +5,8 @@ use Prim.Native.Nat.{ℕ, suc, _+_, _≤_}
 use native.Mathlib.Omega.{arith}
 use lib.ListN.{length, getD, set, length-append, length-set}
 use lib.Seq.{sets, length-sets, getD-set-same}
+use Rattle.language.specs.Program.{flatItems, flatGlobal, flatHead}
 use Rattle.language.specs.Tree.{Typed, Body, proper, function, Global, local, class, procedure, Tree}
-use Rattle.language.specs.Table.{flatItems, flatGlobal, flatHead}
 use Rattle.language.specs.Faults.{sizeBody, sizeGlobal}
 use Rattle.heads.specs.Trees.{length-Global, length-Items}
 use Rattle.compile_code.specs.Code.{At, at, after}

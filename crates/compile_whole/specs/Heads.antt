@@ -2,8 +2,8 @@
 use mathlib.Core.Path.{_≡_, ap, _∙_}
 use mathlib.Core.List.{List, [], _∷_}
 use Prim.Native.Nat.{ℕ}
-use Rattle.language.specs.Tree.{Tree}
-use Rattle.language.specs.Limits.{headHolds, locals}
+use Rattle.language.specs.Tree.{Tree, locals}
+use Rattle.language.specs.Limits.{headHolds}
 use Rattle.bytecode.specs.Instructions.{own, end}
 use Rattle.compile_code.specs.Code.{Code, op, At, at}
 use Rattle.compile_code.specs.Compile.{Around, global, labels, codeHead, codeItems}

@@ -6,10 +6,10 @@ use Prim.Native.Nat.{ℕ, suc, _+_, _-_, _*_, _/_, _≤_, _<_}
 use native.Mathlib.Omega.{arith}
 use lib.ListN.{length, drop, getD, length-drop}
 use lib.Seq.{take-all}
+use Rattle.language.specs.Program.{flatTyped, flatDecl, flatGlobal, deepGlobals, nesting}
 use Rattle.words.specs.Numbers.{halfAt}
 use Rattle.language.specs.Tree.{Typed, Body, Global, local, class, procedure, Tree}
 use Rattle.language.specs.Tree.{declare, holding}
-use Rattle.language.specs.Table.{flatTyped, flatDecl, flatGlobal, deepGlobals, nesting}
 use Rattle.language.specs.Names.{rootOf}
 use Rattle.language.specs.Faults.{sizeGlobal}
 use Rattle.language.specs.Limits.{bodyUsage}

@@ -4,10 +4,10 @@ use mathlib.Core.List.{List, [], _∷_, _++_, map}
 use Prim.Native.Nat.{ℕ, suc, _+_}
 use native.Mathlib.Omega.{arith}
 use lib.ListN.{length, getD, length-append}
-use Rattle.language.specs.Tree.{Typed, Decl, declare, holding, Body, Global, local, class, procedure, Tree}
-use Rattle.language.specs.Table.{flatTyped, flatDecl, flatItems, flatBody, flatHead, flatGlobal}
+use Rattle.language.specs.Program.{flatTyped, flatDecl, flatItems, flatBody, flatGlobal, flatHead}
+use Rattle.language.specs.Tree.{Typed, Decl, declare, holding, Body, Global, local, class, procedure, Tree, locals}
 use Rattle.language.specs.Faults.{sizeGlobal}
-use Rattle.language.specs.Limits.{locals, headCells}
+use Rattle.language.specs.Limits.{headCells}
 use Rattle.heads.specs.Trees.{length-map, length-Body, length-Global}
 use Rattle.compile_code.specs.Compile.{classesOf, classNames}
 use Rattle.compile_known.specs.Numbers.{cellsOf, numberOf, numbersFrom, numbersFields, numbersGlobals, numbersOf}

@@ -5,9 +5,9 @@ use Prim.Native.Nat.{ℕ, _+_, _*_, _/_, _%_, _≤_, _<_}
 use native.Mathlib.Omega.{arith}
 use lib.ListN.{length, set, length-set}
 use lib.Seq.{sets}
+use Rattle.language.specs.Program.{resultCode}
 use Rattle.words.specs.Numbers.{wordAt}
 use Rattle.language.specs.Tree.{Typed, Stmt, Expr, Body, proper, function, Tree}
-use Rattle.language.specs.Table.{resultCode}
 use Rattle.scopes.specs.Laws.{fewer}
 use Rattle.shapes.specs.Steps.{below}
 use Rattle.operands.specs.Types.{code-some}

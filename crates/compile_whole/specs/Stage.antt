@@ -7,11 +7,11 @@ use native.Mathlib.Omega.{arith}
 use native.Mathlib.Nat.{add-assoc}
 use lib.Dec.{eqb}
 use lib.ListN.{length, drop, length-append}
-use Rattle.language.specs.Tree.{Typed, Decl, declare, holding, Body, proper, function, Global, procedure, Tree, countItems}
-use Rattle.language.specs.Table.{flatTyped, flatS, flatItems, flatBody, flatHead, flatGlobal, flatten, deepGlobal, nesting, resultCode}
+use Rattle.language.specs.Program.{flatTyped, flatS, flatItems, resultCode, flatBody, flatGlobal, flatHead, flatten, deepGlobal, nesting}
+use Rattle.language.specs.Tree.{Typed, Decl, declare, holding, Body, proper, function, Global, procedure, Tree, countItems, locals}
 use Rattle.language.specs.Names.{Scope, procedureOf, rootOf}
 use Rattle.language.specs.Faults.{faults}
-use Rattle.language.specs.Limits.{bodyUsage, locals, headCells, headHolds}
+use Rattle.language.specs.Limits.{bodyUsage, headCells, headHolds}
 use Rattle.language.specs.Formed.{InLimits, KeepsLimits}
 use Rattle.words.specs.Choice.{if_then_else_}
 use Rattle.words.specs.Numbers.{wordAt}

@@ -6,10 +6,10 @@ use Prim.Native.Nat.{ℕ, _-_, _*_, _/_, _≤_, _<_}
 use native.Mathlib.Omega.{arith}
 use lib.ListN.{length, drop, set, length-drop, length-set}
 use lib.Seq.{sets, take-all}
+use Rattle.language.specs.Program.{flatten}
 use Rattle.words.specs.Numbers.{wordAt}
-use Rattle.language.specs.Tree.{countItems}
-use Rattle.language.specs.Table.{flatten}
-use Rattle.language.specs.Limits.{locals, headHolds}
+use Rattle.language.specs.Tree.{countItems, locals}
+use Rattle.language.specs.Limits.{headHolds}
 use Rattle.programs.specs.Claims.{entriesOf}
 use Rattle.spans.specs.Stands.{Stands}
 use Rattle.shapes.specs.Steps.{head-of, below}

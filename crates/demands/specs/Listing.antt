@@ -8,12 +8,11 @@ use native.Mathlib.Omega.{arith}
 use lib.Dec.{ltb}
 use lib.ListN.{length}
 use borrow.Author.Tests.{ltb-true}
+use Rattle.language.specs.Program.{tableBytes, Program}
 use Rattle.words.specs.Lists.{all}
 use Rattle.words.specs.Laws.{Bytes}
 use Rattle.values.specs.Ends.{Judged, accepted, refused}
 use Rattle.values.specs.Trace.{set, hold, release, Item, event}
-use Rattle.language.specs.Table.{bytesOf}
-use Rattle.language.specs.Judge.{Program}
 use Rattle.language_laws.specs.Endings.{ByteReadings, EndsBy}
 use Rattle.bytecode.specs.Macro.{Macro}
 use Rattle.bytecode.specs.Rules.{judgeMacro}
@@ -99,7 +98,7 @@ listing =
 
 -- ── the second demand ──
 -- the listing example is a program
-pub listing-program : Program (bytesOf table)
+pub listing-program : Program (tableBytes table)
 unfolding casesCompute
 listing-program = record {
   tree = listingTree;
@@ -126,4 +125,4 @@ pub listing-second : (oracle : ℕ → ℕ → ℕ) → ByteReadings oracle → 
     → (N : ℕ) × ((fs : List Feed) → Fed fs → SameReadings listingTree oracle fs → Stepping fs → N ≤ length fs
     → let answers = answered (macroOf listingTree) state fs in EndsOn 0 answers × (events answers ≡ hold 7 ∷ set 3 200 ∷ release 7 ∷ []))
 unfolding listing-program
-listing-second oracle low state n = second (bytesOf table) listing-program .produces oracle low state n .enough listingItems 0 (tree-ends oracle)
+listing-second oracle low state n = second (tableBytes table) listing-program .produces oracle low state n .enough listingItems 0 (tree-ends oracle)

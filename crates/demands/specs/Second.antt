@@ -8,10 +8,11 @@ use native.Mathlib.Omega.{arith}
 use lib.ListN.{length}
 use lib.Seq.{sets}
 use borrow.Author.Tests.{le-leb, lt-leb}
+use Rattle.language.specs.Program.{Program}
 use Rattle.values.specs.Ends.{refusal, accepted}
 use Rattle.values.specs.Trace.{Event, Item}
 use Rattle.language.specs.Tree.{Tree}
-use Rattle.language.specs.Judge.{Program, compileOn, compileRefused}
+use Rattle.language.specs.Judge.{compileOn, compileRefused}
 use Rattle.language.specs.Execute.{illFormed, execute}
 use Rattle.language_laws.specs.Endings.{ByteReadings, EndsBy, GoesOn}
 use Rattle.programs.specs.Programs.{program-accepted}

@@ -3,10 +3,11 @@ use mathlib.Core.List.{List, [], _∷_, _++_}
 use Prim.Native.Nat.{ℕ}
 use lib.IntN.{pos}
 use lib.ListN.{length, replicate}
+use Rattle.language.specs.Program.{tableBytes}
 use Rattle.words.specs.Numbers.{half, word}
 use Rattle.values.specs.Ends.{Judged, accepted, refused}
 use Rattle.language.specs.Tree.{Tree}
-use Rattle.language.specs.Table.{Entry, entry, bytesOf}
+use Rattle.language.specs.Table.{Entry, entry}
 use Rattle.language.specs.Judge.{judgeTable}
 use Rattle.language.specs.Execute.{Ran, finished, going, illFormed, execute}
 use Rattle.bytecode.specs.Macro.{Macro}
@@ -25,7 +26,7 @@ refusalOf (accepted x) = []
 refusalOf (refused r) = r .number ∷ r .place ∷ []
 
 abbrev pub verdict : List Entry → List ℕ
-verdict es = refusalOf (judgeTable (bytesOf es))
+verdict es = refusalOf (judgeTable (tableBytes es))
 
 -- the trace, three numbers an item (1 set, 2 hold, 3 release, 4 reading), and then the end; 999 where it goes on
 abbrev pub lines : Ran → List ℕ
@@ -39,7 +40,7 @@ executeTree (refused r) fuel = 777 ∷ r .number ∷ r .place ∷ []
 
 -- a table executed with all readings 0
 abbrev pub executed : List Entry → ℕ → List ℕ
-executed es fuel = executeTree (judgeTable (bytesOf es)) fuel
+executed es fuel = executeTree (judgeTable (tableBytes es)) fuel
 
 -- the records of a macro
 abbrev pub hd : ℕ → ℕ → ℕ → ℕ → List ℕ

@@ -3,7 +3,8 @@ use mathlib.Core.Path.{_≡_, refl}
 use mathlib.Core.List.{List, [], _∷_, _++_}
 use Prim.Native.Nat.{ℕ, zero, suc, _+_}
 use lib.ListN.{replicate}
-use Rattle.language.specs.Table.{Entry, bytesOf}
+use Rattle.language.specs.Program.{tableBytes}
+use Rattle.language.specs.Table.{Entry}
 use Rattle.language.specs.Judge.{judgeTable, compileOn}
 use Rattle.bytecode.specs.Runs.{refuses}
 use Rattle.bytecode.specs.Lent.{startOn, runOn}
@@ -65,9 +66,9 @@ unfolding casesCompute variables
 six = (refl, refl)
 
 -- 7: 0 bytes lent; exactly enough pass, and bytes past the macro stay
-seven : (refusalOf (compileOn (λ t. Listing.code) (bytesOf Listing.table) [] .verdict) ≡ 7 ∷ 0 ∷ [])
-    × (refusalOf (compileOn (λ t. 1 ∷ 2 ∷ []) (bytesOf Listing.table) (9 ∷ 9 ∷ []) .verdict) ≡ [])
-    × (compileOn (λ t. 1 ∷ 2 ∷ []) (bytesOf Listing.table) (9 ∷ 9 ∷ 9 ∷ []) .bytes ≡ 1 ∷ 2 ∷ 9 ∷ [])
+seven : (refusalOf (compileOn (λ t. Listing.code) (tableBytes Listing.table) [] .verdict) ≡ 7 ∷ 0 ∷ [])
+    × (refusalOf (compileOn (λ t. 1 ∷ 2 ∷ []) (tableBytes Listing.table) (9 ∷ 9 ∷ []) .verdict) ≡ [])
+    × (compileOn (λ t. 1 ∷ 2 ∷ []) (tableBytes Listing.table) (9 ∷ 9 ∷ 9 ∷ []) .bytes ≡ 1 ∷ 2 ∷ 9 ∷ [])
 unfolding casesCompute Listing.code joined
 seven = (refl, refl, refl)
 

@@ -11,13 +11,14 @@ use lib.Dec.{eqb, leb}
 use lib.IntN.{pos}
 use lib.ListN.{length, drop, length-append}
 use borrow.Author.Tests.{ne-eqb, le-ltb, le-leb, leb-true}
+use Rattle.language.specs.Program.{flatTyped, flatDecl, flatS, flatItems}
 use Rattle.words.specs.Lists.{among}
 use Rattle.words.specs.Options.{isSome}
 use Rattle.words.specs.Choice.{if_then_else_}
 use Rattle.words.specs.Laws.{two, four, number-below}
 use Rattle.values.specs.Types.{Ty, integer, logical, bits, reference, tyCode}
 use Rattle.language.specs.Tree.{Typed, Decl, declare, holding, Stmt, block, assign, when, choose, while, goto, assert, call, setLevel, select, Items, noItem, label, item, countItems}
-use Rattle.language.specs.Table.{Entry, entry, inLayout, flatTyped, flatDecl, flatS, flatItems}
+use Rattle.language.specs.Table.{Entry, entry, inLayout}
 use Rattle.language.specs.Names.{isVariable, isLabel, isClass, isField, isProcedure, definesTyped, definesHead, definesItems, definesFields, Scope, blockOf, expressionOf, nowhere, found, lookup}
 use Rattle.language.specs.Names as names
 use Rattle.language.specs.Faults.{twice, typeFaults, named, classSort, faultsTyped, faultsHead, namesHead, sizeS, sizeItems}

@@ -6,11 +6,12 @@ use Prim.Native.Nat.{ℕ, _+_, _-_, _*_, _/_, _%_, _≤_, _<_}
 use native.Mathlib.Omega.{arith}
 use lib.Dec.{eqb}
 use lib.ListN.{length}
+use Rattle.language.specs.Program.{flatTyped}
 use Rattle.words.specs.Choice.{if_then_else_}
 use Rattle.words.specs.Laws.{Bytes}
 use Rattle.values.specs.Types.{Ty, tyCode}
 use Rattle.language.specs.Tree.{Typed}
-use Rattle.language.specs.Table.{Entry, inLayout, flatTyped}
+use Rattle.language.specs.Table.{Entry, inLayout}
 use Rattle.language.specs.Names.{Sort, isVariable, isLabel, isClass, isField, isProcedure, Definition, types, Scope, inBlock, inExpression, inProcedure, nowhere, found, firstOf, otherwise, across, lookup}
 use Rattle.language.specs.Names as names
 use Rattle.programs.specs.Claims.{entriesOf}

@@ -5,8 +5,9 @@ use Prim.Native.Nat.{suc, _+_, _-_, _*_, _/_, _<_}
 use native.Mathlib.Omega.{arith}
 use lib.IntN.{pos}
 use lib.ListN.{length, length-append}
+use Rattle.language.specs.Program.{flatTyped, flatDecl, flatS, flatItems, flatArms, flatTarget, flatE, flatEs, resultCode, flatBody, flatGlobal}
 use Rattle.language.specs.Tree.{Typed, Decl, declare, holding, Stmt, block, assign, when, choose, while, goto, assert, call, setLevel, select, Items, noItem, label, item, Arms, lastArm, arm, Target, toVariable, toField, Expr, number, truth, pattern, null, variable, invoke, field, make, operate1, operate2, conditional, fader, blockExpr, Exprs, noExpr, expr, Body, proper, function, Global, local, class, procedure, countItems, countArms, countExprs}
-use Rattle.language.specs.Table.{Entry, entry, flatTyped, flatDecl, flatS, flatItems, flatArms, flatTarget, flatE, flatEs, flatBody, flatGlobal, resultCode}
+use Rattle.language.specs.Table.{Entry, entry}
 use Rattle.language.specs.Faults.{sizeS, sizeItems, sizeArms, sizeTarget, sizeE, sizeEs, sizeBody, sizeGlobal}
 use Rattle.spans.specs.Spans.{Spans, spans-none, spans-then, spans-as, spans-one, parts}
 

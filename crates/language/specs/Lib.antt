@@ -4,6 +4,7 @@ pub mod Names
 pub mod Faults
 pub mod Limits
 pub mod Formed
+pub mod Program
 pub mod Judge
 pub mod Execute
 pub mod Computes

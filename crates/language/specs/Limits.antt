@@ -5,7 +5,7 @@ use Prim.Native.Nat.{ℕ, suc, _+_, max}
 use lib.Dec.{leb}
 use lib.ListN.{length}
 use Rattle.values.specs.Ends.{Refusal}
-use Rattle.language.specs.Tree.{Typed, Decl, declare, holding, Stmt, block, assign, when, choose, while, goto, assert, call, setLevel, select, Items, noItem, label, item, Arms, lastArm, arm, Target, toVariable, toField, Expr, number, truth, pattern, null, variable, invoke, field, make, operate1, operate2, conditional, fader, blockExpr, Exprs, noExpr, expr, Body, proper, function, Global, local, class, procedure, Tree}
+use Rattle.language.specs.Tree.{Typed, Decl, declare, holding, Stmt, block, assign, when, choose, while, goto, assert, call, setLevel, select, Items, noItem, label, item, Arms, lastArm, arm, Target, toVariable, toField, Expr, number, truth, pattern, null, variable, invoke, field, make, operate1, operate2, conditional, fader, blockExpr, Exprs, noExpr, expr, Body, proper, function, Global, local, class, procedure, Tree, locals}
 use Rattle.language.specs.Faults.{faultIf, sizeGlobal}
 
 -- ── cells: "parameters, variables of all its blocks, one per case" ──
@@ -181,13 +181,6 @@ keepsLimits u = leb (u .cells) 32 && (leb (u .holds) 16 && leb (u .need) 32)
 abbrev pub bodyUsage : List Typed → Body → Usage
 bodyUsage xs (proper s) = record { cells = length xs + cellsS s; holds = holdsS s; need = needS s }
 bodyUsage xs (function t e) = record { cells = length xs + cellsE e; holds = holdsE e; need = needE e }
-
--- the root's own declarations; classes and procedures have no cell and no hold
-unfoldable pub locals : List Global → List Decl
-locals [] = []
-locals (local d ∷ gs) = d ∷ locals gs
-locals (class c xs ∷ gs) = locals gs
-locals (procedure a xs b ∷ gs) = locals gs
 
 abbrev pub rootUsage : Tree → Usage
 rootUsage t =

@@ -1,6 +1,6 @@
 -- The tree of a macro: what the entries of a table stand for. (paper 01, The syntax table)
 use mathlib.Core.Bool.{Bool}
-use mathlib.Core.List.{List}
+use mathlib.Core.List.{List, [], _∷_}
 use Prim.Native.Nat.{ℕ, suc}
 use lib.IntN.{ℤ}
 use Rattle.values.specs.Types.{Ty}
@@ -82,6 +82,13 @@ pub data Global : Type 0 where
 pub record Tree : Type 0 where
   pub head : List Global
   pub items : Items
+
+-- the root's own declarations; classes and procedures have no cell and no hold
+unfoldable pub locals : List Global → List Decl
+locals [] = []
+locals (local d ∷ gs) = d ∷ locals gs
+locals (class c xs ∷ gs) = locals gs
+locals (procedure a xs b ∷ gs) = locals gs
 
 -- how many there are
 unfoldable pub countItems : Items → ℕ

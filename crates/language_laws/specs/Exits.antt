@@ -5,8 +5,7 @@ use mathlib.Core.List.{List, [], _++_, append-nil, reverse, reverse-reverse}
 use Prim.Native.Nat.{ℕ, _+_}
 use native.Mathlib.Omega.{arith}
 use Rattle.values.specs.Trace.{Item}
-use Rattle.language.specs.Tree.{Decl, Stmt, block, Items, Expr, blockExpr, Body, Tree}
-use Rattle.language.specs.Limits.{locals}
+use Rattle.language.specs.Tree.{Decl, Stmt, block, Items, Expr, blockExpr, Body, Tree, locals}
 use Rattle.language.specs.Execute.{Store, Result, done, jump, ended, later, wrong, Place, World, exec, eval, execBody, evalBody, fueled}
 use Rattle.language.specs.Execute.{Ran, finished, going, illFormed, ran, execute, outermost, atStart}
 use Rattle.language_laws.specs.Holds.{timesHeld, timesReleased, timesOpen, LastFirst, count, isHold, isRelease, accounts, count-reverse}

@@ -7,8 +7,7 @@ use native.Mathlib.Nat.{le-of-suc-le-suc, not-suc-le-zero}
 use native.Mathlib.Omega.{arith}
 use native.Mathlib.Decide.{decLe}
 use Rattle.values.specs.Trace.{release, Item, event}
-use Rattle.language.specs.Tree.{Items, Tree}
-use Rattle.language.specs.Limits.{locals}
+use Rattle.language.specs.Tree.{Items, Tree, locals}
 use Rattle.language.specs.Execute.{Slot, Store, Result, done, jump, ended, later, wrong, next, Place, letGo, leaving, from, Less, caught, catch}
 use Rattle.language.specs.Execute.{World, fueled, Ran, finished, going, illFormed, ran, execute, outermost, atStart}
 use Rattle.language_laws.specs.Endings.{EndsBy, GoesOn, Continues, Further}

@@ -1,7 +1,7 @@
 -- The listing of the paper's example, of a condition and of a refusal, by evaluation.
 use mathlib.Core.Path.{_≡_, refl}
 use mathlib.Core.List.{[], _∷_}
-use Rattle.language.specs.Table.{bytesOf}
+use Rattle.language.specs.Program.{tableBytes}
 use Rattle.compile_code.specs.Computes.{compilingComputes}
 use Rattle.examples.specs.Cases.{casesCompute}
 use Rattle.examples.specs.Notation.{e}
@@ -9,7 +9,7 @@ use Rattle.examples.specs.Listing.{table}
 use Rattle.listing_text.specs.Text.{digits, decimal, numbers, runsText, linesOf, macroText, listingOn, listingOf}
 
 -- hold 7, set 3 200, release 7, end 0
-pub example : listingOf (bytesOf table)
+pub example : listingOf (tableBytes table)
     ≡ 104 ∷ 111 ∷ 108 ∷ 100 ∷ 32 ∷ 55 ∷ 10
     ∷ 115 ∷ 101 ∷ 116 ∷ 32 ∷ 51 ∷ 32 ∷ 50 ∷ 48 ∷ 48 ∷ 10
     ∷ 114 ∷ 101 ∷ 108 ∷ 101 ∷ 97 ∷ 115 ∷ 101 ∷ 32 ∷ 55 ∷ 10
@@ -18,7 +18,7 @@ unfolding casesCompute compilingComputes digits decimal numbers runsText linesOf
 example = refl
 
 -- a condition releases what is held: hold 63, release 63, end 21
-pub condition : listingOf (bytesOf (e 1 1 1 ∷ e 14 63 0 ∷ e 28 0 0 ∷ e 40 0 1 ∷ e 49 4 0 ∷ e 40 0 1 ∷ e 40 0 0 ∷ []))
+pub condition : listingOf (tableBytes (e 1 1 1 ∷ e 14 63 0 ∷ e 28 0 0 ∷ e 40 0 1 ∷ e 49 4 0 ∷ e 40 0 1 ∷ e 40 0 0 ∷ []))
     ≡ 104 ∷ 111 ∷ 108 ∷ 100 ∷ 32 ∷ 54 ∷ 51 ∷ 10
     ∷ 114 ∷ 101 ∷ 108 ∷ 101 ∷ 97 ∷ 115 ∷ 101 ∷ 32 ∷ 54 ∷ 51 ∷ 10
     ∷ 101 ∷ 110 ∷ 100 ∷ 32 ∷ 50 ∷ 49 ∷ 10 ∷ []

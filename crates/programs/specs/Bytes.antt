@@ -11,11 +11,11 @@ use lib.Signed.{mag}
 use borrow.Author.Tests.{ltb-true, lt-ltb}
 use mir.Syntax.{w32}
 use mir.Val.{SFits}
+use Rattle.language.specs.Program.{tableBytes, inFields}
 use Rattle.words.specs.Lists.{all}
 use Rattle.words.specs.Numbers.{half, word, halfAt, wordAt, integerOf, wordOf}
 use Rattle.words.specs.Laws.{Bytes, two, four, number-of-bytes, number-below, bytes-slice, integer-back, word-back, integer-fits}
-use Rattle.language.specs.Table.{Entry, bytesOf, entries}
-use Rattle.language.specs.Judge.{inFields}
+use Rattle.language.specs.Table.{Entry, entries}
 use Rattle.programs.specs.Basics.{both-left, both-right}
 
 -- eight bytes and those after them
@@ -26,8 +26,8 @@ eight l x y z p q r =
 bytes-drop : (n : ℕ) (l : List ℕ) → Bytes l → Bytes (drop n l)
 bytes-drop n l b k = rw (getD-drop n l k 0) (b (n + k))
 
-pub bytes-back : (n : ℕ) (l : List ℕ) → Bytes l → length l ≡ 8 * n → bytesOf (entries n l) ≡ l
-unfolding bytesOf entries
+pub bytes-back : (n : ℕ) (l : List ℕ) → Bytes l → length l ≡ 8 * n → tableBytes (entries n l) ≡ l
+unfolding tableBytes entries
 bytes-back zero [] b h = refl
 bytes-back zero (x ∷ l) b h = absurd (omega arith)
 bytes-back (suc n) l b h =
@@ -46,20 +46,20 @@ number-fits e h =
     let k = both-right (ltb (e .kind) 65536) (ltb (e .a) 65536 && ltb (mag (e .b)) 2147483648) h in
     record { sfits = ltb-true (mag (e .b)) 2147483648 (both-right (ltb (e .a) 65536) (ltb (mag (e .b)) 2147483648) k) }
 
-entries-back : (es : List Entry) → all inFields es ≡ true → entries (length es) (bytesOf es) ≡ es
-unfolding bytesOf entries all
+entries-back : (es : List Entry) → all inFields es ≡ true → entries (length es) (tableBytes es) ≡ es
+unfolding tableBytes entries all
 entries-back [] h = refl
 entries-back (e ∷ es) h =
     let r = entries-back es (both-right (inFields e) (all inFields es) h) in
     let z = ap integerOf (number-of-bytes four (wordOf (e .b))) ∙ integer-back (e .b) (number-fits e (both-left (inFields e) (all inFields es) h)) in
     λ i. record { kind = number-of-bytes two (e .kind) i; a = number-of-bytes two (e .a) i; b = z i } ∷ r i
 
-pub length-bytes : (es : List Entry) → length (bytesOf es) ≡ 8 * length es
-unfolding bytesOf
+pub length-bytes : (es : List Entry) → length (tableBytes es) ≡ 8 * length es
+unfolding tableBytes
 length-bytes [] = refl
 length-bytes (e ∷ es) = omega (arith, length-bytes es)
 
-pub entries-all : (es : List Entry) → all inFields es ≡ true → entries (length (bytesOf es) / 8) (bytesOf es) ≡ es
+pub entries-all : (es : List Entry) → all inFields es ≡ true → entries (length (tableBytes es) / 8) (tableBytes es) ≡ es
 entries-all es h =
-    let q : length (bytesOf es) / 8 ≡ length es = omega (arith, length-bytes es) in
+    let q : length (tableBytes es) / 8 ≡ length es = omega (arith, length-bytes es) in
     rw q (entries-back es h)

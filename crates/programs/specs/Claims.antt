@@ -5,13 +5,13 @@ use mathlib.Core.List.{List, [], _∷_, _++_}
 use mathlib.Core.Logic.{_⊎_}
 use Prim.Native.Nat.{ℕ, suc, _/_, _%_, _≤_, _<_}
 use lib.ListN.{length, take, getD}
+use Rattle.language.specs.Program.{flatten, nesting, total}
 use Rattle.words.specs.Lists.{all}
 use Rattle.values.specs.Ends.{Refusal, refusal, Judged, accepted, refused}
 use Rattle.language.specs.Tree.{Tree}
-use Rattle.language.specs.Table.{Entry, inLayout, flatten, nesting, classCount, procedureCount, entries}
+use Rattle.language.specs.Table.{Entry, inLayout, classCount, procedureCount, entries}
 use Rattle.language.specs.Faults.{faults}
 use Rattle.language.specs.Limits.{limits}
-use Rattle.language.specs.Judge.{total}
 use Rattle.programs.specs.Outline.{depths, outline}
 
 -- a tree that entries can be read as: it keeps to the layout, the nesting and the counts

@@ -7,11 +7,13 @@ use native.Mathlib.Omega.{arith}
 use lib.Dec.{eqb, leb}
 use lib.IntN.{ℤ, pos, negsuc, natAbs}
 use borrow.Author.Tests.{eqb-true, ne-eqb, le-leb, leb-true}
+use Rattle.values.specs.Arithmetic.{isZero}
+use Rattle.values.specs.Values.{between}
 use Rattle.words.specs.Options.{isSome}
 use Rattle.words.specs.Choice.{if_then_else_}
 use Rattle.values.specs.Types.{Ty, integer, logical, bits, reference, tyCode}
 use Rattle.values.specs.Operators.{Unary, negate, absolute, complement, Binary, plus, minus, times, divide, remainder, less, atMost, greater, atLeast, equal, unequal, both, either, shiftLeft, shiftRight, unaryCode, binaryCode, unaryOf, binaryOf}
-use Rattle.language.specs.Table.{nothing, natural, within, tyOfCode}
+use Rattle.language.specs.Table.{natural, tyOfCode}
 use Rattle.programs.specs.Basics.{clash, both-left}
 
 -- ── what a code stands for ──
@@ -101,7 +103,7 @@ type-coded n =
     (coded-if (leb 65536 n && leb n 131071) (reference (n - 65536)) (λ q. let h : 65536 ≤ n = leb-true 65536 n (both-left (leb 65536 n) (leb n 131071) q) in omega arith) coded-none)))
 
 -- ── b of an entry ──
-pub nothing-zero : (z : ℤ) → nothing z ≡ true → z ≡ pos 0
+pub nothing-zero : (z : ℤ) → isZero z ≡ true → z ≡ pos 0
 nothing-zero (pos n) h = rw (eqb-true n 0 h)
 nothing-zero (negsuc n) h = absurd (omega (arith, eqb-true (suc n) 0 h))
 
@@ -109,6 +111,6 @@ pub natural-pos : (z : ℤ) → natural z ≡ true → z ≡ pos (natAbs z)
 natural-pos (pos n) h = refl
 natural-pos (negsuc n) h = clash (cc)
 
-pub within-natural : (lo hi : ℕ) (z : ℤ) → within lo hi z ≡ true → natural z ≡ true
+pub within-natural : (lo hi : ℕ) (z : ℤ) → between lo hi z ≡ true → natural z ≡ true
 within-natural lo hi (pos n) h = refl
 within-natural lo hi (negsuc n) h = h

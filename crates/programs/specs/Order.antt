@@ -5,6 +5,7 @@ use mathlib.Core.List.{List, [], _∷_, _++_, append-assoc, append-nil}
 use Prim.Native.Nat.{ℕ, suc, _+_, _≤_, _<_}
 use native.Mathlib.Omega.{arith}
 use lib.ListN.{length}
+use Rattle.language.specs.Program.{total}
 use Rattle.words.specs.Choice.{if_then_else_}
 use Rattle.words.specs.Lists.{among}
 use Rattle.words.specs.Options.{isSome}
@@ -13,7 +14,6 @@ use Rattle.values.specs.Ends.{Refusal, refusal}
 use Rattle.language.specs.Tree.{Typed, Decl, declare, holding, Stmt, block, assign, when, choose, while, goto, assert, call, setLevel, select, Items, noItem, label, item, Arms, lastArm, arm, Target, toVariable, toField, Expr, number, truth, pattern, null, variable, invoke, field, make, operate1, operate2, conditional, fader, blockExpr, Exprs, noExpr, expr, Body, proper, function, Global, local, class, procedure, Tree}
 use Rattle.language.specs.Names.{Sort, asLabel, Scope, blockOf, expressionOf, procedureOf, rootOf, Found, nowhere, found, lookup}
 use Rattle.language.specs.Faults.{typeE, typesE, isTy, sameTy, fitsTy, typeTarget, faultIf, named, variableSort, classSort, classFrom, fieldOf, callOf, aimed, typeFaults, sizeS, sizeItems, sizeTarget, sizeE, faultsTyped, faultsHead, namesHead, faultsS, faultsItems, faultsArms, faultsTarget, faultsE, faultsEs, sizeGlobal, faultsBody, bodyFits, namesGlobal, faultsGlobal, faultsGlobals, faults}
-use Rattle.language.specs.Judge.{total}
 use Rattle.programs.specs.Claims.{Walk, end, pass}
 use Rattle.programs.specs.Outline.{Outline, leaf, none, under, _beside_, size, postorder, leavesOf, outlineS, outlineItems, outlineArms, outlineTarget, outlineE, outlineEs, outlineBody, outlineGlobal, outlineHead, outline}
 use Rattle.programs.specs.Sizes.{size-leaves, size-stmt, size-items, size-target, size-expr, size-global, size-tree}

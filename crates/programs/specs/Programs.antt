@@ -6,15 +6,16 @@ use mathlib.Core.Logic.{_↔_}
 use Prim.Native.Nat.{ℕ, _*_, _/_, _%_, _≤_, _<_}
 use native.Mathlib.Omega.{arith}
 use lib.ListN.{length}
+use Rattle.language.specs.Program.{flatten, tableBytes, nesting, Program, inFields}
 use Rattle.words.specs.Lists.{all}
 use Rattle.words.specs.Laws.{Bytes}
 use Rattle.values.specs.Ends.{Refusal, accepted, refused}
 use Rattle.language.specs.Tree.{Tree}
-use Rattle.language.specs.Table.{Entry, flatten, bytesOf, nesting, took, first, formRoot}
+use Rattle.language.specs.Table.{Entry, took, first, formRoot}
 use Rattle.language.specs.Faults.{faults}
 use Rattle.language.specs.Limits.{limits}
 use Rattle.language.specs.Formed.{WellFormed, KeepsLimits}
-use Rattle.language.specs.Judge.{judgeTable, inFields, Program}
+use Rattle.language.specs.Judge.{judgeTable}
 use Rattle.programs.specs.Bytes.{bytes-back, fields-kept, entries-all, length-bytes}
 use Rattle.programs.specs.Claims.{Readable, entriesOf, FirstUnread, Walk, Stands, Earlier, Ordered, Verdict}
 use Rattle.programs.specs.Order.{walk-faults}
@@ -44,10 +45,10 @@ pub nesting-deepest : (t : Tree) → nesting t ≡ deepest (depths 1 (outline t)
 nesting-deepest t = Sizes.nesting-deepest t
 
 -- ── entries and bytes ──
-pub bytes-entries : (l : List ℕ) → Bytes l → length l % 8 ≡ 0 → (bytesOf (entriesOf l) ≡ l) × (all inFields (entriesOf l) ≡ true)
+pub bytes-entries : (l : List ℕ) → Bytes l → length l % 8 ≡ 0 → (tableBytes (entriesOf l) ≡ l) × (all inFields (entriesOf l) ≡ true)
 bytes-entries l b h = (bytes-back (length l / 8) l b (omega arith), fields-kept (length l / 8) l b)
 
-pub entries-bytes : (es : List Entry) → all inFields es ≡ true → (entriesOf (bytesOf es) ≡ es) × (length (bytesOf es) ≡ 8 * length es)
+pub entries-bytes : (es : List Entry) → all inFields es ≡ true → (entriesOf (tableBytes es) ≡ es) × (length (tableBytes es) ≡ 8 * length es)
 entries-bytes es h = (entries-all es h, length-bytes es)
 
 -- ── what the check answers ──

@@ -9,23 +9,24 @@ use lib.Dec.{eqb}
 use lib.IntN.{pos}
 use lib.ListN.{length}
 use borrow.Author.Tests.{eqb-true}
+use Rattle.language.specs.Program.{flatTyped, flatDecl, flatS, flatItems, flatArms, flatTarget, flatE, flatEs, deepHead, deepS, deepItems, deepArms, deepTarget, deepE, deepEs}
 use Rattle.words.specs.Choice.{if_then_else_}
 use Rattle.values.specs.Operators.{negate, plus, unaryCode, binaryCode, unaryOf, binaryOf}
 use Rattle.language.specs.Tree.{Typed, Decl, declare, holding, Stmt, block, assign, when, choose, while, goto, assert, call, setLevel, select, Items, noItem, label, item, Arms, lastArm, arm, Target, toVariable, toField, Expr, number, truth, pattern, null, variable, invoke, field, make, operate1, operate2, conditional, fader, blockExpr, Exprs, noExpr, expr, countItems, countArms, countExprs}
 use Rattle.language.specs.Table as T
-use Rattle.language.specs.Table.{Entry, entry, inLayout, flatTyped, flatDecl, flatS, flatItems, flatArms, flatTarget, flatE, flatEs, deepHead, deepS, deepItems, deepArms, deepTarget, deepE, deepEs, took, stop, Reader, after, made, three, first, formTyped, formDecl, Part, named, done, itemsOf, armsOf, exprsOf, Below, formS, formPart, formTarget, formE, below}
+use Rattle.language.specs.Table.{Entry, entry, inLayout, took, stop, Reader, after, made, three, first, formTyped, formDecl, Part, labelPart, stmtPart, itemsOf, armsOf, exprsOf, Below, formS, formPart, formTarget, formE, below}
 use Rattle.programs.specs.Basics.{clash}
 use Rattle.programs.specs.Codes.{type-back, unary-back, binary-back}
 use Rattle.programs.specs.Takes.{Fits, fits-head, Takes, takes-as, takes-here, takes-made, takes-two, takes-three, takes-none, takes-more, takes-first}
 
 -- ── the readers of what stands below, where so much nesting is left ──
 abbrev pub flatPart : Part → List Entry
-flatPart (named a) = entry 20 a (pos 0) ∷ []
-flatPart (done s) = flatS s
+flatPart (labelPart a) = entry 20 a (pos 0) ∷ []
+flatPart (stmtPart s) = flatS s
 
 abbrev pub deepPart : Part → ℕ
-deepPart (named a) = 1
-deepPart (done s) = deepS s
+deepPart (labelPart a) = 1
+deepPart (stmtPart s) = deepS s
 
 pub record Reads (r : Below) (d : ℕ) : Type 0 where
   pub typed : (x : Typed) → Fits d (flatTyped x ∷ []) 1 → Takes (r .typed) (flatTyped x ∷ []) x
@@ -58,7 +59,7 @@ leaves-one [] = omega arith
 leaves-one (x ∷ xs) = omega arith
 
 pub takes-leaves : {A : Type 0} {r : Reader A} {d : ℕ} (flat : A → Entry) → ((x : A) → Fits d (flat x ∷ []) 1 → Takes r (flat x ∷ []) x)
-    → (xs : List A) → Fits d (map flat xs) (leaves xs) → Takes (T.times (length xs) r) (map flat xs) xs
+    → (xs : List A) → Fits d (map flat xs) (leaves xs) → Takes (T.repeated (length xs) r) (map flat xs) xs
 takes-leaves {r = r} flat h [] g = takes-none r
 takes-leaves {d = d} flat h (x ∷ xs) g =
     let k : Fits d (map flat (x ∷ xs)) (max 1 (leaves xs)) = record { layout = g .layout; depth = omega (arith, leaves-one xs) } in
@@ -71,8 +72,8 @@ deep-head (x ∷ ds) = refl
 -- ── the lists of the tree ──
 partsOf : Items → List Part
 partsOf noItem = []
-partsOf (label a is) = named a ∷ partsOf is
-partsOf (item s is) = done s ∷ partsOf is
+partsOf (label a is) = labelPart a ∷ partsOf is
+partsOf (item s is) = stmtPart s ∷ partsOf is
 
 parts-back : (is : Items) → itemsOf (partsOf is) ≡ is
 unfolding partsOf itemsOf
@@ -127,28 +128,28 @@ arms-count (arm s a) = omega arith
 
 -- ── the forms, over readers of what stands below ──
 module _ {r : Below} {d : ℕ} (G : Reads r d) where
-  takes-head : (ds : List Decl) → Fits d (map flatDecl ds) (deepHead ds) → Takes (T.times (length ds) (r .decl)) (map flatDecl ds) ds
+  takes-head : (ds : List Decl) → Fits d (map flatDecl ds) (deepHead ds) → Takes (T.repeated (length ds) (r .decl)) (map flatDecl ds) ds
   takes-head ds h = takes-leaves flatDecl (G .decl) ds (rw (deep-head ds) at h)
 
-  takes-parts : (is : Items) → Fits d (flatItems is) (deepItems is) → Takes (T.times (countItems is) (r .part)) (flatItems is) (partsOf is)
+  takes-parts : (is : Items) → Fits d (flatItems is) (deepItems is) → Takes (T.repeated (countItems is) (r .part)) (flatItems is) (partsOf is)
   unfolding flatS deepS countItems partsOf
   takes-parts noItem h = takes-none (r .part)
-  takes-parts (label a is) h = takes-more (countItems is) h (G .part (named a)) (takes-parts is)
-  takes-parts (item s is) h = takes-more (countItems is) h (G .part (done s)) (takes-parts is)
+  takes-parts (label a is) h = takes-more (countItems is) h (G .part (labelPart a)) (takes-parts is)
+  takes-parts (item s is) h = takes-more (countItems is) h (G .part (stmtPart s)) (takes-parts is)
 
   pub takes-items : (is : Items) → Fits d (flatItems is) (deepItems is)
-      → Takes (made itemsOf (T.times (countItems is) (r .part))) (flatItems is) is
+      → Takes (made itemsOf (T.repeated (countItems is) (r .part))) (flatItems is) is
   takes-items is h = takes-as (takes-made itemsOf (takes-parts is h)) (parts-back is)
 
-  takes-list : (es : Exprs) → Fits d (flatEs es) (deepEs es) → Takes (T.times (countExprs es) (r .expr)) (flatEs es) (exprList es)
+  takes-list : (es : Exprs) → Fits d (flatEs es) (deepEs es) → Takes (T.repeated (countExprs es) (r .expr)) (flatEs es) (exprList es)
   unfolding flatS deepS countExprs exprList
   takes-list noExpr h = takes-none (r .expr)
   takes-list (expr e es) h = takes-more (countExprs es) h (G .expr e) (takes-list es)
 
-  takes-exprs : (es : Exprs) → Fits d (flatEs es) (deepEs es) → Takes (made exprsOf (T.times (countExprs es) (r .expr))) (flatEs es) es
+  takes-exprs : (es : Exprs) → Fits d (flatEs es) (deepEs es) → Takes (made exprsOf (T.repeated (countExprs es) (r .expr))) (flatEs es) es
   takes-exprs es h = takes-as (takes-made exprsOf (takes-list es h)) (exprs-back es)
 
-  takes-rest : (a : Arms) → Fits d (restArms a) (deepRest a) → Takes (T.times (countArms a - 1) (r .stmt)) (restArms a) (moreArms a)
+  takes-rest : (a : Arms) → Fits d (restArms a) (deepRest a) → Takes (T.repeated (countArms a - 1) (r .stmt)) (restArms a) (moreArms a)
   unfolding restArms deepRest moreArms countArms
   takes-rest (lastArm s) h = takes-none (r .stmt)
   takes-rest (arm s a) h =
@@ -156,7 +157,7 @@ module _ {r : Below} {d : ℕ} (G : Reads r d) where
       rw (e, arms-flat a) (takes-more (countArms a - 1) (rw (arms-flat a, arms-deep a) at h) (G .stmt (firstArm a)) (takes-rest a))
 
   takes-select : (e : Expr) (a : Arms) → Fits d (flatE e ++ flatArms a) (max (deepE e) (deepArms a))
-      → Takes (three (λ x s ss. select x (armsOf s ss)) (r .expr) (r .stmt) (T.times (countArms a - 1) (r .stmt))) (flatE e ++ flatArms a) (select e a)
+      → Takes (three (λ x s ss. select x (armsOf s ss)) (r .expr) (r .stmt) (T.repeated (countArms a - 1) (r .stmt))) (flatE e ++ flatArms a) (select e a)
   takes-select e a h =
       let k : Fits d (flatE e ++ (flatS (firstArm a) ++ restArms a)) (max (deepE e) (max (deepS (firstArm a)) (deepRest a))) = rw (arms-flat a, arms-deep a) at h in
       rw (arms-flat a) (takes-as (takes-three (λ x s ss. select x (armsOf s ss)) k (G .expr e) (G .stmt (firstArm a)) (takes-rest a)) (rw (arms-back a)))
@@ -201,32 +202,32 @@ label-stops : (r : Below) (e : Entry) (es : List Entry) → e .kind ≡ 20 → f
 unfolding formS
 label-stops r e es h = subst (λ (k : ℕ). formS r (entry k (e .a) (e .b)) es ≡ stop (entry k (e .a) (e .b) ∷ es)) (sym h) refl
 
-part-done : (r : Below) (e : Entry) (es rest : List Entry) (s : Stmt) → formS r e es ≡ took s rest → formPart r e es ≡ took (done s) rest
+part-done : (r : Below) (e : Entry) (es rest : List Entry) (s : Stmt) → formS r e es ≡ took s rest → formPart r e es ≡ took (stmtPart s) rest
 unfolding formPart after
 part-done r e es rest s h = go (eqb (e .kind) 20) refl
   where
-    go : (b : Bool) → eqb (e .kind) 20 ≡ b → (if b then took (named (e .a)) es else made done (formS r e) es) ≡ took (done s) rest
+    go : (b : Bool) → eqb (e .kind) 20 ≡ b → (if b then took (labelPart (e .a)) es else made stmtPart (formS r e) es) ≡ took (stmtPart s) rest
     go true q = clash (cc (label-stops r e es (eqb-true (e .kind) 20 q)))
     go false q = rw h
 
-takes-done : (r : Below) {us : List Entry} {s : Stmt} → Takes (first (formS r)) us s → Takes (first (formPart r)) us (done s)
+takes-done : (r : Below) {us : List Entry} {s : Stmt} → Takes (first (formS r)) us s → Takes (first (formPart r)) us (stmtPart s)
 unfolding first
 takes-done r {us} {s} h = record { takes = λ rest. at (us ++ rest) rest (h .takes rest) }
   where
-    at : (es rest : List Entry) → first (formS r) es ≡ took s rest → first (formPart r) es ≡ took (done s) rest
+    at : (es rest : List Entry) → first (formS r) es ≡ took s rest → first (formPart r) es ≡ took (stmtPart s) rest
     at [] rest q = clash (cc)
     at (e ∷ es) rest q = go (inLayout e) q
       where
         go : (b : Bool) → (if b then formS r e es else stop (e ∷ es)) ≡ took s rest
-            → (if b then formPart r e es else stop (e ∷ es)) ≡ took (done s) rest
+            → (if b then formPart r e es else stop (e ∷ es)) ≡ took (stmtPart s) rest
         go true q = part-done r e es rest s q
         go false q = clash (cc)
 
 takes-part : {r : Below} {d : ℕ} → Reads r d → (p : Part) → Fits (suc d) (flatPart p) (deepPart p)
     → Takes (first (formPart r)) (flatPart p) p
 unfolding formPart
-takes-part {r} G (named a) h = takes-first (formPart r) h (λ k. takes-here)
-takes-part {r} G (done s) h = takes-done r (takes-stmt G s h)
+takes-part {r} G (labelPart a) h = takes-first (formPart r) h (λ k. takes-here)
+takes-part {r} G (stmtPart s) h = takes-done r (takes-stmt G s h)
 
 -- ── no part has no entry ──
 pos-stmt : (s : Stmt) → 1 ≤ deepS s
@@ -270,8 +271,8 @@ pos-expr e =
     ]
 
 pos-part : (p : Part) → 1 ≤ deepPart p
-pos-part (named a) = omega arith
-pos-part (done s) = pos-stmt s
+pos-part (labelPart a) = omega arith
+pos-part (stmtPart s) = pos-stmt s
 
 too-deep : {A : Type 0} {us : List Entry} {n : ℕ} → Fits 0 us n → 1 ≤ n → A
 too-deep h k = absurd (omega arith)

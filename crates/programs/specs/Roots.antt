@@ -7,11 +7,11 @@ use lib.Dec.{eqb, leb, ltb}
 use lib.IntN.{natAbs}
 use lib.ListN.{length}
 use borrow.Author.Tests.{leb-true, ltb-true, lt-ltb}
+use Rattle.language.specs.Program.{flatTyped, flatDecl, resultCode, flatBody, flatGlobal, flatHead, flatten, deepList, deepBody, deepGlobal, deepGlobals, nesting, total}
 use Rattle.words.specs.Choice.{if_then_else_}
 use Rattle.values.specs.Types.{integer, logical, bits, reference}
 use Rattle.language.specs.Tree.{Typed, declare, holding, Body, proper, function, Global, local, class, procedure, Tree}
-use Rattle.language.specs.Table.{Entry, inLayout, natural, isHeading, flatTyped, flatDecl, resultCode, flatBody, flatGlobal, flatHead, flatten, deepList, deepBody, deepGlobal, deepGlobals, nesting, took, stop, Reader, after, two, times, first, Below, itemsBelow, below, bodyBelow, formGlobal, classCount, procedureCount, readHead, treeOf, formRoot}
-use Rattle.language.specs.Judge.{total}
+use Rattle.language.specs.Table.{Entry, inLayout, natural, isHeading, took, stop, Reader, after, two, repeated, first, Below, itemsBelow, below, bodyBelow, formGlobal, classCount, procedureCount, readHead, treeOf, formRoot}
 use Rattle.programs.specs.Basics.{both-left, both-right}
 use Rattle.programs.specs.Claims.{Readable}
 use Rattle.programs.specs.Codes.{within-natural}
@@ -34,7 +34,7 @@ small-result (function (reference c) e) n h = absurd (omega arith)
 
 -- ── what is read ──
 module _ {r : Below} {d : ℕ} (G : Reads r d) where
-  takes-list : (xs : List Typed) → Fits d (map flatTyped xs) (deepList xs) → Takes (times (length xs) (r .typed)) (map flatTyped xs) xs
+  takes-list : (xs : List Typed) → Fits d (map flatTyped xs) (deepList xs) → Takes (repeated (length xs) (r .typed)) (map flatTyped xs) xs
   takes-list xs h = takes-leaves flatTyped (G .typed) xs (rw (deep-list xs) at h)
 
   takes-body : (b : Body) → resultCode b ≤ 3 → Fits d (flatBody b) (deepBody b) → Takes (bodyBelow r (resultCode b)) (flatBody b) b
@@ -85,7 +85,7 @@ takes-root t h = takes-root-at 62 t (record { layout = h .layout; depth = h .dep
 
 -- ── what is written ──
 module _ {r : Below} {d : ℕ} (G : Gives r d) where
-  yields-list : (n : ℕ) → Yields (times n (r .typed)) (λ us xs. Kept d us (map flatTyped xs) (deepList xs) × (length xs ≡ n))
+  yields-list : (n : ℕ) → Yields (repeated n (r .typed)) (λ us xs. Kept d us (map flatTyped xs) (deepList xs) × (length xs ≡ n))
   yields-list n = yields-times (λ us xs. Kept d us (map flatTyped xs) (deepList xs)) kept-none (λ us vs x xs a b. kept-leaf a b) (G .typed) n
 
   yields-body : (n : ℕ) → n ≤ 3 → Yields (bodyBelow r n) (λ us b. Kept d us (flatBody b) (deepBody b) × (resultCode b ≡ n))

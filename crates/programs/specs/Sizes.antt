@@ -4,10 +4,9 @@ use mathlib.Core.List.{List, [], _∷_, _++_}
 use Prim.Native.Nat.{ℕ, suc, _+_, _≤_, max}
 use native.Mathlib.Omega.{arith}
 use lib.ListN.{length, length-append}
+use Rattle.language.specs.Program.{deepS, deepItems, deepArms, deepTarget, deepE, deepEs, deepBody, deepGlobal, deepGlobals, nesting, total}
 use Rattle.language.specs.Tree.{Stmt, block, assign, when, choose, while, goto, assert, call, setLevel, select, Items, noItem, label, item, Arms, lastArm, arm, Target, toVariable, toField, Expr, number, truth, pattern, null, variable, invoke, field, make, operate1, operate2, conditional, fader, blockExpr, Exprs, noExpr, expr, Body, proper, function, Global, local, class, procedure, Tree}
-use Rattle.language.specs.Table.{deepS, deepItems, deepArms, deepTarget, deepE, deepEs, deepBody, deepGlobal, deepGlobals, nesting}
 use Rattle.language.specs.Faults.{sizeS, sizeItems, sizeArms, sizeTarget, sizeE, sizeEs, sizeBody, sizeGlobal}
-use Rattle.language.specs.Judge.{total}
 use Rattle.programs.specs.Outline.{Outline, none, under, _beside_, size, depths, deepest, leavesOf, outlineS, outlineItems, outlineArms, outlineTarget, outlineE, outlineEs, outlineBody, outlineGlobal, outlineHead, outline}
 use Rattle.programs.specs.ReadBack.{leaves, deep-head}
 use Rattle.programs.specs.Roots.{deep-list}

@@ -10,7 +10,7 @@ use Rattle.values.specs.Types.{integer}
 use Rattle.values.specs.Operators.{negate, plus, unaryOf, binaryOf}
 use Rattle.language.specs.Tree.{typed, holding, Stmt, block, assign, when, choose, while, goto, assert, call, setLevel, select, Items, Target, toVariable, toField, Expr, number, truth, pattern, null, variable, invoke, field, make, operate1, operate2, conditional, fader, blockExpr, Exprs}
 use Rattle.language.specs.Table as T
-use Rattle.language.specs.Table.{Entry, entry, inLayout, made, first, formTyped, formDecl, Part, named, done, itemsOf, armsOf, exprsOf, Below, formS, formPart, formTarget, formE, below}
+use Rattle.language.specs.Table.{Entry, entry, inLayout, made, first, formTyped, formDecl, Part, labelPart, stmtPart, itemsOf, armsOf, exprsOf, Below, formS, formPart, formTarget, formE, below}
 use Rattle.programs.specs.Outline.{Outline, leaf, depths, leavesOf, outlineS, outlineItems, outlineArms, outlineTarget, outlineE, outlineEs}
 use Rattle.programs.specs.Stops.{Whole, Stops, stops-here, stops-made, stops-two, stops-three, stops-times, Forms, goes, forms-stop, forms-if, forms-made, Rooted, stops-at-once, stops-first}
 
@@ -19,8 +19,8 @@ abbrev pub one : {A : Type 0} → ℕ → A → List ℕ
 one d x = d ∷ []
 
 abbrev outlinePart : Part → Outline
-outlinePart (named a) = leaf
-outlinePart (done s) = outlineS s
+outlinePart (labelPart a) = leaf
+outlinePart (stmtPart s) = outlineS s
 
 abbrev pub partAt : ℕ → Part → List ℕ
 partAt d x = depths d (outlinePart x)
@@ -72,8 +72,8 @@ root-stmt d s =
 
 root-part : (d : ℕ) → Rooted d (partAt d)
 unfolding depths
-root-part d (named a) = refl
-root-part d (done s) = root-stmt d s
+root-part d (labelPart a) = refl
+root-part d (stmtPart s) = root-stmt d s
 
 root-target : (d : ℕ) → Rooted d (targetAt d)
 unfolding depths outlineS
@@ -119,23 +119,23 @@ decl-form e =
     (forms-if (eqb (e .kind) 14) (goes (stops-here _ refl)) forms-stop)
 
 module _ {r q : Below} {d : ℕ} (G : Beside r q (suc d)) where
-  stops-head : (n : ℕ) → Stops (T.times n (r .decl)) (T.times n (q .decl)) (leavesAt (suc d))
+  stops-head : (n : ℕ) → Stops (T.repeated n (r .decl)) (T.repeated n (q .decl)) (leavesAt (suc d))
   unfolding depths leavesOf
   stops-head n = stops-times (leavesAt (suc d)) refl (λ x xs. refl) (G .decl) n
 
-  pub stops-items : (n : ℕ) → Stops (made itemsOf (T.times n (r .part))) (made itemsOf (T.times n (q .part))) (itemsAt (suc d))
+  pub stops-items : (n : ℕ) → Stops (made itemsOf (T.repeated n (r .part))) (made itemsOf (T.repeated n (q .part))) (itemsAt (suc d))
   unfolding depths outlineS itemsOf
   stops-items n = stops-made itemsOf (stops-times (λ ps. itemsAt (suc d) (itemsOf ps)) refl more (G .part) n) (λ ps. refl)
     where
       more : (p : Part) (ps : List Part) → itemsAt (suc d) (itemsOf (p ∷ ps)) ≡ partAt (suc d) p ++ itemsAt (suc d) (itemsOf ps)
-      more (named a) ps = refl
-      more (done s) ps = refl
+      more (labelPart a) ps = refl
+      more (stmtPart s) ps = refl
 
-  stops-exprs : (n : ℕ) → Stops (made exprsOf (T.times n (r .expr))) (made exprsOf (T.times n (q .expr))) (exprsAt (suc d))
+  stops-exprs : (n : ℕ) → Stops (made exprsOf (T.repeated n (r .expr))) (made exprsOf (T.repeated n (q .expr))) (exprsAt (suc d))
   unfolding depths outlineS exprsOf
   stops-exprs n = stops-made exprsOf (stops-times (λ es. exprsAt (suc d) (exprsOf es)) refl (λ e es. refl) (G .expr) n) (λ es. refl)
 
-  stops-arms : (n : ℕ) → Stops (T.times n (r .stmt)) (T.times n (q .stmt)) (stmtsAt (suc d))
+  stops-arms : (n : ℕ) → Stops (T.repeated n (r .stmt)) (T.repeated n (q .stmt)) (stmtsAt (suc d))
   unfolding stmtsAt
   stops-arms n = stops-times (stmtsAt (suc d)) refl (λ s ss. refl) (G .stmt) n
 
@@ -158,7 +158,7 @@ module _ {r q : Below} {d : ℕ} (G : Beside r q (suc d)) where
 
   part-form : (e : Entry) → Forms e (formPart r e) (formPart q e) (partAt d)
   unfolding depths formPart
-  part-form e = forms-if (eqb (e .kind) 20) (goes (stops-here (named (e .a)) refl)) (forms-made done (stmt-form e) (λ s. refl))
+  part-form e = forms-if (eqb (e .kind) 20) (goes (stops-here (labelPart (e .a)) refl)) (forms-made stmtPart (stmt-form e) (λ s. refl))
 
   target-form : (e : Entry) → Forms e (formTarget r e) (formTarget q e) (targetAt d)
   unfolding depths outlineS formTarget
@@ -195,7 +195,7 @@ module _ (q : Below) (d : ℕ) where
   unfolding first inLayout formDecl
   blank-decl = record { takes = record { takes = λ rest. refl }; count = refl }
 
-  blank-part : Whole (first (formPart q)) (partAt d) (entry 20 0 (pos 0) ∷ []) (named 0)
+  blank-part : Whole (first (formPart q)) (partAt d) (entry 20 0 (pos 0) ∷ []) (labelPart 0)
   unfolding first inLayout formPart depths
   blank-part = record { takes = record { takes = λ rest. refl }; count = refl }
 

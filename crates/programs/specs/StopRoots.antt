@@ -8,9 +8,10 @@ use lib.Dec.{eqb, ltb}
 use lib.IntN.{pos, natAbs}
 use lib.ListN.{length, take, drop, getD, length-append, take-append-drop}
 use lib.Seq.{take-append-seam, take-append-add, take-take}
+use Rattle.language.specs.Program.{flatten, nesting}
 use Rattle.values.specs.Types.{integer}
 use Rattle.language.specs.Tree.{holding, noItem, Body, proper, function, Global, local, class, procedure, Tree}
-use Rattle.language.specs.Table.{Entry, entry, inLayout, tyOfCode, flatten, nesting, Read, took, stop, after, times, first, formDecl, itemsOf, Below, bodyBelow, formGlobal, readHead, classCount, procedureCount, treeOf, formRoot}
+use Rattle.language.specs.Table.{Entry, entry, inLayout, tyOfCode, Read, took, stop, after, repeated, first, formDecl, itemsOf, Below, bodyBelow, formGlobal, readHead, classCount, procedureCount, treeOf, formRoot}
 use Rattle.programs.specs.Basics.{clash}
 use Rattle.programs.specs.Claims.{Readable, Begins, FirstUnread}
 use Rattle.programs.specs.Outline.{size, depths, leavesOf, outlineBody, outlineGlobal, outlineHead, outlineS, outline}
@@ -40,7 +41,7 @@ root-global d (procedure a xs b) = refl
 
 -- ── the root's head ──
 module _ {r q : Below} {d : ℕ} (G : Beside r q (suc d)) (s : d ≤ 64) where
-  stops-list : (n : ℕ) → Stops (times n (r .typed)) (times n (q .typed)) (leavesAt (suc d))
+  stops-list : (n : ℕ) → Stops (repeated n (r .typed)) (repeated n (q .typed)) (leavesAt (suc d))
   unfolding depths leavesOf
   stops-list n = stops-times (leavesAt (suc d)) refl (λ x xs. refl) (G .typed) n
 
@@ -70,7 +71,7 @@ module _ {r q : Below} {d : ℕ} (G : Beside r q (suc d)) (s : d ≤ 64) where
 
 -- ── the root ──
 blank-root : (m : ℕ) → Whole (first (formRootAt m)) treeAt (entry 1 0 (pos 0) ∷ []) (treeOf [] noItem)
-unfolding formRootAt first inLayout readHead after times itemsOf depths outline outlineHead outlineS
+unfolding formRootAt first inLayout readHead after repeated itemsOf depths outline outlineHead outlineS
 blank-root m = record { takes = record { takes = λ rest. refl }; count = refl }
 
 stops-root : (m : ℕ) → 62 < m → Stops (first formRoot) (first (formRootAt m)) treeAt

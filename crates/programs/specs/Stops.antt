@@ -8,7 +8,7 @@ use native.Mathlib.Omega.{arith}
 use lib.ListN.{length, getD, drop, length-append, List·getD-append}
 use lib.Seq.{getD-append-add}
 use Rattle.words.specs.Choice.{if_then_else_}
-use Rattle.language.specs.Table.{Entry, inLayout, Read, took, stop, Reader, after, made, two, three, times, first}
+use Rattle.language.specs.Table.{Entry, inLayout, Read, took, stop, Reader, after, made, two, three, repeated, first}
 use Rattle.programs.specs.Basics.{clash}
 use Rattle.programs.specs.Takes.{Takes, takes-here, takes-made, takes-after}
 use Rattle.programs.specs.Yields.{split-after}
@@ -226,8 +226,8 @@ stops-three {B = B} {C = C} {r = r} {q = q} {s = s} {p = p} {u = u} {v = v} {E =
     (stops-two (λ x. of (f x)) h both (λ x yz. j x (yz .0) (yz .1)))
 
 pub stops-times : {A : Type 0} {r q : Reader A} {D : A → List ℕ} (P : List A → List ℕ) → P [] ≡ [] → ((x : A) (xs : List A) → P (x ∷ xs) ≡ D x ++ P xs)
-    → Stops r q D → (n : ℕ) → Stops (times n r) (times n q) P
-unfolding times
+    → Stops r q D → (n : ℕ) → Stops (repeated n r) (repeated n q) P
+unfolding repeated
 stops-times P none more h zero = stops-here [] none
 stops-times P none more h (suc n) = stops-two (λ x xs. x ∷ xs) h (stops-times P none more h n) more
 

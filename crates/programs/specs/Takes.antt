@@ -5,7 +5,7 @@ use mathlib.Core.List.{List, [], _∷_, _++_, append-assoc}
 use Prim.Native.Nat.{ℕ, suc, _≤_, max}
 use native.Mathlib.Omega.{arith}
 use Rattle.words.specs.Lists.{all}
-use Rattle.language.specs.Table.{Entry, inLayout, Reader, took, after, made, two, three, times, first}
+use Rattle.language.specs.Table.{Entry, inLayout, Reader, took, after, made, two, three, repeated, first}
 use Rattle.programs.specs.Basics.{both-left, both-right, all-append}
 
 -- ── entries that keep to the layout, nested no deeper than so ──
@@ -78,13 +78,13 @@ pub takes-three : {A B C D : Type 0} {r : Reader A} {q : Reader B} {p : Reader C
     → Fits d (us ++ (vs ++ ws)) (max n (max m l)) → (Fits d us n → Takes r us x) → (Fits d vs m → Takes q vs y) → (Fits d ws l → Takes p ws z) → Takes (three f r q p) (us ++ (vs ++ ws)) (f x y z)
 takes-three {q = q} {p = p} {x = x} f g h k j = takes-then (λ z. two (f z) q p) g h (λ v. takes-two (f x) v k j)
 
-pub takes-none : {A : Type 0} (r : Reader A) → Takes (times 0 r) [] []
-unfolding times
+pub takes-none : {A : Type 0} (r : Reader A) → Takes (repeated 0 r) [] []
+unfolding repeated
 takes-none r = record { takes = λ rest. refl }
 
 pub takes-more : {A : Type 0} {r : Reader A} {us vs : List Entry} {x : A} {xs : List A} {d n m : ℕ} (l : ℕ) → Fits d (us ++ vs) (max n m)
-    → (Fits d us n → Takes r us x) → (Fits d vs m → Takes (times l r) vs xs) → Takes (times (suc l) r) (us ++ vs) (x ∷ xs)
-unfolding times
+    → (Fits d us n → Takes r us x) → (Fits d vs m → Takes (repeated l r) vs xs) → Takes (repeated (suc l) r) (us ++ vs) (x ∷ xs)
+unfolding repeated
 takes-more l g h k = takes-two (λ x xs. x ∷ xs) g h k
 
 pub takes-first : {A : Type 0} {d n : ℕ} {e : Entry} {us : List Entry} {x : A} (f : Entry → Reader A) → Fits (suc d) (e ∷ us) (suc n)

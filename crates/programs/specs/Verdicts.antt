@@ -7,15 +7,16 @@ use native.Mathlib.Omega.{arith}
 use lib.Dec.{eqb, ltb}
 use lib.ListN.{length}
 use borrow.Author.Tests.{eqb-true, eqb-false, ltb-true, ltb-false}
+use Rattle.language.specs.Program.{flatten, tableBytes, Program, inFields}
 use Rattle.words.specs.Lists.{all}
 use Rattle.words.specs.Choice.{if_then_else_}
 use Rattle.words.specs.Laws.{Bytes}
 use Rattle.values.specs.Ends.{Refusal, refusal, Judged, accepted, refused}
 use Rattle.language.specs.Tree.{Tree}
-use Rattle.language.specs.Table.{flatten, bytesOf, Read, took, stop, first, formRoot, oneTree, readTable}
+use Rattle.language.specs.Table.{Read, took, stop, first, formRoot, oneTree, readTable}
 use Rattle.language.specs.Faults.{faults}
 use Rattle.language.specs.Limits.{limits}
-use Rattle.language.specs.Judge.{firstFault, judgeTree, judgeTable, inFields, Program}
+use Rattle.language.specs.Judge.{firstFault, judgeTree, judgeTable}
 use Rattle.programs.specs.Basics.{clash}
 use Rattle.programs.specs.Bytes.{bytes-back, fields-kept, entries-all, length-bytes}
 use Rattle.programs.specs.Claims.{Readable, entriesOf, Misshapen, empty, over, uneven, Shaped, Holds, Verdict, misshapen, unread, faulty, sound}
@@ -87,7 +88,7 @@ program-holds l p =
 holds-program : (l : List ℕ) → Bytes l → (t : Tree) → Holds l t → faults t ++ limits t ≡ [] → Program l
 holds-program l b t h e =
     let n = length l / 8 in
-    let w : bytesOf (flatten t) ≡ l = ap bytesOf (sym (h .same)) ∙ bytes-back n l b (omega arith) in
+    let w : tableBytes (flatten t) ≡ l = ap tableBytes (sym (h .same)) ∙ bytes-back n l b (omega arith) in
     record {
       tree = t;
       written = w;

@@ -9,12 +9,15 @@ use lib.Dec.{eqb, leb}
 use lib.IntN.{ℤ, pos, negsuc, natAbs}
 use lib.ListN.{length}
 use borrow.Author.Tests.{eqb-true, leb-true}
+use Rattle.values.specs.Arithmetic.{isZero}
+use Rattle.values.specs.Values.{between}
+use Rattle.language.specs.Program.{flatTyped, flatDecl, flag, flatS, flatItems, flatArms, flatTarget, flatE, flatEs, deepHead, deepS, deepItems, deepArms, deepTarget, deepE, deepEs}
 use Rattle.words.specs.Options.{isSome}
 use Rattle.words.specs.Choice.{if_then_else_}
 use Rattle.values.specs.Operators.{negate, plus, unaryOf, binaryOf}
 use Rattle.language.specs.Tree.{Typed, Decl, Items, Target, Exprs, Stmt, block, assign, when, choose, while, assert, call, setLevel, select, toField, Expr, invoke, field, make, operate1, operate2, conditional, fader, blockExpr, expr, countItems, countArms, countExprs}
 use Rattle.language.specs.Table as T
-use Rattle.language.specs.Table.{Entry, entry, inLayout, nothing, natural, within, flag, asTyped, tyOfCode, flatTyped, flatDecl, flatS, flatItems, flatArms, flatTarget, flatE, flatEs, deepHead, deepS, deepItems, deepArms, deepTarget, deepE, deepEs, Reader, made, first, formTyped, formDecl, Part, named, done, itemsOf, armsOf, exprsOf, Below, formS, formPart, formTarget, formE, below}
+use Rattle.language.specs.Table.{Entry, entry, inLayout, natural, asTyped, tyOfCode, Reader, made, first, formTyped, formDecl, Part, labelPart, stmtPart, itemsOf, armsOf, exprsOf, Below, formS, formPart, formTarget, formE, below}
 use Rattle.programs.specs.Basics.{clash, both-left, both-right}
 use Rattle.programs.specs.Codes.{unary-coded, binary-coded, type-coded, nothing-zero, natural-pos}
 use Rattle.programs.specs.Takes.{Fits, fits-cons, fits-join, fits-none}
@@ -80,25 +83,25 @@ module _ (e : Entry) {k : ℕ} (q : e .kind ≡ k) where
   entry-is p r = λ i. record { kind = q i; a = p i; b = r i }
 
   -- a test on a, and nothing in b
-  named-is : {a : ℕ} (t : Bool) → (t && nothing (e .b)) ≡ true → (t ≡ true → e .a ≡ a) → e ≡ entry k a (pos 0)
-  named-is t h p = entry-is (p (both-left t (nothing (e .b)) h)) (nothing-zero (e .b) (both-right t (nothing (e .b)) h))
+  named-is : {a : ℕ} (t : Bool) → (t && isZero (e .b)) ≡ true → (t ≡ true → e .a ≡ a) → e ≡ entry k a (pos 0)
+  named-is t h p = entry-is (p (both-left t (isZero (e .b)) h)) (nothing-zero (e .b) (both-right t (isZero (e .b)) h))
 
-  plain-is : (eqb (e .a) 0 && nothing (e .b)) ≡ true → e ≡ entry k 0 (pos 0)
+  plain-is : (eqb (e .a) 0 && isZero (e .b)) ≡ true → e ≡ entry k 0 (pos 0)
   plain-is h = named-is (eqb (e .a) 0) h (eqb-true (e .a) 0)
 
   -- a number in b
   pub counted-is : {a n : ℕ} → natural (e .b) ≡ true → a ≡ e .a → n ≡ natAbs (e .b) → e ≡ entry k a (pos n)
   counted-is h p r = entry-is (sym p) (rw r (natural-pos (e .b) h))
 
-  flag-is : (eqb (e .a) 0 && within 0 1 (e .b)) ≡ true → e ≡ entry k 0 (flag (not (nothing (e .b))))
-  flag-is h = entry-is (eqb-true (e .a) 0 (both-left (eqb (e .a) 0) (within 0 1 (e .b)) h)) (back (e .b) (both-right (eqb (e .a) 0) (within 0 1 (e .b)) h))
+  flag-is : (eqb (e .a) 0 && between 0 1 (e .b)) ≡ true → e ≡ entry k 0 (flag (not (isZero (e .b))))
+  flag-is h = entry-is (eqb-true (e .a) 0 (both-left (eqb (e .a) 0) (between 0 1 (e .b)) h)) (back (e .b) (both-right (eqb (e .a) 0) (between 0 1 (e .b)) h))
     where
-      small : (n : ℕ) → n ≤ 1 → pos n ≡ flag (not (nothing (pos n)))
+      small : (n : ℕ) → n ≤ 1 → pos n ≡ flag (not (isZero (pos n)))
       small zero h = refl
       small (suc zero) h = refl
       small (suc (suc n)) h = absurd (omega arith)
 
-      back : (z : ℤ) → within 0 1 z ≡ true → z ≡ flag (not (nothing z))
+      back : (z : ℤ) → between 0 1 z ≡ true → z ≡ flag (not (isZero z))
       back (pos n) h = small n (leb-true n 1 (both-right (leb 0 n) (leb n 1) h))
       back (negsuc n) h = clash (cc)
 
@@ -139,8 +142,8 @@ pub record Gives (r : Below) (d : ℕ) : Type 0 where
 count-items : (ps : List Part) → countItems (itemsOf ps) ≡ length ps
 unfolding countItems itemsOf
 count-items [] = refl
-count-items (named a ∷ ps) = ap suc (count-items ps)
-count-items (done s ∷ ps) = ap suc (count-items ps)
+count-items (labelPart a ∷ ps) = ap suc (count-items ps)
+count-items (stmtPart s ∷ ps) = ap suc (count-items ps)
 
 count-exprs : (es : List Expr) → countExprs (exprsOf es) ≡ length es
 unfolding countExprs exprsOf
@@ -153,26 +156,26 @@ count-arms s [] = refl
 count-arms s (t ∷ ts) = ap suc (count-arms t ts)
 
 module _ {r : Below} {d : ℕ} (G : Gives r d) where
-  yields-head : (n : ℕ) → Yields (T.times n (r .decl)) (λ us ds. IsHead d us ds × (length ds ≡ n))
+  yields-head : (n : ℕ) → Yields (T.repeated n (r .decl)) (λ us ds. IsHead d us ds × (length ds ≡ n))
   yields-head n = yields-times (IsHead d) kept-none (λ us vs x xs a b. kept-leaf a b) (G .decl) n
 
-  pub yields-items : (n : ℕ) → Yields (made itemsOf (T.times n (r .part))) (λ us is. IsItems d us is × (countItems is ≡ n))
+  pub yields-items : (n : ℕ) → Yields (made itemsOf (T.repeated n (r .part))) (λ us is. IsItems d us is × (countItems is ≡ n))
   unfolding itemsOf flatS deepS
   yields-items n =
       yields-made itemsOf (yields-times (λ us ps. IsItems d us (itemsOf ps)) kept-none more (G .part) n)
       (λ us ps a. (a .0, count-items ps ∙ a .1))
     where
       more : (us vs : List Entry) (p : Part) (ps : List Part) → IsPart d us p → IsItems d vs (itemsOf ps) → IsItems d (us ++ vs) (itemsOf (p ∷ ps))
-      more us vs (named x) ps a b = kept-join a b
-      more us vs (done s) ps a b = kept-join a b
+      more us vs (labelPart x) ps a b = kept-join a b
+      more us vs (stmtPart s) ps a b = kept-join a b
 
-  yields-exprs : (n : ℕ) → Yields (made exprsOf (T.times n (r .expr))) (λ us es. IsExprs d us es × (countExprs es ≡ n))
+  yields-exprs : (n : ℕ) → Yields (made exprsOf (T.repeated n (r .expr))) (λ us es. IsExprs d us es × (countExprs es ≡ n))
   unfolding exprsOf flatS deepS
   yields-exprs n =
       yields-made exprsOf (yields-times (λ us es. IsExprs d us (exprsOf es)) kept-none (λ us vs x xs a b. kept-join a b) (G .expr) n)
       (λ us es a. (a .0, count-exprs es ∙ a .1))
 
-  yields-arms : (n : ℕ) → Yields (T.times n (r .stmt)) (λ us ss. IsMore d us ss × (length ss ≡ n))
+  yields-arms : (n : ℕ) → Yields (T.repeated n (r .stmt)) (λ us ss. IsMore d us ss × (length ss ≡ n))
   unfolding armsOf flatS deepS
   yields-arms n = yields-times (IsMore d) (λ t vs k. rw (append-nil vs) k) (λ us vs x xs a b t ws k. kept-join k (b x us a)) (G .stmt) n
 
@@ -200,7 +203,7 @@ module _ {r : Below} {d : ℕ} (G : Gives r d) where
   yields-part =
       yields-first (formPart r) λ e l.
       kind-if e 20 l (λ q m. yields-here (kept-cons l (named-is e q true m (λ t. refl)) kept-none))
-      (yields-made done (stmt-yields e l) (λ us s a. a))
+      (yields-made stmtPart (stmt-yields e l) (λ us s a. a))
 
   yields-target : Yields (first (formTarget r)) (IsTarget (suc d))
   unfolding formTarget flatS deepS inLayout

@@ -5,7 +5,7 @@ use mathlib.Core.List.{List, [], _∷_, _++_, append-assoc, append-nil}
 use Prim.Native.Nat.{ℕ, zero, suc}
 use lib.ListN.{length}
 use Rattle.words.specs.Choice.{if_then_else_}
-use Rattle.language.specs.Table.{Entry, inLayout, Read, took, stop, Reader, after, made, two, three, times, first}
+use Rattle.language.specs.Table.{Entry, inLayout, Read, took, stop, Reader, after, made, two, three, repeated, first}
 use Rattle.programs.specs.Basics.{clash}
 
 -- entries and a part of which Q holds, and the entries left
@@ -76,11 +76,11 @@ yields-three {q = q} {p = p} f h k l g =
 -- as many as the count says, of which P holds from the first to the last
 pub yields-times : {A : Type 0} {r : Reader A} {Q : Claim A} (P : Claim (List A)) → P [] []
     → ((us vs : List Entry) (x : A) (xs : List A) → Q us x → P vs xs → P (us ++ vs) (x ∷ xs)) → Yields r Q → (n : ℕ)
-    → Yields (times n r) (λ us xs. P us xs × (length xs ≡ n))
-unfolding times
+    → Yields (repeated n r) (λ us xs. P us xs × (length xs ≡ n))
+unfolding repeated
 yields-times P none more h zero = yields-here (none, refl)
 yields-times {r = r} P none more h (suc n) =
-    yields-after (λ x rest. after (times n r rest) (λ xs. took (x ∷ xs))) h
+    yields-after (λ x rest. after (repeated n r rest) (λ xs. took (x ∷ xs))) h
     (λ us x a. yields-made (λ xs. x ∷ xs) (yields-times P none more h n) (λ vs xs b. (more us vs x xs a (b .0), ap suc (b .1))))
 
 pub yields-first : {A : Type 0} {T : Claim A} (f : Entry → Reader A)

@@ -10,7 +10,7 @@ use lib.ListN.{length, drop, replicate, length-drop}
 use lib.Seq.{drop-drop}
 use Rattle.words.specs.Choice.{if_then_else_}
 use Rattle.language.specs.Table as table
-use Rattle.language.specs.Table.{Entry, inLayout, took, stop, Reader, after, made, times, first}
+use Rattle.language.specs.Table.{Entry, inLayout, took, stop, Reader, after, made, repeated, first}
 use Rattle.reader.specs.declared.kinds.Sort.{Sort}
 use Rattle.reader.specs.declared.Read.{Read}
 use Rattle.reader.specs.declared.Read.the-variants.{Tree, Fault}
@@ -92,18 +92,18 @@ module _ (w : Sort → List Entry → Read) where
   after-after (stop es) g mk f = refl
 
   -- as many as a count says
-  pub same-times : {A : Type 0} {r : Reader A} {s : Sort} → Same r (w s) → (n : ℕ) → Chained (times n r) (replicate n s)
-  unfolding times
+  pub same-times : {A : Type 0} {r : Reader A} {s : Sort} → Same r (w s) → (n : ℕ) → Chained (repeated n r) (replicate n s)
+  unfolding repeated
   same-times h zero = same-none []
-  same-times {r = r} h (suc n) = same-then (λ x rest. after (times n r rest) (λ xs. took (x ∷ xs))) h (λ x. same-made (λ xs. x ∷ xs) (same-times h n))
+  same-times {r = r} h (suc n) = same-then (λ x rest. after (repeated n r rest) (λ xs. took (x ∷ xs))) h (λ x. same-made (λ xs. x ∷ xs) (same-times h n))
 
   pub times-then : {A B : Type 0} {r : Reader A} {s : Sort} {ss : List Sort} → Same r (w s) → (n : ℕ) (f : List A → Reader B)
-      → ((xs : List A) → Chained (f xs) ss) → Chained (λ es. after (times n r es) f) (replicate n s ++ ss)
-  unfolding times after
+      → ((xs : List A) → Chained (f xs) ss) → Chained (λ es. after (repeated n r es) f) (replicate n s ++ ss)
+  unfolding repeated after
   times-then h zero f k = k []
   times-then {r = r} h (suc n) f k =
-      same-eq (same-then (λ x rest. after (times n r rest) (λ xs. f (x ∷ xs))) h (λ x. times-then h n (λ xs. f (x ∷ xs)) (λ xs. k (x ∷ xs))))
-      (λ es. after-after (r es) (times n r) (λ x xs. x ∷ xs) f)
+      same-eq (same-then (λ x rest. after (repeated n r rest) (λ xs. f (x ∷ xs))) h (λ x. times-then h n (λ xs. f (x ∷ xs)) (λ xs. k (x ∷ xs))))
+      (λ es. after-after (r es) (repeated n r) (λ x xs. x ∷ xs) f)
 
 -- ── an entry ──
 -- what follows an entry is read one further on

@@ -9,21 +9,22 @@ use lib.Dec.{leb, leb·zero}
 use lib.IntN.{ℤ, pos, negsuc, natAbs}
 use lib.Signed.{leZ}
 use borrow.Author.Tests.{ne-eqb, lt-leb}
+use Rattle.values.specs.Values.{between}
 use Rattle.words.specs.Options.{isSome}
 use Rattle.words.specs.Choice.{if_then_else_}
 use Rattle.values.specs.Operators.{binaryOf}
-use Rattle.language.specs.Table.{natural, within}
+use Rattle.language.specs.Table.{natural}
 
 pub natural-least : (z : ℤ) → leZ (pos 0) z ≡ natural z
 natural-least (pos n) = leb·zero n
 natural-least (negsuc n) = refl
 
 -- a range in terms of the sign and the size
-pub within-parts : (lo hi : ℕ) (z : ℤ) → within lo hi z ≡ (natural z && (leb lo (natAbs z) && leb (natAbs z) hi))
+pub within-parts : (lo hi : ℕ) (z : ℤ) → between lo hi z ≡ (natural z && (leb lo (natAbs z) && leb (natAbs z) hi))
 within-parts lo hi (pos n) = refl
 within-parts lo hi (negsuc n) = refl
 
-pub within-top : (hi : ℕ) (z : ℤ) → within 0 hi z ≡ (natural z && leb (natAbs z) hi)
+pub within-top : (hi : ℕ) (z : ℤ) → between 0 hi z ≡ (natural z && leb (natAbs z) hi)
 within-top hi (pos n) = rw (leb·zero n)
 within-top hi (negsuc n) = refl
 

@@ -10,12 +10,13 @@ use lib.Dec.{eqb, leb}
 use lib.IntN.{natAbs}
 use lib.ListN.{replicate}
 use borrow.Author.Tests.{ne-eqb, leb-true}
+use Rattle.values.specs.Arithmetic.{isZero}
 use Rattle.words.specs.Choice.{if_then_else_}
 use Rattle.language.specs.Tree as tree
 use Rattle.language.specs.Tree.{block, assign, when, choose, while, assert, call, setLevel, select, invoke, field, make, operate1, operate2, conditional, fader, blockExpr, toField}
 use Rattle.values.specs.Operators.{negate, plus, unaryOf, binaryOf}
 use Rattle.language.specs.Table as table
-use Rattle.language.specs.Table.{Entry, inLayout, nothing, Reader, made, two, three, times, Below, named, done, itemsOf, armsOf, itemsBelow, exprsOf, exprsBelow, formTyped, formDecl, formPart, formS, formTarget, formE, below}
+use Rattle.language.specs.Table.{Entry, inLayout, Reader, made, two, three, repeated, Below, labelPart, stmtPart, itemsOf, armsOf, itemsBelow, exprsOf, exprsBelow, formTyped, formDecl, formPart, formS, formTarget, formE, below}
 use Rattle.programs.specs.Basics.{both-left}
 use Rattle.reader.specs.declared.kinds.Sort.{Sort}
 use Rattle.reader.specs.declared.kinds.Sort.the-variants.{Typed, Decl, Part, Stmt, Target, Expr}
@@ -62,20 +63,20 @@ module _ (r : Below) (w : Sort → List Entry → Read) (h : (s : Sort) → Same
   guarded : {A : Type 0} (f : tree.Expr → tree.Stmt → A) → Chained w (two f (r .expr) (r .stmt)) ((Expr ∷ Stmt ∷ []))
   guarded f = same-then w (λ x. made (f x) (r .stmt)) (h Expr) (λ x. same-made w (f x) (same-one w (h Stmt)))
 
-  cases : (a : ℕ) → 1 ≤ a → Chained w (three (λ x s ss. select x (armsOf s ss)) (r .expr) (r .stmt) (times (a - 1) (r .stmt))) ((Expr ∷ replicate a Stmt))
+  cases : (a : ℕ) → 1 ≤ a → Chained w (three (λ x s ss. select x (armsOf s ss)) (r .expr) (r .stmt) (repeated (a - 1) (r .stmt))) ((Expr ∷ replicate a Stmt))
   cases a l =
       let p : a ≡ suc (a - 1) = omega arith in
       let q : replicate a Stmt ≡ Stmt ∷ replicate (a - 1) Stmt = ap (λ (m : ℕ). replicate m Stmt) p in
       rw q
-      (same-then w (λ x. two (λ s ss. select x (armsOf s ss)) (r .stmt) (times (a - 1) (r .stmt))) (h Expr)
-      (λ x. same-then w (λ s. made (λ ss. select x (armsOf s ss)) (times (a - 1) (r .stmt))) (h Stmt)
+      (same-then w (λ x. two (λ s ss. select x (armsOf s ss)) (r .stmt) (repeated (a - 1) (r .stmt))) (h Expr)
+      (λ x. same-then w (λ s. made (λ ss. select x (armsOf s ss)) (repeated (a - 1) (r .stmt))) (h Stmt)
       (λ s. same-made w (λ ss. select x (armsOf s ss)) (same-times w (h Stmt) (a - 1)))))
 
-  body : Chained w (three blockExpr (times (e .a) (r .decl)) (itemsBelow r e) (r .expr)) ((replicate (e .a) Decl ++ (replicate (natAbs (e .b)) Part ++ (Expr ∷ []))))
+  body : Chained w (three blockExpr (repeated (e .a) (r .decl)) (itemsBelow r e) (r .expr)) ((replicate (e .a) Decl ++ (replicate (natAbs (e .b)) Part ++ (Expr ∷ []))))
   body =
       times-then w (h Decl) (e .a) (λ ds. two (blockExpr ds) (itemsBelow r e) (r .expr))
       (λ ds. same-eq w (times-then w (h Part) (natAbs (e .b)) (λ ps. made (blockExpr ds (itemsOf ps)) (r .expr)) (λ ps. one-expr (blockExpr ds (itemsOf ps))))
-      (λ fs. made-after w (times (natAbs (e .b)) (r .part) fs) itemsOf (λ is. made (blockExpr ds is) (r .expr))))
+      (λ fs. made-after w (repeated (natAbs (e .b)) (r .part) fs) itemsOf (λ is. made (blockExpr ds is) (r .expr))))
 
   statement : inLayout e ≡ true → Ends (e ∷ es) (formS r e es) (if isS (e .kind) then moved 1 (chain w (sortsOf e) es) else Fault 0)
   unfolding formS isS sorts inLayout
@@ -108,7 +109,7 @@ module _ (r : Below) (w : Sort → List Entry → Read) (h : (s : Sort) → Same
                                                         | yes p ↦ rw p (below-entry (two-exprs setLevel))
                                                         | no n28 ↦
                                                             elim (ℕ-discrete (e .kind) 30) [
-                                                              | yes p ↦ rw p (below-entry (cases (e .a) (leb-true 1 (e .a) (both-left (leb 1 (e .a)) (nothing (e .b)) (rw p at l)))))
+                                                              | yes p ↦ rw p (below-entry (cases (e .a) (leb-true 1 (e .a) (both-left (leb 1 (e .a)) (isZero (e .b)) (rw p at l)))))
                                                               | no n30 ↦
                                                                   simp (ne-eqb _ _ n1, ne-eqb _ _ n21, ne-eqb _ _ n22, ne-eqb _ _ n23, ne-eqb _ _ n24, ne-eqb _ _ n25, ne-eqb _ _ n26, ne-eqb _ _ n27, ne-eqb _ _ n28, ne-eqb _ _ n30) (ends-stop (e ∷ es))
                                                             ]
@@ -196,9 +197,9 @@ module _ (r : Below) (w : Sort → List Entry → Read) (h : (s : Sort) → Same
   unfolding formPart sorts
   label-or l =
       elim (ℕ-discrete (e .kind) 20) [
-        | yes p ↦ rw p (below-entry (same-none w (named (e .a))))
+        | yes p ↦ rw p (below-entry (same-none w (labelPart (e .a))))
         | no n20 ↦
-            rw (ne-eqb _ _ n20) (ends-made done (statement l))
+            rw (ne-eqb _ _ n20) (ends-made stmtPart (statement l))
       ]
 
   pub declaration : Ends (e ∷ es) (formDecl e es) (if eqb (e .kind) 10 || eqb (e .kind) 14 then moved 1 (chain w (sortsOf e) es) else Fault 0)

@@ -16,7 +16,7 @@ use Rattle.values.specs.Types.{integer}
 use Rattle.language.specs.Tree as tree
 use Rattle.language.specs.Tree.{proper, function, Global, local, class, procedure}
 use Rattle.language.specs.Table as table
-use Rattle.language.specs.Table.{Entry, inLayout, took, stop, Reader, after, made, two, times, first, Below, itemsOf, itemsBelow, formDecl, below, bodyBelow, tyOfCode, formGlobal, classCount, procedureCount, readHead, treeOf, formRoot, oneTree, readTable}
+use Rattle.language.specs.Table.{Entry, inLayout, took, stop, Reader, after, made, two, repeated, first, Below, itemsOf, itemsBelow, formDecl, below, bodyBelow, tyOfCode, formGlobal, classCount, procedureCount, readHead, treeOf, formRoot, oneTree, readTable}
 use Rattle.programs.specs.Basics.{clash}
 use Rattle.programs.specs.Claims.{entriesOf}
 use Rattle.reader.specs.declared.kinds.Sort.{Sort}
@@ -86,12 +86,12 @@ form-counts r c p e es g rest q =
     let n = natAbs (e .b) in
     elim (ℕ-discrete (e .kind) 11) [
       | yes k ↦ rw k
-          (if-took (ltb c 16) (made (class (e .a)) (times n (r .typed)) es) (stop _) g rest (rw k at q) (λ m. made-took (times n (r .typed) es) (class (e .a)) 11 g rest m (λ y. (refl, refl))) stop-took)
+          (if-took (ltb c 16) (made (class (e .a)) (repeated n (r .typed)) es) (stop _) g rest (rw k at q) (λ m. made-took (repeated n (r .typed) es) (class (e .a)) 11 g rest m (λ y. (refl, refl))) stop-took)
       | no n11 ↦
           elim (ℕ-discrete (e .kind) 12) [
             | yes k ↦ rw k
-                (if-took (ltb p 63) (two (procedure (e .a)) (times (n / 256) (r .typed)) (bodyBelow r (n % 256)) es) (stop _) g rest (rw k at q)
-                (λ m. after-took (times (n / 256) (r .typed) es) (λ xs. made (procedure (e .a) xs) (bodyBelow r (n % 256))) g rest m
+                (if-took (ltb p 63) (two (procedure (e .a)) (repeated (n / 256) (r .typed)) (bodyBelow r (n % 256)) es) (stop _) g rest (rw k at q)
+                (λ m. after-took (repeated (n / 256) (r .typed) es) (λ xs. made (procedure (e .a) xs) (bodyBelow r (n % 256))) g rest m
                 (λ xs fs u. made-took (bodyBelow r (n % 256) fs) (procedure (e .a) xs) 12 g rest u (λ b. (refl, refl)))) stop-took)
             | no n12 ↦
                 made-took (formDecl e es) local (e .kind) g rest (rw (ne-eqb _ _ n11, ne-eqb _ _ n12) at q) (λ d. (rw (ne-eqb _ _ n11), rw (ne-eqb _ _ n12)))

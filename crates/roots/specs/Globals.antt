@@ -10,10 +10,11 @@ use lib.Dec.{eqb, leb}
 use lib.IntN.{pos}
 use lib.ListN.{length, length-append}
 use borrow.Author.Tests.{leb-true}
+use Rattle.language.specs.Program.{flatTyped, flatDecl, resultCode, flatBody, flatGlobal, flatHead}
 use Rattle.words.specs.Choice.{if_then_else_}
 use Rattle.values.specs.Types.{integer, logical, bits, reference, tyCode}
 use Rattle.language.specs.Tree.{declare, holding, Body, proper, function, Global, local, class, procedure}
-use Rattle.language.specs.Table.{entry, inLayout, flatTyped, flatDecl, flatBody, flatGlobal, flatHead, resultCode}
+use Rattle.language.specs.Table.{entry, inLayout}
 use Rattle.language.specs.Names.{definesHead, definesFields, definesGlobals, results}
 use Rattle.language.specs.Faults.{sizeGlobal}
 use Rattle.programs.specs.Basics.{both-left}

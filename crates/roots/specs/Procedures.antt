@@ -6,10 +6,10 @@ use native.Mathlib.Omega.{arith}
 use native.Mathlib.Nat.{add-assoc}
 use native.Mathlib.Numerals.{add-one}
 use lib.ListN.{length}
+use Rattle.language.specs.Program.{flatTyped, flatDecl, resultCode, flatBody, flatGlobal, deepBody}
 use Rattle.words.specs.Numbers.{halfAt, wordAt}
 use Rattle.values.specs.Types.{same}
 use Rattle.language.specs.Tree.{Typed, declare, Body, Global, local, class, procedure}
-use Rattle.language.specs.Table.{flatTyped, flatDecl, flatBody, flatGlobal, resultCode, deepBody}
 use Rattle.language.specs.Names.{Scope, definesTyped, procedureOf}
 use Rattle.language.specs.Faults.{twice, mistypedUnless, faultsHead, faultsBody, bodyFits, faultsGlobal, faults}
 use Rattle.programs.specs.Claims.{entriesOf}

@@ -9,12 +9,12 @@ use native.Mathlib.Numerals.{add-one}
 use lib.Dec.{eqb}
 use lib.ListN.{length, length-append}
 use borrow.Author.Tests.{ne-eqb}
+use Rattle.language.specs.Program.{flatTyped, flatDecl, resultCode, flatBody, flatGlobal, flatHead, deepBody, deepGlobal}
 use Rattle.words.specs.Choice.{if_then_else_}
 use Rattle.words.specs.Numbers.{halfAt, wordAt}
 use Rattle.values.specs.Types.{Ty, tyCode, same}
 use Rattle.values.specs.Ends.{Refusal, refusal}
 use Rattle.language.specs.Tree.{Typed, Decl, declare, holding, Stmt, Expr, Body, proper, function, Global, local, class, procedure}
-use Rattle.language.specs.Table.{flatTyped, flatDecl, flatBody, flatGlobal, flatHead, resultCode, deepBody, deepGlobal}
 use Rattle.language.specs.Names.{Scope}
 use Rattle.language.specs.Faults.{twice, typeFaults, mistypedUnless, typeE, faultsTyped, faultsHead, namesHead, namesTyped, namesGlobal, faultsBody, bodyFits, faultsGlobal, faultsGlobals, sizeGlobal}
 use Rattle.programs.specs.Claims.{entriesOf}

@@ -9,13 +9,14 @@ use native.Mathlib.Nat.{zero-add}
 use lib.Dec.{eqb, ltb}
 use lib.ListN.{length, drop, getD, length-append, length-drop}
 use borrow.Author.Tests.{ltb-false}
+use Rattle.language.specs.Program.{flatItems, flatGlobal, flatHead, flatten, deepGlobals, nesting}
 use Rattle.words.specs.Lists.{all}
 use Rattle.words.specs.Numbers.{halfAt, wordAt}
 use Rattle.words.specs.Laws.{Bytes}
 use Rattle.values.specs.Types.{same}
 use Rattle.values.specs.Ends.{accepted}
 use Rattle.language.specs.Tree.{Global, local, class, procedure, Tree, countItems}
-use Rattle.language.specs.Table.{Entry, inLayout, flatItems, flatGlobal, flatHead, flatten, deepGlobals, nesting, Read, took, stop, first, formRoot, oneTree, readTable}
+use Rattle.language.specs.Table.{Entry, inLayout, Read, took, stop, first, formRoot, oneTree, readTable}
 use Rattle.language.specs.Names.{Scope, definesGlobals, definesItems, rootOf}
 use Rattle.language.specs.Faults.{faultsItems, namesGlobal, faultsGlobal, faults, sizeGlobal}
 use Rattle.programs.specs.Basics.{clash, both-left, both-right}

@@ -4,9 +4,10 @@ use mathlib.Core.List.{List, [], _∷_, _++_, append-assoc}
 use Prim.Native.Nat.{ℕ, _+_, _-_, _*_, _≤_, _<_}
 use native.Mathlib.Omega.{arith}
 use lib.ListN.{length, drop, getD}
+use Rattle.language.specs.Program.{flatItems, flatE}
 use Rattle.words.specs.Numbers.{halfAt}
 use Rattle.language.specs.Tree.{Decl, Items, countItems}
-use Rattle.language.specs.Table.{Entry, flatItems, flatE}
+use Rattle.language.specs.Table.{Entry}
 use Rattle.language.specs.Names.{Scope, blockOf, expressionOf}
 use Rattle.language.specs.Faults.{typeE, isTy, mistypedUnless, sizeItems, sizeE, namesHead, faultsItems, faultsE}
 use Rattle.programs.specs.Claims.{entriesOf}

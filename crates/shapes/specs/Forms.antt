@@ -9,11 +9,12 @@ use native.Mathlib.Omega.{arith}
 use lib.Dec.{eqb}
 use lib.IntN.{pos}
 use lib.ListN.{length}
+use Rattle.language.specs.Program.{flatDecl, flag, flatS, flatItems, flatArms, flatTarget, flatE, flatEs, deepHead, deepS, deepItems, deepArms, deepTarget, deepE, deepEs}
 use Rattle.values.specs.Types.{Ty, integer, logical}
 use Rattle.values.specs.Ends.{Refusal}
 use Rattle.values.specs.Operators.{unary, binary, opType}
 use Rattle.language.specs.Tree.{Decl, Stmt, block, assign, when, choose, while, goto, assert, call, setLevel, select, Items, noItem, label, item, Arms, lastArm, arm, Target, toVariable, toField, Expr, number, truth, pattern, null, variable, invoke, field, make, operate1, operate2, conditional, fader, blockExpr, Exprs, noExpr, expr, countItems, countArms, countExprs}
-use Rattle.language.specs.Table.{Entry, entry, flag, flatDecl, flatS, flatItems, flatArms, flatTarget, flatE, flatEs, deepHead, deepS, deepItems, deepArms, deepTarget, deepE, deepEs}
+use Rattle.language.specs.Table.{Entry, entry}
 use Rattle.language.specs.Names.{Scope, blockOf, expressionOf}
 use Rattle.language.specs.Faults.{withTy, typeE, typesE, typeTarget, isTy, mistypedUnless, twice, sizeS, sizeItems, sizeTarget, sizeE, faultsHead, namesHead, faultsS, faultsItems, faultsArms, faultsTarget, faultsE, faultsEs, consTy}
 use Rattle.programs.specs.Basics.{clash}

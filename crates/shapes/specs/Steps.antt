@@ -12,11 +12,12 @@ use lib.IntN.{pos}
 use lib.ListN.{length, drop, take, getD, length-append, length-drop}
 use lib.Seq.{take-all, drop-drop}
 use borrow.Author.Tests.{ne-eqb}
+use Rattle.language.specs.Program.{flatDecl, flatS, flatItems, flatE, flatEs, deepItems, deepE, deepEs}
 use Rattle.words.specs.Choice.{if_then_else_}
 use Rattle.words.specs.Numbers.{halfAt, wordAt}
 use Rattle.values.specs.Types.{Ty, integer, logical}
 use Rattle.language.specs.Tree.{Decl, Stmt, Items, noItem, label, item, Expr, Exprs, noExpr, expr, countItems, countExprs}
-use Rattle.language.specs.Table.{Entry, entry, flatDecl, flatS, flatItems, flatE, flatEs, deepItems, deepE, deepEs}
+use Rattle.language.specs.Table.{Entry, entry}
 use Rattle.language.specs.Names.{Scope, blockOf, expressionOf, lookup}
 use Rattle.language.specs.Faults.{typeE, isTy, mistypedUnless, sizeS, sizeItems, sizeE, faultsHead, namesHead, faultsItems, faultsE, faultsEs}
 use Rattle.programs.specs.Basics.{clash}

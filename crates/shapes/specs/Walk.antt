@@ -5,10 +5,10 @@ use mathlib.Core.List.{List, map}
 use Prim.Native.Nat.{ℕ, _+_, _*_, _≤_, _<_}
 use lib.Dec.{eqb, ltb}
 use lib.ListN.{length, drop}
+use Rattle.language.specs.Program.{flatItems, flatEs, deepItems, deepEs}
 use Rattle.words.specs.Choice.{if_then_else_}
 use Rattle.values.specs.Ends.{Refusal}
 use Rattle.language.specs.Tree.{Items, Exprs, countItems, countExprs}
-use Rattle.language.specs.Table.{flatItems, flatEs, deepItems, deepEs}
 use Rattle.language.specs.Names.{Scope}
 use Rattle.language.specs.Faults.{faultsItems, faultsEs}
 use Rattle.programs.specs.Claims.{entriesOf}

@@ -7,13 +7,14 @@ use native.Mathlib.Omega.{arith}
 use lib.Dec.{eqb, ltb}
 use lib.ListN.{length, length-append}
 use borrow.Author.Tests.{ltb-false}
+use Rattle.language.specs.Program.{flatItems, flatGlobal, flatHead, flatten, total}
 use Rattle.words.specs.Choice.{if_then_else_}
 use Rattle.values.specs.Ends.{Refusal, refusal, Judged, accepted, refused}
 use Rattle.language.specs.Tree.{Global, local, class, procedure, Tree}
-use Rattle.language.specs.Table.{Entry, flatItems, flatGlobal, flatHead, flatten, Read, took, stop, first, formRoot, oneTree, readTable}
+use Rattle.language.specs.Table.{Entry, Read, took, stop, first, formRoot, oneTree, readTable}
 use Rattle.language.specs.Faults.{faultIf, sizeItems, sizeGlobal, faults}
 use Rattle.language.specs.Limits.{Usage, keepsLimits, bodyUsage, rootUsage, overLimits, procedureLimits, limits}
-use Rattle.language.specs.Judge.{firstFault, judgeTree, judgeTable, total}
+use Rattle.language.specs.Judge.{firstFault, judgeTree, judgeTable}
 use Rattle.programs.specs.Claims.{entriesOf}
 use Rattle.programs.specs.Order.{first-fault}
 use Rattle.spans.specs.Stands.{length-entries}

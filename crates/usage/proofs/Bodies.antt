@@ -10,14 +10,15 @@ use lib.IntN.{pos}
 use lib.ListN.{length, drop, length-append, length-replicate, length-map}
 use lib.Seq.{drop-at}
 use borrow.Author.Tests.{leb-true}
+use Rattle.language.specs.Program.{flatTyped, flatDecl, flatItems, resultCode, flatBody, flatGlobal, flatHead, flatten, deepItems, deepList, deepBody, deepGlobal, deepGlobals, nesting}
 use Rattle.words.specs.Choice.{if_then_else_}
 use Rattle.values.specs.Types.{integer, logical, bits, reference}
 use Rattle.values.specs.Ends.{Refusal, refusal, accepted, refused}
-use Rattle.language.specs.Tree.{Typed, declare, holding, Body, proper, function, Global, local, class, procedure, Tree, countItems}
+use Rattle.language.specs.Tree.{Typed, declare, holding, Body, proper, function, Global, local, class, procedure, Tree, countItems, locals}
 use Rattle.language.specs.Table as table
-use Rattle.language.specs.Table.{Entry, entry, inLayout, flatTyped, flatDecl, flatItems, resultCode, flatBody, flatGlobal, flatHead, flatten, deepList, deepBody, deepGlobal, deepGlobals, deepItems, nesting, took, stop, first, formRoot, oneTree, readTable}
+use Rattle.language.specs.Table.{Entry, entry, inLayout, took, stop, first, formRoot, oneTree, readTable}
 use Rattle.language.specs.Faults.{faultIf, sizeBody, sizeGlobal, sizeItems}
-use Rattle.language.specs.Limits.{headCells, headHolds, needItems, keepsLimits, bodyUsage, locals, rootUsage, overLimits, procedureLimits, limits}
+use Rattle.language.specs.Limits.{headCells, headHolds, needItems, keepsLimits, bodyUsage, rootUsage, overLimits, procedureLimits, limits}
 use Rattle.programs.specs.Basics.{clash, both-left}
 use Rattle.programs.specs.Claims.{Readable, entriesOf}
 use Rattle.programs.specs.Programs.{flatten-read}

@@ -9,10 +9,11 @@ use lib.IntN.{pos}
 use lib.ListN.{length, length-append, length-replicate, length-map}
 use lib.Seq.{drop-at}
 use borrow.Author.Tests.{lt-ltb, le-ltb}
+use Rattle.language.specs.Program.{flatTyped, flatDecl, flag, flatS, flatItems, flatArms, flatTarget, flatE, flatEs, deepHead, deepS, deepItems, deepArms, deepTarget, deepE, deepEs}
 use Rattle.words.specs.Choice.{if_then_else_}
 use Rattle.values.specs.Operators.{unaryCode, binaryCode}
 use Rattle.language.specs.Tree.{Decl, declare, holding, Stmt, block, assign, when, choose, while, goto, assert, call, setLevel, select, Items, noItem, label, item, Arms, lastArm, arm, Target, toVariable, toField, Expr, number, truth, pattern, null, variable, invoke, field, make, operate1, operate2, conditional, fader, blockExpr, Exprs, noExpr, expr, countItems, countArms, countExprs}
-use Rattle.language.specs.Table.{Entry, entry, flag, flatTyped, flatDecl, flatS, flatItems, flatArms, flatTarget, flatE, flatEs, deepHead, deepS, deepItems, deepArms, deepTarget, deepE, deepEs, took, below}
+use Rattle.language.specs.Table.{Entry, entry, took, below}
 use Rattle.language.specs.Faults.{sizeS, sizeItems, sizeArms, sizeTarget, sizeE, sizeEs}
 use Rattle.language.specs.Limits.{declCells, headCells, cellsS, cellsItems, cellsArms, cellsTarget, cellsE, cellsEs, declHolds, headHolds, holdsS, holdsItems, holdsArms, holdsTarget, holdsE, holdsEs, needS, needItems, needArms, needTarget, needE, needEs}
 use Rattle.programs.specs.WriteBack.{gives}
