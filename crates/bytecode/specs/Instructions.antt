@@ -14,7 +14,7 @@ use Rattle.values.specs.Types.{Ty, integer, logical, bits, reference}
 use Rattle.values.specs.Ends.{caseIndex}
 use Rattle.bytecode.specs.Macro.{Body, Code, Macro}
 
--- whose cells: "a 0 own, 1 root's"
+-- whose cells: "a 0 own, 1 root's", in the root too (M17)
 pub data Owner : Type 0 where
   own root : Owner
 

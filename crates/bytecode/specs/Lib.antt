@@ -1,3 +1,4 @@
+pub mod Words
 pub mod Macro
 pub mod Instructions
 pub mod Rules

@@ -1,4 +1,4 @@
--- The plain machine: one step at a time, with every way of having no next step named. It calls nothing of the loading rules.
+-- The plain machine: one step at a time, with every way of having no next step named. It calls nothing of the loading rules (S13).
 -- (paper 01, Running)
 use mathlib.Core.Bool.{Bool, true, false, _&&_}
 use mathlib.Core.List.{List, [], _∷_, _++_}
@@ -57,7 +57,7 @@ freshMachine m =
     (record { body = 0; address = 0; cells = freshAll (rootCells (m .bodies)); operands = []; holds = [] }) []
 
 -- ── steps ──
--- the ways of having no next step
+-- the ways of having no next step (S12)
 pub data Stuck : Type 0 where
   noStep : Stuck  -- "the address is outside its body, or the op there is not allowed in that body"
   badType : Stuck  -- "an operand, cell, field or result is not as the op asks"
@@ -83,7 +83,7 @@ pub record Here : Type 0 where
   pub top : Activation
   pub below : List Activation
 
--- "A condition … releases every open hold": its own step gives nothing
+-- "A condition … releases every open hold": its own step gives nothing (S11)
 unfoldable pub condition : ℕ → Here → Stepped
 condition c h = moved [] (unwinding (allHolds (h .top ∷ h .below)) (endBy c))
 
@@ -204,7 +204,7 @@ entering k b vs us h =
     then moved [] (running (h .shared) (activation k b vs) (at (h .top .address) us (h .top) ∷ h .below))
     else condition tooManyActivations h
 
--- "A call waits until a return drops the activation above and hands the result down."
+-- "A call waits until a return drops the activation above and hands the result down." (S1, S2)
 unfoldable pub doCall : Macro → ℕ → Here → Stepped
 doCall m k h = given (procedureAt m k) noStep (λ b. popMany (b .parameters) [] (h .top .operands) (λ vs us.
     demand (allFit (tysOf vs) (take (b .parameters) (b .cells))) badType

@@ -72,7 +72,7 @@ shapeLength = 6
 abbrev pub endLength : ℕ
 endLength = 2
 
--- "Each record has a two-byte mark, in ASCII."; a record of at least n bytes with this mark stands here
+-- "Each record has a two-byte mark, in ASCII."; a record of at least n bytes with this mark stands here (M3)
 abbrev pub marked : ℕ → ℕ → ℕ → List ℕ → Bool
 marked x y n l = leb n (length l) && (eqb (byteAt l 0) x && eqb (byteAt l 1) y)
 
@@ -102,7 +102,7 @@ readClass classes before l =
 unfoldable pub readResult : ℕ → ℕ → Option (List Ty)
 readResult classes t = if eqb t 0 then some [] else keep (tyOfByte classes t) (λ ty. some (ty ∷ []))
 
--- "first addresses rise from 0"
+-- "first addresses rise from 0", strictly (M5)
 abbrev pub rises : List Body → ℕ → Bool
 rises [] a = eqb a 0
 rises (b ∷ bs) a = ltb (b .first) a
@@ -152,11 +152,11 @@ unfoldable pub onward : {A B : Type 0} → Parsed A → (A → ℕ → List ℕ 
 onward (parsed x i l) f = f x i l
 onward (unread i) f = unread i
 
--- "HD: classes u8, bodies u8, instructions u16, shapes u16"; "counts (1 to 64 bodies, 16 classes, …)"
+-- "HD: classes u8, bodies u8, instructions u16, shapes u16"; "counts (1 to 64 bodies, 16 classes, …)" (M2)
 unfoldable pub headReads : List ℕ → Bool
 headReads l = marked 72 68 headLength l && (leb (byteAt l 2) 16 && (leb 1 (byteAt l 3) && leb (byteAt l 3) 64))
 
--- "ZZ: empty, last"; bytes after it are a record that does not read
+-- "ZZ: empty, last"; bytes after it are a record that does not read (M4)
 unfoldable pub readEnd : {A : Type 0} → A → ℕ → List ℕ → Parsed A
 readEnd x i l =
     if marked 90 90 endLength l then (if eqb (length l) endLength then parsed x (suc i) [] else unread (suc i)) else unread i
@@ -173,7 +173,7 @@ parseMacro l =
     readEnd (record { classes = cs; bodies = bs; code = xs; shapes = ss }) i k))))
     else unread 0
 
--- 8: "the first record that does not read"
+-- 8: "the first record that does not read" (M1)
 abbrev pub readOr8 : Parsed Macro → Judged Macro
 readOr8 (parsed m i l) = accepted m
 readOr8 (unread i) = refused (refusal 8 i)

@@ -47,7 +47,7 @@ abbrev pub taking : Option Ty → List Ty → Effect
 taking none ins = wrong
 taking (some t) ins = plain (t ∷ ins) []
 
--- an operator takes the types of the operands that are there
+-- an operator takes the types of the operands that are there (M18)
 abbrev pub operating : Operator → List Ty → Effect
 operating (unary o) [] = wrong
 operating (unary o) (t ∷ ts) = giving (opType (unary o) (t ∷ [])) (t ∷ [])
@@ -58,7 +58,7 @@ operating (binary o) (t ∷ (u ∷ ts)) = giving (opType (binary o) (u ∷ t ∷
 abbrev pub pushing : Macro → Value → Effect
 pushing m v = if known m (tyOf v) then plain [] (tyOf v ∷ []) else wrong
 
--- "10 call body b, not 0 (arguments fill its first cells …)"
+-- "10 call body b, not 0 (arguments fill its first cells …)", the first argument deepest (M23)
 abbrev pub calling : Option Body → Effect
 calling none = wrong
 calling (some b) = plain (onStack (take (b .parameters) (b .cells))) (b .results)
@@ -111,7 +111,7 @@ strip [] ts = some ts
 strip (u ∷ us) [] = none
 strip (u ∷ us) (t ∷ ts) = if fits t u then strip us ts else none
 
--- "a body's limits hold": 32 operands, 16 holds
+-- "a body's limits hold": 32 operands, 16 holds (M13)
 abbrev pub roomy : Shape → Bool
 roomy s = leb (s .holds) 16 && leb (length (s .operands)) 32
 
@@ -166,12 +166,12 @@ into m (suc i) =
     let before = orElse (shapeIn (m .shapes) i) (into m i) in
     if isFirst (m .bodies) (suc i) then atFirst else keep before (λ s. passed (flowAt m i s))
 
--- an SH says what is found; code behind ops 0, 8, 11 and 20 is judged from its SH, reached or not
+-- an SH says what is found; code behind ops 0, 8, 11 and 20 is judged from its SH, reached or not (M14)
 unfoldable pub foundAt : Macro → ℕ → Option Shape
 foundAt m i = orElse (shapeIn (m .shapes) i) (into m i)
 
 -- ── the faults at an address ──
--- "its body's first address": the root without parameters or result, at most 32 cells
+-- "its body's first address": the root without parameters or result, at most 32 cells (M7)
 abbrev pub headFault : ℕ → Body → Bool
 headFault zero b = not (eqb (b .parameters) 0 && sames (b .results) []) || ltb 32 (length (b .cells))
 headFault (suc k) b = ltb 32 (length (b .cells))
@@ -180,13 +180,13 @@ unfoldable pub bodyFault : List Body → ℕ → ℕ → Bool
 bodyFault [] k i = false
 bodyFault (b ∷ bs) k i = (eqb (b .first) i && headFault k b) || bodyFault bs (suc k) i
 
--- "At an SH the state equals it."
+-- "At an SH the state equals it." (M8, M15)
 abbrev pub shapeFault : Option Shape → Option Shape → Bool
 shapeFault none f = false
 shapeFault (some s) none = not (roomy s)
 shapeFault (some s) (some t) = not (roomy s && sameShape t s)
 
--- "A jump stays in its body and finds an equal SH."
+-- "A jump stays in its body and finds an equal SH." (M10, M16)
 abbrev pub equalShape : Option Shape → Shape → Bool
 equalShape none s = false
 equalShape (some t) s = sameShape t s
@@ -194,7 +194,7 @@ equalShape (some t) s = sameShape t s
 abbrev pub lands : Macro → ℕ → ℕ → Shape → Bool
 lands m k t s = inBody m k t && equalShape (shapeIn (m .shapes) t) s
 
--- "After ops 0, 8, 11, 20 comes an SH or the body's end, and no body runs past its end."
+-- "After ops 0, 8, 11, 20 comes an SH or the body's end, and no body runs past its end." (M11, M12)
 abbrev pub closes : Macro → ℕ → ℕ → Bool
 closes m k i = not (inBody m k (suc i)) || isSome (shapeIn (m .shapes) (suc i))
 

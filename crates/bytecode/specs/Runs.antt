@@ -49,7 +49,7 @@ unfoldable pub steps : Macro → (ℕ → ℕ) → ℕ → ℕ → Machine → R
 steps m bank zero n s = with (spends n) s
 steps m bank (suc left) n s = afterStep (step m bank s) s (suc n) (λ t. steps m bank left (suc n) t)
 
--- 11: "readings not 64 bytes"; "An ended state gives its end again with 0 steps."
+-- 11: "readings not 64 bytes", of an ended state too (S8); "An ended state gives its end again with 0 steps." (S9)
 unfoldable pub run : Macro → List ℕ → ℕ → Machine → Ran
 run m readings allowance s =
     if eqb (length readings) 64 then ends s 0 (λ t. steps m (bankOf readings) allowance 0 t) else with (refuses (refusal 11 0)) s

@@ -20,7 +20,7 @@ abbrev pub classIs : ℕ → Option Made → Bool
 classIs c none = false
 classIs c (some r) = eqb (r .class) c
 
--- "each reference is null or a made record of its class"
+-- "each reference is null or a made record of its class" (S7)
 abbrev pub points : List Made → ℕ → Option ℕ → Bool
 points rs c none = true
 points rs c (some n) = classIs c (getElem? rs n)
@@ -69,7 +69,7 @@ unfoldable pub soundActivation : Macro → List Made → List Ty → Activation 
 soundActivation m rs taken f =
     inBody m (f .body) (f .address) && soundAt m rs f taken (foundAt m (f .address)) (bodyAt m (f .body))
 
--- "all but the top at a call of the next, arguments taken"
+-- "all but the top at a call of the next, arguments taken" (S1)
 abbrev pub callsBody : Option Code → ℕ → Bool
 callsBody none k = false
 callsBody (some c) k = eqb (c .op) 10 && (eqb (c .a) 0 && eqb (c .b) k)
@@ -86,7 +86,7 @@ soundWaiting m rs k (f ∷ fs) =
 
 -- ── states ──
 -- "A state is sound if it has 1 to 32 activations, the lowest the root, and at most 256 records; …"
--- "While a condition is releasing, only the holds count; an ended state has none."
+-- "While a condition is releasing, only the holds count; an ended state has none." (S5, S6)
 unfoldable pub sound : Macro → Machine → Bool
 sound m (running s f fs) =
     let rs = s .records in

@@ -5,11 +5,12 @@ use mathlib.Core.Option.{Option, none, some}
 use Prim.Native.Nat.{ℕ, zero, suc, _+_}
 use lib.Dec.{eqb, leb}
 use lib.ListN.{length, take, drop, replicate, getElem?}
+use Rattle.bytecode.specs.Words.{valueWord, validWord, wordValue}
 use Rattle.words.specs.Choice.{if_then_else_}
 use Rattle.words.specs.Options.{keep}
 use Rattle.words.specs.Numbers.{byteAt, halfAt, wordAt, half, word}
 use Rattle.values.specs.Types.{tyByte}
-use Rattle.values.specs.Values.{Value, tyOf, valueWord, validWord, wordValue, Cell, assigned}
+use Rattle.values.specs.Values.{Value, tyOf, Cell, assigned}
 use Rattle.bytecode.specs.Macro.{Macro, tyOfByte}
 use Rattle.bytecode.specs.Instructions.{bodyAt}
 use Rattle.bytecode.specs.Machine.{Activation, Made, endBy, Machine, running, unwinding, ended, allHolds, maxOperands, maxHolds, maxActivations, maxOpenHolds, maxRecords}

@@ -10,10 +10,11 @@ use native.Mathlib.Nat.{add-zero, zero-add, add-suc, suc-add}
 use lib.Dec.{eqb, leb}
 use lib.ListN.{length, getElem?, take, drop, length-append, length-reverse}
 use borrow.Author.Tests.{lt-ltb, le-ltb, eqb-true}
+use Rattle.bytecode.specs.Words.{valueWord}
 use Rattle.words.specs.Numbers.{byteAt, halfAt, wordAt}
 use Rattle.values.specs.Types.{Ty, tyByte, sames, allFit, fits}
 use Rattle.values.specs.Ends.{accepted}
-use Rattle.values.specs.Values.{Value, int, log, bit, ref, tyOf, tysOf, valueWord, Cell}
+use Rattle.values.specs.Values.{Value, int, log, bit, ref, tyOf, tysOf, Cell}
 use Rattle.bytecode.specs.Macro.{Body, Macro, readMacro}
 use Rattle.bytecode.specs.Instructions.{bodyAt, procedureAt, fieldTy}
 use Rattle.bytecode.specs.Machine.{Activation, Made, Shared, Here, inPlace, noStep, badType, badRecord, badFrame, groupHeld, Stepped, at, condition, goesOn, demand, popMany, assignAll, entering, handDown, isEmpty, doCall, doReturn, withRecords, recording, onMade, doMake, doGetField, fieldPut, doPutField}

@@ -6,9 +6,10 @@ use Prim.Native.Nat.{ℕ, suc, _+_, _-_, _≤_, _<_}
 use native.Mathlib.Omega.{arith}
 use lib.ListN.{length, getElem?, length-append, length-reverse}
 use lib.ListN.{set as replace}
+use Rattle.bytecode.specs.Words.{valueWord}
 use Rattle.words.specs.Numbers.{byteAt}
 use Rattle.values.specs.Types.{Ty, integer, logical, bits, reference, tyByte}
-use Rattle.values.specs.Values.{Value, valueWord, Cell, assigned, initial, fresh, freshAll}
+use Rattle.values.specs.Values.{Value, Cell, assigned, initial, fresh, freshAll}
 use Rattle.bytecode.specs.Machine.{Activation, Made, Shared, assignAll}
 use Rattle.bytecode.specs.State.{typeByte}
 use Rattle.layout.specs.Places.{framePlace}

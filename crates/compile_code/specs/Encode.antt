@@ -3,10 +3,11 @@ use mathlib.Core.List.{List, [], _∷_, _++_, map, reverse}
 use mathlib.Core.Option.{Option, none, some}
 use Prim.Native.Nat.{ℕ, zero, suc, _+_}
 use lib.ListN.{length}
+use Rattle.bytecode.specs.Words.{valueWord}
 use Rattle.words.specs.Numbers.{half, word}
 use Rattle.values.specs.Types.{Ty, tyByte}
 use Rattle.values.specs.Operators.{Operator, unary, binary, unaryCode, binaryCode}
-use Rattle.values.specs.Values.{Value, int, log, bit, ref, valueWord}
+use Rattle.values.specs.Values.{Value, int, log, bit, ref}
 use Rattle.language.specs.Tree.{Typed, Decl, declare, holding, Stmt, Expr, Items, Global, Tree, locals}
 use Rattle.language.specs.Tree.{Body as TreeBody, proper, function}
 use Rattle.language.specs.Names.{types, procedureOf, rootOf}

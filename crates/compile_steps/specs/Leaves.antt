@@ -9,12 +9,13 @@ use native.Mathlib.Nat.{add-zero}
 use lib.IntN.{ℤ, pos}
 use lib.ListN.{length, getD, take, set}
 use lib.Seq.{sets, getD-set-same}
+use Rattle.bytecode.specs.Words.{valueWord}
 use Rattle.language.specs.Program.{flag, flatS, flatE}
 use Rattle.words.specs.Choice.{if_then_else_}
 use Rattle.words.specs.Numbers.{halfAt, wordAt, wordOf, integerOf}
 use Rattle.words.specs.Laws.{two, four, number-below, word-back}
 use Rattle.values.specs.Types.{Ty, tyByte, integer, logical, bits, reference}
-use Rattle.values.specs.Values.{int, log, bit, ref, valueWord}
+use Rattle.values.specs.Values.{int, log, bit, ref}
 use Rattle.bytecode.specs.Instructions.{Instr, push, go, letHold}
 use Rattle.language.specs.Tree.{Stmt, block, assign, when, choose, while, goto, assert, call, setLevel, select, Expr, number, truth, pattern, null, variable, invoke, field, make, operate1, operate2, conditional, fader, blockExpr, Global}
 use Rattle.language.specs.Table.{Entry, entry}

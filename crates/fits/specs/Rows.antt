@@ -11,13 +11,14 @@ use lib.ListN.{drop, getElem?}
 use lib.Seq.{getD-drop}
 use lib.Signed.{mag}
 use borrow.Author.Tests.{ne-eqb, lt-ltb, le-ltb}
+use Rattle.bytecode.specs.Words.{wordRef, validWord, wordValue}
 use Rattle.words.specs.Lists.{all}
 use Rattle.words.specs.Options.{keep}
 use Rattle.words.specs.Choice.{if_then_else_}
 use Rattle.words.specs.Numbers.{byteAt, wordAt, integerOf}
 use Rattle.words.specs.Laws.{four, same-number, integer-fits}
 use Rattle.values.specs.Types.{Ty, integer, logical, bits, reference, tyByte, same, sames}
-use Rattle.values.specs.Values.{Value, tyOf, tysOf, validWord, wordValue, wordRef, Cell, assigned, tyOfCell}
+use Rattle.values.specs.Values.{Value, tyOf, tysOf, Cell, assigned, tyOfCell}
 use Rattle.bytecode.specs.Machine.{Made}
 use Rattle.bytecode.specs.Sound.{soundValue, points, typedValues, soundCell, typedCells}
 use Rattle.bytecode.specs.State.{readValue, readCell, readRow}

@@ -10,8 +10,9 @@ use native.Mathlib.Omega.{arith}
 use lib.ListN.{length, getElem?}
 use lib.ListN.{set as replace}
 use lib.Seq.{sets}
+use Rattle.bytecode.specs.Words.{valueWord}
 use Rattle.words.specs.Numbers.{byteAt, halfAt, wordAt}
-use Rattle.values.specs.Values.{Value, valueWord, Cell, assigned}
+use Rattle.values.specs.Values.{Value, Cell, assigned}
 use Rattle.bytecode.specs.Machine.{Activation, Made, Shared, endBy, running, unwinding, ended, allHolds, rootOf, putTop, putLowest, fieldPut}
 use Rattle.bytecode.specs.State.{typeByte, wordOfCell, byteOfCell, encode}
 use Rattle.layout.specs.Parts.{length-encode}

@@ -8,9 +8,10 @@ use native.Mathlib.Omega.{arith}
 use borrow.Author.Count.{below-more}
 use lib.ListN.{length, getD, set, length-replicate, getD-replicate}
 use lib.Seq.{sets, ext-getD, getD-set-same, getD-set-other}
+use Rattle.bytecode.specs.Words.{valueWord}
 use Rattle.words.specs.Numbers.{byteAt, word}
 use Rattle.values.specs.Types.{Ty, integer, logical, bits, reference, tyByte}
-use Rattle.values.specs.Values.{Cell, initial, fresh, freshAll, valueWord}
+use Rattle.values.specs.Values.{Cell, initial, fresh, freshAll}
 use Rattle.bytecode.specs.Machine.{Machine, running, rootCells, freshMachine}
 use Rattle.bytecode.specs.State.{zeros, typeByte, encode}
 use Rattle.places.specs.Records.{bodies, bodyPlace}

@@ -31,7 +31,7 @@ pub record Made : Type 0 where
   pub fields : List Slot
 
 pub record Store : Type 0 where
-  pub root : List Slot  -- the root's variables, one copy for all activations
+  pub root : List Slot  -- the root's variables, one copy for all activations (T11)
   pub blocks : List (List Slot)  -- the blocks entered in this activation, innermost first, with their variables
   pub records : List Made  -- in the order in which they were made
   pub trace : List Item  -- the latest first
@@ -124,7 +124,7 @@ settled (gives x) X σ = done x σ
 settled (ends c) X σ = condition c X σ
 settled mistyped X σ = wrong
 
--- of the type asked
+-- go on with what is asked for, or come where no program of the subset comes
 abbrev pub asked : {A B : Type 0} → Option A → (A → Result B) → Result B
 asked o f = ifSome o f wrong
 
@@ -132,12 +132,12 @@ unfoldable pub branch : {A : Type 0} → Value → (Store → Result A) → (Sto
 branch v f g σ = asked (asLogical v) (λ b. if b then f σ else g σ)
 
 -- ── effects on values ──
--- "set (channel 1 to 512, level 0 to 255)"; 25: "channel, level or fader out of range"
+-- "set (channel 1 to 512, level 0 to 255)" (T2); 25: "channel, level or fader out of range"
 unfoldable pub doSet : Value → Value → Place → Store → Result (Unit {0})
 doSet v w X σ = asked (asInteger v) (λ x. asked (asInteger w) (λ y.
     if between 1 512 x && between 0 255 y then done tt (say (set (size x) (size y)) σ) else condition outOfRange X σ))
 
--- "A fader (1 to 64) reads a byte."
+-- "A fader (1 to 64) reads a byte."; out of range it reads none (T6)
 unfoldable pub doFader : (ℕ → ℕ → ℕ) → Value → Place → Store → Result Value
 doFader oracle v X σ = asked (asInteger v) (λ x.
     if between 1 64 x then (let r = oracle (σ .taken) (size x) in done (int (pos r)) (read (size x) r σ)) else condition outOfRange X σ)
@@ -161,7 +161,7 @@ unfoldable pub doPutField : ℕ → Value → Value → Place → Store → Resu
 doPutField a v w X σ = onRecord v X σ (λ n m.
     done tt (withRecords (put (σ .records) n (record { fields = putIn a (assigned w) (m .fields) })) σ))
 
--- "a target's reference before the value, and a null target ends by 22 after the value"
+-- "a target's reference before the value, and a null target ends by 22 after the value" (T5)
 pub data Location : Type 0 where
   ofVariable : ℕ → Location
   ofField : ℕ → Value → Location
@@ -175,7 +175,7 @@ pairUp [] vs = []
 pairUp (x ∷ xs) [] = []
 pairUp (x ∷ xs) (v ∷ vs) = slot (x .name) (assigned v) ∷ pairUp xs vs
 
--- 27: "257th record made"
+-- 27: "257th record made", after its values (T3)
 unfoldable pub doMake : ℕ → Option (List Typed) → List Value → Place → Store → Result Value
 doMake c none vs X σ = wrong
 doMake c (some xs) vs X σ =
@@ -203,7 +203,7 @@ letGo g (ended c σ) = ended c σ
 letGo g (later σ) = later σ
 letGo g wrong = wrong
 
--- "Variables of a block start at 0, false, #0 or null each time the block is entered."
+-- "Variables of a block start at 0, false, #0 or null each time the block is entered." (T10)
 unfoldable pub within : {A : Type 0} → List Decl → Place → Store → (Place → Store → Result A) → Result A
 within [] X σ f = f X σ
 within (declare x ∷ ds) X σ f = within ds X (declareIn x σ) f
@@ -270,10 +270,10 @@ classIn c (class b xs ∷ gs) = elseFind (eqb c b) xs (classIn c gs)
 classIn c (procedure b xs d ∷ gs) = classIn c gs
 
 pub record World : Type 0 where
-  pub oracle : ℕ → ℕ → ℕ  -- the k-th reading of an execution, of fader n
+  pub oracle : ℕ → ℕ → ℕ  -- the k-th reading of an execution, of fader n (T12)
   pub globals : List Global
 
--- a call: 26, "33rd open activation, the root counting 1"; the parameters are a block around the body
+-- a call: 26, "33rd open activation, the root counting 1", after its arguments (T4); the parameters are a block around the body
 unfoldable pub activate : {A : Type 0} → Option Procedure → (Body → Place → Store → Result A) → List Value → Place → Store → Result A
 activate none f vs X σ = wrong
 activate (some q) f vs X σ =

@@ -91,7 +91,7 @@ fitTys o us = holds o (λ ts. allFit ts us)
 abbrev pub faultIf : Bool → ℕ → ℕ → List Refusal
 faultIf b n p = if b then refusal n p ∷ [] else []
 
--- 4: "wrong type"
+-- 4: "wrong type", at the entry that has the operand (N14)
 abbrev pub mistypedUnless : Bool → ℕ → List Refusal
 mistypedUnless b p = faultIf (not b) 4 p
 
@@ -110,24 +110,24 @@ classSort s = isSome (asClass s)
 abbrev pub classFrom : Option (List Ty) → Sort → Bool
 classFrom vs s = holds (asClass s) (λ ts. fitTys vs ts)
 
--- a field of a reference of this type
+-- a field of a reference of this type (N16)
 abbrev pub fieldOf : Option Ty → Sort → Bool
 fieldOf r s = holds (asField s) (λ x. isTy (reference (x .0)) r)
 
--- a procedure with as many results, called with arguments of these types
+-- a procedure with as many results (N12), called with arguments of these types (N13)
 abbrev pub callOf : ℕ → Option (List Ty) → Sort → Bool
 callOf n vs s = holds (asProcedure s) (λ x. eqb (length (x .1)) n && fitTys vs (x .0))
 
--- 5: "label out of a goto's reach"
+-- 5: "label out of a goto's reach" (N17 to N20)
 abbrev pub aimed : Found → ℕ → List Refusal
 aimed nowhere p = refusal 3 p ∷ []
 aimed (found s w) p = if asLabel s then faultIf w 5 p else refusal 4 p ∷ []
 
--- 3: "twice in a block", at "the second of two"
+-- 3: "twice in a block", at "the second of two", whatever the two define (N7)
 abbrev pub twice : ℕ → List ℕ → ℕ → List Refusal
 twice a seen p = faultIf (among a seen) 3 p
 
--- the class that a declared type names
+-- the class that a declared type names, looked up from the block of the declaration (N9); undefined 3, of another sort 4 (N10)
 abbrev pub typeFaults : List Scope → Ty → ℕ → List Refusal
 typeFaults ss integer p = []
 typeFaults ss logical p = []
@@ -265,7 +265,7 @@ sizeGlobal (local d) = 1
 sizeGlobal (class c xs) = suc (length xs)
 sizeGlobal (procedure a xs b) = suc (length xs + sizeBody b)
 
--- "E when result is 1, 2 or 3": the body's type is the result
+-- "E when result is 1, 2 or 3": the body's type is the result (N15)
 abbrev pub faultsBody : List Scope → ℕ → Body → List Refusal
 faultsBody ss p (proper s) = faultsS ss p s
 faultsBody ss p (function t e) = faultsE ss p e
@@ -296,7 +296,7 @@ unfoldable pub faultsGlobals : List Scope → List ℕ → ℕ → List Global �
 faultsGlobals ss seen p [] k = k seen p
 faultsGlobals ss seen p (g ∷ gs) k = faultsGlobal ss seen p g ++ faultsGlobals ss (namesGlobal g seen) (p + sizeGlobal g) gs k
 
--- all faults of a tree, in postorder
+-- all faults of a tree, in postorder (N1)
 unfoldable pub faults : Tree → List Refusal
 faults t =
     let ss = rootOf t ∷ [] in

@@ -33,7 +33,7 @@ pub record Compiled : Type 0 where
 abbrev pub compileRefused : Refusal → List ℕ → Compiled
 compileRefused r out = record { verdict = refused r; bytes = out }
 
--- 7: "output shorter than the macro", after all others; "Output bytes past a compiled macro stay too."
+-- 7: "output shorter than the macro" (L10), after all others; "Output bytes past a compiled macro stay too."
 abbrev pub writeMacro : List ℕ → List ℕ → Compiled
 writeMacro code out =
     if leb (length code) (length out)

@@ -8,7 +8,7 @@ use Rattle.values.specs.Ends.{Refusal}
 use Rattle.language.specs.Tree.{Typed, Decl, declare, holding, Stmt, block, assign, when, choose, while, goto, assert, call, setLevel, select, Items, noItem, label, item, Arms, lastArm, arm, Target, toVariable, toField, Expr, number, truth, pattern, null, variable, invoke, field, make, operate1, operate2, conditional, fader, blockExpr, Exprs, noExpr, expr, Body, proper, function, Global, local, class, procedure, Tree, locals}
 use Rattle.language.specs.Faults.{faultIf, sizeGlobal}
 
--- ── cells: "parameters, variables of all its blocks, one per case" ──
+-- ── cells: "parameters, variables of all its blocks, one per case"; siblings share none (L4) ──
 abbrev pub declCells : Decl → ℕ
 declCells (declare x) = 1
 declCells (holding g) = 0
@@ -65,7 +65,7 @@ unfoldable mutual
   cellsEs noExpr = 0
   cellsEs (expr e es) = cellsE e + cellsEs es
 
--- ── holds open together: the largest sum along nested blocks ──
+-- ── holds open together: the largest sum along nested blocks (L2) of the body, its callers' not counted (L3) ──
 abbrev pub declHolds : Decl → ℕ
 declHolds (declare x) = 0
 declHolds (holding g) = 1
@@ -121,7 +121,7 @@ unfoldable mutual
 
 -- ── working need ──
 -- "An entry needs the largest over i of i − 1 plus the need of its i-th operand, at least 1; an operand that is a statement counts its
--- own need alone, a case needs at least 2, a declaration 1, and a block or block expression counts as its neediest part."
+-- own need alone, a case needs at least 2, a declaration 1, and a block or block expression counts as its neediest part." (L7 to L9)
 unfoldable mutual
   pub needS : Stmt → ℕ
   needS (block ds is) = needItems is
@@ -169,7 +169,7 @@ unfoldable mutual
   needEs i noExpr = 1
   needEs i (expr e es) = max (i + needE e) (needEs (suc i) es)
 
--- ── the bodies: "6 the body's entry, procedures first" ──
+-- ── the bodies: "6 the body's entry, procedures first" (L1) ──
 pub record Usage : Type 0 where
   pub cells : ℕ
   pub holds : ℕ
@@ -178,6 +178,7 @@ pub record Usage : Type 0 where
 abbrev pub keepsLimits : Usage → Bool
 keepsLimits u = leb (u .cells) 32 && (leb (u .holds) 16 && leb (u .need) 32)
 
+-- a procedure's parameters are cells and need nothing (L6)
 abbrev pub bodyUsage : List Typed → Body → Usage
 bodyUsage xs (proper s) = record { cells = length xs + cellsS s; holds = holdsS s; need = needS s }
 bodyUsage xs (function t e) = record { cells = length xs + cellsE e; holds = holdsE e; need = needE e }

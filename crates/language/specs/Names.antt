@@ -79,7 +79,7 @@ definesItems noItem = []
 definesItems (label a is) = define a isLabel ∷ definesItems is
 definesItems (item s is) = definesItems is
 
--- "Fields belong to the root's head"
+-- "Fields belong to the root's head" (N4)
 unfoldable pub definesFields : ℕ → List Typed → List Definition
 definesFields c [] = []
 definesFields c (x ∷ xs) = define (x .name) (isField c (x .type)) ∷ definesFields c xs
@@ -94,7 +94,8 @@ definesGlobals (local d ∷ gs) = definesHead (d ∷ []) ++ definesGlobals gs
 definesGlobals (class c xs ∷ gs) = define c (isClass (types xs)) ∷ (definesFields c xs ++ definesGlobals gs)
 definesGlobals (procedure a xs b ∷ gs) = define a (isProcedure (types xs) (results b)) ∷ definesGlobals gs
 
--- a block around an entry, with all names of its head and its labels: "All names of a head are visible throughout it."
+-- a block around an entry (N3), with all names of its head and its labels in one name space (N4), whichever stand before or behind the entry
+-- (N2): "All names of a head are visible throughout it."
 pub data Scope : Type 0 where
   inBlock : List Definition → Scope  -- a block
   inExpression : List Definition → Scope  -- a block expression, which no goto leaves
@@ -122,7 +123,7 @@ pub data Found : Type 0 where
   nowhere : Found
   found : Sort → Bool → Found
 
--- of two definitions in a block the first is found
+-- of two definitions in a block the first is found (N8)
 unfoldable pub firstOf : ℕ → List Definition → Found
 firstOf a [] = nowhere
 firstOf a (d ∷ ds) = if eqb (d .name) a then found (d .sort) false else firstOf a ds

@@ -42,7 +42,7 @@ tyOfCode n =
 abbrev pub isHeading : ℕ → Bool
 isHeading n = leb (n / 256) 8 && leb (n % 256) 3
 
--- what a and b of each kind may be: "A field not named below is 0."
+-- what a and b of each kind may be (R5 to R14): "A field not named below is 0."
 unfoldable pub inLayout : Entry → Bool
 inLayout e =
     let k = e .kind in let x = e .a in let z = e .b in
@@ -168,9 +168,11 @@ formS r e es =
     if eqb k 30 then three (λ x s ss. select x (armsOf s ss)) (r .expr) (r .stmt) (repeated (e .a - 1) (r .stmt)) es else
     stop (e ∷ es)
 
+-- a label or a statement (R15); b of a block counts both (R20)
 unfoldable pub formPart : Below → Entry → Reader Part
 formPart r e es = if eqb (e .kind) 20 then took (labelPart (e .a)) es else made stmtPart (formS r e) es
 
+-- what may be assigned to, refused at the target itself (R4)
 unfoldable pub formTarget : Below → Entry → Reader Target
 formTarget r e es =
     if eqb (e .kind) 44 then took (toVariable (e .a)) es else
@@ -195,7 +197,7 @@ formE r e es =
     if eqb k 53 then three blockExpr (repeated (e .a) (r .decl)) (itemsBelow r e) (r .expr) es else
     stop (e ∷ es)
 
--- the readers where so much nesting is left
+-- the readers where so much nesting is left; the entry at depth 65 does not read (R19)
 unfoldable pub below : ℕ → Below
 below zero = record { typed = stop; decl = stop; part = stop; stmt = stop; target = stop; expr = stop }
 below (suc d) = let r = below d in record {
@@ -212,6 +214,7 @@ below (suc d) = let r = below d in record {
 abbrev pub bodyBelow : Below → ℕ → Reader Body
 bodyBelow r t = if eqb t 0 then made proper (r .stmt) else made (function (Option·getD (tyOfCode t) integer)) (r .expr)
 
+-- classes and procedures here only, the 17th and the 64th refused at itself (R16, R18)
 unfoldable pub formGlobal : Below → ℕ → ℕ → Entry → Reader Global
 formGlobal r classes procedures e es =
     let n = natAbs (e .b) in
@@ -248,7 +251,7 @@ unfoldable pub entries : ℕ → List ℕ → List Entry
 entries zero l = []
 entries (suc n) l = entry (halfAt l 0) (halfAt l 2) (integerOf (wordAt l 4)) ∷ entries n (drop 8 l)
 
--- "2: the first that does not read, or the entry count where the table ends early"; an entry after the one tree does not read
+-- "2: the first that does not read, or the entry count where the table ends early"; an entry after the one tree does not read (R1 to R3)
 unfoldable pub oneTree : List Entry → Read Tree → Judged Tree
 oneTree es (took t []) = accepted t
 oneTree es (took t (x ∷ xs)) = refused (refusal 2 (length es - length (x ∷ xs)))

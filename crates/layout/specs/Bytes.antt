@@ -8,12 +8,12 @@ use native.Mathlib.Omega.{arith}
 use lib.Dec.{eqb, leb}
 use lib.ListN.{length, length-append}
 use borrow.Author.Tests.{leb-true, eqb-true}
+use Rattle.bytecode.specs.Words.{valueWord}
 use Rattle.words.specs.Lists.{all}
 use Rattle.words.specs.Numbers.{half, word}
 use Rattle.words.specs.Laws.{Bytes}
 use Rattle.values.specs.Ends.{isCondition}
 use Rattle.values.specs.Conditions.{condition-byte}
-use Rattle.values.specs.Values.{valueWord}
 use Rattle.bytecode.specs.Macro.{Macro}
 use Rattle.bytecode.specs.Machine.{Activation, Made, endBy, Machine, running, unwinding, ended, allHolds}
 use Rattle.bytecode.specs.Sound.{soundGroup, sound}

@@ -10,11 +10,11 @@ use lib.Dec.{leb}
 use lib.ListN.{length, getD, take, drop, replicate, length-append, length-reverse, length-map}
 use lib.Seq.{take-at, drop-at, drop-append-add}
 use borrow.Author.Tests.{leb-true, le-leb, eq-eqb}
+use Rattle.bytecode.specs.Words.{valueWord}
 use Rattle.words.specs.Lists.{all}
 use Rattle.words.specs.Numbers.{byteAt, halfAt, word}
 use Rattle.words.specs.Laws.{two, four, number-of-bytes}
 use Rattle.values.specs.Ends.{isCondition}
-use Rattle.values.specs.Values.{valueWord}
 use Rattle.bytecode.specs.Macro.{Macro}
 use Rattle.bytecode.specs.Machine.{Activation, Made, Shared, endBy, Machine, running, unwinding, ended, allHolds}
 use Rattle.bytecode.specs.Sound.{soundGroup, sound}

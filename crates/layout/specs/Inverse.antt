@@ -10,11 +10,12 @@ use lib.Dec.{eqb, leb, ltb}
 use lib.ListN.{length, take, drop, getElem?, length-drop}
 use lib.Seq.{take-add, getD-drop}
 use borrow.Author.Tests.{eqb-true, leb-true, ltb-true}
+use Rattle.bytecode.specs.Words.{logWord, valueWord, validWord, wordValue}
 use Rattle.words.specs.Choice.{if_then_else_}
 use Rattle.words.specs.Numbers.{byteAt, halfAt, wordAt, word}
 use Rattle.words.specs.Laws.{four, Bytes, number-below, bytes-slice, word-back}
 use Rattle.values.specs.Types.{Ty, integer, logical, bits, reference, tyByte}
-use Rattle.values.specs.Values.{Value, valueWord, validWord, wordValue, logWord, Cell}
+use Rattle.values.specs.Values.{Value, Cell}
 use Rattle.bytecode.specs.Macro.{Body, Macro, tyOfByte}
 use Rattle.bytecode.specs.Instructions.{bodyAt}
 use Rattle.bytecode.specs.Machine.{Activation, Made}

@@ -5,9 +5,10 @@ use Prim.Native.Nat.{ℕ, _+_, _*_, _≤_, _<_}
 use native.Mathlib.Omega.{arith}
 use lib.ListN.{length, length-map}
 use lib.Seq.{sets}
+use Rattle.bytecode.specs.Words.{valueWord}
 use Rattle.words.specs.Numbers.{word}
 use Rattle.words.specs.Laws.{one, bytesOf}
-use Rattle.values.specs.Values.{Value, valueWord, Cell}
+use Rattle.values.specs.Values.{Value, Cell}
 use Rattle.bytecode.specs.Machine.{Activation, Shared, running, allHolds}
 use Rattle.bytecode.specs.State.{pad, zeros, wordOfCell, byteOfCell, encode}
 use Rattle.layout.specs.Rows.{pad-pad, pad-blank}

@@ -6,10 +6,10 @@ use Prim.Native.Nat.{ℕ, zero, suc, _+_, _*_, _-_, _/_, _%_, _≤_}
 use native.Mathlib.Omega.{arith}
 use lib.ListN.{length, take, drop, replicate, getElem?, length-append, length-drop, length-map, length-reverse, take-append-drop, drop-of-length-le}
 use lib.Seq.{length-take-le, take-take, take-add, drop-drop, drop-cons, getD-take, getD-append-add}
+use Rattle.bytecode.specs.Words.{valueWord}
 use Rattle.words.specs.Numbers.{byteAt, word}
 use Rattle.words.specs.Laws.{Bytes}
 use Rattle.values.specs.Types.{Ty}
-use Rattle.values.specs.Values.{valueWord}
 use Rattle.bytecode.specs.Macro.{Body, Macro}
 use Rattle.bytecode.specs.Instructions.{bodyAt}
 use Rattle.bytecode.specs.Machine.{Activation, Made}

@@ -4,8 +4,8 @@ use mathlib.Core.Path.{_≡_, refl, _∙_}
 use mathlib.Core.List.{List, [], _∷_, _++_, reverse, map}
 use Prim.Native.Nat.{ℕ, _*_}
 use lib.ListN.{length, length-append, length-replicate}
+use Rattle.bytecode.specs.Words.{valueWord}
 use Rattle.words.specs.Numbers.{half, word}
-use Rattle.values.specs.Values.{valueWord}
 use Rattle.bytecode.specs.Machine.{Activation, Made, endBy, Machine, running, unwinding, ended, allHolds}
 use Rattle.bytecode.specs.State.{pad, flat, zeros, typeByte, wordOfCell, byteOfCell, activationBytes, recordBytes, headerBytes, stateBytes, encode}
 use Rattle.layout.specs.Rows.{length-pad, pad-pad, length-flat, flat-map}

@@ -6,7 +6,8 @@ use Prim.Native.Nat.{ℕ, zero, suc, _<_}
 use native.Mathlib.Omega.{arith}
 use lib.ListN.{length, getD, getElem?, length-append, length-map, length-set}
 use lib.ListN.{set as replace}
-use Rattle.values.specs.Values.{Value, valueWord, Cell, assigned}
+use Rattle.bytecode.specs.Words.{valueWord}
+use Rattle.values.specs.Values.{Value, Cell, assigned}
 use Rattle.bytecode.specs.Machine.{Activation, Made, Shared, running, allHolds, rootOf, withCells, putTop, putLowest, fieldPut}
 use Rattle.bytecode.specs.State.{typeByte, wordOfCell, byteOfCell, encode}
 use Rattle.layout.specs.Rows.{alter, alter-alter, pad-inner, pad-next, pad-put, map-append}

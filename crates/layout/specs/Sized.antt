@@ -11,10 +11,11 @@ use borrow.Author.Tests.{ltb-true, leb-true, eqb-true, lt-ltb, le-leb, ne-eqb}
 use mir.Val.{SFits}
 use mir.Syntax.{w32}
 use lib.Signed.{mag}
+use Rattle.bytecode.specs.Words.{valueWord}
 use Rattle.words.specs.Lists.{all}
 use Rattle.words.specs.Laws.{integer-back, word-below}
 use Rattle.values.specs.Types.{Ty, reference, sames}
-use Rattle.values.specs.Values.{Value, int, log, bit, ref, tyOf, tysOf, valueWord, Cell, assigned, tyOfCell}
+use Rattle.values.specs.Values.{Value, int, log, bit, ref, tyOf, tysOf, Cell, assigned, tyOfCell}
 use Rattle.bytecode.specs.Macro.{Body, Macro, Shape, tyOfByte}
 use Rattle.bytecode.specs.Instructions.{bodyAt, inBody}
 use Rattle.bytecode.specs.Rules.{foundAt, onStack}

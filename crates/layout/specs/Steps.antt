@@ -4,7 +4,8 @@ use mathlib.Core.List.{List, [], _∷_, _++_}
 use Prim.Native.Nat.{ℕ, suc, _<_}
 use lib.ListN.{length, length-append}
 use lib.ListN.{set as replace}
-use Rattle.values.specs.Values.{Value, valueWord, Cell, assigned}
+use Rattle.bytecode.specs.Words.{valueWord}
+use Rattle.values.specs.Values.{Value, Cell, assigned}
 use Rattle.bytecode.specs.Machine.{Activation, Shared, running, allHolds}
 use Rattle.bytecode.specs.State.{typeByte, wordOfCell, byteOfCell, encode}
 use Rattle.layout.specs.Rows.{alter-alter}

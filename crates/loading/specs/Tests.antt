@@ -8,8 +8,8 @@ use lib.Dec.{eqb}
 use borrow.Author.Tests.{eqb-true}
 use Rattle.words.specs.Options.{keep}
 use Rattle.words.specs.Choice.{if_then_else_}
-use Rattle.values.specs.Types.{Ty, fits, sames, allFit}
-pub use Rattle.values.specs.Identical.{same-refl, same→≡, sames-refl, sames→≡}
+use Rattle.values.specs.Types.{sames}
+pub use Rattle.values.specs.Identical.{same-refl, same→≡, sames-refl, sames→≡, fits→≡, allFit→≡}
 use Rattle.bytecode.specs.Macro.{Shape, shape}
 use Rattle.bytecode.specs.Rules.{sameShape}
 
@@ -43,19 +43,6 @@ kept none f y h = never-some h
 kept (some x) f y h = (x, refl, h)
 
 -- ── types and shapes ──
--- for now what fits a place is of its very type: all that turns on it goes through these two
-pub fits→≡ : (t u : Ty) → fits t u ≡ true → t ≡ u
-fits→≡ = same→≡
-
-pub allFit→≡ : (ts us : List Ty) → allFit ts us ≡ true → ts ≡ us
-unfolding allFit
-allFit→≡ [] [] h = refl
-allFit→≡ [] (u ∷ us) h = never h
-allFit→≡ (t ∷ ts) [] h = never h
-allFit→≡ (t ∷ ts) (u ∷ us) h =
-    let q = halves (fits t u) (allFit ts us) h in
-    ap₂ (λ x xs. x ∷ xs) (fits→≡ t u (q .0)) (allFit→≡ ts us (q .1))
-
 pub sameShape→≡ : (s t : Shape) → sameShape s t ≡ true → s ≡ t
 sameShape→≡ s t h =
     let q = halves (eqb (s .holds) (t .holds)) (sames (s .operands) (t .operands)) h in

@@ -8,13 +8,14 @@ use native.Mathlib.Omega.{arith}
 use lib.Dec.{eqb, leb, ltb}
 use lib.ListN.{length, getElem?, length-append, length-map}
 use borrow.Author.Tests.{leb-true, ltb-true, eqb-true, ne-eqb}
+use Rattle.bytecode.specs.Words.{valueWord}
 use Rattle.words.specs.Options.{keep}
 use Rattle.words.specs.Choice.{if_then_else_}
 use Rattle.words.specs.Numbers.{byteAt, halfAt, wordAt}
 use Rattle.values.specs.Types.{Ty, sames, fits}
 use Rattle.values.specs.Trace.{Item}
 use Rattle.values.specs.Operators.{Operator, Binary, unary, binary, unaryOf, binaryOf}
-use Rattle.values.specs.Values.{Value, int, log, bit, ref, valueWord, tyOf, tysOf, Cell, assigned, tyOfCell}
+use Rattle.values.specs.Values.{Value, int, log, bit, ref, tyOf, tysOf, Cell, assigned, tyOfCell}
 use Rattle.bytecode.specs.Macro.{Macro, Body, shape}
 use Rattle.bytecode.specs.Instructions.{Owner, own, root, Instr, operatorOf, bodyAt, cellsOf, cellTy, fieldTy, procedureAt}
 use Rattle.bytecode.specs.Machine.{Activation, Made, Shared, Machine, running, Stuck, Stepped, moved, stuck, badFrame, badRecord, badType, groupHeld, demand, at, Here, pop, given, pushCell, noStep, goesOn, popMany, allHolds, rootOf, cellsFor, onField, doLoad, doStore, doOperate, doGoUnless, doCall, doReturn, doMake, onMade, doGetField, doPutField, doSet, doFader, doTakeHold, letting, doAssert, handDown, isEmpty, act}

@@ -8,12 +8,13 @@ use native.Mathlib.Omega.{arith}
 use lib.Dec.{eqb, leb, ltb}
 use lib.ListN.{length}
 use borrow.Author.Tests.{ne-eqb, ltb-true, leb-true}
+use Rattle.bytecode.specs.Words.{logWord}
 use Rattle.words.specs.Options.{keep}
 use Rattle.words.specs.Choice.{if_then_else_}
 use Rattle.words.specs.Numbers.{integerOf}
 use Rattle.words.specs.Laws.{word-back}
 use Rattle.values.specs.Operators.{Operator}
-use Rattle.values.specs.Values.{int, log, bit, ref, logWord}
+use Rattle.values.specs.Values.{int, log, bit, ref}
 use Rattle.values.specs.Ends.{caseIndex}
 use Rattle.bytecode.specs.Instructions.{Owner, Instr, end, push, load, store, operate, go, goUnless, call, return, make, getField, putField, setLevel, readFader, takeHold, letHold, assert, stop, exactly, ownerOf, operatorOf, instruction}
 use Rattle.bytecode.specs.Machine.{noStep, condition, goesOn, doLoad, doStore, doOperate, doGoUnless, doCall, doReturn, doEnd, doMake, doGetField, doPutField, doSet, doFader, doTakeHold, letting, doAssert, act}

@@ -1,22 +1,23 @@
 -- Each sort of operator on the words of two values.
-use mathlib.Core.Path.{_≡_, refl, _∙_}
+use mathlib.Core.Path.{_≡_, refl, sym, _∙_}
 use mathlib.Core.Bool.{Bool, true, false, not, _&&_, _||_, Bool·beq}
 use mathlib.Core.Option.{none, some}
 use Prim.Native.Nat.{ℕ, zero, suc, _+_}
 use native.Mathlib.Omega.{arith}
-use lib.Dec.{eqb, ltb}
+use lib.Dec.{eqb, ltb, eqb·suc-suc}
 use lib.IntN.{ℤ}
 use lib.Signed.{ltZ, leZ}
 use borrow.Author.Tests.{ltb-true, ne-eqb}
 use mir.Syntax.{w32}
 use mir.Val.{Fits, toZ, ofZ}
 use mir.ValLaws.{toZ-ofZ, toZ-fits}
+use Rattle.bytecode.specs.Words.{logWord, wordRef, validWord, wordValue}
 use Rattle.words.specs.Choice.{if_then_else_}
 use Rattle.words.specs.Numbers.{integerOf}
 use Rattle.values.specs.Types.{Ty, integer, logical, bits, reference, tyByte}
 use Rattle.values.specs.Operators.{Unary, negate, absolute, complement, Binary, plus, minus, times, divide, remainder, less, atMost, greater, atLeast, equal, unequal, both, either, shiftLeft, shiftRight, unaryOf, binaryOf}
 use Rattle.values.specs.Arithmetic.{Outcome, gives, ends, mistyped, sum, difference, product, quotient, rest, negation, magnitude, eachBit, andBits, orBits, notBits, shiftedLeft, shiftedRight}
-use Rattle.values.specs.Values.{int, log, logWord, refWord, wordRef, validWord, wordValue, mapOutcome, arithmetic, ordering, shift, junction, equality, sameInteger, sameRef, asInteger, asked, apply1, apply2}
+use Rattle.values.specs.Values.{int, log, mapOutcome, arithmetic, ordering, shift, junction, equality, sameInteger, sameRef, asInteger, asked, apply1, apply2}
 use Rattle.values.specs.Answers.{computed}
 use Rattle.operate.specs.declared.Worked.{Worked}
 use Rattle.operate.specs.declared.Worked.the-variants.{Gives}
@@ -87,15 +88,17 @@ junction-says f g a b c d x y t (reference r) tu e h k = tt
 abbrev alike : ℕ → ℕ → ℕ → Bool
 alike t x y = if eqb t 1 then sameInteger (integerOf x) (integerOf y) else eqb x y
 
-ref-back : (x : ℕ) → refWord (wordRef x) ≡ x
-ref-back zero = refl
-ref-back (suc x) = refl
+same-word : (x y : ℕ) → sameRef (wordRef x) (wordRef y) ≡ eqb x y
+same-word zero zero = refl
+same-word zero (suc y) = sym (ne-eqb 0 (suc y) (λ e. omega arith))
+same-word (suc x) zero = sym (ne-eqb (suc x) 0 (λ e. omega arith))
+same-word (suc x) (suc y) = sym (eqb·suc-suc x y)
 
 references : (f : Bool → Bool) (x y c d : ℕ) → Says (if eqb c d then gives (log (f (sameRef (wordRef x) (wordRef y)))) else mistyped) (Gives (logWord (f (eqb x y))) 2)
 references f x y c d = go (eqb c d)
   where
     go : (b : Bool) → Says (if b then gives (log (f (sameRef (wordRef x) (wordRef y)))) else mistyped) (Gives (logWord (f (eqb x y))) 2)
-    go true = rw (ref-back x, ref-back y)
+    go true = rw (same-word x y)
     go false = tt
 
 equality-says : (f : Bool → Bool) (x y t : ℕ) (ty tu : Ty) → t ≡ tyByte ty → validWord ty x ≡ true → validWord tu y ≡ true

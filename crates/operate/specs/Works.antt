@@ -3,11 +3,12 @@ use mathlib.Core.Path.{_≡_}
 use mathlib.Core.Bool.{true}
 use mathlib.Core.Option.{some}
 use Prim.Native.Nat.{ℕ}
+use Rattle.bytecode.specs.Words.{valueWord, validWord, wordValue}
 use Rattle.words.specs.Numbers.{wordOf}
 use Rattle.values.specs.Types.{Ty, tyByte}
 use Rattle.values.specs.Operators.{Unary, Binary, unaryOf, binaryOf}
 use Rattle.values.specs.Arithmetic.{Outcome, gives, ends, mistyped}
-use Rattle.values.specs.Values.{Value, tyOf, valueWord, validWord, wordValue, apply1, apply2}
+use Rattle.values.specs.Values.{Value, tyOf, apply1, apply2}
 use Rattle.values.specs.declared.Computed.{Computed}
 use Rattle.values.specs.declared.Computed.the-variants as computed
 use Rattle.operate.specs.declared.Worked.{Worked}

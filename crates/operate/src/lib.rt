@@ -1,7 +1,8 @@
 // Op 7: the operators on values as a run state holds them, words of 32 bits with a type byte.
 ghost use mathlib.Core.Path.{_≡_};
 ghost use lib.Dec.{eqb};
-ghost use Rattle.values.specs.Values.{logWord, sameInteger};
+ghost use Rattle.bytecode.specs.Words.{logWord};
+ghost use Rattle.values.specs.Values.{sameInteger};
 ghost use Rattle.words.specs.Numbers.{integerOf};
 ghost use Rattle.words.specs.Choice.{if_then_else_};
 ghost use Rattle.operate.specs.Works.{worked, Works1, Works2};

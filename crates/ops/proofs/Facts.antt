@@ -11,10 +11,11 @@ use lib.IntN.{ℤ, pos, negsuc}
 use lib.ListN.{length}
 use lib.Signed.{mag}
 use borrow.Author.Tests.{ltb-true, eqb-true, le-leb, lt-leb}
+use Rattle.bytecode.specs.Words.{valueWord, validWord, wordValue}
 use Rattle.words.specs.Choice.{if_then_else_}
 use Rattle.words.specs.Numbers.{wordOf}
 use Rattle.words.specs.Laws.{integer-back}
-use Rattle.values.specs.Values.{Value, int, log, bit, ref, tyOf, tysOf, valueWord, validWord, wordValue, between, size, Cell}
+use Rattle.values.specs.Values.{Value, int, log, bit, ref, tyOf, tysOf, between, size, Cell}
 use Rattle.bytecode.specs.Macro.{Macro, shape}
 use Rattle.bytecode.specs.Instructions.{Owner, own, root, ownerOf}
 use Rattle.bytecode.specs.Machine.{Activation, Made, Shared, running, Stuck, badFrame, Stepped, moved, demand, given, at, goesOn, maxOperands}

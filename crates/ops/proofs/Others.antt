@@ -7,10 +7,11 @@ use native.Mathlib.Omega.{arith}
 use lib.Dec.{eqb, ltb}
 use lib.IntN.{ℤ, pos}
 use lib.ListN.{length, getD}
+use Rattle.bytecode.specs.Words.{valueWord}
 use Rattle.words.specs.Choice.{if_then_else_}
 use Rattle.words.specs.Numbers.{byteAt, halfAt, wordAt, wordOf}
 use Rattle.values.specs.Trace.{set, event, reading}
-use Rattle.values.specs.Values.{Value, int, log, bit, ref, valueWord, between, size, Cell}
+use Rattle.values.specs.Values.{Value, int, log, bit, ref, between, size, Cell}
 use Rattle.bytecode.specs.Macro.{Macro}
 use Rattle.bytecode.specs.Machine.{Activation, Shared, noStep, badType, badFrame, groupHeld, isEmpty, allHolds, condition, goesOn, doGoUnless, doSet, doFader, doAssert, doTakeHold, letting, doEnd}
 use Rattle.bytecode.specs.Sound.{soundValue}

@@ -8,12 +8,13 @@ use native.Mathlib.Omega.{arith}
 use lib.ListN.{length, getElem?}
 use lib.ListN.{set as replace}
 use borrow.Author.Tests.{ne-eqb}
+use Rattle.bytecode.specs.Words.{valueWord}
 use Rattle.words.specs.Options.{keep}
 use Rattle.words.specs.Numbers.{byteAt, wordAt}
 use Rattle.values.specs.Types.{Ty, fits}
 use Rattle.values.specs.Operators.{Unary, Binary, Operator, unary, binary, unaryOf, binaryOf}
 use Rattle.values.specs.Arithmetic.{Outcome, gives, ends, mistyped}
-use Rattle.values.specs.Values.{Value, tyOf, valueWord, Cell, assigned, apply1, apply2}
+use Rattle.values.specs.Values.{Value, tyOf, Cell, assigned, apply1, apply2}
 use Rattle.bytecode.specs.Macro.{Macro}
 use Rattle.bytecode.specs.Instructions.{Owner, own, root, ownerOf, operatorOf, orBinary, cellTy}
 use Rattle.bytecode.specs.Machine.{Activation, Shared, badFrame, badType, condition, goesOn, settled, onCell, pushCell, rootOf, doLoad, doStore, doOperate}

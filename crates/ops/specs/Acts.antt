@@ -4,10 +4,11 @@ use mathlib.Core.Bool.{true}
 use mathlib.Core.List.{List, [], _∷_}
 use Prim.Native.Nat.{ℕ, _+_, _≤_, _<_}
 use lib.ListN.{length}
+use Rattle.bytecode.specs.Words.{valueWord}
 use Rattle.words.specs.Numbers.{byteAt, halfAt}
 use Rattle.values.specs.Trace.{Item, event, reading}
 use Rattle.values.specs.Trace as trace
-use Rattle.values.specs.Values.{Value, valueWord}
+use Rattle.values.specs.Values.{Value}
 use Rattle.bytecode.specs.Macro.{Macro}
 use Rattle.bytecode.specs.Machine.{Activation, Shared, Machine, running, unwinding, ended, Stepped, moved, stuck, Here, goesOn, goes}
 use Rattle.bytecode.specs.Sound.{sound}

@@ -21,7 +21,7 @@ settle z = if ltb (mag z) 2147483648 then gives z else ends overflow
 abbrev pub isZero : ℤ → Bool
 isZero z = eqb (natAbs z) 0
 
--- 21: "zero divisor", found before the range
+-- 21: "zero divisor", found before the range (T1)
 abbrev pub unlessZero : ℤ → Outcome ℤ → Outcome ℤ
 unlessZero d o = if isZero d then ends zeroDivisor else o
 
@@ -69,7 +69,7 @@ leftBy n x = if ltb n 32 then (x * 2 ^ n) % 4294967296 else 0
 unfoldable pub rightBy : ℕ → ℕ → ℕ
 rightBy n x = if ltb n 32 then x / 2 ^ n else 0
 
--- "a negative count shifts the other way by its size"
+-- "a negative count shifts the other way by its size", also −2147483648 (T7)
 unfoldable pub shiftedLeft : ℕ → ℤ → ℕ
 shiftedLeft x (pos n) = leftBy n x
 shiftedLeft x (negsuc n) = rightBy (suc n) x

@@ -4,7 +4,8 @@ use mathlib.Core.List.{List, [], _∷_}
 use Prim.Native.Nat.{ℕ}
 use Rattle.words.specs.Lists.{among}
 
--- "A refusal gives its number and place"
+-- a refusal: its number, and its place: "2 to 5 the entry (…); 6 the body's entry, procedures first; 8 the first record that does not read, 9
+-- the address"
 pub record Refusal : Type 0 where
   pub number : ℕ
   pub place : ℕ

@@ -6,7 +6,7 @@ use Prim.Native.Nat.{ℕ, zero, suc, _+_, _-_}
 use native.Mathlib.Omega.{arith}
 use lib.Dec.{eqb}
 use borrow.Author.Tests.{eqb-true, eq-eqb}
-use Rattle.values.specs.Types.{Ty, integer, logical, bits, reference, tyCode, same, sames}
+use Rattle.values.specs.Types.{Ty, integer, logical, bits, reference, tyCode, same, fits, sames, allFit}
 
 -- the type that a code stands for; any, where it is no code
 unfoldable coded : ℕ → Ty
@@ -47,3 +47,17 @@ sames→≡ (t ∷ ts) (u ∷ us) h = go (same t u) refl h (sames→≡ ts us)
     go : (b : Bool) → same t u ≡ b → (b && sames ts us) ≡ true → (sames ts us ≡ true → ts ≡ us) → t ∷ ts ≡ u ∷ us
     go true e k rest = ap₂ (λ x xs. x ∷ xs) (same→≡ t u e) (rest k)
     go false e k rest = let z : _≡_ {A = ℕ} 0 1 = cc k in absurd (omega arith)
+
+-- for now what fits a place is of its very type: all that turns on it goes through these two
+pub fits→≡ : (t u : Ty) → fits t u ≡ true → t ≡ u
+fits→≡ = same→≡
+
+fit-sames : (ts us : List Ty) → allFit ts us ≡ sames ts us
+unfolding allFit sames
+fit-sames [] [] = refl
+fit-sames [] (u ∷ us) = refl
+fit-sames (t ∷ ts) [] = refl
+fit-sames (t ∷ ts) (u ∷ us) = ap (λ b. same t u && b) (fit-sames ts us)
+
+pub allFit→≡ : (ts us : List Ty) → allFit ts us ≡ true → ts ≡ us
+allFit→≡ ts us h = sames→≡ ts us (sym (fit-sames ts us) ∙ h)

@@ -85,7 +85,7 @@ abbrev pub anyOne : List Ty → Option Ty
 anyOne [] = none
 anyOne (t ∷ ts) = takes (t ∷ t ∷ []) logical (t ∷ ts)
 
--- "+ − × div rem and orderings take integers, …, shifts bits by integer"; operands left to right
+-- "+ − × div rem and orderings take integers, …, shifts bits by integer"; operands left to right; negate and abs take an integer (N21)
 unfoldable pub opType : Operator → List Ty → Option Ty
 opType (unary negate) = takes (integer ∷ []) integer
 opType (unary absolute) = takes (integer ∷ []) integer

@@ -7,7 +7,7 @@ pub data Event : Type 0 where
   hold : ℕ → Event
   release : ℕ → Event
 
--- readings stand in the trace beside the events: "given the same readings in the same order"
+-- readings stand in the trace beside the events: "sets, holds, releases and readings, then the end" (paper 02, ticket 4; T14)
 pub data Item : Type 0 where
   event : Event → Item
   reading : ℕ → ℕ → Item  -- the fader, and the byte read

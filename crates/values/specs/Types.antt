@@ -23,7 +23,7 @@ tyByte logical = 2
 tyByte bits = 3
 tyByte (reference c) = 16 + c
 
--- "Types must be identical"
+-- "Types must be identical": their codes are equal (N11)
 abbrev pub same : Ty → Ty → Bool
 same t u = eqb (tyCode t) (tyCode u)
 

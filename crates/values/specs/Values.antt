@@ -2,13 +2,12 @@
 use mathlib.Core.Bool.{Bool, true, false, not, _&&_, _||_, Bool·beq}
 use mathlib.Core.List.{List, [], _∷_}
 use mathlib.Core.Option.{Option, none, some}
-use Prim.Native.Nat.{ℕ, zero, suc}
-use lib.Dec.{eqb, leb, ltb}
+use Prim.Native.Nat.{ℕ}
+use lib.Dec.{eqb, leb}
 use lib.IntN.{ℤ, pos, negsuc}
 use lib.Signed.{ltZ, leZ}
 use Rattle.words.specs.Choice.{if_then_else_}
 use Rattle.words.specs.Options.{ifSome}
-use Rattle.words.specs.Numbers.{integerOf, wordOf}
 use Rattle.values.specs.Types.{Ty, integer, logical, bits, reference}
 use Rattle.values.specs.Operators.{Unary, negate, absolute, complement, Binary, plus, minus, times, divide, remainder, less, atMost, greater, atLeast, equal, unequal, both, either, shiftLeft, shiftRight}
 use Rattle.values.specs.Arithmetic.{Outcome, gives, ends, mistyped, sum, difference, product, quotient, rest, negation, magnitude, andBits, orBits, notBits, shiftedLeft, shiftedRight}
@@ -80,38 +79,6 @@ unfoldable pub freshAll : List Ty → List Cell
 freshAll [] = []
 freshAll (t ∷ ts) = fresh t ∷ freshAll ts
 
--- ── values as 32-bit words, in compiled macros and in the run state ──
-abbrev pub logWord : Bool → ℕ
-logWord false = 0
-logWord true = 1
-
-abbrev pub refWord : Option ℕ → ℕ
-refWord none = 0
-refWord (some n) = suc n
-
-abbrev pub valueWord : Value → ℕ
-valueWord (int z) = wordOf z
-valueWord (log b) = logWord b
-valueWord (bit n) = n
-valueWord (ref c r) = refWord r
-
-abbrev pub wordRef : ℕ → Option ℕ
-wordRef zero = none
-wordRef (suc n) = some n
-
--- a word is a value of every type but logical, which has two
-abbrev pub validWord : Ty → ℕ → Bool
-validWord integer w = true
-validWord logical w = ltb w 2
-validWord bits w = true
-validWord (reference c) w = true
-
-abbrev pub wordValue : Ty → ℕ → Value
-wordValue integer w = int (integerOf w)
-wordValue logical w = log (eqb w 1)
-wordValue bits w = bit w
-wordValue (reference c) w = ref c (wordRef w)
-
 -- ── ranges, as op 15, op 16 and kinds 28 and 51 test them ──
 abbrev pub between : ℕ → ℕ → ℤ → Bool
 between lo hi (pos n) = leb lo n && leb n hi
@@ -151,9 +118,12 @@ junction f g v w =
 abbrev pub sameInteger : ℤ → ℤ → Bool
 sameInteger x y = leZ x y && leZ y x
 
--- references are equal where both are null or both the same record
+-- references are equal where both are null or both the same record (T8)
 abbrev pub sameRef : Option ℕ → Option ℕ → Bool
-sameRef r s = eqb (refWord r) (refWord s)
+sameRef none none = true
+sameRef none (some n) = false
+sameRef (some m) none = false
+sameRef (some m) (some n) = eqb m n
 
 -- two values of one type
 abbrev pub equality : (Bool → Bool) → Value → Value → Outcome Value
