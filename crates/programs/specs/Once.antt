@@ -1,14 +1,13 @@
 -- Names that a block defines once. Faults goes through a block with the names that it has seen, Formed says it of the list of definitions.
 use mathlib.Core.Path.{_≡_, refl, sym, _∙_, ap}
 use mathlib.Core.Bool.{Bool, true, false, _||_}
-use mathlib.Core.List.{List, [], _∷_, _++_, append-nil, append-assoc}
+use mathlib.Core.List.{List, [], _∷_, _++_}
 use Prim.Native.Nat.{ℕ, suc}
 use lib.Dec.{eqb}
 use borrow.Author.Tests.{eqb-true, eqb-false, eq-eqb, ne-eqb}
-use Rattle.words.specs.Choice.{if_then_else_}
 use Rattle.values.specs.Types.{Ty}
-use Rattle.language.specs.Tree.{Typed, Decl, declare, holding, Items, noItem, label, item}
-use Rattle.language.specs.Names.{Sort, isVariable, isLabel, isField, Definition, define, definesTyped, definesHead, definesItems, definesFields, Found, nowhere, found, firstOf}
+use Rattle.language.specs.Tree.{Typed, Decl, declare, holding}
+use Rattle.language.specs.Names.{Sort, isVariable, isField, Definition, define, definesTyped, definesHead, definesFields, nowhere, found, firstOf}
 use Rattle.language.specs.Faults.{among, twice, typeFaults, faultsTyped, faultsHead, namesHead, namesTyped}
 use Rattle.language.specs.Formed.{Blocks, IsType, Declared, Defines, d-none, d-more}
 use Rattle.programs.specs.Basics.{clash}

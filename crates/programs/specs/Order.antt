@@ -1,13 +1,14 @@
 -- The faults of a part lie within its places, and at one entry they come in the order 3, 4, 5.
-use mathlib.Core.Bool.{Bool, true, not, _&&_}
+use mathlib.Core.Bool.{Bool, true, false, not, _&&_}
 use mathlib.Core.List.{List, [], _∷_, _++_, append-assoc}
 use Prim.Native.Nat.{ℕ, suc, _+_}
 use native.Mathlib.Omega.{arith}
 use lib.ListN.{length}
+use Rattle.words.specs.Choice.{if_then_else_}
 use Rattle.values.specs.Types.{Ty, integer, logical, bits, reference}
 use Rattle.values.specs.Ends.{Refusal, refusal}
 use Rattle.language.specs.Tree.{Typed, Decl, declare, holding, Stmt, block, assign, when, choose, while, goto, assert, call, setLevel, select, Items, noItem, label, item, Arms, lastArm, arm, Target, toVariable, toField, Expr, number, truth, pattern, null, variable, invoke, field, make, operate1, operate2, conditional, fader, blockExpr, Exprs, noExpr, expr, Body, proper, function, Global, local, class, procedure, Tree}
-use Rattle.language.specs.Names.{Sort, isVariable, isLabel, isClass, isField, isProcedure, Scope, blockOf, expressionOf, procedureOf, rootOf, Found, nowhere, found, lookup}
+use Rattle.language.specs.Names.{Sort, asLabel, Scope, blockOf, expressionOf, procedureOf, rootOf, Found, nowhere, found, lookup}
 use Rattle.language.specs.Table.{isSome}
 use Rattle.language.specs.Faults.{typeE, typesE, isTy, sameTy, fitsTy, typeTarget, faultIf, named, variableSort, classSort, classFrom, fieldOf, callOf, aimed, among, typeFaults, sizeS, sizeItems, sizeArms, sizeTarget, sizeE, sizeEs, faultsTyped, faultsHead, namesHead, faultsS, faultsItems, faultsArms, faultsTarget, faultsE, faultsEs, sizeBody, sizeGlobal, faultsBody, bodyFits, namesGlobal, faultsGlobal, faultsGlobals, faults}
 use Rattle.language.specs.Judge.{total}
@@ -24,11 +25,11 @@ before-named (found s w) g p = before-if (not (g s)) 4 p (omega arith)
 
 spans-aimed : (f : Found) (p : ℕ) → Spans p (suc p) (aimed f p)
 spans-aimed nowhere p = spans-one 3 p (omega arith)
-spans-aimed (found (isVariable t) w) p = spans-one 4 p (omega arith)
-spans-aimed (found isLabel w) p = spans-if w 5 p (omega arith)
-spans-aimed (found (isClass ts) w) p = spans-one 4 p (omega arith)
-spans-aimed (found (isField c t) w) p = spans-one 4 p (omega arith)
-spans-aimed (found (isProcedure ts us) w) p = spans-one 4 p (omega arith)
+spans-aimed (found s w) p = go (asLabel s)
+  where
+    go : (b : Bool) → Spans p (suc p) (if b then faultIf w 5 p else refusal 4 p ∷ [])
+    go true = spans-if w 5 p (omega arith)
+    go false = spans-one 4 p (omega arith)
 
 -- a declaration with a type: its name twice, and then its class
 spans-declared : (ss : List Scope) (b : Bool) (t : Ty) (p : ℕ) → Spans p (suc p) (faultIf b 3 p ++ typeFaults ss t p)

@@ -1,6 +1,6 @@
 -- What the tests that Faults makes at one entry say of it, both ways: the list of faults is empty, and what a rule of Formed asks.
-use mathlib.Core.Path.{_≡_, refl, ap, sym, subst}
-use mathlib.Core.Bool.{Bool, true, false, not, _&&_}
+use mathlib.Core.Path.{_≡_, refl, ap}
+use mathlib.Core.Bool.{Bool, true, false}
 use mathlib.Core.List.{List, [], _∷_, _++_}
 use mathlib.Core.Option.{Option, none, some}
 use Prim.Native.Nat.{ℕ}
@@ -8,11 +8,11 @@ use native.Mathlib.Omega.{arith}
 use lib.Dec.{eqb}
 use lib.ListN.{length}
 use borrow.Author.Tests.{eqb-true}
-use Rattle.values.specs.Types.{Ty, integer, logical, bits, reference, same, fits, allFit}
+use Rattle.values.specs.Types.{Ty, integer, logical, bits, reference, fits, allFit}
 use Rattle.values.specs.Identical.{same-refl, same→≡}
-use Rattle.language.specs.Names.{Sort, isVariable, isLabel, isClass, isField, isProcedure, Scope, Found, nowhere, found, lookup}
+use Rattle.language.specs.Names.{Sort, isVariable, isLabel, isClass, isField, isProcedure, Found, nowhere, found, lookup}
 use Rattle.language.specs.Table.{isSome}
-use Rattle.language.specs.Faults.{withTy, variableTy, resultTy, fieldTy, isTy, sameTy, fitsTy, fitTys, consTy, faultIf, mistypedUnless, named, variableSort, classSort, classFrom, fieldOf, callOf, aimed, typeFaults}
+use Rattle.language.specs.Faults.{withTy, variableTy, isTy, sameTy, fitsTy, fitTys, consTy, faultIf, mistypedUnless, named, classSort, classFrom, fieldOf, callOf, aimed, typeFaults}
 use Rattle.language.specs.Formed.{Blocks, Denotes, Reachable, IsType, integer-type, logical-type, bits-type, reference-type}
 use Rattle.programs.specs.Basics.{clash, both-left, both-right}
 
