@@ -16,12 +16,12 @@ use Rattle.language.specs.Tree.{Typed, Decl, declare, holding, Stmt, blo
 use Rattle.language.specs.Names.{Sort, asVariable, asLabel, asClass, asField, asProcedure, Scope, blockOf, expressionOf, procedureOf, rootOf, Found, nowhere, found, lookup}
 
 -- ── what is found ──
--- as what a name was found, if as that
+-- what a name was found as, if as one of this sort
 abbrev pub foundAs : {A : Type 0} → (Sort → Option A) → Found → Option A
 foundAs f nowhere = none
 foundAs f (found s w) = f s
 
--- something there is, and it holds of it
+-- there is something, and this holds of it
 abbrev pub holds : {A : Type 0} → Option A → (A → Bool) → Bool
 holds none f = false
 holds (some x) f = f x

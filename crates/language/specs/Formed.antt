@@ -1,6 +1,7 @@
--- What is well formed, by rules: which types expressions have, which statements, blocks and trees are well formed, which trees keep their
--- bodies' limits. A rule says what is enough, and no tree is well formed but by the rules. There is no place and no order here: what a
--- refusal says is the matter of Faults. (paper 01, Names, types and room in a body)
+-- What is well formed, by rules: the types that expressions have, well-formed statements, blocks and trees, trees that keep their bodies'
+-- limits. A constructor is a rule: what stands before the last arrow is enough for what stands after it, and nothing is so but by a rule.
+-- There is no place and no order of tests here: which refusal is given, and where, is the matter of Faults.
+-- (paper 01, The syntax table; Names, types and room in a body)
 use mathlib.Core.Path.{_≡_}
 use mathlib.Core.Bool.{Bool, true, false}
 use mathlib.Core.List.{List, [], _∷_}
@@ -21,7 +22,7 @@ Blocks = List Scope
 
 -- "Names follow section 3 of 000": among these blocks the name a stands for s
 pub record Denotes (ss : Blocks) (a : ℕ) (s : Sort) : Type 0 where
-  pub across : Bool  -- a variable, a procedure, a class, a field are seen from inside a procedure and a block expression too
+  pub across : Bool  -- whether it is seen from inside a procedure or a block expression matters to a goto only
   pub is-found : lookup a ss ≡ found s across
 
 -- "A goto may reach a label of its own block or an enclosing one, within its body and not out of a block expression."
@@ -43,7 +44,7 @@ Declared ss (isClass ts) = Unit {0}
 Declared ss (isField c t) = IsType ss t
 Declared ss (isProcedure ts us) = Unit {0}
 
--- a block's definitions: no name "twice in a block" (N4, N7)
+-- a block's definitions: no name "twice in a block", whatever the two define (N4, N7)
 pub data Defines (ss : Blocks) : List Definition → Type 0 where
   d-none : Defines ss []
   d-more : {d : Definition} {ds : List Definition} → firstOf (d .name) ds ≡ nowhere → Declared ss (d .sort) → Defines ss ds → Defines ss (d ∷ ds)
@@ -129,11 +130,12 @@ pub data BodyFormed (ss : Blocks) : Body → Type 0 where
 abbrev pub EveryProcedure : List Global → (List Typed → Body → Type 0) → Type 0
 EveryProcedure gs P = (i a : ℕ) (xs : List Typed) (b : Body) → getElem? gs i ≡ some (procedure a xs b) → P xs b
 
--- "a procedure sees its own names and the root's": its "parameters [belong] to one [block] around the body"
+-- "a procedure sees its own names and the root's"; "parameters [belong] to one around the body"
 pub record ProcedureFormed (root : Blocks) (xs : List Typed) (b : Body) : Type 0 where
   pub parameters : Opens (procedureOf xs) root
   pub body : BodyFormed (procedureOf xs ∷ root) b
 
+-- "All names of a head are visible throughout it."
 pub record WellFormed (t : Tree) : Type 0 where
   pub names : Opens (rootOf t) []
   pub procedures : EveryProcedure (t .head) (ProcedureFormed (rootOf t ∷ []))

@@ -16,7 +16,7 @@ pub data Sort : Type 0 where
   isField : ℕ → Ty → Sort  -- the class that owns it, and its type
   isProcedure : List Ty → List Ty → Sort  -- the types of its parameters, and of its result, if it has one
 
--- what a name of a sort is, if it is that
+-- each sort asked for: what a name of it is, if it is of that one
 abbrev pub asVariable : Sort → Option Ty
 asVariable (isVariable t) = some t
 asVariable isLabel = none
@@ -38,6 +38,7 @@ asClass (isClass ts) = some ts
 asClass (isField c t) = none
 asClass (isProcedure ts us) = none
 
+-- its class, and its type
 abbrev pub asField : Sort → Option (ℕ × Ty)
 asField (isVariable t) = none
 asField isLabel = none
@@ -45,6 +46,7 @@ asField (isClass ts) = none
 asField (isField c t) = some (c, t)
 asField (isProcedure ts us) = none
 
+-- the types of its parameters, and of its result
 abbrev pub asProcedure : Sort → Option (List Ty × List Ty)
 asProcedure (isVariable t) = none
 asProcedure isLabel = none
@@ -101,6 +103,7 @@ pub data Scope : Type 0 where
   inExpression : List Definition → Scope  -- a block expression, which no goto leaves
   inProcedure : List Definition → Scope  -- "parameters to one around the body", which no goto leaves
 
+-- what it defines
 abbrev pub definitions : Scope → List Definition
 definitions (inBlock ds) = ds
 definitions (inExpression ds) = ds

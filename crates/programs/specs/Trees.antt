@@ -1,11 +1,10 @@
 -- Whole trees: no fault exactly if well formed by the rules, nothing over the limits exactly if its bodies keep them.
-use mathlib.Core.Path.{_≡_, refl, sym, ap, subst}
-use mathlib.Core.Bool.{Bool, true, false, not, _&&_}
+use mathlib.Core.Path.{_≡_, refl, ap, subst}
+use mathlib.Core.Bool.{true, not}
 use mathlib.Core.List.{List, [], _∷_, _++_, append-nil, append-assoc}
-use mathlib.Core.Option.{none, some}
 use Prim.Native.Nat.{ℕ, zero, suc, _+_}
 use lib.Dec.{leb}
-use lib.ListN.{length, getElem?}
+use lib.ListN.{length}
 use borrow.Author.Tests.{leb-true, le-leb, not-false}
 use Rattle.words.specs.Lists.{among}
 use Rattle.values.specs.Types.{Ty}
@@ -14,7 +13,7 @@ use Rattle.language.specs.Tree.{Typed, Decl, declare, holding, Body, proper, fu
 use Rattle.language.specs.Names.{isVariable, isClass, isField, isProcedure, Definition, define, types, results, definesTyped, definesHead, definesFields, definesItems, definesGlobals, procedureOf, rootOf}
 use Rattle.language.specs.Faults.{twice, faultsTyped, faultsHead, namesHead, namesTyped, faultsBody, bodyFits, sizeGlobal, namesGlobal, faultsGlobal, faultsGlobals, faultsItems, faults, typeE}
 use Rattle.language.specs.Limits.{Usage, keepsLimits, bodyUsage, rootUsage, overLimits, procedureLimits, limits}
-use Rattle.language.specs.Formed.{Blocks, IsType, Defines, BodyFormed, b-proper, b-function, EveryProcedure, ProcedureFormed, WellFormed, InLimits, KeepsLimits}
+use Rattle.language.specs.Formed.{Blocks, Defines, BodyFormed, b-proper, b-function, EveryProcedure, ProcedureFormed, WellFormed, InLimits, KeepsLimits}
 use Rattle.programs.specs.Basics.{clash, both-left, both-right, both-so}
 use Rattle.programs.specs.Tests.{none-left, none-right, none-both, fault-if, no-fault-if, unless, typed-so, is-ty, ty-is}
 use Rattle.programs.specs.Once.{Adds, adds-all, adds-none, adds-more, adds-first, head-adds, adds-head, defined, fields-defined, parameters-defined, typed-adds, adds-typed}
@@ -115,7 +114,8 @@ module _ (ss : Blocks) (k : List ℕ → ℕ → List Refusal) where
       none-both (q .0) (no-fault-head rest r (namesHead (holding g ∷ []) ++ seen) (p + 1) gs (q .1) (λ i. f (suc i)))
   no-fault-head rest r seen p (class c xs ∷ gs) h f =
       let q = adds-first (define c (isClass (types xs))) h in
-      let l = adds-typed (definesGlobals gs ++ rest) (isField c) (λ t j. j) (c ∷ seen) (suc p) xs (rw (append-assoc (definesFields c xs) (definesGlobals gs) rest, fields-defined c xs) at (q .2)) in
+      let behind = definesGlobals gs ++ rest in
+      let l = adds-typed behind (isField c) (λ t j. j) (c ∷ seen) (suc p) xs (rw (append-assoc (definesFields c xs) (definesGlobals gs) rest, fields-defined c xs) at (q .2)) in
       none-both (none-both (l .0) (no-fault-if 3 p (q .0))) (no-fault-head rest r (namesTyped xs (c ∷ seen)) (p + sizeGlobal (class c xs)) gs (l .1) (λ i. f (suc i)))
   no-fault-head rest r seen p (procedure a xs b ∷ gs) h f =
       let inner = procedureOf xs ∷ ss in

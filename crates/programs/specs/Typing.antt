@@ -1,10 +1,9 @@
 -- Expressions and statements: Faults finds nothing in them exactly if the rules of Formed give them a type, or make them well formed.
 use mathlib.Core.Path.{_≡_, refl, sym, _∙_, ap, subst}
-use mathlib.Core.Bool.{Bool, true, false, _&&_}
+use mathlib.Core.Bool.{true}
 use mathlib.Core.List.{List, [], _∷_, _++_, append-nil}
-use mathlib.Core.Option.{Option, none, some}
+use mathlib.Core.Option.{some}
 use Prim.Native.Nat.{ℕ, suc, _+_}
-use lib.Dec.{eqb}
 use lib.ListN.{length}
 use Rattle.words.specs.Options.{isSome}
 use Rattle.words.specs.Lists.{among}
@@ -15,7 +14,7 @@ use Rattle.language.specs.Names.{Sort, isVariable, isLabel, isClass, isField, i
 use Rattle.language.specs.Faults.{withTy, variableTy, resultTy, fieldTy, typeE, typeTarget, typesE, isTy, sameTy, fitTys, mistypedUnless, named, variableSort, classSort, classFrom, fieldOf, callOf, aimed, twice, sizeS, sizeTarget, sizeE, sizeItems, namesHead, faultsHead, faultsS, faultsItems, faultsArms, faultsTarget, faultsE, faultsEs}
 use Rattle.language.specs.Formed.{Blocks, Denotes, Defines, HasType, t-number, t-truth, t-pattern, t-null, t-variable, t-invoke, t-field, t-make, t-operate1, t-operate2, t-conditional, t-fader, t-block, Fit, f-none, f-more, Assignable, a-variable, a-field, Formed, s-block, s-assign, s-when, s-choose, s-while, s-assert, s-goto, s-call, s-set, s-case, ItemsFormed, i-none, i-label, i-item, ArmsFormed, r-last, r-more}
 use Rattle.programs.specs.Basics.{clash, both-left, both-right, both-so}
-use Rattle.programs.specs.Tests.{none-left, none-right, none-both, fault-if, no-fault-if, unless, typed-so, is-ty, told, ty-is, same-ty, ty-same, fits-ty, ty-fits, fit-none, fit-more, more-fit, has-1, has-ty, named-so, so-named, class-named, record-named, field-named, no-result, one-result, variable-named, label-aimed}
+use Rattle.programs.specs.Tests.{none-left, none-right, none-both, fault-if, no-fault-if, unless, typed-so, is-ty, told, ty-is, same-ty, ty-same, fits-ty, ty-fits, fit-none, fit-more, more-fit, has-1, has-ty, so-named, class-named, record-named, field-named, no-result, one-result, variable-named, label-aimed}
 use Rattle.programs.specs.Once.{Adds, adds-all, adds-none, adds-more, adds-first, head-adds, adds-head}
 
 -- ── from no fault to the rules ──
