@@ -52,9 +52,9 @@ top-put t [] ls ks w = absurd w
 top-put t (f ∷ []) ls ks w = refl
 top-put t (f ∷ (g ∷ gs)) ls ks w = refl
 
-root-put : (rs : Shared) (t : Activation) (st : List Value) (xs : List Activation) (ls : List Cell) (c : ℕ) (x : Cell) (tr : List Item) (n : ℕ) → Owners xs root → (ks : List Cell) → ks ≡ ls
-    → _≡_ {A = Conf} (live (running rs (at (suc (putTop (put ks c x) t (putLowest ls xs) .address)) st (putTop (put ks c x) t (putLowest ls xs))) (putLowest (put ks c x) (putLowest ls xs))) tr n) (live (running rs (at (suc (t .address)) st t) (putLowest (put ls c x) xs)) tr n)
-root-put rs t st xs ls c x tr n w ks e = ap₂ (λ y z. live (running rs (at (suc (y .address)) st y) z) tr n) (top-put t xs ls (put ks c x) w) (lowest-put xs ls (put ks c x) ∙ ap (λ z. putLowest (put z c x) xs) e)
+root-put : (s : Shared) (t : Activation) (st : List Value) (xs : List Activation) (ls : List Cell) (c : ℕ) (x : Cell) (tr : List Item) (n : ℕ) → Owners xs root → (ks : List Cell) → ks ≡ ls
+    → _≡_ {A = Conf} (live (running s (at (suc (putTop (put ks c x) t (putLowest ls xs) .address)) st (putTop (put ks c x) t (putLowest ls xs))) (putLowest (put ks c x) (putLowest ls xs))) tr n) (live (running s (at (suc (t .address)) st t) (putLowest (put ls c x) xs)) tr n)
+root-put s t st xs ls c x tr n w ks e = ap₂ (λ y z. live (running s (at (suc (y .address)) st y) z) tr n) (top-put t xs ls (put ks c x) w) (lowest-put xs ls (put ks c x) ∙ ap (λ z. putLowest (put z c x) xs) e)
 
 -- one more item said, one more reading taken
 abbrev pub says : List Item → Data → Data
