@@ -3,10 +3,11 @@ ghost use mathlib.Core.Path.{_≡_};
 ghost use Prim.Native.Nat.{_+_, _-_, _≤_, _<_};
 ghost use lib.ListN.{length};
 ghost use Rattle.calls.specs.Moves.{dropped, begun, filled, fielded};
+ghost use Rattle.bytecode.specs.State.{stateLength};
 
 // The topmost c of n operands.
 pub fn drop_operands(s: &mut [u8], f: usize, n: usize, c: usize)
-    requires { ⌜ (length (now s) ≡ 24576) × (f ≤ 10200) × (n ≤ 32) × (c ≤ n) ⌝ }
+    requires { ⌜ (length (now s) ≡ stateLength) × (f ≤ 10200) × (n ≤ 32) × (c ≤ n) ⌝ }
     ensures { λ _. ⌜ now (s .exit) ≡ dropped (now (s .entry)) f n c ⌝ }
 {
     let mut k = n;
@@ -18,7 +19,7 @@ pub fn drop_operands(s: &mut [u8], f: usize, n: usize, c: usize)
 
 // Operands from k on into the first p cells of the activation at g.
 pub fn fill_cells(s: &mut [u8], f: usize, k: usize, g: usize, p: usize)
-    requires { ⌜ (length (now s) ≡ 24576) × (f ≤ 10200) × (g ≤ 10200) × (k + p ≤ 32) ⌝ }
+    requires { ⌜ (length (now s) ≡ stateLength) × (f ≤ 10200) × (g ≤ 10200) × (k + p ≤ 32) ⌝ }
     ensures { λ _. ⌜ now (s .exit) ≡ filled (now (s .entry)) f k g p ⌝ }
 {
     let mut j = 0;
@@ -32,7 +33,7 @@ pub fn fill_cells(s: &mut [u8], f: usize, k: usize, g: usize, p: usize)
 
 // The cells from p up to c of the activation at g: 0, false, #0 or null of the types whose bytes stand at q in the macro.
 pub fn begin_cells(code: &[u8], q: usize, s: &mut [u8], g: usize, p: usize, c: usize)
-    requires { ⌜ (length (now s) ≡ 24576) × (g ≤ 10200) × (p ≤ c) × (c ≤ 32) × (q + c ≤ length (now code)) ⌝ }
+    requires { ⌜ (length (now s) ≡ stateLength) × (g ≤ 10200) × (p ≤ c) × (c ≤ 32) × (q + c ≤ length (now code)) ⌝ }
     ensures { λ _. ⌜ now (s .exit) ≡ begun (now (code .entry)) q (now (s .entry)) g p (c - p) ⌝ }
 {
     let mut j = p;
@@ -44,7 +45,7 @@ pub fn begin_cells(code: &[u8], q: usize, s: &mut [u8], g: usize, p: usize, c: u
 
 // Operands from k on into the first c fields of record r.
 pub fn fill_fields(s: &mut [u8], f: usize, k: usize, r: usize, c: usize)
-    requires { ⌜ (length (now s) ≡ 24576) × (f ≤ 10200) × (k + c ≤ 32) × (r < 256) × (c ≤ 8) ⌝ }
+    requires { ⌜ (length (now s) ≡ stateLength) × (f ≤ 10200) × (k + c ≤ 32) × (r < 256) × (c ≤ 8) ⌝ }
     ensures { λ _. ⌜ now (s .exit) ≡ fielded (now (s .entry)) f k r c ⌝ }
 {
     let mut j = 0;

@@ -6,6 +6,7 @@ ghost use Rattle.places.specs.Records.{classes, classPlace};
 ghost use Rattle.bytecode.specs.Machine.{doMake, doGetField, doPutField};
 ghost use Rattle.ops.specs.Acts.{Room, Tells};
 ghost use Rattle.calls.specs.Moves.{TellsOf, MakeRoom, FieldRoom};
+ghost use Rattle.bytecode.specs.State.{operandWordsAt};
 use crate::moves;
 use formats::compiled::*;
 use formats::limits::*;
@@ -34,7 +35,7 @@ pub fn op_make(code: &[u8], q: usize, s: &mut [u8], f: usize, n: usize, i: u16, 
 }
 
 pub fn op_get_field(s: &mut [u8], f: usize, n: usize, i: u16, c: u8, b: usize) -> Out
-    requires { ⌜ (Room (now s) f n i) × (0 < n) × ((wordAt (now s) (f + (136 + 4 * (n - 1))) ≡ 0 → ⊥) → FieldRoom (wordAt (now s) (f + (136 + 4 * (n - 1)))) b) ⌝ }
+    requires { ⌜ (Room (now s) f n i) × (0 < n) × ((wordAt (now s) (f + (operandWordsAt + 4 * (n - 1))) ≡ 0 → ⊥) → FieldRoom (wordAt (now s) (f + (operandWordsAt + 4 * (n - 1)))) b) ⌝ }
     ensures { λ r. ⌜ Tells (λ m h. doGetField m c b h) (now (s .entry)) f n i (now (s .exit)) r ⌝ }
 {
     let k = n - 1;
@@ -52,7 +53,7 @@ pub fn op_get_field(s: &mut [u8], f: usize, n: usize, i: u16, c: u8, b: usize) -
 
 // The value is on top of the reference.
 pub fn op_put_field(s: &mut [u8], f: usize, n: usize, i: u16, c: u8, b: usize) -> Out
-    requires { ⌜ (Room (now s) f n i) × (2 ≤ n) × ((wordAt (now s) (f + (136 + 4 * (n - 2))) ≡ 0 → ⊥) → FieldRoom (wordAt (now s) (f + (136 + 4 * (n - 2)))) b) ⌝ }
+    requires { ⌜ (Room (now s) f n i) × (2 ≤ n) × ((wordAt (now s) (f + (operandWordsAt + 4 * (n - 2))) ≡ 0 → ⊥) → FieldRoom (wordAt (now s) (f + (operandWordsAt + 4 * (n - 2)))) b) ⌝ }
     ensures { λ r. ⌜ Tells (λ m h. doPutField m c b h) (now (s .entry)) f n i (now (s .exit)) r ⌝ }
 {
     let k = n - 1;

@@ -13,6 +13,7 @@ ghost use Rattle.layout.specs.Cleared.{_⋯_, wipes, activationGaps, recordGaps
 ghost use Rattle.loader.specs.Lookups.{Bodied, Classed};
 ghost use Rattle.soundness.specs.Inspecting.{Held};
 ghost use Rattle.clearing.specs.Clearing.{Below, Uncleared, Encodes};
+ghost use Rattle.bytecode.specs.State.{activationLength, holdsAt, recordLength, recordsAt, stateLength};
 
 // The ends of the numbers that bytes not in use stand behind.
 const AFTER_CONDITION: usize = CONDITION_AT + 1;
@@ -30,7 +31,7 @@ const AFTER_CLASS: usize = 1; // a record begins with its class
 // The bytes from one place up to another, both counted from a base: none where the first is not before the second. So no count of
 // cells, operands, fields or holds has to be within its limit here; that the first is below 131,072 keeps the sum from overflow.
 fn wipe(l: &mut [u8], b: usize, from: usize, to: usize)
-    requires { ⌜ (length (now l) ≡ 24576) × (b + to ≤ 24576) × (from < 131072) ⌝ }
+    requires { ⌜ (length (now l) ≡ stateLength) × (b + to ≤ stateLength) × (from < 131072) ⌝ }
     ensures { λ _. ⌜ now (l .exit) ≡ wipes (now (l .entry)) b ((from ⋯ to) ∷ []) ⌝ }
 {
     let end = b + to;
@@ -43,7 +44,7 @@ fn wipe(l: &mut [u8], b: usize, from: usize, to: usize)
 
 // The activation at b, which has as many cells and operands.
 fn wipe_activation(l: &mut [u8], b: usize, cells: usize, operands: usize)
-    requires { ⌜ (length (now l) ≡ 24576) × (b + 328 ≤ 24576) × (cells < 256) × (operands < 256) ⌝ }
+    requires { ⌜ (length (now l) ≡ stateLength) × (b + activationLength ≤ stateLength) × (cells < 256) × (operands < 256) ⌝ }
     ensures { λ _. ⌜ now (l .exit) ≡ wipes (now (l .entry)) b (activationGaps cells operands) ⌝ }
 {
     wipe(l, b, AFTER_OWN_HOLD_COUNT, ADDRESS_AT);
@@ -61,7 +62,7 @@ fn wipe_activation(l: &mut [u8], b: usize, cells: usize, operands: usize)
 
 // The record at b, which has as many fields.
 fn wipe_record(l: &mut [u8], b: usize, fields: usize)
-    requires { ⌜ (length (now l) ≡ 24576) × (b + 44 ≤ 24576) × (fields < 256) ⌝ }
+    requires { ⌜ (length (now l) ≡ stateLength) × (b + recordLength ≤ stateLength) × (fields < 256) ⌝ }
     ensures { λ _. ⌜ now (l .exit) ≡ wipes (now (l .entry)) b (recordGaps fields) ⌝ }
 {
     wipe(l, b, AFTER_CLASS, FIELD_WORDS_AT);
@@ -70,7 +71,7 @@ fn wipe_record(l: &mut [u8], b: usize, fields: usize)
 }
 
 fn clear_activation(c: &[u8], bx: &[u32], l: &mut [u8], b: usize)
-    requires { ⌜ (Bodied (now c) (now bx)) × (length (now l) ≡ 24576) × (b + 328 ≤ 24576) × (byteAt (now l) b < bodies (now c)) ⌝ }
+    requires { ⌜ (Bodied (now c) (now bx)) × (length (now l) ≡ stateLength) × (b + activationLength ≤ stateLength) × (byteAt (now l) b < bodies (now c)) ⌝ }
     ensures { λ _. ⌜ now (l .exit) ≡ wipes (now (l .entry)) b (activationGaps (cellCount (view (now (c .entry))) (byteAt (now (l .entry)) b)) (byteAt (now (l .entry)) (b + 1))) ⌝ }
 {
     let k = words::wide::byte_at(l, b);
@@ -81,7 +82,7 @@ fn clear_activation(c: &[u8], bx: &[u32], l: &mut [u8], b: usize)
 }
 
 fn clear_record(c: &[u8], cx: &[u32], l: &mut [u8], b: usize)
-    requires { ⌜ (Classed (now c) (now cx)) × (length (now l) ≡ 24576) × (b + 44 ≤ 24576) × (byteAt (now l) b < classes (now c)) ⌝ }
+    requires { ⌜ (Classed (now c) (now cx)) × (length (now l) ≡ stateLength) × (b + recordLength ≤ stateLength) × (byteAt (now l) b < classes (now c)) ⌝ }
     ensures { λ _. ⌜ now (l .exit) ≡ wipes (now (l .entry)) b (recordGaps (fieldCount (view (now (c .entry))) (byteAt (now (l .entry)) b))) ⌝ }
 {
     let a = words::wide::byte_at(l, b);
@@ -91,7 +92,7 @@ fn clear_record(c: &[u8], cx: &[u32], l: &mut [u8], b: usize)
 }
 
 fn clear_activations(c: &[u8], bx: &[u32], l: &mut [u8], n: usize)
-    requires { ⌜ (Bodied (now c) (now bx)) × (length (now l) ≡ 24576) × (n ≤ 32) × (Below (bodies (now c)) 328 (now l) 32 n) ⌝ }
+    requires { ⌜ (Bodied (now c) (now bx)) × (length (now l) ≡ stateLength) × (n ≤ 32) × (Below (bodies (now c)) activationLength (now l) 32 n) ⌝ }
     ensures { λ _. ⌜ now (l .exit) ≡ clearActivations (view (now (c .entry))) n 32 (now (l .entry)) ⌝ }
 {
     let mut b: usize = ACTIVATIONS_AT;
@@ -104,8 +105,8 @@ fn clear_activations(c: &[u8], bx: &[u32], l: &mut [u8], n: usize)
 }
 
 fn clear_records(c: &[u8], cx: &[u32], l: &mut [u8], n: usize)
-    requires { ⌜ (Classed (now c) (now cx)) × (length (now l) ≡ 24576) × (n ≤ 256) × (Below (classes (now c)) 44 (now l) 11040 n) ⌝ }
-    ensures { λ _. ⌜ now (l .exit) ≡ clearRecords (view (now (c .entry))) n 11040 (now (l .entry)) ⌝ }
+    requires { ⌜ (Classed (now c) (now cx)) × (length (now l) ≡ stateLength) × (n ≤ 256) × (Below (classes (now c)) recordLength (now l) recordsAt n) ⌝ }
+    ensures { λ _. ⌜ now (l .exit) ≡ clearRecords (view (now (c .entry))) n recordsAt (now (l .entry)) ⌝ }
 {
     let mut b: usize = RECORDS_AT;
     let mut left = n;
@@ -117,7 +118,7 @@ fn clear_records(c: &[u8], cx: &[u32], l: &mut [u8], n: usize)
 }
 
 fn clear_header(l: &mut [u8])
-    requires { ⌜ length (now l) ≡ 24576 ⌝ }
+    requires { ⌜ length (now l) ≡ stateLength ⌝ }
     ensures { λ _. ⌜ now (l .exit) ≡ wipes (now (l .entry)) 0 ((1 ⋯ 2) ∷ (3 ⋯ 4) ∷ (8 ⋯ 32) ∷ []) ⌝ }
 {
     wipe(l, 0, CONDITION_AT, ACTIVATION_COUNT_AT);
@@ -127,15 +128,15 @@ fn clear_header(l: &mut [u8])
 
 // The room behind n activations and behind h open holds.
 fn clear_room(l: &mut [u8], n: usize, h: usize)
-    requires { ⌜ (length (now l) ≡ 24576) × (n ≤ 32) × (h < 65536) ⌝ }
-    ensures { λ _. ⌜ now (l .exit) ≡ wipes (now (l .entry)) 0 ((32 + 328 * n ⋯ 10528) ∷ (10528 + h ⋯ 11040) ∷ []) ⌝ }
+    requires { ⌜ (length (now l) ≡ stateLength) × (n ≤ 32) × (h < 65536) ⌝ }
+    ensures { λ _. ⌜ now (l .exit) ≡ wipes (now (l .entry)) 0 ((32 + activationLength * n ⋯ holdsAt) ∷ (holdsAt + h ⋯ recordsAt) ∷ []) ⌝ }
 {
     wipe(l, 0, ACTIVATIONS_AT + ACTIVATION_BYTES * n, HOLDS_AT);
     wipe(l, 0, HOLDS_AT + h, RECORDS_AT);
 }
 
 fn clear_running(c: &[u8], bx: &[u32], cx: &[u32], l: &mut [u8])
-    requires { ⌜ (Bodied (now c) (now bx)) × (Classed (now c) (now cx)) × (length (now l) ≡ 24576) × (Uncleared (now c) (now l)) ⌝ }
+    requires { ⌜ (Bodied (now c) (now bx)) × (Classed (now c) (now cx)) × (length (now l) ≡ stateLength) × (Uncleared (now c) (now l)) ⌝ }
     ensures { λ _. ⌜ now (l .exit) ≡ clearRunning (view (now (c .entry))) (byteAt (now (l .entry)) 2) (halfAt (now (l .entry)) 4) (halfAt (now (l .entry)) 6) (now (l .entry)) ⌝ }
 {
     let n = words::wide::byte_at(l, ACTIVATION_COUNT_AT);
@@ -149,8 +150,8 @@ fn clear_running(c: &[u8], bx: &[u32], cx: &[u32], l: &mut [u8])
 }
 
 fn clear_releasing(l: &mut [u8])
-    requires { ⌜ length (now l) ≡ 24576 ⌝ }
-    ensures { λ _. ⌜ now (l .exit) ≡ wipes (now (l .entry)) 0 ((2 ⋯ 6) ∷ (8 ⋯ 10528) ∷ (10528 + halfAt (now (l .entry)) 6 ⋯ 24576) ∷ []) ⌝ }
+    requires { ⌜ length (now l) ≡ stateLength ⌝ }
+    ensures { λ _. ⌜ now (l .exit) ≡ wipes (now (l .entry)) 0 ((2 ⋯ 6) ∷ (8 ⋯ holdsAt) ∷ (holdsAt + halfAt (now (l .entry)) 6 ⋯ stateLength) ∷ []) ⌝ }
 {
     let h = words::wide::half_at(l, HOLD_COUNT_AT);
     wipe(l, 0, ACTIVATION_COUNT_AT, HOLD_COUNT_AT);

@@ -7,6 +7,8 @@ use lib.Dec.{eqb, leb, ltb}
 use lib.ListN.{length}
 use Rattle.words.specs.Numbers.{byteAt, halfAt, wordAt}
 use Rattle.values.specs.Ends.{isCondition}
+use Rattle.bytecode.specs.Machine.{maxOperands, maxHolds, maxActivations, maxOpenHolds, maxRecords}
+use Rattle.bytecode.specs.State.{stateLength, activationsAt, activationLength, holdsAt, recordsAt, recordLength, cellWordsAt, operandWordsAt, cellTypesAt, operandTypesAt, fieldWordsAt, fieldTypesAt}
 use Rattle.places.specs.Search.{tops, alike}
 use Rattle.places.specs.Records.{classes, bodies, count, classPlace, bodyPlace, codePlace, noType}
 use Rattle.places.specs.Rules.{Flow, goes, ends, bad, bodyOf, found, into}
@@ -14,10 +16,10 @@ use Rattle.fits.specs.Each.{each}
 
 -- ── places in a state ──
 abbrev pub frameAt : ℕ → ℕ
-frameAt k = 32 + 328 * k
+frameAt k = activationsAt + activationLength * k
 
 abbrev pub entryAt : ℕ → ℕ
-entryAt k = 11040 + 44 * k
+entryAt k = recordsAt + recordLength * k
 
 -- of activation k; of record k
 abbrev pub bodyIn : List ℕ → ℕ → ℕ
@@ -56,7 +58,7 @@ rowFits c l r e q t w n = each (λ j. eqb (byteAt l (t + j)) (byteAt e (q + j)) 
 unfoldable pub recordFits : List ℕ → List ℕ → ℕ → ℕ → Bool
 recordFits c l r k =
     let p = classPlace c (classIn l k) in
-    cond (ltb (classIn l k) (classes c)) (rowFits c l r c (p + 3) (entryAt k + 36) (entryAt k + 4) (byteAt c (p + 2))) false
+    cond (ltb (classIn l k) (classes c)) (rowFits c l r c (p + 3) (entryAt k + fieldTypesAt) (entryAt k + fieldWordsAt) (byteAt c (p + 2))) false
 
 -- ── activations, by what does not depend on the state found ──
 -- activation k, of n, stands at a call of the next, if there is a next
@@ -67,14 +69,14 @@ calls c l n k =
 
 -- the cells of activation k
 abbrev pub cellsFit : List ℕ → List ℕ → ℕ → ℕ → Bool
-cellsFit c l r k = let p = bodyPlace c (bodyIn l k) in rowFits c l r c (p + 7) (frameAt k + 264) (frameAt k + 8) (byteAt c (p + 6))
+cellsFit c l r k = let p = bodyPlace c (bodyIn l k) in rowFits c l r c (p + 7) (frameAt k + cellTypesAt) (frameAt k + cellWordsAt) (byteAt c (p + 6))
 
 unfoldable pub frameFits : List ℕ → List ℕ → ℕ → ℕ → ℕ → Bool
 frameFits c l r n k =
     cond (ltb (bodyIn l k) (bodies c))
     (cond (leb (byteAt c (bodyPlace c (bodyIn l k) + 6)) 32)
-    (cond (leb (depthIn l k) 32)
-    (cond (leb (openIn l k) 16)
+    (cond (leb (depthIn l k) maxOperands)
+    (cond (leb (openIn l k) maxHolds)
     (cond (ltb (addressIn l k) (count c))
     (cond (calls c l n k) (cellsFit c l r k) false)
     false) false) false) false) false
@@ -86,15 +88,15 @@ held l zero = 0
 held l (suc k) = held l k + openIn l k
 
 unfoldable pub groupsFit : List ℕ → ℕ → Bool
-groupsFit l h = cond (leb h 512) (each (λ j. leb (byteAt l (10528 + j)) 63) 0 h) false
+groupsFit l h = cond (leb h maxOpenHolds) (each (λ j. leb (byteAt l (holdsAt + j)) 63) 0 h) false
 
 -- ── a state, but for the states found ──
 -- n activations, r records, h holds
 unfoldable pub runningFits : List ℕ → List ℕ → ℕ → ℕ → ℕ → Bool
 runningFits c l n r h =
     cond (leb 1 n)
-    (cond (leb n 32)
-    (cond (leb r 256)
+    (cond (leb n maxActivations)
+    (cond (leb r maxRecords)
     (cond (eqb (bodyIn l 0) 0)
     (cond (eqb (held l n) h)
     (cond (groupsFit l h)
@@ -114,14 +116,14 @@ takenIn c l n k = cond (ltb (k + 1) n) (byteAt c (bodyPlace c (bodyIn l (k + 1))
 
 -- the operands of activation k and, above them, the arguments that were taken
 abbrev pub operandsIn : List ℕ → List ℕ → ℕ → ℕ → List ℕ
-operandsIn c l n k = tops c (bodyPlace c (bodyIn l (k + 1)) + 7) (takenIn c l n k) ++ tops l (frameAt k + 296) (depthIn l k)
+operandsIn c l n k = tops c (bodyPlace c (bodyIn l (k + 1)) + 7) (takenIn c l n k) ++ tops l (frameAt k + operandTypesAt) (depthIn l k)
 
 -- h holds and operands of the types s are found where activation k stands, in body b
 unfoldable pub standsIn : List ℕ → List ℕ → ℕ → ℕ → ℕ → ℕ → ℕ → List ℕ → Bool
 standsIn c l r n k b h s =
     cond (eqb (bodyIn l k) b)
     (cond (eqb (openIn l k) h)
-    (cond (alike (operandsIn c l n k) s) (each (valueIn c l r (frameAt k + 296) (frameAt k + 136)) 0 (depthIn l k)) false)
+    (cond (alike (operandsIn c l n k) s) (each (valueIn c l r (frameAt k + operandTypesAt) (frameAt k + operandWordsAt)) 0 (depthIn l k)) false)
     false) false
 
 abbrev pub standsBy : List ℕ → List ℕ → ℕ → ℕ → ℕ → ℕ → Flow → Bool
@@ -139,6 +141,6 @@ activationsIn l = cond (eqb (byteAt l 0) 0) (byteAt l 2) 0
 -- ── the whole ──
 unfoldable pub soundBytes : List ℕ → List ℕ → Bool
 soundBytes c l =
-    cond (eqb (length l) 24576)
+    cond (eqb (length l) stateLength)
     (cond (plainFits c l) (each (stands c l (halfAt l 4) (byteAt l 2)) 0 (activationsIn l)) false)
     false

@@ -5,17 +5,17 @@ use Prim.Native.Nat.{ℕ, _+_, _*_, _-_, _≤_, _<_}
 use lib.ListN.{length}
 use lib.Seq.{sets}
 use Rattle.words.specs.Numbers.{byteAt, halfAt, half, word}
-use Rattle.bytecode.specs.State.{zeros}
+use Rattle.bytecode.specs.State.{stateLength, activationsAt, activationLength, holdsAt, recordsAt, recordLength, cellWordsAt, operandWordsAt, cellTypesAt, operandTypesAt, fieldWordsAt, fieldTypesAt, zeros}
 
 -- f is the place of an activation, and k is one of its cells or operands
 pub record Framed (l : List ℕ) (f k : ℕ) : Type 0 where
-  pub long : length l ≡ 24576
+  pub long : length l ≡ stateLength
   pub place : f ≤ 10200
   pub slot : k < 32
 
 -- r is a record, and x is one of its fields
 pub record Recorded (l : List ℕ) (r x : ℕ) : Type 0 where
-  pub long : length l ≡ 24576
+  pub long : length l ≡ stateLength
   pub place : r < 256
   pub slot : x < 8
 
@@ -27,13 +27,13 @@ abbrev pub wentTo : List ℕ → ℕ → ℕ → List ℕ
 wentTo l f i = sets l (f + 4) (half i)
 
 abbrev pub operandSet : List ℕ → ℕ → ℕ → ℕ → ℕ → List ℕ
-operandSet l f k w t = valued l (f + (136 + 4 * k)) (f + (296 + k)) w t
+operandSet l f k w t = valued l (f + (operandWordsAt + 4 * k)) (f + (operandTypesAt + k)) w t
 
 abbrev pub cellSet : List ℕ → ℕ → ℕ → ℕ → ℕ → List ℕ
-cellSet l f j w t = valued l (f + (8 + 4 * j)) (f + (264 + j)) w t
+cellSet l f j w t = valued l (f + (cellWordsAt + 4 * j)) (f + (cellTypesAt + j)) w t
 
 abbrev pub fieldSet : List ℕ → ℕ → ℕ → ℕ → ℕ → List ℕ
-fieldSet l r x w t = valued l (11040 + 44 * r + (4 + 4 * x)) (11040 + 44 * r + (36 + x)) w t
+fieldSet l r x w t = valued l (recordsAt + recordLength * r + (fieldWordsAt + 4 * x)) (recordsAt + recordLength * r + (fieldTypesAt + x)) w t
 
 abbrev pub pushed : List ℕ → ℕ → ℕ → ℕ → ℕ → List ℕ
 pushed l f n w t = sets (operandSet l f n w t) (f + 1) ((n + 1) ∷ [])
@@ -43,27 +43,27 @@ popped l f n = sets (operandSet l f n 0 0) (f + 1) (n ∷ [])
 
 -- ── holds ──
 abbrev pub holdTaken : List ℕ → ℕ → ℕ → List ℕ
-holdTaken l f g = sets (sets (sets l (10528 + halfAt l 6) (g ∷ [])) 6 (half (halfAt l 6 + 1))) (f + 2) ((byteAt l (f + 2) + 1) ∷ [])
+holdTaken l f g = sets (sets (sets l (holdsAt + halfAt l 6) (g ∷ [])) 6 (half (halfAt l 6 + 1))) (f + 2) ((byteAt l (f + 2) + 1) ∷ [])
 
 abbrev pub holdLet : List ℕ → ℕ → List ℕ
-holdLet l f = sets (sets (sets l (10528 + (halfAt l 6 - 1)) (0 ∷ [])) 6 (half (halfAt l 6 - 1))) (f + 2) ((byteAt l (f + 2) - 1) ∷ [])
+holdLet l f = sets (sets (sets l (holdsAt + (halfAt l 6 - 1)) (0 ∷ [])) 6 (half (halfAt l 6 - 1))) (f + 2) ((byteAt l (f + 2) - 1) ∷ [])
 
 abbrev pub released : List ℕ → ℕ → List ℕ
-released l h = sets (sets l (10528 + h) (0 ∷ [])) 6 (half h)
+released l h = sets (sets l (holdsAt + h) (0 ∷ [])) 6 (half h)
 
 -- ── activations and records ──
 abbrev pub entered : List ℕ → ℕ → ℕ → ℕ → ℕ → List ℕ
 entered l f k b i = sets (sets (sets l f (b ∷ [])) (f + 4) (half i)) 2 ((k + 1) ∷ [])
 
 abbrev pub left : List ℕ → ℕ → ℕ → List ℕ
-left l f k = sets (sets l f (zeros 328)) 2 (k ∷ [])
+left l f k = sets (sets l f (zeros activationLength)) 2 (k ∷ [])
 
 abbrev pub recordMade : List ℕ → ℕ → ℕ → List ℕ
-recordMade l r c = sets (sets l (11040 + 44 * r) (c ∷ [])) 4 (half (r + 1))
+recordMade l r c = sets (sets l (recordsAt + recordLength * r) (c ∷ [])) 4 (half (r + 1))
 
 -- ── phases ──
 abbrev pub wipedAll : List ℕ → List ℕ
-wipedAll l = sets (sets l 32 (zeros (328 * byteAt l 2))) 11040 (zeros (44 * halfAt l 4))
+wipedAll l = sets (sets l activationsAt (zeros (activationLength * byteAt l 2))) recordsAt (zeros (recordLength * halfAt l 4))
 
 abbrev pub conditioned : List ℕ → ℕ → List ℕ
 conditioned l c = sets (sets (sets (sets (wipedAll l) 0 (1 ∷ [])) 1 (c ∷ [])) 2 (0 ∷ [])) 4 (half 0)

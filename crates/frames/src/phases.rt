@@ -4,7 +4,7 @@ ghost use Prim.Native.Nat.{_+_, _*_, _≤_, _<_};
 ghost use lib.ListN.{length};
 ghost use lib.Seq.{sets};
 ghost use Rattle.words.specs.Numbers.{byteAt, halfAt};
-ghost use Rattle.bytecode.specs.State.{zeros};
+ghost use Rattle.bytecode.specs.State.{zeros, stateLength};
 ghost use Rattle.frames.specs.Bytes.{Framed, holdTaken, holdLet, entered, left, recordMade, wipedAll, conditioned, finished, released};
 use crate::reads::wide;
 use crate::writes::put_byte;
@@ -65,7 +65,7 @@ pub fn leave(s: &mut [u8], f: usize, k: u8)
 
 // Record r, of class c, with no fields yet.
 pub fn make_record(s: &mut [u8], r: u16, c: u8)
-    requires { ⌜ (length (now s) ≡ 24576) × (r < 256) ⌝ }
+    requires { ⌜ (length (now s) ≡ stateLength) × (r < 256) ⌝ }
     ensures { λ _. ⌜ now (s .exit) ≡ recordMade (now (s .entry)) r c ⌝ }
 {
     put_byte(s, RECORDS_AT + RECORD_BYTES * (r as usize), c);
@@ -74,7 +74,7 @@ pub fn make_record(s: &mut [u8], r: u16, c: u8)
 
 // All activations and all records.
 fn wipe(s: &mut [u8])
-    requires { ⌜ (length (now s) ≡ 24576) × (byteAt (now s) 2 ≤ 32) × (halfAt (now s) 4 ≤ 256) ⌝ }
+    requires { ⌜ (length (now s) ≡ stateLength) × (byteAt (now s) 2 ≤ 32) × (halfAt (now s) 4 ≤ 256) ⌝ }
     ensures { λ _. ⌜ now (s .exit) ≡ wipedAll (now (s .entry)) ⌝ }
 {
     let a = wide(s[ACTIVATION_COUNT_AT]);
@@ -85,7 +85,7 @@ fn wipe(s: &mut [u8])
 
 // The holds stay where they are, to be released from the last on.
 pub fn condition(s: &mut [u8], c: u8)
-    requires { ⌜ (length (now s) ≡ 24576) × (byteAt (now s) 2 ≤ 32) × (halfAt (now s) 4 ≤ 256) ⌝ }
+    requires { ⌜ (length (now s) ≡ stateLength) × (byteAt (now s) 2 ≤ 32) × (halfAt (now s) 4 ≤ 256) ⌝ }
     ensures { λ _. ⌜ now (s .exit) ≡ conditioned (now (s .entry)) c ⌝ }
 {
     wipe(s);
@@ -96,7 +96,7 @@ pub fn condition(s: &mut [u8], c: u8)
 }
 
 pub fn finish(s: &mut [u8])
-    requires { ⌜ (length (now s) ≡ 24576) × (byteAt (now s) 2 ≤ 32) × (halfAt (now s) 4 ≤ 256) ⌝ }
+    requires { ⌜ (length (now s) ≡ stateLength) × (byteAt (now s) 2 ≤ 32) × (halfAt (now s) 4 ≤ 256) ⌝ }
     ensures { λ _. ⌜ now (s .exit) ≡ finished (now (s .entry)) ⌝ }
 {
     wipe(s);
@@ -107,7 +107,7 @@ pub fn finish(s: &mut [u8])
 
 // One hold of a releasing state, the last of h + 1.
 pub fn release(s: &mut [u8], h: u16)
-    requires { ⌜ (length (now s) ≡ 24576) × (h < 512) ⌝ }
+    requires { ⌜ (length (now s) ≡ stateLength) × (h < 512) ⌝ }
     ensures { λ _. ⌜ now (s .exit) ≡ released (now (s .entry)) h ⌝ }
 {
     put_byte(s, HOLDS_AT + (h as usize), 0);

@@ -6,7 +6,7 @@ ghost use Prim.Native.Nat.{_+_, _*_, _≤_, _<_};
 ghost use lib.ListN.{length};
 ghost use lib.Seq.{sets};
 ghost use Rattle.words.specs.Numbers.{word};
-ghost use Rattle.bytecode.specs.State.{zeros, encode};
+ghost use Rattle.bytecode.specs.State.{zeros, encode, activationsAt, cellWordsAt, cellTypesAt, stateLength};
 ghost use Rattle.loader.specs.Views.{Typed};
 ghost use Rattle.fresh.specs.Fresh.{freshWith};
 
@@ -16,8 +16,8 @@ const ROOT_WORDS_AT: usize = ACTIVATIONS_AT + CELL_WORDS_AT;
 const ROOT_TYPES_AT: usize = ACTIVATIONS_AT + CELL_TYPES_AT;
 
 fn clear_all(l: &mut [u8])
-    requires { ⌜ length (now l) ≡ 24576 ⌝ }
-    ensures { λ _. ⌜ now (l .exit) ≡ zeros 24576 ⌝ }
+    requires { ⌜ length (now l) ≡ stateLength ⌝ }
+    ensures { λ _. ⌜ now (l .exit) ≡ zeros stateLength ⌝ }
 {
     let mut i: usize = 0;
     while i < STATE_BYTES {
@@ -28,8 +28,8 @@ fn clear_all(l: &mut [u8])
 
 // The root's cell j, of type t, which starts as 0, false, #0 or null: the word 0.
 fn write_cell(l: &mut [u8], j: usize, t: u8)
-    requires { ⌜ (length (now l) ≡ 24576) × (j < 32) ⌝ }
-    ensures { λ _. ⌜ now (l .exit) ≡ sets (sets (now (l .entry)) (40 + 4 * j) (word 0)) (296 + j) (t ∷ []) ⌝ }
+    requires { ⌜ (length (now l) ≡ stateLength) × (j < 32) ⌝ }
+    ensures { λ _. ⌜ now (l .exit) ≡ sets (sets (now (l .entry)) (activationsAt + cellWordsAt + 4 * j) (word 0)) (activationsAt + cellTypesAt + j) (t ∷ []) ⌝ }
 {
     words::put_word(l, ROOT_WORDS_AT + WORD_BYTES * j, 0);
     l[ROOT_TYPES_AT + j] = t;
@@ -49,7 +49,7 @@ fn write_cells(c: &[u8], q: usize, l: &mut [u8], n: usize)
 
 // The fresh state of a root whose n cells have the types that stand in c at q.
 pub fn write_fresh(c: &[u8], q: usize, l: &mut [u8], n: usize)
-    requires { ⌜ (q + n ≤ length (now c)) × (n ≤ 32) × (Typed (now c) q n) × (length (now l) ≡ 24576) ⌝ }
+    requires { ⌜ (q + n ≤ length (now c)) × (n ≤ 32) × (Typed (now c) q n) × (length (now l) ≡ stateLength) ⌝ }
     ensures { λ _. ⌜ now (l .exit) ≡ encode (freshWith (now (c .entry)) q n) ⌝ }
 {
     clear_all(l);

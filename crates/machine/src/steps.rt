@@ -4,6 +4,7 @@ ghost use Prim.Native.Nat.{_+_, _*_, _-_, _≤_};
 ghost use lib.ListN.{length};
 ghost use Rattle.words.specs.Numbers.{byteAt, halfAt};
 ghost use Rattle.machine.specs.Held.{Found, Held, Runs, RunsFrom};
+ghost use Rattle.bytecode.specs.State.{activationLength, stateLength};
 use crate::Answer;
 use crate::dispatch::dispatch;
 use formats::compiled::*;
@@ -18,8 +19,8 @@ struct Top {
 }
 
 fn top_of(s: &[u8]) -> Top
-    requires { ⌜ (length (now s) ≡ 24576) × (1 ≤ byteAt (now s) 2) × (byteAt (now s) 2 ≤ 32) ⌝ }
-    ensures { λ r. ⌜ (r .place ≡ 32 + 328 * (byteAt (now (s .entry)) 2 - 1)) × (r .address ≡ halfAt (now (s .entry)) (r .place + 4)) ⌝ }
+    requires { ⌜ (length (now s) ≡ stateLength) × (1 ≤ byteAt (now s) 2) × (byteAt (now s) 2 ≤ 32) ⌝ }
+    ensures { λ r. ⌜ (r .place ≡ 32 + activationLength * (byteAt (now (s .entry)) 2 - 1)) × (r .address ≡ halfAt (now (s .entry)) (r .place + 4)) ⌝ }
 {
     let f = ACTIVATIONS_AT + ACTIVATION_BYTES * (frames::wide(s[ACTIVATION_COUNT_AT]) - 1);
     let i = words::half_at(s, f + ADDRESS_AT);

@@ -24,6 +24,7 @@ ghost use Rattle.fits.specs.Each.{each};
 ghost use Rattle.fits.specs.Fits.{addressIn, standsIn, activationsIn};
 ghost use Rattle.soundness.specs.Tested.{Counted, argsFit, standing, Upto, Tests};
 ghost use Rattle.soundness.specs.Inspecting.{recordsIn, shortOf, Inspects, Tells, Sees};
+ghost use Rattle.bytecode.specs.State.{stateLength};
 
 // Sound, with the place of the first instruction; unsound (10); or refused with the refusal's number and place.
 pub enum Inspected {
@@ -203,7 +204,7 @@ fn nearer(best: usize, a: usize, i: usize) -> usize
 
 // No activation stands from i on before this address.
 fn next_wanted(l: &[u8], n: usize, i: usize) -> usize
-    requires { ⌜ (length (now l) ≡ 24576) × (n ≤ 32) ⌝ }
+    requires { ⌜ (length (now l) ≡ stateLength) × (n ≤ 32) ⌝ }
     ensures { λ x. ⌜ ((k : ℕ) → k < n → i ≤ addressIn (now (l .entry)) k → x ≤ addressIn (now (l .entry)) k) ⌝ }
 {
     let mut best: usize = 65536;
@@ -299,7 +300,7 @@ struct Counts {
 
 // What the walk is to test: nothing where the state is refused anyway, or has no activations.
 fn count_wanted(l: &[u8], plain: bool) -> Counts
-    requires { ⌜ length (now l) ≡ 24576 ⌝ }
+    requires { ⌜ length (now l) ≡ stateLength ⌝ }
     ensures { λ x. ⌜ (x .activations ≡ cond plain (activationsIn (now (l .entry))) 0) × (x .records ≡ cond plain (recordsIn (now (l .entry))) 0) ⌝ }
 {
     if !plain {
@@ -331,7 +332,7 @@ fn inspect_in(
     cx: &mut [u32],
     m: usize,
 ) -> Inspected
-    requires { ⌜ (badHead (now c) ≡ false) × (m ≡ count (now c)) × (m ≤ length (now ix)) × (64 ≤ length (now bx)) × (16 ≤ length (now cx)) × (Indexed (now c) (now ix) m 0) × (length (now l) ≡ 24576) ⌝ }
+    requires { ⌜ (badHead (now c) ≡ false) × (m ≡ count (now c)) × (m ≤ length (now ix)) × (64 ≤ length (now bx)) × (16 ≤ length (now cx)) × (Indexed (now c) (now ix) m 0) × (length (now l) ≡ stateLength) ⌝ }
     ensures { λ x. ⌜ Tells (now (c .entry)) (now (l .entry)) (now (bx .exit)) (now (cx .exit)) x ⌝ }
 {
     let mut st = [0u8; MAX_OPERANDS];
@@ -356,7 +357,7 @@ fn inspect_in(
 
 // The larger indexes: for more than 1,024 instructions, and for a state of wrong length, which is refused whatever the macro's size.
 fn inspect_large(c: &[u8], l: &[u8], bx: &mut [u32], cx: &mut [u32], m: usize) -> Inspected
-    requires { ⌜ (badHead (now c) ≡ false) × (m ≡ count (now c)) × (m < 65536) × (64 ≤ length (now bx)) × (16 ≤ length (now cx)) × (length (now l) ≡ 24576) ⌝ }
+    requires { ⌜ (badHead (now c) ≡ false) × (m ≡ count (now c)) × (m < 65536) × (64 ≤ length (now bx)) × (16 ≤ length (now cx)) × (length (now l) ≡ stateLength) ⌝ }
     ensures { λ x. ⌜ Tells (now (c .entry)) (now (l .entry)) (now (bx .exit)) (now (cx .exit)) x ⌝ }
 {
     if m <= 8192 {
@@ -369,7 +370,7 @@ fn inspect_large(c: &[u8], l: &[u8], bx: &mut [u32], cx: &mut [u32], m: usize) -
 
 // The index of shapes is cleared at each call, so that its size goes by the number of instructions.
 fn inspect_long(c: &[u8], l: &[u8], bx: &mut [u32], cx: &mut [u32]) -> Inspected
-    requires { ⌜ (64 ≤ length (now bx)) × (16 ≤ length (now cx)) × (length (now l) ≡ 24576) ⌝ }
+    requires { ⌜ (64 ≤ length (now bx)) × (16 ≤ length (now cx)) × (length (now l) ≡ stateLength) ⌝ }
     ensures { λ x. ⌜ Tells (now (c .entry)) (now (l .entry)) (now (bx .exit)) (now (cx .exit)) x ⌝ }
 {
     if loader::bad_head(c) {
