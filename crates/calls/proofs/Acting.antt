@@ -13,7 +13,7 @@ use borrow.Author.Tests.{lt-ltb, le-ltb, eqb-true}
 use Rattle.bytecode.specs.Words.{valueWord}
 use Rattle.words.specs.Numbers.{byteAt, halfAt, wordAt}
 use Rattle.values.specs.Types.{Ty, tyByte, sames, allFit, fits}
-use Rattle.values.specs.Ends.{accepted}
+use Rattle.values.specs.Ends.{accepted, fieldOfNull, tooManyActivations, tooManyRecords}
 use Rattle.values.specs.Values.{Value, int, log, bit, ref, tyOf, tysOf, Cell}
 use Rattle.bytecode.specs.Macro.{Body, Macro, readMacro}
 use Rattle.bytecode.specs.Instructions.{bodyAt, procedureAt, fieldTy}
@@ -108,7 +108,7 @@ module _ (code : List ℕ) (q : ℕ) {l : List ℕ} {f n i : ℕ} (k0 : ℕ) (eq
       let open-room : suc (length fs) < 32 = p1 .few in
       rw (lt-ltb (suc (length fs)) 32 open-room, lx) (record { are = (E ∙ (rw (x, el) at b6), refl) }))
 
-  pub call-full : (k : List ℕ) (r : Out) → given code q ≤ n → 32 ≤ byteAt l 2 → Tells (λ m h. condition 26 h) l f n i k r → TellsOf code (λ m h. doCall m k0 h) l f n i k r
+  pub call-full : (k : List ℕ) (r : Out) → given code q ≤ n → 32 ≤ byteAt l 2 → Tells (λ m h. condition tooManyActivations h) l f n i k r → TellsOf code (λ m h. doCall m k0 h) l f n i k r
   call-full k r enough full C = call-by k r enough (λ m rd rs t fs N xs us e x.
       let co : byteAt l 2 ≡ suc (length fs) = read-count (N .on) in
       rw (le-ltb (suc (length fs)) 32 (omega arith)) (C m rs t fs N))
@@ -187,7 +187,7 @@ module _ (code : List ℕ) (q : ℕ) {l : List ℕ} {f n i : ℕ} (c : ℕ) (eq 
           → Told (popMany (byteAt code (q + 2)) [] (t .operands) (checked ts)) k r
       go ts x = rw (x .2) (demanded (allFit (tysOf (reverse (x .0))) ts) badType (recording c (reverse (x .0)) (x .1) (here rs t fs)) (λ a. G m rs t fs N (x .0) (x .1) (x .3) (x .4)))
 
-  pub make-full : (k : List ℕ) (r : Out) → byteAt code (q + 2) ≤ n → 256 ≤ halfAt l 4 → Tells (λ m h. condition 27 h) l f n i k r → TellsOf code (λ m h. doMake m c h) l f n i k r
+  pub make-full : (k : List ℕ) (r : Out) → byteAt code (q + 2) ≤ n → 256 ≤ halfAt l 4 → Tells (λ m h. condition tooManyRecords h) l f n i k r → TellsOf code (λ m h. doMake m c h) l f n i k r
   make-full k r enough full C = make-by k r enough (λ m rs t fs N xs us e x.
       let co : halfAt l 4 ≡ length (rs .records) = read-records (N .on) in
       rw (le-ltb (length (rs .records)) 256 (omega arith)) (C m rs t fs N))
@@ -236,7 +236,7 @@ module _ {l : List ℕ} {f n i : ℕ} (c x : ℕ) where
             let N′ : Now m l f n i rs (activation b a cs (ref c r ∷ vs) gs) fs = rw e at N in
             rw e (G m rs b a cs r vs gs fs N′ (ew ∙ read-operand (N .on) [] (ref d r) vs (n - 1) refl (omega (arith, N .depth)) (omega arith) .0)))
 
-    pub get-null : (k : List ℕ) (o : Out) → w ≡ 0 → Tells (λ m h. condition 22 h) l f n i k o → Tells (λ m h. doGetField m c x h) l f n i k o
+    pub get-null : (k : List ℕ) (o : Out) → w ≡ 0 → Tells (λ m h. condition fieldOfNull h) l f n i k o → Tells (λ m h. doGetField m c x h) l f n i k o
     get-null k o z C = get-by k o (λ m rs b a cs r vs gs fs N e. go m rs b a cs r vs gs fs N e)
       where
         go : (m : Macro) (rs : Shared) (b a : ℕ) (cs : List Cell) (r : Option ℕ) (vs : List Value) (gs : List ℕ) (fs : List Activation) → Now m l f n i rs (activation b a cs (ref c r ∷ vs) gs) fs → w ≡ valueWord (ref c r)
@@ -276,7 +276,7 @@ module _ {l : List ℕ} {f n i : ℕ} (c x : ℕ) where
             let N′ : Now m l f n i rs (activation b a cs (v ∷ (ref c r ∷ vs)) gs) fs = rw e at N in
             rw e (G m rs b a cs v r vs gs fs N′ (ew ∙ read-operand (N .on) (v ∷ []) (ref d r) vs (n - 2) refl (omega (arith, N .depth)) (omega arith) .0)))
 
-    pub put-null : (k : List ℕ) (o : Out) → w ≡ 0 → Tells (λ m h. condition 22 h) l f n i k o → Tells (λ m h. doPutField m c x h) l f n i k o
+    pub put-null : (k : List ℕ) (o : Out) → w ≡ 0 → Tells (λ m h. condition fieldOfNull h) l f n i k o → Tells (λ m h. doPutField m c x h) l f n i k o
     put-null k o z C = put-by k o (λ m rs b a cs v r vs gs fs N e. go m rs b a cs v r vs gs fs N e)
       where
         go : (m : Macro) (rs : Shared) (b a : ℕ) (cs : List Cell) (v : Value) (r : Option ℕ) (vs : List Value) (gs : List ℕ) (fs : List Activation) → Now m l f n i rs (activation b a cs (v ∷ (ref c r ∷ vs)) gs) fs → w ≡ valueWord (ref c r)

@@ -7,6 +7,7 @@ use native.Mathlib.Omega.{arith}
 use lib.Dec.{eqb, ltb}
 use lib.IntN.{ℤ, pos}
 use lib.ListN.{length, getD}
+use Rattle.values.specs.Ends.{assertFalse, outOfRange}
 use Rattle.bytecode.specs.Words.{valueWord}
 use Rattle.words.specs.Choice.{if_then_else_}
 use Rattle.words.specs.Numbers.{byteAt, halfAt, wordAt, wordOf}
@@ -71,7 +72,7 @@ module _ {l : List ℕ} {f n i : ℕ} where
           go c0 a0 cs (log true ∷ vs) gs N = record { are = (goes-to (off N) k2 (i + 1) (suc a0) (e2 ∙ rw e1) (omega (arith, N .address)), refl) }
 
     -- ── assert ──
-    pub assert-false : (k : List ℕ) (r : Out) → w ≡ 0 → Tells (λ m h. condition 23 h) l f n i k r → Tells (λ m h. doAssert h) l f n i k r
+    pub assert-false : (k : List ℕ) (r : Out) → w ≡ 0 → Tells (λ m h. condition assertFalse h) l f n i k r → Tells (λ m h. doAssert h) l f n i k r
     unfolding doAssert
     assert-false k r z C m rs t fs N = go (t .body) (t .address) (t .cells) (t .operands) (t .holds) N
       where
@@ -98,7 +99,7 @@ module _ {l : List ℕ} {f n i : ℕ} where
     -- ── fader ──
     fader-by : (readings k : List ℕ) (r : Out)
         → ((m : Macro) (rs : Shared) (c0 a0 : ℕ) (cs : List Cell) (z : ℤ) (vs : List Value) (gs : List ℕ) (fs : List Activation) → Now m l f n i rs (activation c0 a0 cs (int z ∷ vs) gs) fs
-        → Told (if between 1 64 z then goesOn (reading (size z) (bankOf readings (size z)) ∷ []) (int (pos (bankOf readings (size z))) ∷ vs) (here rs (activation c0 a0 cs (int z ∷ vs) gs) fs) else condition 25 (here rs (activation c0 a0 cs (int z ∷ vs) gs) fs)) k r)
+        → Told (if between 1 64 z then goesOn (reading (size z) (bankOf readings (size z)) ∷ []) (int (pos (bankOf readings (size z))) ∷ vs) (here rs (activation c0 a0 cs (int z ∷ vs) gs) fs) else condition outOfRange (here rs (activation c0 a0 cs (int z ∷ vs) gs) fs)) k r)
         → Tells (λ m h. doFader (bankOf readings) h) l f n i k r
     unfolding doFader
     fader-by readings k r G m rs t fs N = go (t .body) (t .address) (t .cells) (t .operands) (t .holds) N
@@ -110,10 +111,10 @@ module _ {l : List ℕ} {f n i : ℕ} where
         go c0 a0 cs (ref c q ∷ vs) gs N = record { are = tt }
         go c0 a0 cs (int z ∷ vs) gs N = G m rs c0 a0 cs z vs gs fs N
 
-    pub fader-low : (readings k : List ℕ) (r : Out) → w < 1 → Tells (λ m h. condition 25 h) l f n i k r → Tells (λ m h. doFader (bankOf readings) h) l f n i k r
+    pub fader-low : (readings k : List ℕ) (r : Out) → w < 1 → Tells (λ m h. condition outOfRange h) l f n i k r → Tells (λ m h. doFader (bankOf readings) h) l f n i k r
     fader-low readings k r h C = fader-by readings k r (λ m rs c0 a0 cs z vs gs fs N. rw (below-range 1 64 (omega arith) z w (word-on N) h) (C m rs _ fs N))
 
-    pub fader-high : (readings k : List ℕ) (r : Out) → 64 < w → Tells (λ m h. condition 25 h) l f n i k r → Tells (λ m h. doFader (bankOf readings) h) l f n i k r
+    pub fader-high : (readings k : List ℕ) (r : Out) → 64 < w → Tells (λ m h. condition outOfRange h) l f n i k r → Tells (λ m h. doFader (bankOf readings) h) l f n i k r
     fader-high readings k r h C = fader-by readings k r (λ m rs c0 a0 cs z vs gs fs N. rw (above-range 1 64 (omega arith) z w (word-on N) h) (C m rs _ fs N))
 
     pub fader-tells : (readings k1 k2 : List ℕ) (v : ℕ) → 1 ≤ w → w ≤ 64 → v ≡ getD readings (w - 1) 0 → k1 ≡ operandSet l f (n - 1) v 1 → k2 ≡ wentTo k1 f (i + 1)
@@ -130,7 +131,7 @@ module _ {l : List ℕ} {f n i : ℕ} where
     set-by : (k : List ℕ) (r : Out)
         → ((m : Macro) (rs : Shared) (c0 a0 : ℕ) (cs : List Cell) (u z : ℤ) (vs : List Value) (gs : List ℕ) (fs : List Activation) → Now m l f n i rs (activation c0 a0 cs (int u ∷ (int z ∷ vs)) gs) fs
         → x ≡ wordOf z → y ≡ wordOf u
-        → Told (if between 1 512 z && between 0 255 u then goesOn (event (set (size z) (size u)) ∷ []) vs (here rs (activation c0 a0 cs (int u ∷ (int z ∷ vs)) gs) fs) else condition 25 (here rs (activation c0 a0 cs (int u ∷ (int z ∷ vs)) gs) fs)) k r)
+        → Told (if between 1 512 z && between 0 255 u then goesOn (event (set (size z) (size u)) ∷ []) vs (here rs (activation c0 a0 cs (int u ∷ (int z ∷ vs)) gs) fs) else condition outOfRange (here rs (activation c0 a0 cs (int u ∷ (int z ∷ vs)) gs) fs)) k r)
         → Tells (λ m h. doSet h) l f n i k r
     unfolding doSet
     set-by k r G m rs t fs N = go (t .body) (t .address) (t .cells) (t .operands) (t .holds) N
@@ -149,7 +150,7 @@ module _ {l : List ℕ} {f n i : ℕ} where
             let rz = read-operand (N .on) (int u ∷ []) (int z) vs (n - 2) refl (omega (arith, N .depth)) (omega arith) in
             G m rs c0 a0 cs u z vs gs fs N (ex ∙ rz .0) (ey ∙ ru .0)
 
-    module _ (k : List ℕ) (r : Out) (C : Tells (λ m h. condition 25 h) l f n i k r) where
+    module _ (k : List ℕ) (r : Out) (C : Tells (λ m h. condition outOfRange h) l f n i k r) where
       pub set-low : x < 1 → Tells (λ m h. doSet h) l f n i k r
       set-low h = set-by k r (λ m rs c0 a0 cs u z vs gs fs N ez eu. rw (below-range 1 512 (omega arith) z x ez h) (C m rs _ fs N))
 

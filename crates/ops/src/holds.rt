@@ -1,5 +1,6 @@
 // Ops 0, 17, 18 and 20: end, hold, release, stop.
 ghost use Prim.Native.Nat.{_+_, _≤_, _<_};
+ghost use Rattle.values.specs.Ends.{caseIndex};
 ghost use Rattle.words.specs.Numbers.{byteAt, halfAt};
 ghost use Rattle.bytecode.specs.Machine.{condition, doEnd, doTakeHold, letting};
 ghost use Rattle.ops.specs.Acts.{Room, Tells, Holding};
@@ -31,7 +32,7 @@ pub fn op_release(s: &mut [u8], f: usize, n: usize, i: u16) -> Out
 
 pub fn op_stop(s: &mut [u8], f: usize, n: usize, i: u16) -> Out
     requires { ⌜ Room (now s) f n i ⌝ }
-    ensures { λ r. ⌜ Tells (λ m h. condition 24 h) (now (s .entry)) f n i (now (s .exit)) r ⌝ }
+    ensures { λ r. ⌜ Tells (λ m h. condition caseIndex h) (now (s .entry)) f n i (now (s .exit)) r ⌝ }
 {
     op_condition(s, f, n, i, values::CASE_INDEX)
 }
