@@ -14,6 +14,7 @@ ghost use Rattle.places.specs.Index.{Well};
 ghost use Rattle.loader.specs.Lookups.{Bodied, Classed};
 ghost use Rattle.fits.specs.Each.{each};
 ghost use Rattle.fits.specs.Fits.{addressIn, pointsTo, valueFits, rowFits, recordFits, calls, frameFits, held, groupsFit, runningFits, plainFits};
+ghost use Rattle.bytecode.specs.State.{stateLength};
 
 // Folds take their tests without a branch, so that they run over many bytes at an even pace.
 pub fn both(a: bool, b: bool) -> bool
@@ -24,7 +25,7 @@ pub fn both(a: bool, b: bool) -> bool
 
 // Whether w is null or one of r records, of the class of type t.
 fn points_to(l: &[u8], r: usize, t: usize, w: usize) -> bool
-    requires { ⌜ (length (now l) ≡ 24576) × (r ≤ 256) × (16 ≤ t) ⌝ }
+    requires { ⌜ (length (now l) ≡ stateLength) × (r ≤ 256) × (16 ≤ t) ⌝ }
     ensures { λ x. ⌜ x ≡ pointsTo (now (l .entry)) r t w ⌝ }
 {
     if w == 0 {
@@ -39,7 +40,7 @@ fn points_to(l: &[u8], r: usize, t: usize, w: usize) -> bool
 
 // Whether the word w is a value of type t.
 fn value_fits(c: &[u8], l: &[u8], r: usize, t: usize, w: usize) -> bool
-    requires { ⌜ (8 ≤ length (now c)) × (length (now l) ≡ 24576) × (r ≤ 256) ⌝ }
+    requires { ⌜ (8 ≤ length (now c)) × (length (now l) ≡ stateLength) × (r ≤ 256) ⌝ }
     ensures { λ x. ⌜ x ≡ valueFits (now (c .entry)) (now (l .entry)) r t w ⌝ }
 {
     let n = words::wide::byte_at(c, CLASS_COUNT_AT);
@@ -66,7 +67,7 @@ pub fn row_fits(
     w: usize,
     n: usize,
 ) -> bool
-    requires { ⌜ (8 ≤ length (now c)) × (length (now l) ≡ 24576) × (r ≤ 256) × (q + n ≤ length (now e)) × (t + n ≤ 24576) × (w + 4 * n ≤ 24576) ⌝ }
+    requires { ⌜ (8 ≤ length (now c)) × (length (now l) ≡ stateLength) × (r ≤ 256) × (q + n ≤ length (now e)) × (t + n ≤ stateLength) × (w + 4 * n ≤ stateLength) ⌝ }
     ensures { λ x. ⌜ x ≡ rowFits (now (c .entry)) (now (l .entry)) r (now (e .entry)) q t w n ⌝ }
 {
     let mut ok = true;
@@ -83,7 +84,7 @@ pub fn row_fits(
 }
 
 fn record_fits(c: &[u8], cx: &[u32], l: &[u8], r: usize, k: usize) -> bool
-    requires { ⌜ (Classed (now c) (now cx)) × (length (now l) ≡ 24576) × (r ≤ 256) × (k < 256) ⌝ }
+    requires { ⌜ (Classed (now c) (now cx)) × (length (now l) ≡ stateLength) × (r ≤ 256) × (k < 256) ⌝ }
     ensures { λ x. ⌜ x ≡ recordFits (now (c .entry)) (now (l .entry)) r k ⌝ }
 {
     let p = RECORDS_AT + RECORD_BYTES * k;
@@ -107,7 +108,7 @@ fn record_fits(c: &[u8], cx: &[u32], l: &[u8], r: usize, k: usize) -> bool
 }
 
 fn records_fit(c: &[u8], cx: &[u32], l: &[u8], r: usize) -> bool
-    requires { ⌜ (Classed (now c) (now cx)) × (length (now l) ≡ 24576) × (r ≤ 256) ⌝ }
+    requires { ⌜ (Classed (now c) (now cx)) × (length (now l) ≡ stateLength) × (r ≤ 256) ⌝ }
     ensures { λ x. ⌜ x ≡ each (recordFits (now (c .entry)) (now (l .entry)) r) 0 r ⌝ }
 {
     let mut ok = true;
@@ -122,7 +123,7 @@ fn records_fit(c: &[u8], cx: &[u32], l: &[u8], r: usize) -> bool
 
 // Whether activation k, of n, stands at a call of the next, if there is a next.
 fn calls_next(c: &[u8], base: usize, l: &[u8], n: usize, k: usize) -> bool
-    requires { ⌜ (Well (now c)) × (base ≡ codeBase (now c)) × (length (now l) ≡ 24576) × (n ≤ 32) × (k < n) × (addressIn (now l) k < count (now c)) ⌝ }
+    requires { ⌜ (Well (now c)) × (base ≡ codeBase (now c)) × (length (now l) ≡ stateLength) × (n ≤ 32) × (k < n) × (addressIn (now l) k < count (now c)) ⌝ }
     ensures { λ x. ⌜ x ≡ calls (now (c .entry)) (now (l .entry)) n k ⌝ }
 {
     let j = k + 1;
@@ -141,7 +142,7 @@ fn calls_next(c: &[u8], base: usize, l: &[u8], n: usize, k: usize) -> bool
 }
 
 fn frame_fits(c: &[u8], bx: &[u32], base: usize, l: &[u8], r: usize, n: usize, k: usize) -> bool
-    requires { ⌜ (Bodied (now c) (now bx)) × (base ≡ codeBase (now c)) × (length (now l) ≡ 24576) × (r ≤ 256) × (n ≤ 32) × (k < n) ⌝ }
+    requires { ⌜ (Bodied (now c) (now bx)) × (base ≡ codeBase (now c)) × (length (now l) ≡ stateLength) × (r ≤ 256) × (n ≤ 32) × (k < n) ⌝ }
     ensures { λ x. ⌜ x ≡ frameFits (now (c .entry)) (now (l .entry)) r n k ⌝ }
 {
     let p = ACTIVATIONS_AT + ACTIVATION_BYTES * k;
@@ -184,7 +185,7 @@ fn frame_fits(c: &[u8], bx: &[u32], base: usize, l: &[u8], r: usize, n: usize, k
 }
 
 fn frames_fit(c: &[u8], bx: &[u32], base: usize, l: &[u8], r: usize, n: usize) -> bool
-    requires { ⌜ (Bodied (now c) (now bx)) × (base ≡ codeBase (now c)) × (length (now l) ≡ 24576) × (r ≤ 256) × (n ≤ 32) ⌝ }
+    requires { ⌜ (Bodied (now c) (now bx)) × (base ≡ codeBase (now c)) × (length (now l) ≡ stateLength) × (r ≤ 256) × (n ≤ 32) ⌝ }
     ensures { λ x. ⌜ x ≡ each (frameFits (now (c .entry)) (now (l .entry)) r n) 0 n ⌝ }
 {
     let mut ok = true;
@@ -199,7 +200,7 @@ fn frames_fit(c: &[u8], bx: &[u32], base: usize, l: &[u8], r: usize, n: usize) -
 
 // The open holds of n activations.
 fn open_holds(l: &[u8], n: usize) -> usize
-    requires { ⌜ (length (now l) ≡ 24576) × (n ≤ 32) ⌝ }
+    requires { ⌜ (length (now l) ≡ stateLength) × (n ≤ 32) ⌝ }
     ensures { λ x. ⌜ x ≡ held (now (l .entry)) n ⌝ }
 {
     let mut sum: usize = 0;
@@ -215,7 +216,7 @@ const LAST_GROUP: usize = GROUPS - 1;
 
 // Whether the h open holds are of groups 0 to 63.
 fn groups_fit(l: &[u8], h: usize) -> bool
-    requires { ⌜ length (now l) ≡ 24576 ⌝ }
+    requires { ⌜ length (now l) ≡ stateLength ⌝ }
     ensures { λ x. ⌜ x ≡ groupsFit (now (l .entry)) h ⌝ }
 {
     if MAX_OPEN_HOLDS < h {
@@ -240,7 +241,7 @@ fn running_fits(
     r: usize,
     h: usize,
 ) -> bool
-    requires { ⌜ (Bodied (now c) (now bx)) × (Classed (now c) (now cx)) × (base ≡ codeBase (now c)) × (length (now l) ≡ 24576) ⌝ }
+    requires { ⌜ (Bodied (now c) (now bx)) × (Classed (now c) (now cx)) × (base ≡ codeBase (now c)) × (length (now l) ≡ stateLength) ⌝ }
     ensures { λ x. ⌜ x ≡ runningFits (now (c .entry)) (now (l .entry)) n r h ⌝ }
 {
     if n < 1 {
@@ -278,7 +279,7 @@ fn is_end(x: u8) -> bool
 
 // All of a state but where its activations stand.
 pub fn plain_fits(c: &[u8], bx: &[u32], cx: &[u32], base: usize, l: &[u8]) -> bool
-    requires { ⌜ (Bodied (now c) (now bx)) × (Classed (now c) (now cx)) × (base ≡ codeBase (now c)) × (length (now l) ≡ 24576) ⌝ }
+    requires { ⌜ (Bodied (now c) (now bx)) × (Classed (now c) (now cx)) × (base ≡ codeBase (now c)) × (length (now l) ≡ stateLength) ⌝ }
     ensures { λ x. ⌜ x ≡ plainFits (now (c .entry)) (now (l .entry)) ⌝ }
 {
     let phase = words::wide::byte_at(l, PHASE_AT);
