@@ -1,5 +1,5 @@
 -- A list of calls in the numbers that C sees: cue_start, and then a cue_run for each feed, on the bytes that the call before it left.
--- The first two definitions have the right sides of the contracts of cue_start and cue_run (src/lent.rt).
+-- cueStart and cueRun are what the contracts of cue_start and cue_run say (src/lent.rt).
 use mathlib.Core.Path.{_≡_, refl, sym, ap, _∙_}
 use mathlib.Core.List.{List, [], _∷_, map}
 use Prim.Native.Nat.{ℕ, _%_}
@@ -29,6 +29,9 @@ pub record Seen : Type 0 where
 
 abbrev pub cueStart : List ℕ → List ℕ → Seen
 cueStart code state = let r = startOn code state in record { answer = packed (verdictNumbers (r .verdict)); state = r .bytes }
+
+abbrev pub feed : List ℕ → ℕ → Feed
+feed readings allowance = record { readings = readings; allowance = allowance }
 
 abbrev pub cueRun : List ℕ → List ℕ → Feed → Seen
 cueRun code state f = let r = runOn code state (f .readings) (f .allowance) in record { answer = packed (answerNumbers (r .answer)); state = r .bytes }

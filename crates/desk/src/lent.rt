@@ -5,8 +5,8 @@ use ops::Event;
 use running::Ran;
 use running::Started;
 ghost use mathlib.Core.Path.{_≡_};
-ghost use Rattle.bytecode.specs.Lent.{startOn, runOn};
-ghost use Rattle.bytecode.specs.Answers.{packed, verdictNumbers, eventNumbers, answerNumbers};
+ghost use Rattle.bytecode.specs.Answers.{packed, eventNumbers};
+ghost use Rattle.desk.specs.Calls.{feed, cueStart, cueRun};
 ghost use Rattle.running.specs.Answers.{eventBack};
 
 fn pack_event(e: Event, steps: u16) -> u64
@@ -22,7 +22,7 @@ fn pack_event(e: Event, steps: u16) -> u64
 // The fresh state of a macro.
 #[no_mangle]
 pub extern "C" fn cue_start(code: &[u8], state: &mut [u8]) -> u64
-    ensures { λ r. ⌜ (r ≡ packed (verdictNumbers (startOn (now (code .entry)) (now (state .entry)) .verdict))) × (now (state .exit) ≡ startOn (now (code .entry)) (now (state .entry)) .bytes) ⌝ }
+    ensures { λ r. ⌜ (r ≡ cueStart (now (code .entry)) (now (state .entry)) .answer) × (now (state .exit) ≡ cueStart (now (code .entry)) (now (state .entry)) .state) ⌝ }
 {
     match running::start(code, state) {
         Started::Fresh => pack(1, 0, 0, 0),
@@ -33,7 +33,7 @@ pub extern "C" fn cue_start(code: &[u8], state: &mut [u8]) -> u64
 // A run of a macro from a state, with the readings and the allowance of this run. What a list of calls comes to: specs/Calls.
 #[no_mangle]
 pub extern "C" fn cue_run(code: &[u8], state: &mut [u8], readings: &[u8], allowance: u16) -> u64
-    ensures { λ r. ⌜ (r ≡ packed (answerNumbers (runOn (now (code .entry)) (now (state .entry)) (now (readings .entry)) allowance .answer))) × (now (state .exit) ≡ runOn (now (code .entry)) (now (state .entry)) (now (readings .entry)) allowance .bytes) ⌝ }
+    ensures { λ r. ⌜ (r ≡ cueRun (now (code .entry)) (now (state .entry)) (feed (now (readings .entry)) allowance) .answer) × (now (state .exit) ≡ cueRun (now (code .entry)) (now (state .entry)) (feed (now (readings .entry)) allowance) .state) ⌝ }
 {
     match running::run(code, state, readings, allowance) {
         Ran::Happens(e, steps) => pack_event(e, steps),
