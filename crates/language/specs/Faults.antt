@@ -1,6 +1,6 @@
 -- Types of expressions, and the faults 3, 4 and 5 of every entry, in postorder.
 -- "Table entries are judged inner before outer, left to right, after 1 and 2; at one entry 3, 4, 5 in that order"
-use mathlib.Core.Bool.{Bool, true, false, not, _&&_, _||_}
+use mathlib.Core.Bool.{Bool, true, false, not, _&&_}
 use mathlib.Core.List.{List, [], _∷_, _++_}
 use mathlib.Core.Option.{Option, none, some}
 use Prim.Native.Nat.{ℕ, suc, _+_}
@@ -138,7 +138,7 @@ typeFaults ss (reference c) p = named (lookup c ss) classSort p
 -- ── how many entries a part has, so that each has its place ──
 abbrev pub sizes : Measure
 sizes =
-    record { ofNone = 0; ofParts = λ n k. n + k; counted = false; ofEntry = λ n. suc n; ofLabel = λ n. suc n; ofCase = λ n. suc n; ofBlock = λ ds n. suc (length ds + n) }
+    record { ofNone = 0; ofParts = _+_; ofEntry = suc; ofLabel = suc; ofCase = suc; ofBlock = λ ds n. suc (length ds + n); stacked = false }
 
 abbrev pub sizeS : Stmt → ℕ
 sizeS s = measureS sizes s

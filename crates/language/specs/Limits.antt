@@ -5,7 +5,7 @@ use Prim.Native.Nat.{ℕ, suc, _+_, max}
 use lib.Dec.{leb}
 use lib.ListN.{length}
 use Rattle.values.specs.Ends.{Refusal}
-use Rattle.language.specs.Tree.{Typed, Decl, declare, holding, Stmt, block, assign, when, choose, while, goto, assert, call, setLevel, select, Items, noItem, label, item, Arms, lastArm, arm, Target, toVariable, toField, Expr, number, truth, pattern, null, variable, invoke, field, make, operate1, operate2, conditional, fader, blockExpr, Exprs, noExpr, expr, Body, proper, function, Global, local, class, procedure, Tree, locals}
+use Rattle.language.specs.Tree.{Typed, Decl, declare, holding, Stmt, Items, Arms, Target, Expr, Exprs, Body, proper, function, Global, local, class, procedure, Tree, locals}
 use Rattle.language.specs.Measure.{Measure, measureS, measureItems, measureArms, measureTarget, measureE, measureEs}
 use Rattle.language.specs.Faults.{faultIf, sizeGlobal}
 
@@ -21,27 +21,27 @@ headCells (d ∷ ds) = declCells d + headCells ds
 abbrev pub caseCells : ℕ
 caseCells = 1
 
-abbrev pub cellsMeasure : Measure
-cellsMeasure =
-    record { ofNone = 0; ofParts = λ n k. n + k; counted = false; ofEntry = λ n. n; ofLabel = λ n. n; ofCase = λ n. caseCells + n; ofBlock = λ ds n. headCells ds + n }
+abbrev pub cellCounts : Measure
+cellCounts =
+    record { ofNone = 0; ofParts = _+_; ofEntry = λ n. n; ofLabel = λ n. n; ofCase = λ n. caseCells + n; ofBlock = λ ds n. headCells ds + n; stacked = false }
 
 abbrev pub cellsS : Stmt → ℕ
-cellsS s = measureS cellsMeasure s
+cellsS s = measureS cellCounts s
 
 abbrev pub cellsItems : Items → ℕ
-cellsItems is = measureItems cellsMeasure is
+cellsItems is = measureItems cellCounts is
 
 abbrev pub cellsArms : Arms → ℕ
-cellsArms r = measureArms cellsMeasure r
+cellsArms r = measureArms cellCounts r
 
 abbrev pub cellsTarget : Target → ℕ
-cellsTarget x = measureTarget cellsMeasure x
+cellsTarget x = measureTarget cellCounts x
 
 abbrev pub cellsE : Expr → ℕ
-cellsE e = measureE cellsMeasure e
+cellsE e = measureE cellCounts e
 
 abbrev pub cellsEs : Exprs → ℕ
-cellsEs es = measureEs cellsMeasure 0 es
+cellsEs es = measureEs cellCounts 0 es
 
 -- ── holds open together: the largest sum along nested blocks (L2) of the body, its callers' not counted (L3) ──
 abbrev pub declHolds : Decl → ℕ
@@ -52,34 +52,42 @@ unfoldable pub headHolds : List Decl → ℕ
 headHolds [] = 0
 headHolds (d ∷ ds) = declHolds d + headHolds ds
 
-abbrev pub holdsMeasure : Measure
-holdsMeasure =
-    record { ofNone = 0; ofParts = λ n k. max n k; counted = false; ofEntry = λ n. n; ofLabel = λ n. n; ofCase = λ n. n; ofBlock = λ ds n. headHolds ds + n }
+abbrev pub openHolds : Measure
+openHolds =
+    record { ofNone = 0; ofParts = max; ofEntry = λ n. n; ofLabel = λ n. n; ofCase = λ n. n; ofBlock = λ ds n. headHolds ds + n; stacked = false }
 
 abbrev pub holdsS : Stmt → ℕ
-holdsS s = measureS holdsMeasure s
+holdsS s = measureS openHolds s
 
 abbrev pub holdsItems : Items → ℕ
-holdsItems is = measureItems holdsMeasure is
+holdsItems is = measureItems openHolds is
 
 abbrev pub holdsArms : Arms → ℕ
-holdsArms r = measureArms holdsMeasure r
+holdsArms r = measureArms openHolds r
 
 abbrev pub holdsTarget : Target → ℕ
-holdsTarget x = measureTarget holdsMeasure x
+holdsTarget x = measureTarget openHolds x
 
 abbrev pub holdsE : Expr → ℕ
-holdsE e = measureE holdsMeasure e
+holdsE e = measureE openHolds e
 
 abbrev pub holdsEs : Exprs → ℕ
-holdsEs es = measureEs holdsMeasure 0 es
+holdsEs es = measureEs openHolds 0 es
 
 -- ── working need ──
 -- "An entry needs the largest over i of i − 1 plus the need of its i-th operand, at least 1; an operand that is a statement counts its
 -- own need alone, a case needs at least 2, a declaration 1, and a block or block expression counts as its neediest part." (L7 to L9)
 abbrev pub needs : Measure
 needs =
-    record { ofNone = 1; ofParts = λ n k. max n k; counted = true; ofEntry = λ n. n; ofLabel = λ n. n; ofCase = λ n. max 2 n; ofBlock = λ ds n. n }
+    record {
+      ofNone = 1;  -- "at least 1"; a declaration needs 1, too
+      ofParts = max;  -- "the largest"
+      ofEntry = λ n. n;
+      ofLabel = λ n. n;
+      ofCase = max 2;  -- "a case needs at least 2"
+      ofBlock = λ ds n. n;  -- "counts as its neediest part"
+      stacked = true;  -- "i − 1 plus the need of its i-th operand"
+    }
 
 abbrev pub needS : Stmt → ℕ
 needS s = measureS needs s

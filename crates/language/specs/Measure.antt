@@ -7,20 +7,21 @@ use Rattle.language.specs.Tree.{Decl, Stmt, block, assign, when, choose,
 
 -- how a measure is made up
 pub record Measure : Type 0 where
-  pub ofNone : ℕ                        -- no part
-  pub ofParts : ℕ → ℕ → ℕ               -- a part and those after it
-  pub counted : Bool                    -- whether an operand counts the operands before it: "i − 1 plus the need of its i-th operand"
-  pub ofEntry : ℕ → ℕ                   -- an entry, from its operands'
-  pub ofLabel : ℕ → ℕ                   -- a label, from the items' after it
-  pub ofCase : ℕ → ℕ                    -- a case, from its operands'
-  pub ofBlock : List Decl → ℕ → ℕ       -- a block or block expression, from its declarations and the parts' after them
+  pub ofNone : ℕ  -- where there is no part
+  pub ofParts : ℕ → ℕ → ℕ  -- a part and those after it
+  pub ofEntry : ℕ → ℕ  -- an entry, over its operands
+  pub ofLabel : ℕ → ℕ  -- a label, over the items after it
+  pub ofCase : ℕ → ℕ  -- a case, over its operands
+  pub ofBlock : List Decl → ℕ → ℕ  -- a block or block expression, over the parts after its declarations
+  pub stacked : Bool  -- whether an operand counts those before it, "i − 1 plus the need of its i-th operand"
 
--- an operand that is an expression, where i stand before it
+-- an operand with i before it; "an operand that is a statement counts its own need alone"
 abbrev operand : Measure → ℕ → ℕ → ℕ
-operand m i n = if m .counted then i + n else n
+operand m i n = if m .stacked then i + n else n
 
+-- how many stand before the next: counted only where it matters, so that else a list's number is the same wherever it stands
 abbrev next : Measure → ℕ → ℕ
-next m i = if m .counted then suc i else i
+next m i = if m .stacked then suc i else i
 
 unfoldable mutual
   pub measureS : Measure → Stmt → ℕ
@@ -60,12 +61,11 @@ unfoldable mutual
   measureE m (operate1 o e) = m .ofEntry (measureE m e)
   measureE m (operate2 o e f) = m .ofEntry (m .ofParts (measureE m e) (operand m 1 (measureE m f)))
   measureE m (conditional e f g) =
-      let third = operand m 2 (measureE m g) in
-      m .ofEntry (m .ofParts (measureE m e) (m .ofParts (operand m 1 (measureE m f)) third))
+      m .ofEntry (m .ofParts (measureE m e) (m .ofParts (operand m 1 (measureE m f)) (operand m 2 (measureE m g))))
   measureE m (fader e) = m .ofEntry (measureE m e)
   measureE m (blockExpr ds is e) = m .ofBlock ds (m .ofParts (measureItems m is) (measureE m e))
 
-  -- operands, where i stand before them
+  -- operands with i before them
   pub measureEs : Measure → ℕ → Exprs → ℕ
   measureEs m i noExpr = m .ofNone
   measureEs m i (expr e es) = m .ofParts (operand m i (measureE m e)) (measureEs m (next m i) es)

@@ -106,7 +106,7 @@ deepHead (d ∷ ds) = 1
 
 abbrev pub depths : Measure
 depths =
-    record { ofNone = 0; ofParts = λ n k. max n k; counted = false; ofEntry = λ n. suc n; ofLabel = λ n. max 1 n; ofCase = λ n. suc n; ofBlock = λ ds n. suc (max (deepHead ds) n) }
+    record { ofNone = 0; ofParts = max; ofEntry = suc; ofLabel = max 1; ofCase = suc; ofBlock = λ ds n. suc (max (deepHead ds) n); stacked = false }
 
 abbrev pub deepS : Stmt → ℕ
 deepS s = measureS depths s
