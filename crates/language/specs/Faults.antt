@@ -136,27 +136,27 @@ typeFaults ss bits p = []
 typeFaults ss (reference c) p = named (lookup c ss) classSort p
 
 -- ── how many entries a part has, so that each has its place ──
-abbrev pub sizes : Measure
-sizes =
+abbrev pub bySize : Measure
+bySize =
     record { ofNone = 0; ofParts = _+_; ofEntry = suc; ofLabel = suc; ofCase = suc; ofBlock = λ ds n. suc (length ds + n); stacked = false }
 
 abbrev pub sizeS : Stmt → ℕ
-sizeS s = measureS sizes s
+sizeS s = measureS bySize s
 
 abbrev pub sizeItems : Items → ℕ
-sizeItems is = measureItems sizes is
+sizeItems is = measureItems bySize is
 
 abbrev pub sizeArms : Arms → ℕ
-sizeArms r = measureArms sizes r
+sizeArms r = measureArms bySize r
 
 abbrev pub sizeTarget : Target → ℕ
-sizeTarget x = measureTarget sizes x
+sizeTarget x = measureTarget bySize x
 
 abbrev pub sizeE : Expr → ℕ
-sizeE e = measureE sizes e
+sizeE e = measureE bySize e
 
 abbrev pub sizeEs : Exprs → ℕ
-sizeEs es = measureEs sizes 0 es
+sizeEs es = measureEs bySize 0 es
 
 -- ── the faults of a part whose first entry is p; `seen` are the names that its block defines before ──
 unfoldable pub faultsTyped : List Scope → List ℕ → ℕ → List Typed → List Refusal

@@ -21,27 +21,27 @@ headCells (d ∷ ds) = declCells d + headCells ds
 abbrev pub caseCells : ℕ
 caseCells = 1
 
-abbrev pub cellCounts : Measure
-cellCounts =
+abbrev pub byCells : Measure
+byCells =
     record { ofNone = 0; ofParts = _+_; ofEntry = λ n. n; ofLabel = λ n. n; ofCase = λ n. caseCells + n; ofBlock = λ ds n. headCells ds + n; stacked = false }
 
 abbrev pub cellsS : Stmt → ℕ
-cellsS s = measureS cellCounts s
+cellsS s = measureS byCells s
 
 abbrev pub cellsItems : Items → ℕ
-cellsItems is = measureItems cellCounts is
+cellsItems is = measureItems byCells is
 
 abbrev pub cellsArms : Arms → ℕ
-cellsArms r = measureArms cellCounts r
+cellsArms r = measureArms byCells r
 
 abbrev pub cellsTarget : Target → ℕ
-cellsTarget x = measureTarget cellCounts x
+cellsTarget x = measureTarget byCells x
 
 abbrev pub cellsE : Expr → ℕ
-cellsE e = measureE cellCounts e
+cellsE e = measureE byCells e
 
 abbrev pub cellsEs : Exprs → ℕ
-cellsEs es = measureEs cellCounts 0 es
+cellsEs es = measureEs byCells 0 es
 
 -- ── holds open together: the largest sum along nested blocks (L2) of the body, its callers' not counted (L3) ──
 abbrev pub declHolds : Decl → ℕ
@@ -52,33 +52,33 @@ unfoldable pub headHolds : List Decl → ℕ
 headHolds [] = 0
 headHolds (d ∷ ds) = declHolds d + headHolds ds
 
-abbrev pub openHolds : Measure
-openHolds =
+abbrev pub byHolds : Measure
+byHolds =
     record { ofNone = 0; ofParts = max; ofEntry = λ n. n; ofLabel = λ n. n; ofCase = λ n. n; ofBlock = λ ds n. headHolds ds + n; stacked = false }
 
 abbrev pub holdsS : Stmt → ℕ
-holdsS s = measureS openHolds s
+holdsS s = measureS byHolds s
 
 abbrev pub holdsItems : Items → ℕ
-holdsItems is = measureItems openHolds is
+holdsItems is = measureItems byHolds is
 
 abbrev pub holdsArms : Arms → ℕ
-holdsArms r = measureArms openHolds r
+holdsArms r = measureArms byHolds r
 
 abbrev pub holdsTarget : Target → ℕ
-holdsTarget x = measureTarget openHolds x
+holdsTarget x = measureTarget byHolds x
 
 abbrev pub holdsE : Expr → ℕ
-holdsE e = measureE openHolds e
+holdsE e = measureE byHolds e
 
 abbrev pub holdsEs : Exprs → ℕ
-holdsEs es = measureEs openHolds 0 es
+holdsEs es = measureEs byHolds 0 es
 
 -- ── working need ──
 -- "An entry needs the largest over i of i − 1 plus the need of its i-th operand, at least 1; an operand that is a statement counts its
 -- own need alone, a case needs at least 2, a declaration 1, and a block or block expression counts as its neediest part." (L7 to L9)
-abbrev pub needs : Measure
-needs =
+abbrev pub byNeed : Measure
+byNeed =
     record {
       ofNone = 1;  -- "at least 1"; a declaration needs 1, too
       ofParts = max;  -- "the largest"
@@ -90,23 +90,23 @@ needs =
     }
 
 abbrev pub needS : Stmt → ℕ
-needS s = measureS needs s
+needS s = measureS byNeed s
 
 abbrev pub needItems : Items → ℕ
-needItems is = measureItems needs is
+needItems is = measureItems byNeed is
 
 abbrev pub needArms : Arms → ℕ
-needArms r = measureArms needs r
+needArms r = measureArms byNeed r
 
 abbrev pub needTarget : Target → ℕ
-needTarget x = measureTarget needs x
+needTarget x = measureTarget byNeed x
 
 abbrev pub needE : Expr → ℕ
-needE e = measureE needs e
+needE e = measureE byNeed e
 
 -- operands of which i stand before; at least 1
 abbrev pub needEs : ℕ → Exprs → ℕ
-needEs i es = measureEs needs i es
+needEs i es = measureEs byNeed i es
 
 -- ── the bodies: "6 the body's entry, procedures first" (L1) ──
 pub record Usage : Type 0 where

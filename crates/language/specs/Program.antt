@@ -104,27 +104,27 @@ abbrev pub deepHead : List Decl → ℕ
 deepHead [] = 0
 deepHead (d ∷ ds) = 1
 
-abbrev pub depths : Measure
-depths =
+abbrev pub byDepth : Measure
+byDepth =
     record { ofNone = 0; ofParts = max; ofEntry = suc; ofLabel = max 1; ofCase = suc; ofBlock = λ ds n. suc (max (deepHead ds) n); stacked = false }
 
 abbrev pub deepS : Stmt → ℕ
-deepS s = measureS depths s
+deepS s = measureS byDepth s
 
 abbrev pub deepItems : Items → ℕ
-deepItems is = measureItems depths is
+deepItems is = measureItems byDepth is
 
 abbrev pub deepArms : Arms → ℕ
-deepArms r = measureArms depths r
+deepArms r = measureArms byDepth r
 
 abbrev pub deepTarget : Target → ℕ
-deepTarget x = measureTarget depths x
+deepTarget x = measureTarget byDepth x
 
 abbrev pub deepE : Expr → ℕ
-deepE e = measureE depths e
+deepE e = measureE byDepth e
 
 abbrev pub deepEs : Exprs → ℕ
-deepEs es = measureEs depths 0 es
+deepEs es = measureEs byDepth 0 es
 
 abbrev pub deepList : List Typed → ℕ
 deepList [] = 0
