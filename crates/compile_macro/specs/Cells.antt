@@ -14,6 +14,7 @@ use Rattle.values.specs.Operators.{Binary}
 use Rattle.values.specs.Values.{initial}
 use Rattle.language.specs.Tree.{Decl, declare, holding, Stmt, block, assign, when, choose, while, goto, assert, call, setLevel, select, Items, noItem, label, item, Arms, lastArm, arm, Target, toVariable, toField, Expr, number, truth, pattern, null, variable, invoke, field, make, operate1, operate2, conditional, fader, blockExpr, Exprs, noExpr, expr, Global}
 use Rattle.language.specs.Names.{blockOf, expressionOf}
+use Rattle.language.specs.Measure.{measureS}
 use Rattle.language.specs.Faults.{typeE, isTy}
 use Rattle.language.specs.Limits.{headCells, cellsS, cellsItems, cellsArms, cellsTarget, cellsE, cellsEs}
 use Rattle.bytecode.specs.Macro.{Body, shape, Macro}
@@ -70,7 +71,7 @@ module _ (gs : List Global) where
   count-head name (holding k ∷ ds) Γ p f n h = let q = count-head name ds (held k ∷ Γ) (skip 1 p) f n h in omega arith
 
   mutual
-    unfolding newCells codeS cellsS after
+    unfolding newCells codeS measureS after
 
     pub countS : (s : Stmt) (Γ : List Around) (ts : List Ty) (p : At) → newCells (codeS gs s Γ ts p) ≡ cellsS s
     countS (block ds is) Γ ts p = count-head bound ds (inside (blockOf ds is) ∷ Γ) p (λ Δ q. codeItems gs is (labels is (q .address) ∷ Δ) ts q) (cellsItems is) (λ Δ q. countItems is (labels is (q .address) ∷ Δ) ts q)

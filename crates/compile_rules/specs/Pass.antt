@@ -16,6 +16,7 @@ use Rattle.values.specs.Ends.{caseIndex}
 use Rattle.values.specs.Values.{int, log, bit, ref, initial}
 use Rattle.language.specs.Tree.{Decl, declare, holding, Stmt, block, assign, when, choose, while, goto, assert, call, setLevel, select, Items, noItem, label, item, Arms, lastArm, arm, Target, toVariable, toField, Expr, number, truth, pattern, null, variable, invoke, field, make, operate1, operate2, conditional, fader, blockExpr, Exprs, noExpr, expr, Global}
 use Rattle.language.specs.Names.{inBlock, inExpression, inProcedure, blockOf, expressionOf}
+use Rattle.language.specs.Measure.{measureS}
 use Rattle.language.specs.Faults.{typeE, isTy}
 use Rattle.language.specs.Limits.{headHolds, holdsS, holdsItems, holdsArms, holdsTarget, holdsE, holdsEs, needS, needItems, needArms, needTarget, needE, needEs}
 use Rattle.bytecode.specs.Macro.{Body, Shape, shape, Macro}
@@ -199,12 +200,12 @@ module _ (m : Macro) (k : ℕ) (gs : List Global) where
     push-bit x s = refl
 
     some-needs : (i : ℕ) (es : Exprs) → 1 ≤ needEs i es
-    unfolding needS
+    unfolding measureS
     some-needs i noExpr = omega arith
     some-needs i (expr e es) = let q = some-needs (suc i) es in omega arith
 
     pub some-need : (e : Expr) → 1 ≤ needE e
-    unfolding needS
+    unfolding measureS
     some-need (number z) = omega arith
     some-need (truth b) = omega arith
     some-need (pattern z) = omega arith
@@ -220,7 +221,7 @@ module _ (m : Macro) (k : ℕ) (gs : List Global) where
     some-need (blockExpr ds is e) = let q = some-need e in omega arith
 
     pub items-need : (is : Items) → 1 ≤ needItems is
-    unfolding needS
+    unfolding measureS
     items-need noItem = omega arith
     items-need (label a is) = items-need is
     items-need (item s is) = let q = items-need is in omega arith
@@ -308,7 +309,7 @@ module _ (m : Macro) (k : ℕ) (gs : List Global) where
     storing! (toField a e) Γ ts t o p q = puts m k Aim (fieldNumber gs a .class) (fieldNumber gs a .index) (length (heldIn Γ)) (tyE gs Γ e) t ts (o .1) (o .2) p q
 
     mutual
-      unfolding okS codeS Celled Marks after Seg holdsS needS Reaches heldIn typeE tysE
+      unfolding okS codeS Celled Marks after Seg measureS Reaches heldIn typeE tysE
 
       pub passS : (s : Stmt) (Γ : List Around) (ts : List Ty) (p : At) → okS s Γ → Reaches Γ ts → length (heldIn Γ) + holdsS s ≤ 16 → length ts + needS s ≤ 32 → Celled (codeS gs s Γ ts p) p → Marks m k Aim (codeS gs s Γ ts p) p
           → Seg m k Aim (codeS gs s Γ ts p) (some (found Γ ts)) (some (found Γ ts))

@@ -4,6 +4,7 @@ use mathlib.Core.List.{List, [], _∷_, _++_, map}
 use Prim.Native.Nat.{_+_}
 use native.Mathlib.Omega.{arith}
 use lib.ListN.{length}
+use Rattle.language.specs.Measure.{measureS}
 use Rattle.language.specs.Program.{flatTyped, flatDecl, flatS, flatItems, flatArms, flatTarget, flatE, flatEs}
 use Rattle.language.specs.Tree.{Typed, Decl, declare, holding, Stmt, block, assign, when, choose, while, goto, assert, call, setLevel, select, Items, noItem, label, item, Arms, lastArm, arm, Target, toVariable, toField, Expr, number, truth, pattern, null, variable, invoke, field, make, operate1, operate2, conditional, fader, blockExpr, Exprs, noExpr, expr}
 use Rattle.language.specs.Limits.{headCells, cellsS, cellsItems, cellsArms, cellsTarget, cellsE, cellsEs}
@@ -22,7 +23,7 @@ within-typed [] = refl
 within-typed (x ∷ xs) = omega (arith, within-typed xs)
 
 mutual
-  unfolding cellsWithin flatS cellsS
+  unfolding cellsWithin flatS measureS
 
   pub within-S : (s : Stmt) → cellsWithin (flatS s) ≡ cellsS s
   within-S (block ds is) = omega (arith, cells-append (map flatDecl ds) (flatItems is), within-head ds, within-items is)

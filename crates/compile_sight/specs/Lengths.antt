@@ -8,6 +8,7 @@ use Rattle.values.specs.Types.{Ty, logical}
 use Rattle.language.specs.Tree.{Decl, declare, holding, Stmt, block, assign, when, choose, while, goto, assert, call, setLevel, select, Items, noItem, label, item, Arms, lastArm, arm, Target, toVariable, toField, Expr, number, truth, pattern, null, variable, invoke, field, make, operate1, operate2, conditional, fader, blockExpr, Exprs, noExpr, expr, Global}
 use Rattle.language.specs.Table.{Entry}
 use Rattle.language.specs.Names.{blockOf, expressionOf}
+use Rattle.language.specs.Measure.{measureS}
 use Rattle.language.specs.Faults.{typeE, isTy, sizeS, sizeItems, sizeArms, sizeTarget, sizeE, sizeEs}
 use Rattle.compile_code.specs.Code.{At, at, skip, after}
 use Rattle.compile_code.specs.Compile.{Around, inside, bound, labels, scopesOf, wayOf, codeS, codeItems, codeTarget, codeE, tyE, tyTarget}
@@ -22,7 +23,7 @@ length-head (holding g ∷ ds) p = ap suc (length-head ds (skip 1 p))
 
 module _ (gs : List Global) where
   mutual
-    unfolding belowS sizeS
+    unfolding belowS measureS
 
     pub length-below : (s : Stmt) (Γ : List Around) (st : List Ty) (p : At) → suc (length (belowS gs s Γ st p)) ≡ sizeS s
     length-below (block ds is) Γ st p =

@@ -8,6 +8,7 @@ use Rattle.words.specs.Choice.{if_then_else_}
 use Rattle.values.specs.Types.{logical}
 use Rattle.language.specs.Tree.{Decl, declare, holding, Stmt, block, assign, when, choose, while, goto, assert, call, setLevel, select, Items, noItem, label, item, Arms, lastArm, arm, Target, toVariable, toField, Expr, number, truth, pattern, null, variable, invoke, field, make, operate1, operate2, conditional, fader, blockExpr, Exprs, noExpr, expr}
 use Rattle.language.specs.Names.{Scope, blockOf, expressionOf}
+use Rattle.language.specs.Measure.{measureS}
 use Rattle.language.specs.Faults.{typeE, isTy, sizeS, sizeItems, sizeArms, sizeTarget, sizeE, sizeEs}
 use Rattle.language.specs.Limits.{headHolds, holdsS, holdsItems, holdsArms, holdsTarget, holdsE, holdsEs}
 use Rattle.compile_code.specs.Compile.{Passing, aHold, theLabels, hasLabel, sizeGoto, sizeHead, Way, plainly, marked, ifTrue, ifFalse, sizeWay, wayOf, opsS, opsItems, opsArms, opsTarget, opsE, opsEs}
@@ -40,7 +41,7 @@ few-way ifTrue = omega arith
 few-way ifFalse = omega arith
 
 mutual
-  unfolding opsS sizeS holdsS holdsIn
+  unfolding opsS measureS holdsIn
 
   pub fewS : (s : Stmt) (ss : List Scope) (Θ : List Passing) → holdsIn Θ + holdsS s ≤ 16 → opsS s ss Θ + 5 ≤ 22 * sizeS s
   fewS (block ds is) ss Θ l = let q = few-head ds Θ (λ Φ. opsItems is (blockOf ds is ∷ ss) (theLabels is ∷ Φ)) (22 * sizeItems is) (holdsItems is) (λ Φ m. fewItems is (blockOf ds is ∷ ss) (theLabels is ∷ Φ) m) l in omega arith

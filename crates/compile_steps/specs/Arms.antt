@@ -8,13 +8,14 @@ use native.Mathlib.Nat.{sub-zero}
 use native.Mathlib.Numerals.{add-one}
 use lib.IntN.{pos}
 use lib.ListN.{length, getD, take}
-use Rattle.language.specs.Program.{flatS, flatArms, deepS, deepArms}
+use Rattle.language.specs.Measure.{measureS}
+use Rattle.language.specs.Program.{flatS, flatArms, deepS}
 use Rattle.values.specs.Operators.{binary, equal}
 use Rattle.values.specs.Values.{int}
 use Rattle.bytecode.specs.Instructions.{Instr, own, load, push, operate, go, goUnless}
 use Rattle.language.specs.Tree.{Stmt, Arms, lastArm, arm, countArms}
 use Rattle.language.specs.Table.{Entry}
-use Rattle.language.specs.Limits.{holdsS, holdsArms, needS, needArms}
+use Rattle.language.specs.Limits.{holdsS, needS}
 use Rattle.programs.specs.Claims.{entriesOf}
 use Rattle.scopes.specs.Environment.{envOf}
 use Rattle.spans.specs.Stands.{Stands, stands-left}
@@ -199,7 +200,7 @@ module _ {c j z : ℕ} {W : Walk} {X : Place} {l rest : List ℕ} {count nesting
   first-rest (arm s r) h = record { laid = h .laid; stood = h .stood; room = h .room; ending = h .ending; fits = h .fits }
 
   first-bounds : (r : Arms) → ReadyArms r c j z W X l rest count nesting place sizes L top holds depth pen → Bounds (armOf r) W X nesting holds depth
-  unfolding deepArms goodArms holdsArms needArms
+  unfolding measureS goodArms
   first-bounds (lastArm s) h = record { deep = h .deep; good = h .good; few-holds = h .few-holds; few-values = h .few-values }
   first-bounds (arm s r) h = record { deep = omega (arith, h .deep); good = h .good .0; few-holds = omega (arith, h .few-holds); few-values = omega (arith, h .few-values) }
 
@@ -288,7 +289,7 @@ module _ {c j z : ℕ} {W : Walk} {X : Place} {l rest : List ℕ} {count nesting
       → (d : Done (stmt (armOf r)) W (movedTo X (skip 4 (X .start))) place (lent (L .env) (L .ends) (L .stack) o) N depth p q)
       → {t : Pen} {o₂ : List ℕ} (g : (t ≡ penShaped depth (moved q)) × (o₂ ≡ inkShape (moved q) (inkOp q (N .out) 8 0 out-of) holds depth (take depth (N .stack))))
       → Going c z W l (below rest (8 * n)) count nesting (place + n) sizes (lent (N .env) (N .ends) (N .stack) o₂) top holds depth t (i + 1) Whole
-  unfolding flatArms endsArms codeCases penAfter inked countArms deepArms goodArms holdsArms needArms
+  unfolding flatArms endsArms codeCases penAfter inked countArms measureS goodArms
   going (lastArm s) h is small whole aim e {N} out-of leaving n z₂ k d {t} {o₂} g =
       let w = this-wrote (lastArm s) h aim e out-of leaving n z₂ k d g (wrote-nil o₂ t) in
       over (omega (arith, h .many)) (whole (lent (N .env) (N .ends) (N .stack) o₂) t (record { wrote = record { penned = w .penned; written = w .written }; ended = d .ended }))

@@ -6,12 +6,12 @@ use native.Mathlib.Omega.{arith}
 use lib.IntN.{pos}
 use lib.ListN.{length, getD, set, length-set}
 use lib.Seq.{sets}
-use Rattle.language.specs.Program.{flatS, flatE, deepS}
+use Rattle.language.specs.Measure.{measureS}
+use Rattle.language.specs.Program.{flatS, flatE}
 use Rattle.words.specs.Numbers.{halfAt}
 use Rattle.bytecode.specs.Instructions.{Instr, putField}
 use Rattle.language.specs.Tree.{assign, Target, toVariable, toField, Expr, variable, field}
 use Rattle.language.specs.Table.{entry}
-use Rattle.language.specs.Limits.{holdsS, needS}
 use Rattle.language.specs.Names.{isVariable, isField}
 use Rattle.programs.specs.Claims.{entriesOf}
 use Rattle.scopes.specs.Environment.{Item, envOf}
@@ -87,7 +87,7 @@ module _ {a : ℕ} {e : Expr} {W : Walk} {X : Place} {l part : List ℕ} {nestin
   variable-name = half-second (h .table) 2 ∙ target-head .a
 
   pub variable-long : (16 ≤ length part) × (1 ≤ nesting)
-  unfolding deepS
+  unfolding measureS
   variable-long = let d = head-of _ _ (h .table) (in-all .laid .stands) in (omega (arith, d .long, d .within, target-head .within), omega (arith, h .deep))
 
   target-one : Stands (entriesOf l) (at + 1) (flatE (variable a))
@@ -121,7 +121,7 @@ module _ {a : ℕ} {e : Expr} {W : Walk} {X : Place} {l part : List ℕ} {nestin
           record { laid = t .laid; stood = t .stood; room = t .room; ending = t .ending; fits = t .fits }
 
       pub variable-second : Ready (expr e) W X l (below part (8 * (at + 1 + n - at))) (nesting - 1) (at + 1 + n) sizes (lent (L .env) ends (L .stack) (L .out)) top holds depth p
-      unfolding deepS goodS holdsS needS
+      unfolding measureS goodS
       variable-second =
           rest-ready (expr e) (table-from (at + 1 + n) (omega arith) (h .table)) (omega (arith, h .deep)) (h .good .1) tt (omega (arith, h .few-holds)) (omega (arith, h .few-values)) after-target
 
@@ -204,7 +204,7 @@ module _ {a : ℕ} {f e : Expr} {W : Walk} {X : Place} {l part : List ℕ} {nest
   field-name = half-second (h .table) 2 ∙ field-head .a
 
   pub field-long : (16 ≤ length part) × (2 ≤ nesting)
-  unfolding deepS
+  unfolding measureS
   field-long = let d = head-of _ _ (h .table) (in-both .laid .stands) in (omega (arith, d .long, d .within, field-head .within), omega (arith, h .deep))
 
   below-both : Rest W X l (at + 2) L top holds depth pen (flatE f ++ flatE e) (fs ++ ks) whole
@@ -218,7 +218,7 @@ module _ {a : ℕ} {f e : Expr} {W : Walk} {X : Place} {l part : List ℕ} {nest
   field-stands = stands-left (entry 46 a (pos 0) ∷ flatE f) (flatE e) (stands-tail _ _ (in-both .laid .stands))
 
   pub field-first-ready : Ready (expr f) W X l (below part 16) (nesting - 2) (at + 2) sizes L top holds depth pen
-  unfolding deepS goodS holdsS needS
+  unfolding measureS goodS
   field-first-ready =
       rest-ready (expr f) (table-next (h .table) 16 2 refl) (omega (arith, h .deep)) (h .good .0 .0) tt (omega (arith, h .few-holds)) (omega (arith, h .few-values)) (rest-left (flatE f) (flatE e) _ _ below-both)
 
@@ -232,7 +232,7 @@ module _ {a : ℕ} {f e : Expr} {W : Walk} {X : Place} {l part : List ℕ} {nest
 
     module _ {M : Lent} {p : Pen} (k : Kept L M top depth) (d : Done (expr f) W X (at + 2) L M depth pen p) where
       few : depth < 32
-      unfolding needS
+      unfolding measureS
       few = omega (arith, h .few-values)
 
       after-first : Rest W Y l (at + 2 + length (flatE f)) M top holds (depth + 1) p (flatE e) ks (v ▸ op into)
@@ -252,7 +252,7 @@ module _ {a : ℕ} {f e : Expr} {W : Walk} {X : Place} {l part : List ℕ} {nest
         after-field = rest-lent (flatE e) ks (kept-ends M ends long-ends) (g .0) (rest-at (let w : at + 2 + length (flatE f) ≡ at + 1 + n = omega (arith, size-field) in w) after-first)
 
         pub field-second-ready : Ready (expr e) W Y l (below part (8 * (at + 1 + n - at))) (nesting - 1) (at + 1 + n) sizes (lent (M .env) ends (M .stack) (M .out)) top holds (depth + 1) q
-        unfolding deepS goodS holdsS needS
+        unfolding measureS goodS
         field-second-ready =
             rest-ready (expr e) (table-from (at + 1 + n) (omega arith) (h .table)) (omega (arith, h .deep)) (h .good .1) tt (omega (arith, h .few-holds)) (omega (arith, h .few-values)) after-field
 

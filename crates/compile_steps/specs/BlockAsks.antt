@@ -8,7 +8,7 @@ use lib.Seq.{sets}
 use Rattle.words.specs.Numbers.{halfAt, wordAt}
 use Rattle.language.specs.Tree.{Decl, Items, block, countItems}
 use Rattle.language.specs.Names.{blockOf}
-use Rattle.language.specs.Limits.{holdsS}
+use Rattle.language.specs.Measure.{measureS}
 use Rattle.scopes.specs.Environment.{envOf, addAll, item, opened, Grown}
 use Rattle.heads.specs.Items.{blockItems}
 use Rattle.shapes.specs.Steps.{EnterAsks}
@@ -51,7 +51,7 @@ module _ {known aims l part : List ℕ} {nesting at : ℕ} {sizes : List ℕ} {L
 
   module _ {opens : ℕ} (o : opens ≡ holdsHead (below part 8) heads) where
     pub asks-block-few : holds + opens ≤ 16
-    unfolding holdsS
+    unfolding measureS
     asks-block-few = omega (arith, ready .few-holds, headed-open ready (block-headed _ _ ready) (hs ready) (cs ready) o, holds-open (v .ds))
 
     pub asks-block-marks : 4 * (top + opens) ≤ length (L .env)

@@ -5,10 +5,10 @@ use Prim.Native.Nat.{ℕ, suc, _+_, _-_, _*_, _<_}
 use native.Mathlib.Omega.{arith}
 use lib.ListN.{length, set, length-append}
 use lib.Seq.{sets}
-use Rattle.language.specs.Program.{flatDecl, flatS, flatItems, deepS}
+use Rattle.language.specs.Measure.{measureS}
+use Rattle.language.specs.Program.{flatDecl, flatS, flatItems}
 use Rattle.words.specs.Numbers.{halfAt, wordAt}
 use Rattle.language.specs.Tree.{Decl, block, Items, countItems}
-use Rattle.language.specs.Limits.{holdsS, needS}
 use Rattle.language.specs.Names.{blockOf}
 use Rattle.scopes.specs.Environment.{opened}
 use Rattle.heads.specs.Trees.{length-map}
@@ -107,7 +107,7 @@ module _ (ds : List Decl) (is : Items) {W : Walk} {X : Place} {l part : List ℕ
     block-M = lent new ends (L .stack) out
 
     pub block-ready : ReadyItems is W block-place l (below part (8 * (1 + heads))) count (nesting - 1) (at + 1 + heads) sizes block-M up (holds + opens) depth p
-    unfolding deepS goodS holdsS needS heldIn
+    unfolding measureS goodS heldIn
     block-ready =
         let z : at + (1 + heads) ≡ at + 1 + heads = omega arith in
         record {

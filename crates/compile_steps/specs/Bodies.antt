@@ -5,12 +5,12 @@ use Prim.Native.Nat.{ℕ, suc, _+_, _-_, _*_, _/_, _≤_, _<_}
 use native.Mathlib.Omega.{arith}
 use lib.ListN.{length, drop, set, length-append}
 use lib.Seq.{sets}
-use Rattle.language.specs.Program.{flatDecl, flatItems, flatE, deepE}
+use Rattle.language.specs.Measure.{measureS}
+use Rattle.language.specs.Program.{flatDecl, flatItems, flatE}
 use Rattle.words.specs.Numbers.{halfAt, wordAt}
 use Rattle.values.specs.Types.{tyByte}
 use Rattle.language.specs.Tree.{Decl, Items, Expr, blockExpr, countItems}
 use Rattle.language.specs.Table.{Entry}
-use Rattle.language.specs.Limits.{holdsE, needE}
 use Rattle.language.specs.Names.{Scope, expressionOf}
 use Rattle.programs.specs.Claims.{entriesOf}
 use Rattle.scopes.specs.Environment.{envOf, shut}
@@ -148,7 +148,7 @@ module _ (ds : List Decl) (is : Items) (v : Expr) {W : Walk} {X : Place} {l part
         (held-head ds (inside (expressionOf ds is) ∷ X .around) (X .start))
 
     pub body-ready : ReadyItems is W body-place l (below part (8 * (1 + heads))) count (nesting - 1) (at + 1 + heads) sizes body-M up (holds + opens) depth p
-    unfolding deepE goodE holdsE needE
+    unfolding measureS goodE
     body-ready =
         let z : at + (1 + heads) ≡ at + 1 + heads = omega arith in
         record {
@@ -207,7 +207,7 @@ module _ (ds : List Decl) (is : Items) (v : Expr) {W : Walk} {X : Place} {l part
             (omega (arith, y, e, hs, m, body-length, w .long), omega (arith, y, e, hs, m, body-length, r .table .legible .short))
 
         pub body-ready-2 : Ready (expr v) W body-value l (below part (8 * (1 + heads + n))) (nesting - 1) (at + 1 + heads + n) sizes N up (holds + opens) depth q
-        unfolding deepE goodE holdsE needE
+        unfolding measureS goodE
         body-ready-2 =
             let z : at + (1 + heads + n) ≡ at + 1 + heads + n = omega arith in
             let m = body-size in

@@ -8,7 +8,7 @@ use lib.Seq.{sets}
 use Rattle.words.specs.Numbers.{halfAt, wordAt}
 use Rattle.language.specs.Tree.{Decl, Items, Expr, blockExpr, countItems}
 use Rattle.language.specs.Names.{expressionOf}
-use Rattle.language.specs.Limits.{holdsE}
+use Rattle.language.specs.Measure.{measureS}
 use Rattle.scopes.specs.Environment.{envOf, addAll, item, shut, Grown}
 use Rattle.heads.specs.Items.{blockItems}
 use Rattle.programs.specs.Claims.{entriesOf}
@@ -66,7 +66,7 @@ module _ {known aims l part : List ℕ} {nesting at : ℕ} {sizes : List ℕ} {L
 
   module _ {opens : ℕ} (o : opens ≡ holdsHead (below part 8) heads) where
     pub asks-body-few : holds + opens ≤ 16
-    unfolding holdsE
+    unfolding measureS
     asks-body-few = omega (arith, ready .few-holds, headed-open ready (body-headed _ _ _ ready) (hs ready) (cs ready) o, holds-open (v .ds))
 
     pub asks-body-marks : 4 * (top + opens) ≤ length (L .env)

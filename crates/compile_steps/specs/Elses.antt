@@ -5,12 +5,12 @@ use Prim.Native.Nat.{ℕ, suc, _+_, _-_, _*_, _<_}
 use native.Mathlib.Omega.{arith}
 use lib.ListN.{length, getD, take, set, length-append}
 use lib.Seq.{getD-set-same}
-use Rattle.language.specs.Program.{flatS, flatE, deepS, deepE}
+use Rattle.language.specs.Measure.{measureS}
+use Rattle.language.specs.Program.{flatS, flatE}
 use Rattle.language.specs.Faults.{typeE}
 use Rattle.values.specs.Types.{Ty, tyByte}
 use Rattle.bytecode.specs.Instructions.{Instr, go, goUnless}
 use Rattle.language.specs.Tree.{Stmt, choose, Expr, conditional}
-use Rattle.language.specs.Limits.{holdsS, holdsE, needS, needE}
 use Rattle.compile_code.specs.Code.{Code, nil, op, mark, _▸_, At, skip, after}
 use Rattle.compile_code.specs.Compile.{found, codeS, codeE, tyE}
 use Rattle.compile_code.specs.Encode.{rec, recordOf}
@@ -84,7 +84,7 @@ module _ (e : Expr) (s t : Stmt) {W : Walk} {X : Place} {l part : List ℕ} {nes
   choose-start = stage-start at _ (r .stood) (r .fits)
 
   pub choose-test : Ready (expr e) W X l (below part 8) (nesting - 1) (at + 1) sizes L top holds depth pen
-  unfolding deepS goodS holdsS needS
+  unfolding measureS goodS
   choose-test =
       ready-part r (expr e) 1 (at + 1) X refl (omega (arith, choose-length)) (omega arith) refl
       (laid-left _ _ _ _ choose-laid) (kept-self L) (r .stood) (fits-first _ _ pen (length (L .out)) (choose-start .fits)) (omega (arith, r .deep)) (r .good .0) tt (omega (arith, r .few-holds)) (omega (arith, r .few-values))
@@ -102,7 +102,7 @@ module _ (e : Expr) (s t : Stmt) {W : Walk} {X : Place} {l part : List ℕ} {nes
       choose-2 = stage-op choose-go _ choose-1 9 0 b j (λ dry. ap (λ (t : ℕ). rec 9 0 t) (let z = laid-aim _ _ _ (choose-second place c) dry in omega (arith, target, z)))
 
       pub choose-body : Ready (stmt s) W (movedTo X choose-q) l (below part (8 * (place - at))) (nesting - 1) place sizes (lent (M .env) (M .ends) (M .stack) out) top holds depth q
-      unfolding deepS goodS holdsS needS
+      unfolding measureS goodS
       choose-body =
           ready-part r (stmt s) (place - at) place (movedTo X choose-q) (omega arith) (omega (arith, choose-length)) (omega arith) refl
           (choose-second place c) (choose-2 .kept) (choose-2 .stood) (fits-first _ _ q (length out) (choose-2 .fits)) (omega (arith, r .deep)) (r .good .2) (rw (choose-2 .kept .env) (r .lands))
@@ -128,7 +128,7 @@ module _ (e : Expr) (s t : Stmt) {W : Walk} {X : Place} {l part : List ℕ} {nes
             choose-5 = stage-mark _ choose-4 i
 
             pub choose-else : Ready (stmt t) W (movedTo X choose-r) l (below part (8 * (third - at))) (nesting - 1) third sizes (lent (N .env) (N .ends) (N .stack) out3) top holds depth w
-            unfolding deepS goodS holdsS needS
+            unfolding measureS goodS
             choose-else =
                 ready-part r (stmt t) (third - at) third (movedTo X choose-r) (omega arith) (omega (arith, choose-length)) (omega arith) refl
                 (choose-third place third c f) (choose-5 .kept) (choose-5 .stood) (fits-first _ _ w (length out3) (choose-5 .fits)) (omega (arith, r .deep)) (r .good .3) (rw (choose-5 .kept .env) (r .lands))
@@ -213,7 +213,7 @@ module _ (e f g : Expr) {W : Walk} {X : Place} {l part : List ℕ} {nesting at :
   cond-start = stage-start at _ (r .stood) (r .fits)
 
   pub cond-test : Ready (expr e) W X l (below part 8) (nesting - 1) (at + 1) sizes L top holds depth pen
-  unfolding deepE goodE holdsE needE
+  unfolding measureS goodE
   cond-test =
       ready-part r (expr e) 1 (at + 1) X refl (omega (arith, cond-length)) (omega arith) refl
       (laid-left _ _ _ _ cond-laid) (kept-self L) (r .stood) (fits-first _ _ pen (length (L .out)) (cond-start .fits)) (omega (arith, r .deep)) (r .good .0) tt (omega (arith, r .few-holds)) (omega (arith, r .few-values))
@@ -231,7 +231,7 @@ module _ (e f g : Expr) {W : Walk} {X : Place} {l part : List ℕ} {nesting at :
       cond-2 = stage-op cond-go _ cond-1 9 0 b j (λ dry. ap (λ (t : ℕ). rec 9 0 t) (let z = laid-aim _ _ _ (cond-second place c) dry in omega (arith, target, z)))
 
       pub cond-body : Ready (expr f) W (movedTo X cond-q) l (below part (8 * (place - at))) (nesting - 1) place sizes (lent (M .env) (M .ends) (M .stack) out) top holds depth q
-      unfolding deepE goodE holdsE needE
+      unfolding measureS goodE
       cond-body =
           ready-part r (expr f) (place - at) place (movedTo X cond-q) (omega arith) (omega (arith, cond-length)) (omega arith) refl
           (cond-second place c) (cond-2 .kept) (cond-2 .stood) (fits-first _ _ q (length out) (cond-2 .fits)) (omega (arith, r .deep)) (r .good .2) tt
@@ -257,7 +257,7 @@ module _ (e f g : Expr) {W : Walk} {X : Place} {l part : List ℕ} {nesting at :
             cond-5 = stage-mark _ cond-4 i
 
             pub cond-else : Ready (expr g) W (movedTo X cond-r) l (below part (8 * (third - at))) (nesting - 1) third sizes (lent (N .env) (N .ends) (N .stack) out3) top holds depth w
-            unfolding deepE goodE holdsE needE
+            unfolding measureS goodE
             cond-else =
                 ready-part r (expr g) (third - at) third (movedTo X cond-r) (omega arith) (omega (arith, cond-length)) (omega arith) refl
                 (cond-third place third c h) (cond-5 .kept) (cond-5 .stood) (fits-first _ _ w (length out3) (cond-5 .fits)) (omega (arith, r .deep)) (r .good .3) tt
@@ -274,11 +274,11 @@ module _ (e f g : Expr) {W : Walk} {X : Place} {l part : List ℕ} {nesting at :
               cond-last = mark (found (X .around) (cond-type ∷ X .types))
 
               cond-leaves : getD cond-stack depth 0 ≡ tyByte cond-type
-              unfolding needE
+              unfolding measureS
               cond-leaves = getD-set-same (O .stack) depth ty 0 (omega (arith, r .few-values, k3 .same-stack, k2 .same-stack, k .same-stack, r .stood .stacked)) ∙ (first ∙ d2 .leaves)
 
               cond-6 : Stage W l L top holds depth pen at (lent (O .env) (O .ends) cond-stack (O .out)) (heldOn cond-type X (after cond-z cond-r)) (depth + 1) y ((((((nil ▸ cond-x) ▸ op cond-go) ▸ cond-y) ▸ op cond-past) ▸ cond-shape) ▸ cond-z) (cond-last ▸ nil) ((([] ++ cond-es) ++ cond-fs) ++ cond-gs)
-              unfolding needE
+              unfolding measureS
               cond-6 = stage-push cond-z _ cond-gs cond-5 third (kept-then k3 (kept-stack O depth ty (omega arith))) (d3 .wrote) (d3 .ended)
                   (h ∙ omega (arith, c, length-append cond-es cond-fs, length-endsE (W .globals) e (X .around) (X .types) (X .start), length-endsE (W .globals) f (X .around) (X .types) cond-q)) cond-type cond-leaves (omega (arith, r .few-values))
 

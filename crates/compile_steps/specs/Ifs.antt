@@ -4,10 +4,10 @@ use mathlib.Core.List.{List, [], _++_}
 use Prim.Native.Nat.{ℕ, suc, _+_, _-_, _*_, _<_}
 use native.Mathlib.Omega.{arith}
 use lib.ListN.{length, getD, take, set, length-append}
-use Rattle.language.specs.Program.{flatS, flatE, deepS}
+use Rattle.language.specs.Measure.{measureS}
+use Rattle.language.specs.Program.{flatS, flatE}
 use Rattle.bytecode.specs.Instructions.{Instr, go, goUnless}
 use Rattle.language.specs.Tree.{Stmt, when, while, Expr}
-use Rattle.language.specs.Limits.{holdsS, needS}
 use Rattle.compile_code.specs.Code.{Code, nil, op, mark, _▸_, At, skip, after}
 use Rattle.compile_code.specs.Compile.{found, codeS, codeE}
 use Rattle.compile_code.specs.Encode.{rec, recordOf}
@@ -50,7 +50,7 @@ module _ (e : Expr) (s : Stmt) {W : Walk} {X : Place} {l part : List ℕ} {nesti
   when-laid = laid-tail _ _ _ _ (X .start) (omega arith) (r .laid)
 
   pub when-test : Ready (expr e) W X l (below part 8) (nesting - 1) (at + 1) sizes L top holds depth pen
-  unfolding flatS codeS deepS goodS holdsS needS
+  unfolding flatS codeS measureS goodS
   when-test =
       ready-part r (expr e) 1 (at + 1) X refl (omega (arith, length-append (flatE e) (flatS s))) (omega arith) refl
       (laid-left _ _ _ _ when-laid) (kept-self L) (r .stood) (fits-first _ _ pen (length (L .out)) (r .fits)) (omega (arith, r .deep)) (r .good .0) tt (omega (arith, r .few-holds)) (omega (arith, r .few-values))
@@ -76,7 +76,7 @@ module _ (e : Expr) (s : Stmt) {W : Walk} {X : Place} {l part : List ℕ} {nesti
       when-2 = stage-op when-go (when-y ▸ (when-shape ▸ nil)) when-1 9 0 b j (λ dry. ap (λ (t : ℕ). rec 9 0 t) (sym (target ∙ laid-aim _ _ _ (when-second place c) dry)))
 
       pub when-body : Ready (stmt s) W (movedTo X when-q) l (below part (8 * (place - at))) (nesting - 1) place sizes (lent (M .env) (M .ends) (M .stack) out) top holds depth q
-      unfolding flatS deepS goodS holdsS needS
+      unfolding flatS measureS goodS
       when-body =
           ready-part r (stmt s) (place - at) place (movedTo X when-q) (omega arith) (omega (arith, length-append (flatE e) (flatS s))) (omega arith) refl
           (when-second place c) (when-2 .kept) (when-2 .stood) (fits-first _ _ q (length out) (when-2 .fits)) (omega (arith, r .deep)) (r .good .2) (rw (when-2 .kept .env) (r .lands))
@@ -147,7 +147,7 @@ module _ (e : Expr) (s : Stmt) {W : Walk} {X : Place} {l part : List ℕ} {nesti
     while-0 = stage-mark (while-x ▸ (op while-go ▸ (while-y ▸ (op while-back ▸ (while-shape ▸ nil))))) while-start i
 
     pub while-test : Ready (expr e) W X l (below part 8) (nesting - 1) (at + 1) sizes (lent (L .env) (L .ends) (L .stack) early) top holds depth o
-    unfolding flatS deepS goodS holdsS needS
+    unfolding flatS measureS goodS
     while-test =
         ready-part r (expr e) 1 (at + 1) X refl (omega (arith, length-append (flatE e) (flatS s))) (omega arith) refl
         (laid-left _ _ _ _ while-laid) (while-0 .kept) (while-0 .stood) (fits-first _ _ o (length early) (while-0 .fits)) (omega (arith, r .deep)) (r .good .0) tt (omega (arith, r .few-holds)) (omega (arith, r .few-values))
@@ -165,7 +165,7 @@ module _ (e : Expr) (s : Stmt) {W : Walk} {X : Place} {l part : List ℕ} {nesti
         while-2 = stage-op while-go (while-y ▸ (op while-back ▸ (while-shape ▸ nil))) while-1 9 0 b j (λ dry. ap (λ (t : ℕ). rec 9 0 t) (let z = laid-aim _ _ _ (while-second place c) dry in omega (arith, target, z)))
 
         pub while-body : Ready (stmt s) W (movedTo X while-q) l (below part (8 * (place - at))) (nesting - 1) place sizes (lent (M .env) (M .ends) (M .stack) out) top holds depth q
-        unfolding flatS deepS goodS holdsS needS
+        unfolding flatS measureS goodS
         while-body =
             ready-part r (stmt s) (place - at) place (movedTo X while-q) (omega arith) (omega (arith, length-append (flatE e) (flatS s))) (omega arith) refl
             (while-second place c) (while-2 .kept) (while-2 .stood) (fits-first _ _ q (length out) (while-2 .fits)) (omega (arith, r .deep)) (r .good .2) (rw (while-2 .kept .env) (r .lands))

@@ -10,6 +10,7 @@ use lib.IntN.{ℤ, pos}
 use lib.ListN.{length, getD, take, set}
 use lib.Seq.{sets, getD-set-same}
 use Rattle.bytecode.specs.Words.{valueWord}
+use Rattle.language.specs.Measure.{measureS}
 use Rattle.language.specs.Program.{flag, flatS, flatE}
 use Rattle.words.specs.Choice.{if_then_else_}
 use Rattle.words.specs.Numbers.{halfAt, wordAt, wordOf, integerOf}
@@ -20,7 +21,6 @@ use Rattle.bytecode.specs.Instructions.{Instr, push, go, letHold}
 use Rattle.language.specs.Tree.{Stmt, block, assign, when, choose, while, goto, assert, call, setLevel, select, Expr, number, truth, pattern, null, variable, invoke, field, make, operate1, operate2, conditional, fader, blockExpr, Global}
 use Rattle.language.specs.Table.{Entry, entry}
 use Rattle.language.specs.Faults.{typeE}
-use Rattle.language.specs.Limits.{needS, needE}
 use Rattle.language.specs.Names.{Sort, isVariable, isLabel, Scope, nowhere, found, lookup}
 use Rattle.language.specs.Names as names
 use Rattle.programs.specs.Claims.{entriesOf}
@@ -104,7 +104,7 @@ module _ {W : Walk} {X : Place} {l part : List ℕ} {nesting at : ℕ} {sizes : 
     put n r w e small = getD-set-same (L .stack) depth v 0 (omega (arith, r .stood .stacked)) ∙ sym e
 
     pub leaf-done : (n : Node) → IsLeaf n → Ready n W X l part nesting at sizes L top holds depth pen → Done n W X at L (lent (L .env) ends (set (L .stack) depth v) out) depth pen q
-    unfolding codeE belowE typeE recordOf inkLeaf leafType namesBy flatE needE goodE
+    unfolding codeE belowE typeE recordOf inkLeaf leafType namesBy flatE measureS goodE
     leaf-done (expr (number z)) h r =
         let d = head-N (expr (number z)) (r .table) (r .laid .stands) in
         leaf-step (expr (number z)) (push (int z)) r refl refl 1 0 (wordAt part 4) (rw (d .kind) at j) (λ dry. ap (λ (n : ℕ). rec 1 0 n) (sym (word-here _ _ (r .table) (r .laid .stands)))) f _

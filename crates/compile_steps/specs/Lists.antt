@@ -7,12 +7,12 @@ use native.Mathlib.Nat.{add-zero, sub-zero}
 use lib.IntN.{pos}
 use lib.ListN.{length, getD, length-append}
 use lib.Seq.{sets}
-use Rattle.language.specs.Program.{flatS, flatItems, flatE, flatEs, deepItems, deepEs}
+use Rattle.language.specs.Measure.{measureS}
+use Rattle.language.specs.Program.{flatS, flatItems, flatE, flatEs}
 use Rattle.values.specs.Types.{Ty}
 use Rattle.language.specs.Tree.{Items, noItem, label, item, Expr, Exprs, noExpr, countItems, countExprs}
 use Rattle.language.specs.Tree.{expr as more}
 use Rattle.language.specs.Table.{entry}
-use Rattle.language.specs.Limits.{holdsItems, holdsEs, needItems}
 use Rattle.shapes.specs.Steps.{Passes, table-next}
 use Rattle.heads.specs.Defines.{bulk}
 use Rattle.heads.specs.Trees.{length-S}
@@ -67,7 +67,7 @@ pub record NextE (left : Exprs) (W : Walk) (Y : Place) (l rest : List ℕ) (nest
 
 next-e : (left : Exprs) {W : Walk} {Y : Place} {l rest : List ℕ} {n nesting place : ℕ} {sizes : List ℕ} {M : Lent} {top holds d : ℕ} {p : Pen} → ReadyEs left W Y l rest n nesting place sizes M top holds d p → 0 < n
     → NextE left W Y l rest nesting place sizes M top holds d p
-unfolding countExprs flatEs endsEs codeEs deepEs goodEs holdsEs ValuesEs
+unfolding countExprs flatEs endsEs codeEs measureS goodEs ValuesEs
 next-e noExpr r h = absurd (omega (arith, r .many))
 next-e (more e es) {W} {Y} {M = M} {p = p} r h =
     record {
@@ -92,7 +92,7 @@ next-e (more e es) {W} {Y} {M = M} {p = p} r h =
 es-moves : (e : Expr) (es : Exprs) {W : Walk} {Y : Place} {l rest : List ℕ} {n nesting place : ℕ} {sizes : List ℕ} {M N : Lent} {top holds d : ℕ} {p q : Pen} → ReadyEs (more e es) W Y l rest n nesting place sizes M top holds d p
     → Kept M N top d → Done (expr e) W Y place M N d p q → (m : ℕ) → m ≡ length (flatE e)
     → ReadyEs es W (heldOn (tyE (W .globals) (Y .around) e) Y (after (codeE (W .globals) e (Y .around) (Y .types) (Y .start)) (Y .start))) l (below rest (8 * m)) (n - 1) nesting (place + m) sizes N top holds (d + 1) q
-unfolding countExprs flatEs endsEs codeEs deepEs goodEs holdsEs ValuesEs
+unfolding countExprs flatEs endsEs codeEs measureS goodEs ValuesEs
 es-moves e es {W} {Y} {place = place} {M = M} {N} {d = d} {p} {q} r k h m size =
     let x = codeE (W .globals) e (Y .around) (Y .types) (Y .start) in
     let s = after x (Y .start) in
@@ -209,7 +209,7 @@ pub record NextI (is : Items) (W : Walk) (Y : Place) (l rest : List ℕ) (left n
 
 next-i : (is : Items) {W : Walk} {Y : Place} {l rest : List ℕ} {left nesting place : ℕ} {sizes : List ℕ} {M : Lent} {top holds d : ℕ} {p : Pen} → ReadyItems is W Y l rest left nesting place sizes M top holds d p → 0 < left
     → NextI is W Y l rest left nesting place sizes M top holds d p
-unfolding countItems flatItems endsItems codeItems deepItems goodItems holdsItems needItems bulk after cellsWithin
+unfolding countItems flatItems endsItems codeItems measureS goodItems bulk after cellsWithin
 next-i noItem r h = absurd (omega (arith, r .many))
 next-i (label a is) {W} {Y} {left = left} {place = place} {M = M} {d = d} {p = p} r h =
     record {

@@ -6,7 +6,8 @@ use Prim.Native.Nat.{ℕ, zero, suc, _+_, _-_, _*_, _≤_, _<_}
 use native.Mathlib.Omega.{arith}
 use lib.ListN.{length, getD, take, set, length-set, length-append}
 use lib.Seq.{sets, getD-set-same}
-use Rattle.language.specs.Program.{flatS, flatE, deepS, deepE}
+use Rattle.language.specs.Measure.{measureS}
+use Rattle.language.specs.Program.{flatS, flatE}
 use Rattle.values.specs.Types.{Ty, tyByte, logical}
 use Rattle.bytecode.specs.Instructions.{Instr, go, goUnless}
 use Rattle.language.specs.Tree.{Expr, operate2, Global}
@@ -14,7 +15,7 @@ use Rattle.language.specs.Faults.{typeE, isTy}
 use mathlib.Core.Option.{Option, none, some}
 use Rattle.values.specs.Operators.{Binary, binary, binaryCode, opType}
 use Rattle.language.specs.Table.{Entry}
-use Rattle.language.specs.Limits.{holdsS, holdsE, needS, needE}
+use Rattle.language.specs.Limits.{needE}
 use Rattle.compile_code.specs.Code.{Code, nil, op, mark, _▸_, At, skip, after}
 use Rattle.compile_code.specs.Compile.{Around, scopesOf, found, codeS, codeE, tyE, tyIn, Way, plainly, marked, ifTrue, ifFalse, wayOf, codeWay, orInteger}
 use Rattle.compile_code.specs.Encode.{rec, recordOf}
@@ -106,7 +107,7 @@ module _ (o : Binary) (e f : Expr) {W : Walk} {X : Place} {l part : List ℕ} {n
   pair-start = stage-start at _ (r .stood) (rw (parts-pen o (X .around) (X .types) pair-t pair-x (X .start) (λ ts q. codeE (W .globals) f (X .around) ts q) pen pair-w) at (r .fits))
 
   pub pair-first : Ready (expr e) W X l (below part 8) (nesting - 1) (at + 1) sizes L top holds depth pen
-  unfolding deepE goodE holdsE needE
+  unfolding measureS goodE
   pair-first =
       ready-part r (expr e) 1 (at + 1) X refl (omega (arith, pair-length)) (omega arith) refl
       (laid-left _ _ _ _ pair-laid) (kept-self L) (r .stood) (fits-first _ _ pen (length (L .out)) (pair-start .fits)) (omega (arith, r .deep)) (r .good .0) tt (omega (arith, r .few-holds)) (omega (arith, r .few-values))
@@ -137,11 +138,11 @@ module _ (o : Binary) (e f : Expr) {W : Walk} {X : Place} {l part : List ℕ} {n
 
     module _ {out : List ℕ} {q : Pen} (j : (q ≡ penBetween w depth p) × (out ≡ inkBetween w b holds (M .stack) depth p (M .out))) where
       pair-2 : Stage W l L top holds depth pen at (lent (M .env) (M .ends) (M .stack) out) pair-place (waits pair-w depth) q ((nil ▸ pair-x) ▸ pair-between) (pair-y ▸ (pair-behind ▸ nil)) ([] ++ pair-es)
-      unfolding needE
+      unfolding measureS
       pair-2 = between-stage pair-x pair-t pair-end (pair-y ▸ (pair-behind ▸ nil)) pair-es k (d .wrote) (d .ended) (d .leaves) (omega (arith, r .few-values, need-E f)) b pair-target pair-w pair-start (rw pair-number at j)
 
       pub pair-operand : (deeper : ℕ) → deeper ≡ depth + waitingBy w → Ready (expr f) W pair-place l (below part (8 * (place - at))) (nesting - 1) place sizes (lent (M .env) (M .ends) (M .stack) out) top holds deeper q
-      unfolding deepE goodE holdsE needE
+      unfolding measureS goodE
       pair-operand deeper z =
           let y : deeper ≡ waits pair-w depth = z ∙ (ap (λ (v : ℕ). depth + waitingBy v) pair-number ∙ waits-are pair-w depth) in
           rw y
@@ -167,7 +168,7 @@ module _ (o : Binary) (e f : Expr) {W : Walk} {X : Place} {l part : List ℕ} {n
         pair-stack = set (N .stack) depth v
 
         pair-leaves : getD pair-stack depth 0 ≡ tyByte (tyE (W .globals) (X .around) (operate2 o e f))
-        unfolding needE
+        unfolding measureS
         pair-leaves = getD-set-same (N .stack) depth v 0 (omega (arith, r .few-values, need-E f, pair-kept .same-stack, r .stood .stacked)) ∙ (result ∙ pair-result (getD (M .stack) depth 0) (d .leaves))
 
         pair-tested : Tested pair-w (getD pair-stack depth 0 ≡ tyByte logical)
@@ -175,7 +176,7 @@ module _ (o : Binary) (e f : Expr) {W : Walk} {X : Place} {l part : List ℕ} {n
 
         module _ {late : List ℕ} {y : Pen} (m : (y ≡ penBehind w depth u) × (late ≡ inkBehind w (binaryCode o) b holds pair-stack depth u (N .out))) where
           pair-4 : Finished L pen at late (N .ends) y ((((nil ▸ pair-x) ▸ pair-between) ▸ pair-y) ▸ pair-behind) (([] ++ pair-es) ++ pair-fs)
-          unfolding needE
+          unfolding measureS
           pair-4 = behind-stage X o pair-t (after pair-x (X .start)) pair-y pair-end ([] ++ pair-es) pair-fs place (d2 .wrote) (d2 .ended) (c ∙ omega (arith, length-endsE (W .globals) e (X .around) (X .types) (X .start))) v
               (omega (arith, r .few-values, need-E f)) b pair-target pair-w pair-2 (rw pair-deeper at k2) pair-tested (rw pair-number at m)
 

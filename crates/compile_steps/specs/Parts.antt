@@ -6,7 +6,7 @@ use Prim.Native.Nat.{ℕ, zero, suc, _+_, _-_, _*_, _/_, _≤_, _<_}
 use native.Mathlib.Omega.{arith}
 use lib.ListN.{length, getD, take, drop, set, length-set, length-append}
 use lib.Seq.{sets, take-take, take-suc, take-set-le, length-sets, set-comm}
-use Rattle.language.specs.Program.{deepS}
+use Rattle.language.specs.Measure.{measureS}
 use Rattle.values.specs.Types.{Ty, tyByte}
 use Rattle.words.specs.Numbers.{halfAt, wordAt}
 use Rattle.bytecode.specs.Macro.{Shape, shape}
@@ -283,7 +283,7 @@ pub record Asked (part : List ℕ) (nesting at : ℕ) (L : Lent) (top holds dept
   pub address : pen .address < 65536
 
 deep-one : (n : Node) → 1 ≤ deepN n
-unfolding deepS
+unfolding measureS
 deep-one (stmt (block ds is)) = omega arith
 deep-one (stmt (assign x e)) = omega arith
 deep-one (stmt (when e s)) = omega arith
@@ -310,7 +310,7 @@ deep-one (expr (blockExpr ds is e)) = omega arith
 deep-one (name a) = omega arith
 
 mutual
-  unfolding needS
+  unfolding measureS
 
   pub need-S : (s : Stmt) → 1 ≤ needS s
   need-S (block ds is) = need-items is

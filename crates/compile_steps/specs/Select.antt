@@ -6,14 +6,14 @@ use Prim.Native.Nat.{ℕ, suc, _+_, _-_, _*_, _≤_, _<_}
 use native.Mathlib.Omega.{arith}
 use lib.IntN.{pos}
 use lib.ListN.{length, getD, set, take, length-set, length-append}
-use Rattle.language.specs.Program.{flatS, flatArms, flatE, deepS}
+use Rattle.language.specs.Measure.{measureS}
+use Rattle.language.specs.Program.{flatS, flatArms, flatE}
 use Rattle.words.specs.Numbers.{halfAt}
 use Rattle.values.specs.Types.{Ty, integer}
 use Rattle.values.specs.Ends.{caseIndex}
 use Rattle.bytecode.specs.Instructions.{own, store, stop}
 use Rattle.language.specs.Tree.{Expr, Arms, lastArm, arm, select, countArms, Global}
 use Rattle.language.specs.Table.{entry}
-use Rattle.language.specs.Limits.{holdsS, needS}
 use Rattle.shapes.specs.Steps.{head-of, table-next, Passes}
 use Rattle.compile_simulation.specs.Sizes.{lenArms}
 use Rattle.compile_code.specs.Code.{Code, op, mark, cell, _▸_, At, at, skip, taken, after}
@@ -93,7 +93,7 @@ module _ {e : Expr} {r : Arms} {W : Walk} {X : Place} {l part : List ℕ} {nesti
   below-all = rest-enter (entry 30 (countArms r) (pos 0)) (flatE e ++ flatArms r) _ _ _ q (omega arith) refl in-all
 
   pub select-first : Ready (expr e) W (movedTo X q) l (below part 8) (nesting - 1) (at + 1) sizes L top holds depth pen
-  unfolding deepS goodS holdsS needS
+  unfolding measureS goodS
   select-first =
       rest-ready (expr e) (table-next (h .table) 8 1 refl) (omega (arith, h .deep)) (h .good .0) tt (omega (arith, h .few-holds)) (omega (arith, h .few-values)) (rest-left (flatE e) (flatArms r) _ _ below-all)
 
@@ -148,7 +148,7 @@ module _ {e : Expr} {r : Arms} {W : Walk} {X : Place} {l part : List ℕ} {nesti
 
         pub select-second : (count : ℕ) → count ≡ halfAt part 2
             → ReadyArms r c 1 exit W (movedTo X b) l (below part (8 * (at + 1 + n - at))) count (nesting - 1) (at + 1 + n) sizes (lent (M .env) (M .ends) (M .stack) o) top holds depth p₂
-        unfolding deepS goodS holdsS needS
+        unfolding measureS goodS
         select-second count f =
             record {
               table = table-from (at + 1 + n) (omega arith) (h .table);

@@ -7,7 +7,8 @@ use native.Mathlib.Omega.{arith}
 use native.Mathlib.Nat.{add-zero}
 use lib.IntN.{pos}
 use lib.ListN.{length, getD, take, set, length-reverse}
-use Rattle.language.specs.Program.{flatEs, deepS, deepEs}
+use Rattle.language.specs.Measure.{measureS}
+use Rattle.language.specs.Program.{flatEs, deepEs}
 use Rattle.words.specs.Options.{orElse}
 use Rattle.heads.specs.Trees.{length-map}
 use lib.Seq.{getD-set-same, take-suc, getD-at, length-take-le}
@@ -24,7 +25,7 @@ use Rattle.language.specs.Tree.{block, assign, when, choose, while, goto, asser
 use Rattle.language.specs.Tree.{conditional, fader, blockExpr, Global}
 use Rattle.language.specs.Table.{Entry}
 use Rattle.language.specs.Faults.{typeE}
-use Rattle.language.specs.Limits.{holdsS, holdsEs, needS, needEs}
+use Rattle.language.specs.Limits.{holdsEs, needEs}
 use Rattle.language.specs.Names.{Scope}
 use Rattle.language.specs.Names as names
 use Rattle.scopes.specs.Environment.{envOf}
@@ -209,7 +210,7 @@ simple-room (computes o e) = refl
 simple-room (faders e) = refl
 
 simple-deep : {n : Node} → Simple n → suc (deepEs (opsOf n)) ≤ deepN n
-unfolding deepS
+unfolding measureS
 simple-deep (asserts e) = omega arith
 simple-deep (calls a es) = omega arith
 simple-deep (levels e f) = omega arith
@@ -231,7 +232,7 @@ simple-good ss (computes o e) g = (g .0, tt)
 simple-good ss (faders e) g = (g .0, tt)
 
 simple-holds : {n : Node} → Simple n → holdsEs (opsOf n) ≤ holdsN n
-unfolding holdsS
+unfolding measureS
 simple-holds (asserts e) = omega arith
 simple-holds (calls a es) = omega arith
 simple-holds (levels e f) = omega arith
@@ -242,7 +243,7 @@ simple-holds (computes o e) = omega arith
 simple-holds (faders e) = omega arith
 
 values-from : (d i : ℕ) (es : Exprs) → d + needEs i es ≤ 32 → ValuesEs (d + i) es
-unfolding needEs ValuesEs
+unfolding measureS ValuesEs
 values-from d i noExpr h = tt
 values-from d i (more e es) h = let z : d + suc i ≡ suc (d + i) = omega arith in (omega arith, rw z at (values-from d (suc i) es (omega arith)))
 
@@ -250,7 +251,7 @@ values-all : (d : ℕ) (es : Exprs) → d + needEs 0 es ≤ 32 → ValuesEs d es
 values-all d es h = rw (add-zero d) at (values-from d 0 es h)
 
 simple-values : {n : Node} → Simple n → (d : ℕ) → d + needN n ≤ 32 → ValuesEs d (opsOf n)
-unfolding needS ValuesEs
+unfolding measureS ValuesEs
 simple-values (asserts e) d small = (small, tt)
 simple-values (calls a es) d small = values-all d es small
 simple-values (levels e f) d small = (omega arith, (omega arith, tt))
@@ -359,7 +360,7 @@ module _ {W : Walk} {X : Place} {l part : List ℕ} {nesting at : ℕ} {sizes : 
   simple-leaves : {n : Node} → Simple n → Ready n W X l part nesting at sizes L top holds depth pen → (stack : List ℕ) → map tyByte
       (reverse (pushed (W .globals) (X .around) (opsOf n) (X .types))) ≡ take (depth + countExprs (opsOf n)) stack
       → length stack ≡ length (L .stack) → (v : ℕ) → v ≡ lastType (halfAt part 0) (halfAt part 2) k (getD stack depth 0) → LeavesN (W .globals) n (X .around) (set stack depth v) depth
-  unfolding lastType namesBy goodS typeE pushed countExprs needS
+  unfolding lastType namesBy goodS typeE pushed countExprs measureS
   simple-leaves (asserts e) r stack t s v g = tt
   simple-leaves (calls a es) r stack t s v g = tt
   simple-leaves (levels e f) r stack t s v g = tt

@@ -11,6 +11,7 @@ use lib.Dec.{eqb, leb}
 use lib.IntN.{pos}
 use lib.ListN.{length, drop, length-append}
 use borrow.Author.Tests.{ne-eqb, le-ltb, le-leb, leb-true}
+use Rattle.language.specs.Measure.{measureS}
 use Rattle.language.specs.Program.{flatTyped, flatDecl, flatS, flatItems}
 use Rattle.words.specs.Lists.{among}
 use Rattle.words.specs.Options.{isSome}
@@ -60,7 +61,7 @@ bulk (label a is) = bulk is
 bulk (item s is) = sizeS s + bulk is
 
 pub labels-bulk : (is : Items) → sizeItems is ≡ labels is + bulk is
-unfolding labels bulk sizeItems
+unfolding labels bulk measureS
 labels-bulk noItem = refl
 labels-bulk (label a is) = omega (arith, labels-bulk is)
 labels-bulk (item s is) = omega (arith, labels-bulk is)

@@ -5,6 +5,7 @@ use Prim.Native.Nat.{suc, _+_, _-_, _*_, _/_, _<_}
 use native.Mathlib.Omega.{arith}
 use lib.IntN.{pos}
 use lib.ListN.{length, length-append}
+use Rattle.language.specs.Measure.{measureS}
 use Rattle.language.specs.Program.{flatTyped, flatDecl, flatS, flatItems, flatArms, flatTarget, flatE, flatEs, resultCode, flatBody, flatGlobal}
 use Rattle.language.specs.Tree.{Typed, Decl, declare, holding, Stmt, block, assign, when, choose, while, goto, assert, call, setLevel, select, Items, noItem, label, item, Arms, lastArm, arm, Target, toVariable, toField, Expr, number, truth, pattern, null, variable, invoke, field, make, operate1, operate2, conditional, fader, blockExpr, Exprs, noExpr, expr, Body, proper, function, Global, local, class, procedure, countItems, countArms, countExprs}
 use Rattle.language.specs.Table.{Entry, entry}
@@ -16,7 +17,7 @@ length-map f [] = refl
 length-map f (x ∷ xs) = ap suc (length-map f xs)
 
 mutual
-  unfolding flatS flatItems flatArms flatTarget flatE flatEs sizeS sizeItems sizeArms sizeTarget sizeE sizeEs
+  unfolding flatS flatItems flatArms flatTarget flatE flatEs measureS
 
   pub length-S : (s : Stmt) → length (flatS s) ≡ sizeS s
   length-S (block ds is) = omega (arith, length-append (map flatDecl ds) (flatItems is), length-map flatDecl ds, length-Items is)

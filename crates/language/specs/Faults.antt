@@ -1,6 +1,6 @@
 -- Types of expressions, and the faults 3, 4 and 5 of every entry, in postorder.
 -- "Table entries are judged inner before outer, left to right, after 1 and 2; at one entry 3, 4, 5 in that order"
-use mathlib.Core.Bool.{Bool, true, false, not, _&&_, _||_}
+use mathlib.Core.Bool.{Bool, true, false, not, _&&_}
 use mathlib.Core.List.{List, [], _∷_, _++_}
 use mathlib.Core.Option.{Option, none, some}
 use Prim.Native.Nat.{ℕ, suc, _+_}
@@ -13,6 +13,7 @@ use Rattle.values.specs.Types.{Ty, integer, logical, bits, reference, same, fit
 use Rattle.values.specs.Ends.{Refusal, refusal}
 use Rattle.values.specs.Operators.{unary, binary, opType}
 use Rattle.language.specs.Tree.{Typed, Decl, declare, holding, Stmt, block, assign, when, choose, while, goto, assert, call, setLevel, select, Items, noItem, label, item, Arms, lastArm, arm, Target, toVariable, toField, Expr, number, truth, pattern, null, variable, invoke, field, make, operate1, operate2, conditional, fader, blockExpr, Exprs, noExpr, expr, Body, proper, function, Global, local, class, procedure, Tree}
+use Rattle.language.specs.Measure.{Measure, measureS, measureItems, measureArms, measureTarget, measureE, measureEs}
 use Rattle.language.specs.Names.{Sort, asVariable, asLabel, asClass, asField, asProcedure, Scope, blockOf, expressionOf, procedureOf, rootOf, Found, nowhere, found, lookup}
 
 -- ── what is found ──
@@ -135,50 +136,27 @@ typeFaults ss bits p = []
 typeFaults ss (reference c) p = named (lookup c ss) classSort p
 
 -- ── how many entries a part has, so that each has its place ──
-unfoldable mutual
-  pub sizeS : Stmt → ℕ
-  sizeS (block ds is) = suc (length ds + sizeItems is)
-  sizeS (assign x e) = suc (sizeTarget x + sizeE e)
-  sizeS (when e s) = suc (sizeE e + sizeS s)
-  sizeS (choose e s t) = suc (sizeE e + (sizeS s + sizeS t))
-  sizeS (while e s) = suc (sizeE e + sizeS s)
-  sizeS (goto a) = 1
-  sizeS (assert e) = suc (sizeE e)
-  sizeS (call a es) = suc (sizeEs es)
-  sizeS (setLevel e f) = suc (sizeE e + sizeE f)
-  sizeS (select e r) = suc (sizeE e + sizeArms r)
+abbrev pub bySize : Measure
+bySize =
+    record { ofNone = 0; ofParts = _+_; ofEntry = suc; ofLabel = suc; ofCase = suc; ofBlock = λ ds n. suc (length ds + n); stacked = false }
 
-  pub sizeItems : Items → ℕ
-  sizeItems noItem = 0
-  sizeItems (label a is) = suc (sizeItems is)
-  sizeItems (item s is) = sizeS s + sizeItems is
+abbrev pub sizeS : Stmt → ℕ
+sizeS s = measureS bySize s
 
-  pub sizeArms : Arms → ℕ
-  sizeArms (lastArm s) = sizeS s
-  sizeArms (arm s r) = sizeS s + sizeArms r
+abbrev pub sizeItems : Items → ℕ
+sizeItems is = measureItems bySize is
 
-  pub sizeTarget : Target → ℕ
-  sizeTarget (toVariable a) = 1
-  sizeTarget (toField a e) = suc (sizeE e)
+abbrev pub sizeArms : Arms → ℕ
+sizeArms r = measureArms bySize r
 
-  pub sizeE : Expr → ℕ
-  sizeE (number z) = 1
-  sizeE (truth b) = 1
-  sizeE (pattern z) = 1
-  sizeE (null c) = 1
-  sizeE (variable a) = 1
-  sizeE (invoke a es) = suc (sizeEs es)
-  sizeE (field a e) = suc (sizeE e)
-  sizeE (make c es) = suc (sizeEs es)
-  sizeE (operate1 o e) = suc (sizeE e)
-  sizeE (operate2 o e f) = suc (sizeE e + sizeE f)
-  sizeE (conditional e f g) = suc (sizeE e + (sizeE f + sizeE g))
-  sizeE (fader e) = suc (sizeE e)
-  sizeE (blockExpr ds is e) = suc (length ds + (sizeItems is + sizeE e))
+abbrev pub sizeTarget : Target → ℕ
+sizeTarget x = measureTarget bySize x
 
-  pub sizeEs : Exprs → ℕ
-  sizeEs noExpr = 0
-  sizeEs (expr e es) = sizeE e + sizeEs es
+abbrev pub sizeE : Expr → ℕ
+sizeE e = measureE bySize e
+
+abbrev pub sizeEs : Exprs → ℕ
+sizeEs es = measureEs bySize 0 es
 
 -- ── the faults of a part whose first entry is p; `seen` are the names that its block defines before ──
 unfoldable pub faultsTyped : List Scope → List ℕ → ℕ → List Typed → List Refusal

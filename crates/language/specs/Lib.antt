@@ -1,4 +1,5 @@
 pub mod Tree
+pub mod Measure
 pub mod Table
 pub mod Names
 pub mod Faults

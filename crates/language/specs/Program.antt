@@ -12,6 +12,7 @@ use Rattle.words.specs.Numbers.{half, word, wordOf}
 use Rattle.values.specs.Types.{tyCode}
 use Rattle.values.specs.Operators.{unaryCode, binaryCode}
 use Rattle.language.specs.Tree.{Typed, Decl, declare, holding, Stmt, block, assign, when, choose, while, goto, assert, call, setLevel, select, Items, noItem, label, item, Arms, lastArm, arm, Target, toVariable, toField, Expr, number, truth, pattern, null, variable, invoke, field, make, operate1, operate2, conditional, fader, blockExpr, Exprs, noExpr, expr, Body, proper, function, Global, local, class, procedure, Tree, countItems, countArms, countExprs}
+use Rattle.language.specs.Measure.{Measure, measureS, measureItems, measureArms, measureTarget, measureE, measureEs}
 use Rattle.language.specs.Table.{Entry, entry, inLayout, classCount, procedureCount}
 use Rattle.language.specs.Formed.{WellFormed, KeepsLimits}
 
@@ -103,50 +104,27 @@ abbrev pub deepHead : List Decl → ℕ
 deepHead [] = 0
 deepHead (d ∷ ds) = 1
 
-unfoldable mutual
-  pub deepS : Stmt → ℕ
-  deepS (block ds is) = suc (max (deepHead ds) (deepItems is))
-  deepS (assign x e) = suc (max (deepTarget x) (deepE e))
-  deepS (when e s) = suc (max (deepE e) (deepS s))
-  deepS (choose e s t) = suc (max (deepE e) (max (deepS s) (deepS t)))
-  deepS (while e s) = suc (max (deepE e) (deepS s))
-  deepS (goto a) = 1
-  deepS (assert e) = suc (deepE e)
-  deepS (call a es) = suc (deepEs es)
-  deepS (setLevel e f) = suc (max (deepE e) (deepE f))
-  deepS (select e r) = suc (max (deepE e) (deepArms r))
+abbrev pub byDepth : Measure
+byDepth =
+    record { ofNone = 0; ofParts = max; ofEntry = suc; ofLabel = max 1; ofCase = suc; ofBlock = λ ds n. suc (max (deepHead ds) n); stacked = false }
 
-  pub deepItems : Items → ℕ
-  deepItems noItem = 0
-  deepItems (label a is) = max 1 (deepItems is)
-  deepItems (item s is) = max (deepS s) (deepItems is)
+abbrev pub deepS : Stmt → ℕ
+deepS s = measureS byDepth s
 
-  pub deepArms : Arms → ℕ
-  deepArms (lastArm s) = deepS s
-  deepArms (arm s r) = max (deepS s) (deepArms r)
+abbrev pub deepItems : Items → ℕ
+deepItems is = measureItems byDepth is
 
-  pub deepTarget : Target → ℕ
-  deepTarget (toVariable a) = 1
-  deepTarget (toField a e) = suc (deepE e)
+abbrev pub deepArms : Arms → ℕ
+deepArms r = measureArms byDepth r
 
-  pub deepE : Expr → ℕ
-  deepE (number z) = 1
-  deepE (truth b) = 1
-  deepE (pattern z) = 1
-  deepE (null c) = 1
-  deepE (variable a) = 1
-  deepE (invoke a es) = suc (deepEs es)
-  deepE (field a e) = suc (deepE e)
-  deepE (make c es) = suc (deepEs es)
-  deepE (operate1 o e) = suc (deepE e)
-  deepE (operate2 o e f) = suc (max (deepE e) (deepE f))
-  deepE (conditional e f g) = suc (max (deepE e) (max (deepE f) (deepE g)))
-  deepE (fader e) = suc (deepE e)
-  deepE (blockExpr ds is e) = suc (max (deepHead ds) (max (deepItems is) (deepE e)))
+abbrev pub deepTarget : Target → ℕ
+deepTarget x = measureTarget byDepth x
 
-  pub deepEs : Exprs → ℕ
-  deepEs noExpr = 0
-  deepEs (expr e es) = max (deepE e) (deepEs es)
+abbrev pub deepE : Expr → ℕ
+deepE e = measureE byDepth e
+
+abbrev pub deepEs : Exprs → ℕ
+deepEs es = measureEs byDepth 0 es
 
 abbrev pub deepList : List Typed → ℕ
 deepList [] = 0

@@ -9,6 +9,7 @@ use lib.Dec.{eqb}
 use lib.IntN.{pos}
 use lib.ListN.{length}
 use borrow.Author.Tests.{eqb-true}
+use Rattle.language.specs.Measure.{measureS}
 use Rattle.language.specs.Program.{flatTyped, flatDecl, flatS, flatItems, flatArms, flatTarget, flatE, flatEs, deepHead, deepS, deepItems, deepArms, deepTarget, deepE, deepEs}
 use Rattle.words.specs.Choice.{if_then_else_}
 use Rattle.values.specs.Operators.{negate, plus, unaryCode, binaryCode, unaryOf, binaryOf}
@@ -117,7 +118,7 @@ arms-flat (lastArm s) = sym (append-nil (flatS s))
 arms-flat (arm s a) = refl
 
 arms-deep : (a : Arms) → deepArms a ≡ max (deepS (firstArm a)) (deepRest a)
-unfolding deepS firstArm deepRest
+unfolding measureS firstArm deepRest
 arms-deep (lastArm s) = omega arith
 arms-deep (arm s a) = refl
 
@@ -132,7 +133,7 @@ module _ {r : Below} {d : ℕ} (G : Reads r d) where
   takes-head ds h = takes-leaves flatDecl (G .decl) ds (rw (deep-head ds) at h)
 
   takes-parts : (is : Items) → Fits d (flatItems is) (deepItems is) → Takes (T.repeated (countItems is) (r .part)) (flatItems is) (partsOf is)
-  unfolding flatS deepS countItems partsOf
+  unfolding flatS measureS countItems partsOf
   takes-parts noItem h = takes-none (r .part)
   takes-parts (label a is) h = takes-more (countItems is) h (G .part (labelPart a)) (takes-parts is)
   takes-parts (item s is) h = takes-more (countItems is) h (G .part (stmtPart s)) (takes-parts is)
@@ -142,7 +143,7 @@ module _ {r : Below} {d : ℕ} (G : Reads r d) where
   takes-items is h = takes-as (takes-made itemsOf (takes-parts is h)) (parts-back is)
 
   takes-list : (es : Exprs) → Fits d (flatEs es) (deepEs es) → Takes (T.repeated (countExprs es) (r .expr)) (flatEs es) (exprList es)
-  unfolding flatS deepS countExprs exprList
+  unfolding flatS measureS countExprs exprList
   takes-list noExpr h = takes-none (r .expr)
   takes-list (expr e es) h = takes-more (countExprs es) h (G .expr e) (takes-list es)
 
@@ -163,7 +164,7 @@ module _ {r : Below} {d : ℕ} (G : Reads r d) where
       rw (arms-flat a) (takes-as (takes-three (λ x s ss. select x (armsOf s ss)) k (G .expr e) (G .stmt (firstArm a)) (takes-rest a)) (rw (arms-back a)))
 
   takes-stmt : (s : Stmt) → Fits (suc d) (flatS s) (deepS s) → Takes (first (formS r)) (flatS s) s
-  unfolding formS flatS deepS
+  unfolding formS flatS measureS
   takes-stmt (block ds is) h = takes-first (formS r) h (λ k. takes-two block k (takes-head ds) (takes-items is))
   takes-stmt (assign x e) h = takes-first (formS r) h (λ k. takes-two assign k (G .target x) (G .expr e))
   takes-stmt (when e s) h = takes-first (formS r) h (λ k. takes-two when k (G .expr e) (G .stmt s))
@@ -176,12 +177,12 @@ module _ {r : Below} {d : ℕ} (G : Reads r d) where
   takes-stmt (select e a) h = takes-first (formS r) h (takes-select e a)
 
   takes-target : (x : Target) → Fits (suc d) (flatTarget x) (deepTarget x) → Takes (first (formTarget r)) (flatTarget x) x
-  unfolding formTarget flatS deepS
+  unfolding formTarget flatS measureS
   takes-target (toVariable a) h = takes-first (formTarget r) h (λ k. takes-here)
   takes-target (toField a e) h = takes-first (formTarget r) h (λ k. takes-made (toField a) (G .expr e k))
 
   takes-expr : (e : Expr) → Fits (suc d) (flatE e) (deepE e) → Takes (first (formE r)) (flatE e) e
-  unfolding formE flatS deepS
+  unfolding formE flatS measureS
   takes-expr (number z) h = takes-first (formE r) h (λ k. takes-here)
   takes-expr (truth false) h = takes-first (formE r) h (λ k. takes-here)
   takes-expr (truth true) h = takes-first (formE r) h (λ k. takes-here)
@@ -231,7 +232,7 @@ takes-part {r} G (stmtPart s) h = takes-done r (takes-stmt G s h)
 
 -- ── no part has no entry ──
 pos-stmt : (s : Stmt) → 1 ≤ deepS s
-unfolding deepS
+unfolding measureS
 pos-stmt s =
     elim s [
       | block ds is ↦ omega arith
@@ -247,12 +248,12 @@ pos-stmt s =
     ]
 
 pos-target : (x : Target) → 1 ≤ deepTarget x
-unfolding deepS
+unfolding measureS
 pos-target (toVariable a) = omega arith
 pos-target (toField a e) = omega arith
 
 pos-expr : (e : Expr) → 1 ≤ deepE e
-unfolding deepS
+unfolding measureS
 pos-expr e =
     elim e [
       | number z ↦ omega arith

@@ -4,6 +4,7 @@ use mathlib.Core.List.{List, [], _∷_, _++_}
 use Prim.Native.Nat.{ℕ, suc, _+_, _≤_, max}
 use native.Mathlib.Omega.{arith}
 use lib.ListN.{length, length-append}
+use Rattle.language.specs.Measure.{measureS}
 use Rattle.language.specs.Program.{deepS, deepItems, deepArms, deepTarget, deepE, deepEs, deepBody, deepGlobal, deepGlobals, nesting, total}
 use Rattle.language.specs.Tree.{Stmt, block, assign, when, choose, while, goto, assert, call, setLevel, select, Items, noItem, label, item, Arms, lastArm, arm, Target, toVariable, toField, Expr, number, truth, pattern, null, variable, invoke, field, make, operate1, operate2, conditional, fader, blockExpr, Exprs, noExpr, expr, Body, proper, function, Global, local, class, procedure, Tree}
 use Rattle.language.specs.Faults.{sizeS, sizeItems, sizeArms, sizeTarget, sizeE, sizeEs, sizeBody, sizeGlobal}
@@ -27,7 +28,7 @@ size-leaves (x ∷ []) = omega arith
 size-leaves (x ∷ y ∷ xs) = omega (arith, size-leaves (y ∷ xs))
 
 mutual
-  unfolding size height outlineS sizeS deepS
+  unfolding size height outlineS measureS
 
   pub size-stmt : (s : Stmt) → Sized (outlineS s) (sizeS s) (deepS s)
   size-stmt (block ds is) = omega (arith, size-leaves ds, deep-head ds, size-items is)

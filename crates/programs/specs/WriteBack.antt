@@ -11,6 +11,7 @@ use lib.ListN.{length}
 use borrow.Author.Tests.{eqb-true, leb-true}
 use Rattle.values.specs.Arithmetic.{isZero}
 use Rattle.values.specs.Values.{between}
+use Rattle.language.specs.Measure.{measureS}
 use Rattle.language.specs.Program.{flatTyped, flatDecl, flag, flatS, flatItems, flatArms, flatTarget, flatE, flatEs, deepHead, deepS, deepItems, deepArms, deepTarget, deepE, deepEs}
 use Rattle.words.specs.Options.{isSome}
 use Rattle.words.specs.Choice.{if_then_else_}
@@ -160,7 +161,7 @@ module _ {r : Below} {d : ℕ} (G : Gives r d) where
   yields-head n = yields-times (IsHead d) kept-none (λ us vs x xs a b. kept-leaf a b) (G .decl) n
 
   pub yields-items : (n : ℕ) → Yields (made itemsOf (T.repeated n (r .part))) (λ us is. IsItems d us is × (countItems is ≡ n))
-  unfolding itemsOf flatS deepS
+  unfolding itemsOf flatS measureS
   yields-items n =
       yields-made itemsOf (yields-times (λ us ps. IsItems d us (itemsOf ps)) kept-none more (G .part) n)
       (λ us ps a. (a .0, count-items ps ∙ a .1))
@@ -170,17 +171,17 @@ module _ {r : Below} {d : ℕ} (G : Gives r d) where
       more us vs (stmtPart s) ps a b = kept-join a b
 
   yields-exprs : (n : ℕ) → Yields (made exprsOf (T.repeated n (r .expr))) (λ us es. IsExprs d us es × (countExprs es ≡ n))
-  unfolding exprsOf flatS deepS
+  unfolding exprsOf flatS measureS
   yields-exprs n =
       yields-made exprsOf (yields-times (λ us es. IsExprs d us (exprsOf es)) kept-none (λ us vs x xs a b. kept-join a b) (G .expr) n)
       (λ us es a. (a .0, count-exprs es ∙ a .1))
 
   yields-arms : (n : ℕ) → Yields (T.repeated n (r .stmt)) (λ us ss. IsMore d us ss × (length ss ≡ n))
-  unfolding armsOf flatS deepS
+  unfolding armsOf flatS measureS
   yields-arms n = yields-times (IsMore d) (λ t vs k. rw (append-nil vs) k) (λ us vs x xs a b t ws k. kept-join k (b x us a)) (G .stmt) n
 
   stmt-yields : (e : Entry) → inLayout e ≡ true → Yields (formS r e) (λ us s. IsStmt (suc d) (e ∷ us) s)
-  unfolding formS flatS deepS inLayout
+  unfolding formS flatS measureS inLayout
   stmt-yields e l =
       kind-if e 1 l (λ q m. yields-two block (yields-head (e .a)) (yields-items (natAbs (e .b))) (λ us vs x y a b. kept-cons l (counted-is e q m (a .1) (b .1)) (kept-join (a .0) (b .0))))
       (kind-if e 21 l (λ q m. yields-two assign (G .target) (G .expr) (λ us vs x y a b. kept-cons l (plain-is e q m) (kept-join a b)))
@@ -206,7 +207,7 @@ module _ {r : Below} {d : ℕ} (G : Gives r d) where
       (yields-made stmtPart (stmt-yields e l) (λ us s a. a))
 
   yields-target : Yields (first (formTarget r)) (IsTarget (suc d))
-  unfolding formTarget flatS deepS inLayout
+  unfolding formTarget flatS measureS inLayout
   yields-target =
       yields-first (formTarget r) λ e l.
       kind-if e 44 l (λ q m. yields-here (kept-cons l (named-is e q true m (λ t. refl)) kept-none))
@@ -214,7 +215,7 @@ module _ {r : Below} {d : ℕ} (G : Gives r d) where
       yields-stop)
 
   yields-expr : Yields (first (formE r)) (IsExpr (suc d))
-  unfolding formE flatS deepS inLayout
+  unfolding formE flatS measureS inLayout
   yields-expr =
       yields-first (formE r) λ e l.
       kind-if e 40 l (λ q m. yields-here (kept-cons l (entry-is e q (eqb-true (e .a) 0 m) refl) kept-none))

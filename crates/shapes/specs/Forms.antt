@@ -9,6 +9,7 @@ use native.Mathlib.Omega.{arith}
 use lib.Dec.{eqb}
 use lib.IntN.{pos}
 use lib.ListN.{length}
+use Rattle.language.specs.Measure.{measureS}
 use Rattle.language.specs.Program.{flatDecl, flag, flatS, flatItems, flatArms, flatTarget, flatE, flatEs, deepHead, deepS, deepItems, deepArms, deepTarget, deepE, deepEs}
 use Rattle.values.specs.Types.{Ty, integer, logical}
 use Rattle.values.specs.Ends.{Refusal}
@@ -296,12 +297,12 @@ target-flat (toVariable a) = refl
 target-flat (toField a e) = refl
 
 target-size : (x : Target) → sizeTarget x ≡ sizeE (asExpr x)
-unfolding sizeTarget sizeE
+unfolding measureS
 target-size (toVariable a) = refl
 target-size (toField a e) = refl
 
 target-deep : (x : Target) → deepTarget x ≡ deepE (asExpr x)
-unfolding deepTarget deepE
+unfolding measureS
 target-deep (toVariable a) = refl
 target-deep (toField a e) = refl
 
@@ -326,7 +327,7 @@ arms-count (lastArm s) = refl
 arms-count (arm s r) = ap suc (arms-count r)
 
 arms-deep : (r : Arms) → deepItems (armItems r) ≤ deepArms r
-unfolding deepItems deepArms armItems
+unfolding measureS armItems
 arms-deep (lastArm s) = omega arith
 arms-deep (arm s r) = omega (arith, arms-deep r)
 
@@ -370,7 +371,7 @@ flat-E (fader e) = rw (append-nil (flatE e))
 flat-E (blockExpr ds is e) = refl
 
 pub deep-S : (s : Stmt) → deepF (formS s) ≤ deepS s
-unfolding deepS deepEs deepItems
+unfolding measureS
 deep-S (block ds is) = omega arith
 deep-S (assign x e) = omega (arith, target-deep x)
 deep-S (when e s) = omega arith
@@ -383,7 +384,7 @@ deep-S (setLevel e f) = omega arith
 deep-S (select e r) = omega (arith, arms-deep r)
 
 pub deep-E : (e : Expr) → deepF (formE e) ≤ deepE e
-unfolding deepE deepEs
+unfolding measureS
 deep-E (number z) = omega arith
 deep-E (truth b) = omega arith
 deep-E (pattern z) = omega arith

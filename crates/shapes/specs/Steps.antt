@@ -12,7 +12,8 @@ use lib.IntN.{pos}
 use lib.ListN.{length, drop, take, getD, length-append, length-drop}
 use lib.Seq.{take-all, drop-drop}
 use borrow.Author.Tests.{ne-eqb}
-use Rattle.language.specs.Program.{flatDecl, flatS, flatItems, flatE, flatEs, deepItems, deepE, deepEs}
+use Rattle.language.specs.Measure.{measureS}
+use Rattle.language.specs.Program.{flatDecl, flatS, flatItems, flatE, flatEs, deepItems, deepE}
 use Rattle.words.specs.Choice.{if_then_else_}
 use Rattle.words.specs.Numbers.{halfAt, wordAt}
 use Rattle.values.specs.Types.{Ty, integer, logical}
@@ -151,7 +152,7 @@ pub record NextE (left : Exprs) (ss : List Scope) (l rest : List ℕ) (nesting p
   pub ready : Ready (formE this) ss [] l rest nesting place sizes env top
 
 next-e : (left : Exprs) (ss : List Scope) {l rest : List ℕ} {n nesting place : ℕ} {sizes env : List ℕ} {top : ℕ} → ReadyEs left ss l rest n nesting place sizes env top → 0 < n → NextE left ss l rest nesting place sizes env top
-unfolding countExprs flatEs deepEs
+unfolding countExprs flatEs measureS
 next-e noExpr ss r h = absurd (omega (arith, r .many))
 next-e (expr e es) ss {l} {rest} {n} {nesting} {place} {sizes} {env} {top} r h =
     record {
@@ -183,7 +184,7 @@ es-moves : {es : Exprs} {ss : List Scope} {l rest : List ℕ} {count nesting at 
     (x : NextE (g .left) ss l rest nesting place sizes env (top + i)) {mid new : List ℕ} {r : Verdict} (t n : ℕ) → Typed ExprForm l rest nesting place sizes env mid (top + i) r → r ≡ Fine t → n ≡ getD sizes place 0
     → Grown (top + i) mid new (top + i + 1) (pushed value 0 t 0 ∷ envOf mid (top + i)) 1 → n ≡ sizeE (x .this) → t ≡ tyNum (typeE ss (x .this))
     → Going es ss l (take (length rest - 8 * n) (drop (8 * n) rest)) count nesting at sizes new top (place + n) (i + 1)
-unfolding faultsEs typesOf countExprs flatEs deepEs values
+unfolding faultsEs typesOf countExprs flatEs measureS values
 es-moves {es} {ss} {l} {rest} {count} {nesting} {at} {sizes} {env} {top} {place} {i} g x {mid} {new} {r} t n y e k w size type =
     let q = rw (x .is) at (g .ready) in
     let v = above-is top i t env w (y .kept) in
@@ -309,7 +310,7 @@ pub record NextI (is : Items) (ss : List Scope) (seen l rest : List ℕ) (nestin
 
 next-i : (is : Items) (ss : List Scope) (seen : List ℕ) {l rest : List ℕ} {nesting place : ℕ} {sizes env : List ℕ} {top left : ℕ} → ReadyItems is ss seen l rest left nesting place sizes env top → 0 < left
     → NextI is ss seen l rest nesting place sizes env top left
-unfolding countItems flatItems deepItems bulk OnceItems faultsItems
+unfolding countItems flatItems measureS bulk OnceItems faultsItems
 next-i noItem ss seen r h = absurd (omega (arith, r .many))
 next-i (label a is) ss seen {l} {rest} {nesting} {place} {sizes} {env} {top} r h =
     record {

@@ -9,6 +9,7 @@ use lib.IntN.{pos}
 use lib.ListN.{length, length-append, length-replicate, length-map}
 use lib.Seq.{drop-at}
 use borrow.Author.Tests.{lt-ltb, le-ltb}
+use Rattle.language.specs.Measure.{measureS}
 use Rattle.language.specs.Program.{flatTyped, flatDecl, flag, flatS, flatItems, flatArms, flatTarget, flatE, flatEs, deepHead, deepS, deepItems, deepArms, deepTarget, deepE, deepEs}
 use Rattle.words.specs.Choice.{if_then_else_}
 use Rattle.values.specs.Operators.{unaryCode, binaryCode}
@@ -41,7 +42,7 @@ usedD x = used 1 1 (declCells x) (declHolds x)
 
 -- every part needs at least 1
 mutual
-  unfolding needS
+  unfolding measureS
 
   pub needs-S : (x : Stmt) → 1 ≤ needS x
   needs-S (block ds is) = needs-items is
@@ -252,7 +253,7 @@ module _ (d k : ℕ) (ds : List Decl) (is : Items) (s : stacks k ≡ false) (h :
 
 uses-block : (d : ℕ) (ds : List Decl) (is : Items) → 1 ≤ d → deepHead ds ≤ d - 1 → length (flatItems is) ≡ sizeItems is → ThroughItems (d - 1) is
     → Uses (usageAt d) (flatS (block ds is)) (usedS (block ds is))
-unfolding flatS sizeS needS cellsS holdsS headOf sorts stacks aloneOf through
+unfolding flatS measureS headOf sorts stacks aloneOf through
 uses-block d ds is l h z go =
     let n : length (sorts 1 (length ds) (countItems is)) ≡ length ds + (countItems is + 0) = simp (length-append, length-replicate) (omega arith) in
     uses-entry d (entry 1 (length ds) (pos (countItems is))) l (omega (arith, length-append (map flatDecl ds) (flatItems is), length-map ds flatDecl))
@@ -260,7 +261,7 @@ uses-block d ds is l h z go =
 
 uses-body : (d : ℕ) (ds : List Decl) (is : Items) (e : Expr) → 1 ≤ d → deepHead ds ≤ d - 1 → length (flatItems is) ≡ sizeItems is → ThroughItems (d - 1) is
     → Uses (usageAt (d - 1)) (flatE e) (usedE e) → Uses (usageAt d) (flatE (blockExpr ds is e)) (usedE (blockExpr ds is e))
-unfolding flatS sizeS needS cellsS holdsS headOf sorts stacks aloneOf through
+unfolding flatS measureS headOf sorts stacks aloneOf through
 uses-body d ds is e l h z go a =
     let n : length (sorts 53 (length ds) (countItems is)) ≡ length ds + (countItems is + 1) = simp (length-append, length-replicate) (omega arith) in
     uses-entry d (entry 53 (length ds) (pos (countItems is))) l
@@ -281,7 +282,7 @@ uses-list d e es l flat bare n z go =
 uses-case : (d : ℕ) (e : Expr) (r : Arms) → 1 ≤ d → Uses (usageAt (d - 1)) (flatE e) (usedE e) → length (flatArms r) ≡ sizeArms r
     → ((i : ℕ) (u : Used) (rest : List Entry) → 1 ≤ u .need → through (usageAt (d - 1)) 30 0 (countArms r) i 0 u (flatArms r ++ rest) ≡ Of (withArms u r))
     → Uses (usageAt d) (flatS (select e r)) (usedS (select e r))
-unfolding flatS sizeS needS cellsS holdsS headOf sorts stacks aloneOf
+unfolding flatS measureS headOf sorts stacks aloneOf
 uses-case d e r l a z go =
     let n : length (sorts 30 (countArms r) 0) ≡ suc (countArms r) = ap suc (length-replicate _ _) in
     uses-entry d (entry 30 (countArms r) (pos 0)) l (omega (arith, a .size, length-append (flatE e) (flatArms r)))
@@ -291,7 +292,7 @@ uses-case d e r l a z go =
     ∙ ap Of (used-same (omega arith) (omega arith) (omega arith) (omega arith))))
 
 mutual
-  unfolding flatS deepS sizeS needS cellsS holdsS countItems countArms countExprs headOf sorts stacks aloneOf
+  unfolding flatS measureS countItems countArms countExprs headOf sorts stacks aloneOf
 
   pub uses-S : (x : Stmt) (d : ℕ) → deepS x ≤ d → Uses (usageAt d) (flatS x) (usedS x)
   uses-S (block ds is) d h =
