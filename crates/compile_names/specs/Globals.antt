@@ -14,7 +14,7 @@ use Rattle.values.specs.Types.{Ty}
 use Rattle.values.specs.Ends.{Refusal}
 use Rattle.language.specs.Tree.{Typed, Decl, declare, holding, Items, Body, proper, function, Global, local, class, procedure, Tree, locals}
 use Rattle.language.specs.Names.{Sort, isVariable, isLabel, isClass, isField, isProcedure, Definition, types, results, definesTyped, definesHead, definesFields, definesGlobals, Scope, blockOf, expressionOf, procedureOf, rootOf, Found, nowhere, found, firstOf, otherwise, across, lookup}
-use Rattle.language.specs.Faults.{isTy, typeE, mistypedUnless, twice, faultsTyped, namesHead, namesTyped, namesGlobal, bodyFits, faultsBody, faultsGlobal, faultsGlobals, faultsItems, faults, sizeGlobal}
+use Rattle.language.specs.Faults.{typeE, mistypedUnless, twice, faultsTyped, namesHead, namesTyped, namesGlobal, bodyFits, faultsBody, faultsGlobal, faultsGlobals, faultsItems, faults, sizeGlobal}
 use Rattle.language.specs.Execute.{Procedure, procedureIn, classIn}
 use Rattle.loading.specs.Tests.{never, neither}
 use Rattle.compile_code.specs.Compile.{indexOf, amongNames, namesOf, Class, classesOf, classNames, Proc, procsOf, procNames, fieldIn}

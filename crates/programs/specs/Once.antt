@@ -6,10 +6,9 @@ use Prim.Native.Nat.{ℕ, suc}
 use lib.Dec.{eqb}
 use borrow.Author.Tests.{eqb-true, eqb-false, eq-eqb, ne-eqb}
 use Rattle.words.specs.Lists.{among}
-use Rattle.words.specs.Choice.{if_then_else_}
 use Rattle.values.specs.Types.{Ty}
-use Rattle.language.specs.Tree.{Typed, Decl, declare, holding, Items, noItem, label, item}
-use Rattle.language.specs.Names.{Sort, isVariable, isLabel, isField, Definition, define, definesTyped, definesHead, definesItems, definesFields, Found, nowhere, found, firstOf}
+use Rattle.language.specs.Tree.{Typed, Decl, declare, holding}
+use Rattle.language.specs.Names.{Sort, isVariable, isField, Definition, define, definesTyped, definesHead, definesFields, nowhere, found, firstOf}
 use Rattle.language.specs.Faults.{twice, typeFaults, faultsTyped, faultsHead, namesHead, namesTyped}
 use Rattle.language.specs.Formed.{Blocks, IsType, Declared, Defines, d-none, d-more}
 use Rattle.programs.specs.Basics.{clash}

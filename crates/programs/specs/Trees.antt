@@ -7,7 +7,6 @@ use lib.Dec.{leb}
 use lib.ListN.{length}
 use borrow.Author.Tests.{leb-true, le-leb, not-false}
 use Rattle.words.specs.Lists.{among}
-use Rattle.values.specs.Types.{Ty}
 use Rattle.values.specs.Ends.{Refusal}
 use Rattle.language.specs.Tree.{Typed, Decl, declare, holding, Body, proper, function, Global, local, class, procedure, Tree}
 use Rattle.language.specs.Names.{isVariable, isClass, isField, isProcedure, Definition, define, types, results, definesTyped, definesHead, definesFields, definesItems, definesGlobals, procedureOf, rootOf}
