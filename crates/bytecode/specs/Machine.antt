@@ -17,7 +17,8 @@ use Rattle.values.specs.Arithmetic.{Outcome, gives, ends, mistyped}
 use Rattle.values.specs.Values.{Value, int, ref, tyOf, tysOf, asInteger, asLogical, asReference, Cell, assigned, freshAll, between, size, apply1, apply2}
 use Rattle.values.specs.Trace.{set, hold, release, Item, event, reading}
 use Rattle.bytecode.specs.Macro.{Body, Macro}
-use Rattle.bytecode.specs.Instructions.{Owner, own, root, Instr, end, push, load, store, operate, go, goUnless, call, return, make, getField, putField, setLevel, readFader, takeHold, letHold, assert, stop, inBody, instrAt, cellTy, fieldTy, known, procedureAt}
+use Rattle.bytecode.specs.Instructions.{Owner, own, root, Instr, end, push, load, store, operate, go, goUnless, call, return, make, getField, putField, setLevel}
+use Rattle.bytecode.specs.Instructions.{readFader, takeHold, letHold, assert, stop, inBody, instrAt, cellTy, fieldTy, known, procedureAt}
 
 -- ── states ──
 -- "activations from the root up: body, address, cells, working stack, holds, each value with its type"

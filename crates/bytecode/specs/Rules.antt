@@ -12,7 +12,8 @@ use Rattle.values.specs.Ends.{refusal, Judged, accepted, refused}
 use Rattle.values.specs.Operators.{Operator, unary, binary, opType}
 use Rattle.values.specs.Values.{Value, tyOf}
 use Rattle.bytecode.specs.Macro.{Body, Shape, shape, Macro, shapeIn, readMacro}
-use Rattle.bytecode.specs.Instructions.{Owner, own, root, Instr, end, push, load, store, operate, go, goUnless, call, return, make, getField, putField, setLevel, readFader, takeHold, letHold, assert, stop, bodyAt, inBody, instrAt, cellTy, fieldTy, known, procedureAt}
+use Rattle.bytecode.specs.Instructions.{Owner, own, root, Instr, end, push, load, store, operate, go, goUnless, call, return, make, getField, putField, setLevel}
+use Rattle.bytecode.specs.Instructions.{readFader, takeHold, letHold, assert, stop, bodyAt, inBody, instrAt, cellTy, fieldTy, known, procedureAt}
 
 -- ── bodies and addresses ──
 -- the body that an address stands in: the last that begins at it or before

@@ -6,10 +6,10 @@ use lib.ListN.{length}
 use Rattle.values.specs.Ends.{refusal, Judged, accepted, refused}
 use Rattle.language.specs.Tree.{Tree}
 use Rattle.language.specs.Judge.{judgeTable, compileOn}
-use Rattle.programs.specs.Basics.{clash}
-use Rattle.table.specs.Checked.{checkedOf}
-use Rattle.table.specs.declared.Checked.the-variants.{Accepted}
-use Rattle.table.specs.declared.Checked.the-variants as checked
+use Rattle.language_laws.specs.Basics.{clash}
+use Rattle.table_check.specs.Checked.{checkedOf}
+use Rattle.table_check.specs.declared.Checked.the-variants.{Accepted}
+use Rattle.table_check.specs.declared.Checked.the-variants as checked
 use Rattle.compile_code.specs.Encode.{macroOf}
 use Rattle.compile.specs.declared.Compiled.{Compiled}
 use Rattle.compile.specs.declared.Compiled.the-variants.{Done, Refused}

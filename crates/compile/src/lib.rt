@@ -1,10 +1,10 @@
 // Compiles a table: the check, what its definitions stand for, a dry walk that finds the places of its code and the length of its macro
 // (refusal 7), and the walk that writes it.
-use compile_pen::Pen;
+use compile_output::Pen;
 use formats::compiled::*;
 use formats::entries::*;
 use formats::limits::*;
-use table::Checked;
+use table_check::Checked;
 ghost use mathlib.Core.Path.{_≡_};
 ghost use Prim.Native.Nat.{_≤_};
 ghost use lib.ListN.{length};
@@ -66,13 +66,13 @@ fn write(
         out,
         pen(0, 0, true),
     );
-    let front = compile_heads::length(table, classes, bodies);
+    let front = compile_front::length(table, classes, bodies);
     let shapes = front + CODE_BYTES * dry.address;
     let length = shapes + dry.sh + END_BYTES;
     if out.len() < length {
         return Compiled::Refused(7, 0);
     }
-    compile_heads::put(
+    compile_front::put(
         table,
         count,
         after,
@@ -117,12 +117,12 @@ fn compile_in(
     requires { ⌜ AsksCompile (now table) (now sizes) (now env) (now known) (now aims) (now ends) ⌝ }
     ensures { λ r. ⌜ compileOn macroOf (now (table .entry)) (now (out .entry)) ≡ record { verdict = verdictOf r; bytes = now (out .exit) } ⌝ }
 {
-    spans::measure(table, sizes);
+    table_scopes::measure(table, sizes);
     let count = words::half_at(table, A_AT) as usize;
     let items = words::word_at(table, B_AT) as usize;
-    let after = 1 + spans::spanned(table, sizes, 1, count);
-    let top = heads::enter_root(table, count, after, items, sizes, env);
-    let n = compile_known::number_all(table, count, sizes, known);
+    let after = 1 + table_scopes::spanned(table, sizes, 1, count);
+    let top = table_scopes::enter_root(table, count, after, items, sizes, env);
+    let n = compile_symbols::number_all(table, count, sizes, known);
     let mut stack = [0u8; MAX_OPERANDS];
     write(
         table,
@@ -199,7 +199,7 @@ fn compile_accepted(table: &[u8], out: &mut [u8]) -> Compiled
 pub fn compile(table: &[u8], out: &mut [u8]) -> Compiled
     ensures { λ r. ⌜ compileOn macroOf (now (table .entry)) (now (out .entry)) ≡ record { verdict = verdictOf r; bytes = now (out .exit) } ⌝ }
 {
-    match table::check(table) {
+    match table_check::check(table) {
         Checked::Accepted => compile_accepted(table, out),
         Checked::Refused(number, place) => Compiled::Refused(number, place),
     }

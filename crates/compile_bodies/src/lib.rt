@@ -1,5 +1,5 @@
 // The code of the root and of the procedures, one after the other.
-use compile_pen::Pen;
+use compile_output::Pen;
 use formats::compiled::*;
 use formats::entries::*;
 use formats::limits::*;
@@ -9,9 +9,9 @@ ghost use Prim.Native.Nat.{_≤_};
 ghost use lib.ListN.{length};
 ghost use Rattle.language.specs.Tree.{locals};
 ghost use Rattle.language.specs.Limits.{headHolds};
-ghost use Rattle.compile_pen.specs.Ink.{Fits};
-ghost use Rattle.compile_pen.specs.Folds.{penAfter, inked, within};
-ghost use Rattle.compile_known.specs.Tabled.{theTree, Headed};
+ghost use Rattle.compile_output.specs.Ink.{Fits};
+ghost use Rattle.compile_output.specs.Folds.{penAfter, inked, within};
+ghost use Rattle.compile_symbols.specs.Tabled.{theTree, Headed};
 ghost use Rattle.compile_whole.specs.Heads.{rootHead};
 ghost use Rattle.compile_whole.specs.Stage.{Prepared, lentOf};
 ghost use Rattle.compile_whole.specs.Declares.{holdsOf};
@@ -36,9 +36,9 @@ fn declare_globals(
     let mut p = pen;
     while 0 < left {
         let from = ENTRY_BYTES * place;
-        let k = compile_known::known_at(known, place);
-        p = compile_own::declare_one(&table[from..], k, out, p);
-        place += spans::size_at(sizes, place);
+        let k = compile_symbols::known_at(known, place);
+        p = compile_emit::declare_one(&table[from..], k, out, p);
+        place += table_scopes::size_at(sizes, place);
         left -= 1;
     }
     p
@@ -59,8 +59,8 @@ fn root_holds(table: &[u8], count: usize, sizes: &[u16]) -> usize
     let mut left = count;
     let mut n = 0;
     while 0 < left {
-        n += holds_of(spans::kind_at(table, place));
-        place += spans::size_at(sizes, place);
+        n += holds_of(table_scopes::kind_at(table, place));
+        place += table_scopes::size_at(sizes, place);
         left -= 1;
     }
     n
@@ -106,8 +106,8 @@ fn root(
         out,
         p,
     );
-    let r = compile_pen::releases(out, q, held);
-    compile_own::finish(ends, 0, compile_pen::emit(out, r, OP_END, 0, 0))
+    let r = compile_output::releases(out, q, held);
+    compile_emit::finish(ends, 0, compile_output::emit(out, r, OP_END, 0, 0))
 }
 
 // A procedure: its parameters' names behind a wall, its body, and the return.
@@ -130,8 +130,8 @@ fn procedure(
 {
     let heading = words::word_at(part, B_AT);
     let parameters = heading as usize / 256;
-    scopes::push(env, top, 65537, 0, 0, 0);
-    let up = heads::add_head(table, at + 1, parameters, 4, env, top + 1);
+    table_scopes::push(env, top, 65537, 0, 0, 0);
+    let up = table_scopes::add_head(table, at + 1, parameters, 4, env, top + 1);
     let from = ENTRY_BYTES * (1 + parameters);
     if heading % 256 == 0 {
         let p = compile_walk::statement(
@@ -151,7 +151,7 @@ fn procedure(
             out,
             pen,
         );
-        return compile_own::finish(ends, at, compile_pen::emit(out, p, OP_RETURN, 0, 0));
+        return compile_emit::finish(ends, at, compile_output::emit(out, p, OP_RETURN, 0, 0));
     }
     let p = compile_walk::expression(
         table,
@@ -170,7 +170,7 @@ fn procedure(
         out,
         pen,
     );
-    compile_own::finish(ends, at, compile_pen::emit(out, p, OP_RETURN, 0, 0))
+    compile_emit::finish(ends, at, compile_output::emit(out, p, OP_RETURN, 0, 0))
 }
 
 // A declaration of the root: only a procedure has code of its own.
@@ -245,7 +245,7 @@ fn procedures(
             out,
             p,
         );
-        place += spans::size_at(sizes, place);
+        place += table_scopes::size_at(sizes, place);
         left -= 1;
     }
     p

@@ -11,14 +11,14 @@ use lib.ListN.{length, length-append, length-map, length-reverse}
 use lib.Seq.{sets}
 use Rattle.values.specs.Types.{tyByte}
 use Rattle.language.specs.Tree.{Tree}
-use Rattle.loading.specs.Terms.{Each}
+use Rattle.bytecode_laws.specs.Terms.{Each}
 use Rattle.bytecode.specs.Macro.{Shape, Placed}
 use Rattle.bytecode.specs.Instructions.{Instr}
 use Rattle.compile_code.specs.Code.{Code, op, _▸_, at, after, Line, line, placed, placedAt}
 use Rattle.compile_code.specs.Compile.{Proc, procsOf}
 use Rattle.compile_code.specs.Encode.{Part, codeRoot, codeProc, procParts, parts, linesOf, recordOf, recordsOf, codeBytes, shapeBytes, each}
-use Rattle.compile_pen.specs.declared.Pen.{Pen}
-use Rattle.compile_pen.specs.Folds.{penAfter, inked}
+use Rattle.compile_output.specs.declared.Pen.{Pen}
+use Rattle.compile_output.specs.Folds.{penAfter, inked}
 use Rattle.compile_bytes.specs.Stores.{sets-join, sets-comm, each-length}
 use Rattle.compile_bytes.specs.Lines.{past, noted, waitsAfter, penLine, inkLine, penEarly, inkedEarly, early-waits, early-dry, pen-early, inked-early, penLines, inkLines, pen-lines, ink-lines}
 

@@ -11,9 +11,9 @@ use Rattle.bytecode.specs.Macro.{Shape}
 use Rattle.bytecode.specs.Instructions.{Instr}
 use Rattle.compile_code.specs.Code.{Code, nil, op, mark, cell, _▸_, Line, lay, first}
 use Rattle.compile_code.specs.Encode.{recordOf, codeBytes, shapeBytes}
-use Rattle.compile_pen.specs.declared.Pen.{Pen}
-use Rattle.compile_pen.specs.Ink.{moved, penMarked}
-use Rattle.compile_pen.specs.Folds.{penAfter, inked}
+use Rattle.compile_output.specs.declared.Pen.{Pen}
+use Rattle.compile_output.specs.Ink.{moved, penMarked}
+use Rattle.compile_output.specs.Folds.{penAfter, inked}
 
 -- ── a shape that waits ──
 -- the pen and the output once it is written

@@ -8,13 +8,13 @@ use lib.ListN.{length}
 use Rattle.values.specs.Types.{Ty}
 use Rattle.language.specs.Tree.{Tree}
 use Rattle.bytecode.specs.Macro.{Body, Placed}
-use Rattle.loading.specs.Terms.{Each, ReadClass}
+use Rattle.bytecode_laws.specs.Terms.{Each, ReadClass}
 use Rattle.compile_records.specs.Writing.{Writable, SmallBody, SmallShape}
 use Rattle.compile_code.specs.Code.{Code}
 use Rattle.compile_code.specs.Encode.{parts, linesOf, compiled, macroOf}
-use Rattle.compile_pen.specs.declared.Pen.{Pen}
-use Rattle.compile_pen.specs.Ink.{Fits}
-use Rattle.compile_pen.specs.Folds.{penAfter, inked, Later, later-self, later-trans, grows, fits-before, within, pen-within, inked-within}
+use Rattle.compile_output.specs.declared.Pen.{Pen}
+use Rattle.compile_output.specs.Ink.{Fits}
+use Rattle.compile_output.specs.Folds.{penAfter, inked, Later, later-self, later-trans, grows, fits-before, within, pen-within, inked-within}
 use Rattle.compile_bytes.specs.Bytes.{penAll, inkedAll, codesOf, records-length, placed-few, shapes-short}
 use Rattle.compile_bytes.specs.Whole.{front, classesLength, bodiesLength, front-length, macro-length, measured}
 

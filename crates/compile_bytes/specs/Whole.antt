@@ -12,7 +12,7 @@ use Rattle.language.specs.Tree.{Tree}
 use Rattle.bytecode.specs.Macro.{Body, Macro}
 use Rattle.compile_code.specs.Code.{placed}
 use Rattle.compile_code.specs.Encode.{parts, linesOf, compiled, classBytes, bodyBytes, codeBytes, shapeBytes, each, macroBytes, macroOf}
-use Rattle.compile_pen.specs.declared.Pen.{Pen}
+use Rattle.compile_output.specs.declared.Pen.{Pen}
 use Rattle.compile_bytes.specs.Stores.{sets-join, each-end, each-length}
 use Rattle.compile_bytes.specs.Bytes.{codeIn, shapesIn, records-length, Comes, penAll, inkedAll, codesOf, closed-parts, bodies-pen, bodies-inked}
 

@@ -12,7 +12,9 @@ use Rattle.values.specs.Types.{Ty, integer, logical, bits, reference}
 use Rattle.values.specs.Operators.{Operator, unary, binary, Unary, Binary, plus, minus, times, divide, remainder, less, atMost, greater, atLeast, equal, unequal, both, either, shiftLeft, shiftRight}
 use Rattle.values.specs.Ends.{caseIndex}
 use Rattle.values.specs.Values.{Value, int, log, bit, ref, initial}
-use Rattle.language.specs.Tree.{Typed, Decl, declare, holding, Stmt, block, assign, when, choose, while, goto, assert, call, setLevel, select, Items, noItem, label, item, Arms, lastArm, arm, Target, toVariable, toField, Expr, number, truth, pattern, null, variable, invoke, field, make, operate1, operate2, conditional, fader, blockExpr, Exprs, noExpr, expr, Body, proper, function, Global, local, class, procedure, Tree, locals}
+use Rattle.language.specs.Tree.{Typed, Decl, declare, holding, Stmt, block, assign, when, choose, while, goto, assert, call, setLevel, select, Items, noItem, label, item}
+use Rattle.language.specs.Tree.{Arms, lastArm, arm, Target, toVariable, toField, Expr, number, truth, pattern, null, variable, invoke, field, make, operate1, operate2}
+use Rattle.language.specs.Tree.{conditional, fader, blockExpr, Exprs, noExpr, expr, Body, proper, function, Global, local, class, procedure, Tree, locals}
 use Rattle.language.specs.Names.{Scope, types, blockOf, expressionOf, procedureOf, rootOf, results}
 use Rattle.language.specs.Faults.{typeE, isTy}
 use Rattle.bytecode.specs.Macro.{Shape, shape}

@@ -14,7 +14,8 @@ use Rattle.language.specs.Names.{types, procedureOf, rootOf}
 use Rattle.language.specs.Names.{results as resultsOf}
 use Rattle.bytecode.specs.Macro.{Body, Shape, Placed, Macro}
 use Rattle.bytecode.specs.Macro.{Code as Record}
-use Rattle.bytecode.specs.Instructions.{Owner, own, root, Instr, end, push, load, store, operate, go, goUnless, call, return, make, getField, putField, setLevel, readFader, takeHold, letHold, assert, stop}
+use Rattle.bytecode.specs.Instructions.{Owner, own, root, Instr, end, push, load, store, operate, go, goUnless, call, return, make, getField, putField, setLevel}
+use Rattle.bytecode.specs.Instructions.{readFader, takeHold, letHold, assert, stop}
 use Rattle.compile_code.specs.Code.{Code, nil, op, cell, _▸_, At, at, after, Line, lay, cellsIn, placed}
 use Rattle.compile_code.specs.Compile.{Class, classesOf, Proc, procsOf, Around, inside, outermost, bound, global, labels, codeHead, codeS, codeE, codeItems, tyIn}
 

@@ -24,12 +24,13 @@ use Rattle.bytecode.specs.Macro.{Body, Shape, Placed}
 use Rattle.bytecode.specs.Instructions.{Owner, own, root, return, bodyAt, procedureAt, cellTy, cellsOf}
 use Rattle.bytecode.specs.Machine.{fetch}
 use Rattle.bytecode.specs.Rules.{atFirst, headFault, bodyFault, roomy, faultAt, judgeMacro}
-use Rattle.loading.specs.Terms.{Each, Named, ReadClass, ReadBody, ReadShape, WellFormed, OfBytes, Narrow, Passed}
-use Rattle.loading.specs.Bodies.{each-at}
-use Rattle.loading.specs.Tests.{never-some, same-some, halves, kept}
+use Rattle.bytecode_laws.specs.Terms.{Each, Named, ReadClass, ReadBody, ReadShape, WellFormed, OfBytes, Narrow, Passed}
+use Rattle.bytecode_laws.specs.Bodies.{each-at}
+use Rattle.bytecode_laws.specs.Tests.{never-some, same-some, halves, kept}
 use Rattle.compile_code.specs.Code.{Code, nil, op, mark, cell, _▸_, At, at, after, cellsIn, placed}
 use Rattle.compile_code.specs.Compile.{Around, inside, global, labels, heldIn, codeItems, tyIn, Proc, procsOf, classesOf, indexOf, procNames, classNames, bodyNumber}
-use Rattle.compile_code.specs.Encode.{Part, rootPart, procPart, procParts, parts, linesOf, headsOf, recordOf, recordsOf, fieldTypes, compiled, macroOf, codeRoot, codeProc, codeBody, rootVariables, startOfRoot, aroundBody}
+use Rattle.compile_code.specs.Encode.{Part, rootPart, procPart, procParts, parts, linesOf, headsOf, recordOf, recordsOf, fieldTypes, compiled, macroOf, codeRoot}
+use Rattle.compile_code.specs.Encode.{codeProc, codeBody, rootVariables, startOfRoot, aroundBody}
 use Rattle.compile_simulation.specs.Meets.{Setting}
 use Rattle.compile_simulation.specs.Placed.{Fit, Stands}
 use Rattle.compile_simulation.specs.Calls.{Static, held-past}
@@ -145,7 +146,8 @@ proc-found (procedure b xs d ∷ gs) a q h = rw (turned a b) (go (eqb a b) h (λ
     go true e f = (record { name = b; parameters = xs; body = d }, refl, same-some e)
     go false e f = f e
 
-class-found : (hs gs : List Global) (c : ℕ) (xs : List Typed) → classIn c gs ≡ some xs → (ts : List Ty) × (getElem? (fieldTypes hs (classesOf gs)) (indexOf c (classNames (classesOf gs))) ≡ some ts) × (length ts ≡ length xs)
+class-found : (hs gs : List Global) (c : ℕ) (xs : List Typed) → classIn c gs ≡ some xs → (ts : List Ty)
+    × (getElem? (fieldTypes hs (classesOf gs)) (indexOf c (classNames (classesOf gs))) ≡ some ts) × (length ts ≡ length xs)
 unfolding classIn classesOf classNames indexOf fieldTypes
 class-found hs [] c xs h = never-some h
 class-found hs (local d ∷ gs) c xs h = class-found hs gs c xs h
@@ -177,7 +179,8 @@ module _ (t : Tree) where
   parts-length [] a = refl
   parts-length (q ∷ ps) a = ap suc (parts-length ps (after (codeProc t q a) (at a 0) .address))
 
-  by-part : (P : ℕ → Part → Type 0) → P 0 (rootPart t) → ((j : ℕ) (q : Proc) (b : ℕ) → getElem? (procsOf (t .head)) j ≡ some q → getElem? (parts t) (suc j) ≡ some (procPart t q b) → P (suc j) (procPart t q b))
+  by-part : (P : ℕ → Part → Type 0) → P 0 (rootPart t) → ((j : ℕ) (q : Proc) (b : ℕ) → getElem? (procsOf (t .head)) j ≡ some q
+      → getElem? (parts t) (suc j) ≡ some (procPart t q b) → P (suc j) (procPart t q b))
       → (k : ℕ) (p : Part) → getElem? (parts t) k ≡ some p → P k p
   unfolding parts
   by-part P r f zero p h = subst (P 0) (same-some h) r
@@ -223,7 +226,8 @@ module _ (t : Tree) where
   proc-celled : (j : ℕ) (q : Proc) (b : ℕ) → getElem? (parts t) (suc j) ≡ some (procPart t q b) → Celled (compiled t) (suc j) (t .head) (codeProc t q b) (at b (length (q .parameters)))
   proc-celled j q b h =
       celled (compiled t) (suc j) (t .head) (procPart t q b .head) (head-of (suc j) (procPart t q b) h) (codeProc t q b) (at b (length (q .parameters))) []
-      (subst (λ n. drop n (map (tyIn (t .head)) (types (q .parameters)) ++ cellsIn (codeProc t q b) []) ≡ cellsIn (codeProc t q b) []) (params-length (tyIn (t .head)) (q .parameters)) (drop-len (map (tyIn (t .head)) (types (q .parameters))) (cellsIn (codeProc t q b) []))) .0
+      (subst (λ n. drop n (map (tyIn (t .head)) (types (q .parameters)) ++ cellsIn (codeProc t q b) []) ≡ cellsIn (codeProc t q b) [])
+      (params-length (tyIn (t .head)) (q .parameters)) (drop-len (map (tyIn (t .head)) (types (q .parameters))) (cellsIn (codeProc t q b) []))) .0
 
   module _ (O : InOrder t) where
     abbrev N : Ty → Type 0
@@ -246,7 +250,9 @@ module _ (t : Tree) where
     few-cells : (k : ℕ) (p : Part) → getElem? (parts t) k ≡ some p → length (p .head .cells) ≤ 32
     unfolding newCells
     few-cells = by-part (λ k p. length (p .head .cells) ≤ 32)
-        (let z = cells-length (codeRoot t) [] in let y = count-head (t .head) (global own) (locals (t .head)) (startOfRoot t) (at 0 0) (λ Δ q. codeItems (t .head) (t .items) (labels (t .items) (q .address) ∷ Δ) [] q) (cellsItems (t .items)) (λ Δ q. countItems (t .head) (t .items) (labels (t .items) (q .address) ∷ Δ) [] q) in
+        (let z = cells-length (codeRoot t) [] in let y = count-head (t .head) (global own) (locals (t .head)) (startOfRoot t) (at 0 0)
+        (λ Δ q. codeItems (t .head) (t .items) (labels (t .items) (q .address) ∷ Δ) [] q) (cellsItems (t .items))
+        (λ Δ q. countItems (t .head) (t .items) (labels (t .items) (q .address) ∷ Δ) [] q) in
         let x = O .root-keeps .cells in omega arith)
         (λ j q b h g. let z = cells-length (codeProc t q b) [] in let y = body-count (q .body) (q .parameters) (at b (length (q .parameters))) in let x = O .procs j q h .keeps .cells in
         let v = params-length (tyIn (t .head)) (q .parameters) in let u = length-append (map (tyIn (t .head)) (types (q .parameters))) (cellsIn (codeProc t q b) []) in omega arith)
@@ -265,7 +271,9 @@ module _ (t : Tree) where
     heads = record {
       cells = λ k o c ty h. of-cell k o c ty h;
       results = λ b B h. of-result b B h;
-      fields = λ c x ty h. let q = kept (getElem? (compiled t .classes) c) (λ ts. getElem? ts x) ty h in each-at N (q .0) x ty (each-at (ReadClass (classCount t)) (compiled t .classes) c (q .0) (O .fields-known) (q .1) .named) (q .2);
+      fields =
+          λ c x ty h. let q = kept (getElem? (compiled t .classes) c) (λ ts. getElem? ts x) ty h in
+          each-at N (q .0) x ty (each-at (ReadClass (classCount t)) (compiled t .classes) c (q .0) (O .fields-known) (q .1) .named) (q .2);
     }
       where
         of-body : (o : Option Body) (c : ℕ) (ty : Ty) → ((b : Body) → o ≡ some b → Each N (b .cells)) → getElem? (cellsOf o) c ≡ some ty → N ty
@@ -283,8 +291,12 @@ module _ (t : Tree) where
     -- every body's code: what it holds, how the state flows, of what types its shapes are
     holdable : (k : ℕ) (p : Part) → getElem? (parts t) k ≡ some p → Ops Holdable (p .code)
     unfolding Ops flatBody
-    holdable = by-part (λ k p. Ops Holdable (p .code))
-        (of-head (t .head) (global own) (locals (t .head)) (startOfRoot t) (at 0 0) (λ Δ q. codeItems (t .head) (t .items) (labels (t .items) (q .address) ∷ Δ) [] q) (O .root-entries .0) (λ Δ q. fieldsItems (t .head) (t .items) (labels (t .items) (q .address) ∷ Δ) [] q (O .root-entries .1)), tt)
+    holdable = by-part (λ k p. Ops Holdable (p .code)) (
+      of-head (t .head) (global own) (locals (t .head)) (startOfRoot t) (at 0 0)
+          (λ Δ q. codeItems (t .head) (t .items) (labels (t .items) (q .address) ∷ Δ) [] q) (O .root-entries .0)
+          (λ Δ q. fieldsItems (t .head) (t .items) (labels (t .items) (q .address) ∷ Δ) [] q (O .root-entries .1)),
+      tt,
+    )
         (λ j q b h g. (in-body (q .body) (aroundBody t (q .parameters)) (at b (length (q .parameters))) (O .procs j q h .entries), tt))
       where
         in-body : (x : TreeBody) (Γ : List Around) (p : At) → Each Entered (flatBody x) → Ops Holdable (codeBody (t .head) x Γ p)
@@ -298,7 +310,8 @@ module _ (t : Tree) where
     flows : (k : ℕ) (p : Part) → getElem? (parts t) k ≡ some p → (Aim : ℕ → Shape → Type 0) → Marks (compiled t) k Aim (p .code) (startOf p) → Seg (compiled t) k Aim (p .code) atFirst none
     flows k p e Aim = by-part (λ k p. Marks (compiled t) k Aim (p .code) (startOf p) → Seg (compiled t) k Aim (p .code) atFirst none)
         (λ g. root-flows (compiled t) t (O .root-typed) root-celled (O .root-keeps) Aim g)
-        (λ j q b h g w. proc-flows (compiled t) t j q b (O .procs j q h .typed) (proc-celled j q b g) (proc-held q) (procPart t q b .head) (head-of (suc j) (procPart t q b) g) refl (O .procs j q h .keeps) Aim w) k p e
+        (λ j q b h g w. proc-flows (compiled t) t j q b (O .procs j q h .typed) (proc-celled j q b g) (proc-held q) (procPart t q b .head)
+        (head-of (suc j) (procPart t q b) g) refl (O .procs j q h .keeps) Aim w) k p e
 
     marks-known : (k : ℕ) (p : Part) → getElem? (parts t) k ≡ some p → Marks (compiled t) k (λ a s. Each N (s .operands)) (p .code) (startOf p)
     marks-known = by-part (λ k p. Marks (compiled t) k (λ a s. Each N (s .operands)) (p .code) (startOf p))
@@ -342,7 +355,8 @@ module _ (t : Tree) where
         subst (λ (x : Body). ReadBody (classCount t) (length (compiled t .code)) x) (q .2) (record {
           begins = rw code-size (let z = begins (parts t) 0 chain p k (q .1) in let y = some-op k p (q .1) in omega arith);
           fewer-parameters = by-part (λ k (p : Part). p .head .parameters ≤ length (p .head .cells)) (omega arith)
-              (λ j r c h' g. let z = length-append (map (tyIn (t .head)) (types (r .parameters))) (cellsIn (codeProc t r c) []) in let y = params-length (tyIn (t .head)) (r .parameters) in omega arith) k p (q .1);
+              (λ j r c h' g. let z = length-append (map (tyIn (t .head)) (types (r .parameters)))
+              (cellsIn (codeProc t r c) []) in let y = params-length (tyIn (t .head)) (r .parameters) in omega arith) k p (q .1);
           one-result = results-are k p (q .1) .1;
           named-results = results-are k p (q .1) .0;
           named-cells = cells-known k p (q .1);
@@ -361,7 +375,9 @@ module _ (t : Tree) where
       root-first = λ b h. ap (λ (x : Body). x .first) (same-some (sym h ∙ head-of 0 (rootPart t) root-there));
       rises = rw bodies-are (rises (parts t) 0 0 (omega arith) chain);
       bodies-read = bodies-read;
-      shapes-read = rw code-size (each-more (λ (p : Placed). (0 ≤ p .address) × (p .address < total (parts t)) × Fine (p .found)) (ReadShape (classCount t) (total (parts t))) (λ p h. record { stands = h .1; named = h .2 .0 }) (compiled t .shapes) fine-shapes);
+      shapes-read =
+          rw code-size (each-more (λ (p : Placed). (0 ≤ p .address) × (p .address < total (parts t)) × Fine (p .found))
+          (ReadShape (classCount t) (total (parts t))) (λ p h. record { stands = h .1; named = h .2 .0 }) (compiled t .shapes) fine-shapes);
       shapes-apart = rw shapes-are (placed-apart (linesOf (parts t)) 0);
     }
       where
@@ -370,10 +386,14 @@ module _ (t : Tree) where
 
     heads-right : (i : ℕ) → bodyFault (compiled t .bodies) 0 i ≡ false
     unfolding bodyFault sames
-    heads-right i = all-right (compiled t .bodies) 0 (λ k b h. let q = known-part k b h in let e : k ≡ 0 + k = omega arith in subst (λ j. headFault j b ≡ false) e (subst (λ (x : Body). headFault k x ≡ false) (q .2) (right k (q .0) (q .1))))
+    heads-right i =
+        all-right (compiled t .bodies) 0 (λ k b h. let q = known-part k b h in let e : k
+        ≡ 0 + k = omega arith in subst (λ j. headFault j b ≡ false) e (subst (λ (x : Body). headFault k x ≡ false) (q .2) (right k (q .0) (q .1))))
       where
         right : (k : ℕ) (p : Part) → getElem? (parts t) k ≡ some p → headFault k (p .head) ≡ false
-        right zero p h = let e : rootPart t ≡ p = same-some (sym root-there ∙ h) in subst (λ (x : Part). headFault 0 (x .head) ≡ false) e (rw (le-ltb 32 (length (rootPart t .head .cells)) (few-cells 0 (rootPart t) root-there)) refl)
+        right zero p h =
+            let e : rootPart t ≡ p = same-some (sym root-there ∙ h) in
+            subst (λ (x : Part). headFault 0 (x .head) ≡ false) e (rw (le-ltb 32 (length (rootPart t .head .cells)) (few-cells 0 (rootPart t) root-there)) refl)
         right (suc k) p h = le-ltb 32 (length (p .head .cells)) (few-cells (suc k) p h)
 
         fault-not : (a b c : Bool) → b ≡ false → c ≡ false → ((a && b) || c) ≡ false
@@ -415,7 +435,8 @@ module _ (t : Tree) where
       few-instructions = code-short;
       instructions-narrow = rw code-is (narrow-lines (linesOf (parts t)) (narrow-lines-of 0 (parts t) (λ k p h.
           two-ops Holdable (λ i. (s : Shape) × (g : Option Shape) × Goes (Aimed (compiled t) k) (flow (effect (compiled t) k i s) s) g) (λ x. OfBytes (recordOf x))
-          (narrow-op (compiled t) k well-formed code-short (λ j b e. body-cells j b e .1)) (p .code) (holdable k p h) (flowing (compiled t) k (p .code) atFirst none (segged (compiled t) k (p .code) (startOf p) (flows k p h) (lined k p h))))));
+          (narrow-op (compiled t) k well-formed code-short (λ j b e. body-cells j b e .1)) (p .code) (holdable k p h)
+          (flowing (compiled t) k (p .code) atFirst none (segged (compiled t) k (p .code) (startOf p) (flows k p h) (lined k p h))))));
     }
 
     -- ── the macro can be written, and is accepted ──
@@ -459,8 +480,12 @@ module _ (t : Tree) where
             scope = procedureOf (r .parameters);
             names = definesTyped (r .parameters);
             is-procedure = refl;
-            stand = subst (λ n. Stands (settingOf t o) n (codeBody (t .head) (r .body) (aroundBody t (r .parameters)) (at (b .0) (length (r .parameters)))) (at (b .0) (length (r .parameters)))) (sym e) (s .0);
-            ret = subst (λ n. fetch (compiled t) n (after (codeBody (t .head) (r .body) (aroundBody t (r .parameters)) (at (b .0) (length (r .parameters)))) (at (b .0) (length (r .parameters))) .address) ≡ some return) (sym e) (s .1);
+            stand =
+                subst (λ n. Stands (settingOf t o) n (codeBody (t .head) (r .body) (aroundBody t (r .parameters))
+                (at (b .0) (length (r .parameters)))) (at (b .0) (length (r .parameters)))) (sym e) (s .0);
+            ret =
+                subst (λ n. fetch (compiled t) n (after (codeBody (t .head) (r .body) (aroundBody t (r .parameters))
+                (at (b .0) (length (r .parameters)))) (at (b .0) (length (r .parameters))) .address) ≡ some return) (sym e) (s .1);
             static = O .procs k r h .static;
             good = O .procs k r h .named;
           }

@@ -12,7 +12,9 @@ use Rattle.words.specs.Choice.{if_then_else_}
 use Rattle.values.specs.Types.{Ty, integer, logical, bits, reference}
 use Rattle.values.specs.Operators.{Binary}
 use Rattle.values.specs.Values.{initial}
-use Rattle.language.specs.Tree.{Decl, declare, holding, Stmt, block, assign, when, choose, while, goto, assert, call, setLevel, select, Items, noItem, label, item, Arms, lastArm, arm, Target, toVariable, toField, Expr, number, truth, pattern, null, variable, invoke, field, make, operate1, operate2, conditional, fader, blockExpr, Exprs, noExpr, expr, Global}
+use Rattle.language.specs.Tree.{Decl, declare, holding, Stmt, block, assign, when, choose, while, goto, assert, call, setLevel, select, Items, noItem, label, item, Arms}
+use Rattle.language.specs.Tree.{lastArm, arm, Target, toVariable, toField, Expr, number, truth, pattern, null, variable, invoke, field, make, operate1, operate2}
+use Rattle.language.specs.Tree.{conditional, fader, blockExpr, Exprs, noExpr, expr, Global}
 use Rattle.language.specs.Names.{blockOf, expressionOf}
 use Rattle.language.specs.Measure.{measureS}
 use Rattle.language.specs.Faults.{typeE, isTy}
@@ -20,9 +22,11 @@ use Rattle.language.specs.Limits.{headCells, cellsS, cellsItems, cellsArms, cel
 use Rattle.bytecode.specs.Macro.{Body, shape, Macro}
 use Rattle.bytecode.specs.Instructions.{push, go, bodyAt, cellsOf}
 use Rattle.bytecode.specs.Rules.{plain, wrong, effect}
-use Rattle.loading.specs.Terms.{Each, Named}
+use Rattle.bytecode_laws.specs.Terms.{Each, Named}
 use Rattle.compile_code.specs.Code.{Code, nil, op, mark, cell, _▸_, At, at, skip, after, cellsIn}
-use Rattle.compile_code.specs.Compile.{Around, inside, outermost, bound, global, held, labels, scopesOf, passing, theLabels, hasLabel, labelAt, Way, plainly, marked, ifTrue, ifFalse, wayOf, codeWay, codeGoto, codeHead, codeS, codeItems, codeArms, codeTarget, codeE, codeEs, opsArms, tyTarget, tyE, tyIn}
+use Rattle.compile_code.specs.Compile.{Around, inside, outermost, bound, global, held, labels, scopesOf, passing, theLabels, hasLabel, labelAt, Way, plainly, marked}
+use Rattle.compile_code.specs.Compile.{ifTrue, ifFalse, wayOf, codeWay, codeGoto, codeHead, codeS, codeItems, codeArms, codeTarget, codeE, codeEs, opsArms, tyTarget, tyE}
+use Rattle.compile_code.specs.Compile.{tyIn}
 use Rattle.compile_rules.specs.Lines.{dropped}
 use Rattle.compile_rules.specs.Pass.{Celled, okHead, okS, okItems, okArms, okTarget, okE, okEs}
 
@@ -56,7 +60,8 @@ none-goto (labels is x ∷ Γ) a = pick (hasLabel a is) (none-goto Γ a)
     pick true h = refl
     pick false h = h
 
-count-way : (w : Way) (o : Binary) (Γ : List Around) (ts : List Ty) (t : Ty) (x : Code) (p : At) (f : List Ty → At → Code) (n k : ℕ) → newCells x ≡ n → ((us : List Ty) (q : At) → newCells (f us q) ≡ k) → newCells (codeWay w o Γ ts t x p f) ≡ n + k
+count-way : (w : Way) (o : Binary) (Γ : List Around) (ts : List Ty) (t : Ty) (x : Code) (p : At) (f : List Ty → At → Code) (n k : ℕ) → newCells x ≡ n
+    → ((us : List Ty) (q : At) → newCells (f us q) ≡ k) → newCells (codeWay w o Γ ts t x p f) ≡ n + k
 unfolding newCells
 count-way plainly o Γ ts t x p f n k h g = let e = g (t ∷ ts) (after x p) in omega arith
 count-way marked o Γ ts t x p f n k h g = let e = g (t ∷ ts) (after x p) in omega arith
@@ -64,7 +69,8 @@ count-way ifTrue o Γ ts t x p f n k h g = let e = g ts (skip 1 (after x p)) in 
 count-way ifFalse o Γ ts t x p f n k h g = let e = g ts (skip 3 (after x p)) in omega arith
 
 module _ (gs : List Global) where
-  pub count-head : (name : ℕ → ℕ → Around) (ds : List Decl) (Γ : List Around) (p : At) (f : List Around → At → Code) (n : ℕ) → ((Δ : List Around) (q : At) → newCells (f Δ q) ≡ n) → newCells (codeHead gs name ds Γ p f) ≡ headCells ds + n
+  pub count-head : (name : ℕ → ℕ → Around) (ds : List Decl) (Γ : List Around) (p : At) (f : List Around → At → Code) (n : ℕ)
+      → ((Δ : List Around) (q : At) → newCells (f Δ q) ≡ n) → newCells (codeHead gs name ds Γ p f) ≡ headCells ds + n
   unfolding newCells codeHead headCells
   count-head name [] Γ p f n h = h Γ p ∙ omega arith
   count-head name (declare x ∷ ds) Γ p f n h = let q = count-head name ds (name (x .name) (p .cell) ∷ Γ) (at (suc (suc (p .address))) (suc (p .cell))) f n h in omega arith
@@ -74,7 +80,9 @@ module _ (gs : List Global) where
     unfolding newCells codeS measureS after
 
     pub countS : (s : Stmt) (Γ : List Around) (ts : List Ty) (p : At) → newCells (codeS gs s Γ ts p) ≡ cellsS s
-    countS (block ds is) Γ ts p = count-head bound ds (inside (blockOf ds is) ∷ Γ) p (λ Δ q. codeItems gs is (labels is (q .address) ∷ Δ) ts q) (cellsItems is) (λ Δ q. countItems is (labels is (q .address) ∷ Δ) ts q)
+    countS (block ds is) Γ ts p =
+        count-head bound ds (inside (blockOf ds is) ∷ Γ) p (λ Δ q. codeItems gs is (labels is (q .address) ∷ Δ) ts q) (cellsItems is)
+        (λ Δ q. countItems is (labels is (q .address) ∷ Δ) ts q)
     countS (assign x e) Γ ts p = let q = countTarget x Γ ts p in let r = countE e Γ (tyTarget gs Γ x ts) (after (codeTarget gs x Γ ts p) p) in omega arith
     countS (when e s) Γ ts p = let q = countE e Γ ts p in let r = countS s Γ ts (skip 1 (after (codeE gs e Γ ts p) p)) in omega arith
     countS (choose e s t) Γ ts p =
@@ -180,25 +188,39 @@ module _ (m : Macro) (k : ℕ) (gs : List Global) where
       go true e h = ltb-true c (length (m .classes)) e
       go false e h = let z : _≡_ {A = ℕ} 0 1 = cc h in absurd (omega arith)
 
-  cells-way : (w : Way) (o : Binary) (Γ : List Around) (ts : List Ty) (t : Ty) (x : Code) (p : At) (f : List Ty → At → Code) → Celled m k gs (codeWay w o Γ ts t x p f) p → (Celled m k gs x p → Cells Known x) → ((us : List Ty) (q : At) → Celled m k gs (f us q) q → Cells Known (f us q)) → Cells Known (codeWay w o Γ ts t x p f)
+  cells-way : (w : Way) (o : Binary) (Γ : List Around) (ts : List Ty) (t : Ty) (x : Code) (p : At) (f : List Ty → At → Code)
+      → Celled m k gs (codeWay w o Γ ts t x p f) p → (Celled m k gs x p → Cells Known x)
+      → ((us : List Ty) (q : At) → Celled m k gs (f us q) q → Cells Known (f us q)) → Cells Known (codeWay w o Γ ts t x p f)
   unfolding Cells Celled after
   cells-way plainly o Γ ts t x p f c h g = (h (c .0), (g (t ∷ ts) (after x p) (c .1 .0), tt))
   cells-way marked o Γ ts t x p f c h g = (h (c .0), (tt, (g (t ∷ ts) (after x p) (c .1 .1 .0), tt)))
   cells-way ifTrue o Γ ts t x p f c h g = (h (c .0), (tt, (g ts (skip 1 (after x p)) (c .1 .1 .0), (tt, (tt, (tt, tt))))))
   cells-way ifFalse o Γ ts t x p f c h g = (h (c .0), (tt, (tt, (tt, (tt, (g ts (skip 3 (after x p)) (c .1 .1 .1 .1 .1 .0), tt))))))
 
-  pub cells-head : (name : ℕ → ℕ → Around) (ds : List Decl) (Γ : List Around) (p : At) (P : List Around → Type 0) (f : List Around → At → Code) → ((Δ : List Around) (q : At) → P Δ → Celled m k gs (f Δ q) q → Cells Known (f Δ q))
+  pub cells-head : (name : ℕ → ℕ → Around) (ds : List Decl) (Γ : List Around) (p : At) (P : List Around → Type 0) (f : List Around → At → Code)
+      → ((Δ : List Around) (q : At) → P Δ → Celled m k gs (f Δ q) q → Cells Known (f Δ q))
       → okHead m k gs name ds Γ P → Celled m k gs (codeHead gs name ds Γ p f) p → Cells Known (codeHead gs name ds Γ p f)
   unfolding okHead codeHead Cells Celled after
   cells-head name [] Γ p P f g o c = g Γ p o c
-  cells-head name (declare x ∷ ds) Γ p P f g o c = (of-initial (tyIn gs (x .type)) (o .0 (shape 0 [])), (tt, (tt, cells-head name ds (name (x .name) (p .cell) ∷ Γ) (at (suc (suc (p .address))) (suc (p .cell))) P f g (o .1 (p .cell) (c .0)) (c .1 .1 .1))))
+  cells-head name (declare x ∷ ds) Γ p P f g o c = (
+    of-initial (tyIn gs (x .type)) (o .0 (shape 0 [])),
+    (
+      tt,
+      (
+        tt,
+        cells-head name ds (name (x .name) (p .cell) ∷ Γ)
+            (at (suc (suc (p .address))) (suc (p .cell))) P f g (o .1 (p .cell) (c .0)) (c .1 .1 .1),
+      ),
+    ),
+  )
   cells-head name (holding x ∷ ds) Γ p P f g o c = (tt, (cells-head name ds (held x ∷ Γ) (skip 1 p) P f g o (c .1 .0), tt))
 
   mutual
     unfolding okS codeS Celled after Cells
 
     pub cellsOkS : (s : Stmt) (Γ : List Around) (ts : List Ty) (p : At) → okS m k gs s Γ → Celled m k gs (codeS gs s Γ ts p) p → Cells Known (codeS gs s Γ ts p)
-    cellsOkS (block ds is) Γ ts p o c = cells-head bound ds (inside (blockOf ds is) ∷ Γ) p (λ Δ. (x : ℕ) → okItems m k gs is (labels is x ∷ Δ)) (λ Δ q. codeItems gs is (labels is (q .address) ∷ Δ) ts q)
+    cellsOkS (block ds is) Γ ts p o c =
+        cells-head bound ds (inside (blockOf ds is) ∷ Γ) p (λ Δ. (x : ℕ) → okItems m k gs is (labels is x ∷ Δ)) (λ Δ q. codeItems gs is (labels is (q .address) ∷ Δ) ts q)
         (λ Δ q o' c'. cellsOkItems is (labels is (q .address) ∷ Δ) ts q (o' (q .address)) c') o c
     cellsOkS (assign x e) Γ ts p o c = (cellsOkTarget x Γ ts p (tyE gs Γ e) (o .0) (c .0), (cellsOkE e Γ _ _ (o .1) (c .1 .0), tt))
     cellsOkS (when e s) Γ ts p o c = (cellsOkE e Γ ts p (o .0) (c .0), (tt, (cellsOkS s Γ ts _ (o .2) (c .1 .1 .0), tt)))
@@ -234,10 +256,13 @@ module _ (m : Macro) (k : ℕ) (gs : List Global) where
     cellsOkE (make x es) Γ ts p o c = (cellsOkEs es Γ ts p (o .0) (c .0), tt)
     cellsOkE (operate1 u e) Γ ts p o c = (cellsOkE e Γ ts p (o .0) (c .0), tt)
     cellsOkE (operate2 u e f) Γ ts p o c =
-        cells-way (wayOf u (isTy logical (typeE (scopesOf Γ) e))) u Γ ts (tyE gs Γ e) (codeE gs e Γ ts p) p (λ us q. codeE gs f Γ us q) c (λ c'. cellsOkE e Γ ts p (o .0) c') (λ us q c'. cellsOkE f Γ us q (o .1) c')
+        cells-way (wayOf u (isTy logical (typeE (scopesOf Γ) e))) u Γ ts (tyE gs Γ e) (codeE gs e Γ ts p) p (λ us q. codeE gs f Γ us q) c
+        (λ c'. cellsOkE e Γ ts p (o .0) c') (λ us q c'. cellsOkE f Γ us q (o .1) c')
     cellsOkE (conditional e f g) Γ ts p o c = (cellsOkE e Γ ts p (o .0) (c .0), (tt, (cellsOkE f Γ ts _ (o .2) (c .1 .1 .0), (tt, (tt, (cellsOkE g Γ ts _ (o .3) (c .1 .1 .1 .1 .1 .0), tt))))))
     cellsOkE (fader e) Γ ts p o c = (cellsOkE e Γ ts p (o .0) (c .0), tt)
-    cellsOkE (blockExpr ds is e) Γ ts p o c = cells-head bound ds (inside (expressionOf ds is) ∷ Γ) p (λ Δ. ((x : ℕ) → okItems m k gs is (labels is x ∷ Δ)) × okE m k gs e Δ × (tyE gs Δ e ≡ tyE gs Γ (blockExpr ds is e)))
+    cellsOkE (blockExpr ds is e) Γ ts p o c =
+        cells-head bound ds (inside (expressionOf ds is) ∷ Γ) p (λ Δ. ((x : ℕ) → okItems m k gs is (labels is x ∷ Δ)) × okE m k gs e Δ
+        × (tyE gs Δ e ≡ tyE gs Γ (blockExpr ds is e)))
         (λ Δ q. let y = codeItems gs is (labels is (q .address) ∷ Δ) ts q in y ▸ codeE gs e Δ ts (after y q))
         (λ Δ q o' c'. (cellsOkItems is (labels is (q .address) ∷ Δ) ts q (o' .0 (q .address)) (c' .0), cellsOkE e Δ ts _ (o' .1) (c' .1))) o c
 

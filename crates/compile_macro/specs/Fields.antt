@@ -18,17 +18,21 @@ use Rattle.words.specs.Laws.{integer-back, word-below}
 use Rattle.values.specs.Types.{Ty, integer, logical, bits, reference}
 use Rattle.values.specs.Operators.{Binary}
 use Rattle.values.specs.Values.{int, log, bit, ref, initial}
-use Rattle.language.specs.Tree.{Decl, declare, holding, Stmt, block, assign, when, choose, while, goto, assert, call, setLevel, select, Items, noItem, label, item, Arms, lastArm, arm, Target, toVariable, toField, Expr, number, truth, pattern, null, variable, invoke, field, make, operate1, operate2, conditional, fader, blockExpr, Exprs, noExpr, expr, Global, countArms}
+use Rattle.language.specs.Tree.{Decl, declare, holding, Stmt, block, assign, when, choose, while, goto, assert, call, setLevel, select, Items, noItem, label, item, Arms}
+use Rattle.language.specs.Tree.{lastArm, arm, Target, toVariable, toField, Expr, number, truth, pattern, null, variable, invoke, field, make, operate1, operate2}
+use Rattle.language.specs.Tree.{conditional, fader, blockExpr, Exprs, noExpr, expr, Global, countArms}
 use Rattle.language.specs.Names.{blockOf, expressionOf}
 use Rattle.language.specs.Faults.{typeE, isTy}
 use Rattle.language.specs.Table.{Entry, entry, inLayout}
 use Rattle.values.specs.Ends.{caseIndex}
 use Rattle.bytecode.specs.Instructions.{Instr, end, push, load, store, operate, go, goUnless, return, getField, putField, readFader, takeHold, letHold, stop}
 use Rattle.bytecode.specs.Instructions.{call as callOp, make as makeOp, setLevel as setOp, assert as assertOp}
-use Rattle.loading.specs.Terms.{Each}
-use Rattle.loading.specs.Tests.{halves}
+use Rattle.bytecode_laws.specs.Terms.{Each}
+use Rattle.bytecode_laws.specs.Tests.{halves}
 use Rattle.compile_code.specs.Code.{Code, nil, op, mark, cell, _▸_, At, skip, after}
-use Rattle.compile_code.specs.Compile.{Around, inside, outermost, bound, global, held, labels, scopesOf, passing, theLabels, hasLabel, labelAt, kept, loading, storing, Way, plainly, marked, ifTrue, ifFalse, wayOf, codeWay, codeGoto, codeHead, codeS, codeItems, codeArms, codeTarget, codeE, codeEs, opTarget, tyE, tyIn}
+use Rattle.compile_code.specs.Compile.{Around, inside, outermost, bound, global, held, labels, scopesOf, passing, theLabels, hasLabel, labelAt, kept, loading, storing}
+use Rattle.compile_code.specs.Compile.{Way, plainly, marked, ifTrue, ifFalse, wayOf, codeWay, codeGoto, codeHead, codeS, codeItems, codeArms, codeTarget, codeE, codeEs}
+use Rattle.compile_code.specs.Compile.{opTarget, tyE, tyIn}
 use Rattle.compile_code.specs.Compile.{Cell as Kept, cellOf as keptOf}
 use Rattle.compile_rules.specs.Records.{Writable}
 use Rattle.compile_macro.specs.Laid.{Ops}
@@ -100,7 +104,11 @@ parted P (x ∷ xs) ys h = let q = parted P xs ys (h .1) in ((h .0, q .0), q .1)
 
 -- ── single entries ──
 its-b : (e : Entry) → inFields e ≡ true → SFits w32 (e .b)
-its-b e h = record { sfits = ltb-true (mag (e .b)) 2147483648 (halves (ltb (e .a) 65536) (ltb (mag (e .b)) 2147483648) (halves (ltb (e .kind) 65536) (ltb (e .a) 65536 && ltb (mag (e .b)) 2147483648) h .1) .1) }
+its-b e h =
+    record {
+      sfits = ltb-true (mag (e .b)) 2147483648 (halves (ltb (e .a) 65536) (ltb (mag (e .b)) 2147483648)
+          (halves (ltb (e .kind) 65536) (ltb (e .a) 65536 && ltb (mag (e .b)) 2147483648) h .1) .1);
+    }
 
 its-a : (e : Entry) → inFields e ≡ true → e .a < 65536
 its-a e h = ltb-true (e .a) 65536 (halves (ltb (e .a) 65536) (ltb (mag (e .b)) 2147483648) (halves (ltb (e .kind) 65536) (ltb (e .a) 65536 && ltb (mag (e .b)) 2147483648) h .1) .0)
@@ -140,7 +148,8 @@ of-goto (labels is x ∷ Γ) a = pick (hasLabel a is) (of-goto Γ a)
     pick true h = tt
     pick false h = h
 
-of-way : (w : Way) (o : Binary) (Γ : List Around) (ts : List Ty) (t : Ty) (x : Code) (p : At) (f : List Ty → At → Code) → Ops Holdable x → ((us : List Ty) (q : At) → Ops Holdable (f us q)) → Ops Holdable (codeWay w o Γ ts t x p f)
+of-way : (w : Way) (o : Binary) (Γ : List Around) (ts : List Ty) (t : Ty) (x : Code) (p : At) (f : List Ty → At → Code) → Ops Holdable x
+    → ((us : List Ty) (q : At) → Ops Holdable (f us q)) → Ops Holdable (codeWay w o Γ ts t x p f)
 unfolding Ops
 of-way plainly o Γ ts t x p f h g = (h, (g (t ∷ ts) (after x p), tt))
 of-way marked o Γ ts t x p f h g = (h, (tt, (g (t ∷ ts) (after x p), tt)))
@@ -148,7 +157,8 @@ of-way ifTrue o Γ ts t x p f h g = (h, (tt, (g ts (skip 1 (after x p)), (tt, (t
 of-way ifFalse o Γ ts t x p f h g = (h, (tt, (tt, (tt, (tt, (g ts (skip 3 (after x p)), tt))))))
 
 module _ (gs : List Global) where
-  pub of-head : (name : ℕ → ℕ → Around) (ds : List Decl) (Γ : List Around) (p : At) (f : List Around → At → Code) → Each Entered (map flatDecl ds) → ((Δ : List Around) (q : At) → Ops Holdable (f Δ q)) → Ops Holdable (codeHead gs name ds Γ p f)
+  pub of-head : (name : ℕ → ℕ → Around) (ds : List Decl) (Γ : List Around) (p : At) (f : List Around → At → Code) → Each Entered (map flatDecl ds)
+      → ((Δ : List Around) (q : At) → Ops Holdable (f Δ q)) → Ops Holdable (codeHead gs name ds Γ p f)
   unfolding Ops codeHead flatDecl
   of-head name [] Γ p f h g = g Γ p
   of-head name (declare x ∷ ds) Γ p f h g = (tt, (first-value (tyIn gs (x .type)), (tt, of-head name ds _ _ f (h .1) g)))

@@ -12,9 +12,9 @@ use Rattle.bytecode.specs.Macro.{Body, Shape, Macro, shapeIn}
 use Rattle.bytecode.specs.Instructions.{Instr, bodyAt, endOf, inBody}
 use Rattle.bytecode.specs.Machine.{fetch}
 use Rattle.bytecode.specs.Rules.{bodyOf, isFirst, bodyFault, into, atFirst, faultAt}
-use Rattle.loading.specs.Terms.{Each, RisesFrom, WellFormed}
-use Rattle.loading.specs.Bodies.{within, bounds, body-is, no-first, inside-body, at-first}
-use Rattle.loading.specs.Tests.{never-some, same-some}
+use Rattle.bytecode_laws.specs.Terms.{Each, RisesFrom, WellFormed}
+use Rattle.bytecode_laws.specs.Bodies.{within, bounds, body-is, no-first, inside-body, at-first}
+use Rattle.bytecode_laws.specs.Tests.{never-some, same-some}
 use Rattle.compile_code.specs.Code.{Code, nil, op, mark, cell, _▸_, At, after, Line, line, first, lay, placed}
 use Rattle.compile_code.specs.Encode.{Part, linesOf, headsOf, recordsOf}
 use Rattle.compile_simulation.specs.Meets.{Setting}
@@ -127,10 +127,17 @@ located whole n (q ∷ []) a (suc k) p c e d h = never-some h
 located whole n (q ∷ (r ∷ ps)) a zero p c e d h =
     let z : q ≡ p = same-some h in
     subst (λ (x : Part). Located whole n (q .head ∷ (r .head ∷ headsOf ps)) 0 x) z
-    (record { its-head = refl; its-end = let u = c .0 in let v = c .2 .0 in omega arith; rest = linesOf (r ∷ ps); its-lines = ap (λ i. drop i whole) (c .0) ∙ d ∙ closed-app (q .code) (linesOf (r ∷ ps)) (c .1); closed = c .1 })
+    (record {
+      its-head = refl;
+      its-end = let u = c .0 in let v = c .2 .0 in omega arith;
+      rest = linesOf (r ∷ ps);
+      its-lines = ap (λ i. drop i whole) (c .0) ∙ d ∙ closed-app (q .code) (linesOf (r ∷ ps)) (c .1);
+      closed = c .1;
+    })
 located whole n (q ∷ (r ∷ ps)) a (suc k) p c e d h =
     let i : drop a whole ≡ alone (q .code) ++ linesOf (r ∷ ps) = d ∙ closed-app (q .code) (linesOf (r ∷ ps)) (c .1) in
-    let j : drop (a + ops (q .code)) whole ≡ linesOf (r ∷ ps) = subst (λ z. drop (a + z) whole ≡ linesOf (r ∷ ps)) (alone-length (q .code)) (drop-more (alone (q .code)) whole (linesOf (r ∷ ps)) a i) in
+    let j : drop (a + ops (q .code)) whole ≡ linesOf (r ∷ ps) = subst (λ z. drop (a + z) whole ≡ linesOf (r ∷ ps)) (alone-length (q .code))
+    (drop-more (alone (q .code)) whole (linesOf (r ∷ ps)) a i) in
     let l = located whole n (r ∷ ps) (a + ops (q .code)) k p (c .2) (omega arith) j h in
     record { its-head = l .its-head; its-end = l .its-end; rest = l .rest; its-lines = l .its-lines; closed = l .closed }
 
@@ -176,7 +183,8 @@ records-length ps chain = each (linesOf ps) ∙ lines-length ps 0 chain
 
 module _ (m : Macro) (ps : List Part) (eb : m .bodies ≡ headsOf ps) (ec : m .code ≡ recordsOf (linesOf ps)) (es : m .shapes ≡ placed 0 (linesOf ps))
     (w : WellFormed m) (heads : (i : ℕ) → bodyFault (m .bodies) 0 i ≡ false) where
-  lined : (k e : ℕ) (ls rest : List Line) (i : ℕ) → drop i (linesOf ps) ≡ ls ++ rest → e ≡ i + length ls → ((j : ℕ) → i ≤ j → j < e → inBody m k j ≡ true) → inBody m k e ≡ false → Lines Writable ls → Lined m k ls i
+  lined : (k e : ℕ) (ls rest : List Line) (i : ℕ) → drop i (linesOf ps) ≡ ls ++ rest → e ≡ i + length ls
+      → ((j : ℕ) → i ≤ j → j < e → inBody m k j ≡ true) → inBody m k e ≡ false → Lines Writable ls → Lined m k ls i
   lined k e [] rest i d q b z h = let u : e ≡ i = q ∙ omega arith in subst (λ y. inBody m k y ≡ false) u z
   lined k e (l ∷ ls) rest i d q b z h =
       let v = dropped (linesOf ps) i l (ls ++ rest) d in
@@ -230,7 +238,8 @@ module _ (m : Macro) (ps : List Part) (eb : m .bodies ≡ headsOf ps) (ec : m .c
 
 -- ── code that stands ──
 module _ (W : Setting) (k : ℕ) where
-  standing : (x : Code) (p : At) (o : Option Shape) (c : Option Shape → List Line) (P : Type 0) → Lined (W .macro) k (lay x o c) (p .address) → Marks (W .macro) k (λ a s. shapeIn (W .macro .shapes) a ≡ some s) x p
+  standing : (x : Code) (p : At) (o : Option Shape) (c : Option Shape → List Line) (P : Type 0) → Lined (W .macro) k (lay x o c) (p .address)
+      → Marks (W .macro) k (λ a s. shapeIn (W .macro .shapes) a ≡ some s) x p
       → ((o' : Option Shape) → Lined (W .macro) k (c o') (after x p .address) → P) → Stands W k x p × P
   unfolding lay Marks Stands after fetch
   standing nil p o c P h g z = (tt, z o h)

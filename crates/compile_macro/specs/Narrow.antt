@@ -12,15 +12,17 @@ use Rattle.words.specs.Options.{keep}
 use Rattle.words.specs.Choice.{if_then_else_}
 use Rattle.words.specs.Laws.{word-below}
 use Rattle.values.specs.Types.{Ty, logical, reference}
-use Rattle.values.specs.Operators.{Operator, unary, binary, negate, absolute, complement, plus, minus, times, divide, remainder, less, atMost, greater, atLeast, equal, unequal, both, either, shiftLeft, shiftRight}
+use Rattle.values.specs.Operators.{Operator, unary, binary, negate, absolute, complement, plus, minus, times, divide, remainder, less, atMost, greater, atLeast, equal}
+use Rattle.values.specs.Operators.{unequal, both, either, shiftLeft, shiftRight}
 use Rattle.values.specs.Values.{int, log, bit, ref}
 use Rattle.bytecode.specs.Macro.{Body, Shape, shape, Placed, Macro, shapeIn}
-use Rattle.bytecode.specs.Instructions.{Owner, own, root, Instr, end, push, load, store, operate, go, goUnless, return, getField, putField, readFader, takeHold, letHold, stop, bodyAt, inBody, procedureAt, cellTy, cellsOf, fieldTy}
+use Rattle.bytecode.specs.Instructions.{Owner, own, root, Instr, end, push, load, store, operate, go, goUnless, return, getField, putField, readFader, takeHold, letHold}
+use Rattle.bytecode.specs.Instructions.{stop, bodyAt, inBody, procedureAt, cellTy, cellsOf, fieldTy}
 use Rattle.bytecode.specs.Instructions.{call as callOp, make as makeOp, setLevel as setOp, assert as assertOp}
 use Rattle.bytecode.specs.Rules.{plain, wrong, fork, strip, stripped, flow, effect, giving, taking, calling, making, roomy, equalShape}
-use Rattle.loading.specs.Terms.{Each, Apart, OfBytes, WellFormed, ReadClass}
-use Rattle.loading.specs.Bodies.{inside-code, each-at}
-use Rattle.loading.specs.Tests.{never-some, halves}
+use Rattle.bytecode_laws.specs.Terms.{Each, Apart, OfBytes, WellFormed, ReadClass}
+use Rattle.bytecode_laws.specs.Bodies.{inside-code, each-at}
+use Rattle.bytecode_laws.specs.Tests.{never-some, halves}
 use Rattle.compile_code.specs.Code.{Code, nil, op, mark, cell, _▸_, At, after, Line, first, lay, placed, placedAt}
 use Rattle.compile_code.specs.Encode.{recordOf, recordsOf, operatorCode}
 use Rattle.compile_rules.specs.Lines.{index-below}
@@ -53,7 +55,8 @@ either-first : (Q : Shape → Type 0) (o : Option Shape) (s : Shape) → IfSome 
 either-first Q none s h g = g
 either-first Q (some t) s h g = h
 
-pub shape-lines : (m : Macro) (k : ℕ) (Q : Shape → Type 0) (x : Code) (p : At) (o : Option Shape) (f : Option Shape → List Line) → Marks m k (λ a s. Q s) x p → IfSome Q o → ((q : Option Shape) → IfSome Q q → ShapeLines Q (f q)) → ShapeLines Q (lay x o f)
+pub shape-lines : (m : Macro) (k : ℕ) (Q : Shape → Type 0) (x : Code) (p : At) (o : Option Shape) (f : Option Shape → List Line)
+    → Marks m k (λ a s. Q s) x p → IfSome Q o → ((q : Option Shape) → IfSome Q q → ShapeLines Q (f q)) → ShapeLines Q (lay x o f)
 unfolding lay Marks
 shape-lines m k Q nil p o f h g z = z o g
 shape-lines m k Q (op i) p o f h g z = (g, z none tt)
@@ -80,7 +83,9 @@ each-more P Q f (x ∷ xs) h = (f x (h .0), each-more P Q f xs (h .1))
 pub placed-each : (Q : Shape → Type 0) (ls : List Line) (i e : ℕ) → i + length ls ≤ e → ShapeLines Q ls → Each (Spread Q i e) (placed i ls)
 unfolding placed
 placed-each Q [] i e l h = tt
-placed-each Q (x ∷ ls) i e l h = pick (x .shape) (h .0) (each-more (Spread Q (suc i) e) (Spread Q i e) (λ p q. (let z = q .0 in omega arith, q .1, q .2)) (placed (suc i) ls) (placed-each Q ls (suc i) e (omega arith) (h .1)))
+placed-each Q (x ∷ ls) i e l h =
+    pick (x .shape) (h .0) (each-more (Spread Q (suc i) e) (Spread Q i e) (λ p q. (let z = q .0 in omega arith, q .1, q .2)) (placed (suc i) ls)
+    (placed-each Q ls (suc i) e (omega arith) (h .1)))
   where
     pick : (o : Option Shape) → IfSome Q o → Each (Spread Q i e) (placed (suc i) ls) → Each (Spread Q i e) (placedAt o i (placed (suc i) ls))
     pick none g u = u
@@ -101,7 +106,11 @@ placed-apart (x ∷ ls) i = pick (x .shape) (placed-apart ls (suc i))
   where
     pick : (o : Option Shape) → Apart (placed (suc i) ls) → Apart (placedAt o i (placed (suc i) ls))
     pick none u = u
-    pick (some s) u = (each-more (Spread (λ t. Unit {0}) (suc i) (suc i + length ls)) (λ (q : Placed). q .address ≡ i → ⊥) (λ q z e. let y = z .0 in omega arith) (placed (suc i) ls) (placed-each (λ t. Unit {0}) ls (suc i) (suc i + length ls) (omega arith) (free-lines ls)), u)
+    pick (some s) u = (
+      each-more (Spread (λ t. Unit {0}) (suc i) (suc i + length ls)) (λ (q : Placed). q .address ≡ i → ⊥) (λ q z e. let y = z .0 in omega arith)
+          (placed (suc i) ls) (placed-each (λ t. Unit {0}) ls (suc i) (suc i + length ls) (omega arith) (free-lines ls)),
+      u,
+    )
 
 pub placed-few : (ls : List Line) (i : ℕ) → length (placed i ls) ≤ length ls
 unfolding placed
@@ -235,7 +244,9 @@ module _ (m : Macro) (k : ℕ) (w : WellFormed m) (short : length (m .code) < 65
   narrow-op (store o x) h f = let q = from-taking (cellTy m k o x) [] (f .0) (f .1) (f .2) in let z = small-cell o x (q .0) (q .1) in rec (store o x) (omega arith) (owner-byte' o x) (omega arith)
   narrow-op (operate o) h f = rec (operate o) (omega arith) (operator-byte o) (omega arith)
   narrow-op (go t) h f = let z = small-target t (f .0) (f .2 .1) in rec (go t) (omega arith) (omega arith) (omega arith)
-  narrow-op (goUnless t) h f = let q = from-fork (strip (logical ∷ []) (f .0 .operands)) t (f .0) (f .1) (f .2) in let z = small-target t (q .0) (q .1) in rec (goUnless t) (omega arith) (omega arith) (omega arith)
+  narrow-op (goUnless t) h f =
+      let q = from-fork (strip (logical ∷ []) (f .0 .operands)) t (f .0) (f .1) (f .2) in let z = small-target t (q .0) (q .1) in
+      rec (goUnless t) (omega arith) (omega arith) (omega arith)
   narrow-op (callOp b) h f = let q = from-calling (procedureAt m b) (f .0) (f .1) (f .2) in let z = small-body b (q .0) (q .1) in rec (callOp b) (omega arith) (omega arith) (omega arith)
   narrow-op return h f = rec return (omega arith) (omega arith) (omega arith)
   narrow-op (makeOp c) h f = let q = from-making (getElem? (m .classes) c) c (f .0) (f .1) (f .2) in let z = small-class c (q .0) (q .1) .0 in rec (makeOp c) (omega arith) (omega arith) (omega arith)

@@ -64,13 +64,15 @@ module _ (m : Macro) (t : Tree) where
         let l = u .holds in let n = u .need in (
           some (shape 0 []),
           passHead m 0 (t .head) Aim (global own) (quiet-global m 0 (t .head) Aim) (locals (t .head)) (startOfRoot t) [] [] (at 0 0) Statements statements (holdsItems (t .items))
-              (λ Δ q o' r l' c' g'. passItems m 0 (t .head) Aim (t .items) (labels (t .items) (q .address) ∷ Δ) [] q (o' (q .address)) (aims m 0 (t .head) Aim (t .items) Δ [] q g', r) l' (omega arith) c' g')
+              (λ Δ q o' r l' c' g'. passItems m 0 (t .head) Aim (t .items) (labels (t .items) (q .address) ∷ Δ) [] q (o' (q .address))
+              (aims m 0 (t .head) Aim (t .items) Δ [] q g', r) l' (omega arith) c' g')
               o tt (omega arith) (omega arith) (c .0) (g .0),
           (shape 0 [], refl, refl),
         )
 
   -- a procedure
-  reaches-params : (k : ℕ) (Aim : ℕ → Shape → Type 0) (xs : List Typed) (n : ℕ) (ys : List Typed) (Γ : List Around) (ts : List Ty) → Reaches m k (t .head) Aim (parameterCells xs n (inside (procedureOf ys) ∷ Γ)) ts
+  reaches-params : (k : ℕ) (Aim : ℕ → Shape → Type 0) (xs : List Typed) (n : ℕ) (ys : List Typed) (Γ : List Around) (ts : List Ty)
+      → Reaches m k (t .head) Aim (parameterCells xs n (inside (procedureOf ys) ∷ Γ)) ts
   unfolding parameterCells Reaches
   reaches-params k Aim [] n ys Γ ts = tt
   reaches-params k Aim (x ∷ xs) n ys Γ ts = reaches-params k Aim xs (suc n) ys Γ ts

@@ -8,16 +8,21 @@ use lib.ListN.{length}
 use Rattle.words.specs.Options.{orElse}
 use Rattle.words.specs.Choice.{if_then_else_}
 use Rattle.values.specs.Types.{Ty, integer, logical, bits, reference, sames}
-use Rattle.values.specs.Operators.{Operator, unary, binary, negate, absolute, complement, plus, minus, times, divide, remainder, less, atMost, greater, atLeast, equal, unequal, both, either, shiftLeft, shiftRight, Binary, takes, logicalOrBits, anyOne, opType}
-use Rattle.language.specs.Tree.{Decl, declare, holding, Stmt, block, assign, when, choose, while, goto, assert, call, setLevel, select, Items, noItem, label, item, Arms, lastArm, arm, Target, toVariable, toField, Expr, number, truth, pattern, null, variable, invoke, field, make, operate1, operate2, conditional, fader, blockExpr, Exprs, noExpr, expr, Global}
+use Rattle.values.specs.Operators.{Operator, unary, binary, negate, absolute, complement, plus, minus, times, divide, remainder, less, atMost, greater, atLeast, equal}
+use Rattle.values.specs.Operators.{unequal, both, either, shiftLeft, shiftRight, Binary, takes, logicalOrBits, anyOne, opType}
+use Rattle.language.specs.Tree.{Decl, declare, holding, Stmt, block, assign, when, choose, while, goto, assert, call, setLevel, select, Items, noItem, label, item, Arms}
+use Rattle.language.specs.Tree.{lastArm, arm, Target, toVariable, toField, Expr, number, truth, pattern, null, variable, invoke, field, make, operate1, operate2}
+use Rattle.language.specs.Tree.{conditional, fader, blockExpr, Exprs, noExpr, expr, Global}
 use Rattle.language.specs.Names.{blockOf, expressionOf}
 use Rattle.language.specs.Faults.{typeE, isTy}
 use Rattle.bytecode.specs.Macro.{Body, Shape, shape, Macro}
 use Rattle.bytecode.specs.Instructions.{Owner, go, cellTy, fieldTy, procedureAt}
-use Rattle.loading.specs.Terms.{Each, Named}
-use Rattle.loading.specs.Tests.{never-some, same-some}
+use Rattle.bytecode_laws.specs.Terms.{Each, Named}
+use Rattle.bytecode_laws.specs.Tests.{never-some, same-some}
 use Rattle.compile_code.specs.Code.{Code, op, cell, _▸_, At, at, skip, after}
-use Rattle.compile_code.specs.Compile.{Around, inside, outermost, bound, global, held, labels, scopesOf, passing, theLabels, hasLabel, labelAt, Way, plainly, marked, ifTrue, ifFalse, wayOf, codeWay, codeGoto, codeHead, codeS, codeItems, codeArms, codeTarget, codeE, codeEs, tyTarget, tyE, classNumber, fieldNumber, bodyNumber}
+use Rattle.compile_code.specs.Compile.{Around, inside, outermost, bound, global, held, labels, scopesOf, passing, theLabels, hasLabel, labelAt, Way, plainly, marked}
+use Rattle.compile_code.specs.Compile.{ifTrue, ifFalse, wayOf, codeWay, codeGoto, codeHead, codeS, codeItems, codeArms, codeTarget, codeE, codeEs, tyTarget, tyE}
+use Rattle.compile_code.specs.Compile.{classNumber, fieldNumber, bodyNumber}
 use Rattle.compile_rules.specs.Lines.{index-below}
 use Rattle.compile_rules.specs.Flows.{Marks}
 use Rattle.compile_rules.specs.Pass.{Celled, okHead, okS, okItems, okArms, okTarget, okE, okEs, WayOk, tysE}
@@ -98,14 +103,16 @@ module _ (m : Macro) (k : ℕ) (gs : List Global) (H : Heads m) where
   way-type ifFalse o t u r h = subst (Known m k gs) (sym (h .2)) tt
 
   mark-way : (w : Way) (o : Binary) (Γ : List Around) (ts : List Ty) (t : Ty) (x : Code) (p : At) (f : List Ty → At → Code) → Celled m k gs (codeWay w o Γ ts t x p f) p → KnownAll ts
-      → (Celled m k gs x p → Marks m k Typed! x p × Known m k gs t) → ((us : List Ty) (q : At) → KnownAll us → Celled m k gs (f us q) q → Marks m k Typed! (f us q) q) → Marks m k Typed! (codeWay w o Γ ts t x p f) p
+      → (Celled m k gs x p → Marks m k Typed! x p × Known m k gs t) → ((us : List Ty) (q : At) → KnownAll us → Celled m k gs (f us q) q
+      → Marks m k Typed! (f us q) q) → Marks m k Typed! (codeWay w o Γ ts t x p f) p
   unfolding Marks Celled after
   mark-way plainly o Γ ts t x p f c n h g = let v = h (c .0) in (v .0, (g (t ∷ ts) (after x p) (v .1, n) (c .1 .0), tt))
   mark-way marked o Γ ts t x p f c n h g = let v = h (c .0) in (v .0, ((v .1, n), (g (t ∷ ts) (after x p) (v .1, n) (c .1 .1 .0), tt)))
   mark-way ifTrue o Γ ts t x p f c n h g = (h (c .0) .0, (tt, (g ts (skip 1 (after x p)) n (c .1 .1 .0), (tt, (n, (tt, (tt, n)))))))
   mark-way ifFalse o Γ ts t x p f c n h g = (h (c .0) .0, (tt, (tt, (tt, (n, (g ts (skip 3 (after x p)) n (c .1 .1 .1 .1 .1 .0), (tt, n)))))))
 
-  pub mark-head : (name : ℕ → ℕ → Around) (R : Type 0) (ds : List Decl) (Γ : List Around) (p : At) (P : List Around → Type 0) (f : List Around → At → Code) → ((Δ : List Around) (q : At) → P Δ → Celled m k gs (f Δ q) q → Marks m k Typed! (f Δ q) q × R)
+  pub mark-head : (name : ℕ → ℕ → Around) (R : Type 0) (ds : List Decl) (Γ : List Around) (p : At) (P : List Around → Type 0)
+      (f : List Around → At → Code) → ((Δ : List Around) (q : At) → P Δ → Celled m k gs (f Δ q) q → Marks m k Typed! (f Δ q) q × R)
       → okHead m k gs name ds Γ P → Celled m k gs (codeHead gs name ds Γ p f) p → Marks m k Typed! (codeHead gs name ds Γ p f) p × R
   unfolding okHead codeHead Marks Celled after
   mark-head name R [] Γ p P f g o c = g Γ p o c
@@ -117,7 +124,9 @@ module _ (m : Macro) (k : ℕ) (gs : List Global) (H : Heads m) where
     unfolding okS codeS Celled after Marks typeE tysE
 
     pub markS : (s : Stmt) (Γ : List Around) (ts : List Ty) (p : At) → okS m k gs s Γ → Celled m k gs (codeS gs s Γ ts p) p → KnownAll ts → Marks m k Typed! (codeS gs s Γ ts p) p
-    markS (block ds is) Γ ts p o c n = mark-head bound (Unit {0}) ds (inside (blockOf ds is) ∷ Γ) p (λ Δ. (x : ℕ) → okItems m k gs is (labels is x ∷ Δ)) (λ Δ q. codeItems gs is (labels is (q .address) ∷ Δ) ts q)
+    markS (block ds is) Γ ts p o c n =
+        mark-head bound (Unit {0}) ds (inside (blockOf ds is) ∷ Γ) p (λ Δ. (x : ℕ) → okItems m k gs is (labels is x ∷ Δ))
+        (λ Δ q. codeItems gs is (labels is (q .address) ∷ Δ) ts q)
         (λ Δ q o' c'. (markItems is (labels is (q .address) ∷ Δ) ts q (o' (q .address)) c' n, tt)) o c .0
     markS (assign x e) Γ ts p o c n = let u = markTarget x Γ ts p (tyE gs Γ e) (o .0) (c .0) n in (u .0, (markE e Γ _ _ (o .1) (c .1 .0) (u .1) .0, tt))
     markS (when e s) Γ ts p o c n = (markE e Γ ts p (o .0) (c .0) n .0, (tt, (markS s Γ ts _ (o .2) (c .1 .1 .0) n, n)))
@@ -134,15 +143,18 @@ module _ (m : Macro) (k : ℕ) (gs : List Global) (H : Heads m) where
     markItems (label a is) Γ ts p o c n = (n, markItems is Γ ts p o (c .1) n)
     markItems (item s is) Γ ts p o c n = (markS s Γ ts p (o .0) (c .0) n, markItems is Γ ts _ (o .1) (c .1) n)
 
-    markArms : (r : Arms) (x i z : ℕ) (Γ : List Around) (ts : List Ty) (p : At) → okArms m k gs r Γ → Celled m k gs (codeArms gs r x i z Γ ts p) p → KnownAll ts → Marks m k Typed! (codeArms gs r x i z Γ ts p) p
+    markArms : (r : Arms) (x i z : ℕ) (Γ : List Around) (ts : List Ty) (p : At) → okArms m k gs r Γ → Celled m k gs (codeArms gs r x i z Γ ts p) p
+        → KnownAll ts → Marks m k Typed! (codeArms gs r x i z Γ ts p) p
     markArms (lastArm s) x i z Γ ts p o c n = (tt, (tt, (tt, (tt, (markS s Γ ts _ o (c .1 .1 .1 .1 .0) n, (tt, (n, tt)))))))
     markArms (arm s r) x i z Γ ts p o c n = (tt, (tt, (tt, (tt, (markS s Γ ts _ (o .0) (c .1 .1 .1 .1 .0) n, (tt, (n, markArms r x (suc i) z Γ ts _ (o .1) (c .1 .1 .1 .1 .1 .1 .1) n)))))))
 
-    markTarget : (x : Target) (Γ : List Around) (ts : List Ty) (p : At) (t : Ty) → okTarget m k gs x Γ t → Celled m k gs (codeTarget gs x Γ ts p) p → KnownAll ts → Marks m k Typed! (codeTarget gs x Γ ts p) p × KnownAll (tyTarget gs Γ x ts)
+    markTarget : (x : Target) (Γ : List Around) (ts : List Ty) (p : At) (t : Ty) → okTarget m k gs x Γ t → Celled m k gs (codeTarget gs x Γ ts p) p
+        → KnownAll ts → Marks m k Typed! (codeTarget gs x Γ ts p) p × KnownAll (tyTarget gs Γ x ts)
     markTarget (toVariable a) Γ ts p t o c n = (tt, n)
     markTarget (toField a e) Γ ts p t o c n = let u = markE e Γ ts p (o .0) c n in (u .0, (u .1, n))
 
-    pub markE : (e : Expr) (Γ : List Around) (ts : List Ty) (p : At) → okE m k gs e Γ → Celled m k gs (codeE gs e Γ ts p) p → KnownAll ts → Marks m k Typed! (codeE gs e Γ ts p) p × Known m k gs (tyE gs Γ e)
+    pub markE : (e : Expr) (Γ : List Around) (ts : List Ty) (p : At) → okE m k gs e Γ → Celled m k gs (codeE gs e Γ ts p) p → KnownAll ts
+        → Marks m k Typed! (codeE gs e Γ ts p) p × Known m k gs (tyE gs Γ e)
     markE (number z) Γ ts p o c n = (tt, tt)
     markE (truth b) Γ ts p o c n = (tt, tt)
     markE (pattern z) Γ ts p o c n = (tt, tt)
@@ -153,15 +165,19 @@ module _ (m : Macro) (k : ℕ) (gs : List Global) (H : Heads m) where
     markE (make x es) Γ ts p o c n = ((markEs es Γ ts p (o .0) (c .0) n, tt), index-below (m .classes) (classNumber gs x) (tysE gs Γ es) (o .1))
     markE (operate1 u e) Γ ts p o c n = ((markE e Γ ts p (o .0) (c .0) n .0, tt), of-operator (length (m .classes)) (unary u) (tyE gs Γ e ∷ []) (tyE gs Γ (operate1 u e)) (o .1))
     markE (operate2 u e f) Γ ts p o c n = (
-      mark-way (wayOf u (isTy logical (typeE (scopesOf Γ) e))) u Γ ts (tyE gs Γ e) (codeE gs e Γ ts p) p (λ us q. codeE gs f Γ us q) c n (λ c'. markE e Γ ts p (o .0) c' n) (λ us q n' c'. markE f Γ us q (o .1) c' n' .0),
+      mark-way (wayOf u (isTy logical (typeE (scopesOf Γ) e))) u Γ ts (tyE gs Γ e) (codeE gs e Γ ts p) p (λ us q. codeE gs f Γ us q) c n
+          (λ c'. markE e Γ ts p (o .0) c' n) (λ us q n' c'. markE f Γ us q (o .1) c' n' .0),
       way-type (wayOf u (isTy logical (typeE (scopesOf Γ) e))) u (tyE gs Γ e) (tyE gs Γ f) (tyE gs Γ (operate2 u e f)) (o .2),
     )
     markE (conditional e f g) Γ ts p o c n = let u = markE f Γ ts (skip 1 (after (codeE gs e Γ ts p) p)) (o .2) (c .1 .1 .0) n in
         ((markE e Γ ts p (o .0) (c .0) n .0, (tt, (u .0, (tt, (n, (markE g Γ ts _ (o .3) (c .1 .1 .1 .1 .1 .0) n .0, (u .1, n))))))), subst (Known m k gs) (sym (o .5)) (u .1))
     markE (fader e) Γ ts p o c n = ((markE e Γ ts p (o .0) (c .0) n .0, tt), subst (Known m k gs) (sym (o .2)) tt)
-    markE (blockExpr ds is e) Γ ts p o c n = mark-head bound (Known m k gs (tyE gs Γ (blockExpr ds is e))) ds (inside (expressionOf ds is) ∷ Γ) p (λ Δ. ((x : ℕ) → okItems m k gs is (labels is x ∷ Δ)) × okE m k gs e Δ × (tyE gs Δ e ≡ tyE gs Γ (blockExpr ds is e)))
+    markE (blockExpr ds is e) Γ ts p o c n =
+        mark-head bound (Known m k gs (tyE gs Γ (blockExpr ds is e))) ds (inside (expressionOf ds is) ∷ Γ) p
+        (λ Δ. ((x : ℕ) → okItems m k gs is (labels is x ∷ Δ)) × okE m k gs e Δ × (tyE gs Δ e ≡ tyE gs Γ (blockExpr ds is e)))
         (λ Δ q. let y = codeItems gs is (labels is (q .address) ∷ Δ) ts q in y ▸ codeE gs e Δ ts (after y q))
-        (λ Δ q o' c'. let u = markE e Δ ts (after (codeItems gs is (labels is (q .address) ∷ Δ) ts q) q) (o' .1) (c' .1) n in ((markItems is (labels is (q .address) ∷ Δ) ts q (o' .0 (q .address)) (c' .0) n, u .0), subst (Known m k gs) (o' .2) (u .1))) o c
+        (λ Δ q o' c'. let u = markE e Δ ts (after (codeItems gs is (labels is (q .address) ∷ Δ) ts q) q) (o' .1) (c' .1) n in
+        ((markItems is (labels is (q .address) ∷ Δ) ts q (o' .0 (q .address)) (c' .0) n, u .0), subst (Known m k gs) (o' .2) (u .1))) o c
 
     markEs : (es : Exprs) (Γ : List Around) (ts : List Ty) (p : At) → okEs m k gs es Γ → Celled m k gs (codeEs gs es Γ ts p) p → KnownAll ts → Marks m k Typed! (codeEs gs es Γ ts p) p
     markEs noExpr Γ ts p o c n = tt

@@ -70,8 +70,11 @@ module _ (t : Tree) where
   root-few h =
       let x = codeHead (t .head) (global own) (locals (t .head)) (startOfRoot t) (at 0 0) (λ Δ q. codeItems (t .head) (t .items) (labels (t .items) (q .address) ∷ Δ) [] q) in
       let g = lenHead (t .head) (global own) by-global (locals (t .head)) (startOfRoot t) (at 0 0) (λ Δ q. codeItems (t .head) (t .items) (labels (t .items) (q .address) ∷ Δ) [] q)
-      (λ Φ. opsItems (t .items) (rootOf t ∷ []) (theLabels (t .items) ∷ Φ)) (rootOf t ∷ []) (λ Δ q e. lenItems (t .head) (t .items) (labels (t .items) (q .address) ∷ Δ) [] q ∙ ap (λ z. q .address + opsItems (t .items) z (theLabels (t .items) ∷ passing Δ)) e) refl in
-      let f = few-head (locals (t .head)) [] (λ Φ. opsItems (t .items) (rootOf t ∷ []) (theLabels (t .items) ∷ Φ)) (22 * sizeItems (t .items)) (holdsItems (t .items)) (λ Φ m. fewItems (t .items) (rootOf t ∷ []) (theLabels (t .items) ∷ Φ) m) (omega arith) in
+      (λ Φ. opsItems (t .items) (rootOf t ∷ []) (theLabels (t .items) ∷ Φ)) (rootOf t ∷ [])
+      (λ Δ q e. lenItems (t .head) (t .items) (labels (t .items) (q .address) ∷ Δ) [] q
+      ∙ ap (λ z. q .address + opsItems (t .items) z (theLabels (t .items) ∷ passing Δ)) e) refl in
+      let f = few-head (locals (t .head)) [] (λ Φ. opsItems (t .items) (rootOf t ∷ []) (theLabels (t .items) ∷ Φ)) (22 * sizeItems (t .items))
+      (holdsItems (t .items)) (λ Φ m. fewItems (t .items) (rootOf t ∷ []) (theLabels (t .items) ∷ Φ) m) (omega arith) in
       let u = after-ops x (at 0 0) in omega arith
 
   -- "At most 2,048 entries": the sizes count those below the root's own

@@ -8,9 +8,10 @@ use lib.Dec.{eqb}
 use Rattle.words.specs.Choice.{if_then_else_}
 use Rattle.values.specs.Types.{Ty}
 use Rattle.language.specs.Tree.{Typed, declare, holding, Global, local, class, procedure, Tree, locals}
-use Rattle.language.specs.Names.{Sort, isVariable, isLabel, isClass, isField, isProcedure, Definition, types, results, definesHead, definesFields, definesGlobals, procedureOf, rootOf, Found, nowhere, found, firstOf, otherwise, across, lookup, definesTyped, definesItems}
+use Rattle.language.specs.Names.{Sort, isVariable, isLabel, isClass, isField, isProcedure, Definition, types, results, definesHead, definesFields, definesGlobals}
+use Rattle.language.specs.Names.{procedureOf, rootOf, Found, nowhere, found, firstOf, otherwise, across, lookup, definesTyped, definesItems}
 use Rattle.bytecode.specs.Instructions.{Owner}
-use Rattle.loading.specs.Tests.{never}
+use Rattle.bytecode_laws.specs.Tests.{never}
 use Rattle.compile_code.specs.Compile.{Around, inside, labels, scopesOf, hasLabel}
 use Rattle.compile_code.specs.Compile.{cellOf as keptOf}
 use Rattle.compile_code.specs.Encode.{parameterCells, startOfRoot}
@@ -36,24 +37,32 @@ no-label-typed (x ∷ xs) a h = no-label-typed xs a (label-not a (x .name) (isVa
 no-label-fields : (c : ℕ) (xs : List Typed) (ds : List Definition) (a : ℕ) → firstOf a (definesFields c xs ++ ds) ≡ found isLabel false → firstOf a ds ≡ found isLabel false
 unfolding firstOf definesFields
 no-label-fields c [] ds a h = h
-no-label-fields c (x ∷ xs) ds a h = no-label-fields c xs ds a (label-not a (x .name) (isField c (x .type)) false (firstOf a (definesFields c xs ++ ds)) (λ e. let z : _≡_ {A = ℕ} 0 1 = cc e in omega arith) h)
+no-label-fields c (x ∷ xs) ds a h =
+    no-label-fields c xs ds a (label-not a (x .name) (isField c (x .type)) false (firstOf a (definesFields c xs ++ ds))
+    (λ e. let z : _≡_ {A = ℕ} 0 1 = cc e in omega arith) h)
 
 no-label-root : (gs : List Global) (a : ℕ) → firstOf a (definesGlobals gs) ≡ found isLabel false → ⊥
 unfolding firstOf definesGlobals definesHead
 no-label-root [] a h = nothing isLabel false h
-no-label-root (local (declare x) ∷ gs) a h = no-label-root gs a (label-not a (x .name) (isVariable (x .type)) false (firstOf a (definesGlobals gs)) (λ e. let z : _≡_ {A = ℕ} 0 1 = cc e in omega arith) h)
+no-label-root (local (declare x) ∷ gs) a h =
+    no-label-root gs a (label-not a (x .name) (isVariable (x .type)) false (firstOf a (definesGlobals gs)) (λ e. let z : _≡_ {A = ℕ} 0 1 = cc e in omega arith) h)
 no-label-root (local (holding g) ∷ gs) a h = no-label-root gs a h
-no-label-root (class c xs ∷ gs) a h = no-label-root gs a (no-label-fields c xs (definesGlobals gs) a (label-not a c (isClass (types xs)) false (firstOf a (definesFields c xs ++ definesGlobals gs)) (λ e. let z : _≡_ {A = ℕ} 0 1 = cc e in omega arith) h))
-no-label-root (procedure b xs d ∷ gs) a h = no-label-root gs a (label-not a b (isProcedure (types xs) (results d)) false (firstOf a (definesGlobals gs)) (λ e. let z : _≡_ {A = ℕ} 0 1 = cc e in omega arith) h)
+no-label-root (class c xs ∷ gs) a h =
+    no-label-root gs a (no-label-fields c xs (definesGlobals gs) a (label-not a c (isClass (types xs)) false
+    (firstOf a (definesFields c xs ++ definesGlobals gs)) (λ e. let z : _≡_ {A = ℕ} 0 1 = cc e in omega arith) h))
+no-label-root (procedure b xs d ∷ gs) a h =
+    no-label-root gs a (label-not a b (isProcedure (types xs) (results d)) false (firstOf a (definesGlobals gs)) (λ e. let z : _≡_ {A = ℕ} 0 1 = cc e in omega arith) h)
 
 -- ── names of the root ──
 module _ (P : Owner → ℕ → Ty → Type 0) (t : Tree) (whole : goodGlobals (rootOf t ∷ []) [] (t .head)) where
   known-root : (S : Style) (Δ : List Around) → ((a : ℕ) → keptOf a Δ ≡ S .look a Δ) → Entered P S (locals (t .head)) (startOfRoot t) Δ → Known P Δ
   unfolding lookup scopesOf
   known-root S Δ same e a u w h =
-      let q = outer (definesGlobals (t .head)) (t .items) a (isVariable u) w nowhere (λ z. z) (subst (λ ss. lookup a ss ≡ found (isVariable u) w) (entered-scopes P S (locals (t .head)) (startOfRoot t) Δ e) h)
+      let q = outer (definesGlobals (t .head)) (t .items) a (isVariable u) w nowhere (λ z. z)
+      (subst (λ ss. lookup a ss ≡ found (isVariable u) w) (entered-scopes P S (locals (t .head)) (startOfRoot t) Δ e) h)
       (firstOf a (definesGlobals (t .head)) ≡ found (isVariable u) w) (λ z. z) (λ n z. nothing (isVariable u) w z) in
-      subst (λ z. Has P z u) (sym (same a)) (entered-new P S (locals (t .head)) (startOfRoot t) Δ a u w (rootOf t ∷ []) [] e (good-locals (t .head) (rootOf t ∷ []) [] [] (λ b z. z) whole) (variable-found (t .head) a u w q))
+      subst (λ z. Has P z u) (sym (same a)) (entered-new P S (locals (t .head)) (startOfRoot t) Δ a u w (rootOf t ∷ []) [] e
+      (good-locals (t .head) (rootOf t ∷ []) [] [] (λ b z. z) whole) (variable-found (t .head) a u w q))
 
   pub inside-root : (S : Style) (Δ : List Around) → ((a : ℕ) → keptOf a Δ ≡ S .look a Δ) → Entered P S (locals (t .head)) (startOfRoot t) Δ → Inside P (t .head) Δ
   unfolding scopesOf
@@ -66,11 +75,13 @@ module _ (P : Owner → ℕ → Ty → Type 0) (t : Tree) (whole : goodGlobals (
   pub reached-root : (S : Style) (Δ : List Around) (x : ℕ) → Entered P S (locals (t .head)) (startOfRoot t) Δ → Reached (labels (t .items) x ∷ Δ)
   unfolding lookup scopesOf gotoOk
   reached-root S Δ x e a h =
-      let h' : otherwise (firstOf a (definesGlobals (t .head) ++ definesItems (t .items))) nowhere ≡ found isLabel false = subst (λ ss. lookup a ss ≡ found isLabel false) (entered-scopes P S (locals (t .head)) (startOfRoot t) Δ e) h in
+      let h' : otherwise (firstOf a (definesGlobals (t .head) ++ definesItems (t .items))) nowhere ≡ found isLabel false =
+      subst (λ ss. lookup a ss ≡ found isLabel false) (entered-scopes P S (locals (t .head)) (startOfRoot t) Δ e) h in
       here-or (hasLabel a (t .items)) (gotoOk true Δ a) (λ n. absurd (pick (firstOf a (definesGlobals (t .head))) refl (firstOf a (definesItems (t .items))) refl n
       (subst (λ z. otherwise z nowhere ≡ found isLabel false) (first-append a (definesGlobals (t .head)) (definesItems (t .items))) h')))
     where
-      pick : (u : Found) → firstOf a (definesGlobals (t .head)) ≡ u → (v : Found) → firstOf a (definesItems (t .items)) ≡ v → hasLabel a (t .items) ≡ false → otherwise (otherwise u v) nowhere ≡ found isLabel false → ⊥
+      pick : (u : Found) → firstOf a (definesGlobals (t .head)) ≡ u → (v : Found) → firstOf a (definesItems (t .items)) ≡ v
+          → hasLabel a (t .items) ≡ false → otherwise (otherwise u v) nowhere ≡ found isLabel false → ⊥
       pick nowhere p nowhere q n k = nothing isLabel false k
       pick nowhere p (found s w) q n k = never (sym n ∙ has-label a (t .items) s w q)
       pick (found s w) p v q n k = no-label-root (t .head) a (p ∙ k)
@@ -78,7 +89,9 @@ module _ (P : Owner → ℕ → Ty → Type 0) (t : Tree) (whole : goodGlobals (
   -- a procedure: no goto leaves it
   pub reached-procedure : (xs : List Typed) (Γ : List Around) → Reached (parameterCells xs 0 (inside (procedureOf xs) ∷ Γ))
   unfolding lookup scopesOf
-  reached-procedure xs Γ a h = absurd (pick (firstOf a (definesTyped xs)) refl (lookup a (scopesOf Γ)) (subst (λ ss. lookup a ss ≡ found isLabel false) (scopes-parameters P xs 0 (inside (procedureOf xs) ∷ Γ)) h))
+  reached-procedure xs Γ a h =
+      absurd (pick (firstOf a (definesTyped xs)) refl (lookup a (scopesOf Γ))
+      (subst (λ ss. lookup a ss ≡ found isLabel false) (scopes-parameters P xs 0 (inside (procedureOf xs) ∷ Γ)) h))
     where
       pick : (u : Found) → firstOf a (definesTyped xs) ≡ u → (f : Found) → otherwise u (across f) ≡ found isLabel false → ⊥
       pick nowhere e nowhere k = nothing isLabel false k

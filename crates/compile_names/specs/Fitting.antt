@@ -12,19 +12,22 @@ use Rattle.words.specs.Options.{keep}
 use Rattle.values.specs.Types.{Ty, integer, logical, bits, reference}
 use Rattle.values.specs.Operators.{Binary, unary, binary, opType}
 use Rattle.values.specs.Values.{ref, initial}
-use Rattle.language.specs.Tree.{Decl, declare, holding, Stmt, block, assign, when, choose, while, goto, assert, call, setLevel, select, Items, noItem, label, item, Arms, lastArm, arm, Target, toVariable, toField, Expr, number, truth, pattern, null, variable, invoke, field, make, operate1, operate2, conditional, fader, blockExpr, Exprs, noExpr, expr, Global}
+use Rattle.language.specs.Tree.{Decl, declare, holding, Stmt, block, assign, when, choose, while, goto, assert, call, setLevel, select, Items, noItem, label, item, Arms}
+use Rattle.language.specs.Tree.{lastArm, arm, Target, toVariable, toField, Expr, number, truth, pattern, null, variable, invoke, field, make, operate1, operate2}
+use Rattle.language.specs.Tree.{conditional, fader, blockExpr, Exprs, noExpr, expr, Global}
 use Rattle.language.specs.Names.{isVariable, isClass, isField, isProcedure, types, results, Scope, blockOf, expressionOf}
 use Rattle.language.specs.Faults.{withTy, typeE, typesE, typeTarget, isTy, variableTy, resultTy}
 use Rattle.language.specs.Faults.{fieldTy as treeFieldTy}
 use Rattle.bytecode.specs.Macro.{Body, Shape, Macro}
 use Rattle.bytecode.specs.Instructions.{Owner, push, cellTy, fieldTy, procedureAt}
 use Rattle.bytecode.specs.Rules.{plain, effect}
-use Rattle.compile_code.specs.Compile.{Around, inside, bound, held, labels, scopesOf, kept, Class, classesOf, namesOf, indexOf, Proc, procsOf, classNumber, bodyNumber, fieldNumber, orInteger, wayOf, tyIn, tyE}
+use Rattle.compile_code.specs.Compile.{Around, inside, bound, held, labels, scopesOf, kept, Class, classesOf, namesOf, indexOf, Proc, procsOf, classNumber, bodyNumber}
+use Rattle.compile_code.specs.Compile.{fieldNumber, orInteger, wayOf, tyIn, tyE}
 use Rattle.compile_code.specs.Compile.{cellOf as keptOf}
 use Rattle.compile_code.specs.Encode.{fieldTypes}
 use Rattle.compile_rules.specs.Lines.{index-below}
 use Rattle.compile_rules.specs.Pass.{tysE, okHead, WayOk, okS, okItems, okArms, okTarget, okE, okEs}
-use Rattle.programs.specs.Tests.{is-ty}
+use Rattle.language_laws.specs.Tests.{is-ty}
 use Rattle.compile_names.specs.Good.{ClassAt, IsA, goodTy, goodHead, HasTy, goodS, goodItems, goodArms, goodTarget, goodE, goodEs}
 use Rattle.compile_names.specs.Known.{ofBlock, Entered}
 use Rattle.compile_names.specs.Labels.{Reached, reached-block, reached-expression}
@@ -66,7 +69,9 @@ module _ (m : Macro) (k : ℕ) (gs : List Global) where
 
   module _ (tables : Tabled m gs) where
     class-typed : (c : ℕ) (ts : List Ty) → ClassFound gs c ts → getElem? (m .classes) (classNumber gs c) ≡ some (map (tyIn gs) ts)
-    class-typed c ts f = ap (λ l. getElem? l (classNumber gs c)) (tables .classes-are) ∙ class-types gs (classesOf gs) (classNumber gs c) (classAs c (f .fields)) (f .at-number) ∙ ap (λ us. some (map (tyIn gs) us)) (f .its-types)
+    class-typed c ts f =
+        ap (λ l. getElem? l (classNumber gs c)) (tables .classes-are) ∙ class-types gs (classesOf gs) (classNumber gs c) (classAs c (f .fields))
+        (f .at-number) ∙ ap (λ us. some (map (tyIn gs) us)) (f .its-types)
 
     push-null : (ss : List Scope) (c : ℕ) → GlobalsIn gs ss → ClassAt ss c → (s : Shape) → effect m k (push (ref (classNumber gs c) none)) s ≡ plain [] (tyIn gs (reference c) ∷ [])
     unfolding effect
@@ -82,7 +87,8 @@ module _ (m : Macro) (k : ℕ) (gs : List Global) where
     push-ok ss bits g h s = refl
     push-ok ss (reference c) g h s = push-null ss c g h s
 
-    pub typed-head : (ss : List Scope) (seen : List ℕ) (ds : List Decl) (Γ : List Around) (Q : List Around → Type 0) → GlobalsIn gs ss → goodHead ss seen ds → ((Δ : List Around) → Entered CellTy ofBlock ds Γ Δ → Q Δ) → okHead m k gs bound ds Γ Q
+    pub typed-head : (ss : List Scope) (seen : List ℕ) (ds : List Decl) (Γ : List Around) (Q : List Around → Type 0) → GlobalsIn gs ss
+        → goodHead ss seen ds → ((Δ : List Around) → Entered CellTy ofBlock ds Γ Δ → Q Δ) → okHead m k gs bound ds Γ Q
     unfolding goodHead Entered okHead
     typed-head ss seen [] Γ Q g h f = f Γ refl
     typed-head ss seen (declare x ∷ ds) Γ Q g h f = (push-ok ss (x .type) g (h .1), λ c t. typed-head ss (x .name ∷ seen) ds (bound (x .name) c ∷ Γ) Q g (h .2) (λ Δ e. f Δ (c, t, e)))
@@ -101,8 +107,13 @@ module _ (m : Macro) (k : ℕ) (gs : List Global) where
           let q = g a (isField c t) (i .0) tt (i .1) in let f = field-found gs rs [] 0 a c t (q .0) whole (q .1) in let z = f .its-class in
           let n : fieldNumber gs a .class ≡ classNumber gs c = omega arith in
           let x : fieldNumber gs a .index ≡ indexOf a (namesOf (f .fields)) = f .its-index in
-          let y : getElem? (m .classes) (classNumber gs c) ≡ some (map (tyIn gs) (types (f .fields))) = ap (λ l. getElem? l (classNumber gs c)) (tables .classes-are) ∙ class-types gs (classesOf gs) (classNumber gs c) (classAs c (f .fields)) (f .at-number) in
-          (has-type Γ e (reference c) h ∙ ap reference (sym n), rw (n, x) (ap (λ o. keep o (λ ts. getElem? ts (indexOf a (namesOf (f .fields))))) y ∙ map-get (tyIn gs) (types (f .fields)) (indexOf a (namesOf (f .fields))) t (f .its-type)))
+          let y : getElem? (m .classes) (classNumber gs c) ≡ some (map (tyIn gs) (types (f .fields))) =
+          ap (λ l. getElem? l (classNumber gs c)) (tables .classes-are) ∙ class-types gs (classesOf gs) (classNumber gs c) (classAs c (f .fields)) (f .at-number) in (
+            has-type Γ e (reference c) h ∙ ap reference (sym n),
+            rw (n, x)
+                (ap (λ o. keep o (λ ts. getElem? ts (indexOf a (namesOf (f .fields))))) y
+                ∙ map-get (tyIn gs) (types (f .fields)) (indexOf a (namesOf (f .fields))) t (f .its-type)),
+          )
 
       -- the type of what stands where
       variable-type : (Γ : List Around) (a : ℕ) (t : Ty) → IsA a (scopesOf Γ) (isVariable t) → tyE gs Γ (variable a) ≡ tyIn gs t
@@ -117,7 +128,8 @@ module _ (m : Macro) (k : ℕ) (gs : List Global) where
       unfolding typeE
       result-type Γ a es ts u i = ap (λ f. tyIn gs (orInteger (resultTy f))) (i .1)
 
-      variable-found : (Γ : List Around) (a : ℕ) (t : Ty) → Inside CellTy gs Γ → IsA a (scopesOf Γ) (isVariable t) → (o : Owner) × (c : ℕ) × (keptOf a Γ ≡ some (kept o c)) × (cellTy m k o c ≡ some (tyIn gs t))
+      variable-found : (Γ : List Around) (a : ℕ) (t : Ty) → Inside CellTy gs Γ → IsA a (scopesOf Γ) (isVariable t) → (o : Owner) × (c : ℕ)
+          × (keptOf a Γ ≡ some (kept o c)) × (cellTy m k o c ≡ some (tyIn gs t))
       variable-found Γ a t h i = h .known a t (i .0) (i .1)
 
       fit-way : (Γ : List Around) (o : Binary) (e f : Expr) (t u r : Ty) → tyE gs Γ e ≡ tyIn gs t → tyE gs Γ f ≡ tyIn gs u → tyE gs Γ (operate2 o e f) ≡ tyIn gs r
@@ -132,7 +144,9 @@ module _ (m : Macro) (k : ℕ) (gs : List Global) where
         pub typed-S : (s : Stmt) (Γ : List Around) → Inside CellTy gs Γ → Reached Γ → goodS (scopesOf Γ) s → okS m k gs s Γ
         typed-S (block ds is) Γ h r g =
             typed-head (blockOf ds is ∷ scopesOf Γ) [] ds (inside (blockOf ds is) ∷ Γ) (λ Δ. (x : ℕ) → okItems m k gs is (labels is x ∷ Δ)) (globals-block gs ds is (scopesOf Γ) (h .globals)) (g .0)
-            (λ Δ e x. typed-items is (labels is x ∷ Δ) (in-labels CellTy gs is x Δ (in-block CellTy gs ds is Γ Δ (blockOf ds is ∷ scopesOf Γ) (g .0) e h)) (reached-block CellTy ds is x Γ Δ e r) (good-inside CellTy gs (blockOf ds is) ds is x Γ Δ e (g .1)))
+            (λ Δ e x. typed-items is (labels is x ∷ Δ) (in-labels CellTy gs is x Δ
+            (in-block CellTy gs ds is Γ Δ (blockOf ds is ∷ scopesOf Γ) (g .0) e h)) (reached-block CellTy ds is x Γ Δ e r)
+            (good-inside CellTy gs (blockOf ds is) ds is x Γ Δ e (g .1)))
         typed-S (assign x e) Γ h r g = (typed-target x Γ (tyE gs Γ e) (g .2 .0) h (g .0) (g .2 .2) (has-type Γ e (g .2 .0) (g .2 .1)), typed-E e Γ h (g .1))
         typed-S (when e s) Γ h r g = (typed-E e Γ h (g .0), has-type Γ e logical (g .1), typed-S s Γ h r (g .2))
         typed-S (choose e s t) Γ h r g = (typed-E e Γ h (g .0), has-type Γ e logical (g .1), typed-S s Γ h r (g .2), typed-S t Γ h r (g .3))
@@ -176,8 +190,11 @@ module _ (m : Macro) (k : ℕ) (gs : List Global) where
             let q = h .globals c (isClass (g .1 .0)) (g .1 .1 .0) tt (g .1 .1 .1) in
             (typed-Es es Γ h (g .0), class-typed c (g .1 .0) (class-found gs c (g .1 .0) (q .0) (q .1)) ∙ ap some (sym (types-are Γ es (g .1 .0) (g .1 .2))))
         typed-E (operate1 o e) Γ h g =
-            let x : typeE (scopesOf Γ) (operate1 o e) ≡ some (g .1 .1) = ap (λ y. withTy y (λ t. opType (unary o) (t ∷ []))) (g .1 .2) ∙ g .1 .3 in
-            (typed-E e Γ h (g .0), ap (λ u. opType (unary o) (u ∷ [])) (has-type Γ e (g .1 .0) (g .1 .2)) ∙ unary-in gs o (g .1 .0) (g .1 .1) (g .1 .3) ∙ ap some (sym (has-type Γ (operate1 o e) (g .1 .1) x)))
+            let x : typeE (scopesOf Γ) (operate1 o e) ≡ some (g .1 .1) = ap (λ y. withTy y (λ t. opType (unary o) (t ∷ []))) (g .1 .2) ∙ g .1 .3 in (
+              typed-E e Γ h (g .0),
+              ap (λ u. opType (unary o) (u ∷ [])) (has-type Γ e (g .1 .0) (g .1 .2))
+                  ∙ unary-in gs o (g .1 .0) (g .1 .1) (g .1 .3) ∙ ap some (sym (has-type Γ (operate1 o e) (g .1 .1) x)),
+            )
         typed-E (operate2 o e f) Γ h g =
             let t = g .2 .0 in let u = g .2 .1 in let r = g .2 .2 in
             let x : typeE (scopesOf Γ) (operate2 o e f) ≡ some r =
@@ -189,7 +206,9 @@ module _ (m : Macro) (k : ℕ) (gs : List Global) where
             (typed-E e Γ h (g .0), has-type Γ e logical (g .1), typed-E f Γ h (g .2), typed-E v Γ h (g .3), has-type Γ v (g .4 .0) (g .4 .2) ∙ sym (has-type Γ f (g .4 .0) (g .4 .1)), refl)
         typed-E (fader e) Γ h g = (typed-E e Γ h (g .0), has-type Γ e integer (g .1), refl)
         typed-E (blockExpr ds is v) Γ h g =
-            typed-head (expressionOf ds is ∷ scopesOf Γ) [] ds (inside (expressionOf ds is) ∷ Γ) (λ Δ. ((x : ℕ) → okItems m k gs is (labels is x ∷ Δ)) × okE m k gs v Δ × (tyE gs Δ v ≡ tyE gs Γ (blockExpr ds is v))) (globals-expression gs ds is (scopesOf Γ) (h .globals)) (g .0)
+            typed-head (expressionOf ds is ∷ scopesOf Γ) [] ds (inside (expressionOf ds is) ∷ Γ)
+            (λ Δ. ((x : ℕ) → okItems m k gs is (labels is x ∷ Δ)) × okE m k gs v Δ × (tyE gs Δ v ≡ tyE gs Γ (blockExpr ds is v)))
+            (globals-expression gs ds is (scopesOf Γ) (h .globals)) (g .0)
             (λ Δ e. let h' = in-expression CellTy gs ds is Γ Δ (expressionOf ds is ∷ scopesOf Γ) (g .0) e h in (
               (λ x. typed-items is (labels is x ∷ Δ) (in-labels CellTy gs is x Δ h') (reached-expression CellTy ds is x Γ Δ e) (good-inside CellTy gs (expressionOf ds is) ds is x Γ Δ e (g .1))),
               typed-E v Δ h' (good-value CellTy gs (expressionOf ds is) ds v Γ Δ e (g .2)),

@@ -13,13 +13,14 @@ use Rattle.words.specs.Choice.{if_then_else_}
 use Rattle.values.specs.Types.{Ty}
 use Rattle.values.specs.Ends.{Refusal}
 use Rattle.language.specs.Tree.{Typed, Decl, declare, holding, Items, Body, proper, function, Global, local, class, procedure, Tree, locals}
-use Rattle.language.specs.Names.{Sort, isVariable, isLabel, isClass, isField, isProcedure, Definition, types, results, definesTyped, definesHead, definesFields, definesGlobals, Scope, blockOf, expressionOf, procedureOf, rootOf, Found, nowhere, found, firstOf, otherwise, across, lookup}
+use Rattle.language.specs.Names.{Sort, isVariable, isLabel, isClass, isField, isProcedure, Definition, types, results, definesTyped, definesHead, definesFields}
+use Rattle.language.specs.Names.{definesGlobals, Scope, blockOf, expressionOf, procedureOf, rootOf, Found, nowhere, found, firstOf, otherwise, across, lookup}
 use Rattle.language.specs.Faults.{typeE, mistypedUnless, twice, faultsTyped, namesHead, namesTyped, namesGlobal, bodyFits, faultsBody, faultsGlobal, faultsGlobals, faultsItems, faults, sizeGlobal}
 use Rattle.language.specs.Execute.{Procedure, procedureIn, classIn}
-use Rattle.loading.specs.Tests.{never, neither}
+use Rattle.bytecode_laws.specs.Tests.{never, neither}
 use Rattle.compile_code.specs.Compile.{indexOf, amongNames, namesOf, Class, classesOf, classNames, Proc, procsOf, procNames, fieldIn}
-use Rattle.programs.specs.Tests.{fault-if, told}
-use Rattle.programs.specs.Typing.{typed-E, formed-S, formed-items}
+use Rattle.language_laws.specs.Tests.{fault-if, told}
+use Rattle.language_laws.specs.Typing.{typed-E, formed-S, formed-items}
 use Rattle.compile_names.specs.Good.{goodTyped, goodHead, goodS, goodE, goodItems, HasTy, split, good-typed, good-head, good-S, good-E, good-items}
 use Rattle.compile_names.specs.Known.{nothing, first-append, IsLabel, outer, uncross}
 
@@ -49,7 +50,8 @@ good-global ss seen p (procedure a xs b) h =
     let q = split (faultsTyped inner [] (suc p) xs) _ h in let r = split (faultsBody inner (suc p + length xs) b) _ (q .1) in let k = split (twice a seen p) _ (r .1) in
     (good-typed inner [] (suc p) xs (q .0), good-body inner (suc p + length xs) p b (r .0) (k .1), fault-if (among a seen) 3 p (k .0))
 
-good-globals : (ss : List Scope) (seen : List ℕ) (p : ℕ) (gs : List Global) (k : List ℕ → ℕ → List Refusal) → faultsGlobals ss seen p gs k ≡ [] → goodGlobals ss seen gs × ((seen' : List ℕ) × (q : ℕ) × (k seen' q ≡ []))
+good-globals : (ss : List Scope) (seen : List ℕ) (p : ℕ) (gs : List Global) (k : List ℕ → ℕ → List Refusal) → faultsGlobals ss seen p gs k ≡ []
+    → goodGlobals ss seen gs × ((seen' : List ℕ) × (q : ℕ) × (k seen' q ≡ []))
 unfolding faultsGlobals goodGlobals
 good-globals ss seen p [] k h = (tt, (seen, p, h))
 good-globals ss seen p (g ∷ gs) k h =
@@ -104,7 +106,9 @@ typed-global a (x ∷ xs) = pick (eqb (x .name) a) (typed-global a xs)
 
 pub globals-root : (t : Tree) → GlobalsIn (t .head) (rootOf t ∷ [])
 unfolding lookup
-globals-root t a s w g h = outer (definesGlobals (t .head)) (t .items) a s w nowhere (no-label s w g) h ((v : Bool) × (firstOf a (definesGlobals (t .head)) ≡ found s v)) (λ q. (w, q)) (λ n q. nothing s w q)
+globals-root t a s w g h =
+    outer (definesGlobals (t .head)) (t .items) a s w nowhere (no-label s w g) h ((v : Bool) × (firstOf a (definesGlobals (t .head)) ≡ found s v))
+    (λ q. (w, q)) (λ n q. nothing s w q)
 
 pub globals-block : (gs : List Global) (ds : List Decl) (is : Items) (ss : List Scope) → GlobalsIn gs ss → GlobalsIn gs (blockOf ds is ∷ ss)
 unfolding lookup
@@ -160,7 +164,8 @@ skips a b u s w f n h = pick (eqb b a) refl h
     pick false e k = (refl, k)
 
 -- the fields of a class: one of them, or what follows
-past-fields : (a c : ℕ) (xs : List Typed) (ds : List Definition) (s : Sort) (w : Bool) → ((v : Bool) → IsField c (found s v) → ⊥) → firstOf a (definesFields c xs ++ ds) ≡ found s w → firstOf a ds ≡ found s w
+past-fields : (a c : ℕ) (xs : List Typed) (ds : List Definition) (s : Sort) (w : Bool) → ((v : Bool) → IsField c (found s v) → ⊥)
+    → firstOf a (definesFields c xs ++ ds) ≡ found s w → firstOf a ds ≡ found s w
 past-fields a c xs ds s w n h = pick (firstOf a (definesFields c xs)) (only-fields a c xs) (sym (first-append a (definesFields c xs) ds) ∙ h)
   where
     pick : (f : Found) → IsField c f → otherwise f (firstOf a ds) ≡ found s w → firstOf a ds ≡ found s w
@@ -224,7 +229,13 @@ procedure-found (procedure b xs d ∷ gs) a ts us w h = pick (eqb b a) refl h (�
         → (firstOf a (definesGlobals gs) ≡ found (isProcedure ts us) w → ProcedureFound gs a ts us) → ProcedureFound (procedure b xs d ∷ gs) a ts us
     pick true e k f =
         let y : types xs ≡ ts = cc k in let z : results d ≡ us = cc k in
-        record { its = record { parameters = xs; body = d }; in-tree = rw (eqb-comm a b ∙ e) refl; takes-types = y; gives-types = z; at-number = rw e (ap (λ n. some (procAs n (record { parameters = xs; body = d }))) (eqb-true b a e)) }
+        record {
+          its = record { parameters = xs; body = d };
+          in-tree = rw (eqb-comm a b ∙ e) refl;
+          takes-types = y;
+          gives-types = z;
+          at-number = rw e (ap (λ n. some (procAs n (record { parameters = xs; body = d }))) (eqb-true b a e));
+        }
     pick false e k f = let r = f k in record { its = r .its; in-tree = rw (eqb-comm a b ∙ e) (r .in-tree); takes-types = r .takes-types; gives-types = r .gives-types; at-number = rw e (r .at-number) }
 
 -- ── fields: their class's number needs that no class is named twice ──
@@ -253,7 +264,8 @@ unfolding firstOf definesFields amongNames namesOf indexOf types
 in-fields [] a c d t w h = nothing (isField d t) w h
 in-fields (x ∷ xs) a c d t w h = pick (eqb (x .name) a) refl h (λ k. in-fields xs a c d t w k)
   where
-    pick : (b : Bool) → eqb (x .name) a ≡ b → (if b then found (isField c (x .type)) false else firstOf a (definesFields c xs)) ≡ found (isField d t) w → (firstOf a (definesFields c xs) ≡ found (isField d t) w → InFields xs a c d t) → InFields (x ∷ xs) a c d t
+    pick : (b : Bool) → eqb (x .name) a ≡ b → (if b then found (isField c (x .type)) false else firstOf a (definesFields c xs))
+        ≡ found (isField d t) w → (firstOf a (definesFields c xs) ≡ found (isField d t) w → InFields xs a c d t) → InFields (x ∷ xs) a c d t
     pick true e k f = let y : c ≡ d = cc k in let z : x .type ≡ t = cc k in record { same-class = sym y; there = rw e refl; its-type = rw e (ap some z) }
     pick false e k f = let r = f k in record { same-class = r .same-class; there = rw e (r .there); its-type = rw e (r .its-type) }
 
@@ -262,17 +274,27 @@ unfolding firstOf definesFields amongNames namesOf
 not-in-fields [] a c h = refl
 not-in-fields (x ∷ xs) a c h = pick (eqb (x .name) a) h (λ k. not-in-fields xs a c k)
   where
-    pick : (b : Bool) → (if b then found (isField c (x .type)) false else firstOf a (definesFields c xs)) ≡ nowhere → (firstOf a (definesFields c xs) ≡ nowhere → amongNames a (namesOf xs) ≡ false) → (b || amongNames a (namesOf xs)) ≡ false
+    pick : (b : Bool) → (if b then found (isField c (x .type)) false else firstOf a (definesFields c xs)) ≡ nowhere
+        → (firstOf a (definesFields c xs) ≡ nowhere → amongNames a (namesOf xs) ≡ false) → (b || amongNames a (namesOf xs)) ≡ false
     pick true k f = nothing (isField c (x .type)) false (sym k)
     pick false k f = f k
 
-pub field-found : (gs : List Global) (ss : List Scope) (seen : List ℕ) (k a c : ℕ) (t : Ty) (w : Bool) → goodGlobals ss seen gs → firstOf a (definesGlobals gs) ≡ found (isField c t) w → FieldFound gs seen k a c t
+pub field-found : (gs : List Global) (ss : List Scope) (seen : List ℕ) (k a c : ℕ) (t : Ty) (w : Bool) → goodGlobals ss seen gs
+    → firstOf a (definesGlobals gs) ≡ found (isField c t) w → FieldFound gs seen k a c t
 unfolding goodGlobals goodHead definesGlobals definesHead namesHead firstOf classesOf classNames indexOf fieldIn among
 field-found [] ss seen k a c t w g h = nothing (isField c t) w h
 field-found (local (declare x) ∷ gs) ss seen k a c t w g h =
     let q = skips a (x .name) (isVariable (x .type)) (isField c t) w (firstOf a (definesGlobals gs)) (λ e. let z : _≡_ {A = ℕ} 0 1 = cc e in absurd (omega arith)) h in
     let r = field-found gs ss (x .name ∷ seen) k a c t w (g .1) (q .1) in
-    record { fields = r .fields; at-number = r .at-number; its-class = r .its-class; its-index = r .its-index; there = r .there; its-type = r .its-type; new = neither (eqb c (x .name)) (among c seen) (r .new) .1 }
+    record {
+      fields = r .fields;
+      at-number = r .at-number;
+      its-class = r .its-class;
+      its-index = r .its-index;
+      there = r .there;
+      its-type = r .its-type;
+      new = neither (eqb c (x .name)) (among c seen) (r .new) .1;
+    }
 field-found (local (holding v) ∷ gs) ss seen k a c t w g h =
     let r = field-found gs ss seen k a c t w (g .1) h in
     record { fields = r .fields; at-number = r .at-number; its-class = r .its-class; its-index = r .its-index; there = r .there; its-type = r .its-type; new = r .new }
@@ -283,7 +305,15 @@ field-found (class d xs ∷ gs) ss seen k a c t w g h =
     here : InFields xs a d c t → FieldFound (class d xs ∷ gs) seen k a c t
     here r =
         let e : eqb d c ≡ true = eq-eqb d c (sym (r .same-class)) in
-        record { fields = xs; at-number = rw e (ap (λ n. some (classAs n xs)) (sym (r .same-class))); its-class = rw (e, r .there) (omega arith); its-index = rw (r .there) refl; there = r .there; its-type = r .its-type; new = subst (λ z. among z seen ≡ false) (sym (r .same-class)) (g .0 .1) }
+        record {
+          fields = xs;
+          at-number = rw e (ap (λ n. some (classAs n xs)) (sym (r .same-class)));
+          its-class = rw (e, r .there) (omega arith);
+          its-index = rw (r .there) refl;
+          there = r .there;
+          its-type = r .its-type;
+          new = subst (λ z. among z seen ≡ false) (sym (r .same-class)) (g .0 .1);
+        }
 
     further : amongNames a (namesOf xs) ≡ false → FieldFound gs (namesTyped xs (d ∷ seen)) (suc k) a c t → FieldFound (class d xs ∷ gs) seen k a c t
     further n r =
@@ -297,7 +327,15 @@ field-found (class d xs ∷ gs) ss seen k a c t w g h =
 field-found (procedure b xs d ∷ gs) ss seen k a c t w g h =
     let q = skips a b (isProcedure (types xs) (results d)) (isField c t) w (firstOf a (definesGlobals gs)) (λ e. let z : _≡_ {A = ℕ} 0 1 = cc e in absurd (omega arith)) h in
     let r = field-found gs ss (b ∷ seen) k a c t w (g .1) (q .1) in
-    record { fields = r .fields; at-number = r .at-number; its-class = r .its-class; its-index = r .its-index; there = r .there; its-type = r .its-type; new = neither (eqb c b) (among c seen) (r .new) .1 }
+    record {
+      fields = r .fields;
+      at-number = r .at-number;
+      its-class = r .its-class;
+      its-index = r .its-index;
+      there = r .there;
+      its-type = r .its-type;
+      new = neither (eqb c b) (among c seen) (r .new) .1;
+    }
 
 -- ── the root's variables ──
 pub variable-found : (gs : List Global) (a : ℕ) (t : Ty) (w : Bool) → firstOf a (definesGlobals gs) ≡ found (isVariable t) w → firstOf a (definesHead (locals gs)) ≡ found (isVariable t) w
@@ -305,7 +343,8 @@ unfolding definesGlobals definesHead firstOf locals
 variable-found [] a t w h = h
 variable-found (local (declare x) ∷ gs) a t w h = pick (eqb (x .name) a) h (λ k. variable-found gs a t w k)
   where
-    pick : (b : Bool) → (if b then found (isVariable (x .type)) false else firstOf a (definesGlobals gs)) ≡ found (isVariable t) w → (firstOf a (definesGlobals gs) ≡ found (isVariable t) w → firstOf a (definesHead (locals gs)) ≡ found (isVariable t) w)
+    pick : (b : Bool) → (if b then found (isVariable (x .type)) false else firstOf a (definesGlobals gs)) ≡ found (isVariable t) w
+        → (firstOf a (definesGlobals gs) ≡ found (isVariable t) w → firstOf a (definesHead (locals gs)) ≡ found (isVariable t) w)
         → (if b then found (isVariable (x .type)) false else firstOf a (definesHead (locals gs))) ≡ found (isVariable t) w
     pick true k f = k
     pick false k f = f k

@@ -36,7 +36,8 @@ module _ (P : Owner → ℕ → Ty → Type 0) (gs : List Global) where
     globals = subst (λ z. GlobalsIn gs z) (sym (block-scopes (expressionOf ds is) ds Γ Δ e)) (globals-expression gs ds is (scopesOf Γ) (h .globals));
   }
 
-  pub good-inside : (s : Scope) (ds : List Decl) (is : Items) (x : ℕ) (Γ Δ : List Around) → Entered P ofBlock ds (inside s ∷ Γ) Δ → goodItems (s ∷ scopesOf Γ) is → goodItems (scopesOf (labels is x ∷ Δ)) is
+  pub good-inside : (s : Scope) (ds : List Decl) (is : Items) (x : ℕ) (Γ Δ : List Around) → Entered P ofBlock ds (inside s ∷ Γ) Δ
+      → goodItems (s ∷ scopesOf Γ) is → goodItems (scopesOf (labels is x ∷ Δ)) is
   unfolding scopesOf
   good-inside s ds is x Γ Δ e g = subst (λ z. goodItems z is) (sym (block-scopes s ds Γ Δ e)) g
 

@@ -11,9 +11,10 @@ use Rattle.words.specs.Lists.{among}
 use Rattle.words.specs.Choice.{if_then_else_}
 use Rattle.values.specs.Types.{Ty}
 use Rattle.language.specs.Tree.{Typed, Decl, declare, holding, Items, noItem, label, item}
-use Rattle.language.specs.Names.{Sort, isVariable, isLabel, isClass, isField, isProcedure, Definition, definesTyped, definesHead, definesItems, Scope, blockOf, expressionOf, procedureOf, Found, nowhere, found, firstOf, otherwise, across, lookup}
+use Rattle.language.specs.Names.{Sort, isVariable, isLabel, isClass, isField, isProcedure, Definition, definesTyped, definesHead, definesItems, Scope, blockOf}
+use Rattle.language.specs.Names.{expressionOf, procedureOf, Found, nowhere, found, firstOf, otherwise, across, lookup}
 use Rattle.bytecode.specs.Instructions.{Owner, own, root}
-use Rattle.loading.specs.Tests.{never}
+use Rattle.bytecode_laws.specs.Tests.{never}
 use Rattle.compile_code.specs.Compile.{Around, inside, bound, global, held, labels, scopesOf, boundAt, globalAt, kept, orCell}
 use Rattle.compile_code.specs.Compile.{Cell as Kept, cellOf as keptOf}
 use Rattle.compile_code.specs.Encode.{parameterCells}
@@ -67,10 +68,30 @@ abbrev pub ofBlock : Style
 ofBlock = record { owner = own; name = bound; hold = λ g Γ. held g ∷ Γ; look = λ a Γ. keptOf a Γ; look-name = bound-look; look-hold = held-look; scopes-name = bound-scopes; scopes-hold = held-scopes }
 
 abbrev pub ofRoot : Style
-ofRoot = record { owner = own; name = global own; hold = λ g Γ. held g ∷ Γ; look = λ a Γ. globalAt a Γ; look-name = global-look own; look-hold = held-global; scopes-name = global-scopes own; scopes-hold = held-scopes }
+ofRoot =
+    record {
+      owner = own;
+      name = global own;
+      hold = λ g Γ. held g ∷ Γ;
+      look = λ a Γ. globalAt a Γ;
+      look-name = global-look own;
+      look-hold = held-global;
+      scopes-name = global-scopes own;
+      scopes-hold = held-scopes;
+    }
 
 abbrev pub ofShared : Style
-ofShared = record { owner = root; name = global root; hold = λ g Γ. Γ; look = λ a Γ. globalAt a Γ; look-name = global-look root; look-hold = λ a g Γ. refl; scopes-name = global-scopes root; scopes-hold = λ g Γ. refl }
+ofShared =
+    record {
+      owner = root;
+      name = global root;
+      hold = λ g Γ. Γ;
+      look = λ a Γ. globalAt a Γ;
+      look-name = global-look root;
+      look-hold = λ a g Γ. refl;
+      scopes-name = global-scopes root;
+      scopes-hold = λ g Γ. refl;
+    }
 
 -- ── names of a head stand in it once ──
 pub or-left : (a b : Bool) → a ≡ true → (a || b) ≡ true
@@ -127,7 +148,8 @@ module _ (P : Owner → ℕ → Ty → Type 0) where
         pick false u k f = f k ∙ S .look-name a (x .name) (e .0) Γ ∙ ap (λ b. if b then some (kept (S .owner) (e .0)) else S .look a Γ) u
     entered-past (holding g ∷ ds) Γ Δ a e h = entered-past ds (S .hold g Γ) Δ a e h ∙ S .look-hold a g Γ
 
-    pub entered-new : (ds : List Decl) (Γ Δ : List Around) (a : ℕ) (t : Ty) (w : Bool) (ss : List Scope) (seen : List ℕ) → Entered ds Γ Δ → goodHead ss seen ds → firstOf a (definesHead ds) ≡ found (isVariable t) w → Has (S .look a Δ) t
+    pub entered-new : (ds : List Decl) (Γ Δ : List Around) (a : ℕ) (t : Ty) (w : Bool) (ss : List Scope) (seen : List ℕ) → Entered ds Γ Δ
+        → goodHead ss seen ds → firstOf a (definesHead ds) ≡ found (isVariable t) w → Has (S .look a Δ) t
     unfolding Entered definesHead firstOf goodHead among
     entered-new [] Γ Δ a t w ss seen e g h = nothing (isVariable t) w h
     entered-new (declare x ∷ ds) Γ Δ a t w ss seen e g h = pick (eqb (x .name) a) refl h (λ k. entered-new ds (S .name (x .name) (e .0) ∷ Γ) Δ a t w ss (x .name ∷ seen) (e .2) (g .2) k)
@@ -151,7 +173,8 @@ unfolding firstOf
 first-append a [] ys = refl
 first-append a (d ∷ xs) ys = pick (eqb (d .name) a) (first-append a xs ys)
   where
-    pick : (t : Bool) → firstOf a (xs ++ ys) ≡ otherwise (firstOf a xs) (firstOf a ys) → (if t then found (d .sort) false else firstOf a (xs ++ ys)) ≡ otherwise (if t then found (d .sort) false else firstOf a xs) (firstOf a ys)
+    pick : (t : Bool) → firstOf a (xs ++ ys) ≡ otherwise (firstOf a xs) (firstOf a ys)
+        → (if t then found (d .sort) false else firstOf a (xs ++ ys)) ≡ otherwise (if t then found (d .sort) false else firstOf a xs) (firstOf a ys)
     pick true e = refl
     pick false e = e
 
@@ -197,16 +220,19 @@ module _ (P : Owner → ℕ → Ty → Type 0) where
   pub known-block : (ds : List Decl) (is : Items) (Γ Δ : List Around) (ss : List Scope) → goodHead ss [] ds → Entered P ofBlock ds (inside (blockOf ds is) ∷ Γ) Δ → Known P Γ → Known P Δ
   unfolding lookup scopesOf
   known-block ds is Γ Δ ss g e k a t w h =
-      outer (definesHead ds) is a (isVariable t) w (lookup a (scopesOf Γ)) (λ q. q) (subst (λ ss. lookup a ss ≡ found (isVariable t) w) (entered-scopes P ofBlock ds (inside (blockOf ds is) ∷ Γ) Δ e) h) (Has P (keptOf a Δ) t)
+      outer (definesHead ds) is a (isVariable t) w (lookup a (scopesOf Γ)) (λ q. q)
+      (subst (λ ss. lookup a ss ≡ found (isVariable t) w) (entered-scopes P ofBlock ds (inside (blockOf ds is) ∷ Γ) Δ e) h) (Has P (keptOf a Δ) t)
       (λ q. entered-new P ofBlock ds (inside (blockOf ds is) ∷ Γ) Δ a t w ss [] e g q)
       (λ n q. subst (λ z. Has P z t) (sym (entered-past P ofBlock ds (inside (blockOf ds is) ∷ Γ) Δ a e n ∙ inside-look a (blockOf ds is) Γ)) (k a t w q))
 
   pub known-expression : (ds : List Decl) (is : Items) (Γ Δ : List Around) (ss : List Scope) → goodHead ss [] ds → Entered P ofBlock ds (inside (expressionOf ds is) ∷ Γ) Δ → Known P Γ → Known P Δ
   unfolding lookup scopesOf
   known-expression ds is Γ Δ ss g e k a t w h =
-      outer (definesHead ds) is a (isVariable t) w (across (lookup a (scopesOf Γ))) (λ q. q) (subst (λ ss. lookup a ss ≡ found (isVariable t) w) (entered-scopes P ofBlock ds (inside (expressionOf ds is) ∷ Γ) Δ e) h) (Has P (keptOf a Δ) t)
+      outer (definesHead ds) is a (isVariable t) w (across (lookup a (scopesOf Γ))) (λ q. q)
+      (subst (λ ss. lookup a ss ≡ found (isVariable t) w) (entered-scopes P ofBlock ds (inside (expressionOf ds is) ∷ Γ) Δ e) h) (Has P (keptOf a Δ) t)
       (λ q. entered-new P ofBlock ds (inside (expressionOf ds is) ∷ Γ) Δ a t w ss [] e g q)
-      (λ n q. let z = uncross (lookup a (scopesOf Γ)) (isVariable t) w q in subst (λ z. Has P z t) (sym (entered-past P ofBlock ds (inside (expressionOf ds is) ∷ Γ) Δ a e n ∙ inside-look a (expressionOf ds is) Γ)) (k a t (z .0) (z .1)))
+      (λ n q. let z = uncross (lookup a (scopesOf Γ)) (isVariable t) w q in subst (λ z. Has P z t)
+      (sym (entered-past P ofBlock ds (inside (expressionOf ds is) ∷ Γ) Δ a e n ∙ inside-look a (expressionOf ds is) Γ)) (k a t (z .0) (z .1)))
 
   -- labels do not matter
   pub known-labels : (is : Items) (x : ℕ) (Γ : List Around) → Known P Γ → Known P (labels is x ∷ Γ)
@@ -223,7 +249,8 @@ module _ (P : Owner → ℕ → Ty → Type 0) where
   given-new [] n Γ a t w g h = nothing (isVariable t) w h
   given-new (x ∷ xs) n Γ a t w g h = subst (λ z. Has P z t) (sym (bound-look a (x .name) n (parameterCells xs (suc n) Γ))) (pick (eqb (x .name) a) h (λ k. given-new xs (suc n) Γ a t w (g .1) k))
     where
-      pick : (b : Bool) → (if b then found (isVariable (x .type)) false else firstOf a (definesTyped xs)) ≡ found (isVariable t) w → (firstOf a (definesTyped xs) ≡ found (isVariable t) w → Has P (keptOf a (parameterCells xs (suc n) Γ)) t)
+      pick : (b : Bool) → (if b then found (isVariable (x .type)) false else firstOf a (definesTyped xs)) ≡ found (isVariable t) w
+          → (firstOf a (definesTyped xs) ≡ found (isVariable t) w → Has P (keptOf a (parameterCells xs (suc n) Γ)) t)
           → Has P (if b then some (kept own n) else keptOf a (parameterCells xs (suc n) Γ)) t
       pick true k f = let z : x .type ≡ t = cc k in (own, n, refl, subst (λ y. P own n y) z (g .0))
       pick false k f = f k
@@ -233,7 +260,8 @@ module _ (P : Owner → ℕ → Ty → Type 0) where
   given-past [] n Γ a h = refl
   given-past (x ∷ xs) n Γ a h = bound-look a (x .name) n (parameterCells xs (suc n) Γ) ∙ pick (eqb (x .name) a) h (λ k. given-past xs (suc n) Γ a k)
     where
-      pick : (b : Bool) → (if b then found (isVariable (x .type)) false else firstOf a (definesTyped xs)) ≡ nowhere → (firstOf a (definesTyped xs) ≡ nowhere → keptOf a (parameterCells xs (suc n) Γ) ≡ keptOf a Γ)
+      pick : (b : Bool) → (if b then found (isVariable (x .type)) false else firstOf a (definesTyped xs)) ≡ nowhere
+          → (firstOf a (definesTyped xs) ≡ nowhere → keptOf a (parameterCells xs (suc n) Γ) ≡ keptOf a Γ)
           → (if b then some (kept own n) else keptOf a (parameterCells xs (suc n) Γ)) ≡ keptOf a Γ
       pick true k f = nothing (isVariable (x .type)) false (sym k)
       pick false k f = f k
@@ -247,7 +275,8 @@ module _ (P : Owner → ℕ → Ty → Type 0) where
   unfolding lookup scopesOf
   known-procedure xs Γ g k a t w h = pick (firstOf a (definesTyped xs)) refl (subst (λ ss. lookup a ss ≡ found (isVariable t) w) (scopes-parameters xs 0 (inside (procedureOf xs) ∷ Γ)) h)
     where
-      pick : (f : Found) → firstOf a (definesTyped xs) ≡ f → otherwise f (across (lookup a (scopesOf Γ))) ≡ found (isVariable t) w → Has P (keptOf a (parameterCells xs 0 (inside (procedureOf xs) ∷ Γ))) t
+      pick : (f : Found) → firstOf a (definesTyped xs) ≡ f → otherwise f (across (lookup a (scopesOf Γ))) ≡ found (isVariable t) w
+          → Has P (keptOf a (parameterCells xs 0 (inside (procedureOf xs) ∷ Γ))) t
       pick nowhere e q = let z = uncross (lookup a (scopesOf Γ)) (isVariable t) w q in
           subst (λ z. Has P z t) (sym (given-past xs 0 (inside (procedureOf xs) ∷ Γ) a e ∙ inside-look a (procedureOf xs) Γ)) (k a t (z .0) (z .1))
       pick (found s v) e q = given-new xs 0 (inside (procedureOf xs) ∷ Γ) a t w g (e ∙ q)

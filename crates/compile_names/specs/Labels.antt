@@ -35,7 +35,8 @@ unfolding firstOf definesItems hasLabel
 has-label a noItem s w h = let z : _≡_ {A = ℕ} 0 1 = cc h in absurd (omega arith)
 has-label a (label b is) s w h = pick (eqb b a) refl h (eqb a b) refl (has-label a is s w)
   where
-    pick : (t : Bool) → eqb b a ≡ t → (if t then found isLabel false else firstOf a (definesItems is)) ≡ found s w → (u : Bool) → eqb a b ≡ u → (firstOf a (definesItems is) ≡ found s w → hasLabel a is ≡ true) → (if u then true else hasLabel a is) ≡ true
+    pick : (t : Bool) → eqb b a ≡ t → (if t then found isLabel false else firstOf a (definesItems is)) ≡ found s w → (u : Bool) → eqb a b ≡ u
+        → (firstOf a (definesItems is) ≡ found s w → hasLabel a is ≡ true) → (if u then true else hasLabel a is) ≡ true
     pick t e h true v f = refl
     pick true e h false v f = let z : false ≡ true = sym v ∙ eq-eqb a b (sym (eqb-true b a e)) in let y : _≡_ {A = ℕ} 0 1 = cc z in absurd (omega arith)
     pick false e h false v f = f h
@@ -55,10 +56,13 @@ module _ (P : Owner → ℕ → Ty → Type 0) where
   pub reached-block : (ds : List Decl) (is : Items) (x : ℕ) (Γ Δ : List Around) → Entered P ofBlock ds (inside (blockOf ds is) ∷ Γ) Δ → Reached Γ → Reached (labels is x ∷ Δ)
   unfolding lookup scopesOf gotoOk
   reached-block ds is x Γ Δ e r a h = here-or (hasLabel a is) (gotoOk true Δ a) (λ n.
-      let h' : otherwise (firstOf a (definesHead ds ++ definesItems is)) (lookup a (scopesOf Γ)) ≡ found isLabel false = subst (λ ss. lookup a ss ≡ found isLabel false) (entered-scopes P ofBlock ds (inside (blockOf ds is) ∷ Γ) Δ e) h in
-      entered-goto ds (inside (blockOf ds is) ∷ Γ) Δ a e (λ b. r a (pick (firstOf a (definesHead ds)) refl (firstOf a (definesItems is)) refl n (subst (λ z. otherwise z (lookup a (scopesOf Γ)) ≡ found isLabel false) (first-append a (definesHead ds) (definesItems is)) h'))) true)
+      let h' : otherwise (firstOf a (definesHead ds ++ definesItems is)) (lookup a (scopesOf Γ)) ≡ found isLabel false =
+      subst (λ ss. lookup a ss ≡ found isLabel false) (entered-scopes P ofBlock ds (inside (blockOf ds is) ∷ Γ) Δ e) h in
+      entered-goto ds (inside (blockOf ds is) ∷ Γ) Δ a e (λ b. r a (pick (firstOf a (definesHead ds)) refl (firstOf a (definesItems is)) refl n
+      (subst (λ z. otherwise z (lookup a (scopesOf Γ)) ≡ found isLabel false) (first-append a (definesHead ds) (definesItems is)) h'))) true)
     where
-      pick : (u : Found) → firstOf a (definesHead ds) ≡ u → (v : Found) → firstOf a (definesItems is) ≡ v → hasLabel a is ≡ false → otherwise (otherwise u v) (lookup a (scopesOf Γ)) ≡ found isLabel false → lookup a (scopesOf Γ) ≡ found isLabel false
+      pick : (u : Found) → firstOf a (definesHead ds) ≡ u → (v : Found) → firstOf a (definesItems is) ≡ v → hasLabel a is ≡ false
+          → otherwise (otherwise u v) (lookup a (scopesOf Γ)) ≡ found isLabel false → lookup a (scopesOf Γ) ≡ found isLabel false
       pick nowhere p nowhere q n h = h
       pick nowhere p (found s w) q n h = let z : false ≡ true = sym n ∙ has-label a is s w q in let y : _≡_ {A = ℕ} 0 1 = cc z in absurd (omega arith)
       pick (found s w) p v q n h = absurd (no-label a ds false (p ∙ h))
@@ -66,10 +70,13 @@ module _ (P : Owner → ℕ → Ty → Type 0) where
   pub reached-expression : (ds : List Decl) (is : Items) (x : ℕ) (Γ Δ : List Around) → Entered P ofBlock ds (inside (expressionOf ds is) ∷ Γ) Δ → Reached (labels is x ∷ Δ)
   unfolding lookup scopesOf gotoOk
   reached-expression ds is x Γ Δ e a h = here-or (hasLabel a is) (gotoOk true Δ a) (λ n.
-      let h' : otherwise (firstOf a (definesHead ds ++ definesItems is)) (across (lookup a (scopesOf Γ))) ≡ found isLabel false = subst (λ ss. lookup a ss ≡ found isLabel false) (entered-scopes P ofBlock ds (inside (expressionOf ds is) ∷ Γ) Δ e) h in
-      absurd (pick (firstOf a (definesHead ds)) refl (firstOf a (definesItems is)) refl (lookup a (scopesOf Γ)) n (subst (λ z. otherwise z (across (lookup a (scopesOf Γ))) ≡ found isLabel false) (first-append a (definesHead ds) (definesItems is)) h')))
+      let h' : otherwise (firstOf a (definesHead ds ++ definesItems is)) (across (lookup a (scopesOf Γ))) ≡ found isLabel false =
+      subst (λ ss. lookup a ss ≡ found isLabel false) (entered-scopes P ofBlock ds (inside (expressionOf ds is) ∷ Γ) Δ e) h in
+      absurd (pick (firstOf a (definesHead ds)) refl (firstOf a (definesItems is)) refl (lookup a (scopesOf Γ)) n
+      (subst (λ z. otherwise z (across (lookup a (scopesOf Γ))) ≡ found isLabel false) (first-append a (definesHead ds) (definesItems is)) h')))
     where
-      pick : (u : Found) → firstOf a (definesHead ds) ≡ u → (v : Found) → firstOf a (definesItems is) ≡ v → (f : Found) → hasLabel a is ≡ false → otherwise (otherwise u v) (across f) ≡ found isLabel false → ⊥
+      pick : (u : Found) → firstOf a (definesHead ds) ≡ u → (v : Found) → firstOf a (definesItems is) ≡ v → (f : Found) → hasLabel a is ≡ false
+          → otherwise (otherwise u v) (across f) ≡ found isLabel false → ⊥
       pick nowhere p nowhere q nowhere n h = let z : _≡_ {A = ℕ} 0 1 = cc h in omega arith
       pick nowhere p nowhere q (found s w) n h = let z : true ≡ false = cc h in let y : _≡_ {A = ℕ} 0 1 = cc z in omega arith
       pick nowhere p (found s w) q f n h = let z : false ≡ true = sym n ∙ has-label a is s w q in let y : _≡_ {A = ℕ} 0 1 = cc z in omega arith

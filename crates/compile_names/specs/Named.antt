@@ -7,7 +7,9 @@ use native.Mathlib.Omega.{arith}
 use lib.ListN.{length, getElem?}
 use Rattle.values.specs.Types.{Ty, integer, logical, bits, reference}
 use Rattle.values.specs.Values.{ref, initial}
-use Rattle.language.specs.Tree.{Typed, Decl, declare, holding, Stmt, block, assign, when, choose, while, goto, assert, call, setLevel, select, Items, noItem, label, item, Arms, lastArm, arm, Target, toVariable, toField, Expr, number, truth, pattern, null, variable, invoke, field, make, operate1, operate2, conditional, fader, blockExpr, Exprs, noExpr, expr, Body, proper, function, Global, countExprs}
+use Rattle.language.specs.Tree.{Typed, Decl, declare, holding, Stmt, block, assign, when, choose, while, goto, assert, call, setLevel, select, Items, noItem, label, item}
+use Rattle.language.specs.Tree.{Arms, lastArm, arm, Target, toVariable, toField, Expr, number, truth, pattern, null, variable, invoke, field, make, operate1, operate2}
+use Rattle.language.specs.Tree.{conditional, fader, blockExpr, Exprs, noExpr, expr, Body, proper, function, Global, countExprs}
 use Rattle.language.specs.Names.{isClass, isField, isProcedure, types, results, Scope, blockOf, expressionOf}
 use Rattle.language.specs.Faults.{typeE, typesE, consTy}
 use Rattle.bytecode.specs.Instructions.{Owner}
@@ -66,7 +68,8 @@ module _ (gs : List Global) where
       pick bits h = refl
       pick (reference c) h = let q = class-at ss c g h in ap (λ z. ref (z .name) none) (class-of (classesOf gs) (classNumber gs c) (classAs c (q .fields)) (q .at-number))
 
-  head-ok : (ss : List Scope) (seen : List ℕ) (ds : List Decl) (Γ : List Around) (Q : List Around → Type 0) → GlobalsIn gs ss → goodHead ss seen ds → ((Δ : List Around) → Entered AnyCell ofBlock ds Γ Δ → Q Δ) → okHead gs ds Γ Q
+  head-ok : (ss : List Scope) (seen : List ℕ) (ds : List Decl) (Γ : List Around) (Q : List Around → Type 0) → GlobalsIn gs ss → goodHead ss seen ds
+      → ((Δ : List Around) → Entered AnyCell ofBlock ds Γ Δ → Q Δ) → okHead gs ds Γ Q
   unfolding goodHead Entered okHead
   head-ok ss seen [] Γ Q g h f = f Γ refl
   head-ok ss seen (declare x ∷ ds) Γ Q g h f = (typed-ok ss x g (h .1), λ c. head-ok ss (x .name ∷ seen) ds (bound (x .name) c ∷ Γ) Q g (h .2) (λ Δ e. f Δ (c, tt, e)))
@@ -81,7 +84,8 @@ module _ (gs : List Global) where
         let q = field-at ss a c t g k in let z = q .its-class in
         let e : fieldNumber gs a .class ≡ classNumber gs c = omega arith in
         let i : fieldNumber gs a .index ≡ indexOf a (namesOf (q .fields)) = q .its-index in
-        let f : classOf (classesOf gs) (fieldNumber gs a .class) .fields ≡ q .fields = ap (λ n. classOf (classesOf gs) n .fields) e ∙ ap (λ x. x .fields) (class-of (classesOf gs) (classNumber gs c) (classAs c (q .fields)) (q .at-number)) in
+        let f : classOf (classesOf gs) (fieldNumber gs a .class) .fields ≡ q .fields = ap (λ n. classOf (classesOf gs) n .fields) e
+        ∙ ap (λ x. x .fields) (class-of (classesOf gs) (classNumber gs c) (classAs c (q .fields)) (q .at-number)) in
         rw (f, i) (λ ws w h. field-there gs a (q .fields) ws w (q .there) h)
 
     mutual
@@ -90,7 +94,9 @@ module _ (gs : List Global) where
       pub named-S : (s : Stmt) (Γ : List Around) → Inside AnyCell gs Γ → Reached Γ → goodS (scopesOf Γ) s → okS gs s Γ
       named-S (block ds is) Γ k r g =
           head-ok (blockOf ds is ∷ scopesOf Γ) [] ds (inside (blockOf ds is) ∷ Γ) (λ Δ. (x : ℕ) → okItems gs is (labels is x ∷ Δ)) (globals-block gs ds is (scopesOf Γ) (k .globals)) (g .0)
-          (λ Δ e x. named-items is (labels is x ∷ Δ) (in-labels AnyCell gs is x Δ (in-block AnyCell gs ds is Γ Δ (blockOf ds is ∷ scopesOf Γ) (g .0) e k)) (reached-block AnyCell ds is x Γ Δ e r) (good-inside AnyCell gs (blockOf ds is) ds is x Γ Δ e (g .1)))
+          (λ Δ e x. named-items is (labels is x ∷ Δ) (in-labels AnyCell gs is x Δ
+          (in-block AnyCell gs ds is Γ Δ (blockOf ds is ∷ scopesOf Γ) (g .0) e k)) (reached-block AnyCell ds is x Γ Δ e r)
+          (good-inside AnyCell gs (blockOf ds is) ds is x Γ Δ e (g .1)))
       named-S (assign x e) Γ k r g = (named-target x Γ k (g .0), named-E e Γ k (g .1))
       named-S (when e s) Γ k r g = (named-E e Γ k (g .0), named-S s Γ k r (g .2))
       named-S (choose e s t) Γ k r g = (named-E e Γ k (g .0), named-S s Γ k r (g .2), named-S t Γ k r (g .3))
@@ -98,8 +104,14 @@ module _ (gs : List Global) where
       named-S (goto a) Γ k r g = r a g
       named-S (assert e) Γ k r g = named-E e Γ k (g .0)
       named-S (call a es) Γ k r g =
-          let q = k .globals a (isProcedure (g .1 .0) []) (g .1 .1 .0) tt (g .1 .1 .1) in let f = procedure-found gs a (g .1 .0) [] (q .0) (q .1) in
-          (f .its, f .in-tree, is-proper (f .its .body) (f .gives-types), types-count (scopesOf Γ) es (g .1 .0) (g .1 .2) ∙ ap length (sym (f .takes-types)) ∙ types-length (f .its .parameters), named-Es es Γ k (g .0))
+          let q = k .globals a (isProcedure (g .1 .0) []) (g .1 .1 .0) tt (g .1 .1 .1) in let f = procedure-found gs a (g .1 .0) [] (q .0) (q .1) in (
+            f .its,
+            f .in-tree,
+            is-proper (f .its .body) (f .gives-types),
+            types-count (scopesOf Γ) es (g .1 .0) (g .1 .2)
+                ∙ ap length (sym (f .takes-types)) ∙ types-length (f .its .parameters),
+            named-Es es Γ k (g .0),
+          )
       named-S (setLevel e f) Γ k r g = (named-E e Γ k (g .0), named-E f Γ k (g .2))
       named-S (select e rs) Γ k r g = (named-E e Γ k (g .0), named-arms rs Γ k r (g .2))
 
@@ -123,19 +135,35 @@ module _ (gs : List Global) where
       named-E (null c) Γ k g = typed-ok (scopesOf Γ) (record { name = 0; type = reference c }) (k .globals) g
       named-E (variable a) Γ k g = let q = k .known a (g .0) (g .1 .0) (g .1 .1) in (q .0, q .1, q .2)
       named-E (invoke a es) Γ k g =
-          let q = k .globals a (isProcedure (g .1 .0) (g .1 .1 ∷ [])) (g .1 .2 .0) tt (g .1 .2 .1) in let f = procedure-found gs a (g .1 .0) (g .1 .1 ∷ []) (q .0) (q .1) in
-          (f .its, f .in-tree, is-function (f .its .body) (g .1 .1) (f .gives-types), types-count (scopesOf Γ) es (g .1 .0) (g .1 .3) ∙ ap length (sym (f .takes-types)) ∙ types-length (f .its .parameters), named-Es es Γ k (g .0))
+          let q = k .globals a (isProcedure (g .1 .0) (g .1 .1 ∷ [])) (g .1 .2 .0) tt (g .1 .2 .1) in let f = procedure-found gs a (g .1 .0) (g .1 .1 ∷ []) (q .0) (q .1) in (
+            f .its,
+            f .in-tree,
+            is-function (f .its .body) (g .1 .1) (f .gives-types),
+            types-count (scopesOf Γ) es (g .1 .0) (g .1 .3)
+                ∙ ap length (sym (f .takes-types)) ∙ types-length (f .its .parameters),
+            named-Es es Γ k (g .0),
+          )
       named-E (field a e) Γ k g = (named-E e Γ k (g .0), field-ok (scopesOf Γ) a (g .1 .0) (g .1 .1) (k .globals) (g .1 .2))
       named-E (make c es) Γ k g =
           let q = k .globals c (isClass (g .1 .0)) (g .1 .1 .0) tt (g .1 .1 .1) in let f = class-found gs c (g .1 .0) (q .0) (q .1) in
-          let h = class-of (classesOf gs) (classNumber gs c) (classAs c (f .fields)) (f .at-number) in
-          (named-Es es Γ k (g .0), (f .fields, f .in-tree, types-count (scopesOf Γ) es (g .1 .0) (g .1 .2) ∙ ap length (sym (f .its-types)) ∙ types-length (f .fields), ap (λ x. x .name) h, ap (λ x. x .fields) h))
+          let h = class-of (classesOf gs) (classNumber gs c) (classAs c (f .fields)) (f .at-number) in (
+            named-Es es Γ k (g .0),
+            (
+              f .fields,
+              f .in-tree,
+              types-count (scopesOf Γ) es (g .1 .0) (g .1 .2) ∙ ap length (sym (f .its-types))
+                  ∙ types-length (f .fields),
+              ap (λ x. x .name) h,
+              ap (λ x. x .fields) h,
+            ),
+          )
       named-E (operate1 o e) Γ k g = named-E e Γ k (g .0)
       named-E (operate2 o e f) Γ k g = (named-E e Γ k (g .0), named-E f Γ k (g .1))
       named-E (conditional e f w) Γ k g = (named-E e Γ k (g .0), named-E f Γ k (g .2), named-E w Γ k (g .3))
       named-E (fader e) Γ k g = named-E e Γ k (g .0)
       named-E (blockExpr ds is v) Γ k g =
-          head-ok (expressionOf ds is ∷ scopesOf Γ) [] ds (inside (expressionOf ds is) ∷ Γ) (λ Δ. ((x : ℕ) → okItems gs is (labels is x ∷ Δ)) × okE gs v Δ) (globals-expression gs ds is (scopesOf Γ) (k .globals)) (g .0)
+          head-ok (expressionOf ds is ∷ scopesOf Γ) [] ds (inside (expressionOf ds is) ∷ Γ)
+          (λ Δ. ((x : ℕ) → okItems gs is (labels is x ∷ Δ)) × okE gs v Δ) (globals-expression gs ds is (scopesOf Γ) (k .globals)) (g .0)
           (λ Δ e. let k' = in-expression AnyCell gs ds is Γ Δ (expressionOf ds is ∷ scopesOf Γ) (g .0) e k in (
             (λ x. named-items is (labels is x ∷ Δ) (in-labels AnyCell gs is x Δ k') (reached-expression AnyCell ds is x Γ Δ e) (good-inside AnyCell gs (expressionOf ds is) ds is x Γ Δ e (g .1))),
             named-E v Δ k' (good-value AnyCell gs (expressionOf ds is) ds v Γ Δ e (g .2)),

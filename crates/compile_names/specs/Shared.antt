@@ -90,7 +90,8 @@ module _ (gs : List Global) where
       mine true c o e f = let z : kept own n ≡ kept o c = cc e in sym (ap owner-is z)
       mine false c o e f = f e
 
-      both : {x y : Option Kept} (t : Bool) (c : ℕ) (o : Owner) → (if t then some (kept root n) else x) ≡ some (kept o c) → (x ≡ some (kept o c) → (o ≡ root) × (y ≡ some (kept own c))) → (o ≡ root) × ((if t then some (kept own n) else y) ≡ some (kept own c))
+      both : {x y : Option Kept} (t : Bool) (c : ℕ) (o : Owner) → (if t then some (kept root n) else x) ≡ some (kept o c)
+          → (x ≡ some (kept o c) → (o ≡ root) × (y ≡ some (kept own c))) → (o ≡ root) × ((if t then some (kept own n) else y) ≡ some (kept own c))
       both true c o e f = let z : kept root n ≡ kept o c = cc e in (sym (ap owner-is z), ap (λ d. some (kept own d)) (ap number-is z))
       both false c o e f = f e
 
@@ -116,8 +117,12 @@ module _ (gs : List Global) where
       → ((Δ : List Around) (n' : ℕ) → Entered AnyCell ofRoot ds Γ Δ → Alike Δ (rootVariables ds n Θ) n' → Q Δ n') → okRoot gs ds Γ n Q
   unfolding goodHead Entered okRoot rootVariables
   root-ok ss seen [] Γ Θ n Q g h al f = f Γ n refl al
-  root-ok ss seen (declare x ∷ ds) Γ Θ n Q g h al f =
-      (typed-ok gs ss x g (h .1), below-apart n Γ (al .below), root-ok ss (x .name ∷ seen) ds (global own (x .name) n ∷ Γ) (global root (x .name) n ∷ Θ) (suc n) Q g (h .2) (alike-declare (x .name) Γ Θ n al) (λ Δ n' e. f Δ n' (n, tt, e)))
+  root-ok ss seen (declare x ∷ ds) Γ Θ n Q g h al f = (
+    typed-ok gs ss x g (h .1),
+    below-apart n Γ (al .below),
+    root-ok ss (x .name ∷ seen) ds (global own (x .name) n ∷ Γ)
+        (global root (x .name) n ∷ Θ) (suc n) Q g (h .2) (alike-declare (x .name) Γ Θ n al) (λ Δ n' e. f Δ n' (n, tt, e)),
+  )
   root-ok ss seen (holding q ∷ ds) Γ Θ n Q g h al f = root-ok ss seen ds (held q ∷ Γ) Θ n Q g h (alike-hold q Γ Θ n al) f
 
   pub alike-all : (ds : List Decl) (Γ Θ : List Around) (n : ℕ) → Alike Γ Θ n → (Δ : List Around) × (n' : ℕ) × Alike Δ (rootVariables ds n Θ) n'

@@ -8,8 +8,9 @@ use native.Mathlib.Omega.{arith}
 use Rattle.words.specs.Options.{orElse}
 use Rattle.words.specs.Choice.{if_then_else_}
 use Rattle.values.specs.Types.{Ty, integer, logical, bits, reference, sames}
-use Rattle.values.specs.Operators.{unary, binary, Unary, negate, absolute, complement, Binary, plus, minus, times, divide, remainder, less, atMost, greater, atLeast, equal, unequal, both, either, shiftLeft, shiftRight, takes, logicalOrBits, anyOne, opType}
-use Rattle.loading.specs.Tests.{sames→≡, sames-refl}
+use Rattle.values.specs.Operators.{unary, binary, Unary, negate, absolute, complement, Binary, plus, minus, times, divide, remainder, less, atMost, greater, atLeast}
+use Rattle.values.specs.Operators.{equal, unequal, both, either, shiftLeft, shiftRight, takes, logicalOrBits, anyOne, opType}
+use Rattle.bytecode_laws.specs.Tests.{sames→≡, sames-refl}
 use Rattle.bytecode.specs.Macro.{Macro}
 use Rattle.language.specs.Tree.{Global}
 use Rattle.compile_code.specs.Compile.{tyIn, wayOf}
@@ -41,7 +42,8 @@ module _ (gs : List Global) where
   one-in bits r h = let z : bits ≡ r = cc h in ap (λ u. some (tyIn gs u)) z
   one-in (reference c) r h = pick (takes (logical ∷ []) logical (reference c ∷ [])) refl h
     where
-      pick : (x : Option Ty) → takes (logical ∷ []) logical (reference c ∷ []) ≡ x → orElse x (takes (bits ∷ []) bits (reference c ∷ [])) ≡ some r → logicalOrBits (λ u. u ∷ []) (tyIn gs (reference c) ∷ []) ≡ some (tyIn gs r)
+      pick : (x : Option Ty) → takes (logical ∷ []) logical (reference c ∷ []) ≡ x → orElse x (takes (bits ∷ []) bits (reference c ∷ [])) ≡ some r
+          → logicalOrBits (λ u. u ∷ []) (tyIn gs (reference c) ∷ []) ≡ some (tyIn gs r)
       pick none e k = let q = took (bits ∷ []) (reference c ∷ []) bits r k in let z : reference c ≡ bits = cc (q .0) in let y : _≡_ {A = ℕ} 0 1 = cc z in absurd (omega arith)
       pick (some u) e k = let q = took (logical ∷ []) (reference c ∷ []) logical u e in let z : reference c ≡ logical = cc (q .0) in let y : _≡_ {A = ℕ} 0 1 = cc z in absurd (omega arith)
 
@@ -53,12 +55,15 @@ module _ (gs : List Global) where
       pick : (x : Option Ty) → takes (logical ∷ logical ∷ []) logical (t ∷ u ∷ []) ≡ x → orElse x (takes (bits ∷ bits ∷ []) bits (t ∷ u ∷ [])) ≡ some r
           → (v : Ty) × (t ≡ v) × (u ≡ v) × (r ≡ v) × (logicalOrBits (λ w. w ∷ w ∷ []) (v ∷ v ∷ []) ≡ some v) × (tyIn gs v ≡ v)
       pick none e k = let q = took (bits ∷ bits ∷ []) (t ∷ u ∷ []) bits r k in let y : t ≡ bits = cc (q .0) in let z : u ≡ bits = cc (q .0) in (bits, y, z, q .1, refl, refl)
-      pick (some w) e k = let q = took (logical ∷ logical ∷ []) (t ∷ u ∷ []) logical w e in let y : t ≡ logical = cc (q .0) in let z : u ≡ logical = cc (q .0) in let x : w ≡ r = cc k in (logical, y, z, sym x ∙ q .1, refl, refl)
+      pick (some w) e k =
+          let q = took (logical ∷ logical ∷ []) (t ∷ u ∷ []) logical w e in let y : t ≡ logical = cc (q .0) in let z : u ≡ logical = cc (q .0) in
+          let x : w ≡ r = cc k in (logical, y, z, sym x ∙ q .1, refl, refl)
 
   both-in : (t u r : Ty) → logicalOrBits (λ v. v ∷ v ∷ []) (t ∷ u ∷ []) ≡ some r → logicalOrBits (λ v. v ∷ v ∷ []) (tyIn gs t ∷ tyIn gs u ∷ []) ≡ some (tyIn gs r)
   both-in t u r h = let q = both-are t u r h in joined (q .0) t u r (q .1) (q .2) (q .3) (q .4) (q .5)
     where
-      joined : (v t u r : Ty) → t ≡ v → u ≡ v → r ≡ v → logicalOrBits (λ w. w ∷ w ∷ []) (v ∷ v ∷ []) ≡ some v → tyIn gs v ≡ v → logicalOrBits (λ w. w ∷ w ∷ []) (tyIn gs t ∷ tyIn gs u ∷ []) ≡ some (tyIn gs r)
+      joined : (v t u r : Ty) → t ≡ v → u ≡ v → r ≡ v → logicalOrBits (λ w. w ∷ w ∷ []) (v ∷ v ∷ []) ≡ some v → tyIn gs v ≡ v
+          → logicalOrBits (λ w. w ∷ w ∷ []) (tyIn gs t ∷ tyIn gs u ∷ []) ≡ some (tyIn gs r)
       joined v t u r a b c d e = rw (a, b, c, e) d
 
   any-in : (t u r : Ty) → anyOne (t ∷ u ∷ []) ≡ some r → anyOne (tyIn gs t ∷ tyIn gs u ∷ []) ≡ some (tyIn gs r)
@@ -94,7 +99,8 @@ module _ (gs : List Global) where
       let q = both-are t u r h in let f : q .0 ≡ logical = sym (q .1) ∙ e in
       (ap (tyIn gs) e, ap (tyIn gs) (q .2 ∙ f), ap (tyIn gs) (q .3 ∙ f))
 
-  pub ways-in : (m : Macro) (k : ℕ) (o : Binary) (t u r : Ty) (b : Bool) → (b ≡ true → t ≡ logical) → opType (binary o) (t ∷ u ∷ []) ≡ some r → WayOk m k gs (wayOf o b) o (tyIn gs t) (tyIn gs u) (tyIn gs r)
+  pub ways-in : (m : Macro) (k : ℕ) (o : Binary) (t u r : Ty) (b : Bool) → (b ≡ true → t ≡ logical) → opType (binary o) (t ∷ u ∷ []) ≡ some r
+      → WayOk m k gs (wayOf o b) o (tyIn gs t) (tyIn gs u) (tyIn gs r)
   unfolding opType
   ways-in m k plus t u r b f h = binary-in plus t u r h
   ways-in m k minus t u r b f h = binary-in minus t u r h

@@ -12,12 +12,13 @@ use Rattle.language.specs.Tree.{Items, Global}
 use Rattle.language.specs.Names.{Sort, isVariable, isLabel, isClass, isField, isProcedure, lookup}
 use Rattle.language.specs.Names as names
 use Rattle.bytecode.specs.Instructions.{Owner}
-use Rattle.compile_code.specs.Compile.{Around, inside, outermost, bound, global, held, labels, scopesOf, passing, theLabels, hasLabel, sizeGoto, labelAt, kept, cellOf, tyIn, classNumber, bodyNumber, fieldNumber}
+use Rattle.compile_code.specs.Compile.{Around, inside, outermost, bound, global, held, labels, scopesOf, passing, theLabels, hasLabel, sizeGoto, labelAt, kept, cellOf}
+use Rattle.compile_code.specs.Compile.{tyIn, classNumber, bodyNumber, fieldNumber}
 use Rattle.compile_code.specs.Encode.{ownerCode}
-use Rattle.scopes.specs.declared.Found.{Found}
-use Rattle.scopes.specs.declared.Found.the-variants.{Nothing, Def}
-use Rattle.scopes.specs.Environment.{Item, item, find}
-use Rattle.compile_known.specs.Numbers.{packed}
+use Rattle.table_scopes.specs.declared.environment.Found.{Found}
+use Rattle.table_scopes.specs.declared.environment.Found.the-variants.{Nothing, Def}
+use Rattle.table_scopes.specs.Environment.{Item, item, find}
+use Rattle.compile_symbols.specs.Numbers.{packed}
 
 -- numbers that stand at a place of a list
 pub record Lies (l : List ℕ) (p : ℕ) (us : List ℕ) : Type 0 where

@@ -13,23 +13,23 @@ use Rattle.language.specs.Tree.{expr as more}
 use Rattle.language.specs.Table.{Entry, entry}
 use Rattle.language.specs.Limits.{holdsS, holdsE, holdsItems, holdsArms, holdsEs, needS, needE, needItems, needArms, needEs}
 use Rattle.language.specs.Names.{Scope}
-use Rattle.programs.specs.Claims.{entriesOf}
-use Rattle.scopes.specs.Environment.{envOf}
-use Rattle.spans.specs.Stands.{Stands}
-use Rattle.heads.specs.Sees.{Sees}
-use Rattle.heads.specs.Defines.{bulk}
-use Rattle.shapes.specs.Forms.{Form, headF, formS, formE, labelled}
-use Rattle.shapes.specs.Walk.{Table}
+use Rattle.language_laws.specs.Claims.{entriesOf}
+use Rattle.table_scopes.specs.Environment.{envOf}
+use Rattle.table_scopes.specs.Stands.{Stands}
+use Rattle.table_scopes.specs.Sees.{Sees}
+use Rattle.table_scopes.specs.Defines.{bulk}
+use Rattle.table_forms.specs.Forms.{Form, headF, formS, formE, labelled}
+use Rattle.table_forms.specs.Walk.{Table}
 use Rattle.bytecode.specs.Instructions.{own, push, load, operate, go, goUnless}
 use Rattle.values.specs.Operators.{binary, equal}
 use Rattle.values.specs.Values.{int}
 use Rattle.compile_code.specs.Code.{Code, op, mark, _▸_, At, skip, after}
 use Rattle.compile_code.specs.Compile.{Around, scopesOf, heldIn, found, codeS, codeE, codeItems, codeEs, tyE, classesOf, classNames}
 use Rattle.compile_names.specs.Good.{goodS, goodE, goodItems, goodArms, goodEs}
-use Rattle.compile_known.specs.Numbers.{numbersFrom, cellsWithin, secondIn}
-use Rattle.compile_pen.specs.declared.Pen.{Pen}
-use Rattle.compile_pen.specs.Ink.{Fits}
-use Rattle.compile_pen.specs.Folds.{penAfter, inked}
+use Rattle.compile_symbols.specs.Numbers.{numbersFrom, cellsWithin, secondIn}
+use Rattle.compile_output.specs.declared.Pen.{Pen}
+use Rattle.compile_output.specs.Ink.{Fits}
+use Rattle.compile_output.specs.Folds.{penAfter, inked}
 use Rattle.compile_nodes.specs.Ends.{endsS, endsE, endsItems, endsArms, endsEs}
 use Rattle.compile_nodes.specs.Knows.{Lies, Walk, Knows, Lands}
 

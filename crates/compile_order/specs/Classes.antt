@@ -9,7 +9,7 @@ use Rattle.values.specs.Types.{Ty, integer, logical, bits, reference}
 use Rattle.language.specs.Tree.{Typed, Global, local, class, procedure, Tree}
 use Rattle.language.specs.Names.{Scope, types, isClass, procedureOf}
 use Rattle.language.specs.Faults.{faults, namesGlobal}
-use Rattle.loading.specs.Terms.{Each, Named, ReadClass}
+use Rattle.bytecode_laws.specs.Terms.{Each, Named, ReadClass}
 use Rattle.compile_code.specs.Compile.{Class, classesOf, classNumber, Proc, procsOf, tyIn}
 use Rattle.compile_code.specs.Encode.{fieldTypes, compiled}
 use Rattle.compile_rules.specs.Lines.{index-below}
@@ -35,7 +35,8 @@ module _ (gs : List Global) where
   named-typed ss seen (x ∷ xs) g h = (named-ty ss (x .type) g (h .1), named-typed ss (x .name ∷ seen) xs g (h .2))
 
   -- the classes of the head
-  read-classes : (ss : List Scope) (seen : List ℕ) (hs : List Global) → GlobalsIn gs ss → goodGlobals ss seen hs → Each (λ (c : Class). (1 ≤ length (c .fields)) × (length (c .fields) ≤ 8)) (classesOf hs)
+  read-classes : (ss : List Scope) (seen : List ℕ) (hs : List Global) → GlobalsIn gs ss → goodGlobals ss seen hs
+      → Each (λ (c : Class). (1 ≤ length (c .fields)) × (length (c .fields) ≤ 8)) (classesOf hs)
       → Each (ReadClass (length (fieldTypes gs (classesOf gs)))) (fieldTypes gs (classesOf hs))
   unfolding goodGlobals classesOf fieldTypes
   read-classes ss seen [] g h n = tt

@@ -16,9 +16,9 @@ use Rattle.language.specs.Tree.{Body, proper, function, Global, local, class, p
 use Rattle.language.specs.Names.{results}
 use Rattle.language.specs.Faults.{sizeItems, sizeGlobal}
 use Rattle.language.specs.Table.{Entry, entry, inLayout, classCount, procedureCount}
-use Rattle.loading.specs.Terms.{Each, Named}
-use Rattle.loading.specs.Tests.{never-some, same-some, halves}
-use Rattle.heads.specs.Trees.{length-Items, length-Global}
+use Rattle.bytecode_laws.specs.Terms.{Each, Named}
+use Rattle.bytecode_laws.specs.Tests.{never-some, same-some, halves}
+use Rattle.table_scopes.specs.Trees.{length-Items, length-Global}
 use Rattle.compile_code.specs.Compile.{Class, classesOf, Proc, procsOf, tyIn}
 use Rattle.compile_code.specs.Encode.{fieldTypes}
 use Rattle.compile_macro.specs.Fields.{Entered, parted}

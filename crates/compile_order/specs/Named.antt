@@ -30,7 +30,8 @@ module _ (t : Tree) (h : faults t ≡ []) where
     root-named = root-ok (t .head) (rootScopes t) [] (locals (t .head)) (startOfRoot t) (startOfRoot t) 0 Entered
         (globals-root t) (good-head t h) (alike-start (t .head) (rootOf t)) (λ Δ n e al. (
           fit-root (t .head) (settingOf t o) Δ n al,
-          λ x. named-items (t .head) (rootScopes t) (good-globals t h) (t .items) (labels (t .items) x ∷ Δ) (root-inside t h AnyCell Δ e x) (root-reached t h AnyCell Δ e x) (root-good t h AnyCell Δ e x),
+          λ x. named-items (t .head) (rootScopes t) (good-globals t h) (t .items) (labels (t .items) x ∷ Δ) (root-inside t h AnyCell Δ e x)
+              (root-reached t h AnyCell Δ e x) (root-good t h AnyCell Δ e x),
         ))
 
   pub proc-named : (k : ℕ) (q : Proc) → getElem? (procsOf (t .head)) k ≡ some q → okBody (t .head) (q .body) (aroundBody t (q .parameters))

@@ -10,7 +10,7 @@ use Rattle.values.specs.Ends.{accepted}
 use Rattle.language.specs.Tree.{Tree}
 use Rattle.language.specs.Judge.{judgeTable}
 use Rattle.bytecode.specs.Rules.{judgeMacro}
-use Rattle.programs.specs.Programs.{accepted-program}
+use Rattle.language_laws.specs.Programs.{accepted-program}
 use Rattle.compile_code.specs.Encode.{compiled, macroOf}
 use Rattle.compile_simulation.specs.Top.{Built}
 use Rattle.compile_records.specs.Writing.{Writable}

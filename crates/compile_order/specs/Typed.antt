@@ -61,10 +61,13 @@ module _ (m : Macro) (gs : List Global) where
     unfolding Given types
     given-typed [] n pre post e l = tt
     given-typed (x ∷ xs) n pre post e l =
-        let u = tyIn gs (x .type) in let us = map (tyIn gs) (types xs) ++ post in let q = length-append pre (u ∷ []) in
-        (ap (λ cs. getElem? cs n) e ∙ ap (λ i. getElem? (pre ++ (u ∷ us)) i) (sym l) ∙ get-next pre us u, given-typed xs (suc n) (pre ++ (u ∷ [])) post (e ∙ sym (append-assoc pre (u ∷ []) us)) (omega arith))
+        let u = tyIn gs (x .type) in let us = map (tyIn gs) (types xs) ++ post in let q = length-append pre (u ∷ []) in (
+          ap (λ cs. getElem? cs n) e ∙ ap (λ i. getElem? (pre ++ (u ∷ us)) i) (sym l) ∙ get-next pre us u,
+          given-typed xs (suc n) (pre ++ (u ∷ [])) post (e ∙ sym (append-assoc pre (u ∷ []) us)) (omega arith),
+        )
 
-    shared-typed : (ds : List Decl) (Γ Θ : List Around) (p : At) (f : List Around → At → Code) → Celled m 0 gs (codeHead gs (global own) ds Γ p f) p → Entered (CellTy m k gs) ofShared ds Θ (rootVariables ds (p .cell) Θ)
+    shared-typed : (ds : List Decl) (Γ Θ : List Around) (p : At) (f : List Around → At → Code) → Celled m 0 gs (codeHead gs (global own) ds Γ p f) p
+        → Entered (CellTy m k gs) ofShared ds Θ (rootVariables ds (p .cell) Θ)
     unfolding Celled codeHead Entered rootVariables after
     shared-typed [] Γ Θ p f c = refl
     shared-typed (declare x ∷ ds) Γ Θ p f c =
@@ -77,7 +80,8 @@ module _ (t : Tree) (h : faults t ≡ []) where
   root-typed =
       let m = compiled t in let P = CellTy m 0 (t .head) in
       root-ok m (t .head) (tabled t) (rootScopes t) [] (locals (t .head)) (startOfRoot t) (λ Δ. (x : ℕ) → okItems m 0 (t .head) (t .items) (labels (t .items) x ∷ Δ)) (globals-root t) (good-head t h)
-      (λ Δ e x. typed-items m 0 (t .head) (tabled t) (rootScopes t) (good-globals t h) (t .items) (labels (t .items) x ∷ Δ) (root-inside t h P Δ e x) (root-reached t h P Δ e x) (root-good t h P Δ e x))
+      (λ Δ e x. typed-items m 0 (t .head) (tabled t) (rootScopes t) (good-globals t h) (t .items) (labels (t .items) x ∷ Δ) (root-inside t h P Δ e x)
+      (root-reached t h P Δ e x) (root-good t h P Δ e x))
 
   pub proc-typed : (k : ℕ) (q : Proc) → getElem? (procsOf (t .head)) k ≡ some q → okBodyTy (compiled t) (suc k) (t .head) (q .body) (aroundBody t (q .parameters))
   unfolding Celled
@@ -96,7 +100,9 @@ module _ (t : Tree) (h : faults t ≡ []) where
       given = let r = proc-there t k q e in given-typed m (t .head) (suc k) (q .parameters) 0 [] (cellsIn (codeProc t q (r .0)) []) (ap cellsOf (r .1)) refl
 
       entered : Entered P ofShared (locals (t .head)) (startOfRoot t) (shared t)
-      entered = shared-typed m (t .head) (suc k) (locals (t .head)) (startOfRoot t) (startOfRoot t) (at 0 0) (λ Δ p. codeItems (t .head) (t .items) (labels (t .items) (p .address) ∷ Δ) [] p) (root-celled t .0)
+      entered =
+          shared-typed m (t .head) (suc k) (locals (t .head)) (startOfRoot t) (startOfRoot t) (at 0 0)
+          (λ Δ p. codeItems (t .head) (t .items) (labels (t .items) (p .address) ∷ Δ) [] p) (root-celled t .0)
 
       known : Inside P (t .head) Γ
       known = body-inside t h P (q .parameters) given entered

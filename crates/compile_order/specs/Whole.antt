@@ -5,7 +5,7 @@ use native.Mathlib.Omega.{arith}
 use Rattle.language.specs.Program.{Program}
 use Rattle.language.specs.Limits.{bodyUsage}
 use Rattle.language.specs.Formed.{InLimits}
-use Rattle.programs.specs.Trees.{formed-faultless}
+use Rattle.language_laws.specs.Trees.{formed-faultless}
 use Rattle.compile_code.specs.Encode.{compiled}
 use Rattle.compile_macro.specs.Built.{InOrder}
 use Rattle.compile_order.specs.Entries.{few-classes, few-procs, length-tree, root-entries, proc-entries, proc-results, class-fields}

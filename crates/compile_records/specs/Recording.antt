@@ -10,8 +10,9 @@ use borrow.Author.Tests.{le-leb, lt-ltb, ne-eqb, eq-eqb}
 use Rattle.words.specs.Options.{isSome}
 use Rattle.values.specs.Types.{Ty, integer, logical, bits, reference, tyByte}
 use Rattle.values.specs.Ends.{accepted}
-use Rattle.bytecode.specs.Macro.{Body, Code, Placed, Macro, Cut, cut, tyOfByte, readTypes, readClass, readResult, rises, readBody, readCode, shapeIn, readShape, parsed, orUnread, records, onward, headReads, readEnd, parseMacro, readMacro}
-use Rattle.loading.specs.Terms.{Each, Named, ReadClass, ReadBody, ReadShape, RisesFrom, Apart, WellFormed}
+use Rattle.bytecode.specs.Macro.{Body, Code, Placed, Macro, Cut, cut, tyOfByte, readTypes, readClass, readResult, rises, readBody, readCode, shapeIn, readShape, parsed}
+use Rattle.bytecode.specs.Macro.{orUnread, records, onward, headReads, readEnd, parseMacro, readMacro}
+use Rattle.bytecode_laws.specs.Terms.{Each, Named, ReadClass, ReadBody, ReadShape, RisesFrom, Apart, WellFormed}
 use Rattle.compile_code.specs.Encode.{classBytes, resultByte, bodyBytes, codeBytes, shapeBytes, each, macroBytes}
 
 -- ── lists ──
@@ -71,7 +72,15 @@ body-back : (n size : ℕ) (before : List Body) (b : Body) (r : List ℕ) → Re
 unfolding readBody
 body-back n size before b r h e =
     let f : b .first % 256 + b .first / 256 * 256 ≡ b .first = omega arith in
-    rw (f, e, le-leb 7 (length (bodyBytes b ++ r)) (omega arith), lt-ltb (b .first) size (h .begins), le-leb (b .parameters) (length (b .cells)) (h .fewer-parameters), result-back n (b .results) (h .one-result) (h .named-results), types-back n (b .cells) r (h .named-cells)) refl
+    rw (
+      f,
+      e,
+      le-leb 7 (length (bodyBytes b ++ r)) (omega arith),
+      lt-ltb (b .first) size (h .begins),
+      le-leb (b .parameters) (length (b .cells)) (h .fewer-parameters),
+      result-back n (b .results) (h .one-result) (h .named-results),
+      types-back n (b .cells) r (h .named-cells),
+    ) refl
 
 code-back : (before : List Code) (c : Code) (r : List ℕ) → readCode before (codeBytes c ++ r) ≡ some (cut c r)
 unfolding readCode
@@ -80,7 +89,8 @@ code-back before c r =
     let f : n % 256 + n / 256 % 256 * 256 + n / 65536 % 256 * 65536 + n / 16777216 * 16777216 ≡ n = omega arith in
     rw (le-leb 8 (length (codeBytes c ++ r)) (omega arith), f) refl
 
-shape-back : (n size : ℕ) (before : List Placed) (p : Placed) (r : List ℕ) → ReadShape n size p → isSome (shapeIn before (p .address)) ≡ false → readShape n size before (shapeBytes p ++ r) ≡ some (cut p r)
+shape-back : (n size : ℕ) (before : List Placed) (p : Placed) (r : List ℕ) → ReadShape n size p → isSome (shapeIn before (p .address)) ≡ false
+    → readShape n size before (shapeBytes p ++ r) ≡ some (cut p r)
 unfolding readShape
 shape-back n size before p r h e =
     let f : p .address % 256 + p .address / 256 * 256 ≡ p .address = omega arith in
@@ -131,7 +141,8 @@ end-back x i = refl
 module _ (m : Macro) (w : WellFormed m) where
   classes-back : (i : ℕ) (l : List ℕ) → (j : ℕ) × (records (readClass (length (m .classes))) (length (m .classes)) [] i (each classBytes (m .classes) l) ≡ parsed (m .classes) j l)
   classes-back i l =
-      let q = all-back (readClass (length (m .classes))) classBytes (λ before xs. Each (ReadClass (length (m .classes))) xs) (λ before x xs r h. (class-back (length (m .classes)) before x r (h .0), h .1)) (m .classes) [] i l (w .classes-read) in
+      let q = all-back (readClass (length (m .classes))) classBytes (λ before xs. Each (ReadClass (length (m .classes))) xs)
+      (λ before x xs r h. (class-back (length (m .classes)) before x r (h .0), h .1)) (m .classes) [] i l (w .classes-read) in
       (q .0, q .1 ∙ ap (λ xs. parsed xs (q .0) l) (twice (m .classes)))
 
   from-root : (bs : List Body) → m .bodies ≡ bs → RisesFrom 0 bs → Rising [] bs
@@ -141,7 +152,10 @@ module _ (m : Macro) (w : WellFormed m) where
   bodies-back : (i : ℕ) (l : List ℕ) → (j : ℕ) × (records (readBody (length (m .classes)) (length (m .code))) (length (m .bodies)) [] i (each bodyBytes (m .bodies) l) ≡ parsed (m .bodies) j l)
   bodies-back i l =
       let q = all-back (readBody (length (m .classes)) (length (m .code))) bodyBytes (λ before xs. Each (ReadBody (length (m .classes)) (length (m .code))) xs × Rising before xs)
-      (λ before x xs r h. let u = rising before x xs (h .1) in (body-back (length (m .classes)) (length (m .code)) before x r (h .0 .0) (u .0), (h .0 .1, u .1))) (m .bodies) [] i l (w .bodies-read, from-root (m .bodies) refl (w .rises)) in
+      (λ before x xs r h. let u = rising before x xs (h .1) in (
+        body-back (length (m .classes)) (length (m .code)) before x r (h .0 .0) (u .0),
+        (h .0 .1, u .1),
+      )) (m .bodies) [] i l (w .bodies-read, from-root (m .bodies) refl (w .rises)) in
       (q .0, q .1 ∙ ap (λ xs. parsed xs (q .0) l) (twice (m .bodies)))
 
   codes-back : (i : ℕ) (l : List ℕ) → (j : ℕ) × (records readCode (length (m .code)) [] i (each codeBytes (m .code) l) ≡ parsed (m .code) j l)
@@ -165,4 +179,16 @@ module _ (m : Macro) (w : WellFormed m) where
       let k = length (m .code) in let h = length (m .shapes) in
       let e : k % 256 + k / 256 * 256 ≡ k = omega arith in
       let f : h % 256 + h / 256 * 256 ≡ h = omega arith in
-      rw (le-leb 8 (length (macroBytes m)) (omega arith), le-leb (length (m .classes)) 16 (w .few-classes), le-leb 1 (length (m .bodies)) (w .some-body), le-leb (length (m .bodies)) 64 (w .few-bodies), e, f, c .1, b .1, x .1, s .1, end-back m (s .0)) refl
+      rw (
+        le-leb 8 (length (macroBytes m)) (omega arith),
+        le-leb (length (m .classes)) 16 (w .few-classes),
+        le-leb 1 (length (m .bodies)) (w .some-body),
+        le-leb (length (m .bodies)) 64 (w .few-bodies),
+        e,
+        f,
+        c .1,
+        b .1,
+        x .1,
+        s .1,
+        end-back m (s .0),
+      ) refl

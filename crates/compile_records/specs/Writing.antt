@@ -11,8 +11,8 @@ use Rattle.values.specs.Types.{Ty, integer, logical, bits, reference, tyByte}
 use Rattle.values.specs.Ends.{accepted}
 use Rattle.bytecode.specs.Macro.{Body, Code, Placed, Macro, readMacro}
 use Rattle.bytecode.specs.Rules.{faultAt, judgeMacro}
-use Rattle.loading.specs.Terms.{Each, Named, ReadClass, ReadBody, ReadShape, WellFormed, OfBytes, Narrow, Passed}
-use Rattle.loading.specs.Promises.{passes-exactly}
+use Rattle.bytecode_laws.specs.Terms.{Each, Named, ReadClass, ReadBody, ReadShape, WellFormed, OfBytes, Narrow, Passed}
+use Rattle.bytecode_laws.specs.Promises.{passes-exactly}
 use Rattle.compile_code.specs.Encode.{classBytes, resultByte, bodyBytes, codeBytes, shapeBytes, each, macroBytes}
 use Rattle.compile_records.specs.Recording.{read-back, each-rev}
 
@@ -88,9 +88,11 @@ module _ (m : Macro) (w : Writable m) where
       let f = w .well-formed in let n = length (m .classes) in let size = length (m .code) in
       let p = f .few-classes in let q = w .narrow .few-instructions in
       let l4 = each shapeBytes (m .shapes) (90 ∷ 90 ∷ []) in let l3 = each codeBytes (m .code) l4 in let l2 = each bodyBytes (m .bodies) l3 in
-      let ss = of-each shapeBytes (λ x. ReadShape n size x × SmallShape x) (λ x r h b. of-shape n size x r p q (h .0) (h .1) b) (m .shapes) (90 ∷ 90 ∷ []) (two (ReadShape n size) SmallShape (m .shapes) (f .shapes-read) (w .small-shapes)) (omega arith, (omega arith, tt)) in
+      let ss = of-each shapeBytes (λ x. ReadShape n size x × SmallShape x) (λ x r h b. of-shape n size x r p q (h .0) (h .1) b) (m .shapes)
+      (90 ∷ 90 ∷ []) (two (ReadShape n size) SmallShape (m .shapes) (f .shapes-read) (w .small-shapes)) (omega arith, (omega arith, tt)) in
       let xs = of-each codeBytes OfBytes (λ x r h b. of-code x r h b) (m .code) l4 (w .narrow .instructions-narrow) ss in
-      let bs = of-each bodyBytes (λ x. ReadBody n size x × SmallBody x) (λ x r h b. of-body n size x r p q (h .0) (h .1) b) (m .bodies) l3 (two (ReadBody n size) SmallBody (m .bodies) (f .bodies-read) (w .small-bodies)) xs in
+      let bs = of-each bodyBytes (λ x. ReadBody n size x × SmallBody x) (λ x r h b. of-body n size x r p q (h .0) (h .1) b) (m .bodies) l3
+      (two (ReadBody n size) SmallBody (m .bodies) (f .bodies-read) (w .small-bodies)) xs in
       let cs = of-each classBytes (ReadClass n) (λ x r h b. of-class n x r p h b) (m .classes) l2 (f .classes-read) bs in
       let z = f .few-bodies in
       small-bytes (macroBytes m) (omega arith, (omega arith, (omega arith, (omega arith, (let u = w .few-shapes in (omega arith, (omega arith, (omega arith, (omega arith, cs)))))))))

@@ -35,7 +35,8 @@ module _ (m : Macro) (k : ℕ) where
   shift lo (x ▸ y) p q e = shift lo y (after x p) (after x q) (shift lo x p q e)
 
   module _ (lo : ℕ) (whole : List Line) where
-    marked : (Aim : ℕ → Shape → Type 0) (P : Type 0) (x : Code) (p q : At) (f g o : Option Shape) (c : Option Shape → List Line) → p .address ≡ lo + q .address → Seg m k Aim x f g → Agree m k o f → drop (q .address) whole ≡ lay x o c
+    marked : (Aim : ℕ → Shape → Type 0) (P : Type 0) (x : Code) (p q : At) (f g o : Option Shape) (c : Option Shape → List Line)
+        → p .address ≡ lo + q .address → Seg m k Aim x f g → Agree m k o f → drop (q .address) whole ≡ lay x o c
         → ((o' : Option Shape) → Agree m k o' g → drop (after x q .address) whole ≡ c o' → Later whole o' (after x q .address) × P) → Later whole o (q .address) × (Marks m k (Real lo whole) x p × P)
     unfolding Seg lay Marks after Shows
     marked Aim P nil p q f g o c e h w d z = let u = z o (subst (λ y. Agree m k o y) h w) d in (u .0, (tt, u .1))

@@ -29,7 +29,9 @@ module _ (m : Macro) (k : ℕ) where
   -- the lines from address i on are the rest of body k
   abbrev pub Lined : List Line → ℕ → Type 0
   Lined [] i = inBody m k i ≡ false
-  Lined (l ∷ ls) i = (instrAt m i ≡ some (l .instr)) × (shapeIn (m .shapes) i ≡ l .shape) × (bodyOf (m .bodies) 0 i ≡ k) × (bodyFault (m .bodies) 0 i ≡ false) × (inBody m k i ≡ true) × NotFirst ls (suc i) × Lined ls (suc i)
+  Lined (l ∷ ls) i =
+      (instrAt m i ≡ some (l .instr)) × (shapeIn (m .shapes) i ≡ l .shape) × (bodyOf (m .bodies) 0 i ≡ k) × (bodyFault (m .bodies) 0 i ≡ false)
+      × (inBody m k i ≡ true) × NotFirst ls (suc i) × Lined ls (suc i)
 
   abbrev pub Faultless : List Line → ℕ → Type 0
   Faultless [] i = Unit {0}
@@ -84,8 +86,11 @@ module _ (m : Macro) (k : ℕ) where
       let fl : flowAt m i s ≡ w = rw (l .0, l .2) refl in
       let fd : orElse (shapeIn (m .shapes) i) (into m i) ≡ some s = rw (l .1, e) (found-is (x .shape) f s (h .2)) in
       let sf : shapeFault (shapeIn (m .shapes) i) (into m i) ≡ false = rw (l .1, e) (shape-right (x .shape) f s (h .2)) in
-      let of : opFault m i (orElse (shapeIn (m .shapes) i) (into m i)) ≡ false = rw fd (rw (l .2, l .0) (flow-right w ls i (h .1) (h .3) (l .6) (h .4))) in
-      (rw (l .3, sf, of) refl, onward ls (l .5) (l .6) (h .4) (ap (λ z. keep z (λ q. passed (flowAt m i q))) fd ∙ ap passed fl ∙ goes-to w (h .1) (h .3)) (λ u v. faultless ls (suc i) (h .1) (l .6) u v))
+      let of : opFault m i (orElse (shapeIn (m .shapes) i) (into m i)) ≡ false = rw fd (rw (l .2, l .0) (flow-right w ls i (h .1) (h .3) (l .6) (h .4))) in (
+        rw (l .3, sf, of) refl,
+        onward ls (l .5) (l .6) (h .4) (ap (λ z. keep z (λ q. passed (flowAt m i q))) fd ∙ ap passed fl
+            ∙ goes-to w (h .1) (h .3)) (λ u v. faultless ls (suc i) (h .1) (l .6) u v),
+      )
     where
       onward : (ls : List Line) → NotFirst ls (suc i) → Lined ls (suc i) → Good m k Aimed ls (h .1) → keep (orElse (shapeIn (m .shapes) i) (into m i)) (λ q. passed (flowAt m i q)) ≡ h .1
           → (into m (suc i) ≡ h .1 → Good m k Aimed ls (h .1) → Faultless ls (suc i)) → Faultless ls (suc i)

@@ -10,7 +10,8 @@ use Rattle.values.specs.Types.{Ty, integer, logical, reference, fits}
 use Rattle.values.specs.Identical.{same-refl}
 use Rattle.values.specs.Operators.{unary, binary, Unary, Binary, opType}
 use Rattle.bytecode.specs.Macro.{Body, Shape, shape, Macro}
-use Rattle.bytecode.specs.Instructions.{Owner, Instr, load, store, operate, go, goUnless, setLevel, readFader, takeHold, letHold, assert, stop, call, make, getField, putField, cellTy, fieldTy, procedureAt}
+use Rattle.bytecode.specs.Instructions.{Owner, Instr, load, store, operate, go, goUnless, setLevel, readFader, takeHold, letHold, assert, stop, call, make, getField}
+use Rattle.bytecode.specs.Instructions.{putField, cellTy, fieldTy, procedureAt}
 use Rattle.bytecode.specs.Rules.{plain, Flow, on, fork, jump, halt, broken, strip, roomy, flow, effect}
 use Rattle.compile_code.specs.Code.{Code, nil, op, mark, cell, _▸_, At, after}
 
@@ -54,7 +55,8 @@ module _ (m : Macro) (k : ℕ) (Aim : ℕ → Shape → Type 0) where
   Marks (x ▸ y) p = Marks x p × Marks y (after x p)
 
   -- ── one law for each op ──
-  plainly : (i : Instr) (h : ℕ) (ins outs r : List Ty) → effect m k i (shape h (ins ++ r)) ≡ plain ins outs → h ≤ 16 → length (outs ++ r) ≤ 32 → Seg (op i) (some (shape h (ins ++ r))) (some (shape h (outs ++ r)))
+  plainly : (i : Instr) (h : ℕ) (ins outs r : List Ty) → effect m k i (shape h (ins ++ r)) ≡ plain ins outs → h ≤ 16 → length (outs ++ r) ≤ 32
+      → Seg (op i) (some (shape h (ins ++ r))) (some (shape h (outs ++ r)))
   unfolding Seg flow
   plainly i h ins outs r e p q = (shape h (ins ++ r), refl, rw e (rw (strip-app ins r) (rw (room h (outs ++ r) p q) refl)))
 
@@ -69,11 +71,13 @@ module _ (m : Macro) (k : ℕ) (Aim : ℕ → Shape → Type 0) where
   unfolding effect
   stores o c h t ts e p q = plainly (store o c) h (t ∷ []) [] ts (rw e refl) p q
 
-  pub operates : (o : Binary) (h : ℕ) (t u r : Ty) (ts : List Ty) → opType (binary o) (t ∷ u ∷ []) ≡ some r → h ≤ 16 → suc (length ts) ≤ 32 → Seg (op (operate (binary o))) (some (shape h (u ∷ (t ∷ ts)))) (some (shape h (r ∷ ts)))
+  pub operates : (o : Binary) (h : ℕ) (t u r : Ty) (ts : List Ty) → opType (binary o) (t ∷ u ∷ []) ≡ some r → h ≤ 16 → suc (length ts) ≤ 32
+      → Seg (op (operate (binary o))) (some (shape h (u ∷ (t ∷ ts)))) (some (shape h (r ∷ ts)))
   unfolding effect
   operates o h t u r ts e p q = plainly (operate (binary o)) h (u ∷ t ∷ []) (r ∷ []) ts (rw e refl) p q
 
-  pub operates1 : (o : Unary) (h : ℕ) (t r : Ty) (ts : List Ty) → opType (unary o) (t ∷ []) ≡ some r → h ≤ 16 → suc (length ts) ≤ 32 → Seg (op (operate (unary o))) (some (shape h (t ∷ ts))) (some (shape h (r ∷ ts)))
+  pub operates1 : (o : Unary) (h : ℕ) (t r : Ty) (ts : List Ty) → opType (unary o) (t ∷ []) ≡ some r → h ≤ 16 → suc (length ts) ≤ 32
+      → Seg (op (operate (unary o))) (some (shape h (t ∷ ts))) (some (shape h (r ∷ ts)))
   unfolding effect
   operates1 o h t r ts e p q = plainly (operate (unary o)) h (t ∷ []) (r ∷ []) ts (rw e refl) p q
 
@@ -127,11 +131,13 @@ module _ (m : Macro) (k : ℕ) (Aim : ℕ → Shape → Type 0) where
   unfolding effect
   calls b h B us rs ts e f g p q = rw (reverseAux-eq us ts) (plainly (call b) h (reverse us) rs ts (rw e (ap₂ (λ x y. plain (reverse x) y) f g)) p q)
 
-  pub makes : (c h : ℕ) (us ts : List Ty) → getElem? (m .classes) c ≡ some us → h ≤ 16 → suc (length ts) ≤ 32 → Seg (op (make c)) (some (shape h (reverseAux us ts))) (some (shape h (reference c ∷ ts)))
+  pub makes : (c h : ℕ) (us ts : List Ty) → getElem? (m .classes) c ≡ some us → h ≤ 16 → suc (length ts) ≤ 32
+      → Seg (op (make c)) (some (shape h (reverseAux us ts))) (some (shape h (reference c ∷ ts)))
   unfolding effect
   makes c h us ts e p q = rw (reverseAux-eq us ts) (plainly (make c) h (reverse us) (reference c ∷ []) ts (rw e refl) p q)
 
-  pub gets : (c x h : ℕ) (t u : Ty) (ts : List Ty) → t ≡ reference c → fieldTy m c x ≡ some u → h ≤ 16 → suc (length ts) ≤ 32 → Seg (op (getField c x)) (some (shape h (t ∷ ts))) (some (shape h (u ∷ ts)))
+  pub gets : (c x h : ℕ) (t u : Ty) (ts : List Ty) → t ≡ reference c → fieldTy m c x ≡ some u → h ≤ 16 → suc (length ts) ≤ 32
+      → Seg (op (getField c x)) (some (shape h (t ∷ ts))) (some (shape h (u ∷ ts)))
   unfolding effect
   gets c x h t u ts d e p q = rw d (plainly (getField c x) h (reference c ∷ []) (u ∷ []) ts (rw e refl) p q)
 

@@ -14,7 +14,9 @@ use Rattle.values.specs.Types.{Ty, integer, logical, bits, reference, sames}
 use Rattle.values.specs.Operators.{unary, binary, Binary, equal, opType}
 use Rattle.values.specs.Ends.{caseIndex}
 use Rattle.values.specs.Values.{int, log, bit, ref, initial}
-use Rattle.language.specs.Tree.{Decl, declare, holding, Stmt, block, assign, when, choose, while, goto, assert, call, setLevel, select, Items, noItem, label, item, Arms, lastArm, arm, Target, toVariable, toField, Expr, number, truth, pattern, null, variable, invoke, field, make, operate1, operate2, conditional, fader, blockExpr, Exprs, noExpr, expr, Global}
+use Rattle.language.specs.Tree.{Decl, declare, holding, Stmt, block, assign, when, choose, while, goto, assert, call, setLevel, select, Items, noItem, label, item, Arms}
+use Rattle.language.specs.Tree.{lastArm, arm, Target, toVariable, toField, Expr, number, truth, pattern, null, variable, invoke, field, make, operate1, operate2}
+use Rattle.language.specs.Tree.{conditional, fader, blockExpr, Exprs, noExpr, expr, Global}
 use Rattle.language.specs.Names.{inBlock, inExpression, inProcedure, blockOf, expressionOf}
 use Rattle.language.specs.Measure.{measureS}
 use Rattle.language.specs.Faults.{typeE, isTy}
@@ -23,12 +25,15 @@ use Rattle.bytecode.specs.Macro.{Body, Shape, shape, Macro}
 use Rattle.bytecode.specs.Instructions.{Owner, own, push, go, letHold, operate, cellTy, fieldTy, procedureAt}
 use Rattle.bytecode.specs.Rules.{plain, effect}
 use Rattle.compile_code.specs.Code.{Code, nil, op, mark, cell, _▸_, At, at, skip, after}
-use Rattle.compile_code.specs.Compile.{Around, inside, outermost, bound, global, held, labels, heldIn, scopesOf, passing, theLabels, hasLabel, labelAt, found, kept, Way, plainly, marked, ifTrue, ifFalse, wayOf, codeWay, codeGoto, codeHead, codeS, codeItems, codeArms, codeTarget, codeE, codeEs, opsArms, opTarget, tyTarget, tyE, tyIn, classNumber, bodyNumber, fieldNumber}
+use Rattle.compile_code.specs.Compile.{Around, inside, outermost, bound, global, held, labels, heldIn, scopesOf, passing, theLabels, hasLabel, labelAt, found, kept, Way}
+use Rattle.compile_code.specs.Compile.{plainly, marked, ifTrue, ifFalse, wayOf, codeWay, codeGoto, codeHead, codeS, codeItems, codeArms, codeTarget, codeE, codeEs}
+use Rattle.compile_code.specs.Compile.{opsArms, opTarget, tyTarget, tyE, tyIn, classNumber, bodyNumber, fieldNumber}
 use Rattle.compile_code.specs.Compile.{cellOf as keptOf}
 use Rattle.compile_simulation.specs.Sizes.{lenS, lenArms}
 use Rattle.compile_simulation.specs.Placed.{landsAt}
 use Rattle.compile_simulation.specs.Blocks.{gotoOk}
-use Rattle.compile_rules.specs.Flows.{Seg, Marks, pushes, loads, stores, operates, operates1, asserts, sets, fades, tests, goes, holds, frees, marks-on, marks-here, joins, calls, makes, gets, puts, stopped}
+use Rattle.compile_rules.specs.Flows.{Seg, Marks, pushes, loads, stores, operates, operates1, asserts, sets, fades, tests, goes, holds, frees, marks-on, marks-here}
+use Rattle.compile_rules.specs.Flows.{joins, calls, makes, gets, puts, stopped}
 
 target-types : (gs : List Global) (x : Target) (Γ : List Around) (ts : List Ty) → length (tyTarget gs Γ x ts) ≤ suc (length ts)
 target-types gs (toVariable a) Γ ts = omega arith
@@ -127,7 +132,9 @@ module _ (m : Macro) (k : ℕ) (gs : List Global) where
     passGoto (outermost s ∷ Γ) exact a ts o r = absurd o
     passGoto (bound b c ∷ Γ) exact a ts o r = passGoto Γ false a ts o r
     passGoto (global q b c ∷ Γ) exact a ts o r = absurd o
-    passGoto (held g ∷ Γ) exact a ts o r = joins m k Aim (op letHold) (codeGoto Γ a) (some (found (held g ∷ Γ) ts)) (some (found Γ ts)) none (frees m k Aim (length (heldIn Γ)) ts) (passGoto Γ exact a ts o r)
+    passGoto (held g ∷ Γ) exact a ts o r =
+        joins m k Aim (op letHold) (codeGoto Γ a) (some (found (held g ∷ Γ) ts)) (some (found Γ ts)) none (frees m k Aim (length (heldIn Γ)) ts)
+        (passGoto Γ exact a ts o r)
     passGoto (labels is x ∷ Γ) true a ts o r = pick (hasLabel a is) refl o (λ o'. passGoto Γ true a ts o' (r .1))
       where
         pick : (b : Bool) → hasLabel a is ≡ b → landsAt b (Unit {0}) (gotoOk true Γ a) → (gotoOk true Γ a → Seg m k Aim (codeGoto Γ a) (some (found Γ ts)) none)
@@ -177,12 +184,15 @@ module _ (m : Macro) (k : ℕ) (gs : List Global) where
     )
 
     -- the labels of a block stand where its gotos aim
-    labelled : (is : Items) (Γ : List Around) (ts : List Ty) (p : At) (a : ℕ) → Marks m k Aim (codeItems gs is Γ ts p) p → hasLabel a is ≡ true → Aim (labelAt is (scopesOf Γ) (passing Γ) (p .address) a) (found Γ ts)
+    labelled : (is : Items) (Γ : List Around) (ts : List Ty) (p : At) (a : ℕ) → Marks m k Aim (codeItems gs is Γ ts p) p → hasLabel a is ≡ true
+        → Aim (labelAt is (scopesOf Γ) (passing Γ) (p .address) a) (found Γ ts)
     unfolding Marks codeS labelAt hasLabel after
     labelled noItem Γ ts p a g e = let z : _≡_ {A = ℕ} 0 1 = cc e in absurd (omega arith)
     labelled (label b is) Γ ts p a g e = pick (eqb a b) e (λ e'. labelled is Γ ts p a (g .1) e')
       where
-        pick : (t : Bool) → (if t then true else hasLabel a is) ≡ true → (hasLabel a is ≡ true → Aim (labelAt is (scopesOf Γ) (passing Γ) (p .address) a) (found Γ ts)) → Aim (if t then p .address else labelAt is (scopesOf Γ) (passing Γ) (p .address) a) (found Γ ts)
+        pick : (t : Bool) → (if t then true else hasLabel a is) ≡ true
+            → (hasLabel a is ≡ true → Aim (labelAt is (scopesOf Γ) (passing Γ) (p .address) a) (found Γ ts))
+            → Aim (if t then p .address else labelAt is (scopesOf Γ) (passing Γ) (p .address) a) (found Γ ts)
         pick true e f = g .0
         pick false e f = f e
     labelled (item s is) Γ ts p a g e = subst (λ z. Aim (labelAt is (scopesOf Γ) (passing Γ) z a) (found Γ ts)) (lenS gs s Γ ts p) (labelled is Γ ts (after (codeS gs s Γ ts p) p) a (g .1) e)
@@ -232,8 +242,15 @@ module _ (m : Macro) (k : ℕ) (gs : List Global) where
         → ((us : List Ty) (q : At) → length us ≤ suc (length ts) → Celled (F us q) q → Marks m k Aim (F us q) q → Seg m k Aim (F us q) (some (found Γ us)) (some (found Γ (u ∷ us))))
         → Seg m k Aim (codeWay w o Γ ts t x p F) (some (found Γ ts)) (some (found Γ (r ∷ ts)))
     unfolding Celled Marks after Seg
-    passWay plainly o Γ ts t u r x p F e h s c g a b =
-        (some (found Γ (t ∷ ts)), a (c .0) (g .0), (some (found Γ (u ∷ (t ∷ ts))), b (t ∷ ts) (after x p) (omega arith) (c .1 .0) (g .1 .0), operates m k Aim o (length (heldIn Γ)) t u r ts e h (omega arith)))
+    passWay plainly o Γ ts t u r x p F e h s c g a b = (
+      some (found Γ (t ∷ ts)),
+      a (c .0) (g .0),
+      (
+        some (found Γ (u ∷ (t ∷ ts))),
+        b (t ∷ ts) (after x p) (omega arith) (c .1 .0) (g .1 .0),
+        operates m k Aim o (length (heldIn Γ)) t u r ts e h (omega arith),
+      ),
+    )
     passWay marked o Γ ts t u r x p F e h s c g a b = (
       some (found Γ (t ∷ ts)),
       a (c .0) (g .0),
@@ -283,7 +300,12 @@ module _ (m : Macro) (k : ℕ) (gs : List Global) where
                 (
                   some (found Γ ts),
                   marks-here m k Aim n ts h (omega arith),
-                  (some (found Γ (logical ∷ ts)), subst (λ z. Seg m k Aim (F ts q) (some (found Γ ts)) (some (found Γ (z ∷ ts)))) (e .1) (b ts q (omega arith) (c .1 .1 .1 .1 .1 .0) (g .1 .1 .1 .1 .1 .0)), marks-on m k Aim n (logical ∷ ts) h (omega arith)),
+                  (
+                    some (found Γ (logical ∷ ts)),
+                    subst (λ z. Seg m k Aim (F ts q) (some (found Γ ts)) (some (found Γ (z ∷ ts)))) (e .1)
+                        (b ts q (omega arith) (c .1 .1 .1 .1 .1 .0) (g .1 .1 .1 .1 .1 .0)),
+                    marks-on m k Aim n (logical ∷ ts) h (omega arith),
+                  ),
                 ),
               ),
             ),
@@ -303,7 +325,8 @@ module _ (m : Macro) (k : ℕ) (gs : List Global) where
     unfolding opType sames
     equals h ts p q = operates m k Aim equal h integer integer logical ts refl p q
 
-    storing! : (x : Target) (Γ : List Around) (ts : List Ty) (t : Ty) → okTarget x Γ t → length (heldIn Γ) ≤ 16 → length ts ≤ 32 → Seg m k Aim (op (opTarget gs Γ x)) (some (found Γ (t ∷ tyTarget gs Γ x ts))) (some (found Γ ts))
+    storing! : (x : Target) (Γ : List Around) (ts : List Ty) (t : Ty) → okTarget x Γ t → length (heldIn Γ) ≤ 16 → length ts ≤ 32
+        → Seg m k Aim (op (opTarget gs Γ x)) (some (found Γ (t ∷ tyTarget gs Γ x ts))) (some (found Γ ts))
     unfolding okS
     storing! (toVariable a) Γ ts t o p q = rw (o .2) (stores m k Aim (o .0) (o .1) (length (heldIn Γ)) t ts (o .3) p q)
     storing! (toField a e) Γ ts t o p q = puts m k Aim (fieldNumber gs a .class) (fieldNumber gs a .index) (length (heldIn Γ)) (tyE gs Γ e) t ts (o .1) (o .2) p q
@@ -311,7 +334,8 @@ module _ (m : Macro) (k : ℕ) (gs : List Global) where
     mutual
       unfolding okS codeS Celled Marks after Seg measureS Reaches heldIn typeE tysE
 
-      pub passS : (s : Stmt) (Γ : List Around) (ts : List Ty) (p : At) → okS s Γ → Reaches Γ ts → length (heldIn Γ) + holdsS s ≤ 16 → length ts + needS s ≤ 32 → Celled (codeS gs s Γ ts p) p → Marks m k Aim (codeS gs s Γ ts p) p
+      pub passS : (s : Stmt) (Γ : List Around) (ts : List Ty) (p : At) → okS s Γ → Reaches Γ ts → length (heldIn Γ) + holdsS s ≤ 16
+          → length ts + needS s ≤ 32 → Celled (codeS gs s Γ ts p) p → Marks m k Aim (codeS gs s Γ ts p) p
           → Seg m k Aim (codeS gs s Γ ts p) (some (found Γ ts)) (some (found Γ ts))
       passS (block ds is) Γ ts p o r l n c g =
           passHead bound quiet-bound ds (inside (blockOf ds is) ∷ Γ) ts ts p (λ Δ. (x : ℕ) → okItems is (labels is x ∷ Δ)) (λ Δ q. codeItems gs is (labels is (q .address) ∷ Δ) ts q) (holdsItems is)
@@ -368,14 +392,25 @@ module _ (m : Macro) (k : ℕ) (gs : List Global) where
               (
                 some (found Γ ts),
                 tests m k Aim _ h (tyE gs Γ e) ts (o .1) (g .1 .1 .1 .1 .1),
-                (some (found Γ ts), passS s Γ ts q (o .2) r (omega arith) (omega arith) (c .1 .1 .1 .0) (g .1 .1 .1 .0), (none, goes m k Aim _ h ts (g .0), marks-here m k Aim h ts (omega arith) (omega arith))),
+                (
+                  some (found Γ ts),
+                  passS s Γ ts q (o .2) r (omega arith) (omega arith) (c .1 .1 .1 .0) (g .1 .1 .1 .0),
+                  (none, goes m k Aim _ h ts (g .0), marks-here m k Aim h ts (omega arith) (omega arith)),
+                ),
               ),
             ),
           )
       passS (goto a) Γ ts p o r l n c g = (none, passGoto Γ true a ts o r, marks-here m k Aim (length (heldIn Γ)) ts (omega arith) (omega arith))
-      passS (assert e) Γ ts p o r l n c g = (some (found Γ (tyE gs Γ e ∷ ts)), passE e Γ ts p (o .0) l n (c .0) (g .0), asserts m k Aim (length (heldIn Γ)) (tyE gs Γ e) ts (o .1) (omega arith) (omega arith))
-      passS (call a es) Γ ts p o r l n c g =
-          (some (found Γ (reverseAux (tysE gs Γ es) ts)), passEs es Γ ts p (length ts) 0 (omega arith) (o .0) l n (c .0) (g .0), calls m k Aim (bodyNumber gs a) (length (heldIn Γ)) (o .1 .0) (tysE gs Γ es) [] ts (o .1 .1) (o .1 .2) (o .1 .3) (omega arith) (omega arith))
+      passS (assert e) Γ ts p o r l n c g = (
+        some (found Γ (tyE gs Γ e ∷ ts)),
+        passE e Γ ts p (o .0) l n (c .0) (g .0),
+        asserts m k Aim (length (heldIn Γ)) (tyE gs Γ e) ts (o .1) (omega arith) (omega arith),
+      )
+      passS (call a es) Γ ts p o r l n c g = (
+        some (found Γ (reverseAux (tysE gs Γ es) ts)),
+        passEs es Γ ts p (length ts) 0 (omega arith) (o .0) l n (c .0) (g .0),
+        calls m k Aim (bodyNumber gs a) (length (heldIn Γ)) (o .1 .0) (tysE gs Γ es) [] ts (o .1 .1) (o .1 .2) (o .1 .3) (omega arith) (omega arith),
+      )
       passS (setLevel e f) Γ ts p o r l n c g = let x = codeE gs e Γ ts p in (
         some (found Γ (tyE gs Γ e ∷ ts)),
         passE e Γ ts p (o .0) (omega arith) (omega arith) (c .0) (g .0),
@@ -405,13 +440,19 @@ module _ (m : Macro) (k : ℕ) (gs : List Global) where
             ),
           )
 
-      pub passItems : (is : Items) (Γ : List Around) (ts : List Ty) (p : At) → okItems is Γ → Reaches Γ ts → length (heldIn Γ) + holdsItems is ≤ 16 → length ts + needItems is ≤ 32 → Celled (codeItems gs is Γ ts p) p → Marks m k Aim (codeItems gs is Γ ts p) p
+      pub passItems : (is : Items) (Γ : List Around) (ts : List Ty) (p : At) → okItems is Γ → Reaches Γ ts → length (heldIn Γ) + holdsItems is ≤ 16
+          → length ts + needItems is ≤ 32 → Celled (codeItems gs is Γ ts p) p → Marks m k Aim (codeItems gs is Γ ts p) p
           → Seg m k Aim (codeItems gs is Γ ts p) (some (found Γ ts)) (some (found Γ ts))
       passItems noItem Γ ts p o r l n c g = refl
       passItems (label a is) Γ ts p o r l n c g = (some (found Γ ts), marks-on m k Aim (length (heldIn Γ)) ts (omega arith) (omega arith), passItems is Γ ts p o r l n (c .1) (g .1))
-      passItems (item s is) Γ ts p o r l n c g = (some (found Γ ts), passS s Γ ts p (o .0) r (omega arith) (omega arith) (c .0) (g .0), passItems is Γ ts (after (codeS gs s Γ ts p) p) (o .1) r (omega arith) (omega arith) (c .1) (g .1))
+      passItems (item s is) Γ ts p o r l n c g = (
+        some (found Γ ts),
+        passS s Γ ts p (o .0) r (omega arith) (omega arith) (c .0) (g .0),
+        passItems is Γ ts (after (codeS gs s Γ ts p) p) (o .1) r (omega arith) (omega arith) (c .1) (g .1),
+      )
 
-      pub passE : (e : Expr) (Γ : List Around) (ts : List Ty) (p : At) → okE e Γ → length (heldIn Γ) + holdsE e ≤ 16 → length ts + needE e ≤ 32 → Celled (codeE gs e Γ ts p) p → Marks m k Aim (codeE gs e Γ ts p) p
+      pub passE : (e : Expr) (Γ : List Around) (ts : List Ty) (p : At) → okE e Γ → length (heldIn Γ) + holdsE e ≤ 16 → length ts + needE e ≤ 32
+          → Celled (codeE gs e Γ ts p) p → Marks m k Aim (codeE gs e Γ ts p) p
           → Seg m k Aim (codeE gs e Γ ts p) (some (found Γ ts)) (some (found Γ (tyE gs Γ e ∷ ts)))
       passE (number z) Γ ts p o l n c g = pushes m k Aim (push (int z)) (length (heldIn Γ)) integer ts (push-int z _) (omega arith) (omega arith)
       passE (truth b) Γ ts p o l n c g = pushes m k Aim (push (log b)) (length (heldIn Γ)) logical ts (push-log b _) (omega arith) (omega arith)
@@ -421,16 +462,28 @@ module _ (m : Macro) (k : ℕ) (gs : List Global) where
       passE (invoke a es) Γ ts p o l n c g = (
         some (found Γ (reverseAux (tysE gs Γ es) ts)),
         passEs es Γ ts p (length ts) 0 (omega arith) (o .0) l n (c .0) (g .0),
-        calls m k Aim (bodyNumber gs a) (length (heldIn Γ)) (o .1 .0) (tysE gs Γ es) (tyE gs Γ (invoke a es) ∷ []) ts (o .1 .1) (o .1 .2) (o .1 .3) (omega arith) (let z = some-needs 0 es in omega arith),
+        calls m k Aim (bodyNumber gs a) (length (heldIn Γ)) (o .1 .0) (tysE gs Γ es) (tyE gs Γ (invoke a es) ∷ []) ts (o .1 .1) (o .1 .2) (o .1 .3)
+            (omega arith) (let z = some-needs 0 es in omega arith),
       )
-      passE (field a e) Γ ts p o l n c g =
-          (some (found Γ (tyE gs Γ e ∷ ts)), passE e Γ ts p (o .0) l n (c .0) (g .0), gets m k Aim (fieldNumber gs a .class) (fieldNumber gs a .index) (length (heldIn Γ)) (tyE gs Γ e) (tyE gs Γ (field a e)) ts (o .1) (o .2) (omega arith) (let z = some-need e in omega arith))
-      passE (make x es) Γ ts p o l n c g =
-          (some (found Γ (reverseAux (tysE gs Γ es) ts)), passEs es Γ ts p (length ts) 0 (omega arith) (o .0) l n (c .0) (g .0), makes m k Aim (classNumber gs x) (length (heldIn Γ)) (tysE gs Γ es) ts (o .1) (omega arith) (let z = some-needs 0 es in omega arith))
-      passE (operate1 u e) Γ ts p o l n c g =
-          (some (found Γ (tyE gs Γ e ∷ ts)), passE e Γ ts p (o .0) l n (c .0) (g .0), operates1 m k Aim u (length (heldIn Γ)) (tyE gs Γ e) (tyE gs Γ (operate1 u e)) ts (o .1) (omega arith) (let z = some-need e in omega arith))
+      passE (field a e) Γ ts p o l n c g = (
+        some (found Γ (tyE gs Γ e ∷ ts)),
+        passE e Γ ts p (o .0) l n (c .0) (g .0),
+        gets m k Aim (fieldNumber gs a .class) (fieldNumber gs a .index) (length (heldIn Γ)) (tyE gs Γ e) (tyE gs Γ (field a e)) ts (o .1)
+            (o .2) (omega arith) (let z = some-need e in omega arith),
+      )
+      passE (make x es) Γ ts p o l n c g = (
+        some (found Γ (reverseAux (tysE gs Γ es) ts)),
+        passEs es Γ ts p (length ts) 0 (omega arith) (o .0) l n (c .0) (g .0),
+        makes m k Aim (classNumber gs x) (length (heldIn Γ)) (tysE gs Γ es) ts (o .1) (omega arith) (let z = some-needs 0 es in omega arith),
+      )
+      passE (operate1 u e) Γ ts p o l n c g = (
+        some (found Γ (tyE gs Γ e ∷ ts)),
+        passE e Γ ts p (o .0) l n (c .0) (g .0),
+        operates1 m k Aim u (length (heldIn Γ)) (tyE gs Γ e) (tyE gs Γ (operate1 u e)) ts (o .1) (omega arith) (let z = some-need e in omega arith),
+      )
       passE (operate2 u e f) Γ ts p o l n c g =
-          passWay (wayOf u (isTy logical (typeE (scopesOf Γ) e))) u Γ ts (tyE gs Γ e) (tyE gs Γ f) (tyE gs Γ (operate2 u e f)) (codeE gs e Γ ts p) p (λ us q. codeE gs f Γ us q) (o .2) (omega arith) (let z = some-need f in omega arith) c g
+          passWay (wayOf u (isTy logical (typeE (scopesOf Γ) e))) u Γ ts (tyE gs Γ e) (tyE gs Γ f) (tyE gs Γ (operate2 u e f)) (codeE gs e Γ ts p) p
+          (λ us q. codeE gs f Γ us q) (o .2) (omega arith) (let z = some-need f in omega arith) c g
           (λ c' g'. passE e Γ ts p (o .0) (omega arith) (omega arith) c' g') (λ us q z c' g'. passE f Γ us q (o .1) (omega arith) (omega arith) c' g')
       passE (conditional e f w) Γ ts p o l n c g =
           let x = codeE gs e Γ ts p in let q = skip 1 (after x p) in let y = codeE gs f Γ ts q in let v = skip 1 (after y q) in let h = length (heldIn Γ) in let z = some-need f in
@@ -449,15 +502,26 @@ module _ (m : Macro) (k : ℕ) (gs : List Global) where
                   (
                     some (found Γ ts),
                     marks-here m k Aim h ts (omega arith) (omega arith),
-                    (some (found Γ (tyE gs Γ f ∷ ts)), subst (λ t. Seg m k Aim (codeE gs w Γ ts v) (some (found Γ ts)) (some (found Γ (t ∷ ts)))) (o .4) (passE w Γ ts v (o .3) (omega arith) (omega arith) (c .1 .1 .1 .1 .1 .0) (g .1 .1 .1 .1 .1 .0)), marks-on m k Aim h (tyE gs Γ f ∷ ts) (omega arith) (omega arith)),
+                    (
+                      some (found Γ (tyE gs Γ f ∷ ts)),
+                      subst (λ t. Seg m k Aim (codeE gs w Γ ts v) (some (found Γ ts)) (some (found Γ (t ∷ ts))))
+                          (o .4) (passE w Γ ts v (o .3) (omega arith) (omega arith) (c .1 .1 .1 .1 .1 .0) (g .1 .1 .1 .1 .1 .0)),
+                      marks-on m k Aim h (tyE gs Γ f ∷ ts) (omega arith) (omega arith),
+                    ),
                   ),
                 ),
               ),
             ),
           )
-      passE (fader e) Γ ts p o l n c g = rw (o .2) (some (found Γ (tyE gs Γ e ∷ ts)), passE e Γ ts p (o .0) l n (c .0) (g .0), fades m k Aim (length (heldIn Γ)) (tyE gs Γ e) ts (o .1) (omega arith) (let z = some-need e in omega arith))
+      passE (fader e) Γ ts p o l n c g =
+          rw (o .2) (
+            some (found Γ (tyE gs Γ e ∷ ts)),
+            passE e Γ ts p (o .0) l n (c .0) (g .0),
+            fades m k Aim (length (heldIn Γ)) (tyE gs Γ e) ts (o .1) (omega arith) (let z = some-need e in omega arith),
+          )
       passE (blockExpr ds is e) Γ ts p o l n c g =
-          passHead bound quiet-bound ds (inside (expressionOf ds is) ∷ Γ) ts (tyE gs Γ (blockExpr ds is e) ∷ ts) p (λ Δ. ((x : ℕ) → okItems is (labels is x ∷ Δ)) × okE e Δ × (tyE gs Δ e ≡ tyE gs Γ (blockExpr ds is e)))
+          passHead bound quiet-bound ds (inside (expressionOf ds is) ∷ Γ) ts (tyE gs Γ (blockExpr ds is e) ∷ ts) p
+          (λ Δ. ((x : ℕ) → okItems is (labels is x ∷ Δ)) × okE e Δ × (tyE gs Δ e ≡ tyE gs Γ (blockExpr ds is e)))
           (λ Δ q. let y = codeItems gs is (labels is (q .address) ∷ Δ) ts q in y ▸ codeE gs e Δ ts (after y q)) (max (holdsItems is) (holdsE e))
           (λ Δ q o' r' l' c' g'. let y = codeItems gs is (labels is (q .address) ∷ Δ) ts q in (
             some (found Δ ts),
@@ -466,18 +530,24 @@ module _ (m : Macro) (k : ℕ) (gs : List Global) where
           ))
           o tt l (let z = some-need e in omega arith) c g
 
-      passEs : (es : Exprs) (Γ : List Around) (ts : List Ty) (p : At) (b i : ℕ) → length ts ≡ b + i → okEs es Γ → length (heldIn Γ) + holdsEs es ≤ 16 → b + needEs i es ≤ 32 → Celled (codeEs gs es Γ ts p) p → Marks m k Aim (codeEs gs es Γ ts p) p
+      passEs : (es : Exprs) (Γ : List Around) (ts : List Ty) (p : At) (b i : ℕ) → length ts ≡ b + i → okEs es Γ → length (heldIn Γ) + holdsEs es ≤ 16
+          → b + needEs i es ≤ 32 → Celled (codeEs gs es Γ ts p) p → Marks m k Aim (codeEs gs es Γ ts p) p
           → Seg m k Aim (codeEs gs es Γ ts p) (some (found Γ ts)) (some (found Γ (reverseAux (tysE gs Γ es) ts)))
       passEs noExpr Γ ts p b i e o l n c g = refl
-      passEs (expr x es) Γ ts p b i e o l n c g =
-          (some (found Γ (tyE gs Γ x ∷ ts)), passE x Γ ts p (o .0) (omega arith) (omega arith) (c .0) (g .0), passEs es Γ (tyE gs Γ x ∷ ts) (after (codeE gs x Γ ts p) p) b (suc i) (more-by (length ts) b i e) (o .1) (omega arith) (omega arith) (c .1) (g .1))
+      passEs (expr x es) Γ ts p b i e o l n c g = (
+        some (found Γ (tyE gs Γ x ∷ ts)),
+        passE x Γ ts p (o .0) (omega arith) (omega arith) (c .0) (g .0),
+        passEs es Γ (tyE gs Γ x ∷ ts) (after (codeE gs x Γ ts p) p) b (suc i) (more-by (length ts) b i e) (o .1) (omega arith) (omega arith) (c .1) (g .1),
+      )
 
-      passTarget : (x : Target) (Γ : List Around) (ts : List Ty) (p : At) (t : Ty) → okTarget x Γ t → length (heldIn Γ) + holdsTarget x ≤ 16 → length ts + needTarget x ≤ 32 → Celled (codeTarget gs x Γ ts p) p → Marks m k Aim (codeTarget gs x Γ ts p) p
+      passTarget : (x : Target) (Γ : List Around) (ts : List Ty) (p : At) (t : Ty) → okTarget x Γ t → length (heldIn Γ) + holdsTarget x ≤ 16
+          → length ts + needTarget x ≤ 32 → Celled (codeTarget gs x Γ ts p) p → Marks m k Aim (codeTarget gs x Γ ts p) p
           → Seg m k Aim (codeTarget gs x Γ ts p) (some (found Γ ts)) (some (found Γ (tyTarget gs Γ x ts)))
       passTarget (toVariable a) Γ ts p t o l n c g = refl
       passTarget (toField a e) Γ ts p t o l n c g = passE e Γ ts p (o .0) l n c g
 
-      passArms : (rs : Arms) (x i z : ℕ) (Γ : List Around) (ts : List Ty) (p : At) → cellTy m k own x ≡ some integer → okArms rs Γ → Reaches Γ ts → length (heldIn Γ) + holdsArms rs ≤ 16 → length ts + needArms rs ≤ 32 → suc (suc (length ts)) ≤ 32
+      passArms : (rs : Arms) (x i z : ℕ) (Γ : List Around) (ts : List Ty) (p : At) → cellTy m k own x ≡ some integer → okArms rs Γ → Reaches Γ ts
+          → length (heldIn Γ) + holdsArms rs ≤ 16 → length ts + needArms rs ≤ 32 → suc (suc (length ts)) ≤ 32
           → Celled (codeArms gs rs x i z Γ ts p) p → Aim z (found Γ ts) → Marks m k Aim (codeArms gs rs x i z Γ ts p) p → Seg m k Aim (codeArms gs rs x i z Γ ts p) (some (found Γ ts)) none
       passArms (lastArm s) x i z Γ ts p e o r l n w c a g =
           let q = skip 4 p in let h = length (heldIn Γ) in (
@@ -492,7 +562,11 @@ module _ (m : Macro) (k : ℕ) (gs : List Global) where
                 (
                   some (found Γ ts),
                   tests m k Aim _ h logical ts refl (g .1 .1 .1 .1 .1 .1 .0),
-                  (some (found Γ ts), passS s Γ ts q o r l n (c .1 .1 .1 .1 .0) (g .1 .1 .1 .1 .0), (none, goes m k Aim z h ts a, (some (found Γ ts), marks-here m k Aim h ts (omega arith) (omega arith), stopped m k Aim caseIndex h ts))),
+                  (
+                    some (found Γ ts),
+                    passS s Γ ts q o r l n (c .1 .1 .1 .1 .0) (g .1 .1 .1 .1 .0),
+                    (none, goes m k Aim z h ts a, (some (found Γ ts), marks-here m k Aim h ts (omega arith) (omega arith), stopped m k Aim caseIndex h ts)),
+                  ),
                 ),
               ),
             ),

@@ -4,10 +4,12 @@ use mathlib.Core.Path.{_≡_, refl, ap, sym}
 use mathlib.Core.Option.{none, some}
 use lib.Dec.{leb}
 use Rattle.words.specs.Numbers.{integerOf, wordOf}
-use Rattle.values.specs.Operators.{unary, binary, negate, absolute, complement, plus, minus, times, divide, remainder, less, atMost, greater, atLeast, equal, unequal, both, either, shiftLeft, shiftRight, unaryOf, binaryOf}
+use Rattle.values.specs.Operators.{unary, binary, negate, absolute, complement, plus, minus, times, divide, remainder, less, atMost, greater, atLeast, equal, unequal}
+use Rattle.values.specs.Operators.{both, either, shiftLeft, shiftRight, unaryOf, binaryOf}
 use Rattle.values.specs.Ends.{caseIndex}
 use Rattle.values.specs.Values.{int, log, bit, ref}
-use Rattle.bytecode.specs.Instructions.{own, root, Instr, end, push, load, store, operate, go, goUnless, call, return, make, getField, putField, setLevel, readFader, takeHold, letHold, assert, stop, instruction}
+use Rattle.bytecode.specs.Instructions.{own, root, Instr, end, push, load, store, operate, go, goUnless, call, return, make, getField, putField, setLevel, readFader}
+use Rattle.bytecode.specs.Instructions.{takeHold, letHold, assert, stop, instruction}
 use Rattle.compile_code.specs.Encode.{recordOf}
 
 -- what a record can hold: 32 bits, a null, a group, the one condition of op 20

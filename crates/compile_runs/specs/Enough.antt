@@ -18,9 +18,9 @@ use Rattle.bytecode.specs.Runs.{with}
 use Rattle.bytecode.specs.Runs.{Answer, happens, spends, finishes, refuses, halts, Ran, Feed, bankOf, afterStep, steps, run, runs}
 use Rattle.bytecode.specs.Runs.{ends as endsRun}
 use Rattle.bytecode.specs.Sound.{sound}
-use Rattle.loading.specs.Terms.{Each, Passed}
-use Rattle.safety.specs.Safety.{step-safe, run-safe}
-use Rattle.safety.specs.Terms.{eventOf, eventsOf, stateAfter, Moves, Answers}
+use Rattle.bytecode_laws.specs.Terms.{Each, Passed}
+use Rattle.bytecode_safety.specs.Safety.{step-safe, run-safe}
+use Rattle.bytecode_safety.specs.Terms.{eventOf, eventsOf, stateAfter, Moves, Answers}
 use Rattle.compile_runs.specs.Readings.{takesIn, Follows}
 use Rattle.compile_runs.specs.Oracle.{stepsOf, totalSteps, app-nil}
 

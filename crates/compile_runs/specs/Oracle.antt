@@ -15,14 +15,15 @@ use Rattle.values.specs.Ends.{outOfRange, refusal}
 use Rattle.values.specs.Trace.{Event, Item, event, reading}
 use Rattle.bytecode.specs.Macro.{Macro}
 use Rattle.bytecode.specs.Instructions.{Instr, end, push, load, store, operate, go, goUnless, call, return, make, getField, putField, setLevel, readFader, takeHold, letHold, assert, stop}
-use Rattle.bytecode.specs.Machine.{Machine, running, unwinding, endBy, ended, Stepped, moved, stuck, step, act, noStep, badFrame, badType, fetch, given, Here, doFader, maxOperands, pop, goesOn, condition}
+use Rattle.bytecode.specs.Machine.{Machine, running, unwinding, endBy, ended, Stepped, moved, stuck, step, act, noStep, badFrame, badType, fetch, given, Here, doFader}
+use Rattle.bytecode.specs.Machine.{maxOperands, pop, goesOn, condition}
 use Rattle.bytecode.specs.Runs.{ends as endsRun}
 use Rattle.bytecode.specs.Runs.{Answer, happens, spends, finishes, refuses, halts, Ran, Feed, bankOf, afterStep, steps, run, runs}
 use Rattle.bytecode.specs.Sound.{sound}
-use Rattle.loading.specs.Terms.{Each, Passed}
-use Rattle.safety.specs.Safety.{step-safe, run-safe}
-use Rattle.safety.specs.Steps.{size-between}
-use Rattle.safety.specs.Terms.{eventsIn, eventOf, eventsOf, stateAfter, Moves}
+use Rattle.bytecode_laws.specs.Terms.{Each, Passed}
+use Rattle.bytecode_safety.specs.Safety.{step-safe, run-safe}
+use Rattle.bytecode_safety.specs.Steps.{size-between}
+use Rattle.bytecode_safety.specs.Terms.{eventsIn, eventOf, eventsOf, stateAfter, Moves}
 use Rattle.compile_runs.specs.Readings.{unlessEnded, takesBy, takes, takesIn, Reads, Follows}
 use Rattle.compile_simulation.specs.Meets.{Conf, live, counted, stepped, Setting}
 use Rattle.compile_simulation.specs.Meets.{run as runConf, go as goConf}
@@ -178,7 +179,8 @@ quiet : (m : Macro) (a b : ℕ → ℕ) (s : Machine) → Quiet (step m b s) →
 unfolding step
 quiet m a b (running s f fs) q = pick (fetch m (f .body) (f .address)) q
   where
-    pick : (o : Option Instr) → Quiet (given o noStep (λ i. act m b i (record { shared = s; top = f; below = fs }))) → given o noStep (λ i. act m a i (record { shared = s; top = f; below = fs })) ≡ given o noStep (λ i. act m b i (record { shared = s; top = f; below = fs }))
+    pick : (o : Option Instr) → Quiet (given o noStep (λ i. act m b i (record { shared = s; top = f; below = fs })))
+        → given o noStep (λ i. act m a i (record { shared = s; top = f; below = fs })) ≡ given o noStep (λ i. act m b i (record { shared = s; top = f; below = fs }))
     pick none q = refl
     pick (some i) q = quiet-act m a b i (record { shared = s; top = f; below = fs }) q
 quiet m a b (unwinding [] (endBy c)) q = refl
@@ -199,7 +201,8 @@ module _ (W : Setting) (w : Passed (W .macro)) where
   stay s tr k = (tr, ap (λ z. live s tr z) (omega arith), sym (app-nil (told tr)))
 
   -- one step, then the rest
-  then-on : (s t u : Machine) (tr is : List Item) (k d c : ℕ) (es fs : List Event) → goConf W (live s tr k) ≡ live t (is ++ tr) (counted is k) → told (is ++ tr) ≡ told tr ++ es → Comes t (is ++ tr) (counted is k) d u fs c
+  then-on : (s t u : Machine) (tr is : List Item) (k d c : ℕ) (es fs : List Event) → goConf W (live s tr k) ≡ live t (is ++ tr) (counted is k)
+      → told (is ++ tr) ≡ told tr ++ es → Comes t (is ++ tr) (counted is k) d u fs c
       → (n : ℕ) → counted is k + c ≡ k + n → Comes s tr k (suc d) u (es ++ fs) n
   unfolding runConf
   then-on s t u tr is k d c es fs e x y n z =
@@ -233,10 +236,12 @@ module _ (W : Setting) (w : Passed (W .macro)) where
             → Gives (suc n) t (is ++ tr) (counted is k) (steps m bank left (suc n) t) c → Gives n s tr k (steps m bank left (suc n) t) c'
         on is t x c c' z e (d, y, g) = (suc d, omega arith, then-on s t (steps m bank left (suc n) t .state) tr is k d c [] (eventOf (steps m bank left (suc n) t .answer)) e x g c' z)
 
-        over : (is : List Item) (c c' : ℕ) → told (is ++ tr) ≡ told tr ++ [] → counted is k + 0 ≡ k + c' → goConf W (live s tr k) ≡ live (ended c) (is ++ tr) (counted is k) → Gives n s tr k (record { answer = finishes c (suc n); state = ended c }) c'
+        over : (is : List Item) (c c' : ℕ) → told (is ++ tr) ≡ told tr ++ [] → counted is k + 0 ≡ k + c'
+            → goConf W (live s tr k) ≡ live (ended c) (is ++ tr) (counted is k) → Gives n s tr k (record { answer = finishes c (suc n); state = ended c }) c'
         over is c c' x z e = (1, omega arith, then-on s (ended c) (ended c) tr is k 0 0 [] [] e x (stay (ended c) (is ++ tr) (counted is k)) c' z)
 
-        go : (is : List Item) (t : Machine) → Moves m s is t → (Ask k (takesBy (moved is t) (λ t. takes m bank left t)) → goConf W (live s tr k) ≡ live t (is ++ tr) (counted is k)) → Ask k (takesBy (moved is t) (λ t. takes m bank left t))
+        go : (is : List Item) (t : Machine) → Moves m s is t → (Ask k (takesBy (moved is t) (λ t. takes m bank left t))
+            → goConf W (live s tr k) ≡ live t (is ++ tr) (counted is k)) → Ask k (takesBy (moved is t) (λ t. takes m bank left t))
             → ((tr' : List Item) (k' : ℕ) → Ask k' (takes m bank left t) → Gives (suc n) t tr' k' (steps m bank left (suc n) t) (takes m bank left t))
             → Gives n s tr k (afterStep (moved is t) s (suc n) (λ t. steps m bank left (suc n) t)) (takesBy (moved is t) (λ t. takes m bank left t))
         go [] (ended c) v e a f = over [] c 0 (sym (app-nil (told tr))) refl (e a)
@@ -244,15 +249,20 @@ module _ (W : Setting) (w : Passed (W .macro)) where
         go [] (unwinding gs x) v e a f = on [] (unwinding gs x) (sym (app-nil (told tr))) (takes m bank left (unwinding gs x)) (takes m bank left (unwinding gs x)) refl (e a) (f tr k a)
         go (event x ∷ []) t v e a f = (1, omega arith, then-on s t t tr (event x ∷ []) k 0 0 (x ∷ []) [] (e a) refl (stay t (event x ∷ tr) k) 0 refl)
         go (reading x y ∷ []) (ended c) v e a f = over (reading x y ∷ []) c 1 (sym (app-nil (told tr))) (omega arith) (e a)
-        go (reading x y ∷ []) (running rs z fs) v e a f = on (reading x y ∷ []) (running rs z fs) (sym (app-nil (told tr))) (takes m bank left (running rs z fs)) (suc (takes m bank left (running rs z fs))) (omega arith) (e a)
+        go (reading x y ∷ []) (running rs z fs) v e a f =
+            on (reading x y ∷ []) (running rs z fs) (sym (app-nil (told tr))) (takes m bank left (running rs z fs))
+            (suc (takes m bank left (running rs z fs))) (omega arith) (e a)
             (f (reading x y ∷ tr) (suc k) (λ j l n lo hi. ap (λ (i : ℕ). W .oracle i n) (omega arith) ∙ a (suc j) (omega arith) n lo hi))
-        go (reading x y ∷ []) (unwinding gs z) v e a f = on (reading x y ∷ []) (unwinding gs z) (sym (app-nil (told tr))) (takes m bank left (unwinding gs z)) (suc (takes m bank left (unwinding gs z))) (omega arith) (e a)
+        go (reading x y ∷ []) (unwinding gs z) v e a f =
+            on (reading x y ∷ []) (unwinding gs z) (sym (app-nil (told tr))) (takes m bank left (unwinding gs z))
+            (suc (takes m bank left (unwinding gs z))) (omega arith) (e a)
             (f (reading x y ∷ tr) (suc k) (λ j l n lo hi. ap (λ (i : ℕ). W .oracle i n) (omega arith) ∙ a (suc j) (omega arith) n lo hi))
         go (i ∷ (j ∷ is)) t v e a f = absurd (let z = v .one-item in omega arith)
 
   -- a run
   run-as : (f : Feed) → Bytes (f .readings) → (s : Machine) (tr : List Item) (k : ℕ) → sound m s ≡ true → ((j : ℕ) → j < takesIn m f s → Reads (W .oracle) (k + j) (f .readings))
-      → (d : ℕ) × (d ≡ stepsOf (run m (f .readings) (f .allowance) s .answer)) × Comes s tr k d (run m (f .readings) (f .allowance) s .state) (eventOf (run m (f .readings) (f .allowance) s .answer)) (takesIn m f s)
+      → (d : ℕ) × (d ≡ stepsOf (run m (f .readings) (f .allowance) s .answer))
+      × Comes s tr k d (run m (f .readings) (f .allowance) s .state) (eventOf (run m (f .readings) (f .allowance) s .answer)) (takesIn m f s)
   unfolding run
   run-as f b s tr k h a = go (eqb (length (f .readings)) 64) a
     where
@@ -260,7 +270,9 @@ module _ (W : Setting) (w : Passed (W .macro)) where
       bank = bankOf (f .readings)
 
       by : (s : Machine) → sound m s ≡ true → ((j : ℕ) → j < unlessEnded s (takes m (bankOf (f .readings)) (f .allowance) s) → Reads (W .oracle) (k + j) (f .readings))
-          → let r = endsRun s 0 (λ t. steps m (bankOf (f .readings)) (f .allowance) 0 t) in (d : ℕ) × (d ≡ stepsOf (r .answer)) × Comes s tr k d (r .state) (eventOf (r .answer)) (unlessEnded s (takes m (bankOf (f .readings)) (f .allowance) s))
+          → let r =
+          endsRun s 0 (λ t. steps m (bankOf (f .readings)) (f .allowance) 0 t) in
+          (d : ℕ) × (d ≡ stepsOf (r .answer)) × Comes s tr k d (r .state) (eventOf (r .answer)) (unlessEnded s (takes m (bankOf (f .readings)) (f .allowance) s))
       by (ended c) h a = (0, refl, stay (ended c) tr k)
       by (running rs x fs) h a = let q = steps-as (bankOf (f .readings)) (λ n. b (n - 1)) (f .allowance) 0 (running rs x fs) tr k h a in (q .0, (let z = q .1 in omega arith), q .2)
       by (unwinding gs x) h a = let q = steps-as (bankOf (f .readings)) (λ n. b (n - 1)) (f .allowance) 0 (unwinding gs x) tr k h a in (q .0, (let z = q .1 in omega arith), q .2)
@@ -287,6 +299,7 @@ module _ (W : Setting) (w : Passed (W .macro)) where
       let g = runs-as fs (b .1) (r .state) (q .2 .0) (k + c) (run-safe m w f (b .0) s h .still-sound) (a .1) in (
         g .0,
         g .1,
-        ap (λ n. runConf W (n + totalSteps (runs m fs (r .state))) (live s tr k)) (sym (q .1)) ∙ run-sum (q .0) (totalSteps (runs m fs (r .state))) (live s tr k) ∙ ap (runConf W (totalSteps (runs m fs (r .state)))) (q .2 .1) ∙ g .2,
+        ap (λ n. runConf W (n + totalSteps (runs m fs (r .state))) (live s tr k)) (sym (q .1))
+            ∙ run-sum (q .0) (totalSteps (runs m fs (r .state))) (live s tr k) ∙ ap (runConf W (totalSteps (runs m fs (r .state)))) (q .2 .1) ∙ g .2,
         g .3 ∙ ap (λ l. l ++ eventsOf (runs m fs (r .state))) (q .2 .2) ∙ app-assoc (told tr) (eventOf (r .answer)) (eventsOf (runs m fs (r .state))),
       )

@@ -13,7 +13,7 @@ use Rattle.values.specs.Trace.{event, reading}
 use Rattle.bytecode.specs.Macro.{Macro}
 use Rattle.bytecode.specs.Machine.{Machine, running, unwinding, ended, Stepped, moved, stuck, step}
 use Rattle.bytecode.specs.Runs.{Feed, bankOf, run}
-use Rattle.loading.specs.Terms.{Each}
+use Rattle.bytecode_laws.specs.Terms.{Each}
 
 -- ── how many readings a run takes ──
 abbrev pub unlessEnded : Machine → ℕ → ℕ
@@ -70,6 +70,7 @@ unfolding oracleOf
 oracle-bytes m [] b s k n = omega arith
 oracle-bytes m (f ∷ fs) b s k n = go (ltb k (takesIn m f s)) (oracle-bytes m fs (b .1) (run m (f .readings) (f .allowance) s .state) (k - takesIn m f s) n)
   where
-    go : (t : Bool) → oracleOf m fs (run m (f .readings) (f .allowance) s .state) (k - takesIn m f s) n < 256 → (if t then bankOf (f .readings) else oracleOf m fs (run m (f .readings) (f .allowance) s .state) (k - takesIn m f s)) n < 256
+    go : (t : Bool) → oracleOf m fs (run m (f .readings) (f .allowance) s .state) (k - takesIn m f s) n < 256
+        → (if t then bankOf (f .readings) else oracleOf m fs (run m (f .readings) (f .allowance) s .state) (k - takesIn m f s)) n < 256
     go true h = b .0 (n - 1)
     go false h = h

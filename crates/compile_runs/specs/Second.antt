@@ -16,9 +16,9 @@ use Rattle.bytecode.specs.Machine.{Machine, running, unwinding, freshMachine, S
 use Rattle.bytecode.specs.Machine.{ended as stopped}
 use Rattle.bytecode.specs.Runs.{Feed, runs}
 use Rattle.bytecode.specs.Runs.{Ran as RunAnswer}
-use Rattle.loading.specs.Terms.{Each, Passed}
-use Rattle.safety.specs.Safety.{fresh-safe}
-use Rattle.safety.specs.Terms.{eventsIn, eventsOf, stateAfter}
+use Rattle.bytecode_laws.specs.Terms.{Each, Passed}
+use Rattle.bytecode_safety.specs.Safety.{fresh-safe}
+use Rattle.bytecode_safety.specs.Terms.{eventsIn, eventsOf, stateAfter}
 use Rattle.compile_code.specs.Encode.{compiled}
 use Rattle.compile_simulation.specs.Meets.{Conf, live, dead, stepped, Setting, Reach}
 use Rattle.compile_simulation.specs.Meets.{run as runConf, go as goConf}
@@ -26,7 +26,7 @@ use Rattle.compile_simulation.specs.Top.{start, Running, EndedAs}
 use Rattle.compile_simulation.specs.Top.{GoesOn as GoesOnSo}
 use Rattle.language_laws.specs.Endings.{ByteReadings, EndsBy, GoesOn, Prefix, Continues}
 use Rattle.language_laws.specs.Fuel.{stays-finished, prefix-so-far, ends-one-way, not-both}
-use Rattle.compile_safety.specs.Second.{sound-tree, ends-alike, goes-alike, ended-alike}
+use Rattle.compile_macro.specs.Second.{sound-tree, ends-alike, goes-alike, ended-alike}
 use Rattle.compile_macro.specs.Built.{InOrder, settingOf, built, passed-macro}
 use Rattle.compile_runs.specs.Readings.{Follows}
 use Rattle.compile_runs.specs.Enough.{FedBytes, Stepping, EndAnswered, runs-split, events-split, each-split, follows-left, in-two, end-right, after-end, says-end, ended-so, steps-or-end}
@@ -121,7 +121,8 @@ module _ (t : Tree) (O : InOrder t) (o : ℕ → ℕ → ℕ) (low : (k n : ℕ)
   beyond j h s tr k e =
       let x = by-sum (totalSteps (answers t fs)) j h in
       let world = settingOf t o in
-      let f : go-on j ≡ runConf world (x .0) (live (after-all t fs) (there .0) (there .1)) = ap go-on (x .1) ∙ run-sum world (passed-macro t O) (totalSteps (answers t fs)) (x .0) (live (freshMachine (compiled t)) [] 0) ∙ ap (runConf world (x .0)) (there .2) in
+      let f : go-on j ≡ runConf world (x .0) (live (after-all t fs) (there .0) (there .1)) = ap go-on (x .1)
+      ∙ run-sum world (passed-macro t O) (totalSteps (answers t fs)) (x .0) (live (freshMachine (compiled t)) [] 0) ∙ ap (runConf world (x .0)) (there .2) in
       let g : Later (there .0) (live s tr k) = subst (Later (there .0)) (sym f ∙ e) (grown world (x .0) (there .0) (live (after-all t fs) (there .0) (there .1)) ([], refl)) in
       let u = told-more (g .0) (there .0) in
       (u .0, told-is tr ∙ ap told (g .1) ∙ u .1 ∙ ap (λ l. l ++ u .0) (there .3))
@@ -131,21 +132,30 @@ module _ (t : Tree) (O : InOrder t) (o : ℕ → ℕ → ℕ) (low : (k n : ℕ)
   before j h s tr k e =
       let x = by-sum j (totalSteps (answers t fs)) h in
       let world = settingOf t o in
-      let f : go-on (totalSteps (answers t fs)) ≡ runConf world (x .0) (live s tr k) = ap go-on (x .1) ∙ run-sum world (passed-macro t O) j (x .0) (live (freshMachine (compiled t)) [] 0) ∙ ap (runConf world (x .0)) e in
+      let f : go-on (totalSteps (answers t fs)) ≡ runConf world (x .0) (live s tr k) = ap go-on (x .1)
+      ∙ run-sum world (passed-macro t O) j (x .0) (live (freshMachine (compiled t)) [] 0) ∙ ap (runConf world (x .0)) e in
       let g : Later tr (live (after-all t fs) (there .0) (there .1)) = subst (Later tr) (sym f ∙ there .2) (grown world (x .0) tr (live s tr k) ([], refl)) in
       let u = told-more (g .0) tr in
       (u .0, sym (there .3) ∙ ap told (g .1) ∙ u .1 ∙ ap (λ l. l ++ u .0) (sym (told-is tr)))
 
   -- an end reached in fewer steps is the runs' end
-  stopped-there : (j : ℕ) → j ≤ totalSteps (answers t fs) → (c : ℕ) (tr : List Item) (k : ℕ) → go-on j ≡ live (stopped c) tr k → (after-all t fs ≡ stopped c) × (eventsOf (answers t fs) ≡ eventsIn (reverse tr))
+  stopped-there : (j : ℕ) → j ≤ totalSteps (answers t fs) → (c : ℕ) (tr : List Item) (k : ℕ) → go-on j ≡ live (stopped c) tr k
+      → (after-all t fs ≡ stopped c) × (eventsOf (answers t fs) ≡ eventsIn (reverse tr))
   stopped-there j h c tr k e =
       let x = by-sum j (totalSteps (answers t fs)) h in
       let world = settingOf t o in
-      let f : live (after-all t fs) (there .0) (there .1) ≡ live (stopped c) tr k = sym (there .2) ∙ ap go-on (x .1) ∙ run-sum world (passed-macro t O) j (x .0) (live (freshMachine (compiled t)) [] 0) ∙ ap (runConf world (x .0)) e ∙ stays world (x .0) c tr k in
+      let f : live (after-all t fs) (there .0) (there .1) ≡ live (stopped c) tr k = sym (there .2) ∙ ap go-on (x .1)
+      ∙ run-sum world (passed-macro t O) j (x .0) (live (freshMachine (compiled t)) [] 0) ∙ ap (runConf world (x .0)) e ∙ stays world (x .0) c tr k in
       (ap (λ y. stateOf y (stopped c)) f, sym (there .3) ∙ ap told (ap traceOf f) ∙ sym (told-is tr))
 
   its-end : (c : ℕ) → after-all t fs ≡ stopped c → (n : ℕ) × (is : List Item) × (execute o t n ≡ finished is c) × (eventsIn is ≡ eventsOf (answers t fs))
-  its-end c e = (totalSteps (answers t fs), reverse (there .0), ended-alike (settingOf t o) (passed-macro t O) low t (built t O o) (totalSteps (answers t fs)) c (there .0) (there .1) (there .2 ∙ ap (λ s. live s (there .0) (there .1)) e), told-is (there .0) ∙ there .3)
+  its-end c e = (
+    totalSteps (answers t fs),
+    reverse (there .0),
+    ended-alike (settingOf t o) (passed-macro t O) low t (built t O o) (totalSteps (answers t fs)) c
+        (there .0) (there .1) (there .2 ∙ ap (λ s. live s (there .0) (there .1)) e),
+    told-is (there .0) ∙ there .3,
+  )
 
   its-prefix : (r : Ran) → execute o t (totalSteps (answers t fs)) ≡ r → (rest : List Event) × (eventsIn (itemsOf r) ≡ eventsOf (answers t fs) ++ rest)
   its-prefix (finished is c) e = pick (ends-alike (settingOf t o) (passed-macro t O) low t (built t O o) (totalSteps (answers t fs)) c is e)
@@ -169,11 +179,13 @@ module _ (t : Tree) (O : InOrder t) (o : ℕ → ℕ → ℕ) (low : (k n : ℕ)
   its-prefix illFormed e = absurd (sound-tree (settingOf t o) (passed-macro t O) low t (built t O o) (totalSteps (answers t fs)) e)
 
 -- the runs that take as many steps as the machine took, or more
-come-by : (t : Tree) (O : InOrder t) (o : ℕ → ℕ → ℕ) (low : (k n : ℕ) → o k n < 256) (n : ℕ) (is : List Item) (h : GoesOnSo (settingOf t o) t n is) (fs : List Feed) (fed : FedBytes fs) (agrees : Agrees t o fs)
+come-by : (t : Tree) (O : InOrder t) (o : ℕ → ℕ → ℕ) (low : (k n : ℕ) → o k n < 256) (n : ℕ) (is : List Item) (h : GoesOnSo (settingOf t o) t n is)
+    (fs : List Feed) (fed : FedBytes fs) (agrees : Agrees t o fs)
     → h .steps ≤ totalSteps (answers t fs) → (rest : List Event) × (eventsOf (answers t fs) ≡ eventsIn is ++ rest)
 come-by t O o low n is h fs fed agrees l = at-conf (runConf (settingOf t o) (h .steps) (live (freshMachine (compiled t)) [] 0)) refl (h .alive)
   where
-    at-conf : (y : Conf) → runConf (settingOf t o) (h .steps) (live (freshMachine (compiled t)) [] 0) ≡ y → Running (settingOf t o) t is y → (rest : List Event) × (eventsOf (answers t fs) ≡ eventsIn is ++ rest)
+    at-conf : (y : Conf) → runConf (settingOf t o) (h .steps) (live (freshMachine (compiled t)) [] 0) ≡ y → Running (settingOf t o) t is y
+        → (rest : List Event) × (eventsOf (answers t fs) ≡ eventsIn is ++ rest)
     at-conf (live (running rs f gs) tr k) e a = let q = before t O o low fs fed agrees (h .steps) l (running rs f gs) tr k e in (q .0, q .1 ∙ ap (λ x. eventsIn x ++ q .0) a)
     at-conf (live (unwinding gs x) tr k) e a = absurd a
     at-conf (live (stopped c) tr k) e a = absurd a
@@ -221,7 +233,8 @@ module _ (t : Tree) (O : InOrder t) (o : ℕ → ℕ → ℕ) (low : (k n : ℕ)
           let parts : answers t fs ≡ answers t gs ++ runs m hs (stopped c) =
           ap (answers t) (sym (two .0)) ∙ runs-split m gs hs (freshMachine m) ∙ ap (λ (s : Machine). answers t gs ++ runs m hs s) (q .0) in (
             subst (EndAnswered c) (sym parts) (end-right c (answers t gs) (runs m hs (stopped c)) (says-end m (passed-macro t O) c hs (ss .1) late)),
-            ap eventsOf parts ∙ events-split (answers t gs) (runs m hs (stopped c)) ∙ ap (λ (es : List Event). eventsOf (answers t gs) ++ es) (after-end m (passed-macro t O) c hs (ss .1) .1) ∙ app-nil (eventsOf (answers t gs)) ∙ q .1,
+            ap eventsOf parts ∙ events-split (answers t gs) (runs m hs (stopped c))
+                ∙ ap (λ (es : List Event). eventsOf (answers t gs) ++ es) (after-end m (passed-macro t O) c hs (ss .1) .1) ∙ app-nil (eventsOf (answers t gs)) ∙ q .1,
           )
 
   ended-runs : (fs : List Feed) → FedBytes fs → Agrees t o fs → (c : ℕ) → EndAnswered c (answers t fs) → (is : List Item) × EndsBy o t is c × (eventsIn is ≡ eventsOf (answers t fs))

@@ -60,7 +60,8 @@ module _ (gs : List Global) where
   first-inner s (b ∷ bs) = refl
 
   -- a variable declared is a cell set to its initial value
-  declared : (x : Typed) (Γ : List Around) (D : Data) (n : ℕ) (y : Cell) (b : List Slot) (bs : List (List Slot)) → okTyped x → Apart own n Γ → getElem? (D .cells) n ≡ some y → blocksOf gs Γ (D .cells) ≡ b ∷ bs
+  declared : (x : Typed) (Γ : List Around) (D : Data) (n : ℕ) (y : Cell) (b : List Slot) (bs : List (List Slot)) → okTyped x → Apart own n Γ
+      → getElem? (D .cells) n ≡ some y → blocksOf gs Γ (D .cells) ≡ b ∷ bs
       → seen gs (bound (x .name) n ∷ Γ) (written own n (assigned (initial (tyIn gs (x .type)))) D) ≡ declareIn x (seen gs Γ D)
   unfolding declareIn blocksOf rootsOf
   declared x Γ D n y b bs o a g e =
@@ -130,9 +131,11 @@ module _ (W : Setting) (gs : List Global) (C : Work) where
   Inner G n Γ₀ st P f g = (Δ : List Around) (q : At) (D : Data) → P Δ → Fit W gs C Δ (q .cell) → Opens gs Γ₀ Δ → SameRoots gs Γ₀ Δ → Stands W (C .body) (f Δ q) q → Holds C D
       → Meets W n (lands W gs C Δ st) (Arrives W gs C G (Within W gs C Γ₀) (heldIn Δ) (after (f Δ q) q .address) st) (at-work W gs C (q .address) st (heldIn Δ) D) (g (placeOf W gs C Δ) (seen gs Δ D))
 
-  pub heads : {A : Type 0} (G : A → List Value → Type 0) {n : ℕ} (ds : List Decl) (Γ₀ Γ : List Around) (p : At) (st : List Value) (P : List Around → Type 0) (f : List Around → At → Code) (g : Place → Store → Result A) (D : Data)
+  pub heads : {A : Type 0} (G : A → List Value → Type 0) {n : ℕ} (ds : List Decl) (Γ₀ Γ : List Around) (p : At) (st : List Value)
+      (P : List Around → Type 0) (f : List Around → At → Code) (g : Place → Store → Result A) (D : Data)
       → Inner G n Γ₀ st P f g → okHead gs ds Γ P → Fit W gs C Γ (p .cell) → Opens gs Γ₀ Γ → SameRoots gs Γ₀ Γ → Stands W (C .body) (codeHead gs bound ds Γ p f) p → Holds C D
-      → Meets W n (lands W gs C Γ st) (Arrives W gs C G (Within W gs C Γ₀) (heldIn Γ) (after (codeHead gs bound ds Γ p f) p .address) st) (at-work W gs C (p .address) st (heldIn Γ) D) (within ds (placeOf W gs C Γ) (seen gs Γ D) g)
+      → Meets W n (lands W gs C Γ st) (Arrives W gs C G (Within W gs C Γ₀) (heldIn Γ) (after (codeHead gs bound ds Γ p f) p .address) st)
+      (at-work W gs C (p .address) st (heldIn Γ) D) (within ds (placeOf W gs C Γ) (seen gs Γ D) g)
   unfolding okHead codeHead Stands after within heldIn lands blocksOf rootsOf
   heads G [] Γ₀ Γ p st P f g D i o w b r h k = i Γ p D o w b r h k
   heads G {n} (declare x ∷ ds) Γ₀ Γ p st P f g D i o w b r h k =
@@ -142,7 +145,8 @@ module _ (W : Setting) (gs : List Global) (C : Work) where
       (stores W gs (C .body) (C .below) own (p .cell) u (suc (p .address)) st (heldIn Γ) D tt (h .1 .1 .0) (λ y e.
       let D' = written own (p .cell) (assigned u) D in
       let z = b (D .cells) in
-      subst (λ s. Meets W n (lands W gs C Γ st) (Arrives W gs C G (Within W gs C Γ₀) (heldIn Γ) (after (codeHead gs bound ds Δ (at (suc (suc (p .address))) (suc (p .cell))) f) (at (suc (suc (p .address))) (suc (p .cell))) .address) st)
+      subst (λ s. Meets W n (lands W gs C Γ st) (Arrives W gs C G (Within W gs C Γ₀) (heldIn Γ)
+      (after (codeHead gs bound ds Δ (at (suc (suc (p .address))) (suc (p .cell))) f) (at (suc (suc (p .address))) (suc (p .cell))) .address) st)
       (at-work W gs C (suc (suc (p .address))) st (heldIn Γ) D') (within ds (placeOf W gs C Γ) s g))
       (declared gs x Γ D (p .cell) y (z .0) (blocksOf gs Γ₀ (D .cells)) (o .0) (below-apart (p .cell) Γ (w .below-n)) e (z .1))
       (heads G ds Γ₀ Δ (at (suc (suc (p .address))) (suc (p .cell))) st P f g D' i (o .1 (p .cell)) (fit-bound (x .name) w)
@@ -173,7 +177,8 @@ module _ (W : Setting) (gs : List Global) (C : Work) where
       let q = f .1 .later-cells in
       (f .0, record { place = f .1 .place; aim = f .1 .aim; later-cells = omega arith; stand = f .1 .stand; same-end = f .1 .same-end; good = f .1 .good })
 
-  pub found-label : (P : Items → Type 0) → ((b : ℕ) (is : Items) → P (label b is) → P is) → ((s : Stmt) (is : Items) → P (item s is) → P is) → (is : Items) (Γ : List Around) (ts : List Ty) (p : At) (a : ℕ) → P is
+  pub found-label : (P : Items → Type 0) → ((b : ℕ) (is : Items) → P (label b is) → P is) → ((s : Stmt) (is : Items) → P (item s is) → P is)
+      → (is : Items) (Γ : List Around) (ts : List Ty) (p : At) (a : ℕ) → P is
       → Stands W (C .body) (codeItems gs is Γ ts p) p
       → Found (hasLabel a is) (from a is) Γ ts (labelAt is (scopesOf Γ) (passing Γ) (p .address) a) (p .cell) (after (codeItems gs is Γ ts p) p) P
   unfolding from hasLabel labelAt codeS Stands after
@@ -181,7 +186,8 @@ module _ (W : Setting) (gs : List Global) (C : Work) where
   found-label P l i (label b is) Γ ts p a o h = pick (eqb a b) (found-label P l i is Γ ts p a (l b is o) (h .1))
     where
       pick : (t : Bool) → Found (hasLabel a is) (from a is) Γ ts (labelAt is (scopesOf Γ) (passing Γ) (p .address) a) (p .cell) (after (codeItems gs is Γ ts p) p) P
-          → Found (if t then true else hasLabel a is) (if t then some is else from a is) Γ ts (if t then p .address else labelAt is (scopesOf Γ) (passing Γ) (p .address) a) (p .cell) (after (codeItems gs is Γ ts p) p) P
+          → Found (if t then true else hasLabel a is) (if t then some is else from a is) Γ ts
+          (if t then p .address else labelAt is (scopesOf Γ) (passing Γ) (p .address) a) (p .cell) (after (codeItems gs is Γ ts p) p) P
       pick true f = (refl, record { place = p; aim = refl; later-cells = omega arith; stand = h .1; same-end = refl; good = l b is o })
       pick false f = f
   found-label P l i (item s is) Γ ts p a o h =
@@ -192,8 +198,11 @@ module _ (W : Setting) (gs : List Global) (C : Work) where
 
   -- what is known of the statements from a label on, at less fuel
   abbrev pub Resumes : ℕ → Less → Items → List Around → List Ty → List Value → ℕ → At → (Items → Type 0) → Type 0
-  Resumes n r is Γ ts st x e P = (js : Items) (q : At) (D : Data) → P js → Fit W gs C Γ (q .cell) → Stands W (C .body) (codeItems gs js (labels is x ∷ Γ) ts q) q → after (codeItems gs js (labels is x ∷ Γ) ts q) q ≡ e → Holds C D
-      → Meets W n (lands W gs C Γ st) (Arrives W gs C (Nothing W gs C) (Sees W gs C Γ) (heldIn Γ) (e .address) st) (at-work W gs C (q .address) st (heldIn Γ) D) (r .resume is js (placeOf W gs C Γ) (seen gs Γ D))
+  Resumes n r is Γ ts st x e P =
+      (js : Items) (q : At) (D : Data) → P js → Fit W gs C Γ (q .cell) → Stands W (C .body) (codeItems gs js (labels is x ∷ Γ) ts q) q
+      → after (codeItems gs js (labels is x ∷ Γ) ts q) q ≡ e → Holds C D
+      → Meets W n (lands W gs C Γ st) (Arrives W gs C (Nothing W gs C) (Sees W gs C Γ) (heldIn Γ) (e .address) st)
+      (at-work W gs C (q .address) st (heldIn Γ) D) (r .resume is js (placeOf W gs C Γ) (seen gs Γ D))
 
   pub catches : {n : ℕ} (r : Less) (is : Items) (Γ : List Around) (ts : List Ty) (st : List Value) (p e : At) (P : Items → Type 0) (x : Conf) (z : Result (Unit {0}))
       → ((a : ℕ) → Found (hasLabel a is) (from a is) (labels is (p .address) ∷ Γ) ts (labelAt is (scopesOf Γ) (theLabels is ∷ passing Γ) (p .address) a) (p .cell) e P)
@@ -209,15 +218,20 @@ module _ (W : Setting) (gs : List Global) (C : Work) where
       F = Arrives W gs C (Nothing W gs C) (Sees W gs C Γ) (heldIn Γ) (e .address) st
 
       go : (o : Option Items) (t : Bool) → Found t o (labels is (p .address) ∷ Γ) ts (labelAt is (scopesOf Γ) (theLabels is ∷ passing Γ) (p .address) a) (p .cell) e P
-          → Reach W (goConf W x) (λ y. landsAt t (Arrives W gs C (Nothing W gs C) (Sees W gs C Γ) (heldIn Γ) (labelAt is (scopesOf Γ) (theLabels is ∷ passing Γ) (p .address) a) st tt σ y) (lands W gs C Γ st a σ y))
+          → Reach W (goConf W x) (λ y. landsAt t (Arrives W gs C (Nothing W gs C) (Sees W gs C Γ) (heldIn Γ)
+          (labelAt is (scopesOf Γ) (theLabels is ∷ passing Γ) (p .address) a) st tt σ y) (lands W gs C Γ st a σ y))
           → Meets W (suc n) (lands W gs C Γ st) (Arrives W gs C (Nothing W gs C) (Sees W gs C Γ) (heldIn Γ) (e .address) st) x (caught r is o a (placeOf W gs C Γ) σ)
-      go none t g h = ends (subst (λ t. Reach W (goConf W x) (λ y. landsAt t (Arrives W gs C (Nothing W gs C) (Sees W gs C Γ) (heldIn Γ) (labelAt is (scopesOf Γ) (theLabels is ∷ passing Γ) (p .address) a) st tt σ y) (lands W gs C Γ st a σ y))) g h)
+      go none t g h =
+          ends (subst (λ t. Reach W (goConf W x) (λ y. landsAt t (Arrives W gs C (Nothing W gs C) (Sees W gs C Γ) (heldIn Γ)
+          (labelAt is (scopesOf Γ) (theLabels is ∷ passing Γ) (p .address) a) st tt σ y) (lands W gs C Γ st a σ y))) g h)
       go (some js) t g h =
           let h' : Reach W (goConf W x) (Arrives W gs C (Nothing W gs C) (Sees W gs C Γ) (heldIn Γ) (labelAt is (scopesOf Γ) (theLabels is ∷ passing Γ) (p .address) a) st tt σ) =
-          subst (λ t. Reach W (goConf W x) (λ y. landsAt t (Arrives W gs C (Nothing W gs C) (Sees W gs C Γ) (heldIn Γ) (labelAt is (scopesOf Γ) (theLabels is ∷ passing Γ) (p .address) a) st tt σ y) (lands W gs C Γ st a σ y))) (g .0) h in
+          subst (λ t. Reach W (goConf W x) (λ y. landsAt t (Arrives W gs C (Nothing W gs C) (Sees W gs C Γ) (heldIn Γ)
+          (labelAt is (scopesOf Γ) (theLabels is ∷ passing Γ) (p .address) a) st tt σ y) (lands W gs C Γ st a σ y))) (g .0) h in
           let q = g .1 .place in
           tick (r .resume is js (placeOf W gs C Γ) σ) (begin h' (λ y m.
-          let at-q : at-work W gs C (q .address) st (heldIn Γ) (m .now) ≡ y = ap (λ z. at-work W gs C z st (heldIn Γ) (m .now)) (sym (g .1 .aim)) ∙ sym (m .there ∙ ap (λ v. at-work W gs C (labelAt is (scopesOf Γ) (theLabels is ∷ passing Γ) (p .address) a) (v ++ st) (heldIn Γ) (m .now)) (m .gave)) in
+          let at-q : at-work W gs C (q .address) st (heldIn Γ) (m .now) ≡ y = ap (λ z. at-work W gs C z st (heldIn Γ) (m .now)) (sym (g .1 .aim))
+          ∙ sym (m .there ∙ ap (λ v. at-work W gs C (labelAt is (scopesOf Γ) (theLabels is ∷ passing Γ) (p .address) a) (v ++ st) (heldIn Γ) (m .now)) (m .gave)) in
           subst₂ (λ z s. Meets W n (lands W gs C Γ st) F z (r .resume is js (placeOf W gs C Γ) s)) at-q (m .sees)
           (b js q (m .now) (g .1 .good) (fit-on (g .1 .later-cells) w) (g .1 .stand) (g .1 .same-end) (m .holding))))
   catches r is Γ ts st p e P x (ended c σ) f w b (ends h) = ends h
@@ -230,7 +244,12 @@ module _ (W : Setting) (gs : List Global) (C : Work) where
       → Meets W n L (Arrives W gs C G (Sees W gs C Γ) K b st) x (leaving (λ τ. outerBlocks (τ .blocks)) r)
   unfolding leaving
   left Γ K b st x r (crash h) = crash h
-  left {n = n} Γ K b st x (done v σ) (ends h) = ends (record { steps = h .steps; there = let a = h .there in record { top = a .top; now = a .now; there = a .there; sees = a .sees; gave = a .gave; holding = a .holding } })
+  left {n = n} Γ K b st x (done v σ) (ends h) =
+      ends (record {
+        steps = h .steps;
+        there = let a = h .there in record
+            { top = a .top; now = a .now; there = a .there; sees = a .sees; gave = a .gave; holding = a .holding };
+      })
   left Γ K b st x (jump a σ) (ends h) = ends h
   left Γ K b st x (ended c σ) (ends h) = ends h
   left Γ K b st x (later σ) (ends h) = ends h

@@ -6,7 +6,9 @@ use native.Mathlib.Omega.{arith}
 use lib.ListN.{length}
 use Rattle.words.specs.Choice.{if_then_else_}
 use Rattle.values.specs.Types.{logical}
-use Rattle.language.specs.Tree.{Decl, declare, holding, Stmt, block, assign, when, choose, while, goto, assert, call, setLevel, select, Items, noItem, label, item, Arms, lastArm, arm, Target, toVariable, toField, Expr, number, truth, pattern, null, variable, invoke, field, make, operate1, operate2, conditional, fader, blockExpr, Exprs, noExpr, expr}
+use Rattle.language.specs.Tree.{Decl, declare, holding, Stmt, block, assign, when, choose, while, goto, assert, call, setLevel, select, Items, noItem, label, item, Arms}
+use Rattle.language.specs.Tree.{lastArm, arm, Target, toVariable, toField, Expr, number, truth, pattern, null, variable, invoke, field, make, operate1, operate2}
+use Rattle.language.specs.Tree.{conditional, fader, blockExpr, Exprs, noExpr, expr}
 use Rattle.language.specs.Names.{Scope, blockOf, expressionOf}
 use Rattle.language.specs.Measure.{measureS}
 use Rattle.language.specs.Faults.{typeE, isTy, sizeS, sizeItems, sizeArms, sizeTarget, sizeE, sizeEs}
@@ -28,7 +30,8 @@ few-goto (theLabels is ∷ Θ) a = pick (hasLabel a is) (few-goto Θ a)
     pick true q = omega arith
     pick false q = q
 
-pub few-head : (ds : List Decl) (Θ : List Passing) (f : List Passing → ℕ) (n h : ℕ) → ((Φ : List Passing) → holdsIn Φ + h ≤ 16 → f Φ ≤ n) → holdsIn Θ + (headHolds ds + h) ≤ 16 → sizeHead ds Θ f ≤ 2 * length ds + n
+pub few-head : (ds : List Decl) (Θ : List Passing) (f : List Passing → ℕ) (n h : ℕ) → ((Φ : List Passing) → holdsIn Φ + h ≤ 16 → f Φ ≤ n)
+    → holdsIn Θ + (headHolds ds + h) ≤ 16 → sizeHead ds Θ f ≤ 2 * length ds + n
 unfolding sizeHead headHolds holdsIn
 few-head [] Θ f n h g l = let q = g Θ (omega arith) in omega arith
 few-head (declare x ∷ ds) Θ f n h g l = let q = few-head ds Θ f n h g (omega arith) in omega arith
@@ -44,7 +47,9 @@ mutual
   unfolding opsS measureS holdsIn
 
   pub fewS : (s : Stmt) (ss : List Scope) (Θ : List Passing) → holdsIn Θ + holdsS s ≤ 16 → opsS s ss Θ + 5 ≤ 22 * sizeS s
-  fewS (block ds is) ss Θ l = let q = few-head ds Θ (λ Φ. opsItems is (blockOf ds is ∷ ss) (theLabels is ∷ Φ)) (22 * sizeItems is) (holdsItems is) (λ Φ m. fewItems is (blockOf ds is ∷ ss) (theLabels is ∷ Φ) m) l in omega arith
+  fewS (block ds is) ss Θ l =
+      let q = few-head ds Θ (λ Φ. opsItems is (blockOf ds is ∷ ss) (theLabels is ∷ Φ)) (22 * sizeItems is) (holdsItems is)
+      (λ Φ m. fewItems is (blockOf ds is ∷ ss) (theLabels is ∷ Φ) m) l in omega arith
   fewS (assign x e) ss Θ l = let q = fewTarget x ss Θ (omega arith) in let r = fewE e ss Θ (omega arith) in omega arith
   fewS (when e s) ss Θ l = let q = fewE e ss Θ (omega arith) in let r = fewS s ss Θ (omega arith) in omega arith
   fewS (choose e s t) ss Θ l = let q = fewE e ss Θ (omega arith) in let r = fewS s ss Θ (omega arith) in let u = fewS t ss Θ (omega arith) in omega arith

@@ -25,7 +25,8 @@ use Rattle.compile_code.specs.Compile.{Cell as Kept, cellOf as keptOf}
 use Rattle.language.specs.Names.{Scope}
 use Rattle.compile_code.specs.Encode.{parameterCells}
 use Rattle.compile_simulation.specs.Meets.{Conf, stepped, Setting, Meets, crash, ends, here, demanded, from}
-use Rattle.compile_simulation.specs.View.{Data, ownPut, rootPut, seen, seenV, seenC, seenR, blocksOf, rootsOf, inFirst, cellAt, Apart, Distinct, Below, global-apart, apart-blocks, put-other, owner-of, number-of, bound-own}
+use Rattle.compile_simulation.specs.View.{Data, ownPut, rootPut, seen, seenV, seenC, seenR, blocksOf, rootsOf, inFirst, cellAt, Apart, Distinct, Below}
+use Rattle.compile_simulation.specs.View.{global-apart, apart-blocks, put-other, owner-of, number-of, bound-own}
 use Rattle.compile_simulation.specs.Ops.{Owners, conf, hereOf, topOf, op-at, op-tick, conds}
 use Rattle.compile_simulation.specs.Placed.{Work, Holds, ownerOf, lowestOf, Fit, at-work, placeOf, Sees, Arrives, nowhere}
 
@@ -75,7 +76,8 @@ entered fs b vs D = record { shared = D .shared; cells = assignAll vs ++ freshAl
 abbrev pub waits : ℕ → List Value → List ℕ → ℕ → Data → Activation
 waits a st K k D = record { body = k; address = a; cells = D .cells; operands = st; holds = K }
 
-waits-below : (fs : List Activation) (a : ℕ) (st : List Value) (K : List ℕ) (k : ℕ) (D : Data) → waits a st K k D ∷ putLowest (D .lowest) fs ≡ putLowest (lowestOf fs (D .cells) (D .lowest)) (waits a st K k D ∷ fs)
+waits-below : (fs : List Activation) (a : ℕ) (st : List Value) (K : List ℕ) (k : ℕ) (D : Data)
+    → waits a st K k D ∷ putLowest (D .lowest) fs ≡ putLowest (lowestOf fs (D .cells) (D .lowest)) (waits a st K k D ∷ fs)
 unfolding putLowest
 waits-below [] a st K k D = refl
 waits-below (f ∷ fs) a st K k D = refl
@@ -93,10 +95,12 @@ unfolding globalAt Distinct blocksOf
 global-blocks gs a [] c x cs h d = refl
 global-blocks gs a (inside s ∷ Γ) c x cs h d = ap (λ z. [] ∷ z) (global-blocks gs a Γ c x cs h d)
 global-blocks gs a (outermost s ∷ Γ) c x cs h d = global-blocks gs a Γ c x cs h d
-global-blocks gs a (bound b e ∷ Γ) c x cs h d = ap₂ (λ y z. inFirst (slot b (seenC gs y)) z) (put-other cs c e x (λ r. global-apart a Γ own c e h (d .0) (sym r))) (global-blocks gs a Γ c x cs h (d .1))
+global-blocks gs a (bound b e ∷ Γ) c x cs h d =
+    ap₂ (λ y z. inFirst (slot b (seenC gs y)) z) (put-other cs c e x (λ r. global-apart a Γ own c e h (d .0) (sym r))) (global-blocks gs a Γ c x cs h (d .1))
 global-blocks gs a (global q b e ∷ Γ) c x cs h d = pick (eqb b a) h (λ f. global-blocks gs a Γ c x cs f (d .1))
   where
-    pick : (t : Bool) → (if t then some (kept q e) else globalAt a Γ) ≡ some (kept own c) → (globalAt a Γ ≡ some (kept own c) → blocksOf gs Γ (put cs c x) ≡ blocksOf gs Γ cs) → blocksOf gs Γ (put cs c x) ≡ blocksOf gs Γ cs
+    pick : (t : Bool) → (if t then some (kept q e) else globalAt a Γ) ≡ some (kept own c)
+        → (globalAt a Γ ≡ some (kept own c) → blocksOf gs Γ (put cs c x) ≡ blocksOf gs Γ cs) → blocksOf gs Γ (put cs c x) ≡ blocksOf gs Γ cs
     pick true f k = let z : kept q e ≡ kept own c = cc f in apart-blocks gs own c x cs cs Γ (subst (λ y. Apart (owner-of y) (number-of y) Γ) z (d .0))
     pick false f k = k f
 global-blocks gs a (held g ∷ Γ) c x cs h d = global-blocks gs a Γ c x cs h d
@@ -135,7 +139,8 @@ kept-cases a c o Γ h = pick (boundAt a Γ) refl h
     pick none e f = inr f
     pick (some (kept q d)) e f = let z : kept q d ≡ kept o c = cc f in inl (sym (ap owner-of z) ∙ bound-own a Γ q d e)
 
-pub fit-callee : (W : Setting) (gs : List Global) (C : Work) (k : ℕ) (Γ : List Around) (a : ℕ) (st : List Value) (D : Data) (n : ℕ) (xs : List Typed) (s : Scope) → Fit W gs C Γ n → Static gs (W .shared-names) xs s
+pub fit-callee : (W : Setting) (gs : List Global) (C : Work) (k : ℕ) (Γ : List Around) (a : ℕ) (st : List Value) (D : Data) (n : ℕ) (xs : List Typed)
+    (s : Scope) → Fit W gs C Γ n → Static gs (W .shared-names) xs s
     → Fit W gs (callee gs C k Γ a st D) (inside-proc xs s (W .shared-names)) (length xs)
 unfolding globalAt rootsOf
 fit-callee W gs C k Γ a st D n xs s w t = record {
@@ -160,13 +165,15 @@ fit-callee W gs C k Γ a st D n xs s w t = record {
     low-write [] b c x ls e g h = (global-blocks gs b Γ c x ls e (w .distinct) ∙ h .0, g x ls (D .lowest) (h .1))
     low-write (f ∷ fs) b c x ls e g h = (h .0, g x (D .cells) ls (h .1))
 
-    global-write : (b c : ℕ) (o : Owner) (x : Cell) (cs ls : List Cell) → globalAt b (W .shared-names) ≡ some (kept o c) → keptBelow gs C Γ D cs ls → keptBelow gs C Γ D (ownPut o c x cs) (rootPut o c x ls)
+    global-write : (b c : ℕ) (o : Owner) (x : Cell) (cs ls : List Cell) → globalAt b (W .shared-names) ≡ some (kept o c) → keptBelow gs C Γ D cs ls
+        → keptBelow gs C Γ D (ownPut o c x cs) (rootPut o c x ls)
     global-write b c o x cs ls e h =
         let q = w .shared b c o e in
         subst (λ z. keptBelow gs C Γ D (ownPut z c x cs) (rootPut z c x ls)) (sym (q .0))
         (low-write (C .below) b c x ls (q .1) (λ x' cs' ls' m. w .stable-global b c (ownerOf (C .below)) x' cs' ls' (q .1) m) h)
 
-    any-write : (b c : ℕ) (o : Owner) (x : Cell) (cs ls : List Cell) → (o ≡ own) ⊎ (globalAt b (inside-proc xs s (W .shared-names)) ≡ some (kept o c)) → keptBelow gs C Γ D cs ls → keptBelow gs C Γ D (ownPut o c x cs) (rootPut o c x ls)
+    any-write : (b c : ℕ) (o : Owner) (x : Cell) (cs ls : List Cell) → (o ≡ own) ⊎ (globalAt b (inside-proc xs s (W .shared-names)) ≡ some (kept o c))
+        → keptBelow gs C Γ D cs ls → keptBelow gs C Γ D (ownPut o c x cs) (rootPut o c x ls)
     any-write b c o x cs ls (inl e) h = subst (λ z. keptBelow gs C Γ D (ownPut z c x cs) (rootPut z c x ls)) (sym e) h
     any-write b c o x cs ls (inr e) h = global-write b c o x cs ls (sym (global-past b xs 0 (inside s ∷ W .shared-names)) ∙ e) h
 
@@ -191,7 +198,8 @@ params-seen gs (x ∷ xs) (v ∷ vs) pre rest n Γ bs l e h =
     let here-is : cellAt cs n ≡ assigned v = subst (λ z. cellAt cs z ≡ assigned v) (sym e) (cell-next pre (assigned v) (assignAll vs ++ rest)) in
     ap₂ (λ c l. inFirst (slot (x .name) (seenC gs c)) l) here-is rest-is
 
-pub entered-seen : (W : Setting) (gs : List Global) (C : Work) (Γ : List Around) (D : Data) (b : Body) (xs : List Typed) (s : Scope) (vs : List Value) (n : ℕ) → Fit W gs C Γ n → Static gs (W .shared-names) xs s → length vs ≡ length xs
+pub entered-seen : (W : Setting) (gs : List Global) (C : Work) (Γ : List Around) (D : Data) (b : Body) (xs : List Typed) (s : Scope) (vs : List Value)
+    (n : ℕ) → Fit W gs C Γ n → Static gs (W .shared-names) xs s → length vs ≡ length xs
     → seen gs (inside-proc xs s (W .shared-names)) (entered (C .below) b vs D) ≡ withBlocks (pairUp xs (map (seenV gs) vs) ∷ []) (seen gs Γ D)
 unfolding blocksOf rootsOf
 entered-seen W gs C Γ D b xs s vs n w t l =
@@ -201,11 +209,13 @@ entered-seen W gs C Γ D b xs s vs n w t l =
     (params-seen gs xs vs [] (freshAll (drop (length vs) (b .cells))) 0 (inside s ∷ W .shared-names) [] l refl (ap (λ z. [] ∷ z) (t .no-block cs)))
 
 -- ── returning ──
-pub returned-seen : (W : Setting) (gs : List Global) (C : Work) (Γ Δ : List Around) (D E : Data) (n : ℕ) → Fit W gs C Γ n → ((cs ls : List Cell) → rootsOf gs Δ cs ls ≡ rootsOf gs (W .shared-names) cs ls) → keptBelow gs C Γ D (E .cells) (E .lowest)
+pub returned-seen : (W : Setting) (gs : List Global) (C : Work) (Γ Δ : List Around) (D E : Data) (n : ℕ) → Fit W gs C Γ n
+    → ((cs ls : List Cell) → rootsOf gs Δ cs ls ≡ rootsOf gs (W .shared-names) cs ls) → keptBelow gs C Γ D (E .cells) (E .lowest)
     → seen gs Γ (returned (C .below) D E) ≡ withBlocks (blocksOf gs Γ (D .cells)) (seen gs Δ E)
 returned-seen W gs C Γ Δ D E n w r k =
     ap₂ (λ x y. record { root = x; blocks = y; records = map (seenR gs) (E .shared .records); trace = E .trace; taken = E .taken })
-    (w .roots (cellsBack (C .below) D (E .lowest)) (lowestBack (C .below) D (E .lowest)) (E .cells) ∙ ap (λ z. rootsOf gs (W .shared-names) (E .cells) z) (low (C .below)) ∙ sym (r (E .cells) (E .lowest)))
+    (w .roots (cellsBack (C .below) D (E .lowest)) (lowestBack (C .below) D (E .lowest)) (E .cells)
+    ∙ ap (λ z. rootsOf gs (W .shared-names) (E .cells) z) (low (C .below)) ∙ sym (r (E .cells) (E .lowest)))
     (k .0)
   where
     low : (fs : List Activation) → lowestOf fs (cellsBack fs D (E .lowest)) (lowestBack fs D (E .lowest)) ≡ E .lowest
@@ -213,7 +223,8 @@ returned-seen W gs C Γ Δ D E n w r k =
     low (f ∷ fs) = refl
 
 module _ (W : Setting) (gs : List Global) where
-  hands-down : {A : Type 0} {n : ℕ} {L : ℕ → Store → Conf → Type 0} {F : A → Store → Conf → Type 0} {r : Result A} (fs : List Activation) (k k₀ a e : ℕ) (b : Body) (us st : List Value) (K : List ℕ) (D E : Data)
+  hands-down : {A : Type 0} {n : ℕ} {L : ℕ → Store → Conf → Type 0} {F : A → Store → Conf → Type 0} {r : Result A} (fs : List Activation)
+      (k k₀ a e : ℕ) (b : Body) (us st : List Value) (K : List ℕ) (D E : Data)
       → fetch (W .macro) k e ≡ some return → procedureAt (W .macro) k ≡ some b
       → Meets W n L F (conf W gs k₀ fs (suc a) (us ++ st) K (returned fs D E)) r → Meets W n L F (conf W gs k (waits a st K k₀ D ∷ fs) e us [] E) r
   unfolding act doReturn putLowest
@@ -231,7 +242,8 @@ module _ (W : Setting) (gs : List Global) where
     unfolding leaving
     leaves Γ Δ k a e n' b st D x z p q w r (crash h) = crash h
     leaves {G = G} {n = n} {L = L} Γ Δ k a e n' b st D x (done v τ) p q w r (ends h) = from h (λ y m.
-        subst (λ z. Meets W n L (Arrives W gs C G (Sees W gs C Γ) (heldIn Γ) (suc a) st) z (done v (withBlocks (blocksOf gs Γ (D .cells)) τ))) (sym (m .there ∙ ap (λ us. conf W gs k (waits a st (heldIn Γ) (C .body) D ∷ C .below) e us [] (m .now)) (append-nil (m .top))))
+        subst (λ z. Meets W n L (Arrives W gs C G (Sees W gs C Γ) (heldIn Γ) (suc a) st) z (done v (withBlocks (blocksOf gs Γ (D .cells)) τ)))
+        (sym (m .there ∙ ap (λ us. conf W gs k (waits a st (heldIn Γ) (C .body) D ∷ C .below) e us [] (m .now)) (append-nil (m .top))))
         (hands-down (C .below) k (C .body) a e b (m .top) st (heldIn Γ) D (m .now) p q
         (ends (here (record {
           top = m .top;
@@ -246,12 +258,16 @@ module _ (W : Setting) (gs : List Global) where
     leaves Γ Δ k a e n' b st D x (later τ) p q w r (ends h) = ends h
     leaves Γ Δ k a e n' b st D x wrong p q w r (ends h) = ends h
 
-    pub calls : {A : Type 0} (G : A → List Value → Type 0) {n : ℕ} {L : ℕ → Store → Conf → Type 0} (Γ : List Around) (k a e n' : ℕ) (b : Body) (q : Procedure) (s : Scope) (top st : List Value) (D : Data) (f : TreeBody → Place → Store → Result A)
-        → fetch (W .macro) (C .body) a ≡ some (call k) → fetch (W .macro) k e ≡ some return → procedureAt (W .macro) k ≡ some b → b .parameters ≡ length (q .parameters) → length top ≡ length (q .parameters)
+    pub calls : {A : Type 0} (G : A → List Value → Type 0) {n : ℕ} {L : ℕ → Store → Conf → Type 0} (Γ : List Around) (k a e n' : ℕ) (b : Body)
+        (q : Procedure) (s : Scope) (top st : List Value) (D : Data) (f : TreeBody → Place → Store → Result A)
+        → fetch (W .macro) (C .body) a ≡ some (call k) → fetch (W .macro) k e ≡ some return → procedureAt (W .macro) k ≡ some b
+        → b .parameters ≡ length (q .parameters) → length top ≡ length (q .parameters)
         → Fit W gs C Γ n' → Static gs (W .shared-names) (q .parameters) s → Holds C D
-        → ((E : Data) → Holds (callee gs C k Γ a st D) E → Meets W n (nowhere W gs C) (Arrives W gs (callee gs C k Γ a st D) G (Sees W gs (callee gs C k Γ a st D) (inside-proc (q .parameters) s (W .shared-names))) [] e [])
+        → ((E : Data) → Holds (callee gs C k Γ a st D) E → Meets W n (nowhere W gs C)
+        (Arrives W gs (callee gs C k Γ a st D) G (Sees W gs (callee gs C k Γ a st D) (inside-proc (q .parameters) s (W .shared-names))) [] e [])
         (at-work W gs (callee gs C k Γ a st D) (b .first) [] [] E) (f (q .body) (deeper (placeOf W gs C Γ)) (seen gs (inside-proc (q .parameters) s (W .shared-names)) E)))
-        → Meets W (suc n) L (Arrives W gs C G (Sees W gs C Γ) (heldIn Γ) (suc a) st) (at-work W gs C a (top ++ st) (heldIn Γ) D) (activate (some q) f (map (seenV gs) (onto top [])) (placeOf W gs C Γ) (seen gs Γ D))
+        → Meets W (suc n) L (Arrives W gs C G (Sees W gs C Γ) (heldIn Γ) (suc a) st) (at-work W gs C a (top ++ st) (heldIn Γ) D)
+        (activate (some q) f (map (seenV gs) (onto top [])) (placeOf W gs C Γ) (seen gs Γ D))
     unfolding act doCall activate rootsOf
     calls G {n} {L} Γ k a e n' b q s top st D f p pr pb c l w t h sim = op-tick W gs (C .body) (C .below) (call k) a (top ++ st) (heldIn Γ) D p
         (rw (pb, c, sym l) (rw (pops top st [] _)
@@ -274,7 +290,9 @@ module _ (W : Setting) (gs : List Global) where
             same-kept (g ∷ fs) h = h
 
         enters : (t : Bool) → Meets W n L (Arrives W gs C G (Sees W gs C Γ) (heldIn Γ) (suc a) st)
-            (stepped (if t then moved [] (running (D .shared) (activation k b (onto top [])) (at a st (topOf W gs (C .body) (C .below) a (top ++ st) (heldIn Γ) D) ∷ putLowest (D .lowest) (C .below))) else condition tooManyActivations (hereOf W gs (C .body) (C .below) a (top ++ st) (heldIn Γ) D)) (D .trace) (D .taken))
+            (stepped (if t then moved [] (running (D .shared) (activation k b (onto top []))
+            (at a st (topOf W gs (C .body) (C .below) a (top ++ st) (heldIn Γ) D) ∷ putLowest (D .lowest) (C .below))) else condition
+            tooManyActivations (hereOf W gs (C .body) (C .below) a (top ++ st) (heldIn Γ) D)) (D .trace) (D .taken))
             (if t then leaving (λ τ. blocksOf gs Γ (D .cells)) (f (q .body) (deeper (placeOf W gs C Γ)) (withBlocks (pairUp (q .parameters) (map (seenV gs) (onto top [])) ∷ []) (seen gs Γ D)))
             else over tooManyActivations (releaseAll (heldIn Γ ++ allHolds (C .below)) (seen gs Γ D)))
         enters true = rw (waits-below (C .below) a st (heldIn Γ) (C .body) D)

@@ -57,7 +57,8 @@ nexts z i k h = h ∙ ap pos (omega arith)
 module _ (W : Setting) (gs : List Global) (k : ℕ) (fs : List Activation) {A : Type 0} {n : ℕ} {L : ℕ → Store → Conf → Type 0} {F : A → Store → Conf → Type 0} {r : Result A} where
   -- load, push, compare, jump
   pub tests : (z : ℤ) (i c t a : ℕ) (st : List Value) (K : List ℕ) (D : Data) (b : Bool) → sameInteger z (pos i) ≡ b → cellAt (D .cells) c ≡ assigned (int z)
-      → fetch (W .macro) k a ≡ some (load own c) → fetch (W .macro) k (suc a) ≡ some (push (int (pos i))) → fetch (W .macro) k (suc (suc a)) ≡ some (operate (binary equal)) → fetch (W .macro) k (suc (suc (suc a))) ≡ some (goUnless t)
+      → fetch (W .macro) k a ≡ some (load own c) → fetch (W .macro) k (suc a) ≡ some (push (int (pos i)))
+      → fetch (W .macro) k (suc (suc a)) ≡ some (operate (binary equal)) → fetch (W .macro) k (suc (suc (suc a))) ≡ some (goUnless t)
       → (b ≡ true → Meets W n L F (conf W gs k fs (suc (suc (suc (suc a)))) st K D) r) → (b ≡ false → Meets W n L F (conf W gs k fs t st K D) r) → Meets W n L F (conf W gs k fs a st K D) r
   unfolding act doOperate apply2
   tests z i c t a st K D b e g p₁ p₂ p₃ p₄ f h = loads W gs k fs own c a st K D tt p₁ (λ v q.

@@ -9,9 +9,11 @@ use lib.IntN.{ℤ}
 use lib.Signed.{ltZ, leZ}
 use Rattle.words.specs.Choice.{if_then_else_}
 use Rattle.words.specs.Options.{keep, ifSome}
-use Rattle.values.specs.Operators.{Unary, negate, absolute, complement, Binary, plus, minus, times, divide, remainder, less, atMost, greater, atLeast, equal, unequal, both, either, shiftLeft, shiftRight}
+use Rattle.values.specs.Operators.{Unary, negate, absolute, complement, Binary, plus, minus, times, divide, remainder, less, atMost, greater, atLeast, equal, unequal}
+use Rattle.values.specs.Operators.{both, either, shiftLeft, shiftRight}
 use Rattle.values.specs.Arithmetic.{Outcome, gives, ends, mistyped, negation, magnitude, sum, difference, product, quotient, rest, andBits, orBits, shiftedLeft, shiftedRight}
-use Rattle.values.specs.Values.{Value, int, log, bit, ref, asInteger, asLogical, asBits, Reference, asReference, asked, apply1, apply2, mapOutcome, arithmetic, ordering, shift, junction, equality, sameRef}
+use Rattle.values.specs.Values.{Value, int, log, bit, ref, asInteger, asLogical, asBits, Reference, asReference, asked, apply1, apply2, mapOutcome, arithmetic, ordering}
+use Rattle.values.specs.Values.{shift, junction, equality, sameRef}
 use Rattle.language.specs.Tree.{Global}
 use Rattle.language.specs.Execute.{deciding, decides}
 use Rattle.compile_code.specs.Compile.{classesOf}

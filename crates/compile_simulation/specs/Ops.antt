@@ -15,7 +15,8 @@ use Rattle.language.specs.Tree.{Global}
 use Rattle.language.specs.Execute.{Store, Result, releaseAll}
 use Rattle.language.specs.Execute.{ended as over}
 use Rattle.bytecode.specs.Instructions.{Owner, own, root, Instr, push, load, store, go, goUnless, takeHold, letHold, cellTy, known}
-use Rattle.bytecode.specs.Machine.{Shared, Activation, running, badFrame, badType, noStep, Stepped, Here, at, condition, goesOn, rootOf, putLowest, cellsFor, putCells, putTop, pushCell, onCell, doLoad, doStore, doGoUnless, doTakeHold, allHolds, fetch, step, act, goes}
+use Rattle.bytecode.specs.Machine.{Shared, Activation, running, badFrame, badType, noStep, Stepped, Here, at, condition, goesOn, rootOf, putLowest, cellsFor, putCells}
+use Rattle.bytecode.specs.Machine.{putTop, pushCell, onCell, doLoad, doStore, doGoUnless, doTakeHold, allHolds, fetch, step, act, goes}
 use Rattle.compile_code.specs.Compile.{Around, heldIn}
 use Rattle.compile_simulation.specs.Meets.{Conf, live, counted, stepped, Setting, Meets, back, tick, demanded, had, fails}
 use Rattle.compile_simulation.specs.Meets.{go as goConf}
@@ -53,8 +54,11 @@ top-put t (f ∷ []) ls ks w = refl
 top-put t (f ∷ (g ∷ gs)) ls ks w = refl
 
 root-put : (s : Shared) (t : Activation) (st : List Value) (xs : List Activation) (ls : List Cell) (c : ℕ) (x : Cell) (tr : List Item) (n : ℕ) → Owners xs root → (ks : List Cell) → ks ≡ ls
-    → _≡_ {A = Conf} (live (running s (at (suc (putTop (put ks c x) t (putLowest ls xs) .address)) st (putTop (put ks c x) t (putLowest ls xs))) (putLowest (put ks c x) (putLowest ls xs))) tr n) (live (running s (at (suc (t .address)) st t) (putLowest (put ls c x) xs)) tr n)
-root-put s t st xs ls c x tr n w ks e = ap₂ (λ y z. live (running s (at (suc (y .address)) st y) z) tr n) (top-put t xs ls (put ks c x) w) (lowest-put xs ls (put ks c x) ∙ ap (λ z. putLowest (put z c x) xs) e)
+    → _≡_ {A = Conf} (live (running s (at (suc (putTop (put ks c x) t (putLowest ls xs) .address)) st (putTop (put ks c x) t (putLowest ls xs)))
+    (putLowest (put ks c x) (putLowest ls xs))) tr n) (live (running s (at (suc (t .address)) st t) (putLowest (put ls c x) xs)) tr n)
+root-put s t st xs ls c x tr n w ks e =
+    ap₂ (λ y z. live (running s (at (suc (y .address)) st y) z) tr n) (top-put t xs ls (put ks c x) w)
+    (lowest-put xs ls (put ks c x) ∙ ap (λ z. putLowest (put z c x) xs) e)
 
 -- one more item said, one more reading taken
 abbrev pub says : List Item → Data → Data

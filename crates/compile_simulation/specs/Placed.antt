@@ -67,7 +67,17 @@ fit-on {Γ = Γ} {n = n} {k = k} e h = record {
 
 pub fit-inside : {W : Setting} {gs : List Global} {C : Work} {Γ : List Around} {n : ℕ} (s : Scope) → Fit W gs C Γ n → Fit W gs C (inside s ∷ Γ) n
 unfolding Distinct Below boundAt globalAt rootsOf
-fit-inside s h = record { distinct = h .distinct; below-n = h .below-n; owners = h .owners; stable = h .stable; stable-global = h .stable-global; roots = h .roots; shared = h .shared; fresh = h .fresh }
+fit-inside s h =
+    record {
+      distinct = h .distinct;
+      below-n = h .below-n;
+      owners = h .owners;
+      stable = h .stable;
+      stable-global = h .stable-global;
+      roots = h .roots;
+      shared = h .shared;
+      fresh = h .fresh;
+    }
 
 pub fit-held : {W : Setting} {gs : List Global} {C : Work} {Γ : List Around} {n : ℕ} (g : ℕ) → Fit W gs C Γ n → Fit W gs C (held g ∷ Γ) n
 unfolding Distinct Below boundAt globalAt rootsOf
@@ -75,7 +85,17 @@ fit-held g h = record { distinct = h .distinct; below-n = h .below-n; owners = h
 
 pub fit-labels : {W : Setting} {gs : List Global} {C : Work} {Γ : List Around} {n : ℕ} (is : Items) (x : ℕ) → Fit W gs C Γ n → Fit W gs C (labels is x ∷ Γ) n
 unfolding Distinct Below boundAt globalAt rootsOf
-fit-labels is x h = record { distinct = h .distinct; below-n = h .below-n; owners = h .owners; stable = h .stable; stable-global = h .stable-global; roots = h .roots; shared = h .shared; fresh = h .fresh }
+fit-labels is x h =
+    record {
+      distinct = h .distinct;
+      below-n = h .below-n;
+      owners = h .owners;
+      stable = h .stable;
+      stable-global = h .stable-global;
+      roots = h .roots;
+      shared = h .shared;
+      fresh = h .fresh;
+    }
 
 -- a new variable of a block
 bound-cases : (P : Owner → ℕ → Type 0) (b n a c : ℕ) (o : Owner) (Γ : List Around) → keptOf a (bound b n ∷ Γ) ≡ some (kept o c) → P own n → (keptOf a Γ ≡ some (kept o c) → P o c) → P o c

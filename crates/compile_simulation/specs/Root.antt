@@ -56,7 +56,14 @@ module _ (W : Setting) (gs : List Global) where
   letsGo {n} Γ g m x (done v σ) i (ends h) = begin h (λ y a.
       subst (λ z. Meets W n (lands W gs atRoot Γ []) (Arrives W gs atRoot (Nothing W gs atRoot) Told (heldIn Γ) (suc m) []) z (done v (say (release g) σ))) (sym (a .there))
       (lets W gs 0 [] g m (a .top ++ []) (heldIn Γ) (a .now) i
-      (ends (here (record { top = a .top; now = says (event (release g) ∷ []) (a .now); there = refl; sees = (ap (λ t. event (release g) ∷ t) (a .sees .0), a .sees .1); gave = a .gave; holding = tt })))))
+      (ends (here (record {
+        top = a .top;
+        now = says (event (release g) ∷ []) (a .now);
+        there = refl;
+        sees = (ap (λ t. event (release g) ∷ t) (a .sees .0), a .sees .1);
+        gave = a .gave;
+        holding = tt;
+      })))))
   letsGo Γ g m x (jump a σ) i (ends h) = ends h
   letsGo Γ g m x (ended c σ) i (ends h) = ends h
   letsGo Γ g m x (later σ) i (ends h) = ends h
@@ -64,11 +71,14 @@ module _ (W : Setting) (gs : List Global) where
 
   abbrev Inner : ℕ → (List Around → ℕ → Type 0) → (List Around → At → Code) → (Place → Store → Result (Unit {0})) → Type 0
   Inner n P f g = (Δ : List Around) (q : At) (D : Data) → P Δ (q .cell) → Stands W 0 (f Δ q) q
-      → Meets W n (lands W gs atRoot Δ []) (Arrives W gs atRoot (Nothing W gs atRoot) Told (heldIn Δ) (after (f Δ q) q .address) []) (at-work W gs atRoot (q .address) [] (heldIn Δ) D) (g (placeOf W gs atRoot Δ) (seen gs Δ D))
+      → Meets W n (lands W gs atRoot Δ []) (Arrives W gs atRoot (Nothing W gs atRoot) Told (heldIn Δ) (after (f Δ q) q .address) [])
+      (at-work W gs atRoot (q .address) [] (heldIn Δ) D) (g (placeOf W gs atRoot Δ) (seen gs Δ D))
 
   rootHead : {n : ℕ} (ds : List Decl) (Γ : List Around) (p : At) (P : List Around → ℕ → Type 0) (f : List Around → At → Code) (g : Place → Store → Result (Unit {0})) (D : Data)
       → Inner n P f g → okRoot gs ds Γ (p .cell) P → ((cs : List Cell) → blocksOf gs Γ cs ≡ []) → Stands W 0 (codeHead gs (global own) ds Γ p f) p
-      → Meets W n (lands W gs atRoot Γ []) (Arrives W gs atRoot (Nothing W gs atRoot) Told (heldIn Γ) (after (codeHead gs (global own) ds Γ p f) p .address) []) (at-work W gs atRoot (p .address) [] (heldIn Γ) D) (within ds (placeOf W gs atRoot Γ) (seen gs Γ D) g)
+      → Meets W n (lands W gs atRoot Γ []) (Arrives W gs atRoot (Nothing W gs atRoot) Told (heldIn Γ)
+      (after (codeHead gs (global own) ds Γ p f) p .address) []) (at-work W gs atRoot (p .address) [] (heldIn Γ) D)
+      (within ds (placeOf W gs atRoot Γ) (seen gs Γ D) g)
   unfolding okRoot codeHead Stands after within heldIn lands blocksOf rootsOf
   rootHead [] Γ p P f g D i o b h = i Γ p D o h
   rootHead {n} (declare x ∷ ds) Γ p P f g D i o b h =
@@ -77,7 +87,8 @@ module _ (W : Setting) (gs : List Global) where
       pushes W gs 0 [] u (p .address) [] (heldIn Γ) D (h .1 .0)
       (stores W gs 0 [] own (p .cell) u (suc (p .address)) [] (heldIn Γ) D tt (h .1 .1 .0) (λ y e.
       let D' = written own (p .cell) (assigned u) D in
-      subst (λ s. Meets W n (lands W gs atRoot Γ []) (Arrives W gs atRoot (Nothing W gs atRoot) Told (heldIn Γ) (after (codeHead gs (global own) ds Δ (at (suc (suc (p .address))) (suc (p .cell))) f) (at (suc (suc (p .address))) (suc (p .cell))) .address) [])
+      subst (λ s. Meets W n (lands W gs atRoot Γ []) (Arrives W gs atRoot (Nothing W gs atRoot) Told (heldIn Γ)
+      (after (codeHead gs (global own) ds Δ (at (suc (suc (p .address))) (suc (p .cell))) f) (at (suc (suc (p .address))) (suc (p .cell))) .address) [])
       (at-work W gs atRoot (suc (suc (p .address))) [] (heldIn Γ) D') (within ds (placeOf W gs atRoot Γ) s g))
       (declared gs x Γ D (p .cell) y (o .0) (o .1) e (b (D .cells)))
       (rootHead ds Δ (at (suc (suc (p .address))) (suc (p .cell))) P f g D' i (o .2) b (h .1 .1 .1))))
@@ -97,12 +108,16 @@ module _ (W : Setting) (gs : List Global) where
     pub rooted : (n : ℕ) (ds : List Decl) (s : Scope) (is : Items) (D : Data)
         → okRoot gs ds (outermost s ∷ []) 0 (λ Δ n'. Fit W gs atRoot Δ n' × ((x : ℕ) → okItems gs is (labels is x ∷ Δ)))
         → Stands W 0 (codeHead gs (global own) ds (outermost s ∷ []) (at 0 0) (λ Δ q. codeItems gs is (labels is (q .address) ∷ Δ) [] q)) (at 0 0)
-        → Meets W (suc n) (lands W gs atRoot (outermost s ∷ []) []) (Arrives W gs atRoot (Nothing W gs atRoot) Told [] (after (codeHead gs (global own) ds (outermost s ∷ []) (at 0 0) (λ Δ q. codeItems gs is (labels is (q .address) ∷ Δ) [] q)) (at 0 0) .address) [])
-        (at-work W gs atRoot 0 [] [] D) (within ds (placeOf W gs atRoot (outermost s ∷ [])) (seen gs (outermost s ∷ []) D) (λ X σ. catch (fueled (world W gs) n) is X (execItems (world W gs) (fueled (world W gs) n) is X σ)))
+        → Meets W (suc n) (lands W gs atRoot (outermost s ∷ []) []) (Arrives W gs atRoot (Nothing W gs atRoot) Told []
+        (after (codeHead gs (global own) ds (outermost s ∷ []) (at 0 0) (λ Δ q. codeItems gs is (labels is (q .address) ∷ Δ) [] q)) (at 0 0) .address) [])
+        (at-work W gs atRoot 0 [] [] D) (within ds (placeOf W gs atRoot (outermost s ∷ [])) (seen gs (outermost s ∷ []) D)
+        (λ X σ. catch (fueled (world W gs) n) is X (execItems (world W gs) (fueled (world W gs) n) is X σ)))
     unfolding heldIn blocksOf
     rooted n ds s is D o h =
         let r = fueled (world W gs) n in let b = all W gs table classes n in
         rootHead ds (outermost s ∷ []) (at 0 0) (λ Δ n'. Fit W gs atRoot Δ n' × ((x : ℕ) → okItems gs is (labels is x ∷ Δ))) (λ Δ q. codeItems gs is (labels is (q .address) ∷ Δ) [] q)
         (λ X σ. catch r is X (execItems (world W gs) r is X σ)) D
-        (λ Δ q E o' h'. told Δ (blockItems W gs table classes n r b atRoot is Δ [] [] q (o' .1) (o' .0) h' (λ E₁ k₁. simItems W gs table classes n r b is atRoot (labels is (q .address) ∷ Δ) [] q [] (o' .1 (q .address)) (fit-labels is (q .address) (o' .0)) h' E₁ k₁) E tt))
+        (λ Δ q E o' h'. told Δ (blockItems W gs table classes n r b atRoot is Δ [] [] q (o' .1) (o' .0) h'
+        (λ E₁ k₁. simItems W gs table classes n r b is atRoot (labels is (q .address) ∷ Δ) [] q [] (o' .1 (q .address))
+        (fit-labels is (q .address) (o' .0)) h' E₁ k₁) E tt))
         o (λ cs. refl) h

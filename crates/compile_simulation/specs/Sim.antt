@@ -18,27 +18,35 @@ use Rattle.values.specs.Arithmetic.{ends as endsBy}
 use Rattle.values.specs.Values.{Value, int, log, bit, ref, asInteger, asLogical, tyOf, Cell, assigned, between, size, apply1, apply2}
 use Rattle.values.specs.Trace.{event, reading}
 use Rattle.values.specs.Trace.{set as setEvent}
-use Rattle.language.specs.Tree.{Typed, holding, Stmt, block, assign, when, choose, while, goto, assert, call, setLevel, select, Items, noItem, label, item, Arms, lastArm, arm, Target, toVariable, toField, Expr, number, truth, pattern, null, variable, invoke, field, make, operate1, operate2, conditional, fader, blockExpr, Exprs, noExpr, expr, Global, proper, function, countExprs}
+use Rattle.language.specs.Tree.{Typed, holding, Stmt, block, assign, when, choose, while, goto, assert, call, setLevel, select, Items, noItem, label, item, Arms, lastArm}
+use Rattle.language.specs.Tree.{arm, Target, toVariable, toField, Expr, number, truth, pattern, null, variable, invoke, field, make, operate1, operate2, conditional}
+use Rattle.language.specs.Tree.{fader, blockExpr, Exprs, noExpr, expr, Global, proper, function, countExprs}
 use Rattle.language.specs.Tree.{Body as TreeBody}
 use Rattle.language.specs.Names.{Scope, Definition, inProcedure, blockOf, expressionOf}
 use Rattle.language.specs.Faults.{typeE, isTy}
-use Rattle.language.specs.Execute.{Store, Result, done, jump, ended, later, wrong, next, Place, World, Less, say, read, valueOf, asked, branch, doSet, doFader, doAssign, ofField, doMake, classIn, deciding, decides, catch, from, exec, execItems, execArm, execBody, evalBody, Procedure, procedureIn, activate, locate, eval, evals, fueled}
+use Rattle.language.specs.Execute.{Store, Result, done, jump, ended, later, wrong, next, Place, World, Less, say, read, valueOf, asked, branch, doSet, doFader, doAssign}
+use Rattle.language.specs.Execute.{ofField, doMake, classIn, deciding, decides, catch, from, exec, execItems, execArm, execBody, evalBody, Procedure, procedureIn}
+use Rattle.language.specs.Execute.{activate, locate, eval, evals, fueled}
 use Rattle.language.specs.Execute.{settled as treeSettled, condition as treeCondition}
 use Rattle.bytecode.specs.Instructions.{Owner, own, root, push, load, operate, go, goUnless, readFader, stop}
 use Rattle.bytecode.specs.Instructions.{return, procedureAt}
 use Rattle.bytecode.specs.Instructions.{setLevel as setOp, assert as assertOp, call as callOp}
 use Rattle.bytecode.specs.Machine.{allHolds, fetch, act, settled, doOperate, doGoUnless, goesOn, doSet as machineSet, doFader as machineFader, doAssert, condition, badType, goes as goesTo}
 use Rattle.compile_code.specs.Code.{Code, cell, _▸_, At, at, skip, after}
-use Rattle.compile_code.specs.Compile.{Around, inside, labels, heldIn, scopesOf, passing, theLabels, hasLabel, labelAt, found, kept, Way, plainly, marked, ifTrue, ifFalse, wayOf, codeWay, codeS, codeItems, codeArms, codeTarget, codeE, codeEs, bodyNumber, fieldNumber, classesOf, opsArms, tyE, tyTarget, classNumber, opTarget}
+use Rattle.compile_code.specs.Compile.{Around, inside, labels, heldIn, scopesOf, passing, theLabels, hasLabel, labelAt, found, kept, Way, plainly, marked, ifTrue}
+use Rattle.compile_code.specs.Compile.{ifFalse, wayOf, codeWay, codeS, codeItems, codeArms, codeTarget, codeE, codeEs, bodyNumber, fieldNumber, classesOf, opsArms, tyE}
+use Rattle.compile_code.specs.Compile.{tyTarget, classNumber, opTarget}
 use Rattle.compile_code.specs.Compile.{cellOf as keptOf}
 use Rattle.compile_simulation.specs.Meets.{Conf, run, stepped, Setting, Meets, ends, here, lost, asks, onward, binds}
-use Rattle.compile_simulation.specs.View.{Data, written, ofOwner, seen, seenV, seenC, blocksOf, rootsOf, cellAt, found-at, cellFor, reads, writes, classOf, seenR, Apart, apart-blocks, apart-roots, below-apart, put-same}
+use Rattle.compile_simulation.specs.View.{Data, written, ofOwner, seen, seenV, seenC, blocksOf, rootsOf, cellAt, found-at, cellFor, reads, writes, classOf, seenR}
+use Rattle.compile_simulation.specs.View.{Apart, apart-blocks, apart-roots, below-apart, put-same}
 use Rattle.compile_simulation.specs.Projections.{is-integer, not-logical, unlike, seen-integer, seen-logical}
 use Rattle.compile_simulation.specs.Ops.{says, hereOf, op-at, op-tick, pushes, loads, stores, forks, conds, goes-on, jumps}
 use Rattle.compile_simulation.specs.Operate.{Agrees, seen-1, seen-2, seen-decides}
 use Rattle.compile_simulation.specs.Sizes.{more-cells, lenArms}
 use Rattle.compile_simulation.specs.Cases.{Index, starts, hits, misses, nexts, tests}
-use Rattle.compile_simulation.specs.Placed.{Work, Holds, Fit, fit-on, fit-inside, fit-labels, Stands, at-work, placeOf, Sees, Within, Nothing, One, Arrives, lands, nowhere, bindE, alsoE, bindS, alsoS, given-one, arrived}
+use Rattle.compile_simulation.specs.Placed.{Work, Holds, Fit, fit-on, fit-inside, fit-labels, Stands, at-work, placeOf, Sees, Within, Nothing, One, Arrives, lands}
+use Rattle.compile_simulation.specs.Placed.{nowhere, bindE, alsoE, bindS, alsoS, given-one, arrived}
 use Rattle.compile_simulation.specs.Typing.{typed, is-log, not-log}
 use Rattle.bytecode.specs.Macro.{Body, shapeIn}
 use Rattle.compile_code.specs.Encode.{codeBody, parameterCells}
@@ -90,7 +98,9 @@ module _ (gs : List Global) where
     okE (variable a) Γ = (o : Owner) × (c : ℕ) × (keptOf a Γ ≡ some (kept o c))
     okE (invoke a es) Γ = (q : Procedure) × (procedureIn a gs ≡ some q) × IsFunction (q .body) × (countExprs es ≡ length (q .parameters)) × okEs es Γ
     okE (field a e) Γ = okE e Γ × okField gs a (fieldNumber gs a .class) (fieldNumber gs a .index)
-    okE (make c es) Γ = okEs es Γ × ((xs : List Typed) × (classIn c gs ≡ some xs) × (countExprs es ≡ length xs) × (classOf (classesOf gs) (classNumber gs c) .name ≡ c) × (classOf (classesOf gs) (classNumber gs c) .fields ≡ xs))
+    okE (make c es) Γ =
+        okEs es Γ × ((xs : List Typed) × (classIn c gs ≡ some xs) × (countExprs es ≡ length xs)
+        × (classOf (classesOf gs) (classNumber gs c) .name ≡ c) × (classOf (classesOf gs) (classNumber gs c) .fields ≡ xs))
     okE (operate1 o e) Γ = okE e Γ
     okE (operate2 o e f) Γ = okE e Γ × okE f Γ
     okE (conditional e f g) Γ = okE e Γ × okE f Γ × okE g Γ
@@ -116,7 +126,8 @@ module _ (W : Setting) (gs : List Global) where
 
   -- an operator's outcome, in the machine and in the tree
   settles : {n : ℕ} {L : ℕ → Store → Conf → Type 0} (C : Work) (Γ : List Around) (a : ℕ) (vs st : List Value) (D : Data) (x y : Outcome Value) → Agrees gs x y → Holds C D
-      → Meets W n L (Arrives W gs C (One W gs C) (Sees W gs C Γ) (heldIn Γ) (suc a) st) (stepped (settled x st (hereOf W gs (C .body) (C .below) a vs (heldIn Γ) D)) (D .trace) (D .taken)) (treeSettled y (placeOf W gs C Γ) (seen gs Γ D))
+      → Meets W n L (Arrives W gs C (One W gs C) (Sees W gs C Γ) (heldIn Γ) (suc a) st)
+      (stepped (settled x st (hereOf W gs (C .body) (C .below) a vs (heldIn Γ) D)) (D .trace) (D .taken)) (treeSettled y (placeOf W gs C Γ) (seen gs Γ D))
   unfolding treeSettled
   settles C Γ a vs st D (gives v) y e k = rw e (goes-on W gs (C .body) (C .below) [] (v ∷ st) a vs (heldIn Γ) D (given-one W gs C Γ v D k))
   settles C Γ a vs st D (endsBy c) y e k = rw e (conds W gs (C .body) (C .below) c Γ a vs D)
@@ -130,8 +141,10 @@ module _ (W : Setting) (gs : List Global) where
     pub scope : Scope
     pub names : List Definition
     pub is-procedure : scope ≡ inProcedure names
-    pub stand : Stands W (bodyNumber gs a) (codeBody gs (q .body) (inside-proc (q .parameters) scope (W .shared-names)) (at (head .first) (length (q .parameters)))) (at (head .first) (length (q .parameters)))
-    pub ret : fetch (W .macro) (bodyNumber gs a) (after (codeBody gs (q .body) (inside-proc (q .parameters) scope (W .shared-names)) (at (head .first) (length (q .parameters)))) (at (head .first) (length (q .parameters))) .address) ≡ some return
+    pub stand : Stands W (bodyNumber gs a) (codeBody gs (q .body) (inside-proc (q .parameters) scope (W .shared-names))
+        (at (head .first) (length (q .parameters)))) (at (head .first) (length (q .parameters)))
+    pub ret : fetch (W .macro) (bodyNumber gs a) (after (codeBody gs (q .body) (inside-proc (q .parameters) scope (W .shared-names))
+        (at (head .first) (length (q .parameters)))) (at (head .first) (length (q .parameters))) .address) ≡ some return
     pub static : Static gs (W .shared-names) (q .parameters) scope
     pub good : okBody gs (q .body) (inside-proc (q .parameters) scope (W .shared-names))
 
@@ -143,16 +156,24 @@ module _ (W : Setting) (gs : List Global) where
 
   -- what is known of the parts that run at one fuel less
   pub record Below (n : ℕ) (r : Less) : Type 1 where
-    pub b-again : (C : Work) (e : Expr) (s : Stmt) (Γ : List Around) (ts : List Ty) (p : At) (st : List Value) (D : Data) → okS gs (while e s) Γ → Fit W gs C Γ (p .cell) → Stands W (C .body) (codeS gs (while e s) Γ ts p) p → Holds C D
-        → Meets W n (lands W gs C Γ st) (Arrives W gs C (Nothing W gs C) (Sees W gs C Γ) (heldIn Γ) (after (codeS gs (while e s) Γ ts p) p .address) st) (at-work W gs C (p .address) st (heldIn Γ) D) (r .again e s (placeOf W gs C Γ) (seen gs Γ D))
-    pub b-resume : (C : Work) (is : Items) (Γ : List Around) (ts : List Ty) (st : List Value) (x n' : ℕ) (e : At) → ((a : ℕ) → Found W gs C (hasLabel a is) (from a is) (labels is x ∷ Γ) ts (labelAt is (scopesOf Γ) (theLabels is ∷ passing Γ) x a) n' e (λ js. okItems gs js (labels is x ∷ Γ)))
+    pub b-again : (C : Work) (e : Expr) (s : Stmt) (Γ : List Around) (ts : List Ty) (p : At) (st : List Value) (D : Data) → okS gs (while e s) Γ
+        → Fit W gs C Γ (p .cell) → Stands W (C .body) (codeS gs (while e s) Γ ts p) p → Holds C D
+        → Meets W n (lands W gs C Γ st) (Arrives W gs C (Nothing W gs C) (Sees W gs C Γ) (heldIn Γ)
+        (after (codeS gs (while e s) Γ ts p) p .address) st) (at-work W gs C (p .address) st (heldIn Γ) D) (r .again e s (placeOf W gs C Γ) (seen gs Γ D))
+    pub b-resume : (C : Work) (is : Items) (Γ : List Around) (ts : List Ty) (st : List Value) (x n' : ℕ) (e : At)
+        → ((a : ℕ) → Found W gs C (hasLabel a is) (from a is) (labels is x ∷ Γ) ts (labelAt is (scopesOf Γ) (theLabels is ∷ passing Γ) x a) n' e
+        (λ js. okItems gs js (labels is x ∷ Γ)))
         → Fit W gs C Γ n' → Resumes W gs C n r is Γ ts st x e (λ js. okItems gs js (labels is x ∷ Γ))
     pub b-callS : (a : ℕ) (q : Procedure) (c : Called a q) (C : Work) (D : Data) → IsProper (q .body) → C .body ≡ bodyNumber gs a → Fit W gs C (around a q c) (length (q .parameters)) → Holds C D
-        → Meets W n (nowhere W gs C) (Arrives W gs C (Nothing W gs C) (Sees W gs C (around a q c)) (heldIn (around a q c)) (endOf a q c) []) (at-work W gs C (c .head .first) [] (heldIn (around a q c)) D) (r .callS (q .body) (placeOf W gs C (around a q c)) (seen gs (around a q c) D))
+        → Meets W n (nowhere W gs C) (Arrives W gs C (Nothing W gs C) (Sees W gs C (around a q c)) (heldIn (around a q c)) (endOf a q c) [])
+        (at-work W gs C (c .head .first) [] (heldIn (around a q c)) D) (r .callS (q .body) (placeOf W gs C (around a q c)) (seen gs (around a q c) D))
     pub b-callE : (a : ℕ) (q : Procedure) (c : Called a q) (C : Work) (D : Data) → IsFunction (q .body) → C .body ≡ bodyNumber gs a → Fit W gs C (around a q c) (length (q .parameters)) → Holds C D
-        → Meets W n (nowhere W gs C) (Arrives W gs C (One W gs C) (Sees W gs C (around a q c)) (heldIn (around a q c)) (endOf a q c) []) (at-work W gs C (c .head .first) [] (heldIn (around a q c)) D) (r .callE (q .body) (placeOf W gs C (around a q c)) (seen gs (around a q c) D))
+        → Meets W n (nowhere W gs C) (Arrives W gs C (One W gs C) (Sees W gs C (around a q c)) (heldIn (around a q c)) (endOf a q c) [])
+        (at-work W gs C (c .head .first) [] (heldIn (around a q c)) D) (r .callE (q .body) (placeOf W gs C (around a q c)) (seen gs (around a q c) D))
 
-  module _ (table : (a : ℕ) (q : Procedure) → procedureIn a gs ≡ some q → Called a q) (classes : (c : ℕ) (xs : List Typed) → classIn c gs ≡ some xs → (ts : List Ty) × (getElem? (W .macro .classes) (classNumber gs c) ≡ some ts) × (length ts ≡ length xs)) (n : ℕ) (r : Less) (below : Below n r) where
+  module _ (table : (a : ℕ) (q : Procedure) → procedureIn a gs ≡ some q → Called a q)
+      (classes : (c : ℕ) (xs : List Typed) → classIn c gs ≡ some xs → (ts : List Ty) × (getElem? (W .macro .classes) (classNumber gs c) ≡ some ts)
+      × (length ts ≡ length xs)) (n : ℕ) (r : Less) (below : Below n r) where
     -- the statement of the simulation, for a statement and for an expression
     abbrev Goes : Work → List Around → List Value → ℕ → ℕ → (Place → Store → Result (Unit {0})) → Type 0
     Goes C Γ st a b f = (D : Data) → Holds C D
@@ -177,14 +198,17 @@ module _ (W : Setting) (gs : List Global) where
         (below .b-resume C is Γ ts st (p .address) (p .cell) e f w) (g D k)
 
     -- inside a block, and about to leave it
-    inward : {A : Type 0} {G : A → List Value → Type 0} {L : ℕ → Store → Conf → Type 0} (C : Work) (Γ Δ : List Around) (K : List ℕ) (b : ℕ) (st : List Value) (x : Conf) (z : Result A) → Opens gs Γ Δ → SameRoots gs Γ Δ
+    inward : {A : Type 0} {G : A → List Value → Type 0} {L : ℕ → Store → Conf → Type 0} (C : Work) (Γ Δ : List Around) (K : List ℕ) (b : ℕ)
+        (st : List Value) (x : Conf) (z : Result A) → Opens gs Γ Δ → SameRoots gs Γ Δ
         → Meets W (suc n) L (Arrives W gs C G (Sees W gs C Δ) K b st) x z → Meets W (suc n) L (Arrives W gs C G (Within W gs C Γ) K b st) x z
     inward C Γ Δ K b st x z o q h = onward z (λ l σ y. y) h (λ v σ y a.
         ends (here (record { top = a .top; now = a .now; there = a .there; sees = inner-seen W gs C Γ Δ (a .now) σ o q (a .sees); gave = a .gave; holding = a .holding })))
 
-    branches : {A : Type 0} {L : ℕ → Store → Conf → Type 0} {F : A → Store → Conf → Type 0} (C : Work) (t : ℕ) (w : Value) (a : ℕ) (st : List Value) (K : List ℕ) (D : Data) (f g : Store → Result A) (σ : Store)
+    branches : {A : Type 0} {L : ℕ → Store → Conf → Type 0} {F : A → Store → Conf → Type 0} (C : Work) (t : ℕ) (w : Value) (a : ℕ) (st : List Value)
+        (K : List ℕ) (D : Data) (f g : Store → Result A) (σ : Store)
         → fetch (W .macro) (C .body) a ≡ some (goUnless t)
-        → Meets W (suc n) L F (at-work W gs C (suc a) st K D) (f σ) → Meets W (suc n) L F (at-work W gs C t st K D) (g σ) → Meets W (suc n) L F (at-work W gs C a (w ∷ st) K D) (branch (seenV gs w) f g σ)
+        → Meets W (suc n) L F (at-work W gs C (suc a) st K D) (f σ) → Meets W (suc n) L F (at-work W gs C t st K D) (g σ)
+        → Meets W (suc n) L F (at-work W gs C a (w ∷ st) K D) (branch (seenV gs w) f g σ)
     unfolding branch act doGoUnless
     branches {A} {L} {F} C t w a st K D f g σ p x y = op-at W gs (C .body) (C .below) (goUnless t) a (w ∷ st) K D p
         (rw (seen-logical gs w) (asks (D .trace) (D .taken) (asLogical w) badType _ _ (λ b e. pick b)))
@@ -194,13 +218,16 @@ module _ (W : Setting) (gs : List Global) where
         pick false = y
 
     fades : {L : ℕ → Store → Conf → Type 0} (C : Work) (Γ : List Around) (w : Value) (a : ℕ) (st : List Value) (D : Data) → fetch (W .macro) (C .body) a ≡ some readFader → Holds C D
-        → Meets W (suc n) L (Arrives W gs C (One W gs C) (Sees W gs C Γ) (heldIn Γ) (suc a) st) (at-work W gs C a (w ∷ st) (heldIn Γ) D) (doFader (W .oracle) (seenV gs w) (placeOf W gs C Γ) (seen gs Γ D))
+        → Meets W (suc n) L (Arrives W gs C (One W gs C) (Sees W gs C Γ) (heldIn Γ) (suc a) st) (at-work W gs C a (w ∷ st) (heldIn Γ) D)
+        (doFader (W .oracle) (seenV gs w) (placeOf W gs C Γ) (seen gs Γ D))
     unfolding act machineFader doFader
     fades {L = L} C Γ w a st D p k = op-at W gs (C .body) (C .below) readFader a (w ∷ st) (heldIn Γ) D p
         (rw (seen-integer gs w) (asks (D .trace) (D .taken) (asInteger w) badType _ _ (λ z e. pick z (between 1 64 z))))
       where
         pick : (z : ℤ) (b : Bool) → Meets W (suc n) L (Arrives W gs C (One W gs C) (Sees W gs C Γ) (heldIn Γ) (suc a) st)
-            (stepped (if b then goesOn (reading (size z) (W .oracle (D .taken) (size z)) ∷ []) (int (pos (W .oracle (D .taken) (size z))) ∷ st) (hereOf W gs (C .body) (C .below) a (w ∷ st) (heldIn Γ) D) else condition outOfRange (hereOf W gs (C .body) (C .below) a (w ∷ st) (heldIn Γ) D)) (D .trace) (D .taken))
+            (stepped (if b then goesOn (reading (size z) (W .oracle (D .taken) (size z)) ∷ []) (int (pos (W .oracle (D .taken) (size z))) ∷ st)
+            (hereOf W gs (C .body) (C .below) a (w ∷ st) (heldIn Γ) D) else condition outOfRange
+            (hereOf W gs (C .body) (C .below) a (w ∷ st) (heldIn Γ) D)) (D .trace) (D .taken))
             (if b then done (int (pos (W .oracle (D .taken) (size z)))) (read (size z) (W .oracle (D .taken) (size z)) (seen gs Γ D)) else treeCondition outOfRange (placeOf W gs C Γ) (seen gs Γ D))
         pick z true = goes-on W gs (C .body) (C .below) (reading (size z) (W .oracle (D .taken) (size z)) ∷ []) (int (pos (W .oracle (D .taken) (size z))) ∷ st) a (w ∷ st) (heldIn Γ) D
             (given-one W gs C Γ (int (pos (W .oracle (D .taken) (size z)))) (says (reading (size z) (W .oracle (D .taken) (size z)) ∷ []) D) k)
@@ -214,22 +241,28 @@ module _ (W : Setting) (gs : List Global) where
         (rw (seen-logical gs w) (asks (D .trace) (D .taken) (asLogical w) badType _ _ (λ b e. pick b)))
       where
         pick : (b : Bool) → Meets W (suc n) L (Arrives W gs C (Nothing W gs C) (Sees W gs C Γ) (heldIn Γ) (suc a) st)
-            (stepped (if b then goesOn [] st (hereOf W gs (C .body) (C .below) a (w ∷ st) (heldIn Γ) D) else condition assertFalse (hereOf W gs (C .body) (C .below) a (w ∷ st) (heldIn Γ) D)) (D .trace) (D .taken))
+            (stepped (if b then goesOn [] st (hereOf W gs (C .body) (C .below) a (w ∷ st) (heldIn Γ) D) else condition assertFalse
+            (hereOf W gs (C .body) (C .below) a (w ∷ st) (heldIn Γ) D)) (D .trace) (D .taken))
             (if b then done tt (seen gs Γ D) else treeCondition assertFalse (placeOf W gs C Γ) (seen gs Γ D))
         pick true = goes-on W gs (C .body) (C .below) [] st a (w ∷ st) (heldIn Γ) D (arrived W gs C Γ tt D k)
         pick false = conds W gs (C .body) (C .below) assertFalse Γ a (w ∷ st) D
 
     sets : {L : ℕ → Store → Conf → Type 0} (C : Work) (Γ : List Around) (v w : Value) (a : ℕ) (st : List Value) (D : Data) → fetch (W .macro) (C .body) a ≡ some setOp → Holds C D
-        → Meets W (suc n) L (Arrives W gs C (Nothing W gs C) (Sees W gs C Γ) (heldIn Γ) (suc a) st) (at-work W gs C a (w ∷ (v ∷ st)) (heldIn Γ) D) (doSet (seenV gs v) (seenV gs w) (placeOf W gs C Γ) (seen gs Γ D))
+        → Meets W (suc n) L (Arrives W gs C (Nothing W gs C) (Sees W gs C Γ) (heldIn Γ) (suc a) st) (at-work W gs C a (w ∷ (v ∷ st)) (heldIn Γ) D)
+        (doSet (seenV gs v) (seenV gs w) (placeOf W gs C Γ) (seen gs Γ D))
     unfolding act machineSet doSet
     sets {L = L} C Γ v w a st D p k = op-at W gs (C .body) (C .below) setOp a (w ∷ (v ∷ st)) (heldIn Γ) D p
         (rw (seen-integer gs v, seen-integer gs w) (asks (D .trace) (D .taken) (asInteger v) badType _ _ (λ x e.
         asks (D .trace) (D .taken) (asInteger w) badType _ _ (λ y e'. pick x y (between 1 512 x && between 0 255 y)))))
       where
         pick : (x y : ℤ) (b : Bool) → Meets W (suc n) L (Arrives W gs C (Nothing W gs C) (Sees W gs C Γ) (heldIn Γ) (suc a) st)
-            (stepped (if b then goesOn (event (setEvent (size x) (size y)) ∷ []) st (hereOf W gs (C .body) (C .below) a (w ∷ (v ∷ st)) (heldIn Γ) D) else condition outOfRange (hereOf W gs (C .body) (C .below) a (w ∷ (v ∷ st)) (heldIn Γ) D)) (D .trace) (D .taken))
+            (stepped (if b then goesOn (event (setEvent (size x) (size y)) ∷ []) st
+            (hereOf W gs (C .body) (C .below) a (w ∷ (v ∷ st)) (heldIn Γ) D) else condition outOfRange
+            (hereOf W gs (C .body) (C .below) a (w ∷ (v ∷ st)) (heldIn Γ) D)) (D .trace) (D .taken))
             (if b then done tt (say (setEvent (size x) (size y)) (seen gs Γ D)) else treeCondition outOfRange (placeOf W gs C Γ) (seen gs Γ D))
-        pick x y true = goes-on W gs (C .body) (C .below) (event (setEvent (size x) (size y)) ∷ []) st a (w ∷ (v ∷ st)) (heldIn Γ) D (arrived W gs C Γ tt (says (event (setEvent (size x) (size y)) ∷ []) D) k)
+        pick x y true =
+            goes-on W gs (C .body) (C .below) (event (setEvent (size x) (size y)) ∷ []) st a (w ∷ (v ∷ st)) (heldIn Γ) D
+            (arrived W gs C Γ tt (says (event (setEvent (size x) (size y)) ∷ []) D) k)
         pick x y false = conds W gs (C .body) (C .below) outOfRange Γ a (w ∷ (v ∷ st)) D
 
     -- the second operand, by its way
@@ -269,18 +302,21 @@ module _ (W : Setting) (gs : List Global) where
         (if decides o (seenV gs v) then done (seenV gs v) (seen gs Γ D) else next (eval world r f (placeOf W gs C Γ) (seen gs Γ D)) (λ w ρ. treeSettled (apply2 o (seenV gs v) w) (placeOf W gs C Γ) ρ))
     unfolding act doOperate
     secondOf C Γ o f v D a b st p g k e = rw (seen-decides gs o v, e) (bindE W gs C Γ (λ w ρ. treeSettled (apply2 o (seenV gs v) w) (placeOf W gs C Γ) ρ) (g D k) (λ w D' k'.
-        op-at W gs (C .body) (C .below) (operate (binary o)) b (w ∷ (v ∷ st)) (heldIn Γ) D' p (settles C Γ b (w ∷ (v ∷ st)) st D' (apply2 o v w) (apply2 o (seenV gs v) (seenV gs w)) (seen-2 gs o v w) k')))
+        op-at W gs (C .body) (C .below) (operate (binary o)) b (w ∷ (v ∷ st)) (heldIn Γ) D' p
+        (settles C Γ b (w ∷ (v ∷ st)) st D' (apply2 o v w) (apply2 o (seenV gs v) (seenV gs w)) (seen-2 gs o v w) k')))
 
     -- both operands, whatever the way
     abbrev Two : Work → List Around → Binary → Expr → Expr → List Value → ℕ → ℕ → Type 0
     Two C Γ u e f st a b = (D : Data) → Holds C D
         → Meets W (suc n) (nowhere W gs C) (Arrives W gs C (One W gs C) (Sees W gs C Γ) (heldIn Γ) b st) (at-work W gs C a st (heldIn Γ) D)
-        (next (eval world r e (placeOf W gs C Γ) (seen gs Γ D)) (λ v τ. if decides u v then done v τ else next (eval world r f (placeOf W gs C Γ) τ) (λ w ρ. treeSettled (apply2 u v w) (placeOf W gs C Γ) ρ)))
+        (next (eval world r e (placeOf W gs C Γ) (seen gs Γ D)) (λ v τ.
+        if decides u v then done v τ else next (eval world r f (placeOf W gs C Γ) τ) (λ w ρ. treeSettled (apply2 u v w) (placeOf W gs C Γ) ρ)))
 
     -- at the end of a logical `and` or `or` the shape says that the second operand is logical, and it is the result
     joins : (C : Work) (Γ : List Around) (ts : List Ty) (u : Binary) (v w : Value) (a : ℕ) (st : List Value) (D : Data) → shapeIn (W .macro .shapes) a ≡ some (found Γ (logical ∷ ts)) → Holds C D
         → ((b : Bool) → apply2 u v (log b) ≡ gives (log b))
-        → Meets W (suc n) (nowhere W gs C) (Arrives W gs C (One W gs C) (Sees W gs C Γ) (heldIn Γ) a st) (at-work W gs C a (w ∷ st) (heldIn Γ) D) (treeSettled (apply2 u v (seenV gs w)) (placeOf W gs C Γ) (seen gs Γ D))
+        → Meets W (suc n) (nowhere W gs C) (Arrives W gs C (One W gs C) (Sees W gs C Γ) (heldIn Γ) a st) (at-work W gs C a (w ∷ st) (heldIn Γ) D)
+        (treeSettled (apply2 u v (seenV gs w)) (placeOf W gs C Γ) (seen gs Γ D))
     unfolding treeSettled
     joins C Γ ts u v w a st D e k f = typed W gs (C .body) (C .below) Γ w st a logical ts (heldIn Γ) D e (λ q.
         let z = is-log w q in
@@ -294,15 +330,18 @@ module _ (W : Setting) (gs : List Global) where
         → Two C Γ u e f st (p .address) (after (codeWay way u Γ ts (tyE gs Γ e) x p F) p .address)
     unfolding Stands after decides deciding apply2 act
     ways plainly u C Γ ts x p F e f st q h g i D k =
-        bindE W gs C Γ _ (g (h .0) D k) (λ v D' k'. secondOf C Γ u f v D' (after x p .address) (after (F (tyE gs Γ e ∷ ts) (after x p)) (after x p) .address) st (h .1 .1) (i (tyE gs Γ e ∷ ts) (after x p) (v ∷ st) (more-cells x p) (h .1 .0)) k' (q v))
+        bindE W gs C Γ _ (g (h .0) D k) (λ v D' k'. secondOf C Γ u f v D' (after x p .address)
+        (after (F (tyE gs Γ e ∷ ts) (after x p)) (after x p) .address) st (h .1 .1) (i (tyE gs Γ e ∷ ts) (after x p) (v ∷ st) (more-cells x p) (h .1 .0)) k' (q v))
     ways marked u C Γ ts x p F e f st q h g i D k =
         bindE W gs C Γ _ (g (h .0) D k) (λ v D' k'. typed W gs (C .body) (C .below) Γ v st (after x p .address) (tyE gs Γ e) ts (heldIn Γ) D' (h .1 .0) (λ m.
-        secondOf C Γ u f v D' (after x p .address) (after (F (tyE gs Γ e ∷ ts) (after x p)) (after x p) .address) st (h .1 .1 .1) (i (tyE gs Γ e ∷ ts) (after x p) (v ∷ st) (more-cells x p) (h .1 .1 .0)) k'
+        secondOf C Γ u f v D' (after x p .address) (after (F (tyE gs Γ e ∷ ts) (after x p)) (after x p) .address) st (h .1 .1 .1)
+        (i (tyE gs Γ e ∷ ts) (after x p) (v ∷ st) (more-cells x p) (h .1 .1 .0)) k'
         (q .1 v (not-log gs (typeE (scopesOf Γ) e) v (q .0) m))))
     ways ifTrue u C Γ ts x p F e f st q h g i D k =
         let m = skip 1 (after x p) in let y = F ts m in let d = suc (after y m .address) in
         subst (λ z. Meets W (suc n) (nowhere W gs C) (Arrives W gs C (One W gs C) (Sees W gs C Γ) (heldIn Γ) (suc d) st) (at-work W gs C (p .address) st (heldIn Γ) D)
-        (next (eval world r e (placeOf W gs C Γ) (seen gs Γ D)) (λ v τ. if decides z v then done v τ else next (eval world r f (placeOf W gs C Γ) τ) (λ w ρ. treeSettled (apply2 z v w) (placeOf W gs C Γ) ρ)))) (sym q)
+        (next (eval world r e (placeOf W gs C Γ) (seen gs Γ D)) (λ v τ.
+        if decides z v then done v τ else next (eval world r f (placeOf W gs C Γ) τ) (λ w ρ. treeSettled (apply2 z v w) (placeOf W gs C Γ) ρ)))) (sym q)
         (bindE W gs C Γ _ (g (h .0) D k) (λ v D' k'. forks W gs (C .body) (C .below) d v (after x p .address) st (heldIn Γ) D' (h .1 .0)
         (λ t. rw t (bindE W gs C Γ _ (i ts m st (more-cells x p) (h .1 .1 .0) D' k') (λ w D'' k''. jumps W gs (C .body) (C .below) (suc d) (after y m .address) (w ∷ st) (heldIn Γ) D'' (h .1 .1 .1 .0)
         (joins C Γ ts both (log true) w (suc d) st D'' (h .1 .1 .1 .1 .1 .1) k'' (λ b. refl)))))
@@ -310,7 +349,8 @@ module _ (W : Setting) (gs : List Global) where
     ways ifFalse u C Γ ts x p F e f st q h g i D k =
         let m = skip 3 (after x p) in let y = F ts m in
         subst (λ z. Meets W (suc n) (nowhere W gs C) (Arrives W gs C (One W gs C) (Sees W gs C Γ) (heldIn Γ) (after y m .address) st) (at-work W gs C (p .address) st (heldIn Γ) D)
-        (next (eval world r e (placeOf W gs C Γ) (seen gs Γ D)) (λ v τ. if decides z v then done v τ else next (eval world r f (placeOf W gs C Γ) τ) (λ w ρ. treeSettled (apply2 z v w) (placeOf W gs C Γ) ρ)))) (sym q)
+        (next (eval world r e (placeOf W gs C Γ) (seen gs Γ D)) (λ v τ.
+        if decides z v then done v τ else next (eval world r f (placeOf W gs C Γ) τ) (λ w ρ. treeSettled (apply2 z v w) (placeOf W gs C Γ) ρ)))) (sym q)
         (bindE W gs C Γ _ (g (h .0) D k) (λ v D' k'. forks W gs (C .body) (C .below) (m .address) v (after x p .address) st (heldIn Γ) D' (h .1 .0)
         (λ t. rw t (pushes W gs (C .body) (C .below) (log true) (suc (after x p .address)) st (heldIn Γ) D' (h .1 .1 .0)
         (jumps W gs (C .body) (C .below) (after y m .address) (suc (suc (after x p .address))) (log true ∷ st) (heldIn Γ) D' (h .1 .1 .1 .0) (given-one W gs C Γ (log true) D' k'))))
@@ -325,14 +365,17 @@ module _ (W : Setting) (gs : List Global) where
 
     -- every alternative begins with a test of the index
     begins : (rs : Arms) (k c i z : ℕ) (Γ : List Around) (ts : List Ty) (p : At) → Stands W k (codeArms gs rs c i z Γ ts p) p
-        → (fetch (W .macro) k (p .address) ≡ some (load own c)) × (fetch (W .macro) k (suc (p .address)) ≡ some (push (int (pos i)))) × (fetch (W .macro) k (suc (suc (p .address))) ≡ some (operate (binary equal)))
+        → (fetch (W .macro) k (p .address) ≡ some (load own c)) × (fetch (W .macro) k (suc (p .address)) ≡ some (push (int (pos i))))
+        × (fetch (W .macro) k (suc (suc (p .address))) ≡ some (operate (binary equal)))
     unfolding codeS Stands after
     begins (lastArm s) k c i z Γ ts p h = (h .0, h .1 .0, h .1 .1 .0)
     begins (arm s rs) k c i z Γ ts p h = (h .0, h .1 .0, h .1 .1 .0)
 
     -- an index that is no integer leaves the machine nothing to do
-    cased : {L : ℕ → Store → Conf → Type 0} {F : Unit {0} → Store → Conf → Type 0} (C : Work) (Γ : List Around) (v : Value) (f : ℤ → Result (Unit {0})) (c i a : ℕ) (st : List Value) (D : Data) → cellAt (D .cells) c ≡ assigned v
-        → (fetch (W .macro) (C .body) a ≡ some (load own c)) × (fetch (W .macro) (C .body) (suc a) ≡ some (push (int (pos i)))) × (fetch (W .macro) (C .body) (suc (suc a)) ≡ some (operate (binary equal)))
+    cased : {L : ℕ → Store → Conf → Type 0} {F : Unit {0} → Store → Conf → Type 0} (C : Work) (Γ : List Around) (v : Value)
+        (f : ℤ → Result (Unit {0})) (c i a : ℕ) (st : List Value) (D : Data) → cellAt (D .cells) c ≡ assigned v
+        → (fetch (W .macro) (C .body) a ≡ some (load own c)) × (fetch (W .macro) (C .body) (suc a) ≡ some (push (int (pos i))))
+        × (fetch (W .macro) (C .body) (suc (suc a)) ≡ some (operate (binary equal)))
         → ((z : ℤ) → v ≡ int z → Meets W (suc n) L F (at-work W gs C a st (heldIn Γ) D) (f z)) → Meets W (suc n) L F (at-work W gs C a st (heldIn Γ) D) (asked (asInteger (seenV gs v)) f)
     unfolding act doOperate apply2
     cased {L} {F} C Γ v f c i a st D g p h = rw (seen-integer gs v) (pick (asInteger v) refl)
@@ -343,7 +386,8 @@ module _ (W : Setting) (gs : List Global) where
             rw same-value (pushes W gs (C .body) (C .below) (int (pos i)) (suc a) (v ∷ st) (heldIn Γ) D (p .1)
             (op-at W gs (C .body) (C .below) (operate (binary equal)) (suc (suc a)) (int (pos i) ∷ (v ∷ st)) (heldIn Γ) D (p .2) (rw (unlike (λ b. b) v (pos i) e) lost))))
 
-    stops : {L : ℕ → Store → Conf → Type 0} {F : Unit {0} → Store → Conf → Type 0} (C : Work) (Γ : List Around) (a : ℕ) (st : List Value) (D : Data) → fetch (W .macro) (C .body) a ≡ some (stop caseIndex)
+    stops : {L : ℕ → Store → Conf → Type 0} {F : Unit {0} → Store → Conf → Type 0} (C : Work) (Γ : List Around) (a : ℕ) (st : List Value) (D : Data)
+        → fetch (W .macro) (C .body) a ≡ some (stop caseIndex)
         → Meets W (suc n) L F (at-work W gs C a st (heldIn Γ) D) (treeCondition caseIndex (placeOf W gs C Γ) (seen gs Γ D))
     unfolding act
     stops C Γ a st D p = op-at W gs (C .body) (C .below) (stop caseIndex) a st (heldIn Γ) D p (conds W gs (C .body) (C .below) caseIndex Γ a st D)
@@ -369,11 +413,14 @@ module _ (W : Setting) (gs : List Global) where
     Many c vs top = (map (seenV gs) (onto top []) ≡ vs) × (length top ≡ c)
 
     -- a procedure's body starts with no holds of its own
-    called : {A : Type 0} (G : A → List Value → Type 0) (C : Work) (Γ : List Around) (a : ℕ) (q : Procedure) (c : Called a q) (m n' : ℕ) (top st : List Value) (D : Data) (f : TreeBody → Place → Store → Result A)
+    called : {A : Type 0} (G : A → List Value → Type 0) (C : Work) (Γ : List Around) (a : ℕ) (q : Procedure) (c : Called a q) (m n' : ℕ)
+        (top st : List Value) (D : Data) (f : TreeBody → Place → Store → Result A)
         → fetch (W .macro) (C .body) m ≡ some (callOp (bodyNumber gs a)) → length top ≡ length (q .parameters) → Fit W gs C Γ n' → Holds C D
         → ((C' : Work) (E : Data) → C' .body ≡ bodyNumber gs a → Fit W gs C' (around a q c) (length (q .parameters)) → Holds C' E
-        → Meets W n (nowhere W gs C') (Arrives W gs C' G (Sees W gs C' (around a q c)) (heldIn (around a q c)) (endOf a q c) []) (at-work W gs C' (c .head .first) [] (heldIn (around a q c)) E) (f (q .body) (placeOf W gs C' (around a q c)) (seen gs (around a q c) E)))
-        → Meets W (suc n) (nowhere W gs C) (Arrives W gs C G (Sees W gs C Γ) (heldIn Γ) (suc m) st) (at-work W gs C m (top ++ st) (heldIn Γ) D) (activate (some q) f (map (seenV gs) (onto top [])) (placeOf W gs C Γ) (seen gs Γ D))
+        → Meets W n (nowhere W gs C') (Arrives W gs C' G (Sees W gs C' (around a q c)) (heldIn (around a q c)) (endOf a q c) [])
+        (at-work W gs C' (c .head .first) [] (heldIn (around a q c)) E) (f (q .body) (placeOf W gs C' (around a q c)) (seen gs (around a q c) E)))
+        → Meets W (suc n) (nowhere W gs C) (Arrives W gs C G (Sees W gs C Γ) (heldIn Γ) (suc m) st) (at-work W gs C m (top ++ st) (heldIn Γ) D)
+        (activate (some q) f (map (seenV gs) (onto top [])) (placeOf W gs C Γ) (seen gs Γ D))
     unfolding allHolds heldIn
     called G C Γ a q c m n' top st D f p l w k sim =
         let C' = callee gs C (bodyNumber gs a) Γ m st D in
@@ -389,9 +436,12 @@ module _ (W : Setting) (gs : List Global) where
       simS : (s : Stmt) (C : Work) (Γ : List Around) (ts : List Ty) (p : At) (st : List Value) → okS gs s Γ → Fit W gs C Γ (p .cell) → Stands W (C .body) (codeS gs s Γ ts p) p
           → Goes C Γ st (p .address) (after (codeS gs s Γ ts p) p .address) (exec world r s)
       simS (block ds is) C Γ ts p st o w h D k =
-          left W gs C Γ (heldIn Γ) _ st _ _ (heads W gs C (Nothing W gs C) ds Γ (inside (blockOf ds is) ∷ Γ) p st (λ Δ. (x : ℕ) → okItems gs is (labels is x ∷ Δ)) (λ Δ q. codeItems gs is (labels is (q .address) ∷ Δ) ts q)
+          left W gs C Γ (heldIn Γ) _ st _ _ (heads W gs C (Nothing W gs C) ds Γ (inside (blockOf ds is) ∷ Γ) p st
+          (λ Δ. (x : ℕ) → okItems gs is (labels is x ∷ Δ)) (λ Δ q. codeItems gs is (labels is (q .address) ∷ Δ) ts q)
           (λ Y τ. catch r is Y (execItems world r is Y τ)) D
-          (λ Δ q D' o' w' b' c' h' k'. inward C Γ Δ (heldIn Δ) _ st _ _ b' c' (blockItems C is Δ ts st q o' w' h' (λ D₁ k₁. simItems is C (labels is (q .address) ∷ Δ) ts q st (o' (q .address)) (fit-labels is (q .address) w') h' D₁ k₁) D' k'))
+          (λ Δ q D' o' w' b' c' h' k'. inward C Γ Δ (heldIn Δ) _ st _ _ b' c'
+          (blockItems C is Δ ts st q o' w' h' (λ D₁ k₁. simItems is C (labels is (q .address) ∷ Δ) ts q st (o' (q .address))
+          (fit-labels is (q .address) w') h' D₁ k₁) D' k'))
           o (fit-inside (blockOf ds is) w) (λ cs. ([], refl)) (λ cs ls. refl) h k)
       simS (assign x e) C Γ ts p st o w h D k =
           let y = codeTarget gs x Γ ts p in
@@ -423,9 +473,13 @@ module _ (W : Setting) (gs : List Global) where
       simS (call a es) C Γ ts p st o w h D k =
           let q = o .0 in let c = table a q (o .1) in
           binds (evals world r es (placeOf W gs C Γ) (seen gs Γ D)) (λ l σ z. absurd (z .there)) (simEs es C Γ ts p st (o .4) w (h .0) D k) (λ vs σ y m.
-          rw (o .1) (subst (λ x. Meets W (suc n) (lands W gs C Γ st) (Arrives W gs C (Nothing W gs C) (Sees W gs C Γ) (heldIn Γ) (suc (after (codeEs gs es Γ ts p) p .address)) st) x (activate (some q) (r .callS) vs (placeOf W gs C Γ) σ)) (sym (m .there))
-          (subst₂ (λ us τ. Meets W (suc n) (lands W gs C Γ st) (Arrives W gs C (Nothing W gs C) (Sees W gs C Γ) (heldIn Γ) (suc (after (codeEs gs es Γ ts p) p .address)) st) (at-work W gs C (after (codeEs gs es Γ ts p) p .address) (m .top ++ st) (heldIn Γ) (m .now)) (activate (some q) (r .callS) us (placeOf W gs C Γ) τ)) (m .gave .0) (m .sees)
-          (onward _ (λ l σ z. absurd (z .there)) (called (Nothing W gs C) C Γ a q c (after (codeEs gs es Γ ts p) p .address) (p .cell) (m .top) st (m .now) (r .callS) (h .1) (m .gave .1 ∙ o .3) w (m .holding) (λ C' E b w' h'. below .b-callS a q c C' E (o .2) b w' h'))
+          rw (o .1) (subst (λ x. Meets W (suc n) (lands W gs C Γ st) (Arrives W gs C (Nothing W gs C) (Sees W gs C Γ) (heldIn Γ)
+          (suc (after (codeEs gs es Γ ts p) p .address)) st) x (activate (some q) (r .callS) vs (placeOf W gs C Γ) σ)) (sym (m .there))
+          (subst₂ (λ us τ. Meets W (suc n) (lands W gs C Γ st) (Arrives W gs C (Nothing W gs C) (Sees W gs C Γ) (heldIn Γ)
+          (suc (after (codeEs gs es Γ ts p) p .address)) st) (at-work W gs C (after (codeEs gs es Γ ts p) p .address) (m .top ++ st) (heldIn Γ)
+          (m .now)) (activate (some q) (r .callS) us (placeOf W gs C Γ) τ)) (m .gave .0) (m .sees)
+          (onward _ (λ l σ z. absurd (z .there)) (called (Nothing W gs C) C Γ a q c (after (codeEs gs es Γ ts p) p .address) (p .cell) (m .top) st
+          (m .now) (r .callS) (h .1) (m .gave .1 ∙ o .3) w (m .holding) (λ C' E b w' h'. below .b-callS a q c C' E (o .2) b w' h'))
           (λ v τ x z. ends (here z))))))
       simS (setLevel e f) C Γ ts p st o w h D k =
           let x = codeE gs e Γ ts p in let us = tyE gs Γ e ∷ ts in
@@ -438,10 +492,15 @@ module _ (W : Setting) (gs : List Global) where
           stores W gs (C .body) (C .below) own (p .cell) v (after x q .address) st (heldIn Γ) D' tt (h .1 .1 .0) (λ y g.
           let E = written own (p .cell) (assigned v) D' in
           rw (sym (hidden gs Γ (p .cell) (assigned v) D' (below-apart (p .cell) Γ (w .below-n))))
-          (subst (λ e''. Meets W (suc n) (lands W gs C Γ st) (Arrives W gs C (Nothing W gs C) (Sees W gs C Γ) (heldIn Γ) e'' st) (at-work W gs C (b .address) st (heldIn Γ) E) (asked (asInteger (seenV gs v)) (λ z. execArm world r rs (size z) (placeOf W gs C Γ) (seen gs Γ E))))
-          (sym (lenArms gs rs (p .cell) 1 (b .address + opsArms rs (scopesOf Γ) (passing Γ)) Γ ts b)) (cased C Γ v (λ z. execArm world r rs (size z) (placeOf W gs C Γ) (seen gs Γ E)) (p .cell) 1 (b .address) st E (put-same (D' .cells) (p .cell) (assigned v) y g) (begins rs (C .body) (p .cell) 1 (b .address + opsArms rs (scopesOf Γ) (passing Γ)) Γ ts b (h .1 .1 .1 .0)) (λ z e'.
+          (subst (λ e''. Meets W (suc n) (lands W gs C Γ st) (Arrives W gs C (Nothing W gs C) (Sees W gs C Γ) (heldIn Γ) e'' st)
+          (at-work W gs C (b .address) st (heldIn Γ) E) (asked (asInteger (seenV gs v)) (λ z. execArm world r rs (size z) (placeOf W gs C Γ) (seen gs Γ E))))
+          (sym (lenArms gs rs (p .cell) 1 (b .address + opsArms rs (scopesOf Γ) (passing Γ)) Γ ts b))
+          (cased C Γ v (λ z. execArm world r rs (size z) (placeOf W gs C Γ) (seen gs Γ E)) (p .cell) 1 (b .address) st E
+          (put-same (D' .cells) (p .cell) (assigned v) y g) (begins rs (C .body) (p .cell) 1
+          (b .address + opsArms rs (scopesOf Γ) (passing Γ)) Γ ts b (h .1 .1 .1 .0)) (λ z e'.
           simArms rs (p .cell) 1 (b .address + opsArms rs (scopesOf Γ) (passing Γ)) z C Γ ts b st (size z) (starts z) (o .1) (fit-on (cells-after x (p .address) (p .cell)) w) (h .1 .1 .1 .0)
-          (lenArms gs rs (p .cell) 1 (b .address + opsArms rs (scopesOf Γ) (passing Γ)) Γ ts b) E (put-same (D' .cells) (p .cell) (assigned v) y g ∙ ap assigned e') (w .fresh (p .cell) (assigned v) (D' .cells) (D' .lowest) (omega arith) k'))))))
+          (lenArms gs rs (p .cell) 1 (b .address + opsArms rs (scopesOf Γ) (passing Γ)) Γ ts b) E
+          (put-same (D' .cells) (p .cell) (assigned v) y g ∙ ap assigned e') (w .fresh (p .cell) (assigned v) (D' .cells) (D' .lowest) (omega arith) k'))))))
 
       pub simItems : (is : Items) (C : Work) (Γ : List Around) (ts : List Ty) (p : At) (st : List Value) → okItems gs is Γ → Fit W gs C Γ (p .cell) → Stands W (C .body) (codeItems gs is Γ ts p) p
           → Goes C Γ st (p .address) (after (codeItems gs is Γ ts p) p .address) (execItems world r is)
@@ -451,9 +510,11 @@ module _ (W : Setting) (gs : List Global) where
           bindS W gs C Γ _ (simS s C Γ ts p st (o .0) w (h .0) D k) (λ u D' k'. simItems is C Γ ts (after (codeS gs s Γ ts p) p) st (o .1) (fit-on (more-cells (codeS gs s Γ ts p) p) w) (h .1) D' k')
 
       -- the alternatives from the i-th on, with the index in cell c
-      simArms : (rs : Arms) (c i z' : ℕ) (z : ℤ) (C : Work) (Γ : List Around) (ts : List Ty) (p : At) (st : List Value) (k : ℕ) → Index z i k → okArms gs rs Γ → Fit W gs C Γ (p .cell) → Stands W (C .body) (codeArms gs rs c i z' Γ ts p) p
+      simArms : (rs : Arms) (c i z' : ℕ) (z : ℤ) (C : Work) (Γ : List Around) (ts : List Ty) (p : At) (st : List Value) (k : ℕ) → Index z i k
+          → okArms gs rs Γ → Fit W gs C Γ (p .cell) → Stands W (C .body) (codeArms gs rs c i z' Γ ts p) p
           → after (codeArms gs rs c i z' Γ ts p) p .address ≡ z' → (D : Data) → cellAt (D .cells) c ≡ assigned (int z) → Holds C D
-          → Meets W (suc n) (lands W gs C Γ st) (Arrives W gs C (Nothing W gs C) (Sees W gs C Γ) (heldIn Γ) z' st) (at-work W gs C (p .address) st (heldIn Γ) D) (execArm world r rs k (placeOf W gs C Γ) (seen gs Γ D))
+          → Meets W (suc n) (lands W gs C Γ st) (Arrives W gs C (Nothing W gs C) (Sees W gs C Γ) (heldIn Γ) z' st)
+          (at-work W gs C (p .address) st (heldIn Γ) D) (execArm world r rs k (placeOf W gs C Γ) (seen gs Γ D))
       simArms (lastArm s) c i z' z C Γ ts p st zero x o w h e D g k =
           let q = skip 4 p in let y = codeS gs s Γ ts q in
           tests W gs (C .body) (C .below) z i c (suc (after y q .address)) (p .address) st (heldIn Γ) D false (x i (omega arith)) g (h .0) (h .1 .0) (h .1 .1 .0) (h .1 .1 .1 .0) (λ u. never u)
@@ -461,7 +522,8 @@ module _ (W : Setting) (gs : List Global) where
       simArms (lastArm s) c i z' z C Γ ts p st (suc zero) x o w h e D g k =
           let q = skip 4 p in let y = codeS gs s Γ ts q in
           tests W gs (C .body) (C .below) z i c (suc (after y q .address)) (p .address) st (heldIn Γ) D true (hits z i x) g (h .0) (h .1 .0) (h .1 .1 .0) (h .1 .1 .1 .0)
-          (λ u. alsoS W gs C Γ (simS s C Γ ts q st o w (h .1 .1 .1 .1 .0) D k) (λ v D' k'. jumps W gs (C .body) (C .below) z' (after y q .address) st (heldIn Γ) D' (h .1 .1 .1 .1 .1 .0) (arrived W gs C Γ v D' k'))) (λ u. never (sym u))
+          (λ u. alsoS W gs C Γ (simS s C Γ ts q st o w (h .1 .1 .1 .1 .0) D k)
+          (λ v D' k'. jumps W gs (C .body) (C .below) z' (after y q .address) st (heldIn Γ) D' (h .1 .1 .1 .1 .1 .0) (arrived W gs C Γ v D' k'))) (λ u. never (sym u))
       simArms (lastArm s) c i z' z C Γ ts p st (suc (suc m)) x o w h e D g k =
           let q = skip 4 p in let y = codeS gs s Γ ts q in
           tests W gs (C .body) (C .below) z i c (suc (after y q .address)) (p .address) st (heldIn Γ) D false (misses z i m x) g (h .0) (h .1 .0) (h .1 .1 .0) (h .1 .1 .1 .0) (λ u. never u)
@@ -469,17 +531,20 @@ module _ (W : Setting) (gs : List Global) where
       simArms (arm s rs) c i z' z C Γ ts p st zero x o w h e D g k =
           let q = skip 4 p in let y = codeS gs s Γ ts q in let v = skip 1 (after y q) in
           tests W gs (C .body) (C .below) z i c (v .address) (p .address) st (heldIn Γ) D false (x i (omega arith)) g (h .0) (h .1 .0) (h .1 .1 .0) (h .1 .1 .1 .0) (λ u. never u)
-          (λ u. rw (sym (arms-none rs (placeOf W gs C Γ) (seen gs Γ D))) (simArms rs c (suc i) z' z C Γ ts v st zero (λ j l. x j (omega arith)) (o .1) (fit-on (more-cells y q) w) (h .1 .1 .1 .1 .1 .1 .1) e D g k))
+          (λ u. rw (sym (arms-none rs (placeOf W gs C Γ) (seen gs Γ D)))
+          (simArms rs c (suc i) z' z C Γ ts v st zero (λ j l. x j (omega arith)) (o .1) (fit-on (more-cells y q) w) (h .1 .1 .1 .1 .1 .1 .1) e D g k))
       simArms (arm s rs) c i z' z C Γ ts p st (suc zero) x o w h e D g k =
           let q = skip 4 p in let y = codeS gs s Γ ts q in let v = skip 1 (after y q) in
           tests W gs (C .body) (C .below) z i c (v .address) (p .address) st (heldIn Γ) D true (hits z i x) g (h .0) (h .1 .0) (h .1 .1 .0) (h .1 .1 .1 .0)
-          (λ u. alsoS W gs C Γ (simS s C Γ ts q st (o .0) w (h .1 .1 .1 .1 .0) D k) (λ v D' k'. jumps W gs (C .body) (C .below) z' (after y q .address) st (heldIn Γ) D' (h .1 .1 .1 .1 .1 .0) (arrived W gs C Γ v D' k'))) (λ u. never (sym u))
+          (λ u. alsoS W gs C Γ (simS s C Γ ts q st (o .0) w (h .1 .1 .1 .1 .0) D k)
+          (λ v D' k'. jumps W gs (C .body) (C .below) z' (after y q .address) st (heldIn Γ) D' (h .1 .1 .1 .1 .1 .0) (arrived W gs C Γ v D' k'))) (λ u. never (sym u))
       simArms (arm s rs) c i z' z C Γ ts p st (suc (suc m)) x o w h e D g k =
           let q = skip 4 p in let y = codeS gs s Γ ts q in let v = skip 1 (after y q) in
           tests W gs (C .body) (C .below) z i c (v .address) (p .address) st (heldIn Γ) D false (misses z i m x) g (h .0) (h .1 .0) (h .1 .1 .0) (h .1 .1 .1 .0) (λ u. never u)
           (λ u. simArms rs c (suc i) z' z C Γ ts v st (suc m) (nexts z i m x) (o .1) (fit-on (more-cells y q) w) (h .1 .1 .1 .1 .1 .1 .1) e D g k)
 
-      simTarget : (x : Target) (C : Work) (Γ : List Around) (ts : List Ty) (p : At) (m : ℕ) (st : List Value) (f : Expr) → okTarget gs x Γ → Fit W gs C Γ (p .cell) → Stands W (C .body) (codeTarget gs x Γ ts p) p
+      simTarget : (x : Target) (C : Work) (Γ : List Around) (ts : List Ty) (p : At) (m : ℕ) (st : List Value) (f : Expr) → okTarget gs x Γ
+          → Fit W gs C Γ (p .cell) → Stands W (C .body) (codeTarget gs x Γ ts p) p
           → fetch (W .macro) (C .body) m ≡ some (opTarget gs Γ x) → (D : Data) → Holds C D → ((st' : List Value) → Gives C Γ st' (after (codeTarget gs x Γ ts p) p .address) m (eval world r f))
           → Meets W (suc n) (lands W gs C Γ st) (Arrives W gs C (Nothing W gs C) (Sees W gs C Γ) (heldIn Γ) (suc m) st) (at-work W gs C (p .address) st (heldIn Γ) D)
           (next (locate world r x (placeOf W gs C Γ) (seen gs Γ D)) (λ l τ. next (eval world r f (placeOf W gs C Γ) τ) (λ v ρ. doAssign l v (placeOf W gs C Γ) ρ)))
@@ -500,26 +565,35 @@ module _ (W : Setting) (gs : List Global) where
       simE (pattern z) C Γ ts p st o w h D k = pushes W gs (C .body) (C .below) (bit (wordOf z)) (p .address) st (heldIn Γ) D h (given-one W gs C Γ (bit (wordOf z)) D k)
       simE (null c) C Γ ts p st o w h D k =
           pushes W gs (C .body) (C .below) (ref (classNumber gs c) none) (p .address) st (heldIn Γ) D h
-          (subst (λ v. Meets W (suc n) (nowhere W gs C) (Arrives W gs C (One W gs C) (Sees W gs C Γ) (heldIn Γ) (suc (p .address)) st) (at-work W gs C (suc (p .address)) (ref (classNumber gs c) none ∷ st) (heldIn Γ) D) (done v (seen gs Γ D))) o
+          (subst (λ v. Meets W (suc n) (nowhere W gs C) (Arrives W gs C (One W gs C) (Sees W gs C Γ) (heldIn Γ) (suc (p .address)) st)
+          (at-work W gs C (suc (p .address)) (ref (classNumber gs c) none ∷ st) (heldIn Γ) D) (done v (seen gs Γ D))) o
           (given-one W gs C Γ (ref (classNumber gs c) none) D k))
       simE (variable a) C Γ ts p st o w h D k =
           loads W gs (C .body) (C .below) (o .0) (o .1) (p .address) st (heldIn Γ) D (w .owners a (o .1) (o .0) (o .2)) (rw (o .2) at h) (λ v g.
-          let e : valueOf a (seen gs Γ D) ≡ some (assigned (seenV gs v)) = reads gs a Γ D ∙ ap (λ z. cellFor gs z (D .cells) (D .lowest)) (o .2) ∙ ap (λ z. some (seenC gs z)) (found-at (ofOwner gs (o .0) (D .cells) (D .lowest)) (o .1) (assigned v) g) in
+          let e : valueOf a (seen gs Γ D) ≡ some (assigned (seenV gs v)) = reads gs a Γ D ∙ ap (λ z. cellFor gs z (D .cells) (D .lowest)) (o .2)
+          ∙ ap (λ z. some (seenC gs z)) (found-at (ofOwner gs (o .0) (D .cells) (D .lowest)) (o .1) (assigned v) g) in
           rw e (given-one W gs C Γ v D k))
       simE (invoke a es) C Γ ts p st o w h D k =
           let q = o .0 in let c = table a q (o .1) in
           binds (evals world r es (placeOf W gs C Γ) (seen gs Γ D)) (λ l σ z. z) (simEs es C Γ ts p st (o .4) w (h .0) D k) (λ vs σ y m.
-          rw (o .1) (subst (λ x. Meets W (suc n) (nowhere W gs C) (Arrives W gs C (One W gs C) (Sees W gs C Γ) (heldIn Γ) (suc (after (codeEs gs es Γ ts p) p .address)) st) x (activate (some q) (r .callE) vs (placeOf W gs C Γ) σ)) (sym (m .there))
-          (subst₂ (λ us τ. Meets W (suc n) (nowhere W gs C) (Arrives W gs C (One W gs C) (Sees W gs C Γ) (heldIn Γ) (suc (after (codeEs gs es Γ ts p) p .address)) st) (at-work W gs C (after (codeEs gs es Γ ts p) p .address) (m .top ++ st) (heldIn Γ) (m .now)) (activate (some q) (r .callE) us (placeOf W gs C Γ) τ)) (m .gave .0) (m .sees)
-          (called (One W gs C) C Γ a q c (after (codeEs gs es Γ ts p) p .address) (p .cell) (m .top) st (m .now) (r .callE) (h .1) (m .gave .1 ∙ o .3) w (m .holding) (λ C' E b w' h'. below .b-callE a q c C' E (o .2) b w' h')))))
+          rw (o .1) (subst (λ x. Meets W (suc n) (nowhere W gs C) (Arrives W gs C (One W gs C) (Sees W gs C Γ) (heldIn Γ)
+          (suc (after (codeEs gs es Γ ts p) p .address)) st) x (activate (some q) (r .callE) vs (placeOf W gs C Γ) σ)) (sym (m .there))
+          (subst₂ (λ us τ. Meets W (suc n) (nowhere W gs C) (Arrives W gs C (One W gs C) (Sees W gs C Γ) (heldIn Γ)
+          (suc (after (codeEs gs es Γ ts p) p .address)) st) (at-work W gs C (after (codeEs gs es Γ ts p) p .address) (m .top ++ st) (heldIn Γ)
+          (m .now)) (activate (some q) (r .callE) us (placeOf W gs C Γ) τ)) (m .gave .0) (m .sees)
+          (called (One W gs C) C Γ a q c (after (codeEs gs es Γ ts p) p .address) (p .cell) (m .top) st (m .now) (r .callE) (h .1)
+          (m .gave .1 ∙ o .3) w (m .holding) (λ C' E b w' h'. below .b-callE a q c C' E (o .2) b w' h')))))
       simE (field a e) C Γ ts p st o w h D k =
-          bindE W gs C Γ _ (simE e C Γ ts p st (o .0) w (h .0) D k) (λ v D' k'. gets W gs C Γ a (fieldNumber gs a .class) (fieldNumber gs a .index) v (after (codeE gs e Γ ts p) p .address) st D' (o .1) (h .1) k')
+          bindE W gs C Γ _ (simE e C Γ ts p st (o .0) w (h .0) D k) (λ v D' k'.
+          gets W gs C Γ a (fieldNumber gs a .class) (fieldNumber gs a .index) v (after (codeE gs e Γ ts p) p .address) st D' (o .1) (h .1) k')
       simE (make c es) C Γ ts p st o w h D k =
           let m' = after (codeEs gs es Γ ts p) p .address in
           let t = classes c (o .1 .0) (o .1 .1) in
           binds (evals world r es (placeOf W gs C Γ) (seen gs Γ D)) (λ l σ z. z) (simEs es C Γ ts p st (o .0) w (h .0) D k) (λ vs σ y m.
-          rw (o .1 .1) (subst (λ x. Meets W (suc n) (nowhere W gs C) (Arrives W gs C (One W gs C) (Sees W gs C Γ) (heldIn Γ) (suc m') st) x (doMake c (some (o .1 .0)) vs (placeOf W gs C Γ) σ)) (sym (m .there))
-          (subst₂ (λ us τ. Meets W (suc n) (nowhere W gs C) (Arrives W gs C (One W gs C) (Sees W gs C Γ) (heldIn Γ) (suc m') st) (at-work W gs C m' (m .top ++ st) (heldIn Γ) (m .now)) (doMake c (some (o .1 .0)) us (placeOf W gs C Γ) τ)) (m .gave .0) (m .sees)
+          rw (o .1 .1) (subst (λ x. Meets W (suc n) (nowhere W gs C) (Arrives W gs C (One W gs C) (Sees W gs C Γ) (heldIn Γ) (suc m') st) x
+          (doMake c (some (o .1 .0)) vs (placeOf W gs C Γ) σ)) (sym (m .there))
+          (subst₂ (λ us τ. Meets W (suc n) (nowhere W gs C) (Arrives W gs C (One W gs C) (Sees W gs C Γ) (heldIn Γ) (suc m') st)
+          (at-work W gs C m' (m .top ++ st) (heldIn Γ) (m .now)) (doMake c (some (o .1 .0)) us (placeOf W gs C Γ) τ)) (m .gave .0) (m .sees)
           (makes W gs C Γ c (classNumber gs c) (o .1 .0) (t .0) m' (m .top) st (m .now) (h .1) (t .1) (m .gave .1 ∙ o .1 .2 ∙ sym (t .2)) (o .1 .3) (o .1 .4) (m .holding)))))
       simE (operate1 u e) C Γ ts p st o w h D k =
           let m = after (codeE gs e Γ ts p) p .address in
@@ -542,12 +616,15 @@ module _ (W : Setting) (gs : List Global) where
           (λ Δ q. let y = codeItems gs is (labels is (q .address) ∷ Δ) ts q in y ▸ codeE gs e Δ ts (after y q))
           (λ Y τ. next (catch r is Y (execItems world r is Y τ)) (λ u ρ. eval world r e Y ρ)) D
           (λ Δ q D' o' w' b' c' h' k'. let y = codeItems gs is (labels is (q .address) ∷ Δ) ts q in
-          bindS W gs C Δ _ (blockItems C is Δ ts st q (o' .0) w' (h' .0) (λ D₁ k₁. simItems is C (labels is (q .address) ∷ Δ) ts q st (o' .0 (q .address)) (fit-labels is (q .address) w') (h' .0) D₁ k₁) D' k') (λ u D'' k''.
+          bindS W gs C Δ _ (blockItems C is Δ ts st q (o' .0) w' (h' .0)
+          (λ D₁ k₁. simItems is C (labels is (q .address) ∷ Δ) ts q st (o' .0 (q .address)) (fit-labels is (q .address) w') (h' .0) D₁ k₁) D' k') (λ u D'' k''.
           inward C Γ Δ (heldIn Δ) _ st _ _ b' c' (alsoE W gs C Δ (simE e C Δ ts (after y q) st (o' .1) (fit-on (more-cells y q) w') (h' .1) D'' k'') (λ v D₃ k₃. given-one W gs C Δ v D₃ k₃))))
           o (fit-inside (expressionOf ds is) w) (λ cs. ([], refl)) (λ cs ls. refl) h k)
 
-      simEs : (es : Exprs) (C : Work) (Γ : List Around) (ts : List Ty) (p : At) (st : List Value) → okEs gs es Γ → Fit W gs C Γ (p .cell) → Stands W (C .body) (codeEs gs es Γ ts p) p → (D : Data) → Holds C D
-          → Meets W (suc n) (nowhere W gs C) (Arrives W gs C (Many (countExprs es)) (Sees W gs C Γ) (heldIn Γ) (after (codeEs gs es Γ ts p) p .address) st) (at-work W gs C (p .address) st (heldIn Γ) D) (evals world r es (placeOf W gs C Γ) (seen gs Γ D))
+      simEs : (es : Exprs) (C : Work) (Γ : List Around) (ts : List Ty) (p : At) (st : List Value) → okEs gs es Γ → Fit W gs C Γ (p .cell)
+          → Stands W (C .body) (codeEs gs es Γ ts p) p → (D : Data) → Holds C D
+          → Meets W (suc n) (nowhere W gs C) (Arrives W gs C (Many (countExprs es)) (Sees W gs C Γ) (heldIn Γ)
+          (after (codeEs gs es Γ ts p) p .address) st) (at-work W gs C (p .address) st (heldIn Γ) D) (evals world r es (placeOf W gs C Γ) (seen gs Γ D))
       simEs noExpr C Γ ts p st o w h D k = ends (here (record { top = []; now = D; there = refl; sees = refl; gave = (refl, refl); holding = k }))
       simEs (expr e es) C Γ ts p st o w h D k =
           let x = codeE gs e Γ ts p in let us = tyE gs Γ e ∷ ts in
@@ -558,61 +635,83 @@ module _ (W : Setting) (gs : List Global) where
             now = m .now;
             there = m .there ∙ ap (λ z. at-work W gs C (after (codeEs gs es Γ us (after x p)) (after x p) .address) z (heldIn Γ) (m .now)) (sym (append-assoc (m .top) (v ∷ []) st));
             sees = m .sees;
-            gave = (ap (map (seenV gs)) (onto-last (m .top) v []) ∙ ap (λ z. seenV gs v ∷ z) (m .gave .0), length-append (m .top) (v ∷ []) ∙ counted-more (length (m .top)) (countExprs es) (m .gave .1));
+            gave = (
+              ap (map (seenV gs)) (onto-last (m .top) v []) ∙ ap (λ z. seenV gs v ∷ z) (m .gave .0),
+              length-append (m .top) (v ∷ [])
+                  ∙ counted-more (length (m .top)) (countExprs es) (m .gave .1),
+            );
             holding = m .holding;
           }))))
 
     -- a block's statements from a label on
-    resumed : (C : Work) (is : Items) (Γ : List Around) (ts : List Ty) (st : List Value) (x n' : ℕ) (e : At) → ((a : ℕ) → Found W gs C (hasLabel a is) (from a is) (labels is x ∷ Γ) ts (labelAt is (scopesOf Γ) (theLabels is ∷ passing Γ) x a) n' e (λ js. okItems gs js (labels is x ∷ Γ)))
-        → Fit W gs C Γ n' → (js : Items) (q : At) (D : Data) → okItems gs js (labels is x ∷ Γ) → Fit W gs C Γ (q .cell) → Stands W (C .body) (codeItems gs js (labels is x ∷ Γ) ts q) q → after (codeItems gs js (labels is x ∷ Γ) ts q) q ≡ e → Holds C D
-        → Meets W (suc n) (lands W gs C Γ st) (Arrives W gs C (Nothing W gs C) (Sees W gs C Γ) (heldIn Γ) (e .address) st) (at-work W gs C (q .address) st (heldIn Γ) D) (catch r is (placeOf W gs C Γ) (execItems world r js (placeOf W gs C Γ) (seen gs Γ D)))
+    resumed : (C : Work) (is : Items) (Γ : List Around) (ts : List Ty) (st : List Value) (x n' : ℕ) (e : At)
+        → ((a : ℕ) → Found W gs C (hasLabel a is) (from a is) (labels is x ∷ Γ) ts (labelAt is (scopesOf Γ) (theLabels is ∷ passing Γ) x a) n' e
+        (λ js. okItems gs js (labels is x ∷ Γ)))
+        → Fit W gs C Γ n' → (js : Items) (q : At) (D : Data) → okItems gs js (labels is x ∷ Γ) → Fit W gs C Γ (q .cell)
+        → Stands W (C .body) (codeItems gs js (labels is x ∷ Γ) ts q) q → after (codeItems gs js (labels is x ∷ Γ) ts q) q ≡ e → Holds C D
+        → Meets W (suc n) (lands W gs C Γ st) (Arrives W gs C (Nothing W gs C) (Sees W gs C Γ) (heldIn Γ) (e .address) st)
+        (at-work W gs C (q .address) st (heldIn Γ) D) (catch r is (placeOf W gs C Γ) (execItems world r js (placeOf W gs C Γ) (seen gs Γ D)))
     unfolding heldIn blocksOf rootsOf
     resumed C is Γ ts st x n' e f w js q D o w' h g k =
         catches W gs C r is Γ ts st (at x n') e (λ js. okItems gs js (labels is x ∷ Γ)) (at-work W gs C (q .address) st (heldIn Γ) D) (execItems world r js (placeOf W gs C Γ) (seen gs Γ D)) f w
         (below .b-resume C is Γ ts st x n' e f w)
-        (subst (λ z. Meets W (suc n) (lands W gs C (labels is x ∷ Γ) st) (Arrives W gs C (Nothing W gs C) (Sees W gs C Γ) (heldIn Γ) (z .address) st) (at-work W gs C (q .address) st (heldIn Γ) D) (execItems world r js (placeOf W gs C Γ) (seen gs Γ D))) g
+        (subst (λ z. Meets W (suc n) (lands W gs C (labels is x ∷ Γ) st) (Arrives W gs C (Nothing W gs C) (Sees W gs C Γ) (heldIn Γ) (z .address) st)
+        (at-work W gs C (q .address) st (heldIn Γ) D) (execItems world r js (placeOf W gs C Γ) (seen gs Γ D))) g
         (simItems js C (labels is x ∷ Γ) ts q st o (fit-labels is x w') h D k))
 
     -- the bodies of procedures: no goto leaves them
-    walled : (C : Work) (xs : List Typed) (k : ℕ) (s : Scope) (ds : List Definition) (Γ : List Around) (st : List Value) (a : ℕ) (σ : Store) (y : Conf) → s ≡ inProcedure ds → lands W gs C (parameterCells xs k (inside s ∷ Γ)) st a σ y → ⊥
+    walled : (C : Work) (xs : List Typed) (k : ℕ) (s : Scope) (ds : List Definition) (Γ : List Around) (st : List Value) (a : ℕ) (σ : Store)
+        (y : Conf) → s ≡ inProcedure ds → lands W gs C (parameterCells xs k (inside s ∷ Γ)) st a σ y → ⊥
     unfolding parameterCells lands
     walled C [] k s ds Γ st a σ y e h = subst (λ z. lands W gs C (inside z ∷ Γ) st a σ y) e h
     walled C (x ∷ xs) k s ds Γ st a σ y e h = walled C xs (suc k) s ds Γ st a σ y e h
 
     runsS : (b : TreeBody) (Γ : List Around) (p : At) (C : Work) (D : Data) → IsProper b → okBody gs b Γ → Fit W gs C Γ (p .cell) → Stands W (C .body) (codeBody gs b Γ p) p → Holds C D
-        → Meets W (suc n) (lands W gs C Γ []) (Arrives W gs C (Nothing W gs C) (Sees W gs C Γ) (heldIn Γ) (after (codeBody gs b Γ p) p .address) []) (at-work W gs C (p .address) [] (heldIn Γ) D) (execBody world r b (placeOf W gs C Γ) (seen gs Γ D))
+        → Meets W (suc n) (lands W gs C Γ []) (Arrives W gs C (Nothing W gs C) (Sees W gs C Γ) (heldIn Γ) (after (codeBody gs b Γ p) p .address) [])
+        (at-work W gs C (p .address) [] (heldIn Γ) D) (execBody world r b (placeOf W gs C Γ) (seen gs Γ D))
     unfolding execBody
     runsS (proper s) Γ p C D i o w h k = simS s C Γ [] p [] o w h D k
     runsS (function t e) Γ p C D i o w h k = absurd i
 
     runsE : (b : TreeBody) (Γ : List Around) (p : At) (C : Work) (D : Data) → IsFunction b → okBody gs b Γ → Fit W gs C Γ (p .cell) → Stands W (C .body) (codeBody gs b Γ p) p → Holds C D
-        → Meets W (suc n) (nowhere W gs C) (Arrives W gs C (One W gs C) (Sees W gs C Γ) (heldIn Γ) (after (codeBody gs b Γ p) p .address) []) (at-work W gs C (p .address) [] (heldIn Γ) D) (evalBody world r b (placeOf W gs C Γ) (seen gs Γ D))
+        → Meets W (suc n) (nowhere W gs C) (Arrives W gs C (One W gs C) (Sees W gs C Γ) (heldIn Γ) (after (codeBody gs b Γ p) p .address) [])
+        (at-work W gs C (p .address) [] (heldIn Γ) D) (evalBody world r b (placeOf W gs C Γ) (seen gs Γ D))
     unfolding evalBody
     runsE (proper s) Γ p C D i o w h k = absurd i
     runsE (function t e) Γ p C D i o w h k = simE e C Γ [] p [] o w h D k
 
     bodyS : (a : ℕ) (q : Procedure) (c : Called a q) (C : Work) (D : Data) → IsProper (q .body) → C .body ≡ bodyNumber gs a → Fit W gs C (around a q c) (length (q .parameters)) → Holds C D
-        → Meets W (suc n) (nowhere W gs C) (Arrives W gs C (Nothing W gs C) (Sees W gs C (around a q c)) (heldIn (around a q c)) (endOf a q c) []) (at-work W gs C (c .head .first) [] (heldIn (around a q c)) D) (execBody world r (q .body) (placeOf W gs C (around a q c)) (seen gs (around a q c) D))
+        → Meets W (suc n) (nowhere W gs C) (Arrives W gs C (Nothing W gs C) (Sees W gs C (around a q c)) (heldIn (around a q c)) (endOf a q c) [])
+        (at-work W gs C (c .head .first) [] (heldIn (around a q c)) D) (execBody world r (q .body) (placeOf W gs C (around a q c)) (seen gs (around a q c) D))
     bodyS a q c C D i e w k =
         onward _ (λ l σ h. absurd (walled C (q .parameters) 0 (c .scope) (c .names) (W .shared-names) [] l σ _ (c .is-procedure) (h .there)))
-        (runsS (q .body) (around a q c) (at (c .head .first) (length (q .parameters))) C D i (c .good) w (subst (λ z. Stands W z (codeBody gs (q .body) (around a q c) (at (c .head .first) (length (q .parameters)))) (at (c .head .first) (length (q .parameters)))) (sym e) (c .stand)) k)
+        (runsS (q .body) (around a q c) (at (c .head .first) (length (q .parameters))) C D i (c .good) w
+        (subst (λ z. Stands W z (codeBody gs (q .body) (around a q c) (at (c .head .first) (length (q .parameters))))
+        (at (c .head .first) (length (q .parameters)))) (sym e) (c .stand)) k)
         (λ v σ y m. ends (here m))
 
     bodyE : (a : ℕ) (q : Procedure) (c : Called a q) (C : Work) (D : Data) → IsFunction (q .body) → C .body ≡ bodyNumber gs a → Fit W gs C (around a q c) (length (q .parameters)) → Holds C D
-        → Meets W (suc n) (nowhere W gs C) (Arrives W gs C (One W gs C) (Sees W gs C (around a q c)) (heldIn (around a q c)) (endOf a q c) []) (at-work W gs C (c .head .first) [] (heldIn (around a q c)) D) (evalBody world r (q .body) (placeOf W gs C (around a q c)) (seen gs (around a q c) D))
+        → Meets W (suc n) (nowhere W gs C) (Arrives W gs C (One W gs C) (Sees W gs C (around a q c)) (heldIn (around a q c)) (endOf a q c) [])
+        (at-work W gs C (c .head .first) [] (heldIn (around a q c)) D) (evalBody world r (q .body) (placeOf W gs C (around a q c)) (seen gs (around a q c) D))
     bodyE a q c C D i e w k =
-        runsE (q .body) (around a q c) (at (c .head .first) (length (q .parameters))) C D i (c .good) w (subst (λ z. Stands W z (codeBody gs (q .body) (around a q c) (at (c .head .first) (length (q .parameters)))) (at (c .head .first) (length (q .parameters)))) (sym e) (c .stand)) k
+        runsE (q .body) (around a q c) (at (c .head .first) (length (q .parameters))) C D i (c .good) w
+        (subst (λ z. Stands W z (codeBody gs (q .body) (around a q c) (at (c .head .first) (length (q .parameters))))
+        (at (c .head .first) (length (q .parameters)))) (sym e) (c .stand)) k
 
   -- ── by fuel ──
-  late : {L : ℕ → Store → Conf → Type 0} {F : Unit {0} → Store → Conf → Type 0} (C : Work) (Γ : List Around) (a : ℕ) (st : List Value) (D : Data) → Meets W 0 L F (at-work W gs C a st (heldIn Γ) D) (later (seen gs Γ D))
+  late : {L : ℕ → Store → Conf → Type 0} {F : Unit {0} → Store → Conf → Type 0} (C : Work) (Γ : List Around) (a : ℕ) (st : List Value) (D : Data)
+      → Meets W 0 L F (at-work W gs C a st (heldIn Γ) D) (later (seen gs Γ D))
   unfolding run
   late C Γ a st D = ends (record { steps = 0; many = zero-le; alive = (refl, refl) })
 
-  lateAt : {A : Type 0} {L : ℕ → Store → Conf → Type 0} {F : A → Store → Conf → Type 0} (C : Work) (Γ : List Around) (a : ℕ) (st : List Value) (D : Data) → Meets W 0 L F (at-work W gs C a st (heldIn Γ) D) (later (seen gs Γ D))
+  lateAt : {A : Type 0} {L : ℕ → Store → Conf → Type 0} {F : A → Store → Conf → Type 0} (C : Work) (Γ : List Around) (a : ℕ) (st : List Value)
+      (D : Data) → Meets W 0 L F (at-work W gs C a st (heldIn Γ) D) (later (seen gs Γ D))
   unfolding run
   lateAt C Γ a st D = ends (record { steps = 0; many = zero-le; alive = (refl, refl) })
 
-  pub all : (table : (a : ℕ) (q : Procedure) → procedureIn a gs ≡ some q → Called a q) (classes : (c : ℕ) (xs : List Typed) → classIn c gs ≡ some xs → (ts : List Ty) × (getElem? (W .macro .classes) (classNumber gs c) ≡ some ts) × (length ts ≡ length xs)) (n : ℕ) → Below n (fueled world n)
+  pub all : (table : (a : ℕ) (q : Procedure) → procedureIn a gs ≡ some q → Called a q)
+      (classes : (c : ℕ) (xs : List Typed) → classIn c gs ≡ some xs → (ts : List Ty) × (getElem? (W .macro .classes) (classNumber gs c) ≡ some ts)
+      × (length ts ≡ length xs)) (n : ℕ) → Below n (fueled world n)
   unfolding fueled
   all table classes zero = record {
     b-callS = λ a q c C D i e w k. lateAt C (around a q c) (c .head .first) [] D;

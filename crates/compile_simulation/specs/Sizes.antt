@@ -7,12 +7,16 @@ use native.Mathlib.Omega.{arith}
 use Rattle.words.specs.Choice.{if_then_else_}
 use Rattle.values.specs.Types.{Ty, logical}
 use Rattle.values.specs.Operators.{Binary}
-use Rattle.language.specs.Tree.{Decl, declare, holding, Stmt, block, assign, when, choose, while, goto, assert, call, setLevel, select, Items, noItem, label, item, Arms, lastArm, arm, Target, toVariable, toField, Expr, number, truth, pattern, null, variable, invoke, field, make, operate1, operate2, conditional, fader, blockExpr, Exprs, noExpr, expr, Global}
+use Rattle.language.specs.Tree.{Decl, declare, holding, Stmt, block, assign, when, choose, while, goto, assert, call, setLevel, select, Items, noItem, label, item, Arms}
+use Rattle.language.specs.Tree.{lastArm, arm, Target, toVariable, toField, Expr, number, truth, pattern, null, variable, invoke, field, make, operate1, operate2}
+use Rattle.language.specs.Tree.{conditional, fader, blockExpr, Exprs, noExpr, expr, Global}
 use Rattle.language.specs.Names.{Scope, blockOf, expressionOf}
 use Rattle.language.specs.Faults.{typeE, isTy}
 use Rattle.bytecode.specs.Instructions.{go}
 use Rattle.compile_code.specs.Code.{Code, nil, op, mark, cell, _▸_, At, at, skip, after}
-use Rattle.compile_code.specs.Compile.{Around, inside, outermost, bound, global, held, labels, scopesOf, passing, Passing, theLabels, hasLabel, sizeGoto, sizeHead, Way, plainly, marked, ifTrue, ifFalse, sizeWay, wayOf, opsS, opsItems, opsArms, opsTarget, opsE, opsEs, labelAt, codeGoto, codeWay, codeHead, codeS, codeItems, codeArms, codeTarget, codeE, codeEs, tyE, tyTarget}
+use Rattle.compile_code.specs.Compile.{Around, inside, outermost, bound, global, held, labels, scopesOf, passing, Passing, theLabels, hasLabel, sizeGoto, sizeHead, Way}
+use Rattle.compile_code.specs.Compile.{plainly, marked, ifTrue, ifFalse, sizeWay, wayOf, opsS, opsItems, opsArms, opsTarget, opsE, opsEs, labelAt, codeGoto, codeWay}
+use Rattle.compile_code.specs.Compile.{codeHead, codeS, codeItems, codeArms, codeTarget, codeE, codeEs, tyE, tyTarget}
 
 -- cells are only ever added
 pub more-cells : (x : Code) (p : At) → p .cell ≤ after x p .cell

@@ -30,14 +30,17 @@ use Rattle.compile_simulation.specs.Root.{okRoot, atRoot, Told, rooted}
 
 module _ (W : Setting) (t : Tree) where
   abbrev pub lastAt : ℕ
-  lastAt = after (codeHead (t .head) (global own) (locals (t .head)) (outermost (rootOf t) ∷ []) (at 0 0) (λ Δ q. codeItems (t .head) (t .items) (labels (t .items) (q .address) ∷ Δ) [] q)) (at 0 0) .address
+  lastAt =
+      after (codeHead (t .head) (global own) (locals (t .head)) (outermost (rootOf t) ∷ []) (at 0 0)
+      (λ Δ q. codeItems (t .head) (t .items) (labels (t .items) (q .address) ∷ Δ) [] q)) (at 0 0) .address
 
   -- what the compiled macro has to offer
   pub record Built : Type 0 where
     pub table : (a : ℕ) (q : Procedure) → procedureIn a (t .head) ≡ some q → Called W (t .head) a q
     pub classes : (c : ℕ) (xs : List Typed) → classIn c (t .head) ≡ some xs → (ts : List Ty) × (getElem? (W .macro .classes) (classNumber (t .head) c) ≡ some ts) × (length ts ≡ length xs)
     pub good : okRoot (t .head) (locals (t .head)) (outermost (rootOf t) ∷ []) 0 (λ Δ n. Fit W (t .head) (atRoot W (t .head)) Δ n × ((x : ℕ) → okItems (t .head) (t .items) (labels (t .items) x ∷ Δ)))
-    pub stand : Stands W 0 (codeHead (t .head) (global own) (locals (t .head)) (outermost (rootOf t) ∷ []) (at 0 0) (λ Δ q. codeItems (t .head) (t .items) (labels (t .items) (q .address) ∷ Δ) [] q)) (at 0 0)
+    pub stand : Stands W 0 (codeHead (t .head) (global own) (locals (t .head)) (outermost (rootOf t) ∷ []) (at 0 0)
+        (λ Δ q. codeItems (t .head) (t .items) (labels (t .items) (q .address) ∷ Δ) [] q)) (at 0 0)
     pub last : fetch (W .macro) 0 lastAt ≡ some end
 
   abbrev pub start : Conf
@@ -67,12 +70,14 @@ module _ (W : Setting) (t : Tree) where
     D₀ = record { shared = record { records = [] }; cells = freshAll (rootCells (W .macro .bodies)); lowest = []; trace = []; taken = 0 }
 
     -- the root's last op
-    closes : (n : ℕ) (r : Result (Unit {0})) → Meets W n (lands W (t .head) (atRoot W (t .head)) (outermost (rootOf t) ∷ []) []) (Arrives W (t .head) (atRoot W (t .head)) (Nothing W (t .head) (atRoot W (t .head))) (Told W (t .head)) [] lastAt []) start r
+    closes : (n : ℕ) (r : Result (Unit {0})) → Meets W n (lands W (t .head) (atRoot W (t .head)) (outermost (rootOf t) ∷ []) [])
+        (Arrives W (t .head) (atRoot W (t .head)) (Nothing W (t .head) (atRoot W (t .head))) (Told W (t .head)) [] lastAt []) start r
         → Reach W start (Bad W) ⊎ Does n (ran r)
     unfolding ran lands act doEnd putLowest
     closes n r (crash h) = inl h
     closes n (done u σ) (ends h) = finishes (begin h (λ y m.
-        subst (λ z. Meets W n (λ a τ y. ⊥) (λ v τ y. EndedAs (reverse (σ .trace)) 0 y) z (done u σ)) (sym (m .there ∙ ap (λ us. at-work W (t .head) (atRoot W (t .head)) lastAt (us ++ []) [] (m .now)) (m .gave)))
+        subst (λ z. Meets W n (λ a τ y. ⊥) (λ v τ y. EndedAs (reverse (σ .trace)) 0 y) z (done u σ))
+        (sym (m .there ∙ ap (λ us. at-work W (t .head) (atRoot W (t .head)) lastAt (us ++ []) [] (m .now)) (m .gave)))
         (op-at W (t .head) 0 [] end lastAt [] [] (m .now) (B .last) (ends (here (m .now .trace, m .now .taken, refl, ap reverse (m .sees .0)))))))
       where
         finishes : Meets W n (λ a τ y. ⊥) (λ v τ y. EndedAs (reverse (σ .trace)) 0 y) start (done u σ) → Reach W start (Bad W) ⊎ Reach W start (EndedAs (reverse (σ .trace)) 0)

@@ -45,10 +45,12 @@ not-log gs none w e h q = never (subst (λ t. same t (tyIn gs (orInteger none)) 
 not-log gs (some integer) w e h q = never (subst (λ t. same t integer ≡ true) q h)
 not-log gs (some logical) w e h q = never (sym e)
 not-log gs (some bits) w e h q = never (subst (λ t. same t bits ≡ true) q h)
-not-log gs (some (reference c)) w e h q = no-code 2 (65536 + indexOf c (classNames (classesOf gs))) (λ z. omega arith) (subst (λ t. same t (reference (indexOf c (classNames (classesOf gs)))) ≡ true) q h)
+not-log gs (some (reference c)) w e h q =
+    no-code 2 (65536 + indexOf c (classNames (classesOf gs))) (λ z. omega arith) (subst (λ t. same t (reference (indexOf c (classNames (classesOf gs)))) ≡ true) q h)
 
 module _ (W : Setting) where
-  top-type : (s : Shared) (f : Activation) (fs : List Activation) (w : Value) (st : List Value) (t : Ty) (ts : List Ty) (k : ℕ) → f .operands ≡ w ∷ st → shapeIn (W .macro .shapes) (f .address) ≡ some (record { holds = k; operands = t ∷ ts })
+  top-type : (s : Shared) (f : Activation) (fs : List Activation) (w : Value) (st : List Value) (t : Ty) (ts : List Ty) (k : ℕ) → f .operands ≡ w ∷ st
+      → shapeIn (W .macro .shapes) (f .address) ≡ some (record { holds = k; operands = t ∷ ts })
       → sound (W .macro) (running s f fs) ≡ true → same (tyOf w) t ≡ true
   unfolding sound soundActivation foundAt sames tysOf
   top-type s f fs w st t ts k o e h =
@@ -58,7 +60,8 @@ module _ (W : Setting) where
       let h₃ = halves (all (soundRecord m rs) rs) (soundActivation m rs [] f && soundWaiting m rs (f .body) fs) h₂ .1 in
       let h₄ = halves (soundActivation m rs [] f) (soundWaiting m rs (f .body) fs) h₃ .0 in
       let h₅ = halves (inBody m (f .body) (f .address)) (soundAt m rs f [] (foundAt m (f .address)) (bodyAt m (f .body))) h₄ .1 in
-      let h₆ : soundAt m rs f [] (some (record { holds = k; operands = t ∷ ts })) (bodyAt m (f .body)) ≡ true = subst (λ z. soundAt m rs f [] (orElse z (into m (f .address))) (bodyAt m (f .body)) ≡ true) e h₅ in
+      let h₆ : soundAt m rs f [] (some (record { holds = k; operands = t ∷ ts })) (bodyAt m (f .body)) ≡ true =
+      subst (λ z. soundAt m rs f [] (orElse z (into m (f .address))) (bodyAt m (f .body)) ≡ true) e h₅ in
       go (bodyAt m (f .body)) h₆
     where
       go : (b : Option Body) → soundAt (W .macro) (s .records) f [] (some (record { holds = k; operands = t ∷ ts })) b ≡ true → same (tyOf w) t ≡ true

@@ -322,7 +322,8 @@ module _ (gs : List Global) (a : ℕ) (u : Cell) where
   wrote-block (outermost s ∷ Γ) c v y cs w h d g = wrote-block Γ c v y cs w h d g
   wrote-block (bound b e ∷ Γ) c v y cs w h d g = go (eqb b a) (λ q. wrote-block Γ c v y cs w q (d .1) g) refl h
     where
-      go : (t : Bool) → (boundAt a Γ ≡ some (kept own c) → putOf a u (blocksOf gs Γ cs) ≡ blocksOf gs Γ (put cs c (assigned v))) → eqb b a ≡ t → (if t then some (kept own e) else boundAt a Γ) ≡ some (kept own c)
+      go : (t : Bool) → (boundAt a Γ ≡ some (kept own c) → putOf a u (blocksOf gs Γ cs) ≡ blocksOf gs Γ (put cs c (assigned v))) → eqb b a ≡ t
+          → (if t then some (kept own e) else boundAt a Γ) ≡ some (kept own c)
           → putOf a u (inFirst (slot b (seenC gs (cellAt cs e))) (blocksOf gs Γ cs)) ≡ inFirst (slot b (seenC gs (cellAt (put cs c (assigned v)) e))) (blocksOf gs Γ (put cs c (assigned v)))
       go true f t q =
           let same : e ≡ c = ap number-of (some-is (kept own e) (kept own c) q) in
@@ -345,7 +346,8 @@ module _ (gs : List Global) (a : ℕ) (u : Cell) where
   kept-roots (outermost s ∷ Γ) c x cs ls h d = kept-roots Γ c x cs ls h d
   kept-roots (bound b e ∷ Γ) c x cs ls h d = go (eqb b a) (λ q. kept-roots Γ c x cs ls q (d .1)) h
     where
-      go : (t : Bool) → (boundAt a Γ ≡ some (kept own c) → rootsOf gs Γ (put cs c x) ls ≡ rootsOf gs Γ cs ls) → (if t then some (kept own e) else boundAt a Γ) ≡ some (kept own c) → rootsOf gs Γ (put cs c x) ls ≡ rootsOf gs Γ cs ls
+      go : (t : Bool) → (boundAt a Γ ≡ some (kept own c) → rootsOf gs Γ (put cs c x) ls ≡ rootsOf gs Γ cs ls)
+          → (if t then some (kept own e) else boundAt a Γ) ≡ some (kept own c) → rootsOf gs Γ (put cs c x) ls ≡ rootsOf gs Γ cs ls
       go true f q = apart-roots gs own c x cs ls Γ (subst (λ z. Apart own z Γ) (ap number-of (some-is (kept own e) (kept own c) q)) (d .0))
       go false f q = f q
   kept-roots (global own b e ∷ Γ) c x cs ls h d =
@@ -403,7 +405,9 @@ module _ (gs : List Global) (a : ℕ) (u : Cell) (o : Owner) (c : ℕ) (v : Valu
       (r .0, ap₂ (λ x z. inFirst (slot b (seenC gs x)) z) (other own e (λ p q. global-apart a Γ o c e h (subst (λ z. Apart z e Γ) (sym p) (d .0)) q)) (r .1))
   wrote-root (global q b e ∷ Γ) h d = go (eqb b a) refl (λ f. wrote-root Γ f (d .1)) h
     where
-      go : (t : Bool) → eqb b a ≡ t → (globalAt a Γ ≡ some (kept o c) → (putIn a u (rootsOf gs Γ cs ls) ≡ rootsOf gs Γ (ownPut o c (assigned v) cs) (rootPut o c (assigned v) ls)) × (blocksOf gs Γ (ownPut o c (assigned v) cs) ≡ blocksOf gs Γ cs))
+      go : (t : Bool) → eqb b a ≡ t → (globalAt a Γ ≡ some (kept o c) →
+          (putIn a u (rootsOf gs Γ cs ls) ≡ rootsOf gs Γ (ownPut o c (assigned v) cs) (rootPut o c (assigned v) ls))
+          × (blocksOf gs Γ (ownPut o c (assigned v) cs) ≡ blocksOf gs Γ cs))
           → (if t then some (kept q e) else globalAt a Γ) ≡ some (kept o c)
           → ((if t then slot a u ∷ rootsOf gs Γ cs ls else slot b (seenC gs (cellAt (ofOwner gs q cs ls) e)) ∷ putIn a u (rootsOf gs Γ cs ls))
           ≡ slot b (seenC gs (cellAt (ofOwner gs q (ownPut o c (assigned v) cs) (rootPut o c (assigned v) ls)) e)) ∷ rootsOf gs Γ (ownPut o c (assigned v) cs) (rootPut o c (assigned v) ls))
@@ -411,7 +415,9 @@ module _ (gs : List Global) (a : ℕ) (u : Cell) (o : Owner) (c : ℕ) (v : Valu
       go true t k f =
           let z = some-is (kept q e) (kept o c) f in
           let ap' : Apart o c Γ = subst (λ x. Apart (owner-of x) (number-of x) Γ) z (d .0) in
-          let n : cellAt (ofOwner gs q (ownPut o c (assigned v) cs) (rootPut o c (assigned v) ls)) e ≡ assigned v = subst (λ x. cellAt (ofOwner gs q (ownPut o c (assigned v) cs) (rootPut o c (assigned v) ls)) x ≡ assigned v) (sym (ap number-of z)) (now q (ap owner-of z)) in (
+          let n : cellAt (ofOwner gs q (ownPut o c (assigned v) cs) (rootPut o c (assigned v) ls)) e ≡ assigned v =
+          subst (λ x. cellAt (ofOwner gs q (ownPut o c (assigned v) cs) (rootPut o c (assigned v) ls)) x ≡ assigned v) (sym (ap number-of z))
+          (now q (ap owner-of z)) in (
             ap₂ (λ x l. x ∷ l) (ap₂ slot (sym (eqb→eq b a (subst T (sym t) tt))) (w ∙ ap (seenC gs) (sym n))) (sym (apart-roots gs o c (assigned v) cs ls Γ ap')),
             apart-blocks gs o c (assigned v) cs ls Γ ap',
           )

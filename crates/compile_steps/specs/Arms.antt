@@ -16,19 +16,19 @@ use Rattle.bytecode.specs.Instructions.{Instr, own, load, push, operate, go, go
 use Rattle.language.specs.Tree.{Stmt, Arms, lastArm, arm, countArms}
 use Rattle.language.specs.Table.{Entry}
 use Rattle.language.specs.Limits.{holdsS, needS}
-use Rattle.programs.specs.Claims.{entriesOf}
-use Rattle.scopes.specs.Environment.{envOf}
-use Rattle.spans.specs.Stands.{Stands, stands-left}
-use Rattle.shapes.specs.Steps.{table-next, Passes}
-use Rattle.shapes.specs.Walk.{Table}
+use Rattle.language_laws.specs.Claims.{entriesOf}
+use Rattle.table_scopes.specs.Environment.{envOf}
+use Rattle.table_scopes.specs.Stands.{Stands, stands-left}
+use Rattle.table_forms.specs.Steps.{table-next, Passes}
+use Rattle.table_forms.specs.Walk.{Table}
 use Rattle.compile_code.specs.Code.{Code, nil, op, mark, _▸_, At, at, skip, after}
 use Rattle.compile_code.specs.Compile.{scopesOf, found, codeS}
 use Rattle.compile_code.specs.Encode.{rec, recordOf}
-use Rattle.compile_known.specs.Numbers.{secondIn}
+use Rattle.compile_symbols.specs.Numbers.{secondIn}
 use Rattle.compile_names.specs.Good.{goodS, goodArms}
-use Rattle.compile_pen.specs.declared.Pen.{Pen}
-use Rattle.compile_pen.specs.Ink.{Fits, moved, penShaped, inkOp, inkShape}
-use Rattle.compile_pen.specs.Folds.{penAfter, inked}
+use Rattle.compile_output.specs.declared.Pen.{Pen}
+use Rattle.compile_output.specs.Ink.{Fits, moved, penShaped, inkOp, inkShape}
+use Rattle.compile_output.specs.Folds.{penAfter, inked}
 use Rattle.compile_nodes.specs.Ends.{endsS, endsArms}
 use Rattle.compile_nodes.specs.Knows.{Walk, Lands}
 use Rattle.compile_nodes.specs.Ready.{stmt, Place, Lent, Kept, Wrote, Ready, Done, Answers, Asks, codeCases, ReadyArms, DoneArms, Owner, AsksArms, AnswersArms}
@@ -117,11 +117,14 @@ module _ (s : Stmt) (us : List Entry) (ks : List ℕ) (tail : Code) (c j z : ℕ
       unfolding after
       r₄ = rest-own q refl (kept-out (with-out o₃) o (wrote-length w₄)) w₄ (flatS s ++ us) _ refl r₃
 
-      pub arm-this : {part : List ℕ} {nesting : ℕ} {sizes : List ℕ} → Table l part sizes place → deepS s ≤ nesting → goodS (scopesOf (X .around)) s → Lands W (envOf (L .env) top) (X .around) → holds + holdsS s ≤ 16 → depth + needS s ≤ 32
+      pub arm-this : {part : List ℕ} {nesting : ℕ} {sizes : List ℕ} → Table l part sizes place → deepS s ≤ nesting → goodS (scopesOf (X .around)) s
+          → Lands W (envOf (L .env) top) (X .around) → holds + holdsS s ≤ 16 → depth + needS s ≤ 32
           → Ready (stmt s) W (movedTo X q) l part nesting place sizes (lent (L .env) (L .ends) (L .stack) o) top holds depth p
       arm-this table deep good lands few more = rest-ready (stmt s) table deep good lands few more (rest-left (flatS s) us _ _ r₄)
 
-      module _ {N : Lent} {r : Pen} (out-of : ℕ) (leaving : W .dry ≡ false → out-of ≡ z) (n : ℕ) (e : n ≡ length (flatS s)) (few : holds ≤ 16) (more : depth ≤ 32) (k : Kept (lent (L .env) (L .ends) (L .stack) o) N top depth) (d : Done (stmt s) W (movedTo X q) place (lent (L .env) (L .ends) (L .stack) o) N depth p r) where
+      module _ {N : Lent} {r : Pen} (out-of : ℕ) (leaving : W .dry ≡ false → out-of ≡ z) (n : ℕ) (e : n ≡ length (flatS s)) (few : holds ≤ 16)
+          (more : depth ≤ 32) (k : Kept (lent (L .env) (L .ends) (L .stack) o) N top depth)
+          (d : Done (stmt s) W (movedTo X q) place (lent (L .env) (L .ends) (L .stack) o) N depth p r) where
         r₅ : Rest W (movedTo X (after y q)) l (place + n) N top holds depth r us ks behind
         r₅ = rest-node (stmt s) us ks n e k (d .wrote) r₄
 
@@ -187,7 +190,9 @@ pub record Bounds (s : Stmt) (W : Walk) (X : Place) (nesting holds depth : ℕ) 
 
 module _ {c j z : ℕ} {W : Walk} {X : Place} {l rest : List ℕ} {count nesting place : ℕ} {sizes : List ℕ} {L : Lent} {top holds depth : ℕ} {pen : Pen} where
   first-rest : (r : Arms) → ReadyArms r c j z W X l rest count nesting place sizes L top holds depth pen
-      → Rest W X l place L top holds depth pen (flatS (armOf r) ++ laterEntries r) (endsS (W .globals) (armOf r) (X .around) (X .types) (skip 4 (X .start)) ++ laterEnds W X r) (all (armOf r) (laterEntries r) (laterEnds W X r) (laterCode W X r c j z) c j z W X)
+      → Rest W X l place L top holds depth pen (flatS (armOf r) ++ laterEntries r)
+      (endsS (W .globals) (armOf r) (X .around) (X .types) (skip 4 (X .start)) ++ laterEnds W X r)
+      (all (armOf r) (laterEntries r) (laterEnds W X r) (laterCode W X r c j z) c j z W X)
   unfolding flatArms endsArms codeCases penAfter
   first-rest (lastArm s) h =
       record {
@@ -218,12 +223,14 @@ pub data Going (c z : ℕ) (W : Walk) (l rest : List ℕ) (count nesting place :
   more : Later c z W l rest count nesting place sizes M top holds depth p i Whole → Going c z W l rest count nesting place sizes M top holds depth p i Whole
   over : count ≤ i → Whole M p → Going c z W l rest count nesting place sizes M top holds depth p i Whole
 
-pub record ArmsSoFar (known aims l part : List ℕ) (owner count nesting at : ℕ) (sizes : List ℕ) (L : Lent) (top holds depth : ℕ) (pen : Pen) (M : Lent) (rest : List ℕ) (place i : ℕ) (p : Pen) : Type 0 where
+pub record ArmsSoFar (known aims l part : List ℕ) (owner count nesting at : ℕ) (sizes : List ℕ) (L : Lent) (top holds depth : ℕ) (pen : Pen)
+    (M : Lent) (rest : List ℕ) (place i : ℕ) (p : Pen) : Type 0 where
   pub kept : Kept L M top depth
   pub goes : (r : Arms) (c z : ℕ) (W : Walk) (X : Place) → W .known ≡ known → W .aims ≡ aims → Owner W owner c z → ReadyArms r c 1 z W X l part count nesting at sizes L top holds depth pen
       → Going c z W l rest count nesting place sizes M top holds depth p i (λ N q. DoneArms r c 1 z W X at L N depth pen q)
 
-pub arms-start : (known aims l part : List ℕ) (owner count nesting at : ℕ) (sizes : List ℕ) (L : Lent) (top holds depth : ℕ) (pen : Pen) → ArmsSoFar known aims l part owner count nesting at sizes L top holds depth pen L part at 0 pen
+pub arms-start : (known aims l part : List ℕ) (owner count nesting at : ℕ) (sizes : List ℕ) (L : Lent) (top holds depth : ℕ) (pen : Pen)
+    → ArmsSoFar known aims l part owner count nesting at sizes L top holds depth pen L part at 0 pen
 arms-start known aims l part owner count nesting at sizes L top holds depth pen =
     record {
       kept = kept-self L;
@@ -236,7 +243,8 @@ left-of h (more g) = g
 left-of h (over k d) = absurd (omega arith)
 
 -- ── one statement further ──
-module _ {c j z : ℕ} {W : Walk} {X : Place} {l rest : List ℕ} {count nesting place : ℕ} {sizes : List ℕ} {L : Lent} {top holds depth : ℕ} {pen : Pen} (r : Arms) (h : ReadyArms r c j z W X l rest count nesting place sizes L top holds depth pen) where
+module _ {c j z : ℕ} {W : Walk} {X : Place} {l rest : List ℕ} {count nesting place : ℕ} {sizes : List ℕ} {L : Lent} {top holds depth : ℕ} {pen : Pen}
+    (r : Arms) (h : ReadyArms r c j z W X l rest count nesting place sizes L top holds depth pen) where
   this-stands : Stands (entriesOf l) place (flatS (armOf r))
   this-stands = stands-left (flatS (armOf r)) (laterEntries r) (first-rest r h .laid .stands)
 
@@ -318,7 +326,9 @@ module _ {c j z : ℕ} {W : Walk} {X : Place} {l rest : List ℕ} {count nesting
         };
         whole = λ K u D. whole K u (record {
           wrote = this-wrote (arm s r) h aim e out-of leaving n z₂ k d g (D .wrote);
-          ended = ends-then (L .ends) place n (endsS (W .globals) s (X .around) (X .types) (skip 4 (X .start))) (laterEnds W X (arm s r)) (this-size (arm s r) h n z₂ ∙ sym (ends-N (stmt s) W (movedTo X (skip 4 (X .start))))) (d .ended) (D .ended);
+          ended =
+              ends-then (L .ends) place n (endsS (W .globals) s (X .around) (X .types) (skip 4 (X .start))) (laterEnds W X (arm s r))
+              (this-size (arm s r) h n z₂ ∙ sym (ends-N (stmt s) W (movedTo X (skip 4 (X .start))))) (d .ended) (D .ended);
         });
       })
 
@@ -338,7 +348,8 @@ leaving-as : {W : Walk} {aims : List ℕ} {owner c z n : ℕ} → W .aims ≡ ai
 leaving-as {W} {aims} {owner} y o e d = e ∙ (ap (λ (k : List ℕ). getD k owner 0) (sym y) ∙ o .leaving d)
 
 module _ {known aims l part : List ℕ} {owner count nesting at : ℕ} {sizes : List ℕ} {L : Lent} {top holds depth : ℕ} {pen : Pen} {M : Lent} {rest : List ℕ} {place i : ℕ} {p : Pen}
-    (a : AsksArms known aims l part owner count nesting at sizes L top holds depth pen) (s : ArmsSoFar known aims l part owner count nesting at sizes L top holds depth pen M rest place i p) (h : i < count) where
+    (a : AsksArms known aims l part owner count nesting at sizes L top holds depth pen)
+    (s : ArmsSoFar known aims l part owner count nesting at sizes L top holds depth pen M rest place i p) (h : i < count) where
   later : Later (a .cell) (a .exit) (a .walk) l rest count nesting place sizes M top holds depth p i (λ N q. DoneArms (a .arms) (a .cell) 1 (a .exit) (a .walk) (a .place) at L N depth pen q)
   later = left-of h (s .goes (a .arms) (a .cell) (a .exit) (a .walk) (a .place) (a .same-known) (a .same-aims) (a .owned) (a .ready))
 
@@ -348,16 +359,27 @@ module _ {known aims l part : List ℕ} {owner count nesting at : ℕ} {sizes : 
   pub arms-passes : (n : ℕ) → n ≡ getD sizes place 0 → Passes rest sizes place n
   arms-passes n e = this-passes (later .left) (later .ready) n e
 
-  module _ {cell b : ℕ} {q : Pen} {o : List ℕ} (cl : cell ≡ secondIn (getD known owner 0)) (aim : b ≡ getD aims place 0) (e : (q ≡ moved (moved (moved (moved p)))) × (o ≡ looked cell (i + 1) b p (M .out))) where
-    ready-by : {c z : ℕ} {W : Walk} {Whole : Lent → Pen → Type 0} → W .known ≡ known → W .aims ≡ aims → Owner W owner c z → (f : Later c z W l rest count nesting place sizes M top holds depth p i Whole)
+  module _ {cell b : ℕ} {q : Pen} {o : List ℕ} (cl : cell ≡ secondIn (getD known owner 0)) (aim : b ≡ getD aims place 0)
+      (e : (q ≡ moved (moved (moved (moved p)))) × (o ≡ looked cell (i + 1) b p (M .out))) where
+    ready-by : {c z : ℕ} {W : Walk} {Whole : Lent → Pen → Type 0} → W .known ≡ known → W .aims ≡ aims → Owner W owner c z
+        → (f : Later c z W l rest count nesting place sizes M top holds depth p i Whole)
         → Ready (stmt (armOf (f .left))) W (movedTo (f .spot) (skip 4 (f .spot .start))) l rest nesting place sizes (lent (M .env) (M .ends) (M .stack) o) top holds depth q
     ready-by x y w f = this-ready (f .left) (f .ready) (aim-as place y aim) (looked-as i b p (M .out) (cell-as x w cl) (f .is) e)
 
     pub arms-asks : Asks IsStmt known aims l rest nesting place sizes (lent (M .env) (M .ends) (M .stack) o) top holds depth q
     arms-asks =
-        record { node = stmt (armOf (later .left)); walk = a .walk; place = _; such = tt; same-known = a .same-known; same-aims = a .same-aims; ready = ready-by (a .same-known) (a .same-aims) (a .owned) later }
+        record {
+          node = stmt (armOf (later .left));
+          walk = a .walk;
+          place = _;
+          such = tt;
+          same-known = a .same-known;
+          same-aims = a .same-aims;
+          ready = ready-by (a .same-known) (a .same-aims) (a .owned) later;
+        }
 
-    module _ {out-of : ℕ} {N : Lent} {r : Pen} (ex : out-of ≡ getD aims owner 0) (b₁ : Answers IsStmt known aims l rest nesting place sizes (lent (M .env) (M .ends) (M .stack) o) N top holds depth q r) where
+    module _ {out-of : ℕ} {N : Lent} {r : Pen} (ex : out-of ≡ getD aims owner 0)
+        (b₁ : Answers IsStmt known aims l rest nesting place sizes (lent (M .env) (M .ends) (M .stack) o) N top holds depth q r) where
       pub arms-behind : (depth ≤ length (N .stack)) × (depth < 256) × (holds < 256) × Fits (penShaped depth (moved r)) (length (N .out))
       arms-behind =
           let f = later in let x = a .same-known in let y = a .same-aims in

@@ -13,22 +13,22 @@ use Rattle.bytecode.specs.Instructions.{Instr, putField}
 use Rattle.language.specs.Tree.{assign, Target, toVariable, toField, Expr, variable, field}
 use Rattle.language.specs.Table.{entry}
 use Rattle.language.specs.Names.{isVariable, isField}
-use Rattle.programs.specs.Claims.{entriesOf}
-use Rattle.scopes.specs.Environment.{Item, envOf}
-use Rattle.spans.specs.Stands.{Stands, stands-left, stands-tail, half-part}
-use Rattle.heads.specs.Defines.{name-small}
-use Rattle.shapes.specs.Steps.{Head, head-of, table-next, Passes}
-use Rattle.shapes.specs.Walk.{Table}
+use Rattle.language_laws.specs.Claims.{entriesOf}
+use Rattle.table_scopes.specs.Environment.{Item, envOf}
+use Rattle.table_scopes.specs.Stands.{Stands, stands-left, stands-tail, half-part}
+use Rattle.table_scopes.specs.Defines.{name-small}
+use Rattle.table_forms.specs.Steps.{Head, head-of, table-next, Passes}
+use Rattle.table_forms.specs.Walk.{Table}
 use Rattle.compile_code.specs.Code.{Code, nil, op, _▸_, at, after}
 use Rattle.compile_code.specs.Compile.{storing, cellOf, fieldNumber, codeS, codeE, tyE}
 use Rattle.compile_code.specs.Encode.{rec, recordOf}
-use Rattle.compile_known.specs.Numbers.{firstIn, secondIn}
-use Rattle.compile_known.specs.Meaning.{meaningOf}
+use Rattle.compile_symbols.specs.Numbers.{firstIn, secondIn}
+use Rattle.compile_symbols.specs.Meaning.{meaningOf}
 use Rattle.compile_names.specs.Good.{goodS}
-use Rattle.compile_pen.specs.declared.Pen.{Pen}
-use Rattle.compile_pen.specs.Ink.{Fits, moved, inkOp}
-use Rattle.compile_pen.specs.Folds.{penAfter, inked, pen-op}
-use Rattle.compile_own.specs.Owns.{ownerBy}
+use Rattle.compile_output.specs.declared.Pen.{Pen}
+use Rattle.compile_output.specs.Ink.{Fits, moved, inkOp}
+use Rattle.compile_output.specs.Folds.{penAfter, inked, pen-op}
+use Rattle.compile_emit.specs.Owns.{ownerBy}
 use Rattle.compile_nodes.specs.Ends.{belowS, endsE}
 use Rattle.compile_nodes.specs.Knows.{Walk}
 use Rattle.compile_nodes.specs.Ready.{Node, stmt, expr, Place, Lent, Stood, Kept, Wrote, Ready, Done, Asks, Answers}
@@ -46,7 +46,8 @@ half-second {l} {part} {sizes} {at} t i =
     let z : 8 * at + (8 + i) ≡ 8 * (at + 1) + i = omega arith in
     rw (n .whole, t .whole, half-part l (8 * at) (8 + i), half-part l (8 * (at + 1)) i, z)
 
-module _ {x : Target} {e : Expr} {W : Walk} {X : Place} {l part : List ℕ} {nesting at : ℕ} {sizes : List ℕ} {L : Lent} {top holds depth : ℕ} {pen : Pen} (h : Ready (stmt (assign x e)) W X l part nesting at sizes L top holds depth pen) where
+module _ {x : Target} {e : Expr} {W : Walk} {X : Place} {l part : List ℕ} {nesting at : ℕ} {sizes : List ℕ} {L : Lent} {top holds depth : ℕ}
+    {pen : Pen} (h : Ready (stmt (assign x e)) W X l part nesting at sizes L top holds depth pen) where
   pub assign-room : 4 * top ≤ length (L .env)
   assign-room = omega (arith, h .room)
 
@@ -60,7 +61,8 @@ module _ {x : Target} {e : Expr} {W : Walk} {X : Place} {l part : List ℕ} {nes
       subst (λ (k : ℕ). k < 65536) (sym z ∙ e) (name-small (h .table .legible) (at + 1))
 
 -- ── to a variable ──
-module _ {a : ℕ} {e : Expr} {W : Walk} {X : Place} {l part : List ℕ} {nesting at : ℕ} {sizes : List ℕ} {L : Lent} {top holds depth : ℕ} {pen : Pen} (h : Ready (stmt (assign (toVariable a) e)) W X l part nesting at sizes L top holds depth pen) where
+module _ {a : ℕ} {e : Expr} {W : Walk} {X : Place} {l part : List ℕ} {nesting at : ℕ} {sizes : List ℕ} {L : Lent} {top holds depth : ℕ} {pen : Pen}
+    (h : Ready (stmt (assign (toVariable a) e)) W X l part nesting at sizes L top holds depth pen) where
   abbrev y : Code
   y = codeE (W .globals) e (X .around) (X .types) (X .start)
 
@@ -132,11 +134,13 @@ module _ {a : ℕ} {e : Expr} {W : Walk} {X : Place} {l part : List ℕ} {nestin
         pub variable-fits : Fits (moved q) (length (N .out))
         variable-fits = rw (pen-op put q) (rest-fits (after y (X .start)) refl k (d .wrote) after-target)
 
-        module _ {m : ℕ} {r : Pen} {o : List ℕ} (mean : m ≡ meaningOf (halfAt part 10) (envOf (L .env) top) (W .known)) (i : (r ≡ moved q) × (o ≡ inkOp q (N .out) 6 (ownerBy (q .inside) m) (secondIn m))) where
+        module _ {m : ℕ} {r : Pen} {o : List ℕ} (mean : m ≡ meaningOf (halfAt part 10) (envOf (L .env) top) (W .known))
+            (i : (r ≡ moved q) × (o ≡ inkOp q (N .out) 6 (ownerBy (q .inside) m) (secondIn m))) where
           meant : recordOf put ≡ rec 6 (ownerBy (q .inside) m) (secondIn m)
           unfolding goodS
           meant =
-              variable-store (meaning-of (h .stood .sees) (h .stood .knows) a (name-below h a variable-name) (isVariable (h .good .0 .0)) (h .good .0 .1 .0) (h .good .0 .1 .1)) m (rw variable-name at mean) (q .inside) (stood-second .inside)
+              variable-store (meaning-of (h .stood .sees) (h .stood .knows) a (name-below h a variable-name) (isVariable (h .good .0 .0))
+              (h .good .0 .1 .0) (h .good .0 .1 .1)) m (rw variable-name at mean) (q .inside) (stood-second .inside)
 
           stored : Wrote (N .out) o q r (op put)
           stored = wrote-op put 6 (ownerBy (q .inside) m) (secondIn m) i (λ w. meant)
@@ -154,7 +158,8 @@ module _ {a : ℕ} {e : Expr} {W : Walk} {X : Place} {l part : List ℕ} {nestin
           ended-below : N .ends ≡ sets (L .ends) (at + 1) ((X .start .address ∷ []) ++ es)
           ended-below = ends-then (L .ends) (at + 1) n (X .start .address ∷ []) es size-one (f .1 ∙ ap (λ (v : ℕ). set (L .ends) (at + 1) v) (h .stood .address)) (d .ended)
 
-          pub variable-done : {u : Pen} {last : List ℕ} → (u ≡ r) × (last ≡ set (N .ends) at (r .address)) → Done (stmt (assign (toVariable a) e)) W X at L (lent (N .env) last (N .stack) o) depth pen u
+          pub variable-done : {u : Pen} {last : List ℕ} → (u ≡ r) × (last ≡ set (N .ends) at (r .address))
+              → Done (stmt (assign (toVariable a) e)) W X at L (lent (N .env) last (N .stack) o) depth pen u
           unfolding codeS belowS after
           variable-done g =
               record {
@@ -164,10 +169,13 @@ module _ {a : ℕ} {e : Expr} {W : Walk} {X : Place} {l part : List ℕ} {nestin
               }
 
           pub variable-kept : {last : List ℕ} → last ≡ set (N .ends) at (r .address) → Kept L (lent (N .env) last (N .stack) o) top depth
-          variable-kept {last} g = kept-then kept-all (kept-then (kept-out N o (wrote-length stored)) (kept-ends (lent (N .env) (N .ends) (N .stack) o) last (rw g (length-set (N .ends) at (r .address)))))
+          variable-kept {last} g =
+              kept-then kept-all (kept-then (kept-out N o (wrote-length stored))
+              (kept-ends (lent (N .env) (N .ends) (N .stack) o) last (rw g (length-set (N .ends) at (r .address)))))
 
 -- ── to a field ──
-module _ {a : ℕ} {f e : Expr} {W : Walk} {X : Place} {l part : List ℕ} {nesting at : ℕ} {sizes : List ℕ} {L : Lent} {top holds depth : ℕ} {pen : Pen} (h : Ready (stmt (assign (toField a f) e)) W X l part nesting at sizes L top holds depth pen) where
+module _ {a : ℕ} {f e : Expr} {W : Walk} {X : Place} {l part : List ℕ} {nesting at : ℕ} {sizes : List ℕ} {L : Lent} {top holds depth : ℕ} {pen : Pen}
+    (h : Ready (stmt (assign (toField a f) e)) W X l part nesting at sizes L top holds depth pen) where
   abbrev x : Code
   x = codeE (W .globals) f (X .around) (X .types) (X .start)
 
@@ -220,7 +228,8 @@ module _ {a : ℕ} {f e : Expr} {W : Walk} {X : Place} {l part : List ℕ} {nest
   pub field-first-ready : Ready (expr f) W X l (below part 16) (nesting - 2) (at + 2) sizes L top holds depth pen
   unfolding measureS goodS
   field-first-ready =
-      rest-ready (expr f) (table-next (h .table) 16 2 refl) (omega (arith, h .deep)) (h .good .0 .0) tt (omega (arith, h .few-holds)) (omega (arith, h .few-values)) (rest-left (flatE f) (flatE e) _ _ below-both)
+      rest-ready (expr f) (table-next (h .table) 16 2 refl) (omega (arith, h .deep)) (h .good .0 .0) tt (omega (arith, h .few-holds))
+      (omega (arith, h .few-values)) (rest-left (flatE f) (flatE e) _ _ below-both)
 
   module _ (n : ℕ) (z : n ≡ getD sizes (at + 1) 0) where
     size-field : n ≡ 1 + length (flatE f)
@@ -256,7 +265,8 @@ module _ {a : ℕ} {f e : Expr} {W : Walk} {X : Place} {l part : List ℕ} {nest
         field-second-ready =
             rest-ready (expr e) (table-from (at + 1 + n) (omega arith) (h .table)) (omega (arith, h .deep)) (h .good .1) tt (omega (arith, h .few-holds)) (omega (arith, h .few-values)) after-field
 
-        module _ {N : Lent} {r : Pen} (k₂ : Kept (lent (M .env) ends (M .stack) (M .out)) N top (depth + 1)) (d₂ : Done (expr e) W Y (at + 1 + n) (lent (M .env) ends (M .stack) (M .out)) N (depth + 1) q r) where
+        module _ {N : Lent} {r : Pen} (k₂ : Kept (lent (M .env) ends (M .stack) (M .out)) N top (depth + 1))
+            (d₂ : Done (expr e) W Y (at + 1 + n) (lent (M .env) ends (M .stack) (M .out)) N (depth + 1) q r) where
           pub field-fits : Fits (moved r) (length (N .out))
           field-fits = rw (pen-op into r) (rest-fits (after v (Y .start)) refl k₂ (d₂ .wrote) after-field)
 
@@ -284,20 +294,26 @@ module _ {a : ℕ} {f e : Expr} {W : Walk} {X : Place} {l part : List ℕ} {nest
             ended-both : N .ends ≡ sets (L .ends) (at + 1) ((after x (X .start) .address ∷ fs) ++ ks)
             ended-both =
                 let w : at + 2 ≡ at + 1 + 1 = omega arith in
-                let own = ends-own (L .ends) (at + 1) (p .address) (after x (X .start) .address) fs (d .ended ∙ ap (λ (j : ℕ). sets (L .ends) j fs) w) (g .1) (wrote-address (X .start) (d .wrote) (h .stood .address)) in
-                ends-then (L .ends) (at + 1) n (after x (X .start) .address ∷ fs) ks (size-field ∙ (let u : 1 + length (flatE f) ≡ suc (length fs) = omega (arith, ends-N (expr f) W X) in u)) own (d₂ .ended)
+                let own = ends-own (L .ends) (at + 1) (p .address) (after x (X .start) .address) fs (d .ended ∙ ap (λ (j : ℕ). sets (L .ends) j fs) w)
+                (g .1) (wrote-address (X .start) (d .wrote) (h .stood .address)) in
+                ends-then (L .ends) (at + 1) n (after x (X .start) .address ∷ fs) ks
+                (size-field ∙ (let u : 1 + length (flatE f) ≡ suc (length fs) = omega (arith, ends-N (expr f) W X) in u)) own (d₂ .ended)
 
             pub field-done : {u : Pen} {last : List ℕ} → (u ≡ s) × (last ≡ set (N .ends) at (s .address)) → Done (stmt (assign (toField a f) e)) W X at L (lent (N .env) last (N .stack) o) depth pen u
             unfolding codeS belowS
             field-done j =
                 record {
                   wrote = rw (j .0) wrote-both;
-                  ended = ends-own (L .ends) at (s .address) (after whole (X .start) .address) (after x (X .start) .address ∷ (fs ++ ks)) ended-both (j .1) (wrote-address (X .start) wrote-both (h .stood .address));
+                  ended =
+                      ends-own (L .ends) at (s .address) (after whole (X .start) .address) (after x (X .start) .address ∷ (fs ++ ks)) ended-both
+                      (j .1) (wrote-address (X .start) wrote-both (h .stood .address));
                   leaves = tt;
                 }
 
             pub field-kept : {last : List ℕ} → last ≡ set (N .ends) at (s .address) → Kept L (lent (N .env) last (N .stack) o) top depth
-            field-kept {last} j = kept-then kept-both (kept-then (kept-out N o (wrote-length put-in)) (kept-ends (lent (N .env) (N .ends) (N .stack) o) last (rw j (length-set (N .ends) at (s .address)))))
+            field-kept {last} j =
+                kept-then kept-both (kept-then (kept-out N o (wrote-length put-in))
+                (kept-ends (lent (N .env) (N .ends) (N .stack) o) last (rw j (length-set (N .ends) at (s .address)))))
 
 -- ── for the walker ──
 mean-as : {us vs : List ℕ} {m : ℕ} (b : ℕ) (v : List Item) → vs ≡ us → m ≡ meaningOf b v us → m ≡ meaningOf b v vs
@@ -335,12 +351,14 @@ pub record Opens (part sizes : List ℕ) (nesting at top : ℕ) (env : List ℕ)
   pub room : 4 * top ≤ length env
   pub passes : (n : ℕ) → n ≡ getD sizes (at + 1) 0 → Passes (below part 8) sizes (at + 1) n
 
-opens-by : (x : Target) (e : Expr) {W : Walk} {X : Place} {l part : List ℕ} {nesting at : ℕ} {sizes : List ℕ} {L : Lent} {top holds depth : ℕ} {pen : Pen} → Ready (stmt (assign x e)) W X l part nesting at sizes L top holds depth pen
+opens-by : (x : Target) (e : Expr) {W : Walk} {X : Place} {l part : List ℕ} {nesting at : ℕ} {sizes : List ℕ} {L : Lent} {top holds depth : ℕ}
+    {pen : Pen} → Ready (stmt (assign x e)) W X l part nesting at sizes L top holds depth pen
     → Opens part sizes nesting at top (L .env)
 opens-by (toVariable a) e h = record { long = variable-long h .0; nests = variable-long h .1; room = assign-room h; passes = λ n z. variable-passes h n z }
 opens-by (toField a f) e h = record { long = field-long h .0; nests = omega (arith, field-long h); room = assign-room h; passes = λ n z. field-passes h n z }
 
-module _ {known aims l part : List ℕ} {nesting at : ℕ} {sizes : List ℕ} {L : Lent} {top holds depth : ℕ} {pen : Pen} (a : Asks (IsKind 21) known aims l part nesting at sizes L top holds depth pen) where
+module _ {known aims l part : List ℕ} {nesting at : ℕ} {sizes : List ℕ} {L : Lent} {top holds depth : ℕ} {pen : Pen}
+    (a : Asks (IsKind 21) known aims l part nesting at sizes L top holds depth pen) where
   -- what is asked before it is known which it is
   pub asks-assign : Opens part sizes nesting at top (L .env)
   asks-assign = let g = assign-of (a .node) (a .such) in opens-by (g .x) (g .e) (ready-as (g .same) (a .ready))
@@ -355,9 +373,18 @@ module _ {known aims l part : List ℕ} {nesting at : ℕ} {sizes : List ℕ} {L
         pub asks-variable-second : Asks IsExpr known aims l (below part (8 * (at + 1 + n - at))) (nesting - 1) (at + 1 + n) sizes (lent (L .env) ends (L .stack) (L .out)) top holds depth p
         asks-variable-second =
             let g = to-variable (a .such) (a .ready) is in
-            record { node = expr (g .e); walk = a .walk; place = a .place; such = tt; same-known = a .same-known; same-aims = a .same-aims; ready = variable-second (ready-as (g .same) (a .ready)) n z f }
+            record {
+              node = expr (g .e);
+              walk = a .walk;
+              place = a .place;
+              such = tt;
+              same-known = a .same-known;
+              same-aims = a .same-aims;
+              ready = variable-second (ready-as (g .same) (a .ready)) n z f;
+            }
 
-        module _ {N : Lent} {q : Pen} (b : Answers IsExpr known aims l (below part (8 * (at + 1 + n - at))) (nesting - 1) (at + 1 + n) sizes (lent (L .env) ends (L .stack) (L .out)) N top holds depth p q) where
+        module _ {N : Lent} {q : Pen} (b : Answers IsExpr known aims l (below part (8 * (at + 1 + n - at))) (nesting - 1) (at + 1 + n) sizes
+            (lent (L .env) ends (L .stack) (L .out)) N top holds depth p q) where
           done-variable : {W : Walk} {X : Place} {c : ℕ} {e : Expr} → W .known ≡ known → W .aims ≡ aims → Ready (stmt (assign (toVariable c) e)) W X l part nesting at sizes L top holds depth pen
               → Done (expr e) W X (at + 1 + n) (lent (L .env) ends (L .stack) (L .out)) N depth p q
           done-variable {W} {X} {c} {e} i j h = b .done (expr e) W X tt i j (variable-second h n z f)
@@ -373,7 +400,8 @@ module _ {known aims l part : List ℕ} {nesting at : ℕ} {sizes : List ℕ} {L
                 let g = to-variable (a .such) (a .ready) is in let h = ready-as (g .same) (a .ready) in let s = a .same-known in
                 variable-finish h n z f (b .kept) (done-variable s (a .same-aims) h) (mean-as _ _ s mean) i
 
-            pub answers-variable : {u : Pen} {last : List ℕ} → (u ≡ r) × (last ≡ set (N .ends) at (r .address)) → Answers (IsKind 21) known aims l part nesting at sizes L (lent (N .env) last (N .stack) o) top holds depth pen u
+            pub answers-variable : {u : Pen} {last : List ℕ} → (u ≡ r) × (last ≡ set (N .ends) at (r .address))
+                → Answers (IsKind 21) known aims l part nesting at sizes L (lent (N .env) last (N .stack) o) top holds depth pen u
             answers-variable j =
                 let g = to-variable (a .such) (a .ready) is in let h = ready-as (g .same) (a .ready) in let s = a .same-known in
                 record {
@@ -393,7 +421,8 @@ module _ {known aims l part : List ℕ} {nesting at : ℕ} {sizes : List ℕ} {L
           record { node = expr (g .f); walk = a .walk; place = a .place; such = tt; same-known = a .same-known; same-aims = a .same-aims; ready = field-first-ready (ready-as (g .same) (a .ready)) }
 
       module _ {M : Lent} {p : Pen} (b₁ : Answers IsExpr known aims l (below part 16) (nesting - 2) (at + 2) sizes L M top holds depth pen p) where
-        done-one : {W : Walk} {X : Place} {c : ℕ} {f e : Expr} → W .known ≡ known → W .aims ≡ aims → Ready (stmt (assign (toField c f) e)) W X l part nesting at sizes L top holds depth pen → Done (expr f) W X (at + 2) L M depth pen p
+        done-one : {W : Walk} {X : Place} {c : ℕ} {f e : Expr} → W .known ≡ known → W .aims ≡ aims
+            → Ready (stmt (assign (toField c f) e)) W X l part nesting at sizes L top holds depth pen → Done (expr f) W X (at + 2) L M depth pen p
         done-one {W} {X} {c} {f} i j h = b₁ .done (expr f) W X tt i j (field-first-ready h)
 
         pub asks-field-mid : (at + 1 < length (M .ends)) × (p .address < 65536)
@@ -415,7 +444,8 @@ module _ {known aims l part : List ℕ} {nesting at : ℕ} {sizes : List ℕ} {L
                 ready = field-second-ready h n z (b₁ .kept) (done-one (a .same-known) (a .same-aims) h) w;
               }
 
-          module _ {N : Lent} {r : Pen} (b₂ : Answers IsExpr known aims l (below part (8 * (at + 1 + n - at))) (nesting - 1) (at + 1 + n) sizes (lent (M .env) ends (M .stack) (M .out)) N top holds (depth + 1) q r) where
+          module _ {N : Lent} {r : Pen} (b₂ : Answers IsExpr known aims l (below part (8 * (at + 1 + n - at))) (nesting - 1) (at + 1 + n) sizes
+              (lent (M .env) ends (M .stack) (M .out)) N top holds (depth + 1) q r) where
             done-two : {W : Walk} {X : Place} {c : ℕ} {f e : Expr} → W .known ≡ known → W .aims ≡ aims → (h : Ready (stmt (assign (toField c f) e)) W X l part nesting at sizes L top holds depth pen)
                 → Done (expr e) W (Y h) (at + 1 + n) (lent (M .env) ends (M .stack) (M .out)) N (depth + 1) q r
             done-two {W} {X} {c} {f} {e} i j h = b₂ .done (expr e) W _ tt i j (field-second-ready h n z (b₁ .kept) (done-one i j h) w)
@@ -431,7 +461,8 @@ module _ {known aims l part : List ℕ} {nesting at : ℕ} {sizes : List ℕ} {L
                   let g = to-field (a .such) (a .ready) is in let h = ready-as (g .same) (a .ready) in let s = a .same-known in let t = a .same-aims in
                   field-finish h n z (b₁ .kept) (done-one s t h) w (b₂ .kept) (done-two s t h) (mean-as _ _ s mean) i
 
-              pub answers-field : {e : Pen} {last : List ℕ} → (e ≡ u) × (last ≡ set (N .ends) at (u .address)) → Answers (IsKind 21) known aims l part nesting at sizes L (lent (N .env) last (N .stack) o) top holds depth pen e
+              pub answers-field : {e : Pen} {last : List ℕ} → (e ≡ u) × (last ≡ set (N .ends) at (u .address))
+                  → Answers (IsKind 21) known aims l part nesting at sizes L (lent (N .env) last (N .stack) o) top holds depth pen e
               answers-field j =
                   let g = to-field (a .such) (a .ready) is in let h = ready-as (g .same) (a .ready) in let s = a .same-known in let t = a .same-aims in
                   record {

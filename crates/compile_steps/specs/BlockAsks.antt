@@ -9,22 +9,22 @@ use Rattle.words.specs.Numbers.{halfAt, wordAt}
 use Rattle.language.specs.Tree.{Decl, Items, block, countItems}
 use Rattle.language.specs.Names.{blockOf}
 use Rattle.language.specs.Measure.{measureS}
-use Rattle.scopes.specs.Environment.{envOf, addAll, item, opened, Grown}
-use Rattle.heads.specs.Items.{blockItems}
-use Rattle.shapes.specs.Steps.{EnterAsks}
-use Rattle.compile_pen.specs.declared.Pen.{Pen}
-use Rattle.compile_pen.specs.Ink.{Fits}
-use Rattle.compile_pen.specs.Folds.{penAfter, inked, lets, length-inked}
-use Rattle.compile_own.specs.Owns.{pensHead, inksHead, finishes, holdsHead}
+use Rattle.table_scopes.specs.Environment.{envOf, addAll, item, opened, Grown}
+use Rattle.table_scopes.specs.Items.{blockItems}
+use Rattle.table_forms.specs.Steps.{EnterAsks}
+use Rattle.compile_output.specs.declared.Pen.{Pen}
+use Rattle.compile_output.specs.Ink.{Fits}
+use Rattle.compile_output.specs.Folds.{penAfter, inked, lets, length-inked}
+use Rattle.compile_emit.specs.Owns.{pensHead, inksHead, finishes, holdsHead}
 use Rattle.compile_nodes.specs.Ends.{atHead}
 use Rattle.compile_nodes.specs.Knows.{Walk}
 use Rattle.compile_nodes.specs.Ready.{stmt, Place, Lent, Kept, Ready, Asks, Answers, ReadyItems, DoneItems, AsksItems, AnswersItems}
-use Rattle.compile_sight.specs.Marks.{marks}
-use Rattle.compile_sight.specs.Blocks.{aroundItems}
+use Rattle.compile_scopes.specs.Marks.{marks}
+use Rattle.compile_scopes.specs.Blocks.{aroundItems}
 use Rattle.compile_steps.specs.Parts.{lent, below, asked, kept-then, kept-out, kept-ends}
 use Rattle.compile_steps.specs.Views.{IsKind, Block, block-of}
 use Rattle.compile_steps.specs.Shared.{ready-as, done-as}
-use Rattle.compile_sight.specs.HeadOps.{holds-open}
+use Rattle.compile_scopes.specs.HeadOps.{holds-open}
 use Rattle.compile_steps.specs.Headed.{Pushed, headed-within, headed-open, headed-marks, headed-enter, headed-declares, headed-kept}
 use Rattle.compile_steps.specs.Blocks.{block-headed, block-heads, block-count, block-ready, block-fits, block-small, block-done}
 
@@ -102,7 +102,8 @@ module _ {known aims l part : List ℕ} {nesting at : ℕ} {sizes : List ℕ} {L
               block-small _ _ ready (hs ready) (cs ready) o g (declared (a .walk) (a .same-known)) (items-done (a .same-known) (a .same-aims) ready) j,
             )
 
-            pub answers-block : {r : Pen} {last : List ℕ} → (r ≡ u) × (last ≡ set (N .ends) at (u .address)) → Answers (IsKind 1) known aims l part nesting at sizes L (lent (N .env) last (N .stack) late) top holds depth pen r
+            pub answers-block : {r : Pen} {last : List ℕ} → (r ≡ u) × (last ≡ set (N .ends) at (u .address))
+                → Answers (IsKind 1) known aims l part nesting at sizes L (lent (N .env) last (N .stack) late) top holds depth pen r
             answers-block {r} {last} f =
                 record {
                   kept = kept-then kept-items (kept-then (kept-out N late (ap (length {A = ℕ}) (j .1) ∙ length-inked (lets opens) q (N .out)))

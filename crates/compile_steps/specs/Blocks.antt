@@ -10,34 +10,35 @@ use Rattle.language.specs.Program.{flatDecl, flatS, flatItems}
 use Rattle.words.specs.Numbers.{halfAt, wordAt}
 use Rattle.language.specs.Tree.{Decl, block, Items, countItems}
 use Rattle.language.specs.Names.{blockOf}
-use Rattle.scopes.specs.Environment.{opened}
-use Rattle.heads.specs.Trees.{length-map}
-use Rattle.heads.specs.Defines.{heads-stand}
-use Rattle.heads.specs.Defines as defines
-use Rattle.shapes.specs.Steps.{table-next}
+use Rattle.table_scopes.specs.Environment.{opened}
+use Rattle.table_scopes.specs.Trees.{length-map}
+use Rattle.table_scopes.specs.Defines.{heads-stand}
+use Rattle.table_scopes.specs.Defines as defines
+use Rattle.table_forms.specs.Steps.{table-next}
 use Rattle.compile_code.specs.Code.{Code, cell, _▸_, At, at}
 use Rattle.compile_code.specs.Compile.{Around, inside, bound, labels, scopesOf, heldIn, codeS, codeItems}
 use Rattle.compile_names.specs.Good.{goodS}
-use Rattle.compile_pen.specs.declared.Pen.{Pen}
-use Rattle.compile_pen.specs.Ink.{Fits}
-use Rattle.compile_pen.specs.Folds.{penAfter, inked, lets, grows, fits-before}
+use Rattle.compile_output.specs.declared.Pen.{Pen}
+use Rattle.compile_output.specs.Ink.{Fits}
+use Rattle.compile_output.specs.Folds.{penAfter, inked, lets, grows, fits-before}
 use Rattle.compile_nodes.specs.Knows.{Walk}
 use Rattle.compile_nodes.specs.Ends.{atHead, endsHead, belowS, endsItems}
 use Rattle.compile_nodes.specs.Ready.{stmt, flatN, Place, Lent, Laid, Ready, Done, ReadyItems, DoneItems}
-use Rattle.compile_own.specs.Owns.{pensHead, inksHead, finishes, holdsHead}
-use Rattle.compile_sight.specs.Marks.{openIn}
-use Rattle.compile_sight.specs.Lengths.{length-head}
-use Rattle.compile_sight.specs.Heads.{classes-known, classes-block, bytes-head, Bytes}
-use Rattle.compile_sight.specs.Blocks.{aroundItems, scopes-items}
-use Rattle.compile_sight.specs.Sight.{sees-in-block, knows-in-block, lands-in-block}
+use Rattle.compile_emit.specs.Owns.{pensHead, inksHead, finishes, holdsHead}
+use Rattle.compile_scopes.specs.Marks.{openIn}
+use Rattle.compile_scopes.specs.Lengths.{length-head}
+use Rattle.compile_scopes.specs.Heads.{classes-known, classes-block, bytes-head, Bytes}
+use Rattle.compile_scopes.specs.Blocks.{aroundItems, scopes-items}
+use Rattle.compile_scopes.specs.Sight.{sees-in-block, knows-in-block, lands-in-block}
 use Rattle.compile_steps.specs.Parts.{below, lent, laid-tail, laid-left, laid-right, laid-at, head-N, wrote-then, wrote-length, ended-then}
 use Rattle.compile_steps.specs.Stages.{Finished, finished-done}
 use Rattle.compile_steps.specs.Cells.{at-head-cell}
-use Rattle.compile_sight.specs.HeadOps.{headOps, head-pen, head-inked, holds-open}
+use Rattle.compile_scopes.specs.HeadOps.{headOps, head-pen, head-inked, holds-open}
 use Rattle.compile_steps.specs.HeadCode.{head-read}
 use Rattle.compile_steps.specs.Headed.{held-head, Pushed, Headed, headed-open, headed-now, headed-same, headed-most, headed-wrote, headed-ended, headed-ends, headed-fits, headed-stood}
 
-module _ (ds : List Decl) (is : Items) {W : Walk} {X : Place} {l part : List ℕ} {nesting at : ℕ} {sizes : List ℕ} {L : Lent} {top holds depth : ℕ} {pen : Pen} (r : Ready (stmt (block ds is)) W X l part nesting at sizes L top holds depth pen) where
+module _ (ds : List Decl) (is : Items) {W : Walk} {X : Place} {l part : List ℕ} {nesting at : ℕ} {sizes : List ℕ} {L : Lent} {top holds depth : ℕ}
+    {pen : Pen} (r : Ready (stmt (block ds is)) W X l part nesting at sizes L top holds depth pen) where
   abbrev block-Γ : List Around
   block-Γ = aroundItems (blockOf ds is) ds is (X .around) (X .start)
 

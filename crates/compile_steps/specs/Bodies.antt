@@ -12,42 +12,43 @@ use Rattle.values.specs.Types.{tyByte}
 use Rattle.language.specs.Tree.{Decl, Items, Expr, blockExpr, countItems}
 use Rattle.language.specs.Table.{Entry}
 use Rattle.language.specs.Names.{Scope, expressionOf}
-use Rattle.programs.specs.Claims.{entriesOf}
-use Rattle.scopes.specs.Environment.{envOf, shut}
-use Rattle.spans.specs.Stands.{Stands, stands-left, stands-within, length-entries}
-use Rattle.heads.specs.Trees.{length-map, length-Items}
-use Rattle.heads.specs.Defines.{heads-stand}
-use Rattle.heads.specs.Defines as defines
-use Rattle.shapes.specs.Steps.{table-next}
+use Rattle.language_laws.specs.Claims.{entriesOf}
+use Rattle.table_scopes.specs.Environment.{envOf, shut}
+use Rattle.table_scopes.specs.Stands.{Stands, stands-left, stands-within, length-entries}
+use Rattle.table_scopes.specs.Trees.{length-map, length-Items}
+use Rattle.table_scopes.specs.Defines.{heads-stand}
+use Rattle.table_scopes.specs.Defines as defines
+use Rattle.table_forms.specs.Steps.{table-next}
 use Rattle.compile_code.specs.Code.{Code, _▸_, At, at, after}
 use Rattle.compile_code.specs.Compile.{Around, inside, held, labels, scopesOf, heldIn, codeItems, codeE}
 use Rattle.compile_names.specs.Good.{goodE}
-use Rattle.compile_pen.specs.declared.Pen.{Pen}
-use Rattle.compile_pen.specs.Ink.{Fits}
-use Rattle.compile_pen.specs.Folds.{penAfter, inked, lets, grows, fits-before}
+use Rattle.compile_output.specs.declared.Pen.{Pen}
+use Rattle.compile_output.specs.Ink.{Fits}
+use Rattle.compile_output.specs.Folds.{penAfter, inked, lets, grows, fits-before}
 use Rattle.compile_nodes.specs.Knows.{Walk}
 use Rattle.compile_nodes.specs.Ends.{atHead, endsHead, belowE, endsItems, endsE}
 use Rattle.compile_nodes.specs.Ready.{expr, flatN, Place, Lent, Laid, Stood, Kept, Ready, Done, ReadyItems, DoneItems}
-use Rattle.compile_own.specs.Owns.{pensHead, inksHead, finishes, holdsHead}
-use Rattle.compile_sight.specs.Marks.{openIn}
-use Rattle.compile_sight.specs.Lengths.{length-head}
-use Rattle.compile_sight.specs.Heads.{classes-known, classes-expression, bytes-head, Bytes}
-use Rattle.compile_sight.specs.Blocks.{within, aroundValue, aroundItems, scopes-value, scopes-items}
-use Rattle.compile_sight.specs.Sight.{sees-in-expression, sees-in-value, knows-in-value, knows-in-expression, lands-in-expression}
+use Rattle.compile_emit.specs.Owns.{pensHead, inksHead, finishes, holdsHead}
+use Rattle.compile_scopes.specs.Marks.{openIn}
+use Rattle.compile_scopes.specs.Lengths.{length-head}
+use Rattle.compile_scopes.specs.Heads.{classes-known, classes-expression, bytes-head, Bytes}
+use Rattle.compile_scopes.specs.Blocks.{within, aroundValue, aroundItems, scopes-value, scopes-items}
+use Rattle.compile_scopes.specs.Sight.{sees-in-expression, sees-in-value, knows-in-value, knows-in-expression, lands-in-expression}
 use Rattle.compile_steps.specs.Parts.{below, lent, laid-tail, laid-left, laid-right, laid-at, head-N, wrote-then, wrote-later, wrote-length, wrote-address, fits-first, ended-then}
 use Rattle.compile_steps.specs.Stages.{Finished, finished-done}
 use Rattle.compile_steps.specs.Cells.{at-head-cell, cell-items}
-use Rattle.compile_sight.specs.HeadOps.{headOps, head-pen, head-inked, holds-open}
+use Rattle.compile_scopes.specs.HeadOps.{headOps, head-pen, head-inked, holds-open}
 use Rattle.compile_steps.specs.HeadCode.{head-read}
-use Rattle.compile_sight.specs.Lengths.{length-items}
+use Rattle.compile_scopes.specs.Lengths.{length-items}
 use Rattle.compile_steps.specs.Headed.{held-head, Pushed, Headed, headed-open, headed-now, headed-same, headed-most, headed-wrote, headed-ended, headed-ends, headed-fits, headed-stood}
-use Rattle.spans.specs.Spans.{span}
-use Rattle.heads.specs.Trees.{spans-Items}
+use Rattle.table_scopes.specs.Spans.{span}
+use Rattle.table_scopes.specs.Trees.{spans-Items}
 use Rattle.language.specs.Faults.{typeE}
 use Rattle.compile_code.specs.Compile.{bound, tyIn, orInteger}
 use mathlib.Core.List.{append-assoc}
 
-module _ (ds : List Decl) (is : Items) (v : Expr) {W : Walk} {X : Place} {l part : List ℕ} {nesting at : ℕ} {sizes : List ℕ} {L : Lent} {top holds depth : ℕ} {pen : Pen} (r : Ready (expr (blockExpr ds is v)) W X l part nesting at sizes L top holds depth pen) where
+module _ (ds : List Decl) (is : Items) (v : Expr) {W : Walk} {X : Place} {l part : List ℕ} {nesting at : ℕ} {sizes : List ℕ} {L : Lent}
+    {top holds depth : ℕ} {pen : Pen} (r : Ready (expr (blockExpr ds is v)) W X l part nesting at sizes L top holds depth pen) where
   abbrev body-Γ : List Around
   body-Γ = aroundItems (expressionOf ds is) ds is (X .around) (X .start)
 
@@ -104,7 +105,9 @@ module _ (ds : List Decl) (is : Items) (v : Expr) {W : Walk} {X : Place} {l part
   body-inner = laid-left (flatItems is) (flatE v) body-fs body-gs body-rest
 
   body-last : Laid W l (at + 1 + length ds + length (flatItems is)) body-s (flatE v) body-gs
-  body-last = laid-right (flatItems is) (flatE v) body-fs body-gs body-s (length-items (W .globals) is body-Γ (X .types) body-q ∙ sym (length-Items is)) (cell-items (W .globals) is body-Γ (X .types) body-q) body-rest
+  body-last =
+      laid-right (flatItems is) (flatE v) body-fs body-gs body-s (length-items (W .globals) is body-Γ (X .types) body-q ∙ sym (length-Items is))
+      (cell-items (W .globals) is body-Γ (X .types) body-q) body-rest
 
   body-block : Stands (entriesOf l) (at + 1) (map flatDecl ds ++ flatItems is)
   body-block = stands-left (map flatDecl ds ++ flatItems is) (flatE v) (rw (← append-assoc (map flatDecl ds) (flatItems is) (flatE v)) at (body-laid .stands))
@@ -112,7 +115,8 @@ module _ (ds : List Decl) (is : Items) (v : Expr) {W : Walk} {X : Place} {l part
   body-bytes : Bytes (W .globals) ds
   unfolding goodE
   body-bytes =
-      bytes-head (r .table .legible) (W .globals) (expressionOf ds is ∷ scopesOf (X .around)) (classes-expression (W .globals) ds is (scopesOf (X .around)) (classes-known (r .stood .sees) (r .stood .knows)))
+      bytes-head (r .table .legible) (W .globals) (expressionOf ds is ∷ scopesOf (X .around))
+      (classes-expression (W .globals) ds is (scopesOf (X .around)) (classes-known (r .stood .sees) (r .stood .knows)))
       (at + 1) [] ds (heads-stand (r .table .legible) (at + 1) ds is body-block) (r .good .0)
 
   pub body-headed : Headed (expr (blockExpr ds is v)) ds is (body-x ▸ body-y) W X l at L top pen

@@ -9,28 +9,28 @@ use Rattle.words.specs.Numbers.{halfAt, wordAt}
 use Rattle.language.specs.Tree.{Decl, Items, Expr, blockExpr, countItems}
 use Rattle.language.specs.Names.{expressionOf}
 use Rattle.language.specs.Measure.{measureS}
-use Rattle.scopes.specs.Environment.{envOf, addAll, item, shut, Grown}
-use Rattle.heads.specs.Items.{blockItems}
-use Rattle.programs.specs.Claims.{entriesOf}
-use Rattle.spans.specs.Spans.{span}
-use Rattle.spans.specs.Sizes.{Known}
-use Rattle.shapes.specs.Steps.{EnterAsks}
-use Rattle.shapes.specs.Ends.{known-from}
+use Rattle.table_scopes.specs.Environment.{envOf, addAll, item, shut, Grown}
+use Rattle.table_scopes.specs.Items.{blockItems}
+use Rattle.language_laws.specs.Claims.{entriesOf}
+use Rattle.table_scopes.specs.Spans.{span}
+use Rattle.table_scopes.specs.Sizes.{Known}
+use Rattle.table_forms.specs.Steps.{EnterAsks}
+use Rattle.table_forms.specs.Ends.{known-from}
 use Rattle.compile_code.specs.Code.{after}
 use Rattle.compile_code.specs.Compile.{codeItems}
-use Rattle.compile_pen.specs.declared.Pen.{Pen}
-use Rattle.compile_pen.specs.Ink.{Fits}
-use Rattle.compile_pen.specs.Folds.{penAfter, inked, lets, length-inked}
-use Rattle.compile_own.specs.Owns.{pensHead, inksHead, finishes, holdsHead}
+use Rattle.compile_output.specs.declared.Pen.{Pen}
+use Rattle.compile_output.specs.Ink.{Fits}
+use Rattle.compile_output.specs.Folds.{penAfter, inked, lets, length-inked}
+use Rattle.compile_emit.specs.Owns.{pensHead, inksHead, finishes, holdsHead}
 use Rattle.compile_nodes.specs.Ends.{atHead}
 use Rattle.compile_nodes.specs.Knows.{Walk}
 use Rattle.compile_nodes.specs.Ready.{expr, Place, Lent, Kept, Ready, Done, Asks, Answers, ReadyItems, DoneItems, AsksItems, AnswersItems}
-use Rattle.compile_sight.specs.Marks.{marks}
-use Rattle.compile_sight.specs.Blocks.{aroundValue, aroundItems}
+use Rattle.compile_scopes.specs.Marks.{marks}
+use Rattle.compile_scopes.specs.Blocks.{aroundValue, aroundItems}
 use Rattle.compile_steps.specs.Parts.{lent, below, asked, kept-then, kept-out, kept-ends}
 use Rattle.compile_steps.specs.Views.{IsExpr, IsKind, Body, body-of}
 use Rattle.compile_steps.specs.Shared.{ready-as, done-as}
-use Rattle.compile_sight.specs.HeadOps.{holds-open}
+use Rattle.compile_scopes.specs.HeadOps.{holds-open}
 use Rattle.compile_steps.specs.Headed.{Pushed, headed-within, headed-open, headed-marks, headed-enter, headed-declares, headed-kept}
 use Rattle.compile_steps.specs.Bodies.{body-headed, body-heads, body-count, body-ready, body-passes, body-ready-2, body-fits, body-small, body-done}
 
@@ -41,7 +41,11 @@ inItems ds is X = record { around = aroundItems (expressionOf ds is) ds is (X .a
 abbrev inValue : List Decl → Items → Walk → Place → Place
 inValue ds is W X =
     let q = atHead ds (X .start) in
-    record { around = aroundValue (expressionOf ds is) ds (X .around) (X .start); types = X .types; start = after (codeItems (W .globals) is (aroundItems (expressionOf ds is) ds is (X .around) (X .start)) (X .types) q) q }
+    record {
+      around = aroundValue (expressionOf ds is) ds (X .around) (X .start);
+      types = X .types;
+      start = after (codeItems (W .globals) is (aroundItems (expressionOf ds is) ds is (X .around) (X .start)) (X .types) q) q;
+    }
 
 module _ {known aims l part : List ℕ} {nesting at : ℕ} {sizes : List ℕ} {L : Lent} {top holds depth : ℕ} {pen : Pen} (a : Asks (IsKind 53) known aims l part nesting at sizes L top holds depth pen)
     {heads count : ℕ} (ha : heads ≡ halfAt part 2) (co : count ≡ wordAt part 4) where
@@ -101,7 +105,8 @@ module _ {known aims l part : List ℕ} {nesting at : ℕ} {sizes : List ℕ} {L
         module _ {N : Lent} {q : Pen}
             (b₁ : AnswersItems known aims l (below part (8 * (1 + heads))) count (nesting - 1) (at + 1 + heads) sizes (lent new ends (L .stack) out) N up (holds + opens) depth p q)
             {n : ℕ} (size : n ≡ span count (drop (at + 1 + heads) (entriesOf l))) where
-          items-done : {ds : List Decl} {is : Items} {e : Expr} {W : Walk} {X : Place} → W .known ≡ known → W .aims ≡ aims → (h : Ready (expr (blockExpr ds is e)) W X l part nesting at sizes L top holds depth pen)
+          items-done : {ds : List Decl} {is : Items} {e : Expr} {W : Walk} {X : Place} → W .known ≡ known → W .aims ≡ aims
+              → (h : Ready (expr (blockExpr ds is e)) W X l part nesting at sizes L top holds depth pen)
               → DoneItems is W (inItems ds is X) (at + 1 + heads) (lent new ends (L .stack) out) N depth p q
           items-done {ds} {is} {e} {W} {X} x y h = b₁ .done is W (inItems ds is X) x y (items-ready x h)
 
@@ -109,16 +114,27 @@ module _ {known aims l part : List ℕ} {nesting at : ℕ} {sizes : List ℕ} {L
           asks-body-passes =
               body-passes _ _ _ ready (hs ready) (cs ready) o g (declared (a .walk) (a .same-known)) (b₁ .kept) (items-done (a .same-known) (a .same-aims) ready) size
 
-          value-ready : {ds : List Decl} {is : Items} {e : Expr} {W : Walk} {X : Place} → W .known ≡ known → W .aims ≡ aims → (h : Ready (expr (blockExpr ds is e)) W X l part nesting at sizes L top holds depth pen)
+          value-ready : {ds : List Decl} {is : Items} {e : Expr} {W : Walk} {X : Place} → W .known ≡ known → W .aims ≡ aims
+              → (h : Ready (expr (blockExpr ds is e)) W X l part nesting at sizes L top holds depth pen)
               → Ready (expr e) W (inValue ds is W X) l (below part (8 * (1 + heads + n))) (nesting - 1) (at + 1 + heads + n) sizes N up (holds + opens) depth q
           value-ready {ds} {is} {e} {W} x y h = body-ready-2 ds is e h (hs h) (cs h) o g (declared W x) (b₁ .kept) (items-done x y h) size
 
           pub asks-body-value : Asks IsExpr known aims l (below part (8 * (1 + heads + n))) (nesting - 1) (at + 1 + heads + n) sizes N up (holds + opens) depth q
-          asks-body-value = record { node = expr (v .e); walk = a .walk; place = _; such = tt; same-known = a .same-known; same-aims = a .same-aims; ready = value-ready (a .same-known) (a .same-aims) ready }
+          asks-body-value =
+              record {
+                node = expr (v .e);
+                walk = a .walk;
+                place = _;
+                such = tt;
+                same-known = a .same-known;
+                same-aims = a .same-aims;
+                ready = value-ready (a .same-known) (a .same-aims) ready;
+              }
 
           module _ {O : Lent} {t : Pen}
               (b₂ : Answers IsExpr known aims l (below part (8 * (1 + heads + n))) (nesting - 1) (at + 1 + heads + n) sizes N O up (holds + opens) depth q t) where
-            value-done : {ds : List Decl} {is : Items} {e : Expr} {W : Walk} {X : Place} → W .known ≡ known → W .aims ≡ aims → (h : Ready (expr (blockExpr ds is e)) W X l part nesting at sizes L top holds depth pen)
+            value-done : {ds : List Decl} {is : Items} {e : Expr} {W : Walk} {X : Place} → W .known ≡ known → W .aims ≡ aims
+                → (h : Ready (expr (blockExpr ds is e)) W X l part nesting at sizes L top holds depth pen)
                 → Done (expr e) W (inValue ds is W X) (at + 1 + heads + n) N O depth q t
             value-done {ds} {is} {e} {W} {X} x y h = b₂ .done (expr e) W (inValue ds is W X) tt x y (value-ready x y h)
 
@@ -141,7 +157,8 @@ module _ {known aims l part : List ℕ} {nesting at : ℕ} {sizes : List ℕ} {L
                     body-small _ _ _ ready (hs ready) (cs ready) o g (declared (a .walk) x) (b₁ .kept) (items-done x y ready) size (value-done x y ready) j,
                   )
 
-              pub answers-body : {r : Pen} {last : List ℕ} → (r ≡ u) × (last ≡ set (O .ends) at (u .address)) → Answers (IsKind 53) known aims l part nesting at sizes L (lent (O .env) last (O .stack) late) top holds depth pen r
+              pub answers-body : {r : Pen} {last : List ℕ} → (r ≡ u) × (last ≡ set (O .ends) at (u .address))
+                  → Answers (IsKind 53) known aims l part nesting at sizes L (lent (O .env) last (O .stack) late) top holds depth pen r
               answers-body {r} {last} f =
                   record {
                     kept = kept-then kept-value (kept-then (kept-out O late (ap (length {A = ℕ}) (j .1) ∙ length-inked (lets opens) t (O .out)))

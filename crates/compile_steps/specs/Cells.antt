@@ -10,17 +10,20 @@ use Rattle.words.specs.Choice.{if_then_else_}
 use Rattle.values.specs.Types.{Ty, logical}
 use Rattle.values.specs.Operators.{Binary}
 use Rattle.bytecode.specs.Instructions.{go}
-use Rattle.language.specs.Tree.{Decl, declare, holding, Stmt, block, assign, when, choose, while, goto, assert, call, setLevel, select, Items, noItem, label, item, Arms, lastArm, arm, Target, toVariable, toField, Expr, number, truth, pattern, null, variable, invoke, field, make, operate1, operate2, conditional, fader, blockExpr, Exprs, noExpr, expr, Global}
+use Rattle.language.specs.Tree.{Decl, declare, holding, Stmt, block, assign, when, choose, while, goto, assert, call, setLevel, select, Items, noItem, label, item, Arms}
+use Rattle.language.specs.Tree.{lastArm, arm, Target, toVariable, toField, Expr, number, truth, pattern, null, variable, invoke, field, make, operate1, operate2}
+use Rattle.language.specs.Tree.{conditional, fader, blockExpr, Exprs, noExpr, expr, Global}
 use Rattle.language.specs.Names.{blockOf, expressionOf}
 use Rattle.language.specs.Faults.{typeE, isTy}
-use Rattle.heads.specs.Trees.{length-S, length-E}
+use Rattle.table_scopes.specs.Trees.{length-S, length-E}
 use Rattle.compile_code.specs.Code.{Code, op, cell, _▸_, At, at, skip, after}
-use Rattle.compile_code.specs.Compile.{Around, inside, outermost, bound, global, held, labels, scopesOf, passing, theLabels, hasLabel, labelAt, Way, plainly, marked, ifTrue, ifFalse, wayOf, codeWay, codeGoto, codeHead, codeS, codeItems, codeArms, codeTarget, codeE, codeEs, opsArms, tyTarget, tyE}
-use Rattle.compile_known.specs.Numbers.{cellsWithin}
+use Rattle.compile_code.specs.Compile.{Around, inside, outermost, bound, global, held, labels, scopesOf, passing, theLabels, hasLabel, labelAt, Way, plainly, marked}
+use Rattle.compile_code.specs.Compile.{ifTrue, ifFalse, wayOf, codeWay, codeGoto, codeHead, codeS, codeItems, codeArms, codeTarget, codeE, codeEs, opsArms, tyTarget, tyE}
+use Rattle.compile_symbols.specs.Numbers.{cellsWithin}
 use Rattle.compile_nodes.specs.Ends.{aroundHead, atHead, endsS, endsE}
-use Rattle.compile_sight.specs.HeadOps.{head-cells}
-use Rattle.compile_sight.specs.Cells.{within-head}
-use Rattle.compile_sight.specs.Lengths.{cells-append, length-below, length-belowE}
+use Rattle.compile_scopes.specs.HeadOps.{head-cells}
+use Rattle.compile_scopes.specs.Cells.{within-head}
+use Rattle.compile_scopes.specs.Lengths.{cells-append, length-below, length-belowE}
 
 goto-cell : (Γ : List Around) (a : ℕ) (p : At) → after (codeGoto Γ a) p .cell ≡ p .cell
 unfolding after codeGoto
@@ -40,13 +43,15 @@ pub at-head-cell : (ds : List Decl) (p : At) → atHead ds p .cell ≡ p .cell +
 at-head-cell ds p = head-cells ds p ∙ ap (λ (n : ℕ). p .cell + n) (sym (within-head ds))
 
 module _ (gs : List Global) where
-  head-cell : (ds : List Decl) (Γ : List Around) (p : At) (f : List Around → At → Code) → after (codeHead gs bound ds Γ p f) p .cell ≡ after (f (aroundHead bound ds Γ p) (atHead ds p)) (atHead ds p) .cell
+  head-cell : (ds : List Decl) (Γ : List Around) (p : At) (f : List Around → At → Code)
+      → after (codeHead gs bound ds Γ p f) p .cell ≡ after (f (aroundHead bound ds Γ p) (atHead ds p)) (atHead ds p) .cell
   unfolding after codeHead aroundHead atHead
   head-cell [] Γ p f = refl
   head-cell (declare x ∷ ds) Γ p f = head-cell ds (bound (x .name) (p .cell) ∷ Γ) (at (suc (suc (p .address))) (suc (p .cell))) f
   head-cell (holding g ∷ ds) Γ p f = head-cell ds (held g ∷ Γ) (skip 1 p) f
 
-  way-cell : (w : Way) (o : Binary) (Γ : List Around) (st : List Ty) (t : Ty) (x : Code) (p : At) (f : List Ty → At → Code) (n k : ℕ) → after x p .cell ≡ p .cell + n → ((us : List Ty) (q : At) → after (f us q) q .cell ≡ q .cell + k)
+  way-cell : (w : Way) (o : Binary) (Γ : List Around) (st : List Ty) (t : Ty) (x : Code) (p : At) (f : List Ty → At → Code) (n k : ℕ)
+      → after x p .cell ≡ p .cell + n → ((us : List Ty) (q : At) → after (f us q) q .cell ≡ q .cell + k)
       → after (codeWay w o Γ st t x p f) p .cell ≡ p .cell + (n + k)
   unfolding after
   way-cell plainly o Γ st t x p f n k h g = omega (arith, h, g (t ∷ st) (after x p))
@@ -110,7 +115,8 @@ module _ (gs : List Global) where
     cell-E (make c es) Γ st p = omega (arith, cell-Es es Γ st p)
     cell-E (operate1 o e) Γ st p = omega (arith, cell-E e Γ st p)
     cell-E (operate2 o e f) Γ st p =
-        way-cell (wayOf o (isTy logical (typeE (scopesOf Γ) e))) o Γ st (tyE gs Γ e) (codeE gs e Γ st p) p (λ ts q. codeE gs f Γ ts q) (cellsWithin (flatE e)) (cellsWithin (flatE f)) (cell-E e Γ st p) (λ us q. cell-E f Γ us q)
+        way-cell (wayOf o (isTy logical (typeE (scopesOf Γ) e))) o Γ st (tyE gs Γ e) (codeE gs e Γ st p) p (λ ts q. codeE gs f Γ ts q)
+        (cellsWithin (flatE e)) (cellsWithin (flatE f)) (cell-E e Γ st p) (λ us q. cell-E f Γ us q)
         ∙ omega (arith, cells-append (flatE e) (flatE f))
     cell-E (conditional e f g) Γ st p =
         let q = skip 1 (after (codeE gs e Γ st p) p) in let r = skip 1 (after (codeE gs f Γ st q) q) in
@@ -119,7 +125,14 @@ module _ (gs : List Global) where
     cell-E (blockExpr ds is e) Γ st p =
         let q = atHead ds p in let Δ = aroundHead bound ds (inside (expressionOf ds is) ∷ Γ) p in let y = codeItems gs is (labels is (q .address) ∷ Δ) st q in
         head-cell ds (inside (expressionOf ds is) ∷ Γ) p (λ Δ q. let y = codeItems gs is (labels is (q .address) ∷ Δ) st q in y ▸ codeE gs e Δ st (after y q))
-        ∙ omega (arith, cell-items is (labels is (q .address) ∷ Δ) st q, cell-E e Δ st (after y q), at-head-cell ds p, cells-append (map flatDecl ds) (flatItems is ++ flatE e), cells-append (flatItems is) (flatE e))
+        ∙ omega (
+          arith,
+          cell-items is (labels is (q .address) ∷ Δ) st q,
+          cell-E e Δ st (after y q),
+          at-head-cell ds p,
+          cells-append (map flatDecl ds) (flatItems is ++ flatE e),
+          cells-append (flatItems is) (flatE e),
+        )
 
     pub cell-Es : (es : Exprs) (Γ : List Around) (st : List Ty) (p : At) → after (codeEs gs es Γ st p) p .cell ≡ p .cell + cellsWithin (flatEs es)
     cell-Es noExpr Γ st p = omega arith

@@ -6,11 +6,11 @@ use native.Mathlib.Omega.{arith}
 use lib.ListN.{length, getD, set, take}
 use Rattle.language.specs.Program.{flatS, flatE}
 use Rattle.language.specs.Tree.{Stmt, Expr, choose}
-use Rattle.shapes.specs.Steps.{Passes}
+use Rattle.table_forms.specs.Steps.{Passes}
 use Rattle.compile_code.specs.Code.{At, skip, after}
 use Rattle.compile_code.specs.Compile.{codeS}
-use Rattle.compile_pen.specs.declared.Pen.{Pen}
-use Rattle.compile_pen.specs.Ink.{Fits, moved, penShaped, inkOp, inkShape}
+use Rattle.compile_output.specs.declared.Pen.{Pen}
+use Rattle.compile_output.specs.Ink.{Fits, moved, penShaped, inkOp, inkShape}
 use Rattle.compile_nodes.specs.Knows.{Walk}
 use Rattle.compile_nodes.specs.Ready.{stmt, expr, Place, Lent, Ready, Done, Asks, Answers}
 use Rattle.compile_steps.specs.Parts.{lent, below, movedTo, asked}

@@ -7,11 +7,11 @@ use lib.ListN.{length, getD, take, set, length-set}
 use lib.Seq.{take-set-le, take-all}
 use Rattle.words.specs.Numbers.{halfAt, wordAt}
 use Rattle.language.specs.Tree.{goto}
-use Rattle.scopes.specs.Environment.{envOf}
-use Rattle.compile_pen.specs.declared.Pen.{Pen}
-use Rattle.compile_pen.specs.Ink.{Fits, moved, penShaped, inkShape}
-use Rattle.compile_known.specs.Meaning.{meaningOf}
-use Rattle.compile_own.specs.Owns.{knownFor, inkLeaf, leafType, operandsBy, inkLast, lastType, penGoto, inkGoto}
+use Rattle.table_scopes.specs.Environment.{envOf}
+use Rattle.compile_output.specs.declared.Pen.{Pen}
+use Rattle.compile_output.specs.Ink.{Fits, moved, penShaped, inkShape}
+use Rattle.compile_symbols.specs.Meaning.{meaningOf}
+use Rattle.compile_emit.specs.Owns.{knownFor, inkLeaf, leafType, operandsBy, inkLast, lastType, penGoto, inkGoto}
 use Rattle.compile_nodes.specs.Knows.{Walk, passedTo}
 use Rattle.compile_nodes.specs.Ready.{Node, stmt, name, kindN, Place, Lent, Ready, Done, Asks, Answers, ReadyEs, DoneEs, AsksEs, AnswersEs}
 use Rattle.compile_steps.specs.Parts.{below, lent, asked, head-N, kept-then, kept-stack}
@@ -21,7 +21,8 @@ use Rattle.compile_steps.specs.Leaves.{leaf-fits, leaf-done, label-fits,
 use Rattle.compile_steps.specs.Simples.{opsOf, simple-operands, simple-fits, simple-small, simple-done}
 
 -- ── the same entry, as another walker names it ──
-kind-here : {n : Node} {W : Walk} {X : Place} {l part : List ℕ} {nesting at : ℕ} {sizes : List ℕ} {L : Lent} {top holds depth : ℕ} {pen : Pen} → Ready n W X l part nesting at sizes L top holds depth pen → kindN n ≡ halfAt part 0
+kind-here : {n : Node} {W : Walk} {X : Place} {l part : List ℕ} {nesting at : ℕ} {sizes : List ℕ} {L : Lent} {top holds depth : ℕ} {pen : Pen}
+    → Ready n W X l part nesting at sizes L top holds depth pen → kindN n ≡ halfAt part 0
 kind-here {n} r = sym (head-N n (r .table) (r .laid .stands) .kind)
 
 module _ {P Q : Node → Type 0} {known aims l part : List ℕ} {nesting at : ℕ} {sizes : List ℕ} {L : Lent} {top holds depth : ℕ} {pen : Pen} (to : (n : Node) → P n → kindN n ≡ halfAt part 0 → Q n) where
@@ -53,7 +54,8 @@ module _ {known aims l part : List ℕ} {nesting at : ℕ} {sizes : List ℕ} {L
 
   module _ {kind c b k v : ℕ} (kd : kind ≡ halfAt part 0) (ks : c ≡ halfAt part 2) (kb : b ≡ wordAt part 4) (kn : k ≡ knownFor kind c (envOf (L .env) top) known) (ty : v ≡ leafType kind k)
       {q : Pen} {out : List ℕ} (j : (q ≡ moved pen) × (out ≡ inkLeaf kind b k pen (L .out))) {r : Pen} {ends : List ℕ} (f : (r ≡ q) × (ends ≡ set (L .ends) at (q .address))) where
-    leaf-all : (n : Node) (W : Walk) (X : Place) → IsLeaf n → W .known ≡ known → Ready n W X l part nesting at sizes L top holds depth pen → Done n W X at L (lent (L .env) ends (set (L .stack) depth v) out) depth pen r
+    leaf-all : (n : Node) (W : Walk) (X : Place) → IsLeaf n → W .known ≡ known → Ready n W X l part nesting at sizes L top holds depth pen
+        → Done n W X at L (lent (L .env) ends (set (L .stack) depth v) out) depth pen r
     leaf-all n W X h x g =
         rw (f .0)
         (leaf-done k v (kn ∙ rw (kd, ks, x)) (ty ∙ rw kd) (j .0, j .1 ∙ rw (kd, kb)) (f .1) n h g)
@@ -61,12 +63,15 @@ module _ {known aims l part : List ℕ} {nesting at : ℕ} {sizes : List ℕ} {L
     pub answers-leaf : Answers IsLeaf known aims l part nesting at sizes L (lent (L .env) ends (set (L .stack) depth v) out) top holds depth pen r
     answers-leaf =
         record {
-          kept = kept-done top depth (leaf-all (a .node) (a .walk) (a .place) (a .such) (a .same-known) (a .ready)) refl refl (take-set-le depth (L .stack) depth v (omega arith)) (length-set (L .stack) depth v);
+          kept =
+              kept-done top depth (leaf-all (a .node) (a .walk) (a .place) (a .such) (a .same-known) (a .ready)) refl refl
+              (take-set-le depth (L .stack) depth v (omega arith)) (length-set (L .stack) depth v);
           done = λ n W X h x y g. leaf-all n W X h x g;
         }
 
 -- ── a label ──
-module _ {known aims l part : List ℕ} {nesting at : ℕ} {sizes : List ℕ} {L : Lent} {top holds depth : ℕ} {pen : Pen} (a : Asks (IsKind 20) known aims l part nesting at sizes L top holds depth pen) where
+module _ {known aims l part : List ℕ} {nesting at : ℕ} {sizes : List ℕ} {L : Lent} {top holds depth : ℕ} {pen : Pen}
+    (a : Asks (IsKind 20) known aims l part nesting at sizes L top holds depth pen) where
   label-ready : Ready (name (label-of (a .node) (a .such) .a)) (a .walk) (a .place) l part nesting at sizes L top holds depth pen
   label-ready = ready-as (label-of (a .node) (a .such) .same) (a .ready)
 
@@ -86,7 +91,8 @@ module _ {known aims l part : List ℕ} {nesting at : ℕ} {sizes : List ℕ} {L
           record { kept = kept-done top depth (label-all label-ready) refl refl refl refl; done = λ n W X c x y g. let v = label-of n c in done-as (v .same) (label-all (ready-as (v .same) g)) }
 
 -- ── a goto ──
-module _ {known aims l part : List ℕ} {nesting at : ℕ} {sizes : List ℕ} {L : Lent} {top holds depth : ℕ} {pen : Pen} (a : Asks (IsKind 25) known aims l part nesting at sizes L top holds depth pen) {c : ℕ} (cs : c ≡ halfAt part 2) where
+module _ {known aims l part : List ℕ} {nesting at : ℕ} {sizes : List ℕ} {L : Lent} {top holds depth : ℕ} {pen : Pen}
+    (a : Asks (IsKind 25) known aims l part nesting at sizes L top holds depth pen) {c : ℕ} (cs : c ≡ halfAt part 2) where
   goto-ready : Ready (stmt (goto (goto-of (a .node) (a .such) .a))) (a .walk) (a .place) l part nesting at sizes L top holds depth pen
   goto-ready = ready-as (goto-of (a .node) (a .such) .same) (a .ready)
 
@@ -94,7 +100,8 @@ module _ {known aims l part : List ℕ} {nesting at : ℕ} {sizes : List ℕ} {L
   asks-goto = let q = asked a in (q .room, omega (arith, q .deep, q .stacked), omega (arith, q .deep), omega (arith, q .held), rw cs (goto-fits _ goto-ready))
 
   module _ {q : Pen} {out : List ℕ}
-      (j : (q ≡ penGoto (passedTo c (envOf (L .env) top)) depth pen) × (out ≡ inkGoto (passedTo c (envOf (L .env) top)) (meaningOf c (envOf (L .env) top) aims) holds (L .stack) depth pen (L .out))) where
+      (j : (q ≡ penGoto (passedTo c (envOf (L .env) top)) depth pen) ×
+      (out ≡ inkGoto (passedTo c (envOf (L .env) top)) (meaningOf c (envOf (L .env) top) aims) holds (L .stack) depth pen (L .out))) where
     goto-wrote : (W : Walk) → W .aims ≡ aims → (q ≡ penGoto (passedTo (halfAt part 2) (envOf (L .env) top)) depth pen)
         × (out ≡ inkGoto (passedTo (halfAt part 2) (envOf (L .env) top)) (meaningOf (halfAt part 2) (envOf (L .env) top) (W .aims)) holds (L .stack) depth pen (L .out))
     goto-wrote W y = (j .0 ∙ rw cs, j .1 ∙ rw (cs, y))
@@ -103,24 +110,31 @@ module _ {known aims l part : List ℕ} {nesting at : ℕ} {sizes : List ℕ} {L
     asks-goto-finish = (asked a .ending, goto-end _ goto-ready (goto-wrote (a .walk) (a .same-aims)))
 
     module _ {r : Pen} {ends : List ℕ} (f : (r ≡ q) × (ends ≡ set (L .ends) at (q .address))) where
-      goto-all : {b : ℕ} {W : Walk} {X : Place} → W .aims ≡ aims → Ready (stmt (goto b)) W X l part nesting at sizes L top holds depth pen → Done (stmt (goto b)) W X at L (lent (L .env) ends (L .stack) out) depth pen r
+      goto-all : {b : ℕ} {W : Walk} {X : Place} → W .aims ≡ aims → Ready (stmt (goto b)) W X l part nesting at sizes L top holds depth pen
+          → Done (stmt (goto b)) W X at L (lent (L .env) ends (L .stack) out) depth pen r
       goto-all {b} {W} y h = rw (f .0) (goto-done b h (goto-wrote W y) (f .1))
 
       pub answers-goto : Answers (IsKind 25) known aims l part nesting at sizes L (lent (L .env) ends (L .stack) out) top holds depth pen r
       answers-goto =
-          record { kept = kept-done top depth (goto-all (a .same-aims) goto-ready) refl refl refl refl; done = λ n W X s x y g. let v = goto-of n s in done-as (v .same) (goto-all y (ready-as (v .same) g)) }
+          record {
+            kept = kept-done top depth (goto-all (a .same-aims) goto-ready) refl refl refl refl;
+            done = λ n W X s x y g. let v = goto-of n s in done-as (v .same) (goto-all y (ready-as (v .same) g));
+          }
 
 -- ── an entry with expressions only below it ──
-module _ {known aims l part : List ℕ} {nesting at : ℕ} {sizes : List ℕ} {L : Lent} {top holds depth : ℕ} {pen : Pen} (a : Asks IsSimple known aims l part nesting at sizes L top holds depth pen) {kind c b count : ℕ}
+module _ {known aims l part : List ℕ} {nesting at : ℕ} {sizes : List ℕ} {L : Lent} {top holds depth : ℕ} {pen : Pen}
+    (a : Asks IsSimple known aims l part nesting at sizes L top holds depth pen) {kind c b count : ℕ}
     (kd : kind ≡ halfAt part 0) (ks : c ≡ halfAt part 2) (kb : b ≡ wordAt part 4) (ct : count ≡ operandsBy kind b) where
-  simple-below : {n : Node} {W : Walk} {X : Place} → IsSimple n → Ready n W X l part nesting at sizes L top holds depth pen → ReadyEs (opsOf n) W X l (below part 8) count (nesting - 1) (at + 1) sizes L top holds depth pen
+  simple-below : {n : Node} {W : Walk} {X : Place} → IsSimple n → Ready n W X l part nesting at sizes L top holds depth pen
+      → ReadyEs (opsOf n) W X l (below part 8) count (nesting - 1) (at + 1) sizes L top holds depth pen
   simple-below {n} h g = simple-operands n h g count (ct ∙ rw (kd, kb))
 
   pub asks-simple-first : AsksEs known aims l (below part 8) count (nesting - 1) (at + 1) sizes L top holds depth pen
   asks-simple-first = record { exprs = opsOf (a .node); walk = a .walk; place = a .place; same-known = a .same-known; same-aims = a .same-aims; ready = simple-below (a .such) (a .ready) }
 
   module _ {M : Lent} {p : Pen} (b₁ : AnswersEs known aims l (below part 8) count (nesting - 1) (at + 1) sizes L M top holds depth pen p) where
-    simple-one : {n : Node} {W : Walk} {X : Place} → IsSimple n → W .known ≡ known → W .aims ≡ aims → Ready n W X l part nesting at sizes L top holds depth pen → DoneEs (opsOf n) W X (at + 1) L M depth pen p
+    simple-one : {n : Node} {W : Walk} {X : Place} → IsSimple n → W .known ≡ known → W .aims ≡ aims
+        → Ready n W X l part nesting at sizes L top holds depth pen → DoneEs (opsOf n) W X (at + 1) L M depth pen p
     simple-one {n} {W} {X} h x y g = b₁ .done (opsOf n) W X x y (simple-below h g)
 
     pub asks-simple-room : 4 * top ≤ length (M .env)
@@ -155,6 +169,8 @@ module _ {known aims l part : List ℕ} {nesting at : ℕ} {sizes : List ℕ} {L
           answers-simple =
               let kept = kept-then (b₁ .kept) (kept-stack M depth v (omega arith)) in
               record {
-                kept = kept-done top depth (simple-all (a .node) (a .walk) (a .place) (a .such) (a .same-known) (a .same-aims) (a .ready)) (kept .env) (kept .same-env) (kept .stack) (kept .same-stack);
+                kept =
+                    kept-done top depth (simple-all (a .node) (a .walk) (a .place) (a .such) (a .same-known) (a .same-aims) (a .ready)) (kept .env)
+                    (kept .same-env) (kept .stack) (kept .same-stack);
                 done = λ n W X h x y g. simple-all n W X h x y g;
               }

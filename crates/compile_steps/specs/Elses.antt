@@ -15,9 +15,9 @@ use Rattle.compile_code.specs.Code.{Code, nil, op, mark, _▸_, At, skip, after
 use Rattle.compile_code.specs.Compile.{found, codeS, codeE, tyE}
 use Rattle.compile_code.specs.Encode.{rec, recordOf}
 use Rattle.compile_names.specs.Good.{goodS, goodE}
-use Rattle.compile_pen.specs.declared.Pen.{Pen}
-use Rattle.compile_pen.specs.Ink.{Fits, moved, penShaped, inkOp, inkShape}
-use Rattle.compile_pen.specs.Folds.{penAfter, inked}
+use Rattle.compile_output.specs.declared.Pen.{Pen}
+use Rattle.compile_output.specs.Ink.{Fits, moved, penShaped, inkOp, inkShape}
+use Rattle.compile_output.specs.Folds.{penAfter, inked}
 use Rattle.compile_nodes.specs.Knows.{Walk}
 use Rattle.compile_nodes.specs.Ends.{belowS, belowE, endsS, endsE}
 use Rattle.compile_nodes.specs.Ready.{stmt, expr, flatN, Place, Lent, Laid, Kept, Ready, Done}
@@ -26,7 +26,8 @@ use Rattle.compile_steps.specs.Stages.{Stage, stage-start, stage-fits-op
 use Rattle.compile_steps.specs.Cells.{cell-E, cell-S, length-endsE, length-endsS}
 
 -- ── an if with else ──
-module _ (e : Expr) (s t : Stmt) {W : Walk} {X : Place} {l part : List ℕ} {nesting at : ℕ} {sizes : List ℕ} {L : Lent} {top holds depth : ℕ} {pen : Pen} (r : Ready (stmt (choose e s t)) W X l part nesting at sizes L top holds depth pen) where
+module _ (e : Expr) (s t : Stmt) {W : Walk} {X : Place} {l part : List ℕ} {nesting at : ℕ} {sizes : List ℕ} {L : Lent} {top holds depth : ℕ}
+    {pen : Pen} (r : Ready (stmt (choose e s t)) W X l part nesting at sizes L top holds depth pen) where
   abbrev choose-x : Code
   choose-x = codeE (W .globals) e (X .around) (X .types) (X .start)
 
@@ -66,14 +67,16 @@ module _ (e : Expr) (s t : Stmt) {W : Walk} {X : Place} {l part : List ℕ} {nes
 
   choose-rest : (place : ℕ) → place ≡ at + 1 + length (flatE e) → Laid W l place choose-q (flatS s ++ flatS t) (choose-fs ++ choose-gs)
   choose-rest place c =
-      laid-at (sym c) (laid-right (flatE e) (flatS s ++ flatS t) choose-es (choose-fs ++ choose-gs) choose-q (length-endsE (W .globals) e (X .around) (X .types) (X .start)) (cell-E (W .globals) e (X .around) (X .types) (X .start)) choose-laid)
+      laid-at (sym c) (laid-right (flatE e) (flatS s ++ flatS t) choose-es (choose-fs ++ choose-gs) choose-q
+      (length-endsE (W .globals) e (X .around) (X .types) (X .start)) (cell-E (W .globals) e (X .around) (X .types) (X .start)) choose-laid)
 
   choose-second : (place : ℕ) → place ≡ at + 1 + length (flatE e) → Laid W l place choose-q (flatS s) choose-fs
   choose-second place c = laid-left _ _ _ _ (choose-rest place c)
 
   choose-third : (place third : ℕ) → place ≡ at + 1 + length (flatE e) → third ≡ place + length (flatS s) → Laid W l third choose-r (flatS t) choose-gs
   choose-third place third c f =
-      laid-at (sym f) (laid-right (flatS s) (flatS t) choose-fs choose-gs choose-r (length-endsS (W .globals) s (X .around) (X .types) choose-q) (cell-S (W .globals) s (X .around) (X .types) choose-q) (choose-rest place c))
+      laid-at (sym f) (laid-right (flatS s) (flatS t) choose-fs choose-gs choose-r (length-endsS (W .globals) s (X .around) (X .types) choose-q)
+      (cell-S (W .globals) s (X .around) (X .types) choose-q) (choose-rest place c))
 
   choose-length : length (flatN (stmt (choose e s t))) ≡ suc (length (flatE e) + (length (flatS s) + length (flatS t)))
   unfolding flatS
@@ -87,17 +90,20 @@ module _ (e : Expr) (s t : Stmt) {W : Walk} {X : Place} {l part : List ℕ} {nes
   unfolding measureS goodS
   choose-test =
       ready-part r (expr e) 1 (at + 1) X refl (omega (arith, choose-length)) (omega arith) refl
-      (laid-left _ _ _ _ choose-laid) (kept-self L) (r .stood) (fits-first _ _ pen (length (L .out)) (choose-start .fits)) (omega (arith, r .deep)) (r .good .0) tt (omega (arith, r .few-holds)) (omega (arith, r .few-values))
+      (laid-left _ _ _ _ choose-laid) (kept-self L) (r .stood) (fits-first _ _ pen (length (L .out)) (choose-start .fits)) (omega (arith, r .deep))
+      (r .good .0) tt (omega (arith, r .few-holds)) (omega (arith, r .few-values))
 
   module _ {M : Lent} {p : Pen} (k : Kept L M top depth) (d : Done (expr e) W X (at + 1) L M depth pen p) where
-    choose-1 : Stage W l L top holds depth pen at M (movedTo X (after choose-x (X .start))) depth p (nil ▸ choose-x) (op choose-go ▸ (choose-y ▸ (op choose-past ▸ (choose-shape ▸ (choose-z ▸ (choose-shape ▸ nil)))))) ([] ++ choose-es)
+    choose-1 : Stage W l L top holds depth pen at M (movedTo X (after choose-x (X .start))) depth p (nil ▸ choose-x)
+        (op choose-go ▸ (choose-y ▸ (op choose-past ▸ (choose-shape ▸ (choose-z ▸ (choose-shape ▸ nil)))))) ([] ++ choose-es)
     choose-1 = stage-part choose-x _ choose-es choose-start (at + 1) k (d .wrote) (d .ended) (omega arith)
 
     pub choose-jump : Fits (moved p) (length (M .out))
     choose-jump = stage-fits-op choose-go _ choose-1
 
     module _ (place b : ℕ) (c : place ≡ at + 1 + length (flatE e)) (target : b ≡ getD (W .aims) place 0 + 1) {out : List ℕ} {q : Pen} (j : (q ≡ moved p) × (out ≡ inkOp p (M .out) 9 0 b)) where
-      choose-2 : Stage W l L top holds depth pen at (lent (M .env) (M .ends) (M .stack) out) (movedTo X choose-q) depth q ((nil ▸ choose-x) ▸ op choose-go) (choose-y ▸ (op choose-past ▸ (choose-shape ▸ (choose-z ▸ (choose-shape ▸ nil))))) ([] ++ choose-es)
+      choose-2 : Stage W l L top holds depth pen at (lent (M .env) (M .ends) (M .stack) out) (movedTo X choose-q) depth q
+          ((nil ▸ choose-x) ▸ op choose-go) (choose-y ▸ (op choose-past ▸ (choose-shape ▸ (choose-z ▸ (choose-shape ▸ nil))))) ([] ++ choose-es)
       unfolding recordOf
       choose-2 = stage-op choose-go _ choose-1 9 0 b j (λ dry. ap (λ (t : ℕ). rec 9 0 t) (let z = laid-aim _ _ _ (choose-second place c) dry in omega (arith, target, z)))
 
@@ -108,15 +114,18 @@ module _ (e : Expr) (s t : Stmt) {W : Walk} {X : Place} {l part : List ℕ} {nes
           (choose-second place c) (choose-2 .kept) (choose-2 .stood) (fits-first _ _ q (length out) (choose-2 .fits)) (omega (arith, r .deep)) (r .good .2) (rw (choose-2 .kept .env) (r .lands))
           (omega (arith, r .few-holds)) (omega (arith, r .few-values))
 
-      module _ {N : Lent} {u : Pen} (k2 : Kept (lent (M .env) (M .ends) (M .stack) out) N top depth) (d2 : Done (stmt s) W (movedTo X choose-q) place (lent (M .env) (M .ends) (M .stack) out) N depth q u) where
-        choose-3 : Stage W l L top holds depth pen at N (movedTo X (after choose-y choose-q)) depth u (((nil ▸ choose-x) ▸ op choose-go) ▸ choose-y) (op choose-past ▸ (choose-shape ▸ (choose-z ▸ (choose-shape ▸ nil)))) (([] ++ choose-es) ++ choose-fs)
+      module _ {N : Lent} {u : Pen} (k2 : Kept (lent (M .env) (M .ends) (M .stack) out) N top depth)
+          (d2 : Done (stmt s) W (movedTo X choose-q) place (lent (M .env) (M .ends) (M .stack) out) N depth q u) where
+        choose-3 : Stage W l L top holds depth pen at N (movedTo X (after choose-y choose-q)) depth u (((nil ▸ choose-x) ▸ op choose-go) ▸ choose-y)
+            (op choose-past ▸ (choose-shape ▸ (choose-z ▸ (choose-shape ▸ nil)))) (([] ++ choose-es) ++ choose-fs)
         choose-3 = stage-part choose-y _ choose-fs choose-2 place k2 (d2 .wrote) (d2 .ended) (c ∙ omega (arith, length-endsE (W .globals) e (X .around) (X .types) (X .start)))
 
         pub choose-jump-2 : Fits (moved u) (length (N .out))
         choose-jump-2 = stage-fits-op choose-past _ choose-3
 
         module _ (third b2 : ℕ) (f : third ≡ place + length (flatS s)) (target2 : b2 ≡ getD (W .aims) third 0) {out2 : List ℕ} {v : Pen} (j2 : (v ≡ moved u) × (out2 ≡ inkOp u (N .out) 8 0 b2)) where
-          choose-4 : Stage W l L top holds depth pen at (lent (N .env) (N .ends) (N .stack) out2) (movedTo X choose-r) depth v ((((nil ▸ choose-x) ▸ op choose-go) ▸ choose-y) ▸ op choose-past) (choose-shape ▸ (choose-z ▸ (choose-shape ▸ nil))) (([] ++ choose-es) ++ choose-fs)
+          choose-4 : Stage W l L top holds depth pen at (lent (N .env) (N .ends) (N .stack) out2) (movedTo X choose-r) depth v
+              ((((nil ▸ choose-x) ▸ op choose-go) ▸ choose-y) ▸ op choose-past) (choose-shape ▸ (choose-z ▸ (choose-shape ▸ nil))) (([] ++ choose-es) ++ choose-fs)
           unfolding recordOf
           choose-4 = stage-op choose-past _ choose-3 8 0 b2 j2 (λ dry. ap (λ (t : ℕ). rec 8 0 t) (sym (target2 ∙ laid-aim _ _ _ (choose-third place third c f) dry)))
 
@@ -124,18 +133,23 @@ module _ (e : Expr) (s t : Stmt) {W : Walk} {X : Place} {l part : List ℕ} {nes
           choose-mark = stage-fits-mark _ choose-4
 
           module _ {out3 : List ℕ} {w : Pen} (i : (w ≡ penShaped depth v) × (out3 ≡ inkShape v out2 holds depth (take depth (N .stack)))) where
-            choose-5 : Stage W l L top holds depth pen at (lent (N .env) (N .ends) (N .stack) out3) (movedTo X choose-r) depth w (((((nil ▸ choose-x) ▸ op choose-go) ▸ choose-y) ▸ op choose-past) ▸ choose-shape) (choose-z ▸ (choose-shape ▸ nil)) (([] ++ choose-es) ++ choose-fs)
+            choose-5 : Stage W l L top holds depth pen at (lent (N .env) (N .ends) (N .stack) out3) (movedTo X choose-r) depth w
+                (((((nil ▸ choose-x) ▸ op choose-go) ▸ choose-y) ▸ op choose-past) ▸ choose-shape) (choose-z ▸ (choose-shape ▸ nil)) (([] ++ choose-es) ++ choose-fs)
             choose-5 = stage-mark _ choose-4 i
 
             pub choose-else : Ready (stmt t) W (movedTo X choose-r) l (below part (8 * (third - at))) (nesting - 1) third sizes (lent (N .env) (N .ends) (N .stack) out3) top holds depth w
             unfolding measureS goodS
             choose-else =
                 ready-part r (stmt t) (third - at) third (movedTo X choose-r) (omega arith) (omega (arith, choose-length)) (omega arith) refl
-                (choose-third place third c f) (choose-5 .kept) (choose-5 .stood) (fits-first _ _ w (length out3) (choose-5 .fits)) (omega (arith, r .deep)) (r .good .3) (rw (choose-5 .kept .env) (r .lands))
+                (choose-third place third c f) (choose-5 .kept) (choose-5 .stood) (fits-first _ _ w (length out3) (choose-5 .fits))
+                (omega (arith, r .deep)) (r .good .3) (rw (choose-5 .kept .env) (r .lands))
                 (omega (arith, r .few-holds)) (omega (arith, r .few-values))
 
-            module _ {O : Lent} {y : Pen} (k3 : Kept (lent (N .env) (N .ends) (N .stack) out3) O top depth) (d3 : Done (stmt t) W (movedTo X choose-r) third (lent (N .env) (N .ends) (N .stack) out3) O depth w y) where
-              choose-6 : Stage W l L top holds depth pen at O (movedTo X (after choose-z choose-r)) depth y ((((((nil ▸ choose-x) ▸ op choose-go) ▸ choose-y) ▸ op choose-past) ▸ choose-shape) ▸ choose-z) (choose-shape ▸ nil) ((([] ++ choose-es) ++ choose-fs) ++ choose-gs)
+            module _ {O : Lent} {y : Pen} (k3 : Kept (lent (N .env) (N .ends) (N .stack) out3) O top depth)
+                (d3 : Done (stmt t) W (movedTo X choose-r) third (lent (N .env) (N .ends) (N .stack) out3) O depth w y) where
+              choose-6 : Stage W l L top holds depth pen at O (movedTo X (after choose-z choose-r)) depth y
+                  ((((((nil ▸ choose-x) ▸ op choose-go) ▸ choose-y) ▸ op choose-past) ▸ choose-shape) ▸ choose-z) (choose-shape ▸ nil)
+                  ((([] ++ choose-es) ++ choose-fs) ++ choose-gs)
               choose-6 = stage-part choose-z _ choose-gs choose-5 third k3 (d3 .wrote) (d3 .ended)
                   (f ∙ omega (arith, c, length-append choose-es choose-fs, length-endsE (W .globals) e (X .around) (X .types) (X .start), length-endsS (W .globals) s (X .around) (X .types) choose-q))
 
@@ -143,7 +157,9 @@ module _ (e : Expr) (s t : Stmt) {W : Walk} {X : Place} {l part : List ℕ} {nes
               choose-mark-2 = stage-fits-mark nil choose-6
 
               module _ {late : List ℕ} {z : Pen} (m : (z ≡ penShaped depth y) × (late ≡ inkShape y (O .out) holds depth (take depth (O .stack)))) where
-                choose-7 : Stage W l L top holds depth pen at (lent (O .env) (O .ends) (O .stack) late) (movedTo X (after choose-z choose-r)) depth z (((((((nil ▸ choose-x) ▸ op choose-go) ▸ choose-y) ▸ op choose-past) ▸ choose-shape) ▸ choose-z) ▸ choose-shape) nil ((([] ++ choose-es) ++ choose-fs) ++ choose-gs)
+                choose-7 : Stage W l L top holds depth pen at (lent (O .env) (O .ends) (O .stack) late) (movedTo X (after choose-z choose-r)) depth z
+                    (((((((nil ▸ choose-x) ▸ op choose-go) ▸ choose-y) ▸ op choose-past) ▸ choose-shape) ▸ choose-z) ▸ choose-shape) nil
+                    ((([] ++ choose-es) ++ choose-fs) ++ choose-gs)
                 choose-7 = stage-mark nil choose-6 m
 
                 pub choose-small : z .address < 65536
@@ -152,10 +168,14 @@ module _ (e : Expr) (s t : Stmt) {W : Walk} {X : Place} {l part : List ℕ} {nes
 
                 pub choose-done : {ends : List ℕ} → ends ≡ set (O .ends) at (z .address) → Done (stmt (choose e s t)) W X at L (lent (O .env) ends (O .stack) late) depth pen z
                 unfolding codeS penAfter inked belowS
-                choose-done g = stage-done (stmt (choose e s t)) X choose-7 (r .stood .address) refl refl (ap (λ (us : List ℕ). after (codeS (W .globals) (choose e s t) (X .around) (X .types) (X .start)) (X .start) .address ∷ us) (sym (append-assoc choose-es choose-fs choose-gs))) g (O .stack) tt
+                choose-done g =
+                    stage-done (stmt (choose e s t)) X choose-7 (r .stood .address) refl refl
+                    (ap (λ (us : List ℕ). after (codeS (W .globals) (choose e s t) (X .around) (X .types) (X .start)) (X .start) .address ∷ us)
+                    (sym (append-assoc choose-es choose-fs choose-gs))) g (O .stack) tt
 
 -- ── an if-expression ──
-module _ (e f g : Expr) {W : Walk} {X : Place} {l part : List ℕ} {nesting at : ℕ} {sizes : List ℕ} {L : Lent} {top holds depth : ℕ} {pen : Pen} (r : Ready (expr (conditional e f g)) W X l part nesting at sizes L top holds depth pen) where
+module _ (e f g : Expr) {W : Walk} {X : Place} {l part : List ℕ} {nesting at : ℕ} {sizes : List ℕ} {L : Lent} {top holds depth : ℕ} {pen : Pen}
+    (r : Ready (expr (conditional e f g)) W X l part nesting at sizes L top holds depth pen) where
   abbrev cond-x : Code
   cond-x = codeE (W .globals) e (X .around) (X .types) (X .start)
 
@@ -195,20 +215,23 @@ module _ (e f g : Expr) {W : Walk} {X : Place} {l part : List ℕ} {nesting at :
 
   cond-rest : (place : ℕ) → place ≡ at + 1 + length (flatE e) → Laid W l place cond-q (flatE f ++ flatE g) (cond-fs ++ cond-gs)
   cond-rest place c =
-      laid-at (sym c) (laid-right (flatE e) (flatE f ++ flatE g) cond-es (cond-fs ++ cond-gs) cond-q (length-endsE (W .globals) e (X .around) (X .types) (X .start)) (cell-E (W .globals) e (X .around) (X .types) (X .start)) cond-laid)
+      laid-at (sym c) (laid-right (flatE e) (flatE f ++ flatE g) cond-es (cond-fs ++ cond-gs) cond-q
+      (length-endsE (W .globals) e (X .around) (X .types) (X .start)) (cell-E (W .globals) e (X .around) (X .types) (X .start)) cond-laid)
 
   cond-second : (place : ℕ) → place ≡ at + 1 + length (flatE e) → Laid W l place cond-q (flatE f) cond-fs
   cond-second place c = laid-left _ _ _ _ (cond-rest place c)
 
   cond-third : (place third : ℕ) → place ≡ at + 1 + length (flatE e) → third ≡ place + length (flatE f) → Laid W l third cond-r (flatE g) cond-gs
   cond-third place third c h =
-      laid-at (sym h) (laid-right (flatE f) (flatE g) cond-fs cond-gs cond-r (length-endsE (W .globals) f (X .around) (X .types) cond-q) (cell-E (W .globals) f (X .around) (X .types) cond-q) (cond-rest place c))
+      laid-at (sym h) (laid-right (flatE f) (flatE g) cond-fs cond-gs cond-r (length-endsE (W .globals) f (X .around) (X .types) cond-q)
+      (cell-E (W .globals) f (X .around) (X .types) cond-q) (cond-rest place c))
 
   cond-length : length (flatN (expr (conditional e f g))) ≡ suc (length (flatE e) + (length (flatE f) + length (flatE g)))
   unfolding flatE
   cond-length = ap suc (length-append (flatE e) (flatE f ++ flatE g) ∙ ap (λ (n : ℕ). length (flatE e) + n) (length-append (flatE f) (flatE g)))
 
-  cond-start : Stage W l L top holds depth pen at L X depth pen nil (cond-x ▸ (op cond-go ▸ (cond-y ▸ (op cond-past ▸ (cond-shape ▸ (cond-z ▸ (mark (found (X .around) (tyE (W .globals) (X .around) f ∷ X .types)) ▸ nil))))))) []
+  cond-start : Stage W l L top holds depth pen at L X depth pen nil (cond-x
+      ▸ (op cond-go ▸ (cond-y ▸ (op cond-past ▸ (cond-shape ▸ (cond-z ▸ (mark (found (X .around) (tyE (W .globals) (X .around) f ∷ X .types)) ▸ nil))))))) []
   unfolding codeE penAfter
   cond-start = stage-start at _ (r .stood) (r .fits)
 
@@ -216,17 +239,20 @@ module _ (e f g : Expr) {W : Walk} {X : Place} {l part : List ℕ} {nesting at :
   unfolding measureS goodE
   cond-test =
       ready-part r (expr e) 1 (at + 1) X refl (omega (arith, cond-length)) (omega arith) refl
-      (laid-left _ _ _ _ cond-laid) (kept-self L) (r .stood) (fits-first _ _ pen (length (L .out)) (cond-start .fits)) (omega (arith, r .deep)) (r .good .0) tt (omega (arith, r .few-holds)) (omega (arith, r .few-values))
+      (laid-left _ _ _ _ cond-laid) (kept-self L) (r .stood) (fits-first _ _ pen (length (L .out)) (cond-start .fits)) (omega (arith, r .deep))
+      (r .good .0) tt (omega (arith, r .few-holds)) (omega (arith, r .few-values))
 
   module _ {M : Lent} {p : Pen} (k : Kept L M top depth) (d : Done (expr e) W X (at + 1) L M depth pen p) where
-    cond-1 : Stage W l L top holds depth pen at M (movedTo X (after cond-x (X .start))) depth p (nil ▸ cond-x) (op cond-go ▸ (cond-y ▸ (op cond-past ▸ (cond-shape ▸ (cond-z ▸ (mark (found (X .around) (tyE (W .globals) (X .around) f ∷ X .types)) ▸ nil)))))) ([] ++ cond-es)
+    cond-1 : Stage W l L top holds depth pen at M (movedTo X (after cond-x (X .start))) depth p (nil ▸ cond-x)
+        (op cond-go ▸ (cond-y ▸ (op cond-past ▸ (cond-shape ▸ (cond-z ▸ (mark (found (X .around) (tyE (W .globals) (X .around) f ∷ X .types)) ▸ nil)))))) ([] ++ cond-es)
     cond-1 = stage-part cond-x _ cond-es cond-start (at + 1) k (d .wrote) (d .ended) (omega arith)
 
     pub cond-jump : Fits (moved p) (length (M .out))
     cond-jump = stage-fits-op cond-go _ cond-1
 
     module _ (place b : ℕ) (c : place ≡ at + 1 + length (flatE e)) (target : b ≡ getD (W .aims) place 0 + 1) {out : List ℕ} {q : Pen} (j : (q ≡ moved p) × (out ≡ inkOp p (M .out) 9 0 b)) where
-      cond-2 : Stage W l L top holds depth pen at (lent (M .env) (M .ends) (M .stack) out) (movedTo X cond-q) depth q ((nil ▸ cond-x) ▸ op cond-go) (cond-y ▸ (op cond-past ▸ (cond-shape ▸ (cond-z ▸ (mark (found (X .around) (tyE (W .globals) (X .around) f ∷ X .types)) ▸ nil))))) ([] ++ cond-es)
+      cond-2 : Stage W l L top holds depth pen at (lent (M .env) (M .ends) (M .stack) out) (movedTo X cond-q) depth q ((nil ▸ cond-x) ▸ op cond-go)
+          (cond-y ▸ (op cond-past ▸ (cond-shape ▸ (cond-z ▸ (mark (found (X .around) (tyE (W .globals) (X .around) f ∷ X .types)) ▸ nil))))) ([] ++ cond-es)
       unfolding recordOf
       cond-2 = stage-op cond-go _ cond-1 9 0 b j (λ dry. ap (λ (t : ℕ). rec 9 0 t) (let z = laid-aim _ _ _ (cond-second place c) dry in omega (arith, target, z)))
 
@@ -237,15 +263,19 @@ module _ (e f g : Expr) {W : Walk} {X : Place} {l part : List ℕ} {nesting at :
           (cond-second place c) (cond-2 .kept) (cond-2 .stood) (fits-first _ _ q (length out) (cond-2 .fits)) (omega (arith, r .deep)) (r .good .2) tt
           (omega (arith, r .few-holds)) (omega (arith, r .few-values))
 
-      module _ {N : Lent} {u : Pen} (k2 : Kept (lent (M .env) (M .ends) (M .stack) out) N top depth) (d2 : Done (expr f) W (movedTo X cond-q) place (lent (M .env) (M .ends) (M .stack) out) N depth q u) where
-        cond-3 : Stage W l L top holds depth pen at N (movedTo X (after cond-y cond-q)) depth u (((nil ▸ cond-x) ▸ op cond-go) ▸ cond-y) (op cond-past ▸ (cond-shape ▸ (cond-z ▸ (mark (found (X .around) (tyE (W .globals) (X .around) f ∷ X .types)) ▸ nil)))) (([] ++ cond-es) ++ cond-fs)
+      module _ {N : Lent} {u : Pen} (k2 : Kept (lent (M .env) (M .ends) (M .stack) out) N top depth)
+          (d2 : Done (expr f) W (movedTo X cond-q) place (lent (M .env) (M .ends) (M .stack) out) N depth q u) where
+        cond-3 : Stage W l L top holds depth pen at N (movedTo X (after cond-y cond-q)) depth u (((nil ▸ cond-x) ▸ op cond-go) ▸ cond-y)
+            (op cond-past ▸ (cond-shape ▸ (cond-z ▸ (mark (found (X .around) (tyE (W .globals) (X .around) f ∷ X .types)) ▸ nil)))) (([] ++ cond-es) ++ cond-fs)
         cond-3 = stage-part cond-y _ cond-fs cond-2 place k2 (d2 .wrote) (d2 .ended) (c ∙ omega (arith, length-endsE (W .globals) e (X .around) (X .types) (X .start)))
 
         pub cond-jump-2 : Fits (moved u) (length (N .out))
         cond-jump-2 = stage-fits-op cond-past _ cond-3
 
         module _ (third b2 : ℕ) (h : third ≡ place + length (flatE f)) (target2 : b2 ≡ getD (W .aims) third 0) {out2 : List ℕ} {v : Pen} (j2 : (v ≡ moved u) × (out2 ≡ inkOp u (N .out) 8 0 b2)) where
-          cond-4 : Stage W l L top holds depth pen at (lent (N .env) (N .ends) (N .stack) out2) (movedTo X cond-r) depth v ((((nil ▸ cond-x) ▸ op cond-go) ▸ cond-y) ▸ op cond-past) (cond-shape ▸ (cond-z ▸ (mark (found (X .around) (tyE (W .globals) (X .around) f ∷ X .types)) ▸ nil))) (([] ++ cond-es) ++ cond-fs)
+          cond-4 : Stage W l L top holds depth pen at (lent (N .env) (N .ends) (N .stack) out2) (movedTo X cond-r) depth v
+              ((((nil ▸ cond-x) ▸ op cond-go) ▸ cond-y) ▸ op cond-past)
+              (cond-shape ▸ (cond-z ▸ (mark (found (X .around) (tyE (W .globals) (X .around) f ∷ X .types)) ▸ nil))) (([] ++ cond-es) ++ cond-fs)
           unfolding recordOf
           cond-4 = stage-op cond-past _ cond-3 8 0 b2 j2 (λ dry. ap (λ (t : ℕ). rec 8 0 t) (sym (target2 ∙ laid-aim _ _ _ (cond-third place third c h) dry)))
 
@@ -253,7 +283,9 @@ module _ (e f g : Expr) {W : Walk} {X : Place} {l part : List ℕ} {nesting at :
           cond-mark = stage-fits-mark _ cond-4
 
           module _ {out3 : List ℕ} {w : Pen} (i : (w ≡ penShaped depth v) × (out3 ≡ inkShape v out2 holds depth (take depth (N .stack)))) where
-            cond-5 : Stage W l L top holds depth pen at (lent (N .env) (N .ends) (N .stack) out3) (movedTo X cond-r) depth w (((((nil ▸ cond-x) ▸ op cond-go) ▸ cond-y) ▸ op cond-past) ▸ cond-shape) (cond-z ▸ (mark (found (X .around) (tyE (W .globals) (X .around) f ∷ X .types)) ▸ nil)) (([] ++ cond-es) ++ cond-fs)
+            cond-5 : Stage W l L top holds depth pen at (lent (N .env) (N .ends) (N .stack) out3) (movedTo X cond-r) depth w
+                (((((nil ▸ cond-x) ▸ op cond-go) ▸ cond-y) ▸ op cond-past) ▸ cond-shape)
+                (cond-z ▸ (mark (found (X .around) (tyE (W .globals) (X .around) f ∷ X .types)) ▸ nil)) (([] ++ cond-es) ++ cond-fs)
             cond-5 = stage-mark _ cond-4 i
 
             pub cond-else : Ready (expr g) W (movedTo X cond-r) l (below part (8 * (third - at))) (nesting - 1) third sizes (lent (N .env) (N .ends) (N .stack) out3) top holds depth w
@@ -263,7 +295,9 @@ module _ (e f g : Expr) {W : Walk} {X : Place} {l part : List ℕ} {nesting at :
                 (cond-third place third c h) (cond-5 .kept) (cond-5 .stood) (fits-first _ _ w (length out3) (cond-5 .fits)) (omega (arith, r .deep)) (r .good .3) tt
                 (omega (arith, r .few-holds)) (omega (arith, r .few-values))
 
-            module _ {O : Lent} {y : Pen} (k3 : Kept (lent (N .env) (N .ends) (N .stack) out3) O top depth) (d3 : Done (expr g) W (movedTo X cond-r) third (lent (N .env) (N .ends) (N .stack) out3) O depth w y) (ty : ℕ) (first : ty ≡ getD (N .stack) depth 0) where
+            module _ {O : Lent} {y : Pen} (k3 : Kept (lent (N .env) (N .ends) (N .stack) out3) O top depth)
+                (d3 : Done (expr g) W (movedTo X cond-r) third (lent (N .env) (N .ends) (N .stack) out3) O depth w y) (ty : ℕ)
+                (first : ty ≡ getD (N .stack) depth 0) where
               abbrev cond-stack : List ℕ
               cond-stack = set (O .stack) depth ty
 
@@ -277,16 +311,26 @@ module _ (e f g : Expr) {W : Walk} {X : Place} {l part : List ℕ} {nesting at :
               unfolding measureS
               cond-leaves = getD-set-same (O .stack) depth ty 0 (omega (arith, r .few-values, k3 .same-stack, k2 .same-stack, k .same-stack, r .stood .stacked)) ∙ (first ∙ d2 .leaves)
 
-              cond-6 : Stage W l L top holds depth pen at (lent (O .env) (O .ends) cond-stack (O .out)) (heldOn cond-type X (after cond-z cond-r)) (depth + 1) y ((((((nil ▸ cond-x) ▸ op cond-go) ▸ cond-y) ▸ op cond-past) ▸ cond-shape) ▸ cond-z) (cond-last ▸ nil) ((([] ++ cond-es) ++ cond-fs) ++ cond-gs)
+              cond-6 : Stage W l L top holds depth pen at (lent (O .env) (O .ends) cond-stack (O .out)) (heldOn cond-type X (after cond-z cond-r))
+                  (depth + 1) y ((((((nil ▸ cond-x) ▸ op cond-go) ▸ cond-y) ▸ op cond-past) ▸ cond-shape) ▸ cond-z) (cond-last ▸ nil)
+                  ((([] ++ cond-es) ++ cond-fs) ++ cond-gs)
               unfolding measureS
               cond-6 = stage-push cond-z _ cond-gs cond-5 third (kept-then k3 (kept-stack O depth ty (omega arith))) (d3 .wrote) (d3 .ended)
-                  (h ∙ omega (arith, c, length-append cond-es cond-fs, length-endsE (W .globals) e (X .around) (X .types) (X .start), length-endsE (W .globals) f (X .around) (X .types) cond-q)) cond-type cond-leaves (omega (arith, r .few-values))
+                  (h ∙ omega (
+                    arith,
+                    c,
+                    length-append cond-es cond-fs,
+                    length-endsE (W .globals) e (X .around) (X .types) (X .start),
+                    length-endsE (W .globals) f (X .around) (X .types) cond-q,
+                  )) cond-type cond-leaves (omega (arith, r .few-values))
 
               pub cond-mark-2 : Fits (penShaped (depth + 1) y) (length (O .out))
               cond-mark-2 = stage-fits-mark nil cond-6
 
               module _ {late : List ℕ} {z : Pen} (m : (z ≡ penShaped (depth + 1) y) × (late ≡ inkShape y (O .out) holds (depth + 1) (take (depth + 1) cond-stack))) where
-                cond-7 : Stage W l L top holds depth pen at (lent (O .env) (O .ends) cond-stack late) (heldOn cond-type X (after cond-z cond-r)) (depth + 1) z (((((((nil ▸ cond-x) ▸ op cond-go) ▸ cond-y) ▸ op cond-past) ▸ cond-shape) ▸ cond-z) ▸ cond-last) nil ((([] ++ cond-es) ++ cond-fs) ++ cond-gs)
+                cond-7 : Stage W l L top holds depth pen at (lent (O .env) (O .ends) cond-stack late) (heldOn cond-type X (after cond-z cond-r))
+                    (depth + 1) z (((((((nil ▸ cond-x) ▸ op cond-go) ▸ cond-y) ▸ op cond-past) ▸ cond-shape) ▸ cond-z) ▸ cond-last) nil
+                    ((([] ++ cond-es) ++ cond-fs) ++ cond-gs)
                 cond-7 = stage-mark nil cond-6 m
 
                 pub cond-small : z .address < 65536
@@ -295,4 +339,7 @@ module _ (e f g : Expr) {W : Walk} {X : Place} {l part : List ℕ} {nesting at :
 
                 pub cond-done : {ends : List ℕ} → ends ≡ set (O .ends) at (z .address) → Done (expr (conditional e f g)) W X at L (lent (O .env) ends cond-stack late) depth pen z
                 unfolding codeE penAfter inked belowE typeE
-                cond-done k = stage-done (expr (conditional e f g)) X cond-7 (r .stood .address) refl refl (ap (λ (us : List ℕ). after (codeE (W .globals) (conditional e f g) (X .around) (X .types) (X .start)) (X .start) .address ∷ us) (sym (append-assoc cond-es cond-fs cond-gs))) k cond-stack cond-leaves
+                cond-done k =
+                    stage-done (expr (conditional e f g)) X cond-7 (r .stood .address) refl refl
+                    (ap (λ (us : List ℕ). after (codeE (W .globals) (conditional e f g) (X .around) (X .types) (X .start)) (X .start) .address ∷ us)
+                    (sym (append-assoc cond-es cond-fs cond-gs))) k cond-stack cond-leaves

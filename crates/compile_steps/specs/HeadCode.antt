@@ -14,24 +14,24 @@ use Rattle.values.specs.Values.{initial}
 use Rattle.bytecode.specs.Instructions.{own, push, store, takeHold}
 use Rattle.language.specs.Tree.{Decl, declare, holding}
 use Rattle.language.specs.Table.{Entry}
-use Rattle.programs.specs.Claims.{entriesOf}
-use Rattle.spans.specs.Stands.{Stands, fields, stands-tail, half-part}
+use Rattle.language_laws.specs.Claims.{entriesOf}
+use Rattle.table_scopes.specs.Stands.{Stands, fields, stands-tail, half-part}
 use Rattle.compile_code.specs.Code.{Code, op, cell, At, at, skip}
 use Rattle.compile_code.specs.Compile.{tyIn}
 use Rattle.compile_code.specs.Encode.{recordOf}
-use Rattle.compile_known.specs.Numbers.{packed, numbersFrom, cellsWithin, typeIn, secondIn}
-use Rattle.compile_known.specs.Packed.{type-packed, second-packed}
-use Rattle.compile_pen.specs.declared.Pen.{Pen}
-use Rattle.compile_pen.specs.Ink.{moved, inkOp}
+use Rattle.compile_symbols.specs.Numbers.{packed, numbersFrom, cellsWithin, typeIn, secondIn}
+use Rattle.compile_symbols.specs.Packed.{type-packed, second-packed}
+use Rattle.compile_output.specs.declared.Pen.{Pen}
+use Rattle.compile_output.specs.Ink.{moved, inkOp}
 use Rattle.compile_nodes.specs.Knows.{Lies, Walk}
 use Rattle.compile_nodes.specs.Ends.{endsHead}
 use Rattle.compile_nodes.specs.Ready.{Wrote}
-use Rattle.compile_own.specs.Owns.{inkInitial, penDeclared, inkDeclared, pensHead, inksHead, finishes, holdsHead}
-use Rattle.compile_sight.specs.Marks.{openIn}
-use Rattle.compile_sight.specs.Lies.{lies-here, lies-next}
-use Rattle.compile_sight.specs.Heads.{Bytes, number-typed}
-use Rattle.compile_sight.specs.HeadOps.{headOps}
-use Rattle.compile_sight.specs.Sight.{classesIn}
+use Rattle.compile_emit.specs.Owns.{inkInitial, penDeclared, inkDeclared, pensHead, inksHead, finishes, holdsHead}
+use Rattle.compile_scopes.specs.Marks.{openIn}
+use Rattle.compile_scopes.specs.Lies.{lies-here, lies-next}
+use Rattle.compile_scopes.specs.Heads.{Bytes, number-typed}
+use Rattle.compile_scopes.specs.HeadOps.{headOps}
+use Rattle.compile_scopes.specs.Sight.{classesIn}
 use Rattle.compile_steps.specs.Parts.{wrote-then, wrote-op, wrote-nil}
 
 initial-wrote : (t : Ty) (p : Pen) (o : List ℕ) → Wrote o (inkInitial (tyByte t) p o) p (moved p) (op (push (initial t)))
@@ -84,7 +84,8 @@ module _ (W : Walk) (l : List ℕ) where
   next-here : (place : ℕ) → drop 8 (drop (8 * place) l) ≡ drop (8 * (place + 1)) l
   next-here place = drop-drop 8 (8 * place) l ∙ ap (λ (k : ℕ). drop k l) (let z : 8 * place + 8 ≡ 8 * (place + 1) = omega arith in z)
 
-  pub head-read : (ds : List Decl) (place : ℕ) (p : At) (pen : Pen) (o : List ℕ) → Stands (entriesOf l) place (map flatDecl ds) → Lies (W .known) place (numbersFrom (classesIn W) (p .cell) (map flatDecl ds))
+  pub head-read : (ds : List Decl) (place : ℕ) (p : At) (pen : Pen) (o : List ℕ) → Stands (entriesOf l) place (map flatDecl ds)
+      → Lies (W .known) place (numbersFrom (classesIn W) (p .cell) (map flatDecl ds))
       → Bytes (W .globals) ds → p .cell + cellsWithin (map flatDecl ds) ≤ 32 → HeadRead W l place ds p pen o
   unfolding recordOf headOps inksHead pensHead finishes holdsHead endsHead openIn Bytes numbersFrom cellsWithin flatDecl flatTyped
   head-read [] place p pen o h n b c = record { wrote = wrote-nil o pen; ends = λ e. refl; holds = refl }
@@ -97,11 +98,14 @@ module _ (W : Walk) (l : List ℕ) where
       let d : secondIn (getD (W .known) place 0) ≡ p .cell = rw y (second-packed (tyByte t) 0 (p .cell) (b .0) (omega arith) (omega (arith, c))) in
       let q = at (suc (suc (p .address))) (suc (p .cell)) in
       let one : p .cell + 1 ≡ suc (p .cell) = omega arith in
-      let r = head-read ds (place + 1) q (moved (moved pen)) (inkOp (moved pen) (inkInitial (tyByte t) pen o) 6 0 (p .cell)) (stands-tail _ _ h) (rw one at (lies-next _ _ n)) (b .1) (omega (arith, c)) in
+      let r = head-read ds (place + 1) q (moved (moved pen)) (inkOp (moved pen) (inkInitial (tyByte t) pen o) 6 0 (p .cell)) (stands-tail _ _ h)
+      (rw one at (lies-next _ _ n)) (b .1) (omega (arith, c)) in
       record {
         wrote = wrote-same (inks-10 part (W .known) m place pen o k (tyByte t) (p .cell) a d ∙ rw (next-here place)) (pens-10 part (W .known) m place pen o k ∙ rw (next-here place))
             (wrote-then (initial-wrote t pen o) (wrote-then (wrote-op (store own (p .cell)) 6 0 (p .cell) (refl, refl) (λ z. refl)) (r .wrote)));
-        ends = λ e. ends-10 part (W .known) m place pen o k ∙ rw (next-here place, r .ends (omega (arith, e)), e) (ap (λ (i : ℕ). i ∷ endsHead ds q) (let z : p .address + 1 + 1 ≡ suc (suc (p .address)) = omega arith in z));
+        ends =
+            λ e. ends-10 part (W .known) m place pen o k ∙ rw (next-here place, r .ends (omega (arith, e)), e)
+            (ap (λ (i : ℕ). i ∷ endsHead ds q) (let z : p .address + 1 + 1 ≡ suc (suc (p .address)) = omega arith in z));
         holds = rw (k, next-here place) (omega (arith, r .holds));
       }
   head-read (holding g ∷ ds) place p pen o h n b c =
@@ -111,7 +115,11 @@ module _ (W : Walk) (l : List ℕ) where
       let zero-more : p .cell + 0 ≡ p .cell = omega arith in
       let r = head-read ds (place + 1) (skip 1 p) (moved pen) (inkOp pen o 17 0 g) (stands-tail _ _ h) (rw zero-more at (lies-next _ _ n)) b (omega (arith, c)) in
       record {
-        wrote = wrote-same (inks-14 part (W .known) m place pen o k g a ∙ rw (next-here place)) (pens-14 part (W .known) m place pen o k ∙ rw (next-here place)) (wrote-then (wrote-op (takeHold g) 17 0 g (refl, refl) (λ z. refl)) (r .wrote));
-        ends = λ e. ends-14 part (W .known) m place pen o k ∙ rw (next-here place, r .ends (omega (arith, e)), e) (ap (λ (i : ℕ). i ∷ endsHead ds (skip 1 p)) (let z : p .address + 1 ≡ suc (p .address) = omega arith in z));
+        wrote =
+            wrote-same (inks-14 part (W .known) m place pen o k g a ∙ rw (next-here place))
+            (pens-14 part (W .known) m place pen o k ∙ rw (next-here place)) (wrote-then (wrote-op (takeHold g) 17 0 g (refl, refl) (λ z. refl)) (r .wrote));
+        ends =
+            λ e. ends-14 part (W .known) m place pen o k ∙ rw (next-here place, r .ends (omega (arith, e)), e)
+            (ap (λ (i : ℕ). i ∷ endsHead ds (skip 1 p)) (let z : p .address + 1 ≡ suc (p .address) = omega arith in z));
         holds = rw (k, next-here place) (omega (arith, r .holds));
       }

@@ -7,28 +7,28 @@ use lib.ListN.{length, drop, length-append, length-drop}
 use lib.Seq.{sets, length-sets}
 use Rattle.language.specs.Program.{flatDecl, flatItems}
 use Rattle.language.specs.Tree.{Decl, declare, holding, Items, countItems}
-use Rattle.programs.specs.Claims.{entriesOf}
-use Rattle.scopes.specs.Environment.{Item, item, envOf, addAll, Grown}
-use Rattle.scopes.specs.Laws.{fewer}
-use Rattle.spans.specs.Stands.{Stands, stands-within, length-entries}
-use Rattle.heads.specs.Items.{blockItems}
-use Rattle.heads.specs.Sees.{Legible, Sees}
-use Rattle.heads.specs.Trees.{length-Items}
-use Rattle.heads.specs.Defines.{headItems, labelItems, length-labels, bulk, labels-bulk, enters, Enters}
-use Rattle.heads.specs.Defines as defines
-use Rattle.shapes.specs.Steps.{table-next, EnterAsks}
+use Rattle.language_laws.specs.Claims.{entriesOf}
+use Rattle.table_scopes.specs.Environment.{Item, item, envOf, addAll, Grown}
+use Rattle.table_scopes.specs.EnvironmentLaws.{fewer}
+use Rattle.table_scopes.specs.Stands.{Stands, stands-within, length-entries}
+use Rattle.table_scopes.specs.Items.{blockItems}
+use Rattle.table_scopes.specs.Sees.{Legible, Sees}
+use Rattle.table_scopes.specs.Trees.{length-Items}
+use Rattle.table_scopes.specs.Defines.{headItems, labelItems, length-labels, bulk, labels-bulk, enters, Enters}
+use Rattle.table_scopes.specs.Defines as defines
+use Rattle.table_forms.specs.Steps.{table-next, EnterAsks}
 use Rattle.compile_code.specs.Code.{Code, At}
 use Rattle.compile_code.specs.Compile.{Around, bound, scopesOf, heldIn}
-use Rattle.compile_pen.specs.declared.Pen.{Pen}
-use Rattle.compile_pen.specs.Ink.{Fits}
-use Rattle.compile_pen.specs.Folds.{penAfter, lets, grows, fits-before}
+use Rattle.compile_output.specs.declared.Pen.{Pen}
+use Rattle.compile_output.specs.Ink.{Fits}
+use Rattle.compile_output.specs.Folds.{penAfter, lets, grows, fits-before}
 use Rattle.compile_nodes.specs.Knows.{Walk, Knows}
 use Rattle.compile_nodes.specs.Ends.{aroundHead, atHead, endsHead}
 use Rattle.compile_nodes.specs.Ready.{Node, flatN, Place, Lent, Stood, Kept, Wrote, Ready}
-use Rattle.compile_own.specs.Owns.{pensHead, inksHead, finishes, holdsHead}
-use Rattle.compile_sight.specs.Marks.{openIn, marks}
-use Rattle.compile_sight.specs.Blocks.{within, items-are}
-use Rattle.compile_sight.specs.HeadOps.{headOps, head-address, head-held}
+use Rattle.compile_emit.specs.Owns.{pensHead, inksHead, finishes, holdsHead}
+use Rattle.compile_scopes.specs.Marks.{openIn, marks}
+use Rattle.compile_scopes.specs.Blocks.{within, items-are}
+use Rattle.compile_scopes.specs.HeadOps.{headOps, head-address, head-held}
 use Rattle.compile_steps.specs.Parts.{below, lent, flat-N, head-N, wrote-later, wrote-length}
 use Rattle.compile_steps.specs.HeadCode.{HeadRead}
 

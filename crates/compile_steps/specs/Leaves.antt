@@ -18,35 +18,37 @@ use Rattle.words.specs.Laws.{two, four, number-below, word-back}
 use Rattle.values.specs.Types.{Ty, tyByte, integer, logical, bits, reference}
 use Rattle.values.specs.Values.{int, log, bit, ref}
 use Rattle.bytecode.specs.Instructions.{Instr, push, go, letHold}
-use Rattle.language.specs.Tree.{Stmt, block, assign, when, choose, while, goto, assert, call, setLevel, select, Expr, number, truth, pattern, null, variable, invoke, field, make, operate1, operate2, conditional, fader, blockExpr, Global}
+use Rattle.language.specs.Tree.{Stmt, block, assign, when, choose, while, goto, assert, call, setLevel, select, Expr, number, truth, pattern, null, variable, invoke}
+use Rattle.language.specs.Tree.{field, make, operate1, operate2, conditional, fader, blockExpr, Global}
 use Rattle.language.specs.Table.{Entry, entry}
 use Rattle.language.specs.Faults.{typeE}
 use Rattle.language.specs.Names.{Sort, isVariable, isLabel, Scope, nowhere, found, lookup}
 use Rattle.language.specs.Names as names
-use Rattle.programs.specs.Claims.{entriesOf}
-use Rattle.scopes.specs.declared.Found.{Found}
-use Rattle.scopes.specs.declared.Found.the-variants.{Nothing, Def}
-use Rattle.scopes.specs.Environment.{Item, envOf, find}
-use Rattle.spans.specs.Stands.{Stands, fields, half-part, word-part}
-use Rattle.heads.specs.Defines.{name-small}
-use Rattle.heads.specs.Sees.{Agrees, Sees}
-use Rattle.shapes.specs.Walk.{Table}
-use Rattle.shapes.specs.Forms.{headF}
+use Rattle.language_laws.specs.Claims.{entriesOf}
+use Rattle.table_scopes.specs.declared.environment.Found.{Found}
+use Rattle.table_scopes.specs.declared.environment.Found.the-variants.{Nothing, Def}
+use Rattle.table_scopes.specs.Environment.{Item, envOf, find}
+use Rattle.table_scopes.specs.Stands.{Stands, fields, half-part, word-part}
+use Rattle.table_scopes.specs.Defines.{name-small}
+use Rattle.table_scopes.specs.Sees.{Agrees, Sees}
+use Rattle.table_forms.specs.Walk.{Table}
+use Rattle.table_forms.specs.Forms.{headF}
 use Rattle.compile_code.specs.Code.{Code, nil, op, mark, _▸_, At, skip, after}
-use Rattle.compile_code.specs.Compile.{Around, inside, outermost, bound, global, held, labels, scopesOf, passing, theLabels, hasLabel, sizeGoto, labelAt, codeGoto, codeS, codeE, tyE, tyIn, loading, cellOf, classNumber}
+use Rattle.compile_code.specs.Compile.{Around, inside, outermost, bound, global, held, labels, scopesOf, passing, theLabels, hasLabel, sizeGoto, labelAt, codeGoto, codeS}
+use Rattle.compile_code.specs.Compile.{codeE, tyE, tyIn, loading, cellOf, classNumber}
 use Rattle.compile_code.specs.Compile as compile
 use Rattle.compile_code.specs.Encode.{rec, recordOf}
 use Rattle.compile_names.specs.Good.{goodS, goodE}
 use Rattle.compile_names.specs.Known.{nothing}
-use Rattle.compile_known.specs.Numbers.{typeIn, firstIn, secondIn}
-use Rattle.compile_known.specs.Meaning.{meaningOf, knownOf}
-use Rattle.compile_pen.specs.declared.Pen.{Pen}
-use Rattle.compile_pen.specs.Ink.{Fits, moved, penShaped, inkOp, inkShape}
-use Rattle.compile_pen.specs.Folds.{penAfter, inked, lets, inked-op, grows}
+use Rattle.compile_symbols.specs.Numbers.{typeIn, firstIn, secondIn}
+use Rattle.compile_symbols.specs.Meaning.{meaningOf, knownOf}
+use Rattle.compile_output.specs.declared.Pen.{Pen}
+use Rattle.compile_output.specs.Ink.{Fits, moved, penShaped, inkOp, inkShape}
+use Rattle.compile_output.specs.Folds.{penAfter, inked, lets, inked-op, grows}
 use Rattle.compile_nodes.specs.Knows.{Walk, Knows, Lands, MeansLabel, passedTo, targetOf}
 use Rattle.compile_nodes.specs.Ends.{belowS, belowE}
 use Rattle.compile_nodes.specs.Ready.{Node, stmt, expr, name, flatN, formN, codeN, endsN, LeavesN, Place, Lent, Laid, Stood, Kept, Wrote, Ready, Done}
-use Rattle.compile_own.specs.Owns.{names as namesBy, knownFor, ownerBy, inkLeaf, leafType, penGoto, inkGoto}
+use Rattle.compile_emit.specs.Owns.{names as namesBy, knownFor, ownerBy, inkLeaf, leafType, penGoto, inkGoto}
 use Rattle.compile_steps.specs.Parts.{lent, flat-N, head-N, wrote-then, wrote-op, wrote-length, kept-out, movedTo, fits-first, fits-start}
 use Rattle.compile_steps.specs.Stages.{Stage, stage-start, stage-fits-op, stage-fits-mark, stage-op, stage-mark, stage-part, stage-as, stage-done}
 use Rattle.compile_steps.specs.Named.{Meaning, meaning-of, variable-type, variable-load, class-type, class-first}
@@ -111,11 +113,13 @@ module _ {W : Walk} {X : Place} {l part : List ℕ} {nesting at : ℕ} {sizes : 
         (put (expr (number z)) r 1 (sym (rw (d .kind) at type)) (omega (arith, r .few-values)))
     leaf-done (expr (truth b)) h r =
         let d = head-N (expr (truth b)) (r .table) (r .laid .stands) in
-        leaf-step (expr (truth b)) (push (log b)) r refl refl 2 0 (wordAt part 4) (rw (d .kind) at j) (λ dry. ap (λ (n : ℕ). rec 2 0 n) (truth-word b ∙ sym (word-here _ _ (r .table) (r .laid .stands)))) f _
+        leaf-step (expr (truth b)) (push (log b)) r refl refl 2 0 (wordAt part 4) (rw (d .kind) at j)
+        (λ dry. ap (λ (n : ℕ). rec 2 0 n) (truth-word b ∙ sym (word-here _ _ (r .table) (r .laid .stands)))) f _
         (put (expr (truth b)) r 2 (sym (rw (d .kind) at type)) (omega (arith, r .few-values)))
     leaf-done (expr (pattern z)) h r =
         let d = head-N (expr (pattern z)) (r .table) (r .laid .stands) in
-        leaf-step (expr (pattern z)) (push (bit (wordOf z))) r refl refl 3 0 (wordAt part 4) (rw (d .kind) at j) (λ dry. ap (λ (n : ℕ). rec 3 0 n) (sym (word-here _ _ (r .table) (r .laid .stands)))) f _
+        leaf-step (expr (pattern z)) (push (bit (wordOf z))) r refl refl 3 0 (wordAt part 4) (rw (d .kind) at j)
+        (λ dry. ap (λ (n : ℕ). rec 3 0 n) (sym (word-here _ _ (r .table) (r .laid .stands)))) f _
         (put (expr (pattern z)) r 3 (sym (rw (d .kind) at type)) (omega (arith, r .few-values)))
     leaf-done (expr (null c)) h r =
         let d = head-N (expr (null c)) (r .table) (r .laid .stands) in
@@ -127,8 +131,11 @@ module _ {W : Walk} {X : Place} {l part : List ℕ} {nesting at : ℕ} {sizes : 
         let d = head-N (expr (variable a)) (r .table) (r .laid .stands) in
         let e : k ≡ meaningOf a (envOf (L .env) top) (W .known) = rw (d .kind, d .a) at known in
         let m = meaning-of (r .stood .sees) (r .stood .knows) a (rw (d .a) at (half-small (r .table))) _ _ (r .good .1 .1) in
-        leaf-step (expr (variable a)) (loading (cellOf a (X .around))) r refl refl 5 (ownerBy (pen .inside) k) (secondIn k) (rw (d .kind) at j) (λ dry. variable-load m k e (pen .inside) (r .stood .inside)) f _
-        (put (expr (variable a)) r (tyByte (tyE (W .globals) (X .around) (variable a))) (variable-ty (W .globals) (X .around) a (r .good .0) (r .good .1 .0) (r .good .1 .1) ∙ (sym (variable-type m k e) ∙ sym (rw (d .kind) at type))) (omega (arith, r .few-values)))
+        leaf-step (expr (variable a)) (loading (cellOf a (X .around))) r refl refl 5 (ownerBy (pen .inside) k) (secondIn k) (rw (d .kind) at j)
+        (λ dry. variable-load m k e (pen .inside) (r .stood .inside)) f _
+        (put (expr (variable a)) r (tyByte (tyE (W .globals) (X .around) (variable a)))
+        (variable-ty (W .globals) (X .around) a (r .good .0) (r .good .1 .0) (r .good .1 .1)
+        ∙ (sym (variable-type m k e) ∙ sym (rw (d .kind) at type))) (omega (arith, r .few-values)))
     leaf-done (stmt s) h ready = absurd h
     leaf-done (expr (invoke a es)) h ready = absurd h
     leaf-done (expr (field a e)) h ready = absurd h
@@ -141,7 +148,8 @@ module _ {W : Walk} {X : Place} {l part : List ℕ} {nesting at : ℕ} {sizes : 
     leaf-done (name a) h ready = absurd h
 
 -- ── a label ──
-module _ (a : ℕ) {W : Walk} {X : Place} {l part : List ℕ} {nesting at : ℕ} {sizes : List ℕ} {L : Lent} {top holds depth : ℕ} {pen : Pen} (r : Ready (name a) W X l part nesting at sizes L top holds depth pen) where
+module _ (a : ℕ) {W : Walk} {X : Place} {l part : List ℕ} {nesting at : ℕ} {sizes : List ℕ} {L : Lent} {top holds depth : ℕ} {pen : Pen}
+    (r : Ready (name a) W X l part nesting at sizes L top holds depth pen) where
   label-start : Stage W l L top holds depth pen at L X depth pen nil (mark (compile.found (X .around) (X .types)) ▸ nil) []
   unfolding penAfter
   label-start = stage-start at _ (r .stood) (r .fits)
@@ -225,7 +233,8 @@ label-at {l} {v} {ss} see a small e = by (find a v) refl (lookup a ss) e (see .s
     by (Def t n q u) h (found (names.isField c i) r) z g = let y : _≡_ {A = ℕ} 0 1 = cc in absurd (omega arith)
     by (Def t n q u) h (found (names.isProcedure i j) r) z g = let y : _≡_ {A = ℕ} 0 1 = cc in absurd (omega arith)
 
-module _ (a : ℕ) {W : Walk} {X : Place} {l part : List ℕ} {nesting at : ℕ} {sizes : List ℕ} {L : Lent} {top holds depth : ℕ} {pen : Pen} (r : Ready (stmt (goto a)) W X l part nesting at sizes L top holds depth pen) where
+module _ (a : ℕ) {W : Walk} {X : Place} {l part : List ℕ} {nesting at : ℕ} {sizes : List ℕ} {L : Lent} {top holds depth : ℕ} {pen : Pen}
+    (r : Ready (stmt (goto a)) W X l part nesting at sizes L top holds depth pen) where
   goto-name : halfAt part 2 ≡ a
   goto-name = head-N (stmt (goto a)) (r .table) (r .laid .stands) .a
 
@@ -265,14 +274,21 @@ module _ (a : ℕ) {W : Walk} {X : Place} {l part : List ℕ} {nesting at : ℕ}
     goto-wrote =
         record {
           penned = sym (goto-pen (X .around) a goto-n pen (goto-means .passed));
-          written = inked-op (go (targetOf (X .around) a)) 8 0 (meaningOf a (envOf (L .env) top) (W .aims)) (penAfter (lets goto-n) pen) (λ dry. goto-target (sym (r .stood .dryness) ∙ (sym (grows (lets goto-n) pen .same-dry) ∙ dry))) (inked (lets goto-n) pen (L .out))
+          written =
+              inked-op (go (targetOf (X .around) a)) 8 0 (meaningOf a (envOf (L .env) top) (W .aims)) (penAfter (lets goto-n) pen)
+              (λ dry. goto-target (sym (r .stood .dryness) ∙ (sym (grows (lets goto-n) pen .same-dry) ∙ dry))) (inked (lets goto-n) pen (L .out))
               ∙ sym (goto-inked (X .around) a goto-n pen (L .out) (goto-means .passed));
         }
 
-    goto-1 : Stage W l L top holds depth pen at (lent (L .env) (L .ends) (L .stack) goto-out) (movedTo X (after (codeGoto (X .around) a) (X .start))) depth (moved (penAfter (lets goto-n) pen)) (nil ▸ codeGoto (X .around) a) (mark (compile.found (X .around) (X .types)) ▸ nil) ([] ++ [])
-    goto-1 = stage-part (codeGoto (X .around) a) (mark (compile.found (X .around) (X .types)) ▸ nil) [] goto-start (at + 1) (kept-out L goto-out (wrote-length goto-wrote)) goto-wrote refl (omega arith)
+    goto-1 : Stage W l L top holds depth pen at (lent (L .env) (L .ends) (L .stack) goto-out)
+        (movedTo X (after (codeGoto (X .around) a) (X .start))) depth (moved (penAfter (lets goto-n) pen)) (nil ▸ codeGoto (X .around) a)
+        (mark (compile.found (X .around) (X .types)) ▸ nil) ([] ++ [])
+    goto-1 =
+        stage-part (codeGoto (X .around) a) (mark (compile.found (X .around) (X .types)) ▸ nil) [] goto-start (at + 1)
+        (kept-out L goto-out (wrote-length goto-wrote)) goto-wrote refl (omega arith)
 
-    goto-2 : Stage W l L top holds depth pen at (lent (L .env) (L .ends) (L .stack) out) (movedTo X (after (codeGoto (X .around) a) (X .start))) depth q ((nil ▸ codeGoto (X .around) a) ▸ mark (compile.found (X .around) (X .types))) nil ([] ++ [])
+    goto-2 : Stage W l L top holds depth pen at (lent (L .env) (L .ends) (L .stack) out)
+        (movedTo X (after (codeGoto (X .around) a) (X .start))) depth q ((nil ▸ codeGoto (X .around) a) ▸ mark (compile.found (X .around) (X .types))) nil ([] ++ [])
     goto-2 = stage-mark nil goto-1 (rw goto-name at j)
 
     pub goto-end : q .address < 65536

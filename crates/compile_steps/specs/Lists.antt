@@ -13,16 +13,16 @@ use Rattle.values.specs.Types.{Ty}
 use Rattle.language.specs.Tree.{Items, noItem, label, item, Expr, Exprs, noExpr, countItems, countExprs}
 use Rattle.language.specs.Tree.{expr as more}
 use Rattle.language.specs.Table.{entry}
-use Rattle.shapes.specs.Steps.{Passes, table-next}
-use Rattle.heads.specs.Defines.{bulk}
-use Rattle.heads.specs.Trees.{length-S}
+use Rattle.table_forms.specs.Steps.{Passes, table-next}
+use Rattle.table_scopes.specs.Defines.{bulk}
+use Rattle.table_scopes.specs.Trees.{length-S}
 use Rattle.compile_code.specs.Code.{mark, _▸_, At, after}
 use Rattle.compile_code.specs.Compile.{found, codeS, codeE, codeEs, codeItems, tyE}
 use Rattle.compile_names.specs.Good.{goodEs, goodItems}
-use Rattle.compile_known.specs.Entries.{sets-append}
-use Rattle.compile_known.specs.Numbers.{cellsWithin}
-use Rattle.compile_pen.specs.declared.Pen.{Pen}
-use Rattle.compile_pen.specs.Folds.{penAfter, inked}
+use Rattle.compile_symbols.specs.Entries.{sets-append}
+use Rattle.compile_symbols.specs.Numbers.{cellsWithin}
+use Rattle.compile_output.specs.declared.Pen.{Pen}
+use Rattle.compile_output.specs.Folds.{penAfter, inked}
 use Rattle.compile_nodes.specs.Knows.{Walk}
 use Rattle.compile_nodes.specs.Ends.{endsS, endsE, endsItems, endsEs}
 use Rattle.compile_nodes.specs.Ready.{Node, stmt, expr, name, flatN, codeN, endsN, Place, Lent, Kept, Ready, Done, Asks, Answers, pushed, ValuesEs, ReadyEs, DoneEs, AsksEs, AnswersEs, ReadyItems}
@@ -48,14 +48,27 @@ pub record Going (es : Exprs) (W : Walk) (X : Place) (l rest : List ℕ) (count 
 pub record EsSoFar (known aims l part : List ℕ) (count nesting at : ℕ) (sizes : List ℕ) (L : Lent) (top holds depth : ℕ) (pen : Pen) (M : Lent) (rest : List ℕ) (place i : ℕ) (p : Pen) : Type 0 where
   pub kept : Kept L M top depth
   pub most : i ≤ count
-  pub goes : (es : Exprs) (W : Walk) (X : Place) → W .known ≡ known → W .aims ≡ aims → ReadyEs es W X l part count nesting at sizes L top holds depth pen → Going es W X l rest count nesting at sizes L M top holds depth pen p place i
+  pub goes : (es : Exprs) (W : Walk) (X : Place) → W .known ≡ known → W .aims ≡ aims
+      → ReadyEs es W X l part count nesting at sizes L top holds depth pen → Going es W X l rest count nesting at sizes L M top holds depth pen p place i
 
-pub es-start : (known aims l part : List ℕ) (count nesting at : ℕ) (sizes : List ℕ) (L : Lent) (top holds depth : ℕ) (pen : Pen) → EsSoFar known aims l part count nesting at sizes L top holds depth pen L part at 0 pen
+pub es-start : (known aims l part : List ℕ) (count nesting at : ℕ) (sizes : List ℕ) (L : Lent) (top holds depth : ℕ) (pen : Pen)
+    → EsSoFar known aims l part count nesting at sizes L top holds depth pen L part at 0 pen
 es-start known aims l part count nesting at sizes L top holds depth pen =
     record {
       kept = kept-self L;
       most = omega arith;
-      goes = λ es W X sk sa r. record { left = es; types = X .types; start = X .start; ready = rw (sub-zero count, add-zero depth) r; pens = refl; inks = refl; ends = refl; stack = refl; many = omega arith };
+      goes =
+          λ es W X sk sa r. record {
+            left = es;
+            types = X .types;
+            start = X .start;
+            ready = rw (sub-zero count, add-zero depth) r;
+            pens = refl;
+            inks = refl;
+            ends = refl;
+            stack = refl;
+            many = omega arith;
+          };
     }
 
 -- the next expression
@@ -65,7 +78,8 @@ pub record NextE (left : Exprs) (W : Walk) (Y : Place) (l rest : List ℕ) (nest
   pub is : left ≡ more this later
   pub ready : Ready (expr this) W Y l rest nesting place sizes M top holds d p
 
-next-e : (left : Exprs) {W : Walk} {Y : Place} {l rest : List ℕ} {n nesting place : ℕ} {sizes : List ℕ} {M : Lent} {top holds d : ℕ} {p : Pen} → ReadyEs left W Y l rest n nesting place sizes M top holds d p → 0 < n
+next-e : (left : Exprs) {W : Walk} {Y : Place} {l rest : List ℕ} {n nesting place : ℕ} {sizes : List ℕ} {M : Lent} {top holds d : ℕ} {p : Pen}
+    → ReadyEs left W Y l rest n nesting place sizes M top holds d p → 0 < n
     → NextE left W Y l rest nesting place sizes M top holds d p
 unfolding countExprs flatEs endsEs codeEs measureS goodEs ValuesEs
 next-e noExpr r h = absurd (omega (arith, r .many))
@@ -89,9 +103,11 @@ next-e (more e es) {W} {Y} {M = M} {p = p} r h =
       };
     }
 
-es-moves : (e : Expr) (es : Exprs) {W : Walk} {Y : Place} {l rest : List ℕ} {n nesting place : ℕ} {sizes : List ℕ} {M N : Lent} {top holds d : ℕ} {p q : Pen} → ReadyEs (more e es) W Y l rest n nesting place sizes M top holds d p
+es-moves : (e : Expr) (es : Exprs) {W : Walk} {Y : Place} {l rest : List ℕ} {n nesting place : ℕ} {sizes : List ℕ} {M N : Lent} {top holds d : ℕ}
+    {p q : Pen} → ReadyEs (more e es) W Y l rest n nesting place sizes M top holds d p
     → Kept M N top d → Done (expr e) W Y place M N d p q → (m : ℕ) → m ≡ length (flatE e)
-    → ReadyEs es W (heldOn (tyE (W .globals) (Y .around) e) Y (after (codeE (W .globals) e (Y .around) (Y .types) (Y .start)) (Y .start))) l (below rest (8 * m)) (n - 1) nesting (place + m) sizes N top holds (d + 1) q
+    → ReadyEs es W (heldOn (tyE (W .globals) (Y .around) e) Y (after (codeE (W .globals) e (Y .around) (Y .types) (Y .start)) (Y .start))) l
+    (below rest (8 * m)) (n - 1) nesting (place + m) sizes N top holds (d + 1) q
 unfolding countExprs flatEs endsEs codeEs measureS goodEs ValuesEs
 es-moves e es {W} {Y} {place = place} {M = M} {N} {d = d} {p} {q} r k h m size =
     let x = codeE (W .globals) e (Y .around) (Y .types) (Y .start) in
@@ -99,8 +115,12 @@ es-moves e es {W} {Y} {place = place} {M = M} {N} {d = d} {p} {q} r k h m size =
     let z : suc d ≡ d + 1 = omega arith in
     record {
       table = table-next (r .table) (8 * m) m refl;
-      laid = rw size (laid-right (flatE e) (flatEs es) (endsE (W .globals) e (Y .around) (Y .types) (Y .start)) _ s (length-endsE (W .globals) e (Y .around) (Y .types) (Y .start)) (cell-E (W .globals) e (Y .around) (Y .types) (Y .start)) (r .laid));
-      stood = stood-push (r .stood) k (wrote-later (h .wrote)) s (wrote-address (Y .start) (h .wrote) (r .stood .address)) (tyE (W .globals) (Y .around) e) (h .leaves) (omega (arith, r .few-values .0, need-E e));
+      laid =
+          rw size (laid-right (flatE e) (flatEs es) (endsE (W .globals) e (Y .around) (Y .types) (Y .start)) _ s
+          (length-endsE (W .globals) e (Y .around) (Y .types) (Y .start)) (cell-E (W .globals) e (Y .around) (Y .types) (Y .start)) (r .laid));
+      stood =
+          stood-push (r .stood) k (wrote-later (h .wrote)) s (wrote-address (Y .start) (h .wrote) (r .stood .address))
+          (tyE (W .globals) (Y .around) e) (h .leaves) (omega (arith, r .few-values .0, need-E e));
       room = omega (arith, r .room, k .same-env, length-append (flatE e) (flatEs es));
       ending = omega (arith, r .ending, k .same-ends, length-append (flatE e) (flatEs es));
       fits = fits-rest x _ (h .wrote) (r .fits);
@@ -114,7 +134,11 @@ es-moves e es {W} {Y} {place = place} {M = M} {N} {d = d} {p} {q} r k h m size =
 module _ {known aims l part : List ℕ} {count nesting at : ℕ} {sizes : List ℕ} {L : Lent} {top holds depth : ℕ} {pen : Pen} {M : Lent} {rest : List ℕ} {place i : ℕ} {p : Pen}
     (s : EsSoFar known aims l part count nesting at sizes L top holds depth pen M rest place i p) (h : i < count) where
   this-e : (es : Exprs) (W : Walk) (X : Place) (sk : W .known ≡ known) (sa : W .aims ≡ aims) (r : ReadyEs es W X l part count nesting at sizes L top holds depth pen)
-      → NextE (s .goes es W X sk sa r .left) W (record { around = X .around; types = s .goes es W X sk sa r .types; start = s .goes es W X sk sa r .start }) l rest nesting place sizes M top holds (depth + i) p
+      → NextE (s .goes es W X sk sa r .left) W (record {
+        around = X .around;
+        types = s .goes es W X sk sa r .types;
+        start = s .goes es W X sk sa r .start;
+      }) l rest nesting place sizes M top holds (depth + i) p
   this-e es W X sk sa r = next-e (s .goes es W X sk sa r .left) (s .goes es W X sk sa r .ready) (omega arith)
 
   pub es-asks : AsksEs known aims l part count nesting at sizes L top holds depth pen → Asks IsExpr known aims l rest nesting place sizes M top holds (depth + i) p
@@ -185,11 +209,14 @@ pub record GoingItems (is : Items) (W : Walk) (X : Place) (l rest : List ℕ) (n
   pub inks : inked (codeItems (W .globals) is (X .around) (X .types) (X .start)) pen (L .out) ≡ inked (codeItems (W .globals) items (X .around) (X .types) start) p (M .out)
   pub ends : sets (L .ends) at (endsItems (W .globals) is (X .around) (X .types) (X .start)) ≡ sets (M .ends) place (endsItems (W .globals) items (X .around) (X .types) start)
 
-pub record ItemsSoFar (known aims l part : List ℕ) (count nesting at : ℕ) (sizes : List ℕ) (L : Lent) (top holds depth : ℕ) (pen : Pen) (M : Lent) (rest : List ℕ) (place left : ℕ) (p : Pen) : Type 0 where
+pub record ItemsSoFar (known aims l part : List ℕ) (count nesting at : ℕ) (sizes : List ℕ) (L : Lent) (top holds depth : ℕ) (pen : Pen) (M : Lent)
+    (rest : List ℕ) (place left : ℕ) (p : Pen) : Type 0 where
   pub kept : Kept L M top depth
-  pub goes : (is : Items) (W : Walk) (X : Place) → W .known ≡ known → W .aims ≡ aims → ReadyItems is W X l part count nesting at sizes L top holds depth pen → GoingItems is W X l rest nesting at sizes L M top holds depth pen p place left
+  pub goes : (is : Items) (W : Walk) (X : Place) → W .known ≡ known → W .aims ≡ aims
+      → ReadyItems is W X l part count nesting at sizes L top holds depth pen → GoingItems is W X l rest nesting at sizes L M top holds depth pen p place left
 
-pub items-start : (known aims l part : List ℕ) (count nesting at : ℕ) (sizes : List ℕ) (L : Lent) (top holds depth : ℕ) (pen : Pen) → ItemsSoFar known aims l part count nesting at sizes L top holds depth pen L part at count pen
+pub items-start : (known aims l part : List ℕ) (count nesting at : ℕ) (sizes : List ℕ) (L : Lent) (top holds depth : ℕ) (pen : Pen)
+    → ItemsSoFar known aims l part count nesting at sizes L top holds depth pen L part at count pen
 items-start known aims l part count nesting at sizes L top holds depth pen =
     record { kept = kept-self L; goes = λ is W X sk sa r. record { items = is; start = X .start; ready = r; pens = refl; inks = refl; ends = refl } }
 
@@ -207,7 +234,8 @@ pub record NextI (is : Items) (W : Walk) (Y : Place) (l rest : List ℕ) (left n
   pub next : {N : Lent} {q : Pen} → Kept M N top d → Done this W Y place M N d p q → (m : ℕ) → m ≡ length (flatN this)
       → ReadyItems later W (movedTo Y (after (codeN (W .globals) this (Y .around) (Y .types) (Y .start)) (Y .start))) l (below rest (8 * m)) (left - 1) nesting (place + m) sizes N top holds d q
 
-next-i : (is : Items) {W : Walk} {Y : Place} {l rest : List ℕ} {left nesting place : ℕ} {sizes : List ℕ} {M : Lent} {top holds d : ℕ} {p : Pen} → ReadyItems is W Y l rest left nesting place sizes M top holds d p → 0 < left
+next-i : (is : Items) {W : Walk} {Y : Place} {l rest : List ℕ} {left nesting place : ℕ} {sizes : List ℕ} {M : Lent} {top holds d : ℕ} {p : Pen}
+    → ReadyItems is W Y l rest left nesting place sizes M top holds d p → 0 < left
     → NextI is W Y l rest left nesting place sizes M top holds d p
 unfolding countItems flatItems endsItems codeItems measureS goodItems bulk after cellsWithin
 next-i noItem r h = absurd (omega (arith, r .many))
@@ -273,7 +301,9 @@ next-i (item s is) {W} {Y} {left = left} {place = place} {M = M} {d = d} {p = p}
       next = λ {N} {q} k g m size.
           record {
             table = table-next (r .table) (8 * m) m refl;
-            laid = rw size (laid-right (flatS s) (flatItems is) (endsS (W .globals) s (Y .around) (Y .types) (Y .start)) _ (after x (Y .start)) (length-endsS (W .globals) s (Y .around) (Y .types) (Y .start)) (cell-S (W .globals) s (Y .around) (Y .types) (Y .start)) (r .laid));
+            laid =
+                rw size (laid-right (flatS s) (flatItems is) (endsS (W .globals) s (Y .around) (Y .types) (Y .start)) _ (after x (Y .start))
+                (length-endsS (W .globals) s (Y .around) (Y .types) (Y .start)) (cell-S (W .globals) s (Y .around) (Y .types) (Y .start)) (r .laid));
             stood = stood-next (r .stood) k (wrote-later (g .wrote)) (after x (Y .start)) (wrote-address (Y .start) (g .wrote) (r .stood .address));
             room = omega (arith, r .room, k .same-env);
             ending = omega (arith, r .ending, k .same-ends, length-append (flatS s) (flatItems is));

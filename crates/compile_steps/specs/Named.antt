@@ -8,25 +8,26 @@ use lib.ListN.{getD}
 use Rattle.values.specs.Types.{Ty, reference, tyByte}
 use Rattle.language.specs.Names.{Sort, isVariable, isClass, isField, isProcedure, nowhere, found, lookup}
 use Rattle.language.specs.Names as names
-use Rattle.scopes.specs.declared.Found.{Found}
-use Rattle.scopes.specs.declared.Found.the-variants.{Nothing, Def}
-use Rattle.scopes.specs.Environment.{Item, find}
-use Rattle.heads.specs.Sees.{Agrees, Sees}
+use Rattle.table_scopes.specs.declared.environment.Found.{Found}
+use Rattle.table_scopes.specs.declared.environment.Found.the-variants.{Nothing, Def}
+use Rattle.table_scopes.specs.Environment.{Item, find}
+use Rattle.table_scopes.specs.Sees.{Agrees, Sees}
 use Rattle.compile_code.specs.Compile.{Around, scopesOf, cellOf, loading, storing, tyIn, classNumber, bodyNumber, fieldNumber}
 use Rattle.compile_code.specs.Encode.{rec, recordOf, ownerCode}
 use Rattle.compile_names.specs.Known.{nothing}
-use Rattle.compile_known.specs.Numbers.{packed, typeIn, firstIn, secondIn}
-use Rattle.compile_known.specs.Packed.{type-packed, first-packed, second-packed}
-use Rattle.compile_known.specs.Meaning.{meaningOf, knownOf}
+use Rattle.compile_symbols.specs.Numbers.{packed, typeIn, firstIn, secondIn}
+use Rattle.compile_symbols.specs.Packed.{type-packed, first-packed, second-packed}
+use Rattle.compile_symbols.specs.Meaning.{meaningOf, knownOf}
 use Rattle.compile_nodes.specs.Knows.{Walk, Means, Known, Knows, resultOf}
-use Rattle.compile_own.specs.Owns.{ownerBy}
+use Rattle.compile_emit.specs.Owns.{ownerBy}
 
 pub record Meaning (W : Walk) (v : List Item) (Γ : List Around) (a : ℕ) (s : Sort) : Type 0 where
   pub place : ℕ
   pub read : meaningOf a v (W .known) ≡ getD (W .known) place 0
   pub means : Means W Γ a place s
 
-pub meaning-of : {W : Walk} {l : List ℕ} {v : List Item} {Γ : List Around} → Sees l v (scopesOf Γ) → Knows W v Γ → (a : ℕ) → a < 65536 → (s : Sort) (b : Bool) → lookup a (scopesOf Γ) ≡ found s b → Meaning W v Γ a s
+pub meaning-of : {W : Walk} {l : List ℕ} {v : List Item} {Γ : List Around} → Sees l v (scopesOf Γ) → Knows W v Γ → (a : ℕ) → a < 65536
+    → (s : Sort) (b : Bool) → lookup a (scopesOf Γ) ≡ found s b → Meaning W v Γ a s
 meaning-of {W} {l} {v} {Γ} see know a small s b e = go (find a v) refl (lookup a (scopesOf Γ)) e (see .sees a small) (know .knows a small)
   where
     go : (f : Found) → find a v ≡ f → (x : names.Found) → x ≡ found s b → Agrees l f x → Known W Γ a f x → Meaning W v Γ a s

@@ -20,17 +20,19 @@ use Rattle.compile_code.specs.Code.{Code, nil, op, mark, _▸_, At, skip, after
 use Rattle.compile_code.specs.Compile.{Around, scopesOf, found, codeS, codeE, tyE, tyIn, Way, plainly, marked, ifTrue, ifFalse, wayOf, codeWay, orInteger}
 use Rattle.compile_code.specs.Encode.{rec, recordOf}
 use Rattle.compile_names.specs.Good.{goodS, goodE}
-use Rattle.compile_known.specs.Numbers.{cellsOf, cellsWithin}
-use Rattle.compile_pen.specs.declared.Pen.{Pen}
-use Rattle.compile_pen.specs.Ink.{Fits, moved, penShaped, inkOp, inkShape}
-use Rattle.compile_pen.specs.Folds.{penAfter, inked}
+use Rattle.compile_symbols.specs.Numbers.{cellsOf, cellsWithin}
+use Rattle.compile_output.specs.declared.Pen.{Pen}
+use Rattle.compile_output.specs.Ink.{Fits, moved, penShaped, inkOp, inkShape}
+use Rattle.compile_output.specs.Folds.{penAfter, inked}
 use Rattle.compile_nodes.specs.Knows.{Walk}
 use Rattle.compile_nodes.specs.Ends.{belowS, belowE, endsS, endsE, seconds, begins}
 use Rattle.compile_nodes.specs.Ready.{Node, stmt, expr, flatN, codeN, endsN, Place, Lent, Laid, Stood, Kept, Wrote, Ready, Done, Asks, Answers}
-use Rattle.compile_steps.specs.Parts.{below, lent, laid-tail, laid-left, laid-right, laid-aim, laid-at, size-N, passes-N, kept-self, kept-then, kept-stack, kept-less, fits-first, movedTo, heldOn, ready-part, need-E, fits-rest}
+use Rattle.compile_steps.specs.Parts.{below, lent, laid-tail, laid-left, laid-right, laid-aim, laid-at, size-N, passes-N, kept-self, kept-then, kept-stack}
+use Rattle.compile_steps.specs.Parts.{kept-less, fits-first, movedTo, heldOn, ready-part, need-E, fits-rest}
 use Rattle.compile_steps.specs.Stages.{Stage, stage-start, stage-fits-op, stage-fits-mark, stage-op, stage-mark, stage-part, stage-push, stage-done, Finished, finished-done}
-use Rattle.compile_steps.specs.Ways.{wayNumber, way-number, pair-type, Tested, codeBetween, codeBehind, codeParts, parts-pen, parts-inked, waits, waits-are, secondPlace, between-stage, behind-stage, between-pen, behind-pen, tested-by}
-use Rattle.compile_own.specs.Owns.{wayBy, waitingBy, pairType, penBetween, inkBetween, penBehind, inkBehind}
+use Rattle.compile_steps.specs.Ways.{wayNumber, way-number, pair-type, Tested, codeBetween, codeBehind, codeParts, parts-pen, parts-inked, waits, waits-are}
+use Rattle.compile_steps.specs.Ways.{secondPlace, between-stage, behind-stage, between-pen, behind-pen, tested-by}
+use Rattle.compile_emit.specs.Owns.{wayBy, waitingBy, pairType, penBetween, inkBetween, penBehind, inkBehind}
 use Rattle.compile_steps.specs.Cells.{cell-E, cell-S, length-endsE, length-endsS}
 
 way-cells : (w : Way) (p : At) → begins w p .cell ≡ p .cell
@@ -52,11 +54,13 @@ waits-least ifTrue d = omega arith
 waits-least ifFalse d = omega arith
 
 -- an operand that is tested is logical, and so is the result
-tested-of : (gs : List Global) (o : Binary) (e f : Expr) (Γ : List Around) (t u z : Ty) → typeE (scopesOf Γ) e ≡ some t → typeE (scopesOf Γ) (operate2 o e f) ≡ some z → opType (binary o) (t ∷ u ∷ []) ≡ some z
+tested-of : (gs : List Global) (o : Binary) (e f : Expr) (Γ : List Around) (t u z : Ty) → typeE (scopesOf Γ) e ≡ some t
+    → typeE (scopesOf Γ) (operate2 o e f) ≡ some z → opType (binary o) (t ∷ u ∷ []) ≡ some z
     → {v : ℕ} → v ≡ tyByte (tyE gs Γ (operate2 o e f)) → Tested (wayOf o (isTy logical (typeE (scopesOf Γ) e))) (v ≡ tyByte logical)
 tested-of gs o e f Γ t u z h k g {v} leaves = rw h (tested-by gs o t (leaves ∙ (ap (λ (x : Option Ty). tyByte (tyIn gs (orInteger x))) k ∙ sym (pair-type gs o t u z g))))
 
-module _ (o : Binary) (e f : Expr) {W : Walk} {X : Place} {l part : List ℕ} {nesting at : ℕ} {sizes : List ℕ} {L : Lent} {top holds depth : ℕ} {pen : Pen} (r : Ready (expr (operate2 o e f)) W X l part nesting at sizes L top holds depth pen) where
+module _ (o : Binary) (e f : Expr) {W : Walk} {X : Place} {l part : List ℕ} {nesting at : ℕ} {sizes : List ℕ} {L : Lent} {top holds depth : ℕ}
+    {pen : Pen} (r : Ready (expr (operate2 o e f)) W X l part nesting at sizes L top holds depth pen) where
   abbrev pair-w : Way
   pair-w = wayOf o (isTy logical (typeE (scopesOf (X .around)) e))
 
@@ -96,7 +100,8 @@ module _ (o : Binary) (e f : Expr) {W : Walk} {X : Place} {l part : List ℕ} {n
 
   pair-second : (place : ℕ) → place ≡ at + 1 + length (flatE e) → Laid W l place pair-q (flatE f) pair-fs
   pair-second place c =
-      laid-at (sym c) (laid-right (flatE e) (flatE f) pair-es pair-fs pair-q (length-endsE (W .globals) e (X .around) (X .types) (X .start)) (way-cells pair-w (after pair-x (X .start)) ∙ cell-E (W .globals) e (X .around) (X .types) (X .start)) pair-laid)
+      laid-at (sym c) (laid-right (flatE e) (flatE f) pair-es pair-fs pair-q (length-endsE (W .globals) e (X .around) (X .types) (X .start))
+      (way-cells pair-w (after pair-x (X .start)) ∙ cell-E (W .globals) e (X .around) (X .types) (X .start)) pair-laid)
 
   pair-length : length (flatN (expr (operate2 o e f))) ≡ suc (length (flatE e) + length (flatE f))
   unfolding flatE
@@ -110,7 +115,8 @@ module _ (o : Binary) (e f : Expr) {W : Walk} {X : Place} {l part : List ℕ} {n
   unfolding measureS goodE
   pair-first =
       ready-part r (expr e) 1 (at + 1) X refl (omega (arith, pair-length)) (omega arith) refl
-      (laid-left _ _ _ _ pair-laid) (kept-self L) (r .stood) (fits-first _ _ pen (length (L .out)) (pair-start .fits)) (omega (arith, r .deep)) (r .good .0) tt (omega (arith, r .few-holds)) (omega (arith, r .few-values))
+      (laid-left _ _ _ _ pair-laid) (kept-self L) (r .stood) (fits-first _ _ pen (length (L .out)) (pair-start .fits)) (omega (arith, r .deep))
+      (r .good .0) tt (omega (arith, r .few-holds)) (omega (arith, r .few-values))
 
   -- the type of the first operand, and of the result
   pair-types : (t : Ty) × (u : Ty) × (z : Ty) × (typeE (scopesOf (X .around)) e ≡ some t) × (typeE (scopesOf (X .around)) (operate2 o e f) ≡ some z) × (opType (binary o) (t ∷ u ∷ []) ≡ some z)
@@ -123,7 +129,8 @@ module _ (o : Binary) (e f : Expr) {W : Walk} {X : Place} {l part : List ℕ} {n
   pair-result : (first : ℕ) → first ≡ tyByte pair-t → pairType (binaryCode o) first ≡ tyByte (tyE (W .globals) (X .around) (operate2 o e f))
   pair-result first h = let g = pair-types in rw (h, g .3, g .4) (pair-type (W .globals) o (g .0) (g .1) (g .2) (g .5))
 
-  module _ {M : Lent} {p : Pen} (k : Kept L M top depth) (d : Done (expr e) W X (at + 1) L M depth pen p) (place b w : ℕ) (c : place ≡ at + 1 + length (flatE e)) (target : b ≡ getD (W .aims) place 0) (way : w ≡ wayBy (binaryCode o) (getD (M .stack) depth 0)) where
+  module _ {M : Lent} {p : Pen} (k : Kept L M top depth) (d : Done (expr e) W X (at + 1) L M depth pen p) (place b w : ℕ)
+      (c : place ≡ at + 1 + length (flatE e)) (target : b ≡ getD (W .aims) place 0) (way : w ≡ wayBy (binaryCode o) (getD (M .stack) depth 0)) where
     pair-target : W .dry ≡ false → b ≡ pair-end
     pair-target dry = target ∙ laid-aim _ _ _ (pair-second place c) dry
 
@@ -137,11 +144,15 @@ module _ (o : Binary) (e f : Expr) {W : Walk} {X : Place} {l part : List ℕ} {n
     pair-fits = rw (pair-number, between-pen (X .around) (X .types) pair-end depth p (r .stood .deep) pair-w pair-t pair-q) (fits-first _ _ p (length (M .out)) pair-1)
 
     module _ {out : List ℕ} {q : Pen} (j : (q ≡ penBetween w depth p) × (out ≡ inkBetween w b holds (M .stack) depth p (M .out))) where
-      pair-2 : Stage W l L top holds depth pen at (lent (M .env) (M .ends) (M .stack) out) pair-place (waits pair-w depth) q ((nil ▸ pair-x) ▸ pair-between) (pair-y ▸ (pair-behind ▸ nil)) ([] ++ pair-es)
+      pair-2 : Stage W l L top holds depth pen at (lent (M .env) (M .ends) (M .stack) out) pair-place (waits pair-w depth) q
+          ((nil ▸ pair-x) ▸ pair-between) (pair-y ▸ (pair-behind ▸ nil)) ([] ++ pair-es)
       unfolding measureS
-      pair-2 = between-stage pair-x pair-t pair-end (pair-y ▸ (pair-behind ▸ nil)) pair-es k (d .wrote) (d .ended) (d .leaves) (omega (arith, r .few-values, need-E f)) b pair-target pair-w pair-start (rw pair-number at j)
+      pair-2 =
+          between-stage pair-x pair-t pair-end (pair-y ▸ (pair-behind ▸ nil)) pair-es k (d .wrote) (d .ended) (d .leaves)
+          (omega (arith, r .few-values, need-E f)) b pair-target pair-w pair-start (rw pair-number at j)
 
-      pub pair-operand : (deeper : ℕ) → deeper ≡ depth + waitingBy w → Ready (expr f) W pair-place l (below part (8 * (place - at))) (nesting - 1) place sizes (lent (M .env) (M .ends) (M .stack) out) top holds deeper q
+      pub pair-operand : (deeper : ℕ) → deeper ≡ depth + waitingBy w → Ready (expr f) W pair-place l (below part (8 * (place - at)))
+          (nesting - 1) place sizes (lent (M .env) (M .ends) (M .stack) out) top holds deeper q
       unfolding measureS goodE
       pair-operand deeper z =
           let y : deeper ≡ waits pair-w depth = z ∙ (ap (λ (v : ℕ). depth + waitingBy v) pair-number ∙ waits-are pair-w depth) in
@@ -169,7 +180,9 @@ module _ (o : Binary) (e f : Expr) {W : Walk} {X : Place} {l part : List ℕ} {n
 
         pair-leaves : getD pair-stack depth 0 ≡ tyByte (tyE (W .globals) (X .around) (operate2 o e f))
         unfolding measureS
-        pair-leaves = getD-set-same (N .stack) depth v 0 (omega (arith, r .few-values, need-E f, pair-kept .same-stack, r .stood .stacked)) ∙ (result ∙ pair-result (getD (M .stack) depth 0) (d .leaves))
+        pair-leaves =
+            getD-set-same (N .stack) depth v 0 (omega (arith, r .few-values, need-E f, pair-kept .same-stack, r .stood .stacked))
+            ∙ (result ∙ pair-result (getD (M .stack) depth 0) (d .leaves))
 
         pair-tested : Tested pair-w (getD pair-stack depth 0 ≡ tyByte logical)
         pair-tested = tested-of (W .globals) o e f (X .around) (pair-types .0) (pair-types .1) (pair-types .2) (pair-types .3) (pair-types .4) (pair-types .5) pair-leaves
@@ -177,7 +190,9 @@ module _ (o : Binary) (e f : Expr) {W : Walk} {X : Place} {l part : List ℕ} {n
         module _ {late : List ℕ} {y : Pen} (m : (y ≡ penBehind w depth u) × (late ≡ inkBehind w (binaryCode o) b holds pair-stack depth u (N .out))) where
           pair-4 : Finished L pen at late (N .ends) y ((((nil ▸ pair-x) ▸ pair-between) ▸ pair-y) ▸ pair-behind) (([] ++ pair-es) ++ pair-fs)
           unfolding measureS
-          pair-4 = behind-stage X o pair-t (after pair-x (X .start)) pair-y pair-end ([] ++ pair-es) pair-fs place (d2 .wrote) (d2 .ended) (c ∙ omega (arith, length-endsE (W .globals) e (X .around) (X .types) (X .start))) v
+          pair-4 =
+              behind-stage X o pair-t (after pair-x (X .start)) pair-y pair-end ([] ++ pair-es) pair-fs place (d2 .wrote) (d2 .ended)
+              (c ∙ omega (arith, length-endsE (W .globals) e (X .around) (X .types) (X .start))) v
               (omega (arith, r .few-values, need-E f)) b pair-target pair-w pair-2 (rw pair-deeper at k2) pair-tested (rw pair-number at m)
 
           pub pair-small : y .address < 65536

@@ -11,31 +11,32 @@ use Rattle.values.specs.Types.{Ty, tyByte}
 use Rattle.words.specs.Numbers.{halfAt, wordAt}
 use Rattle.bytecode.specs.Macro.{Shape, shape}
 use Rattle.bytecode.specs.Instructions.{Instr}
-use Rattle.language.specs.Tree.{Stmt, block, assign, when, choose, while, goto, assert, call, setLevel, select, Items, noItem, label, item, Expr, number, truth, pattern, null, variable, invoke, field, make, operate1, operate2, conditional, fader, blockExpr, Exprs, noExpr}
+use Rattle.language.specs.Tree.{Stmt, block, assign, when, choose, while, goto, assert, call, setLevel, select, Items, noItem, label, item, Expr, number, truth, pattern}
+use Rattle.language.specs.Tree.{null, variable, invoke, field, make, operate1, operate2, conditional, fader, blockExpr, Exprs, noExpr}
 use Rattle.language.specs.Tree.{expr as more}
 use Rattle.language.specs.Table.{Entry, entry}
 use Rattle.language.specs.Limits.{needS, needItems, needE, needEs}
-use Rattle.programs.specs.Claims.{entriesOf}
-use Rattle.scopes.specs.Environment.{envOf}
-use Rattle.spans.specs.Spans.{Spans, parts, spans-one, spans-none}
-use Rattle.spans.specs.Stands.{Stands, stands-left, stands-right, stands-tail, stands-within, length-entries}
-use Rattle.shapes.specs.Walk.{Table}
-use Rattle.shapes.specs.Forms.{Form, headF, tailF, flatF, labelled, formS, formE, flat-S, flat-E}
-use Rattle.shapes.specs.Steps.{Head, head-of, table-next, size-here, Passes, passes, spans-form, spans-stmt}
+use Rattle.language_laws.specs.Claims.{entriesOf}
+use Rattle.table_scopes.specs.Environment.{envOf}
+use Rattle.table_scopes.specs.Spans.{Spans, parts, spans-one, spans-none}
+use Rattle.table_scopes.specs.Stands.{Stands, stands-left, stands-right, stands-tail, stands-within, length-entries}
+use Rattle.table_forms.specs.Walk.{Table}
+use Rattle.table_forms.specs.Forms.{Form, headF, tailF, flatF, labelled, formS, formE, flat-S, flat-E}
+use Rattle.table_forms.specs.Steps.{Head, head-of, table-next, size-here, Passes, passes, spans-form, spans-stmt}
 use Rattle.compile_code.specs.Code.{Code, nil, op, mark, cell, _▸_, At, at, skip, after}
 use Rattle.language.specs.Names.{Scope}
 use Rattle.compile_code.specs.Compile.{Around, scopesOf, heldIn, found}
 use Rattle.compile_code.specs.Encode.{rec, recordOf}
-use Rattle.compile_known.specs.Entries.{sets-append}
-use Rattle.compile_known.specs.Numbers.{numbersFrom, cellsOf, cellsWithin}
-use Rattle.compile_pen.specs.declared.Pen.{Pen}
-use Rattle.compile_pen.specs.Ink.{Fits, moved, penShaped, inkOp, inkShape}
-use Rattle.compile_pen.specs.Folds.{penAfter, inked, Later, grows, later-trans, fits-before, inked-op, Stacked, pen-mark, inked-mark, address-after, length-inked}
+use Rattle.compile_symbols.specs.Entries.{sets-append}
+use Rattle.compile_symbols.specs.Numbers.{numbersFrom, cellsOf, cellsWithin}
+use Rattle.compile_output.specs.declared.Pen.{Pen}
+use Rattle.compile_output.specs.Ink.{Fits, moved, penShaped, inkOp, inkShape}
+use Rattle.compile_output.specs.Folds.{penAfter, inked, Later, grows, later-trans, fits-before, inked-op, Stacked, pen-mark, inked-mark, address-after, length-inked}
 use Rattle.compile_nodes.specs.Knows.{Lies, Walk}
 use Rattle.compile_nodes.specs.Ready.{Node, stmt, expr, name, flatN, formN, kindN, roomN, deepN, holdsN, needN, goodN, codeN, endsN, Place, Lent, Laid, Stood, Kept, Wrote, LandsN, Ready, Asks}
-use Rattle.compile_sight.specs.Sight.{classesIn}
-use Rattle.compile_sight.specs.Lies.{lies-left, lies-right, lies-next, lies-here}
-use Rattle.compile_sight.specs.Lengths.{numbers-append, cells-append, length-numbers}
+use Rattle.compile_scopes.specs.Sight.{classesIn}
+use Rattle.compile_scopes.specs.Lies.{lies-left, lies-right, lies-next, lies-here}
+use Rattle.compile_scopes.specs.Lengths.{numbers-append, cells-append, length-numbers}
 
 -- the part of a slice that begins at a place
 abbrev pub below : List ℕ → ℕ → List ℕ
@@ -65,7 +66,9 @@ module _ {W : Walk} {l : List ℕ} {at : ℕ} {p : At} where
       record {
         stands = stands-right us vs (h .stands);
         cells = omega (arith, h .cells, cells-append us vs);
-        numbered = rw (c, ← length-numbers (classesIn W) (p .cell) us) (lies-right (numbersFrom (classesIn W) (p .cell) us) (numbersFrom (classesIn W) (p .cell + cellsWithin us) vs) (rw (numbers-append (classesIn W) (p .cell) us vs) at (h .numbered)));
+        numbered =
+            rw (c, ← length-numbers (classesIn W) (p .cell) us) (lies-right (numbersFrom (classesIn W) (p .cell) us)
+            (numbersFrom (classesIn W) (p .cell + cellsWithin us) vs) (rw (numbers-append (classesIn W) (p .cell) us vs) at (h .numbered)));
         aimed = λ d. rw (← n) (lies-right es fs (h .aimed d));
       }
 
@@ -197,12 +200,14 @@ movedTo X q = record { around = X .around; types = X .types; start = q }
 abbrev pub heldOn : Ty → Place → At → Place
 heldOn t X q = record { around = X .around; types = t ∷ X .types; start = q }
 
-pub typed-more : (st : List Ty) (t : Ty) (d : ℕ) (stack : List ℕ) → map tyByte (reverse st) ≡ take d stack → getD stack d 0 ≡ tyByte t → d < length stack → map tyByte (reverse (t ∷ st)) ≡ take (d + 1) stack
+pub typed-more : (st : List Ty) (t : Ty) (d : ℕ) (stack : List ℕ) → map tyByte (reverse st) ≡ take d stack → getD stack d 0 ≡ tyByte t
+    → d < length stack → map tyByte (reverse (t ∷ st)) ≡ take (d + 1) stack
 typed-more st t d stack h g k =
     let z : suc d ≡ d + 1 = omega arith in
     ap (map tyByte) (reverse-cons t st) ∙ (map-append tyByte (reverse st) (t ∷ []) ∙ (rw (h, ← g) (sym (take-suc stack d 0 k)) ∙ ap (λ (n : ℕ). take n stack) z))
 
-module _ {W : Walk} {X : Place} {l : List ℕ} {L M : Lent} {top holds depth : ℕ} {pen p : Pen} (h : Stood W X l L top holds depth pen) (k : Kept L M top depth) (later : Later pen p) (q : At) (a : p .address ≡ q .address) where
+module _ {W : Walk} {X : Place} {l : List ℕ} {L M : Lent} {top holds depth : ℕ} {pen p : Pen} (h : Stood W X l L top holds depth pen)
+    (k : Kept L M top depth) (later : Later pen p) (q : At) (a : p .address ≡ q .address) where
   pub stood-next : Stood W (movedTo X q) l M top holds depth p
   stood-next =
       record {
@@ -236,7 +241,8 @@ pub stood-shape : {W : Walk} {X : Place} {l : List ℕ} {L : Lent} {top holds de
 stood-shape h = record { same-holds = sym (h .held); same-depth = sym (h .deep); same-types = h .typed }
 
 -- ── a part is ready ──
-module _ {n : Node} {W : Walk} {X : Place} {l part : List ℕ} {nesting at : ℕ} {sizes : List ℕ} {L : Lent} {top holds depth : ℕ} {pen : Pen} (r : Ready n W X l part nesting at sizes L top holds depth pen) where
+module _ {n : Node} {W : Walk} {X : Place} {l part : List ℕ} {nesting at : ℕ} {sizes : List ℕ} {L : Lent} {top holds depth : ℕ} {pen : Pen}
+    (r : Ready n W X l part nesting at sizes L top holds depth pen) where
   pub ready-part : (m : Node) (k place : ℕ) (Y : Place) {M : Lent} {d : ℕ} {p : Pen} → place ≡ at + k → k + length (flatN m) ≤ length (flatN n) → 1 ≤ k → roomN n ≡ length (flatN n)
       → Laid W l place (Y .start) (flatN m) (endsN (W .globals) m (Y .around) (Y .types) (Y .start)) → Kept L M top depth → Stood W Y l M top holds d p
       → Fits (penAfter (codeN (W .globals) m (Y .around) (Y .types) (Y .start)) p) (length (M .out)) → deepN m ≤ nesting - 1 → goodN (Scopes Y) m → LandsN W (M .env) top (Y .around) m
@@ -353,7 +359,8 @@ need-N (stmt s) = need-S s
 need-N (expr e) = need-E e
 need-N (name a) = omega arith
 
-pub asked : {P : Node → Type 0} {known aims l part : List ℕ} {nesting at : ℕ} {sizes : List ℕ} {L : Lent} {top holds depth : ℕ} {pen : Pen} → Asks P known aims l part nesting at sizes L top holds depth pen → Asked part nesting at L top holds depth pen
+pub asked : {P : Node → Type 0} {known aims l part : List ℕ} {nesting at : ℕ} {sizes : List ℕ} {L : Lent} {top holds depth : ℕ} {pen : Pen}
+    → Asks P known aims l part nesting at sizes L top holds depth pen → Asked part nesting at L top holds depth pen
 asked {pen = pen} q =
     let r = q .ready in let h = head-N (q .node) (r .table) (r .laid .stands) in
     let f = fits-start (codeN (q .walk .globals) (q .node) (q .place .around) (q .place .types) (q .place .start)) pen _ (r .fits) in

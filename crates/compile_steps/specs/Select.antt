@@ -14,24 +14,26 @@ use Rattle.values.specs.Ends.{caseIndex}
 use Rattle.bytecode.specs.Instructions.{own, store, stop}
 use Rattle.language.specs.Tree.{Expr, Arms, lastArm, arm, select, countArms, Global}
 use Rattle.language.specs.Table.{entry}
-use Rattle.shapes.specs.Steps.{head-of, table-next, Passes}
+use Rattle.table_forms.specs.Steps.{head-of, table-next, Passes}
 use Rattle.compile_simulation.specs.Sizes.{lenArms}
 use Rattle.compile_code.specs.Code.{Code, op, mark, cell, _▸_, At, at, skip, taken, after}
 use Rattle.compile_code.specs.Compile.{Around, scopesOf, passing, found, codeS, codeE, codeArms, opsArms}
 use Rattle.compile_code.specs.Encode.{rec, recordOf}
-use Rattle.compile_known.specs.Numbers.{numbersFrom, cellsWithin, secondIn, packed}
-use Rattle.compile_known.specs.Packed.{second-packed}
+use Rattle.compile_symbols.specs.Numbers.{numbersFrom, cellsWithin, secondIn, packed}
+use Rattle.compile_symbols.specs.Packed.{second-packed}
 use Rattle.compile_names.specs.Good.{goodS}
-use Rattle.compile_pen.specs.declared.Pen.{Pen}
-use Rattle.compile_pen.specs.Ink.{Fits, moved, penShaped, inkOp, inkShape}
-use Rattle.compile_pen.specs.Folds.{penAfter, inked}
+use Rattle.compile_output.specs.declared.Pen.{Pen}
+use Rattle.compile_output.specs.Ink.{Fits, moved, penShaped, inkOp, inkShape}
+use Rattle.compile_output.specs.Folds.{penAfter, inked}
 use Rattle.compile_nodes.specs.Ends.{belowS, endsE, endsArms}
 use Rattle.compile_nodes.specs.Knows.{Walk}
 use Rattle.compile_nodes.specs.Ready.{stmt, expr, Place, Lent, Stood, Kept, Wrote, Ready, Done, Asks, Answers, codeCases, ReadyArms, DoneArms, Owner, AsksArms, AnswersArms}
-use Rattle.compile_sight.specs.Lies.{lies-here}
-use Rattle.compile_steps.specs.Parts.{lent, below, movedTo, size-N, passes-N, flat-one, laid-aim, kept-then, kept-out, kept-ends, wrote-then, wrote-op, wrote-cell, wrote-address, wrote-length, fits-first}
+use Rattle.compile_scopes.specs.Lies.{lies-here}
+use Rattle.compile_steps.specs.Parts.{lent, below, movedTo, size-N, passes-N, flat-one, laid-aim, kept-then, kept-out, kept-ends, wrote-then, wrote-op, wrote-cell}
+use Rattle.compile_steps.specs.Parts.{wrote-address, wrote-length, fits-first}
 use Rattle.compile_steps.specs.Views.{IsExpr, IsKind, Select, select-of}
-use Rattle.compile_steps.specs.Shared.{Rest, rest-enter, rest-left, rest-node, rest-own, rest-stood, rest-fits, rest-ready, lands-kept, Shaping, shaping-last, shaped-wrote, fits-op, ends-then, ends-own, ends-N, table-from, finishing, ready-as, done-as}
+use Rattle.compile_steps.specs.Shared.{Rest, rest-enter, rest-left, rest-node, rest-own, rest-stood, rest-fits, rest-ready, lands-kept, Shaping, shaping-last}
+use Rattle.compile_steps.specs.Shared.{shaped-wrote, fits-op, ends-then, ends-own, ends-N, table-from, finishing, ready-as, done-as}
 
 -- ── the code of the statements is that of the cases, and a stop ──
 module _ (gs : List Global) where
@@ -40,12 +42,14 @@ module _ (gs : List Global) where
   arms-pen (lastArm s) c i z Γ st p pen = refl
   arms-pen (arm s r) c i z Γ st p pen = arms-pen r c (suc i) z Γ st _ _
 
-  arms-inked : (r : Arms) (c i z : ℕ) (Γ : List Around) (st : List Ty) (p : At) (pen : Pen) (l : List ℕ) → inked (codeArms gs r c i z Γ st p) pen l ≡ inked (codeCases gs r c i z Γ st p ▸ op (stop caseIndex)) pen l
+  arms-inked : (r : Arms) (c i z : ℕ) (Γ : List Around) (st : List Ty) (p : At) (pen : Pen) (l : List ℕ)
+      → inked (codeArms gs r c i z Γ st p) pen l ≡ inked (codeCases gs r c i z Γ st p ▸ op (stop caseIndex)) pen l
   unfolding codeArms codeCases penAfter inked
   arms-inked (lastArm s) c i z Γ st p pen l = refl
   arms-inked (arm s r) c i z Γ st p pen l = arms-inked r c (suc i) z Γ st _ _ _
 
-  arms-wrote : (r : Arms) (c i z : ℕ) (Γ : List Around) (st : List Ty) (p : At) {a b : List ℕ} {pen t : Pen} → Wrote a b pen t (codeCases gs r c i z Γ st p ▸ op (stop caseIndex)) → Wrote a b pen t (codeArms gs r c i z Γ st p)
+  arms-wrote : (r : Arms) (c i z : ℕ) (Γ : List Around) (st : List Ty) (p : At) {a b : List ℕ} {pen t : Pen}
+      → Wrote a b pen t (codeCases gs r c i z Γ st p ▸ op (stop caseIndex)) → Wrote a b pen t (codeArms gs r c i z Γ st p)
   arms-wrote r c i z Γ st p {a} {b} {pen} {t} w = record { penned = w .penned ∙ sym (arms-pen r c i z Γ st p pen); written = w .written ∙ sym (arms-inked r c i z Γ st p pen a) }
 
 count-most : (r : Arms) → countArms r ≤ length (flatArms r)
@@ -53,7 +57,8 @@ unfolding countArms flatArms
 count-most (lastArm s) = flat-one (stmt s)
 count-most (arm s r) = omega (arith, length-append (flatS s) (flatArms r), flat-one (stmt s), count-most r)
 
-module _ {e : Expr} {r : Arms} {W : Walk} {X : Place} {l part : List ℕ} {nesting at : ℕ} {sizes : List ℕ} {L : Lent} {top holds depth : ℕ} {pen : Pen} (h : Ready (stmt (select e r)) W X l part nesting at sizes L top holds depth pen) where
+module _ {e : Expr} {r : Arms} {W : Walk} {X : Place} {l part : List ℕ} {nesting at : ℕ} {sizes : List ℕ} {L : Lent} {top holds depth : ℕ} {pen : Pen}
+    (h : Ready (stmt (select e r)) W X l part nesting at sizes L top holds depth pen) where
   -- its own cell
   abbrev c : ℕ
   c = X .start .cell
@@ -85,7 +90,8 @@ module _ {e : Expr} {r : Arms} {W : Walk} {X : Place} {l part : List ℕ} {nesti
   abbrev all : Code
   all = cell integer ▸ (x ▸ (op (store own c) ▸ (codeArms (W .globals) r c 1 exit (X .around) (X .types) b ▸ seen)))
 
-  in-all : Rest W X l at L top holds depth pen (entry 30 (countArms r) (pos 0) ∷ (flatE e ++ flatArms r)) (after all (X .start) .address ∷ (es ++ fs)) (x ▸ (op (store own c) ▸ (y ▸ (op (stop caseIndex) ▸ seen))))
+  in-all : Rest W X l at L top holds depth pen (entry 30 (countArms r) (pos 0) ∷ (flatE e ++ flatArms r)) (after all (X .start) .address ∷ (es ++ fs))
+      (x ▸ (op (store own c) ▸ (y ▸ (op (stop caseIndex) ▸ seen))))
   unfolding flatS codeS belowS penAfter
   in-all = record { laid = h .laid; stood = h .stood; room = h .room; ending = h .ending; fits = rw (arms-pen (W .globals) r c 1 exit (X .around) (X .types) b (moved (penAfter x pen))) at (h .fits) }
 
@@ -95,7 +101,8 @@ module _ {e : Expr} {r : Arms} {W : Walk} {X : Place} {l part : List ℕ} {nesti
   pub select-first : Ready (expr e) W (movedTo X q) l (below part 8) (nesting - 1) (at + 1) sizes L top holds depth pen
   unfolding measureS goodS
   select-first =
-      rest-ready (expr e) (table-next (h .table) 8 1 refl) (omega (arith, h .deep)) (h .good .0) tt (omega (arith, h .few-holds)) (omega (arith, h .few-values)) (rest-left (flatE e) (flatArms r) _ _ below-all)
+      rest-ready (expr e) (table-next (h .table) 8 1 refl) (omega (arith, h .deep)) (h .good .0) tt (omega (arith, h .few-holds))
+      (omega (arith, h .few-values)) (rest-left (flatE e) (flatArms r) _ _ below-all)
 
   few : holds ≤ 16
   few = omega (arith, h .few-holds)
@@ -166,7 +173,8 @@ module _ {e : Expr} {r : Arms} {W : Walk} {X : Place} {l part : List ℕ} {nesti
               few = omega (arith, short, f, many);
             }
 
-        module _ {N : Lent} {t : Pen} (k₂ : Kept (lent (M .env) (M .ends) (M .stack) o) N top depth) (d₂ : DoneArms r c 1 exit W (movedTo X b) (at + 1 + n) (lent (M .env) (M .ends) (M .stack) o) N depth p₂ t) where
+        module _ {N : Lent} {t : Pen} (k₂ : Kept (lent (M .env) (M .ends) (M .stack) o) N top depth)
+            (d₂ : DoneArms r c 1 exit W (movedTo X b) (at + 1 + n) (lent (M .env) (M .ends) (M .stack) o) N depth p₂ t) where
           -- no more entries are passed from here on, so that the cell does not matter
           abbrev there : At
           there = record { address = after y b .address; cell = b .cell }
@@ -207,17 +215,21 @@ module _ {e : Expr} {r : Arms} {W : Walk} {X : Place} {l part : List ℕ} {nesti
               select-done {u} {ends} f =
                   record {
                     wrote = rw (f .0) wrote-all;
-                    ended = ends-own (L .ends) at (p₄ .address) (after all (X .start) .address) (es ++ fs) (ends-then (L .ends) (at + 1) n es fs (size-first ∙ sym (ends-N (expr e) W (movedTo X q))) (d .ended) (d₂ .ended)) (f .1)
+                    ended =
+                        ends-own (L .ends) at (p₄ .address) (after all (X .start) .address) (es ++ fs)
+                        (ends-then (L .ends) (at + 1) n es fs (size-first ∙ sym (ends-N (expr e) W (movedTo X q))) (d .ended) (d₂ .ended)) (f .1)
                         (wrote-address (X .start) wrote-all (h .stood .address));
                     leaves = tt;
                   }
 
               pub select-kept : {ends : List ℕ} → ends ≡ set (N .ends) at (p₄ .address) → Kept L (lent (N .env) ends (N .stack) o₃) top depth
               select-kept {ends} f =
-                  kept-then kept-two (kept-then (kept-out N o₃ (wrote-length (shaped-wrote stood-last few more j) ∙ wrote-length stopped)) (kept-ends (lent (N .env) (N .ends) (N .stack) o₃) ends (rw f (length-set (N .ends) at (p₄ .address)))))
+                  kept-then kept-two (kept-then (kept-out N o₃ (wrote-length (shaped-wrote stood-last few more j) ∙ wrote-length stopped))
+                  (kept-ends (lent (N .env) (N .ends) (N .stack) o₃) ends (rw f (length-set (N .ends) at (p₄ .address)))))
 
 -- ── for the walker ──
-module _ {known aims l part : List ℕ} {nesting at : ℕ} {sizes : List ℕ} {L : Lent} {top holds depth : ℕ} {pen : Pen} (a : Asks (IsKind 30) known aims l part nesting at sizes L top holds depth pen) where
+module _ {known aims l part : List ℕ} {nesting at : ℕ} {sizes : List ℕ} {L : Lent} {top holds depth : ℕ} {pen : Pen}
+    (a : Asks (IsKind 30) known aims l part nesting at sizes L top holds depth pen) where
   v : Select (a .node)
   v = select-of (a .node) (a .such)
 
@@ -247,7 +259,8 @@ module _ {known aims l part : List ℕ} {nesting at : ℕ} {sizes : List ℕ} {L
         owner-is h = record { celled = select-cell h; leaving = λ d. select-exit h d }
 
         second-is : {W : Walk} {X : Place} {e : Expr} {r : Arms} → W .known ≡ known → W .aims ≡ aims → (h : Ready (stmt (select e r)) W X l part nesting at sizes L top holds depth pen)
-            → ReadyArms r (X .start .cell) 1 (exit h) W (movedTo X (b h)) l (below part (8 * (at + 1 + n - at))) count (nesting - 1) (at + 1 + n) sizes (lent (M .env) (M .ends) (M .stack) o) top holds depth p₂
+            → ReadyArms r (X .start .cell) 1 (exit h) W (movedTo X (b h)) l (below part (8 * (at + 1 + n - at))) count (nesting - 1)
+            (at + 1 + n) sizes (lent (M .env) (M .ends) (M .stack) o) top holds depth p₂
         second-is x y h = select-second h n z (b₁ .kept) (done-first x y h) (cell-is x h) i count ct
 
         pub asks-select-second : AsksArms known aims l (below part (8 * (at + 1 + n - at))) at count (nesting - 1) (at + 1 + n) sizes (lent (M .env) (M .ends) (M .stack) o) top holds depth p₂
@@ -264,7 +277,8 @@ module _ {known aims l part : List ℕ} {nesting at : ℕ} {sizes : List ℕ} {L
               ready = second-is (a .same-known) (a .same-aims) ready;
             }
 
-        module _ {N : Lent} {t : Pen} (b₂ : AnswersArms known aims l (below part (8 * (at + 1 + n - at))) at count (nesting - 1) (at + 1 + n) sizes (lent (M .env) (M .ends) (M .stack) o) N top holds depth p₂ t) where
+        module _ {N : Lent} {t : Pen} (b₂ : AnswersArms known aims l (below part (8 * (at + 1 + n - at))) at count (nesting - 1) (at + 1 + n) sizes
+            (lent (M .env) (M .ends) (M .stack) o) N top holds depth p₂ t) where
           done-second : {W : Walk} {X : Place} {e : Expr} {r : Arms} → W .known ≡ known → W .aims ≡ aims → (h : Ready (stmt (select e r)) W X l part nesting at sizes L top holds depth pen)
               → DoneArms r (X .start .cell) 1 (exit h) W (movedTo X (b h)) (at + 1 + n) (lent (M .env) (M .ends) (M .stack) o) N depth p₂ t
           done-second {W} {X} {e} {r} x y h = b₂ .done r (X .start .cell) (exit h) W _ x y (owner-is h) (second-is x y h)
@@ -286,7 +300,8 @@ module _ {known aims l part : List ℕ} {nesting at : ℕ} {sizes : List ℕ} {L
                   let x = a .same-known in let y = a .same-aims in
                   select-finish ready n z (b₁ .kept) (done-first x y ready) (cell-is x ready) i (b₂ .kept) (done-second x y ready) i₂ j
 
-              pub answers-select : {u : Pen} {ends : List ℕ} → (u ≡ p₄) × (ends ≡ set (N .ends) at (p₄ .address)) → Answers (IsKind 30) known aims l part nesting at sizes L (lent (N .env) ends (N .stack) o₃) top holds depth pen u
+              pub answers-select : {u : Pen} {ends : List ℕ} → (u ≡ p₄) × (ends ≡ set (N .ends) at (p₄ .address))
+                  → Answers (IsKind 30) known aims l part nesting at sizes L (lent (N .env) ends (N .stack) o₃) top holds depth pen u
               answers-select f =
                   let x = a .same-known in let y = a .same-aims in
                   record {

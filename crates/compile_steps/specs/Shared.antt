@@ -10,20 +10,20 @@ use Rattle.values.specs.Types.{tyByte}
 use Rattle.bytecode.specs.Instructions.{Instr}
 use Rattle.language.specs.Tree.{Expr}
 use Rattle.language.specs.Table.{Entry}
-use Rattle.heads.specs.Trees.{length-S, length-E}
-use Rattle.scopes.specs.Environment.{envOf}
-use Rattle.shapes.specs.Walk.{Table}
-use Rattle.shapes.specs.Steps.{table-next}
+use Rattle.table_scopes.specs.Trees.{length-S, length-E}
+use Rattle.table_scopes.specs.Environment.{envOf}
+use Rattle.table_forms.specs.Walk.{Table}
+use Rattle.table_forms.specs.Steps.{table-next}
 use Rattle.compile_code.specs.Code.{Code, op, mark, cell, _▸_, At, at, after}
 use Rattle.compile_code.specs.Compile.{Around, scopesOf, found, codeE, tyE}
-use Rattle.compile_known.specs.Numbers.{cellsOf, cellsWithin}
-use Rattle.compile_pen.specs.declared.Pen.{Pen}
-use Rattle.compile_pen.specs.Ink.{Fits, moved, penShaped, inkShape}
-use Rattle.compile_pen.specs.Folds.{penAfter, pen-mark, pen-op, later-self}
+use Rattle.compile_symbols.specs.Numbers.{cellsOf, cellsWithin}
+use Rattle.compile_output.specs.declared.Pen.{Pen}
+use Rattle.compile_output.specs.Ink.{Fits, moved, penShaped, inkShape}
+use Rattle.compile_output.specs.Folds.{penAfter, pen-mark, pen-op, later-self}
 use Rattle.compile_nodes.specs.Ends.{endsE}
 use Rattle.compile_nodes.specs.Knows.{Walk, Lands}
 use Rattle.compile_nodes.specs.Ready.{Node, stmt, expr, name, flatN, deepN, holdsN, needN, goodN, codeN, endsN, Place, Lent, Laid, Stood, Kept, Wrote, LandsN, Ready, Done}
-use Rattle.compile_sight.specs.Lengths.{length-below, length-belowE}
+use Rattle.compile_scopes.specs.Lengths.{length-below, length-belowE}
 use Rattle.compile_steps.specs.Cells.{cell-S, cell-E}
 use Rattle.compile_steps.specs.Parts.{movedTo, heldOn, below, laid-tail, laid-left, laid-right, laid-at, room-N, stood-next, stood-push, stood-shape, wrote-later, wrote-length, wrote-address}
 use Rattle.compile_steps.specs.Parts.{wrote-mark, fits-first, fits-rest, ended-then, ended-own}
@@ -71,7 +71,18 @@ module _ {W : Walk} {X : Place} {l : List ℕ} {at : ℕ} {L : Lent} {top holds 
   rest-enter u us e es x q c a h =
       record {
         laid = laid-tail u us e es q c (h .laid);
-        stood = record { sees = h .stood .sees; knows = h .stood .knows; held = h .stood .held; deep = h .stood .deep; typed = h .stood .typed; stacked = h .stood .stacked; address = h .stood .address ∙ sym a; dryness = h .stood .dryness; inside = h .stood .inside };
+        stood =
+            record {
+              sees = h .stood .sees;
+              knows = h .stood .knows;
+              held = h .stood .held;
+              deep = h .stood .deep;
+              typed = h .stood .typed;
+              stacked = h .stood .stacked;
+              address = h .stood .address ∙ sym a;
+              dryness = h .stood .dryness;
+              inside = h .stood .inside;
+            };
         room = omega (arith, h .room);
         ending = omega (arith, h .ending);
         fits = h .fits;
@@ -139,7 +150,8 @@ module _ {W : Walk} {X : Place} {l : List ℕ} {at : ℕ} {L : Lent} {top holds 
       }
 
   -- the same place, other things lent
-  pub rest-lent : {M : Lent} {p : Pen} (us : List Entry) (es : List ℕ) {x : Code} → Kept L M top depth → p ≡ pen → Rest W X l at L top holds depth pen us es x → Rest W X l at M top holds depth p us es x
+  pub rest-lent : {M : Lent} {p : Pen} (us : List Entry) (es : List ℕ) {x : Code} → Kept L M top depth → p ≡ pen
+      → Rest W X l at L top holds depth pen us es x → Rest W X l at M top holds depth p us es x
   rest-lent us es {x} k e h =
       record {
         laid = h .laid;
@@ -153,7 +165,8 @@ module _ {W : Walk} {X : Place} {l : List ℕ} {at : ℕ} {L : Lent} {top holds 
   rest-at e h = rw e at h
 
   -- … is ready
-  pub rest-ready : (n : Node) {y : Code} {part : List ℕ} {nesting : ℕ} {sizes : List ℕ} → Table l part sizes at → deepN n ≤ nesting → goodN (scopesOf (X .around)) n → LandsN W (L .env) top (X .around) n
+  pub rest-ready : (n : Node) {y : Code} {part : List ℕ} {nesting : ℕ} {sizes : List ℕ} → Table l part sizes at → deepN n ≤ nesting
+      → goodN (scopesOf (X .around)) n → LandsN W (L .env) top (X .around) n
       → holds + holdsN n ≤ 16 → depth + needN n ≤ 32
       → Rest W X l at L top holds depth pen (flatN n) (endsN (W .globals) n (X .around) (X .types) (X .start)) (codeN (W .globals) n (X .around) (X .types) (X .start) ▸ y)
       → Ready n W X l part nesting at sizes L top holds depth pen

@@ -10,7 +10,7 @@ use lib.ListN.{length, getD, take, set, length-reverse}
 use Rattle.language.specs.Measure.{measureS}
 use Rattle.language.specs.Program.{flatEs, deepEs}
 use Rattle.words.specs.Options.{orElse}
-use Rattle.heads.specs.Trees.{length-map}
+use Rattle.table_scopes.specs.Trees.{length-map}
 use lib.Seq.{getD-set-same, take-suc, getD-at, length-take-le}
 use Rattle.words.specs.Numbers.{halfAt, wordAt}
 use Rattle.values.specs.Types.{Ty, tyByte, integer, logical, bits}
@@ -28,30 +28,30 @@ use Rattle.language.specs.Faults.{typeE}
 use Rattle.language.specs.Limits.{holdsEs, needEs}
 use Rattle.language.specs.Names.{Scope}
 use Rattle.language.specs.Names as names
-use Rattle.scopes.specs.Environment.{envOf}
-use Rattle.shapes.specs.Forms.{headF, one, two}
-use Rattle.shapes.specs.Steps.{table-next}
+use Rattle.table_scopes.specs.Environment.{envOf}
+use Rattle.table_forms.specs.Forms.{headF, one, two}
+use Rattle.table_forms.specs.Steps.{table-next}
 use Rattle.compile_code.specs.Code.{nil, op, _▸_, At, after}
 use Rattle.compile_code.specs.Compile.{Around, scopesOf, codeS, codeEs, tyE, orInteger, bodyNumber, fieldNumber, tyIn, classNumber}
 use Rattle.compile_code.specs.Compile as compile
 use Rattle.compile_code.specs.Encode.{rec, recordOf}
 use Rattle.compile_names.specs.Good.{goodS, goodEs}
-use Rattle.compile_known.specs.Numbers.{firstIn, secondIn}
-use Rattle.compile_known.specs.Meaning.{meaningOf}
-use Rattle.compile_pen.specs.declared.Pen.{Pen}
-use Rattle.compile_pen.specs.Ink.{Fits, moved}
-use Rattle.compile_pen.specs.Folds.{penAfter, inked}
+use Rattle.compile_symbols.specs.Numbers.{firstIn, secondIn}
+use Rattle.compile_symbols.specs.Meaning.{meaningOf}
+use Rattle.compile_output.specs.declared.Pen.{Pen}
+use Rattle.compile_output.specs.Ink.{Fits, moved}
+use Rattle.compile_output.specs.Folds.{penAfter, inked}
 use Rattle.compile_nodes.specs.Knows.{Walk}
 use Rattle.compile_nodes.specs.Ends.{belowS, endsEs}
 use Rattle.compile_nodes.specs.Ready.{Node, stmt, expr, name, flatN, formN, codeN, endsN, LeavesN, Place, Lent, Kept, Wrote, Ready, Done, deepN, holdsN, needN, goodN, pushed, ValuesEs, ReadyEs}
 use Rattle.compile_nodes.specs.Ready.{DoneEs}
-use Rattle.compile_own.specs.Owns.{names as namesBy, knownFor, operandsBy, inkLast, lastType}
+use Rattle.compile_emit.specs.Owns.{names as namesBy, knownFor, operandsBy, inkLast, lastType}
 use Rattle.compile_steps.specs.Parts.{below, laid-tail, need-E, fits-rest, lent, flat-N, head-N, wrote-then, wrote-op, movedTo, fits-first}
 use Rattle.compile_steps.specs.Stages.{Stage, stage-start, stage-fits-op, stage-part, Finished, finished-done}
 use Rattle.compile_steps.specs.Named.{meaning-of, class-type, class-first, field-type, field-first, field-second, body-type, body-second}
 use Rattle.compile_steps.specs.Views.{IsSimple}
 use Rattle.compile_steps.specs.Leaves.{half-small}
-use Rattle.compile_known.specs.Numbers.{cellsOf}
+use Rattle.compile_symbols.specs.Numbers.{cellsOf}
 use Rattle.compile_nodes.specs.Ready.{roomN}
 
 -- such a node, by its form
@@ -273,7 +273,8 @@ simple-count (computes o e) w h = refl
 simple-count (faders e) w h = refl
 
 -- ── what is ready ──
-module _ (n : Node) (hyp : IsSimple n) {W : Walk} {X : Place} {l part : List ℕ} {nesting at : ℕ} {sizes : List ℕ} {L : Lent} {top holds depth : ℕ} {pen : Pen} (r : Ready n W X l part nesting at sizes L top holds depth pen) where
+module _ (n : Node) (hyp : IsSimple n) {W : Walk} {X : Place} {l part : List ℕ} {nesting at : ℕ} {sizes : List ℕ} {L : Lent} {top holds depth : ℕ}
+    {pen : Pen} (r : Ready n W X l part nesting at sizes L top holds depth pen) where
   simple-left : Fits (penAfter (codeEs (W .globals) (opsOf n) (X .around) (X .types) (X .start) ▸ (op (lastOp (W .globals) n) ▸ nil)) pen) (length (L .out))
   simple-left = rw (simple-pen (W .globals) (X .around) (X .types) (X .start) (simple-of n hyp) pen) at (r .fits)
 
@@ -301,7 +302,8 @@ module _ (n : Node) (hyp : IsSimple n) {W : Walk} {X : Place} {l part : List ℕ
 typed-top : (st : List Ty) (t : Ty) (d : ℕ) (stack : List ℕ) → map tyByte (reverse (t ∷ st)) ≡ take (d + 1) stack → d ≡ length st → d < length stack → getD stack d 0 ≡ tyByte t
 typed-top st t d stack h e k =
     let z : suc d ≡ d + 1 = omega arith in
-    let a : map tyByte (reverse st) ++ (tyByte t ∷ []) ≡ take d stack ++ (getD stack d 0 ∷ []) = sym (map-append tyByte (reverse st) (t ∷ [])) ∙ (ap (map tyByte) (sym (reverse-cons t st)) ∙ (h ∙ (ap (λ (n : ℕ). take n stack) (sym z) ∙ take-suc stack d 0 k))) in
+    let a : map tyByte (reverse st) ++ (tyByte t ∷ []) ≡ take d stack ++ (getD stack d 0 ∷ []) = sym (map-append tyByte (reverse st) (t ∷ []))
+    ∙ (ap (map tyByte) (sym (reverse-cons t st)) ∙ (h ∙ (ap (λ (n : ℕ). take n stack) (sym z) ∙ take-suc stack d 0 k))) in
     let n : length (map tyByte (reverse st)) ≡ d = length-map tyByte (reverse st) ∙ (length-reverse st ∙ sym e) in
     let m : length (take d stack) ≡ d = length-take-le d stack (omega arith) in
     sym (getD-at (take d stack) (getD stack d 0) [] 0 d m) ∙ (ap (λ (l : List ℕ). getD l d 0) (sym a) ∙ getD-at (map tyByte (reverse st)) (tyByte t) [] 0 d n)
@@ -327,7 +329,8 @@ unary-type gs complement t r k h = ap (λ (x : Ty). tyByte (tyIn gs x)) (complem
 type-is : (gs : List Global) (Γ : List Around) (e : Expr) (t : Ty) → typeE (scopesOf Γ) e ≡ some t → tyByte (tyE gs Γ e) ≡ tyByte (tyIn gs t)
 type-is gs Γ e t h = ap (λ (x : Option Ty). tyByte (tyIn gs (orInteger x))) h
 
-module _ {W : Walk} {X : Place} {l part : List ℕ} {nesting at : ℕ} {sizes : List ℕ} {L : Lent} {top holds depth : ℕ} {pen : Pen} (k : ℕ) (known : k ≡ knownFor (halfAt part 0) (halfAt part 2) (envOf (L .env) top) (W .known)) where
+module _ {W : Walk} {X : Place} {l part : List ℕ} {nesting at : ℕ} {sizes : List ℕ} {L : Lent} {top holds depth : ℕ} {pen : Pen} (k : ℕ)
+    (known : k ≡ knownFor (halfAt part 0) (halfAt part 2) (envOf (L .env) top) (W .known)) where
   -- the last instruction
   simple-wrote : {n : Node} → Simple n → Ready n W X l part nesting at sizes L top holds depth pen → {o out : List ℕ} {p q : Pen}
       → (q ≡ moved p) × (out ≡ inkLast (halfAt part 0) (halfAt part 2) k p o) → Wrote o out p q (op (lastOp (W .globals) n))
@@ -387,15 +390,22 @@ module _ {W : Walk} {X : Place} {l part : List ℕ} {nesting at : ℕ} {sizes : 
       let d = head-N (expr (fader e)) (r .table) (r .laid .stands) in
       getD-set-same stack depth v 0 (omega (arith, s, r .stood .stacked, r .few-values, need-E (fader e))) ∙ (rw (d .kind) at g)
 
-  module _ (n : Node) (hyp : IsSimple n) (r : Ready n W X l part nesting at sizes L top holds depth pen) {M : Lent} {p : Pen} (kept : Kept L M top depth) (d : DoneEs (opsOf n) W X (at + 1) L M depth pen p) where
-    simple-1 : Stage W l L top holds depth pen at M (movedTo X (after (codeEs (W .globals) (opsOf n) (X .around) (X .types) (X .start)) (X .start))) depth p (nil ▸ codeEs (W .globals) (opsOf n) (X .around) (X .types) (X .start)) (op (lastOp (W .globals) n) ▸ nil) ([] ++ endsEs (W .globals) (opsOf n) (X .around) (X .types) (X .start))
-    simple-1 = stage-part (codeEs (W .globals) (opsOf n) (X .around) (X .types) (X .start)) (op (lastOp (W .globals) n) ▸ nil) (endsEs (W .globals) (opsOf n) (X .around) (X .types) (X .start)) (stage-start at _ (r .stood) (simple-left n hyp r)) (at + 1) kept (d .wrote) (d .ended) (omega arith)
+  module _ (n : Node) (hyp : IsSimple n) (r : Ready n W X l part nesting at sizes L top holds depth pen) {M : Lent} {p : Pen}
+      (kept : Kept L M top depth) (d : DoneEs (opsOf n) W X (at + 1) L M depth pen p) where
+    simple-1 : Stage W l L top holds depth pen at M (movedTo X (after (codeEs (W .globals) (opsOf n) (X .around) (X .types) (X .start)) (X .start)))
+        depth p (nil ▸ codeEs (W .globals) (opsOf n) (X .around) (X .types) (X .start)) (op (lastOp (W .globals) n) ▸ nil)
+        ([] ++ endsEs (W .globals) (opsOf n) (X .around) (X .types) (X .start))
+    simple-1 =
+        stage-part (codeEs (W .globals) (opsOf n) (X .around) (X .types) (X .start)) (op (lastOp (W .globals) n) ▸ nil)
+        (endsEs (W .globals) (opsOf n) (X .around) (X .types) (X .start)) (stage-start at _ (r .stood) (simple-left n hyp r)) (at + 1) kept (d .wrote)
+        (d .ended) (omega arith)
 
     pub simple-fits : Fits (moved p) (length (M .out))
     simple-fits = stage-fits-op (lastOp (W .globals) n) nil simple-1
 
     module _ {out : List ℕ} {q : Pen} (j : (q ≡ moved p) × (out ≡ inkLast (halfAt part 0) (halfAt part 2) k p (M .out))) where
-      simple-2 : Finished L pen at out (M .ends) q ((nil ▸ codeEs (W .globals) (opsOf n) (X .around) (X .types) (X .start)) ▸ op (lastOp (W .globals) n)) ([] ++ endsEs (W .globals) (opsOf n) (X .around) (X .types) (X .start))
+      simple-2 : Finished L pen at out (M .ends) q ((nil ▸ codeEs (W .globals) (opsOf n) (X .around) (X .types) (X .start))
+          ▸ op (lastOp (W .globals) n)) ([] ++ endsEs (W .globals) (opsOf n) (X .around) (X .types) (X .start))
       unfolding penAfter
       simple-2 =
           let w = simple-wrote (simple-of n hyp) r j in

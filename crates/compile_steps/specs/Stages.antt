@@ -11,9 +11,9 @@ use Rattle.bytecode.specs.Instructions.{Instr}
 use Rattle.compile_code.specs.Code.{Code, nil, op, mark, _▸_, at, skip, after}
 use Rattle.compile_code.specs.Compile.{found}
 use Rattle.compile_code.specs.Encode.{rec, recordOf}
-use Rattle.compile_pen.specs.declared.Pen.{Pen}
-use Rattle.compile_pen.specs.Ink.{Fits, moved, penShaped, inkOp, inkShape}
-use Rattle.compile_pen.specs.Folds.{penAfter, inked, later-self, address-after}
+use Rattle.compile_output.specs.declared.Pen.{Pen}
+use Rattle.compile_output.specs.Ink.{Fits, moved, penShaped, inkOp, inkShape}
+use Rattle.compile_output.specs.Folds.{penAfter, inked, later-self, address-after}
 use Rattle.compile_nodes.specs.Knows.{Walk}
 use Rattle.compile_nodes.specs.Ready.{Node, codeN, endsN, LeavesN, Place, Lent, Stood, Kept, Wrote, Done}
 use Rattle.compile_steps.specs.Parts.{lent, kept-self, kept-then, kept-less, kept-out, wrote-nil, wrote-then, wrote-op, wrote-mark, wrote-length, wrote-later, wrote-address, fits-rest}
@@ -28,7 +28,8 @@ pub record Stage (W : Walk) (l : List ℕ) (L : Lent) (top holds depth : ℕ) (p
   pub fits : Fits (penAfter left p) (length (M .out))
   pub ended : M .ends ≡ sets (L .ends) (at + 1) es
 
-pub stage-start : {W : Walk} {X : Place} {l : List ℕ} {L : Lent} {top holds depth : ℕ} {pen : Pen} (at : ℕ) (left : Code) → Stood W X l L top holds depth pen → Fits (penAfter left pen) (length (L .out))
+pub stage-start : {W : Walk} {X : Place} {l : List ℕ} {L : Lent} {top holds depth : ℕ} {pen : Pen} (at : ℕ) (left : Code)
+    → Stood W X l L top holds depth pen → Fits (penAfter left pen) (length (L .out))
     → Stage W l L top holds depth pen at L X depth pen nil left []
 stage-start {L = L} {pen = pen} at left h f = record { kept = kept-self L; more = omega arith; stood = h; wrote = wrote-nil (L .out) pen; fits = f; ended = refl }
 
@@ -121,15 +122,25 @@ module _ {W : Walk} {l : List ℕ} {L : Lent} {top holds depth : ℕ} {pen : Pen
       }
 
   -- the same code, written otherwise
-  pub stage-as : {left : Code} (other rest : Code) → Stage W l L top holds depth pen at M Y d p before left es → penAfter before pen ≡ penAfter other pen → inked before pen (L .out) ≡ inked other pen (L .out) → penAfter left p ≡ penAfter rest p
+  pub stage-as : {left : Code} (other rest : Code) → Stage W l L top holds depth pen at M Y d p before left es
+      → penAfter before pen ≡ penAfter other pen → inked before pen (L .out) ≡ inked other pen (L .out) → penAfter left p ≡ penAfter rest p
       → Stage W l L top holds depth pen at M Y d p other rest es
   stage-as other rest h e f g =
       record { kept = h .kept; more = h .more; stood = h .stood; wrote = record { penned = h .wrote .penned ∙ e; written = h .wrote .written ∙ f }; fits = rw g at (h .fits); ended = h .ended }
 
   -- a value on the stack is counted
-  pub stage-hold : {left : Code} (t : Ty) → Stage W l L top holds depth pen at M Y d p before left es → getD (M .stack) d 0 ≡ tyByte t → d < 32 → Stage W l L top holds depth pen at M (heldOn t Y (Y .start)) (d + 1) p before left es
+  pub stage-hold : {left : Code} (t : Ty) → Stage W l L top holds depth pen at M Y d p before left es → getD (M .stack) d 0 ≡ tyByte t → d < 32
+      → Stage W l L top holds depth pen at M (heldOn t Y (Y .start)) (d + 1) p before left es
   stage-hold t h g small =
-      record { kept = h .kept; more = omega (arith, h .more); stood = stood-push (h .stood) (kept-self M) (later-self p) (Y .start) (h .stood .address) t g small; wrote = h .wrote; fits = h .fits; ended = h .ended }
+      record {
+        kept = h .kept;
+        more = omega (arith, h .more);
+        stood = stood-push (h .stood) (kept-self M) (later-self p) (Y .start)
+            (h .stood .address) t g small;
+        wrote = h .wrote;
+        fits = h .fits;
+        ended = h .ended;
+      }
 
 -- what is done at the end, and that its last address is one
 pub record Finished (L : Lent) (pen : Pen) (at : ℕ) (out ends : List ℕ) (r : Pen) (before : Code) (es : List ℕ) : Type 0 where
@@ -142,7 +153,8 @@ pub finished : {W : Walk} {l : List ℕ} {L : Lent} {top holds depth : ℕ} {pen
 unfolding penAfter
 finished h = record { wrote = h .wrote; ended = h .ended; small = h .fits .address-small }
 
-pub finished-done : {W : Walk} {L : Lent} {pen : Pen} {at : ℕ} {out ends : List ℕ} {r : Pen} {before : Code} {es : List ℕ} {depth : ℕ} (n : Node) (X : Place) → Finished L pen at out ends r before es → pen .address ≡ X .start .address
+pub finished-done : {W : Walk} {L : Lent} {pen : Pen} {at : ℕ} {out ends : List ℕ} {r : Pen} {before : Code} {es : List ℕ} {depth : ℕ} (n : Node)
+    (X : Place) → Finished L pen at out ends r before es → pen .address ≡ X .start .address
     → penAfter before pen ≡ penAfter (codeN (W .globals) n (X .around) (X .types) (X .start)) pen
     → inked before pen (L .out) ≡ inked (codeN (W .globals) n (X .around) (X .types) (X .start)) pen (L .out)
     → endsN (W .globals) n (X .around) (X .types) (X .start) ≡ after (codeN (W .globals) n (X .around) (X .types) (X .start)) (X .start) .address ∷ es

@@ -103,7 +103,8 @@ simple-expr (expr (fader e)) h i j k m = tt
 simple-expr (expr (blockExpr ds is e)) h i j k m = absurd (k refl)
 simple-expr (name a) h i j k m = absurd h
 
-pub simple-stmt : (n : Node) → IsStmt n → ¬ (kindN n ≡ 1) → ¬ (kindN n ≡ 20) → ¬ (kindN n ≡ 21) → ¬ (kindN n ≡ 22) → ¬ (kindN n ≡ 23) → ¬ (kindN n ≡ 24) → ¬ (kindN n ≡ 25) → ¬ (kindN n ≡ 30) → IsSimple n
+pub simple-stmt : (n : Node) → IsStmt n → ¬ (kindN n ≡ 1) → ¬ (kindN n ≡ 20) → ¬ (kindN n ≡ 21) → ¬ (kindN n ≡ 22) → ¬ (kindN n ≡ 23)
+    → ¬ (kindN n ≡ 24) → ¬ (kindN n ≡ 25) → ¬ (kindN n ≡ 30) → IsSimple n
 simple-stmt (stmt (block ds is)) h h1 h20 h21 h22 h23 h24 h25 h30 = absurd (h1 refl)
 simple-stmt (stmt (assign x e)) h h1 h20 h21 h22 h23 h24 h25 h30 = absurd (h21 refl)
 simple-stmt (stmt (when e s)) h h1 h20 h21 h22 h23 h24 h25 h30 = absurd (h22 refl)

@@ -22,13 +22,13 @@ use Rattle.compile_code.specs.Code.{Code, nil, op, mark, _▸_, At, after}
 use Rattle.compile_code.specs.Compile.{Around, found, Way, plainly, marked, ifTrue, ifFalse, wayOf, codeWay, tyIn}
 use Rattle.compile_code.specs.Encode.{rec, recordOf}
 use Rattle.compile_names.specs.Types.{took}
-use Rattle.compile_pen.specs.declared.Pen.{Pen}
-use Rattle.compile_pen.specs.Ink.{moved, penShaped}
-use Rattle.compile_pen.specs.Folds.{penAfter, inked}
+use Rattle.compile_output.specs.declared.Pen.{Pen}
+use Rattle.compile_output.specs.Ink.{moved, penShaped}
+use Rattle.compile_output.specs.Folds.{penAfter, inked}
 use Rattle.compile_nodes.specs.Knows.{Walk}
 use Rattle.compile_nodes.specs.Ends.{seconds, begins}
 use Rattle.compile_nodes.specs.Ready.{Place, Lent, Kept, Wrote}
-use Rattle.compile_own.specs.Owns.{wayBy, waitingBy, pairType, penBetween, inkBetween, penBehind, inkBehind}
+use Rattle.compile_emit.specs.Owns.{wayBy, waitingBy, pairType, penBetween, inkBetween, penBehind, inkBehind}
 use Rattle.compile_steps.specs.Parts.{lent, kept-then, kept-stack}
 use Rattle.compile_steps.specs.Stages.{Stage, stage-op, stage-mark, stage-part, stage-push, stage-as, stage-hold, Finished, finished}
 
@@ -202,7 +202,8 @@ module _ {W : Walk} {l : List ℕ} {L : Lent} {top holds depth : ℕ} {pen : Pen
       let s5 = stage-mark left s4 j in
       stage-as ((nil ▸ x) ▸ (op (goUnless z) ▸ (op (push (log true)) ▸ (op (go end) ▸ mark (found (X .around) (X .types)))))) left s5 refl refl refl
 
-module _ {W : Walk} {l : List ℕ} {L : Lent} {top holds depth : ℕ} {pen : Pen} {at : ℕ} (X : Place) (o : Binary) (t : Ty) (s : At) (y : Code) (end : ℕ) (es fs : List ℕ) {before : Code} {M N : Lent} {q u : Pen}
+module _ {W : Walk} {l : List ℕ} {L : Lent} {top holds depth : ℕ} {pen : Pen} {at : ℕ} (X : Place) (o : Binary) (t : Ty) (s : At) (y : Code) (end : ℕ)
+    (es fs : List ℕ) {before : Code} {M N : Lent} {q u : Pen}
     (place : ℕ) (wrote : Wrote (M .out) (N .out) q u y) (ends : N .ends ≡ sets (M .ends) place fs) (where-at : place ≡ at + 1 + length es) (v : ℕ) (small : depth < 32)
     (b : ℕ) (target : W .dry ≡ false → b ≡ end) {out : List ℕ} {r : Pen} where
   pub behind-stage : (w : Way) → Stage W l L top holds depth pen at M (secondPlace w t X s) (waits w depth) q before (y ▸ (codeBehind w o (X .around) (X .types) end ▸ nil)) es

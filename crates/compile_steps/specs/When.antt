@@ -6,9 +6,9 @@ use native.Mathlib.Omega.{arith}
 use lib.ListN.{length, getD, set, take}
 use Rattle.language.specs.Program.{flatE}
 use Rattle.language.specs.Tree.{Stmt, Expr, when}
-use Rattle.shapes.specs.Steps.{Passes}
-use Rattle.compile_pen.specs.declared.Pen.{Pen}
-use Rattle.compile_pen.specs.Ink.{Fits, moved, penShaped, inkOp, inkShape}
+use Rattle.table_forms.specs.Steps.{Passes}
+use Rattle.compile_output.specs.declared.Pen.{Pen}
+use Rattle.compile_output.specs.Ink.{Fits, moved, penShaped, inkOp, inkShape}
 use Rattle.compile_nodes.specs.Knows.{Walk}
 use Rattle.compile_nodes.specs.Ready.{stmt, expr, Place, Lent, Ready, Done, Asks, Answers}
 use Rattle.compile_steps.specs.Parts.{lent, below, movedTo, asked}

@@ -1,7 +1,7 @@
 // The walkers: statements and expressions call each other, the remaining nesting falling. Each gets the part of the table that begins
 // where it stands and passes on parts that start inside it. An expression leaves the type of its value at `depth` of the stack. The
 // walkers go over a table twice: with a dry pen they only find where the code of each entry ends; then `aims` has what they found.
-use compile_pen::Pen;
+use compile_output::Pen;
 use formats::compiled::*;
 use formats::entries::*;
 ghost use mathlib.Core.Path.{_≡_};
@@ -54,7 +54,7 @@ fn operands(
             out,
             p,
         );
-        let n = spans::size_at(sizes, place);
+        let n = table_scopes::size_at(sizes, place);
         let from = ENTRY_BYTES * n;
         rest = &rest[from..];
         place += n;
@@ -87,7 +87,7 @@ fn simple(
 {
     let kind = words::half_at(part, KIND_AT);
     let a = words::half_at(part, A_AT);
-    let count = compile_own::operands_of(kind, words::word_at(part, B_AT));
+    let count = compile_emit::operands_of(kind, words::word_at(part, B_AT));
     let p = operands(
         table,
         &part[ENTRY_BYTES..],
@@ -106,9 +106,9 @@ fn simple(
         out,
         pen,
     );
-    let k = compile_own::known_of(kind, a, env, top, known);
-    stack[depth] = compile_own::last_type(kind, a, k, stack[depth]);
-    compile_own::finish(ends, at, compile_own::last(kind, a, k, out, p))
+    let k = compile_emit::known_of(kind, a, env, top, known);
+    stack[depth] = compile_emit::last_type(kind, a, k, stack[depth]);
+    compile_emit::finish(ends, at, compile_emit::last(kind, a, k, out, p))
 }
 
 // A binary operator.
@@ -150,11 +150,11 @@ fn pair(
         out,
         pen,
     );
-    let second = at + 1 + spans::size_at(sizes, at + 1);
-    let end = compile_own::end_of(aims, second);
+    let second = at + 1 + table_scopes::size_at(sizes, at + 1);
+    let end = compile_emit::end_of(aims, second);
     let first = stack[depth];
-    let way = compile_own::way_of(operator, first);
-    let q = compile_own::between(way, end, holds, stack, depth, out, p);
+    let way = compile_emit::way_of(operator, first);
+    let q = compile_emit::between(way, end, holds, stack, depth, out, p);
     let from = ENTRY_BYTES * (second - at);
     let r = expression(
         table,
@@ -169,15 +169,15 @@ fn pair(
         ends,
         holds,
         stack,
-        depth + compile_own::waiting(way),
+        depth + compile_emit::waiting(way),
         out,
         q,
     );
-    stack[depth] = compile_own::pair_type(operator, first);
-    compile_own::finish(
+    stack[depth] = compile_emit::pair_type(operator, first);
+    compile_emit::finish(
         ends,
         at,
-        compile_own::behind(way, operator, end, holds, stack, depth, out, r),
+        compile_emit::behind(way, operator, end, holds, stack, depth, out, r),
     )
 }
 
@@ -219,9 +219,9 @@ fn conditional(
         out,
         pen,
     );
-    let second = at + 1 + spans::size_at(sizes, at + 1);
-    let third = second + spans::size_at(sizes, second);
-    let q = compile_pen::emit(out, p, OP_UNLESS, 0, compile_own::end_of(aims, second) + 1);
+    let second = at + 1 + table_scopes::size_at(sizes, at + 1);
+    let third = second + table_scopes::size_at(sizes, second);
+    let q = compile_output::emit(out, p, OP_UNLESS, 0, compile_emit::end_of(aims, second) + 1);
     let from = ENTRY_BYTES * (second - at);
     let r = expression(
         table,
@@ -241,8 +241,8 @@ fn conditional(
         q,
     );
     let ty = stack[depth];
-    let s = compile_pen::emit(out, r, OP_GO, 0, compile_own::end_of(aims, third));
-    let t = compile_pen::shape(out, s, holds, stack, depth);
+    let s = compile_output::emit(out, r, OP_GO, 0, compile_emit::end_of(aims, third));
+    let t = compile_output::shape(out, s, holds, stack, depth);
     let last = ENTRY_BYTES * (third - at);
     let u = expression(
         table,
@@ -262,10 +262,10 @@ fn conditional(
         t,
     );
     stack[depth] = ty;
-    compile_own::finish(
+    compile_emit::finish(
         ends,
         at,
-        compile_pen::shape(out, u, holds, stack, depth + 1),
+        compile_output::shape(out, u, holds, stack, depth + 1),
     )
 }
 
@@ -307,8 +307,8 @@ fn when(
         out,
         pen,
     );
-    let second = at + 1 + spans::size_at(sizes, at + 1);
-    let q = compile_pen::emit(out, p, OP_UNLESS, 0, compile_own::end_of(aims, second));
+    let second = at + 1 + table_scopes::size_at(sizes, at + 1);
+    let q = compile_output::emit(out, p, OP_UNLESS, 0, compile_emit::end_of(aims, second));
     let from = ENTRY_BYTES * (second - at);
     let r = statement(
         table,
@@ -327,7 +327,7 @@ fn when(
         out,
         q,
     );
-    compile_own::finish(ends, at, compile_pen::shape(out, r, holds, stack, depth))
+    compile_emit::finish(ends, at, compile_output::shape(out, r, holds, stack, depth))
 }
 
 // An if with else.
@@ -368,9 +368,9 @@ fn choose(
         out,
         pen,
     );
-    let second = at + 1 + spans::size_at(sizes, at + 1);
-    let third = second + spans::size_at(sizes, second);
-    let q = compile_pen::emit(out, p, OP_UNLESS, 0, compile_own::end_of(aims, second) + 1);
+    let second = at + 1 + table_scopes::size_at(sizes, at + 1);
+    let third = second + table_scopes::size_at(sizes, second);
+    let q = compile_output::emit(out, p, OP_UNLESS, 0, compile_emit::end_of(aims, second) + 1);
     let from = ENTRY_BYTES * (second - at);
     let r = statement(
         table,
@@ -389,8 +389,8 @@ fn choose(
         out,
         q,
     );
-    let s = compile_pen::emit(out, r, OP_GO, 0, compile_own::end_of(aims, third));
-    let t = compile_pen::shape(out, s, holds, stack, depth);
+    let s = compile_output::emit(out, r, OP_GO, 0, compile_emit::end_of(aims, third));
+    let t = compile_output::shape(out, s, holds, stack, depth);
     let last = ENTRY_BYTES * (third - at);
     let u = statement(
         table,
@@ -409,7 +409,7 @@ fn choose(
         out,
         t,
     );
-    compile_own::finish(ends, at, compile_pen::shape(out, u, holds, stack, depth))
+    compile_emit::finish(ends, at, compile_output::shape(out, u, holds, stack, depth))
 }
 
 // A while.
@@ -434,7 +434,7 @@ fn repeat(
     ensures { λ r. ⌜ Answers (IsKind 24) (now (known .entry)) (now (aims .entry)) (now (table .entry)) (now (part .entry)) nesting at (now (sizes .entry)) (lent (now (env .entry)) (now (ends .entry)) (now (stack .entry)) (now (out .entry))) (lent (now (env .exit)) (now (ends .exit)) (now (stack .exit)) (now (out .exit))) top holds depth pen r ⌝ }
 {
     let start = pen.address as u32;
-    let p = compile_pen::shape(out, pen, holds, stack, depth);
+    let p = compile_output::shape(out, pen, holds, stack, depth);
     let q = expression(
         table,
         &part[ENTRY_BYTES..],
@@ -452,8 +452,8 @@ fn repeat(
         out,
         p,
     );
-    let second = at + 1 + spans::size_at(sizes, at + 1);
-    let r = compile_pen::emit(out, q, OP_UNLESS, 0, compile_own::end_of(aims, second) + 1);
+    let second = at + 1 + table_scopes::size_at(sizes, at + 1);
+    let r = compile_output::emit(out, q, OP_UNLESS, 0, compile_emit::end_of(aims, second) + 1);
     let from = ENTRY_BYTES * (second - at);
     let s = statement(
         table,
@@ -472,8 +472,8 @@ fn repeat(
         out,
         r,
     );
-    let t = compile_pen::emit(out, s, OP_GO, 0, start);
-    compile_own::finish(ends, at, compile_pen::shape(out, t, holds, stack, depth))
+    let t = compile_output::emit(out, s, OP_GO, 0, start);
+    compile_emit::finish(ends, at, compile_output::shape(out, t, holds, stack, depth))
 }
 
 // The statements of the case at `owner`: its index is in a cell.
@@ -499,14 +499,14 @@ fn arms(
     requires { ⌜ AsksArms (now known) (now aims) (now table) (now part) owner count nesting at (now sizes) (lent (now env) (now ends) (now stack) (now out)) top holds depth pen ⌝ }
     ensures { λ r. ⌜ AnswersArms (now (known .entry)) (now (aims .entry)) (now (table .entry)) (now (part .entry)) owner count nesting at (now (sizes .entry)) (lent (now (env .entry)) (now (ends .entry)) (now (stack .entry)) (now (out .entry))) (lent (now (env .exit)) (now (ends .exit)) (now (stack .exit)) (now (out .exit))) top holds depth pen r ⌝ }
 {
-    let cell = compile_known::second_in(compile_known::known_at(known, owner));
-    let end = compile_own::end_of(aims, owner);
+    let cell = compile_symbols::second_in(compile_symbols::known_at(known, owner));
+    let end = compile_emit::end_of(aims, owner);
     let mut rest = part;
     let mut place = at;
     let mut i = 0;
     let mut p = pen;
     while i < count {
-        let q = compile_own::before_arm(cell, i, compile_own::end_of(aims, place), out, p);
+        let q = compile_emit::before_arm(cell, i, compile_emit::end_of(aims, place), out, p);
         let r = statement(
             table,
             rest,
@@ -524,8 +524,8 @@ fn arms(
             out,
             q,
         );
-        p = compile_own::after_arm(end, holds, stack, depth, out, r);
-        let n = spans::size_at(sizes, place);
+        p = compile_emit::after_arm(end, holds, stack, depth, out, r);
+        let n = table_scopes::size_at(sizes, place);
         let from = ENTRY_BYTES * n;
         rest = &rest[from..];
         place += n;
@@ -556,7 +556,7 @@ fn select(
     ensures { λ r. ⌜ Answers (IsKind 30) (now (known .entry)) (now (aims .entry)) (now (table .entry)) (now (part .entry)) nesting at (now (sizes .entry)) (lent (now (env .entry)) (now (ends .entry)) (now (stack .entry)) (now (out .entry))) (lent (now (env .exit)) (now (ends .exit)) (now (stack .exit)) (now (out .exit))) top holds depth pen r ⌝ }
 {
     let count = words::half_at(part, A_AT) as usize;
-    let cell = compile_known::second_in(compile_known::known_at(known, at));
+    let cell = compile_symbols::second_in(compile_symbols::known_at(known, at));
     let p = expression(
         table,
         &part[ENTRY_BYTES..],
@@ -574,8 +574,8 @@ fn select(
         out,
         pen,
     );
-    let q = compile_pen::emit(out, p, OP_STORE, 0, cell);
-    let second = at + 1 + spans::size_at(sizes, at + 1);
+    let q = compile_output::emit(out, p, OP_STORE, 0, cell);
+    let second = at + 1 + table_scopes::size_at(sizes, at + 1);
     let from = ENTRY_BYTES * (second - at);
     let r = arms(
         table,
@@ -596,8 +596,8 @@ fn select(
         out,
         q,
     );
-    let s = compile_pen::emit(out, r, OP_STOP, 0, 0);
-    compile_own::finish(ends, at, compile_pen::shape(out, s, holds, stack, depth))
+    let s = compile_output::emit(out, r, OP_STOP, 0, 0);
+    compile_emit::finish(ends, at, compile_output::shape(out, s, holds, stack, depth))
 }
 
 // The target of an assignment is the entry right behind it.
@@ -626,11 +626,11 @@ fn assign(
     requires { ⌜ Asks (IsKind 21) (now known) (now aims) (now table) (now part) nesting at (now sizes) (lent (now env) (now ends) (now stack) (now out)) top holds depth pen ⌝ }
     ensures { λ r. ⌜ Answers (IsKind 21) (now (known .entry)) (now (aims .entry)) (now (table .entry)) (now (part .entry)) nesting at (now (sizes .entry)) (lent (now (env .entry)) (now (ends .entry)) (now (stack .entry)) (now (out .entry))) (lent (now (env .exit)) (now (ends .exit)) (now (stack .exit)) (now (out .exit))) top holds depth pen r ⌝ }
 {
-    let k = compile_known::meaning(env, top, words::half_at(part, TARGET_A_AT), known);
-    let second = at + 1 + spans::size_at(sizes, at + 1);
+    let k = compile_symbols::meaning(env, top, words::half_at(part, TARGET_A_AT), known);
+    let second = at + 1 + table_scopes::size_at(sizes, at + 1);
     let from = ENTRY_BYTES * (second - at);
     if words::half_at(part, TARGET_KIND_AT) == KIND_VARIABLE {
-        let p = compile_own::finish(ends, at + 1, pen);
+        let p = compile_emit::finish(ends, at + 1, pen);
         let q = expression(
             table,
             &part[from..],
@@ -648,14 +648,14 @@ fn assign(
             out,
             p,
         );
-        let r = compile_pen::emit(
+        let r = compile_output::emit(
             out,
             q,
             OP_STORE,
-            compile_own::owner(q, k),
-            compile_known::second_in(k),
+            compile_emit::owner(q, k),
+            compile_symbols::second_in(k),
         );
-        return compile_own::finish(ends, at, r);
+        return compile_emit::finish(ends, at, r);
     }
     let p = expression(
         table,
@@ -674,7 +674,7 @@ fn assign(
         out,
         pen,
     );
-    let q = compile_own::finish(ends, at + 1, p);
+    let q = compile_emit::finish(ends, at + 1, p);
     let r = expression(
         table,
         &part[from..],
@@ -692,14 +692,14 @@ fn assign(
         out,
         q,
     );
-    let s = compile_pen::emit(
+    let s = compile_output::emit(
         out,
         r,
         OP_PUT_FIELD,
-        compile_known::first_in(k),
-        compile_known::second_in(k),
+        compile_symbols::first_in(k),
+        compile_symbols::second_in(k),
     );
-    compile_own::finish(ends, at, s)
+    compile_emit::finish(ends, at, s)
 }
 
 // Labels and statements one after the other.
@@ -746,7 +746,7 @@ pub fn items(
             out,
             p,
         );
-        let n = spans::size_at(sizes, place);
+        let n = table_scopes::size_at(sizes, place);
         let from = ENTRY_BYTES * n;
         rest = &rest[from..];
         place += n;
@@ -778,10 +778,10 @@ fn block(
 {
     let heads = words::half_at(part, A_AT) as usize;
     let count = words::word_at(part, B_AT) as usize;
-    let open = compile_own::holds_in(&part[ENTRY_BYTES..], heads);
-    compile_own::mark_holds(env, top, open);
-    let up = heads::enter(table, at + 1, heads, count, 65536, sizes, env, top + open);
-    let p = compile_own::declare(&part[ENTRY_BYTES..], at + 1, heads, known, ends, out, pen);
+    let open = compile_emit::holds_in(&part[ENTRY_BYTES..], heads);
+    compile_emit::mark_holds(env, top, open);
+    let up = table_scopes::enter(table, at + 1, heads, count, 65536, sizes, env, top + open);
+    let p = compile_emit::declare(&part[ENTRY_BYTES..], at + 1, heads, known, ends, out, pen);
     let from = ENTRY_BYTES * (1 + heads);
     let q = items(
         table,
@@ -801,7 +801,7 @@ fn block(
         out,
         p,
     );
-    compile_own::finish(ends, at, compile_pen::releases(out, q, open))
+    compile_emit::finish(ends, at, compile_output::releases(out, q, open))
 }
 
 // A block expression: the same behind a wall, and its value before the releases.
@@ -827,10 +827,10 @@ fn body(
 {
     let heads = words::half_at(part, A_AT) as usize;
     let count = words::word_at(part, B_AT) as usize;
-    let open = compile_own::holds_in(&part[ENTRY_BYTES..], heads);
-    compile_own::mark_holds(env, top, open);
-    let up = heads::enter(table, at + 1, heads, count, 65537, sizes, env, top + open);
-    let p = compile_own::declare(&part[ENTRY_BYTES..], at + 1, heads, known, ends, out, pen);
+    let open = compile_emit::holds_in(&part[ENTRY_BYTES..], heads);
+    compile_emit::mark_holds(env, top, open);
+    let up = table_scopes::enter(table, at + 1, heads, count, 65537, sizes, env, top + open);
+    let p = compile_emit::declare(&part[ENTRY_BYTES..], at + 1, heads, known, ends, out, pen);
     let from = ENTRY_BYTES * (1 + heads);
     let q = items(
         table,
@@ -850,7 +850,7 @@ fn body(
         out,
         p,
     );
-    let n = spans::spanned(table, sizes, at + 1 + heads, count);
+    let n = table_scopes::spanned(table, sizes, at + 1 + heads, count);
     let after = ENTRY_BYTES * (1 + heads + n);
     let r = expression(
         table,
@@ -869,7 +869,7 @@ fn body(
         out,
         q,
     );
-    compile_own::finish(ends, at, compile_pen::releases(out, r, open))
+    compile_emit::finish(ends, at, compile_output::releases(out, r, open))
 }
 
 pub fn expression(
@@ -946,12 +946,12 @@ pub fn expression(
             pen,
         ),
         _ => if kind < KIND_FUNCTION {
-            let k = compile_own::known_of(kind, words::half_at(part, A_AT), env, top, known);
-            stack[depth] = compile_own::leaf_type(kind, k);
-            compile_own::finish(
+            let k = compile_emit::known_of(kind, words::half_at(part, A_AT), env, top, known);
+            stack[depth] = compile_emit::leaf_type(kind, k);
+            compile_emit::finish(
                 ends,
                 at,
-                compile_own::leaf(kind, words::word_at(part, B_AT), k, out, pen),
+                compile_emit::leaf(kind, words::word_at(part, B_AT), k, out, pen),
             )
         } else {
             simple(
@@ -1015,10 +1015,10 @@ pub fn statement(
             out,
             pen,
         ),
-        KIND_LABEL => compile_own::finish(
+        KIND_LABEL => compile_emit::finish(
             ends,
             at,
-            compile_pen::shape(out, pen, holds, stack, depth),
+            compile_output::shape(out, pen, holds, stack, depth),
         ),
         KIND_ASSIGN => assign(
             table,
@@ -1088,10 +1088,10 @@ pub fn statement(
             out,
             pen,
         ),
-        KIND_GOTO => compile_own::finish(
+        KIND_GOTO => compile_emit::finish(
             ends,
             at,
-            compile_own::goto(
+            compile_emit::goto(
                 words::half_at(part, A_AT),
                 env,
                 top,

@@ -28,7 +28,8 @@ lies-points l p us h f =
         let n = i - length us in
         let a : length us + n ≡ i = omega arith in
         let b : p + length us + n ≡ p + i = omega arith in
-        sym (rw (← a) (getD-append-add us (drop (p + length us) l) n 0 ∙ getD-drop (p + length us) l n 0 ∙ ap (λ (j : ℕ). getD l j 0) (let z : p + length us + n ≡ p + (length us + n) = omega arith in z)))
+        sym (rw (← a) (getD-append-add us (drop (p + length us) l) n 0 ∙ getD-drop (p + length us) l n 0
+        ∙ ap (λ (j : ℕ). getD l j 0) (let z : p + length us + n ≡ p + (length us + n) = omega arith in z)))
 
 module _ {l : List ℕ} {p : ℕ} {us : List ℕ} (h : Lies l p us) where
   pub lies-point : (i : ℕ) → i < length us → getD l (p + i) 0 ≡ getD us i 0

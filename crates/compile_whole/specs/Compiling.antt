@@ -17,33 +17,33 @@ use Rattle.language.specs.Limits.{limits}
 use Rattle.language.specs.Formed.{KeepsLimits}
 use Rattle.language.specs.Judge.{firstFault, judgeTree, judgeTable, compileOn}
 use Rattle.bytecode.specs.Macro.{Body}
-use Rattle.programs.specs.Basics.{clash}
-use Rattle.programs.specs.Programs.{accepted-program}
-use Rattle.programs.specs.Trees.{formed-faultless}
-use Rattle.scopes.specs.Environment.{envOf}
-use Rattle.spans.specs.Sizes.{Known}
-use Rattle.heads.specs.Trees.{length-Global}
-use Rattle.roots.specs.Tables.{Counted, Whole, Held, read-held, held-whole, parts as partsOf, RootPushed, ready-globals}
-use Rattle.loading.specs.Terms.{Each}
+use Rattle.language_laws.specs.Basics.{clash}
+use Rattle.language_laws.specs.Programs.{accepted-program}
+use Rattle.language_laws.specs.Trees.{formed-faultless}
+use Rattle.table_scopes.specs.Environment.{envOf}
+use Rattle.table_scopes.specs.Sizes.{Known}
+use Rattle.table_scopes.specs.Trees.{length-Global}
+use Rattle.table_forms.specs.Tables.{Counted, Whole, Held, read-held, held-whole, parts as partsOf, RootPushed, ready-globals}
+use Rattle.bytecode_laws.specs.Terms.{Each}
 use Rattle.compile_code.specs.Code.{Code}
 use Rattle.compile_code.specs.Compile.{Class, classesOf, Proc, procsOf}
 use Rattle.compile_code.specs.Encode.{procParts, parts, headsOf, fieldTypes, compiled, macroOf, each, shapeBytes}
 use Rattle.compile_records.specs.Writing.{SmallBody}
 use Rattle.compile_macro.specs.Built.{InOrder, writable}
 use Rattle.compile_order.specs.Order.{in-order}
-use Rattle.compile_pen.specs.declared.Pen.{Pen}
-use Rattle.compile_pen.specs.Folds.{penAfter, inked, grows, dry-inked, within}
+use Rattle.compile_output.specs.declared.Pen.{Pen}
+use Rattle.compile_output.specs.Folds.{penAfter, inked, grows, dry-inked, within}
 use Rattle.compile_bytes.specs.Bytes.{penAll, inkedAll, codesOf}
 use Rattle.compile_bytes.specs.Whole.{front, zz, front-length, macro-length, Measured, measured, whole}
 use Rattle.compile_bytes.specs.Room.{fits-dry, fits-real, macro-small}
 use Rattle.compile_nodes.specs.Ready.{Lent}
-use Rattle.compile_known.specs.declared.Numbers.{Numbers}
-use Rattle.compile_known.specs.Numbers.{numbersOf}
-use Rattle.compile_known.specs.Tabled.{Tabled, theTree, the-tree, Holding}
-use Rattle.compile_known.specs.Whole.{Numbered, kindOf, numbers-lie}
-use Rattle.compile_heads.specs.Front.{Firsts, nextFirst, Few, Measuring, Fronted}
-use Rattle.compile_heads.specs.Writing.{Wrote}
-use Rattle.compile_sight.specs.Sight.{afterHead, rootSight}
+use Rattle.compile_symbols.specs.declared.Numbers.{Numbers}
+use Rattle.compile_symbols.specs.Numbers.{numbersOf}
+use Rattle.compile_symbols.specs.Tabled.{Tabled, theTree, the-tree, Holding}
+use Rattle.compile_symbols.specs.Whole.{Numbered, kindOf, numbers-lie}
+use Rattle.compile_front.specs.Front.{Firsts, nextFirst, Few, Measuring, Fronted}
+use Rattle.compile_front.specs.Writing.{Wrote}
+use Rattle.compile_scopes.specs.Sight.{afterHead, rootSight}
 use Rattle.compile_whole.specs.Ends.{procOf, procEnd, rootEnd, ended, AimsProcs, Aims}
 use Rattle.compile_whole.specs.Ends as ends-laws
 use Rattle.compile_whole.specs.Stage.{Stage, lentOf, items-fit}
@@ -242,7 +242,10 @@ module _ {l : List ℕ} {count behind classes bodies : ℕ} {sizes env : List �
     pub write-refused : {n : ℕ} → n ≡ length (macroOf (theTree l)) → length (M .out) < n → compileOn macroOf l out ≡ record { verdict = refused (refusal 7 0); bytes = M .out }
     unfolding compileOn
     write-refused {n} h k =
-        rw (q .judged) (ap (λ (b : Bool). if b then record { verdict = accepted (length (macroOf (theTree l))); bytes = sets out 0 (macroOf (theTree l)) } else record { verdict = refused (refusal 7 0); bytes = out })
+        rw (q .judged) (ap (λ (b : Bool). if b then record {
+          verdict = accepted (length (macroOf (theTree l)));
+          bytes = sets out 0 (macroOf (theTree l));
+        } else record { verdict = refused (refusal 7 0); bytes = out })
         (lt-leb (length (macroOf (theTree l))) (length out) (omega (arith, ap (length {A = ℕ}) dry-out))) ∙ ap (λ (o : List ℕ). record { verdict = refused (refusal 7 0); bytes = o }) (sym dry-out))
 
     pub write-put : (room : ℕ) → length (macroOf (theTree l)) ≤ room → Fronted (theTree l) l count behind sizes known (M .ends) classes bodies (r .address) (r .shapes) room
@@ -270,7 +273,8 @@ module _ {l : List ℕ} {count behind classes bodies : ℕ} {sizes env : List �
         }
 
     -- ── the real one, behind the front ──
-    module _ {f : ℕ} (h : f ≡ length (front (compiled (theTree l)))) (fit : length (macroOf (theTree l)) ≤ length (M .out)) {put : List ℕ} {at : ℕ} (w : Wrote (M .out) 0 (front (compiled (theTree l))) put at)
+    module _ {f : ℕ} (h : f ≡ length (front (compiled (theTree l)))) (fit : length (macroOf (theTree l)) ≤ length (M .out)) {put : List ℕ} {at : ℕ}
+        (w : Wrote (M .out) 0 (front (compiled (theTree l))) put at)
         {d : Pen} (g : d ≡ penAt f (f + 8 * r .address) false) where
       sh-is : f + 8 * r .address ≡ f + 8 * length (compiled (theTree l) .code)
       sh-is = omega (arith, dry-address)

@@ -17,27 +17,27 @@ use Rattle.values.specs.Types.{Ty, integer, logical, bits, reference, tyByte}
 use Rattle.values.specs.Values.{initial}
 use Rattle.language.specs.Tree.{Typed, declare, holding, Global, local, class, procedure, Tree, locals}
 use Rattle.language.specs.Limits.{headCells, headHolds}
-use Rattle.programs.specs.Claims.{entriesOf}
-use Rattle.heads.specs.Trees.{length-Global}
-use Rattle.spans.specs.Stands.{Stands}
-use Rattle.shapes.specs.Walk.{Table}
-use Rattle.shapes.specs.Steps.{head-of, below}
+use Rattle.language_laws.specs.Claims.{entriesOf}
+use Rattle.table_scopes.specs.Trees.{length-Global}
+use Rattle.table_scopes.specs.Stands.{Stands}
+use Rattle.table_forms.specs.Walk.{Table}
+use Rattle.table_forms.specs.Steps.{head-of, below}
 use Rattle.bytecode.specs.Instructions.{own, push, store, takeHold}
 use Rattle.compile_code.specs.Code.{Code, nil, op, _▸_}
 use Rattle.compile_code.specs.Compile.{classesOf, classNames, tyIn}
 use Rattle.compile_code.specs.Encode.{recordOf}
-use Rattle.compile_pen.specs.declared.Pen.{Pen}
-use Rattle.compile_pen.specs.Ink.{moved, inkOp, Fits}
-use Rattle.compile_pen.specs.Folds.{penAfter, inked, grows, fits-before, length-inked}
-use Rattle.compile_known.specs.Numbers.{packed, typeIn, secondIn, numberOf}
-use Rattle.compile_known.specs.Packed.{type-packed, second-packed}
-use Rattle.compile_known.specs.Whole.{kindOf, kind-here}
-use Rattle.compile_known.specs.Tabled.{Tabled, theTree, Headed, Left, left-start, Next, next-global, Within}
-use Rattle.compile_own.specs.Owns.{inkInitial, penDeclared, inkDeclared}
-use Rattle.compile_sight.specs.Means.{byte-small, length-class-names}
-use Rattle.compile_sight.specs.Heads.{number-typed}
-use Rattle.compile_sight.specs.Roots.{length-classes}
-use Rattle.compile_sight.specs.HeadOps.{headOps}
+use Rattle.compile_output.specs.declared.Pen.{Pen}
+use Rattle.compile_output.specs.Ink.{moved, inkOp, Fits}
+use Rattle.compile_output.specs.Folds.{penAfter, inked, grows, fits-before, length-inked}
+use Rattle.compile_symbols.specs.Numbers.{packed, typeIn, secondIn, numberOf}
+use Rattle.compile_symbols.specs.Packed.{type-packed, second-packed}
+use Rattle.compile_symbols.specs.Whole.{kindOf, kind-here}
+use Rattle.compile_symbols.specs.Tabled.{Tabled, theTree, Headed, Left, left-start, Next, next-global, Within}
+use Rattle.compile_emit.specs.Owns.{inkInitial, penDeclared, inkDeclared}
+use Rattle.compile_scopes.specs.Means.{byte-small, length-class-names}
+use Rattle.compile_scopes.specs.Heads.{number-typed}
+use Rattle.compile_scopes.specs.Roots.{length-classes}
+use Rattle.compile_scopes.specs.HeadOps.{headOps}
 use Rattle.compile_whole.specs.Heads.{rootHead}
 use Rattle.compile_whole.specs.Numbers.{cellsGlobal, cells-next, classesBy, itemsBy, Numbers, numbers-next, numbers-local, numbers-all}
 use Rattle.compile_whole.specs.Stage.{Prepared}
@@ -247,7 +247,12 @@ module _ {l sizes : List ℕ} {place left n : ℕ} (t : Tabled l sizes (theTree 
   holds-next k size m e z =
       let x = next-hold (s .globals) t m (s .remain) (s .same) in
       let f : k ≡ holdsOf (kindOf (x .this)) = e ∙ ap holdsOf (kind-here l place (x .this) (x .later) (x .next)) in
-      record { globals = x .later; remain = rw z (x .next .next); same = omega (arith, x .same, open-next (x .this) (x .later)); few = omega (arith, s .few, x .next .within .some, one (kindOf (x .this))) }
+      record {
+        globals = x .later;
+        remain = rw z (x .next .next);
+        same = omega (arith, x .same, open-next (x .this) (x .later));
+        few = omega (arith, s .few, x .next .within .some, one (kindOf (x .this)));
+      }
     where
       one : (k : ℕ) → holdsOf k ≤ 1
       one k = by (eqb k 14)

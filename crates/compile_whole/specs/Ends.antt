@@ -8,14 +8,14 @@ use lib.Seq.{sets, length-sets, getD-set-same}
 use Rattle.language.specs.Program.{flatItems, flatGlobal, flatHead}
 use Rattle.language.specs.Tree.{Typed, Body, proper, function, Global, local, class, procedure, Tree}
 use Rattle.language.specs.Faults.{sizeBody, sizeGlobal}
-use Rattle.heads.specs.Trees.{length-Global, length-Items}
+use Rattle.table_scopes.specs.Trees.{length-Global, length-Items}
 use Rattle.compile_code.specs.Code.{At, at, after}
 use Rattle.compile_code.specs.Compile.{Around, Proc}
 use Rattle.compile_code.specs.Encode.{aroundBody, codeRoot, codeProc}
 use Rattle.compile_nodes.specs.Ends.{endsS, endsE, endsItems}
 use Rattle.compile_nodes.specs.Knows.{Lies}
-use Rattle.compile_sight.specs.Lengths.{length-items, length-below, length-belowE}
-use Rattle.compile_sight.specs.Sight.{afterHead, startOfItems, aroundRoot}
+use Rattle.compile_scopes.specs.Lengths.{length-items, length-below, length-belowE}
+use Rattle.compile_scopes.specs.Sight.{afterHead, startOfItems, aroundRoot}
 use Rattle.compile_whole.specs.Apart.{Apart, apart-self, apart-then, apart-wider, apart-set, apart-sets, lies-before, lies-behind, lies-sets}
 
 -- ── the root ──

@@ -8,12 +8,12 @@ use Rattle.bytecode.specs.Instructions.{own, end}
 use Rattle.compile_code.specs.Code.{Code, op, At, at}
 use Rattle.compile_code.specs.Compile.{Around, global, labels, codeHead, codeItems}
 use Rattle.compile_code.specs.Encode.{codeRoot, startOfRoot}
-use Rattle.compile_pen.specs.declared.Pen.{Pen}
-use Rattle.compile_pen.specs.Ink.{moved}
-use Rattle.compile_pen.specs.Folds.{lets, penAfter, inked}
-use Rattle.compile_sight.specs.Marks.{openIn}
-use Rattle.compile_sight.specs.HeadOps.{headOps, head-pen, head-inked, holds-open}
-use Rattle.compile_sight.specs.Sight.{startOfItems, aroundRoot}
+use Rattle.compile_output.specs.declared.Pen.{Pen}
+use Rattle.compile_output.specs.Ink.{moved}
+use Rattle.compile_output.specs.Folds.{lets, penAfter, inked}
+use Rattle.compile_scopes.specs.Marks.{openIn}
+use Rattle.compile_scopes.specs.HeadOps.{headOps, head-pen, head-inked, holds-open}
+use Rattle.compile_scopes.specs.Sight.{startOfItems, aroundRoot}
 
 module _ (t : Tree) where
   abbrev pub rootHead : Code

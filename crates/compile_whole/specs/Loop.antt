@@ -14,22 +14,22 @@ use Rattle.language.specs.Names.{rootOf}
 use Rattle.language.specs.Faults.{sizeGlobal}
 use Rattle.language.specs.Limits.{bodyUsage}
 use Rattle.language.specs.Formed.{EveryProcedure, InLimits}
-use Rattle.programs.specs.Claims.{entriesOf}
-use Rattle.spans.specs.Stands.{Stands}
-use Rattle.heads.specs.Trees.{length-Global}
-use Rattle.shapes.specs.Walk.{Table}
-use Rattle.shapes.specs.Steps.{head-of, below}
+use Rattle.language_laws.specs.Claims.{entriesOf}
+use Rattle.table_scopes.specs.Stands.{Stands}
+use Rattle.table_scopes.specs.Trees.{length-Global}
+use Rattle.table_forms.specs.Walk.{Table}
+use Rattle.table_forms.specs.Steps.{head-of, below}
 use Rattle.compile_code.specs.Code.{at}
 use Rattle.compile_code.specs.Compile.{procsOf}
 use Rattle.compile_code.specs.Encode.{codeProc, procParts}
 use Rattle.compile_names.specs.Globals.{goodGlobals, good-tree}
-use Rattle.compile_pen.specs.declared.Pen.{Pen}
-use Rattle.compile_pen.specs.Ink.{Fits}
-use Rattle.compile_pen.specs.Folds.{penAfter, grows, address-after}
+use Rattle.compile_output.specs.declared.Pen.{Pen}
+use Rattle.compile_output.specs.Ink.{Fits}
+use Rattle.compile_output.specs.Folds.{penAfter, grows, address-after}
 use Rattle.compile_bytes.specs.Bytes.{penAll, inkedAll, codesOf}
 use Rattle.compile_bytes.specs.Room.{fits-first}
 use Rattle.compile_nodes.specs.Ready.{Lent, Kept}
-use Rattle.compile_known.specs.Tabled.{Tabled, theTree, Left, left-start, Next, next-global, Within}
+use Rattle.compile_symbols.specs.Tabled.{Tabled, theTree, Left, left-start, Next, next-global, Within}
 use Rattle.compile_whole.specs.Numbers.{classesBy, itemsBy, Numbers, numbers-next, numbers-procedure, numbers-all}
 use Rattle.compile_whole.specs.Ends.{procOf, procEnd, endedProcs, AimsProcs}
 use Rattle.compile_whole.specs.Stage.{Stage, ReadyProc}
@@ -72,7 +72,8 @@ module _ {l part : List ℕ} {place : ℕ} {sizes : List ℕ} {L : Lent} {top : 
   unfolding flatGlobal flatDecl flatTyped
   global-asks q e = of (q .global) (q .stands) (q .ready)
     where
-      of : (g : Global) → Stands (entriesOf l) place (flatGlobal g) → ReadyG g l part place sizes L top known aims pen → AsksProc l part place sizes (L .env) top known aims (L .ends) (L .stack) (L .out) pen
+      of : (g : Global) → Stands (entriesOf l) place (flatGlobal g) → ReadyG g l part place sizes L top known aims pen
+          → AsksProc l part place sizes (L .env) top known aims (L .ends) (L .stack) (L .out) pen
       of (local (declare x)) h r = absurd (omega (arith, head-of _ _ (q .table) h .kind))
       of (local (holding g)) h r = absurd (omega (arith, head-of _ _ (q .table) h .kind))
       of (class c xs) h r = absurd (omega (arith, head-of _ _ (q .table) h .kind))
@@ -141,7 +142,8 @@ pub record AnswersProcs (l : List ℕ) (L M : Lent) (top : ℕ) (pen r : Pen) : 
   pub written : M .out ≡ inkProcs (theTree l) (theTree l .head) pen (L .out)
   pub ended : M .ends ≡ endedProcs (theTree l) (theTree l .head) 1 (pen .address) (L .ends)
 
-pub procs-start : {l : List ℕ} {count : ℕ} {sizes : List ℕ} {L : Lent} {top : ℕ} {known aims : List ℕ} {pen : Pen} → AsksProcs l count sizes L top known aims pen → ProcsSoFar l sizes known aims top L pen L 1 count pen
+pub procs-start : {l : List ℕ} {count : ℕ} {sizes : List ℕ} {L : Lent} {top : ℕ} {known aims : List ℕ} {pen : Pen}
+    → AsksProcs l count sizes L top known aims pen → ProcsSoFar l sizes known aims top L pen L 1 count pen
 unfolding nesting
 procs-start {l} q =
     let h = q .stage .prepared in let t = theTree l in
@@ -166,7 +168,15 @@ procs-start {l} q =
 
 -- ── a turn ──
 pub kept-then : {L M N : Lent} {top : ℕ} → Kept L M top 0 → Kept M N top 0 → Kept L N top 0
-kept-then a b = record { env = b .env ∙ a .env; same-env = b .same-env ∙ a .same-env; same-ends = b .same-ends ∙ a .same-ends; stack = refl; same-stack = b .same-stack ∙ a .same-stack; same-out = b .same-out ∙ a .same-out }
+kept-then a b =
+    record {
+      env = b .env ∙ a .env;
+      same-env = b .same-env ∙ a .same-env;
+      same-ends = b .same-ends ∙ a .same-ends;
+      stack = refl;
+      same-stack = b .same-stack ∙ a .same-stack;
+      same-out = b .same-out ∙ a .same-out;
+    }
 
 -- what is ready of the next declaration
 ready-next : (l part : List ℕ) (place : ℕ) (sizes : List ℕ) (L : Lent) (top : ℕ) (known aims : List ℕ) (p : Pen) (g : Global) (gs : List Global)
@@ -193,7 +203,8 @@ ready-next l part place sizes L top known aims p (procedure a xs b) gs s e h r e
     }
 
 -- and of those behind it, when it is done
-done-address : (l : List ℕ) (place : ℕ) (L M : Lent) (p q : Pen) (a : ℕ) (xs : List Typed) (b : Body) → DoneG (procedure a xs b) l place L M p q → q .address ≡ procEnd (theTree l) (procOf a xs b) (p .address)
+done-address : (l : List ℕ) (place : ℕ) (L M : Lent) (p q : Pen) (a : ℕ) (xs : List Typed) (b : Body) → DoneG (procedure a xs b) l place L M p q
+    → q .address ≡ procEnd (theTree l) (procOf a xs b) (p .address)
 done-address l place L M p q a xs b d = ap (λ (z : Pen). z .address) (d .penned) ∙ address-after (codeProc (theTree l) (procOf a xs b) (p .address)) p (at (p .address) 0) refl
 
 done-dry : (l : List ℕ) (place : ℕ) (L M : Lent) (p q : Pen) (g : Global) → DoneG g l place L M p q → (q .dry ≡ p .dry) × (q .inside ≡ p .inside)

@@ -8,13 +8,13 @@ use Rattle.language.specs.Program.{flatTyped, flatDecl, flatItems, flatBody, fl
 use Rattle.language.specs.Tree.{Typed, Decl, declare, holding, Body, Global, local, class, procedure, Tree, locals}
 use Rattle.language.specs.Faults.{sizeGlobal}
 use Rattle.language.specs.Limits.{headCells}
-use Rattle.heads.specs.Trees.{length-map, length-Body, length-Global}
+use Rattle.table_scopes.specs.Trees.{length-map, length-Body, length-Global}
 use Rattle.compile_code.specs.Compile.{classesOf, classNames}
-use Rattle.compile_known.specs.Numbers.{cellsOf, numberOf, numbersFrom, numbersFields, numbersGlobals, numbersOf}
+use Rattle.compile_symbols.specs.Numbers.{cellsOf, numberOf, numbersFrom, numbersFields, numbersGlobals, numbersOf}
 use Rattle.compile_nodes.specs.Knows.{Lies}
-use Rattle.compile_sight.specs.Lies.{lies-left, lies-right, lies-next, lies-here, lies-at, lies-same}
-use Rattle.compile_sight.specs.Lengths.{length-numbers, numbers-append}
-use Rattle.compile_sight.specs.Cells.{within-typed}
+use Rattle.compile_scopes.specs.Lies.{lies-left, lies-right, lies-next, lies-here, lies-at, lies-same}
+use Rattle.compile_scopes.specs.Lengths.{length-numbers, numbers-append}
+use Rattle.compile_scopes.specs.Cells.{within-typed}
 
 length-fields : (cs : List ℕ) (k i : ℕ) (xs : List Typed) → length (numbersFields cs k i xs) ≡ length xs
 unfolding numbersFields
@@ -51,7 +51,8 @@ module _ (cs : List ℕ) (f : ℕ → List ℕ) where
           classes = h .classes;
           bodies = suc (h .bodies);
           lie = rw (let z : n + 0 ≡ n = omega arith in z)
-              (lies-at (omega (arith, length-numbers cs 0 us, length-append (map flatTyped xs) (flatBody b), length-map flatTyped xs, length-Body b)) (lies-right (numbersFrom cs 0 us) _ (lies-next _ _ (h .lie))));
+              (lies-at (omega (arith, length-numbers cs 0 us, length-append (map flatTyped xs) (flatBody b), length-map flatTyped xs, length-Body b))
+              (lies-right (numbersFrom cs 0 us) _ (lies-next _ _ (h .lie))));
         }
 
     pub numbers-local : (d : Decl) (gs : List Global) → Numbers known p n (local d ∷ gs) → getD known p 0 ≡ numberOf cs 1 n (flatDecl d)

@@ -8,19 +8,19 @@ use lib.Seq.{sets}
 use Rattle.language.specs.Program.{resultCode}
 use Rattle.words.specs.Numbers.{wordAt}
 use Rattle.language.specs.Tree.{Typed, Stmt, Expr, Body, proper, function, Tree}
-use Rattle.scopes.specs.Laws.{fewer}
-use Rattle.shapes.specs.Steps.{below}
-use Rattle.operands.specs.Types.{code-some}
-use Rattle.roots.specs.Procedures.{Walled}
+use Rattle.table_scopes.specs.EnvironmentLaws.{fewer}
+use Rattle.table_forms.specs.Steps.{below}
+use Rattle.table_types.specs.Types.{code-some}
+use Rattle.table_forms.specs.Procedures.{Walled}
 use Rattle.bytecode.specs.Instructions.{return}
 use Rattle.compile_code.specs.Code.{Code, op, at}
 use Rattle.compile_code.specs.Compile.{Proc}
 use Rattle.compile_code.specs.Encode.{recordOf, aroundBody, codeBody, codeProc}
-use Rattle.compile_pen.specs.declared.Pen.{Pen}
-use Rattle.compile_pen.specs.Ink.{moved, inkOp, Fits, length-ink}
-use Rattle.compile_pen.specs.Folds.{penAfter, inked, inked-op, address-after}
+use Rattle.compile_output.specs.declared.Pen.{Pen}
+use Rattle.compile_output.specs.Ink.{moved, inkOp, Fits, length-ink}
+use Rattle.compile_output.specs.Folds.{penAfter, inked, inked-op, address-after}
 use Rattle.compile_nodes.specs.Ready.{Node, stmt, expr, name, codeN, endsN, Lent, Kept, Ready, Done, Asks, Answers}
-use Rattle.compile_known.specs.Tabled.{theTree}
+use Rattle.compile_symbols.specs.Tabled.{theTree}
 use Rattle.compile_whole.specs.Ends.{procEnd, endedProc, endsBody}
 use Rattle.compile_whole.specs.Stage.{walkOf, lentOf, ReadyProc, heading-of, nodeOf, bodyPlace, ready-body}
 
@@ -36,7 +36,8 @@ pub record DoneProc (t : Tree) (q : Proc) (place : ℕ) (ends out : List ℕ) (l
 
 pub record AnswersProc (l part : List ℕ) (place : ℕ) (sizes : List ℕ) (L M : Lent) (top : ℕ) (known aims : List ℕ) (pen r : Pen) : Type 0 where
   pub kept : Kept L M top 0
-  pub done : (q : Proc) → ReadyProc (theTree l) q l part place sizes (L .env) top known aims (L .ends) (L .stack) (L .out) pen → DoneProc (theTree l) q place (L .ends) (L .out) (M .ends) (M .out) pen r
+  pub done : (q : Proc) → ReadyProc (theTree l) q l part place sizes (L .env) top known aims (L .ends) (L .stack) (L .out) pen
+      → DoneProc (theTree l) q place (L .ends) (L .out) (M .ends) (M .out) pen r
 
 -- the numbers that the code works with
 pub record ProcAsks (l part : List ℕ) (heading place : ℕ) (ends env : List ℕ) (top : ℕ) : Type 0 where
@@ -82,7 +83,8 @@ module _ {l part : List ℕ} {place : ℕ} {sizes env : List ℕ} {top : ℕ} {k
     (r : ReadyProc (theTree l) q l part place sizes env top known aims ends stack out pen) (heading : ℕ) (c : heading ≡ wordAt part 4) {mid : List ℕ} {up : ℕ}
     (w : Walled l place (heading / 256) top env mid up) where
   -- the body, with what is pushed
-  body-ready : Ready (nodeOf (q .body)) (walkOf (theTree l) known aims pen) (bodyPlace (theTree l) (q .parameters) (pen .address)) l (below part (8 * (1 + heading / 256))) 62 (place + 1 + heading / 256) sizes
+  body-ready : Ready (nodeOf (q .body)) (walkOf (theTree l) known aims pen) (bodyPlace (theTree l) (q .parameters) (pen .address)) l
+      (below part (8 * (1 + heading / 256))) 62 (place + 1 + heading / 256) sizes
       (lentOf mid ends stack out) up 0 0 pen
   body-ready =
       let h = heading-of r heading c in
@@ -127,7 +129,8 @@ module _ {l part : List ℕ} {place : ℕ} {sizes env : List ℕ} {top : ℕ} {k
         ∙ (ap (λ (z : Pen). inked (op return) z (M .out)) (done-here .wrote .penned ∙ ap (λ (y : Code). penAfter y pen) x)
         ∙ ap (inked (op return) (penAfter b pen)) (done-here .wrote .written ∙ ap (λ (y : Code). inked y pen out) x))
 
-    proc-done-in : (s : Pen) (written later : List ℕ) → s ≡ moved p → written ≡ inkOp p (M .out) 11 0 0 → later ≡ set (M .ends) place (s .address) → DoneProc (theTree l) q place ends out later written pen s
+    proc-done-in : (s : Pen) (written later : List ℕ) → s ≡ moved p → written ≡ inkOp p (M .out) 11 0 0 → later ≡ set (M .ends) place (s .address)
+        → DoneProc (theTree l) q place ends out later written pen s
     proc-done-in s written later e f g =
         let h = heading-of r heading c in
         let a = e ∙ last-pen in
@@ -136,7 +139,8 @@ module _ {l part : List ℕ} {place : ℕ} {sizes env : List ℕ} {top : ℕ} {k
           penned = a;
           inks = f ∙ last-ink;
           ended = g ∙ (ap (λ (n : ℕ). set (M .ends) place n) z ∙ ap (λ (m : List ℕ). set m place (procEnd (theTree l) q (pen .address)))
-              (done-here .ended ∙ (ap (λ (n : ℕ). sets ends (place + 1 + n) (endsN (theTree l .head) (nodeOf (q .body)) (aroundBody (theTree l) (q .parameters)) [] (at (pen .address) (length (q .parameters))))) (h .many)
+              (done-here .ended ∙ (ap (λ (n : ℕ). sets ends (place + 1 + n)
+              (endsN (theTree l .head) (nodeOf (q .body)) (aroundBody (theTree l) (q .parameters)) [] (at (pen .address) (length (q .parameters))))) (h .many)
               ∙ ap (λ (us : List ℕ). sets ends (place + 1 + length (q .parameters)) us) (ends-are (theTree l) (q .parameters) (pen .address) (q .body)))));
         }
 
@@ -190,18 +194,22 @@ module _ {l part : List ℕ} {place : ℕ} {sizes env : List ℕ} {top : ℕ} {k
             done = λ x r. proc-done-in r heading c w (such x r) y s written later (b .0 ∙ a .0) (a .1) g;
           }
 
-      pub proc-proper : OfStmt P → heading % 256 ≡ 0 → {M : Lent} {p : Pen} → BodyAnswers P known aims l part heading place sizes (lentOf mid ends stack out) M up pen p → {s v : Pen} {written later : List ℕ}
+      pub proc-proper : OfStmt P → heading % 256 ≡ 0 → {M : Lent} {p : Pen}
+          → BodyAnswers P known aims l part heading place sizes (lentOf mid ends stack out) M up pen p → {s v : Pen} {written later : List ℕ}
           → (v ≡ moved p) × (written ≡ inkOp p (M .out) 11 0 0) → (s ≡ v) × (later ≡ set (M .ends) place (v .address))
           → AnswersProc l part place sizes (lentOf env ends stack out) (lentOf (M .env) later (M .stack) written) top known aims pen s
       proc-proper k z y a b = returned (λ x r. body-stmt r heading c w P k z) y a b
 
-      pub proc-function : OfExpr P → ¬ (heading % 256 ≡ 0) → {M : Lent} {p : Pen} → BodyAnswers P known aims l part heading place sizes (lentOf mid ends stack out) M up pen p → {s v : Pen} {written later : List ℕ}
+      pub proc-function : OfExpr P → ¬ (heading % 256 ≡ 0) → {M : Lent} {p : Pen}
+          → BodyAnswers P known aims l part heading place sizes (lentOf mid ends stack out) M up pen p → {s v : Pen} {written later : List ℕ}
           → (v ≡ moved p) × (written ≡ inkOp p (M .out) 11 0 0) → (s ≡ v) × (later ≡ set (M .ends) place (v .address))
           → AnswersProc l part place sizes (lentOf env ends stack out) (lentOf (M .env) later (M .stack) written) top known aims pen s
       proc-function k z y a b = returned (λ x r. body-expr r heading c w P k z) y a b
 
-      pub proper-fits : OfStmt P → {M : Lent} {p : Pen} → heading % 256 ≡ 0 → BodyAnswers P known aims l part heading place sizes (lentOf mid ends stack out) M up pen p → Fits (moved p) (length (M .out))
+      pub proper-fits : OfStmt P → {M : Lent} {p : Pen} → heading % 256 ≡ 0
+          → BodyAnswers P known aims l part heading place sizes (lentOf mid ends stack out) M up pen p → Fits (moved p) (length (M .out))
       proper-fits k z y = last-fits (q .ready) heading c w (body-stmt (q .ready) heading c w P k z) y
 
-      pub function-fits : OfExpr P → {M : Lent} {p : Pen} → ¬ (heading % 256 ≡ 0) → BodyAnswers P known aims l part heading place sizes (lentOf mid ends stack out) M up pen p → Fits (moved p) (length (M .out))
+      pub function-fits : OfExpr P → {M : Lent} {p : Pen} → ¬ (heading % 256 ≡ 0)
+          → BodyAnswers P known aims l part heading place sizes (lentOf mid ends stack out) M up pen p → Fits (moved p) (length (M .out))
       function-fits k z y = last-fits (q .ready) heading c w (body-expr (q .ready) heading c w P k z) y

@@ -15,34 +15,35 @@ use Rattle.language.specs.Limits.{bodyUsage, headCells, headHolds}
 use Rattle.language.specs.Formed.{InLimits, KeepsLimits}
 use Rattle.words.specs.Choice.{if_then_else_}
 use Rattle.words.specs.Numbers.{wordAt}
-use Rattle.programs.specs.Claims.{entriesOf}
-use Rattle.scopes.specs.Environment.{Item, item, envOf}
-use Rattle.spans.specs.Stands.{Stands, stands-right, stands-tail, stands-within, length-entries}
-use Rattle.heads.specs.Items.{kindAt, aAt, bAt, oneAt, itemsAt}
-use Rattle.heads.specs.Trees.{Heads, length-map, length-Items}
-use Rattle.heads.specs.Defines.{labels-bulk}
-use Rattle.shapes.specs.Walk.{Table}
-use Rattle.shapes.specs.Steps.{head-of, table-next, below}
-use Rattle.roots.specs.Globals.{heads-here}
-use Rattle.roots.specs.Procedures.{Walled}
+use Rattle.language_laws.specs.Claims.{entriesOf}
+use Rattle.table_scopes.specs.Environment.{Item, item, envOf}
+use Rattle.table_scopes.specs.Stands.{Stands, stands-right, stands-tail, stands-within, length-entries}
+use Rattle.table_scopes.specs.Items.{kindAt, aAt, bAt, oneAt, itemsAt}
+use Rattle.table_scopes.specs.Trees.{Heads, length-map, length-Items}
+use Rattle.table_scopes.specs.Defines.{labels-bulk}
+use Rattle.table_forms.specs.Walk.{Table}
+use Rattle.table_forms.specs.Steps.{head-of, table-next, below}
+use Rattle.table_forms.specs.Globals.{heads-here}
+use Rattle.table_forms.specs.Procedures.{Walled}
 use Rattle.bytecode.specs.Instructions.{own, root}
 use Rattle.compile_code.specs.Code.{at}
 use Rattle.compile_code.specs.Compile.{Around, inside, global, scopesOf, heldIn, Proc}
 use Rattle.compile_code.specs.Encode.{startOfRoot, aroundBody, parameterCells, rootVariables, codeProc, codeBody}
 use Rattle.compile_names.specs.Known.{ofRoot, ofShared, scopes-parameters}
 use Rattle.compile_names.specs.Globals.{goodBody, good-tree}
-use Rattle.compile_known.specs.Numbers.{numbersFrom, numbersOf}
-use Rattle.compile_known.specs.Tabled.{Tabled}
-use Rattle.compile_pen.specs.declared.Pen.{Pen}
-use Rattle.compile_pen.specs.Ink.{Fits}
-use Rattle.compile_pen.specs.Folds.{penAfter, fits-before, later-moved}
+use Rattle.compile_symbols.specs.Numbers.{numbersFrom, numbersOf}
+use Rattle.compile_symbols.specs.Tabled.{Tabled}
+use Rattle.compile_output.specs.declared.Pen.{Pen}
+use Rattle.compile_output.specs.Ink.{Fits}
+use Rattle.compile_output.specs.Folds.{penAfter, fits-before, later-moved}
 use Rattle.compile_nodes.specs.Knows.{Lies, Walk}
 use Rattle.compile_nodes.specs.Ready.{Node, stmt, expr, Place, Lent, Stood, Ready, ReadyItems}
-use Rattle.compile_sight.specs.Heads.{Anything, around-root, around-shared, scopes-entering}
-use Rattle.compile_sight.specs.Roots.{length-classes, root-items-stand}
-use Rattle.compile_sight.specs.Sight.{afterHead, rootSight, startOfItems, aroundRoot, aroundProcedures, Rooted, sees-in-root, sees-in-procedures, knows-in-root, knows-in-procedures, lands-in-root, procedureSight, sees-in-procedure, knows-in-procedure, lands-in-procedure}
-use Rattle.compile_sight.specs.Cells.{within-items, within-S, within-E}
-use Rattle.compile_sight.specs.HeadOps.{head-held, head-cells, holds-open}
+use Rattle.compile_scopes.specs.Heads.{Anything, around-root, around-shared, scopes-entering}
+use Rattle.compile_scopes.specs.Roots.{length-classes, root-items-stand}
+use Rattle.compile_scopes.specs.Sight.{afterHead, rootSight, startOfItems, aroundRoot, aroundProcedures, Rooted, sees-in-root, sees-in-procedures, knows-in-root}
+use Rattle.compile_scopes.specs.Sight.{knows-in-procedures, lands-in-root, procedureSight, sees-in-procedure, knows-in-procedure, lands-in-procedure}
+use Rattle.compile_scopes.specs.Cells.{within-items, within-S, within-E}
+use Rattle.compile_scopes.specs.HeadOps.{head-held, head-cells, holds-open}
 use Rattle.compile_whole.specs.Heads.{rootItems}
 use Rattle.compile_whole.specs.Numbers.{classesBy, numbers-items, numbers-body}
 use Rattle.compile_whole.specs.Ends.{itemsEnds, procOf, procEnds}
@@ -68,7 +69,14 @@ lentOf env ends stack out = record { env = env; ends = ends; stack = stack; out 
 
 module _ {t : Tree} {l sizes env : List ℕ} {top : ℕ} {known : List ℕ} (s : Stage t l sizes env top known) where
   abbrev rooted : (aims : List ℕ) (pen : Pen) → Rooted t (walkOf t known aims pen)
-  rooted aims pen = record { readable = s .prepared .tabled .readable; good = s .prepared .faultless; cells = omega (arith, s .prepared .limited .root .cells); globals = refl; numbered = s .prepared .numbered }
+  rooted aims pen =
+      record {
+        readable = s .prepared .tabled .readable;
+        good = s .prepared .faultless;
+        cells = omega (arith, s .prepared .limited .root .cells);
+        globals = refl;
+        numbered = s .prepared .numbered;
+      }
 
   entries-fit : length (flatten t) ≡ length l / 8
   entries-fit = ap length (sym (s .prepared .tabled .same)) ∙ length-entries (length l / 8) l
@@ -172,7 +180,14 @@ module _ {t : Tree} {q : Proc} {l part : List ℕ} {place : ℕ} {sizes env : Li
         many = omega arith;
         result = omega arith;
         long = d .long;
-        within = omega (arith, stands-within _ _ (r .stands), length-append (map flatTyped (q .parameters)) (flatBody (q .body)), length-map flatTyped (q .parameters), length-entries (length l / 8) l);
+        within =
+            omega (
+              arith,
+              stands-within _ _ (r .stands),
+              length-append (map flatTyped (q .parameters)) (flatBody (q .body)),
+              length-map flatTyped (q .parameters),
+              length-entries (length l / 8) l,
+            );
       }
 
 -- its parameters are pushed behind a wall: so many at most
@@ -228,7 +243,9 @@ module _ (t : Tree) (l part : List ℕ) (place : ℕ) (sizes env : List ℕ) (to
 
   module _ (mid : List ℕ) (up : ℕ) (w : Walled l place (length xs) top env mid up) where
     abbrev Body-ready : Body → Type 0
-    Body-ready b = Ready (nodeOf b) (walkOf t known aims pen) (bodyPlace t xs (pen .address)) l (below part (8 * (1 + length xs))) 62 (place + 1 + length xs) sizes (lentOf mid ends stack out) up 0 0 pen
+    Body-ready b =
+        Ready (nodeOf b) (walkOf t known aims pen) (bodyPlace t xs (pen .address)) l (below part (8 * (1 + length xs))) 62
+        (place + 1 + length xs) sizes (lentOf mid ends stack out) up 0 0 pen
 
     sight-here : (b : Body) → Here b → envOf mid up ≡ procedureSight l place xs (rootSight l t)
     sight-here b r = w .now ∙ ap (λ (v : List Item). procedureSight l place xs v) (r .stage .sight)
@@ -237,8 +254,12 @@ module _ (t : Tree) (l part : List ℕ) (place : ℕ) (sizes env : List ℕ) (to
     stood b r =
         let s = r .stage in
         record {
-          sees = rw (sight-here b r) (sees-in-procedure (s .prepared .tabled .legible) place xs (flatBody b) (tail b r) (aroundProcedures t) (sees-in-procedures (s .prepared .tabled .legible) t (s .prepared .tabled .same)));
-          knows = rw (sight-here b r) (knows-in-procedure (s .prepared .tabled .legible) place xs (flatBody b) (tail b r) (knows-in-procedures (s .prepared .tabled .legible) t (s .prepared .tabled .same) (rooted s aims pen) (r .within))
+          sees =
+              rw (sight-here b r) (sees-in-procedure (s .prepared .tabled .legible) place xs (flatBody b) (tail b r) (aroundProcedures t)
+              (sees-in-procedures (s .prepared .tabled .legible) t (s .prepared .tabled .same)));
+          knows =
+              rw (sight-here b r) (knows-in-procedure (s .prepared .tabled .legible) place xs (flatBody b) (tail b r)
+              (knows-in-procedures (s .prepared .tabled .legible) t (s .prepared .tabled .same) (rooted s aims pen) (r .within))
               (omega (arith, length-classes (t .head), s .prepared .tabled .readable .classes)) (few-parameters xs b (r .keeps)) (r .numbered));
           held = body-held t xs;
           deep = refl;
@@ -250,7 +271,12 @@ module _ (t : Tree) (l part : List ℕ) (place : ℕ) (sizes env : List ℕ) (to
         }
 
     table-here : (b : Body) → Here b → Table l (below part (8 * (1 + length xs))) sizes (place + 1 + length xs)
-    table-here b r = rw (add-assoc place 1 (length xs)) (table-next (record { whole = r .whole; legible = r .stage .prepared .tabled .legible; known = r .stage .prepared .tabled .known }) (8 * (1 + length xs)) (1 + length xs) refl)
+    table-here b r =
+        rw (add-assoc place 1 (length xs)) (table-next (record {
+          whole = r .whole;
+          legible = r .stage .prepared .tabled .legible;
+          known = r .stage .prepared .tabled .known;
+        }) (8 * (1 + length xs)) (1 + length xs) refl)
 
     stands-here : (b : Body) → Here b → Stands (entriesOf l) (place + 1 + length xs) (flatBody b)
     stands-here b r = rw (length-map flatTyped xs) at (stands-right (map flatTyped xs) (flatBody b) (tail b r))
@@ -271,21 +297,35 @@ module _ (t : Tree) (l part : List ℕ) (place : ℕ) (sizes env : List ℕ) (to
     ready-body (proper z) r =
         record {
           table = table-here (proper z) r;
-          laid = record { stands = stands-here (proper z) r; cells = omega (arith, within-S z, r .keeps .cells); numbered = numbers-body (classesBy t) place xs (proper z) (r .numbered); aimed = r .aimed };
+          laid =
+              record {
+                stands = stands-here (proper z) r;
+                cells = omega (arith, within-S z, r .keeps .cells);
+                numbered = numbers-body (classesBy t) place xs (proper z) (r .numbered);
+                aimed = r .aimed;
+              };
           stood = stood (proper z) r;
           room = room-here (proper z) r;
           ending = omega (arith, entries-here (proper z) r, r .ending);
           fits = fits-here (proper z) r;
           deep = omega (arith, r .deep);
           good = rw (body-scopes t xs) (r .good);
-          lands = rw (sight-here (proper z) r) (lands-in-procedure (r .stage .prepared .tabled .legible) place xs (flatS z) (tail (proper z) r) (walkOf t known aims pen) (rootSight l t) (aroundBody t xs));
+          lands =
+              rw (sight-here (proper z) r) (lands-in-procedure (r .stage .prepared .tabled .legible) place xs (flatS z) (tail (proper z) r)
+              (walkOf t known aims pen) (rootSight l t) (aroundBody t xs));
           few-holds = omega (arith, r .keeps .holds);
           few-values = omega (arith, r .keeps .need);
         }
     ready-body (function u e) r =
         record {
           table = table-here (function u e) r;
-          laid = record { stands = stands-here (function u e) r; cells = omega (arith, within-E e, r .keeps .cells); numbered = numbers-body (classesBy t) place xs (function u e) (r .numbered); aimed = r .aimed };
+          laid =
+              record {
+                stands = stands-here (function u e) r;
+                cells = omega (arith, within-E e, r .keeps .cells);
+                numbered = numbers-body (classesBy t) place xs (function u e) (r .numbered);
+                aimed = r .aimed;
+              };
           stood = stood (function u e) r;
           room = room-here (function u e) r;
           ending = omega (arith, entries-here (function u e) r, r .ending);

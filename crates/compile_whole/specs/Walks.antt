@@ -10,23 +10,23 @@ use Rattle.language.specs.Program.{flatten}
 use Rattle.words.specs.Numbers.{wordAt}
 use Rattle.language.specs.Tree.{countItems, locals}
 use Rattle.language.specs.Limits.{headHolds}
-use Rattle.programs.specs.Claims.{entriesOf}
-use Rattle.spans.specs.Stands.{Stands}
-use Rattle.shapes.specs.Steps.{head-of, below}
+use Rattle.language_laws.specs.Claims.{entriesOf}
+use Rattle.table_scopes.specs.Stands.{Stands}
+use Rattle.table_forms.specs.Steps.{head-of, below}
 use Rattle.bytecode.specs.Instructions.{end}
 use Rattle.compile_code.specs.Code.{op, at}
 use Rattle.compile_code.specs.Compile.{procsOf}
 use Rattle.compile_code.specs.Encode.{recordOf, codeRoot, procParts, parts}
-use Rattle.compile_pen.specs.declared.Pen.{Pen}
-use Rattle.compile_pen.specs.Ink.{moved, inkOp, Fits, length-ink}
-use Rattle.compile_pen.specs.Folds.{lets, penAfter, inked, inked-op, grows, later-moved, fits-before, address-after, length-inked, within}
+use Rattle.compile_output.specs.declared.Pen.{Pen}
+use Rattle.compile_output.specs.Ink.{moved, inkOp, Fits, length-ink}
+use Rattle.compile_output.specs.Folds.{lets, penAfter, inked, inked-op, grows, later-moved, fits-before, address-after, length-inked, within}
 use Rattle.compile_bytes.specs.Bytes.{penAll, inkedAll, codesOf}
 use Rattle.compile_bytes.specs.Room.{fits-first, fits-within, all-within, inked-all-within}
 use Rattle.compile_nodes.specs.Knows.{Lies}
 use Rattle.compile_nodes.specs.Ready.{Lent, Kept, ReadyItems, DoneItems, AsksItems, AnswersItems}
-use Rattle.compile_known.specs.Tabled.{theTree, Headed}
-use Rattle.compile_sight.specs.Sight.{afterHead, startOfItems, aroundRoot}
-use Rattle.compile_sight.specs.HeadOps.{head-address}
+use Rattle.compile_symbols.specs.Tabled.{theTree, Headed}
+use Rattle.compile_scopes.specs.Sight.{afterHead, startOfItems, aroundRoot}
+use Rattle.compile_scopes.specs.HeadOps.{head-address}
 use Rattle.compile_whole.specs.Heads.{rootHead, rootItems, rootLets, root-pen, root-inked}
 use Rattle.compile_whole.specs.Ends.{itemsEnds, rootEnd, endedRoot, endedProcs, ended, Aims}
 use Rattle.compile_whole.specs.Stage.{Stage, walkOf, lentOf, items-fit, ready-items}
@@ -89,12 +89,14 @@ module _ {l : List ℕ} {count behind : ℕ} {sizes : List ℕ} {L : Lent} {top 
     same-dry : p .dry ≡ pen .dry
     same-dry = ap (λ (z : Pen). z .dry) (h .0) ∙ grows (rootHead (theTree l)) pen .same-dry
 
-    items-ready : ReadyItems (theTree l .items) (walkOf (theTree l) known aims p) (record { around = aroundRoot (theTree l); types = []; start = startOfItems (theTree l) }) l (below l (8 * behind)) items 63 behind sizes
+    items-ready : ReadyItems (theTree l .items) (walkOf (theTree l) known aims p)
+        (record { around = aroundRoot (theTree l); types = []; start = startOfItems (theTree l) }) l (below l (8 * behind)) items 63 behind sizes
         (lentOf (L .env) (L .ends) (L .stack) out) top held 0 p
     items-ready =
         let t = theTree l in
         rw (i ∙ root-long .1, o)
-        (ready-items (q .stage) aims (L .ends) (L .stack) out p (below l (8 * behind)) behind (q .placed) (take-all (length l - 8 * behind) (drop (8 * behind) l) (omega (arith, length-drop (8 * behind) l)))
+        (ready-items (q .stage) aims (L .ends) (L .stack) out p (below l (8 * behind)) behind (q .placed)
+        (take-all (length l - 8 * behind) (drop (8 * behind) l) (omega (arith, length-drop (8 * behind) l)))
         (λ d. q .aimed (sym same-dry ∙ d)) (q .ending) (q .stacked)
         (ap (λ (z : Pen). z .address) (h .0) ∙ head-address (t .head) (locals (t .head)) (at 0 0) pen (q .first))
         (ap (λ (z : Pen). z .inside) (h .0) ∙ (grows (rootHead t) pen .same-inside ∙ q .outer))
@@ -125,8 +127,10 @@ module _ {l : List ℕ} {count behind : ℕ} {sizes : List ℕ} {L : Lent} {top 
       lets-pen : penAfter (lets held) r ≡ penAfter (rootLets (theTree l)) (penAfter (rootItems (theTree l)) (penAfter (rootHead (theTree l)) pen))
       lets-pen = rw (o, items-pen)
 
-      lets-ink : inked (lets held) r (M .out) ≡ inked (rootLets (theTree l)) (penAfter (rootItems (theTree l)) (penAfter (rootHead (theTree l)) pen)) (inked (rootItems (theTree l)) (penAfter (rootHead (theTree l)) pen) (inked (rootHead (theTree l)) pen (L .out)))
-      lets-ink = ap (λ (n : ℕ). inked (lets n) r (M .out)) o ∙ (ap (λ (z : Pen). inked (rootLets (theTree l)) z (M .out)) items-pen ∙ ap (inked (rootLets (theTree l)) (penAfter (rootItems (theTree l)) (penAfter (rootHead (theTree l)) pen))) items-ink)
+      lets-ink : inked (lets held) r (M .out) ≡ inked (rootLets (theTree l)) (penAfter (rootItems (theTree l)) (penAfter (rootHead (theTree l)) pen))
+          (inked (rootItems (theTree l)) (penAfter (rootHead (theTree l)) pen) (inked (rootHead (theTree l)) pen (L .out)))
+      lets-ink = ap (λ (n : ℕ). inked (lets n) r (M .out)) o ∙ (ap (λ (z : Pen). inked (rootLets (theTree l)) z (M .out)) items-pen
+          ∙ ap (inked (rootLets (theTree l)) (penAfter (rootItems (theTree l)) (penAfter (rootHead (theTree l)) pen))) items-ink)
 
       same-items : length (M .out) ≡ length (L .out)
       same-items = y .kept .same-out ∙ same-out
@@ -144,7 +148,8 @@ module _ {l : List ℕ} {count behind : ℕ} {sizes : List ℕ} {L : Lent} {top 
         pub ends-some : 0 < length (M .ends)
         ends-some = omega (arith, y .kept .same-ends, q .ending, root-long .0)
 
-        pub root-done : {u v : Pen} {last later : List ℕ} → (v ≡ moved s) × (last ≡ inkOp s freed 0 0 0) → (u ≡ v) × (later ≡ set (M .ends) 0 (v .address)) → AnswersRoot l L (lentOf (M .env) later (M .stack) last) top pen u
+        pub root-done : {u v : Pen} {last later : List ℕ} → (v ≡ moved s) × (last ≡ inkOp s freed 0 0 0) → (u ≡ v)
+            × (later ≡ set (M .ends) 0 (v .address)) → AnswersRoot l L (lentOf (M .env) later (M .stack) last) top pen u
         unfolding inked recordOf
         root-done {u} {v} {last} {later} d g =
             let t = theTree l in
@@ -163,7 +168,10 @@ module _ {l : List ℕ} {count behind : ℕ} {sizes : List ℕ} {L : Lent} {top 
                 same-out = ap (length {A = ℕ}) b ∙ (length-ink s freed 0 0 0 ∙ same-freed);
               };
               penned = pu;
-              written = b ∙ (inked-op end 0 0 0 s (λ e. refl) freed ∙ (ap (λ (x : Pen). inked (op end) x freed) (f .0 ∙ lets-pen) ∙ (ap (inked (op end) (penAfter (rootLets t) (penAfter (rootItems t) (penAfter (rootHead t) pen)))) (f .1 ∙ lets-ink) ∙ sym (root-inked t pen (L .out)))));
+              written =
+                  b ∙ (inked-op end 0 0 0 s (λ e. refl) freed ∙ (ap (λ (x : Pen). inked (op end) x freed) (f .0 ∙ lets-pen)
+                  ∙ (ap (inked (op end) (penAfter (rootLets t) (penAfter (rootItems t) (penAfter (rootHead t) pen)))) (f .1 ∙ lets-ink)
+                  ∙ sym (root-inked t pen (L .out)))));
               ended = c ∙ (ap (λ (n : ℕ). set (M .ends) 0 n) z ∙ ap (λ (m : List ℕ). set m 0 (rootEnd t)) (items-done .ended ∙ ap (λ (n : ℕ). sets (L .ends) n (itemsEnds t)) (q .placed)));
             }
 
@@ -184,7 +192,8 @@ pub record AnswersWalk (l : List ℕ) (L M : Lent) (top : ℕ) (pen r : Pen) : T
   pub written : M .out ≡ inkedAll (codesOf (parts (theTree l))) pen (L .out)
   pub ended : M .ends ≡ ended (theTree l) (L .ends)
 
-module _ {l : List ℕ} {count behind : ℕ} {sizes env : List ℕ} {top : ℕ} {known aims ends out : List ℕ} {pen : Pen} (q : AsksWalk l count behind sizes env top known aims ends out pen) (stack : List ℕ) where
+module _ {l : List ℕ} {count behind : ℕ} {sizes env : List ℕ} {top : ℕ} {known aims ends out : List ℕ} {pen : Pen}
+    (q : AsksWalk l count behind sizes env top known aims ends out pen) (stack : List ℕ) where
   parts-are : codesOf (parts (theTree l)) ≡ codeRoot (theTree l) ∷ codesOf (procParts (theTree l) (procsOf (theTree l .head)) (rootEnd (theTree l)))
   unfolding parts
   parts-are = refl

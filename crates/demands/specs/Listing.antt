@@ -24,10 +24,10 @@ use Rattle.examples.specs.Cases.{casesCompute}
 use Rattle.examples.specs.Notation.{refusalOf, joined, feed}
 use Rattle.examples.specs.Listing.{table, code, passes}
 use Rattle.examples.specs.Formed.{listingTree, listing-formed, listing-within}
-use Rattle.loading.specs.Tests.{halves}
-use Rattle.loading.specs.Promises.{passed}
-use Rattle.safety.specs.Safety.{fresh-safe}
-use Rattle.lent_runs.specs.Terms.{Fed, runsOn, onBytes}
+use Rattle.bytecode_laws.specs.Tests.{halves}
+use Rattle.bytecode_laws.specs.Promises.{passed}
+use Rattle.bytecode_safety.specs.Safety.{fresh-safe}
+use Rattle.bytecode_runs.specs.Terms.{Fed, runsOn, onBytes}
 use Rattle.demands.specs.Terms.{Demanded}
 use Rattle.demands.specs.Third.{third}
 use Rattle.demands.specs.Second.{SameReadings, answered, events, EndsOn, second}

@@ -15,20 +15,20 @@ use Rattle.language.specs.Tree.{Tree}
 use Rattle.language.specs.Judge.{compileOn, compileRefused}
 use Rattle.language.specs.Execute.{illFormed, execute}
 use Rattle.language_laws.specs.Endings.{ByteReadings, EndsBy, GoesOn}
-use Rattle.programs.specs.Programs.{program-accepted}
+use Rattle.language_laws.specs.Programs.{program-accepted}
 use Rattle.bytecode.specs.Machine.{freshMachine}
 use Rattle.bytecode.specs.Runs.{Feed, finishes, runs}
 use Rattle.bytecode.specs.Runs.{Ran as PlainRan}
 use Rattle.bytecode.specs.State.{stateLength}
 use Rattle.bytecode.specs.Lent.{RanOn, startOn}
-use Rattle.safety.specs.Terms.{eventOf, eventsIn, eventsOf}
+use Rattle.bytecode_safety.specs.Terms.{eventOf, eventsIn, eventsOf}
 use Rattle.compile_code.specs.Encode.{compiled, macroOf}
 use Rattle.compile_order.specs.Order.{in-order, passes, fits}
 use Rattle.compile_runs.specs.Readings.{Follows, oracleOf, follows, oracle-bytes}
 use Rattle.compile_runs.specs.Enough.{Stepping, EndAnswered}
 use Rattle.compile_runs.specs.Singles.{singles, singles-length, singles-fed, singles-step, singles-follow}
 use Rattle.compile_runs.specs.Second.{itemsOf, answers, AsTree, as-tree}
-use Rattle.lent_runs.specs.Terms.{Fed, runsOn, onBytes}
+use Rattle.bytecode_runs.specs.Terms.{Fed, runsOn, onBytes}
 use Rattle.demands.specs.Third.{third}
 
 -- ── what the statement speaks of ──

@@ -11,8 +11,8 @@ use Rattle.bytecode.specs.Runs.{Feed, runs}
 use Rattle.bytecode.specs.Sound.{sound}
 use Rattle.bytecode.specs.State.{encode}
 use Rattle.bytecode.specs.Lent.{startOn}
-use Rattle.safety.specs.Terms.{holdsOf, releasesOf, eventsOf, stateAfter, Reaches, EachSafe}
-use Rattle.lent_runs.specs.Terms.{runsOn, onBytes}
+use Rattle.bytecode_safety.specs.Terms.{holdsOf, releasesOf, eventsOf, stateAfter, Reaches, EachSafe}
+use Rattle.bytecode_runs.specs.Terms.{runsOn, onBytes}
 
 -- start on lent bytes l, and then a run for each feed
 pub record Demanded (code : List ℕ) (m : Macro) (l : List ℕ) (fs : List Feed) : Type 0 where

@@ -20,18 +20,18 @@ use Rattle.bytecode.specs.Runs.{Feed, refuses}
 use Rattle.bytecode.specs.Sound.{sound}
 use Rattle.bytecode.specs.State.{stateLength, encode, decode}
 use Rattle.bytecode.specs.Lent.{runRefused, runOn}
-use Rattle.loading.specs.Promises.{passed}
-use Rattle.layout.specs.Layout
-use Rattle.layout.specs.Passing.{sized}
-use Rattle.safety.specs.Safety.{step-safe, fresh-safe, reached-safe, runs-safe}
+use Rattle.bytecode_laws.specs.Promises.{passed}
+use Rattle.bytecode_layout.specs.Layout
+use Rattle.bytecode_layout.specs.Passing.{sized}
+use Rattle.bytecode_safety.specs.Safety.{step-safe, fresh-safe, reached-safe, runs-safe}
 use Rattle.words.specs.Choice.{if_then_else_}
 use Rattle.language.specs.Tree.{Tree}
 use Rattle.language.specs.Judge.{Compiled, judgeTable, compileTree, compileRefused, writeMacro, compileOn}
-use Rattle.loading.specs.Promises.{passes-exactly}
+use Rattle.bytecode_laws.specs.Promises.{passes-exactly}
 use Rattle.compile_code.specs.Encode.{macroOf, compiled}
 use Rattle.compile_order.specs.Order.{accepted-passes}
-use Rattle.lent_runs.specs.Terms.{Fed, NoneSound}
-use Rattle.lent_runs.specs.Bytes.{runs-are, started, not-stuck, ten-if, ten-only}
+use Rattle.bytecode_runs.specs.Terms.{Fed, NoneSound}
+use Rattle.bytecode_runs.specs.Bytes.{runs-are, started, not-stuck, ten-if, ten-only}
 use Rattle.demands.specs.Terms.{Demanded}
 
 -- A macro that passes, any lent bytes of the right length, and any list of runs.
@@ -83,7 +83,8 @@ written code out = by (leb (length code) (length out)) refl
         ap (λ (i : ℕ). take i b) (sym k) ∙ ap (take (length code)) (sym l) ∙ front-of code out (leb-true (length code) (length out) h)
     by false h n b e = absurd (never-accepted (ap (λ (r : Compiled). r .verdict) e))
 
-judged-so : (l out : List ℕ) → Bytes l → (j : Judged Tree) → judgeTable l ≡ j → (n : ℕ) (b : List ℕ) → compileTree macroOf j out ≡ record { verdict = accepted n; bytes = b } → (m : Macro) × (judgeMacro (take n b) ≡ accepted m)
+judged-so : (l out : List ℕ) → Bytes l → (j : Judged Tree) → judgeTable l ≡ j → (n : ℕ) (b : List ℕ)
+    → compileTree macroOf j out ≡ record { verdict = accepted n; bytes = b } → (m : Macro) × (judgeMacro (take n b) ≡ accepted m)
 judged-so l out bytes (accepted t) h n b e = (compiled t, ap judgeMacro (written (macroOf t) out n b e) ∙ accepted-passes l bytes t h)
 judged-so l out bytes (refused r) h n b e = absurd (never-accepted (ap (λ (x : Compiled). x .verdict) e))
 

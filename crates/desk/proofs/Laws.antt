@@ -16,18 +16,18 @@ use Rattle.compile.specs.Verdict.{verdictOf as compiledOf}
 use Rattle.compile.specs.declared.Compiled.{Compiled}
 use Rattle.compile.specs.declared.Compiled.the-variants.{Done, Refused as Unmade}
 use Rattle.desk.specs.Compiled.{compiledNumbers, Short, short}
-use Rattle.table.specs.Checked.{checkedOf, place-small}
-use Rattle.table.specs.declared.Checked.{Checked}
-use Rattle.table.specs.declared.Checked.the-variants.{Accepted, Refused as Rejected}
-use Rattle.loader.specs.Loaded.{loadedOf, fields}
-use Rattle.loader.specs.declared.Loaded.{Loaded}
-use Rattle.loader.specs.declared.Loaded.the-variants.{Passes, Refused}
-use Rattle.running.specs.Answers.{verdictOf, answerOf}
-use Rattle.running.specs.Fields.{start-small, run-small}
-use Rattle.running.specs.declared.Started.{Started}
-use Rattle.running.specs.declared.Started.the-variants.{Refused as Declined}
-use Rattle.running.specs.declared.Ran.{Ran}
-use Rattle.running.specs.declared.Ran.the-variants.{Refused as Unrun}
+use Rattle.table_check.specs.Checked.{checkedOf, place-small}
+use Rattle.table_check.specs.declared.Checked.{Checked}
+use Rattle.table_check.specs.declared.Checked.the-variants.{Accepted, Refused as Rejected}
+use Rattle.load_check.specs.Loaded.{loadedOf, fields}
+use Rattle.load_check.specs.declared.Loaded.{Loaded}
+use Rattle.load_check.specs.declared.Loaded.the-variants.{Passes, Refused}
+use Rattle.run.specs.Answers.{verdictOf, answerOf}
+use Rattle.run.specs.Fields.{start-small, run-small}
+use Rattle.run.specs.declared.Started.{Started}
+use Rattle.run.specs.declared.Started.the-variants.{Refused as Declined}
+use Rattle.run.specs.declared.Ran.{Ran}
+use Rattle.run.specs.declared.Ran.the-variants.{Refused as Unrun}
 
 -- ── the table check ──
 abbrev checkedNumbers : Checked → Numbers

@@ -15,12 +15,12 @@ use Rattle.bytecode.specs.Runs.{Answer, happens, spends, finishes, refuses, hal
 use Rattle.bytecode.specs.State.{stateLength, encode}
 use Rattle.bytecode.specs.Lent.{RanOn, startOn, runOn}
 use Rattle.bytecode.specs.Answers.{verdictNumbers, answerNumbers, packed}
-use Rattle.loading.specs.Terms.{Each}
-use Rattle.loading.specs.Promises.{passed}
-use Rattle.safety.specs.Safety.{fresh-safe}
-use Rattle.lent_runs.specs.Terms.{Fed, runsOn, onBytes}
-use Rattle.lent_runs.specs.Bytes.{started, runs-are}
-use Rattle.running.specs.Fields.{Ranged, run-ranged}
+use Rattle.bytecode_laws.specs.Terms.{Each}
+use Rattle.bytecode_laws.specs.Promises.{passed}
+use Rattle.bytecode_safety.specs.Safety.{fresh-safe}
+use Rattle.bytecode_runs.specs.Terms.{Fed, runsOn, onBytes}
+use Rattle.bytecode_runs.specs.Bytes.{started, runs-are}
+use Rattle.run.specs.Fields.{Ranged, run-ranged}
 
 -- what C sees of a call: the number answered, and the state's bytes after it
 pub record Seen : Type 0 where

@@ -13,12 +13,12 @@ use Rattle.values.specs.Ends.{Refusal, refusal, Judged, accepted, refused}
 use Rattle.language.specs.Tree.{Tree}
 use Rattle.language.specs.Judge.{Compiled, judgeTable, compileTree, writeMacro, compileRefused, compileOn}
 use Rattle.bytecode.specs.Answers.{Numbers, doneNumbers, refusalNumbers}
-use Rattle.programs.specs.Programs.{accepted-program}
+use Rattle.language_laws.specs.Programs.{accepted-program}
 use Rattle.compile_code.specs.Encode.{compiled, macroOf}
 use Rattle.compile_macro.specs.Built.{writable, few-instructions}
 use Rattle.compile_order.specs.Order.{in-order}
 use Rattle.compile_bytes.specs.Room.{macro-most}
-use Rattle.table.specs.Small.{Narrow, narrow}
+use Rattle.table_check.specs.Small.{Narrow, narrow}
 
 abbrev pub compiledNumbers : Judged ℕ → Numbers
 compiledNumbers (accepted n) = doneNumbers n

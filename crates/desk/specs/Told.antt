@@ -15,8 +15,8 @@ use Rattle.bytecode.specs.Rules.{judgeMacro}
 use Rattle.bytecode.specs.Runs.{Answer, happens, spends, finishes, refuses, halts}
 use Rattle.bytecode.specs.Lent.{startOn, runOn}
 use Rattle.bytecode.specs.Answers.{Numbers, verdictNumbers, answerNumbers, packed}
-use Rattle.table.specs.Small.{Narrow, narrow}
-use Rattle.running.specs.Fields.{Small, Ranged, judged-small, start-small, run-ranged}
+use Rattle.table_check.specs.Small.{Narrow, narrow}
+use Rattle.run.specs.Fields.{Small, Ranged, judged-small, start-small, run-ranged}
 use Rattle.words.specs.Choice.{if_then_else_}
 use Rattle.compile_code.specs.Encode.{macroOf}
 use Rattle.desk.specs.Compiled.{compiledNumbers, Short, short}

@@ -1,7 +1,7 @@
 // The table check.
 use crate::pack;
 use crate::pack_refusal;
-use table::Checked;
+use table_check::Checked;
 ghost use mathlib.Core.Path.{_≡_};
 ghost use Rattle.language.specs.Judge.{judgeTable};
 ghost use Rattle.bytecode.specs.Answers.{packed, verdictNumbers};
@@ -10,7 +10,7 @@ ghost use Rattle.bytecode.specs.Answers.{packed, verdictNumbers};
 pub extern "C" fn cue_check(table: &[u8]) -> u64
     ensures { λ r. ⌜ r ≡ packed (verdictNumbers (judgeTable (now (table .entry)))) ⌝ }
 {
-    match table::check(table) {
+    match table_check::check(table) {
         Checked::Accepted => pack(1, 0, 0, 0),
         Checked::Refused(number, place) => pack_refusal(number, place),
     }

@@ -1,13 +1,13 @@
 // Start and run, on a state's bytes that C lends.
 use crate::pack;
 use crate::pack_refusal;
-use ops::Event;
-use running::Ran;
-use running::Started;
+use machine_ops::Event;
+use run::Ran;
+use run::Started;
 ghost use mathlib.Core.Path.{_≡_};
 ghost use Rattle.bytecode.specs.Answers.{packed, eventNumbers};
 ghost use Rattle.desk.specs.Calls.{feed, cueStart, cueRun};
-ghost use Rattle.running.specs.Answers.{eventBack};
+ghost use Rattle.run.specs.Answers.{eventBack};
 
 fn pack_event(e: Event, steps: u16) -> u64
     ensures { λ r. ⌜ r ≡ packed (eventNumbers (eventBack e) steps) ⌝ }
@@ -24,7 +24,7 @@ fn pack_event(e: Event, steps: u16) -> u64
 pub extern "C" fn cue_start(code: &[u8], state: &mut [u8]) -> u64
     ensures { λ r. ⌜ (r ≡ cueStart (now (code .entry)) (now (state .entry)) .answer) × (now (state .exit) ≡ cueStart (now (code .entry)) (now (state .entry)) .state) ⌝ }
 {
-    match running::start(code, state) {
+    match run::start(code, state) {
         Started::Fresh => pack(1, 0, 0, 0),
         Started::Refused(number, place) => pack_refusal(number, place),
     }
@@ -35,7 +35,7 @@ pub extern "C" fn cue_start(code: &[u8], state: &mut [u8]) -> u64
 pub extern "C" fn cue_run(code: &[u8], state: &mut [u8], readings: &[u8], allowance: u16) -> u64
     ensures { λ r. ⌜ (r ≡ cueRun (now (code .entry)) (now (state .entry)) (feed (now (readings .entry)) allowance) .answer) × (now (state .exit) ≡ cueRun (now (code .entry)) (now (state .entry)) (feed (now (readings .entry)) allowance) .state) ⌝ }
 {
-    match running::run(code, state, readings, allowance) {
+    match run::run(code, state, readings, allowance) {
         Ran::Happens(e, steps) => pack_event(e, steps),
         Ran::Spends(steps) => pack(2, steps as u64, 0, 0),
         Ran::Finishes(end, steps) => pack(3, steps as u64, end as u64, 0),

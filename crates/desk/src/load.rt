@@ -1,7 +1,7 @@
 // The loading check.
 use crate::pack;
 use crate::pack_refusal;
-use loader::Loaded;
+use load_check::Loaded;
 ghost use mathlib.Core.Path.{_≡_};
 ghost use Rattle.bytecode.specs.Rules.{judgeMacro};
 ghost use Rattle.bytecode.specs.Answers.{packed, verdictNumbers};
@@ -10,7 +10,7 @@ ghost use Rattle.bytecode.specs.Answers.{packed, verdictNumbers};
 pub extern "C" fn cue_load(code: &[u8]) -> u64
     ensures { λ r. ⌜ r ≡ packed (verdictNumbers (judgeMacro (now (code .entry)))) ⌝ }
 {
-    match loader::load(code) {
+    match load_check::load(code) {
         Loaded::Passes => pack(1, 0, 0, 0),
         Loaded::Refused(number, place) => pack_refusal(number, place),
     }

@@ -150,5 +150,6 @@ stateHolds (held l ss flag) = heldAs (judgeMacro l) ss flag
 
 -- opens all of this, and the definitions
 unfoldable pub casesCompute : Unit {0}
-unfolding valuesCompute languageComputes bytecodeComputes bytes equalLists prefixOf failing tableHolds macroHolds itemNumbers ranAs executionHolds bank feeds answersOf lastSound runsHold spread stateHolds
+unfolding valuesCompute languageComputes bytecodeComputes bytes equalLists prefixOf failing tableHolds macroHolds itemNumbers ranAs executionHolds
+    bank feeds answersOf lastSound runsHold spread stateHolds
 casesCompute = tt

@@ -9,7 +9,8 @@ use Rattle.values.specs.Types.{Ty, integer}
 use Rattle.values.specs.Operators.{plus}
 use Rattle.language.specs.Tree.{typed, declare, holding, Stmt, block, setLevel, goto, Items, item, label, noItem, number, truth, operate2, proper, Global, local, procedure, Tree}
 use Rattle.language.specs.Names.{Definition, nowhere, firstOf}
-use Rattle.language.specs.Formed.{Blocks, Reachable, Defines, d-none, d-more, HasType, t-number, t-truth, t-operate2, Formed, s-block, s-goto, s-set, ItemsFormed, i-none, i-label, i-item, BodyFormed, b-proper, WellFormed, KeepsLimits}
+use Rattle.language.specs.Formed.{Blocks, Reachable, Defines, d-none, d-more, HasType, t-number, t-truth, t-operate2, Formed, s-block, s-goto, s-set, ItemsFormed, i-none}
+use Rattle.language.specs.Formed.{i-label, i-item, BodyFormed, b-proper, WellFormed, KeepsLimits}
 use Rattle.examples.specs.Cases.{casesCompute}
 
 clash : {A : Type 0} → _≡_ {A = ℕ} 0 1 → A

@@ -16,7 +16,9 @@ use Rattle.values.specs.Operators.{Binary, both, either, binaryCode}
 use Rattle.values.specs.Arithmetic.{Outcome, gives, ends, mistyped}
 use Rattle.values.specs.Values.{Value, int, log, bit, ref, asInteger, asLogical, asReference, Cell, assigned, fresh, between, size, apply1, apply2}
 use Rattle.values.specs.Trace.{Event, set, hold, release, Item, event, reading}
-use Rattle.language.specs.Tree.{Typed, Decl, declare, holding, Stmt, block, assign, when, choose, while, goto, assert, call, setLevel, select, Items, noItem, label, item, Arms, lastArm, arm, Target, toVariable, toField, Expr, number, truth, pattern, null, variable, invoke, field, make, operate1, operate2, conditional, fader, blockExpr, Exprs, noExpr, expr, Body, proper, function, Global, local, class, procedure, Tree, locals}
+use Rattle.language.specs.Tree.{Typed, Decl, declare, holding, Stmt, block, assign, when, choose, while, goto, assert, call, setLevel, select, Items, noItem, label}
+use Rattle.language.specs.Tree.{item, Arms, lastArm, arm, Target, toVariable, toField, Expr, number, truth, pattern, null, variable, invoke, field, make, operate1}
+use Rattle.language.specs.Tree.{operate2, conditional, fader, blockExpr, Exprs, noExpr, expr, Body, proper, function, Global, local, class, procedure, Tree, locals}
 
 -- ── the state of an execution ──
 -- a variable or a field: its name and what it holds

@@ -12,7 +12,9 @@ use Rattle.words.specs.Lists.{among}
 use Rattle.values.specs.Types.{Ty, integer, logical, bits, reference, same, fits, allFit}
 use Rattle.values.specs.Ends.{Refusal, refusal}
 use Rattle.values.specs.Operators.{unary, binary, opType}
-use Rattle.language.specs.Tree.{Typed, Decl, declare, holding, Stmt, block, assign, when, choose, while, goto, assert, call, setLevel, select, Items, noItem, label, item, Arms, lastArm, arm, Target, toVariable, toField, Expr, number, truth, pattern, null, variable, invoke, field, make, operate1, operate2, conditional, fader, blockExpr, Exprs, noExpr, expr, Body, proper, function, Global, local, class, procedure, Tree}
+use Rattle.language.specs.Tree.{Typed, Decl, declare, holding, Stmt, block, assign, when, choose, while, goto, assert, call, setLevel, select, Items, noItem, label}
+use Rattle.language.specs.Tree.{item, Arms, lastArm, arm, Target, toVariable, toField, Expr, number, truth, pattern, null, variable, invoke, field, make, operate1}
+use Rattle.language.specs.Tree.{operate2, conditional, fader, blockExpr, Exprs, noExpr, expr, Body, proper, function, Global, local, class, procedure, Tree}
 use Rattle.language.specs.Measure.{Measure, measureS, measureItems, measureArms, measureTarget, measureE, measureEs}
 use Rattle.language.specs.Names.{Sort, asVariable, asLabel, asClass, asField, asProcedure, Scope, blockOf, expressionOf, procedureOf, rootOf, Found, nowhere, found, lookup}
 

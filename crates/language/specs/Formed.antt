@@ -11,8 +11,11 @@ use lib.IntN.{ℤ}
 use lib.ListN.{getElem?}
 use Rattle.values.specs.Types.{Ty, integer, logical, bits, reference, fits}
 use Rattle.values.specs.Operators.{Unary, Binary, unary, binary, opType}
-use Rattle.language.specs.Tree.{Typed, Decl, Stmt, block, assign, when, choose, while, goto, assert, call, setLevel, select, Items, noItem, label, item, Arms, lastArm, arm, Target, toVariable, toField, Expr, number, truth, pattern, null, variable, invoke, field, make, operate1, operate2, conditional, fader, blockExpr, Exprs, noExpr, expr, Body, proper, function, Global, procedure, Tree}
-use Rattle.language.specs.Names.{Sort, isVariable, isLabel, isClass, isField, isProcedure, Definition, Scope, definitions, blockOf, expressionOf, procedureOf, rootOf, nowhere, found, firstOf, lookup}
+use Rattle.language.specs.Tree.{Typed, Decl, Stmt, block, assign, when, choose, while, goto, assert, call, setLevel, select, Items, noItem, label, item, Arms}
+use Rattle.language.specs.Tree.{lastArm, arm, Target, toVariable, toField, Expr, number, truth, pattern, null, variable, invoke, field, make, operate1, operate2}
+use Rattle.language.specs.Tree.{conditional, fader, blockExpr, Exprs, noExpr, expr, Body, proper, function, Global, procedure, Tree}
+use Rattle.language.specs.Names.{Sort, isVariable, isLabel, isClass, isField, isProcedure, Definition, Scope, definitions, blockOf, expressionOf, procedureOf}
+use Rattle.language.specs.Names.{rootOf, nowhere, found, firstOf, lookup}
 use Rattle.language.specs.Limits.{Usage, bodyUsage, rootUsage}
 
 -- ── names ──

@@ -11,7 +11,10 @@ use Rattle.words.specs.Lists.{all}
 use Rattle.words.specs.Numbers.{half, word, wordOf}
 use Rattle.values.specs.Types.{tyCode}
 use Rattle.values.specs.Operators.{unaryCode, binaryCode}
-use Rattle.language.specs.Tree.{Typed, Decl, declare, holding, Stmt, block, assign, when, choose, while, goto, assert, call, setLevel, select, Items, noItem, label, item, Arms, lastArm, arm, Target, toVariable, toField, Expr, number, truth, pattern, null, variable, invoke, field, make, operate1, operate2, conditional, fader, blockExpr, Exprs, noExpr, expr, Body, proper, function, Global, local, class, procedure, Tree, countItems, countArms, countExprs}
+use Rattle.language.specs.Tree.{Typed, Decl, declare, holding, Stmt, block, assign, when, choose, while, goto, assert, call, setLevel, select, Items, noItem, label}
+use Rattle.language.specs.Tree.{item, Arms, lastArm, arm, Target, toVariable, toField, Expr, number, truth, pattern, null, variable, invoke, field, make, operate1}
+use Rattle.language.specs.Tree.{operate2, conditional, fader, blockExpr, Exprs, noExpr, expr, Body, proper, function, Global, local, class, procedure, Tree}
+use Rattle.language.specs.Tree.{countItems, countArms, countExprs}
 use Rattle.language.specs.Measure.{Measure, measureS, measureItems, measureArms, measureTarget, measureE, measureEs}
 use Rattle.language.specs.Table.{Entry, entry, inLayout, classCount, procedureCount}
 use Rattle.language.specs.Formed.{WellFormed, KeepsLimits}

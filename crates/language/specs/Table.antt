@@ -14,7 +14,10 @@ use Rattle.values.specs.Ends.{refusal, Judged, accepted, refused}
 use Rattle.values.specs.Operators.{negate, plus, unaryOf, binaryOf}
 use Rattle.values.specs.Arithmetic.{isZero}
 use Rattle.values.specs.Values.{between}
-use Rattle.language.specs.Tree.{Typed, typed, Decl, declare, holding, Stmt, block, assign, when, choose, while, goto, assert, call, setLevel, select, Items, noItem, label, item, Arms, lastArm, arm, Target, toVariable, toField, Expr, number, truth, pattern, null, variable, invoke, field, make, operate1, operate2, conditional, fader, blockExpr, Exprs, noExpr, expr, Body, proper, function, Global, local, class, procedure, Tree}
+use Rattle.language.specs.Tree.{Typed, typed, Decl, declare, holding, Stmt, block, assign, when, choose, while, goto, assert, call, setLevel, select, Items, noItem}
+use Rattle.language.specs.Tree.{label, item, Arms, lastArm, arm, Target, toVariable, toField, Expr, number, truth, pattern, null, variable, invoke, field, make}
+use Rattle.language.specs.Tree.{operate1, operate2, conditional, fader, blockExpr, Exprs, noExpr, expr, Body, proper, function, Global, local, class, procedure}
+use Rattle.language.specs.Tree.{Tree}
 
 -- "Entries of 8 bytes: kind (u16), a (u16), b (32 bits, signed), in prefix order."
 pub record Entry : Type 0 where

@@ -15,8 +15,8 @@ use Rattle.values.specs.Conditions.{condition-byte}
 use Rattle.values.specs.Trace.{Event, set, hold, release}
 use Rattle.bytecode.specs.Runs.{Answer, happens, spends, finishes, refuses, halts}
 use Rattle.bytecode.specs.Lent.{runOn}
-use Rattle.safety.specs.Terms.{InRange}
-use Rattle.running.specs.Fields.{Ranged, run-ranged}
+use Rattle.bytecode_safety.specs.Terms.{InRange}
+use Rattle.run.specs.Fields.{Ranged, run-ranged}
 use Rattle.listing_text.specs.Text.{digit, digits, decimal, numbers, eventLine, endLine, openLine, refusedLine, answerLine, afterEvent, zeros, runsText, linesOf}
 use Rattle.listing_text.specs.Steps.{Within, event-within}
 

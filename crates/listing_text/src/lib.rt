@@ -4,12 +4,12 @@ mod lines;
 use compile::Compiled;
 use formats::limits::*;
 use formats::state::*;
-use running::Ran;
-use running::Started;
+use run::Ran;
+use run::Started;
 ghost use mathlib.Core.Path.{_≡_};
 ghost use Prim.Native.Nat.{_≤_};
 ghost use lib.ListN.{length};
-ghost use Rattle.running.specs.Answers.{answerOf};
+ghost use Rattle.run.specs.Answers.{answerOf};
 ghost use Rattle.listing_text.specs.Text.{linesOf, macroText, listingOf};
 ghost use Rattle.listing_text.specs.Steps.{eventSteps};
 ghost use Rattle.listing_text.specs.Length.{textRoom};
@@ -37,7 +37,7 @@ fn list_runs(code: &[u8], state: &mut [u8], text: &mut [u8]) -> usize
     let mut at = 0;
     let mut goes = true;
     while goes {
-        let a = running::run(code, state, &readings, left);
+        let a = run::run(code, state, &readings, left);
         at = lines::put_answer(text, at, a);
         let n = event_steps(a);
         left -= n;
@@ -51,7 +51,7 @@ fn list_macro(code: &[u8], state: &mut [u8], text: &mut [u8]) -> usize
     requires { ⌜ textRoom ≤ length (now text) ⌝ }
     ensures { λ r. ⌜ Lists (macroText (now (code .entry)) (now (state .entry))) (now (text .entry)) (now (text .exit)) r ⌝ }
 {
-    match running::start(code, state) {
+    match run::start(code, state) {
         Started::Refused(number, place) => lines::put_refused(text, 0, number, place),
         Started::Fresh => list_runs(code, state, text),
     }

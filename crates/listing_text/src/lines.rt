@@ -1,11 +1,11 @@
 // The lines of a listing, written into lent bytes from an index on. Each function answers the index after what it wrote.
-use ops::Event;
-use running::Ran;
+use machine_ops::Event;
+use run::Ran;
 ghost use mathlib.Core.List.{_∷_, [], _++_};
 ghost use Prim.Native.Nat.{_+_, _≤_};
 ghost use lib.ListN.{length};
 ghost use Rattle.values.specs.Ends.{refusal};
-ghost use Rattle.running.specs.Answers.{eventBack, answerOf};
+ghost use Rattle.run.specs.Answers.{eventBack, answerOf};
 ghost use Rattle.listing_text.specs.Text.{decimal, numbers, line, eventLine, refusedLine, answerLine};
 ghost use Rattle.listing_text.specs.Writing.{Puts};
 

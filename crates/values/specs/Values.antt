@@ -9,7 +9,8 @@ use lib.Signed.{ltZ, leZ}
 use Rattle.words.specs.Choice.{if_then_else_}
 use Rattle.words.specs.Options.{ifSome}
 use Rattle.values.specs.Types.{Ty, integer, logical, bits, reference}
-use Rattle.values.specs.Operators.{Unary, negate, absolute, complement, Binary, plus, minus, times, divide, remainder, less, atMost, greater, atLeast, equal, unequal, both, either, shiftLeft, shiftRight}
+use Rattle.values.specs.Operators.{Unary, negate, absolute, complement, Binary, plus, minus, times, divide, remainder, less, atMost, greater, atLeast, equal}
+use Rattle.values.specs.Operators.{unequal, both, either, shiftLeft, shiftRight}
 use Rattle.values.specs.Arithmetic.{Outcome, gives, ends, mistyped, sum, difference, product, quotient, rest, negation, magnitude, andBits, orBits, notBits, shiftedLeft, shiftedRight}
 
 -- a reference has its class; it is null or a record's number, records counted from 0 as they are made

@@ -12,13 +12,17 @@ abbrev μ-loop : tie.MeasureT-loop
 μ-loop table count sizes known out₀ place₀ left₀ p₀ out place left p = left
 
 loop-holds : tie.Need-loop-holds Inv-loop μ-loop
-loop-holds c = head-start (c .before .before .before .before .args .out .now) (c .before .before .before .before .args .pen) (c .before .before .before .before .pre .0) (c .before .before .before .before .pre .1)
+loop-holds c =
+    let at-start = c .before .before .before .before in
+    head-start (at-start .args .out .now) (at-start .args .pen) (at-start .pre .0) (at-start .pre .1)
 
 mul-from : tie.Need-mul-from Inv-loop μ-loop
-mul-from c = omega (arith, head-within (c .before .before .before .before .before .before .pre .0) (c .before .loop .inv) (omega arith) .within, c .before .before .before .before .before .before .pre .0 .tabled .legible .short)
-
-known-at-requires : tie.Need-known-at-requires Inv-loop μ-loop
-known-at-requires c κs = search needs
+mul-from c =
+    omega (
+      arith,
+      head-within (c .before .before .before .before .before .before .pre .0) (c .before .loop .inv) (omega arith) .within,
+      c .before .before .before .before .before .before .pre .0 .tabled .legible .short,
+    )
 
 sub-declare-one : tie.Need-sub-declare-one Inv-loop μ-loop
 sub-declare-one c = omega (arith, head-within (c .before .before .before .before .before .before .before .pre .0) (c .before .before .loop .inv) (omega arith) .within)
@@ -26,29 +30,36 @@ sub-declare-one c = omega (arith, head-within (c .before .before .before .before
 part-declare-one-start : tie.Need-part-declare-one-start Inv-loop μ-loop
 part-declare-one-start c = omega (arith, head-within (c .before .before .before .before .before .before .before .pre .0) (c .before .before .loop .inv) (omega arith) .within)
 
-part-declare-one-end : tie.Need-part-declare-one-end Inv-loop μ-loop
-part-declare-one-end c = search needs
-
 declare-one-requires : tie.Need-declare-one-requires Inv-loop μ-loop
-declare-one-requires c κs = (head-part (c .before .before .before .before .before .before .before .before .before .pre .0) (c .before .before .before .before .loop .inv) (omega arith), head-fits (c .before .before .before .before .before .before .before .before .before .pre .0) (c .before .before .before .before .loop .inv) (omega arith) (c .before .before .before .before .before .before .before .before .before .pre .2))
+declare-one-requires c κs = (
+  head-part (c .before .before .before .before .before .before .before .before .before .pre .0) (c .before .before .before .before .loop .inv)
+      (omega arith),
+  head-fits (c .before .before .before .before .before .before .before .before .before .pre .0)
+      (c .before .before .before .before .loop .inv) (omega arith) (c .before .before .before .before .before .before .before .before .before .pre .2),
+)
 
 size-at-requires : tie.Need-size-at-requires Inv-loop μ-loop
-size-at-requires c κs = let w = head-within (c .before .before .before .before .before .before .before .before .before .before .before .before .pre .0) (c .before .before .before .before .before .before .before .loop .inv) (omega arith) in omega (arith, w .some, w .within, w .wide)
+size-at-requires c κs =
+    let w = head-within (c .before .before .before .before .before .before .before .before .before .before .before .before .pre .0)
+    (c .before .before .before .before .before .before .before .loop .inv) (omega arith) in omega (arith, w .some, w .within, w .wide)
 
 add-place : tie.Need-add-place Inv-loop μ-loop
-add-place c = let w = head-within (c .before .before .before .before .before .before .before .before .before .before .before .before .before .pre .0) (c .before .before .before .before .before .before .before .before .loop .inv) (omega arith) in omega (arith, w .within, c .size-at .ensures, c .before .before .before .before .before .before .before .before .before .before .before .before .before .pre .0 .tabled .legible .short)
-
-sub-left : tie.Need-sub-left Inv-loop μ-loop
-sub-left c = omega arith
-
-loop-less : tie.Need-loop-less Inv-loop μ-loop
-loop-less c = omega arith
+add-place c =
+    let w = head-within (c .before .before .before .before .before .before .before .before .before .before .before .before .before .pre .0)
+    (c .before .before .before .before .before .before .before .before .loop .inv) (omega arith) in
+    omega (arith, w .within, c .size-at .ensures, c .before .before .before .before .before .before .before .before .before .before .before .before .before .pre .0 .tabled .legible .short)
 
 loop-again : tie.Need-loop-again Inv-loop μ-loop
-loop-again c = head-again (c .before .before .before .before .before .before .before .before .before .before .before .before .before .pre .0) (c .before .before .before .before .before .before .before .before .loop .inv) (omega arith) (c .before .before .before .before .before .before .known-at .result) (c .size-at .result) _ _ (c .before .before .before .before .before .before .known-at .ensures) (c .size-at .ensures) (c .before .before .before .declare-one .ensures)
+loop-again c =
+    head-again (c .before .before .before .before .before .before .before .before .before .before .before .before .before .pre .0)
+    (c .before .before .before .before .before .before .before .before .loop .inv) (omega arith)
+    (c .before .before .before .before .before .before .known-at .result) (c .size-at .result) _ _
+    (c .before .before .before .before .before .before .known-at .ensures) (c .size-at .ensures) (c .before .before .before .declare-one .ensures)
 
 same-length : tie.Need-same-length Inv-loop μ-loop
-same-length c = same-out (c .before .before .before .before .before .before .pre .0) (c .before .loop .inv)
+same-length c =
+    let at-start = c .before .before .before .before .before .before in
+    same-out (at-start .pre .0) (c .before .loop .inv)
 
 returns : tie.Need-returns Inv-loop μ-loop
 returns c = head-end (c .before .before .before .before .before .before .pre .0) (c .before .loop .inv) (omega arith)
@@ -61,15 +72,15 @@ declare-globals-spec =
     μ-loop
     loop-holds
     mul-from
-    known-at-requires
+    (λ c κs. search needs)
     sub-declare-one
     part-declare-one-start
-    part-declare-one-end
+    (λ c. search needs)
     declare-one-requires
     size-at-requires
     add-place
-    sub-left
-    loop-less
+    (λ c. omega arith)
+    (λ c. omega arith)
     loop-again
     same-length
     returns)

@@ -7,25 +7,23 @@ use Rattle.compile_bodies.proofs.global.Statement.{statement}
 use Rattle.compile_bodies.proofs.global.Tie as tie
 
 half-at-requires : tie.Need-half-at-requires
-half-at-requires c κs = omega (arith, global-long (c .before .before .before .before .before .before .before .before .before .pre))
+half-at-requires c κs =
+    let at-start = c .before .before .before .before .before .before .before .before .before in
+    omega (arith, global-long (at-start .pre))
 
 procedure-requires : tie.Need-procedure-requires
-procedure-requires c κs = global-asks (c .before .before .before .before .before .before .before .before .before .before .before .before .before .before .before .pre) (sym (c .before .before .before .before .before .half-at .ensures) ∙ c .before .before .before .before .if1 .taken)
-
-same-length : tie.Need-same-length
-same-length c = search needs
-
-same-length-2 : tie.Need-same-length-2
-same-length-2 c = search needs
-
-same-length-3 : tie.Need-same-length-3
-same-length-3 c = search needs
-
-same-length-4 : tie.Need-same-length-4
-same-length-4 c = search needs
+procedure-requires c κs =
+    let at-if1 = c .before .before .before .before in
+    let at-half-at = at-if1 .before in
+    let at-start = at-half-at .before .before .before .before .before .before .before .before .before .before in
+    global-asks (at-start .pre) (sym (at-half-at .half-at .ensures) ∙ at-if1 .if1 .taken)
 
 returns : tie.Need-returns
-returns c = global-done (sym (c .before .before .before .before .before .before .before .before .before .before .before .before .before .before .half-at .ensures) ∙ c .before .before .before .before .before .before .before .before .before .before .before .before .before .if1 .taken) (c .before .before .before .before .before .before .before .before .procedure .ensures)
+returns c =
+    let at-procedure = c .before .before .before .before .before .before .before .before in
+    let at-if1 = at-procedure .before .before .before .before .before in
+    let at-half-at = at-if1 .before in
+    global-done (sym (at-half-at .half-at .ensures) ∙ at-if1 .if1 .taken) (at-procedure .procedure .ensures)
 
 returns-2 : tie.Need-returns-2
 returns-2 c = global-none (λ e. c .if1 .left (c .before .half-at .ensures ∙ e))
@@ -36,9 +34,9 @@ global-spec =
     (tie.spec
     half-at-requires
     procedure-requires
-    same-length
-    same-length-2
-    same-length-3
-    same-length-4
+    (λ c. search needs)
+    (λ c. search needs)
+    (λ c. search needs)
+    (λ c. search needs)
     returns
     returns-2)

@@ -15,10 +15,18 @@ abbrev μ-loop : tie.MeasureT-loop
     left
 
 loop-holds : tie.Need-loop-holds Inv-loop μ-loop
-loop-holds c = procs-start (c .before .before .before .before .before .before .before .before .pre)
+loop-holds c =
+    let at-start = c .before .before .before .before .before .before .before .before in
+    procs-start (at-start .pre)
 
 mul-from : tie.Need-mul-from Inv-loop μ-loop
-mul-from c = omega (arith, procs-within (c .before .before .before .before .before .before .before .before .before .before .pre) (c .before .loop .inv) (omega arith) .within, c .before .before .before .before .before .before .before .before .before .before .pre .stage .prepared .tabled .legible .short)
+mul-from c =
+    omega (
+      arith,
+      procs-within (c .before .before .before .before .before .before .before .before .before .before .pre) (c .before .loop .inv)
+          (omega arith) .within,
+      c .before .before .before .before .before .before .before .before .before .before .pre .stage .prepared .tabled .legible .short,
+    )
 
 sub-global : tie.Need-sub-global Inv-loop μ-loop
 sub-global c = omega (arith, procs-within (c .before .before .before .before .before .before .before .before .before .before .pre) (c .before .loop .inv) (omega arith) .within)
@@ -26,38 +34,28 @@ sub-global c = omega (arith, procs-within (c .before .before .before .before .be
 part-global-start : tie.Need-part-global-start Inv-loop μ-loop
 part-global-start c = omega (arith, procs-within (c .before .before .before .before .before .before .before .before .before .before .pre) (c .before .loop .inv) (omega arith) .within)
 
-part-global-end : tie.Need-part-global-end Inv-loop μ-loop
-part-global-end c = search needs
-
 global-requires : tie.Need-global-requires Inv-loop μ-loop
-global-requires c κs = procs-asks (c .before .before .before .before .before .before .before .before .before .before .before .before .before .before .before .pre) (c .before .before .before .before .before .before .loop .inv) (omega arith)
+global-requires c κs =
+    procs-asks (c .before .before .before .before .before .before .before .before .before .before .before .before .before .before .before .pre)
+    (c .before .before .before .before .before .before .loop .inv) (omega arith)
 
 size-at-requires : tie.Need-size-at-requires Inv-loop μ-loop
-size-at-requires c κs = let w = procs-within (c .before .before .before .before .before .before .before .before .before .before .before .before .before .before .before .before .before .before .before .before .before .before .before .before .pre) (c .before .before .before .before .before .before .before .before .before .before .before .before .before .before .before .loop .inv) (omega arith) in omega (arith, w .some, w .within, w .wide)
+size-at-requires c κs =
+    let w = procs-within (c .before .before .before .before .before .before .before .before .before .before .before .before .before .before .before .before .before .before .before .before .before .before .before .before .pre)
+    (c .before .before .before .before .before .before .before .before .before .before .before .before .before .before .before .loop .inv)
+    (omega arith) in omega (arith, w .some, w .within, w .wide)
 
 add-place : tie.Need-add-place Inv-loop μ-loop
-add-place c = let w = procs-within (c .before .before .before .before .before .before .before .before .before .before .before .before .before .before .before .before .before .before .before .before .before .before .before .before .before .pre) (c .before .before .before .before .before .before .before .before .before .before .before .before .before .before .before .before .loop .inv) (omega arith) in omega (arith, w .within, c .size-at .ensures, c .before .before .before .before .before .before .before .before .before .before .before .before .before .before .before .before .before .before .before .before .before .before .before .before .before .pre .stage .prepared .tabled .legible .short)
-
-sub-left : tie.Need-sub-left Inv-loop μ-loop
-sub-left c = omega arith
-
-loop-less : tie.Need-loop-less Inv-loop μ-loop
-loop-less c = omega arith
+add-place c =
+    let w = procs-within (c .before .before .before .before .before .before .before .before .before .before .before .before .before .before .before .before .before .before .before .before .before .before .before .before .before .pre)
+    (c .before .before .before .before .before .before .before .before .before .before .before .before .before .before .before .before .loop .inv)
+    (omega arith) in omega (arith, w .within, c .size-at .ensures, c .before .before .before .before .before .before .before .before .before .before .before .before .before .before .before .before .before .before .before .before .before .before .before .before .before .pre .stage .prepared .tabled .legible .short)
 
 loop-again : tie.Need-loop-again Inv-loop μ-loop
-loop-again c = procs-next (c .before .before .before .before .before .before .before .before .before .before .before .before .before .before .before .before .before .before .before .before .before .before .before .before .before .pre) (c .before .before .before .before .before .before .before .before .before .before .before .before .before .before .before .before .loop .inv) (omega arith) (c .size-at .result) (c .before .before .before .before .before .before .before .before .before .global .ensures) (c .size-at .ensures)
-
-same-length : tie.Need-same-length Inv-loop μ-loop
-same-length c = search needs
-
-same-length-2 : tie.Need-same-length-2 Inv-loop μ-loop
-same-length-2 c = search needs
-
-same-length-3 : tie.Need-same-length-3 Inv-loop μ-loop
-same-length-3 c = search needs
-
-same-length-4 : tie.Need-same-length-4 Inv-loop μ-loop
-same-length-4 c = search needs
+loop-again c =
+    procs-next (c .before .before .before .before .before .before .before .before .before .before .before .before .before .before .before .before .before .before .before .before .before .before .before .before .before .pre)
+    (c .before .before .before .before .before .before .before .before .before .before .before .before .before .before .before .before .loop .inv)
+    (omega arith) (c .size-at .result) (c .before .before .before .before .before .before .before .before .before .global .ensures) (c .size-at .ensures)
 
 returns : tie.Need-returns Inv-loop μ-loop
 returns c = procs-end (c .before .before .before .before .before .before .before .before .before .before .pre) (c .before .loop .inv) (omega arith)
@@ -72,15 +70,15 @@ procedures-spec =
     mul-from
     sub-global
     part-global-start
-    part-global-end
+    (λ c. search needs)
     global-requires
     size-at-requires
     add-place
-    sub-left
-    loop-less
+    (λ c. omega arith)
+    (λ c. omega arith)
     loop-again
-    same-length
-    same-length-2
-    same-length-3
-    same-length-4
+    (λ c. search needs)
+    (λ c. search needs)
+    (λ c. search needs)
+    (λ c. search needs)
     returns)

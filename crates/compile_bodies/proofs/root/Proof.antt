@@ -6,74 +6,138 @@ use Rattle.compile_bodies.proofs.root.Statement.{statement}
 use Rattle.compile_bodies.proofs.root.Tie as tie
 
 word-at-requires : tie.Need-word-at-requires
-word-at-requires c κs = omega (arith, root-long (c .before .before .before .before .before .before .before .before .pre) .0)
-
-cast-items : tie.Need-cast-items
-cast-items c = search needs
+word-at-requires c κs =
+    let at-start = c .before .before .before .before .before .before .before .before in
+    omega (arith, root-long (at-start .pre) .0)
 
 root-holds-requires : tie.Need-root-holds-requires
-root-holds-requires c κs = root-headed (c .before .before .before .before .before .before .before .before .before .pre)
+root-holds-requires c κs =
+    let at-start = c .before .before .before .before .before .before .before .before .before in
+    root-headed (at-start .pre)
 
 declare-globals-requires : tie.Need-declare-globals-requires
-declare-globals-requires c κs = (c .before .before .before .before .before .before .before .before .before .before .before .pre .stage .prepared, c .before .before .before .before .before .before .before .before .before .before .before .pre .counted, head-fits (c .before .before .before .before .before .before .before .before .before .before .before .pre))
+declare-globals-requires c κs =
+    let at-start = c .before .before .before .before .before .before .before .before .before .before .before in
+    (at-start .pre .stage .prepared, at-start .pre .counted, head-fits (at-start .pre))
 
 mul-from : tie.Need-mul-from
-mul-from c = omega (arith, root-place (c .before .before .before .before .before .before .before .before .before .before .before .before .before .before .pre))
+mul-from c =
+    let at-start = c .before .before .before .before .before .before .before .before .before .before .before .before .before .before in
+    omega (arith, root-place (at-start .pre))
 
 sub-items : tie.Need-sub-items
-sub-items c = root-place (c .before .before .before .before .before .before .before .before .before .before .before .before .before .before .pre) .0
+sub-items c =
+    let at-start = c .before .before .before .before .before .before .before .before .before .before .before .before .before .before in
+    root-place (at-start .pre) .0
 
 part-items-start : tie.Need-part-items-start
-part-items-start c = root-place (c .before .before .before .before .before .before .before .before .before .before .before .before .before .before .pre) .0
-
-part-items-end : tie.Need-part-items-end
-part-items-end c = search needs
+part-items-start c =
+    let at-start = c .before .before .before .before .before .before .before .before .before .before .before .before .before .before in
+    root-place (at-start .pre) .0
 
 items-requires : tie.Need-items-requires
-items-requires c κs = root-asks (c .before .before .before .before .before .before .before .before .before .before .before .before .before .before .before .before .before .before .before .pre) (c .before .before .before .before .before .before .before .before .before .before .word-at .result) (c .before .before .before .before .before .before .before .before .before .root-holds .result) (c .before .before .before .before .before .before .before .before .before .before .word-at .ensures) (c .before .before .before .before .before .before .before .before .before .root-holds .ensures) (c .before .before .before .before .before .before .before .declare-globals .ensures)
+items-requires c κs =
+    let at-declare-globals = c .before .before .before .before .before .before .before in
+    let at-root-holds = at-declare-globals .before .before in
+    let at-word-at = at-root-holds .before in
+    let at-start = at-word-at .before .before .before .before .before .before .before .before .before in
+    root-asks (at-start .pre) (at-word-at .word-at .result) (at-root-holds .root-holds .result) (at-word-at .word-at .ensures)
+    (at-root-holds .root-holds .ensures) (at-declare-globals .declare-globals .ensures)
 
 releases-requires : tie.Need-releases-requires
-releases-requires c κs = releases-fit (c .before .before .before .before .before .before .before .before .before .before .before .before .before .before .before .before .before .before .before .before .before .before .before .before .before .before .before .before .before .pre) (c .before .before .before .before .before .before .before .before .before .before .before .before .before .before .before .before .before .before .before .before .word-at .result) (c .before .before .before .before .before .before .before .before .before .before .before .before .before .before .before .before .before .before .before .root-holds .result) (c .before .before .before .before .before .before .before .before .before .before .before .before .before .before .before .before .before .before .before .before .word-at .ensures) (c .before .before .before .before .before .before .before .before .before .before .before .before .before .before .before .before .before .before .before .root-holds .ensures) (c .before .before .before .before .before .before .before .before .before .before .before .before .before .before .before .before .before .declare-globals .ensures) (c .before .before .before .before .before .before .before .before .before .items .ensures)
+releases-requires c κs =
+    let at-items = c .before .before .before .before .before .before .before .before .before in
+    let at-declare-globals = at-items .before .before .before .before .before .before .before .before in
+    let at-root-holds = at-declare-globals .before .before in
+    let at-word-at = at-root-holds .before in
+    let at-start = at-word-at .before .before .before .before .before .before .before .before .before in
+    releases-fit (at-start .pre) (at-word-at .word-at .result) (at-root-holds .root-holds .result) (at-word-at .word-at .ensures)
+    (at-root-holds .root-holds .ensures) (at-declare-globals .declare-globals .ensures) (at-items .items .ensures)
 
 emit-requires : tie.Need-emit-requires
-emit-requires c κs = end-fits (c .before .before .before .before .before .before .before .before .before .before .before .before .before .before .before .before .before .before .before .before .before .before .before .before .before .before .before .before .before .before .before .before .before .before .pre) (c .before .before .before .before .before .before .before .before .before .before .before .before .before .before .before .before .before .before .before .before .before .before .before .before .before .word-at .result) (c .before .before .before .before .before .before .before .before .before .before .before .before .before .before .before .before .before .before .before .before .before .before .before .before .root-holds .result) (c .before .before .before .before .before .before .before .before .before .before .before .before .before .before .before .before .before .before .before .before .before .before .before .before .before .word-at .ensures) (c .before .before .before .before .before .before .before .before .before .before .before .before .before .before .before .before .before .before .before .before .before .before .before .before .root-holds .ensures) (c .before .before .before .before .before .before .before .before .before .before .before .before .before .before .before .before .before .before .before .before .before .before .declare-globals .ensures) (c .before .before .before .before .before .before .before .before .before .before .before .before .before .before .items .ensures) (c .before .before .before .before .releases .ensures)
+emit-requires c κs =
+    let at-releases = c .before .before .before .before in
+    let at-items = at-releases .before .before .before .before .before .before .before .before .before .before in
+    let at-declare-globals = at-items .before .before .before .before .before .before .before .before in
+    let at-root-holds = at-declare-globals .before .before in
+    let at-word-at = at-root-holds .before in
+    let at-start = at-word-at .before .before .before .before .before .before .before .before .before in
+    end-fits (at-start .pre) (at-word-at .word-at .result) (at-root-holds .root-holds .result) (at-word-at .word-at .ensures)
+    (at-root-holds .root-holds .ensures) (at-declare-globals .declare-globals .ensures) (at-items .items .ensures) (at-releases .releases .ensures)
 
 finish-requires : tie.Need-finish-requires
-finish-requires c κs = (ends-some (c .before .before .before .before .before .before .before .before .before .before .before .before .before .before .before .before .before .before .before .before .before .before .before .before .before .before .before .before .before .before .before .before .before .before .before .before .before .pre) (c .before .before .before .before .before .before .before .before .before .before .before .before .before .before .before .before .before .before .before .before .before .before .before .before .before .before .before .before .word-at .result) (c .before .before .before .before .before .before .before .before .before .before .before .before .before .before .before .before .before .before .before .before .before .before .before .before .before .before .before .root-holds .result) (c .before .before .before .before .before .before .before .before .before .before .before .before .before .before .before .before .before .before .before .before .before .before .before .before .before .before .before .before .word-at .ensures) (c .before .before .before .before .before .before .before .before .before .before .before .before .before .before .before .before .before .before .before .before .before .before .before .before .before .before .before .root-holds .ensures) (c .before .before .before .before .before .before .before .before .before .before .before .before .before .before .before .before .before .before .before .before .before .before .before .before .before .declare-globals .ensures) (c .before .before .before .before .before .before .before .before .before .before .before .before .before .before .before .before .before .items .ensures) (c .before .before .before .before .before .before .before .releases .ensures), rw (c .before .before .emit .ensures .0) (end-fits (c .before .before .before .before .before .before .before .before .before .before .before .before .before .before .before .before .before .before .before .before .before .before .before .before .before .before .before .before .before .before .before .before .before .before .before .before .before .pre) (c .before .before .before .before .before .before .before .before .before .before .before .before .before .before .before .before .before .before .before .before .before .before .before .before .before .before .before .before .word-at .result) (c .before .before .before .before .before .before .before .before .before .before .before .before .before .before .before .before .before .before .before .before .before .before .before .before .before .before .before .root-holds .result) (c .before .before .before .before .before .before .before .before .before .before .before .before .before .before .before .before .before .before .before .before .before .before .before .before .before .before .before .before .word-at .ensures) (c .before .before .before .before .before .before .before .before .before .before .before .before .before .before .before .before .before .before .before .before .before .before .before .before .before .before .before .root-holds .ensures) (c .before .before .before .before .before .before .before .before .before .before .before .before .before .before .before .before .before .before .before .before .before .before .before .before .before .declare-globals .ensures) (c .before .before .before .before .before .before .before .before .before .before .before .before .before .before .before .before .before .items .ensures) (c .before .before .before .before .before .before .before .releases .ensures) .address-small))
+finish-requires c κs =
+    let at-releases = c .before .before .before .before .before .before .before in
+    let at-items = at-releases .before .before .before .before .before .before .before .before .before .before in
+    let at-declare-globals = at-items .before .before .before .before .before .before .before .before in
+    let at-root-holds = at-declare-globals .before .before in
+    let at-word-at = at-root-holds .before in
+    let at-start = at-word-at .before .before .before .before .before .before .before .before .before in (
+      ends-some (at-start .pre) (at-word-at .word-at .result) (at-root-holds .root-holds .result) (at-word-at .word-at .ensures)
+          (at-root-holds .root-holds .ensures) (at-declare-globals .declare-globals .ensures) (at-items .items .ensures)
+          (at-releases .releases .ensures),
+      rw (c .before .before .emit .ensures .0)
+          (end-fits (at-start .pre) (at-word-at .word-at .result) (at-root-holds .root-holds .result) (at-word-at .word-at .ensures)
+          (at-root-holds .root-holds .ensures) (at-declare-globals .declare-globals .ensures) (at-items .items .ensures) (at-releases .releases .ensures) .address-small),
+    )
 
 same-length : tie.Need-same-length
-same-length c = root-done (c .before .before .before .before .before .before .before .before .before .before .before .before .before .before .before .before .before .before .before .before .before .before .before .before .before .before .before .before .before .before .before .before .before .before .before .before .before .before .before .before .pre) (c .before .before .before .before .before .before .before .before .before .before .before .before .before .before .before .before .before .before .before .before .before .before .before .before .before .before .before .before .before .before .before .word-at .result) (c .before .before .before .before .before .before .before .before .before .before .before .before .before .before .before .before .before .before .before .before .before .before .before .before .before .before .before .before .before .before .root-holds .result) (c .before .before .before .before .before .before .before .before .before .before .before .before .before .before .before .before .before .before .before .before .before .before .before .before .before .before .before .before .before .before .before .word-at .ensures) (c .before .before .before .before .before .before .before .before .before .before .before .before .before .before .before .before .before .before .before .before .before .before .before .before .before .before .before .before .before .before .root-holds .ensures) (c .before .before .before .before .before .before .before .before .before .before .before .before .before .before .before .before .before .before .before .before .before .before .before .before .before .before .before .before .declare-globals .ensures) (c .before .before .before .before .before .before .before .before .before .before .before .before .before .before .before .before .before .before .before .before .items .ensures) (c .before .before .before .before .before .before .before .before .before .before .releases .ensures) (c .before .before .before .before .before .emit .ensures) (c .before .before .finish .ensures) .kept .same-env
-
-same-length-2 : tie.Need-same-length-2
-same-length-2 c = search needs
-
-same-length-3 : tie.Need-same-length-3
-same-length-3 c = search needs
+same-length c =
+    let at-emit = c .before .before .before .before .before in
+    let at-releases = at-emit .before .before .before .before .before in
+    let at-items = at-releases .before .before .before .before .before .before .before .before .before .before in
+    let at-declare-globals = at-items .before .before .before .before .before .before .before .before in
+    let at-root-holds = at-declare-globals .before .before in
+    let at-word-at = at-root-holds .before in
+    let at-start = at-word-at .before .before .before .before .before .before .before .before .before in
+    root-done (at-start .pre) (at-word-at .word-at .result) (at-root-holds .root-holds .result) (at-word-at .word-at .ensures)
+    (at-root-holds .root-holds .ensures) (at-declare-globals .declare-globals .ensures) (at-items .items .ensures)
+    (at-releases .releases .ensures) (at-emit .emit .ensures) (c .before .before .finish .ensures) .kept .same-env
 
 same-length-4 : tie.Need-same-length-4
-same-length-4 c = root-done (c .before .before .before .before .before .before .before .before .before .before .before .before .before .before .before .before .before .before .before .before .before .before .before .before .before .before .before .before .before .before .before .before .before .before .before .before .before .before .before .before .pre) (c .before .before .before .before .before .before .before .before .before .before .before .before .before .before .before .before .before .before .before .before .before .before .before .before .before .before .before .before .before .before .before .word-at .result) (c .before .before .before .before .before .before .before .before .before .before .before .before .before .before .before .before .before .before .before .before .before .before .before .before .before .before .before .before .before .before .root-holds .result) (c .before .before .before .before .before .before .before .before .before .before .before .before .before .before .before .before .before .before .before .before .before .before .before .before .before .before .before .before .before .before .before .word-at .ensures) (c .before .before .before .before .before .before .before .before .before .before .before .before .before .before .before .before .before .before .before .before .before .before .before .before .before .before .before .before .before .before .root-holds .ensures) (c .before .before .before .before .before .before .before .before .before .before .before .before .before .before .before .before .before .before .before .before .before .before .before .before .before .before .before .before .declare-globals .ensures) (c .before .before .before .before .before .before .before .before .before .before .before .before .before .before .before .before .before .before .before .before .items .ensures) (c .before .before .before .before .before .before .before .before .before .before .releases .ensures) (c .before .before .before .before .before .emit .ensures) (c .before .before .finish .ensures) .kept .same-out
+same-length-4 c =
+    let at-emit = c .before .before .before .before .before in
+    let at-releases = at-emit .before .before .before .before .before in
+    let at-items = at-releases .before .before .before .before .before .before .before .before .before .before in
+    let at-declare-globals = at-items .before .before .before .before .before .before .before .before in
+    let at-root-holds = at-declare-globals .before .before in
+    let at-word-at = at-root-holds .before in
+    let at-start = at-word-at .before .before .before .before .before .before .before .before .before in
+    root-done (at-start .pre) (at-word-at .word-at .result) (at-root-holds .root-holds .result) (at-word-at .word-at .ensures)
+    (at-root-holds .root-holds .ensures) (at-declare-globals .declare-globals .ensures) (at-items .items .ensures)
+    (at-releases .releases .ensures) (at-emit .emit .ensures) (c .before .before .finish .ensures) .kept .same-out
 
 returns : tie.Need-returns
-returns c = root-done (c .before .before .before .before .before .before .before .before .before .before .before .before .before .before .before .before .before .before .before .before .before .before .before .before .before .before .before .before .before .before .before .before .before .before .before .before .before .before .before .before .pre) (c .before .before .before .before .before .before .before .before .before .before .before .before .before .before .before .before .before .before .before .before .before .before .before .before .before .before .before .before .before .before .before .word-at .result) (c .before .before .before .before .before .before .before .before .before .before .before .before .before .before .before .before .before .before .before .before .before .before .before .before .before .before .before .before .before .before .root-holds .result) (c .before .before .before .before .before .before .before .before .before .before .before .before .before .before .before .before .before .before .before .before .before .before .before .before .before .before .before .before .before .before .before .word-at .ensures) (c .before .before .before .before .before .before .before .before .before .before .before .before .before .before .before .before .before .before .before .before .before .before .before .before .before .before .before .before .before .before .root-holds .ensures) (c .before .before .before .before .before .before .before .before .before .before .before .before .before .before .before .before .before .before .before .before .before .before .before .before .before .before .before .before .declare-globals .ensures) (c .before .before .before .before .before .before .before .before .before .before .before .before .before .before .before .before .before .before .before .before .items .ensures) (c .before .before .before .before .before .before .before .before .before .before .releases .ensures) (c .before .before .before .before .before .emit .ensures) (c .before .before .finish .ensures)
+returns c =
+    let at-emit = c .before .before .before .before .before in
+    let at-releases = at-emit .before .before .before .before .before in
+    let at-items = at-releases .before .before .before .before .before .before .before .before .before .before in
+    let at-declare-globals = at-items .before .before .before .before .before .before .before .before in
+    let at-root-holds = at-declare-globals .before .before in
+    let at-word-at = at-root-holds .before in
+    let at-start = at-word-at .before .before .before .before .before .before .before .before .before in
+    root-done (at-start .pre) (at-word-at .word-at .result) (at-root-holds .root-holds .result) (at-word-at .word-at .ensures)
+    (at-root-holds .root-holds .ensures) (at-declare-globals .declare-globals .ensures) (at-items .items .ensures)
+    (at-releases .releases .ensures) (at-emit .emit .ensures) (c .before .before .finish .ensures)
 
 pub root-spec : {M : Type 1} → statement M
 root-spec =
     tie.close
     (tie.spec
     word-at-requires
-    cast-items
+    (λ c. search needs)
     root-holds-requires
     declare-globals-requires
     mul-from
     sub-items
     part-items-start
-    part-items-end
+    (λ c. search needs)
     items-requires
     releases-requires
     emit-requires
     finish-requires
     same-length
-    same-length-2
-    same-length-3
+    (λ c. search needs)
+    (λ c. search needs)
     same-length-4
     returns)

@@ -18,26 +18,28 @@ loop-holds c = holds-start (c .before .before .pre)
 kind-at-requires : tie.Need-kind-at-requires Inv-loop μ-loop
 kind-at-requires c κs = let w = holds-within (c .before .before .before .before .pre .tabled) (c .before .loop .inv) (omega arith) in omega (arith, w .some, w .within)
 
-holds-of-requires : tie.Need-holds-of-requires Inv-loop μ-loop
-holds-of-requires c κs = search needs
-
 add-n : tie.Need-add-n Inv-loop μ-loop
-add-n c = let w = holds-within (c .before .before .before .before .before .before .pre .tabled) (c .before .before .before .loop .inv) (omega arith) in let h = holds-few (c .before .before .before .before .before .before .pre .tabled) (c .before .before .before .loop .inv) _ _ (omega arith) (c .holds-of .ensures ∙ ap holdsOf (c .before .kind-at .ensures)) refl in omega (arith, w .within, h, c .before .before .before .before .before .before .pre .tabled .legible .short)
+add-n c =
+    let w = holds-within (c .before .before .before .before .before .before .pre .tabled) (c .before .before .before .loop .inv) (omega arith) in
+    let h = holds-few (c .before .before .before .before .before .before .pre .tabled) (c .before .before .before .loop .inv) _ _ (omega arith)
+    (c .holds-of .ensures ∙ ap holdsOf (c .before .kind-at .ensures)) refl in
+    omega (arith, w .within, h, c .before .before .before .before .before .before .pre .tabled .legible .short)
 
 size-at-requires : tie.Need-size-at-requires Inv-loop μ-loop
-size-at-requires c κs = let w = holds-within (c .before .before .before .before .before .before .pre .tabled) (c .before .before .before .loop .inv) (omega arith) in omega (arith, w .some, w .within, w .wide)
+size-at-requires c κs =
+    let w = holds-within (c .before .before .before .before .before .before .pre .tabled) (c .before .before .before .loop .inv) (omega arith) in
+    omega (arith, w .some, w .within, w .wide)
 
 add-place : tie.Need-add-place Inv-loop μ-loop
-add-place c = let w = holds-within (c .before .before .before .before .before .before .before .pre .tabled) (c .before .before .before .before .loop .inv) (omega arith) in omega (arith, w .within, c .size-at .ensures, c .before .before .before .before .before .before .before .pre .tabled .legible .short)
-
-sub-left : tie.Need-sub-left Inv-loop μ-loop
-sub-left c = omega arith
-
-loop-less : tie.Need-loop-less Inv-loop μ-loop
-loop-less c = omega arith
+add-place c =
+    let w = holds-within (c .before .before .before .before .before .before .before .pre .tabled) (c .before .before .before .before .loop .inv)
+    (omega arith) in omega (arith, w .within, c .size-at .ensures, c .before .before .before .before .before .before .before .pre .tabled .legible .short)
 
 loop-again : tie.Need-loop-again Inv-loop μ-loop
-loop-again c = holds-next (c .before .before .before .before .before .before .before .pre .tabled) (c .before .before .before .before .loop .inv) (c .before .holds-of .result) (c .size-at .result) (omega arith) (c .before .holds-of .ensures ∙ ap holdsOf (c .before .before .kind-at .ensures)) (c .size-at .ensures)
+loop-again c =
+    holds-next (c .before .before .before .before .before .before .before .pre .tabled) (c .before .before .before .before .loop .inv)
+    (c .before .holds-of .result) (c .size-at .result) (omega arith) (c .before .holds-of .ensures ∙ ap holdsOf (c .before .before .kind-at .ensures))
+    (c .size-at .ensures)
 
 returns : tie.Need-returns Inv-loop μ-loop
 returns c = holds-end (c .before .before .before .before .pre .tabled) (c .before .loop .inv) (omega arith)
@@ -50,11 +52,11 @@ root-holds-spec =
     μ-loop
     loop-holds
     kind-at-requires
-    holds-of-requires
+    (λ c κs. search needs)
     add-n
     size-at-requires
     add-place
-    sub-left
-    loop-less
+    (λ c. omega arith)
+    (λ c. omega arith)
     loop-again
     returns)

@@ -32,9 +32,6 @@ put-refused-requires c κs = omega (arith, refused (c .before))
 slice-aggregate-list-macro : tie.Need-slice-aggregate-list-macro
 slice-aggregate-list-macro c = sym (length-take-le _ _ (in-room (c .before)))
 
-list-macro-requires : tie.Need-list-macro-requires
-list-macro-requires c κs = omega arith
-
 returns : tie.Need-returns
 returns c =
     let told = c .before .before in
@@ -64,6 +61,6 @@ list-spec =
     in-room
     slice-aggregate-list-macro
     (λ c. search needs)
-    list-macro-requires
+    (λ c κs. omega arith)
     returns
     returns-2)

@@ -3,7 +3,7 @@ use Prim.Native.Nat.{_≤_}
 use native.Mathlib.Omega.{arith}
 use lib.ListN.{length}
 use Rattle.values.specs.Ends.{refusal}
-use Rattle.running.specs.Answers.{verdictOf}
+use Rattle.run.specs.Answers.{verdictOf}
 use Rattle.listing_text.specs.Text.{refusedLine}
 use Rattle.listing_text.specs.Length.{textRoom, lines-fit, refused-fits}
 use Rattle.listing_text.specs.Writing.{in-front}
@@ -17,13 +17,16 @@ refused : (c : tie.After-known-told) → length (refusedLine (refusal (c .before
 refused c = refused-fits (c .before .number .given .0 .0) (c .before .number .given .0 .1 .0) (omega arith) (omega arith)
 
 put-refused-requires : tie.Need-put-refused-requires
-put-refused-requires c κs = omega (arith, c .before .before .before .before .before .before .before .before .before .before .before .pre, refused (c .before))
+put-refused-requires c κs =
+    let at-start = c .before .before .before .before .before .before .before .before .before .before .before in
+    omega (arith, at-start .pre, refused (c .before))
 
 enum-told : tie.Need-enum-told
 enum-told c = search needs
 
 list-runs-requires : tie.Need-list-runs-requires
 list-runs-requires c κs =
+    let at-before = c .before .before .before .before .before in
     let started = c .before .before .before .before .before .before in
     let known = started .before .before .before .before in
     let entry = known .before in

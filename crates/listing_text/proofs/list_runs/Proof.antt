@@ -5,7 +5,7 @@ use native.Mathlib.Omega.{arith}
 use borrow.Author.Needs.{needs}
 use lib.Dec.{ltb}
 use lib.ListN.{length}
-use Rattle.running.specs.Answers.{answerOf}
+use Rattle.run.specs.Answers.{answerOf}
 use Rattle.listing_text.specs.Text.{linesOf, answerLine}
 use Rattle.listing_text.specs.Steps.{eventSteps, linesLeft, runsLeft, taken, next-left, fewer, none-left}
 use Rattle.listing_text.specs.Writing.{Left, begun, room-left, goes-left, finished, in-front}
@@ -48,6 +48,7 @@ steps c =
 
 loop-less : tie.Need-loop-less Inv-loop μ-loop
 loop-less c =
+    let at-before = c .before .before .before .before .before .before .before .before .before in
     let test = c .before .before .before .before .before .before .before .before .before .before in
     fewer (test .before .loop .goes) (test .before .loop .left) (c .event-steps .result) (test .loop-test .taken) (steps c)
 
@@ -70,8 +71,9 @@ same-length-2 c = c .before .loop .inv .1 .long
 
 returns : tie.Need-returns Inv-loop μ-loop
 returns c =
+    let at-start = c .before .before .before .before .before in
     let loop = c .before .loop in
-    in-front _ _ _ _ (c .before .before .before .before .before .pre)
+    in-front _ _ _ _ (at-start .pre)
     (finished _ _ (loop .text) (loop .at) _ (loop .inv .1) (none-left (loop .goes) _ _ _ (c .loop-test .left)))
 
 pub list-runs-spec : {M : Type 1} → statement M

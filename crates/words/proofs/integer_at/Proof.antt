@@ -5,14 +5,8 @@ use mir.ValLaws.{toZ-ofZ}
 use Rattle.words.proofs.integer_at.Statement.{statement}
 use Rattle.words.proofs.integer_at.Tie as tie
 
-word-at-requires : tie.Need-word-at-requires
-word-at-requires c κs = search needs
-
-integer-of-requires : tie.Need-integer-of-requires
-integer-of-requires c κs = search needs
-
 returns : tie.Need-returns
 returns c = rw (toZ-ofZ w32 _ (record { sfits = c .integer-of .ok }), ← c .before .word-at .ensures) (c .integer-of .ensures)
 
 pub integer-at-spec : {M : Type 1} → statement M
-integer-at-spec = tie.close (tie.spec word-at-requires integer-of-requires returns)
+integer-at-spec = tie.close (tie.spec (λ c κs. search needs) (λ c κs. search needs) returns)

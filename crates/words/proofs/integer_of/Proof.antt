@@ -11,12 +11,6 @@ use Rattle.words.specs.Integers.{widen, word-negative}
 use Rattle.words.proofs.integer_of.Statement.{statement}
 use Rattle.words.proofs.integer_of.Tie as tie
 
-cast-result : tie.Need-cast-result
-cast-result c = search needs
-
-cast-result-2 : tie.Need-cast-result-2
-cast-result-2 c = search needs
-
 -- the difference, as it is and as it is read from 64 bits
 difference : (c : tie.Else1) → toZ w64 (c .before .args .w) -ℤ pos 4294967296 ≡ integerOf (c .before .args .w)
 difference c = word-negative (c .before .args .w) (omega arith) (omega arith)
@@ -30,11 +24,8 @@ read c = toZ-ofZ w64 _ (sub-result c) ∙ difference c
 cast-result-3 : tie.Need-cast-result-3
 cast-result-3 c = rw (read c) (toZ-fits w32 (c .before .args .w) (c .before .fits .w))
 
-returns : tie.Need-returns
-returns c = search needs
-
 returns-2 : tie.Need-returns-2
 returns-2 c = rw (read c) (toZ-ofZ w32 _ (toZ-fits w32 (c .before .args .w) (c .before .fits .w)))
 
 pub integer-of-spec : {M : Type 1} → statement M
-integer-of-spec = tie.close (tie.spec cast-result cast-result-2 sub-result cast-result-3 returns returns-2)
+integer-of-spec = tie.close (tie.spec (λ c. search needs) (λ c. search needs) sub-result cast-result-3 (λ c. search needs) returns-2)

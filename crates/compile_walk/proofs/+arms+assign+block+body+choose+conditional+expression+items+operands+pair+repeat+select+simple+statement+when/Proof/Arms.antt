@@ -4,27 +4,60 @@ use native.Mathlib.Omega.{arith}
 use borrow.Author.Needs.{needs}
 use Rattle.compile_steps.specs.Parts.{lent}
 use Rattle.compile_steps.specs.Arms.{ArmsSoFar, arms-start, arms-before, arms-asks, arms-behind, arms-passes, arms-next, arms-end}
-use Rattle.compile_known.specs.Numbers.{secondIn}
+use Rattle.compile_symbols.specs.Numbers.{secondIn}
 use Prim.Native.Nat.{ℕ, _-_}
 use Rattle.compile_walk.proofs.arms.Reads as arms
 use Rattle.compile_walk.proofs.+arms+assign+block+body+choose+conditional+expression+items+operands+pair+repeat+select+simple+statement+when.Lts-arms as arms-lts
 use Rattle.compile_walk.proofs.statement.Reads as statement′
-use Rattle.compile_known.proofs.known_at.Reads as known-at-reads
-use Rattle.compile_known.proofs.second_in.Reads as second-in-reads
-use Rattle.compile_own.proofs.after_arm.Reads as after-arm-reads
-use Rattle.compile_own.proofs.before_arm.Reads as before-arm-reads
-use Rattle.compile_own.proofs.end_of.Reads as end-of-reads
-use Rattle.spans.proofs.size_at.Reads as size-at-reads
+use Rattle.compile_symbols.proofs.known_at.Reads as known-at-reads
+use Rattle.compile_symbols.proofs.second_in.Reads as second-in-reads
+use Rattle.compile_emit.proofs.after_arm.Reads as after-arm-reads
+use Rattle.compile_emit.proofs.before_arm.Reads as before-arm-reads
+use Rattle.compile_emit.proofs.end_of.Reads as end-of-reads
+use Rattle.table_scopes.proofs.spans.size_at.Reads as size-at-reads
 use Rattle.compile_walk.proofs.+arms+assign+block+body+choose+conditional+expression+items+operands+pair+repeat+select+simple+statement+when.Proof.Base.{arms-at, statement-below}
 
 abbrev arms-Inv-loop : arms-lts.InvT-loop
-arms-Inv-loop table part owner count nesting at sizes env₀ top known aims ends₀ holds stack₀ depth out₀ cell end rest₀ place₀ i₀ p₀ env ends stack out rest place i p = ArmsSoFar known aims table part owner count nesting at sizes (lent env₀ ends₀ stack₀ out₀) top holds depth p₀ (lent env ends stack out) rest place i p
+arms-Inv-loop table part owner count nesting at sizes env₀ top known aims ends₀ holds stack₀ depth out₀ cell end rest₀ place₀ i₀ p₀ env ends stack out
+    rest place i p = ArmsSoFar known aims table part owner count nesting at sizes (lent env₀ ends₀ stack₀ out₀) top holds depth p₀
+    (lent env ends stack out) rest place i p
 
 abbrev arms-μ-loop : arms-lts.MeasureT-loop
 arms-μ-loop table part owner count nesting at sizes env₀ top known aims ends₀ holds stack₀ depth out₀ cell end rest₀ place₀ i₀ p₀ env ends stack out rest place i p = count - i
 
-pub arms-meets : {M : Type 1} (t : ℕ) → arms-lts.Closed (known-at-reads.Asked, known-at-reads.Learnt, second-in-reads.Asked, second-in-reads.Learnt, end-of-reads.Asked, end-of-reads.Learnt, before-arm-reads.Asked, before-arm-reads.Learnt, statement-below t, statement′.Post, after-arm-reads.Asked, after-arm-reads.Learnt, size-at-reads.Asked, size-at-reads.Learnt) (arms-at t) arms.Post M
-arms-meets t = arms-lts.spec (known-at-reads.Asked, known-at-reads.Learnt, second-in-reads.Asked, second-in-reads.Learnt, end-of-reads.Asked, end-of-reads.Learnt, before-arm-reads.Asked, before-arm-reads.Learnt, statement-below t, statement′.Post, after-arm-reads.Asked, after-arm-reads.Learnt, size-at-reads.Asked, size-at-reads.Learnt) (arms-at t) arms.Post arms-Inv-loop arms-μ-loop
+pub arms-meets : {M : Type 1} (t : ℕ) → arms-lts.Closed (
+  known-at-reads.Asked,
+  known-at-reads.Learnt,
+  second-in-reads.Asked,
+  second-in-reads.Learnt,
+  end-of-reads.Asked,
+  end-of-reads.Learnt,
+  before-arm-reads.Asked,
+  before-arm-reads.Learnt,
+  statement-below t,
+  statement′.Post,
+  after-arm-reads.Asked,
+  after-arm-reads.Learnt,
+  size-at-reads.Asked,
+  size-at-reads.Learnt,
+) (arms-at t) arms.Post M
+arms-meets t =
+    arms-lts.spec (
+      known-at-reads.Asked,
+      known-at-reads.Learnt,
+      second-in-reads.Asked,
+      second-in-reads.Learnt,
+      end-of-reads.Asked,
+      end-of-reads.Learnt,
+      before-arm-reads.Asked,
+      before-arm-reads.Learnt,
+      statement-below t,
+      statement′.Post,
+      after-arm-reads.Asked,
+      after-arm-reads.Learnt,
+      size-at-reads.Asked,
+      size-at-reads.Learnt,
+    ) (arms-at t) arms.Post arms-Inv-loop arms-μ-loop
     -- known-at-requires
     (λ c κs. search needs)
     -- second-in-requires
@@ -50,8 +83,11 @@ arms-meets t = arms-lts.spec (known-at-reads.Asked, known-at-reads.Learnt, secon
     let c4 = c3 .before in
     let c5 = c4 .before .before in
     let c6 = c5 .before in
-    let c7 = c6 .before .before .before .before .before .before .before .before .before .before in
-    (omega (arith, c7 .pre .0), arms-asks (c7 .pre .1) (c4 .loop .inv) (c3 .loop-test .taken) (c5 .second-in .ensures ∙ ap secondIn (c6 .known-at .ensures)) (c2 .end-of2 .ensures .0) (c1 .before-arm .ensures)))
+    let c7 = c6 .before .before .before .before .before .before .before .before .before .before in (
+      omega (arith, c7 .pre .0),
+      arms-asks (c7 .pre .1) (c4 .loop .inv) (c3 .loop-test .taken)
+          (c5 .second-in .ensures ∙ ap secondIn (c6 .known-at .ensures)) (c2 .end-of2 .ensures .0) (c1 .before-arm .ensures),
+    ))
     -- after-arm-requires
     (λ c κs.
     let c1 = c .before .before .before .before .before .before .before .before .before .before in
@@ -63,7 +99,8 @@ arms-meets t = arms-lts.spec (known-at-reads.Asked, known-at-reads.Learnt, secon
     let c7 = c6 .before in
     let c8 = c7 .before in
     let c9 = c8 .before .before .before .before .before .before .before .before .before .before in
-    arms-behind (c9 .pre .1) (c5 .loop .inv) (c4 .loop-test .taken) (c7 .second-in .ensures ∙ ap secondIn (c8 .known-at .ensures)) (c3 .end-of2 .ensures .0) (c2 .before-arm .ensures) (c6 .end-of .ensures .0) (c1 .statement .ensures))
+    arms-behind (c9 .pre .1) (c5 .loop .inv) (c4 .loop-test .taken) (c7 .second-in .ensures ∙ ap secondIn (c8 .known-at .ensures))
+    (c3 .end-of2 .ensures .0) (c2 .before-arm .ensures) (c6 .end-of .ensures .0) (c1 .statement .ensures))
     -- size-at-requires
     (λ c κs.
     let c1 = c .before .before .before .before .before .before .before .before .before .before .before .before .before .before .before .before .before .before .before .before .before .before .before in
@@ -118,7 +155,8 @@ arms-meets t = arms-lts.spec (known-at-reads.Asked, known-at-reads.Learnt, secon
     let c9 = c8 .before in
     let c10 = c9 .before in
     let c11 = c10 .before .before .before .before .before .before .before .before .before .before in
-    arms-next (c11 .pre .1) (c7 .loop .inv) (c6 .loop-test .taken) (c9 .second-in .ensures ∙ ap secondIn (c10 .known-at .ensures)) (c5 .end-of2 .ensures .0) (c4 .before-arm .ensures) (c8 .end-of .ensures .0) (c3 .statement .ensures) (c2 .after-arm .ensures)
+    arms-next (c11 .pre .1) (c7 .loop .inv) (c6 .loop-test .taken) (c9 .second-in .ensures ∙ ap secondIn (c10 .known-at .ensures))
+    (c5 .end-of2 .ensures .0) (c4 .before-arm .ensures) (c8 .end-of .ensures .0) (c3 .statement .ensures) (c2 .after-arm .ensures)
     (c1 .size-at .result) (c1 .size-at .ensures))
     -- same-length
     (λ c. (arms-end (c .before .loop .inv) (omega arith)) .kept .same-env)

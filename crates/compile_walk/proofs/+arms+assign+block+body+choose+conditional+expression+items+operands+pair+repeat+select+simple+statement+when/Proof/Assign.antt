@@ -4,18 +4,19 @@ use native.Mathlib.Omega.{arith}
 use borrow.Author.Needs.{needs}
 use Rattle.compile_steps.specs.Parts.{asked}
 use Rattle.compile_steps.specs.Adapt.{second-within}
-use Rattle.compile_steps.specs.Assign.{asks-assign, asks-variable-first, asks-variable-second, asks-variable-emit, asks-variable-finish, answers-variable, asks-field-nests, asks-field-first, asks-field-mid, asks-field-second, asks-field-emit, asks-field-finish, answers-field}
+use Rattle.compile_steps.specs.Assign.{asks-assign, asks-variable-first, asks-variable-second, asks-variable-emit, asks-variable-finish, answers-variable}
+use Rattle.compile_steps.specs.Assign.{asks-field-nests, asks-field-first, asks-field-mid, asks-field-second, asks-field-emit, asks-field-finish, answers-field}
 use Prim.Native.Nat.{ℕ}
 use Rattle.compile_walk.proofs.assign.Reads as assign
 use Rattle.compile_walk.proofs.+arms+assign+block+body+choose+conditional+expression+items+operands+pair+repeat+select+simple+statement+when.Lts-assign as assign-lts
 use Rattle.compile_walk.proofs.expression.Reads as expression
-use Rattle.compile_known.proofs.first_in.Reads as first-in-reads
-use Rattle.compile_known.proofs.meaning.Reads as meaning-reads
-use Rattle.compile_known.proofs.second_in.Reads as second-in-reads
-use Rattle.compile_own.proofs.finish.Reads as finish-reads
-use Rattle.compile_own.proofs.owner.Reads as owner-reads
-use Rattle.compile_pen.proofs.emit.Reads as emit-reads
-use Rattle.spans.proofs.size_at.Reads as size-at-reads
+use Rattle.compile_symbols.proofs.first_in.Reads as first-in-reads
+use Rattle.compile_symbols.proofs.meaning.Reads as meaning-reads
+use Rattle.compile_symbols.proofs.second_in.Reads as second-in-reads
+use Rattle.compile_emit.proofs.finish.Reads as finish-reads
+use Rattle.compile_emit.proofs.owner.Reads as owner-reads
+use Rattle.compile_output.proofs.emit.Reads as emit-reads
+use Rattle.table_scopes.proofs.spans.size_at.Reads as size-at-reads
 use Rattle.words.proofs.half_at.Reads as half-at-reads
 use Rattle.compile_walk.proofs.+arms+assign+block+body+choose+conditional+expression+items+operands+pair+repeat+select+simple+statement+when.Proof.Base.{assign-at, expression-below}
 
@@ -113,7 +114,8 @@ assign-meets t = assign-lts.spec (claims t) (assign-at t) assign.Post
     let c4 = c3 .before in
     let c5 = c4 .before in
     let c6 = c5 .before .before .before .before .before .before .before .before .before .before .before in
-    asks-variable-first (c6 .pre .1) (c3 .size-at .result) (c3 .size-at .ensures) (c4 .meaning .result) (rw (c5 .half-at .ensures) at (c4 .meaning .ensures)) (sym (c2 .half-at2 .ensures) ∙ c1 .if1 .taken))
+    asks-variable-first (c6 .pre .1) (c3 .size-at .result) (c3 .size-at .ensures) (c4 .meaning .result)
+    (rw (c5 .half-at .ensures) at (c4 .meaning .ensures)) (sym (c2 .half-at2 .ensures) ∙ c1 .if1 .taken))
     -- sub-expression
     (λ c.
     let c1 = c .before .before .before .before .before .before in
@@ -136,8 +138,11 @@ assign-meets t = assign-lts.spec (claims t) (assign-at t) assign.Post
     let c4 = c3 .before in
     let c5 = c4 .before in
     let c6 = c5 .before in
-    let c7 = c6 .before .before .before .before .before .before .before .before .before .before .before in
-    (omega (arith, asked (c7 .pre .1) .nested, c7 .pre .0), asks-variable-second (c7 .pre .1) (c4 .size-at .result) (c4 .size-at .ensures) (c5 .meaning .result) (rw (c6 .half-at .ensures) at (c5 .meaning .ensures)) (sym (c3 .half-at2 .ensures) ∙ c2 .if1 .taken) (c1 .finish .ensures)))
+    let c7 = c6 .before .before .before .before .before .before .before .before .before .before .before in (
+      omega (arith, asked (c7 .pre .1) .nested, c7 .pre .0),
+      asks-variable-second (c7 .pre .1) (c4 .size-at .result) (c4 .size-at .ensures)
+          (c5 .meaning .result) (rw (c6 .half-at .ensures) at (c5 .meaning .ensures)) (sym (c3 .half-at2 .ensures) ∙ c2 .if1 .taken) (c1 .finish .ensures),
+    ))
     -- owner-requires
     (λ c κs. search needs)
     -- second-in-requires
@@ -152,7 +157,8 @@ assign-meets t = assign-lts.spec (claims t) (assign-at t) assign.Post
     let c6 = c5 .before in
     let c7 = c6 .before in
     let c8 = c7 .before .before .before .before .before .before .before .before .before .before .before in
-    asks-variable-emit (c8 .pre .1) (c5 .size-at .result) (c5 .size-at .ensures) (c6 .meaning .result) (rw (c7 .half-at .ensures) at (c6 .meaning .ensures)) (sym (c4 .half-at2 .ensures) ∙ c3 .if1 .taken) (c2 .finish .ensures) (c1 .expression .ensures))
+    asks-variable-emit (c8 .pre .1) (c5 .size-at .result) (c5 .size-at .ensures) (c6 .meaning .result)
+    (rw (c7 .half-at .ensures) at (c6 .meaning .ensures)) (sym (c4 .half-at2 .ensures) ∙ c3 .if1 .taken) (c2 .finish .ensures) (c1 .expression .ensures))
     -- finish-requires-2
     (λ c κs.
     let c1 = c .before .before .before in
@@ -166,7 +172,9 @@ assign-meets t = assign-lts.spec (claims t) (assign-at t) assign.Post
     let c9 = c8 .before in
     let c10 = c9 .before in
     let c11 = c10 .before .before .before .before .before .before .before .before .before .before .before in
-    asks-variable-finish (c11 .pre .1) (c8 .size-at .result) (c8 .size-at .ensures) (c9 .meaning .result) (rw (c10 .half-at .ensures) at (c9 .meaning .ensures)) (sym (c7 .half-at2 .ensures) ∙ c6 .if1 .taken) (c5 .finish .ensures) (c4 .expression .ensures) (rw (c3 .owner .ensures, c2 .second-in .ensures) at (c1 .emit .ensures)))
+    asks-variable-finish (c11 .pre .1) (c8 .size-at .result) (c8 .size-at .ensures) (c9 .meaning .result)
+    (rw (c10 .half-at .ensures) at (c9 .meaning .ensures)) (sym (c7 .half-at2 .ensures) ∙ c6 .if1 .taken) (c5 .finish .ensures)
+    (c4 .expression .ensures) (rw (c3 .owner .ensures, c2 .second-in .ensures) at (c1 .emit .ensures)))
     -- same-length
     (λ c. assign-ends t c .kept .same-env)
     -- same-length-2
@@ -191,7 +199,11 @@ assign-meets t = assign-lts.spec (claims t) (assign-at t) assign.Post
     let c4 = c3 .before in
     let c5 = c4 .before in
     let c6 = c5 .before .before .before .before .before .before .before .before .before .before .before in
-    omega (arith, asks-field-nests (c6 .pre .1) (c3 .size-at .result) (c3 .size-at .ensures) (c4 .meaning .result) (rw (c5 .half-at .ensures) at (c4 .meaning .ensures)) (λ z. c1 .if1 .left (c2 .half-at2 .ensures ∙ z))))
+    omega (
+      arith,
+      asks-field-nests (c6 .pre .1) (c3 .size-at .result) (c3 .size-at .ensures) (c4 .meaning .result)
+          (rw (c5 .half-at .ensures) at (c4 .meaning .ensures)) (λ z. c1 .if1 .left (c2 .half-at2 .ensures ∙ z)),
+    ))
     -- add-expression
     (λ c. omega (arith, asked (c .before .before .before .before .before .before .before .before .before .before .before .before .before .before .before .before .pre .1) .small))
     -- expression-requires-2
@@ -201,8 +213,16 @@ assign-meets t = assign-lts.spec (claims t) (assign-at t) assign.Post
     let c3 = c2 .before in
     let c4 = c3 .before in
     let c5 = c4 .before in
-    let c6 = c5 .before .before .before .before .before .before .before .before .before .before .before in
-    (omega (arith, asks-field-nests (c6 .pre .1) (c3 .size-at .result) (c3 .size-at .ensures) (c4 .meaning .result) (rw (c5 .half-at .ensures) at (c4 .meaning .ensures)) (λ z. c1 .if1 .left (c2 .half-at2 .ensures ∙ z)), c6 .pre .0), asks-field-first (c6 .pre .1) (c3 .size-at .result) (c3 .size-at .ensures) (c4 .meaning .result) (rw (c5 .half-at .ensures) at (c4 .meaning .ensures)) (λ z. c1 .if1 .left (c2 .half-at2 .ensures ∙ z))))
+    let c6 = c5 .before .before .before .before .before .before .before .before .before .before .before in (
+      omega (
+        arith,
+        asks-field-nests (c6 .pre .1) (c3 .size-at .result) (c3 .size-at .ensures) (c4 .meaning .result)
+            (rw (c5 .half-at .ensures) at (c4 .meaning .ensures)) (λ z. c1 .if1 .left (c2 .half-at2 .ensures ∙ z)),
+        c6 .pre .0,
+      ),
+      asks-field-first (c6 .pre .1) (c3 .size-at .result) (c3 .size-at .ensures) (c4 .meaning .result)
+          (rw (c5 .half-at .ensures) at (c4 .meaning .ensures)) (λ z. c1 .if1 .left (c2 .half-at2 .ensures ∙ z)),
+    ))
     -- add-finish-2
     (λ c. omega (arith, asked (c .before .before .before .before .before .before .before .before .before .before .before .before .before .before .before .before .before .before .before .before .before .before .before .before .before .before .before .before .before .before .pre .1) .small))
     -- finish-requires-3
@@ -214,7 +234,8 @@ assign-meets t = assign-lts.spec (claims t) (assign-at t) assign.Post
     let c5 = c4 .before in
     let c6 = c5 .before in
     let c7 = c6 .before .before .before .before .before .before .before .before .before .before .before in
-    asks-field-mid (c7 .pre .1) (c4 .size-at .result) (c4 .size-at .ensures) (c5 .meaning .result) (rw (c6 .half-at .ensures) at (c5 .meaning .ensures)) (λ z. c2 .if1 .left (c3 .half-at2 .ensures ∙ z)) (c1 .expression2 .ensures))
+    asks-field-mid (c7 .pre .1) (c4 .size-at .result) (c4 .size-at .ensures) (c5 .meaning .result)
+    (rw (c6 .half-at .ensures) at (c5 .meaning .ensures)) (λ z. c2 .if1 .left (c3 .half-at2 .ensures ∙ z)) (c1 .expression2 .ensures))
     -- sub-expression-5
     (λ c.
     let c1 = c .before .before .before .before .before .before .before .before .before .before .before .before .before .before .before .before .before .before .before .before in
@@ -240,8 +261,12 @@ assign-meets t = assign-lts.spec (claims t) (assign-at t) assign.Post
     let c5 = c4 .before in
     let c6 = c5 .before in
     let c7 = c6 .before in
-    let c8 = c7 .before .before .before .before .before .before .before .before .before .before .before in
-    (omega (arith, asked (c8 .pre .1) .nested, c8 .pre .0), asks-field-second (c8 .pre .1) (c5 .size-at .result) (c5 .size-at .ensures) (c6 .meaning .result) (rw (c7 .half-at .ensures) at (c6 .meaning .ensures)) (λ z. c3 .if1 .left (c4 .half-at2 .ensures ∙ z)) (c2 .expression2 .ensures) (c1 .finish3 .ensures)))
+    let c8 = c7 .before .before .before .before .before .before .before .before .before .before .before in (
+      omega (arith, asked (c8 .pre .1) .nested, c8 .pre .0),
+      asks-field-second (c8 .pre .1) (c5 .size-at .result) (c5 .size-at .ensures)
+          (c6 .meaning .result) (rw (c7 .half-at .ensures) at (c6 .meaning .ensures)) (λ z. c3 .if1 .left (c4 .half-at2 .ensures ∙ z))
+          (c2 .expression2 .ensures) (c1 .finish3 .ensures),
+    ))
     -- first-in-requires
     (λ c κs. search needs)
     -- second-in-requires-2
@@ -257,7 +282,9 @@ assign-meets t = assign-lts.spec (claims t) (assign-at t) assign.Post
     let c7 = c6 .before in
     let c8 = c7 .before in
     let c9 = c8 .before .before .before .before .before .before .before .before .before .before .before in
-    asks-field-emit (c9 .pre .1) (c6 .size-at .result) (c6 .size-at .ensures) (c7 .meaning .result) (rw (c8 .half-at .ensures) at (c7 .meaning .ensures)) (λ z. c4 .if1 .left (c5 .half-at2 .ensures ∙ z)) (c3 .expression2 .ensures) (c2 .finish3 .ensures) (c1 .expression3 .ensures))
+    asks-field-emit (c9 .pre .1) (c6 .size-at .result) (c6 .size-at .ensures) (c7 .meaning .result)
+    (rw (c8 .half-at .ensures) at (c7 .meaning .ensures)) (λ z. c4 .if1 .left (c5 .half-at2 .ensures ∙ z)) (c3 .expression2 .ensures)
+    (c2 .finish3 .ensures) (c1 .expression3 .ensures))
     -- finish-requires-4
     (λ c κs.
     let c1 = c .before .before .before in
@@ -272,7 +299,9 @@ assign-meets t = assign-lts.spec (claims t) (assign-at t) assign.Post
     let c10 = c9 .before in
     let c11 = c10 .before in
     let c12 = c11 .before .before .before .before .before .before .before .before .before .before .before in
-    asks-field-finish (c12 .pre .1) (c9 .size-at .result) (c9 .size-at .ensures) (c10 .meaning .result) (rw (c11 .half-at .ensures) at (c10 .meaning .ensures)) (λ z. c7 .if1 .left (c8 .half-at2 .ensures ∙ z)) (c6 .expression2 .ensures) (c5 .finish3 .ensures) (c4 .expression3 .ensures) (rw (c3 .first-in .ensures, c2 .second-in2 .ensures) at (c1 .emit2 .ensures)))
+    asks-field-finish (c12 .pre .1) (c9 .size-at .result) (c9 .size-at .ensures) (c10 .meaning .result)
+    (rw (c11 .half-at .ensures) at (c10 .meaning .ensures)) (λ z. c7 .if1 .left (c8 .half-at2 .ensures ∙ z)) (c6 .expression2 .ensures)
+    (c5 .finish3 .ensures) (c4 .expression3 .ensures) (rw (c3 .first-in .ensures, c2 .second-in2 .ensures) at (c1 .emit2 .ensures)))
     -- same-length-5
     (λ c. assign-ends-2 t c .kept .same-env)
     -- same-length-6

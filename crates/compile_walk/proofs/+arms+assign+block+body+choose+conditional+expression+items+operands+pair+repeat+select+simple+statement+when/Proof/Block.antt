@@ -2,17 +2,18 @@
 use native.Mathlib.Omega.{arith}
 use borrow.Author.Needs.{needs}
 use Rattle.compile_steps.specs.Parts.{asked}
-use Rattle.compile_steps.specs.BlockAsks.{asks-block-within, asks-block-few, asks-block-marks, asks-block-declare, asks-block-enter, asks-block-items, asks-block-releases, asks-block-finish, answers-block}
+use Rattle.compile_steps.specs.BlockAsks.{asks-block-within, asks-block-few, asks-block-marks, asks-block-declare, asks-block-enter, asks-block-items}
+use Rattle.compile_steps.specs.BlockAsks.{asks-block-releases, asks-block-finish, answers-block}
 use Prim.Native.Nat.{ℕ}
 use Rattle.compile_walk.proofs.block.Reads as block
 use Rattle.compile_walk.proofs.+arms+assign+block+body+choose+conditional+expression+items+operands+pair+repeat+select+simple+statement+when.Lts-block as block-lts
 use Rattle.compile_walk.proofs.items.Reads as items
-use Rattle.compile_own.proofs.declare.Reads as declare-reads
-use Rattle.compile_own.proofs.finish.Reads as finish-reads
-use Rattle.compile_own.proofs.holds_in.Reads as holds-in-reads
-use Rattle.compile_own.proofs.mark_holds.Reads as mark-holds-reads
-use Rattle.compile_pen.proofs.releases.Reads as releases-reads
-use Rattle.heads.proofs.enter.Reads as enter-reads
+use Rattle.compile_emit.proofs.declare.Reads as declare-reads
+use Rattle.compile_emit.proofs.finish.Reads as finish-reads
+use Rattle.compile_emit.proofs.holds_in.Reads as holds-in-reads
+use Rattle.compile_emit.proofs.mark_holds.Reads as mark-holds-reads
+use Rattle.compile_output.proofs.releases.Reads as releases-reads
+use Rattle.table_scopes.proofs.heads.enter.Reads as enter-reads
 use Rattle.words.proofs.half_at.Reads as half-at-reads
 use Rattle.words.proofs.word_at.Reads as word-at-reads
 use Rattle.compile_walk.proofs.+arms+assign+block+body+choose+conditional+expression+items+operands+pair+repeat+select+simple+statement+when.Proof.Base.{block-at, items-below}
@@ -168,8 +169,11 @@ block-meets t = block-lts.spec (claims t) (block-at t) block.Post
     let c4 = c3 .before .before in
     let c5 = c4 .before .before in
     let c6 = c5 .before in
-    let c7 = c6 .before .before .before .before .before .before .before .before .before .before in
-    (omega (arith, asked (c7 .pre .1) .nested, c7 .pre .0), asks-block-items (c7 .pre .1) (c6 .half-at .ensures) (c5 .word-at .ensures) (c4 .holds-in .ensures) (c3 .mark-holds .ensures) (c2 .enter .ensures) (c1 .declare .ensures)))
+    let c7 = c6 .before .before .before .before .before .before .before .before .before .before in (
+      omega (arith, asked (c7 .pre .1) .nested, c7 .pre .0),
+      asks-block-items (c7 .pre .1) (c6 .half-at .ensures) (c5 .word-at .ensures)
+          (c4 .holds-in .ensures) (c3 .mark-holds .ensures) (c2 .enter .ensures) (c1 .declare .ensures),
+    ))
     -- releases-requires
     (λ c κs.
     let c1 = c .before .before .before .before .before .before .before .before .before .before in
@@ -192,7 +196,8 @@ block-meets t = block-lts.spec (claims t) (block-at t) block.Post
     let c7 = c6 .before .before in
     let c8 = c7 .before in
     let c9 = c8 .before .before .before .before .before .before .before .before .before .before in
-    asks-block-finish (c9 .pre .1) (c8 .half-at .ensures) (c7 .word-at .ensures) (c6 .holds-in .ensures) (c5 .mark-holds .ensures) (c4 .enter .ensures) (c3 .declare .ensures) (c2 .items .ensures) (c1 .releases .ensures))
+    asks-block-finish (c9 .pre .1) (c8 .half-at .ensures) (c7 .word-at .ensures) (c6 .holds-in .ensures) (c5 .mark-holds .ensures)
+    (c4 .enter .ensures) (c3 .declare .ensures) (c2 .items .ensures) (c1 .releases .ensures))
     -- same-length
     (λ c. block-ends t c .kept .same-env)
     -- same-length-2

@@ -3,19 +3,20 @@ use native.Mathlib.Omega.{arith}
 use lib.ListN.{length}
 use borrow.Author.Needs.{needs}
 use Rattle.compile_steps.specs.Parts.{asked}
-use Rattle.compile_steps.specs.BodyAsks.{asks-body-within, asks-body-few, asks-body-marks, asks-body-declare, asks-body-enter, asks-body-items, asks-body-spanned, asks-body-passes, asks-body-value, asks-body-releases, asks-body-finish, answers-body}
+use Rattle.compile_steps.specs.BodyAsks.{asks-body-within, asks-body-few, asks-body-marks, asks-body-declare, asks-body-enter, asks-body-items, asks-body-spanned}
+use Rattle.compile_steps.specs.BodyAsks.{asks-body-passes, asks-body-value, asks-body-releases, asks-body-finish, answers-body}
 use Prim.Native.Nat.{ℕ, _+_, _*_, _≤_}
 use Rattle.compile_walk.proofs.body.Reads as body
 use Rattle.compile_walk.proofs.+arms+assign+block+body+choose+conditional+expression+items+operands+pair+repeat+select+simple+statement+when.Lts-body as body-lts
 use Rattle.compile_walk.proofs.expression.Reads as expression
 use Rattle.compile_walk.proofs.items.Reads as items
-use Rattle.compile_own.proofs.declare.Reads as declare-reads
-use Rattle.compile_own.proofs.finish.Reads as finish-reads
-use Rattle.compile_own.proofs.holds_in.Reads as holds-in-reads
-use Rattle.compile_own.proofs.mark_holds.Reads as mark-holds-reads
-use Rattle.compile_pen.proofs.releases.Reads as releases-reads
-use Rattle.heads.proofs.enter.Reads as enter-reads
-use Rattle.spans.proofs.spanned.Reads as spanned-reads
+use Rattle.compile_emit.proofs.declare.Reads as declare-reads
+use Rattle.compile_emit.proofs.finish.Reads as finish-reads
+use Rattle.compile_emit.proofs.holds_in.Reads as holds-in-reads
+use Rattle.compile_emit.proofs.mark_holds.Reads as mark-holds-reads
+use Rattle.compile_output.proofs.releases.Reads as releases-reads
+use Rattle.table_scopes.proofs.heads.enter.Reads as enter-reads
+use Rattle.table_scopes.proofs.spans.spanned.Reads as spanned-reads
 use Rattle.words.proofs.half_at.Reads as half-at-reads
 use Rattle.words.proofs.word_at.Reads as word-at-reads
 use Rattle.compile_walk.proofs.+arms+assign+block+body+choose+conditional+expression+items+operands+pair+repeat+select+simple+statement+when.Proof.Base.{body-at, expression-below, items-below}
@@ -195,8 +196,11 @@ body-meets t = body-lts.spec (claims t) (body-at t) body.Post
     let c4 = c3 .before .before in
     let c5 = c4 .before .before in
     let c6 = c5 .before in
-    let c7 = c6 .before .before .before .before .before .before .before .before .before .before in
-    (omega (arith, asked (c7 .pre .1) .nested, c7 .pre .0), asks-body-items (c7 .pre .1) (c6 .half-at .ensures) (c5 .word-at .ensures) (c4 .holds-in .ensures) (c3 .mark-holds .ensures) (c2 .enter .ensures) (c1 .declare .ensures)))
+    let c7 = c6 .before .before .before .before .before .before .before .before .before .before in (
+      omega (arith, asked (c7 .pre .1) .nested, c7 .pre .0),
+      asks-body-items (c7 .pre .1) (c6 .half-at .ensures) (c5 .word-at .ensures)
+          (c4 .holds-in .ensures) (c3 .mark-holds .ensures) (c2 .enter .ensures) (c1 .declare .ensures),
+    ))
     -- add-spanned
     (λ c. omega (arith, asked (c .before .before .before .before .before .before .before .before .before .before .before .before .before .before .before .before .before .before .before .before .before .before .before .before .before .before .before .before .before .before .before .before .before .before .before .before .before .before .before .before .before .before .before .pre .1) .small))
     -- add-spanned-2
@@ -256,8 +260,11 @@ body-meets t = body-lts.spec (claims t) (body-at t) body.Post
     let c6 = c5 .before .before in
     let c7 = c6 .before .before in
     let c8 = c7 .before in
-    let c9 = c8 .before .before .before .before .before .before .before .before .before .before in
-    (omega (arith, asked (c9 .pre .1) .nested, c9 .pre .0), asks-body-value (c9 .pre .1) (c8 .half-at .ensures) (c7 .word-at .ensures) (c6 .holds-in .ensures) (c5 .mark-holds .ensures) (c4 .enter .ensures) (c3 .declare .ensures) (c2 .items .ensures) (c1 .spanned .ensures)))
+    let c9 = c8 .before .before .before .before .before .before .before .before .before .before in (
+      omega (arith, asked (c9 .pre .1) .nested, c9 .pre .0),
+      asks-body-value (c9 .pre .1) (c8 .half-at .ensures) (c7 .word-at .ensures)
+          (c6 .holds-in .ensures) (c5 .mark-holds .ensures) (c4 .enter .ensures) (c3 .declare .ensures) (c2 .items .ensures) (c1 .spanned .ensures),
+    ))
     -- releases-requires
     (λ c κs.
     let c1 = c .before .before .before .before .before .before .before .before .before .before in
@@ -270,7 +277,8 @@ body-meets t = body-lts.spec (claims t) (body-at t) body.Post
     let c8 = c7 .before .before in
     let c9 = c8 .before in
     let c10 = c9 .before .before .before .before .before .before .before .before .before .before in
-    asks-body-releases (c10 .pre .1) (c9 .half-at .ensures) (c8 .word-at .ensures) (c7 .holds-in .ensures) (c6 .mark-holds .ensures) (c5 .enter .ensures) (c4 .declare .ensures) (c3 .items .ensures) (c2 .spanned .ensures) (c1 .expression .ensures))
+    asks-body-releases (c10 .pre .1) (c9 .half-at .ensures) (c8 .word-at .ensures) (c7 .holds-in .ensures) (c6 .mark-holds .ensures)
+    (c5 .enter .ensures) (c4 .declare .ensures) (c3 .items .ensures) (c2 .spanned .ensures) (c1 .expression .ensures))
     -- finish-requires
     (λ c κs.
     let c1 = c .before .before in
@@ -284,7 +292,8 @@ body-meets t = body-lts.spec (claims t) (body-at t) body.Post
     let c9 = c8 .before .before in
     let c10 = c9 .before in
     let c11 = c10 .before .before .before .before .before .before .before .before .before .before in
-    asks-body-finish (c11 .pre .1) (c10 .half-at .ensures) (c9 .word-at .ensures) (c8 .holds-in .ensures) (c7 .mark-holds .ensures) (c6 .enter .ensures) (c5 .declare .ensures) (c4 .items .ensures) (c3 .spanned .ensures) (c2 .expression .ensures) (c1 .releases .ensures))
+    asks-body-finish (c11 .pre .1) (c10 .half-at .ensures) (c9 .word-at .ensures) (c8 .holds-in .ensures) (c7 .mark-holds .ensures)
+    (c6 .enter .ensures) (c5 .declare .ensures) (c4 .items .ensures) (c3 .spanned .ensures) (c2 .expression .ensures) (c1 .releases .ensures))
     -- same-length
     (λ c. body-ends t c .kept .same-env)
     -- same-length-2

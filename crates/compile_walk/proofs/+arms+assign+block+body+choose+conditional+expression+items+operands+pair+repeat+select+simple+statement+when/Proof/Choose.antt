@@ -3,21 +3,24 @@ use mathlib.Core.Path.{refl}
 use native.Mathlib.Omega.{arith}
 use lib.ListN.{length}
 use borrow.Author.Needs.{needs}
-use Rattle.shapes.specs.Steps.{Passes}
+use Rattle.table_forms.specs.Steps.{Passes}
 use Rattle.compile_steps.specs.Parts.{asked, below}
-use Rattle.compile_steps.specs.Choose.{asks-choose-first, asks-choose-passes, asks-choose-passes₂, asks-choose-emit, asks-choose-second, asks-choose-emit₂, asks-choose-shape, asks-choose-third, asks-choose-shape₂, asks-choose-finish, answers-choose}
+use Rattle.compile_steps.specs.Choose.{asks-choose-first, asks-choose-passes, asks-choose-passes₂, asks-choose-emit, asks-choose-second, asks-choose-emit₂}
+use Rattle.compile_steps.specs.Choose.{asks-choose-shape, asks-choose-third, asks-choose-shape₂, asks-choose-finish, answers-choose}
 use Rattle.compile_steps.specs.Adapt.{second-within, third-within}
 use Prim.Native.Nat.{ℕ, _+_, _-_, _*_, _≤_}
 use Rattle.compile_walk.proofs.choose.Reads as choose
 use Rattle.compile_walk.proofs.+arms+assign+block+body+choose+conditional+expression+items+operands+pair+repeat+select+simple+statement+when.Lts-choose as choose-lts
 use Rattle.compile_walk.proofs.expression.Reads as expression
 use Rattle.compile_walk.proofs.statement.Reads as statement′
-use Rattle.compile_own.proofs.end_of.Reads as end-of-reads
-use Rattle.compile_own.proofs.finish.Reads as finish-reads
-use Rattle.compile_pen.proofs.emit.Reads as emit-reads
-use Rattle.compile_pen.proofs.shape.Reads as shape-reads
-use Rattle.spans.proofs.size_at.Reads as size-at-reads
-use Rattle.compile_walk.proofs.+arms+assign+block+body+choose+conditional+expression+items+operands+pair+repeat+select+simple+statement+when.Proof.Base.{choose-at, expression-below, statement-below}
+use Rattle.compile_emit.proofs.end_of.Reads as end-of-reads
+use Rattle.compile_emit.proofs.finish.Reads as finish-reads
+use Rattle.compile_output.proofs.emit.Reads as emit-reads
+use Rattle.compile_output.proofs.shape.Reads as shape-reads
+use Rattle.table_scopes.proofs.spans.size_at.Reads as size-at-reads
+use Rattle.compile_walk.proofs.+arms+assign+block+body+choose+conditional+expression+items+operands+pair+repeat+select+simple+statement+when.Proof.Base.{choose-at}
+use Rattle.compile_walk.proofs.+arms+assign+block+body+choose+conditional+expression+items+operands+pair+repeat+select+simple+statement+when.Proof.Base.{expression-below}
+use Rattle.compile_walk.proofs.+arms+assign+block+body+choose+conditional+expression+items+operands+pair+repeat+select+simple+statement+when.Proof.Base.{statement-below}
 
 -- what the functions that it calls are taken to ask and give
 abbrev claims : ℕ → choose-lts.Claims
@@ -103,7 +106,8 @@ choose-meets t = choose-lts.spec (claims t) (choose-at t) choose.Post
     -- add-size-at
     (λ c. omega (arith, asked (c .before .before .before .before .before .before .before .before .before .before .before .before .before .before .before .before .before .before .before .before .before .before .before .pre .1) .small))
     -- size-at-requires
-    (λ c κs. asks-choose-passes (c .before .before .before .before .before .before .before .before .before .before .before .before .before .before .before .before .before .before .before .before .before .before .before .pre .1) _ refl .known)
+    (λ c κs. asks-choose-passes (c .before .before .before .before .before .before .before .before .before .before .before .before .before .before .before .before .before .before .before .before .before .before .before .pre .1)
+    _ refl .known)
     -- add-second-2
     (λ c.
     let c2 = c .before .before .before .before .before .before .before .before .before .before .before .before .before .before .before .before .before .before .before .before .before .before .before .before in
@@ -156,7 +160,8 @@ choose-meets t = choose-lts.spec (claims t) (choose-at t) choose.Post
     let c5 = c4 .before .before .before .before .before .before .before .before .before in
     let c6 = c5 .before .before .before .before .before .before .before .before .before .before .before .before .before .before .before in (
       omega (arith, asked (c6 .pre .1) .nested, c6 .pre .0),
-      asks-choose-second (c6 .pre .1) (c4 .size-at .result) (c4 .size-at .ensures) (c3 .size-at2 .result) (c3 .size-at2 .ensures) (c5 .expression .ensures) (c2 .end-of .ensures .0) (c1 .emit .ensures),
+      asks-choose-second (c6 .pre .1) (c4 .size-at .result) (c4 .size-at .ensures) (c3 .size-at2 .result) (c3 .size-at2 .ensures)
+          (c5 .expression .ensures) (c2 .end-of .ensures .0) (c1 .emit .ensures),
     ))
     -- end-of-requires-2
     (λ c κs. search needs)
@@ -247,7 +252,8 @@ choose-meets t = choose-lts.spec (claims t) (choose-at t) choose.Post
     let c10 = c9 .before in
     let c11 = c10 .before .before .before .before .before .before .before .before .before in
     let c12 = c11 .before .before .before .before .before .before .before .before .before .before .before .before .before .before .before in
-    asks-choose-finish (c12 .pre .1) (c10 .size-at .result) (c10 .size-at .ensures) (c9 .size-at2 .result) (c9 .size-at2 .ensures) (c11 .expression .ensures) (c8 .end-of .ensures .0) (c7 .emit .ensures)
+    asks-choose-finish (c12 .pre .1) (c10 .size-at .result) (c10 .size-at .ensures) (c9 .size-at2 .result) (c9 .size-at2 .ensures)
+    (c11 .expression .ensures) (c8 .end-of .ensures .0) (c7 .emit .ensures)
     (c6 .statement .ensures) (c5 .end-of2 .ensures .0) (c4 .emit2 .ensures) (c3 .shape .ensures) (c2 .statement2 .ensures) (c1 .shape2 .ensures))
     -- same-length
     (λ c. choose-ends t c .kept .same-env)

@@ -3,19 +3,20 @@ use mathlib.Core.Path.{refl}
 use native.Mathlib.Omega.{arith}
 use lib.ListN.{length}
 use borrow.Author.Needs.{needs}
-use Rattle.shapes.specs.Steps.{Passes}
+use Rattle.table_forms.specs.Steps.{Passes}
 use Rattle.compile_steps.specs.Parts.{asked, below}
 use Rattle.compile_steps.specs.Adapt.{second-within, third-within}
-use Rattle.compile_steps.specs.Adapt.{asks-cond-first, asks-cond-passes, asks-cond-passes₂, asks-cond-emit, asks-cond-second, asks-cond-read, asks-cond-emit₂, asks-cond-shape, asks-cond-third, asks-cond-write, asks-cond-shape₂, asks-cond-finish, answers-cond}
+use Rattle.compile_steps.specs.Adapt.{asks-cond-first, asks-cond-passes, asks-cond-passes₂, asks-cond-emit, asks-cond-second, asks-cond-read, asks-cond-emit₂}
+use Rattle.compile_steps.specs.Adapt.{asks-cond-shape, asks-cond-third, asks-cond-write, asks-cond-shape₂, asks-cond-finish, answers-cond}
 use Prim.Native.Nat.{ℕ, _+_, _-_, _*_, _≤_}
 use Rattle.compile_walk.proofs.conditional.Reads as conditional
 use Rattle.compile_walk.proofs.+arms+assign+block+body+choose+conditional+expression+items+operands+pair+repeat+select+simple+statement+when.Lts-conditional as conditional-lts
 use Rattle.compile_walk.proofs.expression.Reads as expression
-use Rattle.compile_own.proofs.end_of.Reads as end-of-reads
-use Rattle.compile_own.proofs.finish.Reads as finish-reads
-use Rattle.compile_pen.proofs.emit.Reads as emit-reads
-use Rattle.compile_pen.proofs.shape.Reads as shape-reads
-use Rattle.spans.proofs.size_at.Reads as size-at-reads
+use Rattle.compile_emit.proofs.end_of.Reads as end-of-reads
+use Rattle.compile_emit.proofs.finish.Reads as finish-reads
+use Rattle.compile_output.proofs.emit.Reads as emit-reads
+use Rattle.compile_output.proofs.shape.Reads as shape-reads
+use Rattle.table_scopes.proofs.spans.size_at.Reads as size-at-reads
 use Rattle.compile_walk.proofs.+arms+assign+block+body+choose+conditional+expression+items+operands+pair+repeat+select+simple+statement+when.Proof.Base.{conditional-at, expression-below}
 
 -- what the functions that it calls are taken to ask and give
@@ -101,7 +102,8 @@ conditional-meets t = conditional-lts.spec (claims t) (conditional-at t) conditi
     -- add-size-at
     (λ c. omega (arith, asked (c .before .before .before .before .before .before .before .before .before .before .before .before .before .before .before .before .before .before .before .before .before .before .before .pre .1) .small))
     -- size-at-requires
-    (λ c κs. asks-cond-passes (c .before .before .before .before .before .before .before .before .before .before .before .before .before .before .before .before .before .before .before .before .before .before .before .pre .1) _ refl .known)
+    (λ c κs. asks-cond-passes (c .before .before .before .before .before .before .before .before .before .before .before .before .before .before .before .before .before .before .before .before .before .before .before .pre .1)
+    _ refl .known)
     -- add-second-2
     (λ c.
     let c2 = c .before .before .before .before .before .before .before .before .before .before .before .before .before .before .before .before .before .before .before .before .before .before .before .before in
@@ -150,8 +152,11 @@ conditional-meets t = conditional-lts.spec (claims t) (conditional-at t) conditi
     let c2 = c1 .before in
     let c3 = c2 .before .before .before in
     let c4 = c3 .before .before .before .before .before .before .before .before .before in
-    let c5 = c4 .before .before .before .before .before .before .before .before .before .before .before .before .before .before .before in
-    (omega (arith, asked (c5 .pre .1) .nested, c5 .pre .0), asks-cond-second (c5 .pre .1) (c3 .size-at .result) (c3 .size-at .ensures) (c4 .expression .ensures) (c2 .end-of .ensures .0) (c1 .emit .ensures)))
+    let c5 = c4 .before .before .before .before .before .before .before .before .before .before .before .before .before .before .before in (
+      omega (arith, asked (c5 .pre .1) .nested, c5 .pre .0),
+      asks-cond-second (c5 .pre .1) (c3 .size-at .result) (c3 .size-at .ensures)
+          (c4 .expression .ensures) (c2 .end-of .ensures .0) (c1 .emit .ensures),
+    ))
     -- slice-read-ty
     (λ c.
     let c1 = c .before .before .before .before .before .before .before .before .before in
@@ -183,7 +188,8 @@ conditional-meets t = conditional-lts.spec (claims t) (conditional-at t) conditi
     let c7 = c6 .before in
     let c8 = c7 .before .before .before .before .before .before .before .before .before in
     let c9 = c8 .before .before .before .before .before .before .before .before .before .before .before .before .before .before .before in
-    asks-cond-shape (c9 .pre .1) (c7 .size-at .result) (c7 .size-at .ensures) (c8 .expression .ensures) (c5 .end-of .ensures .0) (c4 .emit .ensures) (c3 .expression2 .ensures) (c6 .size-at2 .result) (c6 .size-at2 .ensures)
+    asks-cond-shape (c9 .pre .1) (c7 .size-at .result) (c7 .size-at .ensures) (c8 .expression .ensures) (c5 .end-of .ensures .0) (c4 .emit .ensures)
+    (c3 .expression2 .ensures) (c6 .size-at2 .result) (c6 .size-at2 .ensures)
     (c2 .end-of2 .ensures .0) (c1 .emit2 .ensures))
     -- sub-last
     (λ c. omega arith)
@@ -216,7 +222,8 @@ conditional-meets t = conditional-lts.spec (claims t) (conditional-at t) conditi
     let c9 = c8 .before .before .before .before .before .before .before .before .before in
     let c10 = c9 .before .before .before .before .before .before .before .before .before .before .before .before .before .before .before in (
       omega (arith, asked (c10 .pre .1) .nested, c10 .pre .0),
-      asks-cond-third (c10 .pre .1) (c8 .size-at .result) (c8 .size-at .ensures) (c9 .expression .ensures) (c6 .end-of .ensures .0) (c5 .emit .ensures) (c4 .expression2 .ensures) (c7 .size-at2 .result) (c7 .size-at2 .ensures)
+      asks-cond-third (c10 .pre .1) (c8 .size-at .result) (c8 .size-at .ensures) (c9 .expression .ensures) (c6 .end-of .ensures .0)
+          (c5 .emit .ensures) (c4 .expression2 .ensures) (c7 .size-at2 .result) (c7 .size-at2 .ensures)
           (c3 .end-of2 .ensures .0) (c2 .emit2 .ensures) (c1 .shape .ensures),
     ))
     -- slice-write-stack
@@ -232,7 +239,8 @@ conditional-meets t = conditional-lts.spec (claims t) (conditional-at t) conditi
     let c9 = c8 .before in
     let c10 = c9 .before .before .before .before .before .before .before .before .before in
     let c11 = c10 .before .before .before .before .before .before .before .before .before .before .before .before .before .before .before in
-    asks-cond-write (c11 .pre .1) (c9 .size-at .result) (c9 .size-at .ensures) (c10 .expression .ensures) (c7 .end-of .ensures .0) (c6 .emit .ensures) (c5 .expression2 .ensures) (c8 .size-at2 .result) (c8 .size-at2 .ensures)
+    asks-cond-write (c11 .pre .1) (c9 .size-at .result) (c9 .size-at .ensures) (c10 .expression .ensures) (c7 .end-of .ensures .0) (c6 .emit .ensures)
+    (c5 .expression2 .ensures) (c8 .size-at2 .result) (c8 .size-at2 .ensures)
     (c4 .end-of2 .ensures .0) (c3 .emit2 .ensures) (c2 .shape .ensures) (c1 .expression3 .ensures))
     -- add-shape
     (λ c. omega (arith, asked (c .before .before .before .before .before .before .before .before .before .before .before .before .before .before .before .before .before .before .before .before .before .before .before .before .before .before .before .before .before .before .before .before .before .before .before .before .before .before .before .before .before .before .before .before .before .before .before .before .before .before .before .before .before .before .before .before .before .before .before .before .before .before .before .before .before .before .before .before .before .before .before .before .pre .1) .deep))
@@ -249,7 +257,8 @@ conditional-meets t = conditional-lts.spec (claims t) (conditional-at t) conditi
     let c9 = c8 .before in
     let c10 = c9 .before .before .before .before .before .before .before .before .before in
     let c11 = c10 .before .before .before .before .before .before .before .before .before .before .before .before .before .before .before in
-    asks-cond-shape₂ (c11 .pre .1) (c9 .size-at .result) (c9 .size-at .ensures) (c10 .expression .ensures) (c7 .end-of .ensures .0) (c6 .emit .ensures) (c5 .expression2 .ensures) (c8 .size-at2 .result) (c8 .size-at2 .ensures)
+    asks-cond-shape₂ (c11 .pre .1) (c9 .size-at .result) (c9 .size-at .ensures) (c10 .expression .ensures) (c7 .end-of .ensures .0)
+    (c6 .emit .ensures) (c5 .expression2 .ensures) (c8 .size-at2 .result) (c8 .size-at2 .ensures)
     (c4 .end-of2 .ensures .0) (c3 .emit2 .ensures) (c2 .shape .ensures) (c1 .expression3 .ensures) _ refl)
     -- finish-requires
     (λ c κs.
@@ -265,7 +274,8 @@ conditional-meets t = conditional-lts.spec (claims t) (conditional-at t) conditi
     let c10 = c9 .before in
     let c11 = c10 .before .before .before .before .before .before .before .before .before in
     let c12 = c11 .before .before .before .before .before .before .before .before .before .before .before .before .before .before .before in
-    asks-cond-finish (c12 .pre .1) (c10 .size-at .result) (c10 .size-at .ensures) (c11 .expression .ensures) (c8 .end-of .ensures .0) (c7 .emit .ensures) (c6 .expression2 .ensures) (c9 .size-at2 .result) (c9 .size-at2 .ensures)
+    asks-cond-finish (c12 .pre .1) (c10 .size-at .result) (c10 .size-at .ensures) (c11 .expression .ensures) (c8 .end-of .ensures .0)
+    (c7 .emit .ensures) (c6 .expression2 .ensures) (c9 .size-at2 .result) (c9 .size-at2 .ensures)
     (c5 .end-of2 .ensures .0) (c4 .emit2 .ensures) (c3 .shape .ensures) (c2 .expression3 .ensures) _ refl (c1 .shape2 .ensures))
     -- same-length
     (λ c. conditional-ends t c .kept .same-env)

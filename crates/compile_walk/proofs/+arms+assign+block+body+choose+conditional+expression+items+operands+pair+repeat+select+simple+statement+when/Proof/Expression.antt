@@ -12,13 +12,17 @@ use Rattle.compile_walk.proofs.expression.Reads as expression
 use Rattle.compile_walk.proofs.+arms+assign+block+body+choose+conditional+expression+items+operands+pair+repeat+select+simple+statement+when.Lts-expression as expression-lts
 use Rattle.compile_walk.proofs.pair.Reads as pair
 use Rattle.compile_walk.proofs.simple.Reads as simple
-use Rattle.compile_own.proofs.finish.Reads as finish-reads
-use Rattle.compile_own.proofs.known_of.Reads as known-of-reads
-use Rattle.compile_own.proofs.leaf.Reads as leaf-reads
-use Rattle.compile_own.proofs.leaf_type.Reads as leaf-type-reads
+use Rattle.compile_emit.proofs.finish.Reads as finish-reads
+use Rattle.compile_emit.proofs.known_of.Reads as known-of-reads
+use Rattle.compile_emit.proofs.leaf.Reads as leaf-reads
+use Rattle.compile_emit.proofs.leaf_type.Reads as leaf-type-reads
 use Rattle.words.proofs.half_at.Reads as half-at-reads
 use Rattle.words.proofs.word_at.Reads as word-at-reads
-use Rattle.compile_walk.proofs.+arms+assign+block+body+choose+conditional+expression+items+operands+pair+repeat+select+simple+statement+when.Proof.Base.{body-below, conditional-below, expression-at, pair-below, simple-below}
+use Rattle.compile_walk.proofs.+arms+assign+block+body+choose+conditional+expression+items+operands+pair+repeat+select+simple+statement+when.Proof.Base.{body-below}
+use Rattle.compile_walk.proofs.+arms+assign+block+body+choose+conditional+expression+items+operands+pair+repeat+select+simple+statement+when.Proof.Base.{conditional-below}
+use Rattle.compile_walk.proofs.+arms+assign+block+body+choose+conditional+expression+items+operands+pair+repeat+select+simple+statement+when.Proof.Base.{expression-at}
+use Rattle.compile_walk.proofs.+arms+assign+block+body+choose+conditional+expression+items+operands+pair+repeat+select+simple+statement+when.Proof.Base.{pair-below}
+use Rattle.compile_walk.proofs.+arms+assign+block+body+choose+conditional+expression+items+operands+pair+repeat+select+simple+statement+when.Proof.Base.{simple-below}
 
 -- what the functions that it calls are taken to ask and give
 abbrev claims : ℕ → expression-lts.Claims
@@ -104,7 +108,9 @@ expression-meets t = expression-lts.spec (claims t) (expression-at t) expression
     let c2 = c1 .before in
     let c3 = c2 .before in
     let c4 = c3 .before .before .before .before .before .before .before .before .before .before in
-    asks-leaf (ask-as (λ n h e. leaf-of n h (λ z. c2 .match .rest .0 .0 .1 (c3 .half-at .ensures ∙ (sym e ∙ z))) (λ z. c2 .match .rest .0 .1 (c3 .half-at .ensures ∙ (sym e ∙ z))) (λ z. c2 .match .rest .1 (c3 .half-at .ensures ∙ (sym e ∙ z))) (omega (arith, e, c3 .half-at .ensures, c1 .if1 .taken))) (c4 .pre .1)))
+    asks-leaf (ask-as (λ n h e. leaf-of n h (λ z. c2 .match .rest .0 .0 .1 (c3 .half-at .ensures ∙ (sym e ∙ z)))
+    (λ z. c2 .match .rest .0 .1 (c3 .half-at .ensures ∙ (sym e ∙ z))) (λ z. c2 .match .rest .1 (c3 .half-at .ensures ∙ (sym e ∙ z)))
+    (omega (arith, e, c3 .half-at .ensures, c1 .if1 .taken))) (c4 .pre .1)))
     -- finish-requires
     (λ c κs.
     let c1 = c .before .before in
@@ -112,7 +118,9 @@ expression-meets t = expression-lts.spec (claims t) (expression-at t) expression
     let c3 = c2 .before in
     let c4 = c3 .before in
     let c5 = c4 .before .before .before .before .before .before .before .before .before .before in
-    asks-leaf-finish (ask-as (λ n h e. leaf-of n h (λ z. c3 .match .rest .0 .0 .1 (c4 .half-at .ensures ∙ (sym e ∙ z))) (λ z. c3 .match .rest .0 .1 (c4 .half-at .ensures ∙ (sym e ∙ z))) (λ z. c3 .match .rest .1 (c4 .half-at .ensures ∙ (sym e ∙ z))) (omega (arith, e, c4 .half-at .ensures, c2 .if1 .taken))) (c5 .pre .1)) (c1 .leaf .ensures .0))
+    asks-leaf-finish (ask-as (λ n h e. leaf-of n h (λ z. c3 .match .rest .0 .0 .1 (c4 .half-at .ensures ∙ (sym e ∙ z)))
+    (λ z. c3 .match .rest .0 .1 (c4 .half-at .ensures ∙ (sym e ∙ z))) (λ z. c3 .match .rest .1 (c4 .half-at .ensures ∙ (sym e ∙ z)))
+    (omega (arith, e, c4 .half-at .ensures, c2 .if1 .taken))) (c5 .pre .1)) (c1 .leaf .ensures .0))
     -- sub-simple
     (λ c. omega arith)
     -- part-simple-start
@@ -124,8 +132,12 @@ expression-meets t = expression-lts.spec (claims t) (expression-at t) expression
     let c1 = c .before .before .before .before .before in
     let c2 = c1 .before in
     let c3 = c2 .before in
-    let c4 = c3 .before .before .before .before .before .before .before .before .before .before in
-    (omega (arith, c4 .pre .0), asks-anew _ (ask-as (λ n h e. simple-expr n h (λ z. c2 .match .rest .0 .0 .1 (c3 .half-at .ensures ∙ (sym e ∙ z))) (λ z. c2 .match .rest .0 .1 (c3 .half-at .ensures ∙ (sym e ∙ z))) (λ z. c2 .match .rest .1 (c3 .half-at .ensures ∙ (sym e ∙ z))) (omega (arith, e, c3 .half-at .ensures, c1 .if1 .left))) (c4 .pre .1))))
+    let c4 = c3 .before .before .before .before .before .before .before .before .before .before in (
+      omega (arith, c4 .pre .0),
+      asks-anew _ (ask-as (λ n h e. simple-expr n h (λ z. c2 .match .rest .0 .0 .1 (c3 .half-at .ensures ∙ (sym e ∙ z)))
+          (λ z. c2 .match .rest .0 .1 (c3 .half-at .ensures ∙ (sym e ∙ z))) (λ z. c2 .match .rest .1 (c3 .half-at .ensures ∙ (sym e ∙ z)))
+          (omega (arith, e, c3 .half-at .ensures, c1 .if1 .left))) (c4 .pre .1)),
+    ))
     -- same-length
     (λ c. (c .before .before .before .before .before .before .before .before .pair .ensures) .kept .same-env)
     -- same-length-2
@@ -192,4 +204,6 @@ expression-meets t = expression-lts.spec (claims t) (expression-at t) expression
     let c2 = c1 .before .before .before .before .before .before in
     let c3 = c2 .before in
     let c4 = c3 .before in
-    answer-as (λ n h e. simple-expr n h (λ z. c3 .match .rest .0 .0 .1 (c4 .half-at .ensures ∙ (sym e ∙ z))) (λ z. c3 .match .rest .0 .1 (c4 .half-at .ensures ∙ (sym e ∙ z))) (λ z. c3 .match .rest .1 (c4 .half-at .ensures ∙ (sym e ∙ z))) (omega (arith, e, c4 .half-at .ensures, c2 .if1 .left))) (answers-anew _ (c1 .simple .ensures)))
+    answer-as (λ n h e. simple-expr n h (λ z. c3 .match .rest .0 .0 .1 (c4 .half-at .ensures ∙ (sym e ∙ z)))
+    (λ z. c3 .match .rest .0 .1 (c4 .half-at .ensures ∙ (sym e ∙ z))) (λ z. c3 .match .rest .1 (c4 .half-at .ensures ∙ (sym e ∙ z)))
+    (omega (arith, e, c4 .half-at .ensures, c2 .if1 .left))) (answers-anew _ (c1 .simple .ensures)))

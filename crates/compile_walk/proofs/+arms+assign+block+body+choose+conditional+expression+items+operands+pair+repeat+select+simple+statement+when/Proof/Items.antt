@@ -8,11 +8,12 @@ use Prim.Native.Nat.{ℕ}
 use Rattle.compile_walk.proofs.items.Reads as items
 use Rattle.compile_walk.proofs.+arms+assign+block+body+choose+conditional+expression+items+operands+pair+repeat+select+simple+statement+when.Lts-items as items-lts
 use Rattle.compile_walk.proofs.statement.Reads as statement′
-use Rattle.spans.proofs.size_at.Reads as size-at-reads
+use Rattle.table_scopes.proofs.spans.size_at.Reads as size-at-reads
 use Rattle.compile_walk.proofs.+arms+assign+block+body+choose+conditional+expression+items+operands+pair+repeat+select+simple+statement+when.Proof.Base.{items-at, statement-below}
 
 abbrev items-Inv-loop : items-lts.InvT-loop
-items-Inv-loop table part count nesting at sizes env₀ top known aims ends₀ holds stack₀ depth out₀ rest₀ place₀ left₀ p₀ env ends stack out rest place left p = ItemsSoFar known aims table part count nesting at sizes (lent env₀ ends₀ stack₀ out₀) top holds depth p₀ (lent env ends stack out) rest place left p
+items-Inv-loop table part count nesting at sizes env₀ top known aims ends₀ holds stack₀ depth out₀ rest₀ place₀ left₀ p₀ env ends stack out rest place
+    left p = ItemsSoFar known aims table part count nesting at sizes (lent env₀ ends₀ stack₀ out₀) top holds depth p₀ (lent env ends stack out) rest place left p
 
 abbrev items-μ-loop : items-lts.MeasureT-loop
 items-μ-loop table part count nesting at sizes env₀ top known aims ends₀ holds stack₀ depth out₀ rest₀ place₀ left₀ p₀ env ends stack out rest place left p = left

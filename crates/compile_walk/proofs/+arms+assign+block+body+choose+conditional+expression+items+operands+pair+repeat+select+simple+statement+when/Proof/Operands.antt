@@ -8,11 +8,12 @@ use Prim.Native.Nat.{ℕ, _-_}
 use Rattle.compile_walk.proofs.expression.Reads as expression
 use Rattle.compile_walk.proofs.operands.Reads as operands
 use Rattle.compile_walk.proofs.+arms+assign+block+body+choose+conditional+expression+items+operands+pair+repeat+select+simple+statement+when.Lts-operands as operands-lts
-use Rattle.spans.proofs.size_at.Reads as size-at-reads
+use Rattle.table_scopes.proofs.spans.size_at.Reads as size-at-reads
 use Rattle.compile_walk.proofs.+arms+assign+block+body+choose+conditional+expression+items+operands+pair+repeat+select+simple+statement+when.Proof.Base.{expression-below, operands-at}
 
 abbrev operands-Inv-loop : operands-lts.InvT-loop
-operands-Inv-loop table part count nesting at sizes env₀ top known aims ends₀ holds stack₀ depth out₀ rest₀ place₀ i₀ p₀ env ends stack out rest place i p = EsSoFar known aims table part count nesting at sizes (lent env₀ ends₀ stack₀ out₀) top holds depth p₀ (lent env ends stack out) rest place i p
+operands-Inv-loop table part count nesting at sizes env₀ top known aims ends₀ holds stack₀ depth out₀ rest₀ place₀ i₀ p₀ env ends stack out rest place
+    i p = EsSoFar known aims table part count nesting at sizes (lent env₀ ends₀ stack₀ out₀) top holds depth p₀ (lent env ends stack out) rest place i p
 
 abbrev operands-μ-loop : operands-lts.MeasureT-loop
 operands-μ-loop table part count nesting at sizes env₀ top known aims ends₀ holds stack₀ depth out₀ rest₀ place₀ i₀ p₀ env ends stack out rest place i p = count - i

@@ -9,14 +9,14 @@ use Prim.Native.Nat.{ℕ, _+_}
 use Rattle.compile_walk.proofs.expression.Reads as expression
 use Rattle.compile_walk.proofs.pair.Reads as pair
 use Rattle.compile_walk.proofs.+arms+assign+block+body+choose+conditional+expression+items+operands+pair+repeat+select+simple+statement+when.Lts-pair as pair-lts
-use Rattle.compile_own.proofs.behind.Reads as behind-reads
-use Rattle.compile_own.proofs.between.Reads as between-reads
-use Rattle.compile_own.proofs.end_of.Reads as end-of-reads
-use Rattle.compile_own.proofs.finish.Reads as finish-reads
-use Rattle.compile_own.proofs.pair_type.Reads as pair-type-reads
-use Rattle.compile_own.proofs.waiting.Reads as waiting-reads
-use Rattle.compile_own.proofs.way_of.Reads as way-of-reads
-use Rattle.spans.proofs.size_at.Reads as size-at-reads
+use Rattle.compile_emit.proofs.behind.Reads as behind-reads
+use Rattle.compile_emit.proofs.between.Reads as between-reads
+use Rattle.compile_emit.proofs.end_of.Reads as end-of-reads
+use Rattle.compile_emit.proofs.finish.Reads as finish-reads
+use Rattle.compile_emit.proofs.pair_type.Reads as pair-type-reads
+use Rattle.compile_emit.proofs.waiting.Reads as waiting-reads
+use Rattle.compile_emit.proofs.way_of.Reads as way-of-reads
+use Rattle.table_scopes.proofs.spans.size_at.Reads as size-at-reads
 use Rattle.words.proofs.half_at.Reads as half-at-reads
 use Rattle.compile_walk.proofs.+arms+assign+block+body+choose+conditional+expression+items+operands+pair+repeat+select+simple+statement+when.Proof.Base.{expression-below, pair-at}
 
@@ -60,7 +60,9 @@ pair-ends t c =
     let c10 = c9 .before .before .before .before .before .before .before .before .before in
     let c11 = c10 .before .before .before .before .before .before in
     let c12 = c11 .before .before .before .before .before .before .before .before .before .before in
-    answers-pair (c12 .pre .1) (c9 .size-at .result) (c9 .size-at .ensures) (c10 .expression .ensures) (c11 .half-at .ensures) (c8 .end-of .ensures .0) (c7 .way-of .ensures) (c6 .between .ensures) (c12 .args .depth + c5 .waiting .result) (ap (λ (k : ℕ). c12 .args .depth + k) (c5 .waiting .ensures))
+    answers-pair (c12 .pre .1) (c9 .size-at .result) (c9 .size-at .ensures) (c10 .expression .ensures) (c11 .half-at .ensures)
+    (c8 .end-of .ensures .0) (c7 .way-of .ensures) (c6 .between .ensures) (c12 .args .depth + c5 .waiting .result)
+    (ap (λ (k : ℕ). c12 .args .depth + k) (c5 .waiting .ensures))
     (c4 .expression2 .ensures) (c3 .pair-type .ensures) (c2 .behind .ensures) (c1 .finish .ensures)
 
 pub pair-meets : {M : Type 1} (t : ℕ) → pair-lts.Closed (claims t) (pair-at t) pair.Post M
@@ -86,7 +88,8 @@ pair-meets t = pair-lts.spec (claims t) (pair-at t) pair.Post
     -- add-size-at
     (λ c. omega (arith, asked (c .before .before .before .before .before .before .before .before .before .before .before .before .before .before .before .before .before .before .before .before .before .before .before .before .pre .1) .small))
     -- size-at-requires
-    (λ c κs. asks-pair-passes (c .before .before .before .before .before .before .before .before .before .before .before .before .before .before .before .before .before .before .before .before .before .before .before .before .pre .1) _ refl .known)
+    (λ c κs. asks-pair-passes (c .before .before .before .before .before .before .before .before .before .before .before .before .before .before .before .before .before .before .before .before .before .before .before .before .pre .1)
+    _ refl .known)
     -- add-second-2
     (λ c.
     let c2 = c .before .before .before .before .before .before .before .before .before .before .before .before .before .before .before .before .before .before .before .before .before .before .before .before .before in
@@ -109,7 +112,8 @@ pair-meets t = pair-lts.spec (claims t) (pair-at t) pair.Post
     let c4 = c3 .before .before .before .before .before .before .before .before .before in
     let c5 = c4 .before .before .before .before .before .before in
     let c6 = c5 .before .before .before .before .before .before .before .before .before .before in
-    let z = asks-pair-between (c6 .pre .1) (c3 .size-at .result) (c3 .size-at .ensures) (c4 .expression .ensures) (c5 .half-at .ensures) (c2 .end-of .ensures .0) (c1 .way-of .ensures) in (c2 .end-of .ensures .1, z .0, z .1, z .2, z .3))
+    let z = asks-pair-between (c6 .pre .1) (c3 .size-at .result) (c3 .size-at .ensures) (c4 .expression .ensures) (c5 .half-at .ensures)
+    (c2 .end-of .ensures .0) (c1 .way-of .ensures) in (c2 .end-of .ensures .1, z .0, z .1, z .2, z .3))
     -- sub-from
     (λ c. omega arith)
     -- mul-from
@@ -142,7 +146,12 @@ pair-meets t = pair-lts.spec (claims t) (pair-at t) pair.Post
     let c6 = c5 .before .before .before .before .before .before .before .before .before in
     let c7 = c6 .before .before .before .before .before .before in
     let c8 = c7 .before .before .before .before .before .before .before .before .before .before in
-    omega (arith, asked (asks-pair-second (c8 .pre .1) (c5 .size-at .result) (c5 .size-at .ensures) (c6 .expression .ensures) (c7 .half-at .ensures) (c4 .end-of .ensures .0) (c3 .way-of .ensures) (c2 .between .ensures) (c8 .args .depth + c .waiting .result) (ap (λ (k : ℕ). c8 .args .depth + k) (c .waiting .ensures))) .deep))
+    omega (
+      arith,
+      asked (asks-pair-second (c8 .pre .1) (c5 .size-at .result) (c5 .size-at .ensures) (c6 .expression .ensures) (c7 .half-at .ensures)
+          (c4 .end-of .ensures .0) (c3 .way-of .ensures) (c2 .between .ensures) (c8 .args .depth + c .waiting .result)
+          (ap (λ (k : ℕ). c8 .args .depth + k) (c .waiting .ensures))) .deep,
+    ))
     -- expression-requires-2
     (λ c κs.
     let c1 = c .before in
@@ -154,7 +163,9 @@ pair-meets t = pair-lts.spec (claims t) (pair-at t) pair.Post
     let c7 = c6 .before .before .before .before .before .before in
     let c8 = c7 .before .before .before .before .before .before .before .before .before .before in (
       omega (arith, asked (c8 .pre .1) .nested, c8 .pre .0),
-      asks-pair-second (c8 .pre .1) (c5 .size-at .result) (c5 .size-at .ensures) (c6 .expression .ensures) (c7 .half-at .ensures) (c4 .end-of .ensures .0) (c3 .way-of .ensures) (c2 .between .ensures) (c8 .args .depth + c1 .waiting .result) (ap (λ (k : ℕ). c8 .args .depth + k) (c1 .waiting .ensures)),
+      asks-pair-second (c8 .pre .1) (c5 .size-at .result) (c5 .size-at .ensures) (c6 .expression .ensures) (c7 .half-at .ensures)
+          (c4 .end-of .ensures .0) (c3 .way-of .ensures) (c2 .between .ensures) (c8 .args .depth + c1 .waiting .result)
+          (ap (λ (k : ℕ). c8 .args .depth + k) (c1 .waiting .ensures)),
     ))
     -- pair-type-requires
     (λ c κs. search needs)
@@ -169,7 +180,9 @@ pair-meets t = pair-lts.spec (claims t) (pair-at t) pair.Post
     let c7 = c6 .before .before .before .before .before .before .before .before .before in
     let c8 = c7 .before .before .before .before .before .before in
     let c9 = c8 .before .before .before .before .before .before .before .before .before .before in
-    asks-pair-write (c9 .pre .1) (c6 .size-at .result) (c6 .size-at .ensures) (c7 .expression .ensures) (c8 .half-at .ensures) (c5 .end-of .ensures .0) (c4 .way-of .ensures) (c3 .between .ensures) (c9 .args .depth + c2 .waiting .result) (ap (λ (k : ℕ). c9 .args .depth + k) (c2 .waiting .ensures))
+    asks-pair-write (c9 .pre .1) (c6 .size-at .result) (c6 .size-at .ensures) (c7 .expression .ensures) (c8 .half-at .ensures)
+    (c5 .end-of .ensures .0) (c4 .way-of .ensures) (c3 .between .ensures) (c9 .args .depth + c2 .waiting .result)
+    (ap (λ (k : ℕ). c9 .args .depth + k) (c2 .waiting .ensures))
     (c1 .expression2 .ensures))
     -- behind-requires
     (λ c κs.
@@ -183,7 +196,9 @@ pair-meets t = pair-lts.spec (claims t) (pair-at t) pair.Post
     let c8 = c7 .before .before .before .before .before .before .before .before .before in
     let c9 = c8 .before .before .before .before .before .before in
     let c10 = c9 .before .before .before .before .before .before .before .before .before .before in
-    let z = asks-pair-behind (c10 .pre .1) (c7 .size-at .result) (c7 .size-at .ensures) (c8 .expression .ensures) (c9 .half-at .ensures) (c6 .end-of .ensures .0) (c5 .way-of .ensures) (c4 .between .ensures) (c10 .args .depth + c3 .waiting .result) (ap (λ (k : ℕ). c10 .args .depth + k) (c3 .waiting .ensures))
+    let z = asks-pair-behind (c10 .pre .1) (c7 .size-at .result) (c7 .size-at .ensures) (c8 .expression .ensures) (c9 .half-at .ensures)
+    (c6 .end-of .ensures .0) (c5 .way-of .ensures) (c4 .between .ensures) (c10 .args .depth + c3 .waiting .result)
+    (ap (λ (k : ℕ). c10 .args .depth + k) (c3 .waiting .ensures))
     (c2 .expression2 .ensures) (c1 .pair-type .ensures) in (c6 .end-of .ensures .1, z .0, z .1, z .2, z .3))
     -- finish-requires
     (λ c κs.
@@ -198,7 +213,9 @@ pair-meets t = pair-lts.spec (claims t) (pair-at t) pair.Post
     let c9 = c8 .before .before .before .before .before .before .before .before .before in
     let c10 = c9 .before .before .before .before .before .before in
     let c11 = c10 .before .before .before .before .before .before .before .before .before .before in
-    asks-pair-finish (c11 .pre .1) (c8 .size-at .result) (c8 .size-at .ensures) (c9 .expression .ensures) (c10 .half-at .ensures) (c7 .end-of .ensures .0) (c6 .way-of .ensures) (c5 .between .ensures) (c11 .args .depth + c4 .waiting .result) (ap (λ (k : ℕ). c11 .args .depth + k) (c4 .waiting .ensures))
+    asks-pair-finish (c11 .pre .1) (c8 .size-at .result) (c8 .size-at .ensures) (c9 .expression .ensures) (c10 .half-at .ensures)
+    (c7 .end-of .ensures .0) (c6 .way-of .ensures) (c5 .between .ensures) (c11 .args .depth + c4 .waiting .result)
+    (ap (λ (k : ℕ). c11 .args .depth + k) (c4 .waiting .ensures))
     (c3 .expression2 .ensures) (c2 .pair-type .ensures) (c1 .behind .ensures))
     -- same-length
     (λ c. pair-ends t c .kept .same-env)

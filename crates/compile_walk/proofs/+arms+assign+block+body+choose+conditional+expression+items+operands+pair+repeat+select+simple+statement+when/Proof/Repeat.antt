@@ -10,12 +10,14 @@ use Rattle.compile_walk.proofs.expression.Reads as expression
 use Rattle.compile_walk.proofs.repeat.Reads as repeat
 use Rattle.compile_walk.proofs.+arms+assign+block+body+choose+conditional+expression+items+operands+pair+repeat+select+simple+statement+when.Lts-repeat as repeat-lts
 use Rattle.compile_walk.proofs.statement.Reads as statement′
-use Rattle.compile_own.proofs.end_of.Reads as end-of-reads
-use Rattle.compile_own.proofs.finish.Reads as finish-reads
-use Rattle.compile_pen.proofs.emit.Reads as emit-reads
-use Rattle.compile_pen.proofs.shape.Reads as shape-reads
-use Rattle.spans.proofs.size_at.Reads as size-at-reads
-use Rattle.compile_walk.proofs.+arms+assign+block+body+choose+conditional+expression+items+operands+pair+repeat+select+simple+statement+when.Proof.Base.{expression-below, repeat-at, statement-below}
+use Rattle.compile_emit.proofs.end_of.Reads as end-of-reads
+use Rattle.compile_emit.proofs.finish.Reads as finish-reads
+use Rattle.compile_output.proofs.emit.Reads as emit-reads
+use Rattle.compile_output.proofs.shape.Reads as shape-reads
+use Rattle.table_scopes.proofs.spans.size_at.Reads as size-at-reads
+use Rattle.compile_walk.proofs.+arms+assign+block+body+choose+conditional+expression+items+operands+pair+repeat+select+simple+statement+when.Proof.Base.{expression-below}
+use Rattle.compile_walk.proofs.+arms+assign+block+body+choose+conditional+expression+items+operands+pair+repeat+select+simple+statement+when.Proof.Base.{repeat-at}
+use Rattle.compile_walk.proofs.+arms+assign+block+body+choose+conditional+expression+items+operands+pair+repeat+select+simple+statement+when.Proof.Base.{statement-below}
 
 -- what the functions that it calls are taken to ask and give
 abbrev claims : ℕ → repeat-lts.Claims
@@ -112,13 +114,15 @@ repeat-meets t = repeat-lts.spec (claims t) (repeat-at t) repeat.Post
     let c1 = c .before .before .before .before .before in
     let c2 = c1 .before .before .before .before .before .before .before .before .before .before .before .before .before .before .before .before .before in
     let c3 = c2 .before .before .before .before .before .before .before .before .before .before .before .before .before in
-    second-within (c3 .args .part .now) (c3 .args .at) (c1 .size-at .result) (asked (c3 .pre .1) .long) (asks-while-passes (c3 .pre .1) (c2 .shape .ensures) (c1 .size-at .result) (c1 .size-at .ensures)))
+    second-within (c3 .args .part .now) (c3 .args .at) (c1 .size-at .result) (asked (c3 .pre .1) .long)
+    (asks-while-passes (c3 .pre .1) (c2 .shape .ensures) (c1 .size-at .result) (c1 .size-at .ensures)))
     -- part-statement-start
     (λ c.
     let c1 = c .before .before .before .before .before in
     let c2 = c1 .before .before .before .before .before .before .before .before .before .before .before .before .before .before .before .before .before in
     let c3 = c2 .before .before .before .before .before .before .before .before .before .before .before .before .before in
-    second-within (c3 .args .part .now) (c3 .args .at) (c1 .size-at .result) (asked (c3 .pre .1) .long) (asks-while-passes (c3 .pre .1) (c2 .shape .ensures) (c1 .size-at .result) (c1 .size-at .ensures)))
+    second-within (c3 .args .part .now) (c3 .args .at) (c1 .size-at .result) (asked (c3 .pre .1) .long)
+    (asks-while-passes (c3 .pre .1) (c2 .shape .ensures) (c1 .size-at .result) (c1 .size-at .ensures)))
     -- part-statement-end
     (λ c. search needs)
     -- sub-statement-2
@@ -154,7 +158,8 @@ repeat-meets t = repeat-lts.spec (claims t) (repeat-at t) repeat.Post
     let c6 = c5 .before .before .before .before .before .before .before .before .before in
     let c7 = c6 .before .before .before .before .before .before .before .before in
     let c8 = c7 .before .before .before .before .before .before .before .before .before .before .before .before .before in
-    asks-while-shape₂ (c8 .pre .1) (c7 .shape .ensures) (c5 .size-at .result) (c5 .size-at .ensures) (c6 .expression .ensures) (c4 .end-of .ensures .0) (c3 .emit .ensures) (c2 .statement .ensures) refl (c1 .emit2 .ensures))
+    asks-while-shape₂ (c8 .pre .1) (c7 .shape .ensures) (c5 .size-at .result) (c5 .size-at .ensures) (c6 .expression .ensures)
+    (c4 .end-of .ensures .0) (c3 .emit .ensures) (c2 .statement .ensures) refl (c1 .emit2 .ensures))
     -- finish-requires
     (λ c κs.
     let c1 = c .before .before in
@@ -166,7 +171,8 @@ repeat-meets t = repeat-lts.spec (claims t) (repeat-at t) repeat.Post
     let c7 = c6 .before .before .before .before .before .before .before .before .before in
     let c8 = c7 .before .before .before .before .before .before .before .before in
     let c9 = c8 .before .before .before .before .before .before .before .before .before .before .before .before .before in
-    asks-while-finish (c9 .pre .1) (c8 .shape .ensures) (c6 .size-at .result) (c6 .size-at .ensures) (c7 .expression .ensures) (c5 .end-of .ensures .0) (c4 .emit .ensures) (c3 .statement .ensures) refl (c2 .emit2 .ensures)
+    asks-while-finish (c9 .pre .1) (c8 .shape .ensures) (c6 .size-at .result) (c6 .size-at .ensures) (c7 .expression .ensures)
+    (c5 .end-of .ensures .0) (c4 .emit .ensures) (c3 .statement .ensures) refl (c2 .emit2 .ensures)
     (c1 .shape2 .ensures))
     -- same-length
     (λ c. repeat-ends t c .kept .same-env)

@@ -5,18 +5,18 @@ use borrow.Author.Needs.{needs}
 use Rattle.compile_steps.specs.Parts.{asked}
 use Rattle.compile_steps.specs.Select.{asks-select-first, asks-select-passes, asks-select-emit, asks-select-second, asks-select-emit₂, asks-select-shape, asks-select-finish, answers-select}
 use Rattle.compile_steps.specs.Adapt.{second-within}
-use Rattle.compile_known.specs.Numbers.{secondIn}
+use Rattle.compile_symbols.specs.Numbers.{secondIn}
 use Prim.Native.Nat.{ℕ}
 use Rattle.compile_walk.proofs.arms.Reads as arms
 use Rattle.compile_walk.proofs.expression.Reads as expression
 use Rattle.compile_walk.proofs.select.Reads as select
 use Rattle.compile_walk.proofs.+arms+assign+block+body+choose+conditional+expression+items+operands+pair+repeat+select+simple+statement+when.Lts-select as select-lts
-use Rattle.compile_known.proofs.known_at.Reads as known-at-reads
-use Rattle.compile_known.proofs.second_in.Reads as second-in-reads
-use Rattle.compile_own.proofs.finish.Reads as finish-reads
-use Rattle.compile_pen.proofs.emit.Reads as emit-reads
-use Rattle.compile_pen.proofs.shape.Reads as shape-reads
-use Rattle.spans.proofs.size_at.Reads as size-at-reads
+use Rattle.compile_symbols.proofs.known_at.Reads as known-at-reads
+use Rattle.compile_symbols.proofs.second_in.Reads as second-in-reads
+use Rattle.compile_emit.proofs.finish.Reads as finish-reads
+use Rattle.compile_output.proofs.emit.Reads as emit-reads
+use Rattle.compile_output.proofs.shape.Reads as shape-reads
+use Rattle.table_scopes.proofs.spans.size_at.Reads as size-at-reads
 use Rattle.words.proofs.half_at.Reads as half-at-reads
 use Rattle.compile_walk.proofs.+arms+assign+block+body+choose+conditional+expression+items+operands+pair+repeat+select+simple+statement+when.Proof.Base.{arms-below, expression-below, select-at}
 
@@ -95,7 +95,8 @@ select-meets t = select-lts.spec (claims t) (select-at t) select.Post
     -- add-size-at
     (λ c. omega (arith, asked (c .before .before .before .before .before .before .before .before .before .before .before .before .before .before .before .before .before .before .before .before .before .before .before .before .before .before .before .before .before .before .pre .1) .small))
     -- size-at-requires
-    (λ c κs. asks-select-passes (c .before .before .before .before .before .before .before .before .before .before .before .before .before .before .before .before .before .before .before .before .before .before .before .before .before .before .before .before .before .before .pre .1) _ refl .known)
+    (λ c κs. asks-select-passes (c .before .before .before .before .before .before .before .before .before .before .before .before .before .before .before .before .before .before .before .before .before .before .before .before .before .before .before .before .before .before .pre .1)
+    _ refl .known)
     -- add-second-2
     (λ c.
     let c2 = c .before .before .before .before .before .before .before .before .before .before .before .before .before .before .before .before .before .before .before .before .before .before .before .before .before .before .before .before .before .before .before in
@@ -128,7 +129,8 @@ select-meets t = select-lts.spec (claims t) (select-at t) select.Post
     let c6 = c5 .before in
     let c7 = c6 .before .before .before .before .before .before .before .before .before .before in (
       omega (arith, asked (c7 .pre .1) .nested, c7 .pre .0),
-      asks-select-second (c7 .pre .1) (c1 .size-at .result) (c1 .size-at .ensures) (c3 .expression .ensures) (c6 .half-at .ensures) (c4 .second-in .ensures ∙ ap secondIn (c5 .known-at .ensures)) (c2 .emit .ensures),
+      asks-select-second (c7 .pre .1) (c1 .size-at .result) (c1 .size-at .ensures) (c3 .expression .ensures) (c6 .half-at .ensures)
+          (c4 .second-in .ensures ∙ ap secondIn (c5 .known-at .ensures)) (c2 .emit .ensures),
     ))
     -- emit-requires-2
     (λ c κs.
@@ -140,7 +142,8 @@ select-meets t = select-lts.spec (claims t) (select-at t) select.Post
     let c6 = c5 .before in
     let c7 = c6 .before in
     let c8 = c7 .before .before .before .before .before .before .before .before .before .before in
-    asks-select-emit₂ (c8 .pre .1) (c2 .size-at .result) (c2 .size-at .ensures) (c4 .expression .ensures) (c7 .half-at .ensures) (c5 .second-in .ensures ∙ ap secondIn (c6 .known-at .ensures)) (c3 .emit .ensures) (c1 .arms .ensures))
+    asks-select-emit₂ (c8 .pre .1) (c2 .size-at .result) (c2 .size-at .ensures) (c4 .expression .ensures) (c7 .half-at .ensures)
+    (c5 .second-in .ensures ∙ ap secondIn (c6 .known-at .ensures)) (c3 .emit .ensures) (c1 .arms .ensures))
     -- shape-requires
     (λ c κs.
     let c1 = c .before .before .before .before .before in
@@ -152,7 +155,8 @@ select-meets t = select-lts.spec (claims t) (select-at t) select.Post
     let c7 = c6 .before in
     let c8 = c7 .before in
     let c9 = c8 .before .before .before .before .before .before .before .before .before .before in
-    asks-select-shape (c9 .pre .1) (c3 .size-at .result) (c3 .size-at .ensures) (c5 .expression .ensures) (c8 .half-at .ensures) (c6 .second-in .ensures ∙ ap secondIn (c7 .known-at .ensures)) (c4 .emit .ensures) (c2 .arms .ensures) (c1 .emit2 .ensures))
+    asks-select-shape (c9 .pre .1) (c3 .size-at .result) (c3 .size-at .ensures) (c5 .expression .ensures) (c8 .half-at .ensures)
+    (c6 .second-in .ensures ∙ ap secondIn (c7 .known-at .ensures)) (c4 .emit .ensures) (c2 .arms .ensures) (c1 .emit2 .ensures))
     -- finish-requires
     (λ c κs.
     let c1 = c .before .before in
@@ -165,7 +169,8 @@ select-meets t = select-lts.spec (claims t) (select-at t) select.Post
     let c8 = c7 .before in
     let c9 = c8 .before in
     let c10 = c9 .before .before .before .before .before .before .before .before .before .before in
-    asks-select-finish (c10 .pre .1) (c4 .size-at .result) (c4 .size-at .ensures) (c6 .expression .ensures) (c9 .half-at .ensures) (c7 .second-in .ensures ∙ ap secondIn (c8 .known-at .ensures)) (c5 .emit .ensures) (c3 .arms .ensures) (c2 .emit2 .ensures) (c1 .shape .ensures))
+    asks-select-finish (c10 .pre .1) (c4 .size-at .result) (c4 .size-at .ensures) (c6 .expression .ensures) (c9 .half-at .ensures)
+    (c7 .second-in .ensures ∙ ap secondIn (c8 .known-at .ensures)) (c5 .emit .ensures) (c3 .arms .ensures) (c2 .emit2 .ensures) (c1 .shape .ensures))
     -- same-length
     (λ c. select-ends t c .kept .same-env)
     -- same-length-2

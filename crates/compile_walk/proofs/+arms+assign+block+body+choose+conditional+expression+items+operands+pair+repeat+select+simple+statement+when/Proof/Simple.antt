@@ -7,11 +7,11 @@ use Prim.Native.Nat.{ℕ}
 use Rattle.compile_walk.proofs.operands.Reads as operands
 use Rattle.compile_walk.proofs.simple.Reads as simple
 use Rattle.compile_walk.proofs.+arms+assign+block+body+choose+conditional+expression+items+operands+pair+repeat+select+simple+statement+when.Lts-simple as simple-lts
-use Rattle.compile_own.proofs.finish.Reads as finish-reads
-use Rattle.compile_own.proofs.known_of.Reads as known-of-reads
-use Rattle.compile_own.proofs.last.Reads as last-reads
-use Rattle.compile_own.proofs.last_type.Reads as last-type-reads
-use Rattle.compile_own.proofs.operands_of.Reads as operands-of-reads
+use Rattle.compile_emit.proofs.finish.Reads as finish-reads
+use Rattle.compile_emit.proofs.known_of.Reads as known-of-reads
+use Rattle.compile_emit.proofs.last.Reads as last-reads
+use Rattle.compile_emit.proofs.last_type.Reads as last-type-reads
+use Rattle.compile_emit.proofs.operands_of.Reads as operands-of-reads
 use Rattle.words.proofs.half_at.Reads as half-at-reads
 use Rattle.words.proofs.word_at.Reads as word-at-reads
 use Rattle.compile_walk.proofs.+arms+assign+block+body+choose+conditional+expression+items+operands+pair+repeat+select+simple+statement+when.Proof.Base.{operands-below, simple-at}
@@ -130,7 +130,8 @@ simple-meets t = simple-lts.spec (claims t) (simple-at t) simple.Post
     let c6 = c5 .before in
     let c7 = c6 .before in
     let c8 = c7 .before .before .before .before .before .before .before .before .before .before in
-    asks-simple-finish (c8 .pre .1) (c7 .half-at .ensures) (c6 .half-at2 .ensures) (c5 .word-at .ensures) (c4 .operands-of .ensures) (c3 .operands .ensures) (c2 .known-of .ensures) (c1 .last .ensures))
+    asks-simple-finish (c8 .pre .1) (c7 .half-at .ensures) (c6 .half-at2 .ensures) (c5 .word-at .ensures) (c4 .operands-of .ensures)
+    (c3 .operands .ensures) (c2 .known-of .ensures) (c1 .last .ensures))
     -- same-length
     (λ c. simple-ends t c .kept .same-env)
     -- same-length-2

@@ -15,11 +15,18 @@ use Rattle.compile_walk.proofs.simple.Reads as simple
 use Rattle.compile_walk.proofs.statement.Reads as statement′
 use Rattle.compile_walk.proofs.+arms+assign+block+body+choose+conditional+expression+items+operands+pair+repeat+select+simple+statement+when.Lts-statement as statement-lts
 use Rattle.compile_walk.proofs.when.Reads as when
-use Rattle.compile_own.proofs.finish.Reads as finish-reads
-use Rattle.compile_own.proofs.goto.Reads as goto-reads
-use Rattle.compile_pen.proofs.shape.Reads as shape-reads
+use Rattle.compile_emit.proofs.finish.Reads as finish-reads
+use Rattle.compile_emit.proofs.goto.Reads as goto-reads
+use Rattle.compile_output.proofs.shape.Reads as shape-reads
 use Rattle.words.proofs.half_at.Reads as half-at-reads
-use Rattle.compile_walk.proofs.+arms+assign+block+body+choose+conditional+expression+items+operands+pair+repeat+select+simple+statement+when.Proof.Base.{assign-below, block-below, choose-below, repeat-below, select-below, simple-below, statement-at, when-below}
+use Rattle.compile_walk.proofs.+arms+assign+block+body+choose+conditional+expression+items+operands+pair+repeat+select+simple+statement+when.Proof.Base.{assign-below}
+use Rattle.compile_walk.proofs.+arms+assign+block+body+choose+conditional+expression+items+operands+pair+repeat+select+simple+statement+when.Proof.Base.{block-below}
+use Rattle.compile_walk.proofs.+arms+assign+block+body+choose+conditional+expression+items+operands+pair+repeat+select+simple+statement+when.Proof.Base.{choose-below}
+use Rattle.compile_walk.proofs.+arms+assign+block+body+choose+conditional+expression+items+operands+pair+repeat+select+simple+statement+when.Proof.Base.{repeat-below}
+use Rattle.compile_walk.proofs.+arms+assign+block+body+choose+conditional+expression+items+operands+pair+repeat+select+simple+statement+when.Proof.Base.{select-below}
+use Rattle.compile_walk.proofs.+arms+assign+block+body+choose+conditional+expression+items+operands+pair+repeat+select+simple+statement+when.Proof.Base.{simple-below}
+use Rattle.compile_walk.proofs.+arms+assign+block+body+choose+conditional+expression+items+operands+pair+repeat+select+simple+statement+when.Proof.Base.{statement-at}
+use Rattle.compile_walk.proofs.+arms+assign+block+body+choose+conditional+expression+items+operands+pair+repeat+select+simple+statement+when.Proof.Base.{when-below}
 
 -- what the functions that it calls are taken to ask and give
 abbrev claims : ℕ → statement-lts.Claims
@@ -150,8 +157,16 @@ statement-meets t = statement-lts.spec (claims t) (statement-at t) statement′.
     (λ c κs.
     let c1 = c .before .before .before .before .before in
     let c2 = c1 .before in
-    let c3 = c2 .before .before .before .before .before .before .before .before .before .before in
-    (omega (arith, c3 .pre .0), asks-anew _ (ask-as (λ n h e. simple-stmt n h (λ z. c1 .match .rest .0 .0 .0 .0 .0 .0 .0 .1 (c2 .half-at .ensures ∙ (sym e ∙ z))) (λ z. c1 .match .rest .0 .0 .0 .0 .0 .0 .1 (c2 .half-at .ensures ∙ (sym e ∙ z))) (λ z. c1 .match .rest .0 .0 .0 .0 .0 .1 (c2 .half-at .ensures ∙ (sym e ∙ z))) (λ z. c1 .match .rest .0 .0 .0 .0 .1 (c2 .half-at .ensures ∙ (sym e ∙ z))) (λ z. c1 .match .rest .0 .0 .0 .1 (c2 .half-at .ensures ∙ (sym e ∙ z))) (λ z. c1 .match .rest .0 .0 .1 (c2 .half-at .ensures ∙ (sym e ∙ z))) (λ z. c1 .match .rest .0 .1 (c2 .half-at .ensures ∙ (sym e ∙ z))) (λ z. c1 .match .rest .1 (c2 .half-at .ensures ∙ (sym e ∙ z)))) (c3 .pre .1))))
+    let c3 = c2 .before .before .before .before .before .before .before .before .before .before in (
+      omega (arith, c3 .pre .0),
+      asks-anew _ (ask-as (λ n h e. simple-stmt n h
+          (λ z. c1 .match .rest .0 .0 .0 .0 .0 .0 .0 .1 (c2 .half-at .ensures ∙ (sym e ∙ z)))
+          (λ z. c1 .match .rest .0 .0 .0 .0 .0 .0 .1 (c2 .half-at .ensures ∙ (sym e ∙ z)))
+          (λ z. c1 .match .rest .0 .0 .0 .0 .0 .1 (c2 .half-at .ensures ∙ (sym e ∙ z)))
+          (λ z. c1 .match .rest .0 .0 .0 .0 .1 (c2 .half-at .ensures ∙ (sym e ∙ z)))
+          (λ z. c1 .match .rest .0 .0 .0 .1 (c2 .half-at .ensures ∙ (sym e ∙ z))) (λ z. c1 .match .rest .0 .0 .1 (c2 .half-at .ensures ∙ (sym e ∙ z)))
+          (λ z. c1 .match .rest .0 .1 (c2 .half-at .ensures ∙ (sym e ∙ z))) (λ z. c1 .match .rest .1 (c2 .half-at .ensures ∙ (sym e ∙ z)))) (c3 .pre .1)),
+    ))
     -- same-length
     (λ c. (c .before .before .before .before .before .before .before .before .block .ensures) .kept .same-env)
     -- same-length-2
@@ -267,4 +282,10 @@ statement-meets t = statement-lts.spec (claims t) (statement-at t) statement′.
     let c1 = c .before .before .before .before .before .before .before .before in
     let c2 = c1 .before .before .before .before .before .before in
     let c3 = c2 .before in
-    answer-as (λ n h e. simple-stmt n h (λ z. c2 .match .rest .0 .0 .0 .0 .0 .0 .0 .1 (c3 .half-at .ensures ∙ (sym e ∙ z))) (λ z. c2 .match .rest .0 .0 .0 .0 .0 .0 .1 (c3 .half-at .ensures ∙ (sym e ∙ z))) (λ z. c2 .match .rest .0 .0 .0 .0 .0 .1 (c3 .half-at .ensures ∙ (sym e ∙ z))) (λ z. c2 .match .rest .0 .0 .0 .0 .1 (c3 .half-at .ensures ∙ (sym e ∙ z))) (λ z. c2 .match .rest .0 .0 .0 .1 (c3 .half-at .ensures ∙ (sym e ∙ z))) (λ z. c2 .match .rest .0 .0 .1 (c3 .half-at .ensures ∙ (sym e ∙ z))) (λ z. c2 .match .rest .0 .1 (c3 .half-at .ensures ∙ (sym e ∙ z))) (λ z. c2 .match .rest .1 (c3 .half-at .ensures ∙ (sym e ∙ z)))) (answers-anew _ (c1 .simple .ensures)))
+    answer-as (λ n h e. simple-stmt n h (λ z. c2 .match .rest .0 .0 .0 .0 .0 .0 .0 .1 (c3 .half-at .ensures ∙ (sym e ∙ z)))
+    (λ z. c2 .match .rest .0 .0 .0 .0 .0 .0 .1 (c3 .half-at .ensures ∙ (sym e ∙ z)))
+    (λ z. c2 .match .rest .0 .0 .0 .0 .0 .1 (c3 .half-at .ensures ∙ (sym e ∙ z)))
+    (λ z. c2 .match .rest .0 .0 .0 .0 .1 (c3 .half-at .ensures ∙ (sym e ∙ z)))
+    (λ z. c2 .match .rest .0 .0 .0 .1 (c3 .half-at .ensures ∙ (sym e ∙ z))) (λ z. c2 .match .rest .0 .0 .1 (c3 .half-at .ensures ∙ (sym e ∙ z)))
+    (λ z. c2 .match .rest .0 .1 (c3 .half-at .ensures ∙ (sym e ∙ z))) (λ z. c2 .match .rest .1 (c3 .half-at .ensures ∙ (sym e ∙ z))))
+    (answers-anew _ (c1 .simple .ensures)))

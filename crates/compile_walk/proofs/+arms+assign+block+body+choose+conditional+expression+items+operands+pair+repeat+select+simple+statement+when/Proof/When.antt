@@ -10,12 +10,14 @@ use Rattle.compile_walk.proofs.expression.Reads as expression
 use Rattle.compile_walk.proofs.statement.Reads as statement′
 use Rattle.compile_walk.proofs.when.Reads as when
 use Rattle.compile_walk.proofs.+arms+assign+block+body+choose+conditional+expression+items+operands+pair+repeat+select+simple+statement+when.Lts-when as when-lts
-use Rattle.compile_own.proofs.end_of.Reads as end-of-reads
-use Rattle.compile_own.proofs.finish.Reads as finish-reads
-use Rattle.compile_pen.proofs.emit.Reads as emit-reads
-use Rattle.compile_pen.proofs.shape.Reads as shape-reads
-use Rattle.spans.proofs.size_at.Reads as size-at-reads
-use Rattle.compile_walk.proofs.+arms+assign+block+body+choose+conditional+expression+items+operands+pair+repeat+select+simple+statement+when.Proof.Base.{expression-below, statement-below, when-at}
+use Rattle.compile_emit.proofs.end_of.Reads as end-of-reads
+use Rattle.compile_emit.proofs.finish.Reads as finish-reads
+use Rattle.compile_output.proofs.emit.Reads as emit-reads
+use Rattle.compile_output.proofs.shape.Reads as shape-reads
+use Rattle.table_scopes.proofs.spans.size_at.Reads as size-at-reads
+use Rattle.compile_walk.proofs.+arms+assign+block+body+choose+conditional+expression+items+operands+pair+repeat+select+simple+statement+when.Proof.Base.{expression-below}
+use Rattle.compile_walk.proofs.+arms+assign+block+body+choose+conditional+expression+items+operands+pair+repeat+select+simple+statement+when.Proof.Base.{statement-below}
+use Rattle.compile_walk.proofs.+arms+assign+block+body+choose+conditional+expression+items+operands+pair+repeat+select+simple+statement+when.Proof.Base.{when-at}
 
 -- what the functions that it calls are taken to ask and give
 abbrev claims : ℕ → when-lts.Claims
@@ -71,7 +73,8 @@ when-meets t = when-lts.spec (claims t) (when-at t) when.Post
     -- add-size-at
     (λ c. omega (arith, asked (c .before .before .before .before .before .before .before .before .before .before .before .before .before .before .before .before .before .before .before .before .before .before .before .pre .1) .small))
     -- size-at-requires
-    (λ c κs. asks-when-passes (c .before .before .before .before .before .before .before .before .before .before .before .before .before .before .before .before .before .before .before .before .before .before .before .pre .1) _ refl .known)
+    (λ c κs. asks-when-passes (c .before .before .before .before .before .before .before .before .before .before .before .before .before .before .before .before .before .before .before .before .before .before .before .pre .1)
+    _ refl .known)
     -- add-second-2
     (λ c.
     let c2 = c .before .before .before .before .before .before .before .before .before .before .before .before .before .before .before .before .before .before .before .before .before .before .before .before in

@@ -9,12 +9,6 @@ use Rattle.values.proofs.bits.moved.Tie as tie
 returns : tie.Need-returns
 returns c = moved-out (c .before .args .left) (c .before .args .n) (c .before .args .x) (c .if1 .taken)
 
-shl-result : tie.Need-shl-result
-shl-result c = search needs
-
-shr-result : tie.Need-shr-result
-shr-result c = search needs
-
 returns-2 : tie.Need-returns-2
 unfolding leftBy
 returns-2 c = rw (c .if2 .taken, lt-ltb (c .before .before .args .n) 32 (c .before .if1 .left))
@@ -24,4 +18,4 @@ unfolding rightBy
 returns-3 c = rw (c .if2 .left, lt-ltb (c .before .before .args .n) 32 (c .before .if1 .left))
 
 pub moved-spec : {M : Type 1} → statement M
-moved-spec = tie.close (tie.spec returns shl-result shr-result returns-2 returns-3)
+moved-spec = tie.close (tie.spec returns (λ c. search needs) (λ c. search needs) returns-2 returns-3)

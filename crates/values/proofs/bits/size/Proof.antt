@@ -41,9 +41,6 @@ cast-result-3 c = rw (unchanged c) (tt, record { fits = size-below _ (c .before 
 returns : tie.Need-returns
 returns c = rw (read c)
 
-returns-2 : tie.Need-returns-2
-returns-2 c = search needs
-
 pub size-spec : {M : Type 1} → statement M
 size-spec =
-    tie.close (tie.spec cast-result sub-result cast-result-2 cast-result-3 returns returns-2)
+    tie.close (tie.spec cast-result sub-result cast-result-2 cast-result-3 returns (λ c. search needs))

@@ -6,9 +6,6 @@ use borrow.Author.Needs.{needs}
 use Rattle.values.proofs.integers.absolute.Statement.{statement}
 use Rattle.values.proofs.integers.absolute.Tie as tie
 
-negate-requires : tie.Need-negate-requires
-negate-requires c κs = search needs
-
 returns : tie.Need-returns
 returns c =
     let f = c .before .before .fits .x in
@@ -21,4 +18,4 @@ returns-2 c =
     rw (toZ-ofZ w32 _ f, ← e, settled _ (f .sfits))
 
 pub absolute-spec : {M : Type 1} → statement M
-absolute-spec = tie.close (tie.spec negate-requires returns returns-2)
+absolute-spec = tie.close (tie.spec (λ c κs. search needs) returns returns-2)

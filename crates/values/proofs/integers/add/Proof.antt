@@ -14,11 +14,8 @@ cast-settle-2 c = widens _ (c .fits .y)
 add-settle : tie.Need-add-settle
 add-settle c = exact-fits _+ℤ_ sum-holds _ _ (c .fits .x) (c .fits .y)
 
-settle-requires : tie.Need-settle-requires
-settle-requires c κs = search needs
-
 returns : tie.Need-returns
 returns c = rw (exact _+ℤ_ sum-holds _ _ (c .before .fits .x) (c .before .fits .y)) at (c .settle .ensures)
 
 pub add-spec : {M : Type 1} → statement M
-add-spec = tie.close (tie.spec cast-settle cast-settle-2 add-settle settle-requires returns)
+add-spec = tie.close (tie.spec cast-settle cast-settle-2 add-settle (λ c κs. search needs) returns)

@@ -11,20 +11,22 @@ use Rattle.values.proofs.integers.divide.Tie as tie
 returns : tie.Need-returns
 returns c = sym (ap computed (zero-divides _ _ (c .before .fits .y) (c .if1 .taken)))
 
-negate-requires : tie.Need-negate-requires
-negate-requires c κs = search needs
-
 returns-2 : tie.Need-returns-2
 returns-2 c =
+    let at-before = c .before .before in
     let s = c .before .before .before in
     rw (toZ-ofZ w32 _ (s .fits .x)) at (c .negate .ensures)
-    ∙ sym (ap computed (quotient-minus-one _ _ (s .fits .x) (s .fits .y) (c .before .before .if1 .left) (c .before .if2 .taken)))
+    ∙ sym (ap computed (quotient-minus-one _ _ (s .fits .x) (s .fits .y) (at-before .if1 .left) (c .before .if2 .taken)))
 
 div-t4 : tie.Need-div-t4
-div-t4 c = divides _ _ (c .before .before .fits .x) (c .before .before .fits .y) (c .before .if1 .left) (c .if2 .left)
+div-t4 c =
+    let at-fits = c .before .before in
+    divides _ _ (at-fits .fits .x) (at-fits .fits .y) (c .before .if1 .left) (c .if2 .left)
 
 returns-3 : tie.Need-returns-3
-returns-3 c = ap computed (quotient-exact _ _ (c .before .before .fits .x) (c .before .before .fits .y) (c .before .if1 .left) (c .if2 .left))
+returns-3 c =
+    let at-fits = c .before .before in
+    ap computed (quotient-exact _ _ (at-fits .fits .x) (at-fits .fits .y) (c .before .if1 .left) (c .if2 .left))
 
 pub divide-spec : {M : Type 1} → statement M
-divide-spec = tie.close (tie.spec returns negate-requires returns-2 div-t4 returns-3)
+divide-spec = tie.close (tie.spec returns (λ c κs. search needs) returns-2 div-t4 returns-3)

@@ -14,11 +14,8 @@ cast-settle-2 c = widens _ (c .fits .y)
 mul-settle : tie.Need-mul-settle
 mul-settle c = exact-fits _*ℤ_ product-holds _ _ (c .fits .x) (c .fits .y)
 
-settle-requires : tie.Need-settle-requires
-settle-requires c κs = search needs
-
 returns : tie.Need-returns
 returns c = rw (exact _*ℤ_ product-holds _ _ (c .before .fits .x) (c .before .fits .y)) at (c .settle .ensures)
 
 pub multiply-spec : {M : Type 1} → statement M
-multiply-spec = tie.close (tie.spec cast-settle cast-settle-2 mul-settle settle-requires returns)
+multiply-spec = tie.close (tie.spec cast-settle cast-settle-2 mul-settle (λ c κs. search needs) returns)

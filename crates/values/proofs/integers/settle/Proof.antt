@@ -9,7 +9,9 @@ returns : tie.Need-returns
 returns c = rw (too-low (c .before .args .z) (rw (toZ-ofZ w64 _ (c .before .fits .z)) at (c .if1 .taken)))
 
 returns-2 : tie.Need-returns-2
-returns-2 c = rw (too-high (c .before .before .args .z) (rw (toZ-ofZ w64 _ (c .before .before .fits .z)) at (c .if2 .taken)))
+returns-2 c =
+    let at-start = c .before .before in
+    rw (too-high (at-start .args .z) (rw (toZ-ofZ w64 _ (at-start .fits .z)) at (c .if2 .taken)))
 
 cast-t3 : tie.Need-cast-t3
 cast-t3 c =

@@ -14,11 +14,8 @@ cast-settle-2 c = widens _ (c .fits .y)
 sub-settle : tie.Need-sub-settle
 sub-settle c = exact-fits _-ℤ_ difference-holds _ _ (c .fits .x) (c .fits .y)
 
-settle-requires : tie.Need-settle-requires
-settle-requires c κs = search needs
-
 returns : tie.Need-returns
 returns c = rw (exact _-ℤ_ difference-holds _ _ (c .before .fits .x) (c .before .fits .y)) at (c .settle .ensures)
 
 pub subtract-spec : {M : Type 1} → statement M
-subtract-spec = tie.close (tie.spec cast-settle cast-settle-2 sub-settle settle-requires returns)
+subtract-spec = tie.close (tie.spec cast-settle cast-settle-2 sub-settle (λ c κs. search needs) returns)

@@ -1,0 +1,40 @@
+-- What is said of each element of a list.
+use mathlib.Core.Path.{_≡_}
+use mathlib.Core.Bool.{Bool, true}
+use mathlib.Core.List.{List, [], _∷_, _++_, map, reverse, reverseAux}
+use mathlib.Core.Option.{some}
+use Prim.Native.Nat.{ℕ, zero, suc, _+_, _<_}
+use native.Mathlib.Omega.{arith}
+use lib.ListN.{length, getElem?}
+use Rattle.words.specs.Lists.{all}
+use Rattle.bytecode_laws.specs.Tests.{never-some, halves}
+use Rattle.bytecode_laws.specs.Terms.{Each}
+
+pub each-all : {A : Type 0} (t : A → Bool) (P : A → Type 0) → ((x : A) → t x ≡ true → P x) → (xs : List A) → all t xs ≡ true → Each P xs
+unfolding all
+each-all t P f [] h = tt
+each-all t P f (x ∷ xs) h = let a = halves (t x) (all t xs) h in (f x (a .0), each-all t P f xs (a .1))
+
+pub each-end : {A : Type 0} (P : A → Type 0) (xs ys : List A) → Each P (xs ++ ys) → Each P ys
+each-end P [] ys h = h
+each-end P (x ∷ xs) ys h = each-end P xs ys (h .1)
+
+pub each-both : {A : Type 0} (P : A → Type 0) (xs ys : List A) → Each P xs → Each P ys → Each P (xs ++ ys)
+each-both P [] ys h i = i
+each-both P (x ∷ xs) ys h i = (h .0, each-both P xs ys (h .1) i)
+
+pub each-map : {A B : Type 0} (P : A → Type 0) (Q : B → Type 0) (g : A → B) → ((x : A) → P x → Q (g x)) → (xs : List A) → Each P xs → Each Q (map g xs)
+each-map P Q g f [] h = tt
+each-map P Q g f (x ∷ xs) h = (f x (h .0), each-map P Q g f xs (h .1))
+
+pub each-reverse : {A : Type 0} (P : A → Type 0) (xs : List A) → Each P xs → Each P (reverse xs)
+each-reverse P xs h = go xs [] h tt
+  where
+    go : (xs ys : List _) → Each P xs → Each P ys → Each P (reverseAux xs ys)
+    go [] ys h i = i
+    go (x ∷ xs) ys h i = go xs (x ∷ ys) (h .1) (h .0, i)
+
+pub there : {A : Type 0} (xs : List A) (n : ℕ) (x : A) → getElem? xs n ≡ some x → n < length xs
+there [] n x e = never-some e
+there (y ∷ xs) zero x e = omega arith
+there (y ∷ xs) (suc n) x e = let h = there xs n x e in omega arith

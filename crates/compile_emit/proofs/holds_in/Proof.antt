@@ -1,0 +1,61 @@
+use borrow.Author.Tests.{eq-eqb, ne-eqb, lt-ltb, le-ltb}
+use mathlib.Core.Path.{_≡_, refl, sym, ap, _∙_}
+use native.Mathlib.Omega.{arith}
+use Prim.Native.Nat.{ℕ, _+_, _≤_, _<_}
+use lib.ListN.{length, take}
+use Rattle.compile_output.specs.declared.Pen.{Pen}
+use Rattle.compile_output.specs.Ink.{moved, penShaped}
+use Rattle.compile_emit.specs.OwnLaws.{holds-one, holds-step, holds-none}
+use Rattle.compile_emit.specs.Owns.{holdsBy, holdsHead}
+use borrow.Author.Needs.{needs}
+use native.Mathlib.Nat.{sub-zero}
+use Prim.Native.Nat.{_-_, _*_}
+use lib.ListN.{drop}
+use Rattle.words.specs.Numbers.{halfAt}
+use Rattle.compile_emit.proofs.holds_in.Statement.{statement}
+use Rattle.compile_emit.proofs.holds_in.Tie as tie
+use Rattle.compile_emit.proofs.holds_in.Reads as reads
+use Rattle.compile_emit.proofs.holds_in.Lts as lts
+use Rattle.compile_emit.proofs.holds_by.Reads as holds-by-reads
+use Rattle.words.proofs.half_at.Reads as half-at-reads
+
+abbrev Inv-loop : tie.InvT-loop
+Inv-loop part count i₀ n₀ i n = (i ≤ count) × (holdsHead part count ≡ n + holdsHead (drop (8 * i) part) (count - i)) × (n ≤ i)
+
+abbrev μ-loop : tie.MeasureT-loop
+μ-loop part count i₀ n₀ i n = count - i
+
+loop-holds : tie.Need-loop-holds Inv-loop μ-loop
+loop-holds c = let a = c .before .args in (omega arith, rw (sub-zero (a .count)) (omega arith), omega arith)
+
+add-n : tie.Need-add-n Inv-loop μ-loop
+add-n c = omega (arith, c .holds-by .ensures, holds-one (c .before .half-at .result), c .before .before .before .loop .inv .2)
+
+loop-again : tie.Need-loop-again Inv-loop μ-loop
+loop-again c =
+    let a = c .before .before .before .before .before .args in let w = c .before .before .before .loop in
+    let h : c .holds-by .result ≡ holdsBy (halfAt (a .part .now) (8 * w .i)) = c .holds-by .ensures
+    ∙ ap (λ (k : ℕ). holdsBy k) (c .before .half-at .ensures) in (
+      omega arith,
+      omega (arith, w .inv .1, holds-step (a .part .now) (a .count) (w .i) (omega arith), h),
+      omega (arith, w .inv .2, c .holds-by .ensures, holds-one (c .before .half-at .result)),
+    )
+
+returns : tie.Need-returns Inv-loop μ-loop
+returns c = let a = c .before .before .before .args in let w = c .before .loop in omega (arith, w .inv .1, holds-none (drop (8 * w .i) (a .part .now)) (a .count - w .i) (omega arith))
+
+pub holds-in-spec : {M : Type 1} → statement M
+holds-in-spec =
+    tie.close
+    (tie.spec
+    Inv-loop
+    μ-loop
+    loop-holds
+    (λ c. omega arith)
+    (λ c κs. omega arith)
+    (λ c κs. search needs)
+    add-n
+    (λ c. omega arith)
+    (λ c. omega arith)
+    loop-again
+    returns)

@@ -1,0 +1,18 @@
+use borrow.Author.Tests.{eq-eqb, ne-eqb, lt-ltb, le-ltb}
+use mathlib.Core.Path.{_≡_, refl, sym, ap, _∙_}
+use borrow.Author.Needs.{needs}
+use Rattle.compile_emit.proofs.known_of.Statement.{statement}
+use Rattle.compile_emit.proofs.known_of.Tie as tie
+use Rattle.compile_emit.proofs.known_of.Reads as reads
+use Rattle.compile_emit.proofs.known_of.Lts as lts
+use Rattle.compile_symbols.proofs.meaning.Reads as meaning-reads
+use Rattle.compile_emit.proofs.names.Reads as names-reads
+
+returns : tie.Need-returns
+returns c = rw (sym (c .before .before .names .ensures), c .before .if1 .taken) (c .meaning .ensures)
+
+returns-2 : tie.Need-returns-2
+returns-2 c = rw (sym (c .before .names .ensures), c .if1 .left)
+
+pub known-of-spec : {M : Type 1} → statement M
+known-of-spec = tie.close (tie.spec (λ c κs. search needs) (λ c κs. search needs) returns returns-2)

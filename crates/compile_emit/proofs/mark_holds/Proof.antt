@@ -1,0 +1,60 @@
+use borrow.Author.Tests.{eq-eqb, ne-eqb, lt-ltb, le-ltb}
+use mathlib.Core.Path.{_≡_, refl, sym, ap, _∙_}
+use native.Mathlib.Omega.{arith}
+use Prim.Native.Nat.{ℕ, _+_, _≤_, _<_}
+use lib.ListN.{length, take}
+use Rattle.compile_output.specs.declared.Pen.{Pen}
+use Rattle.compile_output.specs.Ink.{moved, penShaped}
+use Rattle.compile_emit.specs.OwnLaws.{marks-start, marks-push}
+use Rattle.table_scopes.specs.Environment.{envOf, Grown}
+use mathlib.Core.List.{_++_}
+use Prim.Native.Nat.{_-_}
+use Rattle.compile_scopes.specs.Marks.{marks}
+use Rattle.compile_emit.proofs.mark_holds.Statement.{statement}
+use Rattle.compile_emit.proofs.mark_holds.Tie as tie
+use Rattle.compile_emit.proofs.mark_holds.Reads as reads
+use Rattle.compile_emit.proofs.mark_holds.Lts as lts
+use Rattle.table_scopes.proofs.environment.push.Reads as push-reads
+
+abbrev Inv-loop : tie.InvT-loop
+Inv-loop env₀ top count i₀ env i = (i ≤ count) × Grown top env₀ env (top + i) (marks i ++ envOf env₀ top) i
+
+abbrev μ-loop : tie.MeasureT-loop
+μ-loop env₀ top count i₀ env i = count - i
+
+loop-holds : tie.Need-loop-holds Inv-loop μ-loop
+loop-holds c = (omega arith, marks-start (c .before .args .env .now) (c .before .args .top))
+
+push-requires : tie.Need-push-requires Inv-loop μ-loop
+push-requires c κs = omega (arith, c .before .before .loop .inv .1 .same)
+
+loop-again : tie.Need-loop-again Inv-loop μ-loop
+loop-again c = (
+  omega arith,
+  marks-push (c .before .before .before .before .before .before .before .args .env .now)
+      (c .before .before .before .before .before .loop .env) (c .before .before .push .last .0)
+      (c .before .before .before .before .before .before .before .args .top) (c .before .before .before .before .before .loop .i)
+      (omega (arith, c .before .before .before .before .before .loop .inv .1 .same)) (c .before .before .before .before .before .loop .inv .1)
+      (c .before .before .push .ensures),
+)
+
+same-length : tie.Need-same-length Inv-loop μ-loop
+same-length c = c .before .loop .inv .1 .same
+
+returns : tie.Need-returns Inv-loop μ-loop
+returns c = let e : c .before .loop .i ≡ c .before .before .before .args .count = omega arith in rw (← e) (c .before .loop .inv .1)
+
+pub mark-holds-spec : {M : Type 1} → statement M
+mark-holds-spec =
+    tie.close
+    (tie.spec
+    Inv-loop
+    μ-loop
+    loop-holds
+    (λ c. omega arith)
+    push-requires
+    (λ c. omega arith)
+    (λ c. omega arith)
+    loop-again
+    same-length
+    returns)

@@ -1,0 +1,17 @@
+use borrow.Author.Tests.{eq-eqb, ne-eqb, lt-ltb, le-ltb}
+use mathlib.Core.Path.{_≡_, refl, sym, ap, _∙_}
+use borrow.Author.Needs.{needs}
+use Rattle.compile_emit.proofs.owner.Statement.{statement}
+use Rattle.compile_emit.proofs.owner.Tie as tie
+use Rattle.compile_emit.proofs.owner.Reads as reads
+use Rattle.compile_emit.proofs.owner.Lts as lts
+use Rattle.compile_symbols.proofs.first_in.Reads as first-in-reads
+
+returns : tie.Need-returns
+returns c = rw (c .before .if1 .taken) (c .first-in .ensures)
+
+returns-2 : tie.Need-returns-2
+returns-2 c = rw (c .if1 .left)
+
+pub owner-spec : {M : Type 1} → statement M
+owner-spec = tie.close (tie.spec (λ c κs. search needs) returns returns-2)

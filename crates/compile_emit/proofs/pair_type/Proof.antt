@@ -1,0 +1,22 @@
+use borrow.Author.Tests.{eq-eqb, ne-eqb, lt-ltb, le-ltb}
+use mathlib.Core.Path.{_≡_, refl, sym, ap, _∙_}
+use Rattle.compile_emit.specs.Owns.{pairType}
+use Rattle.compile_emit.proofs.pair_type.Statement.{statement}
+use Rattle.compile_emit.proofs.pair_type.Tie as tie
+use Rattle.compile_emit.proofs.pair_type.Reads as reads
+use Rattle.compile_emit.proofs.pair_type.Lts as lts
+
+returns : tie.Need-returns
+unfolding pairType
+returns c = rw (lt-ltb _ _ (c .if1 .taken))
+
+returns-2 : tie.Need-returns-2
+unfolding pairType
+returns-2 c = rw (le-ltb _ _ (c .before .if1 .left), lt-ltb _ _ (c .if2 .taken))
+
+returns-3 : tie.Need-returns-3
+unfolding pairType
+returns-3 c = rw (le-ltb _ _ (c .before .if1 .left), le-ltb _ _ (c .if2 .left))
+
+pub pair-type-spec : {M : Type 1} → statement M
+pair-type-spec = tie.close (tie.spec returns returns-2 returns-3)

@@ -1,0 +1,15 @@
+use borrow.Author.Tests.{eq-eqb, ne-eqb, lt-ltb, le-ltb}
+use mathlib.Core.Path.{_≡_, refl, sym, ap, _∙_}
+use Rattle.compile_emit.proofs.waiting.Statement.{statement}
+use Rattle.compile_emit.proofs.waiting.Tie as tie
+use Rattle.compile_emit.proofs.waiting.Reads as reads
+use Rattle.compile_emit.proofs.waiting.Lts as lts
+
+returns : tie.Need-returns
+returns c = rw (lt-ltb _ _ (c .if1 .taken))
+
+returns-2 : tie.Need-returns-2
+returns-2 c = rw (le-ltb _ _ (c .if1 .left))
+
+pub waiting-spec : {M : Type 1} → statement M
+waiting-spec = tie.close (tie.spec returns returns-2)

@@ -1,2 +1,0 @@
-pub mod Owns
-pub mod Laws

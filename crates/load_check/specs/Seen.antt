@@ -1,0 +1,18 @@
+-- What the machine may take of a macro's bytes: the macro that they hold (`bytecode`), read off the places of its records (`places`).
+
+-- ── the macro at its places ──
+unfoldable pub use Rattle.load_check.specs.View.{view, tyOn}
+pub use Rattle.load_check.specs.View.{bodyOn, classOn, codeOn, typesOn, bytes, below, Typed, verdictOf}
+-- ── bytes that read hold this macro, and the verdict over places is the verdict on it ──
+pub use Rattle.load_check.specs.Views.{Viewed, viewed, passing, judges}
+pub use Rattle.load_check.specs.Known.{reads-view, known-class, known-body, some-body, first-rises, type-byte}
+-- ── its bodies, classes, instructions and types ──
+pub use Rattle.load_check.specs.Bodies.{body-at, in-body, stands, before-end}
+pub use Rattle.load_check.specs.Ops.{class-at}
+pub use Rattle.load_check.specs.Address.{code-at}
+pub use Rattle.load_check.specs.Readers.{type-reads}
+pub use Rattle.load_check.specs.Stack.{stack-bytes, same-byte, alike-bytes}
+-- ── rows of bytes as lists, and tests on both ──
+unfoldable pub use Rattle.load_check.specs.Lists.{span, backs}
+pub use Rattle.load_check.specs.Lists.{span-at, span-length, span-snoc, span-take, backs-length, reverse-span}
+pub use Rattle.load_check.specs.Tests.{tests, by-test, past}

@@ -1,0 +1,13 @@
+-- What the machine may take of the walk over the instructions: the terms of its contracts, and how the state found at an address, the address's fault and
+-- the verdict follow from it. The soundness test goes along with this walk.
+
+-- ── what flows on, with the types in a lent stack; the walk's indexes ──
+pub use Rattle.load_rules.specs.Moves.{flowOf, Fit, Moves, Able}
+-- ── a step of the walk from the state that came in, its flag, the next address ──
+pub use Rattle.load_rules.proofs.Laws.{body-none, into-none, fit-goes, step-is, walk-flag, walk-on}
+-- ── no fault before an address; the first that has one ──
+pub use Rattle.load_records.proofs.Search.{first-hit, first-none, clean-none, clean-more}
+-- ── the verdict from the head, the records and the first fault ──
+pub use Rattle.load_rules.proofs.Laws.{judge-head, judge-unread, judge-broken, judge-passes}
+-- ── indexes that hold nothing yet, and those that `scan` filled ──
+pub use Rattle.load_rules.proofs.Laws.{zeros-long, zeros-index, able-ready}

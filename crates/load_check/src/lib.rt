@@ -1,0 +1,34 @@
+// The loading check: refusals 8 and 9, from a macro's bytes alone. This crate is all that the machine knows of it: the verdict, where things stand
+// in a macro whose records read, and the state found at each address.
+mod root;
+
+use load_places::Judged;
+pub use load_records::bad_head;
+pub use load_records::no_type;
+pub use load_records::scan;
+pub use load_rules::body_at;
+pub use load_rules::class_at;
+pub use load_rules::found_at;
+pub use load_rules::go_on;
+pub use load_rules::instruction_at;
+pub use load_rules::is_bad;
+pub use load_rules::next_body;
+pub use root::root_at;
+ghost use mathlib.Core.Path.{_≡_};
+ghost use Rattle.bytecode.specs.Rules.{judgeMacro};
+ghost use Rattle.load_check.specs.Loaded.{loadedOf};
+
+// Refused with the refusal's number and its place: a record's index for 8, an address for 9.
+pub enum Loaded {
+    Passes,
+    Refused(u8, u32),
+}
+
+pub fn load(code: &[u8]) -> Loaded
+    ensures { λ r. ⌜ r ≡ loadedOf (judgeMacro (now (code .entry))) ⌝ }
+{
+    match load_rules::judge_places(code) {
+        Judged::Passes => Loaded::Passes,
+        Judged::Refused(number, place) => Loaded::Refused(number as u8, place as u32),
+    }
+}

@@ -1,0 +1,142 @@
+-- `records::shapes_pass` meets its contract. The loop has come to the k-th shape, at p, met no bad one, and put the places passed into ix, each at its address.
+use native.Mathlib.Omega.{arith}
+use mathlib.Core.Path.{_≡_, refl, sym, _∙_}
+use Prim.Native.Nat.{_+_, _*_, _-_, _≤_}
+use lib.ListN.{length, length-set}
+use borrow.Author.Tests.{not-true, not-false}
+use Rattle.load_places.specs.Records.{badShape, shapePlace, find}
+use Rattle.load_places.specs.Index.{Indexed}
+use Rattle.load_records.specs.Answer.{Upto}
+use Rattle.load_records.proofs.Known as known
+use Rattle.load_records.proofs.Passing as law
+use Rattle.load_records.proofs.shapes_pass.Statement.{statement}
+use Rattle.load_records.proofs.shapes_pass.Tie as tie
+
+abbrev Inv-loop : tie.InvT-loop
+Inv-loop l ix₀ from c n m k₀ p₀ ix k p = Upto (badShape l) (shapePlace l) m k p × (p ≤ 1000000 + 261 * k) × (length ix ≡ length ix₀) × Indexed l ix n k
+
+abbrev μ-loop : tie.MeasureT-loop
+μ-loop l ix₀ from c n m k₀ p₀ ix k p = m - k
+
+loop-holds : tie.Need-loop-holds Inv-loop μ-loop
+loop-holds c = (law.starts _ (c .before .before .pre .0), omega arith, refl, c .before .before .pre .6)
+
+shape-fits-requires : tie.Need-shape-fits-requires Inv-loop μ-loop
+shape-fits-requires c κs = (omega arith, c .before .before .before .before .pre .2, c .before .before .before .before .pre .3)
+
+same-length : tie.Need-same-length Inv-loop μ-loop
+same-length c = c .before .before .before .loop .inv .2
+
+returns : tie.Need-returns Inv-loop μ-loop
+returns c =
+    let loop = c .before .before .before .loop in
+    let I = loop .inv in (
+      law.stops (I .0) (omega arith) (law.shape-unfit _ _ _ (I .0 .stands) (sym (c .before .shape-fits .ensures) ∙ not-true _ (c .if1 .taken))),
+      omega arith,
+      I .3,
+    )
+
+half-at-requires : tie.Need-half-at-requires Inv-loop μ-loop
+half-at-requires c κs = let h = known.shape-known _ _ (sym (c .before .shape-fits .ensures) ∙ not-false _ (c .if1 .left)) in omega arith
+
+mul-if2 : tie.Need-mul-if2 Inv-loop μ-loop
+mul-if2 c = let h = known.shape-known _ _ (sym (c .before .before .shape-fits .ensures) ∙ not-false _ (c .before .if1 .left)) in omega arith
+
+slice-read-if2 : tie.Need-slice-read-if2 Inv-loop μ-loop
+slice-read-if2 c =
+    let shape-fits = c .before .before .before .shape-fits in
+    let h = known.shape-known _ _ (sym (shape-fits .ensures) ∙ not-false _ (c .before .before .if1 .left)) in
+    omega arith
+
+same-length-2 : tie.Need-same-length-2 Inv-loop μ-loop
+same-length-2 c =
+    let at-loop = c .before .before .before .before .before .before in
+    at-loop .loop .inv .2
+
+returns-2 : tie.Need-returns-2 Inv-loop μ-loop
+returns-2 c =
+    let if1 = c .before .before .before .if1 in
+    let shape-fits = c .before .before .before .before .shape-fits in
+    let loop = c .before .before .before .before .before .before .loop in
+    let I = loop .inv in
+    let h = known.shape-known _ _ (sym (shape-fits .ensures) ∙ not-false _ (if1 .left)) in
+    let half-at = c .before .before .half-at in
+    let there = I .3 (half-at .result) (omega arith) in (
+      law.stops (I .0) (omega arith) (law.shape-second _ _ _ (I .0 .stands) (sym (shape-fits .ensures) ∙ not-false _ (if1 .left)) _ (half-at .ensures .0) (λ z. omega arith)),
+      omega arith,
+      I .3,
+    )
+
+mul-ix : tie.Need-mul-ix Inv-loop μ-loop
+mul-ix c =
+    let if1 = c .before .before .before .if1 in
+    let shape-fits = c .before .before .before .before .shape-fits in
+    let h = known.shape-known _ _ (sym (shape-fits .ensures) ∙ not-false _ (if1 .left)) in
+    omega arith
+
+slice-write-ix : tie.Need-slice-write-ix Inv-loop μ-loop
+slice-write-ix c =
+    let if1 = c .before .before .before .if1 in
+    let shape-fits = c .before .before .before .before .shape-fits in
+    let h = known.shape-known _ _ (sym (shape-fits .ensures) ∙ not-false _ (if1 .left)) in
+    omega arith
+
+byte-at-requires : tie.Need-byte-at-requires Inv-loop μ-loop
+byte-at-requires c κs =
+    let if1 = c .before .before .before .if1 in
+    let shape-fits = c .before .before .before .before .shape-fits in
+    let h = known.shape-known _ _ (sym (shape-fits .ensures) ∙ not-false _ (if1 .left)) in
+    omega arith
+
+loop-again : tie.Need-loop-again Inv-loop μ-loop
+loop-again c =
+    let half-at = c .before .before .before .half-at in
+    let if1 = c .before .before .before .before .if1 in
+    let shape-fits = c .before .before .before .before .before .shape-fits in
+    let loop = c .before .before .before .before .before .before .before .loop in
+    let start = c .before .before .before .before .before .before .before .before .before .before in
+    let I = loop .inv in
+    let h = known.shape-known _ _ (sym (shape-fits .ensures) ∙ not-false _ (if1 .left)) in
+    let there = I .3 (half-at .result) (omega arith) in
+    let z : find (start .args .l .now) (loop .k) (half-at .result) ≡ 0 = omega arith in (
+      law.goes-on (I .0) _ (omega arith) (law.shape-only _ _ _ (I .0 .stands) (sym (shape-fits .ensures) ∙ not-false _ (if1 .left)) _
+          (half-at .ensures .0) z) (law.next-shape _ _ _ (I .0 .stands) _ (c .byte-at .ensures .0)),
+      omega arith,
+      simp length-set (I .2),
+      law.indexed-more (start .args .l .now) (loop .k) (loop .p) (I .0 .stands) (loop .ix) (start .args .n) (half-at .result) (half-at .ensures .0) (omega arith) (omega arith) z (I .3),
+    )
+
+same-length-3 : tie.Need-same-length-3 Inv-loop μ-loop
+same-length-3 c = c .before .loop .inv .2
+
+returns-3 : tie.Need-returns-3 Inv-loop μ-loop
+returns-3 c = let I = c .before .loop .inv in (law.finishes (I .0) (omega arith), omega (arith, I .0 .within), I .3)
+
+pub shapes-pass-spec : {M : Type 1} → statement M
+shapes-pass-spec =
+    tie.close
+    (tie.spec
+    Inv-loop
+    μ-loop
+    loop-holds
+    shape-fits-requires
+    same-length
+    returns
+    (λ c. omega arith)
+    half-at-requires
+    mul-if2
+    slice-read-if2
+    same-length-2
+    returns-2
+    (λ c. omega arith)
+    mul-ix
+    slice-write-ix
+    (λ c. omega arith)
+    (λ c. omega arith)
+    byte-at-requires
+    (λ c. omega arith)
+    (λ c. omega arith)
+    (λ c. omega arith)
+    loop-again
+    same-length-3
+    returns-3)

@@ -1,0 +1,48 @@
+-- `ops::operands::op_binary` meets its contract. Assumes nothing.
+use native.Mathlib.Omega.{arith}
+use Rattle.machine_ops.proofs.Values.{binary-gives, binary-ends}
+use borrow.Author.Needs.{needs}
+use Rattle.machine_ops.proofs.operands.op_binary.Statement.{statement}
+use Rattle.machine_ops.proofs.operands.op_binary.Tie as tie
+
+returns : tie.Need-returns
+returns c =
+    binary-gives (c .before .before .before .before .before .before .before .before .before .before .before .before .before .before .before .before .before .before .before .before .before .before .before .args .a)
+    _ _ _ _ (omega arith) (omega arith) (c .before .before .before .before .before .before .before .before .before .before .before .before .before .before .before .before .before .before .before .before .operand-word .ensures)
+    (c .before .before .before .before .before .before .before .before .before .before .before .before .before .before .before .before .before .before .operand-word2 .ensures)
+    (c .before .before .before .before .before .before .before .before .before .before .before .before .before .before .before .before .operand-type .ensures)
+    (c .before .before .before .before .before .before .before .before .before .before .before .before .before .before .before .binary .ensures) _ _ _
+    _ _ (c .before .before .before .before .before .before .before .before .before .before .before .before .before .w .given .1)
+    (c .before .before .before .before .before .before .before .before .before .before .pop .ensures)
+    (c .before .before .before .before .before .before .put-operand .ensures) (c .before .before .go-to .ensures)
+
+returns-2 : tie.Need-returns-2
+returns-2 c =
+    binary-ends (c .before .before .before .before .before .before .before .before .before .before .before .before .before .before .before .args .a) _
+    _ _ _ (omega arith) (omega arith) (c .before .before .before .before .before .before .before .before .before .before .before .before .operand-word .ensures)
+    (c .before .before .before .before .before .before .before .before .before .before .operand-word2 .ensures)
+    (c .before .before .before .before .before .before .before .before .operand-type .ensures)
+    (c .before .before .before .before .before .before .before .binary .ensures) _ _ _ (c .before .before .before .before .before .c .given .1)
+    (c .before .before .op-condition .ensures)
+
+pub op-binary-spec : {M : Type 1} → statement M
+op-binary-spec =
+    tie.close
+    (tie.spec
+    (λ c. search needs)
+    (λ c. search needs)
+    (λ c κs. search needs)
+    (λ c κs. search needs)
+    (λ c κs. search needs)
+    (λ c κs. search needs)
+    (λ c. search needs)
+    (λ c κs. search needs)
+    (λ c κs. search needs)
+    (λ c. search needs)
+    (λ c κs. search needs)
+    (λ c. search needs)
+    (λ c κs. search needs)
+    (λ c. search needs)
+    returns
+    (λ c. search needs)
+    returns-2)

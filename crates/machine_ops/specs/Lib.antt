@@ -1,0 +1,3 @@
+pub mod Works
+pub mod Acts
+pub mod Moves

@@ -1,0 +1,90 @@
+-- `machine::steps::release` meets its contract. Assumes nothing.
+use borrow.Author.Needs.{needs}
+use native.Mathlib.Omega.{arith}
+use mathlib.Core.Path.{refl}
+use denote.Ref.{now}
+use Rattle.machine_run.proofs.Stepping.{held-long, few-open, releasing-ends, releasing-gives}
+use Rattle.machine_run.proofs.Running.{gave, finished, spent}
+use Rattle.machine_run.proofs.steps.release.Statement.{statement}
+use Rattle.machine_run.proofs.steps.release.Tie as tie
+
+returns : tie.Need-returns
+returns c =
+    let at-start = c .before .before .before .before in
+    λ l₀ alive R. spent (now (at-start .args .code)) (now (at-start .args .readings)) l₀ _ _ _ (at-start .pre .2) alive (omega (arith, at-start .pre .3)) R
+
+half-at-requires : tie.Need-half-at-requires
+half-at-requires c κs =
+    let at-start = c .before .before .before .before .before in
+    omega (arith, held-long (at-start .pre .0))
+
+slice-read-c : tie.Need-slice-read-c
+slice-read-c c =
+    let at-start = c .before .before .before .before .before .before .before .before in
+    omega (arith, held-long (at-start .pre .0))
+
+put-byte-requires : tie.Need-put-byte-requires
+put-byte-requires c κs =
+    let at-start = c .before .before .before .before .before .before .before .before .before in
+    omega (arith, held-long (at-start .pre .0))
+
+returns-2 : tie.Need-returns-2
+returns-2 c =
+    λ l₀ alive R. finished (now (c .before .before .before .before .before .before .before .before .before .before .before .before .args .code))
+    (now (c .before .before .before .before .before .before .before .before .before .before .before .before .args .readings)) _ _ _
+    (λ k. omega (arith, c .before .before .before .before .before .before .before .before .before .shared-slice-known2 .given k))
+    (releasing-ends (now (c .before .before .before .before .before .before .before .before .before .before .before .before .args .code)) _
+    (now (c .before .before .before .before .before .before .before .before .before .before .before .before .args .readings)) _ _ _ 0
+    (c .before .before .before .before .before .before .before .before .before .before .before .before .pre .1)
+    (c .before .before .before .before .before .before .half-at .ensures) (c .before .before .before .before .before .if2 .taken)
+    (c .before .before .put-byte .ensures) refl) _ _ l₀ (omega arith) R
+    (c .before .before .before .before .before .before .before .before .before .before .before .before .pre .2) alive _ refl
+
+slice-read-g : tie.Need-slice-read-g
+slice-read-g c =
+    let at-start = c .before .before .before .before .before .before .before .before in
+    omega (arith, held-long (at-start .pre .0), c .before .before .half-at .ensures, few-open _ _ (at-start .pre .0) (at-start .pre .1))
+
+release-requires : tie.Need-release-requires
+release-requires c κs =
+    let at-start = c .before .before .before .before .before .before .before .before .before in
+    (held-long (at-start .pre .0), omega (arith, c .before .before .before .half-at .ensures, few-open _ _ (at-start .pre .0) (at-start .pre .1)))
+
+returns-3 : tie.Need-returns-3
+returns-3 c =
+    λ l₀ alive R. gave (now (c .before .before .before .before .before .before .before .before .before .before .before .before .args .code))
+    (now (c .before .before .before .before .before .before .before .before .before .before .before .before .args .readings)) _ _ _
+    (λ k. omega (arith, c .before .before .before .before .before .before .before .before .before .shared-slice-known2 .given k))
+    (releasing-gives (now (c .before .before .before .before .before .before .before .before .before .before .before .before .args .code)) _
+    (now (c .before .before .before .before .before .before .before .before .before .before .before .before .args .readings)) _ _ _
+    (c .before .before .before .before .before .before .before .before .before .before .before .before .pre .1)
+    (c .before .before .before .before .before .before .half-at .ensures) (c .before .before .before .before .before .if2 .left)
+    (omega (
+      arith,
+      c .before .before .before .before .before .before .half-at .ensures,
+      few-open _ _ (c .before .before .before .before .before .before .before .before .before .before .before .before .pre .0)
+          (c .before .before .before .before .before .before .before .before .before .before .before .before .pre .1),
+    )) refl
+    (c .before .before .release .ensures)) _ _ l₀ (omega arith) R (c .before .before .before .before .before .before .before .before .before .before .before .before .pre .2)
+    alive _ refl
+
+pub release-spec : {M : Type 1} → statement M
+release-spec =
+    tie.close
+    (tie.spec
+    returns
+    half-at-requires
+    slice-read-c
+    put-byte-requires
+    (λ c. search needs)
+    (λ c. search needs)
+    returns-2
+    (λ c. search needs)
+    (λ c. search needs)
+    (λ c. search needs)
+    slice-read-g
+    (λ c. search needs)
+    release-requires
+    (λ c. search needs)
+    (λ c. search needs)
+    returns-3)

@@ -1,1 +1,0 @@
-// Theorems only: see specs/. Which tables are programs, and what a refusal says.

@@ -1,4 +1,0 @@
-pub mod Globals
-pub mod Root
-pub mod Procedures
-pub mod Tables

@@ -1,0 +1,117 @@
+-- What a run gives, by what the inspection told.
+use mathlib.Core.Path.{_≡_, refl, _∙_}
+use mathlib.Core.Bool.{Bool, true, false, cond}
+use mathlib.Core.List.{List}
+use Prim.Native.Nat.{ℕ}
+use native.Mathlib.Omega.{arith}
+use lib.ListN.{length}
+use lib.Dec.{eqb}
+use borrow.Author.Tests.{ne-eqb, eqb-true, eqb-false}
+use Rattle.words.specs.Laws.{Bytes}
+use Rattle.values.specs.Ends.{refusal, refused}
+use Rattle.bytecode.specs.Rules.{judgeMacro}
+use Rattle.bytecode.specs.Machine.{Machine}
+use Rattle.bytecode.specs.Runs.{Answer, happens, spends, finishes, refuses, halts, Ran, run}
+use Rattle.bytecode.specs.State.{encode}
+use Rattle.bytecode.specs.Lent.{written, runOn}
+use Rattle.bytecode_laws.specs.Promises.{passed}
+use Rattle.load_check.specs.Small.{base-small}
+use Rattle.load_check.specs.Seen.{passing}
+use Rattle.state_check.specs.Inspecting.{Placed, Held, NotHeld, Inspects}
+use Rattle.state_check.specs.declared.inspection.Inspected.{Inspected}
+use Rattle.state_check.specs.declared.inspection.Inspected.the-variants.{Sound, Unsound, Refused}
+use Rattle.state_write.specs.Clearing.{Encodes}
+use Rattle.machine_run.specs.Held.{Found, Answers, Runs}
+use Rattle.machine_run.specs.Held as machine
+use Rattle.machine_run.specs.declared.Answer as machine-answer
+use Rattle.run.specs.Answers.{answerOf, ranOf, back-event}
+use Rattle.run.specs.Fields.{state-sound}
+use Rattle.run.specs.Order.{Seen}
+
+pub found : (c bx cx : List ℕ) (base : ℕ) → Bytes c → Placed c bx cx base → Found c bx cx base
+found c bx cx base B P = record { bodied = P .bodied; classed = P .classed; based = P .based; small = rw (P .based) (base-small c (P .bodied .well) B) }
+
+-- ── what the inspection told ──
+module _ (c l bx cx : List ℕ) (x : Inspected) (I : Inspects c l bx cx x) where
+  pub told-sound : (base : ℕ) → x ≡ Sound base → Held c l × Placed c bx cx base
+  told-sound base e = rw e at I
+
+  pub told-unsound : x ≡ Unsound → NotHeld c l
+  told-unsound e = rw e at I
+
+  pub told-refused : (n k : ℕ) → x ≡ Refused n k → judgeMacro c ≡ refused (refusal n k)
+  told-refused n k e = rw e at I
+
+-- the state that the bytes hold once they are cleared
+pub held : (c l e : List ℕ) → Bytes c → Held c l → Encodes c l e → machine.Held c e
+held c l e B H C = record {
+  macro = H .macro;
+  reads = passing c (H .macro) (H .passes) .0;
+  passed = passed c (H .macro) B (H .passes);
+  state = H .state;
+  sounds = state-sound (H .macro) l (H .state) (H .sound);
+  bytes = C (H .macro) (H .passes) (H .state) (H .sound);
+}
+
+module _ (c l readings : List ℕ) (allowance : ℕ) where
+  -- ── the refusals ──
+  pub run-refused : (n p : ℕ) → judgeMacro c ≡ refused (refusal n p) → runOn c l readings allowance ≡ record { answer = refuses (refusal n p); bytes = l }
+  unfolding runOn
+  run-refused n p e = rw e
+
+  pub run-unsound : NotHeld c l → runOn c l readings allowance ≡ record { answer = refuses (refusal 10 0); bytes = l }
+  unfolding runOn
+  run-unsound H = rw (H .passes, H .unsound)
+
+  module _ (H : Held c l) where
+    abbrev ran : Ran
+    ran = run (H .macro) readings allowance (H .state)
+
+    run-held : runOn c l readings allowance ≡ written (ran .answer) (ran .state) l
+    unfolding runOn
+    run-held = rw (H .passes, H .sound)
+
+    pub run-unread : (length readings ≡ 64 → ⊥) → runOn c l readings allowance ≡ record { answer = refuses (refusal 11 0); bytes = l }
+    unfolding run
+    run-unread n = run-held ∙ rw (ne-eqb (length readings) 64 n)
+
+    -- ── the machine ──
+    ends-in : (a : Answer) (t : Machine) (k : List ℕ) (o : machine-answer.Answer) → Answers a o → k ≡ encode t → written a t l ≡ record { answer = answerOf (ranOf o); bytes = k }
+    ends-in (happens v n) t k o h b = rw (h, b, back-event v)
+    ends-in (spends n) t k o h b = rw (h, b)
+    ends-in (finishes d n) t k o h b = rw (h, b)
+    ends-in (refuses r) t k o h b = absurd h
+    ends-in (halts why) t k o h b = absurd h
+
+    pub run-told : (e k : List ℕ) (o : machine-answer.Answer) → Bytes c → Encodes c l e → Runs c readings allowance e k o
+        → runOn c l readings allowance ≡ record { answer = answerOf (ranOf o); bytes = k }
+    unfolding held
+    run-told e k o B C R =
+        let h = held c l e B H C in
+        let x = R (h .macro) (h .reads) (h .passed) (h .state) (h .sounds) (h .bytes) in
+        run-held ∙ ends-in (ran .answer) (ran .state) k o (x .answer) (x .bytes)
+
+  -- ── 10 before 11: u is the number of the one, v of the other, n of the first ──
+  module _ (bx cx : List ℕ) (base : ℕ) where
+    ordered : (s t : Bool) (u v n : ℕ) → u ≡ cond s 0 10 → v ≡ cond t 0 11 → n ≡ cond (eqb u 0) v u → n ≡ cond s (cond t 0 11) 10
+    ordered true t u v n eu ev en = en ∙ rw (eu, ev)
+    ordered false t u v n eu ev en = en ∙ rw eu
+
+    pub refused-first : (s : Bool) → Seen c l bx cx base s → (u v n : ℕ) → u ≡ cond s 0 10 → v ≡ cond (eqb (length readings) 64) 0 11 → n ≡ cond (eqb u 0) v u → (n ≡ 0 → ⊥)
+        → runOn c l readings allowance ≡ record { answer = refuses (refusal n 0); bytes = l }
+    refused-first s S u v n eu ev en some = go s S (eqb (length readings) 64) refl (ordered s (eqb (length readings) 64) u v n eu ev en)
+      where
+        go : (s : Bool) → Seen c l bx cx base s → (t : Bool) → eqb (length readings) 64 ≡ t → n ≡ cond s (cond t 0 11) 10
+            → runOn c l readings allowance ≡ record { answer = refuses (refusal n 0); bytes = l }
+        go true S true e h = absurd (some h)
+        go true S false e h = rw h (run-unread (S .0) (eqb-false _ _ e))
+        go false S t e h = rw h (run-unsound S)
+
+    pub none-first : (s : Bool) → Seen c l bx cx base s → (u v n : ℕ) → u ≡ cond s 0 10 → v ≡ cond (eqb (length readings) 64) 0 11 → n ≡ cond (eqb u 0) v u → n ≡ 0
+        → (Held c l × Placed c bx cx base) × (length readings ≡ 64)
+    none-first s S u v n eu ev en none = go s S (eqb (length readings) 64) refl (ordered s (eqb (length readings) 64) u v n eu ev en)
+      where
+        go : (s : Bool) → Seen c l bx cx base s → (t : Bool) → eqb (length readings) 64 ≡ t → n ≡ cond s (cond t 0 11) 10 → (Held c l × Placed c bx cx base) × (length readings ≡ 64)
+        go true S true e h = (S, eqb-true _ _ e)
+        go true S false e h = absurd (omega arith)
+        go false S t e h = absurd (omega arith)

@@ -1,0 +1,10 @@
+-- What is seen of a macro that passes and a state's bytes before 10 and 11 are told.
+use mathlib.Core.Bool.{Bool, true, false}
+use mathlib.Core.List.{List}
+use Prim.Native.Nat.{ℕ}
+use Rattle.state_check.specs.Inspecting.{Placed, Held, NotHeld}
+
+-- whether a sound state decodes from the bytes, and if so where things stand in the macro
+abbrev pub Seen : List ℕ → List ℕ → List ℕ → List ℕ → ℕ → Bool → Type 0
+Seen c l bx cx base true = Held c l × Placed c bx cx base
+Seen c l bx cx base false = NotHeld c l

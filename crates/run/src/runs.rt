@@ -1,0 +1,80 @@
+// The run: 8, 9, 10, 11 in this order, then the machine.
+use crate::Ran;
+use formats::limits::*;
+use machine_run::Answer;
+use state_check::Inspected;
+ghost use mathlib.Core.Path.{_≡_};
+ghost use mathlib.Core.Bool.{cond};
+ghost use lib.Dec.{eqb};
+ghost use Rattle.bytecode.specs.Lent.{runOn};
+ghost use Rattle.run.specs.Answers.{answerOf, ranOf};
+ghost use Rattle.run.specs.Order.{Seen};
+
+fn ran(a: Answer) -> Ran
+    ensures { λ r. ⌜ r ≡ ranOf a ⌝ }
+{
+    match a {
+        Answer::Happens(e, n) => Ran::Happens(e, n),
+        Answer::Spends(n) => Ran::Spends(n),
+        Answer::Finishes(c, n) => Ran::Finishes(c, n),
+    }
+}
+
+// The number by which a test refuses that does not hold; 0 where it holds.
+fn refusal_unless(holds: bool, number: u8) -> u8
+    ensures { λ r. ⌜ r ≡ cond holds 0 number ⌝ }
+{
+    if holds { 0 } else { number }
+}
+
+// Of two refusals the one that is tested first; 0 is none.
+fn first_of(a: u8, b: u8) -> u8
+    ensures { λ r. ⌜ r ≡ cond (eqb a 0) b a ⌝ }
+{
+    if a == 0 { b } else { a }
+}
+
+// Of a macro that passes. What a sound state does not use is made 0 first, so that the bytes after the run are those of the state alone.
+fn run_passed(
+    code: &[u8],
+    bx: &[u32],
+    cx: &[u32],
+    base: usize,
+    sound: bool,
+    state: &mut [u8],
+    readings: &[u8],
+    allowance: u16,
+) -> Ran
+    requires { ⌜ Seen (now code) (now state) (now bx) (now cx) base sound ⌝ }
+    ensures { λ r. ⌜ runOn (now (code .entry)) (now (state .entry)) (now (readings .entry)) allowance ≡ record { answer = answerOf r; bytes = now (state .exit) } ⌝ }
+{
+    let unsound = refusal_unless(sound, 10);
+    let unread = refusal_unless(readings.len() == FADERS, 11);
+    let number = first_of(unsound, unread);
+    if number != 0 {
+        return Ran::Refused(number, 0);
+    }
+    state_write::clear(code, bx, cx, state);
+    ran(machine_run::run_sound(code, bx, cx, base, state, readings, allowance))
+}
+
+pub fn run(code: &[u8], state: &mut [u8], readings: &[u8], allowance: u16) -> Ran
+    ensures { λ r. ⌜ runOn (now (code .entry)) (now (state .entry)) (now (readings .entry)) allowance ≡ record { answer = answerOf r; bytes = now (state .exit) } ⌝ }
+{
+    let mut bx = [0u32; MAX_BODIES];
+    let mut cx = [0u32; MAX_CLASSES];
+    match state_check::inspect(code, state, &mut bx, &mut cx) {
+        Inspected::Refused(number, place) => Ran::Refused(number as u8, place as u32),
+        Inspected::Unsound => run_passed(code, &bx, &cx, 0, false, state, readings, allowance),
+        Inspected::Sound(base) => run_passed(
+            code,
+            &bx,
+            &cx,
+            base,
+            true,
+            state,
+            readings,
+            allowance,
+        ),
+    }
+}

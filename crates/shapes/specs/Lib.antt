@@ -1,4 +1,0 @@
-pub mod Forms
-pub mod Walk
-pub mod Steps
-pub mod Ends

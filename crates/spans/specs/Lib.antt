@@ -1,3 +1,0 @@
-pub mod Spans
-pub mod Stands
-pub mod Sizes

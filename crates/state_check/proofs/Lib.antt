@@ -1,0 +1,4 @@
+pub mod TestLaws
+pub mod Rows
+pub mod InspectionLaws
+pub mod Telling

@@ -1,0 +1,139 @@
+-- What the tests and the walk together tell of a macro and a state.
+use mathlib.Core.Path.{_≡_, refl, sym, _∙_}
+use mathlib.Core.Bool.{Bool, true, false, cond, _&&_, false≢true, true≢false}
+use mathlib.Core.List.{List}
+use mathlib.Core.Option.{Option, none, some}
+use Prim.Native.Nat.{ℕ, _<_, _≤_}
+use native.Mathlib.Omega.{arith}
+use lib.ListN.{length}
+use lib.Dec.{ltb, leb, eqb}
+use borrow.Author.Tests.{eq-eqb, ne-eqb, lt-ltb, ltb-true, leb-true}
+use Rattle.words.specs.Options.{isSome}
+use Rattle.words.specs.Numbers.{byteAt, halfAt}
+use Rattle.words.specs.Laws.{Bytes}
+use Rattle.values.specs.Ends.{refusal, Judged, accepted, refused as refusedBy}
+use Rattle.bytecode.specs.Macro.{Macro}
+use Rattle.bytecode.specs.Rules.{judgeMacro}
+use Rattle.bytecode.specs.Machine.{Machine}
+use Rattle.bytecode.specs.Lent.{soundState}
+use Rattle.load_places.specs.Records.{bodies, count}
+use Rattle.load_places.specs.Rules.{Verdict, judge, passes, refused}
+use Rattle.load_check.specs.Seen.{verdictOf, judges}
+use Rattle.state_sound.specs.Each.{each, each-get, each-alike, each-none}
+use Rattle.state_sound.specs.Fits.{bodyIn, depthIn, openIn, addressIn, held, groupsFit, recordFits, frameFits, runningFits, plainFits, stands, activationsIn, soundBytes}
+use Rattle.state_sound.specs.Frames.{chosen}
+use Rattle.state_sound.specs.Decoded.{cellCount}
+use Rattle.state_sound.specs.Sounds.{sounds}
+use Rattle.state_check.specs.declared.inspection.Inspected.{Inspected}
+use Rattle.state_check.specs.declared.inspection.Inspected.the-variants.{Sound, Unsound, Refused}
+use Rattle.state_check.specs.Tested.{Counted, fitBefore}
+use Rattle.state_check.specs.Inspecting.{recordsIn, shortOf, Tells, Sees, Held, NotHeld, Inspects}
+use Rattle.state_check.proofs.Rows.{by-test}
+
+-- ── a running state that passes ──
+pub record Running (c l : List ℕ) (n r : ℕ) : Type 0 where
+  pub few : n ≤ 32
+  pub small : r ≤ 256
+  pub frames : (k : ℕ) → k < n → (bodyIn l k < bodies c) × (addressIn l k < count c)
+
+frame-known : (c l : List ℕ) (r n k : ℕ) → frameFits c l r n k ≡ true → (bodyIn l k < bodies c) × (addressIn l k < count c)
+unfolding frameFits
+frame-known c l r n k e =
+    let a = chosen (ltb (bodyIn l k) (bodies c)) _ e in
+    let b = chosen (leb (cellCount c l k) 32) _ (a .1) in
+    let d = chosen (leb (depthIn l k) 32) _ (b .1) in
+    let f = chosen (leb (openIn l k) 16) _ (d .1) in
+    let g = chosen (ltb (addressIn l k) (count c)) _ (f .1) in
+    (ltb-true _ _ (a .0), ltb-true _ _ (g .0))
+
+running-known : (c l : List ℕ) (n r h : ℕ) → runningFits c l n r h ≡ true → Running c l n r
+unfolding runningFits
+running-known c l n r h e =
+    let t1 = chosen (leb 1 n) _ e in
+    let t2 = chosen (leb n 32) _ (t1 .1) in
+    let t3 = chosen (leb r 256) _ (t2 .1) in
+    let t4 = chosen (eqb (bodyIn l 0) 0) _ (t3 .1) in
+    let t5 = chosen (eqb (held l n) h) _ (t4 .1) in
+    let t6 = chosen (groupsFit l h) _ (t5 .1) in
+    let t7 = chosen (each (recordFits c l r) 0 r) (each (frameFits c l r n) 0 n) (t6 .1) in
+    record { few = leb-true n 32 (t2 .0); small = leb-true r 256 (t3 .0); frames = λ k p. frame-known c l r n k (each-get (frameFits c l r n) n (t7 .1) k p) }
+
+plain-known : (c l : List ℕ) → plainFits c l ≡ true → eqb (byteAt l 0) 0 ≡ true → Running c l (byteAt l 2) (halfAt l 4)
+unfolding plainFits
+plain-known c l e z = running-known c l (byteAt l 2) (halfAt l 4) (halfAt l 6) (rw z at e)
+
+-- what the walk is to test is within the limits
+pub wanted : (c l : List ℕ) (p : Bool) (n r : ℕ) → p ≡ plainFits c l → n ≡ cond p (activationsIn l) 0 → r ≡ cond p (recordsIn l) 0 → Running c l n r
+wanted c l false n r e a b = record { few = omega arith; small = omega arith; frames = λ k q. absurd (omega arith) }
+wanted c l true n r e a b =
+    by-test (eqb (byteAt l 0) 0)
+    (λ z. let a′ : n ≡ byteAt l 2 = rw z at a in let b′ : r ≡ halfAt l 4 = rw z at b in rw (a′, b′) (plain-known c l (sym e) z))
+    (λ z. let a′ : n ≡ 0 = rw z at a in let b′ : r ≡ 0 = rw z at b in
+    record { few = omega arith; small = omega arith; frames = λ k q. absurd (omega arith) })
+
+pub counted : (c l : List ℕ) (n r : ℕ) → length l ≡ 24576 → Running c l n r → Counted c l n
+counted c l n r e R = record { long = e; few = R .few; of-bodies = λ k p. R .frames k p .0 }
+
+-- all activations stand at addresses of the code
+all-before : (c l : List ℕ) (r n : ℕ) → Running c l n r → fitBefore c l r n (count c) ≡ each (stands c l r n) 0 n
+all-before c l r n R = each-alike _ _ n (λ k p. rw (lt-ltb (addressIn l k) (count c) (R .frames k p .1)))
+
+pub sound-is : (c l : List ℕ) → length l ≡ 24576 → (p ok : Bool) (n r : ℕ) → p ≡ plainFits c l → n ≡ cond p (activationsIn l) 0 → r ≡ cond p (recordsIn l) 0
+    → ok ≡ fitBefore c l r n (count c) → (p && ok) ≡ soundBytes c l
+unfolding soundBytes
+sound-is c l long false ok n r e a b f = rw (eq-eqb (length l) 24576 long, ← e)
+sound-is c l long true ok n r e a b f =
+    rw (eq-eqb (length l) 24576 long, ← e)
+    (f ∙ all-before c l r n (wanted c l true n r e a b) ∙ by-test (eqb (byteAt l 0) 0)
+    (λ z. let a′ : n ≡ byteAt l 2 = rw z at a in let b′ : r ≡ halfAt l 4 = rw z at b in rw (a′, b′, z))
+    (λ z. let a′ : n ≡ 0 = rw z at a in rw (a′, z) (each-none _ ∙ sym (each-none _))))
+
+-- ── of the macro and the state ──
+never : {A : Type 0} (n k : ℕ) → _≡_ {A = Verdict} (refused n k) passes → A
+never n k e = let y : _≡_ {A = ℕ} 0 1 = cc e in absurd (omega arith)
+
+passes-by : (j : Judged Macro) → verdictOf j ≡ passes → (m : Macro) × (j ≡ accepted m)
+passes-by (accepted m) e = (m, refl)
+passes-by (refusedBy r) e = never (r .number) (r .place) e
+
+refused-by : (j : Judged Macro) (n k : ℕ) → verdictOf j ≡ refused n k → j ≡ refusedBy (refusal n k)
+refused-by (accepted m) n k e = never n k (sym e)
+refused-by (refusedBy r) n k e =
+    let a : r .number ≡ n = cc e in let b : r .place ≡ k = cc e in rw (← a, ← b)
+
+module _ (c l : List ℕ) where
+  accepts : judge c ≡ passes → (m : Macro) × (judgeMacro c ≡ accepted m)
+  accepts e = passes-by (judgeMacro c) (sym (judges c) ∙ e)
+
+  refuses : (n k : ℕ) → judge c ≡ refused n k → judgeMacro c ≡ refusedBy (refusal n k)
+  refuses n k e = refused-by (judgeMacro c) n k (sym (judges c) ∙ e)
+
+  is-held : (m : Macro) → judgeMacro c ≡ accepted m → (o : Option Machine) → soundState m l ≡ o → isSome o ≡ true → Held c l
+  is-held m e none q s = absurd (false≢true s)
+  is-held m e (some x) q s = record { macro = m; passes = e; state = x; sound = q }
+
+  not-held : (m : Macro) → judgeMacro c ≡ accepted m → (o : Option Machine) → soundState m l ≡ o → isSome o ≡ false → NotHeld c l
+  not-held m e none q s = record { macro = m; passes = e; unsound = q }
+  not-held m e (some x) q s = absurd (true≢false s)
+
+  pub told : Bytes l → (bx cx : List ℕ) (x : Inspected) → Tells c l bx cx x → Inspects c l bx cx x
+  told B bx cx (Sound base) t =
+      let a = accepts (t .0) in (is-held (a .0) (a .1) (soundState (a .0) l) refl (sounds c (a .0) (a .1) l B ∙ t .1), t .2)
+  told B bx cx Unsound t =
+      let a = accepts (t .0) in not-held (a .0) (a .1) (soundState (a .0) l) refl (sounds c (a .0) (a .1) l B ∙ t .1)
+  told B bx cx (Refused n k) t = refuses n k t
+
+  short : (m : Macro) → (length l ≡ 24576 → ⊥) → soundState m l ≡ none
+  unfolding soundState
+  short m n = rw (ne-eqb (length l) 24576 n)
+
+  pub told-short : (length l ≡ 24576 → ⊥) → (bx cx : List ℕ) (x : Inspected) → Sees c x → Inspects c l bx cx x
+  told-short n bx cx (Sound base) t = absurd t
+  told-short n bx cx Unsound t = let a = accepts t in record { macro = a .0; passes = a .1; unsound = short (a .0) n }
+  told-short n bx cx (Refused i p) t = refuses i p t
+
+-- whatever bytes the macro was judged beside
+pub seen-by : (c l bx cx : List ℕ) (x : Inspected) → Tells c l bx cx x → Sees c (shortOf x)
+seen-by c l bx cx (Sound base) t = t .0
+seen-by c l bx cx Unsound t = t .0
+seen-by c l bx cx (Refused n k) t = t

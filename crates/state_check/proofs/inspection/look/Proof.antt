@@ -1,0 +1,27 @@
+-- `soundness::look` meets its contract. Assumes nothing.
+use borrow.Author.Needs.{needs}
+use Prim.Native.Nat.{_-_}
+use Rattle.state_check.proofs.InspectionLaws as law
+use Rattle.state_check.proofs.inspection.look.Statement.{statement}
+use Rattle.state_check.proofs.inspection.look.Tie as tie
+
+returns : tie.Need-returns
+returns c =
+    let at-start = c .before .before .before .before .before in
+    λ q. law.skipped _ _ _ _ _ _ _ (at-start .pre .8) (c .if1 .taken)
+
+returns-2 : tie.Need-returns-2
+returns-2 c =
+    let at-start = c .before .before .before .before .before .before .before .before in
+    λ q. law.looked _ _ _ _ _ _ _ (at-start .pre .8) _ _ _ _ (at-start .pre .7) (at-start .pre .6) q (c .before .before .found-fits .ensures) (c .before .next-wanted .ensures) _ (c .both .ensures)
+
+pub look-spec : {M : Type 1} → statement M
+look-spec =
+    tie.close
+    (tie.spec
+    returns
+    (λ c κs. search needs)
+    (λ c. search needs)
+    (λ c κs. search needs)
+    (λ c κs. search needs)
+    returns-2)

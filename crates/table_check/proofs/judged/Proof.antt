@@ -1,0 +1,60 @@
+-- `table::judged` meets its contract: the first fault, and where there is none the first limit, is the verdict. Assumes nothing.
+use borrow.Author.Needs.{needs}
+use mathlib.Core.Path.{_≡_}
+use native.Mathlib.Omega.{arith}
+use denote.Ref.{now}
+use Rattle.language.specs.Judge.{judgeTable}
+use Rattle.table_check.specs.Checked.{checkedOf, faulty, over, within, place-small}
+use Rattle.table_check.specs.declared.Checked.the-variants.{Refused}
+use Rattle.table_check.proofs.judged.Statement.{statement}
+use Rattle.table_check.proofs.judged.Tie as tie
+
+enum-told : tie.Need-enum-told
+enum-told c = search needs
+
+-- what each arm of a refusal answers
+over-is : (c : tie.After-known-told) → Refused 6 (c .before .place .given .0 .0) ≡ checkedOf (judgeTable (now (c .before .before .before .before .before .before .before .before .args .table)))
+over-is c =
+    over _ (c .before .before .before .before .before .before .before .before .pre)
+    (c .before .before .before .before .before .before .first-fault .ensures) (c .before .before .before .before .enum-told .given .1)
+    (c .before .before .before .over-limits .ensures) (c .before .place .given .0 .0) (c .before .place .given .1)
+
+cast-t9 : tie.Need-cast-t9
+cast-t9 c = record { fits = omega (arith, place-small _ _ _ (over-is c)) }
+
+fault-is : (c : tie.After-known-told2) → Refused (c .before .number .given .0 .0) (c .before .number .given .0 .1 .0)
+    ≡ checkedOf (judgeTable (now (c .before .before .before .before .before .args .table)))
+fault-is c =
+    faulty _ (c .before .before .before .before .before .pre) (c .before .before .before .first-fault .ensures) (c .before .number .given .0 .0)
+    (c .before .number .given .0 .1 .0) (c .before .number .given .1)
+
+cast-t10 : tie.Need-cast-t10
+cast-t10 c = record { fits = omega (arith, place-small _ _ _ (fault-is c)) }
+
+returns : tie.Need-returns
+returns c =
+    let at-first-fault = c .before .before .before .before .before in
+    let at-start = at-first-fault .before .before in
+    within _ (at-start .pre) (at-first-fault .first-fault .ensures) (c .before .before .before .enum-told .given .1) (c .before .before .over-limits .ensures) (c .enum-told2 .given .1)
+
+returns-2 : tie.Need-returns-2
+returns-2 c = over-is c
+
+returns-3 : tie.Need-returns-3
+returns-3 c = fault-is c
+
+pub judged-spec : {M : Type 1} → statement M
+judged-spec =
+    tie.close
+    (tie.spec
+    (λ c κs. search needs)
+    enum-told
+    (λ c κs. search needs)
+    (λ c. search needs)
+    (λ c. search needs)
+    cast-t9
+    (λ c. search needs)
+    cast-t10
+    returns
+    returns-2
+    returns-3)

@@ -1,0 +1,37 @@
+// The table check: refusals 1 to 6, from a table's bytes alone.
+use table_limits::Limited;
+use table_names::Faulted;
+use table_read::Reading;
+ghost use mathlib.Core.Path.{_≡_};
+ghost use Rattle.language.specs.Judge.{judgeTable};
+ghost use Rattle.table_forms.specs.Tables.{Reads};
+ghost use Rattle.table_check.specs.Checked.{checkedOf};
+
+// Refused with the refusal's number and its place: an entry, or the entry count where the table ends early.
+pub enum Checked {
+    Accepted,
+    Refused(u8, u32),
+}
+
+// A table that reads: its first fault, and then the first body over its limits.
+fn judged(table: &[u8]) -> Checked
+    requires { ⌜ Reads (now table) ⌝ }
+    ensures { λ r. ⌜ r ≡ checkedOf (judgeTable (now (table .entry))) ⌝ }
+{
+    match table_names::first_fault(table) {
+        Faulted::Faultless => match table_limits::over_limits(table) {
+            Limited::Within => Checked::Accepted,
+            Limited::Over(place) => Checked::Refused(6, place as u32),
+        },
+        Faulted::Fault(number, place) => Checked::Refused(number, place as u32),
+    }
+}
+
+pub fn check(table: &[u8]) -> Checked
+    ensures { λ r. ⌜ r ≡ checkedOf (judgeTable (now (table .entry))) ⌝ }
+{
+    match table_read::read_table(table) {
+        Reading::Reads => judged(table),
+        Reading::Refused(number, place) => Checked::Refused(number, place as u32),
+    }
+}

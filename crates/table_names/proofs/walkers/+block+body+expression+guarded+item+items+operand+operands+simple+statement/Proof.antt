@@ -1,0 +1,1414 @@
+use mathlib.Core.Path.{refl, sym, _∙_}
+use native.Mathlib.Omega.{arith}
+use borrow.Author.Needs.{needs}
+use Rattle.table_forms.specs.Forms.{is-body, is-simple, is-block, is-guard, is-other}
+use Rattle.table_forms.specs.Steps.{EsSoFar, es-start, es-asks, es-room, es-passes, es-stop, es-next, es-end, ItemsSoFar, items-start, items-asks, items-passes}
+use Rattle.table_forms.specs.Steps.{items-stop, items-next, items-end, ask-as, answer-as, typed-as, typed-answer, label-answer, simple-asks, settle-asks, simple-stop}
+use Rattle.table_forms.specs.Steps.{simple-judged, leaf-judged, leaf-small, plain-form}
+use Rattle.table_forms.specs.Ends.{asked, guard-asks, guard-passes, guard-stop, guard-items, guard-stop-2, guard-judged, block-asks, block-within, block-top, block-stop}
+use Rattle.table_forms.specs.Ends.{block-inner, block-judged, known-from, body-asks, body-within, body-top, body-stop, body-inner, body-stop-2, body-result, body-fits}
+use Rattle.table_forms.specs.Ends.{body-judged}
+use Prim.Native.Nat.{ℕ, _+_, _-_, _*_, _<_}
+use borrow.Fn.Kinds.{In}
+use borrow.Fn.PlainCycle.{Measures, is, falls, and}
+use Rattle.table_names.proofs.walkers.block.Reads as block
+use Rattle.table_names.proofs.walkers.block.Kinds as block-kinds
+use Rattle.table_names.proofs.walkers.+block+body+expression+guarded+item+items+operand+operands+simple+statement.Lts-block as block-lts
+use Rattle.table_names.proofs.walkers.body.Reads as body
+use Rattle.table_names.proofs.walkers.body.Kinds as body-kinds
+use Rattle.table_names.proofs.walkers.+block+body+expression+guarded+item+items+operand+operands+simple+statement.Lts-body as body-lts
+use Rattle.table_names.proofs.walkers.expression.Reads as expression
+use Rattle.table_names.proofs.walkers.expression.Kinds as expression-kinds
+use Rattle.table_names.proofs.walkers.+block+body+expression+guarded+item+items+operand+operands+simple+statement.Lts-expression as expression-lts
+use Rattle.table_names.proofs.walkers.guarded.Reads as guarded
+use Rattle.table_names.proofs.walkers.guarded.Kinds as guarded-kinds
+use Rattle.table_names.proofs.walkers.+block+body+expression+guarded+item+items+operand+operands+simple+statement.Lts-guarded as guarded-lts
+use Rattle.table_names.proofs.walkers.item.Reads as item
+use Rattle.table_names.proofs.walkers.item.Kinds as item-kinds
+use Rattle.table_names.proofs.walkers.+block+body+expression+guarded+item+items+operand+operands+simple+statement.Lts-item as item-lts
+use Rattle.table_names.proofs.walkers.items.Reads as items
+use Rattle.table_names.proofs.walkers.items.Kinds as items-kinds
+use Rattle.table_names.proofs.walkers.+block+body+expression+guarded+item+items+operand+operands+simple+statement.Lts-items as items-lts
+use Rattle.table_names.proofs.walkers.operand.Reads as operand
+use Rattle.table_names.proofs.walkers.operand.Kinds as operand-kinds
+use Rattle.table_names.proofs.walkers.+block+body+expression+guarded+item+items+operand+operands+simple+statement.Lts-operand as operand-lts
+use Rattle.table_names.proofs.walkers.operands.Reads as operands
+use Rattle.table_names.proofs.walkers.operands.Kinds as operands-kinds
+use Rattle.table_names.proofs.walkers.+block+body+expression+guarded+item+items+operand+operands+simple+statement.Lts-operands as operands-lts
+use Rattle.table_names.proofs.walkers.simple.Reads as simple
+use Rattle.table_names.proofs.walkers.simple.Kinds as simple-kinds
+use Rattle.table_names.proofs.walkers.+block+body+expression+guarded+item+items+operand+operands+simple+statement.Lts-simple as simple-lts
+use Rattle.table_names.proofs.walkers.statement.Reads as statement′
+use Rattle.table_names.proofs.walkers.statement.Kinds as statement-kinds
+use Rattle.table_names.proofs.walkers.+block+body+expression+guarded+item+items+operand+operands+simple+statement.Lts-statement as statement-lts
+use Rattle.table_scopes.proofs.heads.enter.Reads as enter-reads
+use Rattle.table_scopes.proofs.heads.head.Reads as head-reads
+use Rattle.table_scopes.proofs.heads.once.Reads as once-reads
+use Rattle.table_types.proofs.is_leaf.Reads as is-leaf-reads
+use Rattle.table_types.proofs.leaf.Reads as leaf-reads
+use Rattle.table_types.proofs.settle.Reads as settle-reads
+use Rattle.table_scopes.proofs.environment.push.Reads as push-reads
+use Rattle.table_scopes.proofs.spans.size_at.Reads as size-at-reads
+use Rattle.table_scopes.proofs.spans.spanned.Reads as spanned-reads
+use Rattle.table_names.proofs.walkers.guarded_of.Reads as guarded-of-reads
+use Rattle.table_names.proofs.walkers.is_plain.Reads as is-plain-reads
+use Rattle.table_names.proofs.walkers.operands_of.Reads as operands-of-reads
+use Rattle.table_names.proofs.walkers.tested.Reads as tested-reads
+use Rattle.words.proofs.half_at.Reads as half-at-reads
+use Rattle.words.proofs.word_at.Reads as word-at-reads
+use Rattle.table_names.proofs.walkers.+block+body+expression+guarded+item+items+operand+operands+simple+statement.{statement}
+use Rattle.table_names.proofs.walkers.+block+body+expression+guarded+item+items+operand+operands+simple+statement.Tie.{close}
+
+abbrev μ-block : Measures 4 block-kinds.ps ℕ
+μ-block κs a = 4 * a .1 .1 .0
+
+abbrev μ-body : Measures 4 body-kinds.ps ℕ
+μ-body κs a = 4 * a .1 .1 .0
+
+abbrev μ-expression : Measures 4 expression-kinds.ps ℕ
+μ-expression κs a = 4 * a .1 .1 .0 + 1
+
+abbrev μ-guarded : Measures 4 guarded-kinds.ps ℕ
+μ-guarded κs a = 4 * a .1 .1 .0
+
+abbrev μ-item : Measures 4 item-kinds.ps ℕ
+μ-item κs a = 4 * a .1 .1 .0 + 2
+
+abbrev μ-items : Measures 4 items-kinds.ps ℕ
+μ-items κs a = 4 * a .1 .1 .1 .0 + 3
+
+abbrev μ-operand : Measures 4 operand-kinds.ps ℕ
+μ-operand κs a = 4 * a .1 .1 .0 + 2
+
+abbrev μ-operands : Measures 4 operands-kinds.ps ℕ
+μ-operands κs a = 4 * a .1 .1 .1 .0 + 3
+
+abbrev μ-simple : Measures 4 simple-kinds.ps ℕ
+μ-simple κs a = 4 * a .1 .1 .0
+
+abbrev μ-statement : Measures 4 statement-kinds.ps ℕ
+μ-statement κs a = 4 * a .1 .1 .0 + 1
+
+-- what each is given at the measure t, and what a call of it asks below t
+abbrev block-at : ℕ → In 4 block-kinds.ps
+block-at t = and 4 block-kinds.ps (is 4 block-kinds.ps μ-block t) block.Pre
+
+abbrev block-below : ℕ → In 4 block-kinds.ps
+block-below t = and 4 block-kinds.ps (falls 4 block-kinds.ps _<_ μ-block t) block.Pre
+
+abbrev body-at : ℕ → In 4 body-kinds.ps
+body-at t = and 4 body-kinds.ps (is 4 body-kinds.ps μ-body t) body.Pre
+
+abbrev body-below : ℕ → In 4 body-kinds.ps
+body-below t = and 4 body-kinds.ps (falls 4 body-kinds.ps _<_ μ-body t) body.Pre
+
+abbrev expression-at : ℕ → In 4 expression-kinds.ps
+expression-at t = and 4 expression-kinds.ps (is 4 expression-kinds.ps μ-expression t) expression.Pre
+
+abbrev expression-below : ℕ → In 4 expression-kinds.ps
+expression-below t = and 4 expression-kinds.ps (falls 4 expression-kinds.ps _<_ μ-expression t) expression.Pre
+
+abbrev guarded-at : ℕ → In 4 guarded-kinds.ps
+guarded-at t = and 4 guarded-kinds.ps (is 4 guarded-kinds.ps μ-guarded t) guarded.Pre
+
+abbrev guarded-below : ℕ → In 4 guarded-kinds.ps
+guarded-below t = and 4 guarded-kinds.ps (falls 4 guarded-kinds.ps _<_ μ-guarded t) guarded.Pre
+
+abbrev item-at : ℕ → In 4 item-kinds.ps
+item-at t = and 4 item-kinds.ps (is 4 item-kinds.ps μ-item t) item.Pre
+
+abbrev item-below : ℕ → In 4 item-kinds.ps
+item-below t = and 4 item-kinds.ps (falls 4 item-kinds.ps _<_ μ-item t) item.Pre
+
+abbrev items-at : ℕ → In 4 items-kinds.ps
+items-at t = and 4 items-kinds.ps (is 4 items-kinds.ps μ-items t) items.Pre
+
+abbrev items-below : ℕ → In 4 items-kinds.ps
+items-below t = and 4 items-kinds.ps (falls 4 items-kinds.ps _<_ μ-items t) items.Pre
+
+abbrev operand-at : ℕ → In 4 operand-kinds.ps
+operand-at t = and 4 operand-kinds.ps (is 4 operand-kinds.ps μ-operand t) operand.Pre
+
+abbrev operand-below : ℕ → In 4 operand-kinds.ps
+operand-below t = and 4 operand-kinds.ps (falls 4 operand-kinds.ps _<_ μ-operand t) operand.Pre
+
+abbrev operands-at : ℕ → In 4 operands-kinds.ps
+operands-at t = and 4 operands-kinds.ps (is 4 operands-kinds.ps μ-operands t) operands.Pre
+
+abbrev operands-below : ℕ → In 4 operands-kinds.ps
+operands-below t = and 4 operands-kinds.ps (falls 4 operands-kinds.ps _<_ μ-operands t) operands.Pre
+
+abbrev simple-at : ℕ → In 4 simple-kinds.ps
+simple-at t = and 4 simple-kinds.ps (is 4 simple-kinds.ps μ-simple t) simple.Pre
+
+abbrev simple-below : ℕ → In 4 simple-kinds.ps
+simple-below t = and 4 simple-kinds.ps (falls 4 simple-kinds.ps _<_ μ-simple t) simple.Pre
+
+abbrev statement-at : ℕ → In 4 statement-kinds.ps
+statement-at t = and 4 statement-kinds.ps (is 4 statement-kinds.ps μ-statement t) statement′.Pre
+
+abbrev statement-below : ℕ → In 4 statement-kinds.ps
+statement-below t = and 4 statement-kinds.ps (falls 4 statement-kinds.ps _<_ μ-statement t) statement′.Pre
+
+block-meets : {M : Type 1} (t : ℕ) → block-lts.Closed (
+  half-at-reads.Asked,
+  half-at-reads.Learnt,
+  word-at-reads.Asked,
+  word-at-reads.Learnt,
+  enter-reads.Asked,
+  enter-reads.Learnt,
+  head-reads.Asked,
+  head-reads.Learnt,
+  items-below t,
+  items.Post,
+) (block-at t) block.Post M
+block-meets t =
+    block-lts.spec (
+      half-at-reads.Asked,
+      half-at-reads.Learnt,
+      word-at-reads.Asked,
+      word-at-reads.Learnt,
+      enter-reads.Asked,
+      enter-reads.Learnt,
+      head-reads.Asked,
+      head-reads.Learnt,
+      items-below t,
+      items.Post,
+    ) (block-at t) block.Post
+    -- half-at-requires
+    (λ c κs. omega (arith, asked (c .before .before .before .before .pre .1) .long))
+    -- cast-heads
+    (λ c. search needs)
+    -- word-at-requires
+    (λ c κs. omega (arith, asked (c .before .before .before .before .before .pre .1) .long))
+    -- cast-count
+    (λ c. search needs)
+    -- add-enter
+    (λ c. omega (arith, asked (c .before .before .before .before .before .before .pre .1) .small))
+    -- enter-requires
+    (λ c κs. (let a = block-asks (c .before .before .half-at .result) (c .before .word-at .result)
+    (c .before .before .half-at .ensures, c .before .word-at .ensures) (c .before .before .before .before .before .before .before .pre .1) in
+    (a .known, a .within, a .reach, a .short, a .room)))
+    -- add-head
+    (λ c. omega (arith, asked (c .before .before .before .before .before .before .before .before .before .before .pre .1) .small))
+    -- head-requires
+    (λ c κs. (
+      block-within (c .before .before .before .before .before .before .half-at .result)
+          (c .before .before .before .before .before .word-at .result) (
+            c .before .before .before .before .before .before .half-at .ensures,
+            c .before .before .before .before .before .word-at .ensures,
+          ) (c .before .before .before .before .before .before .before .before .before .before .before .pre .1) .within,
+      block-top (c .before .before .before .before .before .before .half-at .result) (c .before .before .before .before .before .word-at .result)
+          (c .before .before .before .before .before .before .half-at .ensures, c .before .before .before .before .before .word-at .ensures)
+          (c .before .before .before .enter .ensures) (c .before .before .before .before .before .before .before .before .before .before .before .pre .1),
+    ))
+    -- enum-told
+    (λ c. search needs)
+    -- add-from
+    (λ c. omega (
+      arith,
+      block-within (c .before .before .before .before .before .before .before .before .before .half-at .result)
+          (c .before .before .before .before .before .before .before .before .word-at .result) (
+            c .before .before .before .before .before .before .before .before .before .half-at .ensures,
+            c .before .before .before .before .before .before .before .before .word-at .ensures,
+          )
+          (c .before .before .before .before .before .before .before .before .before .before .before .before .before .before .pre .1) .fits,
+      block-within (c .before .before .before .before .before .before .before .before .before .half-at .result)
+          (c .before .before .before .before .before .before .before .before .word-at .result) (
+            c .before .before .before .before .before .before .before .before .before .half-at .ensures,
+            c .before .before .before .before .before .before .before .before .word-at .ensures,
+          )
+          (c .before .before .before .before .before .before .before .before .before .before .before .before .before .before .pre .1) .within,
+      block-within (c .before .before .before .before .before .before .before .before .before .half-at .result)
+          (c .before .before .before .before .before .before .before .before .word-at .result) (
+            c .before .before .before .before .before .before .before .before .before .half-at .ensures,
+            c .before .before .before .before .before .before .before .before .word-at .ensures,
+          )
+          (c .before .before .before .before .before .before .before .before .before .before .before .before .before .before .pre .1) .short,
+    ))
+    -- mul-from
+    (λ c. omega (
+      arith,
+      block-within (c .before .before .before .before .before .before .before .before .before .half-at .result)
+          (c .before .before .before .before .before .before .before .before .word-at .result) (
+            c .before .before .before .before .before .before .before .before .before .half-at .ensures,
+            c .before .before .before .before .before .before .before .before .word-at .ensures,
+          )
+          (c .before .before .before .before .before .before .before .before .before .before .before .before .before .before .pre .1) .fits,
+      block-within (c .before .before .before .before .before .before .before .before .before .half-at .result)
+          (c .before .before .before .before .before .before .before .before .word-at .result) (
+            c .before .before .before .before .before .before .before .before .before .half-at .ensures,
+            c .before .before .before .before .before .before .before .before .word-at .ensures,
+          )
+          (c .before .before .before .before .before .before .before .before .before .before .before .before .before .before .pre .1) .within,
+      block-within (c .before .before .before .before .before .before .before .before .before .half-at .result)
+          (c .before .before .before .before .before .before .before .before .word-at .result) (
+            c .before .before .before .before .before .before .before .before .before .half-at .ensures,
+            c .before .before .before .before .before .before .before .before .word-at .ensures,
+          )
+          (c .before .before .before .before .before .before .before .before .before .before .before .before .before .before .pre .1) .short,
+    ))
+    -- sub-items
+    (λ c. block-within (c .before .before .before .before .before .before .before .before .before .half-at .result)
+    (c .before .before .before .before .before .before .before .before .word-at .result) (
+      c .before .before .before .before .before .before .before .before .before .half-at .ensures,
+      c .before .before .before .before .before .before .before .before .word-at .ensures,
+    )
+    (c .before .before .before .before .before .before .before .before .before .before .before .before .before .before .pre .1) .fits)
+    -- part-items-start
+    (λ c. block-within (c .before .before .before .before .before .before .before .before .before .half-at .result)
+    (c .before .before .before .before .before .before .before .before .word-at .result) (
+      c .before .before .before .before .before .before .before .before .before .half-at .ensures,
+      c .before .before .before .before .before .before .before .before .word-at .ensures,
+    )
+    (c .before .before .before .before .before .before .before .before .before .before .before .before .before .before .pre .1) .fits)
+    -- part-items-end
+    (λ c. search needs)
+    -- sub-items-2
+    (λ c. omega (arith, asked (c .before .before .before .before .before .before .before .before .before .before .before .before .before .before .before .pre .1) .nested))
+    -- add-items
+    (λ c. omega (arith, asked (c .before .before .before .before .before .before .before .before .before .before .before .before .before .before .before .pre .1) .small))
+    -- add-items-2
+    (λ c. omega (
+      arith,
+      block-within (c .before .before .before .before .before .before .before .before .before .before .half-at .result)
+          (c .before .before .before .before .before .before .before .before .before .word-at .result) (
+            c .before .before .before .before .before .before .before .before .before .before .half-at .ensures,
+            c .before .before .before .before .before .before .before .before .before .word-at .ensures,
+          )
+          (c .before .before .before .before .before .before .before .before .before .before .before .before .before .before .before .pre .1) .fits,
+      block-within (c .before .before .before .before .before .before .before .before .before .before .half-at .result)
+          (c .before .before .before .before .before .before .before .before .before .word-at .result) (
+            c .before .before .before .before .before .before .before .before .before .before .half-at .ensures,
+            c .before .before .before .before .before .before .before .before .before .word-at .ensures,
+          )
+          (c .before .before .before .before .before .before .before .before .before .before .before .before .before .before .before .pre .1) .within,
+      block-within (c .before .before .before .before .before .before .before .before .before .before .half-at .result)
+          (c .before .before .before .before .before .before .before .before .before .word-at .result) (
+            c .before .before .before .before .before .before .before .before .before .before .half-at .ensures,
+            c .before .before .before .before .before .before .before .before .before .word-at .ensures,
+          )
+          (c .before .before .before .before .before .before .before .before .before .before .before .before .before .before .before .pre .1) .short,
+    ))
+    -- items-requires
+    (λ c κs. (
+      omega (arith, asked (c .before .before .before .before .before .before .before .before .before .before .before .before .before .before .before .before .pre .1) .nested),
+      block-inner (c .before .before .before .before .before .before .before .before .before .before .before .half-at .result)
+          (c .before .before .before .before .before .before .before .before .before .before .word-at .result) (
+            c .before .before .before .before .before .before .before .before .before .before .before .half-at .ensures,
+            c .before .before .before .before .before .before .before .before .before .before .word-at .ensures,
+          )
+          (c .before .before .before .before .before .before .before .before .enter .ensures)
+          (c .before .before .before .before .before .before .before .before .before .before .before .before .before .before .before .before .pre .1),
+    ))
+    -- enum-known-k
+    (λ c. search needs)
+    -- same-length
+    (λ c. search needs)
+    -- returns
+    (λ c. block-judged (c .before .before .before .before .before .before .before .before .before .before .before .before .before .before .half-at .result)
+    (c .before .before .before .before .before .before .before .before .before .before .before .before .before .word-at .result) (
+      c .before .before .before .before .before .before .before .before .before .before .before .before .before .before .half-at .ensures,
+      c .before .before .before .before .before .before .before .before .before .before .before .before .before .word-at .ensures,
+    )
+    (c .before .before .before .before .before .before .before .before .before .before .before .enter .ensures)
+    (c .before .before .before .before .before .before .before .head .ensures) _ (c .before .before .before .before .before .enum-told .given .1)
+    (c .before .before .items .ensures))
+    -- same-length-2
+    (λ c. search needs)
+    -- returns-2
+    (λ c. block-stop (c .before .before .before .before .before .before .before .before .before .before .half-at .result)
+    (c .before .before .before .before .before .before .before .before .before .word-at .result) (
+      c .before .before .before .before .before .before .before .before .before .before .half-at .ensures,
+      c .before .before .before .before .before .before .before .before .before .word-at .ensures,
+    )
+    (c .before .before .before .before .before .before .before .enter .ensures) (c .before .before .before .head .ensures) _ _ (c .before .k .given .1))
+
+body-meets : {M : Type 1} (t : ℕ) → body-lts.Closed (
+  half-at-reads.Asked,
+  half-at-reads.Learnt,
+  word-at-reads.Asked,
+  word-at-reads.Learnt,
+  enter-reads.Asked,
+  enter-reads.Learnt,
+  head-reads.Asked,
+  head-reads.Learnt,
+  items-below t,
+  items.Post,
+  spanned-reads.Asked,
+  spanned-reads.Learnt,
+  expression-below t,
+  expression.Post,
+) (body-at t) body.Post M
+body-meets t =
+    body-lts.spec (
+      half-at-reads.Asked,
+      half-at-reads.Learnt,
+      word-at-reads.Asked,
+      word-at-reads.Learnt,
+      enter-reads.Asked,
+      enter-reads.Learnt,
+      head-reads.Asked,
+      head-reads.Learnt,
+      items-below t,
+      items.Post,
+      spanned-reads.Asked,
+      spanned-reads.Learnt,
+      expression-below t,
+      expression.Post,
+    ) (body-at t) body.Post
+    -- half-at-requires
+    (λ c κs. omega (arith, asked (c .before .before .before .before .pre .1) .long))
+    -- cast-heads
+    (λ c. search needs)
+    -- word-at-requires
+    (λ c κs. omega (arith, asked (c .before .before .before .before .before .pre .1) .long))
+    -- cast-count
+    (λ c. search needs)
+    -- add-enter
+    (λ c. omega (arith, asked (c .before .before .before .before .before .before .pre .1) .small))
+    -- enter-requires
+    (λ c κs. (let a = body-asks (c .before .before .half-at .result) (c .before .word-at .result)
+    (c .before .before .half-at .ensures, c .before .word-at .ensures) (c .before .before .before .before .before .before .before .pre .1) in
+    (a .known, a .within, a .reach, a .short, a .room)))
+    -- add-head
+    (λ c. omega (arith, asked (c .before .before .before .before .before .before .before .before .before .before .pre .1) .small))
+    -- head-requires
+    (λ c κs. (
+      body-within (c .before .before .before .before .before .before .half-at .result)
+          (c .before .before .before .before .before .word-at .result) (
+            c .before .before .before .before .before .before .half-at .ensures,
+            c .before .before .before .before .before .word-at .ensures,
+          ) (c .before .before .before .before .before .before .before .before .before .before .before .pre .1) .within,
+      body-top (c .before .before .before .before .before .before .half-at .result) (c .before .before .before .before .before .word-at .result)
+          (c .before .before .before .before .before .before .half-at .ensures, c .before .before .before .before .before .word-at .ensures)
+          (c .before .before .before .enter .ensures) (c .before .before .before .before .before .before .before .before .before .before .before .pre .1),
+    ))
+    -- enum-told
+    (λ c. search needs)
+    -- add-from
+    (λ c. omega (
+      arith,
+      body-within (c .before .before .before .before .before .before .before .before .before .half-at .result)
+          (c .before .before .before .before .before .before .before .before .word-at .result) (
+            c .before .before .before .before .before .before .before .before .before .half-at .ensures,
+            c .before .before .before .before .before .before .before .before .word-at .ensures,
+          )
+          (c .before .before .before .before .before .before .before .before .before .before .before .before .before .before .pre .1) .fits,
+      body-within (c .before .before .before .before .before .before .before .before .before .half-at .result)
+          (c .before .before .before .before .before .before .before .before .word-at .result) (
+            c .before .before .before .before .before .before .before .before .before .half-at .ensures,
+            c .before .before .before .before .before .before .before .before .word-at .ensures,
+          )
+          (c .before .before .before .before .before .before .before .before .before .before .before .before .before .before .pre .1) .within,
+      body-within (c .before .before .before .before .before .before .before .before .before .half-at .result)
+          (c .before .before .before .before .before .before .before .before .word-at .result) (
+            c .before .before .before .before .before .before .before .before .before .half-at .ensures,
+            c .before .before .before .before .before .before .before .before .word-at .ensures,
+          )
+          (c .before .before .before .before .before .before .before .before .before .before .before .before .before .before .pre .1) .short,
+    ))
+    -- mul-from
+    (λ c. omega (
+      arith,
+      body-within (c .before .before .before .before .before .before .before .before .before .half-at .result)
+          (c .before .before .before .before .before .before .before .before .word-at .result) (
+            c .before .before .before .before .before .before .before .before .before .half-at .ensures,
+            c .before .before .before .before .before .before .before .before .word-at .ensures,
+          )
+          (c .before .before .before .before .before .before .before .before .before .before .before .before .before .before .pre .1) .fits,
+      body-within (c .before .before .before .before .before .before .before .before .before .half-at .result)
+          (c .before .before .before .before .before .before .before .before .word-at .result) (
+            c .before .before .before .before .before .before .before .before .before .half-at .ensures,
+            c .before .before .before .before .before .before .before .before .word-at .ensures,
+          )
+          (c .before .before .before .before .before .before .before .before .before .before .before .before .before .before .pre .1) .within,
+      body-within (c .before .before .before .before .before .before .before .before .before .half-at .result)
+          (c .before .before .before .before .before .before .before .before .word-at .result) (
+            c .before .before .before .before .before .before .before .before .before .half-at .ensures,
+            c .before .before .before .before .before .before .before .before .word-at .ensures,
+          )
+          (c .before .before .before .before .before .before .before .before .before .before .before .before .before .before .pre .1) .short,
+    ))
+    -- sub-items
+    (λ c. body-within (c .before .before .before .before .before .before .before .before .before .half-at .result)
+    (c .before .before .before .before .before .before .before .before .word-at .result) (
+      c .before .before .before .before .before .before .before .before .before .half-at .ensures,
+      c .before .before .before .before .before .before .before .before .word-at .ensures,
+    )
+    (c .before .before .before .before .before .before .before .before .before .before .before .before .before .before .pre .1) .fits)
+    -- part-items-start
+    (λ c. body-within (c .before .before .before .before .before .before .before .before .before .half-at .result)
+    (c .before .before .before .before .before .before .before .before .word-at .result) (
+      c .before .before .before .before .before .before .before .before .before .half-at .ensures,
+      c .before .before .before .before .before .before .before .before .word-at .ensures,
+    )
+    (c .before .before .before .before .before .before .before .before .before .before .before .before .before .before .pre .1) .fits)
+    -- part-items-end
+    (λ c. search needs)
+    -- sub-items-2
+    (λ c. omega (arith, asked (c .before .before .before .before .before .before .before .before .before .before .before .before .before .before .before .pre .1) .nested))
+    -- add-items
+    (λ c. omega (arith, asked (c .before .before .before .before .before .before .before .before .before .before .before .before .before .before .before .pre .1) .small))
+    -- add-items-2
+    (λ c. omega (
+      arith,
+      body-within (c .before .before .before .before .before .before .before .before .before .before .half-at .result)
+          (c .before .before .before .before .before .before .before .before .before .word-at .result) (
+            c .before .before .before .before .before .before .before .before .before .before .half-at .ensures,
+            c .before .before .before .before .before .before .before .before .before .word-at .ensures,
+          )
+          (c .before .before .before .before .before .before .before .before .before .before .before .before .before .before .before .pre .1) .fits,
+      body-within (c .before .before .before .before .before .before .before .before .before .before .half-at .result)
+          (c .before .before .before .before .before .before .before .before .before .word-at .result) (
+            c .before .before .before .before .before .before .before .before .before .before .half-at .ensures,
+            c .before .before .before .before .before .before .before .before .before .word-at .ensures,
+          )
+          (c .before .before .before .before .before .before .before .before .before .before .before .before .before .before .before .pre .1) .within,
+      body-within (c .before .before .before .before .before .before .before .before .before .before .half-at .result)
+          (c .before .before .before .before .before .before .before .before .before .word-at .result) (
+            c .before .before .before .before .before .before .before .before .before .before .half-at .ensures,
+            c .before .before .before .before .before .before .before .before .before .word-at .ensures,
+          )
+          (c .before .before .before .before .before .before .before .before .before .before .before .before .before .before .before .pre .1) .short,
+    ))
+    -- items-requires
+    (λ c κs. (
+      omega (arith, asked (c .before .before .before .before .before .before .before .before .before .before .before .before .before .before .before .before .pre .1) .nested),
+      body-inner (c .before .before .before .before .before .before .before .before .before .before .before .half-at .result)
+          (c .before .before .before .before .before .before .before .before .before .before .word-at .result) (
+            c .before .before .before .before .before .before .before .before .before .before .before .half-at .ensures,
+            c .before .before .before .before .before .before .before .before .before .before .word-at .ensures,
+          )
+          (c .before .before .before .before .before .before .before .before .enter .ensures)
+          (c .before .before .before .before .before .before .before .before .before .before .before .before .before .before .before .before .pre .1),
+    ))
+    -- enum-told-2
+    (λ c. search needs)
+    -- add-spanned
+    (λ c. omega (arith, asked (c .before .before .before .before .before .before .before .before .before .before .before .before .before .before .before .before .before .before .before .before .before .pre .1) .small))
+    -- add-spanned-2
+    (λ c. omega (
+      arith,
+      body-within (c .before .before .before .before .before .before .before .before .before .before .before .before .before .before .before .before .half-at .result)
+          (c .before .before .before .before .before .before .before .before .before .before .before .before .before .before .before .word-at .result) (
+            c .before .before .before .before .before .before .before .before .before .before .before .before .before .before .before .before .half-at .ensures,
+            c .before .before .before .before .before .before .before .before .before .before .before .before .before .before .before .word-at .ensures,
+          )
+          (c .before .before .before .before .before .before .before .before .before .before .before .before .before .before .before .before .before .before .before .before .before .pre .1) .fits,
+      body-within (c .before .before .before .before .before .before .before .before .before .before .before .before .before .before .before .before .half-at .result)
+          (c .before .before .before .before .before .before .before .before .before .before .before .before .before .before .before .word-at .result) (
+            c .before .before .before .before .before .before .before .before .before .before .before .before .before .before .before .before .half-at .ensures,
+            c .before .before .before .before .before .before .before .before .before .before .before .before .before .before .before .word-at .ensures,
+          )
+          (c .before .before .before .before .before .before .before .before .before .before .before .before .before .before .before .before .before .before .before .before .before .pre .1) .within,
+      body-within (c .before .before .before .before .before .before .before .before .before .before .before .before .before .before .before .before .half-at .result)
+          (c .before .before .before .before .before .before .before .before .before .before .before .before .before .before .before .word-at .result) (
+            c .before .before .before .before .before .before .before .before .before .before .before .before .before .before .before .before .half-at .ensures,
+            c .before .before .before .before .before .before .before .before .before .before .before .before .before .before .before .word-at .ensures,
+          )
+          (c .before .before .before .before .before .before .before .before .before .before .before .before .before .before .before .before .before .before .before .before .before .pre .1) .short,
+    ))
+    -- spanned-requires
+    (λ c κs. (
+      known-from (c .before .before .before .before .before .before .before .before .before .before .before .before .before .before .before .before .before .before .before .before .before .args .at + 1 + c .before .before .before .before .before .before .before .before .before .before .before .before .before .before .before .before .half-at .result)
+          (body-asks (c .before .before .before .before .before .before .before .before .before .before .before .before .before .before .before .before .half-at .result)
+          (c .before .before .before .before .before .before .before .before .before .before .before .before .before .before .before .word-at .result) (
+            c .before .before .before .before .before .before .before .before .before .before .before .before .before .before .before .before .half-at .ensures,
+            c .before .before .before .before .before .before .before .before .before .before .before .before .before .before .before .word-at .ensures,
+          )
+          (c .before .before .before .before .before .before .before .before .before .before .before .before .before .before .before .before .before .before .before .before .before .pre .1) .known),
+      omega (
+        arith,
+        body-within (c .before .before .before .before .before .before .before .before .before .before .before .before .before .before .before .before .half-at .result)
+            (c .before .before .before .before .before .before .before .before .before .before .before .before .before .before .before .word-at .result) (
+              c .before .before .before .before .before .before .before .before .before .before .before .before .before .before .before .before .half-at .ensures,
+              c .before .before .before .before .before .before .before .before .before .before .before .before .before .before .before .word-at .ensures,
+            )
+            (c .before .before .before .before .before .before .before .before .before .before .before .before .before .before .before .before .before .before .before .before .before .pre .1) .fits,
+        body-within (c .before .before .before .before .before .before .before .before .before .before .before .before .before .before .before .before .half-at .result)
+            (c .before .before .before .before .before .before .before .before .before .before .before .before .before .before .before .word-at .result) (
+              c .before .before .before .before .before .before .before .before .before .before .before .before .before .before .before .before .half-at .ensures,
+              c .before .before .before .before .before .before .before .before .before .before .before .before .before .before .before .word-at .ensures,
+            )
+            (c .before .before .before .before .before .before .before .before .before .before .before .before .before .before .before .before .before .before .before .before .before .pre .1) .within,
+        body-within (c .before .before .before .before .before .before .before .before .before .before .before .before .before .before .before .before .half-at .result)
+            (c .before .before .before .before .before .before .before .before .before .before .before .before .before .before .before .word-at .result) (
+              c .before .before .before .before .before .before .before .before .before .before .before .before .before .before .before .before .half-at .ensures,
+              c .before .before .before .before .before .before .before .before .before .before .before .before .before .before .before .word-at .ensures,
+            )
+            (c .before .before .before .before .before .before .before .before .before .before .before .before .before .before .before .before .before .before .before .before .before .pre .1) .short,
+      ),
+    ))
+    -- add-after
+    (λ c. omega (
+      arith,
+      body-within (c .before .before .before .before .before .before .before .before .before .before .before .before .before .before .before .before .before .half-at .result)
+          (c .before .before .before .before .before .before .before .before .before .before .before .before .before .before .before .before .word-at .result) (
+            c .before .before .before .before .before .before .before .before .before .before .before .before .before .before .before .before .before .half-at .ensures,
+            c .before .before .before .before .before .before .before .before .before .before .before .before .before .before .before .before .word-at .ensures,
+          )
+          (c .before .before .before .before .before .before .before .before .before .before .before .before .before .before .before .before .before .before .before .before .before .before .pre .1) .fits,
+      body-within (c .before .before .before .before .before .before .before .before .before .before .before .before .before .before .before .before .before .half-at .result)
+          (c .before .before .before .before .before .before .before .before .before .before .before .before .before .before .before .before .word-at .result) (
+            c .before .before .before .before .before .before .before .before .before .before .before .before .before .before .before .before .before .half-at .ensures,
+            c .before .before .before .before .before .before .before .before .before .before .before .before .before .before .before .before .word-at .ensures,
+          )
+          (c .before .before .before .before .before .before .before .before .before .before .before .before .before .before .before .before .before .before .before .before .before .before .pre .1) .within,
+      body-within (c .before .before .before .before .before .before .before .before .before .before .before .before .before .before .before .before .before .half-at .result)
+          (c .before .before .before .before .before .before .before .before .before .before .before .before .before .before .before .before .word-at .result) (
+            c .before .before .before .before .before .before .before .before .before .before .before .before .before .before .before .before .before .half-at .ensures,
+            c .before .before .before .before .before .before .before .before .before .before .before .before .before .before .before .before .word-at .ensures,
+          )
+          (c .before .before .before .before .before .before .before .before .before .before .before .before .before .before .before .before .before .before .before .before .before .before .pre .1) .short,
+    ))
+    -- add-after-2
+    (λ c. omega (
+      arith,
+      body-fits (c .before .before .before .before .before .before .before .before .before .before .before .before .before .before .before .before .before .half-at .result)
+          (c .before .before .before .before .before .before .before .before .before .before .before .before .before .before .before .before .word-at .result) (
+            c .before .before .before .before .before .before .before .before .before .before .before .before .before .before .before .before .before .half-at .ensures,
+            c .before .before .before .before .before .before .before .before .before .before .before .before .before .before .before .before .word-at .ensures,
+          )
+          (c .before .before .before .before .before .before .before .before .before .before .before .before .before .before .enter .ensures)
+          (c .before .before .before .before .before .before .before .before .before .before .head .ensures) _
+          (c .before .before .before .before .before .before .before .before .enum-told .given .1)
+          (c .before .before .before .before .before .items .ensures) _ (c .spanned .result) (c .before .enum-told2 .given .1) (c .spanned .ensures)
+          (c .before .before .before .before .before .before .before .before .before .before .before .before .before .before .before .before .before .before .before .before .before .before .pre .1),
+    ))
+    -- mul-after
+    (λ c. omega (
+      arith,
+      body-fits (c .before .before .before .before .before .before .before .before .before .before .before .before .before .before .before .before .before .half-at .result)
+          (c .before .before .before .before .before .before .before .before .before .before .before .before .before .before .before .before .word-at .result) (
+            c .before .before .before .before .before .before .before .before .before .before .before .before .before .before .before .before .before .half-at .ensures,
+            c .before .before .before .before .before .before .before .before .before .before .before .before .before .before .before .before .word-at .ensures,
+          )
+          (c .before .before .before .before .before .before .before .before .before .before .before .before .before .before .enter .ensures)
+          (c .before .before .before .before .before .before .before .before .before .before .head .ensures) _
+          (c .before .before .before .before .before .before .before .before .enum-told .given .1)
+          (c .before .before .before .before .before .items .ensures) _ (c .spanned .result) (c .before .enum-told2 .given .1) (c .spanned .ensures)
+          (c .before .before .before .before .before .before .before .before .before .before .before .before .before .before .before .before .before .before .before .before .before .before .pre .1),
+    ))
+    -- sub-expression
+    (λ c. body-fits (c .before .before .before .before .before .before .before .before .before .before .before .before .before .before .before .before .before .half-at .result)
+    (c .before .before .before .before .before .before .before .before .before .before .before .before .before .before .before .before .word-at .result) (
+      c .before .before .before .before .before .before .before .before .before .before .before .before .before .before .before .before .before .half-at .ensures,
+      c .before .before .before .before .before .before .before .before .before .before .before .before .before .before .before .before .word-at .ensures,
+    )
+    (c .before .before .before .before .before .before .before .before .before .before .before .before .before .before .enter .ensures)
+    (c .before .before .before .before .before .before .before .before .before .before .head .ensures) _
+    (c .before .before .before .before .before .before .before .before .enum-told .given .1)
+    (c .before .before .before .before .before .items .ensures) _ (c .spanned .result) (c .before .enum-told2 .given .1) (c .spanned .ensures)
+    (c .before .before .before .before .before .before .before .before .before .before .before .before .before .before .before .before .before .before .before .before .before .before .pre .1) .0)
+    -- part-expression-start
+    (λ c. body-fits (c .before .before .before .before .before .before .before .before .before .before .before .before .before .before .before .before .before .half-at .result)
+    (c .before .before .before .before .before .before .before .before .before .before .before .before .before .before .before .before .word-at .result) (
+      c .before .before .before .before .before .before .before .before .before .before .before .before .before .before .before .before .before .half-at .ensures,
+      c .before .before .before .before .before .before .before .before .before .before .before .before .before .before .before .before .word-at .ensures,
+    )
+    (c .before .before .before .before .before .before .before .before .before .before .before .before .before .before .enter .ensures)
+    (c .before .before .before .before .before .before .before .before .before .before .head .ensures) _
+    (c .before .before .before .before .before .before .before .before .enum-told .given .1)
+    (c .before .before .before .before .before .items .ensures) _ (c .spanned .result) (c .before .enum-told2 .given .1) (c .spanned .ensures)
+    (c .before .before .before .before .before .before .before .before .before .before .before .before .before .before .before .before .before .before .before .before .before .before .pre .1) .0)
+    -- part-expression-end
+    (λ c. search needs)
+    -- sub-expression-2
+    (λ c. omega (arith, asked (c .before .before .before .before .before .before .before .before .before .before .before .before .before .before .before .before .before .before .before .before .before .before .before .pre .1) .nested))
+    -- add-expression
+    (λ c. omega (arith, asked (c .before .before .before .before .before .before .before .before .before .before .before .before .before .before .before .before .before .before .before .before .before .before .before .pre .1) .small))
+    -- add-expression-2
+    (λ c. omega (
+      arith,
+      body-within (c .before .before .before .before .before .before .before .before .before .before .before .before .before .before .before .before .before .before .half-at .result)
+          (c .before .before .before .before .before .before .before .before .before .before .before .before .before .before .before .before .before .word-at .result) (
+            c .before .before .before .before .before .before .before .before .before .before .before .before .before .before .before .before .before .before .half-at .ensures,
+            c .before .before .before .before .before .before .before .before .before .before .before .before .before .before .before .before .before .word-at .ensures,
+          )
+          (c .before .before .before .before .before .before .before .before .before .before .before .before .before .before .before .before .before .before .before .before .before .before .before .pre .1) .fits,
+      body-within (c .before .before .before .before .before .before .before .before .before .before .before .before .before .before .before .before .before .before .half-at .result)
+          (c .before .before .before .before .before .before .before .before .before .before .before .before .before .before .before .before .before .word-at .result) (
+            c .before .before .before .before .before .before .before .before .before .before .before .before .before .before .before .before .before .before .half-at .ensures,
+            c .before .before .before .before .before .before .before .before .before .before .before .before .before .before .before .before .before .word-at .ensures,
+          )
+          (c .before .before .before .before .before .before .before .before .before .before .before .before .before .before .before .before .before .before .before .before .before .before .before .pre .1) .within,
+      body-within (c .before .before .before .before .before .before .before .before .before .before .before .before .before .before .before .before .before .before .half-at .result)
+          (c .before .before .before .before .before .before .before .before .before .before .before .before .before .before .before .before .before .word-at .result) (
+            c .before .before .before .before .before .before .before .before .before .before .before .before .before .before .before .before .before .before .half-at .ensures,
+            c .before .before .before .before .before .before .before .before .before .before .before .before .before .before .before .before .before .word-at .ensures,
+          )
+          (c .before .before .before .before .before .before .before .before .before .before .before .before .before .before .before .before .before .before .before .before .before .before .before .pre .1) .short,
+    ))
+    -- add-expression-3
+    (λ c. omega (
+      arith,
+      body-fits (c .before .before .before .before .before .before .before .before .before .before .before .before .before .before .before .before .before .before .half-at .result)
+          (c .before .before .before .before .before .before .before .before .before .before .before .before .before .before .before .before .before .word-at .result) (
+            c .before .before .before .before .before .before .before .before .before .before .before .before .before .before .before .before .before .before .half-at .ensures,
+            c .before .before .before .before .before .before .before .before .before .before .before .before .before .before .before .before .before .word-at .ensures,
+          )
+          (c .before .before .before .before .before .before .before .before .before .before .before .before .before .before .before .enter .ensures)
+          (c .before .before .before .before .before .before .before .before .before .before .before .head .ensures) _
+          (c .before .before .before .before .before .before .before .before .before .enum-told .given .1)
+          (c .before .before .before .before .before .before .items .ensures) _ (c .before .spanned .result) (c .before .before .enum-told2 .given .1)
+          (c .before .spanned .ensures) (c .before .before .before .before .before .before .before .before .before .before .before .before .before .before .before .before .before .before .before .before .before .before .before .pre .1),
+    ))
+    -- expression-requires
+    (λ c κs. (
+      omega (
+        arith,
+        asked (c .before .before .before .before .before .before .before .before .before .before .before .before .before .before .before .before .before .before .before .before .before .before .before .before .pre .1) .nested,
+        c .before .before .before .before .before .before .before .before .before .before .before .before .before .before .before .before .before .before .before .before .before .before .before .before .pre .0,
+      ),
+      body-result (c .before .before .before .before .before .before .before .before .before .before .before .before .before .before .before .before .before .before .before .half-at .result)
+          (c .before .before .before .before .before .before .before .before .before .before .before .before .before .before .before .before .before .before .word-at .result) (
+            c .before .before .before .before .before .before .before .before .before .before .before .before .before .before .before .before .before .before .before .half-at .ensures,
+            c .before .before .before .before .before .before .before .before .before .before .before .before .before .before .before .before .before .before .word-at .ensures,
+          )
+          (c .before .before .before .before .before .before .before .before .before .before .before .before .before .before .before .before .enter .ensures)
+          (c .before .before .before .before .before .before .before .before .before .before .before .before .head .ensures) _
+          (c .before .before .before .before .before .before .before .before .before .before .enum-told .given .1)
+          (c .before .before .before .before .before .before .before .items .ensures) _ (c .before .before .spanned .result)
+          (c .before .before .before .enum-told2 .given .1) (c .before .before .spanned .ensures)
+          (c .before .before .before .before .before .before .before .before .before .before .before .before .before .before .before .before .before .before .before .before .before .before .before .before .pre .1),
+    ))
+    -- enum-known-k
+    (λ c. search needs)
+    -- enum-known-k-2
+    (λ c. search needs)
+    -- same-length
+    (λ c. search needs)
+    -- returns
+    (λ c. body-judged (c .before .before .before .before .before .before .before .before .before .before .before .before .before .before .before .before .before .before .before .before .before .before .half-at .result)
+    (c .before .before .before .before .before .before .before .before .before .before .before .before .before .before .before .before .before .before .before .before .before .word-at .result) (
+      c .before .before .before .before .before .before .before .before .before .before .before .before .before .before .before .before .before .before .before .before .before .before .half-at .ensures,
+      c .before .before .before .before .before .before .before .before .before .before .before .before .before .before .before .before .before .before .before .before .before .word-at .ensures,
+    )
+    (c .before .before .before .before .before .before .before .before .before .before .before .before .before .before .before .before .before .before .before .enter .ensures)
+    (c .before .before .before .before .before .before .before .before .before .before .before .before .before .before .before .head .ensures) _
+    (c .before .before .before .before .before .before .before .before .before .before .before .before .before .enum-told .given .1)
+    (c .before .before .before .before .before .before .before .before .before .before .items .ensures) _
+    (c .before .before .before .before .before .spanned .result) (c .before .before .before .before .before .before .enum-told2 .given .1)
+    (c .before .before .before .before .before .spanned .ensures) (c .before .before .expression .ensures))
+    -- same-length-2
+    (λ c. search needs)
+    -- returns-2
+    (λ c. body-stop-2 (c .before .before .before .before .before .before .before .before .before .before .before .before .before .before .before .before .before .half-at .result)
+    (c .before .before .before .before .before .before .before .before .before .before .before .before .before .before .before .before .word-at .result) (
+      c .before .before .before .before .before .before .before .before .before .before .before .before .before .before .before .before .before .half-at .ensures,
+      c .before .before .before .before .before .before .before .before .before .before .before .before .before .before .before .before .word-at .ensures,
+    )
+    (c .before .before .before .before .before .before .before .before .before .before .before .before .before .before .enter .ensures)
+    (c .before .before .before .before .before .before .before .before .before .before .head .ensures) _
+    (c .before .before .before .before .before .before .before .before .enum-told .given .1)
+    (c .before .before .before .before .before .items .ensures) _ _ (c .before .k .given .1))
+    -- same-length-3
+    (λ c. search needs)
+    -- returns-3
+    (λ c. body-stop (c .before .before .before .before .before .before .before .before .before .before .half-at .result)
+    (c .before .before .before .before .before .before .before .before .before .word-at .result) (
+      c .before .before .before .before .before .before .before .before .before .before .half-at .ensures,
+      c .before .before .before .before .before .before .before .before .before .word-at .ensures,
+    )
+    (c .before .before .before .before .before .before .before .enter .ensures) (c .before .before .before .head .ensures) _ _ (c .before .k2 .given .1))
+
+expression-meets : {M : Type 1} (t : ℕ) → expression-lts.Closed (half-at-reads.Asked, half-at-reads.Learnt, body-below t, body.Post, simple-below t, simple.Post) (expression-at t) expression.Post M
+expression-meets t = expression-lts.spec (half-at-reads.Asked, half-at-reads.Learnt, body-below t, body.Post, simple-below t, simple.Post) (expression-at t) expression.Post
+    -- half-at-requires
+    (λ c κs. omega (arith, asked (c .before .before .before .before .pre .1) .long))
+    -- body-requires
+    (λ c κs. (
+      omega arith,
+      ask-as (λ f h e. is-body f h (sym e ∙ (sym (c .before .before .half-at .ensures) ∙ c .before .if1 .taken)))
+          (c .before .before .before .before .before .before .before .pre .1),
+    ))
+    -- simple-requires
+    (λ c κs. (
+      omega arith,
+      ask-as (λ f h e. is-simple f h (λ z. c .before .if1 .left (c .before .before .half-at .ensures ∙ e ∙ z)))
+          (c .before .before .before .before .before .before .before .pre .1),
+    ))
+    -- same-length
+    (λ c. search needs)
+    -- returns
+    (λ c. typed-as (λ f h e. is-body f h (sym e ∙ (sym (c .before .before .before .before .before .half-at .ensures)
+    ∙ c .before .before .before .before .if1 .taken))) (c .before .before .body .ensures))
+    -- same-length-2
+    (λ c. search needs)
+    -- returns-2
+    (λ c. typed-as (λ f h e. is-simple f h (λ z. c .before .before .before .before .if1 .left
+    (c .before .before .before .before .before .half-at .ensures ∙ e ∙ z))) (c .before .before .simple .ensures))
+
+guarded-meets : {M : Type 1} (t : ℕ) → guarded-lts.Closed (
+  half-at-reads.Asked,
+  half-at-reads.Learnt,
+  guarded-of-reads.Asked,
+  guarded-of-reads.Learnt,
+  expression-below t,
+  expression.Post,
+  size-at-reads.Asked,
+  size-at-reads.Learnt,
+  items-below t,
+  items.Post,
+  tested-reads.Asked,
+  tested-reads.Learnt,
+) (guarded-at t) guarded.Post M
+guarded-meets t =
+    guarded-lts.spec (
+      half-at-reads.Asked,
+      half-at-reads.Learnt,
+      guarded-of-reads.Asked,
+      guarded-of-reads.Learnt,
+      expression-below t,
+      expression.Post,
+      size-at-reads.Asked,
+      size-at-reads.Learnt,
+      items-below t,
+      items.Post,
+      tested-reads.Asked,
+      tested-reads.Learnt,
+    ) (guarded-at t) guarded.Post
+    -- half-at-requires
+    (λ c κs. omega (arith, asked (c .before .before .before .before .pre .1) .long))
+    -- half-at-requires-2
+    (λ c κs. omega (arith, asked (c .before .before .before .before .before .pre .1) .long))
+    -- guarded-of-requires
+    (λ c κs. search needs)
+    -- sub-expression
+    (λ c. omega (arith, asked (c .before .before .before .before .before .before .before .pre .1) .long))
+    -- part-expression-start
+    (λ c. omega (arith, asked (c .before .before .before .before .before .before .before .pre .1) .long))
+    -- part-expression-end
+    (λ c. search needs)
+    -- sub-expression-2
+    (λ c. omega (arith, asked (c .before .before .before .before .before .before .before .before .pre .1) .nested))
+    -- add-expression
+    (λ c. omega (arith, asked (c .before .before .before .before .before .before .before .before .pre .1) .small))
+    -- expression-requires
+    (λ c κs. (
+      omega (arith, asked (c .before .before .before .before .before .before .before .before .before .pre .1) .nested),
+      guard-asks (c .before .before .guarded-of .result) (c .before .before .guarded-of .ensures
+          ∙ rw (c .before .before .before .before .half-at .ensures, c .before .before .before .half-at2 .ensures))
+          (c .before .before .before .before .before .before .before .before .before .pre .1),
+    ))
+    -- enum-known-t
+    (λ c. search needs)
+    -- add-size-at
+    (λ c. omega (arith, asked (c .before .before .before .before .before .before .before .before .before .before .before .before .before .before .before .pre .1) .small))
+    -- size-at-requires
+    (λ c κs. guard-passes (c .before .before .before .before .before .before .before .before .guarded-of .result)
+    (c .before .before .before .before .before .before .before .before .guarded-of .ensures
+    ∙ rw (
+      c .before .before .before .before .before .before .before .before .before .before .half-at .ensures,
+      c .before .before .before .before .before .before .before .before .before .half-at2 .ensures,
+    ))
+    (c .before .before .before .before .before .before .before .before .before .before .before .before .before .before .before .pre .1) _ refl .known)
+    -- add-from
+    (λ c. omega (
+      arith,
+      guard-passes (c .before .before .before .before .before .before .before .before .before .guarded-of .result)
+          (c .before .before .before .before .before .before .before .before .before .guarded-of .ensures
+          ∙ rw (
+            c .before .before .before .before .before .before .before .before .before .before .before .half-at .ensures,
+            c .before .before .before .before .before .before .before .before .before .before .half-at2 .ensures,
+          ))
+          (c .before .before .before .before .before .before .before .before .before .before .before .before .before .before .before .before .pre .1)
+          (c .size-at .result) (c .size-at .ensures) .fits,
+      guard-passes
+          (c .before .before .before .before .before .before .before .before .before .guarded-of .result)
+          (c .before .before .before .before .before .before .before .before .before .guarded-of .ensures
+          ∙ rw (
+            c .before .before .before .before .before .before .before .before .before .before .before .half-at .ensures,
+            c .before .before .before .before .before .before .before .before .before .before .half-at2 .ensures,
+          ))
+          (c .before .before .before .before .before .before .before .before .before .before .before .before .before .before .before .before .pre .1)
+          (c .size-at .result) (c .size-at .ensures) .small,
+    ))
+    -- mul-from
+    (λ c. omega (
+      arith,
+      guard-passes (c .before .before .before .before .before .before .before .before .before .guarded-of .result)
+          (c .before .before .before .before .before .before .before .before .before .guarded-of .ensures
+          ∙ rw (
+            c .before .before .before .before .before .before .before .before .before .before .before .half-at .ensures,
+            c .before .before .before .before .before .before .before .before .before .before .half-at2 .ensures,
+          ))
+          (c .before .before .before .before .before .before .before .before .before .before .before .before .before .before .before .before .pre .1)
+          (c .size-at .result) (c .size-at .ensures) .fits,
+      guard-passes
+          (c .before .before .before .before .before .before .before .before .before .guarded-of .result)
+          (c .before .before .before .before .before .before .before .before .before .guarded-of .ensures
+          ∙ rw (
+            c .before .before .before .before .before .before .before .before .before .before .before .half-at .ensures,
+            c .before .before .before .before .before .before .before .before .before .before .half-at2 .ensures,
+          ))
+          (c .before .before .before .before .before .before .before .before .before .before .before .before .before .before .before .before .pre .1)
+          (c .size-at .result) (c .size-at .ensures) .small,
+    ))
+    -- sub-items
+    (λ c. guard-passes (c .before .before .before .before .before .before .before .before .before .guarded-of .result)
+    (c .before .before .before .before .before .before .before .before .before .guarded-of .ensures
+    ∙ rw (
+      c .before .before .before .before .before .before .before .before .before .before .before .half-at .ensures,
+      c .before .before .before .before .before .before .before .before .before .before .half-at2 .ensures,
+    ))
+    (c .before .before .before .before .before .before .before .before .before .before .before .before .before .before .before .before .pre .1)
+    (c .size-at .result) (c .size-at .ensures) .fits)
+    -- part-items-start
+    (λ c. guard-passes (c .before .before .before .before .before .before .before .before .before .guarded-of .result)
+    (c .before .before .before .before .before .before .before .before .before .guarded-of .ensures
+    ∙ rw (
+      c .before .before .before .before .before .before .before .before .before .before .before .half-at .ensures,
+      c .before .before .before .before .before .before .before .before .before .before .half-at2 .ensures,
+    ))
+    (c .before .before .before .before .before .before .before .before .before .before .before .before .before .before .before .before .pre .1)
+    (c .size-at .result) (c .size-at .ensures) .fits)
+    -- part-items-end
+    (λ c. search needs)
+    -- sub-items-2
+    (λ c. omega (arith, asked (c .before .before .before .before .before .before .before .before .before .before .before .before .before .before .before .before .before .pre .1) .nested))
+    -- add-items
+    (λ c. omega (arith, asked (c .before .before .before .before .before .before .before .before .before .before .before .before .before .before .before .before .before .pre .1) .small))
+    -- add-items-2
+    (λ c. omega (
+      arith,
+      guard-passes (c .before .before .before .before .before .before .before .before .before .before .guarded-of .result)
+          (c .before .before .before .before .before .before .before .before .before .before .guarded-of .ensures
+          ∙ rw (
+            c .before .before .before .before .before .before .before .before .before .before .before .before .half-at .ensures,
+            c .before .before .before .before .before .before .before .before .before .before .before .half-at2 .ensures,
+          ))
+          (c .before .before .before .before .before .before .before .before .before .before .before .before .before .before .before .before .before .pre .1)
+          (c .before .size-at .result) (c .before .size-at .ensures) .fits,
+      guard-passes (c .before .before .before .before .before .before .before .before .before .before .guarded-of .result)
+          (c .before .before .before .before .before .before .before .before .before .before .guarded-of .ensures
+          ∙ rw (
+            c .before .before .before .before .before .before .before .before .before .before .before .before .half-at .ensures,
+            c .before .before .before .before .before .before .before .before .before .before .before .half-at2 .ensures,
+          ))
+          (c .before .before .before .before .before .before .before .before .before .before .before .before .before .before .before .before .before .pre .1)
+          (c .before .size-at .result) (c .before .size-at .ensures) .small,
+    ))
+    -- items-requires
+    (λ c κs. (
+      omega (arith, asked (c .before .before .before .before .before .before .before .before .before .before .before .before .before .before .before .before .before .before .pre .1) .nested),
+      guard-items (c .before .before .before .before .before .before .before .before .before .before .before .guarded-of .result)
+          (c .before .before .before .before .before .before .before .before .before .before .before .guarded-of .ensures
+          ∙ rw (
+            c .before .before .before .before .before .before .before .before .before .before .before .before .before .half-at .ensures,
+            c .before .before .before .before .before .before .before .before .before .before .before .before .half-at2 .ensures,
+          ))
+          (c .before .before .before .before .before .before .before .before .expression .ensures) _ (c .before .before .size-at .result)
+          (c .before .before .before .before .t .given .1) (c .before .before .size-at .ensures)
+          (c .before .before .before .before .before .before .before .before .before .before .before .before .before .before .before .before .before .before .pre .1),
+    ))
+    -- enum-told
+    (λ c. search needs)
+    -- tested-requires
+    (λ c κs. search needs)
+    -- enum-known-k
+    (λ c. search needs)
+    -- enum-known-k-2
+    (λ c. search needs)
+    -- same-length
+    (λ c. search needs)
+    -- returns
+    (λ c. guard-judged (c .before .before .before .before .before .before .before .before .before .before .before .before .before .before .before .before .before .guarded-of .result)
+    (c .before .before .before .before .before .before .before .before .before .before .before .before .before .before .before .before .before .guarded-of .ensures
+    ∙ rw (
+      c .before .before .before .before .before .before .before .before .before .before .before .before .before .before .before .before .before .before .before .half-at .ensures,
+      c .before .before .before .before .before .before .before .before .before .before .before .before .before .before .before .before .before .before .half-at2 .ensures,
+    ))
+    (c .before .before .before .before .before .before .before .before .before .before .before .before .before .before .expression .ensures) _
+    (c .before .before .before .before .before .before .before .before .size-at .result)
+    (c .before .before .before .before .before .before .before .before .before .before .t .given .1)
+    (c .before .before .before .before .before .before .before .before .size-at .ensures)
+    (c .before .before .before .before .before .items .ensures) _ (c .before .enum-told .given .1)
+    (c .tested .ensures ∙ rw (c .before .before .before .before .before .before .before .before .before .before .before .before .before .before .before .before .before .before .before .half-at .ensures)))
+    -- same-length-2
+    (λ c. search needs)
+    -- returns-2
+    (λ c. guard-stop-2 (c .before .before .before .before .before .before .before .before .before .before .before .before .before .before .before .before .before .guarded-of .result)
+    (c .before .before .before .before .before .before .before .before .before .before .before .before .before .before .before .before .before .guarded-of .ensures
+    ∙ rw (
+      c .before .before .before .before .before .before .before .before .before .before .before .before .before .before .before .before .before .before .before .half-at .ensures,
+      c .before .before .before .before .before .before .before .before .before .before .before .before .before .before .before .before .before .before .half-at2 .ensures,
+    ))
+    (c .before .before .before .before .before .before .before .before .before .before .before .before .before .before .expression .ensures) _
+    (c .before .before .before .before .before .before .before .before .size-at .result)
+    (c .before .before .before .before .before .before .before .before .before .before .t .given .1)
+    (c .before .before .before .before .before .before .before .before .size-at .ensures)
+    (c .before .before .before .before .before .items .ensures) _ _ (c .before .k .given .1))
+    -- same-length-3
+    (λ c. search needs)
+    -- returns-3
+    (λ c. guard-stop (c .before .before .before .before .before .before .before .before .guarded-of .result)
+    (c .before .before .before .before .before .before .before .before .guarded-of .ensures
+    ∙ rw (
+      c .before .before .before .before .before .before .before .before .before .before .half-at .ensures,
+      c .before .before .before .before .before .before .before .before .before .half-at2 .ensures,
+    ))
+    (c .before .before .before .before .before .expression .ensures) _ _ (c .before .k2 .given .1))
+
+abbrev items-Inv-loop : items-lts.InvT-loop
+items-Inv-loop table part count nesting at sizes env₀ top rest₀ place₀ left₀ env rest place left = ItemsSoFar table part count nesting at sizes env₀ top env rest place left
+
+abbrev items-μ-loop : items-lts.MeasureT-loop
+items-μ-loop table part count nesting at sizes env₀ top rest₀ place₀ left₀ env rest place left = left
+
+item-meets : {M : Type 1} (t : ℕ) → item-lts.Closed (
+  half-at-reads.Asked,
+  half-at-reads.Learnt,
+  is-plain-reads.Asked,
+  is-plain-reads.Learnt,
+  simple-below t,
+  simple.Post,
+  statement-below t,
+  statement′.Post,
+) (item-at t) item.Post M
+item-meets t =
+    item-lts.spec (
+      half-at-reads.Asked,
+      half-at-reads.Learnt,
+      is-plain-reads.Asked,
+      is-plain-reads.Learnt,
+      simple-below t,
+      simple.Post,
+      statement-below t,
+      statement′.Post,
+    ) (item-at t) item.Post
+    -- half-at-requires
+    (λ c κs. omega (arith, asked (c .before .before .before .before .pre .1) .long))
+    -- is-plain-requires
+    (λ c κs. search needs)
+    -- simple-requires
+    (λ c κs. (
+      omega arith,
+      ask-as (λ f h e. plain-form f h _ (sym (c .before .before .is-plain .ensures) ∙ c .before .if1 .taken)
+          (c .before .before .before .half-at .ensures ∙ e)) (c .before .before .before .before .before .before .before .before .pre .1),
+    ))
+    -- statement-requires
+    (λ c κs. (omega arith, c .before .before .before .before .before .before .before .before .pre .1))
+    -- same-length
+    (λ c. search needs)
+    -- returns
+    (λ c. typed-answer (λ f h e. plain-form f h _ (sym (c .before .before .before .before .before .is-plain .ensures)
+    ∙ c .before .before .before .before .if1 .taken) (c .before .before .before .before .before .before .half-at .ensures ∙ e)) (c .before .before .simple .ensures))
+    -- same-length-2
+    (λ c. search needs)
+    -- returns-2
+    (λ c. c .before .before .statement .ensures)
+
+items-meets : {M : Type 1} (t : ℕ) → items-lts.Closed (item-below t, item.Post, size-at-reads.Asked, size-at-reads.Learnt) (items-at t) items.Post M
+items-meets t = items-lts.spec (item-below t, item.Post, size-at-reads.Asked, size-at-reads.Learnt) (items-at t) items.Post items-Inv-loop items-μ-loop
+    -- loop-holds
+    (λ c. items-start (c .before .before .before .before .args .table .now) (c .before .before .before .before .args .part .now)
+    (c .before .before .before .before .args .count) (c .before .before .before .before .args .nesting)
+    (c .before .before .before .before .args .at) (c .before .before .before .before .args .sizes .now)
+    (c .before .before .before .before .args .env .now) (c .before .before .before .before .args .top))
+    -- item-requires
+    (λ c κs. (omega arith, items-asks (c .before .before .loop .inv) (omega arith) (c .before .before .before .before .before .before .before .pre .1)))
+    -- enum-told
+    (λ c. search needs)
+    -- size-at-requires
+    (λ c κs. items-passes (c .before .before .before .before .before .before .before .loop .inv) (omega arith)
+    (c .before .before .before .before .before .before .before .before .before .before .before .before .pre .1) _ refl .known)
+    -- mul-from
+    (λ c. omega (
+      arith,
+      items-passes (c .before .before .before .before .before .before .before .before .loop .inv) (omega arith)
+          (c .before .before .before .before .before .before .before .before .before .before .before .before .before .pre .1) (c .size-at .result)
+          (c .size-at .ensures) .small,
+    ))
+    -- sub-rest
+    (λ c. items-passes (c .before .before .before .before .before .before .before .before .loop .inv) (omega arith)
+    (c .before .before .before .before .before .before .before .before .before .before .before .before .before .pre .1) (c .size-at .result)
+    (c .size-at .ensures) .fits)
+    -- part-rest-start
+    (λ c. items-passes (c .before .before .before .before .before .before .before .before .loop .inv) (omega arith)
+    (c .before .before .before .before .before .before .before .before .before .before .before .before .before .pre .1) (c .size-at .result)
+    (c .size-at .ensures) .fits)
+    -- part-rest-end
+    (λ c. search needs)
+    -- add-place
+    (λ c. omega (
+      arith,
+      items-passes (c .before .before .before .before .before .before .before .before .before .loop .inv) (omega arith)
+          (c .before .before .before .before .before .before .before .before .before .before .before .before .before .before .pre .1)
+          (c .before .size-at .result) (c .before .size-at .ensures) .small,
+    ))
+    -- sub-left
+    (λ c. omega arith)
+    -- loop-less
+    (λ c. omega arith)
+    -- loop-again
+    (λ c. items-next (c .before .before .before .before .before .before .before .before .before .loop .inv) (omega arith) _
+    (c .before .size-at .result) (c .before .before .before .before .before .before .item .ensures) (c .before .before .enum-told .given .1)
+    (c .before .size-at .ensures))
+    -- enum-known-k
+    (λ c. search needs)
+    -- same-length
+    (λ c. search needs)
+    -- returns
+    (λ c. items-stop (c .before .before .before .before .before .before .before .before .loop .inv) (omega arith) _ _
+    (c .before .before .before .before .before .item .ensures) (c .before .k .given .1))
+    -- same-length-2
+    (λ c. search needs)
+    -- returns-2
+    (λ c. items-end (c .before .loop .inv) (omega arith))
+
+abbrev operands-Inv-loop : operands-lts.InvT-loop
+operands-Inv-loop table part count nesting at sizes env₀ top rest₀ place₀ i₀ env rest place i = EsSoFar table part count nesting at sizes env₀ top env rest place i
+
+abbrev operands-μ-loop : operands-lts.MeasureT-loop
+operands-μ-loop table part count nesting at sizes env₀ top rest₀ place₀ i₀ env rest place i = count - i
+
+operand-meets : {M : Type 1} (t : ℕ) → operand-lts.Closed (
+  half-at-reads.Asked,
+  half-at-reads.Learnt,
+  is-leaf-reads.Asked,
+  is-leaf-reads.Learnt,
+  leaf-reads.Asked,
+  leaf-reads.Learnt,
+  expression-below t,
+  expression.Post,
+) (operand-at t) operand.Post M
+operand-meets t =
+    operand-lts.spec (
+      half-at-reads.Asked,
+      half-at-reads.Learnt,
+      is-leaf-reads.Asked,
+      is-leaf-reads.Learnt,
+      leaf-reads.Asked,
+      leaf-reads.Learnt,
+      expression-below t,
+      expression.Post,
+    ) (operand-at t) operand.Post
+    -- half-at-requires
+    (λ c κs. omega (arith, asked (c .before .before .before .before .pre .1 .0) .long))
+    -- is-leaf-requires
+    (λ c κs. search needs)
+    -- half-at-requires-2
+    (λ c κs. omega (arith, asked (c .before .before .before .before .before .before .before .pre .1 .0) .long))
+    -- cast-leaf
+    (λ c. search needs)
+    -- leaf-requires
+    (λ c κs. (
+      omega (arith, asked (c .before .before .before .before .before .before .before .before .before .pre .1 .0) .room),
+      rw (c .before .half-at2 .ensures) (leaf-small (c .before .before .before .before .before .before .before .before .before .pre .1 .0)),
+    ))
+    -- add-expression
+    (λ c. omega (arith, asked (c .before .before .before .before .before .before .before .before .pre .1 .0) .room))
+    -- expression-requires
+    (λ c κs. (omega arith, c .before .before .before .before .before .before .before .before .pre .1 .0))
+    -- same-length
+    (λ c. search needs)
+    -- returns
+    (λ c. leaf-judged (rw (c .before .before .before .before .before .half-at .ensures) at
+    (sym (c .before .before .before .before .is-leaf .ensures) ∙ c .before .before .before .if1 .taken))
+    (c .before .before .before .before .before .before .before .before .before .before .pre .1 .1)
+    (c .leaf .ensures ∙ rw (c .before .before .before .before .before .half-at .ensures, c .before .before .half-at2 .ensures))
+    (leaf-small (c .before .before .before .before .before .before .before .before .before .before .pre .1 .0)))
+    -- same-length-2
+    (λ c. search needs)
+    -- returns-2
+    (λ c. c .before .before .expression .ensures)
+
+operands-meets : {M : Type 1} (t : ℕ) → operands-lts.Closed (
+  operand-below t,
+  operand.Post,
+  push-reads.Asked,
+  push-reads.Learnt,
+  size-at-reads.Asked,
+  size-at-reads.Learnt,
+) (operands-at t) operands.Post M
+operands-meets t =
+    operands-lts.spec (operand-below t, operand.Post, push-reads.Asked, push-reads.Learnt, size-at-reads.Asked, size-at-reads.Learnt)
+    (operands-at t) operands.Post operands-Inv-loop operands-μ-loop
+    -- loop-holds
+    (λ c. es-start (c .before .before .before .before .args .table .now) (c .before .before .before .before .args .part .now)
+    (c .before .before .before .before .args .count) (c .before .before .before .before .args .nesting)
+    (c .before .before .before .before .args .at) (c .before .before .before .before .args .sizes .now)
+    (c .before .before .before .before .args .env .now) (c .before .before .before .before .args .top))
+    -- operand-requires
+    (λ c κs. (omega arith, (es-asks (c .before .before .loop .inv) (omega arith) (c .before .before .before .before .before .before .before .pre .1), c .before .before .loop .inv .alike)))
+    -- enum-known-t
+    (λ c. search needs)
+    -- add-push
+    (λ c. omega (
+      arith,
+      es-room (c .before .before .before .before .before .before .before .before .before .loop .inv) (omega arith)
+          (c .before .before .before .before .before .before .before .before .before .before .before .before .before .before .pre .1),
+    ))
+    -- push-requires
+    (λ c κs. omega (
+      arith,
+      es-room (c .before .before .before .before .before .before .before .before .before .loop .inv) (omega arith)
+          (c .before .before .before .before .before .before .before .before .before .before .before .before .before .before .pre .1),
+      c .before .before .before .before .before .before .operand .ensures .same,
+    ))
+    -- size-at-requires
+    (λ c κs. es-passes (c .before .before .before .before .before .before .before .before .before .before .before .before .loop .inv) (omega arith)
+    (c .before .before .before .before .before .before .before .before .before .before .before .before .before .before .before .before .before .pre .1) _ refl .known)
+    -- mul-from
+    (λ c. omega (
+      arith,
+      es-passes (c .before .before .before .before .before .before .before .before .before .before .before .before .before .loop .inv)
+          (omega arith) (c .before .before .before .before .before .before .before .before .before .before .before .before .before .before .before .before .before .before .pre .1)
+          (c .size-at .result) (c .size-at .ensures) .small,
+    ))
+    -- sub-rest
+    (λ c. es-passes (c .before .before .before .before .before .before .before .before .before .before .before .before .before .loop .inv)
+    (omega arith) (c .before .before .before .before .before .before .before .before .before .before .before .before .before .before .before .before .before .before .pre .1)
+    (c .size-at .result) (c .size-at .ensures) .fits)
+    -- part-rest-start
+    (λ c. es-passes (c .before .before .before .before .before .before .before .before .before .before .before .before .before .loop .inv)
+    (omega arith) (c .before .before .before .before .before .before .before .before .before .before .before .before .before .before .before .before .before .before .pre .1)
+    (c .size-at .result) (c .size-at .ensures) .fits)
+    -- part-rest-end
+    (λ c. search needs)
+    -- add-place
+    (λ c. omega (
+      arith,
+      es-passes (c .before .before .before .before .before .before .before .before .before .before .before .before .before .before .loop .inv)
+          (omega arith) (c .before .before .before .before .before .before .before .before .before .before .before .before .before .before .before .before .before .before .before .pre .1)
+          (c .before .size-at .result) (c .before .size-at .ensures) .small,
+    ))
+    -- add-i
+    (λ c. omega arith)
+    -- loop-less
+    (λ c. omega arith)
+    -- loop-again
+    (λ c. es-next (c .before .before .before .before .before .before .before .before .before .before .before .before .before .before .loop .inv)
+    (omega arith) _ (c .before .size-at .result) (c .before .before .before .before .before .before .before .before .before .before .before .operand .ensures)
+    (c .before .before .before .before .before .before .before .t .given .1) (c .before .before .before .before .push .ensures)
+    (c .before .size-at .ensures) (omega (
+      arith,
+      es-room (c .before .before .before .before .before .before .before .before .before .before .before .before .before .before .loop .inv)
+          (omega arith) (c .before .before .before .before .before .before .before .before .before .before .before .before .before .before .before .before .before .before .before .pre .1),
+      c .before .before .before .before .before .before .before .before .before .before .before .operand .ensures .same,
+    )))
+    -- enum-known-n
+    (λ c. search needs)
+    -- same-length
+    (λ c. search needs)
+    -- returns
+    (λ c. es-stop (c .before .before .before .before .before .before .before .before .loop .inv) (omega arith) _ _
+    (c .before .before .before .before .before .operand .ensures) (c .before .n .given .1))
+    -- same-length-2
+    (λ c. search needs)
+    -- returns-2
+    (λ c. es-end (c .before .loop .inv) (omega arith))
+
+simple-meets : {M : Type 1} (t : ℕ) → simple-lts.Closed (
+  half-at-reads.Asked,
+  half-at-reads.Learnt,
+  word-at-reads.Asked,
+  word-at-reads.Learnt,
+  operands-of-reads.Asked,
+  operands-of-reads.Learnt,
+  operands-below t,
+  operands.Post,
+  settle-reads.Asked,
+  settle-reads.Learnt,
+) (simple-at t) simple.Post M
+simple-meets t =
+    simple-lts.spec (
+      half-at-reads.Asked,
+      half-at-reads.Learnt,
+      word-at-reads.Asked,
+      word-at-reads.Learnt,
+      operands-of-reads.Asked,
+      operands-of-reads.Learnt,
+      operands-below t,
+      operands.Post,
+      settle-reads.Asked,
+      settle-reads.Learnt,
+    ) (simple-at t) simple.Post
+    -- half-at-requires
+    (λ c κs. omega (arith, asked (c .before .before .before .before .pre .1) .long))
+    -- half-at-requires-2
+    (λ c κs. omega (arith, asked (c .before .before .before .before .before .pre .1) .long))
+    -- word-at-requires
+    (λ c κs. omega (arith, asked (c .before .before .before .before .before .before .pre .1) .long))
+    -- operands-of-requires
+    (λ c κs. search needs)
+    -- sub-operands
+    (λ c. omega (arith, asked (c .before .before .before .before .before .before .before .before .pre .1) .long))
+    -- part-operands-start
+    (λ c. omega (arith, asked (c .before .before .before .before .before .before .before .before .pre .1) .long))
+    -- part-operands-end
+    (λ c. search needs)
+    -- sub-operands-2
+    (λ c. omega (arith, asked (c .before .before .before .before .before .before .before .before .before .pre .1) .nested))
+    -- add-operands
+    (λ c. omega (arith, asked (c .before .before .before .before .before .before .before .before .before .pre .1) .small))
+    -- operands-requires
+    (λ c κs. (
+      omega (arith, asked (c .before .before .before .before .before .before .before .before .before .before .pre .1) .nested),
+      simple-asks (c .before .before .operands-of .result) (c .before .before .operands-of .ensures
+          ∙ rw (c .before .before .before .before .before .half-at .ensures, c .before .before .before .word-at .ensures))
+          (c .before .before .before .before .before .before .before .before .before .before .pre .1),
+    ))
+    -- enum-told
+    (λ c. search needs)
+    -- cast-settle
+    (λ c. search needs)
+    -- cast-settle-2
+    (λ c. search needs)
+    -- settle-requires
+    (λ c κs. rw (c .before .before .before .before .before .before .before .before .before .before .half-at2 .ensures)
+    (settle-asks (c .before .before .before .before .before .before .before .before .operands-of .result)
+    (c .before .before .before .before .before .before .before .before .operands-of .ensures
+    ∙ rw (
+      c .before .before .before .before .before .before .before .before .before .before .before .half-at .ensures,
+      c .before .before .before .before .before .before .before .before .before .word-at .ensures,
+    ))
+    (c .before .before .before .before .before .operands .ensures)
+    (c .before .before .before .before .before .before .before .before .before .before .before .before .before .before .before .before .pre .1)))
+    -- enum-known-n
+    (λ c. search needs)
+    -- same-length
+    (λ c. search needs)
+    -- returns
+    (λ c. simple-judged (c .before .before .before .before .before .before .before .before .before .operands-of .result)
+    (c .before .before .before .before .before .before .before .before .before .operands-of .ensures
+    ∙ rw (
+      c .before .before .before .before .before .before .before .before .before .before .before .before .half-at .ensures,
+      c .before .before .before .before .before .before .before .before .before .before .word-at .ensures,
+    ))
+    (c .before .before .before .before .before .before .operands .ensures) _ (c .before .before .enum-told .given .1)
+    (c .settle .ensures ∙ rw (
+      c .before .before .before .before .before .before .before .before .before .before .before .before .half-at .ensures,
+      c .before .before .before .before .before .before .before .before .before .before .before .half-at2 .ensures,
+    )))
+    -- same-length-2
+    (λ c. search needs)
+    -- returns-2
+    (λ c. simple-stop (c .before .before .before .before .before .before .before .before .operands-of .result)
+    (c .before .before .before .before .before .before .before .before .operands-of .ensures
+    ∙ rw (
+      c .before .before .before .before .before .before .before .before .before .before .before .half-at .ensures,
+      c .before .before .before .before .before .before .before .before .before .word-at .ensures,
+    ))
+    (c .before .before .before .before .before .operands .ensures) _ _ (c .before .n .given .1))
+
+statement-meets : {M : Type 1} (t : ℕ) → statement-lts.Closed (
+  half-at-reads.Asked,
+  half-at-reads.Learnt,
+  block-below t,
+  block.Post,
+  once-reads.Asked,
+  once-reads.Learnt,
+  guarded-below t,
+  guarded.Post,
+  simple-below t,
+  simple.Post,
+) (statement-at t) statement′.Post M
+statement-meets t =
+    statement-lts.spec (
+      half-at-reads.Asked,
+      half-at-reads.Learnt,
+      block-below t,
+      block.Post,
+      once-reads.Asked,
+      once-reads.Learnt,
+      guarded-below t,
+      guarded.Post,
+      simple-below t,
+      simple.Post,
+    ) (statement-at t) statement′.Post
+    -- half-at-requires
+    (λ c κs. omega (arith, asked (c .before .before .before .before .pre .1) .long))
+    -- block-requires
+    (λ c κs. (
+      omega arith,
+      ask-as (λ f h e. is-block f h (sym e ∙ (sym (c .before .before .half-at .ensures) ∙ c .before .match .keys1)))
+          (c .before .before .before .before .before .before .before .pre .1),
+    ))
+    -- half-at-requires-2
+    (λ c κs. omega (arith, asked (c .before .before .before .before .before .before .before .pre .1) .long))
+    -- cast-once
+    (λ c. search needs)
+    -- once-requires
+    (λ c κs. asked (c .before .before .before .before .before .before .before .before .pre .1) .room)
+    -- guarded-requires
+    (λ c κs. (
+      omega arith,
+      ask-as (λ f h e. is-guard f 22 h (sym e ∙ (sym (c .before .before .half-at .ensures) ∙ c .before .match .keys3)) refl
+          (λ z. omega arith) (λ z. omega arith)) (c .before .before .before .before .before .before .before .pre .1),
+    ))
+    -- guarded-requires-2
+    (λ c κs. (
+      omega arith,
+      ask-as (λ f h e. is-guard f 23 h (sym e ∙ (sym (c .before .before .half-at .ensures) ∙ c .before .match .keys4)) refl
+          (λ z. omega arith) (λ z. omega arith)) (c .before .before .before .before .before .before .before .pre .1),
+    ))
+    -- guarded-requires-3
+    (λ c κs. (
+      omega arith,
+      ask-as (λ f h e. is-guard f 24 h (sym e ∙ (sym (c .before .before .half-at .ensures) ∙ c .before .match .keys5)) refl
+          (λ z. omega arith) (λ z. omega arith)) (c .before .before .before .before .before .before .before .pre .1),
+    ))
+    -- guarded-requires-4
+    (λ c κs. (
+      omega arith,
+      ask-as (λ f h e. is-guard f 30 h (sym e ∙ (sym (c .before .before .half-at .ensures) ∙ c .before .match .keys6)) refl
+          (λ z. omega arith) (λ z. omega arith)) (c .before .before .before .before .before .before .before .pre .1),
+    ))
+    -- simple-requires
+    (λ c κs. (
+      omega arith,
+      ask-as (λ f h e. is-other f h (λ z. c .before .match .rest .0 .0 .0 .0 .0 .1 (c .before .before .half-at .ensures ∙ e ∙ z))
+          (λ z. c .before .match .rest .0 .0 .0 .0 .1 (c .before .before .half-at .ensures ∙ e ∙ z))
+          (λ z. c .before .match .rest .0 .0 .0 .1 (c .before .before .half-at .ensures ∙ e ∙ z))
+          (λ z. c .before .match .rest .0 .0 .1 (c .before .before .half-at .ensures ∙ e ∙ z))
+          (λ z. c .before .match .rest .0 .1 (c .before .before .half-at .ensures ∙ e ∙ z))
+          (λ z. c .before .match .rest .1 (c .before .before .half-at .ensures ∙ e ∙ z))) (c .before .before .before .before .before .before .before .pre .1),
+    ))
+    -- same-length
+    (λ c. search needs)
+    -- returns
+    (λ c. answer-as (λ f h e. is-block f h (sym e ∙ (sym (c .before .before .before .before .before .half-at .ensures)
+    ∙ c .before .before .before .before .match .keys1))) (c .before .before .block .ensures))
+    -- same-length-2
+    (λ c. search needs)
+    -- returns-2
+    (λ c. label-answer (sym (c .before .before .before .before .half-at .ensures) ∙ c .before .before .before .match .keys2) (rw (c .before .half-at2 .ensures) at (c .once .ensures)))
+    -- same-length-3
+    (λ c. search needs)
+    -- returns-3
+    (λ c. answer-as (λ f h e. is-guard f 22 h (sym e ∙ (sym (c .before .before .before .before .before .half-at .ensures)
+    ∙ c .before .before .before .before .match .keys3)) refl (λ z. omega arith) (λ z. omega arith)) (c .before .before .guarded .ensures))
+    -- same-length-4
+    (λ c. search needs)
+    -- returns-4
+    (λ c. answer-as (λ f h e. is-guard f 23 h (sym e ∙ (sym (c .before .before .before .before .before .half-at .ensures)
+    ∙ c .before .before .before .before .match .keys4)) refl (λ z. omega arith) (λ z. omega arith)) (c .before .before .guarded2 .ensures))
+    -- same-length-5
+    (λ c. search needs)
+    -- returns-5
+    (λ c. answer-as (λ f h e. is-guard f 24 h (sym e ∙ (sym (c .before .before .before .before .before .half-at .ensures)
+    ∙ c .before .before .before .before .match .keys5)) refl (λ z. omega arith) (λ z. omega arith)) (c .before .before .guarded3 .ensures))
+    -- same-length-6
+    (λ c. search needs)
+    -- returns-6
+    (λ c. answer-as (λ f h e. is-guard f 30 h (sym e ∙ (sym (c .before .before .before .before .before .half-at .ensures)
+    ∙ c .before .before .before .before .match .keys6)) refl (λ z. omega arith) (λ z. omega arith)) (c .before .before .guarded4 .ensures))
+    -- same-length-7
+    (λ c. search needs)
+    -- returns-7
+    (λ c. typed-answer (λ f h e. is-other f h (λ z. c .before .before .before .before .match .rest .0 .0 .0 .0 .0 .1
+    (c .before .before .before .before .before .half-at .ensures ∙ e ∙ z))
+    (λ z. c .before .before .before .before .match .rest .0 .0 .0 .0 .1 (c .before .before .before .before .before .half-at .ensures ∙ e ∙ z))
+    (λ z. c .before .before .before .before .match .rest .0 .0 .0 .1 (c .before .before .before .before .before .half-at .ensures ∙ e ∙ z))
+    (λ z. c .before .before .before .before .match .rest .0 .0 .1 (c .before .before .before .before .before .half-at .ensures ∙ e ∙ z))
+    (λ z. c .before .before .before .before .match .rest .0 .1 (c .before .before .before .before .before .half-at .ensures ∙ e ∙ z))
+    (λ z. c .before .before .before .before .match .rest .1 (c .before .before .before .before .before .half-at .ensures ∙ e ∙ z)))
+    (c .before .before .simple .ensures))
+
+pub +block+body+expression+guarded+item+items+operand+operands+simple+statement-spec : {M : Type 1} → statement M
++block+body+expression+guarded+item+items+operand+operands+simple+statement-spec =
+    close μ-block μ-body μ-expression μ-guarded μ-item μ-items μ-operand μ-operands μ-simple μ-statement block-meets body-meets expression-meets
+    guarded-meets item-meets items-meets operand-meets operands-meets simple-meets statement-meets

@@ -1,0 +1,340 @@
+// The reader of tables (refusals 1 and 2). The walkers of statements and expressions call each other, the remaining nesting falling; each
+// is given the part of the table after the entry that it is an operand of, and passes on further parts that start inside it.
+pub mod kinds;
+pub mod layout;
+
+use formats::entries::*;
+use formats::limits::*;
+use kinds::Sort;
+ghost use mathlib.Core.Path.{_≡_};
+ghost use mathlib.Core.Bool.{_||_};
+ghost use Prim.Native.Nat.{_+_, _*_, _^_, _≤_, _<_};
+ghost use lib.ListN.{length};
+ghost use Rattle.language.specs.Table.{below, readTable};
+ghost use Rattle.language_laws.specs.Claims.{entriesOf};
+ghost use Rattle.table_read.specs.Operands.{sorts};
+ghost use Rattle.table_read.specs.Walk.{shapeOf, readingOf, leafOf, counted, moved, chain, laidAt, standsAt, atomAt, kindAt, nameAt, sizeAt, walk, entered, isGlobal, tally as tallyOf, walkHead, walkRoot};
+
+pub enum Read {
+    // a whole tree, and how many entries it has
+    Tree(usize),
+    // how many entries stand before the first that does not read
+    Fault(usize),
+}
+
+pub enum Reading {
+    // one tree, within the layout
+    Reads,
+    // the refusal's number and place
+    Refused(u8, usize),
+}
+
+// ── the entry at the start of a part ──
+pub fn kind_of(part: &[u8]) -> u16
+    requires { ⌜ 8 ≤ length (now part) ⌝ }
+    ensures { λ r. ⌜ r ≡ kindAt (entriesOf (now (part .entry))) ⌝ }
+{
+    words::half_at(part, KIND_AT)
+}
+
+pub fn name_of(part: &[u8]) -> u16
+    requires { ⌜ 8 ≤ length (now part) ⌝ }
+    ensures { λ r. ⌜ r ≡ nameAt (entriesOf (now (part .entry))) ⌝ }
+{
+    words::half_at(part, A_AT)
+}
+
+pub fn size_of(part: &[u8]) -> u32
+    requires { ⌜ 8 ≤ length (now part) ⌝ }
+    ensures { λ r. ⌜ r ≡ sizeAt (entriesOf (now (part .entry))) ⌝ }
+{
+    layout::magnitude(words::integer_at(part, B_AT))
+}
+
+// Whether an entry stands there and keeps to the layout.
+fn laid(part: &[u8]) -> bool
+    ensures { λ r. ⌜ r ≡ laidAt (entriesOf (now (part .entry))) ⌝ }
+{
+    if part.len() < ENTRY_BYTES {
+        return false;
+    }
+    layout::in_layout(
+        words::half_at(part, KIND_AT),
+        words::half_at(part, A_AT),
+        words::integer_at(part, B_AT),
+    )
+}
+
+fn stands(part: &[u8], kind: u16) -> bool
+    ensures { λ r. ⌜ r ≡ standsAt kind (entriesOf (now (part .entry))) ⌝ }
+{
+    if part.len() < ENTRY_BYTES {
+        return false;
+    }
+    if kind_of(part) != kind {
+        return false;
+    }
+    laid(part)
+}
+
+fn either(part: &[u8], one: u16, other: u16) -> bool
+    ensures { λ r. ⌜ r ≡ (standsAt one (entriesOf (now (part .entry))) || standsAt other (entriesOf (now (part .entry)))) ⌝ }
+{
+    if stands(part, one) {
+        return true;
+    }
+    stands(part, other)
+}
+
+// Whether an expression with no operands stands there. Most operands are such, and nothing is read below them. The kind is tested first,
+// so that the layout of few kinds is left to look at.
+fn atom(part: &[u8]) -> bool
+    ensures { λ r. ⌜ r ≡ atomAt (entriesOf (now (part .entry))) ⌝ }
+{
+    if part.len() < ENTRY_BYTES {
+        return false;
+    }
+    let kind = kind_of(part);
+    if kind < KIND_INTEGER {
+        return false;
+    }
+    if KIND_VARIABLE < kind {
+        return false;
+    }
+    layout::in_layout(
+        kind,
+        words::half_at(part, A_AT),
+        words::integer_at(part, B_AT),
+    )
+}
+
+// An entry with no operands.
+fn leaf(stands_here: bool) -> Read
+    ensures { λ r. ⌜ r ≡ leafOf «stands_here» ⌝ }
+{
+    if stands_here {
+        Read::Tree(1)
+    } else {
+        Read::Fault(0)
+    }
+}
+
+// The answer, counted from so many entries earlier.
+fn later(by: usize, r: Read) -> Read
+    requires { ⌜ (by < 2 ^ 62) × (counted r < 2 ^ 62) ⌝ }
+    ensures { λ x. ⌜ x ≡ moved by r ⌝ }
+{
+    match r {
+        Read::Tree(n) => Read::Tree(by + n),
+        Read::Fault(p) => Read::Fault(by + p),
+    }
+}
+
+// ── statements and expressions ──
+fn operand(part: &[u8], sort: Sort, nesting: usize) -> Read
+    ensures { λ r. ⌜ r ≡ walk nesting sort (entriesOf (now (part .entry))) ⌝ }
+{
+    if nesting == 0 {
+        return Read::Fault(0);
+    }
+    match sort {
+        Sort::Typed => leaf(stands(part, KIND_DECLARE)),
+        Sort::Decl => leaf(either(part, KIND_DECLARE, KIND_HOLD)),
+        Sort::Part => if stands(part, KIND_LABEL) {
+            Read::Tree(1)
+        } else {
+            read_statement(part, nesting)
+        },
+        Sort::Stmt => read_statement(part, nesting),
+        Sort::Target => if stands(part, KIND_VARIABLE) {
+            Read::Tree(1)
+        } else if stands(part, KIND_FIELD) {
+            read_expression(part, nesting)
+        } else {
+            Read::Fault(0)
+        },
+        Sort::Expr => if atom(part) {
+            Read::Tree(1)
+        } else {
+            read_expression(part, nesting)
+        },
+    }
+}
+
+// The operands of an entry, of which part is what follows it; the answer counts from the entry.
+fn operands(part: &[u8], kind: u16, a: u16, n: u32, nesting: usize) -> Read
+    ensures { λ r. ⌜ r ≡ moved 1 (chain (walk nesting) (sorts kind a n) (entriesOf (now (part .entry)))) ⌝ }
+{
+    let all = kinds::count(kind, a, n);
+    let mut rest = part;
+    let mut passed: usize = 1;
+    let mut i: usize = 0;
+    while i < all {
+        match operand(rest, kinds::sort_of(kind, a, n, i), nesting) {
+            Read::Tree(k) => {
+                let at = ENTRY_BYTES * k;
+                rest = &rest[at..];
+                passed += k;
+                i += 1;
+            }
+            Read::Fault(p) => {
+                return Read::Fault(passed + p);
+            }
+        }
+    }
+    Read::Tree(passed)
+}
+
+pub fn read_statement(part: &[u8], nesting: usize) -> Read
+    ensures { λ r. ⌜ r ≡ shapeOf (entriesOf (now (part .entry))) (below nesting .stmt (entriesOf (now (part .entry)))) ⌝ }
+{
+    if nesting == 0 {
+        return Read::Fault(0);
+    }
+    if !laid(part) {
+        return Read::Fault(0);
+    }
+    let kind = kind_of(part);
+    if !kinds::is_statement(kind) {
+        return Read::Fault(0);
+    }
+    operands(
+        &part[ENTRY_BYTES..],
+        kind,
+        name_of(part),
+        size_of(part),
+        nesting - 1,
+    )
+}
+
+pub fn read_expression(part: &[u8], nesting: usize) -> Read
+    ensures { λ r. ⌜ r ≡ shapeOf (entriesOf (now (part .entry))) (below nesting .expr (entriesOf (now (part .entry)))) ⌝ }
+{
+    if nesting == 0 {
+        return Read::Fault(0);
+    }
+    if !laid(part) {
+        return Read::Fault(0);
+    }
+    let kind = kind_of(part);
+    if !kinds::is_expression(kind) {
+        return Read::Fault(0);
+    }
+    operands(
+        &part[ENTRY_BYTES..],
+        kind,
+        name_of(part),
+        size_of(part),
+        nesting - 1,
+    )
+}
+
+// ── the root ──
+// At most 16 classes and 63 procedures.
+fn is_global(kind: u16, classes: usize, procedures: usize) -> bool
+    ensures { λ r. ⌜ r ≡ isGlobal classes procedures kind ⌝ }
+{
+    match kind {
+        KIND_CLASS => classes < MAX_CLASSES,
+        KIND_PROCEDURE => procedures < MAX_PROCEDURES,
+        KIND_DECLARE => true,
+        KIND_HOLD => true,
+        _ => false,
+    }
+}
+
+fn read_global(part: &[u8], classes: usize, procedures: usize) -> Read
+    ensures { λ r. ⌜ r ≡ entered (walk 62) (isGlobal classes procedures) (entriesOf (now (part .entry))) ⌝ }
+{
+    if !laid(part) {
+        return Read::Fault(0);
+    }
+    let kind = kind_of(part);
+    if !is_global(kind, classes, procedures) {
+        return Read::Fault(0);
+    }
+    operands(
+        &part[ENTRY_BYTES..],
+        kind,
+        name_of(part),
+        size_of(part),
+        BELOW_HEAD,
+    )
+}
+
+pub fn tally(kind: u16, of: u16) -> usize
+    ensures { λ r. ⌜ r ≡ tallyOf kind of ⌝ }
+{
+    if kind == of { 1 } else { 0 }
+}
+
+fn read_head(part: &[u8], count: u16) -> Read
+    ensures { λ r. ⌜ r ≡ walkHead count 0 0 (entriesOf (now (part .entry))) ⌝ }
+{
+    let mut rest = part;
+    let mut passed: usize = 0;
+    let mut classes: usize = 0;
+    let mut procedures: usize = 0;
+    let mut left = count;
+    while 0 < left {
+        match read_global(rest, classes, procedures) {
+            Read::Tree(k) => {
+                let kind = kind_of(rest);
+                let at = ENTRY_BYTES * k;
+                rest = &rest[at..];
+                passed += k;
+                classes += tally(kind, KIND_CLASS);
+                procedures += tally(kind, KIND_PROCEDURE);
+                left -= 1;
+            }
+            Read::Fault(p) => {
+                return Read::Fault(passed + p);
+            }
+        }
+    }
+    Read::Tree(passed)
+}
+
+// The root is at depth 1 of 64: 63 are left below it, and 62 below a declaration of its head.
+fn read_root(part: &[u8]) -> Read
+    ensures { λ r. ⌜ r ≡ walkRoot (entriesOf (now (part .entry))) ⌝ }
+{
+    if !stands(part, KIND_BLOCK) {
+        return Read::Fault(0);
+    }
+    let rest = &part[ENTRY_BYTES..];
+    match read_head(rest, name_of(part)) {
+        Read::Tree(k) => {
+            let at = ENTRY_BYTES * k;
+            later(
+                k,
+                operands(&rest[at..], KIND_BLOCK, 0, size_of(part), BELOW_ROOT),
+            )
+        }
+        Read::Fault(p) => Read::Fault(1 + p),
+    }
+}
+
+// Whether a table is one tree within the layout; any bytes.
+pub fn read_table(table: &[u8]) -> Reading
+    ensures { λ r. ⌜ r ≡ readingOf (readTable (now (table .entry))) ⌝ }
+{
+    let bytes = table.len();
+    if bytes == 0 {
+        return Reading::Refused(1, 0);
+    }
+    if MAX_TABLE_BYTES < bytes {
+        return Reading::Refused(1, 0);
+    }
+    if bytes % ENTRY_BYTES != 0 {
+        return Reading::Refused(1, 0);
+    }
+    match read_root(table) {
+        Read::Tree(n) => if n == bytes / ENTRY_BYTES {
+            Reading::Reads
+        } else {
+            Reading::Refused(2, n)
+        },
+        Read::Fault(p) => Reading::Refused(2, p),
+    }
+}

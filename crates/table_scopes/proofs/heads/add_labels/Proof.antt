@@ -1,0 +1,97 @@
+use native.Mathlib.Omega.{arith}
+use mathlib.Core.Path.{_≡_, refl, _∙_}
+use lib.ListN.{length}
+use Prim.Native.Nat.{_+_, _-_}
+use Rattle.table_scopes.specs.Sizes.{size-small}
+use Rattle.table_scopes.specs.Items.{oneAt, labelsFrom, after, Reach, Adds, adds-start, adds-room, adds-next, adds-end, labels-more, labels-none, reach-here, reach-next}
+use Rattle.table_scopes.proofs.heads.add_labels.Statement.{statement}
+use Rattle.table_scopes.proofs.heads.add_labels.Tie as tie
+
+abbrev Inv-loop : tie.InvT-loop
+Inv-loop table at count sizes env₀ top place₀ up₀ left₀ env place up left =
+    Adds (labelsFrom table at count) top env₀ (labelsFrom table place left) up env × Reach table place left × (length env ≡ length env₀)
+
+abbrev μ-loop : tie.MeasureT-loop
+μ-loop table at count sizes env₀ top place₀ up₀ left₀ env place up left = left
+
+loop-holds : tie.Need-loop-holds Inv-loop μ-loop
+loop-holds c =
+    let at-start = c .before .before .before in
+    (adds-start (labelsFrom (at-start .args .table .now) (at-start .args .at) (at-start .args .count)) (at-start .args .top) (at-start .args .env .now), at-start .pre .1, refl)
+
+add-one-requires : tie.Need-add-one-requires Inv-loop μ-loop
+add-one-requires c κs =
+    let rh = reach-here (c .before .before .before .before .before .before .args .table .now) (c .before .before .loop .place)
+    (c .before .before .loop .left) (omega arith) (c .before .before .loop .inv .1) in (
+      rh,
+      c .before .before .before .before .before .before .pre .2,
+      adds-room (c .before .before .loop .inv .0)
+          (oneAt 20 5 (c .before .before .before .before .before .before .args .table .now) (c .before .before .loop .place))
+          (labelsFrom (c .before .before .before .before .before .before .args .table .now)
+          (after (c .before .before .before .before .before .before .args .table .now) (c .before .before .loop .place))
+          (c .before .before .loop .left - 1)) (labels-more (c .before .before .before .before .before .before .args .table .now)
+          (c .before .before .loop .place) (c .before .before .loop .left) _ (omega arith) refl) (c .before .before .before .before .before .before .pre .3),
+    )
+
+size-at-requires : tie.Need-size-at-requires Inv-loop μ-loop
+size-at-requires c κs =
+    let rh = reach-here (c .before .before .before .before .before .before .before .before .before .args .table .now)
+    (c .before .before .before .before .before .loop .place) (c .before .before .before .before .before .loop .left) (omega arith)
+    (c .before .before .before .before .before .loop .inv .1) in omega (arith, c .before .before .before .before .before .before .before .before .before .pre .0 .wide)
+
+add-place : tie.Need-add-place Inv-loop μ-loop
+add-place c =
+    let rh = reach-here (c .before .before .before .before .before .before .before .before .before .before .args .table .now)
+    (c .before .before .before .before .before .before .loop .place) (c .before .before .before .before .before .before .loop .left) (omega arith)
+    (c .before .before .before .before .before .before .loop .inv .1) in
+    let z = (c .size-at .ensures ∙ c .before .before .before .before .before .before .before .before .before .before .pre .0 .sized
+    (c .before .before .before .before .before .before .loop .place) (omega arith) (omega (arith, rh))) in omega (
+      arith,
+      size-small (c .before .before .before .before .before .before .before .before .before .before .args .table .now)
+          (c .before .before .before .before .before .before .loop .place) 1 (c .size-at .result) z,
+    )
+
+loop-again : tie.Need-loop-again Inv-loop μ-loop
+loop-again c =
+    let rh = reach-here (c .before .before .before .before .before .before .before .before .before .before .args .table .now)
+    (c .before .before .before .before .before .before .loop .place) (c .before .before .before .before .before .before .loop .left) (omega arith)
+    (c .before .before .before .before .before .before .loop .inv .1) in
+    let z = (c .size-at .ensures ∙ c .before .before .before .before .before .before .before .before .before .before .pre .0 .sized
+    (c .before .before .before .before .before .before .loop .place) (omega arith) (omega (arith, rh))) in let a = adds-next
+    (c .before .before .before .before .before .before .loop .inv .0) (oneAt 20 5
+    (c .before .before .before .before .before .before .before .before .before .before .args .table .now)
+    (c .before .before .before .before .before .before .loop .place)) (labelsFrom
+    (c .before .before .before .before .before .before .before .before .before .before .args .table .now)
+    (c .before .before .before .before .before .before .loop .place + c .size-at .result)
+    (c .before .before .before .before .before .before .loop .left - 1))
+    (labels-more (c .before .before .before .before .before .before .before .before .before .before .args .table .now)
+    (c .before .before .before .before .before .before .loop .place) (c .before .before .before .before .before .before .loop .left)
+    (c .size-at .result) (omega arith) z) (c .before .before .before .add-one .ensures) in (
+      a,
+      reach-next (c .before .before .before .before .before .before .before .before .before .before .args .table .now)
+          (c .before .before .before .before .before .before .loop .place) (c .before .before .before .before .before .before .loop .left)
+          (c .size-at .result) (omega arith) z (c .before .before .before .before .before .before .loop .inv .1),
+      a .same,
+    )
+
+same-length : tie.Need-same-length Inv-loop μ-loop
+same-length c = c .before .loop .inv .2
+
+returns : tie.Need-returns Inv-loop μ-loop
+returns c = adds-end (c .before .loop .inv .0) (labels-none (c .before .before .before .before .before .args .table .now) (c .before .loop .place) (c .before .loop .left) (omega arith))
+
+pub add-labels-spec : {M : Type 1} → statement M
+add-labels-spec =
+    tie.close
+    (tie.spec
+    Inv-loop
+    μ-loop
+    loop-holds
+    add-one-requires
+    size-at-requires
+    add-place
+    (λ c. omega arith)
+    (λ c. omega arith)
+    loop-again
+    same-length
+    returns)

@@ -1,0 +1,11 @@
+pub mod Spans
+pub mod Stands
+pub mod Sizes
+pub mod Environment
+pub mod EnvironmentLaws
+pub mod Items
+pub mod Flaws
+pub mod Trees
+pub mod Sees
+pub mod Once
+pub mod Defines

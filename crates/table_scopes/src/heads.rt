@@ -1,0 +1,235 @@
+// Heads: the names of a block, a parameter list or the root are pushed before anything in it is judged, since all are visible
+// throughout; then its declarations are judged.
+use crate::environment;
+use crate::environment::Found;
+use crate::spans;
+use formats::entries::*;
+ghost use mathlib.Core.List.{_∷_, _++_};
+ghost use Prim.Native.Nat.{_+_, _*_, _/_, _≤_, _<_};
+ghost use lib.ListN.{length};
+ghost use Rattle.table_scopes.specs.Environment.{item, addAll, envOf, Grown};
+ghost use Rattle.table_scopes.specs.Sizes.{Known};
+ghost use Rattle.table_scopes.specs.Items.{oneAt, itemsAt, labelsFrom, Reach, globalAt, globalsFrom, WithinGlobal, ReachGlobals, blockItems, rootItems, aAt, bAt};
+ghost use Rattle.table_scopes.specs.Flaws.{Says, onceFlaw, classFlaw, declFlaws, headFlaws};
+
+pub enum Verdict {
+    // the number of a type
+    Fine(u32),
+    // a number and a place
+    Refused(u8, usize),
+}
+
+// The name that the entry at a place defines, where it is of this kind.
+fn add_one(table: &[u8], place: usize, kind: u16, sort: u32, env: &mut [u32], top: usize) -> usize
+    requires { ⌜ (8 * (place + 1) ≤ length (now table)) × (length (now table) ≤ 16384) × (4 * (top + length (oneAt kind sort (now table) place)) ≤ length (now env)) ⌝ }
+    ensures { λ r. ⌜ Grown top (now (env .entry)) (now (env .exit)) r (addAll (oneAt kind sort (now (table .entry)) place) (envOf (now (env .entry)) top)) (length (oneAt kind sort (now (table .entry)) place)) ⌝ }
+{
+    if spans::kind_at(table, place) == kind {
+        environment::add(
+            env,
+            top,
+            spans::a_at(table, place) as u32,
+            sort,
+            spans::b_at(table, place),
+            place as u32,
+        )
+    } else {
+        top
+    }
+}
+
+// The variables of a head, the parameters of a procedure, or the fields of a class, by the sort given.
+pub fn add_head(
+    table: &[u8],
+    at: usize,
+    count: usize,
+    sort: u32,
+    env: &mut [u32],
+    top: usize,
+) -> usize
+    requires { ⌜ (8 * (at + count) ≤ length (now table)) × (length (now table) ≤ 16384) × (4 * (top + length (itemsAt sort (now table) at count)) ≤ length (now env)) ⌝ }
+    ensures { λ r. ⌜ Grown top (now (env .entry)) (now (env .exit)) r (addAll (itemsAt sort (now (table .entry)) at count) (envOf (now (env .entry)) top)) (length (itemsAt sort (now (table .entry)) at count)) ⌝ }
+{
+    let mut place = at;
+    let mut up = top;
+    let mut left = count;
+    while 0 < left {
+        up = add_one(table, place, KIND_DECLARE, sort, env, up);
+        place += 1;
+        left -= 1;
+    }
+    up
+}
+
+// The labels among the items of a block.
+fn add_labels(
+    table: &[u8],
+    at: usize,
+    count: usize,
+    sizes: &[u16],
+    env: &mut [u32],
+    top: usize,
+) -> usize
+    requires { ⌜ Known (now table) (now sizes) 0 × Reach (now table) at count × (length (now table) ≤ 16384) × (4 * (top + length (labelsFrom (now table) at count)) ≤ length (now env)) ⌝ }
+    ensures { λ r. ⌜ Grown top (now (env .entry)) (now (env .exit)) r (addAll (labelsFrom (now (table .entry)) at count) (envOf (now (env .entry)) top)) (length (labelsFrom (now (table .entry)) at count)) ⌝ }
+{
+    let mut place = at;
+    let mut up = top;
+    let mut left = count;
+    while 0 < left {
+        up = add_one(table, place, KIND_LABEL, 5, env, up);
+        place += spans::size_at(sizes, place);
+        left -= 1;
+    }
+    up
+}
+
+// A class with its fields, a procedure, or a variable of the root's head.
+fn add_global(table: &[u8], place: usize, env: &mut [u32], top: usize) -> usize
+    requires { ⌜ WithinGlobal (now table) place × (length (now table) ≤ 16384) × (4 * (top + length (globalAt (now table) place)) ≤ length (now env)) ⌝ }
+    ensures { λ r. ⌜ Grown top (now (env .entry)) (now (env .exit)) r (addAll (globalAt (now (table .entry)) place) (envOf (now (env .entry)) top)) (length (globalAt (now (table .entry)) place)) ⌝ }
+{
+    let kind = spans::kind_at(table, place);
+    match kind {
+        KIND_CLASS => add_class(table, place, env, top),
+        KIND_PROCEDURE => add_one(table, place, KIND_PROCEDURE, 7, env, top),
+        _ => add_one(table, place, KIND_DECLARE, 4, env, top),
+    }
+}
+
+// The sort of a field is the number of the type that it is a field of.
+fn add_class(table: &[u8], place: usize, env: &mut [u32], top: usize) -> usize
+    requires { ⌜ (8 * (place + 1 + bAt (now table) place) ≤ length (now table)) × (length (now table) ≤ 16384) × (4 * (top + length (oneAt 11 6 (now table) place ++ itemsAt (65536 + aAt (now table) place) (now table) (place + 1) (bAt (now table) place))) ≤ length (now env)) ⌝ }
+    ensures { λ r. ⌜ Grown top (now (env .entry)) (now (env .exit)) r (addAll (oneAt 11 6 (now (table .entry)) place ++ itemsAt (65536 + aAt (now (table .entry)) place) (now (table .entry)) (place + 1) (bAt (now (table .entry)) place)) (envOf (now (env .entry)) top)) (length (oneAt 11 6 (now (table .entry)) place ++ itemsAt (65536 + aAt (now (table .entry)) place) (now (table .entry)) (place + 1) (bAt (now (table .entry)) place))) ⌝ }
+{
+    let up = add_one(table, place, KIND_CLASS, 6, env, top);
+    let sort = 65536 + spans::a_at(table, place) as u32;
+    add_head(
+        table,
+        place + 1,
+        spans::b_at(table, place) as usize,
+        sort,
+        env,
+        up,
+    )
+}
+
+fn add_globals(table: &[u8], count: usize, sizes: &[u16], env: &mut [u32], top: usize) -> usize
+    requires { ⌜ Known (now table) (now sizes) 0 × ReachGlobals (now table) 1 count × (length (now table) ≤ 16384) × (4 * (top + length (globalsFrom (now table) 1 count)) ≤ length (now env)) ⌝ }
+    ensures { λ r. ⌜ Grown top (now (env .entry)) (now (env .exit)) r (addAll (globalsFrom (now (table .entry)) 1 count) (envOf (now (env .entry)) top)) (length (globalsFrom (now (table .entry)) 1 count)) ⌝ }
+{
+    let mut place = 1;
+    let mut up = top;
+    let mut left = count;
+    while 0 < left {
+        up = add_global(table, place, env, up);
+        place += spans::size_at(sizes, place);
+        left -= 1;
+    }
+    up
+}
+
+// The root's names, above nothing: `after` is the place of the first of its items.
+pub fn enter_root(
+    table: &[u8],
+    heads: usize,
+    after: usize,
+    items: usize,
+    sizes: &[u16],
+    env: &mut [u32],
+) -> usize
+    requires { ⌜ Known (now table) (now sizes) 0 × ReachGlobals (now table) 1 heads × Reach (now table) after items × (length (now table) ≤ 16384) × (4 * (1 + length (rootItems (now table) heads after items)) ≤ length (now env)) ⌝ }
+    ensures { λ r. ⌜ Grown 0 (now (env .entry)) (now (env .exit)) r (addAll (rootItems (now (table .entry)) heads after items) (item 65536 0 0 0 ∷ envOf (now (env .entry)) 0)) (1 + length (rootItems (now (table .entry)) heads after items)) ⌝ }
+{
+    environment::push(env, 0, 65536, 0, 0, 0);
+    let up = add_globals(table, heads, sizes, env, 1);
+    add_labels(table, after, items, sizes, env, up)
+}
+
+// A block or a block expression, by the mark given.
+pub fn enter(
+    table: &[u8],
+    at: usize,
+    heads: usize,
+    items: usize,
+    mark: u32,
+    sizes: &[u16],
+    env: &mut [u32],
+    top: usize,
+) -> usize
+    requires { ⌜ Known (now table) (now sizes) 0 × (8 * (at + heads) ≤ length (now table)) × Reach (now table) (at + heads) items × (length (now table) ≤ 16384) × (4 * (top + (1 + length (blockItems (now table) at heads items))) ≤ length (now env)) ⌝ }
+    ensures { λ r. ⌜ Grown top (now (env .entry)) (now (env .exit)) r (addAll (blockItems (now (table .entry)) at heads items) (item mark 0 0 0 ∷ envOf (now (env .entry)) top)) (1 + length (blockItems (now (table .entry)) at heads items)) ⌝ }
+{
+    environment::push(env, top, mark, 0, 0, 0);
+    let up = add_head(table, at, heads, 4, env, top + 1);
+    add_labels(table, at + heads, items, sizes, env, up)
+}
+
+// The definition at `at` is the one that its block has of the name: of two the first is found.
+pub fn once(env: &[u32], top: usize, name: u32, at: usize) -> Verdict
+    requires { ⌜ 4 * top ≤ length (now env) ⌝ }
+    ensures { λ r. ⌜ Says r (onceFlaw (envOf (now (env .entry)) top) name at) ⌝ }
+{
+    match environment::find(env, top, name) {
+        Found::Nothing => Verdict::Refused(3, at),
+        Found::Def(_, _, place, _) => if place as usize == at {
+            Verdict::Fine(0)
+        } else {
+            Verdict::Refused(3, at)
+        },
+    }
+}
+
+// The class that a declared type names.
+fn classed(env: &[u32], top: usize, ty: u32, at: usize) -> Verdict
+    requires { ⌜ 4 * top ≤ length (now env) ⌝ }
+    ensures { λ r. ⌜ Says r (classFlaw (envOf (now (env .entry)) top) ty at) ⌝ }
+{
+    if ty < 65536 {
+        return Verdict::Fine(0);
+    }
+    match environment::find(env, top, ty - 65536) {
+        Found::Nothing => Verdict::Refused(3, at),
+        Found::Def(sort, _, _, _) => if sort == 6 {
+            Verdict::Fine(0)
+        } else {
+            Verdict::Refused(4, at)
+        },
+    }
+}
+
+// One declaration of a head; a hold defines nothing.
+fn declared(table: &[u8], at: usize, env: &[u32], top: usize) -> Verdict
+    requires { ⌜ (8 * (at + 1) ≤ length (now table)) × (4 * top ≤ length (now env)) ⌝ }
+    ensures { λ r. ⌜ Says r (declFlaws (now (table .entry)) (envOf (now (env .entry)) top) at) ⌝ }
+{
+    if spans::kind_at(table, at) == KIND_DECLARE {
+        match once(env, top, spans::a_at(table, at) as u32, at) {
+            Verdict::Fine(_) => classed(env, top, spans::b_at(table, at), at),
+            Verdict::Refused(n, p) => Verdict::Refused(n, p),
+        }
+    } else {
+        Verdict::Fine(0)
+    }
+}
+
+// Declarations one after the other.
+pub fn head(table: &[u8], at: usize, count: usize, env: &[u32], top: usize) -> Verdict
+    requires { ⌜ (8 * (at + count) ≤ length (now table)) × (4 * top ≤ length (now env)) ⌝ }
+    ensures { λ r. ⌜ Says r (headFlaws (now (table .entry)) (envOf (now (env .entry)) top) at count) ⌝ }
+{
+    let mut place = at;
+    let mut left = count;
+    while 0 < left {
+        match declared(table, place, env, top) {
+            Verdict::Fine(_) => {
+                place += 1;
+                left -= 1;
+            }
+            Verdict::Refused(n, p) => {
+                return Verdict::Refused(n, p);
+            }
+        }
+    }
+    Verdict::Fine(0)
+}

@@ -1,0 +1,21 @@
+// The names that stand in sight in a table: how many entries each part of it spans, the stack of names in lent numbers, and the heads that
+// push their names on it and are judged.
+mod environment;
+mod heads;
+mod spans;
+
+pub use environment::Found;
+pub use environment::find;
+pub use environment::push;
+pub use heads::Verdict;
+pub use heads::add_head;
+pub use heads::enter;
+pub use heads::enter_root;
+pub use heads::head;
+pub use heads::once;
+pub use spans::a_at;
+pub use spans::b_at;
+pub use spans::kind_at;
+pub use spans::measure;
+pub use spans::size_at;
+pub use spans::spanned;
