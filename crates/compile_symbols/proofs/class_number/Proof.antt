@@ -11,8 +11,8 @@ use Rattle.compile_symbols.proofs.class_number.Reads as reads
 use Rattle.compile_symbols.proofs.class_number.Lts as lts
 use Rattle.compile_symbols.proofs.names_class.Reads as names-class-reads
 use Rattle.compile_symbols.proofs.one_if.Reads as one-if-reads
-use Rattle.table_scopes.proofs.spans.kind_at.Reads as kind-at-reads
-use Rattle.table_scopes.proofs.spans.size_at.Reads as size-at-reads
+use Rattle.table_scopes.proofs.kind_at.Reads as kind-at-reads
+use Rattle.table_scopes.proofs.size_at.Reads as size-at-reads
 
 abbrev Inv-loop : tie.InvT-loop
 Inv-loop table count sizes name place₀ left₀ n₀ place left n = ClassSoFar table name place left n

@@ -14,7 +14,7 @@ use Rattle.compile_symbols.proofs.second_in.Reads as second-in-reads
 use Rattle.compile_emit.proofs.after_arm.Reads as after-arm-reads
 use Rattle.compile_emit.proofs.before_arm.Reads as before-arm-reads
 use Rattle.compile_emit.proofs.end_of.Reads as end-of-reads
-use Rattle.table_scopes.proofs.spans.size_at.Reads as size-at-reads
+use Rattle.table_scopes.proofs.size_at.Reads as size-at-reads
 use Rattle.compile_walk.proofs.+arms+assign+block+body+choose+conditional+expression+items+operands+pair+repeat+select+simple+statement+when.Proof.Base.{arms-at, statement-below}
 
 abbrev arms-Inv-loop : arms-lts.InvT-loop

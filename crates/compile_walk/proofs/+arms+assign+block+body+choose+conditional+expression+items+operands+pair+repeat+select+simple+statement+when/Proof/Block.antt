@@ -13,7 +13,7 @@ use Rattle.compile_emit.proofs.finish.Reads as finish-reads
 use Rattle.compile_emit.proofs.holds_in.Reads as holds-in-reads
 use Rattle.compile_emit.proofs.mark_holds.Reads as mark-holds-reads
 use Rattle.compile_output.proofs.releases.Reads as releases-reads
-use Rattle.table_scopes.proofs.heads.enter.Reads as enter-reads
+use Rattle.table_scopes.proofs.enter.Reads as enter-reads
 use Rattle.words.proofs.half_at.Reads as half-at-reads
 use Rattle.words.proofs.word_at.Reads as word-at-reads
 use Rattle.compile_walk.proofs.+arms+assign+block+body+choose+conditional+expression+items+operands+pair+repeat+select+simple+statement+when.Proof.Base.{block-at, items-below}

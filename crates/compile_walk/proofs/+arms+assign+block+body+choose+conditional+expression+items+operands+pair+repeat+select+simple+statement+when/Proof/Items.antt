@@ -8,7 +8,7 @@ use Prim.Native.Nat.{ℕ}
 use Rattle.compile_walk.proofs.items.Reads as items
 use Rattle.compile_walk.proofs.+arms+assign+block+body+choose+conditional+expression+items+operands+pair+repeat+select+simple+statement+when.Lts-items as items-lts
 use Rattle.compile_walk.proofs.statement.Reads as statement′
-use Rattle.table_scopes.proofs.spans.size_at.Reads as size-at-reads
+use Rattle.table_scopes.proofs.size_at.Reads as size-at-reads
 use Rattle.compile_walk.proofs.+arms+assign+block+body+choose+conditional+expression+items+operands+pair+repeat+select+simple+statement+when.Proof.Base.{items-at, statement-below}
 
 abbrev items-Inv-loop : items-lts.InvT-loop

@@ -16,7 +16,7 @@ use Rattle.compile_emit.proofs.finish.Reads as finish-reads
 use Rattle.compile_emit.proofs.pair_type.Reads as pair-type-reads
 use Rattle.compile_emit.proofs.waiting.Reads as waiting-reads
 use Rattle.compile_emit.proofs.way_of.Reads as way-of-reads
-use Rattle.table_scopes.proofs.spans.size_at.Reads as size-at-reads
+use Rattle.table_scopes.proofs.size_at.Reads as size-at-reads
 use Rattle.words.proofs.half_at.Reads as half-at-reads
 use Rattle.compile_walk.proofs.+arms+assign+block+body+choose+conditional+expression+items+operands+pair+repeat+select+simple+statement+when.Proof.Base.{expression-below, pair-at}
 

@@ -16,7 +16,7 @@ use Rattle.compile_symbols.proofs.second_in.Reads as second-in-reads
 use Rattle.compile_emit.proofs.finish.Reads as finish-reads
 use Rattle.compile_output.proofs.emit.Reads as emit-reads
 use Rattle.compile_output.proofs.shape.Reads as shape-reads
-use Rattle.table_scopes.proofs.spans.size_at.Reads as size-at-reads
+use Rattle.table_scopes.proofs.size_at.Reads as size-at-reads
 use Rattle.words.proofs.half_at.Reads as half-at-reads
 use Rattle.compile_walk.proofs.+arms+assign+block+body+choose+conditional+expression+items+operands+pair+repeat+select+simple+statement+when.Proof.Base.{arms-below, expression-below, select-at}
 
