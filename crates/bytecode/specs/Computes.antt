@@ -1,5 +1,5 @@
 -- A name that opens every definition of this crate where a proof computes with them: `unfolding bytecodeComputes`.
-use Rattle.words.specs.Lists.{all}
+use Rattle.logic.specs.Lists.{all}
 use Rattle.bytecode.specs.Macro.{tyOfByte, readTypes, readClass, readResult, readBody, readCode, shapeIn, readShape, orUnread, records, onward, headReads, readEnd, parseMacro, readMacro}
 use Rattle.bytecode.specs.Instructions.{instruction, endOf, inBody}
 use Rattle.bytecode.specs.Rules.{bodyOf, isFirst, effect, strip, flow, into, foundAt, bodyFault, faultAt, lowest, judgeMacro}

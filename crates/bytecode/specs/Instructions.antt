@@ -5,8 +5,8 @@ use Prim.Native.Nat.{ℕ, zero, suc}
 use mathlib.Core.List.{List, [], _∷_}
 use lib.Dec.{eqb, leb, ltb}
 use lib.ListN.{length, getElem?}
-use Rattle.words.specs.Choice.{if_then_else_}
-use Rattle.words.specs.Options.{keep}
+use Rattle.logic.specs.Choice.{if_then_else_}
+use Rattle.logic.specs.Options.{keep}
 use Rattle.words.specs.Numbers.{integerOf}
 use Rattle.values.specs.Operators.{Operator, unary, binary, unaryOf, binaryOf}
 use Rattle.values.specs.Values.{Value, int, log, bit, ref}

@@ -4,8 +4,8 @@ use mathlib.Core.Option.{Option, none, some}
 use Prim.Native.Nat.{ℕ}
 use lib.Dec.{eqb}
 use lib.ListN.{length}
-use Rattle.words.specs.Choice.{if_then_else_}
-use Rattle.words.specs.Options.{keep}
+use Rattle.logic.specs.Choice.{if_then_else_}
+use Rattle.logic.specs.Options.{keep}
 use Rattle.values.specs.Ends.{Refusal, refusal, Judged, accepted, refused}
 use Rattle.bytecode.specs.Macro.{Macro}
 use Rattle.bytecode.specs.Rules.{judgeMacro}

@@ -3,13 +3,13 @@
 use mathlib.Core.Bool.{Bool, true, false, _&&_}
 use mathlib.Core.List.{List, [], _∷_, _++_}
 use mathlib.Core.Option.{Option, none, some}
-use Prim.Native.Nat.{ℕ, zero, suc, _+_}
+use Prim.Native.Nat.{ℕ, zero, suc}
 use lib.Dec.{eqb, leb, ltb}
 use lib.IntN.{pos}
 use lib.ListN.{length, getElem?, take, drop}
 use lib.ListN.{set as put}
-use Rattle.words.specs.Choice.{if_then_else_}
-use Rattle.words.specs.Options.{ifSome}
+use Rattle.logic.specs.Choice.{if_then_else_}
+use Rattle.logic.specs.Options.{ifSome}
 use Rattle.values.specs.Types.{Ty, fits, allFit, sames}
 use Rattle.values.specs.Ends.{fieldOfNull, assertFalse, outOfRange, tooManyActivations, tooManyRecords}
 use Rattle.values.specs.Operators.{Operator, unary, binary}

@@ -1,12 +1,12 @@
 -- The records of a compiled macro and how they are read (refusal 8). (paper 01, Compiled macro)
-use mathlib.Core.Bool.{Bool, true, false, not, _&&_}
+use mathlib.Core.Bool.{Bool, not, _&&_}
 use mathlib.Core.List.{List, [], _∷_, reverse}
 use mathlib.Core.Option.{Option, none, some}
 use Prim.Native.Nat.{ℕ, zero, suc, _-_}
 use lib.Dec.{eqb, leb, ltb}
 use lib.ListN.{length, drop}
-use Rattle.words.specs.Choice.{if_then_else_}
-use Rattle.words.specs.Options.{isSome, keep}
+use Rattle.logic.specs.Choice.{if_then_else_}
+use Rattle.logic.specs.Options.{isSome, keep}
 use Rattle.words.specs.Numbers.{byteAt, halfAt, wordAt}
 use Rattle.values.specs.Types.{Ty, integer, logical, bits, reference}
 use Rattle.values.specs.Ends.{refusal, Judged, accepted, refused}

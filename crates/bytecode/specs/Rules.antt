@@ -2,18 +2,18 @@
 use mathlib.Core.Bool.{Bool, true, false, not, _&&_, _||_}
 use mathlib.Core.List.{List, [], _∷_, _++_, reverse}
 use mathlib.Core.Option.{Option, none, some}
-use Prim.Native.Nat.{ℕ, zero, suc, _+_, _-_}
+use Prim.Native.Nat.{ℕ, zero, suc, _-_}
 use lib.Dec.{eqb, leb, ltb}
 use lib.ListN.{length, getElem?, take}
-use Rattle.words.specs.Choice.{if_then_else_}
-use Rattle.words.specs.Options.{isSome, keep, orElse}
-use Rattle.values.specs.Types.{Ty, integer, logical, bits, reference, sames, fits}
+use Rattle.logic.specs.Choice.{if_then_else_}
+use Rattle.logic.specs.Options.{isSome, keep, orElse}
+use Rattle.values.specs.Types.{Ty, integer, logical, reference, sames, fits}
 use Rattle.values.specs.Ends.{refusal, Judged, accepted, refused}
 use Rattle.values.specs.Operators.{Operator, unary, binary, opType}
 use Rattle.values.specs.Values.{Value, tyOf}
 use Rattle.bytecode.specs.Macro.{Body, Shape, shape, Macro, shapeIn, readMacro}
-use Rattle.bytecode.specs.Instructions.{Owner, own, root, Instr, end, push, load, store, operate, go, goUnless, call, return, make, getField, putField, setLevel}
-use Rattle.bytecode.specs.Instructions.{readFader, takeHold, letHold, assert, stop, bodyAt, inBody, instrAt, cellTy, fieldTy, known, procedureAt}
+use Rattle.bytecode.specs.Instructions.{Instr, end, push, load, store, operate, go, goUnless, call, return, make, getField, putField, setLevel}
+use Rattle.bytecode.specs.Instructions.{readFader, takeHold, letHold, assert, stop, inBody, instrAt, cellTy, fieldTy, known, procedureAt}
 
 -- ── bodies and addresses ──
 -- the body that an address stands in: the last that begins at it or before

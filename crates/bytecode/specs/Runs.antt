@@ -3,7 +3,7 @@ use mathlib.Core.List.{List, [], _∷_}
 use Prim.Native.Nat.{ℕ, zero, suc, _-_}
 use lib.Dec.{eqb}
 use lib.ListN.{length, getD}
-use Rattle.words.specs.Choice.{if_then_else_}
+use Rattle.logic.specs.Choice.{if_then_else_}
 use Rattle.values.specs.Ends.{Refusal, refusal}
 use Rattle.values.specs.Trace.{Event, Item, event, reading}
 use Rattle.bytecode.specs.Macro.{Macro}

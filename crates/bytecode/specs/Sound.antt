@@ -6,14 +6,14 @@ use Prim.Native.Nat.{ℕ}
 use lib.Dec.{eqb, leb, ltb}
 use lib.ListN.{length, getElem?, take}
 use lib.Signed.{mag}
-use Rattle.words.specs.Lists.{all}
+use Rattle.logic.specs.Lists.{all}
 use Rattle.values.specs.Types.{Ty, sames}
 use Rattle.values.specs.Ends.{isCondition}
 use Rattle.values.specs.Values.{Value, int, log, bit, ref, tysOf, Cell, assigned, tyOfCell}
 use Rattle.bytecode.specs.Macro.{Body, Code, Macro, Shape}
 use Rattle.bytecode.specs.Instructions.{bodyAt, inBody}
 use Rattle.bytecode.specs.Rules.{foundAt, onStack}
-use Rattle.bytecode.specs.Machine.{Activation, Made, Shared, endBy, Machine, running, unwinding, ended, maxActivations, maxOpenHolds, maxRecords}
+use Rattle.bytecode.specs.Machine.{Activation, Made, endBy, Machine, running, unwinding, ended, maxActivations, maxOpenHolds, maxRecords}
 
 -- ── values ──
 abbrev pub classIs : ℕ → Option Made → Bool

@@ -2,12 +2,12 @@
 use mathlib.Core.Bool.{_&&_}
 use mathlib.Core.List.{List, [], _∷_, _++_, reverse, map}
 use mathlib.Core.Option.{Option, none, some}
-use Prim.Native.Nat.{ℕ, zero, suc, _+_}
+use Prim.Native.Nat.{ℕ, zero, suc}
 use lib.Dec.{eqb, leb}
 use lib.ListN.{length, take, drop, replicate, getElem?}
 use Rattle.bytecode.specs.Words.{valueWord, validWord, wordValue}
-use Rattle.words.specs.Choice.{if_then_else_}
-use Rattle.words.specs.Options.{keep}
+use Rattle.logic.specs.Choice.{if_then_else_}
+use Rattle.logic.specs.Options.{keep}
 use Rattle.words.specs.Numbers.{byteAt, halfAt, wordAt, half, word}
 use Rattle.values.specs.Types.{tyByte}
 use Rattle.values.specs.Values.{Value, tyOf, Cell, assigned}

@@ -8,17 +8,14 @@ use native.Mathlib.Omega.{arith}
 use lib.Dec.{eqb, leb, ltb}
 use lib.ListN.{length, getElem?}
 use borrow.Author.Tests.{eqb-true, eqb-false, eq-eqb, leb-true, leb-false, ltb-true, le-leb, lt-leb, lt-ltb}
-use Rattle.words.specs.Choice.{if_then_else_}
+use Rattle.logic.specs.Choice.{if_then_else_}
 use Rattle.bytecode.specs.Macro.{Body, Macro}
 use Rattle.bytecode.specs.Instructions.{bodyAt, endOf, fromTo, inBody}
 use Rattle.bytecode.specs.Rules.{bodyOf, isFirst}
-use Rattle.bytecode_laws.specs.Tests.{never, never-some, same-some, both, halves, neither}
-use Rattle.bytecode_laws.specs.Terms.{Each, ReadBody, RisesFrom, WellFormed}
-
-pub each-at : {A : Type 0} (P : A → Type 0) (xs : List A) (i : ℕ) (x : A) → Each P xs → getElem? xs i ≡ some x → P x
-each-at P [] i x p h = never-some h
-each-at P (y ∷ xs) zero x p h = let e : y ≡ x = cc in subst P e (p .0)
-each-at P (y ∷ xs) (suc i) x p h = each-at P xs i x (p .1) h
+use Rattle.logic.specs.Tests.{never, both, halves, neither}
+use Rattle.logic.specs.OptionLaws.{never-some, same-some}
+use Rattle.logic.specs.Lists.{Each}
+use Rattle.bytecode_laws.specs.Terms.{ReadBody, RisesFrom, WellFormed}
 
 -- a body's bounds, from the test and back
 pub bounds : (o : Option Body) (e i : ℕ) → fromTo o e i ≡ true → (b : Body) × (o ≡ some b) × (b .first ≤ i) × (i < e)

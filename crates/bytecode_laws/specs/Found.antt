@@ -8,19 +8,26 @@ use native.Mathlib.Omega.{arith}
 use lib.Dec.{eqb, leb, ltb}
 use lib.ListN.{length, getElem?}
 use borrow.Author.Tests.{eqb-true, eq-eqb, leb-true, ltb-false, le-leb, not-false}
-use Rattle.words.specs.Options.{keep, isSome, orElse}
-use Rattle.words.specs.Choice.{if_then_else_}
+use Rattle.logic.specs.Options.{keep, isSome, orElse}
+use Rattle.logic.specs.Choice.{if_then_else_}
 use Rattle.values.specs.Types.{Ty, logical, fits, sames, allFit}
 use Rattle.bytecode.specs.Macro.{Body, Shape, shape, Macro, shapeIn}
 use Rattle.bytecode.specs.Instructions.{Instr, bodyAt, inBody, instrAt}
 use Rattle.bytecode.specs.Rules.{bodyOf, isFirst, Effect, plain, takes, lets, jumps, forks, leaves, stops, wrong, effect, Flow, on, fork, jump, halt, broken, strip}
 use Rattle.bytecode.specs.Rules.{roomy, onIf, stripped, oneLess, sameShape, flow, flowOf, flowAt, passed, atFirst, into, foundAt, headFault, bodyFault, shapeFault}
 use Rattle.bytecode.specs.Rules.{equalShape, lands, closes, flowFault, opFault, faultAt}
-use Rattle.bytecode_laws.specs.Tests.{never, never-some, same-some, both, halves, neither, kept, sames→≡, sameShape→≡}
+use Rattle.logic.specs.Tests.{never, both, halves, neither}
+use Rattle.logic.specs.OptionLaws.{never-some, same-some, kept}
+use Rattle.values.specs.Identical.{sames→≡}
 use Rattle.bytecode_laws.specs.Terms.{Passed, Allowed, Follows, Takes, Does}
 use Rattle.bytecode_laws.specs.Bodies.{inside-code, body-is, inside-body, first-inside, no-first, at-first, same-body}
 
 -- ── operands and limits ──
+sameShape→≡ : (s t : Shape) → sameShape s t ≡ true → s ≡ t
+sameShape→≡ s t h =
+    let q = halves (eqb (s .holds) (t .holds)) (sames (s .operands) (t .operands)) h in
+    ap₂ shape (eqb-true (s .holds) (t .holds) (q .0)) (sames→≡ (s .operands) (t .operands) (q .1))
+
 strip-length : (us ts rest : List Ty) → strip us ts ≡ some rest → length rest ≤ length ts
 unfolding strip
 strip-length [] ts rest h = let e : ts ≡ rest = cc in rw e (omega arith)

@@ -8,11 +8,11 @@ use Prim.Native.Nat.{ℕ, zero, suc, _+_, _≤_, _<_}
 use native.Mathlib.Decide.{decLt}
 use native.Mathlib.Omega.{arith}
 use lib.ListN.{length}
-use Rattle.words.specs.Choice.{if_then_else_}
+use Rattle.logic.specs.Choice.{if_then_else_}
 use Rattle.values.specs.Ends.{Refusal, refusal, Judged, accepted, refused}
 use Rattle.bytecode.specs.Macro.{Macro, Parsed, parsed, unread, parseMacro, readOr8, readMacro}
 use Rattle.bytecode.specs.Rules.{faultAt, lowest, orPasses, judgeCode, judgeMacro}
-use Rattle.bytecode_laws.specs.Tests.{never}
+use Rattle.logic.specs.Tests.{never}
 
 -- ── the lowest of n numbers from i on at which a test holds ──
 abbrev NoneFrom : (ℕ → Bool) → ℕ → ℕ → Type 0

@@ -1,4 +1,3 @@
-pub mod Tests
 pub mod Terms
 pub mod Takes
 pub mod Reading

@@ -9,10 +9,10 @@ use lib.Dec.{eqb, leb, ltb}
 use lib.ListN.{length, getElem?}
 use lib.Signed.{mag}
 use borrow.Author.Tests.{eqb-true, leb-true, ltb-true, lt-ltb}
-use Rattle.words.specs.Choice.{if_then_else_}
+use Rattle.logic.specs.Choice.{if_then_else_}
 use Rattle.words.specs.Numbers.{integerOf}
 use Rattle.words.specs.Laws.{integer-fits}
-use Rattle.words.specs.Lists.{among}
+use Rattle.logic.specs.Lists.{among}
 use Rattle.values.specs.Types.{Ty, integer, logical, bits, reference}
 use Rattle.values.specs.Ends.{isCondition, caseIndex}
 use Rattle.values.specs.Operators.{Unary, unary, Binary, binary, opType}
@@ -22,10 +22,11 @@ use Rattle.bytecode.specs.Instructions.{Instr, end, push, load, store, operate,
 use Rattle.bytecode.specs.Instructions.{letHold, assert, stop, exactly, ownerOf, operatorOf, instruction, bodyAt, instrAt, cellTy, fieldTy, known, procedureAt}
 use Rattle.bytecode.specs.Rules.{plain, wrong, effect, giving, taking, operating, pushing, calling, making, endingIn, returning}
 use Rattle.bytecode.specs.Sound.{soundValue}
-use Rattle.bytecode_laws.specs.Tests.{never-some, halves, kept}
+use Rattle.logic.specs.OptionLaws.{never-some, kept}
+use Rattle.logic.specs.Tests.{halves}
+use Rattle.logic.specs.ListLaws.{each-at}
 use Rattle.bytecode_laws.specs.Terms.{Named, OfBytes, Passed, Allowed, Takes, Does, Literal, Finds}
 use Rattle.bytecode_laws.specs.Takes.{takes-first, takes-one}
-use Rattle.bytecode_laws.specs.Bodies.{each-at}
 use Rattle.bytecode_laws.specs.Found.{follows, does}
 
 -- ── the numbers of an instruction ──

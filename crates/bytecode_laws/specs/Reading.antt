@@ -9,16 +9,18 @@ use lib.Dec.{eqb, leb, ltb}
 use lib.ListN.{length, getElem?, drop, length-reverse}
 use lib.Seq.{getD-drop}
 use borrow.Author.Tests.{eqb-true, eqb-false, leb-true, ltb-true, not-true}
-use Rattle.words.specs.Options.{keep, isSome}
-use Rattle.words.specs.Choice.{if_then_else_}
+use Rattle.logic.specs.Options.{keep, isSome}
+use Rattle.logic.specs.Choice.{if_then_else_}
 use Rattle.words.specs.Numbers.{byteAt, halfAt, wordAt}
 use Rattle.words.specs.Laws.{Bytes, two, four, number-below}
 use Rattle.values.specs.Types.{Ty, integer, logical, bits, reference}
 use Rattle.values.specs.Ends.{accepted}
 use Rattle.bytecode.specs.Macro.{Body, Code, shape, Placed, Macro, Cut, cut, marked, tyOfByte, readTypes, readClass, readResult, rises, readBody, readCode, shapeIn}
 use Rattle.bytecode.specs.Macro.{readShape, Parsed, parsed, unread, orUnread, records, onward, headReads, readEnd, parseMacro, readOr8, readMacro}
-use Rattle.bytecode_laws.specs.Tests.{never, never-some, same-some, halves, chosen, kept}
-use Rattle.bytecode_laws.specs.Terms.{Each, Named, ReadClass, ReadBody, ReadShape, RisesFrom, Apart, WellFormed, OfBytes, Narrow}
+use Rattle.logic.specs.Tests.{never, halves}
+use Rattle.logic.specs.OptionLaws.{never-some, same-some, chosen, kept}
+use Rattle.logic.specs.Lists.{Each}
+use Rattle.bytecode_laws.specs.Terms.{Named, ReadClass, ReadBody, ReadShape, RisesFrom, Apart, WellFormed, OfBytes, Narrow}
 
 -- ── lists ──
 each-reverse : {A : Type 0} (P : A → Type 0) (ys zs : List A) → Each P ys → Each P zs → Each P (reverseAux ys zs)

@@ -1,11 +1,9 @@
 -- Operands that fit those asked for, one after the other.
-use mathlib.Core.Path.{_≡_, refl, sym}
+use mathlib.Core.Path.{_≡_}
 use mathlib.Core.Bool.{true}
 use mathlib.Core.List.{List, [], _∷_, _++_}
-use Prim.Native.Nat.{ℕ}
-use native.Mathlib.Omega.{arith}
 use Rattle.values.specs.Types.{Ty, fits, allFit}
-use Rattle.bytecode_laws.specs.Tests.{never, halves}
+use Rattle.logic.specs.Tests.{never, halves}
 use Rattle.bytecode_laws.specs.Terms.{Takes}
 
 -- nothing is asked for

@@ -15,10 +15,7 @@ use Rattle.bytecode.specs.Instructions.{letHold, assert, stop, bodyAt, inBody, 
 use Rattle.bytecode.specs.Rules.{Effect, plain, takes, lets, jumps, forks, leaves, stops, wrong, Flow, on, fork, jump, halt, broken, foundAt, faultAt, onStack}
 use Rattle.bytecode.specs.Machine.{Made}
 use Rattle.bytecode.specs.Sound.{soundValue}
-
-abbrev pub Each : {A : Type 0} → (A → Type 0) → List A → Type 0
-Each P [] = Unit {0}
-Each P (x ∷ xs) = P x × Each P xs
+use Rattle.logic.specs.Lists.{Each}
 
 -- ── a macro that reads ──
 -- a reference is to one of so many classes

@@ -9,7 +9,7 @@ use lib.Dec.{eqb, leb}
 use lib.ListN.{length, length-append}
 use borrow.Author.Tests.{leb-true, eqb-true}
 use Rattle.bytecode.specs.Words.{valueWord}
-use Rattle.words.specs.Lists.{all}
+use Rattle.logic.specs.Lists.{all, Each}
 use Rattle.words.specs.Numbers.{half, word}
 use Rattle.words.specs.Laws.{Bytes}
 use Rattle.values.specs.Ends.{isCondition}
@@ -18,9 +18,8 @@ use Rattle.bytecode.specs.Macro.{Macro}
 use Rattle.bytecode.specs.Machine.{Activation, Made, endBy, Machine, running, unwinding, ended, allHolds}
 use Rattle.bytecode.specs.Sound.{soundGroup, sound}
 use Rattle.bytecode.specs.State.{pad, flat, zeros, wordsOf, typesOf, typeByte, readValue, wordOfCell, byteOfCell, readCell, activationBytes, recordBytes, headerBytes, stateBytes, encode}
-use Rattle.bytecode_laws.specs.Terms.{Each}
-use Rattle.bytecode_laws.specs.Tests.{halves}
-use Rattle.bytecode_layout.specs.Elements.{each-all, each-both, each-map, each-reverse, there}
+use Rattle.logic.specs.Tests.{halves}
+use Rattle.logic.specs.ListLaws.{each-all, each-both, each-map, each-reverse, index-below}
 use Rattle.bytecode_layout.specs.Sized.{Sized, Laid, GoodValue, GoodRecord, GoodActivation, good}
 
 abbrev Small : List ℕ → Type 0
@@ -107,7 +106,7 @@ module _ (m : Macro) (sized : Sized m) where
       let vs = reverse (f .operands) in
       let vw = map valueWord vs in let vt = map typeByte vs in
       let ops = each-reverse (GoodValue n) (f .operands) (g .operands) in (
-        omega (arith, there (m .bodies) (f .body) (g .which) (g .body), sized .few-bodies),
+        omega (arith, index-below (m .bodies) (f .body) (g .which) (g .body), sized .few-bodies),
         (
           omega (arith, g .few-operands),
           (
@@ -133,7 +132,7 @@ module _ (m : Macro) (sized : Sized m) where
   unfolding recordBytes
   small-record r g =
       let n = length (m .classes) in (
-        omega (arith, there (m .classes) (r .class) (g .types) (g .class), sized .few-classes),
+        omega (arith, index-below (m .classes) (r .class) (g .types) (g .class), sized .few-classes),
         (
           omega arith,
           (

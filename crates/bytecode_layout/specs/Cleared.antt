@@ -8,7 +8,7 @@ use native.Mathlib.Omega.{arith}
 use lib.Dec.{eqb}
 use lib.ListN.{length, take, getElem?, length-append}
 use lib.Seq.{sets, sets-eq, take-append-add, take-append-le, drop-append-add, drop-at}
-use Rattle.words.specs.Choice.{if_then_else_}
+use Rattle.logic.specs.Choice.{if_then_else_}
 use Rattle.words.specs.Numbers.{byteAt, halfAt}
 use Rattle.values.specs.Types.{Ty}
 use Rattle.bytecode.specs.Macro.{Macro}

@@ -11,7 +11,7 @@ use lib.ListN.{length, getD, take, drop, replicate, length-append, length-revers
 use lib.Seq.{take-at, drop-at, drop-append-add}
 use borrow.Author.Tests.{leb-true, le-leb, eq-eqb}
 use Rattle.bytecode.specs.Words.{valueWord}
-use Rattle.words.specs.Lists.{all}
+use Rattle.logic.specs.Lists.{all, Each}
 use Rattle.words.specs.Numbers.{byteAt, halfAt, word}
 use Rattle.words.specs.Laws.{two, four, number-of-bytes}
 use Rattle.values.specs.Ends.{isCondition}
@@ -20,11 +20,10 @@ use Rattle.bytecode.specs.Machine.{Activation, Made, Shared, endBy, Machine, ru
 use Rattle.bytecode.specs.Sound.{soundGroup, sound}
 use Rattle.bytecode.specs.State.{pad, flat, zeros, wordsOf, typesOf, typeByte, activationBytes, recordBytes, headerBytes, stateBytes, encode, part, readValue, readCell}
 use Rattle.bytecode.specs.State.{readRow, wordOfCell, byteOfCell, readActivation, readActivations, readRecord, readRecords, readRunning, readUnwinding, decode}
-use Rattle.bytecode_laws.specs.Terms.{Each}
+use Rattle.logic.specs.Tests.{halves}
+use Rattle.logic.specs.ListLaws.{each-reverse}
 use Rattle.bytecode_layout.specs.Rows.{length-pad, pad-fill, flat-append}
 use Rattle.bytecode_layout.specs.Parts.{frameOf, entryOf, frame-is, entry-is, wide-frame, wide-entry, length-words, length-header, length-zeros}
-use Rattle.bytecode_laws.specs.Tests.{halves}
-use Rattle.bytecode_layout.specs.Elements.{each-reverse}
 use Rattle.bytecode_layout.specs.Sized.{Sized, Laid, GoodValue, GoodRecord, GoodActivation, Good, good}
 use Rattle.bytecode_layout.specs.Bytes.{few-holds}
 use Rattle.bytecode_layout.specs.Places.{phase, code, activations, records, holds}

@@ -1,15 +1,13 @@
--- The types found at an address name classes that are there, where those written in the macro do; so Sized asks nothing more of a macro
+-- The types found at an address name classes that are index-below, where those written in the macro do; so Sized asks nothing more of a macro
 -- than what is read of it and the limits of the states found.
 use mathlib.Core.Path.{_≡_, refl}
 use mathlib.Core.Bool.{Bool, true, false}
 use mathlib.Core.List.{List, [], _∷_, _++_}
 use mathlib.Core.Option.{Option, none, some}
 use Prim.Native.Nat.{ℕ, zero, suc, _≤_, _<_}
-use lib.Dec.{ltb}
 use lib.ListN.{length, getElem?}
-use borrow.Author.Tests.{ltb-true}
-use Rattle.words.specs.Options.{keep, orElse}
-use Rattle.words.specs.Choice.{if_then_else_}
+use Rattle.logic.specs.Options.{keep, orElse}
+use Rattle.logic.specs.Choice.{if_then_else_}
 use Rattle.values.specs.Types.{Ty, integer, logical, bits, reference, sames, fits}
 use Rattle.values.specs.Operators.{negate, absolute, complement, plus, minus, times, divide, remainder, less, atMost, greater, atLeast, equal, unequal, both, either}
 use Rattle.values.specs.Operators.{shiftLeft, shiftRight, Operator, unary, binary, anyOne, opType}
@@ -22,20 +20,14 @@ use Rattle.bytecode.specs.Rules.{Effect, plain, takes, lets, jumps, forks, leav
 use Rattle.bytecode.specs.Rules.{flowAt, passed, atFirst, into, foundAt, isFirst, bodyOf, effect, giving, taking, operating, pushing, calling, making, endingIn}
 use Rattle.bytecode.specs.Rules.{returning, sameShape}
 use Rattle.bytecode_laws.specs.Ops.{known-named}
-use Rattle.bytecode_laws.specs.Terms.{Each, Named}
-use Rattle.bytecode_laws.specs.Tests.{never-some, chosen, kept}
-use Rattle.bytecode_layout.specs.Elements.{each-both, there}
-use Rattle.bytecode_layout.specs.Inverse.{same-some}
+use Rattle.logic.specs.OptionLaws.{never-some, chosen, kept, same-some}
+use Rattle.logic.specs.ListLaws.{each-both, index-below, each-at}
+use Rattle.bytecode_laws.specs.Terms.{Named}
 use Rattle.bytecode_layout.specs.Sized.{AllNamed, Sized}
 
 -- a type that is no reference
 abbrev Plain : Ty → Type 0
 Plain t = (n : ℕ) → Named n t
-
-each-at : {A : Type 0} (P : A → Type 0) (xs : List A) (i : ℕ) (x : A) → Each P xs → getElem? xs i ≡ some x → P x
-each-at P [] i x h e = never-some e
-each-at P (y ∷ xs) zero x h e = rw (← same-some e) (h .0)
-each-at P (y ∷ xs) (suc i) x h e = each-at P xs i x (h .1) e
 
 -- ── operators give integers, logicals and bits ──
 asked-plain : (us : List Ty) (g : Ty) → Plain g → (ts : List Ty) (t : Ty) → asks us g ts ≡ some t → Plain t
@@ -137,7 +129,7 @@ module _ (m : Macro) (classes : (c : ℕ) (ts : List Ty) → getElem? (m .classe
     where
       go : (o : Option (List Ty)) → getElem? (m .classes) c ≡ o → Gives m (making o c)
       go none e = tt
-      go (some ts) e = (there (m .classes) c ts e, tt)
+      go (some ts) e = (index-below (m .classes) c ts e, tt)
 
   field-named : (c x : ℕ) (t : Ty) → fieldTy m c x ≡ some t → N t
   field-named c x t e = let k = kept (getElem? (m .classes) c) _ t e in each-at N (k .0) x t (classes c (k .0) (k .1)) (k .2)

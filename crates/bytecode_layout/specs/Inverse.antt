@@ -11,7 +11,7 @@ use lib.ListN.{length, take, drop, getElem?, length-drop}
 use lib.Seq.{take-add, getD-drop}
 use borrow.Author.Tests.{eqb-true, leb-true, ltb-true}
 use Rattle.bytecode.specs.Words.{logWord, valueWord, validWord, wordValue}
-use Rattle.words.specs.Choice.{if_then_else_}
+use Rattle.logic.specs.Choice.{if_then_else_}
 use Rattle.words.specs.Numbers.{byteAt, halfAt, wordAt, word}
 use Rattle.words.specs.Laws.{four, Bytes, number-below, bytes-slice, word-back}
 use Rattle.values.specs.Types.{Ty, integer, logical, bits, reference, tyByte}
@@ -20,10 +20,8 @@ use Rattle.bytecode.specs.Macro.{Body, Macro, tyOfByte}
 use Rattle.bytecode.specs.Instructions.{bodyAt}
 use Rattle.bytecode.specs.Machine.{Activation, Made}
 use Rattle.bytecode.specs.State.{flat, typeByte, readValue, readCell, readRow, wordOfCell, byteOfCell, readActivation, readRecord}
-use Rattle.bytecode_laws.specs.Tests.{halves, chosen, kept}
-
-pub same-some : {A : Type 0} {x y : A} → some x ≡ some y → x ≡ y
-same-some h = cc
+use Rattle.logic.specs.Tests.{halves}
+use Rattle.logic.specs.OptionLaws.{chosen, kept, same-some}
 
 -- ── a value ──
 pub pick : {A : Type 0} (b : Bool) (x y z : A) → (if b then x else y) ≡ z → ((b ≡ true) × (x ≡ z)) ⊎ ((b ≡ false) × (y ≡ z))

@@ -8,15 +8,14 @@ use lib.Dec.{eqb}
 use lib.ListN.{length}
 use lib.Seq.{sets}
 use borrow.Author.Tests.{eqb-true, eq-eqb}
-use Rattle.words.specs.Options.{keep}
+use Rattle.logic.specs.Options.{keep}
 use Rattle.words.specs.Laws.{Bytes, numberAt, bytesOf}
 use Rattle.bytecode.specs.Macro.{Macro}
 use Rattle.bytecode.specs.Machine.{Machine}
 use Rattle.bytecode.specs.Sound.{sound}
 use Rattle.bytecode.specs.State.{stateLength, encode, decode}
 use Rattle.bytecode.specs.Lent.{onlySound, soundState}
-use Rattle.bytecode_laws.specs.Tests.{chosen, kept}
-use Rattle.bytecode_layout.specs.Inverse.{same-some}
+use Rattle.logic.specs.OptionLaws.{chosen, kept, same-some}
 use Rattle.bytecode_layout.specs.Sized.{Sized}
 use Rattle.bytecode_layout.specs.Parts.{Parts, partsBytes, partsOf}
 use Rattle.bytecode_layout.specs.Places.{Place, placeOf, sizeOf, There, get, put}

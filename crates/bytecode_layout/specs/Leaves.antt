@@ -5,7 +5,6 @@ use Prim.Native.Nat.{ℕ, _+_, _*_, _≤_, _<_}
 use native.Mathlib.Omega.{arith}
 use lib.ListN.{length, length-map}
 use lib.Seq.{sets}
-use Rattle.bytecode.specs.Words.{valueWord}
 use Rattle.words.specs.Numbers.{word}
 use Rattle.words.specs.Laws.{one, bytesOf}
 use Rattle.values.specs.Values.{Value, Cell}

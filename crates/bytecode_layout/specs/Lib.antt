@@ -3,7 +3,6 @@ pub mod Focus
 pub mod Parts
 pub mod Blank
 pub mod Places
-pub mod Elements
 pub mod Stores
 pub mod Slots
 pub mod Edits

@@ -16,9 +16,9 @@ use Rattle.bytecode.specs.Machine.{Activation, Made}
 use Rattle.bytecode.specs.State.{flat, zeros, wordsOf, typesOf, typeByte, wordOfCell, byteOfCell, activationBytes, recordBytes, readActivation, readActivations, readRecord, readRecords}
 use Rattle.bytecode_layout.specs.Rows.{length-pad, pad-fill, flat-append}
 use Rattle.bytecode_layout.specs.Parts.{length-words}
-use Rattle.bytecode_laws.specs.Tests.{kept}
+use Rattle.logic.specs.OptionLaws.{kept, same-some}
 use Rattle.bytecode_layout.specs.Decode.{turned, wide-activation, wide-record}
-use Rattle.bytecode_layout.specs.Inverse.{same-some, RowRead, ActivationRead, RecordRead, activation-read, record-read, bytes-drop}
+use Rattle.bytecode_layout.specs.Inverse.{RowRead, ActivationRead, RecordRead, activation-read, record-read, bytes-drop}
 use Rattle.bytecode_layout.specs.Cleared.{Gap, _⋯_, wipes, activationGaps, recordGaps, cellCount, fieldCount, clearActivations, clearRecords, Clears, kept-part}
 use Rattle.bytecode_layout.specs.Cleared.{cleared-from, both-parts, clears-as}
 

@@ -6,12 +6,12 @@ use mathlib.Core.Option.{some}
 use Prim.Native.Nat.{ℕ}
 use lib.Dec.{eqb}
 use lib.ListN.{length}
-use Rattle.words.specs.Choice.{if_then_else_}
+use Rattle.logic.specs.Choice.{if_then_else_}
 use Rattle.bytecode.specs.Macro.{Macro, Shape, Placed, shapeIn}
-use Rattle.bytecode_laws.specs.Terms.{Each, Passed, ReadShape}
+use Rattle.logic.specs.Lists.{Each}
+use Rattle.logic.specs.OptionLaws.{never-some, same-some}
+use Rattle.bytecode_laws.specs.Terms.{Passed, ReadShape}
 use Rattle.bytecode_laws.specs.Promises.{at-place, in-code, cells-at-most-32, limits}
-use Rattle.bytecode_laws.specs.Tests.{never-some}
-use Rattle.bytecode_layout.specs.Inverse.{same-some}
 use Rattle.bytecode_layout.specs.Sized.{Sized, AllNamed}
 use Rattle.bytecode_layout.specs.Found.{sized-by}
 

@@ -7,14 +7,14 @@ use native.Mathlib.Omega.{arith}
 use lib.ListN.{length, getD, getElem?, length-reverse, length-map, List·getD-eq-default}
 use lib.Seq.{getD-at}
 use Rattle.words.specs.Laws.{numberAt}
-use Rattle.values.specs.Values.{Value, Cell}
+use Rattle.values.specs.Values.{Value}
 use Rattle.bytecode.specs.Machine.{Activation, Made, Shared, Machine, running, rootOf}
 use Rattle.bytecode.specs.State.{pad, encode}
 use Rattle.bytecode_layout.specs.Rows.{getD-pad}
 use Rattle.bytecode_layout.specs.Parts.{noFrame, noEntry, partsOf, frameOf, entryOf, groupsOf, encode-parts}
 use Rattle.bytecode_layout.specs.Places.{Place, inFrame, inEntry, InFrame, FrameHas, frameSize, frameOffset, frameGet, framePlace, InEntry, EntryHas, entrySize}
 use Rattle.bytecode_layout.specs.Places.{entryOffset, entryGet, entryPlace, placeOf, sizeOf, There, get, reads}
-use Rattle.bytecode_laws.specs.Tests.{never-some}
+use Rattle.logic.specs.OptionLaws.{never-some}
 use Rattle.bytecode_layout.specs.Slots.{map-turned-at}
 use Rattle.bytecode_layout.specs.Edits.{on}
 use Rattle.bytecode_layout.specs.Records.{entry-there, root-first}

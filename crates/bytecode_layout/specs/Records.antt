@@ -14,8 +14,8 @@ use Rattle.bytecode_layout.specs.Rows.{alter, alter-alter, pad-inner, pa
 use Rattle.bytecode_layout.specs.Parts.{Frame, Entry, noFrame, noEntry, partsOf, frameOf, framesOf, entryOf, entriesOf, groupsOf}
 use Rattle.bytecode_layout.specs.Places.{records, inEntry, class, fieldWord, fieldType, parts}
 use Rattle.bytecode_layout.specs.Stores.{Store, _≔_, stores, turns}
-use Rattle.bytecode_laws.specs.Tests.{never-some}
-use Rattle.bytecode_layout.specs.Elements.{there}
+use Rattle.logic.specs.OptionLaws.{never-some}
+use Rattle.logic.specs.ListLaws.{index-below}
 use Rattle.bytecode_layout.specs.Slots.{field-put, field-next}
 use Rattle.bytecode_layout.specs.Edits.{inside}
 use Rattle.bytecode_layout.specs.Steps.{cellIs}
@@ -45,7 +45,7 @@ map-replaced (r ∷ rs) (suc n) q = ap (λ (l : List Entry). entryOf r ∷ l) (m
 entry-altered : (g : Entry → Entry) (rs : List Made) (n : ℕ) (q q′ : Made) → getElem? rs n ≡ some q → n < 256 → g (entryOf q) ≡ entryOf q′
     → alter noEntry g (entriesOf rs) n ≡ entriesOf (replace rs n q′)
 entry-altered g rs n q q′ e h i =
-    pad-put noEntry 256 g (map entryOf rs) n (rw (length-map rs entryOf) (there rs n q e)) h ∙ rw (entry-there rs n q e, i, map-replaced rs n q′)
+    pad-put noEntry 256 g (map entryOf rs) n (rw (length-map rs entryOf) (index-below rs n q e)) h ∙ rw (entry-there rs n q e, i, map-replaced rs n q′)
 
 entry-next : (g : Entry → Entry) (rs : List Made) (q : Made) → length rs < 256 → g noEntry ≡ entryOf q → alter noEntry g (entriesOf rs) (length rs) ≡ entriesOf (rs ++ (q ∷ []))
 entry-next g rs q h e =

@@ -12,7 +12,7 @@ use mir.Val.{SFits}
 use mir.Syntax.{w32}
 use lib.Signed.{mag}
 use Rattle.bytecode.specs.Words.{valueWord}
-use Rattle.words.specs.Lists.{all}
+use Rattle.logic.specs.Lists.{all, Each}
 use Rattle.words.specs.Laws.{integer-back, word-below}
 use Rattle.values.specs.Types.{Ty, reference, sames}
 use Rattle.values.specs.Values.{Value, int, log, bit, ref, tyOf, tysOf, Cell, assigned, tyOfCell}
@@ -22,11 +22,12 @@ use Rattle.bytecode.specs.Rules.{foundAt, onStack}
 use Rattle.bytecode.specs.Machine.{Activation, Made, Shared, running}
 use Rattle.bytecode.specs.Sound.{soundValue, classIs, typedValues, soundCell, typedCells, ofClass, soundRecord, soundGroup, soundAt, soundActivation, callsBody, parametersOf, soundWaiting, sound}
 use Rattle.bytecode.specs.State.{typeByte, readValue, wordOfCell, byteOfCell, readCell}
-use Rattle.bytecode_laws.specs.Terms.{Each, Named}
-use Rattle.bytecode_laws.specs.Tests.{never, halves, sames→≡}
-use Rattle.bytecode_layout.specs.Elements.{each-all, each-end, there}
+use Rattle.logic.specs.Tests.{never, halves}
+use Rattle.logic.specs.ListLaws.{each-all, each-end, index-below}
+use Rattle.bytecode_laws.specs.Terms.{Named}
+use Rattle.values.specs.Identical.{sames→≡}
 
--- types that name classes that are there
+-- types that name classes that are index-below
 abbrev pub AllNamed : Macro → List Ty → Type 0
 AllNamed m ts = Each (Named (length (m .classes))) ts
 
@@ -75,7 +76,7 @@ module _ (n : ℕ) (few : n ≤ 16) (rs : List Made) (small : length rs ≤ 256)
   good-value (ref c none) t h = record { readable = rw (reference-byte n c t); narrow = omega arith; type = omega arith }
   good-value (ref c (some k)) t h =
       let r = known-class c (getElem? rs k) h in
-      record { readable = rw (reference-byte n c t); narrow = omega (arith, there rs k (r .0) (r .1)); type = omega arith }
+      record { readable = rw (reference-byte n c t); narrow = omega (arith, index-below rs k (r .0) (r .1)); type = omega arith }
 
   good-values : (vs : List Value) → Each (Named n) (tysOf vs) → all (soundValue rs) vs ≡ true → Each (GoodValue n) vs
   unfolding tysOf all

@@ -11,7 +11,7 @@ use lib.Dec.{eqb, leb}
 use lib.ListN.{length, take, drop, getElem?, replicate, length-append, length-take, length-drop, length-map, length-reverse, take-append-drop, drop-of-length-le}
 use lib.Seq.{length-take-le, take-take, drop-drop, drop-cons}
 use borrow.Author.Tests.{eqb-true, leb-true}
-use Rattle.words.specs.Choice.{if_then_else_}
+use Rattle.logic.specs.Choice.{if_then_else_}
 use Rattle.words.specs.Numbers.{byteAt, halfAt}
 use Rattle.words.specs.Laws.{Bytes}
 use Rattle.values.specs.Types.{Ty}
@@ -21,9 +21,10 @@ use Rattle.bytecode.specs.State.{pad, flat, zeros, part, activationBytes, recor
 use Rattle.bytecode_layout.specs.Rows.{pad-fill, flat-append, length-flat}
 use Rattle.bytecode_layout.specs.Parts.{length-zeros, length-header}
 use Rattle.bytecode_layout.specs.Blank.{no-zeros, zeros-join}
-use Rattle.bytecode_laws.specs.Tests.{never-some, halves, chosen, kept}
+use Rattle.logic.specs.OptionLaws.{never-some, chosen, kept, same-some}
+use Rattle.logic.specs.Tests.{halves}
 use Rattle.bytecode_layout.specs.Decode.{turned, turned-holds, flat-written, wide-activation, wide-record}
-use Rattle.bytecode_layout.specs.Inverse.{same-some, pick, bytes-drop}
+use Rattle.bytecode_layout.specs.Inverse.{pick, bytes-drop}
 use Rattle.bytecode_layout.specs.Cleared.{_⋯_, wipes, clearActivations, clearRecords, clearRunning, cleared, Clears, cleared-from}
 use Rattle.bytecode_layout.specs.Normal.{ActivationsRead, RecordsRead, activations-read, records-read, four-bytes}
 

@@ -11,7 +11,7 @@ use Rattle.bytecode.specs.Runs.{Ran, Feed}
 use Rattle.bytecode.specs.Sound.{sound}
 use Rattle.bytecode.specs.State.{encode, decode}
 use Rattle.bytecode.specs.Lent.{RanOn, runOn}
-use Rattle.bytecode_laws.specs.Terms.{Each}
+use Rattle.logic.specs.Lists.{Each}
 
 -- what is fed to a list of runs: any bytes as readings, of any length, and an allowance
 abbrev pub Fed : List Feed → Type 0

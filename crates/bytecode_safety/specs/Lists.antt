@@ -7,12 +7,13 @@ use Prim.Native.Nat.{ℕ, zero, suc, _≤_}
 use native.Mathlib.Omega.{arith}
 use lib.ListN.{length, getElem?}
 use lib.ListN.{set as put}
-use Rattle.words.specs.Lists.{all}
+use Rattle.logic.specs.Lists.{all}
 use Rattle.values.specs.Types.{Ty, integer, logical, bits, reference}
 use Rattle.values.specs.Values.{Value, tyOf, tysOf, Cell, assigned, tyOfCell, initial, freshAll}
 use Rattle.bytecode.specs.Machine.{Made, Stepped, popMany, assignAll}
 use Rattle.bytecode.specs.Sound.{soundValue, soundCell}
-use Rattle.bytecode_laws.specs.Tests.{never-some, same-some, both, halves}
+use Rattle.logic.specs.OptionLaws.{never-some, same-some}
+use Rattle.logic.specs.Tests.{both, halves}
 
 -- ── every element ──
 module _ {A : Type 0} (p : A → Bool) where

@@ -7,8 +7,8 @@ use Prim.Native.Nat.{ℕ, zero, suc, _≤_, _<_}
 use native.Mathlib.Omega.{arith}
 use lib.IntN.{ℤ}
 use lib.ListN.{length, take, length-append, length-reverse}
-use Rattle.words.specs.Lists.{all}
-use Rattle.words.specs.Choice.{if_then_else_}
+use Rattle.logic.specs.Lists.{all}
+use Rattle.logic.specs.Choice.{if_then_else_}
 use Rattle.values.specs.Types.{Ty, integer, logical, reference, fits, allFit}
 use Rattle.values.specs.Values.{Value, ref, tyOf, tysOf, asInteger, asLogical, Reference, asReference}
 use Rattle.bytecode.specs.Macro.{Body, shape, Macro}
@@ -16,7 +16,9 @@ use Rattle.bytecode.specs.Instructions.{call, bodyAt, procedureAt}
 use Rattle.bytecode.specs.Rules.{onStack}
 use Rattle.bytecode.specs.Machine.{Activation, Made, Machine, Stuck, Stepped, badType, demand, pop, given, popMany}
 use Rattle.bytecode.specs.Sound.{soundValue, parametersOf}
-use Rattle.bytecode_laws.specs.Tests.{never, same-some, both, halves, fits→≡}
+use Rattle.logic.specs.Tests.{never, both, halves}
+use Rattle.logic.specs.OptionLaws.{same-some}
+use Rattle.values.specs.Identical.{fits→≡}
 use Rattle.bytecode_laws.specs.Terms.{Passed, Allowed, Takes, Finds}
 use Rattle.bytecode_laws.specs.Takes.{takes-some, takes-first}
 use Rattle.bytecode_laws.specs.Promises.{ops}

@@ -1,6 +1,6 @@
 -- What an operator gives on operands of the types that it asks: a value of its type within 32 bits, or a condition.
 use mathlib.Core.Path.{_≡_, refl, subst}
-use mathlib.Core.Bool.{Bool, true, false, not, _&&_, _||_, Bool·beq}
+use mathlib.Core.Bool.{_||_, _&&_, Bool, true, false, not, Bool·beq}
 use mathlib.Core.List.{List, [], _∷_}
 use mathlib.Core.Logic.{_⊎_, inl, inr}
 use mathlib.Core.Option.{Option, none, some}
@@ -11,9 +11,9 @@ use lib.Dec.{eqb, ltb}
 use lib.IntN.{ℤ, pos, negsuc}
 use lib.Signed.{mag, ltZ, leZ}
 use borrow.Author.Tests.{ltb-true, lt-ltb, eq-eqb}
-use Rattle.words.specs.Lists.{among}
-use Rattle.words.specs.Options.{orElse}
-use Rattle.words.specs.Choice.{if_then_else_}
+use Rattle.logic.specs.Lists.{among}
+use Rattle.logic.specs.Options.{orElse}
+use Rattle.logic.specs.Choice.{if_then_else_}
 use Rattle.values.specs.Types.{Ty, integer, logical, bits, reference, sames}
 use Rattle.values.specs.Ends.{overflow, zeroDivisor}
 use Rattle.values.specs.Operators.{Unary, negate, absolute, complement, Binary, plus, minus, times, divide, remainder, less, atMost, greater, atLeast, equal, unequal}
@@ -23,35 +23,35 @@ use Rattle.values.specs.Arithmetic.{rightBy, shiftedLeft, shiftedRight}
 use Rattle.values.specs.Values.{Value, int, log, bit, ref, tyOf, mapOutcome, arithmetic, ordering, shift, junction, equality, sameInteger, sameRef, apply1, apply2}
 use Rattle.bytecode.specs.Machine.{Made}
 use Rattle.bytecode.specs.Sound.{soundValue}
-use Rattle.bytecode_laws.specs.Tests.{never-some, same-some, sames→≡}
+use Rattle.logic.specs.OptionLaws.{never-some, same-some}
+use Rattle.logic.specs.Tests.{clash}
+use Rattle.values.specs.Identical.{sames→≡}
 use Rattle.bytecode_safety.specs.Terms.{Fine}
 
 -- ── values by their types ──
-no-type : {A : Type 0} → _≡_ {A = ℕ} 0 1 → A
-no-type h = absurd (omega arith)
 
 pub on-integer : (P : Value → Type 0) (v : Value) → tyOf v ≡ integer → ((z : ℤ) → P (int z)) → P v
 on-integer P (int z) h f = f z
-on-integer P (log b) h f = no-type (cc h)
-on-integer P (bit n) h f = no-type (cc h)
-on-integer P (ref c r) h f = no-type (cc h)
+on-integer P (log b) h f = clash (cc h)
+on-integer P (bit n) h f = clash (cc h)
+on-integer P (ref c r) h f = clash (cc h)
 
 pub on-logical : (P : Value → Type 0) (v : Value) → tyOf v ≡ logical → ((b : Bool) → P (log b)) → P v
-on-logical P (int z) h f = no-type (cc h)
+on-logical P (int z) h f = clash (cc h)
 on-logical P (log b) h f = f b
-on-logical P (bit n) h f = no-type (cc h)
-on-logical P (ref c r) h f = no-type (cc h)
+on-logical P (bit n) h f = clash (cc h)
+on-logical P (ref c r) h f = clash (cc h)
 
 pub on-bits : (P : Value → Type 0) (v : Value) → tyOf v ≡ bits → ((n : ℕ) → P (bit n)) → P v
-on-bits P (int z) h f = no-type (cc h)
-on-bits P (log b) h f = no-type (cc h)
+on-bits P (int z) h f = clash (cc h)
+on-bits P (log b) h f = clash (cc h)
 on-bits P (bit n) h f = f n
-on-bits P (ref c r) h f = no-type (cc h)
+on-bits P (ref c r) h f = clash (cc h)
 
 pub on-reference : (P : Value → Type 0) (v : Value) (c : ℕ) → tyOf v ≡ reference c → ((r : Option ℕ) → P (ref c r)) → P v
-on-reference P (int z) c h f = no-type (cc h)
-on-reference P (log b) c h f = no-type (cc h)
-on-reference P (bit n) c h f = no-type (cc h)
+on-reference P (int z) c h f = clash (cc h)
+on-reference P (log b) c h f = clash (cc h)
+on-reference P (bit n) c h f = clash (cc h)
 on-reference P (ref d r) c h f = let e : c ≡ d = cc in subst (λ x. P (ref x r)) e (f r)
 
 -- ── results ──

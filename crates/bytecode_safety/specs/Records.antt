@@ -8,14 +8,14 @@ use native.Mathlib.Omega.{arith}
 use lib.ListN.{length, getElem?}
 use lib.ListN.{set as put}
 use borrow.Author.Tests.{eqb-true, eq-eqb}
-use Rattle.words.specs.Lists.{all}
+use Rattle.logic.specs.Lists.{all}
 use Rattle.values.specs.Types.{Ty, sames}
 use Rattle.values.specs.Values.{Value, int, log, bit, ref, tysOf, Cell, assigned, tyOfCell}
 use Rattle.bytecode.specs.Macro.{Macro}
 use Rattle.bytecode.specs.Instructions.{Owner, own, root, bodyAt, cellsOf}
 use Rattle.bytecode.specs.Machine.{Activation, Made, Shared, allHolds, withCells, rootOf, putLowest, putCells}
 use Rattle.bytecode.specs.Sound.{classIs, soundValue, typedValues, soundCell, ofClass, soundRecord}
-use Rattle.bytecode_laws.specs.Tests.{never, both, halves}
+use Rattle.logic.specs.Tests.{never, both, halves}
 use Rattle.bytecode_safety.specs.Lists.{all-weaker, all-at}
 use Rattle.bytecode_safety.specs.States.{Frame, Waiting, Around}
 

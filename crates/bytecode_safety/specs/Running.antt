@@ -10,8 +10,8 @@ use lib.Dec.{eqb, leb}
 use lib.ListN.{length, getElem?, take}
 use borrow.Author.Tests.{eqb-true, eqb-false, leb-true, le-leb}
 use Rattle.bytecode.specs.Instructions.{cellsOf}
-use Rattle.words.specs.Lists.{all}
-use Rattle.words.specs.Choice.{if_then_else_}
+use Rattle.logic.specs.Lists.{all, Each}
+use Rattle.logic.specs.Choice.{if_then_else_}
 use Rattle.words.specs.Laws.{Bytes}
 use Rattle.values.specs.Ends.{refusal, isCondition}
 use Rattle.values.specs.Values.{tysOf, freshAll}
@@ -21,8 +21,8 @@ use Rattle.bytecode.specs.Machine.{Activation, Shared, After, Machine, running,
 use Rattle.bytecode.specs.Runs.{Answer, happens, spends, finishes, refuses, halts, Ran, with, bankOf, visible, afterStep, steps, run, Feed, runs}
 use Rattle.bytecode.specs.Runs.{ends as endsOr}
 use Rattle.bytecode.specs.Sound.{soundGroup, sound}
-use Rattle.bytecode_laws.specs.Tests.{both, halves}
-use Rattle.bytecode_laws.specs.Terms.{Each, Passed, Allowed}
+use Rattle.logic.specs.Tests.{both, halves, or-right}
+use Rattle.bytecode_laws.specs.Terms.{Passed, Allowed}
 use Rattle.bytecode_laws.specs.Promises.{entry}
 use Rattle.bytecode_safety.specs.Terms.{counted, occurs, isHold, isRelease, holdsOf, releasesOf, openHolds, InRange, Moves, Steps, eventOf, eventsOf, stateAfter, Answers, SafeRun, EachSafe}
 use Rattle.bytecode_safety.specs.Lists.{all-first, all-none, fresh-types, fresh-values}
@@ -36,10 +36,6 @@ ends-by c h = go (eqb c 0) refl h
     go : (b : Bool) → eqb c 0 ≡ b → (b || isCondition c) ≡ true → (c ≡ 0) ⊎ (isCondition c ≡ true)
     go true e h = inl (eqb-true c 0 e)
     go false e h = inr h
-
-or-condition : (b c : Bool) → c ≡ true → (b || c) ≡ true
-or-condition true c h = refl
-or-condition false c h = h
 
 less-one : (b : Bool) (n : ℕ) → 0 + counted b n ≡ counted b 0 + n
 less-one true n = omega arith
@@ -61,7 +57,7 @@ module _ (m : Macro) (w : Passed m) where
       }
   safe-any bank low (unwinding [] (endBy c)) h =
       record {
-        still-sound = or-condition (eqb c 0) (isCondition c)
+        still-sound = or-right (eqb c 0) (isCondition c)
             (halves (isCondition c) (leb 0 512 && all soundGroup []) h .0);
         one-item = omega arith;
         in-range = tt;

@@ -18,7 +18,8 @@ use Rattle.bytecode.specs.Rules.{judgeMacro}
 use Rattle.bytecode.specs.Machine.{Made, Machine, Stepped, moved, stuck, allHolds, freshMachine, step}
 use Rattle.bytecode.specs.Runs.{run, Feed, runs}
 use Rattle.bytecode.specs.Sound.{soundValue, sound}
-use Rattle.bytecode_laws.specs.Terms.{Each, Passed}
+use Rattle.logic.specs.Lists.{Each}
+use Rattle.bytecode_laws.specs.Terms.{Passed}
 use Rattle.bytecode_laws.specs.Promises.{passed}
 use Rattle.bytecode_safety.specs.Terms.{Fine, occurs, openHolds, Moves, Steps, Reaches, at-once, after, stateAfter, SafeRun, Safe}
 use Rattle.bytecode_safety.specs.Operators.{unary-fine, binary-fine}

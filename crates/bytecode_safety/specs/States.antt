@@ -1,6 +1,6 @@
 -- Sound states as facts: what the test of a sound state says, and back.
 use mathlib.Core.Path.{_≡_, refl, ap, ap₂, sym, _∙_, subst}
-use mathlib.Core.Bool.{Bool, true, false}
+use mathlib.Core.Bool.{Bool, true}
 use mathlib.Core.List.{List, [], _∷_, _++_, map}
 use mathlib.Core.Option.{Option, none, some}
 use Prim.Native.Nat.{ℕ, _*_, _≤_}
@@ -8,17 +8,18 @@ use native.Mathlib.Omega.{arith}
 use lib.Dec.{eqb, leb}
 use lib.ListN.{length, getElem?, length-append}
 use borrow.Author.Tests.{eqb-true, eq-eqb, leb-true, le-leb}
-use Rattle.words.specs.Lists.{all}
-use Rattle.words.specs.Options.{keep}
+use Rattle.logic.specs.Lists.{all}
+use Rattle.logic.specs.Options.{keep}
 use Rattle.values.specs.Types.{Ty, sames}
 use Rattle.values.specs.Ends.{isCondition}
 use Rattle.values.specs.Values.{Value, tysOf, Cell, tyOfCell}
 use Rattle.bytecode.specs.Macro.{Body, Code, Shape, shape, Macro}
-use Rattle.bytecode.specs.Instructions.{Instr, call, exactly, instruction, bodyAt, inBody, instrAt, cellsOf}
+use Rattle.bytecode.specs.Instructions.{call, exactly, instruction, bodyAt, inBody, instrAt, cellsOf}
 use Rattle.bytecode.specs.Rules.{foundAt, onStack}
 use Rattle.bytecode.specs.Machine.{Activation, Made, Shared, Here, running, unwinding, endBy, allHolds, at}
 use Rattle.bytecode.specs.Sound.{soundValue, typedValues, soundCell, typedCells, soundRecord, soundGroup, soundAt, soundActivation, callsBody, parametersOf, soundWaiting, sound}
-use Rattle.bytecode_laws.specs.Tests.{never, never-some, both, halves, sames→≡, sames-refl}
+use Rattle.logic.specs.Tests.{never, both, halves}
+use Rattle.values.specs.Identical.{sames→≡, sames-refl}
 use Rattle.bytecode_laws.specs.Terms.{Passed, Allowed}
 use Rattle.bytecode_laws.specs.Promises.{body-exists, limits, call-record}
 use Rattle.bytecode_safety.specs.Lists.{all-append}

@@ -11,9 +11,9 @@ use lib.ListN.{length, length-set, getElem?, take, drop, length-append, take-app
 use lib.ListN.{set as put}
 use lib.Seq.{length-take-le}
 use borrow.Author.Tests.{eq-eqb, le-leb, leb-true, ltb-true, lt-ltb}
-use Rattle.words.specs.Lists.{all, among}
-use Rattle.words.specs.Options.{keep}
-use Rattle.words.specs.Choice.{if_then_else_}
+use Rattle.logic.specs.Lists.{all, among, Each}
+use Rattle.logic.specs.Options.{keep}
+use Rattle.logic.specs.Choice.{if_then_else_}
 use Rattle.values.specs.Types.{Ty, integer, logical, reference, fits, sames, allFit}
 use Rattle.values.specs.Ends.{isCondition, fieldOfNull, assertFalse, outOfRange, tooManyActivations, tooManyRecords}
 use Rattle.values.specs.Operators.{Unary, unary, Binary, binary, opType}
@@ -29,8 +29,10 @@ use Rattle.bytecode.specs.Machine.{withHolds, goesOn, settled, given, cellsFor,
 use Rattle.bytecode.specs.Machine.{activation, entering, doCall, handDown, isEmpty, doReturn, doEnd, withRecords, recording, doMake, onMade, doGetField, fieldPut}
 use Rattle.bytecode.specs.Machine.{doPutField, doSet, doFader, doTakeHold, letting, doAssert, doPush, act, fetch, step}
 use Rattle.bytecode.specs.Sound.{soundValue, soundCell, soundRecord, soundGroup, parametersOf, sound}
-use Rattle.bytecode_laws.specs.Tests.{same-some, halves, sames-refl, same-refl, fits→≡, allFit→≡}
-use Rattle.bytecode_laws.specs.Terms.{Each, ReadBody, Passed, Allowed, Takes, Finds}
+use Rattle.logic.specs.OptionLaws.{same-some}
+use Rattle.logic.specs.Tests.{halves}
+use Rattle.values.specs.Identical.{sames-refl, same-refl, fits→≡, allFit→≡}
+use Rattle.bytecode_laws.specs.Terms.{ReadBody, Passed, Allowed, Takes, Finds}
 use Rattle.bytecode_laws.specs.Takes.{takes-none}
 use Rattle.bytecode_laws.specs.Ops.{named-known}
 use Rattle.bytecode_laws.specs.Promises.{at-place, cells-at-most-32, entry, limits, ops}
@@ -39,7 +41,7 @@ use Rattle.bytecode_safety.specs.Operators.{unary-fine, binary-fine}
 use Rattle.bytecode_safety.specs.Lists.{all-append, all-at, all-put, all-first, all-cons, all-none, all-weaker, tys-length, tys-append, tys-none, tys-at, tys-put}
 use Rattle.bytecode_safety.specs.Lists.{cell-at, cells-put, cells-append, assigned-types, assigned-sound, fresh-types, fresh-values}
 use Rattle.bytecode_safety.specs.States.{Stands, Waits, Waiting, Around, frame-at, around-at, typed, typed-back, running-back, unwinds}
-use Rattle.bytecode_safety.specs.Operands.{OnTop, on-top, Exactly, exactly, take-off, resumes, not-root, empty, demanded, chosen, supplied, topped, an-integer, a-logical, a-reference}
+use Rattle.bytecode_safety.specs.Operands.{OnTop, on-top, exactly, take-off, resumes, not-root, empty, demanded, chosen, supplied, topped, an-integer, a-logical, a-reference}
 use Rattle.bytecode_safety.specs.Records.{ownerBody, keeps-append, keeps-put, last-made, made-at, record-typed, record-sound, keeps-records, around-records}
 use Rattle.bytecode_safety.specs.Records.{root-frame, put-holds, put-stands, around-put}
 

@@ -15,7 +15,7 @@ use Rattle.bytecode.specs.Macro.{Macro}
 use Rattle.bytecode.specs.Machine.{Made, Machine, running, unwinding, ended, Stepped, moved, stuck, allHolds, step}
 use Rattle.bytecode.specs.Runs.{Answer, happens, spends, finishes, refuses, halts, Ran, Feed}
 use Rattle.bytecode.specs.Sound.{soundValue, sound}
-use Rattle.bytecode_laws.specs.Terms.{Each}
+use Rattle.logic.specs.Lists.{Each}
 
 -- ── operators ──
 -- what an operator that gives type t may come to: a value of that type, sound whatever records are made, or a condition

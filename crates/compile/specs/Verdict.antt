@@ -2,11 +2,10 @@
 use mathlib.Core.Path.{_≡_, refl}
 use mathlib.Core.List.{List}
 use Prim.Native.Nat.{ℕ}
-use lib.ListN.{length}
 use Rattle.values.specs.Ends.{refusal, Judged, accepted, refused}
 use Rattle.language.specs.Tree.{Tree}
 use Rattle.language.specs.Judge.{judgeTable, compileOn}
-use Rattle.language_laws.specs.Basics.{clash}
+use Rattle.logic.specs.Tests.{clash}
 use Rattle.table_check.specs.Checked.{checkedOf}
 use Rattle.table_check.specs.declared.Checked.the-variants.{Accepted}
 use Rattle.table_check.specs.declared.Checked.the-variants as checked

@@ -11,7 +11,7 @@ use lib.ListN.{length, length-append, length-map, length-reverse}
 use lib.Seq.{sets}
 use Rattle.values.specs.Types.{tyByte}
 use Rattle.language.specs.Tree.{Tree}
-use Rattle.bytecode_laws.specs.Terms.{Each}
+use Rattle.logic.specs.Lists.{Each}
 use Rattle.bytecode.specs.Macro.{Shape, Placed}
 use Rattle.bytecode.specs.Instructions.{Instr}
 use Rattle.compile_code.specs.Code.{Code, op, _▸_, at, after, Line, line, placed, placedAt}

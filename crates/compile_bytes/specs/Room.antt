@@ -8,7 +8,8 @@ use lib.ListN.{length}
 use Rattle.values.specs.Types.{Ty}
 use Rattle.language.specs.Tree.{Tree}
 use Rattle.bytecode.specs.Macro.{Body, Placed}
-use Rattle.bytecode_laws.specs.Terms.{Each, ReadClass}
+use Rattle.logic.specs.Lists.{Each}
+use Rattle.bytecode_laws.specs.Terms.{ReadClass}
 use Rattle.compile_records.specs.Writing.{Writable, SmallBody, SmallShape}
 use Rattle.compile_code.specs.Code.{Code}
 use Rattle.compile_code.specs.Encode.{parts, linesOf, compiled, macroOf}

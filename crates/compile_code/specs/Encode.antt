@@ -1,22 +1,22 @@
 -- The macro of a tree, and its bytes.
 use mathlib.Core.List.{List, [], _∷_, _++_, map, reverse}
-use mathlib.Core.Option.{Option, none, some}
-use Prim.Native.Nat.{ℕ, zero, suc, _+_}
+use mathlib.Core.Option.{none}
+use Prim.Native.Nat.{ℕ, suc}
 use lib.ListN.{length}
 use Rattle.bytecode.specs.Words.{valueWord}
 use Rattle.words.specs.Numbers.{half, word}
 use Rattle.values.specs.Types.{Ty, tyByte}
 use Rattle.values.specs.Operators.{Operator, unary, binary, unaryCode, binaryCode}
-use Rattle.values.specs.Values.{Value, int, log, bit, ref}
-use Rattle.language.specs.Tree.{Typed, Decl, declare, holding, Stmt, Expr, Items, Global, Tree, locals}
+use Rattle.values.specs.Values.{int, log, bit, ref}
+use Rattle.language.specs.Tree.{Typed, Decl, declare, holding, Global, Tree, locals}
 use Rattle.language.specs.Tree.{Body as TreeBody, proper, function}
 use Rattle.language.specs.Names.{types, procedureOf, rootOf}
 use Rattle.language.specs.Names.{results as resultsOf}
-use Rattle.bytecode.specs.Macro.{Body, Shape, Placed, Macro}
+use Rattle.bytecode.specs.Macro.{Body, Placed, Macro}
 use Rattle.bytecode.specs.Macro.{Code as Record}
 use Rattle.bytecode.specs.Instructions.{Owner, own, root, Instr, end, push, load, store, operate, go, goUnless, call, return, make, getField, putField, setLevel}
 use Rattle.bytecode.specs.Instructions.{readFader, takeHold, letHold, assert, stop}
-use Rattle.compile_code.specs.Code.{Code, nil, op, cell, _▸_, At, at, after, Line, lay, cellsIn, placed}
+use Rattle.compile_code.specs.Code.{Code, op, _▸_, At, at, after, Line, lay, cellsIn, placed}
 use Rattle.compile_code.specs.Compile.{Class, classesOf, Proc, procsOf, Around, inside, outermost, bound, global, labels, codeHead, codeS, codeE, codeItems, tyIn}
 
 -- ── bodies ──

@@ -5,14 +5,14 @@ use mathlib.Core.List.{List, [], _∷_}
 use mathlib.Core.Option.{none}
 use lib.IntN.{pos}
 use Rattle.values.specs.Types.{integer}
-use Rattle.values.specs.Operators.{both, binary}
+use Rattle.values.specs.Operators.{both}
 use Rattle.values.specs.Values.{int, log}
 use Rattle.language.specs.Tree.{typed, declare, holding, block, assign, goto, assert, noItem, label, item, toVariable, truth, number, operate2}
 use Rattle.language.specs.Tree.{Items}
 use Rattle.language.specs.Computes.{languageComputes}
 use Rattle.bytecode.specs.Instructions.{Instr, own, push, store, go, goUnless, takeHold, letHold}
 use Rattle.bytecode.specs.Instructions.{assert as assertOp}
-use Rattle.compile_code.specs.Code.{Code, at, Line, lay}
+use Rattle.compile_code.specs.Code.{at, Line, lay}
 use Rattle.compile_code.specs.Compile.{labels, codeItems}
 use Rattle.compile_code.specs.Computes.{compilingComputes}
 

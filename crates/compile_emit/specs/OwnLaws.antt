@@ -1,18 +1,18 @@
 -- Laws for the proofs of the code: what fits after an instruction or a shape fits before it, and the definitions by their cases.
-use mathlib.Core.Path.{_≡_, refl, ap, sym, _∙_}
+use mathlib.Core.Path.{_≡_, refl, ap, _∙_}
 use mathlib.Core.Bool.{Bool, true, false}
-use mathlib.Core.List.{List, [], _∷_, _++_}
-use Prim.Native.Nat.{ℕ, zero, suc, _+_, _-_, _*_, _%_, _≤_, _<_}
+use mathlib.Core.List.{List, _++_}
+use Prim.Native.Nat.{ℕ, zero, suc, _+_, _-_, _*_, _≤_, _<_}
 use native.Mathlib.Omega.{arith}
 use lib.Dec.{eqb, ltb}
 use lib.ListN.{length, getD, drop, take, set, length-drop}
-use lib.Seq.{sets, drop-drop, length-sets, take-all}
-use native.Mathlib.Nat.{add-zero, sub-zero}
+use lib.Seq.{sets, drop-drop, take-all}
+use native.Mathlib.Nat.{add-zero}
 use native.Mathlib.Numerals.{add-one}
-use borrow.Author.Tests.{eq-eqb, ne-eqb, lt-ltb, le-ltb}
-use Rattle.words.specs.Choice.{if_then_else_}
+use borrow.Author.Tests.{eq-eqb, ne-eqb}
+use Rattle.logic.specs.Choice.{if_then_else_}
 use Rattle.words.specs.Numbers.{halfAt}
-use Rattle.table_scopes.specs.Environment.{Item, item, find, passing, shut, envOf, Grown}
+use Rattle.table_scopes.specs.Environment.{find, passing, shut, envOf, Grown}
 use Rattle.table_scopes.specs.declared.environment.Found.{Found}
 use Rattle.table_scopes.specs.declared.environment.Found.the-variants.{Nothing, Def}
 use Rattle.table_scopes.specs.EnvironmentLaws.{top-item, grown-push, stored, fewer}
@@ -22,8 +22,8 @@ use Rattle.compile_symbols.specs.Meaning.{knownOf, meaningOf}
 use Rattle.compile_nodes.specs.Knows.{holdMark, passedTo}
 use Rattle.compile_output.specs.declared.Pen.{Pen}
 use Rattle.compile_output.specs.Ink.{moved, penShaped, inkOp, inkShape, Fits, length-ink, length-shape}
-use Rattle.compile_output.specs.Folds.{lets, penAfter, inked, later-moved, later-shaped, fits-before, length-inked, Later, later-self, later-trans}
-use Rattle.compile_emit.specs.Owns.{inkInitial, penDeclared, inkDeclared, pensHead, inksHead, finishes, holdsBy, holdsHead, penBetween, inkBetween, penBehind, inkBehind}
+use Rattle.compile_output.specs.Folds.{lets, inked, later-moved, later-shaped, fits-before, length-inked, Later, later-self, later-trans}
+use Rattle.compile_emit.specs.Owns.{inkInitial, penDeclared, inkDeclared, pensHead, inksHead, finishes, holdsBy, holdsHead, penBetween, penBehind}
 use Rattle.compile_scopes.specs.Marks.{marks}
 
 -- ── one record after the other ──

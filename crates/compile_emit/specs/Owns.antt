@@ -1,15 +1,12 @@
 -- What entries add themselves to the code of their operands, near the code: their instructions and shapes, and the types of their results.
-use mathlib.Core.Path.{_≡_, refl, ap, sym, _∙_}
 use mathlib.Core.Bool.{Bool, true, false}
-use mathlib.Core.List.{List, [], _∷_, _++_}
-use Prim.Native.Nat.{ℕ, zero, suc, _+_, _-_, _*_, _%_, _≤_, _<_}
-use native.Mathlib.Omega.{arith}
+use mathlib.Core.List.{List, [], _∷_}
+use Prim.Native.Nat.{ℕ, zero, suc, _+_, _-_, _%_}
 use lib.Dec.{eqb, ltb}
-use lib.ListN.{length, getD, drop, take, set}
-use lib.Seq.{sets}
-use Rattle.words.specs.Choice.{if_then_else_}
+use lib.ListN.{getD, drop, take}
+use Rattle.logic.specs.Choice.{if_then_else_}
 use Rattle.words.specs.Numbers.{halfAt}
-use Rattle.table_scopes.specs.Environment.{Item, item, envOf}
+use Rattle.table_scopes.specs.Environment.{Item}
 use Rattle.compile_symbols.specs.Numbers.{typeIn, firstIn, secondIn}
 use Rattle.compile_symbols.specs.Meaning.{meaningOf}
 use Rattle.compile_output.specs.declared.Pen.{Pen}

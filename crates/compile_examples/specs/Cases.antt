@@ -1,10 +1,10 @@
 -- What a random program of the second evaluator claims of the compiler: compiled by macroOf it passes judgeMacro, and the plain machine, with the readings
 -- that the tree was given, gives the tree's items and its end. `tests/definitions` makes lists of such cases from a seed.
-use mathlib.Core.Bool.{Bool, true, false, _&&_, _||_}
+use mathlib.Core.Bool.{Bool, false, _&&_, _||_}
 use mathlib.Core.List.{List, [], _∷_, _++_, reverse}
 use Prim.Native.Nat.{ℕ, zero, suc}
 use lib.Dec.{eqb}
-use Rattle.words.specs.Choice.{if_then_else_}
+use Rattle.logic.specs.Choice.{if_then_else_}
 use Rattle.values.specs.Ends.{Judged, accepted, refused}
 use Rattle.values.specs.Trace.{Item, event, reading}
 use Rattle.language.specs.Tree.{Tree}

@@ -1,6 +1,6 @@
 -- Tables compiled by macroOf, judged and run by evaluation: the listing example of paper 01 comes to its four lines, and a larger one loads.
 use mathlib.Core.Path.{_≡_, refl}
-use mathlib.Core.List.{List, [], _∷_, _++_}
+use mathlib.Core.List.{List, [], _∷_}
 use Prim.Native.Nat.{ℕ}
 use Rattle.language.specs.Program.{tableBytes}
 use Rattle.values.specs.Ends.{Judged, accepted, refused}

@@ -11,7 +11,7 @@ use Rattle.language.specs.Program.{flatTyped, flatDecl, resultCode, flatBody, f
 use Rattle.words.specs.Numbers.{halfAt}
 use Rattle.language.specs.Tree.{Typed, declare, holding, Global, local, class, procedure, Tree, locals}
 use Rattle.language.specs.Table.{Entry, entry, inLayout}
-use Rattle.language_laws.specs.Basics.{both-left, both-right}
+use Rattle.logic.specs.Tests.{both-left, both-right}
 use Rattle.table_scopes.specs.Stands.{entryAt}
 use Rattle.table_scopes.specs.Trees.{Heads}
 use Rattle.values.specs.Types.{tyByte}

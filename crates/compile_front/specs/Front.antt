@@ -5,14 +5,14 @@ use Prim.Native.Nat.{ℕ, _+_, _/_, _%_, _≤_, _<_}
 use lib.Dec.{eqb}
 use lib.ListN.{length, drop, getD}
 use Rattle.language.specs.Program.{flatDecl, flatItems, flatGlobal, flatHead, flatten}
-use Rattle.words.specs.Choice.{if_then_else_}
+use Rattle.logic.specs.Choice.{if_then_else_}
 use Rattle.words.specs.Numbers.{half, wordOf}
 use Rattle.language.specs.Tree.{Global, local, class, procedure, Tree, locals}
 use Rattle.language.specs.Table.{Entry}
 use Rattle.bytecode.specs.Macro.{Body}
 use Rattle.language_laws.specs.Claims.{entriesOf}
 use Rattle.table_scopes.specs.Stands.{entryAt}
-use Rattle.bytecode_laws.specs.Terms.{Each}
+use Rattle.logic.specs.Lists.{Each}
 use Rattle.compile_code.specs.Code.{at, after}
 use Rattle.compile_code.specs.Compile.{classesOf, classNames, procsOf}
 use Rattle.compile_code.specs.Encode.{codeRoot, codeProc, procParts, headsOf, fieldTypes, compiled, classBytes, bodyBytes, each}

@@ -7,7 +7,7 @@ use native.Mathlib.Omega.{arith}
 use lib.Dec.{eqb}
 use lib.IntN.{natAbs}
 use lib.ListN.{length}
-use Rattle.words.specs.Choice.{if_then_else_}
+use Rattle.logic.specs.Choice.{if_then_else_}
 use Rattle.language.specs.Table.{Entry}
 use Rattle.compile_symbols.specs.Numbers.{byteOf, cellsWithin}
 

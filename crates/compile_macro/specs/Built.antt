@@ -9,7 +9,7 @@ use lib.Dec.{eqb, leb}
 use lib.ListN.{length, getElem?, drop, length-append}
 use borrow.Author.Tests.{le-ltb, leb-true, eqb-true, eqb-false, eq-eqb, ne-eqb}
 use Rattle.language.specs.Program.{flatDecl, flatItems, flatBody, total as sumOf}
-use Rattle.words.specs.Choice.{if_then_else_}
+use Rattle.logic.specs.Choice.{if_then_else_}
 use Rattle.words.specs.Laws.{Bytes}
 use Rattle.values.specs.Types.{Ty, sames}
 use Rattle.values.specs.Ends.{accepted}
@@ -24,9 +24,11 @@ use Rattle.bytecode.specs.Macro.{Body, Shape, Placed}
 use Rattle.bytecode.specs.Instructions.{Owner, own, root, return, bodyAt, procedureAt, cellTy, cellsOf}
 use Rattle.bytecode.specs.Machine.{fetch}
 use Rattle.bytecode.specs.Rules.{atFirst, headFault, bodyFault, roomy, faultAt, judgeMacro}
-use Rattle.bytecode_laws.specs.Terms.{Each, Named, ReadClass, ReadBody, ReadShape, WellFormed, OfBytes, Narrow, Passed}
-use Rattle.bytecode_laws.specs.Bodies.{each-at}
-use Rattle.bytecode_laws.specs.Tests.{never-some, same-some, halves, kept}
+use Rattle.logic.specs.Lists.{Each}
+use Rattle.logic.specs.ListLaws.{each-at}
+use Rattle.logic.specs.OptionLaws.{never-some, same-some, kept}
+use Rattle.logic.specs.Tests.{halves}
+use Rattle.bytecode_laws.specs.Terms.{Named, ReadClass, ReadBody, ReadShape, WellFormed, OfBytes, Narrow, Passed}
 use Rattle.compile_code.specs.Code.{Code, nil, op, mark, cell, _▸_, At, at, after, cellsIn, placed}
 use Rattle.compile_code.specs.Compile.{Around, inside, global, labels, heldIn, codeItems, tyIn, Proc, procsOf, classesOf, indexOf, procNames, classNames, bodyNumber}
 use Rattle.compile_code.specs.Encode.{Part, rootPart, procPart, procParts, parts, linesOf, headsOf, recordOf, recordsOf, fieldTypes, compiled, macroOf, codeRoot}

@@ -8,7 +8,7 @@ use native.Mathlib.Omega.{arith}
 use lib.Dec.{ltb}
 use lib.ListN.{length, getElem?, drop}
 use borrow.Author.Tests.{ltb-true}
-use Rattle.words.specs.Choice.{if_then_else_}
+use Rattle.logic.specs.Choice.{if_then_else_}
 use Rattle.values.specs.Types.{Ty, integer, logical, bits, reference}
 use Rattle.values.specs.Operators.{Binary}
 use Rattle.values.specs.Values.{initial}
@@ -22,7 +22,8 @@ use Rattle.language.specs.Limits.{headCells, cellsS, cellsItems, cellsArms, cel
 use Rattle.bytecode.specs.Macro.{Body, shape, Macro}
 use Rattle.bytecode.specs.Instructions.{push, go, bodyAt, cellsOf}
 use Rattle.bytecode.specs.Rules.{plain, wrong, effect}
-use Rattle.bytecode_laws.specs.Terms.{Each, Named}
+use Rattle.logic.specs.Lists.{Each}
+use Rattle.bytecode_laws.specs.Terms.{Named}
 use Rattle.compile_code.specs.Code.{Code, nil, op, mark, cell, _▸_, At, at, skip, after, cellsIn}
 use Rattle.compile_code.specs.Compile.{Around, inside, outermost, bound, global, held, labels, scopesOf, passing, theLabels, hasLabel, labelAt, Way, plainly, marked}
 use Rattle.compile_code.specs.Compile.{ifTrue, ifFalse, wayOf, codeWay, codeGoto, codeHead, codeS, codeItems, codeArms, codeTarget, codeE, codeEs, opsArms, tyTarget, tyE}

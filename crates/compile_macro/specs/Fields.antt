@@ -13,7 +13,7 @@ use mir.Val.{SFits}
 use borrow.Author.Tests.{ltb-true}
 use Rattle.values.specs.Arithmetic.{isZero}
 use Rattle.language.specs.Program.{flatDecl, flatS, flatItems, flatArms, flatTarget, flatE, flatEs, inFields}
-use Rattle.words.specs.Choice.{if_then_else_}
+use Rattle.logic.specs.Choice.{if_then_else_}
 use Rattle.words.specs.Laws.{integer-back, word-below}
 use Rattle.values.specs.Types.{Ty, integer, logical, bits, reference}
 use Rattle.values.specs.Operators.{Binary}
@@ -27,8 +27,8 @@ use Rattle.language.specs.Table.{Entry, entry, inLayout}
 use Rattle.values.specs.Ends.{caseIndex}
 use Rattle.bytecode.specs.Instructions.{Instr, end, push, load, store, operate, go, goUnless, return, getField, putField, readFader, takeHold, letHold, stop}
 use Rattle.bytecode.specs.Instructions.{call as callOp, make as makeOp, setLevel as setOp, assert as assertOp}
-use Rattle.bytecode_laws.specs.Terms.{Each}
-use Rattle.bytecode_laws.specs.Tests.{halves}
+use Rattle.logic.specs.Lists.{Each}
+use Rattle.logic.specs.Tests.{halves}
 use Rattle.compile_code.specs.Code.{Code, nil, op, mark, cell, _▸_, At, skip, after}
 use Rattle.compile_code.specs.Compile.{Around, inside, outermost, bound, global, held, labels, scopesOf, passing, theLabels, hasLabel, labelAt, kept, loading, storing}
 use Rattle.compile_code.specs.Compile.{Way, plainly, marked, ifTrue, ifFalse, wayOf, codeWay, codeGoto, codeHead, codeS, codeItems, codeArms, codeTarget, codeE, codeEs}

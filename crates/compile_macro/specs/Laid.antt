@@ -12,9 +12,10 @@ use Rattle.bytecode.specs.Macro.{Body, Shape, Macro, shapeIn}
 use Rattle.bytecode.specs.Instructions.{Instr, bodyAt, endOf, inBody}
 use Rattle.bytecode.specs.Machine.{fetch}
 use Rattle.bytecode.specs.Rules.{bodyOf, isFirst, bodyFault, into, atFirst, faultAt}
-use Rattle.bytecode_laws.specs.Terms.{Each, RisesFrom, WellFormed}
+use Rattle.logic.specs.Lists.{Each}
+use Rattle.logic.specs.OptionLaws.{never-some, same-some}
+use Rattle.bytecode_laws.specs.Terms.{RisesFrom, WellFormed}
 use Rattle.bytecode_laws.specs.Bodies.{within, bounds, body-is, no-first, inside-body, at-first}
-use Rattle.bytecode_laws.specs.Tests.{never-some, same-some}
 use Rattle.compile_code.specs.Code.{Code, nil, op, mark, cell, _▸_, At, after, Line, line, first, lay, placed}
 use Rattle.compile_code.specs.Encode.{Part, linesOf, headsOf, recordsOf}
 use Rattle.compile_simulation.specs.Meets.{Setting}

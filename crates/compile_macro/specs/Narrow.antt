@@ -8,8 +8,8 @@ use native.Mathlib.Omega.{arith}
 use lib.Dec.{ltb}
 use lib.ListN.{length, getElem?}
 use borrow.Author.Tests.{leb-true, ltb-true}
-use Rattle.words.specs.Options.{keep}
-use Rattle.words.specs.Choice.{if_then_else_}
+use Rattle.logic.specs.Options.{keep}
+use Rattle.logic.specs.Choice.{if_then_else_}
 use Rattle.words.specs.Laws.{word-below}
 use Rattle.values.specs.Types.{Ty, logical, reference}
 use Rattle.values.specs.Operators.{Operator, unary, binary, negate, absolute, complement, plus, minus, times, divide, remainder, less, atMost, greater, atLeast, equal}
@@ -20,12 +20,14 @@ use Rattle.bytecode.specs.Instructions.{Owner, own, root, Instr, end, push, loa
 use Rattle.bytecode.specs.Instructions.{stop, bodyAt, inBody, procedureAt, cellTy, cellsOf, fieldTy}
 use Rattle.bytecode.specs.Instructions.{call as callOp, make as makeOp, setLevel as setOp, assert as assertOp}
 use Rattle.bytecode.specs.Rules.{plain, wrong, fork, strip, stripped, flow, effect, giving, taking, calling, making, roomy, equalShape}
-use Rattle.bytecode_laws.specs.Terms.{Each, Apart, OfBytes, WellFormed, ReadClass}
-use Rattle.bytecode_laws.specs.Bodies.{inside-code, each-at}
-use Rattle.bytecode_laws.specs.Tests.{never-some, halves}
+use Rattle.logic.specs.Lists.{Each}
+use Rattle.logic.specs.ListLaws.{each-at, index-below}
+use Rattle.logic.specs.OptionLaws.{never-some}
+use Rattle.logic.specs.Tests.{halves}
+use Rattle.bytecode_laws.specs.Terms.{Apart, OfBytes, WellFormed, ReadClass}
+use Rattle.bytecode_laws.specs.Bodies.{inside-code}
 use Rattle.compile_code.specs.Code.{Code, nil, op, mark, cell, _▸_, At, after, Line, first, lay, placed, placedAt}
 use Rattle.compile_code.specs.Encode.{recordOf, recordsOf, operatorCode}
-use Rattle.compile_rules.specs.Lines.{index-below}
 use Rattle.compile_rules.specs.Flows.{Goes, Comes, Seg, Marks}
 use Rattle.compile_rules.specs.Faultless.{Aimed}
 use Rattle.compile_macro.specs.Laid.{Ops}

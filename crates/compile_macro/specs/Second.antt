@@ -1,14 +1,13 @@
 -- Demand 2 for a macro that passes the loading check: tree and machine end alike and go on alike.
-use mathlib.Core.Bool.{Bool, true, false}
-use mathlib.Core.Path.{_≡_, refl, ap, sym, _∙_, subst}
+use mathlib.Core.Bool.{true, false}
+use mathlib.Core.Path.{_≡_, sym, _∙_, subst}
 use mathlib.Core.List.{List, [], reverse}
-use mathlib.Core.Option.{some}
 use Prim.Native.Nat.{ℕ, zero, suc, _<_}
 use native.Mathlib.Omega.{arith}
 use Rattle.values.specs.Trace.{Item}
 use Rattle.language.specs.Tree.{Tree}
-use Rattle.language.specs.Execute.{Ran, finished, going, illFormed, execute}
-use Rattle.bytecode.specs.Machine.{Machine, freshMachine, step}
+use Rattle.language.specs.Execute.{finished, going, illFormed, execute}
+use Rattle.bytecode.specs.Machine.{freshMachine}
 use Rattle.bytecode.specs.Machine.{ended as stopped}
 use Rattle.bytecode.specs.Sound.{sound}
 use Rattle.bytecode_laws.specs.Terms.{Passed}

@@ -5,8 +5,8 @@ use mathlib.Core.List.{List, [], _∷_}
 use mathlib.Core.Option.{none, some}
 use Prim.Native.Nat.{ℕ, suc}
 use lib.ListN.{length}
-use Rattle.words.specs.Options.{orElse}
-use Rattle.words.specs.Choice.{if_then_else_}
+use Rattle.logic.specs.Options.{orElse}
+use Rattle.logic.specs.Choice.{if_then_else_}
 use Rattle.values.specs.Types.{Ty, integer, logical, bits, reference, sames}
 use Rattle.values.specs.Operators.{Operator, unary, binary, negate, absolute, complement, plus, minus, times, divide, remainder, less, atMost, greater, atLeast, equal}
 use Rattle.values.specs.Operators.{unequal, both, either, shiftLeft, shiftRight, Binary, takes, logicalOrBits, anyOne, opType}
@@ -17,13 +17,14 @@ use Rattle.language.specs.Names.{blockOf, expressionOf}
 use Rattle.language.specs.Faults.{typeE, isTy}
 use Rattle.bytecode.specs.Macro.{Body, Shape, shape, Macro}
 use Rattle.bytecode.specs.Instructions.{Owner, go, cellTy, fieldTy, procedureAt}
-use Rattle.bytecode_laws.specs.Terms.{Each, Named}
-use Rattle.bytecode_laws.specs.Tests.{never-some, same-some}
+use Rattle.logic.specs.Lists.{Each}
+use Rattle.logic.specs.OptionLaws.{never-some, same-some}
+use Rattle.logic.specs.ListLaws.{index-below}
+use Rattle.bytecode_laws.specs.Terms.{Named}
 use Rattle.compile_code.specs.Code.{Code, op, cell, _▸_, At, at, skip, after}
 use Rattle.compile_code.specs.Compile.{Around, inside, outermost, bound, global, held, labels, scopesOf, passing, theLabels, hasLabel, labelAt, Way, plainly, marked}
 use Rattle.compile_code.specs.Compile.{ifTrue, ifFalse, wayOf, codeWay, codeGoto, codeHead, codeS, codeItems, codeArms, codeTarget, codeE, codeEs, tyTarget, tyE}
 use Rattle.compile_code.specs.Compile.{classNumber, fieldNumber, bodyNumber}
-use Rattle.compile_rules.specs.Lines.{index-below}
 use Rattle.compile_rules.specs.Flows.{Marks}
 use Rattle.compile_rules.specs.Pass.{Celled, okHead, okS, okItems, okArms, okTarget, okE, okEs, WayOk, tysE}
 use Rattle.compile_macro.specs.Cells.{Known, of-initial}

@@ -5,13 +5,13 @@ use mathlib.Core.List.{List, [], _∷_, _++_}
 use Prim.Native.Nat.{ℕ}
 use native.Mathlib.Omega.{arith}
 use lib.Dec.{eqb}
-use Rattle.words.specs.Choice.{if_then_else_}
+use Rattle.logic.specs.Choice.{if_then_else_}
 use Rattle.values.specs.Types.{Ty}
 use Rattle.language.specs.Tree.{Typed, declare, holding, Global, local, class, procedure, Tree, locals}
 use Rattle.language.specs.Names.{Sort, isVariable, isLabel, isClass, isField, isProcedure, Definition, types, results, definesHead, definesFields, definesGlobals}
 use Rattle.language.specs.Names.{procedureOf, rootOf, Found, nowhere, found, firstOf, otherwise, across, lookup, definesTyped, definesItems}
 use Rattle.bytecode.specs.Instructions.{Owner}
-use Rattle.bytecode_laws.specs.Tests.{never}
+use Rattle.logic.specs.Tests.{never}
 use Rattle.compile_code.specs.Compile.{Around, inside, labels, scopesOf, hasLabel}
 use Rattle.compile_code.specs.Compile.{cellOf as keptOf}
 use Rattle.compile_code.specs.Encode.{parameterCells, startOfRoot}

@@ -8,7 +8,7 @@ use native.Mathlib.Omega.{arith}
 use lib.Dec.{ltb}
 use lib.ListN.{length, getElem?, take}
 use borrow.Author.Tests.{lt-ltb}
-use Rattle.words.specs.Options.{keep}
+use Rattle.logic.specs.Options.{keep}
 use Rattle.values.specs.Types.{Ty, integer, logical, bits, reference}
 use Rattle.values.specs.Operators.{Binary, unary, binary, opType}
 use Rattle.values.specs.Values.{ref, initial}
@@ -25,7 +25,7 @@ use Rattle.compile_code.specs.Compile.{Around, inside, bound, held, labels, sco
 use Rattle.compile_code.specs.Compile.{fieldNumber, orInteger, wayOf, tyIn, tyE}
 use Rattle.compile_code.specs.Compile.{cellOf as keptOf}
 use Rattle.compile_code.specs.Encode.{fieldTypes}
-use Rattle.compile_rules.specs.Lines.{index-below}
+use Rattle.logic.specs.ListLaws.{index-below}
 use Rattle.compile_rules.specs.Pass.{tysE, okHead, WayOk, okS, okItems, okArms, okTarget, okE, okEs}
 use Rattle.language_laws.specs.Tests.{is-ty}
 use Rattle.compile_names.specs.Good.{ClassAt, IsA, goodTy, goodHead, HasTy, goodS, goodItems, goodArms, goodTarget, goodE, goodEs}

@@ -8,8 +8,8 @@ use native.Mathlib.Omega.{arith}
 use lib.Dec.{eqb}
 use lib.ListN.{length, getElem?}
 use borrow.Author.Tests.{eqb-true, eq-eqb}
-use Rattle.words.specs.Lists.{among}
-use Rattle.words.specs.Choice.{if_then_else_}
+use Rattle.logic.specs.Lists.{among}
+use Rattle.logic.specs.Choice.{if_then_else_}
 use Rattle.values.specs.Types.{Ty}
 use Rattle.values.specs.Ends.{Refusal}
 use Rattle.language.specs.Tree.{Typed, Decl, declare, holding, Items, Body, proper, function, Global, local, class, procedure, Tree, locals}
@@ -17,7 +17,7 @@ use Rattle.language.specs.Names.{Sort, isVariable, isLabel, isClass, isField, i
 use Rattle.language.specs.Names.{definesGlobals, Scope, blockOf, expressionOf, procedureOf, rootOf, Found, nowhere, found, firstOf, otherwise, across, lookup}
 use Rattle.language.specs.Faults.{typeE, mistypedUnless, twice, faultsTyped, namesHead, namesTyped, namesGlobal, bodyFits, faultsBody, faultsGlobal, faultsGlobals, faultsItems, faults, sizeGlobal}
 use Rattle.language.specs.Execute.{Procedure, procedureIn, classIn}
-use Rattle.bytecode_laws.specs.Tests.{never, neither}
+use Rattle.logic.specs.Tests.{neither, eqb-comm}
 use Rattle.compile_code.specs.Compile.{indexOf, amongNames, namesOf, Class, classesOf, classNames, Proc, procsOf, procNames, fieldIn}
 use Rattle.language_laws.specs.Tests.{fault-if, told}
 use Rattle.language_laws.specs.Typing.{typed-E, formed-S, formed-items}
@@ -129,14 +129,6 @@ globals-procedure gs xs ss k a s w g h = pick (firstOf a (definesTyped xs)) refl
     pick (found u v) e n q = let z : NoGlobal (found s w) = subst NoGlobal q n in absurd (z g)
 
 -- ── found in the root's head ──
-pub eqb-comm : (a b : ℕ) → eqb a b ≡ eqb b a
-eqb-comm a b = pick (eqb a b) refl (eqb b a) refl
-  where
-    pick : (x : Bool) → eqb a b ≡ x → (y : Bool) → eqb b a ≡ y → x ≡ y
-    pick true e true f = refl
-    pick true e false f = never (sym f ∙ eq-eqb b a (sym (eqb-true a b e)))
-    pick false e true f = never (sym e ∙ eq-eqb a b (sym (eqb-true b a f)))
-    pick false e false f = refl
 
 abbrev IsField : ℕ → Found → Type 0
 IsField c nowhere = Unit {0}

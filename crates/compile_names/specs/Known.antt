@@ -1,5 +1,5 @@
 -- A variable that the lookup of the definitions finds has a cell in what lies around, of which P holds: kept by entering a block.
-use mathlib.Core.Bool.{Bool, true, false, _||_}
+use mathlib.Core.Bool.{Bool, true, false}
 use mathlib.Core.Path.{_≡_, refl, ap, sym, _∙_, subst}
 use mathlib.Core.List.{List, [], _∷_, _++_}
 use mathlib.Core.Option.{Option, some}
@@ -7,14 +7,14 @@ use Prim.Native.Nat.{ℕ, suc}
 use native.Mathlib.Omega.{arith}
 use lib.Dec.{eqb}
 use borrow.Author.Tests.{eqb-true, eq-eqb}
-use Rattle.words.specs.Lists.{among}
-use Rattle.words.specs.Choice.{if_then_else_}
+use Rattle.logic.specs.Lists.{among}
+use Rattle.logic.specs.Choice.{if_then_else_}
 use Rattle.values.specs.Types.{Ty}
 use Rattle.language.specs.Tree.{Typed, Decl, declare, holding, Items, noItem, label, item}
 use Rattle.language.specs.Names.{Sort, isVariable, isLabel, isClass, isField, isProcedure, Definition, definesTyped, definesHead, definesItems, Scope, blockOf}
 use Rattle.language.specs.Names.{expressionOf, procedureOf, Found, nowhere, found, firstOf, otherwise, across, lookup}
 use Rattle.bytecode.specs.Instructions.{Owner, own, root}
-use Rattle.bytecode_laws.specs.Tests.{never}
+use Rattle.logic.specs.Tests.{never, or-left, or-right}
 use Rattle.compile_code.specs.Compile.{Around, inside, bound, global, held, labels, scopesOf, boundAt, globalAt, kept, orCell}
 use Rattle.compile_code.specs.Compile.{Cell as Kept, cellOf as keptOf}
 use Rattle.compile_code.specs.Encode.{parameterCells}
@@ -94,13 +94,6 @@ ofShared =
     }
 
 -- ── names of a head stand in it once ──
-pub or-left : (a b : Bool) → a ≡ true → (a || b) ≡ true
-or-left true b h = refl
-or-left false b h = never h
-
-pub or-right : (a b : Bool) → b ≡ true → (a || b) ≡ true
-or-right true b h = refl
-or-right false b h = h
 
 pub not-again : (a : ℕ) (ss : List Scope) (seen : List ℕ) (ds : List Decl) → goodHead ss seen ds → among a seen ≡ true → firstOf a (definesHead ds) ≡ nowhere
 unfolding goodHead definesHead firstOf among

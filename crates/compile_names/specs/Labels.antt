@@ -6,7 +6,7 @@ use Prim.Native.Nat.{ℕ}
 use native.Mathlib.Omega.{arith}
 use lib.Dec.{eqb}
 use borrow.Author.Tests.{eqb-true, eq-eqb}
-use Rattle.words.specs.Choice.{if_then_else_}
+use Rattle.logic.specs.Choice.{if_then_else_}
 use Rattle.language.specs.Tree.{Decl, declare, holding, Items, noItem, label, item}
 use Rattle.language.specs.Names.{Sort, isVariable, isLabel, definesHead, definesItems, blockOf, expressionOf, Found, nowhere, found, firstOf, otherwise, across, lookup}
 use Rattle.compile_code.specs.Compile.{Around, inside, bound, held, labels, scopesOf, hasLabel}

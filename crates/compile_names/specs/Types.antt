@@ -5,12 +5,12 @@ use mathlib.Core.List.{List, [], _∷_, map}
 use mathlib.Core.Option.{Option, none, some}
 use Prim.Native.Nat.{ℕ}
 use native.Mathlib.Omega.{arith}
-use Rattle.words.specs.Options.{orElse}
-use Rattle.words.specs.Choice.{if_then_else_}
+use Rattle.logic.specs.Options.{orElse}
+use Rattle.logic.specs.Choice.{if_then_else_}
 use Rattle.values.specs.Types.{Ty, integer, logical, bits, reference, sames}
 use Rattle.values.specs.Operators.{unary, binary, Unary, negate, absolute, complement, Binary, plus, minus, times, divide, remainder, less, atMost, greater, atLeast}
 use Rattle.values.specs.Operators.{equal, unequal, both, either, shiftLeft, shiftRight, takes, logicalOrBits, anyOne, opType}
-use Rattle.bytecode_laws.specs.Tests.{sames→≡, sames-refl}
+use Rattle.values.specs.Identical.{sames→≡, sames-refl}
 use Rattle.bytecode.specs.Macro.{Macro}
 use Rattle.language.specs.Tree.{Global}
 use Rattle.compile_code.specs.Compile.{tyIn, wayOf}

@@ -1,14 +1,14 @@
 -- What the names in sight stand for: the items of the lent stack beside what lies around a part in the definition of its code.
 use mathlib.Core.Path.{_≡_}
-use mathlib.Core.Bool.{Bool, true, false}
+use mathlib.Core.Bool.{Bool, false}
 use mathlib.Core.List.{List, [], _∷_, _++_}
-use mathlib.Core.Option.{Option, none, some}
-use Prim.Native.Nat.{ℕ, zero, suc, _+_, _*_, _<_}
+use mathlib.Core.Option.{some}
+use Prim.Native.Nat.{ℕ, suc, _+_, _<_}
 use lib.Dec.{eqb}
-use lib.ListN.{length, getD, drop}
-use Rattle.words.specs.Choice.{if_then_else_}
+use lib.ListN.{getD, drop}
+use Rattle.logic.specs.Choice.{if_then_else_}
 use Rattle.values.specs.Types.{Ty, tyByte}
-use Rattle.language.specs.Tree.{Items, Global}
+use Rattle.language.specs.Tree.{Global}
 use Rattle.language.specs.Names.{Sort, isVariable, isLabel, isClass, isField, isProcedure, lookup}
 use Rattle.language.specs.Names as names
 use Rattle.bytecode.specs.Instructions.{Owner}

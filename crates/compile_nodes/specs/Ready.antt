@@ -1,8 +1,8 @@
 -- What a walker asks where it stands, and what it has done: for every statement, expression or label that stands there, and all that lies around it.
 use mathlib.Core.Path.{_≡_}
-use mathlib.Core.Bool.{Bool, true, false}
-use mathlib.Core.List.{List, [], _∷_, _++_, map, reverse}
-use Prim.Native.Nat.{ℕ, zero, suc, _+_, _*_, _≤_, _<_}
+use mathlib.Core.Bool.{false}
+use mathlib.Core.List.{List, [], _∷_, map, reverse}
+use Prim.Native.Nat.{ℕ, suc, _+_, _*_, _≤_}
 use lib.IntN.{pos}
 use lib.ListN.{length, getD, take}
 use lib.Seq.{sets}
@@ -11,7 +11,7 @@ use Rattle.values.specs.Types.{Ty, tyByte}
 use Rattle.language.specs.Tree.{Stmt, Expr, Items, Arms, lastArm, arm, Exprs, noExpr, Global, countItems, countArms, countExprs}
 use Rattle.language.specs.Tree.{expr as more}
 use Rattle.language.specs.Table.{Entry, entry}
-use Rattle.language.specs.Limits.{holdsS, holdsE, holdsItems, holdsArms, holdsEs, needS, needE, needItems, needArms, needEs}
+use Rattle.language.specs.Limits.{holdsS, holdsE, holdsItems, holdsArms, holdsEs, needS, needE, needItems, needArms}
 use Rattle.language.specs.Names.{Scope}
 use Rattle.language_laws.specs.Claims.{entriesOf}
 use Rattle.table_scopes.specs.Environment.{envOf}

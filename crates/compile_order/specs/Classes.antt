@@ -9,10 +9,11 @@ use Rattle.values.specs.Types.{Ty, integer, logical, bits, reference}
 use Rattle.language.specs.Tree.{Typed, Global, local, class, procedure, Tree}
 use Rattle.language.specs.Names.{Scope, types, isClass, procedureOf}
 use Rattle.language.specs.Faults.{faults, namesGlobal}
-use Rattle.bytecode_laws.specs.Terms.{Each, Named, ReadClass}
+use Rattle.logic.specs.Lists.{Each}
+use Rattle.logic.specs.ListLaws.{index-below}
+use Rattle.bytecode_laws.specs.Terms.{Named, ReadClass}
 use Rattle.compile_code.specs.Compile.{Class, classesOf, classNumber, Proc, procsOf, tyIn}
 use Rattle.compile_code.specs.Encode.{fieldTypes, compiled}
-use Rattle.compile_rules.specs.Lines.{index-below}
 use Rattle.compile_macro.specs.Built.{classCount, params-length}
 use Rattle.compile_names.specs.Good.{goodTy, goodTyped}
 use Rattle.compile_names.specs.Globals.{classAs, goodGlobals, GlobalsIn, globals-root, globals-procedure, class-found}

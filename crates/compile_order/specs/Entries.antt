@@ -10,14 +10,15 @@ use lib.IntN.{pos}
 use lib.ListN.{length, getElem?, length-append}
 use borrow.Author.Tests.{leb-true}
 use Rattle.language.specs.Program.{flatTyped, flatDecl, flatItems, resultCode, flatBody, flatGlobal, flatHead, flatten, total, inFields}
-use Rattle.words.specs.Lists.{all}
+use Rattle.logic.specs.Lists.{all, Each}
 use Rattle.values.specs.Types.{integer, logical, bits, reference}
 use Rattle.language.specs.Tree.{Body, proper, function, Global, local, class, procedure, Tree, locals}
 use Rattle.language.specs.Names.{results}
 use Rattle.language.specs.Faults.{sizeItems, sizeGlobal}
 use Rattle.language.specs.Table.{Entry, entry, inLayout, classCount, procedureCount}
-use Rattle.bytecode_laws.specs.Terms.{Each, Named}
-use Rattle.bytecode_laws.specs.Tests.{never-some, same-some, halves}
+use Rattle.logic.specs.OptionLaws.{never-some, same-some}
+use Rattle.logic.specs.Tests.{halves}
+use Rattle.bytecode_laws.specs.Terms.{Named}
 use Rattle.table_scopes.specs.Trees.{length-Items, length-Global}
 use Rattle.compile_code.specs.Compile.{Class, classesOf, Proc, procsOf, tyIn}
 use Rattle.compile_code.specs.Encode.{fieldTypes}

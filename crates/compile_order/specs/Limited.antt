@@ -6,7 +6,7 @@ use Prim.Native.Nat.{ℕ, zero, suc}
 use lib.ListN.{getElem?}
 use Rattle.language.specs.Tree.{Typed, Body, Global, local, class, procedure}
 use Rattle.language.specs.Formed.{EveryProcedure}
-use Rattle.bytecode_laws.specs.Tests.{never-some, same-some}
+use Rattle.logic.specs.OptionLaws.{never-some, same-some}
 use Rattle.compile_code.specs.Compile.{Proc, procsOf}
 
 pub every-numbered : (P : List Typed → Body → Type 0) (gs : List Global) → EveryProcedure gs P

@@ -7,7 +7,7 @@ use native.Mathlib.Omega.{arith}
 use native.Mathlib.Numerals.{towards-suc}
 use lib.ListN.{length, set, take, drop, getD}
 use lib.Seq.{sets, length-sets, sets-eq, paste, paste-suc, length-take-le}
-use Rattle.words.specs.Choice.{if_then_else_}
+use Rattle.logic.specs.Choice.{if_then_else_}
 use Rattle.words.specs.Numbers.{word, half}
 use Rattle.compile_output.specs.declared.Pen.{Pen}
 

@@ -7,22 +7,20 @@ use Prim.Native.Nat.{ℕ, suc, _+_, _-_, _*_, _/_, _%_, _≤_}
 use native.Mathlib.Omega.{arith}
 use lib.ListN.{length, getElem?}
 use borrow.Author.Tests.{le-leb, lt-ltb, ne-eqb, eq-eqb}
-use Rattle.words.specs.Options.{isSome}
+use Rattle.logic.specs.Options.{isSome}
 use Rattle.values.specs.Types.{Ty, integer, logical, bits, reference, tyByte}
 use Rattle.values.specs.Ends.{accepted}
 use Rattle.bytecode.specs.Macro.{Body, Code, Placed, Macro, Cut, cut, tyOfByte, readTypes, readClass, readResult, rises, readBody, readCode, shapeIn, readShape, parsed}
 use Rattle.bytecode.specs.Macro.{orUnread, records, onward, headReads, readEnd, parseMacro, readMacro}
-use Rattle.bytecode_laws.specs.Terms.{Each, Named, ReadClass, ReadBody, ReadShape, RisesFrom, Apart, WellFormed}
+use Rattle.logic.specs.Lists.{Each}
+use Rattle.logic.specs.ListLaws.{app-nil}
+use Rattle.bytecode_laws.specs.Terms.{Named, ReadClass, ReadBody, ReadShape, RisesFrom, Apart, WellFormed}
 use Rattle.compile_code.specs.Encode.{classBytes, resultByte, bodyBytes, codeBytes, shapeBytes, each, macroBytes}
 
 -- ── lists ──
 rev-aux : {A : Type 0} (xs ys zs : List A) → reverseAux (reverseAux xs ys) zs ≡ reverseAux ys (xs ++ zs)
 rev-aux [] ys zs = refl
 rev-aux (x ∷ xs) ys zs = rev-aux xs (x ∷ ys) zs
-
-app-nil : {A : Type 0} (xs : List A) → xs ++ [] ≡ xs
-app-nil [] = refl
-app-nil (x ∷ xs) = ap (λ ys. x ∷ ys) (app-nil xs)
 
 pub twice : {A : Type 0} (xs : List A) → reverse (reverse xs) ≡ xs
 twice xs = rev-aux xs [] [] ∙ app-nil xs

@@ -11,7 +11,8 @@ use Rattle.values.specs.Types.{Ty, integer, logical, bits, reference, tyByte}
 use Rattle.values.specs.Ends.{accepted}
 use Rattle.bytecode.specs.Macro.{Body, Code, Placed, Macro, readMacro}
 use Rattle.bytecode.specs.Rules.{faultAt, judgeMacro}
-use Rattle.bytecode_laws.specs.Terms.{Each, Named, ReadClass, ReadBody, ReadShape, WellFormed, OfBytes, Narrow, Passed}
+use Rattle.logic.specs.Lists.{Each}
+use Rattle.bytecode_laws.specs.Terms.{Named, ReadClass, ReadBody, ReadShape, WellFormed, OfBytes, Narrow, Passed}
 use Rattle.bytecode_laws.specs.Promises.{passes-exactly}
 use Rattle.compile_code.specs.Encode.{classBytes, resultByte, bodyBytes, codeBytes, shapeBytes, each, macroBytes}
 use Rattle.compile_records.specs.Recording.{read-back, each-rev}

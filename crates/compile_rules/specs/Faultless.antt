@@ -6,7 +6,7 @@ use mathlib.Core.Option.{Option, none, some}
 use Prim.Native.Nat.{ℕ, suc}
 use native.Mathlib.Omega.{arith}
 use borrow.Author.Tests.{eq-eqb}
-use Rattle.words.specs.Options.{keep, isSome, orElse}
+use Rattle.logic.specs.Options.{keep, isSome, orElse}
 use Rattle.values.specs.Identical.{sames-refl}
 use Rattle.bytecode.specs.Macro.{Shape, shape, Macro, shapeIn}
 use Rattle.bytecode.specs.Instructions.{inBody, instrAt}

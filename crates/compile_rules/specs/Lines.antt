@@ -3,9 +3,9 @@ use mathlib.Core.Bool.{true}
 use mathlib.Core.Path.{_≡_, refl, sym, _∙_, subst}
 use mathlib.Core.List.{List, [], _∷_}
 use mathlib.Core.Option.{Option, none, some}
-use Prim.Native.Nat.{ℕ, zero, suc, _<_}
+use Prim.Native.Nat.{ℕ, zero, suc}
 use native.Mathlib.Omega.{arith}
-use lib.ListN.{length, getElem?, drop}
+use lib.ListN.{getElem?, drop}
 use Rattle.bytecode.specs.Macro.{Shape, shape, Macro}
 use Rattle.bytecode.specs.Rules.{roomy, flow, effect}
 use Rattle.compile_code.specs.Code.{Code, nil, op, mark, cell, _▸_, Line, first, lay}
@@ -23,11 +23,6 @@ dropped [] zero x rest h = let z : _≡_ {A = ℕ} 0 1 = cc h in absurd (omega a
 dropped [] (suc n) x rest h = let z : _≡_ {A = ℕ} 0 1 = cc h in absurd (omega arith)
 dropped (y ∷ xs) zero x rest h = (cc h, cc h)
 dropped (y ∷ xs) (suc n) x rest h = dropped xs n x rest h
-
-pub index-below : {A : Type 0} (xs : List A) (n : ℕ) (x : A) → getElem? xs n ≡ some x → n < length xs
-index-below [] n x h = let z : _≡_ {A = ℕ} 0 1 = cc h in absurd (omega arith)
-index-below (y ∷ xs) zero x h = omega arith
-index-below (y ∷ xs) (suc n) x h = let q = index-below xs n x h in omega arith
 
 module _ (m : Macro) (k : ℕ) where
   abbrev pub Good : (ℕ → Shape → Type 0) → List Line → Option Shape → Type 0

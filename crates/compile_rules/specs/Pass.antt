@@ -8,7 +8,7 @@ use native.Mathlib.Omega.{arith}
 use lib.Dec.{eqb}
 use lib.IntN.{ℤ, pos}
 use lib.ListN.{length, getElem?, take}
-use Rattle.words.specs.Choice.{if_then_else_}
+use Rattle.logic.specs.Choice.{if_then_else_}
 use Rattle.words.specs.Numbers.{wordOf}
 use Rattle.values.specs.Types.{Ty, integer, logical, bits, reference, sames}
 use Rattle.values.specs.Operators.{unary, binary, Binary, equal, opType}

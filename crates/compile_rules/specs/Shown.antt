@@ -8,7 +8,7 @@ use native.Mathlib.Omega.{arith}
 use lib.Dec.{T, eqb, eqb→eq}
 use lib.ListN.{getElem?}
 use borrow.Author.Tests.{eq-eqb}
-use Rattle.words.specs.Options.{keep}
+use Rattle.logic.specs.Options.{keep}
 use Rattle.bytecode.specs.Macro.{Shape, Placed, Macro, shapeIn}
 use Rattle.bytecode.specs.Instructions.{instrAt, instruction}
 use Rattle.compile_code.specs.Code.{Line, placed, placedAt}

@@ -8,21 +8,21 @@ use native.Mathlib.Omega.{arith}
 use lib.Dec.{eqb}
 use lib.ListN.{length, take, drop}
 use borrow.Author.Tests.{eq-eqb}
-use Rattle.words.specs.Choice.{if_then_else_}
+use Rattle.logic.specs.Choice.{if_then_else_}
 use Rattle.words.specs.Laws.{Bytes}
 use Rattle.values.specs.Trace.{Event, Item, event, reading}
 use Rattle.bytecode.specs.Macro.{Macro}
-use Rattle.bytecode.specs.Machine.{Machine, running, unwinding, ended, Stepped, moved, stuck, step}
+use Rattle.bytecode.specs.Machine.{Machine, running, unwinding, ended, moved}
 use Rattle.values.specs.Ends.{refusal}
 use Rattle.bytecode.specs.Runs.{with}
-use Rattle.bytecode.specs.Runs.{Answer, happens, spends, finishes, refuses, halts, Ran, Feed, bankOf, afterStep, steps, run, runs}
-use Rattle.bytecode.specs.Runs.{ends as endsRun}
+use Rattle.bytecode.specs.Runs.{finishes, refuses, Ran, Feed, bankOf, afterStep, steps, run, runs}
 use Rattle.bytecode.specs.Sound.{sound}
-use Rattle.bytecode_laws.specs.Terms.{Each, Passed}
+use Rattle.logic.specs.Lists.{Each}
+use Rattle.bytecode_laws.specs.Terms.{Passed}
 use Rattle.bytecode_safety.specs.Safety.{step-safe, run-safe}
-use Rattle.bytecode_safety.specs.Terms.{eventOf, eventsOf, stateAfter, Moves, Answers}
+use Rattle.bytecode_safety.specs.Terms.{eventOf, eventsOf, stateAfter, Answers}
 use Rattle.compile_runs.specs.Readings.{takesIn, Follows}
-use Rattle.compile_runs.specs.Oracle.{stepsOf, totalSteps, app-nil}
+use Rattle.compile_runs.specs.Oracle.{stepsOf, totalSteps}
 
 abbrev pub FedBytes : List Feed → Type 0
 FedBytes fs = Each (λ (f : Feed). Bytes (f .readings)) fs

@@ -7,7 +7,7 @@ use Prim.Native.Nat.{ℕ, zero, suc, _+_, _-_, _≤_, _<_}
 use native.Mathlib.Omega.{arith}
 use lib.Dec.{eqb, leb}
 use lib.ListN.{length}
-use Rattle.words.specs.Choice.{if_then_else_}
+use Rattle.logic.specs.Choice.{if_then_else_}
 use Rattle.words.specs.Laws.{Bytes}
 use lib.IntN.{ℤ, pos}
 use Rattle.values.specs.Values.{Value, int, asInteger, between, size}
@@ -20,7 +20,9 @@ use Rattle.bytecode.specs.Machine.{maxOperands, pop, goesOn, condition}
 use Rattle.bytecode.specs.Runs.{ends as endsRun}
 use Rattle.bytecode.specs.Runs.{Answer, happens, spends, finishes, refuses, halts, Ran, Feed, bankOf, afterStep, steps, run, runs}
 use Rattle.bytecode.specs.Sound.{sound}
-use Rattle.bytecode_laws.specs.Terms.{Each, Passed}
+use Rattle.logic.specs.Lists.{Each}
+use Rattle.logic.specs.ListLaws.{app-nil}
+use Rattle.bytecode_laws.specs.Terms.{Passed}
 use Rattle.bytecode_safety.specs.Safety.{step-safe, run-safe}
 use Rattle.bytecode_safety.specs.Steps.{size-between}
 use Rattle.bytecode_safety.specs.Terms.{eventsIn, eventOf, eventsOf, stateAfter, Moves}
@@ -49,10 +51,6 @@ told (reading f v ∷ tr) = told tr
 app-assoc : {A : Type 0} (xs ys zs : List A) → (xs ++ ys) ++ zs ≡ xs ++ (ys ++ zs)
 app-assoc [] ys zs = refl
 app-assoc (x ∷ xs) ys zs = ap (λ l. x ∷ l) (app-assoc xs ys zs)
-
-pub app-nil : {A : Type 0} (xs : List A) → xs ++ [] ≡ xs
-app-nil [] = refl
-app-nil (x ∷ xs) = ap (λ l. x ∷ l) (app-nil xs)
 
 told-onto : (tr is : List Item) → eventsIn (reverseAux tr is) ≡ told tr ++ eventsIn is
 unfolding told

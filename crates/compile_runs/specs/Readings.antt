@@ -1,19 +1,19 @@
 -- The readings that runs take, and the oracle that they follow: "the k-th reading is taken from the 64 bytes of the run in which it falls" (DECISIONS, T13).
 use mathlib.Core.Bool.{Bool, true, false}
-use mathlib.Core.Path.{_≡_, refl, ap, sym, _∙_}
+use mathlib.Core.Path.{_≡_, ap, _∙_}
 use mathlib.Core.List.{List, [], _∷_}
 use Prim.Native.Nat.{ℕ, zero, suc, _+_, _-_, _≤_, _<_}
 use native.Mathlib.Omega.{arith}
 use lib.Dec.{eqb, ltb}
 use lib.ListN.{length}
 use borrow.Author.Tests.{lt-ltb, le-ltb}
-use Rattle.words.specs.Choice.{if_then_else_}
+use Rattle.logic.specs.Choice.{if_then_else_}
 use Rattle.words.specs.Laws.{Bytes}
 use Rattle.values.specs.Trace.{event, reading}
 use Rattle.bytecode.specs.Macro.{Macro}
 use Rattle.bytecode.specs.Machine.{Machine, running, unwinding, ended, Stepped, moved, stuck, step}
 use Rattle.bytecode.specs.Runs.{Feed, bankOf, run}
-use Rattle.bytecode_laws.specs.Terms.{Each}
+use Rattle.logic.specs.Lists.{Each}
 
 -- ── how many readings a run takes ──
 abbrev pub unlessEnded : Machine → ℕ → ℕ

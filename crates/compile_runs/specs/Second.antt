@@ -1,5 +1,5 @@
 -- The second demand over lists of runs: what the runs of a compiled macro answer, beside the tree's execution.
-use mathlib.Core.Bool.{Bool, true, false}
+use mathlib.Core.Bool.{true}
 use mathlib.Core.Path.{_≡_, refl, ap, sym, _∙_, subst}
 use mathlib.Core.List.{List, [], _∷_, _++_, reverse}
 use Prim.Native.Nat.{ℕ, zero, suc, _+_, _≤_, _<_}
@@ -16,7 +16,7 @@ use Rattle.bytecode.specs.Machine.{Machine, running, unwinding, freshMachine, S
 use Rattle.bytecode.specs.Machine.{ended as stopped}
 use Rattle.bytecode.specs.Runs.{Feed, runs}
 use Rattle.bytecode.specs.Runs.{Ran as RunAnswer}
-use Rattle.bytecode_laws.specs.Terms.{Each, Passed}
+use Rattle.logic.specs.ListLaws.{app-nil}
 use Rattle.bytecode_safety.specs.Safety.{fresh-safe}
 use Rattle.bytecode_safety.specs.Terms.{eventsIn, eventsOf, stateAfter}
 use Rattle.compile_code.specs.Encode.{compiled}
@@ -30,7 +30,7 @@ use Rattle.compile_macro.specs.Second.{sound-tree, ends-alike, goes-alike, ende
 use Rattle.compile_macro.specs.Built.{InOrder, settingOf, built, passed-macro}
 use Rattle.compile_runs.specs.Readings.{Follows}
 use Rattle.compile_runs.specs.Enough.{FedBytes, Stepping, EndAnswered, runs-split, events-split, each-split, follows-left, in-two, end-right, after-end, says-end, ended-so, steps-or-end}
-use Rattle.compile_runs.specs.Oracle.{totalSteps, told, told-is, told-more, app-nil, run-sum, runs-as}
+use Rattle.compile_runs.specs.Oracle.{totalSteps, told, told-is, told-more, run-sum, runs-as}
 
 abbrev pub itemsOf : Ran → List Item
 itemsOf (finished is c) = is

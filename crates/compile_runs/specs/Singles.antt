@@ -6,14 +6,14 @@ use Prim.Native.Nat.{ℕ, zero, suc, _+_, _-_, _≤_, _<_}
 use native.Mathlib.Omega.{arith}
 use lib.Dec.{eqb}
 use lib.ListN.{length, getD}
-use Rattle.words.specs.Choice.{if_then_else_}
+use Rattle.logic.specs.Choice.{if_then_else_}
 use Rattle.words.specs.Laws.{Bytes}
-use Rattle.values.specs.Trace.{Item, event, reading}
+use Rattle.values.specs.Trace.{event, reading}
 use Rattle.bytecode.specs.Macro.{Macro}
 use Rattle.bytecode.specs.Machine.{Machine, running, unwinding, ended, Stepped, moved, stuck, step}
 use Rattle.bytecode.specs.Runs.{Feed, bankOf, run}
 use Rattle.language_laws.specs.Endings.{ByteReadings}
-use Rattle.compile_runs.specs.Readings.{unlessEnded, takesBy, takes, takesIn, Reads, Follows}
+use Rattle.compile_runs.specs.Readings.{unlessEnded, takesBy, takes, takesIn, Follows}
 use Rattle.compile_runs.specs.Enough.{FedBytes, Stepping}
 
 -- n readings of a bank, from the i-th fader on

@@ -12,16 +12,16 @@ use lib.IntN.{pos}
 use lib.ListN.{length, getD}
 use borrow.Author.Tests.{eqb-true, eq-eqb, ne-eqb, le-leb, leb-true}
 use Rattle.language.specs.Program.{flatTyped, flatDecl}
-use Rattle.words.specs.Lists.{among}
-use Rattle.words.specs.Options.{isSome}
-use Rattle.words.specs.Choice.{if_then_else_}
+use Rattle.logic.specs.Lists.{among}
+use Rattle.logic.specs.Options.{isSome}
+use Rattle.logic.specs.Choice.{if_then_else_}
 use Rattle.values.specs.Types.{Ty, integer, logical, bits, reference, tyCode, tyByte}
 use Rattle.language.specs.Tree.{Typed, Decl, declare, holding, Items, noItem, label, item, Global}
 use Rattle.language.specs.Table.{Entry, entry, inLayout}
 use Rattle.language.specs.Names.{isVariable, isLabel, isClass, definesTyped, definesHead, definesItems, Scope, blockOf, expressionOf, nowhere, found, firstOf, across, lookup}
 use Rattle.language.specs.Names as names
 use Rattle.language.specs.Faults.{sizeS}
-use Rattle.language_laws.specs.Basics.{clash}
+use Rattle.logic.specs.Tests.{clash, eqb-comm, or-left}
 use Rattle.language_laws.specs.Claims.{entriesOf}
 use Rattle.table_scopes.specs.Stands.{Stands, stands-tail}
 use Rattle.table_scopes.specs.Defines.{headItems, labelItems}
@@ -32,8 +32,7 @@ use Rattle.compile_code.specs.Compile.{Around, bound, global, held, scopesOf, k
 use Rattle.compile_code.specs.Encode.{ownerCode, rootVariables, parameterCells}
 use Rattle.compile_simulation.specs.Sizes.{lenS}
 use Rattle.compile_names.specs.Good.{goodTy, goodHead}
-use Rattle.compile_names.specs.Globals.{eqb-comm}
-use Rattle.compile_names.specs.Known.{Style, ofBlock, ofRoot, ofShared, Entered, entered-scopes, entered-past, bound-look, not-again, or-left, outer, uncross, nothing}
+use Rattle.compile_names.specs.Known.{Style, ofBlock, ofRoot, ofShared, Entered, entered-scopes, entered-past, bound-look, not-again, outer, uncross, nothing}
 use Rattle.compile_symbols.specs.Numbers.{packed, numberOf, numbersFrom, cellsWithin}
 use Rattle.table_scopes.specs.declared.environment.Found.{Found}
 use Rattle.table_scopes.specs.declared.environment.Found.the-variants.{Nothing, Def}

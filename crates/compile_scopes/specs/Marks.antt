@@ -6,7 +6,7 @@ use Prim.Native.Nat.{ℕ, zero, suc, _+_, _<_}
 use native.Mathlib.Omega.{arith}
 use lib.Dec.{eqb}
 use borrow.Author.Tests.{ne-eqb, eqb-true, le-ltb}
-use Rattle.words.specs.Choice.{if_then_else_}
+use Rattle.logic.specs.Choice.{if_then_else_}
 use Rattle.language.specs.Tree.{Decl, declare, holding}
 use Rattle.table_scopes.specs.declared.environment.Found.the-variants.{Nothing, Def}
 use Rattle.table_scopes.specs.Environment.{Item, item, find, here, adding, addAll}

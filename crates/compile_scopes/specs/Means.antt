@@ -7,7 +7,7 @@ use native.Mathlib.Omega.{arith}
 use lib.Dec.{eqb}
 use lib.ListN.{length}
 use borrow.Author.Tests.{le-ltb}
-use Rattle.words.specs.Choice.{if_then_else_}
+use Rattle.logic.specs.Choice.{if_then_else_}
 use Rattle.values.specs.Types.{Ty, integer, logical, bits, reference, tyCode, tyByte}
 use Rattle.language.specs.Tree.{Items}
 use Rattle.language.specs.Names.{Sort, isVariable, isLabel, isClass, isField, isProcedure, Definition, nowhere, found, firstOf, otherwise, across, lookup}

@@ -13,7 +13,7 @@ use lib.IntN.{pos}
 use lib.ListN.{length, getD, length-append}
 use borrow.Author.Tests.{leb-true}
 use Rattle.language.specs.Program.{flatTyped, flatDecl, resultCode, flatBody, flatGlobal, flatHead}
-use Rattle.words.specs.Choice.{if_then_else_}
+use Rattle.logic.specs.Choice.{if_then_else_}
 use Rattle.values.specs.Types.{Ty, integer, logical, bits, reference, tyCode, tyByte}
 use Rattle.language.specs.Tree.{Typed, declare, holding, Body, proper, function, Global, local, class, procedure, locals}
 use Rattle.language.specs.Table.{entry, inLayout}
@@ -21,7 +21,7 @@ use Rattle.language.specs.Names.{Sort, isVariable, isLabel, isClass, isField, i
 use Rattle.language.specs.Names as names
 use Rattle.language.specs.Faults.{namesHead, namesTyped, sizeBody, sizeGlobal}
 use Rattle.language.specs.Limits.{headCells}
-use Rattle.language_laws.specs.Basics.{both-right}
+use Rattle.logic.specs.Tests.{both-right}
 use Rattle.language_laws.specs.Claims.{entriesOf}
 use Rattle.table_scopes.specs.Stands.{Stands, stands-left, stands-right}
 use Rattle.table_scopes.specs.Trees.{length-map, length-Body, length-Global, Heads}

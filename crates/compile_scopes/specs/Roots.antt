@@ -8,7 +8,7 @@ use native.Mathlib.Nat.{zero-add}
 use lib.Dec.{eqb}
 use lib.ListN.{length}
 use Rattle.language.specs.Program.{flatItems, resultCode, flatHead, flatten, total}
-use Rattle.words.specs.Choice.{if_then_else_}
+use Rattle.logic.specs.Choice.{if_then_else_}
 use Rattle.values.specs.Types.{Ty, tyByte}
 use Rattle.language.specs.Tree.{Decl, declare, holding, Global, local, class, procedure, Tree, countItems, locals}
 use Rattle.language.specs.Table.{classCount, procedureCount}

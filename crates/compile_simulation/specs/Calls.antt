@@ -9,7 +9,7 @@ use native.Mathlib.Omega.{arith}
 use lib.Dec.{eqb, leb, ltb}
 use lib.ListN.{length, take, drop, length-append}
 use lib.ListN.{set as put}
-use Rattle.words.specs.Choice.{if_then_else_}
+use Rattle.logic.specs.Choice.{if_then_else_}
 use Rattle.values.specs.Types.{allFit, sames}
 use Rattle.values.specs.Ends.{tooManyActivations}
 use Rattle.values.specs.Values.{Value, Cell, assigned, tysOf, freshAll}

@@ -16,6 +16,7 @@ use Rattle.bytecode.specs.Machine.{Activation, fetch, act, doOperate}
 use Rattle.compile_simulation.specs.Meets.{Conf, Setting, Meets}
 use Rattle.compile_simulation.specs.View.{Data, cellAt, found-at}
 use Rattle.compile_simulation.specs.Ops.{conf, op-at, pushes, loads, forks, goes-on}
+use Rattle.logic.specs.Tests.{and-false}
 
 -- the tree counts the index down; here it is n where the i-th alternative is next
 abbrev pub Index : ℤ → ℕ → ℕ → Type 0
@@ -35,10 +36,6 @@ yes-leb x y h = go (leb x y) (le→leb x y h)
     go : (b : Bool) → T b → b ≡ true
     go true t = refl
     go false t = absurd t
-
-and-false : (a : Bool) → (a && false) ≡ false
-and-false true = refl
-and-false false = refl
 
 pub starts : (z : ℤ) → Index z 1 (size z)
 starts (pos zero) = λ j h. ap (λ b. leb 0 j && b) (not-leb j 0 (omega arith)) ∙ and-false (leb 0 j)

@@ -7,7 +7,7 @@ use Prim.Native.Nat.{ℕ, suc}
 use lib.Dec.{leb, ltb}
 use lib.ListN.{length, getElem?}
 use lib.ListN.{set as put}
-use Rattle.words.specs.Choice.{if_then_else_}
+use Rattle.logic.specs.Choice.{if_then_else_}
 use Rattle.values.specs.Types.{Ty, fits}
 use Rattle.values.specs.Values.{Value, log, asLogical, tyOf, Cell, assigned}
 use Rattle.values.specs.Trace.{Item, event, release, hold}

@@ -8,7 +8,7 @@ use native.Mathlib.Omega.{arith}
 use lib.Dec.{eqb}
 use lib.ListN.{length}
 use lib.ListN.{set as put}
-use Rattle.words.specs.Choice.{if_then_else_}
+use Rattle.logic.specs.Choice.{if_then_else_}
 use Rattle.values.specs.Values.{Value, Cell}
 use Rattle.values.specs.Trace.{release}
 use Rattle.language.specs.Tree.{Global, Items}

@@ -6,7 +6,7 @@ use mathlib.Core.Option.{Option, none, some}
 use Prim.Native.Nat.{ℕ}
 use native.Mathlib.Omega.{arith}
 use lib.IntN.{ℤ}
-use Rattle.words.specs.Options.{keep}
+use Rattle.logic.specs.Options.{keep}
 use Rattle.values.specs.Types.{logical}
 use Rattle.values.specs.Arithmetic.{mistyped}
 use Rattle.values.specs.Values.{Value, int, log, bit, ref, tyOf, asInteger, asLogical, asBits, Reference, asReference, equality}

@@ -8,8 +8,8 @@ use native.Mathlib.Omega.{arith}
 use lib.Dec.{T, eqb, eqb→eq, ltb, leb}
 use lib.ListN.{length, getElem?}
 use lib.ListN.{set as put}
-use Rattle.words.specs.Choice.{if_then_else_}
-use Rattle.words.specs.Options.{keep}
+use Rattle.logic.specs.Choice.{if_then_else_}
+use Rattle.logic.specs.Options.{keep}
 use Rattle.values.specs.Types.{Ty, fits, allFit}
 use Rattle.values.specs.Ends.{fieldOfNull, tooManyRecords}
 use Rattle.values.specs.Values.{Value, ref, Reference, asReference, tyOf, tysOf, assigned}

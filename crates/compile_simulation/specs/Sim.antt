@@ -7,8 +7,8 @@ use Prim.Native.Nat.{ℕ, zero, suc, _+_, _≤_, zero-le}
 use native.Mathlib.Omega.{arith}
 use lib.IntN.{ℤ, pos}
 use lib.ListN.{length, getElem?, length-append}
-use Rattle.words.specs.Choice.{if_then_else_}
-use Rattle.words.specs.Options.{ifSome}
+use Rattle.logic.specs.Choice.{if_then_else_}
+use Rattle.logic.specs.Options.{ifSome}
 use Rattle.words.specs.Numbers.{wordOf}
 use Rattle.values.specs.Types.{Ty, logical}
 use Rattle.values.specs.Ends.{outOfRange, assertFalse, caseIndex}

@@ -7,8 +7,8 @@ use Prim.Native.Nat.{ℕ, _+_}
 use native.Mathlib.Omega.{arith}
 use lib.Dec.{T, eqb, eqb→eq, leb}
 use lib.ListN.{length}
-use Rattle.words.specs.Lists.{all}
-use Rattle.words.specs.Options.{orElse}
+use Rattle.logic.specs.Lists.{all}
+use Rattle.logic.specs.Options.{orElse}
 use Rattle.values.specs.Types.{Ty, integer, logical, bits, reference, same, sames}
 use Rattle.values.specs.Values.{Value, int, log, bit, ref, tyOf, tysOf}
 use Rattle.language.specs.Tree.{Global}
@@ -23,13 +23,7 @@ use Rattle.compile_code.specs.Compile.{Around, heldIn, found, orInteger, tyIn, 
 use Rattle.compile_simulation.specs.Meets.{Conf, Setting, Meets, crash, here}
 use Rattle.compile_simulation.specs.View.{Data}
 use Rattle.compile_simulation.specs.Ops.{conf, topOf}
-
-halves : (a b : Bool) → (a && b) ≡ true → (a ≡ true) × (b ≡ true)
-halves true b h = (refl, h)
-halves false b h = let z : _≡_ {A = ℕ} 0 1 = cc h in absurd (omega arith)
-
-never : {A : Type 0} → false ≡ true → A
-never h = let z : _≡_ {A = ℕ} 0 1 = cc h in absurd (omega arith)
+use Rattle.logic.specs.Tests.{halves, never}
 
 no-code : {A : Type 0} (x y : ℕ) → (x ≡ y → ⊥) → eqb x y ≡ true → A
 no-code x y f h = absurd (f (eqb→eq x y (subst T (sym h) tt)))

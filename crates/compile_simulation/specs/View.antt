@@ -9,8 +9,8 @@ use lib.Dec.{T, eqb, eqb→eq}
 use lib.IntN.{pos}
 use lib.ListN.{getElem?}
 use lib.ListN.{set as put}
-use Rattle.words.specs.Options.{isSome, orElse}
-use Rattle.words.specs.Choice.{if_then_else_}
+use Rattle.logic.specs.Options.{isSome, orElse}
+use Rattle.logic.specs.Choice.{if_then_else_}
 use Rattle.values.specs.Trace.{Item}
 use Rattle.values.specs.Values.{Value, int, log, bit, ref, Cell, assigned}
 use Rattle.language.specs.Tree.{Global}

@@ -2,27 +2,25 @@
 use mathlib.Core.Path.{_≡_, refl, ap, sym, _∙_, subst}
 use mathlib.Core.Bool.{Bool, true, false}
 use mathlib.Core.List.{List, [], _∷_, _++_}
-use mathlib.Core.Option.{Option, none, some}
-use Prim.Native.Nat.{ℕ, zero, suc, _+_, _-_, _*_, _≤_, _<_}
+use mathlib.Core.Option.{none}
+use Prim.Native.Nat.{ℕ, zero, suc, _+_, _*_, _≤_, _<_}
 use native.Mathlib.Omega.{arith}
-use native.Mathlib.Nat.{add-zero}
-use lib.IntN.{ℤ, pos}
 use lib.ListN.{length, getD, take, set}
-use lib.Seq.{sets, getD-set-same}
+use lib.Seq.{getD-set-same}
 use Rattle.bytecode.specs.Words.{valueWord}
 use Rattle.language.specs.Measure.{measureS}
-use Rattle.language.specs.Program.{flag, flatS, flatE}
-use Rattle.words.specs.Choice.{if_then_else_}
-use Rattle.words.specs.Numbers.{halfAt, wordAt, wordOf, integerOf}
-use Rattle.words.specs.Laws.{two, four, number-below, word-back}
-use Rattle.values.specs.Types.{Ty, tyByte, integer, logical, bits, reference}
+use Rattle.language.specs.Program.{flag, flatE}
+use Rattle.logic.specs.Choice.{if_then_else_}
+use Rattle.words.specs.Numbers.{halfAt, wordAt, wordOf}
+use Rattle.words.specs.Laws.{four, number-below, word-back}
+use Rattle.values.specs.Types.{Ty, tyByte, reference}
 use Rattle.values.specs.Values.{int, log, bit, ref}
 use Rattle.bytecode.specs.Instructions.{Instr, push, go, letHold}
-use Rattle.language.specs.Tree.{Stmt, block, assign, when, choose, while, goto, assert, call, setLevel, select, Expr, number, truth, pattern, null, variable, invoke}
+use Rattle.language.specs.Tree.{goto, number, truth, pattern, null, variable, invoke}
 use Rattle.language.specs.Tree.{field, make, operate1, operate2, conditional, fader, blockExpr, Global}
-use Rattle.language.specs.Table.{Entry, entry}
+use Rattle.language.specs.Table.{Entry}
 use Rattle.language.specs.Faults.{typeE}
-use Rattle.language.specs.Names.{Sort, isVariable, isLabel, Scope, nowhere, found, lookup}
+use Rattle.language.specs.Names.{isVariable, isLabel, Scope, nowhere, found, lookup}
 use Rattle.language.specs.Names as names
 use Rattle.language_laws.specs.Claims.{entriesOf}
 use Rattle.table_scopes.specs.declared.environment.Found.{Found}
@@ -32,26 +30,25 @@ use Rattle.table_scopes.specs.Stands.{Stands, fields, half-part, word-part}
 use Rattle.table_scopes.specs.Defines.{name-small}
 use Rattle.table_scopes.specs.Sees.{Agrees, Sees}
 use Rattle.table_forms.specs.Walk.{Table}
-use Rattle.table_forms.specs.Forms.{headF}
-use Rattle.compile_code.specs.Code.{Code, nil, op, mark, _▸_, At, skip, after}
+use Rattle.compile_code.specs.Code.{Code, nil, op, mark, _▸_, after}
 use Rattle.compile_code.specs.Compile.{Around, inside, outermost, bound, global, held, labels, scopesOf, passing, theLabels, hasLabel, sizeGoto, labelAt, codeGoto, codeS}
 use Rattle.compile_code.specs.Compile.{codeE, tyE, tyIn, loading, cellOf, classNumber}
 use Rattle.compile_code.specs.Compile as compile
 use Rattle.compile_code.specs.Encode.{rec, recordOf}
 use Rattle.compile_names.specs.Good.{goodS, goodE}
 use Rattle.compile_names.specs.Known.{nothing}
-use Rattle.compile_symbols.specs.Numbers.{typeIn, firstIn, secondIn}
+use Rattle.compile_symbols.specs.Numbers.{firstIn, secondIn}
 use Rattle.compile_symbols.specs.Meaning.{meaningOf, knownOf}
 use Rattle.compile_output.specs.declared.Pen.{Pen}
 use Rattle.compile_output.specs.Ink.{Fits, moved, penShaped, inkOp, inkShape}
 use Rattle.compile_output.specs.Folds.{penAfter, inked, lets, inked-op, grows}
-use Rattle.compile_nodes.specs.Knows.{Walk, Knows, Lands, MeansLabel, passedTo, targetOf}
+use Rattle.compile_nodes.specs.Knows.{Walk, MeansLabel, passedTo, targetOf}
 use Rattle.compile_nodes.specs.Ends.{belowS, belowE}
-use Rattle.compile_nodes.specs.Ready.{Node, stmt, expr, name, flatN, formN, codeN, endsN, LeavesN, Place, Lent, Laid, Stood, Kept, Wrote, Ready, Done}
+use Rattle.compile_nodes.specs.Ready.{Node, stmt, expr, name, codeN, endsN, LeavesN, Place, Lent, Wrote, Ready, Done}
 use Rattle.compile_emit.specs.Owns.{names as namesBy, knownFor, ownerBy, inkLeaf, leafType, penGoto, inkGoto}
-use Rattle.compile_steps.specs.Parts.{lent, flat-N, head-N, wrote-then, wrote-op, wrote-length, kept-out, movedTo, fits-first, fits-start}
-use Rattle.compile_steps.specs.Stages.{Stage, stage-start, stage-fits-op, stage-fits-mark, stage-op, stage-mark, stage-part, stage-as, stage-done}
-use Rattle.compile_steps.specs.Named.{Meaning, meaning-of, variable-type, variable-load, class-type, class-first}
+use Rattle.compile_steps.specs.Parts.{lent, head-N, wrote-length, kept-out, movedTo}
+use Rattle.compile_steps.specs.Stages.{Stage, stage-start, stage-fits-mark, stage-op, stage-mark, stage-part, stage-done}
+use Rattle.compile_steps.specs.Named.{meaning-of, variable-type, variable-load, class-type, class-first}
 use Rattle.compile_steps.specs.Views.{IsLeaf}
 
 -- the numbers of an entry

@@ -1,39 +1,35 @@
 -- Binary operators: what is ready below them, and what is done of them where it is done of what is below.
 use mathlib.Core.Path.{_≡_, refl, ap, sym, _∙_}
-use mathlib.Core.Bool.{Bool, true, false}
+use mathlib.Core.Bool.{false}
 use mathlib.Core.List.{List, [], _∷_, _++_}
-use Prim.Native.Nat.{ℕ, zero, suc, _+_, _-_, _*_, _≤_, _<_}
+use Prim.Native.Nat.{ℕ, suc, _+_, _-_, _*_, _≤_, _<_}
 use native.Mathlib.Omega.{arith}
-use lib.ListN.{length, getD, take, set, length-set, length-append}
-use lib.Seq.{sets, getD-set-same}
+use lib.ListN.{length, getD, set, length-append}
+use lib.Seq.{getD-set-same}
 use Rattle.language.specs.Measure.{measureS}
-use Rattle.language.specs.Program.{flatS, flatE}
+use Rattle.language.specs.Program.{flatE}
 use Rattle.values.specs.Types.{Ty, tyByte, logical}
-use Rattle.bytecode.specs.Instructions.{Instr, go, goUnless}
 use Rattle.language.specs.Tree.{Expr, operate2, Global}
 use Rattle.language.specs.Faults.{typeE, isTy}
-use mathlib.Core.Option.{Option, none, some}
+use mathlib.Core.Option.{Option, some}
 use Rattle.values.specs.Operators.{Binary, binary, binaryCode, opType}
-use Rattle.language.specs.Table.{Entry}
 use Rattle.language.specs.Limits.{needE}
-use Rattle.compile_code.specs.Code.{Code, nil, op, mark, _▸_, At, skip, after}
-use Rattle.compile_code.specs.Compile.{Around, scopesOf, found, codeS, codeE, tyE, tyIn, Way, plainly, marked, ifTrue, ifFalse, wayOf, codeWay, orInteger}
-use Rattle.compile_code.specs.Encode.{rec, recordOf}
-use Rattle.compile_names.specs.Good.{goodS, goodE}
-use Rattle.compile_symbols.specs.Numbers.{cellsOf, cellsWithin}
+use Rattle.compile_code.specs.Code.{Code, nil, _▸_, At, after}
+use Rattle.compile_code.specs.Compile.{Around, scopesOf, codeE, tyE, tyIn, Way, plainly, marked, ifTrue, ifFalse, wayOf, orInteger}
+use Rattle.compile_names.specs.Good.{goodE}
 use Rattle.compile_output.specs.declared.Pen.{Pen}
-use Rattle.compile_output.specs.Ink.{Fits, moved, penShaped, inkOp, inkShape}
+use Rattle.compile_output.specs.Ink.{Fits}
 use Rattle.compile_output.specs.Folds.{penAfter, inked}
 use Rattle.compile_nodes.specs.Knows.{Walk}
-use Rattle.compile_nodes.specs.Ends.{belowS, belowE, endsS, endsE, seconds, begins}
-use Rattle.compile_nodes.specs.Ready.{Node, stmt, expr, flatN, codeN, endsN, Place, Lent, Laid, Stood, Kept, Wrote, Ready, Done, Asks, Answers}
-use Rattle.compile_steps.specs.Parts.{below, lent, laid-tail, laid-left, laid-right, laid-aim, laid-at, size-N, passes-N, kept-self, kept-then, kept-stack}
-use Rattle.compile_steps.specs.Parts.{kept-less, fits-first, movedTo, heldOn, ready-part, need-E, fits-rest}
-use Rattle.compile_steps.specs.Stages.{Stage, stage-start, stage-fits-op, stage-fits-mark, stage-op, stage-mark, stage-part, stage-push, stage-done, Finished, finished-done}
-use Rattle.compile_steps.specs.Ways.{wayNumber, way-number, pair-type, Tested, codeBetween, codeBehind, codeParts, parts-pen, parts-inked, waits, waits-are}
+use Rattle.compile_nodes.specs.Ends.{belowE, endsE, seconds, begins}
+use Rattle.compile_nodes.specs.Ready.{expr, flatN, Place, Lent, Laid, Kept, Ready, Done}
+use Rattle.compile_steps.specs.Parts.{below, lent, laid-tail, laid-left, laid-right, laid-aim, laid-at, kept-self, kept-then}
+use Rattle.compile_steps.specs.Parts.{kept-less, fits-first, ready-part, need-E, fits-rest}
+use Rattle.compile_steps.specs.Stages.{Stage, stage-start, stage-part, Finished, finished-done}
+use Rattle.compile_steps.specs.Ways.{wayNumber, way-number, pair-type, Tested, codeBetween, codeBehind, parts-pen, parts-inked, waits, waits-are}
 use Rattle.compile_steps.specs.Ways.{secondPlace, between-stage, behind-stage, between-pen, behind-pen, tested-by}
 use Rattle.compile_emit.specs.Owns.{wayBy, waitingBy, pairType, penBetween, inkBetween, penBehind, inkBehind}
-use Rattle.compile_steps.specs.Cells.{cell-E, cell-S, length-endsE, length-endsS}
+use Rattle.compile_steps.specs.Cells.{cell-E, length-endsE}
 
 way-cells : (w : Way) (p : At) → begins w p .cell ≡ p .cell
 way-cells plainly p = refl

@@ -1,39 +1,37 @@
 -- The parts of an entry: where they lie, what is lent as they are walked, the code that they come to one after the other.
 use mathlib.Core.Path.{_≡_, refl, ap, sym, _∙_}
-use mathlib.Core.Bool.{Bool, true, false}
+use mathlib.Core.Bool.{false}
 use mathlib.Core.List.{List, [], _∷_, _++_, map, reverse, reverse-cons, map-append}
-use Prim.Native.Nat.{ℕ, zero, suc, _+_, _-_, _*_, _/_, _≤_, _<_}
+use Prim.Native.Nat.{ℕ, suc, _+_, _-_, _*_, _≤_, _<_}
 use native.Mathlib.Omega.{arith}
-use lib.ListN.{length, getD, take, drop, set, length-set, length-append}
-use lib.Seq.{sets, take-take, take-suc, take-set-le, length-sets, set-comm}
+use lib.ListN.{length, getD, take, drop, set, length-set}
+use lib.Seq.{sets, take-take, take-suc, take-set-le, set-comm}
 use Rattle.language.specs.Measure.{measureS}
 use Rattle.values.specs.Types.{Ty, tyByte}
-use Rattle.words.specs.Numbers.{halfAt, wordAt}
-use Rattle.bytecode.specs.Macro.{Shape, shape}
+use Rattle.bytecode.specs.Macro.{Shape}
 use Rattle.bytecode.specs.Instructions.{Instr}
 use Rattle.language.specs.Tree.{Stmt, block, assign, when, choose, while, goto, assert, call, setLevel, select, Items, noItem, label, item, Expr, number, truth, pattern}
 use Rattle.language.specs.Tree.{null, variable, invoke, field, make, operate1, operate2, conditional, fader, blockExpr, Exprs, noExpr}
 use Rattle.language.specs.Tree.{expr as more}
-use Rattle.language.specs.Table.{Entry, entry}
+use Rattle.language.specs.Table.{Entry}
 use Rattle.language.specs.Limits.{needS, needItems, needE, needEs}
 use Rattle.language_laws.specs.Claims.{entriesOf}
-use Rattle.table_scopes.specs.Environment.{envOf}
 use Rattle.table_scopes.specs.Spans.{Spans, parts, spans-one, spans-none}
-use Rattle.table_scopes.specs.Stands.{Stands, stands-left, stands-right, stands-tail, stands-within, length-entries}
+use Rattle.table_scopes.specs.Stands.{Stands, stands-left, stands-right, stands-tail}
 use Rattle.table_forms.specs.Walk.{Table}
-use Rattle.table_forms.specs.Forms.{Form, headF, tailF, flatF, labelled, formS, formE, flat-S, flat-E}
+use Rattle.table_forms.specs.Forms.{headF, flatF, labelled, flat-S, flat-E}
 use Rattle.table_forms.specs.Steps.{Head, head-of, table-next, size-here, Passes, passes, spans-form, spans-stmt}
-use Rattle.compile_code.specs.Code.{Code, nil, op, mark, cell, _▸_, At, at, skip, after}
+use Rattle.compile_code.specs.Code.{Code, nil, op, mark, cell, _▸_, At, at, after}
 use Rattle.language.specs.Names.{Scope}
-use Rattle.compile_code.specs.Compile.{Around, scopesOf, heldIn, found}
+use Rattle.compile_code.specs.Compile.{scopesOf, found}
 use Rattle.compile_code.specs.Encode.{rec, recordOf}
 use Rattle.compile_symbols.specs.Entries.{sets-append}
 use Rattle.compile_symbols.specs.Numbers.{numbersFrom, cellsOf, cellsWithin}
 use Rattle.compile_output.specs.declared.Pen.{Pen}
 use Rattle.compile_output.specs.Ink.{Fits, moved, penShaped, inkOp, inkShape}
-use Rattle.compile_output.specs.Folds.{penAfter, inked, Later, grows, later-trans, fits-before, inked-op, Stacked, pen-mark, inked-mark, address-after, length-inked}
-use Rattle.compile_nodes.specs.Knows.{Lies, Walk}
-use Rattle.compile_nodes.specs.Ready.{Node, stmt, expr, name, flatN, formN, kindN, roomN, deepN, holdsN, needN, goodN, codeN, endsN, Place, Lent, Laid, Stood, Kept, Wrote, LandsN, Ready, Asks}
+use Rattle.compile_output.specs.Folds.{penAfter, inked, Later, grows, fits-before, inked-op, Stacked, pen-mark, inked-mark, address-after, length-inked}
+use Rattle.compile_nodes.specs.Knows.{Walk}
+use Rattle.compile_nodes.specs.Ready.{Node, stmt, expr, name, flatN, formN, roomN, deepN, holdsN, needN, goodN, codeN, endsN, Place, Lent, Laid, Stood, Kept, Wrote, LandsN, Ready, Asks}
 use Rattle.compile_scopes.specs.Sight.{classesIn}
 use Rattle.compile_scopes.specs.Lies.{lies-left, lies-right, lies-next, lies-here}
 use Rattle.compile_scopes.specs.Lengths.{numbers-append, cells-append, length-numbers}

@@ -9,7 +9,7 @@ use lib.IntN.{pos}
 use lib.ListN.{length, getD, take, set, length-reverse}
 use Rattle.language.specs.Measure.{measureS}
 use Rattle.language.specs.Program.{flatEs, deepEs}
-use Rattle.words.specs.Options.{orElse}
+use Rattle.logic.specs.Options.{orElse}
 use Rattle.table_scopes.specs.Trees.{length-map}
 use lib.Seq.{getD-set-same, take-suc, getD-at, length-take-le}
 use Rattle.words.specs.Numbers.{halfAt, wordAt}

@@ -10,7 +10,7 @@ use Rattle.language.specs.Program.{flatTyped, flatDecl, flatItems, flatBody, fl
 use Rattle.words.specs.Numbers.{halfAt}
 use Rattle.language.specs.Tree.{declare, holding, Global, local, class, procedure, Tree}
 use Rattle.language.specs.Table.{Entry}
-use Rattle.language_laws.specs.Basics.{clash}
+use Rattle.logic.specs.Tests.{clash}
 use Rattle.language_laws.specs.Claims.{entriesOf}
 use Rattle.table_scopes.specs.Stands.{Stands, fields, entryAt, length-entries}
 use Rattle.compile_code.specs.Compile.{indexOf, classesOf, classNames}

@@ -13,13 +13,13 @@ use lib.IntN.{natAbs}
 use lib.ListN.{length, getD, set, length-set}
 use lib.Seq.{sets}
 use borrow.Author.Tests.{eq-eqb, ne-eqb, lt-ltb, le-ltb}
-use Rattle.words.specs.Options.{isSome}
-use Rattle.words.specs.Choice.{if_then_else_}
+use Rattle.logic.specs.Options.{isSome}
+use Rattle.logic.specs.Choice.{if_then_else_}
 use Rattle.words.specs.Numbers.{halfAt, wordAt, integerOf, wordOf}
 use Rattle.words.specs.Laws.{four, number-below, word-back}
 use Rattle.values.specs.Types.{Ty, integer, logical, bits, reference, tyCode}
 use Rattle.language.specs.Table.{Entry, entry, inLayout, tyOfCode, natural}
-use Rattle.language_laws.specs.Basics.{both-left, both-right}
+use Rattle.logic.specs.Tests.{both-left, both-right}
 use Rattle.language_laws.specs.Claims.{entriesOf}
 use Rattle.language_laws.specs.Codes.{type-coded, natural-pos}
 use Rattle.table_scopes.specs.Stands.{entryAt, field-number}

@@ -1,13 +1,11 @@
 -- What each definition of a table stands for, by its place, as one number: of its type, and of the operands of the instructions that use it.
-use mathlib.Core.Bool.{Bool, true, false}
 use mathlib.Core.List.{List, [], _∷_, _++_, map}
-use Prim.Native.Nat.{ℕ, zero, suc, _+_, _-_, _*_, _/_, _%_}
+use Prim.Native.Nat.{ℕ, suc, _+_, _-_, _*_, _/_, _%_}
 use lib.Dec.{eqb, ltb}
 use lib.IntN.{natAbs}
-use lib.ListN.{length}
 use Rattle.language.specs.Program.{flatTyped, flatDecl, flatItems, resultCode, flatBody}
-use Rattle.words.specs.Choice.{if_then_else_}
-use Rattle.language.specs.Tree.{Typed, Decl, declare, holding, Items, Body, Global, local, class, procedure, Tree}
+use Rattle.logic.specs.Choice.{if_then_else_}
+use Rattle.language.specs.Tree.{Typed, Global, local, class, procedure, Tree}
 use Rattle.language.specs.Table.{Entry}
 use Rattle.compile_code.specs.Compile.{indexOf, classesOf, classNames}
 

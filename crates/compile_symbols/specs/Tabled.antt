@@ -10,11 +10,11 @@ use lib.ListN.{length, take, drop, getD, length-append, length-drop}
 use lib.Seq.{take-at, drop-at, drop-drop}
 use borrow.Author.Tests.{leb-true}
 use Rattle.language.specs.Program.{flatTyped, flatItems, resultCode, flatBody, flatGlobal, flatHead, flatten}
-use Rattle.words.specs.Lists.{all}
+use Rattle.logic.specs.Lists.{all}
 use Rattle.values.specs.Types.{integer, logical, bits, reference}
 use Rattle.language.specs.Tree.{noItem, Body, proper, function, Global, local, class, procedure, Tree}
 use Rattle.language.specs.Table.{Entry, entry, inLayout, Read, took, stop, first, formRoot}
-use Rattle.language_laws.specs.Basics.{both-left}
+use Rattle.logic.specs.Tests.{both-left}
 use Rattle.language_laws.specs.Claims.{entriesOf, Readable}
 use Rattle.language_laws.specs.Programs.{read-flatten}
 use Rattle.table_scopes.specs.Stands.{Stands, length-entries, entryAt, entry-here}

@@ -7,7 +7,7 @@ use native.Mathlib.Omega.{arith}
 use lib.ListN.{length, drop, set}
 use lib.Seq.{sets, length-sets}
 use borrow.Author.Tests.{le-leb, lt-leb}
-use Rattle.words.specs.Choice.{if_then_else_}
+use Rattle.logic.specs.Choice.{if_then_else_}
 use Rattle.words.specs.Laws.{Bytes}
 use Rattle.values.specs.Ends.{Refusal, refusal, Judged, accepted, refused}
 use Rattle.language.specs.Tree.{Decl, declare, holding, Global, local, class, procedure, Tree}
@@ -17,14 +17,14 @@ use Rattle.language.specs.Limits.{limits}
 use Rattle.language.specs.Formed.{KeepsLimits}
 use Rattle.language.specs.Judge.{firstFault, judgeTree, judgeTable, compileOn}
 use Rattle.bytecode.specs.Macro.{Body}
-use Rattle.language_laws.specs.Basics.{clash}
+use Rattle.logic.specs.Tests.{clash}
+use Rattle.logic.specs.Lists.{Each}
 use Rattle.language_laws.specs.Programs.{accepted-program}
 use Rattle.language_laws.specs.Trees.{formed-faultless}
 use Rattle.table_scopes.specs.Environment.{envOf}
 use Rattle.table_scopes.specs.Sizes.{Known}
 use Rattle.table_scopes.specs.Trees.{length-Global}
 use Rattle.table_forms.specs.Tables.{Counted, Whole, Held, read-held, held-whole, parts as partsOf, RootPushed, ready-globals}
-use Rattle.bytecode_laws.specs.Terms.{Each}
 use Rattle.compile_code.specs.Code.{Code}
 use Rattle.compile_code.specs.Compile.{Class, classesOf, Proc, procsOf}
 use Rattle.compile_code.specs.Encode.{procParts, parts, headsOf, fieldTypes, compiled, macroOf, each, shapeBytes}

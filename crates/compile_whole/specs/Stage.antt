@@ -13,7 +13,7 @@ use Rattle.language.specs.Names.{Scope, procedureOf, rootOf}
 use Rattle.language.specs.Faults.{faults}
 use Rattle.language.specs.Limits.{bodyUsage, headCells, headHolds}
 use Rattle.language.specs.Formed.{InLimits, KeepsLimits}
-use Rattle.words.specs.Choice.{if_then_else_}
+use Rattle.logic.specs.Choice.{if_then_else_}
 use Rattle.words.specs.Numbers.{wordAt}
 use Rattle.language_laws.specs.Claims.{entriesOf}
 use Rattle.table_scopes.specs.Environment.{Item, item, envOf}

@@ -8,7 +8,7 @@ use lib.Dec.{ltb}
 use lib.ListN.{length}
 use borrow.Author.Tests.{ltb-true}
 use Rattle.language.specs.Program.{tableBytes, Program}
-use Rattle.words.specs.Lists.{all}
+use Rattle.logic.specs.Lists.{all}
 use Rattle.words.specs.Laws.{Bytes}
 use Rattle.values.specs.Ends.{Judged, accepted, refused}
 use Rattle.values.specs.Trace.{set, hold, release, Item, event}
@@ -24,7 +24,7 @@ use Rattle.examples.specs.Cases.{casesCompute}
 use Rattle.examples.specs.Notation.{refusalOf, joined, feed}
 use Rattle.examples.specs.Listing.{table, code, passes}
 use Rattle.examples.specs.Formed.{listingTree, listing-formed, listing-within}
-use Rattle.bytecode_laws.specs.Tests.{halves}
+use Rattle.logic.specs.Tests.{halves}
 use Rattle.bytecode_laws.specs.Promises.{passed}
 use Rattle.bytecode_safety.specs.Safety.{fresh-safe}
 use Rattle.bytecode_runs.specs.Terms.{Fed, runsOn, onBytes}

@@ -17,7 +17,7 @@ use Rattle.language.specs.Execute.{illFormed, execute}
 use Rattle.language_laws.specs.Endings.{ByteReadings, EndsBy, GoesOn}
 use Rattle.language_laws.specs.Programs.{program-accepted}
 use Rattle.bytecode.specs.Machine.{freshMachine}
-use Rattle.bytecode.specs.Runs.{Feed, finishes, runs}
+use Rattle.bytecode.specs.Runs.{Feed, finishes}
 use Rattle.bytecode.specs.Runs.{Ran as PlainRan}
 use Rattle.bytecode.specs.State.{stateLength}
 use Rattle.bytecode.specs.Lent.{RanOn, startOn}

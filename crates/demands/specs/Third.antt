@@ -24,7 +24,7 @@ use Rattle.bytecode_laws.specs.Promises.{passed}
 use Rattle.bytecode_layout.specs.Layout
 use Rattle.bytecode_layout.specs.Passing.{sized}
 use Rattle.bytecode_safety.specs.Safety.{step-safe, fresh-safe, reached-safe, runs-safe}
-use Rattle.words.specs.Choice.{if_then_else_}
+use Rattle.logic.specs.Choice.{if_then_else_}
 use Rattle.language.specs.Tree.{Tree}
 use Rattle.language.specs.Judge.{Compiled, judgeTable, compileTree, compileRefused, writeMacro, compileOn}
 use Rattle.bytecode_laws.specs.Promises.{passes-exactly}

@@ -15,7 +15,7 @@ use Rattle.bytecode.specs.Runs.{Answer, happens, spends, finishes, refuses, hal
 use Rattle.bytecode.specs.State.{stateLength, encode}
 use Rattle.bytecode.specs.Lent.{RanOn, startOn, runOn}
 use Rattle.bytecode.specs.Answers.{verdictNumbers, answerNumbers, packed}
-use Rattle.bytecode_laws.specs.Terms.{Each}
+use Rattle.logic.specs.Lists.{Each}
 use Rattle.bytecode_laws.specs.Promises.{passed}
 use Rattle.bytecode_safety.specs.Safety.{fresh-safe}
 use Rattle.bytecode_runs.specs.Terms.{Fed, runsOn, onBytes}

@@ -3,7 +3,7 @@ use mathlib.Core.Path.{_≡_, refl, sym, ap, _∙_}
 use Prim.Native.Nat.{_<_}
 use native.Mathlib.Omega.{arith}
 use lib.Dec.{eqb}
-use Rattle.words.specs.Choice.{if_then_else_}
+use Rattle.logic.specs.Choice.{if_then_else_}
 use Rattle.values.specs.Ends.{refusal, Judged, accepted, refused}
 use Rattle.values.specs.Trace.{set, hold, release}
 use Rattle.bytecode.specs.Answers.{Numbers, numbers, verdictNumbers, answerNumbers, packed}

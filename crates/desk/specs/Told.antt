@@ -17,7 +17,7 @@ use Rattle.bytecode.specs.Lent.{startOn, runOn}
 use Rattle.bytecode.specs.Answers.{Numbers, verdictNumbers, answerNumbers, packed}
 use Rattle.table_check.specs.Small.{Narrow, narrow}
 use Rattle.run.specs.Fields.{Small, Ranged, judged-small, start-small, run-ranged}
-use Rattle.words.specs.Choice.{if_then_else_}
+use Rattle.logic.specs.Choice.{if_then_else_}
 use Rattle.compile_code.specs.Encode.{macroOf}
 use Rattle.desk.specs.Compiled.{compiledNumbers, Short, short}
 use Rattle.desk.specs.Packing.{Fits, packed-injective, bare, verdicts-differ, Told, answers-differ}

@@ -6,8 +6,8 @@ use mathlib.Core.Option.{Option, none, some}
 use Prim.Native.Nat.{ℕ, zero, suc, _+_, _*_, _-_, _/_, _%_}
 use lib.Dec.{eqb}
 use lib.ListN.{replicate}
-use Rattle.words.specs.Options.{isSome}
-use Rattle.words.specs.Choice.{if_then_else_}
+use Rattle.logic.specs.Options.{isSome}
+use Rattle.logic.specs.Choice.{if_then_else_}
 use Rattle.values.specs.Ends.{Judged, accepted, refused}
 use Rattle.values.specs.Trace.{set, hold, release, Item, event, reading}
 use Rattle.values.specs.Computes.{valuesCompute}

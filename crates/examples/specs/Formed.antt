@@ -12,9 +12,7 @@ use Rattle.language.specs.Names.{Definition, nowhere, firstOf}
 use Rattle.language.specs.Formed.{Blocks, Reachable, Defines, d-none, d-more, HasType, t-number, t-truth, t-operate2, Formed, s-block, s-goto, s-set, ItemsFormed, i-none}
 use Rattle.language.specs.Formed.{i-label, i-item, BodyFormed, b-proper, WellFormed, KeepsLimits}
 use Rattle.examples.specs.Cases.{casesCompute}
-
-clash : {A : Type 0} → _≡_ {A = ℕ} 0 1 → A
-clash z = absurd (omega arith)
+use Rattle.logic.specs.Tests.{clash}
 
 -- the listing
 abbrev pub listingTree : Tree

@@ -1,7 +1,7 @@
 -- A name that opens every definition of this crate where a proof computes with them: `unfolding languageComputes`.
 use Rattle.language.specs.Measure.{measureS}
 use Rattle.language.specs.Program.{flatTyped, flatDecl, flatS, flatBody, flatGlobal, flatHead, flatten, tableBytes, deepGlobals, nesting, total}
-use Rattle.words.specs.Lists.{all, among}
+use Rattle.logic.specs.Lists.{all, among}
 use Rattle.language.specs.Tree.{countItems, countArms, countExprs, locals}
 use Rattle.language.specs.Table.{inLayout, after, repeated, first, formTyped, formDecl, itemsOf, armsOf, exprsOf, formS, formPart, formTarget, formE, below}
 use Rattle.language.specs.Table.{formGlobal, readHead, formRoot, entries, oneTree, readTable}

@@ -3,13 +3,13 @@
 use mathlib.Core.Bool.{Bool, true, false, _&&_, Bool·beq}
 use mathlib.Core.List.{List, [], _∷_, _++_, reverse}
 use mathlib.Core.Option.{Option, none, some}
-use Prim.Native.Nat.{ℕ, zero, suc, _+_}
+use Prim.Native.Nat.{ℕ, zero, suc}
 use lib.Dec.{eqb, ltb}
 use lib.IntN.{pos}
 use lib.ListN.{length, getElem?}
 use lib.ListN.{set as put}
-use Rattle.words.specs.Choice.{if_then_else_}
-use Rattle.words.specs.Options.{isSome, orElse, ifSome}
+use Rattle.logic.specs.Choice.{if_then_else_}
+use Rattle.logic.specs.Options.{isSome, orElse, ifSome}
 use Rattle.words.specs.Numbers.{wordOf}
 use Rattle.values.specs.Ends.{fieldOfNull, assertFalse, caseIndex, outOfRange, tooManyActivations, tooManyRecords}
 use Rattle.values.specs.Operators.{Binary, both, either, binaryCode}

@@ -6,9 +6,9 @@ use mathlib.Core.Option.{Option, none, some}
 use Prim.Native.Nat.{ℕ, suc, _+_}
 use lib.Dec.{eqb}
 use lib.ListN.{length}
-use Rattle.words.specs.Options.{isSome}
-use Rattle.words.specs.Choice.{if_then_else_}
-use Rattle.words.specs.Lists.{among}
+use Rattle.logic.specs.Options.{isSome}
+use Rattle.logic.specs.Choice.{if_then_else_}
+use Rattle.logic.specs.Lists.{among}
 use Rattle.values.specs.Types.{Ty, integer, logical, bits, reference, same, fits, allFit}
 use Rattle.values.specs.Ends.{Refusal, refusal}
 use Rattle.values.specs.Operators.{unary, binary, opType}

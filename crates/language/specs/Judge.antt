@@ -4,7 +4,7 @@ use Prim.Native.Nat.{ℕ}
 use lib.Dec.{leb}
 use lib.ListN.{length}
 use lib.Seq.{sets}
-use Rattle.words.specs.Choice.{if_then_else_}
+use Rattle.logic.specs.Choice.{if_then_else_}
 use Rattle.values.specs.Ends.{Refusal, refusal, Judged, accepted, refused}
 use Rattle.language.specs.Tree.{Tree}
 use Rattle.language.specs.Table.{readTable}

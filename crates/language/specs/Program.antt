@@ -7,7 +7,7 @@ use lib.Dec.{ltb}
 use lib.IntN.{ℤ, pos}
 use lib.ListN.{length}
 use lib.Signed.{mag}
-use Rattle.words.specs.Lists.{all}
+use Rattle.logic.specs.Lists.{all}
 use Rattle.words.specs.Numbers.{half, word, wordOf}
 use Rattle.values.specs.Types.{tyCode}
 use Rattle.values.specs.Operators.{unaryCode, binaryCode}

@@ -6,8 +6,8 @@ use Prim.Native.Nat.{ℕ, zero, suc, _+_, _-_, _/_, _%_}
 use lib.Dec.{eqb, leb, ltb}
 use lib.IntN.{ℤ, pos, negsuc, natAbs}
 use lib.ListN.{length, drop}
-use Rattle.words.specs.Choice.{if_then_else_}
-use Rattle.words.specs.Options.{isSome}
+use Rattle.logic.specs.Choice.{if_then_else_}
+use Rattle.logic.specs.Options.{isSome}
 use Rattle.words.specs.Numbers.{halfAt, wordAt, integerOf}
 use Rattle.values.specs.Types.{Ty, integer, logical, bits, reference}
 use Rattle.values.specs.Ends.{refusal, Judged, accepted, refused}

@@ -12,11 +12,11 @@ use borrow.Author.Tests.{ltb-true, lt-ltb}
 use mir.Syntax.{w32}
 use mir.Val.{SFits}
 use Rattle.language.specs.Program.{tableBytes, inFields}
-use Rattle.words.specs.Lists.{all}
+use Rattle.logic.specs.Lists.{all}
 use Rattle.words.specs.Numbers.{half, word, halfAt, wordAt, integerOf, wordOf}
 use Rattle.words.specs.Laws.{Bytes, two, four, number-of-bytes, number-below, bytes-slice, integer-back, word-back, integer-fits}
 use Rattle.language.specs.Table.{Entry, entries}
-use Rattle.language_laws.specs.Basics.{both-left, both-right}
+use Rattle.logic.specs.Tests.{both-left, both-right}
 
 -- eight bytes and those after them
 eight : (l x y z : List ℕ) → x ≡ take 2 l → y ≡ take 2 (drop 2 l) → z ≡ take 4 (drop 4 l) → x ++ (y ++ (z ++ drop 8 l)) ≡ l

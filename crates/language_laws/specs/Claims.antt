@@ -6,7 +6,7 @@ use mathlib.Core.Logic.{_⊎_}
 use Prim.Native.Nat.{ℕ, suc, _/_, _%_, _≤_, _<_}
 use lib.ListN.{length, take, getD}
 use Rattle.language.specs.Program.{flatten, nesting, total}
-use Rattle.words.specs.Lists.{all}
+use Rattle.logic.specs.Lists.{all}
 use Rattle.values.specs.Ends.{Refusal, refusal, Judged, accepted, refused}
 use Rattle.language.specs.Tree.{Tree}
 use Rattle.language.specs.Table.{Entry, inLayout, classCount, procedureCount, entries}

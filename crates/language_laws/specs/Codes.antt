@@ -9,13 +9,13 @@ use lib.IntN.{ℤ, pos, negsuc, natAbs}
 use borrow.Author.Tests.{eqb-true, ne-eqb, le-leb, leb-true}
 use Rattle.values.specs.Arithmetic.{isZero}
 use Rattle.values.specs.Values.{between}
-use Rattle.words.specs.Options.{isSome}
-use Rattle.words.specs.Choice.{if_then_else_}
+use Rattle.logic.specs.Options.{isSome}
+use Rattle.logic.specs.Choice.{if_then_else_}
 use Rattle.values.specs.Types.{Ty, integer, logical, bits, reference, tyCode}
 use Rattle.values.specs.Operators.{Unary, negate, absolute, complement, Binary, plus, minus, times, divide, remainder, less, atMost, greater, atLeast, equal, unequal}
 use Rattle.values.specs.Operators.{both, either, shiftLeft, shiftRight, unaryCode, binaryCode, unaryOf, binaryOf}
 use Rattle.language.specs.Table.{natural, tyOfCode}
-use Rattle.language_laws.specs.Basics.{clash, both-left}
+use Rattle.logic.specs.Tests.{clash, both-left}
 
 -- ── what a code stands for ──
 reference-back : (c : ℕ) → tyOfCode (65536 + c) ≡ (if leb (65536 + c) 131071 then some (reference c) else none)

@@ -7,8 +7,8 @@ use mathlib.Core.Option.{Option, none, some}
 use Prim.Native.Nat.{ℕ, zero, suc}
 use lib.Dec.{ltb}
 use lib.ListN.{length, getElem?}
-use Rattle.words.specs.Options.{isSome}
-use Rattle.words.specs.Choice.{if_then_else_}
+use Rattle.logic.specs.Options.{isSome}
+use Rattle.logic.specs.Choice.{if_then_else_}
 use Rattle.values.specs.Arithmetic.{Outcome, gives, ends, mistyped}
 use Rattle.values.specs.Values.{Value, asInteger, asLogical, asReference, Cell, assigned, fresh, between, size, apply1, apply2}
 use Rattle.values.specs.Trace.{set, hold, Item, event, reading}

@@ -5,7 +5,6 @@ pub mod Leaving
 pub mod Fuel
 pub mod Exits
 pub mod Examples
-pub mod Basics
 pub mod Codes
 pub mod Takes
 pub mod Yields

@@ -5,13 +5,13 @@ use mathlib.Core.List.{List, [], _∷_, _++_}
 use Prim.Native.Nat.{ℕ, suc}
 use lib.Dec.{eqb}
 use borrow.Author.Tests.{eqb-true, eqb-false, eq-eqb, ne-eqb}
-use Rattle.words.specs.Lists.{among}
+use Rattle.logic.specs.Lists.{among}
 use Rattle.values.specs.Types.{Ty}
 use Rattle.language.specs.Tree.{Typed, Decl, declare, holding}
 use Rattle.language.specs.Names.{Sort, isVariable, isField, Definition, define, definesTyped, definesHead, definesFields, nowhere, found, firstOf}
 use Rattle.language.specs.Faults.{twice, typeFaults, faultsTyped, faultsHead, namesHead, namesTyped}
 use Rattle.language.specs.Formed.{Blocks, IsType, Declared, Defines, d-none, d-more}
-use Rattle.language_laws.specs.Basics.{clash}
+use Rattle.logic.specs.Tests.{clash}
 use Rattle.language_laws.specs.Tests.{none-left, none-right, none-both, fault-if, no-fault-if, type-so, so-type}
 
 -- definitions that a block adds to names it has defined before: each once, and none of those

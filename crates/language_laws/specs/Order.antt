@@ -6,9 +6,9 @@ use Prim.Native.Nat.{ℕ, suc, _+_, _≤_, _<_}
 use native.Mathlib.Omega.{arith}
 use lib.ListN.{length}
 use Rattle.language.specs.Program.{total}
-use Rattle.words.specs.Choice.{if_then_else_}
-use Rattle.words.specs.Lists.{among}
-use Rattle.words.specs.Options.{isSome}
+use Rattle.logic.specs.Choice.{if_then_else_}
+use Rattle.logic.specs.Lists.{among}
+use Rattle.logic.specs.Options.{isSome}
 use Rattle.values.specs.Types.{Ty, integer, logical, bits, reference}
 use Rattle.values.specs.Ends.{Refusal, refusal}
 use Rattle.language.specs.Tree.{Typed, Decl, declare, holding, Stmt, block, assign, when, choose, while, goto, assert, call, setLevel, select, Items, noItem, label, item}

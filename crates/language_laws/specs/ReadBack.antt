@@ -11,7 +11,7 @@ use lib.ListN.{length}
 use borrow.Author.Tests.{eqb-true}
 use Rattle.language.specs.Measure.{measureS}
 use Rattle.language.specs.Program.{flatTyped, flatDecl, flatS, flatItems, flatArms, flatTarget, flatE, flatEs, deepHead, deepS, deepItems, deepArms, deepTarget, deepE, deepEs}
-use Rattle.words.specs.Choice.{if_then_else_}
+use Rattle.logic.specs.Choice.{if_then_else_}
 use Rattle.values.specs.Operators.{negate, plus, unaryCode, binaryCode, unaryOf, binaryOf}
 use Rattle.language.specs.Tree.{Typed, Decl, declare, holding, Stmt, block, assign, when, choose, while, goto, assert, call, setLevel, select, Items, noItem, label, item}
 use Rattle.language.specs.Tree.{Arms, lastArm, arm, Target, toVariable, toField, Expr, number, truth, pattern, null, variable, invoke, field, make, operate1, operate2}
@@ -19,7 +19,7 @@ use Rattle.language.specs.Tree.{conditional, fader, blockExpr, Exprs, noExpr, e
 use Rattle.language.specs.Table as T
 use Rattle.language.specs.Table.{Entry, entry, inLayout, took, stop, Reader, after, made, three, first, formTyped, formDecl, Part, labelPart, stmtPart, itemsOf, armsOf}
 use Rattle.language.specs.Table.{exprsOf, Below, formS, formPart, formTarget, formE, below}
-use Rattle.language_laws.specs.Basics.{clash}
+use Rattle.logic.specs.Tests.{clash}
 use Rattle.language_laws.specs.Codes.{type-back, unary-back, binary-back}
 use Rattle.language_laws.specs.Takes.{Fits, fits-head, Takes, takes-as, takes-here, takes-made, takes-two, takes-three, takes-none, takes-more, takes-first}
 

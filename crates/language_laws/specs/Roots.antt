@@ -8,12 +8,12 @@ use lib.IntN.{natAbs}
 use lib.ListN.{length}
 use borrow.Author.Tests.{leb-true, ltb-true, lt-ltb}
 use Rattle.language.specs.Program.{flatTyped, flatDecl, resultCode, flatBody, flatGlobal, flatHead, flatten, deepList, deepBody, deepGlobal, deepGlobals, nesting, total}
-use Rattle.words.specs.Choice.{if_then_else_}
+use Rattle.logic.specs.Choice.{if_then_else_}
 use Rattle.values.specs.Types.{integer, logical, bits, reference}
 use Rattle.language.specs.Tree.{Typed, declare, holding, Body, proper, function, Global, local, class, procedure, Tree}
 use Rattle.language.specs.Table.{Entry, inLayout, natural, isHeading, took, stop, Reader, after, two, repeated, first, Below, itemsBelow, below, bodyBelow, formGlobal}
 use Rattle.language.specs.Table.{classCount, procedureCount, readHead, treeOf, formRoot}
-use Rattle.language_laws.specs.Basics.{both-left, both-right}
+use Rattle.logic.specs.Tests.{both-left, both-right}
 use Rattle.language_laws.specs.Claims.{Readable}
 use Rattle.language_laws.specs.Codes.{within-natural}
 use Rattle.language_laws.specs.Takes.{Fits, fits-head, Takes, takes-eq, takes-here, takes-made, takes-then, takes-two, takes-first}

@@ -13,7 +13,7 @@ use Rattle.values.specs.Types.{integer}
 use Rattle.language.specs.Tree.{holding, noItem, Body, proper, function, Global, local, class, procedure, Tree}
 use Rattle.language.specs.Table.{Entry, entry, inLayout, tyOfCode, Read, took, stop, after, repeated, first, formDecl, itemsOf, Below, bodyBelow, formGlobal, readHead}
 use Rattle.language.specs.Table.{classCount, procedureCount, treeOf, formRoot}
-use Rattle.language_laws.specs.Basics.{clash}
+use Rattle.logic.specs.Tests.{clash}
 use Rattle.language_laws.specs.Claims.{Readable, Begins, FirstUnread}
 use Rattle.language_laws.specs.Outline.{size, depths, leavesOf, outlineBody, outlineGlobal, outlineHead, outlineS, outline}
 use Rattle.language_laws.specs.Roots.{formRootAt, takes-root, takes-root-at, Written, yields-root-at}

@@ -7,9 +7,9 @@ use Prim.Native.Nat.{ℕ, zero, suc, _+_, _≤_, _<_}
 use native.Mathlib.Omega.{arith}
 use lib.ListN.{length, getD, drop, length-append, List·getD-append}
 use lib.Seq.{getD-append-add}
-use Rattle.words.specs.Choice.{if_then_else_}
+use Rattle.logic.specs.Choice.{if_then_else_}
 use Rattle.language.specs.Table.{Entry, inLayout, Read, took, stop, Reader, after, made, two, three, repeated, first}
-use Rattle.language_laws.specs.Basics.{clash}
+use Rattle.logic.specs.Tests.{clash}
 use Rattle.language_laws.specs.Takes.{Takes, takes-here, takes-made, takes-after}
 use Rattle.language_laws.specs.Yields.{split-after}
 

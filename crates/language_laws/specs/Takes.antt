@@ -4,9 +4,10 @@ use mathlib.Core.Bool.{true}
 use mathlib.Core.List.{List, [], _∷_, _++_, append-assoc}
 use Prim.Native.Nat.{ℕ, suc, _≤_, max}
 use native.Mathlib.Omega.{arith}
-use Rattle.words.specs.Lists.{all}
+use Rattle.logic.specs.Lists.{all}
 use Rattle.language.specs.Table.{Entry, inLayout, Reader, took, after, made, two, three, repeated, first}
-use Rattle.language_laws.specs.Basics.{both-left, both-right, all-append}
+use Rattle.logic.specs.Tests.{both-left, both-right}
+use Rattle.logic.specs.ListLaws.{all-append}
 
 -- ── entries that keep to the layout, nested no deeper than so ──
 pub record Fits (d : ℕ) (us : List Entry) (n : ℕ) : Type 0 where

@@ -8,13 +8,13 @@ use native.Mathlib.Omega.{arith}
 use lib.Dec.{eqb}
 use lib.ListN.{length}
 use borrow.Author.Tests.{eqb-true}
-use Rattle.words.specs.Options.{isSome}
+use Rattle.logic.specs.Options.{isSome}
 use Rattle.values.specs.Types.{Ty, integer, logical, bits, reference, fits, allFit}
 use Rattle.values.specs.Identical.{same-refl, same→≡}
 use Rattle.language.specs.Names.{Sort, isVariable, isLabel, isClass, isField, isProcedure, Found, nowhere, found, lookup}
 use Rattle.language.specs.Faults.{withTy, variableTy, isTy, sameTy, fitsTy, fitTys, consTy, faultIf, mistypedUnless, named, classSort, classFrom, fieldOf, callOf, aimed, typeFaults}
 use Rattle.language.specs.Formed.{Blocks, Denotes, Reachable, IsType, integer-type, logical-type, bits-type, reference-type}
-use Rattle.language_laws.specs.Basics.{clash, both-left, both-right}
+use Rattle.logic.specs.Tests.{clash, both-left, both-right}
 
 -- ── lists of faults ──
 pub none-left : {A : Type 0} (xs ys : List A) → xs ++ ys ≡ [] → xs ≡ []

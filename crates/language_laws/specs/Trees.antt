@@ -6,7 +6,7 @@ use Prim.Native.Nat.{ℕ, zero, suc, _+_}
 use lib.Dec.{leb}
 use lib.ListN.{length}
 use borrow.Author.Tests.{leb-true, le-leb, not-false}
-use Rattle.words.specs.Lists.{among}
+use Rattle.logic.specs.Lists.{among}
 use Rattle.values.specs.Ends.{Refusal}
 use Rattle.language.specs.Tree.{Typed, Decl, declare, holding, Body, proper, function, Global, local, class, procedure, Tree}
 use Rattle.language.specs.Names.{isVariable, isClass, isField, isProcedure, Definition, define, types, results, definesTyped, definesHead, definesFields, definesItems}
@@ -14,7 +14,7 @@ use Rattle.language.specs.Names.{definesGlobals, procedureOf, rootOf}
 use Rattle.language.specs.Faults.{twice, faultsTyped, faultsHead, namesHead, namesTyped, faultsBody, bodyFits, sizeGlobal, namesGlobal, faultsGlobal, faultsGlobals, faultsItems, faults, typeE}
 use Rattle.language.specs.Limits.{Usage, keepsLimits, bodyUsage, rootUsage, overLimits, procedureLimits, limits}
 use Rattle.language.specs.Formed.{Blocks, Defines, BodyFormed, b-proper, b-function, EveryProcedure, ProcedureFormed, WellFormed, InLimits, KeepsLimits}
-use Rattle.language_laws.specs.Basics.{clash, both-left, both-right, both-so}
+use Rattle.logic.specs.Tests.{clash, both-left, both-right, both}
 use Rattle.language_laws.specs.Tests.{none-left, none-right, none-both, fault-if, no-fault-if, unless, typed-so, is-ty, ty-is}
 use Rattle.language_laws.specs.Once.{Adds, adds-all, adds-none, adds-more, adds-first, head-adds, adds-head, defined, fields-defined, parameters-defined, typed-adds, adds-typed}
 use Rattle.language_laws.specs.Typing.{labels-add, typed-E, formed-S, formed-items, no-fault-E, no-fault-S, no-fault-items, type-of}
@@ -157,7 +157,7 @@ within u p h =
     }
 
 not-over : (u : Usage) (p : ℕ) → InLimits u → overLimits u p ≡ []
-not-over u p w = no-fault-if 6 p (ap not (both-so (le-leb (u .cells) 32 (w .cells)) (both-so (le-leb (u .holds) 16 (w .holds)) (le-leb (u .need) 32 (w .need)))))
+not-over u p w = no-fault-if 6 p (ap not (both (le-leb (u .cells) 32 (w .cells)) (both (le-leb (u .holds) 16 (w .holds)) (le-leb (u .need) 32 (w .need)))))
 
 procedures-within : (p : ℕ) (gs : List Global) → procedureLimits p gs ≡ [] → EveryProcedure gs (λ xs b. InLimits (bodyUsage xs b))
 unfolding procedureLimits

@@ -5,7 +5,7 @@ use mathlib.Core.List.{List, [], _∷_, _++_, append-nil}
 use mathlib.Core.Option.{some}
 use Prim.Native.Nat.{ℕ, suc, _+_}
 use lib.ListN.{length}
-use Rattle.words.specs.Lists.{among}
+use Rattle.logic.specs.Lists.{among}
 use Rattle.values.specs.Types.{Ty, integer, logical, reference, allFit}
 use Rattle.values.specs.Operators.{unary, binary, opType}
 use Rattle.language.specs.Tree.{Decl, Stmt, block, assign, when, choose, while, goto, assert, call, setLevel, select, Items, noItem, label, item, Arms, lastArm, arm}
@@ -17,7 +17,7 @@ use Rattle.language.specs.Faults.{twice, sizeS, sizeTarget, sizeE, sizeItems, n
 use Rattle.language.specs.Formed.{Blocks, Defines, HasType, t-number, t-truth, t-pattern, t-null, t-variable, t-invoke, t-field, t-make, t-operate1, t-operate2}
 use Rattle.language.specs.Formed.{t-conditional, t-fader, t-block, Fit, f-none, f-more, Assignable, a-variable, a-field, Formed, s-block, s-assign, s-when, s-choose}
 use Rattle.language.specs.Formed.{s-while, s-assert, s-goto, s-call, s-set, s-case, ItemsFormed, i-none, i-label, i-item, ArmsFormed, r-last, r-more}
-use Rattle.language_laws.specs.Basics.{clash, both-left, both-right, both-so}
+use Rattle.logic.specs.Tests.{clash, both-left, both-right, both}
 use Rattle.language_laws.specs.Tests.{none-left, none-right, none-both, fault-if, no-fault-if, unless, typed-so, is-ty, told, ty-is, same-ty, ty-same, fits-ty}
 use Rattle.language_laws.specs.Tests.{ty-fits, fit-none, fit-more, more-fit, has-1, has-ty, so-named, class-named, record-named, field-named, no-result, one-result}
 use Rattle.language_laws.specs.Tests.{variable-named, label-aimed}
@@ -194,7 +194,7 @@ mutual
       none-both (no-fault-E h (suc p)) (none-both (no-fault-E k (suc p + sizeE e)) (typed-so p (has-ty (type-of (t-operate2 h k o)))))
   no-fault-E (t-conditional {e = e} {f = f} h k l) p =
       none-both (no-fault-E h (suc p)) (none-both (no-fault-E k (suc p + sizeE e)) (none-both (no-fault-E l (suc p + sizeE e + sizeE f))
-      (typed-so p (both-so (ty-is (type-of h)) (ty-same (type-of k) (type-of l))))))
+      (typed-so p (both (ty-is (type-of h)) (ty-same (type-of k) (type-of l))))))
   no-fault-E (t-fader h) p = none-both (no-fault-E h (suc p)) (typed-so p (ty-is (type-of h)))
   no-fault-E {ss} (t-block {ds = ds} {is = is} o h k) p =
       let b = block-heads (expressionOf ds is ∷ ss) (suc p) ds is o in
@@ -222,7 +222,7 @@ mutual
   no-fault-S (s-goto r) p = rw r refl
   no-fault-S {ss} (s-call {es = es} d fs) p = none-both (no-fault-Es fs (suc p)) (so-named (callOf 0 (typesE ss es)) p d (fit-of fs))
   no-fault-S (s-set {e = e} h k) p =
-      none-both (no-fault-E h (suc p)) (none-both (no-fault-E k (suc p + sizeE e)) (typed-so p (both-so (ty-is (type-of h)) (ty-is (type-of k)))))
+      none-both (no-fault-E h (suc p)) (none-both (no-fault-E k (suc p + sizeE e)) (typed-so p (both (ty-is (type-of h)) (ty-is (type-of k)))))
   no-fault-S (s-case {e = e} h k) p = none-both (no-fault-E h (suc p)) (none-both (no-fault-arms k (suc p + sizeE e)) (typed-so p (ty-is (type-of h))))
 
   pub no-fault-items : {ss : Blocks} {is : Items} → ItemsFormed ss is → (seen : List ℕ) (p : ℕ) → Adds ss seen (definesItems is) → faultsItems ss seen p is ≡ []

@@ -8,8 +8,8 @@ use lib.Dec.{eqb, ltb}
 use lib.ListN.{length}
 use borrow.Author.Tests.{eqb-true, eqb-false, ltb-true, ltb-false}
 use Rattle.language.specs.Program.{flatten, tableBytes, Program, inFields}
-use Rattle.words.specs.Lists.{all}
-use Rattle.words.specs.Choice.{if_then_else_}
+use Rattle.logic.specs.Lists.{all}
+use Rattle.logic.specs.Choice.{if_then_else_}
 use Rattle.words.specs.Laws.{Bytes}
 use Rattle.values.specs.Ends.{Refusal, refusal, Judged, accepted, refused}
 use Rattle.language.specs.Tree.{Tree}
@@ -17,7 +17,7 @@ use Rattle.language.specs.Table.{Read, took, stop, first, formRoot, oneTree, re
 use Rattle.language.specs.Faults.{faults}
 use Rattle.language.specs.Limits.{limits}
 use Rattle.language.specs.Judge.{firstFault, judgeTree, judgeTable}
-use Rattle.language_laws.specs.Basics.{clash}
+use Rattle.logic.specs.Tests.{clash}
 use Rattle.language_laws.specs.Bytes.{bytes-back, fields-kept, entries-all, length-bytes}
 use Rattle.language_laws.specs.Claims.{Readable, entriesOf, Misshapen, empty, over, uneven, Shaped, Holds, Verdict, misshapen, unread, faulty, sound}
 use Rattle.language_laws.specs.Roots.{takes-root, yields-root}

@@ -8,7 +8,7 @@ use native.Mathlib.Decide.{decLt}
 use native.Mathlib.Omega.{arith}
 use Rattle.values.specs.Ends.{Refusal, refusal}
 use Rattle.language.specs.Faults.{faultIf}
-use Rattle.language_laws.specs.Basics.{clash}
+use Rattle.logic.specs.Tests.{clash}
 use Rattle.language_laws.specs.Claims.{Walk, end, pass, meet, Stands, Earlier, Ordered}
 use Rattle.language_laws.specs.Outline.{Outline, none, under, _beside_, size, postorder}
 

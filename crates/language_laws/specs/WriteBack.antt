@@ -13,15 +13,15 @@ use Rattle.values.specs.Arithmetic.{isZero}
 use Rattle.values.specs.Values.{between}
 use Rattle.language.specs.Measure.{measureS}
 use Rattle.language.specs.Program.{flatTyped, flatDecl, flag, flatS, flatItems, flatArms, flatTarget, flatE, flatEs, deepHead, deepS, deepItems, deepArms, deepTarget, deepE, deepEs}
-use Rattle.words.specs.Options.{isSome}
-use Rattle.words.specs.Choice.{if_then_else_}
+use Rattle.logic.specs.Options.{isSome}
+use Rattle.logic.specs.Choice.{if_then_else_}
 use Rattle.values.specs.Operators.{negate, plus, unaryOf, binaryOf}
 use Rattle.language.specs.Tree.{Typed, Decl, Items, Target, Exprs, Stmt, block, assign, when, choose, while, assert, call, setLevel, select, toField, Expr, invoke, field}
 use Rattle.language.specs.Tree.{make, operate1, operate2, conditional, fader, blockExpr, expr, countItems, countArms, countExprs}
 use Rattle.language.specs.Table as T
 use Rattle.language.specs.Table.{Entry, entry, inLayout, natural, asTyped, tyOfCode, Reader, made, first, formTyped, formDecl, Part, labelPart, stmtPart, itemsOf, armsOf}
 use Rattle.language.specs.Table.{exprsOf, Below, formS, formPart, formTarget, formE, below}
-use Rattle.language_laws.specs.Basics.{clash, both-left, both-right}
+use Rattle.logic.specs.Tests.{clash, both-left, both-right}
 use Rattle.language_laws.specs.Codes.{unary-coded, binary-coded, type-coded, nothing-zero, natural-pos}
 use Rattle.language_laws.specs.Takes.{Fits, fits-cons, fits-join, fits-none}
 use Rattle.language_laws.specs.Yields.{Claim, Yields, yields-here, yields-stop, yields-if, yields-made, yields-two, yields-three, yields-times, yields-first}

@@ -9,8 +9,8 @@ use native.Mathlib.Omega.{arith}
 use lib.Dec.{eqb, ltb}
 use lib.ListN.{length, getElem?}
 use borrow.Author.Tests.{lt-ltb, le-leb, not-false}
-use Rattle.words.specs.Options.{keep, isSome, orElse}
-use Rattle.words.specs.Choice.{if_then_else_}
+use Rattle.logic.specs.Options.{keep, isSome, orElse}
+use Rattle.logic.specs.Choice.{if_then_else_}
 use Rattle.words.specs.Numbers.{byteAt}
 use Rattle.bytecode.specs.Macro.{Shape, shapeIn}
 use Rattle.bytecode.specs.Instructions.{instruction, instrAt, inBody}
@@ -21,7 +21,8 @@ use Rattle.load_places.specs.Records.{bodies, count, firstOf, codePlace}
 use Rattle.load_places.specs.Rules.{bad, shapeAt, bodyOf, effect, meet, leave, opens, found, step, into, isBad, broken}
 use Rattle.load_places.specs.Index.{Well}
 use Rattle.load_check.specs.Lists.{span-at, span-length}
-use Rattle.load_check.specs.Tests.{by-test, by-option, both-true, neither}
+use Rattle.logic.specs.Tests.{by-test, halves, neither}
+use Rattle.logic.specs.OptionLaws.{by-option}
 use Rattle.load_check.specs.View.{opAt, aAt, bAt, codeOn, view, below, bytes}
 use Rattle.load_check.specs.Known.{first-zero}
 use Rattle.load_check.specs.Bodies.{Stands, stands, before-end, in-body, body-in, first-in}
@@ -72,7 +73,7 @@ module _ (l : List ℕ) (w : Well l) (i : ℕ) (h : i < count l) (g : Agrees l i
       go : (o f : Option Shape) → Room f → shapeFault o f ≡ false → Room (orElse o f)
       go none f r e = r
       go (some s) none r e = not-false _ e
-      go (some s) (some t) r e = both-true _ _ (not-false _ e) .0
+      go (some s) (some t) r e = halves _ _ (not-false _ e) .0
 
   op-leaves : (s : Shape) → roomy s ≡ true
       → leave l (bodyOf l i) i (effect l (bodyOf l i) (opAt l i) (aAt l i) (bAt l i) (s .holds) (bytes (s .operands)))
@@ -144,7 +145,7 @@ module _ (l : List ℕ) (w : Well l) (i : ℕ) (h : suc i < count l) (g : Agrees
         let k = bodyOf l i in
         by-test (ltb (suc k) (bodies l) && eqb (firstOf l (suc k)) (suc i))
         (λ e. let f = rw e at (first-in l w (bodyOf l (suc i)) (suc i) (stands l w (suc i))) in
-        absurd (false≢true (sym inner ∙ f ∙ both-true (ltb (suc k) (bodies l)) _ e .1)))
+        absurd (false≢true (sym inner ∙ f ∙ halves (ltb (suc k) (bodies l)) _ e .1)))
         (λ e. rw e)
 
     next-within : inBody (view l) (bodyOf l i) (suc i) ≡ true

@@ -16,7 +16,7 @@ use Rattle.load_places.specs.Records.{bodies, count, bodyPlace, firstOf}
 use Rattle.load_places.specs.Rules.{bodyOf, endOf}
 use Rattle.load_places.specs.Index.{Well}
 use Rattle.load_check.specs.Lists.{span, span-at, span-length}
-use Rattle.load_check.specs.Tests.{tests, by-test, together, both-true}
+use Rattle.logic.specs.Tests.{tests, by-test, together, halves}
 use Rattle.load_check.specs.View.{bodyOn, view, below}
 use Rattle.load_check.specs.Known.{some-body, first-zero, first-rises}
 
@@ -38,7 +38,7 @@ module _ (l : List ℕ) (w : Well l) where
   stands (suc i) =
       let k = bodyOf l i in let s = stands i in
       by-test (ltb (suc k) (bodies l) && eqb (firstOf l (suc k)) (suc i))
-      (λ e. let b = both-true (ltb (suc k) (bodies l)) _ e in let f = eqb-true (firstOf l (suc k)) (suc i) (b .1) in
+      (λ e. let b = halves (ltb (suc k) (bodies l)) _ e in let f = eqb-true (firstOf l (suc k)) (suc i) (b .1) in
       rw e (record { within = ltb-true _ _ (b .0); begun = omega arith; next = λ h. omega (arith, first-rises l w (suc k) h) }))
       (λ e. rw e (record {
         within = s .within;

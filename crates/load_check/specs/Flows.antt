@@ -8,13 +8,14 @@ use native.Mathlib.Omega.{arith}
 use lib.Dec.{leb, ltb}
 use lib.ListN.{length, length-map}
 use borrow.Author.Tests.{leb-true, le-leb}
-use Rattle.words.specs.Choice.{if_then_else_}
+use Rattle.logic.specs.Choice.{if_then_else_}
 use Rattle.values.specs.Types.{Ty, tyByte}
 use Rattle.bytecode.specs.Macro.{shape, Macro}
 use Rattle.bytecode.specs.Instructions.{exactly}
 use Rattle.bytecode.specs.Rules.{Effect, plain, giving, taking, Flow as FlowIn, on, fork, jump, halt, broken, strip, roomy, flow, lands as landsIn}
 use Rattle.load_places.specs.Rules.{Flow, goes, ends, bad, need, push}
-use Rattle.load_check.specs.Tests.{by-test, by-option, both-true}
+use Rattle.logic.specs.Tests.{by-test, halves}
+use Rattle.logic.specs.OptionLaws.{by-option}
 use Rattle.load_check.specs.View.{tyOn, bytes}
 use Rattle.load_check.specs.Stack.{draws, draws-strip, strip-length}
 use Rattle.load_check.specs.Shapes.{state}
@@ -44,7 +45,7 @@ module _ (m : Macro) (k h : ℕ) (ts : List Ty) (room : roomy (shape h ts) ≡ t
   sends e = send m k (flow e (shape h ts))
 
   few : leb h 16 ≡ true
-  few = both-true (leb h 16) (leb (length ts) 32) room .0
+  few = halves (leb h 16) (leb (length ts) 32) room .0
 
   pub gives-one : (ins : List Ty) (t : Ty) → draws (bytes ins) h (bytes ts) (λ g r. push (tyByte t) g r) ≡ sends (plain ins (t ∷ []))
   unfolding flow push
@@ -54,7 +55,7 @@ module _ (m : Macro) (k h : ℕ) (ts : List Ty) (room : roomy (shape h ts) ≡ t
   pub gives-none : (ins : List Ty) → draws (bytes ins) h (bytes ts) goes ≡ sends (plain ins [])
   unfolding flow
   gives-none ins = draws-strip ins ts h goes ∙ by-option (strip ins ts) (λ e. rw e)
-      (λ r e. rw (e, few, le-leb (length r) 32 (omega (arith, strip-length ins ts r e, leb-true (length ts) 32 (both-true (leb h 16) _ room .1)))))
+      (λ r e. rw (e, few, le-leb (length r) 32 (omega (arith, strip-length ins ts r e, leb-true (length ts) 32 (halves (leb h 16) _ room .1)))))
 
   -- a type that there may be, given and taken
   pub giving-one : (there : Bool) (t : ℕ) (ins : List Ty) → (there ≡ true → tyByte (tyOn t) ≡ t)

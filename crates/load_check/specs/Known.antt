@@ -17,7 +17,7 @@ use Rattle.load_places.specs.Search.{first, Clean}
 use Rattle.load_places.specs.Records.{classes, bodies, count, shapes, classPlace, bodyPlace, firstOf, shapePlace, noMark, noType, badTypes, badHead, badClass, rises}
 use Rattle.load_places.specs.Records.{bodyFits, badBody, badCode, shapeFits, badShape, Read, reads, unread, among, readRecords}
 use Rattle.load_places.specs.Index.{Well}
-use Rattle.load_check.specs.Tests.{tests, by-test, past, held, neither}
+use Rattle.logic.specs.Tests.{tests, by-test, past, held, neither}
 use Rattle.load_check.specs.View.{tyOn, Typed, view, paramsAt, resultAt, cellsAt, fieldsAt}
 use Rattle.load_check.specs.Reading.{told, macro-told, none-first}
 

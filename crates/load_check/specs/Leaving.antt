@@ -9,8 +9,8 @@ use native.Mathlib.Omega.{arith}
 use lib.Dec.{eqb, leb, ltb, eqb·suc-zero}
 use lib.ListN.{length}
 use borrow.Author.Tests.{leb-true, le-leb, lt-ltb, le-ltb}
-use Rattle.words.specs.Options.{isSome}
-use Rattle.words.specs.Choice.{if_then_else_}
+use Rattle.logic.specs.Options.{isSome}
+use Rattle.logic.specs.Choice.{if_then_else_}
 use Rattle.values.specs.Types.{Ty, logical, sames}
 use Rattle.bytecode.specs.Macro.{Shape, shape, shapeIn}
 use Rattle.bytecode.specs.Instructions.{inBody}
@@ -20,7 +20,8 @@ use Rattle.load_places.specs.Records.{bodies, count, firstOf}
 use Rattle.load_places.specs.Rules.{Flow, goes, bad, need, shapeAt, endOf, leave, plain as plainHead, opens}
 use Rattle.load_places.specs.Index.{Well}
 use Rattle.load_check.specs.Lists.{span-length}
-use Rattle.load_check.specs.Tests.{tests, by-test, by-option, together, both-true}
+use Rattle.logic.specs.Tests.{tests, by-test, together, halves}
+use Rattle.logic.specs.OptionLaws.{by-option}
 use Rattle.load_check.specs.View.{resultOn, view, paramsAt, resultAt, cellsAt}
 use Rattle.load_check.specs.Stack.{strip-length}
 use Rattle.load_check.specs.Bodies.{bodyHere, Stands, before-end, in-body, first-in, fault-in}
@@ -90,7 +91,7 @@ room-if s = by-test (roomy s) (λ e. rw e e) (λ e. rw e tt)
 
 room-less : (h g : ℕ) (ts us : List Ty) → g ≤ h → length us ≤ length ts → roomy (shape h ts) ≡ true → roomy (shape g us) ≡ true
 room-less h g ts us a b e =
-    let r = both-true (leb h 16) (leb (length ts) 32) e in
+    let r = halves (leb h 16) (leb (length ts) 32) e in
     let p = leb-true h 16 (r .0) in let q = leb-true (length ts) 32 (r .1) in
     rw (le-leb g 16 (omega arith), le-leb (length us) 32 (omega arith))
 

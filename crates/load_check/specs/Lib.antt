@@ -1,5 +1,4 @@
 pub mod Lists
-pub mod Tests
 pub mod View
 pub mod Readers
 pub mod Reading

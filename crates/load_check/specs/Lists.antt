@@ -7,7 +7,7 @@ use native.Mathlib.Nat.{add-zero, zero-add, add-suc, suc-add}
 use native.Mathlib.Omega.{arith}
 use lib.Dec.{ltb, leb·suc-suc, leb·suc-zero, leb·zero}
 use lib.ListN.{length, getElem?, take}
-use Rattle.words.specs.Choice.{if_then_else_}
+use Rattle.logic.specs.Choice.{if_then_else_}
 
 module _ {A : Type 0} (f : ℕ → A) where
   -- f j, f (j + 1), .. (n of them)

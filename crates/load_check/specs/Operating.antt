@@ -15,7 +15,7 @@ use Rattle.bytecode.specs.Instructions.{operatorOf}
 use Rattle.bytecode.specs.Rules.{operating, giving, roomy, flow}
 use Rattle.load_places.specs.Rules.{Flow, goes, bad, need, push, pop, chain, topOf, trade1, trade2, twofold, operates}
 use Rattle.load_check.specs.View.{bytes}
-use Rattle.load_check.specs.Tests.{tests, by-test, eqb-sym}
+use Rattle.logic.specs.Tests.{tests, by-test, eqb-comm}
 use Rattle.load_check.specs.Stack.{same-byte, draws}
 use Rattle.load_check.specs.Flows.{sends, gives-one}
 
@@ -72,7 +72,7 @@ module _ (m : Macro) (k h : ℕ) where
   any2 o e [] room = (unfold flow in refl)
   any2 o e (t ∷ []) room = (unfold flow in rw (eq-eqb (tyByte t) (tyByte t) refl))
   any2 o e (t ∷ (u ∷ ts)) room =
-      (rw (e (u ∷ t ∷ []), eq-eqb (tyByte t) (tyByte t) refl, eq-eqb (tyCode u) (tyCode u) refl, same-byte t u, eqb-sym (tyByte u) (tyByte t))
+      (rw (e (u ∷ t ∷ []), eq-eqb (tyByte t) (tyByte t) refl, eq-eqb (tyCode u) (tyCode u) refl, same-byte t u, eqb-comm (tyByte u) (tyByte t))
       (by-test (eqb (tyByte t) (tyByte u)) (λ q. rw q) (λ q. rw q)) ∙ gives (t ∷ u ∷ []) ts room (opType (binary o) (u ∷ t ∷ [])))
 
   -- of logical or bits

@@ -10,7 +10,7 @@ use native.Mathlib.Omega.{arith}
 use lib.Dec.{eqb, leb, ltb, leb·suc-suc, eqb·suc-zero}
 use lib.ListN.{length, getElem?}
 use borrow.Author.Tests.{ne-eqb, lt-ltb, le-ltb, ltb-true}
-use Rattle.words.specs.Options.{keep}
+use Rattle.logic.specs.Options.{keep}
 use Rattle.words.specs.Numbers.{byteAt, integerOf}
 use Rattle.values.specs.Types.{Ty, integer, logical, bits, reference, tyByte, sames}
 use Rattle.values.specs.Ends.{caseIndex}
@@ -26,7 +26,8 @@ use Rattle.load_places.specs.Rules.{opLoad, opStore, opOperator, opGo, opUnless
 use Rattle.load_places.specs.Rules.{opAssert, opStop, effect}
 use Rattle.load_places.specs.Index.{Well}
 use Rattle.load_check.specs.Lists.{span-at, span-length, span-take, reverse-span}
-use Rattle.load_check.specs.Tests.{by-test, by-option, both-true}
+use Rattle.logic.specs.Tests.{by-test, halves}
+use Rattle.logic.specs.OptionLaws.{by-option}
 use Rattle.load_check.specs.View.{tyOn, typesOn, stackOn, resultOn, classOn, view, below, bytes, paramsAt, resultAt, cellsAt, cellAt, fieldsAt, fieldAt}
 use Rattle.load_check.specs.Known.{some-body, known-class, known-body, known-result}
 use Rattle.load_check.specs.Stack.{same-byte, stack-bytes, draws, draws-strip, takes-draws, pop-draws}
@@ -253,7 +254,7 @@ module _ (l : List ℕ) (w : Well l) (k : ℕ) (within : k < bodies l) (h : ℕ)
   at-hold : (a b : ℕ) → opHold a b h (bytes ts) ≡ does (exactly (eqb a 0 && leb b 63) (takeHold b))
   unfolding opHold effectIn flow
   at-hold a b = rw (leb·suc-suc b 63) (exact2 does refl (eqb a 0) (leb b 63) _ _
-      (rw (add-one h, both-true (leb h 16) (leb (length ts) 32) room .1) (by-test (ltb h 16) (λ e. rw e) (λ e. rw e))))
+      (rw (add-one h, halves (leb h 16) (leb (length ts) 32) room .1) (by-test (ltb h 16) (λ e. rw e) (λ e. rw e))))
 
   at-release : (a b : ℕ) → opRelease a b h (bytes ts) ≡ does (exactly (eqb a 0 && eqb b 0) letHold)
   unfolding opRelease effectIn flow

@@ -11,8 +11,8 @@ use lib.Dec.{eqb, ltb, eqb·suc-zero}
 use lib.ListN.{length, drop, length-drop, drop-of-length-le}
 use lib.Seq.{drop-cons, getD-drop, drop-drop}
 use borrow.Author.Tests.{lt-ltb, le-ltb, le-leb, lt-leb, ne-eqb}
-use Rattle.words.specs.Options.{isSome}
-use Rattle.words.specs.Choice.{if_then_else_}
+use Rattle.logic.specs.Options.{isSome}
+use Rattle.logic.specs.Choice.{if_then_else_}
 use Rattle.words.specs.Numbers.{byteAt, halfAt}
 use Rattle.words.specs.Laws.{Size, one, two, four, numberAt, same-number}
 use Rattle.values.specs.Types.{Ty}
@@ -21,7 +21,8 @@ use Rattle.load_places.specs.Search.{seek}
 use Rattle.load_places.specs.Records.{classes, bodies, count, classPlace, bodyPlace, firstOf, codePlace, shapePlace, find, noMark, noType, badTypes, badClass, rises}
 use Rattle.load_places.specs.Records.{bodyFits, badBody, badCode, shapeFits, badShape}
 use Rattle.load_check.specs.Lists.{span, backs, reverse-span}
-use Rattle.load_check.specs.Tests.{tests, by-test, leb-not, if-same, if-not, keep-if, alike-ways}
+use Rattle.logic.specs.Tests.{tests, by-test, leb-not, if-same, if-not}
+use Rattle.logic.specs.OptionLaws.{keep-if, alike-ways}
 use Rattle.load_check.specs.View.{tyOn, typesOn, resultOn, classOn, bodyOn, codeOn, placedOn}
 
 -- ── types ──

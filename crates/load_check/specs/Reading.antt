@@ -10,7 +10,7 @@ use native.Mathlib.Omega.{arith}
 use lib.Dec.{eqb, ltb}
 use lib.ListN.{length, drop, length-drop}
 use borrow.Author.Tests.{eqb-true, lt-ltb, le-ltb}
-use Rattle.words.specs.Choice.{if_then_else_}
+use Rattle.logic.specs.Choice.{if_then_else_}
 use Rattle.words.specs.Numbers.{byteAt}
 use Rattle.values.specs.Ends.{refusal, Judged, accepted, refused}
 use Rattle.bytecode.specs.Macro.{Cut, cut, Macro, Parsed, parsed, unread as unreadAt, orUnread, records, onward, headReads, readEnd as readLast, parseMacro, readOr8, readMacro}
@@ -18,7 +18,7 @@ use Rattle.load_places.specs.Search.{seek, first}
 use Rattle.load_places.specs.Records.{classes, bodies, count, shapes, classPlace, bodyPlace, codeBase, codePlace, shapePlace, noMark, badHead, badClass, badBody, badCode}
 use Rattle.load_places.specs.Records.{badShape, Read, reads, unread, readEnd, among, readRecords}
 use Rattle.load_check.specs.Lists.{span, backs, reverse-backs}
-use Rattle.load_check.specs.Tests.{tests, by-test, together, leb-not}
+use Rattle.logic.specs.Tests.{tests, by-test, together, leb-not}
 use Rattle.load_check.specs.View.{classOn, bodyOn, codeOn, placedOn, view}
 use Rattle.load_check.specs.Readers.{marked-at, mark-room, class-reads, body-reads, code-reads, shape-reads}
 

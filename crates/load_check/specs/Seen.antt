@@ -15,4 +15,4 @@ pub use Rattle.load_check.specs.Stack.{stack-bytes, same-byte, alike-byt
 -- ── rows of bytes as lists, and tests on both ──
 unfoldable pub use Rattle.load_check.specs.Lists.{span, backs}
 pub use Rattle.load_check.specs.Lists.{span-at, span-length, span-snoc, span-take, backs-length, reverse-span}
-pub use Rattle.load_check.specs.Tests.{tests, by-test, past}
+pub use Rattle.logic.specs.Tests.{tests, by-test, past}

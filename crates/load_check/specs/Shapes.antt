@@ -9,8 +9,8 @@ use native.Mathlib.Omega.{arith}
 use lib.Dec.{eqb, ltb}
 use lib.ListN.{length-map}
 use borrow.Author.Tests.{ltb-false, eqb-true, eq-eqb, ne-eqb}
-use Rattle.words.specs.Options.{orElse}
-use Rattle.words.specs.Choice.{if_then_else_}
+use Rattle.logic.specs.Options.{orElse}
+use Rattle.logic.specs.Choice.{if_then_else_}
 use Rattle.words.specs.Numbers.{byteAt, halfAt}
 use Rattle.values.specs.Types.{tyByte, sames}
 use Rattle.bytecode.specs.Macro.{Shape, Placed, shapeIn}
@@ -20,7 +20,7 @@ use Rattle.load_places.specs.Records.{bodies, count, shapes, shapePlace, firstO
 use Rattle.load_places.specs.Rules.{Flow, goes, ends, bad, shapeAt, shapeTypes, equals, endOf, lands, meet}
 use Rattle.load_places.specs.Index.{Well}
 use Rattle.load_check.specs.Lists.{span, span-snoc, backs-length}
-use Rattle.load_check.specs.Tests.{by-test, eqb-sym, leb-not, cond-and, both-true}
+use Rattle.logic.specs.Tests.{by-test, eqb-comm, leb-not, cond-and, halves}
 use Rattle.load_check.specs.View.{stackOn, stateOn, placedOn, view, shapeOn, Typed, bytes}
 use Rattle.load_check.specs.Readers.{shape-past}
 use Rattle.load_check.specs.Known.{known-shape}
@@ -80,7 +80,7 @@ state none = ends
 state (some s) = goes (s .holds) (bytes (s .operands))
 
 same-sym : (s t : Shape) → sameShape s t ≡ sameShape t s
-same-sym s t = rw (eqb-sym (s .holds) (t .holds), sames-sym (s .operands) (t .operands))
+same-sym s t = rw (eqb-comm (s .holds) (t .holds), sames-sym (s .operands) (t .operands))
 
 module _ (l : List ℕ) (p : ℕ) (t : Typed l (p + 6) (byteAt l (p + 5))) where
   equals-same : (s : Shape) → equals l p (s .holds) (bytes (s .operands)) ≡ sameShape s (stateOn l p)
@@ -98,7 +98,7 @@ module _ (l : List ℕ) (p : ℕ) (t : Typed l (p + 6) (byteAt l (p + 5))) where
 
   agrees : (s : Shape) → sameShape s (stateOn l p) ≡ true → state (some s) ≡ state (some (stateOn l p))
   agrees s e =
-      let b = both-true (eqb (s .holds) (byteAt l (p + 4))) _ e in
+      let b = halves (eqb (s .holds) (byteAt l (p + 4))) _ e in
       let u = stateOn l p .operands in
       rw (eqb-true (s .holds) (byteAt l (p + 4)) (b .0), alike-same (bytes (s .operands)) (bytes u) (alike-bytes (s .operands) u ∙ b .1))
 

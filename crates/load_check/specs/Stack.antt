@@ -15,7 +15,7 @@ use Rattle.bytecode.specs.Rules.{strip}
 use Rattle.load_places.specs.Search.{tops, alike}
 use Rattle.load_places.specs.Rules.{Flow, goes, bad, pop, chain, takes}
 use Rattle.load_check.specs.Lists.{backs}
-use Rattle.load_check.specs.Tests.{tests, by-test, together, eqb-sym, held}
+use Rattle.logic.specs.Tests.{tests, by-test, together, eqb-comm, held}
 use Rattle.load_check.specs.View.{bytes, Typed, stackOn}
 
 -- ── comparing ──
@@ -54,7 +54,7 @@ unfolding sames
 sames-sym [] [] = refl
 sames-sym [] (u ∷ us) = refl
 sames-sym (t ∷ ts) [] = refl
-sames-sym (t ∷ ts) (u ∷ us) = rw (eqb-sym (tyCode t) (tyCode u), sames-sym ts us)
+sames-sym (t ∷ ts) (u ∷ us) = rw (eqb-comm (tyCode t) (tyCode u), sames-sym ts us)
 
 -- the types from a place on, the last on top
 pub stack-bytes : (l : List ℕ) (q n : ℕ) → Typed l q n → bytes (stackOn l q n) ≡ tops l q n

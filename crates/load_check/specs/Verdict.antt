@@ -8,7 +8,7 @@ use native.Mathlib.Omega.{arith}
 use lib.Dec.{eqb, ltb}
 use lib.ListN.{length}
 use borrow.Author.Tests.{lt-ltb, le-ltb, eqb-true, ltb-false}
-use Rattle.words.specs.Choice.{if_then_else_}
+use Rattle.logic.specs.Choice.{if_then_else_}
 use Rattle.values.specs.Ends.{refusal, Judged, accepted, refused as refusedBy}
 use Rattle.bytecode.specs.Macro.{Macro}
 use Rattle.bytecode.specs.Rules.{faultAt, lowest, judgeCode}
@@ -16,7 +16,8 @@ use Rattle.load_places.specs.Search.{seek, first, Clean}
 use Rattle.load_places.specs.Records.{count, Read, reads, unread, readRecords}
 use Rattle.load_places.specs.Rules.{broken, passes, refused, verdict}
 use Rattle.load_places.specs.Index.{Well}
-use Rattle.load_check.specs.Tests.{tests, by-test, by-option}
+use Rattle.logic.specs.Tests.{tests, by-test}
+use Rattle.logic.specs.OptionLaws.{by-option}
 use Rattle.load_check.specs.View.{view, verdictOf}
 use Rattle.load_check.specs.Reading.{told}
 use Rattle.load_check.specs.Known.{clean, reads-well}

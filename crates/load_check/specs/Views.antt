@@ -17,7 +17,7 @@ use Rattle.load_places.specs.Search.{Clean}
 use Rattle.load_places.specs.Records.{classes, bodies, count, classPlace, bodyPlace, codePlace, readRecords}
 use Rattle.load_places.specs.Rules.{goes, shapeAt, found, into, broken, judge}
 use Rattle.load_places.specs.Index.{Well}
-use Rattle.load_check.specs.Tests.{by-option}
+use Rattle.logic.specs.OptionLaws.{by-option}
 use Rattle.load_check.specs.View.{tyOn, classOn, bodyOn, codeOn, view, below, shapeOn, Typed, bytes, verdictOf, resultAt, cellsAt, fieldsAt}
 use Rattle.load_check.specs.Reading.{macro-told}
 use Rattle.load_check.specs.Known.{reads-well, reads-view, known-class, known-body, known-result}

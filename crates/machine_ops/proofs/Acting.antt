@@ -24,7 +24,7 @@ use Rattle.bytecode.specs.Machine as machine
 use Rattle.load_places.specs.Records.{classes, bodies, classPlace, bodyPlace}
 use Rattle.load_check.specs.Seen.{span, span-length, tyOn, classOn, bodyOn, typesOn, below, viewed}
 use Rattle.bytecode_safety.specs.Lists.{pops}
-use Rattle.bytecode_layout.specs.Elements.{there}
+use Rattle.logic.specs.ListLaws.{index-below}
 use Rattle.bytecode_layout.specs.Places.{framePlace}
 use Rattle.bytecode_layout.specs.Steps.{activation}
 use Rattle.bytecode_layout.specs.Records.{made}
@@ -318,7 +318,7 @@ module _ {l : List ℕ} {f n i : ℕ} (c x : ℕ) where
             (λ h. supplied (fieldTy m c x) badType _ (λ t et. supplied (getElem? (q .fields) x) badType _ (λ z ez. demanded (fits (tyOf v) t) badType _ (λ g.
             let s : w - 1 ≡ p = omega arith in
             let rd = read-operand (N .on) [] v (ref c (some p) ∷ vs) (n - 1) refl (omega (arith, N .depth)) (omega arith) in
-            let p1 = on-field (N .on) v u y (eu ∙ rd .0) (ey ∙ rd .1) p x q eq (omega (arith, R .made)) (there (q .fields) x z ez) (R .field) in
+            let p1 = on-field (N .on) v u y (eu ∙ rd .0) (ey ∙ rd .1) p x q eq (omega (arith, R .made)) (index-below (q .fields) x z ez) (R .field) in
             let p2 = on-pop v p1 (n - 1) (omega (arith, N .depth)) (omega arith) in
             let p3 = on-pop (ref c (some p)) p2 (n - 2) (omega (arith, N .depth)) (omega arith) in
             goes-on (activation b a cs (v ∷ (ref c (some p) ∷ vs)) gs) [] Goes p3 k4 (i + 1) (e4 ∙ rw (e3, e2, e1, s)) (omega (arith, N .address)) refl)))))

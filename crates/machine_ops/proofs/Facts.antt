@@ -12,7 +12,7 @@ use lib.ListN.{length}
 use lib.Signed.{mag}
 use borrow.Author.Tests.{ltb-true, eqb-true, le-leb, lt-leb}
 use Rattle.bytecode.specs.Words.{valueWord, validWord, wordValue}
-use Rattle.words.specs.Choice.{if_then_else_}
+use Rattle.logic.specs.Choice.{if_then_else_}
 use Rattle.words.specs.Numbers.{wordOf}
 use Rattle.words.specs.Laws.{integer-back}
 use Rattle.values.specs.Values.{Value, int, log, bit, ref, tyOf, tysOf, between, size, Cell}

@@ -9,7 +9,7 @@ use lib.IntN.{ℤ, pos}
 use lib.ListN.{length, getD}
 use Rattle.values.specs.Ends.{assertFalse, outOfRange}
 use Rattle.bytecode.specs.Words.{valueWord}
-use Rattle.words.specs.Choice.{if_then_else_}
+use Rattle.logic.specs.Choice.{if_then_else_}
 use Rattle.words.specs.Numbers.{byteAt, halfAt, wordAt, wordOf}
 use Rattle.values.specs.Trace.{set, event, reading}
 use Rattle.values.specs.Values.{Value, int, log, bit, ref, between, size, Cell}

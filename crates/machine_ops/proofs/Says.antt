@@ -12,7 +12,7 @@ use mir.Syntax.{w32}
 use mir.Val.{Fits, toZ, ofZ}
 use mir.ValLaws.{toZ-ofZ, toZ-fits}
 use Rattle.bytecode.specs.Words.{logWord, wordRef, validWord, wordValue}
-use Rattle.words.specs.Choice.{if_then_else_}
+use Rattle.logic.specs.Choice.{if_then_else_}
 use Rattle.words.specs.Numbers.{integerOf}
 use Rattle.values.specs.Types.{Ty, integer, logical, bits, reference, tyByte}
 use Rattle.values.specs.Operators.{Unary, negate, absolute, complement, Binary, plus, minus, times, divide, remainder, less, atMost, greater, atLeast, equal, unequal}

@@ -9,7 +9,7 @@ use lib.ListN.{length, getElem?}
 use lib.ListN.{set as replace}
 use borrow.Author.Tests.{ne-eqb}
 use Rattle.bytecode.specs.Words.{valueWord}
-use Rattle.words.specs.Options.{keep}
+use Rattle.logic.specs.Options.{keep}
 use Rattle.words.specs.Numbers.{byteAt, wordAt}
 use Rattle.values.specs.Types.{Ty, fits}
 use Rattle.values.specs.Operators.{Unary, Binary, Operator, unary, binary, unaryOf, binaryOf}
@@ -21,7 +21,7 @@ use Rattle.bytecode.specs.Machine.{Activation, Shared, badFrame, badType, condi
 use Rattle.bytecode.specs.Sound.{soundValue}
 use Rattle.bytecode.specs.State.{typeByte, wordOfCell, byteOfCell}
 use Rattle.bytecode_safety.specs.Lists.{all-first}
-use Rattle.bytecode_layout.specs.Elements.{there}
+use Rattle.logic.specs.ListLaws.{index-below}
 use Rattle.bytecode_layout.specs.Steps.{activation}
 use Rattle.machine_frames.specs.Bytes.{wentTo, pushed, popped, operandSet, cellSet, conditioned}
 use Rattle.machine_frames.specs.On.{on-push, on-pop, on-operand, on-cell, on-root, on-condition, read-operand, read-cell, read-root}
@@ -86,20 +86,20 @@ module _ {l : List ℕ} {f n i : ℕ} where
         go c0 a0 cs (v ∷ vs) gs fs own (inl q) N = supplied (cellTy m c0 own b) badFrame _ (λ z ez. supplied (getElem? cs b) badFrame _ (λ c e. demanded (fits (tyOf v) z) badType _ (λ h.
             let d : n - 1 ≡ length vs = omega (arith, N .depth) in
             let rd = read-operand (N .on) [] v vs (n - 1) refl d (omega arith) in
-            let p1 = on-cell v w y (ew ∙ rd .0) (ey ∙ rd .1) (N .on) b (there cs b c e) few in
+            let p1 = on-cell v w y (ew ∙ rd .0) (ey ∙ rd .1) (N .on) b (index-below cs b c e) few in
             let p2 = on-pop v p1 (n - 1) d (omega arith) in
             goes-on (activation c0 a0 (replace cs b (assigned v)) (v ∷ vs) gs) [] Goes p2 k3 (i + 1) (e3 ∙ rw (e2, e1, top (q .0))) (omega (arith, N .address)) refl)))
         go c0 a0 cs (v ∷ vs) gs [] root (inr q) N = supplied (cellTy m c0 root b) badFrame _ (λ z ez. supplied (getElem? cs b) badFrame _ (λ c e. demanded (fits (tyOf v) z) badType _ (λ h.
             let d : n - 1 ≡ length vs = omega (arith, N .depth) in
             let rd = read-operand (N .on) [] v vs (n - 1) refl d (omega arith) in
-            let p1 = on-root (N .on) v w y (ew ∙ rd .0) (ey ∙ rd .1) b (there cs b c e) few in
+            let p1 = on-root (N .on) v w y (ew ∙ rd .0) (ey ∙ rd .1) b (index-below cs b c e) few in
             let p2 = on-pop v p1 (n - 1) d (omega arith) in
             goes-on (activation c0 a0 (replace cs b (assigned v)) (v ∷ vs) gs) [] Goes p2 k3 (i + 1) (e3 ∙ rw (e2, e1, low (q .0))) (omega (arith, N .address)) refl)))
         go c0 a0 cs (v ∷ vs) gs (u ∷ us) root (inr q) N =
             supplied (cellTy m c0 root b) badFrame _ (λ z ez. supplied (getElem? (rootOf u us .cells) b) badFrame _ (λ c e. demanded (fits (tyOf v) z) badType _ (λ h.
             let d : n - 1 ≡ length vs = omega (arith, N .depth) in
             let rd = read-operand (N .on) [] v vs (n - 1) refl d (omega arith) in
-            let p1 = on-root (N .on) v w y (ew ∙ rd .0) (ey ∙ rd .1) b (there (rootOf u us .cells) b c e) few in
+            let p1 = on-root (N .on) v w y (ew ∙ rd .0) (ey ∙ rd .1) b (index-below (rootOf u us .cells) b c e) few in
             let p2 = on-pop v p1 (n - 1) d (omega arith) in
             goes-on (activation c0 a0 cs (v ∷ vs) gs) [] Goes p2 k3 (i + 1) (e3 ∙ rw (e2, e1, low (q .0))) (omega (arith, N .address)) refl)))
 

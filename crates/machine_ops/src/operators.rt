@@ -4,7 +4,7 @@ ghost use lib.Dec.{eqb};
 ghost use Rattle.bytecode.specs.Words.{logWord};
 ghost use Rattle.values.specs.Values.{sameInteger};
 ghost use Rattle.words.specs.Numbers.{integerOf};
-ghost use Rattle.words.specs.Choice.{if_then_else_};
+ghost use Rattle.logic.specs.Choice.{if_then_else_};
 ghost use Rattle.machine_ops.specs.Works.{worked, Works1, Works2};
 ghost use Rattle.machine_ops.specs.declared.operators.Worked.the-variants.{Gives};
 use formats::compiled::*;

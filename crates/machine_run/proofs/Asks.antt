@@ -1,4 +1,4 @@
--- What each op asks, where it is the next: from there being a next step, and from the loading check's promise.
+-- What each op asks, where it is the next: from index-below being a next step, and from the loading check's promise.
 use mathlib.Core.Path.{_≡_, refl, sym, ap, _∙_, subst}
 use mathlib.Core.Bool.{Bool, true, false}
 use mathlib.Core.List.{List, [], _∷_, _++_, map}
@@ -9,8 +9,8 @@ use lib.Dec.{eqb, leb, ltb}
 use lib.ListN.{length, getElem?, length-append, length-map}
 use borrow.Author.Tests.{leb-true, ltb-true, eqb-true, ne-eqb}
 use Rattle.bytecode.specs.Words.{valueWord}
-use Rattle.words.specs.Options.{keep}
-use Rattle.words.specs.Choice.{if_then_else_}
+use Rattle.logic.specs.Options.{keep}
+use Rattle.logic.specs.Choice.{if_then_else_}
 use Rattle.words.specs.Numbers.{byteAt, halfAt, wordAt}
 use Rattle.values.specs.Types.{Ty, sames, fits}
 use Rattle.values.specs.Trace.{Item}
@@ -27,8 +27,8 @@ use Rattle.bytecode_laws.specs.Terms.{Passed, Finds}
 use Rattle.bytecode_laws.specs.Promises.{limits, in-code, cells-at-most-32, at-place}
 use Rattle.bytecode_safety.specs.Lists.{all-at, tys-length}
 use Rattle.bytecode_safety.specs.States.{Frame, Waiting, typed}
-use Rattle.bytecode_laws.specs.Tests.{sames→≡}
-use Rattle.bytecode_layout.specs.Elements.{there}
+use Rattle.values.specs.Identical.{sames→≡}
+use Rattle.logic.specs.ListLaws.{index-below}
 use Rattle.bytecode_layout.specs.Places.{framePlace}
 use Rattle.machine_frames.specs.On.{on-long, read-count, read-records, read-holds, read-open, read-operand, read-depth, read-address}
 use Rattle.machine_ops.specs.Acts.{here, Now, Room, Holding}
@@ -138,7 +138,7 @@ module _ {m : Macro} {l : List ℕ} {f n i : ℕ} {rs : Shared} {t : Activation}
       go (some ts) c h =
           let t = typed (rs .records) (q .fields) ts h .0 in
           let r = at-place _ (m .classes) (q .class) ts (N .passed .well-formed .classes-read) c in
-          omega (arith, there (q .fields) x v e′, tys-length (q .fields), ap length t, r .few-fields)
+          omega (arith, index-below (q .fields) x v e′, tys-length (q .fields), ap length t, r .few-fields)
 
 -- ── each op ──
 module _ {code readings : List ℕ} {op a b : ℕ} {l : List ℕ} {f n i : ℕ} (P : Poised code readings op a b l f n i) where
@@ -189,7 +189,7 @@ module _ {code readings : List ℕ} {op a b : ℕ} {l : List ℕ} {f n i : ℕ} 
       let cs = cellsFor (q .0) (here (P .shared) (P .top) (P .below)) in
       let u = given-there (cellTy (P .macro) (P .top .body) (q .0) b) badFrame _ (doing _ (q .2)) in
       let g = given-there (getElem? cs b) badFrame _ (u .2) in
-      (push-room (u .0) (g .0) (g .2), omega (arith, there cs b (g .0) (g .1), cells-room N (q .0)))
+      (push-room (u .0) (g .0) (g .2), omega (arith, index-below cs b (g .0) (g .1), cells-room N (q .0)))
     where
       push-room : (u : Ty) (c : Cell) → Moved (pushCell u c (here (P .shared) (P .top) (P .below))) → n < 32
       push-room u (assigned v) m = fitting [] v (demand-there (fits (tyOf v) u) badType _ m .1)
@@ -203,7 +203,7 @@ module _ {code readings : List ℕ} {op a b : ℕ} {l : List ℕ} {f n i : ℕ} 
       let cs = cellsFor (q .0) (here (P .shared) (P .top) (P .below)) in
       let u = given-there (cellTy (P .macro) (P .top .body) (q .0) b) badFrame _ (v .3) in
       let g = given-there (getElem? cs b) badFrame _ (u .2) in
-      (one _ m, omega (arith, there cs b (g .0) (g .1), cells-room N (q .0)))
+      (one _ m, omega (arith, index-below cs b (g .0) (g .1), cells-room N (q .0)))
 
   pub asks-operate : op ≡ 7 → (0 < n) × (a < 20 → 2 ≤ n)
   unfolding act doOperate unaryOf
@@ -274,7 +274,7 @@ module _ {code readings : List ℕ} {op a b : ℕ} {l : List ℕ} {f n i : ℕ} 
   field-room c x w (some p) g e k m z =
       let q = given-there (getElem? (P .shared .records) p) badRecord _ m in
       let d = demand-there (eqb (q .0 .class) c) badRecord (g p (q .0)) (q .2) in
-      record { made = omega (arith, there (P .shared .records) p (q .0) (q .1), few-records N); field = k p (q .0) (q .1) (d .1) }
+      record { made = omega (arith, index-below (P .shared .records) p (q .0) (q .1), few-records N); field = k p (q .0) (q .1) (d .1) }
 
   -- a field of the record that an operand with us below it refers to
   field-asked : (ws : List Value) (v : Value) (us : List Value) (j : ℕ) (g : ℕ → Made → Ty → Value → Stepped) → P .top .operands ≡ ws ++ (v ∷ us) → j ≡ length us → j < 32
@@ -320,7 +320,7 @@ module _ {code readings : List ℕ} {op a b : ℕ} {l : List ℕ} {f n i : ℕ} 
       let k = below-there b (bodies code) (bodyOn code (bodyPlace code b)) (g .0) (sym v ∙ e1) in
       let few = cells-at-most-32 (P .macro) (N .passed) b (g .0) e1 in
       let enough = many-there (g .0 .parameters) [] (P .top .operands) _ (g .2) in
-      (k .0, omega (arith, there (P .macro .bodies) b (g .0) e1, N .passed .well-formed .few-bodies), λ q B. parts q B (g .0) (k .1) few enough)
+      (k .0, omega (arith, index-below (P .macro .bodies) b (g .0) e1, N .passed .well-formed .few-bodies), λ q B. parts q B (g .0) (k .1) few enough)
     where
       parts : (q : ℕ) → BodyAt code b q → (d : Body) → d ≡ bodyOn code (bodyPlace code b) → length (d .cells) ≤ 32 → d .parameters ≤ length (P .top .operands)
           → (given-of code q ≤ n) × (byteAt l 2 < 32 → CallRoom code q l f n)
@@ -350,7 +350,7 @@ module _ {code readings : List ℕ} {op a b : ℕ} {l : List ℕ} {f n i : ℕ} 
       let k = below-there a (classes code) (classOn code (classPlace code a)) (g .0) (sym v ∙ g .1) in
       let r = at-place _ (P .macro .classes) a (g .0) (N .passed .well-formed .classes-read) (g .1) in
       let enough = many-there (length (g .0)) [] (P .top .operands) _ (g .2) in
-      (k .0, omega (arith, there (P .macro .classes) a (g .0) (g .1), N .passed .well-formed .few-classes), λ q C. parts q C (g .0) (k .1) (r .some-field) (r .few-fields) enough)
+      (k .0, omega (arith, index-below (P .macro .classes) a (g .0) (g .1), N .passed .well-formed .few-classes), λ q C. parts q C (g .0) (k .1) (r .some-field) (r .few-fields) enough)
     where
       parts : (q : ℕ) → ClassAt code a q → (ts : List Ty) → ts ≡ classOn code (classPlace code a) → 1 ≤ length ts → length ts ≤ 8 → length ts ≤ length (P .top .operands) → MakeRoom code q n
       parts q C ts et some-field few enough =

@@ -9,8 +9,8 @@ use lib.Dec.{eqb, leb, ltb}
 use lib.ListN.{length}
 use borrow.Author.Tests.{ne-eqb, ltb-true, leb-true}
 use Rattle.bytecode.specs.Words.{logWord}
-use Rattle.words.specs.Options.{keep}
-use Rattle.words.specs.Choice.{if_then_else_}
+use Rattle.logic.specs.Options.{keep}
+use Rattle.logic.specs.Choice.{if_then_else_}
 use Rattle.words.specs.Numbers.{integerOf}
 use Rattle.words.specs.Laws.{word-back}
 use Rattle.values.specs.Operators.{Operator}

@@ -8,7 +8,7 @@ use lib.IntN.{pos}
 use lib.Dec.{eqb, leb, ltb}
 use lib.ListN.{length, getElem?}
 use lib.ListN.{set as put}
-use Rattle.words.specs.Choice.{if_then_else_}
+use Rattle.logic.specs.Choice.{if_then_else_}
 use Rattle.values.specs.Operators.{Operator, unary, binary}
 use Rattle.values.specs.Arithmetic.{Outcome, gives, ends, mistyped}
 use Rattle.values.specs.Types.{Ty, fits, allFit, sames}

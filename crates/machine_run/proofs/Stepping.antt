@@ -25,7 +25,7 @@ use Rattle.bytecode_safety.specs.States.{running-sound}
 use Rattle.bytecode_safety.specs.Safety.{step-safe}
 use Rattle.load_places.specs.Records.{count, codePlace, codeBase}
 use Rattle.load_check.specs.Seen.{codeOn, below, viewed}
-use Rattle.bytecode_laws.specs.Tests.{halves}
+use Rattle.logic.specs.Tests.{halves}
 use Rattle.bytecode_layout.specs.Places.{framePlace, phase}
 use Rattle.bytecode_layout.specs.Parts.{length-encode}
 use Rattle.bytecode_layout.specs.Reads.{encode-reads}

@@ -8,9 +8,9 @@ use Prim.Native.Nat.{ℕ, _≤_, _<_}
 use native.Mathlib.Omega.{arith}
 use lib.Dec.{eqb}
 use lib.ListN.{length}
-use Rattle.words.specs.Options.{keep}
+use Rattle.logic.specs.Options.{keep}
 use Rattle.words.specs.Laws.{Bytes}
-use Rattle.words.specs.Choice.{if_then_else_}
+use Rattle.logic.specs.Choice.{if_then_else_}
 use Rattle.values.specs.Ends.{Refusal, refusal, Judged, accepted, refused, isCondition}
 use Rattle.bytecode.specs.Macro.{Macro}
 use Rattle.bytecode.specs.Rules.{judgeMacro}
@@ -20,8 +20,7 @@ use Rattle.bytecode.specs.Sound.{sound}
 use Rattle.bytecode.specs.State.{stateLength, encode, decode}
 use Rattle.bytecode.specs.Lent.{onlySound, soundState, startRefused, startMacro, startOn, written, runState, runMacro, runOn}
 use Rattle.bytecode_laws.specs.Promises.{passed}
-use Rattle.bytecode_laws.specs.Tests.{chosen, kept}
-use Rattle.bytecode_layout.specs.Inverse.{same-some}
+use Rattle.logic.specs.OptionLaws.{chosen, kept, same-some}
 use Rattle.bytecode_safety.specs.Terms.{InRange, Answers}
 use Rattle.bytecode_safety.specs.Safety.{run-safe}
 use Rattle.load_check.specs.Loaded.{loadedOf, fields}

@@ -10,8 +10,8 @@ use lib.Dec.{leb, ltb}
 use lib.ListN.{length, drop, take}
 use lib.Seq.{getD-drop, getD-take, drop-drop}
 use borrow.Author.Tests.{leb-true, ltb-true, ltb-false}
-use Rattle.words.specs.Options.{keep}
-use Rattle.words.specs.Choice.{if_then_else_}
+use Rattle.logic.specs.Options.{keep}
+use Rattle.logic.specs.Choice.{if_then_else_}
 use Rattle.words.specs.Numbers.{byteAt, halfAt, wordAt}
 use Rattle.words.specs.Laws.{Size, one, two, four, numberAt, bytesIn, same-number}
 use Rattle.values.specs.Values.{Value, Cell}

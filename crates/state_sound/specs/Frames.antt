@@ -9,7 +9,7 @@ use lib.Dec.{eqb, leb, ltb}
 use lib.ListN.{length, drop, length-reverse, length-drop}
 use lib.Seq.{length-take-le}
 use borrow.Author.Tests.{ltb-true, lt-ltb, le-ltb, lt-leb, le-leb, eqb-true}
-use Rattle.words.specs.Lists.{all}
+use Rattle.logic.specs.Lists.{all}
 use Rattle.words.specs.Numbers.{byteAt}
 use Rattle.words.specs.Laws.{four, Bytes, number-below}
 use Rattle.values.specs.Types.{Ty, tyByte, sames}

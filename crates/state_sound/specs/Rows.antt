@@ -12,9 +12,9 @@ use lib.Seq.{getD-drop}
 use lib.Signed.{mag}
 use borrow.Author.Tests.{ne-eqb, lt-ltb, le-ltb}
 use Rattle.bytecode.specs.Words.{wordRef, validWord, wordValue}
-use Rattle.words.specs.Lists.{all}
-use Rattle.words.specs.Options.{keep}
-use Rattle.words.specs.Choice.{if_then_else_}
+use Rattle.logic.specs.Lists.{all}
+use Rattle.logic.specs.Options.{keep}
+use Rattle.logic.specs.Choice.{if_then_else_}
 use Rattle.words.specs.Numbers.{byteAt, wordAt, integerOf}
 use Rattle.words.specs.Laws.{four, same-number, integer-fits}
 use Rattle.values.specs.Types.{Ty, integer, logical, bits, reference, tyByte, same, sames}

@@ -9,9 +9,9 @@ use native.Mathlib.Omega.{arith}
 use lib.Dec.{eqb, leb, ltb}
 use lib.ListN.{length, drop, getElem?}
 use borrow.Author.Tests.{leb-true, ltb-true, ltb-false, lt-ltb, le-ltb, le-leb, eq-eqb, eqb-true}
-use Rattle.words.specs.Lists.{all}
-use Rattle.words.specs.Options.{keep, isSome}
-use Rattle.words.specs.Choice.{if_then_else_}
+use Rattle.logic.specs.Lists.{all}
+use Rattle.logic.specs.Options.{keep, isSome}
+use Rattle.logic.specs.Choice.{if_then_else_}
 use Rattle.words.specs.Numbers.{byteAt, halfAt, wordAt}
 use Rattle.words.specs.Laws.{Bytes}
 use Rattle.values.specs.Types.{Ty}

@@ -9,9 +9,9 @@ use lib.Dec.{eqb, leb}
 use lib.ListN.{length, drop, length-drop, length-reverse}
 use lib.Seq.{length-take-le, getD-drop}
 use borrow.Author.Tests.{eqb-true, eq-eqb, leb-true}
-use Rattle.words.specs.Lists.{all}
-use Rattle.words.specs.Options.{keep, isSome}
-use Rattle.words.specs.Choice.{if_then_else_}
+use Rattle.logic.specs.Lists.{all}
+use Rattle.logic.specs.Options.{keep, isSome}
+use Rattle.logic.specs.Choice.{if_then_else_}
 use Rattle.words.specs.Numbers.{byteAt, halfAt}
 use Rattle.words.specs.Laws.{Bytes}
 use Rattle.values.specs.Ends.{accepted, isCondition}

@@ -11,7 +11,7 @@ use lib.ListN.{length, set}
 use lib.Seq.{sets, length-sets}
 use lib.Dec.{ltb, leb, eqb}
 use borrow.Author.Tests.{eq-eqb, ne-eqb, lt-ltb, eqb-true, ltb-true, leb-true}
-use Rattle.words.specs.Options.{isSome}
+use Rattle.logic.specs.Options.{isSome}
 use Rattle.words.specs.Numbers.{byteAt, halfAt}
 use Rattle.words.specs.Laws.{Bytes, one, keeps}
 use Rattle.bytecode.specs.Macro.{Macro}

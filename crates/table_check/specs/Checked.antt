@@ -10,7 +10,7 @@ use Rattle.language.specs.Faults.{faults}
 use Rattle.language.specs.Limits.{limits}
 use Rattle.language.specs.Judge as judge
 use Rattle.language.specs.Judge.{judgeTree, judgeTable}
-use Rattle.language_laws.specs.Basics.{clash}
+use Rattle.logic.specs.Tests.{clash}
 use Rattle.table_read.specs.Walk.{readingOf}
 use Rattle.table_read.specs.declared.Reading.the-variants as reading
 use Rattle.table_forms.specs.Tables.{Reads}

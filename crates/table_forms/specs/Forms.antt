@@ -21,7 +21,7 @@ use Rattle.language.specs.Table.{Entry, entry}
 use Rattle.language.specs.Names.{Scope, blockOf, expressionOf}
 use Rattle.language.specs.Faults.{withTy, typeE, typesE, typeTarget, isTy, mistypedUnless, twice, sizeS, sizeItems, sizeTarget, sizeE, faultsHead, namesHead, faultsS}
 use Rattle.language.specs.Faults.{faultsItems, faultsArms, faultsTarget, faultsE, faultsEs, consTy}
-use Rattle.language_laws.specs.Basics.{clash}
+use Rattle.logic.specs.Tests.{clash}
 use Rattle.table_scopes.specs.Environment.{Item}
 use Rattle.table_scopes.specs.Flaws.{onceFlaw}
 use Rattle.table_scopes.specs.Defines.{OnceItems}

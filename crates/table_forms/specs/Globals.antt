@@ -11,13 +11,13 @@ use lib.IntN.{pos}
 use lib.ListN.{length, length-append}
 use borrow.Author.Tests.{leb-true}
 use Rattle.language.specs.Program.{flatTyped, flatDecl, resultCode, flatBody, flatGlobal, flatHead}
-use Rattle.words.specs.Choice.{if_then_else_}
+use Rattle.logic.specs.Choice.{if_then_else_}
 use Rattle.values.specs.Types.{integer, logical, bits, reference, tyCode}
 use Rattle.language.specs.Tree.{declare, holding, Body, proper, function, Global, local, class, procedure}
 use Rattle.language.specs.Table.{entry, inLayout}
 use Rattle.language.specs.Names.{definesHead, definesFields, definesGlobals, results}
 use Rattle.language.specs.Faults.{sizeGlobal}
-use Rattle.language_laws.specs.Basics.{both-left}
+use Rattle.logic.specs.Tests.{both-left}
 use Rattle.language_laws.specs.Claims.{entriesOf}
 use Rattle.table_scopes.specs.Environment.{Item, item}
 use Rattle.table_scopes.specs.EnvironmentLaws.{Small, small-append}

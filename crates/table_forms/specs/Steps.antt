@@ -14,14 +14,14 @@ use lib.Seq.{take-all, drop-drop}
 use borrow.Author.Tests.{ne-eqb}
 use Rattle.language.specs.Measure.{measureS}
 use Rattle.language.specs.Program.{flatDecl, flatS, flatItems, flatE, flatEs, deepItems, deepE}
-use Rattle.words.specs.Choice.{if_then_else_}
+use Rattle.logic.specs.Choice.{if_then_else_}
 use Rattle.words.specs.Numbers.{halfAt, wordAt}
 use Rattle.values.specs.Types.{Ty, integer, logical}
 use Rattle.language.specs.Tree.{Decl, Stmt, Items, noItem, label, item, Expr, Exprs, noExpr, expr, countItems, countExprs}
 use Rattle.language.specs.Table.{Entry, entry}
 use Rattle.language.specs.Names.{Scope, blockOf, expressionOf, lookup}
 use Rattle.language.specs.Faults.{typeE, isTy, mistypedUnless, sizeS, sizeItems, sizeE, faultsHead, namesHead, faultsItems, faultsE, faultsEs}
-use Rattle.language_laws.specs.Basics.{clash}
+use Rattle.logic.specs.Tests.{clash}
 use Rattle.language_laws.specs.Claims.{entriesOf}
 use Rattle.table_scopes.specs.Environment.{Item, item as pushed, envOf, find, addAll, Grown, opened, shut, value}
 use Rattle.table_scopes.specs.EnvironmentLaws.{fewer, grown-push, stored, past-mark, passing-none}

@@ -10,7 +10,7 @@ use lib.Dec.{eqb, ltb}
 use lib.ListN.{length, drop, getD, length-append, length-drop}
 use borrow.Author.Tests.{ltb-false}
 use Rattle.language.specs.Program.{flatItems, flatGlobal, flatHead, flatten, deepGlobals, nesting}
-use Rattle.words.specs.Lists.{all}
+use Rattle.logic.specs.Lists.{all}
 use Rattle.words.specs.Numbers.{halfAt, wordAt}
 use Rattle.words.specs.Laws.{Bytes}
 use Rattle.values.specs.Types.{same}
@@ -19,7 +19,7 @@ use Rattle.language.specs.Tree.{Global, local, class, procedure, Tree, countIte
 use Rattle.language.specs.Table.{Entry, inLayout, Read, took, stop, first, formRoot, oneTree, readTable}
 use Rattle.language.specs.Names.{Scope, definesGlobals, definesItems, rootOf}
 use Rattle.language.specs.Faults.{faultsItems, namesGlobal, faultsGlobal, faults, sizeGlobal}
-use Rattle.language_laws.specs.Basics.{clash, both-left, both-right}
+use Rattle.logic.specs.Tests.{clash, both-left, both-right}
 use Rattle.language_laws.specs.Claims.{entriesOf, Readable}
 use Rattle.language_laws.specs.Programs.{flatten-read}
 use Rattle.table_scopes.specs.Environment.{item, envOf, addAll, opened, Grown}

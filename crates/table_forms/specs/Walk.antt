@@ -6,7 +6,7 @@ use Prim.Native.Nat.{ℕ, _+_, _*_, _≤_, _<_}
 use lib.Dec.{eqb, ltb}
 use lib.ListN.{length, drop}
 use Rattle.language.specs.Program.{flatItems, flatEs, deepItems, deepEs}
-use Rattle.words.specs.Choice.{if_then_else_}
+use Rattle.logic.specs.Choice.{if_then_else_}
 use Rattle.values.specs.Ends.{Refusal}
 use Rattle.language.specs.Tree.{Items, Exprs, countItems, countExprs}
 use Rattle.language.specs.Names.{Scope}

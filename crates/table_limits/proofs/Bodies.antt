@@ -11,7 +11,7 @@ use lib.ListN.{length, drop, length-append, length-replicate, length-map}
 use lib.Seq.{drop-at}
 use borrow.Author.Tests.{leb-true}
 use Rattle.language.specs.Program.{flatTyped, flatDecl, flatItems, resultCode, flatBody, flatGlobal, flatHead, flatten, deepItems, deepList, deepBody, deepGlobal, deepGlobals, nesting}
-use Rattle.words.specs.Choice.{if_then_else_}
+use Rattle.logic.specs.Choice.{if_then_else_}
 use Rattle.values.specs.Types.{integer, logical, bits, reference}
 use Rattle.values.specs.Ends.{Refusal, refusal, accepted, refused}
 use Rattle.language.specs.Tree.{Typed, declare, holding, Body, proper, function, Global, local, class, procedure, Tree, countItems, locals}
@@ -19,7 +19,7 @@ use Rattle.language.specs.Table as table
 use Rattle.language.specs.Table.{Entry, entry, inLayout, took, stop, first, formRoot, oneTree, readTable}
 use Rattle.language.specs.Faults.{faultIf, sizeBody, sizeGlobal, sizeItems}
 use Rattle.language.specs.Limits.{headCells, headHolds, needItems, keepsLimits, bodyUsage, rootUsage, overLimits, procedureLimits, limits}
-use Rattle.language_laws.specs.Basics.{clash, both-left}
+use Rattle.logic.specs.Tests.{clash, both-left}
 use Rattle.language_laws.specs.Claims.{Readable, entriesOf}
 use Rattle.language_laws.specs.Programs.{flatten-read}
 use Rattle.language_laws.specs.Takes.{Fits, fits-head, fits-tail, fits-left, fits-right}

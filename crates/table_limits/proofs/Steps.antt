@@ -9,9 +9,9 @@ use native.Mathlib.Numerals.{add-one}
 use lib.Dec.{eqb, ltb}
 use lib.ListN.{length, drop}
 use borrow.Author.Tests.{eqb-true, ltb-true, le-ltb}
-use Rattle.words.specs.Choice.{if_then_else_}
+use Rattle.logic.specs.Choice.{if_then_else_}
 use Rattle.language.specs.Table.{Entry}
-use Rattle.language_laws.specs.Basics.{clash, both-left, both-right}
+use Rattle.logic.specs.Tests.{clash, both-left, both-right}
 use Rattle.language_laws.specs.Claims.{entriesOf}
 use Rattle.table_read.specs.Operands.{sorts}
 use Rattle.table_read.specs.Walk.{kindAt, nameAt, sizeAt}

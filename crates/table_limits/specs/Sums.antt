@@ -2,7 +2,7 @@
 use mathlib.Core.Bool.{Bool, not, _&&_, _||_}
 use Prim.Native.Nat.{ℕ, _+_, _^_, _≤_, _<_, max}
 use lib.Dec.{eqb, leb, ltb}
-use Rattle.words.specs.Choice.{if_then_else_}
+use Rattle.logic.specs.Choice.{if_then_else_}
 use Rattle.table_read.specs.Walk.{tally}
 use Rattle.table_limits.specs.declared.sums.Used.{Used}
 

@@ -8,7 +8,7 @@ use native.Mathlib.Omega.{arith}
 use native.Mathlib.Nat.{add-zero}
 use lib.ListN.{length, drop, replicate, length-drop}
 use lib.Seq.{drop-drop}
-use Rattle.words.specs.Choice.{if_then_else_}
+use Rattle.logic.specs.Choice.{if_then_else_}
 use Rattle.language.specs.Table as table
 use Rattle.language.specs.Table.{Entry, inLayout, took, stop, Reader, after, made, repeated, first}
 use Rattle.table_read.specs.declared.kinds.Sort.{Sort}

@@ -11,14 +11,14 @@ use lib.IntN.{natAbs}
 use lib.ListN.{replicate}
 use borrow.Author.Tests.{ne-eqb, leb-true}
 use Rattle.values.specs.Arithmetic.{isZero}
-use Rattle.words.specs.Choice.{if_then_else_}
+use Rattle.logic.specs.Choice.{if_then_else_}
 use Rattle.language.specs.Tree as tree
 use Rattle.language.specs.Tree.{block, assign, when, choose, while, assert, call, setLevel, select, invoke, field, make, operate1, operate2, conditional, fader, blockExpr, toField}
 use Rattle.values.specs.Operators.{negate, plus, unaryOf, binaryOf}
 use Rattle.language.specs.Table as table
 use Rattle.language.specs.Table.{Entry, inLayout, Reader, made, two, three, repeated, Below, labelPart, stmtPart, itemsOf, armsOf, itemsBelow, exprsOf, exprsBelow}
 use Rattle.language.specs.Table.{formTyped, formDecl, formPart, formS, formTarget, formE, below}
-use Rattle.language_laws.specs.Basics.{both-left}
+use Rattle.logic.specs.Tests.{both-left}
 use Rattle.table_read.specs.declared.kinds.Sort.{Sort}
 use Rattle.table_read.specs.declared.kinds.Sort.the-variants.{Typed, Decl, Part, Stmt, Target, Expr}
 use Rattle.table_read.specs.declared.Read.{Read}

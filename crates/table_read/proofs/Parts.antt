@@ -10,7 +10,7 @@ use lib.ListN.{length, take, drop, length-drop}
 use lib.Seq.{take-all, drop-drop, drop-nil}
 use Rattle.words.specs.Numbers.{halfAt, wordAt, integerOf}
 use Rattle.language.specs.Table.{entry, entries}
-use Rattle.language_laws.specs.Basics.{clash}
+use Rattle.logic.specs.Tests.{clash}
 use Rattle.language_laws.specs.Claims.{entriesOf}
 use Rattle.table_read.specs.Walk.{kindAt, laidAt}
 

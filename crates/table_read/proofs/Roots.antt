@@ -11,14 +11,14 @@ use lib.IntN.{natAbs}
 use lib.ListN.{length, drop, replicate, length-drop}
 use lib.Seq.{drop-length}
 use borrow.Author.Tests.{ne-eqb, eq-eqb, lt-ltb, le-ltb}
-use Rattle.words.specs.Choice.{if_then_else_}
+use Rattle.logic.specs.Choice.{if_then_else_}
 use Rattle.values.specs.Types.{integer}
 use Rattle.language.specs.Tree as tree
 use Rattle.language.specs.Tree.{proper, function, Global, local, class, procedure}
 use Rattle.language.specs.Table as table
 use Rattle.language.specs.Table.{Entry, inLayout, took, stop, Reader, after, made, two, repeated, first, Below, itemsOf, itemsBelow, formDecl, below, bodyBelow, tyOfCode}
 use Rattle.language.specs.Table.{formGlobal, classCount, procedureCount, readHead, treeOf, formRoot, oneTree, readTable}
-use Rattle.language_laws.specs.Basics.{clash}
+use Rattle.logic.specs.Tests.{clash}
 use Rattle.language_laws.specs.Claims.{entriesOf}
 use Rattle.table_read.specs.declared.kinds.Sort.{Sort}
 use Rattle.table_read.specs.declared.kinds.Sort.the-variants.{Typed, Part, Stmt, Expr}

@@ -7,7 +7,7 @@ use native.Mathlib.Omega.{arith}
 use lib.Dec.{eqb}
 use lib.ListN.{length, getD, replicate, getD-replicate, length-append, length-replicate}
 use borrow.Author.Tests.{ne-eqb}
-use Rattle.words.specs.Choice.{if_then_else_}
+use Rattle.logic.specs.Choice.{if_then_else_}
 use Rattle.table_read.specs.declared.kinds.Sort.{Sort}
 use Rattle.table_read.specs.declared.kinds.Sort.the-variants.{Stmt, Target, Expr}
 use Rattle.table_read.specs.Operands.{sorts}

@@ -10,9 +10,9 @@ use lib.Dec.{eqb, leb}
 use lib.ListN.{length, getD, drop}
 use lib.Seq.{drop-cons, drop-length}
 use borrow.Author.Tests.{eqb-true, leb-true}
-use Rattle.words.specs.Choice.{if_then_else_}
+use Rattle.logic.specs.Choice.{if_then_else_}
 use Rattle.language.specs.Table.{Entry, below}
-use Rattle.language_laws.specs.Basics.{both-left, both-right}
+use Rattle.logic.specs.Tests.{both-left, both-right}
 use Rattle.language_laws.specs.Claims.{entriesOf}
 use Rattle.table_read.specs.declared.kinds.Sort.{Sort}
 use Rattle.table_read.specs.declared.kinds.Sort.the-variants.{Typed, Decl, Part, Stmt, Target, Expr}

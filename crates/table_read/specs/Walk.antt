@@ -5,7 +5,7 @@ use Prim.Native.Nat.{ℕ, zero, suc, _+_, _-_}
 use lib.Dec.{eqb, leb, ltb}
 use lib.IntN.{natAbs}
 use lib.ListN.{length, drop, replicate}
-use Rattle.words.specs.Choice.{if_then_else_}
+use Rattle.logic.specs.Choice.{if_then_else_}
 use Rattle.values.specs.Ends.{Judged, accepted, refused}
 use Rattle.language.specs.Tree as tree
 use Rattle.language.specs.Table as table

@@ -4,7 +4,7 @@ ghost use mathlib.Core.Path.{_≡_};
 ghost use Prim.Native.Nat.{_<_};
 ghost use lib.Dec.{eqb};
 ghost use lib.ListN.{length, getD};
-ghost use Rattle.words.specs.Choice.{if_then_else_};
+ghost use Rattle.logic.specs.Choice.{if_then_else_};
 ghost use Rattle.table_read.specs.Operands.{isS, isE, sorts};
 
 // What an operand is read as.

@@ -3,7 +3,7 @@ use formats::entries::*;
 ghost use mathlib.Core.Path.{_≡_};
 ghost use mathlib.Core.Bool.{_&&_};
 ghost use lib.IntN.{natAbs};
-ghost use Rattle.words.specs.Options.{isSome};
+ghost use Rattle.logic.specs.Options.{isSome};
 ghost use Rattle.values.specs.Operators.{unaryOf, binaryOf};
 ghost use Rattle.language.specs.Table.{natural as isNatural, entry, inLayout, tyOfCode, isHeading};
 

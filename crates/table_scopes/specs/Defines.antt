@@ -13,9 +13,9 @@ use lib.ListN.{length, drop, length-append}
 use borrow.Author.Tests.{ne-eqb, le-ltb, le-leb, leb-true}
 use Rattle.language.specs.Measure.{measureS}
 use Rattle.language.specs.Program.{flatTyped, flatDecl, flatS, flatItems}
-use Rattle.words.specs.Lists.{among}
-use Rattle.words.specs.Options.{isSome}
-use Rattle.words.specs.Choice.{if_then_else_}
+use Rattle.logic.specs.Lists.{among}
+use Rattle.logic.specs.Options.{isSome}
+use Rattle.logic.specs.Choice.{if_then_else_}
 use Rattle.words.specs.Laws.{two, four, number-below}
 use Rattle.values.specs.Types.{Ty, integer, logical, bits, reference, tyCode}
 use Rattle.language.specs.Tree.{Typed, Decl, declare, holding, Stmt, block, assign, when, choose, while, goto, assert, call, setLevel, select, Items, noItem, label, item, countItems}
@@ -23,7 +23,7 @@ use Rattle.language.specs.Table.{Entry, entry, inLayout}
 use Rattle.language.specs.Names.{isVariable, isLabel, isClass, isField, isProcedure, definesTyped, definesHead, definesItems, definesFields, Scope, blockOf, expressionOf, nowhere, found, lookup}
 use Rattle.language.specs.Names as names
 use Rattle.language.specs.Faults.{twice, typeFaults, named, classSort, faultsTyped, faultsHead, namesHead, sizeS, sizeItems}
-use Rattle.language_laws.specs.Basics.{clash}
+use Rattle.logic.specs.Tests.{clash}
 use Rattle.language_laws.specs.Claims.{entriesOf}
 use Rattle.table_scopes.specs.declared.environment.Found.{Found}
 use Rattle.table_scopes.specs.declared.environment.Found.the-variants.{Nothing, Def}

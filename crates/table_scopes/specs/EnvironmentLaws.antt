@@ -11,7 +11,7 @@ use lib.ListN.{length, getD}
 use lib.Seq.{sets, length-sets}
 use lib.Dec.{eqb}
 use borrow.Author.Tests.{lt-ltb, le-ltb, eq-eqb, ne-eqb, eqb-true}
-use Rattle.words.specs.Choice.{if_then_else_}
+use Rattle.logic.specs.Choice.{if_then_else_}
 use mathlib.Core.Logic.{inr}
 use Rattle.words.specs.Laws.{in-sets, out-sets}
 use Rattle.table_scopes.specs.declared.environment.Found.{Found}

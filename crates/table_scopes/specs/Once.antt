@@ -7,8 +7,8 @@ use native.Mathlib.Omega.{arith}
 use native.Mathlib.Decide.{ℕ-discrete}
 use lib.Dec.{eqb}
 use borrow.Author.Tests.{eq-eqb, ne-eqb}
-use Rattle.words.specs.Lists.{among}
-use Rattle.words.specs.Choice.{if_then_else_}
+use Rattle.logic.specs.Lists.{among}
+use Rattle.logic.specs.Choice.{if_then_else_}
 use Rattle.values.specs.Ends.{refusal}
 use Rattle.language.specs.Faults.{twice}
 use Rattle.table_scopes.specs.declared.environment.Found.{Found}

@@ -5,7 +5,7 @@ use mathlib.Core.List.{List, [], _∷_}
 use mathlib.Core.Option.{Option, none, some}
 use Prim.Native.Nat.{ℕ, zero, suc}
 use lib.IntN.{ℤ, pos}
-use Rattle.words.specs.Options.{isSome}
+use Rattle.logic.specs.Options.{isSome}
 use Rattle.values.specs.Types.{Ty, integer, logical, bits, reference}
 use Rattle.values.specs.Ends.{Refusal}
 use Rattle.values.specs.Operators.{Unary, Binary, Operator, unary, binary, unaryCode, binaryCode, opType}

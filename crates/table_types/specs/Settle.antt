@@ -11,7 +11,7 @@ use lib.Dec.{eqb, ltb}
 use lib.ListN.{length, getD, drop, length-append, drop-of-length-le}
 use lib.Seq.{drop-cons}
 use borrow.Author.Tests.{eq-eqb, ne-eqb, ltb-true, ltb-false}
-use Rattle.words.specs.Choice.{if_then_else_}
+use Rattle.logic.specs.Choice.{if_then_else_}
 use Rattle.table_scopes.specs.declared.environment.Found.{Found}
 use Rattle.table_scopes.specs.declared.environment.Found.the-variants.{Nothing, Def}
 use Rattle.table_scopes.specs.Environment.{Item, item, envOf}

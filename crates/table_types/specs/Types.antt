@@ -8,8 +8,8 @@ use native.Mathlib.Omega.{arith}
 use native.Mathlib.Decide.{ℕ-discrete}
 use lib.Dec.{eqb}
 use borrow.Author.Tests.{eq-eqb, ne-eqb}
-use Rattle.words.specs.Options.{orElse}
-use Rattle.words.specs.Choice.{if_then_else_}
+use Rattle.logic.specs.Options.{orElse}
+use Rattle.logic.specs.Choice.{if_then_else_}
 use Rattle.values.specs.Types.{Ty, integer, logical, bits, reference, tyCode, sames, allFit}
 use Rattle.values.specs.Operators.{Unary, negate, absolute, complement, Binary, plus, minus, times, divide, remainder, less, atMost, greater, atLeast, equal, unequal}
 use Rattle.values.specs.Operators.{both, either, shiftLeft, shiftRight, unaryCode, binaryCode, Operator, unary, binary, takes, logicalOrBits, anyOne, opType}

@@ -7,7 +7,7 @@ use native.Mathlib.Omega.{arith}
 use lib.IntN.{ℤ, pos, negsuc, natAbs}
 use lib.Signed.{ltZ, leZ}
 use borrow.Author.Tests.{le-ltb, le-leb}
-use Rattle.words.specs.Choice.{if_then_else_}
+use Rattle.logic.specs.Choice.{if_then_else_}
 use Rattle.values.specs.Arithmetic.{eachBit, leftBy, rightBy, shiftedLeft, shiftedRight}
 
 -- an operation on numbers that takes their lowest bits apart as eachBit does, on numbers of n bits

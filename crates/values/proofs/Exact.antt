@@ -16,6 +16,7 @@ use Rattle.words.specs.Numbers.{integerOf, wordOf}
 use Rattle.words.specs.Integers.{widen, widened}
 use Rattle.values.specs.Arithmetic.{Outcome, gives, ends, settle, isZero, unlessZero, quotient, rest, negation}
 use Rattle.values.specs.Values.{sameInteger}
+use Rattle.logic.specs.Tests.{halves}
 
 -- ── by way of 64 bits ──
 pub widens : (z : ℤ) → SFits w32 z → SFits w64 (toZ w32 (ofZ w32 z))
@@ -192,10 +193,6 @@ le-same : (x : ℤ) → leZ x x ≡ true
 le-same (pos n) = le-leb n n (omega arith)
 le-same (negsuc n) = le-leb n n (omega arith)
 
-both-true : (p q : Bool) → (p && q) ≡ true → (p ≡ true) × (q ≡ true)
-both-true true q e = (refl, e)
-both-true false q e = absurd (let z : _≡_ {A = ℕ} 0 1 = cc in omega arith)
-
 le-both : (x y : ℤ) → leZ x y ≡ true → leZ y x ≡ true → x ≡ y
 le-both (pos a) (pos b) p q = ap pos (omega (arith, leb-true a b p, leb-true b a q))
 le-both (pos a) (negsuc b) p q = absurd (let z : _≡_ {A = ℕ} 0 1 = cc in omega arith)
@@ -207,7 +204,7 @@ equality x y h k = go (sameInteger x y) refl
   where
     go : (t : Bool) → sameInteger x y ≡ t → eqb (wordOf x) (wordOf y) ≡ sameInteger x y
     go true e =
-        let p = both-true (leZ x y) (leZ y x) e in
+        let p = halves (leZ x y) (leZ y x) e in
         eq-eqb _ _ (ap wordOf (le-both x y (p .0) (p .1))) ∙ sym e
     go false e =
         ne-eqb (wordOf x) (wordOf y)

@@ -1,12 +1,12 @@
 -- What holds of every condition.
-use mathlib.Core.Path.{_≡_, refl, sym}
+use mathlib.Core.Path.{_≡_, refl}
 use mathlib.Core.Bool.{Bool, true, false, _&&_, _||_}
 use mathlib.Core.List.{List, [], _∷_}
 use Prim.Native.Nat.{ℕ, _<_}
 use native.Mathlib.Omega.{arith}
 use lib.Dec.{eqb, ltb}
 use borrow.Author.Tests.{eqb-true, ltb-true}
-use Rattle.words.specs.Lists.{among, all}
+use Rattle.logic.specs.Lists.{among, all}
 use Rattle.values.specs.Ends.{conditions, isCondition}
 
 -- what holds of every element holds of one that is among them

@@ -2,7 +2,7 @@
 use mathlib.Core.Bool.{Bool}
 use mathlib.Core.List.{List, [], _∷_}
 use Prim.Native.Nat.{ℕ}
-use Rattle.words.specs.Lists.{among}
+use Rattle.logic.specs.Lists.{among}
 
 -- a refusal: its number, and its place: "2 to 5 the entry (…); 6 the body's entry, procedures first; 8 the first record that does not read, 9
 -- the address"

@@ -3,8 +3,8 @@ use mathlib.Core.List.{List, [], _∷_}
 use mathlib.Core.Option.{Option, none, some}
 use Prim.Native.Nat.{ℕ}
 use lib.Dec.{eqb}
-use Rattle.words.specs.Choice.{if_then_else_}
-use Rattle.words.specs.Options.{orElse}
+use Rattle.logic.specs.Choice.{if_then_else_}
+use Rattle.logic.specs.Options.{orElse}
 use Rattle.values.specs.Types.{Ty, integer, logical, bits, sames}
 
 -- "48 unary a (E)", "49 binary a (E, E)"

@@ -1,13 +1,13 @@
 -- Values with their types, and the operators on them, shared by the tree's execution and the plain machine.
-use mathlib.Core.Bool.{Bool, true, false, not, _&&_, _||_, Bool·beq}
+use mathlib.Core.Bool.{_||_, Bool, true, false, not, _&&_, Bool·beq}
 use mathlib.Core.List.{List, [], _∷_}
 use mathlib.Core.Option.{Option, none, some}
 use Prim.Native.Nat.{ℕ}
 use lib.Dec.{eqb, leb}
 use lib.IntN.{ℤ, pos, negsuc}
 use lib.Signed.{ltZ, leZ}
-use Rattle.words.specs.Choice.{if_then_else_}
-use Rattle.words.specs.Options.{ifSome}
+use Rattle.logic.specs.Choice.{if_then_else_}
+use Rattle.logic.specs.Options.{ifSome}
 use Rattle.values.specs.Types.{Ty, integer, logical, bits, reference}
 use Rattle.values.specs.Operators.{Unary, negate, absolute, complement, Binary, plus, minus, times, divide, remainder, less, atMost, greater, atLeast, equal}
 use Rattle.values.specs.Operators.{unequal, both, either, shiftLeft, shiftRight}

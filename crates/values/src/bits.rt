@@ -1,7 +1,7 @@
 // Operators on bits: words of 32 bits, and shifts by any count.
 ghost use mathlib.Core.Path.{_≡_};
 ghost use lib.IntN.{natAbs};
-ghost use Rattle.words.specs.Choice.{if_then_else_};
+ghost use Rattle.logic.specs.Choice.{if_then_else_};
 ghost use Rattle.values.specs.Arithmetic.{andBits, orBits, notBits, leftBy, rightBy, shiftedLeft, shiftedRight};
 
 pub fn and_bits(x: u32, y: u32) -> u32

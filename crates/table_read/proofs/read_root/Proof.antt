@@ -6,7 +6,7 @@ use borrow.Author.Needs.{needs}
 use borrow.Author.Tests.{not-true, not-false}
 use lib.Dec.{eqb}
 use lib.ListN.{length, take, drop, length-drop}
-use Rattle.language_laws.specs.Basics.{both-right}
+use Rattle.logic.specs.Tests.{both-right}
 use Rattle.language_laws.specs.Claims.{entriesOf}
 use Rattle.table_read.specs.Walk.{counted, moved, kindAt, laidAt}
 use Rattle.table_read.proofs.Parts.{rest, entries-rest, laid-here}

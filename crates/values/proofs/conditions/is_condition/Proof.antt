@@ -1,6 +1,6 @@
 -- Each arm computes; past them the number is none of the list. Assumes nothing.
 use borrow.Author.Tests.{ne-eqb}
-use Rattle.words.specs.Lists.{among}
+use Rattle.logic.specs.Lists.{among}
 use Rattle.values.proofs.conditions.is_condition.Statement.{statement}
 use Rattle.values.proofs.conditions.is_condition.Tie as tie
 

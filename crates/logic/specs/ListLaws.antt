@@ -1,14 +1,34 @@
--- What is said of each element of a list.
-use mathlib.Core.Path.{_≡_}
-use mathlib.Core.Bool.{Bool, true}
+-- Laws of lists: what is so of each element, and what stands at a place.
+use mathlib.Core.Path.{_≡_, refl, ap, subst}
+use mathlib.Core.Bool.{Bool, true, _&&_}
 use mathlib.Core.List.{List, [], _∷_, _++_, map, reverse, reverseAux}
 use mathlib.Core.Option.{some}
-use Prim.Native.Nat.{ℕ, zero, suc, _+_, _<_}
+use Prim.Native.Nat.{ℕ, zero, suc, _<_}
 use native.Mathlib.Omega.{arith}
 use lib.ListN.{length, getElem?}
-use Rattle.words.specs.Lists.{all}
-use Rattle.bytecode_laws.specs.Tests.{never-some, halves}
-use Rattle.bytecode_laws.specs.Terms.{Each}
+use Rattle.logic.specs.Lists.{all, Each}
+use Rattle.logic.specs.Tests.{halves, and-assoc}
+use Rattle.logic.specs.OptionLaws.{never-some}
+
+pub app-nil : {A : Type 0} (xs : List A) → xs ++ [] ≡ xs
+app-nil [] = refl
+app-nil (x ∷ xs) = ap (λ ys. x ∷ ys) (app-nil xs)
+
+pub index-below : {A : Type 0} (xs : List A) (n : ℕ) (x : A) → getElem? xs n ≡ some x → n < length xs
+index-below [] n x e = never-some e
+index-below (y ∷ xs) zero x e = omega arith
+index-below (y ∷ xs) (suc n) x e = let h = index-below xs n x e in omega arith
+
+pub all-append : {A : Type 0} (f : A → Bool) (us vs : List A) → all f (us ++ vs) ≡ (all f us && all f vs)
+unfolding all
+all-append f [] vs = refl
+all-append f (u ∷ us) vs = rw (all-append f us vs, and-assoc (f u) (all f us) (all f vs))
+
+-- ── what is so of each element ──
+pub each-at : {A : Type 0} (P : A → Type 0) (xs : List A) (i : ℕ) (x : A) → Each P xs → getElem? xs i ≡ some x → P x
+each-at P [] i x p h = never-some h
+each-at P (y ∷ xs) zero x p h = let e : y ≡ x = cc in subst P e (p .0)
+each-at P (y ∷ xs) (suc i) x p h = each-at P xs i x (p .1) h
 
 pub each-all : {A : Type 0} (t : A → Bool) (P : A → Type 0) → ((x : A) → t x ≡ true → P x) → (xs : List A) → all t xs ≡ true → Each P xs
 unfolding all
@@ -33,8 +53,3 @@ each-reverse P xs h = go xs [] h tt
     go : (xs ys : List _) → Each P xs → Each P ys → Each P (reverseAux xs ys)
     go [] ys h i = i
     go (x ∷ xs) ys h i = go xs (x ∷ ys) (h .1) (h .0, i)
-
-pub there : {A : Type 0} (xs : List A) (n : ℕ) (x : A) → getElem? xs n ≡ some x → n < length xs
-there [] n x e = never-some e
-there (y ∷ xs) zero x e = omega arith
-there (y ∷ xs) (suc n) x e = let h = there xs n x e in omega arith
