@@ -52,10 +52,6 @@ passed l m b h =
     let p = passes-exactly l m .0 h in
     record { well-formed = well-formed l m (p .0); narrow = narrow l m b (p .0); faultless = p .1 }
 
--- what holds of each holds of the one at a place
-pub at-place : {A : Type 0} (P : A → Type 0) (xs : List A) (i : ℕ) (x : A) → Each P xs → getElem? xs i ≡ some x → P x
-at-place = each-at
-
 -- ── of a macro that passes ──
 module _ (m : Macro) (w : Passed m) where
   -- the bodies share the code out: every address stands in one, and only in that one

@@ -11,7 +11,8 @@ use Rattle.bytecode.specs.Macro.{Macro, Shape, Placed, shapeIn}
 use Rattle.logic.specs.Lists.{Each}
 use Rattle.logic.specs.OptionLaws.{never-some, same-some}
 use Rattle.bytecode_laws.specs.Terms.{Passed, ReadShape}
-use Rattle.bytecode_laws.specs.Promises.{at-place, in-code, cells-at-most-32, limits}
+use Rattle.logic.specs.ListLaws.{each-at}
+use Rattle.bytecode_laws.specs.Promises.{in-code, cells-at-most-32, limits}
 use Rattle.bytecode_layout.specs.Sized.{Sized, AllNamed}
 use Rattle.bytecode_layout.specs.Found.{sized-by}
 
@@ -28,7 +29,7 @@ pub sized : (m : Macro) → Passed m → Sized m
 sized m p =
     let w = p .well-formed in
     sized-by m (w .few-classes) (w .few-bodies) (p .narrow .few-instructions) (in-code m p)
-    (λ c ts e. let r = at-place _ (m .classes) c ts (w .classes-read) e in (r .few-fields, r .named))
-    (λ k b e. let r = at-place _ (m .bodies) k b (w .bodies-read) e in (cells-at-most-32 m p k b e, r .named-cells, r .named-results))
+    (λ c ts e. let r = each-at _ (m .classes) c ts (w .classes-read) e in (r .few-fields, r .named))
+    (λ k b e. let r = each-at _ (m .bodies) k b (w .bodies-read) e in (cells-at-most-32 m p k b e, r .named-cells, r .named-results))
     (shape-named m (m .shapes) (w .shapes-read))
     (λ k i s e f. limits m p k i s (record { inside = e; found = f }))

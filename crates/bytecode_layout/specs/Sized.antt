@@ -25,7 +25,7 @@ use Rattle.bytecode.specs.State.{typeByte, readValue, wordOfCell, byteOfCell, r
 use Rattle.logic.specs.Tests.{never, halves}
 use Rattle.logic.specs.ListLaws.{each-all, each-end, index-below}
 use Rattle.bytecode_laws.specs.Terms.{Named}
-use Rattle.values.specs.Identical.{sames→≡}
+use Rattle.values.specs.Identical.{sames→≡, length-types}
 
 -- types that name classes that are index-below
 abbrev pub AllNamed : Macro → List Ty → Type 0
@@ -95,11 +95,6 @@ module _ (n : ℕ) (few : n ≤ 16) (rs : List Made) (small : length rs ≤ 256)
   good-cells (c ∷ cs) t h =
       let a = halves (soundCell rs c) (all (soundCell rs) cs) h in
       (good-cell c (t .0) (a .0), good-cells cs (t .1) (a .1))
-
-length-types : (vs : List Value) → length (tysOf vs) ≡ length vs
-unfolding tysOf
-length-types [] = refl
-length-types (v ∷ vs) = ap suc (length-types vs)
 
 -- ── records and activations ──
 pub record GoodRecord (m : Macro) (r : Made) : Type 0 where

@@ -64,10 +64,6 @@ unfolding all
 all-none p = refl
 
 -- ── types ──
-pub tys-length : (vs : List Value) → length (tysOf vs) ≡ length vs
-unfolding tysOf
-tys-length [] = refl
-tys-length (v ∷ vs) = ap suc (tys-length vs)
 
 pub tys-append : (vs ws : List Value) → tysOf (vs ++ ws) ≡ tysOf vs ++ tysOf ws
 unfolding tysOf

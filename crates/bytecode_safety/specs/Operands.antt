@@ -18,13 +18,13 @@ use Rattle.bytecode.specs.Machine.{Activation, Made, Machine, Stuck, Stepped, b
 use Rattle.bytecode.specs.Sound.{soundValue, parametersOf}
 use Rattle.logic.specs.Tests.{never, both, halves}
 use Rattle.logic.specs.OptionLaws.{same-some}
-use Rattle.values.specs.Identical.{fits→≡}
+use Rattle.values.specs.Identical.{fits→≡, length-types}
 use Rattle.bytecode_laws.specs.Terms.{Passed, Allowed, Takes, Finds}
 use Rattle.bytecode_laws.specs.Takes.{takes-some, takes-first}
 use Rattle.bytecode_laws.specs.Promises.{ops}
 use Rattle.bytecode_safety.specs.Terms.{Steps}
 use Rattle.bytecode_safety.specs.Operators.{on-integer, on-logical, on-reference}
-use Rattle.bytecode_safety.specs.Lists.{all-parts, all-reverse, all-first, all-none, tys-length, tys-append, tys-reverse, tys-first, append-same, pops}
+use Rattle.bytecode_safety.specs.Lists.{all-parts, all-reverse, all-first, all-none, tys-append, tys-reverse, tys-first, append-same, pops}
 use Rattle.bytecode_safety.specs.States.{Waits}
 
 -- a list of types, reversed twice
@@ -114,11 +114,11 @@ pub take-off : (rs : List Made) (vs : List Value) (ts under : List Ty) (g : List
 unfolding tysOf
 take-off rs vs ts under g x a =
     let count = fit-length (x .taken) (reverse ts) (x .fit) in
-    let n : length ts ≤ length vs = omega (arith, tys-length vs, ap length (x .parts), length-append (x .taken) under, count, length-reverse ts) in
+    let n : length ts ≤ length vs = omega (arith, length-types vs, ap length (x .parts), length-append (x .taken) under, count, length-reverse ts) in
     let p = pops (length ts) [] vs g n in
     let xs = p .0 in let us = p .1 in
     let e : tysOf xs ++ tysOf us ≡ x .taken ++ under = sym (tys-append xs us) ∙ ap tysOf (sym (p .3)) ∙ x .parts in
-    let q = append-same (tysOf xs) (x .taken) (tysOf us) under e (tys-length xs ∙ p .4 ∙ sym (length-reverse ts) ∙ sym count) in
+    let q = append-same (tysOf xs) (x .taken) (tysOf us) under e (length-types xs ∙ p .4 ∙ sym (length-reverse ts) ∙ sym count) in
     let s = all-parts (soundValue rs) xs us (subst (λ x. all (soundValue rs) x ≡ true) (p .3) a) in
     let r : tysOf (reverse xs) ≡ reverse (x .taken) = tys-reverse xs [] ∙ ap reverse (q .0) in
     record {

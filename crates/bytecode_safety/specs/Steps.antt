@@ -31,14 +31,15 @@ use Rattle.bytecode.specs.Machine.{doPutField, doSet, doFader, doTakeHold, lett
 use Rattle.bytecode.specs.Sound.{soundValue, soundCell, soundRecord, soundGroup, parametersOf, sound}
 use Rattle.logic.specs.OptionLaws.{same-some}
 use Rattle.logic.specs.Tests.{halves}
-use Rattle.values.specs.Identical.{sames-refl, same-refl, fits→≡, allFit→≡}
+use Rattle.values.specs.Identical.{sames-refl, same-refl, fits→≡, allFit→≡, length-types}
 use Rattle.bytecode_laws.specs.Terms.{ReadBody, Passed, Allowed, Takes, Finds}
 use Rattle.bytecode_laws.specs.Takes.{takes-none}
 use Rattle.bytecode_laws.specs.Ops.{named-known}
-use Rattle.bytecode_laws.specs.Promises.{at-place, cells-at-most-32, entry, limits, ops}
+use Rattle.logic.specs.ListLaws.{each-at}
+use Rattle.bytecode_laws.specs.Promises.{cells-at-most-32, entry, limits, ops}
 use Rattle.bytecode_safety.specs.Terms.{Fine, counted, occurs, holdsOf, releasesOf, eventsIn, InRange, Moves, Steps}
 use Rattle.bytecode_safety.specs.Operators.{unary-fine, binary-fine}
-use Rattle.bytecode_safety.specs.Lists.{all-append, all-at, all-put, all-first, all-cons, all-none, all-weaker, tys-length, tys-append, tys-none, tys-at, tys-put}
+use Rattle.bytecode_safety.specs.Lists.{all-append, all-at, all-put, all-first, all-cons, all-none, all-weaker, tys-append, tys-none, tys-at, tys-put}
 use Rattle.bytecode_safety.specs.Lists.{cell-at, cells-put, cells-append, assigned-types, assigned-sound, fresh-types, fresh-values}
 use Rattle.bytecode_safety.specs.States.{Stands, Waits, Waiting, Around, frame-at, around-at, typed, typed-back, running-back, unwinds}
 use Rattle.bytecode_safety.specs.Operands.{OnTop, on-top, exactly, take-off, resumes, not-root, empty, demanded, chosen, supplied, topped, an-integer, a-logical, a-reference}
@@ -95,7 +96,7 @@ module _ (m : Macro) (w : Passed m) (bank : ℕ → ℕ) (low : (n : ℕ) → ba
   unfolding allHolds
   goes-on is vs h q x a v e =
       let n : length vs ≤ 32 = omega
-      (arith, limits m w (h .top .body) (suc (h .top .address)) (shape (length (h .top .holds)) (tysOf vs)) a .1, tys-length vs) in
+      (arith, limits m w (h .top .body) (suc (h .top .address)) (shape (length (h .top .holds)) (tysOf vs)) a .1, length-types vs) in
       demanded m state _ _ _ (le-leb (length vs) 32 n)
       (record {
         still-sound = running-back m w (h .shared) (at (suc (h .top .address)) vs (h .top)) (h .below)
@@ -249,7 +250,7 @@ module _ (m : Macro) (w : Passed m) (bank : ℕ → ℕ) (low : (n : ℕ) → ba
   enters k b vs us i e t n x y d = pick (ltb (length (f ∷ fs)) 32) refl
     where
       count : length vs ≡ b .parameters
-      count = sym (tys-length vs) ∙ ap length t ∙ length-take-le (b .parameters) (b .cells) n
+      count = sym (length-types vs) ∙ ap length t ∙ length-take-le (b .parameters) (b .cells) n
 
       cell-types : map tyOfCell (activation k b vs .cells) ≡ b .cells
       cell-types =
@@ -296,7 +297,7 @@ module _ (m : Macro) (w : Passed m) (bank : ℕ → ℕ) (low : (n : ℕ) → ba
   unfolding doCall
   safe-call k i d =
       let b = d .0 in
-      let n = at-place (ReadBody (length (m .classes)) (length (m .code))) (m .bodies) k b (w .well-formed .bodies-read) (d .2) .fewer-parameters in
+      let n = each-at (ReadBody (length (m .classes)) (length (m .code))) (m .bodies) k b (w .well-formed .bodies-read) (d .2) .fewer-parameters in
       let ts = take (b .parameters) (b .cells) in
       let body : List Value → List Value
       → Stepped = λ vs us. demand (allFit (tysOf vs) ts) badType (demand (leb (length (b .cells)) 32) badFrame (entering k b vs us here)) in

@@ -7,10 +7,7 @@ use native.Mathlib.Nat.{add-zero, add-suc, suc-add}
 use lib.ListN.{length, set, length-append}
 use lib.Seq.{sets, set-comm}
 use Rattle.compile_code.specs.Encode.{each}
-
-pub sets-append : (l : List ℕ) (i : ℕ) (xs ys : List ℕ) → sets (sets l i xs) (i + length xs) ys ≡ sets l i (xs ++ ys)
-sets-append l i [] ys = rw add-zero
-sets-append l i (x ∷ xs) ys = rw (add-suc, ← suc-add) (sets-append (set l i x) (suc i) xs ys)
+use Rattle.words.specs.Laws.{sets-append}
 
 set-sets : (l : List ℕ) (i k v : ℕ) (xs : List ℕ) → k < i → set (sets l i xs) k v ≡ sets (set l k v) i xs
 set-sets l i k v [] h = refl

@@ -18,15 +18,10 @@ use Rattle.compile_code.specs.Encode.{codeRoot, codeProc, procPart, procParts, 
 use Rattle.compile_bytes.specs.Whole.{front, classesLength, bodiesLength, front-length}
 use Rattle.compile_symbols.specs.Numbers.{cellsWithin}
 use Rattle.compile_symbols.specs.Tabled.{between}
-use Rattle.compile_symbols.specs.Entries.{cells-few}
+use Rattle.compile_symbols.specs.Entries.{cells-few, cells-append}
 use Rattle.compile_front.specs.Types.{typesOf, types-length}
 use Rattle.compile_front.specs.Bodies.{root-cells, proc-cells}
 use Rattle.compile_front.specs.Front.{Measuring}
-
-cells-append : (us vs : List Entry) → cellsWithin (us ++ vs) ≡ cellsWithin us + cellsWithin vs
-unfolding cellsWithin
-cells-append [] vs = omega arith
-cells-append (u ∷ us) vs = omega (arith, cells-append us vs)
 
 cells-most : (us : List Entry) → cellsWithin us ≤ length us
 unfolding cellsWithin

@@ -24,6 +24,7 @@ use Rattle.compile_symbols.specs.Numbers.{packed, typeIn, byteOf, cellsOf, numb
 use Rattle.compile_symbols.specs.Tabled.{Tabled, theTree, classesIn, entries-few, some-entry, layout-heads}
 use Rattle.compile_symbols.specs.Entries.{oneIf, cellsOfKind, cells-few, numbersOwned, numbersGlobal, layout-byte}
 use Rattle.compile_symbols.specs.Whole.{owned-body, kindOf, global-first, has}
+use Rattle.compile_code.specs.Counts.{length-classes, length-class-names}
 
 -- the byte of an entry that has a type
 abbrev pub typeByte : List ℕ → Entry → ℕ
@@ -118,18 +119,6 @@ pub record TypesKnown (l known : List ℕ) : Type 0 where
   pub wide : length l / 8 ≤ length known
   pub tells : (i : ℕ) → 1 ≤ i → i < length l / 8 → Tells (classesIn l) (entryAt l i) (getD known i 0)
 
-pub classes-counted : (gs : List Global) → length (classesOf gs) ≡ total classCount gs
-unfolding classesOf total
-classes-counted [] = refl
-classes-counted (local d ∷ gs) = omega (arith, classes-counted gs)
-classes-counted (class c xs ∷ gs) = omega (arith, classes-counted gs)
-classes-counted (procedure a xs b ∷ gs) = omega (arith, classes-counted gs)
-
-names-counted : (cs : List Class) → length (classNames cs) ≡ length cs
-unfolding classNames
-names-counted [] = refl
-names-counted (c ∷ cs) = ap suc (names-counted cs)
-
 pub types-known : {l sizes : List ℕ} (known more : List ℕ) → Tabled l sizes (theTree l) → length l / 8 ≤ length known → drop 1 known ≡ numbersOf (theTree l) ++ more → TypesKnown l known
 unfolding flatten all
 types-known {l} known more h w e =
@@ -137,8 +126,8 @@ types-known {l} known more h w e =
     let cs = classesIn l in
     let us = flatHead (t .head) in
     let vs = flatItems (t .items) in
-    let a : length (classesOf (t .head)) ≤ 16 = omega (arith, classes-counted (t .head), h .readable .classes) in
-    let few : length cs ≤ 16 = omega (arith, names-counted (classesOf (t .head))) in
+    let a : length (classesOf (t .head)) ≤ 16 = omega (arith, length-classes (t .head), h .readable .classes) in
+    let few : length cs ≤ 16 = omega (arith, length-class-names (classesOf (t .head))) in
     let y : all inLayout (us ++ vs) ≡ true = both-right (inLayout (entry 1 (length (t .head)) (pos (countItems (t .items))))) (all inLayout (us ++ vs)) (h .readable .layout) in
     let d : drop 1 (entriesOf l) ≡ us ++ vs = ap (λ (es : List Entry). drop 1 es) (h .same) in
     let m : length us + length vs ≤ 2048 = omega (arith, length-append us vs, ap length (h .same), length-entries (length l / 8) l, entries-few h) in

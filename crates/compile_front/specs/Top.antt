@@ -15,7 +15,8 @@ use Rattle.compile_code.specs.Compile.{Class, classesOf, Proc, procsOf}
 use Rattle.compile_code.specs.Encode.{codeRoot, procParts, parts, headsOf, fieldTypes, compiled, each}
 use Rattle.compile_bytes.specs.Whole.{headBytes, front}
 use Rattle.compile_symbols.specs.Tabled.{Headed, theTree, the-tree}
-use Rattle.compile_front.specs.Told.{TypesKnown, types-known, classes-counted}
+use Rattle.compile_code.specs.Counts.{length-classes, length-procedures, length-field-types, length-heads}
+use Rattle.compile_front.specs.Told.{TypesKnown, types-known}
 use Rattle.compile_front.specs.Bodies.{bodyOf, root-cells, root-bytes}
 use Rattle.compile_front.specs.Writing.{Wrote, wrote-as, wrote-then}
 use Rattle.compile_front.specs.Front.{classesFrom, procsFrom, classesFront, procsFront, rootTypes, rootEnd, Ended, Fronted}
@@ -27,23 +28,6 @@ Asks l count after sizes known ends classes bodies instructions shapes room =
 pub asks-tree : {t : Tree} {l sizes known ends : List ℕ} {count after classes bodies instructions shapes room : ℕ} → Fronted t l count after sizes known ends classes bodies instructions shapes room
     → Asks l count after sizes known ends classes bodies instructions shapes room
 asks-tree {t} f = rw (the-tree t (f .tabled)) f
-
-procs-counted : (gs : List Global) → length (procsOf gs) ≡ total procedureCount gs
-unfolding procsOf total
-procs-counted [] = refl
-procs-counted (local d ∷ gs) = omega (arith, procs-counted gs)
-procs-counted (class c xs ∷ gs) = omega (arith, procs-counted gs)
-procs-counted (procedure a xs b ∷ gs) = omega (arith, procs-counted gs)
-
-length-fields : (gs : List Global) (cs : List Class) → length (fieldTypes gs cs) ≡ length cs
-unfolding fieldTypes
-length-fields gs [] = refl
-length-fields gs (c ∷ cs) = ap suc (length-fields gs cs)
-
-length-procs : (t : Tree) (ps : List Proc) (a : ℕ) → length (headsOf (procParts t ps a)) ≡ length ps
-unfolding headsOf procParts
-length-procs t [] a = refl
-length-procs t (p ∷ ps) a = ap suc (length-procs t ps _)
 
 module _ {l sizes known ends : List ℕ} {count after classes bodies instructions shapes room : ℕ} (f : Asks l count after sizes known ends classes bodies instructions shapes room) where
   pub top-headed : Headed l sizes count
@@ -62,11 +46,11 @@ module _ {l sizes known ends : List ℕ} {count after classes bodies instruction
 
   pub top-classes : classes < 256
   unfolding compiled
-  top-classes = let t = theTree l in omega (arith, f .classes-are, length-fields (t .head) (classesOf (t .head)), classes-counted (t .head), f .tabled .readable .classes)
+  top-classes = let t = theTree l in omega (arith, f .classes-are, length-field-types (t .head) (classesOf (t .head)), length-classes (t .head), f .tabled .readable .classes)
 
   pub top-bodies : bodies < 256
   unfolding compiled parts headsOf
-  top-bodies = let t = theTree l in omega (arith, f .bodies-are, length-procs t (procsOf (t .head)) (rootEnd t), procs-counted (t .head), f .tabled .readable .procedures)
+  top-bodies = let t = theTree l in omega (arith, f .bodies-are, length-heads t (procsOf (t .head)) (rootEnd t), length-procedures (t .head), f .tabled .readable .procedures)
 
   -- the front by its parts
   pub top-front : (72 ∷ 68 ∷ classes ∷ bodies ∷ (half instructions ++ half shapes)) ++ (classesFront l ++ (bodyOf 0 0 0 (rootTypes l) ++ procsFront l)) ≡ front (compiled (theTree l))

@@ -35,7 +35,8 @@ use Rattle.compile_code.specs.Encode.{Part, rootPart, procPart, procParts, part
 use Rattle.compile_code.specs.Encode.{codeProc, codeBody, rootVariables, startOfRoot, aroundBody}
 use Rattle.compile_simulation.specs.Meets.{Setting}
 use Rattle.compile_simulation.specs.Placed.{Fit, Stands}
-use Rattle.compile_simulation.specs.Calls.{Static, held-past}
+use Rattle.compile_code.specs.Counts.{held-parameters, held-roots}
+use Rattle.compile_simulation.specs.Calls.{Static}
 use Rattle.compile_simulation.specs.Sim.{okBody, Called}
 use Rattle.compile_simulation.specs.Sim.{okItems as okNames}
 use Rattle.compile_simulation.specs.Root.{okRoot, atRoot}
@@ -117,12 +118,6 @@ heads-length : (ps : List Part) → length (headsOf ps) ≡ length ps
 unfolding headsOf
 heads-length [] = refl
 heads-length (p ∷ ps) = ap suc (heads-length ps)
-
-held-roots : (ds : List Decl) (n : ℕ) (Γ : List Around) → heldIn (rootVariables ds n Γ) ≡ heldIn Γ
-unfolding rootVariables heldIn
-held-roots [] n Γ = refl
-held-roots (declare x ∷ ds) n Γ = held-roots ds (suc n) (global root (x .name) n ∷ Γ)
-held-roots (holding g ∷ ds) n Γ = held-roots ds n Γ
 
 -- ── procedures and classes are found by their numbers ──
 turned : (a b : ℕ) → eqb b a ≡ eqb a b
@@ -307,7 +302,7 @@ module _ (t : Tree) where
 
     proc-held : (q : Proc) → heldIn (aroundBody t (q .parameters)) ≡ []
     unfolding heldIn
-    proc-held q = held-past (q .parameters) 0 (inside (procedureOf (q .parameters)) ∷ shared t) ∙ held-roots (locals (t .head)) 0 (startOfRoot t)
+    proc-held q = held-parameters (q .parameters) 0 (inside (procedureOf (q .parameters)) ∷ shared t) ∙ held-roots (locals (t .head)) 0 (startOfRoot t)
 
     flows : (k : ℕ) (p : Part) → getElem? (parts t) k ≡ some p → (Aim : ℕ → Shape → Type 0) → Marks (compiled t) k Aim (p .code) (startOf p) → Seg (compiled t) k Aim (p .code) atFirst none
     flows k p e Aim = by-part (λ k p. Marks (compiled t) k Aim (p .code) (startOf p) → Seg (compiled t) k Aim (p .code) atFirst none)

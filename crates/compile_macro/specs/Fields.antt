@@ -36,6 +36,7 @@ use Rattle.compile_code.specs.Compile.{opTarget, tyE, tyIn}
 use Rattle.compile_code.specs.Compile.{Cell as Kept, cellOf as keptOf}
 use Rattle.compile_rules.specs.Records.{Writable}
 use Rattle.compile_macro.specs.Laid.{Ops}
+use Rattle.language_laws.specs.Bytes.{number-fits}
 
 -- an entry whose numbers are in their fields and as its kind asks
 abbrev pub Entered : Entry → Type 0
@@ -103,12 +104,6 @@ parted P [] ys h = (tt, h)
 parted P (x ∷ xs) ys h = let q = parted P xs ys (h .1) in ((h .0, q .0), q .1)
 
 -- ── single entries ──
-its-b : (e : Entry) → inFields e ≡ true → SFits w32 (e .b)
-its-b e h =
-    record {
-      sfits = ltb-true (mag (e .b)) 2147483648 (halves (ltb (e .a) 65536) (ltb (mag (e .b)) 2147483648)
-          (halves (ltb (e .kind) 65536) (ltb (e .a) 65536 && ltb (mag (e .b)) 2147483648) h .1) .1);
-    }
 
 its-a : (e : Entry) → inFields e ≡ true → e .a < 65536
 its-a e h = ltb-true (e .a) 65536 (halves (ltb (e .a) 65536) (ltb (mag (e .b)) 2147483648) (halves (ltb (e .kind) 65536) (ltb (e .a) 65536 && ltb (mag (e .b)) 2147483648) h .1) .0)
@@ -201,9 +196,9 @@ module _ (gs : List Global) where
     fieldsTarget (toField a e) Γ ts p h = fieldsE e Γ ts p (h .1)
 
     pub fieldsE : (e : Expr) (Γ : List Around) (ts : List Ty) (p : At) → Each Entered (flatE e) → Ops Holdable (codeE gs e Γ ts p)
-    fieldsE (number z) Γ ts p h = its-b (entry 40 0 z) (h .0 .0)
+    fieldsE (number z) Γ ts p h = number-fits (entry 40 0 z) (h .0 .0)
     fieldsE (truth b) Γ ts p h = tt
-    fieldsE (pattern z) Γ ts p h = word-below z (its-b (entry 42 0 z) (h .0 .0))
+    fieldsE (pattern z) Γ ts p h = word-below z (number-fits (entry 42 0 z) (h .0 .0))
     fieldsE (null c) Γ ts p h = tt
     fieldsE (variable a) Γ ts p h = of-loading (keptOf a Γ)
     fieldsE (invoke a es) Γ ts p h = (fieldsEs es Γ ts p (h .1), tt)

@@ -15,9 +15,7 @@ use Rattle.bytecode.specs.Macro.{Macro}
 use Rattle.language.specs.Tree.{Global}
 use Rattle.compile_code.specs.Compile.{tyIn, wayOf}
 use Rattle.compile_rules.specs.Pass.{WayOk}
-
-none-some : {A B : Type 0} (x : A) → _≡_ {A = Option A} none (some x) → B
-none-some x h = let z : _≡_ {A = ℕ} 0 1 = cc h in absurd (omega arith)
+use Rattle.compile_simulation.specs.Projections.{nothing}
 
 -- what is taken is what is asked
 pub took : (asked ts : List Ty) (given r : Ty) → takes asked given ts ≡ some r → (ts ≡ asked) × (r ≡ given)
@@ -25,7 +23,7 @@ took asked ts given r h = pick (sames ts asked) refl h
   where
     pick : (b : Bool) → sames ts asked ≡ b → (if b then some given else none) ≡ some r → (ts ≡ asked) × (r ≡ given)
     pick true e k = let z : given ≡ r = cc k in (sames→≡ ts asked e, sym z)
-    pick false e k = none-some r k
+    pick false e k = nothing r k
 
 gives : (asked : List Ty) (given : Ty) → takes asked given asked ≡ some given
 gives asked given = rw (sames-refl asked) refl
@@ -37,7 +35,7 @@ module _ (gs : List Global) where
   -- logical or bits, of one operand or two
   one-in : (t r : Ty) → logicalOrBits (λ u. u ∷ []) (t ∷ []) ≡ some r → logicalOrBits (λ u. u ∷ []) (tyIn gs t ∷ []) ≡ some (tyIn gs r)
   unfolding sames
-  one-in integer r h = none-some r h
+  one-in integer r h = nothing r h
   one-in logical r h = let z : logical ≡ r = cc h in ap (λ u. some (tyIn gs u)) z
   one-in bits r h = let z : bits ≡ r = cc h in ap (λ u. some (tyIn gs u)) z
   one-in (reference c) r h = pick (takes (logical ∷ []) logical (reference c ∷ [])) refl h

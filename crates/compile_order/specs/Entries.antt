@@ -48,13 +48,6 @@ few-classes gs (local d ∷ hs) = let q = few-classes gs hs in omega arith
 few-classes gs (class c xs ∷ hs) = let q = few-classes gs hs in omega arith
 few-classes gs (procedure a xs b ∷ hs) = let q = few-classes gs hs in omega arith
 
-pub few-procs : (gs : List Global) → length (procsOf gs) ≡ total procedureCount gs
-unfolding total procsOf
-few-procs [] = refl
-few-procs (local d ∷ gs) = let q = few-procs gs in omega arith
-few-procs (class c xs ∷ gs) = let q = few-procs gs in omega arith
-few-procs (procedure a xs b ∷ gs) = let q = few-procs gs in omega arith
-
 -- ── how many entries ──
 length-head : (gs : List Global) → length (flatHead gs) ≡ total sizeGlobal gs
 unfolding flatHead total

@@ -8,7 +8,8 @@ use Rattle.language.specs.Formed.{InLimits}
 use Rattle.language_laws.specs.Trees.{formed-faultless}
 use Rattle.compile_code.specs.Encode.{compiled}
 use Rattle.compile_macro.specs.Built.{InOrder}
-use Rattle.compile_order.specs.Entries.{few-classes, few-procs, length-tree, root-entries, proc-entries, proc-results, class-fields}
+use Rattle.compile_code.specs.Counts.{length-procedures}
+use Rattle.compile_order.specs.Entries.{few-classes, length-tree, root-entries, proc-entries, proc-results, class-fields}
 use Rattle.compile_order.specs.Limited.{every-numbered}
 use Rattle.compile_order.specs.Classes.{fields-known, parameters-known}
 use Rattle.compile_order.specs.Typed.{root-typed, proc-typed}
@@ -34,6 +35,6 @@ orderly l P =
       };
       fields-known = fields-known t h (class-fields t (P .fields) (P .layout));
       few-classes = let n = few-classes (t .head) (t .head) in let m = P .classes in omega arith;
-      few-procs = let n = few-procs (t .head) in let m = P .procedures in omega arith;
+      few-procs = let n = length-procedures (t .head) in let m = P .procedures in omega arith;
       entries = let n = length-tree t in let m = P .entries in omega arith;
     }

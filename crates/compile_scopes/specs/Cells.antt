@@ -11,7 +11,7 @@ use Rattle.language.specs.Tree.{Arms, lastArm, arm, Target, toVariable, toField
 use Rattle.language.specs.Tree.{conditional, fader, blockExpr, Exprs, noExpr, expr}
 use Rattle.language.specs.Limits.{headCells, cellsS, cellsItems, cellsArms, cellsTarget, cellsE, cellsEs}
 use Rattle.compile_symbols.specs.Numbers.{cellsWithin}
-use Rattle.compile_scopes.specs.Lengths.{cells-append}
+use Rattle.compile_symbols.specs.Entries.{cells-append}
 
 pub within-head : (ds : List Decl) → cellsWithin (map flatDecl ds) ≡ headCells ds
 unfolding cellsWithin flatDecl flatTyped headCells

@@ -24,7 +24,7 @@ use Rattle.language.specs.Faults.{sizeS}
 use Rattle.logic.specs.Tests.{clash, eqb-comm, or-left}
 use Rattle.language_laws.specs.Claims.{entriesOf}
 use Rattle.table_scopes.specs.Stands.{Stands, stands-tail}
-use Rattle.table_scopes.specs.Defines.{headItems, labelItems}
+use Rattle.table_scopes.specs.Defines.{headItems, labelItems, class-small}
 use Rattle.table_scopes.specs.Sees.{Legible, Sees, Agrees}
 use Rattle.bytecode.specs.Instructions.{Owner, own, root}
 use Rattle.compile_code.specs.Code.{At, at, skip, after}
@@ -44,7 +44,8 @@ use Rattle.compile_nodes.specs.Knows.{Lies, Walk, MeansCell, MeansClass, Means,
 use Rattle.compile_scopes.specs.Lies.{lies-tail, lies-here, lies-right}
 use Rattle.compile_scopes.specs.Lengths.{length-below}
 use Rattle.compile_scopes.specs.Marks.{openIn}
-use Rattle.compile_scopes.specs.Means.{Both, both-moved, byte-type, byte-small, length-class-names}
+use Rattle.compile_code.specs.Counts.{length-class-names}
+use Rattle.compile_scopes.specs.Means.{Both, both-moved, byte-type, byte-small}
 
 -- ── what lies around after a head, in each of its styles ──
 unfoldable pub entering : Style → List Decl → ℕ → List Around → List Around
@@ -95,17 +96,6 @@ module _ (S : Style) where
       past-entering a ds n (S .name b c ∷ Γ) (not-again a ss (b ∷ seen) ds g new) ∙ S .look-name a b c Γ ∙ rw e
 
 -- ── the types of a head have bytes ──
--- a reference's class is a name of 16 bits
-pub class-small : (a c : ℕ) → inLayout (entry 10 a (pos (65536 + c))) ≡ true → c < 65536
-unfolding inLayout
-class-small a c h =
-    let e : 65536 + c - 65536 ≡ c = omega arith in
-    go (leb (65536 + c) 131071) refl
-    (rw (ne-eqb (65536 + c) 1 (λ z. omega arith), ne-eqb (65536 + c) 2 (λ z. omega arith), ne-eqb (65536 + c) 3 (λ z. omega arith), le-leb 65536 (65536 + c) (omega arith), e) at h)
-  where
-    go : (b : Bool) → leb (65536 + c) 131071 ≡ b → isSome {A = Ty} (if leb (65536 + c) 131071 then some (reference c) else none) ≡ true → c < 65536
-    go true e k = omega (arith, leb-true (65536 + c) 131071 e)
-    go false e k = clash (let z : false ≡ true = rw e at k in cc)
 
 unfoldable pub Bytes : List Global → List Decl → Type 0
 Bytes gs [] = Unit {0}

@@ -107,8 +107,3 @@ numbers-append cs n [] vs = ap (λ k. numbersFrom cs k vs) (omega arith)
 numbers-append cs n (e ∷ us) vs =
     let k : n + cellsOf e + cellsWithin us ≡ n + (cellsOf e + cellsWithin us) = omega arith in
     ap (λ ws. numberOf cs 0 n e ∷ ws) (numbers-append cs (n + cellsOf e) us vs ∙ rw k)
-
-pub cells-append : (us vs : List Entry) → cellsWithin (us ++ vs) ≡ cellsWithin us + cellsWithin vs
-unfolding cellsWithin
-cells-append [] vs = omega arith
-cells-append (e ∷ us) vs = omega (arith, cells-append us vs)

@@ -19,6 +19,7 @@ use Rattle.table_scopes.specs.declared.environment.Found.the-variants.{Nothing,
 use Rattle.table_scopes.specs.Environment.{Item, item, find, addAll, passing, opened, shut}
 use Rattle.table_scopes.specs.EnvironmentLaws.{firstIn, orOuter, Small, find-block}
 use Rattle.compile_nodes.specs.Knows.{Walk, Means, Known, Knows}
+use Rattle.compile_code.specs.Counts.{index-most}
 
 -- ── both lookups find nothing, or both a definition that P holds of ──
 abbrev pub Both : (ℕ → Sort → Type 0) → Found → names.Found → Type 0
@@ -51,21 +52,6 @@ byte-type cs bits = refl
 byte-type cs (reference c) =
     let e : 65536 + c - 65536 ≡ c = omega arith in
     rw (le-ltb (65536 + c) 65536 (omega arith), e)
-
--- a type whose class has a number has a byte
-pub index-most : (a : ℕ) (cs : List ℕ) → indexOf a cs ≤ length cs
-unfolding indexOf
-index-most a [] = omega arith
-index-most a (b ∷ cs) = pick (eqb b a) (index-most a cs)
-  where
-    pick : (t : Bool) → indexOf a cs ≤ length cs → (if t then 0 else suc (indexOf a cs)) ≤ suc (length cs)
-    pick true h = omega arith
-    pick false h = omega arith
-
-pub length-class-names : (cl : List Class) → length (classNames cl) ≡ length cl
-unfolding classNames
-length-class-names [] = refl
-length-class-names (c ∷ cl) = ap suc (length-class-names cl)
 
 pub byte-small : (cs : List ℕ) (t : Ty) → length cs ≤ 16 → tyByte (numbered cs t) < 256
 byte-small cs integer h = omega arith

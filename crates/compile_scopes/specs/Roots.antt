@@ -35,25 +35,13 @@ use Rattle.table_scopes.specs.Environment.{opened, addAll}
 use Rattle.table_scopes.specs.Environment as env
 use Rattle.table_scopes.specs.EnvironmentLaws.{firstIn, orOuter, Small, small-append}
 use Rattle.compile_nodes.specs.Knows.{Lies, Walk, Means, Knows}
-use Rattle.compile_scopes.specs.Means.{Both, both-or, in-append, index-most, byte-small, length-class-names, knows-root}
+use Rattle.compile_code.specs.Counts.{index-most, length-class-names, length-classes, length-procedures}
+use Rattle.compile_scopes.specs.Means.{Both, both-or, in-append, byte-small, knows-root}
 use Rattle.compile_scopes.specs.Heads.{entering, scopes-entering, labels-mean, head-sort}
 use Rattle.compile_scopes.specs.Blocks.{NoLabel}
 use Rattle.compile_scopes.specs.RootHead.{Numbered, globals-mean, both-more}
 
 -- ── counts ──
-pub length-classes : (gs : List Global) → length (classesOf gs) ≡ total classCount gs
-unfolding classesOf total
-length-classes [] = refl
-length-classes (local d ∷ gs) = omega (arith, length-classes gs)
-length-classes (class c xs ∷ gs) = omega (arith, length-classes gs)
-length-classes (procedure a xs b ∷ gs) = omega (arith, length-classes gs)
-
-pub length-procedures : (gs : List Global) → length (procsOf gs) ≡ total procedureCount gs
-unfolding procsOf total
-length-procedures [] = refl
-length-procedures (local d ∷ gs) = omega (arith, length-procedures gs)
-length-procedures (class c xs ∷ gs) = omega (arith, length-procedures gs)
-length-procedures (procedure a xs b ∷ gs) = omega (arith, length-procedures gs)
 
 length-proc-names : (ps : List Proc) → length (procNames ps) ≡ length ps
 unfolding procNames

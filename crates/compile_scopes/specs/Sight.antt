@@ -38,7 +38,8 @@ use Rattle.table_scopes.specs.EnvironmentLaws.{firstIn, orOuter, Small, find-bl
 use Rattle.compile_nodes.specs.Ends.{aroundHead, atHead, endsHead, endsItems, endsS, endsE, belowS, belowE}
 use Rattle.compile_nodes.specs.Knows.{Lies, Walk, Knows, Lands, targetOf}
 use Rattle.compile_scopes.specs.Lies.{lies-left, lies-right, lies-next}
-use Rattle.compile_scopes.specs.Lengths.{length-head, numbers-append, cells-append}
+use Rattle.compile_symbols.specs.Entries.{cells-append}
+use Rattle.compile_scopes.specs.Lengths.{length-head, numbers-append}
 use Rattle.compile_scopes.specs.Marks.{openIn, marks, find-marks, passed-marks, sees-marks, knows-marks}
 use Rattle.compile_scopes.specs.Means.{known-across, knows-labels, knows-inside}
 use Rattle.compile_scopes.specs.Heads.{Anything, scopes-entering, around-root, around-shared, parameters-mean, past-parameters, bytes-typed, classes-known}

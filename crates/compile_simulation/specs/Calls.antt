@@ -114,11 +114,6 @@ unfolding parameterCells globalAt
 global-past a [] n Γ = refl
 global-past a (x ∷ xs) n Γ = global-past a xs (suc n) Γ
 
-pub held-past : (xs : List Typed) (n : ℕ) (Γ : List Around) → heldIn (parameterCells xs n Γ) ≡ heldIn Γ
-unfolding parameterCells heldIn
-held-past [] n Γ = refl
-held-past (x ∷ xs) n Γ = held-past xs (suc n) Γ
-
 roots-past : (gs : List Global) (xs : List Typed) (n : ℕ) (Γ : List Around) (cs ls : List Cell) → rootsOf gs (parameterCells xs n Γ) cs ls ≡ rootsOf gs Γ cs ls
 unfolding parameterCells rootsOf
 roots-past gs [] n Γ cs ls = refl

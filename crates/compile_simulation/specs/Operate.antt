@@ -1,5 +1,5 @@
 -- Operators on what the tree sees are the machine's, where the machine's has a result.
-use mathlib.Core.Bool.{Bool, true, false, not, Bool·beq}
+use mathlib.Core.Bool.{_||_, _&&_, Bool, true, false, not, Bool·beq}
 use mathlib.Core.Path.{_≡_, refl, ap, sym, subst}
 use mathlib.Core.List.{List}
 use mathlib.Core.Option.{Option, none, some}

@@ -14,7 +14,7 @@ use Rattle.language.specs.Tree.{Global}
 use Rattle.compile_code.specs.Compile.{classesOf}
 use Rattle.compile_simulation.specs.View.{seenV, classOf}
 
-nothing : {A B : Type 0} (x : A) → _≡_ {A = Option A} none (some x) → B
+pub nothing : {A B : Type 0} (x : A) → _≡_ {A = Option A} none (some x) → B
 nothing x h = let z : _≡_ {A = ℕ} 0 1 = cc h in absurd (omega arith)
 
 pub is-integer : (v : Value) (z : ℤ) → asInteger v ≡ some z → v ≡ int z

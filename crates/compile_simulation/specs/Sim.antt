@@ -51,7 +51,8 @@ use Rattle.compile_simulation.specs.Typing.{typed, is-log, not-log}
 use Rattle.bytecode.specs.Macro.{Body, shapeIn}
 use Rattle.compile_code.specs.Encode.{codeBody, parameterCells}
 use Rattle.compile_simulation.specs.Records.{okField, gets, puts, makes}
-use Rattle.compile_simulation.specs.Calls.{onto, onto-last, callee, inside-proc, held-past, Static, fit-callee, calls}
+use Rattle.compile_code.specs.Counts.{held-parameters}
+use Rattle.compile_simulation.specs.Calls.{onto, onto-last, callee, inside-proc, Static, fit-callee, calls}
 use Rattle.compile_simulation.specs.Blocks.{gotoOk, okHead, Opens, SameRoots, goes, heads, Found, found-label, Resumes, catches, left, inner-seen}
 
 abbrev pub IsProper : TreeBody → Type 0
@@ -424,7 +425,7 @@ module _ (W : Setting) (gs : List Global) where
     unfolding allHolds heldIn
     called G C Γ a q c m n' top st D f p l w k sim =
         let C' = callee gs C (bodyNumber gs a) Γ m st D in
-        let none-held : heldIn (around a q c) ≡ [] = held-past (q .parameters) 0 (inside (c .scope) ∷ W .shared-names) ∙ c .static .no-hold in
+        let none-held : heldIn (around a q c) ≡ [] = held-parameters (q .parameters) 0 (inside (c .scope) ∷ W .shared-names) ∙ c .static .no-hold in
         calls W gs C G Γ (bodyNumber gs a) m (endOf a q c) n' (c .head) q (c .scope) top st D f p (c .ret) (c .there) (c .counts) l w (c .static) k (λ E h.
         subst (λ K. Meets W n (nowhere W gs C) (Arrives W gs C' G (Sees W gs C' (around a q c)) K (endOf a q c) []) (at-work W gs C' (c .head .first) [] K E)
         (f (q .body) (record { holds = K ++ allHolds (C' .below); activations = suc (length (C' .below)) }) (seen gs (around a q c) E))) none-held

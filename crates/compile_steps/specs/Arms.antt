@@ -35,6 +35,7 @@ use Rattle.compile_nodes.specs.Ready.{stmt, Place, Lent, Kept, Wrote, Ready, Do
 use Rattle.compile_steps.specs.Parts.{lent, below, movedTo, size-N, passes-N, laid-aim, kept-self, kept-then, kept-out, wrote-then, wrote-op, wrote-nil, wrote-length}
 use Rattle.compile_steps.specs.Views.{IsStmt}
 use Rattle.compile_steps.specs.Shared.{Rest, rest-left, rest-node, rest-own, rest-ready, lands-kept, shaping, shaped-wrote, fits-op, ends-then, ends-N, aim-as}
+use Rattle.language_laws.specs.ReadBack.{arms-count}
 
 -- ── one statement: before it its number is looked for, behind it the case is left ──
 module _ (s : Stmt) (us : List Entry) (ks : List ℕ) (tail : Code) (c j z : ℕ) (W : Walk) (X : Place) where
@@ -176,11 +177,6 @@ laterEnds W X (arm s r) = endsArms (W .globals) r (X .around) (X .types) (then W
 abbrev laterCode : Walk → Place → Arms → ℕ → ℕ → ℕ → Code
 laterCode W X (lastArm s) c j z = nil
 laterCode W X (arm s r) c j z = codeCases (W .globals) r c (suc j) z (X .around) (X .types) (then W X s)
-
-count-one : (r : Arms) → 1 ≤ countArms r
-unfolding countArms
-count-one (lastArm s) = omega arith
-count-one (arm s r) = omega arith
 
 pub record Bounds (s : Stmt) (W : Walk) (X : Place) (nesting holds depth : ℕ) : Type 0 where
   pub deep : deepS s ≤ nesting
@@ -354,7 +350,7 @@ module _ {known aims l part : List ℕ} {owner count nesting at : ℕ} {sizes : 
   later = left-of h (s .goes (a .arms) (a .cell) (a .exit) (a .walk) (a .place) (a .same-known) (a .same-aims) (a .owned) (a .ready))
 
   pub arms-before : (i < 65536) × Fits (moved (moved (moved (moved p)))) (length (M .out))
-  arms-before = let f = later in (omega (arith, f .is, f .ready .few, f .ready .many, count-one (f .left)), this-before (f .left) (f .ready))
+  arms-before = let f = later in (omega (arith, f .is, f .ready .few, f .ready .many, arms-count (f .left)), this-before (f .left) (f .ready))
 
   pub arms-passes : (n : ℕ) → n ≡ getD sizes place 0 → Passes rest sizes place n
   arms-passes n e = this-passes (later .left) (later .ready) n e
@@ -402,7 +398,7 @@ module _ {known aims l part : List ℕ} {owner count nesting at : ℕ} {sizes : 
 
 over-of : {c z : ℕ} {W : Walk} {l rest : List ℕ} {count nesting place : ℕ} {sizes : List ℕ} {M : Lent} {top holds depth : ℕ} {p : Pen} {i : ℕ} {Whole : Lent → Pen → Type 0} → count ≤ i
     → Going c z W l rest count nesting place sizes M top holds depth p i Whole → Whole M p
-over-of h (more g) = absurd (omega (arith, g .ready .many, count-one (g .left)))
+over-of h (more g) = absurd (omega (arith, g .ready .many, arms-count (g .left)))
 over-of h (over k d) = d
 
 pub arms-end : {known aims l part : List ℕ} {owner count nesting at : ℕ} {sizes : List ℕ} {L : Lent} {top holds depth : ℕ} {pen : Pen} {M : Lent} {rest : List ℕ} {place i : ℕ} {p : Pen}

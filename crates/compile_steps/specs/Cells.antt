@@ -23,7 +23,8 @@ use Rattle.compile_symbols.specs.Numbers.{cellsWithin}
 use Rattle.compile_nodes.specs.Ends.{aroundHead, atHead, endsS, endsE}
 use Rattle.compile_scopes.specs.HeadOps.{head-cells}
 use Rattle.compile_scopes.specs.Cells.{within-head}
-use Rattle.compile_scopes.specs.Lengths.{cells-append, length-below, length-belowE}
+use Rattle.compile_symbols.specs.Entries.{cells-append}
+use Rattle.compile_scopes.specs.Lengths.{length-below, length-belowE}
 
 goto-cell : (Γ : List Around) (a : ℕ) (p : At) → after (codeGoto Γ a) p .cell ≡ p .cell
 unfolding after codeGoto

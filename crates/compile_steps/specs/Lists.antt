@@ -19,7 +19,7 @@ use Rattle.table_scopes.specs.Trees.{length-S}
 use Rattle.compile_code.specs.Code.{mark, _▸_, At, after}
 use Rattle.compile_code.specs.Compile.{found, codeS, codeE, codeEs, codeItems, tyE}
 use Rattle.compile_names.specs.Good.{goodEs, goodItems}
-use Rattle.compile_symbols.specs.Entries.{sets-append}
+use Rattle.words.specs.Laws.{sets-append}
 use Rattle.compile_symbols.specs.Numbers.{cellsWithin}
 use Rattle.compile_output.specs.declared.Pen.{Pen}
 use Rattle.compile_output.specs.Folds.{penAfter, inked}

@@ -25,7 +25,8 @@ use Rattle.compile_code.specs.Code.{Code, nil, op, mark, cell, _▸_, At, at, a
 use Rattle.language.specs.Names.{Scope}
 use Rattle.compile_code.specs.Compile.{scopesOf, found}
 use Rattle.compile_code.specs.Encode.{rec, recordOf}
-use Rattle.compile_symbols.specs.Entries.{sets-append}
+use Rattle.words.specs.Laws.{sets-append}
+use Rattle.compile_symbols.specs.Entries.{cells-append}
 use Rattle.compile_symbols.specs.Numbers.{numbersFrom, cellsOf, cellsWithin}
 use Rattle.compile_output.specs.declared.Pen.{Pen}
 use Rattle.compile_output.specs.Ink.{Fits, moved, penShaped, inkOp, inkShape}
@@ -34,7 +35,7 @@ use Rattle.compile_nodes.specs.Knows.{Walk}
 use Rattle.compile_nodes.specs.Ready.{Node, stmt, expr, name, flatN, formN, roomN, deepN, holdsN, needN, goodN, codeN, endsN, Place, Lent, Laid, Stood, Kept, Wrote, LandsN, Ready, Asks}
 use Rattle.compile_scopes.specs.Sight.{classesIn}
 use Rattle.compile_scopes.specs.Lies.{lies-left, lies-right, lies-next, lies-here}
-use Rattle.compile_scopes.specs.Lengths.{numbers-append, cells-append, length-numbers}
+use Rattle.compile_scopes.specs.Lengths.{numbers-append, length-numbers}
 
 -- the part of a slice that begins at a place
 abbrev pub below : List ℕ → ℕ → List ℕ

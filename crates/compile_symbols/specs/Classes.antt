@@ -15,7 +15,8 @@ use Rattle.language_laws.specs.Claims.{entriesOf}
 use Rattle.table_scopes.specs.Stands.{Stands, fields, entryAt, length-entries}
 use Rattle.compile_code.specs.Compile.{indexOf, classesOf, classNames}
 use Rattle.compile_symbols.specs.Tabled.{Tabled, Headed, entries-few, classesIn, theTree, Within, Left, left-start, next-global}
-use Rattle.compile_symbols.specs.Entries.{oneIf, namesClass, one-few, index-small}
+use Rattle.compile_code.specs.Counts.{index-most}
+use Rattle.compile_symbols.specs.Entries.{oneIf, namesClass, one-few}
 
 -- the entry that stands at a place
 pub entry-at : (l : List ℕ) (p : ℕ) (e : Entry) (us : List Entry) → Stands (entriesOf l) p (e ∷ us) → entryAt l p ≡ e
@@ -98,4 +99,4 @@ classes-few {l} h =
     omega (arith, names-few (t .head), length-append (flatHead (t .head)) (flatItems (t .items)), length-entries (length l / 8) l, entries-few (h .tabled))
 
 pub class-few : {l sizes : List ℕ} {count : ℕ} → Headed l sizes count → (name : ℕ) → indexOf name (classesIn l) ≤ 2048
-class-few {l} h name = omega (arith, index-small name (classesIn l), classes-few h)
+class-few {l} h name = omega (arith, index-most name (classesIn l), classes-few h)

@@ -26,8 +26,9 @@ use Rattle.table_scopes.specs.Stands.{entryAt, field-number}
 use Rattle.table_scopes.specs.Sees.{Legible}
 use Rattle.compile_code.specs.Compile.{indexOf}
 use Rattle.compile_symbols.specs.declared.Numbers.{Numbers}
-use Rattle.compile_symbols.specs.Numbers.{packed, byteOf, cellsOf, numberOf}
+use Rattle.compile_symbols.specs.Numbers.{cellsWithin, packed, byteOf, cellsOf, numberOf}
 use Rattle.compile_symbols.specs.Tabled.{Within, between, partAt, between-entry, between-none, layout-at}
+use Rattle.compile_code.specs.Counts.{index-most}
 
 -- ── definitions ──
 abbrev pub oneIf : ℕ → ℕ → ℕ
@@ -73,19 +74,8 @@ one-few k w = go (eqb k w)
     go false = omega arith
 
 -- ── stores one after the other ──
-pub sets-append : (l : List ℕ) (i : ℕ) (xs ys : List ℕ) → sets (sets l i xs) (i + length xs) ys ≡ sets l i (xs ++ ys)
-sets-append l i [] ys = rw add-zero
-sets-append l i (x ∷ xs) ys = rw (add-suc, ← suc-add) (sets-append (set l i x) (suc i) xs ys)
 
 -- ── the number of an entry ──
-pub index-small : (a : ℕ) (cs : List ℕ) → indexOf a cs ≤ length cs
-unfolding indexOf
-index-small a [] = omega arith
-index-small a (c ∷ cs) = go (eqb c a) (index-small a cs)
-  where
-    go : (b : Bool) → indexOf a cs ≤ length cs → (if b then 0 else suc (indexOf a cs)) ≤ suc (length cs)
-    go true h = omega arith
-    go false h = omega arith
 
 pub byte-below : (cs : List ℕ) (b : ℕ) → b < 65536 → byteOf cs b ≡ b
 byte-below cs b h = rw (lt-ltb b 65536 h)
@@ -102,7 +92,7 @@ code-is (reference c) n e = inr (omega arith)
 
 byte-small : (cs : List ℕ) (b : ℕ) → (b ≤ 3) ⊎ (65536 ≤ b) → byteOf cs b ≤ 16 + length cs
 byte-small cs b (inl h) = omega (arith, byte-below cs b (omega arith))
-byte-small cs b (inr h) = omega (arith, byte-class cs b h, index-small (b - 65536) cs)
+byte-small cs b (inr h) = omega (arith, byte-class cs b h, index-most (b - 65536) cs)
 
 -- a declared type as it is read: its number, and that its byte is one
 pub record Read (l : List ℕ) (cs : List ℕ) (p : ℕ) : Type 0 where
@@ -190,3 +180,9 @@ module _ (l sizes : List ℕ) (place : ℕ) (w : Within l sizes place) (cs old :
       → set old place v ≡ sets old place (numbersGlobal cs n (partAt l sizes place))
   unfolding numbersGlobal
   global-local v j k d = rw (part-is, ne-eqb (halfAt l (8 * place)) 11 j, ne-eqb (halfAt l (8 * place)) 12 k, d)
+
+-- ── cells ──
+pub cells-append : (us vs : List Entry) → cellsWithin (us ++ vs) ≡ cellsWithin us + cellsWithin vs
+unfolding cellsWithin
+cells-append [] vs = omega arith
+cells-append (e ∷ us) vs = omega (arith, cells-append us vs)

@@ -20,7 +20,8 @@ use Rattle.compile_code.specs.Compile.{classesOf, classNames, procsOf}
 use Rattle.compile_symbols.specs.declared.Numbers.{Numbers}
 use Rattle.compile_symbols.specs.Numbers.{packed, byteOf, cellsOf, numberOf, numbersFrom, numbersFields, numbersGlobals, numbersOf}
 use Rattle.compile_symbols.specs.Tabled.{Tabled, Headed, theTree, classesIn, Within, between, partAt, Left, left-start, Next, next-global, heads-here}
-use Rattle.compile_symbols.specs.Entries.{oneIf, cellsOfKind, cells-few, one-few, numbersOwned, numbersGlobal, Counts, sets-append}
+use Rattle.words.specs.Laws.{sets-append}
+use Rattle.compile_symbols.specs.Entries.{oneIf, cellsOfKind, cells-few, one-few, numbersOwned, numbersGlobal, Counts}
 use Rattle.compile_symbols.specs.Classes.{left-within, none-left}
 
 -- what is left of the numbers before, and how many there are of each

@@ -48,6 +48,7 @@ use Rattle.compile_whole.specs.Ends.{procOf, procEnd, rootEnd, ended, Ai
 use Rattle.compile_whole.specs.Ends as ends-laws
 use Rattle.compile_whole.specs.Stage.{Stage, lentOf, items-fit}
 use Rattle.compile_whole.specs.Walks.{AsksWalk, AnswersWalk}
+use Rattle.compile_code.specs.Counts.{length-field-types, length-heads}
 
 -- ── what the check accepts ──
 accepted-read : (l : List ℕ) (t : Tree) → judgeTable l ≡ accepted t → readTable l ≡ accepted t
@@ -169,19 +170,9 @@ few-in : (bs : List Body) → Each SmallBody bs → Few bs
 few-in [] h = tt
 few-in (b ∷ bs) h = let a = h .0 in (omega arith, few-in bs (h .1))
 
-length-types : (gs : List Global) (cs : List Class) → length (fieldTypes gs cs) ≡ length cs
-unfolding fieldTypes
-length-types gs [] = refl
-length-types gs (c ∷ cs) = ap suc (length-types gs cs)
-
-length-procs : (t : Tree) (ps : List Proc) (a : ℕ) → length (headsOf (procParts t ps a)) ≡ length ps
-unfolding headsOf procParts
-length-procs t [] a = refl
-length-procs t (p ∷ ps) a = ap suc (length-procs t ps (procEnd t p a))
-
 length-bodies : (t : Tree) → length (headsOf (parts t)) ≡ 1 + length (procsOf (t .head))
 unfolding headsOf parts
-length-bodies t = let n = length-procs t (procsOf (t .head)) (rootEnd t) in omega arith
+length-bodies t = let n = length-heads t (procsOf (t .head)) (rootEnd t) in omega arith
 
 -- the last two bytes
 two-set : (l : List ℕ) (n : ℕ) → 2 ≤ n → set (set l (n - 2) 90) (n - 1) 90 ≡ sets l (n - 2) zz
@@ -262,7 +253,7 @@ module _ {l : List ℕ} {count behind classes bodies : ℕ} {sizes env : List �
           wide-ends = omega (arith, q .wide-aims, y .kept .same-ends);
           root-end = dry-aims .of-root;
           firsts = firsts-in (theTree l) (M .ends) (theTree l .head) 1 (rootEnd (theTree l)) (dry-aims .of-procs);
-          classes-are = q .classes-are ∙ sym (length-types (theTree l .head) (classesOf (theTree l .head)));
+          classes-are = q .classes-are ∙ sym (length-field-types (theTree l .head) (classesOf (theTree l .head)));
           bodies-are = q .bodies-are ∙ sym (length-bodies (theTree l));
           instructions-are = dry-address;
           shapes-are = dry-shapes;

@@ -34,9 +34,10 @@ use Rattle.compile_symbols.specs.Packed.{type-packed, second-packed}
 use Rattle.compile_symbols.specs.Whole.{kindOf, kind-here}
 use Rattle.compile_symbols.specs.Tabled.{Tabled, theTree, Headed, Left, left-start, Next, next-global, Within}
 use Rattle.compile_emit.specs.Owns.{inkInitial, penDeclared, inkDeclared}
-use Rattle.compile_scopes.specs.Means.{byte-small, length-class-names}
+use Rattle.compile_code.specs.Counts.{length-class-names, length-classes}
+use Rattle.compile_symbols.specs.Classes.{none-left}
+use Rattle.compile_scopes.specs.Means.{byte-small}
 use Rattle.compile_scopes.specs.Heads.{number-typed}
-use Rattle.compile_scopes.specs.Roots.{length-classes}
 use Rattle.compile_scopes.specs.HeadOps.{headOps}
 use Rattle.compile_whole.specs.Heads.{rootHead}
 use Rattle.compile_whole.specs.Numbers.{cellsGlobal, cells-next, classesBy, itemsBy, Numbers, numbers-next, numbers-local, numbers-all}
@@ -153,10 +154,6 @@ next-in : (gs : List Global) (n : ℕ) {l sizes known old : List ℕ} {pen : Pen
 next-in [] n t h k m few e f = absurd (omega (arith, k .many))
 next-in (g ∷ gs) n {l} t h k m few e f =
     record { this = g; later = gs; cells = n; next = next-global g gs t k; numbers = m; few = omega (arith, cells-next (classesBy (theTree l)) (itemsBy (theTree l)) g gs); penned = e; written = f }
-
-none-left : {l : List ℕ} {place left : ℕ} (gs : List Global) → Left l place left gs → left ≡ 0 → gs ≡ []
-none-left [] k h = refl
-none-left (g ∷ gs) k h = absurd (omega (arith, k .many))
 
 module _ {l sizes known old : List ℕ} {pen : Pen} {out : List ℕ} {place left : ℕ} {p : Pen} (h : Prepared (theTree l) l sizes known) (s : HeadSoFar l known old pen out place left p) where
   pub same-out : length out ≡ length old

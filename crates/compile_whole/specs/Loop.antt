@@ -34,6 +34,7 @@ use Rattle.compile_whole.specs.Numbers.{classesBy, itemsBy, Numbers, num
 use Rattle.compile_whole.specs.Ends.{procOf, procEnd, endedProcs, AimsProcs}
 use Rattle.compile_whole.specs.Stage.{Stage, ReadyProc}
 use Rattle.compile_whole.specs.Procs.{AsksProc, DoneProc, AnswersProc}
+use Rattle.compile_symbols.specs.Classes.{none-left}
 
 -- ── one declaration: only procedures have code of their own ──
 abbrev pub ReadyG : Global → List ℕ → List ℕ → ℕ → List ℕ → Lent → ℕ → List ℕ → List ℕ → Pen → Type 0
@@ -288,10 +289,6 @@ next-proc : (gs : List Global) {l sizes known aims : List ℕ} {top : ℕ} {old 
     → NextProc l sizes known aims top old pen new place left p
 next-proc [] t h k r e f g = absurd (omega (arith, k .many))
 next-proc (x ∷ xs) t h k r e f g = record { this = x; later = xs; next = next-global x xs t k; asks = r; penned = e; written = f; ended = g }
-
-none-left : {l : List ℕ} {place left : ℕ} (gs : List Global) → Left l place left gs → left ≡ 0 → gs ≡ []
-none-left [] k h = refl
-none-left (g ∷ gs) k h = absurd (omega (arith, k .many))
 
 module _ {l : List ℕ} {count : ℕ} {sizes : List ℕ} {old : Lent} {top : ℕ} {known aims : List ℕ} {pen : Pen} (q : AsksProcs l count sizes old top known aims pen)
     {new : Lent} {place left : ℕ} {p : Pen} (s : ProcsSoFar l sizes known aims top old pen new place left p) where

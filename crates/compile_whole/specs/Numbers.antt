@@ -15,11 +15,7 @@ use Rattle.compile_nodes.specs.Knows.{Lies}
 use Rattle.compile_scopes.specs.Lies.{lies-left, lies-right, lies-next, lies-here, lies-at, lies-same}
 use Rattle.compile_scopes.specs.Lengths.{length-numbers, numbers-append}
 use Rattle.compile_scopes.specs.Cells.{within-typed}
-
-length-fields : (cs : List ℕ) (k i : ℕ) (xs : List Typed) → length (numbersFields cs k i xs) ≡ length xs
-unfolding numbersFields
-length-fields cs k i [] = refl
-length-fields cs k i (x ∷ xs) = ap suc (length-fields cs k (suc i) xs)
+use Rattle.compile_scopes.specs.RootHead.{length-fields}
 
 -- the cells of the root that a declaration adds
 abbrev pub cellsGlobal : Global → ℕ

@@ -39,7 +39,8 @@ use Rattle.compile_output.specs.Folds.{penAfter, fits-before, later-moved}
 use Rattle.compile_nodes.specs.Knows.{Lies, Walk}
 use Rattle.compile_nodes.specs.Ready.{Node, stmt, expr, Place, Lent, Stood, Ready, ReadyItems}
 use Rattle.compile_scopes.specs.Heads.{Anything, around-root, around-shared, scopes-entering}
-use Rattle.compile_scopes.specs.Roots.{length-classes, root-items-stand}
+use Rattle.compile_code.specs.Counts.{length-classes, held-parameters, held-roots}
+use Rattle.compile_scopes.specs.Roots.{root-items-stand}
 use Rattle.compile_scopes.specs.Sight.{afterHead, rootSight, startOfItems, aroundRoot, aroundProcedures, Rooted, sees-in-root, sees-in-procedures, knows-in-root}
 use Rattle.compile_scopes.specs.Sight.{knows-in-procedures, lands-in-root, procedureSight, sees-in-procedure, knows-in-procedure, lands-in-procedure}
 use Rattle.compile_scopes.specs.Cells.{within-items, within-S, within-E}
@@ -213,20 +214,9 @@ body-scopes t xs =
     scopes-parameters Anything xs 0 (inside (procedureOf xs) ∷ aroundProcedures t)
     ∙ ap (λ (ss : List Scope). procedureOf xs ∷ ss) (ap scopesOf (around-shared (locals (t .head)) 0 (startOfRoot t)) ∙ scopes-entering ofShared (locals (t .head)) 0 (startOfRoot t))
 
-held-parameters : (xs : List Typed) (n : ℕ) (Γ : List Around) → heldIn (parameterCells xs n Γ) ≡ heldIn Γ
-unfolding parameterCells heldIn
-held-parameters [] n Γ = refl
-held-parameters (x ∷ xs) n Γ = held-parameters xs (suc n) Γ
-
-held-shared : (ds : List Decl) (n : ℕ) (Γ : List Around) → heldIn (rootVariables ds n Γ) ≡ heldIn Γ
-unfolding rootVariables heldIn
-held-shared [] n Γ = refl
-held-shared (declare x ∷ ds) n Γ = held-shared ds (suc n) (global root (x .name) n ∷ Γ)
-held-shared (holding g ∷ ds) n Γ = held-shared ds n Γ
-
 body-held : (t : Tree) (xs : List Typed) → 0 ≡ length (heldIn (aroundBody t xs))
 unfolding heldIn
-body-held t xs = sym (ap length (held-parameters xs 0 (inside (procedureOf xs) ∷ aroundProcedures t) ∙ held-shared (locals (t .head)) 0 (startOfRoot t)))
+body-held t xs = sym (ap length (held-parameters xs 0 (inside (procedureOf xs) ∷ aroundProcedures t) ∙ held-roots (locals (t .head)) 0 (startOfRoot t)))
 
 -- all parameters are cells
 few-parameters : (xs : List Typed) (b : Body) → InLimits (bodyUsage xs b) → length xs ≤ 32

@@ -45,7 +45,7 @@ fields-kept (suc n) l b =
     )
     (fields-kept n (drop 8 l) (bytes-drop 8 l b))
 
-number-fits : (e : Entry) → inFields e ≡ true → SFits w32 (e .b)
+pub number-fits : (e : Entry) → inFields e ≡ true → SFits w32 (e .b)
 number-fits e h =
     let k = both-right (ltb (e .kind) 65536) (ltb (e .a) 65536 && ltb (mag (e .b)) 2147483648) h in
     record { sfits = ltb-true (mag (e .b)) 2147483648 (both-right (ltb (e .a) 65536) (ltb (mag (e .b)) 2147483648) k) }

@@ -125,7 +125,7 @@ unfolding measureS firstArm deepRest
 arms-deep (lastArm s) = omega arith
 arms-deep (arm s a) = refl
 
-arms-count : (a : Arms) → 1 ≤ countArms a
+pub arms-count : (a : Arms) → 1 ≤ countArms a
 unfolding countArms
 arms-count (lastArm s) = omega arith
 arms-count (arm s a) = omega arith

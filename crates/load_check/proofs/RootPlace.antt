@@ -8,7 +8,7 @@ use Rattle.load_places.specs.Records.{classes, classPlace, bodyPlace}
 use Rattle.load_places.specs.Index.{Well}
 use Rattle.load_records.proofs.Known.{body-of, class-below}
 use Rattle.load_rules.specs.Moves.{BodyAt}
-use Rattle.load_check.specs.Known.{some-body}
+use Rattle.load_views.specs.Known.{some-body}
 
 pub root-is : (c : List ℕ) → Well c → Bytes c → (k p : ℕ) → k ≡ classes c → p ≡ classPlace c k → BodyAt c 0 p
 unfolding bodyPlace

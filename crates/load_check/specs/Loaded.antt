@@ -9,8 +9,8 @@ use Rattle.bytecode.specs.Macro.{Macro}
 use Rattle.bytecode.specs.Rules.{judgeMacro}
 use Rattle.load_places.specs.Rules.{Verdict, judge}
 use Rattle.load_places.specs.Rules as places
-use Rattle.load_check.specs.View.{verdictOf}
-use Rattle.load_check.specs.Views.{judges}
+use Rattle.load_views.specs.View.{verdictOf}
+use Rattle.load_views.specs.Views.{judges}
 use Rattle.load_check.specs.Small.{Narrow, narrow}
 use Rattle.load_check.specs.declared.Loaded.{Loaded}
 use Rattle.load_check.specs.declared.Loaded.the-variants.{Passes, Refused}

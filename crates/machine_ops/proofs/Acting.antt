@@ -22,7 +22,7 @@ use Rattle.bytecode.specs.Machine.{popMany, assignAll, entering, handDown, isEm
 use Rattle.bytecode.specs.Machine.{doPutField}
 use Rattle.bytecode.specs.Machine as machine
 use Rattle.load_places.specs.Records.{classes, bodies, classPlace, bodyPlace}
-use Rattle.load_check.specs.Seen.{span, span-length, tyOn, classOn, bodyOn, typesOn, below, viewed}
+use Rattle.load_check.specs.Views.{span, span-length, tyOn, classOn, bodyOn, typesOn, below, viewed}
 use Rattle.bytecode_safety.specs.Lists.{pops}
 use Rattle.logic.specs.ListLaws.{index-below}
 use Rattle.bytecode_layout.specs.Places.{framePlace}

@@ -22,7 +22,7 @@ use Rattle.bytecode.specs.Machine.{Activation, Made, Shared, running, Stuck, ba
 use Rattle.bytecode.specs.Sound.{soundValue}
 use Rattle.bytecode.specs.State.{encode}
 use Rattle.bytecode_laws.specs.Promises.{limits}
-use Rattle.bytecode_safety.specs.Lists.{tys-length}
+use Rattle.values.specs.Identical.{length-types}
 use Rattle.bytecode_safety.specs.States.{running-sound, Stands, Around}
 use Rattle.bytecode_layout.specs.Steps.{activation}
 use Rattle.machine_frames.specs.Bytes.{wentTo}
@@ -43,7 +43,7 @@ module _ {m : Macro} {l : List ℕ} {f n i : ℕ} {rs : Shared} {t : Activation}
   stands = running-sound m rs t fs (N .sounds) .1
 
   pub few-operands : length (t .operands) ≤ 32
-  few-operands = omega (arith, tys-length (t .operands), limits m (N .passed) (t .body) (t .address) (shape (length (t .holds)) (tysOf (t .operands))) (stands .allowed) .1)
+  few-operands = omega (arith, length-types (t .operands), limits m (N .passed) (t .body) (t .address) (shape (length (t .holds)) (tysOf (t .operands))) (stands .allowed) .1)
 
   pub few-holds : length (t .holds) ≤ 16
   few-holds = limits m (N .passed) (t .body) (t .address) (shape (length (t .holds)) (tysOf (t .operands))) (stands .allowed) .0

@@ -24,11 +24,11 @@ use Rattle.bytecode.specs.Machine.{doReturn, doMake, onMade, doGetField, doPutF
 use Rattle.bytecode.specs.Runs.{bankOf}
 use Rattle.bytecode.specs.Sound.{soundRecord, ofClass}
 use Rattle.bytecode_laws.specs.Terms.{Passed, Finds}
-use Rattle.bytecode_laws.specs.Promises.{limits, in-code, cells-at-most-32, at-place}
-use Rattle.bytecode_safety.specs.Lists.{all-at, tys-length}
+use Rattle.bytecode_laws.specs.Promises.{limits, in-code, cells-at-most-32}
+use Rattle.bytecode_safety.specs.Lists.{all-at}
 use Rattle.bytecode_safety.specs.States.{Frame, Waiting, typed}
-use Rattle.values.specs.Identical.{sames→≡}
-use Rattle.logic.specs.ListLaws.{index-below}
+use Rattle.values.specs.Identical.{sames→≡, length-types}
+use Rattle.logic.specs.ListLaws.{index-below, each-at}
 use Rattle.bytecode_layout.specs.Places.{framePlace}
 use Rattle.machine_frames.specs.On.{on-long, read-count, read-records, read-holds, read-open, read-operand, read-depth, read-address}
 use Rattle.machine_ops.specs.Acts.{here, Now, Room, Holding}
@@ -37,7 +37,7 @@ use Rattle.machine_ops.specs.Moves.{CallRoom, ReturnRoom, FieldRoom, MakeRoom}
 use Rattle.machine_ops.specs.Moves.{given as given-of}
 use Rattle.load_check.specs.Lookups.{BodyAt, ClassAt}
 use Rattle.load_places.specs.Records.{classes, bodies, classPlace, bodyPlace}
-use Rattle.load_check.specs.Seen.{span-length, tyOn, classOn, bodyOn, below, viewed}
+use Rattle.load_check.specs.Views.{span-length, tyOn, classOn, bodyOn, below, viewed}
 use Rattle.machine_ops.proofs.Lists.{below-top}
 use Rattle.machine_run.specs.Held.{Poised}
 use Rattle.machine_run.proofs.Decode.{is-integer, is-logical, is-bits, is-null, is-load, is-store, is-operate, is-go, is-unless, is-call, is-return, is-make}
@@ -137,8 +137,8 @@ module _ {m : Macro} {l : List ℕ} {f n i : ℕ} {rs : Shared} {t : Activation}
       go none c h = never h
       go (some ts) c h =
           let t = typed (rs .records) (q .fields) ts h .0 in
-          let r = at-place _ (m .classes) (q .class) ts (N .passed .well-formed .classes-read) c in
-          omega (arith, index-below (q .fields) x v e′, tys-length (q .fields), ap length t, r .few-fields)
+          let r = each-at _ (m .classes) (q .class) ts (N .passed .well-formed .classes-read) c in
+          omega (arith, index-below (q .fields) x v e′, length-types (q .fields), ap length t, r .few-fields)
 
 -- ── each op ──
 module _ {code readings : List ℕ} {op a b : ℕ} {l : List ℕ} {f n i : ℕ} (P : Poised code readings op a b l f n i) where
@@ -348,7 +348,7 @@ module _ {code readings : List ℕ} {op a b : ℕ} {l : List ℕ} {f n i : ℕ} 
       let g = given-there (getElem? (P .macro .classes) a) noStep _ (doing _ (is-make op a b (P .instr) (P .decoded) e)) in
       let v = viewed code (P .macro) (P .reads) .class a in
       let k = below-there a (classes code) (classOn code (classPlace code a)) (g .0) (sym v ∙ g .1) in
-      let r = at-place _ (P .macro .classes) a (g .0) (N .passed .well-formed .classes-read) (g .1) in
+      let r = each-at _ (P .macro .classes) a (g .0) (N .passed .well-formed .classes-read) (g .1) in
       let enough = many-there (length (g .0)) [] (P .top .operands) _ (g .2) in
       (k .0, omega (arith, index-below (P .macro .classes) a (g .0) (g .1), N .passed .well-formed .few-classes), λ q C. parts q C (g .0) (k .1) (r .some-field) (r .few-fields) enough)
     where
@@ -366,9 +366,9 @@ module _ {code readings : List ℕ} {op a b : ℕ} {l : List ℕ} {f n i : ℕ} 
       let e1 = not-root (P .macro) (P .top .body) (g .0) (g .1) in
       let s = demand-there (sames (tysOf (P .top .operands)) (g .0 .results)) badType _ (g .2) in
       let h = demand-there (isEmpty (P .top .holds)) groupHeld _ (s .1) in
-      let r = at-place _ (P .macro .bodies) (P .top .body) (g .0) (N .passed .well-formed .bodies-read) e1 in
+      let r = each-at _ (P .macro .bodies) (P .top .body) (g .0) (N .passed .well-formed .bodies-read) e1 in
       let t : tysOf (P .top .operands) ≡ g .0 .results = sames→≡ _ _ (s .0) in
-      let one-value : n ≤ 1 = omega (arith, depth, tys-length (P .top .operands), ap length t, r .one-result) in
+      let one-value : n ≤ 1 = omega (arith, depth, length-types (P .top .operands), ap length t, r .one-result) in
       down (P .below) one-value (h .1) N (around N .below-waits)
     where
       down : (fs : List Activation) → n ≤ 1 → Moved (handDown (P .top .operands) (P .shared) fs) → Now (P .macro) l f n i (P .shared) (P .top) fs

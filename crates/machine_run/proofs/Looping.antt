@@ -7,7 +7,7 @@ use lib.ListN.{length}
 use Rattle.words.specs.Numbers.{byteAt, halfAt, wordAt}
 use Rattle.words.specs.Laws.{Bytes}
 use Rattle.load_places.specs.Records.{count, codeBase}
-use Rattle.load_check.specs.Seen.{viewed}
+use Rattle.load_check.specs.Views.{viewed}
 use Rattle.machine_ops.specs.declared.Event.{Event}
 use Rattle.machine_ops.specs.declared.Out.{Out}
 use Rattle.machine_ops.specs.declared.Out.the-variants.{Goes, Gives, Ends}

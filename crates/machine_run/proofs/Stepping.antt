@@ -24,7 +24,7 @@ use Rattle.bytecode_laws.specs.Promises.{ops, in-code}
 use Rattle.bytecode_safety.specs.States.{running-sound}
 use Rattle.bytecode_safety.specs.Safety.{step-safe}
 use Rattle.load_places.specs.Records.{count, codePlace, codeBase}
-use Rattle.load_check.specs.Seen.{codeOn, below, viewed}
+use Rattle.load_check.specs.Views.{codeOn, below, viewed}
 use Rattle.logic.specs.Tests.{halves}
 use Rattle.bytecode_layout.specs.Places.{framePlace, phase}
 use Rattle.bytecode_layout.specs.Parts.{length-encode}

@@ -19,7 +19,7 @@ use Rattle.bytecode_laws.specs.Promises.{passed, cells-at-most-32}
 use Rattle.load_places.specs.Records.{bodies, bodyPlace}
 use Rattle.load_places.specs.Index.{Well}
 use Rattle.load_check.specs.Lookups.{BodyAt}
-use Rattle.load_check.specs.Seen.{span-length, Typed, bodyOn, view, reads-view, some-body, Viewed, viewed, passing}
+use Rattle.load_check.specs.Views.{span-length, Typed, bodyOn, view, reads-view, some-body, Viewed, viewed, passing}
 use Rattle.load_check.specs.Loaded.{loadedOf}
 use Rattle.load_check.specs.declared.Loaded.the-variants.{Passes, Refused}
 use Rattle.state_write.specs.Fresh.{freshWith, fresh-is}

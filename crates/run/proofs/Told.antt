@@ -16,7 +16,7 @@ use Rattle.bytecode.specs.State.{encode}
 use Rattle.bytecode.specs.Lent.{written, runOn}
 use Rattle.bytecode_laws.specs.Promises.{passed}
 use Rattle.load_check.specs.Small.{base-small}
-use Rattle.load_check.specs.Seen.{passing}
+use Rattle.load_check.specs.Views.{passing}
 use Rattle.state_check.specs.Inspecting.{Placed, Held, NotHeld, Inspects}
 use Rattle.state_check.specs.declared.inspection.Inspected.{Inspected}
 use Rattle.state_check.specs.declared.inspection.Inspected.the-variants.{Sound, Unsound, Refused}

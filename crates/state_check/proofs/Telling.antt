@@ -18,7 +18,7 @@ use Rattle.bytecode.specs.Machine.{Machine}
 use Rattle.bytecode.specs.Lent.{soundState}
 use Rattle.load_places.specs.Records.{bodies, count}
 use Rattle.load_places.specs.Rules.{Verdict, judge, passes, refused}
-use Rattle.load_check.specs.Seen.{verdictOf, judges}
+use Rattle.load_check.specs.Views.{verdictOf, judges}
 use Rattle.state_sound.specs.Each.{each, each-get, each-alike, each-none}
 use Rattle.state_sound.specs.Fits.{bodyIn, depthIn, openIn, addressIn, held, groupsFit, recordFits, frameFits, runningFits, plainFits, stands, activationsIn, soundBytes}
 use Rattle.state_sound.specs.Frames.{chosen}

@@ -20,7 +20,7 @@ use Rattle.bytecode.specs.Machine.{Activation, Made}
 use Rattle.bytecode.specs.State.{part, readValue, readCell, readRow, readActivation, readActivations, readRecord, readRecords}
 use Rattle.load_places.specs.Records.{classes, bodies, classPlace, bodyPlace, noMark, badClass}
 use Rattle.load_places.specs.Index.{Well}
-use Rattle.load_check.specs.Seen.{span, span-length, by-test, past, view, body-at, class-at}
+use Rattle.load_check.specs.Views.{span, span-length, by-test, past, view, body-at, class-at}
 use Rattle.state_sound.specs.Each.{each, halves}
 use Rattle.state_sound.specs.Fits.{frameAt, entryAt, bodyIn, depthIn, openIn, addressIn, classIn, held}
 use Rattle.state_sound.specs.Rows.{rowReads, rowOn, cellRow, values-read, cells-read}

@@ -23,8 +23,8 @@ use Rattle.load_places.specs.Search.{tops, alike, Clean}
 use Rattle.load_places.specs.Records.{classes, bodies, count, classPlace, bodyPlace, firstOf}
 use Rattle.load_places.specs.Rules.{bodyOf, endOf, broken}
 use Rattle.load_places.specs.Index.{Well}
-use Rattle.load_check.specs.Seen.{span, backs, span-at, reverse-span, tests, by-test, view, bodyOn, bytes, below, alike-bytes, known-class, known-body, first-rises}
-use Rattle.load_check.specs.Seen.{body-at, in-body, stands as standing, before-end, class-at, Viewed}
+use Rattle.load_check.specs.Views.{span, backs, span-at, reverse-span, tests, by-test, view, bodyOn, bytes, below, alike-bytes, known-class, known-body, first-rises}
+use Rattle.load_check.specs.Views.{body-at, in-body, stands as standing, before-end, class-at, Viewed}
 use Rattle.state_sound.specs.Each.{each, halves, both, same-test}
 use Rattle.state_sound.specs.Fits.{frameAt, entryAt, bodyIn, depthIn, openIn, addressIn, classIn, held, valueIn, rowFits, recordFits, cellsFit, operandsIn, takenIn, standsIn, stands}
 use Rattle.state_sound.specs.Rows.{cells-typed, Recorded, row-bytes, row-sound, row-typed}

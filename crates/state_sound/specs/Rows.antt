@@ -23,7 +23,7 @@ use Rattle.bytecode.specs.Machine.{Made}
 use Rattle.bytecode.specs.Sound.{soundValue, points, typedValues, soundCell, typedCells}
 use Rattle.bytecode.specs.State.{readValue, readCell, readRow}
 use Rattle.load_places.specs.Records.{classes, noType}
-use Rattle.load_check.specs.Seen.{span, by-test, tyOn, type-byte, same-byte, type-reads}
+use Rattle.load_check.specs.Views.{span, by-test, tyOn, type-byte, same-byte, type-reads}
 use Rattle.state_sound.specs.Each.{each, each-at, and-true}
 use Rattle.state_sound.specs.Fits.{pointsTo, valueFits, classIn}
 

@@ -24,7 +24,7 @@ use Rattle.bytecode.specs.Lent.{onlySound}
 use Rattle.load_places.specs.Search.{tops, Clean}
 use Rattle.load_places.specs.Records.{bodies, count, bodyPlace, codePlace}
 use Rattle.load_places.specs.Rules.{broken}
-use Rattle.load_check.specs.Seen.{span, backs, span-length, backs-length, reverse-span, tests, by-test, view, bytes, code-at, Viewed}
+use Rattle.load_check.specs.Views.{span, backs, span-length, backs-length, reverse-span, tests, by-test, view, bytes, code-at, Viewed}
 use Rattle.state_sound.specs.Each.{each, halves, both, same-test, each-get, each-all}
 use Rattle.state_sound.specs.Fits.{bodyIn, depthIn, openIn, addressIn, held, calls, takenIn, recordFits, cellsFit, frameFits, groupsFit, runningFits, stands}
 use Rattle.state_sound.specs.Decoded.{recordOn, recordReads, records-read, cellCount, holdsOn, frameOn, frameReads, activations-read}

@@ -24,7 +24,7 @@ use Rattle.bytecode.specs.Lent.{onlySound, soundState}
 use Rattle.load_places.specs.Search.{Clean}
 use Rattle.load_places.specs.Records.{count}
 use Rattle.load_places.specs.Rules.{broken}
-use Rattle.load_check.specs.Seen.{by-test, view, reads-view, Viewed, viewed, passing}
+use Rattle.load_check.specs.Views.{by-test, view, reads-view, Viewed, viewed, passing}
 use Rattle.state_sound.specs.Each.{each, each-same}
 use Rattle.state_sound.specs.Fits.{groupsFit, plainFits, stands, activationsIn, soundBytes}
 use Rattle.state_sound.specs.Frames.{all-reverse}

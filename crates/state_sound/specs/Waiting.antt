@@ -21,7 +21,7 @@ use Rattle.bytecode.specs.State.{part}
 use Rattle.load_places.specs.Search.{tops}
 use Rattle.load_places.specs.Records.{bodies, bodyPlace}
 use Rattle.load_places.specs.Index.{Well}
-use Rattle.load_check.specs.Seen.{backs, span-take, reverse-span, by-test, view, bytes, stack-bytes, known-body, body-at}
+use Rattle.load_check.specs.Views.{backs, span-take, reverse-span, by-test, view, bytes, stack-bytes, known-body, body-at}
 use Rattle.state_sound.specs.Each.{each, and-assoc, each-snoc, each-same}
 use Rattle.state_sound.specs.Fits.{bodyIn, openIn, addressIn, held}
 use Rattle.state_sound.specs.Decoded.{cellCount, holdsOn, frameOn}

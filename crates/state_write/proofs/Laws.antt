@@ -23,7 +23,7 @@ use Rattle.bytecode_layout.specs.Cleared.{Gap, _⋯_, wipes, activationGaps, re
 use Rattle.bytecode_layout.specs.Passing.{sized}
 use Rattle.bytecode_layout.specs.Layout.{cleared-sound}
 use Rattle.load_places.specs.Records.{classes, bodies, classPlace, bodyPlace}
-use Rattle.load_check.specs.Seen.{span-length, view, reads-view, body-at, class-at, passing}
+use Rattle.load_check.specs.Views.{span-length, view, reads-view, body-at, class-at, passing}
 use Rattle.state_sound.specs.Each.{each, each-get}
 use Rattle.state_sound.specs.Fits.{bodyIn, classIn, held, groupsFit, recordFits, frameFits, runningFits, plainFits, stands, activationsIn, soundBytes}
 use Rattle.state_sound.specs.Frames.{chosen}

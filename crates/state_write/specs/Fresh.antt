@@ -16,7 +16,7 @@ use Rattle.bytecode.specs.Machine.{Machine, running, rootCells, freshMachine}
 use Rattle.bytecode.specs.State.{zeros, typeByte, encode}
 use Rattle.load_places.specs.Records.{bodies, bodyPlace}
 use Rattle.load_places.specs.Index.{Well}
-use Rattle.load_check.specs.Seen.{span, span-length, span-snoc, view, tyOn, typesOn, bodyOn, Typed, some-body}
+use Rattle.load_check.specs.Views.{span, span-length, span-snoc, view, tyOn, typesOn, bodyOn, Typed, some-body}
 use Rattle.bytecode_layout.specs.Steps.{cell-next-law}
 use Rattle.bytecode_layout.specs.Phases.{begin-law}
 

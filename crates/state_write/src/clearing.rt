@@ -8,7 +8,7 @@ ghost use Prim.Native.Nat.{_+_, _*_, _≤_, _<_};
 ghost use lib.ListN.{length};
 ghost use Rattle.words.specs.Numbers.{byteAt, halfAt};
 ghost use Rattle.load_places.specs.Records.{classes, bodies};
-ghost use Rattle.load_check.specs.Seen.{view};
+ghost use Rattle.load_check.specs.Views.{view};
 ghost use Rattle.bytecode_layout.specs.Cleared.{_⋯_, wipes, activationGaps, recordGaps, cellCount, fieldCount, clearActivations, clearRecords, clearRunning};
 ghost use Rattle.load_check.specs.Lookups.{Bodied, Classed};
 ghost use Rattle.state_check.specs.Inspecting.{Held};

@@ -7,7 +7,7 @@ ghost use lib.ListN.{length};
 ghost use lib.Seq.{sets};
 ghost use Rattle.words.specs.Numbers.{word};
 ghost use Rattle.bytecode.specs.State.{zeros, encode, activationsAt, cellWordsAt, cellTypesAt, stateLength};
-ghost use Rattle.load_check.specs.Seen.{Typed};
+ghost use Rattle.load_check.specs.Views.{Typed};
 ghost use Rattle.state_write.specs.Fresh.{freshWith};
 
 // Where the root's cells have their words and their types: it is the first activation.

@@ -257,7 +257,7 @@ class-found l p (Def s n q w) (found (isClass ts) b) h = rw (h .1 .0)
 class-found l p (Def s n q w) (found (isField c t) b) h = rw (ne-eqb s 6 (λ z. omega (arith, h .1 .0)))
 class-found l p (Def s n q w) (found (isProcedure ts us) b) h = rw (h .1 .0)
 
-class-small : (a c : ℕ) → inLayout (entry 10 a (pos (65536 + c))) ≡ true → c < 65536
+pub class-small : (a c : ℕ) → inLayout (entry 10 a (pos (65536 + c))) ≡ true → c < 65536
 unfolding inLayout
 class-small a c h =
     let e : 65536 + c - 65536 ≡ c = omega arith in

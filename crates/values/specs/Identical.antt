@@ -1,11 +1,13 @@
--- Laws: two types that `same` tells to be identical are one, and so with lists of types.
+-- Laws: two types that `same` tells to be identical are one, and so with lists of types. And as many types as values.
 use mathlib.Core.Path.{_≡_, refl, sym, _∙_, ap, ap₂}
 use mathlib.Core.Bool.{Bool, true, false, _&&_}
 use mathlib.Core.List.{List, [], _∷_}
 use Prim.Native.Nat.{ℕ, zero, suc, _+_, _-_}
 use native.Mathlib.Omega.{arith}
+use lib.ListN.{length}
 use borrow.Author.Tests.{eqb-true, eq-eqb}
 use Rattle.values.specs.Types.{Ty, integer, logical, bits, reference, tyCode, same, fits, sames, allFit}
+use Rattle.values.specs.Values.{Value, tysOf}
 
 -- the type that a code stands for; any, where it is no code
 unfoldable coded : ℕ → Ty
@@ -60,3 +62,9 @@ fit-sames (t ∷ ts) (u ∷ us) = ap (λ b. same t u && b) (fit-sames ts us)
 
 pub allFit→≡ : (ts us : List Ty) → allFit ts us ≡ true → ts ≡ us
 allFit→≡ ts us h = sames→≡ ts us (sym (fit-sames ts us) ∙ h)
+
+-- ── there are as many types as values ──
+pub length-types : (vs : List Value) → length (tysOf vs) ≡ length vs
+unfolding tysOf
+length-types [] = refl
+length-types (v ∷ vs) = ap suc (length-types vs)

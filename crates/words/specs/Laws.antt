@@ -1,7 +1,7 @@
 -- What holds of numbers in bytes and of the two readings of 32 bits, for all bytes and numbers. A law on numbers in bytes is stated
 -- once over their size; at a size it computes to the names of Numbers: `reads-back four` speaks of wordAt and word.
 use mathlib.Core.Path.{_≡_, refl, sym, _∙_}
-use mathlib.Core.List.{List, [], _∷_}
+use mathlib.Core.List.{List, [], _∷_, _++_}
 use mathlib.Core.Logic.{_⊎_, inl, inr}
 use Prim.Native.Nat.{ℕ, zero, suc, _+_, _≤_, _<_}
 use native.Mathlib.Nat.{add-zero, zero-add, add-suc, suc-add}
@@ -13,6 +13,12 @@ use mir.Syntax.{w32}
 use mir.Val.{SFits}
 use mir.ValLaws.{toZ-ofZ, ofZ-toZ, toZ-fits, ofZ-fits}
 use Rattle.words.specs.Numbers.{byteAt, halfAt, wordAt, half, word, integerOf, wordOf}
+
+-- ── stores ──
+-- one run of stores after the other is one run
+pub sets-append : (l : List ℕ) (i : ℕ) (xs ys : List ℕ) → sets (sets l i xs) (i + length xs) ys ≡ sets l i (xs ++ ys)
+sets-append l i [] ys = rw add-zero
+sets-append l i (x ∷ xs) ys = rw (add-suc, ← suc-add) (sets-append (set l i x) (suc i) xs ys)
 
 -- ── numbers in bytes ──
 pub data Size : Type 0 where

@@ -17,10 +17,10 @@ use Rattle.bytecode.specs.Macro.{Cut, cut, Macro, Parsed, parsed, unread as unr
 use Rattle.load_places.specs.Search.{seek, first}
 use Rattle.load_places.specs.Records.{classes, bodies, count, shapes, classPlace, bodyPlace, codeBase, codePlace, shapePlace, noMark, badHead, badClass, badBody, badCode}
 use Rattle.load_places.specs.Records.{badShape, Read, reads, unread, readEnd, among, readRecords}
-use Rattle.load_check.specs.Lists.{span, backs, reverse-backs}
+use Rattle.load_views.specs.Lists.{span, backs, reverse-backs}
 use Rattle.logic.specs.Tests.{tests, by-test, together, leb-not}
-use Rattle.load_check.specs.View.{classOn, bodyOn, codeOn, placedOn, view}
-use Rattle.load_check.specs.Readers.{marked-at, mark-room, class-reads, body-reads, code-reads, shape-reads}
+use Rattle.load_views.specs.View.{classOn, bodyOn, codeOn, placedOn, view}
+use Rattle.load_views.specs.Readers.{marked-at, mark-room, class-reads, body-reads, code-reads, shape-reads}
 
 -- where none is the first, a test holds nowhere
 pub none-first : (f : ℕ → Bool) (n j : ℕ) → j + n ≤ seek f n j → (k : ℕ) → j ≤ k → k < j + n → f k ≡ false

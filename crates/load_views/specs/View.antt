@@ -11,7 +11,7 @@ use Rattle.values.specs.Ends.{Judged, accepted, refused as refusedBy}
 use Rattle.bytecode.specs.Macro.{Body, Code, Shape, shape, Placed, Macro}
 use Rattle.load_places.specs.Records.{classes, bodies, count, shapes, classPlace, bodyPlace, codePlace, shapePlace}
 use Rattle.load_places.specs.Rules.{Verdict, passes, refused}
-use Rattle.load_check.specs.Lists.{span, backs}
+use Rattle.load_views.specs.Lists.{span, backs}
 
 -- the type of a type byte; what is none gives some reference
 unfoldable pub tyOn : ℕ → Ty

@@ -15,10 +15,10 @@ use Rattle.bytecode.specs.Rules.{bodyOf as bodyIn, isFirst, headFault, bodyFaul
 use Rattle.load_places.specs.Records.{bodies, count, bodyPlace, firstOf}
 use Rattle.load_places.specs.Rules.{bodyOf, endOf}
 use Rattle.load_places.specs.Index.{Well}
-use Rattle.load_check.specs.Lists.{span, span-at, span-length}
+use Rattle.load_views.specs.Lists.{span, span-at, span-length}
 use Rattle.logic.specs.Tests.{tests, by-test, together, halves}
-use Rattle.load_check.specs.View.{bodyOn, view, below}
-use Rattle.load_check.specs.Known.{some-body, first-zero, first-rises}
+use Rattle.load_views.specs.View.{bodyOn, view, below}
+use Rattle.load_views.specs.Known.{some-body, first-zero, first-rises}
 
 -- body k of a macro
 abbrev pub bodyHere : List ℕ → ℕ → Body

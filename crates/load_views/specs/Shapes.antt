@@ -19,13 +19,13 @@ use Rattle.load_places.specs.Search.{alike}
 use Rattle.load_places.specs.Records.{bodies, count, shapes, shapePlace, firstOf, find}
 use Rattle.load_places.specs.Rules.{Flow, goes, ends, bad, shapeAt, shapeTypes, equals, endOf, lands, meet}
 use Rattle.load_places.specs.Index.{Well}
-use Rattle.load_check.specs.Lists.{span, span-snoc, backs-length}
+use Rattle.load_views.specs.Lists.{span, span-snoc, backs-length}
 use Rattle.logic.specs.Tests.{by-test, eqb-comm, leb-not, cond-and, halves}
-use Rattle.load_check.specs.View.{stackOn, stateOn, placedOn, view, shapeOn, Typed, bytes}
-use Rattle.load_check.specs.Readers.{shape-past}
-use Rattle.load_check.specs.Known.{known-shape}
-use Rattle.load_check.specs.Stack.{alike-bytes, alike-same, sames-sym, stack-bytes}
-use Rattle.load_check.specs.Bodies.{in-body}
+use Rattle.load_views.specs.View.{stackOn, stateOn, placedOn, view, shapeOn, Typed, bytes}
+use Rattle.load_views.specs.Readers.{shape-past}
+use Rattle.load_views.specs.Known.{known-shape}
+use Rattle.load_views.specs.Stack.{alike-bytes, alike-same, sames-sym, stack-bytes}
+use Rattle.load_views.specs.Bodies.{in-body}
 
 -- ── the shape of an address ──
 shape-snoc : (ps : List Placed) (p : Placed) (x : ℕ)

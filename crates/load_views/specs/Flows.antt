@@ -16,9 +16,9 @@ use Rattle.bytecode.specs.Rules.{Effect, plain, giving, taking, Flow as FlowIn,
 use Rattle.load_places.specs.Rules.{Flow, goes, ends, bad, need, push}
 use Rattle.logic.specs.Tests.{by-test, halves}
 use Rattle.logic.specs.OptionLaws.{by-option}
-use Rattle.load_check.specs.View.{tyOn, bytes}
-use Rattle.load_check.specs.Stack.{draws, draws-strip, strip-length}
-use Rattle.load_check.specs.Shapes.{state}
+use Rattle.load_views.specs.View.{tyOn, bytes}
+use Rattle.load_views.specs.Stack.{draws, draws-strip, strip-length}
+use Rattle.load_views.specs.Shapes.{state}
 
 -- what is sent on from body k: a jump must find its shape
 abbrev pub send : Macro → ℕ → FlowIn → Flow

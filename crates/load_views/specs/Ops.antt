@@ -25,16 +25,16 @@ use Rattle.load_places.specs.Rules.{Flow, goes, ends, need, push, pop, chain, t
 use Rattle.load_places.specs.Rules.{opLoad, opStore, opOperator, opGo, opUnless, opCall, opReturn, opMake, opGetField, opPutField, opSet, opFader, opHold, opRelease}
 use Rattle.load_places.specs.Rules.{opAssert, opStop, effect}
 use Rattle.load_places.specs.Index.{Well}
-use Rattle.load_check.specs.Lists.{span-at, span-length, span-take, reverse-span}
+use Rattle.load_views.specs.Lists.{span-at, span-length, span-take, reverse-span}
 use Rattle.logic.specs.Tests.{by-test, halves}
 use Rattle.logic.specs.OptionLaws.{by-option}
-use Rattle.load_check.specs.View.{tyOn, typesOn, stackOn, resultOn, classOn, view, below, bytes, paramsAt, resultAt, cellsAt, cellAt, fieldsAt, fieldAt}
-use Rattle.load_check.specs.Known.{some-body, known-class, known-body, known-result}
-use Rattle.load_check.specs.Stack.{same-byte, stack-bytes, draws, draws-strip, takes-draws, pop-draws}
-use Rattle.load_check.specs.Bodies.{bodyHere, body-at}
-use Rattle.load_check.specs.Shapes.{lands-same}
-use Rattle.load_check.specs.Flows.{send, sends, exact, exact2, gives-one, gives-none, giving-one, taking-one}
-use Rattle.load_check.specs.Operating.{operates-same}
+use Rattle.load_views.specs.View.{tyOn, typesOn, stackOn, resultOn, classOn, view, below, bytes, paramsAt, resultAt, cellsAt, cellAt, fieldsAt, fieldAt}
+use Rattle.load_views.specs.Known.{some-body, known-class, known-body, known-result}
+use Rattle.load_views.specs.Stack.{same-byte, stack-bytes, draws, draws-strip, takes-draws, pop-draws}
+use Rattle.load_views.specs.Bodies.{bodyHere, body-at}
+use Rattle.load_views.specs.Shapes.{lands-same}
+use Rattle.load_views.specs.Flows.{send, sends, exact, exact2, gives-one, gives-none, giving-one, taking-one}
+use Rattle.load_views.specs.Operating.{operates-same}
 
 -- ── the view's classes and cells ──
 pub class-at : (l : List ℕ) (c : ℕ) → getElem? (view l .classes) c ≡ below c (classes l) (classOn l (classPlace l c))

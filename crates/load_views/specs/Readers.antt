@@ -20,10 +20,10 @@ use Rattle.bytecode.specs.Macro.{Code, Cut, cut, marked, tyOfByte, readTypes, r
 use Rattle.load_places.specs.Search.{seek}
 use Rattle.load_places.specs.Records.{classes, bodies, count, classPlace, bodyPlace, firstOf, codePlace, shapePlace, find, noMark, noType, badTypes, badClass, rises}
 use Rattle.load_places.specs.Records.{bodyFits, badBody, badCode, shapeFits, badShape}
-use Rattle.load_check.specs.Lists.{span, backs, reverse-span}
+use Rattle.load_views.specs.Lists.{span, backs, reverse-span}
 use Rattle.logic.specs.Tests.{tests, by-test, leb-not, if-same, if-not}
 use Rattle.logic.specs.OptionLaws.{keep-if, alike-ways}
-use Rattle.load_check.specs.View.{tyOn, typesOn, resultOn, classOn, bodyOn, codeOn, placedOn}
+use Rattle.load_views.specs.View.{tyOn, typesOn, resultOn, classOn, bodyOn, codeOn, placedOn}
 
 -- ── types ──
 pub type-reads : (c t : ℕ) → tyOfByte c t ≡ (if noType c t then none else some (tyOn t))

@@ -19,14 +19,14 @@ use Rattle.bytecode.specs.Rules.{onIf, sameShape, oneLess, flow, passed, isFirs
 use Rattle.load_places.specs.Records.{bodies, count, firstOf}
 use Rattle.load_places.specs.Rules.{Flow, goes, bad, need, shapeAt, endOf, leave, plain as plainHead, opens}
 use Rattle.load_places.specs.Index.{Well}
-use Rattle.load_check.specs.Lists.{span-length}
+use Rattle.load_views.specs.Lists.{span-length}
 use Rattle.logic.specs.Tests.{tests, by-test, together, halves}
 use Rattle.logic.specs.OptionLaws.{by-option}
-use Rattle.load_check.specs.View.{resultOn, view, paramsAt, resultAt, cellsAt}
-use Rattle.load_check.specs.Stack.{strip-length}
-use Rattle.load_check.specs.Bodies.{bodyHere, Stands, before-end, in-body, first-in, fault-in}
-use Rattle.load_check.specs.Shapes.{state, shape-at}
-use Rattle.load_check.specs.Flows.{send}
+use Rattle.load_views.specs.View.{resultOn, view, paramsAt, resultAt, cellsAt}
+use Rattle.load_views.specs.Stack.{strip-length}
+use Rattle.load_views.specs.Bodies.{bodyHere, Stands, before-end, in-body, first-in, fault-in}
+use Rattle.load_views.specs.Shapes.{state, shape-at}
+use Rattle.load_views.specs.Flows.{send}
 
 no-result : (t : ℕ) → sames (resultOn t) [] ≡ eqb t 0
 unfolding sames resultOn

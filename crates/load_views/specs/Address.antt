@@ -20,15 +20,15 @@ use Rattle.load_places.specs.Search.{Clean}
 use Rattle.load_places.specs.Records.{bodies, count, firstOf, codePlace}
 use Rattle.load_places.specs.Rules.{bad, shapeAt, bodyOf, effect, meet, leave, opens, found, step, into, isBad, broken}
 use Rattle.load_places.specs.Index.{Well}
-use Rattle.load_check.specs.Lists.{span-at, span-length}
+use Rattle.load_views.specs.Lists.{span-at, span-length}
 use Rattle.logic.specs.Tests.{by-test, halves, neither}
 use Rattle.logic.specs.OptionLaws.{by-option}
-use Rattle.load_check.specs.View.{opAt, aAt, bAt, codeOn, view, below, bytes}
-use Rattle.load_check.specs.Known.{first-zero}
-use Rattle.load_check.specs.Bodies.{Stands, stands, before-end, in-body, body-in, first-in}
-use Rattle.load_check.specs.Shapes.{state, meets}
-use Rattle.load_check.specs.Ops.{op-same}
-use Rattle.load_check.specs.Leaving.{Room, flow-room, leaves-same, opens-same}
+use Rattle.load_views.specs.View.{opAt, aAt, bAt, codeOn, view, below, bytes}
+use Rattle.load_views.specs.Known.{first-zero}
+use Rattle.load_views.specs.Bodies.{Stands, stands, before-end, in-body, body-in, first-in}
+use Rattle.load_views.specs.Shapes.{state, meets}
+use Rattle.load_views.specs.Ops.{op-same}
+use Rattle.load_views.specs.Leaving.{Room, flow-room, leaves-same, opens-same}
 
 pub code-at : (l : List ℕ) (i : ℕ) → getElem? (view l .code) i ≡ below i (count l) (codeOn l (codePlace l i))
 unfolding view

@@ -18,8 +18,8 @@ use Rattle.load_places.specs.Records.{classes, bodies, count, shapes, classPlac
 use Rattle.load_places.specs.Records.{bodyFits, badBody, badCode, shapeFits, badShape, Read, reads, unread, among, readRecords}
 use Rattle.load_places.specs.Index.{Well}
 use Rattle.logic.specs.Tests.{tests, by-test, past, held, neither}
-use Rattle.load_check.specs.View.{tyOn, Typed, view, paramsAt, resultAt, cellsAt, fieldsAt}
-use Rattle.load_check.specs.Reading.{told, macro-told, none-first}
+use Rattle.load_views.specs.View.{tyOn, Typed, view, paramsAt, resultAt, cellsAt, fieldsAt}
+use Rattle.load_views.specs.Reading.{told, macro-told, none-first}
 
 -- ── where the records read ──
 pub clean : (f : ℕ → Bool) (n : ℕ) → n ≤ first f n → Clean f n

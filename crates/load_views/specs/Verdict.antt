@@ -18,10 +18,10 @@ use Rattle.load_places.specs.Rules.{broken, passes, refused, verdict}
 use Rattle.load_places.specs.Index.{Well}
 use Rattle.logic.specs.Tests.{tests, by-test}
 use Rattle.logic.specs.OptionLaws.{by-option}
-use Rattle.load_check.specs.View.{view, verdictOf}
-use Rattle.load_check.specs.Reading.{told}
-use Rattle.load_check.specs.Known.{clean, reads-well}
-use Rattle.load_check.specs.Address.{code-count, fault-same, agrees}
+use Rattle.load_views.specs.View.{view, verdictOf}
+use Rattle.load_views.specs.Reading.{told}
+use Rattle.load_views.specs.Known.{clean, reads-well}
+use Rattle.load_views.specs.Address.{code-count, fault-same, agrees}
 
 lowest-first : (l : List ℕ) → Well l → (n j : ℕ) → j + n ≡ count l → Clean (broken l) j
     → lowest (faultAt (view l)) n j ≡ (if ltb (seek (broken l) n j) (j + n) then some (seek (broken l) n j) else none)

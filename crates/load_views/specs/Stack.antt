@@ -14,9 +14,9 @@ use Rattle.values.specs.Types.{Ty, integer, logical, bits, reference, tyCode, t
 use Rattle.bytecode.specs.Rules.{strip}
 use Rattle.load_places.specs.Search.{tops, alike}
 use Rattle.load_places.specs.Rules.{Flow, goes, bad, pop, chain, takes}
-use Rattle.load_check.specs.Lists.{backs}
+use Rattle.load_views.specs.Lists.{backs}
 use Rattle.logic.specs.Tests.{tests, by-test, together, eqb-comm, held}
-use Rattle.load_check.specs.View.{bytes, Typed, stackOn}
+use Rattle.load_views.specs.View.{bytes, Typed, stackOn}
 
 -- ── comparing ──
 code-byte : (t : Ty) → ((tyCode t ≡ tyByte t) × (tyByte t < 4)) ⊎ ((tyCode t ≡ tyByte t + 65520) × (16 ≤ tyByte t))

@@ -14,10 +14,10 @@ use Rattle.bytecode.specs.Macro.{shape, Macro}
 use Rattle.bytecode.specs.Instructions.{operatorOf}
 use Rattle.bytecode.specs.Rules.{operating, giving, roomy, flow}
 use Rattle.load_places.specs.Rules.{Flow, goes, bad, need, push, pop, chain, topOf, trade1, trade2, twofold, operates}
-use Rattle.load_check.specs.View.{bytes}
+use Rattle.load_views.specs.View.{bytes}
 use Rattle.logic.specs.Tests.{tests, by-test, eqb-comm}
-use Rattle.load_check.specs.Stack.{same-byte, draws}
-use Rattle.load_check.specs.Flows.{sends, gives-one}
+use Rattle.load_views.specs.Stack.{same-byte, draws}
+use Rattle.load_views.specs.Flows.{sends, gives-one}
 
 -- what an operator gives goes onto the stack
 abbrev pushed : Option Ty → ℕ → List ℕ → Flow

@@ -1,0 +1,15 @@
+pub mod Lists
+pub mod View
+pub mod Readers
+pub mod Reading
+pub mod Known
+pub mod Stack
+pub mod Bodies
+pub mod Shapes
+pub mod Flows
+pub mod Operating
+pub mod Ops
+pub mod Leaving
+pub mod Address
+pub mod Verdict
+pub mod Views
