@@ -2,9 +2,9 @@
 use mathlib.Core.Path.{_≡_, ap, _∙_}
 use mathlib.Core.List.{List, [], _∷_, _++_, reverse, map, append-assoc, reverse-append, reverse-cons}
 use mathlib.Core.Option.{some}
-use Prim.Native.Nat.{ℕ, zero, suc, _+_, _≤_, _<_}
+use Prim.Native.Nat.{ℕ, zero, suc, _+_, _<_}
 use native.Mathlib.Omega.{arith}
-use lib.ListN.{length, getD, getElem?, length-reverse, length-map, List·getD-eq-default}
+use lib.ListN.{length, getD, getElem?, length-reverse, length-map}
 use lib.Seq.{getD-at}
 use Rattle.words.specs.Laws.{numberAt}
 use Rattle.values.specs.Values.{Value}
@@ -52,10 +52,6 @@ value-is {A = A} g n vs j v e h = getD-pad 0 n (map g vs) j h ∙ go vs j e
     go [] j e = never-some e
     go (u ∷ us) zero e = let i : u ≡ v = cc in ap g i
     go (u ∷ us) (suc j) e = go us j e
-
--- behind the last in use stands 0
-pub blank-is : {A : Type 0} (g : A → ℕ) (n : ℕ) (vs : List A) (j : ℕ) → length vs ≤ j → j < n → getD (pad n 0 (map g vs)) j 0 ≡ 0
-blank-is g n vs j h k = getD-pad 0 n (map g vs) j k ∙ List·getD-eq-default (map g vs) 0 (rw (length-map vs g) h)
 
 -- ── records ──
 pub record-reads : (x : InEntry) → EntryHas x → (rs : Shared) (f : Activation) (fs : List Activation) (n : ℕ) (q : Made) → getElem? (rs .records) n ≡ some q → n < 256

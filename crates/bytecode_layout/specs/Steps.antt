@@ -10,8 +10,8 @@ use Rattle.bytecode.specs.Machine.{Activation, Shared, running, allHolds}
 use Rattle.bytecode.specs.State.{typeByte, wordOfCell, byteOfCell, encode}
 use Rattle.bytecode_layout.specs.Rows.{alter-alter}
 use Rattle.bytecode_layout.specs.Places.{activations, holds, group, inFrame, body, depth, open′, address, cellWord, operandWord, cellType, operandType}
-use Rattle.bytecode_layout.specs.Stores.{Store, _≔_, stores, turns, next-altered, last-altered}
-use Rattle.bytecode_layout.specs.Slots.{operand-put, operand-pushed, operand-popped, field-put, field-next, field-last, group-pushed, group-popped}
+use Rattle.bytecode_layout.specs.Stores.{Store, _≔_, stores, turns, next-altered}
+use Rattle.bytecode_layout.specs.Slots.{operand-put, operand-pushed, operand-popped, field-put, field-next, group-pushed, group-popped}
 use Rattle.bytecode_layout.specs.Edits.{on, activation-altered, Edit, _↤_, inside, written, edit-law}
 
 abbrev pub activation : ℕ → ℕ → List Cell → List Value → List ℕ → Activation
@@ -33,9 +33,6 @@ pops n = operandWord n ↤ 0 ∷ operandType n ↤ 0 ∷ depth ↤ n ∷ []
 
 abbrev pub cellIs : ℕ → Value → List Edit
 cellIs j v = cellWord j ↤ valueWord v ∷ cellType j ↤ typeByte v ∷ []
-
-abbrev pub noCell : ℕ → List Edit
-noCell j = cellWord j ↤ 0 ∷ cellType j ↤ 0 ∷ []
 
 -- ── and in the state: activation k ──
 -- a hold of group g onto h others, n of them the activation's own; and the last taken of h + 1
@@ -86,11 +83,6 @@ module _ (rs : Shared) (us fs : List Activation) (few : length fs < 32) (b i : �
       edit-law rs us (activation b i cs vs gs) fs few (cellIs (length cs) v) (h, (h, tt)) (activation b i (cs ++ (assigned v ∷ [])) vs gs)
       (rw (field-next 32 wordOfCell (assigned v) cs h, field-next 32 byteOfCell (assigned v) cs h)) refl
 
-  pub cell-last-law : (v : Value) → length cs < 32 → written rs us (activation b i (cs ++ (assigned v ∷ [])) vs gs) fs (noCell (length cs)) ≡ encode (on rs us (activation b i cs vs gs) fs)
-  cell-last-law v h =
-      edit-law rs us (activation b i (cs ++ (assigned v ∷ [])) vs gs) fs few (noCell (length cs)) (h, (h, tt)) (activation b i cs vs gs)
-      (rw (field-last 32 wordOfCell (assigned v) cs h, field-last 32 byteOfCell (assigned v) cs h)) refl
-
 -- ── holds, of the top ──
 module _ (rs : Shared) (fs : List Activation) (few : length fs < 32) (b i : ℕ) (cs : List Cell) (vs : List Value) (g : ℕ) (gs : List ℕ) (room : length (gs ++ allHolds fs) < 512) where
   pub take-law : stores (encode (running rs (activation b i cs vs gs) fs)) (takes (length fs) (length (gs ++ allHolds fs)) (length gs) g) ≡ encode (running rs (activation b i cs vs (g ∷ gs)) fs)
@@ -111,7 +103,3 @@ module _ (rs : Shared) (f : Activation) (fs : List Activation) (few : length (f 
   unfolding allHolds
   enter-law =
       turns _ _ (enters (length (f ∷ fs)) b i) ((few, tt), ((few, tt), (tt, tt))) (simp alter-alter (rw (next-altered _ (activation b i [] [] []) (f ∷ fs) few refl)))
-
-  pub leave-law : stores (encode (running rs (activation b i [] [] []) (f ∷ fs))) (leaves (length (f ∷ fs))) ≡ encode (running rs f fs)
-  unfolding allHolds
-  leave-law = turns _ _ (leaves (length (f ∷ fs))) ((few, tt), ((few, tt), (tt, tt))) (simp alter-alter (rw (last-altered _ (activation b i [] [] []) (f ∷ fs) few refl)))

@@ -151,9 +151,6 @@ sets-same (v ∷ vs) l i g =
     let e : v ≡ getD l i 0 = rw (add-zero i) at (g 0 (omega arith)) in
     rw (e, set-getD l i 0) (sets-same vs l (suc i) (λ k h. rw (suc-add i k, ← add-suc i k) (g (suc k) (omega arith))))
 
-pub writes-same : (s : Size) (l : List ℕ) → Bytes l → (i : ℕ) → sets l i (bytesOf s (numberAt s l i)) ≡ l
-writes-same s l b i = sets-same (bytesOf s (numberAt s l i)) l i (λ k h. bytes-read l b i s k (rw (length-bytesOf s (numberAt s l i)) at h))
-
 -- ── 32 bits as an integer ──
 pub integer-back : (z : ℤ) → SFits w32 z → integerOf (wordOf z) ≡ z
 integer-back z h = toZ-ofZ w32 z h
