@@ -1,9 +1,12 @@
 //! Every limit at its last allowed size and one past it. Whatever is accepted is also compiled
 //! and run, so that the need, the cells and the holds are seen to be enough.
 
-use second::deep;
-use second::paper::*;
-use second::table::{bytes_of, Entry};
+use second::evaluator::code::{Instr, Macro};
+use second::evaluator::table::{bytes_of, Entry};
+use second::generate::notation::{body, entries, root_only, shape};
+use second::harness::listings::listing_of;
+use second::harness::setup::with_large_stack;
+use second::harness::verdicts::{judged, loads, verdict};
 
 struct List(Vec<Entry>);
 
@@ -198,7 +201,7 @@ fn callers_holds_do_not_count() {
 // Working need.
 
 /// set (1, 1 + (1 + (... + 1))): the set's second operand, so one more than the chain.
-fn chain(pluses: usize) -> List {
+fn endless_records(pluses: usize) -> List {
     let mut t = List::new();
     t.text("1 0 1, 28 0 0, 40 0 1");
     for _ in 0..pluses {
@@ -211,9 +214,9 @@ fn chain(pluses: usize) -> List {
 #[test]
 fn need_of_a_chain_to_the_right() {
     // the innermost + needs 2, each further one adds 1, the set adds 1
-    assert_eq!(chain(30).verdict(), (0, 0));
-    assert_eq!(chain(30).last_line(), "end 0");
-    assert_eq!(chain(31).verdict(), (6, 0));
+    assert_eq!(endless_records(30).verdict(), (0, 0));
+    assert_eq!(endless_records(30).last_line(), "end 0");
+    assert_eq!(endless_records(31).verdict(), (6, 0));
 }
 
 #[test]
@@ -357,7 +360,7 @@ fn need_of_a_procedure() {
 
 #[test]
 fn nesting_64_and_65() {
-    deep(|| {
+    with_large_stack(|| {
         // n blocks, one in the other: depth n
         let blocks = |n: usize| {
             let mut t = List::new();
@@ -485,8 +488,6 @@ fn values_in_fields_of_entries() {
 }
 
 // Macros.
-
-use second::code::{Instr, Macro};
 
 fn bodies(n: usize) -> Macro {
     let mut m = root_only("0 0 0", vec![]);

@@ -2,18 +2,19 @@
 //! to a macro that passes; no passed macro is ever stuck; every state passed is sound and its
 //! bytes give it back. The number of cases follows CUE_CASES.
 
-use second::agree::{both, walk, Look};
-use second::answer::{Answer, Event, Item};
-use second::code::{judge_macro, write_macro};
-use second::compile::compile;
-use second::execute::{budget, execute};
-use second::gen::{plan, program, unfiltered_program};
-use second::gen_code::{good_macro, some_runs, unfiltered_macro, Size};
-use second::machine::{fresh, run, State};
-use second::rng::Rng;
-use second::state::{decode, encode, run_bytes, sound, start, LENGTH};
-use second::table::{bytes_of, read_table, write_tree};
-use second::{cases, deep, judge_table};
+use second::evaluator::answer::{Answer, Event, Item};
+use second::evaluator::code::{judge_macro, write_macro};
+use second::evaluator::compiler::compile;
+use second::evaluator::execute::{budget, execute};
+use second::evaluator::machine::{fresh, run, State};
+use second::evaluator::names::judge_table;
+use second::evaluator::state::{decode, encode, run_bytes, sound, start, LENGTH};
+use second::evaluator::table::{bytes_of, read_table, write_tree};
+use second::generate::macros::{good_macro, some_runs, unfiltered_macro, Size};
+use second::generate::programs::{plan, program, unfiltered_program};
+use second::generate::rng::Rng;
+use second::harness::compare_tree_and_code::{agreed_execution, walk, StateChecks};
+use second::harness::setup::{case_count, with_large_stack};
 
 fn oracle(seed: u8) -> impl Fn(usize, u8) -> u8 {
     move |k, n| (seed as usize + 31 * k + 7 * n as usize) as u8
@@ -31,18 +32,18 @@ fn some_size(rng: &mut Rng) -> usize {
 
 #[test]
 fn tree_and_code_agree() {
-    deep(|| {
+    with_large_stack(|| {
         let mut ends = [0usize; 28];
         let mut going = 0;
         let mut largest = 0;
-        let count = cases(20_000);
+        let count = case_count(20_000);
         for seed in 0..count {
             let mut rng = Rng::new(seed as u64);
             let size = some_size(&mut rng);
             let made = plan(&mut rng, size);
             let tree = program(&mut rng, made);
             largest = largest.max(write_tree(&tree).len());
-            match both(&tree, &oracle(rng.byte()), budget(2_000), Look::Not) {
+            match agreed_execution(&tree, &oracle(rng.byte()), budget(2_000), StateChecks::None) {
                 Ok((x, _)) => match x.end {
                     Some(end) => ends[end as usize] += 1,
                     None => going += 1,
@@ -64,13 +65,13 @@ fn tree_and_code_agree() {
 
 #[test]
 fn every_state_of_a_program_is_sound() {
-    deep(|| {
-        for seed in 0..cases(2_000) {
+    with_large_stack(|| {
+        for seed in 0..case_count(2_000) {
             let mut rng = Rng::new(1_000_000 + seed as u64);
             let size = 5 + rng.below(120);
             let made = plan(&mut rng, size);
             let tree = program(&mut rng, made);
-            if let Err(why) = both(&tree, &oracle(rng.byte()), budget(30), Look::Every) {
+            if let Err(why) = agreed_execution(&tree, &oracle(rng.byte()), budget(30), StateChecks::EveryState) {
                 panic!("program {seed}: {why}");
             }
         }
@@ -79,19 +80,19 @@ fn every_state_of_a_program_is_sound() {
 
 #[test]
 fn passed_macros_are_never_stuck() {
-    deep(|| {
+    with_large_stack(|| {
         let mut ended = 0;
         let mut events = 0;
-        let count = cases(10_000);
+        let count = case_count(10_000);
         for seed in 0..count {
             let mut rng = Rng::new(2_000_000 + seed as u64);
             let size = Size { bodies: 1 + rng.below(6), instructions: 5 + rng.below(60), classes: 3 };
             let m = good_macro(&mut rng, size);
             let loaded = judge_macro(&write_macro(&m)).unwrap();
             let reading = oracle(rng.byte());
-            let look = if seed % 4 == 0 { Look::Every } else { Look::Not };
-            let most = if look == Look::Every { 150 } else { 3_000 };
-            match walk(&loaded, &mut |k, n| reading(k, n), most, usize::MAX, look) {
+            let checks = if seed % 4 == 0 { StateChecks::EveryState } else { StateChecks::None };
+            let most = if checks == StateChecks::EveryState { 150 } else { 3_000 };
+            match walk(&loaded, &mut |k, n| reading(k, n), most, usize::MAX, checks) {
                 Ok(w) => {
                     ended += w.end.is_some() as usize;
                     events += w.items.len();
@@ -107,7 +108,7 @@ fn passed_macros_are_never_stuck() {
 /// The generators waste little: nearly everything they make passes before it is filtered.
 #[test]
 fn generators_make_mostly_valid_things() {
-    deep(|| {
+    with_large_stack(|| {
         let mut accepted = 0;
         let mut passed = 0;
         for seed in 0..400 {
@@ -127,8 +128,8 @@ fn generators_make_mostly_valid_things() {
 
 #[test]
 fn tables_read_back_as_they_were_written() {
-    deep(|| {
-        for seed in 0..cases(300) {
+    with_large_stack(|| {
+        for seed in 0..case_count(300) {
             let mut rng = Rng::new(4_000_000 + seed as u64);
             let size = some_size(&mut rng);
             let made = plan(&mut rng, size);
@@ -142,10 +143,10 @@ fn tables_read_back_as_they_were_written() {
 /// Runs on bytes are runs of the plain machine, with the state's bytes its encoding.
 #[test]
 fn runs_on_bytes_are_runs_of_the_machine() {
-    deep(|| {
+    with_large_stack(|| {
         let mut refused = 0;
         let mut answered_again = 0;
-        for seed in 0..cases(2_000) {
+        for seed in 0..case_count(2_000) {
             let mut rng = Rng::new(5_000_000 + seed as u64);
             let m = if rng.chance(50) {
                 good_macro(&mut rng, Size { bodies: 4, instructions: 25, classes: 3 })
@@ -192,9 +193,9 @@ fn runs_on_bytes_are_runs_of_the_machine() {
 /// oracle is that of the banks used.
 #[test]
 fn runs_give_the_events_of_the_tree() {
-    deep(|| {
+    with_large_stack(|| {
         let mut ended = 0;
-        let count = cases(4_000);
+        let count = case_count(4_000);
         for seed in 0..count {
             let mut rng = Rng::new(6_000_000 + seed as u64);
             let size = 5 + rng.below(80);
@@ -239,7 +240,7 @@ fn runs_give_the_events_of_the_tree() {
 /// Reading a macro's bytes gives the macro, and its bytes give it back.
 #[test]
 fn macros_read_back_as_they_were_written() {
-    for seed in 0..cases(300) {
+    for seed in 0..case_count(300) {
         let mut rng = Rng::new(7_000_000 + seed as u64);
         let m = good_macro(&mut rng, Size { bodies: 5, instructions: 30, classes: 4 });
         let loaded = judge_macro(&write_macro(&m)).unwrap();

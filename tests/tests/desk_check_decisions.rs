@@ -2,8 +2,9 @@
 //! Not here: L5, L10 and L12, of which a table check says nothing. The paper's own examples are in paper_examples.rs.
 #![cfg(desk)]
 
-use second::paper::{entries, judged, verdict, LISTING_EXAMPLE};
-use second::table::{bytes_of, Entry};
+use second::evaluator::table::{bytes_of, Entry};
+use second::generate::notation::{entries, LISTING_EXAMPLE};
+use second::harness::verdicts::{judged, verdict};
 
 const ACCEPTED: (u8, usize) = (0, 0);
 

@@ -1,12 +1,13 @@
 //! Macro records (8, with the record's number) and loading rules (9, with the lowest faulty
 //! address), sentence by sentence; and generated damage.
 
-use second::agree::{walk, Look};
-use second::code::*;
-use second::gen_code::{damaged_macro, good_macro, Size};
-use second::paper::*;
-use second::rng::Rng;
-use second::{cases, deep};
+use second::evaluator::code::*;
+use second::generate::macros::{damaged_macro, good_macro, Size};
+use second::generate::notation::{body, code, root_only, shape};
+use second::generate::rng::Rng;
+use second::harness::compare_tree_and_code::{walk, StateChecks};
+use second::harness::setup::{case_count, with_large_stack};
+use second::harness::verdicts::{loaded, loads};
 
 /// Two classes, the root with an integer and a reference, a function of one integer.
 fn sample() -> Macro {
@@ -275,9 +276,9 @@ fn calls_in_code() {
 /// stuck and passes only sound states.
 #[test]
 fn damaged_macros_are_judged() {
-    deep(|| {
+    with_large_stack(|| {
         let mut tally = [0usize; 3];
-        let count = cases(20_000);
+        let count = case_count(20_000);
         for seed in 0..count {
             let mut rng = Rng::new(9_000_000 + seed as u64);
             let size = Size { bodies: 4, instructions: 4 + rng.below(30), classes: 3 };
@@ -289,7 +290,7 @@ fn damaged_macros_are_judged() {
                     assert_eq!(write_macro(&l.code), bytes);
                     let seed_byte = rng.byte();
                     let oracle = &mut |k: usize, n: u8| (seed_byte as usize + 31 * k + 7 * n as usize) as u8;
-                    if let Err(why) = walk(&l, oracle, 60, usize::MAX, Look::Every) {
+                    if let Err(why) = walk(&l, oracle, 60, usize::MAX, StateChecks::EveryState) {
                         panic!("macro {seed}: {why}");
                     }
                 }

@@ -1,11 +1,14 @@
 //! Names, types and reach: which number at which entry, sentence by sentence of paper 01 and
 //! of the decided points; and generated damage, which is judged without ever failing.
 
-use second::gen::{damaged_table, judged_table, plan, program, purposeful};
-use second::paper::*;
-use second::rng::Rng;
-use second::table::{bytes_of, read_table, write_tree};
-use second::{cases, deep, judge_table};
+use second::evaluator::names::judge_table;
+use second::evaluator::table::{bytes_of, read_table, write_tree};
+use second::generate::damaged_entries::damaged_table;
+use second::generate::judged_tables::{judged_table, refused_table};
+use second::generate::programs::{plan, program};
+use second::generate::rng::Rng;
+use second::harness::setup::{case_count, with_large_stack};
+use second::harness::verdicts::{judged, verdict};
 
 /// "inner before outer, left to right"
 #[test]
@@ -246,9 +249,9 @@ fn two_before_three_before_six() {
 /// table is the table of its tree.
 #[test]
 fn damaged_tables_are_judged() {
-    deep(|| {
+    with_large_stack(|| {
         let mut tally = [0usize; 7];
-        let count = cases(20_000);
+        let count = case_count(20_000);
         for seed in 0..count {
             let mut rng = Rng::new(8_000_000 + seed as u64);
             let size = 4 + rng.below(60);
@@ -280,12 +283,12 @@ fn damaged_tables_are_judged() {
 
 #[test]
 fn purposeful_tables_are_refused_as_meant() {
-    deep(|| {
+    with_large_stack(|| {
         for number in 1..=6 {
             let mut rng = Rng::new(number as u64);
             let mut hits = 0;
             for _ in 0..60 {
-                hits += (judged(&purposeful(&mut rng, number)).0 == number) as usize;
+                hits += (judged(&refused_table(&mut rng, number)).0 == number) as usize;
             }
             assert!(hits > 20, "{number}: {hits} of 60");
             assert_eq!(judged(&judged_table(&mut rng, number, 30)).0, number);

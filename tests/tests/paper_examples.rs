@@ -1,13 +1,15 @@
 //! Every example that paper 01 gives by name: the table of refusals and ends, the * lines and
 //! their neighbours, the listing example, and "Plausible ways to get it wrong".
 
-use second::answer::{Answer, Refusal};
-use second::code::write_macro;
-use second::deep;
-use second::paper::*;
-use second::state::{run_bytes, start, LENGTH};
-use second::table::{bytes_of, Entry};
-use second::values::{binary, unary, Trouble, Value};
+use second::evaluator::answer::{Answer, Refusal};
+use second::evaluator::code::write_macro;
+use second::evaluator::state::{run_bytes, start, LENGTH};
+use second::evaluator::table::{bytes_of, Entry};
+use second::evaluator::values::{binary, unary, Trouble, Value};
+use second::generate::notation::{root_only, LISTING_EXAMPLE};
+use second::harness::listings::{end_of, lines};
+use second::harness::setup::with_large_stack;
+use second::harness::verdicts::{judged, loaded, loads, verdict};
 
 // The table of refusals.
 
@@ -402,7 +404,7 @@ fn fields_of_records() {
 /// A loop that never ends goes on; its trace grows.
 #[test]
 fn a_loop_without_end() {
-    deep(|| {
+    with_large_stack(|| {
         let told = lines("1 0 1, 24 0 0, 41 0 1, 28 0 0, 40 0 1, 40 0 2");
         assert!(told.len() > 1_000);
         assert_eq!(told.last().unwrap(), "open 0");

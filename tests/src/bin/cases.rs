@@ -1,19 +1,20 @@
 //! Prints cases for the prover: `cases SORT SEED COUNT`, SORT one of tables, executions,
 //! compiled, macros, runs, states. Each case is one line ending in ` ∷`; the last line is `[]`.
 
-use second::answer::{Event, Item};
-use second::code::{judge_macro, write_macro, Loaded};
-use second::compile::compile;
-use second::edges::{deciding_table, deep_macro, edge_macro, edge_state, edge_table};
-use second::execute::{execute, Budget, Execution};
-use second::gen::{judged_table, plan, program};
-use second::gen_code::{good_macro, judged_macro, some_runs, Run, Size};
-use second::gen_state::state_bytes;
-use second::judge_table;
-use second::machine::{fresh, run, step, State};
-use second::rng::Rng;
-use second::state::{sound_state, LENGTH};
-use second::table::{bytes_of, write_tree, Tree};
+use second::evaluator::answer::{Event, Item};
+use second::evaluator::code::{judge_macro, write_macro, Loaded};
+use second::evaluator::compiler::compile;
+use second::evaluator::execute::{execute, Budget, Execution};
+use second::evaluator::machine::{fresh, run, step, State};
+use second::evaluator::names::judge_table;
+use second::evaluator::state::{sound_state, LENGTH};
+use second::evaluator::table::{bytes_of, write_tree, Tree};
+use second::generate::edge_cases::{deciding_table, deep_macro, edge_macro, edge_state, edge_table};
+use second::generate::judged_tables::judged_table;
+use second::generate::macros::{good_macro, judged_macro, some_runs, Run, Size};
+use second::generate::programs::{plan, program};
+use second::generate::rng::Rng;
+use second::generate::states::state_bytes;
 
 fn main() {
     let arguments: Vec<String> = std::env::args().collect();
@@ -26,7 +27,7 @@ fn main() {
     let seed: u64 = arguments[2].parse().expect(usage);
     let count: usize = arguments[3].parse().expect(usage);
     // Generators and evaluators call themselves deeply.
-    second::deep(|| print_cases(&sort, seed, count));
+    second::harness::setup::with_large_stack(|| print_cases(&sort, seed, count));
 }
 
 fn print_cases(sort: &str, seed: u64, count: usize) {

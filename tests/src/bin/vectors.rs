@@ -7,9 +7,9 @@
 
 use std::io::Write;
 
-use second::rng::Rng;
-use second::state::{value_of, word_of};
-use second::values::{binary, binary_type, is_unary, unary, unary_type, Trouble, Type};
+use second::evaluator::state::{value_of, word_of};
+use second::evaluator::values::{binary, binary_type, is_unary, unary, unary_type, Trouble, Type};
+use second::generate::rng::Rng;
 
 const EDGES: [i32; 24] = [
     0, 1, -1, 2, -2, 7, -7, 31, 32, 33, -31, -32, -33, i32::MAX, i32::MIN, 65_536, 46_341, -46_341, 46_340, -65_536, 1 << 30, i32::MIN + 1,

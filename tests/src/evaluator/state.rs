@@ -1,10 +1,10 @@
 //! The 24,576 bytes of a run state, as docs/STATE.md lays them out: writing a machine state,
 //! reading one, which states are sound, and start and run on bytes with their refusals.
 
-use crate::answer::{is_condition, refuse, Answer, Refusal};
-use crate::code::{byte_of_type, judge_macro, type_of_byte, Loaded, Macro};
-use crate::machine::{fresh, run, Activation, Record, State, MOST_ACTIVATIONS, MOST_RECORDS};
-use crate::values::{Type, Value};
+use super::answer::{is_condition, refuse, Answer, Refusal};
+use super::code::{byte_of_type, judge_macro, type_of_byte, Loaded, Macro};
+use super::machine::{fresh, run, Activation, Record, State, MOST_ACTIVATIONS, MOST_RECORDS};
+use super::values::{Type, Value};
 
 pub const LENGTH: usize = 24_576;
 const ACTIVATIONS: usize = 32;

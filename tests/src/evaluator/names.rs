@@ -6,10 +6,10 @@
 
 use std::collections::{HashMap, HashSet};
 
-use crate::answer::{refuse, Refusal};
-use crate::limits::judge_limits;
-use crate::table::*;
-use crate::values::{binary_type, unary_type, Type};
+use super::answer::{refuse, Refusal};
+use super::limits::judge_limits;
+use super::table::*;
+use super::values::{binary_type, unary_type, Type};
 
 /// "Table entries are judged inner before outer, left to right, after 1 and 2; at one entry
 /// 3, 4, 5 in that order; then 6".

@@ -3,8 +3,8 @@
 
 use std::collections::{HashMap, HashSet};
 
-use crate::answer::{refuse, Refusal};
-use crate::values::{binary_type, is_binary, is_unary, unary_type, Type};
+use super::answer::{refuse, Refusal};
+use super::values::{binary_type, is_binary, is_unary, unary_type, Type};
 
 /// "a body's limits": 32 cells, 16 holds, 32 operands.
 pub const MOST_CELLS: usize = 32;

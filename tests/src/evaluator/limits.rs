@@ -1,8 +1,8 @@
 //! A body's limits (refusal 6): "A body has at most 32 cells (parameters, variables of all
 //! its blocks, one per case), 16 holds open together, and a working need of 32."
 
-use crate::answer::{refuse, Refusal};
-use crate::table::*;
+use super::answer::{refuse, Refusal};
+use super::table::*;
 
 pub const MOST_CELLS: usize = 32;
 pub const MOST_HOLDS: usize = 16;

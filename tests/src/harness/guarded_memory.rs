@@ -1,5 +1,5 @@
-//! Memory as the desk's shell lends it, between two pages that nobody may touch: what is read or written
-//! outside a slice ends the test at once, and what is written inside shows afterwards.
+//! Memory between two guard pages, to be lent to the library as a desk's shell lends its own: what is read or written
+//! outside of the slice lent ends the test at once or is found afterwards, and what is written inside shows.
 
 use std::ffi::c_void;
 
@@ -16,15 +16,15 @@ const PRIVATE_ANONYMOUS: i32 = 0x22;
 const BESIDE: usize = 64;
 const GUARD: u8 = 0xA5;
 
-pub struct Lent {
+pub struct GuardedMemory {
     pages: *mut u8,
     /// Between the two pages.
     room: usize,
     calls: usize,
 }
 
-impl Lent {
-    pub fn new(most: usize) -> Lent {
+impl GuardedMemory {
+    pub fn new(most: usize) -> GuardedMemory {
         let room = most.div_ceil(PAGE) * PAGE;
         // SAFETY: new pages of this process, of which the first and the last are closed.
         let pages = unsafe {
@@ -33,7 +33,7 @@ impl Lent {
             assert_eq!(mprotect(pages.add(PAGE).cast(), room, READ_WRITE), 0);
             pages
         };
-        Lent { pages, room, calls: 0 }
+        GuardedMemory { pages, room, calls: 0 }
     }
 
     /// Lends these bytes to be read.
@@ -66,7 +66,7 @@ impl Lent {
     }
 }
 
-impl Drop for Lent {
+impl Drop for GuardedMemory {
     fn drop(&mut self) {
         // SAFETY: the pages of new, which no slice outlives.
         unsafe { munmap(self.pages.cast(), self.room + 2 * PAGE) };

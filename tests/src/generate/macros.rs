@@ -1,10 +1,10 @@
 //! Generated macros, made directly as code and not from trees: well-typed ones with jumps of
 //! every direction, dead code and shapes in any order, and damaged ones. Also lists of runs.
 
-use crate::code::{judge_macro, type_of_byte, write_macro, write_records, Body, Instr, Macro, Shape};
-use crate::gen::EDGES;
-use crate::rng::Rng;
-use crate::values::{binary_type, unary_type, Type};
+use crate::evaluator::code::{judge_macro, type_of_byte, write_macro, write_records, Body, Instr, Macro, Shape};
+use crate::evaluator::values::{binary_type, unary_type, Type};
+use super::programs::EDGES;
+use super::rng::Rng;
 
 /// A place to jump to: its state, and its address once it is placed.
 struct Label {

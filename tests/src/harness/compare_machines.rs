@@ -4,13 +4,14 @@
 use std::cell::RefCell;
 use std::collections::BTreeMap;
 
-use crate::answer::{Answer, Refusal};
-use crate::code::Macro;
-use crate::lent::Lent;
-use crate::machine::{self, State};
-use crate::plain_machine::{BESIDE_BYTES, IN_BYTES, IN_LOCALS};
-use crate::state::{self, encode};
-use crate::{desk, plain_machine};
+use crate::evaluator::answer::{Answer, Refusal};
+use crate::evaluator::code::Macro;
+use crate::evaluator::machine::{self, State};
+use crate::evaluator::state::{self, encode};
+use super::desk;
+use super::guarded_memory::GuardedMemory;
+use crate::plain;
+use crate::plain::machine::{BESIDE_BYTES, IN_BYTES, IN_LOCALS};
 
 /// What is lent to a call, and what must come of it.
 struct Call<'a> {
@@ -24,14 +25,14 @@ struct Call<'a> {
 
 /// Memory to lend for macros, readings and states.
 struct Memory {
-    code: Lent,
-    readings: Lent,
-    state: Lent,
+    code: GuardedMemory,
+    readings: GuardedMemory,
+    state: GuardedMemory,
 }
 
 thread_local! {
     static MEMORY: RefCell<Memory> =
-        RefCell::new(Memory { code: Lent::new(1 << 20), readings: Lent::new(4_096), state: Lent::new(1 << 16) });
+        RefCell::new(Memory { code: GuardedMemory::new(1 << 20), readings: GuardedMemory::new(4_096), state: GuardedMemory::new(1 << 16) });
 }
 
 impl Call<'_> {
@@ -72,15 +73,15 @@ impl Call<'_> {
 
     fn started(&self) {
         self.by_desk("cue_start", |code, state, _| desk::start(code, state));
-        self.by_plain("the plain start", |state| plain_machine::start(self.code, state));
+        self.by_plain("the plain start", |state| plain::machine::start(self.code, state));
     }
 
     fn ran(&self) {
         let Call { code, readings, allowance, .. } = *self;
         self.by_desk("cue_run", |code, state, readings| desk::run(code, state, readings, allowance));
-        self.by_plain("the plain run", |state| plain_machine::run::<IN_BYTES>(code, state, readings, allowance));
-        self.by_plain("the plain run beside bytes", |state| plain_machine::run::<BESIDE_BYTES>(code, state, readings, allowance));
-        self.by_plain("the plain run in locals", |state| plain_machine::run::<IN_LOCALS>(code, state, readings, allowance));
+        self.by_plain("the plain run", |state| plain::machine::run::<IN_BYTES>(code, state, readings, allowance));
+        self.by_plain("the plain run beside bytes", |state| plain::machine::run::<BESIDE_BYTES>(code, state, readings, allowance));
+        self.by_plain("the plain run in locals", |state| plain::machine::run::<IN_LOCALS>(code, state, readings, allowance));
     }
 }
 
@@ -119,9 +120,9 @@ pub fn run_along(m: &Macro, code: &[u8], machine: &mut State, state: &mut Vec<u8
 
 /// How often each answer was given: by its tag and, for a refusal or an end, its number.
 #[derive(Default, Debug)]
-pub struct Seen(BTreeMap<(u64, u64), usize>);
+pub struct AnswerCounts(BTreeMap<(u64, u64), usize>);
 
-impl Seen {
+impl AnswerCounts {
     pub fn note(&mut self, answer: &Answer) {
         let [tag, _, first, _] = answer.numbers();
         *self.0.entry((tag, if tag == 0 || tag == 3 { first } else { 0 })).or_default() += 1;

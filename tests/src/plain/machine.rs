@@ -1,9 +1,9 @@
 //! The machine once more, written plainly for speed: start and run in place on a state's bytes, as a good C programmer would. It is what
 //! the proved machine is measured against; the tests hold it, too, against the readable one.
 
-use crate::answer::{Answer, Event, Refusal};
-use crate::plain_loader::{half, records, walk, Records};
-use crate::plain_state::{Lent, FRAME, FRAMES, HOLDS, RECORD, RECORDS};
+use crate::evaluator::answer::{Answer, Event, Refusal};
+use super::loader::{half, records, walk, Records};
+use super::state::{Lent, FRAME, FRAMES, HOLDS, RECORD, RECORDS};
 
 fn refused(number: u8, place: usize) -> u64 {
     Answer::Refusal(Refusal { number, place }).packed()

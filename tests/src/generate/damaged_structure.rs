@@ -1,10 +1,10 @@
-//! Damage to the shape of a table: parts removed, doubled and moved with or without their counts, counts
-//! that lie, blocks crowded to about their limits, names that hide others. The damage of gen.rs changes what
-//! single entries say; this changes what stands where.
+//! Valid tables with damage to their structure: parts removed, doubled and moved with or without their counts, wrong
+//! counts, blocks filled to about their limits, names that hide others. damaged_entries.rs changes what single
+//! entries say; this changes what stands where.
 
-use crate::gen::{end_of, operand_count, sort_of};
-use crate::rng::Rng;
-use crate::table::{bytes_of, read_table, Entry};
+use crate::evaluator::table::{bytes_of, read_table, Entry};
+use super::entries::{end_of, operand_count, sort_of};
+use super::rng::Rng;
 
 /// The field of an entry that counts an operand.
 #[derive(Clone, Copy, PartialEq, Debug)]
@@ -96,7 +96,7 @@ pub fn put_before(list: &mut Vec<Entry>, part: Part, other: Part, counted: bool)
     }
 }
 
-fn moved(rng: &mut Rng, list: &mut Vec<Entry>, all: &[Part], counted: bool) {
+fn move_part(rng: &mut Rng, list: &mut Vec<Entry>, all: &[Part], counted: bool) {
     let part = *rng.pick(all);
     let sort = sort_of(list[part.at].kind);
     let places: Vec<Part> =
@@ -108,17 +108,17 @@ fn moved(rng: &mut Rng, list: &mut Vec<Entry>, all: &[Part], counted: bool) {
 }
 
 /// Values at which a count of this field changes its meaning.
-pub const LIES: [i32; 14] = [0, 1, 2, 8, 9, 255, 256, 65_535, 65_536, 1 << 24, i32::MAX, i32::MIN, -1, -256];
+pub const WRONG_COUNTS: [i32; 14] = [0, 1, 2, 8, 9, 255, 256, 65_535, 65_536, 1 << 24, i32::MAX, i32::MIN, -1, -256];
 
-fn lie(rng: &mut Rng, list: &mut [Entry], all: &[Part]) {
+fn wrong_count(rng: &mut Rng, list: &mut [Entry], all: &[Part]) {
     let part = *rng.pick(all);
     let e = &mut list[part.parent];
     if rng.chance(60) {
         return recount(e, part.count, if rng.chance(50) { 1 } else { -1 });
     }
     match part.count {
-        Count::A => e.a = *rng.pick(&LIES) as u16,
-        _ => e.b = *rng.pick(&LIES),
+        Count::A => e.a = *rng.pick(&WRONG_COUNTS) as u16,
+        _ => e.b = *rng.pick(&WRONG_COUNTS),
     }
 }
 
@@ -129,7 +129,7 @@ fn declare(list: &mut Vec<Entry>, block: usize, declarations: Vec<Entry>) {
 }
 
 /// Variables, holds, cases or waiting operands, so many that a limit is near.
-fn crowd(rng: &mut Rng, list: &mut Vec<Entry>) {
+fn approach_a_limit(rng: &mut Rng, list: &mut Vec<Entry>) {
     let entry = |kind, a, b| Entry { kind, a, b };
     let of_kinds = |kinds: &[u16]| -> Vec<usize> { (0..list.len()).filter(|&k| kinds.contains(&list[k].kind)).collect() };
     let block = *rng.pick(&of_kinds(&[1, 53]));
@@ -154,7 +154,7 @@ fn crowd(rng: &mut Rng, list: &mut Vec<Entry>) {
 }
 
 /// A name of the table once more: as a variable of some block, or as a label.
-fn hide(rng: &mut Rng, list: &mut Vec<Entry>) {
+fn hide_a_name(rng: &mut Rng, list: &mut Vec<Entry>) {
     let named: Vec<u16> = list.iter().filter(|e| matches!(e.kind, 10..=12 | 20 | 25 | 27 | 43..=47)).map(|e| e.a).collect();
     let blocks: Vec<usize> = (0..list.len()).filter(|&k| matches!(list[k].kind, 1 | 53)).collect();
     let name = if named.is_empty() { 7 } else { *rng.pick(&named) };
@@ -179,13 +179,13 @@ pub fn reshaped_table(rng: &mut Rng, valid: &[Entry]) -> Vec<u8> {
         let all = parts(&list);
         let counted = rng.chance(85);
         match rng.below(9) {
-            0 | 1 => crowd(rng, &mut list),
-            2 | 3 => hide(rng, &mut list),
+            0 | 1 => approach_a_limit(rng, &mut list),
+            2 | 3 => hide_a_name(rng, &mut list),
             _ if all.is_empty() => {}
             4 => remove(&mut list, *rng.pick(&all), counted),
             5 => double(&mut list, *rng.pick(&all), counted),
-            6 => lie(rng, &mut list, &all),
-            _ => moved(rng, &mut list, &all, counted),
+            6 => wrong_count(rng, &mut list, &all),
+            _ => move_part(rng, &mut list, &all, counted),
         }
     }
     bytes_of(&list)

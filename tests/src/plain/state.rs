@@ -1,9 +1,9 @@
-//! A run state's 24,576 bytes for the plain machine: read and written as C does, tested for soundness in one walk of the macro,
+//! A run state's 24,576 bytes for the machine beside this file: read and written as C does, tested for soundness in one walk of the macro,
 //! cleared where a state does not use them. Written for speed; the tests hold it, too, against the readable one.
 
-use crate::answer::is_condition;
-use crate::plain_loader::{half, walk, Records, Stack};
-use crate::state::LENGTH;
+use crate::evaluator::answer::is_condition;
+use crate::evaluator::state::LENGTH;
+use super::loader::{half, walk, Records, Stack};
 
 pub(crate) const FRAMES: usize = 32;
 pub(crate) const FRAME: usize = 328;

@@ -2,9 +2,9 @@
 
 use std::cell::RefCell;
 
-use crate::answer::{refuse, Refusal};
-use crate::lent::Lent;
-use crate::table::MOST_BYTES;
+use crate::evaluator::answer::{refuse, Refusal};
+use crate::evaluator::table::MOST_BYTES;
+use super::guarded_memory::GuardedMemory;
 
 extern "C" {
     fn cue_load(code: *const u8, n: usize) -> u64;
@@ -53,8 +53,8 @@ pub fn run(code: &[u8], state: &mut [u8], readings: &[u8], allowance: u16) -> u6
 pub const MOST_MACRO_BYTES: usize = 1 << 21;
 
 thread_local! {
-    static TABLE: RefCell<Lent> = RefCell::new(Lent::new(2 * MOST_BYTES));
-    static MACRO: RefCell<Lent> = RefCell::new(Lent::new(MOST_MACRO_BYTES));
+    static TABLE: RefCell<GuardedMemory> = RefCell::new(GuardedMemory::new(2 * MOST_BYTES));
+    static MACRO: RefCell<GuardedMemory> = RefCell::new(GuardedMemory::new(MOST_MACRO_BYTES));
 }
 
 /// Number and place of the table check's verdict on bytes lent to it, (0, 0) where it accepts.

@@ -1,12 +1,12 @@
-//! A plain compiler from an accepted tree to a macro, so that tree and machine can be held
+//! A simple compiler from an accepted tree to a macro, so that tree and machine can be held
 //! against each other ("Free are the compiled code and SH order"). An SH stands wherever a
 //! jump lands and behind every op 0, 8, 11 and 20 that is not a body's last.
 
 use std::collections::{BTreeMap, HashMap};
 
-use crate::code::{byte_of_type, Body as CodeBody, Instr, Macro, Shape};
-use crate::table::*;
-use crate::values::Type;
+use super::code::{byte_of_type, Body as CodeBody, Instr, Macro, Shape};
+use super::table::*;
+use super::values::Type;
 
 const INTEGER: u8 = 1;
 const LOGICAL: u8 = 2;

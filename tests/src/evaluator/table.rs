@@ -1,8 +1,8 @@
 //! The syntax table: entries of 8 bytes in prefix order, the tree they stand for, reading
 //! a table (refusals 1 and 2 with their place) and writing a tree back.
 
-use crate::answer::{refuse, Refusal};
-use crate::values::{is_binary, is_unary, Type};
+use super::answer::{refuse, Refusal};
+use super::values::{is_binary, is_unary, Type};
 
 /// "At most 2,048 entries, nesting at most 64 deep; the root, a block (kind 1), is depth 1."
 pub const MOST_BYTES: usize = 16_384;

@@ -1,11 +1,10 @@
-//! Generated tables: valid programs of all sizes (made as trees, directed by types and
-//! scopes, and then filtered by the judge), and damaged tables.
+//! Generated programs, valid and of all sizes: made as trees, directed by types and scopes, and
+//! then filtered by the judge.
 
-use crate::names::judge_table;
-use crate::paper;
-use crate::rng::Rng;
-use crate::table::*;
-use crate::values::Type;
+use crate::evaluator::names::judge_table;
+use crate::evaluator::table::*;
+use crate::evaluator::values::Type;
+use super::rng::Rng;
 
 /// How a program is to be made.
 #[derive(Clone, Copy, Debug)]
@@ -29,7 +28,7 @@ pub fn plan(rng: &mut Rng, entries: usize) -> Plan {
 /// A valid program; nearly every try is accepted, the others are made again.
 pub fn program(rng: &mut Rng, plan: Plan) -> Tree {
     loop {
-        let tree = Gen::new(rng, plan).program();
+        let tree = Generator::new(rng, plan).program();
         let bytes = bytes_of(&write_tree(&tree));
         if let Ok(tree) = judge_table(&bytes) {
             return tree;
@@ -39,7 +38,7 @@ pub fn program(rng: &mut Rng, plan: Plan) -> Tree {
 
 /// The same without the filter, to see how often it is needed.
 pub fn unfiltered_program(rng: &mut Rng, plan: Plan) -> Tree {
-    Gen::new(rng, plan).program()
+    Generator::new(rng, plan).program()
 }
 
 /// Numbers where something changes.
@@ -80,7 +79,7 @@ struct ProcedurePlan {
     result: Option<Type>,
 }
 
-struct Gen<'r> {
+struct Generator<'r> {
     rng: &'r mut Rng,
     plan: Plan,
     /// Entries that may still be made before only leaves are.
@@ -95,24 +94,24 @@ struct Gen<'r> {
     provoke: Option<u8>,
 }
 
-fn s(kind: StmtKind) -> Stmt {
+fn stmt(kind: StmtKind) -> Stmt {
     Stmt { at: 0, kind }
 }
 
-fn x(kind: ExprKind) -> Expr {
+fn expr(kind: ExprKind) -> Expr {
     Expr { at: 0, kind }
 }
 
 pub fn integer(n: i32) -> Expr {
-    x(ExprKind::Integer(n))
+    expr(ExprKind::Integer(n))
 }
 
 fn variable(name: Name) -> Expr {
-    x(ExprKind::Variable(name))
+    expr(ExprKind::Variable(name))
 }
 
 fn binary(operator: u16, left: Expr, right: Expr) -> Expr {
-    x(ExprKind::Binary(operator, Box::new(left), Box::new(right)))
+    expr(ExprKind::Binary(operator, Box::new(left), Box::new(right)))
 }
 
 fn decl(kind: DeclKind) -> Decl {
@@ -120,12 +119,12 @@ fn decl(kind: DeclKind) -> Decl {
 }
 
 fn block(head: Vec<Decl>, statements: Vec<Stmt>) -> Stmt {
-    s(StmtKind::Block(Block { head, statements }))
+    stmt(StmtKind::Block(Block { head, statements }))
 }
 
-impl<'r> Gen<'r> {
-    fn new(rng: &'r mut Rng, plan: Plan) -> Gen<'r> {
-        Gen {
+impl<'r> Generator<'r> {
+    fn new(rng: &'r mut Rng, plan: Plan) -> Generator<'r> {
+        Generator {
             rng,
             plan,
             // Statements begun are finished, so a program grows past its budget by a fifth.
@@ -416,11 +415,11 @@ impl<'r> Gen<'r> {
             Some((n, Type::Integer)) if self.rng.chance(50) && self.left > 10 => {
                 let arguments = self.lesser_arguments(p, n);
                 let name = self.procedures[p].name;
-                let again = s(StmtKind::Call(name, arguments));
+                let again = stmt(StmtKind::Call(name, arguments));
                 let before = self.block_statement(5, 2);
                 self.left -= 8;
                 let test = binary(8, variable(n), integer(0));
-                s(StmtKind::If(test, Box::new(block(Vec::new(), vec![before, again]))))
+                stmt(StmtKind::If(test, Box::new(block(Vec::new(), vec![before, again]))))
             }
             _ if self.rng.chance(75) => self.block_statement(3, 3),
             _ => self.statement(3),
@@ -434,13 +433,13 @@ impl<'r> Gen<'r> {
                 let arguments = self.lesser_arguments(p, n);
                 let name = self.procedures[p].name;
                 self.left -= 8;
-                let mut again = x(ExprKind::Function(name, arguments));
+                let mut again = expr(ExprKind::Function(name, arguments));
                 if ty == Type::Integer {
                     again = binary(1, variable(n), again);
                 }
                 let test = binary(8, variable(n), integer(0));
                 let other = self.expression(ty, 5, 20);
-                x(ExprKind::If(Box::new(test), Box::new(again), Box::new(other)))
+                expr(ExprKind::If(Box::new(test), Box::new(again), Box::new(other)))
             }
             _ if self.rng.chance(60) => self.block_expression(ty, 3, 30),
             _ => self.expression(ty, 3, 30),
@@ -523,7 +522,7 @@ impl<'r> Gen<'r> {
         let value = self.expression(ty, depth + 1, need);
         self.scopes.pop();
         self.holds -= holds;
-        x(ExprKind::Block(Block { head, statements }, Box::new(value)))
+        expr(ExprKind::Block(Block { head, statements }, Box::new(value)))
     }
 
     /// So many statements, and the labels among them.
@@ -535,7 +534,7 @@ impl<'r> Gen<'r> {
             for (k, place) in places.iter().enumerate() {
                 if *place == i {
                     self.left -= 1;
-                    list.push(s(StmtKind::Label(labels[k])));
+                    list.push(stmt(StmtKind::Label(labels[k])));
                     for entry in &mut self.scopes.last_mut().unwrap().names {
                         if entry.0 == labels[k] {
                             entry.1 = What::Label { ahead: false };
@@ -571,13 +570,13 @@ impl<'r> Gen<'r> {
             10 | 11 => {
                 let test = self.expression(Type::Logical, depth + 1, 32);
                 let then = self.statement(depth + 1);
-                s(StmtKind::If(test, Box::new(then)))
+                stmt(StmtKind::If(test, Box::new(then)))
             }
             12 => {
                 let test = self.expression(Type::Logical, depth + 1, 32);
                 let then = self.statement(depth + 1);
                 let other = self.statement(depth + 1);
-                s(StmtKind::IfElse(test, Box::new(then), Box::new(other)))
+                stmt(StmtKind::IfElse(test, Box::new(then), Box::new(other)))
             }
             13 | 14 => self.loop_statement(depth),
             15..=17 => self.goto(depth),
@@ -589,7 +588,7 @@ impl<'r> Gen<'r> {
                     self.left -= 2;
                     binary(11, binary(5, e, integer(2)), integer(5))
                 };
-                s(StmtKind::Assert(test))
+                stmt(StmtKind::Assert(test))
             }
             19 | 20 => self.call(depth),
             21 | 22 => self.case(depth),
@@ -604,7 +603,7 @@ impl<'r> Gen<'r> {
                 if labels.is_empty() {
                     block(Vec::new(), Vec::new())
                 } else {
-                    s(StmtKind::Goto(self.rng.pick(&labels).0))
+                    stmt(StmtKind::Goto(self.rng.pick(&labels).0))
                 }
             }
             1 => self.assignment(depth),
@@ -619,7 +618,7 @@ impl<'r> Gen<'r> {
             2 if self.left > 8 && depth < 50 => {
                 let e = self.expression(Type::Integer, depth + 4, 20);
                 self.left -= 5;
-                binary(1, x(ExprKind::Unary(21, Box::new(binary(5, e, integer(512))))), integer(1))
+                binary(1, expr(ExprKind::Unary(21, Box::new(binary(5, e, integer(512))))), integer(1))
             }
             _ => integer(self.rng.between(1, 512) as i32),
         };
@@ -631,11 +630,11 @@ impl<'r> Gen<'r> {
             4..=6 if self.left > 4 && depth < 50 => {
                 let e = self.expression(Type::Integer, depth + 3, 20);
                 self.left -= 3;
-                x(ExprKind::Unary(21, Box::new(binary(5, e, integer(256)))))
+                expr(ExprKind::Unary(21, Box::new(binary(5, e, integer(256)))))
             }
             _ => integer(self.rng.below(256) as i32),
         };
-        s(StmtKind::Set(channel, level))
+        stmt(StmtKind::Set(channel, level))
     }
 
     fn assignment(&mut self, depth: usize) -> Stmt {
@@ -648,16 +647,16 @@ impl<'r> Gen<'r> {
                     let class = self.classes[c].name;
                     let name = self.classes[c].fields[f].0;
                     let reference = self.reference(class, depth + 2, 32);
-                    let target = x(ExprKind::Field(name, Box::new(reference)));
+                    let target = expr(ExprKind::Field(name, Box::new(reference)));
                     let value = self.expression(ty, depth + 1, 31);
-                    return s(StmtKind::Assign(target, value));
+                    return stmt(StmtKind::Assign(target, value));
                 }
             }
             let names = self.variables_of(ty, true);
             if !names.is_empty() {
                 let name = *self.rng.pick(&names);
                 let value = self.expression(ty, depth + 1, 31);
-                return s(StmtKind::Assign(variable(name), value));
+                return stmt(StmtKind::Assign(variable(name), value));
             }
         }
         self.set(depth)
@@ -667,16 +666,16 @@ impl<'r> Gen<'r> {
     /// or now and then a loop without end.
     fn loop_statement(&mut self, depth: usize) -> Stmt {
         if self.rng.chance(self.plan.forever) {
-            let test = if self.rng.chance(50) { x(ExprKind::Logical(true)) } else { self.expression(Type::Logical, depth + 1, 32) };
+            let test = if self.rng.chance(50) { expr(ExprKind::Logical(true)) } else { self.expression(Type::Logical, depth + 1, 32) };
             let body = self.statement(depth + 1);
-            return s(StmtKind::While(test, Box::new(body)));
+            return stmt(StmtKind::While(test, Box::new(body)));
         }
         if self.rng.chance(30) {
             let fader = self.fader(depth + 2);
             self.left -= 2;
             let test = binary(6, fader, integer(self.rng.between(0, 200) as i32));
             let body = self.statement(depth + 1);
-            return s(StmtKind::While(test, Box::new(body)));
+            return stmt(StmtKind::While(test, Box::new(body)));
         }
         if self.cells >= 32 {
             return self.set(depth);
@@ -692,9 +691,9 @@ impl<'r> Gen<'r> {
         for _ in 0..count {
             inside.push(self.statement(depth + 3));
         }
-        inside.push(s(StmtKind::Assign(variable(counter), binary(1, variable(counter), integer(1)))));
+        inside.push(stmt(StmtKind::Assign(variable(counter), binary(1, variable(counter), integer(1)))));
         self.scopes.pop();
-        let whole = s(StmtKind::While(test, Box::new(block(Vec::new(), inside))));
+        let whole = stmt(StmtKind::While(test, Box::new(block(Vec::new(), inside))));
         let head = vec![decl(DeclKind::Variable(Variable { at: 0, name: counter, ty: Type::Integer }))];
         block(head, vec![whole])
     }
@@ -706,13 +705,13 @@ impl<'r> Gen<'r> {
             return self.set(depth);
         }
         let (label, ahead) = *self.rng.pick(&labels);
-        let goto = s(StmtKind::Goto(label));
+        let goto = stmt(StmtKind::Goto(label));
         if ahead {
             if self.rng.chance(50) {
                 return goto;
             }
             let test = self.expression(Type::Logical, depth + 1, 32);
-            return s(StmtKind::If(test, Box::new(goto)));
+            return stmt(StmtKind::If(test, Box::new(goto)));
         }
         if self.rng.chance(self.plan.forever) {
             return goto;
@@ -721,13 +720,13 @@ impl<'r> Gen<'r> {
         if counters.is_empty() || self.left < 8 {
             let fader = self.fader(depth + 2);
             let test = binary(6, fader, integer(self.rng.between(0, 150) as i32));
-            return s(StmtKind::If(test, Box::new(goto)));
+            return stmt(StmtKind::If(test, Box::new(goto)));
         }
         self.left -= 10;
         let v = *self.rng.pick(&counters);
-        let count = s(StmtKind::Assign(variable(v), binary(1, variable(v), integer(1))));
+        let count = stmt(StmtKind::Assign(variable(v), binary(1, variable(v), integer(1))));
         let test = binary(6, variable(v), integer(self.rng.between(1, 6) as i32));
-        let jump = s(StmtKind::If(test, Box::new(goto)));
+        let jump = stmt(StmtKind::If(test, Box::new(goto)));
         block(Vec::new(), vec![count, jump])
     }
 
@@ -742,7 +741,7 @@ impl<'r> Gen<'r> {
         }
         let p = *self.rng.pick(&procedures);
         let arguments = self.arguments(p, depth, 32);
-        s(StmtKind::Call(self.procedures[p].name, arguments))
+        stmt(StmtKind::Call(self.procedures[p].name, arguments))
     }
 
     fn arguments(&mut self, p: usize, depth: usize, need: usize) -> Vec<Expr> {
@@ -778,7 +777,7 @@ impl<'r> Gen<'r> {
         for _ in 0..count {
             arms.push(self.statement(depth + 1));
         }
-        s(StmtKind::Case(index, arms))
+        stmt(StmtKind::Case(index, arms))
     }
 
     /// A statement that ends by this condition, if one can be made here.
@@ -787,7 +786,7 @@ impl<'r> Gen<'r> {
             return None;
         }
         self.left -= 5;
-        let set = |level: Expr| s(StmtKind::Set(integer(1), level));
+        let set = |level: Expr| stmt(StmtKind::Set(integer(1), level));
         match condition {
             20 => {
                 let (operator, left, right) = *self.rng.pick(&[
@@ -800,7 +799,7 @@ impl<'r> Gen<'r> {
                 ]);
                 if self.rng.chance(25) {
                     let operator = *self.rng.pick(&[20, 21]);
-                    return Some(set(x(ExprKind::Unary(operator, Box::new(integer(i32::MIN))))));
+                    return Some(set(expr(ExprKind::Unary(operator, Box::new(integer(i32::MIN))))));
                 }
                 Some(set(binary(operator, integer(left), integer(right))))
             }
@@ -822,17 +821,17 @@ impl<'r> Gen<'r> {
                         continue;
                     }
                     let name = self.classes[c].fields[f].0;
-                    let null = x(ExprKind::Null(class));
-                    let field = x(ExprKind::Field(name, Box::new(null)));
+                    let null = expr(ExprKind::Null(class));
+                    let field = expr(ExprKind::Field(name, Box::new(null)));
                     if ty == Type::Integer && self.rng.chance(50) {
                         return Some(set(field));
                     }
                     let value = self.expression(ty, depth + 1, 31);
-                    return Some(s(StmtKind::Assign(field, value)));
+                    return Some(stmt(StmtKind::Assign(field, value)));
                 }
                 None
             }
-            23 => Some(s(StmtKind::Assert(binary(10, integer(1), integer(2))))),
+            23 => Some(stmt(StmtKind::Assert(binary(10, integer(1), integer(2))))),
             24 => {
                 if self.cells >= 32 {
                     return None;
@@ -841,12 +840,12 @@ impl<'r> Gen<'r> {
                 let count = 1 + self.rng.below(3);
                 let index = *self.rng.pick(&[0, count as i32 + 1, -1, i32::MIN, i32::MAX]);
                 let arms = (0..count).map(|_| block(Vec::new(), Vec::new())).collect();
-                Some(s(StmtKind::Case(integer(index), arms)))
+                Some(stmt(StmtKind::Case(integer(index), arms)))
             }
             25 => Some(match self.rng.below(3) {
-                0 => s(StmtKind::Set(integer(*self.rng.pick(&[0, 513, -1, i32::MIN])), integer(5))),
+                0 => stmt(StmtKind::Set(integer(*self.rng.pick(&[0, 513, -1, i32::MIN])), integer(5))),
                 1 => set(integer(*self.rng.pick(&[256, -1, i32::MAX]))),
-                _ => set(x(ExprKind::Fader(Box::new(integer(*self.rng.pick(&[0, 65, -1, i32::MAX])))))),
+                _ => set(expr(ExprKind::Fader(Box::new(integer(*self.rng.pick(&[0, 65, -1, i32::MAX])))))),
             }),
             26 => {
                 // A call of itself without end, from within a procedure's body.
@@ -859,12 +858,12 @@ impl<'r> Gen<'r> {
                 let arguments: Vec<Expr> = types.iter().map(|ty| self.leaf(*ty)).collect();
                 let name = self.procedures[own].name;
                 Some(match result {
-                    None => s(StmtKind::Call(name, arguments)),
-                    Some(Type::Integer) => set(x(ExprKind::Function(name, arguments))),
+                    None => stmt(StmtKind::Call(name, arguments)),
+                    Some(Type::Integer) => set(expr(ExprKind::Function(name, arguments))),
                     Some(_) => {
-                        let call = x(ExprKind::Function(name, arguments.clone()));
-                        let again = x(ExprKind::Function(name, arguments));
-                        s(StmtKind::Assert(binary(10, call, again)))
+                        let call = expr(ExprKind::Function(name, arguments.clone()));
+                        let again = expr(ExprKind::Function(name, arguments));
+                        stmt(StmtKind::Assert(binary(10, call, again)))
                     }
                 })
             }
@@ -875,14 +874,14 @@ impl<'r> Gen<'r> {
                     let names = self.variables_of(Type::Reference(class), true);
                     let types: Vec<Type> = self.classes[c].fields.iter().map(|f| f.1).collect();
                     let values: Vec<Expr> = types.iter().map(|ty| self.leaf(*ty)).collect();
-                    let record = x(ExprKind::Record(class, values));
+                    let record = expr(ExprKind::Record(class, values));
                     let inside = if names.is_empty() {
-                        let null = x(ExprKind::Null(class));
-                        s(StmtKind::Assert(binary(11, record, null)))
+                        let null = expr(ExprKind::Null(class));
+                        stmt(StmtKind::Assert(binary(11, record, null)))
                     } else {
-                        s(StmtKind::Assign(variable(names[0]), record))
+                        stmt(StmtKind::Assign(variable(names[0]), record))
                     };
-                    return Some(s(StmtKind::While(x(ExprKind::Logical(true)), Box::new(inside))));
+                    return Some(stmt(StmtKind::While(expr(ExprKind::Logical(true)), Box::new(inside))));
                 }
                 None
             }
@@ -912,13 +911,13 @@ impl<'r> Gen<'r> {
         }
         match ty {
             Type::Integer => integer(self.number()),
-            Type::Logical => x(ExprKind::Logical(self.rng.chance(50))),
-            Type::Bits => x(ExprKind::Bits(self.number() as u32)),
+            Type::Logical => expr(ExprKind::Logical(self.rng.chance(50))),
+            Type::Bits => expr(ExprKind::Bits(self.number() as u32)),
             Type::Reference(class) => {
                 let seen = self.seen_classes().iter().any(|&c| self.classes[c].name == class);
                 if seen || names.is_empty() {
                     // Where the class is hidden and there is no variable, the judge turns it down.
-                    x(ExprKind::Null(class))
+                    expr(ExprKind::Null(class))
                 } else {
                     variable(*self.rng.pick(&names))
                 }
@@ -933,7 +932,7 @@ impl<'r> Gen<'r> {
         } else {
             integer(self.rng.between(1, 64) as i32)
         };
-        x(ExprKind::Fader(Box::new(number)))
+        expr(ExprKind::Fader(Box::new(number)))
     }
 
     fn expression(&mut self, ty: Type, depth: usize, need: usize) -> Expr {
@@ -947,7 +946,7 @@ impl<'r> Gen<'r> {
                 let test = self.expression(Type::Logical, depth + 1, need);
                 let then = self.expression(ty, depth + 1, need - 1);
                 let other = self.expression(ty, depth + 1, need - 2);
-                return x(ExprKind::If(Box::new(test), Box::new(then), Box::new(other)));
+                return expr(ExprKind::If(Box::new(test), Box::new(then), Box::new(other)));
             }
             1 if self.left > 4 => return self.block_expression(ty, depth, need),
             2 => {
@@ -959,7 +958,7 @@ impl<'r> Gen<'r> {
                     self.left -= 1;
                     let p = *self.rng.pick(&functions);
                     let arguments = self.arguments(p, depth, need);
-                    return x(ExprKind::Function(self.procedures[p].name, arguments));
+                    return expr(ExprKind::Function(self.procedures[p].name, arguments));
                 }
             }
             3 | 4 => {
@@ -970,7 +969,7 @@ impl<'r> Gen<'r> {
                     let class = self.classes[c].name;
                     let name = self.classes[c].fields[f].0;
                     let reference = self.reference(class, depth + 1, need);
-                    return x(ExprKind::Field(name, Box::new(reference)));
+                    return expr(ExprKind::Field(name, Box::new(reference)));
                 }
             }
             5..=8 => return self.leaf(ty),
@@ -985,7 +984,7 @@ impl<'r> Gen<'r> {
                 }
                 1 => {
                     let e = self.expression(Type::Integer, depth + 1, need);
-                    x(ExprKind::Unary(*self.rng.pick(&[20, 21]), Box::new(e)))
+                    expr(ExprKind::Unary(*self.rng.pick(&[20, 21]), Box::new(e)))
                 }
                 2 => {
                     let left = self.expression(Type::Integer, depth + 1, need);
@@ -1007,7 +1006,7 @@ impl<'r> Gen<'r> {
             Type::Logical => match self.rng.below(8) {
                 0 => {
                     let e = self.expression(Type::Logical, depth + 1, need);
-                    x(ExprKind::Unary(22, Box::new(e)))
+                    expr(ExprKind::Unary(22, Box::new(e)))
                 }
                 1 | 2 => {
                     let left = self.expression(Type::Logical, depth + 1, need);
@@ -1034,7 +1033,7 @@ impl<'r> Gen<'r> {
             Type::Bits => match self.rng.below(6) {
                 0 => {
                     let e = self.expression(Type::Bits, depth + 1, need);
-                    x(ExprKind::Unary(22, Box::new(e)))
+                    expr(ExprKind::Unary(22, Box::new(e)))
                 }
                 1 | 2 => {
                     let left = self.expression(Type::Bits, depth + 1, need);
@@ -1070,470 +1069,9 @@ impl<'r> Gen<'r> {
                 for (i, ty) in types.iter().enumerate() {
                     values.push(if self.rng.chance(50) { self.leaf(*ty) } else { self.expression(*ty, depth + 1, need - i) });
                 }
-                x(ExprKind::Record(class, values))
+                expr(ExprKind::Record(class, values))
             }
             _ => self.leaf(Type::Reference(class)),
         }
-    }
-}
-
-// Damaged tables.
-
-pub const KINDS: [u16; 28] = [
-    1, 10, 11, 12, 14, 20, 21, 22, 23, 24, 25, 26, 27, 28, 30, 40, 41, 42, 43, 44, 45, 46, 47, 48, 49, 50, 51, 53,
-];
-
-/// A table with one field changed, an entry removed, doubled or swapped.
-fn damage_once(rng: &mut Rng, list: &mut Vec<Entry>) {
-    if list.is_empty() {
-        list.push(Entry { kind: 1, a: 0, b: 0 });
-        return;
-    }
-    let i = rng.below(list.len());
-    let names: Vec<u16> = list.iter().map(|e| e.a).collect();
-    match rng.below(13) {
-        0 => list[i].kind = *rng.pick(&KINDS),
-        1 => list[i].kind = *rng.pick(&[0, 2, 13, 15, 29, 31, 39, 52, 54, 99, 256, 65_535]),
-        2 => {
-            // An entry of one of these kinds becomes another of the like.
-            let like: &[u16] = match list[i].kind {
-                40..=42 => &[40, 41, 42],
-                44 | 43 => &[43, 44],
-                45 | 47 => &[45, 47],
-                27 => &[27],
-                22 | 24 => &[22, 24],
-                25 | 20 => &[25, 20],
-                21 | 28 => &[21, 28],
-                48 | 46 | 51 => &[51, 48, 46],
-                1 | 53 => &[1, 53],
-                _ => &KINDS,
-            };
-            list[i].kind = *rng.pick(like);
-        }
-        3 => list[i].a = *rng.pick(&names),
-        4 => list[i].a = rng.below(64) as u16,
-        5 => list[i].a = list[i].a.wrapping_add(*rng.pick(&[1, 65_535])),
-        6 => {
-            list[i].b = *rng.pick(&[0, 1, 2, 3, 4, -1, 255, 256, 257, 259, 260, 65_535, 65_536, 131_071, 131_072, i32::MIN])
-        }
-        7 => list[i].b = list[i].b.wrapping_add(*rng.pick(&[1, -1])),
-        8 => {
-            list.remove(i);
-        }
-        9 => {
-            let e = list[i];
-            list.insert(i, e);
-        }
-        10 => {
-            let j = rng.below(list.len());
-            list.swap(i, j);
-        }
-        11 => {
-            // The type of a kind 10, or an operator.
-            let some: Vec<usize> = (0..list.len()).filter(|&k| matches!(list[k].kind, 10 | 48 | 49)).collect();
-            if !some.is_empty() {
-                let k = *rng.pick(&some);
-                if list[k].kind == 10 {
-                    let class = 65_536 + *rng.pick(&names) as i32;
-                    list[k].b = *rng.pick(&[1, 2, 3, class]);
-                } else if list[k].kind == 49 {
-                    list[k].a = rng.between(1, 15) as u16;
-                } else {
-                    list[k].a = rng.between(20, 22) as u16;
-                }
-            }
-        }
-        _ => {
-            // A name somewhere becomes another.
-            let some: Vec<usize> =
-                (0..list.len()).filter(|&k| matches!(list[k].kind, 10 | 11 | 12 | 20 | 25 | 27 | 43 | 44 | 45 | 46 | 47)).collect();
-            if !some.is_empty() {
-                let k = *rng.pick(&some);
-                list[k].a = *rng.pick(&names);
-            }
-        }
-    }
-}
-
-/// How many operands an entry of a valid table has.
-pub fn operand_count(e: Entry) -> usize {
-    match e.kind {
-        1 => e.a as usize + e.b as usize,
-        53 => e.a as usize + e.b as usize + 1,
-        11 | 27 | 45 | 47 => e.b as usize,
-        12 => e.b as usize / 256 + 1,
-        30 => e.a as usize + 1,
-        26 | 46 | 48 | 51 => 1,
-        21 | 22 | 24 | 28 | 49 => 2,
-        23 | 50 => 3,
-        _ => 0,
-    }
-}
-
-/// The entry after an entry's last operand, in a valid table.
-pub fn end_of(list: &[Entry], at: usize) -> usize {
-    let mut next = at + 1;
-    for _ in 0..operand_count(list[at]) {
-        next = end_of(list, next);
-    }
-    next
-}
-
-/// 0 a declaration, 1 a statement, 2 an expression.
-pub fn sort_of(kind: u16) -> usize {
-    match kind {
-        10..=14 => 0,
-        1 | 20..=30 => 1,
-        _ => 2,
-    }
-}
-
-/// Damage that mostly leaves the table one tree: names, types and operators changed, and whole
-/// operands exchanged or repeated elsewhere. The table must be valid.
-fn damage_meaning(rng: &mut Rng, list: &mut Vec<Entry>) {
-    let names: Vec<u16> = list.iter().map(|e| e.a).collect();
-    let labels: Vec<u16> = list.iter().filter(|e| e.kind == 20).map(|e| e.a).collect();
-    let of_kinds = |list: &[Entry], kinds: &[u16]| -> Vec<usize> {
-        (0..list.len()).filter(|&k| kinds.contains(&list[k].kind)).collect()
-    };
-    match rng.below(10) {
-        0 | 1 => {
-            let some = of_kinds(list, &[10, 11, 12, 20, 25, 27, 43, 44, 45, 46, 47]);
-            if !some.is_empty() {
-                list[*rng.pick(&some)].a = *rng.pick(&names);
-            }
-        }
-        2 => {
-            let some = of_kinds(list, &[10, 48, 49]);
-            if !some.is_empty() {
-                let k = *rng.pick(&some);
-                match list[k].kind {
-                    10 => {
-                        let class = 65_536 + *rng.pick(&names) as i32;
-                        list[k].b = *rng.pick(&[1, 2, 3, class]);
-                    }
-                    48 => list[k].a = rng.between(20, 22) as u16,
-                    _ => list[k].a = rng.between(1, 15) as u16,
-                }
-            }
-        }
-        3 => {
-            let some = of_kinds(list, &[40, 41, 42]);
-            if !some.is_empty() {
-                let k = *rng.pick(&some);
-                list[k] = Entry { kind: *rng.pick(&[40, 41, 42]), a: 0, b: rng.below(2) as i32 };
-            }
-        }
-        4 => {
-            // A goto to any label of the table, in the place of a statement.
-            let some: Vec<usize> = (1..list.len()).filter(|&k| sort_of(list[k].kind) == 1 && list[k].kind != 20).collect();
-            if !some.is_empty() && !labels.is_empty() {
-                let k = *rng.pick(&some);
-                let end = end_of(list, k);
-                let goto = Entry { kind: 25, a: *rng.pick(&labels), b: 0 };
-                list.splice(k..end, [goto]);
-            }
-        }
-        5 => {
-            // A goto inside a block expression in the place of an expression.
-            let some: Vec<usize> = (1..list.len()).filter(|&k| sort_of(list[k].kind) == 2).collect();
-            if !some.is_empty() && !labels.is_empty() {
-                let k = *rng.pick(&some);
-                let goto = Entry { kind: 25, a: *rng.pick(&labels), b: 0 };
-                list.splice(k..k, [Entry { kind: 53, a: 0, b: 1 }, goto]);
-            }
-        }
-        _ => {
-            // An operand in the place of another of its sort.
-            let from = 1 + rng.below(list.len().max(2) - 1);
-            if from >= list.len() {
-                return;
-            }
-            let some: Vec<usize> = (1..list.len()).filter(|&k| sort_of(list[k].kind) == sort_of(list[from].kind)).collect();
-            let to = *rng.pick(&some);
-            let copy: Vec<Entry> = list[from..end_of(list, from)].to_vec();
-            let end = end_of(list, to);
-            list.splice(to..end, copy);
-        }
-    }
-}
-
-/// A valid table with one to three damages, or cut, or with bytes behind it.
-pub fn damaged_table(rng: &mut Rng, valid: &[Entry]) -> Vec<u8> {
-    let mut list = valid.to_vec();
-    match rng.below(14) {
-        0 => {
-            let mut bytes = bytes_of(&list);
-            bytes.truncate(rng.below(bytes.len() + 1));
-            bytes
-        }
-        1 => {
-            list.truncate(rng.below(list.len() + 1));
-            bytes_of(&list)
-        }
-        2 => {
-            let mut bytes = bytes_of(&list);
-            for _ in 0..1 + rng.below(16) {
-                bytes.push(rng.byte());
-            }
-            bytes
-        }
-        3 => {
-            let mut bytes = bytes_of(&list);
-            let i = rng.below(bytes.len());
-            bytes[i] ^= 1 << rng.below(8);
-            bytes
-        }
-        4..=9 => {
-            // Damage to the meaning needs one tree to begin with.
-            for _ in 0..1 + rng.below(3) {
-                if read_table(&bytes_of(&list)).is_ok() {
-                    damage_meaning(rng, &mut list);
-                }
-            }
-            bytes_of(&list)
-        }
-        _ => {
-            for _ in 0..1 + rng.below(2) {
-                damage_once(rng, &mut list);
-            }
-            bytes_of(&list)
-        }
-    }
-}
-
-/// A table made to be refused by this number (or, now and then, only nearly).
-pub fn purposeful(rng: &mut Rng, number: u8) -> Vec<u8> {
-    let table = |text: &str| paper::table(text);
-    match number {
-        1 => match rng.below(3) {
-            0 => Vec::new(),
-            1 => {
-                let mut bytes = table("1 0 1, 28 0 0, 40 0 3, 40 0 4");
-                bytes.truncate(1 + rng.below(bytes.len()));
-                bytes
-            }
-            _ => {
-                let mut bytes = table("1 0 0");
-                for _ in 0..1 + rng.below(7) {
-                    bytes.push(rng.byte());
-                }
-                bytes
-            }
-        },
-        2 => {
-            let texts = [
-                "99 0 0",
-                "1 0 1, 21 0 0, 40 0 1, 40 0 1",
-                "1 0 -1",
-                "1 0 1, 22 0 0, 41 0 1, 20 3 0",
-                "1 0 1, 1 1 0, 11 4 1, 10 5 1",
-                "1 1 0, 11 4 0",
-                "1 1 0, 11 4 9",
-                "1 1 0, 12 4 4, 40 0 1",
-                "1 1 0, 12 4 2304, 10 1 1",
-                "1 1 0, 12 4 -256, 1 0 0",
-                "1 1 0, 14 64 0",
-                "1 1 0, 10 1 131072",
-                "1 1 0, 10 1 65535",
-                "1 1 0, 10 1 0",
-                "1 0 1, 30 0 0, 40 0 1",
-                "1 0 1, 28 0 0, 48 19 0, 40 0 1, 40 0 1",
-                "1 0 1, 28 0 0, 49 16 0, 40 0 1, 40 0 1, 40 0 1",
-                "1 0 0, 1 0 0",
-                "1 0 2, 20 1 0",
-                "1 0 1, 26 0 0, 41 0 2",
-                "1 0 1, 26 0 0, 41 1 1",
-                "1 0 1, 25 1 1",
-                "1 0 1, 27 1 -1",
-                "21 0 0, 44 0 0, 40 0 0",
-            ];
-            table(rng.pick::<&str>(&texts))
-        }
-        3 => {
-            let texts = [
-                "1 0 1, 25 5 0",
-                "1 2 0, 10 1 1, 10 1 2",
-                "1 1 1, 10 1 1, 20 1 0",
-                "1 0 2, 20 1 0, 20 1 0",
-                "1 1 0, 11 1 1, 10 1 1",
-                "1 2 0, 11 1 2, 10 2 1, 10 3 2, 10 2 1",
-                "1 1 0, 12 1 512, 10 2 1, 10 2 1, 1 0 0",
-                "1 1 0, 10 1 65540",
-                "1 0 2, 1 0 1, 20 1 0, 25 1 0",
-                "1 2 0, 12 1 0, 1 0 1, 20 4 0, 12 2 0, 25 4 0",
-                "1 0 1, 21 0 0, 44 1 0, 40 0 1",
-                "1 1 1, 10 1 1, 21 0 0, 44 1 0, 46 2 0, 40 0 1",
-                "1 0 1, 26 0 0, 49 10 0, 43 7 0, 43 7 0",
-                "1 0 1, 27 3 0",
-                "1 1 1, 10 1 1, 21 0 0, 44 1 0, 49 1 0, 44 2 0, 41 0 1",
-            ];
-            table(rng.pick::<&str>(&texts))
-        }
-        4 => {
-            let texts = [
-                "1 1 1, 10 1 1, 21 0 0, 44 1 0, 49 1 0, 41 0 1, 40 0 1",
-                "1 1 1, 10 1 1, 25 1 0",
-                "1 1 0, 10 1 65537",
-                "1 1 1, 10 1 1, 27 1 0",
-                "1 1 1, 12 1 1, 40 0 1, 27 1 0",
-                "1 1 1, 12 1 0, 1 0 0, 26 0 0, 49 10 0, 45 1 0, 40 0 1",
-                "1 1 0, 12 1 1, 41 0 1",
-                "1 1 0, 12 1 2, 40 0 1",
-                "1 2 0, 11 1 1, 10 2 1, 12 3 256, 10 1 65537, 1 0 0",
-                "1 1 1, 11 1 1, 10 2 1, 1 1 0, 10 1 65537",
-                "1 1 1, 11 1 1, 10 2 1, 26 0 0, 49 10 0, 47 1 2, 40 0 1, 40 0 1, 43 1 0",
-                "1 1 1, 11 1 1, 10 2 1, 1 1 0, 10 2 65537",
-                "1 2 1, 11 1 1, 10 2 1, 11 3 1, 10 4 1, 28 0 0, 46 2 0, 43 3 0, 40 0 1",
-                "1 0 1, 22 0 0, 40 0 1, 1 0 0",
-                "1 0 1, 24 0 0, 42 0 1, 1 0 0",
-                "1 0 1, 30 1 0, 41 0 1, 1 0 0",
-                "1 0 1, 28 0 0, 40 0 1, 42 0 1",
-                "1 0 1, 28 0 0, 40 0 1, 51 0 0, 41 0 1",
-                "1 0 1, 26 0 0, 50 0 0, 41 0 1, 41 0 1, 40 0 1",
-                "1 0 1, 26 0 0, 48 22 0, 40 0 1",
-                "1 0 1, 26 0 0, 49 12 0, 41 0 1, 42 0 1",
-                "1 0 1, 26 0 0, 49 10 0, 49 14 0, 42 0 1, 42 0 1, 42 0 1",
-                "1 1 1, 12 1 256, 10 1 1, 1 0 0, 27 1 0",
-                "1 1 1, 12 1 256, 10 1 1, 1 0 0, 27 1 1, 41 0 1",
-                "1 2 0, 10 1 1, 12 1 1, 41 0 1",
-            ];
-            table(rng.pick::<&str>(&texts))
-        }
-        5 => {
-            let texts = [
-                "1 1 1, 12 1 0, 25 5 0, 20 5 0",
-                "1 1 1, 12 1 0, 1 0 1, 25 5 0, 20 5 0",
-                "1 1 1, 12 1 256, 10 5 1, 22 0 0, 41 0 1, 1 0 1, 25 6 0, 20 6 0",
-                "1 0 2, 20 5 0, 28 0 0, 53 0 1, 25 5 0, 40 0 1, 40 0 1",
-                "1 0 2, 28 0 0, 40 0 1, 53 0 1, 1 0 1, 25 5 0, 40 0 1, 20 5 0",
-                "1 1 0, 12 1 1, 53 0 1, 20 5 0, 53 0 1, 25 5 0, 40 0 1",
-                "1 0 1, 26 0 0, 53 0 2, 20 5 0, 1 0 0, 49 10 0, 53 0 1, 25 5 0, 40 0 1, 40 0 2",
-                "1 1 1, 12 1 1, 53 0 1, 22 0 0, 41 0 0, 25 5 0, 40 0 1, 20 5 0",
-                "1 0 2, 20 5 0, 22 0 0, 53 0 1, 25 5 0, 40 0 1, 1 0 0",
-            ];
-            let mut list = paper::entries(rng.pick::<&str>(&texts));
-            let add = rng.below(200) as u16;
-            for e in &mut list {
-                if matches!(e.kind, 20 | 25) {
-                    e.a += add;
-                }
-            }
-            bytes_of(&list)
-        }
-        _ => {
-            // 6: variables, holds (together or nested), cases, need.
-            let mut list = Vec::new();
-            let put = |list: &mut Vec<Entry>, kind, a, b| list.push(Entry { kind, a, b });
-            let inside = rng.chance(40);
-            let holds = 15 + rng.below(4);
-            let root_extra = rng.below(2) as u16;
-            match rng.below(4) {
-                0 => {
-                    let count = 31 + rng.below(4) as u16;
-                    put(&mut list, 1, count, 0);
-                    for i in 0..count {
-                        put(&mut list, 10, i, 1 + (i % 3) as i32);
-                    }
-                }
-                1 if inside => {
-                    put(&mut list, 1, 1 + root_extra, 0);
-                    if root_extra == 1 {
-                        put(&mut list, 14, 3, 0);
-                    }
-                    put(&mut list, 12, 9, 0);
-                    put(&mut list, 1, holds as u16, 0);
-                    for _ in 0..holds {
-                        put(&mut list, 14, rng.below(64) as u16, 0);
-                    }
-                }
-                1 => {
-                    put(&mut list, 1, holds as u16, 0);
-                    for _ in 0..holds {
-                        put(&mut list, 14, rng.below(64) as u16, 0);
-                    }
-                }
-                2 => {
-                    let outer = 1 + rng.below(holds - 1);
-                    put(&mut list, 1, outer as u16, 1);
-                    for _ in 0..outer {
-                        put(&mut list, 14, rng.below(64) as u16, 0);
-                    }
-                    let statement = rng.chance(50);
-                    if statement {
-                        put(&mut list, 1, (holds - outer) as u16, 0);
-                    } else {
-                        put(&mut list, 26, 0, 0);
-                        put(&mut list, 53, (holds - outer) as u16, 0);
-                    }
-                    for _ in 0..holds - outer {
-                        put(&mut list, 14, rng.below(64) as u16, 0);
-                    }
-                    if !statement {
-                        put(&mut list, 41, 0, 1);
-                    }
-                }
-                _ => {
-                    // `record of eight` nested in its last value needs seven more each time:
-                    // 1 + 7 × 4 = 29 for four; the rest by + on the right.
-                    let pluses = 2 + rng.below(4);
-                    put(&mut list, 1, 1, 1);
-                    put(&mut list, 12, 1, 256 * 8 + 1);
-                    for i in 0..8 {
-                        put(&mut list, 10, i, 1);
-                    }
-                    put(&mut list, 40, 0, 1);
-                    put(&mut list, 28, 0, 0);
-                    put(&mut list, 40, 0, 1);
-                    for _ in 0..4 {
-                        put(&mut list, 45, 1, 8);
-                        for i in 0..7 {
-                            put(&mut list, 40, 0, i);
-                        }
-                    }
-                    for _ in 0..pluses {
-                        put(&mut list, 49, 1, 0);
-                        put(&mut list, 40, 0, 1);
-                    }
-                    put(&mut list, 40, 0, 1);
-                }
-            }
-            bytes_of(&list)
-        }
-    }
-}
-
-/// A table of at most about `most` entries that the judge gives this number (0: accepts).
-pub fn judged_table(rng: &mut Rng, number: u8, most: usize) -> Vec<u8> {
-    for _ in 0..60 {
-        let size = 3 + rng.below(most);
-        let made = plan(rng, size);
-        let valid = write_tree(&program(rng, made));
-        if valid.len() > most {
-            continue;
-        }
-        let bytes = if number == 0 && rng.chance(70) {
-            bytes_of(&valid)
-        } else if number == 6 || (number != 0 && rng.chance(12)) {
-            purposeful(rng, number)
-        } else {
-            damaged_table(rng, &valid)
-        };
-        if number_of(&bytes) == number {
-            return bytes;
-        }
-    }
-    loop {
-        let bytes = if number == 0 { paper::table("1 0 0") } else { purposeful(rng, number) };
-        if number_of(&bytes) == number {
-            return bytes;
-        }
-    }
-}
-
-fn number_of(bytes: &[u8]) -> u8 {
-    match judge_table(bytes) {
-        Ok(_) => 0,
-        Err(refusal) => refusal.number,
     }
 }

@@ -2,7 +2,7 @@
 //! limits, one that judges names and types; no tree is built, the names in sight stand in arrays. It is
 //! what the proved check is measured against; the tests hold it, too, against the readable one.
 
-use crate::table::{MOST_BYTES, MOST_CLASSES, MOST_DEPTH, MOST_PROCEDURES};
+use crate::evaluator::table::{MOST_BYTES, MOST_CLASSES, MOST_DEPTH, MOST_PROCEDURES};
 
 /// A refusal's number and place.
 type Refused = (u8, usize);

@@ -1,15 +1,15 @@
-//! Cases at the edges: tables and macros just within a limit or just past it, programs in which
+//! Edge cases: tables and macros just within a limit or just past it, programs in which
 //! each operator decides on operands that are nearly equal, states with one thing out of place.
 //! Random programs come here too seldom.
 
-use crate::code::{judge_macro, write_macro, Body, Instr, Loaded, Macro, Shape};
-use crate::gen_state::reached;
-use crate::machine::State;
-use crate::paper::{body, code, shape};
-use crate::rng::Rng;
-use crate::state::encode;
-use crate::table::{bytes_of, Entry};
-use crate::values::Value;
+use crate::evaluator::code::{judge_macro, write_macro, Body, Instr, Loaded, Macro, Shape};
+use crate::evaluator::machine::State;
+use crate::evaluator::state::encode;
+use crate::evaluator::table::{bytes_of, Entry};
+use crate::evaluator::values::Value;
+use super::notation::{body, code, shape};
+use super::rng::Rng;
+use super::states::reached;
 
 fn entry(kind: u16, a: u16, b: i32) -> Entry {
     Entry { kind, a, b }
@@ -358,7 +358,7 @@ fn many_parameters(rng: &mut Rng) -> Macro {
 // Runs.
 
 /// A root and a procedure that calls itself for ever, each with so many cells, and with so many holds and operands at its call.
-pub fn spiral(cells: usize, holds: usize, operands: usize) -> Macro {
+pub fn endless_recursion(cells: usize, holds: usize, operands: usize) -> Macro {
     let level: String = (0..holds).map(|g| format!("17 0 {},", 63 - g)).chain((0..operands).map(|n| format!("1 0 {n},"))).collect();
     let body_text = format!("{level} 10 0 1, 20 0 0");
     let first = (holds + operands + 2) as u16;
@@ -371,7 +371,7 @@ pub fn spiral(cells: usize, holds: usize, operands: usize) -> Macro {
 }
 
 /// A root that makes records for ever, each of so many integers and a reference to the one before.
-pub fn chain(integers: usize) -> Macro {
+pub fn endless_records(integers: usize) -> Macro {
     let mut fields = vec![1; integers];
     fields.push(16);
     let pushes: String = (0..integers).map(|n| format!("1 0 {n},")).collect();
@@ -384,7 +384,7 @@ pub fn chain(integers: usize) -> Macro {
 }
 
 /// A root that counts for ever, with a hold open; from time to time a set tells how far it is.
-pub fn counter(every: i32) -> Macro {
+pub fn endless_counter(every: i32) -> Macro {
     Macro {
         classes: Vec::new(),
         bodies: vec![body(0, 0, 0, &[1])],
@@ -399,9 +399,9 @@ pub fn counter(every: i32) -> Macro {
 /// A macro that goes on for long: it reaches the limits of a run, or counts.
 pub fn long_macro(rng: &mut Rng) -> Macro {
     match rng.below(4) {
-        0 => spiral(rng.below(33), rng.below(17), rng.below(33)),
-        1 => chain(rng.below(8)),
-        2 => counter(1 + rng.below(3_000) as i32),
+        0 => endless_recursion(rng.below(33), rng.below(17), rng.below(33)),
+        1 => endless_records(rng.below(8)),
+        2 => endless_counter(1 + rng.below(3_000) as i32),
         _ => deep_macro().code,
     }
 }

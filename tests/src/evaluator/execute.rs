@@ -4,9 +4,9 @@
 
 use std::collections::HashMap;
 
-use crate::answer::{Event, Item};
-use crate::table::*;
-use crate::values::{binary, fader_range, initial, set_range, unary, Trouble, Type, Value};
+use super::answer::{Event, Item};
+use super::table::*;
+use super::values::{binary, fader_range, initial, set_range, unary, Trouble, Type, Value};
 
 /// Where an execution is left, if it has not ended by then.
 #[derive(Clone, Copy, Debug)]

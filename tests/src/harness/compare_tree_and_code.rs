@@ -3,13 +3,13 @@
 
 use std::collections::HashMap;
 
-use crate::answer::{Event, Item};
-use crate::code::{judge_macro, write_macro, Loaded};
-use crate::compile::compile;
-use crate::execute::{execute, Budget, Execution};
-use crate::machine::{fresh, step, State};
-use crate::state::{decode, encode, sound};
-use crate::table::Tree;
+use crate::evaluator::answer::{Event, Item};
+use crate::evaluator::code::{judge_macro, write_macro, Loaded};
+use crate::evaluator::compiler::compile;
+use crate::evaluator::execute::{execute, Budget, Execution};
+use crate::evaluator::machine::{fresh, step, State};
+use crate::evaluator::state::{decode, encode, sound};
+use crate::evaluator::table::Tree;
 
 /// What the plain machine did in so many steps.
 #[derive(Clone, Debug, PartialEq)]
@@ -19,23 +19,23 @@ pub struct Walk {
     pub steps: u64,
 }
 
-/// How a walk looks at the states it passes.
+/// What a walk checks of the states it passes.
 #[derive(Clone, Copy, PartialEq)]
-pub enum Look {
-    Not,
+pub enum StateChecks {
+    None,
     /// Every state is sound, and its bytes give it back.
-    Every,
+    EveryState,
 }
 
 /// Steps from the fresh state until the end, so many steps, or more than so many items. Fails
 /// loudly on a stuck state, on an unsound one, and on holds that an end leaves open.
-pub fn walk(loaded: &Loaded, oracle: &mut dyn FnMut(usize, u8) -> u8, most_steps: u64, most_items: usize, look: Look) -> Result<Walk, String> {
+pub fn walk(loaded: &Loaded, oracle: &mut dyn FnMut(usize, u8) -> u8, most_steps: u64, most_items: usize, checks: StateChecks) -> Result<Walk, String> {
     let mut state = fresh(&loaded.code);
     let mut items = Vec::new();
     let mut readings = 0;
     let mut steps = 0;
     loop {
-        if look == Look::Every {
+        if checks == StateChecks::EveryState {
             if !sound(loaded, &state) {
                 return Err(format!("unsound after {steps} steps: {state:?}"));
             }
@@ -79,7 +79,7 @@ pub fn balanced(items: &[Item]) -> Result<(), String> {
 }
 
 /// The execution of an accepted tree, once it has been found to agree with its compiled code.
-pub fn both(tree: &Tree, oracle: &dyn Fn(usize, u8) -> u8, budget: Budget, look: Look) -> Result<(Execution, Walk), String> {
+pub fn agreed_execution(tree: &Tree, oracle: &dyn Fn(usize, u8) -> u8, budget: Budget, checks: StateChecks) -> Result<(Execution, Walk), String> {
     let m = compile(tree);
     let loaded = judge_macro(&write_macro(&m)).map_err(|r| format!("the compiled macro is refused: {r:?}"))?;
     if loaded.code != m {
@@ -89,7 +89,7 @@ pub fn both(tree: &Tree, oracle: &dyn Fn(usize, u8) -> u8, budget: Budget, look:
     // Between two spendings of fuel no instruction is done twice, so this many steps are enough.
     let enough = (x.fuel + 2) * (m.code.len() as u64 + 2) + 1_000;
     let most_items = if x.end.is_some() { usize::MAX } else { x.items.len() };
-    let w = walk(&loaded, &mut |k, n| oracle(k, n), enough, most_items, look)?;
+    let w = walk(&loaded, &mut |k, n| oracle(k, n), enough, most_items, checks)?;
     if x.end.is_some() {
         if w.items != x.items || w.end != x.end {
             return Err(format!("tree {:?} {:?}, code {:?} {:?}", x.end, x.items, w.end, w.items));

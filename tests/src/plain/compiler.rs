@@ -2,7 +2,7 @@
 //! code of every part ends, and one that writes. No tree is built. It is what the proved compiler is measured against, and since it
 //! takes the same decisions (crates/compile_code/specs/Compile), its bytes must be the same: the tests hold it to that.
 
-use crate::plain_check::{accepted, entry, Entry};
+use super::check::{accepted, entry, Entry};
 
 const INTEGER: u8 = 1;
 const LOGICAL: u8 = 2;

@@ -1,9 +1,9 @@
 //! The plain machine of paper 01, "Running": one step at a time on a decoded macro, every
 //! value with its type, every way to be stuck named. Nothing here calls the loading check.
 
-use crate::answer::{Answer, Event, Item, Refusal};
-use crate::code::{byte_of_type, type_of_byte, Macro};
-use crate::values::{binary, fader_range, initial, is_binary, is_unary, set_range, unary, Trouble, Type, Value};
+use super::answer::{Answer, Event, Item, Refusal};
+use super::code::{byte_of_type, type_of_byte, Macro};
+use super::values::{binary, fader_range, initial, is_binary, is_unary, set_range, unary, Trouble, Type, Value};
 
 /// "activations from the root up: body, address, cells, working stack, holds, each value
 /// with its type"

@@ -1,11 +1,11 @@
-//! Tables that keep to the layout and know nothing of names and types: few names, so that they hide each
-//! other, come twice and stand for the wrong thing. And tables that are hardly more than noise.
+//! Tables that keep to the layout, made without regard to names and types: few names, so that they hide each
+//! other, come twice and stand for the wrong thing. And random entries of known kinds, which seldom make a tree.
 
-use crate::gen::KINDS;
-use crate::rng::Rng;
-use crate::table::{bytes_of, Entry};
+use crate::evaluator::table::{bytes_of, Entry};
+use super::entries::KINDS;
+use super::rng::Rng;
 
-struct Blind<'r> {
+struct Untyped<'r> {
     rng: &'r mut Rng,
     list: Vec<Entry>,
     /// How many names there are.
@@ -14,11 +14,11 @@ struct Blind<'r> {
 }
 
 /// A tree of about so many entries, of which one now and then is spoilt.
-pub fn blind_table(rng: &mut Rng, entries: usize) -> Vec<u8> {
+pub fn untyped_table(rng: &mut Rng, entries: usize) -> Vec<u8> {
     let names = 2 + rng.below(7);
-    let mut blind = Blind { rng, list: Vec::new(), names, left: entries as i64 };
-    blind.root();
-    let mut list = blind.list;
+    let mut maker = Untyped { rng, list: Vec::new(), names, left: entries as i64 };
+    maker.root();
+    let mut list = maker.list;
     if rng.chance(8) {
         let k = rng.below(list.len());
         list[k] = some_entry(rng);
@@ -27,7 +27,7 @@ pub fn blind_table(rng: &mut Rng, entries: usize) -> Vec<u8> {
 }
 
 /// Entries of known kinds, one after the other.
-pub fn loose_table(rng: &mut Rng) -> Vec<u8> {
+pub fn random_entries(rng: &mut Rng) -> Vec<u8> {
     let mut list = vec![Entry { kind: 1, a: rng.below(3) as u16, b: rng.below(4) as i32 }];
     for _ in 0..rng.below(30) {
         list.push(some_entry(rng));
@@ -41,7 +41,7 @@ fn some_entry(rng: &mut Rng) -> Entry {
     Entry { kind: *rng.pick(&KINDS), a, b }
 }
 
-impl Blind<'_> {
+impl Untyped<'_> {
     fn put(&mut self, kind: u16, a: u16, b: i32) {
         self.left -= 1;
         self.list.push(Entry { kind, a, b });

@@ -1,7 +1,7 @@
 //! Tables of 2,048 entries that make a check's lookups longest, for the tests and the benchmark.
 
-use crate::paper::entries;
-use crate::table::{bytes_of, Entry};
+use crate::evaluator::table::{bytes_of, Entry};
+use super::notation::entries;
 
 const MOST: usize = 2_048;
 
@@ -10,7 +10,7 @@ fn entry(kind: u16, a: usize, b: usize) -> Entry {
 }
 
 /// What each is, its bytes, and the number of its verdict.
-pub fn worst_tables() -> [(&'static str, Vec<u8>, u8); 6] {
+pub fn worst_case_tables() -> [(&'static str, Vec<u8>, u8); 6] {
     [
         ("labels", bytes_of(&labels(MOST - 1)), 0),
         ("gotos to the first", bytes_of(&labels(MOST / 2)), 0),

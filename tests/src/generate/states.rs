@@ -1,10 +1,10 @@
 //! Generated run states: reached by steps of the plain machine, or made up, and then damaged
 //! field by field and byte by byte, so that sound and unsound ones are both frequent.
 
-use crate::code::{Loaded, Macro};
-use crate::machine::{fresh, step, State};
-use crate::rng::Rng;
-use crate::state::{encode, LENGTH};
+use crate::evaluator::code::{Loaded, Macro};
+use crate::evaluator::machine::{fresh, step, State};
+use crate::evaluator::state::{encode, LENGTH};
+use super::rng::Rng;
 
 /// How much there is to a state: activations, records, holds and operands.
 fn richness(state: &State) -> usize {
