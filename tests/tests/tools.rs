@@ -19,7 +19,7 @@ use second::harness::setup::{case_count, with_large_stack};
 
 /// Table to text to table is the identity on tables; and the text, made again, is the same.
 fn goes_round(bytes: &[u8]) {
-    if bytes.len() % 8 != 0 {
+    if !bytes.len().is_multiple_of(8) {
         assert!(to_text(bytes).is_err());
         return;
     }

@@ -162,7 +162,7 @@ fn execution_case(rng: &mut Rng, i: usize) -> String {
         _ => ENDS[i % ENDS.len()],
     };
     for attempt in 0.. {
-        let size = if i % 3 == 0 { 5 + rng.below(15) } else { 10 + rng.below(35) };
+        let size = if i.is_multiple_of(3) { 5 + rng.below(15) } else { 10 + rng.below(35) };
         let mut made = plan(rng, size);
         made.provoke = if wanted >= 20 { Some(wanted) } else { None };
         made.forever = if forever { 60 } else { 0 };
@@ -253,7 +253,7 @@ fn run_case(rng: &mut Rng, i: usize) -> String {
         let mut state = fresh(&loaded.code);
         let mut answers = Vec::new();
         let mut steps = 0;
-        for mut r in some_runs(rng, 8, if i % 4 == 0 { 65_535 } else { 60 }) {
+        for mut r in some_runs(rng, 8, if i.is_multiple_of(4) { 65_535 } else { 60 }) {
             // Not too many ends that are only answered again.
             if matches!(state, State::Ended { .. }) && rng.chance(60) {
                 break;
@@ -289,7 +289,7 @@ fn state_case(rng: &mut Rng, i: usize) -> String {
         let bytes = edge_state(rng, &loaded);
         return held(&loaded, &bytes);
     }
-    let wanted = i % 2 == 0;
+    let wanted = i.is_multiple_of(2);
     loop {
         let loaded = small_macro(rng);
         let bytes = state_bytes(rng, &loaded, 40);

@@ -86,7 +86,7 @@ fn words(rng: &mut Rng, ty: Type, edges: usize, random: usize) -> Vec<u32> {
     }
     let mut list: Vec<u32> = EDGES[..edges].iter().map(|n| *n as u32).collect();
     for _ in 0..random {
-        list.push(rng.next() as u32);
+        list.push(rng.next_u64() as u32);
     }
     list
 }
@@ -132,11 +132,11 @@ fn all() -> Vec<Vector> {
                     list.push(Vector { operator, ty, second, x: *rng.pick(&xs), y: *y });
                 }
                 for _ in 0..10 {
-                    list.push(Vector { operator, ty, second, x: rng.next() as u32, y: rng.next() as u32 });
+                    list.push(Vector { operator, ty, second, x: rng.next_u64() as u32, y: rng.next_u64() as u32 });
                 }
                 if matches!(operator, 14 | 15) {
                     for count in -34..=34 {
-                        list.push(Vector { operator, ty, second, x: rng.next() as u32 | 0x8000_0001, y: count as u32 });
+                        list.push(Vector { operator, ty, second, x: rng.next_u64() as u32 | 0x8000_0001, y: count as u32 });
                     }
                 }
                 if matches!(operator, 1..=5) {

@@ -52,17 +52,6 @@ impl Macro {
             None => self.code.len(),
         }
     }
-
-    /// The body in which an address lies.
-    pub fn body_of(&self, address: usize) -> usize {
-        let mut found = 0;
-        for (i, body) in self.bodies.iter().enumerate() {
-            if body.first as usize <= address {
-                found = i;
-            }
-        }
-        found
-    }
 }
 
 /// "A type byte is 1, 2, 3, or 16 + class number."
@@ -207,7 +196,7 @@ pub fn read_macro(bytes: &[u8]) -> Result<Macro, Refusal> {
     let bodies = r.u8()? as usize;
     let instructions = r.u16()? as usize;
     let shapes = r.u16()? as usize;
-    if classes > 16 || bodies < 1 || bodies > 64 {
+    if classes > 16 || !(1..=64).contains(&bodies) {
         return r.cut();
     }
     let mut m = Macro { classes: Vec::new(), bodies: Vec::new(), code: Vec::new(), shapes: Vec::new() };

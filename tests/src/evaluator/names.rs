@@ -4,7 +4,7 @@
 //! that has a fault, and among that entry's faults the least number." So the walk goes in
 //! postorder, stops at the first fault, and tests 3 before 4 before 5 at each entry.
 
-use std::collections::{HashMap, HashSet};
+use std::collections::{hash_map, HashMap, HashSet};
 
 use super::answer::{refuse, Refusal};
 use super::limits::judge_limits;
@@ -64,10 +64,13 @@ impl<'t> Names<'t> {
     fn open(&mut self, sort: ScopeSort, definitions: Vec<(usize, Name, Meaning<'t>)>) {
         let mut names = HashMap::new();
         for (at, name, meaning) in definitions {
-            if names.contains_key(&name) {
-                self.twice.insert(at);
-            } else {
-                names.insert(name, meaning);
+            match names.entry(name) {
+                hash_map::Entry::Vacant(place) => {
+                    place.insert(meaning);
+                }
+                hash_map::Entry::Occupied(_) => {
+                    self.twice.insert(at);
+                }
             }
         }
         self.scopes.push(Scope { sort, names });

@@ -209,7 +209,7 @@ pub fn code_of_type(ty: Type) -> i32 {
 /// Refusals 1 and 2, or the tree.
 pub fn read_table(bytes: &[u8]) -> Result<Tree, Refusal> {
     // 1: "empty, over 16,384 bytes, or not in eights"
-    if bytes.is_empty() || bytes.len() > MOST_BYTES || bytes.len() % 8 != 0 {
+    if bytes.is_empty() || bytes.len() > MOST_BYTES || !bytes.len().is_multiple_of(8) {
         return refuse(1, 0);
     }
     let entries = entries_of(bytes);

@@ -283,7 +283,7 @@ impl Make<'_> {
 
     fn number(&mut self) -> i32 {
         match self.rng.below(10) {
-            0 => self.rng.next() as i32,
+            0 => self.rng.next_u64() as i32,
             1 | 2 => *self.rng.pick(&EDGES),
             _ => self.rng.between(0, 70) as i32,
         }
@@ -704,7 +704,7 @@ fn damage_records(rng: &mut Rng, m: &Macro) -> Vec<u8> {
             records.swap(i, j);
         }
         3 => {
-            let mark: &[u8; 2] = *rng.pick(&[b"QQ", b"HD", b"CL", b"BD", b"IN", b"SH", b"ZZ", b"in"]);
+            let mark = *rng.pick(&[b"QQ", b"HD", b"CL", b"BD", b"IN", b"SH", b"ZZ", b"in"]);
             records[i][0] = mark[0];
             records[i][1] = mark[1];
         }

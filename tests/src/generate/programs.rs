@@ -894,7 +894,7 @@ impl<'r> Generator<'r> {
     fn number(&mut self) -> i32 {
         if self.plan.wild && self.rng.chance(40) {
             if self.rng.chance(20) {
-                self.rng.next() as i32
+                self.rng.next_u64() as i32
             } else {
                 *self.rng.pick(&EDGES)
             }

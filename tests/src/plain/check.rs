@@ -17,7 +17,7 @@ pub fn check(table: &[u8]) -> Refused {
 
 /// The entries of each entry's tree, where the table is accepted.
 pub(crate) fn accepted(table: &[u8]) -> Result<Vec<u16>, Refused> {
-    if table.is_empty() || table.len() > MOST_BYTES || table.len() % 8 != 0 {
+    if table.is_empty() || table.len() > MOST_BYTES || !table.len().is_multiple_of(8) {
         return Err((1, 0));
     }
     let mut reader = Reader::new(table);

@@ -199,7 +199,7 @@ pub(crate) fn walk(l: &[u8], r: &Records, mut look: impl FnMut(usize, usize, &St
         }
         look(i, k, &s);
         let at = r.base + 8 * i;
-        match op(l, r, k, end, &mut s, l[at + 2], l[at + 3], word(l, at + 4)) {
+        match op(l, r, k, end, &mut s, (l[at + 2], l[at + 3], word(l, at + 4))) {
             None => return Some(i),
             Some(on) => {
                 if on && i + 1 == end || !on && i + 1 != end && r.shapes[i + 1] == 0 {
@@ -213,8 +213,7 @@ pub(crate) fn walk(l: &[u8], r: &Records, mut look: impl FnMut(usize, usize, &St
 }
 
 /// None for a fault, else whether control goes on to the next address.
-#[allow(clippy::too_many_arguments)]
-fn op(l: &[u8], r: &Records, k: usize, end: usize, s: &mut Stack, op: u8, a: u8, b: u32) -> Option<bool> {
+fn op(l: &[u8], r: &Records, k: usize, end: usize, s: &mut Stack, (op, a, b): (u8, u8, u32)) -> Option<bool> {
     let plain = a == 0 && b == 0;
     let body = r.bodies[k];
     let lands = |s: &Stack| {
