@@ -9,9 +9,9 @@ use second::evaluator::execute::{budget, execute};
 use second::evaluator::machine::{fresh, run, State};
 use second::evaluator::names::judge_table;
 use second::evaluator::state::{decode, encode, run_bytes, sound, start, LENGTH};
-use second::evaluator::table::{bytes_of, read_table, write_tree};
+use second::evaluator::table::{bytes_of, read_table, write_tree, Entry};
 use second::generate::macros::{good_macro, some_runs, unfiltered_macro, Size};
-use second::generate::programs::{plan, program, unfiltered_program};
+use second::generate::programs::{plan, program, unfiltered_program, Plan};
 use second::generate::rng::Rng;
 use second::harness::compare_tree_and_code::{agreed_execution, walk, StateChecks};
 use second::harness::setup::{case_count, with_large_stack};
@@ -123,6 +123,35 @@ fn generators_make_mostly_valid_things() {
         println!("accepted {accepted}, passed {passed} of 400");
         assert!(accepted > 280, "{accepted} of 400");
         assert!(passed > 380, "{passed} of 400");
+    });
+}
+
+/// A loop that is to end by 27 makes records of any class, not always of the first.
+#[test]
+fn provoked_records_are_of_any_class() {
+    with_large_stack(|| {
+        // How often such a loop makes records of the class that was made first, second, and so on.
+        let mut made = [0usize; 4];
+        for seed in 0..1_000 {
+            let mut rng = Rng::new(9_000_000 + seed);
+            let tree = program(&mut rng, Plan { entries: 200, wild: false, forever: 0, provoke: Some(27) });
+            let list = write_tree(&tree);
+            let head: Vec<Entry> = tree.root.head.iter().map(|declaration| list[declaration.at]).collect();
+            // Where the head has been shuffled, the classes do not stand first and in their order.
+            let classes = head.iter().filter(|e| e.kind == 11).count();
+            if head.len() < classes + 5 || head[..classes].iter().any(|e| e.kind != 11) {
+                continue;
+            }
+            for loops in list.windows(5) {
+                // while true do v := record ..., or assert record ... = null
+                if matches!([0, 1, 2, 3, 4].map(|k| loops[k].kind), [24, 41, 21, 44, 47] | [24, 41, 26, 49, 47]) {
+                    let class = head.iter().position(|e| *e == Entry { kind: 11, a: loops[4].a, b: e.b });
+                    made[class.expect("the class is declared")] += 1;
+                }
+            }
+        }
+        println!("{made:?}");
+        assert!(made.iter().all(|n| *n > 20), "{made:?}");
     });
 }
 

@@ -868,22 +868,24 @@ impl<'r> Generator<'r> {
                 })
             }
             27 => {
-                // A loop that makes records.
-                for c in self.seen_classes() {
-                    let class = self.classes[c].name;
-                    let names = self.variables_of(Type::Reference(class), true);
-                    let types: Vec<Type> = self.classes[c].fields.iter().map(|f| f.1).collect();
-                    let values: Vec<Expr> = types.iter().map(|ty| self.leaf(*ty)).collect();
-                    let record = expr(ExprKind::Record(class, values));
-                    let inside = if names.is_empty() {
-                        let null = expr(ExprKind::Null(class));
-                        stmt(StmtKind::Assert(binary(11, record, null)))
-                    } else {
-                        stmt(StmtKind::Assign(variable(names[0]), record))
-                    };
-                    return Some(stmt(StmtKind::While(expr(ExprKind::Logical(true)), Box::new(inside))));
+                // A loop that makes records of some class.
+                let classes = self.seen_classes();
+                if classes.is_empty() {
+                    return None;
                 }
-                None
+                let c = *self.rng.pick(&classes);
+                let class = self.classes[c].name;
+                let names = self.variables_of(Type::Reference(class), true);
+                let types: Vec<Type> = self.classes[c].fields.iter().map(|f| f.1).collect();
+                let values: Vec<Expr> = types.iter().map(|ty| self.leaf(*ty)).collect();
+                let record = expr(ExprKind::Record(class, values));
+                let inside = if names.is_empty() {
+                    let null = expr(ExprKind::Null(class));
+                    stmt(StmtKind::Assert(binary(11, record, null)))
+                } else {
+                    stmt(StmtKind::Assign(variable(*self.rng.pick(&names)), record))
+                };
+                Some(stmt(StmtKind::While(expr(ExprKind::Logical(true)), Box::new(inside))))
             }
             _ => None,
         }
