@@ -2,7 +2,7 @@
 //! to a macro that passes; no passed macro is ever stuck; every state passed is sound and its
 //! bytes give it back. The number of cases follows CUE_CASES.
 
-use second::evaluator::answer::{Answer, Event, Item};
+use second::evaluator::answer::Answer;
 use second::evaluator::code::{judge_macro, write_macro};
 use second::evaluator::compiler::compile;
 use second::evaluator::execute::{budget, execute};
@@ -10,25 +10,15 @@ use second::evaluator::machine::{fresh, run, State};
 use second::evaluator::names::judge_table;
 use second::evaluator::state::{decode, encode, run_bytes, sound, start, LENGTH};
 use second::evaluator::table::{bytes_of, read_table, write_tree, Entry};
-use second::generate::macros::{good_macro, some_runs, unfiltered_macro, Size};
-use second::generate::programs::{plan, program, unfiltered_program, Plan};
+use second::generate::macros::{good_macro, unfiltered_macro, Size};
+use second::generate::programs::{plan, program, some_program, some_size, unfiltered_program, Plan};
 use second::generate::rng::Rng;
+use second::generate::runs::{oracle, some_runs};
 use second::harness::compare_tree_and_code::{agreed_execution, walk, StateChecks};
 use second::harness::setup::{case_count, with_large_stack};
 
-fn oracle(seed: u8) -> impl Fn(usize, u8) -> u8 {
-    move |k, n| (seed as usize + 31 * k + 7 * n as usize) as u8
-}
-
-/// All sizes, the small ones more often.
-fn some_size(rng: &mut Rng) -> usize {
-    match rng.below(20) {
-        0..=9 => 5 + rng.below(36),
-        10..=15 => 40 + rng.below(160),
-        16..=18 => 200 + rng.below(600),
-        _ => 800 + rng.below(1200),
-    }
-}
+/// How many percent of the programs are small, middle and large; the others are very large.
+const SIZES: [usize; 3] = [50, 30, 15];
 
 #[test]
 fn tree_and_code_agree() {
@@ -39,9 +29,8 @@ fn tree_and_code_agree() {
         let count = case_count(20_000);
         for seed in 0..count {
             let mut rng = Rng::new(seed as u64);
-            let size = some_size(&mut rng);
-            let made = plan(&mut rng, size);
-            let tree = program(&mut rng, made);
+            let size = some_size(&mut rng, SIZES);
+            let tree = some_program(&mut rng, size);
             largest = largest.max(write_tree(&tree).len());
             match agreed_execution(&tree, &oracle(rng.byte()), budget(2_000), StateChecks::None) {
                 Ok((x, _)) => match x.end {
@@ -69,8 +58,7 @@ fn every_state_of_a_program_is_sound() {
         for seed in 0..case_count(2_000) {
             let mut rng = Rng::new(1_000_000 + seed as u64);
             let size = 5 + rng.below(120);
-            let made = plan(&mut rng, size);
-            let tree = program(&mut rng, made);
+            let tree = some_program(&mut rng, size);
             if let Err(why) = agreed_execution(&tree, &oracle(rng.byte()), budget(30), StateChecks::EveryState) {
                 panic!("program {seed}: {why}");
             }
@@ -113,7 +101,7 @@ fn generators_make_mostly_valid_things() {
         let mut passed = 0;
         for seed in 0..400 {
             let mut rng = Rng::new(3_000_000 + seed);
-            let size = some_size(&mut rng);
+            let size = some_size(&mut rng, SIZES);
             let made = plan(&mut rng, size);
             let tree = unfiltered_program(&mut rng, made);
             accepted += judge_table(&bytes_of(&write_tree(&tree))).is_ok() as usize;
@@ -160,9 +148,8 @@ fn tables_read_back_as_they_were_written() {
     with_large_stack(|| {
         for seed in 0..case_count(300) {
             let mut rng = Rng::new(4_000_000 + seed as u64);
-            let size = some_size(&mut rng);
-            let made = plan(&mut rng, size);
-            let table = bytes_of(&write_tree(&program(&mut rng, made)));
+            let size = some_size(&mut rng, SIZES);
+            let table = bytes_of(&write_tree(&some_program(&mut rng, size)));
             let tree = read_table(&table).unwrap();
             assert_eq!(bytes_of(&write_tree(&tree)), table);
         }
@@ -181,8 +168,7 @@ fn runs_on_bytes_are_runs_of_the_machine() {
                 good_macro(&mut rng, Size { bodies: 4, instructions: 25, classes: 3 })
             } else {
                 let size = 5 + rng.below(60);
-                let made = plan(&mut rng, size);
-                compile(&program(&mut rng, made))
+                compile(&some_program(&mut rng, size))
             };
             let code = write_macro(&m);
             let loaded = judge_macro(&code).unwrap();
@@ -228,8 +214,7 @@ fn runs_give_the_events_of_the_tree() {
         for seed in 0..count {
             let mut rng = Rng::new(6_000_000 + seed as u64);
             let size = 5 + rng.below(80);
-            let made = plan(&mut rng, size);
-            let tree = program(&mut rng, made);
+            let tree = some_program(&mut rng, size);
             let m = compile(&tree);
             let bank: Vec<u8> = (0..64).map(|_| rng.byte()).collect();
             let mut state = fresh(&m);
@@ -247,14 +232,7 @@ fn runs_give_the_events_of_the_tree() {
                 }
             }
             let x = execute(&tree, &mut |_, n| bank[n as usize - 1], budget(20_000));
-            let said: Vec<Event> = x
-                .items
-                .iter()
-                .filter_map(|item| match item {
-                    Item::Event(event) => Some(*event),
-                    Item::Reading { .. } => None,
-                })
-                .collect();
+            let said = x.events();
             if end.is_some() {
                 ended += 1;
                 assert_eq!((&events, end), (&said, x.end), "program {seed}");

@@ -7,7 +7,7 @@ use second::generate::damaged_entries::damaged_table;
 use second::generate::damaged_structure::reshaped_table;
 use second::generate::edge_cases::edge_table;
 use second::generate::judged_tables::refused_table;
-use second::generate::programs::{plan, program};
+use second::generate::programs::some_program;
 use second::generate::rng::Rng;
 use second::generate::untyped_tables::{untyped_table, random_entries};
 use second::harness::setup::{case_count, with_large_stack};
@@ -20,8 +20,7 @@ fn valid_table(rng: &mut Rng) -> Vec<Entry> {
         1..=40 => 60 + rng.below(140),
         _ => 4 + rng.below(56),
     };
-    let made = plan(rng, size);
-    write_tree(&program(rng, made))
+    write_tree(&some_program(rng, size))
 }
 
 /// How often each number was given, 0 for accepted, and how many places were not among the first entries.

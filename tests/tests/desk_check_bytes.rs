@@ -6,7 +6,7 @@ use second::evaluator::table::{bytes_of, write_tree, Entry, MOST_BYTES};
 use second::generate::damaged_structure::{double, parts, put_before, recount, remove, Count, WRONG_COUNTS};
 use second::generate::entries::KINDS;
 use second::generate::notation::{entries, table, LISTING_EXAMPLE};
-use second::generate::programs::{plan, program};
+use second::generate::programs::some_program;
 use second::generate::rng::Rng;
 use second::generate::worst_case_tables::worst_case_tables;
 use second::harness::setup::{case_count, with_large_stack};
@@ -191,8 +191,7 @@ fn tables_that_end_anywhere() {
         ends_anywhere(&table(LISTING_EXAMPLE));
         let mut rng = Rng::new(5);
         for size in [5, 20, 60, 200, 200] {
-            let made = plan(&mut rng, size);
-            ends_anywhere(&bytes_of(&write_tree(&program(&mut rng, made))));
+            ends_anywhere(&bytes_of(&write_tree(&some_program(&mut rng, size))));
         }
     });
 }

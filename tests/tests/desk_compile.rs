@@ -16,10 +16,10 @@ use second::generate::damaged_entries::damaged_table;
 use second::generate::damaged_structure::reshaped_table;
 use second::generate::edge_cases::{deciding_table, edge_table};
 use second::generate::judged_tables::refused_table;
-use second::generate::macros::some_run;
 use second::generate::notation::table;
-use second::generate::programs::{plan, program};
+use second::generate::programs::{plan, program, some_program, some_size};
 use second::generate::rng::Rng;
+use second::generate::runs::some_run;
 use second::generate::untyped_tables::{untyped_table, random_entries};
 use second::generate::worst_case_tables::worst_case_tables;
 use second::harness::compare_machines::run_along;
@@ -144,14 +144,7 @@ fn as_the_tree(tree: &Tree, list: &Runs) {
     };
     // Every step of the tree that costs fuel takes the machine a step.
     let x = execute(tree, &mut oracle, budget(list.steps + 2));
-    let events: Vec<Event> = x
-        .items
-        .iter()
-        .filter_map(|item| match item {
-            Item::Event(event) => Some(*event),
-            Item::Reading { .. } => None,
-        })
-        .collect();
+    let events = x.events();
     if list.end.is_some() {
         assert_eq!((x.end, &events), (list.end, &list.events));
         assert_eq!(x.items.len(), list.events.len() + list.readings.len());
@@ -216,16 +209,6 @@ impl Spread {
     }
 }
 
-/// All sizes, the small ones more often.
-fn some_size(rng: &mut Rng) -> usize {
-    match rng.below(200) {
-        0..=119 => 5 + rng.below(36),
-        120..=179 => 40 + rng.below(160),
-        180..=197 => 200 + rng.below(600),
-        _ => 800 + rng.below(1_200),
-    }
-}
-
 #[test]
 fn programs_do_what_their_tree_does() {
     with_large_stack(|| {
@@ -236,7 +219,7 @@ fn programs_do_what_their_tree_does() {
             let bytes = match rng.below(20) {
                 0 => deciding_table(&mut rng),
                 _ => {
-                    let size = some_size(&mut rng);
+                    let size = some_size(&mut rng, [60, 30, 9]);
                     let mut made = plan(&mut rng, size);
                     if rng.chance(8) {
                         made.forever = 70;
@@ -291,8 +274,7 @@ fn damaged_tables_as_the_check() {
         for i in 0..count {
             if i % 8 == 0 {
                 let size = 4 + rng.below(56);
-                let made = plan(&mut rng, size);
-                valid = write_tree(&program(&mut rng, made));
+                valid = write_tree(&some_program(&mut rng, size));
             }
             let bytes = match i % 8 {
                 0 => bytes_of(&valid),
@@ -324,8 +306,7 @@ fn every_room() {
         for seed in 0..case_count(2_000) {
             let mut rng = Rng::new(42_000_000 + seed as u64);
             let size = 5 + rng.below(100);
-            let made = plan(&mut rng, size);
-            let bytes = bytes_of(&write_tree(&program(&mut rng, made)));
+            let bytes = bytes_of(&write_tree(&some_program(&mut rng, size)));
             let length = plainly(&bytes).unwrap().len();
             for room in [0, 1, 2, 7, 8, length / 2, length - 9, length - 2, length - 1] {
                 assert_eq!(as_the_check(&bytes, room), 7);

@@ -5,7 +5,7 @@ use std::collections::BTreeSet;
 use std::path::{Path, PathBuf};
 
 use cue_tools::entries::{to_table, to_text};
-use second::evaluator::answer::{Answer, Event, Item};
+use second::evaluator::answer::Answer;
 use second::evaluator::code::{judge_macro, write_macro, Macro};
 use second::evaluator::compiler::compile;
 use second::evaluator::execute::{budget, execute};
@@ -13,6 +13,7 @@ use second::evaluator::machine::{fresh, run};
 use second::evaluator::names::judge_table;
 use second::evaluator::table::Tree;
 use second::generate::notation::{table, LISTING_EXAMPLE};
+use second::harness::listings::event_line;
 use second::harness::setup::with_large_stack;
 use second::harness::verdicts::judged;
 use second::plain;
@@ -53,14 +54,6 @@ fn text_of(name: &str, sort: &str) -> String {
 
 // Listings.
 
-fn event_line(event: &Event) -> String {
-    match event {
-        Event::Set { channel, level } => format!("set {channel} {level}\n"),
-        Event::Hold { group } => format!("hold {group}\n"),
-        Event::Release { group } => format!("release {group}\n"),
-    }
-}
-
 /// The listing of a macro, by whatever answers a run with an allowance.
 fn listing(mut run: impl FnMut(u16) -> Answer) -> String {
     let mut lines = String::new();
@@ -69,7 +62,7 @@ fn listing(mut run: impl FnMut(u16) -> Answer) -> String {
         let answer = run(left as u16);
         left -= answer.numbers()[1];
         match answer {
-            Answer::Event { event, .. } => lines.push_str(&event_line(&event)),
+            Answer::Event { event, .. } => lines += &(event_line(&event) + "\n"),
             Answer::End { code, .. } => return lines + &format!("end {code}\n"),
             Answer::AllowanceUsed { .. } => assert_eq!(left, 0),
             Answer::Refusal(refusal) => panic!("{refusal:?}"),
@@ -86,11 +79,7 @@ fn machine_listing(m: &Macro) -> String {
 /// The events of the tree, more than any machine can answer in the steps of a listing, and the end.
 fn tree_events(tree: &Tree) -> (Vec<String>, Option<u8>) {
     let x = execute(tree, &mut |_, _| 0, budget(LISTED_STEPS + 2));
-    let line = |item: &Item| match item {
-        Item::Event(event) => Some(event_line(event)),
-        Item::Reading { .. } => None,
-    };
-    (x.items.iter().filter_map(line).collect(), x.end)
+    (x.events().iter().map(|event| event_line(event) + "\n").collect(), x.end)
 }
 
 #[test]

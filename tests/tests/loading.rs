@@ -5,6 +5,7 @@ use second::evaluator::code::*;
 use second::generate::macros::{damaged_macro, good_macro, Size};
 use second::generate::notation::{body, code, root_only, shape};
 use second::generate::rng::Rng;
+use second::generate::runs::oracle;
 use second::harness::compare_tree_and_code::{walk, StateChecks};
 use second::harness::setup::{case_count, with_large_stack};
 use second::harness::verdicts::{loaded, loads};
@@ -287,9 +288,7 @@ fn damaged_macros_are_judged() {
                 Ok(l) => {
                     tally[0] += 1;
                     assert_eq!(write_macro(&l.code), bytes);
-                    let seed_byte = rng.byte();
-                    let oracle = &mut |k: usize, n: u8| (seed_byte as usize + 31 * k + 7 * n as usize) as u8;
-                    if let Err(why) = walk(&l, oracle, 60, usize::MAX, StateChecks::EveryState) {
+                    if let Err(why) = walk(&l, &mut oracle(rng.byte()), 60, usize::MAX, StateChecks::EveryState) {
                         panic!("macro {seed}: {why}");
                     }
                 }

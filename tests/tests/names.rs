@@ -5,7 +5,7 @@ use second::evaluator::names::judge_table;
 use second::evaluator::table::{bytes_of, read_table, write_tree};
 use second::generate::damaged_entries::damaged_table;
 use second::generate::judged_tables::{judged_table, refused_table};
-use second::generate::programs::{plan, program};
+use second::generate::programs::some_program;
 use second::generate::rng::Rng;
 use second::harness::setup::{case_count, with_large_stack};
 use second::harness::verdicts::{judged, verdict};
@@ -194,8 +194,7 @@ fn damaged_tables_are_judged() {
         for seed in 0..count {
             let mut rng = Rng::new(8_000_000 + seed as u64);
             let size = 4 + rng.below(60);
-            let made = plan(&mut rng, size);
-            let valid = write_tree(&program(&mut rng, made));
+            let valid = write_tree(&some_program(&mut rng, size));
             let bytes = damaged_table(&mut rng, &valid);
             match judge_table(&bytes) {
                 Ok(tree) => {

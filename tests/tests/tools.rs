@@ -10,7 +10,7 @@ use second::generate::damaged_entries::damaged_table;
 use second::generate::edge_cases::edge_table;
 use second::generate::macros::{damaged_macro, good_macro, Size};
 use second::generate::notation::{body, code, root_only, shape, table, LISTING_EXAMPLE};
-use second::generate::programs::{plan, program};
+use second::generate::programs::some_program;
 use second::generate::rng::Rng;
 use second::generate::untyped_tables::{untyped_table, random_entries};
 use second::harness::setup::{case_count, with_large_stack};
@@ -37,8 +37,7 @@ fn tables_go_to_text_and_back() {
         for i in 0..case_count(10_000) {
             let bytes = match i % 5 {
                 0 => {
-                    let made = plan(&mut rng, 40);
-                    bytes_of(&write_tree(&program(&mut rng, made)))
+                    bytes_of(&write_tree(&some_program(&mut rng, 40)))
                 }
                 1 => edge_table(&mut rng),
                 2 => random_entries(&mut rng),
@@ -49,8 +48,7 @@ fn tables_go_to_text_and_back() {
                 _ => (0..rng.below(200)).map(|_| rng.byte()).collect(),
             };
             goes_round(&bytes);
-            let made = plan(&mut rng, 10);
-            let valid = write_tree(&program(&mut rng, made));
+            let valid = write_tree(&some_program(&mut rng, 10));
             goes_round(&damaged_table(&mut rng, &valid));
         }
     });

@@ -1,7 +1,7 @@
 //! Prints cases for the prover: `cases SORT SEED COUNT`, SORT one of tables, executions,
 //! compiled, macros, runs, states. Each case is one line ending in ` ∷`; the last line is `[]`.
 
-use second::evaluator::answer::{Event, Item};
+use second::evaluator::answer::{number_and_place, Event, Item};
 use second::evaluator::code::{judge_macro, write_macro, Loaded};
 use second::evaluator::compiler::compile;
 use second::evaluator::execute::{execute, Budget, Execution};
@@ -11,9 +11,10 @@ use second::evaluator::state::{sound_state, LENGTH};
 use second::evaluator::table::{bytes_of, write_tree, Tree};
 use second::generate::edge_cases::{deciding_table, deep_macro, edge_macro, edge_state, edge_table};
 use second::generate::judged_tables::judged_table;
-use second::generate::macros::{good_macro, judged_macro, some_runs, Run, Size};
-use second::generate::programs::{plan, program};
+use second::generate::macros::{good_macro, judged_macro, Size};
+use second::generate::programs::{plan, program, some_program};
 use second::generate::rng::Rng;
+use second::generate::runs::{oracle, some_runs, Run};
 use second::generate::states::state_bytes;
 
 fn main() {
@@ -90,10 +91,7 @@ fn table_case(rng: &mut Rng, i: usize) -> String {
     const WANTED: [u8; 18] = [0, 2, 3, 0, 4, 5, 0, 4, 6, 0, 3, 2, 0, 5, 4, 0, 1, 3];
     let wanted = WANTED[i % WANTED.len()];
     let bytes = if i % 4 == 1 { edge_table(rng) } else { judged_table(rng, wanted, 30) };
-    let (number, place) = match judge_table(&bytes) {
-        Ok(_) => (0, 0),
-        Err(refusal) => (refusal.number, refusal.place),
-    };
+    let (number, place) = number_and_place(&judge_table(&bytes));
     format!("judged ({}) {number} {place}", bytes_text(&bytes))
 }
 
@@ -103,25 +101,17 @@ fn macro_case(rng: &mut Rng, i: usize) -> String {
     let wanted = WANTED[i % WANTED.len()];
     let size = Size { bodies: 3, instructions: 10, classes: 2 };
     let bytes = if i % 4 == 1 { edge_macro(rng) } else { judged_macro(rng, wanted, size, 25) };
-    let (number, place) = match judge_macro(&bytes) {
-        Ok(_) => (0, 0),
-        Err(refusal) => (refusal.number, refusal.place),
-    };
+    let (number, place) = number_and_place(&judge_macro(&bytes));
     format!("loaded ({}) {number} {place}", bytes_text(&bytes))
 }
 
 // Executions.
 
-/// "reading k of fader n = (SEED + 31*k + 7*n) mod 256"
-fn oracle(seed: u8) -> impl FnMut(usize, u8) -> u8 {
-    move |k, n| (seed as usize + 31 * k + 7 * n as usize) as u8
-}
-
 /// The plain steps that the compiled program takes, if it ends within this many.
 fn plain_steps(tree: &Tree, seed: u8, most: usize) -> Option<usize> {
     let m = compile(tree);
     let mut state = fresh(&m);
-    let mut read = oracle(seed);
+    let read = oracle(seed);
     let mut k = 0;
     for steps in 0..=most {
         if let State::Ended { .. } = state {
@@ -229,8 +219,7 @@ fn small_macro(rng: &mut Rng) -> Loaded {
             good_macro(rng, Size { bodies: 3, instructions: 10, classes: 2 })
         } else {
             let size = 5 + rng.below(14);
-            let made = plan(rng, size);
-            compile(&program(rng, made))
+            compile(&some_program(rng, size))
         };
         if m.code.len() > 25 {
             continue;

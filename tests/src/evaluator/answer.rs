@@ -12,6 +12,14 @@ pub fn refuse<T>(number: u8, place: usize) -> Result<T, Refusal> {
     Err(Refusal { number, place })
 }
 
+/// The verdict of a check as number and place, (0, 0) where it accepts.
+pub fn number_and_place<T>(verdict: &Result<T, Refusal>) -> (u8, usize) {
+    match verdict {
+        Ok(_) => (0, 0),
+        Err(refusal) => (refusal.number, refusal.place),
+    }
+}
+
 /// "Events are: set (channel 1 to 512, level 0 to 255), hold, release."
 #[derive(Clone, Copy, PartialEq, Eq, Debug)]
 pub enum Event {

@@ -35,6 +35,17 @@ pub struct Execution {
     pub line: u64,
 }
 
+impl Execution {
+    /// The items without the readings.
+    pub fn events(&self) -> Vec<Event> {
+        let event = |item: &Item| match item {
+            Item::Event(event) => Some(*event),
+            Item::Reading { .. } => None,
+        };
+        self.items.iter().filter_map(event).collect()
+    }
+}
+
 /// What a statement leaves: execution goes on behind it, or a goto is on its way.
 enum Flow {
     Next,

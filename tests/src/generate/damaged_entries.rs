@@ -1,7 +1,7 @@
 //! Valid tables with damage to what single entries say: kinds, names, types, operators, operands exchanged; cut tables.
 
 use crate::evaluator::table::{bytes_of, read_table, Entry};
-use super::entries::{end_of, sort_of, KINDS};
+use super::entries::{end_of, of_kinds, sort_of, KINDS};
 use super::rng::Rng;
 
 /// A table with one field changed, an entry removed, doubled or swapped.
@@ -49,29 +49,34 @@ fn damage_once(rng: &mut Rng, list: &mut Vec<Entry>) {
             let j = rng.below(list.len());
             list.swap(i, j);
         }
-        11 => {
-            // The type of a kind 10, or an operator.
-            let some: Vec<usize> = (0..list.len()).filter(|&k| matches!(list[k].kind, 10 | 48 | 49)).collect();
-            if !some.is_empty() {
-                let k = *rng.pick(&some);
-                if list[k].kind == 10 {
-                    let class = 65_536 + *rng.pick(&names) as i32;
-                    list[k].b = *rng.pick(&[1, 2, 3, class]);
-                } else if list[k].kind == 49 {
-                    list[k].a = rng.between(1, 15) as u16;
-                } else {
-                    list[k].a = rng.between(20, 22) as u16;
-                }
+        11 => change_type_or_operator(rng, list),
+        _ => change_name(rng, list),
+    }
+}
+
+/// A name somewhere becomes another.
+fn change_name(rng: &mut Rng, list: &mut [Entry]) {
+    let names: Vec<u16> = list.iter().map(|e| e.a).collect();
+    let some = of_kinds(list, &[10, 11, 12, 20, 25, 27, 43, 44, 45, 46, 47]);
+    if !some.is_empty() {
+        let k = *rng.pick(&some);
+        list[k].a = *rng.pick(&names);
+    }
+}
+
+/// The type of a kind 10, or an operator, becomes another.
+fn change_type_or_operator(rng: &mut Rng, list: &mut [Entry]) {
+    let names: Vec<u16> = list.iter().map(|e| e.a).collect();
+    let some = of_kinds(list, &[10, 48, 49]);
+    if !some.is_empty() {
+        let k = *rng.pick(&some);
+        match list[k].kind {
+            10 => {
+                let class = 65_536 + *rng.pick(&names) as i32;
+                list[k].b = *rng.pick(&[1, 2, 3, class]);
             }
-        }
-        _ => {
-            // A name somewhere becomes another.
-            let some: Vec<usize> =
-                (0..list.len()).filter(|&k| matches!(list[k].kind, 10 | 11 | 12 | 20 | 25 | 27 | 43 | 44 | 45 | 46 | 47)).collect();
-            if !some.is_empty() {
-                let k = *rng.pick(&some);
-                list[k].a = *rng.pick(&names);
-            }
+            48 => list[k].a = rng.between(20, 22) as u16,
+            _ => list[k].a = rng.between(1, 15) as u16,
         }
     }
 }
@@ -79,32 +84,10 @@ fn damage_once(rng: &mut Rng, list: &mut Vec<Entry>) {
 /// Damage that mostly leaves the table one tree: names, types and operators changed, and whole
 /// operands exchanged or repeated elsewhere. The table must be valid.
 fn damage_meaning(rng: &mut Rng, list: &mut Vec<Entry>) {
-    let names: Vec<u16> = list.iter().map(|e| e.a).collect();
     let labels: Vec<u16> = list.iter().filter(|e| e.kind == 20).map(|e| e.a).collect();
-    let of_kinds = |list: &[Entry], kinds: &[u16]| -> Vec<usize> {
-        (0..list.len()).filter(|&k| kinds.contains(&list[k].kind)).collect()
-    };
     match rng.below(10) {
-        0 | 1 => {
-            let some = of_kinds(list, &[10, 11, 12, 20, 25, 27, 43, 44, 45, 46, 47]);
-            if !some.is_empty() {
-                list[*rng.pick(&some)].a = *rng.pick(&names);
-            }
-        }
-        2 => {
-            let some = of_kinds(list, &[10, 48, 49]);
-            if !some.is_empty() {
-                let k = *rng.pick(&some);
-                match list[k].kind {
-                    10 => {
-                        let class = 65_536 + *rng.pick(&names) as i32;
-                        list[k].b = *rng.pick(&[1, 2, 3, class]);
-                    }
-                    48 => list[k].a = rng.between(20, 22) as u16,
-                    _ => list[k].a = rng.between(1, 15) as u16,
-                }
-            }
-        }
+        0 | 1 => change_name(rng, list),
+        2 => change_type_or_operator(rng, list),
         3 => {
             let some = of_kinds(list, &[40, 41, 42]);
             if !some.is_empty() {

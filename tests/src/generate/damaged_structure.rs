@@ -3,7 +3,7 @@
 //! entries say; this changes what stands where.
 
 use crate::evaluator::table::{bytes_of, read_table, Entry};
-use super::entries::{end_of, operand_count, sort_of};
+use super::entries::{end_of, of_kinds, operand_count, sort_of};
 use super::rng::Rng;
 
 /// The field of an entry that counts an operand.
@@ -131,8 +131,7 @@ fn declare(list: &mut Vec<Entry>, block: usize, declarations: Vec<Entry>) {
 /// Variables, holds, cases or waiting operands, so many that a limit is near.
 fn approach_a_limit(rng: &mut Rng, list: &mut Vec<Entry>) {
     let entry = |kind, a, b| Entry { kind, a, b };
-    let of_kinds = |kinds: &[u16]| -> Vec<usize> { (0..list.len()).filter(|&k| kinds.contains(&list[k].kind)).collect() };
-    let block = *rng.pick(&of_kinds(&[1, 53]));
+    let block = *rng.pick(&of_kinds(list, &[1, 53]));
     let many = rng.between(1, 34) as u16;
     match rng.below(4) {
         0 => declare(list, block, (0..many).map(|i| entry(10, 40_000 + i, 1 + (i % 3) as i32)).collect()),
@@ -144,7 +143,7 @@ fn approach_a_limit(rng: &mut Rng, list: &mut Vec<Entry>) {
             list[block].b += many as i32;
         }
         _ => {
-            let numbers = of_kinds(&[40]);
+            let numbers = of_kinds(list, &[40]);
             if !numbers.is_empty() {
                 let at = *rng.pick(&numbers);
                 list.splice(at..at, (0..many).flat_map(|_| [entry(49, 1, 0), entry(40, 0, 1)]));
@@ -156,7 +155,7 @@ fn approach_a_limit(rng: &mut Rng, list: &mut Vec<Entry>) {
 /// A name of the table once more: as a variable of some block, or as a label.
 fn hide_a_name(rng: &mut Rng, list: &mut Vec<Entry>) {
     let named: Vec<u16> = list.iter().filter(|e| matches!(e.kind, 10..=12 | 20 | 25 | 27 | 43..=47)).map(|e| e.a).collect();
-    let blocks: Vec<usize> = (0..list.len()).filter(|&k| matches!(list[k].kind, 1 | 53)).collect();
+    let blocks = of_kinds(list, &[1, 53]);
     let name = if named.is_empty() { 7 } else { *rng.pick(&named) };
     let block = *rng.pick(&blocks);
     if rng.chance(60) {

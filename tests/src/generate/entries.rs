@@ -38,3 +38,8 @@ pub fn sort_of(kind: u16) -> usize {
         _ => 2,
     }
 }
+
+/// Where the entries of these kinds are.
+pub fn of_kinds(list: &[Entry], kinds: &[u16]) -> Vec<usize> {
+    (0..list.len()).filter(|&k| kinds.contains(&list[k].kind)).collect()
+}

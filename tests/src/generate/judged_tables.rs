@@ -1,10 +1,11 @@
 //! Tables made for a verdict: accepted, or refused by a given number.
 
+use crate::evaluator::answer::number_and_place;
 use crate::evaluator::names::judge_table;
 use crate::evaluator::table::{bytes_of, write_tree, Entry};
 use super::damaged_entries::damaged_table;
 use super::notation;
-use super::programs::{plan, program};
+use super::programs::some_program;
 use super::rng::Rng;
 
 /// A table made to be refused by this number (or, now and then, only nearly).
@@ -212,8 +213,7 @@ pub fn refused_table(rng: &mut Rng, number: u8) -> Vec<u8> {
 pub fn judged_table(rng: &mut Rng, number: u8, most: usize) -> Vec<u8> {
     for _ in 0..60 {
         let size = 3 + rng.below(most);
-        let made = plan(rng, size);
-        let valid = write_tree(&program(rng, made));
+        let valid = write_tree(&some_program(rng, size));
         if valid.len() > most {
             continue;
         }
@@ -224,21 +224,14 @@ pub fn judged_table(rng: &mut Rng, number: u8, most: usize) -> Vec<u8> {
         } else {
             damaged_table(rng, &valid)
         };
-        if number_of(&bytes) == number {
+        if number_and_place(&judge_table(&bytes)).0 == number {
             return bytes;
         }
     }
     loop {
         let bytes = if number == 0 { notation::table("1 0 0") } else { refused_table(rng, number) };
-        if number_of(&bytes) == number {
+        if number_and_place(&judge_table(&bytes)).0 == number {
             return bytes;
         }
-    }
-}
-
-fn number_of(bytes: &[u8]) -> u8 {
-    match judge_table(bytes) {
-        Ok(_) => 0,
-        Err(refusal) => refusal.number,
     }
 }

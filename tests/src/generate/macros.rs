@@ -1,8 +1,9 @@
 //! Generated macros, made directly as code and not from trees: well-typed ones with jumps of
-//! every direction, dead code and shapes in any order, and damaged ones. Also lists of runs.
+//! every direction, dead code and shapes in any order, and damaged ones.
 
-use crate::evaluator::code::{judge_macro, type_of_byte, write_macro, write_records, Body, Instr, Macro, Shape};
-use crate::evaluator::values::{binary_type, unary_type, Type};
+use crate::evaluator::answer::number_and_place;
+use crate::evaluator::code::{byte_of_type, judge_macro, type_of_byte, write_macro, write_records, Body, Instr, Macro, Shape};
+use crate::evaluator::values::{binary_type, unary_type};
 use super::programs::EDGES;
 use super::rng::Rng;
 
@@ -482,12 +483,7 @@ impl Make<'_> {
         let (operator, takes, ty) = *self.rng.pick(&fit);
         self.emit(7, operator as u8, 0);
         self.types.truncate(n - takes);
-        self.types.push(match ty {
-            Type::Integer => 1,
-            Type::Logical => 2,
-            Type::Bits => 3,
-            Type::Reference(class) => 16 + class as u8,
-        });
+        self.types.push(byte_of_type(ty));
     }
 
     fn call(&mut self) {
@@ -736,51 +732,8 @@ pub fn judged_macro(rng: &mut Rng, number: u8, size: Size, most: usize) -> Vec<u
             continue;
         }
         let bytes = if number == 0 && rng.chance(85) { write_macro(&good) } else { damaged_macro(rng, &good) };
-        let given = match judge_macro(&bytes) {
-            Ok(_) => 0,
-            Err(refusal) => refusal.number,
-        };
-        if given == number {
+        if number_and_place(&judge_macro(&bytes)).0 == number {
             return bytes;
         }
     }
-}
-
-// Runs.
-
-/// One run's input.
-#[derive(Clone, Copy, Debug, PartialEq)]
-pub struct Run {
-    /// 64, or a length that 11 refuses.
-    pub length: usize,
-    pub seed: u8,
-    pub allowance: u16,
-}
-
-impl Run {
-    /// "bank byte i, from 0, is (s + 11*i) mod 256"
-    pub fn bank(&self) -> Vec<u8> {
-        (0..self.length).map(|i| (self.seed as usize + 11 * i) as u8).collect()
-    }
-}
-
-pub fn some_run(rng: &mut Rng, largest: u16) -> Run {
-    let length = match rng.below(12) {
-        0 => *rng.pick(&[63, 65, 0]),
-        _ => 64,
-    };
-    let allowance = match rng.below(10) {
-        0 => 0,
-        1 => 1,
-        2 => 2,
-        3..=5 => rng.below(12) as u16,
-        6 | 7 => rng.below(60) as u16,
-        _ => largest,
-    };
-    Run { length, seed: rng.byte(), allowance: allowance.min(largest) }
-}
-
-pub fn some_runs(rng: &mut Rng, most: usize, largest: u16) -> Vec<Run> {
-    let count = 1 + rng.below(most);
-    (0..count).map(|_| some_run(rng, largest)).collect()
 }

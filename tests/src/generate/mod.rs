@@ -9,6 +9,7 @@ pub mod macros;
 pub mod notation;
 pub mod programs;
 pub mod rng;
+pub mod runs;
 pub mod states;
 pub mod untyped_tables;
 pub mod worst_case_tables;

@@ -36,7 +36,27 @@ pub fn program(rng: &mut Rng, plan: Plan) -> Tree {
     }
 }
 
-/// The same without the filter, to see how often it is needed.
+/// A valid program of about so many entries, by some plan.
+pub fn some_program(rng: &mut Rng, entries: usize) -> Tree {
+    let made = plan(rng, entries);
+    program(rng, made)
+}
+
+/// A number of entries, all sizes, the small ones more often: up to 40, 200 and 800 in so many percent of the cases, else up to 2,000.
+pub fn some_size(rng: &mut Rng, [small, middle, large]: [usize; 3]) -> usize {
+    let percent = rng.below(100);
+    if percent < small {
+        5 + rng.below(36)
+    } else if percent < small + middle {
+        40 + rng.below(160)
+    } else if percent < small + middle + large {
+        200 + rng.below(600)
+    } else {
+        800 + rng.below(1_200)
+    }
+}
+
+/// A program without the filter, to see how often it is needed.
 pub fn unfiltered_program(rng: &mut Rng, plan: Plan) -> Tree {
     Generator::new(rng, plan).program()
 }
@@ -1000,8 +1020,7 @@ impl<'r> Generator<'r> {
                 }
                 _ => {
                     let operator = *self.rng.pick(&[1, 1, 2, 2, 3]);
-                    let left = self.expression(Type::Integer, depth + 1, need);
-                    let right = self.expression(Type::Integer, depth + 1, need - 1);
+                    let (left, right) = self.operands(Type::Integer, Type::Integer, depth, need);
                     binary(operator, left, right)
                 }
             },
@@ -1011,14 +1030,12 @@ impl<'r> Generator<'r> {
                     expr(ExprKind::Unary(22, Box::new(e)))
                 }
                 1 | 2 => {
-                    let left = self.expression(Type::Logical, depth + 1, need);
-                    let right = self.expression(Type::Logical, depth + 1, need - 1);
+                    let (left, right) = self.operands(Type::Logical, Type::Logical, depth, need);
                     binary(*self.rng.pick(&[12, 13]), left, right)
                 }
                 3 => {
                     let ty = self.some_type();
-                    let left = self.expression(ty, depth + 1, need);
-                    let right = self.expression(ty, depth + 1, need - 1);
+                    let (left, right) = self.operands(ty, ty, depth, need);
                     binary(*self.rng.pick(&[10, 11]), left, right)
                 }
                 4 => {
@@ -1027,8 +1044,7 @@ impl<'r> Generator<'r> {
                     binary(self.rng.between(6, 9) as u16, fader, integer(self.rng.below(256) as i32))
                 }
                 _ => {
-                    let left = self.expression(Type::Integer, depth + 1, need);
-                    let right = self.expression(Type::Integer, depth + 1, need - 1);
+                    let (left, right) = self.operands(Type::Integer, Type::Integer, depth, need);
                     binary(self.rng.between(6, 11) as u16, left, right)
                 }
             },
@@ -1038,13 +1054,11 @@ impl<'r> Generator<'r> {
                     expr(ExprKind::Unary(22, Box::new(e)))
                 }
                 1 | 2 => {
-                    let left = self.expression(Type::Bits, depth + 1, need);
-                    let right = self.expression(Type::Bits, depth + 1, need - 1);
+                    let (left, right) = self.operands(Type::Bits, Type::Bits, depth, need);
                     binary(*self.rng.pick(&[12, 13]), left, right)
                 }
                 _ => {
-                    let left = self.expression(Type::Bits, depth + 1, need);
-                    let right = self.expression(Type::Integer, depth + 1, need - 1);
+                    let (left, right) = self.operands(Type::Bits, Type::Integer, depth, need);
                     binary(*self.rng.pick(&[14, 15]), left, right)
                 }
             },
@@ -1053,6 +1067,12 @@ impl<'r> Generator<'r> {
                 self.reference(class, depth, need)
             }
         }
+    }
+
+    /// The two operands of a binary operator.
+    fn operands(&mut self, left: Type, right: Type, depth: usize, need: usize) -> (Expr, Expr) {
+        let left = self.expression(left, depth + 1, need);
+        (left, self.expression(right, depth + 1, need - 1))
     }
 
     /// A reference; in a tame program mostly no null.

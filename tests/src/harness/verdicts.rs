@@ -1,5 +1,6 @@
 //! Verdicts on tables and macros as number and place. Every table check there is, the proved one too where it is linked, must give the same.
 
+use crate::evaluator::answer::number_and_place;
 use crate::evaluator::code::{judge_macro, write_macro, Macro};
 use crate::evaluator::names::judge_table;
 use crate::generate::notation::table;
@@ -8,10 +9,7 @@ use crate::plain;
 /// The verdict on a table: number and place, (0, 0) where it is accepted. The plain check must give
 /// the same, and so must the proved one where it is linked.
 pub fn judged(bytes: &[u8]) -> (u8, usize) {
-    let verdict = match judge_table(bytes) {
-        Ok(_) => (0, 0),
-        Err(refusal) => (refusal.number, refusal.place),
-    };
+    let verdict = number_and_place(&judge_table(bytes));
     assert_eq!(plain::check::check(bytes), verdict, "the plain check, table {bytes:?}");
     #[cfg(desk)]
     assert_eq!(super::desk::checked(bytes), verdict, "cue_check, table {bytes:?}");
@@ -25,10 +23,7 @@ pub fn verdict(text: &str) -> (u8, usize) {
 
 /// The verdict on a macro's bytes.
 pub fn loaded(bytes: &[u8]) -> (u8, usize) {
-    match judge_macro(bytes) {
-        Ok(_) => (0, 0),
-        Err(refusal) => (refusal.number, refusal.place),
-    }
+    number_and_place(&judge_macro(bytes))
 }
 
 /// The verdict on a macro in parts.
