@@ -6,7 +6,7 @@ use second::evaluator::table::{bytes_of, write_tree, Entry};
 use second::generate::damaged_entries::damaged_table;
 use second::generate::damaged_structure::reshaped_table;
 use second::generate::edge_cases::edge_table;
-use second::generate::judged_tables::refused_table;
+use second::generate::judged_tables::some_refused_table;
 use second::generate::programs::some_program;
 use second::generate::rng::Rng;
 use second::generate::untyped_tables::{untyped_table, random_entries};
@@ -77,7 +77,7 @@ fn reshaped_tables() {
 }
 
 #[test]
-fn blind_tables() {
+fn untyped_tables() {
     with_large_stack(|| {
         let mut tally = Tally::default();
         let mut rng = Rng::new(3);
@@ -86,10 +86,7 @@ fn blind_tables() {
             tally.count(&match i % 8 {
                 0 => random_entries(&mut rng),
                 1 => edge_table(&mut rng),
-                2 => {
-                    let number = 1 + rng.below(6) as u8;
-                    refused_table(&mut rng, number)
-                }
+                2 => some_refused_table(&mut rng),
                 _ => untyped_table(&mut rng, entries),
             });
         }

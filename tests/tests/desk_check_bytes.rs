@@ -106,7 +106,7 @@ fn every_part_removed_doubled_and_moved() {
 }
 
 #[test]
-fn counts_that_lie() {
+fn wrong_counts() {
     let list = entries(EVERY_KIND);
     for part in parts(&list) {
         let mut lies = vec![list[part.parent]; WRONG_COUNTS.len() + 2];
@@ -261,7 +261,7 @@ fn nesting_64_and_65_by_every_kind() {
 }
 
 #[test]
-fn worst_tables_for_lookups() {
+fn worst_case_tables_for_lookups() {
     for (what, bytes, number) in worst_case_tables() {
         assert_eq!(bytes.len(), MOST_BYTES, "{what}");
         assert_eq!(judged(&bytes).0, number, "{what}");

@@ -3,7 +3,7 @@
 //! paper_examples.rs, more on single sentences in names.rs.
 
 use second::evaluator::table::{bytes_of, Entry};
-use second::generate::notation::{entries, LISTING_EXAMPLE};
+use second::generate::notation::{each, entries, LISTING_EXAMPLE};
 use second::harness::verdicts::{judged, verdict};
 
 const ACCEPTED: (u8, usize) = (0, 0);
@@ -16,11 +16,6 @@ fn statement(text: &str) -> (u8, usize) {
 /// The verdict on a root with this one declaration.
 fn declaration(text: &str) -> (u8, usize) {
     verdict(&format!("1 1 0, {text}"))
-}
-
-/// So many of something, each with its number.
-fn each(count: usize, what: impl Fn(usize) -> String) -> String {
-    (0..count).map(|i| what(i) + ",").collect()
 }
 
 /// So many variables with names from this one on.

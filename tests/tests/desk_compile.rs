@@ -15,7 +15,7 @@ use second::evaluator::table::{bytes_of, entries_of, write_tree, Entry, Tree};
 use second::generate::damaged_entries::damaged_table;
 use second::generate::damaged_structure::reshaped_table;
 use second::generate::edge_cases::{deciding_table, edge_table};
-use second::generate::judged_tables::refused_table;
+use second::generate::judged_tables::some_refused_table;
 use second::generate::notation::table;
 use second::generate::programs::{plan, program, some_program, some_size};
 use second::generate::rng::Rng;
@@ -279,10 +279,7 @@ fn damaged_tables_as_the_check() {
             let bytes = match i % 8 {
                 0 => bytes_of(&valid),
                 1 => edge_table(&mut rng),
-                2 => {
-                    let number = 1 + rng.below(6) as u8;
-                    refused_table(&mut rng, number)
-                }
+                2 => some_refused_table(&mut rng),
                 3 => reshaped_table(&mut rng, &valid),
                 4 if rng.chance(50) => random_entries(&mut rng),
                 4 => {
@@ -332,7 +329,7 @@ fn no_table() {
 }
 
 #[test]
-fn worst_tables_as_the_check() {
+fn worst_case_tables_as_the_check() {
     with_large_stack(|| {
         for (what, bytes, number) in worst_case_tables() {
             assert_eq!(as_the_check(&bytes, MOST_MACRO_BYTES), number, "{what}");

@@ -220,7 +220,7 @@ fn damaged_tables_are_judged() {
 }
 
 #[test]
-fn purposeful_tables_are_refused_as_meant() {
+fn tables_made_to_be_refused_are_refused() {
     with_large_stack(|| {
         for number in 1..=6 {
             let mut rng = Rng::new(number as u64);

@@ -4,9 +4,8 @@
 use second::evaluator::answer::{Answer, Refusal};
 use second::evaluator::code::write_macro;
 use second::evaluator::state::{run_bytes, start, LENGTH};
-use second::evaluator::table::{bytes_of, Entry};
 use second::evaluator::values::{binary, unary, Trouble, Value};
-use second::generate::notation::{root_only, LISTING_EXAMPLE};
+use second::generate::notation::{each, root_only, LISTING_EXAMPLE};
 use second::harness::listings::{end_of, lines};
 use second::harness::setup::with_large_stack;
 use second::harness::verdicts::{judged, loaded, loads, verdict};
@@ -37,14 +36,7 @@ fn refusal_2_assigning_to_a_kind_40() {
 
 #[test]
 fn refusal_2_seventeen_classes() {
-    let classes = |n: u16| {
-        let mut list = vec![Entry { kind: 1, a: n, b: 0 }];
-        for i in 0..n {
-            list.push(Entry { kind: 11, a: 2 * i, b: 1 });
-            list.push(Entry { kind: 10, a: 2 * i + 1, b: 1 });
-        }
-        judged(&bytes_of(&list))
-    };
+    let classes = |n: usize| verdict(&format!("1 {n} 0, {}", each(n, |i| format!("11 {} 1, 10 {} 1", 2 * i, 2 * i + 1))));
     assert_eq!(classes(16), (0, 0));
     assert_eq!(classes(17), (2, 33));
 }
@@ -84,13 +76,7 @@ fn refusal_5_goto_out_of_a_procedure() {
 
 #[test]
 fn refusal_6_thirty_three_variables() {
-    let variables = |n: u16| {
-        let mut list = vec![Entry { kind: 1, a: n, b: 0 }];
-        for i in 0..n {
-            list.push(Entry { kind: 10, a: i, b: 1 });
-        }
-        judged(&bytes_of(&list))
-    };
+    let variables = |n: usize| verdict(&format!("1 {n} 0, {}", each(n, |i| format!("10 {i} 1"))));
     // "* 32 variables accepted, 33: 6"
     assert_eq!(variables(32), (0, 0));
     assert_eq!(variables(33), (6, 0));
@@ -98,13 +84,7 @@ fn refusal_6_thirty_three_variables() {
 
 #[test]
 fn sixteen_open_holds_accepted_seventeen_refused() {
-    let holds = |n: u16| {
-        let mut list = vec![Entry { kind: 1, a: n, b: 0 }];
-        for i in 0..n {
-            list.push(Entry { kind: 14, a: i, b: 0 });
-        }
-        judged(&bytes_of(&list))
-    };
+    let holds = |n: usize| verdict(&format!("1 {n} 0, {}", each(n, |i| format!("14 {i} 0"))));
     assert_eq!(holds(16), (0, 0));
     assert_eq!(holds(17), (6, 0));
 }

@@ -112,7 +112,7 @@ mod check {
     use second::plain;
 
     /// Counting, testing, a call and a held block, over and over, filled up by empty blocks to so many entries.
-    pub fn counting(count: usize) -> Vec<u8> {
+    fn counting(count: usize) -> Vec<u8> {
         filled("1 3 0, 10 1 1, 10 2 1, 12 3 256, 10 4 1, 28 0 0, 40 0 1, 44 4 0", count)
     }
 
@@ -138,7 +138,7 @@ mod check {
     }
 
     /// Programs as the tests make them, of about so many entries.
-    pub fn generated(count: usize) -> Vec<Vec<u8>> {
+    fn generated(count: usize) -> Vec<Vec<u8>> {
         let mut rng = Rng::new(count as u64);
         let plan = Plan { entries: count, wild: false, forever: 0, provoke: None };
         let mut made = || write_tree(&program(&mut rng, plan));
@@ -159,21 +159,26 @@ mod check {
     pub fn table() {
         println!("table check: ns per entry, one run, same bytes");
         println!("{:>20} {:>8} {:>10} {:>10} {:>7}", "table", "entries", "cue_check", "plain", "ratio");
+        ordinary(row);
+        for (what, table, _) in worst_case_tables() {
+            row(what, &[table]);
+        }
+    }
+
+    /// A row for each size of ordinary tables.
+    pub fn ordinary(row: impl Fn(&str, &[Vec<u8>])) {
         for count in [10, 200, 2_048] {
             row("counting", &[counting(count)]);
         }
         for count in [10, 200, 2_000] {
             row("generated", &generated(count));
         }
-        for (what, table, _) in worst_case_tables() {
-            row(what, &[table]);
-        }
     }
 }
 
 #[cfg(desk)]
 mod compile {
-    use super::check::{counting, filled, generated};
+    use super::check::{filled, ordinary};
     use super::in_turn;
     use second::evaluator::state::LENGTH;
     use second::generate::worst_case_tables::worst_case_tables;
@@ -215,12 +220,7 @@ mod compile {
         println!("compiler: ns per entry, the check inside it, one run, same bytes; and beside the check alone");
         print!("{:>20} {:>8} {:>8} {:>12} {:>10} {:>7}", "table", "entries", "macro", "cue_compile", "plain", "ratio");
         println!(" {:>10} {:>7}", "cue_check", "ratio");
-        for count in [10, 200, 2_048] {
-            row("counting", &[counting(count)]);
-        }
-        for count in [10, 200, 2_000] {
-            row("generated", &generated(count));
-        }
+        ordinary(row);
         for (what, table, number) in worst_case_tables() {
             if number == 0 {
                 row(what, &[table]);

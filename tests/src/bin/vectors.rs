@@ -7,6 +7,7 @@
 
 use std::io::Write;
 
+use second::evaluator::code::byte_of_type;
 use second::evaluator::state::{value_of, word_of};
 use second::evaluator::values::{binary, binary_type, is_unary, unary, unary_type, Trouble, Type};
 use second::generate::rng::Rng;
@@ -47,19 +48,10 @@ fn main() {
     }
 }
 
-fn type_number(ty: Type) -> u8 {
-    match ty {
-        Type::Integer => 1,
-        Type::Logical => 2,
-        Type::Bits => 3,
-        Type::Reference(_) => unreachable!("no reference among the vectors"),
-    }
-}
-
 fn record(v: &Vector) -> [u8; 12] {
     let mut bytes = [0; 12];
     bytes[0] = v.operator as u8;
-    bytes[1] = type_number(v.ty);
+    bytes[1] = byte_of_type(v.ty);
     bytes[4..8].copy_from_slice(&v.x.to_le_bytes());
     bytes[8..12].copy_from_slice(&v.y.to_le_bytes());
     bytes

@@ -209,6 +209,12 @@ pub fn refused_table(rng: &mut Rng, number: u8) -> Vec<u8> {
     }
 }
 
+/// A table made to be refused by some number.
+pub fn some_refused_table(rng: &mut Rng) -> Vec<u8> {
+    let number = 1 + rng.below(6) as u8;
+    refused_table(rng, number)
+}
+
 /// A table of at most about `most` entries that the judge gives this number (0: accepts).
 pub fn judged_table(rng: &mut Rng, number: u8, most: usize) -> Vec<u8> {
     for _ in 0..60 {

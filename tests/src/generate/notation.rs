@@ -25,6 +25,11 @@ pub fn table(text: &str) -> Vec<u8> {
     bytes_of(&entries(text))
 }
 
+/// So many of something, each with its number.
+pub fn each(count: usize, what: impl Fn(usize) -> String) -> String {
+    (0..count).map(|i| what(i) + ",").collect()
+}
+
 /// A body: first address, parameters, result, cell types.
 pub fn body(first: u16, parameters: u8, result: u8, cells: &[u8]) -> Body {
     Body { first, parameters, result, cells: cells.to_vec() }

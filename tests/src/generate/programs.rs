@@ -1025,14 +1025,8 @@ impl<'r> Generator<'r> {
                 }
             },
             Type::Logical => match self.rng.below(8) {
-                0 => {
-                    let e = self.expression(Type::Logical, depth + 1, need);
-                    expr(ExprKind::Unary(22, Box::new(e)))
-                }
-                1 | 2 => {
-                    let (left, right) = self.operands(Type::Logical, Type::Logical, depth, need);
-                    binary(*self.rng.pick(&[12, 13]), left, right)
-                }
+                0 => self.complement(ty, depth, need),
+                1 | 2 => self.conjunction(ty, depth, need),
                 3 => {
                     let ty = self.some_type();
                     let (left, right) = self.operands(ty, ty, depth, need);
@@ -1049,14 +1043,8 @@ impl<'r> Generator<'r> {
                 }
             },
             Type::Bits => match self.rng.below(6) {
-                0 => {
-                    let e = self.expression(Type::Bits, depth + 1, need);
-                    expr(ExprKind::Unary(22, Box::new(e)))
-                }
-                1 | 2 => {
-                    let (left, right) = self.operands(Type::Bits, Type::Bits, depth, need);
-                    binary(*self.rng.pick(&[12, 13]), left, right)
-                }
+                0 => self.complement(ty, depth, need),
+                1 | 2 => self.conjunction(ty, depth, need),
                 _ => {
                     let (left, right) = self.operands(Type::Bits, Type::Integer, depth, need);
                     binary(*self.rng.pick(&[14, 15]), left, right)
@@ -1073,6 +1061,18 @@ impl<'r> Generator<'r> {
     fn operands(&mut self, left: Type, right: Type, depth: usize, need: usize) -> (Expr, Expr) {
         let left = self.expression(left, depth + 1, need);
         (left, self.expression(right, depth + 1, need - 1))
+    }
+
+    /// `not` of a logical value or of bits.
+    fn complement(&mut self, ty: Type, depth: usize, need: usize) -> Expr {
+        let e = self.expression(ty, depth + 1, need);
+        expr(ExprKind::Unary(22, Box::new(e)))
+    }
+
+    /// `and` or `or` of two logical values or of bits.
+    fn conjunction(&mut self, ty: Type, depth: usize, need: usize) -> Expr {
+        let (left, right) = self.operands(ty, ty, depth, need);
+        binary(*self.rng.pick(&[12, 13]), left, right)
     }
 
     /// A reference; in a tame program mostly no null.
