@@ -25,6 +25,15 @@ fn the_first_fault_in_postorder() {
     assert_eq!(verdict("1 0 1, 22 0 0, 40 0 1, 1 0 0"), (4, 1));
 }
 
+/// "among that entry's faults the least number"
+#[test]
+fn the_least_number_at_one_entry() {
+    // a procedure that is twice and whose body has the wrong type
+    assert_eq!(verdict("1 2 0, 10 1 1, 12 1 1, 41 0 1"), (3, 2));
+    // an undefined function with wrong arguments
+    assert_eq!(verdict("1 0 1, 27 1 1, 40 0 1"), (3, 1));
+}
+
 /// "a procedure sees its own names and the root's"
 #[test]
 fn what_a_procedure_sees() {
