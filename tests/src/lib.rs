@@ -1,4 +1,4 @@
-//! Tests of Widegranite against paper 01 ("Cue macros in ALGOL W") written once more in Rust.
+//! What the tests, the benchmarks and the cases for the prover are made of, in four groups.
 
 /// The second evaluator: what paper 01 says, written once more from the papers alone; plain rather than quick, comments cite the sentence.
 pub mod evaluator;
@@ -6,5 +6,5 @@ pub mod evaluator;
 pub mod generate;
 /// What drives the evaluators and the proved library on the same cases and compares them.
 pub mod harness;
-/// Check, compiler, loading check and machine in plain Rust for speed: benchmarks and, byte for byte, a third opinion.
+/// Check, compiler, loading check and machine in plain Rust for speed: to measure the proved code against, and to compare it with byte for byte.
 pub mod plain;

@@ -1,5 +1,5 @@
-//! Every decision of docs/DECISIONS.md on the refusals 1 to 6, by its number, on `cue_check` and the second evaluator.
-//! (`cue_check` where it is linked.) Not here: L5, L10 and L12, of which a table check says nothing. The paper's own examples are in
+//! Every decision of docs/DECISIONS.md on the refusals 1 to 6, by its number, on the second evaluator and, where it is
+//! linked, `cue_check`. Not here: L5, L10 and L12, of which a table check says nothing. The paper's own examples are in
 //! paper_examples.rs, more on single sentences in names.rs.
 
 use second::evaluator::table::{bytes_of, Entry};

@@ -1,4 +1,4 @@
-//! docs/REFERENCE.md keeps its word: its table, listing and macro are those of examples/listing, and its C program prints the listings.
+//! docs/REFERENCE.md is right: its table, listing and macro are those of examples/listing, and its C program prints the listings.
 
 use std::path::Path;
 

@@ -29,7 +29,13 @@ pub enum StateChecks {
 
 /// Steps from the fresh state until the end, so many steps, or more than so many items. Fails
 /// loudly on a stuck state, on an unsound one, and on holds that an end leaves open.
-pub fn walk(loaded: &Loaded, oracle: &mut dyn FnMut(usize, u8) -> u8, most_steps: u64, most_items: usize, checks: StateChecks) -> Result<Walk, String> {
+pub fn walk(
+    loaded: &Loaded,
+    oracle: &mut dyn FnMut(usize, u8) -> u8,
+    most_steps: u64,
+    most_items: usize,
+    checks: StateChecks,
+) -> Result<Walk, String> {
     let mut state = fresh(&loaded.code);
     let mut items = Vec::new();
     let mut readings = 0;
