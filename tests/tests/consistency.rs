@@ -2,47 +2,37 @@
 //! to a macro that passes; no passed macro is ever stuck; every state passed is sound and its
 //! bytes give it back. The number of cases follows CUE_CASES.
 
-use second::agree::{both, walk, Look};
-use second::answer::{Answer, Event, Item};
-use second::code::{judge_macro, write_macro};
-use second::compile::compile;
-use second::execute::{budget, execute};
-use second::gen::{plan, program, unfiltered_program};
-use second::gen_code::{good_macro, some_runs, unfiltered_macro, Size};
-use second::machine::{fresh, run, State};
-use second::rng::Rng;
-use second::state::{decode, encode, run_bytes, sound, start, LENGTH};
-use second::table::{bytes_of, read_table, write_tree};
-use second::{cases, deep, judge_table};
+use second::evaluator::answer::Answer;
+use second::evaluator::code::{judge_macro, write_macro};
+use second::evaluator::compiler::compile;
+use second::evaluator::execute::{budget, execute};
+use second::evaluator::machine::{fresh, run, State};
+use second::evaluator::names::judge_table;
+use second::evaluator::state::{decode, encode, run_bytes, sound, start, LENGTH};
+use second::evaluator::table::{bytes_of, read_table, write_tree, Entry};
+use second::generate::macros::{good_macro, unfiltered_macro, Size};
+use second::generate::programs::{plan, program, some_program, some_size, unfiltered_program, Plan};
+use second::generate::rng::Rng;
+use second::generate::runs::{oracle, some_runs};
+use second::harness::compare_tree_and_code::{agreed_execution, walk, StateChecks};
+use second::harness::setup::{case_count, with_large_stack};
 
-fn oracle(seed: u8) -> impl Fn(usize, u8) -> u8 {
-    move |k, n| (seed as usize + 31 * k + 7 * n as usize) as u8
-}
-
-/// All sizes, the small ones more often.
-fn some_size(rng: &mut Rng) -> usize {
-    match rng.below(20) {
-        0..=9 => 5 + rng.below(36),
-        10..=15 => 40 + rng.below(160),
-        16..=18 => 200 + rng.below(600),
-        _ => 800 + rng.below(1200),
-    }
-}
+/// How many percent of the programs are small, middle and large; the others are very large.
+const SIZES: [usize; 3] = [50, 30, 15];
 
 #[test]
 fn tree_and_code_agree() {
-    deep(|| {
+    with_large_stack(|| {
         let mut ends = [0usize; 28];
         let mut going = 0;
         let mut largest = 0;
-        let count = cases(20_000);
+        let count = case_count(20_000);
         for seed in 0..count {
             let mut rng = Rng::new(seed as u64);
-            let size = some_size(&mut rng);
-            let made = plan(&mut rng, size);
-            let tree = program(&mut rng, made);
+            let size = some_size(&mut rng, SIZES);
+            let tree = some_program(&mut rng, size);
             largest = largest.max(write_tree(&tree).len());
-            match both(&tree, &oracle(rng.byte()), budget(2_000), Look::Not) {
+            match agreed_execution(&tree, &oracle(rng.byte()), budget(2_000), StateChecks::None) {
                 Ok((x, _)) => match x.end {
                     Some(end) => ends[end as usize] += 1,
                     None => going += 1,
@@ -64,13 +54,12 @@ fn tree_and_code_agree() {
 
 #[test]
 fn every_state_of_a_program_is_sound() {
-    deep(|| {
-        for seed in 0..cases(2_000) {
+    with_large_stack(|| {
+        for seed in 0..case_count(2_000) {
             let mut rng = Rng::new(1_000_000 + seed as u64);
             let size = 5 + rng.below(120);
-            let made = plan(&mut rng, size);
-            let tree = program(&mut rng, made);
-            if let Err(why) = both(&tree, &oracle(rng.byte()), budget(30), Look::Every) {
+            let tree = some_program(&mut rng, size);
+            if let Err(why) = agreed_execution(&tree, &oracle(rng.byte()), budget(30), StateChecks::EveryState) {
                 panic!("program {seed}: {why}");
             }
         }
@@ -79,19 +68,19 @@ fn every_state_of_a_program_is_sound() {
 
 #[test]
 fn passed_macros_are_never_stuck() {
-    deep(|| {
+    with_large_stack(|| {
         let mut ended = 0;
         let mut events = 0;
-        let count = cases(10_000);
+        let count = case_count(10_000);
         for seed in 0..count {
             let mut rng = Rng::new(2_000_000 + seed as u64);
             let size = Size { bodies: 1 + rng.below(6), instructions: 5 + rng.below(60), classes: 3 };
             let m = good_macro(&mut rng, size);
             let loaded = judge_macro(&write_macro(&m)).unwrap();
             let reading = oracle(rng.byte());
-            let look = if seed % 4 == 0 { Look::Every } else { Look::Not };
-            let most = if look == Look::Every { 150 } else { 3_000 };
-            match walk(&loaded, &mut |k, n| reading(k, n), most, usize::MAX, look) {
+            let checks = if seed % 4 == 0 { StateChecks::EveryState } else { StateChecks::None };
+            let most = if checks == StateChecks::EveryState { 150 } else { 3_000 };
+            match walk(&loaded, &mut |k, n| reading(k, n), most, usize::MAX, checks) {
                 Ok(w) => {
                     ended += w.end.is_some() as usize;
                     events += w.items.len();
@@ -107,12 +96,12 @@ fn passed_macros_are_never_stuck() {
 /// The generators waste little: nearly everything they make passes before it is filtered.
 #[test]
 fn generators_make_mostly_valid_things() {
-    deep(|| {
+    with_large_stack(|| {
         let mut accepted = 0;
         let mut passed = 0;
         for seed in 0..400 {
             let mut rng = Rng::new(3_000_000 + seed);
-            let size = some_size(&mut rng);
+            let size = some_size(&mut rng, SIZES);
             let made = plan(&mut rng, size);
             let tree = unfiltered_program(&mut rng, made);
             accepted += judge_table(&bytes_of(&write_tree(&tree))).is_ok() as usize;
@@ -125,14 +114,42 @@ fn generators_make_mostly_valid_things() {
     });
 }
 
+/// A loop that is to end by 27 makes records of any class, not always of the first.
+#[test]
+fn provoked_records_are_of_any_class() {
+    with_large_stack(|| {
+        // How often such a loop makes records of the class that was made first, second, and so on.
+        let mut made = [0usize; 4];
+        for seed in 0..1_000 {
+            let mut rng = Rng::new(9_000_000 + seed);
+            let tree = program(&mut rng, Plan { entries: 200, wild: false, forever: 0, provoke: Some(27) });
+            let list = write_tree(&tree);
+            let head: Vec<Entry> = tree.root.head.iter().map(|declaration| list[declaration.at]).collect();
+            // Where the head has been shuffled, the classes do not stand first and in their order.
+            let classes = head.iter().filter(|e| e.kind == 11).count();
+            if head.len() < classes + 5 || head[..classes].iter().any(|e| e.kind != 11) {
+                continue;
+            }
+            for loops in list.windows(5) {
+                // while true do v := record ..., or assert record ... = null
+                if matches!([0, 1, 2, 3, 4].map(|k| loops[k].kind), [24, 41, 21, 44, 47] | [24, 41, 26, 49, 47]) {
+                    let class = head.iter().position(|e| *e == Entry { kind: 11, a: loops[4].a, b: e.b });
+                    made[class.expect("the class is declared")] += 1;
+                }
+            }
+        }
+        println!("{made:?}");
+        assert!(made.iter().all(|n| *n > 20), "{made:?}");
+    });
+}
+
 #[test]
 fn tables_read_back_as_they_were_written() {
-    deep(|| {
-        for seed in 0..cases(300) {
+    with_large_stack(|| {
+        for seed in 0..case_count(300) {
             let mut rng = Rng::new(4_000_000 + seed as u64);
-            let size = some_size(&mut rng);
-            let made = plan(&mut rng, size);
-            let table = bytes_of(&write_tree(&program(&mut rng, made)));
+            let size = some_size(&mut rng, SIZES);
+            let table = bytes_of(&write_tree(&some_program(&mut rng, size)));
             let tree = read_table(&table).unwrap();
             assert_eq!(bytes_of(&write_tree(&tree)), table);
         }
@@ -142,17 +159,16 @@ fn tables_read_back_as_they_were_written() {
 /// Runs on bytes are runs of the plain machine, with the state's bytes its encoding.
 #[test]
 fn runs_on_bytes_are_runs_of_the_machine() {
-    deep(|| {
+    with_large_stack(|| {
         let mut refused = 0;
         let mut answered_again = 0;
-        for seed in 0..cases(2_000) {
+        for seed in 0..case_count(2_000) {
             let mut rng = Rng::new(5_000_000 + seed as u64);
             let m = if rng.chance(50) {
                 good_macro(&mut rng, Size { bodies: 4, instructions: 25, classes: 3 })
             } else {
                 let size = 5 + rng.below(60);
-                let made = plan(&mut rng, size);
-                compile(&program(&mut rng, made))
+                compile(&some_program(&mut rng, size))
             };
             let code = write_macro(&m);
             let loaded = judge_macro(&code).unwrap();
@@ -192,14 +208,13 @@ fn runs_on_bytes_are_runs_of_the_machine() {
 /// oracle is that of the banks used.
 #[test]
 fn runs_give_the_events_of_the_tree() {
-    deep(|| {
+    with_large_stack(|| {
         let mut ended = 0;
-        let count = cases(4_000);
+        let count = case_count(4_000);
         for seed in 0..count {
             let mut rng = Rng::new(6_000_000 + seed as u64);
             let size = 5 + rng.below(80);
-            let made = plan(&mut rng, size);
-            let tree = program(&mut rng, made);
+            let tree = some_program(&mut rng, size);
             let m = compile(&tree);
             let bank: Vec<u8> = (0..64).map(|_| rng.byte()).collect();
             let mut state = fresh(&m);
@@ -217,14 +232,7 @@ fn runs_give_the_events_of_the_tree() {
                 }
             }
             let x = execute(&tree, &mut |_, n| bank[n as usize - 1], budget(20_000));
-            let said: Vec<Event> = x
-                .items
-                .iter()
-                .filter_map(|item| match item {
-                    Item::Event(event) => Some(*event),
-                    Item::Reading { .. } => None,
-                })
-                .collect();
+            let said = x.events();
             if end.is_some() {
                 ended += 1;
                 assert_eq!((&events, end), (&said, x.end), "program {seed}");
@@ -239,7 +247,7 @@ fn runs_give_the_events_of_the_tree() {
 /// Reading a macro's bytes gives the macro, and its bytes give it back.
 #[test]
 fn macros_read_back_as_they_were_written() {
-    for seed in 0..cases(300) {
+    for seed in 0..case_count(300) {
         let mut rng = Rng::new(7_000_000 + seed as u64);
         let m = good_macro(&mut rng, Size { bodies: 5, instructions: 30, classes: 4 });
         let loaded = judge_macro(&write_macro(&m)).unwrap();

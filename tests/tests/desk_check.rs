@@ -2,14 +2,16 @@
 //! over generated, damaged and random tables. `judged` holds the three checks to each other.
 #![cfg(desk)]
 
-use second::blind::{blind_table, loose_table};
-use second::damage::reshaped_table;
-use second::edges::edge_table;
-use second::gen::{damaged_table, plan, program, purposeful};
-use second::paper::judged;
-use second::rng::Rng;
-use second::table::{bytes_of, write_tree, Entry};
-use second::{cases, deep};
+use second::evaluator::table::{bytes_of, write_tree, Entry};
+use second::generate::damaged_entries::damaged_table;
+use second::generate::damaged_structure::reshaped_table;
+use second::generate::edge_cases::edge_table;
+use second::generate::judged_tables::some_refused_table;
+use second::generate::programs::some_program;
+use second::generate::rng::Rng;
+use second::generate::untyped_tables::{untyped_table, random_entries};
+use second::harness::setup::{case_count, with_large_stack};
+use second::harness::verdicts::judged;
 
 /// A valid table, small as a rule.
 fn valid_table(rng: &mut Rng) -> Vec<Entry> {
@@ -18,8 +20,7 @@ fn valid_table(rng: &mut Rng) -> Vec<Entry> {
         1..=40 => 60 + rng.below(140),
         _ => 4 + rng.below(56),
     };
-    let made = plan(rng, size);
-    write_tree(&program(rng, made))
+    write_tree(&some_program(rng, size))
 }
 
 /// How often each number was given, 0 for accepted, and how many places were not among the first entries.
@@ -49,7 +50,7 @@ impl Tally {
 
 /// So many cases, a valid table for each eight of them.
 fn tally(seed: u64, count: usize, mut made: impl FnMut(&mut Rng, &[Entry], usize) -> Vec<u8> + Send) -> Tally {
-    deep(move || {
+    with_large_stack(move || {
         let mut tally = Tally::default();
         let mut rng = Rng::new(seed);
         let mut valid = Vec::new();
@@ -65,31 +66,28 @@ fn tally(seed: u64, count: usize, mut made: impl FnMut(&mut Rng, &[Entry], usize
 
 #[test]
 fn generated_and_damaged_tables() {
-    let tally = tally(1, cases(150_000), |rng, valid, i| if i % 8 == 0 { bytes_of(valid) } else { damaged_table(rng, valid) });
+    let tally = tally(1, case_count(150_000), |rng, valid, i| if i % 8 == 0 { bytes_of(valid) } else { damaged_table(rng, valid) });
     tally.spread(&[0, 1, 2, 3, 4, 5]);
 }
 
 #[test]
 fn reshaped_tables() {
-    let tally = tally(2, cases(120_000), |rng, valid, _| reshaped_table(rng, valid));
+    let tally = tally(2, case_count(120_000), |rng, valid, _| reshaped_table(rng, valid));
     tally.spread(&[0, 2, 3, 4, 6]);
 }
 
 #[test]
-fn blind_tables() {
-    deep(|| {
+fn untyped_tables() {
+    with_large_stack(|| {
         let mut tally = Tally::default();
         let mut rng = Rng::new(3);
-        for i in 0..cases(150_000) {
+        for i in 0..case_count(150_000) {
             let entries = 2 + rng.below(40);
             tally.count(&match i % 8 {
-                0 => loose_table(&mut rng),
+                0 => random_entries(&mut rng),
                 1 => edge_table(&mut rng),
-                2 => {
-                    let number = 1 + rng.below(6) as u8;
-                    purposeful(&mut rng, number)
-                }
-                _ => blind_table(&mut rng, entries),
+                2 => some_refused_table(&mut rng),
+                _ => untyped_table(&mut rng, entries),
             });
         }
         tally.spread(&[0, 2, 3, 4, 5, 6]);

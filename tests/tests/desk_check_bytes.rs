@@ -2,13 +2,15 @@
 //! that lie, nesting and length at their limits, noise. `judged` holds the three checks to each other.
 #![cfg(desk)]
 
-use second::damage::{double, parts, put_before, recount, remove, Count, LIES};
-use second::gen::{plan, program, KINDS};
-use second::paper::{entries, judged, table, verdict, LISTING_EXAMPLE};
-use second::rng::Rng;
-use second::table::{bytes_of, write_tree, Entry, MOST_BYTES};
-use second::worst::worst_tables;
-use second::{cases, deep};
+use second::evaluator::table::{bytes_of, write_tree, Entry, MOST_BYTES};
+use second::generate::damaged_structure::{double, parts, put_before, recount, remove, Count, WRONG_COUNTS};
+use second::generate::entries::KINDS;
+use second::generate::notation::{entries, table, LISTING_EXAMPLE};
+use second::generate::programs::some_program;
+use second::generate::rng::Rng;
+use second::generate::worst_case_tables::worst_case_tables;
+use second::harness::setup::{case_count, with_large_stack};
+use second::harness::verdicts::{judged, verdict};
 
 /// An accepted table with every kind of entry and every sort of count.
 const EVERY_KIND: &str = "1 8 9
@@ -104,18 +106,18 @@ fn every_part_removed_doubled_and_moved() {
 }
 
 #[test]
-fn counts_that_lie() {
+fn wrong_counts() {
     let list = entries(EVERY_KIND);
     for part in parts(&list) {
-        let mut lies = vec![list[part.parent]; LIES.len() + 2];
-        for (e, lie) in lies.iter_mut().zip(LIES) {
+        let mut lies = vec![list[part.parent]; WRONG_COUNTS.len() + 2];
+        for (e, lie) in lies.iter_mut().zip(WRONG_COUNTS) {
             match part.count {
                 Count::A => e.a = lie as u16,
                 _ => e.b = lie,
             }
         }
-        recount(&mut lies[LIES.len()], part.count, 1);
-        recount(&mut lies[LIES.len() + 1], part.count, -1);
+        recount(&mut lies[WRONG_COUNTS.len()], part.count, 1);
+        recount(&mut lies[WRONG_COUNTS.len() + 1], part.count, -1);
         for lie in lies.into_iter().filter(|e| *e != list[part.parent]) {
             let mut other = list.clone();
             other[part.parent] = lie;
@@ -184,13 +186,12 @@ fn ends_anywhere(bytes: &[u8]) {
 
 #[test]
 fn tables_that_end_anywhere() {
-    deep(|| {
+    with_large_stack(|| {
         ends_anywhere(&table(EVERY_KIND));
         ends_anywhere(&table(LISTING_EXAMPLE));
         let mut rng = Rng::new(5);
         for size in [5, 20, 60, 200, 200] {
-            let made = plan(&mut rng, size);
-            ends_anywhere(&bytes_of(&write_tree(&program(&mut rng, made))));
+            ends_anywhere(&bytes_of(&write_tree(&some_program(&mut rng, size))));
         }
     });
 }
@@ -260,8 +261,8 @@ fn nesting_64_and_65_by_every_kind() {
 }
 
 #[test]
-fn worst_tables_for_lookups() {
-    for (what, bytes, number) in worst_tables() {
+fn worst_case_tables_for_lookups() {
+    for (what, bytes, number) in worst_case_tables() {
         assert_eq!(bytes.len(), MOST_BYTES, "{what}");
         assert_eq!(judged(&bytes).0, number, "{what}");
     }
@@ -270,7 +271,7 @@ fn worst_tables_for_lookups() {
 #[test]
 fn noise() {
     let mut rng = Rng::new(6);
-    for i in 0..cases(4_000) {
+    for i in 0..case_count(4_000) {
         let length = if i % 100 == 0 { rng.below(2 * MOST_BYTES) } else { rng.below(400) };
         let bytes: Vec<u8> = (0..length).map(|_| rng.byte()).collect();
         judged(&bytes);

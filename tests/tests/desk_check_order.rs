@@ -2,7 +2,8 @@
 //! entry the least of 3, 4, 5, then 6, procedures first. Every two of a list of faults, in every two places.
 #![cfg(desk)]
 
-use second::paper::{entries, verdict};
+use second::generate::notation::entries;
+use second::harness::verdicts::verdict;
 
 /// A statement with one fault: its number, its entry counted from the statement, and the statement. The root
 /// has a variable 1 and a label 5.

@@ -5,23 +5,28 @@
 use std::cell::RefCell;
 use std::collections::BTreeMap;
 
-use second::abreast::run_along;
-use second::answer::{Answer, Event, Item, Refusal};
-use second::blind::{blind_table, loose_table};
-use second::code::{judge_macro, Macro};
-use second::damage::reshaped_table;
-use second::desk::{self, compiled, MOST_MACRO_BYTES};
-use second::edges::{deciding_table, edge_table};
-use second::execute::{budget, execute};
-use second::gen::{damaged_table, plan, program, purposeful};
-use second::gen_code::some_run;
-use second::machine::{fresh, step, State};
-use second::paper::{judged, table};
-use second::rng::Rng;
-use second::state::LENGTH;
-use second::table::{bytes_of, entries_of, write_tree, Entry, Tree};
-use second::worst::worst_tables;
-use second::{cases, deep, judge_table, plain_compiler};
+use second::evaluator::answer::{Answer, Event, Item, Refusal};
+use second::evaluator::code::{judge_macro, Macro};
+use second::evaluator::execute::{budget, execute};
+use second::evaluator::machine::{fresh, step, State};
+use second::evaluator::names::judge_table;
+use second::evaluator::state::LENGTH;
+use second::evaluator::table::{bytes_of, entries_of, write_tree, Entry, Tree};
+use second::generate::damaged_entries::damaged_table;
+use second::generate::damaged_structure::reshaped_table;
+use second::generate::edge_cases::{deciding_table, edge_table};
+use second::generate::judged_tables::some_refused_table;
+use second::generate::notation::table;
+use second::generate::programs::{plan, program, some_program, some_size};
+use second::generate::rng::Rng;
+use second::generate::runs::some_run;
+use second::generate::untyped_tables::{untyped_table, random_entries};
+use second::generate::worst_case_tables::worst_case_tables;
+use second::harness::compare_machines::run_along;
+use second::harness::desk::{self, compiled, MOST_MACRO_BYTES};
+use second::harness::setup::{case_count, with_large_stack};
+use second::harness::verdicts::judged;
+use second::plain;
 
 // Compiling.
 
@@ -32,7 +37,7 @@ thread_local! {
 /// The bytes of the plain compiler, or its refusal.
 fn plainly(table: &[u8]) -> Result<Vec<u8>, (u8, usize)> {
     OUT.with_borrow_mut(|out| {
-        let length = plain_compiler::compile(table, out)?;
+        let length = plain::compiler::compile(table, out)?;
         Ok(out[..length].to_vec())
     })
 }
@@ -110,7 +115,7 @@ fn some_runs(rng: &mut Rng, m: &Macro, code: &[u8], most: usize) -> Runs {
         let answer = if along {
             run_along(m, code, &mut machine, &mut state, &bank, one.allowance)
         } else {
-            let answer = second::machine::run(m, &mut machine, &bank, one.allowance).expect("a passed macro is never stuck");
+            let answer = second::evaluator::machine::run(m, &mut machine, &bank, one.allowance).expect("a passed macro is never stuck");
             assert_eq!(desk::run(code, &mut state, &bank, one.allowance), answer.packed());
             answer
         };
@@ -139,14 +144,7 @@ fn as_the_tree(tree: &Tree, list: &Runs) {
     };
     // Every step of the tree that costs fuel takes the machine a step.
     let x = execute(tree, &mut oracle, budget(list.steps + 2));
-    let events: Vec<Event> = x
-        .items
-        .iter()
-        .filter_map(|item| match item {
-            Item::Event(event) => Some(*event),
-            Item::Reading { .. } => None,
-        })
-        .collect();
+    let events = x.events();
     if list.end.is_some() {
         assert_eq!((x.end, &events), (list.end, &list.events));
         assert_eq!(x.items.len(), list.events.len() + list.readings.len());
@@ -211,27 +209,17 @@ impl Spread {
     }
 }
 
-/// All sizes, the small ones more often.
-fn some_size(rng: &mut Rng) -> usize {
-    match rng.below(200) {
-        0..=119 => 5 + rng.below(36),
-        120..=179 => 40 + rng.below(160),
-        180..=197 => 200 + rng.below(600),
-        _ => 800 + rng.below(1_200),
-    }
-}
-
 #[test]
 fn programs_do_what_their_tree_does() {
-    deep(|| {
-        let count = cases(100_000);
+    with_large_stack(|| {
+        let count = case_count(100_000);
         let mut spread = Spread::default();
         for seed in 0..count {
             let mut rng = Rng::new(40_000_000 + seed as u64);
             let bytes = match rng.below(20) {
                 0 => deciding_table(&mut rng),
                 _ => {
-                    let size = some_size(&mut rng);
+                    let size = some_size(&mut rng, [60, 30, 9]);
                     let mut made = plan(&mut rng, size);
                     if rng.chance(8) {
                         made.forever = 70;
@@ -278,29 +266,25 @@ fn as_the_check(bytes: &[u8], room: usize) -> u8 {
 
 #[test]
 fn damaged_tables_as_the_check() {
-    deep(|| {
-        let count = cases(100_000);
+    with_large_stack(|| {
+        let count = case_count(100_000);
         let mut numbers = [0usize; 8];
         let mut rng = Rng::new(41);
         let mut valid = Vec::new();
         for i in 0..count {
             if i % 8 == 0 {
                 let size = 4 + rng.below(56);
-                let made = plan(&mut rng, size);
-                valid = write_tree(&program(&mut rng, made));
+                valid = write_tree(&some_program(&mut rng, size));
             }
             let bytes = match i % 8 {
                 0 => bytes_of(&valid),
                 1 => edge_table(&mut rng),
-                2 => {
-                    let number = 1 + rng.below(6) as u8;
-                    purposeful(&mut rng, number)
-                }
+                2 => some_refused_table(&mut rng),
                 3 => reshaped_table(&mut rng, &valid),
-                4 if rng.chance(50) => loose_table(&mut rng),
+                4 if rng.chance(50) => random_entries(&mut rng),
                 4 => {
                     let entries = 2 + rng.below(40);
-                    blind_table(&mut rng, entries)
+                    untyped_table(&mut rng, entries)
                 }
                 _ => damaged_table(&mut rng, &valid),
             };
@@ -315,12 +299,11 @@ fn damaged_tables_as_the_check() {
 /// 7: "output shorter than the macro", and no other room.
 #[test]
 fn every_room() {
-    deep(|| {
-        for seed in 0..cases(2_000) {
+    with_large_stack(|| {
+        for seed in 0..case_count(2_000) {
             let mut rng = Rng::new(42_000_000 + seed as u64);
             let size = 5 + rng.below(100);
-            let made = plan(&mut rng, size);
-            let bytes = bytes_of(&write_tree(&program(&mut rng, made)));
+            let bytes = bytes_of(&write_tree(&some_program(&mut rng, size)));
             let length = plainly(&bytes).unwrap().len();
             for room in [0, 1, 2, 7, 8, length / 2, length - 9, length - 2, length - 1] {
                 assert_eq!(as_the_check(&bytes, room), 7);
@@ -346,9 +329,9 @@ fn no_table() {
 }
 
 #[test]
-fn worst_tables_as_the_check() {
-    deep(|| {
-        for (what, bytes, number) in worst_tables() {
+fn worst_case_tables_as_the_check() {
+    with_large_stack(|| {
+        for (what, bytes, number) in worst_case_tables() {
             assert_eq!(as_the_check(&bytes, MOST_MACRO_BYTES), number, "{what}");
         }
     });
@@ -415,7 +398,7 @@ fn a_condition_releases_the_callers_holds() {
 /// The most instructions that are known of a table (L12): a goto out of 16 holds as every arm of a case, 22 for each.
 #[test]
 fn the_most_instructions() {
-    deep(|| {
+    with_large_stack(|| {
         let arms = 2_048 - 21;
         let text = format!("1 0 2, {}, 20 5 0", gotos_out_of_holds(arms));
         let bytes = table(&text);
@@ -430,7 +413,7 @@ fn the_most_instructions() {
 /// The same in a block expression while 30 values wait, so that the shapes are long: the longest macro that is known.
 #[test]
 fn the_longest_macro() {
-    deep(|| {
+    with_large_stack(|| {
         let arms = 2_048 - 83;
         let waiting = "49 1 0, 40 0 1, ".repeat(29);
         let text = format!("1 0 1, 28 0 0, 40 0 1, {waiting} 53 0 2, {}, 20 5 0, 40 0 1", gotos_out_of_holds(arms));

@@ -1,12 +1,12 @@
 //! `cue_run` at every condition and every limit of a run, each by name: what arises at which step, the releases after it, the end.
 #![cfg(desk)]
 
-use second::abreast::{run, run_along, started};
-use second::answer::{Answer, Event};
-use second::code::{write_macro, Macro};
-use second::edges::{chain, spiral};
-use second::machine::fresh;
-use second::paper::{body, code, root_only, shape};
+use second::evaluator::answer::{Answer, Event};
+use second::evaluator::code::{write_macro, Macro};
+use second::evaluator::machine::fresh;
+use second::generate::edge_cases::{endless_records, endless_recursion};
+use second::generate::notation::{body, code, root_only, shape};
+use second::harness::compare_machines::{run, run_along, started};
 
 fn used(steps: u16) -> Answer {
     Answer::AllowanceUsed { steps }
@@ -120,7 +120,7 @@ fn channels_and_levels_that_pass() {
 #[test]
 fn condition_26_and_512_holds() {
     for (cells, holds, operands) in [(0, 0, 0), (32, 16, 32), (1, 16, 0), (0, 1, 31)] {
-        let m = spiral(cells, holds, operands);
+        let m = endless_recursion(cells, holds, operands);
         let bytes = write_macro(&m);
         let mut machine = fresh(&m);
         let mut state = started(&bytes);
@@ -177,7 +177,7 @@ fn thirty_two_activations_and_back() {
 #[test]
 fn condition_27_the_257th_record() {
     for integers in [0, 7] {
-        let m = chain(integers);
+        let m = endless_records(integers);
         let bytes = write_macro(&m);
         let mut state = started(&bytes);
         // A round: the values, the reference, the making, the storing, the jump.

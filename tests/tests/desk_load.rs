@@ -1,13 +1,15 @@
 //! `cue_load`, through the C interface, against the second evaluator: number and place.
 #![cfg(desk)]
 
-use second::answer::Refusal;
-use second::code::{judge_macro, write_macro, Macro};
-use second::edges::edge_macro;
-use second::gen_code::{damaged_macro, good_macro, Size};
-use second::paper::{body, code, root_only, shape};
-use second::rng::Rng;
-use second::{cases, deep, desk, plain_loader};
+use second::evaluator::answer::Refusal;
+use second::evaluator::code::{judge_macro, write_macro, Macro};
+use second::generate::edge_cases::edge_macro;
+use second::generate::macros::{damaged_macro, good_macro, Size};
+use second::generate::notation::{body, code, root_only, shape};
+use second::generate::rng::Rng;
+use second::harness::desk;
+use second::harness::setup::{case_count, with_large_stack};
+use second::plain;
 
 fn expected(bytes: &[u8]) -> [u64; 4] {
     match judge_macro(bytes) {
@@ -19,7 +21,7 @@ fn expected(bytes: &[u8]) -> [u64; 4] {
 fn agrees(bytes: &[u8]) {
     let wanted = expected(bytes);
     assert_eq!(desk::unpacked(desk::load(bytes)), wanted, "macro {bytes:?}");
-    let plain = plain_loader::load(bytes);
+    let plain = plain::loader::load(bytes);
     let plain = if plain.0 == 0 { [1, 0, 0, 0] } else { [0, 0, plain.0 as u64, plain.1 as u64] };
     assert_eq!(plain, wanted, "the plain loader, macro {bytes:?}");
 }
@@ -32,10 +34,10 @@ fn given(m: &Macro) -> [u64; 4] {
 
 #[test]
 fn generated_and_damaged_macros() {
-    deep(|| {
+    with_large_stack(|| {
         let mut rng = Rng::new(3);
         let mut seen = [0usize; 3];
-        let count = cases(120_000);
+        let count = case_count(120_000);
         for i in 0..count {
             let bytes = match i % 8 {
                 0 => edge_macro(&mut rng),

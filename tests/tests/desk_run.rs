@@ -2,18 +2,21 @@
 //! evaluator's machine goes along and never sees the bytes; refusals in between; the order of the refusals; endless macros.
 #![cfg(desk)]
 
-use second::abreast::{run, run_along, start, Seen};
-use second::agree::balanced;
-use second::answer::{Answer, Event, Item, Refusal};
-use second::code::{judge_macro, write_macro, Macro};
-use second::compile::compile;
-use second::edges::{chain, counter, edge_macro, long_macro, spiral};
-use second::gen_code::{damaged_macro, good_macro, some_run, some_runs, Run, Size};
-use second::machine::{fresh, step, State};
-use second::paper::{self, body, root_only, shape, table, LISTING_EXAMPLE};
-use second::rng::Rng;
-use second::state::LENGTH;
-use second::{cases, deep, desk, judge_table};
+use second::evaluator::answer::{Answer, Event, Item, Refusal};
+use second::evaluator::code::{judge_macro, write_macro, Macro};
+use second::evaluator::compiler::compile;
+use second::evaluator::machine::{fresh, step, State};
+use second::evaluator::names::judge_table;
+use second::evaluator::state::LENGTH;
+use second::generate::edge_cases::{edge_macro, endless_counter, endless_records, endless_recursion, long_macro};
+use second::generate::macros::{damaged_macro, good_macro, Size};
+use second::generate::notation::{self, body, root_only, shape, table, LISTING_EXAMPLE};
+use second::generate::rng::Rng;
+use second::generate::runs::{some_run, some_runs, Run};
+use second::harness::compare_machines::{run, run_along, start, AnswerCounts};
+use second::harness::compare_tree_and_code::balanced;
+use second::harness::desk;
+use second::harness::setup::{case_count, with_large_stack};
 
 fn refusal(number: u8, place: usize) -> Answer {
     Answer::Refusal(Refusal { number, place })
@@ -44,7 +47,7 @@ fn passing(rng: &mut Rng) -> Macro {
 }
 
 /// A run that must be refused, on a copy of the state: another macro, a state of another length, or both.
-fn refused_between(rng: &mut Rng, m: &Macro, code: &[u8], state: &[u8], one: &Run, seen: &mut Seen) {
+fn refused_between(rng: &mut Rng, m: &Macro, code: &[u8], state: &[u8], one: &Run, seen: &mut AnswerCounts) {
     let damaged = if rng.chance(60) { damaged_macro(rng, m) } else { code.to_vec() };
     let mut copy = state.to_vec();
     if rng.chance(40) {
@@ -54,7 +57,7 @@ fn refused_between(rng: &mut Rng, m: &Macro, code: &[u8], state: &[u8], one: &Ru
 }
 
 /// A start on noise and a list of runs; the items must balance where it ends. The runs done.
-fn follow(rng: &mut Rng, m: &Macro, runs: &[Run], seen: &mut Seen) -> usize {
+fn follow(rng: &mut Rng, m: &Macro, runs: &[Run], seen: &mut AnswerCounts) -> usize {
     let code = write_macro(m);
     let noise = rng.byte();
     let mut state: Vec<u8> = (0..LENGTH).map(|i| noise.wrapping_mul(i as u8)).collect();
@@ -86,9 +89,9 @@ fn follow(rng: &mut Rng, m: &Macro, runs: &[Run], seen: &mut Seen) -> usize {
 
 #[test]
 fn lists_of_runs() {
-    deep(|| {
-        let count = cases(100_000);
-        let mut seen = Seen::default();
+    with_large_stack(|| {
+        let count = case_count(100_000);
+        let mut seen = AnswerCounts::default();
         let mut done = 0;
         for seed in 0..count {
             let mut rng = Rng::new(20_000_000 + seed as u64);
@@ -116,9 +119,9 @@ fn lists_of_runs() {
 /// The whole list again with other allowances: the same events and the same end, whatever the slices.
 #[test]
 fn slices_do_not_matter() {
-    deep(|| {
+    with_large_stack(|| {
         let mut open = 0;
-        let count = cases(2_000);
+        let count = case_count(2_000);
         for seed in 0..count {
             let mut rng = Rng::new(21_000_000 + seed as u64);
             let m = passing(&mut rng);
@@ -161,12 +164,12 @@ fn endless_macros() {
     let endless = [
         root_only("8 0 0", vec![shape(0, 0, &[])]),
         root_only("17 0 3, 18 0 0, 8 0 0", vec![shape(0, 0, &[])]),
-        counter(40_000),
-        counter(1),
-        chain(7),
-        spiral(32, 16, 32),
+        endless_counter(40_000),
+        endless_counter(1),
+        endless_records(7),
+        endless_recursion(32, 16, 32),
     ];
-    let mut seen = Seen::default();
+    let mut seen = AnswerCounts::default();
     for (i, m) in endless.iter().enumerate() {
         let mut rng = Rng::new(22_000_000 + i as u64);
         let one = |allowance| Run { length: 64, allowance, ..some_run(&mut rng, 1) };
@@ -279,7 +282,7 @@ fn a_condition_releases_the_callers_holds_too() {
     let m = Macro {
         classes: vec![],
         bodies: vec![body(0, 0, 0, &[]), body(6, 0, 0, &[])],
-        code: paper::code(&format!("{root}, {procedure}")),
+        code: notation::code(&format!("{root}, {procedure}")),
         shapes: vec![],
     };
     let code = write_macro(&m);

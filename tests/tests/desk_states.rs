@@ -2,17 +2,17 @@
 //! with nothing written, or runs as the second evaluator runs what it decodes; and bytes that a state does not use never count.
 #![cfg(desk)]
 
-use second::abreast::{run, started, Seen};
-use second::answer::{Answer, Refusal};
-use second::code::{judge_macro, write_macro, Loaded, Macro};
-use second::edges::{chain, deep_macro, edge_state, long_macro, spiral};
-use second::gen_code::{good_macro, Size};
-use second::gen_state::{add_operands, after, move_structure, reached, state_bytes, used};
-use second::machine::State;
-use second::paper::{body, code};
-use second::rng::Rng;
-use second::state::{encode, LENGTH};
-use second::{cases, deep};
+use second::evaluator::answer::{Answer, Refusal};
+use second::evaluator::code::{judge_macro, write_macro, Loaded, Macro};
+use second::evaluator::machine::State;
+use second::evaluator::state::{encode, LENGTH};
+use second::generate::edge_cases::{deep_macro, edge_state, endless_records, endless_recursion, long_macro};
+use second::generate::macros::{good_macro, Size};
+use second::generate::notation::{body, code};
+use second::generate::rng::Rng;
+use second::generate::states::{add_operands, after, move_structure, reached, state_bytes, used};
+use second::harness::compare_machines::{run, started, AnswerCounts};
+use second::harness::setup::{case_count, with_large_stack};
 
 const UNSOUND: Answer = Answer::Refusal(Refusal { number: 10, place: 0 });
 
@@ -24,7 +24,7 @@ fn loaded_of(m: Macro) -> (Loaded, Vec<u8>) {
 /// Every byte of a running, a releasing and an ended state changed, one at a time and in three ways: where it is not in use nothing changes.
 #[test]
 fn every_byte() {
-    deep(|| {
+    with_large_stack(|| {
         let (loaded, code) = loaded_of(deep_macro().code);
         let releasing = State::Releasing { condition: 23, holds: vec![63, 0, 7, 7] };
         for (state, unsound) in [(after(&loaded, 30), 180..400), (releasing, 10..20), (State::Ended { code: 27 }, 3..6)] {
@@ -55,9 +55,9 @@ fn every_byte() {
 /// Generated states, as they are or damaged, and what a first run leaves of them run on.
 #[test]
 fn damaged_states() {
-    deep(|| {
-        let count = cases(40_000);
-        let mut seen = Seen::default();
+    with_large_stack(|| {
+        let count = case_count(40_000);
+        let mut seen = AnswerCounts::default();
         let deep_one = deep_macro();
         for seed in 0..count {
             let mut rng = Rng::new(23_000_000 + seed as u64);
@@ -145,8 +145,8 @@ fn the_place_of_another_body() {
 /// All bytes that a state does not use become noise: it runs as it does without, and afterwards they are 0.
 #[test]
 fn noise_where_nothing_is_used() {
-    deep(|| {
-        for seed in 0..cases(4_000) {
+    with_large_stack(|| {
+        for seed in 0..case_count(4_000) {
             let mut rng = Rng::new(24_000_000 + seed as u64);
             let m = if rng.chance(30) { long_macro(&mut rng) } else { good_macro(&mut rng, Size { bodies: 3, instructions: 20, classes: 3 }) };
             let (loaded, code) = loaded_of(m);
@@ -167,8 +167,8 @@ fn noise_where_nothing_is_used() {
 fn noise() {
     let (_, code) = loaded_of(deep_macro().code);
     let mut rng = Rng::new(25_000_000);
-    let mut seen = Seen::default();
-    let count = cases(4_000);
+    let mut seen = AnswerCounts::default();
+    let count = case_count(4_000);
     for i in 0..count {
         let most = *rng.pick(&[2, 4, 40, 256]);
         let mut bytes: Vec<u8> = (0..LENGTH).map(|_| rng.below(most) as u8).collect();
@@ -185,7 +185,7 @@ fn noise() {
 #[test]
 fn counts_at_their_limits() {
     // 32 activations with 32 cells, 16 holds and 32 operands each: 512 holds.
-    let (_, code) = loaded_of(spiral(32, 16, 32));
+    let (_, code) = loaded_of(endless_recursion(32, 16, 32));
     let mut full = started(&code);
     while full[2] < 32 || full[32 + 31 * 328 + 1] < 32 {
         run(&code, &mut full, &[0; 64], 1);
@@ -204,7 +204,7 @@ fn counts_at_their_limits() {
     }
     assert!(!refused(&code, &full, &[(10_528 + 511, 63)]));
     // 256 records: the 257th is not made.
-    let (_, code) = loaded_of(chain(7));
+    let (_, code) = loaded_of(endless_records(7));
     let mut full = started(&code);
     while full[5] == 0 {
         run(&code, &mut full, &[0; 64], 1);

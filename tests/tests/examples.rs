@@ -5,14 +5,18 @@ use std::collections::BTreeSet;
 use std::path::{Path, PathBuf};
 
 use cue_tools::entries::{to_table, to_text};
-use second::answer::{Answer, Event, Item};
-use second::code::{judge_macro, write_macro, Macro};
-use second::compile::compile;
-use second::execute::{budget, execute};
-use second::machine::{fresh, run};
-use second::paper::{judged, table, LISTING_EXAMPLE};
-use second::table::Tree;
-use second::{deep, judge_table, plain_compiler};
+use second::evaluator::answer::Answer;
+use second::evaluator::code::{judge_macro, write_macro, Macro};
+use second::evaluator::compiler::compile;
+use second::evaluator::execute::{budget, execute};
+use second::evaluator::machine::{fresh, run};
+use second::evaluator::names::judge_table;
+use second::evaluator::table::Tree;
+use second::generate::notation::{table, LISTING_EXAMPLE};
+use second::harness::listings::event_line;
+use second::harness::setup::with_large_stack;
+use second::harness::verdicts::judged;
+use second::plain;
 
 /// "or `open 0` after 65,535 steps"
 const LISTED_STEPS: u64 = 65_535;
@@ -50,14 +54,6 @@ fn text_of(name: &str, sort: &str) -> String {
 
 // Listings.
 
-fn event_line(event: &Event) -> String {
-    match event {
-        Event::Set { channel, level } => format!("set {channel} {level}\n"),
-        Event::Hold { group } => format!("hold {group}\n"),
-        Event::Release { group } => format!("release {group}\n"),
-    }
-}
-
 /// The listing of a macro, by whatever answers a run with an allowance.
 fn listing(mut run: impl FnMut(u16) -> Answer) -> String {
     let mut lines = String::new();
@@ -66,7 +62,7 @@ fn listing(mut run: impl FnMut(u16) -> Answer) -> String {
         let answer = run(left as u16);
         left -= answer.numbers()[1];
         match answer {
-            Answer::Event { event, .. } => lines.push_str(&event_line(&event)),
+            Answer::Event { event, .. } => lines += &(event_line(&event) + "\n"),
             Answer::End { code, .. } => return lines + &format!("end {code}\n"),
             Answer::AllowanceUsed { .. } => assert_eq!(left, 0),
             Answer::Refusal(refusal) => panic!("{refusal:?}"),
@@ -83,11 +79,7 @@ fn machine_listing(m: &Macro) -> String {
 /// The events of the tree, more than any machine can answer in the steps of a listing, and the end.
 fn tree_events(tree: &Tree) -> (Vec<String>, Option<u8>) {
     let x = execute(tree, &mut |_, _| 0, budget(LISTED_STEPS + 2));
-    let line = |item: &Item| match item {
-        Item::Event(event) => Some(event_line(event)),
-        Item::Reading { .. } => None,
-    };
-    (x.items.iter().filter_map(line).collect(), x.end)
+    (x.events().iter().map(|event| event_line(event) + "\n").collect(), x.end)
 }
 
 #[test]
@@ -111,7 +103,7 @@ fn texts_and_tables_are_the_same() {
 fn texts_are_laid_out_as_their_tree() {
     for name in names() {
         let text = text_of(&name, "entries");
-        let entries = second::table::entries_of(&bytes_of(&name, "table"));
+        let entries = second::evaluator::table::entries_of(&bytes_of(&name, "table"));
         // How many entries are still to come at each depth.
         let mut left = vec![1];
         let mut next = 0;
@@ -127,7 +119,7 @@ fn texts_are_laid_out_as_their_tree() {
             let depth = left.len() - 1;
             assert_eq!(entry.len() - entry.trim_start().len(), 2 * depth, "{name}: {line}");
             *left.last_mut().unwrap() -= 1;
-            left.push(second::gen::operand_count(entries[next]));
+            left.push(second::generate::entries::operand_count(entries[next]));
             next += 1;
         }
         assert_eq!(next, entries.len());
@@ -136,7 +128,7 @@ fn texts_are_laid_out_as_their_tree() {
 
 #[test]
 fn listings() {
-    deep(|| {
+    with_large_stack(|| {
         for name in names() {
             let bytes = bytes_of(&name, "table");
             let wanted = text_of(&name, "listing");
@@ -144,7 +136,7 @@ fn listings() {
             let tree = judge_table(&bytes).unwrap();
             // two compilers, two codes
             let mut code = vec![0; LISTED_ROOM];
-            let length = plain_compiler::compile(&bytes, &mut code).unwrap();
+            let length = plain::compiler::compile(&bytes, &mut code).unwrap();
             for code in [&code[..length], &write_macro(&compile(&tree))] {
                 assert_eq!(machine_listing(&judge_macro(code).unwrap().code), wanted, "{name}");
             }
@@ -165,8 +157,8 @@ fn listings() {
 #[cfg(desk)]
 #[test]
 fn listings_of_the_library() {
-    use second::abreast::{run, started};
-    use second::desk::compiled;
+    use second::harness::compare_machines::{run, started};
+    use second::harness::desk::compiled;
     for name in names() {
         let code = compiled(&bytes_of(&name, "table"), LISTED_ROOM).unwrap();
         let mut state = started(&code);

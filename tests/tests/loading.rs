@@ -1,12 +1,14 @@
 //! Macro records (8, with the record's number) and loading rules (9, with the lowest faulty
 //! address), sentence by sentence; and generated damage.
 
-use second::agree::{walk, Look};
-use second::code::*;
-use second::gen_code::{damaged_macro, good_macro, Size};
-use second::paper::*;
-use second::rng::Rng;
-use second::{cases, deep};
+use second::evaluator::code::*;
+use second::generate::macros::{damaged_macro, good_macro, Size};
+use second::generate::notation::{body, code, root_only, shape};
+use second::generate::rng::Rng;
+use second::generate::runs::oracle;
+use second::harness::compare_tree_and_code::{walk, StateChecks};
+use second::harness::setup::{case_count, with_large_stack};
+use second::harness::verdicts::{loaded, loads};
 
 /// Two classes, the root with an integer and a reference, a function of one integer.
 fn sample() -> Macro {
@@ -18,6 +20,15 @@ fn sample() -> Macro {
     }
 }
 
+/// The same with a logical for op 9, a jump to address 5 and an SH there: it passes.
+fn mended_sample() -> Macro {
+    let mut m = sample();
+    m.code[3] = Instr { op: 2, a: 0, b: 1 };
+    m.code[4].b = 5;
+    m.shapes.push(shape(5, 0, &[]));
+    m
+}
+
 #[test]
 fn a_sample_that_needs_mending() {
     // op 9 on a reference
@@ -26,8 +37,7 @@ fn a_sample_that_needs_mending() {
     m.code[3] = Instr { op: 2, a: 0, b: 1 };
     // no SH at the jump's target
     assert_eq!(loads(&m), (9, 4));
-    m.shapes.push(shape(5, 0, &[]));
-    m.code[4].b = 5;
+    let mut m = mended_sample();
     assert_eq!(loads(&m), (0, 0));
     // a jump out of the body
     m.code[4].b = 6;
@@ -37,12 +47,7 @@ fn a_sample_that_needs_mending() {
 /// The place of 8: the record's number.
 #[test]
 fn records_that_do_not_read() {
-    let mut m = sample();
-    m.code[3] = Instr { op: 2, a: 0, b: 1 };
-    m.code[4].b = 5;
-    m.shapes.push(shape(5, 0, &[]));
-    let good = write_records(&m);
-    assert_eq!(loaded(&good.concat()), (0, 0));
+    let good = write_records(&mended_sample());
     let n = good.len();
     // every mark, and every record cut short at every place
     for i in 0..n {
@@ -75,14 +80,10 @@ fn records_that_do_not_read() {
 #[test]
 fn counts_types_and_addresses_that_do_not_read() {
     let change = |how: &dyn Fn(&mut Macro)| {
-        let mut m = sample();
-        m.shapes.push(shape(5, 0, &[]));
-        m.code[3] = Instr { op: 2, a: 0, b: 1 };
-        m.code[4].b = 5;
+        let mut m = mended_sample();
         how(&mut m);
         loads(&m)
     };
-    assert_eq!(change(&|_| {}), (0, 0));
     // type bytes: 0, 4, 15, a class that is not there
     for byte in [0, 4, 15, 18, 32, 255] {
         assert_eq!(change(&|m| m.classes[1][0] = byte), (8, 2));
@@ -275,9 +276,9 @@ fn calls_in_code() {
 /// stuck and passes only sound states.
 #[test]
 fn damaged_macros_are_judged() {
-    deep(|| {
+    with_large_stack(|| {
         let mut tally = [0usize; 3];
-        let count = cases(20_000);
+        let count = case_count(20_000);
         for seed in 0..count {
             let mut rng = Rng::new(9_000_000 + seed as u64);
             let size = Size { bodies: 4, instructions: 4 + rng.below(30), classes: 3 };
@@ -287,9 +288,7 @@ fn damaged_macros_are_judged() {
                 Ok(l) => {
                     tally[0] += 1;
                     assert_eq!(write_macro(&l.code), bytes);
-                    let seed_byte = rng.byte();
-                    let oracle = &mut |k: usize, n: u8| (seed_byte as usize + 31 * k + 7 * n as usize) as u8;
-                    if let Err(why) = walk(&l, oracle, 60, usize::MAX, Look::Every) {
+                    if let Err(why) = walk(&l, &mut oracle(rng.byte()), 60, usize::MAX, StateChecks::EveryState) {
                         panic!("macro {seed}: {why}");
                     }
                 }

@@ -1,13 +1,14 @@
 //! Every example that paper 01 gives by name: the table of refusals and ends, the * lines and
 //! their neighbours, the listing example, and "Plausible ways to get it wrong".
 
-use second::answer::{Answer, Refusal};
-use second::code::write_macro;
-use second::deep;
-use second::paper::*;
-use second::state::{run_bytes, start, LENGTH};
-use second::table::{bytes_of, Entry};
-use second::values::{binary, unary, Trouble, Value};
+use second::evaluator::answer::{Answer, Refusal};
+use second::evaluator::code::write_macro;
+use second::evaluator::state::{run_bytes, start, LENGTH};
+use second::evaluator::values::{binary, unary, Trouble, Value};
+use second::generate::notation::{each, root_only, LISTING_EXAMPLE};
+use second::harness::listings::{end_of, lines};
+use second::harness::setup::with_large_stack;
+use second::harness::verdicts::{judged, loaded, loads, verdict};
 
 // The table of refusals.
 
@@ -35,14 +36,7 @@ fn refusal_2_assigning_to_a_kind_40() {
 
 #[test]
 fn refusal_2_seventeen_classes() {
-    let classes = |n: u16| {
-        let mut list = vec![Entry { kind: 1, a: n, b: 0 }];
-        for i in 0..n {
-            list.push(Entry { kind: 11, a: 2 * i, b: 1 });
-            list.push(Entry { kind: 10, a: 2 * i + 1, b: 1 });
-        }
-        judged(&bytes_of(&list))
-    };
+    let classes = |n: usize| verdict(&format!("1 {n} 0, {}", each(n, |i| format!("11 {} 1, 10 {} 1", 2 * i, 2 * i + 1))));
     assert_eq!(classes(16), (0, 0));
     assert_eq!(classes(17), (2, 33));
 }
@@ -82,13 +76,7 @@ fn refusal_5_goto_out_of_a_procedure() {
 
 #[test]
 fn refusal_6_thirty_three_variables() {
-    let variables = |n: u16| {
-        let mut list = vec![Entry { kind: 1, a: n, b: 0 }];
-        for i in 0..n {
-            list.push(Entry { kind: 10, a: i, b: 1 });
-        }
-        judged(&bytes_of(&list))
-    };
+    let variables = |n: usize| verdict(&format!("1 {n} 0, {}", each(n, |i| format!("10 {i} 1"))));
     // "* 32 variables accepted, 33: 6"
     assert_eq!(variables(32), (0, 0));
     assert_eq!(variables(33), (6, 0));
@@ -96,13 +84,7 @@ fn refusal_6_thirty_three_variables() {
 
 #[test]
 fn sixteen_open_holds_accepted_seventeen_refused() {
-    let holds = |n: u16| {
-        let mut list = vec![Entry { kind: 1, a: n, b: 0 }];
-        for i in 0..n {
-            list.push(Entry { kind: 14, a: i, b: 0 });
-        }
-        judged(&bytes_of(&list))
-    };
+    let holds = |n: usize| verdict(&format!("1 {n} 0, {}", each(n, |i| format!("14 {i} 0"))));
     assert_eq!(holds(16), (0, 0));
     assert_eq!(holds(17), (6, 0));
 }
@@ -402,7 +384,7 @@ fn fields_of_records() {
 /// A loop that never ends goes on; its trace grows.
 #[test]
 fn a_loop_without_end() {
-    deep(|| {
+    with_large_stack(|| {
         let told = lines("1 0 1, 24 0 0, 41 0 1, 28 0 0, 40 0 1, 40 0 2");
         assert!(told.len() > 1_000);
         assert_eq!(told.last().unwrap(), "open 0");

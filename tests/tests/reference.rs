@@ -1,10 +1,10 @@
-//! docs/REFERENCE.md keeps its word: its table, listing and macro are those of examples/listing, and its C program prints the listings.
+//! docs/REFERENCE.md is right: its table, listing and macro are those of examples/listing, and its C program prints the listings.
 
 use std::path::Path;
 
 use cue_tools::disassembly::disassemble;
 use cue_tools::entries::to_table;
-use second::plain_compiler;
+use second::plain;
 
 fn file(name: &str) -> Vec<u8> {
     let path = Path::new(env!("CARGO_MANIFEST_DIR")).join("..").join(name);
@@ -28,7 +28,7 @@ fn the_table_the_listing_and_the_macro() {
     assert_eq!(table, file("examples/listing.table"));
     assert_eq!(fenced("listing"), text("examples/listing.listing"));
     let mut out = vec![0; 1 << 16];
-    let length = plain_compiler::compile(&table, &mut out).unwrap();
+    let length = plain::compiler::compile(&table, &mut out).unwrap();
     assert_eq!(disassemble(&out[..length]), (fenced("macro"), true));
 }
 

@@ -6,12 +6,13 @@ use std::io::Write;
 use std::path::{Path, PathBuf};
 use std::process::{Command, Stdio};
 
-use second::answer::{Answer, Event, Refusal};
-use second::code::{write_macro, Macro};
-use second::edges::counter;
-use second::paper::{root_only, table, LISTING_EXAMPLE};
-use second::state::LENGTH;
-use second::{desk, plain_compiler};
+use second::evaluator::answer::{Answer, Event, Refusal};
+use second::evaluator::code::{write_macro, Macro};
+use second::evaluator::state::LENGTH;
+use second::generate::edge_cases::endless_counter;
+use second::generate::notation::{root_only, table, LISTING_EXAMPLE};
+use second::harness::desk;
+use second::plain;
 
 /// The stack that cue_compile is given, in bytes: what include/desk.h says is enough.
 const COMPILE_STACK: usize = 230_000;
@@ -72,7 +73,7 @@ fn a_shell_in_c_loads_macros() {
     let shell = compiled("loading-shell");
     let prints = |m: &Macro, lines: &str, content: bool| assert_eq!(printed(&shell, &["macro"], &write_macro(m)), (lines.to_string(), content));
     prints(&root_only("17 0 7, 17 0 63, 20 0 0", vec![]), "refused 11 0\nhold 7\nhold 63\nrelease 63\nrelease 7\nend 24\n", true);
-    prints(&counter(1_000_000), "refused 11 0\nhold 9\nopen 0\n", true);
+    prints(&endless_counter(1_000_000), "refused 11 0\nhold 9\nopen 0\n", true);
     prints(&root_only("1 0 7, 11 0 0", vec![]), "refused 9 1\n", false);
     // HD, BD, IN, and half of ZZ
     let cut = write_macro(&root_only("0 0 0", vec![]));
@@ -109,7 +110,7 @@ fn deepest_tables() -> Vec<Vec<u8>> {
 /// As much stack as include/desk.h says is enough: also for the deepest table, and for a state of wrong length.
 #[test]
 fn stack_as_the_header_says() {
-    let code = write_macro(&counter(40_000));
+    let code = write_macro(&endless_counter(40_000));
     let held = Answer::Event { steps: 1, event: Event::Hold { group: 9 } }.packed();
     let unsound = Answer::Refusal(Refusal { number: 10, place: 0 }).packed();
     let mut state = vec![0; LENGTH];
@@ -117,7 +118,7 @@ fn stack_as_the_header_says() {
     assert_eq!(on_stack(110_000, || desk::check(&ifs)), 1);
     for deepest in deepest_tables() {
         let mut out = vec![0; 65_536];
-        let length = plain_compiler::compile(&deepest, &mut out).unwrap();
+        let length = plain::compiler::compile(&deepest, &mut out).unwrap();
         assert_eq!(on_stack(COMPILE_STACK, || desk::compile(&deepest, &mut out)), 1 + ((length as u64) << 40));
     }
     assert_eq!(on_stack(265_000, || desk::load(&code)), 1);

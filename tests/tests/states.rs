@@ -1,16 +1,17 @@
 //! The run state's bytes: the layout of docs/STATE.md, which states are sound, what runs do
 //! with them; and generated states, damaged or not.
 
-use second::answer::{Answer, Event, Refusal};
-use second::code::*;
-use second::gen_code::{good_macro, Size};
-use second::gen_state::{after, state_bytes};
-use second::machine::*;
-use second::paper::*;
-use second::rng::Rng;
-use second::state::*;
-use second::values::Value;
-use second::{cases, deep};
+use second::evaluator::answer::{Answer, Event, Refusal};
+use second::evaluator::code::*;
+use second::evaluator::machine::*;
+use second::evaluator::state::*;
+use second::evaluator::values::Value;
+use second::generate::macros::{good_macro, Size};
+use second::generate::notation::{body, code, root_only, shape};
+use second::generate::rng::Rng;
+use second::generate::states::{after, state_bytes};
+use second::harness::setup::{case_count, with_large_stack};
+use second::harness::verdicts::loads;
 
 /// The root makes a record, holds 7, calls body 1 with (5, true) while an integer waits below;
 /// body 1 holds 9, and stands with bits on its stack.
@@ -322,9 +323,9 @@ fn ways_to_be_stuck() {
 /// refused by 10 and left alone; bytes not in use do not matter.
 #[test]
 fn generated_states() {
-    deep(|| {
+    with_large_stack(|| {
         let mut sound_ones = 0;
-        let count = cases(6_000);
+        let count = case_count(6_000);
         for seed in 0..count {
             let mut rng = Rng::new(10_000_000 + seed as u64);
             let m = good_macro(&mut rng, Size { bodies: 3, instructions: 20, classes: 3 });

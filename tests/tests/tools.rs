@@ -2,22 +2,24 @@
 
 use cue_tools::disassembly::disassemble;
 use cue_tools::entries::{to_table, to_text, Unreadable};
-use second::blind::{blind_table, loose_table};
-use second::code::{read_macro, write_macro};
-use second::compile::compile;
-use second::edges::edge_table;
-use second::gen::{damaged_table, plan, program};
-use second::gen_code::{damaged_macro, good_macro, Size};
-use second::paper::{body, shape, table, LISTING_EXAMPLE};
-use second::rng::Rng;
-use second::table::{bytes_of, write_tree};
-use second::{cases, deep, judge_table};
+use second::evaluator::code::{read_macro, write_macro, Macro};
+use second::evaluator::compiler::compile;
+use second::evaluator::names::judge_table;
+use second::evaluator::table::{bytes_of, write_tree};
+use second::generate::damaged_entries::damaged_table;
+use second::generate::edge_cases::edge_table;
+use second::generate::macros::{damaged_macro, good_macro, Size};
+use second::generate::notation::{body, code, root_only, shape, table, LISTING_EXAMPLE};
+use second::generate::programs::some_program;
+use second::generate::rng::Rng;
+use second::generate::untyped_tables::{untyped_table, random_entries};
+use second::harness::setup::{case_count, with_large_stack};
 
 // Entries.
 
 /// Table to text to table is the identity on tables; and the text, made again, is the same.
 fn goes_round(bytes: &[u8]) {
-    if bytes.len() % 8 != 0 {
+    if !bytes.len().is_multiple_of(8) {
         assert!(to_text(bytes).is_err());
         return;
     }
@@ -30,25 +32,23 @@ fn goes_round(bytes: &[u8]) {
 
 #[test]
 fn tables_go_to_text_and_back() {
-    deep(|| {
+    with_large_stack(|| {
         let mut rng = Rng::new(50);
-        for i in 0..cases(10_000) {
+        for i in 0..case_count(10_000) {
             let bytes = match i % 5 {
                 0 => {
-                    let made = plan(&mut rng, 40);
-                    bytes_of(&write_tree(&program(&mut rng, made)))
+                    bytes_of(&write_tree(&some_program(&mut rng, 40)))
                 }
                 1 => edge_table(&mut rng),
-                2 => loose_table(&mut rng),
+                2 => random_entries(&mut rng),
                 3 => {
                     let entries = 1 + rng.below(60);
-                    blind_table(&mut rng, entries)
+                    untyped_table(&mut rng, entries)
                 }
                 _ => (0..rng.below(200)).map(|_| rng.byte()).collect(),
             };
             goes_round(&bytes);
-            let made = plan(&mut rng, 10);
-            let valid = write_tree(&program(&mut rng, made));
+            let valid = write_tree(&some_program(&mut rng, 10));
             goes_round(&damaged_table(&mut rng, &valid));
         }
     });
@@ -110,12 +110,12 @@ ZZ
 /// Every op, and what each record shows.
 #[test]
 fn every_op_has_its_name() {
-    let code = "0 0 0, 1 0 -5, 2 0 0, 2 0 1, 3 0 255, 4 1 0, 5 0 2, 5 1 3, 6 0 4, 6 1 5, 7 1 0, 7 22 0, 7 16 0, 8 0 9, 9 0 10, 10 0 1, 11 0 0,\
+    let instructions = "0 0 0, 1 0 -5, 2 0 0, 2 0 1, 3 0 255, 4 1 0, 5 0 2, 5 1 3, 6 0 4, 6 1 5, 7 1 0, 7 22 0, 7 16 0, 8 0 9, 9 0 10, 10 0 1, 11 0 0,\
         12 1 0, 13 1 2, 14 0 3, 15 0 0, 16 0 0, 17 0 63, 18 0 0, 19 0 0, 20 0 0, 21 0 0, 2 0 2, 18 0 1";
-    let m = second::code::Macro {
+    let m = Macro {
         classes: vec![vec![1, 16], vec![2]],
         bodies: vec![body(0, 0, 0, &[]), body(4, 1, 3, &[3, 17])],
-        code: second::paper::code(code),
+        code: code(instructions),
         shapes: vec![shape(4, 2, &[1, 17]), shape(28, 0, &[2])],
     };
     let (text, reads) = disassemble(&write_macro(&m));
@@ -168,7 +168,7 @@ fn every_op_has_its_name() {
 /// Where it does not read: the record, the byte, and why.
 #[test]
 fn records_that_do_not_read() {
-    let good = write_macro(&second::paper::root_only("17 0 7, 18 0 0, 0 0 0", vec![]));
+    let good = write_macro(&root_only("17 0 7, 18 0 0, 0 0 0", vec![]));
     let last = |bytes: &[u8]| {
         let (text, reads) = disassemble(bytes);
         (text.lines().last().unwrap_or("").to_string(), reads)
@@ -190,10 +190,10 @@ fn records_that_do_not_read() {
 /// Any bytes are taken; and the text says that all of them read wherever the second evaluator reads them.
 #[test]
 fn any_bytes_disassemble() {
-    deep(|| {
+    with_large_stack(|| {
         let mut rng = Rng::new(51);
         let mut read = 0;
-        let count = cases(20_000);
+        let count = case_count(20_000);
         for i in 0..count {
             let m = good_macro(&mut rng, Size { bodies: 3, instructions: 12, classes: 2 });
             let bytes = match i % 4 {

@@ -65,9 +65,10 @@ fn nanoseconds(mut work: impl FnMut() -> u64) -> f64 {
 #[cfg(desk)]
 mod load {
     use super::nanoseconds;
-    use second::code::{write_macro, Macro};
-    use second::paper::{body, code, shape};
-    use second::{desk, plain_loader};
+    use second::evaluator::code::{write_macro, Macro};
+    use second::generate::notation::{body, code, shape};
+    use second::harness::desk;
+    use second::plain;
 
     /// Counting, testing and jumping, eight instructions at a time, each time to the next eight.
     pub fn counting(instructions: usize) -> Vec<u8> {
@@ -89,10 +90,10 @@ mod load {
         for n in [20, 200, 2_000, 40_000] {
             let bytes = counting(n);
             assert_eq!(desk::unpacked(desk::load(&bytes)), [1, 0, 0, 0]);
-            assert_eq!(plain_loader::load(&bytes), (0, 0));
+            assert_eq!(plain::loader::load(&bytes), (0, 0));
             let count = (n - 4) / 8 * 8 + 4;
             let proved = nanoseconds(|| desk::load(&bytes)) / count as f64;
-            let plain = nanoseconds(|| plain_loader::load(&bytes).1 as u64) / count as f64;
+            let plain = nanoseconds(|| plain::loader::load(&bytes).1 as u64) / count as f64;
             println!("{count:>13} {proved:>10.2} {plain:>10.2} {:>7.2}", proved / plain);
         }
     }
@@ -101,15 +102,17 @@ mod load {
 #[cfg(desk)]
 mod check {
     use super::in_turn;
-    use second::gen::{program, Plan};
-    use second::paper::{entries, judged};
-    use second::rng::Rng;
-    use second::table::{bytes_of, write_tree, Entry};
-    use second::worst::worst_tables;
-    use second::{desk, plain_check};
+    use second::evaluator::table::{bytes_of, write_tree, Entry};
+    use second::generate::notation::entries;
+    use second::generate::programs::{program, Plan};
+    use second::generate::rng::Rng;
+    use second::generate::worst_case_tables::worst_case_tables;
+    use second::harness::desk;
+    use second::harness::verdicts::judged;
+    use second::plain;
 
     /// Counting, testing, a call and a held block, over and over, filled up by empty blocks to so many entries.
-    pub fn counting(count: usize) -> Vec<u8> {
+    fn counting(count: usize) -> Vec<u8> {
         filled("1 3 0, 10 1 1, 10 2 1, 12 3 256, 10 4 1, 28 0 0, 40 0 1, 44 4 0", count)
     }
 
@@ -135,7 +138,7 @@ mod check {
     }
 
     /// Programs as the tests make them, of about so many entries.
-    pub fn generated(count: usize) -> Vec<Vec<u8>> {
+    fn generated(count: usize) -> Vec<Vec<u8>> {
         let mut rng = Rng::new(count as u64);
         let plan = Plan { entries: count, wild: false, forever: 0, provoke: None };
         let mut made = || write_tree(&program(&mut rng, plan));
@@ -148,7 +151,7 @@ mod check {
             judged(t);
         }
         let mut proved = || tables.iter().map(|t| desk::check(t)).sum();
-        let mut plain = || tables.iter().map(|t| plain_check::check(t).1 as u64).sum();
+        let mut plain = || tables.iter().map(|t| plain::check::check(t).1 as u64).sum();
         let [proved, plain] = in_turn([&mut proved, &mut plain]).map(|time| time / count as f64);
         println!("{what:>20} {:>8} {proved:>10.2} {plain:>10.2} {:>7.2}", count / tables.len(), proved / plain);
     }
@@ -156,27 +159,32 @@ mod check {
     pub fn table() {
         println!("table check: ns per entry, one run, same bytes");
         println!("{:>20} {:>8} {:>10} {:>10} {:>7}", "table", "entries", "cue_check", "plain", "ratio");
+        ordinary(row);
+        for (what, table, _) in worst_case_tables() {
+            row(what, &[table]);
+        }
+    }
+
+    /// A row for each size of ordinary tables.
+    pub fn ordinary(row: impl Fn(&str, &[Vec<u8>])) {
         for count in [10, 200, 2_048] {
             row("counting", &[counting(count)]);
         }
         for count in [10, 200, 2_000] {
             row("generated", &generated(count));
         }
-        for (what, table, _) in worst_tables() {
-            row(what, &[table]);
-        }
     }
 }
 
 #[cfg(desk)]
 mod compile {
-    use super::check::{counting, filled, generated};
+    use super::check::{filled, ordinary};
     use super::in_turn;
-    use second::desk::{self, MOST_MACRO_BYTES};
-    use second::plain_compiler;
-    use second::plain_machine::{self, IN_BYTES};
-    use second::state::LENGTH;
-    use second::worst::worst_tables;
+    use second::evaluator::state::LENGTH;
+    use second::generate::worst_case_tables::worst_case_tables;
+    use second::harness::desk::{self, MOST_MACRO_BYTES};
+    use second::plain;
+    use second::plain::machine::IN_BYTES;
 
     /// The length of the macro in `out`, by the proved compiler and by the plain one.
     fn proved(table: &[u8], out: &mut [u8]) -> usize {
@@ -186,7 +194,7 @@ mod compile {
     }
 
     fn plain(table: &[u8], out: &mut [u8]) -> usize {
-        plain_compiler::compile(table, out).expect("the table is accepted")
+        plain::compiler::compile(table, out).expect("the table is accepted")
     }
 
     /// Both write the same bytes. The output is not cleared between calls.
@@ -212,13 +220,8 @@ mod compile {
         println!("compiler: ns per entry, the check inside it, one run, same bytes; and beside the check alone");
         print!("{:>20} {:>8} {:>8} {:>12} {:>10} {:>7}", "table", "entries", "macro", "cue_compile", "plain", "ratio");
         println!(" {:>10} {:>7}", "cue_check", "ratio");
-        for count in [10, 200, 2_048] {
-            row("counting", &[counting(count)]);
-        }
-        for count in [10, 200, 2_000] {
-            row("generated", &generated(count));
-        }
-        for (what, table, number) in worst_tables() {
+        ordinary(row);
+        for (what, table, number) in worst_case_tables() {
             if number == 0 {
                 row(what, &[table]);
             }
@@ -242,8 +245,8 @@ mod compile {
             let mut by_plain = || {
                 let (code, state) = (&mut other.0, &mut other.1);
                 let length = plain(&table, code);
-                plain_machine::start(&code[..length], state);
-                plain_machine::run::<IN_BYTES>(&code[..length], state, &[0; 64], 100)
+                plain::machine::start(&code[..length], state);
+                plain::machine::run::<IN_BYTES>(&code[..length], state, &[0; 64], 100)
             };
             // set 1 255
             let first = |answer: u64| desk::unpacked(answer)[0] == 4 && desk::unpacked(answer)[2..] == [1, 255];
@@ -258,17 +261,18 @@ mod compile {
 #[cfg(desk)]
 mod runs {
     use super::{in_turn, load};
-    use second::code::{write_macro, Macro};
-    use second::edges::chain;
-    use second::paper::{body, code, shape};
-    use second::state::LENGTH;
-    use second::plain_machine::{BESIDE_BYTES, IN_BYTES, IN_LOCALS};
-    use second::{desk, plain_loader, plain_machine};
+    use second::evaluator::code::{write_macro, Macro};
+    use second::evaluator::state::LENGTH;
+    use second::generate::edge_cases::endless_records;
+    use second::generate::notation::{body, code, shape};
+    use second::harness::desk;
+    use second::plain;
+    use second::plain::machine::{BESIDE_BYTES, IN_BYTES, IN_LOCALS};
 
     type Run = fn(&[u8], &mut [u8], &[u8], u16) -> u64;
 
     /// The proved run, the plain one, the plain one that keeps place, address and depth beside the bytes, and the one that has also the top operand in locals.
-    const RUNS: [Run; 4] = [desk::run, plain_machine::run::<IN_BYTES>, plain_machine::run::<BESIDE_BYTES>, plain_machine::run::<IN_LOCALS>];
+    const RUNS: [Run; 4] = [desk::run, plain::machine::run::<IN_BYTES>, plain::machine::run::<BESIDE_BYTES>, plain::machine::run::<IN_LOCALS>];
 
     /// Counts to 100 in a cell, again and again.
     fn count() -> Macro {
@@ -335,7 +339,7 @@ mod runs {
         println!("machine: ns per step, one run, same bytes");
         println!("{:>13} {:>10} {:>10} {:>7} {:>10} {:>7} {:>10} {:>7}", "loop", "cue_run", "plain", "ratio", "beside", "ratio", "in locals", "ratio");
         // Of the records 255 are made.
-        let loops = [("counting", count(), 65_535), ("calls", call(), 65_535), ("fields", fields(), 65_535), ("records", chain(3), 7 * 255)];
+        let loops = [("counting", count(), 65_535), ("calls", call(), 65_535), ("fields", fields(), 65_535), ("records", endless_records(3), 7 * 255)];
         for (name, m, steps) in loops {
             let code = write_macro(&m);
             let state = started(&code);
@@ -373,9 +377,9 @@ mod runs {
         // A run of no step leaves the state as it is.
         let (mut one, mut other) = (state.to_vec(), state.to_vec());
         let mut proved = || desk::run(code, &mut one, &[0; 64], 0);
-        let mut plain = || plain_machine::run::<IN_BYTES>(code, &mut other, &[0; 64], 0);
+        let mut plain = || plain::machine::run::<IN_BYTES>(code, &mut other, &[0; 64], 0);
         let mut load = || desk::load(code);
-        let mut plain_load = || plain_loader::load(code).1 as u64;
+        let mut plain_load = || plain::loader::load(code).1 as u64;
         let [proved, plain, load, plain_load] = in_turn([&mut proved, &mut plain, &mut load, &mut plain_load]);
         println!("{name:>13} {proved:>10.0} {plain:>10.0} {:>7.2} {:>10.0} {:>10.0}", proved / plain, proved - load, plain - plain_load);
     }

@@ -1,19 +1,21 @@
 //! Prints cases for the prover: `cases SORT SEED COUNT`, SORT one of tables, executions,
 //! compiled, macros, runs, states. Each case is one line ending in ` ∷`; the last line is `[]`.
 
-use second::answer::{Event, Item};
-use second::code::{judge_macro, write_macro, Loaded};
-use second::compile::compile;
-use second::edges::{deciding_table, deep_macro, edge_macro, edge_state, edge_table};
-use second::execute::{execute, Budget, Execution};
-use second::gen::{judged_table, plan, program};
-use second::gen_code::{good_macro, judged_macro, some_runs, Run, Size};
-use second::gen_state::state_bytes;
-use second::judge_table;
-use second::machine::{fresh, run, step, State};
-use second::rng::Rng;
-use second::state::{sound_state, LENGTH};
-use second::table::{bytes_of, write_tree, Tree};
+use second::evaluator::answer::{number_and_place, Event, Item};
+use second::evaluator::code::{judge_macro, write_macro, Loaded};
+use second::evaluator::compiler::compile;
+use second::evaluator::execute::{execute, Budget, Execution};
+use second::evaluator::machine::{fresh, run, step, State};
+use second::evaluator::names::judge_table;
+use second::evaluator::state::{sound_state, LENGTH};
+use second::evaluator::table::{bytes_of, write_tree, Tree};
+use second::generate::edge_cases::{deciding_table, deep_macro, edge_macro, edge_state, edge_table};
+use second::generate::judged_tables::judged_table;
+use second::generate::macros::{good_macro, judged_macro, Size};
+use second::generate::programs::{plan, program, some_program};
+use second::generate::rng::Rng;
+use second::generate::runs::{oracle, some_runs, Run};
+use second::generate::states::state_bytes;
 
 fn main() {
     let arguments: Vec<String> = std::env::args().collect();
@@ -26,7 +28,7 @@ fn main() {
     let seed: u64 = arguments[2].parse().expect(usage);
     let count: usize = arguments[3].parse().expect(usage);
     // Generators and evaluators call themselves deeply.
-    second::deep(|| print_cases(&sort, seed, count));
+    second::harness::setup::with_large_stack(|| print_cases(&sort, seed, count));
 }
 
 fn print_cases(sort: &str, seed: u64, count: usize) {
@@ -89,10 +91,7 @@ fn table_case(rng: &mut Rng, i: usize) -> String {
     const WANTED: [u8; 18] = [0, 2, 3, 0, 4, 5, 0, 4, 6, 0, 3, 2, 0, 5, 4, 0, 1, 3];
     let wanted = WANTED[i % WANTED.len()];
     let bytes = if i % 4 == 1 { edge_table(rng) } else { judged_table(rng, wanted, 30) };
-    let (number, place) = match judge_table(&bytes) {
-        Ok(_) => (0, 0),
-        Err(refusal) => (refusal.number, refusal.place),
-    };
+    let (number, place) = number_and_place(&judge_table(&bytes));
     format!("judged ({}) {number} {place}", bytes_text(&bytes))
 }
 
@@ -102,25 +101,17 @@ fn macro_case(rng: &mut Rng, i: usize) -> String {
     let wanted = WANTED[i % WANTED.len()];
     let size = Size { bodies: 3, instructions: 10, classes: 2 };
     let bytes = if i % 4 == 1 { edge_macro(rng) } else { judged_macro(rng, wanted, size, 25) };
-    let (number, place) = match judge_macro(&bytes) {
-        Ok(_) => (0, 0),
-        Err(refusal) => (refusal.number, refusal.place),
-    };
+    let (number, place) = number_and_place(&judge_macro(&bytes));
     format!("loaded ({}) {number} {place}", bytes_text(&bytes))
 }
 
 // Executions.
 
-/// "reading k of fader n = (SEED + 31*k + 7*n) mod 256"
-fn oracle(seed: u8) -> impl FnMut(usize, u8) -> u8 {
-    move |k, n| (seed as usize + 31 * k + 7 * n as usize) as u8
-}
-
 /// The plain steps that the compiled program takes, if it ends within this many.
 fn plain_steps(tree: &Tree, seed: u8, most: usize) -> Option<usize> {
     let m = compile(tree);
     let mut state = fresh(&m);
-    let mut read = oracle(seed);
+    let read = oracle(seed);
     let mut k = 0;
     for steps in 0..=most {
         if let State::Ended { .. } = state {
@@ -161,7 +152,7 @@ fn execution_case(rng: &mut Rng, i: usize) -> String {
         _ => ENDS[i % ENDS.len()],
     };
     for attempt in 0.. {
-        let size = if i % 3 == 0 { 5 + rng.below(15) } else { 10 + rng.below(35) };
+        let size = if i.is_multiple_of(3) { 5 + rng.below(15) } else { 10 + rng.below(35) };
         let mut made = plan(rng, size);
         made.provoke = if wanted >= 20 { Some(wanted) } else { None };
         made.forever = if forever { 60 } else { 0 };
@@ -228,8 +219,7 @@ fn small_macro(rng: &mut Rng) -> Loaded {
             good_macro(rng, Size { bodies: 3, instructions: 10, classes: 2 })
         } else {
             let size = 5 + rng.below(14);
-            let made = plan(rng, size);
-            compile(&program(rng, made))
+            compile(&some_program(rng, size))
         };
         if m.code.len() > 25 {
             continue;
@@ -252,7 +242,7 @@ fn run_case(rng: &mut Rng, i: usize) -> String {
         let mut state = fresh(&loaded.code);
         let mut answers = Vec::new();
         let mut steps = 0;
-        for mut r in some_runs(rng, 8, if i % 4 == 0 { 65_535 } else { 60 }) {
+        for mut r in some_runs(rng, 8, if i.is_multiple_of(4) { 65_535 } else { 60 }) {
             // Not too many ends that are only answered again.
             if matches!(state, State::Ended { .. }) && rng.chance(60) {
                 break;
@@ -288,7 +278,7 @@ fn state_case(rng: &mut Rng, i: usize) -> String {
         let bytes = edge_state(rng, &loaded);
         return held(&loaded, &bytes);
     }
-    let wanted = i % 2 == 0;
+    let wanted = i.is_multiple_of(2);
     loop {
         let loaded = small_macro(rng);
         let bytes = state_bytes(rng, &loaded, 40);

@@ -4,7 +4,7 @@
 use std::io::{Read, Write};
 use std::process::ExitCode;
 
-use second::plain_compiler;
+use second::plain;
 
 /// More than the longest macro of any table.
 const ROOM: usize = 1 << 21;
@@ -13,7 +13,7 @@ fn main() -> ExitCode {
     let mut table = Vec::new();
     std::io::stdin().read_to_end(&mut table).expect("standard input can be read");
     let mut out = vec![0; ROOM];
-    match plain_compiler::compile(&table, &mut out) {
+    match plain::compiler::compile(&table, &mut out) {
         Ok(length) => {
             std::io::stdout().write_all(&out[..length]).expect("standard output can be written");
             ExitCode::SUCCESS

@@ -7,9 +7,10 @@
 
 use std::io::Write;
 
-use second::rng::Rng;
-use second::state::{value_of, word_of};
-use second::values::{binary, binary_type, is_unary, unary, unary_type, Trouble, Type};
+use second::evaluator::code::byte_of_type;
+use second::evaluator::state::{value_of, word_of};
+use second::evaluator::values::{binary, binary_type, is_unary, unary, unary_type, Trouble, Type};
+use second::generate::rng::Rng;
 
 const EDGES: [i32; 24] = [
     0, 1, -1, 2, -2, 7, -7, 31, 32, 33, -31, -32, -33, i32::MAX, i32::MIN, 65_536, 46_341, -46_341, 46_340, -65_536, 1 << 30, i32::MIN + 1,
@@ -47,19 +48,10 @@ fn main() {
     }
 }
 
-fn type_number(ty: Type) -> u8 {
-    match ty {
-        Type::Integer => 1,
-        Type::Logical => 2,
-        Type::Bits => 3,
-        Type::Reference(_) => unreachable!("no reference among the vectors"),
-    }
-}
-
 fn record(v: &Vector) -> [u8; 12] {
     let mut bytes = [0; 12];
     bytes[0] = v.operator as u8;
-    bytes[1] = type_number(v.ty);
+    bytes[1] = byte_of_type(v.ty);
     bytes[4..8].copy_from_slice(&v.x.to_le_bytes());
     bytes[8..12].copy_from_slice(&v.y.to_le_bytes());
     bytes
@@ -86,7 +78,7 @@ fn words(rng: &mut Rng, ty: Type, edges: usize, random: usize) -> Vec<u32> {
     }
     let mut list: Vec<u32> = EDGES[..edges].iter().map(|n| *n as u32).collect();
     for _ in 0..random {
-        list.push(rng.next() as u32);
+        list.push(rng.next_u64() as u32);
     }
     list
 }
@@ -132,11 +124,11 @@ fn all() -> Vec<Vector> {
                     list.push(Vector { operator, ty, second, x: *rng.pick(&xs), y: *y });
                 }
                 for _ in 0..10 {
-                    list.push(Vector { operator, ty, second, x: rng.next() as u32, y: rng.next() as u32 });
+                    list.push(Vector { operator, ty, second, x: rng.next_u64() as u32, y: rng.next_u64() as u32 });
                 }
                 if matches!(operator, 14 | 15) {
                     for count in -34..=34 {
-                        list.push(Vector { operator, ty, second, x: rng.next() as u32 | 0x8000_0001, y: count as u32 });
+                        list.push(Vector { operator, ty, second, x: rng.next_u64() as u32 | 0x8000_0001, y: count as u32 });
                     }
                 }
                 if matches!(operator, 1..=5) {
