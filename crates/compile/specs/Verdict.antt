@@ -2,7 +2,9 @@
 use mathlib.Core.Path.{_≡_, refl}
 use mathlib.Core.List.{List}
 use Prim.Native.Nat.{ℕ}
-use Rattle.values.specs.Ends.{refusal, Judged, accepted, refused}
+use Rattle.values.specs.Ends.{Judged, accepted, refused}
+use Rattle.values.specs.Refusals.{inCode, refusalOf}
+use Rattle.values.specs.declared.Refusal.{Refusal}
 use Rattle.language.specs.Tree.{Tree}
 use Rattle.language.specs.Judge.{judgeTable, compileOn}
 use Rattle.logic.specs.Tests.{clash}
@@ -16,7 +18,7 @@ use Rattle.compile.specs.declared.Compiled.the-variants.{Done, Refused}
 -- the macro's length, or the refusal
 abbrev pub verdictOf : Compiled → Judged ℕ
 verdictOf (Done n) = accepted n
-verdictOf (Refused n p) = refused (refusal n p)
+verdictOf (Refused r) = refused (refusalOf r)
 
 -- a table that the check accepts
 abbrev pub Accepts : List ℕ → Type 0
@@ -30,10 +32,10 @@ compile-accepted l e = go (judgeTable l) refl e
     go (accepted t) h k = (t, h)
     go (refused r) h k = clash (cc)
 
-pub compile-refused : (l out : List ℕ) (n p : ℕ) → checked.Refused n p ≡ checkedOf (judgeTable l) → compileOn macroOf l out ≡ record { verdict = verdictOf (Refused n p); bytes = out }
+pub compile-refused : (l out : List ℕ) (r : Refusal) → checked.Refused r ≡ checkedOf (judgeTable l) → compileOn macroOf l out ≡ record { verdict = verdictOf (Refused r); bytes = out }
 unfolding compileOn
-compile-refused l out n p e = go (judgeTable l) refl e
+compile-refused l out r e = go (judgeTable l) refl e
   where
-    go : (j : Judged Tree) → judgeTable l ≡ j → checked.Refused n p ≡ checkedOf j → compileOn macroOf l out ≡ record { verdict = refused (refusal n p); bytes = out }
+    go : (j : Judged Tree) → judgeTable l ≡ j → checked.Refused r ≡ checkedOf j → compileOn macroOf l out ≡ record { verdict = refused (refusalOf r); bytes = out }
     go (accepted t) h k = clash (cc)
-    go (refused r) h k = let a : r .number ≡ n = cc in let b : r .place ≡ p = cc in rw (h, a, b)
+    go (refused q) h k = let z : r ≡ inCode q = cc in rw (h, z)

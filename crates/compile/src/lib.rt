@@ -5,6 +5,7 @@ use formats::compiled::*;
 use formats::entries::*;
 use formats::limits::*;
 use table_check::Checked;
+use values::Refusal;
 ghost use mathlib.Core.Path.{_≡_};
 ghost use Prim.Native.Nat.{_≤_};
 ghost use lib.ListN.{length};
@@ -16,7 +17,7 @@ ghost use Rattle.compile.specs.Verdict.{verdictOf, Accepts};
 pub enum Compiled {
     // the macro's length
     Done(usize),
-    Refused(u8, u32),
+    Refused(Refusal),
 }
 
 fn pen(at: usize, sh: usize, dry: bool) -> Pen
@@ -70,7 +71,10 @@ fn write(
     let shapes = front + CODE_BYTES * dry.address;
     let length = shapes + dry.sh + END_BYTES;
     if out.len() < length {
-        return Compiled::Refused(7, 0);
+        return Compiled::Refused(Refusal {
+            number: 7,
+            place: 0,
+        });
     }
     compile_front::put(
         table,
@@ -201,6 +205,6 @@ pub fn compile(table: &[u8], out: &mut [u8]) -> Compiled
 {
     match table_check::check(table) {
         Checked::Accepted => compile_accepted(table, out),
-        Checked::Refused(number, place) => Compiled::Refused(number, place),
+        Checked::Refused(refusal) => Compiled::Refused(refusal),
     }
 }

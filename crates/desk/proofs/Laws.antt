@@ -4,7 +4,9 @@ use mathlib.Core.List.{List}
 use Prim.Native.Nat.{ℕ, _<_}
 use native.Mathlib.Omega.{arith}
 use Rattle.words.specs.Laws.{Bytes}
-use Rattle.values.specs.Ends.{refusal, Judged, accepted, refused}
+use Rattle.values.specs.Ends.{Judged, accepted, refused}
+use Rattle.values.specs.Refusals.{refusalOf}
+use Rattle.values.specs.declared.Refusal.{Refusal}
 use Rattle.language.specs.Tree.{Tree}
 use Rattle.language.specs.Judge.{judgeTable, compileOn}
 use Rattle.bytecode.specs.Macro.{Macro}
@@ -32,7 +34,7 @@ use Rattle.run.specs.declared.Ran.the-variants.{Refused as Unrun}
 -- ── the table check ──
 abbrev checkedNumbers : Checked → Numbers
 checkedNumbers Accepted = doneNumbers 0
-checkedNumbers (Rejected n p) = refusalNumbers (refusal n p)
+checkedNumbers (Rejected r) = refusalNumbers (refusalOf r)
 
 checked-numbers : (j : Judged Tree) → checkedNumbers (checkedOf j) ≡ verdictNumbers j
 checked-numbers (accepted t) = refl
@@ -42,13 +44,13 @@ module _ (l : List ℕ) (a : Checked) (e : a ≡ checkedOf (judgeTable l)) where
   pub checked : (v : Checked) → a ≡ v → packed (checkedNumbers v) ≡ packed (verdictNumbers (judgeTable l))
   checked v d = rw (← d, e, checked-numbers (judgeTable l))
 
-  pub checked-small : (n p : ℕ) → a ≡ Rejected n p → p < 16777216
-  checked-small n p d = let h = place-small l n p (rw d at e) in omega arith
+  pub checked-small : (r : Refusal) → a ≡ Rejected r → r .place < 16777216
+  checked-small r d = let h = place-small l r (rw d at e) in omega arith
 
 -- ── the loading check ──
 abbrev loadedNumbers : Loaded → Numbers
 loadedNumbers Passes = doneNumbers 0
-loadedNumbers (Refused n p) = refusalNumbers (refusal n p)
+loadedNumbers (Refused r) = refusalNumbers (refusalOf r)
 
 loaded-numbers : (j : Judged Macro) → loadedNumbers (loadedOf j) ≡ verdictNumbers j
 loaded-numbers (accepted m) = refl
@@ -58,16 +60,16 @@ module _ (c : List ℕ) (a : Loaded) (e : a ≡ loadedOf (judgeMacro c)) where
   pub loaded : (v : Loaded) → a ≡ v → packed (loadedNumbers v) ≡ packed (verdictNumbers (judgeMacro c))
   loaded v d = rw (← d, e, loaded-numbers (judgeMacro c))
 
-  pub loaded-small : Bytes c → (n p : ℕ) → a ≡ Refused n p → p < 16777216
-  loaded-small B n p d = fields c B n p (rw d at e) .1
+  pub loaded-small : Bytes c → (r : Refusal) → a ≡ Refused r → r .place < 16777216
+  loaded-small B r d = fields c B r (rw d at e) .1
 
 -- ── the start ──
 module _ (c l k : List ℕ) (a : Started) (e : startOn c l ≡ record { verdict = verdictOf a; bytes = k }) where
   pub started : (v : Started) → a ≡ v → (r : ℕ) → r ≡ packed (verdictNumbers (verdictOf v)) → (r ≡ packed (verdictNumbers (startOn c l .verdict))) × (k ≡ startOn c l .bytes)
   started v d r h = rw (e, d) (h, refl)
 
-  pub started-small : Bytes c → (n p : ℕ) → a ≡ Declined n p → p < 16777216
-  started-small B n p d = start-small c B l (refusal n p) (rw (e, d)) .1
+  pub started-small : Bytes c → (r : Refusal) → a ≡ Declined r → r .place < 16777216
+  started-small B r d = start-small c B l (refusalOf r) (rw (e, d)) .1
 
 -- ── the run ──
 module _ (c l readings : List ℕ) (allowance : ℕ) (k : List ℕ) (a : Ran) (e : runOn c l readings allowance ≡ record { answer = answerOf a; bytes = k }) where
@@ -75,8 +77,8 @@ module _ (c l readings : List ℕ) (allowance : ℕ) (k : List ℕ) (a : Ran) (e
       → (r ≡ packed (answerNumbers (runOn c l readings allowance .answer))) × (k ≡ runOn c l readings allowance .bytes)
   ran v d r h = rw (e, d) (h, refl)
 
-  pub ran-small : Bytes c → Bytes readings → (n p : ℕ) → a ≡ Unrun n p → p < 16777216
-  ran-small B R n p d = run-small c B l readings allowance R (refusal n p) (rw (e, d)) .1
+  pub ran-small : Bytes c → Bytes readings → (r : Refusal) → a ≡ Unrun r → r .place < 16777216
+  ran-small B R r d = run-small c B l readings allowance R (refusalOf r) (rw (e, d)) .1
 
 -- ── the compiler ──
 module _ (l out k : List ℕ) (a : Compiled) (e : compileOn macroOf l out ≡ record { verdict = compiledOf a; bytes = k }) where
@@ -90,5 +92,5 @@ module _ (l out k : List ℕ) (a : Compiled) (e : compileOn macroOf l out ≡ re
   pub macro-short : Bytes l → (n : ℕ) → a ≡ Done n → n < 16777216
   macro-short B n d = rw d at (in-short B)
 
-  pub compiled-small : Bytes l → (n p : ℕ) → a ≡ Unmade n p → p < 16777216
-  compiled-small B n p d = let h : Short (compiledOf (Unmade n p)) = rw d at (in-short B) in h .1
+  pub compiled-small : Bytes l → (r : Refusal) → a ≡ Unmade r → r .place < 16777216
+  compiled-small B r d = let h : Short (compiledOf (Unmade r)) = rw d at (in-short B) in h .1

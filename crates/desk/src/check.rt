@@ -12,6 +12,6 @@ pub extern "C" fn cue_check(table: &[u8]) -> u64
 {
     match table_check::check(table) {
         Checked::Accepted => pack(1, 0, 0, 0),
-        Checked::Refused(number, place) => pack_refusal(number, place),
+        Checked::Refused(refusal) => pack_refusal(refusal),
     }
 }

@@ -15,6 +15,6 @@ pub extern "C" fn cue_compile(table: &[u8], out: &mut [u8]) -> u64
 {
     match compile::compile(table, out) {
         Compiled::Done(length) => pack(1, 0, 0, length as u64),
-        Compiled::Refused(number, place) => pack_refusal(number, place),
+        Compiled::Refused(refusal) => pack_refusal(refusal),
     }
 }

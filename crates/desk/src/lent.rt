@@ -26,7 +26,7 @@ pub extern "C" fn cue_start(code: &[u8], state: &mut [u8]) -> u64
 {
     match run::start(code, state) {
         Started::Fresh => pack(1, 0, 0, 0),
-        Started::Refused(number, place) => pack_refusal(number, place),
+        Started::Refused(refusal) => pack_refusal(refusal),
     }
 }
 
@@ -39,6 +39,6 @@ pub extern "C" fn cue_run(code: &[u8], state: &mut [u8], readings: &[u8], allowa
         Ran::Happens(e, steps) => pack_event(e, steps),
         Ran::Spends(steps) => pack(2, steps as u64, 0, 0),
         Ran::Finishes(end, steps) => pack(3, steps as u64, end as u64, 0),
-        Ran::Refused(number, place) => pack_refusal(number, place),
+        Ran::Refused(refusal) => pack_refusal(refusal),
     }
 }

@@ -9,9 +9,10 @@ pub use compiler::cue_compile;
 pub use lent::cue_run;
 pub use lent::cue_start;
 pub use load::cue_load;
+use values::Refusal;
 ghost use mathlib.Core.Path.{_≡_};
 ghost use Prim.Native.Nat.{_<_};
-ghost use Rattle.values.specs.Ends.{refusal};
+ghost use Rattle.values.specs.Refusals.{refusalOf};
 ghost use Rattle.bytecode.specs.Answers.{numbers, packed, refusalNumbers};
 
 // tag + 2^8 × steps + 2^24 × first + 2^40 × second
@@ -22,9 +23,9 @@ fn pack(tag: u64, steps: u64, first: u64, second: u64) -> u64
     tag + steps * 256 + first * 16777216 + second * 1099511627776
 }
 
-fn pack_refusal(number: u8, place: u32) -> u64
-    requires { ⌜ place < 16777216 ⌝ }
-    ensures { λ r. ⌜ r ≡ packed (refusalNumbers (refusal number place)) ⌝ }
+fn pack_refusal(refusal: Refusal) -> u64
+    requires { ⌜ refusal .place < 16777216 ⌝ }
+    ensures { λ r. ⌜ r ≡ packed (refusalNumbers (refusalOf refusal)) ⌝ }
 {
-    pack(0, 0, number as u64, place as u64)
+    pack(0, 0, refusal.number as u64, refusal.place as u64)
 }

@@ -12,6 +12,6 @@ pub extern "C" fn cue_load(code: &[u8]) -> u64
 {
     match load_check::load(code) {
         Loaded::Passes => pack(1, 0, 0, 0),
-        Loaded::Refused(number, place) => pack_refusal(number, place),
+        Loaded::Refused(refusal) => pack_refusal(refusal),
     }
 }

@@ -23,7 +23,7 @@ fn event_steps(a: Ran) -> u16
         Ran::Happens(_, n) => n,
         Ran::Spends(_) => 0,
         Ran::Finishes(_, _) => 0,
-        Ran::Refused(_, _) => 0,
+        Ran::Refused(_) => 0,
     }
 }
 
@@ -52,7 +52,7 @@ fn list_macro(code: &[u8], state: &mut [u8], text: &mut [u8]) -> usize
     ensures { λ r. ⌜ Lists (macroText (now (code .entry)) (now (state .entry))) (now (text .entry)) (now (text .exit)) r ⌝ }
 {
     match run::start(code, state) {
-        Started::Refused(number, place) => lines::put_refused(text, 0, number, place),
+        Started::Refused(refusal) => lines::put_refused(text, 0, refusal),
         Started::Fresh => list_runs(code, state, text),
     }
 }
@@ -65,7 +65,7 @@ pub fn list(table: &[u8], text: &mut [u8; 786443]) -> usize
     let mut code = [0u8; 65536];
     let mut state = [0u8; STATE_BYTES];
     match compile::compile(table, &mut code) {
-        Compiled::Refused(number, place) => lines::put_refused(text, 0, number, place),
+        Compiled::Refused(refusal) => lines::put_refused(text, 0, refusal),
         Compiled::Done(n) => list_macro(&code[..n], &mut state, text),
     }
 }

@@ -1,10 +1,11 @@
 // The lines of a listing, written into lent bytes from an index on. Each function answers the index after what it wrote.
 use machine_ops::Event;
 use run::Ran;
+use values::Refusal;
 ghost use mathlib.Core.List.{_∷_, [], _++_};
 ghost use Prim.Native.Nat.{_+_, _≤_};
 ghost use lib.ListN.{length};
-ghost use Rattle.values.specs.Ends.{refusal};
+ghost use Rattle.values.specs.Refusals.{refusalOf};
 ghost use Rattle.run.specs.Answers.{eventBack, answerOf};
 ghost use Rattle.listing_text.specs.Text.{decimal, numbers, line, eventLine, refusedLine, answerLine};
 ghost use Rattle.listing_text.specs.Writing.{Puts};
@@ -82,11 +83,11 @@ fn put_event(text: &mut [u8], at: usize, e: Event) -> usize
     }
 }
 
-pub fn put_refused(text: &mut [u8], at: usize, number: u8, place: u32) -> usize
-    requires { ⌜ at + length (refusedLine (refusal number place)) ≤ length (now text) ⌝ }
-    ensures { λ r. ⌜ Puts (now (text .entry)) at (refusedLine (refusal number place)) (now (text .exit)) r ⌝ }
+pub fn put_refused(text: &mut [u8], at: usize, refusal: Refusal) -> usize
+    requires { ⌜ at + length (refusedLine (refusalOf refusal)) ≤ length (now text) ⌝ }
+    ensures { λ r. ⌜ Puts (now (text .entry)) at (refusedLine (refusalOf refusal)) (now (text .exit)) r ⌝ }
 {
-    put_line_2(text, at, b"refused", number as u32, place)
+    put_line_2(text, at, b"refused", refusal.number as u32, refusal.place)
 }
 
 // The line of a run's answer.
@@ -98,6 +99,6 @@ pub fn put_answer(text: &mut [u8], at: usize, a: Ran) -> usize
         Ran::Happens(e, _) => put_event(text, at, e),
         Ran::Spends(_) => put_line_1(text, at, b"open", 0),
         Ran::Finishes(c, _) => put_line_1(text, at, b"end", c as u32),
-        Ran::Refused(number, place) => put_refused(text, at, number, place),
+        Ran::Refused(refusal) => put_refused(text, at, refusal),
     }
 }

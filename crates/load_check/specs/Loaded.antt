@@ -5,6 +5,8 @@ use Prim.Native.Nat.{ℕ, _<_}
 use native.Mathlib.Omega.{arith}
 use Rattle.words.specs.Laws.{Bytes}
 use Rattle.values.specs.Ends.{Judged, accepted, refused}
+use Rattle.values.specs.declared.Refusal.{Refusal}
+use Rattle.values.specs.Refusals.{coded, inCode}
 use Rattle.bytecode.specs.Macro.{Macro}
 use Rattle.bytecode.specs.Rules.{judgeMacro}
 use Rattle.load_places.specs.Rules.{Verdict, judge}
@@ -18,12 +20,12 @@ use Rattle.load_check.specs.declared.Loaded.the-variants.{Passes, Refuse
 -- it passes, or the refusal with its number and its place
 abbrev pub loadedOf : Judged Macro → Loaded
 loadedOf (accepted m) = Passes
-loadedOf (refused r) = Refused (r .number) (r .place)
+loadedOf (refused r) = Refused (inCode r)
 
 -- ── from the verdict over places ──
 abbrev pub told : Verdict → Loaded
 told places.passes = Passes
-told (places.refused n p) = Refused n p
+told (places.refused n p) = Refused (coded n p)
 
 pub loads : (l : List ℕ) (v : Verdict) → v ≡ judge l → told v ≡ loadedOf (judgeMacro l)
 loads l v e = ap told (e ∙ judges l) ∙ go (judgeMacro l)
@@ -36,13 +38,11 @@ pub small : (l : List ℕ) → Bytes l → (n p : ℕ) → places.refused n p �
 small l b n p e = subst Narrow (sym e) (narrow l b)
 
 -- a refusal's numbers fit the fields that answers are packed into
-pub fields : (l : List ℕ) → Bytes l → (n p : ℕ) → Refused n p ≡ loadedOf (judgeMacro l) → (n < 256) × (p < 16777216)
-fields l b n p e = go (judge l) refl
+pub fields : (l : List ℕ) → Bytes l → (r : Refusal) → Refused r ≡ loadedOf (judgeMacro l) → (r .number < 256) × (r .place < 16777216)
+fields l b r e = go (judge l) refl
   where
-    go : (v : Verdict) → v ≡ judge l → (n < 256) × (p < 16777216)
+    go : (v : Verdict) → v ≡ judge l → (r .number < 256) × (r .place < 16777216)
     go places.passes h = let z : _≡_ {A = ℕ} 0 1 = cc (loads l places.passes h, e) in absurd (omega arith)
     go (places.refused m q) h =
-        let s = small l b m q h in
-        let x : m ≡ n = cc (loads l (places.refused m q) h, e) in
-        let y : q ≡ p = cc (loads l (places.refused m q) h, e) in
-        (omega arith, omega arith)
+        let z : coded m q ≡ r = cc (loads l (places.refused m q) h, e) in
+        subst (λ (x : Refusal). (x .number < 256) × (x .place < 16777216)) z (small l b m q h)

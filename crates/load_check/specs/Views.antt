@@ -1,4 +1,4 @@
--- What the machine may take of a macro's bytes: the macro that they hold (`bytecode`), read off the places of its records (`places`).
+-- What the machine may take of a macro's bytes: the macro that they hold (`bytecode`), read off the places of its records (`load_places`).
 
 -- ── the macro at its places ──
 unfoldable pub use Rattle.load_views.specs.View.{view, tyOn}

@@ -3,6 +3,7 @@
 mod root;
 
 use load_places::Judged;
+use values::Refusal;
 pub use load_records::bad_head;
 pub use load_records::no_type;
 pub use load_records::scan;
@@ -18,10 +19,10 @@ ghost use mathlib.Core.Path.{_≡_};
 ghost use Rattle.bytecode.specs.Rules.{judgeMacro};
 ghost use Rattle.load_check.specs.Loaded.{loadedOf};
 
-// Refused with the refusal's number and its place: a record's index for 8, an address for 9.
+// The place of a refusal is a record's index for 8, an address for 9.
 pub enum Loaded {
     Passes,
-    Refused(u8, u32),
+    Refused(Refusal),
 }
 
 pub fn load(code: &[u8]) -> Loaded
@@ -29,6 +30,9 @@ pub fn load(code: &[u8]) -> Loaded
 {
     match load_rules::judge_places(code) {
         Judged::Passes => Loaded::Passes,
-        Judged::Refused(number, place) => Loaded::Refused(number as u8, place as u32),
+        Judged::Refused(number, place) => Loaded::Refused(Refusal {
+            number: number as u8,
+            place: place as u32,
+        }),
     }
 }

@@ -9,6 +9,8 @@ use borrow.Author.Tests.{eq-eqb, ne-eqb, lt-ltb}
 use Rattle.words.specs.Numbers.{byteAt}
 use Rattle.words.specs.Laws.{Bytes}
 use Rattle.values.specs.Ends.{refusal, Judged, accepted, refused}
+use Rattle.values.specs.Refusals.{inCode, refusalOf}
+use Rattle.values.specs.declared.Refusal.{Refusal}
 use Rattle.bytecode.specs.Macro.{Macro}
 use Rattle.bytecode.specs.Instructions.{bodyAt}
 use Rattle.bytecode.specs.Rules.{judgeMacro}
@@ -29,13 +31,13 @@ pub passes-by : (j : Judged Macro) → Passes ≡ loadedOf j → (m : Macro) × 
 passes-by (accepted m) e = (m, refl)
 passes-by (refused r) e = let z : _≡_ {A = ℕ} 0 1 = cc in absurd (omega arith)
 
-refused-by : (j : Judged Macro) (n p : ℕ) → Refused n p ≡ loadedOf j → j ≡ refused (refusal n p)
-refused-by (accepted m) n p e = let z : _≡_ {A = ℕ} 0 1 = cc in absurd (omega arith)
-refused-by (refused r) n p e = let a : r .number ≡ n = cc in let b : r .place ≡ p = cc in rw (← a, ← b)
+refused-by : (j : Judged Macro) (r : Refusal) → Refused r ≡ loadedOf j → j ≡ refused (refusalOf r)
+refused-by (accepted m) r e = let z : _≡_ {A = ℕ} 0 1 = cc in absurd (omega arith)
+refused-by (refused q) r e = let z : r ≡ inCode q = cc in rw z
 
-pub start-refused : (c l : List ℕ) (n p : ℕ) → Refused n p ≡ loadedOf (judgeMacro c) → startOn c l ≡ record { verdict = refused (refusal n p); bytes = l }
+pub start-refused : (c l : List ℕ) (r : Refusal) → Refused r ≡ loadedOf (judgeMacro c) → startOn c l ≡ record { verdict = refused (refusalOf r); bytes = l }
 unfolding startOn
-start-refused c l n p e = rw (refused-by (judgeMacro c) n p e)
+start-refused c l r e = rw (refused-by (judgeMacro c) r e)
 
 module _ (c : List ℕ) (P : Passes ≡ loadedOf (judgeMacro c)) where
   abbrev macro : Macro

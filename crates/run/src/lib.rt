@@ -3,19 +3,20 @@ mod runs;
 mod starts;
 
 use machine_ops::Event;
+use values::Refusal;
 pub use runs::run;
 pub use starts::start;
 
-// The fresh state is written; or refused with the refusal's number and place.
+// The fresh state is written, or the start is refused.
 pub enum Started {
     Fresh,
-    Refused(u8, u32),
+    Refused(Refusal),
 }
 
-// With the steps taken: an event, the allowance used, an end by 0 or a condition; or refused with the refusal's number and place.
+// With the steps taken: an event, the allowance used, an end by 0 or a condition; or the run is refused.
 pub enum Ran {
     Happens(Event, u16),
     Spends(u16),
     Finishes(u8, u16),
-    Refused(u8, u32),
+    Refused(Refusal),
 }

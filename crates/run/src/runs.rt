@@ -3,6 +3,7 @@ use crate::Ran;
 use formats::limits::*;
 use machine_run::Answer;
 use state_check::Inspected;
+use values::Refusal;
 ghost use mathlib.Core.Path.{_≡_};
 ghost use mathlib.Core.Bool.{cond};
 ghost use lib.Dec.{eqb};
@@ -52,7 +53,10 @@ fn run_passed(
     let unread = refusal_unless(readings.len() == FADERS, 11);
     let number = first_of(unsound, unread);
     if number != 0 {
-        return Ran::Refused(number, 0);
+        return Ran::Refused(Refusal {
+            number,
+            place: 0,
+        });
     }
     state_write::clear(code, bx, cx, state);
     ran(machine_run::run_sound(code, bx, cx, base, state, readings, allowance))
@@ -64,7 +68,10 @@ pub fn run(code: &[u8], state: &mut [u8], readings: &[u8], allowance: u16) -> Ra
     let mut bx = [0u32; MAX_BODIES];
     let mut cx = [0u32; MAX_CLASSES];
     match state_check::inspect(code, state, &mut bx, &mut cx) {
-        Inspected::Refused(number, place) => Ran::Refused(number as u8, place as u32),
+        Inspected::Refused(number, place) => Ran::Refused(Refusal {
+            number: number as u8,
+            place: place as u32,
+        }),
         Inspected::Unsound => run_passed(code, &bx, &cx, 0, false, state, readings, allowance),
         Inspected::Sound(base) => run_passed(
             code,

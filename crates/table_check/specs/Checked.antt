@@ -4,6 +4,8 @@ use mathlib.Core.List.{List, [], _∷_, _++_}
 use Prim.Native.Nat.{ℕ, _≤_}
 use native.Mathlib.Omega.{arith}
 use Rattle.values.specs.Ends.{Refusal, Judged, accepted, refused}
+use Rattle.values.specs.declared.Refusal as code
+use Rattle.values.specs.Refusals.{coded, inCode}
 use Rattle.language.specs.Tree.{Tree}
 use Rattle.language.specs.Table.{readTable}
 use Rattle.language.specs.Faults.{faults}
@@ -27,7 +29,7 @@ use Rattle.table_check.specs.declared.Checked.the-variants.{Accepted, Re
 -- accepted, or the refusal with its number and its place
 abbrev pub checkedOf : Judged Tree → Checked
 checkedOf (accepted t) = Accepted
-checkedOf (refused r) = Refused (r .number) (r .place)
+checkedOf (refused r) = Refused (inCode r)
 
 -- ── reading ──
 pub reads : (l : List ℕ) → reading.Reads ≡ readingOf (readTable l) → Reads l
@@ -37,11 +39,11 @@ reads l e = go (readTable l) refl
     go (accepted t) h = (t, h)
     go (refused r) h = clash (cc (rw h at e))
 
-pub unread : (l : List ℕ) (n p : ℕ) → reading.Refused n p ≡ readingOf (readTable l) → Refused n p ≡ checkedOf (judgeTable l)
+pub unread : (l : List ℕ) (n p : ℕ) → reading.Refused n p ≡ readingOf (readTable l) → Refused (coded n p) ≡ checkedOf (judgeTable l)
 unfolding judgeTable
 unread l n p e = go (readTable l) e
   where
-    go : (j : Judged Tree) → reading.Refused n p ≡ readingOf j → Refused n p ≡ checkedOf (judgeTree j)
+    go : (j : Judged Tree) → reading.Refused n p ≡ readingOf j → Refused (coded n p) ≡ checkedOf (judgeTree j)
     go (accepted t) h = clash (cc)
     go (refused r) h = cc
 
@@ -51,10 +53,10 @@ module _ (l : List ℕ) (r : Reads l) {v : Faulted} (g : GivesFirst l v) where
   unfolding judgeTable
   tree-judged = ap judgeTree (r .1)
 
-  pub faulty : (n p : ℕ) → v ≡ Fault n p → Refused n p ≡ checkedOf (judgeTable l)
+  pub faulty : (n p : ℕ) → v ≡ Fault n p → Refused (coded n p) ≡ checkedOf (judgeTable l)
   faulty n p e = rw tree-judged (go (faults (r .0)) (sym e ∙ g (r .0) (r .1)))
     where
-      go : (fs : List Refusal) → Fault n p ≡ firstFault fs → Refused n p ≡ checkedOf (judge.firstFault (r .0) (fs ++ limits (r .0)))
+      go : (fs : List Refusal) → Fault n p ≡ firstFault fs → Refused (coded n p) ≡ checkedOf (judge.firstFault (r .0) (fs ++ limits (r .0)))
       go [] h = clash (cc)
       go (f ∷ fs) h = cc
 
@@ -66,10 +68,10 @@ module _ (l : List ℕ) (r : Reads l) {v : Faulted} (g : GivesFirst l v) where
         go [] h = refl
         go (f ∷ fs) h = clash (cc)
 
-    pub over : (p : ℕ) → u ≡ Over p → Refused 6 p ≡ checkedOf (judgeTable l)
+    pub over : (p : ℕ) → u ≡ Over p → Refused (coded 6 p) ≡ checkedOf (judgeTable l)
     over p z = rw limits-judged (go (limits (r .0)) (sixes l (r .0) (r .1)) (sym z ∙ k (r .0) (r .1)))
       where
-        go : (fs : List Refusal) → Sixes 2048 fs → Over p ≡ limitedOf fs → Refused 6 p ≡ checkedOf (judge.firstFault (r .0) fs)
+        go : (fs : List Refusal) → Sixes 2048 fs → Over p ≡ limitedOf fs → Refused (coded 6 p) ≡ checkedOf (judge.firstFault (r .0) fs)
         go [] s h = clash (cc)
         go (f ∷ fs) s h = cc (s .0)
 
@@ -81,9 +83,9 @@ module _ (l : List ℕ) (r : Reads l) {v : Faulted} (g : GivesFirst l v) where
         go (f ∷ fs) h = clash (cc)
 
 -- ── a refusal's place is at most the entry count ──
-pub place-small : (l : List ℕ) (n p : ℕ) → Refused n p ≡ checkedOf (judgeTable l) → p ≤ 2048
-place-small l n p e = go (judgeTable l) (narrow l) e
+pub place-small : (l : List ℕ) (r : code.Refusal) → Refused r ≡ checkedOf (judgeTable l) → r .place ≤ 2048
+place-small l r e = go (judgeTable l) (narrow l) e
   where
-    go : (j : Judged Tree) → Narrow j → Refused n p ≡ checkedOf j → p ≤ 2048
+    go : (j : Judged Tree) → Narrow j → Refused r ≡ checkedOf j → r .place ≤ 2048
     go (accepted t) h k = clash (cc)
-    go (refused r) h k = let z : p ≡ r .place = cc in omega (arith, h .1)
+    go (refused q) h k = let z : r ≡ inCode q = cc in omega (arith, h .1, ap (λ (x : code.Refusal). x .place) z)

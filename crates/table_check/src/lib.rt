@@ -2,15 +2,16 @@
 use table_limits::Limited;
 use table_names::Faulted;
 use table_read::Reading;
+use values::Refusal;
 ghost use mathlib.Core.Path.{_≡_};
 ghost use Rattle.language.specs.Judge.{judgeTable};
 ghost use Rattle.table_forms.specs.Tables.{Reads};
 ghost use Rattle.table_check.specs.Checked.{checkedOf};
 
-// Refused with the refusal's number and its place: an entry, or the entry count where the table ends early.
+// The place of a refusal is an entry, or the entry count where the table ends early.
 pub enum Checked {
     Accepted,
-    Refused(u8, u32),
+    Refused(Refusal),
 }
 
 // A table that reads: its first fault, and then the first body over its limits.
@@ -21,9 +22,15 @@ fn judged(table: &[u8]) -> Checked
     match table_names::first_fault(table) {
         Faulted::Faultless => match table_limits::over_limits(table) {
             Limited::Within => Checked::Accepted,
-            Limited::Over(place) => Checked::Refused(6, place as u32),
+            Limited::Over(place) => Checked::Refused(Refusal {
+                number: 6,
+                place: place as u32,
+            }),
         },
-        Faulted::Fault(number, place) => Checked::Refused(number, place as u32),
+        Faulted::Fault(number, place) => Checked::Refused(Refusal {
+            number,
+            place: place as u32,
+        }),
     }
 }
 
@@ -32,6 +39,9 @@ pub fn check(table: &[u8]) -> Checked
 {
     match table_read::read_table(table) {
         Reading::Reads => judged(table),
-        Reading::Refused(number, place) => Checked::Refused(number, place as u32),
+        Reading::Refused(number, place) => Checked::Refused(Refusal {
+            number,
+            place: place as u32,
+        }),
     }
 }

@@ -1,6 +1,7 @@
 pub mod Types
 pub mod Identical
 pub mod Ends
+pub mod Refusals
 pub mod Conditions
 pub mod Operators
 pub mod Arithmetic

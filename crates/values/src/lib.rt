@@ -40,6 +40,13 @@ pub enum Computed {
     Ends(u8),
 }
 
+// Why a table, a macro, a state or a bank of readings was refused: the refusal's number, and its place, an entry, the index of a record or an
+// address; 0 where it has none.
+pub struct Refusal {
+    pub number: u8,
+    pub place: u32,
+}
+
 // Both operands are at hand, so neither test is skipped.
 pub fn both(a: bool, b: bool) -> bool
     ensures { λ r. ⌜ r ≡ (a && b) ⌝ }

@@ -16,8 +16,8 @@ compile-accepted-requires c κs =
 returns-2 : tie.Need-returns-2
 returns-2 c =
     let at-start = c .before .before .before .before .before .before in
-    compile-refused (at-start .args .table .now) (at-start .args .out .now) (c .before .number .given .0 .0) (c .before .number .given .0 .1 .0)
-    (sym (c .before .number .given .1) ∙ c .before .before .before .check .ensures)
+    compile-refused (at-start .args .table .now) (at-start .args .out .now) (c .before .refusal .given .0 .0)
+    (sym (c .before .refusal .given .1) ∙ c .before .before .before .check .ensures)
 
 pub compile-spec : {M : Type 1} → statement M
 compile-spec =

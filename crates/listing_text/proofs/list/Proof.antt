@@ -5,7 +5,7 @@ use native.Mathlib.Omega.{arith}
 use lib.ListN.{length}
 use lib.Seq.{length-take-le}
 use borrow.Author.Needs.{needs}
-use Rattle.values.specs.Ends.{refusal}
+use Rattle.values.specs.Refusals.{refusalOf}
 use Rattle.compile.specs.Verdict.{verdictOf}
 use Rattle.listing_text.specs.Text.{refusedLine}
 use Rattle.listing_text.specs.Length.{textRoom, refused-fits}
@@ -15,8 +15,8 @@ use Rattle.listing_text.proofs.list.Statement.{statement}
 use Rattle.listing_text.proofs.list.Tie as tie
 
 -- the line of a refusal fits
-refused : (c : tie.After-known-told) → length (refusedLine (refusal (c .before .number .given .0 .0) (c .before .number .given .0 .1 .0))) ≤ textRoom
-refused c = refused-fits (c .before .number .given .0 .0) (c .before .number .given .0 .1 .0) (omega arith) (omega arith)
+refused : (c : tie.After-known-told) → length (refusedLine (refusalOf (c .before .refusal .given .0 .0))) ≤ textRoom
+refused c = refused-fits (c .before .refusal .given .0 .0 .number) (c .before .refusal .given .0 .0 .place) (omega arith) (omega arith)
 
 -- the macro stands within the bytes that are lent for it
 in-room : (c : tie.After-known-told2) → c .before .n .given .0 .0 ≤ length (c .before .before .before .before .compile .last .1 .0)
@@ -37,7 +37,7 @@ returns c =
     let told = c .before .before in
     let done = told .before .before .before .before in
     let entry = done .before .before .before in
-    rw (listing-is (entry .args .table .now), table-text (entry .args .table .now) _ _ (verdictOf (done .compile .result)) _ (done .compile .ensures), told .before .number .given .1)
+    rw (listing-is (entry .args .table .now), table-text (entry .args .table .now) _ _ (verdictOf (done .compile .result)) _ (done .compile .ensures), told .before .refusal .given .1)
     (in-front _ _ _ _ (omega (arith, refused told)) (c .put-refused .ensures))
 
 returns-2 : tie.Need-returns-2

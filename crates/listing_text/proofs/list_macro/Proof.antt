@@ -2,7 +2,7 @@
 use Prim.Native.Nat.{_≤_}
 use native.Mathlib.Omega.{arith}
 use lib.ListN.{length}
-use Rattle.values.specs.Ends.{refusal}
+use Rattle.values.specs.Refusals.{refusalOf}
 use Rattle.run.specs.Answers.{verdictOf}
 use Rattle.listing_text.specs.Text.{refusedLine}
 use Rattle.listing_text.specs.Length.{textRoom, lines-fit, refused-fits}
@@ -13,8 +13,8 @@ use Rattle.listing_text.proofs.list_macro.Statement.{statement}
 use Rattle.listing_text.proofs.list_macro.Tie as tie
 
 -- the line of a refusal fits
-refused : (c : tie.After-known-told) → length (refusedLine (refusal (c .before .number .given .0 .0) (c .before .number .given .0 .1 .0))) ≤ textRoom
-refused c = refused-fits (c .before .number .given .0 .0) (c .before .number .given .0 .1 .0) (omega arith) (omega arith)
+refused : (c : tie.After-known-told) → length (refusedLine (refusalOf (c .before .refusal .given .0 .0))) ≤ textRoom
+refused c = refused-fits (c .before .refusal .given .0 .0 .number) (c .before .refusal .given .0 .0 .place) (omega arith) (omega arith)
 
 put-refused-requires : tie.Need-put-refused-requires
 put-refused-requires c κs =
@@ -37,7 +37,7 @@ returns c =
     let told = c .before .before .before .before in
     let started = told .before .before .before .before .before in
     let entry = started .before .before .before .before .before in
-    rw (macro-text (entry .args .code .now) (entry .args .state .now) (verdictOf (started .start .result)) _ (started .start .ensures), told .before .number .given .1)
+    rw (macro-text (entry .args .code .now) (entry .args .state .now) (verdictOf (started .start .result)) _ (started .start .ensures), told .before .refusal .given .1)
     (in-front _ _ _ _ (omega (arith, entry .pre, refused told)) (c .before .before .put-refused .ensures))
 
 returns-2 : tie.Need-returns-2

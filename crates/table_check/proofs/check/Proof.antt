@@ -3,6 +3,7 @@ use borrow.Author.Needs.{needs}
 use mathlib.Core.Path.{_≡_, sym, _∙_}
 use native.Mathlib.Omega.{arith}
 use denote.Ref.{now}
+use Rattle.values.specs.Refusals.{coded}
 use Rattle.language.specs.Judge.{judgeTable}
 use Rattle.table_check.specs.Checked.{checkedOf, reads, unread, place-small}
 use Rattle.table_check.specs.declared.Checked.the-variants.{Refused}
@@ -18,12 +19,12 @@ judged-requires c κs =
     reads (now (at-start .args .table)) (sym (c .enum-told .given .1) ∙ c .before .before .read-table .ensures)
 
 -- what the arm of a table that does not read answers
-unread-is : (c : tie.After-known-told) → Refused (c .before .number .given .0 .0) (c .before .number .given .0 .1 .0)
+unread-is : (c : tie.After-known-told) → Refused (coded (c .before .number .given .0 .0) (c .before .number .given .0 .1 .0))
     ≡ checkedOf (judgeTable (now (c .before .before .before .before .before .args .table)))
 unread-is c = unread _ (c .before .number .given .0 .0) (c .before .number .given .0 .1 .0) (sym (c .before .number .given .1) ∙ c .before .before .before .read-table .ensures)
 
 cast-t6 : tie.Need-cast-t6
-cast-t6 c = record { fits = omega (arith, place-small _ _ _ (unread-is c)) }
+cast-t6 c = record { fits = omega (arith, place-small _ _ (unread-is c)) }
 
 returns-2 : tie.Need-returns-2
 returns-2 c = unread-is c

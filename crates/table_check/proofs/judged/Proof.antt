@@ -3,6 +3,7 @@ use borrow.Author.Needs.{needs}
 use mathlib.Core.Path.{_≡_}
 use native.Mathlib.Omega.{arith}
 use denote.Ref.{now}
+use Rattle.values.specs.Refusals.{coded}
 use Rattle.language.specs.Judge.{judgeTable}
 use Rattle.table_check.specs.Checked.{checkedOf, faulty, over, within, place-small}
 use Rattle.table_check.specs.declared.Checked.the-variants.{Refused}
@@ -13,23 +14,23 @@ enum-told : tie.Need-enum-told
 enum-told c = search needs
 
 -- what each arm of a refusal answers
-over-is : (c : tie.After-known-told) → Refused 6 (c .before .place .given .0 .0) ≡ checkedOf (judgeTable (now (c .before .before .before .before .before .before .before .before .args .table)))
+over-is : (c : tie.After-known-told) → Refused (coded 6 (c .before .place .given .0 .0)) ≡ checkedOf (judgeTable (now (c .before .before .before .before .before .before .before .before .args .table)))
 over-is c =
     over _ (c .before .before .before .before .before .before .before .before .pre)
     (c .before .before .before .before .before .before .first-fault .ensures) (c .before .before .before .before .enum-told .given .1)
     (c .before .before .before .over-limits .ensures) (c .before .place .given .0 .0) (c .before .place .given .1)
 
 cast-t9 : tie.Need-cast-t9
-cast-t9 c = record { fits = omega (arith, place-small _ _ _ (over-is c)) }
+cast-t9 c = record { fits = omega (arith, place-small _ _ (over-is c)) }
 
-fault-is : (c : tie.After-known-told2) → Refused (c .before .number .given .0 .0) (c .before .number .given .0 .1 .0)
+fault-is : (c : tie.After-known-told2) → Refused (coded (c .before .number .given .0 .0) (c .before .number .given .0 .1 .0))
     ≡ checkedOf (judgeTable (now (c .before .before .before .before .before .args .table)))
 fault-is c =
     faulty _ (c .before .before .before .before .before .pre) (c .before .before .before .first-fault .ensures) (c .before .number .given .0 .0)
     (c .before .number .given .0 .1 .0) (c .before .number .given .1)
 
-cast-t10 : tie.Need-cast-t10
-cast-t10 c = record { fits = omega (arith, place-small _ _ _ (fault-is c)) }
+cast-t11 : tie.Need-cast-t11
+cast-t11 c = record { fits = omega (arith, place-small _ _ (fault-is c)) }
 
 returns : tie.Need-returns
 returns c =
@@ -54,7 +55,7 @@ judged-spec =
     (λ c. search needs)
     cast-t9
     (λ c. search needs)
-    cast-t10
+    cast-t11
     returns
     returns-2
     returns-3)

@@ -11,7 +11,7 @@ enum-told c = search needs
 pack-refusal-requires : tie.Need-pack-refusal-requires
 pack-refusal-requires c κs =
     let at-check = c .before .before .before in
-    law.checked-small _ (at-check .check .result) (at-check .check .ensures) _ _ (c .before .number .given .1)
+    law.checked-small _ (at-check .check .result) (at-check .check .ensures) _ (c .before .refusal .given .1)
 
 returns : tie.Need-returns
 returns c =
@@ -21,7 +21,7 @@ returns c =
 returns-2 : tie.Need-returns-2
 returns-2 c =
     let at-check = c .before .before .before .before in
-    c .pack-refusal .ensures ∙ law.checked _ (at-check .check .result) (at-check .check .ensures) _ (c .before .before .number .given .1)
+    c .pack-refusal .ensures ∙ law.checked _ (at-check .check .result) (at-check .check .ensures) _ (c .before .before .refusal .given .1)
 
 pub cue-check-spec : {M : Type 1} → statement M
 cue-check-spec =

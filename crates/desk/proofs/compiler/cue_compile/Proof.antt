@@ -18,7 +18,7 @@ pack-refusal-requires c κs =
     let at-shared-slice-known = at-compile .before .before .before in
     let call = at-compile .compile in
     let bytes = at-shared-slice-known .shared-slice-known .given in
-    law.compiled-small _ _ _ (call .result) (call .ensures) (λ k. bytes k .fits) _ _ (c .before .number .given .1)
+    law.compiled-small _ _ _ (call .result) (call .ensures) (λ k. bytes k .fits) _ (c .before .refusal .given .1)
 
 returns : tie.Need-returns
 returns c =
@@ -30,7 +30,7 @@ returns-2 : tie.Need-returns-2
 returns-2 c =
     let at-compile = c .before .before .before .before .before .before in
     let call = at-compile .compile in
-    law.compiled _ _ _ (call .result) (call .ensures) _ (c .before .before .number .given .1) _ (c .pack-refusal .ensures)
+    law.compiled _ _ _ (call .result) (call .ensures) _ (c .before .before .refusal .given .1) _ (c .pack-refusal .ensures)
 
 pub cue-compile-spec : {M : Type 1} → statement M
 cue-compile-spec =

@@ -10,7 +10,7 @@ pack-refusal-requires c κs =
     let at-shared-slice-known2 = at-run .before .before in
     let at-shared-slice-known = at-shared-slice-known2 .before .before in
     law.ran-small _ _ _ _ _ (at-run .run .result) (at-run .run .ensures) (λ k. at-shared-slice-known .shared-slice-known .given k .fits)
-    (λ k. at-shared-slice-known2 .shared-slice-known2 .given k .fits) _ _ (c .before .number .given .1)
+    (λ k. at-shared-slice-known2 .shared-slice-known2 .given k .fits) _ (c .before .refusal .given .1)
 
 returns : tie.Need-returns
 returns c =
@@ -30,7 +30,7 @@ returns-3 c =
 returns-4 : tie.Need-returns-4
 returns-4 c =
     let at-run = c .before .before .before .before .before .before in
-    law.ran _ _ _ _ _ (at-run .run .result) (at-run .run .ensures) _ (c .before .before .number .given .1) _ (c .pack-refusal .ensures)
+    law.ran _ _ _ _ _ (at-run .run .result) (at-run .run .ensures) _ (c .before .before .refusal .given .1) _ (c .pack-refusal .ensures)
 
 pub cue-run-spec : {M : Type 1} → statement M
 cue-run-spec =

@@ -11,7 +11,7 @@ pack-refusal-requires : tie.Need-pack-refusal-requires
 pack-refusal-requires c κs =
     let at-start = c .before .before .before .before .before in
     let at-shared-slice-known = at-start .before .before .before in
-    law.started-small _ _ _ (at-start .start .result) (at-start .start .ensures) (λ k. at-shared-slice-known .shared-slice-known .given k .fits) _ _ (c .before .number .given .1)
+    law.started-small _ _ _ (at-start .start .result) (at-start .start .ensures) (λ k. at-shared-slice-known .shared-slice-known .given k .fits) _ (c .before .refusal .given .1)
 
 returns : tie.Need-returns
 returns c =
@@ -21,7 +21,7 @@ returns c =
 returns-2 : tie.Need-returns-2
 returns-2 c =
     let at-start = c .before .before .before .before .before .before in
-    law.started _ _ _ (at-start .start .result) (at-start .start .ensures) _ (c .before .before .number .given .1) _ (c .pack-refusal .ensures)
+    law.started _ _ _ (at-start .start .result) (at-start .start .ensures) _ (c .before .before .refusal .given .1) _ (c .pack-refusal .ensures)
 
 pub cue-start-spec : {M : Type 1} → statement M
 cue-start-spec =

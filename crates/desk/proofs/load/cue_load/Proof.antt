@@ -12,7 +12,7 @@ pack-refusal-requires : tie.Need-pack-refusal-requires
 pack-refusal-requires c κs =
     let at-load = c .before .before .before in
     let at-shared-slice-known = at-load .before in
-    law.loaded-small _ (at-load .load .result) (at-load .load .ensures) (λ k. at-shared-slice-known .shared-slice-known .given k .fits) _ _ (c .before .number .given .1)
+    law.loaded-small _ (at-load .load .result) (at-load .load .ensures) (λ k. at-shared-slice-known .shared-slice-known .given k .fits) _ (c .before .refusal .given .1)
 
 returns : tie.Need-returns
 returns c =
@@ -22,7 +22,7 @@ returns c =
 returns-2 : tie.Need-returns-2
 returns-2 c =
     let at-load = c .before .before .before .before in
-    c .pack-refusal .ensures ∙ law.loaded _ (at-load .load .result) (at-load .load .ensures) _ (c .before .before .number .given .1)
+    c .pack-refusal .ensures ∙ law.loaded _ (at-load .load .result) (at-load .load .ensures) _ (c .before .before .refusal .given .1)
 
 pub cue-load-spec : {M : Type 1} → statement M
 cue-load-spec =

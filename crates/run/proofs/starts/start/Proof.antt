@@ -24,7 +24,7 @@ write-fresh-requires c κs =
     (A .0, A .1, A .2, c .before .before .before .if1 .left)
 
 returns-2 : tie.Need-returns-2
-returns-2 c = law.start-refused _ _ (c .before .number .given .0 .0) (c .before .number .given .0 .1 .0) (sym (c .before .number .given .1) ∙ c .before .before .before .load .ensures)
+returns-2 c = law.start-refused _ _ (c .before .refusal .given .0 .0) (sym (c .before .refusal .given .1) ∙ c .before .before .before .load .ensures)
 
 returns-3 : tie.Need-returns-3
 returns-3 c =
