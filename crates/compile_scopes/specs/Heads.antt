@@ -23,7 +23,7 @@ use Rattle.language.specs.Names as names
 use Rattle.language.specs.Faults.{sizeS}
 use Rattle.language_laws.specs.Basics.{clash}
 use Rattle.language_laws.specs.Claims.{entriesOf}
-use Rattle.table_scopes.specs.Stands.{Stands, stands-tail}
+use Rattle.table_entries.specs.Stands.{Stands, stands-tail}
 use Rattle.table_scopes.specs.Defines.{headItems, labelItems}
 use Rattle.table_scopes.specs.Sees.{Legible, Sees, Agrees}
 use Rattle.bytecode.specs.Instructions.{Owner, own, root}

@@ -14,7 +14,8 @@ use Rattle.language.specs.Table.{Entry}
 use Rattle.language.specs.Names.{Scope, expressionOf}
 use Rattle.language_laws.specs.Claims.{entriesOf}
 use Rattle.table_scopes.specs.Environment.{envOf, shut}
-use Rattle.table_scopes.specs.Stands.{Stands, stands-left, stands-within, length-entries}
+use Rattle.table_entries.specs.Entries.{length-entries}
+use Rattle.table_entries.specs.Stands.{Stands, stands-left, stands-within}
 use Rattle.table_scopes.specs.Trees.{length-map, length-Items}
 use Rattle.table_scopes.specs.Defines.{heads-stand}
 use Rattle.table_scopes.specs.Defines as defines

@@ -10,7 +10,8 @@ use Rattle.language.specs.Tree.{Decl, declare, holding, Items, countItems}
 use Rattle.language_laws.specs.Claims.{entriesOf}
 use Rattle.table_scopes.specs.Environment.{Item, item, envOf, addAll, Grown}
 use Rattle.table_scopes.specs.EnvironmentLaws.{fewer}
-use Rattle.table_scopes.specs.Stands.{Stands, stands-within, length-entries}
+use Rattle.table_entries.specs.Entries.{length-entries}
+use Rattle.table_entries.specs.Stands.{Stands, stands-within}
 use Rattle.table_scopes.specs.Items.{blockItems}
 use Rattle.table_scopes.specs.Sees.{Legible, Sees}
 use Rattle.table_scopes.specs.Trees.{length-Items}

@@ -15,7 +15,7 @@ use Rattle.language.specs.Faults.{sizeGlobal}
 use Rattle.language.specs.Limits.{bodyUsage}
 use Rattle.language.specs.Formed.{EveryProcedure, InLimits}
 use Rattle.language_laws.specs.Claims.{entriesOf}
-use Rattle.table_scopes.specs.Stands.{Stands}
+use Rattle.table_entries.specs.Stands.{Stands}
 use Rattle.table_scopes.specs.Trees.{length-Global}
 use Rattle.table_forms.specs.Walk.{Table}
 use Rattle.table_forms.specs.Steps.{head-of, below}

@@ -13,8 +13,9 @@ use Rattle.language.specs.Faults.{typeE, isTy, mistypedUnless, sizeItems, sizeE
 use Rattle.language_laws.specs.Claims.{entriesOf}
 use Rattle.table_scopes.specs.Environment.{item as pushed, envOf, addAll, Grown, opened, shut}
 use Rattle.table_scopes.specs.EnvironmentLaws.{fewer}
-use Rattle.table_scopes.specs.Spans.{span, parts}
-use Rattle.table_scopes.specs.Stands.{Stands, stands-right}
+use Rattle.table_entries.specs.Arity.{parts}
+use Rattle.table_scopes.specs.Spans.{span}
+use Rattle.table_entries.specs.Stands.{Stands, stands-right}
 use Rattle.table_scopes.specs.Sizes.{Known}
 use Rattle.table_scopes.specs.declared.heads.Verdict.{Verdict}
 use Rattle.table_scopes.specs.declared.heads.Verdict.the-variants.{Fine, Refused}

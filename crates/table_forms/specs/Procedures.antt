@@ -15,7 +15,7 @@ use Rattle.language.specs.Faults.{twice, mistypedUnless, faultsHead, faultsBody
 use Rattle.language_laws.specs.Claims.{entriesOf}
 use Rattle.table_scopes.specs.Environment.{item, envOf, addAll, shut, Grown}
 use Rattle.table_scopes.specs.EnvironmentLaws.{Small, fewer}
-use Rattle.table_scopes.specs.Stands.{Stands, stands-left, stands-right, stands-tail}
+use Rattle.table_entries.specs.Stands.{Stands, stands-left, stands-right, stands-tail}
 use Rattle.table_scopes.specs.declared.heads.Verdict.{Verdict}
 use Rattle.table_scopes.specs.declared.heads.Verdict.the-variants.{Fine, Refused}
 use Rattle.table_scopes.specs.Items.{itemsAt}

@@ -19,7 +19,8 @@ use Rattle.language.specs.Names.{Scope}
 use Rattle.language.specs.Faults.{twice, typeFaults, mistypedUnless, typeE, faultsTyped, faultsHead, namesHead, namesTyped, namesGlobal, faultsBody, bodyFits, faultsGlobal, faultsGlobals, sizeGlobal}
 use Rattle.language_laws.specs.Claims.{entriesOf}
 use Rattle.table_scopes.specs.Environment.{Item, envOf}
-use Rattle.table_scopes.specs.Stands.{Stands, stands-tail, stands-within, length-entries}
+use Rattle.table_entries.specs.Entries.{length-entries}
+use Rattle.table_entries.specs.Stands.{Stands, stands-tail, stands-within}
 use Rattle.table_scopes.specs.declared.heads.Verdict.{Verdict}
 use Rattle.table_scopes.specs.declared.heads.Verdict.the-variants.{Fine}
 use Rattle.table_scopes.specs.Flaws.{Says, onceFlaw, headFlaws}

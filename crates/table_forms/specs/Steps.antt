@@ -25,8 +25,10 @@ use Rattle.language_laws.specs.Basics.{clash}
 use Rattle.language_laws.specs.Claims.{entriesOf}
 use Rattle.table_scopes.specs.Environment.{Item, item as pushed, envOf, find, addAll, Grown, opened, shut, value}
 use Rattle.table_scopes.specs.EnvironmentLaws.{fewer, grown-push, stored, past-mark, passing-none}
-use Rattle.table_scopes.specs.Spans.{Spans, parts, spans-one, spans-none}
-use Rattle.table_scopes.specs.Stands.{Stands, stands-left, stands-right, stands-tail, stands-within, fields, half-part, word-part, length-entries}
+use Rattle.table_entries.specs.Arity.{parts}
+use Rattle.table_scopes.specs.Spans.{Spans, spans-one, spans-none}
+use Rattle.table_entries.specs.Entries.{half-part, word-part, length-entries}
+use Rattle.table_entries.specs.Stands.{Stands, stands-left, stands-right, stands-tail, stands-within, fields}
 use Rattle.table_scopes.specs.Sizes.{Known}
 use Rattle.table_scopes.specs.declared.heads.Verdict.{Verdict}
 use Rattle.table_scopes.specs.declared.heads.Verdict.the-variants.{Fine, Refused}

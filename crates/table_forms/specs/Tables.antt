@@ -25,7 +25,8 @@ use Rattle.language_laws.specs.Programs.{flatten-read}
 use Rattle.table_scopes.specs.Environment.{item, envOf, addAll, opened, Grown}
 use Rattle.table_scopes.specs.EnvironmentLaws.{Small, small-append}
 use Rattle.table_scopes.specs.Spans.{Spans, span}
-use Rattle.table_scopes.specs.Stands.{Stands, stands-left, stands-right, stands-tail, stands-within, length-entries}
+use Rattle.table_entries.specs.Entries.{length-entries}
+use Rattle.table_entries.specs.Stands.{Stands, stands-left, stands-right, stands-tail, stands-within}
 use Rattle.table_scopes.specs.Sizes.{Known}
 use Rattle.table_scopes.specs.declared.heads.Verdict.{Verdict}
 use Rattle.table_scopes.specs.declared.heads.Verdict.the-variants.{Fine, Refused}

@@ -23,7 +23,7 @@ use Rattle.language_laws.specs.Basics.{clash, both-left}
 use Rattle.language_laws.specs.Claims.{Readable, entriesOf}
 use Rattle.language_laws.specs.Programs.{flatten-read}
 use Rattle.language_laws.specs.Takes.{Fits, fits-head, fits-tail, fits-left, fits-right}
-use Rattle.table_read.proofs.Parts.{entries-none}
+use Rattle.table_entries.specs.Entries.{entries-none}
 use Rattle.table_read.specs.Operands.{sorts}
 use Rattle.table_read.specs.Walk.{kindAt, nameAt, sizeAt}
 use Rattle.table_limits.specs.declared.sums.Used.{Used}

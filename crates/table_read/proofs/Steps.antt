@@ -22,7 +22,7 @@ use Rattle.table_read.specs.Operands.{isS, isE, sorts}
 use Rattle.table_read.specs.Walk.{shapeOf, leafOf, counted, moved, chain, kindAt, nameAt, sizeAt, laidAt, standsAt, atomAt, sortsAt, admits, entered, walk}
 use Rattle.table_read.proofs.Ends.{ends-shape, ends-count}
 use Rattle.table_read.proofs.Forms.{walks}
-use Rattle.table_read.proofs.Parts.{entries-length}
+use Rattle.table_entries.specs.Entries.{entries-length}
 
 -- ── the definition's answers ──
 pub statement-shape : (d : ℕ) (es : List Entry) → walk d Stmt es ≡ shapeOf es (below d .stmt es)

@@ -34,21 +34,21 @@ pub fn kind_of(part: &[u8]) -> u16
     requires { ⌜ 8 ≤ length (now part) ⌝ }
     ensures { λ r. ⌜ r ≡ kindAt (entriesOf (now (part .entry))) ⌝ }
 {
-    words::half_at(part, KIND_AT)
+    table_entries::kind_at(part, 0)
 }
 
 pub fn name_of(part: &[u8]) -> u16
     requires { ⌜ 8 ≤ length (now part) ⌝ }
     ensures { λ r. ⌜ r ≡ nameAt (entriesOf (now (part .entry))) ⌝ }
 {
-    words::half_at(part, A_AT)
+    table_entries::a_at(part, 0)
 }
 
 pub fn size_of(part: &[u8]) -> u32
     requires { ⌜ 8 ≤ length (now part) ⌝ }
     ensures { λ r. ⌜ r ≡ sizeAt (entriesOf (now (part .entry))) ⌝ }
 {
-    layout::magnitude(words::integer_at(part, B_AT))
+    layout::magnitude(table_entries::signed_b_at(part, 0))
 }
 
 // Whether an entry stands there and keeps to the layout.
@@ -59,9 +59,9 @@ fn laid(part: &[u8]) -> bool
         return false;
     }
     layout::in_layout(
-        words::half_at(part, KIND_AT),
-        words::half_at(part, A_AT),
-        words::integer_at(part, B_AT),
+        table_entries::kind_at(part, 0),
+        table_entries::a_at(part, 0),
+        table_entries::signed_b_at(part, 0),
     )
 }
 
@@ -103,8 +103,8 @@ fn atom(part: &[u8]) -> bool
     }
     layout::in_layout(
         kind,
-        words::half_at(part, A_AT),
-        words::integer_at(part, B_AT),
+        table_entries::a_at(part, 0),
+        table_entries::signed_b_at(part, 0),
     )
 }
 

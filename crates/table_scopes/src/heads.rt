@@ -24,13 +24,13 @@ fn add_one(table: &[u8], place: usize, kind: u16, sort: u32, env: &mut [u32], to
     requires { ⌜ (8 * (place + 1) ≤ length (now table)) × (length (now table) ≤ 16384) × (4 * (top + length (oneAt kind sort (now table) place)) ≤ length (now env)) ⌝ }
     ensures { λ r. ⌜ Grown top (now (env .entry)) (now (env .exit)) r (addAll (oneAt kind sort (now (table .entry)) place) (envOf (now (env .entry)) top)) (length (oneAt kind sort (now (table .entry)) place)) ⌝ }
 {
-    if spans::kind_at(table, place) == kind {
+    if table_entries::kind_at(table, place) == kind {
         environment::add(
             env,
             top,
-            spans::a_at(table, place) as u32,
+            table_entries::a_at(table, place) as u32,
             sort,
-            spans::b_at(table, place),
+            table_entries::b_at(table, place),
             place as u32,
         )
     } else {
@@ -89,7 +89,7 @@ fn add_global(table: &[u8], place: usize, env: &mut [u32], top: usize) -> usize
     requires { ⌜ WithinGlobal (now table) place × (length (now table) ≤ 16384) × (4 * (top + length (globalAt (now table) place)) ≤ length (now env)) ⌝ }
     ensures { λ r. ⌜ Grown top (now (env .entry)) (now (env .exit)) r (addAll (globalAt (now (table .entry)) place) (envOf (now (env .entry)) top)) (length (globalAt (now (table .entry)) place)) ⌝ }
 {
-    let kind = spans::kind_at(table, place);
+    let kind = table_entries::kind_at(table, place);
     match kind {
         KIND_CLASS => add_class(table, place, env, top),
         KIND_PROCEDURE => add_one(table, place, KIND_PROCEDURE, 7, env, top),
@@ -103,11 +103,11 @@ fn add_class(table: &[u8], place: usize, env: &mut [u32], top: usize) -> usize
     ensures { λ r. ⌜ Grown top (now (env .entry)) (now (env .exit)) r (addAll (oneAt 11 6 (now (table .entry)) place ++ itemsAt (65536 + aAt (now (table .entry)) place) (now (table .entry)) (place + 1) (bAt (now (table .entry)) place)) (envOf (now (env .entry)) top)) (length (oneAt 11 6 (now (table .entry)) place ++ itemsAt (65536 + aAt (now (table .entry)) place) (now (table .entry)) (place + 1) (bAt (now (table .entry)) place))) ⌝ }
 {
     let up = add_one(table, place, KIND_CLASS, 6, env, top);
-    let sort = 65536 + spans::a_at(table, place) as u32;
+    let sort = 65536 + table_entries::a_at(table, place) as u32;
     add_head(
         table,
         place + 1,
-        spans::b_at(table, place) as usize,
+        table_entries::b_at(table, place) as usize,
         sort,
         env,
         up,
@@ -203,9 +203,9 @@ fn declared(table: &[u8], at: usize, env: &[u32], top: usize) -> Verdict
     requires { ⌜ (8 * (at + 1) ≤ length (now table)) × (4 * top ≤ length (now env)) ⌝ }
     ensures { λ r. ⌜ Says r (declFlaws (now (table .entry)) (envOf (now (env .entry)) top) at) ⌝ }
 {
-    if spans::kind_at(table, at) == KIND_DECLARE {
-        match once(env, top, spans::a_at(table, at) as u32, at) {
-            Verdict::Fine(_) => classed(env, top, spans::b_at(table, at), at),
+    if table_entries::kind_at(table, at) == KIND_DECLARE {
+        match once(env, top, table_entries::a_at(table, at) as u32, at) {
+            Verdict::Fine(_) => classed(env, top, table_entries::b_at(table, at), at),
             Verdict::Refused(n, p) => Verdict::Refused(n, p),
         }
     } else {

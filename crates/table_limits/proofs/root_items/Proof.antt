@@ -5,7 +5,7 @@ use native.Mathlib.Omega.{arith}
 use borrow.Author.Needs.{needs}
 use lib.ListN.{length, length-drop}
 use Rattle.language_laws.specs.Claims.{entriesOf}
-use Rattle.table_read.proofs.Parts.{rest, entries-rest}
+use Rattle.table_entries.specs.Entries.{rest, entries-rest}
 use Rattle.table_limits.specs.Sums.{Level}
 use Rattle.table_limits.specs.Usage.{through, usageAt, itemsAt}
 use Rattle.table_limits.proofs.Trees.{through-same}

@@ -10,7 +10,8 @@ use Rattle.table_read.specs.declared.kinds.Sort.the-variants.{Stmt, Expr
 use Rattle.table_read.specs.declared.Read.the-variants.{Tree}
 use Rattle.table_read.specs.Operands.{sorts}
 use Rattle.table_read.specs.Walk.{leafOf, moved, counted, chain, walk, admits}
-use Rattle.table_read.proofs.Parts.{rest, entries-rest, laid-here}
+use Rattle.table_entries.specs.Entries.{rest, entries-rest}
+use Rattle.table_read.proofs.Parts.{laid-here}
 use Rattle.table_read.proofs.Steps.{statement-shape, expression-shape, walk-fits, moved-moved, chain-step, chain-stop, chain-end, entered-unlaid, entered-other}
 use Rattle.table_read.proofs.Steps.{entered-whole, walk-none, walk-open, walk-typed, walk-declaration, walk-label, walk-unlabelled, walk-variable, walk-atom}
 use Rattle.table_read.proofs.Steps.{walk-target, walk-no-target}

@@ -5,7 +5,8 @@ use borrow.Author.Needs.{needs}
 use borrow.Author.Tests.{not-true, not-false}
 use Rattle.language_laws.specs.Claims.{entriesOf}
 use Rattle.table_read.specs.Walk.{isGlobal, walk}
-use Rattle.table_read.proofs.Parts.{entries-rest, laid-here}
+use Rattle.table_entries.specs.Entries.{entries-rest}
+use Rattle.table_read.proofs.Parts.{laid-here}
 use Rattle.table_read.proofs.Steps.{entered-unlaid, entered-other, entered-whole}
 use Rattle.table_read.proofs.read_global.Statement.{statement}
 use Rattle.table_read.proofs.read_global.Tie as tie

@@ -9,7 +9,8 @@ use lib.ListN.{length, take, drop, length-drop}
 use Rattle.language_laws.specs.Basics.{both-right}
 use Rattle.language_laws.specs.Claims.{entriesOf}
 use Rattle.table_read.specs.Walk.{counted, moved, kindAt, laidAt}
-use Rattle.table_read.proofs.Parts.{rest, entries-rest, laid-here}
+use Rattle.table_entries.specs.Entries.{rest, entries-rest}
+use Rattle.table_read.proofs.Parts.{laid-here}
 use Rattle.table_read.proofs.Roots.{head-fits, parts-fit, walk-root-none, walk-root-stop, walk-root-whole}
 use Rattle.table_read.proofs.read_root.Statement.{statement}
 use Rattle.table_read.proofs.read_root.Tie as tie

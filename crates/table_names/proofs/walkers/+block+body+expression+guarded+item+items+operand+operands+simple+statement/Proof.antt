@@ -54,8 +54,9 @@ use Rattle.table_names.proofs.walkers.guarded_of.Reads as guarded-of-re
 use Rattle.table_names.proofs.walkers.is_plain.Reads as is-plain-reads
 use Rattle.table_names.proofs.walkers.operands_of.Reads as operands-of-reads
 use Rattle.table_names.proofs.walkers.tested.Reads as tested-reads
-use Rattle.words.proofs.half_at.Reads as half-at-reads
-use Rattle.words.proofs.word_at.Reads as word-at-reads
+use Rattle.table_entries.proofs.kind_at.Reads as kind-at-reads
+use Rattle.table_entries.proofs.a_at.Reads as a-at-reads
+use Rattle.table_entries.proofs.b_at.Reads as b-at-reads
 use Rattle.table_names.proofs.walkers.+block+body+expression+guarded+item+items+operand+operands+simple+statement.{statement}
 use Rattle.table_names.proofs.walkers.+block+body+expression+guarded+item+items+operand+operands+simple+statement.Tie.{close}
 
@@ -151,10 +152,10 @@ abbrev statement-below : ℕ → In 4 statement-kinds.ps
 statement-below t = and 4 statement-kinds.ps (falls 4 statement-kinds.ps _<_ μ-statement t) statement′.Pre
 
 block-meets : {M : Type 1} (t : ℕ) → block-lts.Closed (
-  half-at-reads.Asked,
-  half-at-reads.Learnt,
-  word-at-reads.Asked,
-  word-at-reads.Learnt,
+  a-at-reads.Asked,
+  a-at-reads.Learnt,
+  b-at-reads.Asked,
+  b-at-reads.Learnt,
   enter-reads.Asked,
   enter-reads.Learnt,
   head-reads.Asked,
@@ -164,10 +165,10 @@ block-meets : {M : Type 1} (t : ℕ) → block-lts.Closed (
 ) (block-at t) block.Post M
 block-meets t =
     block-lts.spec (
-      half-at-reads.Asked,
-      half-at-reads.Learnt,
-      word-at-reads.Asked,
-      word-at-reads.Learnt,
+      a-at-reads.Asked,
+      a-at-reads.Learnt,
+      b-at-reads.Asked,
+      b-at-reads.Learnt,
       enter-reads.Asked,
       enter-reads.Learnt,
       head-reads.Asked,
@@ -175,31 +176,31 @@ block-meets t =
       items-below t,
       items.Post,
     ) (block-at t) block.Post
-    -- half-at-requires
+    -- a-at-requires
     (λ c κs. omega (arith, asked (c .before .before .before .before .pre .1) .long))
     -- cast-heads
     (λ c. search needs)
-    -- word-at-requires
+    -- b-at-requires
     (λ c κs. omega (arith, asked (c .before .before .before .before .before .pre .1) .long))
     -- cast-count
     (λ c. search needs)
     -- add-enter
     (λ c. omega (arith, asked (c .before .before .before .before .before .before .pre .1) .small))
     -- enter-requires
-    (λ c κs. (let a = block-asks (c .before .before .half-at .result) (c .before .word-at .result)
-    (c .before .before .half-at .ensures, c .before .word-at .ensures) (c .before .before .before .before .before .before .before .pre .1) in
+    (λ c κs. (let a = block-asks (c .before .before .a-at .result) (c .before .b-at .result)
+    (c .before .before .a-at .ensures, c .before .b-at .ensures) (c .before .before .before .before .before .before .before .pre .1) in
     (a .known, a .within, a .reach, a .short, a .room)))
     -- add-head
     (λ c. omega (arith, asked (c .before .before .before .before .before .before .before .before .before .before .pre .1) .small))
     -- head-requires
     (λ c κs. (
-      block-within (c .before .before .before .before .before .before .half-at .result)
-          (c .before .before .before .before .before .word-at .result) (
-            c .before .before .before .before .before .before .half-at .ensures,
-            c .before .before .before .before .before .word-at .ensures,
+      block-within (c .before .before .before .before .before .before .a-at .result)
+          (c .before .before .before .before .before .b-at .result) (
+            c .before .before .before .before .before .before .a-at .ensures,
+            c .before .before .before .before .before .b-at .ensures,
           ) (c .before .before .before .before .before .before .before .before .before .before .before .pre .1) .within,
-      block-top (c .before .before .before .before .before .before .half-at .result) (c .before .before .before .before .before .word-at .result)
-          (c .before .before .before .before .before .before .half-at .ensures, c .before .before .before .before .before .word-at .ensures)
+      block-top (c .before .before .before .before .before .before .a-at .result) (c .before .before .before .before .before .b-at .result)
+          (c .before .before .before .before .before .before .a-at .ensures, c .before .before .before .before .before .b-at .ensures)
           (c .before .before .before .enter .ensures) (c .before .before .before .before .before .before .before .before .before .before .before .pre .1),
     ))
     -- enum-told
@@ -207,59 +208,59 @@ block-meets t =
     -- add-from
     (λ c. omega (
       arith,
-      block-within (c .before .before .before .before .before .before .before .before .before .half-at .result)
-          (c .before .before .before .before .before .before .before .before .word-at .result) (
-            c .before .before .before .before .before .before .before .before .before .half-at .ensures,
-            c .before .before .before .before .before .before .before .before .word-at .ensures,
+      block-within (c .before .before .before .before .before .before .before .before .before .a-at .result)
+          (c .before .before .before .before .before .before .before .before .b-at .result) (
+            c .before .before .before .before .before .before .before .before .before .a-at .ensures,
+            c .before .before .before .before .before .before .before .before .b-at .ensures,
           )
           (c .before .before .before .before .before .before .before .before .before .before .before .before .before .before .pre .1) .fits,
-      block-within (c .before .before .before .before .before .before .before .before .before .half-at .result)
-          (c .before .before .before .before .before .before .before .before .word-at .result) (
-            c .before .before .before .before .before .before .before .before .before .half-at .ensures,
-            c .before .before .before .before .before .before .before .before .word-at .ensures,
+      block-within (c .before .before .before .before .before .before .before .before .before .a-at .result)
+          (c .before .before .before .before .before .before .before .before .b-at .result) (
+            c .before .before .before .before .before .before .before .before .before .a-at .ensures,
+            c .before .before .before .before .before .before .before .before .b-at .ensures,
           )
           (c .before .before .before .before .before .before .before .before .before .before .before .before .before .before .pre .1) .within,
-      block-within (c .before .before .before .before .before .before .before .before .before .half-at .result)
-          (c .before .before .before .before .before .before .before .before .word-at .result) (
-            c .before .before .before .before .before .before .before .before .before .half-at .ensures,
-            c .before .before .before .before .before .before .before .before .word-at .ensures,
+      block-within (c .before .before .before .before .before .before .before .before .before .a-at .result)
+          (c .before .before .before .before .before .before .before .before .b-at .result) (
+            c .before .before .before .before .before .before .before .before .before .a-at .ensures,
+            c .before .before .before .before .before .before .before .before .b-at .ensures,
           )
           (c .before .before .before .before .before .before .before .before .before .before .before .before .before .before .pre .1) .short,
     ))
     -- mul-from
     (λ c. omega (
       arith,
-      block-within (c .before .before .before .before .before .before .before .before .before .half-at .result)
-          (c .before .before .before .before .before .before .before .before .word-at .result) (
-            c .before .before .before .before .before .before .before .before .before .half-at .ensures,
-            c .before .before .before .before .before .before .before .before .word-at .ensures,
+      block-within (c .before .before .before .before .before .before .before .before .before .a-at .result)
+          (c .before .before .before .before .before .before .before .before .b-at .result) (
+            c .before .before .before .before .before .before .before .before .before .a-at .ensures,
+            c .before .before .before .before .before .before .before .before .b-at .ensures,
           )
           (c .before .before .before .before .before .before .before .before .before .before .before .before .before .before .pre .1) .fits,
-      block-within (c .before .before .before .before .before .before .before .before .before .half-at .result)
-          (c .before .before .before .before .before .before .before .before .word-at .result) (
-            c .before .before .before .before .before .before .before .before .before .half-at .ensures,
-            c .before .before .before .before .before .before .before .before .word-at .ensures,
+      block-within (c .before .before .before .before .before .before .before .before .before .a-at .result)
+          (c .before .before .before .before .before .before .before .before .b-at .result) (
+            c .before .before .before .before .before .before .before .before .before .a-at .ensures,
+            c .before .before .before .before .before .before .before .before .b-at .ensures,
           )
           (c .before .before .before .before .before .before .before .before .before .before .before .before .before .before .pre .1) .within,
-      block-within (c .before .before .before .before .before .before .before .before .before .half-at .result)
-          (c .before .before .before .before .before .before .before .before .word-at .result) (
-            c .before .before .before .before .before .before .before .before .before .half-at .ensures,
-            c .before .before .before .before .before .before .before .before .word-at .ensures,
+      block-within (c .before .before .before .before .before .before .before .before .before .a-at .result)
+          (c .before .before .before .before .before .before .before .before .b-at .result) (
+            c .before .before .before .before .before .before .before .before .before .a-at .ensures,
+            c .before .before .before .before .before .before .before .before .b-at .ensures,
           )
           (c .before .before .before .before .before .before .before .before .before .before .before .before .before .before .pre .1) .short,
     ))
     -- sub-items
-    (λ c. block-within (c .before .before .before .before .before .before .before .before .before .half-at .result)
-    (c .before .before .before .before .before .before .before .before .word-at .result) (
-      c .before .before .before .before .before .before .before .before .before .half-at .ensures,
-      c .before .before .before .before .before .before .before .before .word-at .ensures,
+    (λ c. block-within (c .before .before .before .before .before .before .before .before .before .a-at .result)
+    (c .before .before .before .before .before .before .before .before .b-at .result) (
+      c .before .before .before .before .before .before .before .before .before .a-at .ensures,
+      c .before .before .before .before .before .before .before .before .b-at .ensures,
     )
     (c .before .before .before .before .before .before .before .before .before .before .before .before .before .before .pre .1) .fits)
     -- part-items-start
-    (λ c. block-within (c .before .before .before .before .before .before .before .before .before .half-at .result)
-    (c .before .before .before .before .before .before .before .before .word-at .result) (
-      c .before .before .before .before .before .before .before .before .before .half-at .ensures,
-      c .before .before .before .before .before .before .before .before .word-at .ensures,
+    (λ c. block-within (c .before .before .before .before .before .before .before .before .before .a-at .result)
+    (c .before .before .before .before .before .before .before .before .b-at .result) (
+      c .before .before .before .before .before .before .before .before .before .a-at .ensures,
+      c .before .before .before .before .before .before .before .before .b-at .ensures,
     )
     (c .before .before .before .before .before .before .before .before .before .before .before .before .before .before .pre .1) .fits)
     -- part-items-end
@@ -271,32 +272,32 @@ block-meets t =
     -- add-items-2
     (λ c. omega (
       arith,
-      block-within (c .before .before .before .before .before .before .before .before .before .before .half-at .result)
-          (c .before .before .before .before .before .before .before .before .before .word-at .result) (
-            c .before .before .before .before .before .before .before .before .before .before .half-at .ensures,
-            c .before .before .before .before .before .before .before .before .before .word-at .ensures,
+      block-within (c .before .before .before .before .before .before .before .before .before .before .a-at .result)
+          (c .before .before .before .before .before .before .before .before .before .b-at .result) (
+            c .before .before .before .before .before .before .before .before .before .before .a-at .ensures,
+            c .before .before .before .before .before .before .before .before .before .b-at .ensures,
           )
           (c .before .before .before .before .before .before .before .before .before .before .before .before .before .before .before .pre .1) .fits,
-      block-within (c .before .before .before .before .before .before .before .before .before .before .half-at .result)
-          (c .before .before .before .before .before .before .before .before .before .word-at .result) (
-            c .before .before .before .before .before .before .before .before .before .before .half-at .ensures,
-            c .before .before .before .before .before .before .before .before .before .word-at .ensures,
+      block-within (c .before .before .before .before .before .before .before .before .before .before .a-at .result)
+          (c .before .before .before .before .before .before .before .before .before .b-at .result) (
+            c .before .before .before .before .before .before .before .before .before .before .a-at .ensures,
+            c .before .before .before .before .before .before .before .before .before .b-at .ensures,
           )
           (c .before .before .before .before .before .before .before .before .before .before .before .before .before .before .before .pre .1) .within,
-      block-within (c .before .before .before .before .before .before .before .before .before .before .half-at .result)
-          (c .before .before .before .before .before .before .before .before .before .word-at .result) (
-            c .before .before .before .before .before .before .before .before .before .before .half-at .ensures,
-            c .before .before .before .before .before .before .before .before .before .word-at .ensures,
+      block-within (c .before .before .before .before .before .before .before .before .before .before .a-at .result)
+          (c .before .before .before .before .before .before .before .before .before .b-at .result) (
+            c .before .before .before .before .before .before .before .before .before .before .a-at .ensures,
+            c .before .before .before .before .before .before .before .before .before .b-at .ensures,
           )
           (c .before .before .before .before .before .before .before .before .before .before .before .before .before .before .before .pre .1) .short,
     ))
     -- items-requires
     (λ c κs. (
       omega (arith, asked (c .before .before .before .before .before .before .before .before .before .before .before .before .before .before .before .before .pre .1) .nested),
-      block-inner (c .before .before .before .before .before .before .before .before .before .before .before .half-at .result)
-          (c .before .before .before .before .before .before .before .before .before .before .word-at .result) (
-            c .before .before .before .before .before .before .before .before .before .before .before .half-at .ensures,
-            c .before .before .before .before .before .before .before .before .before .before .word-at .ensures,
+      block-inner (c .before .before .before .before .before .before .before .before .before .before .before .a-at .result)
+          (c .before .before .before .before .before .before .before .before .before .before .b-at .result) (
+            c .before .before .before .before .before .before .before .before .before .before .before .a-at .ensures,
+            c .before .before .before .before .before .before .before .before .before .before .b-at .ensures,
           )
           (c .before .before .before .before .before .before .before .before .enter .ensures)
           (c .before .before .before .before .before .before .before .before .before .before .before .before .before .before .before .before .pre .1),
@@ -306,10 +307,10 @@ block-meets t =
     -- same-length
     (λ c. search needs)
     -- returns
-    (λ c. block-judged (c .before .before .before .before .before .before .before .before .before .before .before .before .before .before .half-at .result)
-    (c .before .before .before .before .before .before .before .before .before .before .before .before .before .word-at .result) (
-      c .before .before .before .before .before .before .before .before .before .before .before .before .before .before .half-at .ensures,
-      c .before .before .before .before .before .before .before .before .before .before .before .before .before .word-at .ensures,
+    (λ c. block-judged (c .before .before .before .before .before .before .before .before .before .before .before .before .before .before .a-at .result)
+    (c .before .before .before .before .before .before .before .before .before .before .before .before .before .b-at .result) (
+      c .before .before .before .before .before .before .before .before .before .before .before .before .before .before .a-at .ensures,
+      c .before .before .before .before .before .before .before .before .before .before .before .before .before .b-at .ensures,
     )
     (c .before .before .before .before .before .before .before .before .before .before .before .enter .ensures)
     (c .before .before .before .before .before .before .before .head .ensures) _ (c .before .before .before .before .before .enum-told .given .1)
@@ -317,18 +318,18 @@ block-meets t =
     -- same-length-2
     (λ c. search needs)
     -- returns-2
-    (λ c. block-stop (c .before .before .before .before .before .before .before .before .before .before .half-at .result)
-    (c .before .before .before .before .before .before .before .before .before .word-at .result) (
-      c .before .before .before .before .before .before .before .before .before .before .half-at .ensures,
-      c .before .before .before .before .before .before .before .before .before .word-at .ensures,
+    (λ c. block-stop (c .before .before .before .before .before .before .before .before .before .before .a-at .result)
+    (c .before .before .before .before .before .before .before .before .before .b-at .result) (
+      c .before .before .before .before .before .before .before .before .before .before .a-at .ensures,
+      c .before .before .before .before .before .before .before .before .before .b-at .ensures,
     )
     (c .before .before .before .before .before .before .before .enter .ensures) (c .before .before .before .head .ensures) _ _ (c .before .k .given .1))
 
 body-meets : {M : Type 1} (t : ℕ) → body-lts.Closed (
-  half-at-reads.Asked,
-  half-at-reads.Learnt,
-  word-at-reads.Asked,
-  word-at-reads.Learnt,
+  a-at-reads.Asked,
+  a-at-reads.Learnt,
+  b-at-reads.Asked,
+  b-at-reads.Learnt,
   enter-reads.Asked,
   enter-reads.Learnt,
   head-reads.Asked,
@@ -342,10 +343,10 @@ body-meets : {M : Type 1} (t : ℕ) → body-lts.Closed (
 ) (body-at t) body.Post M
 body-meets t =
     body-lts.spec (
-      half-at-reads.Asked,
-      half-at-reads.Learnt,
-      word-at-reads.Asked,
-      word-at-reads.Learnt,
+      a-at-reads.Asked,
+      a-at-reads.Learnt,
+      b-at-reads.Asked,
+      b-at-reads.Learnt,
       enter-reads.Asked,
       enter-reads.Learnt,
       head-reads.Asked,
@@ -357,31 +358,31 @@ body-meets t =
       expression-below t,
       expression.Post,
     ) (body-at t) body.Post
-    -- half-at-requires
+    -- a-at-requires
     (λ c κs. omega (arith, asked (c .before .before .before .before .pre .1) .long))
     -- cast-heads
     (λ c. search needs)
-    -- word-at-requires
+    -- b-at-requires
     (λ c κs. omega (arith, asked (c .before .before .before .before .before .pre .1) .long))
     -- cast-count
     (λ c. search needs)
     -- add-enter
     (λ c. omega (arith, asked (c .before .before .before .before .before .before .pre .1) .small))
     -- enter-requires
-    (λ c κs. (let a = body-asks (c .before .before .half-at .result) (c .before .word-at .result)
-    (c .before .before .half-at .ensures, c .before .word-at .ensures) (c .before .before .before .before .before .before .before .pre .1) in
+    (λ c κs. (let a = body-asks (c .before .before .a-at .result) (c .before .b-at .result)
+    (c .before .before .a-at .ensures, c .before .b-at .ensures) (c .before .before .before .before .before .before .before .pre .1) in
     (a .known, a .within, a .reach, a .short, a .room)))
     -- add-head
     (λ c. omega (arith, asked (c .before .before .before .before .before .before .before .before .before .before .pre .1) .small))
     -- head-requires
     (λ c κs. (
-      body-within (c .before .before .before .before .before .before .half-at .result)
-          (c .before .before .before .before .before .word-at .result) (
-            c .before .before .before .before .before .before .half-at .ensures,
-            c .before .before .before .before .before .word-at .ensures,
+      body-within (c .before .before .before .before .before .before .a-at .result)
+          (c .before .before .before .before .before .b-at .result) (
+            c .before .before .before .before .before .before .a-at .ensures,
+            c .before .before .before .before .before .b-at .ensures,
           ) (c .before .before .before .before .before .before .before .before .before .before .before .pre .1) .within,
-      body-top (c .before .before .before .before .before .before .half-at .result) (c .before .before .before .before .before .word-at .result)
-          (c .before .before .before .before .before .before .half-at .ensures, c .before .before .before .before .before .word-at .ensures)
+      body-top (c .before .before .before .before .before .before .a-at .result) (c .before .before .before .before .before .b-at .result)
+          (c .before .before .before .before .before .before .a-at .ensures, c .before .before .before .before .before .b-at .ensures)
           (c .before .before .before .enter .ensures) (c .before .before .before .before .before .before .before .before .before .before .before .pre .1),
     ))
     -- enum-told
@@ -389,59 +390,59 @@ body-meets t =
     -- add-from
     (λ c. omega (
       arith,
-      body-within (c .before .before .before .before .before .before .before .before .before .half-at .result)
-          (c .before .before .before .before .before .before .before .before .word-at .result) (
-            c .before .before .before .before .before .before .before .before .before .half-at .ensures,
-            c .before .before .before .before .before .before .before .before .word-at .ensures,
+      body-within (c .before .before .before .before .before .before .before .before .before .a-at .result)
+          (c .before .before .before .before .before .before .before .before .b-at .result) (
+            c .before .before .before .before .before .before .before .before .before .a-at .ensures,
+            c .before .before .before .before .before .before .before .before .b-at .ensures,
           )
           (c .before .before .before .before .before .before .before .before .before .before .before .before .before .before .pre .1) .fits,
-      body-within (c .before .before .before .before .before .before .before .before .before .half-at .result)
-          (c .before .before .before .before .before .before .before .before .word-at .result) (
-            c .before .before .before .before .before .before .before .before .before .half-at .ensures,
-            c .before .before .before .before .before .before .before .before .word-at .ensures,
+      body-within (c .before .before .before .before .before .before .before .before .before .a-at .result)
+          (c .before .before .before .before .before .before .before .before .b-at .result) (
+            c .before .before .before .before .before .before .before .before .before .a-at .ensures,
+            c .before .before .before .before .before .before .before .before .b-at .ensures,
           )
           (c .before .before .before .before .before .before .before .before .before .before .before .before .before .before .pre .1) .within,
-      body-within (c .before .before .before .before .before .before .before .before .before .half-at .result)
-          (c .before .before .before .before .before .before .before .before .word-at .result) (
-            c .before .before .before .before .before .before .before .before .before .half-at .ensures,
-            c .before .before .before .before .before .before .before .before .word-at .ensures,
+      body-within (c .before .before .before .before .before .before .before .before .before .a-at .result)
+          (c .before .before .before .before .before .before .before .before .b-at .result) (
+            c .before .before .before .before .before .before .before .before .before .a-at .ensures,
+            c .before .before .before .before .before .before .before .before .b-at .ensures,
           )
           (c .before .before .before .before .before .before .before .before .before .before .before .before .before .before .pre .1) .short,
     ))
     -- mul-from
     (λ c. omega (
       arith,
-      body-within (c .before .before .before .before .before .before .before .before .before .half-at .result)
-          (c .before .before .before .before .before .before .before .before .word-at .result) (
-            c .before .before .before .before .before .before .before .before .before .half-at .ensures,
-            c .before .before .before .before .before .before .before .before .word-at .ensures,
+      body-within (c .before .before .before .before .before .before .before .before .before .a-at .result)
+          (c .before .before .before .before .before .before .before .before .b-at .result) (
+            c .before .before .before .before .before .before .before .before .before .a-at .ensures,
+            c .before .before .before .before .before .before .before .before .b-at .ensures,
           )
           (c .before .before .before .before .before .before .before .before .before .before .before .before .before .before .pre .1) .fits,
-      body-within (c .before .before .before .before .before .before .before .before .before .half-at .result)
-          (c .before .before .before .before .before .before .before .before .word-at .result) (
-            c .before .before .before .before .before .before .before .before .before .half-at .ensures,
-            c .before .before .before .before .before .before .before .before .word-at .ensures,
+      body-within (c .before .before .before .before .before .before .before .before .before .a-at .result)
+          (c .before .before .before .before .before .before .before .before .b-at .result) (
+            c .before .before .before .before .before .before .before .before .before .a-at .ensures,
+            c .before .before .before .before .before .before .before .before .b-at .ensures,
           )
           (c .before .before .before .before .before .before .before .before .before .before .before .before .before .before .pre .1) .within,
-      body-within (c .before .before .before .before .before .before .before .before .before .half-at .result)
-          (c .before .before .before .before .before .before .before .before .word-at .result) (
-            c .before .before .before .before .before .before .before .before .before .half-at .ensures,
-            c .before .before .before .before .before .before .before .before .word-at .ensures,
+      body-within (c .before .before .before .before .before .before .before .before .before .a-at .result)
+          (c .before .before .before .before .before .before .before .before .b-at .result) (
+            c .before .before .before .before .before .before .before .before .before .a-at .ensures,
+            c .before .before .before .before .before .before .before .before .b-at .ensures,
           )
           (c .before .before .before .before .before .before .before .before .before .before .before .before .before .before .pre .1) .short,
     ))
     -- sub-items
-    (λ c. body-within (c .before .before .before .before .before .before .before .before .before .half-at .result)
-    (c .before .before .before .before .before .before .before .before .word-at .result) (
-      c .before .before .before .before .before .before .before .before .before .half-at .ensures,
-      c .before .before .before .before .before .before .before .before .word-at .ensures,
+    (λ c. body-within (c .before .before .before .before .before .before .before .before .before .a-at .result)
+    (c .before .before .before .before .before .before .before .before .b-at .result) (
+      c .before .before .before .before .before .before .before .before .before .a-at .ensures,
+      c .before .before .before .before .before .before .before .before .b-at .ensures,
     )
     (c .before .before .before .before .before .before .before .before .before .before .before .before .before .before .pre .1) .fits)
     -- part-items-start
-    (λ c. body-within (c .before .before .before .before .before .before .before .before .before .half-at .result)
-    (c .before .before .before .before .before .before .before .before .word-at .result) (
-      c .before .before .before .before .before .before .before .before .before .half-at .ensures,
-      c .before .before .before .before .before .before .before .before .word-at .ensures,
+    (λ c. body-within (c .before .before .before .before .before .before .before .before .before .a-at .result)
+    (c .before .before .before .before .before .before .before .before .b-at .result) (
+      c .before .before .before .before .before .before .before .before .before .a-at .ensures,
+      c .before .before .before .before .before .before .before .before .b-at .ensures,
     )
     (c .before .before .before .before .before .before .before .before .before .before .before .before .before .before .pre .1) .fits)
     -- part-items-end
@@ -453,32 +454,32 @@ body-meets t =
     -- add-items-2
     (λ c. omega (
       arith,
-      body-within (c .before .before .before .before .before .before .before .before .before .before .half-at .result)
-          (c .before .before .before .before .before .before .before .before .before .word-at .result) (
-            c .before .before .before .before .before .before .before .before .before .before .half-at .ensures,
-            c .before .before .before .before .before .before .before .before .before .word-at .ensures,
+      body-within (c .before .before .before .before .before .before .before .before .before .before .a-at .result)
+          (c .before .before .before .before .before .before .before .before .before .b-at .result) (
+            c .before .before .before .before .before .before .before .before .before .before .a-at .ensures,
+            c .before .before .before .before .before .before .before .before .before .b-at .ensures,
           )
           (c .before .before .before .before .before .before .before .before .before .before .before .before .before .before .before .pre .1) .fits,
-      body-within (c .before .before .before .before .before .before .before .before .before .before .half-at .result)
-          (c .before .before .before .before .before .before .before .before .before .word-at .result) (
-            c .before .before .before .before .before .before .before .before .before .before .half-at .ensures,
-            c .before .before .before .before .before .before .before .before .before .word-at .ensures,
+      body-within (c .before .before .before .before .before .before .before .before .before .before .a-at .result)
+          (c .before .before .before .before .before .before .before .before .before .b-at .result) (
+            c .before .before .before .before .before .before .before .before .before .before .a-at .ensures,
+            c .before .before .before .before .before .before .before .before .before .b-at .ensures,
           )
           (c .before .before .before .before .before .before .before .before .before .before .before .before .before .before .before .pre .1) .within,
-      body-within (c .before .before .before .before .before .before .before .before .before .before .half-at .result)
-          (c .before .before .before .before .before .before .before .before .before .word-at .result) (
-            c .before .before .before .before .before .before .before .before .before .before .half-at .ensures,
-            c .before .before .before .before .before .before .before .before .before .word-at .ensures,
+      body-within (c .before .before .before .before .before .before .before .before .before .before .a-at .result)
+          (c .before .before .before .before .before .before .before .before .before .b-at .result) (
+            c .before .before .before .before .before .before .before .before .before .before .a-at .ensures,
+            c .before .before .before .before .before .before .before .before .before .b-at .ensures,
           )
           (c .before .before .before .before .before .before .before .before .before .before .before .before .before .before .before .pre .1) .short,
     ))
     -- items-requires
     (λ c κs. (
       omega (arith, asked (c .before .before .before .before .before .before .before .before .before .before .before .before .before .before .before .before .pre .1) .nested),
-      body-inner (c .before .before .before .before .before .before .before .before .before .before .before .half-at .result)
-          (c .before .before .before .before .before .before .before .before .before .before .word-at .result) (
-            c .before .before .before .before .before .before .before .before .before .before .before .half-at .ensures,
-            c .before .before .before .before .before .before .before .before .before .before .word-at .ensures,
+      body-inner (c .before .before .before .before .before .before .before .before .before .before .before .a-at .result)
+          (c .before .before .before .before .before .before .before .before .before .before .b-at .result) (
+            c .before .before .before .before .before .before .before .before .before .before .before .a-at .ensures,
+            c .before .before .before .before .before .before .before .before .before .before .b-at .ensures,
           )
           (c .before .before .before .before .before .before .before .before .enter .ensures)
           (c .before .before .before .before .before .before .before .before .before .before .before .before .before .before .before .before .pre .1),
@@ -490,52 +491,52 @@ body-meets t =
     -- add-spanned-2
     (λ c. omega (
       arith,
-      body-within (c .before .before .before .before .before .before .before .before .before .before .before .before .before .before .before .before .half-at .result)
-          (c .before .before .before .before .before .before .before .before .before .before .before .before .before .before .before .word-at .result) (
-            c .before .before .before .before .before .before .before .before .before .before .before .before .before .before .before .before .half-at .ensures,
-            c .before .before .before .before .before .before .before .before .before .before .before .before .before .before .before .word-at .ensures,
+      body-within (c .before .before .before .before .before .before .before .before .before .before .before .before .before .before .before .before .a-at .result)
+          (c .before .before .before .before .before .before .before .before .before .before .before .before .before .before .before .b-at .result) (
+            c .before .before .before .before .before .before .before .before .before .before .before .before .before .before .before .before .a-at .ensures,
+            c .before .before .before .before .before .before .before .before .before .before .before .before .before .before .before .b-at .ensures,
           )
           (c .before .before .before .before .before .before .before .before .before .before .before .before .before .before .before .before .before .before .before .before .before .pre .1) .fits,
-      body-within (c .before .before .before .before .before .before .before .before .before .before .before .before .before .before .before .before .half-at .result)
-          (c .before .before .before .before .before .before .before .before .before .before .before .before .before .before .before .word-at .result) (
-            c .before .before .before .before .before .before .before .before .before .before .before .before .before .before .before .before .half-at .ensures,
-            c .before .before .before .before .before .before .before .before .before .before .before .before .before .before .before .word-at .ensures,
+      body-within (c .before .before .before .before .before .before .before .before .before .before .before .before .before .before .before .before .a-at .result)
+          (c .before .before .before .before .before .before .before .before .before .before .before .before .before .before .before .b-at .result) (
+            c .before .before .before .before .before .before .before .before .before .before .before .before .before .before .before .before .a-at .ensures,
+            c .before .before .before .before .before .before .before .before .before .before .before .before .before .before .before .b-at .ensures,
           )
           (c .before .before .before .before .before .before .before .before .before .before .before .before .before .before .before .before .before .before .before .before .before .pre .1) .within,
-      body-within (c .before .before .before .before .before .before .before .before .before .before .before .before .before .before .before .before .half-at .result)
-          (c .before .before .before .before .before .before .before .before .before .before .before .before .before .before .before .word-at .result) (
-            c .before .before .before .before .before .before .before .before .before .before .before .before .before .before .before .before .half-at .ensures,
-            c .before .before .before .before .before .before .before .before .before .before .before .before .before .before .before .word-at .ensures,
+      body-within (c .before .before .before .before .before .before .before .before .before .before .before .before .before .before .before .before .a-at .result)
+          (c .before .before .before .before .before .before .before .before .before .before .before .before .before .before .before .b-at .result) (
+            c .before .before .before .before .before .before .before .before .before .before .before .before .before .before .before .before .a-at .ensures,
+            c .before .before .before .before .before .before .before .before .before .before .before .before .before .before .before .b-at .ensures,
           )
           (c .before .before .before .before .before .before .before .before .before .before .before .before .before .before .before .before .before .before .before .before .before .pre .1) .short,
     ))
     -- spanned-requires
     (λ c κs. (
-      known-from (c .before .before .before .before .before .before .before .before .before .before .before .before .before .before .before .before .before .before .before .before .before .args .at + 1 + c .before .before .before .before .before .before .before .before .before .before .before .before .before .before .before .before .half-at .result)
-          (body-asks (c .before .before .before .before .before .before .before .before .before .before .before .before .before .before .before .before .half-at .result)
-          (c .before .before .before .before .before .before .before .before .before .before .before .before .before .before .before .word-at .result) (
-            c .before .before .before .before .before .before .before .before .before .before .before .before .before .before .before .before .half-at .ensures,
-            c .before .before .before .before .before .before .before .before .before .before .before .before .before .before .before .word-at .ensures,
+      known-from (c .before .before .before .before .before .before .before .before .before .before .before .before .before .before .before .before .before .before .before .before .before .args .at + 1 + c .before .before .before .before .before .before .before .before .before .before .before .before .before .before .before .before .a-at .result)
+          (body-asks (c .before .before .before .before .before .before .before .before .before .before .before .before .before .before .before .before .a-at .result)
+          (c .before .before .before .before .before .before .before .before .before .before .before .before .before .before .before .b-at .result) (
+            c .before .before .before .before .before .before .before .before .before .before .before .before .before .before .before .before .a-at .ensures,
+            c .before .before .before .before .before .before .before .before .before .before .before .before .before .before .before .b-at .ensures,
           )
           (c .before .before .before .before .before .before .before .before .before .before .before .before .before .before .before .before .before .before .before .before .before .pre .1) .known),
       omega (
         arith,
-        body-within (c .before .before .before .before .before .before .before .before .before .before .before .before .before .before .before .before .half-at .result)
-            (c .before .before .before .before .before .before .before .before .before .before .before .before .before .before .before .word-at .result) (
-              c .before .before .before .before .before .before .before .before .before .before .before .before .before .before .before .before .half-at .ensures,
-              c .before .before .before .before .before .before .before .before .before .before .before .before .before .before .before .word-at .ensures,
+        body-within (c .before .before .before .before .before .before .before .before .before .before .before .before .before .before .before .before .a-at .result)
+            (c .before .before .before .before .before .before .before .before .before .before .before .before .before .before .before .b-at .result) (
+              c .before .before .before .before .before .before .before .before .before .before .before .before .before .before .before .before .a-at .ensures,
+              c .before .before .before .before .before .before .before .before .before .before .before .before .before .before .before .b-at .ensures,
             )
             (c .before .before .before .before .before .before .before .before .before .before .before .before .before .before .before .before .before .before .before .before .before .pre .1) .fits,
-        body-within (c .before .before .before .before .before .before .before .before .before .before .before .before .before .before .before .before .half-at .result)
-            (c .before .before .before .before .before .before .before .before .before .before .before .before .before .before .before .word-at .result) (
-              c .before .before .before .before .before .before .before .before .before .before .before .before .before .before .before .before .half-at .ensures,
-              c .before .before .before .before .before .before .before .before .before .before .before .before .before .before .before .word-at .ensures,
+        body-within (c .before .before .before .before .before .before .before .before .before .before .before .before .before .before .before .before .a-at .result)
+            (c .before .before .before .before .before .before .before .before .before .before .before .before .before .before .before .b-at .result) (
+              c .before .before .before .before .before .before .before .before .before .before .before .before .before .before .before .before .a-at .ensures,
+              c .before .before .before .before .before .before .before .before .before .before .before .before .before .before .before .b-at .ensures,
             )
             (c .before .before .before .before .before .before .before .before .before .before .before .before .before .before .before .before .before .before .before .before .before .pre .1) .within,
-        body-within (c .before .before .before .before .before .before .before .before .before .before .before .before .before .before .before .before .half-at .result)
-            (c .before .before .before .before .before .before .before .before .before .before .before .before .before .before .before .word-at .result) (
-              c .before .before .before .before .before .before .before .before .before .before .before .before .before .before .before .before .half-at .ensures,
-              c .before .before .before .before .before .before .before .before .before .before .before .before .before .before .before .word-at .ensures,
+        body-within (c .before .before .before .before .before .before .before .before .before .before .before .before .before .before .before .before .a-at .result)
+            (c .before .before .before .before .before .before .before .before .before .before .before .before .before .before .before .b-at .result) (
+              c .before .before .before .before .before .before .before .before .before .before .before .before .before .before .before .before .a-at .ensures,
+              c .before .before .before .before .before .before .before .before .before .before .before .before .before .before .before .b-at .ensures,
             )
             (c .before .before .before .before .before .before .before .before .before .before .before .before .before .before .before .before .before .before .before .before .before .pre .1) .short,
       ),
@@ -543,32 +544,32 @@ body-meets t =
     -- add-after
     (λ c. omega (
       arith,
-      body-within (c .before .before .before .before .before .before .before .before .before .before .before .before .before .before .before .before .before .half-at .result)
-          (c .before .before .before .before .before .before .before .before .before .before .before .before .before .before .before .before .word-at .result) (
-            c .before .before .before .before .before .before .before .before .before .before .before .before .before .before .before .before .before .half-at .ensures,
-            c .before .before .before .before .before .before .before .before .before .before .before .before .before .before .before .before .word-at .ensures,
+      body-within (c .before .before .before .before .before .before .before .before .before .before .before .before .before .before .before .before .before .a-at .result)
+          (c .before .before .before .before .before .before .before .before .before .before .before .before .before .before .before .before .b-at .result) (
+            c .before .before .before .before .before .before .before .before .before .before .before .before .before .before .before .before .before .a-at .ensures,
+            c .before .before .before .before .before .before .before .before .before .before .before .before .before .before .before .before .b-at .ensures,
           )
           (c .before .before .before .before .before .before .before .before .before .before .before .before .before .before .before .before .before .before .before .before .before .before .pre .1) .fits,
-      body-within (c .before .before .before .before .before .before .before .before .before .before .before .before .before .before .before .before .before .half-at .result)
-          (c .before .before .before .before .before .before .before .before .before .before .before .before .before .before .before .before .word-at .result) (
-            c .before .before .before .before .before .before .before .before .before .before .before .before .before .before .before .before .before .half-at .ensures,
-            c .before .before .before .before .before .before .before .before .before .before .before .before .before .before .before .before .word-at .ensures,
+      body-within (c .before .before .before .before .before .before .before .before .before .before .before .before .before .before .before .before .before .a-at .result)
+          (c .before .before .before .before .before .before .before .before .before .before .before .before .before .before .before .before .b-at .result) (
+            c .before .before .before .before .before .before .before .before .before .before .before .before .before .before .before .before .before .a-at .ensures,
+            c .before .before .before .before .before .before .before .before .before .before .before .before .before .before .before .before .b-at .ensures,
           )
           (c .before .before .before .before .before .before .before .before .before .before .before .before .before .before .before .before .before .before .before .before .before .before .pre .1) .within,
-      body-within (c .before .before .before .before .before .before .before .before .before .before .before .before .before .before .before .before .before .half-at .result)
-          (c .before .before .before .before .before .before .before .before .before .before .before .before .before .before .before .before .word-at .result) (
-            c .before .before .before .before .before .before .before .before .before .before .before .before .before .before .before .before .before .half-at .ensures,
-            c .before .before .before .before .before .before .before .before .before .before .before .before .before .before .before .before .word-at .ensures,
+      body-within (c .before .before .before .before .before .before .before .before .before .before .before .before .before .before .before .before .before .a-at .result)
+          (c .before .before .before .before .before .before .before .before .before .before .before .before .before .before .before .before .b-at .result) (
+            c .before .before .before .before .before .before .before .before .before .before .before .before .before .before .before .before .before .a-at .ensures,
+            c .before .before .before .before .before .before .before .before .before .before .before .before .before .before .before .before .b-at .ensures,
           )
           (c .before .before .before .before .before .before .before .before .before .before .before .before .before .before .before .before .before .before .before .before .before .before .pre .1) .short,
     ))
     -- add-after-2
     (λ c. omega (
       arith,
-      body-fits (c .before .before .before .before .before .before .before .before .before .before .before .before .before .before .before .before .before .half-at .result)
-          (c .before .before .before .before .before .before .before .before .before .before .before .before .before .before .before .before .word-at .result) (
-            c .before .before .before .before .before .before .before .before .before .before .before .before .before .before .before .before .before .half-at .ensures,
-            c .before .before .before .before .before .before .before .before .before .before .before .before .before .before .before .before .word-at .ensures,
+      body-fits (c .before .before .before .before .before .before .before .before .before .before .before .before .before .before .before .before .before .a-at .result)
+          (c .before .before .before .before .before .before .before .before .before .before .before .before .before .before .before .before .b-at .result) (
+            c .before .before .before .before .before .before .before .before .before .before .before .before .before .before .before .before .before .a-at .ensures,
+            c .before .before .before .before .before .before .before .before .before .before .before .before .before .before .before .before .b-at .ensures,
           )
           (c .before .before .before .before .before .before .before .before .before .before .before .before .before .before .enter .ensures)
           (c .before .before .before .before .before .before .before .before .before .before .head .ensures) _
@@ -579,10 +580,10 @@ body-meets t =
     -- mul-after
     (λ c. omega (
       arith,
-      body-fits (c .before .before .before .before .before .before .before .before .before .before .before .before .before .before .before .before .before .half-at .result)
-          (c .before .before .before .before .before .before .before .before .before .before .before .before .before .before .before .before .word-at .result) (
-            c .before .before .before .before .before .before .before .before .before .before .before .before .before .before .before .before .before .half-at .ensures,
-            c .before .before .before .before .before .before .before .before .before .before .before .before .before .before .before .before .word-at .ensures,
+      body-fits (c .before .before .before .before .before .before .before .before .before .before .before .before .before .before .before .before .before .a-at .result)
+          (c .before .before .before .before .before .before .before .before .before .before .before .before .before .before .before .before .b-at .result) (
+            c .before .before .before .before .before .before .before .before .before .before .before .before .before .before .before .before .before .a-at .ensures,
+            c .before .before .before .before .before .before .before .before .before .before .before .before .before .before .before .before .b-at .ensures,
           )
           (c .before .before .before .before .before .before .before .before .before .before .before .before .before .before .enter .ensures)
           (c .before .before .before .before .before .before .before .before .before .before .head .ensures) _
@@ -591,10 +592,10 @@ body-meets t =
           (c .before .before .before .before .before .before .before .before .before .before .before .before .before .before .before .before .before .before .before .before .before .before .pre .1),
     ))
     -- sub-expression
-    (λ c. body-fits (c .before .before .before .before .before .before .before .before .before .before .before .before .before .before .before .before .before .half-at .result)
-    (c .before .before .before .before .before .before .before .before .before .before .before .before .before .before .before .before .word-at .result) (
-      c .before .before .before .before .before .before .before .before .before .before .before .before .before .before .before .before .before .half-at .ensures,
-      c .before .before .before .before .before .before .before .before .before .before .before .before .before .before .before .before .word-at .ensures,
+    (λ c. body-fits (c .before .before .before .before .before .before .before .before .before .before .before .before .before .before .before .before .before .a-at .result)
+    (c .before .before .before .before .before .before .before .before .before .before .before .before .before .before .before .before .b-at .result) (
+      c .before .before .before .before .before .before .before .before .before .before .before .before .before .before .before .before .before .a-at .ensures,
+      c .before .before .before .before .before .before .before .before .before .before .before .before .before .before .before .before .b-at .ensures,
     )
     (c .before .before .before .before .before .before .before .before .before .before .before .before .before .before .enter .ensures)
     (c .before .before .before .before .before .before .before .before .before .before .head .ensures) _
@@ -602,10 +603,10 @@ body-meets t =
     (c .before .before .before .before .before .items .ensures) _ (c .spanned .result) (c .before .enum-told2 .given .1) (c .spanned .ensures)
     (c .before .before .before .before .before .before .before .before .before .before .before .before .before .before .before .before .before .before .before .before .before .before .pre .1) .0)
     -- part-expression-start
-    (λ c. body-fits (c .before .before .before .before .before .before .before .before .before .before .before .before .before .before .before .before .before .half-at .result)
-    (c .before .before .before .before .before .before .before .before .before .before .before .before .before .before .before .before .word-at .result) (
-      c .before .before .before .before .before .before .before .before .before .before .before .before .before .before .before .before .before .half-at .ensures,
-      c .before .before .before .before .before .before .before .before .before .before .before .before .before .before .before .before .word-at .ensures,
+    (λ c. body-fits (c .before .before .before .before .before .before .before .before .before .before .before .before .before .before .before .before .before .a-at .result)
+    (c .before .before .before .before .before .before .before .before .before .before .before .before .before .before .before .before .b-at .result) (
+      c .before .before .before .before .before .before .before .before .before .before .before .before .before .before .before .before .before .a-at .ensures,
+      c .before .before .before .before .before .before .before .before .before .before .before .before .before .before .before .before .b-at .ensures,
     )
     (c .before .before .before .before .before .before .before .before .before .before .before .before .before .before .enter .ensures)
     (c .before .before .before .before .before .before .before .before .before .before .head .ensures) _
@@ -621,32 +622,32 @@ body-meets t =
     -- add-expression-2
     (λ c. omega (
       arith,
-      body-within (c .before .before .before .before .before .before .before .before .before .before .before .before .before .before .before .before .before .before .half-at .result)
-          (c .before .before .before .before .before .before .before .before .before .before .before .before .before .before .before .before .before .word-at .result) (
-            c .before .before .before .before .before .before .before .before .before .before .before .before .before .before .before .before .before .before .half-at .ensures,
-            c .before .before .before .before .before .before .before .before .before .before .before .before .before .before .before .before .before .word-at .ensures,
+      body-within (c .before .before .before .before .before .before .before .before .before .before .before .before .before .before .before .before .before .before .a-at .result)
+          (c .before .before .before .before .before .before .before .before .before .before .before .before .before .before .before .before .before .b-at .result) (
+            c .before .before .before .before .before .before .before .before .before .before .before .before .before .before .before .before .before .before .a-at .ensures,
+            c .before .before .before .before .before .before .before .before .before .before .before .before .before .before .before .before .before .b-at .ensures,
           )
           (c .before .before .before .before .before .before .before .before .before .before .before .before .before .before .before .before .before .before .before .before .before .before .before .pre .1) .fits,
-      body-within (c .before .before .before .before .before .before .before .before .before .before .before .before .before .before .before .before .before .before .half-at .result)
-          (c .before .before .before .before .before .before .before .before .before .before .before .before .before .before .before .before .before .word-at .result) (
-            c .before .before .before .before .before .before .before .before .before .before .before .before .before .before .before .before .before .before .half-at .ensures,
-            c .before .before .before .before .before .before .before .before .before .before .before .before .before .before .before .before .before .word-at .ensures,
+      body-within (c .before .before .before .before .before .before .before .before .before .before .before .before .before .before .before .before .before .before .a-at .result)
+          (c .before .before .before .before .before .before .before .before .before .before .before .before .before .before .before .before .before .b-at .result) (
+            c .before .before .before .before .before .before .before .before .before .before .before .before .before .before .before .before .before .before .a-at .ensures,
+            c .before .before .before .before .before .before .before .before .before .before .before .before .before .before .before .before .before .b-at .ensures,
           )
           (c .before .before .before .before .before .before .before .before .before .before .before .before .before .before .before .before .before .before .before .before .before .before .before .pre .1) .within,
-      body-within (c .before .before .before .before .before .before .before .before .before .before .before .before .before .before .before .before .before .before .half-at .result)
-          (c .before .before .before .before .before .before .before .before .before .before .before .before .before .before .before .before .before .word-at .result) (
-            c .before .before .before .before .before .before .before .before .before .before .before .before .before .before .before .before .before .before .half-at .ensures,
-            c .before .before .before .before .before .before .before .before .before .before .before .before .before .before .before .before .before .word-at .ensures,
+      body-within (c .before .before .before .before .before .before .before .before .before .before .before .before .before .before .before .before .before .before .a-at .result)
+          (c .before .before .before .before .before .before .before .before .before .before .before .before .before .before .before .before .before .b-at .result) (
+            c .before .before .before .before .before .before .before .before .before .before .before .before .before .before .before .before .before .before .a-at .ensures,
+            c .before .before .before .before .before .before .before .before .before .before .before .before .before .before .before .before .before .b-at .ensures,
           )
           (c .before .before .before .before .before .before .before .before .before .before .before .before .before .before .before .before .before .before .before .before .before .before .before .pre .1) .short,
     ))
     -- add-expression-3
     (λ c. omega (
       arith,
-      body-fits (c .before .before .before .before .before .before .before .before .before .before .before .before .before .before .before .before .before .before .half-at .result)
-          (c .before .before .before .before .before .before .before .before .before .before .before .before .before .before .before .before .before .word-at .result) (
-            c .before .before .before .before .before .before .before .before .before .before .before .before .before .before .before .before .before .before .half-at .ensures,
-            c .before .before .before .before .before .before .before .before .before .before .before .before .before .before .before .before .before .word-at .ensures,
+      body-fits (c .before .before .before .before .before .before .before .before .before .before .before .before .before .before .before .before .before .before .a-at .result)
+          (c .before .before .before .before .before .before .before .before .before .before .before .before .before .before .before .before .before .b-at .result) (
+            c .before .before .before .before .before .before .before .before .before .before .before .before .before .before .before .before .before .before .a-at .ensures,
+            c .before .before .before .before .before .before .before .before .before .before .before .before .before .before .before .before .before .b-at .ensures,
           )
           (c .before .before .before .before .before .before .before .before .before .before .before .before .before .before .before .enter .ensures)
           (c .before .before .before .before .before .before .before .before .before .before .before .head .ensures) _
@@ -661,10 +662,10 @@ body-meets t =
         asked (c .before .before .before .before .before .before .before .before .before .before .before .before .before .before .before .before .before .before .before .before .before .before .before .before .pre .1) .nested,
         c .before .before .before .before .before .before .before .before .before .before .before .before .before .before .before .before .before .before .before .before .before .before .before .before .pre .0,
       ),
-      body-result (c .before .before .before .before .before .before .before .before .before .before .before .before .before .before .before .before .before .before .before .half-at .result)
-          (c .before .before .before .before .before .before .before .before .before .before .before .before .before .before .before .before .before .before .word-at .result) (
-            c .before .before .before .before .before .before .before .before .before .before .before .before .before .before .before .before .before .before .before .half-at .ensures,
-            c .before .before .before .before .before .before .before .before .before .before .before .before .before .before .before .before .before .before .word-at .ensures,
+      body-result (c .before .before .before .before .before .before .before .before .before .before .before .before .before .before .before .before .before .before .before .a-at .result)
+          (c .before .before .before .before .before .before .before .before .before .before .before .before .before .before .before .before .before .before .b-at .result) (
+            c .before .before .before .before .before .before .before .before .before .before .before .before .before .before .before .before .before .before .before .a-at .ensures,
+            c .before .before .before .before .before .before .before .before .before .before .before .before .before .before .before .before .before .before .b-at .ensures,
           )
           (c .before .before .before .before .before .before .before .before .before .before .before .before .before .before .before .before .enter .ensures)
           (c .before .before .before .before .before .before .before .before .before .before .before .before .head .ensures) _
@@ -680,10 +681,10 @@ body-meets t =
     -- same-length
     (λ c. search needs)
     -- returns
-    (λ c. body-judged (c .before .before .before .before .before .before .before .before .before .before .before .before .before .before .before .before .before .before .before .before .before .before .half-at .result)
-    (c .before .before .before .before .before .before .before .before .before .before .before .before .before .before .before .before .before .before .before .before .before .word-at .result) (
-      c .before .before .before .before .before .before .before .before .before .before .before .before .before .before .before .before .before .before .before .before .before .before .half-at .ensures,
-      c .before .before .before .before .before .before .before .before .before .before .before .before .before .before .before .before .before .before .before .before .before .word-at .ensures,
+    (λ c. body-judged (c .before .before .before .before .before .before .before .before .before .before .before .before .before .before .before .before .before .before .before .before .before .before .a-at .result)
+    (c .before .before .before .before .before .before .before .before .before .before .before .before .before .before .before .before .before .before .before .before .before .b-at .result) (
+      c .before .before .before .before .before .before .before .before .before .before .before .before .before .before .before .before .before .before .before .before .before .before .a-at .ensures,
+      c .before .before .before .before .before .before .before .before .before .before .before .before .before .before .before .before .before .before .before .before .before .b-at .ensures,
     )
     (c .before .before .before .before .before .before .before .before .before .before .before .before .before .before .before .before .before .before .before .enter .ensures)
     (c .before .before .before .before .before .before .before .before .before .before .before .before .before .before .before .head .ensures) _
@@ -694,10 +695,10 @@ body-meets t =
     -- same-length-2
     (λ c. search needs)
     -- returns-2
-    (λ c. body-stop-2 (c .before .before .before .before .before .before .before .before .before .before .before .before .before .before .before .before .before .half-at .result)
-    (c .before .before .before .before .before .before .before .before .before .before .before .before .before .before .before .before .word-at .result) (
-      c .before .before .before .before .before .before .before .before .before .before .before .before .before .before .before .before .before .half-at .ensures,
-      c .before .before .before .before .before .before .before .before .before .before .before .before .before .before .before .before .word-at .ensures,
+    (λ c. body-stop-2 (c .before .before .before .before .before .before .before .before .before .before .before .before .before .before .before .before .before .a-at .result)
+    (c .before .before .before .before .before .before .before .before .before .before .before .before .before .before .before .before .b-at .result) (
+      c .before .before .before .before .before .before .before .before .before .before .before .before .before .before .before .before .before .a-at .ensures,
+      c .before .before .before .before .before .before .before .before .before .before .before .before .before .before .before .before .b-at .ensures,
     )
     (c .before .before .before .before .before .before .before .before .before .before .before .before .before .before .enter .ensures)
     (c .before .before .before .before .before .before .before .before .before .before .head .ensures) _
@@ -706,43 +707,45 @@ body-meets t =
     -- same-length-3
     (λ c. search needs)
     -- returns-3
-    (λ c. body-stop (c .before .before .before .before .before .before .before .before .before .before .half-at .result)
-    (c .before .before .before .before .before .before .before .before .before .word-at .result) (
-      c .before .before .before .before .before .before .before .before .before .before .half-at .ensures,
-      c .before .before .before .before .before .before .before .before .before .word-at .ensures,
+    (λ c. body-stop (c .before .before .before .before .before .before .before .before .before .before .a-at .result)
+    (c .before .before .before .before .before .before .before .before .before .b-at .result) (
+      c .before .before .before .before .before .before .before .before .before .before .a-at .ensures,
+      c .before .before .before .before .before .before .before .before .before .b-at .ensures,
     )
     (c .before .before .before .before .before .before .before .enter .ensures) (c .before .before .before .head .ensures) _ _ (c .before .k2 .given .1))
 
-expression-meets : {M : Type 1} (t : ℕ) → expression-lts.Closed (half-at-reads.Asked, half-at-reads.Learnt, body-below t, body.Post, simple-below t, simple.Post) (expression-at t) expression.Post M
-expression-meets t = expression-lts.spec (half-at-reads.Asked, half-at-reads.Learnt, body-below t, body.Post, simple-below t, simple.Post) (expression-at t) expression.Post
-    -- half-at-requires
+expression-meets : {M : Type 1} (t : ℕ) → expression-lts.Closed (kind-at-reads.Asked, kind-at-reads.Learnt, body-below t, body.Post, simple-below t, simple.Post) (expression-at t) expression.Post M
+expression-meets t = expression-lts.spec (kind-at-reads.Asked, kind-at-reads.Learnt, body-below t, body.Post, simple-below t, simple.Post) (expression-at t) expression.Post
+    -- kind-at-requires
     (λ c κs. omega (arith, asked (c .before .before .before .before .pre .1) .long))
     -- body-requires
     (λ c κs. (
       omega arith,
-      ask-as (λ f h e. is-body f h (sym e ∙ (sym (c .before .before .half-at .ensures) ∙ c .before .if1 .taken)))
+      ask-as (λ f h e. is-body f h (sym e ∙ (sym (c .before .before .kind-at .ensures) ∙ c .before .if1 .taken)))
           (c .before .before .before .before .before .before .before .pre .1),
     ))
     -- simple-requires
     (λ c κs. (
       omega arith,
-      ask-as (λ f h e. is-simple f h (λ z. c .before .if1 .left (c .before .before .half-at .ensures ∙ e ∙ z)))
+      ask-as (λ f h e. is-simple f h (λ z. c .before .if1 .left (c .before .before .kind-at .ensures ∙ e ∙ z)))
           (c .before .before .before .before .before .before .before .pre .1),
     ))
     -- same-length
     (λ c. search needs)
     -- returns
-    (λ c. typed-as (λ f h e. is-body f h (sym e ∙ (sym (c .before .before .before .before .before .half-at .ensures)
+    (λ c. typed-as (λ f h e. is-body f h (sym e ∙ (sym (c .before .before .before .before .before .kind-at .ensures)
     ∙ c .before .before .before .before .if1 .taken))) (c .before .before .body .ensures))
     -- same-length-2
     (λ c. search needs)
     -- returns-2
     (λ c. typed-as (λ f h e. is-simple f h (λ z. c .before .before .before .before .if1 .left
-    (c .before .before .before .before .before .half-at .ensures ∙ e ∙ z))) (c .before .before .simple .ensures))
+    (c .before .before .before .before .before .kind-at .ensures ∙ e ∙ z))) (c .before .before .simple .ensures))
 
 guarded-meets : {M : Type 1} (t : ℕ) → guarded-lts.Closed (
-  half-at-reads.Asked,
-  half-at-reads.Learnt,
+  kind-at-reads.Asked,
+  kind-at-reads.Learnt,
+  a-at-reads.Asked,
+  a-at-reads.Learnt,
   guarded-of-reads.Asked,
   guarded-of-reads.Learnt,
   expression-below t,
@@ -756,8 +759,10 @@ guarded-meets : {M : Type 1} (t : ℕ) → guarded-lts.Closed (
 ) (guarded-at t) guarded.Post M
 guarded-meets t =
     guarded-lts.spec (
-      half-at-reads.Asked,
-      half-at-reads.Learnt,
+      kind-at-reads.Asked,
+      kind-at-reads.Learnt,
+      a-at-reads.Asked,
+      a-at-reads.Learnt,
       guarded-of-reads.Asked,
       guarded-of-reads.Learnt,
       expression-below t,
@@ -769,9 +774,9 @@ guarded-meets t =
       tested-reads.Asked,
       tested-reads.Learnt,
     ) (guarded-at t) guarded.Post
-    -- half-at-requires
+    -- kind-at-requires
     (λ c κs. omega (arith, asked (c .before .before .before .before .pre .1) .long))
-    -- half-at-requires-2
+    -- a-at-requires
     (λ c κs. omega (arith, asked (c .before .before .before .before .before .pre .1) .long))
     -- guarded-of-requires
     (λ c κs. search needs)
@@ -789,7 +794,7 @@ guarded-meets t =
     (λ c κs. (
       omega (arith, asked (c .before .before .before .before .before .before .before .before .before .pre .1) .nested),
       guard-asks (c .before .before .guarded-of .result) (c .before .before .guarded-of .ensures
-          ∙ rw (c .before .before .before .before .half-at .ensures, c .before .before .before .half-at2 .ensures))
+          ∙ rw (c .before .before .before .before .kind-at .ensures, c .before .before .before .a-at .ensures))
           (c .before .before .before .before .before .before .before .before .before .pre .1),
     ))
     -- enum-known-t
@@ -800,8 +805,8 @@ guarded-meets t =
     (λ c κs. guard-passes (c .before .before .before .before .before .before .before .before .guarded-of .result)
     (c .before .before .before .before .before .before .before .before .guarded-of .ensures
     ∙ rw (
-      c .before .before .before .before .before .before .before .before .before .before .half-at .ensures,
-      c .before .before .before .before .before .before .before .before .before .half-at2 .ensures,
+      c .before .before .before .before .before .before .before .before .before .before .kind-at .ensures,
+      c .before .before .before .before .before .before .before .before .before .a-at .ensures,
     ))
     (c .before .before .before .before .before .before .before .before .before .before .before .before .before .before .before .pre .1) _ refl .known)
     -- add-from
@@ -810,8 +815,8 @@ guarded-meets t =
       guard-passes (c .before .before .before .before .before .before .before .before .before .guarded-of .result)
           (c .before .before .before .before .before .before .before .before .before .guarded-of .ensures
           ∙ rw (
-            c .before .before .before .before .before .before .before .before .before .before .before .half-at .ensures,
-            c .before .before .before .before .before .before .before .before .before .before .half-at2 .ensures,
+            c .before .before .before .before .before .before .before .before .before .before .before .kind-at .ensures,
+            c .before .before .before .before .before .before .before .before .before .before .a-at .ensures,
           ))
           (c .before .before .before .before .before .before .before .before .before .before .before .before .before .before .before .before .pre .1)
           (c .size-at .result) (c .size-at .ensures) .fits,
@@ -819,8 +824,8 @@ guarded-meets t =
           (c .before .before .before .before .before .before .before .before .before .guarded-of .result)
           (c .before .before .before .before .before .before .before .before .before .guarded-of .ensures
           ∙ rw (
-            c .before .before .before .before .before .before .before .before .before .before .before .half-at .ensures,
-            c .before .before .before .before .before .before .before .before .before .before .half-at2 .ensures,
+            c .before .before .before .before .before .before .before .before .before .before .before .kind-at .ensures,
+            c .before .before .before .before .before .before .before .before .before .before .a-at .ensures,
           ))
           (c .before .before .before .before .before .before .before .before .before .before .before .before .before .before .before .before .pre .1)
           (c .size-at .result) (c .size-at .ensures) .small,
@@ -831,8 +836,8 @@ guarded-meets t =
       guard-passes (c .before .before .before .before .before .before .before .before .before .guarded-of .result)
           (c .before .before .before .before .before .before .before .before .before .guarded-of .ensures
           ∙ rw (
-            c .before .before .before .before .before .before .before .before .before .before .before .half-at .ensures,
-            c .before .before .before .before .before .before .before .before .before .before .half-at2 .ensures,
+            c .before .before .before .before .before .before .before .before .before .before .before .kind-at .ensures,
+            c .before .before .before .before .before .before .before .before .before .before .a-at .ensures,
           ))
           (c .before .before .before .before .before .before .before .before .before .before .before .before .before .before .before .before .pre .1)
           (c .size-at .result) (c .size-at .ensures) .fits,
@@ -840,8 +845,8 @@ guarded-meets t =
           (c .before .before .before .before .before .before .before .before .before .guarded-of .result)
           (c .before .before .before .before .before .before .before .before .before .guarded-of .ensures
           ∙ rw (
-            c .before .before .before .before .before .before .before .before .before .before .before .half-at .ensures,
-            c .before .before .before .before .before .before .before .before .before .before .half-at2 .ensures,
+            c .before .before .before .before .before .before .before .before .before .before .before .kind-at .ensures,
+            c .before .before .before .before .before .before .before .before .before .before .a-at .ensures,
           ))
           (c .before .before .before .before .before .before .before .before .before .before .before .before .before .before .before .before .pre .1)
           (c .size-at .result) (c .size-at .ensures) .small,
@@ -850,8 +855,8 @@ guarded-meets t =
     (λ c. guard-passes (c .before .before .before .before .before .before .before .before .before .guarded-of .result)
     (c .before .before .before .before .before .before .before .before .before .guarded-of .ensures
     ∙ rw (
-      c .before .before .before .before .before .before .before .before .before .before .before .half-at .ensures,
-      c .before .before .before .before .before .before .before .before .before .before .half-at2 .ensures,
+      c .before .before .before .before .before .before .before .before .before .before .before .kind-at .ensures,
+      c .before .before .before .before .before .before .before .before .before .before .a-at .ensures,
     ))
     (c .before .before .before .before .before .before .before .before .before .before .before .before .before .before .before .before .pre .1)
     (c .size-at .result) (c .size-at .ensures) .fits)
@@ -859,8 +864,8 @@ guarded-meets t =
     (λ c. guard-passes (c .before .before .before .before .before .before .before .before .before .guarded-of .result)
     (c .before .before .before .before .before .before .before .before .before .guarded-of .ensures
     ∙ rw (
-      c .before .before .before .before .before .before .before .before .before .before .before .half-at .ensures,
-      c .before .before .before .before .before .before .before .before .before .before .half-at2 .ensures,
+      c .before .before .before .before .before .before .before .before .before .before .before .kind-at .ensures,
+      c .before .before .before .before .before .before .before .before .before .before .a-at .ensures,
     ))
     (c .before .before .before .before .before .before .before .before .before .before .before .before .before .before .before .before .pre .1)
     (c .size-at .result) (c .size-at .ensures) .fits)
@@ -876,16 +881,16 @@ guarded-meets t =
       guard-passes (c .before .before .before .before .before .before .before .before .before .before .guarded-of .result)
           (c .before .before .before .before .before .before .before .before .before .before .guarded-of .ensures
           ∙ rw (
-            c .before .before .before .before .before .before .before .before .before .before .before .before .half-at .ensures,
-            c .before .before .before .before .before .before .before .before .before .before .before .half-at2 .ensures,
+            c .before .before .before .before .before .before .before .before .before .before .before .before .kind-at .ensures,
+            c .before .before .before .before .before .before .before .before .before .before .before .a-at .ensures,
           ))
           (c .before .before .before .before .before .before .before .before .before .before .before .before .before .before .before .before .before .pre .1)
           (c .before .size-at .result) (c .before .size-at .ensures) .fits,
       guard-passes (c .before .before .before .before .before .before .before .before .before .before .guarded-of .result)
           (c .before .before .before .before .before .before .before .before .before .before .guarded-of .ensures
           ∙ rw (
-            c .before .before .before .before .before .before .before .before .before .before .before .before .half-at .ensures,
-            c .before .before .before .before .before .before .before .before .before .before .before .half-at2 .ensures,
+            c .before .before .before .before .before .before .before .before .before .before .before .before .kind-at .ensures,
+            c .before .before .before .before .before .before .before .before .before .before .before .a-at .ensures,
           ))
           (c .before .before .before .before .before .before .before .before .before .before .before .before .before .before .before .before .before .pre .1)
           (c .before .size-at .result) (c .before .size-at .ensures) .small,
@@ -896,8 +901,8 @@ guarded-meets t =
       guard-items (c .before .before .before .before .before .before .before .before .before .before .before .guarded-of .result)
           (c .before .before .before .before .before .before .before .before .before .before .before .guarded-of .ensures
           ∙ rw (
-            c .before .before .before .before .before .before .before .before .before .before .before .before .before .half-at .ensures,
-            c .before .before .before .before .before .before .before .before .before .before .before .before .half-at2 .ensures,
+            c .before .before .before .before .before .before .before .before .before .before .before .before .before .kind-at .ensures,
+            c .before .before .before .before .before .before .before .before .before .before .before .before .a-at .ensures,
           ))
           (c .before .before .before .before .before .before .before .before .expression .ensures) _ (c .before .before .size-at .result)
           (c .before .before .before .before .t .given .1) (c .before .before .size-at .ensures)
@@ -917,23 +922,23 @@ guarded-meets t =
     (λ c. guard-judged (c .before .before .before .before .before .before .before .before .before .before .before .before .before .before .before .before .before .guarded-of .result)
     (c .before .before .before .before .before .before .before .before .before .before .before .before .before .before .before .before .before .guarded-of .ensures
     ∙ rw (
-      c .before .before .before .before .before .before .before .before .before .before .before .before .before .before .before .before .before .before .before .half-at .ensures,
-      c .before .before .before .before .before .before .before .before .before .before .before .before .before .before .before .before .before .before .half-at2 .ensures,
+      c .before .before .before .before .before .before .before .before .before .before .before .before .before .before .before .before .before .before .before .kind-at .ensures,
+      c .before .before .before .before .before .before .before .before .before .before .before .before .before .before .before .before .before .before .a-at .ensures,
     ))
     (c .before .before .before .before .before .before .before .before .before .before .before .before .before .before .expression .ensures) _
     (c .before .before .before .before .before .before .before .before .size-at .result)
     (c .before .before .before .before .before .before .before .before .before .before .t .given .1)
     (c .before .before .before .before .before .before .before .before .size-at .ensures)
     (c .before .before .before .before .before .items .ensures) _ (c .before .enum-told .given .1)
-    (c .tested .ensures ∙ rw (c .before .before .before .before .before .before .before .before .before .before .before .before .before .before .before .before .before .before .before .half-at .ensures)))
+    (c .tested .ensures ∙ rw (c .before .before .before .before .before .before .before .before .before .before .before .before .before .before .before .before .before .before .before .kind-at .ensures)))
     -- same-length-2
     (λ c. search needs)
     -- returns-2
     (λ c. guard-stop-2 (c .before .before .before .before .before .before .before .before .before .before .before .before .before .before .before .before .before .guarded-of .result)
     (c .before .before .before .before .before .before .before .before .before .before .before .before .before .before .before .before .before .guarded-of .ensures
     ∙ rw (
-      c .before .before .before .before .before .before .before .before .before .before .before .before .before .before .before .before .before .before .before .half-at .ensures,
-      c .before .before .before .before .before .before .before .before .before .before .before .before .before .before .before .before .before .before .half-at2 .ensures,
+      c .before .before .before .before .before .before .before .before .before .before .before .before .before .before .before .before .before .before .before .kind-at .ensures,
+      c .before .before .before .before .before .before .before .before .before .before .before .before .before .before .before .before .before .before .a-at .ensures,
     ))
     (c .before .before .before .before .before .before .before .before .before .before .before .before .before .before .expression .ensures) _
     (c .before .before .before .before .before .before .before .before .size-at .result)
@@ -946,8 +951,8 @@ guarded-meets t =
     (λ c. guard-stop (c .before .before .before .before .before .before .before .before .guarded-of .result)
     (c .before .before .before .before .before .before .before .before .guarded-of .ensures
     ∙ rw (
-      c .before .before .before .before .before .before .before .before .before .before .half-at .ensures,
-      c .before .before .before .before .before .before .before .before .before .half-at2 .ensures,
+      c .before .before .before .before .before .before .before .before .before .before .kind-at .ensures,
+      c .before .before .before .before .before .before .before .before .before .a-at .ensures,
     ))
     (c .before .before .before .before .before .expression .ensures) _ _ (c .before .k2 .given .1))
 
@@ -958,8 +963,8 @@ abbrev items-μ-loop : items-lts.MeasureT-loop
 items-μ-loop table part count nesting at sizes env₀ top rest₀ place₀ left₀ env rest place left = left
 
 item-meets : {M : Type 1} (t : ℕ) → item-lts.Closed (
-  half-at-reads.Asked,
-  half-at-reads.Learnt,
+  kind-at-reads.Asked,
+  kind-at-reads.Learnt,
   is-plain-reads.Asked,
   is-plain-reads.Learnt,
   simple-below t,
@@ -969,8 +974,8 @@ item-meets : {M : Type 1} (t : ℕ) → item-lts.Closed (
 ) (item-at t) item.Post M
 item-meets t =
     item-lts.spec (
-      half-at-reads.Asked,
-      half-at-reads.Learnt,
+      kind-at-reads.Asked,
+      kind-at-reads.Learnt,
       is-plain-reads.Asked,
       is-plain-reads.Learnt,
       simple-below t,
@@ -978,7 +983,7 @@ item-meets t =
       statement-below t,
       statement′.Post,
     ) (item-at t) item.Post
-    -- half-at-requires
+    -- kind-at-requires
     (λ c κs. omega (arith, asked (c .before .before .before .before .pre .1) .long))
     -- is-plain-requires
     (λ c κs. search needs)
@@ -986,7 +991,7 @@ item-meets t =
     (λ c κs. (
       omega arith,
       ask-as (λ f h e. plain-form f h _ (sym (c .before .before .is-plain .ensures) ∙ c .before .if1 .taken)
-          (c .before .before .before .half-at .ensures ∙ e)) (c .before .before .before .before .before .before .before .before .pre .1),
+          (c .before .before .before .kind-at .ensures ∙ e)) (c .before .before .before .before .before .before .before .before .pre .1),
     ))
     -- statement-requires
     (λ c κs. (omega arith, c .before .before .before .before .before .before .before .before .pre .1))
@@ -994,7 +999,7 @@ item-meets t =
     (λ c. search needs)
     -- returns
     (λ c. typed-answer (λ f h e. plain-form f h _ (sym (c .before .before .before .before .before .is-plain .ensures)
-    ∙ c .before .before .before .before .if1 .taken) (c .before .before .before .before .before .before .half-at .ensures ∙ e)) (c .before .before .simple .ensures))
+    ∙ c .before .before .before .before .if1 .taken) (c .before .before .before .before .before .before .kind-at .ensures ∙ e)) (c .before .before .simple .ensures))
     -- same-length-2
     (λ c. search needs)
     -- returns-2
@@ -1065,10 +1070,12 @@ abbrev operands-μ-loop : operands-lts.MeasureT-loop
 operands-μ-loop table part count nesting at sizes env₀ top rest₀ place₀ i₀ env rest place i = count - i
 
 operand-meets : {M : Type 1} (t : ℕ) → operand-lts.Closed (
-  half-at-reads.Asked,
-  half-at-reads.Learnt,
+  kind-at-reads.Asked,
+  kind-at-reads.Learnt,
   is-leaf-reads.Asked,
   is-leaf-reads.Learnt,
+  a-at-reads.Asked,
+  a-at-reads.Learnt,
   leaf-reads.Asked,
   leaf-reads.Learnt,
   expression-below t,
@@ -1076,27 +1083,29 @@ operand-meets : {M : Type 1} (t : ℕ) → operand-lts.Closed (
 ) (operand-at t) operand.Post M
 operand-meets t =
     operand-lts.spec (
-      half-at-reads.Asked,
-      half-at-reads.Learnt,
+      kind-at-reads.Asked,
+      kind-at-reads.Learnt,
       is-leaf-reads.Asked,
       is-leaf-reads.Learnt,
+      a-at-reads.Asked,
+      a-at-reads.Learnt,
       leaf-reads.Asked,
       leaf-reads.Learnt,
       expression-below t,
       expression.Post,
     ) (operand-at t) operand.Post
-    -- half-at-requires
+    -- kind-at-requires
     (λ c κs. omega (arith, asked (c .before .before .before .before .pre .1 .0) .long))
     -- is-leaf-requires
     (λ c κs. search needs)
-    -- half-at-requires-2
+    -- a-at-requires
     (λ c κs. omega (arith, asked (c .before .before .before .before .before .before .before .pre .1 .0) .long))
     -- cast-leaf
     (λ c. search needs)
     -- leaf-requires
     (λ c κs. (
       omega (arith, asked (c .before .before .before .before .before .before .before .before .before .pre .1 .0) .room),
-      rw (c .before .half-at2 .ensures) (leaf-small (c .before .before .before .before .before .before .before .before .before .pre .1 .0)),
+      rw (c .before .a-at .ensures) (leaf-small (c .before .before .before .before .before .before .before .before .before .pre .1 .0)),
     ))
     -- add-expression
     (λ c. omega (arith, asked (c .before .before .before .before .before .before .before .before .pre .1 .0) .room))
@@ -1105,10 +1114,10 @@ operand-meets t =
     -- same-length
     (λ c. search needs)
     -- returns
-    (λ c. leaf-judged (rw (c .before .before .before .before .before .half-at .ensures) at
+    (λ c. leaf-judged (rw (c .before .before .before .before .before .kind-at .ensures) at
     (sym (c .before .before .before .before .is-leaf .ensures) ∙ c .before .before .before .if1 .taken))
     (c .before .before .before .before .before .before .before .before .before .before .pre .1 .1)
-    (c .leaf .ensures ∙ rw (c .before .before .before .before .before .half-at .ensures, c .before .before .half-at2 .ensures))
+    (c .leaf .ensures ∙ rw (c .before .before .before .before .before .kind-at .ensures, c .before .before .a-at .ensures))
     (leaf-small (c .before .before .before .before .before .before .before .before .before .before .pre .1 .0)))
     -- same-length-2
     (λ c. search needs)
@@ -1202,10 +1211,12 @@ operands-meets t =
     (λ c. es-end (c .before .loop .inv) (omega arith))
 
 simple-meets : {M : Type 1} (t : ℕ) → simple-lts.Closed (
-  half-at-reads.Asked,
-  half-at-reads.Learnt,
-  word-at-reads.Asked,
-  word-at-reads.Learnt,
+  kind-at-reads.Asked,
+  kind-at-reads.Learnt,
+  a-at-reads.Asked,
+  a-at-reads.Learnt,
+  b-at-reads.Asked,
+  b-at-reads.Learnt,
   operands-of-reads.Asked,
   operands-of-reads.Learnt,
   operands-below t,
@@ -1215,10 +1226,12 @@ simple-meets : {M : Type 1} (t : ℕ) → simple-lts.Closed (
 ) (simple-at t) simple.Post M
 simple-meets t =
     simple-lts.spec (
-      half-at-reads.Asked,
-      half-at-reads.Learnt,
-      word-at-reads.Asked,
-      word-at-reads.Learnt,
+      kind-at-reads.Asked,
+      kind-at-reads.Learnt,
+      a-at-reads.Asked,
+      a-at-reads.Learnt,
+      b-at-reads.Asked,
+      b-at-reads.Learnt,
       operands-of-reads.Asked,
       operands-of-reads.Learnt,
       operands-below t,
@@ -1226,11 +1239,11 @@ simple-meets t =
       settle-reads.Asked,
       settle-reads.Learnt,
     ) (simple-at t) simple.Post
-    -- half-at-requires
+    -- kind-at-requires
     (λ c κs. omega (arith, asked (c .before .before .before .before .pre .1) .long))
-    -- half-at-requires-2
+    -- a-at-requires
     (λ c κs. omega (arith, asked (c .before .before .before .before .before .pre .1) .long))
-    -- word-at-requires
+    -- b-at-requires
     (λ c κs. omega (arith, asked (c .before .before .before .before .before .before .pre .1) .long))
     -- operands-of-requires
     (λ c κs. search needs)
@@ -1248,7 +1261,7 @@ simple-meets t =
     (λ c κs. (
       omega (arith, asked (c .before .before .before .before .before .before .before .before .before .before .pre .1) .nested),
       simple-asks (c .before .before .operands-of .result) (c .before .before .operands-of .ensures
-          ∙ rw (c .before .before .before .before .before .half-at .ensures, c .before .before .before .word-at .ensures))
+          ∙ rw (c .before .before .before .before .before .kind-at .ensures, c .before .before .before .b-at .ensures))
           (c .before .before .before .before .before .before .before .before .before .before .pre .1),
     ))
     -- enum-told
@@ -1258,12 +1271,12 @@ simple-meets t =
     -- cast-settle-2
     (λ c. search needs)
     -- settle-requires
-    (λ c κs. rw (c .before .before .before .before .before .before .before .before .before .before .half-at2 .ensures)
+    (λ c κs. rw (c .before .before .before .before .before .before .before .before .before .before .a-at .ensures)
     (settle-asks (c .before .before .before .before .before .before .before .before .operands-of .result)
     (c .before .before .before .before .before .before .before .before .operands-of .ensures
     ∙ rw (
-      c .before .before .before .before .before .before .before .before .before .before .before .half-at .ensures,
-      c .before .before .before .before .before .before .before .before .before .word-at .ensures,
+      c .before .before .before .before .before .before .before .before .before .before .before .kind-at .ensures,
+      c .before .before .before .before .before .before .before .before .before .b-at .ensures,
     ))
     (c .before .before .before .before .before .operands .ensures)
     (c .before .before .before .before .before .before .before .before .before .before .before .before .before .before .before .before .pre .1)))
@@ -1275,13 +1288,13 @@ simple-meets t =
     (λ c. simple-judged (c .before .before .before .before .before .before .before .before .before .operands-of .result)
     (c .before .before .before .before .before .before .before .before .before .operands-of .ensures
     ∙ rw (
-      c .before .before .before .before .before .before .before .before .before .before .before .before .half-at .ensures,
-      c .before .before .before .before .before .before .before .before .before .before .word-at .ensures,
+      c .before .before .before .before .before .before .before .before .before .before .before .before .kind-at .ensures,
+      c .before .before .before .before .before .before .before .before .before .before .b-at .ensures,
     ))
     (c .before .before .before .before .before .before .operands .ensures) _ (c .before .before .enum-told .given .1)
     (c .settle .ensures ∙ rw (
-      c .before .before .before .before .before .before .before .before .before .before .before .before .half-at .ensures,
-      c .before .before .before .before .before .before .before .before .before .before .before .half-at2 .ensures,
+      c .before .before .before .before .before .before .before .before .before .before .before .before .kind-at .ensures,
+      c .before .before .before .before .before .before .before .before .before .before .before .a-at .ensures,
     )))
     -- same-length-2
     (λ c. search needs)
@@ -1289,16 +1302,18 @@ simple-meets t =
     (λ c. simple-stop (c .before .before .before .before .before .before .before .before .operands-of .result)
     (c .before .before .before .before .before .before .before .before .operands-of .ensures
     ∙ rw (
-      c .before .before .before .before .before .before .before .before .before .before .before .half-at .ensures,
-      c .before .before .before .before .before .before .before .before .before .word-at .ensures,
+      c .before .before .before .before .before .before .before .before .before .before .before .kind-at .ensures,
+      c .before .before .before .before .before .before .before .before .before .b-at .ensures,
     ))
     (c .before .before .before .before .before .operands .ensures) _ _ (c .before .n .given .1))
 
 statement-meets : {M : Type 1} (t : ℕ) → statement-lts.Closed (
-  half-at-reads.Asked,
-  half-at-reads.Learnt,
+  kind-at-reads.Asked,
+  kind-at-reads.Learnt,
   block-below t,
   block.Post,
+  a-at-reads.Asked,
+  a-at-reads.Learnt,
   once-reads.Asked,
   once-reads.Learnt,
   guarded-below t,
@@ -1308,10 +1323,12 @@ statement-meets : {M : Type 1} (t : ℕ) → statement-lts.Closed (
 ) (statement-at t) statement′.Post M
 statement-meets t =
     statement-lts.spec (
-      half-at-reads.Asked,
-      half-at-reads.Learnt,
+      kind-at-reads.Asked,
+      kind-at-reads.Learnt,
       block-below t,
       block.Post,
+      a-at-reads.Asked,
+      a-at-reads.Learnt,
       once-reads.Asked,
       once-reads.Learnt,
       guarded-below t,
@@ -1319,15 +1336,15 @@ statement-meets t =
       simple-below t,
       simple.Post,
     ) (statement-at t) statement′.Post
-    -- half-at-requires
+    -- kind-at-requires
     (λ c κs. omega (arith, asked (c .before .before .before .before .pre .1) .long))
     -- block-requires
     (λ c κs. (
       omega arith,
-      ask-as (λ f h e. is-block f h (sym e ∙ (sym (c .before .before .half-at .ensures) ∙ c .before .match .keys1)))
+      ask-as (λ f h e. is-block f h (sym e ∙ (sym (c .before .before .kind-at .ensures) ∙ c .before .match .keys1)))
           (c .before .before .before .before .before .before .before .pre .1),
     ))
-    -- half-at-requires-2
+    -- a-at-requires
     (λ c κs. omega (arith, asked (c .before .before .before .before .before .before .before .pre .1) .long))
     -- cast-once
     (λ c. search needs)
@@ -1336,76 +1353,76 @@ statement-meets t =
     -- guarded-requires
     (λ c κs. (
       omega arith,
-      ask-as (λ f h e. is-guard f 22 h (sym e ∙ (sym (c .before .before .half-at .ensures) ∙ c .before .match .keys3)) refl
+      ask-as (λ f h e. is-guard f 22 h (sym e ∙ (sym (c .before .before .kind-at .ensures) ∙ c .before .match .keys3)) refl
           (λ z. omega arith) (λ z. omega arith)) (c .before .before .before .before .before .before .before .pre .1),
     ))
     -- guarded-requires-2
     (λ c κs. (
       omega arith,
-      ask-as (λ f h e. is-guard f 23 h (sym e ∙ (sym (c .before .before .half-at .ensures) ∙ c .before .match .keys4)) refl
+      ask-as (λ f h e. is-guard f 23 h (sym e ∙ (sym (c .before .before .kind-at .ensures) ∙ c .before .match .keys4)) refl
           (λ z. omega arith) (λ z. omega arith)) (c .before .before .before .before .before .before .before .pre .1),
     ))
     -- guarded-requires-3
     (λ c κs. (
       omega arith,
-      ask-as (λ f h e. is-guard f 24 h (sym e ∙ (sym (c .before .before .half-at .ensures) ∙ c .before .match .keys5)) refl
+      ask-as (λ f h e. is-guard f 24 h (sym e ∙ (sym (c .before .before .kind-at .ensures) ∙ c .before .match .keys5)) refl
           (λ z. omega arith) (λ z. omega arith)) (c .before .before .before .before .before .before .before .pre .1),
     ))
     -- guarded-requires-4
     (λ c κs. (
       omega arith,
-      ask-as (λ f h e. is-guard f 30 h (sym e ∙ (sym (c .before .before .half-at .ensures) ∙ c .before .match .keys6)) refl
+      ask-as (λ f h e. is-guard f 30 h (sym e ∙ (sym (c .before .before .kind-at .ensures) ∙ c .before .match .keys6)) refl
           (λ z. omega arith) (λ z. omega arith)) (c .before .before .before .before .before .before .before .pre .1),
     ))
     -- simple-requires
     (λ c κs. (
       omega arith,
-      ask-as (λ f h e. is-other f h (λ z. c .before .match .rest .0 .0 .0 .0 .0 .1 (c .before .before .half-at .ensures ∙ e ∙ z))
-          (λ z. c .before .match .rest .0 .0 .0 .0 .1 (c .before .before .half-at .ensures ∙ e ∙ z))
-          (λ z. c .before .match .rest .0 .0 .0 .1 (c .before .before .half-at .ensures ∙ e ∙ z))
-          (λ z. c .before .match .rest .0 .0 .1 (c .before .before .half-at .ensures ∙ e ∙ z))
-          (λ z. c .before .match .rest .0 .1 (c .before .before .half-at .ensures ∙ e ∙ z))
-          (λ z. c .before .match .rest .1 (c .before .before .half-at .ensures ∙ e ∙ z))) (c .before .before .before .before .before .before .before .pre .1),
+      ask-as (λ f h e. is-other f h (λ z. c .before .match .rest .0 .0 .0 .0 .0 .1 (c .before .before .kind-at .ensures ∙ e ∙ z))
+          (λ z. c .before .match .rest .0 .0 .0 .0 .1 (c .before .before .kind-at .ensures ∙ e ∙ z))
+          (λ z. c .before .match .rest .0 .0 .0 .1 (c .before .before .kind-at .ensures ∙ e ∙ z))
+          (λ z. c .before .match .rest .0 .0 .1 (c .before .before .kind-at .ensures ∙ e ∙ z))
+          (λ z. c .before .match .rest .0 .1 (c .before .before .kind-at .ensures ∙ e ∙ z))
+          (λ z. c .before .match .rest .1 (c .before .before .kind-at .ensures ∙ e ∙ z))) (c .before .before .before .before .before .before .before .pre .1),
     ))
     -- same-length
     (λ c. search needs)
     -- returns
-    (λ c. answer-as (λ f h e. is-block f h (sym e ∙ (sym (c .before .before .before .before .before .half-at .ensures)
+    (λ c. answer-as (λ f h e. is-block f h (sym e ∙ (sym (c .before .before .before .before .before .kind-at .ensures)
     ∙ c .before .before .before .before .match .keys1))) (c .before .before .block .ensures))
     -- same-length-2
     (λ c. search needs)
     -- returns-2
-    (λ c. label-answer (sym (c .before .before .before .before .half-at .ensures) ∙ c .before .before .before .match .keys2) (rw (c .before .half-at2 .ensures) at (c .once .ensures)))
+    (λ c. label-answer (sym (c .before .before .before .before .kind-at .ensures) ∙ c .before .before .before .match .keys2) (rw (c .before .a-at .ensures) at (c .once .ensures)))
     -- same-length-3
     (λ c. search needs)
     -- returns-3
-    (λ c. answer-as (λ f h e. is-guard f 22 h (sym e ∙ (sym (c .before .before .before .before .before .half-at .ensures)
+    (λ c. answer-as (λ f h e. is-guard f 22 h (sym e ∙ (sym (c .before .before .before .before .before .kind-at .ensures)
     ∙ c .before .before .before .before .match .keys3)) refl (λ z. omega arith) (λ z. omega arith)) (c .before .before .guarded .ensures))
     -- same-length-4
     (λ c. search needs)
     -- returns-4
-    (λ c. answer-as (λ f h e. is-guard f 23 h (sym e ∙ (sym (c .before .before .before .before .before .half-at .ensures)
+    (λ c. answer-as (λ f h e. is-guard f 23 h (sym e ∙ (sym (c .before .before .before .before .before .kind-at .ensures)
     ∙ c .before .before .before .before .match .keys4)) refl (λ z. omega arith) (λ z. omega arith)) (c .before .before .guarded2 .ensures))
     -- same-length-5
     (λ c. search needs)
     -- returns-5
-    (λ c. answer-as (λ f h e. is-guard f 24 h (sym e ∙ (sym (c .before .before .before .before .before .half-at .ensures)
+    (λ c. answer-as (λ f h e. is-guard f 24 h (sym e ∙ (sym (c .before .before .before .before .before .kind-at .ensures)
     ∙ c .before .before .before .before .match .keys5)) refl (λ z. omega arith) (λ z. omega arith)) (c .before .before .guarded3 .ensures))
     -- same-length-6
     (λ c. search needs)
     -- returns-6
-    (λ c. answer-as (λ f h e. is-guard f 30 h (sym e ∙ (sym (c .before .before .before .before .before .half-at .ensures)
+    (λ c. answer-as (λ f h e. is-guard f 30 h (sym e ∙ (sym (c .before .before .before .before .before .kind-at .ensures)
     ∙ c .before .before .before .before .match .keys6)) refl (λ z. omega arith) (λ z. omega arith)) (c .before .before .guarded4 .ensures))
     -- same-length-7
     (λ c. search needs)
     -- returns-7
     (λ c. typed-answer (λ f h e. is-other f h (λ z. c .before .before .before .before .match .rest .0 .0 .0 .0 .0 .1
-    (c .before .before .before .before .before .half-at .ensures ∙ e ∙ z))
-    (λ z. c .before .before .before .before .match .rest .0 .0 .0 .0 .1 (c .before .before .before .before .before .half-at .ensures ∙ e ∙ z))
-    (λ z. c .before .before .before .before .match .rest .0 .0 .0 .1 (c .before .before .before .before .before .half-at .ensures ∙ e ∙ z))
-    (λ z. c .before .before .before .before .match .rest .0 .0 .1 (c .before .before .before .before .before .half-at .ensures ∙ e ∙ z))
-    (λ z. c .before .before .before .before .match .rest .0 .1 (c .before .before .before .before .before .half-at .ensures ∙ e ∙ z))
-    (λ z. c .before .before .before .before .match .rest .1 (c .before .before .before .before .before .half-at .ensures ∙ e ∙ z)))
+    (c .before .before .before .before .before .kind-at .ensures ∙ e ∙ z))
+    (λ z. c .before .before .before .before .match .rest .0 .0 .0 .0 .1 (c .before .before .before .before .before .kind-at .ensures ∙ e ∙ z))
+    (λ z. c .before .before .before .before .match .rest .0 .0 .0 .1 (c .before .before .before .before .before .kind-at .ensures ∙ e ∙ z))
+    (λ z. c .before .before .before .before .match .rest .0 .0 .1 (c .before .before .before .before .before .kind-at .ensures ∙ e ∙ z))
+    (λ z. c .before .before .before .before .match .rest .0 .1 (c .before .before .before .before .before .kind-at .ensures ∙ e ∙ z))
+    (λ z. c .before .before .before .before .match .rest .1 (c .before .before .before .before .before .kind-at .ensures ∙ e ∙ z)))
     (c .before .before .simple .ensures))
 
 pub +block+body+expression+guarded+item+items+operand+operands+simple+statement-spec : {M : Type 1} → statement M
