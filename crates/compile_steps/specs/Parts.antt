@@ -24,7 +24,7 @@ use Rattle.table_entries.specs.Entries.{length-entries}
 use Rattle.table_entries.specs.Stands.{Stands, stands-left, stands-right, stands-tail, stands-within}
 use Rattle.table_forms.specs.Walk.{Table}
 use Rattle.table_forms.specs.Forms.{Form, headF, tailF, flatF, labelled, formS, formE, flat-S, flat-E}
-use Rattle.table_forms.specs.Steps.{Head, head-of, table-next, size-here, Passes, passes, spans-form, spans-stmt}
+use Rattle.table_forms.specs.Part.{Head, head-of, table-next, size-here, Passes, passes, spans-form, spans-stmt}
 use Rattle.compile_code.specs.Code.{Code, nil, op, mark, cell, _▸_, At, at, skip, after}
 use Rattle.language.specs.Names.{Scope}
 use Rattle.compile_code.specs.Compile.{Around, scopesOf, heldIn, found}

@@ -23,7 +23,7 @@ use Rattle.table_scopes.specs.Items.{kindAt, aAt, bAt, oneAt, itemsAt}
 use Rattle.table_scopes.specs.Trees.{Heads, length-map, length-Items}
 use Rattle.table_scopes.specs.Defines.{labels-bulk}
 use Rattle.table_forms.specs.Walk.{Table}
-use Rattle.table_forms.specs.Steps.{head-of, table-next, below}
+use Rattle.table_forms.specs.Part.{head-of, table-next, below}
 use Rattle.table_forms.specs.Globals.{heads-here}
 use Rattle.table_forms.specs.Procedures.{Walled}
 use Rattle.bytecode.specs.Instructions.{own, root}

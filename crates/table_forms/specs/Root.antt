@@ -32,7 +32,7 @@ use Rattle.table_types.specs.Types.{tyNum, code-some, is-number, eqb-comm}
 use Rattle.table_types.specs.Settles.{Types}
 use Rattle.table_forms.specs.Forms.{formS, formE, form-expr, form-stmt, flat-S, flat-E, deep-S, deep-E, valid-S, valid-E, once-S, once-E, faults-S, faults-E, type-E, StmtForm, ExprForm}
 use Rattle.table_forms.specs.Walk.{Table, Ready, Asks, Answers, Typed as TypedAs}
-use Rattle.table_forms.specs.Steps.{head-of, room-le, fine-type}
+use Rattle.table_forms.specs.Part.{head-of, room-le, fine-type}
 use Rattle.table_forms.specs.Globals.{itemsOf, globalItems}
 
 -- ── names defined once, at the root ──

@@ -37,7 +37,7 @@ use Rattle.table_scopes.specs.Sees.{Legible, Sees, matches-append, sees-none, s
 use Rattle.table_scopes.specs.Once.{once-block}
 use Rattle.table_scopes.specs.Defines.{labels-small, labelItems, label-items, label-matches, label-rising, labels-bulk, length-labels, OnceItems, once-items}
 use Rattle.table_forms.specs.Walk.{Table, ReadyItems, AsksItems, AnswersItems}
-use Rattle.table_forms.specs.Steps.{head-of, table-next, below}
+use Rattle.table_forms.specs.Part.{head-of, table-next, below}
 use Rattle.table_forms.specs.Globals.{itemsOf, globalItems, heads-here, globals-at, globals-small, globals-match, length-items, globals-rising}
 use lib.Seq.{take-all}
 use Rattle.table_scopes.specs.Spans.{spans-none, spans-then, spans-as}

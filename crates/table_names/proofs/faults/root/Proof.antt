@@ -2,7 +2,7 @@ use native.Mathlib.Omega.{arith}
 use mathlib.Core.Path.{ap}
 use Prim.Native.Nat.{ℕ, _+_, _-_}
 use Rattle.table_scopes.specs.Sizes.{size-small}
-use Rattle.table_forms.specs.Ends.{known-from}
+use Rattle.table_forms.specs.Body.{known-from}
 use Rattle.table_forms.specs.Tables.{root-long, root-reach, root-room, root-globals, root-rest, root-stop, root-judged, root-place}
 use borrow.Author.Needs.{needs}
 use Rattle.table_names.proofs.faults.root.Statement.{statement}

@@ -2,12 +2,15 @@ use mathlib.Core.Path.{refl, sym, _∙_}
 use native.Mathlib.Omega.{arith}
 use borrow.Author.Needs.{needs}
 use Rattle.table_forms.specs.Forms.{is-body, is-simple, is-block, is-guard, is-other}
-use Rattle.table_forms.specs.Steps.{EsSoFar, es-start, es-asks, es-room, es-passes, es-stop, es-next, es-end, ItemsSoFar, items-start, items-asks, items-passes}
-use Rattle.table_forms.specs.Steps.{items-stop, items-next, items-end, ask-as, answer-as, typed-as, typed-answer, label-answer, simple-asks, settle-asks, simple-stop}
-use Rattle.table_forms.specs.Steps.{simple-judged, leaf-judged, leaf-small, plain-form}
-use Rattle.table_forms.specs.Ends.{asked, guard-asks, guard-passes, guard-stop, guard-items, guard-stop-2, guard-judged, block-asks, block-within, block-top, block-stop}
-use Rattle.table_forms.specs.Ends.{block-inner, block-judged, known-from, body-asks, body-within, body-top, body-stop, body-inner, body-stop-2, body-result, body-fits}
-use Rattle.table_forms.specs.Ends.{body-judged}
+use Rattle.table_forms.specs.Part.{asked}
+use Rattle.table_forms.specs.OperandList.{EsSoFar, es-start, es-asks, es-room, es-passes, es-stop, es-next, es-end}
+use Rattle.table_forms.specs.ItemList.{ItemsSoFar, items-start, items-asks, items-passes, items-stop, items-next, items-end}
+use Rattle.table_forms.specs.ByKind.{ask-as, answer-as, typed-as, typed-answer, label-answer, plain-form}
+use Rattle.table_forms.specs.Simple.{simple-asks, settle-asks, simple-stop, simple-judged}
+use Rattle.table_forms.specs.Leaf.{leaf-judged, leaf-small}
+use Rattle.table_forms.specs.Guard.{guard-asks, guard-passes, guard-stop, guard-items, guard-stop-2, guard-judged}
+use Rattle.table_forms.specs.Block.{block-asks, block-within, block-top, block-stop, block-inner, block-judged}
+use Rattle.table_forms.specs.Body.{known-from, body-asks, body-within, body-top, body-stop, body-inner, body-stop-2, body-result, body-fits, body-judged}
 use Prim.Native.Nat.{ℕ, _+_, _-_, _*_, _<_}
 use borrow.Fn.Kinds.{In}
 use borrow.Fn.PlainCycle.{Measures, is, falls, and}
