@@ -44,6 +44,29 @@ pub record EnterAsks (l sizes env : List ℕ) (at heads count top : ℕ) : Type 
   pub short : length l ≤ 16384
   pub room : 4 * (top + (1 + length (blockItems l at heads count))) ≤ length env
 
+-- ── its head and its items, whose names are in sight ──
+pub record AsksContents (l part : List ℕ) (heads count nesting at : ℕ) (sizes env : List ℕ) (top : ℕ) : Type 0 where
+  pub fits : 8 * (1 + heads) ≤ length part
+  pub within : 8 * (at + 1 + heads) ≤ length l
+  pub short : length l ≤ 16384
+  pub room : 4 * top ≤ length env
+  pub asks : AsksItems l (below part (8 * (1 + heads))) count nesting (at + 1 + heads) sizes env top
+
+pub record AnswersContents (l part : List ℕ) (heads count nesting at : ℕ) (sizes old new : List ℕ) (top : ℕ) (r : Verdict) : Type 0 where
+  pub kept : envOf new top ≡ envOf old top
+  pub same : length new ≡ length old
+  pub judged : (is : Items) (ss : List Scope) (seen : List ℕ) → ReadyItems is ss seen l (below part (8 * (1 + heads))) count nesting (at + 1 + heads) sizes old top
+      → Says r (headFlaws l (envOf old top) (at + 1) heads ++ faultsItems ss seen (at + 1 + heads) is)
+
+module _ {l part : List ℕ} {heads count nesting at : ℕ} {sizes old : List ℕ} {top : ℕ} {r : Verdict} (y : Says r (headFlaws l (envOf old top) (at + 1) heads)) where
+  pub contents-stop : (n p : ℕ) → r ≡ Refused n p → AnswersContents l part heads count nesting at sizes old old top (Refused n p)
+  contents-stop n p e = record { kept = refl; same = refl; judged = λ is ss seen q. says-first r n p _ _ e y }
+
+  pub contents-judged : (t : ℕ) {new : List ℕ} {s : Verdict} → r ≡ Fine t
+      → AnswersItems l (below part (8 * (1 + heads))) count nesting (at + 1 + heads) sizes old new top s → AnswersContents l part heads count nesting at sizes old new top s
+  contents-judged t {new} {s} e z = record { kept = z .kept; same = z .same; judged = λ is ss seen q. says-then r s t _ _ e y (z .judged is ss seen q) }
+
+-- ── its names ──
 module _ {ds : List Decl} {is : Items} {l part : List ℕ} {heads count nesting at : ℕ} {sizes env : List ℕ} {top : ℕ} (b : Block ds is l part heads count nesting at sizes env top) where
   entering : Enters l (at + 1) ds is
   entering = enters (b .table .legible) (at + 1) ds is (b .stands) (b .within)
@@ -67,7 +90,7 @@ module _ {ds : List Decl} {is : Items} {l part : List ℕ} {heads count nesting 
     most : up ≤ top + (1 + (length ds + labels is))
     most = let m : up ≤ top + (1 + length (blockItems l (at + 1) (length ds) (countItems is))) = rw (b .many, b .parts) at (g .most) in omega (arith, entering .least)
 
-    pub block-heads : headFlaws l (envOf mid up) (at + 1) heads ≡ faultsHead ss [] (at + 1) ds
+    block-heads : headFlaws l (envOf mid up) (at + 1) heads ≡ faultsHead ss [] (at + 1) ds
     block-heads = rw (b .many, now-is) (head-faults (b .table .legible) (e .sees) (at + 1) ds [] (heads-stand (b .table .legible) (at + 1) ds is (b .stands)) (e .head))
 
     pub block-items : ReadyItems is ss (namesHead ds) l (below part (8 * (1 + heads))) count (nesting - 1) (at + 1 + heads) sizes mid up
@@ -82,11 +105,24 @@ module _ {ds : List Decl} {is : Items} {l part : List ℕ} {heads count nesting 
           many = b .parts;
         }
 
+    pub block-inner : {x : Entry} {us : List Entry} → Stands (entriesOf l) at (x ∷ us) → AsksContents l part heads count (nesting - 1) at sizes mid up
+    block-inner s =
+        let d = head-of _ _ (b .table) s in
+        let m = b .many in
+        record {
+          fits = omega (arith, d .long, b .within);
+          within = rw m (b .within);
+          short = b .table .legible .short;
+          room = omega (arith, g .most, g .same, enter-asks .room);
+          asks = record { items = is; scopes = ss; seen = namesHead ds; ready = block-items };
+        }
+
+    pub block-says : {new : List ℕ} {s : Verdict} → AnswersContents l part heads count (nesting - 1) at sizes mid new up s
+        → Says s (faultsHead ss [] (at + 1) ds ++ faultsItems ss (namesHead ds) (at + 1 + heads) is)
+    block-says z = rw block-heads at (z .judged is ss (namesHead ds) block-items)
+
   pub block-most : length (blockItems l (at + 1) heads count) ≤ length ds + labels is
   block-most = rw (b .many, b .parts) (entering .least)
-
-  pub block-room : {mid : List ℕ} {up : ℕ} {v : List Item} → Grown top env mid up v (1 + length (blockItems l (at + 1) heads count)) → 4 * up ≤ length mid
-  block-room g = omega (arith, g .most, g .same, enter-asks .room)
 
 -- a block
 pub record Blocked (f : Form) (ss : List Scope) (seen l part : List ℕ) (heads count nesting at : ℕ) (sizes env : List ℕ) (top : ℕ) : Type 0 where
@@ -129,51 +165,19 @@ blocked-of (blocked ds is) h {l = l} {at = at} heads count c q =
 abbrev pub Pushed : ℕ → List ℕ → ℕ → ℕ → ℕ → ℕ → List ℕ → List ℕ → ℕ → Type 0
 Pushed k l at heads count top env mid up = Grown top env mid up (addAll (blockItems l (at + 1) heads count) (pushed k 0 0 0 ∷ envOf env top)) (1 + length (blockItems l (at + 1) heads count))
 
-pub record BlockFits (l part : List ℕ) (heads at : ℕ) : Type 0 where
-  pub fits : 8 * (1 + heads) ≤ length part
-  pub within : 8 * (at + 1 + heads) ≤ length l
-  pub short : length l ≤ 16384
-
-pub block-fits : {ds : List Decl} {is : Items} {l part : List ℕ} {heads count nesting at : ℕ} {sizes env : List ℕ} {top : ℕ} {e : Entry} {us : List Entry}
-    → Block ds is l part heads count nesting at sizes env top → Stands (entriesOf l) at (e ∷ us) → BlockFits l part heads at
-block-fits b s = let d = head-of _ _ (b .table) s in let m = b .many in
-    record { fits = omega (arith, d .long, b .within); within = rw m (b .within); short = b .table .legible .short }
-
 module _ {l part : List ℕ} {nesting at : ℕ} {sizes old : List ℕ} {top : ℕ} (heads count : ℕ) (c : Counts part heads count) where
   pub block-asks : Asks BlockForm l part nesting at sizes old top → EnterAsks l sizes old (at + 1) heads count top
   block-asks q = enter-asks (blocked-of (q .form) (q .holds) heads count c (q .ready) .block)
 
-  pub block-within : Asks BlockForm l part nesting at sizes old top → BlockFits l part heads at
-  block-within q = block-fits (blocked-of (q .form) (q .holds) heads count c (q .ready) .block) (q .ready .stands)
-
   module _ {mid : List ℕ} {up : ℕ} (g : Pushed opened l at heads count top old mid up) where
-    pub block-top : Asks BlockForm l part nesting at sizes old top → 4 * up ≤ length mid
-    block-top q = block-room (blocked-of (q .form) (q .holds) heads count c (q .ready) .block) g
+    pub block-contents : Asks BlockForm l part nesting at sizes old top → AsksContents l part heads count (nesting - 1) at sizes mid up
+    block-contents q = let b = blocked-of (q .form) (q .holds) heads count c (q .ready) in block-inner (b .block) opened g (b .entered) (q .ready .stands)
 
-    pub block-inner : Asks BlockForm l part nesting at sizes old top → AsksItems l (below part (8 * (1 + heads))) count (nesting - 1) (at + 1 + heads) sizes mid up
-    block-inner q = let b = blocked-of (q .form) (q .holds) heads count c (q .ready) in
-        record { items = b .is; scopes = blockOf (b .ds) (b .is) ∷ q .scopes; seen = namesHead (b .ds); ready = block-items (b .block) opened g (b .entered) }
-
-    module _ {r : Verdict} (y : Says r (headFlaws l (envOf mid up) (at + 1) heads)) where
-      pub block-stop : (n p : ℕ) → r ≡ Refused n p → Answers BlockForm l part nesting at sizes old mid top (Refused n p)
-      block-stop n p e =
-          record {
-            kept = g .kept;
-            same = g .same;
-            judged = λ f ss seen h q.
-                let b = blocked-of f h heads count c q in
-                rw (b .faults) (says-first r n p _ _ e (rw (block-heads (b .block) opened g (b .entered)) at y));
-          }
-
-      pub block-judged : (t : ℕ) {new : List ℕ} {s : Verdict} → r ≡ Fine t
-          → AnswersItems l (below part (8 * (1 + heads))) count (nesting - 1) (at + 1 + heads) sizes mid new up s
-          → Answers BlockForm l part nesting at sizes old new top s
-      block-judged t {new} {s} e z =
-          record {
-            kept = fewer new mid top up (g .least) (z .kept) ∙ g .kept;
-            same = z .same ∙ g .same;
-            judged = λ f ss seen h q.
-                let b = blocked-of f h heads count c q in
-                let d = z .judged (b .is) (blockOf (b .ds) (b .is) ∷ ss) (namesHead (b .ds)) (block-items (b .block) opened g (b .entered)) in
-                rw (b .faults) (says-then r s t _ _ e (rw (block-heads (b .block) opened g (b .entered)) at y) d);
-          }
+    pub block-judged : {new : List ℕ} {s : Verdict} → AnswersContents l part heads count (nesting - 1) at sizes mid new up s
+        → Answers BlockForm l part nesting at sizes old new top s
+    block-judged {new} z =
+        record {
+          kept = fewer new mid top up (g .least) (z .kept) ∙ g .kept;
+          same = z .same ∙ g .same;
+          judged = λ f ss seen h q. let b = blocked-of f h heads count c q in rw (b .faults) (block-says (b .block) opened g (b .entered) z);
+        }

@@ -5,6 +5,7 @@ use table_scopes::Verdict;
 ghost use mathlib.Core.Path.{_≡_};
 ghost use Prim.Native.Nat.{_+_, _*_};
 ghost use Rattle.table_forms.specs.Forms.{ExprForm, StmtForm, SimpleForm, GuardForm, BlockForm, BodyForm};
+ghost use Rattle.table_forms.specs.Block.{AsksContents, AnswersContents};
 ghost use Rattle.table_forms.specs.Walk.{Asks, Answers, Typed, AsksEs, AnswersEs, Alike, AsksItems, AnswersItems, operandsBy, isPlain, guardedBy, testedBy};
 
 // The expressions below an entry that has no other operands.
@@ -267,7 +268,40 @@ fn item(
     }
 }
 
-// A block: its names, then its head, then its items.
+// The head and the items of a block or a block expression, whose names are in sight.
+fn contents(
+    table: &[u8],
+    part: &[u8],
+    heads: usize,
+    count: usize,
+    nesting: usize,
+    at: usize,
+    sizes: &[u16],
+    env: &mut [u32],
+    top: usize,
+) -> Verdict
+    requires { ⌜ AsksContents (now table) (now part) heads count nesting at (now sizes) (now env) top ⌝ }
+    ensures { λ r. ⌜ AnswersContents (now (table .entry)) (now (part .entry)) heads count nesting at (now (sizes .entry)) (now (env .entry)) (now (env .exit)) top r ⌝ }
+{
+    match table_scopes::head(table, at + 1, heads, env, top) {
+        Verdict::Fine(_) => {
+            let from = ENTRY_BYTES * (1 + heads);
+            items(
+                table,
+                &part[from..],
+                count,
+                nesting,
+                at + 1 + heads,
+                sizes,
+                env,
+                top,
+            )
+        }
+        Verdict::Refused(k, p) => Verdict::Refused(k, p),
+    }
+}
+
+// A block: its names, and then what stands in it.
 fn block(
     table: &[u8],
     part: &[u8],
@@ -283,22 +317,7 @@ fn block(
     let heads = table_entries::a_at(part, 0) as usize;
     let count = table_entries::b_at(part, 0) as usize;
     let up = table_scopes::enter(table, at + 1, heads, count, 65536, sizes, env, top);
-    match table_scopes::head(table, at + 1, heads, env, up) {
-        Verdict::Fine(_) => {
-            let from = ENTRY_BYTES * (1 + heads);
-            items(
-                table,
-                &part[from..],
-                count,
-                nesting - 1,
-                at + 1 + heads,
-                sizes,
-                env,
-                up,
-            )
-        }
-        Verdict::Refused(k, p) => Verdict::Refused(k, p),
-    }
+    contents(table, part, heads, count, nesting - 1, at, sizes, env, up)
 }
 
 // A block expression: the same behind a wall, which no goto passes, and then its expression.
@@ -317,34 +336,19 @@ fn body(
     let heads = table_entries::a_at(part, 0) as usize;
     let count = table_entries::b_at(part, 0) as usize;
     let up = table_scopes::enter(table, at + 1, heads, count, 65537, sizes, env, top);
-    match table_scopes::head(table, at + 1, heads, env, up) {
+    match contents(table, part, heads, count, nesting - 1, at, sizes, env, up) {
         Verdict::Fine(_) => {
-            let from = ENTRY_BYTES * (1 + heads);
-            match items(
+            let n = table_scopes::spanned(table, sizes, at + 1 + heads, count);
+            let after = ENTRY_BYTES * (1 + heads + n);
+            expression(
                 table,
-                &part[from..],
-                count,
+                &part[after..],
                 nesting - 1,
-                at + 1 + heads,
+                at + 1 + heads + n,
                 sizes,
                 env,
                 up,
-            ) {
-                Verdict::Fine(_) => {
-                    let n = table_scopes::spanned(table, sizes, at + 1 + heads, count);
-                    let after = ENTRY_BYTES * (1 + heads + n);
-                    expression(
-                        table,
-                        &part[after..],
-                        nesting - 1,
-                        at + 1 + heads + n,
-                        sizes,
-                        env,
-                        up,
-                    )
-                }
-                Verdict::Refused(k, p) => Verdict::Refused(k, p),
-            }
+            )
         }
         Verdict::Refused(k, p) => Verdict::Refused(k, p),
     }
