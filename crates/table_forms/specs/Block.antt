@@ -13,7 +13,7 @@ use Rattle.language.specs.Table.{Entry}
 use Rattle.language.specs.Names.{Scope, blockOf}
 use Rattle.language.specs.Faults.{sizeItems, faultsHead, namesHead, faultsItems}
 use Rattle.language_laws.specs.Claims.{entriesOf}
-use Rattle.table_scopes.specs.Environment.{Item, item as pushed, envOf, addAll, Grown, opened}
+use Rattle.table_scopes.specs.Environment.{item as pushed, envOf, addAll, Grown, opened}
 use Rattle.table_scopes.specs.EnvironmentLaws.{fewer}
 use Rattle.table_entries.specs.Entries.{length-entries}
 use Rattle.table_entries.specs.Stands.{Stands, stands-tail, stands-within}

@@ -1,5 +1,5 @@
 -- A block expression: what a block has, behind a wall, and then its expression.
-use mathlib.Core.Path.{_≡_, refl, ap, sym, _∙_}
+use mathlib.Core.Path.{_≡_, refl, ap, _∙_}
 use mathlib.Core.List.{List, [], _∷_, _++_, map, append-assoc}
 use Prim.Native.Nat.{ℕ, _+_, _-_, _*_, _/_, _≤_}
 use native.Mathlib.Omega.{arith}
@@ -21,12 +21,12 @@ use Rattle.table_scopes.specs.Sizes.{Known}
 use Rattle.table_scopes.specs.declared.heads.Verdict.{Verdict}
 use Rattle.table_scopes.specs.declared.heads.Verdict.the-variants.{Fine, Refused}
 use Rattle.table_scopes.specs.Items.{blockItems}
-use Rattle.table_scopes.specs.Flaws.{Says, says-first, says-then, headFlaws}
+use Rattle.table_scopes.specs.Flaws.{Says, says-first, says-then}
 use Rattle.table_scopes.specs.Trees.{length-map, length-Items, spans-Items}
 use Rattle.table_scopes.specs.Defines.{labels-bulk, Entered, entered-expression}
 use Rattle.table_forms.specs.Forms.{Form, simple, guard, blocked, bodied, labelled, flatF, typeF, faultsF, formE, ExprForm, BodyForm, flat-E, deep-E, valid-E}
 use Rattle.table_forms.specs.Forms.{type-E, faults-E, form-expr, once-E}
-use Rattle.table_forms.specs.Walk.{roomF, Ready, Asks, Typed, ReadyItems, AsksItems, AnswersItems}
+use Rattle.table_forms.specs.Walk.{roomF, Ready, Asks, Typed, ReadyItems}
 use Rattle.table_forms.specs.Part.{head-of, table-next, room-le, below}
 use Rattle.table_forms.specs.Block.{Block, EnterAsks, enter-asks, block-items, block-inner, block-says, block-most, AsksContents, AnswersContents, Counts, Pushed}
 

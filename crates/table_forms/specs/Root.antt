@@ -28,7 +28,8 @@ use Rattle.table_scopes.specs.Trees.{length-map, typed-decls, length-Body, leng
 use Rattle.table_scopes.specs.Sees.{Sees}
 use Rattle.table_scopes.specs.Once.{OnceAll}
 use Rattle.table_scopes.specs.Defines.{OnceHead, seenHead, once-head, head-faults}
-use Rattle.table_types.specs.Types.{tyNum, code-some, is-number, eqb-comm}
+use Rattle.table_scopes.specs.Once.{eqb-comm}
+use Rattle.table_types.specs.Types.{tyNum, code-some, is-number}
 use Rattle.table_types.specs.Settles.{Types}
 use Rattle.table_forms.specs.Forms.{formS, formE, form-expr, form-stmt, flat-S, flat-E, deep-S, deep-E, valid-S, valid-E, once-S, once-E, faults-S, faults-E, type-E, StmtForm, ExprForm}
 use Rattle.table_forms.specs.Walk.{Table, Ready, Asks, Answers, Typed as TypedAs}
@@ -350,7 +351,7 @@ pub procedure-answer : {P : Global → Type 0} {l part : List ℕ} {at : ℕ} {s
     → AnswersGlobal IsProcedure l part at sizes old new top r → AnswersGlobal P l part at sizes old new top r
 procedure-answer e y = record { kept = y .kept; same = y .same; judged = λ g ss seen p q. y .judged g ss seen (is-procedure g q e) q }
 
-size-least : (g : Global) → 1 ≤ sizeGlobal g
+pub size-least : (g : Global) → 1 ≤ sizeGlobal g
 size-least (local d) = omega arith
 size-least (class c xs) = omega arith
 size-least (procedure a xs b) = omega arith

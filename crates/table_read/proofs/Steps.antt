@@ -11,7 +11,7 @@ use lib.ListN.{length, getD, drop}
 use lib.Seq.{drop-cons, drop-length}
 use borrow.Author.Tests.{eqb-true, leb-true}
 use Rattle.words.specs.Choice.{if_then_else_}
-use Rattle.language.specs.Table.{Entry, below}
+use Rattle.language.specs.Table.{Entry}
 use Rattle.language_laws.specs.Basics.{clash, both-left, both-right}
 use Rattle.language_laws.specs.Claims.{entriesOf}
 use Rattle.table_read.specs.declared.kinds.Sort.{Sort}
@@ -19,8 +19,8 @@ use Rattle.table_read.specs.declared.kinds.Sort.the-variants.{Typed, Dec
 use Rattle.table_read.specs.declared.Read.{Read}
 use Rattle.table_read.specs.declared.Read.the-variants.{Tree, Fault}
 use Rattle.table_read.specs.Operands.{isS, isE, sorts}
-use Rattle.table_read.specs.Walk.{shapeOf, leafOf, counted, moved, chain, kindAt, nameAt, sizeAt, laidAt, standsAt, atomAt, sortsAt, admits, entered, walk}
-use Rattle.table_read.proofs.Ends.{ends-shape, ends-count}
+use Rattle.table_read.specs.Walk.{leafOf, counted, moved, chain, kindAt, nameAt, sizeAt, laidAt, standsAt, atomAt, sortsAt, admits, entered, walk}
+use Rattle.table_read.proofs.Ends.{ends-count}
 use Rattle.table_read.proofs.Forms.{walks}
 use Rattle.table_entries.specs.Entries.{entries-length}
 

@@ -5,7 +5,7 @@ use crate::environment::Found;
 use crate::spans;
 use formats::entries::*;
 ghost use mathlib.Core.List.{_∷_, _++_};
-ghost use Prim.Native.Nat.{_+_, _*_, _/_, _≤_, _<_};
+ghost use Prim.Native.Nat.{_+_, _*_, _≤_, _<_};
 ghost use lib.ListN.{length};
 ghost use Rattle.table_scopes.specs.Environment.{item, addAll, envOf, Grown};
 ghost use Rattle.table_scopes.specs.Sizes.{Known};

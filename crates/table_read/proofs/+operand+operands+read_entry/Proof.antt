@@ -70,9 +70,44 @@ read-entry-at t = and 1 read-entry-kinds.ps (is 1 read-entry-kinds.ps μ-read-en
 abbrev read-entry-below : ℕ → In 1 read-entry-kinds.ps
 read-entry-below t = and 1 read-entry-kinds.ps (falls 1 read-entry-kinds.ps _<_ μ-read-entry t) read-entry.Pre
 
-operand-meets : {M : Type 1} (t : ℕ) → operand-lts.Closed (stands-reads.Asked, stands-reads.Learnt, leaf-reads.Asked, leaf-reads.Learnt, either-reads.Asked, either-reads.Learnt, kind-here-reads.Asked, kind-here-reads.Learnt, is-statement-reads.Asked, is-statement-reads.Learnt, read-entry-below t, read-entry.Post, atom-reads.Asked, atom-reads.Learnt, is-expression-reads.Asked, is-expression-reads.Learnt) (operand-at t) operand.Post M
+operand-meets : {M : Type 1} (t : ℕ) → operand-lts.Closed (
+  stands-reads.Asked,
+  stands-reads.Learnt,
+  leaf-reads.Asked,
+  leaf-reads.Learnt,
+  either-reads.Asked,
+  either-reads.Learnt,
+  kind-here-reads.Asked,
+  kind-here-reads.Learnt,
+  is-statement-reads.Asked,
+  is-statement-reads.Learnt,
+  read-entry-below t,
+  read-entry.Post,
+  atom-reads.Asked,
+  atom-reads.Learnt,
+  is-expression-reads.Asked,
+  is-expression-reads.Learnt,
+) (operand-at t) operand.Post M
 unfolding admits
-operand-meets t = operand-lts.spec (stands-reads.Asked, stands-reads.Learnt, leaf-reads.Asked, leaf-reads.Learnt, either-reads.Asked, either-reads.Learnt, kind-here-reads.Asked, kind-here-reads.Learnt, is-statement-reads.Asked, is-statement-reads.Learnt, read-entry-below t, read-entry.Post, atom-reads.Asked, atom-reads.Learnt, is-expression-reads.Asked, is-expression-reads.Learnt) (operand-at t) operand.Post
+operand-meets t =
+    operand-lts.spec (
+      stands-reads.Asked,
+      stands-reads.Learnt,
+      leaf-reads.Asked,
+      leaf-reads.Learnt,
+      either-reads.Asked,
+      either-reads.Learnt,
+      kind-here-reads.Asked,
+      kind-here-reads.Learnt,
+      is-statement-reads.Asked,
+      is-statement-reads.Learnt,
+      read-entry-below t,
+      read-entry.Post,
+      atom-reads.Asked,
+      atom-reads.Learnt,
+      is-expression-reads.Asked,
+      is-expression-reads.Learnt,
+    ) (operand-at t) operand.Post
     -- returns
     (λ c. sym (walk-none (c .before .before .args .nesting) (c .before .before .args .sort) (entriesOf (c .before .before .args .part .now)) (c .if1 .taken)))
     -- enum-told
@@ -181,8 +216,17 @@ operands-Inv-loop part kind a n nesting all rest₀ passed₀ i₀ rest passed i
 abbrev operands-μ-loop : operands-lts.MeasureT-loop
 operands-μ-loop part kind a n nesting all rest₀ passed₀ i₀ rest passed i = all - i
 
-operands-meets : {M : Type 1} (t : ℕ) → operands-lts.Closed (count-reads.Asked, count-reads.Learnt, sort-of-reads.Asked, sort-of-reads.Learnt, operand-below t, operand.Post) (operands-at t) operands.Post M
-operands-meets t = operands-lts.spec (count-reads.Asked, count-reads.Learnt, sort-of-reads.Asked, sort-of-reads.Learnt, operand-below t, operand.Post) (operands-at t) operands.Post operands-Inv-loop operands-μ-loop
+operands-meets : {M : Type 1} (t : ℕ) → operands-lts.Closed (
+  count-reads.Asked,
+  count-reads.Learnt,
+  sort-of-reads.Asked,
+  sort-of-reads.Learnt,
+  operand-below t,
+  operand.Post,
+) (operands-at t) operands.Post M
+operands-meets t =
+    operands-lts.spec (count-reads.Asked, count-reads.Learnt, sort-of-reads.Asked, sort-of-reads.Learnt, operand-below t, operand.Post)
+    (operands-at t) operands.Post operands-Inv-loop operands-μ-loop
     -- count-requires
     (λ c κs. search needs)
     -- loop-holds
@@ -243,7 +287,12 @@ operands-meets t = operands-lts.spec (count-reads.Asked, count-reads.Learnt, sor
           ∙ rw (entries-rest k (at-loop .loop .rest .now))
           (moved-moved (at-loop .loop .passed) k (chain (walk (at-start .args .nesting)) (drop (at-loop .loop .i + 1) ss) (drop k es))),
       rw (rest (8 * k) (at-loop .loop .rest .now))
-          (omega (arith, walk-fits (at-start .args .nesting) (at-sort .sort-of .result) (at-loop .loop .rest .now) (at-operand .operand .ensures), ap counted (c .before .before .k .given .1), length-drop (8 * k) (at-loop .loop .rest .now))),
+          (omega (
+            arith,
+            walk-fits (at-start .args .nesting) (at-sort .sort-of .result) (at-loop .loop .rest .now) (at-operand .operand .ensures),
+            ap counted (c .before .before .k .given .1),
+            length-drop (8 * k) (at-loop .loop .rest .now),
+          )),
       omega arith,
     ))
     -- enum-known-p
@@ -277,8 +326,31 @@ operands-meets t = operands-lts.spec (count-reads.Asked, count-reads.Learnt, sor
     ∙ ap (moved (at-loop .loop .passed)) (chain-end (walk (at-start .args .nesting)) ss (at-loop .loop .i) (entriesOf (at-loop .loop .rest .now)) end)
     ∙ ap Tree (add-zero (at-loop .loop .passed))))
 
-read-entry-meets : {M : Type 1} (t : ℕ) → read-entry-lts.Closed (laid-reads.Asked, laid-reads.Learnt, kind-of-reads.Asked, kind-of-reads.Learnt, name-of-reads.Asked, name-of-reads.Learnt, size-of-reads.Asked, size-of-reads.Learnt, operands-below t, operands.Post) (read-entry-at t) read-entry.Post M
-read-entry-meets t = read-entry-lts.spec (laid-reads.Asked, laid-reads.Learnt, kind-of-reads.Asked, kind-of-reads.Learnt, name-of-reads.Asked, name-of-reads.Learnt, size-of-reads.Asked, size-of-reads.Learnt, operands-below t, operands.Post) (read-entry-at t) read-entry.Post
+read-entry-meets : {M : Type 1} (t : ℕ) → read-entry-lts.Closed (
+  laid-reads.Asked,
+  laid-reads.Learnt,
+  kind-of-reads.Asked,
+  kind-of-reads.Learnt,
+  name-of-reads.Asked,
+  name-of-reads.Learnt,
+  size-of-reads.Asked,
+  size-of-reads.Learnt,
+  operands-below t,
+  operands.Post,
+) (read-entry-at t) read-entry.Post M
+read-entry-meets t =
+    read-entry-lts.spec (
+      laid-reads.Asked,
+      laid-reads.Learnt,
+      kind-of-reads.Asked,
+      kind-of-reads.Learnt,
+      name-of-reads.Asked,
+      name-of-reads.Learnt,
+      size-of-reads.Asked,
+      size-of-reads.Learnt,
+      operands-below t,
+      operands.Post,
+    ) (read-entry-at t) read-entry.Post
     -- laid-requires
     (λ c κs. search needs)
     -- returns
@@ -290,7 +362,8 @@ read-entry-meets t = read-entry-lts.spec (laid-reads.Asked, laid-reads.Learnt, k
     let at-if1 = c .before in
     let at-laid = at-if1 .before in
     let at-start = at-laid .before .before in
-    sym (entered-other (walk (at-start .args .nesting)) (λ k. at-start .args .admitted) (entriesOf (at-start .args .part .now)) (sym (at-laid .laid .ensures) ∙ not-false _ (at-if1 .if1 .left)) (not-true _ (c .if2 .taken))))
+    sym (entered-other (walk (at-start .args .nesting)) (λ k. at-start .args .admitted) (entriesOf (at-start .args .part .now))
+    (sym (at-laid .laid .ensures) ∙ not-false _ (at-if1 .if1 .left)) (not-true _ (c .if2 .taken))))
     -- sub-operands
     (λ c.
     let at-if1 = c .before in
@@ -336,7 +409,8 @@ read-entry-meets t = read-entry-lts.spec (laid-reads.Asked, laid-reads.Learnt, k
       c .before .size-of .ensures,
       entries-rest 1 (at-start .args .part .now),
     ) at (c .operands .ensures)
-    ∙ sym (entered-whole (walk (at-start .args .nesting)) (λ k. at-start .args .admitted) (entriesOf (at-start .args .part .now)) (sym (at-laid .laid .ensures) ∙ not-false _ (at-if1 .if1 .left)) (not-false _ (c .before .before .before .before .before .if2 .left))))
+    ∙ sym (entered-whole (walk (at-start .args .nesting)) (λ k. at-start .args .admitted) (entriesOf (at-start .args .part .now))
+    (sym (at-laid .laid .ensures) ∙ not-false _ (at-if1 .if1 .left)) (not-false _ (c .before .before .before .before .before .if2 .left))))
 
 pub +operand+operands+read-entry-spec : {M : Type 1} → statement M
 +operand+operands+read-entry-spec = close μ-operand μ-operands μ-read-entry operand-meets operands-meets read-entry-meets

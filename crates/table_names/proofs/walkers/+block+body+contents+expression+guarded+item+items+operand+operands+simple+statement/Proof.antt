@@ -13,7 +13,7 @@ use Rattle.table_forms.specs.Leaf.{leaf-judged, leaf-small}
 use Rattle.table_forms.specs.Guard.{guard-asks, guard-passes, guard-stop, guard-items, guard-stop-2, guard-judged}
 use Rattle.table_forms.specs.Block.{contents-stop, contents-judged, block-asks, block-contents, block-judged}
 use Rattle.table_forms.specs.Body.{known-from, body-asks, body-contents, body-stop, body-result, body-fits, body-judged}
-use Prim.Native.Nat.{ℕ, _+_, _-_, _*_, _≤_, _<_}
+use Prim.Native.Nat.{ℕ, _+_, _-_, _*_, _<_}
 use borrow.Fn.Kinds.{In}
 use borrow.Fn.PlainCycle.{Measures, is, falls, and}
 use Rattle.table_names.proofs.walkers.block.Reads as block
@@ -168,8 +168,27 @@ statement-at t = and 4 statement-kinds.ps (is 4 statement-kinds.ps μ-statement 
 abbrev statement-below : ℕ → In 4 statement-kinds.ps
 statement-below t = and 4 statement-kinds.ps (falls 4 statement-kinds.ps _<_ μ-statement t) statement′.Pre
 
-block-meets : {M : Type 1} (t : ℕ) → block-lts.Closed (a-at-reads.Asked, a-at-reads.Learnt, b-at-reads.Asked, b-at-reads.Learnt, enter-reads.Asked, enter-reads.Learnt, contents-below t, contents.Post) (block-at t) block.Post M
-block-meets t = block-lts.spec (a-at-reads.Asked, a-at-reads.Learnt, b-at-reads.Asked, b-at-reads.Learnt, enter-reads.Asked, enter-reads.Learnt, contents-below t, contents.Post) (block-at t) block.Post
+block-meets : {M : Type 1} (t : ℕ) → block-lts.Closed (
+  a-at-reads.Asked,
+  a-at-reads.Learnt,
+  b-at-reads.Asked,
+  b-at-reads.Learnt,
+  enter-reads.Asked,
+  enter-reads.Learnt,
+  contents-below t,
+  contents.Post,
+) (block-at t) block.Post M
+block-meets t =
+    block-lts.spec (
+      a-at-reads.Asked,
+      a-at-reads.Learnt,
+      b-at-reads.Asked,
+      b-at-reads.Learnt,
+      enter-reads.Asked,
+      enter-reads.Learnt,
+      contents-below t,
+      contents.Post,
+    ) (block-at t) block.Post
     -- a-at-requires
     (λ c κs. omega (arith, asked (c .before .before .before .before .pre .1) .long))
     -- cast-heads
@@ -193,8 +212,11 @@ block-meets t = block-lts.spec (a-at-reads.Asked, a-at-reads.Learnt, b-at-reads.
     let at-enter = c .before .before .before in
     let at-b = at-enter .before .before in
     let at-a = at-b .before in
-    let at-start = at-a .before .before .before .before .before in
-    (omega (arith, asked (at-start .pre .1) .nested), block-contents (at-a .a-at .result) (at-b .b-at .result) (at-a .a-at .ensures, at-b .b-at .ensures) (at-enter .enter .ensures) (at-start .pre .1)))
+    let at-start = at-a .before .before .before .before .before in (
+      omega (arith, asked (at-start .pre .1) .nested),
+      block-contents (at-a .a-at .result) (at-b .b-at .result)
+          (at-a .a-at .ensures, at-b .b-at .ensures) (at-enter .enter .ensures) (at-start .pre .1),
+    ))
     -- same-length
     (λ c. search needs)
     -- returns
@@ -205,8 +227,35 @@ block-meets t = block-lts.spec (a-at-reads.Asked, a-at-reads.Learnt, b-at-reads.
     let at-start = at-a .before .before .before .before .before in
     block-judged (at-a .a-at .result) (at-b .b-at .result) (at-a .a-at .ensures, at-b .b-at .ensures) (at-enter .enter .ensures) (c .before .before .contents .ensures))
 
-body-meets : {M : Type 1} (t : ℕ) → body-lts.Closed (a-at-reads.Asked, a-at-reads.Learnt, b-at-reads.Asked, b-at-reads.Learnt, enter-reads.Asked, enter-reads.Learnt, contents-below t, contents.Post, spanned-reads.Asked, spanned-reads.Learnt, expression-below t, expression.Post) (body-at t) body.Post M
-body-meets t = body-lts.spec (a-at-reads.Asked, a-at-reads.Learnt, b-at-reads.Asked, b-at-reads.Learnt, enter-reads.Asked, enter-reads.Learnt, contents-below t, contents.Post, spanned-reads.Asked, spanned-reads.Learnt, expression-below t, expression.Post) (body-at t) body.Post
+body-meets : {M : Type 1} (t : ℕ) → body-lts.Closed (
+  a-at-reads.Asked,
+  a-at-reads.Learnt,
+  b-at-reads.Asked,
+  b-at-reads.Learnt,
+  enter-reads.Asked,
+  enter-reads.Learnt,
+  contents-below t,
+  contents.Post,
+  spanned-reads.Asked,
+  spanned-reads.Learnt,
+  expression-below t,
+  expression.Post,
+) (body-at t) body.Post M
+body-meets t =
+    body-lts.spec (
+      a-at-reads.Asked,
+      a-at-reads.Learnt,
+      b-at-reads.Asked,
+      b-at-reads.Learnt,
+      enter-reads.Asked,
+      enter-reads.Learnt,
+      contents-below t,
+      contents.Post,
+      spanned-reads.Asked,
+      spanned-reads.Learnt,
+      expression-below t,
+      expression.Post,
+    ) (body-at t) body.Post
     -- a-at-requires
     (λ c κs. omega (arith, asked (c .before .before .before .before .pre .1) .long))
     -- cast-heads
@@ -250,8 +299,11 @@ body-meets t = body-lts.spec (a-at-reads.Asked, a-at-reads.Learnt, b-at-reads.As
     let at-b = at-enter .before .before in
     let at-a = at-b .before in
     let at-start = at-a .before .before .before .before .before in
-    let w = body-contents (at-a .a-at .result) (at-b .b-at .result) (at-a .a-at .ensures, at-b .b-at .ensures) (at-enter .enter .ensures) (at-start .pre .1) in
-    (known-from (at-start .args .at + 1 + at-a .a-at .result) (body-asks (at-a .a-at .result) (at-b .b-at .result) (at-a .a-at .ensures, at-b .b-at .ensures) (at-start .pre .1) .known), omega (arith, w .within)))
+    let w = body-contents (at-a .a-at .result) (at-b .b-at .result) (at-a .a-at .ensures, at-b .b-at .ensures) (at-enter .enter .ensures) (at-start .pre .1) in (
+      known-from (at-start .args .at + 1 + at-a .a-at .result) (body-asks (at-a .a-at .result) (at-b .b-at .result)
+          (at-a .a-at .ensures, at-b .b-at .ensures) (at-start .pre .1) .known),
+      omega (arith, w .within),
+    ))
     -- add-after
     (λ c.
     let at-enter = c .before .before .before .before .before .before .before .before .before in
@@ -269,7 +321,11 @@ body-meets t = body-lts.spec (a-at-reads.Asked, a-at-reads.Learnt, b-at-reads.As
     let at-b = at-enter .before .before in
     let at-a = at-b .before in
     let at-start = at-a .before .before .before .before .before in
-    omega (arith, body-fits (at-a .a-at .result) (at-b .b-at .result) (at-a .a-at .ensures, at-b .b-at .ensures) (at-enter .enter .ensures) (at-contents .contents .ensures) _ (at-spanned .spanned .result) (at-told .enum-told .given .1) (at-spanned .spanned .ensures) (at-start .pre .1)))
+    omega (
+      arith,
+      body-fits (at-a .a-at .result) (at-b .b-at .result) (at-a .a-at .ensures, at-b .b-at .ensures) (at-enter .enter .ensures)
+          (at-contents .contents .ensures) _ (at-spanned .spanned .result) (at-told .enum-told .given .1) (at-spanned .spanned .ensures) (at-start .pre .1),
+    ))
     -- mul-after
     (λ c.
     let at-spanned = c in
@@ -279,7 +335,11 @@ body-meets t = body-lts.spec (a-at-reads.Asked, a-at-reads.Learnt, b-at-reads.As
     let at-b = at-enter .before .before in
     let at-a = at-b .before in
     let at-start = at-a .before .before .before .before .before in
-    omega (arith, body-fits (at-a .a-at .result) (at-b .b-at .result) (at-a .a-at .ensures, at-b .b-at .ensures) (at-enter .enter .ensures) (at-contents .contents .ensures) _ (at-spanned .spanned .result) (at-told .enum-told .given .1) (at-spanned .spanned .ensures) (at-start .pre .1)))
+    omega (
+      arith,
+      body-fits (at-a .a-at .result) (at-b .b-at .result) (at-a .a-at .ensures, at-b .b-at .ensures) (at-enter .enter .ensures)
+          (at-contents .contents .ensures) _ (at-spanned .spanned .result) (at-told .enum-told .given .1) (at-spanned .spanned .ensures) (at-start .pre .1),
+    ))
     -- sub-expression
     (λ c.
     let at-spanned = c in
@@ -289,7 +349,8 @@ body-meets t = body-lts.spec (a-at-reads.Asked, a-at-reads.Learnt, b-at-reads.As
     let at-b = at-enter .before .before in
     let at-a = at-b .before in
     let at-start = at-a .before .before .before .before .before in
-    body-fits (at-a .a-at .result) (at-b .b-at .result) (at-a .a-at .ensures, at-b .b-at .ensures) (at-enter .enter .ensures) (at-contents .contents .ensures) _ (at-spanned .spanned .result) (at-told .enum-told .given .1) (at-spanned .spanned .ensures) (at-start .pre .1) .0)
+    body-fits (at-a .a-at .result) (at-b .b-at .result) (at-a .a-at .ensures, at-b .b-at .ensures) (at-enter .enter .ensures)
+    (at-contents .contents .ensures) _ (at-spanned .spanned .result) (at-told .enum-told .given .1) (at-spanned .spanned .ensures) (at-start .pre .1) .0)
     -- part-expression-start
     (λ c.
     let at-spanned = c in
@@ -299,7 +360,8 @@ body-meets t = body-lts.spec (a-at-reads.Asked, a-at-reads.Learnt, b-at-reads.As
     let at-b = at-enter .before .before in
     let at-a = at-b .before in
     let at-start = at-a .before .before .before .before .before in
-    body-fits (at-a .a-at .result) (at-b .b-at .result) (at-a .a-at .ensures, at-b .b-at .ensures) (at-enter .enter .ensures) (at-contents .contents .ensures) _ (at-spanned .spanned .result) (at-told .enum-told .given .1) (at-spanned .spanned .ensures) (at-start .pre .1) .0)
+    body-fits (at-a .a-at .result) (at-b .b-at .result) (at-a .a-at .ensures, at-b .b-at .ensures) (at-enter .enter .ensures)
+    (at-contents .contents .ensures) _ (at-spanned .spanned .result) (at-told .enum-told .given .1) (at-spanned .spanned .ensures) (at-start .pre .1) .0)
     -- part-expression-end
     (λ c. search needs)
     -- sub-expression-2
@@ -331,7 +393,11 @@ body-meets t = body-lts.spec (a-at-reads.Asked, a-at-reads.Learnt, b-at-reads.As
     let at-b = at-enter .before .before in
     let at-a = at-b .before in
     let at-start = at-a .before .before .before .before .before in
-    omega (arith, body-fits (at-a .a-at .result) (at-b .b-at .result) (at-a .a-at .ensures, at-b .b-at .ensures) (at-enter .enter .ensures) (at-contents .contents .ensures) _ (at-spanned .spanned .result) (at-told .enum-told .given .1) (at-spanned .spanned .ensures) (at-start .pre .1)))
+    omega (
+      arith,
+      body-fits (at-a .a-at .result) (at-b .b-at .result) (at-a .a-at .ensures, at-b .b-at .ensures) (at-enter .enter .ensures)
+          (at-contents .contents .ensures) _ (at-spanned .spanned .result) (at-told .enum-told .given .1) (at-spanned .spanned .ensures) (at-start .pre .1),
+    ))
     -- add-expression-3
     (λ c.
     let at-spanned = c .before in
@@ -341,7 +407,11 @@ body-meets t = body-lts.spec (a-at-reads.Asked, a-at-reads.Learnt, b-at-reads.As
     let at-b = at-enter .before .before in
     let at-a = at-b .before in
     let at-start = at-a .before .before .before .before .before in
-    omega (arith, body-fits (at-a .a-at .result) (at-b .b-at .result) (at-a .a-at .ensures, at-b .b-at .ensures) (at-enter .enter .ensures) (at-contents .contents .ensures) _ (at-spanned .spanned .result) (at-told .enum-told .given .1) (at-spanned .spanned .ensures) (at-start .pre .1)))
+    omega (
+      arith,
+      body-fits (at-a .a-at .result) (at-b .b-at .result) (at-a .a-at .ensures, at-b .b-at .ensures) (at-enter .enter .ensures)
+          (at-contents .contents .ensures) _ (at-spanned .spanned .result) (at-told .enum-told .given .1) (at-spanned .spanned .ensures) (at-start .pre .1),
+    ))
     -- expression-requires
     (λ c κs.
     let at-spanned = c .before .before in
@@ -350,8 +420,12 @@ body-meets t = body-lts.spec (a-at-reads.Asked, a-at-reads.Learnt, b-at-reads.As
     let at-enter = at-contents .before .before .before .before in
     let at-b = at-enter .before .before in
     let at-a = at-b .before in
-    let at-start = at-a .before .before .before .before .before in
-    (omega (arith, asked (at-start .pre .1) .nested), body-result (at-a .a-at .result) (at-b .b-at .result) (at-a .a-at .ensures, at-b .b-at .ensures) (at-enter .enter .ensures) (at-contents .contents .ensures) _ (at-spanned .spanned .result) (at-told .enum-told .given .1) (at-spanned .spanned .ensures) (at-start .pre .1)))
+    let at-start = at-a .before .before .before .before .before in (
+      omega (arith, asked (at-start .pre .1) .nested),
+      body-result (at-a .a-at .result) (at-b .b-at .result) (at-a .a-at .ensures, at-b .b-at .ensures)
+          (at-enter .enter .ensures) (at-contents .contents .ensures) _ (at-spanned .spanned .result) (at-told .enum-told .given .1)
+          (at-spanned .spanned .ensures) (at-start .pre .1),
+    ))
     -- enum-known-k
     (λ c. search needs)
     -- same-length
@@ -365,7 +439,9 @@ body-meets t = body-lts.spec (a-at-reads.Asked, a-at-reads.Learnt, b-at-reads.As
     let at-b = at-enter .before .before in
     let at-a = at-b .before in
     let at-start = at-a .before .before .before .before .before in
-    body-judged (at-a .a-at .result) (at-b .b-at .result) (at-a .a-at .ensures, at-b .b-at .ensures) (at-enter .enter .ensures) (at-contents .contents .ensures) _ (at-spanned .spanned .result) (at-told .enum-told .given .1) (at-spanned .spanned .ensures) (c .before .before .expression .ensures))
+    body-judged (at-a .a-at .result) (at-b .b-at .result) (at-a .a-at .ensures, at-b .b-at .ensures) (at-enter .enter .ensures)
+    (at-contents .contents .ensures) _ (at-spanned .spanned .result) (at-told .enum-told .given .1) (at-spanned .spanned .ensures)
+    (c .before .before .expression .ensures))
     -- same-length-2
     (λ c. search needs)
     -- returns-2
@@ -406,7 +482,8 @@ contents-meets t = contents-lts.spec (head-reads.Asked, head-reads.Learnt, items
     -- same-length
     (λ c. search needs)
     -- returns
-    (λ c. contents-judged (c .before .before .before .before .before .before .before .head .ensures) _ (c .before .before .before .before .before .enum-told .given .1) (c .before .before .items .ensures))
+    (λ c. contents-judged (c .before .before .before .before .before .before .before .head .ensures) _
+    (c .before .before .before .before .before .enum-told .given .1) (c .before .before .items .ensures))
     -- same-length-2
     (λ c. search needs)
     -- returns-2
@@ -489,84 +566,64 @@ guarded-meets t =
     -- add-expression
     (λ c. omega (arith, asked (c .before .before .before .before .before .before .before .before .pre .1) .small))
     -- expression-requires
-    (λ c κs. (
-      omega (arith, asked (c .before .before .before .before .before .before .before .before .before .pre .1) .nested),
-      guard-asks (c .before .before .guarded-of .result) (c .before .before .guarded-of .ensures
-          ∙ rw (c .before .before .before .before .kind-at .ensures, c .before .before .before .a-at .ensures))
-          (c .before .before .before .before .before .before .before .before .before .pre .1),
+    (λ c κs.
+    let at-count = c .before .before in
+    let at-a = at-count .before in
+    let at-kind = at-a .before in
+    let at-start = at-kind .before .before .before .before .before in (
+      omega (arith, asked (at-start .pre .1) .nested),
+      guard-asks (at-count .guarded-of .result)
+          (at-count .guarded-of .ensures ∙ rw (at-kind .kind-at .ensures, at-a .a-at .ensures)) (at-start .pre .1),
     ))
     -- enum-known-t
     (λ c. search needs)
     -- add-size-at
     (λ c. omega (arith, asked (c .before .before .before .before .before .before .before .before .before .before .before .before .before .before .before .pre .1) .small))
     -- size-at-requires
-    (λ c κs. guard-passes (c .before .before .before .before .before .before .before .before .guarded-of .result)
-    (c .before .before .before .before .before .before .before .before .guarded-of .ensures
-    ∙ rw (
-      c .before .before .before .before .before .before .before .before .before .before .kind-at .ensures,
-      c .before .before .before .before .before .before .before .before .before .a-at .ensures,
-    ))
-    (c .before .before .before .before .before .before .before .before .before .before .before .before .before .before .before .pre .1) _ refl .known)
+    (λ c κs.
+    let at-count = c .before .before .before .before .before .before .before .before in
+    let at-a = at-count .before in
+    let at-kind = at-a .before in
+    let at-start = at-kind .before .before .before .before .before in
+    guard-passes (at-count .guarded-of .result) (at-count .guarded-of .ensures ∙ rw (at-kind .kind-at .ensures, at-a .a-at .ensures)) (at-start .pre .1) _ refl .known)
     -- add-from
-    (λ c. omega (
-      arith,
-      guard-passes (c .before .before .before .before .before .before .before .before .before .guarded-of .result)
-          (c .before .before .before .before .before .before .before .before .before .guarded-of .ensures
-          ∙ rw (
-            c .before .before .before .before .before .before .before .before .before .before .before .kind-at .ensures,
-            c .before .before .before .before .before .before .before .before .before .before .a-at .ensures,
-          ))
-          (c .before .before .before .before .before .before .before .before .before .before .before .before .before .before .before .before .pre .1)
-          (c .size-at .result) (c .size-at .ensures) .fits,
-      guard-passes
-          (c .before .before .before .before .before .before .before .before .before .guarded-of .result)
-          (c .before .before .before .before .before .before .before .before .before .guarded-of .ensures
-          ∙ rw (
-            c .before .before .before .before .before .before .before .before .before .before .before .kind-at .ensures,
-            c .before .before .before .before .before .before .before .before .before .before .a-at .ensures,
-          ))
-          (c .before .before .before .before .before .before .before .before .before .before .before .before .before .before .before .before .pre .1)
-          (c .size-at .result) (c .size-at .ensures) .small,
-    ))
+    (λ c.
+    let at-size = c in
+    let at-count = c .before .before .before .before .before .before .before .before .before in
+    let at-a = at-count .before in
+    let at-kind = at-a .before in
+    let at-start = at-kind .before .before .before .before .before in
+    let w = guard-passes (at-count .guarded-of .result) (at-count .guarded-of .ensures ∙ rw (at-kind .kind-at .ensures, at-a .a-at .ensures))
+    (at-start .pre .1) (at-size .size-at .result) (at-size .size-at .ensures) in
+    omega (arith, w .fits, w .small))
     -- mul-from
-    (λ c. omega (
-      arith,
-      guard-passes (c .before .before .before .before .before .before .before .before .before .guarded-of .result)
-          (c .before .before .before .before .before .before .before .before .before .guarded-of .ensures
-          ∙ rw (
-            c .before .before .before .before .before .before .before .before .before .before .before .kind-at .ensures,
-            c .before .before .before .before .before .before .before .before .before .before .a-at .ensures,
-          ))
-          (c .before .before .before .before .before .before .before .before .before .before .before .before .before .before .before .before .pre .1)
-          (c .size-at .result) (c .size-at .ensures) .fits,
-      guard-passes
-          (c .before .before .before .before .before .before .before .before .before .guarded-of .result)
-          (c .before .before .before .before .before .before .before .before .before .guarded-of .ensures
-          ∙ rw (
-            c .before .before .before .before .before .before .before .before .before .before .before .kind-at .ensures,
-            c .before .before .before .before .before .before .before .before .before .before .a-at .ensures,
-          ))
-          (c .before .before .before .before .before .before .before .before .before .before .before .before .before .before .before .before .pre .1)
-          (c .size-at .result) (c .size-at .ensures) .small,
-    ))
+    (λ c.
+    let at-size = c in
+    let at-count = c .before .before .before .before .before .before .before .before .before in
+    let at-a = at-count .before in
+    let at-kind = at-a .before in
+    let at-start = at-kind .before .before .before .before .before in
+    let w = guard-passes (at-count .guarded-of .result) (at-count .guarded-of .ensures ∙ rw (at-kind .kind-at .ensures, at-a .a-at .ensures))
+    (at-start .pre .1) (at-size .size-at .result) (at-size .size-at .ensures) in
+    omega (arith, w .fits, w .small))
     -- sub-items
-    (λ c. guard-passes (c .before .before .before .before .before .before .before .before .before .guarded-of .result)
-    (c .before .before .before .before .before .before .before .before .before .guarded-of .ensures
-    ∙ rw (
-      c .before .before .before .before .before .before .before .before .before .before .before .kind-at .ensures,
-      c .before .before .before .before .before .before .before .before .before .before .a-at .ensures,
-    ))
-    (c .before .before .before .before .before .before .before .before .before .before .before .before .before .before .before .before .pre .1)
-    (c .size-at .result) (c .size-at .ensures) .fits)
+    (λ c.
+    let at-size = c in
+    let at-count = c .before .before .before .before .before .before .before .before .before in
+    let at-a = at-count .before in
+    let at-kind = at-a .before in
+    let at-start = at-kind .before .before .before .before .before in
+    guard-passes (at-count .guarded-of .result) (at-count .guarded-of .ensures ∙ rw (at-kind .kind-at .ensures, at-a .a-at .ensures))
+    (at-start .pre .1) (at-size .size-at .result) (at-size .size-at .ensures) .fits)
     -- part-items-start
-    (λ c. guard-passes (c .before .before .before .before .before .before .before .before .before .guarded-of .result)
-    (c .before .before .before .before .before .before .before .before .before .guarded-of .ensures
-    ∙ rw (
-      c .before .before .before .before .before .before .before .before .before .before .before .kind-at .ensures,
-      c .before .before .before .before .before .before .before .before .before .before .a-at .ensures,
-    ))
-    (c .before .before .before .before .before .before .before .before .before .before .before .before .before .before .before .before .pre .1)
-    (c .size-at .result) (c .size-at .ensures) .fits)
+    (λ c.
+    let at-size = c in
+    let at-count = c .before .before .before .before .before .before .before .before .before in
+    let at-a = at-count .before in
+    let at-kind = at-a .before in
+    let at-start = at-kind .before .before .before .before .before in
+    guard-passes (at-count .guarded-of .result) (at-count .guarded-of .ensures ∙ rw (at-kind .kind-at .ensures, at-a .a-at .ensures))
+    (at-start .pre .1) (at-size .size-at .result) (at-size .size-at .ensures) .fits)
     -- part-items-end
     (λ c. search needs)
     -- sub-items-2
@@ -574,37 +631,27 @@ guarded-meets t =
     -- add-items
     (λ c. omega (arith, asked (c .before .before .before .before .before .before .before .before .before .before .before .before .before .before .before .before .before .pre .1) .small))
     -- add-items-2
-    (λ c. omega (
-      arith,
-      guard-passes (c .before .before .before .before .before .before .before .before .before .before .guarded-of .result)
-          (c .before .before .before .before .before .before .before .before .before .before .guarded-of .ensures
-          ∙ rw (
-            c .before .before .before .before .before .before .before .before .before .before .before .before .kind-at .ensures,
-            c .before .before .before .before .before .before .before .before .before .before .before .a-at .ensures,
-          ))
-          (c .before .before .before .before .before .before .before .before .before .before .before .before .before .before .before .before .before .pre .1)
-          (c .before .size-at .result) (c .before .size-at .ensures) .fits,
-      guard-passes (c .before .before .before .before .before .before .before .before .before .before .guarded-of .result)
-          (c .before .before .before .before .before .before .before .before .before .before .guarded-of .ensures
-          ∙ rw (
-            c .before .before .before .before .before .before .before .before .before .before .before .before .kind-at .ensures,
-            c .before .before .before .before .before .before .before .before .before .before .before .a-at .ensures,
-          ))
-          (c .before .before .before .before .before .before .before .before .before .before .before .before .before .before .before .before .before .pre .1)
-          (c .before .size-at .result) (c .before .size-at .ensures) .small,
-    ))
+    (λ c.
+    let at-size = c .before in
+    let at-count = c .before .before .before .before .before .before .before .before .before .before in
+    let at-a = at-count .before in
+    let at-kind = at-a .before in
+    let at-start = at-kind .before .before .before .before .before in
+    let w = guard-passes (at-count .guarded-of .result) (at-count .guarded-of .ensures ∙ rw (at-kind .kind-at .ensures, at-a .a-at .ensures))
+    (at-start .pre .1) (at-size .size-at .result) (at-size .size-at .ensures) in
+    omega (arith, w .fits, w .small))
     -- items-requires
-    (λ c κs. (
-      omega (arith, asked (c .before .before .before .before .before .before .before .before .before .before .before .before .before .before .before .before .before .before .pre .1) .nested),
-      guard-items (c .before .before .before .before .before .before .before .before .before .before .before .guarded-of .result)
-          (c .before .before .before .before .before .before .before .before .before .before .before .guarded-of .ensures
-          ∙ rw (
-            c .before .before .before .before .before .before .before .before .before .before .before .before .before .kind-at .ensures,
-            c .before .before .before .before .before .before .before .before .before .before .before .before .a-at .ensures,
-          ))
-          (c .before .before .before .before .before .before .before .before .expression .ensures) _ (c .before .before .size-at .result)
-          (c .before .before .before .before .t .given .1) (c .before .before .size-at .ensures)
-          (c .before .before .before .before .before .before .before .before .before .before .before .before .before .before .before .before .before .before .pre .1),
+    (λ c κs.
+    let at-size = c .before .before in
+    let at-test = at-size .before .before .before .before .before .before in
+    let at-count = c .before .before .before .before .before .before .before .before .before .before .before in
+    let at-a = at-count .before in
+    let at-kind = at-a .before in
+    let at-start = at-kind .before .before .before .before .before in (
+      omega (arith, asked (at-start .pre .1) .nested),
+      guard-items (at-count .guarded-of .result)
+          (at-count .guarded-of .ensures ∙ rw (at-kind .kind-at .ensures, at-a .a-at .ensures)) (at-test .expression .ensures) _
+          (at-size .size-at .result) (at-size .before .before .t .given .1) (at-size .size-at .ensures) (at-start .pre .1),
     ))
     -- enum-told
     (λ c. search needs)
@@ -617,41 +664,36 @@ guarded-meets t =
     -- same-length
     (λ c. search needs)
     -- returns
-    (λ c. guard-judged (c .before .before .before .before .before .before .before .before .before .before .before .before .before .before .before .before .before .guarded-of .result)
-    (c .before .before .before .before .before .before .before .before .before .before .before .before .before .before .before .before .before .guarded-of .ensures
-    ∙ rw (
-      c .before .before .before .before .before .before .before .before .before .before .before .before .before .before .before .before .before .before .before .kind-at .ensures,
-      c .before .before .before .before .before .before .before .before .before .before .before .before .before .before .before .before .before .before .a-at .ensures,
-    ))
-    (c .before .before .before .before .before .before .before .before .before .before .before .before .before .before .expression .ensures) _
-    (c .before .before .before .before .before .before .before .before .size-at .result)
-    (c .before .before .before .before .before .before .before .before .before .before .t .given .1)
-    (c .before .before .before .before .before .before .before .before .size-at .ensures)
+    (λ c.
+    let at-size = c .before .before .before .before .before .before .before .before in
+    let at-test = at-size .before .before .before .before .before .before in
+    let at-count = c .before .before .before .before .before .before .before .before .before .before .before .before .before .before .before .before .before in
+    let at-a = at-count .before in
+    let at-kind = at-a .before in
+    guard-judged (at-count .guarded-of .result) (at-count .guarded-of .ensures ∙ rw (at-kind .kind-at .ensures, at-a .a-at .ensures))
+    (at-test .expression .ensures) _ (at-size .size-at .result) (at-size .before .before .t .given .1) (at-size .size-at .ensures)
     (c .before .before .before .before .before .items .ensures) _ (c .before .enum-told .given .1)
-    (c .tested .ensures ∙ rw (c .before .before .before .before .before .before .before .before .before .before .before .before .before .before .before .before .before .before .before .kind-at .ensures)))
+    (c .tested .ensures ∙ rw (at-kind .kind-at .ensures)))
     -- same-length-2
     (λ c. search needs)
     -- returns-2
-    (λ c. guard-stop-2 (c .before .before .before .before .before .before .before .before .before .before .before .before .before .before .before .before .before .guarded-of .result)
-    (c .before .before .before .before .before .before .before .before .before .before .before .before .before .before .before .before .before .guarded-of .ensures
-    ∙ rw (
-      c .before .before .before .before .before .before .before .before .before .before .before .before .before .before .before .before .before .before .before .kind-at .ensures,
-      c .before .before .before .before .before .before .before .before .before .before .before .before .before .before .before .before .before .before .a-at .ensures,
-    ))
-    (c .before .before .before .before .before .before .before .before .before .before .before .before .before .before .expression .ensures) _
-    (c .before .before .before .before .before .before .before .before .size-at .result)
-    (c .before .before .before .before .before .before .before .before .before .before .t .given .1)
-    (c .before .before .before .before .before .before .before .before .size-at .ensures)
+    (λ c.
+    let at-size = c .before .before .before .before .before .before .before .before in
+    let at-test = at-size .before .before .before .before .before .before in
+    let at-count = c .before .before .before .before .before .before .before .before .before .before .before .before .before .before .before .before .before in
+    let at-a = at-count .before in
+    let at-kind = at-a .before in
+    guard-stop-2 (at-count .guarded-of .result) (at-count .guarded-of .ensures ∙ rw (at-kind .kind-at .ensures, at-a .a-at .ensures))
+    (at-test .expression .ensures) _ (at-size .size-at .result) (at-size .before .before .t .given .1) (at-size .size-at .ensures)
     (c .before .before .before .before .before .items .ensures) _ _ (c .before .k .given .1))
     -- same-length-3
     (λ c. search needs)
     -- returns-3
-    (λ c. guard-stop (c .before .before .before .before .before .before .before .before .guarded-of .result)
-    (c .before .before .before .before .before .before .before .before .guarded-of .ensures
-    ∙ rw (
-      c .before .before .before .before .before .before .before .before .before .before .kind-at .ensures,
-      c .before .before .before .before .before .before .before .before .before .a-at .ensures,
-    ))
+    (λ c.
+    let at-count = c .before .before .before .before .before .before .before .before in
+    let at-a = at-count .before in
+    let at-kind = at-a .before in
+    guard-stop (at-count .guarded-of .result) (at-count .guarded-of .ensures ∙ rw (at-kind .kind-at .ensures, at-a .a-at .ensures))
     (c .before .before .before .before .before .expression .ensures) _ _ (c .before .k2 .given .1))
 
 item-meets : {M : Type 1} (t : ℕ) → item-lts.Closed (
@@ -706,49 +748,52 @@ items-μ-loop table part count nesting at sizes env₀ top rest₀ place₀ left
 items-meets : {M : Type 1} (t : ℕ) → items-lts.Closed (item-below t, item.Post, size-at-reads.Asked, size-at-reads.Learnt) (items-at t) items.Post M
 items-meets t = items-lts.spec (item-below t, item.Post, size-at-reads.Asked, size-at-reads.Learnt) (items-at t) items.Post items-Inv-loop items-μ-loop
     -- loop-holds
-    (λ c. items-start (c .before .before .before .before .args .table .now) (c .before .before .before .before .args .part .now)
-    (c .before .before .before .before .args .count) (c .before .before .before .before .args .nesting)
-    (c .before .before .before .before .args .at) (c .before .before .before .before .args .sizes .now)
-    (c .before .before .before .before .args .env .now) (c .before .before .before .before .args .top))
+    (λ c.
+    let at-start = c .before .before .before .before in
+    items-start (at-start .args .table .now) (at-start .args .part .now) (at-start .args .count) (at-start .args .nesting)
+    (at-start .args .at) (at-start .args .sizes .now) (at-start .args .env .now) (at-start .args .top))
     -- item-requires
-    (λ c κs. (omega arith, items-asks (c .before .before .loop .inv) (omega arith) (c .before .before .before .before .before .before .before .pre .1)))
+    (λ c κs.
+    let at-loop = c .before .before in
+    let at-start = at-loop .before .before .before .before .before in
+    (omega arith, items-asks (at-loop .loop .inv) (omega arith) (at-start .pre .1)))
     -- enum-told
     (λ c. search needs)
     -- size-at-requires
-    (λ c κs. items-passes (c .before .before .before .before .before .before .before .loop .inv) (omega arith)
-    (c .before .before .before .before .before .before .before .before .before .before .before .before .pre .1) _ refl .known)
+    (λ c κs.
+    let at-loop = c .before .before .before .before .before .before .before in
+    let at-start = at-loop .before .before .before .before .before in
+    items-passes (at-loop .loop .inv) (omega arith) (at-start .pre .1) _ refl .known)
     -- mul-from
-    (λ c. omega (
-      arith,
-      items-passes (c .before .before .before .before .before .before .before .before .loop .inv) (omega arith)
-          (c .before .before .before .before .before .before .before .before .before .before .before .before .before .pre .1) (c .size-at .result)
-          (c .size-at .ensures) .small,
-    ))
+    (λ c.
+    let at-loop = c .before .before .before .before .before .before .before .before in
+    let at-start = at-loop .before .before .before .before .before in
+    omega (arith, items-passes (at-loop .loop .inv) (omega arith) (at-start .pre .1) (c .size-at .result) (c .size-at .ensures) .small))
     -- sub-rest
-    (λ c. items-passes (c .before .before .before .before .before .before .before .before .loop .inv) (omega arith)
-    (c .before .before .before .before .before .before .before .before .before .before .before .before .before .pre .1) (c .size-at .result)
-    (c .size-at .ensures) .fits)
+    (λ c.
+    let at-loop = c .before .before .before .before .before .before .before .before in
+    let at-start = at-loop .before .before .before .before .before in
+    items-passes (at-loop .loop .inv) (omega arith) (at-start .pre .1) (c .size-at .result) (c .size-at .ensures) .fits)
     -- part-rest-start
-    (λ c. items-passes (c .before .before .before .before .before .before .before .before .loop .inv) (omega arith)
-    (c .before .before .before .before .before .before .before .before .before .before .before .before .before .pre .1) (c .size-at .result)
-    (c .size-at .ensures) .fits)
+    (λ c.
+    let at-loop = c .before .before .before .before .before .before .before .before in
+    let at-start = at-loop .before .before .before .before .before in
+    items-passes (at-loop .loop .inv) (omega arith) (at-start .pre .1) (c .size-at .result) (c .size-at .ensures) .fits)
     -- part-rest-end
     (λ c. search needs)
     -- add-place
-    (λ c. omega (
-      arith,
-      items-passes (c .before .before .before .before .before .before .before .before .before .loop .inv) (omega arith)
-          (c .before .before .before .before .before .before .before .before .before .before .before .before .before .before .pre .1)
-          (c .before .size-at .result) (c .before .size-at .ensures) .small,
-    ))
+    (λ c.
+    let at-loop = c .before .before .before .before .before .before .before .before .before in
+    let at-start = at-loop .before .before .before .before .before in
+    omega (arith, items-passes (at-loop .loop .inv) (omega arith) (at-start .pre .1) (c .before .size-at .result) (c .before .size-at .ensures) .small))
     -- sub-left
     (λ c. omega arith)
     -- loop-less
     (λ c. omega arith)
     -- loop-again
     (λ c. items-next (c .before .before .before .before .before .before .before .before .before .loop .inv) (omega arith) _
-    (c .before .size-at .result) (c .before .before .before .before .before .before .item .ensures) (c .before .before .enum-told .given .1)
-    (c .before .size-at .ensures))
+    (c .before .size-at .result) (c .before .before .before .before .before .before .item .ensures)
+    (c .before .before .enum-told .given .1) (c .before .size-at .ensures))
     -- enum-known-k
     (λ c. search needs)
     -- same-length
@@ -834,27 +879,27 @@ operands-meets t =
     operands-lts.spec (operand-below t, operand.Post, push-reads.Asked, push-reads.Learnt, size-at-reads.Asked, size-at-reads.Learnt)
     (operands-at t) operands.Post operands-Inv-loop operands-μ-loop
     -- loop-holds
-    (λ c. es-start (c .before .before .before .before .args .table .now) (c .before .before .before .before .args .part .now)
-    (c .before .before .before .before .args .count) (c .before .before .before .before .args .nesting)
-    (c .before .before .before .before .args .at) (c .before .before .before .before .args .sizes .now)
-    (c .before .before .before .before .args .env .now) (c .before .before .before .before .args .top))
+    (λ c.
+    let at-start = c .before .before .before .before in
+    es-start (at-start .args .table .now) (at-start .args .part .now) (at-start .args .count) (at-start .args .nesting)
+    (at-start .args .at) (at-start .args .sizes .now) (at-start .args .env .now) (at-start .args .top))
     -- operand-requires
-    (λ c κs. (omega arith, (es-asks (c .before .before .loop .inv) (omega arith) (c .before .before .before .before .before .before .before .pre .1), c .before .before .loop .inv .alike)))
+    (λ c κs.
+    let at-loop = c .before .before in
+    let at-start = at-loop .before .before .before .before .before in
+    (omega arith, (es-asks (at-loop .loop .inv) (omega arith) (at-start .pre .1), at-loop .loop .inv .alike)))
     -- enum-known-t
     (λ c. search needs)
     -- add-push
-    (λ c. omega (
-      arith,
-      es-room (c .before .before .before .before .before .before .before .before .before .loop .inv) (omega arith)
-          (c .before .before .before .before .before .before .before .before .before .before .before .before .before .before .pre .1),
-    ))
+    (λ c.
+    let at-loop = c .before .before .before .before .before .before .before .before .before in
+    let at-start = at-loop .before .before .before .before .before in
+    omega (arith, es-room (at-loop .loop .inv) (omega arith) (at-start .pre .1)))
     -- push-requires
-    (λ c κs. omega (
-      arith,
-      es-room (c .before .before .before .before .before .before .before .before .before .loop .inv) (omega arith)
-          (c .before .before .before .before .before .before .before .before .before .before .before .before .before .before .pre .1),
-      c .before .before .before .before .before .before .operand .ensures .same,
-    ))
+    (λ c κs.
+    let at-loop = c .before .before .before .before .before .before .before .before .before in
+    let at-start = at-loop .before .before .before .before .before in
+    omega (arith, es-room (at-loop .loop .inv) (omega arith) (at-start .pre .1), c .before .before .before .before .before .before .operand .ensures .same))
     -- size-at-requires
     (λ c κs. es-passes (c .before .before .before .before .before .before .before .before .before .before .before .before .loop .inv) (omega arith)
     (c .before .before .before .before .before .before .before .before .before .before .before .before .before .before .before .before .before .pre .1) _ refl .known)
@@ -956,11 +1001,14 @@ simple-meets t =
     -- add-operands
     (λ c. omega (arith, asked (c .before .before .before .before .before .before .before .before .before .pre .1) .small))
     -- operands-requires
-    (λ c κs. (
-      omega (arith, asked (c .before .before .before .before .before .before .before .before .before .before .pre .1) .nested),
-      simple-asks (c .before .before .operands-of .result) (c .before .before .operands-of .ensures
-          ∙ rw (c .before .before .before .before .before .kind-at .ensures, c .before .before .before .b-at .ensures))
-          (c .before .before .before .before .before .before .before .before .before .before .pre .1),
+    (λ c κs.
+    let at-count = c .before .before in
+    let at-b = at-count .before in
+    let at-kind = at-b .before .before in
+    let at-start = at-kind .before .before .before .before .before in (
+      omega (arith, asked (at-start .pre .1) .nested),
+      simple-asks (at-count .operands-of .result)
+          (at-count .operands-of .ensures ∙ rw (at-kind .kind-at .ensures, at-b .b-at .ensures)) (at-start .pre .1),
     ))
     -- enum-told
     (λ c. search needs)
@@ -969,40 +1017,36 @@ simple-meets t =
     -- cast-settle-2
     (λ c. search needs)
     -- settle-requires
-    (λ c κs. rw (c .before .before .before .before .before .before .before .before .before .before .a-at .ensures)
-    (settle-asks (c .before .before .before .before .before .before .before .before .operands-of .result)
-    (c .before .before .before .before .before .before .before .before .operands-of .ensures
-    ∙ rw (
-      c .before .before .before .before .before .before .before .before .before .before .before .kind-at .ensures,
-      c .before .before .before .before .before .before .before .before .before .b-at .ensures,
-    ))
-    (c .before .before .before .before .before .operands .ensures)
-    (c .before .before .before .before .before .before .before .before .before .before .before .before .before .before .before .before .pre .1)))
+    (λ c κs.
+    let at-count = c .before .before .before .before .before .before .before .before in
+    let at-b = at-count .before in
+    let at-a = at-b .before in
+    let at-kind = at-a .before in
+    let at-start = at-kind .before .before .before .before .before in
+    rw (at-a .a-at .ensures) (settle-asks (at-count .operands-of .result)
+    (at-count .operands-of .ensures ∙ rw (at-kind .kind-at .ensures, at-b .b-at .ensures))
+    (c .before .before .before .before .before .operands .ensures) (at-start .pre .1)))
     -- enum-known-n
     (λ c. search needs)
     -- same-length
     (λ c. search needs)
     -- returns
-    (λ c. simple-judged (c .before .before .before .before .before .before .before .before .before .operands-of .result)
-    (c .before .before .before .before .before .before .before .before .before .operands-of .ensures
-    ∙ rw (
-      c .before .before .before .before .before .before .before .before .before .before .before .before .kind-at .ensures,
-      c .before .before .before .before .before .before .before .before .before .before .b-at .ensures,
-    ))
+    (λ c.
+    let at-count = c .before .before .before .before .before .before .before .before .before in
+    let at-b = at-count .before in
+    let at-a = at-b .before in
+    let at-kind = at-a .before in
+    simple-judged (at-count .operands-of .result) (at-count .operands-of .ensures ∙ rw (at-kind .kind-at .ensures, at-b .b-at .ensures))
     (c .before .before .before .before .before .before .operands .ensures) _ (c .before .before .enum-told .given .1)
-    (c .settle .ensures ∙ rw (
-      c .before .before .before .before .before .before .before .before .before .before .before .before .kind-at .ensures,
-      c .before .before .before .before .before .before .before .before .before .before .before .a-at .ensures,
-    )))
+    (c .settle .ensures ∙ rw (at-kind .kind-at .ensures, at-a .a-at .ensures)))
     -- same-length-2
     (λ c. search needs)
     -- returns-2
-    (λ c. simple-stop (c .before .before .before .before .before .before .before .before .operands-of .result)
-    (c .before .before .before .before .before .before .before .before .operands-of .ensures
-    ∙ rw (
-      c .before .before .before .before .before .before .before .before .before .before .before .kind-at .ensures,
-      c .before .before .before .before .before .before .before .before .before .b-at .ensures,
-    ))
+    (λ c.
+    let at-count = c .before .before .before .before .before .before .before .before in
+    let at-b = at-count .before in
+    let at-kind = at-b .before .before in
+    simple-stop (at-count .operands-of .result) (at-count .operands-of .ensures ∙ rw (at-kind .kind-at .ensures, at-b .b-at .ensures))
     (c .before .before .before .before .before .operands .ensures) _ _ (c .before .n .given .1))
 
 statement-meets : {M : Type 1} (t : ℕ) → statement-lts.Closed (
@@ -1124,4 +1168,6 @@ statement-meets t =
     (c .before .before .simple .ensures))
 
 pub +block+body+contents+expression+guarded+item+items+operand+operands+simple+statement-spec : {M : Type 1} → statement M
-+block+body+contents+expression+guarded+item+items+operand+operands+simple+statement-spec = close μ-block μ-body μ-contents μ-expression μ-guarded μ-item μ-items μ-operand μ-operands μ-simple μ-statement block-meets body-meets contents-meets expression-meets guarded-meets item-meets items-meets operand-meets operands-meets simple-meets statement-meets
++block+body+contents+expression+guarded+item+items+operand+operands+simple+statement-spec =
+    close μ-block μ-body μ-contents μ-expression μ-guarded μ-item μ-items μ-operand μ-operands μ-simple μ-statement block-meets body-meets
+    contents-meets expression-meets guarded-meets item-meets items-meets operand-meets operands-meets simple-meets statement-meets
