@@ -115,7 +115,8 @@ fn procedure(
 // The fields of a class, and then the class itself.
 fn class(table: &[u8], part: &[u8], at: usize, env: &[u32], top: usize) -> Verdict
     requires { ⌜ (8 ≤ length (now part)) × (8 * (at + 1 + wordAt (now part) 4) ≤ length (now table)) × (4 * top ≤ length (now env)) ⌝ }
-    ensures { λ r. ⌜ Says r (headFlaws (now (table .entry)) (envOf (now (env .entry)) top) (at + 1) (wordAt (now (part .entry)) 4) ++ onceFlaw (envOf (now (env .entry)) top) (halfAt (now (part .entry)) 2) at) ⌝ }
+    ensures { λ r. ⌜ Says r (headFlaws (now (table .entry)) (envOf (now (env .entry)) top) (at + 1) (wordAt (now (part .entry)) 4)
+        ++ onceFlaw (envOf (now (env .entry)) top) (halfAt (now (part .entry)) 2) at) ⌝ }
 {
     let fields = table_entries::b_at(part, 0) as usize;
     let name = table_entries::a_at(part, 0);

@@ -13,7 +13,8 @@ ghost use lib.ListN.{length};
 ghost use Rattle.language.specs.Table.{readTable};
 ghost use Rattle.language_laws.specs.Claims.{entriesOf};
 ghost use Rattle.table_read.specs.Operands.{sorts};
-ghost use Rattle.table_read.specs.Walk.{readingOf, leafOf, counted, moved, chain, laidAt, standsAt, atomAt, kindAt, nameAt, sizeAt, walk, entered, isGlobal, tally as tallyOf, walkHead, walkRoot};
+ghost use Rattle.table_read.specs.Walk.{readingOf, leafOf, counted, moved, chain, laidAt, standsAt, atomAt, kindAt, nameAt, sizeAt, walk, entered, isGlobal};
+ghost use Rattle.table_read.specs.Walk.{tally as tallyOf, walkHead, walkRoot};
 
 pub enum Read {
     // a whole tree, and how many entries it has
