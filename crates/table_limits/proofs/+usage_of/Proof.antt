@@ -1,3 +1,4 @@
+-- `table_limits::usage_of` meets its contract: the nesting falls from an entry to its operands, and a loop adds them up. Assumes nothing.
 use Prim.Native.Nat.{ℕ, _+_, _-_, _*_, _≤_, _<_}
 use Prim.{tt}
 use mathlib.Core.Path.{_≡_, refl, sym, _∙_}

@@ -1,4 +1,4 @@
--- `usage::over_limits` meets its contract. Assumes nothing.
+-- `table_limits::over_limits` meets its contract. Assumes nothing.
 use mathlib.Core.Path.{sym, ap, _∙_}
 use native.Mathlib.Omega.{arith}
 use borrow.Author.Needs.{needs}

@@ -1,4 +1,4 @@
--- `usage::root_head` meets its contract. Assumes nothing.
+-- `table_limits::root_head` meets its contract. Assumes nothing.
 use Prim.{tt}
 use Prim.Native.Nat.{ℕ, _+_, _*_, _<_}
 use mathlib.Core.Path.{_≡_, refl, sym, ap, _∙_}

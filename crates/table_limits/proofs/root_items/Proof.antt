@@ -1,4 +1,4 @@
--- `usage::root_items` meets its contract. Assumes nothing.
+-- `table_limits::root_items` meets its contract. Assumes nothing.
 use Prim.Native.Nat.{_+_, _-_, _*_, _≤_, _<_}
 use mathlib.Core.Path.{_≡_, refl, sym, _∙_}
 use native.Mathlib.Omega.{arith}

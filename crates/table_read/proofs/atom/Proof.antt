@@ -1,4 +1,4 @@
--- `reader::atom` meets its contract. Assumes nothing.
+-- `table_read::atom` meets its contract. Assumes nothing.
 use borrow.Author.Needs.{needs}
 use borrow.Author.Tests.{le-leb, lt-leb}
 use mathlib.Core.Path.{ap, _∙_}

@@ -1,4 +1,4 @@
--- `reader::kind_of` meets its contract. Assumes nothing.
+-- `table_read::kind_of` meets its contract. Assumes nothing.
 use borrow.Author.Needs.{needs}
 use Rattle.table_entries.specs.Entries.{entries-some}
 use Rattle.table_read.proofs.kind_of.Statement.{statement}

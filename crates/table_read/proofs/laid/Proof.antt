@@ -1,4 +1,4 @@
--- `reader::laid` meets its contract. Assumes nothing.
+-- `table_read::laid` meets its contract. Assumes nothing.
 use borrow.Author.Needs.{needs}
 use mir.Syntax.{w32}
 use mir.ValLaws.{toZ-ofZ}

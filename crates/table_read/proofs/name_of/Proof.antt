@@ -1,4 +1,4 @@
--- `reader::name_of` meets its contract. Assumes nothing.
+-- `table_read::name_of` meets its contract. Assumes nothing.
 use borrow.Author.Needs.{needs}
 use Rattle.table_entries.specs.Entries.{entries-some}
 use Rattle.table_read.proofs.name_of.Statement.{statement}

@@ -1,4 +1,4 @@
--- `reader::read_head` meets its contract. What is read from the rest, moved by what is passed, is what is read from the part.
+-- `table_read::read_head` meets its contract. What is read from the rest, moved by what is passed, is what is read from the part.
 -- Assumes nothing.
 use Prim.Native.Nat.{_+_, _-_, _*_, _≤_, _<_}
 use mathlib.Core.Path.{_≡_, sym, ap, _∙_}

@@ -1,4 +1,4 @@
--- `reader::read_root` meets its contract. Assumes nothing.
+-- `table_read::read_root` meets its contract. Assumes nothing.
 use Prim.Native.Nat.{_-_, _*_}
 use mathlib.Core.Path.{sym, ap, _∙_}
 use native.Mathlib.Omega.{arith}

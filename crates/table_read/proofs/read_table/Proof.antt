@@ -1,4 +1,4 @@
--- `reader::read_table` meets its contract. Assumes nothing.
+-- `table_read::read_table` meets its contract. Assumes nothing.
 use mathlib.Core.Path.{sym, _∙_}
 use borrow.Author.Needs.{needs}
 use Rattle.language_laws.specs.Claims.{entriesOf}

@@ -1,4 +1,4 @@
--- `reader::size_of` meets its contract. Assumes nothing.
+-- `table_read::size_of` meets its contract. Assumes nothing.
 use borrow.Author.Needs.{needs}
 use mir.Syntax.{w32}
 use mir.ValLaws.{toZ-ofZ}

@@ -1,3 +1,4 @@
+-- `table_names::faults::class` meets its contract. Assumes nothing.
 use Prim.Native.Nat.{_+_, _-_}
 use Rattle.words.specs.Numbers.{halfAt, wordAt}
 use Rattle.table_scopes.specs.Environment.{envOf}

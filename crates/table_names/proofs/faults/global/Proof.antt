@@ -1,3 +1,4 @@
+-- `table_names::faults::global` meets its contract. Assumes nothing.
 use native.Mathlib.Omega.{arith}
 use mathlib.Core.Path.{sym, _∙_}
 use Rattle.table_forms.specs.Root.{global-asks, class-asks, procedure-asks, class-answer, procedure-answer, local-answer}

@@ -1,3 +1,4 @@
+-- `table_names::faults::procedure` meets its contract. Assumes nothing.
 use native.Mathlib.Omega.{arith}
 use Prim.Native.Nat.{_+_, _-_, _/_}
 use Rattle.table_scopes.specs.Environment.{item}

@@ -1,4 +1,4 @@
--- `kinds::count` meets its contract. Assumes nothing.
+-- `table_read::kinds::count` meets its contract. Assumes nothing.
 use mathlib.Core.Path.{sym, _∙_}
 use borrow.Author.Needs.{needs}
 use Rattle.table_read.proofs.Sorts.{sorts-length}

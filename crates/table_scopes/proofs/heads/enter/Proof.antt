@@ -1,4 +1,4 @@
--- `heads::enter` meets its contract: the mark, the names of the head, the labels. Assumes nothing.
+-- `table_scopes::heads::enter` meets its contract: the mark, the names of the head, the labels. Assumes nothing.
 use native.Mathlib.Omega.{arith}
 use mathlib.Core.List.{_++_}
 use Prim.Native.Nat.{_+_, _-_}
