@@ -16,7 +16,7 @@ use Rattle.table_scopes.specs.Environment.{find, passing, shut, envOf, Grown}
 use Rattle.table_scopes.specs.declared.environment.Found.{Found}
 use Rattle.table_scopes.specs.declared.environment.Found.the-variants.{Nothing, Def}
 use Rattle.table_scopes.specs.EnvironmentLaws.{top-item, grown-push, stored, fewer}
-use Rattle.table_scopes.specs.Stands.{half-part}
+use Rattle.table_entries.specs.Entries.{half-part}
 use Rattle.compile_symbols.specs.Numbers.{typeIn, secondIn}
 use Rattle.compile_symbols.specs.Meaning.{knownOf, meaningOf}
 use Rattle.compile_nodes.specs.Knows.{holdMark, passedTo}

@@ -12,7 +12,7 @@ use Rattle.words.specs.Numbers.{halfAt}
 use Rattle.language.specs.Tree.{Typed, declare, holding, Global, local, class, procedure, Tree, locals}
 use Rattle.language.specs.Table.{Entry, entry, inLayout}
 use Rattle.logic.specs.Tests.{both-left, both-right}
-use Rattle.table_scopes.specs.Stands.{entryAt}
+use Rattle.table_entries.specs.Entries.{entryAt}
 use Rattle.table_scopes.specs.Trees.{Heads}
 use Rattle.values.specs.Types.{tyByte}
 use Rattle.compile_code.specs.Compile.{classesOf, classNames, Proc, procsOf}

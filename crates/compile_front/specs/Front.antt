@@ -11,7 +11,7 @@ use Rattle.language.specs.Tree.{Global, local, class, procedure, Tree, locals}
 use Rattle.language.specs.Table.{Entry}
 use Rattle.bytecode.specs.Macro.{Body}
 use Rattle.language_laws.specs.Claims.{entriesOf}
-use Rattle.table_scopes.specs.Stands.{entryAt}
+use Rattle.table_entries.specs.Entries.{entryAt}
 use Rattle.logic.specs.Lists.{Each}
 use Rattle.compile_code.specs.Code.{at, after}
 use Rattle.compile_code.specs.Compile.{classesOf, classNames, procsOf}

@@ -11,7 +11,7 @@ use Rattle.logic.specs.Choice.{if_then_else_}
 use Rattle.words.specs.Numbers.{halfAt}
 use Rattle.language.specs.Table.{Entry}
 use Rattle.language_laws.specs.Claims.{entriesOf}
-use Rattle.table_scopes.specs.Stands.{entryAt}
+use Rattle.table_entries.specs.Entries.{entryAt}
 use Rattle.compile_symbols.specs.Numbers.{typeIn, byteOf, cellsWithin}
 use Rattle.compile_symbols.specs.Tabled.{classesIn, between, between-entry, between-none}
 use Rattle.compile_symbols.specs.Entries.{cellsOfKind, cells-few}

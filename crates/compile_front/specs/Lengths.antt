@@ -11,7 +11,7 @@ use Rattle.language.specs.Tree.{Typed, Global, local, class, procedure, Tree, l
 use Rattle.language.specs.Table.{Entry}
 use Rattle.language.specs.Names.{types}
 use Rattle.language_laws.specs.Claims.{entriesOf}
-use Rattle.table_scopes.specs.Stands.{length-entries}
+use Rattle.table_entries.specs.Entries.{length-entries}
 use Rattle.compile_code.specs.Code.{at, after, cellsIn}
 use Rattle.compile_code.specs.Compile.{classesOf, classNames, Proc, procsOf, tyIn}
 use Rattle.compile_code.specs.Encode.{codeRoot, codeProc, procPart, procParts, parts, headsOf, fieldTypes, compiled}

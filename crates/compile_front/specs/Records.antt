@@ -13,7 +13,7 @@ use Rattle.words.specs.Numbers.{halfAt, wordAt, wordOf}
 use Rattle.words.specs.Laws.{Bytes, four, number-below, word-back}
 use Rattle.language.specs.Table.{Entry}
 use Rattle.language_laws.specs.Claims.{entriesOf}
-use Rattle.table_scopes.specs.Stands.{entryAt, length-entries}
+use Rattle.table_entries.specs.Entries.{entryAt, length-entries}
 use Rattle.compile_bytes.specs.Stores.{sets-comm, sets-join}
 use Rattle.compile_symbols.specs.Tabled.{Headed, theTree, classesIn, Within, between, between-entry, partAt}
 use Rattle.compile_front.specs.Types.{typesOf, types-end}

@@ -17,7 +17,7 @@ use Rattle.language.specs.Tree.{declare, holding, Global, local, class, procedu
 use Rattle.language.specs.Table.{Entry, entry, inLayout, classCount}
 use Rattle.logic.specs.Tests.{clash, both-left, both-right}
 use Rattle.language_laws.specs.Claims.{entriesOf}
-use Rattle.table_scopes.specs.Stands.{entryAt, entry-here, length-entries}
+use Rattle.table_entries.specs.Entries.{entryAt, entry-here, length-entries}
 use Rattle.compile_code.specs.Compile.{Class, classesOf, classNames}
 use Rattle.compile_symbols.specs.declared.Numbers.{Numbers}
 use Rattle.compile_symbols.specs.Numbers.{packed, typeIn, byteOf, cellsOf, numberOf, numbersFrom, numbersGlobals, numbersOf}

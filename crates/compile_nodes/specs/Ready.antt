@@ -15,7 +15,7 @@ use Rattle.language.specs.Limits.{holdsS, holdsE, holdsItems, holdsArms, holdsE
 use Rattle.language.specs.Names.{Scope}
 use Rattle.language_laws.specs.Claims.{entriesOf}
 use Rattle.table_scopes.specs.Environment.{envOf}
-use Rattle.table_scopes.specs.Stands.{Stands}
+use Rattle.table_entries.specs.Stands.{Stands}
 use Rattle.table_scopes.specs.Sees.{Sees}
 use Rattle.table_scopes.specs.Defines.{bulk}
 use Rattle.table_forms.specs.Forms.{Form, headF, formS, formE, labelled}

@@ -12,7 +12,7 @@ use Rattle.language.specs.Tree.{Decl, Items, countItems}
 use Rattle.language.specs.Names.{definesHead, definesItems, Scope, nowhere, found, firstOf, otherwise, lookup}
 use Rattle.language.specs.Names as names
 use Rattle.language_laws.specs.Claims.{entriesOf}
-use Rattle.table_scopes.specs.Stands.{Stands}
+use Rattle.table_entries.specs.Stands.{Stands}
 use Rattle.table_scopes.specs.Items.{itemsAt, labelsFrom, blockItems}
 use Rattle.table_scopes.specs.Defines.{headItems, labelItems, head-items, label-items, heads-stand, items-stand, items-small, labels-small}
 use Rattle.table_scopes.specs.Sees.{Legible}

@@ -23,8 +23,8 @@ use Rattle.language.specs.Names as names
 use Rattle.language.specs.Faults.{sizeS}
 use Rattle.logic.specs.Tests.{clash, eqb-comm, or-left}
 use Rattle.language_laws.specs.Claims.{entriesOf}
-use Rattle.table_scopes.specs.Stands.{Stands, stands-tail}
-use Rattle.table_scopes.specs.Defines.{headItems, labelItems, class-small}
+use Rattle.table_entries.specs.Stands.{Stands, stands-tail}
+use Rattle.table_scopes.specs.Defines.{class-small, headItems, labelItems}
 use Rattle.table_scopes.specs.Sees.{Legible, Sees, Agrees}
 use Rattle.bytecode.specs.Instructions.{Owner, own, root}
 use Rattle.compile_code.specs.Code.{At, at, skip, after}

@@ -23,7 +23,7 @@ use Rattle.language.specs.Faults.{namesHead, namesTyped, sizeBody, sizeGlobal}
 use Rattle.language.specs.Limits.{headCells}
 use Rattle.logic.specs.Tests.{both-right}
 use Rattle.language_laws.specs.Claims.{entriesOf}
-use Rattle.table_scopes.specs.Stands.{Stands, stands-left, stands-right}
+use Rattle.table_entries.specs.Stands.{Stands, stands-left, stands-right}
 use Rattle.table_scopes.specs.Trees.{length-map, length-Body, length-Global, Heads}
 use Rattle.table_scopes.specs.Sees.{Legible}
 use Rattle.table_scopes.specs.Defines.{headItems}

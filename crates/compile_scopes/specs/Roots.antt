@@ -17,7 +17,7 @@ use Rattle.language.specs.Names as names
 use Rattle.language.specs.Faults.{faults, sizeGlobal}
 use Rattle.language.specs.Limits.{headCells}
 use Rattle.language_laws.specs.Claims.{entriesOf, Readable}
-use Rattle.table_scopes.specs.Stands.{Stands, stands-left, stands-right, stands-tail}
+use Rattle.table_entries.specs.Stands.{Stands, stands-left, stands-right, stands-tail}
 use Rattle.table_scopes.specs.Items.{labelsFrom, globalsFrom, rootItems}
 use Rattle.table_scopes.specs.Sees.{Legible, Sees, matches-append, sees-none, sees-block}
 use Rattle.table_scopes.specs.Defines.{headItems, labelItems, label-items, label-matches, labels-small}

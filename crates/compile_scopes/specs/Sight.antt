@@ -17,7 +17,7 @@ use Rattle.language.specs.Limits.{headCells}
 use Rattle.bytecode.specs.Instructions.{own}
 use Rattle.language.specs.Names as names
 use Rattle.language_laws.specs.Claims.{entriesOf, Readable}
-use Rattle.table_scopes.specs.Stands.{Stands, stands-left, stands-tail}
+use Rattle.table_entries.specs.Stands.{Stands, stands-left, stands-tail}
 use Rattle.logic.specs.Tests.{never}
 use Rattle.table_scopes.specs.Items.{itemsAt, rootItems}
 use Rattle.table_scopes.specs.Trees.{length-map, typed-decls}

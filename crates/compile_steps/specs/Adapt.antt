@@ -9,7 +9,7 @@ use Rattle.values.specs.Operators.{Binary, binaryCode}
 use Rattle.words.specs.Numbers.{halfAt}
 use Rattle.language.specs.Tree.{Stmt, while, Expr, conditional, operate2}
 use Rattle.language.specs.Faults.{typeE, isTy}
-use Rattle.table_forms.specs.Steps.{Passes}
+use Rattle.table_forms.specs.Part.{Passes}
 use Rattle.compile_code.specs.Code.{At, skip, after}
 use Rattle.values.specs.Types.{logical}
 use Rattle.compile_code.specs.Compile.{scopesOf, wayOf, codeE, tyE}

@@ -18,8 +18,8 @@ use Rattle.language.specs.Table.{Entry}
 use Rattle.language.specs.Limits.{holdsS, needS}
 use Rattle.language_laws.specs.Claims.{entriesOf}
 use Rattle.table_scopes.specs.Environment.{envOf}
-use Rattle.table_scopes.specs.Stands.{Stands, stands-left}
-use Rattle.table_forms.specs.Steps.{table-next, Passes}
+use Rattle.table_entries.specs.Stands.{Stands, stands-left}
+use Rattle.table_forms.specs.Part.{table-next, Passes}
 use Rattle.table_forms.specs.Walk.{Table}
 use Rattle.compile_code.specs.Code.{Code, nil, op, mark, _▸_, At, at, skip, after}
 use Rattle.compile_code.specs.Compile.{scopesOf, found, codeS}

@@ -15,9 +15,10 @@ use Rattle.language.specs.Table.{entry}
 use Rattle.language.specs.Names.{isVariable, isField}
 use Rattle.language_laws.specs.Claims.{entriesOf}
 use Rattle.table_scopes.specs.Environment.{Item, envOf}
-use Rattle.table_scopes.specs.Stands.{Stands, stands-left, stands-tail, half-part}
+use Rattle.table_entries.specs.Entries.{half-part}
+use Rattle.table_entries.specs.Stands.{Stands, stands-left, stands-tail}
 use Rattle.table_scopes.specs.Defines.{name-small}
-use Rattle.table_forms.specs.Steps.{Head, head-of, table-next, Passes}
+use Rattle.table_forms.specs.Part.{Head, head-of, table-next, Passes}
 use Rattle.table_forms.specs.Walk.{Table}
 use Rattle.compile_code.specs.Code.{Code, nil, op, _▸_, at, after}
 use Rattle.compile_code.specs.Compile.{storing, cellOf, fieldNumber, codeS, codeE, tyE}

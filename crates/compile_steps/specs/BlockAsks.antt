@@ -11,7 +11,7 @@ use Rattle.language.specs.Names.{blockOf}
 use Rattle.language.specs.Measure.{measureS}
 use Rattle.table_scopes.specs.Environment.{envOf, addAll, item, opened, Grown}
 use Rattle.table_scopes.specs.Items.{blockItems}
-use Rattle.table_forms.specs.Steps.{EnterAsks}
+use Rattle.table_forms.specs.Block.{EnterAsks}
 use Rattle.compile_output.specs.declared.Pen.{Pen}
 use Rattle.compile_output.specs.Ink.{Fits}
 use Rattle.compile_output.specs.Folds.{penAfter, inked, lets, length-inked}

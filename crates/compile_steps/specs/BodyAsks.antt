@@ -14,8 +14,8 @@ use Rattle.table_scopes.specs.Items.{blockItems}
 use Rattle.language_laws.specs.Claims.{entriesOf}
 use Rattle.table_scopes.specs.Spans.{span}
 use Rattle.table_scopes.specs.Sizes.{Known}
-use Rattle.table_forms.specs.Steps.{EnterAsks}
-use Rattle.table_forms.specs.Ends.{known-from}
+use Rattle.table_forms.specs.Block.{EnterAsks}
+use Rattle.table_forms.specs.Body.{known-from}
 use Rattle.compile_code.specs.Code.{after}
 use Rattle.compile_code.specs.Compile.{codeItems}
 use Rattle.compile_output.specs.declared.Pen.{Pen}

@@ -6,7 +6,7 @@ use native.Mathlib.Omega.{arith}
 use lib.ListN.{length, getD, set, take}
 use Rattle.language.specs.Program.{flatS, flatE}
 use Rattle.language.specs.Tree.{Stmt, Expr, choose}
-use Rattle.table_forms.specs.Steps.{Passes}
+use Rattle.table_forms.specs.Part.{Passes}
 use Rattle.compile_code.specs.Code.{At, skip, after}
 use Rattle.compile_code.specs.Compile.{codeS}
 use Rattle.compile_output.specs.declared.Pen.{Pen}

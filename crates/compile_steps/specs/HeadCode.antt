@@ -15,7 +15,8 @@ use Rattle.bytecode.specs.Instructions.{own, push, store, takeHold}
 use Rattle.language.specs.Tree.{Decl, declare, holding}
 use Rattle.language.specs.Table.{Entry}
 use Rattle.language_laws.specs.Claims.{entriesOf}
-use Rattle.table_scopes.specs.Stands.{Stands, fields, stands-tail, half-part}
+use Rattle.table_entries.specs.Entries.{half-part}
+use Rattle.table_entries.specs.Stands.{Stands, fields, stands-tail}
 use Rattle.compile_code.specs.Code.{Code, op, cell, At, at, skip}
 use Rattle.compile_code.specs.Compile.{tyIn}
 use Rattle.compile_code.specs.Encode.{recordOf}

@@ -10,13 +10,15 @@ use Rattle.language.specs.Tree.{Decl, declare, holding, Items, countItems}
 use Rattle.language_laws.specs.Claims.{entriesOf}
 use Rattle.table_scopes.specs.Environment.{Item, item, envOf, addAll, Grown}
 use Rattle.table_scopes.specs.EnvironmentLaws.{fewer}
-use Rattle.table_scopes.specs.Stands.{Stands, stands-within, length-entries}
+use Rattle.table_entries.specs.Entries.{length-entries}
+use Rattle.table_entries.specs.Stands.{Stands, stands-within}
 use Rattle.table_scopes.specs.Items.{blockItems}
 use Rattle.table_scopes.specs.Sees.{Legible, Sees}
 use Rattle.table_scopes.specs.Trees.{length-Items}
 use Rattle.table_scopes.specs.Defines.{headItems, labelItems, length-labels, bulk, labels-bulk, enters, Enters}
 use Rattle.table_scopes.specs.Defines as defines
-use Rattle.table_forms.specs.Steps.{table-next, EnterAsks}
+use Rattle.table_forms.specs.Part.{table-next}
+use Rattle.table_forms.specs.Block.{EnterAsks}
 use Rattle.compile_code.specs.Code.{Code, At}
 use Rattle.compile_code.specs.Compile.{Around, bound, scopesOf, heldIn}
 use Rattle.compile_output.specs.declared.Pen.{Pen}

@@ -26,7 +26,8 @@ use Rattle.language_laws.specs.Claims.{entriesOf}
 use Rattle.table_scopes.specs.declared.environment.Found.{Found}
 use Rattle.table_scopes.specs.declared.environment.Found.the-variants.{Nothing, Def}
 use Rattle.table_scopes.specs.Environment.{Item, envOf, find}
-use Rattle.table_scopes.specs.Stands.{Stands, fields, half-part, word-part}
+use Rattle.table_entries.specs.Entries.{half-part, word-part}
+use Rattle.table_entries.specs.Stands.{Stands, fields}
 use Rattle.table_scopes.specs.Defines.{name-small}
 use Rattle.table_scopes.specs.Sees.{Agrees, Sees}
 use Rattle.table_forms.specs.Walk.{Table}

@@ -13,7 +13,7 @@ use Rattle.values.specs.Types.{Ty}
 use Rattle.language.specs.Tree.{Items, noItem, label, item, Expr, Exprs, noExpr, countItems, countExprs}
 use Rattle.language.specs.Tree.{expr as more}
 use Rattle.language.specs.Table.{entry}
-use Rattle.table_forms.specs.Steps.{Passes, table-next}
+use Rattle.table_forms.specs.Part.{Passes, table-next}
 use Rattle.table_scopes.specs.Defines.{bulk}
 use Rattle.table_scopes.specs.Trees.{length-S}
 use Rattle.compile_code.specs.Code.{mark, _▸_, At, after}

@@ -16,12 +16,15 @@ use Rattle.language.specs.Tree.{expr as more}
 use Rattle.language.specs.Table.{Entry}
 use Rattle.language.specs.Limits.{needS, needItems, needE, needEs}
 use Rattle.language_laws.specs.Claims.{entriesOf}
-use Rattle.table_scopes.specs.Spans.{Spans, parts, spans-one, spans-none}
-use Rattle.table_scopes.specs.Stands.{Stands, stands-left, stands-right, stands-tail}
+use Rattle.table_scopes.specs.Environment.{envOf}
+use Rattle.table_entries.specs.Arity.{parts}
+use Rattle.table_scopes.specs.Spans.{Spans, spans-one, spans-none}
+use Rattle.table_entries.specs.Entries.{length-entries}
+use Rattle.table_entries.specs.Stands.{Stands, stands-left, stands-right, stands-tail, stands-within}
 use Rattle.table_forms.specs.Walk.{Table}
-use Rattle.table_forms.specs.Forms.{headF, flatF, labelled, flat-S, flat-E}
-use Rattle.table_forms.specs.Steps.{Head, head-of, table-next, size-here, Passes, passes, spans-form, spans-stmt}
-use Rattle.compile_code.specs.Code.{Code, nil, op, mark, cell, _▸_, At, at, after}
+use Rattle.table_forms.specs.Forms.{Form, headF, tailF, flatF, labelled, formS, formE, flat-S, flat-E}
+use Rattle.table_forms.specs.Part.{Head, head-of, table-next, size-here, Passes, passes, spans-form, spans-stmt}
+use Rattle.compile_code.specs.Code.{Code, nil, op, mark, cell, _▸_, At, at, skip, after}
 use Rattle.language.specs.Names.{Scope}
 use Rattle.compile_code.specs.Compile.{scopesOf, found}
 use Rattle.compile_code.specs.Encode.{rec, recordOf}

@@ -14,7 +14,7 @@ use Rattle.values.specs.Ends.{caseIndex}
 use Rattle.bytecode.specs.Instructions.{own, store, stop}
 use Rattle.language.specs.Tree.{Expr, Arms, lastArm, arm, select, countArms, Global}
 use Rattle.language.specs.Table.{entry}
-use Rattle.table_forms.specs.Steps.{head-of, table-next, Passes}
+use Rattle.table_forms.specs.Part.{head-of, table-next, Passes}
 use Rattle.compile_simulation.specs.Sizes.{lenArms}
 use Rattle.compile_code.specs.Code.{Code, op, mark, cell, _▸_, At, at, skip, taken, after}
 use Rattle.compile_code.specs.Compile.{Around, scopesOf, passing, found, codeS, codeE, codeArms, opsArms}

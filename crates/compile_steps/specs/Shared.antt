@@ -13,7 +13,7 @@ use Rattle.language.specs.Table.{Entry}
 use Rattle.table_scopes.specs.Trees.{length-S, length-E}
 use Rattle.table_scopes.specs.Environment.{envOf}
 use Rattle.table_forms.specs.Walk.{Table}
-use Rattle.table_forms.specs.Steps.{table-next}
+use Rattle.table_forms.specs.Part.{table-next}
 use Rattle.compile_code.specs.Code.{Code, op, mark, cell, _▸_, At, at, after}
 use Rattle.compile_code.specs.Compile.{Around, scopesOf, found, codeE, tyE}
 use Rattle.compile_symbols.specs.Numbers.{cellsOf, cellsWithin}

@@ -6,7 +6,7 @@ use native.Mathlib.Omega.{arith}
 use lib.ListN.{length, getD, set, take}
 use Rattle.language.specs.Program.{flatE}
 use Rattle.language.specs.Tree.{Stmt, Expr, when}
-use Rattle.table_forms.specs.Steps.{Passes}
+use Rattle.table_forms.specs.Part.{Passes}
 use Rattle.compile_output.specs.declared.Pen.{Pen}
 use Rattle.compile_output.specs.Ink.{Fits, moved, penShaped, inkOp, inkShape}
 use Rattle.compile_nodes.specs.Knows.{Walk}

@@ -12,7 +12,8 @@ use Rattle.language.specs.Tree.{declare, holding, Global, local, class, procedu
 use Rattle.language.specs.Table.{Entry}
 use Rattle.logic.specs.Tests.{clash}
 use Rattle.language_laws.specs.Claims.{entriesOf}
-use Rattle.table_scopes.specs.Stands.{Stands, fields, entryAt, length-entries}
+use Rattle.table_entries.specs.Entries.{entryAt, length-entries}
+use Rattle.table_entries.specs.Stands.{Stands, fields}
 use Rattle.compile_code.specs.Compile.{indexOf, classesOf, classNames}
 use Rattle.compile_symbols.specs.Tabled.{Tabled, Headed, entries-few, classesIn, theTree, Within, Left, left-start, next-global}
 use Rattle.compile_code.specs.Counts.{index-most}

@@ -22,7 +22,8 @@ use Rattle.language.specs.Table.{Entry, entry, inLayout, tyOfCode, natural}
 use Rattle.logic.specs.Tests.{both-left, both-right}
 use Rattle.language_laws.specs.Claims.{entriesOf}
 use Rattle.language_laws.specs.Codes.{type-coded, natural-pos}
-use Rattle.table_scopes.specs.Stands.{entryAt, field-number}
+use Rattle.table_entries.specs.Entries.{entryAt}
+use Rattle.table_entries.specs.Stands.{field-number}
 use Rattle.table_scopes.specs.Sees.{Legible}
 use Rattle.compile_code.specs.Compile.{indexOf}
 use Rattle.compile_symbols.specs.declared.Numbers.{Numbers}

@@ -17,7 +17,8 @@ use Rattle.language.specs.Table.{Entry, entry, inLayout, Read, took, stop, firs
 use Rattle.logic.specs.Tests.{both-left}
 use Rattle.language_laws.specs.Claims.{entriesOf, Readable}
 use Rattle.language_laws.specs.Programs.{read-flatten}
-use Rattle.table_scopes.specs.Stands.{Stands, length-entries, entryAt, entry-here}
+use Rattle.table_entries.specs.Entries.{length-entries, entryAt, entry-here}
+use Rattle.table_entries.specs.Stands.{Stands}
 use Rattle.table_scopes.specs.Sizes.{Known}
 use Rattle.table_scopes.specs.Trees.{Heads, spans-Global}
 use Rattle.table_scopes.specs.Sees.{Legible}

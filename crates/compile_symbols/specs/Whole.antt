@@ -14,7 +14,8 @@ use Rattle.language.specs.Tree.{Typed, declare, holding, Global, local, class, 
 use Rattle.language.specs.Table.{Entry}
 use Rattle.language.specs.Limits.{headCells}
 use Rattle.language_laws.specs.Claims.{entriesOf}
-use Rattle.table_scopes.specs.Stands.{fields, length-entries}
+use Rattle.table_entries.specs.Entries.{length-entries}
+use Rattle.table_entries.specs.Stands.{fields}
 use Rattle.table_scopes.specs.Trees.{Heads}
 use Rattle.compile_code.specs.Compile.{classesOf, classNames, procsOf}
 use Rattle.compile_symbols.specs.declared.Numbers.{Numbers}

@@ -11,7 +11,7 @@ ghost use lib.Seq.{sets};
 ghost use Rattle.language.specs.Tree.{Tree};
 ghost use Rattle.language_laws.specs.Claims.{entriesOf};
 ghost use Rattle.table_scopes.specs.Environment.{envOf};
-ghost use Rattle.table_scopes.specs.Stands.{entryAt};
+ghost use Rattle.table_entries.specs.Entries.{entryAt};
 ghost use Rattle.compile_code.specs.Compile.{indexOf};
 ghost use Rattle.compile_symbols.specs.Numbers.{packed, typeIn, firstIn, secondIn, byteOf, numberOf};
 ghost use Rattle.compile_symbols.specs.Tabled.{classesIn, Tabled, Headed, Holding, Within, between, partAt};

@@ -19,9 +19,9 @@ use Rattle.language.specs.Tree.{Typed, declare, holding, Global, local, class, 
 use Rattle.language.specs.Limits.{headCells, headHolds}
 use Rattle.language_laws.specs.Claims.{entriesOf}
 use Rattle.table_scopes.specs.Trees.{length-Global}
-use Rattle.table_scopes.specs.Stands.{Stands}
+use Rattle.table_entries.specs.Stands.{Stands}
 use Rattle.table_forms.specs.Walk.{Table}
-use Rattle.table_forms.specs.Steps.{head-of, below}
+use Rattle.table_forms.specs.Part.{head-of, below}
 use Rattle.bytecode.specs.Instructions.{own, push, store, takeHold}
 use Rattle.compile_code.specs.Code.{Code, nil, op, _▸_}
 use Rattle.compile_code.specs.Compile.{classesOf, classNames, tyIn}

@@ -15,10 +15,10 @@ use Rattle.language.specs.Faults.{sizeGlobal}
 use Rattle.language.specs.Limits.{bodyUsage}
 use Rattle.language.specs.Formed.{EveryProcedure, InLimits}
 use Rattle.language_laws.specs.Claims.{entriesOf}
-use Rattle.table_scopes.specs.Stands.{Stands}
+use Rattle.table_entries.specs.Stands.{Stands}
 use Rattle.table_scopes.specs.Trees.{length-Global}
 use Rattle.table_forms.specs.Walk.{Table}
-use Rattle.table_forms.specs.Steps.{head-of, below}
+use Rattle.table_forms.specs.Part.{head-of, below}
 use Rattle.compile_code.specs.Code.{at}
 use Rattle.compile_code.specs.Compile.{procsOf}
 use Rattle.compile_code.specs.Encode.{codeProc, procParts}

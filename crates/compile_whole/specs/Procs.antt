@@ -9,7 +9,7 @@ use Rattle.language.specs.Program.{resultCode}
 use Rattle.words.specs.Numbers.{wordAt}
 use Rattle.language.specs.Tree.{Typed, Stmt, Expr, Body, proper, function, Tree}
 use Rattle.table_scopes.specs.EnvironmentLaws.{fewer}
-use Rattle.table_forms.specs.Steps.{below}
+use Rattle.table_forms.specs.Part.{below}
 use Rattle.table_types.specs.Types.{code-some}
 use Rattle.table_forms.specs.Procedures.{Walled}
 use Rattle.bytecode.specs.Instructions.{return}

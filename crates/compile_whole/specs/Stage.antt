@@ -17,12 +17,13 @@ use Rattle.logic.specs.Choice.{if_then_else_}
 use Rattle.words.specs.Numbers.{wordAt}
 use Rattle.language_laws.specs.Claims.{entriesOf}
 use Rattle.table_scopes.specs.Environment.{Item, item, envOf}
-use Rattle.table_scopes.specs.Stands.{Stands, stands-right, stands-tail, stands-within, length-entries}
+use Rattle.table_entries.specs.Entries.{length-entries}
+use Rattle.table_entries.specs.Stands.{Stands, stands-right, stands-tail, stands-within}
 use Rattle.table_scopes.specs.Items.{kindAt, aAt, bAt, oneAt, itemsAt}
 use Rattle.table_scopes.specs.Trees.{Heads, length-map, length-Items}
 use Rattle.table_scopes.specs.Defines.{labels-bulk}
 use Rattle.table_forms.specs.Walk.{Table}
-use Rattle.table_forms.specs.Steps.{head-of, table-next, below}
+use Rattle.table_forms.specs.Part.{head-of, table-next, below}
 use Rattle.table_forms.specs.Globals.{heads-here}
 use Rattle.table_forms.specs.Procedures.{Walled}
 use Rattle.bytecode.specs.Instructions.{own, root}

@@ -11,8 +11,8 @@ use Rattle.words.specs.Numbers.{wordAt}
 use Rattle.language.specs.Tree.{countItems, locals}
 use Rattle.language.specs.Limits.{headHolds}
 use Rattle.language_laws.specs.Claims.{entriesOf}
-use Rattle.table_scopes.specs.Stands.{Stands}
-use Rattle.table_forms.specs.Steps.{head-of, below}
+use Rattle.table_entries.specs.Stands.{Stands}
+use Rattle.table_forms.specs.Part.{head-of, below}
 use Rattle.bytecode.specs.Instructions.{end}
 use Rattle.compile_code.specs.Code.{op, at}
 use Rattle.compile_code.specs.Compile.{procsOf}

@@ -26,7 +26,7 @@ deep-list [] = refl
 deep-list (x ∷ xs) = refl
 
 -- a result that stands in b of a procedure's entry
-small-result : (b : Body) (n : ℕ) → (256 * n + resultCode b) / 256 ≤ 8 → resultCode b ≤ 3
+pub small-result : (b : Body) (n : ℕ) → (256 * n + resultCode b) / 256 ≤ 8 → resultCode b ≤ 3
 small-result (proper s) n h = omega arith
 small-result (function integer e) n h = omega arith
 small-result (function logical e) n h = omega arith

@@ -17,7 +17,7 @@ use Rattle.language.specs.Limits.{Usage, keepsLimits, bodyUsage, rootUsage, ove
 use Rattle.language.specs.Judge.{firstFault, judgeTree, judgeTable}
 use Rattle.language_laws.specs.Claims.{entriesOf}
 use Rattle.language_laws.specs.Order.{first-fault}
-use Rattle.table_scopes.specs.Stands.{length-entries}
+use Rattle.table_entries.specs.Entries.{length-entries}
 use Rattle.table_scopes.specs.Trees.{length-Items, length-Global}
 use Rattle.table_forms.specs.Tables.{read-held}
 

@@ -21,7 +21,8 @@ use Rattle.logic.specs.Tests.{both-left}
 use Rattle.language_laws.specs.Claims.{entriesOf}
 use Rattle.table_scopes.specs.Environment.{Item, item}
 use Rattle.table_scopes.specs.EnvironmentLaws.{Small, small-append}
-use Rattle.table_scopes.specs.Stands.{Stands, stands-left, stands-right, stands-tail, stands-within, fields, length-entries}
+use Rattle.table_entries.specs.Entries.{length-entries}
+use Rattle.table_entries.specs.Stands.{Stands, stands-left, stands-right, stands-tail, stands-within, fields}
 use Rattle.table_scopes.specs.Items.{kindAt, aAt, bAt, after, oneAt, itemsAt, globalAt, globalsFrom, WithinGlobal, ReachGlobals, one-is, one-not, global-class, global-procedure, global-local}
 use Rattle.table_scopes.specs.Trees.{length-map, typed-decls, length-Global, Heads, spans-Global}
 use Rattle.table_scopes.specs.Sees.{Legible, Result, Matches, matches-append}

@@ -1,7 +1,14 @@
 pub mod Forms
 pub mod Walk
-pub mod Steps
-pub mod Ends
+pub mod Part
+pub mod OperandList
+pub mod ItemList
+pub mod ByKind
+pub mod Simple
+pub mod Leaf
+pub mod Guard
+pub mod Block
+pub mod Body
 pub mod Globals
 pub mod Root
 pub mod Procedures

@@ -15,7 +15,7 @@ use Rattle.language.specs.Faults.{twice, mistypedUnless, faultsHead, faultsBody
 use Rattle.language_laws.specs.Claims.{entriesOf}
 use Rattle.table_scopes.specs.Environment.{item, envOf, addAll, shut, Grown}
 use Rattle.table_scopes.specs.EnvironmentLaws.{Small, fewer}
-use Rattle.table_scopes.specs.Stands.{Stands, stands-left, stands-right, stands-tail}
+use Rattle.table_entries.specs.Stands.{Stands, stands-left, stands-right, stands-tail}
 use Rattle.table_scopes.specs.declared.heads.Verdict.{Verdict}
 use Rattle.table_scopes.specs.declared.heads.Verdict.the-variants.{Fine, Refused}
 use Rattle.table_scopes.specs.Items.{itemsAt}
@@ -25,7 +25,7 @@ use Rattle.table_scopes.specs.Sees.{Sees, sees-procedure}
 use Rattle.table_scopes.specs.Once.{Rising, once-block}
 use Rattle.table_scopes.specs.Defines.{headItems, head-items, items-small, length-heads, typed-matches, head-rising, OnceHead, once-head, head-faults}
 use Rattle.table_forms.specs.Walk.{Table}
-use Rattle.table_forms.specs.Steps.{head-of, table-next, below}
+use Rattle.table_forms.specs.Part.{head-of, table-next, below}
 use Rattle.table_forms.specs.Globals.{heads-here}
 use Rattle.table_forms.specs.Root.{OnceGlobal, typed-faults, ReadyBody, AsksBody, AnswersBody, resultFlaw, body-result, ReadyGlobal, AsksGlobal, AnswersGlobal, IsProcedure, global-head}
 

@@ -19,7 +19,8 @@ use Rattle.language.specs.Names.{Scope}
 use Rattle.language.specs.Faults.{twice, typeFaults, mistypedUnless, typeE, faultsTyped, faultsHead, namesHead, namesTyped, namesGlobal, faultsBody, bodyFits, faultsGlobal, faultsGlobals, sizeGlobal}
 use Rattle.language_laws.specs.Claims.{entriesOf}
 use Rattle.table_scopes.specs.Environment.{Item, envOf}
-use Rattle.table_scopes.specs.Stands.{Stands, stands-tail, stands-within, length-entries}
+use Rattle.table_entries.specs.Entries.{length-entries}
+use Rattle.table_entries.specs.Stands.{Stands, stands-tail, stands-within}
 use Rattle.table_scopes.specs.declared.heads.Verdict.{Verdict}
 use Rattle.table_scopes.specs.declared.heads.Verdict.the-variants.{Fine}
 use Rattle.table_scopes.specs.Flaws.{Says, onceFlaw, headFlaws}
@@ -27,11 +28,12 @@ use Rattle.table_scopes.specs.Trees.{length-map, typed-decls, length-Body, leng
 use Rattle.table_scopes.specs.Sees.{Sees}
 use Rattle.table_scopes.specs.Once.{OnceAll}
 use Rattle.table_scopes.specs.Defines.{OnceHead, seenHead, once-head, head-faults}
-use Rattle.table_types.specs.Types.{tyNum, code-some, is-number, eqb-comm}
+use Rattle.table_scopes.specs.Once.{eqb-comm}
+use Rattle.table_types.specs.Types.{tyNum, code-some, is-number}
 use Rattle.table_types.specs.Settles.{Types}
 use Rattle.table_forms.specs.Forms.{formS, formE, form-expr, form-stmt, flat-S, flat-E, deep-S, deep-E, valid-S, valid-E, once-S, once-E, faults-S, faults-E, type-E, StmtForm, ExprForm}
 use Rattle.table_forms.specs.Walk.{Table, Ready, Asks, Answers, Typed as TypedAs}
-use Rattle.table_forms.specs.Steps.{head-of, room-le, fine-type}
+use Rattle.table_forms.specs.Part.{head-of, room-le, fine-type}
 use Rattle.table_forms.specs.Globals.{itemsOf, globalItems}
 
 -- ── names defined once, at the root ──
@@ -349,7 +351,7 @@ pub procedure-answer : {P : Global → Type 0} {l part : List ℕ} {at : ℕ} {s
     → AnswersGlobal IsProcedure l part at sizes old new top r → AnswersGlobal P l part at sizes old new top r
 procedure-answer e y = record { kept = y .kept; same = y .same; judged = λ g ss seen p q. y .judged g ss seen (is-procedure g q e) q }
 
-size-least : (g : Global) → 1 ≤ sizeGlobal g
+pub size-least : (g : Global) → 1 ≤ sizeGlobal g
 size-least (local d) = omega arith
 size-least (class c xs) = omega arith
 size-least (procedure a xs b) = omega arith

@@ -15,7 +15,7 @@ use Rattle.words.specs.Numbers.{halfAt, wordAt}
 use Rattle.words.specs.Laws.{Bytes}
 use Rattle.values.specs.Types.{same}
 use Rattle.values.specs.Ends.{accepted}
-use Rattle.language.specs.Tree.{Global, local, class, procedure, Tree, countItems}
+use Rattle.language.specs.Tree.{Global, Tree, countItems}
 use Rattle.language.specs.Table.{Entry, inLayout, Read, took, stop, first, formRoot, oneTree, readTable}
 use Rattle.language.specs.Names.{Scope, definesGlobals, definesItems, rootOf}
 use Rattle.language.specs.Faults.{faultsItems, namesGlobal, faultsGlobal, faults, sizeGlobal}
@@ -25,7 +25,8 @@ use Rattle.language_laws.specs.Programs.{flatten-read}
 use Rattle.table_scopes.specs.Environment.{item, envOf, addAll, opened, Grown}
 use Rattle.table_scopes.specs.EnvironmentLaws.{Small, small-append}
 use Rattle.table_scopes.specs.Spans.{Spans, span}
-use Rattle.table_scopes.specs.Stands.{Stands, stands-left, stands-right, stands-tail, stands-within, length-entries}
+use Rattle.table_entries.specs.Entries.{length-entries}
+use Rattle.table_entries.specs.Stands.{Stands, stands-left, stands-right, stands-tail, stands-within}
 use Rattle.table_scopes.specs.Sizes.{Known}
 use Rattle.table_scopes.specs.declared.heads.Verdict.{Verdict}
 use Rattle.table_scopes.specs.declared.heads.Verdict.the-variants.{Fine, Refused}
@@ -36,12 +37,12 @@ use Rattle.table_scopes.specs.Sees.{Legible, Sees, matches-append, sees-none, s
 use Rattle.table_scopes.specs.Once.{once-block}
 use Rattle.table_scopes.specs.Defines.{labels-small, labelItems, label-items, label-matches, label-rising, labels-bulk, length-labels, OnceItems, once-items}
 use Rattle.table_forms.specs.Walk.{Table, ReadyItems, AsksItems, AnswersItems}
-use Rattle.table_forms.specs.Steps.{head-of, table-next, below}
+use Rattle.table_forms.specs.Part.{head-of, table-next, below}
 use Rattle.table_forms.specs.Globals.{itemsOf, globalItems, heads-here, globals-at, globals-small, globals-match, length-items, globals-rising}
 use lib.Seq.{take-all}
 use Rattle.table_scopes.specs.Spans.{spans-none, spans-then, spans-as}
 use Rattle.table_scopes.specs.Defines.{span-here}
-use Rattle.table_forms.specs.Root.{OnceGlobals, seenGlobals, once-globals, faultsDeclared, faults-then, ReadyGlobal, AsksGlobal, AnswersGlobal, Any, global-head}
+use Rattle.table_forms.specs.Root.{OnceGlobals, seenGlobals, once-globals, faultsDeclared, faults-then, ReadyGlobal, AsksGlobal, AnswersGlobal, Any, global-head, size-least}
 
 -- ── declarations one after the other ──
 pub record ReadyGlobals (gs : List Global) (ss : List Scope) (seen l : List ℕ) (count place : ℕ) (sizes env : List ℕ) (top : ℕ) : Type 0 where
@@ -120,11 +121,6 @@ pub record PassesGlobal (l sizes : List ℕ) (place n : ℕ) : Type 0 where
   pub known : place < length sizes
   pub small : place + n ≤ 2048
 
-size-one : (g : Global) → 1 ≤ sizeGlobal g
-size-one (local d) = omega arith
-size-one (class c xs) = omega arith
-size-one (procedure a xs b) = omega arith
-
 module _ {l : List ℕ} {count : ℕ} {sizes old : List ℕ} {top : ℕ} {env : List ℕ} {place left : ℕ} (s : GlobalsSoFar l count sizes old top env place left) (h : 0 < left) where
   this-g : (gs : List Global) (ss : List Scope) (r : ReadyGlobals gs ss [] l count 1 sizes old top) → NextG (s .goes gs ss r .globals) ss (s .goes gs ss r .before) l place sizes env top left
   this-g gs ss r = let g = s .goes gs ss r in next-g (g .globals) ss (g .before) (g .ready) h
@@ -143,7 +139,7 @@ module _ {l : List ℕ} {count : ℕ} {sizes old : List ℕ} {top : ℕ} {env : 
   size-g gs ss r n k =
       let x = this-g gs ss r in
       let d = global-head (x .this) (x .ready) in
-      k ∙ x .ready .table .known .sized place (omega arith) (omega (arith, d .fits, size-one (x .this)))
+      k ∙ x .ready .table .known .sized place (omega arith) (omega (arith, d .fits, size-least (x .this)))
       ∙ span-here l (flatGlobal (x .this)) (spans-Global (x .this) (heads-here (x .ready .table .legible) (x .this) (x .ready .stands)))
       (x .ready .stands) ∙ length-Global (x .this)
 
@@ -152,7 +148,7 @@ module _ {l : List ℕ} {count : ℕ} {sizes old : List ℕ} {top : ℕ} {env : 
       let x = this-g (q .globals) (q .scopes) (q .ready) in
       let d = global-head (x .this) (x .ready) in
       let z = size-g (q .globals) (q .scopes) (q .ready) n k in
-      record { start = omega (arith, d .fits); known = omega (arith, d .fits, size-one (x .this), x .ready .table .known .wide); small = omega (arith, d .fits, x .ready .table .legible .short) }
+      record { start = omega (arith, d .fits); known = omega (arith, d .fits, size-least (x .this), x .ready .table .known .wide); small = omega (arith, d .fits, x .ready .table .legible .short) }
 
   pub globals-stop : {new : List ℕ} {r : Verdict} (n p : ℕ) → AnswersGlobal Any l (below l (8 * place)) place sizes env new top r → r ≡ Refused n p
       → AnswersGlobals l count sizes old new top (Refused n p)

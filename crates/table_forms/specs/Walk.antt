@@ -13,7 +13,7 @@ use Rattle.language.specs.Names.{Scope}
 use Rattle.language.specs.Faults.{faultsItems, faultsEs}
 use Rattle.language_laws.specs.Claims.{entriesOf}
 use Rattle.table_scopes.specs.Environment.{envOf, find}
-use Rattle.table_scopes.specs.Stands.{Stands}
+use Rattle.table_entries.specs.Stands.{Stands}
 use Rattle.table_scopes.specs.Sizes.{Known}
 use Rattle.table_scopes.specs.declared.heads.Verdict.{Verdict}
 use Rattle.table_scopes.specs.declared.heads.Verdict.the-variants.{Fine, Refused}

@@ -12,7 +12,6 @@ use lib.Seq.{drop-at}
 use borrow.Author.Tests.{leb-true}
 use Rattle.language.specs.Program.{flatTyped, flatDecl, flatItems, resultCode, flatBody, flatGlobal, flatHead, flatten, deepItems, deepList, deepBody, deepGlobal, deepGlobals, nesting}
 use Rattle.logic.specs.Choice.{if_then_else_}
-use Rattle.values.specs.Types.{integer, logical, bits, reference}
 use Rattle.values.specs.Ends.{Refusal, refusal, accepted, refused}
 use Rattle.language.specs.Tree.{Typed, declare, holding, Body, proper, function, Global, local, class, procedure, Tree, countItems, locals}
 use Rattle.language.specs.Table as table
@@ -22,8 +21,9 @@ use Rattle.language.specs.Limits.{headCells, headHolds, needItems, keepsLimits,
 use Rattle.logic.specs.Tests.{clash, both-left}
 use Rattle.language_laws.specs.Claims.{Readable, entriesOf}
 use Rattle.language_laws.specs.Programs.{flatten-read}
+use Rattle.language_laws.specs.Roots.{small-result}
 use Rattle.language_laws.specs.Takes.{Fits, fits-head, fits-tail, fits-left, fits-right}
-use Rattle.table_read.proofs.Parts.{entries-none}
+use Rattle.table_entries.specs.Entries.{entries-none}
 use Rattle.table_read.specs.Operands.{sorts}
 use Rattle.table_read.specs.Walk.{kindAt, nameAt, sizeAt}
 use Rattle.table_limits.specs.declared.sums.Used.{Used}
@@ -76,14 +76,6 @@ through-typed (x ∷ xs) d k m i u rest h s l =
     deep : (ys : List Typed) → deepList ys ≤ d
     deep [] = omega arith
     deep (y ∷ ys) = h
-
--- a result that stands in b of a procedure's entry
-small-result : (b : Body) (n : ℕ) → (256 * n + resultCode b) / 256 ≤ 8 → resultCode b ≤ 3
-small-result (proper s) n h = omega arith
-small-result (function integer e) n h = omega arith
-small-result (function logical e) n h = omega arith
-small-result (function bits e) n h = omega arith
-small-result (function (reference c) e) n h = absurd (omega arith)
 
 uses-class : (c : ℕ) (xs : List Typed) → deepList xs ≤ 62 → Uses (usageAt 63) (flatGlobal (class c xs)) (usedG (class c xs))
 unfolding flatGlobal headOf sorts stacks aloneOf

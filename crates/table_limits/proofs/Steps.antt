@@ -15,7 +15,7 @@ use Rattle.logic.specs.Tests.{clash, both-left, both-right}
 use Rattle.language_laws.specs.Claims.{entriesOf}
 use Rattle.table_read.specs.Operands.{sorts}
 use Rattle.table_read.specs.Walk.{kindAt, nameAt, sizeAt}
-use Rattle.table_read.proofs.Parts.{entries-none, entries-some}
+use Rattle.table_entries.specs.Entries.{entries-none, entries-some}
 use Rattle.table_read.proofs.Roots.{tally-small}
 use Rattle.table_limits.specs.declared.sums.Used.{Used}
 use Rattle.table_limits.specs.declared.Usage.{Usage}

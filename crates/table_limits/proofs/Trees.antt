@@ -16,11 +16,10 @@ use Rattle.values.specs.Operators.{unaryCode, binaryCode}
 use Rattle.language.specs.Tree.{Decl, declare, holding, Stmt, block, assign, when, choose, while, goto, assert, call, setLevel, select, Items, noItem, label, item, Arms}
 use Rattle.language.specs.Tree.{lastArm, arm, Target, toVariable, toField, Expr, number, truth, pattern, null, variable, invoke, field, make, operate1, operate2}
 use Rattle.language.specs.Tree.{conditional, fader, blockExpr, Exprs, noExpr, expr, countItems, countArms, countExprs}
-use Rattle.language.specs.Table.{Entry, entry, took, below}
+use Rattle.language.specs.Table.{Entry, entry}
 use Rattle.language.specs.Faults.{sizeS, sizeItems, sizeArms, sizeTarget, sizeE, sizeEs}
 use Rattle.language.specs.Limits.{declCells, headCells, cellsS, cellsItems, cellsArms, cellsTarget, cellsE, cellsEs, declHolds, headHolds, holdsS, holdsItems, holdsArms}
 use Rattle.language.specs.Limits.{holdsTarget, holdsE, holdsEs, needS, needItems, needArms, needTarget, needE, needEs}
-use Rattle.language_laws.specs.WriteBack.{gives}
 use Rattle.table_read.specs.Operands.{sorts}
 use Rattle.table_read.specs.Walk.{sortsOf}
 use Rattle.table_limits.specs.declared.sums.Used.{Used}
@@ -389,10 +388,3 @@ mutual
   size-Es : (es : Exprs) → length (flatEs es) ≡ sizeEs es
   size-Es noExpr = refl
   size-Es (expr e es) = omega (arith, length-append (flatE e) (flatEs es), uses-E e (deepE e) (omega arith) .size, size-Es es)
-
--- ── what is read takes what its tree does ──
-pub statement-usage : (d : ℕ) (es rest : List Entry) (x : Stmt) → below d .stmt es ≡ took x rest → usageAt d es ≡ Of (usedS x)
-statement-usage d es rest x e = let a = gives d .stmt .yields es rest x e in rw (a .split, a .holds .written) (uses-S x d (a .holds .fits .depth) .value rest)
-
-pub expression-usage : (d : ℕ) (es rest : List Entry) (x : Expr) → below d .expr es ≡ took x rest → usageAt d es ≡ Of (usedE x)
-expression-usage d es rest x e = let a = gives d .expr .yields es rest x e in rw (a .split, a .holds .written) (uses-E x d (a .holds .fits .depth) .value rest)

@@ -151,7 +151,7 @@ pub fn over_limits(table: &[u8]) -> Limited
     if table.len() < ENTRY_BYTES {
         return Limited::Within;
     }
-    match root_head(&table[8..], table_read::name_of(table)) {
+    match root_head(&table[ENTRY_BYTES..], table_read::name_of(table)) {
         Head::Own(own) => {
             let at = ENTRY_BYTES * own.entries;
             root_limit(root_items(&table[at..], table_read::size_of(table), own))

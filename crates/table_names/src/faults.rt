@@ -87,8 +87,8 @@ fn procedure(
     requires { ⌜ AsksGlobal IsProcedure (now table) (now part) at (now sizes) (now env) top ⌝ }
     ensures { λ r. ⌜ AnswersGlobal IsProcedure (now (table .entry)) (now (part .entry)) at (now (sizes .entry)) (now (env .entry)) (now (env .exit)) top r ⌝ }
 {
-    let heading = words::word_at(part, B_AT);
-    let name = words::half_at(part, A_AT);
+    let heading = table_entries::b_at(part, 0);
+    let name = table_entries::a_at(part, 0);
     let parameters = heading as usize / 256;
     table_scopes::push(env, top, 65537, 0, 0, 0);
     let up = table_scopes::add_head(table, at + 1, parameters, 4, env, top + 1);
@@ -115,10 +115,11 @@ fn procedure(
 // The fields of a class, and then the class itself.
 fn class(table: &[u8], part: &[u8], at: usize, env: &[u32], top: usize) -> Verdict
     requires { ⌜ (8 ≤ length (now part)) × (8 * (at + 1 + wordAt (now part) 4) ≤ length (now table)) × (4 * top ≤ length (now env)) ⌝ }
-    ensures { λ r. ⌜ Says r (headFlaws (now (table .entry)) (envOf (now (env .entry)) top) (at + 1) (wordAt (now (part .entry)) 4) ++ onceFlaw (envOf (now (env .entry)) top) (halfAt (now (part .entry)) 2) at) ⌝ }
+    ensures { λ r. ⌜ Says r (headFlaws (now (table .entry)) (envOf (now (env .entry)) top) (at + 1) (wordAt (now (part .entry)) 4)
+        ++ onceFlaw (envOf (now (env .entry)) top) (halfAt (now (part .entry)) 2) at) ⌝ }
 {
-    let fields = words::word_at(part, B_AT) as usize;
-    let name = words::half_at(part, A_AT);
+    let fields = table_entries::b_at(part, 0) as usize;
+    let name = table_entries::a_at(part, 0);
     match table_scopes::head(table, at + 1, fields, env, top) {
         Verdict::Fine(_) => table_scopes::once(env, top, name as u32, at),
         Verdict::Refused(n, p) => Verdict::Refused(n, p),
@@ -136,7 +137,7 @@ fn global(
     requires { ⌜ AsksGlobal Any (now table) (now part) at (now sizes) (now env) top ⌝ }
     ensures { λ r. ⌜ AnswersGlobal Any (now (table .entry)) (now (part .entry)) at (now (sizes .entry)) (now (env .entry)) (now (env .exit)) top r ⌝ }
 {
-    let kind = words::half_at(part, KIND_AT);
+    let kind = table_entries::kind_at(part, 0);
     match kind {
         KIND_CLASS => class(table, part, at, env, top),
         KIND_PROCEDURE => procedure(table, part, at, sizes, env, top),
@@ -170,8 +171,8 @@ fn root(table: &[u8], sizes: &[u16], env: &mut [u32]) -> Verdict
     requires { ⌜ AsksRoot (now table) (now sizes) (now env) ⌝ }
     ensures { λ r. ⌜ AnswersRoot (now (table .entry)) (now (sizes .entry)) (now (env .entry)) r ⌝ }
 {
-    let count = words::half_at(table, A_AT) as usize;
-    let rest = words::word_at(table, B_AT) as usize;
+    let count = table_entries::a_at(table, 0) as usize;
+    let rest = table_entries::b_at(table, 0) as usize;
     let after = 1 + table_scopes::spanned(table, sizes, 1, count);
     let top = table_scopes::enter_root(table, count, after, rest, sizes, env);
     match globals(table, count, sizes, env, top) {

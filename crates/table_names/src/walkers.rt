@@ -5,6 +5,7 @@ use table_scopes::Verdict;
 ghost use mathlib.Core.Path.{_≡_};
 ghost use Prim.Native.Nat.{_+_, _*_};
 ghost use Rattle.table_forms.specs.Forms.{ExprForm, StmtForm, SimpleForm, GuardForm, BlockForm, BodyForm};
+ghost use Rattle.table_forms.specs.Block.{AsksContents, AnswersContents};
 ghost use Rattle.table_forms.specs.Walk.{Asks, Answers, Typed, AsksEs, AnswersEs, Alike, AsksItems, AnswersItems, operandsBy, isPlain, guardedBy, testedBy};
 
 // The expressions below an entry that has no other operands.
@@ -121,9 +122,9 @@ fn operand(
     requires { ⌜ Asks ExprForm (now table) (now part) nesting at (now sizes) (now env) (top + i) × Alike (now env) top i ⌝ }
     ensures { λ r. ⌜ Typed ExprForm (now (table .entry)) (now (part .entry)) nesting at (now (sizes .entry)) (now (env .entry)) (now (env .exit)) (top + i) r ⌝ }
 {
-    let kind = words::half_at(part, KIND_AT);
+    let kind = table_entries::kind_at(part, 0);
     if table_types::is_leaf(kind) {
-        table_types::leaf(kind, words::half_at(part, A_AT) as u32, at, env, top)
+        table_types::leaf(kind, table_entries::a_at(part, 0) as u32, at, env, top)
     } else {
         expression(table, part, nesting, at, sizes, env, top + i)
     }
@@ -142,9 +143,9 @@ fn simple(
     requires { ⌜ Asks SimpleForm (now table) (now part) nesting at (now sizes) (now env) top ⌝ }
     ensures { λ r. ⌜ Typed SimpleForm (now (table .entry)) (now (part .entry)) nesting at (now (sizes .entry)) (now (env .entry)) (now (env .exit)) top r ⌝ }
 {
-    let kind = words::half_at(part, KIND_AT);
-    let name = words::half_at(part, A_AT);
-    let count = operands_of(kind, words::word_at(part, B_AT));
+    let kind = table_entries::kind_at(part, 0);
+    let name = table_entries::a_at(part, 0);
+    let count = operands_of(kind, table_entries::b_at(part, 0));
     match operands(
         table,
         &part[ENTRY_BYTES..],
@@ -181,8 +182,8 @@ fn guarded(
     requires { ⌜ Asks GuardForm (now table) (now part) nesting at (now sizes) (now env) top ⌝ }
     ensures { λ r. ⌜ Answers GuardForm (now (table .entry)) (now (part .entry)) nesting at (now (sizes .entry)) (now (env .entry)) (now (env .exit)) top r ⌝ }
 {
-    let kind = words::half_at(part, KIND_AT);
-    let count = guarded_of(kind, words::half_at(part, A_AT));
+    let kind = table_entries::kind_at(part, 0);
+    let count = guarded_of(kind, table_entries::a_at(part, 0));
     match expression(
         table,
         &part[ENTRY_BYTES..],
@@ -260,14 +261,47 @@ fn item(
     requires { ⌜ Asks StmtForm (now table) (now part) nesting at (now sizes) (now env) top ⌝ }
     ensures { λ r. ⌜ Answers StmtForm (now (table .entry)) (now (part .entry)) nesting at (now (sizes .entry)) (now (env .entry)) (now (env .exit)) top r ⌝ }
 {
-    if is_plain(words::half_at(part, KIND_AT)) {
+    if is_plain(table_entries::kind_at(part, 0)) {
         simple(table, part, nesting, at, sizes, env, top)
     } else {
         statement(table, part, nesting, at, sizes, env, top)
     }
 }
 
-// A block: its names, then its head, then its items.
+// The head and the items of a block or a block expression, whose names are in sight.
+fn contents(
+    table: &[u8],
+    part: &[u8],
+    heads: usize,
+    count: usize,
+    nesting: usize,
+    at: usize,
+    sizes: &[u16],
+    env: &mut [u32],
+    top: usize,
+) -> Verdict
+    requires { ⌜ AsksContents (now table) (now part) heads count nesting at (now sizes) (now env) top ⌝ }
+    ensures { λ r. ⌜ AnswersContents (now (table .entry)) (now (part .entry)) heads count nesting at (now (sizes .entry)) (now (env .entry)) (now (env .exit)) top r ⌝ }
+{
+    match table_scopes::head(table, at + 1, heads, env, top) {
+        Verdict::Fine(_) => {
+            let from = ENTRY_BYTES * (1 + heads);
+            items(
+                table,
+                &part[from..],
+                count,
+                nesting,
+                at + 1 + heads,
+                sizes,
+                env,
+                top,
+            )
+        }
+        Verdict::Refused(k, p) => Verdict::Refused(k, p),
+    }
+}
+
+// A block: its names, and then what stands in it.
 fn block(
     table: &[u8],
     part: &[u8],
@@ -280,25 +314,10 @@ fn block(
     requires { ⌜ Asks BlockForm (now table) (now part) nesting at (now sizes) (now env) top ⌝ }
     ensures { λ r. ⌜ Answers BlockForm (now (table .entry)) (now (part .entry)) nesting at (now (sizes .entry)) (now (env .entry)) (now (env .exit)) top r ⌝ }
 {
-    let heads = words::half_at(part, A_AT) as usize;
-    let count = words::word_at(part, B_AT) as usize;
+    let heads = table_entries::a_at(part, 0) as usize;
+    let count = table_entries::b_at(part, 0) as usize;
     let up = table_scopes::enter(table, at + 1, heads, count, 65536, sizes, env, top);
-    match table_scopes::head(table, at + 1, heads, env, up) {
-        Verdict::Fine(_) => {
-            let from = ENTRY_BYTES * (1 + heads);
-            items(
-                table,
-                &part[from..],
-                count,
-                nesting - 1,
-                at + 1 + heads,
-                sizes,
-                env,
-                up,
-            )
-        }
-        Verdict::Refused(k, p) => Verdict::Refused(k, p),
-    }
+    contents(table, part, heads, count, nesting - 1, at, sizes, env, up)
 }
 
 // A block expression: the same behind a wall, which no goto passes, and then its expression.
@@ -314,37 +333,22 @@ fn body(
     requires { ⌜ Asks BodyForm (now table) (now part) nesting at (now sizes) (now env) top ⌝ }
     ensures { λ r. ⌜ Typed BodyForm (now (table .entry)) (now (part .entry)) nesting at (now (sizes .entry)) (now (env .entry)) (now (env .exit)) top r ⌝ }
 {
-    let heads = words::half_at(part, A_AT) as usize;
-    let count = words::word_at(part, B_AT) as usize;
+    let heads = table_entries::a_at(part, 0) as usize;
+    let count = table_entries::b_at(part, 0) as usize;
     let up = table_scopes::enter(table, at + 1, heads, count, 65537, sizes, env, top);
-    match table_scopes::head(table, at + 1, heads, env, up) {
+    match contents(table, part, heads, count, nesting - 1, at, sizes, env, up) {
         Verdict::Fine(_) => {
-            let from = ENTRY_BYTES * (1 + heads);
-            match items(
+            let n = table_scopes::spanned(table, sizes, at + 1 + heads, count);
+            let after = ENTRY_BYTES * (1 + heads + n);
+            expression(
                 table,
-                &part[from..],
-                count,
+                &part[after..],
                 nesting - 1,
-                at + 1 + heads,
+                at + 1 + heads + n,
                 sizes,
                 env,
                 up,
-            ) {
-                Verdict::Fine(_) => {
-                    let n = table_scopes::spanned(table, sizes, at + 1 + heads, count);
-                    let after = ENTRY_BYTES * (1 + heads + n);
-                    expression(
-                        table,
-                        &part[after..],
-                        nesting - 1,
-                        at + 1 + heads + n,
-                        sizes,
-                        env,
-                        up,
-                    )
-                }
-                Verdict::Refused(k, p) => Verdict::Refused(k, p),
-            }
+            )
         }
         Verdict::Refused(k, p) => Verdict::Refused(k, p),
     }
@@ -362,7 +366,7 @@ pub fn expression(
     requires { ⌜ Asks ExprForm (now table) (now part) nesting at (now sizes) (now env) top ⌝ }
     ensures { λ r. ⌜ Typed ExprForm (now (table .entry)) (now (part .entry)) nesting at (now (sizes .entry)) (now (env .entry)) (now (env .exit)) top r ⌝ }
 {
-    if words::half_at(part, KIND_AT) == KIND_BLOCK_EXPRESSION {
+    if table_entries::kind_at(part, 0) == KIND_BLOCK_EXPRESSION {
         body(table, part, nesting, at, sizes, env, top)
     } else {
         simple(table, part, nesting, at, sizes, env, top)
@@ -382,10 +386,10 @@ pub fn statement(
     requires { ⌜ Asks StmtForm (now table) (now part) nesting at (now sizes) (now env) top ⌝ }
     ensures { λ r. ⌜ Answers StmtForm (now (table .entry)) (now (part .entry)) nesting at (now (sizes .entry)) (now (env .entry)) (now (env .exit)) top r ⌝ }
 {
-    let kind = words::half_at(part, KIND_AT);
+    let kind = table_entries::kind_at(part, 0);
     match kind {
         KIND_BLOCK => block(table, part, nesting, at, sizes, env, top),
-        KIND_LABEL => table_scopes::once(env, top, words::half_at(part, A_AT) as u32, at),
+        KIND_LABEL => table_scopes::once(env, top, table_entries::a_at(part, 0) as u32, at),
         KIND_IF => guarded(table, part, nesting, at, sizes, env, top),
         KIND_IF_ELSE => guarded(table, part, nesting, at, sizes, env, top),
         KIND_WHILE => guarded(table, part, nesting, at, sizes, env, top),

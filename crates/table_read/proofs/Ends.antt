@@ -14,7 +14,7 @@ use Rattle.language.specs.Table.{Entry, inLayout, took, stop, Reader, after, ma
 use Rattle.table_read.specs.declared.kinds.Sort.{Sort}
 use Rattle.table_read.specs.declared.Read.{Read}
 use Rattle.table_read.specs.declared.Read.the-variants.{Tree, Fault}
-use Rattle.table_read.specs.Walk.{shapeOf, counted, moved, onward, chain, sortsOf, entered}
+use Rattle.table_read.specs.Walk.{counted, moved, onward, chain, sortsOf, entered}
 
 -- as many entries as the answer counts, and then the entries that are left
 pub data Ends {A : Type 0} (es : List Entry) : table.Read A → Read → Type 0 where
@@ -24,10 +24,6 @@ pub data Ends {A : Type 0} (es : List Entry) : table.Read A → Read → Type 0 
 -- w answers what r reads
 pub record Same {A : Type 0} (r : Reader A) (w : List Entry → Read) : Type 0 where
   pub ends : (es : List Entry) → Ends es (r es) (w es)
-
-pub ends-shape : {A : Type 0} {es : List Entry} {x : table.Read A} {a : Read} → Ends es x a → a ≡ shapeOf es x
-ends-shape {es = es} (ended x n h) = ap Tree (omega (arith, length-drop n es))
-ends-shape {es = es} (halted n h) = ap Fault (omega (arith, length-drop n es))
 
 pub ends-count : {A : Type 0} {es : List Entry} {x : table.Read A} {a : Read} → Ends es x a → counted a ≤ length es
 ends-count (ended x n h) = h

@@ -31,7 +31,7 @@ use Rattle.table_read.specs.Walk.{readingOf, counted, moved, onward, cha
 use Rattle.table_read.proofs.Ends.{Ends, ended, halted, Same, Chained, ends-count, ends-moved, ends-made, ends-then, ends-entry, ends-if, ends-stop, same-made}
 use Rattle.table_read.proofs.Ends.{same-one, same-times, times-then, same-first}
 use Rattle.table_read.proofs.Forms.{reads, below-entry, declaration, walks}
-use Rattle.table_read.proofs.Parts.{entries-length}
+use Rattle.table_entries.specs.Entries.{entries-length}
 use Rattle.table_read.proofs.Steps.{moved-swap, counted-moved}
 
 -- ── a declaration of the root's head ──

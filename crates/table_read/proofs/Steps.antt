@@ -11,25 +11,18 @@ use lib.ListN.{length, getD, drop}
 use lib.Seq.{drop-cons, drop-length}
 use borrow.Author.Tests.{eqb-true, leb-true}
 use Rattle.logic.specs.Choice.{if_then_else_}
-use Rattle.language.specs.Table.{Entry, below}
-use Rattle.logic.specs.Tests.{both-left, both-right}
+use Rattle.language.specs.Table.{Entry}
+use Rattle.logic.specs.Tests.{clash, both-left, both-right}
 use Rattle.language_laws.specs.Claims.{entriesOf}
 use Rattle.table_read.specs.declared.kinds.Sort.{Sort}
 use Rattle.table_read.specs.declared.kinds.Sort.the-variants.{Typed, Decl, Part, Stmt, Target, Expr}
 use Rattle.table_read.specs.declared.Read.{Read}
 use Rattle.table_read.specs.declared.Read.the-variants.{Tree, Fault}
 use Rattle.table_read.specs.Operands.{isS, isE, sorts}
-use Rattle.table_read.specs.Walk.{shapeOf, leafOf, counted, moved, chain, kindAt, nameAt, sizeAt, laidAt, standsAt, atomAt, sortsAt, admits, entered, walk}
-use Rattle.table_read.proofs.Ends.{ends-shape, ends-count}
+use Rattle.table_read.specs.Walk.{leafOf, counted, moved, chain, kindAt, nameAt, sizeAt, laidAt, standsAt, atomAt, sortsAt, admits, entered, walk}
+use Rattle.table_read.proofs.Ends.{ends-count}
 use Rattle.table_read.proofs.Forms.{walks}
-use Rattle.table_read.proofs.Parts.{entries-length}
-
--- ── the definition's answers ──
-pub statement-shape : (d : ℕ) (es : List Entry) → walk d Stmt es ≡ shapeOf es (below d .stmt es)
-statement-shape d es = ends-shape (walks d Stmt .ends es)
-
-pub expression-shape : (d : ℕ) (es : List Entry) → walk d Expr es ≡ shapeOf es (below d .expr es)
-expression-shape d es = ends-shape (walks d Expr .ends es)
+use Rattle.table_entries.specs.Entries.{entries-length}
 
 -- no answer counts more entries than there are bytes for
 pub walk-fits : (d : ℕ) (s : Sort) (l : List ℕ) {x : Read} → x ≡ walk d s (entriesOf l) → 8 * counted x ≤ length l
@@ -93,7 +86,7 @@ module _ (w : Sort → List Entry → Read) (p : ℕ → Bool) (es : List Entry)
   unfolding chain
   entered-leaf e f = rw (sorts-at, e, f (nameAt es) (sizeAt es))
 
-entered-same : (w : Sort → List Entry → Read) (p q : ℕ → Bool) (es : List Entry) → p (kindAt es) ≡ q (kindAt es) → entered w p es ≡ entered w q es
+pub entered-same : (w : Sort → List Entry → Read) (p q : ℕ → Bool) (es : List Entry) → p (kindAt es) ≡ q (kindAt es) → entered w p es ≡ entered w q es
 unfolding entered
 entered-same w p q es e = rw e
 
@@ -145,6 +138,10 @@ module _ (d : ℕ) (es : List Entry) (pos : d ≡ 0 → ⊥) where
   unfolding walk
   walk-open s = let h : d ≡ suc (d - 1) = omega arith in ap (λ (m : ℕ). walk m s es) h
 
+  -- what is admitted may be asked before
+  pub walk-entered : (s : Sort) {b : Bool} → b ≡ admits s (kindAt es) → entered (walk (d - 1)) (λ k. b) es ≡ walk d s es
+  walk-entered s {b} e = entered-same (walk (d - 1)) (λ k. b) (admits s) es e ∙ sym (walk-open s)
+
   pub walk-typed : walk d Typed es ≡ leafOf (standsAt 10 es)
   unfolding entered admits sorts
   walk-typed =
@@ -185,11 +182,13 @@ module _ (d : ℕ) (es : List Entry) (pos : d ≡ 0 → ⊥) where
       let a = atoms k (leb-true 40 k (both-left (leb 40 k) (leb k 44) b)) (leb-true k 44 (both-right (leb 40 k) (leb k 44) b)) in
       walk-open Expr ∙ entered-whole (walk (d - 1)) (admits Expr) es (both-right (leb 40 k && leb k 44) (laidAt es) t) (a .0) ∙ rw (a .1 (nameAt es) (sizeAt es))
 
-  pub walk-target : standsAt 46 es ≡ true → walk d Expr es ≡ walk d Target es
-  unfolding admits isE
-  walk-target t =
-      walk-open Expr ∙ entered-same (walk (d - 1)) (admits Expr) (admits Target) es (rw (stands-kind 46 es t)) ∙ sym (walk-open Target)
-
-  pub walk-no-target : standsAt 44 es ≡ false → standsAt 46 es ≡ false → walk d Target es ≡ Fault 0
+  -- what is no variable is a field or nothing
+  pub walk-unvaried : standsAt 44 es ≡ false → {b : Bool} → b ≡ standsAt 46 es → entered (walk (d - 1)) (λ k. b) es ≡ walk d Target es
   unfolding entered admits
-  walk-no-target t u = walk-open Target ∙ rw (spread (laidAt es) (eqb (kindAt es) 44) (eqb (kindAt es) 46), t, u)
+  walk-unvaried t {b} e = rw (e, walk-open Target, tests (laidAt es) (eqb (kindAt es) 44) (eqb (kindAt es) 46) t)
+    where
+      tests : (l v f : Bool) → (v && l) ≡ false → (l && (f && l)) ≡ (l && (v || f))
+      tests false v f h = refl
+      tests true false true h = refl
+      tests true false false h = refl
+      tests true true f h = clash (let z : true ≡ false = h in cc)

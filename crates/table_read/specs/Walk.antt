@@ -1,15 +1,15 @@
 -- How the code reads, in its own terms: answers count entries from the start of the part that is read.
 use mathlib.Core.Bool.{Bool, false, _&&_, _||_}
 use mathlib.Core.List.{List, [], _∷_}
-use Prim.Native.Nat.{ℕ, zero, suc, _+_, _-_}
+use Prim.Native.Nat.{ℕ, zero, suc, _+_}
 use lib.Dec.{eqb, leb, ltb}
 use lib.IntN.{natAbs}
-use lib.ListN.{length, drop, replicate}
+use lib.ListN.{drop, replicate}
 use Rattle.logic.specs.Choice.{if_then_else_}
 use Rattle.values.specs.Ends.{Judged, accepted, refused}
 use Rattle.language.specs.Tree as tree
 use Rattle.language.specs.Table as table
-use Rattle.language.specs.Table.{Entry, inLayout, took, stop}
+use Rattle.language.specs.Table.{Entry, inLayout}
 use Rattle.table_read.specs.declared.kinds.Sort.{Sort}
 use Rattle.table_read.specs.declared.kinds.Sort.the-variants.{Typed, Decl, Part, Stmt, Target, Expr}
 use Rattle.table_read.specs.Operands.{isS, isE, sorts}
@@ -19,11 +19,6 @@ use Rattle.table_read.specs.declared.Reading.{Reading}
 use Rattle.table_read.specs.declared.Reading.the-variants.{Reads, Refused}
 
 -- ── what the code answers of what is read ──
--- the entries read, or those before the first that does not read
-abbrev pub shapeOf : {A : Type 0} → List Entry → table.Read A → Read
-shapeOf es (took x rest) = Tree (length es - length rest)
-shapeOf es (stop rest) = Fault (length es - length rest)
-
 abbrev pub readingOf : Judged tree.Tree → Reading
 readingOf (accepted t) = Reads
 readingOf (refused r) = Refused (r .number) (r .place)

@@ -10,10 +10,11 @@ ghost use mathlib.Core.Path.{_≡_};
 ghost use mathlib.Core.Bool.{_||_};
 ghost use Prim.Native.Nat.{_+_, _*_, _^_, _≤_, _<_};
 ghost use lib.ListN.{length};
-ghost use Rattle.language.specs.Table.{below, readTable};
+ghost use Rattle.language.specs.Table.{readTable};
 ghost use Rattle.language_laws.specs.Claims.{entriesOf};
 ghost use Rattle.table_read.specs.Operands.{sorts};
-ghost use Rattle.table_read.specs.Walk.{shapeOf, readingOf, leafOf, counted, moved, chain, laidAt, standsAt, atomAt, kindAt, nameAt, sizeAt, walk, entered, isGlobal, tally as tallyOf, walkHead, walkRoot};
+ghost use Rattle.table_read.specs.Walk.{readingOf, leafOf, counted, moved, chain, laidAt, standsAt, atomAt, kindAt, nameAt, sizeAt, walk, entered, isGlobal};
+ghost use Rattle.table_read.specs.Walk.{tally as tallyOf, walkHead, walkRoot};
 
 pub enum Read {
     // a whole tree, and how many entries it has
@@ -34,21 +35,31 @@ pub fn kind_of(part: &[u8]) -> u16
     requires { ⌜ 8 ≤ length (now part) ⌝ }
     ensures { λ r. ⌜ r ≡ kindAt (entriesOf (now (part .entry))) ⌝ }
 {
-    words::half_at(part, KIND_AT)
+    table_entries::kind_at(part, 0)
 }
 
 pub fn name_of(part: &[u8]) -> u16
     requires { ⌜ 8 ≤ length (now part) ⌝ }
     ensures { λ r. ⌜ r ≡ nameAt (entriesOf (now (part .entry))) ⌝ }
 {
-    words::half_at(part, A_AT)
+    table_entries::a_at(part, 0)
 }
 
 pub fn size_of(part: &[u8]) -> u32
     requires { ⌜ 8 ≤ length (now part) ⌝ }
     ensures { λ r. ⌜ r ≡ sizeAt (entriesOf (now (part .entry))) ⌝ }
 {
-    layout::magnitude(words::integer_at(part, B_AT))
+    layout::magnitude(table_entries::signed_b_at(part, 0))
+}
+
+// The kind of the entry there, and 0, which is no kind, where none stands.
+fn kind_here(part: &[u8]) -> u16
+    ensures { λ r. ⌜ r ≡ kindAt (entriesOf (now (part .entry))) ⌝ }
+{
+    if part.len() < ENTRY_BYTES {
+        return 0;
+    }
+    kind_of(part)
 }
 
 // Whether an entry stands there and keeps to the layout.
@@ -59,9 +70,9 @@ fn laid(part: &[u8]) -> bool
         return false;
     }
     layout::in_layout(
-        words::half_at(part, KIND_AT),
-        words::half_at(part, A_AT),
-        words::integer_at(part, B_AT),
+        table_entries::kind_at(part, 0),
+        table_entries::a_at(part, 0),
+        table_entries::signed_b_at(part, 0),
     )
 }
 
@@ -103,8 +114,8 @@ fn atom(part: &[u8]) -> bool
     }
     layout::in_layout(
         kind,
-        words::half_at(part, A_AT),
-        words::integer_at(part, B_AT),
+        table_entries::a_at(part, 0),
+        table_entries::signed_b_at(part, 0),
     )
 }
 
@@ -143,20 +154,18 @@ fn operand(part: &[u8], sort: Sort, nesting: usize) -> Read
         Sort::Part => if stands(part, KIND_LABEL) {
             Read::Tree(1)
         } else {
-            read_statement(part, nesting)
+            read_entry(part, kinds::is_statement(kind_here(part)), nesting - 1)
         },
-        Sort::Stmt => read_statement(part, nesting),
+        Sort::Stmt => read_entry(part, kinds::is_statement(kind_here(part)), nesting - 1),
         Sort::Target => if stands(part, KIND_VARIABLE) {
             Read::Tree(1)
-        } else if stands(part, KIND_FIELD) {
-            read_expression(part, nesting)
         } else {
-            Read::Fault(0)
+            read_entry(part, stands(part, KIND_FIELD), nesting - 1)
         },
         Sort::Expr => if atom(part) {
             Read::Tree(1)
         } else {
-            read_expression(part, nesting)
+            read_entry(part, kinds::is_expression(kind_here(part)), nesting - 1)
         },
     }
 }
@@ -185,47 +194,22 @@ fn operands(part: &[u8], kind: u16, a: u16, n: u32, nesting: usize) -> Read
     Read::Tree(passed)
 }
 
-pub fn read_statement(part: &[u8], nesting: usize) -> Read
-    ensures { λ r. ⌜ r ≡ shapeOf (entriesOf (now (part .entry))) (below nesting .stmt (entriesOf (now (part .entry)))) ⌝ }
+// An entry that may stand there by its kind, and its operands, below which so much nesting is left.
+fn read_entry(part: &[u8], admitted: bool, nesting: usize) -> Read
+    ensures { λ r. ⌜ r ≡ entered (walk nesting) (λ _. «admitted») (entriesOf (now (part .entry))) ⌝ }
 {
-    if nesting == 0 {
-        return Read::Fault(0);
-    }
     if !laid(part) {
         return Read::Fault(0);
     }
-    let kind = kind_of(part);
-    if !kinds::is_statement(kind) {
+    if !admitted {
         return Read::Fault(0);
     }
     operands(
         &part[ENTRY_BYTES..],
-        kind,
+        kind_of(part),
         name_of(part),
         size_of(part),
-        nesting - 1,
-    )
-}
-
-pub fn read_expression(part: &[u8], nesting: usize) -> Read
-    ensures { λ r. ⌜ r ≡ shapeOf (entriesOf (now (part .entry))) (below nesting .expr (entriesOf (now (part .entry)))) ⌝ }
-{
-    if nesting == 0 {
-        return Read::Fault(0);
-    }
-    if !laid(part) {
-        return Read::Fault(0);
-    }
-    let kind = kind_of(part);
-    if !kinds::is_expression(kind) {
-        return Read::Fault(0);
-    }
-    operands(
-        &part[ENTRY_BYTES..],
-        kind,
-        name_of(part),
-        size_of(part),
-        nesting - 1,
+        nesting,
     )
 }
 
@@ -246,18 +230,9 @@ fn is_global(kind: u16, classes: usize, procedures: usize) -> bool
 fn read_global(part: &[u8], classes: usize, procedures: usize) -> Read
     ensures { λ r. ⌜ r ≡ entered (walk 62) (isGlobal classes procedures) (entriesOf (now (part .entry))) ⌝ }
 {
-    if !laid(part) {
-        return Read::Fault(0);
-    }
-    let kind = kind_of(part);
-    if !is_global(kind, classes, procedures) {
-        return Read::Fault(0);
-    }
-    operands(
-        &part[ENTRY_BYTES..],
-        kind,
-        name_of(part),
-        size_of(part),
+    read_entry(
+        part,
+        is_global(kind_here(part), classes, procedures),
         BELOW_HEAD,
     )
 }

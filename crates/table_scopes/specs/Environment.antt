@@ -1,6 +1,6 @@
 -- The names in sight as lent numbers hold them, innermost first, and the steps of a lookup among them.
 use mathlib.Core.Path.{_≡_}
-use mathlib.Core.Bool.{Bool, true, false}
+use mathlib.Core.Bool.{Bool, true, false, _||_}
 use mathlib.Core.List.{List, [], _∷_}
 use Prim.Native.Nat.{ℕ, zero, suc, _+_, _*_, _≤_}
 use lib.ListN.{length, getD}
@@ -23,13 +23,10 @@ shut = 65537
 abbrev pub value : ℕ
 value = 65538
 
-abbrev pub orElse : Bool → Bool → Bool
-orElse b c = if b then true else c
-
 -- what was found, seen from behind a wall
 abbrev pub passing : Bool → Found → Found
 passing b Nothing = Nothing
-passing b (Def s n q c) = Def s n q (orElse b c)
+passing b (Def s n q c) = Def s n q (b || c)
 
 -- the definition of a name: that of the smallest block that has one, and whether a wall lies between
 unfoldable pub find : ℕ → List Item → Found

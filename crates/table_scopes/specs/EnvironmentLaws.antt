@@ -1,6 +1,6 @@
 -- Laws of the names in sight.
 use mathlib.Core.Path.{_≡_, refl, ap, sym, _∙_}
-use mathlib.Core.Bool.{Bool, true, false}
+use mathlib.Core.Bool.{Bool, true, false, _||_}
 use mathlib.Core.List.{List, [], _∷_, _++_}
 use Prim.Native.Nat.{ℕ, zero, suc, _+_, _-_, _*_, _≤_, _<_}
 use native.Mathlib.Omega.{arith}
@@ -16,18 +16,18 @@ use mathlib.Core.Logic.{inr}
 use Rattle.words.specs.Laws.{in-sets, out-sets}
 use Rattle.table_scopes.specs.declared.environment.Found.{Found}
 use Rattle.table_scopes.specs.declared.environment.Found.the-variants.{Nothing, Def}
-use Rattle.table_scopes.specs.Environment.{Item, item, nameOf, find, here, adding, addAll, envOf, passing, orElse, shut, Grown}
+use Rattle.table_scopes.specs.Environment.{Item, item, nameOf, find, here, adding, addAll, envOf, passing, shut, Grown}
 
 -- ── the item on top ──
 pub top-item : (l : List ℕ) (i : ℕ) → 0 < i → envOf l i ≡ item (getD l (4 * (i - 1)) 0) (getD l (4 * (i - 1) + 1) 0) (getD l (4 * (i - 1) + 2) 0) (getD l (4 * (i - 1) + 3) 0) ∷ envOf l (i - 1)
 unfolding envOf
 top-item l i h = let e : i ≡ suc (i - 1) = omega arith in ap (λ (m : ℕ). envOf l m) e
 
-orElse-false : (b : Bool) → orElse b false ≡ b
-orElse-false true = refl
-orElse-false false = refl
+or-false : (b : Bool) → (b || false) ≡ b
+or-false true = refl
+or-false false = refl
 
-passing-passing : (b d : Bool) (f : Found) → passing b (passing d f) ≡ passing (orElse b d) f
+passing-passing : (b d : Bool) (f : Found) → passing b (passing d f) ≡ passing (b || d) f
 passing-passing true d Nothing = refl
 passing-passing true d (Def s n q c) = refl
 passing-passing false d Nothing = refl
@@ -40,9 +40,9 @@ passing-none (Def s n q c) = refl
 module _ (l : List ℕ) (a i : ℕ) (b : Bool) (h : 0 < i) where
   pub find-hit : getD l (4 * (i - 1)) 0 ≡ a → passing b (find a (envOf l i)) ≡ Def (getD l (4 * (i - 1) + 1) 0) (getD l (4 * (i - 1) + 2) 0) (getD l (4 * (i - 1) + 3) 0) b
   unfolding find
-  find-hit e = rw (top-item l i h, eq-eqb _ _ e, orElse-false)
+  find-hit e = rw (top-item l i h, eq-eqb _ _ e, or-false)
 
-  pub find-miss : ¬ (getD l (4 * (i - 1)) 0 ≡ a) → passing b (find a (envOf l i)) ≡ passing (orElse b (eqb (getD l (4 * (i - 1)) 0) shut)) (find a (envOf l (i - 1)))
+  pub find-miss : ¬ (getD l (4 * (i - 1)) 0 ≡ a) → passing b (find a (envOf l i)) ≡ passing (b || eqb (getD l (4 * (i - 1)) 0) shut) (find a (envOf l (i - 1)))
   unfolding find
   find-miss e = rw (top-item l i h, ne-eqb _ _ e) (passing-passing b (eqb (getD l (4 * (i - 1)) 0) shut) (find a (envOf l (i - 1))))
 
@@ -140,9 +140,6 @@ unfolding Small
 small-append [] js s t = t
 small-append (i ∷ is) js s t = (s .0, small-append is js (s .1) t)
 
-passing-false : (f : Found) → passing false f ≡ f
-passing-false f = sym (passing-none f)
-
 module _ (a : ℕ) (small : a < 65536) where
   abbrev seen : List Item → Found → Found
   seen v g = if here a v then find a v else orOuter g (find a v)
@@ -161,7 +158,7 @@ module _ (a : ℕ) (small : a < 65536) where
           rw (e, w, le-ltb 65535 b (omega arith), f)
       go false e false f z h =
           let w : ¬ (b ≡ shut) = omega arith in
-          rw (e, le-ltb 65535 b (omega arith), f, ne-eqb b shut w, passing-false (find a v))
+          rw (e, le-ltb 65535 b (omega arith), f, ne-eqb b shut w, ← passing-none (find a v))
 
   adds-all : (is v : List Item) → Small is → find a (addAll is v) ≡ seen v (firstIn a is)
   unfolding addAll firstIn Small

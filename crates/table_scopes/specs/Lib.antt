@@ -1,5 +1,4 @@
 pub mod Spans
-pub mod Stands
 pub mod Sizes
 pub mod Environment
 pub mod EnvironmentLaws

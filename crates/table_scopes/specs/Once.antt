@@ -55,7 +55,7 @@ first-cons a (item b s n q) is = go (eqb b a)
     go true = refl
     go false = refl
 
-eqb-comm : (a b : ℕ) → eqb a b ≡ eqb b a
+pub eqb-comm : (a b : ℕ) → eqb a b ≡ eqb b a
 eqb-comm a b = elim (ℕ-discrete a b) [ yes e ↦ eq-eqb a b e ∙ sym (eq-eqb b a (sym e)) | no e ↦ ne-eqb a b e ∙ sym (ne-eqb b a (λ z. e (sym z))) ]
 
 before-more : (f : ℕ → Found) (seen : List ℕ) (p : ℕ) (i : Item) → Before f seen p → p ≤ placeOf i → Before (more f i) (nameOf i ∷ seen) (suc (placeOf i))

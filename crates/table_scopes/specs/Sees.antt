@@ -20,7 +20,7 @@ use Rattle.table_scopes.specs.declared.environment.Found.{Found}
 use Rattle.table_scopes.specs.declared.environment.Found.the-variants.{Nothing, Def}
 use Rattle.table_scopes.specs.Environment.{Item, item, opened, shut, value, find, addAll, passing}
 use Rattle.table_scopes.specs.EnvironmentLaws.{firstIn, orOuter, Small, find-block, past-mark, passing-none}
-use Rattle.table_scopes.specs.Stands.{Stands}
+use Rattle.table_entries.specs.Stands.{Stands}
 
 -- a table whose entries all keep to the layout
 pub record Legible (l : List ℕ) : Type 0 where

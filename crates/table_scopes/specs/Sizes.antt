@@ -11,8 +11,9 @@ use lib.Seq.{getD-set-same, getD-set-other}
 use Rattle.words.specs.Numbers.{halfAt, wordAt, integerOf, wordOf}
 use Rattle.words.specs.Laws.{word-back}
 use Rattle.language_laws.specs.Claims.{entriesOf}
-use Rattle.table_scopes.specs.Spans.{parts, arity, spanOf, span, span-zero, span-within, hop, hop-within, hop-none}
-use Rattle.table_scopes.specs.Stands.{length-entries, entryAt, entry-here}
+use Rattle.table_entries.specs.Arity.{parts}
+use Rattle.table_scopes.specs.Spans.{arity, spanOf, span, span-zero, span-within, hop, hop-within, hop-none}
+use Rattle.table_entries.specs.Entries.{entries-length, entryAt, entry-here}
 
 pub record Known (l sizes : List ℕ) (from : ℕ) : Type 0 where
   pub wide : length l / 8 ≤ length sizes
@@ -24,9 +25,6 @@ pub record Hops (l : List ℕ) (from parts at left : ℕ) : Type 0 where
   pub within : at ≤ length l / 8
   pub least : from ≤ at
 
-entries-count : (l : List ℕ) → length (entriesOf l) ≡ length l / 8
-entries-count l = length-entries (length l / 8) l
-
 pub hops-start : (l : List ℕ) (from parts : ℕ) → from ≤ length l / 8 → Hops l from parts from parts
 hops-start l from parts h = record { same = refl; within = h; least = omega arith }
 
@@ -34,11 +32,11 @@ module _ {l : List ℕ} {from parts at left : ℕ} (h : Hops l from parts at lef
   pub hops-next : (n : ℕ) → 0 < left → n ≡ span 1 (drop at (entriesOf l)) → Hops l from parts (at + n) (left - 1)
   hops-next n k e =
       let es = entriesOf l in
-      let w : at + span 1 (drop at es) ≤ length es = hop-within 1 es at (omega (arith, h .within, entries-count l)) in
-      rw e (record { same = omega (arith, hop left es at k, h .same); within = omega (arith, entries-count l); least = omega (arith, h .least) })
+      let w : at + span 1 (drop at es) ≤ length es = hop-within 1 es at (omega (arith, h .within, entries-length l)) in
+      rw e (record { same = omega (arith, hop left es at k, h .same); within = omega (arith, entries-length l); least = omega (arith, h .least) })
 
   pub hops-early : length l / 8 ≤ at → at - from ≡ span parts (drop from (entriesOf l))
-  hops-early k = omega (arith, hop-none left (entriesOf l) at (omega (arith, entries-count l)), h .same, h .least)
+  hops-early k = omega (arith, hop-none left (entriesOf l) at (omega (arith, entries-length l)), h .same, h .least)
 
   pub hops-end : left ≡ 0 → at - from ≡ span parts (drop from (entriesOf l))
   hops-end e = omega (arith, h .same, span-zero (drop at (entriesOf l)), ap (λ (n : ℕ). span n (drop at (entriesOf l))) e, h .least)
@@ -69,4 +67,4 @@ known-more l sizes i n w h k b e z =
 
 -- a size is no larger than the table
 pub size-small : (l : List ℕ) (from parts n : ℕ) → n ≡ span parts (drop from (entriesOf l)) → n ≤ length l / 8
-size-small l from parts n e = omega (arith, span-within (drop from (entriesOf l)) parts, length-drop from (entriesOf l), entries-count l)
+size-small l from parts n e = omega (arith, span-within (drop from (entriesOf l)) parts, length-drop from (entriesOf l), entries-length l)

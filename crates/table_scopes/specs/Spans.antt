@@ -1,39 +1,16 @@
 -- How many entries so many parts have that stand one after the other. It goes by the entries alone: each says how many parts are below it.
 use mathlib.Core.Path.{_≡_, refl, ap, _∙_}
 use mathlib.Core.List.{List, [], _∷_, _++_, append-assoc}
-use Prim.Native.Nat.{ℕ, zero, suc, _+_, _-_, _/_, _≤_, _<_}
+use Prim.Native.Nat.{ℕ, zero, suc, _+_, _-_, _≤_, _<_}
 use native.Mathlib.Omega.{arith}
 use native.Mathlib.Nat.{add-zero, zero-add, add-assoc, suc-add}
-use lib.Dec.{eqb}
 use lib.ListN.{length, drop, length-append, length-drop}
 use lib.Seq.{drop-at, drop-drop}
-use Rattle.logic.specs.Choice.{if_then_else_}
 use Rattle.words.specs.Numbers.{wordOf}
 use Rattle.language.specs.Table.{Entry}
+use Rattle.table_entries.specs.Arity.{parts}
 
--- the parts below an entry, of fields k, a and b
-unfoldable pub parts : ℕ → ℕ → ℕ → ℕ
-parts k a b =
-    if eqb k 1 then a + b else
-    if eqb k 11 then b else
-    if eqb k 12 then b / 256 + 1 else
-    if eqb k 21 then 2 else
-    if eqb k 22 then 2 else
-    if eqb k 23 then 3 else
-    if eqb k 24 then 2 else
-    if eqb k 26 then 1 else
-    if eqb k 27 then b else
-    if eqb k 28 then 2 else
-    if eqb k 30 then a + 1 else
-    if eqb k 45 then b else
-    if eqb k 46 then 1 else
-    if eqb k 47 then b else
-    if eqb k 48 then 1 else
-    if eqb k 49 then 2 else
-    if eqb k 50 then 3 else
-    if eqb k 51 then 1 else
-    if eqb k 53 then a + b + 1 else 0
-
+-- the parts below an entry
 abbrev pub arity : Entry → ℕ
 arity e = parts (e .kind) (e .a) (wordOf (e .b))
 

@@ -1,11 +1,12 @@
 // The names in sight: a stack in lent numbers, four to an item: name, sort, number and place.
 ghost use mathlib.Core.Path.{_≡_};
+ghost use mathlib.Core.Bool.{_||_};
 ghost use mathlib.Core.List.{_∷_, []};
 ghost use Prim.Native.Nat.{_+_, _*_, _≤_};
 ghost use lib.ListN.{length};
 ghost use lib.Seq.{sets};
 ghost use lib.Dec.{eqb};
-ghost use Rattle.table_scopes.specs.Environment.{item, find, here, adding, envOf, orElse, shut, Grown};
+ghost use Rattle.table_scopes.specs.Environment.{item, find, here, adding, envOf, shut, Grown};
 
 pub enum Found {
     Nothing,
@@ -27,7 +28,7 @@ pub fn push(env: &mut [u32], top: usize, name: u32, sort: u32, number: u32, plac
 
 // Whether the item of this name is a wall, once one was passed.
 fn walled(passed: bool, name: u32) -> bool
-    ensures { λ r. ⌜ r ≡ orElse passed (eqb name shut) ⌝ }
+    ensures { λ r. ⌜ r ≡ («passed» || eqb name shut) ⌝ }
 {
     if passed { true } else { name == 65537 }
 }

@@ -5,7 +5,7 @@ use crate::environment::Found;
 use crate::spans;
 use formats::entries::*;
 ghost use mathlib.Core.List.{_∷_, _++_};
-ghost use Prim.Native.Nat.{_+_, _*_, _/_, _≤_, _<_};
+ghost use Prim.Native.Nat.{_+_, _*_, _≤_, _<_};
 ghost use lib.ListN.{length};
 ghost use Rattle.table_scopes.specs.Environment.{item, addAll, envOf, Grown};
 ghost use Rattle.table_scopes.specs.Sizes.{Known};
@@ -22,15 +22,16 @@ pub enum Verdict {
 // The name that the entry at a place defines, where it is of this kind.
 fn add_one(table: &[u8], place: usize, kind: u16, sort: u32, env: &mut [u32], top: usize) -> usize
     requires { ⌜ (8 * (place + 1) ≤ length (now table)) × (length (now table) ≤ 16384) × (4 * (top + length (oneAt kind sort (now table) place)) ≤ length (now env)) ⌝ }
-    ensures { λ r. ⌜ Grown top (now (env .entry)) (now (env .exit)) r (addAll (oneAt kind sort (now (table .entry)) place) (envOf (now (env .entry)) top)) (length (oneAt kind sort (now (table .entry)) place)) ⌝ }
+    ensures { λ r. ⌜ Grown top (now (env .entry)) (now (env .exit)) r
+        (addAll (oneAt kind sort (now (table .entry)) place) (envOf (now (env .entry)) top)) (length (oneAt kind sort (now (table .entry)) place)) ⌝ }
 {
-    if spans::kind_at(table, place) == kind {
+    if table_entries::kind_at(table, place) == kind {
         environment::add(
             env,
             top,
-            spans::a_at(table, place) as u32,
+            table_entries::a_at(table, place) as u32,
             sort,
-            spans::b_at(table, place),
+            table_entries::b_at(table, place),
             place as u32,
         )
     } else {
@@ -48,7 +49,8 @@ pub fn add_head(
     top: usize,
 ) -> usize
     requires { ⌜ (8 * (at + count) ≤ length (now table)) × (length (now table) ≤ 16384) × (4 * (top + length (itemsAt sort (now table) at count)) ≤ length (now env)) ⌝ }
-    ensures { λ r. ⌜ Grown top (now (env .entry)) (now (env .exit)) r (addAll (itemsAt sort (now (table .entry)) at count) (envOf (now (env .entry)) top)) (length (itemsAt sort (now (table .entry)) at count)) ⌝ }
+    ensures { λ r. ⌜ Grown top (now (env .entry)) (now (env .exit)) r (addAll (itemsAt sort (now (table .entry)) at count) (envOf (now (env .entry)) top))
+        (length (itemsAt sort (now (table .entry)) at count)) ⌝ }
 {
     let mut place = at;
     let mut up = top;
@@ -71,7 +73,8 @@ fn add_labels(
     top: usize,
 ) -> usize
     requires { ⌜ Known (now table) (now sizes) 0 × Reach (now table) at count × (length (now table) ≤ 16384) × (4 * (top + length (labelsFrom (now table) at count)) ≤ length (now env)) ⌝ }
-    ensures { λ r. ⌜ Grown top (now (env .entry)) (now (env .exit)) r (addAll (labelsFrom (now (table .entry)) at count) (envOf (now (env .entry)) top)) (length (labelsFrom (now (table .entry)) at count)) ⌝ }
+    ensures { λ r. ⌜ Grown top (now (env .entry)) (now (env .exit)) r (addAll (labelsFrom (now (table .entry)) at count) (envOf (now (env .entry)) top))
+        (length (labelsFrom (now (table .entry)) at count)) ⌝ }
 {
     let mut place = at;
     let mut up = top;
@@ -89,7 +92,7 @@ fn add_global(table: &[u8], place: usize, env: &mut [u32], top: usize) -> usize
     requires { ⌜ WithinGlobal (now table) place × (length (now table) ≤ 16384) × (4 * (top + length (globalAt (now table) place)) ≤ length (now env)) ⌝ }
     ensures { λ r. ⌜ Grown top (now (env .entry)) (now (env .exit)) r (addAll (globalAt (now (table .entry)) place) (envOf (now (env .entry)) top)) (length (globalAt (now (table .entry)) place)) ⌝ }
 {
-    let kind = spans::kind_at(table, place);
+    let kind = table_entries::kind_at(table, place);
     match kind {
         KIND_CLASS => add_class(table, place, env, top),
         KIND_PROCEDURE => add_one(table, place, KIND_PROCEDURE, 7, env, top),
@@ -99,15 +102,19 @@ fn add_global(table: &[u8], place: usize, env: &mut [u32], top: usize) -> usize
 
 // The sort of a field is the number of the type that it is a field of.
 fn add_class(table: &[u8], place: usize, env: &mut [u32], top: usize) -> usize
-    requires { ⌜ (8 * (place + 1 + bAt (now table) place) ≤ length (now table)) × (length (now table) ≤ 16384) × (4 * (top + length (oneAt 11 6 (now table) place ++ itemsAt (65536 + aAt (now table) place) (now table) (place + 1) (bAt (now table) place))) ≤ length (now env)) ⌝ }
-    ensures { λ r. ⌜ Grown top (now (env .entry)) (now (env .exit)) r (addAll (oneAt 11 6 (now (table .entry)) place ++ itemsAt (65536 + aAt (now (table .entry)) place) (now (table .entry)) (place + 1) (bAt (now (table .entry)) place)) (envOf (now (env .entry)) top)) (length (oneAt 11 6 (now (table .entry)) place ++ itemsAt (65536 + aAt (now (table .entry)) place) (now (table .entry)) (place + 1) (bAt (now (table .entry)) place))) ⌝ }
+    requires { ⌜ (8 * (place + 1 + bAt (now table) place) ≤ length (now table)) × (length (now table) ≤ 16384)
+        × (4 * (top + length (oneAt 11 6 (now table) place ++ itemsAt (65536 + aAt (now table) place) (now table) (place + 1) (bAt (now table) place))) ≤ length (now env)) ⌝ }
+    ensures { λ r. ⌜ Grown top (now (env .entry)) (now (env .exit)) r
+        (addAll (oneAt 11 6 (now (table .entry)) place ++ itemsAt (65536 + aAt (now (table .entry)) place) (now (table .entry)) (place + 1) (bAt (now (table .entry)) place))
+        (envOf (now (env .entry)) top)) (length (oneAt 11 6 (now (table .entry)) place
+        ++ itemsAt (65536 + aAt (now (table .entry)) place) (now (table .entry)) (place + 1) (bAt (now (table .entry)) place))) ⌝ }
 {
     let up = add_one(table, place, KIND_CLASS, 6, env, top);
-    let sort = 65536 + spans::a_at(table, place) as u32;
+    let sort = 65536 + table_entries::a_at(table, place) as u32;
     add_head(
         table,
         place + 1,
-        spans::b_at(table, place) as usize,
+        table_entries::b_at(table, place) as usize,
         sort,
         env,
         up,
@@ -116,7 +123,8 @@ fn add_class(table: &[u8], place: usize, env: &mut [u32], top: usize) -> usize
 
 fn add_globals(table: &[u8], count: usize, sizes: &[u16], env: &mut [u32], top: usize) -> usize
     requires { ⌜ Known (now table) (now sizes) 0 × ReachGlobals (now table) 1 count × (length (now table) ≤ 16384) × (4 * (top + length (globalsFrom (now table) 1 count)) ≤ length (now env)) ⌝ }
-    ensures { λ r. ⌜ Grown top (now (env .entry)) (now (env .exit)) r (addAll (globalsFrom (now (table .entry)) 1 count) (envOf (now (env .entry)) top)) (length (globalsFrom (now (table .entry)) 1 count)) ⌝ }
+    ensures { λ r. ⌜ Grown top (now (env .entry)) (now (env .exit)) r (addAll (globalsFrom (now (table .entry)) 1 count) (envOf (now (env .entry)) top))
+        (length (globalsFrom (now (table .entry)) 1 count)) ⌝ }
 {
     let mut place = 1;
     let mut up = top;
@@ -138,8 +146,10 @@ pub fn enter_root(
     sizes: &[u16],
     env: &mut [u32],
 ) -> usize
-    requires { ⌜ Known (now table) (now sizes) 0 × ReachGlobals (now table) 1 heads × Reach (now table) after items × (length (now table) ≤ 16384) × (4 * (1 + length (rootItems (now table) heads after items)) ≤ length (now env)) ⌝ }
-    ensures { λ r. ⌜ Grown 0 (now (env .entry)) (now (env .exit)) r (addAll (rootItems (now (table .entry)) heads after items) (item 65536 0 0 0 ∷ envOf (now (env .entry)) 0)) (1 + length (rootItems (now (table .entry)) heads after items)) ⌝ }
+    requires { ⌜ Known (now table) (now sizes) 0 × ReachGlobals (now table) 1 heads × Reach (now table) after items × (length (now table) ≤ 16384)
+        × (4 * (1 + length (rootItems (now table) heads after items)) ≤ length (now env)) ⌝ }
+    ensures { λ r. ⌜ Grown 0 (now (env .entry)) (now (env .exit)) r (addAll (rootItems (now (table .entry)) heads after items) (item 65536 0 0 0 ∷ envOf (now (env .entry)) 0))
+        (1 + length (rootItems (now (table .entry)) heads after items)) ⌝ }
 {
     environment::push(env, 0, 65536, 0, 0, 0);
     let up = add_globals(table, heads, sizes, env, 1);
@@ -157,8 +167,11 @@ pub fn enter(
     env: &mut [u32],
     top: usize,
 ) -> usize
-    requires { ⌜ Known (now table) (now sizes) 0 × (8 * (at + heads) ≤ length (now table)) × Reach (now table) (at + heads) items × (length (now table) ≤ 16384) × (4 * (top + (1 + length (blockItems (now table) at heads items))) ≤ length (now env)) ⌝ }
-    ensures { λ r. ⌜ Grown top (now (env .entry)) (now (env .exit)) r (addAll (blockItems (now (table .entry)) at heads items) (item mark 0 0 0 ∷ envOf (now (env .entry)) top)) (1 + length (blockItems (now (table .entry)) at heads items)) ⌝ }
+    requires { ⌜ Known (now table) (now sizes) 0 × (8 * (at + heads) ≤ length (now table)) × Reach (now table) (at + heads) items × (length (now table) ≤ 16384)
+        × (4 * (top + (1 + length (blockItems (now table) at heads items))) ≤ length (now env)) ⌝ }
+    ensures { λ r. ⌜ Grown top (now (env .entry)) (now (env .exit)) r
+        (addAll (blockItems (now (table .entry)) at heads items) (item mark 0 0 0 ∷ envOf (now (env .entry)) top))
+        (1 + length (blockItems (now (table .entry)) at heads items)) ⌝ }
 {
     environment::push(env, top, mark, 0, 0, 0);
     let up = add_head(table, at, heads, 4, env, top + 1);
@@ -203,9 +216,9 @@ fn declared(table: &[u8], at: usize, env: &[u32], top: usize) -> Verdict
     requires { ⌜ (8 * (at + 1) ≤ length (now table)) × (4 * top ≤ length (now env)) ⌝ }
     ensures { λ r. ⌜ Says r (declFlaws (now (table .entry)) (envOf (now (env .entry)) top) at) ⌝ }
 {
-    if spans::kind_at(table, at) == KIND_DECLARE {
-        match once(env, top, spans::a_at(table, at) as u32, at) {
-            Verdict::Fine(_) => classed(env, top, spans::b_at(table, at), at),
+    if table_entries::kind_at(table, at) == KIND_DECLARE {
+        match once(env, top, table_entries::a_at(table, at) as u32, at) {
+            Verdict::Fine(_) => classed(env, top, table_entries::b_at(table, at), at),
             Verdict::Refused(n, p) => Verdict::Refused(n, p),
         }
     } else {

@@ -1,8 +1,8 @@
 // The names that stand in sight in a table: how many entries each part of it spans, the stack of names in lent numbers, and the heads that
 // push their names on it and are judged.
-mod environment;
-mod heads;
-mod spans;
+pub mod environment;
+pub mod heads;
+pub mod spans;
 
 pub use environment::Found;
 pub use environment::find;
@@ -13,9 +13,9 @@ pub use heads::enter;
 pub use heads::enter_root;
 pub use heads::head;
 pub use heads::once;
-pub use spans::a_at;
-pub use spans::b_at;
-pub use spans::kind_at;
 pub use spans::measure;
 pub use spans::size_at;
 pub use spans::spanned;
+pub use table_entries::a_at;
+pub use table_entries::b_at;
+pub use table_entries::kind_at;

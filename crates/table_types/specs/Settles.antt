@@ -23,7 +23,8 @@ use Rattle.language_laws.specs.Claims.{entriesOf}
 use Rattle.table_scopes.specs.declared.environment.Found.{Found}
 use Rattle.table_scopes.specs.declared.environment.Found.the-variants.{Nothing, Def}
 use Rattle.table_scopes.specs.Environment.{Item, find}
-use Rattle.table_scopes.specs.Stands.{Stands, stands-tail, stands-within, fields, length-entries}
+use Rattle.table_entries.specs.Entries.{length-entries}
+use Rattle.table_entries.specs.Stands.{Stands, stands-tail, stands-within, fields}
 use Rattle.table_scopes.specs.declared.heads.Verdict.{Verdict}
 use Rattle.table_scopes.specs.declared.heads.Verdict.the-variants.{Fine, Refused}
 use Rattle.table_scopes.specs.Flaws.{Says}
@@ -33,7 +34,8 @@ use Rattle.table_scopes.specs.Defines.{number-here}
 use Rattle.table_types.specs.Settle.{ifBoth, rightIf, sameAll, typesAt, typedBy, namedBy, namesBy, foundBy, settledBy, Within}
 use Rattle.table_types.specs.Operations.{Operation, numeral, truth, pattern, nullOf, variableOf, invokes, fieldAt, makes, calls, goesTo, unaryOp, binaryOp, chooses}
 use Rattle.table_types.specs.Operations.{reads, assigns, asserts, sets, kindOp, nameOp, Takes, sequence, operTy, gives, own}
-use Rattle.table_types.specs.Types.{tyNum, code-some, eqb-comm, is-number, both-same, both-fit, unary-number, binary-number, arguments}
+use Rattle.table_scopes.specs.Once.{eqb-comm}
+use Rattle.table_types.specs.Types.{tyNum, code-some, is-number, both-same, both-fit, unary-number, binary-number, arguments}
 
 -- an answer gives this type
 abbrev pub Types : Verdict → Option Ty → Type 0

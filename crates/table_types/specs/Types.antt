@@ -1,5 +1,5 @@
 -- Types as numbers: what the operators give, and which types fit.
-use mathlib.Core.Path.{_≡_, refl, sym, _∙_}
+use mathlib.Core.Path.{_≡_, refl, sym}
 use mathlib.Core.Bool.{Bool, true, false, not, _&&_}
 use mathlib.Core.List.{List, [], _∷_, map}
 use mathlib.Core.Option.{Option, none, some}
@@ -16,6 +16,7 @@ use Rattle.values.specs.Operators.{both, either, shiftLeft, shiftRight, unaryCo
 use Rattle.language.specs.Faults.{consTy, isTy, sameTy, fitsTy, fitTys}
 use Rattle.table_types.specs.Settle.{ifBoth, ifEither, operatedBy, sameAll}
 use Rattle.table_types.specs.Operations.{sequence, operTy}
+use Rattle.table_scopes.specs.Once.{eqb-comm}
 
 -- the number of a type, 0 for none
 abbrev pub tyNum : Option Ty → ℕ
@@ -27,9 +28,6 @@ code-some integer e = omega arith
 code-some logical e = omega arith
 code-some bits e = omega arith
 code-some (reference c) e = omega arith
-
-pub eqb-comm : (a b : ℕ) → eqb a b ≡ eqb b a
-eqb-comm a b = elim (ℕ-discrete a b) [ yes e ↦ eq-eqb a b e ∙ sym (eq-eqb b a (sym e)) | no e ↦ ne-eqb a b e ∙ sym (ne-eqb b a (λ z. e (sym z))) ]
 
 pub none-not : (t : Ty) → eqb 0 (tyCode t) ≡ false
 none-not t = ne-eqb 0 (tyCode t) (λ z. code-some t (sym z))

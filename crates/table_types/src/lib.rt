@@ -10,7 +10,8 @@ ghost use lib.ListN.{length, getD};
 ghost use lib.Dec.{eqb};
 ghost use mathlib.Core.Bool.{true};
 ghost use Rattle.table_scopes.specs.Environment.{envOf, find};
-ghost use Rattle.table_types.specs.Settle.{values, ifBoth, ifEither, operatedBy, typedBy, sameAll, typesAt, rightIf, aimedBy, calledBy, recordedBy, namedBy, namesBy, settledBy, isLeaf, leafBy, Within, WithinCall, WithinRecord};
+ghost use Rattle.table_types.specs.Settle.{values, ifBoth, ifEither, operatedBy, typedBy, sameAll, typesAt, rightIf, aimedBy, calledBy, recordedBy, namedBy};
+ghost use Rattle.table_types.specs.Settle.{namesBy, settledBy, isLeaf, leafBy, Within, WithinCall, WithinRecord};
 
 fn operand(env: &[u32], top: usize, i: usize, count: usize) -> u32
     requires { ⌜ 4 * (top + count) ≤ length (now env) ⌝ }

@@ -4,7 +4,7 @@ use native.Mathlib.Omega.{arith}
 use mathlib.Core.Path.{ap}
 use Prim.Native.Nat.{ℕ, _+_}
 use Rattle.table_scopes.specs.Sizes.{size-small}
-use Rattle.table_forms.specs.Ends.{known-from}
+use Rattle.table_forms.specs.Body.{known-from}
 use Rattle.table_forms.specs.Tables.{root-long, root-reach, root-room}
 use Rattle.compile_whole.specs.Compiling.{compile-short, compile-whole, compile-holding, compile-write}
 use Rattle.compile.proofs.compile_in.Statement.{statement}

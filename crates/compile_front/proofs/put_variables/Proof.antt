@@ -5,7 +5,7 @@ use Rattle.compile_front.specs.Declared.{HeadWriting, head-start, head-w
 use Rattle.compile_front.specs.Front.{variablesFrom}
 use Rattle.compile_front.specs.Types.{typesOf}
 use Rattle.compile_symbols.specs.Tabled.{theTree, classesIn, entries-few}
-use Rattle.table_scopes.specs.Stands.{entryAt}
+use Rattle.table_entries.specs.Entries.{entryAt}
 use Rattle.compile_front.proofs.put_variables.Statement.{statement}
 use Rattle.compile_front.proofs.put_variables.Tie as tie
 

@@ -1,3 +1,4 @@
+-- `table_limits::usage_of` meets its contract: the nesting falls from an entry to its operands, and a loop adds them up. Assumes nothing.
 use Prim.Native.Nat.{ℕ, _+_, _-_, _*_, _≤_, _<_}
 use Prim.{tt}
 use mathlib.Core.Path.{_≡_, refl, sym, _∙_}
@@ -6,7 +7,7 @@ use native.Mathlib.Omega.{arith}
 use borrow.Author.Needs.{needs}
 use lib.ListN.{length, length-drop}
 use Rattle.language_laws.specs.Claims.{entriesOf}
-use Rattle.table_read.proofs.Parts.{rest, entries-rest}
+use Rattle.table_entries.specs.Entries.{rest, entries-rest}
 use Rattle.table_limits.specs.Sums.{weightOf, Level}
 use Rattle.table_limits.specs.Usage.{through, usageAt, Bounded}
 use Rattle.table_limits.proofs.Trees.{through-same}
@@ -190,44 +191,49 @@ usage-of-meets t = usage-of-lts.spec (usage-of-claims t) (usage-of-at t) usage-o
     (λ c. search needs)
     -- loop-again
     (λ c.
+    let at-kind = c .before .before .before .before .before .before .before .before .before .before .before .before .before .before .before .before .before .before in
+    let nesting = at-kind .before .before .before .before .args .nesting in
+    let kind = at-kind .kind-of .result in
+    let rest-now = c .before .before .before .before .before .before .before .before .before .before .before .loop .rest .now in
+    let i = c .before .before .before .before .before .before .before .before .before .before .before .loop .i in
     let v = (c .before .before .before .before .before .before .found .given .0 .0) in
     let b = rw (c .before .before .before .before .before .before .found .given .1) at (found t (c .before .before .before .before .before .before .before .before) .1) in
-    let less : c .before .before .before .before .before .before .before .before .before .before .before .loop .i
+    let less : i
     < (c .before .before .before .before .before .before .before .before .before .before .before .before .before .before .count .result) = omega arith in
-    let on = joined-level (weightOf (c .before .before .before .before .before .before .before .before .before .before .before .before .before .before .before .before .before .before .kind-of .result)
-    (c .before .before .before .before .before .before .before .before .before .before .before .loop .i))
+    let on = joined-level (weightOf kind
+    i)
     (c .before .before .before .before .before .before .before .before .before .before .before .loop .open)
     (c .before .before .before .before .before .before .before .before .before .before .before .loop .sum) v
     (c .before .before .before .before .before .before .before .before .before .before .before .loop .inv .2) (b .0)
     (omega (
       arith,
       c .before .before .before .before .before .before .before .before .before .before .before .loop .inv,
-      weight-low (c .before .before .before .before .before .before .before .before .before .before .before .before .before .before .before .before .before .before .kind-of .result)
-          (c .before .before .before .before .before .before .before .before .before .before .before .loop .i),
+      weight-low kind
+          i,
     ))
     (omega (arith, c .before .before .before .before .before .before .before .before .before .before .before .loop .inv)) in (
       c .before .before .before .before .before .before .before .before .before .before .before .loop .inv .0
-          ∙ through-step (usageAt ((c .before .before .before .before .before .before .before .before .before .before .before .before .before .before .before .before .before .before .before .before .before .before .args .nesting) - 1))
-          (c .before .before .before .before .before .before .before .before .before .before .before .before .before .before .before .before .before .before .kind-of .result)
+          ∙ through-step (usageAt (nesting - 1))
+          kind
           (c .before .before .before .before .before .before .before .before .before .before .before .before .before .before .before .before .head-of .result)
           (c .before .before .before .before .before .before .before .before .before .before .before .before .before .before .count .result)
-          (c .before .before .before .before .before .before .before .before .before .before .before .loop .i)
+          i
           (c .before .before .before .before .before .before .before .before .before .before .before .loop .open)
           (c .before .before .before .before .before .before .before .before .before .before .before .loop .sum)
-          (entriesOf (c .before .before .before .before .before .before .before .before .before .before .before .loop .rest .now)) less
+          (entriesOf rest-now) less
           (found t (c .before .before .before .before .before .before .before .before) .0) (c .before .before .before .before .before .before .found .given .1)
           ∙ rw (
             c .kept .ensures,
             c .before .join .ensures,
             c .before .before .weight .ensures,
-            entries-rest (v .entries) (c .before .before .before .before .before .before .before .before .before .before .before .loop .rest .now),
+            entries-rest (v .entries) rest-now,
           ) refl,
-      rw (c .before .join .ensures, rest (8 * v .entries) (c .before .before .before .before .before .before .before .before .before .before .before .loop .rest .now))
+      rw (c .before .join .ensures, rest (8 * v .entries) rest-now)
           (omega (
             arith,
             b,
             c .before .before .before .before .before .before .before .before .before .before .before .loop .inv,
-            length-drop (8 * v .entries) (c .before .before .before .before .before .before .before .before .before .before .before .loop .rest .now),
+            length-drop (8 * v .entries) rest-now,
           )),
       rw (c .before .join .ensures, c .before .before .weight .ensures) on,
       rw (c .before .join .ensures) (omega (
@@ -236,7 +242,7 @@ usage-of-meets t = usage-of-lts.spec (usage-of-claims t) (usage-of-at t) usage-o
         c .before .before .before .before .before .before .before .before .before .before .before .loop .inv,
         c .kept .ensures,
         kept-low (c .before .before .before .before .before .before .before .before .before .before .before .before .before .before .before .before .head-of .result)
-            (c .before .before .before .before .before .before .before .before .before .before .before .loop .i) (v .holds),
+            i (v .holds),
       )),
       rw (c .before .join .ensures) (omega (arith, b, c .before .before .before .before .before .before .before .before .before .before .before .loop .inv)),
       omega arith,

@@ -1,4 +1,4 @@
--- `usage::leaf` meets its contract. Assumes nothing.
+-- `table_limits::leaf` meets its contract. Assumes nothing.
 use borrow.Author.Needs.{needs}
 use borrow.Author.Tests.{lt-ltb}
 use native.Mathlib.Omega.{arith}

@@ -1,4 +1,4 @@
--- `usage::leaf_usage` meets its contract. Assumes nothing.
+-- `table_limits::leaf_usage` meets its contract. Assumes nothing.
 use borrow.Author.Needs.{needs}
 use mathlib.Core.Path.{ap, _∙_}
 use Rattle.table_limits.specs.declared.Usage.the-variants.{Of}

@@ -1,10 +1,10 @@
--- `usage::over_limits` meets its contract. Assumes nothing.
+-- `table_limits::over_limits` meets its contract. Assumes nothing.
 use mathlib.Core.Path.{sym, ap, _∙_}
 use native.Mathlib.Omega.{arith}
 use borrow.Author.Needs.{needs}
 use lib.ListN.{length, length-drop}
 use Rattle.language_laws.specs.Claims.{entriesOf}
-use Rattle.table_read.proofs.Parts.{rest, entries-rest}
+use Rattle.table_entries.specs.Entries.{rest, entries-rest}
 use Rattle.table_limits.specs.Usage.{rootOf}
 use Rattle.table_limits.proofs.Bodies.{limits-right, limits-short, limits-own, limits-exceeds, limits-ended}
 use Rattle.table_limits.proofs.over_limits.Statement.{statement}

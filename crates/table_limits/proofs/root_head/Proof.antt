@@ -1,4 +1,4 @@
--- `usage::root_head` meets its contract. Assumes nothing.
+-- `table_limits::root_head` meets its contract. Assumes nothing.
 use Prim.{tt}
 use Prim.Native.Nat.{ℕ, _+_, _*_, _<_}
 use mathlib.Core.Path.{_≡_, refl, sym, ap, _∙_}
@@ -6,7 +6,7 @@ use native.Mathlib.Omega.{arith}
 use borrow.Author.Needs.{needs}
 use lib.ListN.{length, length-drop}
 use Rattle.language_laws.specs.Claims.{entriesOf}
-use Rattle.table_read.proofs.Parts.{rest, entries-rest}
+use Rattle.table_entries.specs.Entries.{rest, entries-rest}
 use Rattle.table_limits.specs.Sums.{overOf, Level}
 use Rattle.table_limits.specs.Usage.{headAt, headFrom}
 use Rattle.table_limits.proofs.Steps.{alone-level, declared-level, head-over, head-next, head-stop, head-end}

@@ -1,11 +1,11 @@
--- `usage::root_items` meets its contract. Assumes nothing.
+-- `table_limits::root_items` meets its contract. Assumes nothing.
 use Prim.Native.Nat.{_+_, _-_, _*_, _≤_, _<_}
 use mathlib.Core.Path.{_≡_, refl, sym, _∙_}
 use native.Mathlib.Omega.{arith}
 use borrow.Author.Needs.{needs}
 use lib.ListN.{length, length-drop}
 use Rattle.language_laws.specs.Claims.{entriesOf}
-use Rattle.table_read.proofs.Parts.{rest, entries-rest}
+use Rattle.table_entries.specs.Entries.{rest, entries-rest}
 use Rattle.table_limits.specs.Sums.{Level}
 use Rattle.table_limits.specs.Usage.{through, usageAt, itemsAt}
 use Rattle.table_limits.proofs.Trees.{through-same}

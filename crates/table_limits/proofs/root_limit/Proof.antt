@@ -1,4 +1,4 @@
--- `usage::root_limit` meets its contract. Assumes nothing.
+-- `table_limits::root_limit` meets its contract. Assumes nothing.
 use borrow.Author.Needs.{needs}
 use mathlib.Core.Path.{sym, _∙_}
 use Rattle.table_limits.proofs.root_limit.Statement.{statement}

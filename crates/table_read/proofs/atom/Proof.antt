@@ -1,11 +1,11 @@
--- `reader::atom` meets its contract. Assumes nothing.
+-- `table_read::atom` meets its contract. Assumes nothing.
 use borrow.Author.Needs.{needs}
 use borrow.Author.Tests.{le-leb, lt-leb}
 use mathlib.Core.Path.{ap, _∙_}
 use mir.Syntax.{w32}
 use mir.ValLaws.{toZ-ofZ}
 use Rattle.table_read.specs.Walk.{kindAt}
-use Rattle.table_read.proofs.Parts.{entries-none, entries-some}
+use Rattle.table_entries.specs.Entries.{entries-none, entries-some}
 use Rattle.table_read.proofs.atom.Statement.{statement}
 use Rattle.table_read.proofs.atom.Tie as tie
 
@@ -24,7 +24,7 @@ returns-4 c =
     let e = entries-some (c .before .before .before .before .before .before .before .before .args .part .now) (c .before .before .before .before .before .before .if1 .left) in
     let h = k .ensures ∙ ap kindAt e in
     rw (← k .ensures, le-leb 40 _ (c .before .before .before .before .if2 .left), le-leb _ 44 (c .before .before .before .if3 .left), e)
-    (cc (h, toZ-ofZ w32 _ (record { sfits = c .before .integer-at .ok })))
+    (cc (h, toZ-ofZ w32 _ (record { sfits = c .before .signed-b-at .ok })))
 
 pub atom-spec : {M : Type 1} → statement M
 atom-spec = tie.close (tie.spec returns (λ c κs. search needs) returns-2 returns-3 (λ c κs. search needs) (λ c κs. search needs) (λ c κs. search needs) returns-4)

@@ -1,4 +1,4 @@
--- `reader::either` meets its contract. Assumes nothing.
+-- `table_read::either` meets its contract. Assumes nothing.
 use borrow.Author.Needs.{needs}
 use mathlib.Core.Path.{sym, _∙_}
 use Rattle.table_read.proofs.either.Statement.{statement}

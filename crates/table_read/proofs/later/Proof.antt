@@ -1,4 +1,4 @@
--- `reader::later` meets its contract. Assumes nothing.
+-- `table_read::later` meets its contract. Assumes nothing.
 use borrow.Author.Needs.{needs}
 use native.Mathlib.Omega.{arith}
 use Rattle.table_read.proofs.later.Statement.{statement}

@@ -1,4 +1,4 @@
--- `reader::read_head` meets its contract. What is read from the rest, moved by what is passed, is what is read from the part.
+-- `table_read::read_head` meets its contract. What is read from the rest, moved by what is passed, is what is read from the part.
 -- Assumes nothing.
 use Prim.Native.Nat.{_+_, _-_, _*_, _≤_, _<_}
 use mathlib.Core.Path.{_≡_, sym, ap, _∙_}
@@ -9,7 +9,8 @@ use lib.ListN.{length, drop, length-drop}
 use Rattle.language_laws.specs.Claims.{entriesOf}
 use Rattle.table_read.specs.declared.Read.the-variants.{Tree}
 use Rattle.table_read.specs.Walk.{counted, moved, kindAt, walk, isGlobal, tally, walkHead}
-use Rattle.table_read.proofs.Parts.{rest, entries-rest, laid-here}
+use Rattle.table_entries.specs.Entries.{rest, entries-rest}
+use Rattle.table_read.proofs.Parts.{laid-here}
 use Rattle.table_read.proofs.Steps.{moved-zero, moved-moved}
 use Rattle.table_read.proofs.Roots.{global-fits, entered-laid, tally-small, walk-head-step, walk-head-stop, walk-head-end}
 use Rattle.table_read.proofs.read_head.Statement.{statement}

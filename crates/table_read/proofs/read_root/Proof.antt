@@ -1,4 +1,4 @@
--- `reader::read_root` meets its contract. Assumes nothing.
+-- `table_read::read_root` meets its contract. Assumes nothing.
 use Prim.Native.Nat.{_-_, _*_}
 use mathlib.Core.Path.{sym, ap, _∙_}
 use native.Mathlib.Omega.{arith}
@@ -9,7 +9,8 @@ use lib.ListN.{length, take, drop, length-drop}
 use Rattle.logic.specs.Tests.{both-right}
 use Rattle.language_laws.specs.Claims.{entriesOf}
 use Rattle.table_read.specs.Walk.{counted, moved, kindAt, laidAt}
-use Rattle.table_read.proofs.Parts.{rest, entries-rest, laid-here}
+use Rattle.table_entries.specs.Entries.{rest, entries-rest}
+use Rattle.table_read.proofs.Parts.{laid-here}
 use Rattle.table_read.proofs.Roots.{head-fits, parts-fit, walk-root-none, walk-root-stop, walk-root-whole}
 use Rattle.table_read.proofs.read_root.Statement.{statement}
 use Rattle.table_read.proofs.read_root.Tie as tie

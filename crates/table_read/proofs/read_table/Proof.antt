@@ -1,8 +1,8 @@
--- `reader::read_table` meets its contract. Assumes nothing.
+-- `table_read::read_table` meets its contract. Assumes nothing.
 use mathlib.Core.Path.{sym, _∙_}
 use borrow.Author.Needs.{needs}
 use Rattle.language_laws.specs.Claims.{entriesOf}
-use Rattle.table_read.proofs.Parts.{entries-length}
+use Rattle.table_entries.specs.Entries.{entries-length}
 use Rattle.table_read.proofs.Roots.{table-empty, table-over, table-uneven, table-shaped, one-tree, more-entries, no-tree}
 use Rattle.table_read.proofs.read_table.Statement.{statement}
 use Rattle.table_read.proofs.read_table.Tie as tie

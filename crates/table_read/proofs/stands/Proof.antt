@@ -1,4 +1,4 @@
--- `reader::stands` meets its contract. Assumes nothing.
+-- `table_read::stands` meets its contract. Assumes nothing.
 use borrow.Author.Needs.{needs}
 use borrow.Author.Tests.{eq-eqb, ne-eqb}
 use Rattle.table_read.proofs.Parts.{unlaid}

@@ -1,4 +1,4 @@
--- `reader::tally` meets its contract. Assumes nothing.
+-- `table_read::tally` meets its contract. Assumes nothing.
 use borrow.Author.Tests.{eq-eqb, ne-eqb}
 use Rattle.table_read.proofs.tally.Statement.{statement}
 use Rattle.table_read.proofs.tally.Tie as tie

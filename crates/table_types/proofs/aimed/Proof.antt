@@ -1,3 +1,4 @@
+-- `table_types::aimed` meets its contract. Assumes nothing.
 use borrow.Author.Tests.{eq-eqb, ne-eqb}
 use Rattle.table_types.proofs.aimed.Statement.{statement}
 use Rattle.table_types.proofs.aimed.Tie as tie

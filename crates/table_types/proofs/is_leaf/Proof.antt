@@ -1,3 +1,4 @@
+-- `table_types::is_leaf` meets its contract. Assumes nothing.
 use borrow.Author.Tests.{lt-ltb, le-ltb}
 use Rattle.table_types.specs.Settle.{isLeaf}
 use Rattle.table_types.proofs.is_leaf.Statement.{statement}

@@ -1,3 +1,4 @@
+-- `table_types::joined` meets its contract. Assumes nothing.
 use borrow.Author.Tests.{eq-eqb, ne-eqb}
 use borrow.Author.Needs.{needs}
 use Rattle.table_types.proofs.joined.Statement.{statement}

@@ -1,3 +1,4 @@
+-- `table_types::leaf` meets its contract. Assumes nothing.
 use mathlib.Core.Path.{sym}
 use borrow.Author.Tests.{eq-eqb, ne-eqb}
 use Rattle.table_types.specs.Settle.{leafBy}

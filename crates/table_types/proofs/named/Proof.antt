@@ -1,3 +1,4 @@
+-- `table_types::named` meets its contract. Assumes nothing.
 use mathlib.Core.Path.{_∙_}
 use borrow.Author.Tests.{ne-eqb}
 use Rattle.table_types.specs.Settle.{namedBy}

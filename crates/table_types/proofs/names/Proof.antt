@@ -1,3 +1,4 @@
+-- `table_types::names` meets its contract. Assumes nothing.
 use borrow.Author.Tests.{eq-eqb, ne-eqb, lt-ltb, le-ltb}
 use Rattle.table_types.specs.Settle.{namesBy}
 use Rattle.table_types.proofs.names.Statement.{statement}

@@ -1,3 +1,4 @@
+-- `table_types::operand` meets its contract. Assumes nothing.
 use mathlib.Core.Path.{sym}
 use Rattle.table_types.specs.Settle.{value-at, value-past}
 use borrow.Author.Needs.{needs}

@@ -1,3 +1,4 @@
+-- `table_types::operated` meets its contract. Assumes nothing.
 use borrow.Author.Tests.{ne-eqb, lt-ltb, le-ltb}
 use Rattle.table_types.specs.Settle.{operatedBy}
 use borrow.Author.Needs.{needs}

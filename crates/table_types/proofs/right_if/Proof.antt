@@ -1,3 +1,4 @@
+-- `table_types::right_if` meets its contract. Assumes nothing.
 use Rattle.table_types.proofs.right_if.Statement.{statement}
 use Rattle.table_types.proofs.right_if.Tie as tie
 

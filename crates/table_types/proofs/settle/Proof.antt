@@ -1,3 +1,4 @@
+-- `table_types::settle` meets its contract. Assumes nothing.
 use mathlib.Core.Path.{sym, _∙_}
 use Rattle.table_types.specs.Settle.{settledBy}
 use borrow.Author.Needs.{needs}

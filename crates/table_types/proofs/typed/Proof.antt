@@ -1,3 +1,4 @@
+-- `table_types::typed` meets its contract. Assumes nothing.
 use borrow.Author.Tests.{ne-eqb}
 use mathlib.Core.Path.{sym}
 use Rattle.table_types.specs.Settle.{typedBy}

@@ -3,7 +3,7 @@ use mathlib.Core.Path.{refl}
 use native.Mathlib.Omega.{arith}
 use lib.ListN.{length}
 use borrow.Author.Needs.{needs}
-use Rattle.table_forms.specs.Steps.{Passes}
+use Rattle.table_forms.specs.Part.{Passes}
 use Rattle.compile_steps.specs.Parts.{asked, below}
 use Rattle.compile_steps.specs.Choose.{asks-choose-first, asks-choose-passes, asks-choose-passes₂, asks-choose-emit, asks-choose-second, asks-choose-emit₂}
 use Rattle.compile_steps.specs.Choose.{asks-choose-shape, asks-choose-third, asks-choose-shape₂, asks-choose-finish, answers-choose}

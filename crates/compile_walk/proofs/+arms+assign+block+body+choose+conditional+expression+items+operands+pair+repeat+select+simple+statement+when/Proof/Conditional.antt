@@ -3,7 +3,7 @@ use mathlib.Core.Path.{refl}
 use native.Mathlib.Omega.{arith}
 use lib.ListN.{length}
 use borrow.Author.Needs.{needs}
-use Rattle.table_forms.specs.Steps.{Passes}
+use Rattle.table_forms.specs.Part.{Passes}
 use Rattle.compile_steps.specs.Parts.{asked, below}
 use Rattle.compile_steps.specs.Adapt.{second-within, third-within}
 use Rattle.compile_steps.specs.Adapt.{asks-cond-first, asks-cond-passes, asks-cond-passes₂, asks-cond-emit, asks-cond-second, asks-cond-read, asks-cond-emit₂}

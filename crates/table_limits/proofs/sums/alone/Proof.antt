@@ -1,4 +1,4 @@
--- `usage::sums::alone` meets its contract. Assumes nothing.
+-- `table_limits::sums::alone` meets its contract. Assumes nothing.
 use borrow.Author.Needs.{needs}
 use borrow.Author.Tests.{ne-eqb}
 use Rattle.table_limits.specs.Sums.{aloneOf}

@@ -1,4 +1,4 @@
--- `usage::sums::declared` meets its contract. Assumes nothing.
+-- `table_limits::sums::declared` meets its contract. Assumes nothing.
 use Prim.Native.Nat.{ℕ, _+_}
 use native.Mathlib.Omega.{arith}
 use borrow.Author.Needs.{needs}

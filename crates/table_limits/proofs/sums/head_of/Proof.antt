@@ -1,4 +1,4 @@
--- `usage::sums::head_of` meets its contract. Assumes nothing.
+-- `table_limits::sums::head_of` meets its contract. Assumes nothing.
 use borrow.Author.Tests.{ne-eqb}
 use Rattle.table_limits.specs.Sums.{headOf}
 use Rattle.table_limits.proofs.sums.head_of.Statement.{statement}

@@ -1,4 +1,4 @@
--- `usage::sums::is_leaf` meets its contract. Assumes nothing.
+-- `table_limits::sums::is_leaf` meets its contract. Assumes nothing.
 use borrow.Author.Tests.{ne-eqb}
 use Rattle.table_limits.specs.Sums.{isLeaf}
 use Rattle.table_limits.proofs.sums.is_leaf.Statement.{statement}

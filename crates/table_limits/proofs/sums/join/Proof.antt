@@ -1,4 +1,4 @@
--- `usage::sums::join` meets its contract. Assumes nothing.
+-- `table_limits::sums::join` meets its contract. Assumes nothing.
 use borrow.Author.Needs.{needs}
 use mathlib.Core.Path.{refl}
 use Rattle.table_limits.proofs.Trees.{used-same}

@@ -1,4 +1,4 @@
--- `usage::sums::keeps` meets its contract. Assumes nothing.
+-- `table_limits::sums::keeps` meets its contract. Assumes nothing.
 use borrow.Author.Tests.{le-leb, lt-leb}
 use Rattle.table_limits.proofs.sums.keeps.Statement.{statement}
 use Rattle.table_limits.proofs.sums.keeps.Tie as tie

@@ -1,4 +1,4 @@
--- `usage::sums::kept` meets its contract. Assumes nothing.
+-- `table_limits::sums::kept` meets its contract. Assumes nothing.
 use borrow.Author.Tests.{lt-ltb, le-ltb}
 use Rattle.table_limits.proofs.sums.kept.Statement.{statement}
 use Rattle.table_limits.proofs.sums.kept.Tie as tie

@@ -1,4 +1,4 @@
--- `usage::sums::over` meets its contract. Assumes nothing.
+-- `table_limits::sums::over` meets its contract. Assumes nothing.
 use borrow.Author.Needs.{needs}
 use borrow.Author.Tests.{eq-eqb, ne-eqb}
 use mathlib.Core.Bool.{not}

@@ -1,4 +1,4 @@
--- `usage::sums::weight` meets its contract. Assumes nothing.
+-- `table_limits::sums::weight` meets its contract. Assumes nothing.
 use borrow.Author.Tests.{ne-eqb}
 use Rattle.table_limits.specs.Sums.{stacks}
 use Rattle.table_limits.proofs.sums.weight.Statement.{statement}

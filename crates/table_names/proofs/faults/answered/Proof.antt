@@ -1,3 +1,4 @@
+-- `table_names::faults::answered` meets its contract. Assumes nothing.
 use borrow.Author.Needs.{needs}
 use Rattle.table_names.proofs.faults.answered.Statement.{statement}
 use Rattle.table_names.proofs.faults.answered.Tie as tie

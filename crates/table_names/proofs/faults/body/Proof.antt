@@ -1,3 +1,4 @@
+-- `table_names::faults::body` meets its contract. Assumes nothing.
 use Rattle.table_forms.specs.Root.{body-statement, body-expression, body-proper, body-function}
 use borrow.Author.Needs.{needs}
 use Rattle.table_names.proofs.faults.body.Statement.{statement}

@@ -1,4 +1,4 @@
--- `names::fault_in` meets its contract: the arrays have room enough for the sizes and the names of a table that reads. Assumes nothing.
+-- `table_names::faults::fault_in` meets its contract: the arrays have room enough for the sizes and the names of a table that reads. Assumes nothing.
 use borrow.Author.Needs.{needs}
 use native.Mathlib.Omega.{arith}
 use mathlib.Core.Path.{_∙_}

@@ -1,4 +1,4 @@
--- `names::first_fault` meets its contract: in each of its cases the arrays are as large as the table asks for. Assumes nothing.
+-- `table_names::faults::first_fault` meets its contract: in each of its cases the arrays are as large as the table asks for. Assumes nothing.
 use borrow.Author.Needs.{needs}
 use native.Mathlib.Omega.{arith}
 use Rattle.table_forms.specs.Tables.{read-held}

@@ -1,3 +1,4 @@
+-- `table_names::faults::headed` meets its contract. Assumes nothing.
 use Rattle.table_scopes.specs.Environment.{envOf}
 use Rattle.table_scopes.specs.Flaws.{onceFlaw, says-then, says-first}
 use Rattle.table_forms.specs.Root.{resultFlaw}

@@ -1,3 +1,4 @@
+-- `table_names::faults::procedure` meets its contract. Assumes nothing.
 use native.Mathlib.Omega.{arith}
 use Prim.Native.Nat.{_+_, _-_, _/_}
 use Rattle.table_scopes.specs.Environment.{item}
@@ -9,64 +10,64 @@ use borrow.Author.Needs.{needs}
 use Rattle.table_names.proofs.faults.procedure.Statement.{statement}
 use Rattle.table_names.proofs.faults.procedure.Tie as tie
 
-word-at-requires : tie.Need-word-at-requires
-word-at-requires c κs =
+b-at-requires : tie.Need-b-at-requires
+b-at-requires c κs =
     let at-start = c .before .before .before .before in
     omega (arith, global-asks (at-start .pre) .0)
 
-half-at-requires : tie.Need-half-at-requires
-half-at-requires c κs =
+a-at-requires : tie.Need-a-at-requires
+a-at-requires c κs =
     let at-start = c .before .before .before .before .before in
     omega (arith, global-asks (at-start .pre) .0)
 
 push-requires : tie.Need-push-requires
 push-requires c κs =
-    let at-word-at = c .before .before in
-    let at-start = at-word-at .before .before .before .before .before in
-    omega (arith, proc-asks (at-word-at .word-at .result) (at-word-at .word-at .ensures) (at-start .pre) .room)
+    let at-b-at = c .before .before in
+    let at-start = at-b-at .before .before .before .before .before in
+    omega (arith, proc-asks (at-b-at .b-at .result) (at-b-at .b-at .ensures) (at-start .pre) .room)
 
 add-add-head : tie.Need-add-add-head
 add-add-head c =
-    let at-word-at = c .before .before .before .before .before in
-    let at-start = at-word-at .before .before .before .before .before in
-    omega (arith, proc-asks (at-word-at .word-at .result) (at-word-at .word-at .ensures) (at-start .pre) .small)
+    let at-b-at = c .before .before .before .before .before in
+    let at-start = at-b-at .before .before .before .before .before in
+    omega (arith, proc-asks (at-b-at .b-at .result) (at-b-at .b-at .ensures) (at-start .pre) .small)
 
 add-add-head-2 : tie.Need-add-add-head-2
 add-add-head-2 c =
-    let at-word-at = c .before .before .before .before .before .before in
-    let at-start = at-word-at .before .before .before .before .before in
-    omega (arith, proc-asks (at-word-at .word-at .result) (at-word-at .word-at .ensures) (at-start .pre) .room)
+    let at-b-at = c .before .before .before .before .before .before in
+    let at-start = at-b-at .before .before .before .before .before in
+    omega (arith, proc-asks (at-b-at .b-at .result) (at-b-at .b-at .ensures) (at-start .pre) .room)
 
 add-head-requires : tie.Need-add-head-requires
 add-head-requires c κs =
-    let at-word-at = c .before .before .before .before .before .before in
-    let at-start = at-word-at .before .before .before .before .before in (
-      proc-asks (at-word-at .word-at .result) (at-word-at .word-at .ensures) (at-start .pre) .within,
-      proc-asks (at-word-at .word-at .result) (at-word-at .word-at .ensures) (at-start .pre) .short,
+    let at-b-at = c .before .before .before .before .before .before in
+    let at-start = at-b-at .before .before .before .before .before in (
+      proc-asks (at-b-at .b-at .result) (at-b-at .b-at .ensures) (at-start .pre) .within,
+      proc-asks (at-b-at .b-at .result) (at-b-at .b-at .ensures) (at-start .pre) .short,
       omega (
         arith,
-        proc-asks (at-word-at .word-at .result) (at-word-at .word-at .ensures) (at-start .pre) .room,
+        proc-asks (at-b-at .b-at .result) (at-b-at .b-at .ensures) (at-start .pre) .room,
         (grown-push (at-start .args .env .now) _ (at-start .args .top) 65537 0 0 0
-            (omega (arith, proc-asks (at-word-at .word-at .result) (at-word-at .word-at .ensures) (at-start .pre) .room)) (c .before .before .before .push .ensures)) .same,
+            (omega (arith, proc-asks (at-b-at .b-at .result) (at-b-at .b-at .ensures) (at-start .pre) .room)) (c .before .before .before .push .ensures)) .same,
       ),
     )
 
 add-head : tie.Need-add-head
 add-head c =
-    let at-word-at = c .before .before .before .before .before .before .before .before .before in
-    let at-start = at-word-at .before .before .before .before .before in
-    omega (arith, proc-asks (at-word-at .word-at .result) (at-word-at .word-at .ensures) (at-start .pre) .small)
+    let at-b-at = c .before .before .before .before .before .before .before .before .before in
+    let at-start = at-b-at .before .before .before .before .before in
+    omega (arith, proc-asks (at-b-at .b-at .result) (at-b-at .b-at .ensures) (at-start .pre) .small)
 
 head-requires : tie.Need-head-requires
 head-requires c κs =
     let at-push = c .before .before .before .before .before .before .before in
-    let at-word-at = at-push .before .before .before in
-    let at-start = at-word-at .before .before .before .before .before in (
-      proc-asks (at-word-at .word-at .result) (at-word-at .word-at .ensures) (at-start .pre) .within,
-      proc-top (at-word-at .word-at .result) (at-word-at .word-at .ensures)
-          (grown-marked (item 65537 0 0 0) (itemsAt 4 (at-start .args .table .now) ((at-start .args .at) + 1) (at-word-at .word-at .result / 256))
+    let at-b-at = at-push .before .before .before in
+    let at-start = at-b-at .before .before .before .before .before in (
+      proc-asks (at-b-at .b-at .result) (at-b-at .b-at .ensures) (at-start .pre) .within,
+      proc-top (at-b-at .b-at .result) (at-b-at .b-at .ensures)
+          (grown-marked (item 65537 0 0 0) (itemsAt 4 (at-start .args .table .now) ((at-start .args .at) + 1) (at-b-at .b-at .result / 256))
           (grown-push (at-start .args .env .now) _ (at-start .args .top) 65537 0 0 0
-          (omega (arith, proc-asks (at-word-at .word-at .result) (at-word-at .word-at .ensures) (at-start .pre) .room)) (at-push .push .ensures))
+          (omega (arith, proc-asks (at-b-at .b-at .result) (at-b-at .b-at .ensures) (at-start .pre) .room)) (at-push .push .ensures))
           (c .before .before .before .add-head .ensures)) (at-start .pre),
     )
 
@@ -75,38 +76,38 @@ enum-told c = search needs
 
 sub-body : tie.Need-sub-body
 sub-body c =
-    let at-word-at = c .before .before .before .before .before .before .before .before .before .before .before .before .before in
-    let at-start = at-word-at .before .before .before .before .before in
-    proc-asks (at-word-at .word-at .result) (at-word-at .word-at .ensures) (at-start .pre) .fits
+    let at-b-at = c .before .before .before .before .before .before .before .before .before .before .before .before .before in
+    let at-start = at-b-at .before .before .before .before .before in
+    proc-asks (at-b-at .b-at .result) (at-b-at .b-at .ensures) (at-start .pre) .fits
 
 part-body-start : tie.Need-part-body-start
 part-body-start c =
-    let at-word-at = c .before .before .before .before .before .before .before .before .before .before .before .before .before in
-    let at-start = at-word-at .before .before .before .before .before in
-    proc-asks (at-word-at .word-at .result) (at-word-at .word-at .ensures) (at-start .pre) .fits
+    let at-b-at = c .before .before .before .before .before .before .before .before .before .before .before .before .before in
+    let at-start = at-b-at .before .before .before .before .before in
+    proc-asks (at-b-at .b-at .result) (at-b-at .b-at .ensures) (at-start .pre) .fits
 
 add-body : tie.Need-add-body
 add-body c =
-    let at-word-at = c .before .before .before .before .before .before .before .before .before .before .before .before .before .before in
-    let at-start = at-word-at .before .before .before .before .before in
-    omega (arith, proc-asks (at-word-at .word-at .result) (at-word-at .word-at .ensures) (at-start .pre) .small)
+    let at-b-at = c .before .before .before .before .before .before .before .before .before .before .before .before .before .before in
+    let at-start = at-b-at .before .before .before .before .before in
+    omega (arith, proc-asks (at-b-at .b-at .result) (at-b-at .b-at .ensures) (at-start .pre) .small)
 
 add-body-2 : tie.Need-add-body-2
 add-body-2 c =
-    let at-word-at = c .before .before .before .before .before .before .before .before .before .before .before .before .before .before in
-    let at-start = at-word-at .before .before .before .before .before in
-    omega (arith, proc-asks (at-word-at .word-at .result) (at-word-at .word-at .ensures) (at-start .pre) .small)
+    let at-b-at = c .before .before .before .before .before .before .before .before .before .before .before .before .before .before in
+    let at-start = at-b-at .before .before .before .before .before in
+    omega (arith, proc-asks (at-b-at .b-at .result) (at-b-at .b-at .ensures) (at-start .pre) .small)
 
 body-requires : tie.Need-body-requires
 body-requires c κs =
     let at-add-head = c .before .before .before .before .before .before .before .before in
     let at-push = at-add-head .before .before .before .before in
-    let at-word-at = at-push .before .before .before in
-    let at-start = at-word-at .before .before .before .before .before in
-    proc-body (at-word-at .word-at .result) (at-word-at .word-at .ensures)
-    (grown-marked (item 65537 0 0 0) (itemsAt 4 (at-start .args .table .now) ((at-start .args .at) + 1) (at-word-at .word-at .result / 256))
+    let at-b-at = at-push .before .before .before in
+    let at-start = at-b-at .before .before .before .before .before in
+    proc-body (at-b-at .b-at .result) (at-b-at .b-at .ensures)
+    (grown-marked (item 65537 0 0 0) (itemsAt 4 (at-start .args .table .now) ((at-start .args .at) + 1) (at-b-at .b-at .result / 256))
     (grown-push (at-start .args .env .now) _ (at-start .args .top) 65537 0 0 0
-    (omega (arith, proc-asks (at-word-at .word-at .result) (at-word-at .word-at .ensures) (at-start .pre) .room)) (at-push .push .ensures))
+    (omega (arith, proc-asks (at-b-at .b-at .result) (at-b-at .b-at .ensures) (at-start .pre) .room)) (at-push .push .ensures))
     (at-add-head .add-head .ensures)) (at-start .pre)
 
 headed-requires : tie.Need-headed-requires
@@ -114,15 +115,15 @@ headed-requires c κs =
     let at-body = c .before .before .before .before .before .before in
     let at-add-head = at-body .before .before .before .before .before .before .before .before .before in
     let at-push = at-add-head .before .before .before .before in
-    let at-word-at = at-push .before .before .before in
-    let at-start = at-word-at .before .before .before .before .before in
+    let at-b-at = at-push .before .before .before in
+    let at-start = at-b-at .before .before .before .before .before in
     omega (
       arith,
       global-asks (at-start .pre) .2,
       at-body .body .ensures .same,
-      (grown-marked (item 65537 0 0 0) (itemsAt 4 (at-start .args .table .now) ((at-start .args .at) + 1) (at-word-at .word-at .result / 256))
+      (grown-marked (item 65537 0 0 0) (itemsAt 4 (at-start .args .table .now) ((at-start .args .at) + 1) (at-b-at .b-at .result / 256))
           (grown-push (at-start .args .env .now) _ (at-start .args .top) 65537 0 0 0
-          (omega (arith, proc-asks (at-word-at .word-at .result) (at-word-at .word-at .ensures) (at-start .pre) .room)) (at-push .push .ensures))
+          (omega (arith, proc-asks (at-b-at .b-at .result) (at-b-at .b-at .ensures) (at-start .pre) .room)) (at-push .push .ensures))
           (at-add-head .add-head .ensures)) .same,
     )
 
@@ -133,15 +134,15 @@ returns c =
     let at-head = at-enum-told .before .before in
     let at-add-head = at-head .before .before .before .before in
     let at-push = at-add-head .before .before .before .before in
-    let at-half-at = at-push .before .before in
-    let at-word-at = at-half-at .before in
-    let at-start = at-word-at .before .before .before .before .before in
-    proc-judged (at-word-at .word-at .result) (at-word-at .word-at .ensures)
-    (grown-marked (item 65537 0 0 0) (itemsAt 4 (at-start .args .table .now) ((at-start .args .at) + 1) (at-word-at .word-at .result / 256))
+    let at-a-at = at-push .before .before in
+    let at-b-at = at-a-at .before in
+    let at-start = at-b-at .before .before .before .before .before in
+    proc-judged (at-b-at .b-at .result) (at-b-at .b-at .ensures)
+    (grown-marked (item 65537 0 0 0) (itemsAt 4 (at-start .args .table .now) ((at-start .args .at) + 1) (at-b-at .b-at .result / 256))
     (grown-push (at-start .args .env .now) _ (at-start .args .top) 65537 0 0 0
-    (omega (arith, proc-asks (at-word-at .word-at .result) (at-word-at .word-at .ensures) (at-start .pre) .room)) (at-push .push .ensures))
+    (omega (arith, proc-asks (at-b-at .b-at .result) (at-b-at .b-at .ensures) (at-start .pre) .room)) (at-push .push .ensures))
     (at-add-head .add-head .ensures)) (at-head .head .ensures) _ (at-enum-told .enum-told .given .1) (at-body .body .ensures) _
-    (c .before .before .before .t .given .1) (rw (at-half-at .half-at .ensures) at (c .headed .ensures))
+    (c .before .before .before .t .given .1) (rw (at-a-at .a-at .ensures) at (c .headed .ensures))
 
 returns-2 : tie.Need-returns-2
 returns-2 c =
@@ -150,32 +151,32 @@ returns-2 c =
     let at-head = at-enum-told .before .before in
     let at-add-head = at-head .before .before .before .before in
     let at-push = at-add-head .before .before .before .before in
-    let at-word-at = at-push .before .before .before in
-    let at-start = at-word-at .before .before .before .before .before in
-    proc-stop-2 (at-word-at .word-at .result) (at-word-at .word-at .ensures)
-    (grown-marked (item 65537 0 0 0) (itemsAt 4 (at-start .args .table .now) ((at-start .args .at) + 1) (at-word-at .word-at .result / 256))
+    let at-b-at = at-push .before .before .before in
+    let at-start = at-b-at .before .before .before .before .before in
+    proc-stop-2 (at-b-at .b-at .result) (at-b-at .b-at .ensures)
+    (grown-marked (item 65537 0 0 0) (itemsAt 4 (at-start .args .table .now) ((at-start .args .at) + 1) (at-b-at .b-at .result / 256))
     (grown-push (at-start .args .env .now) _ (at-start .args .top) 65537 0 0 0
-    (omega (arith, proc-asks (at-word-at .word-at .result) (at-word-at .word-at .ensures) (at-start .pre) .room)) (at-push .push .ensures))
+    (omega (arith, proc-asks (at-b-at .b-at .result) (at-b-at .b-at .ensures) (at-start .pre) .room)) (at-push .push .ensures))
     (at-add-head .add-head .ensures)) (at-head .head .ensures) _ (at-enum-told .enum-told .given .1) (at-body .body .ensures) _ _ (c .before .n .given .1)
 
 returns-3 : tie.Need-returns-3
 returns-3 c =
     let at-add-head = c .before .before .before .before .before .before .before in
     let at-push = at-add-head .before .before .before .before in
-    let at-word-at = at-push .before .before .before in
-    let at-start = at-word-at .before .before .before .before .before in
-    proc-stop (at-word-at .word-at .result) (at-word-at .word-at .ensures)
-    (grown-marked (item 65537 0 0 0) (itemsAt 4 (at-start .args .table .now) ((at-start .args .at) + 1) (at-word-at .word-at .result / 256))
+    let at-b-at = at-push .before .before .before in
+    let at-start = at-b-at .before .before .before .before .before in
+    proc-stop (at-b-at .b-at .result) (at-b-at .b-at .ensures)
+    (grown-marked (item 65537 0 0 0) (itemsAt 4 (at-start .args .table .now) ((at-start .args .at) + 1) (at-b-at .b-at .result / 256))
     (grown-push (at-start .args .env .now) _ (at-start .args .top) 65537 0 0 0
-    (omega (arith, proc-asks (at-word-at .word-at .result) (at-word-at .word-at .ensures) (at-start .pre) .room)) (at-push .push .ensures))
+    (omega (arith, proc-asks (at-b-at .b-at .result) (at-b-at .b-at .ensures) (at-start .pre) .room)) (at-push .push .ensures))
     (at-add-head .add-head .ensures)) (c .before .before .before .head .ensures) _ _ (c .before .n2 .given .1)
 
 pub procedure-spec : {M : Type 1} → statement M
 procedure-spec =
     tie.close
     (tie.spec
-    word-at-requires
-    half-at-requires
+    b-at-requires
+    a-at-requires
     (λ c. search needs)
     push-requires
     add-add-head

@@ -1,3 +1,4 @@
+-- `table_names::faults::returned` meets its contract. Assumes nothing.
 use borrow.Author.Tests.{eq-eqb, ne-eqb}
 use mathlib.Core.List.{[]}
 use Rattle.table_forms.specs.Root.{resultFlaw}

@@ -1,18 +1,19 @@
+-- `table_names::faults::root` meets its contract. Assumes nothing.
 use native.Mathlib.Omega.{arith}
 use mathlib.Core.Path.{ap}
 use Prim.Native.Nat.{ℕ, _+_, _-_}
 use Rattle.table_scopes.specs.Sizes.{size-small}
-use Rattle.table_forms.specs.Ends.{known-from}
+use Rattle.table_forms.specs.Body.{known-from}
 use Rattle.table_forms.specs.Tables.{root-long, root-reach, root-room, root-globals, root-rest, root-stop, root-judged, root-place}
 use borrow.Author.Needs.{needs}
 use Rattle.table_names.proofs.faults.root.Statement.{statement}
 use Rattle.table_names.proofs.faults.root.Tie as tie
 
-half-at-requires : tie.Need-half-at-requires
-half-at-requires c κs = omega (arith, root-long ((c .before .before .before .pre) .whole) .0)
+a-at-requires : tie.Need-a-at-requires
+a-at-requires c κs = omega (arith, root-long ((c .before .before .before .pre) .whole) .0)
 
-word-at-requires : tie.Need-word-at-requires
-word-at-requires c κs =
+b-at-requires : tie.Need-b-at-requires
+b-at-requires c κs =
     let at-start = c .before .before .before .before in
     omega (arith, root-long ((at-start .pre) .whole) .0)
 
@@ -24,29 +25,29 @@ spanned-requires c κs =
 add-after : tie.Need-add-after
 add-after c =
     let at-start = c .before .before .before .before .before .before in
-    omega (arith, size-small (at-start .args .table .now) 1 (c .before .before .half-at .result) (c .spanned .result) (c .spanned .ensures), (at-start .pre) .whole .legible .short)
+    omega (arith, size-small (at-start .args .table .now) 1 (c .before .before .a-at .result) (c .spanned .result) (c .spanned .ensures), (at-start .pre) .whole .legible .short)
 
 enter-root-requires : tie.Need-enter-root-requires
 enter-root-requires c κs =
-    let at-word-at = c .before .before in
-    let at-half-at = at-word-at .before in
-    let at-start = at-half-at .before .before .before .before in (
+    let at-b-at = c .before .before in
+    let at-a-at = at-b-at .before in
+    let at-start = at-a-at .before .before .before .before in (
       (at-start .pre) .whole .known,
       root-reach ((at-start .pre) .whole)
           (record {
-            first = at-half-at .half-at .ensures;
-            second = at-word-at .word-at .ensures;
+            first = at-a-at .a-at .ensures;
+            second = at-b-at .b-at .ensures;
             third = ap (λ (n : ℕ). 1 + n) (c .before .spanned .ensures);
           }) .0,
       root-reach ((at-start .pre) .whole) (record {
-        first = at-half-at .half-at .ensures;
-        second = at-word-at .word-at .ensures;
+        first = at-a-at .a-at .ensures;
+        second = at-b-at .b-at .ensures;
         third = ap (λ (n : ℕ). 1 + n) (c .before .spanned .ensures);
       }) .1,
       (at-start .pre) .whole .legible .short,
       root-room ((at-start .pre) .whole) (record {
-        first = at-half-at .half-at .ensures;
-        second = at-word-at .word-at .ensures;
+        first = at-a-at .a-at .ensures;
+        second = at-b-at .b-at .ensures;
         third = ap (λ (n : ℕ). 1 + n) (c .before .spanned .ensures);
       }),
     )
@@ -54,12 +55,12 @@ enter-root-requires c κs =
 globals-requires : tie.Need-globals-requires
 globals-requires c κs =
     let at-spanned = c .before .before .before .before .before in
-    let at-word-at = at-spanned .before in
-    let at-half-at = at-word-at .before in
-    let at-start = at-half-at .before .before .before .before in
+    let at-b-at = at-spanned .before in
+    let at-a-at = at-b-at .before in
+    let at-start = at-a-at .before .before .before .before in
     root-globals (record {
-      first = at-half-at .half-at .ensures;
-      second = at-word-at .word-at .ensures;
+      first = at-a-at .a-at .ensures;
+      second = at-b-at .b-at .ensures;
       third = ap (λ (n : ℕ). 1 + n) (at-spanned .spanned .ensures);
     }) (c .before .before .before .enter-root .ensures) (at-start .pre)
 
@@ -69,38 +70,38 @@ enum-told c = search needs
 mul-from : tie.Need-mul-from
 mul-from c =
     let at-spanned = c .before .before .before .before .before .before .before .before .before .before in
-    let at-word-at = at-spanned .before in
-    let at-half-at = at-word-at .before in
-    let at-start = at-half-at .before .before .before .before in
-    omega (arith, root-place (at-start .pre) (record { first = at-half-at .half-at .ensures; second = at-word-at .word-at .ensures; third = ap (λ (n : ℕ). 1 + n) (at-spanned .spanned .ensures) }))
+    let at-b-at = at-spanned .before in
+    let at-a-at = at-b-at .before in
+    let at-start = at-a-at .before .before .before .before in
+    omega (arith, root-place (at-start .pre) (record { first = at-a-at .a-at .ensures; second = at-b-at .b-at .ensures; third = ap (λ (n : ℕ). 1 + n) (at-spanned .spanned .ensures) }))
 
 sub-items : tie.Need-sub-items
 sub-items c =
     let at-spanned = c .before .before .before .before .before .before .before .before .before .before in
-    let at-word-at = at-spanned .before in
-    let at-half-at = at-word-at .before in
-    let at-start = at-half-at .before .before .before .before in
-    root-place (at-start .pre) (record { first = at-half-at .half-at .ensures; second = at-word-at .word-at .ensures; third = ap (λ (n : ℕ). 1 + n) (at-spanned .spanned .ensures) }) .0
+    let at-b-at = at-spanned .before in
+    let at-a-at = at-b-at .before in
+    let at-start = at-a-at .before .before .before .before in
+    root-place (at-start .pre) (record { first = at-a-at .a-at .ensures; second = at-b-at .b-at .ensures; third = ap (λ (n : ℕ). 1 + n) (at-spanned .spanned .ensures) }) .0
 
 part-items-start : tie.Need-part-items-start
 part-items-start c =
     let at-spanned = c .before .before .before .before .before .before .before .before .before .before in
-    let at-word-at = at-spanned .before in
-    let at-half-at = at-word-at .before in
-    let at-start = at-half-at .before .before .before .before in
-    root-place (at-start .pre) (record { first = at-half-at .half-at .ensures; second = at-word-at .word-at .ensures; third = ap (λ (n : ℕ). 1 + n) (at-spanned .spanned .ensures) }) .0
+    let at-b-at = at-spanned .before in
+    let at-a-at = at-b-at .before in
+    let at-start = at-a-at .before .before .before .before in
+    root-place (at-start .pre) (record { first = at-a-at .a-at .ensures; second = at-b-at .b-at .ensures; third = ap (λ (n : ℕ). 1 + n) (at-spanned .spanned .ensures) }) .0
 
 items-requires : tie.Need-items-requires
 items-requires c κs =
     let at-globals = c .before .before .before .before .before .before in
     let at-enter-root = at-globals .before .before .before .before in
     let at-spanned = at-enter-root .before .before in
-    let at-word-at = at-spanned .before in
-    let at-half-at = at-word-at .before in
-    let at-start = at-half-at .before .before .before .before in
+    let at-b-at = at-spanned .before in
+    let at-a-at = at-b-at .before in
+    let at-start = at-a-at .before .before .before .before in
     root-rest (record {
-      first = at-half-at .half-at .ensures;
-      second = at-word-at .word-at .ensures;
+      first = at-a-at .a-at .ensures;
+      second = at-b-at .b-at .ensures;
       third = ap (λ (n : ℕ). 1 + n) (at-spanned .spanned .ensures);
     }) (at-enter-root .enter-root .ensures) (at-globals .globals .ensures) (at-start .pre)
 
@@ -110,11 +111,11 @@ returns c =
     let at-globals = at-enum-told .before .before .before .before in
     let at-enter-root = at-globals .before .before .before .before in
     let at-spanned = at-enter-root .before .before in
-    let at-word-at = at-spanned .before in
-    let at-half-at = at-word-at .before in
+    let at-b-at = at-spanned .before in
+    let at-a-at = at-b-at .before in
     root-judged (record {
-      first = at-half-at .half-at .ensures;
-      second = at-word-at .word-at .ensures;
+      first = at-a-at .a-at .ensures;
+      second = at-b-at .b-at .ensures;
       third = ap (λ (n : ℕ). 1 + n) (at-spanned .spanned .ensures);
     }) (at-enter-root .enter-root .ensures) (at-globals .globals .ensures) _
     (at-enum-told .enum-told .given .1) (c .before .before .items .ensures)
@@ -124,11 +125,11 @@ returns-2 c =
     let at-globals = c .before .before .before .before .before in
     let at-enter-root = at-globals .before .before .before .before in
     let at-spanned = at-enter-root .before .before in
-    let at-word-at = at-spanned .before in
-    let at-half-at = at-word-at .before in
+    let at-b-at = at-spanned .before in
+    let at-a-at = at-b-at .before in
     root-stop (record {
-      first = at-half-at .half-at .ensures;
-      second = at-word-at .word-at .ensures;
+      first = at-a-at .a-at .ensures;
+      second = at-b-at .b-at .ensures;
       third = ap (λ (n : ℕ). 1 + n) (at-spanned .spanned .ensures);
     }) (at-enter-root .enter-root .ensures) (at-globals .globals .ensures) _ _ (c .before .n .given .1)
 
@@ -136,9 +137,9 @@ pub root-spec : {M : Type 1} → statement M
 root-spec =
     tie.close
     (tie.spec
-    half-at-requires
+    a-at-requires
     (λ c. search needs)
-    word-at-requires
+    b-at-requires
     (λ c. search needs)
     spanned-requires
     add-after

@@ -1,3 +1,4 @@
+-- `table_names::walkers::guarded_of` meets its contract. Assumes nothing.
 use borrow.Author.Tests.{ne-eqb}
 use Rattle.table_forms.specs.Walk.{guardedBy}
 use Rattle.table_names.proofs.walkers.guarded_of.Statement.{statement}

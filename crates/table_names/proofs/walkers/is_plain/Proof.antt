@@ -1,3 +1,4 @@
+-- `table_names::walkers::is_plain` meets its contract. Assumes nothing.
 use borrow.Author.Tests.{eq-eqb, ne-eqb, lt-ltb, le-ltb}
 use Rattle.table_forms.specs.Walk.{isPlain}
 use Rattle.table_names.proofs.walkers.is_plain.Statement.{statement}

@@ -1,3 +1,4 @@
+-- `table_names::walkers::operands_of` meets its contract. Assumes nothing.
 use borrow.Author.Tests.{ne-eqb}
 use Rattle.table_forms.specs.Walk.{operandsBy}
 use Rattle.table_names.proofs.walkers.operands_of.Statement.{statement}

@@ -1,3 +1,4 @@
+-- `table_names::walkers::tested` meets its contract. Assumes nothing.
 use borrow.Author.Tests.{eq-eqb, ne-eqb}
 use Rattle.table_forms.specs.Walk.{testedBy}
 use Rattle.table_names.proofs.walkers.tested.Statement.{statement}

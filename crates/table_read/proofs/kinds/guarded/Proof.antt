@@ -1,4 +1,4 @@
--- `reader::kinds::guarded` meets its contract. Assumes nothing.
+-- `table_read::kinds::guarded` meets its contract. Assumes nothing.
 use borrow.Author.Tests.{ne-eqb}
 use Rattle.table_read.proofs.kinds.guarded.Statement.{statement}
 use Rattle.table_read.proofs.kinds.guarded.Tie as tie

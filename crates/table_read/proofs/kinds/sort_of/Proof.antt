@@ -1,4 +1,4 @@
--- `reader::kinds::sort_of` meets its contract: each arm is a place in a run of one sort. Assumes nothing.
+-- `table_read::kinds::sort_of` meets its contract: each arm is a place in a run of one sort. Assumes nothing.
 use borrow.Author.Needs.{needs}
 use borrow.Author.Tests.{eq-eqb, ne-eqb}
 use mathlib.Core.Path.{sym, _∙_}

@@ -1,4 +1,4 @@
--- `reader::layout::in_layout` meets its contract: each arm computes what the definition does. Assumes nothing.
+-- `table_read::layout::in_layout` meets its contract: each arm computes what the definition does. Assumes nothing.
 use borrow.Author.Needs.{needs}
 use borrow.Author.Tests.{ne-eqb}
 use mir.Syntax.{w32}

@@ -1,4 +1,4 @@
--- `reader::layout::is_binary` meets its contract. Assumes nothing.
+-- `table_read::layout::is_binary` meets its contract. Assumes nothing.
 use Rattle.values.specs.Operators.{binaryOf}
 use Rattle.table_read.proofs.Fields.{binary-codes}
 use Rattle.table_read.proofs.layout.is_binary.Statement.{statement}

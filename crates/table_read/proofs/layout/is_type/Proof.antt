@@ -1,4 +1,4 @@
--- `reader::layout::is_type` meets its contract. Assumes nothing.
+-- `table_read::layout::is_type` meets its contract. Assumes nothing.
 use borrow.Author.Tests.{ne-eqb, le-leb, lt-leb}
 use Rattle.table_read.proofs.Fields.{chosen}
 use Rattle.table_read.proofs.layout.is_type.Statement.{statement}

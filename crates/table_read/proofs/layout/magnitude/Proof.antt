@@ -1,4 +1,4 @@
--- `reader::layout::magnitude` meets its contract. Assumes nothing.
+-- `table_read::layout::magnitude` meets its contract. Assumes nothing.
 use Prim.{tt}
 use mathlib.Core.Path.{_≡_, _∙_, ap}
 use native.Mathlib.Omega.{arith}

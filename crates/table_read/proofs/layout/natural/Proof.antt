@@ -1,4 +1,4 @@
--- `reader::layout::natural` meets its contract. Assumes nothing.
+-- `table_read::layout::natural` meets its contract. Assumes nothing.
 use mir.Syntax.{w32}
 use mir.ValLaws.{toZ-ofZ}
 use Rattle.table_read.proofs.Fields.{natural-least}

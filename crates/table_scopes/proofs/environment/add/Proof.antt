@@ -1,3 +1,4 @@
+-- `table_scopes::environment::add` meets its contract. Assumes nothing.
 use Rattle.table_scopes.specs.EnvironmentLaws.{not-added, is-added}
 use borrow.Author.Needs.{needs}
 use Rattle.table_scopes.proofs.environment.add.Statement.{statement}

@@ -1,3 +1,4 @@
+-- `table_scopes::environment::walled` meets its contract. Assumes nothing.
 use borrow.Author.Needs.{needs}
 use Rattle.table_scopes.proofs.environment.walled.Statement.{statement}
 use Rattle.table_scopes.proofs.environment.walled.Tie as tie

@@ -1,3 +1,4 @@
+-- `table_scopes::heads::add_class` meets its contract. Assumes nothing.
 use native.Mathlib.Omega.{arith}
 use lib.ListN.{length}
 use Prim.Native.Nat.{_+_, _-_}

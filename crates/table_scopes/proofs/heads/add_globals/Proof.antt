@@ -1,3 +1,4 @@
+-- `table_scopes::heads::add_globals` meets its contract. Assumes nothing.
 use native.Mathlib.Omega.{arith}
 use mathlib.Core.Path.{_≡_, refl, _∙_}
 use lib.ListN.{length}
@@ -21,60 +22,44 @@ loop-holds c =
 
 add-global-requires : tie.Need-add-global-requires Inv-loop μ-loop
 add-global-requires c κs =
-    let rh = globals-here (c .before .before .before .before .before .before .args .table .now) (c .before .before .loop .place)
-    (c .before .before .loop .left) (omega arith) (c .before .before .loop .inv .1) in (
+    let l = c .before .before .before .before .before .before .args .table .now in
+    let place = c .before .before .loop .place in
+    let left = c .before .before .loop .left in
+    let rh = globals-here l place left (omega arith) (c .before .before .loop .inv .1) in
+    let step = globals-more l place left _ (omega arith) refl in (
       rh,
       c .before .before .before .before .before .before .pre .2,
-      adds-room (c .before .before .loop .inv .0)
-          (globalAt (c .before .before .before .before .before .before .args .table .now) (c .before .before .loop .place))
-          (globalsFrom (c .before .before .before .before .before .before .args .table .now)
-          (after (c .before .before .before .before .before .before .args .table .now) (c .before .before .loop .place))
-          (c .before .before .loop .left - 1)) (globals-more (c .before .before .before .before .before .before .args .table .now)
-          (c .before .before .loop .place) (c .before .before .loop .left) _ (omega arith) refl) (c .before .before .before .before .before .before .pre .3),
+      adds-room (c .before .before .loop .inv .0) (globalAt l place) (globalsFrom l (after l place) (left - 1)) step (c .before .before .before .before .before .before .pre .3),
     )
 
 size-at-requires : tie.Need-size-at-requires Inv-loop μ-loop
 size-at-requires c κs =
-    let rh = globals-here (c .before .before .before .before .before .before .before .before .before .args .table .now)
-    (c .before .before .before .before .before .loop .place) (c .before .before .before .before .before .loop .left) (omega arith)
-    (c .before .before .before .before .before .loop .inv .1) in omega
-    (arith, c .before .before .before .before .before .before .before .before .before .pre .0 .wide, rh .within)
+    let l = c .before .before .before .before .before .before .before .before .before .args .table .now in
+    let place = c .before .before .before .before .before .loop .place in
+    let left = c .before .before .before .before .before .loop .left in
+    let rh = globals-here l place left (omega arith) (c .before .before .before .before .before .loop .inv .1) in
+    omega (arith, c .before .before .before .before .before .before .before .before .before .pre .0 .wide, rh .within)
 
 add-place : tie.Need-add-place Inv-loop μ-loop
 add-place c =
-    let rh = globals-here (c .before .before .before .before .before .before .before .before .before .before .args .table .now)
-    (c .before .before .before .before .before .before .loop .place) (c .before .before .before .before .before .before .loop .left) (omega arith)
-    (c .before .before .before .before .before .before .loop .inv .1) in
-    let z = (c .size-at .ensures ∙ c .before .before .before .before .before .before .before .before .before .before .pre .0 .sized
-    (c .before .before .before .before .before .before .loop .place) (omega arith) (omega (arith, rh .within))) in omega (
-      arith,
-      rh .within,
-      size-small (c .before .before .before .before .before .before .before .before .before .before .args .table .now)
-          (c .before .before .before .before .before .before .loop .place) 1 (c .size-at .result) z,
-    )
+    let l = c .before .before .before .before .before .before .before .before .before .before .args .table .now in
+    let place = c .before .before .before .before .before .before .loop .place in
+    let left = c .before .before .before .before .before .before .loop .left in
+    let rh = globals-here l place left (omega arith) (c .before .before .before .before .before .before .loop .inv .1) in
+    let z = c .size-at .ensures ∙ c .before .before .before .before .before .before .before .before .before .before .pre .0 .sized place (omega arith) (omega (arith, rh .within)) in
+    omega (arith, size-small l place 1 (c .size-at .result) z, rh .within)
 
 loop-again : tie.Need-loop-again Inv-loop μ-loop
 loop-again c =
-    let rh = globals-here (c .before .before .before .before .before .before .before .before .before .before .args .table .now)
-    (c .before .before .before .before .before .before .loop .place) (c .before .before .before .before .before .before .loop .left) (omega arith)
-    (c .before .before .before .before .before .before .loop .inv .1) in
-    let z = (c .size-at .ensures ∙ c .before .before .before .before .before .before .before .before .before .before .pre .0 .sized
-    (c .before .before .before .before .before .before .loop .place) (omega arith) (omega (arith, rh .within))) in let a = adds-next
-    (c .before .before .before .before .before .before .loop .inv .0) (globalAt
-    (c .before .before .before .before .before .before .before .before .before .before .args .table .now)
-    (c .before .before .before .before .before .before .loop .place)) (globalsFrom
-    (c .before .before .before .before .before .before .before .before .before .before .args .table .now)
-    (c .before .before .before .before .before .before .loop .place + c .size-at .result)
-    (c .before .before .before .before .before .before .loop .left - 1))
-    (globals-more (c .before .before .before .before .before .before .before .before .before .before .args .table .now)
-    (c .before .before .before .before .before .before .loop .place) (c .before .before .before .before .before .before .loop .left)
-    (c .size-at .result) (omega arith) z) (c .before .before .before .add-global .ensures) in (
-      a,
-      globals-next (c .before .before .before .before .before .before .before .before .before .before .args .table .now)
-          (c .before .before .before .before .before .before .loop .place) (c .before .before .before .before .before .before .loop .left)
-          (c .size-at .result) (omega arith) z (c .before .before .before .before .before .before .loop .inv .1),
-      a .same,
-    )
+    let l = c .before .before .before .before .before .before .before .before .before .before .args .table .now in
+    let place = c .before .before .before .before .before .before .loop .place in
+    let left = c .before .before .before .before .before .before .loop .left in
+    let rh = globals-here l place left (omega arith) (c .before .before .before .before .before .before .loop .inv .1) in
+    let z = c .size-at .ensures ∙ c .before .before .before .before .before .before .before .before .before .before .pre .0 .sized place (omega arith) (omega (arith, rh .within)) in
+    let step = globals-more l place left (c .size-at .result) (omega arith) z in
+    let a = adds-next (c .before .before .before .before .before .before .loop .inv .0) (globalAt l place)
+    (globalsFrom l (place + c .size-at .result) (left - 1)) step (c .before .before .before .add-global .ensures) in
+    (a, globals-next l place left (c .size-at .result) (omega arith) z (c .before .before .before .before .before .before .loop .inv .1), a .same)
 
 same-length : tie.Need-same-length Inv-loop μ-loop
 same-length c = c .before .loop .inv .2

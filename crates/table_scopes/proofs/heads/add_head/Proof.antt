@@ -1,3 +1,4 @@
+-- `table_scopes::heads::add_head` meets its contract. Assumes nothing.
 use native.Mathlib.Omega.{arith}
 use mathlib.Core.Path.{_≡_, refl}
 use lib.ListN.{length}

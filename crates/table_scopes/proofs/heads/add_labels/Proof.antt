@@ -1,3 +1,4 @@
+-- `table_scopes::heads::add_labels` meets its contract. Assumes nothing.
 use native.Mathlib.Omega.{arith}
 use mathlib.Core.Path.{_≡_, refl, _∙_}
 use lib.ListN.{length}
@@ -21,58 +22,44 @@ loop-holds c =
 
 add-one-requires : tie.Need-add-one-requires Inv-loop μ-loop
 add-one-requires c κs =
-    let rh = reach-here (c .before .before .before .before .before .before .args .table .now) (c .before .before .loop .place)
-    (c .before .before .loop .left) (omega arith) (c .before .before .loop .inv .1) in (
+    let l = c .before .before .before .before .before .before .args .table .now in
+    let place = c .before .before .loop .place in
+    let left = c .before .before .loop .left in
+    let rh = reach-here l place left (omega arith) (c .before .before .loop .inv .1) in
+    let step = labels-more l place left _ (omega arith) refl in (
       rh,
       c .before .before .before .before .before .before .pre .2,
-      adds-room (c .before .before .loop .inv .0)
-          (oneAt 20 5 (c .before .before .before .before .before .before .args .table .now) (c .before .before .loop .place))
-          (labelsFrom (c .before .before .before .before .before .before .args .table .now)
-          (after (c .before .before .before .before .before .before .args .table .now) (c .before .before .loop .place))
-          (c .before .before .loop .left - 1)) (labels-more (c .before .before .before .before .before .before .args .table .now)
-          (c .before .before .loop .place) (c .before .before .loop .left) _ (omega arith) refl) (c .before .before .before .before .before .before .pre .3),
+      adds-room (c .before .before .loop .inv .0) (oneAt 20 5 l place) (labelsFrom l (after l place) (left - 1)) step (c .before .before .before .before .before .before .pre .3),
     )
 
 size-at-requires : tie.Need-size-at-requires Inv-loop μ-loop
 size-at-requires c κs =
-    let rh = reach-here (c .before .before .before .before .before .before .before .before .before .args .table .now)
-    (c .before .before .before .before .before .loop .place) (c .before .before .before .before .before .loop .left) (omega arith)
-    (c .before .before .before .before .before .loop .inv .1) in omega (arith, c .before .before .before .before .before .before .before .before .before .pre .0 .wide)
+    let l = c .before .before .before .before .before .before .before .before .before .args .table .now in
+    let place = c .before .before .before .before .before .loop .place in
+    let left = c .before .before .before .before .before .loop .left in
+    let rh = reach-here l place left (omega arith) (c .before .before .before .before .before .loop .inv .1) in
+    omega (arith, c .before .before .before .before .before .before .before .before .before .pre .0 .wide)
 
 add-place : tie.Need-add-place Inv-loop μ-loop
 add-place c =
-    let rh = reach-here (c .before .before .before .before .before .before .before .before .before .before .args .table .now)
-    (c .before .before .before .before .before .before .loop .place) (c .before .before .before .before .before .before .loop .left) (omega arith)
-    (c .before .before .before .before .before .before .loop .inv .1) in
-    let z = (c .size-at .ensures ∙ c .before .before .before .before .before .before .before .before .before .before .pre .0 .sized
-    (c .before .before .before .before .before .before .loop .place) (omega arith) (omega (arith, rh))) in omega (
-      arith,
-      size-small (c .before .before .before .before .before .before .before .before .before .before .args .table .now)
-          (c .before .before .before .before .before .before .loop .place) 1 (c .size-at .result) z,
-    )
+    let l = c .before .before .before .before .before .before .before .before .before .before .args .table .now in
+    let place = c .before .before .before .before .before .before .loop .place in
+    let left = c .before .before .before .before .before .before .loop .left in
+    let rh = reach-here l place left (omega arith) (c .before .before .before .before .before .before .loop .inv .1) in
+    let z = c .size-at .ensures ∙ c .before .before .before .before .before .before .before .before .before .before .pre .0 .sized place (omega arith) (omega (arith, rh)) in
+    omega (arith, size-small l place 1 (c .size-at .result) z)
 
 loop-again : tie.Need-loop-again Inv-loop μ-loop
 loop-again c =
-    let rh = reach-here (c .before .before .before .before .before .before .before .before .before .before .args .table .now)
-    (c .before .before .before .before .before .before .loop .place) (c .before .before .before .before .before .before .loop .left) (omega arith)
-    (c .before .before .before .before .before .before .loop .inv .1) in
-    let z = (c .size-at .ensures ∙ c .before .before .before .before .before .before .before .before .before .before .pre .0 .sized
-    (c .before .before .before .before .before .before .loop .place) (omega arith) (omega (arith, rh))) in let a = adds-next
-    (c .before .before .before .before .before .before .loop .inv .0) (oneAt 20 5
-    (c .before .before .before .before .before .before .before .before .before .before .args .table .now)
-    (c .before .before .before .before .before .before .loop .place)) (labelsFrom
-    (c .before .before .before .before .before .before .before .before .before .before .args .table .now)
-    (c .before .before .before .before .before .before .loop .place + c .size-at .result)
-    (c .before .before .before .before .before .before .loop .left - 1))
-    (labels-more (c .before .before .before .before .before .before .before .before .before .before .args .table .now)
-    (c .before .before .before .before .before .before .loop .place) (c .before .before .before .before .before .before .loop .left)
-    (c .size-at .result) (omega arith) z) (c .before .before .before .add-one .ensures) in (
-      a,
-      reach-next (c .before .before .before .before .before .before .before .before .before .before .args .table .now)
-          (c .before .before .before .before .before .before .loop .place) (c .before .before .before .before .before .before .loop .left)
-          (c .size-at .result) (omega arith) z (c .before .before .before .before .before .before .loop .inv .1),
-      a .same,
-    )
+    let l = c .before .before .before .before .before .before .before .before .before .before .args .table .now in
+    let place = c .before .before .before .before .before .before .loop .place in
+    let left = c .before .before .before .before .before .before .loop .left in
+    let rh = reach-here l place left (omega arith) (c .before .before .before .before .before .before .loop .inv .1) in
+    let z = c .size-at .ensures ∙ c .before .before .before .before .before .before .before .before .before .before .pre .0 .sized place (omega arith) (omega (arith, rh)) in
+    let step = labels-more l place left (c .size-at .result) (omega arith) z in
+    let a = adds-next (c .before .before .before .before .before .before .loop .inv .0) (oneAt 20 5 l place)
+    (labelsFrom l (place + c .size-at .result) (left - 1)) step (c .before .before .before .add-one .ensures) in
+    (a, reach-next l place left (c .size-at .result) (omega arith) z (c .before .before .before .before .before .before .loop .inv .1), a .same)
 
 same-length : tie.Need-same-length Inv-loop μ-loop
 same-length c = c .before .loop .inv .2

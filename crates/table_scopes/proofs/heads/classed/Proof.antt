@@ -1,3 +1,4 @@
+-- `table_scopes::heads::classed` meets its contract. Assumes nothing.
 use borrow.Author.Tests.{lt-ltb, le-ltb}
 use Rattle.table_scopes.specs.Flaws.{class-nothing, class-right, class-wrong}
 use borrow.Author.Needs.{needs}

@@ -1,3 +1,4 @@
+-- `table_scopes::heads::declared` meets its contract. Assumes nothing.
 use mathlib.Core.Path.{sym, _∙_}
 use Rattle.table_scopes.specs.Environment.{envOf}
 use Rattle.table_scopes.specs.Items.{aAt, bAt}

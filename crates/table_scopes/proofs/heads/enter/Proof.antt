@@ -1,3 +1,4 @@
+-- `table_scopes::heads::enter` meets its contract: the mark, the names of the head, the labels. Assumes nothing.
 use native.Mathlib.Omega.{arith}
 use mathlib.Core.List.{_++_}
 use Prim.Native.Nat.{_+_, _-_}
@@ -10,65 +11,37 @@ use Rattle.table_scopes.proofs.heads.enter.Statement.{statement}
 use Rattle.table_scopes.proofs.heads.enter.Tie as tie
 
 add-head-requires : tie.Need-add-head-requires
-add-head-requires c κs = (
-  c .before .before .before .before .before .before .before .before .pre .1,
-  c .before .before .before .before .before .before .before .before .pre .3,
-  omega (
-    arith,
-    (grown-push (c .before .before .before .before .before .before .before .before .args .env .now) _
-        (c .before .before .before .before .before .before .before .before .args .top)
-        (c .before .before .before .before .before .before .before .before .args .mark) 0 0 0 (omega arith)
-        (c .before .before .before .push .ensures)) .same,
-    length-append (itemsAt 4
-        (c .before .before .before .before .before .before .before .before .args .table .now)
-        (c .before .before .before .before .before .before .before .before .args .at)
-        (c .before .before .before .before .before .before .before .before .args .heads))
-        (labelsFrom (c .before .before .before .before .before .before .before .before .args .table .now)
-        (c .before .before .before .before .before .before .before .before .args .at + c .before .before .before .before .before .before .before .before .args .heads)
-        (c .before .before .before .before .before .before .before .before .args .items)),
-  ),
-)
+add-head-requires c κs =
+    let at-start = c .before .before .before .before .before .before .before .before in
+    let l = at-start .args .table .now in
+    let at = at-start .args .at in
+    let heads = itemsAt 4 l at (at-start .args .heads) in
+    let labels = labelsFrom l (at + at-start .args .heads) (at-start .args .items) in
+    let pushed = grown-push (at-start .args .env .now) _ (at-start .args .top) (at-start .args .mark) 0 0 0 (omega arith) (c .before .before .before .push .ensures) in
+    (at-start .pre .1, at-start .pre .3, omega (arith, pushed .same, length-append heads labels))
 
 add-labels-requires : tie.Need-add-labels-requires
-add-labels-requires c κs = (
-  c .before .before .before .before .before .before .before .before .before .before .before .before .pre .0,
-  c .before .before .before .before .before .before .before .before .before .before .before .before .pre .2,
-  c .before .before .before .before .before .before .before .before .before .before .before .before .pre .3,
-  room-right (itemsAt 4 (c .before .before .before .before .before .before .before .before .before .before .before .before .args .table .now)
-      (c .before .before .before .before .before .before .before .before .before .before .before .before .args .at)
-      (c .before .before .before .before .before .before .before .before .before .before .before .before .args .heads))
-      (labelsFrom (c .before .before .before .before .before .before .before .before .before .before .before .before .args .table .now)
-      (c .before .before .before .before .before .before .before .before .before .before .before .before .args .at + c .before .before .before .before .before .before .before .before .before .before .before .before .args .heads)
-      (c .before .before .before .before .before .before .before .before .before .before .before .before .args .items))
-      (omega (
-        arith,
-        (grown-push (c .before .before .before .before .before .before .before .before .before .before .before .before .args .env .now) _
-            (c .before .before .before .before .before .before .before .before .before .before .before .before .args .top)
-            (c .before .before .before .before .before .before .before .before .before .before .before .before .args .mark) 0 0 0 (omega arith)
-            (c .before .before .before .before .before .before .before .push .ensures)) .same,
-      )) (c .before .before .before .add-head .ensures),
-)
+add-labels-requires c κs =
+    let at-start = c .before .before .before .before .before .before .before .before .before .before .before .before in
+    let l = at-start .args .table .now in
+    let at = at-start .args .at in
+    let heads = itemsAt 4 l at (at-start .args .heads) in
+    let labels = labelsFrom l (at + at-start .args .heads) (at-start .args .items) in
+    let pushed = grown-push (at-start .args .env .now) _ (at-start .args .top) (at-start .args .mark) 0 0 0 (omega arith) (c .before .before .before .before .before .before .before .push .ensures) in
+    (at-start .pre .0, at-start .pre .2, at-start .pre .3, room-right heads labels (omega (arith, pushed .same)) (c .before .before .before .add-head .ensures))
 
 returns : tie.Need-returns
 returns c =
-    grown-marked (item (c .before .before .before .before .before .before .before .before .before .before .before .before .before .before .before .args .mark)
-    0 0 0) ((itemsAt 4 (c .before .before .before .before .before .before .before .before .before .before .before .before .before .before .before .args .table .now)
-    (c .before .before .before .before .before .before .before .before .before .before .before .before .before .before .before .args .at)
-    (c .before .before .before .before .before .before .before .before .before .before .before .before .before .before .before .args .heads))
-    ++ (labelsFrom (c .before .before .before .before .before .before .before .before .before .before .before .before .before .before .before .args .table .now)
-    (c .before .before .before .before .before .before .before .before .before .before .before .before .before .before .before .args .at + c .before .before .before .before .before .before .before .before .before .before .before .before .before .before .before .args .heads)
-    (c .before .before .before .before .before .before .before .before .before .before .before .before .before .before .before .args .items)))
-    (grown-push (c .before .before .before .before .before .before .before .before .before .before .before .before .before .before .before .args .env .now)
-    _ (c .before .before .before .before .before .before .before .before .before .before .before .before .before .before .before .args .top)
-    (c .before .before .before .before .before .before .before .before .before .before .before .before .before .before .before .args .mark) 0 0 0
-    (omega arith) (c .before .before .before .before .before .before .before .before .before .before .push .ensures))
-    (grown-append (itemsAt 4 (c .before .before .before .before .before .before .before .before .before .before .before .before .before .before .before .args .table .now)
-    (c .before .before .before .before .before .before .before .before .before .before .before .before .before .before .before .args .at)
-    (c .before .before .before .before .before .before .before .before .before .before .before .before .before .before .before .args .heads))
-    (labelsFrom (c .before .before .before .before .before .before .before .before .before .before .before .before .before .before .before .args .table .now)
-    (c .before .before .before .before .before .before .before .before .before .before .before .before .before .before .before .args .at + c .before .before .before .before .before .before .before .before .before .before .before .before .before .before .before .args .heads)
-    (c .before .before .before .before .before .before .before .before .before .before .before .before .before .before .before .args .items))
-    (c .before .before .before .before .before .before .add-head .ensures) (c .before .before .add-labels .ensures))
+    let at-start = c .before .before .before .before .before .before .before .before .before .before .before .before .before .before .before in
+    let l = at-start .args .table .now in
+    let at = at-start .args .at in
+    let heads = itemsAt 4 l at (at-start .args .heads) in
+    let labels = labelsFrom l (at + at-start .args .heads) (at-start .args .items) in
+    let pushed = grown-push (at-start .args .env .now) _ (at-start .args .top) (at-start .args .mark) 0 0 0 (omega arith)
+    (c .before .before .before .before .before .before .before .before .before .before .push .ensures) in
+    grown-marked (item (at-start .args .mark) 0 0 0) (heads ++ labels)
+    pushed
+    (grown-append heads labels (c .before .before .before .before .before .before .add-head .ensures) (c .before .before .add-labels .ensures))
 
 pub enter-spec : {M : Type 1} → statement M
 enter-spec =

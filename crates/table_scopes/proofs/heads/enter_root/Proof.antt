@@ -1,3 +1,4 @@
+-- `table_scopes::heads::enter_root` meets its contract. Assumes nothing.
 use native.Mathlib.Omega.{arith}
 use mathlib.Core.List.{_++_}
 use Prim.Native.Nat.{_+_, _-_}

@@ -1,3 +1,4 @@
+-- `table_scopes::heads::once` meets its contract. Assumes nothing.
 use Rattle.table_scopes.specs.Flaws.{once-nothing, once-this, once-other}
 use borrow.Author.Needs.{needs}
 use Rattle.table_scopes.proofs.heads.once.Statement.{statement}

@@ -1,3 +1,4 @@
+-- `table_scopes::spans::size_at` meets its contract. Assumes nothing.
 use native.Mathlib.Omega.{arith}
 use borrow.Author.Needs.{needs}
 use Rattle.table_scopes.proofs.spans.size_at.Statement.{statement}

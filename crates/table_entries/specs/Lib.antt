@@ -1,0 +1,3 @@
+pub mod Arity
+pub mod Entries
+pub mod Stands
