@@ -1,4 +1,4 @@
--- `records::bodies_pass` meets its contract. The loop has come to the k-th body, at p, met no bad one, holds the first address before it, and has put the places passed into bx.
+-- `load_records::bodies_pass` meets its contract. The loop has come to the k-th body, at p, met no bad one, holds the first address before it, and has put the places passed into the index.
 use native.Mathlib.Omega.{arith}
 use mathlib.Core.Path.{_≡_, refl, sym, _∙_}
 use Prim.Native.Nat.{_+_, _*_, _-_, _≤_, _<_}
@@ -13,11 +13,11 @@ use Rattle.load_records.proofs.bodies_pass.Statement.{statement}
 use Rattle.load_records.proofs.bodies_pass.Tie as tie
 
 abbrev Inv-loop : tie.InvT-loop
-Inv-loop l bx₀ from c n m k₀ p₀ last₀ bx k p last =
-    Upto (badBody l) (bodyPlace l) m k p × (p ≤ 8192 + 262 * k) × (0 < k → last ≡ firstOf l (k - 1)) × (length bx ≡ length bx₀) × Placed (bodyPlace l) bx k
+Inv-loop code bodies₀ from classes instructions total k₀ p₀ last₀ bodies k p last =
+    Upto (badBody code) (bodyPlace code) total k p × (p ≤ 8192 + 262 * k) × (0 < k → last ≡ firstOf code (k - 1)) × (length bodies ≡ length bodies₀) × Placed (bodyPlace code) bodies k
 
 abbrev μ-loop : tie.MeasureT-loop
-μ-loop l bx₀ from c n m k₀ p₀ last₀ bx k p last = m - k
+μ-loop code bodies₀ from classes instructions total k₀ p₀ last₀ bodies k p last = total - k
 
 loop-holds : tie.Need-loop-holds Inv-loop μ-loop
 loop-holds c = (law.starts _ (c .before .before .pre .0), omega arith, (λ h. absurd (omega arith)), refl, (λ j h. absurd (omega arith)))
@@ -78,7 +78,7 @@ loop-again c =
       omega arith,
       law.last-first _ _ _ _ (I .0 .stands) (half-at .ensures .0),
       simp length-set (I .3),
-      law.placed-more (bodyPlace (start .args .l .now)) (loop .bx) (loop .k) (loop .p) (I .0 .stands) (omega arith) (I .4),
+      law.placed-more (bodyPlace (start .args .code .now)) (loop .bodies) (loop .k) (loop .p) (I .0 .stands) (omega arith) (I .4),
     )
 
 same-length-3 : tie.Need-same-length-3 Inv-loop μ-loop

@@ -1,4 +1,4 @@
--- `records::body_fits` meets its contract, a law for each exit.
+-- `load_records::body_fits` meets its contract, a law for each exit.
 use native.Mathlib.Omega.{arith}
 use mathlib.Core.Path.{sym, _∙_}
 use borrow.Author.Tests.{not-true, not-false}

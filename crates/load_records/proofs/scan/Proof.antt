@@ -1,4 +1,4 @@
--- `records::scan` meets its contract, a law for each way out.
+-- `load_records::scan` meets its contract, a law for each way out.
 use native.Mathlib.Omega.{arith}
 use mathlib.Core.Path.{_∙_}
 use Prim.Native.Nat.{_<_}
@@ -9,11 +9,11 @@ use borrow.Author.Needs.{needs}
 use Rattle.load_records.proofs.scan.Statement.{statement}
 use Rattle.load_records.proofs.scan.Tie as tie
 
-head : (c : tie.Start) → Head (c .args .l .now)
+head : (c : tie.Start) → Head (c .args .code .now)
 head c = head-known _ (c .pre .0)
 
-counts : (c : tie.After-half-at) → Counts (c .before .before .before .before .before .before .before .args .l .now)
-    (c .before .before .byte-at .result) (c .before .byte-at2 .result) (c .before .before .before .before .before .before .before .args .n) (c .half-at .result)
+counts : (c : tie.After-half-at) → Counts (c .before .before .before .before .before .before .before .args .code .now)
+    (c .before .before .byte-at .result) (c .before .byte-at2 .result) (c .before .before .before .before .before .before .before .args .instructions) (c .half-at .result)
 counts c = record {
   of-classes = c .before .before .byte-at .ensures .0;
   of-bodies = c .before .byte-at2 .ensures .0;
@@ -21,7 +21,7 @@ counts c = record {
   of-shapes = c .half-at .ensures .0;
 }
 
-small : (c : tie.After-half-at) → c .before .before .before .before .before .before .before .args .n < 65536
+small : (c : tie.After-half-at) → c .before .before .before .before .before .before .before .args .instructions < 65536
 small c =
     let g = c .before .before .before .before .before .before .shared-slice-known .given in
     omega (arith, c .before .before .before .before .before .before .before .pre .1, g 4, g 5)
@@ -213,7 +213,7 @@ returns-5 c =
     let z = h .before .before .before .before .before .before .before in (
       c .read-end .ensures .0 ∙ law.whole-end (z .pre .0) (counts h) (k .classes-pass .ensures .0) (b .before .before .if1 .left)
           (b .bodies-pass .ensures .0) (i .before .if2 .left) (i .code-pass .ensures) (s .before .before .if3 .left) (s .shapes-pass .ensures .0) (c .before .if4 .left),
-      law.left (z .args .l .now) (s .shapes-pass .last .1 .0) (b .bodies-pass .last .1 .0) (k .classes-pass .last .1 .0) _ (c .read-end .result)
+      law.left (z .args .code .now) (s .shapes-pass .last .1 .0) (b .bodies-pass .last .1 .0) (k .classes-pass .last .1 .0) _ (c .read-end .result)
           (c .read-end .ensures .1) (law.whole-ready (z .pre .0) (counts h) (k .classes-pass .ensures .0) (b .before .before .if1 .left)
           (b .bodies-pass .ensures .0) (i .before .if2 .left) (i .code-pass .ensures) (s .before .before .if3 .left) (s .shapes-pass .ensures .0)
           (c .before .if4 .left) _ _ _ (b .bodies-pass .ensures .1) (s .shapes-pass .ensures .2) (b .bodies-pass .ensures .2) (k .classes-pass .ensures .2)),

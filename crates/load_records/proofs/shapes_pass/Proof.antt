@@ -1,4 +1,4 @@
--- `records::shapes_pass` meets its contract. The loop has come to the k-th shape, at p, met no bad one, and put the places passed into ix, each at its address.
+-- `load_records::shapes_pass` meets its contract. The loop has come to the k-th shape, at p, met no bad one, and put the places passed into the index, each at its address.
 use native.Mathlib.Omega.{arith}
 use mathlib.Core.Path.{_≡_, refl, sym, _∙_}
 use Prim.Native.Nat.{_+_, _*_, _-_, _≤_}
@@ -13,10 +13,11 @@ use Rattle.load_records.proofs.shapes_pass.Statement.{statement}
 use Rattle.load_records.proofs.shapes_pass.Tie as tie
 
 abbrev Inv-loop : tie.InvT-loop
-Inv-loop l ix₀ from c n m k₀ p₀ ix k p = Upto (badShape l) (shapePlace l) m k p × (p ≤ 1000000 + 261 * k) × (length ix ≡ length ix₀) × Indexed l ix n k
+Inv-loop code shapes₀ from classes instructions total k₀ p₀ shapes k p =
+    Upto (badShape code) (shapePlace code) total k p × (p ≤ 1000000 + 261 * k) × (length shapes ≡ length shapes₀) × Indexed code shapes instructions k
 
 abbrev μ-loop : tie.MeasureT-loop
-μ-loop l ix₀ from c n m k₀ p₀ ix k p = m - k
+μ-loop code shapes₀ from classes instructions total k₀ p₀ shapes k p = total - k
 
 loop-holds : tie.Need-loop-holds Inv-loop μ-loop
 loop-holds c = (law.starts _ (c .before .before .pre .0), omega arith, refl, c .before .before .pre .6)
@@ -67,15 +68,15 @@ returns-2 c =
       I .3,
     )
 
-mul-ix : tie.Need-mul-ix Inv-loop μ-loop
-mul-ix c =
+mul-shapes : tie.Need-mul-shapes Inv-loop μ-loop
+mul-shapes c =
     let if1 = c .before .before .before .if1 in
     let shape-fits = c .before .before .before .before .shape-fits in
     let h = known.shape-known _ _ (sym (shape-fits .ensures) ∙ not-false _ (if1 .left)) in
     omega arith
 
-slice-write-ix : tie.Need-slice-write-ix Inv-loop μ-loop
-slice-write-ix c =
+slice-write-shapes : tie.Need-slice-write-shapes Inv-loop μ-loop
+slice-write-shapes c =
     let if1 = c .before .before .before .if1 in
     let shape-fits = c .before .before .before .before .shape-fits in
     let h = known.shape-known _ _ (sym (shape-fits .ensures) ∙ not-false _ (if1 .left)) in
@@ -98,12 +99,13 @@ loop-again c =
     let I = loop .inv in
     let h = known.shape-known _ _ (sym (shape-fits .ensures) ∙ not-false _ (if1 .left)) in
     let there = I .3 (half-at .result) (omega arith) in
-    let z : find (start .args .l .now) (loop .k) (half-at .result) ≡ 0 = omega arith in (
+    let z : find (start .args .code .now) (loop .k) (half-at .result) ≡ 0 = omega arith in (
       law.goes-on (I .0) _ (omega arith) (law.shape-only _ _ _ (I .0 .stands) (sym (shape-fits .ensures) ∙ not-false _ (if1 .left)) _
           (half-at .ensures .0) z) (law.next-shape _ _ _ (I .0 .stands) _ (c .byte-at .ensures .0)),
       omega arith,
       simp length-set (I .2),
-      law.indexed-more (start .args .l .now) (loop .k) (loop .p) (I .0 .stands) (loop .ix) (start .args .n) (half-at .result) (half-at .ensures .0) (omega arith) (omega arith) z (I .3),
+      law.indexed-more (start .args .code .now) (loop .k) (loop .p) (I .0 .stands) (loop .shapes) (start .args .instructions) (half-at .result)
+          (half-at .ensures .0) (omega arith) (omega arith) z (I .3),
     )
 
 same-length-3 : tie.Need-same-length-3 Inv-loop μ-loop
@@ -129,8 +131,8 @@ shapes-pass-spec =
     same-length-2
     returns-2
     (λ c. omega arith)
-    mul-ix
-    slice-write-ix
+    mul-shapes
+    slice-write-shapes
     (λ c. omega arith)
     (λ c. omega arith)
     byte-at-requires

@@ -1,4 +1,4 @@
--- `rules::lookup::end_of` meets its contract. Assumes nothing.
+-- `load_rules::lookup::end_of` meets its contract. Assumes nothing.
 use borrow.Author.Needs.{needs}
 use native.Mathlib.Omega.{arith}
 use mathlib.Core.Path.{sym, _∙_}

@@ -1,4 +1,4 @@
--- `rules::lookup::shape_at` meets its contract. Assumes nothing.
+-- `load_rules::lookup::shape_at` meets its contract. Assumes nothing.
 use borrow.Author.Needs.{needs}
 use native.Mathlib.Omega.{arith}
 use Rattle.load_records.proofs.Known.{head-of}

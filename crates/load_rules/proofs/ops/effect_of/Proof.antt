@@ -1,4 +1,4 @@
--- `rules::ops::effect_of` meets its contract. Assumes nothing.
+-- `load_rules::ops::effect_of` meets its contract. Assumes nothing.
 use borrow.Author.Needs.{needs}
 use borrow.Author.Tests.{ne-eqb}
 use Rattle.load_places.specs.Rules.{effect}

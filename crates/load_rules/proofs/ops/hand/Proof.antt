@@ -1,4 +1,4 @@
--- `rules::ops::hand` meets its contract. Assumes nothing.
+-- `load_rules::ops::hand` meets its contract. Assumes nothing.
 use borrow.Author.Needs.{needs}
 use native.Mathlib.Omega.{arith}
 use mathlib.Core.Path.{_∙_}

@@ -1,4 +1,4 @@
--- `rules::ops::hand_after` meets its contract. Assumes nothing.
+-- `load_rules::ops::hand_after` meets its contract. Assumes nothing.
 use borrow.Author.Needs.{needs}
 use Rattle.load_rules.proofs.Laws as law
 use Rattle.load_rules.proofs.ops.hand_after.Statement.{statement}
@@ -7,13 +7,13 @@ use Rattle.load_rules.proofs.ops.hand_after.Tie as tie
 hand-requires : tie.Need-hand-requires
 hand-requires c κs =
     let at-start = c .before .before .before .before .before in
-    let w = law.fit-goes _ _ _ (at-start .pre .1) (c .before .before .f .given .1) in (at-start .pre .0, w .1, w .0)
+    let w = law.fit-goes _ _ _ (at-start .pre .1) (c .before .before .flow .given .1) in (at-start .pre .0, w .1, w .0)
 
 returns : tie.Need-returns
 returns c =
     let at-hand = c .before .before in
-    let at-f = at-hand .before .before .before in
-    (rw (at-f .f .given .1) (at-hand .hand .ensures .0), at-hand .hand .ensures .1)
+    let at-flow = at-hand .before .before .before in
+    (rw (at-flow .flow .given .1) (at-hand .hand .ensures .0), at-hand .hand .ensures .1)
 
 pub hand-after-spec : {M : Type 1} → statement M
 hand-after-spec =

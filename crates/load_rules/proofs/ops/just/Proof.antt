@@ -1,4 +1,4 @@
--- `rules::ops::just` meets its contract. Assumes nothing.
+-- `load_rules::ops::just` meets its contract. Assumes nothing.
 use borrow.Author.Needs.{needs}
 use mathlib.Core.Path.{_∙_}
 use Rattle.load_rules.proofs.Laws as law
@@ -19,24 +19,24 @@ returns-3 c =
     let at-pop-type = c .before .before .before .before in
     let at-if1 = at-pop-type .before in
     let at-start = at-if1 .before .before in
-    (law.crowds _ _ (c .if3 .taken) ∙ law.just-of _ _ _ (at-if1 .if1 .left) _ (law.told (at-start .args .st .now) (c .before .before .e .given .1) (at-pop-type .pop-type .ensures .0)), tt)
+    (law.crowds _ _ (c .if3 .taken) ∙ law.just-of _ _ _ (at-if1 .if1 .left) _ (law.told (at-start .args .stack .now) (c .before .before .e .given .1) (at-pop-type .pop-type .ensures .0)), tt)
 
 returns-4 : tie.Need-returns-4
 returns-4 c =
     let at-pop-type = c .before .before .before .before in
     let at-if1 = at-pop-type .before in
     let at-start = at-if1 .before .before in
-    (law.empties _ _ (c .if3 .left) ∙ law.just-of _ _ _ (at-if1 .if1 .left) _ (law.told (at-start .args .st .now) (c .before .before .e .given .1) (at-pop-type .pop-type .ensures .0)), tt)
+    (law.empties _ _ (c .if3 .left) ∙ law.just-of _ _ _ (at-if1 .if1 .left) _ (law.told (at-start .args .stack .now) (c .before .before .e .given .1) (at-pop-type .pop-type .ensures .0)), tt)
 
 returns-5 : tie.Need-returns-5
 returns-5 c =
     let at-start = c .before .before .before .before .before in
-    (law.just-of _ _ _ (c .before .before .before .if1 .left) _ (law.told (at-start .args .st .now) (c .enum-told .given .1) (c .before .before .pop-type .ensures .0)), tt)
+    (law.just-of _ _ _ (c .before .before .before .if1 .left) _ (law.told (at-start .args .stack .now) (c .enum-told .given .1) (c .before .before .pop-type .ensures .0)), tt)
 
 returns-6 : tie.Need-returns-6
 returns-6 c =
     let at-start = c .before .before .before .before .before in
-    (law.just-of _ _ _ (c .before .before .before .if1 .left) _ (law.told (at-start .args .st .now) (c .enum-told2 .given .1) (c .before .before .pop-type .ensures .0)), tt)
+    (law.just-of _ _ _ (c .before .before .before .if1 .left) _ (law.told (at-start .args .stack .now) (c .enum-told2 .given .1) (c .before .before .pop-type .ensures .0)), tt)
 
 pub just-spec : {M : Type 1} → statement M
 just-spec =

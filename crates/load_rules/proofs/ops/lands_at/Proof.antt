@@ -1,4 +1,4 @@
--- `rules::ops::lands_at` meets its contract. Assumes nothing.
+-- `load_rules::ops::lands_at` meets its contract. Assumes nothing.
 use borrow.Author.Needs.{needs}
 use native.Mathlib.Omega.{arith}
 use mathlib.Core.Path.{_∙_}

@@ -1,4 +1,4 @@
--- `rules::ops::op_end` meets its contract. Assumes nothing.
+-- `load_rules::ops::op_end` meets its contract. Assumes nothing.
 use borrow.Author.Tests.{eq-eqb, ne-eqb}
 use Rattle.load_places.specs.Rules.{opEnd}
 use Rattle.load_rules.proofs.Laws as law

@@ -1,4 +1,4 @@
--- `rules::ops::op_go` meets its contract. Assumes nothing.
+-- `load_rules::ops::op_go` meets its contract. Assumes nothing.
 use borrow.Author.Needs.{needs}
 use mathlib.Core.Path.{sym, _∙_}
 use borrow.Author.Tests.{ne-eqb}

@@ -1,4 +1,4 @@
--- `rules::ops::op_make` meets its contract. Assumes nothing.
+-- `load_rules::ops::op_make` meets its contract. Assumes nothing.
 use borrow.Author.Needs.{needs}
 use native.Mathlib.Omega.{arith}
 use mathlib.Core.Path.{_∙_}

@@ -1,4 +1,4 @@
--- `rules::ops::op_return` meets its contract. Assumes nothing.
+-- `load_rules::ops::op_return` meets its contract. Assumes nothing.
 use borrow.Author.Needs.{needs}
 use native.Mathlib.Omega.{arith}
 use mathlib.Core.Path.{_∙_}
@@ -27,7 +27,7 @@ returns-4 c = (
     eq-eqb _ _ (c .before .before .before .if1 .left),
     eq-eqb _ _ (c .before .before .if2 .left),
     ne-eqb _ _ (c .before .if3 .left),
-    ne-eqb (c .before .before .before .before .before .before .before .args .h) 0 (λ z. c .if4 .taken (omega arith)),
+    ne-eqb (c .before .before .before .before .before .before .before .args .holds) 0 (λ z. c .if4 .taken (omega arith)),
   ),
   tt,
 )

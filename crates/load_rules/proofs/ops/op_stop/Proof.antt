@@ -1,4 +1,4 @@
--- `rules::ops::op_stop` meets its contract. Assumes nothing.
+-- `load_rules::ops::op_stop` meets its contract. Assumes nothing.
 use borrow.Author.Tests.{eq-eqb, ne-eqb}
 use Rattle.load_places.specs.Rules.{opStop}
 use Rattle.load_rules.proofs.ops.op_stop.Statement.{statement}

@@ -1,4 +1,4 @@
--- `rules::ops::op_unless` meets its contract. Assumes nothing.
+-- `load_rules::ops::op_unless` meets its contract. Assumes nothing.
 use borrow.Author.Needs.{needs}
 use mathlib.Core.Path.{sym, _∙_}
 use borrow.Author.Tests.{ne-eqb}
@@ -25,7 +25,7 @@ returns-2 c =
     let at-pop-type = at-g .before .before in
     let at-if1 = at-pop-type .before in
     let at-start = at-if1 .before .before .before .before .before in (
-      law.unless-lands _ _ _ _ _ _ (at-if1 .if1 .left) _ _ (law.told (at-start .args .st .now) (at-g .g .given .1) (at-pop-type .pop-type .ensures .0))
+      law.unless-lands _ _ _ _ _ _ (at-if1 .if1 .left) _ _ (law.told (at-start .args .stack .now) (at-g .g .given .1) (at-pop-type .pop-type .ensures .0))
           (sym (c .before .lands-at .ensures) ∙ c .if2 .taken),
       law.fit-goes _ _ _ (at-pop-type .pop-type .ensures .1) (at-g .g .given .1),
     )
@@ -35,7 +35,7 @@ returns-3 c =
     let at-pop-type = c .before .before .before .before .before in
     let at-if1 = at-pop-type .before in
     let at-start = at-if1 .before .before .before .before .before in (
-      law.unless-lost _ _ _ _ _ _ (at-if1 .if1 .left) _ _ (law.told (at-start .args .st .now) (c .before .before .before .g .given .1)
+      law.unless-lost _ _ _ _ _ _ (at-if1 .if1 .left) _ _ (law.told (at-start .args .stack .now) (c .before .before .before .g .given .1)
           (at-pop-type .pop-type .ensures .0)) (sym (c .before .lands-at .ensures) ∙ c .if2 .left),
       tt,
     )
@@ -43,12 +43,12 @@ returns-3 c =
 returns-4 : tie.Need-returns-4
 returns-4 c =
     let at-start = c .before .before .before .before .before .before .before .before in
-    (law.unless-of _ _ _ _ _ _ (c .before .before .before .if1 .left) _ (law.told (at-start .args .st .now) (c .enum-told .given .1) (c .before .before .pop-type .ensures .0)), tt)
+    (law.unless-of _ _ _ _ _ _ (c .before .before .before .if1 .left) _ (law.told (at-start .args .stack .now) (c .enum-told .given .1) (c .before .before .pop-type .ensures .0)), tt)
 
 returns-5 : tie.Need-returns-5
 returns-5 c =
     let at-start = c .before .before .before .before .before .before .before .before in
-    (law.unless-of _ _ _ _ _ _ (c .before .before .before .if1 .left) _ (law.told (at-start .args .st .now) (c .enum-told2 .given .1) (c .before .before .pop-type .ensures .0)), tt)
+    (law.unless-of _ _ _ _ _ _ (c .before .before .before .if1 .left) _ (law.told (at-start .args .stack .now) (c .enum-told2 .given .1) (c .before .before .pop-type .ensures .0)), tt)
 
 pub op-unless-spec : {M : Type 1} → statement M
 op-unless-spec =

@@ -1,4 +1,4 @@
--- `rules::ops::trade_self` meets its contract. Assumes nothing.
+-- `load_rules::ops::trade_self` meets its contract. Assumes nothing.
 use borrow.Author.Needs.{needs}
 use mathlib.Core.Path.{sym, _∙_}
 use Rattle.load_rules.proofs.Laws as law

@@ -1,4 +1,4 @@
--- `rules::stack::equal_shape` meets its contract. Assumes nothing.
+-- `load_rules::stack::equal_shape` meets its contract. Assumes nothing.
 use borrow.Author.Needs.{needs}
 use native.Mathlib.Omega.{arith}
 use mathlib.Core.Path.{sym, _∙_}

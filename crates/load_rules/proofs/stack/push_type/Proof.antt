@@ -1,4 +1,4 @@
--- `rules::stack::push_type` meets its contract. Assumes nothing.
+-- `load_rules::stack::push_type` meets its contract. Assumes nothing.
 use borrow.Author.Needs.{needs}
 use native.Mathlib.Omega.{arith}
 use mathlib.Core.Path.{sym}

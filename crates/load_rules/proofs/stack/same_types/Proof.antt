@@ -1,4 +1,4 @@
--- `rules::stack::same_types` meets its contract. Assumes nothing.
+-- `load_rules::stack::same_types` meets its contract. Assumes nothing.
 use native.Mathlib.Omega.{arith}
 use mathlib.Core.Path.{_≡_, refl, sym, _∙_}
 use Prim.Native.Nat.{_≤_}
@@ -8,10 +8,10 @@ use Rattle.load_rules.proofs.stack.same_types.Statement.{statement}
 use Rattle.load_rules.proofs.stack.same_types.Tie as tie
 
 abbrev Inv-loop : tie.InvT-loop
-Inv-loop l q st d i₀ i = (i ≤ d) × (alike (tops st 0 d) (tops l q d) ≡ alike (tops st 0 i) (tops l q i))
+Inv-loop code place stack depth i₀ i = (i ≤ depth) × (alike (tops stack 0 depth) (tops code place depth) ≡ alike (tops stack 0 i) (tops code place i))
 
 abbrev μ-loop : tie.MeasureT-loop
-μ-loop l q st d i₀ i = i
+μ-loop code place stack depth i₀ i = i
 
 loop-holds : tie.Need-loop-holds Inv-loop μ-loop
 loop-holds c = (omega arith, refl)

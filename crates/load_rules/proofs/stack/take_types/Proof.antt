@@ -1,4 +1,4 @@
--- `rules::stack::take_types` meets its contract. Assumes nothing.
+-- `load_rules::stack::take_types` meets its contract. Assumes nothing.
 use native.Mathlib.Omega.{arith}
 use mathlib.Core.Path.{_≡_, refl, sym, _∙_}
 use Prim.Native.Nat.{_≤_}
@@ -9,10 +9,10 @@ use Rattle.load_rules.proofs.stack.take_types.Statement.{statement}
 use Rattle.load_rules.proofs.stack.take_types.Tie as tie
 
 abbrev Inv-loop : tie.InvT-loop
-Inv-loop l q m st h d n₀ e₀ n e = (n ≤ m) × (e ≤ d) × (takes l q m h (tops st 0 d) ≡ takes l q n h (tops st 0 e))
+Inv-loop code place number stack holds depth n₀ e₀ n e = (n ≤ number) × (e ≤ depth) × (takes code place number holds (tops stack 0 depth) ≡ takes code place n holds (tops stack 0 e))
 
 abbrev μ-loop : tie.MeasureT-loop
-μ-loop l q m st h d n₀ e₀ n e = n
+μ-loop code place number stack holds depth n₀ e₀ n e = n
 
 loop-holds : tie.Need-loop-holds Inv-loop μ-loop
 loop-holds c = (omega arith, omega arith, refl)

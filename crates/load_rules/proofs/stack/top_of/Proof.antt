@@ -1,4 +1,4 @@
--- `rules::stack::top_of` meets its contract. Assumes nothing.
+-- `load_rules::stack::top_of` meets its contract. Assumes nothing.
 use borrow.Author.Needs.{needs}
 use Rattle.load_rules.proofs.Laws as law
 use Rattle.load_rules.proofs.stack.top_of.Statement.{statement}

@@ -1,4 +1,4 @@
--- `rules::stack::trade_one` meets its contract. Assumes nothing.
+-- `load_rules::stack::trade_one` meets its contract. Assumes nothing.
 use borrow.Author.Needs.{needs}
 use Rattle.load_places.specs.Rules.{trade1}
 use Rattle.load_rules.proofs.Laws as law

@@ -1,4 +1,4 @@
--- `rules::walk::found_at` meets its contract. Assumes nothing.
+-- `load_rules::walk::found_at` meets its contract. Assumes nothing.
 use borrow.Author.Needs.{needs}
 use mathlib.Core.Path.{_∙_}
 use Rattle.load_rules.proofs.Laws as law

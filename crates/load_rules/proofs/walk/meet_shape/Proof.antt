@@ -1,4 +1,4 @@
--- `rules::walk::meet_shape` meets its contract. Assumes nothing.
+-- `load_rules::walk::meet_shape` meets its contract. Assumes nothing.
 use borrow.Author.Needs.{needs}
 use native.Mathlib.Omega.{arith}
 use mathlib.Core.Path.{sym, ap, _∙_}
@@ -29,7 +29,7 @@ equal-shape-requires c κs =
     let at-if1 = c .before .before .before .before .before .before .before .before in
     let at-shape-at = at-if1 .before in
     let at-start = at-shape-at .before .before .before .before in
-    (at-shape-at .shape-at .ensures .inside (at-if1 .if1 .left), at-start .pre .1, law.fit-goes _ _ _ (at-start .pre .2) (c .before .before .f .given .1) .1)
+    (at-shape-at .shape-at .ensures .inside (at-if1 .if1 .left), at-start .pre .1, law.fit-goes _ _ _ (at-start .pre .2) (c .before .before .flow .given .1) .1)
 
 enum-told : tie.Need-enum-told
 enum-told c = search needs
@@ -43,18 +43,18 @@ returns-4 : tie.Need-returns-4
 returns-4 c = (
   law.meet-same _ _ _ _ (c .before .before .before .before .before .before .before .before .before .before .before .shape-at .ensures .is)
       (c .before .before .before .before .before .before .before .before .before .before .if1 .left) (omega arith) (omega arith) _ _
-      (ap (λ x. flowOf x (c .before .before .before .before .before .before .before .before .before .before .before .before .before .before .before .args .st .now))
-      (c .before .before .before .before .f .given .1)) (sym (c .before .equal-shape .ensures) ∙ c .if4 .taken),
+      (ap (λ x. flowOf x (c .before .before .before .before .before .before .before .before .before .before .before .before .before .before .before .args .stack .now))
+      (c .before .before .before .before .flow .given .1)) (sym (c .before .equal-shape .ensures) ∙ c .if4 .taken),
   law.fit-goes _ _ _ (c .before .before .before .before .before .before .before .before .before .before .before .before .before .before .before .pre .2)
-      (c .before .before .before .before .f .given .1),
+      (c .before .before .before .before .flow .given .1),
 )
 
 returns-5 : tie.Need-returns-5
 returns-5 c = (
   law.meet-other _ _ _ _ (c .before .before .before .before .before .before .before .before .before .before .before .shape-at .ensures .is)
       (c .before .before .before .before .before .before .before .before .before .before .if1 .left) (omega arith) (omega arith) _ _
-      (ap (λ x. flowOf x (c .before .before .before .before .before .before .before .before .before .before .before .before .before .before .before .args .st .now))
-      (c .before .before .before .before .f .given .1)) (sym (c .before .equal-shape .ensures) ∙ c .if4 .left),
+      (ap (λ x. flowOf x (c .before .before .before .before .before .before .before .before .before .before .before .before .before .before .before .args .stack .now))
+      (c .before .before .before .before .flow .given .1)) (sym (c .before .equal-shape .ensures) ∙ c .if4 .left),
   tt,
 )
 
@@ -62,7 +62,7 @@ returns-6 : tie.Need-returns-6
 returns-6 c = (
   law.meet-load _ _ _ _ (c .before .before .before .before .before .before .before .before .before .before .before .shape-at .ensures .is)
       (c .before .before .before .before .before .before .before .before .before .before .if1 .left) (omega arith) (omega arith)
-      (ap (λ x. flowOf x (c .before .before .before .before .before .before .before .before .before .before .before .before .before .before .before .args .st .now))
+      (ap (λ x. flowOf x (c .before .before .before .before .before .before .before .before .before .before .before .before .before .before .before .args .stack .now))
       (c .before .before .before .before .enum-told .given .1)) _ _ _ (c .before .before .before .before .before .before .before .before .before .byte-at .ensures .0)
       (c .before .before .before .before .before .before .before .byte-at2 .ensures .0) (c .before .before .load-types .ensures),
   (omega arith, omega arith),
@@ -72,7 +72,7 @@ returns-7 : tie.Need-returns-7
 returns-7 c = (
   law.meet-bad _ _ _ _ (c .before .before .before .before .before .before .before .shape-at .ensures .is)
       (c .before .before .before .before .before .before .if1 .left) (omega arith) (omega arith)
-      (ap (λ x. flowOf x (c .before .before .before .before .before .before .before .before .before .before .before .args .st .now)) (c .enum-told2 .given .1)),
+      (ap (λ x. flowOf x (c .before .before .before .before .before .before .before .before .before .before .before .args .stack .now)) (c .enum-told2 .given .1)),
   tt,
 )
 

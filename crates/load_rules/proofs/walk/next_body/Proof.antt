@@ -1,4 +1,4 @@
--- `rules::walk::next_body` meets its contract. Assumes nothing.
+-- `load_rules::walk::next_body` meets its contract. Assumes nothing.
 use borrow.Author.Needs.{needs}
 use native.Mathlib.Omega.{arith}
 use Rattle.load_records.proofs.Known.{head-of, code-of}
@@ -15,7 +15,7 @@ returns c = (law.body-last _ _ _ (c .before .before .before .before .pre .2) (om
 add-j : tie.Need-add-j
 add-j c =
     let at-start = c .before .before .before .before .before .before in
-    omega (arith, code-of _ (at-start .pre .0 .well) (at-start .args .i) (at-start .pre .3))
+    omega (arith, code-of _ (at-start .pre .0 .well) (at-start .args .address) (at-start .pre .3))
 
 returns-2 : tie.Need-returns-2
 returns-2 c = (

@@ -1,4 +1,4 @@
--- `rules::walk::open_body` meets its contract. Assumes nothing.
+-- `load_rules::walk::open_body` meets its contract. Assumes nothing.
 use borrow.Author.Needs.{needs}
 use native.Mathlib.Omega.{arith}
 use mathlib.Core.Path.{sym, _∙_}

@@ -1,4 +1,4 @@
--- `rules::walk::state_at` meets its contract. Assumes nothing.
+-- `load_rules::walk::state_at` meets its contract. Assumes nothing.
 use borrow.Author.Needs.{needs}
 use native.Mathlib.Omega.{arith}
 use mathlib.Core.Path.{ap, _∙_}
@@ -16,7 +16,7 @@ found-at-requires c κs =
       c .before .before .before .before .before .before .before .before .before .before .pre .0 .bodied,
       W .1,
       W .0
-          ∙ ap (bodyOf (c .before .before .before .before .before .before .before .before .before .before .args .l .now)) e,
+          ∙ ap (bodyOf (c .before .before .before .before .before .before .before .before .before .before .args .code .now)) e,
       c .before .before .before .walk .kept .1 .1 .1 .1 .1 .0 ∙ c .before .before .before .before .before .before .before .before .before .before .pre .2,
       W .3,
     )

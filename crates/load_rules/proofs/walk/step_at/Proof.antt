@@ -1,4 +1,4 @@
--- `rules::walk::step_at` meets its contract. Assumes nothing.
+-- `load_rules::walk::step_at` meets its contract. Assumes nothing.
 use borrow.Author.Needs.{needs}
 use native.Mathlib.Omega.{arith}
 use mathlib.Core.Path.{refl, _∙_}

@@ -1,11 +1,11 @@
--- `rules::walk::walk` meets its contract. Assumes nothing.
+-- `load_rules::walk::walk` meets its contract. Assumes nothing.
 use borrow.Author.Needs.{needs}
 use native.Mathlib.Omega.{arith}
 use mathlib.Core.Path.{_≡_, sym, _∙_}
 use Prim.Native.Nat.{_-_, _≤_, _<_}
 use lib.ListN.{length}
 use Rattle.load_places.specs.Search.{Clean}
-use Rattle.load_places.specs.Records.{bodies}
+use Rattle.load_places.specs.Records.{bodies as bodyCount}
 use Rattle.load_places.specs.Rules.{bodyOf, into, broken}
 use Rattle.load_records.proofs.Search.{first-hit, first-none, clean-none, clean-more}
 use Rattle.load_records.proofs.Known.{head-of}
@@ -15,10 +15,11 @@ use Rattle.load_rules.proofs.walk.walk.Statement.{statement}
 use Rattle.load_rules.proofs.walk.walk.Tie as tie
 
 abbrev Inv-loop : tie.InvT-loop
-Inv-loop l ix bx cx base st₀ stop i₀ k₀ f₀ st i k f = (i ≤ stop) × (k ≡ bodyOf l i) × (k < bodies l) × (length st ≡ 32) × Moves st f (into l i) × Clean (broken l) i
+Inv-loop code shapes bodies classes base stack₀ stop i₀ k₀ f₀ stack i k f =
+    (i ≤ stop) × (k ≡ bodyOf code i) × (k < bodyCount code) × (length stack ≡ 32) × Moves stack f (into code i) × Clean (broken code) i
 
 abbrev μ-loop : tie.MeasureT-loop
-μ-loop l ix bx cx base st₀ stop i₀ k₀ f₀ st i k f = stop - i
+μ-loop code shapes bodies classes base stack₀ stop i₀ k₀ f₀ stack i k f = stop - i
 
 loop-holds : tie.Need-loop-holds Inv-loop μ-loop
 loop-holds c = (
