@@ -15,7 +15,6 @@ pub use walk::found_at;
 pub use walk::go_on;
 pub use walk::is_bad;
 pub use walk::next_body;
-pub use walk::state_at;
 ghost use mathlib.Core.Path.{_≡_};
 ghost use mathlib.Core.Bool.{false};
 ghost use Prim.Native.Nat.{_≤_};
@@ -35,7 +34,7 @@ fn judge_in(code: &[u8], shapes: &mut [u32], instructions: usize) -> Judged
     match load_records::scan(code, shapes, &mut bodies, &mut classes, instructions) {
         Records::Unread(k) => Judged::Refused(8, k),
         Records::Reads(base) => {
-            let w = walk::walk(
+            let at = walk::walk(
                 code,
                 shapes,
                 &bodies,
@@ -44,7 +43,6 @@ fn judge_in(code: &[u8], shapes: &mut [u32], instructions: usize) -> Judged
                 &mut stack,
                 instructions,
             );
-            let at = w.at;
             if at < instructions {
                 Judged::Refused(9, at)
             } else {

@@ -14,9 +14,9 @@ ghost use mathlib.Core.Bool.{true, false};
 ghost use Prim.Native.Nat.{_+_, _≤_, _<_};
 ghost use lib.ListN.{length};
 ghost use Rattle.words.specs.Numbers.{byteAt, wordAt};
-ghost use Rattle.load_places.specs.Search.{first, Clean};
+ghost use Rattle.load_places.specs.Search.{first};
 ghost use Rattle.load_places.specs.Records.{bodies as bodyCount, count, codeBase, codePlace};
-ghost use Rattle.load_places.specs.Rules.{shapeAt, bodyOf, chain, effect, meet, leave, plain, opens, found, step, into, broken};
+ghost use Rattle.load_places.specs.Rules.{shapeAt, bodyOf, chain, effect, meet, leave, plain, opens, found, step, broken};
 ghost use Rattle.load_rules.specs.Moves.{flowOf, Fit, Moves, isBadMove, Bodied, Shaped, Able};
 
 fn meet_shape(code: &[u8], shapes: &[u32], address: usize, stack: &mut [u8], flow: Moved) -> Moved
@@ -296,13 +296,7 @@ pub fn is_bad(flow: Moved) -> bool
     }
 }
 
-pub struct Walked {
-    pub at: usize,
-    pub body: usize,
-    pub flow: Moved,
-}
-
-// The first address below stop with a fault, or stop; there also its body and what flows in.
+// The first address below stop with a fault, or stop.
 pub fn walk(
     code: &[u8],
     shapes: &[u32],
@@ -311,11 +305,9 @@ pub fn walk(
     base: usize,
     stack: &mut [u8],
     stop: usize,
-) -> Walked
+) -> usize
     requires { ⌜ (Able (now code) (now shapes) (now bodies) (now classes)) × (base ≡ codeBase (now code)) × (length (now stack) ≡ 32) × (stop ≤ count (now code)) ⌝ }
-    ensures { λ r. ⌜ (r .at ≡ first (broken (now (code .entry))) stop)
-        × (stop ≤ r .at → (r .body ≡ bodyOf (now (code .entry)) (r .at)) × (r .body < bodyCount (now (code .entry)))
-        × (flowOf (r .flow) (now (stack .exit)) ≡ into (now (code .entry)) (r .at)) × (Fit (r .flow))) ⌝ }
+    ensures { λ r. ⌜ r ≡ first (broken (now (code .entry))) stop ⌝ }
 {
     let mut i: usize = 0;
     let mut k: usize = 0;
@@ -323,39 +315,11 @@ pub fn walk(
     while i < stop {
         let g = step_at(code, shapes, bodies, classes, base, k, i, stack, f);
         if is_bad(g) {
-            return Walked {
-                at: i,
-                body: k,
-                flow: g,
-            };
+            return i;
         }
         k = next_body(code, bodies, k, i);
         f = g;
         i += 1;
     }
-    Walked {
-        at: i,
-        body: k,
-        flow: f,
-    }
-}
-
-// The state found at an address, in a macro with no fault.
-pub fn state_at(
-    code: &[u8],
-    shapes: &[u32],
-    bodies: &[u32],
-    classes: &[u32],
-    base: usize,
-    stack: &mut [u8],
-    address: usize,
-) -> Moved
-    requires { ⌜ (Able (now code) (now shapes) (now bodies) (now classes)) × (base ≡ codeBase (now code)) × (length (now stack) ≡ 32)
-        × (address < count (now code)) × (Clean (broken (now code)) (count (now code))) ⌝ }
-    ensures { λ r. ⌜ Moves (now (stack .exit)) r (found (now (code .entry)) address (into (now (code .entry)) address)) ⌝ }
-{
-    let w = walk(code, shapes, bodies, classes, base, stack, address);
-    let k = w.body;
-    let f = w.flow;
-    found_at(code, shapes, bodies, k, address, stack, f)
+    i
 }

@@ -5,7 +5,7 @@ use mathlib.Core.Path.{_∙_}
 use borrow.Author.Tests.{eq-eqb, ne-eqb}
 use Rattle.load_places.specs.Rules.{opCall}
 use Rattle.load_records.proofs.Known.{head-of}
-use Rattle.load_rules.proofs.Laws as law
+use Rattle.load_rules.proofs.Calls.{call-over, call-goes}
 use Rattle.load_rules.proofs.ops.op_call.Statement.{statement}
 use Rattle.load_rules.proofs.ops.op_call.Tie as tie
 
@@ -23,11 +23,11 @@ byte-at-requires c κs =
     omega (arith, head-of _ (at-start .pre .0 .well) .bytes)
 
 returns-3 : tie.Need-returns-3
-returns-3 c = (law.call-over _ _ _ _ _ (c .before .before .before .if1 .left) (c .before .before .if2 .left) (omega arith), tt)
+returns-3 c = (call-over _ _ _ _ _ (c .before .before .before .if1 .left) (c .before .before .if2 .left) (omega arith), tt)
 
 returns-4 : tie.Need-returns-4
 returns-4 c = (
-  c .before .before .hand-after .ensures .0 ∙ law.call-goes _ _ _ _ _
+  c .before .before .hand-after .ensures .0 ∙ call-goes _ _ _ _ _
       (c .before .before .before .before .before .before .before .before .before .before .before .before .if1 .left)
       (c .before .before .before .before .before .before .before .before .before .before .before .if2 .left) (omega arith) _
       (c .before .before .before .before .before .before .before .before .body-at .ensures .is) _

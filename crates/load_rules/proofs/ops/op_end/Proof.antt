@@ -1,7 +1,7 @@
 -- `load_rules::ops::op_end` meets its contract. Assumes nothing.
 use borrow.Author.Tests.{eq-eqb, ne-eqb}
 use Rattle.load_places.specs.Rules.{opEnd}
-use Rattle.load_rules.proofs.Laws as law
+use Rattle.load_rules.proofs.TypeStack.{length-tops}
 use Rattle.load_rules.proofs.ops.op_end.Statement.{statement}
 use Rattle.load_rules.proofs.ops.op_end.Tie as tie
 
@@ -26,7 +26,7 @@ unfolding opEnd
 returns-5 c =
     let at-if1 = c .before .before .before .before in (
       simp (
-        law.length-tops,
+        length-tops,
         eq-eqb _ _ (at-if1 .if1 .left),
         eq-eqb _ _ (c .before .before .before .if2 .left),
         eq-eqb _ _ (c .before .before .if3 .left),
@@ -41,7 +41,7 @@ unfolding opEnd
 returns-6 c =
     let at-if1 = c .before .before .before .before in (
       simp (
-        law.length-tops,
+        length-tops,
         eq-eqb _ _ (at-if1 .if1 .left),
         eq-eqb _ _ (c .before .before .before .if2 .left),
         eq-eqb _ _ (c .before .before .if3 .left),

@@ -5,7 +5,7 @@ use mathlib.Core.Path.{_∙_}
 use borrow.Author.Tests.{le-ltb}
 use Rattle.load_places.specs.Rules.{opGetField}
 use Rattle.load_records.proofs.Known.{head-of}
-use Rattle.load_rules.proofs.Laws as law
+use Rattle.load_rules.proofs.Fields.{get-over, get-goes}
 use Rattle.load_rules.proofs.ops.op_get_field.Statement.{statement}
 use Rattle.load_rules.proofs.ops.op_get_field.Tie as tie
 
@@ -17,7 +17,7 @@ unfolding opGetField
 returns c = (simp (le-ltb _ _ (rw (c .before .byte-at .ensures .0) at (c .if1 .taken))), tt)
 
 returns-2 : tie.Need-returns-2
-returns-2 c = (law.get-over _ _ _ _ _ (omega arith) _ (c .before .before .class-at .ensures .is) (omega arith), tt)
+returns-2 c = (get-over _ _ _ _ _ (omega arith) _ (c .before .before .class-at .ensures .is) (omega arith), tt)
 
 class-type-requires : tie.Need-class-type-requires
 class-type-requires c κs =
@@ -26,7 +26,7 @@ class-type-requires c κs =
 
 returns-3 : tie.Need-returns-3
 returns-3 c = (
-  c .before .before .trade-one .ensures .0 ∙ law.get-goes _ _ _ _ _ (omega arith) _
+  c .before .before .trade-one .ensures .0 ∙ get-goes _ _ _ _ _ (omega arith) _
       (c .before .before .before .before .before .before .before .before .class-at .ensures .is) (omega arith) _
       (c .before .before .before .before .class-type .ensures),
   c .before .before .trade-one .ensures .1,

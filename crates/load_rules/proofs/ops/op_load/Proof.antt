@@ -5,7 +5,7 @@ use mathlib.Core.Path.{_∙_}
 use borrow.Author.Tests.{le-ltb}
 use Rattle.load_places.specs.Rules.{opLoad}
 use Rattle.load_records.proofs.Known.{head-of}
-use Rattle.load_rules.proofs.Laws as law
+use Rattle.load_rules.proofs.Cells.{owner-in, load-over, load-goes}
 use Rattle.load_rules.proofs.ops.op_load.Statement.{statement}
 use Rattle.load_rules.proofs.ops.op_load.Tie as tie
 
@@ -16,14 +16,14 @@ returns c = (simp (le-ltb _ _ (c .if1 .taken)), tt)
 body-at-requires : tie.Need-body-at-requires
 body-at-requires c κs =
     let at-start = c .before .before .before .before .before in
-    (at-start .pre .0, law.owner-in _ (at-start .args .a) _ _ (c .owner-body .ensures) (at-start .pre .1) (head-of _ (at-start .pre .0 .well) .some-bodies))
+    (at-start .pre .0, owner-in _ (at-start .args .a) _ _ (c .owner-body .ensures) (at-start .pre .1) (head-of _ (at-start .pre .0 .well) .some-bodies))
 
 returns-2 : tie.Need-returns-2
-returns-2 c = (law.load-over _ _ _ _ _ _ (omega arith) _ (c .before .before .before .owner-body .ensures) _ (c .before .before .body-at .ensures .is) (omega arith), tt)
+returns-2 c = (load-over _ _ _ _ _ _ (omega arith) _ (c .before .before .before .owner-body .ensures) _ (c .before .before .body-at .ensures .is) (omega arith), tt)
 
 returns-3 : tie.Need-returns-3
 returns-3 c = (
-  c .before .before .push-type .ensures .0 ∙ law.load-goes _ _ _ _ _ _ (omega arith) _
+  c .before .before .push-type .ensures .0 ∙ load-goes _ _ _ _ _ _ (omega arith) _
       (c .before .before .before .before .before .before .before .before .owner-body .ensures) _
       (c .before .before .before .before .before .before .before .body-at .ensures .is) (omega arith),
   c .before .before .push-type .ensures .1,

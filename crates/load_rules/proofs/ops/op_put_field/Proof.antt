@@ -5,7 +5,7 @@ use mathlib.Core.Path.{_∙_}
 use borrow.Author.Tests.{le-ltb}
 use Rattle.load_places.specs.Rules.{opPutField}
 use Rattle.load_records.proofs.Known.{head-of}
-use Rattle.load_rules.proofs.Laws as law
+use Rattle.load_rules.proofs.Fields.{put-over, put-goes}
 use Rattle.load_rules.proofs.ops.op_put_field.Statement.{statement}
 use Rattle.load_rules.proofs.ops.op_put_field.Tie as tie
 
@@ -17,7 +17,7 @@ unfolding opPutField
 returns c = (simp (le-ltb _ _ (rw (c .before .byte-at .ensures .0) at (c .if1 .taken))), tt)
 
 returns-2 : tie.Need-returns-2
-returns-2 c = (law.put-over _ _ _ _ _ (omega arith) _ (c .before .before .class-at .ensures .is) (omega arith), tt)
+returns-2 c = (put-over _ _ _ _ _ (omega arith) _ (c .before .before .class-at .ensures .is) (omega arith), tt)
 
 class-type-requires : tie.Need-class-type-requires
 class-type-requires c κs =
@@ -26,7 +26,7 @@ class-type-requires c κs =
 
 returns-3 : tie.Need-returns-3
 returns-3 c = (
-  c .pop-after .ensures .0 ∙ law.put-goes _ _ _ _ _ (omega arith) _ (c .before .before .before .before .before .before .class-at .ensures .is)
+  c .pop-after .ensures .0 ∙ put-goes _ _ _ _ _ (omega arith) _ (c .before .before .before .before .before .before .class-at .ensures .is)
       (omega arith) _ (c .before .class-type .ensures) _ (c .before .before .pop-type .ensures .0),
   c .pop-after .ensures .1,
 )

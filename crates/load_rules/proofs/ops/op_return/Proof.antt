@@ -4,7 +4,7 @@ use native.Mathlib.Omega.{arith}
 use mathlib.Core.Path.{_∙_}
 use borrow.Author.Tests.{eq-eqb, ne-eqb}
 use Rattle.load_places.specs.Rules.{opReturn}
-use Rattle.load_rules.proofs.Laws as law
+use Rattle.load_rules.proofs.Calls.{return-goes}
 use Rattle.load_rules.proofs.ops.op_return.Statement.{statement}
 use Rattle.load_rules.proofs.ops.op_return.Tie as tie
 
@@ -34,7 +34,7 @@ returns-4 c = (
 
 returns-5 : tie.Need-returns-5
 returns-5 c = (
-  c .just .ensures .0 ∙ law.return-goes _ _ _ _ _ _ (omega arith) (omega arith) (c .before .before .before .before .if3 .left) (omega arith) _
+  c .just .ensures .0 ∙ return-goes _ _ _ _ _ _ (omega arith) (omega arith) (c .before .before .before .before .if3 .left) (omega arith) _
       (c .before .before .body-at .ensures .is),
   c .just .ensures .1,
 )

@@ -3,7 +3,7 @@ use borrow.Author.Needs.{needs}
 use mathlib.Core.Path.{_∙_}
 use borrow.Author.Tests.{eq-eqb, ne-eqb}
 use Rattle.load_places.specs.Rules.{opSet}
-use Rattle.load_rules.proofs.Laws as law
+use Rattle.load_rules.proofs.Chains.{after}
 use Rattle.load_rules.proofs.ops.op_set.Statement.{statement}
 use Rattle.load_rules.proofs.ops.op_set.Tie as tie
 
@@ -18,7 +18,7 @@ returns-2 c = (simp (eq-eqb _ _ (c .before .if1 .left), ne-eqb _ _ (c .if2 .take
 returns-3 : tie.Need-returns-3
 unfolding opSet
 returns-3 c = (
-  law.after _ (c .before .pop-type .ensures .0) (c .pop-after .ensures .0)
+  after _ (c .before .pop-type .ensures .0) (c .pop-after .ensures .0)
       ∙ simp (eq-eqb _ _ (c .before .before .before .if1 .left), eq-eqb _ _ (c .before .before .if2 .left)),
   c .pop-after .ensures .1,
 )

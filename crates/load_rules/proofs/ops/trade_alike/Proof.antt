@@ -1,7 +1,7 @@
 -- `load_rules::ops::trade_alike` meets its contract. Assumes nothing.
 use borrow.Author.Needs.{needs}
 use mathlib.Core.Path.{sym, _∙_}
-use Rattle.load_rules.proofs.Laws as law
+use Rattle.load_rules.proofs.Chains.{meets, lacks}
 use Rattle.load_rules.proofs.ops.trade_alike.Statement.{statement}
 use Rattle.load_rules.proofs.ops.trade_alike.Tie as tie
 
@@ -10,10 +10,10 @@ returns c =
     let at-trade-two = c .before .before in
     let at-if1 = at-trade-two .before .before in
     let at-is-twofold = at-if1 .before in
-    (at-trade-two .trade-two .ensures .0 ∙ law.meets _ _ (sym (at-is-twofold .is-twofold .ensures) ∙ at-if1 .if1 .taken), at-trade-two .trade-two .ensures .1)
+    (at-trade-two .trade-two .ensures .0 ∙ meets _ _ (sym (at-is-twofold .is-twofold .ensures) ∙ at-if1 .if1 .taken), at-trade-two .trade-two .ensures .1)
 
 returns-2 : tie.Need-returns-2
-returns-2 c = (law.lacks _ _ (sym (c .before .is-twofold .ensures) ∙ c .if1 .left), tt)
+returns-2 c = (lacks _ _ (sym (c .before .is-twofold .ensures) ∙ c .if1 .left), tt)
 
 pub trade-alike-spec : {M : Type 1} → statement M
 trade-alike-spec =

@@ -4,7 +4,7 @@ use mathlib.Core.Path.{_≡_, refl}
 use Prim.Native.Nat.{_-_, _≤_}
 use lib.ListN.{length, length-set}
 use Rattle.load_places.specs.Search.{tops}
-use Rattle.load_rules.proofs.Laws as law
+use Rattle.load_rules.proofs.RecordTypes.{tops-none, tops-load}
 use Rattle.load_rules.proofs.stack.load_types.Statement.{statement}
 use Rattle.load_rules.proofs.stack.load_types.Tie as tie
 
@@ -15,10 +15,10 @@ abbrev μ-loop : tie.MeasureT-loop
 μ-loop code place stack₀ depth i₀ stack i = depth - i
 
 loop-holds : tie.Need-loop-holds Inv-loop μ-loop
-loop-holds c = (omega arith, refl, law.tops-none _ _ _)
+loop-holds c = (omega arith, refl, tops-none _ _ _)
 
 loop-again : tie.Need-loop-again Inv-loop μ-loop
-loop-again c = (omega arith, simp length-set (c .before .before .loop .inv .1), law.tops-load _ _ _ _ (omega arith) (c .before .before .loop .inv .2))
+loop-again c = (omega arith, simp length-set (c .before .before .loop .inv .1), tops-load _ _ _ _ (omega arith) (c .before .before .loop .inv .2))
 
 same-length : tie.Need-same-length Inv-loop μ-loop
 same-length c = c .before .loop .inv .1

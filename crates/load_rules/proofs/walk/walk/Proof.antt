@@ -10,7 +10,7 @@ use Rattle.load_places.specs.Rules.{bodyOf, into, broken}
 use Rattle.load_records.proofs.Search.{first-hit, first-none, clean-none, clean-more}
 use Rattle.load_records.proofs.Known.{head-of}
 use Rattle.load_rules.specs.Moves.{Moves}
-use Rattle.load_rules.proofs.Laws as law
+use Rattle.load_rules.proofs.Walking.{body-none, into-none, walk-on, walk-flag}
 use Rattle.load_rules.proofs.walk.walk.Statement.{statement}
 use Rattle.load_rules.proofs.walk.walk.Tie as tie
 
@@ -24,10 +24,10 @@ abbrev μ-loop : tie.MeasureT-loop
 loop-holds : tie.Need-loop-holds Inv-loop μ-loop
 loop-holds c = (
   omega arith,
-  law.body-none _,
+  body-none _,
   head-of _ (c .before .before .before .before .before .pre .0 .bodied .well) .some-bodies,
   c .before .before .before .before .before .pre .2,
-  (law.into-none _, tt),
+  (into-none _, tt),
   clean-none _,
 )
 
@@ -51,12 +51,11 @@ same-length c =
     at-step-at .step-at .kept .1 .1 .1 .1 .1 .1 .1 .0 ∙ at-loop .loop .inv .3 ∙ sym (at-start .pre .2)
 
 returns : tie.Need-returns Inv-loop μ-loop
-returns c = let I = c .before .before .before .before .before .before .before .loop .inv in (
-  sym (first-hit _ _ _ (I .5) (omega arith) (law.walk-flag _ _ _ (I .4 .0)
-      (c .before .before .before .before .step-at .last .1 .1 .1 .1 .1 .1 .1 .0) (c .before .before .before .before .step-at .result)
-      (c .before .before .before .before .step-at .ensures .0) ∙ sym (c .before .is-bad .ensures) ∙ c .if1 .taken)),
-  λ h. absurd (omega arith),
-)
+returns c =
+    let I = c .before .before .before .before .before .before .before .loop .inv in
+    let step = c .before .before .before .before .step-at in
+    sym (first-hit _ _ _ (I .5) (omega arith) (walk-flag _ _ _ (I .4 .0) (step .last .1 .1 .1 .1 .1 .1 .1 .0) (step .result) (step .ensures .0)
+    ∙ sym (c .before .is-bad .ensures) ∙ c .if1 .taken))
 
 next-body-requires : tie.Need-next-body-requires Inv-loop μ-loop
 next-body-requires c κs =
@@ -71,10 +70,10 @@ loop-again c = let I = c .before .before .before .before .before .before .before
   c .before .before .before .before .before .step-at .kept .1 .1 .1 .1 .1 .1 .1 .0
       ∙ I .3,
   (
-    law.walk-on _ _ _ (I .4 .0) _ (c .before .before .before .before .before .step-at .ensures .0),
+    walk-on _ _ _ (I .4 .0) _ (c .before .before .before .before .before .step-at .ensures .0),
     c .before .before .before .before .before .step-at .ensures .1,
   ),
-  clean-more _ _ (I .5) (law.walk-flag _ _ _ (I .4 .0) (c .before .before .before .before .before .step-at .last .1 .1 .1 .1 .1 .1 .1 .0)
+  clean-more _ _ (I .5) (walk-flag _ _ _ (I .4 .0) (c .before .before .before .before .before .step-at .last .1 .1 .1 .1 .1 .1 .1 .0)
       (c .before .before .before .before .before .step-at .result) (c .before .before .before .before .before .step-at .ensures .0)
       ∙ sym (c .before .before .is-bad .ensures) ∙ c .before .if1 .left),
 )
@@ -85,7 +84,7 @@ same-length-2 c =
     c .before .loop .inv .3 ∙ sym (at-start .pre .2)
 
 returns-2 : tie.Need-returns-2 Inv-loop μ-loop
-returns-2 c = let I = c .before .loop .inv in (sym (first-none _ _ _ (I .5) (omega arith) (omega arith)), λ h. (I .1, I .2, I .4 .0, I .4 .1))
+returns-2 c = sym (first-none _ _ _ (c .before .loop .inv .5) (omega arith) (omega arith))
 
 pub walk-spec : {M : Type 1} → statement M
 walk-spec =
