@@ -8,6 +8,7 @@ use borrow.Author.Tests.{eq-eqb, lt-ltb, le-ltb}
 use Rattle.words.specs.Numbers.{byteAt}
 use Rattle.load_places.specs.Records.{classes, bodyPlace}
 use Rattle.load_places.specs.Rules.{bad, push, pop, opNull, ownerBody, opLoad, opStore}
+use Rattle.load_rules.specs.Paired.{opCell}
 
 module _ (l : List ℕ) (a b h : ℕ) (s : List ℕ) (z : b ≡ 0) where
   pub null-over : classes l ≤ a → bad ≡ opNull l a b h s
@@ -25,19 +26,27 @@ owner-in k a n o e h p = rw e (go (eqb a 0))
     go true = h
     go false = p
 
-module _ (l : List ℕ) (k a b h : ℕ) (s : List ℕ) (z : a < 2) (o : ℕ) (f : o ≡ ownerBody k a) (q : ℕ) (e : q ≡ bodyPlace l o) where
-  pub load-over : byteAt l (q + 6) ≤ b → bad ≡ opLoad l k a b h s
-  unfolding opLoad
-  load-over p = rw (lt-ltb a 2 z, ← f, ← e, le-ltb b (byteAt l (q + 6)) p)
+-- a cell that is stored into where f is true, else loaded
+module _ (l : List ℕ) (k a b h : ℕ) (s : List ℕ) where
+  pub cell-far : (f : Bool) → 2 ≤ a → bad ≡ opCell f l k a b h s
+  unfolding opCell opLoad opStore
+  cell-far true p = rw (le-ltb a 2 p)
+  cell-far false p = rw (le-ltb a 2 p)
 
-  pub load-goes : b < byteAt l (q + 6) → push (byteAt l (q + 7 + b)) h s ≡ opLoad l k a b h s
-  unfolding opLoad
-  load-goes p = rw (lt-ltb a 2 z, ← f, ← e, lt-ltb b (byteAt l (q + 6)) p)
+  module _ (z : a < 2) (o : ℕ) (x : o ≡ ownerBody k a) (q : ℕ) (e : q ≡ bodyPlace l o) (n : ℕ) (d : n ≡ byteAt l (q + 6)) (f : Bool) where
+    pub cell-over : n ≤ b → bad ≡ opCell f l k a b h s
+    unfolding opCell opLoad opStore
+    cell-over p = go f
+      where
+        go : (f : Bool) → bad ≡ opCell f l k a b h s
+        go true = rw (lt-ltb a 2 z, ← x, ← e, ← d, le-ltb b n p)
+        go false = rw (lt-ltb a 2 z, ← x, ← e, ← d, le-ltb b n p)
 
-  pub store-over : byteAt l (q + 6) ≤ b → bad ≡ opStore l k a b h s
-  unfolding opStore
-  store-over p = rw (lt-ltb a 2 z, ← f, ← e, le-ltb b (byteAt l (q + 6)) p)
+    module _ (p : b < n) where
+      pub cell-stores : f ≡ true → pop (byteAt l (q + 7 + b)) h s ≡ opCell f l k a b h s
+      unfolding opCell opStore
+      cell-stores y = rw (y, lt-ltb a 2 z, ← x, ← e, ← d, lt-ltb b n p)
 
-  pub store-goes : b < byteAt l (q + 6) → pop (byteAt l (q + 7 + b)) h s ≡ opStore l k a b h s
-  unfolding opStore
-  store-goes p = rw (lt-ltb a 2 z, ← f, ← e, lt-ltb b (byteAt l (q + 6)) p)
+      pub cell-loads : f ≡ false → push (byteAt l (q + 7 + b)) h s ≡ opCell f l k a b h s
+      unfolding opCell opLoad
+      cell-loads y = rw (y, lt-ltb a 2 z, ← x, ← e, ← d, lt-ltb b n p)

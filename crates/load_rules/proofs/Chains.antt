@@ -1,11 +1,13 @@
 -- What a move tells, one move after another, and a move under a test that was made.
 use mathlib.Core.Path.{_≡_, refl, sym, ap, _∙_}
-use mathlib.Core.Bool.{Bool, true, false}
+use mathlib.Core.Bool.{Bool, true, false, not, _&&_}
 use mathlib.Core.List.{List}
 use Prim.Native.Nat.{ℕ, _-_, _≤_}
-use Rattle.load_places.specs.Rules.{Flow, goes, ends, bad, need, chain}
+use lib.Dec.{eqb}
+use Rattle.load_places.specs.Rules.{Flow, goes, ends, bad, need, chain, unused}
 use Rattle.load_places.specs.declared.Moved.{Moved}
 use Rattle.load_places.specs.declared.Moved.the-variants.{Goes}
+use Rattle.load_rules.specs.Paired.{hasOperands}
 use Rattle.load_rules.specs.Moves.{flowOf, Fit}
 use Rattle.load_records.proofs.Tests.{unlike}
 
@@ -35,3 +37,23 @@ meets false F e = unlike e
 pub lacks : (b : Bool) (F : Flow) → b ≡ false → bad ≡ need b F
 lacks false F e = refl
 lacks true F e = unlike (sym e)
+
+-- an instruction that has no use for operands
+module _ (a b : ℕ) where
+  pub operands-some : hasOperands a b ≡ true → (F : Flow) → unused a (unused b F) ≡ bad
+  unfolding hasOperands
+  operands-some t F = go (eqb a 0) (eqb b 0) t
+    where
+      go : (x y : Bool) → not (x && y) ≡ true → need x (need y F) ≡ bad
+      go true true q = unlike q
+      go true false q = refl
+      go false y q = refl
+
+  pub operands-none : hasOperands a b ≡ false → (eqb a 0 ≡ true) × (eqb b 0 ≡ true)
+  unfolding hasOperands
+  operands-none t = go (eqb a 0) (eqb b 0) t
+    where
+      go : (x y : Bool) → not (x && y) ≡ false → (x ≡ true) × (y ≡ true)
+      go true true q = (refl, refl)
+      go true false q = unlike (sym q)
+      go false y q = unlike (sym q)

@@ -2,13 +2,13 @@
 use mathlib.Core.Path.{_≡_, refl, sym, ap, _∙_}
 use mathlib.Core.Bool.{true, false}
 use mathlib.Core.List.{List}
-use Prim.Native.Nat.{ℕ, suc, _+_, _-_, _<_, _≤_}
+use Prim.Native.Nat.{ℕ, zero, suc, _+_, _-_, _<_, _≤_}
 use native.Mathlib.Omega.{arith}
 use lib.ListN.{length, set}
 use borrow.Author.Tests.{eq-eqb, ne-eqb}
 use Rattle.words.specs.Numbers.{byteAt}
 use Rattle.load_places.specs.Search.{tops, alike}
-use Rattle.load_places.specs.Rules.{goes, bad, equals, pop, chain, takes}
+use Rattle.load_places.specs.Rules.{Flow, goes, ends, bad, equals, pop, chain, takes}
 use Rattle.load_rules.proofs.TypeStack.{length-tops, tops-top, stack-top, stack-set, pop-none, pop-other, pop-takes}
 
 module _ (st l : List ℕ) (q d : ℕ) (p : 0 < d) where
@@ -51,6 +51,18 @@ module _ (l st : List ℕ) (q n h e : ℕ) where
 
     pub takes-one : (e ≡ 0 → ⊥) → byteAt st (e - 1) ≡ byteAt l (q + (n - 1)) → takes l q n h (tops st 0 e) ≡ takes l q (n - 1) h (tops st 0 (e - 1))
     takes-one z o = takes-on p ∙ rw (pop-takes st (byteAt l (q + (n - 1))) h e z o)
+
+-- what is left of the types goes on as it is
+pub takes-kept : (l : List ℕ) (q n h : ℕ) (s : List ℕ) → chain (takes l q n h s) (λ g r. goes g r) ≡ takes l q n h s
+unfolding takes
+takes-kept l q zero h s = refl
+takes-kept l q (suc n) h s = go (pop (byteAt l (q + n)) h s) (λ g r. takes-kept l q n g r)
+  where
+    go : (X : Flow) → ((g : ℕ) (r : List ℕ) → chain (takes l q n g r) (λ i t. goes i t) ≡ takes l q n g r)
+        → chain (chain X (λ g r. takes l q n g r)) (λ g r. goes g r) ≡ chain X (λ g r. takes l q n g r)
+    go (goes g r) k = k g r
+    go ends k = refl
+    go bad k = refl
 
 -- a shape and a state
 module _ (l st : List ℕ) (p h d : ℕ) where

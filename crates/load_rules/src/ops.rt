@@ -8,6 +8,7 @@ use crate::stack::pop_after;
 use crate::stack::pop_type;
 use crate::stack::push_after;
 use crate::stack::push_type;
+use crate::stack::rebuilt;
 use crate::stack::take_types;
 use crate::stack::top_of;
 use crate::stack::trade_one;
@@ -17,24 +18,29 @@ use formats::limits::*;
 use formats::wide;
 use load_places::Moved;
 ghost use mathlib.Core.Path.{_≡_};
-ghost use mathlib.Core.Bool.{true, false};
+ghost use mathlib.Core.Bool.{true, false, cond};
 ghost use Prim.Native.Nat.{_+_, _≤_, _<_};
 ghost use lib.ListN.{length};
 ghost use Rattle.load_places.specs.Search.{tops};
 ghost use Rattle.load_places.specs.Records.{bodies as bodyCount};
-ghost use Rattle.load_places.specs.Rules.{need, chain, trade1, trade2, lands, opEnd, opInteger, opLogical, opBits, opNull, ownerBody, opLoad, opStore, twofold, operates};
-ghost use Rattle.load_places.specs.Rules.{opOperator, opGo, opUnless, handed, opCall, justs, opReturn, opMake, opGetField, opPutField, opSet, opFader, opHold, opRelease};
+ghost use Rattle.load_places.specs.Rules.{need, push, unused, trade1, trade2, lands, opEnd, opLogical, opNull, ownerBody, twofold, operates};
+ghost use Rattle.load_places.specs.Rules.{opOperator, opGo, opUnless, opCall, justs, opReturn, opMake, opSet, opFader, opHold, opRelease};
 ghost use Rattle.load_places.specs.Rules.{opAssert, opStop, effect};
 ghost use Rattle.load_places.specs.Index.{Well};
-ghost use Rattle.load_rules.specs.Moves.{flowOf, Fit, Moves, Stack, Bodied, Classed, Shaped, Able};
+ghost use Rattle.load_rules.specs.Paired.{hasOperands, opCell, opField};
+ghost use Rattle.load_rules.specs.Moves.{Moves, Stack, Bodied, Classed, Shaped, Able};
+
+// Whether an instruction that has no use for operands has one.
+fn has_operands(a: usize, b: usize) -> bool
+    ensures { λ r. ⌜ r ≡ hasOperands a b ⌝ }
+{
+    if a == 0 { b != 0 } else { true }
+}
 
 fn op_end(body: usize, a: usize, b: usize, stack: &[u8], holds: usize, depth: usize) -> Moved
     ensures { λ r. ⌜ Moves (now (stack .entry)) r (opEnd body a b holds (tops (now (stack .entry)) 0 depth)) ⌝ }
 {
-    if a != 0 {
-        return Moved::Bad;
-    }
-    if b != 0 {
+    if has_operands(a, b) {
         return Moved::Bad;
     }
     if body != 0 {
@@ -49,14 +55,15 @@ fn op_end(body: usize, a: usize, b: usize, stack: &[u8], holds: usize, depth: us
     Moved::Ends
 }
 
-fn op_integer(a: usize, stack: &mut [u8], holds: usize, depth: usize) -> Moved
+// An integer or bits: t is the type.
+fn op_constant(a: usize, t: u8, stack: &mut [u8], holds: usize, depth: usize) -> Moved
     requires { ⌜ Stack (now stack) holds depth ⌝ }
-    ensures { λ r. ⌜ Moves (now (stack .exit)) r (opInteger a holds (tops (now (stack .entry)) 0 depth)) ⌝ }
+    ensures { λ r. ⌜ Moves (now (stack .exit)) r (unused a (push t holds (tops (now (stack .entry)) 0 depth))) ⌝ }
 {
     if a != 0 {
         return Moved::Bad;
     }
-    push_type(stack, TYPE_INTEGER, holds, depth)
+    push_type(stack, t, holds, depth)
 }
 
 fn op_logical(a: usize, b: usize, stack: &mut [u8], holds: usize, depth: usize) -> Moved
@@ -70,16 +77,6 @@ fn op_logical(a: usize, b: usize, stack: &mut [u8], holds: usize, depth: usize) 
         return Moved::Bad;
     }
     push_type(stack, TYPE_LOGICAL, holds, depth)
-}
-
-fn op_bits(a: usize, stack: &mut [u8], holds: usize, depth: usize) -> Moved
-    requires { ⌜ Stack (now stack) holds depth ⌝ }
-    ensures { λ r. ⌜ Moves (now (stack .exit)) r (opBits a holds (tops (now (stack .entry)) 0 depth)) ⌝ }
-{
-    if a != 0 {
-        return Moved::Bad;
-    }
-    push_type(stack, TYPE_BITS, holds, depth)
 }
 
 // The type byte of references to records of a class.
@@ -114,18 +111,20 @@ fn owner_body(body: usize, a: usize) -> usize
     0
 }
 
-fn op_load(
+// A cell is loaded, or stored into.
+fn op_cell(
     code: &[u8],
     bodies: &[u32],
     body: usize,
     a: usize,
     b: usize,
+    stores: bool,
     stack: &mut [u8],
     holds: usize,
     depth: usize,
 ) -> Moved
     requires { ⌜ (Bodied (now code) (now bodies)) × (body < bodyCount (now code)) × (Stack (now stack) holds depth) ⌝ }
-    ensures { λ r. ⌜ Moves (now (stack .exit)) r (opLoad (now (code .entry)) body a b holds (tops (now (stack .entry)) 0 depth)) ⌝ }
+    ensures { λ r. ⌜ Moves (now (stack .exit)) r (opCell stores (now (code .entry)) body a b holds (tops (now (stack .entry)) 0 depth)) ⌝ }
 {
     if 2 <= a {
         return Moved::Bad;
@@ -136,32 +135,11 @@ fn op_load(
     if c <= b {
         return Moved::Bad;
     }
-    push_type(stack, code[q + BODY_BYTES + b], holds, depth)
-}
-
-fn op_store(
-    code: &[u8],
-    bodies: &[u32],
-    body: usize,
-    a: usize,
-    b: usize,
-    stack: &[u8],
-    holds: usize,
-    depth: usize,
-) -> Moved
-    requires { ⌜ (Bodied (now code) (now bodies)) × (body < bodyCount (now code)) × (Stack (now stack) holds depth) ⌝ }
-    ensures { λ r. ⌜ Moves (now (stack .entry)) r (opStore (now (code .entry)) body a b holds (tops (now (stack .entry)) 0 depth)) ⌝ }
-{
-    if 2 <= a {
-        return Moved::Bad;
+    let t = code[q + BODY_BYTES + b];
+    if stores {
+        return pop_type(stack, t, holds, depth);
     }
-    let o = owner_body(body, a);
-    let q = body_at(code, bodies, o);
-    let c = words::wide::byte_at(code, q + CELL_COUNT_AT);
-    if c <= b {
-        return Moved::Bad;
-    }
-    pop_type(stack, code[q + BODY_BYTES + b], holds, depth)
+    push_type(stack, t, holds, depth)
 }
 
 fn is_twofold(t: u8) -> bool
@@ -174,26 +152,18 @@ fn is_twofold(t: u8) -> bool
 }
 
 // The operators on two logical values or two bits, and on one.
-fn trade_alike(stack: &mut [u8], t: u8, holds: usize, depth: usize) -> Moved
+fn trade_own(stack: &mut [u8], t: u8, two: bool, holds: usize, depth: usize) -> Moved
     requires { ⌜ Stack (now stack) holds depth ⌝ }
-    ensures { λ r. ⌜ Moves (now (stack .exit)) r (need (twofold t) (trade2 t t t holds (tops (now (stack .entry)) 0 depth))) ⌝ }
+    ensures { λ r. ⌜ Moves (now (stack .exit)) r (need (twofold t) (cond two (trade2 t t t holds (tops (now (stack .entry)) 0 depth))
+        (trade1 t t holds (tops (now (stack .entry)) 0 depth)))) ⌝ }
 {
     if is_twofold(t) {
-        trade_two(stack, t, t, t, holds, depth)
-    } else {
-        Moved::Bad
+        if two {
+            return trade_two(stack, t, t, t, holds, depth);
+        }
+        return trade_one(stack, t, t, holds, depth);
     }
-}
-
-fn trade_self(stack: &mut [u8], t: u8, holds: usize, depth: usize) -> Moved
-    requires { ⌜ Stack (now stack) holds depth ⌝ }
-    ensures { λ r. ⌜ Moves (now (stack .exit)) r (need (twofold t) (trade1 t t holds (tops (now (stack .entry)) 0 depth))) ⌝ }
-{
-    if is_twofold(t) {
-        trade_one(stack, t, t, holds, depth)
-    } else {
-        Moved::Bad
-    }
+    Moved::Bad
 }
 
 fn operate(a: usize, stack: &mut [u8], holds: usize, depth: usize) -> Moved
@@ -228,7 +198,7 @@ fn operate(a: usize, stack: &mut [u8], holds: usize, depth: usize) -> Moved
         return trade_two(stack, t, t, TYPE_LOGICAL, holds, depth);
     }
     if a < 14 {
-        return trade_alike(stack, t, holds, depth);
+        return trade_own(stack, t, true, holds, depth);
     }
     if a < 16 {
         return trade_two(stack, TYPE_BITS, TYPE_INTEGER, TYPE_BITS, holds, depth);
@@ -240,7 +210,7 @@ fn operate(a: usize, stack: &mut [u8], holds: usize, depth: usize) -> Moved
         return trade_one(stack, TYPE_INTEGER, TYPE_INTEGER, holds, depth);
     }
     if a < 23 {
-        return trade_self(stack, t, holds, depth);
+        return trade_own(stack, t, false, holds, depth);
     }
     Moved::Bad
 }
@@ -337,28 +307,6 @@ fn op_unless(
     }
 }
 
-// A call's result, if there is one, goes onto the stack.
-fn hand(stack: &mut [u8], t: u8, holds: usize, depth: usize) -> Moved
-    requires { ⌜ Stack (now stack) holds depth ⌝ }
-    ensures { λ r. ⌜ Moves (now (stack .exit)) r (handed t holds (tops (now (stack .entry)) 0 depth)) ⌝ }
-{
-    if t == 0 {
-        return Moved::Goes(holds, depth);
-    }
-    push_type(stack, t, holds, depth)
-}
-
-fn hand_after(stack: &mut [u8], t: u8, flow: Moved) -> Moved
-    requires { ⌜ (length (now stack) ≡ 32) × (Fit flow) ⌝ }
-    ensures { λ r. ⌜ Moves (now (stack .exit)) r (chain (flowOf flow (now (stack .entry))) (λ h s. handed t h s)) ⌝ }
-{
-    match flow {
-        Moved::Goes(h, d) => hand(stack, t, h, d),
-        Moved::Ends => Moved::Bad,
-        Moved::Bad => Moved::Bad,
-    }
-}
-
 fn op_call(
     code: &[u8],
     bodies: &[u32],
@@ -384,7 +332,11 @@ fn op_call(
     let q = body_at(code, bodies, b);
     let n = words::wide::byte_at(code, q + PARAMETER_COUNT_AT);
     let f = take_types(code, q + BODY_BYTES, n, stack, holds, depth);
-    hand_after(stack, code[q + RESULT_AT], f)
+    let t = code[q + RESULT_AT];
+    if t == 0 {
+        return rebuilt(f);
+    }
+    push_after(stack, t, f)
 }
 
 // The stack must hold just a result of type t, or nothing where t is 0.
@@ -415,10 +367,7 @@ fn op_return(
     requires { ⌜ (Bodied (now code) (now bodies)) × (body < bodyCount (now code)) × (Stack (now stack) holds depth) ⌝ }
     ensures { λ r. ⌜ Moves (now (stack .entry)) r (opReturn (now (code .entry)) body a b holds (tops (now (stack .entry)) 0 depth)) ⌝ }
 {
-    if a != 0 {
-        return Moved::Bad;
-    }
-    if b != 0 {
+    if has_operands(a, b) {
         return Moved::Bad;
     }
     if body == 0 {
@@ -456,17 +405,19 @@ fn op_make(
     push_after(stack, class_type(a), f)
 }
 
-fn op_get_field(
+// A field is got, or put.
+fn op_field(
     code: &[u8],
     classes: &[u32],
     a: usize,
     b: usize,
+    puts: bool,
     stack: &mut [u8],
     holds: usize,
     depth: usize,
 ) -> Moved
     requires { ⌜ (Classed (now code) (now classes)) × (Stack (now stack) holds depth) ⌝ }
-    ensures { λ r. ⌜ Moves (now (stack .exit)) r (opGetField (now (code .entry)) a b holds (tops (now (stack .entry)) 0 depth)) ⌝ }
+    ensures { λ r. ⌜ Moves (now (stack .exit)) r (opField puts (now (code .entry)) a b holds (tops (now (stack .entry)) 0 depth)) ⌝ }
 {
     let n = words::wide::byte_at(code, CLASS_COUNT_AT);
     if n <= a {
@@ -477,48 +428,20 @@ fn op_get_field(
     if m <= b {
         return Moved::Bad;
     }
-    trade_one(
-        stack,
-        class_type(a),
-        code[q + CLASS_BYTES + b],
-        holds,
-        depth,
-    )
-}
-
-fn op_put_field(
-    code: &[u8],
-    classes: &[u32],
-    a: usize,
-    b: usize,
-    stack: &[u8],
-    holds: usize,
-    depth: usize,
-) -> Moved
-    requires { ⌜ (Classed (now code) (now classes)) × (Stack (now stack) holds depth) ⌝ }
-    ensures { λ r. ⌜ Moves (now (stack .entry)) r (opPutField (now (code .entry)) a b holds (tops (now (stack .entry)) 0 depth)) ⌝ }
-{
-    let n = words::wide::byte_at(code, CLASS_COUNT_AT);
-    if n <= a {
-        return Moved::Bad;
+    let t = code[q + CLASS_BYTES + b];
+    let u = class_type(a);
+    if puts {
+        let f = pop_type(stack, t, holds, depth);
+        return pop_after(stack, u, f);
     }
-    let q = class_at(code, classes, a);
-    let m = words::wide::byte_at(code, q + FIELD_COUNT_AT);
-    if m <= b {
-        return Moved::Bad;
-    }
-    let f = pop_type(stack, code[q + CLASS_BYTES + b], holds, depth);
-    pop_after(stack, class_type(a), f)
+    trade_one(stack, u, t, holds, depth)
 }
 
 fn op_set(a: usize, b: usize, stack: &[u8], holds: usize, depth: usize) -> Moved
     requires { ⌜ Stack (now stack) holds depth ⌝ }
     ensures { λ r. ⌜ Moves (now (stack .entry)) r (opSet a b holds (tops (now (stack .entry)) 0 depth)) ⌝ }
 {
-    if a != 0 {
-        return Moved::Bad;
-    }
-    if b != 0 {
+    if has_operands(a, b) {
         return Moved::Bad;
     }
     let f = pop_type(stack, TYPE_INTEGER, holds, depth);
@@ -529,10 +452,7 @@ fn op_fader(a: usize, b: usize, stack: &mut [u8], holds: usize, depth: usize) ->
     requires { ⌜ Stack (now stack) holds depth ⌝ }
     ensures { λ r. ⌜ Moves (now (stack .exit)) r (opFader a b holds (tops (now (stack .entry)) 0 depth)) ⌝ }
 {
-    if a != 0 {
-        return Moved::Bad;
-    }
-    if b != 0 {
+    if has_operands(a, b) {
         return Moved::Bad;
     }
     trade_one(stack, TYPE_INTEGER, TYPE_INTEGER, holds, depth)
@@ -558,10 +478,7 @@ fn op_release(a: usize, b: usize, stack: &[u8], holds: usize, depth: usize) -> M
     requires { ⌜ Stack (now stack) holds depth ⌝ }
     ensures { λ r. ⌜ Moves (now (stack .entry)) r (opRelease a b holds (tops (now (stack .entry)) 0 depth)) ⌝ }
 {
-    if a != 0 {
-        return Moved::Bad;
-    }
-    if b != 0 {
+    if has_operands(a, b) {
         return Moved::Bad;
     }
     if holds == 0 {
@@ -574,10 +491,7 @@ fn op_assert(a: usize, b: usize, stack: &[u8], holds: usize, depth: usize) -> Mo
     requires { ⌜ Stack (now stack) holds depth ⌝ }
     ensures { λ r. ⌜ Moves (now (stack .entry)) r (opAssert a b holds (tops (now (stack .entry)) 0 depth)) ⌝ }
 {
-    if a != 0 {
-        return Moved::Bad;
-    }
-    if b != 0 {
+    if has_operands(a, b) {
         return Moved::Bad;
     }
     pop_type(stack, TYPE_LOGICAL, holds, depth)
@@ -586,10 +500,7 @@ fn op_assert(a: usize, b: usize, stack: &[u8], holds: usize, depth: usize) -> Mo
 fn op_stop(a: usize, b: usize, stack: &[u8]) -> Moved
     ensures { λ r. ⌜ Moves (now (stack .entry)) r (opStop a b) ⌝ }
 {
-    if a != 0 {
-        return Moved::Bad;
-    }
-    if b != 0 {
+    if has_operands(a, b) {
         return Moved::Bad;
     }
     Moved::Ends
@@ -613,20 +524,20 @@ pub fn effect_of(
 {
     match op {
         wide::OP_END => op_end(body, a, b, stack, holds, depth),
-        wide::OP_INTEGER => op_integer(a, stack, holds, depth),
+        wide::OP_INTEGER => op_constant(a, TYPE_INTEGER, stack, holds, depth),
         wide::OP_LOGICAL => op_logical(a, b, stack, holds, depth),
-        wide::OP_BITS => op_bits(a, stack, holds, depth),
+        wide::OP_BITS => op_constant(a, TYPE_BITS, stack, holds, depth),
         wide::OP_NULL => op_null(code, a, b, stack, holds, depth),
-        wide::OP_LOAD => op_load(code, bodies, body, a, b, stack, holds, depth),
-        wide::OP_STORE => op_store(code, bodies, body, a, b, stack, holds, depth),
+        wide::OP_LOAD => op_cell(code, bodies, body, a, b, false, stack, holds, depth),
+        wide::OP_STORE => op_cell(code, bodies, body, a, b, true, stack, holds, depth),
         wide::OP_OPERATOR => op_operator(a, b, stack, holds, depth),
         wide::OP_GO => op_go(code, shapes, bodies, body, a, b, stack, holds, depth),
         wide::OP_UNLESS => op_unless(code, shapes, bodies, body, a, b, stack, holds, depth),
         wide::OP_CALL => op_call(code, bodies, a, b, stack, holds, depth),
         wide::OP_RETURN => op_return(code, bodies, body, a, b, stack, holds, depth),
         wide::OP_MAKE => op_make(code, classes, a, b, stack, holds, depth),
-        wide::OP_GET_FIELD => op_get_field(code, classes, a, b, stack, holds, depth),
-        wide::OP_PUT_FIELD => op_put_field(code, classes, a, b, stack, holds, depth),
+        wide::OP_GET_FIELD => op_field(code, classes, a, b, false, stack, holds, depth),
+        wide::OP_PUT_FIELD => op_field(code, classes, a, b, true, stack, holds, depth),
         wide::OP_SET => op_set(a, b, stack, holds, depth),
         wide::OP_FADER => op_fader(a, b, stack, holds, depth),
         wide::OP_HOLD => op_hold(a, b, stack, holds, depth),

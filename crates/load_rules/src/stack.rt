@@ -11,6 +11,18 @@ ghost use Rattle.load_places.specs.Search.{tops, alike};
 ghost use Rattle.load_places.specs.Rules.{push, pop, chain, takes, trade1, trade2, topOf, equals};
 ghost use Rattle.load_rules.specs.Moves.{flowOf, Fit, Moves, Stack};
 
+// The same value built anew. The answer of a function that is not inlined comes back through memory and is copied on with its padding, which stalls the walk at each
+// address: four times its time. So `onward` has two callers, and each builds its answer anew.
+pub fn rebuilt(flow: Moved) -> Moved
+    ensures { λ r. ⌜ r ≡ flow ⌝ }
+{
+    match flow {
+        Moved::Goes(h, d) => Moved::Goes(h, d),
+        Moved::Ends => Moved::Ends,
+        Moved::Bad => Moved::Bad,
+    }
+}
+
 pub fn push_type(stack: &mut [u8], t: u8, holds: usize, depth: usize) -> Moved
     requires { ⌜ Stack (now stack) holds depth ⌝ }
     ensures { λ r. ⌜ Moves (now (stack .exit)) r (push t holds (tops (now (stack .entry)) 0 depth)) ⌝ }

@@ -6,6 +6,7 @@ use crate::lookup::shape_at;
 use crate::ops::effect_of;
 use crate::stack::equal_shape;
 use crate::stack::load_types;
+use crate::stack::rebuilt;
 use formats::compiled::*;
 use formats::limits::*;
 use load_places::Moved;
@@ -205,18 +206,6 @@ fn onward(
         flow,
     );
     leave_to(code, shapes, bodies, body, address, stack, e)
-}
-
-// The same value built anew. The answer of a function that is not inlined comes back through memory and is copied on with its padding, which stalls the walk at each
-// address: four times its time. So `onward` has two callers, and each builds its answer anew.
-fn rebuilt(flow: Moved) -> Moved
-    ensures { λ r. ⌜ r ≡ flow ⌝ }
-{
-    match flow {
-        Moved::Goes(h, d) => Moved::Goes(h, d),
-        Moved::Ends => Moved::Ends,
-        Moved::Bad => Moved::Bad,
-    }
 }
 
 pub fn go_on(

@@ -24,9 +24,9 @@ returns-4 c = (
 
 returns-5 : tie.Need-returns-5
 returns-5 c = (
-  c .before .before .trade-alike .ensures .0 ∙ operates-both _ _ _ _
+  c .before .before .trade-own .ensures .0 ∙ operates-both _ _ _ _
       (c .before .before .before .before .before .before .before .before .before .top-of .ensures) (omega arith) (omega arith),
-  c .before .before .trade-alike .ensures .1,
+  c .before .before .trade-own .ensures .1,
 )
 
 returns-6 : tie.Need-returns-6
@@ -40,10 +40,10 @@ returns-8 c = (c .before .before .trade-one .ensures .0 ∙ operates-one _ _ _ (
 
 returns-9 : tie.Need-returns-9
 returns-9 c = (
-  c .before .before .trade-self .ensures .0 ∙ operates-not _ _ _ _
+  c .before .before .trade-own2 .ensures .0 ∙ operates-not _ _ _ _
       (c .before .before .before .before .before .before .before .before .before .before .before .before .before .top-of .ensures) (omega arith)
       (omega arith),
-  c .before .before .trade-self .ensures .1,
+  c .before .before .trade-own2 .ensures .1,
 )
 
 returns-10 : tie.Need-returns-10

@@ -1,8 +1,8 @@
--- `load_rules::walk::rebuilt` meets its contract. Assumes nothing.
+-- `load_rules::stack::rebuilt` meets its contract. Assumes nothing.
 use borrow.Author.Needs.{needs}
 use mathlib.Core.Path.{sym}
-use Rattle.load_rules.proofs.walk.rebuilt.Statement.{statement}
-use Rattle.load_rules.proofs.walk.rebuilt.Tie as tie
+use Rattle.load_rules.proofs.stack.rebuilt.Statement.{statement}
+use Rattle.load_rules.proofs.stack.rebuilt.Tie as tie
 
 returns : tie.Need-returns
 returns c = sym (c .before .flow .given .1)
