@@ -12,7 +12,7 @@ ghost use Rattle.load_places.specs.Search.{first};
 ghost use Rattle.load_places.specs.Records.{classes as classCount, count, classPlace, bodyPlace, codeBase, shapePlace, noMark, noType, badTypes, badHead, badClass};
 ghost use Rattle.load_places.specs.Records.{rises, bodyFits, badBody, badCode, shapeFits, badShape, readEnd, readRecords};
 ghost use Rattle.load_places.specs.Index.{Indexed, Placed};
-ghost use Rattle.load_records.specs.Answer.{readOf, Left, BaseIs, Passes};
+ghost use Rattle.load_records.specs.Answer.{typedFits, readOf, Left, BaseIs, Passes};
 
 // Whether the bytes a, b are not the mark x, y.
 fn unmarked(a: u8, b: u8, x: u8, y: u8) -> bool
@@ -90,25 +90,50 @@ pub fn bad_head(code: &[u8]) -> bool
     BODIES < code[BODY_COUNT_AT]
 }
 
+// Whether a record of that size with the mark x, y stands at the place, and after it as many types as its byte at `counts` says.
+fn typed_fits(
+    code: &[u8],
+    place: usize,
+    size: usize,
+    counts: usize,
+    x: u8,
+    y: u8,
+    classes: usize,
+) -> bool
+    requires { ⌜ (place < 4294967296) × (2 ≤ size) × (size < 256) × (counts < size) × (classes ≡ classCount (now code)) ⌝ }
+    ensures { λ r. ⌜ r ≡ typedFits (now (code .entry)) place size counts x y ⌝ }
+{
+    if no_mark(code, place, size, x, y) {
+        return false;
+    }
+    let types = words::wide::byte_at(code, place + counts);
+    if code.len() < place + size + types {
+        return false;
+    }
+    !bad_types(code, place + size, types, classes)
+}
+
 // Whether the class whose record stands at the place is bad.
 fn bad_class(code: &[u8], place: usize, classes: usize) -> bool
     requires { ⌜ (place < 4294967296) × (classes ≡ classCount (now code)) ⌝ }
     ensures { λ r. ⌜ ((k : ℕ) → place ≡ classPlace (now (code .entry)) k → r ≡ badClass (now (code .entry)) k) ⌝ }
 {
-    if no_mark(code, place, CLASS_BYTES, b'C', b'L') {
+    if !typed_fits(
+        code,
+        place,
+        CLASS_BYTES,
+        FIELD_COUNT_AT,
+        b'C',
+        b'L',
+        classes,
+    ) {
         return true;
     }
     let fields = words::wide::byte_at(code, place + FIELD_COUNT_AT);
     if fields < 1 {
         return true;
     }
-    if MAX_FIELDS < fields {
-        return true;
-    }
-    if code.len() < place + CLASS_BYTES + fields {
-        return true;
-    }
-    bad_types(code, place + CLASS_BYTES, fields, classes)
+    MAX_FIELDS < fields
 }
 
 // A result is none, 0, or a type.
@@ -126,20 +151,14 @@ fn body_fits(code: &[u8], place: usize, classes: usize, instructions: usize) -> 
     requires { ⌜ (place < 4294967296) × (classes ≡ classCount (now code)) × (instructions ≡ count (now code)) ⌝ }
     ensures { λ r. ⌜ r ≡ bodyFits (now (code .entry)) place ⌝ }
 {
-    if no_mark(code, place, BODY_BYTES, b'B', b'D') {
-        return false;
-    }
-    let cells = words::wide::byte_at(code, place + CELL_COUNT_AT);
-    if code.len() < place + BODY_BYTES + cells {
+    if !typed_fits(code, place, BODY_BYTES, CELL_COUNT_AT, b'B', b'D', classes) {
         return false;
     }
     if !result_fits(classes, words::wide::byte_at(code, place + RESULT_AT)) {
         return false;
     }
+    let cells = words::wide::byte_at(code, place + CELL_COUNT_AT);
     if cells < words::wide::byte_at(code, place + PARAMETER_COUNT_AT) {
-        return false;
-    }
-    if bad_types(code, place + BODY_BYTES, cells, classes) {
         return false;
     }
     words::wide::half_at(code, place + FIRST_AT) < instructions
@@ -159,14 +178,15 @@ fn shape_fits(code: &[u8], place: usize, classes: usize, instructions: usize) ->
     requires { ⌜ (place < 4294967296) × (classes ≡ classCount (now code)) × (instructions ≡ count (now code)) ⌝ }
     ensures { λ r. ⌜ r ≡ shapeFits (now (code .entry)) place ⌝ }
 {
-    if no_mark(code, place, SHAPE_BYTES, b'S', b'H') {
-        return false;
-    }
-    let depth = words::wide::byte_at(code, place + SHAPE_DEPTH_AT);
-    if code.len() < place + SHAPE_BYTES + depth {
-        return false;
-    }
-    if bad_types(code, place + SHAPE_BYTES, depth, classes) {
+    if !typed_fits(
+        code,
+        place,
+        SHAPE_BYTES,
+        SHAPE_DEPTH_AT,
+        b'S',
+        b'H',
+        classes,
+    ) {
         return false;
     }
     words::wide::half_at(code, place + SHAPE_ADDRESS_AT) < instructions
@@ -324,13 +344,15 @@ pub fn scan(
         return Records::Unread(1 + c.read);
     }
     let b = bodies_pass(code, bodies, c.end, class_count, instructions, body_count);
+    let before_bodies = 1 + class_count;
     if b.read < body_count {
-        return Records::Unread(1 + class_count + b.read);
+        return Records::Unread(before_bodies + b.read);
     }
     let base = b.end;
     let i = code_pass(code, base, instructions);
+    let before_code = before_bodies + body_count;
     if i < instructions {
-        return Records::Unread(1 + class_count + body_count + i);
+        return Records::Unread(before_code + i);
     }
     let s = shapes_pass(
         code,
@@ -340,13 +362,9 @@ pub fn scan(
         instructions,
         shape_count,
     );
+    let before_shapes = before_code + instructions;
     if s.read < shape_count {
-        return Records::Unread(1 + class_count + body_count + instructions + s.read);
+        return Records::Unread(before_shapes + s.read);
     }
-    read_end(
-        code,
-        s.end,
-        1 + class_count + body_count + instructions + shape_count,
-        base,
-    )
+    read_end(code, s.end, before_shapes + shape_count, base)
 }
