@@ -354,14 +354,8 @@ pub fn scan(
     if i < instructions {
         return Records::Unread(before_code + i);
     }
-    let s = shapes_pass(
-        code,
-        shapes,
-        base + CODE_BYTES * instructions,
-        class_count,
-        instructions,
-        shape_count,
-    );
+    let from = base + CODE_BYTES * instructions;
+    let s = shapes_pass(code, shapes, from, class_count, instructions, shape_count);
     let before_shapes = before_code + instructions;
     if s.read < shape_count {
         return Records::Unread(before_shapes + s.read);

@@ -171,28 +171,15 @@ fn operate(a: usize, stack: &mut [u8], holds: usize, depth: usize) -> Moved
     ensures { λ r. ⌜ Moves (now (stack .exit)) r (operates a holds (tops (now (stack .entry)) 0 depth)) ⌝ }
 {
     let t = top_of(stack, depth);
+    let integer = TYPE_INTEGER;
     if a < 1 {
         return Moved::Bad;
     }
     if a < 6 {
-        return trade_two(
-            stack,
-            TYPE_INTEGER,
-            TYPE_INTEGER,
-            TYPE_INTEGER,
-            holds,
-            depth,
-        );
+        return trade_two(stack, integer, integer, integer, holds, depth);
     }
     if a < 10 {
-        return trade_two(
-            stack,
-            TYPE_INTEGER,
-            TYPE_INTEGER,
-            TYPE_LOGICAL,
-            holds,
-            depth,
-        );
+        return trade_two(stack, integer, integer, TYPE_LOGICAL, holds, depth);
     }
     if a < 12 {
         return trade_two(stack, t, t, TYPE_LOGICAL, holds, depth);
@@ -201,13 +188,13 @@ fn operate(a: usize, stack: &mut [u8], holds: usize, depth: usize) -> Moved
         return trade_own(stack, t, true, holds, depth);
     }
     if a < 16 {
-        return trade_two(stack, TYPE_BITS, TYPE_INTEGER, TYPE_BITS, holds, depth);
+        return trade_two(stack, TYPE_BITS, integer, TYPE_BITS, holds, depth);
     }
     if a < 20 {
         return Moved::Bad;
     }
     if a < 22 {
-        return trade_one(stack, TYPE_INTEGER, TYPE_INTEGER, holds, depth);
+        return trade_one(stack, integer, integer, holds, depth);
     }
     if a < 23 {
         return trade_own(stack, t, false, holds, depth);

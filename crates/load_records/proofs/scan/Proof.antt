@@ -87,8 +87,8 @@ code-pass-requires c κs =
     let at-half-at = at-bodies-pass .before .before .before .before .before .before .before .before in
     (law.code-start _ (at-bodies-pass .bodies-pass .ensures .0) (counts at-half-at .of-bodies) (c .if2 .left), at-bodies-pass .bodies-pass .ensures .1, small at-half-at .0)
 
-add-t24 : tie.Need-add-t24
-add-t24 c =
+add-t25 : tie.Need-add-t25
+add-t25 c =
     let at-half-at = c .before .before .before .before .before .before .before .before .before .before .before .before .before .before in
     omega (arith, small at-half-at, c .if3 .taken)
 
@@ -105,14 +105,14 @@ returns-3 c =
       tt,
     )
 
-mul-shapes-pass : tie.Need-mul-shapes-pass
-mul-shapes-pass c =
-    let at-half-at = c .before .before .before .before .before .before .before .before .before .before .before .before .before .before .before in
+mul-from : tie.Need-mul-from
+mul-from c =
+    let at-half-at = c .before .before .before .before .before .before .before .before .before .before .before .before .before .before in
     omega (arith, small at-half-at)
 
-add-shapes-pass : tie.Need-add-shapes-pass
-add-shapes-pass c =
-    let at-bodies-pass = c .before .before .before .before .before .before .before in
+add-from : tie.Need-add-from
+add-from c =
+    let at-bodies-pass = c .before .before .before .before .before .before in
     let at-half-at = at-bodies-pass .before .before .before .before .before .before .before .before in
     omega (arith, small at-half-at, at-bodies-pass .bodies-pass .ensures .1)
 
@@ -211,12 +211,12 @@ scan-spec =
     returns-2
     code-pass-requires
     (λ c. search needs)
-    add-t24
+    add-t25
     (λ c. search needs)
     (λ c. search needs)
     returns-3
-    mul-shapes-pass
-    add-shapes-pass
+    mul-from
+    add-from
     shapes-pass-requires
     add-before-shapes
     add-t29
