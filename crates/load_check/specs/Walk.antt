@@ -4,10 +4,12 @@
 -- ── what flows on, with the types in a lent stack; the walk's indexes ──
 pub use Rattle.load_rules.specs.Moves.{flowOf, Fit, Moves, Able}
 -- ── a step of the walk from the state that came in, its flag, the next address ──
-pub use Rattle.load_rules.proofs.Laws.{body-none, into-none, fit-goes, step-is, walk-flag, walk-on}
+pub use Rattle.load_rules.proofs.Walking.{body-none, into-none, walk-flag, walk-on}
+pub use Rattle.load_rules.proofs.Chains.{fit-goes}
+pub use Rattle.load_rules.proofs.Addresses.{step-is}
 -- ── no fault before an address; the first that has one ──
 pub use Rattle.load_records.proofs.Search.{first-hit, first-none, clean-none, clean-more}
 -- ── the verdict from the head, the records and the first fault ──
-pub use Rattle.load_rules.proofs.Laws.{judge-head, judge-unread, judge-broken, judge-passes}
+pub use Rattle.load_rules.proofs.Verdict.{judge-head, judge-unread, judge-broken, judge-passes}
 -- ── indexes that hold nothing yet, and those that `scan` filled ──
-pub use Rattle.load_rules.proofs.Laws.{zeros-long, zeros-index, able-ready}
+pub use Rattle.load_rules.proofs.Verdict.{zeros-long, zeros-index, able-ready}

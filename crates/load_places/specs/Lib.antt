@@ -2,4 +2,3 @@ pub mod Search
 pub mod Records
 pub mod Rules
 pub mod Index
-pub mod Computes

@@ -1,14 +1,12 @@
 -- What is known of records that read: what the loading rules and the machine may cite of a macro's bytes.
-use mathlib.Core.Path.{_≡_, refl, sym, _∙_}
+use mathlib.Core.Path.{_≡_, refl, sym}
 use mathlib.Core.Bool.{Bool, true, false, cond, not, _||_}
 use mathlib.Core.List.{List}
 use Prim.Native.Nat.{ℕ, zero, suc, _+_, _*_, _-_, _<_, _≤_}
-use native.Mathlib.Nat.{zero-add, suc-add}
 use native.Mathlib.Omega.{arith}
-use native.Mathlib.Numerals.{add-one}
 use lib.ListN.{length}
 use lib.Dec.{eqb}
-use borrow.Author.Tests.{eq-eqb, ne-eqb, ltb-true, ltb-false, eqb-true, eqb-false, not-false}
+use borrow.Author.Tests.{ltb-true, ltb-false, eqb-false, not-false}
 use Rattle.words.specs.Numbers.{byteAt, halfAt}
 use Rattle.words.specs.Laws.{Bytes}
 use Rattle.load_places.specs.Records.{classes, bodies, count, shapes, classPlace, bodyPlace, firstOf, codePlace, shapePlace, find, noMark, noType, badTypes, badHead}
@@ -105,14 +103,6 @@ kept : (a b : Bool) → cond a (not b) true ≡ false → (a ≡ true) × (b ≡
 kept true b e = (refl, not-false b e)
 kept false b e = unlike (sym e)
 
-rises-first : (k u a : ℕ) → rises k u a ≡ true → k ≡ 0 → a ≡ 0
-unfolding rises
-rises-first k u a e z = eqb-true a 0 (rw (eq-eqb k 0 z) at e)
-
-rises-on : (k u a : ℕ) → rises (suc k) u a ≡ true → u < a
-unfolding rises
-rises-on k u a e = ltb-true u a (rw (ne-eqb (suc k) 0 (λ z. omega arith)) at e)
-
 module _ (l : List ℕ) (W : Well l) where
   pub head-of : Head l
   head-of = head-known l (W .head)
@@ -131,125 +121,44 @@ module _ (l : List ℕ) (W : Well l) where
   unfolding badShape
   shape-of k h = shape-known l (shapePlace l k) (kept _ (eqb (find l k (halfAt l (shapePlace l k + 2))) 0) (W .of-shapes k h) .0)
 
-  -- the first addresses rise from 0
-  pub first-zero : firstOf l 0 ≡ 0
-  unfolding badBody
-  first-zero = rises-first 0 (firstOf l (0 - 1)) (firstOf l 0) (kept (bodyFits l (bodyPlace l 0)) _ (W .of-bodies 0 (head-of .some-bodies)) .1) refl
-
-  pub first-rises : (k : ℕ) → k + 1 < bodies l → firstOf l k < firstOf l (k + 1)
-  unfolding badBody
-  first-rises k h =
-      let q : suc k < bodies l = omega arith in
-      let z : suc k - 1 ≡ k = omega arith in
-      let e : rises (suc k) (firstOf l k) (firstOf l (suc k)) ≡ true =
-      rw z at (kept (bodyFits l (bodyPlace l (suc k))) (rises (suc k) (firstOf l (suc k - 1)) (firstOf l (suc k))) (W .of-bodies (suc k) q) .1) in
-      rw (add-one k) (rises-on k (firstOf l k) (firstOf l (suc k)) e)
-
 -- ── how far the places go ──
-module _ (l : List ℕ) where
-  pub class-low : (k : ℕ) → 8 ≤ classPlace l k
+module _ (l : List ℕ) (B : Bytes l) where
+  class-high : (k : ℕ) → classPlace l k ≤ 8 + 258 * k
   unfolding classPlace
-  class-low zero = omega arith
-  class-low (suc k) = omega (arith, class-low k)
+  class-high zero = omega arith
+  class-high (suc k) = omega (arith, class-high k, B (classPlace l k + 2))
 
-  pub body-low : (k : ℕ) → 8 ≤ bodyPlace l k
-  unfolding bodyPlace
-  body-low zero = class-low (classes l)
-  body-low (suc k) = omega (arith, body-low k)
-
-  pub shape-low : (k : ℕ) → 8 ≤ shapePlace l k
-  unfolding shapePlace
-  shape-low zero = omega (arith, body-low (bodies l))
-  shape-low (suc k) = omega (arith, shape-low k)
-
-  module _ (B : Bytes l) where
-    class-high : (k : ℕ) → classPlace l k ≤ 8 + 258 * k
-    unfolding classPlace
-    class-high zero = omega arith
-    class-high (suc k) = omega (arith, class-high k, B (classPlace l k + 2))
-
-    body-high : (k : ℕ) → bodyPlace l k ≤ 65798 + 262 * k
-    unfolding bodyPlace
-    body-high zero = omega (arith, class-high (classes l), B 2)
-    body-high (suc k) = omega (arith, body-high k, B (bodyPlace l k + 6))
-
-    shape-high : (k : ℕ) → shapePlace l k ≤ 656888 + 261 * k
-    unfolding shapePlace
-    shape-high zero = omega (arith, body-high (bodies l), B 3, B 4, B 5)
-    shape-high (suc k) = omega (arith, shape-high k, B (shapePlace l k + 5))
-
-    -- within a u32, and so within an index
-    pub class-below : (k : ℕ) → k ≤ classes l → classPlace l k < 4294967296
-    class-below k h = omega (arith, class-high k, B 2)
-
-    pub body-below : (k : ℕ) → k ≤ bodies l → bodyPlace l k < 4294967296
-    body-below k h = omega (arith, body-high k, B 3)
-
-    pub code-below : (i : ℕ) → i ≤ count l → codePlace l i < 4294967296
-    code-below i h = omega (arith, body-high (bodies l), B 3, B 4, B 5)
-
-    pub shape-below : (k : ℕ) → k ≤ shapes l → shapePlace l k < 4294967296
-    shape-below k h = omega (arith, shape-high k, B 6, B 7)
+  -- within a u32, and so within an index
+  pub class-below : (k : ℕ) → k ≤ classes l → classPlace l k < 4294967296
+  class-below k h = omega (arith, class-high k, B 2)
 
 -- ── where the shape of an address is found ──
--- p is where the shape of address x stands among the first k, or 0 where there is none
-pub data Found (l : List ℕ) (k x p : ℕ) : Type 0 where
-  none : p ≡ 0 → Found l k x p
-  some : (j : ℕ) → j < k → p ≡ shapePlace l j → halfAt l (p + 2) ≡ x → Found l k x p
+-- p is where one of the first k shapes stands, or 0
+data Found (l : List ℕ) (k p : ℕ) : Type 0 where
+  none : p ≡ 0 → Found l k p
+  some : (j : ℕ) → j < k → p ≡ shapePlace l j → Found l k p
 
-pub find-gives : (l : List ℕ) (k x : ℕ) → Found l k x (find l k x)
+find-gives : (l : List ℕ) (k x : ℕ) → Found l k (find l k x)
 unfolding find
 find-gives l zero x = none refl
-find-gives l (suc k) x = go (eqb (find l k x) 0) refl (eqb (halfAt l (shapePlace l k + 2)) x) refl (find-gives l k x)
+find-gives l (suc k) x = go (eqb (find l k x) 0) refl (eqb (halfAt l (shapePlace l k + 2)) x) (find-gives l k x)
   where
-    more : {p : ℕ} → Found l k x p → (p ≡ 0 → ⊥) → Found l (suc k) x p
+    more : {p : ℕ} → Found l k p → (p ≡ 0 → ⊥) → Found l (suc k) p
     more (none e) n = absurd (n e)
-    more (some j h e d) n = some j (omega arith) e d
+    more (some j h e) n = some j (omega arith) e
 
-    go : (a : Bool) → eqb (find l k x) 0 ≡ a → (b : Bool) → eqb (halfAt l (shapePlace l k + 2)) x ≡ b → Found l k x (find l k x)
-        → Found l (suc k) x (cond a (cond b (shapePlace l k) 0) (find l k x))
-    go true e true d F = some k (omega arith) refl (eqb-true _ _ d)
-    go true e false d F = none refl
-    go false e b d F = more F (eqb-false _ _ e)
+    go : (a : Bool) → eqb (find l k x) 0 ≡ a → (b : Bool) → Found l k (find l k x)
+        → Found l (suc k) (cond a (cond b (shapePlace l k) 0) (find l k x))
+    go true e true F = some k (omega arith) refl
+    go true e false F = none refl
+    go false e b F = more F (eqb-false _ _ e)
 
--- one that was found stays found
-find-stays : (l : List ℕ) (j k x : ℕ) → (find l k x ≡ 0 → ⊥) → find l (j + k) x ≡ find l k x
-unfolding find
-find-stays l zero k x n = rw (zero-add k)
-find-stays l (suc j) k x n = let e = find-stays l j k x n in rw (suc-add j k, e, ne-eqb (find l k x) 0 n)
-
-module _ (l : List ℕ) (W : Well l) where
-  pub find-shape : (x : ℕ) → (find l (shapes l) x ≡ 0 → ⊥) → Shape l (find l (shapes l) x)
-  find-shape x n = go (find-gives l (shapes l) x)
-    where
-      go : Found l (shapes l) x (find l (shapes l) x) → Shape l (find l (shapes l) x)
-      go (none e) = absurd (n e)
-      go (some j g e d) = rw e (shape-of l W j g)
-
-  -- each shape is found at its address
-  pub find-own : (k : ℕ) → k < shapes l → find l (shapes l) (halfAt l (shapePlace l k + 2)) ≡ shapePlace l k
-  unfolding find badShape
-  find-own k h =
-      let x = halfAt l (shapePlace l k + 2) in
-      let z : eqb (find l k x) 0 ≡ true = kept (shapeFits l (shapePlace l k)) (eqb (find l k x) 0) (W .of-shapes k h) .1 in
-      let e : find l (suc k) x ≡ shapePlace l k = rw (z, eq-eqb x x refl) in
-      let q : shapes l - suc k + suc k ≡ shapes l = omega arith in
-      let s = find-stays l (shapes l - suc k) (suc k) x (λ y. omega (arith, shape-low l k, sym e ∙ y)) in
-      (rw q at s) ∙ e
-
-pub find-address : (l : List ℕ) (k x : ℕ) → (find l k x ≡ 0 → ⊥) → halfAt l (find l k x + 2) ≡ x
-find-address l k x n = go (find-gives l k x)
+pub find-shape : (l : List ℕ) → Well l → (x : ℕ) → (find l (shapes l) x ≡ 0 → ⊥) → Shape l (find l (shapes l) x)
+find-shape l W x n = go (find-gives l (shapes l) x)
   where
-    go : Found l k x (find l k x) → halfAt l (find l k x + 2) ≡ x
+    go : Found l (shapes l) (find l (shapes l) x) → Shape l (find l (shapes l) x)
     go (none e) = absurd (n e)
-    go (some j g e d) = d
-
-pub find-below : (l : List ℕ) → Bytes l → (x : ℕ) → find l (shapes l) x < 4294967296
-find-below l B x = go (find-gives l (shapes l) x)
-  where
-    go : Found l (shapes l) x (find l (shapes l) x) → find l (shapes l) x < 4294967296
-    go (none e) = omega arith
-    go (some j g e d) = omega (arith, shape-below l B j (omega arith))
+    go (some j g e) = rw e (shape-of l W j g)
 
 -- ── for a caller of scan that was told where the instructions begin ──
 pub ready : (l ix bx cx : List ℕ) (r : Records) (base : ℕ) → r ≡ Reads base → Left l ix bx cx r → Ready l ix bx cx base

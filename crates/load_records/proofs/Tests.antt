@@ -6,10 +6,11 @@ use Prim.Native.Nat.{ℕ, _+_, _-_, _<_, _≤_}
 use native.Mathlib.Omega.{arith}
 use lib.ListN.{length}
 use lib.Dec.{ltb, leb, eqb}
-use borrow.Author.Tests.{eq-eqb, ne-eqb, lt-ltb, le-ltb, ltb-false}
+use borrow.Author.Tests.{eq-eqb, ne-eqb, lt-ltb, le-ltb, ltb-false, not-true}
 use Rattle.words.specs.Numbers.{byteAt, halfAt}
 use Rattle.load_places.specs.Search.{seek}
 use Rattle.load_places.specs.Records.{classes, count, classPlace, noMark, noType, badTypes, badHead, badClass, rises, bodyFits, shapeFits, readEnd, reads, unread}
+use Rattle.load_records.specs.Answer.{typedFits}
 
 -- ── a chain of tests that came out well passed each ──
 pub unlike : {A : Type 0} → false ≡ true → A
@@ -87,29 +88,57 @@ module _ (l : List ℕ) where
     unfolding badHead
     head-4 b c = simp (a, le-ltb _ _ b, le-ltb _ _ c)
 
--- ── a class ──
-module _ (l : List ℕ) (p k : ℕ) (e : p ≡ classPlace l k) where
-  pub class-1 : noMark l p 3 67 76 ≡ true → badClass l k ≡ true
-  unfolding badClass
-  class-1 a = rw (← e) (simp a)
+-- ── a record and the types that it counts ──
+module _ (l : List ℕ) (p n m x y : ℕ) where
+  pub typed-1 : noMark l p n x y ≡ true → typedFits l p n m x y ≡ false
+  unfolding typedFits
+  typed-1 a = simp a
 
-  module _ (a : noMark l p 3 67 76 ≡ false) where
+  module _ (a : noMark l p n x y ≡ false) where
+    pub typed-2 : length l < p + n + byteAt l (p + m) → typedFits l p n m x y ≡ false
+    unfolding typedFits
+    typed-2 b = simp (a, lt-ltb _ _ b)
+
+    pub typed-3 : p + n + byteAt l (p + m) ≤ length l → typedFits l p n m x y ≡ not (badTypes l (p + n) (byteAt l (p + m)))
+    unfolding typedFits
+    typed-3 b = simp (a, le-ltb _ _ b)
+
+  pub typed-parts : typedFits l p n m x y ≡ true
+      → (noMark l p n x y ≡ false) × (ltb (length l) (p + n + byteAt l (p + m)) ≡ false) × (badTypes l (p + n) (byteAt l (p + m)) ≡ false)
+  unfolding typedFits
+  typed-parts e = let a = no-false (noMark l p n x y) _ e in let b = no-false _ _ (a .1) in (a .0, b .0, not-true _ (b .1))
+
+  pub typed-room : typedFits l p n m x y ≡ true → p + n ≤ length l
+  typed-room e = room l p n x y (typed-parts e .0)
+
+-- ── a class ──
+flag : (x : Bool) → cond x true false ≡ x
+flag true = refl
+flag false = refl
+
+module _ (l : List ℕ) (p k : ℕ) (e : p ≡ classPlace l k) where
+  pub class-1 : typedFits l p 3 2 67 76 ≡ false → badClass l k ≡ true
+  unfolding badClass typedFits
+  class-1 t =
+      rw (← e) (go (noMark l p 3 67 76) (ltb (length l) (p + 3 + byteAt l (p + 2))) (badTypes l (p + 3) (byteAt l (p + 2)))
+      (ltb (byteAt l (p + 2)) 1) (ltb 8 (byteAt l (p + 2))) t)
+    where
+      go : (a b c d f : Bool) → cond a false (cond b false (not c)) ≡ false → cond a true (cond d true (cond f true (cond b true c))) ≡ true
+      go true b c d f q = refl
+      go false b c true f q = refl
+      go false b c false true q = refl
+      go false true c false false q = refl
+      go false false true false false q = refl
+      go false false false false false q = unlike (sym q)
+
+  module _ (t : typedFits l p 3 2 67 76 ≡ true) where
     pub class-2 : byteAt l (p + 2) < 1 → badClass l k ≡ true
     unfolding badClass
-    class-2 b = rw (← e) (simp (a, lt-ltb _ _ b))
+    class-2 b = let w = typed-parts l p 3 2 67 76 t in rw (← e) (simp (w .0, lt-ltb _ _ b))
 
-    pub class-3 : 1 ≤ byteAt l (p + 2) → 8 < byteAt l (p + 2) → badClass l k ≡ true
+    pub class-3 : 1 ≤ byteAt l (p + 2) → badClass l k ≡ ltb 8 (byteAt l (p + 2))
     unfolding badClass
-    class-3 b c = rw (← e) (simp (a, le-ltb _ _ b, lt-ltb _ _ c))
-
-    module _ (b : 1 ≤ byteAt l (p + 2)) (c : byteAt l (p + 2) ≤ 8) where
-      pub class-4 : length l < p + 3 + byteAt l (p + 2) → badClass l k ≡ true
-      unfolding badClass
-      class-4 d = rw (← e) (simp (a, le-ltb _ _ b, le-ltb _ _ c, lt-ltb _ _ d))
-
-      pub class-5 : p + 3 + byteAt l (p + 2) ≤ length l → badClass l k ≡ badTypes l (p + 3) (byteAt l (p + 2))
-      unfolding badClass
-      class-5 d = rw (← e) (simp (a, le-ltb _ _ b, le-ltb _ _ c, le-ltb _ _ d))
+    class-3 b = let w = typed-parts l p 3 2 67 76 t in rw (← e) (simp (w .0, w .1, w .2, le-ltb _ _ b) (flag (ltb 8 (byteAt l (p + 2)))))
 
 -- ── a body ──
 pub result-none : (c t : ℕ) → t ≡ 0 → eqb t 0 || not (noType c t) ≡ true
@@ -127,52 +156,51 @@ unfolding rises
 rises-more k u a e = simp (ne-eqb k 0 e)
 
 module _ (l : List ℕ) (p : ℕ) where
-  pub body-1 : noMark l p 7 66 68 ≡ true → bodyFits l p ≡ false
-  unfolding bodyFits
-  body-1 a = simp a
+  pub body-1 : typedFits l p 7 6 66 68 ≡ false → bodyFits l p ≡ false
+  unfolding bodyFits typedFits
+  body-1 t =
+      go (noMark l p 7 66 68) (ltb (length l) (p + 7 + byteAt l (p + 6))) (badTypes l (p + 7) (byteAt l (p + 6)))
+      (eqb (byteAt l (p + 5)) 0 || not (noType (classes l) (byteAt l (p + 5)))) (ltb (byteAt l (p + 6)) (byteAt l (p + 4))) t
+    where
+      go : (a b c d f : Bool) → cond a false (cond b false (not c)) ≡ false
+          → cond a false (cond b false (cond d (cond f false (cond c false (ltb (halfAt l (p + 2)) (count l)))) false)) ≡ false
+      go true b c d f q = refl
+      go false true c d f q = refl
+      go false false c false f q = refl
+      go false false c true true q = refl
+      go false false true true false q = refl
+      go false false false true false q = unlike (sym q)
 
-  module _ (a : noMark l p 7 66 68 ≡ false) where
-    pub body-2 : length l < p + 7 + byteAt l (p + 6) → bodyFits l p ≡ false
+  module _ (t : typedFits l p 7 6 66 68 ≡ true) where
+    pub body-2 : eqb (byteAt l (p + 5)) 0 || not (noType (classes l) (byteAt l (p + 5))) ≡ false → bodyFits l p ≡ false
     unfolding bodyFits
-    body-2 b = simp (a, lt-ltb _ _ b)
+    body-2 c = let w = typed-parts l p 7 6 66 68 t in simp (w .0, w .1, c)
 
-    module _ (b : p + 7 + byteAt l (p + 6) ≤ length l) where
-      pub body-3 : eqb (byteAt l (p + 5)) 0 || not (noType (classes l) (byteAt l (p + 5))) ≡ false → bodyFits l p ≡ false
+    module _ (c : eqb (byteAt l (p + 5)) 0 || not (noType (classes l) (byteAt l (p + 5))) ≡ true) where
+      pub body-3 : byteAt l (p + 6) < byteAt l (p + 4) → bodyFits l p ≡ false
       unfolding bodyFits
-      body-3 c = simp (a, le-ltb _ _ b, c)
+      body-3 d = let w = typed-parts l p 7 6 66 68 t in simp (w .0, w .1, c, lt-ltb _ _ d)
 
-      module _ (c : eqb (byteAt l (p + 5)) 0 || not (noType (classes l) (byteAt l (p + 5))) ≡ true) where
-        pub body-4 : byteAt l (p + 6) < byteAt l (p + 4) → bodyFits l p ≡ false
-        unfolding bodyFits
-        body-4 d = simp (a, le-ltb _ _ b, c, lt-ltb _ _ d)
-
-        pub body-5 : byteAt l (p + 4) ≤ byteAt l (p + 6) → badTypes l (p + 7) (byteAt l (p + 6)) ≡ true → bodyFits l p ≡ false
-        unfolding bodyFits
-        body-5 d e = simp (a, le-ltb _ _ b, c, le-ltb _ _ d, e)
-
-        pub body-6 : byteAt l (p + 4) ≤ byteAt l (p + 6) → badTypes l (p + 7) (byteAt l (p + 6)) ≡ false → bodyFits l p ≡ ltb (halfAt l (p + 2)) (count l)
-        unfolding bodyFits
-        body-6 d e = simp (a, le-ltb _ _ b, c, le-ltb _ _ d, e)
+      pub body-4 : byteAt l (p + 4) ≤ byteAt l (p + 6) → bodyFits l p ≡ ltb (halfAt l (p + 2)) (count l)
+      unfolding bodyFits
+      body-4 d = let w = typed-parts l p 7 6 66 68 t in simp (w .0, w .1, w .2, c, le-ltb _ _ d)
 
 -- ── a shape ──
 module _ (l : List ℕ) (p : ℕ) where
-  pub shape-1 : noMark l p 6 83 72 ≡ true → shapeFits l p ≡ false
+  pub shape-1 : typedFits l p 6 5 83 72 ≡ false → shapeFits l p ≡ false
+  unfolding shapeFits typedFits
+  shape-1 t = go (noMark l p 6 83 72) (ltb (length l) (p + 6 + byteAt l (p + 5))) (badTypes l (p + 6) (byteAt l (p + 5))) t
+    where
+      go : (a b c : Bool) → cond a false (cond b false (not c)) ≡ false
+          → cond a false (cond b false (cond c false (ltb (halfAt l (p + 2)) (count l)))) ≡ false
+      go true b c q = refl
+      go false true c q = refl
+      go false false true q = refl
+      go false false false q = unlike (sym q)
+
+  pub shape-2 : typedFits l p 6 5 83 72 ≡ true → shapeFits l p ≡ ltb (halfAt l (p + 2)) (count l)
   unfolding shapeFits
-  shape-1 a = simp a
-
-  module _ (a : noMark l p 6 83 72 ≡ false) where
-    pub shape-2 : length l < p + 6 + byteAt l (p + 5) → shapeFits l p ≡ false
-    unfolding shapeFits
-    shape-2 b = simp (a, lt-ltb _ _ b)
-
-    module _ (b : p + 6 + byteAt l (p + 5) ≤ length l) where
-      pub shape-3 : badTypes l (p + 6) (byteAt l (p + 5)) ≡ true → shapeFits l p ≡ false
-      unfolding shapeFits
-      shape-3 c = simp (a, le-ltb _ _ b, c)
-
-      pub shape-4 : badTypes l (p + 6) (byteAt l (p + 5)) ≡ false → shapeFits l p ≡ ltb (halfAt l (p + 2)) (count l)
-      unfolding shapeFits
-      shape-4 c = simp (a, le-ltb _ _ b, c)
+  shape-2 t = let w = typed-parts l p 6 5 83 72 t in simp (w .0, w .1, w .2)
 
 -- ── the end ──
 module _ (l : List ℕ) (p k : ℕ) where

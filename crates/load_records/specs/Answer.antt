@@ -1,10 +1,13 @@
 -- What the record pass answers and leaves behind, and what its inner passes do.
 use mathlib.Core.Path.{_≡_}
-use mathlib.Core.Bool.{Bool}
+use mathlib.Core.Bool.{Bool, false, cond, not}
 use mathlib.Core.List.{List}
-use Prim.Native.Nat.{ℕ, _≤_}
+use Prim.Native.Nat.{ℕ, _+_, _≤_}
+use lib.Dec.{ltb}
+use lib.ListN.{length}
+use Rattle.words.specs.Numbers.{byteAt}
 use Rattle.load_places.specs.Search.{first, Clean}
-use Rattle.load_places.specs.Records.{classes, bodies, count, shapes, Read, reads, unread}
+use Rattle.load_places.specs.Records.{classes, bodies, count, shapes, noMark, badTypes, Read, reads, unread}
 use Rattle.load_places.specs.Index.{Ready}
 use Rattle.load_places.specs.declared.Records.{Records}
 use Rattle.load_places.specs.declared.Records.the-variants.{Reads, Unread}
@@ -22,6 +25,13 @@ Left l ix bx cx (Unread k) = Unit {0}
 abbrev pub BaseIs : Records → ℕ → Type 0
 BaseIs (Reads b) base = b ≡ base
 BaseIs (Unread k) base = Unit {0}
+
+-- a record of n bytes with the mark x, y stands at p, and after it as many types as its byte at m says
+unfoldable pub typedFits : List ℕ → ℕ → ℕ → ℕ → ℕ → ℕ → Bool
+typedFits l p n m x y =
+    cond (noMark l p n x y) false
+    (cond (ltb (length l) (p + n + byteAt l (p + m))) false
+    (not (badTypes l (p + n) (byteAt l (p + m)))))
 
 -- a pass over n records has come to the k-th, at p, and has met no bad one
 pub record Upto (bad : ℕ → Bool) (place : ℕ → ℕ) (n k p : ℕ) : Type 0 where

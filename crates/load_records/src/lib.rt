@@ -9,10 +9,12 @@ ghost use Prim.Native.Nat.{ℕ, _+_, _*_, _-_, _≤_, _<_};
 ghost use lib.ListN.{length};
 ghost use lib.Dec.{eqb};
 ghost use Rattle.load_places.specs.Search.{first};
-ghost use Rattle.load_places.specs.Records.{classes, count, classPlace, bodyPlace, codeBase, shapePlace, noMark, noType, badTypes, badHead, badClass, rises, bodyFits, badBody, badCode, shapeFits, badShape, readEnd, readRecords};
+ghost use Rattle.load_places.specs.Records.{classes as classCount, count, classPlace, bodyPlace, codeBase, shapePlace, noMark, noType, badTypes, badHead, badClass};
+ghost use Rattle.load_places.specs.Records.{rises, bodyFits, badBody, badCode, shapeFits, badShape, readEnd, readRecords};
 ghost use Rattle.load_places.specs.Index.{Indexed, Placed};
-ghost use Rattle.load_records.specs.Answer.{readOf, Left, BaseIs, Passes};
+ghost use Rattle.load_records.specs.Answer.{typedFits, readOf, Left, BaseIs, Passes};
 
+// Whether the bytes a, b are not the mark x, y.
 fn unmarked(a: u8, b: u8, x: u8, y: u8) -> bool
     ensures { λ r. ⌜ r ≡ not (eqb a x && eqb b y) ⌝ }
 {
@@ -20,48 +22,52 @@ fn unmarked(a: u8, b: u8, x: u8, y: u8) -> bool
 }
 
 // A choice without a branch, for the loops that do not leave at the first that they look for.
-fn pick(t: bool, a: usize, b: usize) -> usize
-    ensures { λ r. ⌜ r ≡ cond t a b ⌝ }
+fn pick(test: bool, yes: usize, no: usize) -> usize
+    ensures { λ r. ⌜ r ≡ cond test yes no ⌝ }
 {
-    if t { a } else { b }
+    if test { yes } else { no }
 }
 
-// Whether no record of n bytes with the mark x, y stands at p.
-fn no_mark(l: &[u8], p: usize, n: usize, x: u8, y: u8) -> bool
-    requires { ⌜ (p < 4294967296) × (2 ≤ n) × (n < 256) ⌝ }
-    ensures { λ r. ⌜ r ≡ noMark (now (l .entry)) p n x y ⌝ }
+// Whether no record of that size with the mark x, y stands at the place.
+fn no_mark(code: &[u8], place: usize, size: usize, x: u8, y: u8) -> bool
+    requires { ⌜ (place < 4294967296) × (2 ≤ size) × (size < 256) ⌝ }
+    ensures { λ r. ⌜ r ≡ noMark (now (code .entry)) place size x y ⌝ }
 {
-    if l.len() < p + n {
+    if code.len() < place + size {
         return true;
     }
-    unmarked(l[p], l[p + 1], x, y)
+    unmarked(code[place], code[place + 1], x, y)
 }
 
-// Whether t is no type byte where there are c classes.
-pub fn no_type(c: usize, t: usize) -> bool
-    ensures { λ r. ⌜ r ≡ noType c t ⌝ }
+// Whether a byte is no type where there are so many classes.
+pub fn no_type(classes: usize, byte: usize) -> bool
+    ensures { λ r. ⌜ r ≡ noType classes byte ⌝ }
 {
-    if t < wide::TYPE_CLASS {
-        if t < wide::TYPE_INTEGER {
+    if byte < wide::TYPE_CLASS {
+        if byte < wide::TYPE_INTEGER {
             return true;
         }
-        return wide::TYPE_BITS < t;
+        return wide::TYPE_BITS < byte;
     }
-    c <= t - wide::TYPE_CLASS
+    classes <= byte - wide::TYPE_CLASS
 }
 
-// Whether one of the n bytes from p is no type. The loop does not leave at the first: it is short, and goes on without a branch.
-fn bad_types(l: &[u8], p: usize, n: usize, c: usize) -> bool
-    requires { ⌜ (p + n ≤ length (now l)) × (c ≡ classes (now l)) ⌝ }
-    ensures { λ r. ⌜ r ≡ badTypes (now (l .entry)) p n ⌝ }
+// Whether one of so many bytes from the place is no type. The loop does not leave at the first: it is short, and goes on without a branch.
+fn bad_types(code: &[u8], place: usize, size: usize, classes: usize) -> bool
+    requires { ⌜ (place + size ≤ length (now code)) × (classes ≡ classCount (now code)) ⌝ }
+    ensures { λ r. ⌜ r ≡ badTypes (now (code .entry)) place size ⌝ }
 {
-    let mut bad = n;
-    let mut i = n;
+    let mut bad = size;
+    let mut i = size;
     while 0 < i {
         i -= 1;
-        bad = pick(no_type(c, words::wide::byte_at(l, p + i)), i, bad);
+        bad = pick(
+            no_type(classes, words::wide::byte_at(code, place + i)),
+            i,
+            bad,
+        );
     }
-    bad < n
+    bad < size
 }
 
 // The counts' most, as bytes.
@@ -69,114 +75,134 @@ const CLASSES: u8 = MAX_CLASSES as u8;
 
 const BODIES: u8 = MAX_BODIES as u8;
 
-pub fn bad_head(l: &[u8]) -> bool
-    ensures { λ r. ⌜ r ≡ badHead (now (l .entry)) ⌝ }
+pub fn bad_head(code: &[u8]) -> bool
+    ensures { λ r. ⌜ r ≡ badHead (now (code .entry)) ⌝ }
 {
-    if no_mark(l, 0, HEAD_BYTES, b'H', b'D') {
+    if no_mark(code, 0, HEAD_BYTES, b'H', b'D') {
         return true;
     }
-    if CLASSES < l[CLASS_COUNT_AT] {
+    if CLASSES < code[CLASS_COUNT_AT] {
         return true;
     }
-    if l[BODY_COUNT_AT] < 1 {
+    if code[BODY_COUNT_AT] < 1 {
         return true;
     }
-    BODIES < l[BODY_COUNT_AT]
+    BODIES < code[BODY_COUNT_AT]
 }
 
-// Whether the class whose record stands at p is bad.
-fn bad_class(l: &[u8], p: usize, c: usize) -> bool
-    requires { ⌜ (p < 4294967296) × (c ≡ classes (now l)) ⌝ }
-    ensures { λ r. ⌜ ((k : ℕ) → p ≡ classPlace (now (l .entry)) k → r ≡ badClass (now (l .entry)) k) ⌝ }
+// Whether a record of that size with the mark x, y stands at the place, and after it as many types as its byte at `counts` says.
+fn typed_fits(
+    code: &[u8],
+    place: usize,
+    size: usize,
+    counts: usize,
+    x: u8,
+    y: u8,
+    classes: usize,
+) -> bool
+    requires { ⌜ (place < 4294967296) × (2 ≤ size) × (size < 256) × (counts < size) × (classes ≡ classCount (now code)) ⌝ }
+    ensures { λ r. ⌜ r ≡ typedFits (now (code .entry)) place size counts x y ⌝ }
 {
-    if no_mark(l, p, CLASS_BYTES, b'C', b'L') {
+    if no_mark(code, place, size, x, y) {
+        return false;
+    }
+    let types = words::wide::byte_at(code, place + counts);
+    if code.len() < place + size + types {
+        return false;
+    }
+    !bad_types(code, place + size, types, classes)
+}
+
+// Whether the class whose record stands at the place is bad.
+fn bad_class(code: &[u8], place: usize, classes: usize) -> bool
+    requires { ⌜ (place < 4294967296) × (classes ≡ classCount (now code)) ⌝ }
+    ensures { λ r. ⌜ ((k : ℕ) → place ≡ classPlace (now (code .entry)) k → r ≡ badClass (now (code .entry)) k) ⌝ }
+{
+    if !typed_fits(
+        code,
+        place,
+        CLASS_BYTES,
+        FIELD_COUNT_AT,
+        b'C',
+        b'L',
+        classes,
+    ) {
         return true;
     }
-    let fields = words::wide::byte_at(l, p + FIELD_COUNT_AT);
+    let fields = words::wide::byte_at(code, place + FIELD_COUNT_AT);
     if fields < 1 {
         return true;
     }
-    if MAX_FIELDS < fields {
-        return true;
-    }
-    if l.len() < p + CLASS_BYTES + fields {
-        return true;
-    }
-    bad_types(l, p + CLASS_BYTES, fields, c)
+    MAX_FIELDS < fields
 }
 
 // A result is none, 0, or a type.
-fn result_fits(c: usize, t: usize) -> bool
-    ensures { λ r. ⌜ r ≡ (eqb t 0 || not (noType c t)) ⌝ }
+fn result_fits(classes: usize, byte: usize) -> bool
+    ensures { λ r. ⌜ r ≡ (eqb byte 0 || not (noType classes byte)) ⌝ }
 {
-    if t == 0 {
+    if byte == 0 {
         return true;
     }
-    !no_type(c, t)
+    !no_type(classes, byte)
 }
 
 // A body's record, all but that its first address rises.
-fn body_fits(l: &[u8], p: usize, c: usize, n: usize) -> bool
-    requires { ⌜ (p < 4294967296) × (c ≡ classes (now l)) × (n ≡ count (now l)) ⌝ }
-    ensures { λ r. ⌜ r ≡ bodyFits (now (l .entry)) p ⌝ }
+fn body_fits(code: &[u8], place: usize, classes: usize, instructions: usize) -> bool
+    requires { ⌜ (place < 4294967296) × (classes ≡ classCount (now code)) × (instructions ≡ count (now code)) ⌝ }
+    ensures { λ r. ⌜ r ≡ bodyFits (now (code .entry)) place ⌝ }
 {
-    if no_mark(l, p, BODY_BYTES, b'B', b'D') {
+    if !typed_fits(code, place, BODY_BYTES, CELL_COUNT_AT, b'B', b'D', classes) {
         return false;
     }
-    let cells = words::wide::byte_at(l, p + CELL_COUNT_AT);
-    if l.len() < p + BODY_BYTES + cells {
+    if !result_fits(classes, words::wide::byte_at(code, place + RESULT_AT)) {
         return false;
     }
-    if !result_fits(c, words::wide::byte_at(l, p + RESULT_AT)) {
+    let cells = words::wide::byte_at(code, place + CELL_COUNT_AT);
+    if cells < words::wide::byte_at(code, place + PARAMETER_COUNT_AT) {
         return false;
     }
-    if cells < words::wide::byte_at(l, p + PARAMETER_COUNT_AT) {
-        return false;
-    }
-    if bad_types(l, p + BODY_BYTES, cells, c) {
-        return false;
-    }
-    words::wide::half_at(l, p + FIRST_AT) < n
+    words::wide::half_at(code, place + FIRST_AT) < instructions
 }
 
-fn rises_from(k: usize, u: usize, a: usize) -> bool
-    ensures { λ r. ⌜ r ≡ rises k u a ⌝ }
+fn rises_from(k: usize, last: usize, address: usize) -> bool
+    ensures { λ r. ⌜ r ≡ rises k last address ⌝ }
 {
     if k == 0 {
-        return a == 0;
+        return address == 0;
     }
-    u < a
+    last < address
 }
 
 // A shape's record, all but that it is the address's first.
-fn shape_fits(l: &[u8], p: usize, c: usize, n: usize) -> bool
-    requires { ⌜ (p < 4294967296) × (c ≡ classes (now l)) × (n ≡ count (now l)) ⌝ }
-    ensures { λ r. ⌜ r ≡ shapeFits (now (l .entry)) p ⌝ }
+fn shape_fits(code: &[u8], place: usize, classes: usize, instructions: usize) -> bool
+    requires { ⌜ (place < 4294967296) × (classes ≡ classCount (now code)) × (instructions ≡ count (now code)) ⌝ }
+    ensures { λ r. ⌜ r ≡ shapeFits (now (code .entry)) place ⌝ }
 {
-    if no_mark(l, p, SHAPE_BYTES, b'S', b'H') {
+    if !typed_fits(
+        code,
+        place,
+        SHAPE_BYTES,
+        SHAPE_DEPTH_AT,
+        b'S',
+        b'H',
+        classes,
+    ) {
         return false;
     }
-    let depth = words::wide::byte_at(l, p + SHAPE_DEPTH_AT);
-    if l.len() < p + SHAPE_BYTES + depth {
-        return false;
-    }
-    if bad_types(l, p + SHAPE_BYTES, depth, c) {
-        return false;
-    }
-    words::wide::half_at(l, p + SHAPE_ADDRESS_AT) < n
+    words::wide::half_at(code, place + SHAPE_ADDRESS_AT) < instructions
 }
 
-fn read_end(l: &[u8], p: usize, k: usize, base: usize) -> Records
-    requires { ⌜ (p < 4294967296) × (k < 4294967296) ⌝ }
-    ensures { λ r. ⌜ (readOf r ≡ readEnd (now (l .entry)) p k) × BaseIs r base ⌝ }
+fn read_end(code: &[u8], place: usize, index: usize, base: usize) -> Records
+    requires { ⌜ (place < 4294967296) × (index < 4294967296) ⌝ }
+    ensures { λ r. ⌜ (readOf r ≡ readEnd (now (code .entry)) place index) × BaseIs r base ⌝ }
 {
-    if no_mark(l, p, END_BYTES, b'Z', b'Z') {
-        return Records::Unread(k);
+    if no_mark(code, place, END_BYTES, b'Z', b'Z') {
+        return Records::Unread(index);
     }
-    if l.len() == p + END_BYTES {
+    if code.len() == place + END_BYTES {
         Records::Reads(base)
     } else {
-        Records::Unread(k + 1)
+        Records::Unread(index + 1)
     }
 }
 
@@ -186,124 +212,153 @@ struct Passed {
     end: usize,
 }
 
-// The classes; their places go to cx.
-fn classes_pass(l: &[u8], cx: &mut [u32], c: usize) -> Passed
-    requires { ⌜ (c ≡ classes (now l)) × (c ≤ 16) × (16 ≤ length (now cx)) ⌝ }
-    ensures { λ r. ⌜ Passes (badClass (now (l .entry))) (classPlace (now (l .entry))) c (r .read) (r .end) × (r .end < 8192) × Placed (classPlace (now (l .entry))) (now (cx .exit)) (r .read) ⌝ }
+// The classes; their places go to the index.
+fn classes_pass(code: &[u8], classes: &mut [u32], total: usize) -> Passed
+    requires { ⌜ (total ≡ classCount (now code)) × (total ≤ 16) × (16 ≤ length (now classes)) ⌝ }
+    ensures { λ r. ⌜ Passes (badClass (now (code .entry))) (classPlace (now (code .entry))) total (r .read) (r .end) × (r .end < 8192)
+        × Placed (classPlace (now (code .entry))) (now (classes .exit)) (r .read) ⌝ }
 {
     let mut k: usize = 0;
     let mut p: usize = HEAD_BYTES;
-    while k < c {
-        if bad_class(l, p, c) {
+    while k < total {
+        if bad_class(code, p, total) {
             return Passed { read: k, end: p };
         }
-        cx[k] = p as u32;
-        p = p + CLASS_BYTES + words::wide::byte_at(l, p + FIELD_COUNT_AT);
+        classes[k] = p as u32;
+        p = p + CLASS_BYTES + words::wide::byte_at(code, p + FIELD_COUNT_AT);
         k += 1;
     }
     Passed { read: k, end: p }
 }
 
-// The m bodies, from their place; their places go to bx.
-fn bodies_pass(l: &[u8], bx: &mut [u32], from: usize, c: usize, n: usize, m: usize) -> Passed
-    requires { ⌜ (from ≡ bodyPlace (now l) 0) × (from < 8192) × (c ≡ classes (now l)) × (n ≡ count (now l)) × (m ≤ 64) × (64 ≤ length (now bx)) ⌝ }
-    ensures { λ r. ⌜ Passes (badBody (now (l .entry))) (bodyPlace (now (l .entry))) m (r .read) (r .end) × (r .end < 65536) × Placed (bodyPlace (now (l .entry))) (now (bx .exit)) (r .read) ⌝ }
+// The bodies, from the first one's place; their places go to the index.
+fn bodies_pass(
+    code: &[u8],
+    bodies: &mut [u32],
+    from: usize,
+    classes: usize,
+    instructions: usize,
+    total: usize,
+) -> Passed
+    requires { ⌜ (from ≡ bodyPlace (now code) 0) × (from < 8192) × (classes ≡ classCount (now code)) × (instructions ≡ count (now code)) × (total ≤ 64) × (64 ≤ length (now bodies)) ⌝ }
+    ensures { λ r. ⌜ Passes (badBody (now (code .entry))) (bodyPlace (now (code .entry))) total (r .read) (r .end) × (r .end < 65536)
+        × Placed (bodyPlace (now (code .entry))) (now (bodies .exit)) (r .read) ⌝ }
 {
     let mut k: usize = 0;
     let mut p: usize = from;
     let mut last: usize = 0;
-    while k < m {
-        if !body_fits(l, p, c, n) {
+    while k < total {
+        if !body_fits(code, p, classes, instructions) {
             return Passed { read: k, end: p };
         }
-        let a = words::wide::half_at(l, p + FIRST_AT);
+        let a = words::wide::half_at(code, p + FIRST_AT);
         if !rises_from(k, last, a) {
             return Passed { read: k, end: p };
         }
-        bx[k] = p as u32;
+        bodies[k] = p as u32;
         last = a;
-        p = p + BODY_BYTES + words::wide::byte_at(l, p + CELL_COUNT_AT);
+        p = p + BODY_BYTES + words::wide::byte_at(code, p + CELL_COUNT_AT);
         k += 1;
     }
     Passed { read: k, end: p }
 }
 
-// How many of n instructions from base stand whole within len bytes.
-fn whole_code(len: usize, base: usize, n: usize) -> usize
-    ensures { λ r. ⌜ (r ≤ n) × (r < n → len < base + 8 * r + 8) × ((k : ℕ) → k < r → base + 8 * k + 8 ≤ len) ⌝ }
+// How many of the instructions, from base, stand whole within len bytes.
+fn whole_code(len: usize, base: usize, instructions: usize) -> usize
+    ensures { λ r. ⌜ (r ≤ instructions) × (r < instructions → len < base + 8 * r + 8) × ((k : ℕ) → k < r → base + 8 * k + 8 ≤ len) ⌝ }
 {
     if len < base {
         return 0;
     }
     let k = (len - base) / CODE_BYTES;
-    if k < n {
+    if k < instructions {
         return k;
     }
-    n
+    instructions
 }
 
-// The first of n instructions that does not read. Their marks are looked at without a branch, from the last to the first.
-fn code_pass(l: &[u8], base: usize, n: usize) -> usize
-    requires { ⌜ (base ≡ codeBase (now l)) × (base < 65536) × (n < 65536) ⌝ }
-    ensures { λ r. ⌜ r ≡ first (badCode (now (l .entry))) n ⌝ }
+// The first of the instructions that does not read. Their marks are looked at without a branch, from the last to the first.
+fn code_pass(code: &[u8], base: usize, instructions: usize) -> usize
+    requires { ⌜ (base ≡ codeBase (now code)) × (base < 65536) × (instructions < 65536) ⌝ }
+    ensures { λ r. ⌜ r ≡ first (badCode (now (code .entry))) instructions ⌝ }
 {
-    let whole = whole_code(l.len(), base, n);
+    let whole = whole_code(code.len(), base, instructions);
     let mut bad = whole;
     let mut i = whole;
     while 0 < i {
         i -= 1;
         let p = base + CODE_BYTES * i;
-        bad = pick(unmarked(l[p], l[p + 1], b'I', b'N'), i, bad);
+        bad = pick(unmarked(code[p], code[p + 1], b'I', b'N'), i, bad);
     }
     bad
 }
 
-// The m shapes, from their place; ix gets each one's place at its address.
-fn shapes_pass(l: &[u8], ix: &mut [u32], from: usize, c: usize, n: usize, m: usize) -> Passed
-    requires { ⌜ (from ≡ shapePlace (now l) 0) × (from < 1000000) × (c ≡ classes (now l)) × (n ≡ count (now l)) × (m < 65536) × (n ≤ length (now ix)) × (Indexed (now l) (now ix) n 0) ⌝ }
-    ensures { λ r. ⌜ Passes (badShape (now (l .entry))) (shapePlace (now (l .entry))) m (r .read) (r .end) × (r .end < 4294967296) × Indexed (now (l .entry)) (now (ix .exit)) n (r .read) ⌝ }
+// The shapes, from the first one's place; the index gets each one's place at its address.
+fn shapes_pass(
+    code: &[u8],
+    shapes: &mut [u32],
+    from: usize,
+    classes: usize,
+    instructions: usize,
+    total: usize,
+) -> Passed
+    requires { ⌜ (from ≡ shapePlace (now code) 0) × (from < 1000000) × (classes ≡ classCount (now code)) × (instructions ≡ count (now code))
+        × (total < 65536) × (instructions ≤ length (now shapes)) × (Indexed (now code) (now shapes) instructions 0) ⌝ }
+    ensures { λ r. ⌜ Passes (badShape (now (code .entry))) (shapePlace (now (code .entry))) total (r .read) (r .end) × (r .end < 4294967296)
+        × Indexed (now (code .entry)) (now (shapes .exit)) instructions (r .read) ⌝ }
 {
     let mut k: usize = 0;
     let mut p: usize = from;
-    while k < m {
-        if !shape_fits(l, p, c, n) {
+    while k < total {
+        if !shape_fits(code, p, classes, instructions) {
             return Passed { read: k, end: p };
         }
-        let a = words::wide::half_at(l, p + SHAPE_ADDRESS_AT);
-        if ix[a] != 0 {
+        let a = words::wide::half_at(code, p + SHAPE_ADDRESS_AT);
+        if shapes[a] != 0 {
             return Passed { read: k, end: p };
         }
-        ix[a] = p as u32;
-        p = p + SHAPE_BYTES + words::wide::byte_at(l, p + SHAPE_DEPTH_AT);
+        shapes[a] = p as u32;
+        p = p + SHAPE_BYTES + words::wide::byte_at(code, p + SHAPE_DEPTH_AT);
         k += 1;
     }
     Passed { read: k, end: p }
 }
 
-// The records after the head, of n instructions, into indexes that hold nothing yet.
-pub fn scan(l: &[u8], ix: &mut [u32], bx: &mut [u32], cx: &mut [u32], n: usize) -> Records
-    requires { ⌜ (badHead (now l) ≡ false) × (n ≡ count (now l)) × (n ≤ length (now ix)) × (64 ≤ length (now bx)) × (16 ≤ length (now cx)) × (Indexed (now l) (now ix) n 0) ⌝ }
-    ensures { λ r. ⌜ (readOf r ≡ readRecords (now (l .entry))) × Left (now (l .entry)) (now (ix .exit)) (now (bx .exit)) (now (cx .exit)) r ⌝ }
+// The records after the head, into indexes that hold nothing yet.
+pub fn scan(
+    code: &[u8],
+    shapes: &mut [u32],
+    bodies: &mut [u32],
+    classes: &mut [u32],
+    instructions: usize,
+) -> Records
+    requires { ⌜ (badHead (now code) ≡ false) × (instructions ≡ count (now code)) × (instructions ≤ length (now shapes)) × (64 ≤ length (now bodies))
+        × (16 ≤ length (now classes)) × (Indexed (now code) (now shapes) instructions 0) ⌝ }
+    ensures { λ r. ⌜ (readOf r ≡ readRecords (now (code .entry))) × Left (now (code .entry)) (now (shapes .exit)) (now (bodies .exit)) (now (classes .exit)) r ⌝ }
 {
-    let c = words::wide::byte_at(l, CLASS_COUNT_AT);
-    let m = words::wide::byte_at(l, BODY_COUNT_AT);
-    let t = words::wide::half_at(l, SHAPE_COUNT_AT);
-    let k = classes_pass(l, cx, c);
-    if k.read < c {
-        return Records::Unread(1 + k.read);
+    let class_count = words::wide::byte_at(code, CLASS_COUNT_AT);
+    let body_count = words::wide::byte_at(code, BODY_COUNT_AT);
+    let shape_count = words::wide::half_at(code, SHAPE_COUNT_AT);
+    let c = classes_pass(code, classes, class_count);
+    if c.read < class_count {
+        return Records::Unread(1 + c.read);
     }
-    let b = bodies_pass(l, bx, k.end, c, n, m);
-    if b.read < m {
-        return Records::Unread(1 + c + b.read);
+    let b = bodies_pass(code, bodies, c.end, class_count, instructions, body_count);
+    let before_bodies = 1 + class_count;
+    if b.read < body_count {
+        return Records::Unread(before_bodies + b.read);
     }
     let base = b.end;
-    let i = code_pass(l, base, n);
-    if i < n {
-        return Records::Unread(1 + c + m + i);
+    let i = code_pass(code, base, instructions);
+    let before_code = before_bodies + body_count;
+    if i < instructions {
+        return Records::Unread(before_code + i);
     }
-    let s = shapes_pass(l, ix, base + CODE_BYTES * n, c, n, t);
-    if s.read < t {
-        return Records::Unread(1 + c + m + n + s.read);
+    let from = base + CODE_BYTES * instructions;
+    let s = shapes_pass(code, shapes, from, class_count, instructions, shape_count);
+    let before_shapes = before_code + instructions;
+    if s.read < shape_count {
+        return Records::Unread(before_shapes + s.read);
     }
-    read_end(l, s.end, 1 + c + m + n + t, base)
+    read_end(code, s.end, before_shapes + shape_count, base)
 }

@@ -15,7 +15,6 @@ pub use walk::found_at;
 pub use walk::go_on;
 pub use walk::is_bad;
 pub use walk::next_body;
-pub use walk::state_at;
 ghost use mathlib.Core.Path.{_≡_};
 ghost use mathlib.Core.Bool.{false};
 ghost use Prim.Native.Nat.{_≤_};
@@ -25,19 +24,26 @@ ghost use Rattle.load_places.specs.Rules.{judge};
 ghost use Rattle.load_places.specs.Index.{Indexed};
 ghost use Rattle.load_rules.specs.Moves.{verdictOf};
 
-fn judge_in(l: &[u8], ix: &mut [u32], n: usize) -> Judged
-    requires { ⌜ (badHead (now l) ≡ false) × (n ≡ count (now l)) × (n ≤ length (now ix)) × (Indexed (now l) (now ix) n 0) ⌝ }
-    ensures { λ r. ⌜ verdictOf r ≡ judge (now (l .entry)) ⌝ }
+fn judge_in(code: &[u8], shapes: &mut [u32], instructions: usize) -> Judged
+    requires { ⌜ (badHead (now code) ≡ false) × (instructions ≡ count (now code)) × (instructions ≤ length (now shapes)) × (Indexed (now code) (now shapes) instructions 0) ⌝ }
+    ensures { λ r. ⌜ verdictOf r ≡ judge (now (code .entry)) ⌝ }
 {
-    let mut bx = [0u32; MAX_BODIES];
-    let mut cx = [0u32; MAX_CLASSES];
-    let mut st = [0u8; MAX_OPERANDS];
-    match load_records::scan(l, ix, &mut bx, &mut cx, n) {
+    let mut bodies = [0u32; MAX_BODIES];
+    let mut classes = [0u32; MAX_CLASSES];
+    let mut stack = [0u8; MAX_OPERANDS];
+    match load_records::scan(code, shapes, &mut bodies, &mut classes, instructions) {
         Records::Unread(k) => Judged::Refused(8, k),
         Records::Reads(base) => {
-            let w = walk::walk(l, ix, &bx, &cx, base, &mut st, n);
-            let at = w.at;
-            if at < n {
+            let at = walk::walk(
+                code,
+                shapes,
+                &bodies,
+                &classes,
+                base,
+                &mut stack,
+                instructions,
+            );
+            if at < instructions {
                 Judged::Refused(9, at)
             } else {
                 Judged::Passes
@@ -47,25 +53,25 @@ fn judge_in(l: &[u8], ix: &mut [u32], n: usize) -> Judged
 }
 
 // The index is cleared at each call, so that its size goes by the number of instructions.
-pub fn judge_places(l: &[u8]) -> Judged
-    ensures { λ r. ⌜ verdictOf r ≡ judge (now (l .entry)) ⌝ }
+pub fn judge_places(code: &[u8]) -> Judged
+    ensures { λ r. ⌜ verdictOf r ≡ judge (now (code .entry)) ⌝ }
 {
-    if load_records::bad_head(l) {
+    if load_records::bad_head(code) {
         return Judged::Refused(8, 0);
     }
-    let n = words::wide::half_at(l, CODE_COUNT_AT);
-    if n <= 64 {
-        let mut ix = [0u32; 64];
-        return judge_in(l, &mut ix, n);
+    let instructions = words::wide::half_at(code, CODE_COUNT_AT);
+    if instructions <= 64 {
+        let mut shapes = [0u32; 64];
+        return judge_in(code, &mut shapes, instructions);
     }
-    if n <= 1024 {
-        let mut ix = [0u32; 1024];
-        return judge_in(l, &mut ix, n);
+    if instructions <= 1024 {
+        let mut shapes = [0u32; 1024];
+        return judge_in(code, &mut shapes, instructions);
     }
-    if n <= 8192 {
-        let mut ix = [0u32; 8192];
-        return judge_in(l, &mut ix, n);
+    if instructions <= 8192 {
+        let mut shapes = [0u32; 8192];
+        return judge_in(code, &mut shapes, instructions);
     }
-    let mut ix = [0u32; 65536];
-    judge_in(l, &mut ix, n)
+    let mut shapes = [0u32; 65536];
+    judge_in(code, &mut shapes, instructions)
 }

@@ -4,7 +4,7 @@ use load_places::Instruction;
 ghost use mathlib.Core.Path.{_≡_};
 ghost use Prim.Native.Nat.{_+_, _<_};
 ghost use Rattle.words.specs.Numbers.{byteAt, wordAt};
-ghost use Rattle.load_places.specs.Records.{classes, bodies, count, codeBase, codePlace};
+ghost use Rattle.load_places.specs.Records.{classes as classCount, bodies as bodyCount, count, codeBase, codePlace};
 ghost use Rattle.load_places.specs.Rules.{endOf};
 ghost use Rattle.load_places.specs.Index.{Well};
 ghost use Rattle.load_rules.specs.Moves.{Bodied, Classed, Shaped, BodyAt, ClassAt, ShapeAt};
@@ -15,50 +15,52 @@ fn wide(x: u32) -> usize
     x as usize
 }
 
-pub fn body_at(l: &[u8], bx: &[u32], b: usize) -> usize
-    requires { ⌜ (Bodied (now l) (now bx)) × (b < bodies (now l)) ⌝ }
-    ensures { λ r. ⌜ BodyAt (now (l .entry)) b r ⌝ }
+pub fn body_at(code: &[u8], bodies: &[u32], body: usize) -> usize
+    requires { ⌜ (Bodied (now code) (now bodies)) × (body < bodyCount (now code)) ⌝ }
+    ensures { λ r. ⌜ BodyAt (now (code .entry)) body r ⌝ }
 {
-    wide(bx[b])
+    wide(bodies[body])
 }
 
-pub fn class_at(l: &[u8], cx: &[u32], a: usize) -> usize
-    requires { ⌜ (Classed (now l) (now cx)) × (a < classes (now l)) ⌝ }
-    ensures { λ r. ⌜ ClassAt (now (l .entry)) a r ⌝ }
+pub fn class_at(code: &[u8], classes: &[u32], class: usize) -> usize
+    requires { ⌜ (Classed (now code) (now classes)) × (class < classCount (now code)) ⌝ }
+    ensures { λ r. ⌜ ClassAt (now (code .entry)) class r ⌝ }
 {
-    wide(cx[a])
+    wide(classes[class])
 }
 
-pub fn shape_at(l: &[u8], ix: &[u32], x: usize) -> usize
-    requires { ⌜ Shaped (now l) (now ix) ⌝ }
-    ensures { λ r. ⌜ ShapeAt (now (l .entry)) x r ⌝ }
+pub fn shape_at(code: &[u8], shapes: &[u32], address: usize) -> usize
+    requires { ⌜ Shaped (now code) (now shapes) ⌝ }
+    ensures { λ r. ⌜ ShapeAt (now (code .entry)) address r ⌝ }
 {
-    let n = words::wide::half_at(l, CODE_COUNT_AT);
-    if n <= x {
+    let n = words::wide::half_at(code, CODE_COUNT_AT);
+    if n <= address {
         return 0;
     }
-    wide(ix[x])
+    wide(shapes[address])
 }
 
-pub fn end_of(l: &[u8], bx: &[u32], k: usize) -> usize
-    requires { ⌜ (Bodied (now l) (now bx)) × (k < bodies (now l)) ⌝ }
-    ensures { λ r. ⌜ r ≡ endOf (now (l .entry)) k ⌝ }
+pub fn end_of(code: &[u8], bodies: &[u32], body: usize) -> usize
+    requires { ⌜ (Bodied (now code) (now bodies)) × (body < bodyCount (now code)) ⌝ }
+    ensures { λ r. ⌜ r ≡ endOf (now (code .entry)) body ⌝ }
 {
-    let m = words::wide::byte_at(l, BODY_COUNT_AT);
-    if k + 1 < m {
-        let q = body_at(l, bx, k + 1);
-        return words::wide::half_at(l, q + FIRST_AT);
+    let m = words::wide::byte_at(code, BODY_COUNT_AT);
+    if body + 1 < m {
+        let q = body_at(code, bodies, body + 1);
+        return words::wide::half_at(code, q + FIRST_AT);
     }
-    words::wide::half_at(l, CODE_COUNT_AT)
+    words::wide::half_at(code, CODE_COUNT_AT)
 }
 
-pub fn instruction_at(l: &[u8], base: usize, i: usize) -> Instruction
-    requires { ⌜ (Well (now l)) × (base ≡ codeBase (now l)) × (i < count (now l)) ⌝ }
-    ensures { λ r. ⌜ (r .op ≡ byteAt (now (l .entry)) (codePlace (now (l .entry)) i + 2)) × (r .a ≡ byteAt (now (l .entry)) (codePlace (now (l .entry)) i + 3)) × (r .b ≡ wordAt (now (l .entry)) (codePlace (now (l .entry)) i + 4)) ⌝ }
+pub fn instruction_at(code: &[u8], base: usize, address: usize) -> Instruction
+    requires { ⌜ (Well (now code)) × (base ≡ codeBase (now code)) × (address < count (now code)) ⌝ }
+    ensures { λ r. ⌜ (r .op ≡ byteAt (now (code .entry)) (codePlace (now (code .entry)) address + 2))
+        × (r .a ≡ byteAt (now (code .entry)) (codePlace (now (code .entry)) address + 3))
+        × (r .b ≡ wordAt (now (code .entry)) (codePlace (now (code .entry)) address + 4)) ⌝ }
 {
-    let at = base + CODE_BYTES * i;
-    let op = words::wide::byte_at(l, at + CODE_OP_AT);
-    let a = words::wide::byte_at(l, at + CODE_A_AT);
-    let b = words::wide::word_at(l, at + CODE_B_AT);
+    let at = base + CODE_BYTES * address;
+    let op = words::wide::byte_at(code, at + CODE_OP_AT);
+    let a = words::wide::byte_at(code, at + CODE_A_AT);
+    let b = words::wide::word_at(code, at + CODE_B_AT);
     Instruction { op: op, a: a, b: b }
 }

@@ -8,6 +8,7 @@ use crate::stack::pop_after;
 use crate::stack::pop_type;
 use crate::stack::push_after;
 use crate::stack::push_type;
+use crate::stack::rebuilt;
 use crate::stack::take_types;
 use crate::stack::top_of;
 use crate::stack::trade_one;
@@ -17,49 +18,57 @@ use formats::limits::*;
 use formats::wide;
 use load_places::Moved;
 ghost use mathlib.Core.Path.{_≡_};
-ghost use mathlib.Core.Bool.{true, false};
+ghost use mathlib.Core.Bool.{true, false, cond};
 ghost use Prim.Native.Nat.{_+_, _≤_, _<_};
 ghost use lib.ListN.{length};
 ghost use Rattle.load_places.specs.Search.{tops};
-ghost use Rattle.load_places.specs.Records.{bodies};
-ghost use Rattle.load_places.specs.Rules.{need, chain, trade1, trade2, lands, opEnd, opInteger, opLogical, opBits, opNull, ownerBody, opLoad, opStore, twofold, operates, opOperator, opGo, opUnless, handed, opCall, justs, opReturn, opMake, opGetField, opPutField, opSet, opFader, opHold, opRelease, opAssert, opStop, effect};
+ghost use Rattle.load_places.specs.Records.{bodies as bodyCount};
+ghost use Rattle.load_places.specs.Rules.{need, push, unused, trade1, trade2, lands, opEnd, opLogical, opNull, ownerBody, twofold, operates};
+ghost use Rattle.load_places.specs.Rules.{opOperator, opGo, opUnless, opCall, justs, opReturn, opMake, opSet, opFader, opHold, opRelease};
+ghost use Rattle.load_places.specs.Rules.{opAssert, opStop, effect};
 ghost use Rattle.load_places.specs.Index.{Well};
-ghost use Rattle.load_rules.specs.Moves.{flowOf, Fit, Moves, Stack, Bodied, Classed, Shaped, Able};
+ghost use Rattle.load_rules.specs.Paired.{hasOperands, opCell, opField};
+ghost use Rattle.load_rules.specs.Moves.{Moves, Stack, Bodied, Classed, Shaped, Able};
 
-fn op_end(k: usize, a: usize, b: usize, st: &[u8], h: usize, d: usize) -> Moved
-    ensures { λ r. ⌜ Moves (now (st .entry)) r (opEnd k a b h (tops (now (st .entry)) 0 d)) ⌝ }
+// Whether an instruction that has no use for operands has one.
+fn has_operands(a: usize, b: usize) -> bool
+    ensures { λ r. ⌜ r ≡ hasOperands a b ⌝ }
 {
-    if a != 0 {
+    if a == 0 { b != 0 } else { true }
+}
+
+fn op_end(body: usize, a: usize, b: usize, stack: &[u8], holds: usize, depth: usize) -> Moved
+    ensures { λ r. ⌜ Moves (now (stack .entry)) r (opEnd body a b holds (tops (now (stack .entry)) 0 depth)) ⌝ }
+{
+    if has_operands(a, b) {
         return Moved::Bad;
     }
-    if b != 0 {
+    if body != 0 {
         return Moved::Bad;
     }
-    if k != 0 {
+    if holds != 0 {
         return Moved::Bad;
     }
-    if h != 0 {
-        return Moved::Bad;
-    }
-    if d != 0 {
+    if depth != 0 {
         return Moved::Bad;
     }
     Moved::Ends
 }
 
-fn op_integer(a: usize, st: &mut [u8], h: usize, d: usize) -> Moved
-    requires { ⌜ Stack (now st) h d ⌝ }
-    ensures { λ r. ⌜ Moves (now (st .exit)) r (opInteger a h (tops (now (st .entry)) 0 d)) ⌝ }
+// An integer or bits: t is the type.
+fn op_constant(a: usize, t: u8, stack: &mut [u8], holds: usize, depth: usize) -> Moved
+    requires { ⌜ Stack (now stack) holds depth ⌝ }
+    ensures { λ r. ⌜ Moves (now (stack .exit)) r (unused a (push t holds (tops (now (stack .entry)) 0 depth))) ⌝ }
 {
     if a != 0 {
         return Moved::Bad;
     }
-    push_type(st, TYPE_INTEGER, h, d)
+    push_type(stack, t, holds, depth)
 }
 
-fn op_logical(a: usize, b: usize, st: &mut [u8], h: usize, d: usize) -> Moved
-    requires { ⌜ Stack (now st) h d ⌝ }
-    ensures { λ r. ⌜ Moves (now (st .exit)) r (opLogical a b h (tops (now (st .entry)) 0 d)) ⌝ }
+fn op_logical(a: usize, b: usize, stack: &mut [u8], holds: usize, depth: usize) -> Moved
+    requires { ⌜ Stack (now stack) holds depth ⌝ }
+    ensures { λ r. ⌜ Moves (now (stack .exit)) r (opLogical a b holds (tops (now (stack .entry)) 0 depth)) ⌝ }
 {
     if a != 0 {
         return Moved::Bad;
@@ -67,99 +76,70 @@ fn op_logical(a: usize, b: usize, st: &mut [u8], h: usize, d: usize) -> Moved
     if 2 <= b {
         return Moved::Bad;
     }
-    push_type(st, TYPE_LOGICAL, h, d)
+    push_type(stack, TYPE_LOGICAL, holds, depth)
 }
 
-fn op_bits(a: usize, st: &mut [u8], h: usize, d: usize) -> Moved
-    requires { ⌜ Stack (now st) h d ⌝ }
-    ensures { λ r. ⌜ Moves (now (st .exit)) r (opBits a h (tops (now (st .entry)) 0 d)) ⌝ }
+// The type byte of references to records of a class.
+fn class_type(class: usize) -> u8
+    requires { ⌜ class < 16 ⌝ }
+    ensures { λ r. ⌜ r ≡ 16 + class ⌝ }
 {
-    if a != 0 {
-        return Moved::Bad;
-    }
-    push_type(st, TYPE_BITS, h, d)
+    (wide::TYPE_CLASS + class) as u8
 }
 
-// The type byte of references to records of class a.
-fn class_type(a: usize) -> u8
-    requires { ⌜ a < 16 ⌝ }
-    ensures { λ r. ⌜ r ≡ 16 + a ⌝ }
-{
-    (wide::TYPE_CLASS + a) as u8
-}
-
-fn op_null(l: &[u8], a: usize, b: usize, st: &mut [u8], h: usize, d: usize) -> Moved
-    requires { ⌜ (Well (now l)) × (Stack (now st) h d) ⌝ }
-    ensures { λ r. ⌜ Moves (now (st .exit)) r (opNull (now (l .entry)) a b h (tops (now (st .entry)) 0 d)) ⌝ }
+fn op_null(code: &[u8], a: usize, b: usize, stack: &mut [u8], holds: usize, depth: usize) -> Moved
+    requires { ⌜ (Well (now code)) × (Stack (now stack) holds depth) ⌝ }
+    ensures { λ r. ⌜ Moves (now (stack .exit)) r (opNull (now (code .entry)) a b holds (tops (now (stack .entry)) 0 depth)) ⌝ }
 {
     if b != 0 {
         return Moved::Bad;
     }
-    let n = words::wide::byte_at(l, CLASS_COUNT_AT);
+    let n = words::wide::byte_at(code, CLASS_COUNT_AT);
     if n <= a {
         return Moved::Bad;
     }
-    push_type(st, class_type(a), h, d)
+    push_type(stack, class_type(a), holds, depth)
 }
 
-// Whose cells an op means: a 0, those of its own body k; a 1, the root's.
-fn owner_body(k: usize, a: usize) -> usize
-    ensures { λ r. ⌜ r ≡ ownerBody k a ⌝ }
+// Whose cells an op means: a 0, those of its own body; a 1, the root's.
+fn owner_body(body: usize, a: usize) -> usize
+    ensures { λ r. ⌜ r ≡ ownerBody body a ⌝ }
 {
     if a == 0 {
-        return k;
+        return body;
     }
     0
 }
 
-fn op_load(
-    l: &[u8],
-    bx: &[u32],
-    k: usize,
+// A cell is loaded, or stored into.
+fn op_cell(
+    code: &[u8],
+    bodies: &[u32],
+    body: usize,
     a: usize,
     b: usize,
-    st: &mut [u8],
-    h: usize,
-    d: usize,
+    stores: bool,
+    stack: &mut [u8],
+    holds: usize,
+    depth: usize,
 ) -> Moved
-    requires { ⌜ (Bodied (now l) (now bx)) × (k < bodies (now l)) × (Stack (now st) h d) ⌝ }
-    ensures { λ r. ⌜ Moves (now (st .exit)) r (opLoad (now (l .entry)) k a b h (tops (now (st .entry)) 0 d)) ⌝ }
+    requires { ⌜ (Bodied (now code) (now bodies)) × (body < bodyCount (now code)) × (Stack (now stack) holds depth) ⌝ }
+    ensures { λ r. ⌜ Moves (now (stack .exit)) r (opCell stores (now (code .entry)) body a b holds (tops (now (stack .entry)) 0 depth)) ⌝ }
 {
     if 2 <= a {
         return Moved::Bad;
     }
-    let o = owner_body(k, a);
-    let q = body_at(l, bx, o);
-    let c = words::wide::byte_at(l, q + CELL_COUNT_AT);
+    let o = owner_body(body, a);
+    let q = body_at(code, bodies, o);
+    let c = words::wide::byte_at(code, q + CELL_COUNT_AT);
     if c <= b {
         return Moved::Bad;
     }
-    push_type(st, l[q + BODY_BYTES + b], h, d)
-}
-
-fn op_store(
-    l: &[u8],
-    bx: &[u32],
-    k: usize,
-    a: usize,
-    b: usize,
-    st: &[u8],
-    h: usize,
-    d: usize,
-) -> Moved
-    requires { ⌜ (Bodied (now l) (now bx)) × (k < bodies (now l)) × (Stack (now st) h d) ⌝ }
-    ensures { λ r. ⌜ Moves (now (st .entry)) r (opStore (now (l .entry)) k a b h (tops (now (st .entry)) 0 d)) ⌝ }
-{
-    if 2 <= a {
-        return Moved::Bad;
+    let t = code[q + BODY_BYTES + b];
+    if stores {
+        return pop_type(stack, t, holds, depth);
     }
-    let o = owner_body(k, a);
-    let q = body_at(l, bx, o);
-    let c = words::wide::byte_at(l, q + CELL_COUNT_AT);
-    if c <= b {
-        return Moved::Bad;
-    }
-    pop_type(st, l[q + BODY_BYTES + b], h, d)
+    push_type(stack, t, holds, depth)
 }
 
 fn is_twofold(t: u8) -> bool
@@ -172,121 +152,114 @@ fn is_twofold(t: u8) -> bool
 }
 
 // The operators on two logical values or two bits, and on one.
-fn trade_alike(st: &mut [u8], t: u8, h: usize, d: usize) -> Moved
-    requires { ⌜ Stack (now st) h d ⌝ }
-    ensures { λ r. ⌜ Moves (now (st .exit)) r (need (twofold t) (trade2 t t t h (tops (now (st .entry)) 0 d))) ⌝ }
+fn trade_own(stack: &mut [u8], t: u8, two: bool, holds: usize, depth: usize) -> Moved
+    requires { ⌜ Stack (now stack) holds depth ⌝ }
+    ensures { λ r. ⌜ Moves (now (stack .exit)) r (need (twofold t) (cond two (trade2 t t t holds (tops (now (stack .entry)) 0 depth))
+        (trade1 t t holds (tops (now (stack .entry)) 0 depth)))) ⌝ }
 {
     if is_twofold(t) {
-        trade_two(st, t, t, t, h, d)
-    } else {
-        Moved::Bad
+        if two {
+            return trade_two(stack, t, t, t, holds, depth);
+        }
+        return trade_one(stack, t, t, holds, depth);
     }
+    Moved::Bad
 }
 
-fn trade_self(st: &mut [u8], t: u8, h: usize, d: usize) -> Moved
-    requires { ⌜ Stack (now st) h d ⌝ }
-    ensures { λ r. ⌜ Moves (now (st .exit)) r (need (twofold t) (trade1 t t h (tops (now (st .entry)) 0 d))) ⌝ }
+fn operate(a: usize, stack: &mut [u8], holds: usize, depth: usize) -> Moved
+    requires { ⌜ Stack (now stack) holds depth ⌝ }
+    ensures { λ r. ⌜ Moves (now (stack .exit)) r (operates a holds (tops (now (stack .entry)) 0 depth)) ⌝ }
 {
-    if is_twofold(t) {
-        trade_one(st, t, t, h, d)
-    } else {
-        Moved::Bad
-    }
-}
-
-fn operate(a: usize, st: &mut [u8], h: usize, d: usize) -> Moved
-    requires { ⌜ Stack (now st) h d ⌝ }
-    ensures { λ r. ⌜ Moves (now (st .exit)) r (operates a h (tops (now (st .entry)) 0 d)) ⌝ }
-{
-    let t = top_of(st, d);
+    let t = top_of(stack, depth);
+    let integer = TYPE_INTEGER;
     if a < 1 {
         return Moved::Bad;
     }
     if a < 6 {
-        return trade_two(st, TYPE_INTEGER, TYPE_INTEGER, TYPE_INTEGER, h, d);
+        return trade_two(stack, integer, integer, integer, holds, depth);
     }
     if a < 10 {
-        return trade_two(st, TYPE_INTEGER, TYPE_INTEGER, TYPE_LOGICAL, h, d);
+        return trade_two(stack, integer, integer, TYPE_LOGICAL, holds, depth);
     }
     if a < 12 {
-        return trade_two(st, t, t, TYPE_LOGICAL, h, d);
+        return trade_two(stack, t, t, TYPE_LOGICAL, holds, depth);
     }
     if a < 14 {
-        return trade_alike(st, t, h, d);
+        return trade_own(stack, t, true, holds, depth);
     }
     if a < 16 {
-        return trade_two(st, TYPE_BITS, TYPE_INTEGER, TYPE_BITS, h, d);
+        return trade_two(stack, TYPE_BITS, integer, TYPE_BITS, holds, depth);
     }
     if a < 20 {
         return Moved::Bad;
     }
     if a < 22 {
-        return trade_one(st, TYPE_INTEGER, TYPE_INTEGER, h, d);
+        return trade_one(stack, integer, integer, holds, depth);
     }
     if a < 23 {
-        return trade_self(st, t, h, d);
+        return trade_own(stack, t, false, holds, depth);
     }
     Moved::Bad
 }
 
-fn op_operator(a: usize, b: usize, st: &mut [u8], h: usize, d: usize) -> Moved
-    requires { ⌜ Stack (now st) h d ⌝ }
-    ensures { λ r. ⌜ Moves (now (st .exit)) r (opOperator a b h (tops (now (st .entry)) 0 d)) ⌝ }
+fn op_operator(a: usize, b: usize, stack: &mut [u8], holds: usize, depth: usize) -> Moved
+    requires { ⌜ Stack (now stack) holds depth ⌝ }
+    ensures { λ r. ⌜ Moves (now (stack .exit)) r (opOperator a b holds (tops (now (stack .entry)) 0 depth)) ⌝ }
 {
     if b != 0 {
         return Moved::Bad;
     }
-    operate(a, st, h, d)
+    operate(a, stack, holds, depth)
 }
 
-// Whether a jump from body k to b finds its state in a shape there.
+// Whether a jump from a body to b finds its state in a shape there.
 fn lands_at(
-    l: &[u8],
-    ix: &[u32],
-    bx: &[u32],
-    k: usize,
+    code: &[u8],
+    shapes: &[u32],
+    bodies: &[u32],
+    body: usize,
     b: usize,
-    st: &[u8],
-    h: usize,
-    d: usize,
+    stack: &[u8],
+    holds: usize,
+    depth: usize,
 ) -> bool
-    requires { ⌜ (Shaped (now l) (now ix)) × (Bodied (now l) (now bx)) × (k < bodies (now l)) × (length (now st) ≡ 32) × (d ≤ 32) ⌝ }
-    ensures { λ r. ⌜ r ≡ lands (now (l .entry)) k b h (tops (now (st .entry)) 0 d) ⌝ }
+    requires { ⌜ (Shaped (now code) (now shapes)) × (Bodied (now code) (now bodies)) × (body < bodyCount (now code)) × (length (now stack) ≡ 32) × (depth ≤ 32) ⌝ }
+    ensures { λ r. ⌜ r ≡ lands (now (code .entry)) body b holds (tops (now (stack .entry)) 0 depth) ⌝ }
 {
-    let q = body_at(l, bx, k);
-    let f = words::wide::half_at(l, q + FIRST_AT);
+    let q = body_at(code, bodies, body);
+    let f = words::wide::half_at(code, q + FIRST_AT);
     if b < f {
         return false;
     }
-    let e = end_of(l, bx, k);
+    let e = end_of(code, bodies, body);
     if e <= b {
         return false;
     }
-    let p = shape_at(l, ix, b);
+    let p = shape_at(code, shapes, b);
     if p == 0 {
         return false;
     }
-    equal_shape(l, p, st, h, d)
+    equal_shape(code, p, stack, holds, depth)
 }
 
 fn op_go(
-    l: &[u8],
-    ix: &[u32],
-    bx: &[u32],
-    k: usize,
+    code: &[u8],
+    shapes: &[u32],
+    bodies: &[u32],
+    body: usize,
     a: usize,
     b: usize,
-    st: &[u8],
-    h: usize,
-    d: usize,
+    stack: &[u8],
+    holds: usize,
+    depth: usize,
 ) -> Moved
-    requires { ⌜ (Shaped (now l) (now ix)) × (Bodied (now l) (now bx)) × (k < bodies (now l)) × (Stack (now st) h d) ⌝ }
-    ensures { λ r. ⌜ Moves (now (st .entry)) r (opGo (now (l .entry)) k a b h (tops (now (st .entry)) 0 d)) ⌝ }
+    requires { ⌜ (Shaped (now code) (now shapes)) × (Bodied (now code) (now bodies)) × (body < bodyCount (now code)) × (Stack (now stack) holds depth) ⌝ }
+    ensures { λ r. ⌜ Moves (now (stack .entry)) r (opGo (now (code .entry)) body a b holds (tops (now (stack .entry)) 0 depth)) ⌝ }
 {
     if a != 0 {
         return Moved::Bad;
     }
-    if lands_at(l, ix, bx, k, b, st, h, d) {
+    if lands_at(code, shapes, bodies, body, b, stack, holds, depth) {
         Moved::Ends
     } else {
         Moved::Bad
@@ -294,24 +267,24 @@ fn op_go(
 }
 
 fn op_unless(
-    l: &[u8],
-    ix: &[u32],
-    bx: &[u32],
-    k: usize,
+    code: &[u8],
+    shapes: &[u32],
+    bodies: &[u32],
+    body: usize,
     a: usize,
     b: usize,
-    st: &[u8],
-    h: usize,
-    d: usize,
+    stack: &[u8],
+    holds: usize,
+    depth: usize,
 ) -> Moved
-    requires { ⌜ (Shaped (now l) (now ix)) × (Bodied (now l) (now bx)) × (k < bodies (now l)) × (Stack (now st) h d) ⌝ }
-    ensures { λ r. ⌜ Moves (now (st .entry)) r (opUnless (now (l .entry)) k a b h (tops (now (st .entry)) 0 d)) ⌝ }
+    requires { ⌜ (Shaped (now code) (now shapes)) × (Bodied (now code) (now bodies)) × (body < bodyCount (now code)) × (Stack (now stack) holds depth) ⌝ }
+    ensures { λ r. ⌜ Moves (now (stack .entry)) r (opUnless (now (code .entry)) body a b holds (tops (now (stack .entry)) 0 depth)) ⌝ }
 {
     if a != 0 {
         return Moved::Bad;
     }
-    match pop_type(st, TYPE_LOGICAL, h, d) {
-        Moved::Goes(g, e) => if lands_at(l, ix, bx, k, b, st, g, e) {
+    match pop_type(stack, TYPE_LOGICAL, holds, depth) {
+        Moved::Goes(g, e) => if lands_at(code, shapes, bodies, body, b, stack, g, e) {
             Moved::Goes(g, e)
         } else {
             Moved::Bad
@@ -321,31 +294,17 @@ fn op_unless(
     }
 }
 
-// A call's result, if there is one, goes onto the stack.
-fn hand(st: &mut [u8], t: u8, h: usize, d: usize) -> Moved
-    requires { ⌜ Stack (now st) h d ⌝ }
-    ensures { λ r. ⌜ Moves (now (st .exit)) r (handed t h (tops (now (st .entry)) 0 d)) ⌝ }
-{
-    if t == 0 {
-        return Moved::Goes(h, d);
-    }
-    push_type(st, t, h, d)
-}
-
-fn hand_after(st: &mut [u8], t: u8, f: Moved) -> Moved
-    requires { ⌜ (length (now st) ≡ 32) × (Fit f) ⌝ }
-    ensures { λ r. ⌜ Moves (now (st .exit)) r (chain (flowOf f (now (st .entry))) (λ h s. handed t h s)) ⌝ }
-{
-    match f {
-        Moved::Goes(h, d) => hand(st, t, h, d),
-        Moved::Ends => Moved::Bad,
-        Moved::Bad => Moved::Bad,
-    }
-}
-
-fn op_call(l: &[u8], bx: &[u32], a: usize, b: usize, st: &mut [u8], h: usize, d: usize) -> Moved
-    requires { ⌜ (Bodied (now l) (now bx)) × (Stack (now st) h d) ⌝ }
-    ensures { λ r. ⌜ Moves (now (st .exit)) r (opCall (now (l .entry)) a b h (tops (now (st .entry)) 0 d)) ⌝ }
+fn op_call(
+    code: &[u8],
+    bodies: &[u32],
+    a: usize,
+    b: usize,
+    stack: &mut [u8],
+    holds: usize,
+    depth: usize,
+) -> Moved
+    requires { ⌜ (Bodied (now code) (now bodies)) × (Stack (now stack) holds depth) ⌝ }
+    ensures { λ r. ⌜ Moves (now (stack .exit)) r (opCall (now (code .entry)) a b holds (tops (now (stack .entry)) 0 depth)) ⌝ }
 {
     if a != 0 {
         return Moved::Bad;
@@ -353,25 +312,29 @@ fn op_call(l: &[u8], bx: &[u32], a: usize, b: usize, st: &mut [u8], h: usize, d:
     if b == 0 {
         return Moved::Bad;
     }
-    let m = words::wide::byte_at(l, BODY_COUNT_AT);
+    let m = words::wide::byte_at(code, BODY_COUNT_AT);
     if m <= b {
         return Moved::Bad;
     }
-    let q = body_at(l, bx, b);
-    let n = words::wide::byte_at(l, q + PARAMETER_COUNT_AT);
-    let f = take_types(l, q + BODY_BYTES, n, st, h, d);
-    hand_after(st, l[q + RESULT_AT], f)
+    let q = body_at(code, bodies, b);
+    let n = words::wide::byte_at(code, q + PARAMETER_COUNT_AT);
+    let f = take_types(code, q + BODY_BYTES, n, stack, holds, depth);
+    let t = code[q + RESULT_AT];
+    if t == 0 {
+        return rebuilt(f);
+    }
+    push_after(stack, t, f)
 }
 
 // The stack must hold just a result of type t, or nothing where t is 0.
-fn just(t: u8, st: &[u8], h: usize, d: usize) -> Moved
-    requires { ⌜ Stack (now st) h d ⌝ }
-    ensures { λ r. ⌜ Moves (now (st .entry)) r (justs t h (tops (now (st .entry)) 0 d)) ⌝ }
+fn just(t: u8, stack: &[u8], holds: usize, depth: usize) -> Moved
+    requires { ⌜ Stack (now stack) holds depth ⌝ }
+    ensures { λ r. ⌜ Moves (now (stack .entry)) r (justs t holds (tops (now (stack .entry)) 0 depth)) ⌝ }
 {
     if t == 0 {
-        return if d != 0 { Moved::Bad } else { Moved::Ends };
+        return if depth != 0 { Moved::Bad } else { Moved::Ends };
     }
-    match pop_type(st, t, h, d) {
+    match pop_type(stack, t, holds, depth) {
         Moved::Goes(_, e) => if e != 0 { Moved::Bad } else { Moved::Ends },
         Moved::Ends => Moved::Bad,
         Moved::Bad => Moved::Bad,
@@ -379,122 +342,112 @@ fn just(t: u8, st: &[u8], h: usize, d: usize) -> Moved
 }
 
 fn op_return(
-    l: &[u8],
-    bx: &[u32],
-    k: usize,
+    code: &[u8],
+    bodies: &[u32],
+    body: usize,
     a: usize,
     b: usize,
-    st: &[u8],
-    h: usize,
-    d: usize,
+    stack: &[u8],
+    holds: usize,
+    depth: usize,
 ) -> Moved
-    requires { ⌜ (Bodied (now l) (now bx)) × (k < bodies (now l)) × (Stack (now st) h d) ⌝ }
-    ensures { λ r. ⌜ Moves (now (st .entry)) r (opReturn (now (l .entry)) k a b h (tops (now (st .entry)) 0 d)) ⌝ }
+    requires { ⌜ (Bodied (now code) (now bodies)) × (body < bodyCount (now code)) × (Stack (now stack) holds depth) ⌝ }
+    ensures { λ r. ⌜ Moves (now (stack .entry)) r (opReturn (now (code .entry)) body a b holds (tops (now (stack .entry)) 0 depth)) ⌝ }
 {
-    if a != 0 {
+    if has_operands(a, b) {
         return Moved::Bad;
     }
+    if body == 0 {
+        return Moved::Bad;
+    }
+    if holds != 0 { // a hold that is open would outlive its body
+        return Moved::Bad;
+    }
+    let q = body_at(code, bodies, body);
+    just(code[q + RESULT_AT], stack, holds, depth)
+}
+
+fn op_make(
+    code: &[u8],
+    classes: &[u32],
+    a: usize,
+    b: usize,
+    stack: &mut [u8],
+    holds: usize,
+    depth: usize,
+) -> Moved
+    requires { ⌜ (Classed (now code) (now classes)) × (Stack (now stack) holds depth) ⌝ }
+    ensures { λ r. ⌜ Moves (now (stack .exit)) r (opMake (now (code .entry)) a b holds (tops (now (stack .entry)) 0 depth)) ⌝ }
+{
     if b != 0 {
         return Moved::Bad;
     }
-    if k == 0 {
-        return Moved::Bad;
-    }
-    if h != 0 { // a hold that is open would outlive its body
-        return Moved::Bad;
-    }
-    let q = body_at(l, bx, k);
-    just(l[q + RESULT_AT], st, h, d)
-}
-
-fn op_make(l: &[u8], cx: &[u32], a: usize, b: usize, st: &mut [u8], h: usize, d: usize) -> Moved
-    requires { ⌜ (Classed (now l) (now cx)) × (Stack (now st) h d) ⌝ }
-    ensures { λ r. ⌜ Moves (now (st .exit)) r (opMake (now (l .entry)) a b h (tops (now (st .entry)) 0 d)) ⌝ }
-{
-    if b != 0 {
-        return Moved::Bad;
-    }
-    let n = words::wide::byte_at(l, CLASS_COUNT_AT);
+    let n = words::wide::byte_at(code, CLASS_COUNT_AT);
     if n <= a {
         return Moved::Bad;
     }
-    let q = class_at(l, cx, a);
-    let m = words::wide::byte_at(l, q + FIELD_COUNT_AT);
-    let f = take_types(l, q + CLASS_BYTES, m, st, h, d);
-    push_after(st, class_type(a), f)
+    let q = class_at(code, classes, a);
+    let m = words::wide::byte_at(code, q + FIELD_COUNT_AT);
+    let f = take_types(code, q + CLASS_BYTES, m, stack, holds, depth);
+    push_after(stack, class_type(a), f)
 }
 
-fn op_get_field(
-    l: &[u8],
-    cx: &[u32],
+// A field is got, or put.
+fn op_field(
+    code: &[u8],
+    classes: &[u32],
     a: usize,
     b: usize,
-    st: &mut [u8],
-    h: usize,
-    d: usize,
+    puts: bool,
+    stack: &mut [u8],
+    holds: usize,
+    depth: usize,
 ) -> Moved
-    requires { ⌜ (Classed (now l) (now cx)) × (Stack (now st) h d) ⌝ }
-    ensures { λ r. ⌜ Moves (now (st .exit)) r (opGetField (now (l .entry)) a b h (tops (now (st .entry)) 0 d)) ⌝ }
+    requires { ⌜ (Classed (now code) (now classes)) × (Stack (now stack) holds depth) ⌝ }
+    ensures { λ r. ⌜ Moves (now (stack .exit)) r (opField puts (now (code .entry)) a b holds (tops (now (stack .entry)) 0 depth)) ⌝ }
 {
-    let n = words::wide::byte_at(l, CLASS_COUNT_AT);
+    let n = words::wide::byte_at(code, CLASS_COUNT_AT);
     if n <= a {
         return Moved::Bad;
     }
-    let q = class_at(l, cx, a);
-    let m = words::wide::byte_at(l, q + FIELD_COUNT_AT);
+    let q = class_at(code, classes, a);
+    let m = words::wide::byte_at(code, q + FIELD_COUNT_AT);
     if m <= b {
         return Moved::Bad;
     }
-    trade_one(st, class_type(a), l[q + CLASS_BYTES + b], h, d)
+    let t = code[q + CLASS_BYTES + b];
+    let u = class_type(a);
+    if puts {
+        let f = pop_type(stack, t, holds, depth);
+        return pop_after(stack, u, f);
+    }
+    trade_one(stack, u, t, holds, depth)
 }
 
-fn op_put_field(l: &[u8], cx: &[u32], a: usize, b: usize, st: &[u8], h: usize, d: usize) -> Moved
-    requires { ⌜ (Classed (now l) (now cx)) × (Stack (now st) h d) ⌝ }
-    ensures { λ r. ⌜ Moves (now (st .entry)) r (opPutField (now (l .entry)) a b h (tops (now (st .entry)) 0 d)) ⌝ }
+fn op_set(a: usize, b: usize, stack: &[u8], holds: usize, depth: usize) -> Moved
+    requires { ⌜ Stack (now stack) holds depth ⌝ }
+    ensures { λ r. ⌜ Moves (now (stack .entry)) r (opSet a b holds (tops (now (stack .entry)) 0 depth)) ⌝ }
 {
-    let n = words::wide::byte_at(l, CLASS_COUNT_AT);
-    if n <= a {
+    if has_operands(a, b) {
         return Moved::Bad;
     }
-    let q = class_at(l, cx, a);
-    let m = words::wide::byte_at(l, q + FIELD_COUNT_AT);
-    if m <= b {
-        return Moved::Bad;
-    }
-    let f = pop_type(st, l[q + CLASS_BYTES + b], h, d);
-    pop_after(st, class_type(a), f)
+    let f = pop_type(stack, TYPE_INTEGER, holds, depth);
+    pop_after(stack, TYPE_INTEGER, f)
 }
 
-fn op_set(a: usize, b: usize, st: &[u8], h: usize, d: usize) -> Moved
-    requires { ⌜ Stack (now st) h d ⌝ }
-    ensures { λ r. ⌜ Moves (now (st .entry)) r (opSet a b h (tops (now (st .entry)) 0 d)) ⌝ }
+fn op_fader(a: usize, b: usize, stack: &mut [u8], holds: usize, depth: usize) -> Moved
+    requires { ⌜ Stack (now stack) holds depth ⌝ }
+    ensures { λ r. ⌜ Moves (now (stack .exit)) r (opFader a b holds (tops (now (stack .entry)) 0 depth)) ⌝ }
 {
-    if a != 0 {
+    if has_operands(a, b) {
         return Moved::Bad;
     }
-    if b != 0 {
-        return Moved::Bad;
-    }
-    let f = pop_type(st, TYPE_INTEGER, h, d);
-    pop_after(st, TYPE_INTEGER, f)
+    trade_one(stack, TYPE_INTEGER, TYPE_INTEGER, holds, depth)
 }
 
-fn op_fader(a: usize, b: usize, st: &mut [u8], h: usize, d: usize) -> Moved
-    requires { ⌜ Stack (now st) h d ⌝ }
-    ensures { λ r. ⌜ Moves (now (st .exit)) r (opFader a b h (tops (now (st .entry)) 0 d)) ⌝ }
-{
-    if a != 0 {
-        return Moved::Bad;
-    }
-    if b != 0 {
-        return Moved::Bad;
-    }
-    trade_one(st, TYPE_INTEGER, TYPE_INTEGER, h, d)
-}
-
-fn op_hold(a: usize, b: usize, st: &[u8], h: usize, d: usize) -> Moved
-    requires { ⌜ Stack (now st) h d ⌝ }
-    ensures { λ r. ⌜ Moves (now (st .entry)) r (opHold a b h (tops (now (st .entry)) 0 d)) ⌝ }
+fn op_hold(a: usize, b: usize, stack: &[u8], holds: usize, depth: usize) -> Moved
+    requires { ⌜ Stack (now stack) holds depth ⌝ }
+    ensures { λ r. ⌜ Moves (now (stack .entry)) r (opHold a b holds (tops (now (stack .entry)) 0 depth)) ⌝ }
 {
     if a != 0 {
         return Moved::Bad;
@@ -502,91 +455,82 @@ fn op_hold(a: usize, b: usize, st: &[u8], h: usize, d: usize) -> Moved
     if GROUPS <= b {
         return Moved::Bad;
     }
-    if MAX_HOLDS <= h {
+    if MAX_HOLDS <= holds {
         return Moved::Bad;
     }
-    Moved::Goes(h + 1, d)
+    Moved::Goes(holds + 1, depth)
 }
 
-fn op_release(a: usize, b: usize, st: &[u8], h: usize, d: usize) -> Moved
-    requires { ⌜ Stack (now st) h d ⌝ }
-    ensures { λ r. ⌜ Moves (now (st .entry)) r (opRelease a b h (tops (now (st .entry)) 0 d)) ⌝ }
+fn op_release(a: usize, b: usize, stack: &[u8], holds: usize, depth: usize) -> Moved
+    requires { ⌜ Stack (now stack) holds depth ⌝ }
+    ensures { λ r. ⌜ Moves (now (stack .entry)) r (opRelease a b holds (tops (now (stack .entry)) 0 depth)) ⌝ }
 {
-    if a != 0 {
+    if has_operands(a, b) {
         return Moved::Bad;
     }
-    if b != 0 {
+    if holds == 0 {
         return Moved::Bad;
     }
-    if h == 0 {
-        return Moved::Bad;
-    }
-    Moved::Goes(h - 1, d)
+    Moved::Goes(holds - 1, depth)
 }
 
-fn op_assert(a: usize, b: usize, st: &[u8], h: usize, d: usize) -> Moved
-    requires { ⌜ Stack (now st) h d ⌝ }
-    ensures { λ r. ⌜ Moves (now (st .entry)) r (opAssert a b h (tops (now (st .entry)) 0 d)) ⌝ }
+fn op_assert(a: usize, b: usize, stack: &[u8], holds: usize, depth: usize) -> Moved
+    requires { ⌜ Stack (now stack) holds depth ⌝ }
+    ensures { λ r. ⌜ Moves (now (stack .entry)) r (opAssert a b holds (tops (now (stack .entry)) 0 depth)) ⌝ }
 {
-    if a != 0 {
+    if has_operands(a, b) {
         return Moved::Bad;
     }
-    if b != 0 {
-        return Moved::Bad;
-    }
-    pop_type(st, TYPE_LOGICAL, h, d)
+    pop_type(stack, TYPE_LOGICAL, holds, depth)
 }
 
-fn op_stop(a: usize, b: usize, st: &[u8]) -> Moved
-    ensures { λ r. ⌜ Moves (now (st .entry)) r (opStop a b) ⌝ }
+fn op_stop(a: usize, b: usize, stack: &[u8]) -> Moved
+    ensures { λ r. ⌜ Moves (now (stack .entry)) r (opStop a b) ⌝ }
 {
-    if a != 0 {
-        return Moved::Bad;
-    }
-    if b != 0 {
+    if has_operands(a, b) {
         return Moved::Bad;
     }
     Moved::Ends
 }
 
 pub fn effect_of(
-    l: &[u8],
-    ix: &[u32],
-    bx: &[u32],
-    cx: &[u32],
-    k: usize,
-    o: usize,
+    code: &[u8],
+    shapes: &[u32],
+    bodies: &[u32],
+    classes: &[u32],
+    body: usize,
+    op: usize,
     a: usize,
     b: usize,
-    st: &mut [u8],
-    h: usize,
-    d: usize,
+    stack: &mut [u8],
+    holds: usize,
+    depth: usize,
 ) -> Moved
-    requires { ⌜ (Able (now l) (now ix) (now bx) (now cx)) × (k < bodies (now l)) × (Stack (now st) h d) ⌝ }
-    ensures { λ r. ⌜ Moves (now (st .exit)) r (effect (now (l .entry)) k o a b h (tops (now (st .entry)) 0 d)) ⌝ }
+    requires { ⌜ (Able (now code) (now shapes) (now bodies) (now classes)) × (body < bodyCount (now code)) × (Stack (now stack) holds depth) ⌝ }
+    ensures { λ r. ⌜ Moves (now (stack .exit)) r (effect (now (code .entry)) body op a b holds (tops (now (stack .entry)) 0 depth)) ⌝ }
 {
-    match o {
-        wide::OP_END => op_end(k, a, b, st, h, d),
-        wide::OP_INTEGER => op_integer(a, st, h, d),
-        wide::OP_LOGICAL => op_logical(a, b, st, h, d),
-        wide::OP_BITS => op_bits(a, st, h, d),
-        wide::OP_NULL => op_null(l, a, b, st, h, d),
-        wide::OP_LOAD => op_load(l, bx, k, a, b, st, h, d),
-        wide::OP_STORE => op_store(l, bx, k, a, b, st, h, d),
-        wide::OP_OPERATOR => op_operator(a, b, st, h, d),
-        wide::OP_GO => op_go(l, ix, bx, k, a, b, st, h, d),
-        wide::OP_UNLESS => op_unless(l, ix, bx, k, a, b, st, h, d),
-        wide::OP_CALL => op_call(l, bx, a, b, st, h, d),
-        wide::OP_RETURN => op_return(l, bx, k, a, b, st, h, d),
-        wide::OP_MAKE => op_make(l, cx, a, b, st, h, d),
-        wide::OP_GET_FIELD => op_get_field(l, cx, a, b, st, h, d),
-        wide::OP_PUT_FIELD => op_put_field(l, cx, a, b, st, h, d),
-        wide::OP_SET => op_set(a, b, st, h, d),
-        wide::OP_FADER => op_fader(a, b, st, h, d),
-        wide::OP_HOLD => op_hold(a, b, st, h, d),
-        wide::OP_RELEASE => op_release(a, b, st, h, d),
-        wide::OP_ASSERT => op_assert(a, b, st, h, d),
-        wide::OP_STOP => op_stop(a, b, st),
+    match op {
+        wide::OP_END => op_end(body, a, b, stack, holds, depth),
+        wide::OP_INTEGER => op_constant(a, TYPE_INTEGER, stack, holds, depth),
+        wide::OP_LOGICAL => op_logical(a, b, stack, holds, depth),
+        wide::OP_BITS => op_constant(a, TYPE_BITS, stack, holds, depth),
+        wide::OP_NULL => op_null(code, a, b, stack, holds, depth),
+        wide::OP_LOAD => op_cell(code, bodies, body, a, b, false, stack, holds, depth),
+        wide::OP_STORE => op_cell(code, bodies, body, a, b, true, stack, holds, depth),
+        wide::OP_OPERATOR => op_operator(a, b, stack, holds, depth),
+        wide::OP_GO => op_go(code, shapes, bodies, body, a, b, stack, holds, depth),
+        wide::OP_UNLESS => op_unless(code, shapes, bodies, body, a, b, stack, holds, depth),
+        wide::OP_CALL => op_call(code, bodies, a, b, stack, holds, depth),
+        wide::OP_RETURN => op_return(code, bodies, body, a, b, stack, holds, depth),
+        wide::OP_MAKE => op_make(code, classes, a, b, stack, holds, depth),
+        wide::OP_GET_FIELD => op_field(code, classes, a, b, false, stack, holds, depth),
+        wide::OP_PUT_FIELD => op_field(code, classes, a, b, true, stack, holds, depth),
+        wide::OP_SET => op_set(a, b, stack, holds, depth),
+        wide::OP_FADER => op_fader(a, b, stack, holds, depth),
+        wide::OP_HOLD => op_hold(a, b, stack, holds, depth),
+        wide::OP_RELEASE => op_release(a, b, stack, holds, depth),
+        wide::OP_ASSERT => op_assert(a, b, stack, holds, depth),
+        wide::OP_STOP => op_stop(a, b, stack),
         _ => Moved::Bad,
     }
 }

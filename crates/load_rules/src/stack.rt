@@ -11,90 +11,109 @@ ghost use Rattle.load_places.specs.Search.{tops, alike};
 ghost use Rattle.load_places.specs.Rules.{push, pop, chain, takes, trade1, trade2, topOf, equals};
 ghost use Rattle.load_rules.specs.Moves.{flowOf, Fit, Moves, Stack};
 
-pub fn push_type(st: &mut [u8], t: u8, h: usize, d: usize) -> Moved
-    requires { ⌜ Stack (now st) h d ⌝ }
-    ensures { λ r. ⌜ Moves (now (st .exit)) r (push t h (tops (now (st .entry)) 0 d)) ⌝ }
+// The same value built anew. The answer of a function that is not inlined comes back through memory and is copied on with its padding, which stalls the walk at each
+// address: four times its time. So `onward` has two callers, and each builds its answer anew.
+pub fn rebuilt(flow: Moved) -> Moved
+    ensures { λ r. ⌜ r ≡ flow ⌝ }
 {
-    if MAX_OPERANDS <= d {
-        return Moved::Bad;
+    match flow {
+        Moved::Goes(h, d) => Moved::Goes(h, d),
+        Moved::Ends => Moved::Ends,
+        Moved::Bad => Moved::Bad,
     }
-    st[d] = t;
-    Moved::Goes(h, d + 1)
 }
 
-pub fn pop_type(st: &[u8], t: u8, h: usize, d: usize) -> Moved
-    requires { ⌜ Stack (now st) h d ⌝ }
-    ensures { λ r. ⌜ Moves (now (st .entry)) r (pop t h (tops (now (st .entry)) 0 d)) ⌝ }
+pub fn push_type(stack: &mut [u8], t: u8, holds: usize, depth: usize) -> Moved
+    requires { ⌜ Stack (now stack) holds depth ⌝ }
+    ensures { λ r. ⌜ Moves (now (stack .exit)) r (push t holds (tops (now (stack .entry)) 0 depth)) ⌝ }
 {
-    if d == 0 {
+    if MAX_OPERANDS <= depth {
         return Moved::Bad;
     }
-    let e = d - 1;
-    if st[e] != t {
+    stack[depth] = t;
+    Moved::Goes(holds, depth + 1)
+}
+
+pub fn pop_type(stack: &[u8], t: u8, holds: usize, depth: usize) -> Moved
+    requires { ⌜ Stack (now stack) holds depth ⌝ }
+    ensures { λ r. ⌜ Moves (now (stack .entry)) r (pop t holds (tops (now (stack .entry)) 0 depth)) ⌝ }
+{
+    if depth == 0 {
         return Moved::Bad;
     }
-    Moved::Goes(h, e)
+    let e = depth - 1;
+    if stack[e] != t {
+        return Moved::Bad;
+    }
+    Moved::Goes(holds, e)
 }
 
 // The same after a move.
-pub fn push_after(st: &mut [u8], t: u8, f: Moved) -> Moved
-    requires { ⌜ (length (now st) ≡ 32) × (Fit f) ⌝ }
-    ensures { λ r. ⌜ Moves (now (st .exit)) r (chain (flowOf f (now (st .entry))) (λ h s. push t h s)) ⌝ }
+pub fn push_after(stack: &mut [u8], t: u8, flow: Moved) -> Moved
+    requires { ⌜ (length (now stack) ≡ 32) × (Fit flow) ⌝ }
+    ensures { λ r. ⌜ Moves (now (stack .exit)) r (chain (flowOf flow (now (stack .entry))) (λ h s. push t h s)) ⌝ }
 {
-    match f {
-        Moved::Goes(h, d) => push_type(st, t, h, d),
+    match flow {
+        Moved::Goes(h, d) => push_type(stack, t, h, d),
         Moved::Ends => Moved::Bad,
         Moved::Bad => Moved::Bad,
     }
 }
 
-pub fn pop_after(st: &[u8], t: u8, f: Moved) -> Moved
-    requires { ⌜ (length (now st) ≡ 32) × (Fit f) ⌝ }
-    ensures { λ r. ⌜ Moves (now (st .entry)) r (chain (flowOf f (now (st .entry))) (λ h s. pop t h s)) ⌝ }
+pub fn pop_after(stack: &[u8], t: u8, flow: Moved) -> Moved
+    requires { ⌜ (length (now stack) ≡ 32) × (Fit flow) ⌝ }
+    ensures { λ r. ⌜ Moves (now (stack .entry)) r (chain (flowOf flow (now (stack .entry))) (λ h s. pop t h s)) ⌝ }
 {
-    match f {
-        Moved::Goes(h, d) => pop_type(st, t, h, d),
+    match flow {
+        Moved::Goes(h, d) => pop_type(stack, t, h, d),
         Moved::Ends => Moved::Bad,
         Moved::Bad => Moved::Bad,
     }
 }
 
-pub fn trade_one(st: &mut [u8], t: u8, r: u8, h: usize, d: usize) -> Moved
-    requires { ⌜ Stack (now st) h d ⌝ }
-    ensures { λ m. ⌜ Moves (now (st .exit)) m (trade1 t r h (tops (now (st .entry)) 0 d)) ⌝ }
+pub fn trade_one(stack: &mut [u8], taken: u8, given: u8, holds: usize, depth: usize) -> Moved
+    requires { ⌜ Stack (now stack) holds depth ⌝ }
+    ensures { λ m. ⌜ Moves (now (stack .exit)) m (trade1 taken given holds (tops (now (stack .entry)) 0 depth)) ⌝ }
 {
-    let f = pop_type(st, t, h, d);
-    push_after(st, r, f)
+    let f = pop_type(stack, taken, holds, depth);
+    push_after(stack, given, f)
 }
 
-pub fn trade_two(st: &mut [u8], t: u8, u: u8, r: u8, h: usize, d: usize) -> Moved
-    requires { ⌜ Stack (now st) h d ⌝ }
-    ensures { λ m. ⌜ Moves (now (st .exit)) m (trade2 t u r h (tops (now (st .entry)) 0 d)) ⌝ }
+pub fn trade_two(
+    stack: &mut [u8],
+    under: u8,
+    top: u8,
+    given: u8,
+    holds: usize,
+    depth: usize,
+) -> Moved
+    requires { ⌜ Stack (now stack) holds depth ⌝ }
+    ensures { λ m. ⌜ Moves (now (stack .exit)) m (trade2 under top given holds (tops (now (stack .entry)) 0 depth)) ⌝ }
 {
-    let f = pop_type(st, u, h, d);
-    let g = pop_after(st, t, f);
-    push_after(st, r, g)
+    let f = pop_type(stack, top, holds, depth);
+    let g = pop_after(stack, under, f);
+    push_after(stack, given, g)
 }
 
-pub fn top_of(st: &[u8], d: usize) -> u8
-    requires { ⌜ (length (now st) ≡ 32) × (d ≤ 32) ⌝ }
-    ensures { λ r. ⌜ r ≡ topOf (tops (now (st .entry)) 0 d) ⌝ }
+pub fn top_of(stack: &[u8], depth: usize) -> u8
+    requires { ⌜ (length (now stack) ≡ 32) × (depth ≤ 32) ⌝ }
+    ensures { λ r. ⌜ r ≡ topOf (tops (now (stack .entry)) 0 depth) ⌝ }
 {
-    if d == 0 {
+    if depth == 0 {
         return 0;
     }
-    st[d - 1]
+    stack[depth - 1]
 }
 
 // From the top down, as the definition compares.
-fn same_types(l: &[u8], q: usize, st: &[u8], d: usize) -> bool
-    requires { ⌜ (q + d ≤ length (now l)) × (d ≤ length (now st)) ⌝ }
-    ensures { λ r. ⌜ r ≡ alike (tops (now (st .entry)) 0 d) (tops (now (l .entry)) q d) ⌝ }
+fn same_types(code: &[u8], place: usize, stack: &[u8], depth: usize) -> bool
+    requires { ⌜ (place + depth ≤ length (now code)) × (depth ≤ length (now stack)) ⌝ }
+    ensures { λ r. ⌜ r ≡ alike (tops (now (stack .entry)) 0 depth) (tops (now (code .entry)) place depth) ⌝ }
 {
-    let mut i: usize = d;
+    let mut i: usize = depth;
     while 0 < i {
         let j = i - 1;
-        if st[j] != l[q + j] {
+        if stack[j] != code[place + j] {
             return false;
         }
         i = j;
@@ -102,49 +121,56 @@ fn same_types(l: &[u8], q: usize, st: &[u8], d: usize) -> bool
     true
 }
 
-// Whether a state is that of the shape at p.
-pub fn equal_shape(l: &[u8], p: usize, st: &[u8], h: usize, d: usize) -> bool
-    requires { ⌜ (p + 6 + byteAt (now l) (p + 5) ≤ length (now l)) × (length (now st) ≡ 32) × (d ≤ 32) ⌝ }
-    ensures { λ r. ⌜ r ≡ equals (now (l .entry)) p h (tops (now (st .entry)) 0 d) ⌝ }
+// Whether a state is that of the shape at the place.
+pub fn equal_shape(code: &[u8], place: usize, stack: &[u8], holds: usize, depth: usize) -> bool
+    requires { ⌜ (place + 6 + byteAt (now code) (place + 5) ≤ length (now code)) × (length (now stack) ≡ 32) × (depth ≤ 32) ⌝ }
+    ensures { λ r. ⌜ r ≡ equals (now (code .entry)) place holds (tops (now (stack .entry)) 0 depth) ⌝ }
 {
-    let g = words::wide::byte_at(l, p + SHAPE_HOLDS_AT);
-    if h != g {
+    let g = words::wide::byte_at(code, place + SHAPE_HOLDS_AT);
+    if holds != g {
         return false;
     }
-    let e = words::wide::byte_at(l, p + SHAPE_DEPTH_AT);
-    if d != e {
+    let e = words::wide::byte_at(code, place + SHAPE_DEPTH_AT);
+    if depth != e {
         return false;
     }
-    same_types(l, p + SHAPE_BYTES, st, d)
+    same_types(code, place + SHAPE_BYTES, stack, depth)
 }
 
-pub fn load_types(l: &[u8], q: usize, st: &mut [u8], d: usize)
-    requires { ⌜ (q + d ≤ length (now l)) × (d ≤ length (now st)) ⌝ }
-    ensures { λ _. ⌜ tops (now (st .exit)) 0 d ≡ tops (now (l .entry)) q d ⌝ }
+pub fn load_types(code: &[u8], place: usize, stack: &mut [u8], depth: usize)
+    requires { ⌜ (place + depth ≤ length (now code)) × (depth ≤ length (now stack)) ⌝ }
+    ensures { λ _. ⌜ tops (now (stack .exit)) 0 depth ≡ tops (now (code .entry)) place depth ⌝ }
 {
     let mut i: usize = 0;
-    while i < d {
-        st[i] = l[q + i];
+    while i < depth {
+        stack[i] = code[place + i];
         i += 1;
     }
 }
 
-// Takes values of the m types at q off the stack, the last of them first.
-pub fn take_types(l: &[u8], q: usize, m: usize, st: &[u8], h: usize, d: usize) -> Moved
-    requires { ⌜ (q + m ≤ length (now l)) × (Stack (now st) h d) ⌝ }
-    ensures { λ r. ⌜ Moves (now (st .entry)) r (takes (now (l .entry)) q m h (tops (now (st .entry)) 0 d)) ⌝ }
+// Takes values of the types at the place off the stack, the last of them first.
+pub fn take_types(
+    code: &[u8],
+    place: usize,
+    number: usize,
+    stack: &[u8],
+    holds: usize,
+    depth: usize,
+) -> Moved
+    requires { ⌜ (place + number ≤ length (now code)) × (Stack (now stack) holds depth) ⌝ }
+    ensures { λ r. ⌜ Moves (now (stack .entry)) r (takes (now (code .entry)) place number holds (tops (now (stack .entry)) 0 depth)) ⌝ }
 {
-    let mut n: usize = m;
-    let mut e: usize = d;
+    let mut n: usize = number;
+    let mut e: usize = depth;
     while 0 < n {
         if e == 0 {
             return Moved::Bad;
         }
-        if st[e - 1] != l[q + (n - 1)] {
+        if stack[e - 1] != code[place + (n - 1)] {
             return Moved::Bad;
         }
         e = e - 1;
         n = n - 1;
     }
-    Moved::Goes(h, e)
+    Moved::Goes(holds, e)
 }

@@ -6,6 +6,7 @@ use crate::lookup::shape_at;
 use crate::ops::effect_of;
 use crate::stack::equal_shape;
 use crate::stack::load_types;
+use crate::stack::rebuilt;
 use formats::compiled::*;
 use formats::limits::*;
 use load_places::Moved;
@@ -14,48 +15,56 @@ ghost use mathlib.Core.Bool.{true, false};
 ghost use Prim.Native.Nat.{_+_, _≤_, _<_};
 ghost use lib.ListN.{length};
 ghost use Rattle.words.specs.Numbers.{byteAt, wordAt};
-ghost use Rattle.load_places.specs.Search.{first, Clean};
-ghost use Rattle.load_places.specs.Records.{bodies, count, codeBase, codePlace};
-ghost use Rattle.load_places.specs.Rules.{shapeAt, bodyOf, chain, effect, meet, leave, plain, opens, found, step, into, broken};
+ghost use Rattle.load_places.specs.Search.{first};
+ghost use Rattle.load_places.specs.Records.{bodies as bodyCount, count, codeBase, codePlace};
+ghost use Rattle.load_places.specs.Rules.{shapeAt, bodyOf, chain, effect, meet, leave, plain, opens, found, step, broken};
 ghost use Rattle.load_rules.specs.Moves.{flowOf, Fit, Moves, isBadMove, Bodied, Shaped, Able};
 
-fn meet_shape(l: &[u8], ix: &[u32], i: usize, st: &mut [u8], f: Moved) -> Moved
-    requires { ⌜ (Shaped (now l) (now ix)) × (length (now st) ≡ 32) × (Fit f) ⌝ }
-    ensures { λ r. ⌜ Moves (now (st .exit)) r (meet (now (l .entry)) (shapeAt (now (l .entry)) i) (flowOf f (now (st .entry)))) ⌝ }
+fn meet_shape(code: &[u8], shapes: &[u32], address: usize, stack: &mut [u8], flow: Moved) -> Moved
+    requires { ⌜ (Shaped (now code) (now shapes)) × (length (now stack) ≡ 32) × (Fit flow) ⌝ }
+    ensures { λ r. ⌜ Moves (now (stack .exit)) r (meet (now (code .entry)) (shapeAt (now (code .entry)) address) (flowOf flow (now (stack .entry)))) ⌝ }
 {
-    let p = shape_at(l, ix, i);
+    let p = shape_at(code, shapes, address);
     if p == 0 {
-        return f;
+        return flow;
     }
-    let h = words::wide::byte_at(l, p + SHAPE_HOLDS_AT);
+    let h = words::wide::byte_at(code, p + SHAPE_HOLDS_AT);
     if MAX_HOLDS < h {
         return Moved::Bad;
     }
-    let d = words::wide::byte_at(l, p + SHAPE_DEPTH_AT);
+    let d = words::wide::byte_at(code, p + SHAPE_DEPTH_AT);
     if MAX_OPERANDS < d {
         return Moved::Bad;
     }
-    match f {
-        Moved::Goes(g, e) => if equal_shape(l, p, st, g, e) {
+    match flow {
+        Moved::Goes(g, e) => if equal_shape(code, p, stack, g, e) {
             Moved::Goes(g, e)
         } else {
             Moved::Bad
         },
         Moved::Ends => {
-            load_types(l, p + SHAPE_BYTES, st, d);
+            load_types(code, p + SHAPE_BYTES, stack, d);
             Moved::Goes(h, d)
         }
         Moved::Bad => Moved::Bad,
     }
 }
 
-fn leave_to(l: &[u8], ix: &[u32], bx: &[u32], k: usize, i: usize, st: &[u8], f: Moved) -> Moved
-    requires { ⌜ (Shaped (now l) (now ix)) × (Bodied (now l) (now bx)) × (k < bodies (now l)) × (i < count (now l)) × (Fit f) ⌝ }
-    ensures { λ r. ⌜ Moves (now (st .entry)) r (leave (now (l .entry)) k i (flowOf f (now (st .entry)))) ⌝ }
+fn leave_to(
+    code: &[u8],
+    shapes: &[u32],
+    bodies: &[u32],
+    body: usize,
+    address: usize,
+    stack: &[u8],
+    flow: Moved,
+) -> Moved
+    requires { ⌜ (Shaped (now code) (now shapes)) × (Bodied (now code) (now bodies)) × (body < bodyCount (now code)) × (address < count (now code)) × (Fit flow) ⌝ }
+    ensures { λ r. ⌜ Moves (now (stack .entry)) r (leave (now (code .entry)) body address (flowOf flow (now (stack .entry)))) ⌝ }
 {
-    let j = i + 1;
-    let e = end_of(l, bx, k);
-    match f {
+    let j = address + 1;
+    let e = end_of(code, bodies, body);
+    match flow {
         Moved::Goes(h, d) => if j == e {
             Moved::Bad
         } else {
@@ -65,235 +74,241 @@ fn leave_to(l: &[u8], ix: &[u32], bx: &[u32], k: usize, i: usize, st: &[u8], f: 
             if j == e {
                 return Moved::Ends;
             }
-            let p = shape_at(l, ix, j);
+            let p = shape_at(code, shapes, j);
             if p == 0 { Moved::Bad } else { Moved::Ends }
         }
         Moved::Bad => Moved::Bad,
     }
 }
 
-fn is_plain(k: usize, x: usize, y: usize) -> bool
-    requires { ⌜ (x < 256) × (y < 256) ⌝ }
-    ensures { λ r. ⌜ r ≡ plain k x y ⌝ }
+fn is_plain(body: usize, parameters: usize, result: usize) -> bool
+    requires { ⌜ (parameters < 256) × (result < 256) ⌝ }
+    ensures { λ r. ⌜ r ≡ plain body parameters result ⌝ }
 {
-    if k != 0 {
+    if body != 0 {
         return true;
     }
-    x + y == 0
+    parameters + result == 0
 }
 
-fn open_body(l: &[u8], bx: &[u32], k: usize, i: usize, st: &[u8], f: Moved) -> Moved
-    requires { ⌜ (Bodied (now l) (now bx)) × (k < bodies (now l)) × (Fit f) ⌝ }
-    ensures { λ r. ⌜ Moves (now (st .entry)) r (opens (now (l .entry)) k i (flowOf f (now (st .entry)))) ⌝ }
+fn open_body(
+    code: &[u8],
+    bodies: &[u32],
+    body: usize,
+    address: usize,
+    stack: &[u8],
+    flow: Moved,
+) -> Moved
+    requires { ⌜ (Bodied (now code) (now bodies)) × (body < bodyCount (now code)) × (Fit flow) ⌝ }
+    ensures { λ r. ⌜ Moves (now (stack .entry)) r (opens (now (code .entry)) body address (flowOf flow (now (stack .entry)))) ⌝ }
 {
-    let q = body_at(l, bx, k);
-    let a = words::wide::half_at(l, q + FIRST_AT);
-    if a != i {
-        return f;
+    let q = body_at(code, bodies, body);
+    let a = words::wide::half_at(code, q + FIRST_AT);
+    if a != address {
+        return flow;
     }
-    let c = words::wide::byte_at(l, q + CELL_COUNT_AT);
+    let c = words::wide::byte_at(code, q + CELL_COUNT_AT);
     if MAX_CELLS < c {
         return Moved::Bad;
     }
-    let x = words::wide::byte_at(l, q + PARAMETER_COUNT_AT);
-    let y = words::wide::byte_at(l, q + RESULT_AT);
-    if is_plain(k, x, y) {
+    let x = words::wide::byte_at(code, q + PARAMETER_COUNT_AT);
+    let y = words::wide::byte_at(code, q + RESULT_AT);
+    if is_plain(body, x, y) {
         Moved::Goes(0, 0)
     } else {
         Moved::Bad
     }
 }
 
-// The state found at i, in body k, where f flows in.
+// The state found at an address of the body, where the flow comes in.
 pub fn found_at(
-    l: &[u8],
-    ix: &[u32],
-    bx: &[u32],
-    k: usize,
-    i: usize,
-    st: &mut [u8],
-    f: Moved,
+    code: &[u8],
+    shapes: &[u32],
+    bodies: &[u32],
+    body: usize,
+    address: usize,
+    stack: &mut [u8],
+    flow: Moved,
 ) -> Moved
-    requires { ⌜ (Shaped (now l) (now ix)) × (Bodied (now l) (now bx)) × (k < bodies (now l)) × (k ≡ bodyOf (now l) i) × (length (now st) ≡ 32) × (Fit f) ⌝ }
-    ensures { λ r. ⌜ Moves (now (st .exit)) r (found (now (l .entry)) i (flowOf f (now (st .entry)))) ⌝ }
+    requires { ⌜ (Shaped (now code) (now shapes)) × (Bodied (now code) (now bodies)) × (body < bodyCount (now code)) × (body ≡ bodyOf (now code) address) × (length (now stack) ≡ 32) × (Fit flow) ⌝ }
+    ensures { λ r. ⌜ Moves (now (stack .exit)) r (found (now (code .entry)) address (flowOf flow (now (stack .entry)))) ⌝ }
 {
-    let o = open_body(l, bx, k, i, st, f);
-    meet_shape(l, ix, i, st, o)
+    let o = open_body(code, bodies, body, address, stack, flow);
+    meet_shape(code, shapes, address, stack, o)
 }
 
-// What the op at i makes of a state.
+// What the op at the address makes of a state.
 fn effect_after(
-    l: &[u8],
-    ix: &[u32],
-    bx: &[u32],
-    cx: &[u32],
+    code: &[u8],
+    shapes: &[u32],
+    bodies: &[u32],
+    classes: &[u32],
     base: usize,
-    k: usize,
-    i: usize,
-    st: &mut [u8],
-    f: Moved,
+    body: usize,
+    address: usize,
+    stack: &mut [u8],
+    flow: Moved,
 ) -> Moved
-    requires { ⌜ (Able (now l) (now ix) (now bx) (now cx)) × (base ≡ codeBase (now l)) × (k < bodies (now l)) × (i < count (now l)) × (length (now st) ≡ 32) × (Fit f) ⌝ }
-    ensures { λ r. ⌜ Moves (now (st .exit)) r (chain (flowOf f (now (st .entry))) (λ h s. effect (now (l .entry)) k (byteAt (now (l .entry)) (codePlace (now (l .entry)) i + 2)) (byteAt (now (l .entry)) (codePlace (now (l .entry)) i + 3)) (wordAt (now (l .entry)) (codePlace (now (l .entry)) i + 4)) h s)) ⌝ }
+    requires { ⌜ (Able (now code) (now shapes) (now bodies) (now classes)) × (base ≡ codeBase (now code)) × (body < bodyCount (now code))
+        × (address < count (now code)) × (length (now stack) ≡ 32) × (Fit flow) ⌝ }
+    ensures { λ r. ⌜ Moves (now (stack .exit)) r (chain (flowOf flow (now (stack .entry)))
+        (λ h s. effect (now (code .entry)) body (byteAt (now (code .entry)) (codePlace (now (code .entry)) address + 2))
+        (byteAt (now (code .entry)) (codePlace (now (code .entry)) address + 3)) (wordAt (now (code .entry)) (codePlace (now (code .entry)) address + 4)) h s)) ⌝ }
 {
-    let x = instruction_at(l, base, i);
-    match f {
-        Moved::Goes(h, d) => effect_of(l, ix, bx, cx, k, x.op, x.a, x.b, st, h, d),
+    let x = instruction_at(code, base, address);
+    match flow {
+        Moved::Goes(h, d) => effect_of(
+            code,
+            shapes,
+            bodies,
+            classes,
+            body,
+            x.op,
+            x.a,
+            x.b,
+            stack,
+            h,
+            d,
+        ),
         Moved::Ends => Moved::Bad,
         Moved::Bad => Moved::Bad,
     }
 }
 
-// What goes on from i, where f is the state found there.
+// What goes on from the address, where the flow is the state found there.
 fn onward(
-    l: &[u8],
-    ix: &[u32],
-    bx: &[u32],
-    cx: &[u32],
+    code: &[u8],
+    shapes: &[u32],
+    bodies: &[u32],
+    classes: &[u32],
     base: usize,
-    k: usize,
-    i: usize,
-    st: &mut [u8],
-    f: Moved,
+    body: usize,
+    address: usize,
+    stack: &mut [u8],
+    flow: Moved,
 ) -> Moved
-    requires { ⌜ (Able (now l) (now ix) (now bx) (now cx)) × (base ≡ codeBase (now l)) × (k < bodies (now l)) × (i < count (now l)) × (length (now st) ≡ 32) × (Fit f) ⌝ }
-    ensures { λ r. ⌜ Moves (now (st .exit)) r (leave (now (l .entry)) k i (chain (flowOf f (now (st .entry))) (λ h s. effect (now (l .entry)) k (byteAt (now (l .entry)) (codePlace (now (l .entry)) i + 2)) (byteAt (now (l .entry)) (codePlace (now (l .entry)) i + 3)) (wordAt (now (l .entry)) (codePlace (now (l .entry)) i + 4)) h s))) ⌝ }
+    requires { ⌜ (Able (now code) (now shapes) (now bodies) (now classes)) × (base ≡ codeBase (now code)) × (body < bodyCount (now code))
+        × (address < count (now code)) × (length (now stack) ≡ 32) × (Fit flow) ⌝ }
+    ensures { λ r. ⌜ Moves (now (stack .exit)) r (leave (now (code .entry)) body address
+        (chain (flowOf flow (now (stack .entry))) (λ h s. effect (now (code .entry)) body
+        (byteAt (now (code .entry)) (codePlace (now (code .entry)) address + 2))
+        (byteAt (now (code .entry)) (codePlace (now (code .entry)) address + 3)) (wordAt (now (code .entry)) (codePlace (now (code .entry)) address + 4)) h s))) ⌝ }
 {
-    let e = effect_after(l, ix, bx, cx, base, k, i, st, f);
-    leave_to(l, ix, bx, k, i, st, e)
-}
-
-// The same value built anew. The answer of a function that is not inlined comes back through memory and is copied on with its padding, which stalls the walk at each
-// address: four times its time. So `onward` has two callers, and each builds its answer anew.
-fn rebuilt(f: Moved) -> Moved
-    ensures { λ r. ⌜ r ≡ f ⌝ }
-{
-    match f {
-        Moved::Goes(h, d) => Moved::Goes(h, d),
-        Moved::Ends => Moved::Ends,
-        Moved::Bad => Moved::Bad,
-    }
+    let e = effect_after(
+        code,
+        shapes,
+        bodies,
+        classes,
+        base,
+        body,
+        address,
+        stack,
+        flow,
+    );
+    leave_to(code, shapes, bodies, body, address, stack, e)
 }
 
 pub fn go_on(
-    l: &[u8],
-    ix: &[u32],
-    bx: &[u32],
-    cx: &[u32],
+    code: &[u8],
+    shapes: &[u32],
+    bodies: &[u32],
+    classes: &[u32],
     base: usize,
-    k: usize,
-    i: usize,
-    st: &mut [u8],
-    f: Moved,
+    body: usize,
+    address: usize,
+    stack: &mut [u8],
+    flow: Moved,
 ) -> Moved
-    requires { ⌜ (Able (now l) (now ix) (now bx) (now cx)) × (base ≡ codeBase (now l)) × (k < bodies (now l)) × (i < count (now l)) × (length (now st) ≡ 32) × (Fit f) ⌝ }
-    ensures { λ r. ⌜ Moves (now (st .exit)) r (leave (now (l .entry)) k i (chain (flowOf f (now (st .entry))) (λ h s. effect (now (l .entry)) k (byteAt (now (l .entry)) (codePlace (now (l .entry)) i + 2)) (byteAt (now (l .entry)) (codePlace (now (l .entry)) i + 3)) (wordAt (now (l .entry)) (codePlace (now (l .entry)) i + 4)) h s))) ⌝ }
+    requires { ⌜ (Able (now code) (now shapes) (now bodies) (now classes)) × (base ≡ codeBase (now code)) × (body < bodyCount (now code))
+        × (address < count (now code)) × (length (now stack) ≡ 32) × (Fit flow) ⌝ }
+    ensures { λ r. ⌜ Moves (now (stack .exit)) r (leave (now (code .entry)) body address
+        (chain (flowOf flow (now (stack .entry))) (λ h s. effect (now (code .entry)) body
+        (byteAt (now (code .entry)) (codePlace (now (code .entry)) address + 2))
+        (byteAt (now (code .entry)) (codePlace (now (code .entry)) address + 3)) (wordAt (now (code .entry)) (codePlace (now (code .entry)) address + 4)) h s))) ⌝ }
 {
-    rebuilt(onward(l, ix, bx, cx, base, k, i, st, f))
+    rebuilt(onward(
+        code,
+        shapes,
+        bodies,
+        classes,
+        base,
+        body,
+        address,
+        stack,
+        flow,
+    ))
 }
 
 fn step_at(
-    l: &[u8],
-    ix: &[u32],
-    bx: &[u32],
-    cx: &[u32],
+    code: &[u8],
+    shapes: &[u32],
+    bodies: &[u32],
+    classes: &[u32],
     base: usize,
-    k: usize,
-    i: usize,
-    st: &mut [u8],
-    f: Moved,
+    body: usize,
+    address: usize,
+    stack: &mut [u8],
+    flow: Moved,
 ) -> Moved
-    requires { ⌜ (Able (now l) (now ix) (now bx) (now cx)) × (base ≡ codeBase (now l)) × (k < bodies (now l)) × (k ≡ bodyOf (now l) i) × (i < count (now l)) × (length (now st) ≡ 32) × (Fit f) ⌝ }
-    ensures { λ r. ⌜ Moves (now (st .exit)) r (step (now (l .entry)) i (flowOf f (now (st .entry)))) ⌝ }
+    requires { ⌜ (Able (now code) (now shapes) (now bodies) (now classes)) × (base ≡ codeBase (now code)) × (body < bodyCount (now code))
+        × (body ≡ bodyOf (now code) address) × (address < count (now code)) × (length (now stack) ≡ 32) × (Fit flow) ⌝ }
+    ensures { λ r. ⌜ Moves (now (stack .exit)) r (step (now (code .entry)) address (flowOf flow (now (stack .entry)))) ⌝ }
 {
-    let g = found_at(l, ix, bx, k, i, st, f);
-    rebuilt(onward(l, ix, bx, cx, base, k, i, st, g))
+    let g = found_at(code, shapes, bodies, body, address, stack, flow);
+    rebuilt(onward(code, shapes, bodies, classes, base, body, address, stack, g))
 }
 
-pub fn next_body(l: &[u8], bx: &[u32], k: usize, i: usize) -> usize
-    requires { ⌜ (Bodied (now l) (now bx)) × (k < bodies (now l)) × (k ≡ bodyOf (now l) i) × (i < count (now l)) ⌝ }
-    ensures { λ r. ⌜ (r ≡ bodyOf (now (l .entry)) (i + 1)) × (r < bodies (now (l .entry))) ⌝ }
+pub fn next_body(code: &[u8], bodies: &[u32], body: usize, address: usize) -> usize
+    requires { ⌜ (Bodied (now code) (now bodies)) × (body < bodyCount (now code)) × (body ≡ bodyOf (now code) address) × (address < count (now code)) ⌝ }
+    ensures { λ r. ⌜ (r ≡ bodyOf (now (code .entry)) (address + 1)) × (r < bodyCount (now (code .entry))) ⌝ }
 {
-    let m = words::wide::byte_at(l, BODY_COUNT_AT);
-    if m <= k + 1 {
-        return k;
+    let m = words::wide::byte_at(code, BODY_COUNT_AT);
+    if m <= body + 1 {
+        return body;
     }
-    let q = body_at(l, bx, k + 1);
-    let a = words::wide::half_at(l, q + FIRST_AT);
-    let j = i + 1;
+    let q = body_at(code, bodies, body + 1);
+    let a = words::wide::half_at(code, q + FIRST_AT);
+    let j = address + 1;
     if a == j {
-        return k + 1;
+        return body + 1;
     }
-    k
+    body
 }
 
-pub fn is_bad(f: Moved) -> bool
-    ensures { λ r. ⌜ r ≡ isBadMove f ⌝ }
+pub fn is_bad(flow: Moved) -> bool
+    ensures { λ r. ⌜ r ≡ isBadMove flow ⌝ }
 {
-    match f {
+    match flow {
         Moved::Goes(_, _) => false,
         Moved::Ends => false,
         Moved::Bad => true,
     }
 }
 
-pub struct Walked {
-    pub at: usize,
-    pub body: usize,
-    pub flow: Moved,
-}
-
-// The first address below stop with a fault, or stop; there also its body and what flows in.
+// The first address below stop with a fault, or stop.
 pub fn walk(
-    l: &[u8],
-    ix: &[u32],
-    bx: &[u32],
-    cx: &[u32],
+    code: &[u8],
+    shapes: &[u32],
+    bodies: &[u32],
+    classes: &[u32],
     base: usize,
-    st: &mut [u8],
+    stack: &mut [u8],
     stop: usize,
-) -> Walked
-    requires { ⌜ (Able (now l) (now ix) (now bx) (now cx)) × (base ≡ codeBase (now l)) × (length (now st) ≡ 32) × (stop ≤ count (now l)) ⌝ }
-    ensures { λ r. ⌜ (r .at ≡ first (broken (now (l .entry))) stop) × (stop ≤ r .at → (r .body ≡ bodyOf (now (l .entry)) (r .at)) × (r .body < bodies (now (l .entry))) × (flowOf (r .flow) (now (st .exit)) ≡ into (now (l .entry)) (r .at)) × (Fit (r .flow))) ⌝ }
+) -> usize
+    requires { ⌜ (Able (now code) (now shapes) (now bodies) (now classes)) × (base ≡ codeBase (now code)) × (length (now stack) ≡ 32) × (stop ≤ count (now code)) ⌝ }
+    ensures { λ r. ⌜ r ≡ first (broken (now (code .entry))) stop ⌝ }
 {
     let mut i: usize = 0;
     let mut k: usize = 0;
     let mut f = Moved::Ends;
     while i < stop {
-        let g = step_at(l, ix, bx, cx, base, k, i, st, f);
+        let g = step_at(code, shapes, bodies, classes, base, k, i, stack, f);
         if is_bad(g) {
-            return Walked {
-                at: i,
-                body: k,
-                flow: g,
-            };
+            return i;
         }
-        k = next_body(l, bx, k, i);
+        k = next_body(code, bodies, k, i);
         f = g;
         i += 1;
     }
-    Walked {
-        at: i,
-        body: k,
-        flow: f,
-    }
-}
-
-// The state found at x, in a macro with no fault.
-pub fn state_at(
-    l: &[u8],
-    ix: &[u32],
-    bx: &[u32],
-    cx: &[u32],
-    base: usize,
-    st: &mut [u8],
-    x: usize,
-) -> Moved
-    requires { ⌜ (Able (now l) (now ix) (now bx) (now cx)) × (base ≡ codeBase (now l)) × (length (now st) ≡ 32) × (x < count (now l)) × (Clean (broken (now l)) (count (now l))) ⌝ }
-    ensures { λ r. ⌜ Moves (now (st .exit)) r (found (now (l .entry)) x (into (now (l .entry)) x)) ⌝ }
-{
-    let w = walk(l, ix, bx, cx, base, st, x);
-    let k = w.body;
-    let f = w.flow;
-    found_at(l, ix, bx, k, x, st, f)
+    i
 }

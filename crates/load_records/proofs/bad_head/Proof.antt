@@ -1,4 +1,4 @@
--- `records::bad_head` meets its contract, a law for each exit.
+-- `load_records::bad_head` meets its contract, a law for each exit.
 use native.Mathlib.Omega.{arith}
 use mathlib.Core.Path.{sym, _∙_}
 use Rattle.load_records.proofs.Tests as law

@@ -1,4 +1,4 @@
--- `records::bad_types` meets its contract. Going down, `bad` is the first of the bytes passed that is no type, or n.
+-- `load_records::bad_types` meets its contract. Going down, `bad` is the first of the bytes passed that is no type, or their number.
 use native.Mathlib.Omega.{arith}
 use mathlib.Core.Path.{_≡_, _∙_}
 use Prim.Native.Nat.{_+_, _-_, _≤_}
@@ -11,10 +11,10 @@ use Rattle.load_records.proofs.bad_types.Statement.{statement}
 use Rattle.load_records.proofs.bad_types.Tie as tie
 
 abbrev Inv-loop : tie.InvT-loop
-Inv-loop l p n c bad₀ i₀ bad i = (i ≤ n) × (bad ≡ seek (λ k. noType c (byteAt l (p + k))) (n - i) i)
+Inv-loop code place size classes bad₀ i₀ bad i = (i ≤ size) × (bad ≡ seek (λ k. noType classes (byteAt code (place + k))) (size - i) i)
 
 abbrev μ-loop : tie.MeasureT-loop
-μ-loop l p n c bad₀ i₀ bad i = i
+μ-loop code place size classes bad₀ i₀ bad i = i
 
 loop-holds : tie.Need-loop-holds Inv-loop μ-loop
 loop-holds c = (omega arith, seek-start _ _)

@@ -1,4 +1,4 @@
--- `records::classes_pass` meets its contract. The loop has come to the k-th class, at p, met no bad one, and put the places passed into cx.
+-- `load_records::classes_pass` meets its contract. The loop has come to the k-th class, at p, met no bad one, and put the places passed into the index.
 use native.Mathlib.Omega.{arith}
 use mathlib.Core.Path.{_≡_, refl, sym, _∙_}
 use Prim.Native.Nat.{_+_, _*_, _-_, _≤_}
@@ -12,10 +12,10 @@ use Rattle.load_records.proofs.classes_pass.Statement.{statement}
 use Rattle.load_records.proofs.classes_pass.Tie as tie
 
 abbrev Inv-loop : tie.InvT-loop
-Inv-loop l cx₀ c k₀ p₀ cx k p = Upto (badClass l) (classPlace l) c k p × (p ≤ 8 + 258 * k) × (length cx ≡ length cx₀) × Placed (classPlace l) cx k
+Inv-loop code classes₀ total k₀ p₀ classes k p = Upto (badClass code) (classPlace code) total k p × (p ≤ 8 + 258 * k) × (length classes ≡ length classes₀) × Placed (classPlace code) classes k
 
 abbrev μ-loop : tie.MeasureT-loop
-μ-loop l cx₀ c k₀ p₀ cx k p = c - k
+μ-loop code classes₀ total k₀ p₀ classes k p = total - k
 
 loop-holds : tie.Need-loop-holds Inv-loop μ-loop
 loop-holds c = (law.starts _ (law.class-start _), omega arith, refl, (λ j h. absurd (omega arith)))
@@ -50,7 +50,7 @@ loop-again c =
       law.goes-on (I .0) _ (omega arith) (sym (c .before .before .bad-class .ensures _ (loop .inv .0 .stands)) ∙ c .before .if1 .left) (law.next-class _ _ _ _ (I .0 .stands) (c .byte-at .ensures .0)),
       omega arith,
       simp length-set (I .2),
-      law.placed-more (classPlace (start .args .l .now)) (loop .cx) (loop .k) (loop .p) (I .0 .stands) (omega arith) (I .3),
+      law.placed-more (classPlace (start .args .code .now)) (loop .classes) (loop .k) (loop .p) (I .0 .stands) (omega arith) (I .3),
     )
 
 same-length-2 : tie.Need-same-length-2 Inv-loop μ-loop

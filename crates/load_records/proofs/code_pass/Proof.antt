@@ -1,4 +1,4 @@
--- `records::code_pass` meets its contract. Going down, `bad` is the first of the whole instructions passed that has no mark, or their number.
+-- `load_records::code_pass` meets its contract. Going down, `bad` is the first of the whole instructions passed that has no mark, or their number.
 use native.Mathlib.Omega.{arith}
 use mathlib.Core.Path.{_≡_, _∙_}
 use Prim.Native.Nat.{_-_, _≤_}
@@ -10,10 +10,10 @@ use Rattle.load_records.proofs.code_pass.Statement.{statement}
 use Rattle.load_records.proofs.code_pass.Tie as tie
 
 abbrev Inv-loop : tie.InvT-loop
-Inv-loop l base n whole bad₀ i₀ bad i = (i ≤ whole) × (bad ≡ seek (badCode l) (whole - i) i)
+Inv-loop code base instructions whole bad₀ i₀ bad i = (i ≤ whole) × (bad ≡ seek (badCode code) (whole - i) i)
 
 abbrev μ-loop : tie.MeasureT-loop
-μ-loop l base n whole bad₀ i₀ bad i = i
+μ-loop code base instructions whole bad₀ i₀ bad i = i
 
 loop-holds : tie.Need-loop-holds Inv-loop μ-loop
 loop-holds c = (omega arith, seek-start _ _)

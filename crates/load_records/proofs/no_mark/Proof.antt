@@ -1,4 +1,4 @@
--- `records::no_mark` meets its contract, a law for each exit.
+-- `load_records::no_mark` meets its contract, a law for each exit.
 use native.Mathlib.Omega.{arith}
 use mathlib.Core.Path.{sym, _∙_}
 use Rattle.load_records.proofs.Tests.{cut, whole}

@@ -1,4 +1,4 @@
--- `records::no_type` meets its contract, a law for each exit.
+-- `load_records::no_type` meets its contract, a law for each exit.
 use native.Mathlib.Omega.{arith}
 use mathlib.Core.Path.{sym}
 use Rattle.load_records.proofs.Tests.{type-low, type-plain, type-class}

@@ -1,4 +1,4 @@
--- `records::read_end` meets its contract, a law for each exit.
+-- `load_records::read_end` meets its contract, a law for each exit.
 use mathlib.Core.Path.{refl, sym, _∙_}
 use Rattle.load_records.proofs.Tests as law
 use borrow.Author.Needs.{needs}

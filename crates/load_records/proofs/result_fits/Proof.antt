@@ -1,4 +1,4 @@
--- `records::result_fits` meets its contract.
+-- `load_records::result_fits` meets its contract.
 use mathlib.Core.Path.{sym, ap, _∙_}
 use mathlib.Core.Bool.{not}
 use Rattle.load_records.proofs.Tests as law

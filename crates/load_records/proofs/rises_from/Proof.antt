@@ -1,4 +1,4 @@
--- `records::rises_from` meets its contract.
+-- `load_records::rises_from` meets its contract.
 use mathlib.Core.Path.{sym}
 use Rattle.load_records.proofs.Tests as law
 use Rattle.load_records.proofs.rises_from.Statement.{statement}

@@ -1,50 +1,28 @@
--- `records::shape_fits` meets its contract, a law for each exit.
+-- `load_records::shape_fits` meets its contract, a law for each exit.
 use native.Mathlib.Omega.{arith}
-use mathlib.Core.Path.{sym, _∙_}
+use mathlib.Core.Path.{_≡_, sym, _∙_}
+use mathlib.Core.Bool.{true}
+use borrow.Author.Tests.{not-true, not-false}
+use Rattle.load_records.specs.Answer.{typedFits}
 use Rattle.load_records.proofs.Tests as law
 use borrow.Author.Needs.{needs}
 use Rattle.load_records.proofs.shape_fits.Statement.{statement}
 use Rattle.load_records.proofs.shape_fits.Tie as tie
 
-returns : tie.Need-returns
-returns c = sym (law.shape-1 _ _ (sym (c .before .no-mark .ensures) ∙ c .if1 .taken))
+typed : (c : tie.Else1) → typedFits (c .before .before .before .args .code .now) (c .before .before .before .args .place) 6 5 83 72 ≡ true
+typed c = sym (c .before .typed-fits .ensures) ∙ not-false _ (c .if1 .left)
 
-byte-at-requires : tie.Need-byte-at-requires
-byte-at-requires c κs = let h = law.room _ _ _ _ _ (sym (c .before .no-mark .ensures) ∙ c .if1 .left) in omega arith
+returns : tie.Need-returns
+returns c = sym (law.shape-1 _ _ (sym (c .before .typed-fits .ensures) ∙ not-true _ (c .if1 .taken)))
+
+half-at-requires : tie.Need-half-at-requires
+half-at-requires c κs = let h = law.typed-room _ _ _ _ _ _ (typed c) in omega arith
 
 returns-2 : tie.Need-returns-2
-returns-2 c = sym (law.shape-2 _ _ (sym (c .before .before .before .no-mark .ensures) ∙ c .before .before .if1 .left) (omega arith))
-
-returns-3 : tie.Need-returns-3
-returns-3 c =
-    let byte-at = c .before .before .before .byte-at in
-    let if1 = c .before .before .before .before .if1 in
-    let no-mark = c .before .before .before .before .before .no-mark in
-    sym (law.shape-3 _ _ (sym (no-mark .ensures) ∙ if1 .left) (omega arith) (rw (byte-at .ensures .0) at (sym (c .before .bad-types .ensures) ∙ c .if3 .taken)))
-
-returns-4 : tie.Need-returns-4
-returns-4 c =
-    let byte-at = c .before .before .before .before .byte-at in
-    let if1 = c .before .before .before .before .before .if1 in
-    let no-mark = c .before .before .before .before .before .before .no-mark in
-    let start = c .before .before .before .before .before .before .before .before in
-    rw (c .half-at .ensures .0, start .pre .2) (sym (law.shape-4 _ _ (sym (no-mark .ensures) ∙ if1 .left) (omega arith)
-    (rw (byte-at .ensures .0) at (sym (c .before .before .bad-types .ensures) ∙ c .before .if3 .left))))
+returns-2 c =
+    let start = c .before .before .before .before in
+    rw (c .half-at .ensures .0, start .pre .2) (sym (law.shape-2 _ _ (typed (c .before))))
 
 pub shape-fits-spec : {M : Type 1} → statement M
 shape-fits-spec =
-    tie.close
-    (tie.spec
-    (λ c κs. search needs)
-    returns
-    (λ c. search needs)
-    byte-at-requires
-    (λ c. search needs)
-    (λ c. search needs)
-    returns-2
-    (λ c. search needs)
-    (λ c κs. search needs)
-    returns-3
-    (λ c. search needs)
-    (λ c κs. search needs)
-    returns-4)
+    tie.close (tie.spec (λ c κs. search needs) returns (λ c. search needs) half-at-requires returns-2)

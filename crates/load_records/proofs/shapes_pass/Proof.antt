@@ -1,10 +1,11 @@
--- `records::shapes_pass` meets its contract. The loop has come to the k-th shape, at p, met no bad one, and put the places passed into ix, each at its address.
+-- `load_records::shapes_pass` meets its contract. The loop has come to the k-th shape, at p, met no bad one, and put the places passed into the index, each at its address.
 use native.Mathlib.Omega.{arith}
 use mathlib.Core.Path.{_≡_, refl, sym, _∙_}
+use mathlib.Core.Bool.{true}
 use Prim.Native.Nat.{_+_, _*_, _-_, _≤_}
 use lib.ListN.{length, length-set}
 use borrow.Author.Tests.{not-true, not-false}
-use Rattle.load_places.specs.Records.{badShape, shapePlace, find}
+use Rattle.load_places.specs.Records.{badShape, shapePlace, shapeFits, find}
 use Rattle.load_places.specs.Index.{Indexed}
 use Rattle.load_records.specs.Answer.{Upto}
 use Rattle.load_records.proofs.Known as known
@@ -13,10 +14,11 @@ use Rattle.load_records.proofs.shapes_pass.Statement.{statement}
 use Rattle.load_records.proofs.shapes_pass.Tie as tie
 
 abbrev Inv-loop : tie.InvT-loop
-Inv-loop l ix₀ from c n m k₀ p₀ ix k p = Upto (badShape l) (shapePlace l) m k p × (p ≤ 1000000 + 261 * k) × (length ix ≡ length ix₀) × Indexed l ix n k
+Inv-loop code shapes₀ from classes instructions total k₀ p₀ shapes k p =
+    Upto (badShape code) (shapePlace code) total k p × (p ≤ 1000000 + 261 * k) × (length shapes ≡ length shapes₀) × Indexed code shapes instructions k
 
 abbrev μ-loop : tie.MeasureT-loop
-μ-loop l ix₀ from c n m k₀ p₀ ix k p = m - k
+μ-loop code shapes₀ from classes instructions total k₀ p₀ shapes k p = total - k
 
 loop-holds : tie.Need-loop-holds Inv-loop μ-loop
 loop-holds c = (law.starts _ (c .before .before .pre .0), omega arith, refl, c .before .before .pre .6)
@@ -36,17 +38,18 @@ returns c =
       I .3,
     )
 
+-- the record at p fits, past the first test
+fit : (c : tie.Else1 Inv-loop μ-loop) → shapeFits (c .before .before .before .before .before .before .args .code .now) (c .before .before .before .loop .p) ≡ true
+fit c = sym (c .before .shape-fits .ensures) ∙ not-false _ (c .if1 .left)
+
 half-at-requires : tie.Need-half-at-requires Inv-loop μ-loop
-half-at-requires c κs = let h = known.shape-known _ _ (sym (c .before .shape-fits .ensures) ∙ not-false _ (c .if1 .left)) in omega arith
+half-at-requires c κs = let h = known.shape-known _ _ (fit c) in omega arith
 
 mul-if2 : tie.Need-mul-if2 Inv-loop μ-loop
-mul-if2 c = let h = known.shape-known _ _ (sym (c .before .before .shape-fits .ensures) ∙ not-false _ (c .before .if1 .left)) in omega arith
+mul-if2 c = let h = known.shape-known _ _ (fit (c .before)) in omega arith
 
 slice-read-if2 : tie.Need-slice-read-if2 Inv-loop μ-loop
-slice-read-if2 c =
-    let shape-fits = c .before .before .before .shape-fits in
-    let h = known.shape-known _ _ (sym (shape-fits .ensures) ∙ not-false _ (c .before .before .if1 .left)) in
-    omega arith
+slice-read-if2 c = let h = known.shape-known _ _ (fit (c .before .before)) in omega arith
 
 same-length-2 : tie.Need-same-length-2 Inv-loop μ-loop
 same-length-2 c =
@@ -55,55 +58,38 @@ same-length-2 c =
 
 returns-2 : tie.Need-returns-2 Inv-loop μ-loop
 returns-2 c =
-    let if1 = c .before .before .before .if1 in
-    let shape-fits = c .before .before .before .before .shape-fits in
-    let loop = c .before .before .before .before .before .before .loop in
-    let I = loop .inv in
-    let h = known.shape-known _ _ (sym (shape-fits .ensures) ∙ not-false _ (if1 .left)) in
     let half-at = c .before .before .half-at in
-    let there = I .3 (half-at .result) (omega arith) in (
-      law.stops (I .0) (omega arith) (law.shape-second _ _ _ (I .0 .stands) (sym (shape-fits .ensures) ∙ not-false _ (if1 .left)) _ (half-at .ensures .0) (λ z. omega arith)),
-      omega arith,
-      I .3,
-    )
+    let at-if1 = c .before .before .before in
+    let I = at-if1 .before .before .before .loop .inv in
+    let h = known.shape-known _ _ (fit at-if1) in
+    let there = I .3 (half-at .result) (omega arith) in
+    (law.stops (I .0) (omega arith) (law.shape-second _ _ _ (I .0 .stands) (fit at-if1) _ (half-at .ensures .0) (λ z. omega arith)), omega arith, I .3)
 
-mul-ix : tie.Need-mul-ix Inv-loop μ-loop
-mul-ix c =
-    let if1 = c .before .before .before .if1 in
-    let shape-fits = c .before .before .before .before .shape-fits in
-    let h = known.shape-known _ _ (sym (shape-fits .ensures) ∙ not-false _ (if1 .left)) in
-    omega arith
+mul-shapes : tie.Need-mul-shapes Inv-loop μ-loop
+mul-shapes c = let h = known.shape-known _ _ (fit (c .before .before .before)) in omega arith
 
-slice-write-ix : tie.Need-slice-write-ix Inv-loop μ-loop
-slice-write-ix c =
-    let if1 = c .before .before .before .if1 in
-    let shape-fits = c .before .before .before .before .shape-fits in
-    let h = known.shape-known _ _ (sym (shape-fits .ensures) ∙ not-false _ (if1 .left)) in
-    omega arith
+slice-write-shapes : tie.Need-slice-write-shapes Inv-loop μ-loop
+slice-write-shapes c = let h = known.shape-known _ _ (fit (c .before .before .before)) in omega arith
 
 byte-at-requires : tie.Need-byte-at-requires Inv-loop μ-loop
-byte-at-requires c κs =
-    let if1 = c .before .before .before .if1 in
-    let shape-fits = c .before .before .before .before .shape-fits in
-    let h = known.shape-known _ _ (sym (shape-fits .ensures) ∙ not-false _ (if1 .left)) in
-    omega arith
+byte-at-requires c κs = let h = known.shape-known _ _ (fit (c .before .before .before)) in omega arith
 
 loop-again : tie.Need-loop-again Inv-loop μ-loop
 loop-again c =
     let half-at = c .before .before .before .half-at in
-    let if1 = c .before .before .before .before .if1 in
-    let shape-fits = c .before .before .before .before .before .shape-fits in
-    let loop = c .before .before .before .before .before .before .before .loop in
-    let start = c .before .before .before .before .before .before .before .before .before .before in
+    let at-if1 = c .before .before .before .before in
+    let loop = at-if1 .before .before .before .loop in
+    let start = at-if1 .before .before .before .before .before .before in
     let I = loop .inv in
-    let h = known.shape-known _ _ (sym (shape-fits .ensures) ∙ not-false _ (if1 .left)) in
+    let h = known.shape-known _ _ (fit at-if1) in
     let there = I .3 (half-at .result) (omega arith) in
-    let z : find (start .args .l .now) (loop .k) (half-at .result) ≡ 0 = omega arith in (
-      law.goes-on (I .0) _ (omega arith) (law.shape-only _ _ _ (I .0 .stands) (sym (shape-fits .ensures) ∙ not-false _ (if1 .left)) _
-          (half-at .ensures .0) z) (law.next-shape _ _ _ (I .0 .stands) _ (c .byte-at .ensures .0)),
+    let z : find (start .args .code .now) (loop .k) (half-at .result) ≡ 0 = omega arith in (
+      law.goes-on (I .0) _ (omega arith) (law.shape-only _ _ _ (I .0 .stands) (fit at-if1) _ (half-at .ensures .0) z)
+          (law.next-shape _ _ _ (I .0 .stands) _ (c .byte-at .ensures .0)),
       omega arith,
       simp length-set (I .2),
-      law.indexed-more (start .args .l .now) (loop .k) (loop .p) (I .0 .stands) (loop .ix) (start .args .n) (half-at .result) (half-at .ensures .0) (omega arith) (omega arith) z (I .3),
+      law.indexed-more (start .args .code .now) (loop .k) (loop .p) (I .0 .stands) (loop .shapes) (start .args .instructions)
+          (half-at .result) (half-at .ensures .0) (omega arith) (omega arith) z (I .3),
     )
 
 same-length-3 : tie.Need-same-length-3 Inv-loop μ-loop
@@ -129,8 +115,8 @@ shapes-pass-spec =
     same-length-2
     returns-2
     (λ c. omega arith)
-    mul-ix
-    slice-write-ix
+    mul-shapes
+    slice-write-shapes
     (λ c. omega arith)
     (λ c. omega arith)
     byte-at-requires

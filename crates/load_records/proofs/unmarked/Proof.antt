@@ -1,4 +1,4 @@
--- `records::unmarked` meets its contract.
+-- `load_records::unmarked` meets its contract.
 use borrow.Author.Tests.{eq-eqb, ne-eqb}
 use Rattle.load_records.proofs.unmarked.Statement.{statement}
 use Rattle.load_records.proofs.unmarked.Tie as tie

@@ -1,9 +1,9 @@
--- `rules::judge_in` meets its contract. Assumes nothing.
+-- `load_rules::judge_in` meets its contract. Assumes nothing.
 use borrow.Author.Needs.{needs}
 use native.Mathlib.Omega.{arith}
 use mathlib.Core.Path.{refl}
 use Rattle.load_records.proofs.Known.{ready}
-use Rattle.load_rules.proofs.Laws as law
+use Rattle.load_rules.proofs.Verdict.{able-ready, judge-unread, judge-broken, judge-passes}
 use Rattle.load_rules.proofs.judge_in.Statement.{statement}
 use Rattle.load_rules.proofs.judge_in.Tie as tie
 
@@ -11,7 +11,7 @@ walk-requires : tie.Need-walk-requires
 walk-requires c κs =
     let R = ready _ _ _ _ (c .before .before .before .before .before .before .before .before .before .before .before .scan .result) _
     (c .before .before .before .before .before .base .given .1) (c .before .before .before .before .before .before .before .before .before .before .before .scan .ensures .1) in (
-      law.able-ready _ _ _ _ _ R (omega (arith, c .before .before .before .before .before .before .before .before .before .before .before .scan .kept .1 .0))
+      able-ready _ _ _ _ _ R (omega (arith, c .before .before .before .before .before .before .before .before .before .before .before .scan .kept .1 .0))
           (omega (arith, c .before .before .before .before .before .before .before .before .before .before .before .scan .kept .1 .1 .0))
           (omega (arith, c .before .before .before .before .before .before .before .before .before .before .before .scan .kept .1 .1 .1 .0)),
       R .based,
@@ -22,23 +22,23 @@ walk-requires c κs =
 returns : tie.Need-returns
 returns c =
     let at-scan = c .before .before .before .before .before .before .before in
-    law.judge-unread _ (at-scan .scan .result) (at-scan .scan .ensures .0) _ (c .before .k .given .1)
+    judge-unread _ (at-scan .scan .result) (at-scan .scan .ensures .0) _ (c .before .k .given .1)
 
 returns-2 : tie.Need-returns-2
 returns-2 c =
-    law.judge-broken _ (c .before .before .before .before .before .before .before .before .before .before .before .before .before .before .scan .result)
+    judge-broken _ (c .before .before .before .before .before .before .before .before .before .before .before .before .before .before .scan .result)
     (c .before .before .before .before .before .before .before .before .before .before .before .before .before .before .scan .ensures .0) _
     (c .before .before .before .before .before .before .before .before .base .given .1) _
     (c .before .before .before .before .before .before .before .before .before .before .before .before .before .before .before .before .before .before .before .before .pre .1)
-    _ (c .before .before .walk .ensures .0) (omega arith)
+    _ (c .before .before .walk .ensures) (omega arith)
 
 returns-3 : tie.Need-returns-3
 returns-3 c =
-    law.judge-passes _ (c .before .before .before .before .before .before .before .before .before .before .before .before .before .before .scan .result)
+    judge-passes _ (c .before .before .before .before .before .before .before .before .before .before .before .before .before .before .scan .result)
     (c .before .before .before .before .before .before .before .before .before .before .before .before .before .before .scan .ensures .0) _
     (c .before .before .before .before .before .before .before .before .base .given .1) _
     (c .before .before .before .before .before .before .before .before .before .before .before .before .before .before .before .before .before .before .before .before .pre .1)
-    _ (c .before .before .walk .ensures .0) (omega arith)
+    _ (c .before .before .walk .ensures) (omega arith)
 
 pub judge-in-spec : {M : Type 1} → statement M
 judge-in-spec =

@@ -1,8 +1,8 @@
--- `rules::lookup::body_at` meets its contract. Assumes nothing.
+-- `load_rules::lookup::body_at` meets its contract. Assumes nothing.
 use borrow.Author.Needs.{needs}
 use native.Mathlib.Omega.{arith}
 use Rattle.load_records.proofs.Known.{head-of}
-use Rattle.load_rules.proofs.Laws as law
+use Rattle.load_rules.proofs.Places.{body-place}
 use Rattle.load_rules.proofs.lookup.body_at.Statement.{statement}
 use Rattle.load_rules.proofs.lookup.body_at.Tie as tie
 
@@ -15,7 +15,7 @@ shared-slice-read-wide c = omega (arith, head-of _ (c .before .before .before .p
 returns : tie.Need-returns
 returns c =
     let at-start = c .before .before .before .before in
-    law.body-place _ _ _ _ (at-start .pre .0) (at-start .pre .1) (c .wide .ensures .0) (c .wide .ensures .1)
+    body-place _ _ _ _ (at-start .pre .0) (at-start .pre .1) (c .wide .ensures .0) (c .wide .ensures .1)
 
 pub body-at-spec : {M : Type 1} → statement M
 body-at-spec = tie.close (tie.spec mul-wide shared-slice-read-wide (λ c κs. search needs) returns)

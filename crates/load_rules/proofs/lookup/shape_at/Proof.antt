@@ -1,8 +1,8 @@
--- `rules::lookup::shape_at` meets its contract. Assumes nothing.
+-- `load_rules::lookup::shape_at` meets its contract. Assumes nothing.
 use borrow.Author.Needs.{needs}
 use native.Mathlib.Omega.{arith}
 use Rattle.load_records.proofs.Known.{head-of}
-use Rattle.load_rules.proofs.Laws as law
+use Rattle.load_rules.proofs.Places.{shape-none, shape-some}
 use Rattle.load_rules.proofs.lookup.shape_at.Statement.{statement}
 use Rattle.load_rules.proofs.lookup.shape_at.Tie as tie
 
@@ -10,10 +10,10 @@ half-at-requires : tie.Need-half-at-requires
 half-at-requires c κs = omega (arith, head-of _ (c .before .before .pre .well) .bytes)
 
 returns : tie.Need-returns
-returns c = law.shape-none _ _ (omega arith)
+returns c = shape-none _ _ (omega arith)
 
 returns-2 : tie.Need-returns-2
-returns-2 c = law.shape-some _ _ _ _ (c .before .before .before .before .before .before .pre) (omega arith) (c .wide .ensures .0) (c .wide .ensures .1)
+returns-2 c = shape-some _ _ _ _ (c .before .before .before .before .before .before .pre) (omega arith) (c .wide .ensures .0) (c .wide .ensures .1)
 
 pub shape-at-spec : {M : Type 1} → statement M
 shape-at-spec =

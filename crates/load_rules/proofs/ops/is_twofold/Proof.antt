@@ -1,4 +1,4 @@
--- `rules::ops::is_twofold` meets its contract. Assumes nothing.
+-- `load_rules::ops::is_twofold` meets its contract. Assumes nothing.
 use borrow.Author.Tests.{eq-eqb, ne-eqb}
 use Rattle.load_rules.proofs.ops.is_twofold.Statement.{statement}
 use Rattle.load_rules.proofs.ops.is_twofold.Tie as tie

@@ -1,22 +1,22 @@
--- `rules::ops::lands_at` meets its contract. Assumes nothing.
+-- `load_rules::ops::lands_at` meets its contract. Assumes nothing.
 use borrow.Author.Needs.{needs}
 use native.Mathlib.Omega.{arith}
 use mathlib.Core.Path.{_∙_}
-use Rattle.load_rules.proofs.Laws as law
+use Rattle.load_rules.proofs.Jumps.{lands-below, lands-past, lands-none, lands-some}
 use Rattle.load_rules.proofs.ops.lands_at.Statement.{statement}
 use Rattle.load_rules.proofs.ops.lands_at.Tie as tie
 
 returns : tie.Need-returns
-returns c = law.lands-below _ _ _ _ _ _ (c .before .before .body-at .ensures .is) _ (c .before .half-at .ensures .0) (omega arith)
+returns c = lands-below _ _ _ _ _ _ (c .before .before .body-at .ensures .is) _ (c .before .half-at .ensures .0) (omega arith)
 
 returns-2 : tie.Need-returns-2
 returns-2 c =
-    law.lands-past _ _ _ _ _ _ (c .before .before .before .before .body-at .ensures .is) _ (c .before .before .before .half-at .ensures .0)
+    lands-past _ _ _ _ _ _ (c .before .before .before .before .body-at .ensures .is) _ (c .before .before .before .half-at .ensures .0)
     (omega arith) _ (c .before .end-of .ensures) (omega arith)
 
 returns-3 : tie.Need-returns-3
 returns-3 c =
-    law.lands-none _ _ _ _ _ _ (c .before .before .before .before .before .before .body-at .ensures .is) _
+    lands-none _ _ _ _ _ _ (c .before .before .before .before .before .before .body-at .ensures .is) _
     (c .before .before .before .before .before .half-at .ensures .0) (omega arith) _ (c .before .before .before .end-of .ensures) (omega arith) _
     (c .before .shape-at .ensures .is) (c .if3 .taken)
 
@@ -27,7 +27,7 @@ equal-shape-requires c κs =
 
 returns-4 : tie.Need-returns-4
 returns-4 c =
-    c .equal-shape .ensures ∙ law.lands-some _ _ _ _ _ _ (c .before .before .before .before .before .before .before .body-at .ensures .is) _
+    c .equal-shape .ensures ∙ lands-some _ _ _ _ _ _ (c .before .before .before .before .before .before .before .body-at .ensures .is) _
     (c .before .before .before .before .before .before .half-at .ensures .0) (omega arith) _ (c .before .before .before .before .end-of .ensures)
     (omega arith) _ (c .before .before .shape-at .ensures .is) (c .before .if3 .left)
 

@@ -1,11 +1,11 @@
--- `rules::ops::op_call` meets its contract. Assumes nothing.
+-- `load_rules::ops::op_call` meets its contract. Assumes nothing.
 use borrow.Author.Needs.{needs}
 use native.Mathlib.Omega.{arith}
 use mathlib.Core.Path.{_∙_}
 use borrow.Author.Tests.{eq-eqb, ne-eqb}
 use Rattle.load_places.specs.Rules.{opCall}
 use Rattle.load_records.proofs.Known.{head-of}
-use Rattle.load_rules.proofs.Laws as law
+use Rattle.load_rules.proofs.Calls.{call-over, call-plain, call-pushes}
 use Rattle.load_rules.proofs.ops.op_call.Statement.{statement}
 use Rattle.load_rules.proofs.ops.op_call.Tie as tie
 
@@ -23,17 +23,27 @@ byte-at-requires c κs =
     omega (arith, head-of _ (at-start .pre .0 .well) .bytes)
 
 returns-3 : tie.Need-returns-3
-returns-3 c = (law.call-over _ _ _ _ _ (c .before .before .before .if1 .left) (c .before .before .if2 .left) (omega arith), tt)
+returns-3 c = (call-over _ _ _ _ _ (c .before .before .before .if1 .left) (c .before .before .if2 .left) (omega arith), tt)
 
 returns-4 : tie.Need-returns-4
-returns-4 c = (
-  c .before .before .hand-after .ensures .0 ∙ law.call-goes _ _ _ _ _
-      (c .before .before .before .before .before .before .before .before .before .before .before .before .if1 .left)
-      (c .before .before .before .before .before .before .before .before .before .before .before .if2 .left) (omega arith) _
-      (c .before .before .before .before .before .before .before .before .body-at .ensures .is) _
-      (c .before .before .before .before .before .before .before .byte-at2 .ensures .0) _
-      (c .before .before .before .before .before .take-types .ensures .0),
-  c .before .before .hand-after .ensures .1,
+returns-4 c =
+    rw (c .rebuilt .ensures) (
+      call-plain _ _ _ _ _ (c .before .before .before .before .before .before .before .before .before .before .if1 .left)
+          (c .before .before .before .before .before .before .before .before .before .if2 .left) (omega arith) _
+          (c .before .before .before .before .before .before .body-at .ensures .is) _ (c .before .before .before .before .before .byte-at2 .ensures .0) _
+          (c .before .before .before .take-types .ensures .0) (c .before .if4 .taken),
+      c .before .before .before .take-types .ensures .1,
+    )
+
+returns-5 : tie.Need-returns-5
+returns-5 c = (
+  c .before .before .push-after .ensures .0 ∙ call-pushes _ _ _ _ _
+      (c .before .before .before .before .before .before .before .before .before .before .before .before .before .if1 .left)
+      (c .before .before .before .before .before .before .before .before .before .before .before .before .if2 .left) (omega arith) _
+      (c .before .before .before .before .before .before .before .before .before .body-at .ensures .is) _
+      (c .before .before .before .before .before .before .before .before .byte-at2 .ensures .0) _
+      (c .before .before .before .before .before .before .take-types .ensures .0) (c .before .before .before .before .if4 .left),
+  c .before .before .push-after .ensures .1,
 )
 
 pub op-call-spec : {M : Type 1} → statement M
@@ -53,4 +63,7 @@ op-call-spec =
     (λ c. search needs)
     (λ c κs. search needs)
     (λ c. search needs)
-    returns-4)
+    returns-4
+    (λ c κs. search needs)
+    (λ c. search needs)
+    returns-5)

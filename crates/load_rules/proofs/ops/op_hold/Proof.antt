@@ -1,4 +1,4 @@
--- `rules::ops::op_hold` meets its contract. Assumes nothing.
+-- `load_rules::ops::op_hold` meets its contract. Assumes nothing.
 use borrow.Author.Needs.{needs}
 use native.Mathlib.Omega.{arith}
 use borrow.Author.Tests.{eq-eqb, ne-eqb, lt-ltb, le-ltb}

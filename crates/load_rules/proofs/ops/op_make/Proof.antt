@@ -1,11 +1,11 @@
--- `rules::ops::op_make` meets its contract. Assumes nothing.
+-- `load_rules::ops::op_make` meets its contract. Assumes nothing.
 use borrow.Author.Needs.{needs}
 use native.Mathlib.Omega.{arith}
 use mathlib.Core.Path.{_∙_}
 use borrow.Author.Tests.{ne-eqb}
 use Rattle.load_places.specs.Rules.{opMake}
 use Rattle.load_records.proofs.Known.{head-of}
-use Rattle.load_rules.proofs.Laws as law
+use Rattle.load_rules.proofs.Fields.{make-over, make-goes}
 use Rattle.load_rules.proofs.ops.op_make.Statement.{statement}
 use Rattle.load_rules.proofs.ops.op_make.Tie as tie
 
@@ -19,7 +19,7 @@ byte-at-requires c κs =
     omega (arith, head-of _ (at-start .pre .0 .well) .bytes)
 
 returns-2 : tie.Need-returns-2
-returns-2 c = (law.make-over _ _ _ _ _ (c .before .before .if1 .left) (omega arith), tt)
+returns-2 c = (make-over _ _ _ _ _ (c .before .before .if1 .left) (omega arith), tt)
 
 class-type-requires : tie.Need-class-type-requires
 class-type-requires c κs =
@@ -28,7 +28,7 @@ class-type-requires c κs =
 
 returns-3 : tie.Need-returns-3
 returns-3 c = (
-  c .before .before .push-after .ensures .0 ∙ law.make-goes _ _ _ _ _
+  c .before .before .push-after .ensures .0 ∙ make-goes _ _ _ _ _
       (c .before .before .before .before .before .before .before .before .before .before .before .if1 .left) (omega arith) _
       (c .before .before .before .before .before .before .before .before .class-at .ensures .is) _
       (c .before .before .before .before .before .before .before .byte-at2 .ensures .0) _

@@ -1,11 +1,11 @@
--- `rules::ops::op_null` meets its contract. Assumes nothing.
+-- `load_rules::ops::op_null` meets its contract. Assumes nothing.
 use borrow.Author.Needs.{needs}
 use native.Mathlib.Omega.{arith}
 use mathlib.Core.Path.{_∙_}
 use borrow.Author.Tests.{ne-eqb}
 use Rattle.load_places.specs.Rules.{opNull}
 use Rattle.load_records.proofs.Known.{head-of}
-use Rattle.load_rules.proofs.Laws as law
+use Rattle.load_rules.proofs.Cells.{null-over, null-goes}
 use Rattle.load_rules.proofs.ops.op_null.Statement.{statement}
 use Rattle.load_rules.proofs.ops.op_null.Tie as tie
 
@@ -17,7 +17,7 @@ byte-at-requires : tie.Need-byte-at-requires
 byte-at-requires c κs = omega (arith, head-of _ (c .before .before .before .pre .0) .bytes)
 
 returns-2 : tie.Need-returns-2
-returns-2 c = (law.null-over _ _ _ _ _ (c .before .before .if1 .left) (omega arith), tt)
+returns-2 c = (null-over _ _ _ _ _ (c .before .before .if1 .left) (omega arith), tt)
 
 class-type-requires : tie.Need-class-type-requires
 class-type-requires c κs =
@@ -26,7 +26,7 @@ class-type-requires c κs =
 
 returns-3 : tie.Need-returns-3
 returns-3 c = (
-  c .before .before .push-type .ensures .0 ∙ law.null-goes _ _ _ _ _ (c .before .before .before .before .before .before .before .if1 .left)
+  c .before .before .push-type .ensures .0 ∙ null-goes _ _ _ _ _ (c .before .before .before .before .before .before .before .if1 .left)
       (omega arith) _ (c .before .before .before .class-type .ensures),
   c .before .before .push-type .ensures .1,
 )

@@ -1,4 +1,4 @@
--- `rules::ops::op_operator` meets its contract. Assumes nothing.
+-- `load_rules::ops::op_operator` meets its contract. Assumes nothing.
 use borrow.Author.Needs.{needs}
 use mathlib.Core.Path.{_∙_}
 use borrow.Author.Tests.{eq-eqb, ne-eqb}

@@ -1,4 +1,4 @@
--- `rules::ops::owner_body` meets its contract. Assumes nothing.
+-- `load_rules::ops::owner_body` meets its contract. Assumes nothing.
 use borrow.Author.Tests.{eq-eqb, ne-eqb}
 use Rattle.load_rules.proofs.ops.owner_body.Statement.{statement}
 use Rattle.load_rules.proofs.ops.owner_body.Tie as tie

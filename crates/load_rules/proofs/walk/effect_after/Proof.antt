@@ -1,14 +1,15 @@
--- `rules::walk::effect_after` meets its contract. Assumes nothing.
+-- `load_rules::walk::effect_after` meets its contract. Assumes nothing.
 use borrow.Author.Needs.{needs}
 use mathlib.Core.Path.{_∙_}
-use Rattle.load_rules.proofs.Laws as law
+use Rattle.load_rules.proofs.Chains.{fit-goes}
+use Rattle.load_rules.proofs.Addresses.{effect-is}
 use Rattle.load_rules.proofs.walk.effect_after.Statement.{statement}
 use Rattle.load_rules.proofs.walk.effect_after.Tie as tie
 
 effect-of-requires : tie.Need-effect-of-requires
 effect-of-requires c κs =
     let at-start = c .before .before .before .before .before .before .before .before .before .before in
-    let w = law.fit-goes _ _ _ (at-start .pre .5) (c .before .before .f .given .1) in (at-start .pre .0, at-start .pre .2, (at-start .pre .4, w .1, w .0))
+    let w = fit-goes _ _ _ (at-start .pre .5) (c .before .before .flow .given .1) in (at-start .pre .0, at-start .pre .2, (at-start .pre .4, w .1, w .0))
 
 enum-told : tie.Need-enum-told
 enum-told c = search needs
@@ -16,9 +17,9 @@ enum-told c = search needs
 returns : tie.Need-returns
 returns c =
     let at-effect-of = c .before .before in
-    let at-f = at-effect-of .before .before .before in
-    let at-instruction-at = at-f .before .before in (
-      rw (at-f .f .given .1) (at-effect-of .effect-of .ensures .0 ∙ law.effect-is _ _ _ _ _ _ _ _ _ _ (at-instruction-at .instruction-at .ensures .0)
+    let at-flow = at-effect-of .before .before .before in
+    let at-instruction-at = at-flow .before .before in (
+      rw (at-flow .flow .given .1) (at-effect-of .effect-of .ensures .0 ∙ effect-is _ _ _ _ _ _ _ _ _ _ (at-instruction-at .instruction-at .ensures .0)
           (at-instruction-at .instruction-at .ensures .1) (at-instruction-at .instruction-at .ensures .2)),
       at-effect-of .effect-of .ensures .1,
     )

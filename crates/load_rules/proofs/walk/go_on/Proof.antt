@@ -1,4 +1,4 @@
--- `rules::walk::go_on` meets its contract. Assumes nothing.
+-- `load_rules::walk::go_on` meets its contract. Assumes nothing.
 use borrow.Author.Needs.{needs}
 use Rattle.load_rules.proofs.walk.go_on.Statement.{statement}
 use Rattle.load_rules.proofs.walk.go_on.Tie as tie

@@ -1,4 +1,4 @@
--- `rules::walk::is_plain` meets its contract. Assumes nothing.
+-- `load_rules::walk::is_plain` meets its contract. Assumes nothing.
 use borrow.Author.Needs.{needs}
 use borrow.Author.Tests.{eq-eqb, ne-eqb}
 use Rattle.load_places.specs.Rules.{plain}

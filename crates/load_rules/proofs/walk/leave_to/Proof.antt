@@ -1,8 +1,9 @@
--- `rules::walk::leave_to` meets its contract. Assumes nothing.
+-- `load_rules::walk::leave_to` meets its contract. Assumes nothing.
 use borrow.Author.Needs.{needs}
 use mathlib.Core.Path.{ap}
 use Rattle.load_rules.specs.Moves.{flowOf}
-use Rattle.load_rules.proofs.Laws as law
+use Rattle.load_rules.proofs.Chains.{fit-goes}
+use Rattle.load_rules.proofs.Addresses.{leave-out, leave-on, leave-end, leave-lost, leave-met, leave-bad}
 use Rattle.load_rules.proofs.walk.leave_to.Statement.{statement}
 use Rattle.load_rules.proofs.walk.leave_to.Tie as tie
 
@@ -12,28 +13,28 @@ enum-told c = search needs
 returns : tie.Need-returns
 returns c =
     let at-start = c .before .before .before .before .before .before .before .before in
-    (law.leave-end _ _ _ _ _ (c .before .before .before .end-of .ensures) (ap (λ x. flowOf x (at-start .args .st .now)) (c .before .enum-told .given .1)) (c .if2 .taken), tt)
+    (leave-end _ _ _ _ _ (c .before .before .before .end-of .ensures) (ap (λ x. flowOf x (at-start .args .stack .now)) (c .before .enum-told .given .1)) (c .if2 .taken), tt)
 
 returns-2 : tie.Need-returns-2
 returns-2 c =
     let at-end-of = c .before .before .before .before in
     let at-start = at-end-of .before .before .before .before .before in
-    (law.leave-out _ _ _ _ _ (at-end-of .end-of .ensures) _ _ (ap (λ x. flowOf x (at-start .args .st .now)) (c .before .before .f .given .1)) (c .if1 .taken), tt)
+    (leave-out _ _ _ _ _ (at-end-of .end-of .ensures) _ _ (ap (λ x. flowOf x (at-start .args .stack .now)) (c .before .before .flow .given .1)) (c .if1 .taken), tt)
 
 returns-3 : tie.Need-returns-3
 returns-3 c =
-    let at-f = c .before .before in
-    let at-end-of = at-f .before .before in
+    let at-flow = c .before .before in
+    let at-end-of = at-flow .before .before in
     let at-start = at-end-of .before .before .before .before .before in (
-      law.leave-on _ _ _ _ _ (at-end-of .end-of .ensures) _ _ (ap (λ x. flowOf x (at-start .args .st .now)) (at-f .f .given .1)) (c .if1 .left),
-      law.fit-goes _ _ _ (at-start .pre .4) (at-f .f .given .1),
+      leave-on _ _ _ _ _ (at-end-of .end-of .ensures) _ _ (ap (λ x. flowOf x (at-start .args .stack .now)) (at-flow .flow .given .1)) (c .if1 .left),
+      fit-goes _ _ _ (at-start .pre .4) (at-flow .flow .given .1),
     )
 
 returns-4 : tie.Need-returns-4
 returns-4 c =
     let at-end-of = c .before .before .before .before .before in
     let at-start = at-end-of .before .before .before .before .before in (
-      law.leave-lost _ _ _ _ _ (at-end-of .end-of .ensures) (ap (λ x. flowOf x (at-start .args .st .now))
+      leave-lost _ _ _ _ _ (at-end-of .end-of .ensures) (ap (λ x. flowOf x (at-start .args .stack .now))
           (c .before .before .before .enum-told .given .1)) (c .before .before .if2 .left) _ (c .before .shape-at .ensures .is) (c .if3 .taken),
       tt,
     )
@@ -42,7 +43,7 @@ returns-5 : tie.Need-returns-5
 returns-5 c =
     let at-end-of = c .before .before .before .before .before in
     let at-start = at-end-of .before .before .before .before .before in (
-      law.leave-met _ _ _ _ _ (at-end-of .end-of .ensures) (ap (λ x. flowOf x (at-start .args .st .now))
+      leave-met _ _ _ _ _ (at-end-of .end-of .ensures) (ap (λ x. flowOf x (at-start .args .stack .now))
           (c .before .before .before .enum-told .given .1)) (c .before .before .if2 .left) _ (c .before .shape-at .ensures .is) (c .if3 .left),
       tt,
     )
@@ -50,7 +51,7 @@ returns-5 c =
 returns-6 : tie.Need-returns-6
 returns-6 c =
     let at-start = c .before .before .before .before .before .before .before in
-    (law.leave-bad _ _ _ _ _ (c .before .before .end-of .ensures) (ap (λ x. flowOf x (at-start .args .st .now)) (c .enum-told2 .given .1)), tt)
+    (leave-bad _ _ _ _ _ (c .before .before .end-of .ensures) (ap (λ x. flowOf x (at-start .args .stack .now)) (c .enum-told2 .given .1)), tt)
 
 pub leave-to-spec : {M : Type 1} → statement M
 leave-to-spec =

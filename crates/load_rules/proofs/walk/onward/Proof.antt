@@ -1,4 +1,4 @@
--- `rules::walk::onward` meets its contract. Assumes nothing.
+-- `load_rules::walk::onward` meets its contract. Assumes nothing.
 use borrow.Author.Needs.{needs}
 use mathlib.Core.Path.{ap, _∙_}
 use Rattle.load_places.specs.Rules.{leave}

@@ -1,22 +1,22 @@
--- `rules::walk::open_body` meets its contract. Assumes nothing.
+-- `load_rules::walk::open_body` meets its contract. Assumes nothing.
 use borrow.Author.Needs.{needs}
 use native.Mathlib.Omega.{arith}
 use mathlib.Core.Path.{sym, _∙_}
-use Rattle.load_rules.proofs.Laws as law
+use Rattle.load_rules.proofs.Addresses.{opens-other, opens-cells, opens-plain, opens-odd}
 use Rattle.load_rules.proofs.walk.open_body.Statement.{statement}
 use Rattle.load_rules.proofs.walk.open_body.Tie as tie
 
 returns : tie.Need-returns
 returns c =
     let at-start = c .before .before .before .before .before .before in
-    (law.opens-other _ _ _ _ _ (c .before .before .body-at .ensures .is) _ (c .before .half-at .ensures .0) (c .if1 .taken), at-start .pre .2)
+    (opens-other _ _ _ _ _ (c .before .before .body-at .ensures .is) _ (c .before .half-at .ensures .0) (c .if1 .taken), at-start .pre .2)
 
 returns-2 : tie.Need-returns-2
-returns-2 c = (law.opens-cells _ _ _ _ _ (c .before .before .before .before .body-at .ensures .is) _ (c .before .before .before .half-at .ensures .0) (c .before .before .if1 .left) (omega arith), tt)
+returns-2 c = (opens-cells _ _ _ _ _ (c .before .before .before .before .body-at .ensures .is) _ (c .before .before .before .half-at .ensures .0) (c .before .before .if1 .left) (omega arith), tt)
 
 returns-3 : tie.Need-returns-3
 returns-3 c = (
-  law.opens-plain _ _ _ _ _ (c .before .before .before .before .before .before .before .before .body-at .ensures .is) _
+  opens-plain _ _ _ _ _ (c .before .before .before .before .before .before .before .before .body-at .ensures .is) _
       (c .before .before .before .before .before .before .before .half-at .ensures .0) (c .before .before .before .before .before .before .if1 .left)
       (omega arith) _ (c .before .before .before .byte-at2 .ensures .0) _ (c .before .before .byte-at3 .ensures .0)
       (sym (c .before .is-plain .ensures) ∙ c .if3 .taken) _,
@@ -25,7 +25,7 @@ returns-3 c = (
 
 returns-4 : tie.Need-returns-4
 returns-4 c = (
-  law.opens-odd _ _ _ _ _ (c .before .before .before .before .before .before .before .before .body-at .ensures .is) _
+  opens-odd _ _ _ _ _ (c .before .before .before .before .before .before .before .before .body-at .ensures .is) _
       (c .before .before .before .before .before .before .before .half-at .ensures .0) (c .before .before .before .before .before .before .if1 .left)
       (omega arith) _ (c .before .before .before .byte-at2 .ensures .0) _ (c .before .before .byte-at3 .ensures .0) (sym (c .before .is-plain .ensures) ∙ c .if3 .left),
   tt,

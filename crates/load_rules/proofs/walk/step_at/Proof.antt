@@ -1,8 +1,8 @@
--- `rules::walk::step_at` meets its contract. Assumes nothing.
+-- `load_rules::walk::step_at` meets its contract. Assumes nothing.
 use borrow.Author.Needs.{needs}
 use native.Mathlib.Omega.{arith}
 use mathlib.Core.Path.{refl, _∙_}
-use Rattle.load_rules.proofs.Laws as law
+use Rattle.load_rules.proofs.Addresses.{step-is}
 use Rattle.load_rules.proofs.walk.step_at.Statement.{statement}
 use Rattle.load_rules.proofs.walk.step_at.Tie as tie
 
@@ -17,7 +17,7 @@ returns c =
     let at-onward = c .before .before .before in
     let at-found-at = at-onward .before .before .before .before in
     let at-start = at-found-at .before .before .before .before .before .before .before in
-    rw (c .rebuilt .ensures) (at-onward .onward .ensures .0 ∙ law.step-is _ _ _ (at-start .pre .3) _ _ _ (at-found-at .found-at .ensures .0) refl, at-onward .onward .ensures .1)
+    rw (c .rebuilt .ensures) (at-onward .onward .ensures .0 ∙ step-is _ _ _ (at-start .pre .3) _ _ _ (at-found-at .found-at .ensures .0) refl, at-onward .onward .ensures .1)
 
 pub step-at-spec : {M : Type 1} → statement M
 step-at-spec = tie.close (tie.spec (λ c κs. search needs) onward-requires (λ c κs. search needs) (λ c. search needs) returns)
