@@ -1,8 +1,8 @@
 // The names that stand in sight in a table: how many entries each part of it spans, the stack of names in lent numbers, and the heads that
 // push their names on it and are judged.
-pub mod environment;
-pub mod heads;
-pub mod spans;
+mod environment;
+mod heads;
+mod spans;
 
 pub use environment::Found;
 pub use environment::find;
