@@ -1,6 +1,6 @@
--- `operate::binary` meets its contract. Assumes nothing.
-use Rattle.machine_ops.proofs.Says.{held, works-plus, works-minus, works-times, works-divide, works-remainder, works-less, works-at-most, works-greater}
-use Rattle.machine_ops.proofs.Says.{works-at-least, works-equal, works-unequal, works-both, works-either, works-left, works-right}
+-- `machine_ops::operators::binary` meets its contract. Assumes nothing.
+use Rattle.machine_ops.proofs.OperatorSays.{held, works-plus, works-minus, works-times, works-divide, works-remainder, works-less, works-at-most, works-greater}
+use Rattle.machine_ops.proofs.OperatorSays.{works-at-least, works-equal, works-unequal, works-both, works-either, works-left, works-right}
 use borrow.Author.Needs.{needs}
 use Rattle.machine_ops.proofs.operators.binary.Statement.{statement}
 use Rattle.machine_ops.proofs.operators.binary.Tie as tie
