@@ -1,33 +1,36 @@
--- `clearing::clear_records` meets its contract. Assumes nothing.
+-- `state_write::clearing::clear_records` meets its contract. Assumes nothing.
 use native.Mathlib.Omega.{arith}
 use mathlib.Core.Path.{_∙_}
-use Rattle.state_write.proofs.Laws as law
+use Rattle.state_write.proofs.ClearingLaws as law
 use Rattle.state_write.proofs.clearing.clear_records.Statement.{statement}
 use Rattle.state_write.proofs.clearing.clear_records.Tie as tie
+use Rattle.bytecode.specs.State.{recordsAt}
 
 abbrev Inv-loop : tie.InvT-loop
-Inv-loop c cx l₀ n b₀ left₀ l b left = law.Left (law.records c) l₀ 11040 n l b left
+Inv-loop code classes state₀ count place₀ left₀ state place left = law.Left (law.records code) state₀ recordsAt count state place left
 
 abbrev μ-loop : tie.MeasureT-loop
-μ-loop c cx l₀ n b₀ left₀ l b left = left
+μ-loop code classes state₀ count place₀ left₀ state place left = left
 
 loop-holds : tie.Need-loop-holds Inv-loop μ-loop
 loop-holds c = law.all-left (c .before .before .before .pre .3)
 
 clear-record-requires : tie.Need-clear-record-requires Inv-loop μ-loop
-clear-record-requires c κs = (
-  c .before .before .before .before .before .before .pre .0,
-  c .before .before .loop .inv .long
-      ∙ c .before .before .before .before .before .before .pre .1,
-  omega (arith, law.first-inside (c .before .before .loop .inv) (omega arith)),
-  law.first-below (c .before .before .loop .inv) (omega arith),
-)
+clear-record-requires c κs =
+    let at-start = c .before .before .before .before .before .before in (
+      at-start .pre .0,
+      c .before .before .loop .inv .long ∙ at-start .pre .1,
+      omega (arith, law.first-inside (c .before .before .loop .inv) (omega arith)),
+      law.first-below (c .before .before .loop .inv) (omega arith),
+    )
 
-add-b : tie.Need-add-b Inv-loop μ-loop
-add-b c = omega (arith, law.first-inside (c .before .before .before .before .before .loop .inv) (omega arith))
+add-place : tie.Need-add-place Inv-loop μ-loop
+add-place c = omega (arith, law.first-inside (c .before .before .before .before .before .loop .inv) (omega arith))
 
 loop-again : tie.Need-loop-again Inv-loop μ-loop
-loop-again c = law.one-less (c .before .before .before .before .before .loop .inv) (omega arith) _ (c .before .before .clear-record .ensures)
+loop-again c =
+    let at-loop = c .before .before .before .before .before in
+    law.one-less (at-loop .loop .inv) (omega arith) _ (c .before .before .clear-record .ensures)
 
 same-length : tie.Need-same-length Inv-loop μ-loop
 same-length c = c .before .loop .inv .long
@@ -43,7 +46,7 @@ clear-records-spec =
     μ-loop
     loop-holds
     clear-record-requires
-    add-b
+    add-place
     (λ c. omega arith)
     (λ c. omega arith)
     loop-again
