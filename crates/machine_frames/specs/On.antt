@@ -16,7 +16,7 @@ use Rattle.values.specs.Values.{Value, Cell, assigned}
 use Rattle.bytecode.specs.Machine.{Activation, Made, Shared, endBy, running, unwinding, ended, allHolds, rootOf, putTop, putLowest, fieldPut}
 use Rattle.bytecode.specs.State.{typeByte, wordOfCell, byteOfCell, encode}
 use Rattle.bytecode_layout.specs.Parts.{length-encode}
-use Rattle.bytecode_layout.specs.Places.{framePlace, body, depth, open′, address, cellWord, operandWord, cellType, operandType, fieldWord, fieldType, phase, code, activations, records, holds, group}
+use Rattle.bytecode_layout.specs.Places.{framePlace, depth, open′, address, cellWord, operandWord, cellType, operandType, fieldWord, fieldType, phase, code, activations, records, holds, group}
 use Rattle.bytecode_layout.specs.Edits.{on}
 use Rattle.bytecode_layout.specs.Steps.{activation, goes-law, push-law, pop-law, operand-law, cell-law, cell-next-law, take-law, let-law, enter-law}
 use Rattle.bytecode_layout.specs.Records.{made, make-law, field-next-law, field-law, root-cell-law}

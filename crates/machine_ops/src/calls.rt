@@ -49,7 +49,8 @@ pub fn op_call(
     address: u16,
     body: u8,
 ) -> Out
-    requires { ⌜ (Room (now state) frame depth address) × (place ≡ bodyPlace (now code) body) × (body < bodies (now code)) × (given (now code) place ≤ depth) × (byteAt (now state) 2 < 32 → CallRoom (now code) place (now state) frame depth) ⌝ }
+    requires { ⌜ (Room (now state) frame depth address) × (place ≡ bodyPlace (now code) body) × (body < bodies (now code)) × (given (now code) place ≤ depth)
+        × (byteAt (now state) 2 < 32 → CallRoom (now code) place (now state) frame depth) ⌝ }
     ensures { λ r. ⌜ TellsOf (now (code .entry)) (λ m h. doCall m body h) (now (state .entry)) frame depth address (now (state .exit)) r ⌝ }
 {
     if state[ACTIVATION_COUNT_AT] < FULL {

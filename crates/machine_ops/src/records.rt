@@ -59,7 +59,8 @@ pub fn op_get_field(
     c: u8,
     b: usize,
 ) -> Out
-    requires { ⌜ (Room (now state) frame depth address) × (0 < depth) × ((wordAt (now state) (frame + (operandWordsAt + 4 * (depth - 1))) ≡ 0 → ⊥) → FieldRoom (wordAt (now state) (frame + (operandWordsAt + 4 * (depth - 1)))) b) ⌝ }
+    requires { ⌜ (Room (now state) frame depth address) × (0 < depth)
+        × ((wordAt (now state) (frame + (operandWordsAt + 4 * (depth - 1))) ≡ 0 → ⊥) → FieldRoom (wordAt (now state) (frame + (operandWordsAt + 4 * (depth - 1)))) b) ⌝ }
     ensures { λ r. ⌜ Tells (λ m h. doGetField m c b h) (now (state .entry)) frame depth address (now (state .exit)) r ⌝ }
 {
     let k = depth - 1;
@@ -84,7 +85,8 @@ pub fn op_put_field(
     c: u8,
     b: usize,
 ) -> Out
-    requires { ⌜ (Room (now state) frame depth address) × (2 ≤ depth) × ((wordAt (now state) (frame + (operandWordsAt + 4 * (depth - 2))) ≡ 0 → ⊥) → FieldRoom (wordAt (now state) (frame + (operandWordsAt + 4 * (depth - 2)))) b) ⌝ }
+    requires { ⌜ (Room (now state) frame depth address) × (2 ≤ depth)
+        × ((wordAt (now state) (frame + (operandWordsAt + 4 * (depth - 2))) ≡ 0 → ⊥) → FieldRoom (wordAt (now state) (frame + (operandWordsAt + 4 * (depth - 2)))) b) ⌝ }
     ensures { λ r. ⌜ Tells (λ m h. doPutField m c b h) (now (state .entry)) frame depth address (now (state .exit)) r ⌝ }
 {
     let k = depth - 1;

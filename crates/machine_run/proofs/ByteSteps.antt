@@ -15,7 +15,7 @@ use Rattle.values.specs.Ends.{accepted, isCondition}
 use Rattle.values.specs.Values.{tysOf}
 use Rattle.bytecode.specs.Macro.{Macro, shape, readMacro}
 use Rattle.bytecode.specs.Instructions.{Instr, instruction, instrAt}
-use Rattle.bytecode.specs.Machine.{Activation, Made, Shared, endBy, Machine, running, unwinding, ended, act, fetch, step}
+use Rattle.bytecode.specs.Machine.{Activation, Shared, endBy, Machine, running, unwinding, ended, act, fetch, step}
 use Rattle.bytecode.specs.Runs.{bankOf}
 use Rattle.bytecode.specs.Sound.{sound}
 use Rattle.bytecode.specs.State.{encode, activationLength, activationsAt, holdsAt, stateLength}

@@ -60,7 +60,8 @@ pub fn dispatch(
     a: u8,
     b: u32,
 ) -> Out
-    requires { ⌜ (Room (now state) frame depth address) × (Bodied (now code) (now bodies)) × (Classed (now code) (now classes)) × (length (now readings) ≡ 64) × (Poised (now code) (now readings) op a b (now state) frame depth address) ⌝ }
+    requires { ⌜ (Room (now state) frame depth address) × (Bodied (now code) (now bodies)) × (Classed (now code) (now classes)) × (length (now readings) ≡ 64)
+        × (Poised (now code) (now readings) op a b (now state) frame depth address) ⌝ }
     ensures { λ r. ⌜ Acts (now (code .entry)) (now (readings .entry)) op a b (now (state .entry)) frame depth address (now (state .exit)) r ⌝ }
 {
     match op {

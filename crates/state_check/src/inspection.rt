@@ -14,7 +14,7 @@ ghost use Prim.Native.Nat.{ℕ, _+_, _*_, _≤_, _<_};
 ghost use lib.ListN.{length};
 ghost use lib.Dec.{eqb};
 ghost use Rattle.words.specs.Numbers.{byteAt};
-ghost use Rattle.load_places.specs.Search.{first, tops};
+ghost use Rattle.load_places.specs.Search.{tops};
 ghost use Rattle.load_places.specs.Records.{count, codeBase, badHead};
 ghost use Rattle.load_places.specs.Rules.{bodyOf, found, into, broken};
 ghost use Rattle.load_places.specs.Index.{Indexed};
@@ -132,7 +132,8 @@ fn stands_if(
     depth: usize,
 ) -> bool
     requires { ⌜ (Bodied (now code) (now bodies)) × (Counted (now code) (now state) activations) × (records ≤ 256) × (k < activations) × (length (now stack) ≡ 32) × (depth ≤ 32) ⌝ }
-    ensures { λ x. ⌜ x ≡ cond (eqb (addressIn (now (state .entry)) k) address) (standsIn (now (code .entry)) (now (state .entry)) records activations k body holds (tops (now (stack .entry)) 0 depth)) true ⌝ }
+    ensures { λ x. ⌜ x ≡ cond (eqb (addressIn (now (state .entry)) k) address) (standsIn (now (code .entry)) (now (state .entry)) records activations k body holds
+        (tops (now (stack .entry)) 0 depth)) true ⌝ }
 {
     let a = words::wide::half_at(state, ACTIVATIONS_AT + ACTIVATION_BYTES * k + ADDRESS_AT);
     if a != address {
@@ -166,7 +167,8 @@ fn all_stand(
     depth: usize,
 ) -> bool
     requires { ⌜ (Bodied (now code) (now bodies)) × (Counted (now code) (now state) activations) × (records ≤ 256) × (length (now stack) ≡ 32) × (depth ≤ 32) ⌝ }
-    ensures { λ x. ⌜ x ≡ each (λ k. cond (eqb (addressIn (now (state .entry)) k) address) (standsIn (now (code .entry)) (now (state .entry)) records activations k body holds (tops (now (stack .entry)) 0 depth)) true) 0 activations ⌝ }
+    ensures { λ x. ⌜ x ≡ each (λ k. cond (eqb (addressIn (now (state .entry)) k) address) (standsIn (now (code .entry)) (now (state .entry)) records activations k body holds
+        (tops (now (stack .entry)) 0 depth)) true) 0 activations ⌝ }
 {
     let mut ok = true;
     let mut k: usize = 0;
@@ -271,7 +273,9 @@ fn look(
     ok: bool,
     next: usize,
 ) -> Wanted
-    requires { ⌜ (Bodied (now code) (now bodies)) × (Counted (now code) (now state) activations) × (records ≤ 256) × (length (now stack) ≡ 32) × (Fit flow) × (address < 65536) × (body ≡ bodyOf (now code) address) × (flowOf flow (now stack) ≡ found (now code) address (into (now code) address)) × (Upto (now code) (now state) records activations address ok next) ⌝ }
+    requires { ⌜ (Bodied (now code) (now bodies)) × (Counted (now code) (now state) activations) × (records ≤ 256) × (length (now stack) ≡ 32) × (Fit flow) × (address < 65536)
+        × (body ≡ bodyOf (now code) address) × (flowOf flow (now stack) ≡ found (now code) address (into (now code) address))
+        × (Upto (now code) (now state) records activations address ok next) ⌝ }
     ensures { λ x. ⌜ (broken (now (code .entry)) address ≡ false → Upto (now (code .entry)) (now (state .entry)) records activations (address + 1) (x .ok) (x .next)) ⌝ }
 {
     if address < next {
@@ -312,7 +316,8 @@ fn walk_tests(
     records: usize,
     activations: usize,
 ) -> Tested
-    requires { ⌜ (Able (now code) (now shapes) (now bodies) (now classes)) × (base ≡ codeBase (now code)) × (length (now stack) ≡ 32) × (Counted (now code) (now state) activations) × (records ≤ 256) ⌝ }
+    requires { ⌜ (Able (now code) (now shapes) (now bodies) (now classes)) × (base ≡ codeBase (now code)) × (length (now stack) ≡ 32) × (Counted (now code) (now state) activations)
+        × (records ≤ 256) ⌝ }
     ensures { λ x. ⌜ Tests (now (code .entry)) (now (state .entry)) records activations (x .at) (x .ok) ⌝ }
 {
     let stop = words::wide::half_at(code, CODE_COUNT_AT);
@@ -394,10 +399,11 @@ fn inspect_in(
     classes: &mut [u32],
     instructions: usize,
 ) -> Inspected
-    requires { ⌜ (badHead (now code) ≡ false) × (instructions ≡ count (now code)) × (instructions ≤ length (now shapes)) × (64 ≤ length (now bodies)) × (16 ≤ length (now classes)) × (Indexed (now code) (now shapes) instructions 0) × (length (now state) ≡ stateLength) ⌝ }
+    requires { ⌜ (badHead (now code) ≡ false) × (instructions ≡ count (now code)) × (instructions ≤ length (now shapes)) × (64 ≤ length (now bodies)) × (16 ≤ length (now classes))
+        × (Indexed (now code) (now shapes) instructions 0) × (length (now state) ≡ stateLength) ⌝ }
     ensures { λ x. ⌜ Tells (now (code .entry)) (now (state .entry)) (now (bodies .exit)) (now (classes .exit)) x ⌝ }
 {
-    let mut st = [0u8; MAX_OPERANDS];
+    let mut stack = [0u8; MAX_OPERANDS];
     match load_check::scan(code, shapes, bodies, classes, instructions) {
         Records::Unread(k) => Inspected::Refused(8, k),
         Records::Reads(base) => {
@@ -409,7 +415,7 @@ fn inspect_in(
                 bodies,
                 classes,
                 base,
-                &mut st,
+                &mut stack,
                 state,
                 counts.records,
                 counts.activations,
@@ -435,7 +441,8 @@ fn inspect_large(
     classes: &mut [u32],
     instructions: usize,
 ) -> Inspected
-    requires { ⌜ (badHead (now code) ≡ false) × (instructions ≡ count (now code)) × (instructions < 65536) × (64 ≤ length (now bodies)) × (16 ≤ length (now classes)) × (length (now state) ≡ stateLength) ⌝ }
+    requires { ⌜ (badHead (now code) ≡ false) × (instructions ≡ count (now code)) × (instructions < 65536) × (64 ≤ length (now bodies)) × (16 ≤ length (now classes))
+        × (length (now state) ≡ stateLength) ⌝ }
     ensures { λ x. ⌜ Tells (now (code .entry)) (now (state .entry)) (now (bodies .exit)) (now (classes .exit)) x ⌝ }
 {
     if instructions <= 8192 {

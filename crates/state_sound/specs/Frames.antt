@@ -2,7 +2,7 @@
 use mathlib.Core.Path.{_≡_, refl, sym, ap, _∙_}
 use mathlib.Core.Bool.{Bool, true, false, cond, _&&_, false≢true}
 use mathlib.Core.List.{List, [], _∷_, _++_, reverse, reverseAux}
-use Prim.Native.Nat.{ℕ, zero, suc, _+_, _*_, _-_, _≤_, _<_}
+use Prim.Native.Nat.{ℕ, zero, suc, _+_, _*_, _≤_, _<_}
 use native.Mathlib.Nat.{zero-add}
 use native.Mathlib.Omega.{arith}
 use lib.Dec.{eqb, leb, ltb}
@@ -17,7 +17,7 @@ use Rattle.values.specs.Values.{Value, tyOf, tysOf}
 use Rattle.bytecode.specs.Macro.{Macro}
 use Rattle.bytecode.specs.Instructions.{inBody}
 use Rattle.bytecode.specs.Machine.{Made}
-use Rattle.bytecode.specs.Sound.{soundValue, typedValues, typedCells, soundRecord, soundGroup, soundActivation}
+use Rattle.bytecode.specs.Sound.{soundValue, typedCells, soundRecord, soundGroup, soundActivation}
 use Rattle.bytecode.specs.State.{part, cellTypesAt, cellWordsAt, holdsAt, operandTypesAt, operandWordsAt, stateLength}
 use Rattle.load_places.specs.Search.{tops, alike, Clean}
 use Rattle.load_places.specs.Records.{classes, bodies, count, classPlace, bodyPlace, firstOf}

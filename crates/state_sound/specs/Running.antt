@@ -3,7 +3,7 @@ use mathlib.Core.Path.{_≡_, refl, sym, _∙_}
 use mathlib.Core.Bool.{Bool, true, false, cond, _&&_}
 use mathlib.Core.List.{List, [], _∷_}
 use mathlib.Core.Option.{none, some}
-use Prim.Native.Nat.{ℕ, zero, suc, _+_, _*_, _-_, _≤_, _<_}
+use Prim.Native.Nat.{ℕ, zero, suc, _+_, _*_, _≤_, _<_}
 use native.Mathlib.Numerals.{add-one}
 use native.Mathlib.Omega.{arith}
 use lib.Dec.{eqb, leb, ltb}
@@ -16,7 +16,6 @@ use Rattle.words.specs.Numbers.{byteAt, halfAt, wordAt}
 use Rattle.words.specs.Laws.{Bytes}
 use Rattle.values.specs.Types.{Ty}
 use Rattle.bytecode.specs.Macro.{Macro}
-use Rattle.bytecode.specs.Instructions.{instrAt}
 use Rattle.bytecode.specs.Machine.{Activation, Made, Machine, running, allHolds}
 use Rattle.bytecode.specs.Sound.{soundRecord, soundGroup, soundActivation, callsBody, soundWaiting, sound}
 use Rattle.bytecode.specs.State.{part, readActivations, readRecords, assemble, readRunning, holdsAt, recordsAt, stateLength}

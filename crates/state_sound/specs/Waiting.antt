@@ -2,15 +2,14 @@
 use mathlib.Core.Path.{_≡_, refl, sym, ap, _∙_}
 use mathlib.Core.Bool.{Bool, true, false, cond, _&&_}
 use mathlib.Core.List.{List, reverse}
-use Prim.Native.Nat.{ℕ, zero, suc, _+_, _-_, _≤_, _<_}
+use Prim.Native.Nat.{ℕ, zero, suc, _+_, _≤_, _<_}
 use native.Mathlib.Nat.{add-zero, add-suc, suc-add, zero-add}
 use native.Mathlib.Omega.{arith}
-use lib.Dec.{eqb, leb, ltb}
+use lib.Dec.{eqb, leb}
 use lib.ListN.{length, getElem?, drop, take, length-append, length-reverse, length-drop}
 use lib.Seq.{length-take-le, drop-cons, getD-take, getD-drop}
-use borrow.Author.Tests.{lt-ltb, eqb-true}
+use borrow.Author.Tests.{lt-ltb}
 use Rattle.words.specs.Lists.{all}
-use Rattle.words.specs.Choice.{if_then_else_}
 use Rattle.words.specs.Numbers.{byteAt}
 use Rattle.values.specs.Types.{Ty}
 use Rattle.bytecode.specs.Instructions.{bodyAt}
@@ -21,7 +20,7 @@ use Rattle.bytecode.specs.State.{part, holdsAt, stateLength}
 use Rattle.load_places.specs.Search.{tops}
 use Rattle.load_places.specs.Records.{bodies, bodyPlace}
 use Rattle.load_places.specs.Index.{Well}
-use Rattle.load_check.specs.Seen.{backs, span-take, reverse-span, by-test, view, bytes, stack-bytes, known-body, body-at}
+use Rattle.load_check.specs.Seen.{backs, span-take, reverse-span, view, bytes, stack-bytes, known-body, body-at}
 use Rattle.state_sound.specs.Each.{each, and-assoc, each-snoc, each-same}
 use Rattle.state_sound.specs.Fits.{bodyIn, openIn, addressIn, held}
 use Rattle.state_sound.specs.Decoded.{cellCount, holdsOn, frameOn}

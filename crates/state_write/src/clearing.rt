@@ -82,7 +82,8 @@ fn wipe_record(state: &mut [u8], place: usize, fields: usize)
 
 fn clear_activation(code: &[u8], bodies: &[u32], state: &mut [u8], place: usize)
     requires { ⌜ (Bodied (now code) (now bodies)) × (length (now state) ≡ stateLength) × (place + activationLength ≤ stateLength) × (byteAt (now state) place < bodyCount (now code)) ⌝ }
-    ensures { λ _. ⌜ now (state .exit) ≡ wipes (now (state .entry)) place (activationGaps (cellCount (view (now (code .entry))) (byteAt (now (state .entry)) place)) (byteAt (now (state .entry)) (place + 1))) ⌝ }
+    ensures { λ _. ⌜ now (state .exit) ≡ wipes (now (state .entry)) place (activationGaps (cellCount (view (now (code .entry))) (byteAt (now (state .entry)) place))
+        (byteAt (now (state .entry)) (place + 1))) ⌝ }
 {
     let k = words::wide::byte_at(state, place);
     let operands = words::wide::byte_at(state, place + OPERAND_COUNT_AT);
@@ -152,7 +153,8 @@ fn clear_room(state: &mut [u8], activations: usize, holds: usize)
 
 fn clear_running(code: &[u8], bodies: &[u32], classes: &[u32], state: &mut [u8])
     requires { ⌜ (Bodied (now code) (now bodies)) × (Classed (now code) (now classes)) × (length (now state) ≡ stateLength) × (Uncleared (now code) (now state)) ⌝ }
-    ensures { λ _. ⌜ now (state .exit) ≡ clearRunning (view (now (code .entry))) (byteAt (now (state .entry)) 2) (halfAt (now (state .entry)) 4) (halfAt (now (state .entry)) 6) (now (state .entry)) ⌝ }
+    ensures { λ _. ⌜ now (state .exit) ≡ clearRunning (view (now (code .entry))) (byteAt (now (state .entry)) 2) (halfAt (now (state .entry)) 4) (halfAt (now (state .entry)) 6)
+        (now (state .entry)) ⌝ }
 {
     let n = words::wide::byte_at(state, ACTIVATION_COUNT_AT);
     let r = words::wide::half_at(state, RECORD_COUNT_AT);

@@ -80,106 +80,11 @@ op-assert-requires : tie.Need-op-assert-requires
 op-assert-requires c κs = let s = start-of (c .before .before) .pre in (s .0, asks-assert (s .4) (c .before .match .keys20))
 
 -- ── what they do ──
-returns : tie.Need-returns
-returns c =
-    let m = c .before .before .before .before in
-    by-end (start-of (m .before) .pre .4) (m .match .keys1) (c .before .before .op-end .ensures)
-
 returns-2 : tie.Need-returns-2
 returns-2 c =
     let m = c .before .before .before .before in
     let s = start-of (m .before) in
     by-integer (s .pre .4) (m .match .keys2) (s .fits .b .fits) (c .before .before .op-push .ensures)
-
-returns-3 : tie.Need-returns-3
-returns-3 c =
-    let m = c .before .before .before .before in
-    by-logical (start-of (m .before) .pre .4) (m .match .keys3) (c .before .before .op-push2 .ensures)
-
-returns-4 : tie.Need-returns-4
-returns-4 c =
-    let m = c .before .before .before .before in
-    by-bits (start-of (m .before) .pre .4) (m .match .keys4) (c .before .before .op-push3 .ensures)
-
-returns-5 : tie.Need-returns-5
-returns-5 c =
-    let m = c .before .before .before .before in
-    by-null (start-of (m .before) .pre .4) (m .match .keys5) (c .before .before .op-push4 .ensures)
-
-returns-6 : tie.Need-returns-6
-returns-6 c =
-    let m = c .before .before .before .before in
-    by-load (start-of (m .before) .pre .4) (m .match .keys6) (c .before .before .op-load .ensures)
-
-returns-7 : tie.Need-returns-7
-returns-7 c =
-    let m = c .before .before .before .before in
-    by-store (start-of (m .before) .pre .4) (m .match .keys7) (c .before .before .op-store .ensures)
-
-returns-8 : tie.Need-returns-8
-returns-8 c =
-    let m = c .before .before .before .before in
-    by-operate (start-of (m .before) .pre .4) (m .match .keys8) (c .before .before .op-operate .ensures)
-
-returns-9 : tie.Need-returns-9
-returns-9 c =
-    let m = c .before .before .before .before in
-    by-go (start-of (m .before) .pre .4) (m .match .keys9) (c .before .before .op-go .ensures)
-
-returns-10 : tie.Need-returns-10
-returns-10 c =
-    let m = c .before .before .before .before in
-    by-unless (start-of (m .before) .pre .4) (m .match .keys10) (c .before .before .op-unless .ensures)
-
-returns-11 : tie.Need-returns-11
-returns-11 c =
-    let m = c .before .before .before .before in
-    by-call (start-of (m .before) .pre .4) (m .match .keys11) (c .before .before .call .ensures)
-
-returns-12 : tie.Need-returns-12
-returns-12 c =
-    let m = c .before .before .before .before in
-    by-return (start-of (m .before) .pre .4) (m .match .keys12) (c .before .before .op-return .ensures)
-
-returns-13 : tie.Need-returns-13
-returns-13 c =
-    let m = c .before .before .before .before in
-    by-make (start-of (m .before) .pre .4) (m .match .keys13) (c .before .before .make .ensures)
-
-returns-14 : tie.Need-returns-14
-returns-14 c =
-    let m = c .before .before .before .before in
-    by-get (start-of (m .before) .pre .4) (m .match .keys14) (c .before .before .op-get-field .ensures)
-
-returns-15 : tie.Need-returns-15
-returns-15 c =
-    let m = c .before .before .before .before in
-    by-put (start-of (m .before) .pre .4) (m .match .keys15) (c .before .before .op-put-field .ensures)
-
-returns-16 : tie.Need-returns-16
-returns-16 c =
-    let m = c .before .before .before .before in
-    by-set (start-of (m .before) .pre .4) (m .match .keys16) (c .before .before .op-set .ensures)
-
-returns-17 : tie.Need-returns-17
-returns-17 c =
-    let m = c .before .before .before .before in
-    by-fader (start-of (m .before) .pre .4) (m .match .keys17) (c .before .before .op-fader .ensures)
-
-returns-18 : tie.Need-returns-18
-returns-18 c =
-    let m = c .before .before .before .before in
-    by-hold (start-of (m .before) .pre .4) (m .match .keys18) (c .before .before .op-hold .ensures)
-
-returns-19 : tie.Need-returns-19
-returns-19 c =
-    let m = c .before .before .before .before in
-    by-release (start-of (m .before) .pre .4) (m .match .keys19) (c .before .before .op-release .ensures)
-
-returns-20 : tie.Need-returns-20
-returns-20 c =
-    let m = c .before .before .before .before in
-    by-assert (start-of (m .before) .pre .4) (m .match .keys20) (c .before .before .op-assert .ensures)
 
 returns-21 : tie.Need-returns-21
 returns-21 c =
@@ -225,44 +130,44 @@ dispatch-spec =
     op-assert-requires
     (λ c κs. search needs)
     (λ c. search needs)
-    returns
+    (λ c. let m = c .before .before .before .before in by-end (start-of (m .before) .pre .4) (m .match .keys1) (c .before .before .op-end .ensures))
     (λ c. search needs)
     returns-2
     (λ c. search needs)
-    returns-3
+    (λ c. let m = c .before .before .before .before in by-logical (start-of (m .before) .pre .4) (m .match .keys3) (c .before .before .op-push2 .ensures))
     (λ c. search needs)
-    returns-4
+    (λ c. let m = c .before .before .before .before in by-bits (start-of (m .before) .pre .4) (m .match .keys4) (c .before .before .op-push3 .ensures))
     (λ c. search needs)
-    returns-5
+    (λ c. let m = c .before .before .before .before in by-null (start-of (m .before) .pre .4) (m .match .keys5) (c .before .before .op-push4 .ensures))
     (λ c. search needs)
-    returns-6
+    (λ c. let m = c .before .before .before .before in by-load (start-of (m .before) .pre .4) (m .match .keys6) (c .before .before .op-load .ensures))
     (λ c. search needs)
-    returns-7
+    (λ c. let m = c .before .before .before .before in by-store (start-of (m .before) .pre .4) (m .match .keys7) (c .before .before .op-store .ensures))
     (λ c. search needs)
-    returns-8
+    (λ c. let m = c .before .before .before .before in by-operate (start-of (m .before) .pre .4) (m .match .keys8) (c .before .before .op-operate .ensures))
     (λ c. search needs)
-    returns-9
+    (λ c. let m = c .before .before .before .before in by-go (start-of (m .before) .pre .4) (m .match .keys9) (c .before .before .op-go .ensures))
     (λ c. search needs)
-    returns-10
+    (λ c. let m = c .before .before .before .before in by-unless (start-of (m .before) .pre .4) (m .match .keys10) (c .before .before .op-unless .ensures))
     (λ c. search needs)
-    returns-11
+    (λ c. let m = c .before .before .before .before in by-call (start-of (m .before) .pre .4) (m .match .keys11) (c .before .before .call .ensures))
     (λ c. search needs)
-    returns-12
+    (λ c. let m = c .before .before .before .before in by-return (start-of (m .before) .pre .4) (m .match .keys12) (c .before .before .op-return .ensures))
     (λ c. search needs)
-    returns-13
+    (λ c. let m = c .before .before .before .before in by-make (start-of (m .before) .pre .4) (m .match .keys13) (c .before .before .make .ensures))
     (λ c. search needs)
-    returns-14
+    (λ c. let m = c .before .before .before .before in by-get (start-of (m .before) .pre .4) (m .match .keys14) (c .before .before .op-get-field .ensures))
     (λ c. search needs)
-    returns-15
+    (λ c. let m = c .before .before .before .before in by-put (start-of (m .before) .pre .4) (m .match .keys15) (c .before .before .op-put-field .ensures))
     (λ c. search needs)
-    returns-16
+    (λ c. let m = c .before .before .before .before in by-set (start-of (m .before) .pre .4) (m .match .keys16) (c .before .before .op-set .ensures))
     (λ c. search needs)
-    returns-17
+    (λ c. let m = c .before .before .before .before in by-fader (start-of (m .before) .pre .4) (m .match .keys17) (c .before .before .op-fader .ensures))
     (λ c. search needs)
-    returns-18
+    (λ c. let m = c .before .before .before .before in by-hold (start-of (m .before) .pre .4) (m .match .keys18) (c .before .before .op-hold .ensures))
     (λ c. search needs)
-    returns-19
+    (λ c. let m = c .before .before .before .before in by-release (start-of (m .before) .pre .4) (m .match .keys19) (c .before .before .op-release .ensures))
     (λ c. search needs)
-    returns-20
+    (λ c. let m = c .before .before .before .before in by-assert (start-of (m .before) .pre .4) (m .match .keys20) (c .before .before .op-assert .ensures))
     (λ c. search needs)
     returns-21)

@@ -1,7 +1,7 @@
 -- `machine_run::steps::run_running` meets its contract. Assumes nothing. The invariant, and that each op's arm keeps it, are in `LoopInvariant`.
 use borrow.Author.Needs.{needs}
 use native.Mathlib.Omega.{arith}
-use Prim.Native.Nat.{ℕ, _+_, _*_, _-_, _≤_, _<_}
+use Prim.Native.Nat.{_+_, _*_, _-_, _≤_, _<_}
 use mathlib.Core.Path.{_≡_, refl, _∙_}
 use lib.ListN.{length}
 use denote.Ref.{now}

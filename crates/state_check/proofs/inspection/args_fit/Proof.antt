@@ -2,7 +2,7 @@
 use borrow.Author.Needs.{needs}
 use native.Mathlib.Omega.{arith}
 use mathlib.Core.Path.{ap, _∙_}
-use Prim.Native.Nat.{_+_, _-_}
+use Prim.Native.Nat.{_+_}
 use Rattle.state_check.proofs.StandingLaws as law
 use Rattle.load_places.specs.Records.{bodyPlace}
 use Rattle.state_check.proofs.inspection.args_fit.Statement.{statement}

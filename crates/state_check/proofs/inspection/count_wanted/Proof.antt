@@ -2,7 +2,6 @@
 use borrow.Author.Needs.{needs}
 use borrow.Author.Tests.{not-true, not-false}
 use mathlib.Core.Path.{sym, _∙_}
-use Prim.Native.Nat.{_-_}
 use Rattle.state_check.proofs.StandingLaws as law
 use Rattle.state_check.proofs.inspection.count_wanted.Statement.{statement}
 use Rattle.state_check.proofs.inspection.count_wanted.Tie as tie

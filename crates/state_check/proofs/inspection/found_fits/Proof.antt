@@ -1,6 +1,5 @@
 -- `state_check::inspection::found_fits` meets its contract. Assumes nothing.
 use borrow.Author.Needs.{needs}
-use Prim.Native.Nat.{_-_}
 use Rattle.load_check.specs.Walk as rule
 use Rattle.state_check.proofs.inspection.found_fits.Statement.{statement}
 use Rattle.state_check.proofs.inspection.found_fits.Tie as tie

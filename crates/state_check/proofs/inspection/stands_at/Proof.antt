@@ -3,7 +3,7 @@ use borrow.Author.Needs.{needs}
 use borrow.Author.Tests.{not-true, not-false}
 use native.Mathlib.Omega.{arith}
 use mathlib.Core.Path.{sym, ap, _∙_}
-use Prim.Native.Nat.{ℕ, _-_}
+use Prim.Native.Nat.{ℕ}
 use Rattle.state_check.proofs.StandingLaws as law
 use Rattle.load_check.specs.Lookups.{head-of}
 use Rattle.state_check.specs.Tested.{argsFit}

@@ -1,7 +1,6 @@
 -- `state_check::inspection::stands_if` meets its contract. Assumes nothing.
 use borrow.Author.Needs.{needs}
 use mathlib.Core.Path.{sym, _∙_}
-use Prim.Native.Nat.{_-_}
 use Rattle.state_sound.specs.Fits.{addressIn}
 use borrow.Author.Tests.{eq-eqb, ne-eqb}
 use Rattle.state_check.proofs.inspection.stands_if.Statement.{statement}

@@ -1,7 +1,7 @@
 -- `state_check::tests::calls_next` meets its contract. Assumes nothing.
 use borrow.Author.Needs.{needs}
 use mathlib.Core.Path.{sym, _∙_}
-use Prim.Native.Nat.{ℕ, _+_, _-_}
+use Prim.Native.Nat.{ℕ, _+_}
 use Rattle.words.specs.Numbers.{byteAt}
 use Rattle.load_places.specs.Records.{codePlace}
 use Rattle.state_check.proofs.TestExits as law

@@ -1,7 +1,6 @@
 -- `state_check::tests::is_end` meets its contract. Assumes nothing.
 use borrow.Author.Needs.{needs}
 use mathlib.Core.Path.{_∙_}
-use Prim.Native.Nat.{_-_}
 use Rattle.state_check.proofs.TestExits as law
 use Rattle.state_check.proofs.tests.is_end.Statement.{statement}
 use Rattle.state_check.proofs.tests.is_end.Tie as tie

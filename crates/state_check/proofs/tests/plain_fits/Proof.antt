@@ -1,7 +1,6 @@
 -- `state_check::tests::plain_fits` meets its contract. Assumes nothing.
 use borrow.Author.Needs.{needs}
 use mathlib.Core.Path.{sym, _∙_}
-use Prim.Native.Nat.{_-_}
 use Rattle.state_check.proofs.TestExits as law
 use Rattle.state_check.proofs.tests.plain_fits.Statement.{statement}
 use Rattle.state_check.proofs.tests.plain_fits.Tie as tie

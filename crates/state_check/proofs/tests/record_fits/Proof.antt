@@ -2,7 +2,6 @@
 use borrow.Author.Needs.{needs}
 use native.Mathlib.Omega.{arith}
 use mathlib.Core.Path.{ap, _∙_}
-use Prim.Native.Nat.{_-_}
 use Rattle.state_check.proofs.TestExits as law
 use Rattle.load_places.specs.Records.{classPlace}
 use Rattle.load_check.specs.Lookups.{head-of}

@@ -2,7 +2,6 @@
 use borrow.Author.Needs.{needs}
 use native.Mathlib.Omega.{arith}
 use mathlib.Core.Path.{sym, _∙_}
-use Prim.Native.Nat.{_-_}
 use Rattle.state_check.proofs.TestExits as law
 use borrow.Author.Tests.{not-true, not-false}
 use Rattle.state_check.proofs.tests.running_fits.Statement.{statement}

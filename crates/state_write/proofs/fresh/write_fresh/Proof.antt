@@ -1,7 +1,6 @@
 -- `state_write::fresh::write_fresh` meets its contract. Assumes nothing.
 use borrow.Author.Needs.{needs}
 use mathlib.Core.Path.{sym, ap, _∙_}
-use Prim.Native.Nat.{_-_}
 use lib.ListN.{length}
 use Rattle.bytecode_layout.specs.Parts.{length-encode}
 use Rattle.state_write.specs.Fresh.{fresh-none}
