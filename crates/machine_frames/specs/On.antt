@@ -16,7 +16,7 @@ use Rattle.values.specs.Values.{Value, Cell, assigned}
 use Rattle.bytecode.specs.Machine.{Activation, Made, Shared, endBy, running, unwinding, ended, allHolds, rootOf, putTop, putLowest, fieldPut}
 use Rattle.bytecode.specs.State.{typeByte, wordOfCell, byteOfCell, encode}
 use Rattle.bytecode_layout.specs.Parts.{length-encode}
-use Rattle.bytecode_layout.specs.Places.{framePlace, body, depth, open′, address, cellWord, operandWord, cellType, operandType, fieldWord, fieldType, phase, code, activations, records, holds, group}
+use Rattle.bytecode_layout.specs.Places.{framePlace, depth, open′, address, cellWord, operandWord, cellType, operandType, fieldWord, fieldType, phase, code, activations, records, holds, group}
 use Rattle.bytecode_layout.specs.Edits.{on}
 use Rattle.bytecode_layout.specs.Steps.{activation, goes-law, push-law, pop-law, operand-law, cell-law, cell-next-law, take-law, let-law, enter-law}
 use Rattle.bytecode_layout.specs.Records.{made, make-law, field-next-law, field-law, root-cell-law}
@@ -24,6 +24,7 @@ use Rattle.bytecode_layout.specs.Phases.{condition-law, end-law, release-law, f
 use Rattle.bytecode_layout.specs.Leaves.{drop-law}
 use Rattle.bytecode_layout.specs.Reads.{encode-reads, on-reads, root-reads, operand-is, value-is, record-reads, group-is}
 use Rattle.machine_frames.specs.Bytes.{wentTo, operandSet, cellSet, fieldSet, pushed, popped, holdTaken, holdLet, released, entered, left, recordMade, conditioned, finished}
+use Rattle.bytecode.specs.State.{activationLength, activationsAt, cellTypesAt, cellWordsAt, fieldTypesAt, fieldWordsAt, holdsAt, operandTypesAt, operandWordsAt, recordLength, recordsAt, stateLength}
 
 -- t stands at f, with us above it and fs below it
 pub record On (l : List ℕ) (f : ℕ) (rs : Shared) (us : List Activation) (t : Activation) (fs : List Activation) : Type 0 where
@@ -31,14 +32,11 @@ pub record On (l : List ℕ) (f : ℕ) (rs : Shared) (us : List Activation) (t :
   pub place : f ≡ framePlace (length fs)
   pub bytes : l ≡ encode (on rs us t fs)
 
-pub on-long : {l : List ℕ} {f : ℕ} {rs : Shared} {us : List Activation} {t : Activation} {fs : List Activation} → On l f rs us t fs → length l ≡ 24576
+pub on-long : {l : List ℕ} {f : ℕ} {rs : Shared} {us : List Activation} {t : Activation} {fs : List Activation} → On l f rs us t fs → length l ≡ stateLength
 on-long {rs = rs} {us = us} {t = t} {fs = fs} p = rw (p .bytes) (length-encode (on rs us t fs))
 
 module _ {l : List ℕ} {f : ℕ} {rs : Shared} {us fs : List Activation} {t : Activation} (p : On l f rs us t fs) where
   -- ── reading ──
-  pub read-body : byteAt l f ≡ t .body
-  read-body = rw (p .bytes, p .place, ← add-zero (framePlace (length fs))) (on-reads body tt rs us t fs (p .few))
-
   pub read-depth : byteAt l (f + 1) ≡ length (t .operands)
   read-depth = rw (p .bytes, p .place) (on-reads depth tt rs us t fs (p .few))
 
@@ -50,7 +48,7 @@ module _ {l : List ℕ} {f : ℕ} {rs : Shared} {us fs : List Activation} {t : A
 
   -- the operand v, with vs below it and ws above it
   pub read-operand : (ws : List Value) (v : Value) (vs : List Value) (k : ℕ) → t .operands ≡ ws ++ (v ∷ vs) → k ≡ length vs → k < 32
-      → (wordAt l (f + (136 + 4 * k)) ≡ valueWord v) × (byteAt l (f + (296 + k)) ≡ typeByte v)
+      → (wordAt l (f + (operandWordsAt + 4 * k)) ≡ valueWord v) × (byteAt l (f + (operandTypesAt + k)) ≡ typeByte v)
   read-operand ws v vs k e n h =
       let h′ : length vs < 32 = omega arith in (
         rw (p .bytes, p .place, n) (on-reads (operandWord (length vs)) h′ rs us t fs (p .few) ∙ rw e (operand-is valueWord ws v vs h′)),
@@ -58,7 +56,7 @@ module _ {l : List ℕ} {f : ℕ} {rs : Shared} {us fs : List Activation} {t : A
       )
 
   pub read-cell : (j : ℕ) (c : Cell) → getElem? (t .cells) j ≡ some c → j < 32
-      → (wordAt l (f + (8 + 4 * j)) ≡ wordOfCell c) × (byteAt l (f + (264 + j)) ≡ byteOfCell c)
+      → (wordAt l (f + (cellWordsAt + 4 * j)) ≡ wordOfCell c) × (byteAt l (f + (cellTypesAt + j)) ≡ byteOfCell c)
   read-cell j c e h = (
     rw (p .bytes, p .place) (on-reads (cellWord j) h rs us t fs (p .few) ∙ value-is wordOfCell 32 (t .cells) j c e h),
     rw (p .bytes, p .place) (on-reads (cellType j) h rs us t fs (p .few) ∙ value-is byteOfCell 32 (t .cells) j c e h),
@@ -108,9 +106,6 @@ on-operand {rs = rs} {us = us} {fs = fs} {b = b} {i = i} {cs = cs} {gs = gs} v w
 
 -- ── the top: what the header says ──
 module _ {l : List ℕ} {f : ℕ} {rs : Shared} {fs : List Activation} {t : Activation} (p : On l f rs [] t fs) where
-  pub read-phase : byteAt l 0 ≡ 0
-  read-phase = rw (p .bytes) (encode-reads phase tt (running rs t fs))
-
   pub read-count : byteAt l 2 ≡ length (t ∷ fs)
   read-count = rw (p .bytes) (encode-reads activations tt (running rs t fs))
 
@@ -121,38 +116,38 @@ module _ {l : List ℕ} {f : ℕ} {rs : Shared} {fs : List Activation} {t : Acti
   read-holds = rw (p .bytes) (encode-reads holds tt (running rs t fs))
 
   -- a hold, with us taken after it
-  pub read-group : (us : List ℕ) (g : ℕ) (gs : List ℕ) (k : ℕ) → allHolds (t ∷ fs) ≡ us ++ (g ∷ gs) → k ≡ length gs → k < 512 → byteAt l (10528 + k) ≡ g
+  pub read-group : (us : List ℕ) (g : ℕ) (gs : List ℕ) (k : ℕ) → allHolds (t ∷ fs) ≡ us ++ (g ∷ gs) → k ≡ length gs → k < 512 → byteAt l (holdsAt + k) ≡ g
   read-group us g gs k e n h =
       let h′ : length gs < 512 = omega arith in
       rw (p .bytes, n) (encode-reads (group (length gs)) h′ (running rs t fs) ∙ rw e (group-is us g gs h′))
 
   -- the root stands first
   pub read-root : (j : ℕ) (c : Cell) → getElem? (rootOf t fs .cells) j ≡ some c → j < 32
-      → (wordAt l (32 + (8 + 4 * j)) ≡ wordOfCell c) × (byteAt l (32 + (264 + j)) ≡ byteOfCell c)
+      → (wordAt l (activationsAt + (cellWordsAt + 4 * j)) ≡ wordOfCell c) × (byteAt l (activationsAt + (cellTypesAt + j)) ≡ byteOfCell c)
   read-root j c e h = (
     rw (p .bytes) (root-reads (cellWord j) h rs t fs ∙ value-is wordOfCell 32 (rootOf t fs .cells) j c e h),
     rw (p .bytes) (root-reads (cellType j) h rs t fs ∙ value-is byteOfCell 32 (rootOf t fs .cells) j c e h),
   )
 
   pub read-field : (n x : ℕ) (q : Made) (v : Value) → getElem? (rs .records) n ≡ some q → getElem? (q .fields) x ≡ some v → n < 256 → x < 8
-      → (wordAt l (11040 + 44 * n + (4 + 4 * x)) ≡ valueWord v) × (byteAt l (11040 + 44 * n + (36 + x)) ≡ typeByte v)
+      → (wordAt l (recordsAt + recordLength * n + (fieldWordsAt + 4 * x)) ≡ valueWord v) × (byteAt l (recordsAt + recordLength * n + (fieldTypesAt + x)) ≡ typeByte v)
   read-field n x q v e e′ h k = (
     rw (p .bytes) (record-reads (fieldWord x) k rs t fs n q e h ∙ value-is valueWord 8 (q .fields) x v e′ k),
     rw (p .bytes) (record-reads (fieldType x) k rs t fs n q e h ∙ value-is typeByte 8 (q .fields) x v e′ k),
   )
 
   -- ── activations more and less ──
-  pub on-enter : (b i k : ℕ) → k ≡ length (t ∷ fs) → k < 32 → On (entered l (f + 328) k b i) (f + 328) rs [] (activation b i [] [] []) (t ∷ fs)
+  pub on-enter : (b i k : ℕ) → k ≡ length (t ∷ fs) → k < 32 → On (entered l (f + activationLength) k b i) (f + activationLength) rs [] (activation b i [] [] []) (t ∷ fs)
   on-enter b i k e h =
       let h′ : length (t ∷ fs) < 32 = omega arith in
-      let q : f + 328 ≡ framePlace (length (t ∷ fs)) = rw (p .place) (omega arith) in
+      let q : f + activationLength ≡ framePlace (length (t ∷ fs)) = rw (p .place) (omega arith) in
       record { few = h′; place = q; bytes = rw (p .bytes, q, e, add-one (length (t ∷ fs))) (rw (add-zero (framePlace (length (t ∷ fs)))) at (enter-law rs t fs h′ b i)) }
 
   -- ── records ──
   pub on-make : (c r : ℕ) → r ≡ length (rs .records) → r < 256 → On (recordMade l r c) f (record { records = rs .records ++ (made c [] ∷ []) }) [] t fs
   on-make c r e h =
       let h′ : length (rs .records) < 256 = omega arith in
-      record { few = p .few; place = p .place; bytes = rw (p .bytes, e, ← add-zero (11040 + 44 * length (rs .records)), add-one (length (rs .records))) (make-law rs t fs c h′) }
+      record { few = p .few; place = p .place; bytes = rw (p .bytes, e, ← add-zero (recordsAt + recordLength * length (rs .records)), add-one (length (rs .records))) (make-law rs t fs c h′) }
 
   module _ (v : Value) (w y : ℕ) (ew : w ≡ valueWord v) (et : y ≡ typeByte v) where
     -- behind the last field of record n
@@ -187,11 +182,11 @@ module _ {l : List ℕ} {f : ℕ} {rs : Shared} {fs : List Activation} {t : Acti
 
 -- the top taken off
 pub on-leave : {l : List ℕ} {f : ℕ} {rs : Shared} {g t : Activation} {fs : List Activation} → On l f rs [] g (t ∷ fs) → g .holds ≡ [] → (k : ℕ) → k ≡ length (t ∷ fs)
-    → On (left l f k) (f - 328) rs [] t fs
+    → On (left l f k) (f - activationLength) rs [] t fs
 on-leave {f = f} {rs = rs} {g = g} {t = t} {fs = fs} p e k n =
     let few : length (t ∷ fs) < 32 = p .few in
     let few′ : length fs < 32 = omega arith in
-    let q : f - 328 ≡ framePlace (length fs) = rw (p .place) (omega arith) in
+    let q : f - activationLength ≡ framePlace (length fs) = rw (p .place) (omega arith) in
     record { few = few′; place = q; bytes = rw (p .bytes, p .place, n) (drop-law rs g t fs (p .few) e) }
 
 -- ── holds of the top ──
@@ -223,7 +218,7 @@ module _ (l : List ℕ) (c : ℕ) where
     rw e (encode-reads holds tt (unwinding gs (endBy c))),
   )
 
-  pub read-last : (g : ℕ) (gs : List ℕ) (k : ℕ) → l ≡ encode (unwinding (g ∷ gs) (endBy c)) → k ≡ length gs → k < 512 → byteAt l (10528 + k) ≡ g
+  pub read-last : (g : ℕ) (gs : List ℕ) (k : ℕ) → l ≡ encode (unwinding (g ∷ gs) (endBy c)) → k ≡ length gs → k < 512 → byteAt l (holdsAt + k) ≡ g
   read-last g gs k e n h =
       let h′ : length gs < 512 = omega arith in
       rw (e, n) (encode-reads (group (length gs)) h′ (unwinding (g ∷ gs) (endBy c)) ∙ group-is [] g gs h′)

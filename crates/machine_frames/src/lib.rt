@@ -1,5 +1,5 @@
 // The numbers of a run state in its 24,576 bytes (docs/STATE.md): reading them, and the stores by which a step moves a state in place.
-// An activation is named by the place f of its first byte. What a store takes away it leaves 0, so that unused bytes are always 0.
+// An activation is named by the place of its first byte, `frame`. What a store takes away it leaves 0, so that unused bytes are always 0.
 mod phases;
 mod reads;
 mod writes;
@@ -27,3 +27,4 @@ pub use writes::put_byte;
 pub use writes::put_cell;
 pub use writes::put_field;
 pub use writes::put_operand;
+pub use writes::put_value;

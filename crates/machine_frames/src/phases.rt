@@ -11,105 +11,105 @@ use crate::writes::put_byte;
 use formats::state::*;
 
 // A byte more than is cleared is never looked at: the loop has no exit of its own.
-pub fn clear(s: &mut [u8], p: usize, n: usize)
-    requires { ⌜ p + n ≤ length (now s) ⌝ }
-    ensures { λ _. ⌜ now (s .exit) ≡ sets (now (s .entry)) p (zeros n) ⌝ }
+pub fn clear(state: &mut [u8], place: usize, count: usize)
+    requires { ⌜ place + count ≤ length (now state) ⌝ }
+    ensures { λ _. ⌜ now (state .exit) ≡ sets (now (state .entry)) place (zeros count) ⌝ }
 {
     let mut k = 0;
-    while k < n {
-        s[p + k] = 0;
+    while k < count {
+        state[place + k] = 0;
         k += 1;
     }
 }
 
 // The h-th hold of all, and the activation's n-th.
-pub fn take_hold(s: &mut [u8], f: usize, g: u8)
-    requires { ⌜ (Framed (now s) f 0) × (halfAt (now s) 6 < 512) × (byteAt (now s) (f + 2) < 255) ⌝ }
-    ensures { λ _. ⌜ now (s .exit) ≡ holdTaken (now (s .entry)) f g ⌝ }
+pub fn take_hold(state: &mut [u8], frame: usize, g: u8)
+    requires { ⌜ (Framed (now state) frame 0) × (halfAt (now state) 6 < 512) × (byteAt (now state) (frame + 2) < 255) ⌝ }
+    ensures { λ _. ⌜ now (state .exit) ≡ holdTaken (now (state .entry)) frame g ⌝ }
 {
-    let h = words::half_at(s, HOLD_COUNT_AT);
-    let n = s[f + OWN_HOLD_COUNT_AT];
-    put_byte(s, HOLDS_AT + (h as usize), g);
-    words::put_half(s, HOLD_COUNT_AT, h + 1);
-    put_byte(s, f + OWN_HOLD_COUNT_AT, n + 1);
+    let h = words::half_at(state, HOLD_COUNT_AT);
+    let n = state[frame + OWN_HOLD_COUNT_AT];
+    put_byte(state, HOLDS_AT + (h as usize), g);
+    words::put_half(state, HOLD_COUNT_AT, h + 1);
+    put_byte(state, frame + OWN_HOLD_COUNT_AT, n + 1);
 }
 
-pub fn let_hold(s: &mut [u8], f: usize)
-    requires { ⌜ (Framed (now s) f 0) × (0 < halfAt (now s) 6) × (halfAt (now s) 6 ≤ 512) × (0 < byteAt (now s) (f + 2)) ⌝ }
-    ensures { λ _. ⌜ now (s .exit) ≡ holdLet (now (s .entry)) f ⌝ }
+pub fn let_hold(state: &mut [u8], frame: usize)
+    requires { ⌜ (Framed (now state) frame 0) × (0 < halfAt (now state) 6) × (halfAt (now state) 6 ≤ 512) × (0 < byteAt (now state) (frame + 2)) ⌝ }
+    ensures { λ _. ⌜ now (state .exit) ≡ holdLet (now (state .entry)) frame ⌝ }
 {
-    let h = words::half_at(s, HOLD_COUNT_AT) - 1;
-    let n = s[f + OWN_HOLD_COUNT_AT] - 1;
-    put_byte(s, HOLDS_AT + (h as usize), 0);
-    words::put_half(s, HOLD_COUNT_AT, h);
-    put_byte(s, f + OWN_HOLD_COUNT_AT, n);
+    let h = words::half_at(state, HOLD_COUNT_AT) - 1;
+    let n = state[frame + OWN_HOLD_COUNT_AT] - 1;
+    put_byte(state, HOLDS_AT + (h as usize), 0);
+    words::put_half(state, HOLD_COUNT_AT, h);
+    put_byte(state, frame + OWN_HOLD_COUNT_AT, n);
 }
 
-// Activation k, at f, of body b at address i.
-pub fn enter(s: &mut [u8], f: usize, k: u8, b: u8, i: u16)
-    requires { ⌜ (Framed (now s) f 0) × (k < 255) ⌝ }
-    ensures { λ _. ⌜ now (s .exit) ≡ entered (now (s .entry)) f k b i ⌝ }
+// Activation k, of body b at an address.
+pub fn enter(state: &mut [u8], frame: usize, k: u8, b: u8, address: u16)
+    requires { ⌜ (Framed (now state) frame 0) × (k < 255) ⌝ }
+    ensures { λ _. ⌜ now (state .exit) ≡ entered (now (state .entry)) frame k b address ⌝ }
 {
-    put_byte(s, f, b);
-    words::put_half(s, f + ADDRESS_AT, i);
-    put_byte(s, ACTIVATION_COUNT_AT, k + 1);
+    put_byte(state, frame, b);
+    words::put_half(state, frame + ADDRESS_AT, address);
+    put_byte(state, ACTIVATION_COUNT_AT, k + 1);
 }
 
-pub fn leave(s: &mut [u8], f: usize, k: u8)
-    requires { ⌜ Framed (now s) f 0 ⌝ }
-    ensures { λ _. ⌜ now (s .exit) ≡ left (now (s .entry)) f k ⌝ }
+pub fn leave(state: &mut [u8], frame: usize, k: u8)
+    requires { ⌜ Framed (now state) frame 0 ⌝ }
+    ensures { λ _. ⌜ now (state .exit) ≡ left (now (state .entry)) frame k ⌝ }
 {
-    clear(s, f, ACTIVATION_BYTES);
-    put_byte(s, ACTIVATION_COUNT_AT, k);
+    clear(state, frame, ACTIVATION_BYTES);
+    put_byte(state, ACTIVATION_COUNT_AT, k);
 }
 
 // Record r, of class c, with no fields yet.
-pub fn make_record(s: &mut [u8], r: u16, c: u8)
-    requires { ⌜ (length (now s) ≡ stateLength) × (r < 256) ⌝ }
-    ensures { λ _. ⌜ now (s .exit) ≡ recordMade (now (s .entry)) r c ⌝ }
+pub fn make_record(state: &mut [u8], r: u16, c: u8)
+    requires { ⌜ (length (now state) ≡ stateLength) × (r < 256) ⌝ }
+    ensures { λ _. ⌜ now (state .exit) ≡ recordMade (now (state .entry)) r c ⌝ }
 {
-    put_byte(s, RECORDS_AT + RECORD_BYTES * (r as usize), c);
-    words::put_half(s, RECORD_COUNT_AT, r + 1);
+    put_byte(state, RECORDS_AT + RECORD_BYTES * (r as usize), c);
+    words::put_half(state, RECORD_COUNT_AT, r + 1);
 }
 
 // All activations and all records.
-fn wipe(s: &mut [u8])
-    requires { ⌜ (length (now s) ≡ stateLength) × (byteAt (now s) 2 ≤ 32) × (halfAt (now s) 4 ≤ 256) ⌝ }
-    ensures { λ _. ⌜ now (s .exit) ≡ wipedAll (now (s .entry)) ⌝ }
+fn wipe(state: &mut [u8])
+    requires { ⌜ (length (now state) ≡ stateLength) × (byteAt (now state) 2 ≤ 32) × (halfAt (now state) 4 ≤ 256) ⌝ }
+    ensures { λ _. ⌜ now (state .exit) ≡ wipedAll (now (state .entry)) ⌝ }
 {
-    let a = wide(s[ACTIVATION_COUNT_AT]);
-    let r = words::half_at(s, RECORD_COUNT_AT);
-    clear(s, ACTIVATIONS_AT, ACTIVATION_BYTES * a);
-    clear(s, RECORDS_AT, RECORD_BYTES * (r as usize));
+    let a = wide(state[ACTIVATION_COUNT_AT]);
+    let r = words::half_at(state, RECORD_COUNT_AT);
+    clear(state, ACTIVATIONS_AT, ACTIVATION_BYTES * a);
+    clear(state, RECORDS_AT, RECORD_BYTES * (r as usize));
 }
 
 // The holds stay where they are, to be released from the last on.
-pub fn condition(s: &mut [u8], c: u8)
-    requires { ⌜ (length (now s) ≡ stateLength) × (byteAt (now s) 2 ≤ 32) × (halfAt (now s) 4 ≤ 256) ⌝ }
-    ensures { λ _. ⌜ now (s .exit) ≡ conditioned (now (s .entry)) c ⌝ }
+pub fn condition(state: &mut [u8], c: u8)
+    requires { ⌜ (length (now state) ≡ stateLength) × (byteAt (now state) 2 ≤ 32) × (halfAt (now state) 4 ≤ 256) ⌝ }
+    ensures { λ _. ⌜ now (state .exit) ≡ conditioned (now (state .entry)) c ⌝ }
 {
-    wipe(s);
-    put_byte(s, PHASE_AT, RELEASING);
-    put_byte(s, CONDITION_AT, c);
-    put_byte(s, ACTIVATION_COUNT_AT, 0);
-    words::put_half(s, RECORD_COUNT_AT, 0);
+    wipe(state);
+    put_byte(state, PHASE_AT, RELEASING);
+    put_byte(state, CONDITION_AT, c);
+    put_byte(state, ACTIVATION_COUNT_AT, 0);
+    words::put_half(state, RECORD_COUNT_AT, 0);
 }
 
-pub fn finish(s: &mut [u8])
-    requires { ⌜ (length (now s) ≡ stateLength) × (byteAt (now s) 2 ≤ 32) × (halfAt (now s) 4 ≤ 256) ⌝ }
-    ensures { λ _. ⌜ now (s .exit) ≡ finished (now (s .entry)) ⌝ }
+pub fn finish(state: &mut [u8])
+    requires { ⌜ (length (now state) ≡ stateLength) × (byteAt (now state) 2 ≤ 32) × (halfAt (now state) 4 ≤ 256) ⌝ }
+    ensures { λ _. ⌜ now (state .exit) ≡ finished (now (state .entry)) ⌝ }
 {
-    wipe(s);
-    put_byte(s, PHASE_AT, ENDED);
-    put_byte(s, ACTIVATION_COUNT_AT, 0);
-    words::put_half(s, RECORD_COUNT_AT, 0);
+    wipe(state);
+    put_byte(state, PHASE_AT, ENDED);
+    put_byte(state, ACTIVATION_COUNT_AT, 0);
+    words::put_half(state, RECORD_COUNT_AT, 0);
 }
 
 // One hold of a releasing state, the last of h + 1.
-pub fn release(s: &mut [u8], h: u16)
-    requires { ⌜ (length (now s) ≡ stateLength) × (h < 512) ⌝ }
-    ensures { λ _. ⌜ now (s .exit) ≡ released (now (s .entry)) h ⌝ }
+pub fn release(state: &mut [u8], h: u16)
+    requires { ⌜ (length (now state) ≡ stateLength) × (h < 512) ⌝ }
+    ensures { λ _. ⌜ now (state .exit) ≡ released (now (state .entry)) h ⌝ }
 {
-    put_byte(s, HOLDS_AT + (h as usize), 0);
-    words::put_half(s, HOLD_COUNT_AT, h);
+    put_byte(state, HOLDS_AT + (h as usize), 0);
+    words::put_half(state, HOLD_COUNT_AT, h);
 }

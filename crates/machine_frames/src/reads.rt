@@ -12,47 +12,47 @@ pub fn wide(x: u8) -> usize
     x as usize
 }
 
-pub fn operand_word(s: &[u8], f: usize, k: usize) -> u32
-    requires { ⌜ Framed (now s) f k ⌝ }
-    ensures { λ r. ⌜ r ≡ wordAt (now (s .entry)) (f + (operandWordsAt + 4 * k)) ⌝ }
+pub fn operand_word(state: &[u8], frame: usize, k: usize) -> u32
+    requires { ⌜ Framed (now state) frame k ⌝ }
+    ensures { λ r. ⌜ r ≡ wordAt (now (state .entry)) (frame + (operandWordsAt + 4 * k)) ⌝ }
 {
-    words::word_at(s, f + (OPERAND_WORDS_AT + WORD_BYTES * k))
+    words::word_at(state, frame + (OPERAND_WORDS_AT + WORD_BYTES * k))
 }
 
-pub fn operand_type(s: &[u8], f: usize, k: usize) -> u8
-    requires { ⌜ Framed (now s) f k ⌝ }
-    ensures { λ r. ⌜ r ≡ byteAt (now (s .entry)) (f + (operandTypesAt + k)) ⌝ }
+pub fn operand_type(state: &[u8], frame: usize, k: usize) -> u8
+    requires { ⌜ Framed (now state) frame k ⌝ }
+    ensures { λ r. ⌜ r ≡ byteAt (now (state .entry)) (frame + (operandTypesAt + k)) ⌝ }
 {
-    s[f + (OPERAND_TYPES_AT + k)]
+    state[frame + (OPERAND_TYPES_AT + k)]
 }
 
-pub fn cell_word(s: &[u8], f: usize, j: usize) -> u32
-    requires { ⌜ Framed (now s) f j ⌝ }
-    ensures { λ r. ⌜ r ≡ wordAt (now (s .entry)) (f + (cellWordsAt + 4 * j)) ⌝ }
+pub fn cell_word(state: &[u8], frame: usize, j: usize) -> u32
+    requires { ⌜ Framed (now state) frame j ⌝ }
+    ensures { λ r. ⌜ r ≡ wordAt (now (state .entry)) (frame + (cellWordsAt + 4 * j)) ⌝ }
 {
-    words::word_at(s, f + (CELL_WORDS_AT + WORD_BYTES * j))
+    words::word_at(state, frame + (CELL_WORDS_AT + WORD_BYTES * j))
 }
 
-pub fn cell_type(s: &[u8], f: usize, j: usize) -> u8
-    requires { ⌜ Framed (now s) f j ⌝ }
-    ensures { λ r. ⌜ r ≡ byteAt (now (s .entry)) (f + (cellTypesAt + j)) ⌝ }
+pub fn cell_type(state: &[u8], frame: usize, j: usize) -> u8
+    requires { ⌜ Framed (now state) frame j ⌝ }
+    ensures { λ r. ⌜ r ≡ byteAt (now (state .entry)) (frame + (cellTypesAt + j)) ⌝ }
 {
-    s[f + (CELL_TYPES_AT + j)]
+    state[frame + (CELL_TYPES_AT + j)]
 }
 
-pub fn field_word(s: &[u8], r: usize, x: usize) -> u32
-    requires { ⌜ Recorded (now s) r x ⌝ }
-    ensures { λ w. ⌜ w ≡ wordAt (now (s .entry)) (recordsAt + recordLength * r + (fieldWordsAt + 4 * x)) ⌝ }
+pub fn field_word(state: &[u8], r: usize, x: usize) -> u32
+    requires { ⌜ Recorded (now state) r x ⌝ }
+    ensures { λ w. ⌜ w ≡ wordAt (now (state .entry)) (recordsAt + recordLength * r + (fieldWordsAt + 4 * x)) ⌝ }
 {
     words::word_at(
-        s,
+        state,
         RECORDS_AT + RECORD_BYTES * r + (FIELD_WORDS_AT + WORD_BYTES * x),
     )
 }
 
-pub fn field_type(s: &[u8], r: usize, x: usize) -> u8
-    requires { ⌜ Recorded (now s) r x ⌝ }
-    ensures { λ t. ⌜ t ≡ byteAt (now (s .entry)) (recordsAt + recordLength * r + (fieldTypesAt + x)) ⌝ }
+pub fn field_type(state: &[u8], r: usize, x: usize) -> u8
+    requires { ⌜ Recorded (now state) r x ⌝ }
+    ensures { λ t. ⌜ t ≡ byteAt (now (state .entry)) (recordsAt + recordLength * r + (fieldTypesAt + x)) ⌝ }
 {
-    s[RECORDS_AT + RECORD_BYTES * r + (FIELD_TYPES_AT + x)]
+    state[RECORDS_AT + RECORD_BYTES * r + (FIELD_TYPES_AT + x)]
 }

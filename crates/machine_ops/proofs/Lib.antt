@@ -1,7 +1,7 @@
-pub mod Says
-pub mod Facts
-pub mod Values
-pub mod Others
-pub mod Loops
-pub mod Lists
-pub mod Acting
+pub mod OperatorSays
+pub mod RunningFacts
+pub mod OperandOps
+pub mod JumpEventOps
+pub mod MoveLoops
+pub mod MovedLists
+pub mod CallRecordOps

@@ -12,7 +12,7 @@ use Rattle.values.specs.Values.{Value}
 use Rattle.bytecode.specs.Macro.{Macro}
 use Rattle.bytecode.specs.Machine.{Activation, Shared, Machine, running, unwinding, ended, Stepped, moved, stuck, Here, goesOn, goes}
 use Rattle.bytecode.specs.Sound.{sound}
-use Rattle.bytecode.specs.State.{typeByte, encode}
+use Rattle.bytecode.specs.State.{typeByte, encode, stateLength}
 use Rattle.bytecode_laws.specs.Terms.{Passed}
 use Rattle.machine_frames.specs.On.{On}
 use Rattle.machine_ops.specs.declared.Event.{Event}
@@ -58,7 +58,7 @@ pub record Now (m : Macro) (l : List ℕ) (f n i : ℕ) (rs : Shared) (t : Activ
 
 -- what those numbers are below
 pub record Room (l : List ℕ) (f n i : ℕ) : Type 0 where
-  pub long : length l ≡ 24576
+  pub long : length l ≡ stateLength
   pub place : f ≤ 10200
   pub depth : n ≤ 32
   pub address : i < 65535

@@ -7,24 +7,22 @@ use Rattle.words.specs.Numbers.{byteAt, halfAt, wordAt}
 use Rattle.values.specs.Ends.{accepted}
 use Rattle.bytecode.specs.Macro.{Macro, readMacro}
 use Rattle.bytecode.specs.Machine.{Activation, Shared, Here, Stepped}
-use Rattle.machine_frames.specs.Bytes.{popped, cellSet, fieldSet, entered}
+use Rattle.machine_frames.specs.Bytes.{popped, valued, cellSet, entered}
 use Rattle.machine_ops.specs.declared.Out.{Out}
 use Rattle.machine_ops.specs.Acts.{here, Now, Told}
+use Rattle.bytecode.specs.State.{stateLength, activationsAt, activationLength, cellWordsAt, cellTypesAt, operandWordsAt, operandTypesAt}
 
 -- the topmost c of n operands popped
 unfoldable pub dropped : List ℕ → ℕ → ℕ → ℕ → List ℕ
 dropped l f n zero = l
 dropped l f n (suc c) = dropped (popped l f (n - 1)) f (n - 1) c
 
--- operands from k on, of the activation at f, in the first p cells of that at g
-unfoldable pub filled : List ℕ → ℕ → ℕ → ℕ → ℕ → List ℕ
-filled l f k g zero = l
-filled l f k g (suc j) = let m = filled l f k g j in cellSet m g j (wordAt m (f + (136 + 4 * (k + j)))) (byteAt m (f + (296 + (k + j))))
-
--- in the first c fields of record r
-unfoldable pub fielded : List ℕ → ℕ → ℕ → ℕ → ℕ → List ℕ
-fielded l f k r zero = l
-fielded l f k r (suc j) = let m = fielded l f k r j in fieldSet m r j (wordAt m (f + (136 + 4 * (k + j)))) (byteAt m (f + (296 + (k + j))))
+-- operands from k on, of the activation at f, in the first of a row of values with words from p and type bytes from q on
+unfoldable pub filled : List ℕ → ℕ → ℕ → ℕ → ℕ → ℕ → List ℕ
+filled l f k p q zero = l
+filled l f k p q (suc j) =
+    let m = filled l f k p q j in
+    valued m (p + 4 * j) (q + j) (wordAt m (f + (operandWordsAt + 4 * (k + j)))) (byteAt m (f + (operandTypesAt + (k + j))))
 
 -- d cells from j on begun, of the types at q
 unfoldable pub begun : List ℕ → ℕ → List ℕ → ℕ → ℕ → ℕ → List ℕ
@@ -39,8 +37,8 @@ abbrev pub cells : List ℕ → ℕ → ℕ
 cells code q = byteAt code (q + 6)
 
 pub record CallRoom (code : List ℕ) (q : ℕ) (l : List ℕ) (f n : ℕ) : Type 0 where
-  pub long : length l ≡ 24576
-  pub place : f + 328 ≤ 10200
+  pub long : length l ≡ stateLength
+  pub place : f + activationLength ≤ 10200
   pub count : byteAt l 2 < 32
   pub depth : n ≤ 32
   pub inside : q + 7 + byteAt code (q + 6) ≤ length code
@@ -49,11 +47,13 @@ pub record CallRoom (code : List ℕ) (q : ℕ) (l : List ℕ) (f n : ℕ) : Typ
   pub few : byteAt code (q + 6) ≤ 32
 
 abbrev pub enteredBy : List ℕ → ℕ → List ℕ → ℕ → ℕ → List ℕ
-enteredBy code q l f b = entered l (f + 328) (byteAt l 2) b (halfAt code (q + 2))
+enteredBy code q l f b = entered l (f + activationLength) (byteAt l 2) b (halfAt code (q + 2))
 
 abbrev pub Entered : List ℕ → ℕ → List ℕ → ℕ → ℕ → ℕ → List ℕ → Type 0
 Entered code q l f n b k =
-    k ≡ begun code (q + 7) (dropped (filled (enteredBy code q l f b) f (n - given code q) (f + 328) (given code q)) f n (given code q)) (f + 328) (given code q) (cells code q - given code q)
+    let g = f + activationLength in
+    let taken = filled (enteredBy code q l f b) f (n - given code q) (g + cellWordsAt) (g + cellTypesAt) (given code q) in
+    k ≡ begun code (q + 7) (dropped taken f n (given code q)) g (given code q) (cells code q - given code q)
 
 -- an op that looks into the macro
 abbrev pub TellsOf : List ℕ → (Macro → Here → Stepped) → List ℕ → ℕ → ℕ → ℕ → List ℕ → Out → Type 0
@@ -62,13 +62,13 @@ TellsOf code does l f n i k o =
 
 -- ── a return: an activation below finds room for the result ──
 pub record ReturnRoom (l : List ℕ) (f n : ℕ) : Type 0 where
-  pub long : length l ≡ 24576
-  pub low : 360 ≤ f
+  pub long : length l ≡ stateLength
+  pub low : activationsAt + activationLength ≤ f
   pub high : f ≤ 10200
   pub count : 2 ≤ byteAt l 2
   pub one-result : n ≤ 1
-  pub below-depth : byteAt l (f - 328 + 1) + n ≤ 32
-  pub below-address : halfAt l (f - 328 + 4) < 65535
+  pub below-depth : byteAt l (f - activationLength + 1) + n ≤ 32
+  pub below-address : halfAt l (f - activationLength + 4) < 65535
 
 -- ── records ──
 -- the reference w is to a record, and x is one of its fields

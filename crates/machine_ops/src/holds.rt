@@ -9,38 +9,38 @@ use crate::Out;
 use crate::operands::op_condition;
 use formats::state::*;
 
-pub fn op_hold(s: &mut [u8], f: usize, n: usize, i: u16, g: u8) -> Out
-    requires { ⌜ (Room (now s) f n i) × (Holding (now s) f) ⌝ }
-    ensures { λ r. ⌜ Tells (λ m h. doTakeHold g h) (now (s .entry)) f n i (now (s .exit)) r ⌝ }
+pub fn op_hold(state: &mut [u8], frame: usize, depth: usize, address: u16, g: u8) -> Out
+    requires { ⌜ (Room (now state) frame depth address) × (Holding (now state) frame) ⌝ }
+    ensures { λ r. ⌜ Tells (λ m h. doTakeHold g h) (now (state .entry)) frame depth address (now (state .exit)) r ⌝ }
 {
-    machine_frames::take_hold(s, f, g);
-    machine_frames::go_to(s, f, i + 1);
+    machine_frames::take_hold(state, frame, g);
+    machine_frames::go_to(state, frame, address + 1);
     Out::Gives(Event::Hold(g))
 }
 
 // The last taken goes first.
-pub fn op_release(s: &mut [u8], f: usize, n: usize, i: u16) -> Out
-    requires { ⌜ (Room (now s) f n i) × (0 < halfAt (now s) 6) × (halfAt (now s) 6 ≤ 512) × (0 < byteAt (now s) (f + 2)) ⌝ }
-    ensures { λ r. ⌜ Tells (λ m h. letting (h .top .holds) h) (now (s .entry)) f n i (now (s .exit)) r ⌝ }
+pub fn op_release(state: &mut [u8], frame: usize, depth: usize, address: u16) -> Out
+    requires { ⌜ (Room (now state) frame depth address) × (0 < halfAt (now state) 6) × (halfAt (now state) 6 ≤ 512) × (0 < byteAt (now state) (frame + 2)) ⌝ }
+    ensures { λ r. ⌜ Tells (λ m h. letting (h .top .holds) h) (now (state .entry)) frame depth address (now (state .exit)) r ⌝ }
 {
-    let h = words::half_at(s, HOLD_COUNT_AT);
-    let g = s[HOLDS_AT + ((h as usize) - 1)];
-    machine_frames::let_hold(s, f);
-    machine_frames::go_to(s, f, i + 1);
+    let h = words::half_at(state, HOLD_COUNT_AT);
+    let g = state[HOLDS_AT + ((h as usize) - 1)];
+    machine_frames::let_hold(state, frame);
+    machine_frames::go_to(state, frame, address + 1);
     Out::Gives(Event::Release(g))
 }
 
-pub fn op_stop(s: &mut [u8], f: usize, n: usize, i: u16) -> Out
-    requires { ⌜ Room (now s) f n i ⌝ }
-    ensures { λ r. ⌜ Tells (λ m h. condition caseIndex h) (now (s .entry)) f n i (now (s .exit)) r ⌝ }
+pub fn op_stop(state: &mut [u8], frame: usize, depth: usize, address: u16) -> Out
+    requires { ⌜ Room (now state) frame depth address ⌝ }
+    ensures { λ r. ⌜ Tells (λ m h. condition caseIndex h) (now (state .entry)) frame depth address (now (state .exit)) r ⌝ }
 {
-    op_condition(s, f, n, i, values::CASE_INDEX)
+    op_condition(state, frame, depth, address, values::CASE_INDEX)
 }
 
-pub fn op_end(s: &mut [u8], f: usize, n: usize, i: u16) -> Out
-    requires { ⌜ Room (now s) f n i ⌝ }
-    ensures { λ r. ⌜ Tells (λ m h. doEnd h) (now (s .entry)) f n i (now (s .exit)) r ⌝ }
+pub fn op_end(state: &mut [u8], frame: usize, depth: usize, address: u16) -> Out
+    requires { ⌜ Room (now state) frame depth address ⌝ }
+    ensures { λ r. ⌜ Tells (λ m h. doEnd h) (now (state .entry)) frame depth address (now (state .exit)) r ⌝ }
 {
-    machine_frames::finish(s);
+    machine_frames::finish(state);
     Out::Ends(0)
 }

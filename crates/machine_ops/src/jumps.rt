@@ -4,25 +4,25 @@ ghost use Rattle.bytecode.specs.Machine.{doGoUnless};
 ghost use Rattle.machine_ops.specs.Acts.{Room, Tells, Jumps};
 use crate::Out;
 
-pub fn op_go(s: &mut [u8], f: usize, n: usize, i: u16, b: u16) -> Out
-    requires { ⌜ Room (now s) f n i ⌝ }
-    ensures { λ r. ⌜ Jumps b (now (s .entry)) f n i (now (s .exit)) r ⌝ }
+pub fn op_go(state: &mut [u8], frame: usize, depth: usize, address: u16, b: u16) -> Out
+    requires { ⌜ Room (now state) frame depth address ⌝ }
+    ensures { λ r. ⌜ Jumps b (now (state .entry)) frame depth address (now (state .exit)) r ⌝ }
 {
-    machine_frames::go_to(s, f, b);
+    machine_frames::go_to(state, frame, b);
     Out::Goes
 }
 
-pub fn op_unless(s: &mut [u8], f: usize, n: usize, i: u16, b: u16) -> Out
-    requires { ⌜ (Room (now s) f n i) × (0 < n) ⌝ }
-    ensures { λ r. ⌜ Tells (λ m h. doGoUnless b h) (now (s .entry)) f n i (now (s .exit)) r ⌝ }
+pub fn op_unless(state: &mut [u8], frame: usize, depth: usize, address: u16, b: u16) -> Out
+    requires { ⌜ (Room (now state) frame depth address) × (0 < depth) ⌝ }
+    ensures { λ r. ⌜ Tells (λ m h. doGoUnless b h) (now (state .entry)) frame depth address (now (state .exit)) r ⌝ }
 {
-    let k = n - 1;
-    let w = machine_frames::operand_word(s, f, k);
-    machine_frames::pop(s, f, k);
+    let k = depth - 1;
+    let w = machine_frames::operand_word(state, frame, k);
+    machine_frames::pop(state, frame, k);
     if w == 0 {
-        machine_frames::go_to(s, f, b);
+        machine_frames::go_to(state, frame, b);
         return Out::Goes;
     }
-    machine_frames::go_to(s, f, i + 1);
+    machine_frames::go_to(state, frame, address + 1);
     Out::Goes
 }

@@ -1,4 +1,5 @@
-// The ops, one function each, on the bytes of a run state. Each has the place f of the top activation, its n operands and its address i.
+// The ops, one function each, on the bytes of a run state. Each has the place of the top activation (`frame`), the number of its operands
+// (`depth`) and its address.
 // No function tests what the loading check promises: it is shown where the op is dispatched.
 mod calls;
 mod events;

@@ -1,58 +1,52 @@
 // The loops: operands moved into the cells of a new activation or the fields of a new record, operands dropped, cells begun.
 ghost use mathlib.Core.Path.{_≡_};
-ghost use Prim.Native.Nat.{_+_, _-_, _≤_, _<_};
+ghost use Prim.Native.Nat.{_+_, _*_, _-_, _≤_};
 ghost use lib.ListN.{length};
-ghost use Rattle.machine_ops.specs.Moves.{dropped, begun, filled, fielded};
+ghost use Rattle.machine_ops.specs.Moves.{dropped, begun, filled};
 ghost use Rattle.bytecode.specs.State.{stateLength};
+use formats::state::*;
 
-// The topmost c of n operands.
-pub fn drop_operands(s: &mut [u8], f: usize, n: usize, c: usize)
-    requires { ⌜ (length (now s) ≡ stateLength) × (f ≤ 10200) × (n ≤ 32) × (c ≤ n) ⌝ }
-    ensures { λ _. ⌜ now (s .exit) ≡ dropped (now (s .entry)) f n c ⌝ }
+// The topmost `count` of the operands.
+pub fn drop_operands(state: &mut [u8], frame: usize, depth: usize, count: usize)
+    requires { ⌜ (length (now state) ≡ stateLength) × (frame ≤ 10200) × (depth ≤ 32) × (count ≤ depth) ⌝ }
+    ensures { λ _. ⌜ now (state .exit) ≡ dropped (now (state .entry)) frame depth count ⌝ }
 {
-    let mut k = n;
-    while n - c < k {
+    let mut k = depth;
+    while depth - count < k {
         k -= 1;
-        machine_frames::pop(s, f, k);
+        machine_frames::pop(state, frame, k);
     }
 }
 
-// Operands from k on into the first p cells of the activation at g.
-pub fn fill_cells(s: &mut [u8], f: usize, k: usize, g: usize, p: usize)
-    requires { ⌜ (length (now s) ≡ stateLength) × (f ≤ 10200) × (g ≤ 10200) × (k + p ≤ 32) ⌝ }
-    ensures { λ _. ⌜ now (s .exit) ≡ filled (now (s .entry)) f k g p ⌝ }
+// Operands from k on into the first of a row of values, whose words begin at `words` and type bytes at `types`.
+pub fn move_operands(
+    state: &mut [u8],
+    frame: usize,
+    k: usize,
+    words: usize,
+    types: usize,
+    count: usize,
+)
+    requires { ⌜ (length (now state) ≡ stateLength) × (frame ≤ 10200) × (k + count ≤ 32) × (words + 4 * count ≤ stateLength) × (types + count ≤ stateLength) ⌝ }
+    ensures { λ _. ⌜ now (state .exit) ≡ filled (now (state .entry)) frame k words types count ⌝ }
 {
     let mut j = 0;
-    while j < p {
-        let w = machine_frames::operand_word(s, f, k + j);
-        let t = machine_frames::operand_type(s, f, k + j);
-        machine_frames::put_cell(s, g, j, w, t);
+    while j < count {
+        let w = machine_frames::operand_word(state, frame, k + j);
+        let t = machine_frames::operand_type(state, frame, k + j);
+        machine_frames::put_value(state, words + WORD_BYTES * j, types + j, w, t);
         j += 1;
     }
 }
 
-// The cells from p up to c of the activation at g: 0, false, #0 or null of the types whose bytes stand at q in the macro.
-pub fn begin_cells(code: &[u8], q: usize, s: &mut [u8], g: usize, p: usize, c: usize)
-    requires { ⌜ (length (now s) ≡ stateLength) × (g ≤ 10200) × (p ≤ c) × (c ≤ 32) × (q + c ≤ length (now code)) ⌝ }
-    ensures { λ _. ⌜ now (s .exit) ≡ begun (now (code .entry)) q (now (s .entry)) g p (c - p) ⌝ }
+// The cells from p up to c of the activation at g: 0, false, #0 or null of the types whose bytes stand at `place` in the macro.
+pub fn begin_cells(code: &[u8], place: usize, state: &mut [u8], g: usize, p: usize, c: usize)
+    requires { ⌜ (length (now state) ≡ stateLength) × (g ≤ 10200) × (p ≤ c) × (c ≤ 32) × (place + c ≤ length (now code)) ⌝ }
+    ensures { λ _. ⌜ now (state .exit) ≡ begun (now (code .entry)) place (now (state .entry)) g p (c - p) ⌝ }
 {
     let mut j = p;
     while j < c {
-        machine_frames::put_cell(s, g, j, 0, code[q + j]);
-        j += 1;
-    }
-}
-
-// Operands from k on into the first c fields of record r.
-pub fn fill_fields(s: &mut [u8], f: usize, k: usize, r: usize, c: usize)
-    requires { ⌜ (length (now s) ≡ stateLength) × (f ≤ 10200) × (k + c ≤ 32) × (r < 256) × (c ≤ 8) ⌝ }
-    ensures { λ _. ⌜ now (s .exit) ≡ fielded (now (s .entry)) f k r c ⌝ }
-{
-    let mut j = 0;
-    while j < c {
-        let w = machine_frames::operand_word(s, f, k + j);
-        let t = machine_frames::operand_type(s, f, k + j);
-        machine_frames::put_field(s, r, j, w, t);
+        machine_frames::put_cell(state, g, j, 0, code[place + j]);
         j += 1;
     }
 }

@@ -12,103 +12,103 @@ use crate::operators::Worked;
 use formats::state::*;
 
 // Every condition goes on by releasing.
-pub fn op_condition(s: &mut [u8], f: usize, n: usize, i: u16, c: u8) -> Out
-    requires { ⌜ Room (now s) f n i ⌝ }
-    ensures { λ o. ⌜ Tells (λ m h. condition c h) (now (s .entry)) f n i (now (s .exit)) o ⌝ }
+pub fn op_condition(state: &mut [u8], frame: usize, depth: usize, address: u16, c: u8) -> Out
+    requires { ⌜ Room (now state) frame depth address ⌝ }
+    ensures { λ o. ⌜ Tells (λ m h. condition c h) (now (state .entry)) frame depth address (now (state .exit)) o ⌝ }
 {
-    machine_frames::condition(s, c);
+    machine_frames::condition(state, c);
     Out::Goes
 }
 
-pub fn op_push(s: &mut [u8], f: usize, n: usize, i: u16, w: u32, t: u8) -> Out
-    requires { ⌜ (Room (now s) f n i) × (n < 32) ⌝ }
-    ensures { λ o. ⌜ Pushes w t (now (s .entry)) f n i (now (s .exit)) o ⌝ }
+pub fn op_push(state: &mut [u8], frame: usize, depth: usize, address: u16, w: u32, t: u8) -> Out
+    requires { ⌜ (Room (now state) frame depth address) × (depth < 32) ⌝ }
+    ensures { λ o. ⌜ Pushes w t (now (state .entry)) frame depth address (now (state .exit)) o ⌝ }
 {
-    machine_frames::push(s, f, n, w, t);
-    machine_frames::go_to(s, f, i + 1);
+    machine_frames::push(state, frame, depth, w, t);
+    machine_frames::go_to(state, frame, address + 1);
     Out::Goes
 }
 
 // The activation whose cells are meant: a 0 the top itself, 1 the root.
-fn owner(f: usize, a: u8) -> usize
-    requires { ⌜ f ≤ 10200 ⌝ }
-    ensures { λ r. ⌜ (r ≤ 10200) × (a ≡ 0 → r ≡ f) × (a ≡ 1 → r ≡ 32) ⌝ }
+fn owner(frame: usize, a: u8) -> usize
+    requires { ⌜ frame ≤ 10200 ⌝ }
+    ensures { λ r. ⌜ (r ≤ 10200) × (a ≡ 0 → r ≡ frame) × (a ≡ 1 → r ≡ 32) ⌝ }
 {
     if a == 0 {
-        return f;
+        return frame;
     }
     ACTIVATIONS_AT
 }
 
-pub fn op_load(s: &mut [u8], f: usize, n: usize, i: u16, a: u8, b: usize) -> Out
-    requires { ⌜ (Room (now s) f n i) × (n < 32) × (b < 32) ⌝ }
-    ensures { λ r. ⌜ ((o : Owner) → ownerOf a ≡ some o → Tells (λ m h. doLoad m o b h) (now (s .entry)) f n i (now (s .exit)) r) ⌝ }
+pub fn op_load(state: &mut [u8], frame: usize, depth: usize, address: u16, a: u8, b: usize) -> Out
+    requires { ⌜ (Room (now state) frame depth address) × (depth < 32) × (b < 32) ⌝ }
+    ensures { λ r. ⌜ ((o : Owner) → ownerOf a ≡ some o → Tells (λ m h. doLoad m o b h) (now (state .entry)) frame depth address (now (state .exit)) r) ⌝ }
 {
-    let g = owner(f, a);
-    let w = machine_frames::cell_word(s, g, b);
-    let t = machine_frames::cell_type(s, g, b);
-    op_push(s, f, n, i, w, t)
+    let g = owner(frame, a);
+    let w = machine_frames::cell_word(state, g, b);
+    let t = machine_frames::cell_type(state, g, b);
+    op_push(state, frame, depth, address, w, t)
 }
 
-pub fn op_store(s: &mut [u8], f: usize, n: usize, i: u16, a: u8, b: usize) -> Out
-    requires { ⌜ (Room (now s) f n i) × (0 < n) × (b < 32) ⌝ }
-    ensures { λ r. ⌜ ((o : Owner) → ownerOf a ≡ some o → Tells (λ m h. doStore m o b h) (now (s .entry)) f n i (now (s .exit)) r) ⌝ }
+pub fn op_store(state: &mut [u8], frame: usize, depth: usize, address: u16, a: u8, b: usize) -> Out
+    requires { ⌜ (Room (now state) frame depth address) × (0 < depth) × (b < 32) ⌝ }
+    ensures { λ r. ⌜ ((o : Owner) → ownerOf a ≡ some o → Tells (λ m h. doStore m o b h) (now (state .entry)) frame depth address (now (state .exit)) r) ⌝ }
 {
-    let k = n - 1;
-    let w = machine_frames::operand_word(s, f, k);
-    let t = machine_frames::operand_type(s, f, k);
-    let g = owner(f, a);
-    machine_frames::put_cell(s, g, b, w, t);
-    machine_frames::pop(s, f, k);
-    machine_frames::go_to(s, f, i + 1);
+    let k = depth - 1;
+    let w = machine_frames::operand_word(state, frame, k);
+    let t = machine_frames::operand_type(state, frame, k);
+    let g = owner(frame, a);
+    machine_frames::put_cell(state, g, b, w, t);
+    machine_frames::pop(state, frame, k);
+    machine_frames::go_to(state, frame, address + 1);
     Out::Goes
 }
 
-fn op_unary(s: &mut [u8], f: usize, n: usize, i: u16, a: u8) -> Out
-    requires { ⌜ (Room (now s) f n i) × (0 < n) ⌝ }
-    ensures { λ r. ⌜ ((o : Unary) → unaryOf a ≡ some o → Tells (λ m h. doOperate (unary o) h) (now (s .entry)) f n i (now (s .exit)) r) ⌝ }
+fn op_unary(state: &mut [u8], frame: usize, depth: usize, address: u16, a: u8) -> Out
+    requires { ⌜ (Room (now state) frame depth address) × (0 < depth) ⌝ }
+    ensures { λ r. ⌜ ((o : Unary) → unaryOf a ≡ some o → Tells (λ m h. doOperate (unary o) h) (now (state .entry)) frame depth address (now (state .exit)) r) ⌝ }
 {
-    let k = n - 1;
-    let x = machine_frames::operand_word(s, f, k);
-    let t = machine_frames::operand_type(s, f, k);
+    let k = depth - 1;
+    let x = machine_frames::operand_word(state, frame, k);
+    let t = machine_frames::operand_type(state, frame, k);
     match operators::unary(a, t, x) {
         Worked::Gives(w, u) => {
-            machine_frames::put_operand(s, f, k, w, u);
-            machine_frames::go_to(s, f, i + 1);
+            machine_frames::put_operand(state, frame, k, w, u);
+            machine_frames::go_to(state, frame, address + 1);
             Out::Goes
         }
-        Worked::Ends(c) => op_condition(s, f, n, i, c),
+        Worked::Ends(c) => op_condition(state, frame, depth, address, c),
     }
 }
 
 // The right operand is on top.
-fn op_binary(s: &mut [u8], f: usize, n: usize, i: u16, a: u8) -> Out
-    requires { ⌜ (Room (now s) f n i) × (2 ≤ n) ⌝ }
-    ensures { λ r. ⌜ ((o : Binary) → binaryOf a ≡ some o → Tells (λ m h. doOperate (binary o) h) (now (s .entry)) f n i (now (s .exit)) r) ⌝ }
+fn op_binary(state: &mut [u8], frame: usize, depth: usize, address: u16, a: u8) -> Out
+    requires { ⌜ (Room (now state) frame depth address) × (2 ≤ depth) ⌝ }
+    ensures { λ r. ⌜ ((o : Binary) → binaryOf a ≡ some o → Tells (λ m h. doOperate (binary o) h) (now (state .entry)) frame depth address (now (state .exit)) r) ⌝ }
 {
-    let k = n - 1;
-    let j = n - 2;
-    let y = machine_frames::operand_word(s, f, k);
-    let x = machine_frames::operand_word(s, f, j);
-    let t = machine_frames::operand_type(s, f, j);
+    let k = depth - 1;
+    let j = depth - 2;
+    let y = machine_frames::operand_word(state, frame, k);
+    let x = machine_frames::operand_word(state, frame, j);
+    let t = machine_frames::operand_type(state, frame, j);
     match operators::binary(a, t, x, y) {
         Worked::Gives(w, u) => {
-            machine_frames::pop(s, f, k);
-            machine_frames::put_operand(s, f, j, w, u);
-            machine_frames::go_to(s, f, i + 1);
+            machine_frames::pop(state, frame, k);
+            machine_frames::put_operand(state, frame, j, w, u);
+            machine_frames::go_to(state, frame, address + 1);
             Out::Goes
         }
-        Worked::Ends(c) => op_condition(s, f, n, i, c),
+        Worked::Ends(c) => op_condition(state, frame, depth, address, c),
     }
 }
 
 // The operators of one operand have the numbers from 20.
-pub fn op_operate(s: &mut [u8], f: usize, n: usize, i: u16, a: u8) -> Out
-    requires { ⌜ (Room (now s) f n i) × (0 < n) × (a < 20 → 2 ≤ n) ⌝ }
-    ensures { λ r. ⌜ ((o : Operator) → operatorOf a ≡ some o → Tells (λ m h. doOperate o h) (now (s .entry)) f n i (now (s .exit)) r) ⌝ }
+pub fn op_operate(state: &mut [u8], frame: usize, depth: usize, address: u16, a: u8) -> Out
+    requires { ⌜ (Room (now state) frame depth address) × (0 < depth) × (a < 20 → 2 ≤ depth) ⌝ }
+    ensures { λ r. ⌜ ((o : Operator) → operatorOf a ≡ some o → Tells (λ m h. doOperate o h) (now (state .entry)) frame depth address (now (state .exit)) r) ⌝ }
 {
     if a < 20 {
-        return op_binary(s, f, n, i, a);
+        return op_binary(state, frame, depth, address, a);
     }
-    op_unary(s, f, n, i, a)
+    op_unary(state, frame, depth, address, a)
 }

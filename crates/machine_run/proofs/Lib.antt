@@ -1,7 +1,7 @@
-pub mod Decode
-pub mod Asks
-pub mod Stepping
-pub mod Running
-pub mod Keeping
-pub mod Kept
-pub mod Looping
+pub mod OpDecode
+pub mod OpAsks
+pub mod ByteSteps
+pub mod RunLoop
+pub mod StepKeeps
+pub mod LoopKeeps
+pub mod LoopInvariant

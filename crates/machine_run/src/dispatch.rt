@@ -12,78 +12,79 @@ use machine_ops::Out;
 // Op 10: the body's record, then the call.
 fn call(
     code: &[u8],
-    bx: &[u32],
-    s: &mut [u8],
+    bodies: &[u32],
+    state: &mut [u8],
     readings: &[u8],
-    f: usize,
-    n: usize,
-    i: u16,
+    frame: usize,
+    depth: usize,
+    address: u16,
     a: u8,
     b: u32,
 ) -> Out
-    requires { ⌜ (Room (now s) f n i) × (Bodied (now code) (now bx)) × (Poised (now code) (now readings) 10 a b (now s) f n i) ⌝ }
-    ensures { λ r. ⌜ TellsOf (now (code .entry)) (λ m h. doCall m b h) (now (s .entry)) f n i (now (s .exit)) r ⌝ }
+    requires { ⌜ (Room (now state) frame depth address) × (Bodied (now code) (now bodies)) × (Poised (now code) (now readings) 10 a b (now state) frame depth address) ⌝ }
+    ensures { λ r. ⌜ TellsOf (now (code .entry)) (λ m h. doCall m b h) (now (state .entry)) frame depth address (now (state .exit)) r ⌝ }
 {
-    let q = load_check::body_at(code, bx, b as usize);
-    machine_ops::op_call(code, q, s, f, n, i, b as u8)
+    let q = load_check::body_at(code, bodies, b as usize);
+    machine_ops::op_call(code, q, state, frame, depth, address, b as u8)
 }
 
 // Op 12: the class's record, then the making.
 fn make(
     code: &[u8],
-    cx: &[u32],
-    s: &mut [u8],
+    classes: &[u32],
+    state: &mut [u8],
     readings: &[u8],
-    f: usize,
-    n: usize,
-    i: u16,
+    frame: usize,
+    depth: usize,
+    address: u16,
     a: u8,
     b: u32,
 ) -> Out
-    requires { ⌜ (Room (now s) f n i) × (Classed (now code) (now cx)) × (Poised (now code) (now readings) 12 a b (now s) f n i) ⌝ }
-    ensures { λ r. ⌜ TellsOf (now (code .entry)) (λ m h. doMake m a h) (now (s .entry)) f n i (now (s .exit)) r ⌝ }
+    requires { ⌜ (Room (now state) frame depth address) × (Classed (now code) (now classes)) × (Poised (now code) (now readings) 12 a b (now state) frame depth address) ⌝ }
+    ensures { λ r. ⌜ TellsOf (now (code .entry)) (λ m h. doMake m a h) (now (state .entry)) frame depth address (now (state .exit)) r ⌝ }
 {
-    let q = load_check::class_at(code, cx, machine_frames::wide(a));
-    machine_ops::op_make(code, q, s, f, n, i, a)
+    let q = load_check::class_at(code, classes, machine_frames::wide(a));
+    machine_ops::op_make(code, q, state, frame, depth, address, a)
 }
 
 pub fn dispatch(
     code: &[u8],
-    bx: &[u32],
-    cx: &[u32],
-    s: &mut [u8],
+    bodies: &[u32],
+    classes: &[u32],
+    state: &mut [u8],
     readings: &[u8],
-    f: usize,
-    n: usize,
-    i: u16,
+    frame: usize,
+    depth: usize,
+    address: u16,
     op: u8,
     a: u8,
     b: u32,
 ) -> Out
-    requires { ⌜ (Room (now s) f n i) × (Bodied (now code) (now bx)) × (Classed (now code) (now cx)) × (length (now readings) ≡ 64) × (Poised (now code) (now readings) op a b (now s) f n i) ⌝ }
-    ensures { λ r. ⌜ Acts (now (code .entry)) (now (readings .entry)) op a b (now (s .entry)) f n i (now (s .exit)) r ⌝ }
+    requires { ⌜ (Room (now state) frame depth address) × (Bodied (now code) (now bodies)) × (Classed (now code) (now classes)) × (length (now readings) ≡ 64)
+        × (Poised (now code) (now readings) op a b (now state) frame depth address) ⌝ }
+    ensures { λ r. ⌜ Acts (now (code .entry)) (now (readings .entry)) op a b (now (state .entry)) frame depth address (now (state .exit)) r ⌝ }
 {
     match op {
-        OP_END => machine_ops::op_end(s, f, n, i),
-        OP_INTEGER => machine_ops::op_push(s, f, n, i, b, TYPE_INTEGER),
-        OP_LOGICAL => machine_ops::op_push(s, f, n, i, b, TYPE_LOGICAL),
-        OP_BITS => machine_ops::op_push(s, f, n, i, b, TYPE_BITS),
-        OP_NULL => machine_ops::op_push(s, f, n, i, 0, TYPE_CLASS + a),
-        OP_LOAD => machine_ops::op_load(s, f, n, i, a, b as usize),
-        OP_STORE => machine_ops::op_store(s, f, n, i, a, b as usize),
-        OP_OPERATOR => machine_ops::op_operate(s, f, n, i, a),
-        OP_GO => machine_ops::op_go(s, f, n, i, b as u16),
-        OP_UNLESS => machine_ops::op_unless(s, f, n, i, b as u16),
-        OP_CALL => call(code, bx, s, readings, f, n, i, a, b),
-        OP_RETURN => machine_ops::op_return(s, f, n, i),
-        OP_MAKE => make(code, cx, s, readings, f, n, i, a, b),
-        OP_GET_FIELD => machine_ops::op_get_field(s, f, n, i, a, b as usize),
-        OP_PUT_FIELD => machine_ops::op_put_field(s, f, n, i, a, b as usize),
-        OP_SET => machine_ops::op_set(s, f, n, i),
-        OP_FADER => machine_ops::op_fader(s, f, n, i, readings),
-        OP_HOLD => machine_ops::op_hold(s, f, n, i, b as u8),
-        OP_RELEASE => machine_ops::op_release(s, f, n, i),
-        OP_ASSERT => machine_ops::op_assert(s, f, n, i),
-        _ => machine_ops::op_stop(s, f, n, i),
+        OP_END => machine_ops::op_end(state, frame, depth, address),
+        OP_INTEGER => machine_ops::op_push(state, frame, depth, address, b, TYPE_INTEGER),
+        OP_LOGICAL => machine_ops::op_push(state, frame, depth, address, b, TYPE_LOGICAL),
+        OP_BITS => machine_ops::op_push(state, frame, depth, address, b, TYPE_BITS),
+        OP_NULL => machine_ops::op_push(state, frame, depth, address, 0, TYPE_CLASS + a),
+        OP_LOAD => machine_ops::op_load(state, frame, depth, address, a, b as usize),
+        OP_STORE => machine_ops::op_store(state, frame, depth, address, a, b as usize),
+        OP_OPERATOR => machine_ops::op_operate(state, frame, depth, address, a),
+        OP_GO => machine_ops::op_go(state, frame, depth, address, b as u16),
+        OP_UNLESS => machine_ops::op_unless(state, frame, depth, address, b as u16),
+        OP_CALL => call(code, bodies, state, readings, frame, depth, address, a, b),
+        OP_RETURN => machine_ops::op_return(state, frame, depth, address),
+        OP_MAKE => make(code, classes, state, readings, frame, depth, address, a, b),
+        OP_GET_FIELD => machine_ops::op_get_field(state, frame, depth, address, a, b as usize),
+        OP_PUT_FIELD => machine_ops::op_put_field(state, frame, depth, address, a, b as usize),
+        OP_SET => machine_ops::op_set(state, frame, depth, address),
+        OP_FADER => machine_ops::op_fader(state, frame, depth, address, readings),
+        OP_HOLD => machine_ops::op_hold(state, frame, depth, address, b as u8),
+        OP_RELEASE => machine_ops::op_release(state, frame, depth, address),
+        OP_ASSERT => machine_ops::op_assert(state, frame, depth, address),
+        _ => machine_ops::op_stop(state, frame, depth, address),
     }
 }

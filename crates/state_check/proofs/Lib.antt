@@ -1,4 +1,4 @@
-pub mod TestLaws
-pub mod Rows
-pub mod InspectionLaws
-pub mod Telling
+pub mod TestExits
+pub mod TypeRows
+pub mod StandingLaws
+pub mod InspectionTells

@@ -11,10 +11,11 @@ use Rattle.load_places.specs.Records.{bodies, count, bodyPlace}
 use Rattle.load_places.specs.Rules.{Flow, goes, ends, bad, broken}
 use Rattle.state_sound.specs.Each.{each}
 use Rattle.state_sound.specs.Fits.{bodyIn, addressIn, takenIn, standsIn, stands}
+use Rattle.bytecode.specs.State.{stateLength}
 
 -- a state's bytes with n activations, each of a body that there is
 pub record Counted (c l : List ℕ) (n : ℕ) : Type 0 where
-  pub long : length l ≡ 24576
+  pub long : length l ≡ stateLength
   pub few : n ≤ 32
   pub of-bodies : (k : ℕ) → k < n → bodyIn l k < bodies c
 

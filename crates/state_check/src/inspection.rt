@@ -14,8 +14,8 @@ ghost use Prim.Native.Nat.{ℕ, _+_, _*_, _≤_, _<_};
 ghost use lib.ListN.{length};
 ghost use lib.Dec.{eqb};
 ghost use Rattle.words.specs.Numbers.{byteAt};
-ghost use Rattle.load_places.specs.Search.{first, tops};
-ghost use Rattle.load_places.specs.Records.{bodies, count, codeBase, badHead};
+ghost use Rattle.load_places.specs.Search.{tops};
+ghost use Rattle.load_places.specs.Records.{count, codeBase, badHead};
 ghost use Rattle.load_places.specs.Rules.{bodyOf, found, into, broken};
 ghost use Rattle.load_places.specs.Index.{Indexed};
 ghost use Rattle.load_check.specs.Lookups.{Bodied};
@@ -33,83 +33,83 @@ pub enum Inspected {
     Refused(usize, usize),
 }
 
-// Whether n bytes are the same in two rows.
-fn same_row(c: &[u8], q: usize, e: &[u8], p: usize, n: usize) -> bool
-    requires { ⌜ (q + n ≤ length (now c)) × (p + n ≤ length (now e)) ⌝ }
-    ensures { λ x. ⌜ x ≡ each (λ j. eqb (byteAt (now (c .entry)) (q + j)) (byteAt (now (e .entry)) (p + j))) 0 n ⌝ }
+// Whether as many bytes are the same in two rows.
+fn same_row(code: &[u8], place: usize, row: &[u8], from: usize, count: usize) -> bool
+    requires { ⌜ (place + count ≤ length (now code)) × (from + count ≤ length (now row)) ⌝ }
+    ensures { λ x. ⌜ x ≡ each (λ j. eqb (byteAt (now (code .entry)) (place + j)) (byteAt (now (row .entry)) (from + j))) 0 count ⌝ }
 {
     let mut ok = true;
     let mut j: usize = 0;
-    while j < n {
-        let a = words::wide::byte_at(c, q + j);
-        let b = words::wide::byte_at(e, p + j);
+    while j < count {
+        let a = words::wide::byte_at(code, place + j);
+        let b = words::wide::byte_at(row, from + j);
         ok = both(ok, a == b);
         j += 1;
     }
     ok
 }
 
-// Whether the d types found are the a operands of activation k, of n, and above them the arguments that its call took.
+// Whether the types found are the operands of activation k and above them the arguments that its call took.
 fn args_fit(
-    c: &[u8],
-    bx: &[u32],
-    l: &[u8],
-    n: usize,
+    code: &[u8],
+    bodies: &[u32],
+    state: &[u8],
+    activations: usize,
     k: usize,
-    st: &[u8],
-    a: usize,
-    d: usize,
+    stack: &[u8],
+    operands: usize,
+    depth: usize,
 ) -> bool
-    requires { ⌜ (Bodied (now c) (now bx)) × (Counted (now c) (now l) n) × (k < n) × (length (now st) ≡ 32) × (d ≤ 32) × (a < 256) ⌝ }
-    ensures { λ x. ⌜ x ≡ argsFit (now (c .entry)) (now (l .entry)) n k (now (st .entry)) a d ⌝ }
+    requires { ⌜ (Bodied (now code) (now bodies)) × (Counted (now code) (now state) activations) × (k < activations) × (length (now stack) ≡ 32) × (depth ≤ 32) × (operands < 256) ⌝ }
+    ensures { λ x. ⌜ x ≡ argsFit (now (code .entry)) (now (state .entry)) activations k (now (stack .entry)) operands depth ⌝ }
 {
     let j = k + 1;
-    if n <= j {
-        return a == d;
+    if activations <= j {
+        return operands == depth;
     }
-    let b = words::wide::byte_at(l, ACTIVATIONS_AT + ACTIVATION_BYTES * j);
-    let q = load_check::body_at(c, bx, b);
-    let t = words::wide::byte_at(c, q + PARAMETER_COUNT_AT);
-    if a + t != d {
+    let b = words::wide::byte_at(state, ACTIVATIONS_AT + ACTIVATION_BYTES * j);
+    let q = load_check::body_at(code, bodies, b);
+    let t = words::wide::byte_at(code, q + PARAMETER_COUNT_AT);
+    if operands + t != depth {
         return false;
     }
-    same_row(c, q + BODY_BYTES, st, a, t)
+    same_row(code, q + BODY_BYTES, stack, operands, t)
 }
 
-// Whether activation k, of n, fits the state found where it stands, in body b.
+// Whether activation k fits the state found where it stands: in a body, with as many open holds and operands of the types in `stack`.
 fn stands_at(
-    c: &[u8],
-    bx: &[u32],
-    l: &[u8],
-    r: usize,
-    n: usize,
+    code: &[u8],
+    bodies: &[u32],
+    state: &[u8],
+    records: usize,
+    activations: usize,
     k: usize,
-    b: usize,
-    st: &[u8],
-    h: usize,
-    d: usize,
+    body: usize,
+    stack: &[u8],
+    holds: usize,
+    depth: usize,
 ) -> bool
-    requires { ⌜ (Bodied (now c) (now bx)) × (Counted (now c) (now l) n) × (r ≤ 256) × (k < n) × (length (now st) ≡ 32) × (d ≤ 32) ⌝ }
-    ensures { λ x. ⌜ x ≡ standsIn (now (c .entry)) (now (l .entry)) r n k b h (tops (now (st .entry)) 0 d) ⌝ }
+    requires { ⌜ (Bodied (now code) (now bodies)) × (Counted (now code) (now state) activations) × (records ≤ 256) × (k < activations) × (length (now stack) ≡ 32) × (depth ≤ 32) ⌝ }
+    ensures { λ x. ⌜ x ≡ standsIn (now (code .entry)) (now (state .entry)) records activations k body holds (tops (now (stack .entry)) 0 depth) ⌝ }
 {
     let p = ACTIVATIONS_AT + ACTIVATION_BYTES * k;
-    let o = words::wide::byte_at(l, p);
-    if o != b {
+    let o = words::wide::byte_at(state, p);
+    if o != body {
         return false;
     }
-    let g = words::wide::byte_at(l, p + OWN_HOLD_COUNT_AT);
-    if g != h {
+    let g = words::wide::byte_at(state, p + OWN_HOLD_COUNT_AT);
+    if g != holds {
         return false;
     }
-    let a = words::wide::byte_at(l, p + OPERAND_COUNT_AT);
-    if !args_fit(c, bx, l, n, k, st, a, d) {
+    let a = words::wide::byte_at(state, p + OPERAND_COUNT_AT);
+    if !args_fit(code, bodies, state, activations, k, stack, a, depth) {
         return false;
     }
     row_fits(
-        c,
-        l,
-        r,
-        st,
+        code,
+        state,
+        records,
+        stack,
         0,
         p + OPERAND_TYPES_AT,
         p + OPERAND_WORDS_AT,
@@ -117,50 +117,75 @@ fn stands_at(
     )
 }
 
-// The same, if it stands at i.
+// The same, if it stands at the address.
 fn stands_if(
-    c: &[u8],
-    bx: &[u32],
-    l: &[u8],
-    r: usize,
-    n: usize,
+    code: &[u8],
+    bodies: &[u32],
+    state: &[u8],
+    records: usize,
+    activations: usize,
     k: usize,
-    i: usize,
-    b: usize,
-    st: &[u8],
-    h: usize,
-    d: usize,
+    address: usize,
+    body: usize,
+    stack: &[u8],
+    holds: usize,
+    depth: usize,
 ) -> bool
-    requires { ⌜ (Bodied (now c) (now bx)) × (Counted (now c) (now l) n) × (r ≤ 256) × (k < n) × (length (now st) ≡ 32) × (d ≤ 32) ⌝ }
-    ensures { λ x. ⌜ x ≡ cond (eqb (addressIn (now (l .entry)) k) i) (standsIn (now (c .entry)) (now (l .entry)) r n k b h (tops (now (st .entry)) 0 d)) true ⌝ }
+    requires { ⌜ (Bodied (now code) (now bodies)) × (Counted (now code) (now state) activations) × (records ≤ 256) × (k < activations) × (length (now stack) ≡ 32) × (depth ≤ 32) ⌝ }
+    ensures { λ x. ⌜ x ≡ cond (eqb (addressIn (now (state .entry)) k) address) (standsIn (now (code .entry)) (now (state .entry)) records activations k body holds
+        (tops (now (stack .entry)) 0 depth)) true ⌝ }
 {
-    let a = words::wide::half_at(l, ACTIVATIONS_AT + ACTIVATION_BYTES * k + ADDRESS_AT);
-    if a != i {
+    let a = words::wide::half_at(state, ACTIVATIONS_AT + ACTIVATION_BYTES * k + ADDRESS_AT);
+    if a != address {
         return true;
     }
-    stands_at(c, bx, l, r, n, k, b, st, h, d)
+    stands_at(
+        code,
+        bodies,
+        state,
+        records,
+        activations,
+        k,
+        body,
+        stack,
+        holds,
+        depth,
+    )
 }
 
-// All activations that stand at i.
+// All activations that stand at the address.
 fn all_stand(
-    c: &[u8],
-    bx: &[u32],
-    l: &[u8],
-    r: usize,
-    n: usize,
-    i: usize,
-    b: usize,
-    st: &[u8],
-    h: usize,
-    d: usize,
+    code: &[u8],
+    bodies: &[u32],
+    state: &[u8],
+    records: usize,
+    activations: usize,
+    address: usize,
+    body: usize,
+    stack: &[u8],
+    holds: usize,
+    depth: usize,
 ) -> bool
-    requires { ⌜ (Bodied (now c) (now bx)) × (Counted (now c) (now l) n) × (r ≤ 256) × (length (now st) ≡ 32) × (d ≤ 32) ⌝ }
-    ensures { λ x. ⌜ x ≡ each (λ k. cond (eqb (addressIn (now (l .entry)) k) i) (standsIn (now (c .entry)) (now (l .entry)) r n k b h (tops (now (st .entry)) 0 d)) true) 0 n ⌝ }
+    requires { ⌜ (Bodied (now code) (now bodies)) × (Counted (now code) (now state) activations) × (records ≤ 256) × (length (now stack) ≡ 32) × (depth ≤ 32) ⌝ }
+    ensures { λ x. ⌜ x ≡ each (λ k. cond (eqb (addressIn (now (state .entry)) k) address) (standsIn (now (code .entry)) (now (state .entry)) records activations k body holds
+        (tops (now (stack .entry)) 0 depth)) true) 0 activations ⌝ }
 {
     let mut ok = true;
     let mut k: usize = 0;
-    while k < n {
-        let f = stands_if(c, bx, l, r, n, k, i, b, st, h, d);
+    while k < activations {
+        let f = stands_if(
+            code,
+            bodies,
+            state,
+            records,
+            activations,
+            k,
+            address,
+            body,
+            stack,
+            holds,
+            depth,
+        );
         ok = both(ok, f);
         k += 1;
     }
@@ -169,31 +194,42 @@ fn all_stand(
 
 // Where no state is found the address has a fault, and the answer does not count.
 fn found_fits(
-    c: &[u8],
-    bx: &[u32],
-    l: &[u8],
-    r: usize,
-    n: usize,
-    i: usize,
-    b: usize,
-    st: &[u8],
-    g: Moved,
+    code: &[u8],
+    bodies: &[u32],
+    state: &[u8],
+    records: usize,
+    activations: usize,
+    address: usize,
+    body: usize,
+    stack: &[u8],
+    flow: Moved,
 ) -> bool
-    requires { ⌜ (Bodied (now c) (now bx)) × (Counted (now c) (now l) n) × (r ≤ 256) × (length (now st) ≡ 32) × (Fit g) ⌝ }
-    ensures { λ x. ⌜ x ≡ standing (now (c .entry)) (now (l .entry)) r n i b (flowOf g (now (st .entry))) ⌝ }
+    requires { ⌜ (Bodied (now code) (now bodies)) × (Counted (now code) (now state) activations) × (records ≤ 256) × (length (now stack) ≡ 32) × (Fit flow) ⌝ }
+    ensures { λ x. ⌜ x ≡ standing (now (code .entry)) (now (state .entry)) records activations address body (flowOf flow (now (stack .entry))) ⌝ }
 {
-    match g {
-        Moved::Goes(h, d) => all_stand(c, bx, l, r, n, i, b, st, h, d),
+    match flow {
+        Moved::Goes(h, d) => all_stand(
+            code,
+            bodies,
+            state,
+            records,
+            activations,
+            address,
+            body,
+            stack,
+            h,
+            d,
+        ),
         Moved::Ends => true,
         Moved::Bad => true,
     }
 }
 
-// The nearer of two addresses that are not before i.
-fn nearer(best: usize, a: usize, i: usize) -> usize
-    ensures { λ x. ⌜ (x ≤ best) × (i ≤ a → x ≤ a) ⌝ }
+// The nearer of two addresses that are not before a third.
+fn nearer(best: usize, a: usize, address: usize) -> usize
+    ensures { λ x. ⌜ (x ≤ best) × (address ≤ a → x ≤ a) ⌝ }
 {
-    if a < i {
+    if a < address {
         return best;
     }
     if a < best {
@@ -202,16 +238,16 @@ fn nearer(best: usize, a: usize, i: usize) -> usize
     best
 }
 
-// No activation stands from i on before this address.
-fn next_wanted(l: &[u8], n: usize, i: usize) -> usize
-    requires { ⌜ (length (now l) ≡ stateLength) × (n ≤ 32) ⌝ }
-    ensures { λ x. ⌜ ((k : ℕ) → k < n → i ≤ addressIn (now (l .entry)) k → x ≤ addressIn (now (l .entry)) k) ⌝ }
+// No activation stands from the given address on before this one.
+fn next_wanted(state: &[u8], activations: usize, address: usize) -> usize
+    requires { ⌜ (length (now state) ≡ stateLength) × (activations ≤ 32) ⌝ }
+    ensures { λ x. ⌜ ((k : ℕ) → k < activations → address ≤ addressIn (now (state .entry)) k → x ≤ addressIn (now (state .entry)) k) ⌝ }
 {
     let mut best: usize = 65536;
     let mut k: usize = 0;
-    while k < n {
-        let a = words::wide::half_at(l, ACTIVATIONS_AT + ACTIVATION_BYTES * k + ADDRESS_AT);
-        best = nearer(best, a, i);
+    while k < activations {
+        let a = words::wide::half_at(state, ACTIVATIONS_AT + ACTIVATION_BYTES * k + ADDRESS_AT);
+        best = nearer(best, a, address);
         k += 1;
     }
     best
@@ -223,28 +259,40 @@ struct Wanted {
     next: usize,
 }
 
-// The address i with the state g found there, in body b. Most addresses are not wanted, and cost one comparison.
+// An address with the state found there. Most addresses are not wanted, and cost one comparison.
 fn look(
-    c: &[u8],
-    bx: &[u32],
-    l: &[u8],
-    r: usize,
-    n: usize,
-    i: usize,
-    b: usize,
-    st: &[u8],
-    g: Moved,
+    code: &[u8],
+    bodies: &[u32],
+    state: &[u8],
+    records: usize,
+    activations: usize,
+    address: usize,
+    body: usize,
+    stack: &[u8],
+    flow: Moved,
     ok: bool,
     next: usize,
 ) -> Wanted
-    requires { ⌜ (Bodied (now c) (now bx)) × (Counted (now c) (now l) n) × (r ≤ 256) × (length (now st) ≡ 32) × (Fit g) × (i < 65536) × (b ≡ bodyOf (now c) i) × (flowOf g (now st) ≡ found (now c) i (into (now c) i)) × (Upto (now c) (now l) r n i ok next) ⌝ }
-    ensures { λ x. ⌜ (broken (now (c .entry)) i ≡ false → Upto (now (c .entry)) (now (l .entry)) r n (i + 1) (x .ok) (x .next)) ⌝ }
+    requires { ⌜ (Bodied (now code) (now bodies)) × (Counted (now code) (now state) activations) × (records ≤ 256) × (length (now stack) ≡ 32) × (Fit flow) × (address < 65536)
+        × (body ≡ bodyOf (now code) address) × (flowOf flow (now stack) ≡ found (now code) address (into (now code) address))
+        × (Upto (now code) (now state) records activations address ok next) ⌝ }
+    ensures { λ x. ⌜ (broken (now (code .entry)) address ≡ false → Upto (now (code .entry)) (now (state .entry)) records activations (address + 1) (x .ok) (x .next)) ⌝ }
 {
-    if i < next {
+    if address < next {
         return Wanted { ok: ok, next: next };
     }
-    let f = found_fits(c, bx, l, r, n, i, b, st, g);
-    let j = next_wanted(l, n, i + 1);
+    let f = found_fits(
+        code,
+        bodies,
+        state,
+        records,
+        activations,
+        address,
+        body,
+        stack,
+        flow,
+    );
+    let j = next_wanted(state, activations, address + 1);
     Wanted {
         ok: both(ok, f),
         next: j,
@@ -256,41 +304,60 @@ pub struct Tested {
     pub ok: bool,
 }
 
-// The first address with a fault, or the count; there also whether the n activations fit where they stand.
+// The first address with a fault, or the count; there also whether the activations fit where they stand.
 fn walk_tests(
-    c: &[u8],
-    ix: &[u32],
-    bx: &[u32],
-    cx: &[u32],
+    code: &[u8],
+    shapes: &[u32],
+    bodies: &[u32],
+    classes: &[u32],
     base: usize,
-    st: &mut [u8],
-    l: &[u8],
-    r: usize,
-    n: usize,
+    stack: &mut [u8],
+    state: &[u8],
+    records: usize,
+    activations: usize,
 ) -> Tested
-    requires { ⌜ (Able (now c) (now ix) (now bx) (now cx)) × (base ≡ codeBase (now c)) × (length (now st) ≡ 32) × (Counted (now c) (now l) n) × (r ≤ 256) ⌝ }
-    ensures { λ x. ⌜ Tests (now (c .entry)) (now (l .entry)) r n (x .at) (x .ok) ⌝ }
+    requires { ⌜ (Able (now code) (now shapes) (now bodies) (now classes)) × (base ≡ codeBase (now code)) × (length (now stack) ≡ 32) × (Counted (now code) (now state) activations)
+        × (records ≤ 256) ⌝ }
+    ensures { λ x. ⌜ Tests (now (code .entry)) (now (state .entry)) records activations (x .at) (x .ok) ⌝ }
 {
-    let stop = words::wide::half_at(c, CODE_COUNT_AT);
-    let mut i: usize = 0;
-    let mut k: usize = 0;
-    let mut f = Moved::Ends;
+    let stop = words::wide::half_at(code, CODE_COUNT_AT);
+    let mut address: usize = 0;
+    let mut body: usize = 0;
+    let mut flow = Moved::Ends;
     let mut ok = true;
-    let mut next = next_wanted(l, n, 0);
-    while i < stop {
-        let g = load_check::found_at(c, ix, bx, k, i, st, f);
-        let w = look(c, bx, l, r, n, i, k, st, g, ok, next);
-        let e = load_check::go_on(c, ix, bx, cx, base, k, i, st, g);
+    let mut next = next_wanted(state, activations, 0);
+    while address < stop {
+        let g = load_check::found_at(code, shapes, bodies, body, address, stack, flow);
+        let w = look(
+            code,
+            bodies,
+            state,
+            records,
+            activations,
+            address,
+            body,
+            stack,
+            g,
+            ok,
+            next,
+        );
+        let e = load_check::go_on(code, shapes, bodies, classes, base, body, address, stack, g);
         if load_check::is_bad(e) {
-            return Tested { at: i, ok: false };
+            return Tested {
+                at: address,
+                ok: false,
+            };
         }
-        k = load_check::next_body(c, bx, k, i);
-        f = e;
+        body = load_check::next_body(code, bodies, body, address);
+        flow = e;
         ok = w.ok;
         next = w.next;
-        i += 1;
+        address += 1;
     }
-    Tested { at: i, ok: ok }
+    Tested {
+        at: address,
+        ok: ok,
+    }
 }
 
 struct Counts {
@@ -299,9 +366,9 @@ struct Counts {
 }
 
 // What the walk is to test: nothing where the state is refused anyway, or has no activations.
-fn count_wanted(l: &[u8], plain: bool) -> Counts
-    requires { ⌜ length (now l) ≡ stateLength ⌝ }
-    ensures { λ x. ⌜ (x .activations ≡ cond plain (activationsIn (now (l .entry))) 0) × (x .records ≡ cond plain (recordsIn (now (l .entry))) 0) ⌝ }
+fn count_wanted(state: &[u8], plain: bool) -> Counts
+    requires { ⌜ length (now state) ≡ stateLength ⌝ }
+    ensures { λ x. ⌜ (x .activations ≡ cond plain (activationsIn (now (state .entry))) 0) × (x .records ≡ cond plain (recordsIn (now (state .entry))) 0) ⌝ }
 {
     if !plain {
         return Counts {
@@ -309,15 +376,15 @@ fn count_wanted(l: &[u8], plain: bool) -> Counts
             records: 0,
         };
     }
-    let phase = words::wide::byte_at(l, PHASE_AT);
+    let phase = words::wide::byte_at(state, PHASE_AT);
     if phase != wide::RUNNING {
         return Counts {
             activations: 0,
             records: 0,
         };
     }
-    let n = words::wide::byte_at(l, ACTIVATION_COUNT_AT);
-    let r = words::wide::half_at(l, RECORD_COUNT_AT);
+    let n = words::wide::byte_at(state, ACTIVATION_COUNT_AT);
+    let r = words::wide::half_at(state, RECORD_COUNT_AT);
     Counts {
         activations: n,
         records: r,
@@ -325,25 +392,36 @@ fn count_wanted(l: &[u8], plain: bool) -> Counts
 }
 
 fn inspect_in(
-    c: &[u8],
-    l: &[u8],
-    ix: &mut [u32],
-    bx: &mut [u32],
-    cx: &mut [u32],
-    m: usize,
+    code: &[u8],
+    state: &[u8],
+    shapes: &mut [u32],
+    bodies: &mut [u32],
+    classes: &mut [u32],
+    instructions: usize,
 ) -> Inspected
-    requires { ⌜ (badHead (now c) ≡ false) × (m ≡ count (now c)) × (m ≤ length (now ix)) × (64 ≤ length (now bx)) × (16 ≤ length (now cx)) × (Indexed (now c) (now ix) m 0) × (length (now l) ≡ stateLength) ⌝ }
-    ensures { λ x. ⌜ Tells (now (c .entry)) (now (l .entry)) (now (bx .exit)) (now (cx .exit)) x ⌝ }
+    requires { ⌜ (badHead (now code) ≡ false) × (instructions ≡ count (now code)) × (instructions ≤ length (now shapes)) × (64 ≤ length (now bodies)) × (16 ≤ length (now classes))
+        × (Indexed (now code) (now shapes) instructions 0) × (length (now state) ≡ stateLength) ⌝ }
+    ensures { λ x. ⌜ Tells (now (code .entry)) (now (state .entry)) (now (bodies .exit)) (now (classes .exit)) x ⌝ }
 {
-    let mut st = [0u8; MAX_OPERANDS];
-    match load_check::scan(c, ix, bx, cx, m) {
+    let mut stack = [0u8; MAX_OPERANDS];
+    match load_check::scan(code, shapes, bodies, classes, instructions) {
         Records::Unread(k) => Inspected::Refused(8, k),
         Records::Reads(base) => {
-            let plain = plain_fits(c, bx, cx, base, l);
-            let s = count_wanted(l, plain);
-            let w = walk_tests(c, ix, bx, cx, base, &mut st, l, s.records, s.activations);
+            let plain = plain_fits(code, bodies, classes, base, state);
+            let counts = count_wanted(state, plain);
+            let w = walk_tests(
+                code,
+                shapes,
+                bodies,
+                classes,
+                base,
+                &mut stack,
+                state,
+                counts.records,
+                counts.activations,
+            );
             let at = w.at;
-            if at < m {
+            if at < instructions {
                 return Inspected::Refused(9, at);
             }
             if both(plain, w.ok) {
@@ -356,36 +434,43 @@ fn inspect_in(
 }
 
 // The larger indexes: for more than 1,024 instructions, and for a state of wrong length, which is refused whatever the macro's size.
-fn inspect_large(c: &[u8], l: &[u8], bx: &mut [u32], cx: &mut [u32], m: usize) -> Inspected
-    requires { ⌜ (badHead (now c) ≡ false) × (m ≡ count (now c)) × (m < 65536) × (64 ≤ length (now bx)) × (16 ≤ length (now cx)) × (length (now l) ≡ stateLength) ⌝ }
-    ensures { λ x. ⌜ Tells (now (c .entry)) (now (l .entry)) (now (bx .exit)) (now (cx .exit)) x ⌝ }
+fn inspect_large(
+    code: &[u8],
+    state: &[u8],
+    bodies: &mut [u32],
+    classes: &mut [u32],
+    instructions: usize,
+) -> Inspected
+    requires { ⌜ (badHead (now code) ≡ false) × (instructions ≡ count (now code)) × (instructions < 65536) × (64 ≤ length (now bodies)) × (16 ≤ length (now classes))
+        × (length (now state) ≡ stateLength) ⌝ }
+    ensures { λ x. ⌜ Tells (now (code .entry)) (now (state .entry)) (now (bodies .exit)) (now (classes .exit)) x ⌝ }
 {
-    if m <= 8192 {
-        let mut ix = [0u32; 8192];
-        return inspect_in(c, l, &mut ix, bx, cx, m);
+    if instructions <= 8192 {
+        let mut shapes = [0u32; 8192];
+        return inspect_in(code, state, &mut shapes, bodies, classes, instructions);
     }
-    let mut ix = [0u32; 65536];
-    inspect_in(c, l, &mut ix, bx, cx, m)
+    let mut shapes = [0u32; 65536];
+    inspect_in(code, state, &mut shapes, bodies, classes, instructions)
 }
 
 // The index of shapes is cleared at each call, so that its size goes by the number of instructions.
-fn inspect_long(c: &[u8], l: &[u8], bx: &mut [u32], cx: &mut [u32]) -> Inspected
-    requires { ⌜ (64 ≤ length (now bx)) × (16 ≤ length (now cx)) × (length (now l) ≡ stateLength) ⌝ }
-    ensures { λ x. ⌜ Tells (now (c .entry)) (now (l .entry)) (now (bx .exit)) (now (cx .exit)) x ⌝ }
+fn inspect_long(code: &[u8], state: &[u8], bodies: &mut [u32], classes: &mut [u32]) -> Inspected
+    requires { ⌜ (64 ≤ length (now bodies)) × (16 ≤ length (now classes)) × (length (now state) ≡ stateLength) ⌝ }
+    ensures { λ x. ⌜ Tells (now (code .entry)) (now (state .entry)) (now (bodies .exit)) (now (classes .exit)) x ⌝ }
 {
-    if load_check::bad_head(c) {
+    if load_check::bad_head(code) {
         return Inspected::Refused(8, 0);
     }
-    let m = words::wide::half_at(c, CODE_COUNT_AT);
-    if m <= 64 {
-        let mut ix = [0u32; 64];
-        return inspect_in(c, l, &mut ix, bx, cx, m);
+    let instructions = words::wide::half_at(code, CODE_COUNT_AT);
+    if instructions <= 64 {
+        let mut shapes = [0u32; 64];
+        return inspect_in(code, state, &mut shapes, bodies, classes, instructions);
     }
-    if m <= 1024 {
-        let mut ix = [0u32; 1024];
-        return inspect_in(c, l, &mut ix, bx, cx, m);
+    if instructions <= 1024 {
+        let mut shapes = [0u32; 1024];
+        return inspect_in(code, state, &mut shapes, bodies, classes, instructions);
     }
-    inspect_large(c, l, bx, cx, m)
+    inspect_large(code, state, bodies, classes, instructions)
 }
 
 // What is told of a state of wrong length, which is never sound.
@@ -400,26 +485,26 @@ fn short(x: Inspected) -> Inspected
 }
 
 // The macro is judged beside bytes that hold nothing, as long as a state.
-fn inspect_short(c: &[u8], bx: &mut [u32], cx: &mut [u32]) -> Inspected
-    requires { ⌜ (64 ≤ length (now bx)) × (16 ≤ length (now cx)) ⌝ }
-    ensures { λ x. ⌜ Sees (now (c .entry)) x ⌝ }
+fn inspect_short(code: &[u8], bodies: &mut [u32], classes: &mut [u32]) -> Inspected
+    requires { ⌜ (64 ≤ length (now bodies)) × (16 ≤ length (now classes)) ⌝ }
+    ensures { λ x. ⌜ Sees (now (code .entry)) x ⌝ }
 {
-    if load_check::bad_head(c) {
+    if load_check::bad_head(code) {
         return Inspected::Refused(8, 0);
     }
-    let m = words::wide::half_at(c, CODE_COUNT_AT);
+    let instructions = words::wide::half_at(code, CODE_COUNT_AT);
     let nothing = [0u8; STATE_BYTES];
-    short(inspect_large(c, &nothing, bx, cx, m))
+    short(inspect_large(code, &nothing, bodies, classes, instructions))
 }
 
 // A macro and a state's bytes, whatever they are: the refusal 8 or 9 of the loading check, or whether a sound state decodes from the bytes.
-// The places of bodies and classes are left in bx and cx.
-pub fn inspect(c: &[u8], l: &[u8], bx: &mut [u32], cx: &mut [u32]) -> Inspected
-    requires { ⌜ (64 ≤ length (now bx)) × (16 ≤ length (now cx)) ⌝ }
-    ensures { λ x. ⌜ Inspects (now (c .entry)) (now (l .entry)) (now (bx .exit)) (now (cx .exit)) x ⌝ }
+// The places of bodies and classes are left in `bodies` and `classes`.
+pub fn inspect(code: &[u8], state: &[u8], bodies: &mut [u32], classes: &mut [u32]) -> Inspected
+    requires { ⌜ (64 ≤ length (now bodies)) × (16 ≤ length (now classes)) ⌝ }
+    ensures { λ x. ⌜ Inspects (now (code .entry)) (now (state .entry)) (now (bodies .exit)) (now (classes .exit)) x ⌝ }
 {
-    if l.len() != STATE_BYTES {
-        return inspect_short(c, bx, cx);
+    if state.len() != STATE_BYTES {
+        return inspect_short(code, bodies, classes);
     }
-    inspect_long(c, l, bx, cx)
+    inspect_long(code, state, bodies, classes)
 }

@@ -23,32 +23,32 @@ pub fn both(a: bool, b: bool) -> bool
     if a { b } else { false }
 }
 
-// Whether w is null or one of r records, of the class of type t.
-fn points_to(l: &[u8], r: usize, t: usize, w: usize) -> bool
-    requires { ⌜ (length (now l) ≡ stateLength) × (r ≤ 256) × (16 ≤ t) ⌝ }
-    ensures { λ x. ⌜ x ≡ pointsTo (now (l .entry)) r t w ⌝ }
+// Whether w is null or one of the records, of the class of type t.
+fn points_to(state: &[u8], records: usize, t: usize, w: usize) -> bool
+    requires { ⌜ (length (now state) ≡ stateLength) × (records ≤ 256) × (16 ≤ t) ⌝ }
+    ensures { λ x. ⌜ x ≡ pointsTo (now (state .entry)) records t w ⌝ }
 {
     if w == 0 {
         return true;
     }
     let k = w - 1;
-    if r <= k {
+    if records <= k {
         return false;
     }
-    words::wide::byte_at(l, RECORDS_AT + RECORD_BYTES * k) == t - wide::TYPE_CLASS
+    words::wide::byte_at(state, RECORDS_AT + RECORD_BYTES * k) == t - wide::TYPE_CLASS
 }
 
 // Whether the word w is a value of type t.
-fn value_fits(c: &[u8], l: &[u8], r: usize, t: usize, w: usize) -> bool
-    requires { ⌜ (8 ≤ length (now c)) × (length (now l) ≡ stateLength) × (r ≤ 256) ⌝ }
-    ensures { λ x. ⌜ x ≡ valueFits (now (c .entry)) (now (l .entry)) r t w ⌝ }
+fn value_fits(code: &[u8], state: &[u8], records: usize, t: usize, w: usize) -> bool
+    requires { ⌜ (8 ≤ length (now code)) × (length (now state) ≡ stateLength) × (records ≤ 256) ⌝ }
+    ensures { λ x. ⌜ x ≡ valueFits (now (code .entry)) (now (state .entry)) records t w ⌝ }
 {
-    let n = words::wide::byte_at(c, CLASS_COUNT_AT);
+    let n = words::wide::byte_at(code, CLASS_COUNT_AT);
     if load_check::no_type(n, t) {
         return false;
     }
     if wide::TYPE_CLASS <= t {
-        return points_to(l, r, t, w);
+        return points_to(state, records, t, w);
     }
     if t == wide::TYPE_LOGICAL {
         return w < 2;
@@ -56,50 +56,50 @@ fn value_fits(c: &[u8], l: &[u8], r: usize, t: usize, w: usize) -> bool
     true
 }
 
-// Whether the n values of a row, with type bytes at t and words at w, are of the types that stand in e at q.
+// Whether as many values, with type bytes at t and words at w, are of the types that stand in `row` at `place`.
 pub fn row_fits(
-    c: &[u8],
-    l: &[u8],
-    r: usize,
-    e: &[u8],
-    q: usize,
+    code: &[u8],
+    state: &[u8],
+    records: usize,
+    row: &[u8],
+    place: usize,
     t: usize,
     w: usize,
-    n: usize,
+    count: usize,
 ) -> bool
-    requires { ⌜ (8 ≤ length (now c)) × (length (now l) ≡ stateLength) × (r ≤ 256) × (q + n ≤ length (now e)) × (t + n ≤ stateLength) × (w + 4 * n ≤ stateLength) ⌝ }
-    ensures { λ x. ⌜ x ≡ rowFits (now (c .entry)) (now (l .entry)) r (now (e .entry)) q t w n ⌝ }
+    requires { ⌜ (8 ≤ length (now code)) × (length (now state) ≡ stateLength) × (records ≤ 256) × (place + count ≤ length (now row)) × (t + count ≤ stateLength) × (w + 4 * count ≤ stateLength) ⌝ }
+    ensures { λ x. ⌜ x ≡ rowFits (now (code .entry)) (now (state .entry)) records (now (row .entry)) place t w count ⌝ }
 {
     let mut ok = true;
     let mut j: usize = 0;
-    while j < n {
-        let a = words::wide::byte_at(l, t + j);
-        let b = words::wide::byte_at(e, q + j);
-        let v = words::wide::word_at(l, w + WORD_BYTES * j);
-        let f = value_fits(c, l, r, a, v);
+    while j < count {
+        let a = words::wide::byte_at(state, t + j);
+        let b = words::wide::byte_at(row, place + j);
+        let v = words::wide::word_at(state, w + WORD_BYTES * j);
+        let f = value_fits(code, state, records, a, v);
         ok = both(ok, both(a == b, f));
         j += 1;
     }
     ok
 }
 
-fn record_fits(c: &[u8], cx: &[u32], l: &[u8], r: usize, k: usize) -> bool
-    requires { ⌜ (Classed (now c) (now cx)) × (length (now l) ≡ stateLength) × (r ≤ 256) × (k < 256) ⌝ }
-    ensures { λ x. ⌜ x ≡ recordFits (now (c .entry)) (now (l .entry)) r k ⌝ }
+fn record_fits(code: &[u8], classes: &[u32], state: &[u8], records: usize, k: usize) -> bool
+    requires { ⌜ (Classed (now code) (now classes)) × (length (now state) ≡ stateLength) × (records ≤ 256) × (k < 256) ⌝ }
+    ensures { λ x. ⌜ x ≡ recordFits (now (code .entry)) (now (state .entry)) records k ⌝ }
 {
     let p = RECORDS_AT + RECORD_BYTES * k;
-    let a = words::wide::byte_at(l, p);
-    let n = words::wide::byte_at(c, CLASS_COUNT_AT);
+    let a = words::wide::byte_at(state, p);
+    let n = words::wide::byte_at(code, CLASS_COUNT_AT);
     if n <= a {
         return false;
     }
-    let q = load_check::class_at(c, cx, a);
-    let f = words::wide::byte_at(c, q + FIELD_COUNT_AT);
+    let q = load_check::class_at(code, classes, a);
+    let f = words::wide::byte_at(code, q + FIELD_COUNT_AT);
     row_fits(
-        c,
-        l,
-        r,
-        c,
+        code,
+        state,
+        records,
+        code,
         q + CLASS_BYTES,
         p + FIELD_TYPES_AT,
         p + FIELD_WORDS_AT,
@@ -107,76 +107,84 @@ fn record_fits(c: &[u8], cx: &[u32], l: &[u8], r: usize, k: usize) -> bool
     )
 }
 
-fn records_fit(c: &[u8], cx: &[u32], l: &[u8], r: usize) -> bool
-    requires { ⌜ (Classed (now c) (now cx)) × (length (now l) ≡ stateLength) × (r ≤ 256) ⌝ }
-    ensures { λ x. ⌜ x ≡ each (recordFits (now (c .entry)) (now (l .entry)) r) 0 r ⌝ }
+fn records_fit(code: &[u8], classes: &[u32], state: &[u8], records: usize) -> bool
+    requires { ⌜ (Classed (now code) (now classes)) × (length (now state) ≡ stateLength) × (records ≤ 256) ⌝ }
+    ensures { λ x. ⌜ x ≡ each (recordFits (now (code .entry)) (now (state .entry)) records) 0 records ⌝ }
 {
     let mut ok = true;
     let mut k: usize = 0;
-    while k < r {
-        let f = record_fits(c, cx, l, r, k);
+    while k < records {
+        let f = record_fits(code, classes, state, records, k);
         ok = both(ok, f);
         k += 1;
     }
     ok
 }
 
-// Whether activation k, of n, stands at a call of the next, if there is a next.
-fn calls_next(c: &[u8], base: usize, l: &[u8], n: usize, k: usize) -> bool
-    requires { ⌜ (Well (now c)) × (base ≡ codeBase (now c)) × (length (now l) ≡ stateLength) × (n ≤ 32) × (k < n) × (addressIn (now l) k < count (now c)) ⌝ }
-    ensures { λ x. ⌜ x ≡ calls (now (c .entry)) (now (l .entry)) n k ⌝ }
+// Whether activation k stands at a call of the next, if there is a next.
+fn calls_next(code: &[u8], base: usize, state: &[u8], activations: usize, k: usize) -> bool
+    requires { ⌜ (Well (now code)) × (base ≡ codeBase (now code)) × (length (now state) ≡ stateLength) × (activations ≤ 32) × (k < activations) × (addressIn (now state) k < count (now code)) ⌝ }
+    ensures { λ x. ⌜ x ≡ calls (now (code .entry)) (now (state .entry)) activations k ⌝ }
 {
     let j = k + 1;
-    if n <= j {
+    if activations <= j {
         return true;
     }
-    let i = words::wide::half_at(l, ACTIVATIONS_AT + ACTIVATION_BYTES * k + ADDRESS_AT);
-    let x = load_check::instruction_at(c, base, i);
+    let i = words::wide::half_at(state, ACTIVATIONS_AT + ACTIVATION_BYTES * k + ADDRESS_AT);
+    let x = load_check::instruction_at(code, base, i);
     if x.op != wide::OP_CALL {
         return false;
     }
     if x.a != 0 {
         return false;
     }
-    x.b == words::wide::byte_at(l, ACTIVATIONS_AT + ACTIVATION_BYTES * j)
+    x.b == words::wide::byte_at(state, ACTIVATIONS_AT + ACTIVATION_BYTES * j)
 }
 
-fn frame_fits(c: &[u8], bx: &[u32], base: usize, l: &[u8], r: usize, n: usize, k: usize) -> bool
-    requires { ⌜ (Bodied (now c) (now bx)) × (base ≡ codeBase (now c)) × (length (now l) ≡ stateLength) × (r ≤ 256) × (n ≤ 32) × (k < n) ⌝ }
-    ensures { λ x. ⌜ x ≡ frameFits (now (c .entry)) (now (l .entry)) r n k ⌝ }
+fn frame_fits(
+    code: &[u8],
+    bodies: &[u32],
+    base: usize,
+    state: &[u8],
+    records: usize,
+    activations: usize,
+    k: usize,
+) -> bool
+    requires { ⌜ (Bodied (now code) (now bodies)) × (base ≡ codeBase (now code)) × (length (now state) ≡ stateLength) × (records ≤ 256) × (activations ≤ 32) × (k < activations) ⌝ }
+    ensures { λ x. ⌜ x ≡ frameFits (now (code .entry)) (now (state .entry)) records activations k ⌝ }
 {
     let p = ACTIVATIONS_AT + ACTIVATION_BYTES * k;
-    let b = words::wide::byte_at(l, p);
-    let m = words::wide::byte_at(c, BODY_COUNT_AT);
+    let b = words::wide::byte_at(state, p);
+    let m = words::wide::byte_at(code, BODY_COUNT_AT);
     if m <= b {
         return false;
     }
-    let q = load_check::body_at(c, bx, b);
-    let cells = words::wide::byte_at(c, q + CELL_COUNT_AT);
+    let q = load_check::body_at(code, bodies, b);
+    let cells = words::wide::byte_at(code, q + CELL_COUNT_AT);
     if MAX_CELLS < cells {
         return false;
     }
-    let depth = words::wide::byte_at(l, p + OPERAND_COUNT_AT);
+    let depth = words::wide::byte_at(state, p + OPERAND_COUNT_AT);
     if MAX_OPERANDS < depth {
         return false;
     }
-    let open = words::wide::byte_at(l, p + OWN_HOLD_COUNT_AT);
+    let open = words::wide::byte_at(state, p + OWN_HOLD_COUNT_AT);
     if MAX_HOLDS < open {
         return false;
     }
-    let i = words::wide::half_at(l, p + ADDRESS_AT);
-    let count = words::wide::half_at(c, CODE_COUNT_AT);
+    let i = words::wide::half_at(state, p + ADDRESS_AT);
+    let count = words::wide::half_at(code, CODE_COUNT_AT);
     if count <= i {
         return false;
     }
-    if !calls_next(c, base, l, n, k) {
+    if !calls_next(code, base, state, activations, k) {
         return false;
     }
     row_fits(
-        c,
-        l,
-        r,
-        c,
+        code,
+        state,
+        records,
+        code,
         q + BODY_BYTES,
         p + CELL_TYPES_AT,
         p + CELL_WORDS_AT,
@@ -184,29 +192,39 @@ fn frame_fits(c: &[u8], bx: &[u32], base: usize, l: &[u8], r: usize, n: usize, k
     )
 }
 
-fn frames_fit(c: &[u8], bx: &[u32], base: usize, l: &[u8], r: usize, n: usize) -> bool
-    requires { ⌜ (Bodied (now c) (now bx)) × (base ≡ codeBase (now c)) × (length (now l) ≡ stateLength) × (r ≤ 256) × (n ≤ 32) ⌝ }
-    ensures { λ x. ⌜ x ≡ each (frameFits (now (c .entry)) (now (l .entry)) r n) 0 n ⌝ }
+fn frames_fit(
+    code: &[u8],
+    bodies: &[u32],
+    base: usize,
+    state: &[u8],
+    records: usize,
+    activations: usize,
+) -> bool
+    requires { ⌜ (Bodied (now code) (now bodies)) × (base ≡ codeBase (now code)) × (length (now state) ≡ stateLength) × (records ≤ 256) × (activations ≤ 32) ⌝ }
+    ensures { λ x. ⌜ x ≡ each (frameFits (now (code .entry)) (now (state .entry)) records activations) 0 activations ⌝ }
 {
     let mut ok = true;
     let mut k: usize = 0;
-    while k < n {
-        let f = frame_fits(c, bx, base, l, r, n, k);
+    while k < activations {
+        let f = frame_fits(code, bodies, base, state, records, activations, k);
         ok = both(ok, f);
         k += 1;
     }
     ok
 }
 
-// The open holds of n activations.
-fn open_holds(l: &[u8], n: usize) -> usize
-    requires { ⌜ (length (now l) ≡ stateLength) × (n ≤ 32) ⌝ }
-    ensures { λ x. ⌜ x ≡ held (now (l .entry)) n ⌝ }
+// The open holds of all activations.
+fn open_holds(state: &[u8], activations: usize) -> usize
+    requires { ⌜ (length (now state) ≡ stateLength) × (activations ≤ 32) ⌝ }
+    ensures { λ x. ⌜ x ≡ held (now (state .entry)) activations ⌝ }
 {
     let mut sum: usize = 0;
     let mut k: usize = 0;
-    while k < n {
-        sum += words::wide::byte_at(l, ACTIVATIONS_AT + ACTIVATION_BYTES * k + OWN_HOLD_COUNT_AT);
+    while k < activations {
+        sum += words::wide::byte_at(
+            state,
+            ACTIVATIONS_AT + ACTIVATION_BYTES * k + OWN_HOLD_COUNT_AT,
+        );
         k += 1;
     }
     sum
@@ -214,58 +232,58 @@ fn open_holds(l: &[u8], n: usize) -> usize
 
 const LAST_GROUP: usize = GROUPS - 1;
 
-// Whether the h open holds are of groups 0 to 63.
-fn groups_fit(l: &[u8], h: usize) -> bool
-    requires { ⌜ length (now l) ≡ stateLength ⌝ }
-    ensures { λ x. ⌜ x ≡ groupsFit (now (l .entry)) h ⌝ }
+// Whether the open holds are of groups 0 to 63.
+fn groups_fit(state: &[u8], holds: usize) -> bool
+    requires { ⌜ length (now state) ≡ stateLength ⌝ }
+    ensures { λ x. ⌜ x ≡ groupsFit (now (state .entry)) holds ⌝ }
 {
-    if MAX_OPEN_HOLDS < h {
+    if MAX_OPEN_HOLDS < holds {
         return false;
     }
     let mut ok = true;
     let mut j: usize = 0;
-    while j < h {
-        ok = both(ok, words::wide::byte_at(l, HOLDS_AT + j) <= LAST_GROUP);
+    while j < holds {
+        ok = both(ok, words::wide::byte_at(state, HOLDS_AT + j) <= LAST_GROUP);
         j += 1;
     }
     ok
 }
 
 fn running_fits(
-    c: &[u8],
-    bx: &[u32],
-    cx: &[u32],
+    code: &[u8],
+    bodies: &[u32],
+    classes: &[u32],
     base: usize,
-    l: &[u8],
-    n: usize,
-    r: usize,
-    h: usize,
+    state: &[u8],
+    activations: usize,
+    records: usize,
+    holds: usize,
 ) -> bool
-    requires { ⌜ (Bodied (now c) (now bx)) × (Classed (now c) (now cx)) × (base ≡ codeBase (now c)) × (length (now l) ≡ stateLength) ⌝ }
-    ensures { λ x. ⌜ x ≡ runningFits (now (c .entry)) (now (l .entry)) n r h ⌝ }
+    requires { ⌜ (Bodied (now code) (now bodies)) × (Classed (now code) (now classes)) × (base ≡ codeBase (now code)) × (length (now state) ≡ stateLength) ⌝ }
+    ensures { λ x. ⌜ x ≡ runningFits (now (code .entry)) (now (state .entry)) activations records holds ⌝ }
 {
-    if n < 1 {
+    if activations < 1 {
         return false;
     }
-    if MAX_ACTIVATIONS < n {
+    if MAX_ACTIVATIONS < activations {
         return false;
     }
-    if MAX_RECORDS < r {
+    if MAX_RECORDS < records {
         return false;
     }
-    if words::wide::byte_at(l, ACTIVATIONS_AT) != 0 {
+    if words::wide::byte_at(state, ACTIVATIONS_AT) != 0 {
         return false;
     }
-    if open_holds(l, n) != h {
+    if open_holds(state, activations) != holds {
         return false;
     }
-    if !groups_fit(l, h) {
+    if !groups_fit(state, holds) {
         return false;
     }
-    if !records_fit(c, cx, l, r) {
+    if !records_fit(code, classes, state, records) {
         return false;
     }
-    frames_fit(c, bx, base, l, r, n)
+    frames_fit(code, bodies, base, state, records, activations)
 }
 
 fn is_end(x: u8) -> bool
@@ -278,27 +296,27 @@ fn is_end(x: u8) -> bool
 }
 
 // All of a state but where its activations stand.
-pub fn plain_fits(c: &[u8], bx: &[u32], cx: &[u32], base: usize, l: &[u8]) -> bool
-    requires { ⌜ (Bodied (now c) (now bx)) × (Classed (now c) (now cx)) × (base ≡ codeBase (now c)) × (length (now l) ≡ stateLength) ⌝ }
-    ensures { λ x. ⌜ x ≡ plainFits (now (c .entry)) (now (l .entry)) ⌝ }
+pub fn plain_fits(code: &[u8], bodies: &[u32], classes: &[u32], base: usize, state: &[u8]) -> bool
+    requires { ⌜ (Bodied (now code) (now bodies)) × (Classed (now code) (now classes)) × (base ≡ codeBase (now code)) × (length (now state) ≡ stateLength) ⌝ }
+    ensures { λ x. ⌜ x ≡ plainFits (now (code .entry)) (now (state .entry)) ⌝ }
 {
-    let phase = words::wide::byte_at(l, PHASE_AT);
-    let code = l[CONDITION_AT];
-    let h = words::wide::half_at(l, HOLD_COUNT_AT);
+    let phase = words::wide::byte_at(state, PHASE_AT);
+    let condition = state[CONDITION_AT];
+    let h = words::wide::half_at(state, HOLD_COUNT_AT);
     if phase == wide::RUNNING {
-        let n = words::wide::byte_at(l, ACTIVATION_COUNT_AT);
-        let r = words::wide::half_at(l, RECORD_COUNT_AT);
-        return running_fits(c, bx, cx, base, l, n, r, h);
+        let n = words::wide::byte_at(state, ACTIVATION_COUNT_AT);
+        let r = words::wide::half_at(state, RECORD_COUNT_AT);
+        return running_fits(code, bodies, classes, base, state, n, r, h);
     }
     if phase == wide::RELEASING {
-        return if values::is_condition(code) {
-            groups_fit(l, h)
+        return if values::is_condition(condition) {
+            groups_fit(state, h)
         } else {
             false
         };
     }
     if phase == wide::ENDED {
-        return is_end(code);
+        return is_end(condition);
     }
     false
 }

@@ -3,7 +3,7 @@ use mathlib.Core.Path.{_≡_, refl, ap, _∙_}
 use mathlib.Core.Bool.{Bool, true, false, _&&_}
 use mathlib.Core.List.{List, _∷_, reverse, reverseAux}
 use mathlib.Core.Option.{Option, none, some}
-use Prim.Native.Nat.{ℕ, zero, suc, _+_, _*_, _-_, _≤_, _<_}
+use Prim.Native.Nat.{ℕ, zero, suc, _+_, _*_, _≤_, _<_}
 use native.Mathlib.Nat.{add-zero, zero-add}
 use native.Mathlib.Omega.{arith}
 use lib.Dec.{leb, ltb}
@@ -24,6 +24,7 @@ use Rattle.load_check.specs.Views.{span, span-length, by-test, past, view, body
 use Rattle.state_sound.specs.Each.{each, halves}
 use Rattle.state_sound.specs.Fits.{frameAt, entryAt, bodyIn, depthIn, openIn, addressIn, classIn, held}
 use Rattle.state_sound.specs.Rows.{rowReads, rowOn, cellRow, values-read, cells-read}
+use Rattle.bytecode.specs.State.{activationLength, cellTypesAt, cellWordsAt, holdsAt, operandTypesAt, operandWordsAt}
 
 -- ── a number in a part of the bytes ──
 part-number : (s : Size) (l : List ℕ) (p w o i : ℕ) → o + i + bytesIn s ≤ w → numberAt s (drop o (take w (drop p l))) i ≡ numberAt s l (p + o + i)
@@ -84,20 +85,20 @@ cellCount c l k = byteAt c (bodyPlace c (bodyIn l k) + 6)
 
 module _ (c l : List ℕ) where
   abbrev pub cellsRead : ℕ → Bool
-  cellsRead k = rowReads (classes c) (typesAt l (frameAt k + 264)) (wordsAt l (frameAt k + 8)) 0 (cellCount c l k)
+  cellsRead k = rowReads (classes c) (typesAt l (frameAt k + cellTypesAt)) (wordsAt l (frameAt k + cellWordsAt)) 0 (cellCount c l k)
 
   abbrev pub cellsOn : ℕ → List Cell
-  cellsOn k = cellRow (classes c) (typesAt l (frameAt k + 264)) (wordsAt l (frameAt k + 8)) 0 (cellCount c l k)
+  cellsOn k = cellRow (classes c) (typesAt l (frameAt k + cellTypesAt)) (wordsAt l (frameAt k + cellWordsAt)) 0 (cellCount c l k)
 
   abbrev pub operandsRead : ℕ → Bool
-  operandsRead k = rowReads (classes c) (typesAt l (frameAt k + 296)) (wordsAt l (frameAt k + 136)) 0 (depthIn l k)
+  operandsRead k = rowReads (classes c) (typesAt l (frameAt k + operandTypesAt)) (wordsAt l (frameAt k + operandWordsAt)) 0 (depthIn l k)
 
   abbrev pub operandsOn : ℕ → List Value
-  operandsOn k = rowOn (classes c) (typesAt l (frameAt k + 296)) (wordsAt l (frameAt k + 136)) 0 (depthIn l k)
+  operandsOn k = rowOn (classes c) (typesAt l (frameAt k + operandTypesAt)) (wordsAt l (frameAt k + operandWordsAt)) 0 (depthIn l k)
 
   -- the holds of activation k, the first taken first
   abbrev pub holdsOn : ℕ → List ℕ
-  holdsOn k = take (openIn l k) (drop (held l k) (part 10528 512 l))
+  holdsOn k = take (openIn l k) (drop (held l k) (part holdsAt 512 l))
 
   unfoldable pub frameOn : ℕ → Activation
   frameOn k = record { body = bodyIn l k; address = addressIn l k; cells = cellsOn k; operands = reverse (operandsOn k); holds = reverse (holdsOn k) }
@@ -151,14 +152,14 @@ module _ (c l : List ℕ) (W : Well c) where
       join true false v vs = refl
       join false b v vs = refl
 
-  activation-read : (k : ℕ) → readActivation m (part 0 328 (drop (frameAt k) l)) (drop (held l k) (part 10528 512 l)) ≡ (if frameReads c l k then some (frameOn c l k) else none)
+  activation-read : (k : ℕ) → readActivation m (part 0 activationLength (drop (frameAt k) l)) (drop (held l k) (part holdsAt 512 l)) ≡ (if frameReads c l k then some (frameOn c l k) else none)
   unfolding readActivation frameOn
   activation-read k =
-      let x = take 328 (drop (frameAt k) l) in
-      let e0 : byteAt x 0 ≡ bodyIn l k = part-number one l (frameAt k) 328 0 0 (omega arith) ∙ ap (λ (z : ℕ). byteAt l z) (let z : frameAt k + 0 + 0 ≡ frameAt k = omega arith in z) in
-      let e1 : byteAt x 1 ≡ depthIn l k = part-number one l (frameAt k) 328 0 1 (omega arith) ∙ rw add-zero in
-      let e2 : byteAt x 2 ≡ openIn l k = part-number one l (frameAt k) 328 0 2 (omega arith) ∙ rw add-zero in
-      let e4 : halfAt x 4 ≡ addressIn l k = part-number two l (frameAt k) 328 0 4 (omega arith) ∙ ap (λ (z : ℕ). halfAt l (z + 4)) (add-zero (frameAt k)) in
+      let x = take activationLength (drop (frameAt k) l) in
+      let e0 : byteAt x 0 ≡ bodyIn l k = part-number one l (frameAt k) activationLength 0 0 (omega arith) ∙ ap (λ (z : ℕ). byteAt l z) (let z : frameAt k + 0 + 0 ≡ frameAt k = omega arith in z) in
+      let e1 : byteAt x 1 ≡ depthIn l k = part-number one l (frameAt k) activationLength 0 1 (omega arith) ∙ rw add-zero in
+      let e2 : byteAt x 2 ≡ openIn l k = part-number one l (frameAt k) activationLength 0 2 (omega arith) ∙ rw add-zero in
+      let e4 : halfAt x 4 ≡ addressIn l k = part-number two l (frameAt k) activationLength 0 4 (omega arith) ∙ ap (λ (z : ℕ). halfAt l (z + 4)) (add-zero (frameAt k)) in
       rw (e0, e1, e2, e4, body-at c (bodyIn l k), class-count c)
       (by-test (ltb (bodyIn l k) (bodies c))
       (λ p. rw (p, span-length)
@@ -168,7 +169,11 @@ module _ (c l : List ℕ) (W : Well c) where
       let b = halves (leb (depthIn l k) 32) _ (a .1) in
       let ca : cellCount c l k ≤ 32 = leb-true _ _ (a .0) in
       let da : depthIn l k ≤ 32 = leb-true _ _ (b .0) in
-      rw (q, part-cells l (classes c) (frameAt k) 328 8 264 (cellCount c l k) (omega arith) (omega arith), part-values l (classes c) (frameAt k) 328 136 296 (depthIn l k) (omega arith) (omega arith))
+      rw (
+        q,
+        part-cells l (classes c) (frameAt k) activationLength cellWordsAt cellTypesAt (cellCount c l k) (omega arith) (omega arith),
+        part-values l (classes c) (frameAt k) activationLength operandWordsAt operandTypesAt (depthIn l k) (omega arith) (omega arith),
+      )
       (pair (cellsRead c l k) (operandsRead c l k) _ _ _))
       (λ q. rw q)))
       (λ p. rw p))
@@ -180,15 +185,16 @@ module _ (c l : List ℕ) (W : Well c) where
       pair false b x y f = refl
 
   pub activations-read : (n k : ℕ) (below : List Activation)
-      → readActivations m n (drop (frameAt k) l) (drop (held l k) (part 10528 512 l)) below
+      → readActivations m n (drop (frameAt k) l) (drop (held l k) (part holdsAt 512 l)) below
       ≡ (if each (frameReads c l) k n then some (reverseAux (span (frameOn c l) k n) below) else none)
   unfolding readActivations each span held
   activations-read zero k below = refl
   activations-read (suc n) k below =
-      let e : drop 328 (drop (frameAt k) l) ≡ drop (frameAt (suc k)) l = drop-drop 328 (frameAt k) l ∙ ap (λ (z : ℕ). drop z l) (let z : frameAt k + 328 ≡ frameAt (suc k) = omega arith in z) in
+      let e : drop activationLength (drop (frameAt k) l) ≡ drop (frameAt (suc k)) l = drop-drop activationLength (frameAt k) l
+      ∙ ap (λ (z : ℕ). drop z l) (let z : frameAt k + activationLength ≡ frameAt (suc k) = omega arith in z) in
       let o : byteAt (drop (frameAt k) l) 2 ≡ openIn l k = getD-drop (frameAt k) l 2 0 in
-      let h : drop (byteAt (drop (frameAt k) l) 2) (drop (held l k) (part 10528 512 l)) ≡ drop (held l (suc k)) (part 10528 512 l) =
-      rw o (drop-drop (openIn l k) (held l k) (part 10528 512 l)) in
+      let h : drop (byteAt (drop (frameAt k) l) 2) (drop (held l k) (part holdsAt 512 l)) ≡ drop (held l (suc k)) (part holdsAt 512 l) =
+      rw o (drop-drop (openIn l k) (held l k) (part holdsAt 512 l)) in
       rw (activation-read k, keep-if-some (frameReads c l k) (frameOn c l k), e, h, activations-read n (suc k) (frameOn c l k ∷ below)) (join (frameReads c l k) (each (frameReads c l) (suc k) n) _)
     where
       join : (a b : Bool) (x : List Activation) → (if a then (if b then some x else none) else none) ≡ (if a && b then some x else none)

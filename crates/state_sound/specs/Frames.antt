@@ -2,7 +2,7 @@
 use mathlib.Core.Path.{_≡_, refl, sym, ap, _∙_}
 use mathlib.Core.Bool.{Bool, true, false, cond, _&&_, false≢true}
 use mathlib.Core.List.{List, [], _∷_, _++_, reverse, reverseAux}
-use Prim.Native.Nat.{ℕ, zero, suc, _+_, _*_, _-_, _≤_, _<_}
+use Prim.Native.Nat.{ℕ, zero, suc, _+_, _*_, _≤_, _<_}
 use native.Mathlib.Nat.{zero-add}
 use native.Mathlib.Omega.{arith}
 use lib.Dec.{eqb, leb, ltb}
@@ -17,8 +17,8 @@ use Rattle.values.specs.Values.{Value, tyOf, tysOf}
 use Rattle.bytecode.specs.Macro.{Macro}
 use Rattle.bytecode.specs.Instructions.{inBody}
 use Rattle.bytecode.specs.Machine.{Made}
-use Rattle.bytecode.specs.Sound.{soundValue, typedValues, typedCells, soundRecord, soundGroup, soundActivation}
-use Rattle.bytecode.specs.State.{part}
+use Rattle.bytecode.specs.Sound.{soundValue, typedCells, soundRecord, soundGroup, soundActivation}
+use Rattle.bytecode.specs.State.{part, cellTypesAt, cellWordsAt, holdsAt, operandTypesAt, operandWordsAt, stateLength}
 use Rattle.load_places.specs.Search.{tops, alike, Clean}
 use Rattle.load_places.specs.Records.{classes, bodies, count, classPlace, bodyPlace, firstOf}
 use Rattle.load_places.specs.Rules.{bodyOf, endOf, broken}
@@ -175,34 +175,35 @@ pub record Rough (c l : List ℕ) (k : ℕ) : Type 0 where
   pub room : held l k + openIn l k ≤ 512
 
 -- ── an activation ──
-module _ (c l : List ℕ) (seen : Viewed c (view c)) (clean : Clean (broken c) (count c)) (B : Bytes l) (long : length l ≡ 24576) (r n k : ℕ) (R : Rough c l k)
+module _ (c l : List ℕ) (seen : Viewed c (view c)) (clean : Clean (broken c) (count c)) (B : Bytes l) (long : length l ≡ stateLength) (r n k : ℕ) (R : Rough c l k)
     (taken : List Ty) (T : bytes taken ≡ tops c (bodyPlace c (bodyIn l (k + 1)) + 7) (takenIn c l n k)) where
   abbrev made : List Made
   made = span (recordOn c l) 0 r
 
   holds-count : length (holdsOn c l k) ≡ openIn l k
   holds-count =
-      let a : length (part 10528 512 l) ≡ 512 = length-take-le 512 (drop 10528 l) (rw (length-drop 10528 l) (omega arith)) in
-      length-take-le (openIn l k) (drop (held l k) (part 10528 512 l)) (rw (length-drop (held l k) (part 10528 512 l), a) (omega (arith, R .room)))
+      let a : length (part holdsAt 512 l) ≡ 512 = length-take-le 512 (drop holdsAt l) (rw (length-drop holdsAt l) (omega arith)) in
+      length-take-le (openIn l k) (drop (held l k) (part holdsAt 512 l)) (rw (length-drop (held l k) (part holdsAt 512 l), a) (omega (arith, R .room)))
 
   operand-types : operandsRead c l k ≡ true → (s : List Ty) → sames (taken ++ tysOf (reverse (operandsOn c l k))) s ≡ alike (operandsIn c l n k) (bytes s)
   operand-types e s =
-      let g : bytes (tysOf (reverse (operandsOn c l k))) ≡ tops l (frameAt k + 296) (depthIn l k) =
-      rw (reverse-span _ (depthIn l k)) (bytes-backs l (frameAt k + 296) _ (depthIn l k)
-      (λ i h. rw (zero-add i) at (row-bytes (classes c) (typesAt l (frameAt k + 296)) (wordsAt l (frameAt k + 136)) (depthIn l k) 0 e i h))) in
+      let g : bytes (tysOf (reverse (operandsOn c l k))) ≡ tops l (frameAt k + operandTypesAt) (depthIn l k) =
+      rw (reverse-span _ (depthIn l k)) (bytes-backs l (frameAt k + operandTypesAt) _ (depthIn l k)
+      (λ i h. rw (zero-add i) at (row-bytes (classes c) (typesAt l (frameAt k + operandTypesAt)) (wordsAt l (frameAt k + operandWordsAt)) (depthIn l k) 0 e i h))) in
       sym (alike-bytes (taken ++ tysOf (reverse (operandsOn c l k))) s) ∙ rw (bytes-append taken (tysOf (reverse (operandsOn c l k))), T, g)
 
   cells-fit : (cellsRead c l k && typedCells made (cellsOn c l k) (bodyOn c (bodyPlace c (bodyIn l k)) .cells)) ≡ cellsFit c l r k
   unfolding rowFits
   cells-fit =
-      rw (cells-typed (classes c) (typesAt l (frameAt k + 264)) (wordsAt l (frameAt k + 8)) made (cellCount c l k) 0)
-      (row-typed c l r made (recorded c l r) (typesAt l (frameAt k + 264)) (wordsAt l (frameAt k + 8)) (typesAt c (bodyPlace c (bodyIn l k) + 7)) (cellCount c l k) 0
-      (λ i h. number-below l B (frameAt k + 8 + 4 * (0 + i)) four) (λ i h. rw (zero-add i) (known-body c (seen .well) (bodyIn l k) (R .body) .cells i h)))
+      rw (cells-typed (classes c) (typesAt l (frameAt k + cellTypesAt)) (wordsAt l (frameAt k + cellWordsAt)) made (cellCount c l k) 0)
+      (row-typed c l r made (recorded c l r) (typesAt l (frameAt k + cellTypesAt)) (wordsAt l (frameAt k + cellWordsAt)) (typesAt c (bodyPlace c (bodyIn l k) + 7)) (cellCount c l k) 0
+      (λ i h. number-below l B (frameAt k + cellWordsAt + 4 * (0 + i)) four) (λ i h. rw (zero-add i) (known-body c (seen .well) (bodyIn l k) (R .body) .cells i h)))
 
-  operands-fit : (operandsRead c l k && all (soundValue made) (reverse (operandsOn c l k))) ≡ each (valueIn c l r (frameAt k + 296) (frameAt k + 136)) 0 (depthIn l k)
+  operands-fit : (operandsRead c l k && all (soundValue made) (reverse (operandsOn c l k))) ≡ each (valueIn c l r (frameAt k + operandTypesAt) (frameAt k + operandWordsAt)) 0 (depthIn l k)
   operands-fit =
       rw (all-reverse (soundValue made) (operandsOn c l k))
-      (row-sound c l r made (recorded c l r) (typesAt l (frameAt k + 296)) (wordsAt l (frameAt k + 136)) (depthIn l k) 0 (λ i h. number-below l B (frameAt k + 136 + 4 * (0 + i)) four))
+      (row-sound c l r made (recorded c l r) (typesAt l (frameAt k + operandTypesAt)) (wordsAt l (frameAt k + operandWordsAt)) (depthIn l k) 0
+      (λ i h. number-below l B (frameAt k + operandWordsAt + 4 * (0 + i)) four))
 
   reads-here : frameReads c l k ≡ (cellsRead c l k && operandsRead c l k)
   reads-here =

@@ -3,7 +3,7 @@ use mathlib.Core.Path.{_≡_, refl, sym, _∙_}
 use mathlib.Core.Bool.{Bool, true, false, cond, _&&_}
 use mathlib.Core.List.{List, [], _∷_}
 use mathlib.Core.Option.{none, some}
-use Prim.Native.Nat.{ℕ, zero, suc, _+_, _*_, _-_, _≤_, _<_}
+use Prim.Native.Nat.{ℕ, zero, suc, _+_, _*_, _≤_, _<_}
 use native.Mathlib.Numerals.{add-one}
 use native.Mathlib.Omega.{arith}
 use lib.Dec.{eqb, leb, ltb}
@@ -16,10 +16,9 @@ use Rattle.words.specs.Numbers.{byteAt, halfAt, wordAt}
 use Rattle.words.specs.Laws.{Bytes}
 use Rattle.values.specs.Types.{Ty}
 use Rattle.bytecode.specs.Macro.{Macro}
-use Rattle.bytecode.specs.Instructions.{instrAt}
 use Rattle.bytecode.specs.Machine.{Activation, Made, Machine, running, allHolds}
 use Rattle.bytecode.specs.Sound.{soundRecord, soundGroup, soundActivation, callsBody, soundWaiting, sound}
-use Rattle.bytecode.specs.State.{part, readActivations, readRecords, assemble, readRunning}
+use Rattle.bytecode.specs.State.{part, readActivations, readRecords, assemble, readRunning, holdsAt, recordsAt, stateLength}
 use Rattle.bytecode.specs.Lent.{onlySound}
 use Rattle.load_places.specs.Search.{tops, Clean}
 use Rattle.load_places.specs.Records.{bodies, count, bodyPlace, codePlace}
@@ -43,7 +42,7 @@ takenOn c l n k = if ltb (k + 1) n then argumentsOn c l k else []
 abbrev callsNext : List ℕ → List ℕ → ℕ → ℕ → Bool
 callsNext c l n k = if ltb (k + 1) n then callsBody (getElem? (view c .code) (addressIn l k)) (bodyIn l (suc k)) else true
 
-module _ (c l : List ℕ) (seen : Viewed c (view c)) (clean : Clean (broken c) (count c)) (B : Bytes l) (long : length l ≡ 24576) (r n k : ℕ) (R : Rough c l k)
+module _ (c l : List ℕ) (seen : Viewed c (view c)) (clean : Clean (broken c) (count c)) (B : Bytes l) (long : length l ≡ stateLength) (r n k : ℕ) (R : Rough c l k)
     (next : k + 1 < n → bodyIn l (k + 1) < bodies c) where
   taken-bytes : bytes (takenOn c l n k) ≡ tops c (bodyPlace c (bodyIn l (k + 1)) + 7) (takenIn c l n k)
   unfolding tops
@@ -142,7 +141,7 @@ isSome-two : (m : Macro) (e : Bool) (s : Machine) → isSome (keep (if e then so
 isSome-two m true s = by-test (sound m s) (λ p. rw p) (λ p. rw p)
 isSome-two m false s = refl
 
-module _ (c l : List ℕ) (seen : Viewed c (view c)) (clean : Clean (broken c) (count c)) (B : Bytes l) (long : length l ≡ 24576) (r h k : ℕ) where
+module _ (c l : List ℕ) (seen : Viewed c (view c)) (clean : Clean (broken c) (count c)) (B : Bytes l) (long : length l ≡ stateLength) (r h k : ℕ) where
   abbrev m : Macro
   m = view c
 
@@ -254,12 +253,12 @@ module _ (c l : List ℕ) (seen : Viewed c (view c)) (clean : Clean (broken c) (
   running-same = same-test readAndSound _ to-tests to-sound
 
 -- ── read from the bytes ──
-module _ (c l : List ℕ) (seen : Viewed c (view c)) (clean : Clean (broken c) (count c)) (B : Bytes l) (long : length l ≡ 24576) where
-  frames-read : (n : ℕ) → readActivations (view c) n (drop 32 l) (part 10528 512 l) [] ≡ (if each (frameReads c l) 0 n then some (backs (frameOn c l) n) else none)
+module _ (c l : List ℕ) (seen : Viewed c (view c)) (clean : Clean (broken c) (count c)) (B : Bytes l) (long : length l ≡ stateLength) where
+  frames-read : (n : ℕ) → readActivations (view c) n (drop 32 l) (part holdsAt 512 l) [] ≡ (if each (frameReads c l) 0 n then some (backs (frameOn c l) n) else none)
   unfolding held
   frames-read n = activations-read c l (seen .well) n 0 [] ∙ rw (reverse-span (frameOn c l) n)
 
-  entries-read : (r : ℕ) → readRecords (view c) r (drop 11040 l) ≡ (if each (recordReads c l) 0 r then some (span (recordOn c l) 0 r) else none)
+  entries-read : (r : ℕ) → readRecords (view c) r (drop recordsAt l) ≡ (if each (recordReads c l) 0 r then some (span (recordOn c l) 0 r) else none)
   entries-read r = records-read c l (seen .well) r 0
 
   assembled : (n r h : ℕ)

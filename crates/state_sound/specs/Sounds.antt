@@ -19,7 +19,7 @@ use Rattle.bytecode.specs.Macro.{Macro}
 use Rattle.bytecode.specs.Rules.{judgeMacro}
 use Rattle.bytecode.specs.Machine.{Machine, unwinding, ended, endBy}
 use Rattle.bytecode.specs.Sound.{soundGroup, sound}
-use Rattle.bytecode.specs.State.{part, readUnwinding, decode}
+use Rattle.bytecode.specs.State.{part, readUnwinding, decode, holdsAt, stateLength}
 use Rattle.bytecode.specs.Lent.{onlySound, soundState}
 use Rattle.load_places.specs.Search.{Clean}
 use Rattle.load_places.specs.Records.{count}
@@ -35,22 +35,22 @@ some-if : (m : Macro) (a : Bool) (s : Machine) → isSome (keep (if a then some 
 some-if m true s = by-test (sound m s) (λ p. rw p) (λ p. rw p)
 some-if m false s = refl
 
-module _ (m : Macro) (l : List ℕ) (long : length l ≡ 24576) where
+module _ (m : Macro) (l : List ℕ) (long : length l ≡ stateLength) where
   -- a releasing state
   releasing-is : isSome (keep (readUnwinding l) (onlySound m)) ≡ cond (isCondition (byteAt l 1)) (groupsFit l (halfAt l 6)) false
   unfolding readUnwinding sound groupsFit
   releasing-is =
       let h = halfAt l 6 in
-      some-if m (leb h 512) (unwinding (reverse (part 10528 h l)) (endBy (byteAt l 1)))
+      some-if m (leb h 512) (unwinding (reverse (part holdsAt h l)) (endBy (byteAt l 1)))
       ∙ by-test (leb h 512)
       (λ p.
       let q : h ≤ 512 = leb-true h 512 p in
-      let d : 10528 ≤ length l = omega arith in
-      let n : length (part 10528 h l) ≡ h = length-take-le h (drop 10528 l) (rw (length-drop 10528 l) (omega arith)) in
-      let g : all soundGroup (part 10528 h l) ≡ each (groupAt l) 0 h =
-      all-part soundGroup h 0 (drop 10528 l) (rw (length-drop 10528 l) (omega arith))
-      ∙ each-same _ _ h 0 (λ i r. ap (λ (z : ℕ). leb z 63) (getD-drop 10528 l (0 + i) 0)) in
-      rw (p, length-reverse (part 10528 h l), n, p, all-reverse soundGroup (part 10528 h l), g) (joined (isCondition (byteAt l 1)) _))
+      let d : holdsAt ≤ length l = omega arith in
+      let n : length (part holdsAt h l) ≡ h = length-take-le h (drop holdsAt l) (rw (length-drop holdsAt l) (omega arith)) in
+      let g : all soundGroup (part holdsAt h l) ≡ each (groupAt l) 0 h =
+      all-part soundGroup h 0 (drop holdsAt l) (rw (length-drop holdsAt l) (omega arith))
+      ∙ each-same _ _ h 0 (λ i r. ap (λ (z : ℕ). leb z 63) (getD-drop holdsAt l (0 + i) 0)) in
+      rw (p, length-reverse (part holdsAt h l), n, p, all-reverse soundGroup (part holdsAt h l), g) (joined (isCondition (byteAt l 1)) _))
       (λ p. rw p (nothing (isCondition (byteAt l 1))))
     where
       joined : (a b : Bool) → (a && b) ≡ cond a b false
@@ -70,7 +70,7 @@ unfolding each
 no-each f true = refl
 no-each f false = refl
 
-module _ (c l : List ℕ) (seen : Viewed c (view c)) (clean : Clean (broken c) (count c)) (B : Bytes l) (long : length l ≡ 24576) where
+module _ (c l : List ℕ) (seen : Viewed c (view c)) (clean : Clean (broken c) (count c)) (B : Bytes l) (long : length l ≡ stateLength) where
   decoded : isSome (keep (decode (view c) l) (onlySound (view c))) ≡ cond (plainFits c l) (each (stands c l (halfAt l 4) (byteAt l 2)) 0 (activationsIn l)) false
   unfolding decode plainFits
   decoded =
@@ -86,9 +86,9 @@ module _ (c l : List ℕ) (seen : Viewed c (view c)) (clean : Clean (broken c) (
 
   state-is : isSome (soundState (view c) l) ≡ soundBytes c l
   unfolding soundState soundBytes
-  state-is = rw (eq-eqb (length l) 24576 long) decoded
+  state-is = rw (eq-eqb (length l) stateLength long) decoded
 
-not-long : (m : Macro) (c l : List ℕ) → eqb (length l) 24576 ≡ false → isSome (soundState m l) ≡ soundBytes c l
+not-long : (m : Macro) (c l : List ℕ) → eqb (length l) stateLength ≡ false → isSome (soundState m l) ≡ soundBytes c l
 unfolding soundState soundBytes
 not-long m c l e = rw e
 
@@ -98,6 +98,6 @@ sounds c m e l B =
     let p = passing c m e in
     let v = reads-view c m (p .0) .0 in
     let seen : Viewed c (view c) = rw v (viewed c m (p .0)) in
-    by-test (eqb (length l) 24576)
-    (λ q. subst (λ (x : Macro). isSome (soundState x l) ≡ soundBytes c l) v (state-is c l seen (p .1) B (eqb-true (length l) 24576 q)))
+    by-test (eqb (length l) stateLength)
+    (λ q. subst (λ (x : Macro). isSome (soundState x l) ≡ soundBytes c l) v (state-is c l seen (p .1) B (eqb-true (length l) stateLength q)))
     (λ q. not-long m c l q)

@@ -2,26 +2,25 @@
 use mathlib.Core.Path.{_≡_, refl, sym, ap, _∙_}
 use mathlib.Core.Bool.{Bool, true, false, cond, _&&_}
 use mathlib.Core.List.{List, reverse}
-use Prim.Native.Nat.{ℕ, zero, suc, _+_, _-_, _≤_, _<_}
+use Prim.Native.Nat.{ℕ, zero, suc, _+_, _≤_, _<_}
 use native.Mathlib.Nat.{add-zero, add-suc, suc-add, zero-add}
 use native.Mathlib.Omega.{arith}
-use lib.Dec.{eqb, leb, ltb}
+use lib.Dec.{eqb, leb}
 use lib.ListN.{length, getElem?, drop, take, length-append, length-reverse, length-drop}
 use lib.Seq.{length-take-le, drop-cons, getD-take, getD-drop}
-use borrow.Author.Tests.{lt-ltb, eqb-true}
+use borrow.Author.Tests.{lt-ltb}
 use Rattle.logic.specs.Lists.{all}
-use Rattle.logic.specs.Choice.{if_then_else_}
 use Rattle.words.specs.Numbers.{byteAt}
 use Rattle.values.specs.Types.{Ty}
 use Rattle.bytecode.specs.Instructions.{bodyAt}
 use Rattle.bytecode.specs.Rules.{onStack}
 use Rattle.bytecode.specs.Machine.{Made, allHolds}
 use Rattle.bytecode.specs.Sound.{soundGroup, soundActivation, callsBody, parametersOf, soundWaiting}
-use Rattle.bytecode.specs.State.{part}
+use Rattle.bytecode.specs.State.{part, holdsAt, stateLength}
 use Rattle.load_places.specs.Search.{tops}
 use Rattle.load_places.specs.Records.{bodies, bodyPlace}
 use Rattle.load_places.specs.Index.{Well}
-use Rattle.load_check.specs.Views.{backs, span-take, reverse-span, by-test, view, bytes, stack-bytes, known-body, body-at}
+use Rattle.load_check.specs.Views.{backs, span-take, reverse-span, view, bytes, stack-bytes, known-body, body-at}
 use Rattle.state_sound.specs.Each.{each, and-assoc, each-snoc, each-same}
 use Rattle.state_sound.specs.Fits.{bodyIn, openIn, addressIn, held}
 use Rattle.state_sound.specs.Decoded.{cellCount, holdsOn, frameOn}
@@ -45,16 +44,16 @@ all-part t zero b l h = refl
 all-part t (suc a) b l h = rw (drop-cons l b 0 (omega arith)) (ap (λ (x : Bool). t (byteAt l b) && x) (all-part t a (suc b) l (omega arith)))
 
 abbrev pub groupAt : List ℕ → ℕ → Bool
-groupAt l j = leb (byteAt l (10528 + j)) 63
+groupAt l j = leb (byteAt l (holdsAt + j)) 63
 
-module _ (c l : List ℕ) (long : length l ≡ 24576) where
-  row-length : length (part 10528 512 l) ≡ 512
-  row-length = length-take-le 512 (drop 10528 l) (rw (length-drop 10528 l) (omega arith))
+module _ (c l : List ℕ) (long : length l ≡ stateLength) where
+  row-length : length (part holdsAt 512 l) ≡ 512
+  row-length = length-take-le 512 (drop holdsAt l) (rw (length-drop holdsAt l) (omega arith))
 
   groups-here : (k : ℕ) → held l k + openIn l k ≤ 512 → all soundGroup (holdsOn c l k) ≡ each (groupAt l) (held l k) (openIn l k)
   groups-here k h =
-      all-part soundGroup (openIn l k) (held l k) (part 10528 512 l) (rw row-length h)
-      ∙ each-same _ _ (openIn l k) (held l k) (λ i p. ap (λ (z : ℕ). leb z 63) (getD-take 512 (drop 10528 l) (held l k + i) 0 (omega arith) ∙ getD-drop 10528 l (held l k + i) 0))
+      all-part soundGroup (openIn l k) (held l k) (part holdsAt 512 l) (rw row-length h)
+      ∙ each-same _ _ (openIn l k) (held l k) (λ i p. ap (λ (z : ℕ). leb z 63) (getD-take 512 (drop holdsAt l) (held l k + i) 0 (omega arith) ∙ getD-drop holdsAt l (held l k + i) 0))
 
   -- of the first n activations
   pub groups-all : (n : ℕ) → ((k : ℕ) → k < n → held l k + openIn l k ≤ 512) → each (λ k. all soundGroup (holdsOn c l k)) 0 n ≡ each (groupAt l) 0 (held l n)
@@ -69,7 +68,7 @@ module _ (c l : List ℕ) (long : length l ≡ 24576) where
   holds-all zero h = refl
   holds-all (suc n) h =
       let a : length (holdsOn c l n) ≡ openIn l n =
-      length-take-le (openIn l n) (drop (held l n) (part 10528 512 l)) (rw (length-drop (held l n) (part 10528 512 l), row-length) (omega (arith, h n (omega arith)))) in
+      length-take-le (openIn l n) (drop (held l n) (part holdsAt 512 l)) (rw (length-drop (held l n) (part holdsAt 512 l), row-length) (omega (arith, h n (omega arith)))) in
       length-append (reverse (holdsOn c l n)) (allHolds (backs (frameOn c l) n))
       ∙ rw (length-reverse (holdsOn c l n), a, holds-all n (λ k p. h k (omega arith))) (omega arith)
 

@@ -8,7 +8,7 @@ use Rattle.values.specs.Ends.{accepted}
 use Rattle.bytecode.specs.Macro.{Macro}
 use Rattle.bytecode.specs.Rules.{judgeMacro}
 use Rattle.bytecode.specs.Machine.{Machine}
-use Rattle.bytecode.specs.State.{encode}
+use Rattle.bytecode.specs.State.{encode, activationLength, activationsAt, recordLength, recordsAt}
 use Rattle.bytecode.specs.Lent.{soundState}
 use Rattle.load_places.specs.Records.{classes, bodies}
 
@@ -20,8 +20,8 @@ Below x d l b n = (k : ℕ) → k < n → byteAt l (b + d * k) < x
 pub record Uncleared (c l : List ℕ) : Type 0 where
   pub few : byteAt l 2 ≤ 32
   pub some-records : halfAt l 4 ≤ 256
-  pub of-bodies : Below (bodies c) 328 l 32 (byteAt l 2)
-  pub of-classes : Below (classes c) 44 l 11040 (halfAt l 4)
+  pub of-bodies : Below (bodies c) activationLength l activationsAt (byteAt l 2)
+  pub of-classes : Below (classes c) recordLength l recordsAt (halfAt l 4)
 
 -- whatever sound state of the macro the bytes l hold, e is its encoding
 abbrev pub Encodes : List ℕ → List ℕ → List ℕ → Type 0

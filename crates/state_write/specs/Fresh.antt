@@ -13,7 +13,7 @@ use Rattle.words.specs.Numbers.{byteAt, word}
 use Rattle.values.specs.Types.{Ty, integer, logical, bits, reference, tyByte}
 use Rattle.values.specs.Values.{Cell, initial, fresh, freshAll}
 use Rattle.bytecode.specs.Machine.{Machine, running, rootCells, freshMachine}
-use Rattle.bytecode.specs.State.{zeros, typeByte, encode}
+use Rattle.bytecode.specs.State.{zeros, typeByte, encode, stateLength, activationsAt, activationLength, cellWordsAt, cellTypesAt}
 use Rattle.load_places.specs.Records.{bodies, bodyPlace}
 use Rattle.load_places.specs.Index.{Well}
 use Rattle.load_check.specs.Views.{span, span-length, span-snoc, view, tyOn, typesOn, bodyOn, Typed, some-body}
@@ -38,18 +38,18 @@ fresh-is c W = rw (root-of c (bodies c) (some-body c W))
 pub cleared-more : (l : List ℕ) (i : ℕ) → i < length l → ((k : ℕ) → k < i → getD l k 0 ≡ 0) → (k : ℕ) → k < i + 1 → getD (set l i 0) k 0 ≡ 0
 cleared-more l i h g = below-more (λ (k : ℕ). getD (set l i 0) k 0 ≡ 0) i (λ k p. getD-set-other l i k 0 0 (λ e. omega arith) ∙ g k p) (getD-set-same l i 0 0 h)
 
-zeros-at : (k : ℕ) → k < 24576 → getD (zeros 24576) k 0 ≡ 0
+zeros-at : (k : ℕ) → k < stateLength → getD (zeros stateLength) k 0 ≡ 0
 unfolding zeros
-zeros-at k h = getD-replicate 24576 k 0 0 h
+zeros-at k h = getD-replicate stateLength k 0 0 h
 
-zeros-length : length (zeros 24576) ≡ 24576
+zeros-length : length (zeros stateLength) ≡ stateLength
 unfolding zeros
-zeros-length = length-replicate {A = ℕ} 24576 0
+zeros-length = length-replicate {A = ℕ} stateLength 0
 
-pub cleared-all : (l : List ℕ) → length l ≡ 24576 → ((k : ℕ) → k < 24576 → getD l k 0 ≡ 0) → l ≡ zeros 24576
-cleared-all l e g = ext-getD 0 l (zeros 24576) (e ∙ sym zeros-length) (λ k p. let h : k < 24576 = omega arith in g k h ∙ sym (zeros-at k h))
+pub cleared-all : (l : List ℕ) → length l ≡ stateLength → ((k : ℕ) → k < stateLength → getD l k 0 ≡ 0) → l ≡ zeros stateLength
+cleared-all l e g = ext-getD 0 l (zeros stateLength) (e ∙ sym zeros-length) (λ k p. let h : k < stateLength = omega arith in g k h ∙ sym (zeros-at k h))
 
-pub fresh-none : (c : List ℕ) (q : ℕ) → sets (zeros 24576) 2 (1 ∷ []) ≡ encode (freshWith c q 0)
+pub fresh-none : (c : List ℕ) (q : ℕ) → sets (zeros stateLength) 2 (1 ∷ []) ≡ encode (freshWith c q 0)
 unfolding freshWith span freshAll
 fresh-none c q = begin-law
 
@@ -70,15 +70,15 @@ word-none bits = (refl, refl)
 word-none (reference c) = (refl, refl)
 
 pub fresh-next : (c : List ℕ) (q n j : ℕ) → Typed c q n → j < n → n ≤ 32
-    → sets (sets (encode (freshWith c q j)) (40 + 4 * j) (word 0)) (296 + j) (byteAt c (q + j) ∷ []) ≡ encode (freshWith c q (j + 1))
+    → sets (sets (encode (freshWith c q j)) (activationsAt + cellWordsAt + 4 * j) (word 0)) (activationsAt + cellTypesAt + j) (byteAt c (q + j) ∷ []) ≡ encode (freshWith c q (j + 1))
 unfolding freshWith
 fresh-next c q n j t h few =
     let ts = typesOn c q j in
     let ty = tyOn (byteAt c (q + j)) in
     let w = word-none ty in
     let e : length (freshAll ts) ≡ j = fresh-length ts ∙ span-length _ j 0 in
-    let p : 40 + 4 * j ≡ 32 + 328 * 0 + (8 + 4 * j) = omega arith in
-    let r : 296 + j ≡ 32 + 328 * 0 + (264 + j) = omega arith in
+    let p : activationsAt + cellWordsAt + 4 * j ≡ activationsAt + activationLength * 0 + (cellWordsAt + 4 * j) = omega arith in
+    let r : activationsAt + cellTypesAt + j ≡ activationsAt + activationLength * 0 + (cellTypesAt + j) = omega arith in
     let s : typesOn c q (j + 1) ≡ ts ++ (ty ∷ []) = ap (λ (k : ℕ). typesOn c q k) (add-one j) ∙ span-snoc (λ k. tyOn (byteAt c (q + k))) j 0
     ∙ ap (λ (k : ℕ). ts ++ (tyOn (byteAt c (q + k)) ∷ [])) (zero-add j) in
     let g = cell-next-law (record { records = [] }) [] [] (omega arith) 0 0 (freshAll ts) [] [] (initial ty) (rw e (omega arith)) in

@@ -15,44 +15,44 @@ const ROOT_WORDS_AT: usize = ACTIVATIONS_AT + CELL_WORDS_AT;
 
 const ROOT_TYPES_AT: usize = ACTIVATIONS_AT + CELL_TYPES_AT;
 
-fn clear_all(l: &mut [u8])
-    requires { ⌜ length (now l) ≡ stateLength ⌝ }
-    ensures { λ _. ⌜ now (l .exit) ≡ zeros stateLength ⌝ }
+fn clear_all(state: &mut [u8])
+    requires { ⌜ length (now state) ≡ stateLength ⌝ }
+    ensures { λ _. ⌜ now (state .exit) ≡ zeros stateLength ⌝ }
 {
     let mut i: usize = 0;
     while i < STATE_BYTES {
-        l[i] = 0;
+        state[i] = 0;
         i += 1;
     }
 }
 
 // The root's cell j, of type t, which starts as 0, false, #0 or null: the word 0.
-fn write_cell(l: &mut [u8], j: usize, t: u8)
-    requires { ⌜ (length (now l) ≡ stateLength) × (j < 32) ⌝ }
-    ensures { λ _. ⌜ now (l .exit) ≡ sets (sets (now (l .entry)) (activationsAt + cellWordsAt + 4 * j) (word 0)) (activationsAt + cellTypesAt + j) (t ∷ []) ⌝ }
+fn write_cell(state: &mut [u8], j: usize, t: u8)
+    requires { ⌜ (length (now state) ≡ stateLength) × (j < 32) ⌝ }
+    ensures { λ _. ⌜ now (state .exit) ≡ sets (sets (now (state .entry)) (activationsAt + cellWordsAt + 4 * j) (word 0)) (activationsAt + cellTypesAt + j) (t ∷ []) ⌝ }
 {
-    words::put_word(l, ROOT_WORDS_AT + WORD_BYTES * j, 0);
-    l[ROOT_TYPES_AT + j] = t;
+    words::put_word(state, ROOT_WORDS_AT + WORD_BYTES * j, 0);
+    state[ROOT_TYPES_AT + j] = t;
 }
 
-// The n cells whose types stand in c at q, in a state that has none yet.
-fn write_cells(c: &[u8], q: usize, l: &mut [u8], n: usize)
-    requires { ⌜ (q + n ≤ length (now c)) × (n ≤ 32) × (Typed (now c) q n) × (now l ≡ encode (freshWith (now c) q 0)) ⌝ }
-    ensures { λ _. ⌜ now (l .exit) ≡ encode (freshWith (now (c .entry)) q n) ⌝ }
+// The cells whose types stand in the macro at `place`, in a state that has none yet.
+fn write_cells(code: &[u8], place: usize, state: &mut [u8], count: usize)
+    requires { ⌜ (place + count ≤ length (now code)) × (count ≤ 32) × (Typed (now code) place count) × (now state ≡ encode (freshWith (now code) place 0)) ⌝ }
+    ensures { λ _. ⌜ now (state .exit) ≡ encode (freshWith (now (code .entry)) place count) ⌝ }
 {
     let mut j: usize = 0;
-    while j < n {
-        write_cell(l, j, c[q + j]);
+    while j < count {
+        write_cell(state, j, code[place + j]);
         j += 1;
     }
 }
 
-// The fresh state of a root whose n cells have the types that stand in c at q.
-pub fn write_fresh(c: &[u8], q: usize, l: &mut [u8], n: usize)
-    requires { ⌜ (q + n ≤ length (now c)) × (n ≤ 32) × (Typed (now c) q n) × (length (now l) ≡ stateLength) ⌝ }
-    ensures { λ _. ⌜ now (l .exit) ≡ encode (freshWith (now (c .entry)) q n) ⌝ }
+// The fresh state of a root whose cells have the types that stand in the macro at `place`.
+pub fn write_fresh(code: &[u8], place: usize, state: &mut [u8], count: usize)
+    requires { ⌜ (place + count ≤ length (now code)) × (count ≤ 32) × (Typed (now code) place count) × (length (now state) ≡ stateLength) ⌝ }
+    ensures { λ _. ⌜ now (state .exit) ≡ encode (freshWith (now (code .entry)) place count) ⌝ }
 {
-    clear_all(l);
-    l[ACTIVATION_COUNT_AT] = 1;
-    write_cells(c, q, l, n);
+    clear_all(state);
+    state[ACTIVATION_COUNT_AT] = 1;
+    write_cells(code, place, state, count);
 }

@@ -1,4 +1,4 @@
--- `frames::phases::clear` meets its contract. Assumes nothing.
+-- `machine_frames::phases::clear` meets its contract. Assumes nothing.
 use Rattle.machine_frames.proofs.Clearing.{none-cleared, one-cleared}
 use Rattle.bytecode.specs.State.{zeros}
 use Prim.Native.Nat.{ℕ, _+_, _-_, _≤_}
@@ -11,22 +11,27 @@ use Rattle.machine_frames.proofs.phases.clear.Statement.{statement}
 use Rattle.machine_frames.proofs.phases.clear.Tie as tie
 
 abbrev Inv-loop : tie.InvT-loop
-Inv-loop s₀ p n k₀ s k = (k ≤ n) × (length s ≡ length s₀) × (s ≡ sets s₀ p (zeros k))
+Inv-loop state₀ place count k₀ state k = (k ≤ count) × (length state ≡ length state₀) × (state ≡ sets state₀ place (zeros k))
 
 abbrev μ-loop : tie.MeasureT-loop
-μ-loop s₀ p n k₀ s k = n - k
+μ-loop state₀ place count k₀ state k = count - k
 
 loop-holds : tie.Need-loop-holds Inv-loop μ-loop
 loop-holds c = (omega arith, refl, none-cleared _ _)
 
 loop-again : tie.Need-loop-again Inv-loop μ-loop
-loop-again c = (omega arith, simp length-set (c .before .loop .inv .1), ap (λ (l : List ℕ). set l (c .before .before .args .p + c .before .loop .k) 0) (c .before .loop .inv .2) ∙ one-cleared _ _ _)
+loop-again c = (
+  omega arith,
+  simp length-set (c .before .loop .inv .1),
+  ap (λ (l : List ℕ). set l (c .before .before .args .place + c .before .loop .k) 0)
+      (c .before .loop .inv .2) ∙ one-cleared _ _ _,
+)
 
 same-length : tie.Need-same-length Inv-loop μ-loop
 same-length c = c .before .loop .inv .1
 
 returns : tie.Need-returns Inv-loop μ-loop
-returns c = let e : c .before .loop .k ≡ c .before .before .args .n = omega arith in rw (← e) (c .before .loop .inv .2)
+returns c = let e : c .before .loop .k ≡ c .before .before .args .count = omega arith in rw (← e) (c .before .loop .inv .2)
 
 pub clear-spec : {M : Type 1} → statement M
 clear-spec =

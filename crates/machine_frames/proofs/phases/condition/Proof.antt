@@ -1,4 +1,4 @@
--- `frames::phases::condition` meets its contract. Assumes nothing.
+-- `machine_frames::phases::condition` meets its contract. Assumes nothing.
 use borrow.Author.Needs.{needs}
 use Rattle.machine_frames.proofs.phases.condition.Statement.{statement}
 use Rattle.machine_frames.proofs.phases.condition.Tie as tie

@@ -1,4 +1,4 @@
--- `frames::phases::enter` meets its contract. Assumes nothing.
+-- `machine_frames::phases::enter` meets its contract. Assumes nothing.
 use borrow.Author.Needs.{needs}
 use Rattle.machine_frames.proofs.phases.enter.Statement.{statement}
 use Rattle.machine_frames.proofs.phases.enter.Tie as tie

@@ -1,4 +1,4 @@
--- `frames::phases::finish` meets its contract. Assumes nothing.
+-- `machine_frames::phases::finish` meets its contract. Assumes nothing.
 use borrow.Author.Needs.{needs}
 use Rattle.machine_frames.proofs.phases.finish.Statement.{statement}
 use Rattle.machine_frames.proofs.phases.finish.Tie as tie

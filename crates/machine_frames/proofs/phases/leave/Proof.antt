@@ -1,4 +1,4 @@
--- `frames::phases::leave` meets its contract. Assumes nothing.
+-- `machine_frames::phases::leave` meets its contract. Assumes nothing.
 use borrow.Author.Needs.{needs}
 use Rattle.machine_frames.proofs.phases.leave.Statement.{statement}
 use Rattle.machine_frames.proofs.phases.leave.Tie as tie

@@ -1,4 +1,4 @@
--- `frames::phases::let_hold` meets its contract. Assumes nothing.
+-- `machine_frames::phases::let_hold` meets its contract. Assumes nothing.
 use borrow.Author.Needs.{needs}
 use Rattle.machine_frames.proofs.phases.let_hold.Statement.{statement}
 use Rattle.machine_frames.proofs.phases.let_hold.Tie as tie

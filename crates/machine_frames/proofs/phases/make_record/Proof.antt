@@ -1,4 +1,4 @@
--- `frames::phases::make_record` meets its contract. Assumes nothing.
+-- `machine_frames::phases::make_record` meets its contract. Assumes nothing.
 use borrow.Author.Needs.{needs}
 use Rattle.machine_frames.proofs.phases.make_record.Statement.{statement}
 use Rattle.machine_frames.proofs.phases.make_record.Tie as tie

@@ -1,4 +1,4 @@
--- `frames::phases::release` meets its contract. Assumes nothing.
+-- `machine_frames::phases::release` meets its contract. Assumes nothing.
 use borrow.Author.Needs.{needs}
 use Rattle.machine_frames.proofs.phases.release.Statement.{statement}
 use Rattle.machine_frames.proofs.phases.release.Tie as tie

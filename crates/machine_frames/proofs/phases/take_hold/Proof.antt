@@ -1,4 +1,4 @@
--- `frames::phases::take_hold` meets its contract. Assumes nothing.
+-- `machine_frames::phases::take_hold` meets its contract. Assumes nothing.
 use borrow.Author.Needs.{needs}
 use Rattle.machine_frames.proofs.phases.take_hold.Statement.{statement}
 use Rattle.machine_frames.proofs.phases.take_hold.Tie as tie

@@ -1,4 +1,4 @@
--- `frames::phases::wipe` meets its contract. Assumes nothing.
+-- `machine_frames::phases::wipe` meets its contract. Assumes nothing.
 use borrow.Author.Needs.{needs}
 use Rattle.machine_frames.proofs.phases.wipe.Statement.{statement}
 use Rattle.machine_frames.proofs.phases.wipe.Tie as tie

@@ -1,4 +1,4 @@
--- `frames::writes::pop` meets its contract. Assumes nothing.
+-- `machine_frames::writes::pop` meets its contract. Assumes nothing.
 use borrow.Author.Needs.{needs}
 use Rattle.machine_frames.proofs.writes.pop.Statement.{statement}
 use Rattle.machine_frames.proofs.writes.pop.Tie as tie

@@ -1,4 +1,4 @@
--- `frames::writes::push` meets its contract. Assumes nothing.
+-- `machine_frames::writes::push` meets its contract. Assumes nothing.
 use borrow.Author.Needs.{needs}
 use Rattle.machine_frames.proofs.writes.push.Statement.{statement}
 use Rattle.machine_frames.proofs.writes.push.Tie as tie

@@ -1,4 +1,4 @@
--- `frames::writes::put_cell` meets its contract. Assumes nothing.
+-- `machine_frames::writes::put_cell` meets its contract. Assumes nothing.
 use borrow.Author.Needs.{needs}
 use Rattle.machine_frames.proofs.writes.put_cell.Statement.{statement}
 use Rattle.machine_frames.proofs.writes.put_cell.Tie as tie

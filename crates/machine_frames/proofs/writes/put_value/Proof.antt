@@ -1,4 +1,4 @@
--- `frames::writes::put_value` meets its contract. Assumes nothing.
+-- `machine_frames::writes::put_value` meets its contract. Assumes nothing.
 use borrow.Author.Needs.{needs}
 use Rattle.machine_frames.proofs.writes.put_value.Statement.{statement}
 use Rattle.machine_frames.proofs.writes.put_value.Tie as tie

@@ -1,5 +1,5 @@
--- `calls::calls::op_call` meets its contract. Assumes nothing.
-use Rattle.machine_ops.proofs.Acting.{call-enters, call-full}
+-- `machine_ops::calls::op_call` meets its contract. Assumes nothing.
+use Rattle.machine_ops.proofs.CallRecordOps.{call-enters, call-full}
 use native.Mathlib.Omega.{arith}
 use denote.Ref.{now}
 use borrow.Author.Needs.{needs}
@@ -11,21 +11,23 @@ enter-body-requires c κs = c .before .before .before .before .before .pre .4 (o
 
 returns : tie.Need-returns
 returns c =
-    call-enters (now (c .before .before .before .before .before .before .before .before .args .code))
-    (c .before .before .before .before .before .before .before .before .args .q)
-    (c .before .before .before .before .before .before .before .before .args .b)
-    (c .before .before .before .before .before .before .before .before .pre .1)
-    (c .before .before .before .before .before .before .before .before .pre .2) _
-    (c .before .before .before .before .before .before .before .before .pre .4 (omega arith)) (c .before .before .enter-body .ensures)
+    let at-start = c .before .before .before .before .before .before .before .before in
+    call-enters (now (at-start .args .code))
+    (at-start .args .place)
+    (at-start .args .body)
+    (at-start .pre .1)
+    (at-start .pre .2) _
+    (at-start .pre .4 (omega arith)) (c .before .before .enter-body .ensures)
 
 returns-2 : tie.Need-returns-2
 returns-2 c =
-    call-full (now (c .before .before .before .before .before .before .before .before .args .code))
-    (c .before .before .before .before .before .before .before .before .args .q)
-    (c .before .before .before .before .before .before .before .before .args .b)
-    (c .before .before .before .before .before .before .before .before .pre .1)
-    (c .before .before .before .before .before .before .before .before .pre .2) _ _
-    (c .before .before .before .before .before .before .before .before .pre .3) (omega arith) (c .before .before .op-condition .ensures)
+    let at-start = c .before .before .before .before .before .before .before .before in
+    call-full (now (at-start .args .code))
+    (at-start .args .place)
+    (at-start .args .body)
+    (at-start .pre .1)
+    (at-start .pre .2) _ _
+    (at-start .pre .3) (omega arith) (c .before .before .op-condition .ensures)
 
 pub op-call-spec : {M : Type 1} → statement M
 op-call-spec =

@@ -1,5 +1,5 @@
--- `calls::calls::return_nothing` meets its contract. Assumes nothing.
-use Rattle.machine_ops.proofs.Acting.{return-none}
+-- `machine_ops::calls::return_nothing` meets its contract. Assumes nothing.
+use Rattle.machine_ops.proofs.CallRecordOps.{return-none}
 use mathlib.Core.Path.{refl}
 use borrow.Author.Needs.{needs}
 use Rattle.machine_ops.proofs.calls.return_nothing.Statement.{statement}

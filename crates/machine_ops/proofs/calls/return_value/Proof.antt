@@ -1,5 +1,5 @@
--- `calls::calls::return_value` meets its contract. Assumes nothing.
-use Rattle.machine_ops.proofs.Acting.{return-one}
+-- `machine_ops::calls::return_value` meets its contract. Assumes nothing.
+use Rattle.machine_ops.proofs.CallRecordOps.{return-one}
 use mathlib.Core.Path.{refl}
 use borrow.Author.Needs.{needs}
 use Rattle.machine_ops.proofs.calls.return_value.Statement.{statement}

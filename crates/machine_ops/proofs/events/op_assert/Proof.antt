@@ -1,19 +1,24 @@
--- `ops::events::op_assert` meets its contract. Assumes nothing.
+-- `machine_ops::events::op_assert` meets its contract. Assumes nothing.
 use native.Mathlib.Omega.{arith}
-use Rattle.machine_ops.proofs.Others.{assert-false, assert-true}
+use Rattle.machine_ops.proofs.JumpEventOps.{assert-false, assert-true}
 use borrow.Author.Needs.{needs}
 use Rattle.machine_ops.proofs.events.op_assert.Statement.{statement}
 use Rattle.machine_ops.proofs.events.op_assert.Tie as tie
 
 returns : tie.Need-returns
 returns c =
-    assert-false (omega arith) (omega arith) _ (c .before .before .before .before .before .operand-word .ensures) _ _
-    (c .before .before .before .before .if1 .taken) (c .before .before .op-condition .ensures)
+    let at-if1 = c .before .before .before .before in
+    let at-operand-word = at-if1 .before in
+    assert-false (omega arith) (omega arith) _ (at-operand-word .operand-word .ensures) _ _
+    (at-if1 .if1 .taken) (c .before .before .op-condition .ensures)
 
 returns-2 : tie.Need-returns-2
 returns-2 c =
-    assert-true (omega arith) (omega arith) _ (c .before .before .before .before .before .before .before .before .before .operand-word .ensures) _ _
-    (c .before .before .before .before .before .before .before .before .if1 .left) (c .before .before .before .before .before .before .pop .ensures)
+    let at-pop = c .before .before .before .before .before .before in
+    let at-if1 = at-pop .before .before in
+    let at-operand-word = at-if1 .before in
+    assert-true (omega arith) (omega arith) _ (at-operand-word .operand-word .ensures) _ _
+    (at-if1 .if1 .left) (at-pop .pop .ensures)
     (c .before .before .go-to .ensures)
 
 pub op-assert-spec : {M : Type 1} → statement M

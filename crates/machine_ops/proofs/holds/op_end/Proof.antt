@@ -1,5 +1,5 @@
--- `ops::holds::op_end` meets its contract. Assumes nothing.
-use Rattle.machine_ops.proofs.Others.{end-tells}
+-- `machine_ops::holds::op_end` meets its contract. Assumes nothing.
+use Rattle.machine_ops.proofs.JumpEventOps.{end-tells}
 use borrow.Author.Needs.{needs}
 use Rattle.machine_ops.proofs.holds.op_end.Statement.{statement}
 use Rattle.machine_ops.proofs.holds.op_end.Tie as tie

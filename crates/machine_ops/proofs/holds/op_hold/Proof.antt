@@ -1,5 +1,5 @@
--- `ops::holds::op_hold` meets its contract. Assumes nothing.
-use Rattle.machine_ops.proofs.Others.{hold-tells}
+-- `machine_ops::holds::op_hold` meets its contract. Assumes nothing.
+use Rattle.machine_ops.proofs.JumpEventOps.{hold-tells}
 use borrow.Author.Needs.{needs}
 use Rattle.machine_ops.proofs.holds.op_hold.Statement.{statement}
 use Rattle.machine_ops.proofs.holds.op_hold.Tie as tie

@@ -1,5 +1,5 @@
--- `ops::jumps::op_go` meets its contract. Assumes nothing.
-use Rattle.machine_ops.proofs.Others.{go-tells}
+-- `machine_ops::jumps::op_go` meets its contract. Assumes nothing.
+use Rattle.machine_ops.proofs.JumpEventOps.{go-tells}
 use borrow.Author.Needs.{needs}
 use Rattle.machine_ops.proofs.jumps.op_go.Statement.{statement}
 use Rattle.machine_ops.proofs.jumps.op_go.Tie as tie

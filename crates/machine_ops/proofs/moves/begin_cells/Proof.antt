@@ -1,30 +1,32 @@
--- `calls::moves::begin_cells` meets its contract. Assumes nothing.
+-- `machine_ops::moves::begin_cells` meets its contract. Assumes nothing.
 use native.Mathlib.Omega.{arith}
 use Prim.Native.Nat.{_-_, _≤_}
 use mathlib.Core.Path.{_≡_, refl, _∙_}
 use lib.ListN.{length}
 use Rattle.machine_ops.specs.Moves.{begun}
-use Rattle.machine_ops.proofs.Loops.{begin-next, begin-end}
+use Rattle.machine_ops.proofs.MoveLoops.{begin-next, begin-end}
 use Rattle.machine_ops.proofs.moves.begin_cells.Statement.{statement}
 use Rattle.machine_ops.proofs.moves.begin_cells.Tie as tie
 
 abbrev Inv-loop : tie.InvT-loop
-Inv-loop code q s₀ g p c j₀ s j = (p ≤ j) × (j ≤ c) × (length s ≡ length s₀) × (begun code q s₀ g p (c - p) ≡ begun code q s g j (c - j))
+Inv-loop code place state₀ g p c j₀ state j = (p ≤ j) × (j ≤ c) × (length state ≡ length state₀) × (begun code place state₀ g p (c - p) ≡ begun code place state g j (c - j))
 
 abbrev μ-loop : tie.MeasureT-loop
-μ-loop code q s₀ g p c j₀ s j = c - j
+μ-loop code place state₀ g p c j₀ state j = c - j
 
 loop-holds : tie.Need-loop-holds Inv-loop μ-loop
 loop-holds c = (omega arith, omega arith, refl, refl)
 
 loop-again : tie.Need-loop-again Inv-loop μ-loop
-loop-again c = (
-  omega arith,
-  omega arith,
-  c .before .before .put-cell .kept .0 ∙ c .before .before .before .before .before .before .loop .inv .2,
-  begin-next (c .before .before .before .before .before .before .before .before .before .args .code .now) _ _ _ _ _ _ _ _ (omega arith)
-      (c .before .before .before .before .before .before .loop .inv .3) (c .before .before .put-cell .ensures),
-)
+loop-again c =
+    let at-loop = c .before .before .before .before .before .before in
+    let at-start = at-loop .before .before .before in (
+      omega arith,
+      omega arith,
+      c .before .before .put-cell .kept .0 ∙ at-loop .loop .inv .2,
+      begin-next (at-start .args .code .now) _ _ _ _ _ _ _ _ (omega arith)
+          (at-loop .loop .inv .3) (c .before .before .put-cell .ensures),
+    )
 
 same-length : tie.Need-same-length Inv-loop μ-loop
 same-length c = c .before .loop .inv .2

@@ -1,5 +1,5 @@
--- `ops::operands::op_condition` meets its contract. Assumes nothing.
-use Rattle.machine_ops.proofs.Values.{condition-tells}
+-- `machine_ops::operands::op_condition` meets its contract. Assumes nothing.
+use Rattle.machine_ops.proofs.OperandOps.{condition-tells}
 use borrow.Author.Needs.{needs}
 use Rattle.machine_ops.proofs.operands.op_condition.Statement.{statement}
 use Rattle.machine_ops.proofs.operands.op_condition.Tie as tie

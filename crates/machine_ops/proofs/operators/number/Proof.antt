@@ -1,4 +1,4 @@
--- `operate::number` meets its contract. Assumes nothing.
+-- `machine_ops::operators::number` meets its contract. Assumes nothing.
 use mir.ValLaws.{toZ-ofZ}
 use mir.Syntax.{w32}
 use mir.Val.{SFits}

@@ -1,6 +1,6 @@
--- `operate::same` meets its contract. Assumes nothing.
+-- `machine_ops::operators::same` meets its contract. Assumes nothing.
 use mathlib.Core.Path.{_∙_}
-use Rattle.machine_ops.proofs.Says.{held}
+use Rattle.machine_ops.proofs.OperatorSays.{held}
 use borrow.Author.Tests.{eq-eqb, ne-eqb}
 use borrow.Author.Needs.{needs}
 use Rattle.machine_ops.proofs.operators.same.Statement.{statement}

@@ -1,4 +1,4 @@
--- `operate::truth` meets its contract. Assumes nothing.
+-- `machine_ops::operators::truth` meets its contract. Assumes nothing.
 use Rattle.machine_ops.proofs.operators.truth.Statement.{statement}
 use Rattle.machine_ops.proofs.operators.truth.Tie as tie
 

@@ -1,5 +1,5 @@
--- `operate::unary` meets its contract. Assumes nothing.
-use Rattle.machine_ops.proofs.Says.{held, works-negate, works-absolute, works-not-logical, works-not-bits}
+-- `machine_ops::operators::unary` meets its contract. Assumes nothing.
+use Rattle.machine_ops.proofs.OperatorSays.{held, works-negate, works-absolute, works-not-logical, works-not-bits}
 use borrow.Author.Needs.{needs}
 use Rattle.machine_ops.proofs.operators.unary.Statement.{statement}
 use Rattle.machine_ops.proofs.operators.unary.Tie as tie

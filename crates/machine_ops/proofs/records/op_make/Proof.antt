@@ -1,5 +1,5 @@
--- `calls::records::op_make` meets its contract. Assumes nothing.
-use Rattle.machine_ops.proofs.Acting.{make-full, make-tells}
+-- `machine_ops::records::op_make` meets its contract. Assumes nothing.
+use Rattle.machine_ops.proofs.CallRecordOps.{make-full, make-tells}
 use native.Mathlib.Omega.{arith}
 use denote.Ref.{now}
 use borrow.Author.Needs.{needs}
@@ -11,23 +11,30 @@ returns c =
     let at-if1 = c .before .before .before .before in
     let at-half-at = at-if1 .before in
     let at-start = at-half-at .before .before .before .before in
-    make-full (now (at-start .args .code)) (at-start .args .q) (at-start .args .c) (at-start .pre .1) (at-start .pre .2) _ _
+    make-full (now (at-start .args .code)) (at-start .args .place) (at-start .args .c) (at-start .pre .1) (at-start .pre .2) _ _
     (at-start .pre .4 .arguments) (rw (at-half-at .half-at .ensures) at (at-if1 .if1 .taken)) (c .before .before .op-condition .ensures)
 
 returns-2 : tie.Need-returns-2
 returns-2 c =
-    make-tells (now (c .before .before .before .before .before .before .before .before .before .before .before .before .before .before .before .before .before .before .before .before .before .before .before .before .before .before .before .args .code))
-    (c .before .before .before .before .before .before .before .before .before .before .before .before .before .before .before .before .before .before .before .before .before .before .before .before .before .before .before .args .q)
-    (c .before .before .before .before .before .before .before .before .before .before .before .before .before .before .before .before .before .before .before .before .before .before .before .before .before .before .before .args .c)
-    (c .before .before .before .before .before .before .before .before .before .before .before .before .before .before .before .before .before .before .before .before .before .before .before .before .before .before .before .pre .1)
-    (c .before .before .before .before .before .before .before .before .before .before .before .before .before .before .before .before .before .before .before .before .before .before .before .before .before .before .before .pre .2)
-    _ _ _ _ _ _ _ (c .before .before .before .before .before .before .before .before .before .before .before .before .before .before .before .before .before .before .before .before .before .before .before .before .before .before .before .pre .4)
-    (omega arith) (c .before .before .before .before .before .before .before .before .before .before .before .before .before .before .before .before .before .before .before .before .before .before .before .half-at .ensures)
-    (omega arith) (c .before .before .before .before .before .before .before .before .before .before .before .before .before .before .before .before .before .before .before .before .wide .ensures .0)
-    (c .before .before .before .before .before .before .before .before .before .before .before .before .before .before .before .before .before .before .make-record .ensures)
-    (c .before .before .before .before .before .before .before .before .before .before .before .before .before .before .fill-fields .ensures)
-    (c .before .before .before .before .before .before .before .before .before .before .drop-operands .ensures)
-    (c .before .before .before .before .before .before .push .ensures) (c .before .before .go-to .ensures)
+    let at-push = c .before .before .before .before .before .before in
+    let at-drop-operands = at-push .before .before .before .before in
+    let at-move-operands = at-drop-operands .before .before .before .before in
+    let at-make-record = at-move-operands .before .before .before .before in
+    let at-wide = at-make-record .before .before in
+    let at-half-at = at-wide .before .before .before in
+    let at-start = at-half-at .before .before .before .before in
+    make-tells (now (at-start .args .code))
+    (at-start .args .place)
+    (at-start .args .c)
+    (at-start .pre .1)
+    (at-start .pre .2)
+    _ _ _ _ _ _ _ (at-start .pre .4)
+    (omega arith) (at-half-at .half-at .ensures)
+    (omega arith) (at-wide .wide .ensures .0)
+    (at-make-record .make-record .ensures)
+    (at-move-operands .move-operands .ensures)
+    (at-drop-operands .drop-operands .ensures)
+    (at-push .push .ensures) (c .before .before .go-to .ensures)
 
 pub op-make-spec : {M : Type 1} → statement M
 op-make-spec =
@@ -41,6 +48,10 @@ op-make-spec =
     (λ c. search needs)
     (λ c κs. search needs)
     (λ c κs. search needs)
+    (λ c. search needs)
+    (λ c. search needs)
+    (λ c. search needs)
+    (λ c. search needs)
     (λ c. search needs)
     (λ c. search needs)
     (λ c κs. search needs)

@@ -1,5 +1,5 @@
--- `machine::dispatch::call` meets its contract. Assumes nothing.
-use Rattle.machine_run.proofs.Asks.{asks-call}
+-- `machine_run::dispatch::call` meets its contract. Assumes nothing.
+use Rattle.machine_run.proofs.OpAsks.{asks-call}
 use native.Mathlib.Omega.{arith}
 use mathlib.Core.Path.{refl}
 use borrow.Author.Needs.{needs}

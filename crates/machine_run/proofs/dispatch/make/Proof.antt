@@ -1,5 +1,5 @@
--- `machine::dispatch::make` meets its contract. Assumes nothing.
-use Rattle.machine_run.proofs.Asks.{asks-make}
+-- `machine_run::dispatch::make` meets its contract. Assumes nothing.
+use Rattle.machine_run.proofs.OpAsks.{asks-make}
 use mathlib.Core.Path.{refl}
 use borrow.Author.Needs.{needs}
 use Rattle.machine_run.proofs.dispatch.make.Statement.{statement}

@@ -1,10 +1,10 @@
--- `machine::steps::release` meets its contract. Assumes nothing.
+-- `machine_run::steps::release` meets its contract. Assumes nothing.
 use borrow.Author.Needs.{needs}
 use native.Mathlib.Omega.{arith}
 use mathlib.Core.Path.{refl}
 use denote.Ref.{now}
-use Rattle.machine_run.proofs.Stepping.{held-long, few-open, releasing-ends, releasing-gives}
-use Rattle.machine_run.proofs.Running.{gave, finished, spent}
+use Rattle.machine_run.proofs.ByteSteps.{held-long, few-open, releasing-ends, releasing-gives}
+use Rattle.machine_run.proofs.RunLoop.{gave, finished, spent}
 use Rattle.machine_run.proofs.steps.release.Statement.{statement}
 use Rattle.machine_run.proofs.steps.release.Tie as tie
 
@@ -30,15 +30,19 @@ put-byte-requires c κs =
 
 returns-2 : tie.Need-returns-2
 returns-2 c =
-    λ l₀ alive R. finished (now (c .before .before .before .before .before .before .before .before .before .before .before .before .args .code))
-    (now (c .before .before .before .before .before .before .before .before .before .before .before .before .args .readings)) _ _ _
-    (λ k. omega (arith, c .before .before .before .before .before .before .before .before .before .shared-slice-known2 .given k))
-    (releasing-ends (now (c .before .before .before .before .before .before .before .before .before .before .before .before .args .code)) _
-    (now (c .before .before .before .before .before .before .before .before .before .before .before .before .args .readings)) _ _ _ 0
-    (c .before .before .before .before .before .before .before .before .before .before .before .before .pre .1)
-    (c .before .before .before .before .before .before .half-at .ensures) (c .before .before .before .before .before .if2 .taken)
+    let at-if2 = c .before .before .before .before .before in
+    let at-half-at = at-if2 .before in
+    let at-shared-slice-known2 = at-half-at .before .before .before in
+    let at-start = at-shared-slice-known2 .before .before .before in
+    λ l₀ alive R. finished (now (at-start .args .code))
+    (now (at-start .args .readings)) _ _ _
+    (λ k. omega (arith, at-shared-slice-known2 .shared-slice-known2 .given k))
+    (releasing-ends (now (at-start .args .code)) _
+    (now (at-start .args .readings)) _ _ _ 0
+    (at-start .pre .1)
+    (at-half-at .half-at .ensures) (at-if2 .if2 .taken)
     (c .before .before .put-byte .ensures) refl) _ _ l₀ (omega arith) R
-    (c .before .before .before .before .before .before .before .before .before .before .before .before .pre .2) alive _ refl
+    (at-start .pre .2) alive _ refl
 
 slice-read-g : tie.Need-slice-read-g
 slice-read-g c =
@@ -52,20 +56,24 @@ release-requires c κs =
 
 returns-3 : tie.Need-returns-3
 returns-3 c =
-    λ l₀ alive R. gave (now (c .before .before .before .before .before .before .before .before .before .before .before .before .args .code))
-    (now (c .before .before .before .before .before .before .before .before .before .before .before .before .args .readings)) _ _ _
-    (λ k. omega (arith, c .before .before .before .before .before .before .before .before .before .shared-slice-known2 .given k))
-    (releasing-gives (now (c .before .before .before .before .before .before .before .before .before .before .before .before .args .code)) _
-    (now (c .before .before .before .before .before .before .before .before .before .before .before .before .args .readings)) _ _ _
-    (c .before .before .before .before .before .before .before .before .before .before .before .before .pre .1)
-    (c .before .before .before .before .before .before .half-at .ensures) (c .before .before .before .before .before .if2 .left)
+    let at-if2 = c .before .before .before .before .before in
+    let at-half-at = at-if2 .before in
+    let at-shared-slice-known2 = at-half-at .before .before .before in
+    let at-start = at-shared-slice-known2 .before .before .before in
+    λ l₀ alive R. gave (now (at-start .args .code))
+    (now (at-start .args .readings)) _ _ _
+    (λ k. omega (arith, at-shared-slice-known2 .shared-slice-known2 .given k))
+    (releasing-gives (now (at-start .args .code)) _
+    (now (at-start .args .readings)) _ _ _
+    (at-start .pre .1)
+    (at-half-at .half-at .ensures) (at-if2 .if2 .left)
     (omega (
       arith,
-      c .before .before .before .before .before .before .half-at .ensures,
-      few-open _ _ (c .before .before .before .before .before .before .before .before .before .before .before .before .pre .0)
-          (c .before .before .before .before .before .before .before .before .before .before .before .before .pre .1),
+      at-half-at .half-at .ensures,
+      few-open _ _ (at-start .pre .0)
+          (at-start .pre .1),
     )) refl
-    (c .before .before .release .ensures)) _ _ l₀ (omega arith) R (c .before .before .before .before .before .before .before .before .before .before .before .before .pre .2)
+    (c .before .before .release .ensures)) _ _ l₀ (omega arith) R (at-start .pre .2)
     alive _ refl
 
 pub release-spec : {M : Type 1} → statement M

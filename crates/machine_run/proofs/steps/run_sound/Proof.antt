@@ -1,9 +1,9 @@
--- `machine::steps::run_sound` meets its contract. Assumes nothing.
+-- `machine_run::steps::run_sound` meets its contract. Assumes nothing.
 use borrow.Author.Needs.{needs}
 use native.Mathlib.Omega.{arith}
 use denote.Ref.{now}
-use Rattle.machine_run.proofs.Stepping.{held-long}
-use Rattle.machine_run.proofs.Running.{begin, ended-runs}
+use Rattle.machine_run.proofs.ByteSteps.{held-long}
+use Rattle.machine_run.proofs.RunLoop.{begin, ended-runs}
 use Rattle.machine_run.proofs.steps.run_sound.Statement.{statement}
 use Rattle.machine_run.proofs.steps.run_sound.Tie as tie
 

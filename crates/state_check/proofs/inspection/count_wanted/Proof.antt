@@ -1,27 +1,26 @@
--- `soundness::count_wanted` meets its contract. Assumes nothing.
+-- `state_check::inspection::count_wanted` meets its contract. Assumes nothing.
 use borrow.Author.Needs.{needs}
 use borrow.Author.Tests.{not-true, not-false}
 use mathlib.Core.Path.{sym, _∙_}
-use Prim.Native.Nat.{_-_}
-use Rattle.state_check.proofs.InspectionLaws as law
+use Rattle.state_check.proofs.StandingLaws as law
 use Rattle.state_check.proofs.inspection.count_wanted.Statement.{statement}
 use Rattle.state_check.proofs.inspection.count_wanted.Tie as tie
 
 returns : tie.Need-returns
 returns c =
     let at-start = c .before .before in
-    law.counts-not (at-start .args .l .now) (at-start .args .plain) (not-true (at-start .args .plain) (c .if1 .taken))
+    law.counts-not (at-start .args .state .now) (at-start .args .plain) (not-true (at-start .args .plain) (c .if1 .taken))
 
 returns-2 : tie.Need-returns-2
 returns-2 c =
     let at-start = c .before .before .before .before in
-    law.counts-other (at-start .args .l .now) (at-start .args .plain) (not-false (at-start .args .plain) (c .before .before .if1 .left)) (λ z. c .if2 .taken (c .before .byte-at .ensures .0 ∙ z))
+    law.counts-other (at-start .args .state .now) (at-start .args .plain) (not-false (at-start .args .plain) (c .before .before .if1 .left)) (λ z. c .if2 .taken (c .before .byte-at .ensures .0 ∙ z))
 
 returns-3 : tie.Need-returns-3
 returns-3 c =
     let at-if1 = c .before .before .before .before in
     let at-start = at-if1 .before .before in
-    rw (c .before .byte-at2 .ensures .0, c .half-at .ensures .0) (law.counts-in (at-start .args .l .now) (at-start .args .plain)
+    rw (c .before .byte-at2 .ensures .0, c .half-at .ensures .0) (law.counts-in (at-start .args .state .now) (at-start .args .plain)
     (not-false (at-start .args .plain) (at-if1 .if1 .left)) (sym (c .before .before .before .byte-at .ensures .0) ∙ c .before .before .if2 .left))
 
 pub count-wanted-spec : {M : Type 1} → statement M

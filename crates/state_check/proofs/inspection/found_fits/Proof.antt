@@ -1,6 +1,5 @@
--- `soundness::found_fits` meets its contract. Assumes nothing.
+-- `state_check::inspection::found_fits` meets its contract. Assumes nothing.
 use borrow.Author.Needs.{needs}
-use Prim.Native.Nat.{_-_}
 use Rattle.load_check.specs.Walk as rule
 use Rattle.state_check.proofs.inspection.found_fits.Statement.{statement}
 use Rattle.state_check.proofs.inspection.found_fits.Tie as tie
@@ -8,13 +7,13 @@ use Rattle.state_check.proofs.inspection.found_fits.Tie as tie
 all-stand-requires : tie.Need-all-stand-requires
 all-stand-requires c κs =
     let at-start = c .before .before .before .before .before .before .before in
-    let w = rule.fit-goes _ _ _ (at-start .pre .4) (c .before .g .given .1) in (at-start .pre .0, at-start .pre .1, at-start .pre .2, at-start .pre .3, w .1)
+    let w = rule.fit-goes _ _ _ (at-start .pre .4) (c .before .flow .given .1) in (at-start .pre .0, at-start .pre .1, at-start .pre .2, at-start .pre .3, w .1)
 
 enum-told : tie.Need-enum-told
 enum-told c = search needs
 
 returns : tie.Need-returns
-returns c = rw (c .before .before .g .given .1) (c .all-stand .ensures)
+returns c = rw (c .before .before .flow .given .1) (c .all-stand .ensures)
 
 returns-2 : tie.Need-returns-2
 returns-2 c = rw (c .enum-told .given .1)

@@ -1,6 +1,6 @@
--- `soundness::inspect` meets its contract. Assumes nothing.
+-- `state_check::inspection::inspect` meets its contract. Assumes nothing.
 use borrow.Author.Needs.{needs}
-use Rattle.state_check.proofs.Telling as telling
+use Rattle.state_check.proofs.InspectionTells as telling
 use Rattle.state_check.proofs.inspection.inspect.Statement.{statement}
 use Rattle.state_check.proofs.inspection.inspect.Tie as tie
 

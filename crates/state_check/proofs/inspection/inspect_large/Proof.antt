@@ -1,4 +1,4 @@
--- `soundness::inspect_large` meets its contract. Assumes nothing.
+-- `state_check::inspection::inspect_large` meets its contract. Assumes nothing.
 use borrow.Author.Needs.{needs}
 use native.Mathlib.Omega.{arith}
 use Rattle.load_check.specs.Walk as rule
@@ -6,26 +6,28 @@ use Rattle.state_check.proofs.inspection.inspect_large.Statement.{state
 use Rattle.state_check.proofs.inspection.inspect_large.Tie as tie
 
 inspect-in-requires : tie.Need-inspect-in-requires
-inspect-in-requires c κs = (
-  c .before .before .before .before .before .before .before .before .pre .0,
-  c .before .before .before .before .before .before .before .before .pre .1,
-  rule.zeros-long _ 8192 (omega arith),
-  c .before .before .before .before .before .before .before .before .pre .3,
-  c .before .before .before .before .before .before .before .before .pre .4,
-  rule.zeros-index _ 8192 _,
-  c .before .before .before .before .before .before .before .before .pre .5,
-)
+inspect-in-requires c κs =
+    let at-start = c .before .before .before .before .before .before .before .before in (
+      at-start .pre .0,
+      at-start .pre .1,
+      rule.zeros-long _ 8192 (omega arith),
+      at-start .pre .3,
+      at-start .pre .4,
+      rule.zeros-index _ 8192 _,
+      at-start .pre .5,
+    )
 
 inspect-in-requires-2 : tie.Need-inspect-in-requires-2
-inspect-in-requires-2 c κs = (
-  c .before .before .before .before .before .before .before .before .pre .0,
-  c .before .before .before .before .before .before .before .before .pre .1,
-  rule.zeros-long _ 65536 (omega arith),
-  c .before .before .before .before .before .before .before .before .pre .3,
-  c .before .before .before .before .before .before .before .before .pre .4,
-  rule.zeros-index _ 65536 _,
-  c .before .before .before .before .before .before .before .before .pre .5,
-)
+inspect-in-requires-2 c κs =
+    let at-start = c .before .before .before .before .before .before .before .before in (
+      at-start .pre .0,
+      at-start .pre .1,
+      rule.zeros-long _ 65536 (omega arith),
+      at-start .pre .3,
+      at-start .pre .4,
+      rule.zeros-index _ 65536 _,
+      at-start .pre .5,
+    )
 
 pub inspect-large-spec : {M : Type 1} → statement M
 inspect-large-spec =

@@ -1,4 +1,4 @@
--- `soundness::inspect_long` meets its contract. Assumes nothing.
+-- `state_check::inspection::inspect_long` meets its contract. Assumes nothing.
 use borrow.Author.Needs.{needs}
 use native.Mathlib.Omega.{arith}
 use mathlib.Core.Path.{sym, _∙_}
@@ -14,27 +14,35 @@ half-at-requires : tie.Need-half-at-requires
 half-at-requires c κs = omega (arith, head-known _ (sym (c .before .bad-head .ensures) ∙ c .if1 .left) .bytes)
 
 inspect-in-requires : tie.Need-inspect-in-requires
-inspect-in-requires c κs = (
-  sym (c .before .before .before .before .before .before .bad-head .ensures) ∙ c .before .before .before .before .before .if1 .left,
-  c .before .before .before .before .half-at .ensures .0,
-  rule.zeros-long _ 64 (omega arith),
-  c .before .before .before .before .before .before .before .before .before .before .before .pre .0,
-  c .before .before .before .before .before .before .before .before .before .before .before .pre .1,
-  rule.zeros-index _ 64 _,
-  c .before .before .before .before .before .before .before .before .before .before .before .pre .2,
-)
+inspect-in-requires c κs =
+    let at-half-at = c .before .before .before .before in
+    let at-if1 = at-half-at .before in
+    let at-bad-head = at-if1 .before in
+    let at-start = at-bad-head .before .before .before .before .before in (
+      sym (at-bad-head .bad-head .ensures) ∙ at-if1 .if1 .left,
+      at-half-at .half-at .ensures .0,
+      rule.zeros-long _ 64 (omega arith),
+      at-start .pre .0,
+      at-start .pre .1,
+      rule.zeros-index _ 64 _,
+      at-start .pre .2,
+    )
 
 inspect-in-requires-2 : tie.Need-inspect-in-requires-2
-inspect-in-requires-2 c κs = (
-  sym (c .before .before .before .before .before .before .before .bad-head .ensures)
-      ∙ c .before .before .before .before .before .before .if1 .left,
-  c .before .before .before .before .before .half-at .ensures .0,
-  rule.zeros-long _ 1024 (omega arith),
-  c .before .before .before .before .before .before .before .before .before .before .before .before .pre .0,
-  c .before .before .before .before .before .before .before .before .before .before .before .before .pre .1,
-  rule.zeros-index _ 1024 _,
-  c .before .before .before .before .before .before .before .before .before .before .before .before .pre .2,
-)
+inspect-in-requires-2 c κs =
+    let at-half-at = c .before .before .before .before .before in
+    let at-if1 = at-half-at .before in
+    let at-bad-head = at-if1 .before in
+    let at-start = at-bad-head .before .before .before .before .before in (
+      sym (at-bad-head .bad-head .ensures)
+          ∙ at-if1 .if1 .left,
+      at-half-at .half-at .ensures .0,
+      rule.zeros-long _ 1024 (omega arith),
+      at-start .pre .0,
+      at-start .pre .1,
+      rule.zeros-index _ 1024 _,
+      at-start .pre .2,
+    )
 
 inspect-large-requires : tie.Need-inspect-large-requires
 inspect-large-requires c κs =

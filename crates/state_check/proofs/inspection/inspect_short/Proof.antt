@@ -1,10 +1,10 @@
--- `soundness::inspect_short` meets its contract. Assumes nothing.
+-- `state_check::inspection::inspect_short` meets its contract. Assumes nothing.
 use borrow.Author.Needs.{needs}
 use native.Mathlib.Omega.{arith}
 use mathlib.Core.Path.{refl, sym, _∙_}
 use Rattle.load_check.specs.Walk as rule
 use Rattle.load_check.specs.Lookups.{head-known}
-use Rattle.state_check.proofs.Telling as telling
+use Rattle.state_check.proofs.InspectionTells as telling
 use Rattle.state_check.proofs.inspection.inspect_short.Statement.{statement}
 use Rattle.state_check.proofs.inspection.inspect_short.Tie as tie
 

@@ -1,7 +1,6 @@
--- `soundness::look` meets its contract. Assumes nothing.
+-- `state_check::inspection::look` meets its contract. Assumes nothing.
 use borrow.Author.Needs.{needs}
-use Prim.Native.Nat.{_-_}
-use Rattle.state_check.proofs.InspectionLaws as law
+use Rattle.state_check.proofs.StandingLaws as law
 use Rattle.state_check.proofs.inspection.look.Statement.{statement}
 use Rattle.state_check.proofs.inspection.look.Tie as tie
 

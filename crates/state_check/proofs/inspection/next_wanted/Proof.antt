@@ -1,27 +1,29 @@
--- `soundness::next_wanted` meets its contract. Assumes nothing.
+-- `state_check::inspection::next_wanted` meets its contract. Assumes nothing.
 use native.Mathlib.Omega.{arith}
 use Prim.Native.Nat.{ℕ, _-_, _≤_, _<_}
 use Rattle.state_sound.specs.Fits.{addressIn}
-use Rattle.state_check.proofs.InspectionLaws as law
+use Rattle.state_check.proofs.StandingLaws as law
 use Rattle.state_check.proofs.inspection.next_wanted.Statement.{statement}
 use Rattle.state_check.proofs.inspection.next_wanted.Tie as tie
 
 abbrev Inv-loop : tie.InvT-loop
-Inv-loop l n i best₀ k₀ best k = (k ≤ n) × ((j : ℕ) → j < k → i ≤ addressIn l j → best ≤ addressIn l j)
+Inv-loop state activations address best₀ k₀ best k = (k ≤ activations) × ((j : ℕ) → j < k → address ≤ addressIn state j → best ≤ addressIn state j)
 
 abbrev μ-loop : tie.MeasureT-loop
-μ-loop l n i best₀ k₀ best k = n - k
+μ-loop state activations address best₀ k₀ best k = activations - k
 
 loop-holds : tie.Need-loop-holds Inv-loop μ-loop
 loop-holds c = (omega arith, λ j p. absurd (omega arith))
 
 loop-again : tie.Need-loop-again Inv-loop μ-loop
-loop-again c = (
-  omega arith,
-  law.nearer-more (c .before .before .before .before .before .args .l .now) (c .before .before .before .before .before .args .i)
-      (c .before .before .before .loop .k) (c .before .before .before .loop .best) (c .nearer .result) (c .before .half-at .result)
-      (c .before .before .before .loop .inv .1) (c .nearer .ensures .0) (c .nearer .ensures .1) (c .before .half-at .ensures .0),
-)
+loop-again c =
+    let at-loop = c .before .before .before in
+    let at-start = at-loop .before .before in (
+      omega arith,
+      law.nearer-more (at-start .args .state .now) (at-start .args .address)
+          (at-loop .loop .k) (at-loop .loop .best) (c .nearer .result) (c .before .half-at .result)
+          (at-loop .loop .inv .1) (c .nearer .ensures .0) (c .nearer .ensures .1) (c .before .half-at .ensures .0),
+    )
 
 returns : tie.Need-returns Inv-loop μ-loop
 returns c = λ j p q. c .before .loop .inv .1 j (omega arith) q

@@ -1,4 +1,4 @@
--- `soundness::short` meets its contract. Assumes nothing.
+-- `state_check::inspection::short` meets its contract. Assumes nothing.
 use borrow.Author.Needs.{needs}
 use Rattle.state_check.proofs.inspection.short.Statement.{statement}
 use Rattle.state_check.proofs.inspection.short.Tie as tie

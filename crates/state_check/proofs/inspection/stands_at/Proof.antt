@@ -1,10 +1,10 @@
--- `soundness::stands_at` meets its contract. Assumes nothing.
+-- `state_check::inspection::stands_at` meets its contract. Assumes nothing.
 use borrow.Author.Needs.{needs}
 use borrow.Author.Tests.{not-true, not-false}
 use native.Mathlib.Omega.{arith}
 use mathlib.Core.Path.{sym, ap, _∙_}
-use Prim.Native.Nat.{ℕ, _-_}
-use Rattle.state_check.proofs.InspectionLaws as law
+use Prim.Native.Nat.{ℕ}
+use Rattle.state_check.proofs.StandingLaws as law
 use Rattle.load_check.specs.Lookups.{head-of}
 use Rattle.state_check.specs.Tested.{argsFit}
 use Rattle.state_check.proofs.inspection.stands_at.Statement.{statement}
@@ -12,15 +12,11 @@ use Rattle.state_check.proofs.inspection.stands_at.Tie as tie
 
 returns : tie.Need-returns
 returns c =
-    let at-start = c .before .before .before .before .before .before in
-    law.stands-1 (at-start .args .c .now) (at-start .args .l .now) (at-start .args .r) (at-start .args .n) (at-start .args .k) (at-start .args .b)
-    (at-start .args .st .now) (at-start .args .h) (at-start .args .d) (λ z. c .if1 .taken (c .before .byte-at .ensures .0 ∙ z))
+    law.stands-1 _ _ _ _ _ _ _ _ _ (λ z. c .if1 .taken (c .before .byte-at .ensures .0 ∙ z))
 
 returns-2 : tie.Need-returns-2
 returns-2 c =
-    let at-start = c .before .before .before .before .before .before .before .before in
-    law.stands-2 (at-start .args .c .now) (at-start .args .l .now) (at-start .args .r) (at-start .args .n) (at-start .args .k) (at-start .args .b)
-    (at-start .args .st .now) (at-start .args .h) (at-start .args .d)
+    law.stands-2 _ _ _ _ _ _ _ _ _
     (sym (c .before .before .before .byte-at .ensures .0) ∙ c .before .before .if1 .left) (λ z. c .if2 .taken (c .before .byte-at2 .ensures .0 ∙ z))
 
 returns-3 : tie.Need-returns-3
@@ -29,24 +25,22 @@ returns-3 c =
     let at-if1 = at-byte-at2 .before in
     let at-byte-at = at-if1 .before in
     let at-start = at-byte-at .before .before .before .before .before in
-    law.stands-3 (at-start .args .c .now) (at-start .args .l .now) (at-start .args .r) (at-start .args .n) (at-start .args .k) (at-start .args .b)
-    (at-start .args .st .now) (at-start .args .h) (at-start .args .d) (sym (at-byte-at .byte-at .ensures .0) ∙ at-if1 .if1 .left)
+    law.stands-3 _ _ _ _ _ _ _ _ _ (sym (at-byte-at .byte-at .ensures .0) ∙ at-if1 .if1 .left)
     (sym (at-byte-at2 .byte-at2 .ensures .0) ∙ c .before .before .before .if2 .left)
-    (sym (ap (λ (x : ℕ). argsFit (at-start .args .c .now) (at-start .args .l .now) (at-start .args .n) (at-start .args .k)
-    (at-start .args .st .now) x (at-start .args .d)) (c .before .before .byte-at3 .ensures .0)) ∙ sym (c .before .args-fit .ensures) ∙ not-true _ (c .if3 .taken))
+    (sym (ap (λ (x : ℕ). argsFit (at-start .args .code .now) (at-start .args .state .now) (at-start .args .activations) (at-start .args .k)
+    (at-start .args .stack .now) x (at-start .args .depth)) (c .before .before .byte-at3 .ensures .0)) ∙ sym (c .before .args-fit .ensures) ∙ not-true _ (c .if3 .taken))
 
 row-fits-requires : tie.Need-row-fits-requires
 row-fits-requires c κs =
-    let w = law.args-few (c .before .before .before .before .before .before .before .before .before .before .before .args .c .now)
-    (c .before .before .before .before .before .before .before .before .before .before .before .args .l .now)
-    (c .before .before .before .before .before .before .before .before .before .before .before .args .n)
-    (c .before .before .before .before .before .before .before .before .before .before .before .args .k)
-    (c .before .before .before .before .before .before .before .before .before .before .before .args .st .now) (c .before .before .byte-at3 .result)
-    (c .before .before .before .before .before .before .before .before .before .before .before .args .d)
+    let at-start = c .before .before .before .before .before .before .before .before .before .before .before in
+    let w = law.args-few _ _
+    _ _
+    _ (c .before .before .byte-at3 .result)
+    (at-start .args .depth)
     (sym (c .before .args-fit .ensures) ∙ not-false _ (c .if3 .left)) in (
-      head-of _ (c .before .before .before .before .before .before .before .before .before .before .before .pre .0 .well) .bytes,
-      c .before .before .before .before .before .before .before .before .before .before .before .pre .1 .long,
-      c .before .before .before .before .before .before .before .before .before .before .before .pre .2,
+      head-of _ (at-start .pre .0 .well) .bytes,
+      at-start .pre .1 .long,
+      at-start .pre .2,
       omega arith,
       omega arith,
       omega arith,
@@ -60,11 +54,10 @@ returns-4 c =
     let at-if1 = at-byte-at2 .before in
     let at-byte-at = at-if1 .before in
     let at-start = at-byte-at .before .before .before .before .before in
-    c .row-fits .ensures ∙ rw (at-byte-at3 .byte-at3 .ensures .0) (law.stands-4 (at-start .args .c .now) (at-start .args .l .now) (at-start .args .r)
-    (at-start .args .n) (at-start .args .k) (at-start .args .b) (at-start .args .st .now) (at-start .args .h) (at-start .args .d)
+    c .row-fits .ensures ∙ rw (at-byte-at3 .byte-at3 .ensures .0) (law.stands-4 _ _ _ _ _ _ _ _ _
     (sym (at-byte-at .byte-at .ensures .0) ∙ at-if1 .if1 .left) (sym (at-byte-at2 .byte-at2 .ensures .0) ∙ at-if2 .if2 .left)
-    (sym (ap (λ (x : ℕ). argsFit (at-start .args .c .now) (at-start .args .l .now) (at-start .args .n) (at-start .args .k)
-    (at-start .args .st .now) x (at-start .args .d)) (at-byte-at3 .byte-at3 .ensures .0)) ∙ sym (c .before .before .args-fit .ensures)
+    (sym (ap (λ (x : ℕ). argsFit (at-start .args .code .now) (at-start .args .state .now) (at-start .args .activations) (at-start .args .k)
+    (at-start .args .stack .now) x (at-start .args .depth)) (at-byte-at3 .byte-at3 .ensures .0)) ∙ sym (c .before .before .args-fit .ensures)
     ∙ not-false _ (c .before .if3 .left)))
 
 pub stands-at-spec : {M : Type 1} → statement M

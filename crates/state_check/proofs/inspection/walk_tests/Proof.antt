@@ -1,11 +1,11 @@
--- `soundness::walk_tests` meets its contract. Assumes nothing.
+-- `state_check::inspection::walk_tests` meets its contract. Assumes nothing.
 use native.Mathlib.Omega.{arith}
 use mathlib.Core.Path.{_≡_, refl, sym, ap, _∙_}
 use Prim.Native.Nat.{_-_, _≤_, _<_}
-use Rattle.state_check.proofs.InspectionLaws as law
+use Rattle.state_check.proofs.StandingLaws as law
 use Rattle.load_check.specs.Lookups.{head-of}
 use Rattle.load_places.specs.Search.{Clean}
-use Rattle.load_places.specs.Records.{bodies}
+use Rattle.load_places.specs.Records.{bodies as bodyCount}
 use Rattle.load_places.specs.Rules.{bodyOf, found, into, broken}
 use Rattle.load_check.specs.Walk.{first-hit, first-none, clean-none, clean-more, Moves}
 use Rattle.load_check.specs.Walk as rule
@@ -15,11 +15,29 @@ use Rattle.state_check.proofs.inspection.walk_tests.Statement.{statemen
 use Rattle.state_check.proofs.inspection.walk_tests.Tie as tie
 
 abbrev Inv-loop : tie.InvT-loop
-Inv-loop c ix bx cx base st₀ l r n stop i₀ k₀ f₀ ok₀ next₀ st i k f ok next =
-    (i ≤ stop) × (k ≡ bodyOf c i) × (k < bodies c) × (length st ≡ 32) × Moves st f (into c i) × Clean (broken c) i × Upto c l r n i ok next
+Inv-loop code shapes bodies classes base stack₀ state records activations stop address₀ body₀ flow₀ ok₀ next₀ stack address body flow ok next =
+    (address ≤ stop) × (body ≡ bodyOf code address) × (body < bodyCount code) × (length stack ≡ 32) × Moves stack flow (into code address)
+    × Clean (broken code) address × Upto code state records activations address ok next
 
 abbrev μ-loop : tie.MeasureT-loop
-μ-loop c ix bx cx base st₀ l r n stop i₀ k₀ f₀ ok₀ next₀ st i k f ok next = stop - i
+μ-loop code shapes bodies classes base stack₀ state records activations stop address₀ body₀ flow₀ ok₀ next₀ stack address body flow ok next = stop - address
+
+-- ── points that several answers go back to ──
+abbrev start-of : tie.At-loop Inv-loop μ-loop → tie.Start Inv-loop μ-loop
+start-of p = p .before .before .before .before .before .before .before .before .before
+
+abbrev loop-of : tie.After-go-on Inv-loop μ-loop → tie.At-loop Inv-loop μ-loop
+loop-of p = p .before .before .before .before .before .before .before .before .before
+
+-- the address has a fault exactly if going on from it is bad
+flagged : (p : tie.After-is-bad Inv-loop μ-loop) → let l = loop-of (p .before .before .before) in broken (start-of l .args .code .now) (l .loop .address) ≡ p .is-bad .result
+flagged p =
+    let g = p .before .before .before in
+    rule.walk-flag _ _ _ (loop-of g .loop .inv .4 .0) (g .go-on .last .1 .1 .1 .1 .1 .1 .1 .0) (g .go-on .result)
+    (g .go-on .ensures .0 ∙ rule.step-is _ _ _ (loop-of g .loop .inv .1) _ _ _ (g .before .before .before .before .before .before .found-at .ensures .0) refl) ∙ sym (p .is-bad .ensures)
+
+long : (p : tie.After-go-on Inv-loop μ-loop) → length (p .go-on .last .1 .1 .1 .1 .1 .1 .1 .0) ≡ 32
+long p = p .go-on .kept .1 .1 .1 .1 .1 .1 .1 .0 ∙ p .before .before .before .before .before .before .found-at .kept .1 .1 .1 .1 .1 .0 ∙ loop-of p .loop .inv .3
 
 half-at-requires : tie.Need-half-at-requires Inv-loop μ-loop
 half-at-requires c κs = omega (arith, head-of _ (c .before .before .before .before .before .before .pre .0 .bodied .well) .bytes)
@@ -39,14 +57,9 @@ loop-holds c = (
 )
 
 found-at-requires : tie.Need-found-at-requires Inv-loop μ-loop
-found-at-requires c κs = (
-  c .before .before .before .before .before .before .before .before .before .before .before .pre .0 .shaped,
-  c .before .before .before .before .before .before .before .before .before .before .before .pre .0 .bodied,
-  c .before .before .loop .inv .2,
-  c .before .before .loop .inv .1,
-  c .before .before .loop .inv .3,
-  c .before .before .loop .inv .4 .1,
-)
+found-at-requires c κs =
+    let l = c .before .before in
+    (start-of l .pre .0 .shaped, start-of l .pre .0 .bodied, l .loop .inv .2, l .loop .inv .1, l .loop .inv .3, l .loop .inv .4 .1)
 
 look-requires : tie.Need-look-requires Inv-loop μ-loop
 look-requires c κs = (
@@ -57,8 +70,7 @@ look-requires c κs = (
   c .before .before .before .found-at .ensures .1,
   omega (arith, c .before .before .before .before .before .before .before .before .half-at .ensures .1),
   c .before .before .before .before .before .before .loop .inv .1,
-  c .before .before .before .found-at .ensures .0
-      ∙ ap (found _ _) (c .before .before .before .before .before .before .loop .inv .4 .0),
+  c .before .before .before .found-at .ensures .0 ∙ ap (found _ _) (c .before .before .before .before .before .before .loop .inv .4 .0),
   c .before .before .before .before .before .before .loop .inv .6,
 )
 
@@ -68,91 +80,59 @@ go-on-requires c κs = (
   c .before .before .before .before .before .before .before .before .before .before .before .before .before .before .before .before .before .pre .1,
   c .before .before .before .before .before .before .before .before .loop .inv .2,
   omega (arith, c .before .before .before .before .before .before .before .before .before .before .half-at .ensures .0),
-  c .before .before .before .before .before .found-at .kept .1 .1 .1 .1 .1 .0
-      ∙ c .before .before .before .before .before .before .before .before .loop .inv .3,
+  c .before .before .before .before .before .found-at .kept .1 .1 .1 .1 .1 .0 ∙ c .before .before .before .before .before .before .before .before .loop .inv .3,
   c .before .before .before .before .before .found-at .ensures .1,
 )
 
-is-bad-requires : tie.Need-is-bad-requires Inv-loop μ-loop
-is-bad-requires c κs = tt
-
 same-length : tie.Need-same-length Inv-loop μ-loop
-same-length c =
-    c .before .before .before .before .go-on .kept .1 .1 .1 .1 .1 .1 .1 .0
-    ∙ c .before .before .before .before .before .before .before .before .before .before .found-at .kept .1 .1 .1 .1 .1 .0
-    ∙ c .before .before .before .before .before .before .before .before .before .before .before .before .before .loop .inv .3
-    ∙ sym (c .before .before .before .before .before .before .before .before .before .before .before .before .before .before .before .before .before .before .before .before .before .before .pre .2)
+same-length c = long (c .before .before .before .before) ∙ sym (start-of (c .before .before .before .before .before .before .before .before .before .before .before .before .before) .pre .2)
 
 returns : tie.Need-returns Inv-loop μ-loop
 returns c =
     record {
-      upto = sym (first-hit _ _ _ (c .before .before .before .before .before .before .before .before .before .before .before .before .before .loop .inv .5)
+      upto =
+          sym (first-hit _ _ _ (c .before .before .before .before .before .before .before .before .before .before .before .before .before .loop .inv .5)
           (omega (arith, c .before .before .before .before .before .before .before .before .before .before .before .before .before .before .before .half-at .ensures .0))
-          (rule.walk-flag _ _ _ (c .before .before .before .before .before .before .before .before .before .before .before .before .before .loop .inv .4 .0)
-          (c .before .before .before .before .go-on .last .1 .1 .1 .1 .1 .1 .1 .0) (c .before .before .before .before .go-on .result)
-          (c .before .before .before .before .go-on .ensures .0 ∙ rule.step-is _ _ _
-          (c .before .before .before .before .before .before .before .before .before .before .before .before .before .loop .inv .1) _ _ _
-          (c .before .before .before .before .before .before .before .before .before .before .found-at .ensures .0) refl) ∙ sym (c .before .is-bad .ensures)
-          ∙ c .if1 .taken));
+          (flagged (c .before) ∙ c .if1 .taken));
       tested = λ h. absurd (omega (arith, c .before .before .before .before .before .before .before .before .before .before .before .before .before .before .before .half-at .ensures .0));
     }
 
 next-body-requires : tie.Need-next-body-requires Inv-loop μ-loop
 next-body-requires c κs = (
-  c .before .before .before .before .before .before .before .before .before .before .before .before .before .before .before .before .before .before .before .before .before .before .pre .0 .bodied,
+  start-of (c .before .before .before .before .before .before .before .before .before .before .before .before .before) .pre .0 .bodied,
   c .before .before .before .before .before .before .before .before .before .before .before .before .before .loop .inv .2,
   c .before .before .before .before .before .before .before .before .before .before .before .before .before .loop .inv .1,
   omega (arith, c .before .before .before .before .before .before .before .before .before .before .before .before .before .before .before .half-at .ensures .0),
 )
 
-add-i : tie.Need-add-i Inv-loop μ-loop
-add-i c = omega (arith, c .before .before .before .before .before .before .before .before .before .before .before .before .before .before .before .before .half-at .ensures .1)
-
-loop-less : tie.Need-loop-less Inv-loop μ-loop
-loop-less c = omega arith
+add-address : tie.Need-add-address Inv-loop μ-loop
+add-address c = omega (arith, c .before .before .before .before .before .before .before .before .before .before .before .before .before .before .before .before .half-at .ensures .1)
 
 loop-again : tie.Need-loop-again Inv-loop μ-loop
-loop-again c = (
-  omega arith,
-  c .next-body .ensures .0,
-  c .next-body .ensures .1,
-  c .before .before .before .before .before .go-on .kept .1 .1 .1 .1 .1 .1 .1 .0
-      ∙ c .before .before .before .before .before .before .before .before .before .before .before .found-at .kept .1 .1 .1 .1 .1 .0
-      ∙ c .before .before .before .before .before .before .before .before .before .before .before .before .before .before .loop .inv .3,
-  (
-    rule.walk-on _ _ _ (c .before .before .before .before .before .before .before .before .before .before .before .before .before .before .loop .inv .4 .0)
-        _ (c .before .before .before .before .before .go-on .ensures .0 ∙ rule.step-is _ _ _
-        (c .before .before .before .before .before .before .before .before .before .before .before .before .before .before .loop .inv .1) _ _ _
-        (c .before .before .before .before .before .before .before .before .before .before .before .found-at .ensures .0) refl),
-    c .before .before .before .before .before .go-on .ensures .1,
-  ),
-  clean-more _ _
-      (c .before .before .before .before .before .before .before .before .before .before .before .before .before .before .loop .inv .5)
-      (rule.walk-flag _ _ _ (c .before .before .before .before .before .before .before .before .before .before .before .before .before .before .loop .inv .4 .0)
-      (c .before .before .before .before .before .go-on .last .1 .1 .1 .1 .1 .1 .1 .0) (c .before .before .before .before .before .go-on .result)
-      (c .before .before .before .before .before .go-on .ensures .0 ∙ rule.step-is _ _ _
-      (c .before .before .before .before .before .before .before .before .before .before .before .before .before .before .loop .inv .1) _ _ _
-      (c .before .before .before .before .before .before .before .before .before .before .before .found-at .ensures .0) refl)
-      ∙ sym (c .before .before .is-bad .ensures) ∙ c .before .if1 .left),
-  c .before .before .before .before .before .before .before .look .ensures
-      (rule.walk-flag _ _ _ (c .before .before .before .before .before .before .before .before .before .before .before .before .before .before .loop .inv .4 .0)
-      (c .before .before .before .before .before .go-on .last .1 .1 .1 .1 .1 .1 .1 .0) (c .before .before .before .before .before .go-on .result)
-      (c .before .before .before .before .before .go-on .ensures .0 ∙ rule.step-is _ _ _
-      (c .before .before .before .before .before .before .before .before .before .before .before .before .before .before .loop .inv .1) _ _ _
-      (c .before .before .before .before .before .before .before .before .before .before .before .found-at .ensures .0) refl)
-      ∙ sym (c .before .before .is-bad .ensures) ∙ c .before .if1 .left),
-)
+loop-again c =
+    let p = c .before .before .before .before .before in
+    let clean = flagged (c .before .before) ∙ c .before .if1 .left in (
+      omega arith,
+      c .next-body .ensures .0,
+      c .next-body .ensures .1,
+      long p,
+      (
+        rule.walk-on _ _ _ (loop-of p .loop .inv .4 .0) _
+            (p .go-on .ensures .0 ∙ rule.step-is _ _ _ (loop-of p .loop .inv .1) _ _ _ (p .before .before .before .before .before .before .found-at .ensures .0) refl),
+        p .go-on .ensures .1,
+      ),
+      clean-more _ _ (loop-of p .loop .inv .5) clean,
+      c .before .before .before .before .before .before .before .look .ensures clean,
+    )
 
 same-length-2 : tie.Need-same-length-2 Inv-loop μ-loop
-same-length-2 c = c .before .loop .inv .3 ∙ sym (c .before .before .before .before .before .before .before .before .before .before .pre .2)
+same-length-2 c = c .before .loop .inv .3 ∙ sym (start-of (c .before) .pre .2)
 
 returns-2 : tie.Need-returns-2 Inv-loop μ-loop
 returns-2 c =
     record {
-      upto = sym (first-none _ _ _ (c .before .loop .inv .5) (omega (arith, c .before .before .before .half-at .ensures .0))
-          (omega (arith, c .before .before .before .half-at .ensures .0)));
-      tested = λ h.
-          law.ends-at _ _ _ _ _ _ _ _ (c .before .loop .inv .6) (omega (arith, c .before .before .before .half-at .ensures .0));
+      upto = sym (first-none _ _ _ (c .before .loop .inv .5) (omega (arith, c .before .before .before .half-at .ensures .0)) (omega (arith, c .before .before .before .half-at .ensures .0)));
+      tested = λ h. law.ends-at _ _ _ _ _ _ _ _ (c .before .loop .inv .6) (omega (arith, c .before .before .before .half-at .ensures .0));
     }
 
 pub walk-tests-spec : {M : Type 1} → statement M
@@ -167,12 +147,12 @@ walk-tests-spec =
     found-at-requires
     look-requires
     go-on-requires
-    is-bad-requires
+    (λ c κs. tt)
     same-length
     returns
     next-body-requires
-    add-i
-    loop-less
+    add-address
+    (λ c. omega arith)
     loop-again
     same-length-2
     returns-2)

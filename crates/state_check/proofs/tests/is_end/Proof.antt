@@ -1,8 +1,7 @@
--- `fitting::is_end` meets its contract. Assumes nothing.
+-- `state_check::tests::is_end` meets its contract. Assumes nothing.
 use borrow.Author.Needs.{needs}
 use mathlib.Core.Path.{_∙_}
-use Prim.Native.Nat.{_-_}
-use Rattle.state_check.proofs.TestLaws as law
+use Rattle.state_check.proofs.TestExits as law
 use Rattle.state_check.proofs.tests.is_end.Statement.{statement}
 use Rattle.state_check.proofs.tests.is_end.Tie as tie
 

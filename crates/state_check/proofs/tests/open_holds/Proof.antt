@@ -1,17 +1,17 @@
--- `fitting::open_holds` meets its contract. Assumes nothing.
+-- `state_check::tests::open_holds` meets its contract. Assumes nothing.
 use native.Mathlib.Omega.{arith}
 use mathlib.Core.Path.{_≡_}
 use Prim.Native.Nat.{_*_, _-_, _≤_}
 use Rattle.state_sound.specs.Fits.{held}
-use Rattle.state_check.proofs.TestLaws as law
+use Rattle.state_check.proofs.TestExits as law
 use Rattle.state_check.proofs.tests.open_holds.Statement.{statement}
 use Rattle.state_check.proofs.tests.open_holds.Tie as tie
 
 abbrev Inv-loop : tie.InvT-loop
-Inv-loop l n sum₀ k₀ sum k = (k ≤ n) × (sum ≡ held l k) × (sum ≤ 255 * k)
+Inv-loop state activations sum₀ k₀ sum k = (k ≤ activations) × (sum ≡ held state k) × (sum ≤ 255 * k)
 
 abbrev μ-loop : tie.MeasureT-loop
-μ-loop l n sum₀ k₀ sum k = n - k
+μ-loop state activations sum₀ k₀ sum k = activations - k
 
 loop-holds : tie.Need-loop-holds Inv-loop μ-loop
 loop-holds c = (omega arith, law.held-none _, omega arith)

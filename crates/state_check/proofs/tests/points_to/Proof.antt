@@ -1,7 +1,6 @@
--- `fitting::points_to` meets its contract. Assumes nothing.
+-- `state_check::tests::points_to` meets its contract. Assumes nothing.
 use borrow.Author.Needs.{needs}
-use Prim.Native.Nat.{_-_}
-use Rattle.state_check.proofs.TestLaws as law
+use Rattle.state_check.proofs.TestExits as law
 use Rattle.state_check.proofs.tests.points_to.Statement.{statement}
 use Rattle.state_check.proofs.tests.points_to.Tie as tie
 

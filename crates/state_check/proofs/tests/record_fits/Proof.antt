@@ -1,9 +1,8 @@
--- `fitting::record_fits` meets its contract. Assumes nothing.
+-- `state_check::tests::record_fits` meets its contract. Assumes nothing.
 use borrow.Author.Needs.{needs}
 use native.Mathlib.Omega.{arith}
 use mathlib.Core.Path.{ap, _∙_}
-use Prim.Native.Nat.{_-_}
-use Rattle.state_check.proofs.TestLaws as law
+use Rattle.state_check.proofs.TestExits as law
 use Rattle.load_places.specs.Records.{classPlace}
 use Rattle.load_check.specs.Lookups.{head-of}
 use Rattle.state_check.proofs.tests.record_fits.Statement.{statement}
@@ -16,18 +15,17 @@ byte-at-requires-2 c κs =
 
 returns : tie.Need-returns
 returns c =
-    law.record-none (c .before .before .before .before .before .before .args .c .now)
-    (c .before .before .before .before .before .before .args .l .now) (c .before .before .before .before .before .before .args .r)
-    (c .before .before .before .before .before .before .args .k) (omega arith)
+    law.record-none _ _ _ _ (omega arith)
 
 row-fits-requires : tie.Need-row-fits-requires
 row-fits-requires c κs =
-    let h = head-of _ (c .before .before .before .before .before .before .before .before .pre .0 .well) .bytes in
-    let w = law.few-fields _ _ _ _ (c .before .before .before .before .before .before .before .before .pre .0 .well) (omega arith)
+    let at-start = c .before .before .before .before .before .before .before .before in
+    let h = head-of _ (at-start .pre .0 .well) .bytes in
+    let w = law.few-fields _ _ _ _ (at-start .pre .0 .well) (omega arith)
     (c .before .class-at .ensures .is) (c .byte-at3 .ensures .0) in (
       h,
-      c .before .before .before .before .before .before .before .before .pre .1,
-      c .before .before .before .before .before .before .before .before .pre .2,
+      at-start .pre .1,
+      at-start .pre .2,
       omega (arith, c .before .class-at .ensures .inside),
       omega arith,
       omega arith,
@@ -35,13 +33,13 @@ row-fits-requires c κs =
 
 returns-2 : tie.Need-returns-2
 returns-2 c =
+    let at-byte-at = c .before .before .before .before .before in
+    let at-start = at-byte-at .before .before .before .before in
     c .row-fits .ensures ∙ rw (c .before .byte-at3 .ensures .0) (law.record-row
-    (c .before .before .before .before .before .before .before .before .before .args .c .now)
-    (c .before .before .before .before .before .before .before .before .before .args .l .now)
-    (c .before .before .before .before .before .before .before .before .before .args .r)
-    (c .before .before .before .before .before .before .before .before .before .args .k) (c .before .before .class-at .result)
-    (c .before .before .class-at .ensures .is ∙ ap (classPlace (c .before .before .before .before .before .before .before .before .before .args .c .now))
-    (c .before .before .before .before .before .byte-at .ensures .0)) (omega arith))
+    _ _
+    _ _ (c .before .before .class-at .result)
+    (c .before .before .class-at .ensures .is ∙ ap (classPlace (at-start .args .code .now))
+    (at-byte-at .byte-at .ensures .0)) (omega arith))
 
 pub record-fits-spec : {M : Type 1} → statement M
 record-fits-spec =

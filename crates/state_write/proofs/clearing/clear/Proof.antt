@@ -1,8 +1,8 @@
--- `clearing::clear` meets its contract. Assumes nothing.
+-- `state_write::clearing::clear` meets its contract. Assumes nothing.
 use borrow.Author.Needs.{needs}
 use native.Mathlib.Omega.{arith}
 use mathlib.Core.Path.{sym, _∙_}
-use Rattle.state_write.proofs.Laws as law
+use Rattle.state_write.proofs.ClearingLaws as law
 use Rattle.state_write.proofs.clearing.clear.Statement.{statement}
 use Rattle.state_write.proofs.clearing.clear.Tie as tie
 
@@ -48,12 +48,14 @@ returns-2 c =
     (sym (at-byte-at .byte-at .ensures .0) ∙ at-if2 .if2 .taken))
 
 wipe-requires : tie.Need-wipe-requires
-wipe-requires c κs = (
-  law.long _ _ (λ i. c .before .before .before .before .before .slice-known .given i .fits)
-      (c .before .before .before .before .before .before .before .before .before .pre .0),
-  omega arith,
-  omega arith,
-)
+wipe-requires c κs =
+    let at-slice-known = c .before .before .before .before .before in
+    let at-start = at-slice-known .before .before .before .before in (
+      law.long _ _ (λ i. at-slice-known .slice-known .given i .fits)
+          (at-start .pre .0),
+      omega arith,
+      omega arith,
+    )
 
 returns-3 : tie.Need-returns-3
 returns-3 c =

@@ -1,39 +1,22 @@
--- `clearing::clear_activations` meets its contract. Assumes nothing.
+-- `state_write::clearing::clear_activations` meets its contract. Assumes nothing. The loop over parts in a row is `Left` in `ClearingLaws`.
 use native.Mathlib.Omega.{arith}
 use mathlib.Core.Path.{_∙_}
-use Rattle.state_write.proofs.Laws as law
+use Rattle.bytecode.specs.State.{activationsAt}
+use Rattle.state_write.proofs.ClearingLaws as law
 use Rattle.state_write.proofs.clearing.clear_activations.Statement.{statement}
 use Rattle.state_write.proofs.clearing.clear_activations.Tie as tie
 
 abbrev Inv-loop : tie.InvT-loop
-Inv-loop c bx l₀ n b₀ left₀ l b left = law.Left (law.activations c) l₀ 32 n l b left
+Inv-loop code bodies state₀ count place₀ left₀ state place left = law.Left (law.activations code) state₀ activationsAt count state place left
 
 abbrev μ-loop : tie.MeasureT-loop
-μ-loop c bx l₀ n b₀ left₀ l b left = left
-
-loop-holds : tie.Need-loop-holds Inv-loop μ-loop
-loop-holds c = law.all-left (c .before .before .before .pre .3)
+μ-loop code bodies state₀ count place₀ left₀ state place left = left
 
 clear-activation-requires : tie.Need-clear-activation-requires Inv-loop μ-loop
-clear-activation-requires c κs = (
-  c .before .before .before .before .before .before .pre .0,
-  c .before .before .loop .inv .long
-      ∙ c .before .before .before .before .before .before .pre .1,
-  omega (arith, law.first-inside (c .before .before .loop .inv) (omega arith)),
-  law.first-below (c .before .before .loop .inv) (omega arith),
-)
-
-add-b : tie.Need-add-b Inv-loop μ-loop
-add-b c = omega (arith, law.first-inside (c .before .before .before .before .before .loop .inv) (omega arith))
-
-loop-again : tie.Need-loop-again Inv-loop μ-loop
-loop-again c = law.one-less (c .before .before .before .before .before .loop .inv) (omega arith) _ (c .before .before .clear-activation .ensures)
-
-same-length : tie.Need-same-length Inv-loop μ-loop
-same-length c = c .before .loop .inv .long
-
-returns : tie.Need-returns Inv-loop μ-loop
-returns c = law.none-left (c .before .loop .inv) (omega arith)
+clear-activation-requires c κs =
+    let I = c .before .before .loop .inv in
+    let pre = c .before .before .before .before .before .before .pre in
+    (pre .0, I .long ∙ pre .1, omega (arith, law.first-inside I (omega arith)), law.first-below I (omega arith))
 
 pub clear-activations-spec : {M : Type 1} → statement M
 clear-activations-spec =
@@ -41,11 +24,11 @@ clear-activations-spec =
     (tie.spec
     Inv-loop
     μ-loop
-    loop-holds
+    (λ c. law.all-left (c .before .before .before .pre .3))
     clear-activation-requires
-    add-b
+    (λ c. omega (arith, law.first-inside (c .before .before .before .before .before .loop .inv) (omega arith)))
     (λ c. omega arith)
     (λ c. omega arith)
-    loop-again
-    same-length
-    returns)
+    (λ c. law.one-less (c .before .before .before .before .before .loop .inv) (omega arith) _ (c .before .before .clear-activation .ensures))
+    (λ c. c .before .loop .inv .long)
+    (λ c. law.none-left (c .before .loop .inv) (omega arith)))

@@ -1,4 +1,4 @@
--- `clearing::clear_header` meets its contract. Assumes nothing.
+-- `state_write::clearing::clear_header` meets its contract. Assumes nothing.
 use borrow.Author.Needs.{needs}
 use Rattle.state_write.proofs.clearing.clear_header.Statement.{statement}
 use Rattle.state_write.proofs.clearing.clear_header.Tie as tie

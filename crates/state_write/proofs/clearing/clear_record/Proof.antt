@@ -1,17 +1,19 @@
--- `clearing::clear_record` meets its contract. Assumes nothing.
+-- `state_write::clearing::clear_record` meets its contract. Assumes nothing.
 use borrow.Author.Needs.{needs}
 use native.Mathlib.Omega.{arith}
-use Rattle.state_write.proofs.Laws as law
+use Rattle.state_write.proofs.ClearingLaws as law
 use Rattle.state_write.proofs.clearing.clear_record.Statement.{statement}
 use Rattle.state_write.proofs.clearing.clear_record.Tie as tie
 
 returns : tie.Need-returns
 returns c =
-    law.record-cleared (c .before .before .before .before .before .before .before .before .before .before .before .args .c .now)
-    (c .before .before .before .before .before .before .before .before .before .before .before .args .l .now)
-    (c .before .before .before .before .before .before .before .before .before .before .before .args .b)
-    (c .before .before .before .before .before .before .byte-at .ensures .0) (omega arith)
-    (c .before .before .before .before .before .class-at .ensures .is) (c .before .before .before .before .byte-at2 .ensures .0) (c .before .before .wipe-record .ensures)
+    let at-byte-at2 = c .before .before .before .before in
+    let at-class-at = at-byte-at2 .before in
+    let at-byte-at = at-class-at .before in
+    law.record-cleared _ _
+    _
+    (at-byte-at .byte-at .ensures .0) (omega arith)
+    (at-class-at .class-at .ensures .is) (at-byte-at2 .byte-at2 .ensures .0) (c .before .before .wipe-record .ensures)
 
 pub clear-record-spec : {M : Type 1} → statement M
 clear-record-spec =

@@ -1,4 +1,4 @@
--- `clearing::clear_room` meets its contract. Assumes nothing.
+-- `state_write::clearing::clear_room` meets its contract. Assumes nothing.
 use borrow.Author.Needs.{needs}
 use Rattle.state_write.proofs.clearing.clear_room.Statement.{statement}
 use Rattle.state_write.proofs.clearing.clear_room.Tie as tie

@@ -1,4 +1,4 @@
--- `clearing::wipe_activation` meets its contract. Assumes nothing.
+-- `state_write::clearing::wipe_activation` meets its contract. Assumes nothing.
 use borrow.Author.Needs.{needs}
 use Rattle.state_write.proofs.clearing.wipe_activation.Statement.{statement}
 use Rattle.state_write.proofs.clearing.wipe_activation.Tie as tie

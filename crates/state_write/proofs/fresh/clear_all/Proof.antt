@@ -1,4 +1,4 @@
--- `fresh::clear_all` meets its contract. Assumes nothing.
+-- `state_write::fresh::clear_all` meets its contract. Assumes nothing.
 use native.Mathlib.Omega.{arith}
 use mathlib.Core.Path.{_≡_, sym, _∙_}
 use Prim.Native.Nat.{ℕ, _-_, _≤_, _<_}
@@ -8,10 +8,10 @@ use Rattle.state_write.proofs.fresh.clear_all.Statement.{statement}
 use Rattle.state_write.proofs.fresh.clear_all.Tie as tie
 
 abbrev Inv-loop : tie.InvT-loop
-Inv-loop l₀ i₀ l i = (i ≤ 24576) × (length l ≡ 24576) × ((k : ℕ) → k < i → getD l k 0 ≡ 0)
+Inv-loop state₀ i₀ state i = (i ≤ 24576) × (length state ≡ 24576) × ((k : ℕ) → k < i → getD state k 0 ≡ 0)
 
 abbrev μ-loop : tie.MeasureT-loop
-μ-loop l₀ i₀ l i = 24576 - i
+μ-loop state₀ i₀ state i = 24576 - i
 
 loop-holds : tie.Need-loop-holds Inv-loop μ-loop
 loop-holds c = (omega arith, c .pre, λ k p. absurd (omega arith))
@@ -19,8 +19,8 @@ loop-holds c = (omega arith, c .pre, λ k p. absurd (omega arith))
 loop-again : tie.Need-loop-again Inv-loop μ-loop
 loop-again c = (
   omega arith,
-  length-set {A = ℕ} (c .before .loop .l) (c .before .loop .i) 0 ∙ c .before .loop .inv .1,
-  cleared-more (c .before .loop .l) (c .before .loop .i) (omega arith) (c .before .loop .inv .2),
+  length-set {A = ℕ} (c .before .loop .state) (c .before .loop .i) 0 ∙ c .before .loop .inv .1,
+  cleared-more (c .before .loop .state) (c .before .loop .i) (omega arith) (c .before .loop .inv .2),
 )
 
 same-length : tie.Need-same-length Inv-loop μ-loop

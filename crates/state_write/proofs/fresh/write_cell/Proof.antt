@@ -1,6 +1,5 @@
--- `fresh::write_cell` meets its contract. Assumes nothing.
+-- `state_write::fresh::write_cell` meets its contract. Assumes nothing.
 use borrow.Author.Needs.{needs}
-use Prim.Native.Nat.{_-_}
 use Rattle.state_write.proofs.fresh.write_cell.Statement.{statement}
 use Rattle.state_write.proofs.fresh.write_cell.Tie as tie
 

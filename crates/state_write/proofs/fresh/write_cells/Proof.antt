@@ -1,4 +1,4 @@
--- `fresh::write_cells` meets its contract. Assumes nothing.
+-- `state_write::fresh::write_cells` meets its contract. Assumes nothing.
 use native.Mathlib.Omega.{arith}
 use mathlib.Core.Path.{_≡_, sym, ap, _∙_}
 use Prim.Native.Nat.{ℕ, _-_, _≤_}
@@ -10,10 +10,10 @@ use Rattle.state_write.proofs.fresh.write_cells.Statement.{statement}
 use Rattle.state_write.proofs.fresh.write_cells.Tie as tie
 
 abbrev Inv-loop : tie.InvT-loop
-Inv-loop c q l₀ n j₀ l j = (j ≤ n) × (l ≡ encode (freshWith c q j))
+Inv-loop code place state₀ count j₀ state j = (j ≤ count) × (state ≡ encode (freshWith code place j))
 
 abbrev μ-loop : tie.MeasureT-loop
-μ-loop c q l₀ n j₀ l j = n - j
+μ-loop code place state₀ count j₀ state j = count - j
 
 loop-holds : tie.Need-loop-holds Inv-loop μ-loop
 loop-holds c = (omega arith, c .before .before .pre .3)
@@ -22,15 +22,17 @@ write-cell-requires : tie.Need-write-cell-requires Inv-loop μ-loop
 write-cell-requires c κs = (ap length (c .before .before .before .loop .inv .1) ∙ length-encode _, omega arith)
 
 loop-again : tie.Need-loop-again Inv-loop μ-loop
-loop-again c = (
-  omega arith,
-  c .before .before .write-cell .ensures ∙ rw (c .before .before .before .before .before .before .loop .inv .1)
-      (fresh-next (c .before .before .before .before .before .before .before .before .before .args .c .now)
-      (c .before .before .before .before .before .before .before .before .before .args .q)
-      (c .before .before .before .before .before .before .before .before .before .args .n) (c .before .before .before .before .before .before .loop .j)
-      (c .before .before .before .before .before .before .before .before .before .pre .2) (omega arith)
-      (c .before .before .before .before .before .before .before .before .before .pre .1)),
-)
+loop-again c =
+    let at-loop = c .before .before .before .before .before .before in
+    let at-start = at-loop .before .before .before in (
+      omega arith,
+      c .before .before .write-cell .ensures ∙ rw (at-loop .loop .inv .1)
+          (fresh-next (at-start .args .code .now)
+          (at-start .args .place)
+          (at-start .args .count) (at-loop .loop .j)
+          (at-start .pre .2) (omega arith)
+          (at-start .pre .1)),
+    )
 
 same-length : tie.Need-same-length Inv-loop μ-loop
 same-length c =
@@ -39,8 +41,9 @@ same-length c =
 
 returns : tie.Need-returns Inv-loop μ-loop
 returns c =
-    c .before .loop .inv .1 ∙ ap (λ (k : ℕ). encode (freshWith (c .before .before .before .before .args .c .now)
-    (c .before .before .before .before .args .q) k)) (let z : c .before .loop .j ≡ c .before .before .before .before .args .n = omega arith in z)
+    let at-start = c .before .before .before .before in
+    c .before .loop .inv .1 ∙ ap (λ (k : ℕ). encode (freshWith (at-start .args .code .now)
+    (at-start .args .place) k)) (let z : c .before .loop .j ≡ at-start .args .count = omega arith in z)
 
 pub write-cells-spec : {M : Type 1} → statement M
 write-cells-spec =

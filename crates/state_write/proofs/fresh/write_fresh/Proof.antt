@@ -1,7 +1,6 @@
--- `fresh::write_fresh` meets its contract. Assumes nothing.
+-- `state_write::fresh::write_fresh` meets its contract. Assumes nothing.
 use borrow.Author.Needs.{needs}
 use mathlib.Core.Path.{sym, ap, _∙_}
-use Prim.Native.Nat.{_-_}
 use lib.ListN.{length}
 use Rattle.bytecode_layout.specs.Parts.{length-encode}
 use Rattle.state_write.specs.Fresh.{fresh-none}
@@ -11,7 +10,7 @@ use Rattle.state_write.proofs.fresh.write_fresh.Tie as tie
 write-cells-requires : tie.Need-write-cells-requires
 write-cells-requires c κs =
     let at-start = c .before .before .before .before .before .before .before in
-    (at-start .pre .0, at-start .pre .1, at-start .pre .2, rw (c .before .before .before .clear-all .ensures) (fresh-none (at-start .args .c .now) (at-start .args .q)))
+    (at-start .pre .0, at-start .pre .1, at-start .pre .2, rw (c .before .before .before .clear-all .ensures) (fresh-none (at-start .args .code .now) (at-start .args .place)))
 
 same-length : tie.Need-same-length
 same-length c =

@@ -15,10 +15,7 @@ use Rattle.load_check.specs.Lookups.{class-of}
 use Rattle.state_sound.specs.Each.{each}
 use Rattle.state_sound.specs.Fits.{frameAt, entryAt, bodyIn, depthIn, openIn, addressIn, classIn, pointsTo, valueFits, valueIn, rowFits, recordFits, calls, frameFits}
 use Rattle.state_sound.specs.Fits.{held, groupsFit, runningFits, plainFits}
-
--- a test of what is equal to something else
-pub not-is : {a b : ℕ} → a ≡ b → (k : ℕ) → (a ≡ k → ⊥) → b ≡ k → ⊥
-not-is e k n q = n (e ∙ q)
+use Rattle.bytecode.specs.State.{cellTypesAt, cellWordsAt, holdsAt, recordLength, recordsAt}
 
 -- what was read at a place that is another's
 pub at-address : (f : ℕ → ℕ) {x i a : ℕ} → i ≡ a → x ≡ f i → x ≡ f a
@@ -45,7 +42,7 @@ module _ (l : List ℕ) (r t w : ℕ) where
     unfolding pointsTo
     points-past h = simp (ne-eqb w 0 n, le-ltb (w - 1) r h)
 
-    pub points-made : w - 1 < r → eqb (byteAt l (11040 + 44 * (w - 1))) (t - 16) ≡ pointsTo l r t w
+    pub points-made : w - 1 < r → eqb (byteAt l (recordsAt + recordLength * (w - 1))) (t - 16) ≡ pointsTo l r t w
     unfolding pointsTo
     points-made h = simp (ne-eqb w 0 n, lt-ltb (w - 1) r h)
 
@@ -139,7 +136,7 @@ module _ (c l : List ℕ) (r n k : ℕ) where
             unfolding frameFits
             frame-6 i = simp (lt-ltb (bodyIn l k) (bodies c) a, cells, le-leb (depthIn l k) 32 d, le-leb (openIn l k) 16 f, lt-ltb (addressIn l k) (count c) g, i)
 
-            pub frame-7 : calls c l n k ≡ true → rowFits c l r c (q + 7) (frameAt k + 264) (frameAt k + 8) (byteAt c (q + 6)) ≡ frameFits c l r n k
+            pub frame-7 : calls c l n k ≡ true → rowFits c l r c (q + 7) (frameAt k + cellTypesAt) (frameAt k + cellWordsAt) (byteAt c (q + 6)) ≡ frameFits c l r n k
             unfolding frameFits
             frame-7 i = rw e (simp (lt-ltb (bodyIn l k) (bodies c) a, cells, le-leb (depthIn l k) 32 d, le-leb (openIn l k) 16 f, lt-ltb (addressIn l k) (count c) g, i))
 
@@ -152,7 +149,7 @@ pub held-end : (l : List ℕ) (n k s : ℕ) → k ≤ n → n ≤ k → s ≡ he
 held-end l n k s a b e = e ∙ ap (held l) (let z : k ≡ n = omega arith in z)
 
 abbrev pub groupAt : List ℕ → ℕ → Bool
-groupAt l j = leb (byteAt l (10528 + j)) 63
+groupAt l j = leb (byteAt l (holdsAt + j)) 63
 
 pub held-more : (l : List ℕ) (k s : ℕ) → s ≡ held l k → s + openIn l k ≡ held l (k + 1)
 unfolding held

@@ -5,8 +5,9 @@ use Prim.Native.Nat.{ℕ, suc, _+_, _*_, _-_, _≤_, _<_}
 use native.Mathlib.Omega.{arith}
 use native.Mathlib.Numerals.{add-one}
 use Rattle.words.specs.Numbers.{byteAt, wordAt}
-use Rattle.machine_frames.specs.Bytes.{popped, cellSet, fieldSet}
-use Rattle.machine_ops.specs.Moves.{dropped, filled, fielded, begun}
+use Rattle.machine_frames.specs.Bytes.{popped, valued, cellSet}
+use Rattle.machine_ops.specs.Moves.{dropped, filled, begun}
+use Rattle.bytecode.specs.State.{operandWordsAt, operandTypesAt}
 
 pub drop-begin : (l : List ℕ) (f n c : ℕ) → c ≤ n → dropped l f n c ≡ dropped l f n (n - (n - c))
 drop-begin l f n c h = ap (dropped l f n) (omega arith)
@@ -23,23 +24,14 @@ drop-end l m f n c j h e =
     let s : j - (n - c) ≡ 0 = omega arith in
     sym (e ∙ rw s)
 
-pub fill-none : (l : List ℕ) (f k g : ℕ) → l ≡ filled l f k g 0
+pub fill-none : (l : List ℕ) (f k p q : ℕ) → l ≡ filled l f k p q 0
 unfolding filled
-fill-none l f k g = refl
+fill-none l f k p q = refl
 
-pub fill-next : (l m m′ : List ℕ) (f k g j w t : ℕ) → m ≡ filled l f k g j → w ≡ wordAt m (f + (136 + 4 * (k + j))) → t ≡ byteAt m (f + (296 + (k + j))) → m′ ≡ cellSet m g j w t
-    → m′ ≡ filled l f k g (j + 1)
+pub fill-next : (l m m′ : List ℕ) (f k p q j w t : ℕ) → m ≡ filled l f k p q j → w ≡ wordAt m (f + (operandWordsAt + 4 * (k + j)))
+    → t ≡ byteAt m (f + (operandTypesAt + (k + j))) → m′ ≡ valued m (p + 4 * j) (q + j) w t → m′ ≡ filled l f k p q (j + 1)
 unfolding filled
-fill-next l m m′ f k g j w t e ew et em = rw (add-one j, ← e, ← ew, ← et) em
-
-pub field-none : (l : List ℕ) (f k r : ℕ) → l ≡ fielded l f k r 0
-unfolding fielded
-field-none l f k r = refl
-
-pub field-next : (l m m′ : List ℕ) (f k r j w t : ℕ) → m ≡ fielded l f k r j → w ≡ wordAt m (f + (136 + 4 * (k + j))) → t ≡ byteAt m (f + (296 + (k + j))) → m′ ≡ fieldSet m r j w t
-    → m′ ≡ fielded l f k r (j + 1)
-unfolding fielded
-field-next l m m′ f k r j w t e ew et em = rw (add-one j, ← e, ← ew, ← et) em
+fill-next l m m′ f k p q j w t e ew et em = rw (add-one j, ← e, ← ew, ← et) em
 
 pub begin-next : (code l m k : List ℕ) (q g p c j : ℕ) → j < c → begun code q l g p (c - p) ≡ begun code q m g j (c - j) → k ≡ cellSet m g j 0 (byteAt code (q + j))
     → begun code q l g p (c - p) ≡ begun code q k g (j + 1) (c - (j + 1))

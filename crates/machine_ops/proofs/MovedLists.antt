@@ -2,7 +2,7 @@
 use mathlib.Core.Path.{_≡_, refl, sym, ap, _∙_}
 use mathlib.Core.List.{List, [], _∷_, _++_, reverse, reverse-cons, append-assoc, append-nil}
 use mathlib.Core.Option.{some}
-use Prim.Native.Nat.{ℕ, suc, _+_, _-_, _≤_, _<_}
+use Prim.Native.Nat.{ℕ, suc, _+_, _*_, _-_, _≤_, _<_}
 use native.Mathlib.Omega.{arith}
 use lib.ListN.{length, getElem?, length-append, length-reverse}
 use lib.ListN.{set as replace}
@@ -11,13 +11,13 @@ use Rattle.words.specs.Numbers.{byteAt}
 use Rattle.values.specs.Types.{Ty, integer, logical, bits, reference, tyByte}
 use Rattle.values.specs.Values.{Value, Cell, assigned, initial, fresh, freshAll}
 use Rattle.bytecode.specs.Machine.{Activation, Made, Shared, assignAll}
-use Rattle.bytecode.specs.State.{typeByte}
+use Rattle.bytecode.specs.State.{typeByte, recordsAt, recordLength, cellWordsAt, cellTypesAt, fieldWordsAt, fieldTypesAt}
 use Rattle.bytecode_layout.specs.Places.{framePlace}
 use Rattle.bytecode_layout.specs.Steps.{activation}
 use Rattle.bytecode_layout.specs.Records.{made}
 use Rattle.machine_frames.specs.Bytes.{popped, cellSet}
 use Rattle.machine_frames.specs.On.{On, on-pop, on-cell-next, on-field-next, read-operand}
-use Rattle.machine_ops.specs.Moves.{dropped, filled, fielded, begun}
+use Rattle.machine_ops.specs.Moves.{dropped, filled, begun}
 
 -- ── lists ──
 pub assign-append : (vs ws : List Value) → assignAll (vs ++ ws) ≡ assignAll vs ++ assignAll ws
@@ -65,7 +65,7 @@ on-drop us (v ∷ vs) l f n p e h =
 module _ {rs : Shared} {t : Activation} {fs : List Activation} (b i : ℕ) (us : List Value) (f g k : ℕ) (below : f ≡ framePlace (length fs))
     (count : k ≡ length us) (few : length (t .operands) ≤ 32) where
   pub on-fill : (vs ws : List Value) (l : List ℕ) → t .operands ≡ ws ++ (vs ++ us) → On l g rs [] (activation b i [] [] []) (t ∷ fs)
-      → On (filled l f k g (length vs)) g rs [] (activation b i (assignAll (reverse vs)) [] []) (t ∷ fs)
+      → On (filled l f k (g + cellWordsAt) (g + cellTypesAt) (length vs)) g rs [] (activation b i (assignAll (reverse vs)) [] []) (t ∷ fs)
   unfolding filled assignAll
   on-fill [] ws l e p = p
   on-fill (v ∷ vs) ws l e p =
@@ -75,13 +75,16 @@ module _ {rs : Shared} {t : Activation} {fs : List Activation} (b i : ℕ) (us :
       let h : k + length vs < 32 = omega (arith, ap length e, length-append ws (v ∷ (vs ++ us))) in
       let rd = read-operand (below-top q f below) ws v (vs ++ us) (k + length vs) e n h in
       let c : length vs ≡ length (assignAll (reverse vs)) = sym (assign-length (reverse vs) ∙ length-reverse vs) in
-      rw (one-more v vs) (on-cell-next v _ _ (rd .0) (rd .1) q (length vs) c (omega arith))
+      let words : g + cellWordsAt + 4 * length vs ≡ g + (cellWordsAt + 4 * length vs) = omega arith in
+      let types : g + cellTypesAt + length vs ≡ g + (cellTypesAt + length vs) = omega arith in
+      rw (one-more v vs, words, types) (on-cell-next v _ _ (rd .0) (rd .1) q (length vs) c (omega arith))
 
 -- ── fields moved ──
 module _ {t : Activation} {fs : List Activation} (rs : List Made) (c : ℕ) (us : List Value) (f k : ℕ) (room : length rs < 256) (count : k ≡ length us) (few : length (t .operands) ≤ 32) where
   pub on-fields : (vs ws : List Value) (l : List ℕ) → t .operands ≡ ws ++ (vs ++ us) → length vs ≤ 8 → On l f (record { records = rs ++ (made c [] ∷ []) }) [] t fs
-      → On (fielded l f k (length rs) (length vs)) f (record { records = rs ++ (made c (reverse vs) ∷ []) }) [] t fs
-  unfolding fielded
+      → On (filled l f k (recordsAt + recordLength * length rs + fieldWordsAt) (recordsAt + recordLength * length rs + fieldTypesAt) (length vs)) f
+      (record { records = rs ++ (made c (reverse vs) ∷ []) }) [] t fs
+  unfolding filled
   on-fields [] ws l e s p = p
   on-fields (v ∷ vs) ws l e s p =
       let e′ : t .operands ≡ (ws ++ (v ∷ [])) ++ (vs ++ us) = e ∙ sym (append-assoc ws (v ∷ []) (vs ++ us)) in
@@ -90,7 +93,10 @@ module _ {t : Activation} {fs : List Activation} (rs : List Made) (c : ℕ) (us 
       let h : k + length vs < 32 = omega (arith, ap length e, length-append ws (v ∷ (vs ++ us))) in
       let rd = read-operand q ws v (vs ++ us) (k + length vs) e n h in
       let x = on-field-next q v _ _ (rd .0) (rd .1) (length rs) c (reverse vs) (length vs) (last-there rs (made c (reverse vs))) room (sym (length-reverse vs)) (omega arith) in
-      rw (reverse-cons v vs, ← last-replaced rs (made c (reverse vs)) (made c (reverse vs ++ (v ∷ [])))) x
+      let at = recordsAt + recordLength * length rs in
+      let words : at + fieldWordsAt + 4 * length vs ≡ at + (fieldWordsAt + 4 * length vs) = omega arith in
+      let types : at + fieldTypesAt + length vs ≡ at + (fieldTypesAt + length vs) = omega arith in
+      rw (words, types, reverse-cons v vs, ← last-replaced rs (made c (reverse vs)) (made c (reverse vs ++ (v ∷ [])))) x
 
 -- ── cells begun: of types ts, whose bytes stand from j on ──
 abbrev pub TypesAt : List ℕ → ℕ → ℕ → List Ty → Type 0

@@ -26,7 +26,7 @@ use Rattle.machine_ops.specs.Acts.{Are, outOf, eventOf}
 use Rattle.machine_run.specs.declared.Answer.the-variants.{Happens, Spends, Finishes}
 use Rattle.machine_run.specs.Held.{Held, Steps, Runs, Reaches}
 use Rattle.machine_run.specs.Held as held
-use Rattle.machine_run.proofs.Stepping.{in-ended}
+use Rattle.machine_run.proofs.ByteSteps.{in-ended}
 
 pub begin : (code readings l : List ℕ) (k : ℕ) → Reaches code readings k l l 0
 begin code readings l k m r w s S e = record { state = s; sounds = S; bytes = e; same = ap (λ (j : ℕ). steps m (bankOf readings) j 0 s) (omega arith) }

@@ -25,7 +25,8 @@ use Rattle.machine_ops.specs.declared.Event.the-variants.{Set, Hold, Rel
 use Rattle.machine_ops.specs.declared.Out.{Out}
 use Rattle.machine_ops.specs.declared.Out.the-variants.{Goes, Gives, Ends}
 use Rattle.machine_ops.specs.Acts.{here, Now, Told, Tells, Jumps, Holding}
-use Rattle.machine_ops.proofs.Facts.{never, stands, few-records, integer-small, in-range, below-range, above-range, demanded, goes-to, goes-on}
+use Rattle.machine_ops.proofs.RunningFacts.{never, stands, few-records, integer-small, in-range, below-range, above-range, demanded, goes-to, goes-on}
+use Rattle.bytecode.specs.State.{holdsAt, operandWordsAt}
 
 and-no : (b : Bool) → (b && false) ≡ false
 and-no true = refl
@@ -36,7 +37,7 @@ module _ {l : List ℕ} {f n i : ℕ} where
   pub go-tells : (b : ℕ) (k : List ℕ) → k ≡ wentTo l f b → Jumps b l f n i k Goes
   go-tells b k e m rs t fs N = record { are = (goes-to (N .on) k b b e refl, refl) }
 
-  module _ (some-operand : 0 < n) (many : n ≤ 32) (w : ℕ) (ew : w ≡ wordAt l (f + (136 + 4 * (n - 1)))) where
+  module _ (some-operand : 0 < n) (many : n ≤ 32) (w : ℕ) (ew : w ≡ wordAt l (f + (operandWordsAt + 4 * (n - 1)))) where
     -- with w the word of v on top of vs
     word-on : {m : Macro} {rs : Shared} {c0 a0 : ℕ} {cs : List Cell} {v : Value} {vs : List Value} {gs : List ℕ} {fs : List Activation}
         → Now m l f n i rs (activation c0 a0 cs (v ∷ vs) gs) fs → w ≡ valueWord v
@@ -129,7 +130,7 @@ module _ {l : List ℕ} {f n i : ℕ} where
         rw (q .0) (goes-on (activation c0 a0 cs (int z ∷ vs) gs) (reading (size z) (bankOf readings (size z)) ∷ []) Goes p k2 (i + 1) (e2 ∙ rw e1) (omega (arith, N .address)) refl))
 
   -- ── set ──
-  module _ (two-operands : 2 ≤ n) (many : n ≤ 32) (x y : ℕ) (ey : y ≡ wordAt l (f + (136 + 4 * (n - 1)))) (ex : x ≡ wordAt l (f + (136 + 4 * (n - 2)))) where
+  module _ (two-operands : 2 ≤ n) (many : n ≤ 32) (x y : ℕ) (ey : y ≡ wordAt l (f + (operandWordsAt + 4 * (n - 1)))) (ex : x ≡ wordAt l (f + (operandWordsAt + 4 * (n - 2)))) where
     set-by : (k : List ℕ) (r : Out)
         → ((m : Macro) (rs : Shared) (c0 a0 : ℕ) (cs : List Cell) (u z : ℤ) (vs : List Value) (gs : List ℕ) (fs : List Activation) → Now m l f n i rs (activation c0 a0 cs (int u ∷ (int z ∷ vs)) gs) fs
         → x ≡ wordOf z → y ≡ wordOf u
@@ -182,7 +183,7 @@ module _ {l : List ℕ} {f n i : ℕ} where
       let p = on-take g (N .on) (h .all-few) in
       demanded (ltb (length (t .holds)) 16) badFrame _ (λ q. record { are = (goes-to p k2 (i + 1) (suc (t .address)) (e2 ∙ rw e1) (omega (arith, N .address)), refl) })
 
-  pub release-tells : (h g : ℕ) (k1 k2 : List ℕ) → h ≡ halfAt l 6 → 0 < h → h ≤ 512 → g ≡ byteAt l (10528 + (h - 1)) → k1 ≡ holdLet l f → k2 ≡ wentTo k1 f (i + 1)
+  pub release-tells : (h g : ℕ) (k1 k2 : List ℕ) → h ≡ halfAt l 6 → 0 < h → h ≤ 512 → g ≡ byteAt l (holdsAt + (h - 1)) → k1 ≡ holdLet l f → k2 ≡ wentTo k1 f (i + 1)
       → Tells (λ m h. letting (h .top .holds) h) l f n i k2 (Gives (Release g))
   unfolding allHolds
   release-tells h g k1 k2 eh low high eg e1 e2 m rs t fs N = go (t .body) (t .address) (t .cells) (t .operands) (t .holds) N
@@ -192,7 +193,7 @@ module _ {l : List ℕ} {f n i : ℕ} where
       go c0 a0 cs vs [] N = record { are = tt }
       go c0 a0 cs vs (x ∷ gs) N =
           let c : halfAt l 6 ≡ suc (length (gs ++ allHolds fs)) = read-holds (N .on) in
-          let x′ : byteAt l (10528 + (h - 1)) ≡ x = read-group (N .on) [] x (gs ++ allHolds fs) (h - 1) refl (omega arith) (omega arith) in
+          let x′ : byteAt l (holdsAt + (h - 1)) ≡ x = read-group (N .on) [] x (gs ++ allHolds fs) (h - 1) refl (omega arith) (omega arith) in
           let p = on-let x (N .on) (omega arith) in
           record { are = (goes-to p k2 (i + 1) (suc a0) (e2 ∙ rw e1) (omega (arith, N .address)), ap (λ (z : ℕ). Gives (Release z)) (eg ∙ x′)) }
 

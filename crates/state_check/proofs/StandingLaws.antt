@@ -14,7 +14,8 @@ use Rattle.state_sound.specs.Each.{each, each-alike, each-none, each-all}
 use Rattle.state_sound.specs.Fits.{frameAt, bodyIn, depthIn, openIn, addressIn, takenIn, operandsIn, valueIn, rowFits, standsIn, stands, activationsIn}
 use Rattle.state_check.specs.Inspecting.{recordsIn}
 use Rattle.state_check.specs.Tested.{argsFit, standing, fitBefore, Upto}
-use Rattle.state_check.proofs.Rows.{by-test, alike-rows, each-and}
+use Rattle.state_check.proofs.TypeRows.{by-test, alike-rows, each-and}
+use Rattle.bytecode.specs.State.{operandTypesAt, operandWordsAt}
 
 -- ── the arguments ──
 module _ (c l : List ℕ) (n k : ℕ) (st : List ℕ) (a d : ℕ) where
@@ -50,18 +51,18 @@ module _ (c l : List ℕ) (r n k b : ℕ) (st : List ℕ) (h d : ℕ) where
       abbrev args : Bool
       args = argsFit c l n k st (depthIn l k) d
 
-      together : cond (alike (operandsIn c l n k) (tops st 0 d)) (each (valueIn c l r (frameAt k + 296) (frameAt k + 136)) 0 (depthIn l k)) false
-          ≡ cond args (rowFits c l r st 0 (frameAt k + 296) (frameAt k + 136) (depthIn l k)) false
+      together : cond (alike (operandsIn c l n k) (tops st 0 d)) (each (valueIn c l r (frameAt k + operandTypesAt) (frameAt k + operandWordsAt)) 0 (depthIn l k)) false
+          ≡ cond args (rowFits c l r st 0 (frameAt k + operandTypesAt) (frameAt k + operandWordsAt) (depthIn l k)) false
       unfolding argsFit rowFits
       together =
           rw (
-            alike-rows c l st (bodyPlace c (bodyIn l (k + 1)) + 7) (takenIn c l n k) (frameAt k + 296) (depthIn l k) d,
-            ← each-and (λ j. eqb (byteAt l (frameAt k + 296 + j)) (byteAt st (0 + j))) (valueIn c l r (frameAt k + 296) (frameAt k + 136)) (depthIn l k) 0,
+            alike-rows c l st (bodyPlace c (bodyIn l (k + 1)) + 7) (takenIn c l n k) (frameAt k + operandTypesAt) (depthIn l k) d,
+            ← each-and (λ j. eqb (byteAt l (frameAt k + operandTypesAt + j)) (byteAt st (0 + j))) (valueIn c l r (frameAt k + operandTypesAt) (frameAt k + operandWordsAt)) (depthIn l k) 0,
           )
           (by-test (eqb (depthIn l k + takenIn c l n k) d) (λ p. rw p (turn
           (each (λ j. eqb (byteAt c (bodyPlace c (bodyIn l (k + 1)) + 7 + j)) (byteAt st (depthIn l k + j))) 0 (takenIn c l n k))
-          (each (λ j. eqb (byteAt l (frameAt k + 296 + j)) (byteAt st (0 + j))) 0 (depthIn l k))
-          (each (valueIn c l r (frameAt k + 296) (frameAt k + 136)) 0 (depthIn l k)))) (λ p. rw p))
+          (each (λ j. eqb (byteAt l (frameAt k + operandTypesAt + j)) (byteAt st (0 + j))) 0 (depthIn l k))
+          (each (valueIn c l r (frameAt k + operandTypesAt) (frameAt k + operandWordsAt)) 0 (depthIn l k)))) (λ p. rw p))
         where
           turn : (x y z : Bool) → cond (x && y) z false ≡ cond x (y && z) false
           turn true true z = refl
@@ -72,7 +73,7 @@ module _ (c l : List ℕ) (r n k b : ℕ) (st : List ℕ) (h d : ℕ) where
       unfolding standsIn
       stands-3 g = rw (eq-eqb (bodyIn l k) b e, eq-eqb (openIn l k) h f, together, g)
 
-      pub stands-4 : args ≡ true → rowFits c l r st 0 (frameAt k + 296) (frameAt k + 136) (depthIn l k) ≡ standsIn c l r n k b h (tops st 0 d)
+      pub stands-4 : args ≡ true → rowFits c l r st 0 (frameAt k + operandTypesAt) (frameAt k + operandWordsAt) (depthIn l k) ≡ standsIn c l r n k b h (tops st 0 d)
       unfolding standsIn
       stands-4 g = rw (eq-eqb (bodyIn l k) b e, eq-eqb (openIn l k) h f, together, g)
 

@@ -28,7 +28,8 @@ use Rattle.state_check.specs.declared.inspection.Inspected.{Inspected}
 use Rattle.state_check.specs.declared.inspection.Inspected.the-variants.{Sound, Unsound, Refused}
 use Rattle.state_check.specs.Tested.{Counted, fitBefore}
 use Rattle.state_check.specs.Inspecting.{recordsIn, shortOf, Tells, Sees, Held, NotHeld, Inspects}
-use Rattle.state_check.proofs.Rows.{by-test}
+use Rattle.state_check.proofs.TypeRows.{by-test}
+use Rattle.bytecode.specs.State.{stateLength}
 
 -- ── a running state that passes ──
 pub record Running (c l : List ℕ) (n r : ℕ) : Type 0 where
@@ -71,19 +72,19 @@ wanted c l true n r e a b =
     (λ z. let a′ : n ≡ 0 = rw z at a in let b′ : r ≡ 0 = rw z at b in
     record { few = omega arith; small = omega arith; frames = λ k q. absurd (omega arith) })
 
-pub counted : (c l : List ℕ) (n r : ℕ) → length l ≡ 24576 → Running c l n r → Counted c l n
+pub counted : (c l : List ℕ) (n r : ℕ) → length l ≡ stateLength → Running c l n r → Counted c l n
 counted c l n r e R = record { long = e; few = R .few; of-bodies = λ k p. R .frames k p .0 }
 
 -- all activations stand at addresses of the code
 all-before : (c l : List ℕ) (r n : ℕ) → Running c l n r → fitBefore c l r n (count c) ≡ each (stands c l r n) 0 n
 all-before c l r n R = each-alike _ _ n (λ k p. rw (lt-ltb (addressIn l k) (count c) (R .frames k p .1)))
 
-pub sound-is : (c l : List ℕ) → length l ≡ 24576 → (p ok : Bool) (n r : ℕ) → p ≡ plainFits c l → n ≡ cond p (activationsIn l) 0 → r ≡ cond p (recordsIn l) 0
+pub sound-is : (c l : List ℕ) → length l ≡ stateLength → (p ok : Bool) (n r : ℕ) → p ≡ plainFits c l → n ≡ cond p (activationsIn l) 0 → r ≡ cond p (recordsIn l) 0
     → ok ≡ fitBefore c l r n (count c) → (p && ok) ≡ soundBytes c l
 unfolding soundBytes
-sound-is c l long false ok n r e a b f = rw (eq-eqb (length l) 24576 long, ← e)
+sound-is c l long false ok n r e a b f = rw (eq-eqb (length l) stateLength long, ← e)
 sound-is c l long true ok n r e a b f =
-    rw (eq-eqb (length l) 24576 long, ← e)
+    rw (eq-eqb (length l) stateLength long, ← e)
     (f ∙ all-before c l r n (wanted c l true n r e a b) ∙ by-test (eqb (byteAt l 0) 0)
     (λ z. let a′ : n ≡ byteAt l 2 = rw z at a in let b′ : r ≡ halfAt l 4 = rw z at b in rw (a′, b′, z))
     (λ z. let a′ : n ≡ 0 = rw z at a in rw (a′, z) (each-none _ ∙ sym (each-none _))))
@@ -123,11 +124,11 @@ module _ (c l : List ℕ) where
       let a = accepts (t .0) in not-held (a .0) (a .1) (soundState (a .0) l) refl (sounds c (a .0) (a .1) l B ∙ t .1)
   told B bx cx (Refused n k) t = refuses n k t
 
-  short : (m : Macro) → (length l ≡ 24576 → ⊥) → soundState m l ≡ none
+  short : (m : Macro) → (length l ≡ stateLength → ⊥) → soundState m l ≡ none
   unfolding soundState
-  short m n = rw (ne-eqb (length l) 24576 n)
+  short m n = rw (ne-eqb (length l) stateLength n)
 
-  pub told-short : (length l ≡ 24576 → ⊥) → (bx cx : List ℕ) (x : Inspected) → Sees c x → Inspects c l bx cx x
+  pub told-short : (length l ≡ stateLength → ⊥) → (bx cx : List ℕ) (x : Inspected) → Sees c x → Inspects c l bx cx x
   told-short n bx cx (Sound base) t = absurd t
   told-short n bx cx Unsound t = let a = accepts t in record { macro = a .0; passes = a .1; unsound = short (a .0) n }
   told-short n bx cx (Refused i p) t = refuses i p t

@@ -125,91 +125,95 @@ equality-says f x y t (reference c) (reference d) e h k =
     rw (e, n) (references f x y c d)
 
 -- ── by number ──
-module _ (n t x y : ℕ) (r : Worked) where
+-- the operator's number, the type byte of the left operand, the words of both, and their integers
+pub record Operands (n t x y : ℕ) (a b : ℤ) : Type 0 where
+  pub left : a ≡ integerOf x
+  pub right : b ≡ integerOf y
+
+module _ {n t x y : ℕ} {a b : ℤ} (O : Operands n t x y a b) (r : Worked) where
   sort-2 : (o : Binary) → binaryOf n ≡ some o → ((ty tu : Ty) → t ≡ tyByte ty → validWord ty x ≡ true → validWord tu y ≡ true → Says (apply2 o (wordValue ty x) (wordValue tu y)) r)
       → Works2 n t x y r
   sort-2 o e f o′ ty tu e′ et h k =
       let s : o ≡ o′ = cc in
       rw (← s) (f ty tu et h k)
 
-  module _ (a b : ℤ) (ea : a ≡ integerOf x) (eb : b ≡ integerOf y) where
-    by-arithmetic : (f : ℤ → ℤ → Outcome ℤ) (o : Binary) → binaryOf n ≡ some o → apply2 o ≡ arithmetic f → r ≡ worked (computed (f a b)) → Works2 n t x y r
-    by-arithmetic f o e q er = sort-2 o e (λ ty tu et h k. rw (q, er, ea, eb) (arithmetic-says x y f ty tu))
+  by-arithmetic : (f : ℤ → ℤ → Outcome ℤ) (o : Binary) → binaryOf n ≡ some o → apply2 o ≡ arithmetic f → r ≡ worked (computed (f a b)) → Works2 n t x y r
+  by-arithmetic f o e q er = sort-2 o e (λ ty tu et h k. rw (q, er, O .left, O .right) (arithmetic-says x y f ty tu))
 
-    by-ordering : (f : ℤ → ℤ → Bool) (o : Binary) → binaryOf n ≡ some o → apply2 o ≡ ordering f → r ≡ Gives (logWord (f a b)) 2 → Works2 n t x y r
-    by-ordering f o e q er = sort-2 o e (λ ty tu et h k. rw (q, er, ea, eb) (ordering-says x y f ty tu))
+  by-ordering : (f : ℤ → ℤ → Bool) (o : Binary) → binaryOf n ≡ some o → apply2 o ≡ ordering f → r ≡ Gives (logWord (f a b)) 2 → Works2 n t x y r
+  by-ordering f o e q er = sort-2 o e (λ ty tu et h k. rw (q, er, O .left, O .right) (ordering-says x y f ty tu))
 
-    pub works-plus : n ≡ 1 → r ≡ worked (computed (sum a b)) → Works2 n t x y r
-    unfolding binaryOf apply2
-    works-plus e er = by-arithmetic sum plus (rw e) refl er
+  pub works-plus : n ≡ 1 → r ≡ worked (computed (sum a b)) → Works2 n t x y r
+  unfolding binaryOf apply2
+  works-plus e er = by-arithmetic sum plus (rw e) refl er
 
-    pub works-minus : n ≡ 2 → r ≡ worked (computed (difference a b)) → Works2 n t x y r
-    unfolding binaryOf apply2
-    works-minus e er = by-arithmetic difference minus (rw e) refl er
+  pub works-minus : n ≡ 2 → r ≡ worked (computed (difference a b)) → Works2 n t x y r
+  unfolding binaryOf apply2
+  works-minus e er = by-arithmetic difference minus (rw e) refl er
 
-    pub works-times : n ≡ 3 → r ≡ worked (computed (product a b)) → Works2 n t x y r
-    unfolding binaryOf apply2
-    works-times e er = by-arithmetic product times (rw e) refl er
+  pub works-times : n ≡ 3 → r ≡ worked (computed (product a b)) → Works2 n t x y r
+  unfolding binaryOf apply2
+  works-times e er = by-arithmetic product times (rw e) refl er
 
-    pub works-divide : n ≡ 4 → r ≡ worked (computed (quotient a b)) → Works2 n t x y r
-    unfolding binaryOf apply2
-    works-divide e er = by-arithmetic quotient divide (rw e) refl er
+  pub works-divide : n ≡ 4 → r ≡ worked (computed (quotient a b)) → Works2 n t x y r
+  unfolding binaryOf apply2
+  works-divide e er = by-arithmetic quotient divide (rw e) refl er
 
-    pub works-remainder : n ≡ 5 → r ≡ worked (computed (rest a b)) → Works2 n t x y r
-    unfolding binaryOf apply2
-    works-remainder e er = by-arithmetic rest remainder (rw e) refl er
+  pub works-remainder : n ≡ 5 → r ≡ worked (computed (rest a b)) → Works2 n t x y r
+  unfolding binaryOf apply2
+  works-remainder e er = by-arithmetic rest remainder (rw e) refl er
 
-    pub works-less : n ≡ 6 → r ≡ Gives (logWord (ltZ a b)) 2 → Works2 n t x y r
-    unfolding binaryOf apply2
-    works-less e er = by-ordering ltZ less (rw e) refl er
+  pub works-less : n ≡ 6 → r ≡ Gives (logWord (ltZ a b)) 2 → Works2 n t x y r
+  unfolding binaryOf apply2
+  works-less e er = by-ordering ltZ less (rw e) refl er
 
-    pub works-at-most : n ≡ 7 → r ≡ Gives (logWord (leZ a b)) 2 → Works2 n t x y r
-    unfolding binaryOf apply2
-    works-at-most e er = by-ordering leZ atMost (rw e) refl er
+  pub works-at-most : n ≡ 7 → r ≡ Gives (logWord (leZ a b)) 2 → Works2 n t x y r
+  unfolding binaryOf apply2
+  works-at-most e er = by-ordering leZ atMost (rw e) refl er
 
-    pub works-greater : n ≡ 8 → r ≡ Gives (logWord (ltZ b a)) 2 → Works2 n t x y r
-    unfolding binaryOf apply2
-    works-greater e er = by-ordering (λ x y. ltZ y x) greater (rw e) refl er
+  pub works-greater : n ≡ 8 → r ≡ Gives (logWord (ltZ b a)) 2 → Works2 n t x y r
+  unfolding binaryOf apply2
+  works-greater e er = by-ordering (λ x y. ltZ y x) greater (rw e) refl er
 
-    pub works-at-least : n ≡ 9 → r ≡ Gives (logWord (leZ b a)) 2 → Works2 n t x y r
-    unfolding binaryOf apply2
-    works-at-least e er = by-ordering (λ x y. leZ y x) atLeast (rw e) refl er
+  pub works-at-least : n ≡ 9 → r ≡ Gives (logWord (leZ b a)) 2 → Works2 n t x y r
+  unfolding binaryOf apply2
+  works-at-least e er = by-ordering (λ x y. leZ y x) atLeast (rw e) refl er
 
-    pub works-left : n ≡ 14 → r ≡ Gives (shiftedLeft x b) t → Works2 n t x y r
-    unfolding binaryOf apply2
-    works-left e er = sort-2 shiftLeft (rw e) (λ ty tu et h k. rw (er, eb) (shift-says x y shiftedLeft t ty tu et))
+  pub works-left : n ≡ 14 → r ≡ Gives (shiftedLeft x b) t → Works2 n t x y r
+  unfolding binaryOf apply2
+  works-left e er = sort-2 shiftLeft (rw e) (λ ty tu et h k. rw (er, O .right) (shift-says x y shiftedLeft t ty tu et))
 
-    pub works-right : (n ≡ 1 → ⊥) → (n ≡ 2 → ⊥) → (n ≡ 3 → ⊥) → (n ≡ 4 → ⊥) → (n ≡ 5 → ⊥) → (n ≡ 6 → ⊥) → (n ≡ 7 → ⊥) → (n ≡ 8 → ⊥) → (n ≡ 9 → ⊥)
-        → (n ≡ 10 → ⊥) → (n ≡ 11 → ⊥) → (n ≡ 12 → ⊥) → (n ≡ 13 → ⊥) → (n ≡ 14 → ⊥)
-        → r ≡ Gives (shiftedRight x b) t → Works2 n t x y r
-    unfolding binaryOf
-    works-right n1 n2 n3 n4 n5 n6 n7 n8 n9 n10 n11 n12 n13 n14 er o ty tu eo et h k = go (eqb n 15) q
-      where
-        q : (if eqb n 15 then some shiftRight else none) ≡ some o
-        q =
-            rw (
-              ne-eqb n 1 n1,
-              ne-eqb n 2 n2,
-              ne-eqb n 3 n3,
-              ne-eqb n 4 n4,
-              ne-eqb n 5 n5,
-              ne-eqb n 6 n6,
-              ne-eqb n 7 n7,
-              ne-eqb n 8 n8,
-              ne-eqb n 9 n9,
-              ne-eqb n 10 n10,
-              ne-eqb n 11 n11,
-              ne-eqb n 12 n12,
-              ne-eqb n 13 n13,
-              ne-eqb n 14 n14,
-            ) at eo
+  pub works-right : (n ≡ 1 → ⊥) → (n ≡ 2 → ⊥) → (n ≡ 3 → ⊥) → (n ≡ 4 → ⊥) → (n ≡ 5 → ⊥) → (n ≡ 6 → ⊥) → (n ≡ 7 → ⊥) → (n ≡ 8 → ⊥) → (n ≡ 9 → ⊥)
+      → (n ≡ 10 → ⊥) → (n ≡ 11 → ⊥) → (n ≡ 12 → ⊥) → (n ≡ 13 → ⊥) → (n ≡ 14 → ⊥)
+      → r ≡ Gives (shiftedRight x b) t → Works2 n t x y r
+  unfolding binaryOf
+  works-right n1 n2 n3 n4 n5 n6 n7 n8 n9 n10 n11 n12 n13 n14 er o ty tu eo et h k = go (eqb n 15) q
+    where
+      q : (if eqb n 15 then some shiftRight else none) ≡ some o
+      q =
+          rw (
+            ne-eqb n 1 n1,
+            ne-eqb n 2 n2,
+            ne-eqb n 3 n3,
+            ne-eqb n 4 n4,
+            ne-eqb n 5 n5,
+            ne-eqb n 6 n6,
+            ne-eqb n 7 n7,
+            ne-eqb n 8 n8,
+            ne-eqb n 9 n9,
+            ne-eqb n 10 n10,
+            ne-eqb n 11 n11,
+            ne-eqb n 12 n12,
+            ne-eqb n 13 n13,
+            ne-eqb n 14 n14,
+          ) at eo
 
-        shifted : Says (apply2 shiftRight (wordValue ty x) (wordValue tu y)) r
-        shifted = rw (er, eb) (unfold apply2 in shift-says x y shiftedRight t ty tu et)
+      shifted : Says (apply2 shiftRight (wordValue ty x) (wordValue tu y)) r
+      shifted = rw (er, O .right) (unfold apply2 in shift-says x y shiftedRight t ty tu et)
 
-        go : (z : Bool) → (if z then some shiftRight else none) ≡ some o → Says (apply2 o (wordValue ty x) (wordValue tu y)) r
-        go true e = let s : shiftRight ≡ o = cc in rw (← s) shifted
-        go false e = let s : _≡_ {A = ℕ} 0 1 = cc in absurd (omega arith)
+      go : (z : Bool) → (if z then some shiftRight else none) ≡ some o → Says (apply2 o (wordValue ty x) (wordValue tu y)) r
+      go true e = let s : shiftRight ≡ o = cc in rw (← s) shifted
+      go false e = let s : _≡_ {A = ℕ} 0 1 = cc in absurd (omega arith)
 
   pub works-equal : n ≡ 10 → r ≡ Gives (logWord (alike t x y)) 2 → Works2 n t x y r
   unfolding binaryOf apply2

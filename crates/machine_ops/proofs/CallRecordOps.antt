@@ -33,9 +33,10 @@ use Rattle.machine_frames.specs.On.{On, on-enter, on-leave, on-push, on-pop, on
 use Rattle.machine_ops.specs.declared.Out.{Out}
 use Rattle.machine_ops.specs.declared.Out.the-variants.{Goes}
 use Rattle.machine_ops.specs.Acts.{here, Now, Told, Tells}
-use Rattle.machine_ops.proofs.Facts.{never, few-operands, demanded, supplied, goes-on}
-use Rattle.machine_ops.specs.Moves.{dropped, filled, fielded, given, cells, CallRoom, Entered, enteredBy, TellsOf, ReturnRoom, FieldRoom, MakeRoom}
-use Rattle.machine_ops.proofs.Lists.{assign-length, below-top, above-it, on-drop, on-fill, on-fields, TypesAt, on-begin}
+use Rattle.machine_ops.proofs.RunningFacts.{never, few-operands, demanded, supplied, goes-on}
+use Rattle.machine_ops.specs.Moves.{dropped, filled, given, cells, CallRoom, Entered, enteredBy, TellsOf, ReturnRoom, FieldRoom, MakeRoom}
+use Rattle.machine_ops.proofs.MovedLists.{assign-length, below-top, above-it, on-drop, on-fill, on-fields, TypesAt, on-begin}
+use Rattle.bytecode.specs.State.{recordsAt, recordLength, cellWordsAt, cellTypesAt, fieldWordsAt, fieldTypesAt, activationLength, operandTypesAt, operandWordsAt}
 
 -- ── what stands in the macro ──
 types-from : (code : List ℕ) (q c : ℕ) → ((k : ℕ) → k < c → tyByte (tyOn (byteAt code (q + k))) ≡ byteAt code (q + k)) → (d j : ℕ) → j + d ≤ c
@@ -97,12 +98,12 @@ module _ (code : List ℕ) (q : ℕ) {l : List ℕ} {f n i : ℕ} (k0 : ℕ) (eq
       let ln : length (t .operands) ≡ length xs + length us = ap length e ∙ length-append xs us in
       let few : length (t .operands) ≤ 32 = few-operands N in
       let p1 = on-enter (N .on) k0 (halfAt code (q + 2)) (byteAt l 2) co (R .count) in
-      let p2 = on-fill k0 (halfAt code (q + 2)) us f (f + 328) (n - p) (N .on .place) (omega (arith, N .depth)) few xs [] _ e p1 in
-      let p3 = subst (λ (vs : List Value). On (filled (enteredBy code q l f k0) f (n - p) (f + 328) (length xs)) f rs
+      let p2 = on-fill k0 (halfAt code (q + 2)) us f (f + activationLength) (n - p) (N .on .place) (omega (arith, N .depth)) few xs [] _ e p1 in
+      let p3 = subst (λ (vs : List Value). On (filled (enteredBy code q l f k0) f (n - p) (f + activationLength + cellWordsAt) (f + activationLength + cellTypesAt) (length xs)) f rs
       (activation k0 (halfAt code (q + 2)) (assignAll (reverse xs)) [] [] ∷ []) (activation (t .body) (t .address) (t .cells) vs (t .holds)) fs)
       e (below-top p2 f (N .on .place)) in
       let p4 = on-drop us xs _ f n p3 (omega (arith, N .depth, length-append xs us)) (R .depth) in
-      let p5 = above-it p4 (p1 .few) (f + 328) (p1 .place) in
+      let p5 = above-it p4 (p1 .few) (f + activationLength) (p1 .place) in
       let ts = drop p (typesOn code (q + 7) c) in
       let et : ts ≡ span (λ k. tyOn (byteAt code (q + 7 + k))) p (c - p) = drop-span (λ k. tyOn (byteAt code (q + 7 + k))) p c 0 (R .parameters) ∙ rw (zero-add p) in
       let el : length ts ≡ c - p = ap length et ∙ span-length (λ k. tyOn (byteAt code (q + 7 + k))) (c - p) p in
@@ -111,7 +112,7 @@ module _ (code : List ℕ) (q : ℕ) {l : List ℕ} {f n i : ℕ} (k0 : ℕ) (eq
       let ty : TypesAt code (q + 7) p ts = rw et (types-from code (q + 7) c ty1 (c - p) p (omega (arith, R .parameters))) in
       let lx : length (reverse xs) ≡ p = length-reverse xs ∙ x in
       let la : p ≡ length (assignAll (reverse xs)) = sym (assign-length (reverse xs) ∙ lx) in
-      let p6 = on-begin code (q + 7) (f + 328) ts (assignAll (reverse xs)) p _ ty la (omega (arith, R .few, R .parameters)) p5 in
+      let p6 = on-begin code (q + 7) (f + activationLength) ts (assignAll (reverse xs)) p _ ty la (omega (arith, R .few, R .parameters)) p5 in
       let b6 = p6 .bytes in
       let open-room : suc (length fs) < 32 = p1 .few in
       rw (lt-ltb (suc (length fs)) 32 open-room, lx) (record { are = (E ∙ (rw (x, el) at b6), refl) }))
@@ -124,8 +125,8 @@ module _ (code : List ℕ) (q : ℕ) {l : List ℕ} {f n i : ℕ} (k0 : ℕ) (eq
 -- ── a return ──
 -- the activation below, with the top dropped, and its numbers
 record Down (l : List ℕ) (f c a : ℕ) (rs : Shared) (u : Activation) (fs : List Activation) : Type 0 where
-  on : On (left l f c) (f - 328) rs [] u fs
-  depth : byteAt l (f - 328 + 1) ≡ length (u .operands)
+  on : On (left l f c) (f - activationLength) rs [] u fs
+  depth : byteAt l (f - activationLength + 1) ≡ length (u .operands)
   address : a ≡ u .address
 
 module _ {l : List ℕ} {f n i : ℕ} where
@@ -142,15 +143,15 @@ module _ {l : List ℕ} {f n i : ℕ} where
       go [] (u ∷ fs) h N = G m rs (t .body) (t .address) (t .cells) (t .operands) u fs N
       go (g ∷ gs) (u ∷ fs) h N = never h
 
-  module _ (c a : ℕ) (R : ReturnRoom l f n) (ec : c ≡ byteAt l 2 - 1) (ea : a ≡ halfAt l (f - 328 + 4)) where
+  module _ (c a : ℕ) (R : ReturnRoom l f n) (ec : c ≡ byteAt l 2 - 1) (ea : a ≡ halfAt l (f - activationLength + 4)) where
     down : {m : Macro} {rs : Shared} {b j : ℕ} {cs : List Cell} {vs : List Value} {u : Activation} {fs : List Activation} → Now m l f n i rs (activation b j cs vs []) (u ∷ fs) → Down l f c a rs u fs
     down {fs = fs} N =
         let co : byteAt l 2 ≡ suc (suc (length fs)) = read-count (N .on) in
         let pl : f ≡ framePlace (suc (length fs)) = N .on .place in
-        let under = below-top (N .on) (f - 328) (rw pl (omega arith)) in
+        let under = below-top (N .on) (f - activationLength) (rw pl (omega arith)) in
         record { on = on-leave (N .on) refl c (omega arith); depth = read-depth under; address = ea ∙ read-address under }
 
-    pub return-none : (k1 k2 : List ℕ) → n ≡ 0 → k1 ≡ left l f c → k2 ≡ wentTo k1 (f - 328) (a + 1) → Tells (λ m h. doReturn m h) l f n i k2 Goes
+    pub return-none : (k1 k2 : List ℕ) → n ≡ 0 → k1 ≡ left l f c → k2 ≡ wentTo k1 (f - activationLength) (a + 1) → Tells (λ m h. doReturn m h) l f n i k2 Goes
     return-none k1 k2 z e1 e2 = return-by k2 Goes (λ m rs b j cs vs u fs N. go rs b j cs vs u fs N)
       where
         go : {m : Macro} (rs : Shared) (b j : ℕ) (cs : List Cell) (vs : List Value) (u : Activation) (fs : List Activation)
@@ -160,8 +161,9 @@ module _ {l : List ℕ} {f n i : ℕ} where
             goes-on u [] Goes (d .on) k2 (a + 1) (e2 ∙ rw e1) (omega (arith, d .address)) refl
         go rs b j cs (v ∷ vs) u fs N = absurd (omega (arith, N .depth))
 
-    pub return-one : (w y : ℕ) (k1 k2 k3 : List ℕ) → n ≡ 1 → w ≡ wordAt l (f + (136 + 4 * 0)) → y ≡ byteAt l (f + (296 + 0)) → k1 ≡ left l f c → k2 ≡ pushed k1 (f - 328) (byteAt l (f - 328 + 1)) w y
-        → k3 ≡ wentTo k2 (f - 328) (a + 1) → Tells (λ m h. doReturn m h) l f n i k3 Goes
+    pub return-one : (w y : ℕ) (k1 k2 k3 : List ℕ) → n ≡ 1 → w ≡ wordAt l (f + (operandWordsAt + 4 * 0)) → y ≡ byteAt l (f + (operandTypesAt + 0))
+        → k1 ≡ left l f c → k2 ≡ pushed k1 (f - activationLength) (byteAt l (f - activationLength + 1)) w y
+        → k3 ≡ wentTo k2 (f - activationLength) (a + 1) → Tells (λ m h. doReturn m h) l f n i k3 Goes
     return-one w y k1 k2 k3 z ew ey e1 e2 e3 = return-by k3 Goes (λ m rs b j cs vs u fs N. go rs b j cs vs u fs N)
       where
         go : {m : Macro} (rs : Shared) (b j : ℕ) (cs : List Cell) (vs : List Value) (u : Activation) (fs : List Activation)
@@ -170,7 +172,7 @@ module _ {l : List ℕ} {f n i : ℕ} where
         go rs b j cs (v ∷ []) u fs N =
             let d = down N in
             let rd = read-operand (N .on) [] v [] 0 refl refl (omega arith) in
-            let p = on-push v w y (ew ∙ rd .0) (ey ∙ rd .1) (d .on) (byteAt l (f - 328 + 1)) (d .depth) (omega (arith, R .below-depth)) in
+            let p = on-push v w y (ew ∙ rd .0) (ey ∙ rd .1) (d .on) (byteAt l (f - activationLength + 1)) (d .depth) (omega (arith, R .below-depth)) in
             goes-on u [] Goes p k3 (a + 1) (e3 ∙ rw (e2, e1)) (omega (arith, d .address)) refl
         go rs b j cs (v ∷ (x ∷ vs)) u fs N = absurd (omega (arith, N .depth))
 
@@ -205,7 +207,7 @@ module _ (code : List ℕ) (q : ℕ) {l : List ℕ} {f n i : ℕ} (c : ℕ) (eq 
       rw (le-ltb (length (rs .records)) 256 (omega arith)) (C m rs t fs N))
 
   pub make-tells : (r z : ℕ) (k1 k2 k3 k4 k5 : List ℕ) → MakeRoom code q n → n ≤ 32 → r ≡ halfAt l 4 → r < 256 → z ≡ byteAt code (q + 2)
-      → k1 ≡ recordMade l r c → k2 ≡ fielded k1 f (n - z) r z → k3 ≡ dropped k2 f n z
+      → k1 ≡ recordMade l r c → k2 ≡ filled k1 f (n - z) (recordsAt + recordLength * r + fieldWordsAt) (recordsAt + recordLength * r + fieldTypesAt) z → k3 ≡ dropped k2 f n z
       → k4 ≡ pushed k3 f (n - z) (r + 1) (16 + c) → k5 ≡ wentTo k4 f (i + 1) → TellsOf code (λ m h. doMake m c h) l f n i k5 Goes
   make-tells r z k1 k2 k3 k4 k5 R many er small ez e1 e2 e3 e4 e5 = make-by k5 Goes (R .arguments) (λ m rs t fs N xs us e x.
       let co : r ≡ length (rs .records) = er ∙ read-records (N .on) in
@@ -215,7 +217,8 @@ module _ (code : List ℕ) (q : ℕ) {l : List ℕ} {f n i : ℕ} (c : ℕ) (eq 
       let few : length (t .operands) ≤ 32 = few-operands N in
       let p1 = on-make (N .on) c r co small in
       let p2 = on-fields (rs .records) c us f (n - z) room (omega (arith, N .depth)) few xs [] _ e (omega (arith, R .few)) p1 in
-      let p3 = subst (λ (vs : List Value). On (fielded (recordMade l r c) f (n - z) (length (rs .records)) (length xs)) f
+      let p3 = subst (λ (vs : List Value). On (filled (recordMade l r c) f (n - z) (recordsAt + recordLength * length (rs .records) + fieldWordsAt)
+      (recordsAt + recordLength * length (rs .records) + fieldTypesAt) (length xs)) f
       (record { records = rs .records ++ (made c (reverse xs) ∷ []) }) [] (activation (t .body) (t .address) (t .cells) vs (t .holds)) fs) e p2 in
       let p4 = on-drop us xs _ f n p3 (omega (arith, N .depth, length-append xs us)) many in
       let p5 = on-push (ref c (some (length (rs .records)))) (r + 1) (16 + c) (rw co (add-one (length (rs .records)))) refl p4 (n - z) (omega (arith, N .depth)) (omega (arith, R .room)) in
@@ -232,7 +235,7 @@ putting c x m v vs h n q = machine.given (fieldTy m c x) badType (λ t. machine.
 
 module _ {l : List ℕ} {f n i : ℕ} (c x : ℕ) where
   -- of a reference d, r on top of vs
-  module _ (some-operand : 0 < n) (many : n ≤ 32) (w : ℕ) (ew : w ≡ wordAt l (f + (136 + 4 * (n - 1)))) where
+  module _ (some-operand : 0 < n) (many : n ≤ 32) (w : ℕ) (ew : w ≡ wordAt l (f + (operandWordsAt + 4 * (n - 1)))) where
     get-by : (k : List ℕ) (o : Out)
         → ((m : Macro) (rs : Shared) (b a : ℕ) (cs : List Cell) (r : Option ℕ) (vs : List Value) (gs : List ℕ) (fs : List Activation)
         → Now m l f n i rs (activation b a cs (ref c r ∷ vs) gs) fs → w ≡ valueWord (ref c r)
@@ -260,7 +263,8 @@ module _ {l : List ℕ} {f n i : ℕ} (c x : ℕ) where
         go m rs b a cs none vs gs fs N e = C m rs _ fs N
         go m rs b a cs (some p) vs gs fs N e = absurd (omega arith)
 
-    pub get-tells : (u y : ℕ) (k1 k2 : List ℕ) → (w ≡ 0 → ⊥) → FieldRoom w x → u ≡ wordAt l (11040 + 44 * (w - 1) + (4 + 4 * x)) → y ≡ byteAt l (11040 + 44 * (w - 1) + (36 + x))
+    pub get-tells : (u y : ℕ) (k1 k2 : List ℕ) → (w ≡ 0 → ⊥) → FieldRoom w x
+        → u ≡ wordAt l (recordsAt + recordLength * (w - 1) + (fieldWordsAt + 4 * x)) → y ≡ byteAt l (recordsAt + recordLength * (w - 1) + (fieldTypesAt + x))
         → k1 ≡ operandSet l f (n - 1) u y → k2 ≡ wentTo k1 f (i + 1) → Tells (λ m h. doGetField m c x h) l f n i k2 Goes
     get-tells u y k1 k2 nz R eu ey e1 e2 = get-by k2 Goes (λ m rs b a cs r vs gs fs N e. go m rs b a cs r vs gs fs N e)
       where
@@ -276,7 +280,7 @@ module _ {l : List ℕ} {f n i : ℕ} (c x : ℕ) where
             let p1 = on-operand v u y (eu ∙ rw s (rd .0)) (ey ∙ rw s (rd .1)) [] (ref c (some p)) vs (N .on) (n - 1) (omega (arith, N .depth)) (omega arith) in
             goes-on (activation b a cs (ref c (some p) ∷ vs) gs) [] Goes p1 k2 (i + 1) (e2 ∙ rw e1) (omega (arith, N .address)) refl)))))
 
-  module _ (two-operands : 2 ≤ n) (many : n ≤ 32) (w : ℕ) (ew : w ≡ wordAt l (f + (136 + 4 * (n - 2)))) where
+  module _ (two-operands : 2 ≤ n) (many : n ≤ 32) (w : ℕ) (ew : w ≡ wordAt l (f + (operandWordsAt + 4 * (n - 2)))) where
     put-by : (k : List ℕ) (o : Out)
         → ((m : Macro) (rs : Shared) (b a : ℕ) (cs : List Cell) (v : Value) (r : Option ℕ) (vs : List Value) (gs : List ℕ) (fs : List Activation)
         → Now m l f n i rs (activation b a cs (v ∷ (ref c r ∷ vs)) gs) fs → w ≡ valueWord (ref c r)
@@ -305,7 +309,7 @@ module _ {l : List ℕ} {f n i : ℕ} (c x : ℕ) where
         go m rs b a cs v none vs gs fs N e = C m rs _ fs N
         go m rs b a cs v (some p) vs gs fs N e = absurd (omega arith)
 
-    pub put-tells : (u y : ℕ) (k1 k2 k3 k4 : List ℕ) → (w ≡ 0 → ⊥) → FieldRoom w x → u ≡ wordAt l (f + (136 + 4 * (n - 1))) → y ≡ byteAt l (f + (296 + (n - 1)))
+    pub put-tells : (u y : ℕ) (k1 k2 k3 k4 : List ℕ) → (w ≡ 0 → ⊥) → FieldRoom w x → u ≡ wordAt l (f + (operandWordsAt + 4 * (n - 1))) → y ≡ byteAt l (f + (operandTypesAt + (n - 1)))
         → k1 ≡ fieldSet l (w - 1) x u y → k2 ≡ popped k1 f (n - 1) → k3 ≡ popped k2 f (n - 2) → k4 ≡ wentTo k3 f (i + 1) → Tells (λ m h. doPutField m c x h) l f n i k4 Goes
     put-tells u y k1 k2 k3 k4 nz R eu ey e1 e2 e3 e4 = put-by k4 Goes (λ m rs b a cs v r vs gs fs N e. go m rs b a cs v r vs gs fs N e)
       where

@@ -15,10 +15,10 @@ use Rattle.values.specs.Ends.{accepted, isCondition}
 use Rattle.values.specs.Values.{tysOf}
 use Rattle.bytecode.specs.Macro.{Macro, shape, readMacro}
 use Rattle.bytecode.specs.Instructions.{Instr, instruction, instrAt}
-use Rattle.bytecode.specs.Machine.{Activation, Made, Shared, endBy, Machine, running, unwinding, ended, act, fetch, step}
+use Rattle.bytecode.specs.Machine.{Activation, Shared, endBy, Machine, running, unwinding, ended, act, fetch, step}
 use Rattle.bytecode.specs.Runs.{bankOf}
 use Rattle.bytecode.specs.Sound.{sound}
-use Rattle.bytecode.specs.State.{encode}
+use Rattle.bytecode.specs.State.{encode, activationLength, activationsAt, holdsAt, stateLength}
 use Rattle.bytecode_laws.specs.Terms.{Passed, Allowed}
 use Rattle.bytecode_laws.specs.Promises.{ops, in-code}
 use Rattle.bytecode_safety.specs.States.{running-sound}
@@ -37,7 +37,7 @@ use Rattle.machine_ops.specs.declared.Out.the-variants.{Gives, Ends}
 use Rattle.machine_ops.specs.Acts.{here, Now, Told}
 use Rattle.machine_run.specs.Held.{Held, record-of, Poised, Acts, Steps}
 
-pub held-long : {code l : List ℕ} → Held code l → length l ≡ 24576
+pub held-long : {code l : List ℕ} → Held code l → length l ≡ stateLength
 held-long H = rw (H .bytes) (length-encode (H .state))
 
 -- ── which phase ──
@@ -65,7 +65,7 @@ in-ended P l (ended c) e z o f = f c e
 -- ── a running state ──
 -- the numbers that are read
 pub record Read (code l : List ℕ) (f n i op a b : ℕ) : Type 0 where
-  pub place : f ≡ 32 + 328 * (byteAt l 2 - 1)
+  pub place : f ≡ activationsAt + activationLength * (byteAt l 2 - 1)
   pub depth : n ≡ byteAt l (f + 1)
   pub address : i ≡ halfAt l (f + 4)
   pub op-is : op ≡ byteAt code (codePlace code i + 2)
@@ -79,7 +79,7 @@ pub record Top (l : List ℕ) : Type 0 where
 
 module _ (code l : List ℕ) (m : Macro) (reads : readMacro code ≡ accepted m) (w : Passed m) (rs : Shared) (t : Activation) (fs : List Activation)
     (sounds : sound m (running rs t fs) ≡ true) (bytes : l ≡ encode (running rs t fs)) where
-  on-at : (f : ℕ) → f ≡ 32 + 328 * (byteAt l 2 - 1) → On l f rs [] t fs
+  on-at : (f : ℕ) → f ≡ activationsAt + activationLength * (byteAt l 2 - 1) → On l f rs [] t fs
   on-at f e =
       let few : suc (length fs) ≤ 32 = running-sound m rs t fs sounds .0 .few in
       let p0 : On l (framePlace (length fs)) rs [] t fs = record { few = omega arith; place = refl; bytes = bytes } in
@@ -150,7 +150,7 @@ module _ (code l : List ℕ) where
           record { low = omega arith; high = omega arith }
 
   -- the address is one of the macro's
-  pub address-in : Held code l → byteAt l 0 ≡ 0 → (f i : ℕ) → f ≡ 32 + 328 * (byteAt l 2 - 1) → i ≡ halfAt l (f + 4) → i < count code
+  pub address-in : Held code l → byteAt l 0 ≡ 0 → (f i : ℕ) → f ≡ activationsAt + activationLength * (byteAt l 2 - 1) → i ≡ halfAt l (f + 4) → i < count code
   address-in H z f i ef ei = in-running (λ s. sound (H .macro) s ≡ true → i < count code) l (H .state) (H .bytes) z (λ rs t fs e s.
       rw (ei ∙ read-address (on-at code l (H .macro) (H .reads) (H .passed) rs t fs s e f ef)) (in-macro code l (H .macro) (H .reads) (H .passed) rs t fs s e)) (H .sounds)
 
@@ -179,7 +179,7 @@ module _ (code l : List ℕ) where
       go [] d e = record { are = (ek ∙ finishes-by l d e, er ∙ ap Ends (read-releasing l d [] e .1)) }
       go (g ∷ gs) d e = absurd (omega (arith, read-releasing l d (g ∷ gs) e .2))
 
-  pub releasing-gives : (readings k : List ℕ) (h g : ℕ) → byteAt l 0 ≡ 1 → h ≡ halfAt l 6 → (h ≡ 0 → ⊥) → h ≤ 512 → g ≡ byteAt l (10528 + (h - 1))
+  pub releasing-gives : (readings k : List ℕ) (h g : ℕ) → byteAt l 0 ≡ 1 → h ≡ halfAt l 6 → (h ≡ 0 → ⊥) → h ≤ 512 → g ≡ byteAt l (holdsAt + (h - 1))
       → k ≡ released l (h - 1) → Steps code readings l k (Gives (Release g))
   unfolding step
   releasing-gives readings k h g z eh nz few eg ek m reads w s sounds bytes = in-releasing (λ s. Told (step m (bankOf readings) s) k (Gives (Release g))) l s bytes z (λ gs d e. go gs d e)
@@ -192,7 +192,7 @@ module _ (code l : List ℕ) where
           record { are = (ek ∙ releases-last l d x gs (h - 1) e n (omega arith), ap (λ (y : ℕ). Gives (Release y)) (eg ∙ read-last l d x gs (h - 1) e n (omega arith))) }
 
 -- the numbers as the code reads them
-pub read-of : (code l : List ℕ) (base w f n i op a b : ℕ) → base ≡ codeBase code → w ≡ byteAt l 2 → f ≡ 32 + 328 * (w - 1) → n ≡ byteAt l (f + 1) → i ≡ halfAt l (f + 4)
+pub read-of : (code l : List ℕ) (base w f n i op a b : ℕ) → base ≡ codeBase code → w ≡ byteAt l 2 → f ≡ activationsAt + activationLength * (w - 1) → n ≡ byteAt l (f + 1) → i ≡ halfAt l (f + 4)
     → op ≡ byteAt code (base + 8 * i + 2) → a ≡ byteAt code (base + 8 * i + 3) → b ≡ wordAt code (base + 8 * i + 4) → Read code l f n i op a b
 read-of code l base w f n i op a b eb ew ef en ei eo ea e4 =
     record { place = ef ∙ rw ew; depth = en; address = ei; op-is = eo ∙ rw eb; a-is = ea ∙ rw eb; b-is = e4 ∙ rw eb }

@@ -15,7 +15,7 @@ use Rattle.logic.specs.Options.{isSome}
 use Rattle.words.specs.Numbers.{byteAt, halfAt}
 use Rattle.words.specs.Laws.{Bytes, one, keeps}
 use Rattle.bytecode.specs.Macro.{Macro}
-use Rattle.bytecode.specs.State.{zeros}
+use Rattle.bytecode.specs.State.{zeros, activationsAt, activationLength, recordLength, recordsAt, holdsAt, stateLength}
 use Rattle.bytecode_laws.specs.Promises.{passed}
 use Rattle.bytecode_layout.specs.Parts.{length-zeros}
 use Rattle.bytecode_layout.specs.Blank.{zeros-join}
@@ -84,7 +84,7 @@ unfolding clearActivations
 no-activation m b l = refl
 
 pub next-activation : (m : Macro) (n b : ℕ) (l : List ℕ)
-    → clearActivations m (suc n) b l ≡ clearActivations m n (b + 328) (wipes l b (activationGaps (cellCount m (byteAt l b)) (byteAt l (b + 1))))
+    → clearActivations m (suc n) b l ≡ clearActivations m n (b + activationLength) (wipes l b (activationGaps (cellCount m (byteAt l b)) (byteAt l (b + 1))))
 unfolding clearActivations
 next-activation m n b l = refl
 
@@ -92,13 +92,13 @@ pub no-record : (m : Macro) (b : ℕ) (l : List ℕ) → clearRecords m 0 b l �
 unfolding clearRecords
 no-record m b l = refl
 
-pub next-record : (m : Macro) (n b : ℕ) (l : List ℕ) → clearRecords m (suc n) b l ≡ clearRecords m n (b + 44) (wipes l b (recordGaps (fieldCount m (byteAt l b))))
+pub next-record : (m : Macro) (n b : ℕ) (l : List ℕ) → clearRecords m (suc n) b l ≡ clearRecords m n (b + recordLength) (wipes l b (recordGaps (fieldCount m (byteAt l b))))
 unfolding clearRecords
 next-record m n b l = refl
 
 abbrev pub activations : List ℕ → Row
 activations c = record {
-  size = 328;
+  size = activationLength;
   limit = bodies c;
   gaps = λ l b. activationGaps (cellCount (view c) (byteAt l b)) (byteAt l (b + 1));
   inside = λ l b. (omega arith, (omega arith, (omega arith, (omega arith, (omega arith, (omega arith, tt))))));
@@ -109,7 +109,7 @@ activations c = record {
 
 abbrev pub records : List ℕ → Row
 records c = record {
-  size = 44;
+  size = recordLength;
   limit = classes c;
   gaps = λ l b. recordGaps (fieldCount (view c) (byteAt l b));
   inside = λ l b. (omega arith, (omega arith, (omega arith, tt)));
@@ -213,15 +213,15 @@ running-uncleared c l e =
     }
 
 module _ (c l : List ℕ) (small : Bytes l) (H : Held c l) where
-  plain : (length l ≡ 24576) × (plainFits c l ≡ true)
+  plain : (length l ≡ stateLength) × (plainFits c l ≡ true)
   unfolding soundBytes
   plain =
       let e : soundBytes c l ≡ true = sym (sounds c (H .macro) (H .passes) l small) ∙ ap isSome (H .sound) in
-      let a = chosen (eqb (length l) 24576) _ e in
+      let a = chosen (eqb (length l) stateLength) _ e in
       let d = chosen (plainFits c l) (each (stands c l (halfAt l 4) (byteAt l 2)) 0 (activationsIn l)) (a .1) in
-      (eqb-true (length l) 24576 (a .0), d .0)
+      (eqb-true (length l) stateLength (a .0), d .0)
 
-  pub long : length l ≡ 24576
+  pub long : length l ≡ stateLength
   long = plain .0
 
   pub uncleared : byteAt l 0 ≡ 0 → Uncleared c l
@@ -229,18 +229,18 @@ module _ (c l : List ℕ) (small : Bytes l) (H : Held c l) where
   uncleared z = running-uncleared c l (rw (eq-eqb (byteAt l 0) 0 z) at (plain .1))
 
 -- what precedes the activations, and what precedes the records, is cleared, and these still begin as they did
-pub bodies-kept : (c l x : List ℕ) (n : ℕ) → n ≡ byteAt l 2 → Uncleared c l → x ≡ wipes l 0 ((1 ⋯ 2) ∷ (3 ⋯ 4) ∷ (8 ⋯ 32) ∷ []) → Below (bodies c) 328 x 32 n
+pub bodies-kept : (c l x : List ℕ) (n : ℕ) → n ≡ byteAt l 2 → Uncleared c l → x ≡ wipes l 0 ((1 ⋯ 2) ∷ (3 ⋯ 4) ∷ (8 ⋯ 32) ∷ []) → Below (bodies c) activationLength x activationsAt n
 bodies-kept c l x n e U w k p =
-    rw (w, wipes-kept ((1 ⋯ 2) ∷ (3 ⋯ 4) ∷ (8 ⋯ 32) ∷ []) l 0 32 (32 + 328 * k) (omega arith, (omega arith, (omega arith, tt))) (omega arith))
+    rw (w, wipes-kept ((1 ⋯ 2) ∷ (3 ⋯ 4) ∷ (8 ⋯ 32) ∷ []) l 0 32 (activationsAt + activationLength * k) (omega arith, (omega arith, (omega arith, tt))) (omega arith))
     (U .of-bodies k (omega arith))
 
 pub classes-kept : (c l x y : List ℕ) (n r h : ℕ) → n ≤ 32 → r ≡ halfAt l 4 → Uncleared c l → x ≡ wipes l 0 ((1 ⋯ 2) ∷ (3 ⋯ 4) ∷ (8 ⋯ 32) ∷ [])
-    → y ≡ wipes (clearActivations (view c) n 32 x) 0 ((32 + 328 * n ⋯ 10528) ∷ (10528 + h ⋯ 11040) ∷ []) → Below (classes c) 44 y 11040 r
+    → y ≡ wipes (clearActivations (view c) n 32 x) 0 ((activationsAt + activationLength * n ⋯ holdsAt) ∷ (holdsAt + h ⋯ recordsAt) ∷ []) → Below (classes c) recordLength y recordsAt r
 classes-kept c l x y n r h few e U w v k p =
-    let j = 11040 + 44 * k in
+    let j = recordsAt + recordLength * k in
     let g : byteAt y j ≡ byteAt l j =
     ap (λ (z : List ℕ). byteAt z j) v
-    ∙ wipes-kept ((32 + 328 * n ⋯ 10528) ∷ (10528 + h ⋯ 11040) ∷ []) (clearActivations (view c) n 32 x) 0 11040 j (omega arith, (omega arith, tt)) (omega arith)
+    ∙ wipes-kept ((activationsAt + activationLength * n ⋯ holdsAt) ∷ (holdsAt + h ⋯ recordsAt) ∷ []) (clearActivations (view c) n 32 x) 0 recordsAt j (omega arith, (omega arith, tt)) (omega arith)
     ∙ row-kept (activations c) n 32 x j (omega arith)
     ∙ ap (λ (z : List ℕ). byteAt z j) w
     ∙ wipes-kept ((1 ⋯ 2) ∷ (3 ⋯ 4) ∷ (8 ⋯ 32) ∷ []) l 0 32 j (omega arith, (omega arith, (omega arith, tt))) (omega arith) in
@@ -249,8 +249,8 @@ classes-kept c l x y n r h few e U w v k p =
 -- ── the whole ──
 pub running-cleared : (c l : List ℕ) {n r h : ℕ} {x₁ x₂ x₃ x₄ x₅ : List ℕ} → n ≡ byteAt l 2 → r ≡ halfAt l 4 → h ≡ halfAt l 6
     → x₁ ≡ wipes l 0 ((1 ⋯ 2) ∷ (3 ⋯ 4) ∷ (8 ⋯ 32) ∷ []) → x₂ ≡ clearActivations (view c) n 32 x₁
-    → x₃ ≡ wipes x₂ 0 ((32 + 328 * n ⋯ 10528) ∷ (10528 + h ⋯ 11040) ∷ []) → x₄ ≡ clearRecords (view c) r 11040 x₃
-    → x₅ ≡ wipes x₄ 0 ((11040 + 44 * r ⋯ 24576) ∷ []) → x₅ ≡ clearRunning (view c) (byteAt l 2) (halfAt l 4) (halfAt l 6) l
+    → x₃ ≡ wipes x₂ 0 ((activationsAt + activationLength * n ⋯ holdsAt) ∷ (holdsAt + h ⋯ recordsAt) ∷ []) → x₄ ≡ clearRecords (view c) r recordsAt x₃
+    → x₅ ≡ wipes x₄ 0 ((recordsAt + recordLength * r ⋯ stateLength) ∷ []) → x₅ ≡ clearRunning (view c) (byteAt l 2) (halfAt l 4) (halfAt l 6) l
 unfolding clearRunning
 running-cleared c l en er eh e₁ e₂ e₃ e₄ e₅ = rw (← en, ← er, ← eh, e₅, e₄, e₃, e₂, e₁)
 
@@ -260,11 +260,11 @@ module _ (m : Macro) (l : List ℕ) where
   as-running z = simp (eq-eqb (byteAt l 0) 0 z)
 
   module _ (a : (byteAt l 0 ≡ 0 → ⊥)) where
-    pub as-releasing : byteAt l 0 ≡ 1 → wipes l 0 ((2 ⋯ 6) ∷ (8 ⋯ 10528) ∷ (10528 + halfAt l 6 ⋯ 24576) ∷ []) ≡ cleared m l
+    pub as-releasing : byteAt l 0 ≡ 1 → wipes l 0 ((2 ⋯ 6) ∷ (8 ⋯ holdsAt) ∷ (holdsAt + halfAt l 6 ⋯ stateLength) ∷ []) ≡ cleared m l
     unfolding cleared
     as-releasing z = simp (ne-eqb (byteAt l 0) 0 a, eq-eqb (byteAt l 0) 1 z)
 
-    pub as-ended : (byteAt l 0 ≡ 1 → ⊥) → wipes l 0 ((2 ⋯ 24576) ∷ []) ≡ cleared m l
+    pub as-ended : (byteAt l 0 ≡ 1 → ⊥) → wipes l 0 ((2 ⋯ stateLength) ∷ []) ≡ cleared m l
     unfolding cleared
     as-ended z = simp (ne-eqb (byteAt l 0) 0 a, ne-eqb (byteAt l 0) 1 z)
 

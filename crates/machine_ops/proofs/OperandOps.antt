@@ -19,7 +19,7 @@ use Rattle.bytecode.specs.Macro.{Macro}
 use Rattle.bytecode.specs.Instructions.{Owner, own, root, ownerOf, operatorOf, orBinary, cellTy}
 use Rattle.bytecode.specs.Machine.{Activation, Shared, badFrame, badType, condition, goesOn, settled, onCell, pushCell, rootOf, doLoad, doStore, doOperate}
 use Rattle.bytecode.specs.Sound.{soundValue}
-use Rattle.bytecode.specs.State.{typeByte, wordOfCell, byteOfCell}
+use Rattle.bytecode.specs.State.{typeByte, wordOfCell, byteOfCell, operandTypesAt, operandWordsAt}
 use Rattle.bytecode_safety.specs.Lists.{all-first}
 use Rattle.logic.specs.ListLaws.{index-below}
 use Rattle.bytecode_layout.specs.Steps.{activation}
@@ -31,7 +31,7 @@ use Rattle.machine_ops.specs.Works.{Says, Works1, Works2}
 use Rattle.machine_ops.specs.declared.Out.{Out}
 use Rattle.machine_ops.specs.declared.Out.the-variants.{Goes}
 use Rattle.machine_ops.specs.Acts.{here, Now, Told, Tells, Pushes}
-use Rattle.machine_ops.proofs.Facts.{stands, few-records, value-back, word-valid, demanded, supplied, goes-on, owner-is}
+use Rattle.machine_ops.proofs.RunningFacts.{stands, few-records, value-back, word-valid, demanded, supplied, goes-on, owner-is}
 
 pub condition-tells : {l : List ℕ} {f n i : ℕ} (c : ℕ) (k : List ℕ) → k ≡ conditioned l c → Tells (λ m h. condition c h) l f n i k Goes
 unfolding condition
@@ -72,7 +72,7 @@ module _ {l : List ℕ} {f n i : ℕ} where
             let rd = read-root (N .on) b c e few in
             cell u c (ew ∙ rw (low (q .0)) (rd .0)) (ey ∙ rw (low (q .0)) (rd .1))))
 
-    pub store-tells : (k1 k2 k3 : List ℕ) → 0 < n → n ≤ 32 → w ≡ wordAt l (f + (136 + 4 * (n - 1))) → y ≡ byteAt l (f + (296 + (n - 1)))
+    pub store-tells : (k1 k2 k3 : List ℕ) → 0 < n → n ≤ 32 → w ≡ wordAt l (f + (operandWordsAt + 4 * (n - 1))) → y ≡ byteAt l (f + (operandTypesAt + (n - 1)))
         → k1 ≡ cellSet l g b w y → k2 ≡ popped k1 f (n - 1) → k3 ≡ wentTo k2 f (i + 1)
         → (o : Owner) → ownerOf a ≡ some o → Tells (λ m h. doStore m o b h) l f n i k3 Goes
     unfolding doStore rootOf
@@ -104,7 +104,8 @@ module _ {l : List ℕ} {f n i : ℕ} where
             goes-on (activation c0 a0 cs (v ∷ vs) gs) [] Goes p2 k3 (i + 1) (e3 ∙ rw (e2, e1, low (q .0))) (omega (arith, N .address)) refl)))
 
   -- ── operators ──
-  module _ (a x y : ℕ) (r : Worked) (some-operand : 0 < n) (many : n ≤ 32) (ex : x ≡ wordAt l (f + (136 + 4 * (n - 1)))) (ey : y ≡ byteAt l (f + (296 + (n - 1)))) (W : Works1 a y x r) where
+  module _ (a x y : ℕ) (r : Worked) (some-operand : 0 < n) (many : n ≤ 32) (ex : x ≡ wordAt l (f + (operandWordsAt + 4 * (n - 1))))
+      (ey : y ≡ byteAt l (f + (operandTypesAt + (n - 1)))) (W : Works1 a y x r) where
     unary-by : (k : List ℕ) (z : Out)
         → ((m : Macro) (rs : Shared) (c0 a0 : ℕ) (cs : List Cell) (v : Value) (vs : List Value) (gs : List ℕ) (fs : List Activation) → Now m l f n i rs (activation c0 a0 cs (v ∷ vs) gs) fs
         → (u : Value) → r ≡ worked.Gives (valueWord u) (typeByte u) → Told (goesOn [] (u ∷ vs) (here rs (activation c0 a0 cs (v ∷ vs) gs) fs)) k z)
@@ -138,8 +139,8 @@ module _ {l : List ℕ} {f n i : ℕ} where
         (λ m rs c0 a0 cs v vs gs fs N u eu. let q : _≡_ {A = ℕ} 0 1 = cc in absurd (omega arith))
         (λ d ed. let q : c ≡ d = cc in rw (← q) C)
 
-  module _ (a x t y : ℕ) (r : Worked) (two-operands : 2 ≤ n) (many : n ≤ 32) (ey : y ≡ wordAt l (f + (136 + 4 * (n - 1)))) (ex : x ≡ wordAt l (f + (136 + 4 * (n - 2))))
-      (et : t ≡ byteAt l (f + (296 + (n - 2)))) (W : Works2 a t x y r) where
+  module _ (a x t y : ℕ) (r : Worked) (two-operands : 2 ≤ n) (many : n ≤ 32) (ey : y ≡ wordAt l (f + (operandWordsAt + 4 * (n - 1)))) (ex : x ≡ wordAt l (f + (operandWordsAt + 4 * (n - 2))))
+      (et : t ≡ byteAt l (f + (operandTypesAt + (n - 2)))) (W : Works2 a t x y r) where
     binary-by : (k : List ℕ) (z : Out)
         → ((m : Macro) (rs : Shared) (c0 a0 : ℕ) (cs : List Cell) (w v : Value) (vs : List Value) (gs : List ℕ) (fs : List Activation) → Now m l f n i rs (activation c0 a0 cs (w ∷ (v ∷ vs)) gs) fs
         → (u : Value) → r ≡ worked.Gives (valueWord u) (typeByte u) → Told (goesOn [] (u ∷ vs) (here rs (activation c0 a0 cs (w ∷ (v ∷ vs)) gs) fs)) k z)

@@ -23,9 +23,9 @@ use Rattle.machine_ops.specs.declared.Out.{Out}
 use Rattle.machine_ops.specs.declared.Out.the-variants.{Goes}
 use Rattle.machine_ops.specs.Acts.{here, outOf}
 use Rattle.machine_run.specs.Held.{record-of, Poised, Acts}
-use Rattle.machine_run.proofs.Decode.{is-end, is-integer, is-logical, is-bits, is-null, is-load, is-store, is-operate, is-go, is-unless, is-return, is-make}
-use Rattle.machine_run.proofs.Decode.{is-get, is-put, is-set, is-fader, is-hold, is-release, is-assert, is-stop, other}
-use Rattle.machine_run.proofs.Keeping.{Plain, Next, onward, Within, jumps, jumps-unless, Ran, returns}
+use Rattle.machine_run.proofs.OpDecode.{is-end, is-integer, is-logical, is-bits, is-null, is-load, is-store, is-operate, is-go, is-unless, is-return, is-make}
+use Rattle.machine_run.proofs.OpDecode.{is-get, is-put, is-set, is-fader, is-hold, is-release, is-assert, is-stop, other}
+use Rattle.machine_run.proofs.StepKeeps.{Plain, Next, onward, Within, jumps, jumps-unless, Ran, returns}
 
 -- ── which ops are plain ──
 decide : {A : Type 0} (op k : ℕ) → (op ≡ k → A) → ((op ≡ k → ⊥) → A) → A

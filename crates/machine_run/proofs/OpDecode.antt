@@ -1,5 +1,5 @@
 -- The instruction of each op's number, and that the op's function does what the instruction does.
-use mathlib.Core.Path.{_≡_, refl, sym}
+use mathlib.Core.Path.{_≡_, refl, sym, subst}
 use mathlib.Core.Bool.{Bool, true, false, _&&_}
 use mathlib.Core.List.{List, [], _∷_}
 use mathlib.Core.Option.{Option, none, some}
@@ -23,9 +23,9 @@ use Rattle.bytecode.specs.Machine.{doFader, doTakeHold, letting, doAssert, act}
 use Rattle.bytecode.specs.Runs.{bankOf}
 use Rattle.machine_ops.specs.declared.Out.{Out}
 use Rattle.machine_ops.specs.Acts.{here, Tells, Pushes, Jumps}
-use Rattle.machine_ops.proofs.Facts.{never, demanded}
+use Rattle.machine_ops.proofs.RunningFacts.{never, demanded}
 use Rattle.machine_ops.specs.Moves.{TellsOf}
-use Rattle.machine_run.specs.Held.{record-of, Acts}
+use Rattle.machine_run.specs.Held.{record-of, Poised, Acts}
 
 -- ── the instruction ──
 exact : {A : Type 0} (p : Bool) (y x : A) → exactly p y ≡ some x → (p ≡ true) × (x ≡ y)
@@ -159,7 +159,10 @@ is-stop op a b x d (other n0 n1 n2 n3 n4 n5 n6 n7 n8 n9 n10 n11 n12 n13 n14 n15 
     go false e = let z : _≡_ {A = ℕ} 0 1 = cc in absurd (omega arith)
 
 -- ── what it does ──
-module _ (code readings : List ℕ) (op a b : ℕ) {l : List ℕ} {f n i : ℕ} (k : List ℕ) (o : Out) where
+pub as-number : {code readings l : List ℕ} {op k a b f n i : ℕ} → Poised code readings op a b l f n i → op ≡ k → Poised code readings k a b l f n i
+as-number {code} {readings} {l} {a = a} {b = b} {f = f} {n = n} {i = i} P e = subst (λ (x : ℕ). Poised code readings x a b l f n i) e P
+
+module _ {code readings : List ℕ} {op a b : ℕ} {l : List ℕ} {f n i : ℕ} (at-hand : Poised code readings op a b l f n i) {k : List ℕ} {o : Out} where
   pub by-end : op ≡ 0 → Tells (λ m h. doEnd h) l f n i k o → Acts code readings op a b l f n i k o
   unfolding act
   by-end e T m r rs t fs N x d = rw (is-end op a b x d e) (T m rs t fs N)

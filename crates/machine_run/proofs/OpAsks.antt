@@ -32,16 +32,17 @@ use Rattle.logic.specs.ListLaws.{index-below, each-at}
 use Rattle.bytecode_layout.specs.Places.{framePlace}
 use Rattle.machine_frames.specs.On.{on-long, read-count, read-records, read-holds, read-open, read-operand, read-depth, read-address}
 use Rattle.machine_ops.specs.Acts.{here, Now, Room, Holding}
-use Rattle.machine_ops.proofs.Facts.{never, around, stands, few-operands, few-holds, few-records}
+use Rattle.machine_ops.proofs.RunningFacts.{never, around, stands, few-operands, few-holds, few-records}
 use Rattle.machine_ops.specs.Moves.{CallRoom, ReturnRoom, FieldRoom, MakeRoom}
 use Rattle.machine_ops.specs.Moves.{given as given-of}
 use Rattle.load_check.specs.Lookups.{BodyAt, ClassAt}
 use Rattle.load_places.specs.Records.{classes, bodies, classPlace, bodyPlace}
 use Rattle.load_check.specs.Views.{span-length, tyOn, classOn, bodyOn, below, viewed}
-use Rattle.machine_ops.proofs.Lists.{below-top}
+use Rattle.machine_ops.proofs.MovedLists.{below-top}
 use Rattle.machine_run.specs.Held.{Poised}
-use Rattle.machine_run.proofs.Decode.{is-integer, is-logical, is-bits, is-null, is-load, is-store, is-operate, is-go, is-unless, is-call, is-return, is-make}
-use Rattle.machine_run.proofs.Decode.{is-get, is-put, is-set, is-fader, is-hold, is-release, is-assert}
+use Rattle.machine_run.proofs.OpDecode.{is-integer, is-logical, is-bits, is-null, is-load, is-store, is-operate, is-go, is-unless, is-call, is-return, is-make}
+use Rattle.machine_run.proofs.OpDecode.{is-get, is-put, is-set, is-fader, is-hold, is-release, is-assert}
+use Rattle.bytecode.specs.State.{activationLength, operandWordsAt}
 
 -- ── a step that is made ──
 record Moved (s : Stepped) : Type 0 where
@@ -278,7 +279,7 @@ module _ {code readings : List ℕ} {op a b : ℕ} {l : List ℕ} {f n i : ℕ} 
 
   -- a field of the record that an operand with us below it refers to
   field-asked : (ws : List Value) (v : Value) (us : List Value) (j : ℕ) (g : ℕ → Made → Ty → Value → Stepped) → P .top .operands ≡ ws ++ (v ∷ us) → j ≡ length us → j < 32
-      → Moved (onField (P .macro) a b v (here (P .shared) (P .top) (P .below)) g) → (wordAt l (f + (136 + 4 * j)) ≡ 0 → ⊥) → FieldRoom (wordAt l (f + (136 + 4 * j))) b
+      → Moved (onField (P .macro) a b v (here (P .shared) (P .top) (P .below)) g) → (wordAt l (f + (operandWordsAt + 4 * j)) ≡ 0 → ⊥) → FieldRoom (wordAt l (f + (operandWordsAt + 4 * j))) b
   field-asked ws (int z) us j g e k h m = not-stuck m
   field-asked ws (log z) us j g e k h m = not-stuck m
   field-asked ws (bit z) us j g e k h m = not-stuck m
@@ -286,12 +287,12 @@ module _ {code readings : List ℕ} {op a b : ℕ} {l : List ℕ} {f n i : ℕ} 
       let q = demand-there (eqb d a) badRecord _ m in
       let c : d ≡ a = eqb-true d a (q .0) in
       let rd = read-operand (N .on) ws (ref d r) us j e k h in
-      field-room a b (wordAt l (f + (136 + 4 * j))) r _ (rd .0) (λ p z ez mz.
+      field-room a b (wordAt l (f + (operandWordsAt + 4 * j))) r _ (rd .0) (λ p z ez mz.
       let t = given-there (fieldTy (P .macro) a b) badType _ mz in
       let y = given-there (getElem? (z .fields) b) badType _ (t .2) in
       record-room N p b z (y .0) ez (y .1)) (q .1)
 
-  pub asks-get : op ≡ 13 → (0 < n) × ((wordAt l (f + (136 + 4 * (n - 1))) ≡ 0 → ⊥) → FieldRoom (wordAt l (f + (136 + 4 * (n - 1)))) b)
+  pub asks-get : op ≡ 13 → (0 < n) × ((wordAt l (f + (operandWordsAt + 4 * (n - 1))) ≡ 0 → ⊥) → FieldRoom (wordAt l (f + (operandWordsAt + 4 * (n - 1)))) b)
   unfolding act doGetField
   asks-get e =
       let m = doing _ (is-get op a b (P .instr) (P .decoded) e) in
@@ -299,7 +300,7 @@ module _ {code readings : List ℕ} {op a b : ℕ} {l : List ℕ} {f n i : ℕ} 
       let v = pop-there (P .top .operands) _ m in
       (k, field-asked [] (v .0) (v .1) (n - 1) _ (v .2) (omega (arith, depth, ap length (v .2))) (omega (arith, depth, few-operands N)) (v .3))
 
-  pub asks-put : op ≡ 14 → (2 ≤ n) × ((wordAt l (f + (136 + 4 * (n - 2))) ≡ 0 → ⊥) → FieldRoom (wordAt l (f + (136 + 4 * (n - 2)))) b)
+  pub asks-put : op ≡ 14 → (2 ≤ n) × ((wordAt l (f + (operandWordsAt + 4 * (n - 2))) ≡ 0 → ⊥) → FieldRoom (wordAt l (f + (operandWordsAt + 4 * (n - 2)))) b)
   unfolding act doPutField
   asks-put e =
       let m = doing _ (is-put op a b (P .instr) (P .decoded) e) in
@@ -377,7 +378,7 @@ module _ {code readings : List ℕ} {op a b : ℕ} {l : List ℕ} {f n i : ℕ} 
       down (u ∷ us) o m M W =
           let few : suc (length us) < 32 = M .on .few in
           let pl : f ≡ framePlace (suc (length us)) = M .on .place in
-          let under = below-top (M .on) (f - 328) (rw pl (omega arith)) in
+          let under = below-top (M .on) (f - activationLength) (rw pl (omega arith)) in
           let k = goes-room [] (P .top .operands ++ u .operands) (here (P .shared) u us) m in
           record {
             long = on-long (M .on);
