@@ -12,22 +12,14 @@ enter-body-requires c κs = c .before .before .before .before .before .pre .4 (o
 returns : tie.Need-returns
 returns c =
     let at-start = c .before .before .before .before .before .before .before .before in
-    call-enters (now (at-start .args .code))
-    (at-start .args .place)
-    (at-start .args .body)
-    (at-start .pre .1)
-    (at-start .pre .2) _
+    call-enters (now (at-start .args .code)) (at-start .args .place) (at-start .args .body) (at-start .pre .1) (at-start .pre .2) _
     (at-start .pre .4 (omega arith)) (c .before .before .enter-body .ensures)
 
 returns-2 : tie.Need-returns-2
 returns-2 c =
     let at-start = c .before .before .before .before .before .before .before .before in
-    call-full (now (at-start .args .code))
-    (at-start .args .place)
-    (at-start .args .body)
-    (at-start .pre .1)
-    (at-start .pre .2) _ _
-    (at-start .pre .3) (omega arith) (c .before .before .op-condition .ensures)
+    call-full (now (at-start .args .code)) (at-start .args .place) (at-start .args .body) (at-start .pre .1) (at-start .pre .2) _ _ (at-start .pre .3)
+    (omega arith) (c .before .before .op-condition .ensures)
 
 pub op-call-spec : {M : Type 1} → statement M
 op-call-spec =

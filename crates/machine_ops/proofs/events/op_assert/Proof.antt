@@ -9,17 +9,14 @@ returns : tie.Need-returns
 returns c =
     let at-if1 = c .before .before .before .before in
     let at-operand-word = at-if1 .before in
-    assert-false (omega arith) (omega arith) _ (at-operand-word .operand-word .ensures) _ _
-    (at-if1 .if1 .taken) (c .before .before .op-condition .ensures)
+    assert-false (omega arith) (omega arith) _ (at-operand-word .operand-word .ensures) _ _ (at-if1 .if1 .taken) (c .before .before .op-condition .ensures)
 
 returns-2 : tie.Need-returns-2
 returns-2 c =
     let at-pop = c .before .before .before .before .before .before in
     let at-if1 = at-pop .before .before in
     let at-operand-word = at-if1 .before in
-    assert-true (omega arith) (omega arith) _ (at-operand-word .operand-word .ensures) _ _
-    (at-if1 .if1 .left) (at-pop .pop .ensures)
-    (c .before .before .go-to .ensures)
+    assert-true (omega arith) (omega arith) _ (at-operand-word .operand-word .ensures) _ _ (at-if1 .if1 .left) (at-pop .pop .ensures) (c .before .before .go-to .ensures)
 
 pub op-assert-spec : {M : Type 1} → statement M
 op-assert-spec =

@@ -12,16 +12,13 @@ returns : tie.Need-returns
 returns c =
     let at-operand-word = c .before .before .before .before .before in
     let at-start = at-operand-word .before .before .before .before in
-    fader-low (omega arith) (omega arith) _ (at-operand-word .operand-word .ensures)
-    (now (at-start .args .readings)) _ _ (omega arith) (c .before .before .op-condition .ensures)
+    fader-low (omega arith) (omega arith) _ (at-operand-word .operand-word .ensures) (now (at-start .args .readings)) _ _ (omega arith) (c .before .before .op-condition .ensures)
 
 returns-2 : tie.Need-returns-2
 returns-2 c =
     let at-operand-word = c .before .before .before .before .before .before in
     let at-start = at-operand-word .before .before .before .before in
-    fader-high (omega arith) (omega arith) _ (at-operand-word .operand-word .ensures)
-    (now (at-start .args .readings)) _ _ (omega arith)
-    (c .before .before .op-condition2 .ensures)
+    fader-high (omega arith) (omega arith) _ (at-operand-word .operand-word .ensures) (now (at-start .args .readings)) _ _ (omega arith) (c .before .before .op-condition2 .ensures)
 
 cast-put-operand : tie.Need-cast-put-operand
 cast-put-operand c =
@@ -33,9 +30,8 @@ returns-3 c =
     let at-put-operand = c .before .before .before .before .before .before in
     let at-operand-word = at-put-operand .before .before .before .before .before in
     let at-start = at-operand-word .before .before .before .before in
-    fader-tells (omega arith) (omega arith) _ (at-operand-word .operand-word .ensures)
-    (now (at-start .args .readings))
-    _ _ _ (omega arith) (omega arith) refl (at-put-operand .put-operand .ensures) (c .before .before .go-to .ensures)
+    fader-tells (omega arith) (omega arith) _ (at-operand-word .operand-word .ensures) (now (at-start .args .readings)) _ _ _ (omega arith)
+    (omega arith) refl (at-put-operand .put-operand .ensures) (c .before .before .go-to .ensures)
 
 pub op-fader-spec : {M : Type 1} → statement M
 op-fader-spec =

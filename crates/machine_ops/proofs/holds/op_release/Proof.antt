@@ -10,8 +10,7 @@ returns : tie.Need-returns
 returns c =
     let at-let-hold = c .before .before .before .before .before .before in
     let at-half-at = at-let-hold .before .before .before in
-    release-tells _ _ _ _ (at-half-at .half-at .ensures) (omega arith)
-    (omega arith) refl (at-let-hold .let-hold .ensures) (c .before .before .go-to .ensures)
+    release-tells _ _ _ _ (at-half-at .half-at .ensures) (omega arith) (omega arith) refl (at-let-hold .let-hold .ensures) (c .before .before .go-to .ensures)
 
 pub op-release-spec : {M : Type 1} → statement M
 op-release-spec =

@@ -11,9 +11,7 @@ returns c =
     let at-pop = at-if1 .before .before .before in
     let at-operand-word = at-pop .before .before in
     let at-start = at-operand-word .before .before .before in
-    unless-false (omega arith) (omega arith) _ (at-operand-word .operand-word .ensures)
-    (at-start .args .b) _ _
-    (at-pop .pop .ensures) (at-if1 .if1 .taken) (c .before .before .go-to .ensures)
+    unless-false (omega arith) (omega arith) _ (at-operand-word .operand-word .ensures) (at-start .args .b) _ _ (at-pop .pop .ensures) (at-if1 .if1 .taken) (c .before .before .go-to .ensures)
 
 returns-2 : tie.Need-returns-2
 returns-2 c =
@@ -21,9 +19,7 @@ returns-2 c =
     let at-pop = at-if1 .before .before .before in
     let at-operand-word = at-pop .before .before in
     let at-start = at-operand-word .before .before .before in
-    unless-true (omega arith) (omega arith) _ (at-operand-word .operand-word .ensures)
-    (at-start .args .b) _ _
-    (at-pop .pop .ensures) (at-if1 .if1 .left) (c .before .before .go-to2 .ensures)
+    unless-true (omega arith) (omega arith) _ (at-operand-word .operand-word .ensures) (at-start .args .b) _ _ (at-pop .pop .ensures) (at-if1 .if1 .left) (c .before .before .go-to2 .ensures)
 
 pub op-unless-spec : {M : Type 1} → statement M
 op-unless-spec =

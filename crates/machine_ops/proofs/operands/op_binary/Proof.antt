@@ -15,14 +15,9 @@ returns c =
     let at-operand-word2 = at-operand-type .before .before in
     let at-operand-word = at-operand-word2 .before .before in
     let at-start = at-operand-word .before .before .before in
-    binary-gives (at-start .args .a)
-    _ _ _ _ (omega arith) (omega arith) (at-operand-word .operand-word .ensures)
-    (at-operand-word2 .operand-word2 .ensures)
-    (at-operand-type .operand-type .ensures)
-    (at-binary .binary .ensures) _ _ _
-    _ _ (at-w .w .given .1)
-    (at-pop .pop .ensures)
-    (at-put-operand .put-operand .ensures) (c .before .before .go-to .ensures)
+    binary-gives (at-start .args .a) _ _ _ _ (omega arith) (omega arith) (at-operand-word .operand-word .ensures)
+    (at-operand-word2 .operand-word2 .ensures) (at-operand-type .operand-type .ensures) (at-binary .binary .ensures) _ _ _ _ _ (at-w .w .given .1)
+    (at-pop .pop .ensures) (at-put-operand .put-operand .ensures) (c .before .before .go-to .ensures)
 
 returns-2 : tie.Need-returns-2
 returns-2 c =
@@ -32,11 +27,8 @@ returns-2 c =
     let at-operand-word2 = at-operand-type .before .before in
     let at-operand-word = at-operand-word2 .before .before in
     let at-start = at-operand-word .before .before .before in
-    binary-ends (at-start .args .a) _
-    _ _ _ (omega arith) (omega arith) (at-operand-word .operand-word .ensures)
-    (at-operand-word2 .operand-word2 .ensures)
-    (at-operand-type .operand-type .ensures)
-    (at-binary .binary .ensures) _ _ _ (at-c .c .given .1)
+    binary-ends (at-start .args .a) _ _ _ _ (omega arith) (omega arith) (at-operand-word .operand-word .ensures)
+    (at-operand-word2 .operand-word2 .ensures) (at-operand-type .operand-type .ensures) (at-binary .binary .ensures) _ _ _ (at-c .c .given .1)
     (c .before .before .op-condition .ensures)
 
 pub op-binary-spec : {M : Type 1} → statement M

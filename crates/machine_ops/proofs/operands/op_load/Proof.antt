@@ -11,12 +11,8 @@ returns c =
     let at-cell-word = at-cell-type .before .before in
     let at-owner = at-cell-word .before .before in
     let at-start = at-owner .before .before in
-    load-tells (at-start .args .a)
-    (at-start .args .b)
-    (at-owner .owner .result) _ _ (omega arith)
-    (at-owner .owner .ensures .1)
-    (at-owner .owner .ensures .2) _ _
-    (at-cell-word .cell-word .ensures) (at-cell-type .cell-type .ensures) (c .before .before .op-push .ensures)
+    load-tells (at-start .args .a) (at-start .args .b) (at-owner .owner .result) _ _ (omega arith) (at-owner .owner .ensures .1)
+    (at-owner .owner .ensures .2) _ _ (at-cell-word .cell-word .ensures) (at-cell-type .cell-type .ensures) (c .before .before .op-push .ensures)
 
 pub op-load-spec : {M : Type 1} → statement M
 op-load-spec =

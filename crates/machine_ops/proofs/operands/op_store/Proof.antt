@@ -13,15 +13,9 @@ returns c =
     let at-operand-type = at-owner .before in
     let at-operand-word = at-operand-type .before .before in
     let at-start = at-operand-word .before .before .before in
-    store-tells (at-start .args .a)
-    (at-start .args .b)
-    (at-owner .owner .result) _ _ (omega arith)
-    (at-owner .owner .ensures .1)
-    (at-owner .owner .ensures .2) _ _ _ (omega arith)
-    (omega arith) (at-operand-word .operand-word .ensures)
-    (at-operand-type .operand-type .ensures)
-    (at-put-cell .put-cell .ensures)
-    (at-pop .pop .ensures) (c .before .before .go-to .ensures)
+    store-tells (at-start .args .a) (at-start .args .b) (at-owner .owner .result) _ _ (omega arith) (at-owner .owner .ensures .1)
+    (at-owner .owner .ensures .2) _ _ _ (omega arith) (omega arith) (at-operand-word .operand-word .ensures)
+    (at-operand-type .operand-type .ensures) (at-put-cell .put-cell .ensures) (at-pop .pop .ensures) (c .before .before .go-to .ensures)
 
 pub op-store-spec : {M : Type 1} → statement M
 op-store-spec =

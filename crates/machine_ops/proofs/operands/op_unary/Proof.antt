@@ -13,12 +13,9 @@ returns c =
     let at-operand-type = at-unary .before in
     let at-operand-word = at-operand-type .before .before in
     let at-start = at-operand-word .before .before .before in
-    unary-gives (at-start .args .a)
-    _ _ _ (omega arith) (omega arith) (at-operand-word .operand-word .ensures)
-    (at-operand-type .operand-type .ensures)
-    (at-unary .unary .ensures) _ _ _ _
-    (at-w .w .given .1)
-    (at-put-operand .put-operand .ensures) (c .before .before .go-to .ensures)
+    unary-gives (at-start .args .a) _ _ _ (omega arith) (omega arith) (at-operand-word .operand-word .ensures)
+    (at-operand-type .operand-type .ensures) (at-unary .unary .ensures) _ _ _ _ (at-w .w .given .1) (at-put-operand .put-operand .ensures)
+    (c .before .before .go-to .ensures)
 
 returns-2 : tie.Need-returns-2
 returns-2 c =
@@ -27,11 +24,8 @@ returns-2 c =
     let at-operand-type = at-unary .before in
     let at-operand-word = at-operand-type .before .before in
     let at-start = at-operand-word .before .before .before in
-    unary-ends (at-start .args .a) _ _ _
-    (omega arith) (omega arith) (at-operand-word .operand-word .ensures)
-    (at-operand-type .operand-type .ensures)
-    (at-unary .unary .ensures) _ _ _ (at-c .c .given .1)
-    (c .before .before .op-condition .ensures)
+    unary-ends (at-start .args .a) _ _ _ (omega arith) (omega arith) (at-operand-word .operand-word .ensures) (at-operand-type .operand-type .ensures)
+    (at-unary .unary .ensures) _ _ _ (at-c .c .given .1) (c .before .before .op-condition .ensures)
 
 pub op-unary-spec : {M : Type 1} → statement M
 op-unary-spec =

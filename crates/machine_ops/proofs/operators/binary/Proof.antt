@@ -15,8 +15,8 @@ returns-15 : tie.Need-returns-15
 returns-15 c =
     let r = c .before .match .rest in
     let s = r .0 .0 .0 .0 .0 .0 .0 in
-    works-right (operands (c .before .before)) _ (s .0 .0 .0 .0 .0 .0 .1) (s .0 .0 .0 .0 .0 .1) (s .0 .0 .0 .0 .1) (s .0 .0 .0 .1) (s .0 .0 .1) (s .0 .1) (s .1)
-    (r .0 .0 .0 .0 .0 .0 .1) (r .0 .0 .0 .0 .0 .1) (r .0 .0 .0 .0 .1) (r .0 .0 .0 .1) (r .0 .0 .1) (r .0 .1) (r .1) (rw (c .shift-right .ensures))
+    works-right (operands (c .before .before)) _ (s .0 .0 .0 .0 .0 .0 .1) (s .0 .0 .0 .0 .0 .1) (s .0 .0 .0 .0 .1) (s .0 .0 .0 .1) (s .0 .0 .1)
+    (s .0 .1) (s .1) (r .0 .0 .0 .0 .0 .0 .1) (r .0 .0 .0 .0 .0 .1) (r .0 .0 .0 .0 .1) (r .0 .0 .0 .1) (r .0 .0 .1) (r .0 .1) (r .1) (rw (c .shift-right .ensures))
 
 pub binary-spec : {M : Type 1} → statement M
 binary-spec =

@@ -11,9 +11,7 @@ returns c =
     let at-if1 = c .before .before .before .before in
     let at-operand-word = at-if1 .before in
     let at-start = at-operand-word .before .before .before in
-    get-null (at-start .args .c)
-    (at-start .args .b) (omega arith) (omega arith) _
-    (at-operand-word .operand-word .ensures) _ _ (at-if1 .if1 .taken) (c .before .before .op-condition .ensures)
+    get-null (at-start .args .c) (at-start .args .b) (omega arith) (omega arith) _ (at-operand-word .operand-word .ensures) _ _ (at-if1 .if1 .taken) (c .before .before .op-condition .ensures)
 
 field-word-requires : tie.Need-field-word-requires
 field-word-requires c κs =
@@ -39,12 +37,8 @@ returns-2 c =
     let at-start = at-operand-word .before .before .before in
     let z = at-if1 .if1 .left in
     let e = at-operand-word .operand-word .ensures in
-    get-tells (at-start .args .c)
-    (at-start .args .b)
-    (omega arith) (omega arith) _ e _ _ _ _ z (rw e (at-start .pre .2
-    (λ q. z (e ∙ q)))) (at-field-word .field-word .ensures)
-    (at-field-type .field-type .ensures)
-    (at-put-operand .put-operand .ensures) (c .before .before .go-to .ensures)
+    get-tells (at-start .args .c) (at-start .args .b) (omega arith) (omega arith) _ e _ _ _ _ z (rw e (at-start .pre .2 (λ q. z (e ∙ q))))
+    (at-field-word .field-word .ensures) (at-field-type .field-type .ensures) (at-put-operand .put-operand .ensures) (c .before .before .go-to .ensures)
 
 pub op-get-field-spec : {M : Type 1} → statement M
 op-get-field-spec =

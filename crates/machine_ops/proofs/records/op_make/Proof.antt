@@ -23,17 +23,9 @@ returns-2 c =
     let at-wide = at-make-record .before .before in
     let at-half-at = at-wide .before .before .before in
     let at-start = at-half-at .before .before .before .before in
-    make-tells (now (at-start .args .code))
-    (at-start .args .place)
-    (at-start .args .c)
-    (at-start .pre .1)
-    (at-start .pre .2)
-    _ _ _ _ _ _ _ (at-start .pre .4)
-    (omega arith) (at-half-at .half-at .ensures)
-    (omega arith) (at-wide .wide .ensures .0)
-    (at-make-record .make-record .ensures)
-    (at-move-operands .move-operands .ensures)
-    (at-drop-operands .drop-operands .ensures)
+    make-tells (now (at-start .args .code)) (at-start .args .place) (at-start .args .c) (at-start .pre .1) (at-start .pre .2) _ _ _ _ _ _ _
+    (at-start .pre .4) (omega arith) (at-half-at .half-at .ensures) (omega arith) (at-wide .wide .ensures .0)
+    (at-make-record .make-record .ensures) (at-move-operands .move-operands .ensures) (at-drop-operands .drop-operands .ensures)
     (at-push .push .ensures) (c .before .before .go-to .ensures)
 
 pub op-make-spec : {M : Type 1} → statement M

@@ -11,9 +11,7 @@ returns c =
     let at-if1 = c .before .before .before .before in
     let at-operand-word = at-if1 .before in
     let at-start = at-operand-word .before .before .before in
-    put-null (at-start .args .c)
-    (at-start .args .b) (omega arith) (omega arith) _
-    (at-operand-word .operand-word .ensures) _ _ (at-if1 .if1 .taken) (c .before .before .op-condition .ensures)
+    put-null (at-start .args .c) (at-start .args .b) (omega arith) (omega arith) _ (at-operand-word .operand-word .ensures) _ _ (at-if1 .if1 .taken) (c .before .before .op-condition .ensures)
 
 put-field-requires : tie.Need-put-field-requires
 put-field-requires c κs =
@@ -37,13 +35,8 @@ returns-2 c =
     let at-start = at-operand-word .before .before .before in
     let z = at-if1 .if1 .left in
     let e = at-operand-word .operand-word .ensures in
-    put-tells (at-start .args .c)
-    (at-start .args .b)
-    (omega arith) (omega arith) _ e _ _ _ _ _ _ z (rw e (at-start .pre .2
-    (λ q. z (e ∙ q)))) (at-operand-word2 .operand-word2 .ensures)
-    (at-operand-type .operand-type .ensures)
-    (at-put-field .put-field .ensures)
-    (at-pop .pop .ensures)
+    put-tells (at-start .args .c) (at-start .args .b) (omega arith) (omega arith) _ e _ _ _ _ _ _ z (rw e (at-start .pre .2 (λ q. z (e ∙ q))))
+    (at-operand-word2 .operand-word2 .ensures) (at-operand-type .operand-type .ensures) (at-put-field .put-field .ensures) (at-pop .pop .ensures)
     (at-pop2 .pop2 .ensures) (c .before .before .go-to .ensures)
 
 pub op-put-field-spec : {M : Type 1} → statement M

@@ -34,15 +34,10 @@ returns-2 c =
     let at-half-at = at-if2 .before in
     let at-shared-slice-known2 = at-half-at .before .before .before in
     let at-start = at-shared-slice-known2 .before .before .before in
-    λ l₀ alive R. finished (now (at-start .args .code))
-    (now (at-start .args .readings)) _ _ _
+    λ l₀ alive R. finished (now (at-start .args .code)) (now (at-start .args .readings)) _ _ _
     (λ k. omega (arith, at-shared-slice-known2 .shared-slice-known2 .given k))
-    (releasing-ends (now (at-start .args .code)) _
-    (now (at-start .args .readings)) _ _ _ 0
-    (at-start .pre .1)
-    (at-half-at .half-at .ensures) (at-if2 .if2 .taken)
-    (c .before .before .put-byte .ensures) refl) _ _ l₀ (omega arith) R
-    (at-start .pre .2) alive _ refl
+    (releasing-ends (now (at-start .args .code)) _ (now (at-start .args .readings)) _ _ _ 0 (at-start .pre .1) (at-half-at .half-at .ensures)
+    (at-if2 .if2 .taken) (c .before .before .put-byte .ensures) refl) _ _ l₀ (omega arith) R (at-start .pre .2) alive _ refl
 
 slice-read-g : tie.Need-slice-read-g
 slice-read-g c =

@@ -25,12 +25,9 @@ body-at-requires c κs =
 returns-2 : tie.Need-returns-2
 returns-2 c =
     let at-start = c .before .before .before .before .before .before .before .before .before in
-    law.args-off _ _
-    _ _
-    _ _
-    _ (omega arith) (c .before .before .body-at .result)
-    (c .before .before .body-at .ensures .is ∙ ap (bodyPlace (at-start .args .code .now))
-    (c .before .before .before .byte-at .ensures .0)) (λ z. c .if2 .taken (omega arith))
+    law.args-off _ _ _ _ _ _ _ (omega arith) (c .before .before .body-at .result)
+    (c .before .before .body-at .ensures .is ∙ ap (bodyPlace (at-start .args .code .now)) (c .before .before .before .byte-at .ensures .0))
+    (λ z. c .if2 .taken (omega arith))
 
 returns-3 : tie.Need-returns-3
 returns-3 c =
@@ -38,13 +35,8 @@ returns-3 c =
     let at-byte-at = at-body-at .before in
     let at-start = at-byte-at .before .before .before .before .before .before in
     c .same-row .ensures ∙ rw (c .before .before .byte-at2 .ensures .0)
-    (law.args-row _ _
-    _ _
-    _ _
-    _ (omega arith)
-    (at-body-at .body-at .result) (at-body-at .body-at .ensures .is
-    ∙ ap (bodyPlace (at-start .args .code .now))
-    (at-byte-at .byte-at .ensures .0)) (omega arith))
+    (law.args-row _ _ _ _ _ _ _ (omega arith) (at-body-at .body-at .result)
+    (at-body-at .body-at .ensures .is ∙ ap (bodyPlace (at-start .args .code .now)) (at-byte-at .byte-at .ensures .0)) (omega arith))
 
 pub args-fit-spec : {M : Type 1} → statement M
 args-fit-spec =

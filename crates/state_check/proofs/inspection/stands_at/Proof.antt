@@ -16,8 +16,7 @@ returns c =
 
 returns-2 : tie.Need-returns-2
 returns-2 c =
-    law.stands-2 _ _ _ _ _ _ _ _ _
-    (sym (c .before .before .before .byte-at .ensures .0) ∙ c .before .before .if1 .left) (λ z. c .if2 .taken (c .before .byte-at2 .ensures .0 ∙ z))
+    law.stands-2 _ _ _ _ _ _ _ _ _ (sym (c .before .before .before .byte-at .ensures .0) ∙ c .before .before .if1 .left) (λ z. c .if2 .taken (c .before .byte-at2 .ensures .0 ∙ z))
 
 returns-3 : tie.Need-returns-3
 returns-3 c =
@@ -28,7 +27,8 @@ returns-3 c =
     law.stands-3 _ _ _ _ _ _ _ _ _ (sym (at-byte-at .byte-at .ensures .0) ∙ at-if1 .if1 .left)
     (sym (at-byte-at2 .byte-at2 .ensures .0) ∙ c .before .before .before .if2 .left)
     (sym (ap (λ (x : ℕ). argsFit (at-start .args .code .now) (at-start .args .state .now) (at-start .args .activations) (at-start .args .k)
-    (at-start .args .stack .now) x (at-start .args .depth)) (c .before .before .byte-at3 .ensures .0)) ∙ sym (c .before .args-fit .ensures) ∙ not-true _ (c .if3 .taken))
+    (at-start .args .stack .now) x (at-start .args .depth)) (c .before .before .byte-at3 .ensures .0)) ∙ sym (c .before .args-fit .ensures)
+    ∙ not-true _ (c .if3 .taken))
 
 row-fits-requires : tie.Need-row-fits-requires
 row-fits-requires c κs =

@@ -47,8 +47,8 @@ calls-next-requires c κs = (
 
 returns-6 : tie.Need-returns-6
 returns-6 c =
-    law.frame-6 _ _ _ _ _ (omega arith) _ (placed (c .before .before .before .before .before .before .before .before .before .before .before)) (omega arith) (omega arith) (omega arith) (omega arith)
-    (sym (c .before .calls-next .ensures) ∙ not-true _ (c .if6 .taken))
+    law.frame-6 _ _ _ _ _ (omega arith) _ (placed (c .before .before .before .before .before .before .before .before .before .before .before))
+    (omega arith) (omega arith) (omega arith) (omega arith) (sym (c .before .calls-next .ensures) ∙ not-true _ (c .if6 .taken))
 
 row-fits-requires : tie.Need-row-fits-requires
 row-fits-requires c κs = (
@@ -64,8 +64,7 @@ returns-7 : tie.Need-returns-7
 returns-7 c =
     c .row-fits .ensures ∙ rw (c .before .before .before .before .before .before .before .before .before .before .before .byte-at3 .ensures .0)
     (law.frame-7 _ _ _ _ _ (omega arith) _ (placed (c .before .before .before .before .before .before .before .before .before .before .before .before))
-    (omega arith) (omega arith) (omega arith) (omega arith)
-    (sym (c .before .before .calls-next .ensures) ∙ not-false _ (c .before .if6 .left)))
+    (omega arith) (omega arith) (omega arith) (omega arith) (sym (c .before .before .calls-next .ensures) ∙ not-false _ (c .before .if6 .left)))
 
 pub frame-fits-spec : {M : Type 1} → statement M
 frame-fits-spec =

@@ -26,15 +26,13 @@ returns-2 c =
 returns-3 : tie.Need-returns-3
 returns-3 c =
     let at-byte-at = c .before .before .before .before .before .before in
-    law.plain-other _ _ (λ z.
-    c .before .before .before .if1 .left (at-byte-at .byte-at .ensures .0 ∙ z))
+    law.plain-other _ _ (λ z. c .before .before .before .if1 .left (at-byte-at .byte-at .ensures .0 ∙ z))
     (sym (at-byte-at .byte-at .ensures .0) ∙ c .before .before .if2 .taken) (sym (c .before .is-condition .ensures) ∙ c .if3 .left)
 
 returns-4 : tie.Need-returns-4
 returns-4 c =
     let at-byte-at = c .before .before .before .before .before .before in
-    c .is-end .ensures ∙ law.plain-ended _ _
-    (λ z. c .before .before .before .if1 .left (at-byte-at .byte-at .ensures .0 ∙ z))
+    c .is-end .ensures ∙ law.plain-ended _ _ (λ z. c .before .before .before .if1 .left (at-byte-at .byte-at .ensures .0 ∙ z))
     (λ z. c .before .before .if2 .left (at-byte-at .byte-at .ensures .0 ∙ z)) (sym (at-byte-at .byte-at .ensures .0) ∙ c .before .if4 .taken)
 
 returns-5 : tie.Need-returns-5

@@ -35,11 +35,8 @@ returns-2 : tie.Need-returns-2
 returns-2 c =
     let at-byte-at = c .before .before .before .before .before in
     let at-start = at-byte-at .before .before .before .before in
-    c .row-fits .ensures ∙ rw (c .before .byte-at3 .ensures .0) (law.record-row
-    _ _
-    _ _ (c .before .before .class-at .result)
-    (c .before .before .class-at .ensures .is ∙ ap (classPlace (at-start .args .code .now))
-    (at-byte-at .byte-at .ensures .0)) (omega arith))
+    c .row-fits .ensures ∙ rw (c .before .byte-at3 .ensures .0) (law.record-row _ _ _ _ (c .before .before .class-at .result)
+    (c .before .before .class-at .ensures .is ∙ ap (classPlace (at-start .args .code .now)) (at-byte-at .byte-at .ensures .0)) (omega arith))
 
 pub record-fits-spec : {M : Type 1} → statement M
 record-fits-spec =

@@ -17,31 +17,22 @@ returns-2 c =
 
 returns-3 : tie.Need-returns-3
 returns-3 c =
-    law.running-3 _ _ _ _ _
-    (omega arith) (omega arith) (omega arith)
+    law.running-3 _ _ _ _ _ (omega arith) (omega arith) (omega arith)
 
 returns-4 : tie.Need-returns-4
 returns-4 c =
-    law.running-4 _ _
-    _ _
-    _ (omega arith) (omega arith) (omega arith)
-    (λ z. c .if4 .taken (c .before .byte-at .ensures .0 ∙ z))
+    law.running-4 _ _ _ _ _ (omega arith) (omega arith) (omega arith) (λ z. c .if4 .taken (c .before .byte-at .ensures .0 ∙ z))
 
 returns-5 : tie.Need-returns-5
 returns-5 c =
-    law.running-5 _ _
-    _ _
-    _ (omega arith) (omega arith) (omega arith)
-    (sym (c .before .before .before .byte-at .ensures .0) ∙ c .before .before .if4 .left) (λ z. c .if5 .taken (c .before .open-holds .ensures ∙ z))
+    law.running-5 _ _ _ _ _ (omega arith) (omega arith) (omega arith) (sym (c .before .before .before .byte-at .ensures .0)
+    ∙ c .before .before .if4 .left) (λ z. c .if5 .taken (c .before .open-holds .ensures ∙ z))
 
 returns-6 : tie.Need-returns-6
 returns-6 c =
     let at-if4 = c .before .before .before .before in
     let at-byte-at = at-if4 .before in
-    law.running-6 _ _
-    _ _
-    _ (omega arith) (omega arith)
-    (omega arith) (sym (at-byte-at .byte-at .ensures .0) ∙ at-if4 .if4 .left)
+    law.running-6 _ _ _ _ _ (omega arith) (omega arith) (omega arith) (sym (at-byte-at .byte-at .ensures .0) ∙ at-if4 .if4 .left)
     (sym (c .before .before .before .open-holds .ensures) ∙ c .before .before .if5 .left) (sym (c .before .groups-fit .ensures) ∙ not-true _ (c .if6 .taken))
 
 returns-7 : tie.Need-returns-7
@@ -50,13 +41,10 @@ returns-7 c =
     let at-open-holds = at-if5 .before in
     let at-if4 = at-open-holds .before in
     let at-byte-at = at-if4 .before in
-    law.running-7 _ _
-    _ _
-    _ (omega arith)
-    (omega arith) (omega arith) (sym (at-byte-at .byte-at .ensures .0)
-    ∙ at-if4 .if4 .left) (sym (at-open-holds .open-holds .ensures)
-    ∙ at-if5 .if5 .left) (sym (c .before .before .before .groups-fit .ensures)
-    ∙ not-false _ (c .before .before .if6 .left)) (sym (c .before .records-fit .ensures) ∙ not-true _ (c .if7 .taken))
+    law.running-7 _ _ _ _ _ (omega arith) (omega arith) (omega arith) (sym (at-byte-at .byte-at .ensures .0) ∙ at-if4 .if4 .left)
+    (sym (at-open-holds .open-holds .ensures) ∙ at-if5 .if5 .left)
+    (sym (c .before .before .before .groups-fit .ensures) ∙ not-false _ (c .before .before .if6 .left))
+    (sym (c .before .records-fit .ensures) ∙ not-true _ (c .if7 .taken))
 
 returns-8 : tie.Need-returns-8
 returns-8 c =
@@ -65,12 +53,8 @@ returns-8 c =
     let at-open-holds = at-if5 .before in
     let at-if4 = at-open-holds .before in
     let at-byte-at = at-if4 .before in
-    c .frames-fit .ensures ∙ law.running-8 _ _
-    _ _
-    _
-    (omega arith) (omega arith) (omega arith) (sym (at-byte-at .byte-at .ensures .0)
-    ∙ at-if4 .if4 .left)
-    (sym (at-open-holds .open-holds .ensures) ∙ at-if5 .if5 .left)
+    c .frames-fit .ensures ∙ law.running-8 _ _ _ _ _ (omega arith) (omega arith) (omega arith)
+    (sym (at-byte-at .byte-at .ensures .0) ∙ at-if4 .if4 .left) (sym (at-open-holds .open-holds .ensures) ∙ at-if5 .if5 .left)
     (sym (at-groups-fit .groups-fit .ensures) ∙ not-false _ (c .before .before .before .if6 .left))
     (sym (c .before .before .records-fit .ensures) ∙ not-false _ (c .before .if7 .left))
 

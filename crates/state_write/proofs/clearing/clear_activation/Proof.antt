@@ -11,11 +11,8 @@ returns c =
     let at-body-at = at-byte-at3 .before in
     let at-byte-at2 = at-body-at .before in
     let at-byte-at = at-byte-at2 .before .before in
-    law.activation-cleared _ _
-    _
-    (at-byte-at .byte-at .ensures .0) (omega arith)
-    (at-body-at .body-at .ensures .is) (at-byte-at3 .byte-at3 .ensures .0)
-    (at-byte-at2 .byte-at2 .ensures .0) (c .before .before .wipe-activation .ensures)
+    law.activation-cleared _ _ _ (at-byte-at .byte-at .ensures .0) (omega arith) (at-body-at .body-at .ensures .is)
+    (at-byte-at3 .byte-at3 .ensures .0) (at-byte-at2 .byte-at2 .ensures .0) (c .before .before .wipe-activation .ensures)
 
 pub clear-activation-spec : {M : Type 1} → statement M
 clear-activation-spec =

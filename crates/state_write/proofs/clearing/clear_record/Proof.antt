@@ -10,10 +10,7 @@ returns c =
     let at-byte-at2 = c .before .before .before .before in
     let at-class-at = at-byte-at2 .before in
     let at-byte-at = at-class-at .before in
-    law.record-cleared _ _
-    _
-    (at-byte-at .byte-at .ensures .0) (omega arith)
-    (at-class-at .class-at .ensures .is) (at-byte-at2 .byte-at2 .ensures .0) (c .before .before .wipe-record .ensures)
+    law.record-cleared _ _ _ (at-byte-at .byte-at .ensures .0) (omega arith) (at-class-at .class-at .ensures .is) (at-byte-at2 .byte-at2 .ensures .0) (c .before .before .wipe-record .ensures)
 
 pub clear-record-spec : {M : Type 1} → statement M
 clear-record-spec =

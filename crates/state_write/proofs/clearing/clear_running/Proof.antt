@@ -55,9 +55,9 @@ returns c =
     let at-half-at2 = at-clear-header .before .before in
     let at-half-at = at-half-at2 .before .before in
     let at-byte-at = at-half-at .before .before in
-    law.running-cleared _ _ (at-byte-at .byte-at .ensures .0) (at-half-at .half-at .ensures .0)
-    (at-half-at2 .half-at2 .ensures .0) (at-clear-header .clear-header .ensures) (at-clear-activations .clear-activations .ensures)
-    (at-clear-room .clear-room .ensures) (at-clear-records .clear-records .ensures) (c .before .before .wipe .ensures)
+    law.running-cleared _ _ (at-byte-at .byte-at .ensures .0) (at-half-at .half-at .ensures .0) (at-half-at2 .half-at2 .ensures .0)
+    (at-clear-header .clear-header .ensures) (at-clear-activations .clear-activations .ensures) (at-clear-room .clear-room .ensures)
+    (at-clear-records .clear-records .ensures) (c .before .before .wipe .ensures)
 
 pub clear-running-spec : {M : Type 1} → statement M
 clear-running-spec =

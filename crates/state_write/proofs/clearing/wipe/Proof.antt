@@ -32,8 +32,9 @@ same-length c = c .before .loop .inv .2 ∙ sym (c .before .before .pre .0)
 
 returns : tie.Need-returns Inv-loop μ-loop
 returns c =
-    c .before .loop .inv .3 ∙ ap (λ (n : ℕ). sets (c .before .before .args .state .now) (c .before .before .args .place + c .before .before .args .from)
-    (zeros n)) (let z : c .before .loop .i - (c .before .before .args .place + c .before .before .args .from)
+    c .before .loop .inv .3 ∙ ap (λ (n : ℕ). sets (c .before .before .args .state .now)
+    (c .before .before .args .place + c .before .before .args .from) (zeros n))
+    (let z : c .before .loop .i - (c .before .before .args .place + c .before .before .args .from)
     ≡ c .before .before .args .to - c .before .before .args .from = omega arith in z)
 
 pub wipe-spec : {M : Type 1} → statement M

@@ -42,8 +42,7 @@ same-length c =
 returns : tie.Need-returns Inv-loop μ-loop
 returns c =
     let at-start = c .before .before .before .before in
-    c .before .loop .inv .1 ∙ ap (λ (k : ℕ). encode (freshWith (at-start .args .code .now)
-    (at-start .args .place) k)) (let z : c .before .loop .j ≡ at-start .args .count = omega arith in z)
+    c .before .loop .inv .1 ∙ ap (λ (k : ℕ). encode (freshWith (at-start .args .code .now) (at-start .args .place) k)) (let z : c .before .loop .j ≡ at-start .args .count = omega arith in z)
 
 pub write-cells-spec : {M : Type 1} → statement M
 write-cells-spec =
