@@ -23,6 +23,7 @@ use Rattle.bytecode_laws.specs.Promises.{passed}
 use Rattle.logic.specs.OptionLaws.{chosen, kept, same-some}
 use Rattle.bytecode_safety.specs.Terms.{InRange, Answers}
 use Rattle.bytecode_safety.specs.Safety.{run-safe}
+use Rattle.values.specs.Refusals.{inCode}
 use Rattle.load_check.specs.Loaded.{loadedOf, fields}
 
 pub state-sound : (m : Macro) (l : List ℕ) (s : Machine) → soundState m l ≡ some s → sound m s ≡ true
@@ -53,7 +54,7 @@ small-11 r e = rw e (omega arith, omega arith)
 
 module _ (c : List ℕ) (B : Bytes c) where
   pub judged-small : (r : Refusal) → judgeMacro c ≡ refused r → Small r
-  judged-small r e = fields c B (r .number) (r .place) (sym (ap loadedOf e))
+  judged-small r e = fields c B (inCode r) (sym (ap loadedOf e))
 
   pub start-small : (l : List ℕ) (r : Refusal) → startOn c l .verdict ≡ refused r → Small r
   unfolding startOn
