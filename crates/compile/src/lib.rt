@@ -1,6 +1,6 @@
 // Compiles a table: the check, what its definitions stand for, a dry walk that finds the places of its code and the length of its macro
 // (refusal 7), and the walk that writes it.
-use compile_output::Pen;
+use compile_output::Cursor;
 use formats::compiled::*;
 use formats::entries::*;
 use formats::limits::*;
@@ -11,7 +11,7 @@ ghost use Prim.Native.Nat.{_≤_};
 ghost use lib.ListN.{length};
 ghost use Rattle.language.specs.Judge.{compileOn};
 ghost use Rattle.compile_code.specs.Encode.{macroOf};
-ghost use Rattle.compile_whole.specs.Compiling.{AsksCompile, AsksWrite, penAt};
+ghost use Rattle.compile_whole.specs.Compiling.{AsksCompile, AsksWrite, cursorAt};
 ghost use Rattle.compile.specs.Verdict.{verdictOf, Accepts};
 
 pub enum Compiled {
@@ -20,10 +20,10 @@ pub enum Compiled {
     Refused(Refusal),
 }
 
-fn pen(at: usize, sh: usize, dry: bool) -> Pen
-    ensures { λ r. ⌜ r ≡ penAt at sh dry ⌝ }
+fn cursor(at: usize, sh: usize, dry: bool) -> Cursor
+    ensures { λ r. ⌜ r ≡ cursorAt at sh dry ⌝ }
 {
-    Pen {
+    Cursor {
         at,
         address: 0,
         sh,
@@ -65,7 +65,7 @@ fn write(
         aims,
         stack,
         out,
-        pen(0, 0, true),
+        cursor(0, 0, true),
     );
     let front = compile_front::length(table, classes, bodies);
     let shapes = front + CODE_BYTES * dry.address;
@@ -101,7 +101,7 @@ fn write(
         ends,
         stack,
         out,
-        pen(front, shapes, false),
+        cursor(front, shapes, false),
     );
     out[length - END_BYTES] = b'Z';
     out[length - 1] = b'Z';

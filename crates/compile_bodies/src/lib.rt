@@ -1,5 +1,5 @@
 // The code of the root and of the procedures, one after the other.
-use compile_output::Pen;
+use compile_output::Cursor;
 use formats::compiled::*;
 use formats::entries::*;
 use formats::limits::*;
@@ -9,8 +9,8 @@ ghost use Prim.Native.Nat.{_≤_};
 ghost use lib.ListN.{length};
 ghost use Rattle.language.specs.Tree.{locals};
 ghost use Rattle.language.specs.Limits.{headHolds};
-ghost use Rattle.compile_output.specs.Ink.{Fits};
-ghost use Rattle.compile_output.specs.Folds.{penAfter, inked, within};
+ghost use Rattle.compile_output.specs.EmitRecord.{Fits};
+ghost use Rattle.compile_output.specs.EmitCode.{cursorAfter, emitted, within};
 ghost use Rattle.compile_symbols.specs.Tabled.{theTree, Headed};
 ghost use Rattle.compile_whole.specs.Heads.{rootHead};
 ghost use Rattle.compile_whole.specs.Stage.{Prepared, lentOf};
@@ -26,14 +26,14 @@ fn declare_globals(
     sizes: &[u16],
     known: &[u32],
     out: &mut [u8],
-    pen: Pen,
-) -> Pen
-    requires { ⌜ Prepared (theTree (now table)) (now table) (now sizes) (now known) × (count ≡ length (theTree (now table) .head)) × Fits (penAfter (rootHead (theTree (now table))) pen) (length (now out)) ⌝ }
-    ensures { λ r. ⌜ (r ≡ penAfter (rootHead (theTree (now (table .entry)))) pen) × (now (out .exit) ≡ inked (rootHead (theTree (now (table .entry)))) pen (now (out .entry))) ⌝ }
+    cursor: Cursor,
+) -> Cursor
+    requires { ⌜ Prepared (theTree (now table)) (now table) (now sizes) (now known) × (count ≡ length (theTree (now table) .head)) × Fits (cursorAfter (rootHead (theTree (now table))) cursor) (length (now out)) ⌝ }
+    ensures { λ r. ⌜ (r ≡ cursorAfter (rootHead (theTree (now (table .entry)))) cursor) × (now (out .exit) ≡ emitted (rootHead (theTree (now (table .entry)))) cursor (now (out .entry))) ⌝ }
 {
     let mut place = 1;
     let mut left = count;
-    let mut p = pen;
+    let mut p = cursor;
     while 0 < left {
         let from = ENTRY_BYTES * place;
         let k = compile_symbols::known_at(known, place);
@@ -79,14 +79,14 @@ fn root(
     ends: &mut [u16],
     stack: &mut [u8],
     out: &mut [u8],
-    pen: Pen,
-) -> Pen
-    requires { ⌜ AsksRoot (now table) count after (now sizes) (lentOf (now env) (now ends) (now stack) (now out)) top (now known) (now aims) pen ⌝ }
-    ensures { λ r. ⌜ AnswersRoot (now (table .entry)) (lentOf (now (env .entry)) (now (ends .entry)) (now (stack .entry)) (now (out .entry))) (lentOf (now (env .exit)) (now (ends .exit)) (now (stack .exit)) (now (out .exit))) top pen r ⌝ }
+    cursor: Cursor,
+) -> Cursor
+    requires { ⌜ AsksRoot (now table) count after (now sizes) (lentOf (now env) (now ends) (now stack) (now out)) top (now known) (now aims) cursor ⌝ }
+    ensures { λ r. ⌜ AnswersRoot (now (table .entry)) (lentOf (now (env .entry)) (now (ends .entry)) (now (stack .entry)) (now (out .entry))) (lentOf (now (env .exit)) (now (ends .exit)) (now (stack .exit)) (now (out .exit))) top cursor r ⌝ }
 {
     let items = words::word_at(table, B_AT) as usize;
     let held = root_holds(table, count, sizes);
-    let p = declare_globals(table, count, sizes, known, out, pen);
+    let p = declare_globals(table, count, sizes, known, out, cursor);
     let from = ENTRY_BYTES * after;
     let q = compile_walk::items(
         table,
@@ -123,10 +123,10 @@ fn procedure(
     ends: &mut [u16],
     stack: &mut [u8],
     out: &mut [u8],
-    pen: Pen,
-) -> Pen
-    requires { ⌜ AsksProc (now table) (now part) at (now sizes) (now env) top (now known) (now aims) (now ends) (now stack) (now out) pen ⌝ }
-    ensures { λ r. ⌜ AnswersProc (now (table .entry)) (now (part .entry)) at (now (sizes .entry)) (lentOf (now (env .entry)) (now (ends .entry)) (now (stack .entry)) (now (out .entry))) (lentOf (now (env .exit)) (now (ends .exit)) (now (stack .exit)) (now (out .exit))) top (now (known .entry)) (now (aims .entry)) pen r ⌝ }
+    cursor: Cursor,
+) -> Cursor
+    requires { ⌜ AsksProc (now table) (now part) at (now sizes) (now env) top (now known) (now aims) (now ends) (now stack) (now out) cursor ⌝ }
+    ensures { λ r. ⌜ AnswersProc (now (table .entry)) (now (part .entry)) at (now (sizes .entry)) (lentOf (now (env .entry)) (now (ends .entry)) (now (stack .entry)) (now (out .entry))) (lentOf (now (env .exit)) (now (ends .exit)) (now (stack .exit)) (now (out .exit))) top (now (known .entry)) (now (aims .entry)) cursor r ⌝ }
 {
     let heading = words::word_at(part, B_AT);
     let parameters = heading as usize / 256;
@@ -149,7 +149,7 @@ fn procedure(
             stack,
             0,
             out,
-            pen,
+            cursor,
         );
         return compile_emit::finish(ends, at, compile_output::emit(out, p, OP_RETURN, 0, 0));
     }
@@ -168,7 +168,7 @@ fn procedure(
         stack,
         0,
         out,
-        pen,
+        cursor,
     );
     compile_emit::finish(ends, at, compile_output::emit(out, p, OP_RETURN, 0, 0))
 }
@@ -186,10 +186,10 @@ fn global(
     ends: &mut [u16],
     stack: &mut [u8],
     out: &mut [u8],
-    pen: Pen,
-) -> Pen
-    requires { ⌜ AsksGlobal (now table) (now part) at (now sizes) (lentOf (now env) (now ends) (now stack) (now out)) top (now known) (now aims) pen ⌝ }
-    ensures { λ r. ⌜ AnswersGlobal (now (table .entry)) (now (part .entry)) at (now (sizes .entry)) (lentOf (now (env .entry)) (now (ends .entry)) (now (stack .entry)) (now (out .entry))) (lentOf (now (env .exit)) (now (ends .exit)) (now (stack .exit)) (now (out .exit))) top (now (known .entry)) (now (aims .entry)) pen r ⌝ }
+    cursor: Cursor,
+) -> Cursor
+    requires { ⌜ AsksGlobal (now table) (now part) at (now sizes) (lentOf (now env) (now ends) (now stack) (now out)) top (now known) (now aims) cursor ⌝ }
+    ensures { λ r. ⌜ AnswersGlobal (now (table .entry)) (now (part .entry)) at (now (sizes .entry)) (lentOf (now (env .entry)) (now (ends .entry)) (now (stack .entry)) (now (out .entry))) (lentOf (now (env .exit)) (now (ends .exit)) (now (stack .exit)) (now (out .exit))) top (now (known .entry)) (now (aims .entry)) cursor r ⌝ }
 {
     if words::half_at(part, KIND_AT) == KIND_PROCEDURE {
         return procedure(
@@ -204,10 +204,10 @@ fn global(
             ends,
             stack,
             out,
-            pen,
+            cursor,
         );
     }
-    pen
+    cursor
 }
 
 fn procedures(
@@ -221,14 +221,14 @@ fn procedures(
     ends: &mut [u16],
     stack: &mut [u8],
     out: &mut [u8],
-    pen: Pen,
-) -> Pen
-    requires { ⌜ AsksProcs (now table) count (now sizes) (lentOf (now env) (now ends) (now stack) (now out)) top (now known) (now aims) pen ⌝ }
-    ensures { λ r. ⌜ AnswersProcs (now (table .entry)) (lentOf (now (env .entry)) (now (ends .entry)) (now (stack .entry)) (now (out .entry))) (lentOf (now (env .exit)) (now (ends .exit)) (now (stack .exit)) (now (out .exit))) top pen r ⌝ }
+    cursor: Cursor,
+) -> Cursor
+    requires { ⌜ AsksProcs (now table) count (now sizes) (lentOf (now env) (now ends) (now stack) (now out)) top (now known) (now aims) cursor ⌝ }
+    ensures { λ r. ⌜ AnswersProcs (now (table .entry)) (lentOf (now (env .entry)) (now (ends .entry)) (now (stack .entry)) (now (out .entry))) (lentOf (now (env .exit)) (now (ends .exit)) (now (stack .exit)) (now (out .exit))) top cursor r ⌝ }
 {
     let mut place = 1;
     let mut left = count;
-    let mut p = pen;
+    let mut p = cursor;
     while 0 < left {
         let from = ENTRY_BYTES * place;
         p = global(
@@ -251,10 +251,10 @@ fn procedures(
     p
 }
 
-fn inside(p: Pen) -> Pen
+fn inside(p: Cursor) -> Cursor
     ensures { λ r. ⌜ r ≡ within true p ⌝ }
 {
-    Pen {
+    Cursor {
         at: p.at,
         address: p.address,
         sh: p.sh,
@@ -265,7 +265,7 @@ fn inside(p: Pen) -> Pen
     }
 }
 
-// One walk of the whole table, from a pen; the root's names are in sight.
+// One walk of the whole table, from a cursor; the root's names are in sight.
 pub fn walk(
     table: &[u8],
     count: usize,
@@ -278,10 +278,10 @@ pub fn walk(
     ends: &mut [u16],
     stack: &mut [u8],
     out: &mut [u8],
-    pen: Pen,
-) -> Pen
-    requires { ⌜ AsksWalk (now table) count after (now sizes) (now env) top (now known) (now aims) (now ends) (now out) pen × (32 ≤ length (now stack)) ⌝ }
-    ensures { λ r. ⌜ AnswersWalk (now (table .entry)) (lentOf (now (env .entry)) (now (ends .entry)) (now (stack .entry)) (now (out .entry))) (lentOf (now (env .exit)) (now (ends .exit)) (now (stack .exit)) (now (out .exit))) top pen r ⌝ }
+    cursor: Cursor,
+) -> Cursor
+    requires { ⌜ AsksWalk (now table) count after (now sizes) (now env) top (now known) (now aims) (now ends) (now out) cursor × (32 ≤ length (now stack)) ⌝ }
+    ensures { λ r. ⌜ AnswersWalk (now (table .entry)) (lentOf (now (env .entry)) (now (ends .entry)) (now (stack .entry)) (now (out .entry))) (lentOf (now (env .exit)) (now (ends .exit)) (now (stack .exit)) (now (out .exit))) top cursor r ⌝ }
 {
     let p = root(
         table,
@@ -295,7 +295,7 @@ pub fn walk(
         ends,
         stack,
         out,
-        pen,
+        cursor,
     );
     procedures(
         table,

@@ -1,4 +1,4 @@
--- A macro that can be written fits: what the pens of both walks may have come to (`Fits`) follows from the macro's length and the number of its instructions.
+-- A macro that can be written fits: what the cursors of both walks may have come to (`Fits`) follows from the macro's length and the number of its instructions.
 use mathlib.Core.Path.{_≡_, refl, ap, sym, _∙_}
 use mathlib.Core.Bool.{Bool, true, false, true≢false}
 use mathlib.Core.List.{List, [], _∷_}
@@ -13,36 +13,36 @@ use Rattle.bytecode_laws.specs.Terms.{ReadClass}
 use Rattle.compile_records.specs.Writing.{Writable, SmallBody, SmallShape}
 use Rattle.compile_code.specs.Code.{Code}
 use Rattle.compile_code.specs.Encode.{parts, linesOf, compiled, macroOf}
-use Rattle.compile_output.specs.declared.Pen.{Pen}
-use Rattle.compile_output.specs.Ink.{Fits}
-use Rattle.compile_output.specs.Folds.{penAfter, inked, Later, later-self, later-trans, grows, fits-before, within, pen-within, inked-within}
-use Rattle.compile_bytes.specs.Bytes.{penAll, inkedAll, codesOf, records-length, placed-few, shapes-short}
+use Rattle.compile_output.specs.declared.Cursor.{Cursor}
+use Rattle.compile_output.specs.EmitRecord.{Fits}
+use Rattle.compile_output.specs.EmitCode.{cursorAfter, emitted, Later, later-self, later-trans, grows, fits-before, within, cursor-within, emitted-within}
+use Rattle.compile_bytes.specs.Bytes.{cursorAll, emittedAll, codesOf, records-length, placed-few, shapes-short}
 use Rattle.compile_bytes.specs.Whole.{front, classesLength, bodiesLength, front-length, macro-length, measured}
 
 -- ── bodies one after the other ──
-pub grows-all : (xs : List Code) (p : Pen) → Later p (penAll xs p)
-unfolding penAll
+pub grows-all : (xs : List Code) (p : Cursor) → Later p (cursorAll xs p)
+unfolding cursorAll
 grows-all [] p = later-self p
-grows-all (x ∷ xs) p = later-trans (grows x p) (grows-all xs (penAfter x p))
+grows-all (x ∷ xs) p = later-trans (grows x p) (grows-all xs (cursorAfter x p))
 
 -- if all fits, the first body does
-pub fits-first : (x : Code) (xs : List Code) (p : Pen) (n : ℕ) → Fits (penAll (x ∷ xs) p) n → Fits (penAfter x p) n
-unfolding penAll
-fits-first x xs p n f = fits-before n (grows-all xs (penAfter x p)) f
+pub fits-first : (x : Code) (xs : List Code) (p : Cursor) (n : ℕ) → Fits (cursorAll (x ∷ xs) p) n → Fits (cursorAfter x p) n
+unfolding cursorAll
+fits-first x xs p n f = fits-before n (grows-all xs (cursorAfter x p)) f
 
-pub all-within : (b : Bool) (xs : List Code) (p : Pen) → penAll xs (within b p) ≡ within b (penAll xs p)
-unfolding penAll
+pub all-within : (b : Bool) (xs : List Code) (p : Cursor) → cursorAll xs (within b p) ≡ within b (cursorAll xs p)
+unfolding cursorAll
 all-within b [] p = refl
-all-within b (x ∷ xs) p = ap (penAll xs) (pen-within b x p) ∙ all-within b xs (penAfter x p)
+all-within b (x ∷ xs) p = ap (cursorAll xs) (cursor-within b x p) ∙ all-within b xs (cursorAfter x p)
 
-pub inked-all-within : (b : Bool) (xs : List Code) (p : Pen) (l : List ℕ) → inkedAll xs (within b p) l ≡ inkedAll xs p l
-unfolding inkedAll
-inked-all-within b [] p l = refl
-inked-all-within b (x ∷ xs) p l =
-    ap (λ (q : Pen). inkedAll xs q (inked x (within b p) l)) (pen-within b x p)
-    ∙ (inked-all-within b xs (penAfter x p) (inked x (within b p) l) ∙ ap (inkedAll xs (penAfter x p)) (inked-within b x p l))
+pub emitted-all-within : (b : Bool) (xs : List Code) (p : Cursor) (l : List ℕ) → emittedAll xs (within b p) l ≡ emittedAll xs p l
+unfolding emittedAll
+emitted-all-within b [] p l = refl
+emitted-all-within b (x ∷ xs) p l =
+    ap (λ (q : Cursor). emittedAll xs q (emitted x (within b p) l)) (cursor-within b x p)
+    ∙ (emitted-all-within b xs (cursorAfter x p) (emitted x (within b p) l) ∙ ap (emittedAll xs (cursorAfter x p)) (emitted-within b x p l))
 
-pub fits-within : (b : Bool) (p : Pen) (n : ℕ) → Fits p n → Fits (within b p) n
+pub fits-within : (b : Bool) (p : Cursor) (n : ℕ) → Fits p n → Fits (within b p) n
 fits-within b p n f = record {
   at-small = f .at-small;
   sh-small = f .sh-small;
@@ -60,15 +60,15 @@ few-shapes t =
     omega arith
 
 module _ (t : Tree) (code-small : length (compiled t .code) < 65536) (small : length (macroOf t) < 2 ^ 62) where
-  -- a pen that counts from nothing
-  pub fits-dry : (p : Pen) (n : ℕ) → p .at ≡ 0 → p .address ≡ 0 → p .sh ≡ 0 → p .shapes ≡ 0 → p .waits ≡ false → p .dry ≡ true
-      → Fits (penAll (codesOf (parts t)) p) n
+  -- a cursor that counts from nothing
+  pub fits-dry : (p : Cursor) (n : ℕ) → p .at ≡ 0 → p .address ≡ 0 → p .sh ≡ 0 → p .shapes ≡ 0 → p .waits ≡ false → p .dry ≡ true
+      → Fits (cursorAll (codesOf (parts t)) p) n
   unfolding macroOf
   fits-dry p n i a s k w d =
       let h = measured t p a w in
       let e = macro-length (compiled t) in
       let f = few-shapes t in
-      let q = penAll (codesOf (parts t)) p in
+      let q = cursorAll (codesOf (parts t)) p in
       let b : q .dry ≡ true = grows-all (codesOf (parts t)) p .same-dry ∙ d in
       record {
         at-small = omega arith;
@@ -78,9 +78,9 @@ module _ (t : Tree) (code-small : length (compiled t .code) < 65536) (small : le
         room = λ c. absurd (true≢false (sym b ∙ c));
       }
 
-  -- a pen that writes, in an output of n bytes
-  pub fits-real : (p : Pen) (n : ℕ) → p .at ≡ length (front (compiled t)) → p .address ≡ 0 → p .sh ≡ p .at + 8 * length (compiled t .code) → p .shapes ≡ 0 → p .waits ≡ false
-      → length (macroOf t) ≤ n → Fits (penAll (codesOf (parts t)) p) n
+  -- a cursor that writes, in an output of n bytes
+  pub fits-real : (p : Cursor) (n : ℕ) → p .at ≡ length (front (compiled t)) → p .address ≡ 0 → p .sh ≡ p .at + 8 * length (compiled t .code) → p .shapes ≡ 0 → p .waits ≡ false
+      → length (macroOf t) ≤ n → Fits (cursorAll (codesOf (parts t)) p) n
   unfolding macroOf
   fits-real p n i a s k w r =
       let h = measured t p a w in

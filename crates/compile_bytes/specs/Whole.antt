@@ -1,4 +1,4 @@
--- The whole macro: its front (HD, CL, BD), the areas of instructions and of shapes as the pen leaves them, and ZZ are the bytes of `macroBytes`.
+-- The whole macro: its front (HD, CL, BD), the areas of instructions and of shapes as the cursor leaves them, and ZZ are the bytes of `macroBytes`.
 use mathlib.Core.Path.{_≡_, refl, ap, sym, _∙_}
 use mathlib.Core.Bool.{false}
 use mathlib.Core.List.{List, [], _∷_, _++_, append-assoc}
@@ -12,9 +12,9 @@ use Rattle.language.specs.Tree.{Tree}
 use Rattle.bytecode.specs.Macro.{Body, Macro}
 use Rattle.compile_code.specs.Code.{placed}
 use Rattle.compile_code.specs.Encode.{parts, linesOf, compiled, classBytes, bodyBytes, codeBytes, shapeBytes, each, macroBytes, macroOf}
-use Rattle.compile_output.specs.declared.Pen.{Pen}
+use Rattle.compile_output.specs.declared.Cursor.{Cursor}
 use Rattle.compile_bytes.specs.Stores.{sets-join, each-end, each-length}
-use Rattle.compile_bytes.specs.Bytes.{codeIn, shapesIn, records-length, Comes, penAll, inkedAll, codesOf, closed-parts, bodies-pen, bodies-inked}
+use Rattle.compile_bytes.specs.Bytes.{codeIn, shapesIn, records-length, Comes, cursorAll, emittedAll, codesOf, closed-parts, bodies-cursor, bodies-emitted}
 
 -- ── the front ──
 abbrev pub headBytes : Macro → List ℕ
@@ -88,21 +88,21 @@ macro-length m =
     let f = front-length m in
     omega arith
 
--- ── a tree's macro under the pen ──
--- what the pen comes to after the macro's code: the numbers that HD has and that the output's length is made of
-pub record Measured (m : Macro) (p q : Pen) : Type 0 where
+-- ── a tree's macro under the cursor ──
+-- what the cursor comes to after the macro's code: the numbers that HD has and that the output's length is made of
+pub record Measured (m : Macro) (p q : Cursor) : Type 0 where
   pub at-measured : q .at ≡ p .at + 8 * length (m .code)
   pub address-measured : q .address ≡ length (m .code)
   pub sh-measured : q .sh ≡ p .sh + length (each shapeBytes (m .shapes) [])
   pub shapes-measured : q .shapes ≡ p .shapes + length (m .shapes)
 
--- a pen, dry or not, that begins at the first address
-module _ (t : Tree) (p : Pen) (a : p .address ≡ 0) (w : p .waits ≡ false) where
-  pub measured : Measured (compiled t) p (penAll (codesOf (parts t)) p)
+-- a cursor, dry or not, that begins at the first address
+module _ (t : Tree) (p : Cursor) (a : p .address ≡ 0) (w : p .waits ≡ false) where
+  pub measured : Measured (compiled t) p (cursorAll (codesOf (parts t)) p)
   unfolding compiled
   measured =
       let ls = linesOf (parts t) in
-      let h : Comes p ls (penAll (codesOf (parts t)) p) = bodies-pen (parts t) (closed-parts t) p w in
+      let h : Comes p ls (cursorAll (codesOf (parts t)) p) = bodies-cursor (parts t) (closed-parts t) p w in
       let n = records-length ls in
       let e = ap (λ (i : ℕ). length (shapesIn i ls)) a in
       let f = ap (λ (i : ℕ). length (placed i ls)) a in
@@ -110,23 +110,23 @@ module _ (t : Tree) (p : Pen) (a : p .address ≡ 0) (w : p .waits ≡ false) wh
 
   -- the instructions and the shapes, in an output l
   pub written : (l : List ℕ) → p .dry ≡ false → p .at + 8 * length (compiled t .code) ≤ p .sh
-      → inkedAll (codesOf (parts t)) p l ≡ sets (sets l (p .at) (each codeBytes (compiled t .code) [])) (p .sh) (each shapeBytes (compiled t .shapes) [])
+      → emittedAll (codesOf (parts t)) p l ≡ sets (sets l (p .at) (each codeBytes (compiled t .code) [])) (p .sh) (each shapeBytes (compiled t .shapes) [])
   unfolding compiled
   written l d h =
       let ls = linesOf (parts t) in
       let n = records-length ls in
-      bodies-inked (parts t) (closed-parts t) p w l d (omega arith) ∙ ap (λ (i : ℕ). sets (sets l (p .at) (codeIn ls)) (p .sh) (shapesIn i ls)) a
+      bodies-emitted (parts t) (closed-parts t) p w l d (omega arith) ∙ ap (λ (i : ℕ). sets (sets l (p .at) (codeIn ls)) (p .sh) (shapesIn i ls)) a
 
   -- the front, the instructions from its end on, the shapes from their end on, and ZZ: the whole macro
   pub whole : (l : List ℕ) → p .dry ≡ false → p .at ≡ length (front (compiled t)) → p .sh ≡ p .at + 8 * length (compiled t .code)
-      → sets (inkedAll (codesOf (parts t)) p (sets l 0 (front (compiled t)))) (penAll (codesOf (parts t)) p .sh) zz ≡ sets l 0 (macroOf t)
+      → sets (emittedAll (codesOf (parts t)) p (sets l 0 (front (compiled t)))) (cursorAll (codesOf (parts t)) p .sh) zz ≡ sets l 0 (macroOf t)
   unfolding macroOf
   whole l d i s =
       let m = compiled t in
       let F = front m in
       let I = each codeBytes (m .code) [] in
       let S = each shapeBytes (m .shapes) [] in
-      let z = penAll (codesOf (parts t)) p .sh in
+      let z = cursorAll (codesOf (parts t)) p .sh in
       let c = each-length codeBytes 8 (λ r. refl) (m .code) in
       let k = measured .sh-measured in
       let f : length (F ++ I) ≡ p .sh = length-append F I ∙ omega arith in

@@ -1,1 +1,1 @@
-// Definitions and laws only: see specs/. What the compiler's pen leaves in the output.
+// Definitions and laws only: see specs/. What the compiler's cursor leaves in the output.

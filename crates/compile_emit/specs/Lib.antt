@@ -1,2 +1,3 @@
-pub mod Owns
-pub mod OwnLaws
+pub mod EmitEntry
+pub mod EmitEntryLaws
+pub mod Opens

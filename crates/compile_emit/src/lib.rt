@@ -1,23 +1,23 @@
 // What entries add themselves to the code of their operands: their instructions and shapes, and the types of their results.
-use compile_output::Pen;
+use compile_output::Cursor;
 use formats::compiled::*;
 use formats::entries::*;
 ghost use mathlib.Core.Path.{_≡_};
 ghost use Prim.Native.Nat.{_+_, _*_, _≤_, _<_};
-ghost use lib.ListN.{length, getD, take, set};
+ghost use lib.ListN.{length, getD, set};
 ghost use lib.Seq.{sets};
 ghost use mathlib.Core.List.{_++_};
 ghost use Rattle.words.specs.Numbers.{halfAt};
 ghost use Rattle.table_scopes.specs.Environment.{envOf, Grown};
-ghost use Rattle.compile_symbols.specs.Numbers.{typeIn, firstIn, secondIn};
 ghost use Rattle.compile_symbols.specs.Meaning.{meaningOf};
-ghost use Rattle.compile_output.specs.Ink.{moved, penShaped, inkOp, Fits};
-ghost use Rattle.compile_emit.specs.Owns.{names, knownFor, ownerBy, inkLeaf, leafType, operandsBy, inkLast, lastType, inkInitial, penDeclared, inkDeclared, pensHead, inksHead, finishes, holdsBy, holdsHead, wayBy, waitingBy, penBetween, inkBetween, penBehind, inkBehind, pairType, penBefore, inkBefore, penBehindArm, inkBehindArm, penGoto, inkGoto};
+ghost use Rattle.compile_output.specs.EmitRecord.{moved, Fits};
+ghost use Rattle.compile_emit.specs.EmitEntry.{names, knownFor, ownerBy, emitLeaf, leafType, operandsBy, emitLast, lastType, emitInitial, cursorDeclared, emitDeclared, cursorHead, emitHead, finishes, holdsBy, holdsHead, wayBy, waitingBy, cursorBetween, emitBetween, cursorBehind, emitBehind, pairType, cursorBefore, emitBefore, cursorBehindArm, emitBehindArm, cursorGoto, emitGoto};
 ghost use Rattle.compile_scopes.specs.Marks.{marks};
+ghost use Rattle.compile_emit.specs.Opens.{OpenAsks, OpenGives};
 ghost use Rattle.compile_nodes.specs.Knows.{passedTo};
 
 // The address after the code of an entry; of a label, its own.
-pub fn finish(ends: &mut [u16], at: usize, p: Pen) -> Pen
+pub fn finish(ends: &mut [u16], at: usize, p: Cursor) -> Cursor
     requires { ⌜ (at < length (now ends)) × (p .address < 65536) ⌝ }
     ensures { λ r. ⌜ (r ≡ p) × (now (ends .exit) ≡ set (now (ends .entry)) at (p .address)) ⌝ }
 {
@@ -64,7 +64,7 @@ pub fn known_of(kind: u16, a: u16, env: &[u32], top: usize, known: &[u32]) -> u3
 }
 
 // Whose cell: in the root's code, the root's variables are its own.
-pub fn owner(p: Pen, known: u32) -> u8
+pub fn owner(p: Cursor, known: u32) -> u8
     ensures { λ r. ⌜ r ≡ ownerBy (p .inside) known ⌝ }
 {
     if p.inside {
@@ -75,9 +75,9 @@ pub fn owner(p: Pen, known: u32) -> u8
 }
 
 // The instruction of an expression with nothing below it.
-pub fn leaf(kind: u16, b: u32, known: u32, out: &mut [u8], p: Pen) -> Pen
+pub fn leaf(kind: u16, b: u32, known: u32, out: &mut [u8], p: Cursor) -> Cursor
     requires { ⌜ Fits (moved p) (length (now out)) ⌝ }
-    ensures { λ r. ⌜ (r ≡ moved p) × (now (out .exit) ≡ inkLeaf kind b known p (now (out .entry))) ⌝ }
+    ensures { λ r. ⌜ (r ≡ moved p) × (now (out .exit) ≡ emitLeaf kind b known p (now (out .entry))) ⌝ }
 {
     match kind {
         KIND_INTEGER => compile_output::emit(out, p, OP_INTEGER, 0, b),
@@ -123,9 +123,9 @@ pub fn operands_of(kind: u16, b: u32) -> usize
 }
 
 // The instruction of an entry with expressions only below it.
-pub fn last(kind: u16, a: u16, known: u32, out: &mut [u8], p: Pen) -> Pen
+pub fn last(kind: u16, a: u16, known: u32, out: &mut [u8], p: Cursor) -> Cursor
     requires { ⌜ Fits (moved p) (length (now out)) ⌝ }
-    ensures { λ r. ⌜ (r ≡ moved p) × (now (out .exit) ≡ inkLast kind a known p (now (out .entry))) ⌝ }
+    ensures { λ r. ⌜ (r ≡ moved p) × (now (out .exit) ≡ emitLast kind a known p (now (out .entry))) ⌝ }
 {
     let first = compile_symbols::first_in(known);
     let second = compile_symbols::second_in(known);
@@ -156,9 +156,9 @@ pub fn last_type(kind: u16, a: u16, known: u32, first: u8) -> u8
 
 // ── heads ──
 // The initial value of a variable, by the byte of its type.
-fn initial(ty: u8, out: &mut [u8], p: Pen) -> Pen
+fn initial(ty: u8, out: &mut [u8], p: Cursor) -> Cursor
     requires { ⌜ Fits (moved p) (length (now out)) ⌝ }
-    ensures { λ r. ⌜ (r ≡ moved p) × (now (out .exit) ≡ inkInitial ty p (now (out .entry))) ⌝ }
+    ensures { λ r. ⌜ (r ≡ moved p) × (now (out .exit) ≡ emitInitial ty p (now (out .entry))) ⌝ }
 {
     if ty < TYPE_CLASS {
         compile_output::emit(out, p, ty, 0, 0)
@@ -168,9 +168,9 @@ fn initial(ty: u8, out: &mut [u8], p: Pen) -> Pen
 }
 
 // One declaration of a head; classes and procedures have no code there.
-pub fn declare_one(part: &[u8], known: u32, out: &mut [u8], p: Pen) -> Pen
-    requires { ⌜ (8 ≤ length (now part)) × Fits (penDeclared (halfAt (now part) 0) p) (length (now out)) ⌝ }
-    ensures { λ r. ⌜ (r ≡ penDeclared (halfAt (now (part .entry)) 0) p) × (now (out .exit) ≡ inkDeclared (halfAt (now (part .entry)) 0) (halfAt (now (part .entry)) 2) known p (now (out .entry))) ⌝ }
+pub fn declare_one(part: &[u8], known: u32, out: &mut [u8], p: Cursor) -> Cursor
+    requires { ⌜ (8 ≤ length (now part)) × Fits (cursorDeclared (halfAt (now part) 0) p) (length (now out)) ⌝ }
+    ensures { λ r. ⌜ (r ≡ cursorDeclared (halfAt (now (part .entry)) 0) p) × (now (out .exit) ≡ emitDeclared (halfAt (now (part .entry)) 0) (halfAt (now (part .entry)) 2) known p (now (out .entry))) ⌝ }
 {
     let kind = words::half_at(part, KIND_AT);
     match kind {
@@ -191,13 +191,13 @@ pub fn declare(
     known: &[u32],
     ends: &mut [u16],
     out: &mut [u8],
-    pen: Pen,
-) -> Pen
-    requires { ⌜ (8 * count ≤ length (now part)) × (at + count ≤ length (now ends)) × Fits (pensHead (now part) count pen) (length (now out)) ⌝ }
-    ensures { λ r. ⌜ (r ≡ pensHead (now (part .entry)) count pen) × (now (out .exit) ≡ inksHead (now (part .entry)) (now (known .entry)) at count pen (now (out .entry))) × (now (ends .exit) ≡ sets (now (ends .entry)) at (finishes (now (part .entry)) count pen)) ⌝ }
+    cursor: Cursor,
+) -> Cursor
+    requires { ⌜ (8 * count ≤ length (now part)) × (at + count ≤ length (now ends)) × Fits (cursorHead (now part) count cursor) (length (now out)) ⌝ }
+    ensures { λ r. ⌜ (r ≡ cursorHead (now (part .entry)) count cursor) × (now (out .exit) ≡ emitHead (now (part .entry)) (now (known .entry)) at count cursor (now (out .entry))) × (now (ends .exit) ≡ sets (now (ends .entry)) at (finishes (now (part .entry)) count cursor)) ⌝ }
 {
     let mut i = 0;
-    let mut p = pen;
+    let mut p = cursor;
     while i < count {
         let from = ENTRY_BYTES * i;
         let k = compile_symbols::known_at(known, at + i);
@@ -237,6 +237,45 @@ pub fn mark_holds(env: &mut [u32], top: usize, count: usize)
     while i < count {
         table_scopes::push(env, top + i, 65539, 0, 0, 0);
         i += 1;
+    }
+}
+
+// Where the items of a block begin.
+pub struct Opened {
+    // its holds
+    pub holds: usize,
+    // the top of the names in sight
+    pub top: usize,
+    pub cursor: Cursor,
+}
+
+// A block or block expression, by its mark, up to its items. Its declarations begin the part, and the first of them stands at `at`.
+pub fn open_block(
+    table: &[u8],
+    part: &[u8],
+    at: usize,
+    heads: usize,
+    count: usize,
+    mark: u32,
+    sizes: &[u16],
+    env: &mut [u32],
+    top: usize,
+    known: &[u32],
+    ends: &mut [u16],
+    out: &mut [u8],
+    cursor: Cursor,
+) -> Opened
+    requires { ⌜ OpenAsks (now table) (now part) at heads count (now sizes) (now env) top (now ends) (now out) cursor ⌝ }
+    ensures { λ r. ⌜ OpenGives mark (now (table .entry)) (now (part .entry)) at heads count (now (env .entry)) top (now (known .entry)) (now (ends .entry)) (now (out .entry)) cursor r (now (env .exit)) (now (ends .exit)) (now (out .exit)) ⌝ }
+{
+    let holds = holds_in(part, heads);
+    mark_holds(env, top, holds);
+    let up = table_scopes::enter(table, at, heads, count, mark, sizes, env, top + holds);
+    let p = declare(part, at, heads, known, ends, out, cursor);
+    Opened {
+        holds: holds,
+        top: up,
+        cursor: p,
     }
 }
 
@@ -284,13 +323,13 @@ pub fn goto(
     stack: &[u8],
     depth: usize,
     out: &mut [u8],
-    pen: Pen,
-) -> Pen
-    requires { ⌜ (4 * top ≤ length (now env)) × (depth ≤ length (now stack)) × (depth < 256) × (holds < 256) × Fits (penGoto (passedTo name (envOf (now env) top)) depth pen) (length (now out)) ⌝ }
-    ensures { λ r. ⌜ (r ≡ penGoto (passedTo name (envOf (now (env .entry)) top)) depth pen) × (now (out .exit) ≡ inkGoto (passedTo name (envOf (now (env .entry)) top)) (meaningOf name (envOf (now (env .entry)) top) (now (aims .entry))) holds (now (stack .entry)) depth pen (now (out .entry))) ⌝ }
+    cursor: Cursor,
+) -> Cursor
+    requires { ⌜ (4 * top ≤ length (now env)) × (depth ≤ length (now stack)) × (depth < 256) × (holds < 256) × Fits (cursorGoto (passedTo name (envOf (now env) top)) depth cursor) (length (now out)) ⌝ }
+    ensures { λ r. ⌜ (r ≡ cursorGoto (passedTo name (envOf (now (env .entry)) top)) depth cursor) × (now (out .exit) ≡ emitGoto (passedTo name (envOf (now (env .entry)) top)) (meaningOf name (envOf (now (env .entry)) top) (now (aims .entry))) holds (now (stack .entry)) depth cursor (now (out .entry))) ⌝ }
 {
     let l = land(env, top, name as u32, aims);
-    let p = compile_output::releases(out, pen, l.passed);
+    let p = compile_output::releases(out, cursor, l.passed);
     let q = compile_output::emit(out, p, OP_GO, 0, l.address);
     compile_output::shape(out, q, holds, stack, depth)
 }
@@ -322,10 +361,10 @@ pub fn between(
     stack: &[u8],
     depth: usize,
     out: &mut [u8],
-    p: Pen,
-) -> Pen
-    requires { ⌜ (end < 65536) × (depth < length (now stack)) × (depth < 255) × (holds < 256) × Fits (penBetween way depth p) (length (now out)) ⌝ }
-    ensures { λ r. ⌜ (r ≡ penBetween way depth p) × (now (out .exit) ≡ inkBetween way end holds (now (stack .entry)) depth p (now (out .entry))) ⌝ }
+    p: Cursor,
+) -> Cursor
+    requires { ⌜ (end < 65536) × (depth < length (now stack)) × (depth < 255) × (holds < 256) × Fits (cursorBetween way depth p) (length (now out)) ⌝ }
+    ensures { λ r. ⌜ (r ≡ cursorBetween way depth p) × (now (out .exit) ≡ emitBetween way end holds (now (stack .entry)) depth p (now (out .entry))) ⌝ }
 {
     match way {
         0 => p,
@@ -350,10 +389,10 @@ pub fn behind(
     stack: &[u8],
     depth: usize,
     out: &mut [u8],
-    p: Pen,
-) -> Pen
-    requires { ⌜ (end < 65536) × (depth < length (now stack)) × (depth < 255) × (holds < 256) × Fits (penBehind way depth p) (length (now out)) ⌝ }
-    ensures { λ r. ⌜ (r ≡ penBehind way depth p) × (now (out .exit) ≡ inkBehind way operator end holds (now (stack .entry)) depth p (now (out .entry))) ⌝ }
+    p: Cursor,
+) -> Cursor
+    requires { ⌜ (end < 65536) × (depth < length (now stack)) × (depth < 255) × (holds < 256) × Fits (cursorBehind way depth p) (length (now out)) ⌝ }
+    ensures { λ r. ⌜ (r ≡ cursorBehind way depth p) × (now (out .exit) ≡ emitBehind way operator end holds (now (stack .entry)) depth p (now (out .entry))) ⌝ }
 {
     match way {
         2 => {
@@ -379,9 +418,9 @@ pub fn pair_type(operator: u16, first: u8) -> u8
 
 // ── cases ──
 // Before the statement after i others, whose code ends at `end`: its number is looked for.
-pub fn before_arm(cell: u32, i: usize, end: u32, out: &mut [u8], p: Pen) -> Pen
-    requires { ⌜ (i < 65536) × (end < 65536) × Fits (penBefore p) (length (now out)) ⌝ }
-    ensures { λ r. ⌜ (r ≡ penBefore p) × (now (out .exit) ≡ inkBefore cell i end p (now (out .entry))) ⌝ }
+pub fn before_arm(cell: u32, i: usize, end: u32, out: &mut [u8], p: Cursor) -> Cursor
+    requires { ⌜ (i < 65536) × (end < 65536) × Fits (cursorBefore p) (length (now out)) ⌝ }
+    ensures { λ r. ⌜ (r ≡ cursorBefore p) × (now (out .exit) ≡ emitBefore cell i end p (now (out .entry))) ⌝ }
 {
     let q = compile_output::emit(out, p, OP_LOAD, 0, cell);
     let r = compile_output::emit(out, q, OP_INTEGER, 0, i as u32 + 1);
@@ -390,9 +429,16 @@ pub fn before_arm(cell: u32, i: usize, end: u32, out: &mut [u8], p: Pen) -> Pen
 }
 
 // Behind it; `end` is where the case ends.
-pub fn after_arm(end: u32, holds: usize, stack: &[u8], depth: usize, out: &mut [u8], p: Pen) -> Pen
-    requires { ⌜ (depth ≤ length (now stack)) × (depth < 256) × (holds < 256) × Fits (penBehindArm depth p) (length (now out)) ⌝ }
-    ensures { λ r. ⌜ (r ≡ penBehindArm depth p) × (now (out .exit) ≡ inkBehindArm end holds (now (stack .entry)) depth p (now (out .entry))) ⌝ }
+pub fn after_arm(
+    end: u32,
+    holds: usize,
+    stack: &[u8],
+    depth: usize,
+    out: &mut [u8],
+    p: Cursor,
+) -> Cursor
+    requires { ⌜ (depth ≤ length (now stack)) × (depth < 256) × (holds < 256) × Fits (cursorBehindArm depth p) (length (now out)) ⌝ }
+    ensures { λ r. ⌜ (r ≡ cursorBehindArm depth p) × (now (out .exit) ≡ emitBehindArm end holds (now (stack .entry)) depth p (now (out .entry))) ⌝ }
 {
     let q = compile_output::emit(out, p, OP_GO, 0, end);
     compile_output::shape(out, q, holds, stack, depth)

@@ -9,16 +9,16 @@ use lib.IntN.{pos, natAbs}
 use lib.ListN.{length, drop, getD, length-append}
 use lib.Seq.{getD-drop, drop-drop}
 use borrow.Author.Tests.{eqb-true}
-use Rattle.language.specs.Program.{flatTyped, flatDecl, flatItems, resultCode, flatBody, flatGlobal, flatHead, flatten, total}
+use Rattle.language.specs.Program.{flatTyped, flatDecl, flatItems, resultCode, flatBody, flatGlobal, flatHead, flatten}
 use Rattle.logic.specs.Lists.{all}
 use Rattle.logic.specs.Choice.{if_then_else_}
 use Rattle.words.specs.Laws.{Bytes}
 use Rattle.language.specs.Tree.{declare, holding, Global, local, class, procedure, countItems}
-use Rattle.language.specs.Table.{Entry, entry, inLayout, classCount}
+use Rattle.language.specs.Table.{Entry, entry, inLayout}
 use Rattle.logic.specs.Tests.{clash, both-left, both-right}
 use Rattle.language_laws.specs.Claims.{entriesOf}
 use Rattle.table_entries.specs.Entries.{entryAt, entry-here, length-entries}
-use Rattle.compile_code.specs.Compile.{Class, classesOf, classNames}
+use Rattle.compile_code.specs.Compile.{classesOf}
 use Rattle.compile_symbols.specs.declared.Numbers.{Numbers}
 use Rattle.compile_symbols.specs.Numbers.{packed, typeIn, byteOf, cellsOf, numberOf, numbersFrom, numbersGlobals, numbersOf}
 use Rattle.compile_symbols.specs.Tabled.{Tabled, theTree, classesIn, entries-few, some-entry, layout-heads}

@@ -1,18 +1,16 @@
 -- The whole front: what is asked of the tree comes to what the parts ask, and the parts come to the front.
 use mathlib.Core.Path.{_≡_, refl, ap, sym, _∙_}
 use mathlib.Core.List.{List, [], _∷_, _++_}
-use Prim.Native.Nat.{ℕ, suc, _+_, _≤_, _<_}
+use Prim.Native.Nat.{ℕ, _+_, _≤_, _<_}
 use native.Mathlib.Omega.{arith}
 use lib.ListN.{length, length-append, length-map}
 use lib.Seq.{sets}
-use Rattle.language.specs.Program.{total}
 use Rattle.words.specs.Numbers.{half}
 use Rattle.values.specs.Types.{tyByte}
-use Rattle.language.specs.Tree.{Global, local, class, procedure, Tree}
-use Rattle.language.specs.Table.{procedureCount}
+use Rattle.language.specs.Tree.{Tree}
 use Rattle.compile_code.specs.Code.{cellsIn}
-use Rattle.compile_code.specs.Compile.{Class, classesOf, Proc, procsOf}
-use Rattle.compile_code.specs.Encode.{codeRoot, procParts, parts, headsOf, fieldTypes, compiled, each}
+use Rattle.compile_code.specs.Compile.{classesOf, procsOf}
+use Rattle.compile_code.specs.Encode.{codeRoot, parts, headsOf, compiled, each}
 use Rattle.compile_bytes.specs.Whole.{headBytes, front}
 use Rattle.compile_symbols.specs.Tabled.{Headed, theTree, the-tree}
 use Rattle.compile_code.specs.Counts.{length-classes, length-procedures, length-field-types, length-heads}

@@ -27,9 +27,9 @@ use Rattle.compile_code.specs.Code.{Code, op, mark, _▸_, At, skip, after}
 use Rattle.compile_code.specs.Compile.{Around, scopesOf, heldIn, found, codeS, codeE, codeItems, codeEs, tyE, classesOf, classNames}
 use Rattle.compile_names.specs.Good.{goodS, goodE, goodItems, goodArms, goodEs}
 use Rattle.compile_symbols.specs.Numbers.{numbersFrom, cellsWithin, secondIn}
-use Rattle.compile_output.specs.declared.Pen.{Pen}
-use Rattle.compile_output.specs.Ink.{Fits}
-use Rattle.compile_output.specs.Folds.{penAfter, inked}
+use Rattle.compile_output.specs.declared.Cursor.{Cursor}
+use Rattle.compile_output.specs.EmitRecord.{Fits}
+use Rattle.compile_output.specs.EmitCode.{cursorAfter, emitted}
 use Rattle.compile_nodes.specs.Ends.{endsS, endsE, endsItems, endsArms, endsEs}
 use Rattle.compile_nodes.specs.Knows.{Lies, Walk, Knows, Lands}
 
@@ -111,16 +111,16 @@ pub record Laid (W : Walk) (l : List ℕ) (at : ℕ) (start : At) (us : List Ent
   pub aimed : W .dry ≡ false → Lies (W .aims) at es
 
 -- what is lent agrees with a place
-pub record Stood (W : Walk) (X : Place) (l : List ℕ) (L : Lent) (top holds depth : ℕ) (pen : Pen) : Type 0 where
+pub record Stood (W : Walk) (X : Place) (l : List ℕ) (L : Lent) (top holds depth : ℕ) (cursor : Cursor) : Type 0 where
   pub sees : Sees l (envOf (L .env) top) (scopesOf (X .around))
   pub knows : Knows W (envOf (L .env) top) (X .around)
   pub held : holds ≡ length (heldIn (X .around))
   pub deep : depth ≡ length (X .types)
   pub typed : map tyByte (reverse (X .types)) ≡ take depth (L .stack)
   pub stacked : 32 ≤ length (L .stack)
-  pub address : pen .address ≡ X .start .address
-  pub dryness : pen .dry ≡ W .dry
-  pub inside : pen .inside ≡ W .within
+  pub address : cursor .address ≡ X .start .address
+  pub dryness : cursor .dry ≡ W .dry
+  pub inside : cursor .inside ≡ W .within
 
 -- what holds after any call, whatever stood there
 pub record Kept (L M : Lent) (top depth : ℕ) : Type 0 where
@@ -132,9 +132,9 @@ pub record Kept (L M : Lent) (top depth : ℕ) : Type 0 where
   pub same-out : length (M .out) ≡ length (L .out)
 
 -- code is written
-pub record Wrote (before later : List ℕ) (pen r : Pen) (x : Code) : Type 0 where
-  pub penned : r ≡ penAfter x pen
-  pub written : later ≡ inked x pen before
+pub record Wrote (before later : List ℕ) (cursor r : Cursor) (x : Code) : Type 0 where
+  pub advanced : r ≡ cursorAfter x cursor
+  pub written : later ≡ emitted x cursor before
 
 -- ── a statement, an expression or a label ──
 abbrev pub LandsN : Walk → List ℕ → ℕ → List Around → Node → Type 0
@@ -142,13 +142,13 @@ LandsN W env top Γ (stmt s) = Lands W (envOf env top) Γ
 LandsN W env top Γ (expr e) = Unit {0}
 LandsN W env top Γ (name a) = Unit {0}
 
-pub record Ready (n : Node) (W : Walk) (X : Place) (l part : List ℕ) (nesting at : ℕ) (sizes : List ℕ) (L : Lent) (top holds depth : ℕ) (pen : Pen) : Type 0 where
+pub record Ready (n : Node) (W : Walk) (X : Place) (l part : List ℕ) (nesting at : ℕ) (sizes : List ℕ) (L : Lent) (top holds depth : ℕ) (cursor : Cursor) : Type 0 where
   pub table : Table l part sizes at
   pub laid : Laid W l at (X .start) (flatN n) (endsN (W .globals) n (X .around) (X .types) (X .start))
-  pub stood : Stood W X l L top holds depth pen
+  pub stood : Stood W X l L top holds depth cursor
   pub room : 4 * (top + roomN n) ≤ length (L .env)
   pub ending : at + length (flatN n) ≤ length (L .ends)
-  pub fits : Fits (penAfter (codeN (W .globals) n (X .around) (X .types) (X .start)) pen) (length (L .out))
+  pub fits : Fits (cursorAfter (codeN (W .globals) n (X .around) (X .types) (X .start)) cursor) (length (L .out))
   pub deep : deepN n ≤ nesting
   pub good : goodN (scopesOf (X .around)) n
   pub lands : LandsN W (L .env) top (X .around) n
@@ -161,25 +161,25 @@ LeavesN gs (stmt s) Γ stack depth = Unit {0}
 LeavesN gs (expr e) Γ stack depth = getD stack depth 0 ≡ tyByte (tyE gs Γ e)
 LeavesN gs (name a) Γ stack depth = Unit {0}
 
-pub record Done (n : Node) (W : Walk) (X : Place) (at : ℕ) (L M : Lent) (depth : ℕ) (pen r : Pen) : Type 0 where
-  pub wrote : Wrote (L .out) (M .out) pen r (codeN (W .globals) n (X .around) (X .types) (X .start))
+pub record Done (n : Node) (W : Walk) (X : Place) (at : ℕ) (L M : Lent) (depth : ℕ) (cursor r : Cursor) : Type 0 where
+  pub wrote : Wrote (L .out) (M .out) cursor r (codeN (W .globals) n (X .around) (X .types) (X .start))
   pub ended : M .ends ≡ sets (L .ends) at (endsN (W .globals) n (X .around) (X .types) (X .start))
   pub leaves : LeavesN (W .globals) n (X .around) (M .stack) depth
 
 -- a walker of nodes with P asks that one of them stands there, ready …
-pub record Asks (P : Node → Type 0) (known aims l part : List ℕ) (nesting at : ℕ) (sizes : List ℕ) (L : Lent) (top holds depth : ℕ) (pen : Pen) : Type 0 where
+pub record Asks (P : Node → Type 0) (known aims l part : List ℕ) (nesting at : ℕ) (sizes : List ℕ) (L : Lent) (top holds depth : ℕ) (cursor : Cursor) : Type 0 where
   pub node : Node
   pub walk : Walk
   pub place : Place
   pub such : P node
   pub same-known : walk .known ≡ known
   pub same-aims : walk .aims ≡ aims
-  pub ready : Ready node walk place l part nesting at sizes L top holds depth pen
+  pub ready : Ready node walk place l part nesting at sizes L top holds depth cursor
 
 -- … and for each that is, has done its code
-pub record Answers (P : Node → Type 0) (known aims l part : List ℕ) (nesting at : ℕ) (sizes : List ℕ) (L M : Lent) (top holds depth : ℕ) (pen r : Pen) : Type 0 where
+pub record Answers (P : Node → Type 0) (known aims l part : List ℕ) (nesting at : ℕ) (sizes : List ℕ) (L M : Lent) (top holds depth : ℕ) (cursor r : Cursor) : Type 0 where
   pub kept : Kept L M top depth
-  pub done : (n : Node) (W : Walk) (X : Place) → P n → W .known ≡ known → W .aims ≡ aims → Ready n W X l part nesting at sizes L top holds depth pen → Done n W X at L M depth pen r
+  pub done : (n : Node) (W : Walk) (X : Place) → P n → W .known ≡ known → W .aims ≡ aims → Ready n W X l part nesting at sizes L top holds depth cursor → Done n W X at L M depth cursor r
 
 -- ── expressions one after the other ──
 -- the stack after them
@@ -192,44 +192,44 @@ unfoldable pub ValuesEs : ℕ → Exprs → Type 0
 ValuesEs d noExpr = Unit {0}
 ValuesEs d (more e es) = (d + needE e ≤ 32) × ValuesEs (suc d) es
 
-pub record ReadyEs (es : Exprs) (W : Walk) (X : Place) (l part : List ℕ) (count nesting at : ℕ) (sizes : List ℕ) (L : Lent) (top holds depth : ℕ) (pen : Pen) : Type 0 where
+pub record ReadyEs (es : Exprs) (W : Walk) (X : Place) (l part : List ℕ) (count nesting at : ℕ) (sizes : List ℕ) (L : Lent) (top holds depth : ℕ) (cursor : Cursor) : Type 0 where
   pub table : Table l part sizes at
   pub laid : Laid W l at (X .start) (flatEs es) (endsEs (W .globals) es (X .around) (X .types) (X .start))
-  pub stood : Stood W X l L top holds depth pen
+  pub stood : Stood W X l L top holds depth cursor
   pub room : 4 * (top + length (flatEs es)) ≤ length (L .env)
   pub ending : at + length (flatEs es) ≤ length (L .ends)
-  pub fits : Fits (penAfter (codeEs (W .globals) es (X .around) (X .types) (X .start)) pen) (length (L .out))
+  pub fits : Fits (cursorAfter (codeEs (W .globals) es (X .around) (X .types) (X .start)) cursor) (length (L .out))
   pub deep : deepEs es ≤ nesting
   pub good : goodEs (scopesOf (X .around)) es
   pub few-holds : holds + holdsEs es ≤ 16
   pub few-values : ValuesEs depth es
   pub many : count ≡ countExprs es
 
-pub record DoneEs (es : Exprs) (W : Walk) (X : Place) (at : ℕ) (L M : Lent) (depth : ℕ) (pen r : Pen) : Type 0 where
-  pub wrote : Wrote (L .out) (M .out) pen r (codeEs (W .globals) es (X .around) (X .types) (X .start))
+pub record DoneEs (es : Exprs) (W : Walk) (X : Place) (at : ℕ) (L M : Lent) (depth : ℕ) (cursor r : Cursor) : Type 0 where
+  pub wrote : Wrote (L .out) (M .out) cursor r (codeEs (W .globals) es (X .around) (X .types) (X .start))
   pub ended : M .ends ≡ sets (L .ends) at (endsEs (W .globals) es (X .around) (X .types) (X .start))
   pub typed : map tyByte (reverse (pushed (W .globals) (X .around) es (X .types))) ≡ take (depth + countExprs es) (M .stack)
 
-pub record AsksEs (known aims l part : List ℕ) (count nesting at : ℕ) (sizes : List ℕ) (L : Lent) (top holds depth : ℕ) (pen : Pen) : Type 0 where
+pub record AsksEs (known aims l part : List ℕ) (count nesting at : ℕ) (sizes : List ℕ) (L : Lent) (top holds depth : ℕ) (cursor : Cursor) : Type 0 where
   pub exprs : Exprs
   pub walk : Walk
   pub place : Place
   pub same-known : walk .known ≡ known
   pub same-aims : walk .aims ≡ aims
-  pub ready : ReadyEs exprs walk place l part count nesting at sizes L top holds depth pen
+  pub ready : ReadyEs exprs walk place l part count nesting at sizes L top holds depth cursor
 
-pub record AnswersEs (known aims l part : List ℕ) (count nesting at : ℕ) (sizes : List ℕ) (L M : Lent) (top holds depth : ℕ) (pen r : Pen) : Type 0 where
+pub record AnswersEs (known aims l part : List ℕ) (count nesting at : ℕ) (sizes : List ℕ) (L M : Lent) (top holds depth : ℕ) (cursor r : Cursor) : Type 0 where
   pub kept : Kept L M top depth
-  pub done : (es : Exprs) (W : Walk) (X : Place) → W .known ≡ known → W .aims ≡ aims → ReadyEs es W X l part count nesting at sizes L top holds depth pen → DoneEs es W X at L M depth pen r
+  pub done : (es : Exprs) (W : Walk) (X : Place) → W .known ≡ known → W .aims ≡ aims → ReadyEs es W X l part count nesting at sizes L top holds depth cursor → DoneEs es W X at L M depth cursor r
 
 -- ── labels and statements one after the other ──
-pub record ReadyItems (is : Items) (W : Walk) (X : Place) (l part : List ℕ) (count nesting at : ℕ) (sizes : List ℕ) (L : Lent) (top holds depth : ℕ) (pen : Pen) : Type 0 where
+pub record ReadyItems (is : Items) (W : Walk) (X : Place) (l part : List ℕ) (count nesting at : ℕ) (sizes : List ℕ) (L : Lent) (top holds depth : ℕ) (cursor : Cursor) : Type 0 where
   pub table : Table l part sizes at
   pub laid : Laid W l at (X .start) (flatItems is) (endsItems (W .globals) is (X .around) (X .types) (X .start))
-  pub stood : Stood W X l L top holds depth pen
+  pub stood : Stood W X l L top holds depth cursor
   pub room : 4 * (top + bulk is) ≤ length (L .env)
   pub ending : at + length (flatItems is) ≤ length (L .ends)
-  pub fits : Fits (penAfter (codeItems (W .globals) is (X .around) (X .types) (X .start)) pen) (length (L .out))
+  pub fits : Fits (cursorAfter (codeItems (W .globals) is (X .around) (X .types) (X .start)) cursor) (length (L .out))
   pub deep : deepItems is ≤ nesting
   pub good : goodItems (scopesOf (X .around)) is
   pub lands : Lands W (envOf (L .env) top) (X .around)
@@ -237,21 +237,21 @@ pub record ReadyItems (is : Items) (W : Walk) (X : Place) (l part : List ℕ) (c
   pub few-values : depth + needItems is ≤ 32
   pub many : count ≡ countItems is
 
-pub record DoneItems (is : Items) (W : Walk) (X : Place) (at : ℕ) (L M : Lent) (depth : ℕ) (pen r : Pen) : Type 0 where
-  pub wrote : Wrote (L .out) (M .out) pen r (codeItems (W .globals) is (X .around) (X .types) (X .start))
+pub record DoneItems (is : Items) (W : Walk) (X : Place) (at : ℕ) (L M : Lent) (depth : ℕ) (cursor r : Cursor) : Type 0 where
+  pub wrote : Wrote (L .out) (M .out) cursor r (codeItems (W .globals) is (X .around) (X .types) (X .start))
   pub ended : M .ends ≡ sets (L .ends) at (endsItems (W .globals) is (X .around) (X .types) (X .start))
 
-pub record AsksItems (known aims l part : List ℕ) (count nesting at : ℕ) (sizes : List ℕ) (L : Lent) (top holds depth : ℕ) (pen : Pen) : Type 0 where
+pub record AsksItems (known aims l part : List ℕ) (count nesting at : ℕ) (sizes : List ℕ) (L : Lent) (top holds depth : ℕ) (cursor : Cursor) : Type 0 where
   pub items : Items
   pub walk : Walk
   pub place : Place
   pub same-known : walk .known ≡ known
   pub same-aims : walk .aims ≡ aims
-  pub ready : ReadyItems items walk place l part count nesting at sizes L top holds depth pen
+  pub ready : ReadyItems items walk place l part count nesting at sizes L top holds depth cursor
 
-pub record AnswersItems (known aims l part : List ℕ) (count nesting at : ℕ) (sizes : List ℕ) (L M : Lent) (top holds depth : ℕ) (pen r : Pen) : Type 0 where
+pub record AnswersItems (known aims l part : List ℕ) (count nesting at : ℕ) (sizes : List ℕ) (L M : Lent) (top holds depth : ℕ) (cursor r : Cursor) : Type 0 where
   pub kept : Kept L M top depth
-  pub done : (is : Items) (W : Walk) (X : Place) → W .known ≡ known → W .aims ≡ aims → ReadyItems is W X l part count nesting at sizes L top holds depth pen → DoneItems is W X at L M depth pen r
+  pub done : (is : Items) (W : Walk) (X : Place) → W .known ≡ known → W .aims ≡ aims → ReadyItems is W X l part count nesting at sizes L top holds depth cursor → DoneItems is W X at L M depth cursor r
 
 -- ── the statements of a case: its index is in cell c, z is the address after it ──
 -- their code from the i-th on, without the stop behind the last
@@ -266,13 +266,13 @@ module _ (gs : List Global) where
       op (load own c) ▸ (op (push (int (pos i))) ▸ (op (operate (binary equal)) ▸ (op (goUnless (n .address))
       ▸ (y ▸ (op (go z) ▸ (mark (found Γ st) ▸ codeCases r c (suc i) z Γ st n))))))
 
-pub record ReadyArms (r : Arms) (c i z : ℕ) (W : Walk) (X : Place) (l part : List ℕ) (count nesting at : ℕ) (sizes : List ℕ) (L : Lent) (top holds depth : ℕ) (pen : Pen) : Type 0 where
+pub record ReadyArms (r : Arms) (c i z : ℕ) (W : Walk) (X : Place) (l part : List ℕ) (count nesting at : ℕ) (sizes : List ℕ) (L : Lent) (top holds depth : ℕ) (cursor : Cursor) : Type 0 where
   pub table : Table l part sizes at
   pub laid : Laid W l at (X .start) (flatArms r) (endsArms (W .globals) r (X .around) (X .types) (X .start))
-  pub stood : Stood W X l L top holds depth pen
+  pub stood : Stood W X l L top holds depth cursor
   pub room : 4 * (top + length (flatArms r)) ≤ length (L .env)
   pub ending : at + length (flatArms r) ≤ length (L .ends)
-  pub fits : Fits (penAfter (codeCases (W .globals) r c i z (X .around) (X .types) (X .start)) pen) (length (L .out))
+  pub fits : Fits (cursorAfter (codeCases (W .globals) r c i z (X .around) (X .types) (X .start)) cursor) (length (L .out))
   pub deep : deepArms r ≤ nesting
   pub good : goodArms (scopesOf (X .around)) r
   pub lands : Lands W (envOf (L .env) top) (X .around)
@@ -281,8 +281,8 @@ pub record ReadyArms (r : Arms) (c i z : ℕ) (W : Walk) (X : Place) (l part : L
   pub many : count ≡ countArms r
   pub few : i + count ≤ 65536
 
-pub record DoneArms (r : Arms) (c i z : ℕ) (W : Walk) (X : Place) (at : ℕ) (L M : Lent) (depth : ℕ) (pen q : Pen) : Type 0 where
-  pub wrote : Wrote (L .out) (M .out) pen q (codeCases (W .globals) r c i z (X .around) (X .types) (X .start))
+pub record DoneArms (r : Arms) (c i z : ℕ) (W : Walk) (X : Place) (at : ℕ) (L M : Lent) (depth : ℕ) (cursor q : Cursor) : Type 0 where
+  pub wrote : Wrote (L .out) (M .out) cursor q (codeCases (W .globals) r c i z (X .around) (X .types) (X .start))
   pub ended : M .ends ≡ sets (L .ends) at (endsArms (W .globals) r (X .around) (X .types) (X .start))
 
 -- the case's own entry is at `owner`: what is known of it is its cell, where it ends is where its statements go on
@@ -290,7 +290,7 @@ pub record Owner (W : Walk) (owner c z : ℕ) : Type 0 where
   pub celled : secondIn (getD (W .known) owner 0) ≡ c
   pub leaving : W .dry ≡ false → getD (W .aims) owner 0 ≡ z
 
-pub record AsksArms (known aims l part : List ℕ) (owner count nesting at : ℕ) (sizes : List ℕ) (L : Lent) (top holds depth : ℕ) (pen : Pen) : Type 0 where
+pub record AsksArms (known aims l part : List ℕ) (owner count nesting at : ℕ) (sizes : List ℕ) (L : Lent) (top holds depth : ℕ) (cursor : Cursor) : Type 0 where
   pub arms : Arms
   pub cell : ℕ
   pub exit : ℕ
@@ -299,9 +299,9 @@ pub record AsksArms (known aims l part : List ℕ) (owner count nesting at : ℕ
   pub same-known : walk .known ≡ known
   pub same-aims : walk .aims ≡ aims
   pub owned : Owner walk owner cell exit
-  pub ready : ReadyArms arms cell 1 exit walk place l part count nesting at sizes L top holds depth pen
+  pub ready : ReadyArms arms cell 1 exit walk place l part count nesting at sizes L top holds depth cursor
 
-pub record AnswersArms (known aims l part : List ℕ) (owner count nesting at : ℕ) (sizes : List ℕ) (L M : Lent) (top holds depth : ℕ) (pen q : Pen) : Type 0 where
+pub record AnswersArms (known aims l part : List ℕ) (owner count nesting at : ℕ) (sizes : List ℕ) (L M : Lent) (top holds depth : ℕ) (cursor q : Cursor) : Type 0 where
   pub kept : Kept L M top depth
-  pub done : (r : Arms) (c z : ℕ) (W : Walk) (X : Place) → W .known ≡ known → W .aims ≡ aims → Owner W owner c z → ReadyArms r c 1 z W X l part count nesting at sizes L top holds depth pen
-      → DoneArms r c 1 z W X at L M depth pen q
+  pub done : (r : Arms) (c z : ℕ) (W : Walk) (X : Place) → W .known ≡ known → W .aims ≡ aims → Owner W owner c z → ReadyArms r c 1 z W X l part count nesting at sizes L top holds depth cursor
+      → DoneArms r c 1 z W X at L M depth cursor q

@@ -1,2 +1,2 @@
-pub mod Ink
-pub mod Folds
+pub mod EmitRecord
+pub mod EmitCode

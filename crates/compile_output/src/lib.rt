@@ -1,14 +1,14 @@
-// The pen: where the next instruction and the next shape go in the output. A dry pen writes nothing: it only counts, so that one walk serves to measure and to write.
+// The cursor: where the next instruction and the next shape go in the output. A dry one writes nothing: it only counts, so that one walk serves to measure and to write.
 use formats::compiled::*;
 ghost use mathlib.Core.Path.{_≡_};
 ghost use mathlib.Core.Bool.{true, false};
 ghost use Prim.Native.Nat.{_+_, _≤_, _<_};
 ghost use lib.ListN.{length, take};
 ghost use lib.Seq.{sets};
-ghost use Rattle.compile_output.specs.Ink.{instruction, shapeRecord, moved, penShaped, inkOp, inkShape, Fits};
-ghost use Rattle.compile_output.specs.Folds.{lets, penAfter, inked};
+ghost use Rattle.compile_output.specs.EmitRecord.{instruction, shapeRecord, moved, cursorShaped, emitOp, emitShape, Fits};
+ghost use Rattle.compile_output.specs.EmitCode.{lets, cursorAfter, emitted};
 
-pub struct Pen {
+pub struct Cursor {
     // the place of the next IN record, and its address
     pub at: usize,
     pub address: usize,
@@ -17,7 +17,7 @@ pub struct Pen {
     pub shapes: usize,
     // whether an SH stands for this address already: of two the first is kept
     pub waits: bool,
-    // nothing is written
+    // nothing is written, as in a dry run
     pub dry: bool,
     // a procedure's code: the root's variables are another body's
     pub inside: bool,
@@ -34,16 +34,16 @@ fn put_instruction(out: &mut [u8], at: usize, op: u8, a: u8, b: u32)
     words::put_word(out, at + CODE_B_AT, b);
 }
 
-pub fn emit(out: &mut [u8], p: Pen, op: u8, a: u8, b: u32) -> Pen
+pub fn emit(out: &mut [u8], p: Cursor, op: u8, a: u8, b: u32) -> Cursor
     requires { ⌜ Fits (moved p) (length (now out)) ⌝ }
-    ensures { λ r. ⌜ (r ≡ moved p) × (now (out .exit) ≡ inkOp p (now (out .entry)) op a b) ⌝ }
+    ensures { λ r. ⌜ (r ≡ moved p) × (now (out .exit) ≡ emitOp p (now (out .entry)) op a b) ⌝ }
 {
     let at = p.at;
     let dry = p.dry;
     if !dry {
         put_instruction(out, at, op, a, b);
     }
-    Pen {
+    Cursor {
         at: at + CODE_BYTES,
         address: p.address + 1,
         sh: p.sh,
@@ -55,12 +55,12 @@ pub fn emit(out: &mut [u8], p: Pen, op: u8, a: u8, b: u32) -> Pen
 }
 
 // So many releases.
-pub fn releases(out: &mut [u8], pen: Pen, count: usize) -> Pen
-    requires { ⌜ Fits (penAfter (lets count) pen) (length (now out)) ⌝ }
-    ensures { λ r. ⌜ (r ≡ penAfter (lets count) pen) × (now (out .exit) ≡ inked (lets count) pen (now (out .entry))) ⌝ }
+pub fn releases(out: &mut [u8], cursor: Cursor, count: usize) -> Cursor
+    requires { ⌜ Fits (cursorAfter (lets count) cursor) (length (now out)) ⌝ }
+    ensures { λ r. ⌜ (r ≡ cursorAfter (lets count) cursor) × (now (out .exit) ≡ emitted (lets count) cursor (now (out .entry))) ⌝ }
 {
     let mut left = count;
-    let mut p = pen;
+    let mut p = cursor;
     while 0 < left {
         p = emit(out, p, OP_RELEASE, 0, 0);
         left -= 1;
@@ -92,9 +92,9 @@ fn put_shape(out: &mut [u8], at: usize, address: u16, holds: u8, stack: &[u8], d
 }
 
 // What is found at the next address: so many holds, and the operands whose types the stack begins with.
-pub fn shape(out: &mut [u8], p: Pen, holds: usize, stack: &[u8], depth: usize) -> Pen
-    requires { ⌜ (depth ≤ length (now stack)) × (depth < 256) × (holds < 256) × Fits (penShaped depth p) (length (now out)) ⌝ }
-    ensures { λ r. ⌜ (r ≡ penShaped depth p) × (now (out .exit) ≡ inkShape p (now (out .entry)) holds depth (take depth (now (stack .entry)))) ⌝ }
+pub fn shape(out: &mut [u8], p: Cursor, holds: usize, stack: &[u8], depth: usize) -> Cursor
+    requires { ⌜ (depth ≤ length (now stack)) × (depth < 256) × (holds < 256) × Fits (cursorShaped depth p) (length (now out)) ⌝ }
+    ensures { λ r. ⌜ (r ≡ cursorShaped depth p) × (now (out .exit) ≡ emitShape p (now (out .entry)) holds depth (take depth (now (stack .entry)))) ⌝ }
 {
     if p.waits {
         return p;
@@ -102,7 +102,7 @@ pub fn shape(out: &mut [u8], p: Pen, holds: usize, stack: &[u8], depth: usize) -
     if !p.dry {
         put_shape(out, p.sh, p.address as u16, holds as u8, stack, depth as u8);
     }
-    Pen {
+    Cursor {
         at: p.at,
         address: p.address,
         sh: p.sh + SHAPE_BYTES + depth,

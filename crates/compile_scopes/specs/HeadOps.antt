@@ -1,4 +1,4 @@
--- A head under a pen: its declarations, what stands inside, and the releases, one after the other.
+-- A head under a cursor: its declarations, what stands inside, and the releases, one after the other.
 use mathlib.Core.Path.{_≡_, refl, ap, _∙_}
 use mathlib.Core.List.{List, [], _∷_}
 use Prim.Native.Nat.{ℕ, suc, _+_}
@@ -10,9 +10,9 @@ use Rattle.language.specs.Limits.{headCells, headHolds}
 use Rattle.bytecode.specs.Instructions.{own, push, store, takeHold}
 use Rattle.compile_code.specs.Code.{Code, nil, op, _▸_, At, at, skip}
 use Rattle.compile_code.specs.Compile.{Around, held, heldIn, codeHead, tyIn}
-use Rattle.compile_output.specs.declared.Pen.{Pen}
-use Rattle.compile_output.specs.Ink.{moved}
-use Rattle.compile_output.specs.Folds.{lets, penAfter, inked, lets-last, lets-last-inked}
+use Rattle.compile_output.specs.declared.Cursor.{Cursor}
+use Rattle.compile_output.specs.EmitRecord.{moved}
+use Rattle.compile_output.specs.EmitCode.{lets, cursorAfter, emitted, lets-last, lets-last-emitted}
 use Rattle.compile_nodes.specs.Ends.{aroundHead, atHead}
 use Rattle.compile_scopes.specs.Marks.{openIn}
 
@@ -24,30 +24,30 @@ module _ (gs : List Global) where
   headOps (holding g ∷ ds) n = op (takeHold g) ▸ headOps ds n
 
   module _ (name : ℕ → ℕ → Around) (f : List Around → At → Code) where
-    pub head-pen : (ds : List Decl) (Γ : List Around) (p : At) (pen : Pen)
-        → penAfter (codeHead gs name ds Γ p f) pen ≡ penAfter (lets (openIn ds)) (penAfter (f (aroundHead name ds Γ p) (atHead ds p)) (penAfter (headOps ds (p .cell)) pen))
-    unfolding penAfter codeHead headOps aroundHead atHead openIn lets
-    head-pen [] Γ p pen = refl
-    head-pen (declare x ∷ ds) Γ p pen = head-pen ds (name (x .name) (p .cell) ∷ Γ) (at (suc (suc (p .address))) (suc (p .cell))) (moved (moved pen))
-    head-pen (holding g ∷ ds) Γ p pen = ap moved (head-pen ds (held g ∷ Γ) (skip 1 p) (moved pen)) ∙ lets-last (openIn ds) _
+    pub head-cursor : (ds : List Decl) (Γ : List Around) (p : At) (cursor : Cursor)
+        → cursorAfter (codeHead gs name ds Γ p f) cursor ≡ cursorAfter (lets (openIn ds)) (cursorAfter (f (aroundHead name ds Γ p) (atHead ds p)) (cursorAfter (headOps ds (p .cell)) cursor))
+    unfolding cursorAfter codeHead headOps aroundHead atHead openIn lets
+    head-cursor [] Γ p cursor = refl
+    head-cursor (declare x ∷ ds) Γ p cursor = head-cursor ds (name (x .name) (p .cell) ∷ Γ) (at (suc (suc (p .address))) (suc (p .cell))) (moved (moved cursor))
+    head-cursor (holding g ∷ ds) Γ p cursor = ap moved (head-cursor ds (held g ∷ Γ) (skip 1 p) (moved cursor)) ∙ lets-last (openIn ds) _
 
-    pub head-inked : (ds : List Decl) (Γ : List Around) (p : At) (pen : Pen) (l : List ℕ)
-        → let h = headOps ds (p .cell) in let x = f (aroundHead name ds Γ p) (atHead ds p) in let q = penAfter h pen in
-        inked (codeHead gs name ds Γ p f) pen l ≡ inked (lets (openIn ds)) (penAfter x q) (inked x q (inked h pen l))
-    unfolding penAfter inked codeHead headOps aroundHead atHead openIn lets
-    head-inked [] Γ p pen l = refl
-    head-inked (declare x ∷ ds) Γ p pen l = head-inked ds (name (x .name) (p .cell) ∷ Γ) (at (suc (suc (p .address))) (suc (p .cell))) (moved (moved pen)) _
-    head-inked (holding g ∷ ds) Γ p pen l =
-        let y = head-inked ds (held g ∷ Γ) (skip 1 p) (moved pen) (inked (op (takeHold g)) pen l) in
-        let z = head-pen ds (held g ∷ Γ) (skip 1 p) (moved pen) in
-        rw (y, z) (lets-last-inked (openIn ds) _ _)
+    pub head-emitted : (ds : List Decl) (Γ : List Around) (p : At) (cursor : Cursor) (l : List ℕ)
+        → let h = headOps ds (p .cell) in let x = f (aroundHead name ds Γ p) (atHead ds p) in let q = cursorAfter h cursor in
+        emitted (codeHead gs name ds Γ p f) cursor l ≡ emitted (lets (openIn ds)) (cursorAfter x q) (emitted x q (emitted h cursor l))
+    unfolding cursorAfter emitted codeHead headOps aroundHead atHead openIn lets
+    head-emitted [] Γ p cursor l = refl
+    head-emitted (declare x ∷ ds) Γ p cursor l = head-emitted ds (name (x .name) (p .cell) ∷ Γ) (at (suc (suc (p .address))) (suc (p .cell))) (moved (moved cursor)) _
+    head-emitted (holding g ∷ ds) Γ p cursor l =
+        let y = head-emitted ds (held g ∷ Γ) (skip 1 p) (moved cursor) (emitted (op (takeHold g)) cursor l) in
+        let z = head-cursor ds (held g ∷ Γ) (skip 1 p) (moved cursor) in
+        rw (y, z) (lets-last-emitted (openIn ds) _ _)
 
-  -- the pen that has written it stands where what is inside begins
-  pub head-address : (ds : List Decl) (p : At) (pen : Pen) → pen .address ≡ p .address → penAfter (headOps ds (p .cell)) pen .address ≡ atHead ds p .address
-  unfolding penAfter headOps atHead
-  head-address [] p pen e = e
-  head-address (declare x ∷ ds) p pen e = head-address ds (at (suc (suc (p .address))) (suc (p .cell))) (moved (moved pen)) (omega arith)
-  head-address (holding g ∷ ds) p pen e = head-address ds (skip 1 p) (moved pen) (omega arith)
+  -- the cursor that has written it stands where what is inside begins
+  pub head-address : (ds : List Decl) (p : At) (cursor : Cursor) → cursor .address ≡ p .address → cursorAfter (headOps ds (p .cell)) cursor .address ≡ atHead ds p .address
+  unfolding cursorAfter headOps atHead
+  head-address [] p cursor e = e
+  head-address (declare x ∷ ds) p cursor e = head-address ds (at (suc (suc (p .address))) (suc (p .cell))) (moved (moved cursor)) (omega arith)
+  head-address (holding g ∷ ds) p cursor e = head-address ds (skip 1 p) (moved cursor) (omega arith)
 
 -- as many holds more lie around what stands inside
 pub head-held : (name : ℕ → ℕ → Around) → ((a n : ℕ) (Γ : List Around) → heldIn (name a n ∷ Γ) ≡ heldIn Γ) → (ds : List Decl) (Γ : List Around) (p : At)

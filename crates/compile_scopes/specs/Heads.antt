@@ -2,26 +2,24 @@
 use mathlib.Core.Path.{_≡_, refl, ap, sym, _∙_, subst}
 use mathlib.Core.Bool.{Bool, true, false}
 use mathlib.Core.List.{List, [], _∷_, map}
-use mathlib.Core.Option.{none, some}
-use Prim.Native.Nat.{ℕ, suc, _+_, _-_, _≤_, _<_}
+use mathlib.Core.Option.{some}
+use Prim.Native.Nat.{ℕ, suc, _+_, _≤_, _<_}
 use native.Mathlib.Omega.{arith}
 use native.Mathlib.Nat.{add-zero}
 use native.Mathlib.Numerals.{add-one}
-use lib.Dec.{eqb, leb}
-use lib.IntN.{pos}
+use lib.Dec.{eqb}
 use lib.ListN.{length, getD}
-use borrow.Author.Tests.{eqb-true, eq-eqb, ne-eqb, le-leb, leb-true}
+use borrow.Author.Tests.{eqb-true, eq-eqb}
 use Rattle.language.specs.Program.{flatTyped, flatDecl}
 use Rattle.logic.specs.Lists.{among}
-use Rattle.logic.specs.Options.{isSome}
 use Rattle.logic.specs.Choice.{if_then_else_}
 use Rattle.values.specs.Types.{Ty, integer, logical, bits, reference, tyCode, tyByte}
 use Rattle.language.specs.Tree.{Typed, Decl, declare, holding, Items, noItem, label, item, Global}
-use Rattle.language.specs.Table.{Entry, entry, inLayout}
+use Rattle.language.specs.Table.{Entry}
 use Rattle.language.specs.Names.{isVariable, isLabel, isClass, definesTyped, definesHead, definesItems, Scope, blockOf, expressionOf, nowhere, found, firstOf, across, lookup}
 use Rattle.language.specs.Names as names
 use Rattle.language.specs.Faults.{sizeS}
-use Rattle.logic.specs.Tests.{clash, eqb-comm, or-left}
+use Rattle.logic.specs.Tests.{eqb-comm, or-left}
 use Rattle.language_laws.specs.Claims.{entriesOf}
 use Rattle.table_entries.specs.Stands.{Stands, stands-tail}
 use Rattle.table_scopes.specs.Defines.{class-small, headItems, labelItems}

@@ -1,8 +1,8 @@
 -- What a definition stands for, found among items and among definitions alike; kept where no nearer definition of the name comes between.
-use mathlib.Core.Path.{_≡_, refl, ap, _∙_}
+use mathlib.Core.Path.{_≡_, refl, _∙_}
 use mathlib.Core.Bool.{Bool, true, false}
 use mathlib.Core.List.{List, [], _∷_, _++_}
-use Prim.Native.Nat.{ℕ, suc, _+_, _-_, _≤_, _<_}
+use Prim.Native.Nat.{ℕ, _+_, _-_, _≤_, _<_}
 use native.Mathlib.Omega.{arith}
 use lib.Dec.{eqb}
 use lib.ListN.{length}
@@ -12,7 +12,7 @@ use Rattle.values.specs.Types.{Ty, integer, logical, bits, reference, tyCode, t
 use Rattle.language.specs.Tree.{Items}
 use Rattle.language.specs.Names.{Sort, isVariable, isLabel, isClass, isField, isProcedure, Definition, nowhere, found, firstOf, otherwise, across, lookup}
 use Rattle.language.specs.Names as names
-use Rattle.compile_code.specs.Compile.{Around, labels, scopesOf, boundAt, globalAt, cellOf, numbered, indexOf, Class, classNames}
+use Rattle.compile_code.specs.Compile.{Around, labels, scopesOf, boundAt, globalAt, cellOf, numbered}
 use Rattle.compile_symbols.specs.Numbers.{byteOf}
 use Rattle.table_scopes.specs.declared.environment.Found.{Found}
 use Rattle.table_scopes.specs.declared.environment.Found.the-variants.{Nothing, Def}

@@ -7,11 +7,10 @@ use native.Mathlib.Omega.{arith}
 use native.Mathlib.Nat.{zero-add}
 use lib.Dec.{eqb}
 use lib.ListN.{length}
-use Rattle.language.specs.Program.{flatItems, resultCode, flatHead, flatten, total}
+use Rattle.language.specs.Program.{flatItems, resultCode, flatHead, flatten}
 use Rattle.logic.specs.Choice.{if_then_else_}
 use Rattle.values.specs.Types.{Ty, tyByte}
 use Rattle.language.specs.Tree.{Decl, declare, holding, Global, local, class, procedure, Tree, countItems, locals}
-use Rattle.language.specs.Table.{classCount, procedureCount}
 use Rattle.language.specs.Names.{Sort, isVariable, isLabel, isClass, isField, isProcedure, definesItems, definesGlobals, Scope, rootOf, found, firstOf, lookup}
 use Rattle.language.specs.Names as names
 use Rattle.language.specs.Faults.{faults, sizeGlobal}

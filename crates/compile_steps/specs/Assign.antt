@@ -26,10 +26,10 @@ use Rattle.compile_code.specs.Encode.{rec, recordOf}
 use Rattle.compile_symbols.specs.Numbers.{firstIn, secondIn}
 use Rattle.compile_symbols.specs.Meaning.{meaningOf}
 use Rattle.compile_names.specs.Good.{goodS}
-use Rattle.compile_output.specs.declared.Pen.{Pen}
-use Rattle.compile_output.specs.Ink.{Fits, moved, inkOp}
-use Rattle.compile_output.specs.Folds.{penAfter, inked, pen-op}
-use Rattle.compile_emit.specs.Owns.{ownerBy}
+use Rattle.compile_output.specs.declared.Cursor.{Cursor}
+use Rattle.compile_output.specs.EmitRecord.{Fits, moved, emitOp}
+use Rattle.compile_output.specs.EmitCode.{cursorAfter, emitted, cursor-op}
+use Rattle.compile_emit.specs.EmitEntry.{ownerBy}
 use Rattle.compile_nodes.specs.Ends.{belowS, endsE}
 use Rattle.compile_nodes.specs.Knows.{Walk}
 use Rattle.compile_nodes.specs.Ready.{Node, stmt, expr, Place, Lent, Stood, Kept, Wrote, Ready, Done, Asks, Answers}
@@ -48,7 +48,7 @@ half-second {l} {part} {sizes} {at} t i =
     rw (n .whole, t .whole, half-part l (8 * at) (8 + i), half-part l (8 * (at + 1)) i, z)
 
 module _ {x : Target} {e : Expr} {W : Walk} {X : Place} {l part : List ℕ} {nesting at : ℕ} {sizes : List ℕ} {L : Lent} {top holds depth : ℕ}
-    {pen : Pen} (h : Ready (stmt (assign x e)) W X l part nesting at sizes L top holds depth pen) where
+    {cursor : Cursor} (h : Ready (stmt (assign x e)) W X l part nesting at sizes L top holds depth cursor) where
   pub assign-room : 4 * top ≤ length (L .env)
   assign-room = omega (arith, h .room)
 
@@ -62,8 +62,8 @@ module _ {x : Target} {e : Expr} {W : Walk} {X : Place} {l part : List ℕ} {nes
       subst (λ (k : ℕ). k < 65536) (sym z ∙ e) (name-small (h .table .legible) (at + 1))
 
 -- ── to a variable ──
-module _ {a : ℕ} {e : Expr} {W : Walk} {X : Place} {l part : List ℕ} {nesting at : ℕ} {sizes : List ℕ} {L : Lent} {top holds depth : ℕ} {pen : Pen}
-    (h : Ready (stmt (assign (toVariable a) e)) W X l part nesting at sizes L top holds depth pen) where
+module _ {a : ℕ} {e : Expr} {W : Walk} {X : Place} {l part : List ℕ} {nesting at : ℕ} {sizes : List ℕ} {L : Lent} {top holds depth : ℕ} {cursor : Cursor}
+    (h : Ready (stmt (assign (toVariable a) e)) W X l part nesting at sizes L top holds depth cursor) where
   abbrev y : Code
   y = codeE (W .globals) e (X .around) (X .types) (X .start)
 
@@ -76,7 +76,7 @@ module _ {a : ℕ} {e : Expr} {W : Walk} {X : Place} {l part : List ℕ} {nestin
   abbrev all : Code
   all = nil ▸ (y ▸ op put)
 
-  in-all : Rest W X l at L top holds depth pen (entry 21 0 (pos 0) ∷ (entry 44 a (pos 0) ∷ flatE e)) (after all (X .start) .address ∷ (X .start .address ∷ es)) all
+  in-all : Rest W X l at L top holds depth cursor (entry 21 0 (pos 0) ∷ (entry 44 a (pos 0) ∷ flatE e)) (after all (X .start) .address ∷ (X .start .address ∷ es)) all
   unfolding flatS codeS belowS after
   in-all = record { laid = h .laid; stood = h .stood; room = h .room; ending = h .ending; fits = h .fits }
 
@@ -108,15 +108,15 @@ module _ {a : ℕ} {e : Expr} {W : Walk} {X : Place} {l part : List ℕ} {nestin
     pub variable-passes : Passes (below part 8) sizes (at + 1) n
     variable-passes = passes-N (expr (variable a)) (target-table h) target-one n z
 
-    pub variable-first : (at + 1 < length (L .ends)) × (pen .address < 65536)
-    variable-first = (omega (arith, in-all .ending), fits-start all pen (length (L .out)) (in-all .fits) .address-small)
+    pub variable-first : (at + 1 < length (L .ends)) × (cursor .address < 65536)
+    variable-first = (omega (arith, in-all .ending), fits-start all cursor (length (L .out)) (in-all .fits) .address-small)
 
-    module _ {p : Pen} {ends : List ℕ} (f : (p ≡ pen) × (ends ≡ set (L .ends) (at + 1) (pen .address))) where
+    module _ {p : Cursor} {ends : List ℕ} (f : (p ≡ cursor) × (ends ≡ set (L .ends) (at + 1) (cursor .address))) where
       kept-first : Kept L (lent (L .env) ends (L .stack) (L .out)) top depth
-      kept-first = kept-ends L ends (rw (f .1) (length-set (L .ends) (at + 1) (pen .address)))
+      kept-first = kept-ends L ends (rw (f .1) (length-set (L .ends) (at + 1) (cursor .address)))
 
       after-target : Rest W X l (at + 1 + n) (lent (L .env) ends (L .stack) (L .out)) top holds depth p (flatE e) es (y ▸ op put)
-      unfolding penAfter
+      unfolding cursorAfter
       after-target =
           let r = rest-enter (entry 21 0 (pos 0)) _ _ _ _ (X .start) (omega arith) refl in-all in
           let s = rest-enter (entry 44 a (pos 0)) (flatE e) _ _ _ (X .start) (omega arith) refl r in
@@ -128,15 +128,15 @@ module _ {a : ℕ} {e : Expr} {W : Walk} {X : Place} {l part : List ℕ} {nestin
       variable-second =
           rest-ready (expr e) (table-from (at + 1 + n) (omega arith) (h .table)) (omega (arith, h .deep)) (h .good .1) tt (omega (arith, h .few-holds)) (omega (arith, h .few-values)) after-target
 
-      module _ {N : Lent} {q : Pen} (k : Kept (lent (L .env) ends (L .stack) (L .out)) N top depth) (d : Done (expr e) W X (at + 1 + n) (lent (L .env) ends (L .stack) (L .out)) N depth p q) where
+      module _ {N : Lent} {q : Cursor} (k : Kept (lent (L .env) ends (L .stack) (L .out)) N top depth) (d : Done (expr e) W X (at + 1 + n) (lent (L .env) ends (L .stack) (L .out)) N depth p q) where
         stood-second : Stood W (movedTo X (after y (X .start))) l N top holds depth q
         stood-second = rest-stood (after y (X .start)) refl k (d .wrote) after-target
 
         pub variable-fits : Fits (moved q) (length (N .out))
-        variable-fits = rw (pen-op put q) (rest-fits (after y (X .start)) refl k (d .wrote) after-target)
+        variable-fits = rw (cursor-op put q) (rest-fits (after y (X .start)) refl k (d .wrote) after-target)
 
-        module _ {m : ℕ} {r : Pen} {o : List ℕ} (mean : m ≡ meaningOf (halfAt part 10) (envOf (L .env) top) (W .known))
-            (i : (r ≡ moved q) × (o ≡ inkOp q (N .out) 6 (ownerBy (q .inside) m) (secondIn m))) where
+        module _ {m : ℕ} {r : Cursor} {o : List ℕ} (mean : m ≡ meaningOf (halfAt part 10) (envOf (L .env) top) (W .known))
+            (i : (r ≡ moved q) × (o ≡ emitOp q (N .out) 6 (ownerBy (q .inside) m) (secondIn m))) where
           meant : recordOf put ≡ rec 6 (ownerBy (q .inside) m) (secondIn m)
           unfolding goodS
           meant =
@@ -152,15 +152,15 @@ module _ {a : ℕ} {e : Expr} {W : Walk} {X : Place} {l part : List ℕ} {nestin
           pub variable-finish : (at < length (N .ends)) × (r .address < 65536)
           variable-finish = finishing (h .ending) (flat-one (stmt (assign (toVariable a) e))) (kept-all .same-ends) (i .0) variable-fits
 
-          wrote-all : Wrote (L .out) o pen r all
-          unfolding penAfter inked
-          wrote-all = wrote-then (record { penned = f .0; written = refl }) (wrote-then (d .wrote) stored)
+          wrote-all : Wrote (L .out) o cursor r all
+          unfolding cursorAfter emitted
+          wrote-all = wrote-then (record { advanced = f .0; written = refl }) (wrote-then (d .wrote) stored)
 
           ended-below : N .ends ≡ sets (L .ends) (at + 1) ((X .start .address ∷ []) ++ es)
           ended-below = ends-then (L .ends) (at + 1) n (X .start .address ∷ []) es size-one (f .1 ∙ ap (λ (v : ℕ). set (L .ends) (at + 1) v) (h .stood .address)) (d .ended)
 
-          pub variable-done : {u : Pen} {last : List ℕ} → (u ≡ r) × (last ≡ set (N .ends) at (r .address))
-              → Done (stmt (assign (toVariable a) e)) W X at L (lent (N .env) last (N .stack) o) depth pen u
+          pub variable-done : {u : Cursor} {last : List ℕ} → (u ≡ r) × (last ≡ set (N .ends) at (r .address))
+              → Done (stmt (assign (toVariable a) e)) W X at L (lent (N .env) last (N .stack) o) depth cursor u
           unfolding codeS belowS after
           variable-done g =
               record {
@@ -175,8 +175,8 @@ module _ {a : ℕ} {e : Expr} {W : Walk} {X : Place} {l part : List ℕ} {nestin
               (kept-ends (lent (N .env) (N .ends) (N .stack) o) last (rw g (length-set (N .ends) at (r .address)))))
 
 -- ── to a field ──
-module _ {a : ℕ} {f e : Expr} {W : Walk} {X : Place} {l part : List ℕ} {nesting at : ℕ} {sizes : List ℕ} {L : Lent} {top holds depth : ℕ} {pen : Pen}
-    (h : Ready (stmt (assign (toField a f) e)) W X l part nesting at sizes L top holds depth pen) where
+module _ {a : ℕ} {f e : Expr} {W : Walk} {X : Place} {l part : List ℕ} {nesting at : ℕ} {sizes : List ℕ} {L : Lent} {top holds depth : ℕ} {cursor : Cursor}
+    (h : Ready (stmt (assign (toField a f) e)) W X l part nesting at sizes L top holds depth cursor) where
   abbrev x : Code
   x = codeE (W .globals) f (X .around) (X .types) (X .start)
 
@@ -199,7 +199,7 @@ module _ {a : ℕ} {f e : Expr} {W : Walk} {X : Place} {l part : List ℕ} {nest
   abbrev whole : Code
   whole = x ▸ (v ▸ op into)
 
-  in-both : Rest W X l at L top holds depth pen (entry 21 0 (pos 0) ∷ (entry 46 a (pos 0) ∷ (flatE f ++ flatE e))) (after whole (X .start) .address ∷ (after x (X .start) .address ∷ (fs ++ ks))) whole
+  in-both : Rest W X l at L top holds depth cursor (entry 21 0 (pos 0) ∷ (entry 46 a (pos 0) ∷ (flatE f ++ flatE e))) (after whole (X .start) .address ∷ (after x (X .start) .address ∷ (fs ++ ks))) whole
   unfolding flatS codeS belowS
   in-both = record { laid = h .laid; stood = h .stood; room = h .room; ending = h .ending; fits = h .fits }
 
@@ -216,7 +216,7 @@ module _ {a : ℕ} {f e : Expr} {W : Walk} {X : Place} {l part : List ℕ} {nest
   unfolding measureS
   field-long = let d = head-of _ _ (h .table) (in-both .laid .stands) in (omega (arith, d .long, d .within, field-head .within), omega (arith, h .deep))
 
-  below-both : Rest W X l (at + 2) L top holds depth pen (flatE f ++ flatE e) (fs ++ ks) whole
+  below-both : Rest W X l (at + 2) L top holds depth cursor (flatE f ++ flatE e) (fs ++ ks) whole
   below-both =
       let r = rest-enter (entry 21 0 (pos 0)) _ _ _ _ (X .start) (omega arith) refl in-both in
       let s = rest-enter (entry 46 a (pos 0)) (flatE f ++ flatE e) _ _ _ (X .start) (omega arith) refl r in
@@ -226,7 +226,7 @@ module _ {a : ℕ} {f e : Expr} {W : Walk} {X : Place} {l part : List ℕ} {nest
   unfolding flatE
   field-stands = stands-left (entry 46 a (pos 0) ∷ flatE f) (flatE e) (stands-tail _ _ (in-both .laid .stands))
 
-  pub field-first-ready : Ready (expr f) W X l (below part 16) (nesting - 2) (at + 2) sizes L top holds depth pen
+  pub field-first-ready : Ready (expr f) W X l (below part 16) (nesting - 2) (at + 2) sizes L top holds depth cursor
   unfolding measureS goodS
   field-first-ready =
       rest-ready (expr f) (table-next (h .table) 16 2 refl) (omega (arith, h .deep)) (h .good .0 .0) tt (omega (arith, h .few-holds))
@@ -240,7 +240,7 @@ module _ {a : ℕ} {f e : Expr} {W : Walk} {X : Place} {l part : List ℕ} {nest
     pub field-passes : Passes (below part 8) sizes (at + 1) n
     field-passes = passes-N (expr (field a f)) (target-table h) field-stands n z
 
-    module _ {M : Lent} {p : Pen} (k : Kept L M top depth) (d : Done (expr f) W X (at + 2) L M depth pen p) where
+    module _ {M : Lent} {p : Cursor} (k : Kept L M top depth) (d : Done (expr f) W X (at + 2) L M depth cursor p) where
       few : depth < 32
       unfolding measureS
       few = omega (arith, h .few-values)
@@ -251,7 +251,7 @@ module _ {a : ℕ} {f e : Expr} {W : Walk} {X : Place} {l part : List ℕ} {nest
       pub field-mid : (at + 1 < length (M .ends)) × (p .address < 65536)
       field-mid = (omega (arith, in-both .ending, k .same-ends), fits-start _ p (length (M .out)) (after-first .fits) .address-small)
 
-      module _ {q : Pen} {ends : List ℕ} (g : (q ≡ p) × (ends ≡ set (M .ends) (at + 1) (p .address))) where
+      module _ {q : Cursor} {ends : List ℕ} (g : (q ≡ p) × (ends ≡ set (M .ends) (at + 1) (p .address))) where
         abbrev M₂ : Lent
         M₂ = lent (M .env) ends (M .stack) (M .out)
 
@@ -266,15 +266,15 @@ module _ {a : ℕ} {f e : Expr} {W : Walk} {X : Place} {l part : List ℕ} {nest
         field-second-ready =
             rest-ready (expr e) (table-from (at + 1 + n) (omega arith) (h .table)) (omega (arith, h .deep)) (h .good .1) tt (omega (arith, h .few-holds)) (omega (arith, h .few-values)) after-field
 
-        module _ {N : Lent} {r : Pen} (k₂ : Kept (lent (M .env) ends (M .stack) (M .out)) N top (depth + 1))
+        module _ {N : Lent} {r : Cursor} (k₂ : Kept (lent (M .env) ends (M .stack) (M .out)) N top (depth + 1))
             (d₂ : Done (expr e) W Y (at + 1 + n) (lent (M .env) ends (M .stack) (M .out)) N (depth + 1) q r) where
           pub field-fits : Fits (moved r) (length (N .out))
-          field-fits = rw (pen-op into r) (rest-fits (after v (Y .start)) refl k₂ (d₂ .wrote) after-field)
+          field-fits = rw (cursor-op into r) (rest-fits (after v (Y .start)) refl k₂ (d₂ .wrote) after-field)
 
           kept-both : Kept L N top depth
           kept-both = kept-then k (kept-then (kept-ends M ends long-ends) (kept-less (omega arith) k₂))
 
-          module _ {m : ℕ} {s : Pen} {o : List ℕ} (mean : m ≡ meaningOf (halfAt part 10) (envOf (L .env) top) (W .known)) (i : (s ≡ moved r) × (o ≡ inkOp r (N .out) 14 (firstIn m) (secondIn m))) where
+          module _ {m : ℕ} {s : Cursor} {o : List ℕ} (mean : m ≡ meaningOf (halfAt part 10) (envOf (L .env) top) (W .known)) (i : (s ≡ moved r) × (o ≡ emitOp r (N .out) 14 (firstIn m) (secondIn m))) where
             field-meant : recordOf into ≡ rec 14 (firstIn m) (secondIn m)
             unfolding goodS recordOf
             field-meant =
@@ -289,7 +289,7 @@ module _ {a : ℕ} {f e : Expr} {W : Walk} {X : Place} {l part : List ℕ} {nest
             pub field-finish : (at < length (N .ends)) × (s .address < 65536)
             field-finish = finishing (h .ending) (flat-one (stmt (assign (toField a f) e))) (kept-both .same-ends) (i .0) field-fits
 
-            wrote-both : Wrote (L .out) o pen s whole
+            wrote-both : Wrote (L .out) o cursor s whole
             wrote-both = wrote-then (d .wrote) (wrote-then (rw (g .0) at (d₂ .wrote)) put-in)
 
             ended-both : N .ends ≡ sets (L .ends) (at + 1) ((after x (X .start) .address ∷ fs) ++ ks)
@@ -300,7 +300,7 @@ module _ {a : ℕ} {f e : Expr} {W : Walk} {X : Place} {l part : List ℕ} {nest
                 ends-then (L .ends) (at + 1) n (after x (X .start) .address ∷ fs) ks
                 (size-field ∙ (let u : 1 + length (flatE f) ≡ suc (length fs) = omega (arith, ends-N (expr f) W X) in u)) own (d₂ .ended)
 
-            pub field-done : {u : Pen} {last : List ℕ} → (u ≡ s) × (last ≡ set (N .ends) at (s .address)) → Done (stmt (assign (toField a f) e)) W X at L (lent (N .env) last (N .stack) o) depth pen u
+            pub field-done : {u : Cursor} {last : List ℕ} → (u ≡ s) × (last ≡ set (N .ends) at (s .address)) → Done (stmt (assign (toField a f) e)) W X at L (lent (N .env) last (N .stack) o) depth cursor u
             unfolding codeS belowS
             field-done j =
                 record {
@@ -331,18 +331,18 @@ pub record ToField (m : Node) : Type 0 where
   pub e : Expr
   pub same : m ≡ stmt (assign (toField a f) e)
 
-module _ {m : Node} {W : Walk} {X : Place} {l part : List ℕ} {nesting at : ℕ} {sizes : List ℕ} {L : Lent} {top holds depth : ℕ} {pen : Pen} where
-  to-variable : IsKind 21 m → Ready m W X l part nesting at sizes L top holds depth pen → halfAt part 8 ≡ 44 → ToVariable m
+module _ {m : Node} {W : Walk} {X : Place} {l part : List ℕ} {nesting at : ℕ} {sizes : List ℕ} {L : Lent} {top holds depth : ℕ} {cursor : Cursor} where
+  to-variable : IsKind 21 m → Ready m W X l part nesting at sizes L top holds depth cursor → halfAt part 8 ≡ 44 → ToVariable m
   to-variable k h e = let g = assign-of m k in go (g .x) (g .e) (g .same) (ready-as (g .same) h)
     where
-      go : (x : Target) (y : Expr) → m ≡ stmt (assign x y) → Ready (stmt (assign x y)) W X l part nesting at sizes L top holds depth pen → ToVariable m
+      go : (x : Target) (y : Expr) → m ≡ stmt (assign x y) → Ready (stmt (assign x y)) W X l part nesting at sizes L top holds depth cursor → ToVariable m
       go (toVariable a) y s h = record { a = a; e = y; same = s }
       go (toField a f) y s h = absurd (omega (arith, field-kind h, e))
 
-  to-field : IsKind 21 m → Ready m W X l part nesting at sizes L top holds depth pen → ¬ (halfAt part 8 ≡ 44) → ToField m
+  to-field : IsKind 21 m → Ready m W X l part nesting at sizes L top holds depth cursor → ¬ (halfAt part 8 ≡ 44) → ToField m
   to-field k h e = let g = assign-of m k in go (g .x) (g .e) (g .same) (ready-as (g .same) h)
     where
-      go : (x : Target) (y : Expr) → m ≡ stmt (assign x y) → Ready (stmt (assign x y)) W X l part nesting at sizes L top holds depth pen → ToField m
+      go : (x : Target) (y : Expr) → m ≡ stmt (assign x y) → Ready (stmt (assign x y)) W X l part nesting at sizes L top holds depth cursor → ToField m
       go (toVariable a) y s h = absurd (e (variable-kind h))
       go (toField a f) y s h = record { a = a; f = f; e = y; same = s }
 
@@ -353,13 +353,13 @@ pub record Opens (part sizes : List ℕ) (nesting at top : ℕ) (env : List ℕ)
   pub passes : (n : ℕ) → n ≡ getD sizes (at + 1) 0 → Passes (below part 8) sizes (at + 1) n
 
 opens-by : (x : Target) (e : Expr) {W : Walk} {X : Place} {l part : List ℕ} {nesting at : ℕ} {sizes : List ℕ} {L : Lent} {top holds depth : ℕ}
-    {pen : Pen} → Ready (stmt (assign x e)) W X l part nesting at sizes L top holds depth pen
+    {cursor : Cursor} → Ready (stmt (assign x e)) W X l part nesting at sizes L top holds depth cursor
     → Opens part sizes nesting at top (L .env)
 opens-by (toVariable a) e h = record { long = variable-long h .0; nests = variable-long h .1; room = assign-room h; passes = λ n z. variable-passes h n z }
 opens-by (toField a f) e h = record { long = field-long h .0; nests = omega (arith, field-long h); room = assign-room h; passes = λ n z. field-passes h n z }
 
-module _ {known aims l part : List ℕ} {nesting at : ℕ} {sizes : List ℕ} {L : Lent} {top holds depth : ℕ} {pen : Pen}
-    (a : Asks (IsKind 21) known aims l part nesting at sizes L top holds depth pen) where
+module _ {known aims l part : List ℕ} {nesting at : ℕ} {sizes : List ℕ} {L : Lent} {top holds depth : ℕ} {cursor : Cursor}
+    (a : Asks (IsKind 21) known aims l part nesting at sizes L top holds depth cursor) where
   -- what is asked before it is known which it is
   pub asks-assign : Opens part sizes nesting at top (L .env)
   asks-assign = let g = assign-of (a .node) (a .such) in opens-by (g .x) (g .e) (ready-as (g .same) (a .ready))
@@ -367,10 +367,10 @@ module _ {known aims l part : List ℕ} {nesting at : ℕ} {sizes : List ℕ} {L
   module _ (n : ℕ) (z : n ≡ getD sizes (at + 1) 0) (m : ℕ) (mean : m ≡ meaningOf (halfAt part 10) (envOf (L .env) top) known) where
     -- a variable
     module _ (is : halfAt part 8 ≡ 44) where
-      pub asks-variable-first : (at + 1 < length (L .ends)) × (pen .address < 65536)
+      pub asks-variable-first : (at + 1 < length (L .ends)) × (cursor .address < 65536)
       asks-variable-first = let g = to-variable (a .such) (a .ready) is in variable-first (ready-as (g .same) (a .ready)) n z
 
-      module _ {p : Pen} {ends : List ℕ} (f : (p ≡ pen) × (ends ≡ set (L .ends) (at + 1) (pen .address))) where
+      module _ {p : Cursor} {ends : List ℕ} (f : (p ≡ cursor) × (ends ≡ set (L .ends) (at + 1) (cursor .address))) where
         pub asks-variable-second : Asks IsExpr known aims l (below part (8 * (at + 1 + n - at))) (nesting - 1) (at + 1 + n) sizes (lent (L .env) ends (L .stack) (L .out)) top holds depth p
         asks-variable-second =
             let g = to-variable (a .such) (a .ready) is in
@@ -384,9 +384,9 @@ module _ {known aims l part : List ℕ} {nesting at : ℕ} {sizes : List ℕ} {L
               ready = variable-second (ready-as (g .same) (a .ready)) n z f;
             }
 
-        module _ {N : Lent} {q : Pen} (b : Answers IsExpr known aims l (below part (8 * (at + 1 + n - at))) (nesting - 1) (at + 1 + n) sizes
+        module _ {N : Lent} {q : Cursor} (b : Answers IsExpr known aims l (below part (8 * (at + 1 + n - at))) (nesting - 1) (at + 1 + n) sizes
             (lent (L .env) ends (L .stack) (L .out)) N top holds depth p q) where
-          done-variable : {W : Walk} {X : Place} {c : ℕ} {e : Expr} → W .known ≡ known → W .aims ≡ aims → Ready (stmt (assign (toVariable c) e)) W X l part nesting at sizes L top holds depth pen
+          done-variable : {W : Walk} {X : Place} {c : ℕ} {e : Expr} → W .known ≡ known → W .aims ≡ aims → Ready (stmt (assign (toVariable c) e)) W X l part nesting at sizes L top holds depth cursor
               → Done (expr e) W X (at + 1 + n) (lent (L .env) ends (L .stack) (L .out)) N depth p q
           done-variable {W} {X} {c} {e} i j h = b .done (expr e) W X tt i j (variable-second h n z f)
 
@@ -395,14 +395,14 @@ module _ {known aims l part : List ℕ} {nesting at : ℕ} {sizes : List ℕ} {L
               let g = to-variable (a .such) (a .ready) is in let h = ready-as (g .same) (a .ready) in
               variable-fits h n z f (b .kept) (done-variable (a .same-known) (a .same-aims) h)
 
-          module _ {r : Pen} {o : List ℕ} (i : (r ≡ moved q) × (o ≡ inkOp q (N .out) 6 (ownerBy (q .inside) m) (secondIn m))) where
+          module _ {r : Cursor} {o : List ℕ} (i : (r ≡ moved q) × (o ≡ emitOp q (N .out) 6 (ownerBy (q .inside) m) (secondIn m))) where
             pub asks-variable-finish : (at < length (N .ends)) × (r .address < 65536)
             asks-variable-finish =
                 let g = to-variable (a .such) (a .ready) is in let h = ready-as (g .same) (a .ready) in let s = a .same-known in
                 variable-finish h n z f (b .kept) (done-variable s (a .same-aims) h) (mean-as _ _ s mean) i
 
-            pub answers-variable : {u : Pen} {last : List ℕ} → (u ≡ r) × (last ≡ set (N .ends) at (r .address))
-                → Answers (IsKind 21) known aims l part nesting at sizes L (lent (N .env) last (N .stack) o) top holds depth pen u
+            pub answers-variable : {u : Cursor} {last : List ℕ} → (u ≡ r) × (last ≡ set (N .ends) at (r .address))
+                → Answers (IsKind 21) known aims l part nesting at sizes L (lent (N .env) last (N .stack) o) top holds depth cursor u
             answers-variable j =
                 let g = to-variable (a .such) (a .ready) is in let h = ready-as (g .same) (a .ready) in let s = a .same-known in
                 record {
@@ -416,14 +416,14 @@ module _ {known aims l part : List ℕ} {nesting at : ℕ} {sizes : List ℕ} {L
       pub asks-field-nests : 2 ≤ nesting
       asks-field-nests = let g = to-field (a .such) (a .ready) is in field-long (ready-as (g .same) (a .ready)) .1
 
-      pub asks-field-first : Asks IsExpr known aims l (below part 16) (nesting - 2) (at + 2) sizes L top holds depth pen
+      pub asks-field-first : Asks IsExpr known aims l (below part 16) (nesting - 2) (at + 2) sizes L top holds depth cursor
       asks-field-first =
           let g = to-field (a .such) (a .ready) is in
           record { node = expr (g .f); walk = a .walk; place = a .place; such = tt; same-known = a .same-known; same-aims = a .same-aims; ready = field-first-ready (ready-as (g .same) (a .ready)) }
 
-      module _ {M : Lent} {p : Pen} (b₁ : Answers IsExpr known aims l (below part 16) (nesting - 2) (at + 2) sizes L M top holds depth pen p) where
+      module _ {M : Lent} {p : Cursor} (b₁ : Answers IsExpr known aims l (below part 16) (nesting - 2) (at + 2) sizes L M top holds depth cursor p) where
         done-one : {W : Walk} {X : Place} {c : ℕ} {f e : Expr} → W .known ≡ known → W .aims ≡ aims
-            → Ready (stmt (assign (toField c f) e)) W X l part nesting at sizes L top holds depth pen → Done (expr f) W X (at + 2) L M depth pen p
+            → Ready (stmt (assign (toField c f) e)) W X l part nesting at sizes L top holds depth cursor → Done (expr f) W X (at + 2) L M depth cursor p
         done-one {W} {X} {c} {f} i j h = b₁ .done (expr f) W X tt i j (field-first-ready h)
 
         pub asks-field-mid : (at + 1 < length (M .ends)) × (p .address < 65536)
@@ -431,7 +431,7 @@ module _ {known aims l part : List ℕ} {nesting at : ℕ} {sizes : List ℕ} {L
             let g = to-field (a .such) (a .ready) is in let h = ready-as (g .same) (a .ready) in
             field-mid h n z (b₁ .kept) (done-one (a .same-known) (a .same-aims) h)
 
-        module _ {q : Pen} {ends : List ℕ} (w : (q ≡ p) × (ends ≡ set (M .ends) (at + 1) (p .address))) where
+        module _ {q : Cursor} {ends : List ℕ} (w : (q ≡ p) × (ends ≡ set (M .ends) (at + 1) (p .address))) where
           pub asks-field-second : Asks IsExpr known aims l (below part (8 * (at + 1 + n - at))) (nesting - 1) (at + 1 + n) sizes (lent (M .env) ends (M .stack) (M .out)) top holds (depth + 1) q
           asks-field-second =
               let g = to-field (a .such) (a .ready) is in let h = ready-as (g .same) (a .ready) in
@@ -445,9 +445,9 @@ module _ {known aims l part : List ℕ} {nesting at : ℕ} {sizes : List ℕ} {L
                 ready = field-second-ready h n z (b₁ .kept) (done-one (a .same-known) (a .same-aims) h) w;
               }
 
-          module _ {N : Lent} {r : Pen} (b₂ : Answers IsExpr known aims l (below part (8 * (at + 1 + n - at))) (nesting - 1) (at + 1 + n) sizes
+          module _ {N : Lent} {r : Cursor} (b₂ : Answers IsExpr known aims l (below part (8 * (at + 1 + n - at))) (nesting - 1) (at + 1 + n) sizes
               (lent (M .env) ends (M .stack) (M .out)) N top holds (depth + 1) q r) where
-            done-two : {W : Walk} {X : Place} {c : ℕ} {f e : Expr} → W .known ≡ known → W .aims ≡ aims → (h : Ready (stmt (assign (toField c f) e)) W X l part nesting at sizes L top holds depth pen)
+            done-two : {W : Walk} {X : Place} {c : ℕ} {f e : Expr} → W .known ≡ known → W .aims ≡ aims → (h : Ready (stmt (assign (toField c f) e)) W X l part nesting at sizes L top holds depth cursor)
                 → Done (expr e) W (Y h) (at + 1 + n) (lent (M .env) ends (M .stack) (M .out)) N (depth + 1) q r
             done-two {W} {X} {c} {f} {e} i j h = b₂ .done (expr e) W _ tt i j (field-second-ready h n z (b₁ .kept) (done-one i j h) w)
 
@@ -456,14 +456,14 @@ module _ {known aims l part : List ℕ} {nesting at : ℕ} {sizes : List ℕ} {L
                 let g = to-field (a .such) (a .ready) is in let h = ready-as (g .same) (a .ready) in let s = a .same-known in let t = a .same-aims in
                 field-fits h n z (b₁ .kept) (done-one s t h) w (b₂ .kept) (done-two s t h)
 
-            module _ {u : Pen} {o : List ℕ} (i : (u ≡ moved r) × (o ≡ inkOp r (N .out) 14 (firstIn m) (secondIn m))) where
+            module _ {u : Cursor} {o : List ℕ} (i : (u ≡ moved r) × (o ≡ emitOp r (N .out) 14 (firstIn m) (secondIn m))) where
               pub asks-field-finish : (at < length (N .ends)) × (u .address < 65536)
               asks-field-finish =
                   let g = to-field (a .such) (a .ready) is in let h = ready-as (g .same) (a .ready) in let s = a .same-known in let t = a .same-aims in
                   field-finish h n z (b₁ .kept) (done-one s t h) w (b₂ .kept) (done-two s t h) (mean-as _ _ s mean) i
 
-              pub answers-field : {e : Pen} {last : List ℕ} → (e ≡ u) × (last ≡ set (N .ends) at (u .address))
-                  → Answers (IsKind 21) known aims l part nesting at sizes L (lent (N .env) last (N .stack) o) top holds depth pen e
+              pub answers-field : {e : Cursor} {last : List ℕ} → (e ≡ u) × (last ≡ set (N .ends) at (u .address))
+                  → Answers (IsKind 21) known aims l part nesting at sizes L (lent (N .env) last (N .stack) o) top holds depth cursor e
               answers-field j =
                   let g = to-field (a .such) (a .ready) is in let h = ready-as (g .same) (a .ready) in let s = a .same-known in let t = a .same-aims in
                   record {

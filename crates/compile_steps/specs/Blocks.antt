@@ -4,7 +4,6 @@ use mathlib.Core.List.{List, [], _∷_, _++_, map}
 use Prim.Native.Nat.{ℕ, suc, _+_, _-_, _*_, _<_}
 use native.Mathlib.Omega.{arith}
 use lib.ListN.{length, set, length-append}
-use lib.Seq.{sets}
 use Rattle.language.specs.Measure.{measureS}
 use Rattle.language.specs.Program.{flatDecl, flatS, flatItems}
 use Rattle.words.specs.Numbers.{halfAt, wordAt}
@@ -18,13 +17,14 @@ use Rattle.table_forms.specs.Part.{table-next}
 use Rattle.compile_code.specs.Code.{Code, cell, _▸_, At, at}
 use Rattle.compile_code.specs.Compile.{Around, inside, bound, labels, scopesOf, heldIn, codeS, codeItems}
 use Rattle.compile_names.specs.Good.{goodS}
-use Rattle.compile_output.specs.declared.Pen.{Pen}
-use Rattle.compile_output.specs.Ink.{Fits}
-use Rattle.compile_output.specs.Folds.{penAfter, inked, lets, grows, fits-before}
+use Rattle.compile_output.specs.declared.Cursor.{Cursor}
+use Rattle.compile_output.specs.EmitRecord.{Fits}
+use Rattle.compile_output.specs.EmitCode.{cursorAfter, emitted, lets, grows, fits-before}
 use Rattle.compile_nodes.specs.Knows.{Walk}
 use Rattle.compile_nodes.specs.Ends.{atHead, endsHead, belowS, endsItems}
 use Rattle.compile_nodes.specs.Ready.{stmt, flatN, Place, Lent, Laid, Ready, Done, ReadyItems, DoneItems}
-use Rattle.compile_emit.specs.Owns.{pensHead, inksHead, finishes, holdsHead}
+use Rattle.compile_emit.specs.EmitEntry.{holdsHead}
+use Rattle.compile_emit.specs.Opens.{Pushed, Declared}
 use Rattle.compile_scopes.specs.Marks.{openIn}
 use Rattle.compile_scopes.specs.Lengths.{length-head}
 use Rattle.compile_scopes.specs.Heads.{classes-known, classes-block, bytes-head, Bytes}
@@ -33,12 +33,12 @@ use Rattle.compile_scopes.specs.Sight.{sees-in-block, knows-in-block, lands-in-
 use Rattle.compile_steps.specs.Parts.{below, lent, laid-tail, laid-left, laid-right, laid-at, head-N, wrote-then, wrote-length, ended-then}
 use Rattle.compile_steps.specs.Stages.{Finished, finished-done}
 use Rattle.compile_steps.specs.Cells.{at-head-cell}
-use Rattle.compile_scopes.specs.HeadOps.{headOps, head-pen, head-inked, holds-open}
+use Rattle.compile_scopes.specs.HeadOps.{headOps, head-cursor, head-emitted, holds-open}
 use Rattle.compile_steps.specs.HeadCode.{head-read}
-use Rattle.compile_steps.specs.Headed.{held-head, Pushed, Headed, headed-open, headed-now, headed-same, headed-most, headed-wrote, headed-ended, headed-ends, headed-fits, headed-stood}
+use Rattle.compile_steps.specs.Headed.{held-head, Headed, headed-open, headed-now, headed-same, headed-most, headed-wrote, headed-ended, headed-ends, headed-fits, headed-stood}
 
 module _ (ds : List Decl) (is : Items) {W : Walk} {X : Place} {l part : List ℕ} {nesting at : ℕ} {sizes : List ℕ} {L : Lent} {top holds depth : ℕ}
-    {pen : Pen} (r : Ready (stmt (block ds is)) W X l part nesting at sizes L top holds depth pen) where
+    {cursor : Cursor} (r : Ready (stmt (block ds is)) W X l part nesting at sizes L top holds depth cursor) where
   abbrev block-Γ : List Around
   block-Γ = aroundItems (blockOf ds is) ds is (X .around) (X .start)
 
@@ -82,7 +82,7 @@ module _ (ds : List Decl) (is : Items) {W : Walk} {X : Place} {l part : List ℕ
       bytes-head (r .table .legible) (W .globals) (blockOf ds is ∷ scopesOf (X .around)) (classes-block (W .globals) ds is (scopesOf (X .around)) (classes-known (r .stood .sees) (r .stood .knows)))
       (at + 1) [] ds (heads-stand (r .table .legible) (at + 1) ds is (block-laid .stands)) (r .good .0)
 
-  pub block-headed : Headed (stmt (block ds is)) ds is block-x W X l at L top pen
+  pub block-headed : Headed (stmt (block ds is)) ds is block-x W X l at L top cursor
   unfolding codeS
   block-headed =
       let v = laid-left (map flatDecl ds) (flatItems is) block-es block-fs block-laid in
@@ -90,8 +90,8 @@ module _ (ds : List Decl) (is : Items) {W : Walk} {X : Place} {l part : List ℕ
         long = omega (arith, block-length);
         room = r .room;
         stands = block-laid .stands;
-        read = head-read W l ds (at + 1) (X .start) pen (L .out) (v .stands) (v .numbered) block-bytes (v .cells);
-        left = rw (head-pen (W .globals) bound block-f ds (inside (blockOf ds is) ∷ X .around) (X .start) pen) at (r .fits);
+        read = head-read W l ds (at + 1) (X .start) cursor (L .out) (v .stands) (v .numbered) block-bytes (v .cells);
+        left = rw (head-cursor (W .globals) bound block-f ds (inside (blockOf ds is) ∷ X .around) (X .start) cursor) at (r .fits);
       }
 
   pub block-heads : (heads : ℕ) → heads ≡ halfAt part 2 → heads ≡ length ds
@@ -101,9 +101,8 @@ module _ (ds : List Decl) (is : Items) {W : Walk} {X : Place} {l part : List ℕ
   block-count count c = c ∙ head-N (stmt (block ds is)) (r .table) (r .laid .stands) .b (countItems is) refl
 
   module _ {heads count : ℕ} (hs : heads ≡ length ds) (cs : count ≡ countItems is) {opens : ℕ} (o : opens ≡ holdsHead (below part 8) heads)
-      {mid new : List ℕ} {up : ℕ} (g : Pushed opened l at heads count top opens (L .env) mid new up) {ends : List ℕ} {out : List ℕ} {p : Pen}
-      (w : (p ≡ pensHead (below part 8) heads pen) × (out ≡ inksHead (below part 8) (W .known) (at + 1) heads pen (L .out)) ×
-      (ends ≡ sets (L .ends) (at + 1) (finishes (below part 8) heads pen))) where
+      {new : List ℕ} {up : ℕ} (g : Pushed opened l (at + 1) heads count top opens (L .env) new up) {ends out : List ℕ} {p : Cursor}
+      (w : Declared (below part 8) (W .known) (at + 1) heads (L .ends) (L .out) cursor p ends out) where
     abbrev block-M : Lent
     block-M = lent new ends (L .stack) out
 
@@ -119,7 +118,7 @@ module _ (ds : List Decl) (is : Items) {W : Walk} {X : Place} {l part : List ℕ
               (held-head ds (inside (blockOf ds is) ∷ X .around) (X .start));
           room = omega (arith, r .room, headed-same r block-headed hs cs o g w, headed-most r block-headed hs cs o g w, block-length);
           ending = omega (arith, r .ending, headed-ends r block-headed hs cs o g w, block-length, hs);
-          fits = fits-before (length out) (grows (lets (openIn ds)) (penAfter block-x p)) (headed-fits r block-headed hs cs o g w);
+          fits = fits-before (length out) (grows (lets (openIn ds)) (cursorAfter block-x p)) (headed-fits r block-headed hs cs o g w);
           deep = omega (arith, r .deep);
           good = rw (scopes-items (blockOf ds is) ds is (X .around) (X .start)) (r .good .1);
           lands = rw (headed-now r block-headed hs cs o g w) (lands-in-block (r .table .legible) at ds is (X .start) (r .laid .stands) (X .types) (r .lands) (r .laid .aimed));
@@ -128,17 +127,17 @@ module _ (ds : List Decl) (is : Items) {W : Walk} {X : Place} {l part : List ℕ
           many = cs;
         }
 
-    module _ {N : Lent} {q : Pen} (d : DoneItems is W block-place (at + 1 + heads) block-M N depth p q) where
-      pub block-fits : Fits (penAfter (lets opens) q) (length (N .out))
-      block-fits = rw (headed-open r block-headed hs cs o, d .wrote .penned, wrote-length (d .wrote)) (headed-fits r block-headed hs cs o g w)
+    module _ {N : Lent} {q : Cursor} (d : DoneItems is W block-place (at + 1 + heads) block-M N depth p q) where
+      pub block-fits : Fits (cursorAfter (lets opens) q) (length (N .out))
+      block-fits = rw (headed-open r block-headed hs cs o, d .wrote .advanced, wrote-length (d .wrote)) (headed-fits r block-headed hs cs o g w)
 
-      module _ {late : List ℕ} {u : Pen} (j : (u ≡ penAfter (lets opens) q) × (late ≡ inked (lets opens) q (N .out))) where
-        block-over : Finished L pen at late (N .ends) u (block-head ▸ (block-x ▸ lets (openIn ds))) (block-es ++ block-fs)
+      module _ {late : List ℕ} {u : Cursor} (j : (u ≡ cursorAfter (lets opens) q) × (late ≡ emitted (lets opens) q (N .out))) where
+        block-over : Finished L cursor at late (N .ends) u (block-head ▸ (block-x ▸ lets (openIn ds))) (block-es ++ block-fs)
         block-over =
             let e = headed-open r block-headed hs cs o in
             let f : Fits u (length (N .out)) = rw (j .0) block-fits in
             record {
-              wrote = wrote-then (headed-wrote r block-headed hs cs o g w) (wrote-then (d .wrote) (record { penned = rw e at (j .0); written = rw e at (j .1) }));
+              wrote = wrote-then (headed-wrote r block-headed hs cs o g w) (wrote-then (d .wrote) (record { advanced = rw e at (j .0); written = rw e at (j .1) }));
               ended = ended-then (L .ends) ends (N .ends) (at + 1) (at + 1 + heads) block-es block-fs (headed-ended r block-headed hs cs o g w) (d .ended)
                   (omega (arith, hs, length-head ds (X .start)));
               small = f .address-small;
@@ -147,9 +146,9 @@ module _ (ds : List Decl) (is : Items) {W : Walk} {X : Place} {l part : List ℕ
         pub block-small : u .address < 65536
         block-small = block-over .small
 
-        pub block-done : {last : List ℕ} → last ≡ set (N .ends) at (u .address) → Done (stmt (block ds is)) W X at L (lent (N .env) last (N .stack) late) depth pen u
-        unfolding codeS penAfter inked belowS
+        pub block-done : {last : List ℕ} → last ≡ set (N .ends) at (u .address) → Done (stmt (block ds is)) W X at L (lent (N .env) last (N .stack) late) depth cursor u
+        unfolding codeS cursorAfter emitted belowS
         block-done f =
             finished-done (stmt (block ds is)) X block-over (r .stood .address)
-            (sym (head-pen (W .globals) bound block-f ds (inside (blockOf ds is) ∷ X .around) (X .start) pen))
-            (sym (head-inked (W .globals) bound block-f ds (inside (blockOf ds is) ∷ X .around) (X .start) pen (L .out))) refl f (N .env) (N .stack) tt
+            (sym (head-cursor (W .globals) bound block-f ds (inside (blockOf ds is) ∷ X .around) (X .start) cursor))
+            (sym (head-emitted (W .globals) bound block-f ds (inside (blockOf ds is) ∷ X .around) (X .start) cursor (L .out))) refl f (N .env) (N .stack) tt

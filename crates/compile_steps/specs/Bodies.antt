@@ -4,7 +4,6 @@ use mathlib.Core.List.{List, [], _∷_, _++_, map}
 use Prim.Native.Nat.{ℕ, suc, _+_, _-_, _*_, _/_, _≤_, _<_}
 use native.Mathlib.Omega.{arith}
 use lib.ListN.{length, drop, set, length-append}
-use lib.Seq.{sets}
 use Rattle.language.specs.Measure.{measureS}
 use Rattle.language.specs.Program.{flatDecl, flatItems, flatE}
 use Rattle.words.specs.Numbers.{halfAt, wordAt}
@@ -23,13 +22,14 @@ use Rattle.table_forms.specs.Part.{table-next}
 use Rattle.compile_code.specs.Code.{Code, _▸_, At, at, after}
 use Rattle.compile_code.specs.Compile.{Around, inside, held, labels, scopesOf, heldIn, codeItems, codeE}
 use Rattle.compile_names.specs.Good.{goodE}
-use Rattle.compile_output.specs.declared.Pen.{Pen}
-use Rattle.compile_output.specs.Ink.{Fits}
-use Rattle.compile_output.specs.Folds.{penAfter, inked, lets, grows, fits-before}
+use Rattle.compile_output.specs.declared.Cursor.{Cursor}
+use Rattle.compile_output.specs.EmitRecord.{Fits}
+use Rattle.compile_output.specs.EmitCode.{cursorAfter, emitted, lets, grows, fits-before}
 use Rattle.compile_nodes.specs.Knows.{Walk}
 use Rattle.compile_nodes.specs.Ends.{atHead, endsHead, belowE, endsItems, endsE}
 use Rattle.compile_nodes.specs.Ready.{expr, flatN, Place, Lent, Laid, Stood, Kept, Ready, Done, ReadyItems, DoneItems}
-use Rattle.compile_emit.specs.Owns.{pensHead, inksHead, finishes, holdsHead}
+use Rattle.compile_emit.specs.EmitEntry.{holdsHead}
+use Rattle.compile_emit.specs.Opens.{Pushed, Declared}
 use Rattle.compile_scopes.specs.Marks.{openIn}
 use Rattle.compile_scopes.specs.Lengths.{length-head}
 use Rattle.compile_scopes.specs.Heads.{classes-known, classes-expression, bytes-head, Bytes}
@@ -38,10 +38,10 @@ use Rattle.compile_scopes.specs.Sight.{sees-in-expression, sees-in-value, knows
 use Rattle.compile_steps.specs.Parts.{below, lent, laid-tail, laid-left, laid-right, laid-at, head-N, wrote-then, wrote-later, wrote-length, wrote-address, fits-first, ended-then}
 use Rattle.compile_steps.specs.Stages.{Finished, finished-done}
 use Rattle.compile_steps.specs.Cells.{at-head-cell, cell-items}
-use Rattle.compile_scopes.specs.HeadOps.{headOps, head-pen, head-inked, holds-open}
+use Rattle.compile_scopes.specs.HeadOps.{headOps, head-cursor, head-emitted, holds-open}
 use Rattle.compile_steps.specs.HeadCode.{head-read}
 use Rattle.compile_scopes.specs.Lengths.{length-items}
-use Rattle.compile_steps.specs.Headed.{held-head, Pushed, Headed, headed-open, headed-now, headed-same, headed-most, headed-wrote, headed-ended, headed-ends, headed-fits, headed-stood}
+use Rattle.compile_steps.specs.Headed.{held-head, Headed, headed-open, headed-now, headed-same, headed-most, headed-wrote, headed-ended, headed-ends, headed-fits, headed-stood}
 use Rattle.table_scopes.specs.Spans.{span}
 use Rattle.table_scopes.specs.Trees.{spans-Items}
 use Rattle.language.specs.Faults.{typeE}
@@ -49,7 +49,7 @@ use Rattle.compile_code.specs.Compile.{bound, tyIn, orInteger}
 use mathlib.Core.List.{append-assoc}
 
 module _ (ds : List Decl) (is : Items) (v : Expr) {W : Walk} {X : Place} {l part : List ℕ} {nesting at : ℕ} {sizes : List ℕ} {L : Lent}
-    {top holds depth : ℕ} {pen : Pen} (r : Ready (expr (blockExpr ds is v)) W X l part nesting at sizes L top holds depth pen) where
+    {top holds depth : ℕ} {cursor : Cursor} (r : Ready (expr (blockExpr ds is v)) W X l part nesting at sizes L top holds depth cursor) where
   abbrev body-Γ : List Around
   body-Γ = aroundItems (expressionOf ds is) ds is (X .around) (X .start)
 
@@ -120,16 +120,16 @@ module _ (ds : List Decl) (is : Items) (v : Expr) {W : Walk} {X : Place} {l part
       (classes-expression (W .globals) ds is (scopesOf (X .around)) (classes-known (r .stood .sees) (r .stood .knows)))
       (at + 1) [] ds (heads-stand (r .table .legible) (at + 1) ds is body-block) (r .good .0)
 
-  pub body-headed : Headed (expr (blockExpr ds is v)) ds is (body-x ▸ body-y) W X l at L top pen
-  unfolding codeE penAfter
+  pub body-headed : Headed (expr (blockExpr ds is v)) ds is (body-x ▸ body-y) W X l at L top cursor
+  unfolding codeE cursorAfter
   body-headed =
       let u = laid-left (map flatDecl ds) (flatItems is ++ flatE v) body-es (body-fs ++ body-gs) body-laid in
       record {
         long = omega (arith, body-length);
         room = r .room;
         stands = body-block;
-        read = head-read W l ds (at + 1) (X .start) pen (L .out) (u .stands) (u .numbered) body-bytes (u .cells);
-        left = rw (head-pen (W .globals) bound body-f ds (inside (expressionOf ds is) ∷ X .around) (X .start) pen) at (r .fits);
+        read = head-read W l ds (at + 1) (X .start) cursor (L .out) (u .stands) (u .numbered) body-bytes (u .cells);
+        left = rw (head-cursor (W .globals) bound body-f ds (inside (expressionOf ds is) ∷ X .around) (X .start) cursor) at (r .fits);
       }
 
   pub body-heads : (heads : ℕ) → heads ≡ halfAt part 2 → heads ≡ length ds
@@ -139,9 +139,8 @@ module _ (ds : List Decl) (is : Items) (v : Expr) {W : Walk} {X : Place} {l part
   body-count count c = c ∙ head-N (expr (blockExpr ds is v)) (r .table) (r .laid .stands) .b (countItems is) refl
 
   module _ {heads count : ℕ} (hs : heads ≡ length ds) (cs : count ≡ countItems is) {opens : ℕ} (o : opens ≡ holdsHead (below part 8) heads)
-      {mid new : List ℕ} {up : ℕ} (g : Pushed shut l at heads count top opens (L .env) mid new up) {ends : List ℕ} {out : List ℕ} {p : Pen}
-      (w : (p ≡ pensHead (below part 8) heads pen) × (out ≡ inksHead (below part 8) (W .known) (at + 1) heads pen (L .out)) ×
-      (ends ≡ sets (L .ends) (at + 1) (finishes (below part 8) heads pen))) where
+      {new : List ℕ} {up : ℕ} (g : Pushed shut l (at + 1) heads count top opens (L .env) new up) {ends out : List ℕ} {p : Cursor}
+      (w : Declared (below part 8) (W .known) (at + 1) heads (L .ends) (L .out) cursor p ends out) where
     abbrev body-M : Lent
     body-M = lent new ends (L .stack) out
 
@@ -162,7 +161,7 @@ module _ (ds : List Decl) (is : Items) (v : Expr) {W : Walk} {X : Place} {l part
           stood = body-stood;
           room = omega (arith, r .room, headed-same r body-headed hs cs o g w, headed-most r body-headed hs cs o g w, body-length);
           ending = omega (arith, r .ending, headed-ends r body-headed hs cs o g w, body-length, hs);
-          fits = fits-first body-x body-y p (length out) (fits-before (length out) (grows (lets (openIn ds)) (penAfter (body-x ▸ body-y) p)) (headed-fits r body-headed hs cs o g w));
+          fits = fits-first body-x body-y p (length out) (fits-before (length out) (grows (lets (openIn ds)) (cursorAfter (body-x ▸ body-y) p)) (headed-fits r body-headed hs cs o g w));
           deep = omega (arith, r .deep);
           good = rw (scopes-items (expressionOf ds is) ds is (X .around) (X .start)) (r .good .1);
           lands = rw (headed-now r body-headed hs cs o g w)
@@ -172,10 +171,10 @@ module _ (ds : List Decl) (is : Items) (v : Expr) {W : Walk} {X : Place} {l part
           many = cs;
         }
 
-    module _ {N : Lent} {q : Pen} (k : Kept body-M N up depth) (d : DoneItems is W body-place (at + 1 + heads) body-M N depth p q) where
-      body-fits-2 : Fits (penAfter (lets (openIn ds)) (penAfter body-y q)) (length (N .out))
-      unfolding penAfter
-      body-fits-2 = rw (d .wrote .penned, wrote-length (d .wrote)) (headed-fits r body-headed hs cs o g w)
+    module _ {N : Lent} {q : Cursor} (k : Kept body-M N up depth) (d : DoneItems is W body-place (at + 1 + heads) body-M N depth p q) where
+      body-fits-2 : Fits (cursorAfter (lets (openIn ds)) (cursorAfter body-y q)) (length (N .out))
+      unfolding cursorAfter
+      body-fits-2 = rw (d .wrote .advanced, wrote-length (d .wrote)) (headed-fits r body-headed hs cs o g w)
 
       body-now : envOf (N .env) up ≡ within shut l at ds is (envOf (L .env) top)
       body-now = k .env ∙ headed-now r body-headed hs cs o g w
@@ -223,7 +222,7 @@ module _ (ds : List Decl) (is : Items) (v : Expr) {W : Walk} {X : Place} {l part
               stood = body-stood-2;
               room = omega (arith, r .room, k .same-env, headed-same r body-headed hs cs o g w, headed-most r body-headed hs cs o g w, body-length);
               ending = omega (arith, r .ending, k .same-ends, headed-ends r body-headed hs cs o g w, body-length, hs, m);
-              fits = fits-before (length (N .out)) (grows (lets (openIn ds)) (penAfter body-y q)) body-fits-2;
+              fits = fits-before (length (N .out)) (grows (lets (openIn ds)) (cursorAfter body-y q)) body-fits-2;
               deep = omega (arith, r .deep);
               good = rw (scopes-value (expressionOf ds is) ds (X .around) (X .start)) (r .good .2);
               lands = tt;
@@ -231,18 +230,18 @@ module _ (ds : List Decl) (is : Items) (v : Expr) {W : Walk} {X : Place} {l part
               few-values = omega (arith, r .few-values);
             }
 
-        module _ {O : Lent} {t : Pen} (d2 : Done (expr v) W body-value (at + 1 + heads + n) N O depth q t) where
-          pub body-fits : Fits (penAfter (lets opens) t) (length (O .out))
-          body-fits = rw (headed-open r body-headed hs cs o, d2 .wrote .penned, wrote-length (d2 .wrote)) body-fits-2
+        module _ {O : Lent} {t : Cursor} (d2 : Done (expr v) W body-value (at + 1 + heads + n) N O depth q t) where
+          pub body-fits : Fits (cursorAfter (lets opens) t) (length (O .out))
+          body-fits = rw (headed-open r body-headed hs cs o, d2 .wrote .advanced, wrote-length (d2 .wrote)) body-fits-2
 
-          module _ {late : List ℕ} {u : Pen} (j : (u ≡ penAfter (lets opens) t) × (late ≡ inked (lets opens) t (O .out))) where
-            body-over : Finished L pen at late (O .ends) u ((body-head ▸ body-x) ▸ (body-y ▸ lets (openIn ds))) ((body-es ++ body-fs) ++ body-gs)
+          module _ {late : List ℕ} {u : Cursor} (j : (u ≡ cursorAfter (lets opens) t) × (late ≡ emitted (lets opens) t (O .out))) where
+            body-over : Finished L cursor at late (O .ends) u ((body-head ▸ body-x) ▸ (body-y ▸ lets (openIn ds))) ((body-es ++ body-fs) ++ body-gs)
             body-over =
                 let m = body-size in
                 let e = headed-open r body-headed hs cs o in
                 let f : Fits u (length (O .out)) = rw (j .0) body-fits in
                 record {
-                  wrote = wrote-then (wrote-then (headed-wrote r body-headed hs cs o g w) (d .wrote)) (wrote-then (d2 .wrote) (record { penned = rw e at (j .0); written = rw e at (j .1) }));
+                  wrote = wrote-then (wrote-then (headed-wrote r body-headed hs cs o g w) (d .wrote)) (wrote-then (d2 .wrote) (record { advanced = rw e at (j .0); written = rw e at (j .1) }));
                   ended = ended-then (L .ends) (N .ends) (O .ends) (at + 1) (at + 1 + heads + n) (body-es ++ body-fs) body-gs
                       (ended-then (L .ends) ends (N .ends) (at + 1) (at + 1 + heads) body-es body-fs (headed-ended r body-headed hs cs o g w) (d .ended) (omega (arith, hs, length-head ds (X .start))))
                       (d2 .ended) (omega (arith, hs, m, length-head ds (X .start), length-append body-es body-fs, length-items (W .globals) is body-Γ (X .types) body-q, length-Items is));
@@ -252,12 +251,12 @@ module _ (ds : List Decl) (is : Items) (v : Expr) {W : Walk} {X : Place} {l part
             pub body-small : u .address < 65536
             body-small = body-over .small
 
-            pub body-done : {last : List ℕ} → last ≡ set (O .ends) at (u .address) → Done (expr (blockExpr ds is v)) W X at L (lent (O .env) last (O .stack) late) depth pen u
-            unfolding codeE penAfter inked belowE typeE
+            pub body-done : {last : List ℕ} → last ≡ set (O .ends) at (u .address) → Done (expr (blockExpr ds is v)) W X at L (lent (O .env) last (O .stack) late) depth cursor u
+            unfolding codeE cursorAfter emitted belowE typeE
             body-done f =
                 finished-done (expr (blockExpr ds is v)) X body-over (r .stood .address)
-                (sym (head-pen (W .globals) bound body-f ds (inside (expressionOf ds is) ∷ X .around) (X .start) pen))
-                (sym (head-inked (W .globals) bound body-f ds (inside (expressionOf ds is) ∷ X .around) (X .start) pen (L .out)))
+                (sym (head-cursor (W .globals) bound body-f ds (inside (expressionOf ds is) ∷ X .around) (X .start) cursor))
+                (sym (head-emitted (W .globals) bound body-f ds (inside (expressionOf ds is) ∷ X .around) (X .start) cursor (L .out)))
                 (ap (λ (us : List ℕ). after (codeE (W .globals) (blockExpr ds is v) (X .around) (X .types) (X .start)) (X .start) .address ∷ us) (sym (append-assoc body-es body-fs body-gs))) f
                 (O .env) (O .stack)
                 (d2 .leaves ∙ ap (λ (ss : List Scope). tyByte (tyIn (W .globals) (orInteger (typeE ss v)))) (scopes-value (expressionOf ds is) ds (X .around) (X .start)))

@@ -9,8 +9,8 @@ use Rattle.language.specs.Tree.{Stmt, Expr, choose}
 use Rattle.table_forms.specs.Part.{Passes}
 use Rattle.compile_code.specs.Code.{At, skip, after}
 use Rattle.compile_code.specs.Compile.{codeS}
-use Rattle.compile_output.specs.declared.Pen.{Pen}
-use Rattle.compile_output.specs.Ink.{Fits, moved, penShaped, inkOp, inkShape}
+use Rattle.compile_output.specs.declared.Cursor.{Cursor}
+use Rattle.compile_output.specs.EmitRecord.{Fits, moved, cursorShaped, emitOp, emitShape}
 use Rattle.compile_nodes.specs.Knows.{Walk}
 use Rattle.compile_nodes.specs.Ready.{stmt, expr, Place, Lent, Ready, Done, Asks, Answers}
 use Rattle.compile_steps.specs.Parts.{lent, below, movedTo, asked}
@@ -23,27 +23,27 @@ use Rattle.compile_steps.specs.Adapt.{ready-passes, ready-size, behind-t
 abbrev behind-then : Walk → Place → Expr → Stmt → At
 behind-then W X e s = skip 1 (after (codeS (W .globals) s (X .around) (X .types) (behind-test W X e)) (behind-test W X e))
 
-module _ {known aims l part : List ℕ} {nesting at : ℕ} {sizes : List ℕ} {L : Lent} {top holds depth : ℕ} {pen : Pen}
-    (a : Asks (IsKind 23) known aims l part nesting at sizes L top holds depth pen) where
+module _ {known aims l part : List ℕ} {nesting at : ℕ} {sizes : List ℕ} {L : Lent} {top holds depth : ℕ} {cursor : Cursor}
+    (a : Asks (IsKind 23) known aims l part nesting at sizes L top holds depth cursor) where
   v : Choose (a .node)
   v = choose-of (a .node) (a .such)
 
-  ready : Ready (stmt (choose (v .e) (v .s) (v .t))) (a .walk) (a .place) l part nesting at sizes L top holds depth pen
+  ready : Ready (stmt (choose (v .e) (v .s) (v .t))) (a .walk) (a .place) l part nesting at sizes L top holds depth cursor
   ready = ready-as (v .same) (a .ready)
 
-  pub asks-choose-first : Asks IsExpr known aims l (below part 8) (nesting - 1) (at + 1) sizes L top holds depth pen
+  pub asks-choose-first : Asks IsExpr known aims l (below part 8) (nesting - 1) (at + 1) sizes L top holds depth cursor
   asks-choose-first = record { node = expr (v .e); walk = a .walk; place = a .place; such = tt; same-known = a .same-known; same-aims = a .same-aims; ready = choose-test _ _ _ ready }
 
   pub asks-choose-passes : (n : ℕ) → n ≡ getD sizes (at + 1) 0 → Passes (below part 8) sizes (at + 1) n
   asks-choose-passes n z = ready-passes (choose-test _ _ _ ready) n z
 
-  module _ (n : ℕ) (z : n ≡ getD sizes (at + 1) 0) (m : ℕ) (z₂ : m ≡ getD sizes (at + 1 + n) 0) {M : Lent} {p : Pen}
-      (b₁ : Answers IsExpr known aims l (below part 8) (nesting - 1) (at + 1) sizes L M top holds depth pen p) where
-    first : {W : Walk} {X : Place} {e : Expr} {s t : Stmt} → W .known ≡ known → W .aims ≡ aims → Ready (stmt (choose e s t)) W X l part nesting at sizes L top holds depth pen
-        → Done (expr e) W X (at + 1) L M depth pen p
+  module _ (n : ℕ) (z : n ≡ getD sizes (at + 1) 0) (m : ℕ) (z₂ : m ≡ getD sizes (at + 1 + n) 0) {M : Lent} {p : Cursor}
+      (b₁ : Answers IsExpr known aims l (below part 8) (nesting - 1) (at + 1) sizes L M top holds depth cursor p) where
+    first : {W : Walk} {X : Place} {e : Expr} {s t : Stmt} → W .known ≡ known → W .aims ≡ aims → Ready (stmt (choose e s t)) W X l part nesting at sizes L top holds depth cursor
+        → Done (expr e) W X (at + 1) L M depth cursor p
     first {W} {X} {e} {s} {t} x y h = b₁ .done (expr e) W X tt x y (choose-test e s t h)
 
-    behind : {W : Walk} {X : Place} {e : Expr} {s t : Stmt} → Ready (stmt (choose e s t)) W X l part nesting at sizes L top holds depth pen → at + 1 + n ≡ at + 1 + length (flatE e)
+    behind : {W : Walk} {X : Place} {e : Expr} {s t : Stmt} → Ready (stmt (choose e s t)) W X l part nesting at sizes L top holds depth cursor → at + 1 + n ≡ at + 1 + length (flatE e)
     behind {e = e} {s = s} {t = t} h = ap (λ (k : ℕ). at + 1 + k) (ready-size (choose-test e s t h) n z)
 
     pub asks-choose-emit : Fits (moved p) (length (M .out))
@@ -54,11 +54,11 @@ module _ {known aims l part : List ℕ} {nesting at : ℕ} {sizes : List ℕ} {L
         let d = first (a .same-known) (a .same-aims) ready in
         ready-passes (choose-body _ _ _ ready (b₁ .kept) d (at + 1 + n) (getD (a .walk .aims) (at + 1 + n) 0 + 1) (behind ready) refl (refl, refl)) m z₂
 
-    module _ {b : ℕ} {p₂ : Pen} {o : List ℕ} (aim : b ≡ getD aims (at + 1 + n) 0) (i : (p₂ ≡ moved p) × (o ≡ inkOp p (M .out) 9 0 (b + 1))) where
+    module _ {b : ℕ} {p₂ : Cursor} {o : List ℕ} (aim : b ≡ getD aims (at + 1 + n) 0) (i : (p₂ ≡ moved p) × (o ≡ emitOp p (M .out) 9 0 (b + 1))) where
       next : {vs : List ℕ} → vs ≡ aims → b + 1 ≡ getD vs (at + 1 + n) 0 + 1
       next y = ap (λ (k : ℕ). k + 1) (aim-as (at + 1 + n) y aim)
 
-      inner : {W : Walk} {X : Place} {e : Expr} {s t : Stmt} → W .known ≡ known → W .aims ≡ aims → (h : Ready (stmt (choose e s t)) W X l part nesting at sizes L top holds depth pen)
+      inner : {W : Walk} {X : Place} {e : Expr} {s t : Stmt} → W .known ≡ known → W .aims ≡ aims → (h : Ready (stmt (choose e s t)) W X l part nesting at sizes L top holds depth cursor)
           → Ready (stmt s) W (movedTo X (behind-test W X e)) l (below part (8 * (at + 1 + n - at))) (nesting - 1) (at + 1 + n) sizes (lent (M .env) (M .ends) (M .stack) o) top holds depth p₂
       inner {e = e} {s = s} {t = t} x y h = choose-body e s t h (b₁ .kept) (first x y h) (at + 1 + n) (b + 1) (behind h) (next y) i
 
@@ -66,13 +66,13 @@ module _ {known aims l part : List ℕ} {nesting at : ℕ} {sizes : List ℕ} {L
       asks-choose-second =
           record { node = stmt (v .s); walk = a .walk; place = _; such = tt; same-known = a .same-known; same-aims = a .same-aims; ready = inner (a .same-known) (a .same-aims) ready }
 
-      module _ {N : Lent} {r : Pen}
+      module _ {N : Lent} {r : Cursor}
           (b₂ : Answers IsStmt known aims l (below part (8 * (at + 1 + n - at))) (nesting - 1) (at + 1 + n) sizes (lent (M .env) (M .ends) (M .stack) o) N top holds depth p₂ r) where
-        second : {W : Walk} {X : Place} {e : Expr} {s t : Stmt} → W .known ≡ known → W .aims ≡ aims → (h : Ready (stmt (choose e s t)) W X l part nesting at sizes L top holds depth pen)
+        second : {W : Walk} {X : Place} {e : Expr} {s t : Stmt} → W .known ≡ known → W .aims ≡ aims → (h : Ready (stmt (choose e s t)) W X l part nesting at sizes L top holds depth cursor)
             → Done (stmt s) W (movedTo X (behind-test W X e)) (at + 1 + n) (lent (M .env) (M .ends) (M .stack) o) N depth p₂ r
         second {W} {X} {e} {s} {t} x y h = b₂ .done (stmt s) W _ tt x y (inner x y h)
 
-        behind₂ : {W : Walk} {X : Place} {e : Expr} {s t : Stmt} → W .known ≡ known → W .aims ≡ aims → Ready (stmt (choose e s t)) W X l part nesting at sizes L top holds depth pen
+        behind₂ : {W : Walk} {X : Place} {e : Expr} {s t : Stmt} → W .known ≡ known → W .aims ≡ aims → Ready (stmt (choose e s t)) W X l part nesting at sizes L top holds depth cursor
             → at + 1 + n + m ≡ at + 1 + n + length (flatS s)
         behind₂ x y h = ap (λ (k : ℕ). at + 1 + n + k) (ready-size (inner x y h) m z₂)
 
@@ -81,7 +81,7 @@ module _ {known aims l part : List ℕ} {nesting at : ℕ} {sizes : List ℕ} {L
             let x = a .same-known in let y = a .same-aims in
             choose-jump-2 _ _ _ ready (b₁ .kept) (first x y ready) (at + 1 + n) (b + 1) (behind ready) (next y) i (b₂ .kept) (second x y ready)
 
-        module _ {c : ℕ} {p₃ : Pen} {o₂ : List ℕ} (aim₂ : c ≡ getD aims (at + 1 + n + m) 0) (i₂ : (p₃ ≡ moved r) × (o₂ ≡ inkOp r (N .out) 8 0 c)) where
+        module _ {c : ℕ} {p₃ : Cursor} {o₂ : List ℕ} (aim₂ : c ≡ getD aims (at + 1 + n + m) 0) (i₂ : (p₃ ≡ moved r) × (o₂ ≡ emitOp r (N .out) 8 0 c)) where
           pub asks-choose-shape : Shaping (N .stack) o₂ holds depth p₃
           asks-choose-shape =
               let x = a .same-known in let y = a .same-aims in let q = asked a in (
@@ -92,8 +92,8 @@ module _ {known aims l part : List ℕ} {nesting at : ℕ} {sizes : List ℕ} {L
                     (b₂ .kept) (second x y ready) (at + 1 + n + m) c (behind₂ x y ready) (aim-as (at + 1 + n + m) y aim₂) i₂,
               )
 
-          module _ {p₄ : Pen} {o₃ : List ℕ} (j : (p₄ ≡ penShaped depth p₃) × (o₃ ≡ inkShape p₃ o₂ holds depth (take depth (N .stack)))) where
-            outer : {W : Walk} {X : Place} {e : Expr} {s t : Stmt} → W .known ≡ known → W .aims ≡ aims → (h : Ready (stmt (choose e s t)) W X l part nesting at sizes L top holds depth pen)
+          module _ {p₄ : Cursor} {o₃ : List ℕ} (j : (p₄ ≡ cursorShaped depth p₃) × (o₃ ≡ emitShape p₃ o₂ holds depth (take depth (N .stack)))) where
+            outer : {W : Walk} {X : Place} {e : Expr} {s t : Stmt} → W .known ≡ known → W .aims ≡ aims → (h : Ready (stmt (choose e s t)) W X l part nesting at sizes L top holds depth cursor)
                 → Ready (stmt t) W (movedTo X (behind-then W X e s)) l (below part (8 * (at + 1 + n + m - at))) (nesting - 1) (at + 1 + n + m) sizes
                 (lent (N .env) (N .ends) (N .stack) o₃) top holds depth p₄
             outer {e = e} {s = s} {t = t} x y h =
@@ -104,9 +104,9 @@ module _ {known aims l part : List ℕ} {nesting at : ℕ} {sizes : List ℕ} {L
             asks-choose-third =
                 record { node = stmt (v .t); walk = a .walk; place = _; such = tt; same-known = a .same-known; same-aims = a .same-aims; ready = outer (a .same-known) (a .same-aims) ready }
 
-            module _ {K : Lent} {u : Pen}
+            module _ {K : Lent} {u : Cursor}
                 (b₃ : Answers IsStmt known aims l (below part (8 * (at + 1 + n + m - at))) (nesting - 1) (at + 1 + n + m) sizes (lent (N .env) (N .ends) (N .stack) o₃) K top holds depth p₄ u) where
-              third : {W : Walk} {X : Place} {e : Expr} {s t : Stmt} → W .known ≡ known → W .aims ≡ aims → (h : Ready (stmt (choose e s t)) W X l part nesting at sizes L top holds depth pen)
+              third : {W : Walk} {X : Place} {e : Expr} {s t : Stmt} → W .known ≡ known → W .aims ≡ aims → (h : Ready (stmt (choose e s t)) W X l part nesting at sizes L top holds depth cursor)
                   → Done (stmt t) W (movedTo X (behind-then W X e s)) (at + 1 + n + m) (lent (N .env) (N .ends) (N .stack) o₃) K depth p₄ u
               third {W} {X} {e} {s} {t} x y h = b₃ .done (stmt t) W _ tt x y (outer x y h)
 
@@ -121,7 +121,7 @@ module _ {known aims l part : List ℕ} {nesting at : ℕ} {sizes : List ℕ} {L
                         (b₃ .kept) (third x y ready),
                   )
 
-              module _ {p₅ : Pen} {o₄ : List ℕ} (j₂ : (p₅ ≡ penShaped depth u) × (o₄ ≡ inkShape u (K .out) holds depth (take depth (K .stack)))) where
+              module _ {p₅ : Cursor} {o₄ : List ℕ} (j₂ : (p₅ ≡ cursorShaped depth u) × (o₄ ≡ emitShape u (K .out) holds depth (take depth (K .stack)))) where
                 pub asks-choose-finish : (at < length (K .ends)) × (p₅ .address < 65536)
                 asks-choose-finish =
                     let x = a .same-known in let y = a .same-aims in (
@@ -131,15 +131,15 @@ module _ {known aims l part : List ℕ} {nesting at : ℕ} {sizes : List ℕ} {L
                           (b₃ .kept) (third x y ready) j₂,
                     )
 
-                module _ {w : Pen} {ends : List ℕ} (f : (w ≡ p₅) × (ends ≡ set (K .ends) at (p₅ .address))) where
-                  all : {W : Walk} {X : Place} {e : Expr} {s t : Stmt} → W .known ≡ known → W .aims ≡ aims → Ready (stmt (choose e s t)) W X l part nesting at sizes L top holds depth pen
-                      → Done (stmt (choose e s t)) W X at L (lent (K .env) ends (K .stack) o₄) depth pen w
+                module _ {w : Cursor} {ends : List ℕ} (f : (w ≡ p₅) × (ends ≡ set (K .ends) at (p₅ .address))) where
+                  all : {W : Walk} {X : Place} {e : Expr} {s t : Stmt} → W .known ≡ known → W .aims ≡ aims → Ready (stmt (choose e s t)) W X l part nesting at sizes L top holds depth cursor
+                      → Done (stmt (choose e s t)) W X at L (lent (K .env) ends (K .stack) o₄) depth cursor w
                   all {W} {X} {e} {s} {t} x y h =
                       rw (f .0) (choose-done e s t h (b₁ .kept) (first x y h) (at + 1 + n) (b + 1) (behind h) (next y) i
                       (b₂ .kept) (second x y h) (at + 1 + n + m) c (behind₂ x y h) (aim-as (at + 1 + n + m) y aim₂) i₂ j
                       (b₃ .kept) (third x y h) j₂ (f .1))
 
-                  pub answers-choose : Answers (IsKind 23) known aims l part nesting at sizes L (lent (K .env) ends (K .stack) o₄) top holds depth pen w
+                  pub answers-choose : Answers (IsKind 23) known aims l part nesting at sizes L (lent (K .env) ends (K .stack) o₄) top holds depth cursor w
                   answers-choose =
                       record {
                         kept = kept-done top depth (all (a .same-known) (a .same-aims) ready) (b₃ .kept .env ∙ (b₂ .kept .env ∙ b₁ .kept .env))

@@ -15,9 +15,9 @@ use Rattle.compile_code.specs.Code.{Code, nil, op, mark, _▸_, At, skip, after
 use Rattle.compile_code.specs.Compile.{found, codeS, codeE, tyE}
 use Rattle.compile_code.specs.Encode.{rec, recordOf}
 use Rattle.compile_names.specs.Good.{goodS, goodE}
-use Rattle.compile_output.specs.declared.Pen.{Pen}
-use Rattle.compile_output.specs.Ink.{Fits, moved, penShaped, inkOp, inkShape}
-use Rattle.compile_output.specs.Folds.{penAfter, inked}
+use Rattle.compile_output.specs.declared.Cursor.{Cursor}
+use Rattle.compile_output.specs.EmitRecord.{Fits, moved, cursorShaped, emitOp, emitShape}
+use Rattle.compile_output.specs.EmitCode.{cursorAfter, emitted}
 use Rattle.compile_nodes.specs.Knows.{Walk}
 use Rattle.compile_nodes.specs.Ends.{belowS, belowE, endsS, endsE}
 use Rattle.compile_nodes.specs.Ready.{stmt, expr, flatN, Place, Lent, Laid, Kept, Ready, Done}
@@ -27,7 +27,7 @@ use Rattle.compile_steps.specs.Cells.{cell-E, cell-S, length-endsE, leng
 
 -- ── an if with else ──
 module _ (e : Expr) (s t : Stmt) {W : Walk} {X : Place} {l part : List ℕ} {nesting at : ℕ} {sizes : List ℕ} {L : Lent} {top holds depth : ℕ}
-    {pen : Pen} (r : Ready (stmt (choose e s t)) W X l part nesting at sizes L top holds depth pen) where
+    {cursor : Cursor} (r : Ready (stmt (choose e s t)) W X l part nesting at sizes L top holds depth cursor) where
   abbrev choose-x : Code
   choose-x = codeE (W .globals) e (X .around) (X .types) (X .start)
 
@@ -82,27 +82,27 @@ module _ (e : Expr) (s t : Stmt) {W : Walk} {X : Place} {l part : List ℕ} {nes
   unfolding flatS
   choose-length = ap suc (length-append (flatE e) (flatS s ++ flatS t) ∙ ap (λ (n : ℕ). length (flatE e) + n) (length-append (flatS s) (flatS t)))
 
-  choose-start : Stage W l L top holds depth pen at L X depth pen nil (choose-x ▸ (op choose-go ▸ (choose-y ▸ (op choose-past ▸ (choose-shape ▸ (choose-z ▸ (choose-shape ▸ nil))))))) []
-  unfolding codeS penAfter
+  choose-start : Stage W l L top holds depth cursor at L X depth cursor nil (choose-x ▸ (op choose-go ▸ (choose-y ▸ (op choose-past ▸ (choose-shape ▸ (choose-z ▸ (choose-shape ▸ nil))))))) []
+  unfolding codeS cursorAfter
   choose-start = stage-start at _ (r .stood) (r .fits)
 
-  pub choose-test : Ready (expr e) W X l (below part 8) (nesting - 1) (at + 1) sizes L top holds depth pen
+  pub choose-test : Ready (expr e) W X l (below part 8) (nesting - 1) (at + 1) sizes L top holds depth cursor
   unfolding measureS goodS
   choose-test =
       ready-part r (expr e) 1 (at + 1) X refl (omega (arith, choose-length)) (omega arith) refl
-      (laid-left _ _ _ _ choose-laid) (kept-self L) (r .stood) (fits-first _ _ pen (length (L .out)) (choose-start .fits)) (omega (arith, r .deep))
+      (laid-left _ _ _ _ choose-laid) (kept-self L) (r .stood) (fits-first _ _ cursor (length (L .out)) (choose-start .fits)) (omega (arith, r .deep))
       (r .good .0) tt (omega (arith, r .few-holds)) (omega (arith, r .few-values))
 
-  module _ {M : Lent} {p : Pen} (k : Kept L M top depth) (d : Done (expr e) W X (at + 1) L M depth pen p) where
-    choose-1 : Stage W l L top holds depth pen at M (movedTo X (after choose-x (X .start))) depth p (nil ▸ choose-x)
+  module _ {M : Lent} {p : Cursor} (k : Kept L M top depth) (d : Done (expr e) W X (at + 1) L M depth cursor p) where
+    choose-1 : Stage W l L top holds depth cursor at M (movedTo X (after choose-x (X .start))) depth p (nil ▸ choose-x)
         (op choose-go ▸ (choose-y ▸ (op choose-past ▸ (choose-shape ▸ (choose-z ▸ (choose-shape ▸ nil)))))) ([] ++ choose-es)
     choose-1 = stage-part choose-x _ choose-es choose-start (at + 1) k (d .wrote) (d .ended) (omega arith)
 
     pub choose-jump : Fits (moved p) (length (M .out))
     choose-jump = stage-fits-op choose-go _ choose-1
 
-    module _ (place b : ℕ) (c : place ≡ at + 1 + length (flatE e)) (target : b ≡ getD (W .aims) place 0 + 1) {out : List ℕ} {q : Pen} (j : (q ≡ moved p) × (out ≡ inkOp p (M .out) 9 0 b)) where
-      choose-2 : Stage W l L top holds depth pen at (lent (M .env) (M .ends) (M .stack) out) (movedTo X choose-q) depth q
+    module _ (place b : ℕ) (c : place ≡ at + 1 + length (flatE e)) (target : b ≡ getD (W .aims) place 0 + 1) {out : List ℕ} {q : Cursor} (j : (q ≡ moved p) × (out ≡ emitOp p (M .out) 9 0 b)) where
+      choose-2 : Stage W l L top holds depth cursor at (lent (M .env) (M .ends) (M .stack) out) (movedTo X choose-q) depth q
           ((nil ▸ choose-x) ▸ op choose-go) (choose-y ▸ (op choose-past ▸ (choose-shape ▸ (choose-z ▸ (choose-shape ▸ nil))))) ([] ++ choose-es)
       unfolding recordOf
       choose-2 = stage-op choose-go _ choose-1 9 0 b j (λ dry. ap (λ (t : ℕ). rec 9 0 t) (let z = laid-aim _ _ _ (choose-second place c) dry in omega (arith, target, z)))
@@ -114,26 +114,26 @@ module _ (e : Expr) (s t : Stmt) {W : Walk} {X : Place} {l part : List ℕ} {nes
           (choose-second place c) (choose-2 .kept) (choose-2 .stood) (fits-first _ _ q (length out) (choose-2 .fits)) (omega (arith, r .deep)) (r .good .2) (rw (choose-2 .kept .env) (r .lands))
           (omega (arith, r .few-holds)) (omega (arith, r .few-values))
 
-      module _ {N : Lent} {u : Pen} (k2 : Kept (lent (M .env) (M .ends) (M .stack) out) N top depth)
+      module _ {N : Lent} {u : Cursor} (k2 : Kept (lent (M .env) (M .ends) (M .stack) out) N top depth)
           (d2 : Done (stmt s) W (movedTo X choose-q) place (lent (M .env) (M .ends) (M .stack) out) N depth q u) where
-        choose-3 : Stage W l L top holds depth pen at N (movedTo X (after choose-y choose-q)) depth u (((nil ▸ choose-x) ▸ op choose-go) ▸ choose-y)
+        choose-3 : Stage W l L top holds depth cursor at N (movedTo X (after choose-y choose-q)) depth u (((nil ▸ choose-x) ▸ op choose-go) ▸ choose-y)
             (op choose-past ▸ (choose-shape ▸ (choose-z ▸ (choose-shape ▸ nil)))) (([] ++ choose-es) ++ choose-fs)
         choose-3 = stage-part choose-y _ choose-fs choose-2 place k2 (d2 .wrote) (d2 .ended) (c ∙ omega (arith, length-endsE (W .globals) e (X .around) (X .types) (X .start)))
 
         pub choose-jump-2 : Fits (moved u) (length (N .out))
         choose-jump-2 = stage-fits-op choose-past _ choose-3
 
-        module _ (third b2 : ℕ) (f : third ≡ place + length (flatS s)) (target2 : b2 ≡ getD (W .aims) third 0) {out2 : List ℕ} {v : Pen} (j2 : (v ≡ moved u) × (out2 ≡ inkOp u (N .out) 8 0 b2)) where
-          choose-4 : Stage W l L top holds depth pen at (lent (N .env) (N .ends) (N .stack) out2) (movedTo X choose-r) depth v
+        module _ (third b2 : ℕ) (f : third ≡ place + length (flatS s)) (target2 : b2 ≡ getD (W .aims) third 0) {out2 : List ℕ} {v : Cursor} (j2 : (v ≡ moved u) × (out2 ≡ emitOp u (N .out) 8 0 b2)) where
+          choose-4 : Stage W l L top holds depth cursor at (lent (N .env) (N .ends) (N .stack) out2) (movedTo X choose-r) depth v
               ((((nil ▸ choose-x) ▸ op choose-go) ▸ choose-y) ▸ op choose-past) (choose-shape ▸ (choose-z ▸ (choose-shape ▸ nil))) (([] ++ choose-es) ++ choose-fs)
           unfolding recordOf
           choose-4 = stage-op choose-past _ choose-3 8 0 b2 j2 (λ dry. ap (λ (t : ℕ). rec 8 0 t) (sym (target2 ∙ laid-aim _ _ _ (choose-third place third c f) dry)))
 
-          pub choose-mark : Fits (penShaped depth v) (length out2)
+          pub choose-mark : Fits (cursorShaped depth v) (length out2)
           choose-mark = stage-fits-mark _ choose-4
 
-          module _ {out3 : List ℕ} {w : Pen} (i : (w ≡ penShaped depth v) × (out3 ≡ inkShape v out2 holds depth (take depth (N .stack)))) where
-            choose-5 : Stage W l L top holds depth pen at (lent (N .env) (N .ends) (N .stack) out3) (movedTo X choose-r) depth w
+          module _ {out3 : List ℕ} {w : Cursor} (i : (w ≡ cursorShaped depth v) × (out3 ≡ emitShape v out2 holds depth (take depth (N .stack)))) where
+            choose-5 : Stage W l L top holds depth cursor at (lent (N .env) (N .ends) (N .stack) out3) (movedTo X choose-r) depth w
                 (((((nil ▸ choose-x) ▸ op choose-go) ▸ choose-y) ▸ op choose-past) ▸ choose-shape) (choose-z ▸ (choose-shape ▸ nil)) (([] ++ choose-es) ++ choose-fs)
             choose-5 = stage-mark _ choose-4 i
 
@@ -145,37 +145,37 @@ module _ (e : Expr) (s t : Stmt) {W : Walk} {X : Place} {l part : List ℕ} {nes
                 (omega (arith, r .deep)) (r .good .3) (rw (choose-5 .kept .env) (r .lands))
                 (omega (arith, r .few-holds)) (omega (arith, r .few-values))
 
-            module _ {O : Lent} {y : Pen} (k3 : Kept (lent (N .env) (N .ends) (N .stack) out3) O top depth)
+            module _ {O : Lent} {y : Cursor} (k3 : Kept (lent (N .env) (N .ends) (N .stack) out3) O top depth)
                 (d3 : Done (stmt t) W (movedTo X choose-r) third (lent (N .env) (N .ends) (N .stack) out3) O depth w y) where
-              choose-6 : Stage W l L top holds depth pen at O (movedTo X (after choose-z choose-r)) depth y
+              choose-6 : Stage W l L top holds depth cursor at O (movedTo X (after choose-z choose-r)) depth y
                   ((((((nil ▸ choose-x) ▸ op choose-go) ▸ choose-y) ▸ op choose-past) ▸ choose-shape) ▸ choose-z) (choose-shape ▸ nil)
                   ((([] ++ choose-es) ++ choose-fs) ++ choose-gs)
               choose-6 = stage-part choose-z _ choose-gs choose-5 third k3 (d3 .wrote) (d3 .ended)
                   (f ∙ omega (arith, c, length-append choose-es choose-fs, length-endsE (W .globals) e (X .around) (X .types) (X .start), length-endsS (W .globals) s (X .around) (X .types) choose-q))
 
-              pub choose-mark-2 : Fits (penShaped depth y) (length (O .out))
+              pub choose-mark-2 : Fits (cursorShaped depth y) (length (O .out))
               choose-mark-2 = stage-fits-mark nil choose-6
 
-              module _ {late : List ℕ} {z : Pen} (m : (z ≡ penShaped depth y) × (late ≡ inkShape y (O .out) holds depth (take depth (O .stack)))) where
-                choose-7 : Stage W l L top holds depth pen at (lent (O .env) (O .ends) (O .stack) late) (movedTo X (after choose-z choose-r)) depth z
+              module _ {late : List ℕ} {z : Cursor} (m : (z ≡ cursorShaped depth y) × (late ≡ emitShape y (O .out) holds depth (take depth (O .stack)))) where
+                choose-7 : Stage W l L top holds depth cursor at (lent (O .env) (O .ends) (O .stack) late) (movedTo X (after choose-z choose-r)) depth z
                     (((((((nil ▸ choose-x) ▸ op choose-go) ▸ choose-y) ▸ op choose-past) ▸ choose-shape) ▸ choose-z) ▸ choose-shape) nil
                     ((([] ++ choose-es) ++ choose-fs) ++ choose-gs)
                 choose-7 = stage-mark nil choose-6 m
 
                 pub choose-small : z .address < 65536
-                unfolding penAfter
+                unfolding cursorAfter
                 choose-small = choose-7 .fits .address-small
 
-                pub choose-done : {ends : List ℕ} → ends ≡ set (O .ends) at (z .address) → Done (stmt (choose e s t)) W X at L (lent (O .env) ends (O .stack) late) depth pen z
-                unfolding codeS penAfter inked belowS
+                pub choose-done : {ends : List ℕ} → ends ≡ set (O .ends) at (z .address) → Done (stmt (choose e s t)) W X at L (lent (O .env) ends (O .stack) late) depth cursor z
+                unfolding codeS cursorAfter emitted belowS
                 choose-done g =
                     stage-done (stmt (choose e s t)) X choose-7 (r .stood .address) refl refl
                     (ap (λ (us : List ℕ). after (codeS (W .globals) (choose e s t) (X .around) (X .types) (X .start)) (X .start) .address ∷ us)
                     (sym (append-assoc choose-es choose-fs choose-gs))) g (O .stack) tt
 
 -- ── an if-expression ──
-module _ (e f g : Expr) {W : Walk} {X : Place} {l part : List ℕ} {nesting at : ℕ} {sizes : List ℕ} {L : Lent} {top holds depth : ℕ} {pen : Pen}
-    (r : Ready (expr (conditional e f g)) W X l part nesting at sizes L top holds depth pen) where
+module _ (e f g : Expr) {W : Walk} {X : Place} {l part : List ℕ} {nesting at : ℕ} {sizes : List ℕ} {L : Lent} {top holds depth : ℕ} {cursor : Cursor}
+    (r : Ready (expr (conditional e f g)) W X l part nesting at sizes L top holds depth cursor) where
   abbrev cond-x : Code
   cond-x = codeE (W .globals) e (X .around) (X .types) (X .start)
 
@@ -230,28 +230,28 @@ module _ (e f g : Expr) {W : Walk} {X : Place} {l part : List ℕ} {nesting at :
   unfolding flatE
   cond-length = ap suc (length-append (flatE e) (flatE f ++ flatE g) ∙ ap (λ (n : ℕ). length (flatE e) + n) (length-append (flatE f) (flatE g)))
 
-  cond-start : Stage W l L top holds depth pen at L X depth pen nil (cond-x
+  cond-start : Stage W l L top holds depth cursor at L X depth cursor nil (cond-x
       ▸ (op cond-go ▸ (cond-y ▸ (op cond-past ▸ (cond-shape ▸ (cond-z ▸ (mark (found (X .around) (tyE (W .globals) (X .around) f ∷ X .types)) ▸ nil))))))) []
-  unfolding codeE penAfter
+  unfolding codeE cursorAfter
   cond-start = stage-start at _ (r .stood) (r .fits)
 
-  pub cond-test : Ready (expr e) W X l (below part 8) (nesting - 1) (at + 1) sizes L top holds depth pen
+  pub cond-test : Ready (expr e) W X l (below part 8) (nesting - 1) (at + 1) sizes L top holds depth cursor
   unfolding measureS goodE
   cond-test =
       ready-part r (expr e) 1 (at + 1) X refl (omega (arith, cond-length)) (omega arith) refl
-      (laid-left _ _ _ _ cond-laid) (kept-self L) (r .stood) (fits-first _ _ pen (length (L .out)) (cond-start .fits)) (omega (arith, r .deep))
+      (laid-left _ _ _ _ cond-laid) (kept-self L) (r .stood) (fits-first _ _ cursor (length (L .out)) (cond-start .fits)) (omega (arith, r .deep))
       (r .good .0) tt (omega (arith, r .few-holds)) (omega (arith, r .few-values))
 
-  module _ {M : Lent} {p : Pen} (k : Kept L M top depth) (d : Done (expr e) W X (at + 1) L M depth pen p) where
-    cond-1 : Stage W l L top holds depth pen at M (movedTo X (after cond-x (X .start))) depth p (nil ▸ cond-x)
+  module _ {M : Lent} {p : Cursor} (k : Kept L M top depth) (d : Done (expr e) W X (at + 1) L M depth cursor p) where
+    cond-1 : Stage W l L top holds depth cursor at M (movedTo X (after cond-x (X .start))) depth p (nil ▸ cond-x)
         (op cond-go ▸ (cond-y ▸ (op cond-past ▸ (cond-shape ▸ (cond-z ▸ (mark (found (X .around) (tyE (W .globals) (X .around) f ∷ X .types)) ▸ nil)))))) ([] ++ cond-es)
     cond-1 = stage-part cond-x _ cond-es cond-start (at + 1) k (d .wrote) (d .ended) (omega arith)
 
     pub cond-jump : Fits (moved p) (length (M .out))
     cond-jump = stage-fits-op cond-go _ cond-1
 
-    module _ (place b : ℕ) (c : place ≡ at + 1 + length (flatE e)) (target : b ≡ getD (W .aims) place 0 + 1) {out : List ℕ} {q : Pen} (j : (q ≡ moved p) × (out ≡ inkOp p (M .out) 9 0 b)) where
-      cond-2 : Stage W l L top holds depth pen at (lent (M .env) (M .ends) (M .stack) out) (movedTo X cond-q) depth q ((nil ▸ cond-x) ▸ op cond-go)
+    module _ (place b : ℕ) (c : place ≡ at + 1 + length (flatE e)) (target : b ≡ getD (W .aims) place 0 + 1) {out : List ℕ} {q : Cursor} (j : (q ≡ moved p) × (out ≡ emitOp p (M .out) 9 0 b)) where
+      cond-2 : Stage W l L top holds depth cursor at (lent (M .env) (M .ends) (M .stack) out) (movedTo X cond-q) depth q ((nil ▸ cond-x) ▸ op cond-go)
           (cond-y ▸ (op cond-past ▸ (cond-shape ▸ (cond-z ▸ (mark (found (X .around) (tyE (W .globals) (X .around) f ∷ X .types)) ▸ nil))))) ([] ++ cond-es)
       unfolding recordOf
       cond-2 = stage-op cond-go _ cond-1 9 0 b j (λ dry. ap (λ (t : ℕ). rec 9 0 t) (let z = laid-aim _ _ _ (cond-second place c) dry in omega (arith, target, z)))
@@ -263,27 +263,27 @@ module _ (e f g : Expr) {W : Walk} {X : Place} {l part : List ℕ} {nesting at :
           (cond-second place c) (cond-2 .kept) (cond-2 .stood) (fits-first _ _ q (length out) (cond-2 .fits)) (omega (arith, r .deep)) (r .good .2) tt
           (omega (arith, r .few-holds)) (omega (arith, r .few-values))
 
-      module _ {N : Lent} {u : Pen} (k2 : Kept (lent (M .env) (M .ends) (M .stack) out) N top depth)
+      module _ {N : Lent} {u : Cursor} (k2 : Kept (lent (M .env) (M .ends) (M .stack) out) N top depth)
           (d2 : Done (expr f) W (movedTo X cond-q) place (lent (M .env) (M .ends) (M .stack) out) N depth q u) where
-        cond-3 : Stage W l L top holds depth pen at N (movedTo X (after cond-y cond-q)) depth u (((nil ▸ cond-x) ▸ op cond-go) ▸ cond-y)
+        cond-3 : Stage W l L top holds depth cursor at N (movedTo X (after cond-y cond-q)) depth u (((nil ▸ cond-x) ▸ op cond-go) ▸ cond-y)
             (op cond-past ▸ (cond-shape ▸ (cond-z ▸ (mark (found (X .around) (tyE (W .globals) (X .around) f ∷ X .types)) ▸ nil)))) (([] ++ cond-es) ++ cond-fs)
         cond-3 = stage-part cond-y _ cond-fs cond-2 place k2 (d2 .wrote) (d2 .ended) (c ∙ omega (arith, length-endsE (W .globals) e (X .around) (X .types) (X .start)))
 
         pub cond-jump-2 : Fits (moved u) (length (N .out))
         cond-jump-2 = stage-fits-op cond-past _ cond-3
 
-        module _ (third b2 : ℕ) (h : third ≡ place + length (flatE f)) (target2 : b2 ≡ getD (W .aims) third 0) {out2 : List ℕ} {v : Pen} (j2 : (v ≡ moved u) × (out2 ≡ inkOp u (N .out) 8 0 b2)) where
-          cond-4 : Stage W l L top holds depth pen at (lent (N .env) (N .ends) (N .stack) out2) (movedTo X cond-r) depth v
+        module _ (third b2 : ℕ) (h : third ≡ place + length (flatE f)) (target2 : b2 ≡ getD (W .aims) third 0) {out2 : List ℕ} {v : Cursor} (j2 : (v ≡ moved u) × (out2 ≡ emitOp u (N .out) 8 0 b2)) where
+          cond-4 : Stage W l L top holds depth cursor at (lent (N .env) (N .ends) (N .stack) out2) (movedTo X cond-r) depth v
               ((((nil ▸ cond-x) ▸ op cond-go) ▸ cond-y) ▸ op cond-past)
               (cond-shape ▸ (cond-z ▸ (mark (found (X .around) (tyE (W .globals) (X .around) f ∷ X .types)) ▸ nil))) (([] ++ cond-es) ++ cond-fs)
           unfolding recordOf
           cond-4 = stage-op cond-past _ cond-3 8 0 b2 j2 (λ dry. ap (λ (t : ℕ). rec 8 0 t) (sym (target2 ∙ laid-aim _ _ _ (cond-third place third c h) dry)))
 
-          pub cond-mark : Fits (penShaped depth v) (length out2)
+          pub cond-mark : Fits (cursorShaped depth v) (length out2)
           cond-mark = stage-fits-mark _ cond-4
 
-          module _ {out3 : List ℕ} {w : Pen} (i : (w ≡ penShaped depth v) × (out3 ≡ inkShape v out2 holds depth (take depth (N .stack)))) where
-            cond-5 : Stage W l L top holds depth pen at (lent (N .env) (N .ends) (N .stack) out3) (movedTo X cond-r) depth w
+          module _ {out3 : List ℕ} {w : Cursor} (i : (w ≡ cursorShaped depth v) × (out3 ≡ emitShape v out2 holds depth (take depth (N .stack)))) where
+            cond-5 : Stage W l L top holds depth cursor at (lent (N .env) (N .ends) (N .stack) out3) (movedTo X cond-r) depth w
                 (((((nil ▸ cond-x) ▸ op cond-go) ▸ cond-y) ▸ op cond-past) ▸ cond-shape)
                 (cond-z ▸ (mark (found (X .around) (tyE (W .globals) (X .around) f ∷ X .types)) ▸ nil)) (([] ++ cond-es) ++ cond-fs)
             cond-5 = stage-mark _ cond-4 i
@@ -295,7 +295,7 @@ module _ (e f g : Expr) {W : Walk} {X : Place} {l part : List ℕ} {nesting at :
                 (cond-third place third c h) (cond-5 .kept) (cond-5 .stood) (fits-first _ _ w (length out3) (cond-5 .fits)) (omega (arith, r .deep)) (r .good .3) tt
                 (omega (arith, r .few-holds)) (omega (arith, r .few-values))
 
-            module _ {O : Lent} {y : Pen} (k3 : Kept (lent (N .env) (N .ends) (N .stack) out3) O top depth)
+            module _ {O : Lent} {y : Cursor} (k3 : Kept (lent (N .env) (N .ends) (N .stack) out3) O top depth)
                 (d3 : Done (expr g) W (movedTo X cond-r) third (lent (N .env) (N .ends) (N .stack) out3) O depth w y) (ty : ℕ)
                 (first : ty ≡ getD (N .stack) depth 0) where
               abbrev cond-stack : List ℕ
@@ -311,7 +311,7 @@ module _ (e f g : Expr) {W : Walk} {X : Place} {l part : List ℕ} {nesting at :
               unfolding measureS
               cond-leaves = getD-set-same (O .stack) depth ty 0 (omega (arith, r .few-values, k3 .same-stack, k2 .same-stack, k .same-stack, r .stood .stacked)) ∙ (first ∙ d2 .leaves)
 
-              cond-6 : Stage W l L top holds depth pen at (lent (O .env) (O .ends) cond-stack (O .out)) (heldOn cond-type X (after cond-z cond-r))
+              cond-6 : Stage W l L top holds depth cursor at (lent (O .env) (O .ends) cond-stack (O .out)) (heldOn cond-type X (after cond-z cond-r))
                   (depth + 1) y ((((((nil ▸ cond-x) ▸ op cond-go) ▸ cond-y) ▸ op cond-past) ▸ cond-shape) ▸ cond-z) (cond-last ▸ nil)
                   ((([] ++ cond-es) ++ cond-fs) ++ cond-gs)
               unfolding measureS
@@ -324,21 +324,21 @@ module _ (e f g : Expr) {W : Walk} {X : Place} {l part : List ℕ} {nesting at :
                     length-endsE (W .globals) f (X .around) (X .types) cond-q,
                   )) cond-type cond-leaves (omega (arith, r .few-values))
 
-              pub cond-mark-2 : Fits (penShaped (depth + 1) y) (length (O .out))
+              pub cond-mark-2 : Fits (cursorShaped (depth + 1) y) (length (O .out))
               cond-mark-2 = stage-fits-mark nil cond-6
 
-              module _ {late : List ℕ} {z : Pen} (m : (z ≡ penShaped (depth + 1) y) × (late ≡ inkShape y (O .out) holds (depth + 1) (take (depth + 1) cond-stack))) where
-                cond-7 : Stage W l L top holds depth pen at (lent (O .env) (O .ends) cond-stack late) (heldOn cond-type X (after cond-z cond-r))
+              module _ {late : List ℕ} {z : Cursor} (m : (z ≡ cursorShaped (depth + 1) y) × (late ≡ emitShape y (O .out) holds (depth + 1) (take (depth + 1) cond-stack))) where
+                cond-7 : Stage W l L top holds depth cursor at (lent (O .env) (O .ends) cond-stack late) (heldOn cond-type X (after cond-z cond-r))
                     (depth + 1) z (((((((nil ▸ cond-x) ▸ op cond-go) ▸ cond-y) ▸ op cond-past) ▸ cond-shape) ▸ cond-z) ▸ cond-last) nil
                     ((([] ++ cond-es) ++ cond-fs) ++ cond-gs)
                 cond-7 = stage-mark nil cond-6 m
 
                 pub cond-small : z .address < 65536
-                unfolding penAfter
+                unfolding cursorAfter
                 cond-small = cond-7 .fits .address-small
 
-                pub cond-done : {ends : List ℕ} → ends ≡ set (O .ends) at (z .address) → Done (expr (conditional e f g)) W X at L (lent (O .env) ends cond-stack late) depth pen z
-                unfolding codeE penAfter inked belowE typeE
+                pub cond-done : {ends : List ℕ} → ends ≡ set (O .ends) at (z .address) → Done (expr (conditional e f g)) W X at L (lent (O .env) ends cond-stack late) depth cursor z
+                unfolding codeE cursorAfter emitted belowE typeE
                 cond-done k =
                     stage-done (expr (conditional e f g)) X cond-7 (r .stood .address) refl refl
                     (ap (λ (us : List ℕ). after (codeE (W .globals) (conditional e f g) (X .around) (X .types) (X .start)) (X .start) .address ∷ us)

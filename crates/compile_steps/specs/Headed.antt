@@ -8,7 +8,7 @@ use lib.Seq.{sets, length-sets}
 use Rattle.language.specs.Program.{flatDecl, flatItems}
 use Rattle.language.specs.Tree.{Decl, declare, holding, Items, countItems}
 use Rattle.language_laws.specs.Claims.{entriesOf}
-use Rattle.table_scopes.specs.Environment.{Item, item, envOf, addAll, Grown}
+use Rattle.table_scopes.specs.Environment.{Item, item, envOf, addAll}
 use Rattle.table_scopes.specs.EnvironmentLaws.{fewer}
 use Rattle.table_entries.specs.Entries.{length-entries}
 use Rattle.table_entries.specs.Stands.{Stands, stands-within}
@@ -18,17 +18,17 @@ use Rattle.table_scopes.specs.Trees.{length-Items}
 use Rattle.table_scopes.specs.Defines.{headItems, labelItems, length-labels, bulk, labels-bulk, enters, Enters}
 use Rattle.table_scopes.specs.Defines as defines
 use Rattle.table_forms.specs.Part.{table-next}
-use Rattle.table_forms.specs.Block.{EnterAsks}
 use Rattle.compile_code.specs.Code.{Code, At}
 use Rattle.compile_code.specs.Compile.{Around, bound, scopesOf, heldIn}
-use Rattle.compile_output.specs.declared.Pen.{Pen}
-use Rattle.compile_output.specs.Ink.{Fits}
-use Rattle.compile_output.specs.Folds.{penAfter, lets, grows, fits-before}
+use Rattle.compile_output.specs.declared.Cursor.{Cursor}
+use Rattle.compile_output.specs.EmitRecord.{Fits}
+use Rattle.compile_output.specs.EmitCode.{cursorAfter, lets, grows, fits-before}
 use Rattle.compile_nodes.specs.Knows.{Walk, Knows}
 use Rattle.compile_nodes.specs.Ends.{aroundHead, atHead, endsHead}
 use Rattle.compile_nodes.specs.Ready.{Node, flatN, Place, Lent, Stood, Kept, Wrote, Ready}
-use Rattle.compile_emit.specs.Owns.{pensHead, inksHead, finishes, holdsHead}
-use Rattle.compile_scopes.specs.Marks.{openIn, marks}
+use Rattle.compile_emit.specs.EmitEntry.{cursorHead, holdsHead}
+use Rattle.compile_emit.specs.Opens.{OpenAsks, Pushed, Declared}
+use Rattle.compile_scopes.specs.Marks.{openIn}
 use Rattle.compile_scopes.specs.Blocks.{within, items-are}
 use Rattle.compile_scopes.specs.HeadOps.{headOps, head-address, head-held}
 use Rattle.compile_steps.specs.Parts.{below, lent, flat-N, head-N, wrote-later, wrote-length}
@@ -53,17 +53,13 @@ module _ {l : List ℕ} (legible : Legible l) (place : ℕ) (ds : List Decl) (is
   pushes = rw (items-are legible (place + 1) ds is h)
       (omega (arith, length-append (headItems 4 (place + 1) ds) (labelItems (place + 1 + length ds) is), names-head 4 (place + 1) ds, length-labels (place + 1 + length ds) is))
 
--- the stack of names once the marks of holds, the block's mark and its names are pushed
-pub record Pushed (k : ℕ) (l : List ℕ) (at heads count top opens : ℕ) (old mid new : List ℕ) (up : ℕ) : Type 0 where
-  pub marked : Grown top old mid (top + opens) (marks opens ++ envOf old top) opens
-  pub entered : Grown (top + opens) mid new up (addAll (blockItems l (at + 1) heads count) (item k 0 0 0 ∷ envOf mid (top + opens))) (1 + length (blockItems l (at + 1) heads count))
-
-module _ {k : ℕ} {l : List ℕ} {at top : ℕ} (ds : List Decl) (is : Items) {old mid new : List ℕ} {up : ℕ} (g : Pushed k l at (length ds) (countItems is) top (openIn ds) old mid new up) where
+module _ {k : ℕ} {l : List ℕ} {top : ℕ} (at : ℕ) (ds : List Decl) (is : Items) {old new : List ℕ} {up : ℕ}
+    (g : Pushed k l (at + 1) (length ds) (countItems is) top (openIn ds) old new up) where
   pushed-now : envOf new up ≡ within k l at ds is (envOf old top)
   pushed-now = g .entered .now ∙ ap (λ (v : List Item). addAll (blockItems l (at + 1) (length ds) (countItems is)) (item k 0 0 0 ∷ v)) (g .marked .now)
 
   pushed-kept : envOf new top ≡ envOf old top
-  pushed-kept = fewer new mid top (top + openIn ds) (omega arith) (g .entered .kept) ∙ g .marked .kept
+  pushed-kept = fewer new (g .mid) top (top + openIn ds) (omega arith) (g .entered .kept) ∙ g .marked .kept
 
   pushed-same : length new ≡ length old
   pushed-same = g .entered .same ∙ g .marked .same
@@ -76,75 +72,74 @@ module _ {k : ℕ} {l : List ℕ} {at top : ℕ} (ds : List Decl) (is : Items) {
 
 -- ── before the items ──
 -- the declarations and items of a node stand behind its entry; the declarations are read, and the code x and the releases behind them fit
-pub record Headed (n : Node) (ds : List Decl) (is : Items) (x : Code) (W : Walk) (X : Place) (l : List ℕ) (at : ℕ) (L : Lent) (top : ℕ) (pen : Pen) : Type 0 where
+pub record Headed (n : Node) (ds : List Decl) (is : Items) (x : Code) (W : Walk) (X : Place) (l : List ℕ) (at : ℕ) (L : Lent) (top : ℕ) (cursor : Cursor) : Type 0 where
   pub long : suc (length ds + length (flatItems is)) ≤ length (flatN n)
   pub room : 4 * (top + length (flatN n)) ≤ length (L .env)
   pub stands : Stands (entriesOf l) (at + 1) (map flatDecl ds ++ flatItems is)
-  pub read : HeadRead W l (at + 1) ds (X .start) pen (L .out)
-  pub left : Fits (penAfter (lets (openIn ds)) (penAfter x (penAfter (headOps (W .globals) ds (X .start .cell)) pen))) (length (L .out))
+  pub read : HeadRead W l (at + 1) ds (X .start) cursor (L .out)
+  pub left : Fits (cursorAfter (lets (openIn ds)) (cursorAfter x (cursorAfter (headOps (W .globals) ds (X .start .cell)) cursor))) (length (L .out))
 
-module _ {n : Node} {ds : List Decl} {is : Items} {x : Code} {W : Walk} {X : Place} {l part : List ℕ} {nesting at : ℕ} {sizes : List ℕ} {L : Lent} {top holds depth : ℕ} {pen : Pen}
-    (r : Ready n W X l part nesting at sizes L top holds depth pen) (h : Headed n ds is x W X l at L top pen) {heads count : ℕ} (hs : heads ≡ length ds) (cs : count ≡ countItems is) where
+module _ {n : Node} {ds : List Decl} {is : Items} {x : Code} {W : Walk} {X : Place} {l part : List ℕ} {nesting at : ℕ} {sizes : List ℕ} {L : Lent} {top holds depth : ℕ} {cursor : Cursor}
+    (r : Ready n W X l part nesting at sizes L top holds depth cursor) (h : Headed n ds is x W X l at L top cursor) {heads count : ℕ} (hs : heads ≡ length ds) (cs : count ≡ countItems is) where
   there : at + length (flatN n) ≤ length (entriesOf l)
   there = rw (flat-N n) (stands-within _ _ (rw (flat-N n) at (r .laid .stands)))
 
   part-here : below part 8 ≡ drop (8 * (at + 1)) l
   part-here = table-next (r .table) 8 1 refl .whole
 
-  pub headed-within : (8 * heads ≤ length (below part 8)) × (8 * (at + 1 + heads) ≤ length l) × (8 * (1 + heads) ≤ length part) × (at + 1 + heads ≤ 2048) × (at + 1 + heads ≤ length (L .ends))
+  pub headed-within : (8 * (1 + heads) ≤ length part) × (at + 1 + heads ≤ 2048)
   headed-within =
-      let d = head-N n (r .table) (r .laid .stands) in
-      let e = length-entries (length l / 8) l in
-      let y = length-drop (8 * (at + 1)) l in (
-        rw part-here (omega (arith, there, e, hs, y, h .long)),
-        omega (arith, there, e, hs, h .long),
-        omega (arith, there, e, hs, h .long, d .long),
+      let e = length-entries (length l / 8) l in (
+        omega (arith, there, e, hs, h .long, head-N n (r .table) (r .laid .stands) .long),
         omega (arith, there, e, hs, h .long, r .table .legible .short),
-        omega (arith, r .ending, hs, h .long),
       )
+
+  headed-holds : holdsHead (below part 8) heads ≡ openIn ds
+  headed-holds = rw (part-here, hs) (h .read .holds)
+
+  headed-declares : Fits (cursorHead (below part 8) heads cursor) (length (L .out))
+  headed-declares =
+      let p = cursorAfter (headOps (W .globals) ds (X .start .cell)) cursor in
+      rw (part-here, hs, h .read .wrote .advanced)
+      (fits-before (length (L .out)) (grows x p) (fits-before (length (L .out)) (grows (lets (openIn ds)) (cursorAfter x p)) (h .left)))
+
+  pub headed-asks : OpenAsks l (below part 8) (at + 1) heads count sizes (L .env) top (L .ends) (L .out) cursor
+  headed-asks =
+      let e = length-entries (length l / 8) l in
+      let w : 8 * (at + 1 + heads) ≤ length l = omega (arith, there, e, hs, h .long) in
+      let i : Enters l (at + 1) ds is = enters (r .table .legible) (at + 1) ds is (h .stands) (rw hs at w) in
+      record {
+        long = rw part-here (omega (arith, there, e, hs, length-drop (8 * (at + 1)) l, h .long));
+        known = r .table .known;
+        within = w;
+        reach = rw (hs, cs) (i .reach);
+        short = r .table .legible .short;
+        room = rw (headed-holds, hs, cs) (omega (arith, h .room, h .long, pushes (r .table .legible) at ds is (h .stands), labels-bulk is, length-Items is));
+        ending = omega (arith, r .ending, hs, h .long);
+        fits = headed-declares;
+      }
 
   module _ {opens : ℕ} (o : opens ≡ holdsHead (below part 8) heads) where
     pub headed-open : opens ≡ openIn ds
-    headed-open = o ∙ rw (part-here, hs) (h .read .holds)
+    headed-open = o ∙ headed-holds
 
-    pub headed-marks : 4 * (top + opens) ≤ length (L .env)
-    headed-marks = omega (arith, h .room, h .long, headed-open, pushes (r .table .legible) at ds is (h .stands), labels-bulk is, length-Items is)
-
-    pub headed-enter : {mid : List ℕ} → Grown top (L .env) mid (top + opens) (marks opens ++ envOf (L .env) top) opens → EnterAsks l sizes mid (at + 1) heads count (top + opens)
-    headed-enter g =
-        let w = headed-within .1 in
-        let e : Enters l (at + 1) ds is = enters (r .table .legible) (at + 1) ds is (h .stands) (rw hs at w) in
-        record {
-          known = r .table .known;
-          within = w;
-          reach = rw (hs, cs) (e .reach);
-          short = r .table .legible .short;
-          room = rw (hs, cs) (omega (arith, h .room, g .same, h .long, headed-open, pushes (r .table .legible) at ds is (h .stands), labels-bulk is, length-Items is));
-        }
-
-    pub headed-declares : Fits (pensHead (below part 8) heads pen) (length (L .out))
-    headed-declares =
-        let p = penAfter (headOps (W .globals) ds (X .start .cell)) pen in
-        rw (part-here, hs, h .read .wrote .penned) (fits-before (length (L .out)) (grows x p) (fits-before (length (L .out)) (grows (lets (openIn ds)) (penAfter x p)) (h .left)))
-
-    module _ {k : ℕ} {mid new : List ℕ} {up : ℕ} (g : Pushed k l at heads count top opens (L .env) mid new up) {ends out : List ℕ} {p : Pen}
-        (w : (p ≡ pensHead (below part 8) heads pen) × (out ≡ inksHead (below part 8) (W .known) (at + 1) heads pen (L .out)) ×
-        (ends ≡ sets (L .ends) (at + 1) (finishes (below part 8) heads pen))) where
-      pushed : Pushed k l at (length ds) (countItems is) top (openIn ds) (L .env) mid new up
+    module _ {k : ℕ} {new : List ℕ} {up : ℕ} (g : Pushed k l (at + 1) heads count top opens (L .env) new up) {ends out : List ℕ} {p : Cursor}
+        (w : Declared (below part 8) (W .known) (at + 1) heads (L .ends) (L .out) cursor p ends out) where
+      pushed : Pushed k l (at + 1) (length ds) (countItems is) top (openIn ds) (L .env) new up
       pushed = rw (hs, cs, headed-open) at g
 
       pub headed-now : envOf new up ≡ within k l at ds is (envOf (L .env) top)
-      headed-now = pushed-now ds is pushed
+      headed-now = pushed-now at ds is pushed
 
       pub headed-same : length new ≡ length (L .env)
-      headed-same = pushed-same ds is pushed
+      headed-same = pushed-same at ds is pushed
 
       -- room for what is pushed within the items is left, and for what stands behind them
       pub headed-most : up + bulk is ≤ top + suc (length ds + length (flatItems is))
-      headed-most = omega (arith, pushed-most ds is pushed, pushes (r .table .legible) at ds is (h .stands), labels-bulk is, length-Items is)
+      headed-most = omega (arith, pushed-most at ds is pushed, pushes (r .table .legible) at ds is (h .stands), labels-bulk is, length-Items is)
 
-      pub headed-wrote : Wrote (L .out) out pen p (headOps (W .globals) ds (X .start .cell))
-      headed-wrote = record { penned = w .0 ∙ rw (part-here, hs) (h .read .wrote .penned); written = w .1 ∙ rw (part-here, hs) (h .read .wrote .written) }
+      pub headed-wrote : Wrote (L .out) out cursor p (headOps (W .globals) ds (X .start .cell))
+      headed-wrote = record { advanced = w .0 ∙ rw (part-here, hs) (h .read .wrote .advanced); written = w .1 ∙ rw (part-here, hs) (h .read .wrote .written) }
 
       pub headed-ended : ends ≡ sets (L .ends) (at + 1) (endsHead ds (X .start))
       headed-ended = w .2 ∙ rw (part-here, hs, h .read .ends (r .stood .address))
@@ -152,8 +147,8 @@ module _ {n : Node} {ds : List Decl} {is : Items} {x : Code} {W : Walk} {X : Pla
       pub headed-ends : length ends ≡ length (L .ends)
       headed-ends = ap (length {A = ℕ}) headed-ended ∙ length-sets (L .ends) (at + 1) (endsHead ds (X .start))
 
-      pub headed-fits : Fits (penAfter (lets (openIn ds)) (penAfter x p)) (length out)
-      headed-fits = rw (headed-wrote .penned, wrote-length headed-wrote) (h .left)
+      pub headed-fits : Fits (cursorAfter (lets (openIn ds)) (cursorAfter x p)) (length out)
+      headed-fits = rw (headed-wrote .advanced, wrote-length headed-wrote) (h .left)
 
       pub headed-stood : (Γ : List Around) → Sees l (within k l at ds is (envOf (L .env) top)) (scopesOf Γ) → Knows W (within k l at ds is (envOf (L .env) top)) Γ
           → length (heldIn Γ) ≡ length (heldIn (X .around)) + openIn ds
@@ -166,7 +161,7 @@ module _ {n : Node} {ds : List Decl} {is : Items} {x : Code} {W : Walk} {X : Pla
             deep = r .stood .deep;
             typed = r .stood .typed;
             stacked = r .stood .stacked;
-            address = ap (λ (z : Pen). z .address) (headed-wrote .penned) ∙ head-address (W .globals) ds (X .start) pen (r .stood .address);
+            address = ap (λ (z : Cursor). z .address) (headed-wrote .advanced) ∙ head-address (W .globals) ds (X .start) cursor (r .stood .address);
             dryness = wrote-later headed-wrote .same-dry ∙ r .stood .dryness;
             inside = wrote-later headed-wrote .same-inside ∙ r .stood .inside;
           }
@@ -174,7 +169,7 @@ module _ {n : Node} {ds : List Decl} {is : Items} {x : Code} {W : Walk} {X : Pla
       pub headed-kept : {N : Lent} → Kept (lent new ends (L .stack) out) N up depth → Kept L N top depth
       headed-kept {N} k =
           record {
-            env = fewer (N .env) new top up (pushed-least ds is pushed) (k .env) ∙ pushed-kept ds is pushed;
+            env = fewer (N .env) new top up (pushed-least at ds is pushed) (k .env) ∙ pushed-kept at ds is pushed;
             same-env = k .same-env ∙ headed-same;
             same-ends = k .same-ends ∙ headed-ends;
             stack = k .stack;

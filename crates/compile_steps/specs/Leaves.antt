@@ -40,13 +40,13 @@ use Rattle.compile_names.specs.Good.{goodS, goodE}
 use Rattle.compile_names.specs.Known.{nothing}
 use Rattle.compile_symbols.specs.Numbers.{firstIn, secondIn}
 use Rattle.compile_symbols.specs.Meaning.{meaningOf, knownOf}
-use Rattle.compile_output.specs.declared.Pen.{Pen}
-use Rattle.compile_output.specs.Ink.{Fits, moved, penShaped, inkOp, inkShape}
-use Rattle.compile_output.specs.Folds.{penAfter, inked, lets, inked-op, grows}
+use Rattle.compile_output.specs.declared.Cursor.{Cursor}
+use Rattle.compile_output.specs.EmitRecord.{Fits, moved, cursorShaped, emitOp, emitShape}
+use Rattle.compile_output.specs.EmitCode.{cursorAfter, emitted, lets, emitted-op, grows}
 use Rattle.compile_nodes.specs.Knows.{Walk, MeansLabel, passedTo, targetOf}
 use Rattle.compile_nodes.specs.Ends.{belowS, belowE}
 use Rattle.compile_nodes.specs.Ready.{Node, stmt, expr, name, codeN, endsN, LeavesN, Place, Lent, Wrote, Ready, Done}
-use Rattle.compile_emit.specs.Owns.{names as namesBy, knownFor, ownerBy, inkLeaf, leafType, penGoto, inkGoto}
+use Rattle.compile_emit.specs.EmitEntry.{names as namesBy, knownFor, ownerBy, emitLeaf, leafType, cursorGoto, emitGoto}
 use Rattle.compile_steps.specs.Parts.{lent, head-N, wrote-length, kept-out, movedTo}
 use Rattle.compile_steps.specs.Stages.{Stage, stage-start, stage-fits-mark, stage-op, stage-mark, stage-part, stage-done}
 use Rattle.compile_steps.specs.Named.{meaning-of, variable-type, variable-load, class-type, class-first}
@@ -70,18 +70,18 @@ unfolding typeE
 variable-ty gs Γ a t w h = rw h
 
 -- ── one instruction ──
-module _ {W : Walk} {X : Place} {l part : List ℕ} {nesting at : ℕ} {sizes : List ℕ} {L : Lent} {top holds depth : ℕ} {pen : Pen} where
-  leaf-step : (n : Node) (i : Instr) → Ready n W X l part nesting at sizes L top holds depth pen → codeN (W .globals) n (X .around) (X .types) (X .start) ≡ op i
+module _ {W : Walk} {X : Place} {l part : List ℕ} {nesting at : ℕ} {sizes : List ℕ} {L : Lent} {top holds depth : ℕ} {cursor : Cursor} where
+  leaf-step : (n : Node) (i : Instr) → Ready n W X l part nesting at sizes L top holds depth cursor → codeN (W .globals) n (X .around) (X .types) (X .start) ≡ op i
       → endsN (W .globals) n (X .around) (X .types) (X .start) ≡ after (codeN (W .globals) n (X .around) (X .types) (X .start)) (X .start) .address ∷ []
-      → {out : List ℕ} {q : Pen} (k a b : ℕ) → (q ≡ moved pen) × (out ≡ inkOp pen (L .out) k a b) → (W .dry ≡ false → recordOf i ≡ rec k a b)
-      → {ends : List ℕ} → ends ≡ set (L .ends) at (q .address) → (stack : List ℕ) → LeavesN (W .globals) n (X .around) stack depth → Done n W X at L (lent (L .env) ends stack out) depth pen q
-  unfolding penAfter inked
+      → {out : List ℕ} {q : Cursor} (k a b : ℕ) → (q ≡ moved cursor) × (out ≡ emitOp cursor (L .out) k a b) → (W .dry ≡ false → recordOf i ≡ rec k a b)
+      → {ends : List ℕ} → ends ≡ set (L .ends) at (q .address) → (stack : List ℕ) → LeavesN (W .globals) n (X .around) stack depth → Done n W X at L (lent (L .env) ends stack out) depth cursor q
+  unfolding cursorAfter emitted
   leaf-step n i r c g k a b j same f stack leaves =
       let s = stage-op i nil (stage-start at (op i ▸ nil) (r .stood) (rw c at (r .fits))) k a b j same in
-      stage-done n X s (r .stood .address) (ap (λ (x : Code). penAfter x pen) (sym c)) (ap (λ (x : Code). inked x pen (L .out)) (sym c)) g f stack leaves
+      stage-done n X s (r .stood .address) (ap (λ (x : Code). cursorAfter x cursor) (sym c)) (ap (λ (x : Code). emitted x cursor (L .out)) (sym c)) g f stack leaves
 
-  pub leaf-fits : (n : Node) → IsLeaf n → Ready n W X l part nesting at sizes L top holds depth pen → Fits (moved pen) (length (L .out))
-  unfolding codeE penAfter
+  pub leaf-fits : (n : Node) → IsLeaf n → Ready n W X l part nesting at sizes L top holds depth cursor → Fits (moved cursor) (length (L .out))
+  unfolding codeE cursorAfter
   leaf-fits (expr (number z)) h r = r .fits
   leaf-fits (expr (truth b)) h r = r .fits
   leaf-fits (expr (pattern z)) h r = r .fits
@@ -98,13 +98,13 @@ module _ {W : Walk} {X : Place} {l part : List ℕ} {nesting at : ℕ} {sizes : 
   leaf-fits (expr (blockExpr ds is e)) h ready = absurd h
   leaf-fits (name a) h ready = absurd h
 
-  module _ {out : List ℕ} {q : Pen} (k v : ℕ) (known : k ≡ knownFor (halfAt part 0) (halfAt part 2) (envOf (L .env) top) (W .known)) (type : v ≡ leafType (halfAt part 0) k)
-      (j : (q ≡ moved pen) × (out ≡ inkLeaf (halfAt part 0) (wordAt part 4) k pen (L .out))) {ends : List ℕ} (f : ends ≡ set (L .ends) at (q .address)) where
-    put : (n : Node) → Ready n W X l part nesting at sizes L top holds depth pen → (w : ℕ) → w ≡ v → depth < 32 → getD (set (L .stack) depth v) depth 0 ≡ w
+  module _ {out : List ℕ} {q : Cursor} (k v : ℕ) (known : k ≡ knownFor (halfAt part 0) (halfAt part 2) (envOf (L .env) top) (W .known)) (type : v ≡ leafType (halfAt part 0) k)
+      (j : (q ≡ moved cursor) × (out ≡ emitLeaf (halfAt part 0) (wordAt part 4) k cursor (L .out))) {ends : List ℕ} (f : ends ≡ set (L .ends) at (q .address)) where
+    put : (n : Node) → Ready n W X l part nesting at sizes L top holds depth cursor → (w : ℕ) → w ≡ v → depth < 32 → getD (set (L .stack) depth v) depth 0 ≡ w
     put n r w e small = getD-set-same (L .stack) depth v 0 (omega (arith, r .stood .stacked)) ∙ sym e
 
-    pub leaf-done : (n : Node) → IsLeaf n → Ready n W X l part nesting at sizes L top holds depth pen → Done n W X at L (lent (L .env) ends (set (L .stack) depth v) out) depth pen q
-    unfolding codeE belowE typeE recordOf inkLeaf leafType namesBy flatE measureS goodE
+    pub leaf-done : (n : Node) → IsLeaf n → Ready n W X l part nesting at sizes L top holds depth cursor → Done n W X at L (lent (L .env) ends (set (L .stack) depth v) out) depth cursor q
+    unfolding codeE belowE typeE recordOf emitLeaf leafType namesBy flatE measureS goodE
     leaf-done (expr (number z)) h r =
         let d = head-N (expr (number z)) (r .table) (r .laid .stands) in
         leaf-step (expr (number z)) (push (int z)) r refl refl 1 0 (wordAt part 4) (rw (d .kind) at j) (λ dry. ap (λ (n : ℕ). rec 1 0 n) (sym (word-here _ _ (r .table) (r .laid .stands)))) f _
@@ -129,8 +129,8 @@ module _ {W : Walk} {X : Place} {l part : List ℕ} {nesting at : ℕ} {sizes : 
         let d = head-N (expr (variable a)) (r .table) (r .laid .stands) in
         let e : k ≡ meaningOf a (envOf (L .env) top) (W .known) = rw (d .kind, d .a) at known in
         let m = meaning-of (r .stood .sees) (r .stood .knows) a (rw (d .a) at (half-small (r .table))) _ _ (r .good .1 .1) in
-        leaf-step (expr (variable a)) (loading (cellOf a (X .around))) r refl refl 5 (ownerBy (pen .inside) k) (secondIn k) (rw (d .kind) at j)
-        (λ dry. variable-load m k e (pen .inside) (r .stood .inside)) f _
+        leaf-step (expr (variable a)) (loading (cellOf a (X .around))) r refl refl 5 (ownerBy (cursor .inside) k) (secondIn k) (rw (d .kind) at j)
+        (λ dry. variable-load m k e (cursor .inside) (r .stood .inside)) f _
         (put (expr (variable a)) r (tyByte (tyE (W .globals) (X .around) (variable a)))
         (variable-ty (W .globals) (X .around) a (r .good .0) (r .good .1 .0) (r .good .1 .1)
         ∙ (sym (variable-type m k e) ∙ sym (rw (d .kind) at type))) (omega (arith, r .few-values)))
@@ -146,22 +146,22 @@ module _ {W : Walk} {X : Place} {l part : List ℕ} {nesting at : ℕ} {sizes : 
     leaf-done (name a) h ready = absurd h
 
 -- ── a label ──
-module _ (a : ℕ) {W : Walk} {X : Place} {l part : List ℕ} {nesting at : ℕ} {sizes : List ℕ} {L : Lent} {top holds depth : ℕ} {pen : Pen}
-    (r : Ready (name a) W X l part nesting at sizes L top holds depth pen) where
-  label-start : Stage W l L top holds depth pen at L X depth pen nil (mark (compile.found (X .around) (X .types)) ▸ nil) []
-  unfolding penAfter
+module _ (a : ℕ) {W : Walk} {X : Place} {l part : List ℕ} {nesting at : ℕ} {sizes : List ℕ} {L : Lent} {top holds depth : ℕ} {cursor : Cursor}
+    (r : Ready (name a) W X l part nesting at sizes L top holds depth cursor) where
+  label-start : Stage W l L top holds depth cursor at L X depth cursor nil (mark (compile.found (X .around) (X .types)) ▸ nil) []
+  unfolding cursorAfter
   label-start = stage-start at _ (r .stood) (r .fits)
 
-  pub label-fits : Fits (penShaped depth pen) (length (L .out))
+  pub label-fits : Fits (cursorShaped depth cursor) (length (L .out))
   label-fits = stage-fits-mark nil label-start
 
-  module _ {out : List ℕ} {q : Pen} (j : (q ≡ penShaped depth pen) × (out ≡ inkShape pen (L .out) holds depth (take depth (L .stack)))) where
+  module _ {out : List ℕ} {q : Cursor} (j : (q ≡ cursorShaped depth cursor) × (out ≡ emitShape cursor (L .out) holds depth (take depth (L .stack)))) where
     pub label-small : q .address < 65536
-    unfolding penAfter
+    unfolding cursorAfter
     label-small = stage-mark nil label-start j .fits .address-small
 
-    pub label-done : {ends : List ℕ} → ends ≡ set (L .ends) at (q .address) → Done (name a) W X at L (lent (L .env) ends (L .stack) out) depth pen q
-    unfolding penAfter inked after
+    pub label-done : {ends : List ℕ} → ends ≡ set (L .ends) at (q .address) → Done (name a) W X at L (lent (L .env) ends (L .stack) out) depth cursor q
+    unfolding cursorAfter emitted after
     label-done f = stage-done (name a) X (stage-mark nil label-start j) (r .stood .address) refl refl refl f (L .stack) tt
 
 -- ── a goto: its releases, and the jump ──
@@ -175,40 +175,40 @@ size-one (theLabels is ∷ Θ) a = by (hasLabel a is) (size-one Θ a)
     by true h = omega arith
     by false h = h
 
-goto-pen : (Γ : List Around) (a n : ℕ) (p : Pen) → suc n ≡ sizeGoto (passing Γ) a → penAfter (codeGoto Γ a) p ≡ moved (penAfter (lets n) p)
-unfolding penAfter codeGoto sizeGoto passing lets
-goto-pen [] a zero p h = refl
-goto-pen [] a (suc n) p h = absurd (omega arith)
-goto-pen (inside s ∷ Γ) a n p h = goto-pen Γ a n p h
-goto-pen (outermost s ∷ Γ) a n p h = goto-pen Γ a n p h
-goto-pen (bound b c ∷ Γ) a n p h = goto-pen Γ a n p h
-goto-pen (global o b c ∷ Γ) a n p h = goto-pen Γ a n p h
-goto-pen (held g ∷ Γ) a zero p h = absurd (omega (arith, size-one (passing Γ) a))
-goto-pen (held g ∷ Γ) a (suc n) p h = goto-pen Γ a n (moved p) (omega arith)
-goto-pen (labels is x ∷ Γ) a n p h = by (hasLabel a is) n h (λ m k. goto-pen Γ a m p k)
+goto-cursor : (Γ : List Around) (a n : ℕ) (p : Cursor) → suc n ≡ sizeGoto (passing Γ) a → cursorAfter (codeGoto Γ a) p ≡ moved (cursorAfter (lets n) p)
+unfolding cursorAfter codeGoto sizeGoto passing lets
+goto-cursor [] a zero p h = refl
+goto-cursor [] a (suc n) p h = absurd (omega arith)
+goto-cursor (inside s ∷ Γ) a n p h = goto-cursor Γ a n p h
+goto-cursor (outermost s ∷ Γ) a n p h = goto-cursor Γ a n p h
+goto-cursor (bound b c ∷ Γ) a n p h = goto-cursor Γ a n p h
+goto-cursor (global o b c ∷ Γ) a n p h = goto-cursor Γ a n p h
+goto-cursor (held g ∷ Γ) a zero p h = absurd (omega (arith, size-one (passing Γ) a))
+goto-cursor (held g ∷ Γ) a (suc n) p h = goto-cursor Γ a n (moved p) (omega arith)
+goto-cursor (labels is x ∷ Γ) a n p h = by (hasLabel a is) n h (λ m k. goto-cursor Γ a m p k)
   where
-    by : (b : Bool) (n : ℕ) → suc n ≡ (if b then 1 else sizeGoto (passing Γ) a) → ((m : ℕ) → suc m ≡ sizeGoto (passing Γ) a → penAfter (codeGoto Γ a) p ≡ moved (penAfter (lets m) p))
-        → penAfter (if b then op (go (labelAt is (scopesOf Γ) (theLabels is ∷ passing Γ) x a)) else codeGoto Γ a) p ≡ moved (penAfter (lets n) p)
+    by : (b : Bool) (n : ℕ) → suc n ≡ (if b then 1 else sizeGoto (passing Γ) a) → ((m : ℕ) → suc m ≡ sizeGoto (passing Γ) a → cursorAfter (codeGoto Γ a) p ≡ moved (cursorAfter (lets m) p))
+        → cursorAfter (if b then op (go (labelAt is (scopesOf Γ) (theLabels is ∷ passing Γ) x a)) else codeGoto Γ a) p ≡ moved (cursorAfter (lets n) p)
     by true zero h f = refl
     by true (suc n) h f = absurd (omega arith)
     by false n h f = f n h
 
-goto-inked : (Γ : List Around) (a n : ℕ) (p : Pen) (l : List ℕ) → suc n ≡ sizeGoto (passing Γ) a → inked (codeGoto Γ a) p l ≡ inked (op (go (targetOf Γ a))) (penAfter (lets n) p) (inked (lets n) p l)
-unfolding penAfter inked codeGoto sizeGoto passing lets targetOf
-goto-inked [] a zero p l h = refl
-goto-inked [] a (suc n) p l h = absurd (omega arith)
-goto-inked (inside s ∷ Γ) a n p l h = goto-inked Γ a n p l h
-goto-inked (outermost s ∷ Γ) a n p l h = goto-inked Γ a n p l h
-goto-inked (bound b c ∷ Γ) a n p l h = goto-inked Γ a n p l h
-goto-inked (global o b c ∷ Γ) a n p l h = goto-inked Γ a n p l h
-goto-inked (held g ∷ Γ) a zero p l h = absurd (omega (arith, size-one (passing Γ) a))
-goto-inked (held g ∷ Γ) a (suc n) p l h = goto-inked Γ a n (moved p) (inked (op letHold) p l) (omega arith)
-goto-inked (labels is x ∷ Γ) a n p l h = by (hasLabel a is) n h (λ m k. goto-inked Γ a m p l k)
+goto-emitted : (Γ : List Around) (a n : ℕ) (p : Cursor) (l : List ℕ) → suc n ≡ sizeGoto (passing Γ) a → emitted (codeGoto Γ a) p l ≡ emitted (op (go (targetOf Γ a))) (cursorAfter (lets n) p) (emitted (lets n) p l)
+unfolding cursorAfter emitted codeGoto sizeGoto passing lets targetOf
+goto-emitted [] a zero p l h = refl
+goto-emitted [] a (suc n) p l h = absurd (omega arith)
+goto-emitted (inside s ∷ Γ) a n p l h = goto-emitted Γ a n p l h
+goto-emitted (outermost s ∷ Γ) a n p l h = goto-emitted Γ a n p l h
+goto-emitted (bound b c ∷ Γ) a n p l h = goto-emitted Γ a n p l h
+goto-emitted (global o b c ∷ Γ) a n p l h = goto-emitted Γ a n p l h
+goto-emitted (held g ∷ Γ) a zero p l h = absurd (omega (arith, size-one (passing Γ) a))
+goto-emitted (held g ∷ Γ) a (suc n) p l h = goto-emitted Γ a n (moved p) (emitted (op letHold) p l) (omega arith)
+goto-emitted (labels is x ∷ Γ) a n p l h = by (hasLabel a is) n h (λ m k. goto-emitted Γ a m p l k)
   where
     by : (b : Bool) (n : ℕ) → suc n ≡ (if b then 1 else sizeGoto (passing Γ) a)
-        → ((m : ℕ) → suc m ≡ sizeGoto (passing Γ) a → inked (codeGoto Γ a) p l ≡ inked (op (go (targetOf Γ a))) (penAfter (lets m) p) (inked (lets m) p l))
-        → inked (if b then op (go (labelAt is (scopesOf Γ) (theLabels is ∷ passing Γ) x a)) else codeGoto Γ a) p l
-        ≡ inked (op (go (if b then labelAt is (scopesOf Γ) (theLabels is ∷ passing Γ) x a else targetOf Γ a))) (penAfter (lets n) p) (inked (lets n) p l)
+        → ((m : ℕ) → suc m ≡ sizeGoto (passing Γ) a → emitted (codeGoto Γ a) p l ≡ emitted (op (go (targetOf Γ a))) (cursorAfter (lets m) p) (emitted (lets m) p l))
+        → emitted (if b then op (go (labelAt is (scopesOf Γ) (theLabels is ∷ passing Γ) x a)) else codeGoto Γ a) p l
+        ≡ emitted (op (go (if b then labelAt is (scopesOf Γ) (theLabels is ∷ passing Γ) x a else targetOf Γ a))) (cursorAfter (lets n) p) (emitted (lets n) p l)
     by true zero h f = refl
     by true (suc n) h f = absurd (omega arith)
     by false n h f = f n h
@@ -231,8 +231,8 @@ label-at {l} {v} {ss} see a small e = by (find a v) refl (lookup a ss) e (see .s
     by (Def t n q u) h (found (names.isField c i) r) z g = let y : _≡_ {A = ℕ} 0 1 = cc in absurd (omega arith)
     by (Def t n q u) h (found (names.isProcedure i j) r) z g = let y : _≡_ {A = ℕ} 0 1 = cc in absurd (omega arith)
 
-module _ (a : ℕ) {W : Walk} {X : Place} {l part : List ℕ} {nesting at : ℕ} {sizes : List ℕ} {L : Lent} {top holds depth : ℕ} {pen : Pen}
-    (r : Ready (stmt (goto a)) W X l part nesting at sizes L top holds depth pen) where
+module _ (a : ℕ) {W : Walk} {X : Place} {l part : List ℕ} {nesting at : ℕ} {sizes : List ℕ} {L : Lent} {top holds depth : ℕ} {cursor : Cursor}
+    (r : Ready (stmt (goto a)) W X l part nesting at sizes L top holds depth cursor) where
   goto-name : halfAt part 2 ≡ a
   goto-name = head-N (stmt (goto a)) (r .table) (r .laid .stands) .a
 
@@ -246,53 +246,53 @@ module _ (a : ℕ) {W : Walk} {X : Place} {l part : List ℕ} {nesting at : ℕ}
   goto-means : MeansLabel W (envOf (L .env) top) (X .around) a (goto-label .place)
   goto-means = r .lands .lands a (goto-label .number) (goto-label .place) goto-small (goto-label .finds)
 
-  goto-start : Stage W l L top holds depth pen at L X depth pen nil (codeGoto (X .around) a ▸ (mark (compile.found (X .around) (X .types)) ▸ nil)) []
-  unfolding codeS penAfter
+  goto-start : Stage W l L top holds depth cursor at L X depth cursor nil (codeGoto (X .around) a ▸ (mark (compile.found (X .around) (X .types)) ▸ nil)) []
+  unfolding codeS cursorAfter
   goto-start = stage-start at _ (r .stood) (r .fits)
 
-  pub goto-fits : Fits (penGoto (passedTo (halfAt part 2) (envOf (L .env) top)) depth pen) (length (L .out))
-  unfolding penAfter
+  pub goto-fits : Fits (cursorGoto (passedTo (halfAt part 2) (envOf (L .env) top)) depth cursor) (length (L .out))
+  unfolding cursorAfter
   goto-fits =
-      let f : Fits (penShaped depth (penAfter (codeGoto (X .around) a) pen)) (length (L .out)) = rw (r .stood .deep) (goto-start .fits) in
-      rw goto-name (subst (λ (t : Pen). Fits (penShaped depth t) (length (L .out))) (goto-pen (X .around) a (passedTo a (envOf (L .env) top)) pen (goto-means .passed)) f)
+      let f : Fits (cursorShaped depth (cursorAfter (codeGoto (X .around) a) cursor)) (length (L .out)) = rw (r .stood .deep) (goto-start .fits) in
+      rw goto-name (subst (λ (t : Cursor). Fits (cursorShaped depth t) (length (L .out))) (goto-cursor (X .around) a (passedTo a (envOf (L .env) top)) cursor (goto-means .passed)) f)
 
-  module _ {out : List ℕ} {q : Pen} (j : (q ≡ penGoto (passedTo (halfAt part 2) (envOf (L .env) top)) depth pen)
-      × (out ≡ inkGoto (passedTo (halfAt part 2) (envOf (L .env) top)) (meaningOf (halfAt part 2) (envOf (L .env) top) (W .aims)) holds (L .stack) depth pen (L .out))) where
+  module _ {out : List ℕ} {q : Cursor} (j : (q ≡ cursorGoto (passedTo (halfAt part 2) (envOf (L .env) top)) depth cursor)
+      × (out ≡ emitGoto (passedTo (halfAt part 2) (envOf (L .env) top)) (meaningOf (halfAt part 2) (envOf (L .env) top) (W .aims)) holds (L .stack) depth cursor (L .out))) where
     abbrev goto-n : ℕ
     goto-n = passedTo a (envOf (L .env) top)
 
     abbrev goto-out : List ℕ
-    goto-out = inkOp (penAfter (lets goto-n) pen) (inked (lets goto-n) pen (L .out)) 8 0 (meaningOf a (envOf (L .env) top) (W .aims))
+    goto-out = emitOp (cursorAfter (lets goto-n) cursor) (emitted (lets goto-n) cursor (L .out)) 8 0 (meaningOf a (envOf (L .env) top) (W .aims))
 
     goto-target : W .dry ≡ false → recordOf (go (targetOf (X .around) a)) ≡ rec 8 0 (meaningOf a (envOf (L .env) top) (W .aims))
     unfolding recordOf
     goto-target dry = ap (λ (t : ℕ). rec 8 0 t) (sym (ap (knownOf (W .aims)) (goto-label .finds) ∙ goto-means .aimed dry))
 
-    goto-wrote : Wrote (L .out) goto-out pen (moved (penAfter (lets goto-n) pen)) (codeGoto (X .around) a)
+    goto-wrote : Wrote (L .out) goto-out cursor (moved (cursorAfter (lets goto-n) cursor)) (codeGoto (X .around) a)
     goto-wrote =
         record {
-          penned = sym (goto-pen (X .around) a goto-n pen (goto-means .passed));
+          advanced = sym (goto-cursor (X .around) a goto-n cursor (goto-means .passed));
           written =
-              inked-op (go (targetOf (X .around) a)) 8 0 (meaningOf a (envOf (L .env) top) (W .aims)) (penAfter (lets goto-n) pen)
-              (λ dry. goto-target (sym (r .stood .dryness) ∙ (sym (grows (lets goto-n) pen .same-dry) ∙ dry))) (inked (lets goto-n) pen (L .out))
-              ∙ sym (goto-inked (X .around) a goto-n pen (L .out) (goto-means .passed));
+              emitted-op (go (targetOf (X .around) a)) 8 0 (meaningOf a (envOf (L .env) top) (W .aims)) (cursorAfter (lets goto-n) cursor)
+              (λ dry. goto-target (sym (r .stood .dryness) ∙ (sym (grows (lets goto-n) cursor .same-dry) ∙ dry))) (emitted (lets goto-n) cursor (L .out))
+              ∙ sym (goto-emitted (X .around) a goto-n cursor (L .out) (goto-means .passed));
         }
 
-    goto-1 : Stage W l L top holds depth pen at (lent (L .env) (L .ends) (L .stack) goto-out)
-        (movedTo X (after (codeGoto (X .around) a) (X .start))) depth (moved (penAfter (lets goto-n) pen)) (nil ▸ codeGoto (X .around) a)
+    goto-1 : Stage W l L top holds depth cursor at (lent (L .env) (L .ends) (L .stack) goto-out)
+        (movedTo X (after (codeGoto (X .around) a) (X .start))) depth (moved (cursorAfter (lets goto-n) cursor)) (nil ▸ codeGoto (X .around) a)
         (mark (compile.found (X .around) (X .types)) ▸ nil) ([] ++ [])
     goto-1 =
         stage-part (codeGoto (X .around) a) (mark (compile.found (X .around) (X .types)) ▸ nil) [] goto-start (at + 1)
         (kept-out L goto-out (wrote-length goto-wrote)) goto-wrote refl (omega arith)
 
-    goto-2 : Stage W l L top holds depth pen at (lent (L .env) (L .ends) (L .stack) out)
+    goto-2 : Stage W l L top holds depth cursor at (lent (L .env) (L .ends) (L .stack) out)
         (movedTo X (after (codeGoto (X .around) a) (X .start))) depth q ((nil ▸ codeGoto (X .around) a) ▸ mark (compile.found (X .around) (X .types))) nil ([] ++ [])
     goto-2 = stage-mark nil goto-1 (rw goto-name at j)
 
     pub goto-end : q .address < 65536
-    unfolding penAfter
+    unfolding cursorAfter
     goto-end = goto-2 .fits .address-small
 
-    pub goto-done : {ends : List ℕ} → ends ≡ set (L .ends) at (q .address) → Done (stmt (goto a)) W X at L (lent (L .env) ends (L .stack) out) depth pen q
-    unfolding codeS penAfter inked belowS
+    pub goto-done : {ends : List ℕ} → ends ≡ set (L .ends) at (q .address) → Done (stmt (goto a)) W X at L (lent (L .env) ends (L .stack) out) depth cursor q
+    unfolding codeS cursorAfter emitted belowS
     goto-done f = stage-done (stmt (goto a)) X goto-2 (r .stood .address) refl refl refl f (L .stack) tt

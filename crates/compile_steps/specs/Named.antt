@@ -19,7 +19,7 @@ use Rattle.compile_symbols.specs.Numbers.{packed, typeIn, firstIn, secondIn}
 use Rattle.compile_symbols.specs.Packed.{type-packed, first-packed, second-packed}
 use Rattle.compile_symbols.specs.Meaning.{meaningOf, knownOf}
 use Rattle.compile_nodes.specs.Knows.{Walk, Means, Known, Knows, resultOf}
-use Rattle.compile_emit.specs.Owns.{ownerBy}
+use Rattle.compile_emit.specs.EmitEntry.{ownerBy}
 
 pub record Meaning (W : Walk) (v : List Item) (Γ : List Around) (a : ℕ) (s : Sort) : Type 0 where
   pub place : ℕ

@@ -17,18 +17,18 @@ use Rattle.language.specs.Limits.{needE}
 use Rattle.compile_code.specs.Code.{Code, nil, _▸_, At, after}
 use Rattle.compile_code.specs.Compile.{Around, scopesOf, codeE, tyE, tyIn, Way, plainly, marked, ifTrue, ifFalse, wayOf, orInteger}
 use Rattle.compile_names.specs.Good.{goodE}
-use Rattle.compile_output.specs.declared.Pen.{Pen}
-use Rattle.compile_output.specs.Ink.{Fits}
-use Rattle.compile_output.specs.Folds.{penAfter, inked}
+use Rattle.compile_output.specs.declared.Cursor.{Cursor}
+use Rattle.compile_output.specs.EmitRecord.{Fits}
+use Rattle.compile_output.specs.EmitCode.{cursorAfter, emitted}
 use Rattle.compile_nodes.specs.Knows.{Walk}
 use Rattle.compile_nodes.specs.Ends.{belowE, endsE, seconds, begins}
 use Rattle.compile_nodes.specs.Ready.{expr, flatN, Place, Lent, Laid, Kept, Ready, Done}
 use Rattle.compile_steps.specs.Parts.{below, lent, laid-tail, laid-left, laid-right, laid-aim, laid-at, kept-self, kept-then}
 use Rattle.compile_steps.specs.Parts.{kept-less, fits-first, ready-part, need-E, fits-rest}
 use Rattle.compile_steps.specs.Stages.{Stage, stage-start, stage-part, Finished, finished-done}
-use Rattle.compile_steps.specs.Ways.{wayNumber, way-number, pair-type, Tested, codeBetween, codeBehind, parts-pen, parts-inked, waits, waits-are}
-use Rattle.compile_steps.specs.Ways.{secondPlace, between-stage, behind-stage, between-pen, behind-pen, tested-by}
-use Rattle.compile_emit.specs.Owns.{wayBy, waitingBy, pairType, penBetween, inkBetween, penBehind, inkBehind}
+use Rattle.compile_steps.specs.Ways.{wayNumber, way-number, pair-type, Tested, codeBetween, codeBehind, parts-cursor, parts-emitted, waits, waits-are}
+use Rattle.compile_steps.specs.Ways.{secondPlace, between-stage, behind-stage, between-cursor, behind-cursor, tested-by}
+use Rattle.compile_emit.specs.EmitEntry.{wayBy, waitingBy, pairType, cursorBetween, emitBetween, cursorBehind, emitBehind}
 use Rattle.compile_steps.specs.Cells.{cell-E, length-endsE}
 
 way-cells : (w : Way) (p : At) → begins w p .cell ≡ p .cell
@@ -56,7 +56,7 @@ tested-of : (gs : List Global) (o : Binary) (e f : Expr) (Γ : List Around) (t u
 tested-of gs o e f Γ t u z h k g {v} leaves = rw h (tested-by gs o t (leaves ∙ (ap (λ (x : Option Ty). tyByte (tyIn gs (orInteger x))) k ∙ sym (pair-type gs o t u z g))))
 
 module _ (o : Binary) (e f : Expr) {W : Walk} {X : Place} {l part : List ℕ} {nesting at : ℕ} {sizes : List ℕ} {L : Lent} {top holds depth : ℕ}
-    {pen : Pen} (r : Ready (expr (operate2 o e f)) W X l part nesting at sizes L top holds depth pen) where
+    {cursor : Cursor} (r : Ready (expr (operate2 o e f)) W X l part nesting at sizes L top holds depth cursor) where
   abbrev pair-w : Way
   pair-w = wayOf o (isTy logical (typeE (scopesOf (X .around)) e))
 
@@ -103,15 +103,15 @@ module _ (o : Binary) (e f : Expr) {W : Walk} {X : Place} {l part : List ℕ} {n
   unfolding flatE
   pair-length = ap suc (length-append (flatE e) (flatE f))
 
-  pair-start : Stage W l L top holds depth pen at L X depth pen nil (pair-x ▸ (pair-between ▸ (pair-y ▸ (pair-behind ▸ nil)))) []
+  pair-start : Stage W l L top holds depth cursor at L X depth cursor nil (pair-x ▸ (pair-between ▸ (pair-y ▸ (pair-behind ▸ nil)))) []
   unfolding codeE
-  pair-start = stage-start at _ (r .stood) (rw (parts-pen o (X .around) (X .types) pair-t pair-x (X .start) (λ ts q. codeE (W .globals) f (X .around) ts q) pen pair-w) at (r .fits))
+  pair-start = stage-start at _ (r .stood) (rw (parts-cursor o (X .around) (X .types) pair-t pair-x (X .start) (λ ts q. codeE (W .globals) f (X .around) ts q) cursor pair-w) at (r .fits))
 
-  pub pair-first : Ready (expr e) W X l (below part 8) (nesting - 1) (at + 1) sizes L top holds depth pen
+  pub pair-first : Ready (expr e) W X l (below part 8) (nesting - 1) (at + 1) sizes L top holds depth cursor
   unfolding measureS goodE
   pair-first =
       ready-part r (expr e) 1 (at + 1) X refl (omega (arith, pair-length)) (omega arith) refl
-      (laid-left _ _ _ _ pair-laid) (kept-self L) (r .stood) (fits-first _ _ pen (length (L .out)) (pair-start .fits)) (omega (arith, r .deep))
+      (laid-left _ _ _ _ pair-laid) (kept-self L) (r .stood) (fits-first _ _ cursor (length (L .out)) (pair-start .fits)) (omega (arith, r .deep))
       (r .good .0) tt (omega (arith, r .few-holds)) (omega (arith, r .few-values))
 
   -- the type of the first operand, and of the result
@@ -125,7 +125,7 @@ module _ (o : Binary) (e f : Expr) {W : Walk} {X : Place} {l part : List ℕ} {n
   pair-result : (first : ℕ) → first ≡ tyByte pair-t → pairType (binaryCode o) first ≡ tyByte (tyE (W .globals) (X .around) (operate2 o e f))
   pair-result first h = let g = pair-types in rw (h, g .3, g .4) (pair-type (W .globals) o (g .0) (g .1) (g .2) (g .5))
 
-  module _ {M : Lent} {p : Pen} (k : Kept L M top depth) (d : Done (expr e) W X (at + 1) L M depth pen p) (place b w : ℕ)
+  module _ {M : Lent} {p : Cursor} (k : Kept L M top depth) (d : Done (expr e) W X (at + 1) L M depth cursor p) (place b w : ℕ)
       (c : place ≡ at + 1 + length (flatE e)) (target : b ≡ getD (W .aims) place 0) (way : w ≡ wayBy (binaryCode o) (getD (M .stack) depth 0)) where
     pair-target : W .dry ≡ false → b ≡ pair-end
     pair-target dry = target ∙ laid-aim _ _ _ (pair-second place c) dry
@@ -133,14 +133,14 @@ module _ (o : Binary) (e f : Expr) {W : Walk} {X : Place} {l part : List ℕ} {n
     pub pair-number : w ≡ wayNumber pair-w
     pair-number = way ∙ pair-way (getD (M .stack) depth 0) (d .leaves)
 
-    pair-1 : Fits (penAfter (pair-between ▸ (pair-y ▸ (pair-behind ▸ nil))) p) (length (M .out))
+    pair-1 : Fits (cursorAfter (pair-between ▸ (pair-y ▸ (pair-behind ▸ nil))) p) (length (M .out))
     pair-1 = stage-part pair-x (pair-between ▸ (pair-y ▸ (pair-behind ▸ nil))) pair-es pair-start (at + 1) k (d .wrote) (d .ended) (omega arith) .fits
 
-    pub pair-fits : Fits (penBetween w depth p) (length (M .out))
-    pair-fits = rw (pair-number, between-pen (X .around) (X .types) pair-end depth p (r .stood .deep) pair-w pair-t pair-q) (fits-first _ _ p (length (M .out)) pair-1)
+    pub pair-fits : Fits (cursorBetween w depth p) (length (M .out))
+    pair-fits = rw (pair-number, between-cursor (X .around) (X .types) pair-end depth p (r .stood .deep) pair-w pair-t pair-q) (fits-first _ _ p (length (M .out)) pair-1)
 
-    module _ {out : List ℕ} {q : Pen} (j : (q ≡ penBetween w depth p) × (out ≡ inkBetween w b holds (M .stack) depth p (M .out))) where
-      pair-2 : Stage W l L top holds depth pen at (lent (M .env) (M .ends) (M .stack) out) pair-place (waits pair-w depth) q
+    module _ {out : List ℕ} {q : Cursor} (j : (q ≡ cursorBetween w depth p) × (out ≡ emitBetween w b holds (M .stack) depth p (M .out))) where
+      pair-2 : Stage W l L top holds depth cursor at (lent (M .env) (M .ends) (M .stack) out) pair-place (waits pair-w depth) q
           ((nil ▸ pair-x) ▸ pair-between) (pair-y ▸ (pair-behind ▸ nil)) ([] ++ pair-es)
       unfolding measureS
       pair-2 =
@@ -157,7 +157,7 @@ module _ (o : Binary) (e f : Expr) {W : Walk} {X : Place} {l part : List ℕ} {n
           (pair-second place c) (pair-2 .kept) (pair-2 .stood) (fits-first _ _ q (length out) (pair-2 .fits)) (omega (arith, r .deep)) (r .good .1) tt
           (omega (arith, r .few-holds)) (omega (arith, r .few-values, waits-most pair-w depth (needE f))))
 
-      module _ (deeper : ℕ) (z : deeper ≡ depth + waitingBy w) {N : Lent} {u : Pen} (k2 : Kept (lent (M .env) (M .ends) (M .stack) out) N top deeper)
+      module _ (deeper : ℕ) (z : deeper ≡ depth + waitingBy w) {N : Lent} {u : Cursor} (k2 : Kept (lent (M .env) (M .ends) (M .stack) out) N top deeper)
           (d2 : Done (expr f) W pair-place place (lent (M .env) (M .ends) (M .stack) out) N deeper q u) (v : ℕ) (result : v ≡ pairType (binaryCode o) (getD (M .stack) depth 0)) where
         pair-deeper : deeper ≡ waits pair-w depth
         pair-deeper = z ∙ (ap (λ (n : ℕ). depth + waitingBy n) pair-number ∙ waits-are pair-w depth)
@@ -165,11 +165,11 @@ module _ (o : Binary) (e f : Expr) {W : Walk} {X : Place} {l part : List ℕ} {n
         pub pair-kept : Kept L N top depth
         pair-kept = kept-then (pair-2 .kept) (kept-less (omega (arith, waits-least pair-w depth, pair-deeper)) k2)
 
-        pair-3 : Fits (penAfter (pair-behind ▸ nil) u) (length (N .out))
+        pair-3 : Fits (cursorAfter (pair-behind ▸ nil) u) (length (N .out))
         pair-3 = fits-rest pair-y (pair-behind ▸ nil) (d2 .wrote) (pair-2 .fits)
 
-        pub pair-fits-2 : Fits (penBehind w depth u) (length (N .out))
-        pair-fits-2 = rw (pair-number, behind-pen (X .around) (X .types) pair-end depth u (r .stood .deep) pair-w o) (fits-first _ _ u (length (N .out)) pair-3)
+        pub pair-fits-2 : Fits (cursorBehind w depth u) (length (N .out))
+        pair-fits-2 = rw (pair-number, behind-cursor (X .around) (X .types) pair-end depth u (r .stood .deep) pair-w o) (fits-first _ _ u (length (N .out)) pair-3)
 
         abbrev pair-stack : List ℕ
         pair-stack = set (N .stack) depth v
@@ -183,8 +183,8 @@ module _ (o : Binary) (e f : Expr) {W : Walk} {X : Place} {l part : List ℕ} {n
         pair-tested : Tested pair-w (getD pair-stack depth 0 ≡ tyByte logical)
         pair-tested = tested-of (W .globals) o e f (X .around) (pair-types .0) (pair-types .1) (pair-types .2) (pair-types .3) (pair-types .4) (pair-types .5) pair-leaves
 
-        module _ {late : List ℕ} {y : Pen} (m : (y ≡ penBehind w depth u) × (late ≡ inkBehind w (binaryCode o) b holds pair-stack depth u (N .out))) where
-          pair-4 : Finished L pen at late (N .ends) y ((((nil ▸ pair-x) ▸ pair-between) ▸ pair-y) ▸ pair-behind) (([] ++ pair-es) ++ pair-fs)
+        module _ {late : List ℕ} {y : Cursor} (m : (y ≡ cursorBehind w depth u) × (late ≡ emitBehind w (binaryCode o) b holds pair-stack depth u (N .out))) where
+          pair-4 : Finished L cursor at late (N .ends) y ((((nil ▸ pair-x) ▸ pair-between) ▸ pair-y) ▸ pair-behind) (([] ++ pair-es) ++ pair-fs)
           unfolding measureS
           pair-4 =
               behind-stage X o pair-t (after pair-x (X .start)) pair-y pair-end ([] ++ pair-es) pair-fs place (d2 .wrote) (d2 .ended)
@@ -194,8 +194,8 @@ module _ (o : Binary) (e f : Expr) {W : Walk} {X : Place} {l part : List ℕ} {n
           pub pair-small : y .address < 65536
           pair-small = pair-4 .small
 
-          pub pair-done : {ends : List ℕ} → ends ≡ set (N .ends) at (y .address) → Done (expr (operate2 o e f)) W X at L (lent (N .env) ends pair-stack late) depth pen y
-          unfolding codeE penAfter inked belowE
+          pub pair-done : {ends : List ℕ} → ends ≡ set (N .ends) at (y .address) → Done (expr (operate2 o e f)) W X at L (lent (N .env) ends pair-stack late) depth cursor y
+          unfolding codeE cursorAfter emitted belowE
           pair-done g = finished-done (expr (operate2 o e f)) X pair-4 (r .stood .address)
-              (sym (parts-pen o (X .around) (X .types) pair-t pair-x (X .start) (λ ts q. codeE (W .globals) f (X .around) ts q) pen pair-w))
-              (sym (parts-inked o (X .around) (X .types) pair-t pair-x (X .start) (λ ts q. codeE (W .globals) f (X .around) ts q) pen pair-w (L .out))) refl g (N .env) pair-stack pair-leaves
+              (sym (parts-cursor o (X .around) (X .types) pair-t pair-x (X .start) (λ ts q. codeE (W .globals) f (X .around) ts q) cursor pair-w))
+              (sym (parts-emitted o (X .around) (X .types) pair-t pair-x (X .start) (λ ts q. codeE (W .globals) f (X .around) ts q) cursor pair-w (L .out))) refl g (N .env) pair-stack pair-leaves

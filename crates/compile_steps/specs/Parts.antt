@@ -31,9 +31,9 @@ use Rattle.compile_code.specs.Encode.{rec, recordOf}
 use Rattle.words.specs.Laws.{sets-append}
 use Rattle.compile_symbols.specs.Entries.{cells-append}
 use Rattle.compile_symbols.specs.Numbers.{numbersFrom, cellsOf, cellsWithin}
-use Rattle.compile_output.specs.declared.Pen.{Pen}
-use Rattle.compile_output.specs.Ink.{Fits, moved, penShaped, inkOp, inkShape}
-use Rattle.compile_output.specs.Folds.{penAfter, inked, Later, grows, fits-before, inked-op, Stacked, pen-mark, inked-mark, address-after, length-inked}
+use Rattle.compile_output.specs.declared.Cursor.{Cursor}
+use Rattle.compile_output.specs.EmitRecord.{Fits, moved, cursorShaped, emitOp, emitShape}
+use Rattle.compile_output.specs.EmitCode.{cursorAfter, emitted, Later, grows, fits-before, emitted-op, Stacked, cursor-mark, emitted-mark, address-after, length-emitted}
 use Rattle.compile_nodes.specs.Knows.{Walk}
 use Rattle.compile_nodes.specs.Ready.{Node, stmt, expr, name, flatN, formN, roomN, deepN, holdsN, needN, goodN, codeN, endsN, Place, Lent, Laid, Stood, Kept, Wrote, LandsN, Ready, Asks}
 use Rattle.compile_scopes.specs.Sight.{classesIn}
@@ -149,46 +149,46 @@ kept-less {top} {d} {e} {L} {M} h k =
     }
 
 -- ── code, one part after the other ──
-module _ {a b c : List ℕ} {p q r : Pen} where
+module _ {a b c : List ℕ} {p q r : Cursor} where
   pub wrote-then : {x y : Code} → Wrote a b p q x → Wrote b c q r y → Wrote a c p r (x ▸ y)
-  unfolding penAfter inked
-  wrote-then {x} {y} h k = record { penned = k .penned ∙ ap (penAfter y) (h .penned); written = k .written ∙ rw (h .written, h .penned) }
+  unfolding cursorAfter emitted
+  wrote-then {x} {y} h k = record { advanced = k .advanced ∙ ap (cursorAfter y) (h .advanced); written = k .written ∙ rw (h .written, h .advanced) }
 
-module _ {a b : List ℕ} {p q : Pen} where
-  pub wrote-op : (i : Instr) (k x y : ℕ) → (q ≡ moved p) × (b ≡ inkOp p a k x y) → (p .dry ≡ false → recordOf i ≡ rec k x y) → Wrote a b p q (op i)
-  unfolding penAfter
-  wrote-op i k x y e h = record { penned = e .0; written = e .1 ∙ inked-op i k x y p h a }
+module _ {a b : List ℕ} {p q : Cursor} where
+  pub wrote-op : (i : Instr) (k x y : ℕ) → (q ≡ moved p) × (b ≡ emitOp p a k x y) → (p .dry ≡ false → recordOf i ≡ rec k x y) → Wrote a b p q (op i)
+  unfolding cursorAfter
+  wrote-op i k x y e h = record { advanced = e .0; written = e .1 ∙ emitted-op i k x y p h a }
 
-  pub wrote-mark : (s : Shape) (h d : ℕ) (st : List ℕ) → Stacked s h st d → (q ≡ penShaped d p) × (b ≡ inkShape p a h d (take d st)) → Wrote a b p q (mark s)
-  wrote-mark s h d st k e = record { penned = e .0 ∙ pen-mark s h d st k p; written = e .1 ∙ inked-mark s h d st k p a }
+  pub wrote-mark : (s : Shape) (h d : ℕ) (st : List ℕ) → Stacked s h st d → (q ≡ cursorShaped d p) × (b ≡ emitShape p a h d (take d st)) → Wrote a b p q (mark s)
+  wrote-mark s h d st k e = record { advanced = e .0 ∙ cursor-mark s h d st k p; written = e .1 ∙ emitted-mark s h d st k p a }
 
   pub wrote-length : {x : Code} → Wrote a b p q x → length b ≡ length a
-  wrote-length {x} h = ap (length {A = ℕ}) (h .written) ∙ length-inked x p a
+  wrote-length {x} h = ap (length {A = ℕ}) (h .written) ∙ length-emitted x p a
 
   pub wrote-later : {x : Code} → Wrote a b p q x → Later p q
-  wrote-later {x} h = rw (h .penned) (grows x p)
+  wrote-later {x} h = rw (h .advanced) (grows x p)
 
   pub wrote-address : {x : Code} (s : At) → Wrote a b p q x → p .address ≡ s .address → q .address ≡ after x s .address
-  wrote-address {x} s h e = ap (λ (t : Pen). t .address) (h .penned) ∙ address-after x p s e
+  wrote-address {x} s h e = ap (λ (t : Cursor). t .address) (h .advanced) ∙ address-after x p s e
 
   -- what is left of what fits
-  pub fits-rest : (x y : Code) → Wrote a b p q x → Fits (penAfter (x ▸ y) p) (length a) → Fits (penAfter y q) (length b)
-  unfolding penAfter
-  fits-rest x y h f = rw (h .penned, wrote-length h) f
+  pub fits-rest : (x y : Code) → Wrote a b p q x → Fits (cursorAfter (x ▸ y) p) (length a) → Fits (cursorAfter y q) (length b)
+  unfolding cursorAfter
+  fits-rest x y h f = rw (h .advanced, wrote-length h) f
 
-pub wrote-nil : (a : List ℕ) (p : Pen) → Wrote a a p p nil
-unfolding penAfter inked
-wrote-nil a p = record { penned = refl; written = refl }
+pub wrote-nil : (a : List ℕ) (p : Cursor) → Wrote a a p p nil
+unfolding cursorAfter emitted
+wrote-nil a p = record { advanced = refl; written = refl }
 
-pub wrote-cell : (t : Ty) (a : List ℕ) (p : Pen) → Wrote a a p p (cell t)
-unfolding penAfter inked
-wrote-cell t a p = record { penned = refl; written = refl }
+pub wrote-cell : (t : Ty) (a : List ℕ) (p : Cursor) → Wrote a a p p (cell t)
+unfolding cursorAfter emitted
+wrote-cell t a p = record { advanced = refl; written = refl }
 
-pub fits-first : (x y : Code) (p : Pen) (n : ℕ) → Fits (penAfter (x ▸ y) p) n → Fits (penAfter x p) n
-unfolding penAfter
-fits-first x y p n f = fits-before n (grows y (penAfter x p)) f
+pub fits-first : (x y : Code) (p : Cursor) (n : ℕ) → Fits (cursorAfter (x ▸ y) p) n → Fits (cursorAfter x p) n
+unfolding cursorAfter
+fits-first x y p n f = fits-before n (grows y (cursorAfter x p)) f
 
-pub fits-start : (x : Code) (p : Pen) (n : ℕ) → Fits (penAfter x p) n → Fits p n
+pub fits-start : (x : Code) (p : Cursor) (n : ℕ) → Fits (cursorAfter x p) n → Fits p n
 fits-start x p n f = fits-before n (grows x p) f
 
 -- the blocks around
@@ -208,8 +208,8 @@ typed-more st t d stack h g k =
     let z : suc d ≡ d + 1 = omega arith in
     ap (map tyByte) (reverse-cons t st) ∙ (map-append tyByte (reverse st) (t ∷ []) ∙ (rw (h, ← g) (sym (take-suc stack d 0 k)) ∙ ap (λ (n : ℕ). take n stack) z))
 
-module _ {W : Walk} {X : Place} {l : List ℕ} {L M : Lent} {top holds depth : ℕ} {pen p : Pen} (h : Stood W X l L top holds depth pen)
-    (k : Kept L M top depth) (later : Later pen p) (q : At) (a : p .address ≡ q .address) where
+module _ {W : Walk} {X : Place} {l : List ℕ} {L M : Lent} {top holds depth : ℕ} {cursor p : Cursor} (h : Stood W X l L top holds depth cursor)
+    (k : Kept L M top depth) (later : Later cursor p) (q : At) (a : p .address ≡ q .address) where
   pub stood-next : Stood W (movedTo X q) l M top holds depth p
   stood-next =
       record {
@@ -239,15 +239,15 @@ module _ {W : Walk} {X : Place} {l : List ℕ} {L M : Lent} {top holds depth : �
       }
 
 -- the shape that is found at a place
-pub stood-shape : {W : Walk} {X : Place} {l : List ℕ} {L : Lent} {top holds depth : ℕ} {pen : Pen} → Stood W X l L top holds depth pen → Stacked (found (X .around) (X .types)) holds (L .stack) depth
+pub stood-shape : {W : Walk} {X : Place} {l : List ℕ} {L : Lent} {top holds depth : ℕ} {cursor : Cursor} → Stood W X l L top holds depth cursor → Stacked (found (X .around) (X .types)) holds (L .stack) depth
 stood-shape h = record { same-holds = sym (h .held); same-depth = sym (h .deep); same-types = h .typed }
 
 -- ── a part is ready ──
-module _ {n : Node} {W : Walk} {X : Place} {l part : List ℕ} {nesting at : ℕ} {sizes : List ℕ} {L : Lent} {top holds depth : ℕ} {pen : Pen}
-    (r : Ready n W X l part nesting at sizes L top holds depth pen) where
-  pub ready-part : (m : Node) (k place : ℕ) (Y : Place) {M : Lent} {d : ℕ} {p : Pen} → place ≡ at + k → k + length (flatN m) ≤ length (flatN n) → 1 ≤ k → roomN n ≡ length (flatN n)
+module _ {n : Node} {W : Walk} {X : Place} {l part : List ℕ} {nesting at : ℕ} {sizes : List ℕ} {L : Lent} {top holds depth : ℕ} {cursor : Cursor}
+    (r : Ready n W X l part nesting at sizes L top holds depth cursor) where
+  pub ready-part : (m : Node) (k place : ℕ) (Y : Place) {M : Lent} {d : ℕ} {p : Cursor} → place ≡ at + k → k + length (flatN m) ≤ length (flatN n) → 1 ≤ k → roomN n ≡ length (flatN n)
       → Laid W l place (Y .start) (flatN m) (endsN (W .globals) m (Y .around) (Y .types) (Y .start)) → Kept L M top depth → Stood W Y l M top holds d p
-      → Fits (penAfter (codeN (W .globals) m (Y .around) (Y .types) (Y .start)) p) (length (M .out)) → deepN m ≤ nesting - 1 → goodN (Scopes Y) m → LandsN W (M .env) top (Y .around) m
+      → Fits (cursorAfter (codeN (W .globals) m (Y .around) (Y .types) (Y .start)) p) (length (M .out)) → deepN m ≤ nesting - 1 → goodN (Scopes Y) m → LandsN W (M .env) top (Y .around) m
       → holds + holdsN m ≤ 16 → d + needN m ≤ 32 → Ready m W Y l (below part (8 * k)) (nesting - 1) place sizes M top holds d p
   ready-part m k place Y {M} e in-it one room laid kept stood fits deep good lands few values =
       record {
@@ -279,7 +279,7 @@ pub ended-then : (l m n : List ℕ) (i j : ℕ) (es fs : List ℕ) → m ≡ set
 ended-then l m n i j es fs h k e = k ∙ (rw (h, e) (sets-append l i es fs))
 
 -- ── what every walker is asked with ──
-pub record Asked (part : List ℕ) (nesting at : ℕ) (L : Lent) (top holds depth : ℕ) (pen : Pen) : Type 0 where
+pub record Asked (part : List ℕ) (nesting at : ℕ) (L : Lent) (top holds depth : ℕ) (cursor : Cursor) : Type 0 where
   pub long : 8 ≤ length part
   pub nested : 1 ≤ nesting
   pub small : at + 1 ≤ 2048
@@ -288,7 +288,7 @@ pub record Asked (part : List ℕ) (nesting at : ℕ) (L : Lent) (top holds dept
   pub deep : depth < 32
   pub stacked : 32 ≤ length (L .stack)
   pub ending : at < length (L .ends)
-  pub address : pen .address < 65536
+  pub address : cursor .address < 65536
 
 deep-one : (n : Node) → 1 ≤ deepN n
 unfolding measureS
@@ -361,11 +361,11 @@ need-N (stmt s) = need-S s
 need-N (expr e) = need-E e
 need-N (name a) = omega arith
 
-pub asked : {P : Node → Type 0} {known aims l part : List ℕ} {nesting at : ℕ} {sizes : List ℕ} {L : Lent} {top holds depth : ℕ} {pen : Pen}
-    → Asks P known aims l part nesting at sizes L top holds depth pen → Asked part nesting at L top holds depth pen
-asked {pen = pen} q =
+pub asked : {P : Node → Type 0} {known aims l part : List ℕ} {nesting at : ℕ} {sizes : List ℕ} {L : Lent} {top holds depth : ℕ} {cursor : Cursor}
+    → Asks P known aims l part nesting at sizes L top holds depth cursor → Asked part nesting at L top holds depth cursor
+asked {cursor = cursor} q =
     let r = q .ready in let h = head-N (q .node) (r .table) (r .laid .stands) in
-    let f = fits-start (codeN (q .walk .globals) (q .node) (q .place .around) (q .place .types) (q .place .start)) pen _ (r .fits) in
+    let f = fits-start (codeN (q .walk .globals) (q .node) (q .place .around) (q .place .types) (q .place .start)) cursor _ (r .fits) in
     record {
       long = omega (arith, h .long, h .within);
       nested = omega (arith, deep-one (q .node), r .deep);

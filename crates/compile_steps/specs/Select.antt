@@ -22,9 +22,9 @@ use Rattle.compile_code.specs.Encode.{rec, recordOf}
 use Rattle.compile_symbols.specs.Numbers.{numbersFrom, cellsWithin, secondIn, packed}
 use Rattle.compile_symbols.specs.Packed.{second-packed}
 use Rattle.compile_names.specs.Good.{goodS}
-use Rattle.compile_output.specs.declared.Pen.{Pen}
-use Rattle.compile_output.specs.Ink.{Fits, moved, penShaped, inkOp, inkShape}
-use Rattle.compile_output.specs.Folds.{penAfter, inked}
+use Rattle.compile_output.specs.declared.Cursor.{Cursor}
+use Rattle.compile_output.specs.EmitRecord.{Fits, moved, cursorShaped, emitOp, emitShape}
+use Rattle.compile_output.specs.EmitCode.{cursorAfter, emitted}
 use Rattle.compile_nodes.specs.Ends.{belowS, endsE, endsArms}
 use Rattle.compile_nodes.specs.Knows.{Walk}
 use Rattle.compile_nodes.specs.Ready.{stmt, expr, Place, Lent, Stood, Kept, Wrote, Ready, Done, Asks, Answers, codeCases, ReadyArms, DoneArms, Owner, AsksArms, AnswersArms}
@@ -37,28 +37,28 @@ use Rattle.compile_steps.specs.Shared.{shaped-wrote, fits-op, ends-then,
 
 -- ── the code of the statements is that of the cases, and a stop ──
 module _ (gs : List Global) where
-  arms-pen : (r : Arms) (c i z : ℕ) (Γ : List Around) (st : List Ty) (p : At) (pen : Pen) → penAfter (codeArms gs r c i z Γ st p) pen ≡ penAfter (codeCases gs r c i z Γ st p ▸ op (stop caseIndex)) pen
-  unfolding codeArms codeCases penAfter
-  arms-pen (lastArm s) c i z Γ st p pen = refl
-  arms-pen (arm s r) c i z Γ st p pen = arms-pen r c (suc i) z Γ st _ _
+  arms-cursor : (r : Arms) (c i z : ℕ) (Γ : List Around) (st : List Ty) (p : At) (cursor : Cursor) → cursorAfter (codeArms gs r c i z Γ st p) cursor ≡ cursorAfter (codeCases gs r c i z Γ st p ▸ op (stop caseIndex)) cursor
+  unfolding codeArms codeCases cursorAfter
+  arms-cursor (lastArm s) c i z Γ st p cursor = refl
+  arms-cursor (arm s r) c i z Γ st p cursor = arms-cursor r c (suc i) z Γ st _ _
 
-  arms-inked : (r : Arms) (c i z : ℕ) (Γ : List Around) (st : List Ty) (p : At) (pen : Pen) (l : List ℕ)
-      → inked (codeArms gs r c i z Γ st p) pen l ≡ inked (codeCases gs r c i z Γ st p ▸ op (stop caseIndex)) pen l
-  unfolding codeArms codeCases penAfter inked
-  arms-inked (lastArm s) c i z Γ st p pen l = refl
-  arms-inked (arm s r) c i z Γ st p pen l = arms-inked r c (suc i) z Γ st _ _ _
+  arms-emitted : (r : Arms) (c i z : ℕ) (Γ : List Around) (st : List Ty) (p : At) (cursor : Cursor) (l : List ℕ)
+      → emitted (codeArms gs r c i z Γ st p) cursor l ≡ emitted (codeCases gs r c i z Γ st p ▸ op (stop caseIndex)) cursor l
+  unfolding codeArms codeCases cursorAfter emitted
+  arms-emitted (lastArm s) c i z Γ st p cursor l = refl
+  arms-emitted (arm s r) c i z Γ st p cursor l = arms-emitted r c (suc i) z Γ st _ _ _
 
-  arms-wrote : (r : Arms) (c i z : ℕ) (Γ : List Around) (st : List Ty) (p : At) {a b : List ℕ} {pen t : Pen}
-      → Wrote a b pen t (codeCases gs r c i z Γ st p ▸ op (stop caseIndex)) → Wrote a b pen t (codeArms gs r c i z Γ st p)
-  arms-wrote r c i z Γ st p {a} {b} {pen} {t} w = record { penned = w .penned ∙ sym (arms-pen r c i z Γ st p pen); written = w .written ∙ sym (arms-inked r c i z Γ st p pen a) }
+  arms-wrote : (r : Arms) (c i z : ℕ) (Γ : List Around) (st : List Ty) (p : At) {a b : List ℕ} {cursor t : Cursor}
+      → Wrote a b cursor t (codeCases gs r c i z Γ st p ▸ op (stop caseIndex)) → Wrote a b cursor t (codeArms gs r c i z Γ st p)
+  arms-wrote r c i z Γ st p {a} {b} {cursor} {t} w = record { advanced = w .advanced ∙ sym (arms-cursor r c i z Γ st p cursor); written = w .written ∙ sym (arms-emitted r c i z Γ st p cursor a) }
 
 count-most : (r : Arms) → countArms r ≤ length (flatArms r)
 unfolding countArms flatArms
 count-most (lastArm s) = flat-one (stmt s)
 count-most (arm s r) = omega (arith, length-append (flatS s) (flatArms r), flat-one (stmt s), count-most r)
 
-module _ {e : Expr} {r : Arms} {W : Walk} {X : Place} {l part : List ℕ} {nesting at : ℕ} {sizes : List ℕ} {L : Lent} {top holds depth : ℕ} {pen : Pen}
-    (h : Ready (stmt (select e r)) W X l part nesting at sizes L top holds depth pen) where
+module _ {e : Expr} {r : Arms} {W : Walk} {X : Place} {l part : List ℕ} {nesting at : ℕ} {sizes : List ℕ} {L : Lent} {top holds depth : ℕ} {cursor : Cursor}
+    (h : Ready (stmt (select e r)) W X l part nesting at sizes L top holds depth cursor) where
   -- its own cell
   abbrev c : ℕ
   c = X .start .cell
@@ -90,15 +90,15 @@ module _ {e : Expr} {r : Arms} {W : Walk} {X : Place} {l part : List ℕ} {nesti
   abbrev all : Code
   all = cell integer ▸ (x ▸ (op (store own c) ▸ (codeArms (W .globals) r c 1 exit (X .around) (X .types) b ▸ seen)))
 
-  in-all : Rest W X l at L top holds depth pen (entry 30 (countArms r) (pos 0) ∷ (flatE e ++ flatArms r)) (after all (X .start) .address ∷ (es ++ fs))
+  in-all : Rest W X l at L top holds depth cursor (entry 30 (countArms r) (pos 0) ∷ (flatE e ++ flatArms r)) (after all (X .start) .address ∷ (es ++ fs))
       (x ▸ (op (store own c) ▸ (y ▸ (op (stop caseIndex) ▸ seen))))
-  unfolding flatS codeS belowS penAfter
-  in-all = record { laid = h .laid; stood = h .stood; room = h .room; ending = h .ending; fits = rw (arms-pen (W .globals) r c 1 exit (X .around) (X .types) b (moved (penAfter x pen))) at (h .fits) }
+  unfolding flatS codeS belowS cursorAfter
+  in-all = record { laid = h .laid; stood = h .stood; room = h .room; ending = h .ending; fits = rw (arms-cursor (W .globals) r c 1 exit (X .around) (X .types) b (moved (cursorAfter x cursor))) at (h .fits) }
 
-  below-all : Rest W (movedTo X q) l (at + 1) L top holds depth pen (flatE e ++ flatArms r) (es ++ fs) (x ▸ (op (store own c) ▸ (y ▸ (op (stop caseIndex) ▸ seen))))
+  below-all : Rest W (movedTo X q) l (at + 1) L top holds depth cursor (flatE e ++ flatArms r) (es ++ fs) (x ▸ (op (store own c) ▸ (y ▸ (op (stop caseIndex) ▸ seen))))
   below-all = rest-enter (entry 30 (countArms r) (pos 0)) (flatE e ++ flatArms r) _ _ _ q (omega arith) refl in-all
 
-  pub select-first : Ready (expr e) W (movedTo X q) l (below part 8) (nesting - 1) (at + 1) sizes L top holds depth pen
+  pub select-first : Ready (expr e) W (movedTo X q) l (below part 8) (nesting - 1) (at + 1) sizes L top holds depth cursor
   unfolding measureS goodS
   select-first =
       rest-ready (expr e) (table-next (h .table) 8 1 refl) (omega (arith, h .deep)) (h .good .0) tt (omega (arith, h .few-holds))
@@ -137,14 +137,14 @@ module _ {e : Expr} {r : Arms} {W : Walk} {X : Place} {l part : List ℕ} {nesti
     pub select-passes : Passes (below part 8) sizes (at + 1) n
     select-passes = passes-N (expr e) (select-first .table) (select-first .laid .stands) n z
 
-    module _ {M : Lent} {p : Pen} (k : Kept L M top depth) (d : Done (expr e) W (movedTo X q) (at + 1) L M depth pen p) where
+    module _ {M : Lent} {p : Cursor} (k : Kept L M top depth) (d : Done (expr e) W (movedTo X q) (at + 1) L M depth cursor p) where
       after-first : Rest W (movedTo X (after x q)) l (at + 1 + n) M top holds depth p (flatArms r) fs (op (store own c) ▸ (y ▸ (op (stop caseIndex) ▸ seen)))
       after-first = rest-node (expr e) (flatArms r) _ n size-first k (d .wrote) below-all
 
       pub select-fits : Fits (moved p) (length (M .out))
       select-fits = fits-op (store own c) _ p (length (M .out)) (after-first .fits)
 
-      module _ {v : ℕ} {p₂ : Pen} {o : List ℕ} (cl : v ≡ c) (i : (p₂ ≡ moved p) × (o ≡ inkOp p (M .out) 6 0 v)) where
+      module _ {v : ℕ} {p₂ : Cursor} {o : List ℕ} (cl : v ≡ c) (i : (p₂ ≡ moved p) × (o ≡ emitOp p (M .out) 6 0 v)) where
         stored : Wrote (M .out) o p p₂ (op (store own c))
         unfolding recordOf
         stored = wrote-op (store own c) 6 0 v i (λ w. ap (λ (a : ℕ). rec 6 0 a) (sym cl))
@@ -173,7 +173,7 @@ module _ {e : Expr} {r : Arms} {W : Walk} {X : Place} {l part : List ℕ} {nesti
               few = omega (arith, short, f, many);
             }
 
-        module _ {N : Lent} {t : Pen} (k₂ : Kept (lent (M .env) (M .ends) (M .stack) o) N top depth)
+        module _ {N : Lent} {t : Cursor} (k₂ : Kept (lent (M .env) (M .ends) (M .stack) o) N top depth)
             (d₂ : DoneArms r c 1 exit W (movedTo X b) (at + 1 + n) (lent (M .env) (M .ends) (M .stack) o) N depth p₂ t) where
           -- no more entries are passed from here on, so that the cell does not matter
           abbrev there : At
@@ -188,7 +188,7 @@ module _ {e : Expr} {r : Arms} {W : Walk} {X : Place} {l part : List ℕ} {nesti
           pub select-fits₂ : Fits (moved t) (length (N .out))
           select-fits₂ = fits-op (stop caseIndex) _ t (length (N .out)) (after-arms .fits)
 
-          module _ {p₃ : Pen} {o₂ : List ℕ} (i₂ : (p₃ ≡ moved t) × (o₂ ≡ inkOp t (N .out) 20 0 0)) where
+          module _ {p₃ : Cursor} {o₂ : List ℕ} (i₂ : (p₃ ≡ moved t) × (o₂ ≡ emitOp t (N .out) 20 0 0)) where
             stopped : Wrote (N .out) o₂ t p₃ (op (stop caseIndex))
             unfolding recordOf
             stopped = wrote-op (stop caseIndex) 20 0 0 i₂ (λ w. refl)
@@ -201,16 +201,16 @@ module _ {e : Expr} {r : Arms} {W : Walk} {X : Place} {l part : List ℕ} {nesti
             unfolding after
             select-shape = shaping-last stood-last few more (rest-fits (skip 1 there) refl (kept-out N o₂ (wrote-length stopped)) stopped after-arms)
 
-            module _ {p₄ : Pen} {o₃ : List ℕ} (j : (p₄ ≡ penShaped depth p₃) × (o₃ ≡ inkShape p₃ o₂ holds depth (take depth (N .stack)))) where
+            module _ {p₄ : Cursor} {o₃ : List ℕ} (j : (p₄ ≡ cursorShaped depth p₃) × (o₃ ≡ emitShape p₃ o₂ holds depth (take depth (N .stack)))) where
               pub select-finish : (at < length (N .ends)) × (p₄ .address < 65536)
               select-finish = finishing (h .ending) (flat-one (stmt (select e r))) (kept-two .same-ends) (j .0) (select-shape .3)
 
-              wrote-all : Wrote (L .out) o₃ pen p₄ all
+              wrote-all : Wrote (L .out) o₃ cursor p₄ all
               wrote-all =
-                  wrote-then (wrote-cell integer (L .out) pen) (wrote-then (d .wrote) (wrote-then stored
+                  wrote-then (wrote-cell integer (L .out) cursor) (wrote-then (d .wrote) (wrote-then stored
                   (wrote-then (arms-wrote (W .globals) r c 1 exit (X .around) (X .types) b (wrote-then (d₂ .wrote) stopped)) (shaped-wrote stood-last few more j))))
 
-              pub select-done : {u : Pen} {ends : List ℕ} → (u ≡ p₄) × (ends ≡ set (N .ends) at (p₄ .address)) → Done (stmt (select e r)) W X at L (lent (N .env) ends (N .stack) o₃) depth pen u
+              pub select-done : {u : Cursor} {ends : List ℕ} → (u ≡ p₄) × (ends ≡ set (N .ends) at (p₄ .address)) → Done (stmt (select e r)) W X at L (lent (N .env) ends (N .stack) o₃) depth cursor u
               unfolding codeS belowS
               select-done {u} {ends} f =
                   record {
@@ -228,37 +228,37 @@ module _ {e : Expr} {r : Arms} {W : Walk} {X : Place} {l part : List ℕ} {nesti
                   (kept-ends (lent (N .env) (N .ends) (N .stack) o₃) ends (rw f (length-set (N .ends) at (p₄ .address)))))
 
 -- ── for the walker ──
-module _ {known aims l part : List ℕ} {nesting at : ℕ} {sizes : List ℕ} {L : Lent} {top holds depth : ℕ} {pen : Pen}
-    (a : Asks (IsKind 30) known aims l part nesting at sizes L top holds depth pen) where
+module _ {known aims l part : List ℕ} {nesting at : ℕ} {sizes : List ℕ} {L : Lent} {top holds depth : ℕ} {cursor : Cursor}
+    (a : Asks (IsKind 30) known aims l part nesting at sizes L top holds depth cursor) where
   v : Select (a .node)
   v = select-of (a .node) (a .such)
 
-  ready : Ready (stmt (select (v .e) (v .r))) (a .walk) (a .place) l part nesting at sizes L top holds depth pen
+  ready : Ready (stmt (select (v .e) (v .r))) (a .walk) (a .place) l part nesting at sizes L top holds depth cursor
   ready = ready-as (v .same) (a .ready)
 
-  pub asks-select-first : Asks IsExpr known aims l (below part 8) (nesting - 1) (at + 1) sizes L top holds depth pen
+  pub asks-select-first : Asks IsExpr known aims l (below part 8) (nesting - 1) (at + 1) sizes L top holds depth cursor
   asks-select-first = record { node = expr (v .e); walk = a .walk; place = _; such = tt; same-known = a .same-known; same-aims = a .same-aims; ready = select-first ready }
 
   module _ (n : ℕ) (z : n ≡ getD sizes (at + 1) 0) where
     pub asks-select-passes : Passes (below part 8) sizes (at + 1) n
     asks-select-passes = select-passes ready n z
 
-    module _ {M : Lent} {p : Pen} (b₁ : Answers IsExpr known aims l (below part 8) (nesting - 1) (at + 1) sizes L M top holds depth pen p) where
-      done-first : {W : Walk} {X : Place} {e : Expr} {r : Arms} → W .known ≡ known → W .aims ≡ aims → Ready (stmt (select e r)) W X l part nesting at sizes L top holds depth pen
-          → Done (expr e) W (movedTo X (taken (X .start))) (at + 1) L M depth pen p
+    module _ {M : Lent} {p : Cursor} (b₁ : Answers IsExpr known aims l (below part 8) (nesting - 1) (at + 1) sizes L M top holds depth cursor p) where
+      done-first : {W : Walk} {X : Place} {e : Expr} {r : Arms} → W .known ≡ known → W .aims ≡ aims → Ready (stmt (select e r)) W X l part nesting at sizes L top holds depth cursor
+          → Done (expr e) W (movedTo X (taken (X .start))) (at + 1) L M depth cursor p
       done-first {W} {X} {e} x y h = b₁ .done (expr e) W _ tt x y (select-first h)
 
       pub asks-select-emit : Fits (moved p) (length (M .out))
       asks-select-emit = select-fits ready n z (b₁ .kept) (done-first (a .same-known) (a .same-aims) ready)
 
-      module _ {count cell : ℕ} {p₂ : Pen} {o : List ℕ} (ct : count ≡ halfAt part 2) (cl : cell ≡ secondIn (getD known at 0)) (i : (p₂ ≡ moved p) × (o ≡ inkOp p (M .out) 6 0 cell)) where
-        cell-is : {W : Walk} {X : Place} {e : Expr} {r : Arms} → W .known ≡ known → Ready (stmt (select e r)) W X l part nesting at sizes L top holds depth pen → cell ≡ X .start .cell
+      module _ {count cell : ℕ} {p₂ : Cursor} {o : List ℕ} (ct : count ≡ halfAt part 2) (cl : cell ≡ secondIn (getD known at 0)) (i : (p₂ ≡ moved p) × (o ≡ emitOp p (M .out) 6 0 cell)) where
+        cell-is : {W : Walk} {X : Place} {e : Expr} {r : Arms} → W .known ≡ known → Ready (stmt (select e r)) W X l part nesting at sizes L top holds depth cursor → cell ≡ X .start .cell
         cell-is x h = cl ∙ (ap (λ (k : List ℕ). secondIn (getD k at 0)) (sym x) ∙ select-cell h)
 
-        owner-is : {W : Walk} {X : Place} {e : Expr} {r : Arms} (h : Ready (stmt (select e r)) W X l part nesting at sizes L top holds depth pen) → Owner W at (X .start .cell) (exit h)
+        owner-is : {W : Walk} {X : Place} {e : Expr} {r : Arms} (h : Ready (stmt (select e r)) W X l part nesting at sizes L top holds depth cursor) → Owner W at (X .start .cell) (exit h)
         owner-is h = record { celled = select-cell h; leaving = λ d. select-exit h d }
 
-        second-is : {W : Walk} {X : Place} {e : Expr} {r : Arms} → W .known ≡ known → W .aims ≡ aims → (h : Ready (stmt (select e r)) W X l part nesting at sizes L top holds depth pen)
+        second-is : {W : Walk} {X : Place} {e : Expr} {r : Arms} → W .known ≡ known → W .aims ≡ aims → (h : Ready (stmt (select e r)) W X l part nesting at sizes L top holds depth cursor)
             → ReadyArms r (X .start .cell) 1 (exit h) W (movedTo X (b h)) l (below part (8 * (at + 1 + n - at))) count (nesting - 1)
             (at + 1 + n) sizes (lent (M .env) (M .ends) (M .stack) o) top holds depth p₂
         second-is x y h = select-second h n z (b₁ .kept) (done-first x y h) (cell-is x h) i count ct
@@ -277,9 +277,9 @@ module _ {known aims l part : List ℕ} {nesting at : ℕ} {sizes : List ℕ} {L
               ready = second-is (a .same-known) (a .same-aims) ready;
             }
 
-        module _ {N : Lent} {t : Pen} (b₂ : AnswersArms known aims l (below part (8 * (at + 1 + n - at))) at count (nesting - 1) (at + 1 + n) sizes
+        module _ {N : Lent} {t : Cursor} (b₂ : AnswersArms known aims l (below part (8 * (at + 1 + n - at))) at count (nesting - 1) (at + 1 + n) sizes
             (lent (M .env) (M .ends) (M .stack) o) N top holds depth p₂ t) where
-          done-second : {W : Walk} {X : Place} {e : Expr} {r : Arms} → W .known ≡ known → W .aims ≡ aims → (h : Ready (stmt (select e r)) W X l part nesting at sizes L top holds depth pen)
+          done-second : {W : Walk} {X : Place} {e : Expr} {r : Arms} → W .known ≡ known → W .aims ≡ aims → (h : Ready (stmt (select e r)) W X l part nesting at sizes L top holds depth cursor)
               → DoneArms r (X .start .cell) 1 (exit h) W (movedTo X (b h)) (at + 1 + n) (lent (M .env) (M .ends) (M .stack) o) N depth p₂ t
           done-second {W} {X} {e} {r} x y h = b₂ .done r (X .start .cell) (exit h) W _ x y (owner-is h) (second-is x y h)
 
@@ -288,20 +288,20 @@ module _ {known aims l part : List ℕ} {nesting at : ℕ} {sizes : List ℕ} {L
               let x = a .same-known in let y = a .same-aims in
               select-fits₂ ready n z (b₁ .kept) (done-first x y ready) (cell-is x ready) i (b₂ .kept) (done-second x y ready)
 
-          module _ {p₃ : Pen} {o₂ : List ℕ} (i₂ : (p₃ ≡ moved t) × (o₂ ≡ inkOp t (N .out) 20 0 0)) where
+          module _ {p₃ : Cursor} {o₂ : List ℕ} (i₂ : (p₃ ≡ moved t) × (o₂ ≡ emitOp t (N .out) 20 0 0)) where
             pub asks-select-shape : Shaping (N .stack) o₂ holds depth p₃
             asks-select-shape =
                 let x = a .same-known in let y = a .same-aims in
                 select-shape ready n z (b₁ .kept) (done-first x y ready) (cell-is x ready) i (b₂ .kept) (done-second x y ready) i₂
 
-            module _ {p₄ : Pen} {o₃ : List ℕ} (j : (p₄ ≡ penShaped depth p₃) × (o₃ ≡ inkShape p₃ o₂ holds depth (take depth (N .stack)))) where
+            module _ {p₄ : Cursor} {o₃ : List ℕ} (j : (p₄ ≡ cursorShaped depth p₃) × (o₃ ≡ emitShape p₃ o₂ holds depth (take depth (N .stack)))) where
               pub asks-select-finish : (at < length (N .ends)) × (p₄ .address < 65536)
               asks-select-finish =
                   let x = a .same-known in let y = a .same-aims in
                   select-finish ready n z (b₁ .kept) (done-first x y ready) (cell-is x ready) i (b₂ .kept) (done-second x y ready) i₂ j
 
-              pub answers-select : {u : Pen} {ends : List ℕ} → (u ≡ p₄) × (ends ≡ set (N .ends) at (p₄ .address))
-                  → Answers (IsKind 30) known aims l part nesting at sizes L (lent (N .env) ends (N .stack) o₃) top holds depth pen u
+              pub answers-select : {u : Cursor} {ends : List ℕ} → (u ≡ p₄) × (ends ≡ set (N .ends) at (p₄ .address))
+                  → Answers (IsKind 30) known aims l part nesting at sizes L (lent (N .env) ends (N .stack) o₃) top holds depth cursor u
               answers-select f =
                   let x = a .same-known in let y = a .same-aims in
                   record {

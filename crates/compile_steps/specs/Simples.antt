@@ -38,14 +38,14 @@ use Rattle.compile_code.specs.Encode.{rec, recordOf}
 use Rattle.compile_names.specs.Good.{goodS, goodEs}
 use Rattle.compile_symbols.specs.Numbers.{firstIn, secondIn}
 use Rattle.compile_symbols.specs.Meaning.{meaningOf}
-use Rattle.compile_output.specs.declared.Pen.{Pen}
-use Rattle.compile_output.specs.Ink.{Fits, moved}
-use Rattle.compile_output.specs.Folds.{penAfter, inked}
+use Rattle.compile_output.specs.declared.Cursor.{Cursor}
+use Rattle.compile_output.specs.EmitRecord.{Fits, moved}
+use Rattle.compile_output.specs.EmitCode.{cursorAfter, emitted}
 use Rattle.compile_nodes.specs.Knows.{Walk}
 use Rattle.compile_nodes.specs.Ends.{belowS, endsEs}
 use Rattle.compile_nodes.specs.Ready.{Node, stmt, expr, name, flatN, formN, codeN, endsN, LeavesN, Place, Lent, Kept, Wrote, Ready, Done, deepN, holdsN, needN, goodN, pushed, ValuesEs, ReadyEs}
 use Rattle.compile_nodes.specs.Ready.{DoneEs}
-use Rattle.compile_emit.specs.Owns.{names as namesBy, knownFor, operandsBy, inkLast, lastType}
+use Rattle.compile_emit.specs.EmitEntry.{names as namesBy, knownFor, operandsBy, emitLast, lastType}
 use Rattle.compile_steps.specs.Parts.{below, laid-tail, need-E, fits-rest, lent, flat-N, head-N, wrote-then, wrote-op, movedTo, fits-first}
 use Rattle.compile_steps.specs.Stages.{Stage, stage-start, stage-fits-op, stage-part, Finished, finished-done}
 use Rattle.compile_steps.specs.Named.{meaning-of, class-type, class-first, field-type, field-first, field-second, body-type, body-second}
@@ -157,27 +157,27 @@ module _ (gs : List Global) where
     simple-ends (computes o e) = rw (append-nil _)
     simple-ends (faders e) = rw (append-nil _)
 
-    simple-pen : {n : Node} → Simple n → (pen : Pen) → penAfter (codeN gs n Γ st p) pen ≡ penAfter (codeEs gs (opsOf n) Γ st p ▸ (op (lastOp n) ▸ nil)) pen
-    unfolding codeS penAfter
-    simple-pen (asserts e) pen = refl
-    simple-pen (calls a es) pen = refl
-    simple-pen (levels e f) pen = refl
-    simple-pen (invokes a es) pen = refl
-    simple-pen (fields a e) pen = refl
-    simple-pen (makes c es) pen = refl
-    simple-pen (computes o e) pen = refl
-    simple-pen (faders e) pen = refl
+    simple-cursor : {n : Node} → Simple n → (cursor : Cursor) → cursorAfter (codeN gs n Γ st p) cursor ≡ cursorAfter (codeEs gs (opsOf n) Γ st p ▸ (op (lastOp n) ▸ nil)) cursor
+    unfolding codeS cursorAfter
+    simple-cursor (asserts e) cursor = refl
+    simple-cursor (calls a es) cursor = refl
+    simple-cursor (levels e f) cursor = refl
+    simple-cursor (invokes a es) cursor = refl
+    simple-cursor (fields a e) cursor = refl
+    simple-cursor (makes c es) cursor = refl
+    simple-cursor (computes o e) cursor = refl
+    simple-cursor (faders e) cursor = refl
 
-    simple-inked : {n : Node} → Simple n → (pen : Pen) (l : List ℕ) → inked (codeN gs n Γ st p) pen l ≡ inked (codeEs gs (opsOf n) Γ st p ▸ op (lastOp n)) pen l
-    unfolding codeS penAfter inked
-    simple-inked (asserts e) pen l = refl
-    simple-inked (calls a es) pen l = refl
-    simple-inked (levels e f) pen l = refl
-    simple-inked (invokes a es) pen l = refl
-    simple-inked (fields a e) pen l = refl
-    simple-inked (makes c es) pen l = refl
-    simple-inked (computes o e) pen l = refl
-    simple-inked (faders e) pen l = refl
+    simple-emitted : {n : Node} → Simple n → (cursor : Cursor) (l : List ℕ) → emitted (codeN gs n Γ st p) cursor l ≡ emitted (codeEs gs (opsOf n) Γ st p ▸ op (lastOp n)) cursor l
+    unfolding codeS cursorAfter emitted
+    simple-emitted (asserts e) cursor l = refl
+    simple-emitted (calls a es) cursor l = refl
+    simple-emitted (levels e f) cursor l = refl
+    simple-emitted (invokes a es) cursor l = refl
+    simple-emitted (fields a e) cursor l = refl
+    simple-emitted (makes c es) cursor l = refl
+    simple-emitted (computes o e) cursor l = refl
+    simple-emitted (faders e) cursor l = refl
 
 simple-flat : {n : Node} → Simple n → flatN n ≡ headF (formN n) ∷ flatEs (opsOf n)
 simple-flat (asserts e) = flat-N (stmt (assert e))
@@ -274,11 +274,11 @@ simple-count (faders e) w h = refl
 
 -- ── what is ready ──
 module _ (n : Node) (hyp : IsSimple n) {W : Walk} {X : Place} {l part : List ℕ} {nesting at : ℕ} {sizes : List ℕ} {L : Lent} {top holds depth : ℕ}
-    {pen : Pen} (r : Ready n W X l part nesting at sizes L top holds depth pen) where
-  simple-left : Fits (penAfter (codeEs (W .globals) (opsOf n) (X .around) (X .types) (X .start) ▸ (op (lastOp (W .globals) n) ▸ nil)) pen) (length (L .out))
-  simple-left = rw (simple-pen (W .globals) (X .around) (X .types) (X .start) (simple-of n hyp) pen) at (r .fits)
+    {cursor : Cursor} (r : Ready n W X l part nesting at sizes L top holds depth cursor) where
+  simple-left : Fits (cursorAfter (codeEs (W .globals) (opsOf n) (X .around) (X .types) (X .start) ▸ (op (lastOp (W .globals) n) ▸ nil)) cursor) (length (L .out))
+  simple-left = rw (simple-cursor (W .globals) (X .around) (X .types) (X .start) (simple-of n hyp) cursor) at (r .fits)
 
-  pub simple-operands : (count : ℕ) → count ≡ operandsBy (halfAt part 0) (wordAt part 4) → ReadyEs (opsOf n) W X l (below part 8) count (nesting - 1) (at + 1) sizes L top holds depth pen
+  pub simple-operands : (count : ℕ) → count ≡ operandsBy (halfAt part 0) (wordAt part 4) → ReadyEs (opsOf n) W X l (below part 8) count (nesting - 1) (at + 1) sizes L top holds depth cursor
   simple-operands count c =
       let h = head-N n (r .table) (r .laid .stands) in
       let z : length (flatN n) ≡ suc (length (flatEs (opsOf n))) = ap (length {A = Entry}) (simple-flat (simple-of n hyp)) in
@@ -289,7 +289,7 @@ module _ (n : Node) (hyp : IsSimple n) {W : Walk} {X : Place} {l part : List ℕ
         stood = r .stood;
         room = omega (arith, r .room, simple-room (simple-of n hyp), z);
         ending = omega (arith, r .ending, z);
-        fits = fits-first _ _ pen (length (L .out)) simple-left;
+        fits = fits-first _ _ cursor (length (L .out)) simple-left;
         deep = omega (arith, r .deep, simple-deep (simple-of n hyp));
         good = simple-good (scopesOf (X .around)) (simple-of n hyp) (r .good);
         few-holds = omega (arith, r .few-holds, simple-holds (simple-of n hyp));
@@ -329,12 +329,12 @@ unary-type gs complement t r k h = ap (λ (x : Ty). tyByte (tyIn gs x)) (complem
 type-is : (gs : List Global) (Γ : List Around) (e : Expr) (t : Ty) → typeE (scopesOf Γ) e ≡ some t → tyByte (tyE gs Γ e) ≡ tyByte (tyIn gs t)
 type-is gs Γ e t h = ap (λ (x : Option Ty). tyByte (tyIn gs (orInteger x))) h
 
-module _ {W : Walk} {X : Place} {l part : List ℕ} {nesting at : ℕ} {sizes : List ℕ} {L : Lent} {top holds depth : ℕ} {pen : Pen} (k : ℕ)
+module _ {W : Walk} {X : Place} {l part : List ℕ} {nesting at : ℕ} {sizes : List ℕ} {L : Lent} {top holds depth : ℕ} {cursor : Cursor} (k : ℕ)
     (known : k ≡ knownFor (halfAt part 0) (halfAt part 2) (envOf (L .env) top) (W .known)) where
   -- the last instruction
-  simple-wrote : {n : Node} → Simple n → Ready n W X l part nesting at sizes L top holds depth pen → {o out : List ℕ} {p q : Pen}
-      → (q ≡ moved p) × (out ≡ inkLast (halfAt part 0) (halfAt part 2) k p o) → Wrote o out p q (op (lastOp (W .globals) n))
-  unfolding recordOf inkLast namesBy goodS
+  simple-wrote : {n : Node} → Simple n → Ready n W X l part nesting at sizes L top holds depth cursor → {o out : List ℕ} {p q : Cursor}
+      → (q ≡ moved p) × (out ≡ emitLast (halfAt part 0) (halfAt part 2) k p o) → Wrote o out p q (op (lastOp (W .globals) n))
+  unfolding recordOf emitLast namesBy goodS
   simple-wrote (asserts e) r j = let d = head-N (stmt (assert e)) (r .table) (r .laid .stands) in wrote-op assertOp 19 0 0 (rw (d .kind) at j) (λ z. refl)
   simple-wrote (calls a es) r j =
       let d = head-N (stmt (call a es)) (r .table) (r .laid .stands) in
@@ -360,7 +360,7 @@ module _ {W : Walk} {X : Place} {l part : List ℕ} {nesting at : ℕ} {sizes : 
   simple-wrote (faders e) r j = let d = head-N (expr (fader e)) (r .table) (r .laid .stands) in wrote-op readFader 16 0 0 (rw (d .kind) at j) (λ z. refl)
 
   -- the type of the result; the first operand's stands on the stack
-  simple-leaves : {n : Node} → Simple n → Ready n W X l part nesting at sizes L top holds depth pen → (stack : List ℕ) → map tyByte
+  simple-leaves : {n : Node} → Simple n → Ready n W X l part nesting at sizes L top holds depth cursor → (stack : List ℕ) → map tyByte
       (reverse (pushed (W .globals) (X .around) (opsOf n) (X .types))) ≡ take (depth + countExprs (opsOf n)) stack
       → length stack ≡ length (L .stack) → (v : ℕ) → v ≡ lastType (halfAt part 0) (halfAt part 2) k (getD stack depth 0) → LeavesN (W .globals) n (X .around) (set stack depth v) depth
   unfolding lastType namesBy goodS typeE pushed countExprs measureS
@@ -390,9 +390,9 @@ module _ {W : Walk} {X : Place} {l part : List ℕ} {nesting at : ℕ} {sizes : 
       let d = head-N (expr (fader e)) (r .table) (r .laid .stands) in
       getD-set-same stack depth v 0 (omega (arith, s, r .stood .stacked, r .few-values, need-E (fader e))) ∙ (rw (d .kind) at g)
 
-  module _ (n : Node) (hyp : IsSimple n) (r : Ready n W X l part nesting at sizes L top holds depth pen) {M : Lent} {p : Pen}
-      (kept : Kept L M top depth) (d : DoneEs (opsOf n) W X (at + 1) L M depth pen p) where
-    simple-1 : Stage W l L top holds depth pen at M (movedTo X (after (codeEs (W .globals) (opsOf n) (X .around) (X .types) (X .start)) (X .start)))
+  module _ (n : Node) (hyp : IsSimple n) (r : Ready n W X l part nesting at sizes L top holds depth cursor) {M : Lent} {p : Cursor}
+      (kept : Kept L M top depth) (d : DoneEs (opsOf n) W X (at + 1) L M depth cursor p) where
+    simple-1 : Stage W l L top holds depth cursor at M (movedTo X (after (codeEs (W .globals) (opsOf n) (X .around) (X .types) (X .start)) (X .start)))
         depth p (nil ▸ codeEs (W .globals) (opsOf n) (X .around) (X .types) (X .start)) (op (lastOp (W .globals) n) ▸ nil)
         ([] ++ endsEs (W .globals) (opsOf n) (X .around) (X .types) (X .start))
     simple-1 =
@@ -403,10 +403,10 @@ module _ {W : Walk} {X : Place} {l part : List ℕ} {nesting at : ℕ} {sizes : 
     pub simple-fits : Fits (moved p) (length (M .out))
     simple-fits = stage-fits-op (lastOp (W .globals) n) nil simple-1
 
-    module _ {out : List ℕ} {q : Pen} (j : (q ≡ moved p) × (out ≡ inkLast (halfAt part 0) (halfAt part 2) k p (M .out))) where
-      simple-2 : Finished L pen at out (M .ends) q ((nil ▸ codeEs (W .globals) (opsOf n) (X .around) (X .types) (X .start))
+    module _ {out : List ℕ} {q : Cursor} (j : (q ≡ moved p) × (out ≡ emitLast (halfAt part 0) (halfAt part 2) k p (M .out))) where
+      simple-2 : Finished L cursor at out (M .ends) q ((nil ▸ codeEs (W .globals) (opsOf n) (X .around) (X .types) (X .start))
           ▸ op (lastOp (W .globals) n)) ([] ++ endsEs (W .globals) (opsOf n) (X .around) (X .types) (X .start))
-      unfolding penAfter
+      unfolding cursorAfter
       simple-2 =
           let w = simple-wrote (simple-of n hyp) r j in
           record { wrote = wrote-then (simple-1 .wrote) w; ended = simple-1 .ended; small = fits-rest (op (lastOp (W .globals) n)) nil w (simple-1 .fits) .address-small }
@@ -415,10 +415,10 @@ module _ {W : Walk} {X : Place} {l part : List ℕ} {nesting at : ℕ} {sizes : 
       simple-small = simple-2 .small
 
       pub simple-done : (v : ℕ) → v ≡ lastType (halfAt part 0) (halfAt part 2) k (getD (M .stack) depth 0) → {ends : List ℕ} → ends ≡ set (M .ends) at (q .address)
-          → Done n W X at L (lent (M .env) ends (set (M .stack) depth v) out) depth pen q
-      unfolding penAfter inked
+          → Done n W X at L (lent (M .env) ends (set (M .stack) depth v) out) depth cursor q
+      unfolding cursorAfter emitted
       simple-done v t f =
-          finished-done n X simple-2 (r .stood .address) (sym (simple-pen (W .globals) (X .around) (X .types) (X .start) (simple-of n hyp) pen))
-          (sym (simple-inked (W .globals) (X .around) (X .types) (X .start) (simple-of n hyp) pen (L .out)))
+          finished-done n X simple-2 (r .stood .address) (sym (simple-cursor (W .globals) (X .around) (X .types) (X .start) (simple-of n hyp) cursor))
+          (sym (simple-emitted (W .globals) (X .around) (X .types) (X .start) (simple-of n hyp) cursor (L .out)))
           (simple-ends (W .globals) (X .around) (X .types) (X .start) (simple-of n hyp)) f (M .env) (set (M .stack) depth v)
           (simple-leaves (simple-of n hyp) r (M .stack) (d .typed) (kept .same-stack) v t)

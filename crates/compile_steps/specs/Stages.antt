@@ -11,63 +11,63 @@ use Rattle.bytecode.specs.Instructions.{Instr}
 use Rattle.compile_code.specs.Code.{Code, nil, op, mark, _▸_, at, skip, after}
 use Rattle.compile_code.specs.Compile.{found}
 use Rattle.compile_code.specs.Encode.{rec, recordOf}
-use Rattle.compile_output.specs.declared.Pen.{Pen}
-use Rattle.compile_output.specs.Ink.{Fits, moved, penShaped, inkOp, inkShape}
-use Rattle.compile_output.specs.Folds.{penAfter, inked, later-self, address-after}
+use Rattle.compile_output.specs.declared.Cursor.{Cursor}
+use Rattle.compile_output.specs.EmitRecord.{Fits, moved, cursorShaped, emitOp, emitShape}
+use Rattle.compile_output.specs.EmitCode.{cursorAfter, emitted, later-self, address-after}
 use Rattle.compile_nodes.specs.Knows.{Walk}
 use Rattle.compile_nodes.specs.Ready.{Node, codeN, endsN, LeavesN, Place, Lent, Stood, Kept, Wrote, Done}
 use Rattle.compile_steps.specs.Parts.{lent, kept-self, kept-then, kept-less, kept-out, wrote-nil, wrote-then, wrote-op, wrote-mark, wrote-length, wrote-later, wrote-address, fits-rest}
 use Rattle.compile_steps.specs.Parts.{fits-first, movedTo, heldOn, stood-next, stood-push, stood-shape, ended-own, ended-then}
 
--- from what was lent at first (L, with the pen) to what is now (M, with the pen p): the place reached is Y, with d values on the stack
-pub record Stage (W : Walk) (l : List ℕ) (L : Lent) (top holds depth : ℕ) (pen : Pen) (at : ℕ) (M : Lent) (Y : Place) (d : ℕ) (p : Pen) (before left : Code) (es : List ℕ) : Type 0 where
+-- from what was lent at first (L, with the cursor) to what is now (M, with the cursor p): the place reached is Y, with d values on the stack
+pub record Stage (W : Walk) (l : List ℕ) (L : Lent) (top holds depth : ℕ) (cursor : Cursor) (at : ℕ) (M : Lent) (Y : Place) (d : ℕ) (p : Cursor) (before left : Code) (es : List ℕ) : Type 0 where
   pub kept : Kept L M top depth
   pub more : depth ≤ d
   pub stood : Stood W Y l M top holds d p
-  pub wrote : Wrote (L .out) (M .out) pen p before
-  pub fits : Fits (penAfter left p) (length (M .out))
+  pub wrote : Wrote (L .out) (M .out) cursor p before
+  pub fits : Fits (cursorAfter left p) (length (M .out))
   pub ended : M .ends ≡ sets (L .ends) (at + 1) es
 
-pub stage-start : {W : Walk} {X : Place} {l : List ℕ} {L : Lent} {top holds depth : ℕ} {pen : Pen} (at : ℕ) (left : Code)
-    → Stood W X l L top holds depth pen → Fits (penAfter left pen) (length (L .out))
-    → Stage W l L top holds depth pen at L X depth pen nil left []
-stage-start {L = L} {pen = pen} at left h f = record { kept = kept-self L; more = omega arith; stood = h; wrote = wrote-nil (L .out) pen; fits = f; ended = refl }
+pub stage-start : {W : Walk} {X : Place} {l : List ℕ} {L : Lent} {top holds depth : ℕ} {cursor : Cursor} (at : ℕ) (left : Code)
+    → Stood W X l L top holds depth cursor → Fits (cursorAfter left cursor) (length (L .out))
+    → Stage W l L top holds depth cursor at L X depth cursor nil left []
+stage-start {L = L} {cursor = cursor} at left h f = record { kept = kept-self L; more = omega arith; stood = h; wrote = wrote-nil (L .out) cursor; fits = f; ended = refl }
 
-module _ {W : Walk} {l : List ℕ} {L : Lent} {top holds depth : ℕ} {pen : Pen} {at : ℕ} {M : Lent} {Y : Place} {d : ℕ} {p : Pen} {before : Code} {es : List ℕ} where
+module _ {W : Walk} {l : List ℕ} {L : Lent} {top holds depth : ℕ} {cursor : Cursor} {at : ℕ} {M : Lent} {Y : Place} {d : ℕ} {p : Cursor} {before : Code} {es : List ℕ} where
   -- what is asked before an instruction or a shape
-  pub stage-fits-op : (i : Instr) (left : Code) → Stage W l L top holds depth pen at M Y d p before (op i ▸ left) es → Fits (moved p) (length (M .out))
-  unfolding penAfter
+  pub stage-fits-op : (i : Instr) (left : Code) → Stage W l L top holds depth cursor at M Y d p before (op i ▸ left) es → Fits (moved p) (length (M .out))
+  unfolding cursorAfter
   stage-fits-op i left h = fits-first (op i) left p (length (M .out)) (h .fits)
 
-  pub stage-fits-mark : (left : Code) → Stage W l L top holds depth pen at M Y d p before (mark (found (Y .around) (Y .types)) ▸ left) es → Fits (penShaped d p) (length (M .out))
-  unfolding penAfter
+  pub stage-fits-mark : (left : Code) → Stage W l L top holds depth cursor at M Y d p before (mark (found (Y .around) (Y .types)) ▸ left) es → Fits (cursorShaped d p) (length (M .out))
+  unfolding cursorAfter
   stage-fits-mark left h = rw (h .stood .deep) (fits-first (mark (found (Y .around) (Y .types))) left p (length (M .out)) (h .fits))
 
   -- an instruction
-  module _ (i : Instr) (left : Code) (h : Stage W l L top holds depth pen at M Y d p before (op i ▸ left) es) {out : List ℕ} {q : Pen} (k a b : ℕ) (e : (q ≡ moved p) × (out ≡ inkOp p (M .out) k a b))
+  module _ (i : Instr) (left : Code) (h : Stage W l L top holds depth cursor at M Y d p before (op i ▸ left) es) {out : List ℕ} {q : Cursor} (k a b : ℕ) (e : (q ≡ moved p) × (out ≡ emitOp p (M .out) k a b))
       (same : W .dry ≡ false → recordOf i ≡ rec k a b) where
     op-wrote : Wrote (M .out) out p q (op i)
     op-wrote = wrote-op i k a b e (λ z. same (sym (h .stood .dryness) ∙ z))
 
-    pub stage-op : Stage W l L top holds depth pen at (lent (M .env) (M .ends) (M .stack) out) (movedTo Y (skip 1 (Y .start))) d q (before ▸ op i) left es
+    pub stage-op : Stage W l L top holds depth cursor at (lent (M .env) (M .ends) (M .stack) out) (movedTo Y (skip 1 (Y .start))) d q (before ▸ op i) left es
     stage-op =
         let w = op-wrote in
         record {
           kept = kept-then (h .kept) (kept-out M out (wrote-length w));
           more = h .more;
-          stood = stood-next (h .stood) (kept-out M out (wrote-length w)) (wrote-later w) (skip 1 (Y .start)) (ap (λ (t : Pen). t .address) (e .0) ∙ omega (arith, h .stood .address));
+          stood = stood-next (h .stood) (kept-out M out (wrote-length w)) (wrote-later w) (skip 1 (Y .start)) (ap (λ (t : Cursor). t .address) (e .0) ∙ omega (arith, h .stood .address));
           wrote = wrote-then (h .wrote) w;
           fits = fits-rest (op i) left w (h .fits);
           ended = h .ended;
         }
 
   -- a shape
-  module _ (left : Code) (h : Stage W l L top holds depth pen at M Y d p before (mark (found (Y .around) (Y .types)) ▸ left) es) {out : List ℕ} {q : Pen}
-      (e : (q ≡ penShaped d p) × (out ≡ inkShape p (M .out) holds d (take d (M .stack)))) where
+  module _ (left : Code) (h : Stage W l L top holds depth cursor at M Y d p before (mark (found (Y .around) (Y .types)) ▸ left) es) {out : List ℕ} {q : Cursor}
+      (e : (q ≡ cursorShaped d p) × (out ≡ emitShape p (M .out) holds d (take d (M .stack)))) where
     mark-wrote : Wrote (M .out) out p q (mark (found (Y .around) (Y .types)))
     mark-wrote = wrote-mark (found (Y .around) (Y .types)) holds d (M .stack) (stood-shape (h .stood)) e
 
-    pub stage-mark : Stage W l L top holds depth pen at (lent (M .env) (M .ends) (M .stack) out) Y d q (before ▸ mark (found (Y .around) (Y .types))) left es
+    pub stage-mark : Stage W l L top holds depth cursor at (lent (M .env) (M .ends) (M .stack) out) Y d q (before ▸ mark (found (Y .around) (Y .types))) left es
     unfolding after
     stage-mark =
         let w = mark-wrote in
@@ -81,9 +81,9 @@ module _ {W : Walk} {l : List ℕ} {L : Lent} {top holds depth : ℕ} {pen : Pen
         }
 
   -- a part that was walked
-  module _ (x left : Code) (fs : List ℕ) (h : Stage W l L top holds depth pen at M Y d p before (x ▸ left) es) {N : Lent} {q : Pen} (place : ℕ) (k : Kept M N top d)
+  module _ (x left : Code) (fs : List ℕ) (h : Stage W l L top holds depth cursor at M Y d p before (x ▸ left) es) {N : Lent} {q : Cursor} (place : ℕ) (k : Kept M N top d)
       (w : Wrote (M .out) (N .out) p q x) (ends : N .ends ≡ sets (M .ends) place fs) (where-at : place ≡ at + 1 + length es) where
-    pub stage-part : Stage W l L top holds depth pen at N (movedTo Y (after x (Y .start))) d q (before ▸ x) left (es ++ fs)
+    pub stage-part : Stage W l L top holds depth cursor at N (movedTo Y (after x (Y .start))) d q (before ▸ x) left (es ++ fs)
     stage-part =
         record {
           kept = kept-then (h .kept) (kept-less (h .more) k);
@@ -94,7 +94,7 @@ module _ {W : Walk} {l : List ℕ} {L : Lent} {top holds depth : ℕ} {pen : Pen
           ended = ended-then (L .ends) (M .ends) (N .ends) (at + 1) place es fs (h .ended) ends where-at;
         }
 
-    pub stage-push : (t : Ty) → getD (N .stack) d 0 ≡ tyByte t → d < 32 → Stage W l L top holds depth pen at N (heldOn t Y (after x (Y .start))) (d + 1) q (before ▸ x) left (es ++ fs)
+    pub stage-push : (t : Ty) → getD (N .stack) d 0 ≡ tyByte t → d < 32 → Stage W l L top holds depth cursor at N (heldOn t Y (after x (Y .start))) (d + 1) q (before ▸ x) left (es ++ fs)
     stage-push t g small =
         record {
           kept = kept-then (h .kept) (kept-less (h .more) k);
@@ -106,31 +106,31 @@ module _ {W : Walk} {l : List ℕ} {L : Lent} {top holds depth : ℕ} {pen : Pen
         }
 
   -- the end
-  pub stage-done : (n : Node) (X : Place) → Stage W l L top holds depth pen at M Y d p before nil es → pen .address ≡ X .start .address
-      → penAfter before pen ≡ penAfter (codeN (W .globals) n (X .around) (X .types) (X .start)) pen
-      → inked before pen (L .out) ≡ inked (codeN (W .globals) n (X .around) (X .types) (X .start)) pen (L .out)
+  pub stage-done : (n : Node) (X : Place) → Stage W l L top holds depth cursor at M Y d p before nil es → cursor .address ≡ X .start .address
+      → cursorAfter before cursor ≡ cursorAfter (codeN (W .globals) n (X .around) (X .types) (X .start)) cursor
+      → emitted before cursor (L .out) ≡ emitted (codeN (W .globals) n (X .around) (X .types) (X .start)) cursor (L .out)
       → endsN (W .globals) n (X .around) (X .types) (X .start) ≡ after (codeN (W .globals) n (X .around) (X .types) (X .start)) (X .start) .address ∷ es
       → {ends : List ℕ} → ends ≡ set (M .ends) at (p .address) → (stack : List ℕ) → LeavesN (W .globals) n (X .around) stack depth
-      → Done n W X at L (lent (M .env) ends stack (M .out)) depth pen p
+      → Done n W X at L (lent (M .env) ends stack (M .out)) depth cursor p
   stage-done n X h a e f g {ends} k stack leaves =
       let code = codeN (W .globals) n (X .around) (X .types) (X .start) in
-      let z : p .address ≡ after code (X .start) .address = ap (λ (t : Pen). t .address) (h .wrote .penned ∙ e) ∙ address-after code pen (X .start) a in
+      let z : p .address ≡ after code (X .start) .address = ap (λ (t : Cursor). t .address) (h .wrote .advanced ∙ e) ∙ address-after code cursor (X .start) a in
       record {
-        wrote = record { penned = h .wrote .penned ∙ e; written = h .wrote .written ∙ f };
+        wrote = record { advanced = h .wrote .advanced ∙ e; written = h .wrote .written ∙ f };
         ended = ended-own (L .ends) (M .ends) ends at (p .address) es (h .ended) k ∙ rw (g, z);
         leaves = leaves;
       }
 
   -- the same code, written otherwise
-  pub stage-as : {left : Code} (other rest : Code) → Stage W l L top holds depth pen at M Y d p before left es
-      → penAfter before pen ≡ penAfter other pen → inked before pen (L .out) ≡ inked other pen (L .out) → penAfter left p ≡ penAfter rest p
-      → Stage W l L top holds depth pen at M Y d p other rest es
+  pub stage-as : {left : Code} (other rest : Code) → Stage W l L top holds depth cursor at M Y d p before left es
+      → cursorAfter before cursor ≡ cursorAfter other cursor → emitted before cursor (L .out) ≡ emitted other cursor (L .out) → cursorAfter left p ≡ cursorAfter rest p
+      → Stage W l L top holds depth cursor at M Y d p other rest es
   stage-as other rest h e f g =
-      record { kept = h .kept; more = h .more; stood = h .stood; wrote = record { penned = h .wrote .penned ∙ e; written = h .wrote .written ∙ f }; fits = rw g at (h .fits); ended = h .ended }
+      record { kept = h .kept; more = h .more; stood = h .stood; wrote = record { advanced = h .wrote .advanced ∙ e; written = h .wrote .written ∙ f }; fits = rw g at (h .fits); ended = h .ended }
 
   -- a value on the stack is counted
-  pub stage-hold : {left : Code} (t : Ty) → Stage W l L top holds depth pen at M Y d p before left es → getD (M .stack) d 0 ≡ tyByte t → d < 32
-      → Stage W l L top holds depth pen at M (heldOn t Y (Y .start)) (d + 1) p before left es
+  pub stage-hold : {left : Code} (t : Ty) → Stage W l L top holds depth cursor at M Y d p before left es → getD (M .stack) d 0 ≡ tyByte t → d < 32
+      → Stage W l L top holds depth cursor at M (heldOn t Y (Y .start)) (d + 1) p before left es
   stage-hold t h g small =
       record {
         kept = h .kept;
@@ -143,28 +143,28 @@ module _ {W : Walk} {l : List ℕ} {L : Lent} {top holds depth : ℕ} {pen : Pen
       }
 
 -- what is done at the end, and that its last address is one
-pub record Finished (L : Lent) (pen : Pen) (at : ℕ) (out ends : List ℕ) (r : Pen) (before : Code) (es : List ℕ) : Type 0 where
-  pub wrote : Wrote (L .out) out pen r before
+pub record Finished (L : Lent) (cursor : Cursor) (at : ℕ) (out ends : List ℕ) (r : Cursor) (before : Code) (es : List ℕ) : Type 0 where
+  pub wrote : Wrote (L .out) out cursor r before
   pub ended : ends ≡ sets (L .ends) (at + 1) es
   pub small : r .address < 65536
 
-pub finished : {W : Walk} {l : List ℕ} {L : Lent} {top holds depth : ℕ} {pen : Pen} {at : ℕ} {M : Lent} {Y : Place} {d : ℕ} {p : Pen} {before : Code} {es : List ℕ}
-    → Stage W l L top holds depth pen at M Y d p before nil es → Finished L pen at (M .out) (M .ends) p before es
-unfolding penAfter
+pub finished : {W : Walk} {l : List ℕ} {L : Lent} {top holds depth : ℕ} {cursor : Cursor} {at : ℕ} {M : Lent} {Y : Place} {d : ℕ} {p : Cursor} {before : Code} {es : List ℕ}
+    → Stage W l L top holds depth cursor at M Y d p before nil es → Finished L cursor at (M .out) (M .ends) p before es
+unfolding cursorAfter
 finished h = record { wrote = h .wrote; ended = h .ended; small = h .fits .address-small }
 
-pub finished-done : {W : Walk} {L : Lent} {pen : Pen} {at : ℕ} {out ends : List ℕ} {r : Pen} {before : Code} {es : List ℕ} {depth : ℕ} (n : Node)
-    (X : Place) → Finished L pen at out ends r before es → pen .address ≡ X .start .address
-    → penAfter before pen ≡ penAfter (codeN (W .globals) n (X .around) (X .types) (X .start)) pen
-    → inked before pen (L .out) ≡ inked (codeN (W .globals) n (X .around) (X .types) (X .start)) pen (L .out)
+pub finished-done : {W : Walk} {L : Lent} {cursor : Cursor} {at : ℕ} {out ends : List ℕ} {r : Cursor} {before : Code} {es : List ℕ} {depth : ℕ} (n : Node)
+    (X : Place) → Finished L cursor at out ends r before es → cursor .address ≡ X .start .address
+    → cursorAfter before cursor ≡ cursorAfter (codeN (W .globals) n (X .around) (X .types) (X .start)) cursor
+    → emitted before cursor (L .out) ≡ emitted (codeN (W .globals) n (X .around) (X .types) (X .start)) cursor (L .out)
     → endsN (W .globals) n (X .around) (X .types) (X .start) ≡ after (codeN (W .globals) n (X .around) (X .types) (X .start)) (X .start) .address ∷ es
     → {late : List ℕ} → late ≡ set ends at (r .address) → (env stack : List ℕ) → LeavesN (W .globals) n (X .around) stack depth
-    → Done n W X at L (lent env late stack out) depth pen r
-finished-done {W} {L} {pen} {at} {out} {ends} {r} {before} {es} n X h a e f g {late} k env stack leaves =
+    → Done n W X at L (lent env late stack out) depth cursor r
+finished-done {W} {L} {cursor} {at} {out} {ends} {r} {before} {es} n X h a e f g {late} k env stack leaves =
     let code = codeN (W .globals) n (X .around) (X .types) (X .start) in
-    let z : r .address ≡ after code (X .start) .address = ap (λ (t : Pen). t .address) (h .wrote .penned ∙ e) ∙ address-after code pen (X .start) a in
+    let z : r .address ≡ after code (X .start) .address = ap (λ (t : Cursor). t .address) (h .wrote .advanced ∙ e) ∙ address-after code cursor (X .start) a in
     record {
-      wrote = record { penned = h .wrote .penned ∙ e; written = h .wrote .written ∙ f };
+      wrote = record { advanced = h .wrote .advanced ∙ e; written = h .wrote .written ∙ f };
       ended = ended-own (L .ends) ends late at (r .address) es (h .ended) k ∙ rw (g, z);
       leaves = leaves;
     }

@@ -22,13 +22,13 @@ use Rattle.compile_code.specs.Code.{Code, nil, op, mark, _▸_, At, after}
 use Rattle.compile_code.specs.Compile.{Around, found, Way, plainly, marked, ifTrue, ifFalse, wayOf, codeWay, tyIn}
 use Rattle.compile_code.specs.Encode.{rec, recordOf}
 use Rattle.compile_names.specs.Types.{took}
-use Rattle.compile_output.specs.declared.Pen.{Pen}
-use Rattle.compile_output.specs.Ink.{moved, penShaped}
-use Rattle.compile_output.specs.Folds.{penAfter, inked}
+use Rattle.compile_output.specs.declared.Cursor.{Cursor}
+use Rattle.compile_output.specs.EmitRecord.{moved, cursorShaped}
+use Rattle.compile_output.specs.EmitCode.{cursorAfter, emitted}
 use Rattle.compile_nodes.specs.Knows.{Walk}
 use Rattle.compile_nodes.specs.Ends.{seconds, begins}
 use Rattle.compile_nodes.specs.Ready.{Place, Lent, Kept, Wrote}
-use Rattle.compile_emit.specs.Owns.{wayBy, waitingBy, pairType, penBetween, inkBetween, penBehind, inkBehind}
+use Rattle.compile_emit.specs.EmitEntry.{wayBy, waitingBy, pairType, cursorBetween, emitBetween, cursorBehind, emitBehind}
 use Rattle.compile_steps.specs.Parts.{lent, kept-then, kept-stack}
 use Rattle.compile_steps.specs.Stages.{Stage, stage-op, stage-mark, stage-part, stage-push, stage-as, stage-hold, Finished, finished}
 
@@ -123,20 +123,20 @@ codeParts w o Γ st t x p f =
     let q = begins w (after x p) in let y = f (seconds w t st) q in
     x ▸ (codeBetween w Γ st t q (after y q .address) ▸ (y ▸ (codeBehind w o Γ st (after y q .address) ▸ nil)))
 
-module _ (o : Binary) (Γ : List Around) (st : List Ty) (t : Ty) (x : Code) (p : At) (f : List Ty → At → Code) (pen : Pen) where
-  pub parts-pen : (w : Way) → penAfter (codeWay w o Γ st t x p f) pen ≡ penAfter (codeParts w o Γ st t x p f) pen
-  unfolding penAfter
-  parts-pen plainly = refl
-  parts-pen marked = refl
-  parts-pen ifTrue = refl
-  parts-pen ifFalse = refl
+module _ (o : Binary) (Γ : List Around) (st : List Ty) (t : Ty) (x : Code) (p : At) (f : List Ty → At → Code) (cursor : Cursor) where
+  pub parts-cursor : (w : Way) → cursorAfter (codeWay w o Γ st t x p f) cursor ≡ cursorAfter (codeParts w o Γ st t x p f) cursor
+  unfolding cursorAfter
+  parts-cursor plainly = refl
+  parts-cursor marked = refl
+  parts-cursor ifTrue = refl
+  parts-cursor ifFalse = refl
 
-  pub parts-inked : (w : Way) (l : List ℕ) → inked (codeWay w o Γ st t x p f) pen l ≡ inked (codeParts w o Γ st t x p f) pen l
-  unfolding penAfter inked
-  parts-inked plainly l = refl
-  parts-inked marked l = refl
-  parts-inked ifTrue l = refl
-  parts-inked ifFalse l = refl
+  pub parts-emitted : (w : Way) (l : List ℕ) → emitted (codeWay w o Γ st t x p f) cursor l ≡ emitted (codeParts w o Γ st t x p f) cursor l
+  unfolding cursorAfter emitted
+  parts-emitted plainly l = refl
+  parts-emitted marked l = refl
+  parts-emitted ifTrue l = refl
+  parts-emitted ifFalse l = refl
 
 -- the values on the stack while the second operand is computed
 abbrev pub waits : Way → ℕ → ℕ
@@ -171,15 +171,15 @@ operator-byte either = refl
 operator-byte shiftLeft = refl
 operator-byte shiftRight = refl
 
-module _ {W : Walk} {l : List ℕ} {L : Lent} {top holds depth : ℕ} {pen : Pen} {at : ℕ} {X : Place} (x : Code) (t : Ty) (end : ℕ) (left : Code) (es : List ℕ) {M : Lent} {p : Pen}
-    (k : Kept L M top depth) (wrote : Wrote (L .out) (M .out) pen p x) (ends : M .ends ≡ sets (L .ends) (at + 1) es) (leaves : getD (M .stack) depth 0 ≡ tyByte t) (small : depth < 32)
-    (b : ℕ) (target : W .dry ≡ false → b ≡ end) {out : List ℕ} {q : Pen} where
+module _ {W : Walk} {l : List ℕ} {L : Lent} {top holds depth : ℕ} {cursor : Cursor} {at : ℕ} {X : Place} (x : Code) (t : Ty) (end : ℕ) (left : Code) (es : List ℕ) {M : Lent} {p : Cursor}
+    (k : Kept L M top depth) (wrote : Wrote (L .out) (M .out) cursor p x) (ends : M .ends ≡ sets (L .ends) (at + 1) es) (leaves : getD (M .stack) depth 0 ≡ tyByte t) (small : depth < 32)
+    (b : ℕ) (target : W .dry ≡ false → b ≡ end) {out : List ℕ} {q : Cursor} where
   pub between-stage : (w : Way)
-      → Stage W l L top holds depth pen at L X depth pen nil (x ▸ (codeBetween w (X .around) (X .types) t (begins w (after x (X .start))) end ▸ left)) []
-      → (q ≡ penBetween (wayNumber w) depth p) × (out ≡ inkBetween (wayNumber w) b holds (M .stack) depth p (M .out))
-      → Stage W l L top holds depth pen at (lent (M .env) (M .ends) (M .stack) out) (secondPlace w t X (after x (X .start))) (waits w depth) q
+      → Stage W l L top holds depth cursor at L X depth cursor nil (x ▸ (codeBetween w (X .around) (X .types) t (begins w (after x (X .start))) end ▸ left)) []
+      → (q ≡ cursorBetween (wayNumber w) depth p) × (out ≡ emitBetween (wayNumber w) b holds (M .stack) depth p (M .out))
+      → Stage W l L top holds depth cursor at (lent (M .env) (M .ends) (M .stack) out) (secondPlace w t X (after x (X .start))) (waits w depth) q
       ((nil ▸ x) ▸ codeBetween w (X .around) (X .types) t (begins w (after x (X .start))) end) left ([] ++ es)
-  unfolding penBetween inkBetween penAfter inked recordOf
+  unfolding cursorBetween emitBetween cursorAfter emitted recordOf
   between-stage plainly h j =
       let s = stage-push x (nil ▸ left) es h (at + 1) k wrote ends (omega arith) t leaves small in
       rw (j .0, j .1) (stage-as ((nil ▸ x) ▸ nil) left s refl refl refl)
@@ -202,15 +202,15 @@ module _ {W : Walk} {l : List ℕ} {L : Lent} {top holds depth : ℕ} {pen : Pen
       let s5 = stage-mark left s4 j in
       stage-as ((nil ▸ x) ▸ (op (goUnless z) ▸ (op (push (log true)) ▸ (op (go end) ▸ mark (found (X .around) (X .types)))))) left s5 refl refl refl
 
-module _ {W : Walk} {l : List ℕ} {L : Lent} {top holds depth : ℕ} {pen : Pen} {at : ℕ} (X : Place) (o : Binary) (t : Ty) (s : At) (y : Code) (end : ℕ)
-    (es fs : List ℕ) {before : Code} {M N : Lent} {q u : Pen}
+module _ {W : Walk} {l : List ℕ} {L : Lent} {top holds depth : ℕ} {cursor : Cursor} {at : ℕ} (X : Place) (o : Binary) (t : Ty) (s : At) (y : Code) (end : ℕ)
+    (es fs : List ℕ) {before : Code} {M N : Lent} {q u : Cursor}
     (place : ℕ) (wrote : Wrote (M .out) (N .out) q u y) (ends : N .ends ≡ sets (M .ends) place fs) (where-at : place ≡ at + 1 + length es) (v : ℕ) (small : depth < 32)
-    (b : ℕ) (target : W .dry ≡ false → b ≡ end) {out : List ℕ} {r : Pen} where
-  pub behind-stage : (w : Way) → Stage W l L top holds depth pen at M (secondPlace w t X s) (waits w depth) q before (y ▸ (codeBehind w o (X .around) (X .types) end ▸ nil)) es
+    (b : ℕ) (target : W .dry ≡ false → b ≡ end) {out : List ℕ} {r : Cursor} where
+  pub behind-stage : (w : Way) → Stage W l L top holds depth cursor at M (secondPlace w t X s) (waits w depth) q before (y ▸ (codeBehind w o (X .around) (X .types) end ▸ nil)) es
       → Kept M N top (waits w depth) → Tested w (getD (set (N .stack) depth v) depth 0 ≡ tyByte logical)
-      → (r ≡ penBehind (wayNumber w) depth u) × (out ≡ inkBehind (wayNumber w) (binaryCode o) b holds (set (N .stack) depth v) depth u (N .out))
-      → Finished L pen at out (N .ends) r ((before ▸ y) ▸ codeBehind w o (X .around) (X .types) end) (es ++ fs)
-  unfolding penBehind inkBehind penAfter inked recordOf
+      → (r ≡ cursorBehind (wayNumber w) depth u) × (out ≡ emitBehind (wayNumber w) (binaryCode o) b holds (set (N .stack) depth v) depth u (N .out))
+      → Finished L cursor at out (N .ends) r ((before ▸ y) ▸ codeBehind w o (X .around) (X .types) end) (es ++ fs)
+  unfolding cursorBehind emitBehind cursorAfter emitted recordOf
   behind-stage plainly h k g j =
       let s3 = stage-part y (op (operate (binary o)) ▸ nil) fs h place k wrote ends where-at in
       finished (stage-op (operate (binary o)) nil s3 7 (binaryCode o % 256) 0 j (λ dry. ap (λ (n : ℕ). rec 7 n 0) (operator-byte o)))
@@ -233,23 +233,23 @@ module _ {W : Walk} {l : List ℕ} {L : Lent} {top holds depth : ℕ} {pen : Pen
       let s3 = stage-push y (mark (found (X .around) (logical ∷ X .types)) ▸ nil) fs h place (kept-then k (kept-stack N depth v (omega arith))) wrote ends where-at logical g small in
       finished (stage-mark nil s3 j)
 
-module _ (Γ : List Around) (st : List Ty) (end d : ℕ) (p : Pen) (deep : d ≡ length st) where
+module _ (Γ : List Around) (st : List Ty) (end d : ℕ) (p : Cursor) (deep : d ≡ length st) where
   longer : (t : Ty) → d + 1 ≡ length (t ∷ st)
   longer t = omega (arith, deep)
 
-  pub between-pen : (w : Way) (t : Ty) (q : At) → penBetween (wayNumber w) d p ≡ penAfter (codeBetween w Γ st t q end) p
-  unfolding penBetween penAfter
-  between-pen plainly t q = refl
-  between-pen marked t q = ap (λ (n : ℕ). penShaped n p) (longer t)
-  between-pen ifTrue t q = refl
-  between-pen ifFalse t q = ap (λ (n : ℕ). penShaped n (moved (moved (moved p)))) deep
+  pub between-cursor : (w : Way) (t : Ty) (q : At) → cursorBetween (wayNumber w) d p ≡ cursorAfter (codeBetween w Γ st t q end) p
+  unfolding cursorBetween cursorAfter
+  between-cursor plainly t q = refl
+  between-cursor marked t q = ap (λ (n : ℕ). cursorShaped n p) (longer t)
+  between-cursor ifTrue t q = refl
+  between-cursor ifFalse t q = ap (λ (n : ℕ). cursorShaped n (moved (moved (moved p)))) deep
 
-  pub behind-pen : (w : Way) (o : Binary) → penBehind (wayNumber w) d p ≡ penAfter (codeBehind w o Γ st end) p
-  unfolding penBehind penAfter
-  behind-pen plainly o = refl
-  behind-pen marked o = refl
-  behind-pen ifTrue o = rw (longer logical, deep)
-  behind-pen ifFalse o = ap (λ (n : ℕ). penShaped n p) (longer logical)
+  pub behind-cursor : (w : Way) (o : Binary) → cursorBehind (wayNumber w) d p ≡ cursorAfter (codeBehind w o Γ st end) p
+  unfolding cursorBehind cursorAfter
+  behind-cursor plainly o = refl
+  behind-cursor marked o = refl
+  behind-cursor ifTrue o = rw (longer logical, deep)
+  behind-cursor ifFalse o = ap (λ (n : ℕ). cursorShaped n p) (longer logical)
 
 -- an operand that is tested is logical, and so is the result
 pub tested-by : (gs : List Global) (o : Binary) (t : Ty) {v : ℕ} → v ≡ pairType (binaryCode o) (tyByte (tyIn gs t)) → Tested (wayOf o (isTy logical (some t))) (v ≡ tyByte logical)

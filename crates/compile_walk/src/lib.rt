@@ -1,10 +1,9 @@
 // The walkers: statements and expressions call each other, the remaining nesting falling. Each gets the part of the table that begins
 // where it stands and passes on parts that start inside it. An expression leaves the type of its value at `depth` of the stack. The
-// walkers go over a table twice: with a dry pen they only find where the code of each entry ends; then `aims` has what they found.
-use compile_output::Pen;
+// walkers go over a table twice: dry, they only find where the code of each entry ends; then `aims` has what they found.
+use compile_output::Cursor;
 use formats::compiled::*;
 use formats::entries::*;
-ghost use mathlib.Core.Path.{_≡_};
 ghost use Prim.Native.Nat.{_+_, _*_};
 ghost use Rattle.compile_nodes.specs.Ready.{Asks, Answers, AsksEs, AnswersEs, AsksItems, AnswersItems, AsksArms, AnswersArms};
 ghost use Rattle.compile_steps.specs.Parts.{lent};
@@ -27,15 +26,15 @@ fn operands(
     stack: &mut [u8],
     depth: usize,
     out: &mut [u8],
-    pen: Pen,
-) -> Pen
-    requires { ⌜ AsksEs (now known) (now aims) (now table) (now part) count nesting at (now sizes) (lent (now env) (now ends) (now stack) (now out)) top holds depth pen ⌝ }
-    ensures { λ r. ⌜ AnswersEs (now (known .entry)) (now (aims .entry)) (now (table .entry)) (now (part .entry)) count nesting at (now (sizes .entry)) (lent (now (env .entry)) (now (ends .entry)) (now (stack .entry)) (now (out .entry))) (lent (now (env .exit)) (now (ends .exit)) (now (stack .exit)) (now (out .exit))) top holds depth pen r ⌝ }
+    cursor: Cursor,
+) -> Cursor
+    requires { ⌜ AsksEs (now known) (now aims) (now table) (now part) count nesting at (now sizes) (lent (now env) (now ends) (now stack) (now out)) top holds depth cursor ⌝ }
+    ensures { λ r. ⌜ AnswersEs (now (known .entry)) (now (aims .entry)) (now (table .entry)) (now (part .entry)) count nesting at (now (sizes .entry)) (lent (now (env .entry)) (now (ends .entry)) (now (stack .entry)) (now (out .entry))) (lent (now (env .exit)) (now (ends .exit)) (now (stack .exit)) (now (out .exit))) top holds depth cursor r ⌝ }
 {
     let mut rest = part;
     let mut place = at;
     let mut i = 0;
-    let mut p = pen;
+    let mut p = cursor;
     while i < count {
         p = expression(
             table,
@@ -80,10 +79,10 @@ fn simple(
     stack: &mut [u8],
     depth: usize,
     out: &mut [u8],
-    pen: Pen,
-) -> Pen
-    requires { ⌜ Asks IsSimple (now known) (now aims) (now table) (now part) nesting at (now sizes) (lent (now env) (now ends) (now stack) (now out)) top holds depth pen ⌝ }
-    ensures { λ r. ⌜ Answers IsSimple (now (known .entry)) (now (aims .entry)) (now (table .entry)) (now (part .entry)) nesting at (now (sizes .entry)) (lent (now (env .entry)) (now (ends .entry)) (now (stack .entry)) (now (out .entry))) (lent (now (env .exit)) (now (ends .exit)) (now (stack .exit)) (now (out .exit))) top holds depth pen r ⌝ }
+    cursor: Cursor,
+) -> Cursor
+    requires { ⌜ Asks IsSimple (now known) (now aims) (now table) (now part) nesting at (now sizes) (lent (now env) (now ends) (now stack) (now out)) top holds depth cursor ⌝ }
+    ensures { λ r. ⌜ Answers IsSimple (now (known .entry)) (now (aims .entry)) (now (table .entry)) (now (part .entry)) nesting at (now (sizes .entry)) (lent (now (env .entry)) (now (ends .entry)) (now (stack .entry)) (now (out .entry))) (lent (now (env .exit)) (now (ends .exit)) (now (stack .exit)) (now (out .exit))) top holds depth cursor r ⌝ }
 {
     let kind = words::half_at(part, KIND_AT);
     let a = words::half_at(part, A_AT);
@@ -104,7 +103,7 @@ fn simple(
         stack,
         depth,
         out,
-        pen,
+        cursor,
     );
     let k = compile_emit::known_of(kind, a, env, top, known);
     stack[depth] = compile_emit::last_type(kind, a, k, stack[depth]);
@@ -127,10 +126,10 @@ fn pair(
     stack: &mut [u8],
     depth: usize,
     out: &mut [u8],
-    pen: Pen,
-) -> Pen
-    requires { ⌜ Asks (IsKind 49) (now known) (now aims) (now table) (now part) nesting at (now sizes) (lent (now env) (now ends) (now stack) (now out)) top holds depth pen ⌝ }
-    ensures { λ r. ⌜ Answers (IsKind 49) (now (known .entry)) (now (aims .entry)) (now (table .entry)) (now (part .entry)) nesting at (now (sizes .entry)) (lent (now (env .entry)) (now (ends .entry)) (now (stack .entry)) (now (out .entry))) (lent (now (env .exit)) (now (ends .exit)) (now (stack .exit)) (now (out .exit))) top holds depth pen r ⌝ }
+    cursor: Cursor,
+) -> Cursor
+    requires { ⌜ Asks (IsKind 49) (now known) (now aims) (now table) (now part) nesting at (now sizes) (lent (now env) (now ends) (now stack) (now out)) top holds depth cursor ⌝ }
+    ensures { λ r. ⌜ Answers (IsKind 49) (now (known .entry)) (now (aims .entry)) (now (table .entry)) (now (part .entry)) nesting at (now (sizes .entry)) (lent (now (env .entry)) (now (ends .entry)) (now (stack .entry)) (now (out .entry))) (lent (now (env .exit)) (now (ends .exit)) (now (stack .exit)) (now (out .exit))) top holds depth cursor r ⌝ }
 {
     let operator = words::half_at(part, A_AT);
     let p = expression(
@@ -148,7 +147,7 @@ fn pair(
         stack,
         depth,
         out,
-        pen,
+        cursor,
     );
     let second = at + 1 + table_scopes::size_at(sizes, at + 1);
     let end = compile_emit::end_of(aims, second);
@@ -197,10 +196,10 @@ fn conditional(
     stack: &mut [u8],
     depth: usize,
     out: &mut [u8],
-    pen: Pen,
-) -> Pen
-    requires { ⌜ Asks (IsKind 50) (now known) (now aims) (now table) (now part) nesting at (now sizes) (lent (now env) (now ends) (now stack) (now out)) top holds depth pen ⌝ }
-    ensures { λ r. ⌜ Answers (IsKind 50) (now (known .entry)) (now (aims .entry)) (now (table .entry)) (now (part .entry)) nesting at (now (sizes .entry)) (lent (now (env .entry)) (now (ends .entry)) (now (stack .entry)) (now (out .entry))) (lent (now (env .exit)) (now (ends .exit)) (now (stack .exit)) (now (out .exit))) top holds depth pen r ⌝ }
+    cursor: Cursor,
+) -> Cursor
+    requires { ⌜ Asks (IsKind 50) (now known) (now aims) (now table) (now part) nesting at (now sizes) (lent (now env) (now ends) (now stack) (now out)) top holds depth cursor ⌝ }
+    ensures { λ r. ⌜ Answers (IsKind 50) (now (known .entry)) (now (aims .entry)) (now (table .entry)) (now (part .entry)) nesting at (now (sizes .entry)) (lent (now (env .entry)) (now (ends .entry)) (now (stack .entry)) (now (out .entry))) (lent (now (env .exit)) (now (ends .exit)) (now (stack .exit)) (now (out .exit))) top holds depth cursor r ⌝ }
 {
     let p = expression(
         table,
@@ -217,7 +216,7 @@ fn conditional(
         stack,
         depth,
         out,
-        pen,
+        cursor,
     );
     let second = at + 1 + table_scopes::size_at(sizes, at + 1);
     let third = second + table_scopes::size_at(sizes, second);
@@ -285,10 +284,10 @@ fn when(
     stack: &mut [u8],
     depth: usize,
     out: &mut [u8],
-    pen: Pen,
-) -> Pen
-    requires { ⌜ Asks (IsKind 22) (now known) (now aims) (now table) (now part) nesting at (now sizes) (lent (now env) (now ends) (now stack) (now out)) top holds depth pen ⌝ }
-    ensures { λ r. ⌜ Answers (IsKind 22) (now (known .entry)) (now (aims .entry)) (now (table .entry)) (now (part .entry)) nesting at (now (sizes .entry)) (lent (now (env .entry)) (now (ends .entry)) (now (stack .entry)) (now (out .entry))) (lent (now (env .exit)) (now (ends .exit)) (now (stack .exit)) (now (out .exit))) top holds depth pen r ⌝ }
+    cursor: Cursor,
+) -> Cursor
+    requires { ⌜ Asks (IsKind 22) (now known) (now aims) (now table) (now part) nesting at (now sizes) (lent (now env) (now ends) (now stack) (now out)) top holds depth cursor ⌝ }
+    ensures { λ r. ⌜ Answers (IsKind 22) (now (known .entry)) (now (aims .entry)) (now (table .entry)) (now (part .entry)) nesting at (now (sizes .entry)) (lent (now (env .entry)) (now (ends .entry)) (now (stack .entry)) (now (out .entry))) (lent (now (env .exit)) (now (ends .exit)) (now (stack .exit)) (now (out .exit))) top holds depth cursor r ⌝ }
 {
     let p = expression(
         table,
@@ -305,7 +304,7 @@ fn when(
         stack,
         depth,
         out,
-        pen,
+        cursor,
     );
     let second = at + 1 + table_scopes::size_at(sizes, at + 1);
     let q = compile_output::emit(out, p, OP_UNLESS, 0, compile_emit::end_of(aims, second));
@@ -346,10 +345,10 @@ fn choose(
     stack: &mut [u8],
     depth: usize,
     out: &mut [u8],
-    pen: Pen,
-) -> Pen
-    requires { ⌜ Asks (IsKind 23) (now known) (now aims) (now table) (now part) nesting at (now sizes) (lent (now env) (now ends) (now stack) (now out)) top holds depth pen ⌝ }
-    ensures { λ r. ⌜ Answers (IsKind 23) (now (known .entry)) (now (aims .entry)) (now (table .entry)) (now (part .entry)) nesting at (now (sizes .entry)) (lent (now (env .entry)) (now (ends .entry)) (now (stack .entry)) (now (out .entry))) (lent (now (env .exit)) (now (ends .exit)) (now (stack .exit)) (now (out .exit))) top holds depth pen r ⌝ }
+    cursor: Cursor,
+) -> Cursor
+    requires { ⌜ Asks (IsKind 23) (now known) (now aims) (now table) (now part) nesting at (now sizes) (lent (now env) (now ends) (now stack) (now out)) top holds depth cursor ⌝ }
+    ensures { λ r. ⌜ Answers (IsKind 23) (now (known .entry)) (now (aims .entry)) (now (table .entry)) (now (part .entry)) nesting at (now (sizes .entry)) (lent (now (env .entry)) (now (ends .entry)) (now (stack .entry)) (now (out .entry))) (lent (now (env .exit)) (now (ends .exit)) (now (stack .exit)) (now (out .exit))) top holds depth cursor r ⌝ }
 {
     let p = expression(
         table,
@@ -366,7 +365,7 @@ fn choose(
         stack,
         depth,
         out,
-        pen,
+        cursor,
     );
     let second = at + 1 + table_scopes::size_at(sizes, at + 1);
     let third = second + table_scopes::size_at(sizes, second);
@@ -428,13 +427,13 @@ fn repeat(
     stack: &mut [u8],
     depth: usize,
     out: &mut [u8],
-    pen: Pen,
-) -> Pen
-    requires { ⌜ Asks (IsKind 24) (now known) (now aims) (now table) (now part) nesting at (now sizes) (lent (now env) (now ends) (now stack) (now out)) top holds depth pen ⌝ }
-    ensures { λ r. ⌜ Answers (IsKind 24) (now (known .entry)) (now (aims .entry)) (now (table .entry)) (now (part .entry)) nesting at (now (sizes .entry)) (lent (now (env .entry)) (now (ends .entry)) (now (stack .entry)) (now (out .entry))) (lent (now (env .exit)) (now (ends .exit)) (now (stack .exit)) (now (out .exit))) top holds depth pen r ⌝ }
+    cursor: Cursor,
+) -> Cursor
+    requires { ⌜ Asks (IsKind 24) (now known) (now aims) (now table) (now part) nesting at (now sizes) (lent (now env) (now ends) (now stack) (now out)) top holds depth cursor ⌝ }
+    ensures { λ r. ⌜ Answers (IsKind 24) (now (known .entry)) (now (aims .entry)) (now (table .entry)) (now (part .entry)) nesting at (now (sizes .entry)) (lent (now (env .entry)) (now (ends .entry)) (now (stack .entry)) (now (out .entry))) (lent (now (env .exit)) (now (ends .exit)) (now (stack .exit)) (now (out .exit))) top holds depth cursor r ⌝ }
 {
-    let start = pen.address as u32;
-    let p = compile_output::shape(out, pen, holds, stack, depth);
+    let start = cursor.address as u32;
+    let p = compile_output::shape(out, cursor, holds, stack, depth);
     let q = expression(
         table,
         &part[ENTRY_BYTES..],
@@ -494,17 +493,17 @@ fn arms(
     stack: &mut [u8],
     depth: usize,
     out: &mut [u8],
-    pen: Pen,
-) -> Pen
-    requires { ⌜ AsksArms (now known) (now aims) (now table) (now part) owner count nesting at (now sizes) (lent (now env) (now ends) (now stack) (now out)) top holds depth pen ⌝ }
-    ensures { λ r. ⌜ AnswersArms (now (known .entry)) (now (aims .entry)) (now (table .entry)) (now (part .entry)) owner count nesting at (now (sizes .entry)) (lent (now (env .entry)) (now (ends .entry)) (now (stack .entry)) (now (out .entry))) (lent (now (env .exit)) (now (ends .exit)) (now (stack .exit)) (now (out .exit))) top holds depth pen r ⌝ }
+    cursor: Cursor,
+) -> Cursor
+    requires { ⌜ AsksArms (now known) (now aims) (now table) (now part) owner count nesting at (now sizes) (lent (now env) (now ends) (now stack) (now out)) top holds depth cursor ⌝ }
+    ensures { λ r. ⌜ AnswersArms (now (known .entry)) (now (aims .entry)) (now (table .entry)) (now (part .entry)) owner count nesting at (now (sizes .entry)) (lent (now (env .entry)) (now (ends .entry)) (now (stack .entry)) (now (out .entry))) (lent (now (env .exit)) (now (ends .exit)) (now (stack .exit)) (now (out .exit))) top holds depth cursor r ⌝ }
 {
     let cell = compile_symbols::second_in(compile_symbols::known_at(known, owner));
     let end = compile_emit::end_of(aims, owner);
     let mut rest = part;
     let mut place = at;
     let mut i = 0;
-    let mut p = pen;
+    let mut p = cursor;
     while i < count {
         let q = compile_emit::before_arm(cell, i, compile_emit::end_of(aims, place), out, p);
         let r = statement(
@@ -550,10 +549,10 @@ fn select(
     stack: &mut [u8],
     depth: usize,
     out: &mut [u8],
-    pen: Pen,
-) -> Pen
-    requires { ⌜ Asks (IsKind 30) (now known) (now aims) (now table) (now part) nesting at (now sizes) (lent (now env) (now ends) (now stack) (now out)) top holds depth pen ⌝ }
-    ensures { λ r. ⌜ Answers (IsKind 30) (now (known .entry)) (now (aims .entry)) (now (table .entry)) (now (part .entry)) nesting at (now (sizes .entry)) (lent (now (env .entry)) (now (ends .entry)) (now (stack .entry)) (now (out .entry))) (lent (now (env .exit)) (now (ends .exit)) (now (stack .exit)) (now (out .exit))) top holds depth pen r ⌝ }
+    cursor: Cursor,
+) -> Cursor
+    requires { ⌜ Asks (IsKind 30) (now known) (now aims) (now table) (now part) nesting at (now sizes) (lent (now env) (now ends) (now stack) (now out)) top holds depth cursor ⌝ }
+    ensures { λ r. ⌜ Answers (IsKind 30) (now (known .entry)) (now (aims .entry)) (now (table .entry)) (now (part .entry)) nesting at (now (sizes .entry)) (lent (now (env .entry)) (now (ends .entry)) (now (stack .entry)) (now (out .entry))) (lent (now (env .exit)) (now (ends .exit)) (now (stack .exit)) (now (out .exit))) top holds depth cursor r ⌝ }
 {
     let count = words::half_at(part, A_AT) as usize;
     let cell = compile_symbols::second_in(compile_symbols::known_at(known, at));
@@ -572,7 +571,7 @@ fn select(
         stack,
         depth,
         out,
-        pen,
+        cursor,
     );
     let q = compile_output::emit(out, p, OP_STORE, 0, cell);
     let second = at + 1 + table_scopes::size_at(sizes, at + 1);
@@ -621,16 +620,16 @@ fn assign(
     stack: &mut [u8],
     depth: usize,
     out: &mut [u8],
-    pen: Pen,
-) -> Pen
-    requires { ⌜ Asks (IsKind 21) (now known) (now aims) (now table) (now part) nesting at (now sizes) (lent (now env) (now ends) (now stack) (now out)) top holds depth pen ⌝ }
-    ensures { λ r. ⌜ Answers (IsKind 21) (now (known .entry)) (now (aims .entry)) (now (table .entry)) (now (part .entry)) nesting at (now (sizes .entry)) (lent (now (env .entry)) (now (ends .entry)) (now (stack .entry)) (now (out .entry))) (lent (now (env .exit)) (now (ends .exit)) (now (stack .exit)) (now (out .exit))) top holds depth pen r ⌝ }
+    cursor: Cursor,
+) -> Cursor
+    requires { ⌜ Asks (IsKind 21) (now known) (now aims) (now table) (now part) nesting at (now sizes) (lent (now env) (now ends) (now stack) (now out)) top holds depth cursor ⌝ }
+    ensures { λ r. ⌜ Answers (IsKind 21) (now (known .entry)) (now (aims .entry)) (now (table .entry)) (now (part .entry)) nesting at (now (sizes .entry)) (lent (now (env .entry)) (now (ends .entry)) (now (stack .entry)) (now (out .entry))) (lent (now (env .exit)) (now (ends .exit)) (now (stack .exit)) (now (out .exit))) top holds depth cursor r ⌝ }
 {
     let k = compile_symbols::meaning(env, top, words::half_at(part, TARGET_A_AT), known);
     let second = at + 1 + table_scopes::size_at(sizes, at + 1);
     let from = ENTRY_BYTES * (second - at);
     if words::half_at(part, TARGET_KIND_AT) == KIND_VARIABLE {
-        let p = compile_emit::finish(ends, at + 1, pen);
+        let p = compile_emit::finish(ends, at + 1, cursor);
         let q = expression(
             table,
             &part[from..],
@@ -672,7 +671,7 @@ fn assign(
         stack,
         depth,
         out,
-        pen,
+        cursor,
     );
     let q = compile_emit::finish(ends, at + 1, p);
     let r = expression(
@@ -719,15 +718,15 @@ pub fn items(
     stack: &mut [u8],
     depth: usize,
     out: &mut [u8],
-    pen: Pen,
-) -> Pen
-    requires { ⌜ AsksItems (now known) (now aims) (now table) (now part) count nesting at (now sizes) (lent (now env) (now ends) (now stack) (now out)) top holds depth pen ⌝ }
-    ensures { λ r. ⌜ AnswersItems (now (known .entry)) (now (aims .entry)) (now (table .entry)) (now (part .entry)) count nesting at (now (sizes .entry)) (lent (now (env .entry)) (now (ends .entry)) (now (stack .entry)) (now (out .entry))) (lent (now (env .exit)) (now (ends .exit)) (now (stack .exit)) (now (out .exit))) top holds depth pen r ⌝ }
+    cursor: Cursor,
+) -> Cursor
+    requires { ⌜ AsksItems (now known) (now aims) (now table) (now part) count nesting at (now sizes) (lent (now env) (now ends) (now stack) (now out)) top holds depth cursor ⌝ }
+    ensures { λ r. ⌜ AnswersItems (now (known .entry)) (now (aims .entry)) (now (table .entry)) (now (part .entry)) count nesting at (now (sizes .entry)) (lent (now (env .entry)) (now (ends .entry)) (now (stack .entry)) (now (out .entry))) (lent (now (env .exit)) (now (ends .exit)) (now (stack .exit)) (now (out .exit))) top holds depth cursor r ⌝ }
 {
     let mut rest = part;
     let mut place = at;
     let mut left = count;
-    let mut p = pen;
+    let mut p = cursor;
     while 0 < left {
         p = statement(
             table,
@@ -771,17 +770,29 @@ fn block(
     stack: &mut [u8],
     depth: usize,
     out: &mut [u8],
-    pen: Pen,
-) -> Pen
-    requires { ⌜ Asks (IsKind 1) (now known) (now aims) (now table) (now part) nesting at (now sizes) (lent (now env) (now ends) (now stack) (now out)) top holds depth pen ⌝ }
-    ensures { λ r. ⌜ Answers (IsKind 1) (now (known .entry)) (now (aims .entry)) (now (table .entry)) (now (part .entry)) nesting at (now (sizes .entry)) (lent (now (env .entry)) (now (ends .entry)) (now (stack .entry)) (now (out .entry))) (lent (now (env .exit)) (now (ends .exit)) (now (stack .exit)) (now (out .exit))) top holds depth pen r ⌝ }
+    cursor: Cursor,
+) -> Cursor
+    requires { ⌜ Asks (IsKind 1) (now known) (now aims) (now table) (now part) nesting at (now sizes) (lent (now env) (now ends) (now stack) (now out)) top holds depth cursor ⌝ }
+    ensures { λ r. ⌜ Answers (IsKind 1) (now (known .entry)) (now (aims .entry)) (now (table .entry)) (now (part .entry)) nesting at (now (sizes .entry)) (lent (now (env .entry)) (now (ends .entry)) (now (stack .entry)) (now (out .entry))) (lent (now (env .exit)) (now (ends .exit)) (now (stack .exit)) (now (out .exit))) top holds depth cursor r ⌝ }
 {
     let heads = words::half_at(part, A_AT) as usize;
     let count = words::word_at(part, B_AT) as usize;
-    let open = compile_emit::holds_in(&part[ENTRY_BYTES..], heads);
-    compile_emit::mark_holds(env, top, open);
-    let up = table_scopes::enter(table, at + 1, heads, count, 65536, sizes, env, top + open);
-    let p = compile_emit::declare(&part[ENTRY_BYTES..], at + 1, heads, known, ends, out, pen);
+    let o = compile_emit::open_block(
+        table,
+        &part[ENTRY_BYTES..],
+        at + 1,
+        heads,
+        count,
+        65536,
+        sizes,
+        env,
+        top,
+        known,
+        ends,
+        out,
+        cursor,
+    );
+    let within = holds + o.holds;
     let from = ENTRY_BYTES * (1 + heads);
     let q = items(
         table,
@@ -791,17 +802,17 @@ fn block(
         at + 1 + heads,
         sizes,
         env,
-        up,
+        o.top,
         known,
         aims,
         ends,
-        holds + open,
+        within,
         stack,
         depth,
         out,
-        p,
+        o.cursor,
     );
-    compile_emit::finish(ends, at, compile_output::releases(out, q, open))
+    compile_emit::finish(ends, at, compile_output::releases(out, q, o.holds))
 }
 
 // A block expression: the same behind a wall, and its value before the releases.
@@ -820,17 +831,29 @@ fn body(
     stack: &mut [u8],
     depth: usize,
     out: &mut [u8],
-    pen: Pen,
-) -> Pen
-    requires { ⌜ Asks (IsKind 53) (now known) (now aims) (now table) (now part) nesting at (now sizes) (lent (now env) (now ends) (now stack) (now out)) top holds depth pen ⌝ }
-    ensures { λ r. ⌜ Answers (IsKind 53) (now (known .entry)) (now (aims .entry)) (now (table .entry)) (now (part .entry)) nesting at (now (sizes .entry)) (lent (now (env .entry)) (now (ends .entry)) (now (stack .entry)) (now (out .entry))) (lent (now (env .exit)) (now (ends .exit)) (now (stack .exit)) (now (out .exit))) top holds depth pen r ⌝ }
+    cursor: Cursor,
+) -> Cursor
+    requires { ⌜ Asks (IsKind 53) (now known) (now aims) (now table) (now part) nesting at (now sizes) (lent (now env) (now ends) (now stack) (now out)) top holds depth cursor ⌝ }
+    ensures { λ r. ⌜ Answers (IsKind 53) (now (known .entry)) (now (aims .entry)) (now (table .entry)) (now (part .entry)) nesting at (now (sizes .entry)) (lent (now (env .entry)) (now (ends .entry)) (now (stack .entry)) (now (out .entry))) (lent (now (env .exit)) (now (ends .exit)) (now (stack .exit)) (now (out .exit))) top holds depth cursor r ⌝ }
 {
     let heads = words::half_at(part, A_AT) as usize;
     let count = words::word_at(part, B_AT) as usize;
-    let open = compile_emit::holds_in(&part[ENTRY_BYTES..], heads);
-    compile_emit::mark_holds(env, top, open);
-    let up = table_scopes::enter(table, at + 1, heads, count, 65537, sizes, env, top + open);
-    let p = compile_emit::declare(&part[ENTRY_BYTES..], at + 1, heads, known, ends, out, pen);
+    let o = compile_emit::open_block(
+        table,
+        &part[ENTRY_BYTES..],
+        at + 1,
+        heads,
+        count,
+        65537,
+        sizes,
+        env,
+        top,
+        known,
+        ends,
+        out,
+        cursor,
+    );
+    let within = holds + o.holds;
     let from = ENTRY_BYTES * (1 + heads);
     let q = items(
         table,
@@ -840,15 +863,15 @@ fn body(
         at + 1 + heads,
         sizes,
         env,
-        up,
+        o.top,
         known,
         aims,
         ends,
-        holds + open,
+        within,
         stack,
         depth,
         out,
-        p,
+        o.cursor,
     );
     let n = table_scopes::spanned(table, sizes, at + 1 + heads, count);
     let after = ENTRY_BYTES * (1 + heads + n);
@@ -859,17 +882,17 @@ fn body(
         at + 1 + heads + n,
         sizes,
         env,
-        up,
+        o.top,
         known,
         aims,
         ends,
-        holds + open,
+        within,
         stack,
         depth,
         out,
         q,
     );
-    compile_emit::finish(ends, at, compile_output::releases(out, r, open))
+    compile_emit::finish(ends, at, compile_output::releases(out, r, o.holds))
 }
 
 pub fn expression(
@@ -887,10 +910,10 @@ pub fn expression(
     stack: &mut [u8],
     depth: usize,
     out: &mut [u8],
-    pen: Pen,
-) -> Pen
-    requires { ⌜ Asks IsExpr (now known) (now aims) (now table) (now part) nesting at (now sizes) (lent (now env) (now ends) (now stack) (now out)) top holds depth pen ⌝ }
-    ensures { λ r. ⌜ Answers IsExpr (now (known .entry)) (now (aims .entry)) (now (table .entry)) (now (part .entry)) nesting at (now (sizes .entry)) (lent (now (env .entry)) (now (ends .entry)) (now (stack .entry)) (now (out .entry))) (lent (now (env .exit)) (now (ends .exit)) (now (stack .exit)) (now (out .exit))) top holds depth pen r ⌝ }
+    cursor: Cursor,
+) -> Cursor
+    requires { ⌜ Asks IsExpr (now known) (now aims) (now table) (now part) nesting at (now sizes) (lent (now env) (now ends) (now stack) (now out)) top holds depth cursor ⌝ }
+    ensures { λ r. ⌜ Answers IsExpr (now (known .entry)) (now (aims .entry)) (now (table .entry)) (now (part .entry)) nesting at (now (sizes .entry)) (lent (now (env .entry)) (now (ends .entry)) (now (stack .entry)) (now (out .entry))) (lent (now (env .exit)) (now (ends .exit)) (now (stack .exit)) (now (out .exit))) top holds depth cursor r ⌝ }
 {
     let kind = words::half_at(part, KIND_AT);
     match kind {
@@ -909,7 +932,7 @@ pub fn expression(
             stack,
             depth,
             out,
-            pen,
+            cursor,
         ),
         KIND_IF_EXPRESSION => conditional(
             table,
@@ -926,7 +949,7 @@ pub fn expression(
             stack,
             depth,
             out,
-            pen,
+            cursor,
         ),
         KIND_BLOCK_EXPRESSION => body(
             table,
@@ -943,7 +966,7 @@ pub fn expression(
             stack,
             depth,
             out,
-            pen,
+            cursor,
         ),
         _ => if kind < KIND_FUNCTION {
             let k = compile_emit::known_of(kind, words::half_at(part, A_AT), env, top, known);
@@ -951,7 +974,7 @@ pub fn expression(
             compile_emit::finish(
                 ends,
                 at,
-                compile_emit::leaf(kind, words::word_at(part, B_AT), k, out, pen),
+                compile_emit::leaf(kind, words::word_at(part, B_AT), k, out, cursor),
             )
         } else {
             simple(
@@ -969,7 +992,7 @@ pub fn expression(
                 stack,
                 depth,
                 out,
-                pen,
+                cursor,
             )
         },
     }
@@ -991,10 +1014,10 @@ pub fn statement(
     stack: &mut [u8],
     depth: usize,
     out: &mut [u8],
-    pen: Pen,
-) -> Pen
-    requires { ⌜ Asks IsStmt (now known) (now aims) (now table) (now part) nesting at (now sizes) (lent (now env) (now ends) (now stack) (now out)) top holds depth pen ⌝ }
-    ensures { λ r. ⌜ Answers IsStmt (now (known .entry)) (now (aims .entry)) (now (table .entry)) (now (part .entry)) nesting at (now (sizes .entry)) (lent (now (env .entry)) (now (ends .entry)) (now (stack .entry)) (now (out .entry))) (lent (now (env .exit)) (now (ends .exit)) (now (stack .exit)) (now (out .exit))) top holds depth pen r ⌝ }
+    cursor: Cursor,
+) -> Cursor
+    requires { ⌜ Asks IsStmt (now known) (now aims) (now table) (now part) nesting at (now sizes) (lent (now env) (now ends) (now stack) (now out)) top holds depth cursor ⌝ }
+    ensures { λ r. ⌜ Answers IsStmt (now (known .entry)) (now (aims .entry)) (now (table .entry)) (now (part .entry)) nesting at (now (sizes .entry)) (lent (now (env .entry)) (now (ends .entry)) (now (stack .entry)) (now (out .entry))) (lent (now (env .exit)) (now (ends .exit)) (now (stack .exit)) (now (out .exit))) top holds depth cursor r ⌝ }
 {
     let kind = words::half_at(part, KIND_AT);
     match kind {
@@ -1013,12 +1036,12 @@ pub fn statement(
             stack,
             depth,
             out,
-            pen,
+            cursor,
         ),
         KIND_LABEL => compile_emit::finish(
             ends,
             at,
-            compile_output::shape(out, pen, holds, stack, depth),
+            compile_output::shape(out, cursor, holds, stack, depth),
         ),
         KIND_ASSIGN => assign(
             table,
@@ -1035,7 +1058,7 @@ pub fn statement(
             stack,
             depth,
             out,
-            pen,
+            cursor,
         ),
         KIND_IF => when(
             table,
@@ -1052,7 +1075,7 @@ pub fn statement(
             stack,
             depth,
             out,
-            pen,
+            cursor,
         ),
         KIND_IF_ELSE => choose(
             table,
@@ -1069,7 +1092,7 @@ pub fn statement(
             stack,
             depth,
             out,
-            pen,
+            cursor,
         ),
         KIND_WHILE => repeat(
             table,
@@ -1086,7 +1109,7 @@ pub fn statement(
             stack,
             depth,
             out,
-            pen,
+            cursor,
         ),
         KIND_GOTO => compile_emit::finish(
             ends,
@@ -1100,7 +1123,7 @@ pub fn statement(
                 stack,
                 depth,
                 out,
-                pen,
+                cursor,
             ),
         ),
         KIND_CASE => select(
@@ -1118,7 +1141,7 @@ pub fn statement(
             stack,
             depth,
             out,
-            pen,
+            cursor,
         ),
         _ => simple(
             table,
@@ -1135,7 +1158,7 @@ pub fn statement(
             stack,
             depth,
             out,
-            pen,
+            cursor,
         ),
     }
 }

@@ -26,14 +26,14 @@ use Rattle.table_scopes.specs.Sizes.{Known}
 use Rattle.table_scopes.specs.Trees.{length-Global}
 use Rattle.table_forms.specs.Tables.{Counted, Whole, Held, read-held, held-whole, parts as partsOf, RootPushed, ready-globals}
 use Rattle.compile_code.specs.Code.{Code}
-use Rattle.compile_code.specs.Compile.{Class, classesOf, Proc, procsOf}
-use Rattle.compile_code.specs.Encode.{procParts, parts, headsOf, fieldTypes, compiled, macroOf, each, shapeBytes}
+use Rattle.compile_code.specs.Compile.{classesOf, procsOf}
+use Rattle.compile_code.specs.Encode.{parts, headsOf, compiled, macroOf, each, shapeBytes}
 use Rattle.compile_records.specs.Writing.{SmallBody}
 use Rattle.compile_macro.specs.Built.{InOrder, writable}
 use Rattle.compile_order.specs.Order.{in-order}
-use Rattle.compile_output.specs.declared.Pen.{Pen}
-use Rattle.compile_output.specs.Folds.{penAfter, inked, grows, dry-inked, within}
-use Rattle.compile_bytes.specs.Bytes.{penAll, inkedAll, codesOf}
+use Rattle.compile_output.specs.declared.Cursor.{Cursor}
+use Rattle.compile_output.specs.EmitCode.{cursorAfter, emitted, grows, dry-emitted, within}
+use Rattle.compile_bytes.specs.Bytes.{cursorAll, emittedAll, codesOf}
 use Rattle.compile_bytes.specs.Whole.{front, zz, front-length, macro-length, Measured, measured, whole}
 use Rattle.compile_bytes.specs.Room.{fits-dry, fits-real, macro-small}
 use Rattle.compile_nodes.specs.Ready.{Lent}
@@ -145,14 +145,14 @@ module _ {l sizes env known aims ends : List ℕ} (q : AsksCompile l sizes env k
               wide-ends = q .wide-ends;
             })
 
--- ── the pens ──
-abbrev pub penAt : ℕ → ℕ → Bool → Pen
-penAt at sh dry = record { at = at; address = 0; sh = sh; shapes = 0; waits = false; dry = dry; inside = false }
+-- ── the cursors ──
+abbrev pub cursorAt : ℕ → ℕ → Bool → Cursor
+cursorAt at sh dry = record { at = at; address = 0; sh = sh; shapes = 0; waits = false; dry = dry; inside = false }
 
-dry-all : (xs : List Code) (p : Pen) (l : List ℕ) → p .dry ≡ true → inkedAll xs p l ≡ l
-unfolding inkedAll
+dry-all : (xs : List Code) (p : Cursor) (l : List ℕ) → p .dry ≡ true → emittedAll xs p l ≡ l
+unfolding emittedAll
 dry-all [] p l d = refl
-dry-all (x ∷ xs) p l d = dry-all xs (penAfter x p) (inked x p l) (grows x p .same-dry ∙ d) ∙ dry-inked x p l d
+dry-all (x ∷ xs) p l d = dry-all xs (cursorAfter x p) (emitted x p l) (grows x p .same-dry ∙ d) ∙ dry-emitted x p l d
 
 -- the ends tell where each body begins
 firsts-in : (t : Tree) (l : List ℕ) (gs : List Global) (p a : ℕ) → AimsProcs t l gs p a → Firsts t l gs p a
@@ -187,7 +187,7 @@ module _ {l : List ℕ} {count behind classes bodies : ℕ} {sizes env : List �
   whole-small = macro-small (theTree l) (writable (theTree l) (q .order))
 
   -- the dry one finds the ends: `aims` gets them
-  pub write-dry : (out : List ℕ) {p : Pen} → p ≡ penAt 0 0 true → AsksWalk l count behind sizes env top known ends aims out p
+  pub write-dry : (out : List ℕ) {p : Cursor} → p ≡ cursorAt 0 0 true → AsksWalk l count behind sizes env top known ends aims out p
   write-dry out {p} e = rw e (record {
     stage = q .stage;
     counted = q .counted;
@@ -196,31 +196,31 @@ module _ {l : List ℕ} {count behind classes bodies : ℕ} {sizes env : List �
     ending = q .wide-aims;
     first = refl;
     outer = refl;
-    fits = fits-dry (theTree l) code-small whole-small (penAt 0 0 true) (length out) refl refl refl refl refl refl;
+    fits = fits-dry (theTree l) code-small whole-small (cursorAt 0 0 true) (length out) refl refl refl refl refl refl;
   })
 
   pub write-front : Measuring (theTree l) l classes bodies
   write-front = record { short = q .stage .prepared .tabled .legible .short; same = q .stage .prepared .tabled .same; classes-are = q .classes-are; bodies-are = q .bodies-are }
 
-  module _ {stack out : List ℕ} {M : Lent} {p r : Pen} (e : p ≡ penAt 0 0 true) (y : AnswersWalk l (lentOf env aims stack out) M top p r) where
-    told : Measured (compiled (theTree l)) (penAt 0 0 true) (penAll (codesOf (parts (theTree l))) (penAt 0 0 true))
-    told = measured (theTree l) (penAt 0 0 true) refl refl
+  module _ {stack out : List ℕ} {M : Lent} {p r : Cursor} (e : p ≡ cursorAt 0 0 true) (y : AnswersWalk l (lentOf env aims stack out) M top p r) where
+    told : Measured (compiled (theTree l)) (cursorAt 0 0 true) (cursorAll (codesOf (parts (theTree l))) (cursorAt 0 0 true))
+    told = measured (theTree l) (cursorAt 0 0 true) refl refl
 
-    pen-is : r ≡ within true (penAll (codesOf (parts (theTree l))) (penAt 0 0 true))
-    pen-is = y .penned ∙ ap (λ (z : Pen). within true (penAll (codesOf (parts (theTree l))) z)) e
+    cursor-is : r ≡ within true (cursorAll (codesOf (parts (theTree l))) (cursorAt 0 0 true))
+    cursor-is = y .advanced ∙ ap (λ (z : Cursor). within true (cursorAll (codesOf (parts (theTree l))) z)) e
 
     pub dry-out : M .out ≡ out
-    dry-out = y .written ∙ (ap (λ (z : Pen). inkedAll (codesOf (parts (theTree l))) z out) e ∙ dry-all (codesOf (parts (theTree l))) (penAt 0 0 true) out refl)
+    dry-out = y .written ∙ (ap (λ (z : Cursor). emittedAll (codesOf (parts (theTree l))) z out) e ∙ dry-all (codesOf (parts (theTree l))) (cursorAt 0 0 true) out refl)
 
     -- what it has counted
     pub dry-address : r .address ≡ length (compiled (theTree l) .code)
-    dry-address = ap (λ (z : Pen). z .address) pen-is ∙ told .address-measured
+    dry-address = ap (λ (z : Cursor). z .address) cursor-is ∙ told .address-measured
 
     dry-shapes : r .shapes ≡ length (compiled (theTree l) .shapes)
-    dry-shapes = ap (λ (z : Pen). z .shapes) pen-is ∙ (told .shapes-measured ∙ omega arith)
+    dry-shapes = ap (λ (z : Cursor). z .shapes) cursor-is ∙ (told .shapes-measured ∙ omega arith)
 
     dry-sh : r .sh ≡ length (each shapeBytes (compiled (theTree l) .shapes) [])
-    dry-sh = ap (λ (z : Pen). z .sh) pen-is ∙ (told .sh-measured ∙ omega arith)
+    dry-sh = ap (λ (z : Cursor). z .sh) cursor-is ∙ (told .sh-measured ∙ omega arith)
 
     pub dry-length : {f : ℕ} → f ≡ length (front (compiled (theTree l))) → f + 8 * r .address + r .sh + 2 ≡ length (macroOf (theTree l))
     unfolding macroOf
@@ -266,7 +266,7 @@ module _ {l : List ℕ} {count behind classes bodies : ℕ} {sizes env : List �
     -- ── the real one, behind the front ──
     module _ {f : ℕ} (h : f ≡ length (front (compiled (theTree l)))) (fit : length (macroOf (theTree l)) ≤ length (M .out)) {put : List ℕ} {at : ℕ}
         (w : Wrote (M .out) 0 (front (compiled (theTree l))) put at)
-        {d : Pen} (g : d ≡ penAt f (f + 8 * r .address) false) where
+        {d : Cursor} (g : d ≡ cursorAt f (f + 8 * r .address) false) where
       sh-is : f + 8 * r .address ≡ f + 8 * length (compiled (theTree l) .code)
       sh-is = omega (arith, dry-address)
 
@@ -282,15 +282,15 @@ module _ {l : List ℕ} {count behind classes bodies : ℕ} {sizes env : List �
         ending = q .wide-ends;
         first = refl;
         outer = refl;
-        fits = fits-real (theTree l) code-small whole-small (penAt f (f + 8 * r .address) false) (length put) h refl sh-is refl refl (omega (arith, same-put));
+        fits = fits-real (theTree l) code-small whole-small (cursorAt f (f + 8 * r .address) false) (length put) h refl sh-is refl refl (omega (arith, same-put));
       })
 
-      module _ {used : List ℕ} {N : Lent} {s : Pen} (z : AnswersWalk l (lentOf (M .env) ends used put) N top d s) where
+      module _ {used : List ℕ} {N : Lent} {s : Cursor} (z : AnswersWalk l (lentOf (M .env) ends used put) N top d s) where
         pub real-long : length (N .out) ≡ length (M .out)
         real-long = z .kept .same-out ∙ same-put
 
-        real-sh : penAll (codesOf (parts (theTree l))) (penAt f (f + 8 * r .address) false) .sh ≡ f + 8 * r .address + r .sh
-        real-sh = measured (theTree l) (penAt f (f + 8 * r .address) false) refl refl .sh-measured ∙ omega (arith, dry-sh)
+        real-sh : cursorAll (codesOf (parts (theTree l))) (cursorAt f (f + 8 * r .address) false) .sh ≡ f + 8 * r .address + r .sh
+        real-sh = measured (theTree l) (cursorAt f (f + 8 * r .address) false) refl refl .sh-measured ∙ omega (arith, dry-sh)
 
         pub write-done : {n : ℕ} → n ≡ f + 8 * r .address + r .sh + 2 → compileOn macroOf l out ≡ record { verdict = accepted n; bytes = set (set (N .out) (n - 2) 90) (n - 1) 90 }
         unfolding compileOn
@@ -298,12 +298,12 @@ module _ {l : List ℕ} {count behind classes bodies : ℕ} {sizes env : List �
             let t = theTree l in
             let c = codesOf (parts t) in
             let m : n ≡ length (macroOf t) = k ∙ dry-length h in
-            let o : N .out ≡ inkedAll c (penAt f (f + 8 * r .address) false) (sets out 0 (front (compiled t)))
-            = z .written ∙ (ap (λ (x : Pen). inkedAll c x put) g ∙ ap (inkedAll c (penAt f (f + 8 * r .address) false)) (w .written ∙ ap (λ (x : List ℕ). sets x 0 (front (compiled t))) dry-out)) in
-            let i : n - 2 ≡ penAll c (penAt f (f + 8 * r .address) false) .sh = omega (arith, real-sh) in
+            let o : N .out ≡ emittedAll c (cursorAt f (f + 8 * r .address) false) (sets out 0 (front (compiled t)))
+            = z .written ∙ (ap (λ (x : Cursor). emittedAll c x put) g ∙ ap (emittedAll c (cursorAt f (f + 8 * r .address) false)) (w .written ∙ ap (λ (x : List ℕ). sets x 0 (front (compiled t))) dry-out)) in
+            let i : n - 2 ≡ cursorAll c (cursorAt f (f + 8 * r .address) false) .sh = omega (arith, real-sh) in
             let last : set (set (N .out) (n - 2) 90) (n - 1) 90 ≡ sets out 0 (macroOf t)
-            = two-set (N .out) n (omega arith) ∙ (ap (λ (j : ℕ). sets (N .out) j zz) i ∙ (ap (λ (x : List ℕ). sets x (penAll c (penAt f (f + 8 * r .address) false) .sh) zz) o
-            ∙ whole t (penAt f (f + 8 * r .address) false) refl refl out refl h sh-is)) in
+            = two-set (N .out) n (omega arith) ∙ (ap (λ (j : ℕ). sets (N .out) j zz) i ∙ (ap (λ (x : List ℕ). sets x (cursorAll c (cursorAt f (f + 8 * r .address) false) .sh) zz) o
+            ∙ whole t (cursorAt f (f + 8 * r .address) false) refl refl out refl h sh-is)) in
             rw (q .judged) (ap (λ (b : Bool). if b then record { verdict = accepted (length (macroOf t)); bytes = sets out 0 (macroOf t) } else record { verdict = refused (refusal 7 0); bytes = out })
             (le-leb (length (macroOf t)) (length out) (omega (arith, ap (length {A = ℕ}) dry-out)))
             ∙ (ap (λ (j : ℕ). record { verdict = accepted j; bytes = sets out 0 (macroOf t) }) (sym m) ∙ ap (λ (x : List ℕ). record { verdict = accepted n; bytes = x }) (sym last)))

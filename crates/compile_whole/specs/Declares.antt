@@ -26,14 +26,14 @@ use Rattle.bytecode.specs.Instructions.{own, push, store, takeHold}
 use Rattle.compile_code.specs.Code.{Code, nil, op, _▸_}
 use Rattle.compile_code.specs.Compile.{classesOf, classNames, tyIn}
 use Rattle.compile_code.specs.Encode.{recordOf}
-use Rattle.compile_output.specs.declared.Pen.{Pen}
-use Rattle.compile_output.specs.Ink.{moved, inkOp, Fits}
-use Rattle.compile_output.specs.Folds.{penAfter, inked, grows, fits-before, length-inked}
+use Rattle.compile_output.specs.declared.Cursor.{Cursor}
+use Rattle.compile_output.specs.EmitRecord.{moved, emitOp, Fits}
+use Rattle.compile_output.specs.EmitCode.{cursorAfter, emitted, grows, fits-before, length-emitted}
 use Rattle.compile_symbols.specs.Numbers.{packed, typeIn, secondIn, numberOf}
 use Rattle.compile_symbols.specs.Packed.{type-packed, second-packed}
 use Rattle.compile_symbols.specs.Whole.{kindOf, kind-here}
 use Rattle.compile_symbols.specs.Tabled.{Tabled, theTree, Headed, Left, left-start, Next, next-global, Within}
-use Rattle.compile_emit.specs.Owns.{inkInitial, penDeclared, inkDeclared}
+use Rattle.compile_emit.specs.EmitEntry.{emitInitial, cursorDeclared, emitDeclared}
 use Rattle.compile_code.specs.Counts.{length-class-names, length-classes}
 use Rattle.compile_symbols.specs.Classes.{none-left}
 use Rattle.compile_scopes.specs.Means.{byte-small}
@@ -51,29 +51,29 @@ module _ (gs : List Global) where
   declOps (class c xs) n = nil
   declOps (procedure a xs b) n = nil
 
-  decl-pen : (g : Global) (hs : List Global) (n : ℕ) (p : Pen)
-      → penAfter (headOps gs (locals (g ∷ hs)) n) p ≡ penAfter (headOps gs (locals hs) (n + cellsGlobal g)) (penAfter (declOps g n) p)
-  unfolding penAfter headOps locals flatDecl flatTyped
-  decl-pen (local (declare x)) hs n p = rw (add-one n)
-  decl-pen (local (holding g)) hs n p = rw (add-zero n)
-  decl-pen (class c xs) hs n p = rw (add-zero n)
-  decl-pen (procedure a xs b) hs n p = rw (add-zero n)
+  decl-cursor : (g : Global) (hs : List Global) (n : ℕ) (p : Cursor)
+      → cursorAfter (headOps gs (locals (g ∷ hs)) n) p ≡ cursorAfter (headOps gs (locals hs) (n + cellsGlobal g)) (cursorAfter (declOps g n) p)
+  unfolding cursorAfter headOps locals flatDecl flatTyped
+  decl-cursor (local (declare x)) hs n p = rw (add-one n)
+  decl-cursor (local (holding g)) hs n p = rw (add-zero n)
+  decl-cursor (class c xs) hs n p = rw (add-zero n)
+  decl-cursor (procedure a xs b) hs n p = rw (add-zero n)
 
-  decl-inked : (g : Global) (hs : List Global) (n : ℕ) (p : Pen) (l : List ℕ)
-      → inked (headOps gs (locals (g ∷ hs)) n) p l ≡ inked (headOps gs (locals hs) (n + cellsGlobal g)) (penAfter (declOps g n) p) (inked (declOps g n) p l)
-  unfolding penAfter inked headOps locals flatDecl flatTyped
-  decl-inked (local (declare x)) hs n p l = rw (add-one n)
-  decl-inked (local (holding g)) hs n p l = rw (add-zero n)
-  decl-inked (class c xs) hs n p l = rw (add-zero n)
-  decl-inked (procedure a xs b) hs n p l = rw (add-zero n)
+  decl-emitted : (g : Global) (hs : List Global) (n : ℕ) (p : Cursor) (l : List ℕ)
+      → emitted (headOps gs (locals (g ∷ hs)) n) p l ≡ emitted (headOps gs (locals hs) (n + cellsGlobal g)) (cursorAfter (declOps g n) p) (emitted (declOps g n) p l)
+  unfolding cursorAfter emitted headOps locals flatDecl flatTyped
+  decl-emitted (local (declare x)) hs n p l = rw (add-one n)
+  decl-emitted (local (holding g)) hs n p l = rw (add-zero n)
+  decl-emitted (class c xs) hs n p l = rw (add-zero n)
+  decl-emitted (procedure a xs b) hs n p l = rw (add-zero n)
 
 -- ── as the code emits them ──
-initial-inked : (t : Ty) (p : Pen) (l : List ℕ) → inkInitial (tyByte t) p l ≡ inked (op (push (initial t))) p l
-unfolding inked recordOf
-initial-inked integer p l = refl
-initial-inked logical p l = refl
-initial-inked bits p l = refl
-initial-inked (reference c) p l = rw (le-ltb (16 + c) 16 (omega arith), let z : 16 + c - 16 ≡ c = omega arith in z)
+initial-emitted : (t : Ty) (p : Cursor) (l : List ℕ) → emitInitial (tyByte t) p l ≡ emitted (op (push (initial t))) p l
+unfolding emitted recordOf
+initial-emitted integer p l = refl
+initial-emitted logical p l = refl
+initial-emitted bits p l = refl
+initial-emitted (reference c) p l = rw (le-ltb (16 + c) 16 (omega arith), let z : 16 + c - 16 ≡ c = omega arith in z)
 
 -- what is known of a declaration of variables
 abbrev KnownIn : List Global → Global → ℕ → ℕ → Type 0
@@ -82,86 +82,86 @@ KnownIn gs (class c xs) n k = Unit {0}
 KnownIn gs (procedure a xs b) n k = Unit {0}
 
 module _ {l part sizes : List ℕ} {place : ℕ} (here : Table l part sizes place) (gs : List Global) where
-  declared-pen : (g : Global) (n : ℕ) (p : Pen) → Stands (entriesOf l) place (flatGlobal g) → penDeclared (halfAt part 0) p ≡ penAfter (declOps gs g n) p
-  unfolding penAfter penDeclared flatGlobal flatDecl flatTyped
-  declared-pen (local (declare x)) n p h = rw (head-of _ _ here h .kind)
-  declared-pen (local (holding g)) n p h = rw (head-of _ _ here h .kind)
-  declared-pen (class c xs) n p h = rw (head-of _ _ here h .kind)
-  declared-pen (procedure a xs b) n p h = rw (head-of _ _ here h .kind)
+  declared-cursor : (g : Global) (n : ℕ) (p : Cursor) → Stands (entriesOf l) place (flatGlobal g) → cursorDeclared (halfAt part 0) p ≡ cursorAfter (declOps gs g n) p
+  unfolding cursorAfter cursorDeclared flatGlobal flatDecl flatTyped
+  declared-cursor (local (declare x)) n p h = rw (head-of _ _ here h .kind)
+  declared-cursor (local (holding g)) n p h = rw (head-of _ _ here h .kind)
+  declared-cursor (class c xs) n p h = rw (head-of _ _ here h .kind)
+  declared-cursor (procedure a xs b) n p h = rw (head-of _ _ here h .kind)
 
   -- a variable of the root
-  variable-inked : (x : Typed) (n k : ℕ) (p : Pen) (out : List ℕ) → k ≡ numberOf (classNames (classesOf gs)) 1 n (flatTyped x) → n < 256 → tyByte (tyIn gs (x .type)) < 256
-      → inkOp (moved p) (inkInitial (typeIn k) p out) 6 0 (secondIn k) ≡ inked (declOps gs (local (declare x)) n) p out
-  unfolding penAfter inked recordOf
-  variable-inked x n k p out e small bytes =
+  variable-emitted : (x : Typed) (n k : ℕ) (p : Cursor) (out : List ℕ) → k ≡ numberOf (classNames (classesOf gs)) 1 n (flatTyped x) → n < 256 → tyByte (tyIn gs (x .type)) < 256
+      → emitOp (moved p) (emitInitial (typeIn k) p out) 6 0 (secondIn k) ≡ emitted (declOps gs (local (declare x)) n) p out
+  unfolding cursorAfter emitted recordOf
+  variable-emitted x n k p out e small bytes =
       let t = tyByte (tyIn gs (x .type)) in
       let f : k ≡ packed t 1 n = e ∙ number-typed (classNames (classesOf gs)) 1 n x in
       let u : typeIn k ≡ t = ap typeIn f ∙ type-packed t 1 n bytes (omega arith) small in
       let v : secondIn k ≡ n = ap secondIn f ∙ second-packed t 1 n bytes (omega arith) small in
-      rw (u, v) (ap (λ (m : List ℕ). inkOp (moved p) m 6 0 n) (initial-inked (tyIn gs (x .type)) p out))
+      rw (u, v) (ap (λ (m : List ℕ). emitOp (moved p) m 6 0 n) (initial-emitted (tyIn gs (x .type)) p out))
 
-  declared-inked : (g : Global) (n k : ℕ) (p : Pen) (out : List ℕ) → Stands (entriesOf l) place (flatGlobal g) → KnownIn gs g n k → n + cellsGlobal g ≤ 32 → length (classesOf gs) ≤ 16
-      → inkDeclared (halfAt part 0) (halfAt part 2) k p out ≡ inked (declOps gs g n) p out
-  unfolding inked inkDeclared flatGlobal flatDecl flatTyped recordOf
-  declared-inked (local (declare x)) n k p out h e few classes = rw (head-of _ _ here h .kind)
-      (variable-inked x n k p out e (omega arith) (byte-small (classNames (classesOf gs)) (x .type) (omega (arith, length-class-names (classesOf gs)))))
-  declared-inked (local (holding g)) n k p out h e few classes = let d = head-of _ _ here h in rw (d .kind, d .a)
-  declared-inked (class c xs) n k p out h e few classes = rw (head-of _ _ here h .kind)
-  declared-inked (procedure a xs b) n k p out h e few classes = rw (head-of _ _ here h .kind)
+  declared-emitted : (g : Global) (n k : ℕ) (p : Cursor) (out : List ℕ) → Stands (entriesOf l) place (flatGlobal g) → KnownIn gs g n k → n + cellsGlobal g ≤ 32 → length (classesOf gs) ≤ 16
+      → emitDeclared (halfAt part 0) (halfAt part 2) k p out ≡ emitted (declOps gs g n) p out
+  unfolding emitted emitDeclared flatGlobal flatDecl flatTyped recordOf
+  declared-emitted (local (declare x)) n k p out h e few classes = rw (head-of _ _ here h .kind)
+      (variable-emitted x n k p out e (omega arith) (byte-small (classNames (classesOf gs)) (x .type) (omega (arith, length-class-names (classesOf gs)))))
+  declared-emitted (local (holding g)) n k p out h e few classes = let d = head-of _ _ here h in rw (d .kind, d .a)
+  declared-emitted (class c xs) n k p out h e few classes = rw (head-of _ _ here h .kind)
+  declared-emitted (procedure a xs b) n k p out h e few classes = rw (head-of _ _ here h .kind)
 
 -- ── the loop that emits them: whatever finishes the rest finishes the whole ──
-pub record HeadSoFar (l known old : List ℕ) (pen : Pen) (out : List ℕ) (place left : ℕ) (p : Pen) : Type 0 where
+pub record HeadSoFar (l known old : List ℕ) (cursor : Cursor) (out : List ℕ) (place left : ℕ) (p : Cursor) : Type 0 where
   pub globals : List Global
   pub cells : ℕ
   pub remain : Left l place left globals
   pub numbers : Numbers (classesBy (theTree l)) (itemsBy (theTree l)) known place cells globals
   pub few : cells + headCells (locals globals) ≤ 32
-  pub penned : penAfter (headOps (theTree l .head) (locals globals) cells) p ≡ penAfter (rootHead (theTree l)) pen
-  pub written : inked (headOps (theTree l .head) (locals globals) cells) p out ≡ inked (rootHead (theTree l)) pen old
+  pub advanced : cursorAfter (headOps (theTree l .head) (locals globals) cells) p ≡ cursorAfter (rootHead (theTree l)) cursor
+  pub written : emitted (headOps (theTree l .head) (locals globals) cells) p out ≡ emitted (rootHead (theTree l)) cursor old
 
-pub head-start : {l sizes known : List ℕ} {count : ℕ} (old : List ℕ) (pen : Pen) → Prepared (theTree l) l sizes known → count ≡ length (theTree l .head) → HeadSoFar l known old pen old 1 count pen
-head-start {l} old pen h c =
+pub head-start : {l sizes known : List ℕ} {count : ℕ} (old : List ℕ) (cursor : Cursor) → Prepared (theTree l) l sizes known → count ≡ length (theTree l .head) → HeadSoFar l known old cursor old 1 count cursor
+head-start {l} old cursor h c =
     record {
       globals = theTree l .head;
       cells = 0;
       remain = left-start (record { tabled = h .tabled; counted = c });
       numbers = numbers-all (theTree l) (h .numbered);
       few = omega (arith, h .limited .root .cells);
-      penned = refl;
+      advanced = refl;
       written = refl;
     }
 
 -- the next declaration
-record NextHead (l sizes known old : List ℕ) (pen : Pen) (out : List ℕ) (place left : ℕ) (p : Pen) : Type 0 where
+record NextHead (l sizes known old : List ℕ) (cursor : Cursor) (out : List ℕ) (place left : ℕ) (p : Cursor) : Type 0 where
   pub this : Global
   pub later : List Global
   pub cells : ℕ
   pub next : Next l sizes place left this later
   pub numbers : Numbers (classesBy (theTree l)) (itemsBy (theTree l)) known place cells (this ∷ later)
   pub few : cells + cellsGlobal this + headCells (locals later) ≤ 32
-  pub penned : penAfter (headOps (theTree l .head) (locals (this ∷ later)) cells) p ≡ penAfter (rootHead (theTree l)) pen
-  pub written : inked (headOps (theTree l .head) (locals (this ∷ later)) cells) p out ≡ inked (rootHead (theTree l)) pen old
+  pub advanced : cursorAfter (headOps (theTree l .head) (locals (this ∷ later)) cells) p ≡ cursorAfter (rootHead (theTree l)) cursor
+  pub written : emitted (headOps (theTree l .head) (locals (this ∷ later)) cells) p out ≡ emitted (rootHead (theTree l)) cursor old
 
 known-here : (t : Tree) {known : List ℕ} {place n : ℕ} (g : Global) (gs : List Global) → Numbers (classesBy t) (itemsBy t) known place n (g ∷ gs) → KnownIn (t .head) g n (getD known place 0)
 known-here t (local d) gs h = numbers-local (classesBy t) (itemsBy t) d gs h
 known-here t (class c xs) gs h = tt
 known-here t (procedure a xs b) gs h = tt
 
-next-in : (gs : List Global) (n : ℕ) {l sizes known old : List ℕ} {pen : Pen} {out : List ℕ} {place left : ℕ} {p : Pen} → Tabled l sizes (theTree l) → 0 < left → Left l place left gs
+next-in : (gs : List Global) (n : ℕ) {l sizes known old : List ℕ} {cursor : Cursor} {out : List ℕ} {place left : ℕ} {p : Cursor} → Tabled l sizes (theTree l) → 0 < left → Left l place left gs
     → Numbers (classesBy (theTree l)) (itemsBy (theTree l)) known place n gs → n + headCells (locals gs) ≤ 32
-    → penAfter (headOps (theTree l .head) (locals gs) n) p ≡ penAfter (rootHead (theTree l)) pen → inked (headOps (theTree l .head) (locals gs) n) p out ≡ inked (rootHead (theTree l)) pen old
-    → NextHead l sizes known old pen out place left p
+    → cursorAfter (headOps (theTree l .head) (locals gs) n) p ≡ cursorAfter (rootHead (theTree l)) cursor → emitted (headOps (theTree l .head) (locals gs) n) p out ≡ emitted (rootHead (theTree l)) cursor old
+    → NextHead l sizes known old cursor out place left p
 next-in [] n t h k m few e f = absurd (omega (arith, k .many))
 next-in (g ∷ gs) n {l} t h k m few e f =
-    record { this = g; later = gs; cells = n; next = next-global g gs t k; numbers = m; few = omega (arith, cells-next (classesBy (theTree l)) (itemsBy (theTree l)) g gs); penned = e; written = f }
+    record { this = g; later = gs; cells = n; next = next-global g gs t k; numbers = m; few = omega (arith, cells-next (classesBy (theTree l)) (itemsBy (theTree l)) g gs); advanced = e; written = f }
 
-module _ {l sizes known old : List ℕ} {pen : Pen} {out : List ℕ} {place left : ℕ} {p : Pen} (h : Prepared (theTree l) l sizes known) (s : HeadSoFar l known old pen out place left p) where
+module _ {l sizes known old : List ℕ} {cursor : Cursor} {out : List ℕ} {place left : ℕ} {p : Cursor} (h : Prepared (theTree l) l sizes known) (s : HeadSoFar l known old cursor out place left p) where
   pub same-out : length out ≡ length old
-  same-out = sym (length-inked (headOps (theTree l .head) (locals (s .globals)) (s .cells)) p out) ∙ (ap (length {A = ℕ}) (s .written) ∙ length-inked (rootHead (theTree l)) pen old)
+  same-out = sym (length-emitted (headOps (theTree l .head) (locals (s .globals)) (s .cells)) p out) ∙ (ap (length {A = ℕ}) (s .written) ∙ length-emitted (rootHead (theTree l)) cursor old)
 
   module _ (m : 0 < left) where
-    head-next-in : NextHead l sizes known old pen out place left p
-    head-next-in = next-in (s .globals) (s .cells) (h .tabled) m (s .remain) (s .numbers) (s .few) (s .penned) (s .written)
+    head-next-in : NextHead l sizes known old cursor out place left p
+    head-next-in = next-in (s .globals) (s .cells) (h .tabled) m (s .remain) (s .numbers) (s .few) (s .advanced) (s .written)
 
     pub head-within : Within l sizes place
     head-within = head-next-in .next .within
@@ -174,22 +174,22 @@ module _ {l sizes known old : List ℕ} {pen : Pen} {out : List ℕ} {place left
         let w = head-within in
         rw (take-all (length l - 8 * place) (drop (8 * place) l) (omega (arith, length-drop (8 * place) l)), length-drop (8 * place) l) (omega (arith, w .some, w .within))
 
-    pub head-fits : Fits (penAfter (rootHead (theTree l)) pen) (length old) → Fits (penDeclared (halfAt (below l (8 * place)) 0) p) (length out)
+    pub head-fits : Fits (cursorAfter (rootHead (theTree l)) cursor) (length old) → Fits (cursorDeclared (halfAt (below l (8 * place)) 0) p) (length out)
     head-fits f =
         let x = head-next-in in let t = theTree l in
-        let e : penAfter (headOps (t .head) (locals (x .later)) (x .cells + cellsGlobal (x .this))) (penAfter (declOps (t .head) (x .this) (x .cells)) p) ≡ penAfter (rootHead t) pen
-        = sym (decl-pen (t .head) (x .this) (x .later) (x .cells) p) ∙ x .penned in
-        rw (declared-pen table-here (t .head) (x .this) (x .cells) p (x .next .stands), same-out)
-        (fits-before (length old) (grows (headOps (t .head) (locals (x .later)) (x .cells + cellsGlobal (x .this))) (penAfter (declOps (t .head) (x .this) (x .cells)) p)) (rw e f))
+        let e : cursorAfter (headOps (t .head) (locals (x .later)) (x .cells + cellsGlobal (x .this))) (cursorAfter (declOps (t .head) (x .this) (x .cells)) p) ≡ cursorAfter (rootHead t) cursor
+        = sym (decl-cursor (t .head) (x .this) (x .later) (x .cells) p) ∙ x .advanced in
+        rw (declared-cursor table-here (t .head) (x .this) (x .cells) p (x .next .stands), same-out)
+        (fits-before (length old) (grows (headOps (t .head) (locals (x .later)) (x .cells + cellsGlobal (x .this))) (cursorAfter (declOps (t .head) (x .this) (x .cells)) p)) (rw e f))
 
-    pub head-again : (k n : ℕ) (q : Pen) (new : List ℕ) → k ≡ getD known place 0 → n ≡ getD sizes place 0
-        → (q ≡ penDeclared (halfAt (below l (8 * place)) 0) p) × (new ≡ inkDeclared (halfAt (below l (8 * place)) 0) (halfAt (below l (8 * place)) 2) k p out)
-        → HeadSoFar l known old pen new (place + n) (left - 1) q
+    pub head-again : (k n : ℕ) (q : Cursor) (new : List ℕ) → k ≡ getD known place 0 → n ≡ getD sizes place 0
+        → (q ≡ cursorDeclared (halfAt (below l (8 * place)) 0) p) × (new ≡ emitDeclared (halfAt (below l (8 * place)) 0) (halfAt (below l (8 * place)) 2) k p out)
+        → HeadSoFar l known old cursor new (place + n) (left - 1) q
     head-again k n q new e z w =
         let x = head-next-in in let t = theTree l in
-        let ph : q ≡ penAfter (declOps (t .head) (x .this) (x .cells)) p = w .0 ∙ declared-pen table-here (t .head) (x .this) (x .cells) p (x .next .stands) in
-        let ih : new ≡ inked (declOps (t .head) (x .this) (x .cells)) p out
-        = w .1 ∙ declared-inked table-here (t .head) (x .this) (x .cells) k p out (x .next .stands) (rw e (known-here t (x .this) (x .later) (x .numbers))) (omega (arith, x .few))
+        let ph : q ≡ cursorAfter (declOps (t .head) (x .this) (x .cells)) p = w .0 ∙ declared-cursor table-here (t .head) (x .this) (x .cells) p (x .next .stands) in
+        let ih : new ≡ emitted (declOps (t .head) (x .this) (x .cells)) p out
+        = w .1 ∙ declared-emitted table-here (t .head) (x .this) (x .cells) k p out (x .next .stands) (rw e (known-here t (x .this) (x .later) (x .numbers))) (omega (arith, x .few))
         (omega (arith, length-classes (t .head), h .tabled .readable .classes)) in
         record {
           globals = x .later;
@@ -197,13 +197,13 @@ module _ {l sizes known old : List ℕ} {pen : Pen} {out : List ℕ} {place left
           remain = rw z (x .next .next);
           numbers = rw (z ∙ x .next .size ∙ length-Global (x .this)) (numbers-next (classesBy t) (itemsBy t) (x .this) (x .later) (x .numbers));
           few = x .few;
-          penned = rw ph (sym (decl-pen (t .head) (x .this) (x .later) (x .cells) p) ∙ x .penned);
-          written = rw (ph, ih) (sym (decl-inked (t .head) (x .this) (x .later) (x .cells) p out) ∙ x .written);
+          advanced = rw ph (sym (decl-cursor (t .head) (x .this) (x .later) (x .cells) p) ∙ x .advanced);
+          written = rw (ph, ih) (sym (decl-emitted (t .head) (x .this) (x .later) (x .cells) p out) ∙ x .written);
         }
 
-  pub head-end : left ≡ 0 → (p ≡ penAfter (rootHead (theTree l)) pen) × (out ≡ inked (rootHead (theTree l)) pen old)
-  unfolding penAfter inked headOps locals
-  head-end m = let e = none-left (s .globals) (s .remain) m in (rw e at (s .penned), rw e at (s .written))
+  pub head-end : left ≡ 0 → (p ≡ cursorAfter (rootHead (theTree l)) cursor) × (out ≡ emitted (rootHead (theTree l)) cursor old)
+  unfolding cursorAfter emitted headOps locals
+  head-end m = let e = none-left (s .globals) (s .remain) m in (rw e at (s .advanced), rw e at (s .written))
 
 -- ── the loop that counts holds ──
 abbrev pub holdsOf : ℕ → ℕ

@@ -1,5 +1,5 @@
 -- What the entries of a table stand for, by its declarations: the numbers of the whole (`numbersOf`) hold those of each body.
-use mathlib.Core.Path.{_≡_, refl, ap}
+use mathlib.Core.Path.{_≡_, refl}
 use mathlib.Core.List.{List, [], _∷_, _++_, map}
 use Prim.Native.Nat.{ℕ, suc, _+_}
 use native.Mathlib.Omega.{arith}

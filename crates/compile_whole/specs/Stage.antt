@@ -8,7 +8,7 @@ use native.Mathlib.Nat.{add-assoc}
 use lib.Dec.{eqb}
 use lib.ListN.{length, drop, length-append}
 use Rattle.language.specs.Program.{flatTyped, flatS, flatItems, resultCode, flatBody, flatGlobal, flatHead, flatten, deepGlobal, nesting}
-use Rattle.language.specs.Tree.{Typed, Decl, declare, holding, Body, proper, function, Global, procedure, Tree, countItems, locals}
+use Rattle.language.specs.Tree.{Typed, Body, proper, function, Global, procedure, Tree, countItems, locals}
 use Rattle.language.specs.Names.{Scope, procedureOf, rootOf}
 use Rattle.language.specs.Faults.{faults}
 use Rattle.language.specs.Limits.{bodyUsage, headCells, headHolds}
@@ -29,14 +29,14 @@ use Rattle.table_forms.specs.Procedures.{Walled}
 use Rattle.bytecode.specs.Instructions.{own, root}
 use Rattle.compile_code.specs.Code.{at}
 use Rattle.compile_code.specs.Compile.{Around, inside, global, scopesOf, heldIn, Proc}
-use Rattle.compile_code.specs.Encode.{startOfRoot, aroundBody, parameterCells, rootVariables, codeProc, codeBody}
+use Rattle.compile_code.specs.Encode.{startOfRoot, aroundBody, codeProc, codeBody}
 use Rattle.compile_names.specs.Known.{ofRoot, ofShared, scopes-parameters}
 use Rattle.compile_names.specs.Globals.{goodBody, good-tree}
 use Rattle.compile_symbols.specs.Numbers.{numbersFrom, numbersOf}
 use Rattle.compile_symbols.specs.Tabled.{Tabled}
-use Rattle.compile_output.specs.declared.Pen.{Pen}
-use Rattle.compile_output.specs.Ink.{Fits}
-use Rattle.compile_output.specs.Folds.{penAfter, fits-before, later-moved}
+use Rattle.compile_output.specs.declared.Cursor.{Cursor}
+use Rattle.compile_output.specs.EmitRecord.{Fits}
+use Rattle.compile_output.specs.EmitCode.{cursorAfter, fits-before, later-moved}
 use Rattle.compile_nodes.specs.Knows.{Lies, Walk}
 use Rattle.compile_nodes.specs.Ready.{Node, stmt, expr, Place, Lent, Stood, Ready, ReadyItems}
 use Rattle.compile_scopes.specs.Heads.{Anything, around-root, around-shared, scopes-entering}
@@ -63,15 +63,15 @@ pub record Stage (t : Tree) (l sizes env : List ℕ) (top : ℕ) (known : List �
   pub room : 4 * (top + length l / 8) ≤ length env
 
 -- what is the same while a body is walked
-abbrev pub walkOf : Tree → List ℕ → List ℕ → Pen → Walk
-walkOf t known aims pen = record { globals = t .head; known = known; aims = aims; dry = pen .dry; within = pen .inside }
+abbrev pub walkOf : Tree → List ℕ → List ℕ → Cursor → Walk
+walkOf t known aims cursor = record { globals = t .head; known = known; aims = aims; dry = cursor .dry; within = cursor .inside }
 
 abbrev pub lentOf : List ℕ → List ℕ → List ℕ → List ℕ → Lent
 lentOf env ends stack out = record { env = env; ends = ends; stack = stack; out = out }
 
 module _ {t : Tree} {l sizes env : List ℕ} {top : ℕ} {known : List ℕ} (s : Stage t l sizes env top known) where
-  abbrev rooted : (aims : List ℕ) (pen : Pen) → Rooted t (walkOf t known aims pen)
-  rooted aims pen =
+  abbrev rooted : (aims : List ℕ) (cursor : Cursor) → Rooted t (walkOf t known aims cursor)
+  rooted aims cursor =
       record {
         readable = s .prepared .tabled .readable;
         good = s .prepared .faultless;
@@ -87,7 +87,7 @@ module _ {t : Tree} {l sizes env : List ℕ} {top : ℕ} {known : List ℕ} (s :
   unfolding flatten
   items-fit = omega (arith, entries-fit, length-append (flatHead (t .head)) (flatItems (t .items)))
 
--- ── the root's items, a pen having written its head ──
+-- ── the root's items, a cursor having written its head ──
 root-scopes : (t : Tree) → scopesOf (aroundRoot t) ≡ rootOf t ∷ []
 unfolding scopesOf
 root-scopes t = ap scopesOf (around-root (locals (t .head)) (startOfRoot t) (at 0 0)) ∙ scopes-entering ofRoot (locals (t .head)) 0 (startOfRoot t)
@@ -101,17 +101,17 @@ unfolding heldIn
 root-held t = omega (arith, head-held (global own) global-held (locals (t .head)) (startOfRoot t) (at 0 0), holds-open (locals (t .head)))
 
 module _ {t : Tree} {l sizes env : List ℕ} {top : ℕ} {known : List ℕ} (s : Stage t l sizes env top known)
-    (aims ends stack out : List ℕ) (pen : Pen) where
+    (aims ends stack out : List ℕ) (cursor : Cursor) where
   pub ready-items : (part : List ℕ) (after : ℕ) → after ≡ afterHead t → part ≡ drop (8 * after) l
-      → (pen .dry ≡ false → Lies aims (afterHead t) (itemsEnds t))
-      → length l / 8 ≤ length ends → 32 ≤ length stack → pen .address ≡ startOfItems t .address → pen .inside ≡ false → Fits (penAfter (rootItems t) pen) (length out)
-      → ReadyItems (t .items) (walkOf t known aims pen) (record { around = aroundRoot t; types = []; start = startOfItems t }) l part (countItems (t .items)) 63 after sizes
-      (lentOf env ends stack out) top (headHolds (locals (t .head))) 0 pen
+      → (cursor .dry ≡ false → Lies aims (afterHead t) (itemsEnds t))
+      → length l / 8 ≤ length ends → 32 ≤ length stack → cursor .address ≡ startOfItems t .address → cursor .inside ≡ false → Fits (cursorAfter (rootItems t) cursor) (length out)
+      → ReadyItems (t .items) (walkOf t known aims cursor) (record { around = aroundRoot t; types = []; start = startOfItems t }) l part (countItems (t .items)) 63 after sizes
+      (lentOf env ends stack out) top (headHolds (locals (t .head))) 0 cursor
   unfolding nesting
   ready-items part after a e aimed ending stacked address outer fits =
       let k = s .prepared .limited .root in
       let n : startOfItems t .cell ≡ headCells (locals (t .head)) = head-cells (locals (t .head)) (at 0 0) ∙ omega arith in
-      let r = rooted s aims pen in
+      let r = rooted s aims cursor in
       record {
         table = record { whole = e; legible = s .prepared .tabled .legible; known = s .prepared .tabled .known };
         laid = record {
@@ -136,7 +136,7 @@ module _ {t : Tree} {l sizes env : List ℕ} {top : ℕ} {known : List ℕ} (s :
         fits = fits;
         deep = omega (arith, s .prepared .tabled .readable .depth);
         good = rw (root-scopes t) (good-tree t (s .prepared .faultless) .1);
-        lands = rw (s .sight) (lands-in-root (s .prepared .tabled .legible) t (s .prepared .tabled .same) (walkOf t known aims pen) aimed);
+        lands = rw (s .sight) (lands-in-root (s .prepared .tabled .legible) t (s .prepared .tabled .same) (walkOf t known aims cursor) aimed);
         few-holds = omega (arith, k .holds);
         few-values = omega (arith, k .need);
         many = refl;
@@ -146,7 +146,7 @@ module _ {t : Tree} {l sizes env : List ℕ} {top : ℕ} {known : List ℕ} (s :
 abbrev pub globalOf : Proc → Global
 globalOf q = procedure (q .name) (q .parameters) (q .body)
 
-pub record ReadyProc (t : Tree) (q : Proc) (l part : List ℕ) (place : ℕ) (sizes env : List ℕ) (top : ℕ) (known aims ends stack out : List ℕ) (pen : Pen) : Type 0 where
+pub record ReadyProc (t : Tree) (q : Proc) (l part : List ℕ) (place : ℕ) (sizes env : List ℕ) (top : ℕ) (known aims ends stack out : List ℕ) (cursor : Cursor) : Type 0 where
   pub stage : Stage t l sizes env top known
   pub whole : part ≡ drop (8 * place) l
   pub stands : Stands (entriesOf l) place (flatGlobal (globalOf q))
@@ -154,11 +154,11 @@ pub record ReadyProc (t : Tree) (q : Proc) (l part : List ℕ) (place : ℕ) (si
   pub good : goodBody (procedureOf (q .parameters) ∷ rootOf t ∷ []) (q .body)
   pub keeps : InLimits (bodyUsage (q .parameters) (q .body))
   pub numbered : Lies known (place + 1) (numbersFrom (classesBy t) 0 (map flatTyped (q .parameters) ++ flatBody (q .body)))
-  pub aimed : pen .dry ≡ false → Lies aims (place + 1 + length (q .parameters)) (procEnds t q (pen .address))
+  pub aimed : cursor .dry ≡ false → Lies aims (place + 1 + length (q .parameters)) (procEnds t q (cursor .address))
   pub ending : length l / 8 ≤ length ends
   pub stacked : 32 ≤ length stack
-  pub within : pen .inside ≡ true
-  pub fits : Fits (penAfter (codeProc t q (pen .address)) pen) (length out)
+  pub within : cursor .inside ≡ true
+  pub fits : Fits (cursorAfter (codeProc t q (cursor .address)) cursor) (length out)
 
 -- what its heading says
 pub record Heading (l part : List ℕ) (place heading : ℕ) (q : Proc) : Type 0 where
@@ -167,8 +167,8 @@ pub record Heading (l part : List ℕ) (place heading : ℕ) (q : Proc) : Type 0
   pub long : length part ≡ length l - 8 * place
   pub within : 8 * (place + 1 + length (q .parameters)) + 8 * length (flatBody (q .body)) ≤ length l
 
-module _ {t : Tree} {q : Proc} {l part : List ℕ} {place : ℕ} {sizes env : List ℕ} {top : ℕ} {known aims ends stack out : List ℕ} {pen : Pen}
-    (r : ReadyProc t q l part place sizes env top known aims ends stack out pen) where
+module _ {t : Tree} {q : Proc} {l part : List ℕ} {place : ℕ} {sizes env : List ℕ} {top : ℕ} {known aims ends stack out : List ℕ} {cursor : Cursor}
+    (r : ReadyProc t q l part place sizes env top known aims ends stack out cursor) where
   proc-table : Table l part sizes place
   proc-table = record { whole = r .whole; legible = r .stage .prepared .tabled .legible; known = r .stage .prepared .tabled .known }
 
@@ -224,9 +224,9 @@ few-parameters : (xs : List Typed) (b : Body) → InLimits (bodyUsage xs b) → 
 few-parameters xs (proper s) k = omega (arith, k .cells)
 few-parameters xs (function u e) k = omega (arith, k .cells)
 
-module _ (t : Tree) (l part : List ℕ) (place : ℕ) (sizes env : List ℕ) (top : ℕ) (known aims ends stack out : List ℕ) (pen : Pen) (a : ℕ) (xs : List Typed) where
+module _ (t : Tree) (l part : List ℕ) (place : ℕ) (sizes env : List ℕ) (top : ℕ) (known aims ends stack out : List ℕ) (cursor : Cursor) (a : ℕ) (xs : List Typed) where
   abbrev Here : Body → Type 0
-  Here b = ReadyProc t (procOf a xs b) l part place sizes env top known aims ends stack out pen
+  Here b = ReadyProc t (procOf a xs b) l part place sizes env top known aims ends stack out cursor
 
   tail : (b : Body) → Here b → Stands (entriesOf l) (place + 1) (map flatTyped xs ++ flatBody b)
   unfolding flatGlobal
@@ -235,13 +235,13 @@ module _ (t : Tree) (l part : List ℕ) (place : ℕ) (sizes env : List ℕ) (to
   module _ (mid : List ℕ) (up : ℕ) (w : Walled l place (length xs) top env mid up) where
     abbrev Body-ready : Body → Type 0
     Body-ready b =
-        Ready (nodeOf b) (walkOf t known aims pen) (bodyPlace t xs (pen .address)) l (below part (8 * (1 + length xs))) 62
-        (place + 1 + length xs) sizes (lentOf mid ends stack out) up 0 0 pen
+        Ready (nodeOf b) (walkOf t known aims cursor) (bodyPlace t xs (cursor .address)) l (below part (8 * (1 + length xs))) 62
+        (place + 1 + length xs) sizes (lentOf mid ends stack out) up 0 0 cursor
 
     sight-here : (b : Body) → Here b → envOf mid up ≡ procedureSight l place xs (rootSight l t)
     sight-here b r = w .now ∙ ap (λ (v : List Item). procedureSight l place xs v) (r .stage .sight)
 
-    stood : (b : Body) → Here b → Stood (walkOf t known aims pen) (bodyPlace t xs (pen .address)) l (lentOf mid ends stack out) up 0 0 pen
+    stood : (b : Body) → Here b → Stood (walkOf t known aims cursor) (bodyPlace t xs (cursor .address)) l (lentOf mid ends stack out) up 0 0 cursor
     stood b r =
         let s = r .stage in
         record {
@@ -250,7 +250,7 @@ module _ (t : Tree) (l part : List ℕ) (place : ℕ) (sizes env : List ℕ) (to
               (sees-in-procedures (s .prepared .tabled .legible) t (s .prepared .tabled .same)));
           knows =
               rw (sight-here b r) (knows-in-procedure (s .prepared .tabled .legible) place xs (flatBody b) (tail b r)
-              (knows-in-procedures (s .prepared .tabled .legible) t (s .prepared .tabled .same) (rooted s aims pen) (r .within))
+              (knows-in-procedures (s .prepared .tabled .legible) t (s .prepared .tabled .same) (rooted s aims cursor) (r .within))
               (omega (arith, length-classes (t .head), s .prepared .tabled .readable .classes)) (few-parameters xs b (r .keeps)) (r .numbered));
           held = body-held t xs;
           deep = refl;
@@ -272,8 +272,8 @@ module _ (t : Tree) (l part : List ℕ) (place : ℕ) (sizes env : List ℕ) (to
     stands-here : (b : Body) → Here b → Stands (entriesOf l) (place + 1 + length xs) (flatBody b)
     stands-here b r = rw (length-map flatTyped xs) at (stands-right (map flatTyped xs) (flatBody b) (tail b r))
 
-    fits-here : (b : Body) → Here b → Fits (penAfter (codeBody (t .head) b (aroundBody t xs) (at (pen .address) (length xs))) pen) (length out)
-    unfolding penAfter
+    fits-here : (b : Body) → Here b → Fits (cursorAfter (codeBody (t .head) b (aroundBody t xs) (at (cursor .address) (length xs))) cursor) (length out)
+    unfolding cursorAfter
     fits-here b r = fits-before (length out) (later-moved _) (r .fits)
 
     entries-here : (b : Body) → Here b → place + 1 + length xs + length (flatBody b) ≤ length l / 8
@@ -303,7 +303,7 @@ module _ (t : Tree) (l part : List ℕ) (place : ℕ) (sizes env : List ℕ) (to
           good = rw (body-scopes t xs) (r .good);
           lands =
               rw (sight-here (proper z) r) (lands-in-procedure (r .stage .prepared .tabled .legible) place xs (flatS z) (tail (proper z) r)
-              (walkOf t known aims pen) (rootSight l t) (aroundBody t xs));
+              (walkOf t known aims cursor) (rootSight l t) (aroundBody t xs));
           few-holds = omega (arith, r .keeps .holds);
           few-values = omega (arith, r .keeps .need);
         }

@@ -11,7 +11,7 @@ use Rattle.compile.proofs.write.Tie as tie
 walk-requires : tie.Need-walk-requires
 walk-requires c κs =
     let at-start = c .before .before .before .before .before .before .before .before .before .before .before .before .before .before in
-    (write-dry (at-start .pre .0) (at-start .args .out .now) (c .pen .ensures), at-start .pre .1)
+    (write-dry (at-start .pre .0) (at-start .args .out .now) (c .cursor .ensures), at-start .pre .1)
 
 length-requires : tie.Need-length-requires
 length-requires c κs =
@@ -21,11 +21,11 @@ length-requires c κs =
 mul-shapes : tie.Need-mul-shapes
 mul-shapes c =
     let at-walk = c .before .before .before .before .before .before .before .before .before .before in
-    let at-pen = at-walk .before in
-    let at-start = at-pen .before .before .before .before .before .before .before .before .before .before .before .before .before .before in
+    let at-cursor = at-walk .before in
+    let at-start = at-cursor .before .before .before .before .before .before .before .before .before .before .before .before .before .before in
     omega (
       arith,
-      dry-length (at-start .pre .0) (at-pen .pen .ensures) (at-walk .walk .ensures)
+      dry-length (at-start .pre .0) (at-cursor .cursor .ensures) (at-walk .walk .ensures)
           (c .before .length .ensures (theTree (at-start .args .table .now)) (write-front (at-start .pre .0))),
       whole-small (at-start .pre .0),
     )
@@ -33,11 +33,11 @@ mul-shapes c =
 add-shapes : tie.Need-add-shapes
 add-shapes c =
     let at-walk = c .before .before .before .before .before .before .before .before .before .before in
-    let at-pen = at-walk .before in
-    let at-start = at-pen .before .before .before .before .before .before .before .before .before .before .before .before .before .before in
+    let at-cursor = at-walk .before in
+    let at-start = at-cursor .before .before .before .before .before .before .before .before .before .before .before .before .before .before in
     omega (
       arith,
-      dry-length (at-start .pre .0) (at-pen .pen .ensures) (at-walk .walk .ensures)
+      dry-length (at-start .pre .0) (at-cursor .cursor .ensures) (at-walk .walk .ensures)
           (c .before .length .ensures (theTree (at-start .args .table .now)) (write-front (at-start .pre .0))),
       whole-small (at-start .pre .0),
     )
@@ -45,11 +45,11 @@ add-shapes c =
 add-length : tie.Need-add-length
 add-length c =
     let at-walk = c .before .before .before .before .before .before .before .before .before .before .before in
-    let at-pen = at-walk .before in
-    let at-start = at-pen .before .before .before .before .before .before .before .before .before .before .before .before .before .before in
+    let at-cursor = at-walk .before in
+    let at-start = at-cursor .before .before .before .before .before .before .before .before .before .before .before .before .before .before in
     omega (
       arith,
-      dry-length (at-start .pre .0) (at-pen .pen .ensures) (at-walk .walk .ensures)
+      dry-length (at-start .pre .0) (at-cursor .cursor .ensures) (at-walk .walk .ensures)
           (c .before .before .length .ensures (theTree (at-start .args .table .now)) (write-front (at-start .pre .0))),
       whole-small (at-start .pre .0),
     )
@@ -57,11 +57,11 @@ add-length c =
 add-length-2 : tie.Need-add-length-2
 add-length-2 c =
     let at-walk = c .before .before .before .before .before .before .before .before .before .before .before in
-    let at-pen = at-walk .before in
-    let at-start = at-pen .before .before .before .before .before .before .before .before .before .before .before .before .before .before in
+    let at-cursor = at-walk .before in
+    let at-start = at-cursor .before .before .before .before .before .before .before .before .before .before .before .before .before .before in
     omega (
       arith,
-      dry-length (at-start .pre .0) (at-pen .pen .ensures) (at-walk .walk .ensures)
+      dry-length (at-start .pre .0) (at-cursor .cursor .ensures) (at-walk .walk .ensures)
           (c .before .before .length .ensures (theTree (at-start .args .table .now)) (write-front (at-start .pre .0))),
       whole-small (at-start .pre .0),
     )
@@ -69,23 +69,23 @@ add-length-2 c =
 returns : tie.Need-returns
 returns c =
     let at-walk = c .before .before .before .before .before .before .before .before .before .before .before .before in
-    let at-pen = at-walk .before in
-    let at-start = at-pen .before .before .before .before .before .before .before .before .before .before .before .before .before .before in
-    write-refused (at-start .pre .0) (at-pen .pen .ensures) (at-walk .walk .ensures)
-    (dry-length (at-start .pre .0) (at-pen .pen .ensures) (at-walk .walk .ensures)
+    let at-cursor = at-walk .before in
+    let at-start = at-cursor .before .before .before .before .before .before .before .before .before .before .before .before .before .before in
+    write-refused (at-start .pre .0) (at-cursor .cursor .ensures) (at-walk .walk .ensures)
+    (dry-length (at-start .pre .0) (at-cursor .cursor .ensures) (at-walk .walk .ensures)
     (c .before .before .before .length .ensures (theTree (at-start .args .table .now)) (write-front (at-start .pre .0)))) (c .if1 .taken)
 
 put-requires : tie.Need-put-requires
 put-requires c κs =
     let at-length = c .before .before .before .before .before in
     let at-walk = at-length .before .before .before .before .before .before .before .before .before in
-    let at-pen = at-walk .before in
-    let at-start = at-pen .before .before .before .before .before .before .before .before .before .before .before .before .before .before in (
+    let at-cursor = at-walk .before in
+    let at-start = at-cursor .before .before .before .before .before .before .before .before .before .before .before .before .before .before in (
       (theTree (at-start .args .table .now)),
-      (write-put (at-start .pre .0) (at-pen .pen .ensures) (at-walk .walk .ensures) _
+      (write-put (at-start .pre .0) (at-cursor .cursor .ensures) (at-walk .walk .ensures) _
           (omega (
             arith,
-            dry-length (at-start .pre .0) (at-pen .pen .ensures) (at-walk .walk .ensures)
+            dry-length (at-start .pre .0) (at-cursor .cursor .ensures) (at-walk .walk .ensures)
                 (at-length .length .ensures (theTree (at-start .args .table .now)) (write-front (at-start .pre .0))),
             c .before .before .if1 .left,
           ))),
@@ -97,87 +97,87 @@ walk-requires-2 c κs =
     let at-if1 = at-put .before .before .before in
     let at-length = at-if1 .before .before .before in
     let at-walk = at-length .before .before .before .before .before .before .before .before .before in
-    let at-pen = at-walk .before in
-    let at-start = at-pen .before .before .before .before .before .before .before .before .before .before .before .before .before .before in (
-      write-real (at-start .pre .0) (at-pen .pen .ensures) (at-walk .walk .ensures)
+    let at-cursor = at-walk .before in
+    let at-start = at-cursor .before .before .before .before .before .before .before .before .before .before .before .before .before .before in (
+      write-real (at-start .pre .0) (at-cursor .cursor .ensures) (at-walk .walk .ensures)
           (at-length .length .ensures (theTree (at-start .args .table .now)) (write-front (at-start .pre .0)))
           (omega (
             arith,
-            dry-length (at-start .pre .0) (at-pen .pen .ensures) (at-walk .walk .ensures)
+            dry-length (at-start .pre .0) (at-cursor .cursor .ensures) (at-walk .walk .ensures)
                 (at-length .length .ensures (theTree (at-start .args .table .now)) (write-front (at-start .pre .0))),
             at-if1 .if1 .left,
           ))
-          (at-put .put .ensures (theTree (at-start .args .table .now)) (write-put (at-start .pre .0) (at-pen .pen .ensures) (at-walk .walk .ensures) _
+          (at-put .put .ensures (theTree (at-start .args .table .now)) (write-put (at-start .pre .0) (at-cursor .cursor .ensures) (at-walk .walk .ensures) _
           (omega (
             arith,
-            dry-length (at-start .pre .0) (at-pen .pen .ensures) (at-walk .walk .ensures)
+            dry-length (at-start .pre .0) (at-cursor .cursor .ensures) (at-walk .walk .ensures)
                 (at-length .length .ensures (theTree (at-start .args .table .now)) (write-front (at-start .pre .0))),
             at-if1 .if1 .left,
           ))))
-          (c .pen2 .ensures),
+          (c .cursor2 .ensures),
       omega (arith, at-start .pre .1, at-walk .walk .ensures .kept .same-stack),
     )
 
 slice-write-out : tie.Need-slice-write-out
 slice-write-out c =
     let at-walk2 = c .before .before .before .before .before .before .before .before in
-    let at-pen2 = at-walk2 .before in
-    let at-put = at-pen2 .before .before .before .before .before .before .before .before in
+    let at-cursor2 = at-walk2 .before in
+    let at-put = at-cursor2 .before .before .before .before .before .before .before .before in
     let at-if1 = at-put .before .before .before in
     let at-length = at-if1 .before .before .before in
     let at-walk = at-length .before .before .before .before .before .before .before .before .before in
-    let at-pen = at-walk .before in
-    let at-start = at-pen .before .before .before .before .before .before .before .before .before .before .before .before .before .before in
+    let at-cursor = at-walk .before in
+    let at-start = at-cursor .before .before .before .before .before .before .before .before .before .before .before .before .before .before in
     omega (
       arith,
       at-if1 .if1 .left,
-      real-long (at-start .pre .0) (at-pen .pen .ensures) (at-walk .walk .ensures)
+      real-long (at-start .pre .0) (at-cursor .cursor .ensures) (at-walk .walk .ensures)
           (at-length .length .ensures (theTree (at-start .args .table .now)) (write-front (at-start .pre .0)))
           (omega (
             arith,
-            dry-length (at-start .pre .0) (at-pen .pen .ensures) (at-walk .walk .ensures)
+            dry-length (at-start .pre .0) (at-cursor .cursor .ensures) (at-walk .walk .ensures)
                 (at-length .length .ensures (theTree (at-start .args .table .now)) (write-front (at-start .pre .0))),
             at-if1 .if1 .left,
           ))
-          (at-put .put .ensures (theTree (at-start .args .table .now)) (write-put (at-start .pre .0) (at-pen .pen .ensures) (at-walk .walk .ensures) _
+          (at-put .put .ensures (theTree (at-start .args .table .now)) (write-put (at-start .pre .0) (at-cursor .cursor .ensures) (at-walk .walk .ensures) _
           (omega (
             arith,
-            dry-length (at-start .pre .0) (at-pen .pen .ensures) (at-walk .walk .ensures)
+            dry-length (at-start .pre .0) (at-cursor .cursor .ensures) (at-walk .walk .ensures)
                 (at-length .length .ensures (theTree (at-start .args .table .now)) (write-front (at-start .pre .0))),
             at-if1 .if1 .left,
           ))))
-          (at-pen2 .pen2 .ensures) (at-walk2 .walk2 .ensures),
+          (at-cursor2 .cursor2 .ensures) (at-walk2 .walk2 .ensures),
     )
 
 slice-write-out-2 : tie.Need-slice-write-out-2
 slice-write-out-2 c =
     let at-walk2 = c .before .before .before .before .before .before .before .before in
-    let at-pen2 = at-walk2 .before in
-    let at-put = at-pen2 .before .before .before .before .before .before .before .before in
+    let at-cursor2 = at-walk2 .before in
+    let at-put = at-cursor2 .before .before .before .before .before .before .before .before in
     let at-if1 = at-put .before .before .before in
     let at-length = at-if1 .before .before .before in
     let at-walk = at-length .before .before .before .before .before .before .before .before .before in
-    let at-pen = at-walk .before in
-    let at-start = at-pen .before .before .before .before .before .before .before .before .before .before .before .before .before .before in
+    let at-cursor = at-walk .before in
+    let at-start = at-cursor .before .before .before .before .before .before .before .before .before .before .before .before .before .before in
     simp length-set (omega (
       arith,
       at-if1 .if1 .left,
-      real-long (at-start .pre .0) (at-pen .pen .ensures) (at-walk .walk .ensures)
+      real-long (at-start .pre .0) (at-cursor .cursor .ensures) (at-walk .walk .ensures)
           (at-length .length .ensures (theTree (at-start .args .table .now)) (write-front (at-start .pre .0)))
           (omega (
             arith,
-            dry-length (at-start .pre .0) (at-pen .pen .ensures) (at-walk .walk .ensures)
+            dry-length (at-start .pre .0) (at-cursor .cursor .ensures) (at-walk .walk .ensures)
                 (at-length .length .ensures (theTree (at-start .args .table .now)) (write-front (at-start .pre .0))),
             at-if1 .if1 .left,
           ))
-          (at-put .put .ensures (theTree (at-start .args .table .now)) (write-put (at-start .pre .0) (at-pen .pen .ensures) (at-walk .walk .ensures) _
+          (at-put .put .ensures (theTree (at-start .args .table .now)) (write-put (at-start .pre .0) (at-cursor .cursor .ensures) (at-walk .walk .ensures) _
           (omega (
             arith,
-            dry-length (at-start .pre .0) (at-pen .pen .ensures) (at-walk .walk .ensures)
+            dry-length (at-start .pre .0) (at-cursor .cursor .ensures) (at-walk .walk .ensures)
                 (at-length .length .ensures (theTree (at-start .args .table .now)) (write-front (at-start .pre .0))),
             at-if1 .if1 .left,
           ))))
-          (at-pen2 .pen2 .ensures) (at-walk2 .walk2 .ensures),
+          (at-cursor2 .cursor2 .ensures) (at-walk2 .walk2 .ensures),
     ))
 
 same-length-6 : tie.Need-same-length-6
@@ -200,56 +200,56 @@ same-length-9 c =
 same-length-10 : tie.Need-same-length-10
 same-length-10 c =
     let at-walk2 = c .before .before .before .before .before .before .before .before in
-    let at-pen2 = at-walk2 .before in
-    let at-put = at-pen2 .before .before .before .before .before .before .before .before in
+    let at-cursor2 = at-walk2 .before in
+    let at-put = at-cursor2 .before .before .before .before .before .before .before .before in
     let at-if1 = at-put .before .before .before in
     let at-length = at-if1 .before .before .before in
     let at-walk = at-length .before .before .before .before .before .before .before .before .before in
-    let at-pen = at-walk .before in
-    let at-start = at-pen .before .before .before .before .before .before .before .before .before .before .before .before .before .before in
-    simp length-set (real-long (at-start .pre .0) (at-pen .pen .ensures) (at-walk .walk .ensures)
+    let at-cursor = at-walk .before in
+    let at-start = at-cursor .before .before .before .before .before .before .before .before .before .before .before .before .before .before in
+    simp length-set (real-long (at-start .pre .0) (at-cursor .cursor .ensures) (at-walk .walk .ensures)
     (at-length .length .ensures (theTree (at-start .args .table .now)) (write-front (at-start .pre .0)))
     (omega (
       arith,
-      dry-length (at-start .pre .0) (at-pen .pen .ensures) (at-walk .walk .ensures)
+      dry-length (at-start .pre .0) (at-cursor .cursor .ensures) (at-walk .walk .ensures)
           (at-length .length .ensures (theTree (at-start .args .table .now)) (write-front (at-start .pre .0))),
       at-if1 .if1 .left,
     ))
-    (at-put .put .ensures (theTree (at-start .args .table .now)) (write-put (at-start .pre .0) (at-pen .pen .ensures) (at-walk .walk .ensures) _
+    (at-put .put .ensures (theTree (at-start .args .table .now)) (write-put (at-start .pre .0) (at-cursor .cursor .ensures) (at-walk .walk .ensures) _
     (omega (
       arith,
-      dry-length (at-start .pre .0) (at-pen .pen .ensures) (at-walk .walk .ensures)
+      dry-length (at-start .pre .0) (at-cursor .cursor .ensures) (at-walk .walk .ensures)
           (at-length .length .ensures (theTree (at-start .args .table .now)) (write-front (at-start .pre .0))),
       at-if1 .if1 .left,
     ))))
-    (at-pen2 .pen2 .ensures) (at-walk2 .walk2 .ensures) ∙ at-walk .walk .ensures .kept .same-out)
+    (at-cursor2 .cursor2 .ensures) (at-walk2 .walk2 .ensures) ∙ at-walk .walk .ensures .kept .same-out)
 
 returns-2 : tie.Need-returns-2
 returns-2 c =
     let at-walk2 = c .before .before .before .before .before .before .before .before in
-    let at-pen2 = at-walk2 .before in
-    let at-put = at-pen2 .before .before .before .before .before .before .before .before in
+    let at-cursor2 = at-walk2 .before in
+    let at-put = at-cursor2 .before .before .before .before .before .before .before .before in
     let at-if1 = at-put .before .before .before in
     let at-length = at-if1 .before .before .before in
     let at-walk = at-length .before .before .before .before .before .before .before .before .before in
-    let at-pen = at-walk .before in
-    let at-start = at-pen .before .before .before .before .before .before .before .before .before .before .before .before .before .before in
-    write-done (at-start .pre .0) (at-pen .pen .ensures) (at-walk .walk .ensures)
+    let at-cursor = at-walk .before in
+    let at-start = at-cursor .before .before .before .before .before .before .before .before .before .before .before .before .before .before in
+    write-done (at-start .pre .0) (at-cursor .cursor .ensures) (at-walk .walk .ensures)
     (at-length .length .ensures (theTree (at-start .args .table .now)) (write-front (at-start .pre .0)))
     (omega (
       arith,
-      dry-length (at-start .pre .0) (at-pen .pen .ensures) (at-walk .walk .ensures)
+      dry-length (at-start .pre .0) (at-cursor .cursor .ensures) (at-walk .walk .ensures)
           (at-length .length .ensures (theTree (at-start .args .table .now)) (write-front (at-start .pre .0))),
       at-if1 .if1 .left,
     ))
-    (at-put .put .ensures (theTree (at-start .args .table .now)) (write-put (at-start .pre .0) (at-pen .pen .ensures) (at-walk .walk .ensures) _
+    (at-put .put .ensures (theTree (at-start .args .table .now)) (write-put (at-start .pre .0) (at-cursor .cursor .ensures) (at-walk .walk .ensures) _
     (omega (
       arith,
-      dry-length (at-start .pre .0) (at-pen .pen .ensures) (at-walk .walk .ensures)
+      dry-length (at-start .pre .0) (at-cursor .cursor .ensures) (at-walk .walk .ensures)
           (at-length .length .ensures (theTree (at-start .args .table .now)) (write-front (at-start .pre .0))),
       at-if1 .if1 .left,
     ))))
-    (at-pen2 .pen2 .ensures) (at-walk2 .walk2 .ensures) refl
+    (at-cursor2 .cursor2 .ensures) (at-walk2 .walk2 .ensures) refl
 
 pub write-spec : {M : Type 1} → statement M
 write-spec =

@@ -14,7 +14,7 @@ abbrev μ-loop : tie.MeasureT-loop
 loop-holds : tie.Need-loop-holds Inv-loop μ-loop
 loop-holds c =
     let at-start = c .before .before .before .before in
-    head-start (at-start .args .out .now) (at-start .args .pen) (at-start .pre .0) (at-start .pre .1)
+    head-start (at-start .args .out .now) (at-start .args .cursor) (at-start .pre .0) (at-start .pre .1)
 
 mul-from : tie.Need-mul-from Inv-loop μ-loop
 mul-from c =

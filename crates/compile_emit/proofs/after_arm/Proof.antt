@@ -1,11 +1,9 @@
-use borrow.Author.Tests.{eq-eqb, ne-eqb, lt-ltb, le-ltb}
-use mathlib.Core.Path.{_≡_, refl, sym, ap, _∙_}
+use mathlib.Core.Path.{refl}
 use native.Mathlib.Omega.{arith}
-use Prim.Native.Nat.{ℕ, _+_, _≤_, _<_}
-use lib.ListN.{length, take}
-use Rattle.compile_output.specs.declared.Pen.{Pen}
-use Rattle.compile_output.specs.Ink.{moved, penShaped}
-use Rattle.compile_emit.specs.OwnLaws.{fits-op, op-fits, fits-mark}
+use lib.ListN.{length}
+use Rattle.compile_output.specs.declared.Cursor.{Cursor}
+use Rattle.compile_output.specs.EmitRecord.{cursorShaped}
+use Rattle.compile_emit.specs.EmitEntryLaws.{op-fits, fits-mark}
 use borrow.Author.Needs.{needs}
 use Rattle.compile_emit.proofs.after_arm.Statement.{statement}
 use Rattle.compile_emit.proofs.after_arm.Tie as tie
@@ -25,7 +23,7 @@ shape-requires c κs =
       omega arith,
       omega arith,
       omega arith,
-      op-fits (λ (q : Pen). penShaped (a .depth) q) (a .p) (a .out .now) 8 0 (a .end)
+      op-fits (λ (q : Cursor). cursorShaped (a .depth) q) (a .p) (a .out .now) 8 0 (a .end)
           (c .before .before .before .emit .ensures) (c .before .before .before .before .before .before .before .pre .3),
     )
 

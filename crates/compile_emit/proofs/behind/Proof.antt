@@ -1,12 +1,12 @@
-use borrow.Author.Tests.{eq-eqb, ne-eqb, lt-ltb, le-ltb}
-use mathlib.Core.Path.{_≡_, refl, sym, ap, _∙_}
+use borrow.Author.Tests.{ne-eqb}
+use mathlib.Core.Path.{refl}
 use native.Mathlib.Omega.{arith}
-use Prim.Native.Nat.{ℕ, _+_, _≤_, _<_}
+use Prim.Native.Nat.{_+_}
 use lib.ListN.{length, take}
-use Rattle.compile_output.specs.declared.Pen.{Pen}
-use Rattle.compile_output.specs.Ink.{moved, penShaped}
-use Rattle.compile_emit.specs.OwnLaws.{fits-op, op-fits, fits-mark, mark-fits, behind-0, behind-2, behind-3}
-use Rattle.compile_emit.specs.Owns.{penBehind, inkBehind}
+use Rattle.compile_output.specs.declared.Cursor.{Cursor}
+use Rattle.compile_output.specs.EmitRecord.{moved, cursorShaped}
+use Rattle.compile_emit.specs.EmitEntryLaws.{fits-op, op-fits, fits-mark, mark-fits, behind-0, behind-2, behind-3}
+use Rattle.compile_emit.specs.EmitEntry.{cursorBehind, emitBehind}
 use borrow.Author.Needs.{needs}
 use Rattle.compile_emit.proofs.behind.Statement.{statement}
 use Rattle.compile_emit.proofs.behind.Tie as tie
@@ -29,7 +29,7 @@ shape-requires c κs =
       omega arith,
       omega arith,
       omega arith,
-      op-fits (λ (q : Pen). penShaped (a .depth) q) (a .p) (a .out .now) 8 0 (a .end + 2)
+      op-fits (λ (q : Cursor). cursorShaped (a .depth) q) (a .p) (a .out .now) 8 0 (a .end + 2)
           (c .before .before .before .emit .ensures) (fits-op n (fits-mark n (a .depth + 1) f)),
     )
 
@@ -39,9 +39,9 @@ emit-requires-2 c κs =
     let at-match = at-emit .before .before in
     let at-start = at-match .before .before .before in
     let a = at-start .args in let n = length (a .out .now) in let f = rw (behind-2 (a .way) (a .depth) (a .p) (at-match .match .keys1)) at
-    (at-start .pre .4) in mark-fits (λ (q : Pen). moved q) (at-emit .emit .result) (at-emit .emit .last .0) (a .holds) (a .depth)
+    (at-start .pre .4) in mark-fits (λ (q : Cursor). moved q) (at-emit .emit .result) (at-emit .emit .last .0) (a .holds) (a .depth)
     (take (a .depth) (a .stack .now)) (c .before .before .before .shape .ensures)
-    (op-fits (λ (q : Pen). moved (penShaped (a .depth) q)) (a .p) (a .out .now) 8 0 (a .end + 2) (at-emit .emit .ensures) (fits-mark n (a .depth + 1) f))
+    (op-fits (λ (q : Cursor). moved (cursorShaped (a .depth) q)) (a .p) (a .out .now) 8 0 (a .end + 2) (at-emit .emit .ensures) (fits-mark n (a .depth + 1) f))
 
 shape-requires-2 : tie.Need-shape-requires-2
 shape-requires-2 c κs =
@@ -54,10 +54,10 @@ shape-requires-2 c κs =
       omega (arith, at-start .pre .1),
       omega (arith, at-start .pre .2),
       omega (arith, at-start .pre .3),
-      op-fits (λ (q : Pen). penShaped (a .depth + 1) q) (at-shape .shape .result) (at-shape .shape .last .0) 2 0 0
-          (c .before .before .before .emit2 .ensures) (mark-fits (λ (q : Pen). penShaped (a .depth + 1) (moved q)) (at-emit .emit .result)
+      op-fits (λ (q : Cursor). cursorShaped (a .depth + 1) q) (at-shape .shape .result) (at-shape .shape .last .0) 2 0 0
+          (c .before .before .before .emit2 .ensures) (mark-fits (λ (q : Cursor). cursorShaped (a .depth + 1) (moved q)) (at-emit .emit .result)
           (at-emit .emit .last .0) (a .holds) (a .depth) (take (a .depth) (a .stack .now)) (at-shape .shape .ensures)
-          (op-fits (λ (q : Pen). penShaped (a .depth + 1) (moved (penShaped (a .depth) q))) (a .p) (a .out .now) 8 0 (a .end + 2) (at-emit .emit .ensures) f)),
+          (op-fits (λ (q : Cursor). cursorShaped (a .depth + 1) (moved (cursorShaped (a .depth) q))) (a .p) (a .out .now) 8 0 (a .end + 2) (at-emit .emit .ensures) f)),
     )
 
 shape-requires-3 : tie.Need-shape-requires-3
@@ -72,7 +72,7 @@ emit-requires-3 c κs =
     let a = at-start .args in let n = length (a .out .now) in let r = c .before .match .rest in rw (behind-0 (a .way) (a .depth) (a .p) (r .0 .1) (r .1)) at (at-start .pre .4)
 
 returns : tie.Need-returns
-unfolding penBehind inkBehind
+unfolding cursorBehind emitBehind
 returns c =
     let at-shape2 = c .before .before in
     let at-emit2 = at-shape2 .before .before .before .before in
@@ -92,13 +92,13 @@ returns c =
     ) (refl, refl)
 
 returns-2 : tie.Need-returns-2
-unfolding penBehind inkBehind
+unfolding cursorBehind emitBehind
 returns-2 c =
     let at-match = c .before .before .before .before in
     rw (at-match .match .keys2) (c .before .before .shape3 .ensures)
 
 returns-3 : tie.Need-returns-3
-unfolding penBehind inkBehind
+unfolding cursorBehind emitBehind
 returns-3 c =
     let at-match = c .before .before .before .before in
     let r = at-match .match .rest in rw (ne-eqb _ _ (r .0 .1), ne-eqb _ _ (r .1)) (c .before .before .emit3 .ensures)

@@ -1,13 +1,13 @@
-use Rattle.compile_output.specs.Ink.{Fits}
-use borrow.Author.Tests.{eq-eqb, ne-eqb, lt-ltb, le-ltb}
-use mathlib.Core.Path.{_≡_, refl, sym, ap, _∙_}
+use Rattle.compile_output.specs.EmitRecord.{Fits}
+use borrow.Author.Tests.{ne-eqb}
+use mathlib.Core.Path.{refl}
 use native.Mathlib.Omega.{arith}
-use Prim.Native.Nat.{ℕ, _+_, _≤_, _<_}
-use lib.ListN.{length, take}
-use Rattle.compile_output.specs.declared.Pen.{Pen}
-use Rattle.compile_output.specs.Ink.{moved, penShaped}
-use Rattle.compile_emit.specs.OwnLaws.{fits-op, op-fits, fits-mark, mark-fits, between-1, between-2, between-3}
-use Rattle.compile_emit.specs.Owns.{penBetween, inkBetween}
+use Prim.Native.Nat.{_+_}
+use lib.ListN.{length}
+use Rattle.compile_output.specs.declared.Cursor.{Cursor}
+use Rattle.compile_output.specs.EmitRecord.{moved, cursorShaped}
+use Rattle.compile_emit.specs.EmitEntryLaws.{fits-op, op-fits, fits-mark, between-1, between-2, between-3}
+use Rattle.compile_emit.specs.EmitEntry.{cursorBetween, emitBetween}
 use borrow.Author.Needs.{needs}
 use Rattle.compile_emit.proofs.between.Statement.{statement}
 use Rattle.compile_emit.proofs.between.Tie as tie
@@ -53,7 +53,7 @@ emit-requires-3 c κs =
     let at-start = at-match .before .before .before in
     let a = at-start .args in let n = length (a .out .now) in let r = at-match .match .rest in
     let f = rw (between-3 (a .way) (a .depth) (a .p) (r .0 .0 .1) (r .0 .1) (r .1)) at (at-start .pre .4) in
-    op-fits (λ (q : Pen). moved q) (a .p) (a .out .now) 9 0 (a .p .address + 3) (c .before .before .before .emit2 .ensures) (fits-op n (fits-mark n (a .depth) f))
+    op-fits (λ (q : Cursor). moved q) (a .p) (a .out .now) 9 0 (a .p .address + 3) (c .before .before .before .emit2 .ensures) (fits-op n (fits-mark n (a .depth) f))
 
 emit-requires-4 : tie.Need-emit-requires-4
 emit-requires-4 c κs =
@@ -62,8 +62,8 @@ emit-requires-4 c κs =
     let at-start = at-match .before .before .before in
     let a = at-start .args in let n = length (a .out .now) in let r = at-match .match .rest in
     let f = rw (between-3 (a .way) (a .depth) (a .p) (r .0 .0 .1) (r .0 .1) (r .1)) at (at-start .pre .4) in
-    op-fits (λ (q : Pen). moved q) (at-emit2 .emit2 .result) (at-emit2 .emit2 .last .0) 2 0 1 (c .before .before .before .emit3 .ensures)
-    (op-fits (λ (q : Pen). moved (moved q)) (a .p) (a .out .now) 9 0 (a .p .address + 3) (at-emit2 .emit2 .ensures) (fits-mark n (a .depth) f))
+    op-fits (λ (q : Cursor). moved q) (at-emit2 .emit2 .result) (at-emit2 .emit2 .last .0) 2 0 1 (c .before .before .before .emit3 .ensures)
+    (op-fits (λ (q : Cursor). moved (moved q)) (a .p) (a .out .now) 9 0 (a .p .address + 3) (at-emit2 .emit2 .ensures) (fits-mark n (a .depth) f))
 
 shape-requires-2 : tie.Need-shape-requires-2
 shape-requires-2 c κs =
@@ -76,30 +76,30 @@ shape-requires-2 c κs =
       omega (arith, at-start .pre .1),
       omega (arith, at-start .pre .2),
       omega (arith, at-start .pre .3),
-      op-fits (λ (q : Pen). penShaped (a .depth) q) (at-emit3 .emit3 .result) (at-emit3 .emit3 .last .0) 8 0 (a .end)
-          (c .before .before .before .emit4 .ensures) (op-fits (λ (q : Pen). penShaped (a .depth) (moved q)) (at-emit2 .emit2 .result)
-          (at-emit2 .emit2 .last .0) 2 0 1 (at-emit3 .emit3 .ensures) (op-fits (λ (q : Pen). penShaped (a .depth) (moved (moved q))) (a .p)
+      op-fits (λ (q : Cursor). cursorShaped (a .depth) q) (at-emit3 .emit3 .result) (at-emit3 .emit3 .last .0) 8 0 (a .end)
+          (c .before .before .before .emit4 .ensures) (op-fits (λ (q : Cursor). cursorShaped (a .depth) (moved q)) (at-emit2 .emit2 .result)
+          (at-emit2 .emit2 .last .0) 2 0 1 (at-emit3 .emit3 .ensures) (op-fits (λ (q : Cursor). cursorShaped (a .depth) (moved (moved q))) (a .p)
           (a .out .now) 9 0 (a .p .address + 3) (at-emit2 .emit2 .ensures) f)),
     )
 
 returns : tie.Need-returns
-unfolding penBetween inkBetween
+unfolding cursorBetween emitBetween
 returns c = rw (c .match .keys1) (refl, refl)
 
 returns-2 : tie.Need-returns-2
-unfolding penBetween inkBetween
+unfolding cursorBetween emitBetween
 returns-2 c =
     let at-match = c .before .before .before .before in
     rw (at-match .match .keys2) (c .before .before .shape .ensures)
 
 returns-3 : tie.Need-returns-3
-unfolding penBetween inkBetween
+unfolding cursorBetween emitBetween
 returns-3 c =
     let at-match = c .before .before .before .before in
     rw (at-match .match .keys3) (c .before .before .emit .ensures)
 
 returns-4 : tie.Need-returns-4
-unfolding penBetween inkBetween
+unfolding cursorBetween emitBetween
 returns-4 c =
     let at-shape2 = c .before .before in
     let at-emit4 = at-shape2 .before .before .before .before in

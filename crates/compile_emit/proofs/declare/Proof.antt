@@ -1,20 +1,17 @@
-use borrow.Author.Tests.{eq-eqb, ne-eqb, lt-ltb, le-ltb}
 use mathlib.Core.Path.{_≡_, refl, sym, ap, _∙_}
 use native.Mathlib.Omega.{arith}
-use Prim.Native.Nat.{ℕ, _+_, _≤_, _<_}
-use lib.ListN.{length, take}
-use Rattle.compile_output.specs.declared.Pen.{Pen}
-use Rattle.compile_output.specs.Ink.{moved, penShaped}
-use Rattle.compile_emit.specs.OwnLaws.{part-from, later-head, pens-step, inks-step, finishes-step, heads-none, length-declared}
-use Rattle.compile_emit.specs.Owns.{penDeclared, inkDeclared, pensHead, inksHead, finishes}
+use Prim.Native.Nat.{ℕ, _+_, _≤_}
+use lib.ListN.{length}
+use Rattle.compile_emit.specs.EmitEntryLaws.{part-from, later-head, cursors-step, emits-step, finishes-step, heads-none, length-declared}
+use Rattle.compile_emit.specs.EmitEntry.{cursorDeclared, emitDeclared, cursorHead, emitHead, finishes}
 use borrow.Author.Needs.{needs}
 use native.Mathlib.Nat.{add-zero, sub-zero}
 use Prim.Native.Nat.{_-_, _*_}
 use lib.Seq.{sets}
 use lib.ListN.{drop, getD, set, length-set, length-drop}
 use Rattle.words.specs.Numbers.{halfAt}
-use Rattle.compile_output.specs.Ink.{Fits}
-use Rattle.compile_output.specs.Folds.{fits-before}
+use Rattle.compile_output.specs.EmitRecord.{Fits}
+use Rattle.compile_output.specs.EmitCode.{fits-before}
 use Rattle.compile_emit.proofs.declare.Statement.{statement}
 use Rattle.compile_emit.proofs.declare.Tie as tie
 use Rattle.compile_emit.proofs.declare.Reads as reads
@@ -24,10 +21,10 @@ use Rattle.compile_emit.proofs.declare_one.Reads as declare-one-reads
 use Rattle.compile_emit.proofs.finish.Reads as finish-reads
 
 abbrev Inv-loop : tie.InvT-loop
-Inv-loop part at count known ends₀ out₀ i₀ p₀ ends out i p = (i ≤ count) × (pensHead part count p₀ ≡ pensHead (drop (8 * i) part) (count - i) p)
-    × (inksHead part known at count p₀ out₀ ≡ inksHead (drop (8 * i) part) known (at + i) (count - i) p out)
+Inv-loop part at count known ends₀ out₀ i₀ p₀ ends out i p = (i ≤ count) × (cursorHead part count p₀ ≡ cursorHead (drop (8 * i) part) (count - i) p)
+    × (emitHead part known at count p₀ out₀ ≡ emitHead (drop (8 * i) part) known (at + i) (count - i) p out)
     × (sets ends₀ at (finishes part count p₀) ≡ sets ends (at + i) (finishes (drop (8 * i) part) (count - i) p))
-    × Fits (pensHead (drop (8 * i) part) (count - i) p) (length out) × (length out ≡ length out₀) × (length ends ≡ length ends₀)
+    × Fits (cursorHead (drop (8 * i) part) (count - i) p) (length out) × (length out ≡ length out₀) × (length ends ≡ length ends₀)
 
 abbrev μ-loop : tie.MeasureT-loop
 μ-loop part at count known ends₀ out₀ i₀ p₀ ends out i p = count - i
@@ -50,17 +47,17 @@ declare-one-requires c κs =
     let w = c .before .before .before .before .before .loop in let s = part-from (a .part .now) (8 * w .i) in (
       rw s (omega (arith, length-drop (8 * w .i) (a .part .now), c .before .before .before .before .before .before .before .before .before .before .pre .0)),
       rw s (fits-before (length (w .out)) (later-head (drop (8 * (w .i + 1)) (a .part .now)) (a .count - (w .i + 1))
-          (penDeclared (halfAt (drop (8 * w .i) (a .part .now)) 0) (w .p))) (rw (pens-step (a .part .now) (a .count) (w .i) (w .p) (omega arith)) at (w .inv .4))),
+          (cursorDeclared (halfAt (drop (8 * w .i) (a .part .now)) 0) (w .p))) (rw (cursors-step (a .part .now) (a .count) (w .i) (w .p) (omega arith)) at (w .inv .4))),
     )
 
 finish-requires : tie.Need-finish-requires Inv-loop μ-loop
 finish-requires c κs =
     let a = c .before .before .before .before .before .before .before .before .before .before .before .before .before .args in
     let w = c .before .before .before .before .before .before .before .before .loop in let s = part-from (a .part .now) (8 * w .i) in
-    let q : c .before .before .declare-one .result ≡ penDeclared (halfAt (drop (8 * w .i) (a .part .now)) 0) (w .p) =
-    rw s at (c .before .before .declare-one .ensures .0) in let f : Fits (penDeclared (halfAt (drop (8 * w .i) (a .part .now)) 0) (w .p))
+    let q : c .before .before .declare-one .result ≡ cursorDeclared (halfAt (drop (8 * w .i) (a .part .now)) 0) (w .p) =
+    rw s at (c .before .before .declare-one .ensures .0) in let f : Fits (cursorDeclared (halfAt (drop (8 * w .i) (a .part .now)) 0) (w .p))
     (length (w .out)) = fits-before (length (w .out)) (later-head (drop (8 * (w .i + 1)) (a .part .now)) (a .count - (w .i + 1))
-    (penDeclared (halfAt (drop (8 * w .i) (a .part .now)) 0) (w .p))) (rw (pens-step (a .part .now) (a .count) (w .i) (w .p) (omega arith)) at
+    (cursorDeclared (halfAt (drop (8 * w .i) (a .part .now)) 0) (w .p))) (rw (cursors-step (a .part .now) (a .count) (w .i) (w .p) (omega arith)) at
     (w .inv .4)) in (omega (arith, w .inv .6), rw q (f .address-small))
 
 loop-again : tie.Need-loop-again Inv-loop μ-loop
@@ -68,22 +65,22 @@ loop-again c =
     let a = c .before .before .before .before .before .before .before .before .before .before .before .before .before .before .before .before .args in
     let w = c .before .before .before .before .before .before .before .before .before .before .before .loop in
     let s = part-from (a .part .now) (8 * w .i) in let q : c .before .before .before .before .before .declare-one .result
-    ≡ penDeclared (halfAt (drop (8 * w .i) (a .part .now)) 0) (w .p) = rw s at (c .before .before .before .before .before .declare-one .ensures .0) in
+    ≡ cursorDeclared (halfAt (drop (8 * w .i) (a .part .now)) 0) (w .p) = rw s at (c .before .before .before .before .before .declare-one .ensures .0) in
     let o : c .before .before .before .before .before .declare-one .last .1 .1 .0
-    ≡ inkDeclared (halfAt (drop (8 * w .i) (a .part .now)) 0) (halfAt (drop (8 * w .i) (a .part .now)) 2) (getD (a .known .now) (a .at + w .i) 0)
+    ≡ emitDeclared (halfAt (drop (8 * w .i) (a .part .now)) 0) (halfAt (drop (8 * w .i) (a .part .now)) 2) (getD (a .known .now) (a .at + w .i) 0)
     (w .p) (w .out) = rw (s, c .before .before .before .before .before .before .before .before .before .known-at .ensures) at
     (c .before .before .before .before .before .declare-one .ensures .1) in
     let m : length (c .before .before .before .before .before .declare-one .last .1 .1 .0) ≡ length (w .out) = ap (length {A = ℕ}) o ∙ length-declared _ _ _ (w .p) (w .out) in
-    let r : c .before .before .finish .result ≡ penDeclared (halfAt (drop (8 * w .i) (a .part .now)) 0) (w .p) = c .before .before .finish .ensures .0 ∙ q in
+    let r : c .before .before .finish .result ≡ cursorDeclared (halfAt (drop (8 * w .i) (a .part .now)) 0) (w .p) = c .before .before .finish .ensures .0 ∙ q in
     let t : c .before .before .finish .last .0 ≡ set (w .ends) (a .at + w .i)
-    (penDeclared (halfAt (drop (8 * w .i) (a .part .now)) 0) (w .p) .address) = rw q at (c .before .before .finish .ensures .1) in (
+    (cursorDeclared (halfAt (drop (8 * w .i) (a .part .now)) 0) (w .p) .address) = rw q at (c .before .before .finish .ensures .1) in (
       omega arith,
-      rw r (w .inv .1 ∙ pens-step (a .part .now) (a .count) (w .i) (w .p) (omega arith)),
-      rw (r, o) (w .inv .2 ∙ inks-step (a .part .now) (a .count) (w .i) (w .p) (omega arith) (a .known .now) (a .at) (w .out)),
+      rw r (w .inv .1 ∙ cursors-step (a .part .now) (a .count) (w .i) (w .p) (omega arith)),
+      rw (r, o) (w .inv .2 ∙ emits-step (a .part .now) (a .count) (w .i) (w .p) (omega arith) (a .known .now) (a .at) (w .out)),
       rw (r, t) (w .inv .3 ∙ finishes-step (a .part .now) (a .count) (w .i) (w .p) (omega arith) (w .ends) (a .at)),
-      rw (r, m) (rw (pens-step (a .part .now) (a .count) (w .i) (w .p) (omega arith)) at (w .inv .4)),
+      rw (r, m) (rw (cursors-step (a .part .now) (a .count) (w .i) (w .p) (omega arith)) at (w .inv .4)),
       m ∙ w .inv .5,
-      ap (length {A = ℕ}) t ∙ (length-set {A = ℕ} (w .ends) (a .at + w .i) (penDeclared (halfAt (drop (8 * w .i) (a .part .now)) 0) (w .p) .address) ∙ w .inv .6),
+      ap (length {A = ℕ}) t ∙ (length-set {A = ℕ} (w .ends) (a .at + w .i) (cursorDeclared (halfAt (drop (8 * w .i) (a .part .now)) 0) (w .p) .address) ∙ w .inv .6),
     )
 
 same-length : tie.Need-same-length Inv-loop μ-loop

@@ -1,12 +1,8 @@
-use borrow.Author.Tests.{eq-eqb, ne-eqb, lt-ltb, le-ltb}
-use mathlib.Core.Path.{_≡_, refl, sym, ap, _∙_}
-use native.Mathlib.Omega.{arith}
-use Prim.Native.Nat.{ℕ, _+_, _≤_, _<_}
-use lib.ListN.{length, take}
-use Rattle.compile_output.specs.declared.Pen.{Pen}
-use Rattle.compile_output.specs.Ink.{moved, penShaped}
-use Rattle.compile_emit.specs.OwnLaws.{fits-op, declared-10, declared-14, initial-length}
-use Rattle.compile_emit.specs.Owns.{penDeclared, inkDeclared}
+use borrow.Author.Tests.{ne-eqb}
+use mathlib.Core.Path.{refl, sym, _∙_}
+use lib.ListN.{length}
+use Rattle.compile_emit.specs.EmitEntryLaws.{fits-op, declared-10, declared-14, initial-length}
+use Rattle.compile_emit.specs.EmitEntry.{cursorDeclared, emitDeclared}
 use borrow.Author.Needs.{needs}
 use Rattle.compile_emit.proofs.declare_one.Statement.{statement}
 use Rattle.compile_emit.proofs.declare_one.Tie as tie
@@ -41,7 +37,7 @@ emit-requires-2 c κs =
     let a = at-start .args in let n = length (a .out .now) in rw (declared-14 _ (a .p) (sym (c .before .before .before .half-at .ensures) ∙ c .before .before .match .keys2)) at (at-start .pre .1)
 
 returns : tie.Need-returns
-unfolding penDeclared inkDeclared
+unfolding cursorDeclared emitDeclared
 returns c =
     let at-emit = c .before .before in
     let at-initial = at-emit .before .before .before .before .before in
@@ -59,14 +55,14 @@ returns c =
     ) (refl, refl)
 
 returns-2 : tie.Need-returns-2
-unfolding penDeclared inkDeclared
+unfolding cursorDeclared emitDeclared
 returns-2 c =
     let at-match = c .before .before .before .before .before in
     let at-half-at = at-match .before in
     rw (sym (at-half-at .half-at .ensures) ∙ at-match .match .keys2, sym (c .before .before .before .half-at2 .ensures)) (c .before .before .emit2 .ensures)
 
 returns-3 : tie.Need-returns-3
-unfolding penDeclared inkDeclared
+unfolding cursorDeclared emitDeclared
 returns-3 c = let r = c .match .rest in rw (sym (c .before .half-at .ensures), ne-eqb _ _ (r .0 .1), ne-eqb _ _ (r .1)) (refl, refl)
 
 pub declare-one-spec : {M : Type 1} → statement M

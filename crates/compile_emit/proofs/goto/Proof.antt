@@ -1,10 +1,10 @@
-use mathlib.Core.Path.{_≡_, refl}
+use mathlib.Core.Path.{refl}
 use native.Mathlib.Omega.{arith}
 use borrow.Author.Needs.{needs}
 use lib.ListN.{length}
-use Rattle.compile_output.specs.declared.Pen.{Pen}
-use Rattle.compile_output.specs.Ink.{penShaped}
-use Rattle.compile_emit.specs.OwnLaws.{fits-op, fits-mark, op-fits, lets-length}
+use Rattle.compile_output.specs.declared.Cursor.{Cursor}
+use Rattle.compile_output.specs.EmitRecord.{cursorShaped}
+use Rattle.compile_emit.specs.EmitEntryLaws.{fits-op, fits-mark, op-fits, lets-length}
 use Rattle.compile_emit.proofs.goto.Statement.{statement}
 use Rattle.compile_emit.proofs.goto.Tie as tie
 use Rattle.compile_emit.proofs.land.Reads as land-reads
@@ -25,7 +25,7 @@ emit-requires c κs =
     let at-land = at-releases .before .before in
     let at-start = at-land .before .before .before .before .before in
     let a = at-start .args in
-    rw (at-releases .releases .ensures .0, lets-length (at-land .land .result .passed) (a .pen) (a .out .now) (at-releases .releases .ensures .1), at-land .land .ensures .0)
+    rw (at-releases .releases .ensures .0, lets-length (at-land .land .result .passed) (a .cursor) (a .out .now) (at-releases .releases .ensures .1), at-land .land .ensures .0)
     (fits-mark (length (a .out .now)) (a .depth) (at-start .pre .4))
 
 shape-requires : tie.Need-shape-requires
@@ -40,8 +40,8 @@ shape-requires c κs =
       omega (arith, held .1),
       omega (arith, held .2),
       omega (arith, held .3),
-      op-fits (λ (q : Pen). penShaped (a .depth) q) (here .result) (here .last .0) 8 0 (at-land .land .result .address) (c .before .before .before .emit .ensures)
-          (rw (here .ensures .0, lets-length (at-land .land .result .passed) (a .pen) (a .out .now) (here .ensures .1), at-land .land .ensures .0) (held .4)),
+      op-fits (λ (q : Cursor). cursorShaped (a .depth) q) (here .result) (here .last .0) 8 0 (at-land .land .result .address) (c .before .before .before .emit .ensures)
+          (rw (here .ensures .0, lets-length (at-land .land .result .passed) (a .cursor) (a .out .now) (here .ensures .1), at-land .land .ensures .0) (held .4)),
     )
 
 returns : tie.Need-returns

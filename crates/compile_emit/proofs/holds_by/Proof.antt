@@ -1,10 +1,4 @@
-use borrow.Author.Tests.{eq-eqb, ne-eqb, lt-ltb, le-ltb}
-use mathlib.Core.Path.{_≡_, refl, sym, ap, _∙_}
-use native.Mathlib.Omega.{arith}
-use Prim.Native.Nat.{ℕ, _+_, _≤_, _<_}
-use lib.ListN.{length, take}
-use Rattle.compile_output.specs.declared.Pen.{Pen}
-use Rattle.compile_output.specs.Ink.{moved, penShaped}
+use borrow.Author.Tests.{eq-eqb, ne-eqb}
 use Rattle.compile_emit.proofs.holds_by.Statement.{statement}
 use Rattle.compile_emit.proofs.holds_by.Tie as tie
 use Rattle.compile_emit.proofs.holds_by.Reads as reads

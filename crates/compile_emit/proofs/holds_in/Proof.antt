@@ -1,12 +1,8 @@
-use borrow.Author.Tests.{eq-eqb, ne-eqb, lt-ltb, le-ltb}
-use mathlib.Core.Path.{_≡_, refl, sym, ap, _∙_}
+use mathlib.Core.Path.{_≡_, ap, _∙_}
 use native.Mathlib.Omega.{arith}
-use Prim.Native.Nat.{ℕ, _+_, _≤_, _<_}
-use lib.ListN.{length, take}
-use Rattle.compile_output.specs.declared.Pen.{Pen}
-use Rattle.compile_output.specs.Ink.{moved, penShaped}
-use Rattle.compile_emit.specs.OwnLaws.{holds-one, holds-step, holds-none}
-use Rattle.compile_emit.specs.Owns.{holdsBy, holdsHead}
+use Prim.Native.Nat.{ℕ, _+_, _≤_}
+use Rattle.compile_emit.specs.EmitEntryLaws.{holds-one, holds-step, holds-none}
+use Rattle.compile_emit.specs.EmitEntry.{holdsBy, holdsHead}
 use borrow.Author.Needs.{needs}
 use native.Mathlib.Nat.{sub-zero}
 use Prim.Native.Nat.{_-_, _*_}

@@ -1,12 +1,12 @@
 -- The loop's invariant: the holds passed so far and those still to be passed are all; the name stands for what it does among the items below.
-use mathlib.Core.Path.{_≡_, refl, sym, ap, _∙_}
+use mathlib.Core.Path.{_≡_, refl, sym, _∙_}
 use native.Mathlib.Omega.{arith}
 use borrow.Author.Needs.{needs}
 use Prim.Native.Nat.{_+_, _-_, _*_, _≤_}
 use Rattle.table_scopes.specs.Environment.{envOf}
 use Rattle.compile_symbols.specs.Meaning.{meaningOf}
 use Rattle.compile_nodes.specs.Knows.{passedTo}
-use Rattle.compile_emit.specs.OwnLaws.{passed-hit, passed-hold, passed-other, passed-none, meant-hit, meant-miss, meant-none}
+use Rattle.compile_emit.specs.EmitEntryLaws.{passed-hit, passed-hold, passed-other, passed-none, meant-hit, meant-miss, meant-none}
 use Rattle.compile_emit.proofs.land.Statement.{statement}
 use Rattle.compile_emit.proofs.land.Tie as tie
 use Rattle.compile_emit.proofs.end_of.Reads as end-of-reads

@@ -1,6 +1,6 @@
-use borrow.Author.Tests.{eq-eqb, ne-eqb, lt-ltb, le-ltb}
-use mathlib.Core.Path.{_≡_, refl, sym, ap, _∙_}
-use Rattle.compile_emit.specs.Owns.{inkLast}
+use borrow.Author.Tests.{ne-eqb}
+use mathlib.Core.Path.{sym}
+use Rattle.compile_emit.specs.EmitEntry.{emitLast}
 use borrow.Author.Needs.{needs}
 use Rattle.compile_emit.proofs.last.Statement.{statement}
 use Rattle.compile_emit.proofs.last.Tie as tie
@@ -11,14 +11,14 @@ use Rattle.compile_symbols.proofs.second_in.Reads as second-in-reads
 use Rattle.compile_output.proofs.emit.Reads as emit-reads
 
 returns : tie.Need-returns
-unfolding inkLast
+unfolding emitLast
 returns c =
     let at-emit = c .before .before in
     let at-match = at-emit .before .before in
     (at-emit .emit .ensures .0, rw (at-match .match .keys1) (at-emit .emit .ensures .1))
 
 returns-2 : tie.Need-returns-2
-unfolding inkLast
+unfolding emitLast
 returns-2 c =
     let at-emit2 = c .before .before in
     let at-match = at-emit2 .before .before in
@@ -26,14 +26,14 @@ returns-2 c =
     (at-emit2 .emit2 .ensures .0, rw (at-match .match .keys2, sym (at-second-in .second-in .ensures)) (at-emit2 .emit2 .ensures .1))
 
 returns-3 : tie.Need-returns-3
-unfolding inkLast
+unfolding emitLast
 returns-3 c =
     let at-emit3 = c .before .before in
     let at-match = at-emit3 .before .before in
     (at-emit3 .emit3 .ensures .0, rw (at-match .match .keys3) (at-emit3 .emit3 .ensures .1))
 
 returns-4 : tie.Need-returns-4
-unfolding inkLast
+unfolding emitLast
 returns-4 c =
     let at-emit4 = c .before .before in
     let at-match = at-emit4 .before .before in
@@ -41,7 +41,7 @@ returns-4 c =
     (at-emit4 .emit4 .ensures .0, rw (at-match .match .keys4, sym (at-second-in .second-in .ensures)) (at-emit4 .emit4 .ensures .1))
 
 returns-5 : tie.Need-returns-5
-unfolding inkLast
+unfolding emitLast
 returns-5 c =
     let at-emit5 = c .before .before in
     let at-match = at-emit5 .before .before in
@@ -50,7 +50,7 @@ returns-5 c =
     (at-emit5 .emit5 .ensures .0, rw (at-match .match .keys5, sym (at-first-in .first-in .ensures), sym (at-second-in .second-in .ensures)) (at-emit5 .emit5 .ensures .1))
 
 returns-6 : tie.Need-returns-6
-unfolding inkLast
+unfolding emitLast
 returns-6 c =
     let at-emit6 = c .before .before in
     let at-match = at-emit6 .before .before in
@@ -58,14 +58,14 @@ returns-6 c =
     (at-emit6 .emit6 .ensures .0, rw (at-match .match .keys6, sym (at-first-in .first-in .ensures)) (at-emit6 .emit6 .ensures .1))
 
 returns-7 : tie.Need-returns-7
-unfolding inkLast
+unfolding emitLast
 returns-7 c =
     let at-emit7 = c .before .before in
     let at-match = at-emit7 .before .before in
     (at-emit7 .emit7 .ensures .0, rw (at-match .match .keys7) (at-emit7 .emit7 .ensures .1))
 
 returns-8 : tie.Need-returns-8
-unfolding inkLast
+unfolding emitLast
 returns-8 c =
     let at-emit8 = c .before .before in
     let at-match = at-emit8 .before .before in

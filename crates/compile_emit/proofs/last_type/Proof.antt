@@ -1,6 +1,5 @@
-use borrow.Author.Tests.{eq-eqb, ne-eqb, lt-ltb, le-ltb}
-use mathlib.Core.Path.{_≡_, refl, sym, ap, _∙_}
-use Rattle.compile_emit.specs.Owns.{lastType}
+use borrow.Author.Tests.{eq-eqb, ne-eqb}
+use Rattle.compile_emit.specs.EmitEntry.{lastType}
 use borrow.Author.Needs.{needs}
 use Rattle.compile_emit.proofs.last_type.Statement.{statement}
 use Rattle.compile_emit.proofs.last_type.Tie as tie

@@ -1,6 +1,6 @@
-use borrow.Author.Tests.{eq-eqb, ne-eqb, lt-ltb, le-ltb}
-use mathlib.Core.Path.{_≡_, refl, sym, ap, _∙_}
-use Rattle.compile_emit.specs.Owns.{inkLeaf}
+use borrow.Author.Tests.{ne-eqb}
+use mathlib.Core.Path.{sym}
+use Rattle.compile_emit.specs.EmitEntry.{emitLeaf}
 use borrow.Author.Needs.{needs}
 use Rattle.compile_emit.proofs.leaf.Statement.{statement}
 use Rattle.compile_emit.proofs.leaf.Tie as tie
@@ -12,35 +12,35 @@ use Rattle.compile_emit.proofs.owner.Reads as owner-reads
 use Rattle.compile_output.proofs.emit.Reads as emit-reads
 
 returns : tie.Need-returns
-unfolding inkLeaf
+unfolding emitLeaf
 returns c =
     let at-emit = c .before .before in
     let at-match = at-emit .before .before in
     (at-emit .emit .ensures .0, rw (at-match .match .keys1) (at-emit .emit .ensures .1))
 
 returns-2 : tie.Need-returns-2
-unfolding inkLeaf
+unfolding emitLeaf
 returns-2 c =
     let at-emit2 = c .before .before in
     let at-match = at-emit2 .before .before in
     (at-emit2 .emit2 .ensures .0, rw (at-match .match .keys2) (at-emit2 .emit2 .ensures .1))
 
 returns-3 : tie.Need-returns-3
-unfolding inkLeaf
+unfolding emitLeaf
 returns-3 c =
     let at-emit3 = c .before .before in
     let at-match = at-emit3 .before .before in
     (at-emit3 .emit3 .ensures .0, rw (at-match .match .keys3) (at-emit3 .emit3 .ensures .1))
 
 returns-4 : tie.Need-returns-4
-unfolding inkLeaf
+unfolding emitLeaf
 returns-4 c =
     let at-emit4 = c .before .before in
     let at-match = at-emit4 .before .before .before in
     (at-emit4 .emit4 .ensures .0, rw (at-match .match .keys4, sym (c .before .before .before .first-in .ensures)) (at-emit4 .emit4 .ensures .1))
 
 returns-5 : tie.Need-returns-5
-unfolding inkLeaf
+unfolding emitLeaf
 returns-5 c =
     let at-emit5 = c .before .before in
     let at-owner = at-emit5 .before .before in

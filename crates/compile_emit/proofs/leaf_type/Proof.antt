@@ -1,6 +1,5 @@
-use borrow.Author.Tests.{eq-eqb, ne-eqb, lt-ltb, le-ltb}
-use mathlib.Core.Path.{_≡_, refl, sym, ap, _∙_}
-use Rattle.compile_emit.specs.Owns.{leafType}
+use borrow.Author.Tests.{ne-eqb}
+use Rattle.compile_emit.specs.EmitEntry.{leafType}
 use borrow.Author.Needs.{needs}
 use Rattle.compile_emit.proofs.leaf_type.Statement.{statement}
 use Rattle.compile_emit.proofs.leaf_type.Tie as tie

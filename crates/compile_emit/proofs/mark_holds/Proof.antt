@@ -1,11 +1,7 @@
-use borrow.Author.Tests.{eq-eqb, ne-eqb, lt-ltb, le-ltb}
-use mathlib.Core.Path.{_≡_, refl, sym, ap, _∙_}
+use mathlib.Core.Path.{_≡_}
 use native.Mathlib.Omega.{arith}
-use Prim.Native.Nat.{ℕ, _+_, _≤_, _<_}
-use lib.ListN.{length, take}
-use Rattle.compile_output.specs.declared.Pen.{Pen}
-use Rattle.compile_output.specs.Ink.{moved, penShaped}
-use Rattle.compile_emit.specs.OwnLaws.{marks-start, marks-push}
+use Prim.Native.Nat.{_+_, _≤_}
+use Rattle.compile_emit.specs.EmitEntryLaws.{marks-start, marks-push}
 use Rattle.table_scopes.specs.Environment.{envOf, Grown}
 use mathlib.Core.List.{_++_}
 use Prim.Native.Nat.{_-_}

@@ -1,6 +1,5 @@
-use borrow.Author.Tests.{eq-eqb, ne-eqb, lt-ltb, le-ltb}
-use mathlib.Core.Path.{_≡_, refl, sym, ap, _∙_}
-use Rattle.compile_emit.specs.Owns.{names}
+use borrow.Author.Tests.{ne-eqb}
+use Rattle.compile_emit.specs.EmitEntry.{names}
 use Rattle.compile_emit.proofs.names.Statement.{statement}
 use Rattle.compile_emit.proofs.names.Tie as tie
 use Rattle.compile_emit.proofs.names.Reads as reads

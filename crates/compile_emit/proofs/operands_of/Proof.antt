@@ -1,5 +1,5 @@
 use borrow.Author.Tests.{ne-eqb}
-use Rattle.compile_emit.specs.Owns.{operandsBy}
+use Rattle.compile_emit.specs.EmitEntry.{operandsBy}
 use Rattle.compile_emit.proofs.operands_of.Statement.{statement}
 use Rattle.compile_emit.proofs.operands_of.Tie as tie
 

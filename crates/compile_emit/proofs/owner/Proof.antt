@@ -1,5 +1,3 @@
-use borrow.Author.Tests.{eq-eqb, ne-eqb, lt-ltb, le-ltb}
-use mathlib.Core.Path.{_≡_, refl, sym, ap, _∙_}
 use borrow.Author.Needs.{needs}
 use Rattle.compile_emit.proofs.owner.Statement.{statement}
 use Rattle.compile_emit.proofs.owner.Tie as tie

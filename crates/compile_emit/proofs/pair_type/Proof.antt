@@ -1,6 +1,5 @@
-use borrow.Author.Tests.{eq-eqb, ne-eqb, lt-ltb, le-ltb}
-use mathlib.Core.Path.{_≡_, refl, sym, ap, _∙_}
-use Rattle.compile_emit.specs.Owns.{pairType}
+use borrow.Author.Tests.{lt-ltb, le-ltb}
+use Rattle.compile_emit.specs.EmitEntry.{pairType}
 use Rattle.compile_emit.proofs.pair_type.Statement.{statement}
 use Rattle.compile_emit.proofs.pair_type.Tie as tie
 use Rattle.compile_emit.proofs.pair_type.Reads as reads

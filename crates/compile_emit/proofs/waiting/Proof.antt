@@ -1,5 +1,4 @@
-use borrow.Author.Tests.{eq-eqb, ne-eqb, lt-ltb, le-ltb}
-use mathlib.Core.Path.{_≡_, refl, sym, ap, _∙_}
+use borrow.Author.Tests.{lt-ltb, le-ltb}
 use Rattle.compile_emit.proofs.waiting.Statement.{statement}
 use Rattle.compile_emit.proofs.waiting.Tie as tie
 use Rattle.compile_emit.proofs.waiting.Reads as reads

@@ -1,6 +1,5 @@
-use borrow.Author.Tests.{eq-eqb, ne-eqb, lt-ltb, le-ltb}
-use mathlib.Core.Path.{_≡_, refl, sym, ap, _∙_}
-use Rattle.compile_emit.specs.Owns.{wayBy}
+use borrow.Author.Tests.{eq-eqb, ne-eqb}
+use Rattle.compile_emit.specs.EmitEntry.{wayBy}
 use Rattle.compile_emit.proofs.way_of.Statement.{statement}
 use Rattle.compile_emit.proofs.way_of.Tie as tie
 use Rattle.compile_emit.proofs.way_of.Reads as reads

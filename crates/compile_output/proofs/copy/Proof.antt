@@ -1,11 +1,11 @@
--- `compile_pen::copy` meets its contract: after i turns the output is `paste out at from i`. Assumes nothing.
+-- `compile_output::copy` meets its contract: after i turns the output is `paste out at from i`. Assumes nothing.
 use native.Mathlib.Omega.{arith}
 use mathlib.Core.Path.{_≡_, ap, _∙_}
 use mathlib.Core.List.{List}
 use Prim.Native.Nat.{ℕ, _+_, _-_, _≤_}
 use lib.ListN.{length, set, getD}
 use lib.Seq.{paste, paste-zero, length-paste}
-use Rattle.compile_output.specs.Ink.{pasted, paste-turn}
+use Rattle.compile_output.specs.EmitRecord.{pasted, paste-turn}
 use Rattle.compile_output.proofs.copy.Statement.{statement}
 use Rattle.compile_output.proofs.copy.Tie as tie
 

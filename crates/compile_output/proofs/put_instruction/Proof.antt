@@ -1,4 +1,4 @@
--- `compile_pen::put_instruction` meets its contract: the stores are those of `sets`. Assumes nothing.
+-- `compile_output::put_instruction` meets its contract: the stores are those of `sets`. Assumes nothing.
 use native.Mathlib.Omega.{arith}
 use native.Mathlib.Numerals.{towards-suc}
 use mathlib.Core.Path.{ap, _∙_}

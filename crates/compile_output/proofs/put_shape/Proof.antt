@@ -1,10 +1,10 @@
--- `compile_pen::put_shape` meets its contract: the stores are those of `sets` (`shape-written`). Assumes nothing.
+-- `compile_output::put_shape` meets its contract: the stores are those of `sets` (`shape-written`). Assumes nothing.
 use native.Mathlib.Omega.{arith}
 use mathlib.Core.Path.{_≡_, ap, _∙_}
 use Prim.Native.Nat.{ℕ}
 use lib.ListN.{length, length-set, take}
 use lib.Seq.{length-sets}
-use Rattle.compile_output.specs.Ink.{shape-written}
+use Rattle.compile_output.specs.EmitRecord.{shape-written}
 use borrow.Author.Needs.{needs}
 use Rattle.compile_output.proofs.put_shape.Statement.{statement}
 use Rattle.compile_output.proofs.put_shape.Tie as tie

@@ -1,18 +1,18 @@
--- `compile_pen::releases` meets its contract. The invariant: what is left to release, from the pen and the output as they are, comes to what all comes to.
+-- `compile_output::releases` meets its contract. The invariant: what is left to release, from the cursor and the output as they are, comes to what all comes to.
 -- Assumes nothing.
 use native.Mathlib.Omega.{arith}
 use mathlib.Core.Path.{_≡_, refl, sym, ap, _∙_}
 use Prim.Native.Nat.{ℕ, _≤_}
 use lib.ListN.{length}
-use Rattle.compile_output.specs.Ink.{Fits, length-ink}
-use Rattle.compile_output.specs.Folds.{lets, penAfter, inked, lets-pen, lets-inked, lets-none, lets-fits}
+use Rattle.compile_output.specs.EmitRecord.{Fits, length-emit}
+use Rattle.compile_output.specs.EmitCode.{lets, cursorAfter, emitted, lets-cursor, lets-emitted, lets-none, lets-fits}
 use Rattle.compile_output.proofs.releases.Statement.{statement}
 use Rattle.compile_output.proofs.releases.Tie as tie
 
 abbrev Inv-loop : tie.InvT-loop
 Inv-loop out₀ count left₀ p₀ out left p =
-    (left ≤ count) × (penAfter (lets count) p₀ ≡ penAfter (lets left) p) × (inked (lets count) p₀ out₀ ≡ inked (lets left) p out)
-    × Fits (penAfter (lets left) p) (length out) × (length out ≡ length out₀)
+    (left ≤ count) × (cursorAfter (lets count) p₀ ≡ cursorAfter (lets left) p) × (emitted (lets count) p₀ out₀ ≡ emitted (lets left) p out)
+    × Fits (cursorAfter (lets left) p) (length out) × (length out ≡ length out₀)
 
 abbrev μ-loop : tie.MeasureT-loop
 μ-loop out₀ count left₀ p₀ out left p = left
@@ -30,11 +30,11 @@ loop-again c =
     let n = turn .left in
     let p = turn .p in
     let l = turn .out in
-    let s : length (wrote .last .0) ≡ length l = ap (length {A = ℕ}) (wrote .ensures .1) ∙ length-ink p l 18 0 0 in (
+    let s : length (wrote .last .0) ≡ length l = ap (length {A = ℕ}) (wrote .ensures .1) ∙ length-emit p l 18 0 0 in (
       omega arith,
-      rw (wrote .ensures .0) (turn .inv .1 ∙ lets-pen n p (omega arith)),
-      rw (wrote .ensures .0, wrote .ensures .1) (turn .inv .2 ∙ lets-inked n p l (omega arith)),
-      rw (wrote .ensures .0, s, ← lets-pen n p (omega arith)) (turn .inv .3),
+      rw (wrote .ensures .0) (turn .inv .1 ∙ lets-cursor n p (omega arith)),
+      rw (wrote .ensures .0, wrote .ensures .1) (turn .inv .2 ∙ lets-emitted n p l (omega arith)),
+      rw (wrote .ensures .0, s, ← lets-cursor n p (omega arith)) (turn .inv .3),
       s ∙ turn .inv .4,
     )
 

@@ -70,94 +70,103 @@ arms-meets t =
     (λ c κs. search needs)
     -- before-arm-requires
     (λ c κs.
-    let c1 = c .before in
-    let c2 = c1 .before in
-    let c3 = c2 .before in
-    let c4 = c3 .before .before .before .before .before .before .before .before .before .before .before .before .before in
-    let z = arms-before (c4 .pre .1) (c3 .loop .inv) (c2 .loop-test .taken) in (z .0, c1 .end-of2 .ensures .1, z .1))
+    let at-end-of2 = c .before in
+    let at-loop-test = at-end-of2 .before in
+    let at-loop = at-loop-test .before in
+    let at-start = at-loop .before .before .before .before .before .before .before .before .before .before .before .before .before in
+    let z = arms-before (at-start .pre .1) (at-loop .loop .inv) (at-loop-test .loop-test .taken) in (z .0, at-end-of2 .end-of2 .ensures .1, z .1))
     -- statement-requires
     (λ c κs.
-    let c1 = c .before .before .before .before .before .before in
-    let c2 = c1 .before .before in
-    let c3 = c2 .before in
-    let c4 = c3 .before in
-    let c5 = c4 .before .before in
-    let c6 = c5 .before in
-    let c7 = c6 .before .before .before .before .before .before .before .before .before .before in (
-      omega (arith, c7 .pre .0),
-      arms-asks (c7 .pre .1) (c4 .loop .inv) (c3 .loop-test .taken)
-          (c5 .second-in .ensures ∙ ap secondIn (c6 .known-at .ensures)) (c2 .end-of2 .ensures .0) (c1 .before-arm .ensures),
+    let at-before-arm = c .before .before .before .before .before .before in
+    let at-end-of2 = at-before-arm .before .before in
+    let at-loop-test = at-end-of2 .before in
+    let at-loop = at-loop-test .before in
+    let at-second-in = at-loop .before .before in
+    let at-known-at = at-second-in .before in
+    let at-start = at-known-at .before .before .before .before .before .before .before .before .before .before in (
+      omega (arith, at-start .pre .0),
+      arms-asks (at-start .pre .1) (at-loop .loop .inv) (at-loop-test .loop-test .taken)
+          (at-second-in .second-in .ensures ∙ ap secondIn (at-known-at .known-at .ensures)) (at-end-of2 .end-of2 .ensures .0) (at-before-arm .before-arm .ensures),
     ))
     -- after-arm-requires
     (λ c κs.
-    let c1 = c .before .before .before .before .before .before .before .before .before .before in
-    let c2 = c1 .before .before .before .before .before .before .before in
-    let c3 = c2 .before .before in
-    let c4 = c3 .before in
-    let c5 = c4 .before in
-    let c6 = c5 .before in
-    let c7 = c6 .before in
-    let c8 = c7 .before in
-    let c9 = c8 .before .before .before .before .before .before .before .before .before .before in
-    arms-behind (c9 .pre .1) (c5 .loop .inv) (c4 .loop-test .taken) (c7 .second-in .ensures ∙ ap secondIn (c8 .known-at .ensures))
-    (c3 .end-of2 .ensures .0) (c2 .before-arm .ensures) (c6 .end-of .ensures .0) (c1 .statement .ensures))
+    let at-statement = c .before .before .before .before .before .before .before .before .before .before in
+    let at-before-arm = at-statement .before .before .before .before .before .before .before in
+    let at-end-of2 = at-before-arm .before .before in
+    let at-loop-test = at-end-of2 .before in
+    let at-loop = at-loop-test .before in
+    let at-end-of = at-loop .before in
+    let at-second-in = at-end-of .before in
+    let at-known-at = at-second-in .before in
+    let at-start = at-known-at .before .before .before .before .before .before .before .before .before .before in
+    arms-behind (at-start .pre .1) (at-loop .loop .inv) (at-loop-test .loop-test .taken) (at-second-in .second-in .ensures ∙ ap secondIn (at-known-at .known-at .ensures))
+    (at-end-of2 .end-of2 .ensures .0) (at-before-arm .before-arm .ensures) (at-end-of .end-of .ensures .0) (at-statement .statement .ensures))
     -- size-at-requires
     (λ c κs.
-    let c1 = c .before .before .before .before .before .before .before .before .before .before .before .before .before .before .before .before .before .before .before .before .before .before .before in
-    let c2 = c1 .before in
-    let c3 = c2 .before .before .before .before .before .before .before .before .before .before .before .before .before in
-    arms-passes (c3 .pre .1) (c2 .loop .inv) (c1 .loop-test .taken) _ refl .known)
+    let at-loop-test = c .before .before .before .before .before .before .before .before .before .before .before .before .before .before .before
+    .before .before .before .before .before .before .before .before in
+    let at-loop = at-loop-test .before in
+    let at-start = at-loop .before .before .before .before .before .before .before .before .before .before .before .before .before in
+    arms-passes (at-start .pre .1) (at-loop .loop .inv) (at-loop-test .loop-test .taken) _ refl .known)
     -- mul-from
     (λ c.
-    let c2 = c .before .before .before .before .before .before .before .before .before .before .before .before .before .before .before .before .before .before .before .before .before .before .before .before in
-    let c3 = c2 .before in
-    let c4 = c3 .before .before .before .before .before .before .before .before .before .before .before .before .before in
-    omega (arith, arms-passes (c4 .pre .1) (c3 .loop .inv) (c2 .loop-test .taken) (c .size-at .result) (c .size-at .ensures) .small))
+    let at-loop-test = c .before .before .before .before .before .before .before .before .before .before .before .before .before .before .before
+    .before .before .before .before .before .before .before .before .before in
+    let at-loop = at-loop-test .before in
+    let at-start = at-loop .before .before .before .before .before .before .before .before .before .before .before .before .before in
+    omega (arith, arms-passes (at-start .pre .1) (at-loop .loop .inv) (at-loop-test .loop-test .taken) (c .size-at .result) (c .size-at .ensures) .small))
     -- sub-rest
     (λ c.
-    let c2 = c .before .before .before .before .before .before .before .before .before .before .before .before .before .before .before .before .before .before .before .before .before .before .before .before in
-    let c3 = c2 .before in
-    let c4 = c3 .before .before .before .before .before .before .before .before .before .before .before .before .before in
-    arms-passes (c4 .pre .1) (c3 .loop .inv) (c2 .loop-test .taken) (c .size-at .result) (c .size-at .ensures) .fits)
+    let at-loop-test = c .before .before .before .before .before .before .before .before .before .before .before .before .before .before .before
+    .before .before .before .before .before .before .before .before .before in
+    let at-loop = at-loop-test .before in
+    let at-start = at-loop .before .before .before .before .before .before .before .before .before .before .before .before .before in
+    arms-passes (at-start .pre .1) (at-loop .loop .inv) (at-loop-test .loop-test .taken) (c .size-at .result) (c .size-at .ensures) .fits)
     -- part-rest-start
     (λ c.
-    let c2 = c .before .before .before .before .before .before .before .before .before .before .before .before .before .before .before .before .before .before .before .before .before .before .before .before in
-    let c3 = c2 .before in
-    let c4 = c3 .before .before .before .before .before .before .before .before .before .before .before .before .before in
-    arms-passes (c4 .pre .1) (c3 .loop .inv) (c2 .loop-test .taken) (c .size-at .result) (c .size-at .ensures) .fits)
+    let at-loop-test = c .before .before .before .before .before .before .before .before .before .before .before .before .before .before .before
+    .before .before .before .before .before .before .before .before .before in
+    let at-loop = at-loop-test .before in
+    let at-start = at-loop .before .before .before .before .before .before .before .before .before .before .before .before .before in
+    arms-passes (at-start .pre .1) (at-loop .loop .inv) (at-loop-test .loop-test .taken) (c .size-at .result) (c .size-at .ensures) .fits)
     -- part-rest-end
     (λ c. search needs)
     -- add-place
     (λ c.
-    let c1 = c .before in
-    let c2 = c1 .before .before .before .before .before .before .before .before .before .before .before .before .before .before .before .before .before .before .before .before .before .before .before .before in
-    let c3 = c2 .before in
-    let c4 = c3 .before .before .before .before .before .before .before .before .before .before .before .before .before in
-    omega (arith, arms-passes (c4 .pre .1) (c3 .loop .inv) (c2 .loop-test .taken) (c1 .size-at .result) (c1 .size-at .ensures) .small))
+    let at-size-at = c .before in
+    let at-loop-test = at-size-at .before .before .before .before .before .before .before .before .before .before .before .before .before .before
+    .before .before .before .before .before .before .before .before .before .before in
+    let at-loop = at-loop-test .before in
+    let at-start = at-loop .before .before .before .before .before .before .before .before .before .before .before .before .before in
+    omega (arith, arms-passes (at-start .pre .1) (at-loop .loop .inv) (at-loop-test .loop-test .taken) (at-size-at .size-at .result) (at-size-at .size-at .ensures) .small))
     -- add-i
     (λ c.
-    let c1 = c .before .before .before .before .before .before .before .before .before .before .before .before .before .before .before .before .before .before .before .before .before .before .before .before .before in
-    let c2 = c1 .before in
-    let c3 = c2 .before .before .before .before .before .before .before .before .before .before .before .before .before in
-    omega (arith, arms-before (c3 .pre .1) (c2 .loop .inv) (c1 .loop-test .taken) .0))
+    let at-loop-test = c .before .before .before .before .before .before .before .before .before .before .before .before .before .before .before
+    .before .before .before .before .before .before .before .before .before .before in
+    let at-loop = at-loop-test .before in
+    let at-start = at-loop .before .before .before .before .before .before .before .before .before .before .before .before .before in
+    omega (arith, arms-before (at-start .pre .1) (at-loop .loop .inv) (at-loop-test .loop-test .taken) .0))
     -- loop-less
-    (λ c. omega (arith, c .before .before .before .before .before .before .before .before .before .before .before .before .before .before .before .before .before .before .before .before .before .before .before .before .before .loop-test .taken))
+    (λ c.
+    let at-loop-test = c .before .before .before .before .before .before .before .before .before .before .before .before .before .before .before
+    .before .before .before .before .before .before .before .before .before .before in
+    omega (arith, at-loop-test .loop-test .taken))
     -- loop-again
     (λ c.
-    let c1 = c .before in
-    let c2 = c1 .before .before .before in
-    let c3 = c2 .before .before .before .before .before .before .before .before .before .before .before in
-    let c4 = c3 .before .before .before .before .before .before .before in
-    let c5 = c4 .before .before in
-    let c6 = c5 .before in
-    let c7 = c6 .before in
-    let c8 = c7 .before in
-    let c9 = c8 .before in
-    let c10 = c9 .before in
-    let c11 = c10 .before .before .before .before .before .before .before .before .before .before in
-    arms-next (c11 .pre .1) (c7 .loop .inv) (c6 .loop-test .taken) (c9 .second-in .ensures ∙ ap secondIn (c10 .known-at .ensures))
-    (c5 .end-of2 .ensures .0) (c4 .before-arm .ensures) (c8 .end-of .ensures .0) (c3 .statement .ensures) (c2 .after-arm .ensures)
-    (c1 .size-at .result) (c1 .size-at .ensures))
+    let at-size-at = c .before in
+    let at-after-arm = at-size-at .before .before .before in
+    let at-statement = at-after-arm .before .before .before .before .before .before .before .before .before .before .before in
+    let at-before-arm = at-statement .before .before .before .before .before .before .before in
+    let at-end-of2 = at-before-arm .before .before in
+    let at-loop-test = at-end-of2 .before in
+    let at-loop = at-loop-test .before in
+    let at-end-of = at-loop .before in
+    let at-second-in = at-end-of .before in
+    let at-known-at = at-second-in .before in
+    let at-start = at-known-at .before .before .before .before .before .before .before .before .before .before in
+    arms-next (at-start .pre .1) (at-loop .loop .inv) (at-loop-test .loop-test .taken) (at-second-in .second-in .ensures ∙ ap secondIn (at-known-at .known-at .ensures))
+    (at-end-of2 .end-of2 .ensures .0) (at-before-arm .before-arm .ensures) (at-end-of .end-of .ensures .0) (at-statement .statement .ensures) (at-after-arm .after-arm .ensures)
+    (at-size-at .size-at .result) (at-size-at .size-at .ensures))
     -- same-length
     (λ c. (arms-end (c .before .loop .inv) (omega arith)) .kept .same-env)
     -- same-length-2

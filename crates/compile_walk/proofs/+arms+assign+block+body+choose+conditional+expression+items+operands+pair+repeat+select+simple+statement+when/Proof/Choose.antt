@@ -69,21 +69,24 @@ choose-third t c =
 -- what it has done where it returns
 choose-ends : (t : ℕ) → choose-lts.Need-returns (claims t) (choose-at t) choose.Post
 choose-ends t c =
-    let c1 = c .before .before in
-    let c2 = c1 .before .before .before in
-    let c3 = c2 .before .before .before .before .before .before .before .before .before .before .before .before in
-    let c4 = c3 .before .before .before .before .before .before .before .before in
-    let c5 = c4 .before .before .before .before .before in
-    let c6 = c5 .before in
-    let c7 = c6 .before .before .before .before .before .before .before .before .before .before in
-    let c8 = c7 .before .before .before .before .before .before .before .before in
-    let c9 = c8 .before in
-    let c10 = c9 .before .before in
-    let c11 = c10 .before in
-    let c12 = c11 .before .before .before .before .before .before .before .before .before in
-    let c13 = c12 .before .before .before .before .before .before .before .before .before .before .before .before .before .before .before in
-    answers-choose (c13 .pre .1) (c11 .size-at .result) (c11 .size-at .ensures) (c10 .size-at2 .result) (c10 .size-at2 .ensures) (c12 .expression .ensures) (c9 .end-of .ensures .0) (c8 .emit .ensures)
-    (c7 .statement .ensures) (c6 .end-of2 .ensures .0) (c5 .emit2 .ensures) (c4 .shape .ensures) (c3 .statement2 .ensures) (c2 .shape2 .ensures) (c1 .finish .ensures)
+    let at-finish = c .before .before in
+    let at-shape2 = at-finish .before .before .before in
+    let at-statement2 = at-shape2 .before .before .before .before .before .before .before .before .before .before .before .before in
+    let at-shape = at-statement2 .before .before .before .before .before .before .before .before in
+    let at-emit2 = at-shape .before .before .before .before .before in
+    let at-end-of2 = at-emit2 .before in
+    let at-statement = at-end-of2 .before .before .before .before .before .before .before .before .before .before in
+    let at-emit = at-statement .before .before .before .before .before .before .before .before in
+    let at-end-of = at-emit .before in
+    let at-size-at2 = at-end-of .before .before in
+    let at-size-at = at-size-at2 .before in
+    let at-expression = at-size-at .before .before .before .before .before .before .before .before .before in
+    let at-start = at-expression .before .before .before .before .before .before .before .before .before .before .before .before .before .before
+    .before in
+    answers-choose (at-start .pre .1) (at-size-at .size-at .result) (at-size-at .size-at .ensures) (at-size-at2 .size-at2 .result)
+    (at-size-at2 .size-at2 .ensures) (at-expression .expression .ensures) (at-end-of .end-of .ensures .0) (at-emit .emit .ensures)
+    (at-statement .statement .ensures) (at-end-of2 .end-of2 .ensures .0) (at-emit2 .emit2 .ensures) (at-shape .shape .ensures)
+    (at-statement2 .statement2 .ensures) (at-shape2 .shape2 .ensures) (at-finish .finish .ensures)
 
 pub choose-meets : {M : Type 1} (t : ℕ) → choose-lts.Closed (claims t) (choose-at t) choose.Post M
 choose-meets t = choose-lts.spec (claims t) (choose-at t) choose.Post
@@ -99,24 +102,34 @@ choose-meets t = choose-lts.spec (claims t) (choose-at t) choose.Post
     (λ c. omega (arith, asked (c .before .before .before .before .before .before .before .before .before .before .pre .1) .small))
     -- expression-requires
     (λ c κs.
-    let c1 = c .before .before .before .before .before .before .before .before .before .before .before .before .before .before in
-    (omega (arith, asked (c1 .pre .1) .nested, c1 .pre .0), asks-choose-first (c1 .pre .1)))
+    let at-start = c .before .before .before .before .before .before .before .before .before .before .before .before .before .before in
+    (omega (arith, asked (at-start .pre .1) .nested, at-start .pre .0), asks-choose-first (at-start .pre .1)))
     -- add-second
-    (λ c. omega (arith, asked (c .before .before .before .before .before .before .before .before .before .before .before .before .before .before .before .before .before .before .before .before .before .before .before .pre .1) .small))
+    (λ c.
+    let at-start = c .before .before .before .before .before .before .before .before .before .before .before .before .before .before .before .before
+    .before .before .before .before .before .before .before in
+    omega (arith, asked (at-start .pre .1) .small))
     -- add-size-at
-    (λ c. omega (arith, asked (c .before .before .before .before .before .before .before .before .before .before .before .before .before .before .before .before .before .before .before .before .before .before .before .pre .1) .small))
+    (λ c.
+    let at-start = c .before .before .before .before .before .before .before .before .before .before .before .before .before .before .before .before
+    .before .before .before .before .before .before .before in
+    omega (arith, asked (at-start .pre .1) .small))
     -- size-at-requires
-    (λ c κs. asks-choose-passes (c .before .before .before .before .before .before .before .before .before .before .before .before .before .before .before .before .before .before .before .before .before .before .before .pre .1)
-    _ refl .known)
+    (λ c κs.
+    let at-start = c .before .before .before .before .before .before .before .before .before .before .before .before .before .before .before .before
+    .before .before .before .before .before .before .before in
+    asks-choose-passes (at-start .pre .1) _ refl .known)
     -- add-second-2
     (λ c.
-    let c2 = c .before .before .before .before .before .before .before .before .before .before .before .before .before .before .before .before .before .before .before .before .before .before .before .before in
-    omega (arith, asks-choose-passes (c2 .pre .1) (c .size-at .result) (c .size-at .ensures) .small))
+    let at-start = c .before .before .before .before .before .before .before .before .before .before .before .before .before .before .before .before
+    .before .before .before .before .before .before .before .before in
+    omega (arith, asks-choose-passes (at-start .pre .1) (c .size-at .result) (c .size-at .ensures) .small))
     -- size-at-requires-2
     (λ c κs.
-    let c2 = c .before .before .before .before .before .before .before .before .before in
-    let c3 = c2 .before .before .before .before .before .before .before .before .before .before .before .before .before .before .before in
-    asks-choose-passes₂ (c3 .pre .1) (c .size-at .result) (c .size-at .ensures) _ refl (c2 .expression .ensures) .known)
+    let at-expression = c .before .before .before .before .before .before .before .before .before in
+    let at-start = at-expression .before .before .before .before .before .before .before .before .before .before .before .before .before .before
+    .before in
+    asks-choose-passes₂ (at-start .pre .1) (c .size-at .result) (c .size-at .ensures) _ refl (at-expression .expression .ensures) .known)
     -- add-third
     (λ c. omega (arith, choose-passes t c .small))
     -- end-of-requires
@@ -125,70 +138,85 @@ choose-meets t = choose-lts.spec (claims t) (choose-at t) choose.Post
     (λ c. omega (arith, c .end-of .ensures .1))
     -- emit-requires
     (λ c κs.
-    let c1 = c .before .before in
-    let c2 = c1 .before in
-    let c3 = c2 .before .before .before .before .before .before .before .before .before in
-    let c4 = c3 .before .before .before .before .before .before .before .before .before .before .before .before .before .before .before in
-    asks-choose-emit (c4 .pre .1) (c2 .size-at .result) (c2 .size-at .ensures) (c1 .size-at2 .result) (c1 .size-at2 .ensures) (c3 .expression .ensures))
+    let at-size-at2 = c .before .before in
+    let at-size-at = at-size-at2 .before in
+    let at-expression = at-size-at .before .before .before .before .before .before .before .before .before in
+    let at-start = at-expression .before .before .before .before .before .before .before .before .before .before .before .before .before .before
+    .before in
+    asks-choose-emit (at-start .pre .1) (at-size-at .size-at .result) (at-size-at .size-at .ensures) (at-size-at2 .size-at2 .result)
+    (at-size-at2 .size-at2 .ensures) (at-expression .expression .ensures))
     -- sub-from
     (λ c. omega arith)
     -- mul-from
     (λ c.
-    let c1 = c .before .before .before .before .before .before in
-    let c2 = c1 .before .before .before .before .before .before .before .before .before .before .before .before .before .before .before .before .before .before .before .before .before .before .before .before in
-    omega (arith, asks-choose-passes (c2 .pre .1) (c1 .size-at .result) (c1 .size-at .ensures) .small))
+    let at-size-at = c .before .before .before .before .before .before in
+    let at-start = at-size-at .before .before .before .before .before .before .before .before .before .before .before .before .before .before .before
+    .before .before .before .before .before .before .before .before .before in
+    omega (arith, asks-choose-passes (at-start .pre .1) (at-size-at .size-at .result) (at-size-at .size-at .ensures) .small))
     -- sub-statement
     (λ c.
-    let c1 = c .before .before .before .before .before .before in
-    let c2 = c1 .before .before .before .before .before .before .before .before .before .before .before .before .before .before .before .before .before .before .before .before .before .before .before .before in
-    second-within (c2 .args .part .now) (c2 .args .at) (c1 .size-at .result) (asked (c2 .pre .1) .long) (asks-choose-passes (c2 .pre .1) (c1 .size-at .result) (c1 .size-at .ensures)))
+    let at-size-at = c .before .before .before .before .before .before in
+    let at-start = at-size-at .before .before .before .before .before .before .before .before .before .before .before .before .before .before .before
+    .before .before .before .before .before .before .before .before .before in
+    second-within (at-start .args .part .now) (at-start .args .at) (at-size-at .size-at .result) (asked (at-start .pre .1) .long)
+    (asks-choose-passes (at-start .pre .1) (at-size-at .size-at .result) (at-size-at .size-at .ensures)))
     -- part-statement-start
     (λ c.
-    let c1 = c .before .before .before .before .before .before in
-    let c2 = c1 .before .before .before .before .before .before .before .before .before .before .before .before .before .before .before .before .before .before .before .before .before .before .before .before in
-    second-within (c2 .args .part .now) (c2 .args .at) (c1 .size-at .result) (asked (c2 .pre .1) .long) (asks-choose-passes (c2 .pre .1) (c1 .size-at .result) (c1 .size-at .ensures)))
+    let at-size-at = c .before .before .before .before .before .before in
+    let at-start = at-size-at .before .before .before .before .before .before .before .before .before .before .before .before .before .before .before
+    .before .before .before .before .before .before .before .before .before in
+    second-within (at-start .args .part .now) (at-start .args .at) (at-size-at .size-at .result) (asked (at-start .pre .1) .long)
+    (asks-choose-passes (at-start .pre .1) (at-size-at .size-at .result) (at-size-at .size-at .ensures)))
     -- part-statement-end
     (λ c. search needs)
     -- sub-statement-2
-    (λ c. omega (arith, asked (c .before .before .before .before .before .before .before .before .before .before .before .before .before .before .before .before .before .before .before .before .before .before .before .before .before .before .before .before .before .before .before .pre .1) .nested))
+    (λ c.
+    let at-start = c .before .before .before .before .before .before .before .before .before .before .before .before .before .before .before .before
+    .before .before .before .before .before .before .before .before .before .before .before .before .before .before .before in
+    omega (arith, asked (at-start .pre .1) .nested))
     -- statement-requires
     (λ c κs.
-    let c1 = c .before .before .before .before .before .before .before in
-    let c2 = c1 .before in
-    let c3 = c2 .before .before in
-    let c4 = c3 .before in
-    let c5 = c4 .before .before .before .before .before .before .before .before .before in
-    let c6 = c5 .before .before .before .before .before .before .before .before .before .before .before .before .before .before .before in (
-      omega (arith, asked (c6 .pre .1) .nested, c6 .pre .0),
-      asks-choose-second (c6 .pre .1) (c4 .size-at .result) (c4 .size-at .ensures) (c3 .size-at2 .result) (c3 .size-at2 .ensures)
-          (c5 .expression .ensures) (c2 .end-of .ensures .0) (c1 .emit .ensures),
+    let at-emit = c .before .before .before .before .before .before .before in
+    let at-end-of = at-emit .before in
+    let at-size-at2 = at-end-of .before .before in
+    let at-size-at = at-size-at2 .before in
+    let at-expression = at-size-at .before .before .before .before .before .before .before .before .before in
+    let at-start = at-expression .before .before .before .before .before .before .before .before .before .before .before .before .before .before
+    .before in (
+      omega (arith, asked (at-start .pre .1) .nested, at-start .pre .0),
+      asks-choose-second (at-start .pre .1) (at-size-at .size-at .result) (at-size-at .size-at .ensures) (at-size-at2 .size-at2 .result) (at-size-at2 .size-at2 .ensures)
+          (at-expression .expression .ensures) (at-end-of .end-of .ensures .0) (at-emit .emit .ensures),
     ))
     -- end-of-requires-2
     (λ c κs. search needs)
     -- emit-requires-2
     (λ c κs.
-    let c1 = c .before .before .before .before .before .before .before .before .before .before in
-    let c2 = c1 .before .before .before .before .before .before .before .before in
-    let c3 = c2 .before in
-    let c4 = c3 .before .before in
-    let c5 = c4 .before in
-    let c6 = c5 .before .before .before .before .before .before .before .before .before in
-    let c7 = c6 .before .before .before .before .before .before .before .before .before .before .before .before .before .before .before in
-    asks-choose-emit₂ (c7 .pre .1) (c5 .size-at .result) (c5 .size-at .ensures) (c4 .size-at2 .result) (c4 .size-at2 .ensures) (c6 .expression .ensures) (c3 .end-of .ensures .0) (c2 .emit .ensures)
-    (c1 .statement .ensures))
+    let at-statement = c .before .before .before .before .before .before .before .before .before .before in
+    let at-emit = at-statement .before .before .before .before .before .before .before .before in
+    let at-end-of = at-emit .before in
+    let at-size-at2 = at-end-of .before .before in
+    let at-size-at = at-size-at2 .before in
+    let at-expression = at-size-at .before .before .before .before .before .before .before .before .before in
+    let at-start = at-expression .before .before .before .before .before .before .before .before .before .before .before .before .before .before
+    .before in
+    asks-choose-emit₂ (at-start .pre .1) (at-size-at .size-at .result) (at-size-at .size-at .ensures) (at-size-at2 .size-at2 .result)
+    (at-size-at2 .size-at2 .ensures) (at-expression .expression .ensures) (at-end-of .end-of .ensures .0) (at-emit .emit .ensures)
+    (at-statement .statement .ensures))
     -- shape-requires
     (λ c κs.
-    let c1 = c .before .before .before .before in
-    let c2 = c1 .before in
-    let c3 = c2 .before .before .before .before .before .before .before .before .before .before in
-    let c4 = c3 .before .before .before .before .before .before .before .before in
-    let c5 = c4 .before in
-    let c6 = c5 .before .before in
-    let c7 = c6 .before in
-    let c8 = c7 .before .before .before .before .before .before .before .before .before in
-    let c9 = c8 .before .before .before .before .before .before .before .before .before .before .before .before .before .before .before in
-    asks-choose-shape (c9 .pre .1) (c7 .size-at .result) (c7 .size-at .ensures) (c6 .size-at2 .result) (c6 .size-at2 .ensures) (c8 .expression .ensures) (c5 .end-of .ensures .0) (c4 .emit .ensures)
-    (c3 .statement .ensures) (c2 .end-of2 .ensures .0) (c1 .emit2 .ensures))
+    let at-emit2 = c .before .before .before .before in
+    let at-end-of2 = at-emit2 .before in
+    let at-statement = at-end-of2 .before .before .before .before .before .before .before .before .before .before in
+    let at-emit = at-statement .before .before .before .before .before .before .before .before in
+    let at-end-of = at-emit .before in
+    let at-size-at2 = at-end-of .before .before in
+    let at-size-at = at-size-at2 .before in
+    let at-expression = at-size-at .before .before .before .before .before .before .before .before .before in
+    let at-start = at-expression .before .before .before .before .before .before .before .before .before .before .before .before .before .before
+    .before in
+    asks-choose-shape (at-start .pre .1) (at-size-at .size-at .result) (at-size-at .size-at .ensures) (at-size-at2 .size-at2 .result)
+    (at-size-at2 .size-at2 .ensures) (at-expression .expression .ensures) (at-end-of .end-of .ensures .0) (at-emit .emit .ensures)
+    (at-statement .statement .ensures) (at-end-of2 .end-of2 .ensures .0) (at-emit2 .emit2 .ensures))
     -- sub-last
     (λ c. omega arith)
     -- mul-last
@@ -206,55 +234,65 @@ choose-meets t = choose-lts.spec (claims t) (choose-at t) choose.Post
     -- part-statement-end-2
     (λ c. search needs)
     -- sub-statement-4
-    (λ c. omega (arith, asked (c .before .before .before .before .before .before .before .before .before .before .before .before .before .before .before .before .before .before .before .before .before .before .before .before .before .before .before .before .before .before .before .before .before .before .before .before .before .before .before .before .before .before .before .before .before .before .before .before .before .before .before .before .before .before .before .pre .1) .nested))
+    (λ c.
+    let at-start = c .before .before .before .before .before .before .before .before .before .before .before .before .before .before .before .before
+    .before .before .before .before .before .before .before .before .before .before .before .before .before .before .before .before .before
+    .before .before .before .before .before .before .before .before .before .before .before .before .before .before .before .before .before
+    .before .before .before .before .before in
+    omega (arith, asked (at-start .pre .1) .nested))
     -- statement-requires-2
     (λ c κs.
-    let c1 = c .before .before .before .before .before .before .before in
-    let c2 = c1 .before .before .before .before .before in
-    let c3 = c2 .before in
-    let c4 = c3 .before .before .before .before .before .before .before .before .before .before in
-    let c5 = c4 .before .before .before .before .before .before .before .before in
-    let c6 = c5 .before in
-    let c7 = c6 .before .before in
-    let c8 = c7 .before in
-    let c9 = c8 .before .before .before .before .before .before .before .before .before in
-    let c10 = c9 .before .before .before .before .before .before .before .before .before .before .before .before .before .before .before in (
-      omega (arith, asked (c10 .pre .1) .nested, c10 .pre .0),
-      asks-choose-third (c10 .pre .1) (c8 .size-at .result) (c8 .size-at .ensures) (c7 .size-at2 .result) (c7 .size-at2 .ensures) (c9 .expression .ensures) (c6 .end-of .ensures .0) (c5 .emit .ensures)
-          (c4 .statement .ensures) (c3 .end-of2 .ensures .0) (c2 .emit2 .ensures) (c1 .shape .ensures),
+    let at-shape = c .before .before .before .before .before .before .before in
+    let at-emit2 = at-shape .before .before .before .before .before in
+    let at-end-of2 = at-emit2 .before in
+    let at-statement = at-end-of2 .before .before .before .before .before .before .before .before .before .before in
+    let at-emit = at-statement .before .before .before .before .before .before .before .before in
+    let at-end-of = at-emit .before in
+    let at-size-at2 = at-end-of .before .before in
+    let at-size-at = at-size-at2 .before in
+    let at-expression = at-size-at .before .before .before .before .before .before .before .before .before in
+    let at-start = at-expression .before .before .before .before .before .before .before .before .before .before .before .before .before .before
+    .before in (
+      omega (arith, asked (at-start .pre .1) .nested, at-start .pre .0),
+      asks-choose-third (at-start .pre .1) (at-size-at .size-at .result) (at-size-at .size-at .ensures) (at-size-at2 .size-at2 .result)
+          (at-size-at2 .size-at2 .ensures) (at-expression .expression .ensures) (at-end-of .end-of .ensures .0) (at-emit .emit .ensures)
+          (at-statement .statement .ensures) (at-end-of2 .end-of2 .ensures .0) (at-emit2 .emit2 .ensures) (at-shape .shape .ensures),
     ))
     -- shape-requires-2
     (λ c κs.
-    let c1 = c .before .before .before .before .before .before .before .before .before .before .before in
-    let c2 = c1 .before .before .before .before .before .before .before .before in
-    let c3 = c2 .before .before .before .before .before in
-    let c4 = c3 .before in
-    let c5 = c4 .before .before .before .before .before .before .before .before .before .before in
-    let c6 = c5 .before .before .before .before .before .before .before .before in
-    let c7 = c6 .before in
-    let c8 = c7 .before .before in
-    let c9 = c8 .before in
-    let c10 = c9 .before .before .before .before .before .before .before .before .before in
-    let c11 = c10 .before .before .before .before .before .before .before .before .before .before .before .before .before .before .before in
-    asks-choose-shape₂ (c11 .pre .1) (c9 .size-at .result) (c9 .size-at .ensures) (c8 .size-at2 .result) (c8 .size-at2 .ensures) (c10 .expression .ensures) (c7 .end-of .ensures .0) (c6 .emit .ensures)
-    (c5 .statement .ensures) (c4 .end-of2 .ensures .0) (c3 .emit2 .ensures) (c2 .shape .ensures) (c1 .statement2 .ensures))
+    let at-statement2 = c .before .before .before .before .before .before .before .before .before .before .before in
+    let at-shape = at-statement2 .before .before .before .before .before .before .before .before in
+    let at-emit2 = at-shape .before .before .before .before .before in
+    let at-end-of2 = at-emit2 .before in
+    let at-statement = at-end-of2 .before .before .before .before .before .before .before .before .before .before in
+    let at-emit = at-statement .before .before .before .before .before .before .before .before in
+    let at-end-of = at-emit .before in
+    let at-size-at2 = at-end-of .before .before in
+    let at-size-at = at-size-at2 .before in
+    let at-expression = at-size-at .before .before .before .before .before .before .before .before .before in
+    let at-start = at-expression .before .before .before .before .before .before .before .before .before .before .before .before .before .before
+    .before in
+    asks-choose-shape₂ (at-start .pre .1) (at-size-at .size-at .result) (at-size-at .size-at .ensures) (at-size-at2 .size-at2 .result)
+    (at-size-at2 .size-at2 .ensures) (at-expression .expression .ensures) (at-end-of .end-of .ensures .0) (at-emit .emit .ensures)
+    (at-statement .statement .ensures) (at-end-of2 .end-of2 .ensures .0) (at-emit2 .emit2 .ensures) (at-shape .shape .ensures) (at-statement2 .statement2 .ensures))
     -- finish-requires
     (λ c κs.
-    let c1 = c .before .before in
-    let c2 = c1 .before .before .before .before .before .before .before .before .before .before .before .before in
-    let c3 = c2 .before .before .before .before .before .before .before .before in
-    let c4 = c3 .before .before .before .before .before in
-    let c5 = c4 .before in
-    let c6 = c5 .before .before .before .before .before .before .before .before .before .before in
-    let c7 = c6 .before .before .before .before .before .before .before .before in
-    let c8 = c7 .before in
-    let c9 = c8 .before .before in
-    let c10 = c9 .before in
-    let c11 = c10 .before .before .before .before .before .before .before .before .before in
-    let c12 = c11 .before .before .before .before .before .before .before .before .before .before .before .before .before .before .before in
-    asks-choose-finish (c12 .pre .1) (c10 .size-at .result) (c10 .size-at .ensures) (c9 .size-at2 .result) (c9 .size-at2 .ensures)
-    (c11 .expression .ensures) (c8 .end-of .ensures .0) (c7 .emit .ensures)
-    (c6 .statement .ensures) (c5 .end-of2 .ensures .0) (c4 .emit2 .ensures) (c3 .shape .ensures) (c2 .statement2 .ensures) (c1 .shape2 .ensures))
+    let at-shape2 = c .before .before in
+    let at-statement2 = at-shape2 .before .before .before .before .before .before .before .before .before .before .before .before in
+    let at-shape = at-statement2 .before .before .before .before .before .before .before .before in
+    let at-emit2 = at-shape .before .before .before .before .before in
+    let at-end-of2 = at-emit2 .before in
+    let at-statement = at-end-of2 .before .before .before .before .before .before .before .before .before .before in
+    let at-emit = at-statement .before .before .before .before .before .before .before .before in
+    let at-end-of = at-emit .before in
+    let at-size-at2 = at-end-of .before .before in
+    let at-size-at = at-size-at2 .before in
+    let at-expression = at-size-at .before .before .before .before .before .before .before .before .before in
+    let at-start = at-expression .before .before .before .before .before .before .before .before .before .before .before .before .before .before
+    .before in
+    asks-choose-finish (at-start .pre .1) (at-size-at .size-at .result) (at-size-at .size-at .ensures) (at-size-at2 .size-at2 .result) (at-size-at2 .size-at2 .ensures)
+    (at-expression .expression .ensures) (at-end-of .end-of .ensures .0) (at-emit .emit .ensures)
+    (at-statement .statement .ensures) (at-end-of2 .end-of2 .ensures .0) (at-emit2 .emit2 .ensures) (at-shape .shape .ensures) (at-statement2 .statement2 .ensures) (at-shape2 .shape2 .ensures))
     -- same-length
     (λ c. choose-ends t c .kept .same-env)
     -- same-length-2

@@ -64,22 +64,24 @@ conditional-third t c =
 -- what it has done where it returns
 conditional-ends : (t : ℕ) → conditional-lts.Need-returns (claims t) (conditional-at t) conditional.Post
 conditional-ends t c =
-    let c1 = c .before .before in
-    let c2 = c1 .before .before .before in
-    let c3 = c2 .before .before .before .before .before .before .before .before .before .before .before .before in
-    let c4 = c3 .before .before .before .before .before .before .before .before in
-    let c5 = c4 .before .before .before .before .before in
-    let c6 = c5 .before in
-    let c7 = c6 .before .before .before .before .before .before .before .before .before .before .before in
-    let c8 = c7 .before .before .before .before .before .before .before .before in
-    let c9 = c8 .before in
-    let c10 = c9 .before .before in
-    let c11 = c10 .before in
-    let c12 = c11 .before .before .before .before .before .before .before .before .before in
-    let c13 = c12 .before .before .before .before .before .before .before .before .before .before .before .before .before .before .before in
-    answers-cond (c13 .pre .1) (c11 .size-at .result) (c11 .size-at .ensures) (c12 .expression .ensures) (c9 .end-of .ensures .0) (c8 .emit .ensures) (c7 .expression2 .ensures)
-    (c10 .size-at2 .result) (c10 .size-at2 .ensures)
-    (c6 .end-of2 .ensures .0) (c5 .emit2 .ensures) (c4 .shape .ensures) (c3 .expression3 .ensures) _ refl (c2 .shape2 .ensures) (c1 .finish .ensures)
+    let at-finish = c .before .before in
+    let at-shape2 = at-finish .before .before .before in
+    let at-expression3 = at-shape2 .before .before .before .before .before .before .before .before .before .before .before .before in
+    let at-shape = at-expression3 .before .before .before .before .before .before .before .before in
+    let at-emit2 = at-shape .before .before .before .before .before in
+    let at-end-of2 = at-emit2 .before in
+    let at-expression2 = at-end-of2 .before .before .before .before .before .before .before .before .before .before .before in
+    let at-emit = at-expression2 .before .before .before .before .before .before .before .before in
+    let at-end-of = at-emit .before in
+    let at-size-at2 = at-end-of .before .before in
+    let at-size-at = at-size-at2 .before in
+    let at-expression = at-size-at .before .before .before .before .before .before .before .before .before in
+    let at-start = at-expression .before .before .before .before .before .before .before .before .before .before .before .before .before .before
+    .before in
+    answers-cond (at-start .pre .1) (at-size-at .size-at .result) (at-size-at .size-at .ensures) (at-expression .expression .ensures)
+    (at-end-of .end-of .ensures .0) (at-emit .emit .ensures) (at-expression2 .expression2 .ensures)
+    (at-size-at2 .size-at2 .result) (at-size-at2 .size-at2 .ensures)
+    (at-end-of2 .end-of2 .ensures .0) (at-emit2 .emit2 .ensures) (at-shape .shape .ensures) (at-expression3 .expression3 .ensures) _ refl (at-shape2 .shape2 .ensures) (at-finish .finish .ensures)
 
 pub conditional-meets : {M : Type 1} (t : ℕ) → conditional-lts.Closed (claims t) (conditional-at t) conditional.Post M
 conditional-meets t = conditional-lts.spec (claims t) (conditional-at t) conditional.Post
@@ -95,24 +97,34 @@ conditional-meets t = conditional-lts.spec (claims t) (conditional-at t) conditi
     (λ c. omega (arith, asked (c .before .before .before .before .before .before .before .before .before .before .pre .1) .small))
     -- expression-requires
     (λ c κs.
-    let c1 = c .before .before .before .before .before .before .before .before .before .before .before .before .before .before in
-    (omega (arith, asked (c1 .pre .1) .nested, c1 .pre .0), asks-cond-first (c1 .pre .1)))
+    let at-start = c .before .before .before .before .before .before .before .before .before .before .before .before .before .before in
+    (omega (arith, asked (at-start .pre .1) .nested, at-start .pre .0), asks-cond-first (at-start .pre .1)))
     -- add-second
-    (λ c. omega (arith, asked (c .before .before .before .before .before .before .before .before .before .before .before .before .before .before .before .before .before .before .before .before .before .before .before .pre .1) .small))
+    (λ c.
+    let at-start = c .before .before .before .before .before .before .before .before .before .before .before .before .before .before .before .before
+    .before .before .before .before .before .before .before in
+    omega (arith, asked (at-start .pre .1) .small))
     -- add-size-at
-    (λ c. omega (arith, asked (c .before .before .before .before .before .before .before .before .before .before .before .before .before .before .before .before .before .before .before .before .before .before .before .pre .1) .small))
+    (λ c.
+    let at-start = c .before .before .before .before .before .before .before .before .before .before .before .before .before .before .before .before
+    .before .before .before .before .before .before .before in
+    omega (arith, asked (at-start .pre .1) .small))
     -- size-at-requires
-    (λ c κs. asks-cond-passes (c .before .before .before .before .before .before .before .before .before .before .before .before .before .before .before .before .before .before .before .before .before .before .before .pre .1)
-    _ refl .known)
+    (λ c κs.
+    let at-start = c .before .before .before .before .before .before .before .before .before .before .before .before .before .before .before .before
+    .before .before .before .before .before .before .before in
+    asks-cond-passes (at-start .pre .1) _ refl .known)
     -- add-second-2
     (λ c.
-    let c2 = c .before .before .before .before .before .before .before .before .before .before .before .before .before .before .before .before .before .before .before .before .before .before .before .before in
-    omega (arith, asks-cond-passes (c2 .pre .1) (c .size-at .result) (c .size-at .ensures) .small))
+    let at-start = c .before .before .before .before .before .before .before .before .before .before .before .before .before .before .before .before
+    .before .before .before .before .before .before .before .before in
+    omega (arith, asks-cond-passes (at-start .pre .1) (c .size-at .result) (c .size-at .ensures) .small))
     -- size-at-requires-2
     (λ c κs.
-    let c2 = c .before .before .before .before .before .before .before .before .before in
-    let c3 = c2 .before .before .before .before .before .before .before .before .before .before .before .before .before .before .before in
-    asks-cond-passes₂ (c3 .pre .1) (c .size-at .result) (c .size-at .ensures) (c2 .expression .ensures) _ refl .known)
+    let at-expression = c .before .before .before .before .before .before .before .before .before in
+    let at-start = at-expression .before .before .before .before .before .before .before .before .before .before .before .before .before .before
+    .before in
+    asks-cond-passes₂ (at-start .pre .1) (c .size-at .result) (c .size-at .ensures) (at-expression .expression .ensures) _ refl .known)
     -- add-third
     (λ c. omega (arith, conditional-passes t c .small))
     -- end-of-requires
@@ -121,76 +133,91 @@ conditional-meets t = conditional-lts.spec (claims t) (conditional-at t) conditi
     (λ c. omega (arith, c .end-of .ensures .1))
     -- emit-requires
     (λ c κs.
-    let c1 = c .before .before .before in
-    let c2 = c1 .before .before .before .before .before .before .before .before .before in
-    let c3 = c2 .before .before .before .before .before .before .before .before .before .before .before .before .before .before .before in
-    asks-cond-emit (c3 .pre .1) (c1 .size-at .result) (c1 .size-at .ensures) (c2 .expression .ensures))
+    let at-size-at = c .before .before .before in
+    let at-expression = at-size-at .before .before .before .before .before .before .before .before .before in
+    let at-start = at-expression .before .before .before .before .before .before .before .before .before .before .before .before .before .before
+    .before in
+    asks-cond-emit (at-start .pre .1) (at-size-at .size-at .result) (at-size-at .size-at .ensures) (at-expression .expression .ensures))
     -- sub-from
     (λ c. omega arith)
     -- mul-from
     (λ c.
-    let c1 = c .before .before .before .before .before .before in
-    let c2 = c1 .before .before .before .before .before .before .before .before .before .before .before .before .before .before .before .before .before .before .before .before .before .before .before .before in
-    omega (arith, asks-cond-passes (c2 .pre .1) (c1 .size-at .result) (c1 .size-at .ensures) .small))
+    let at-size-at = c .before .before .before .before .before .before in
+    let at-start = at-size-at .before .before .before .before .before .before .before .before .before .before .before .before .before .before .before
+    .before .before .before .before .before .before .before .before .before in
+    omega (arith, asks-cond-passes (at-start .pre .1) (at-size-at .size-at .result) (at-size-at .size-at .ensures) .small))
     -- sub-expression-3
     (λ c.
-    let c1 = c .before .before .before .before .before .before in
-    let c2 = c1 .before .before .before .before .before .before .before .before .before .before .before .before .before .before .before .before .before .before .before .before .before .before .before .before in
-    second-within (c2 .args .part .now) (c2 .args .at) (c1 .size-at .result) (asked (c2 .pre .1) .long) (asks-cond-passes (c2 .pre .1) (c1 .size-at .result) (c1 .size-at .ensures)))
+    let at-size-at = c .before .before .before .before .before .before in
+    let at-start = at-size-at .before .before .before .before .before .before .before .before .before .before .before .before .before .before .before
+    .before .before .before .before .before .before .before .before .before in
+    second-within (at-start .args .part .now) (at-start .args .at) (at-size-at .size-at .result) (asked (at-start .pre .1) .long)
+    (asks-cond-passes (at-start .pre .1) (at-size-at .size-at .result) (at-size-at .size-at .ensures)))
     -- part-expression-start-2
     (λ c.
-    let c1 = c .before .before .before .before .before .before in
-    let c2 = c1 .before .before .before .before .before .before .before .before .before .before .before .before .before .before .before .before .before .before .before .before .before .before .before .before in
-    second-within (c2 .args .part .now) (c2 .args .at) (c1 .size-at .result) (asked (c2 .pre .1) .long) (asks-cond-passes (c2 .pre .1) (c1 .size-at .result) (c1 .size-at .ensures)))
+    let at-size-at = c .before .before .before .before .before .before in
+    let at-start = at-size-at .before .before .before .before .before .before .before .before .before .before .before .before .before .before .before
+    .before .before .before .before .before .before .before .before .before in
+    second-within (at-start .args .part .now) (at-start .args .at) (at-size-at .size-at .result) (asked (at-start .pre .1) .long)
+    (asks-cond-passes (at-start .pre .1) (at-size-at .size-at .result) (at-size-at .size-at .ensures)))
     -- part-expression-end-2
     (λ c. search needs)
     -- sub-expression-4
-    (λ c. omega (arith, asked (c .before .before .before .before .before .before .before .before .before .before .before .before .before .before .before .before .before .before .before .before .before .before .before .before .before .before .before .before .before .before .before .pre .1) .nested))
+    (λ c.
+    let at-start = c .before .before .before .before .before .before .before .before .before .before .before .before .before .before .before .before
+    .before .before .before .before .before .before .before .before .before .before .before .before .before .before .before in
+    omega (arith, asked (at-start .pre .1) .nested))
     -- expression-requires-2
     (λ c κs.
-    let c1 = c .before .before .before .before .before .before .before in
-    let c2 = c1 .before in
-    let c3 = c2 .before .before .before in
-    let c4 = c3 .before .before .before .before .before .before .before .before .before in
-    let c5 = c4 .before .before .before .before .before .before .before .before .before .before .before .before .before .before .before in (
-      omega (arith, asked (c5 .pre .1) .nested, c5 .pre .0),
-      asks-cond-second (c5 .pre .1) (c3 .size-at .result) (c3 .size-at .ensures)
-          (c4 .expression .ensures) (c2 .end-of .ensures .0) (c1 .emit .ensures),
+    let at-emit = c .before .before .before .before .before .before .before in
+    let at-end-of = at-emit .before in
+    let at-size-at = at-end-of .before .before .before in
+    let at-expression = at-size-at .before .before .before .before .before .before .before .before .before in
+    let at-start = at-expression .before .before .before .before .before .before .before .before .before .before .before .before .before .before
+    .before in (
+      omega (arith, asked (at-start .pre .1) .nested, at-start .pre .0),
+      asks-cond-second (at-start .pre .1) (at-size-at .size-at .result) (at-size-at .size-at .ensures)
+          (at-expression .expression .ensures) (at-end-of .end-of .ensures .0) (at-emit .emit .ensures),
     ))
     -- slice-read-ty
     (λ c.
-    let c1 = c .before .before .before .before .before .before .before .before .before in
-    let c2 = c1 .before .before .before .before .before .before .before .before in
-    let c3 = c2 .before in
-    let c4 = c3 .before .before .before in
-    let c5 = c4 .before .before .before .before .before .before .before .before .before in
-    let c6 = c5 .before .before .before .before .before .before .before .before .before .before .before .before .before .before .before in
-    asks-cond-read (c6 .pre .1) (c4 .size-at .result) (c4 .size-at .ensures) (c5 .expression .ensures) (c3 .end-of .ensures .0) (c2 .emit .ensures) (c1 .expression2 .ensures))
+    let at-expression2 = c .before .before .before .before .before .before .before .before .before in
+    let at-emit = at-expression2 .before .before .before .before .before .before .before .before in
+    let at-end-of = at-emit .before in
+    let at-size-at = at-end-of .before .before .before in
+    let at-expression = at-size-at .before .before .before .before .before .before .before .before .before in
+    let at-start = at-expression .before .before .before .before .before .before .before .before .before .before .before .before .before .before
+    .before in
+    asks-cond-read (at-start .pre .1) (at-size-at .size-at .result) (at-size-at .size-at .ensures) (at-expression .expression .ensures)
+    (at-end-of .end-of .ensures .0) (at-emit .emit .ensures) (at-expression2 .expression2 .ensures))
     -- end-of-requires-2
     (λ c κs. search needs)
     -- emit-requires-2
     (λ c κs.
-    let c1 = c .before .before .before .before .before .before .before .before .before .before .before in
-    let c2 = c1 .before .before .before .before .before .before .before .before in
-    let c3 = c2 .before in
-    let c4 = c3 .before .before .before in
-    let c5 = c4 .before .before .before .before .before .before .before .before .before in
-    let c6 = c5 .before .before .before .before .before .before .before .before .before .before .before .before .before .before .before in
-    asks-cond-emit₂ (c6 .pre .1) (c4 .size-at .result) (c4 .size-at .ensures) (c5 .expression .ensures) (c3 .end-of .ensures .0) (c2 .emit .ensures) (c1 .expression2 .ensures))
+    let at-expression2 = c .before .before .before .before .before .before .before .before .before .before .before in
+    let at-emit = at-expression2 .before .before .before .before .before .before .before .before in
+    let at-end-of = at-emit .before in
+    let at-size-at = at-end-of .before .before .before in
+    let at-expression = at-size-at .before .before .before .before .before .before .before .before .before in
+    let at-start = at-expression .before .before .before .before .before .before .before .before .before .before .before .before .before .before
+    .before in
+    asks-cond-emit₂ (at-start .pre .1) (at-size-at .size-at .result) (at-size-at .size-at .ensures) (at-expression .expression .ensures)
+    (at-end-of .end-of .ensures .0) (at-emit .emit .ensures) (at-expression2 .expression2 .ensures))
     -- shape-requires
     (λ c κs.
-    let c1 = c .before .before .before .before in
-    let c2 = c1 .before in
-    let c3 = c2 .before .before .before .before .before .before .before .before .before .before .before in
-    let c4 = c3 .before .before .before .before .before .before .before .before in
-    let c5 = c4 .before in
-    let c6 = c5 .before .before in
-    let c7 = c6 .before in
-    let c8 = c7 .before .before .before .before .before .before .before .before .before in
-    let c9 = c8 .before .before .before .before .before .before .before .before .before .before .before .before .before .before .before in
-    asks-cond-shape (c9 .pre .1) (c7 .size-at .result) (c7 .size-at .ensures) (c8 .expression .ensures) (c5 .end-of .ensures .0) (c4 .emit .ensures)
-    (c3 .expression2 .ensures) (c6 .size-at2 .result) (c6 .size-at2 .ensures)
-    (c2 .end-of2 .ensures .0) (c1 .emit2 .ensures))
+    let at-emit2 = c .before .before .before .before in
+    let at-end-of2 = at-emit2 .before in
+    let at-expression2 = at-end-of2 .before .before .before .before .before .before .before .before .before .before .before in
+    let at-emit = at-expression2 .before .before .before .before .before .before .before .before in
+    let at-end-of = at-emit .before in
+    let at-size-at2 = at-end-of .before .before in
+    let at-size-at = at-size-at2 .before in
+    let at-expression = at-size-at .before .before .before .before .before .before .before .before .before in
+    let at-start = at-expression .before .before .before .before .before .before .before .before .before .before .before .before .before .before
+    .before in
+    asks-cond-shape (at-start .pre .1) (at-size-at .size-at .result) (at-size-at .size-at .ensures) (at-expression .expression .ensures) (at-end-of .end-of .ensures .0) (at-emit .emit .ensures)
+    (at-expression2 .expression2 .ensures) (at-size-at2 .size-at2 .result) (at-size-at2 .size-at2 .ensures)
+    (at-end-of2 .end-of2 .ensures .0) (at-emit2 .emit2 .ensures))
     -- sub-last
     (λ c. omega arith)
     -- mul-last
@@ -208,75 +235,90 @@ conditional-meets t = conditional-lts.spec (claims t) (conditional-at t) conditi
     -- part-expression-end-3
     (λ c. search needs)
     -- sub-expression-6
-    (λ c. omega (arith, asked (c .before .before .before .before .before .before .before .before .before .before .before .before .before .before .before .before .before .before .before .before .before .before .before .before .before .before .before .before .before .before .before .before .before .before .before .before .before .before .before .before .before .before .before .before .before .before .before .before .before .before .before .before .before .before .before .before .pre .1) .nested))
+    (λ c.
+    let at-start = c .before .before .before .before .before .before .before .before .before .before .before .before .before .before .before .before
+    .before .before .before .before .before .before .before .before .before .before .before .before .before .before .before .before .before
+    .before .before .before .before .before .before .before .before .before .before .before .before .before .before .before .before .before
+    .before .before .before .before .before .before in
+    omega (arith, asked (at-start .pre .1) .nested))
     -- expression-requires-3
     (λ c κs.
-    let c1 = c .before .before .before .before .before .before .before in
-    let c2 = c1 .before .before .before .before .before in
-    let c3 = c2 .before in
-    let c4 = c3 .before .before .before .before .before .before .before .before .before .before .before in
-    let c5 = c4 .before .before .before .before .before .before .before .before in
-    let c6 = c5 .before in
-    let c7 = c6 .before .before in
-    let c8 = c7 .before in
-    let c9 = c8 .before .before .before .before .before .before .before .before .before in
-    let c10 = c9 .before .before .before .before .before .before .before .before .before .before .before .before .before .before .before in (
-      omega (arith, asked (c10 .pre .1) .nested, c10 .pre .0),
-      asks-cond-third (c10 .pre .1) (c8 .size-at .result) (c8 .size-at .ensures) (c9 .expression .ensures) (c6 .end-of .ensures .0)
-          (c5 .emit .ensures) (c4 .expression2 .ensures) (c7 .size-at2 .result) (c7 .size-at2 .ensures)
-          (c3 .end-of2 .ensures .0) (c2 .emit2 .ensures) (c1 .shape .ensures),
+    let at-shape = c .before .before .before .before .before .before .before in
+    let at-emit2 = at-shape .before .before .before .before .before in
+    let at-end-of2 = at-emit2 .before in
+    let at-expression2 = at-end-of2 .before .before .before .before .before .before .before .before .before .before .before in
+    let at-emit = at-expression2 .before .before .before .before .before .before .before .before in
+    let at-end-of = at-emit .before in
+    let at-size-at2 = at-end-of .before .before in
+    let at-size-at = at-size-at2 .before in
+    let at-expression = at-size-at .before .before .before .before .before .before .before .before .before in
+    let at-start = at-expression .before .before .before .before .before .before .before .before .before .before .before .before .before .before
+    .before in (
+      omega (arith, asked (at-start .pre .1) .nested, at-start .pre .0),
+      asks-cond-third (at-start .pre .1) (at-size-at .size-at .result) (at-size-at .size-at .ensures) (at-expression .expression .ensures) (at-end-of .end-of .ensures .0)
+          (at-emit .emit .ensures) (at-expression2 .expression2 .ensures) (at-size-at2 .size-at2 .result) (at-size-at2 .size-at2 .ensures)
+          (at-end-of2 .end-of2 .ensures .0) (at-emit2 .emit2 .ensures) (at-shape .shape .ensures),
     ))
     -- slice-write-stack
     (λ c.
-    let c1 = c .before .before .before .before .before .before .before .before in
-    let c2 = c1 .before .before .before .before .before .before .before .before in
-    let c3 = c2 .before .before .before .before .before in
-    let c4 = c3 .before in
-    let c5 = c4 .before .before .before .before .before .before .before .before .before .before .before in
-    let c6 = c5 .before .before .before .before .before .before .before .before in
-    let c7 = c6 .before in
-    let c8 = c7 .before .before in
-    let c9 = c8 .before in
-    let c10 = c9 .before .before .before .before .before .before .before .before .before in
-    let c11 = c10 .before .before .before .before .before .before .before .before .before .before .before .before .before .before .before in
-    asks-cond-write (c11 .pre .1) (c9 .size-at .result) (c9 .size-at .ensures) (c10 .expression .ensures) (c7 .end-of .ensures .0) (c6 .emit .ensures)
-    (c5 .expression2 .ensures) (c8 .size-at2 .result) (c8 .size-at2 .ensures)
-    (c4 .end-of2 .ensures .0) (c3 .emit2 .ensures) (c2 .shape .ensures) (c1 .expression3 .ensures))
+    let at-expression3 = c .before .before .before .before .before .before .before .before in
+    let at-shape = at-expression3 .before .before .before .before .before .before .before .before in
+    let at-emit2 = at-shape .before .before .before .before .before in
+    let at-end-of2 = at-emit2 .before in
+    let at-expression2 = at-end-of2 .before .before .before .before .before .before .before .before .before .before .before in
+    let at-emit = at-expression2 .before .before .before .before .before .before .before .before in
+    let at-end-of = at-emit .before in
+    let at-size-at2 = at-end-of .before .before in
+    let at-size-at = at-size-at2 .before in
+    let at-expression = at-size-at .before .before .before .before .before .before .before .before .before in
+    let at-start = at-expression .before .before .before .before .before .before .before .before .before .before .before .before .before .before
+    .before in
+    asks-cond-write (at-start .pre .1) (at-size-at .size-at .result) (at-size-at .size-at .ensures) (at-expression .expression .ensures) (at-end-of .end-of .ensures .0) (at-emit .emit .ensures)
+    (at-expression2 .expression2 .ensures) (at-size-at2 .size-at2 .result) (at-size-at2 .size-at2 .ensures)
+    (at-end-of2 .end-of2 .ensures .0) (at-emit2 .emit2 .ensures) (at-shape .shape .ensures) (at-expression3 .expression3 .ensures))
     -- add-shape
-    (λ c. omega (arith, asked (c .before .before .before .before .before .before .before .before .before .before .before .before .before .before .before .before .before .before .before .before .before .before .before .before .before .before .before .before .before .before .before .before .before .before .before .before .before .before .before .before .before .before .before .before .before .before .before .before .before .before .before .before .before .before .before .before .before .before .before .before .before .before .before .before .before .before .before .before .before .before .before .before .pre .1) .deep))
+    (λ c.
+    let at-start = c .before .before .before .before .before .before .before .before .before .before .before .before .before .before .before .before
+    .before .before .before .before .before .before .before .before .before .before .before .before .before .before .before .before .before
+    .before .before .before .before .before .before .before .before .before .before .before .before .before .before .before .before .before
+    .before .before .before .before .before .before .before .before .before .before .before .before .before .before .before .before .before
+    .before .before .before .before .before in
+    omega (arith, asked (at-start .pre .1) .deep))
     -- shape-requires-2
     (λ c κs.
-    let c1 = c .before .before .before .before .before .before .before .before .before .before .before in
-    let c2 = c1 .before .before .before .before .before .before .before .before in
-    let c3 = c2 .before .before .before .before .before in
-    let c4 = c3 .before in
-    let c5 = c4 .before .before .before .before .before .before .before .before .before .before .before in
-    let c6 = c5 .before .before .before .before .before .before .before .before in
-    let c7 = c6 .before in
-    let c8 = c7 .before .before in
-    let c9 = c8 .before in
-    let c10 = c9 .before .before .before .before .before .before .before .before .before in
-    let c11 = c10 .before .before .before .before .before .before .before .before .before .before .before .before .before .before .before in
-    asks-cond-shape₂ (c11 .pre .1) (c9 .size-at .result) (c9 .size-at .ensures) (c10 .expression .ensures) (c7 .end-of .ensures .0)
-    (c6 .emit .ensures) (c5 .expression2 .ensures) (c8 .size-at2 .result) (c8 .size-at2 .ensures)
-    (c4 .end-of2 .ensures .0) (c3 .emit2 .ensures) (c2 .shape .ensures) (c1 .expression3 .ensures) _ refl)
+    let at-expression3 = c .before .before .before .before .before .before .before .before .before .before .before in
+    let at-shape = at-expression3 .before .before .before .before .before .before .before .before in
+    let at-emit2 = at-shape .before .before .before .before .before in
+    let at-end-of2 = at-emit2 .before in
+    let at-expression2 = at-end-of2 .before .before .before .before .before .before .before .before .before .before .before in
+    let at-emit = at-expression2 .before .before .before .before .before .before .before .before in
+    let at-end-of = at-emit .before in
+    let at-size-at2 = at-end-of .before .before in
+    let at-size-at = at-size-at2 .before in
+    let at-expression = at-size-at .before .before .before .before .before .before .before .before .before in
+    let at-start = at-expression .before .before .before .before .before .before .before .before .before .before .before .before .before .before
+    .before in
+    asks-cond-shape₂ (at-start .pre .1) (at-size-at .size-at .result) (at-size-at .size-at .ensures) (at-expression .expression .ensures) (at-end-of .end-of .ensures .0)
+    (at-emit .emit .ensures) (at-expression2 .expression2 .ensures) (at-size-at2 .size-at2 .result) (at-size-at2 .size-at2 .ensures)
+    (at-end-of2 .end-of2 .ensures .0) (at-emit2 .emit2 .ensures) (at-shape .shape .ensures) (at-expression3 .expression3 .ensures) _ refl)
     -- finish-requires
     (λ c κs.
-    let c1 = c .before .before in
-    let c2 = c1 .before .before .before .before .before .before .before .before .before .before .before .before in
-    let c3 = c2 .before .before .before .before .before .before .before .before in
-    let c4 = c3 .before .before .before .before .before in
-    let c5 = c4 .before in
-    let c6 = c5 .before .before .before .before .before .before .before .before .before .before .before in
-    let c7 = c6 .before .before .before .before .before .before .before .before in
-    let c8 = c7 .before in
-    let c9 = c8 .before .before in
-    let c10 = c9 .before in
-    let c11 = c10 .before .before .before .before .before .before .before .before .before in
-    let c12 = c11 .before .before .before .before .before .before .before .before .before .before .before .before .before .before .before in
-    asks-cond-finish (c12 .pre .1) (c10 .size-at .result) (c10 .size-at .ensures) (c11 .expression .ensures) (c8 .end-of .ensures .0)
-    (c7 .emit .ensures) (c6 .expression2 .ensures) (c9 .size-at2 .result) (c9 .size-at2 .ensures)
-    (c5 .end-of2 .ensures .0) (c4 .emit2 .ensures) (c3 .shape .ensures) (c2 .expression3 .ensures) _ refl (c1 .shape2 .ensures))
+    let at-shape2 = c .before .before in
+    let at-expression3 = at-shape2 .before .before .before .before .before .before .before .before .before .before .before .before in
+    let at-shape = at-expression3 .before .before .before .before .before .before .before .before in
+    let at-emit2 = at-shape .before .before .before .before .before in
+    let at-end-of2 = at-emit2 .before in
+    let at-expression2 = at-end-of2 .before .before .before .before .before .before .before .before .before .before .before in
+    let at-emit = at-expression2 .before .before .before .before .before .before .before .before in
+    let at-end-of = at-emit .before in
+    let at-size-at2 = at-end-of .before .before in
+    let at-size-at = at-size-at2 .before in
+    let at-expression = at-size-at .before .before .before .before .before .before .before .before .before in
+    let at-start = at-expression .before .before .before .before .before .before .before .before .before .before .before .before .before .before
+    .before in
+    asks-cond-finish (at-start .pre .1) (at-size-at .size-at .result) (at-size-at .size-at .ensures) (at-expression .expression .ensures) (at-end-of .end-of .ensures .0)
+    (at-emit .emit .ensures) (at-expression2 .expression2 .ensures) (at-size-at2 .size-at2 .result) (at-size-at2 .size-at2 .ensures)
+    (at-end-of2 .end-of2 .ensures .0) (at-emit2 .emit2 .ensures) (at-shape .shape .ensures) (at-expression3 .expression3 .ensures) _ refl (at-shape2 .shape2 .ensures))
     -- same-length
     (λ c. conditional-ends t c .kept .same-env)
     -- same-length-2

@@ -52,21 +52,23 @@ claims t = (
 -- what it has done where it returns
 expression-ends-4 : (t : ℕ) → expression-lts.Need-returns-4 (claims t) (expression-at t) expression.Post
 expression-ends-4 t c =
-    let c1 = c .before .before in
-    let c2 = c1 .before .before .before in
-    let c3 = c2 .before .before in
-    let c4 = c3 .before .before in
-    let c5 = c4 .before in
-    let c6 = c5 .before .before in
-    let c7 = c6 .before in
-    let c8 = c7 .before in
-    let c9 = c8 .before in
-    let c10 = c9 .before .before .before .before .before .before .before .before .before .before in
-    answer-as (λ n h e. leaf-of n h (λ z. c8 .match .rest .0 .0 .1 (c9 .half-at .ensures ∙ (sym e ∙ z))) (λ z. c8 .match .rest .0 .1 (c9 .half-at .ensures ∙ (sym e ∙ z)))
-    (λ z. c8 .match .rest .1 (c9 .half-at .ensures ∙ (sym e ∙ z))) (omega (arith, e, c9 .half-at .ensures, c7 .if1 .taken)))
-    (answers-leaf (ask-as (λ n h e. leaf-of n h (λ z. c8 .match .rest .0 .0 .1 (c9 .half-at .ensures ∙ (sym e ∙ z))) (λ z. c8 .match .rest .0 .1 (c9 .half-at .ensures ∙ (sym e ∙ z)))
-    (λ z. c8 .match .rest .1 (c9 .half-at .ensures ∙ (sym e ∙ z))) (omega (arith, e, c9 .half-at .ensures, c7 .if1 .taken))) (c10 .pre .1)) (c9 .half-at .ensures) (c6 .half-at2 .ensures)
-    (c3 .word-at .ensures) (c5 .known-of .ensures) (c4 .leaf-type .ensures) (c2 .leaf .ensures) (c1 .finish .ensures))
+    let at-finish = c .before .before in
+    let at-leaf = at-finish .before .before .before in
+    let at-word-at = at-leaf .before .before in
+    let at-leaf-type = at-word-at .before .before in
+    let at-known-of = at-leaf-type .before in
+    let at-half-at2 = at-known-of .before .before in
+    let at-if1 = at-half-at2 .before in
+    let at-match = at-if1 .before in
+    let at-half-at = at-match .before in
+    let at-start = at-half-at .before .before .before .before .before .before .before .before .before .before in
+    answer-as (λ n h e. leaf-of n h (λ z. at-match .match .rest .0 .0 .1 (at-half-at .half-at .ensures ∙ (sym e ∙ z))) (λ z. at-match .match .rest .0 .1 (at-half-at .half-at .ensures ∙ (sym e ∙ z)))
+    (λ z. at-match .match .rest .1 (at-half-at .half-at .ensures ∙ (sym e ∙ z))) (omega (arith, e, at-half-at .half-at .ensures, at-if1 .if1 .taken)))
+    (answers-leaf (ask-as (λ n h e. leaf-of n h (λ z. at-match .match .rest .0 .0 .1 (at-half-at .half-at .ensures ∙ (sym e ∙ z)))
+    (λ z. at-match .match .rest .0 .1 (at-half-at .half-at .ensures ∙ (sym e ∙ z)))
+    (λ z. at-match .match .rest .1 (at-half-at .half-at .ensures ∙ (sym e ∙ z))) (omega (arith, e, at-half-at .half-at .ensures, at-if1 .if1 .taken)))
+    (at-start .pre .1)) (at-half-at .half-at .ensures) (at-half-at2 .half-at2 .ensures)
+    (at-word-at .word-at .ensures) (at-known-of .known-of .ensures) (at-leaf-type .leaf-type .ensures) (at-leaf .leaf .ensures) (at-finish .finish .ensures))
 
 pub expression-meets : {M : Type 1} (t : ℕ) → expression-lts.Closed (claims t) (expression-at t) expression.Post M
 expression-meets t = expression-lts.spec (claims t) (expression-at t) expression.Post
@@ -74,22 +76,22 @@ expression-meets t = expression-lts.spec (claims t) (expression-at t) expression
     (λ c κs. omega (arith, asked (c .before .before .before .before .before .before .before .before .before .pre .1) .long))
     -- pair-requires
     (λ c κs.
-    let c1 = c .before .before .before .before in
-    let c2 = c1 .before in
-    let c3 = c2 .before .before .before .before .before .before .before .before .before .before in
-    (omega (arith, c3 .pre .0), ask-as (λ n h e. e ∙ (sym (c2 .half-at .ensures) ∙ c1 .match .keys1)) (c3 .pre .1)))
+    let at-match = c .before .before .before .before in
+    let at-half-at = at-match .before in
+    let at-start = at-half-at .before .before .before .before .before .before .before .before .before .before in
+    (omega (arith, at-start .pre .0), ask-as (λ n h e. e ∙ (sym (at-half-at .half-at .ensures) ∙ at-match .match .keys1)) (at-start .pre .1)))
     -- conditional-requires
     (λ c κs.
-    let c1 = c .before .before .before .before in
-    let c2 = c1 .before in
-    let c3 = c2 .before .before .before .before .before .before .before .before .before .before in
-    (omega (arith, c3 .pre .0), ask-as (λ n h e. e ∙ (sym (c2 .half-at .ensures) ∙ c1 .match .keys2)) (c3 .pre .1)))
+    let at-match = c .before .before .before .before in
+    let at-half-at = at-match .before in
+    let at-start = at-half-at .before .before .before .before .before .before .before .before .before .before in
+    (omega (arith, at-start .pre .0), ask-as (λ n h e. e ∙ (sym (at-half-at .half-at .ensures) ∙ at-match .match .keys2)) (at-start .pre .1)))
     -- body-requires
     (λ c κs.
-    let c1 = c .before .before .before .before in
-    let c2 = c1 .before in
-    let c3 = c2 .before .before .before .before .before .before .before .before .before .before in
-    (omega (arith, c3 .pre .0), ask-as (λ n h e. e ∙ (sym (c2 .half-at .ensures) ∙ c1 .match .keys3)) (c3 .pre .1)))
+    let at-match = c .before .before .before .before in
+    let at-half-at = at-match .before in
+    let at-start = at-half-at .before .before .before .before .before .before .before .before .before .before in
+    (omega (arith, at-start .pre .0), ask-as (λ n h e. e ∙ (sym (at-half-at .half-at .ensures) ∙ at-match .match .keys3)) (at-start .pre .1)))
     -- half-at-requires-2
     (λ c κs. omega (arith, asked (c .before .before .before .before .before .before .before .before .before .before .before .before .pre .1) .long))
     -- known-of-requires
@@ -98,29 +100,32 @@ expression-meets t = expression-lts.spec (claims t) (expression-at t) expression
     (λ c κs. search needs)
     -- slice-write-stack
     (λ c.
-    let c1 = c .before .before .before .before .before .before .before .before .before .before .before .before .before .before .before .before in
-    omega (arith, asked (c1 .pre .1) .deep, asked (c1 .pre .1) .stacked))
+    let at-start = c .before .before .before .before .before .before .before .before .before .before .before .before .before .before .before .before in
+    omega (arith, asked (at-start .pre .1) .deep, asked (at-start .pre .1) .stacked))
     -- word-at-requires
-    (λ c κs. omega (arith, asked (c .before .before .before .before .before .before .before .before .before .before .before .before .before .before .before .before .before .pre .1) .long))
+    (λ c κs.
+    let at-start = c .before .before .before .before .before .before .before .before .before .before .before .before .before .before .before .before
+    .before in
+    omega (arith, asked (at-start .pre .1) .long))
     -- leaf-requires
     (λ c κs.
-    let c1 = c .before .before .before .before .before .before .before in
-    let c2 = c1 .before in
-    let c3 = c2 .before in
-    let c4 = c3 .before .before .before .before .before .before .before .before .before .before in
-    asks-leaf (ask-as (λ n h e. leaf-of n h (λ z. c2 .match .rest .0 .0 .1 (c3 .half-at .ensures ∙ (sym e ∙ z)))
-    (λ z. c2 .match .rest .0 .1 (c3 .half-at .ensures ∙ (sym e ∙ z))) (λ z. c2 .match .rest .1 (c3 .half-at .ensures ∙ (sym e ∙ z)))
-    (omega (arith, e, c3 .half-at .ensures, c1 .if1 .taken))) (c4 .pre .1)))
+    let at-if1 = c .before .before .before .before .before .before .before in
+    let at-match = at-if1 .before in
+    let at-half-at = at-match .before in
+    let at-start = at-half-at .before .before .before .before .before .before .before .before .before .before in
+    asks-leaf (ask-as (λ n h e. leaf-of n h (λ z. at-match .match .rest .0 .0 .1 (at-half-at .half-at .ensures ∙ (sym e ∙ z)))
+    (λ z. at-match .match .rest .0 .1 (at-half-at .half-at .ensures ∙ (sym e ∙ z))) (λ z. at-match .match .rest .1 (at-half-at .half-at .ensures ∙ (sym e ∙ z)))
+    (omega (arith, e, at-half-at .half-at .ensures, at-if1 .if1 .taken))) (at-start .pre .1)))
     -- finish-requires
     (λ c κs.
-    let c1 = c .before .before in
-    let c2 = c1 .before .before .before .before .before .before .before .before in
-    let c3 = c2 .before in
-    let c4 = c3 .before in
-    let c5 = c4 .before .before .before .before .before .before .before .before .before .before in
-    asks-leaf-finish (ask-as (λ n h e. leaf-of n h (λ z. c3 .match .rest .0 .0 .1 (c4 .half-at .ensures ∙ (sym e ∙ z)))
-    (λ z. c3 .match .rest .0 .1 (c4 .half-at .ensures ∙ (sym e ∙ z))) (λ z. c3 .match .rest .1 (c4 .half-at .ensures ∙ (sym e ∙ z)))
-    (omega (arith, e, c4 .half-at .ensures, c2 .if1 .taken))) (c5 .pre .1)) (c1 .leaf .ensures .0))
+    let at-leaf = c .before .before in
+    let at-if1 = at-leaf .before .before .before .before .before .before .before .before in
+    let at-match = at-if1 .before in
+    let at-half-at = at-match .before in
+    let at-start = at-half-at .before .before .before .before .before .before .before .before .before .before in
+    asks-leaf-finish (ask-as (λ n h e. leaf-of n h (λ z. at-match .match .rest .0 .0 .1 (at-half-at .half-at .ensures ∙ (sym e ∙ z)))
+    (λ z. at-match .match .rest .0 .1 (at-half-at .half-at .ensures ∙ (sym e ∙ z))) (λ z. at-match .match .rest .1 (at-half-at .half-at .ensures ∙ (sym e ∙ z)))
+    (omega (arith, e, at-half-at .half-at .ensures, at-if1 .if1 .taken))) (at-start .pre .1)) (at-leaf .leaf .ensures .0))
     -- sub-simple
     (λ c. omega arith)
     -- part-simple-start
@@ -129,14 +134,14 @@ expression-meets t = expression-lts.spec (claims t) (expression-at t) expression
     (λ c. search needs)
     -- simple-requires
     (λ c κs.
-    let c1 = c .before .before .before .before .before in
-    let c2 = c1 .before in
-    let c3 = c2 .before in
-    let c4 = c3 .before .before .before .before .before .before .before .before .before .before in (
-      omega (arith, c4 .pre .0),
-      asks-anew _ (ask-as (λ n h e. simple-expr n h (λ z. c2 .match .rest .0 .0 .1 (c3 .half-at .ensures ∙ (sym e ∙ z)))
-          (λ z. c2 .match .rest .0 .1 (c3 .half-at .ensures ∙ (sym e ∙ z))) (λ z. c2 .match .rest .1 (c3 .half-at .ensures ∙ (sym e ∙ z)))
-          (omega (arith, e, c3 .half-at .ensures, c1 .if1 .left))) (c4 .pre .1)),
+    let at-if1 = c .before .before .before .before .before in
+    let at-match = at-if1 .before in
+    let at-half-at = at-match .before in
+    let at-start = at-half-at .before .before .before .before .before .before .before .before .before .before in (
+      omega (arith, at-start .pre .0),
+      asks-anew _ (ask-as (λ n h e. simple-expr n h (λ z. at-match .match .rest .0 .0 .1 (at-half-at .half-at .ensures ∙ (sym e ∙ z)))
+          (λ z. at-match .match .rest .0 .1 (at-half-at .half-at .ensures ∙ (sym e ∙ z))) (λ z. at-match .match .rest .1 (at-half-at .half-at .ensures ∙ (sym e ∙ z)))
+          (omega (arith, e, at-half-at .half-at .ensures, at-if1 .if1 .left))) (at-start .pre .1)),
     ))
     -- same-length
     (λ c. (c .before .before .before .before .before .before .before .before .pair .ensures) .kept .same-env)
@@ -148,10 +153,10 @@ expression-meets t = expression-lts.spec (claims t) (expression-at t) expression
     (λ c. (c .before .before .before .before .before .before .before .before .pair .ensures) .kept .same-out)
     -- returns
     (λ c.
-    let c1 = c .before .before .before .before .before .before .before .before in
-    let c2 = c1 .before .before .before .before .before in
-    let c3 = c2 .before in
-    answer-as (λ n h e. e ∙ (sym (c3 .half-at .ensures) ∙ c2 .match .keys1)) (c1 .pair .ensures))
+    let at-pair = c .before .before .before .before .before .before .before .before in
+    let at-match = at-pair .before .before .before .before .before in
+    let at-half-at = at-match .before in
+    answer-as (λ n h e. e ∙ (sym (at-half-at .half-at .ensures) ∙ at-match .match .keys1)) (at-pair .pair .ensures))
     -- same-length-5
     (λ c. (c .before .before .before .before .before .before .before .before .conditional .ensures) .kept .same-env)
     -- same-length-6
@@ -162,10 +167,10 @@ expression-meets t = expression-lts.spec (claims t) (expression-at t) expression
     (λ c. (c .before .before .before .before .before .before .before .before .conditional .ensures) .kept .same-out)
     -- returns-2
     (λ c.
-    let c1 = c .before .before .before .before .before .before .before .before in
-    let c2 = c1 .before .before .before .before .before in
-    let c3 = c2 .before in
-    answer-as (λ n h e. e ∙ (sym (c3 .half-at .ensures) ∙ c2 .match .keys2)) (c1 .conditional .ensures))
+    let at-conditional = c .before .before .before .before .before .before .before .before in
+    let at-match = at-conditional .before .before .before .before .before in
+    let at-half-at = at-match .before in
+    answer-as (λ n h e. e ∙ (sym (at-half-at .half-at .ensures) ∙ at-match .match .keys2)) (at-conditional .conditional .ensures))
     -- same-length-9
     (λ c. (c .before .before .before .before .before .before .before .before .body .ensures) .kept .same-env)
     -- same-length-10
@@ -176,10 +181,10 @@ expression-meets t = expression-lts.spec (claims t) (expression-at t) expression
     (λ c. (c .before .before .before .before .before .before .before .before .body .ensures) .kept .same-out)
     -- returns-3
     (λ c.
-    let c1 = c .before .before .before .before .before .before .before .before in
-    let c2 = c1 .before .before .before .before .before in
-    let c3 = c2 .before in
-    answer-as (λ n h e. e ∙ (sym (c3 .half-at .ensures) ∙ c2 .match .keys3)) (c1 .body .ensures))
+    let at-body = c .before .before .before .before .before .before .before .before in
+    let at-match = at-body .before .before .before .before .before in
+    let at-half-at = at-match .before in
+    answer-as (λ n h e. e ∙ (sym (at-half-at .half-at .ensures) ∙ at-match .match .keys3)) (at-body .body .ensures))
     -- same-length-13
     (λ c. expression-ends-4 t c .kept .same-env)
     -- same-length-14
@@ -200,10 +205,10 @@ expression-meets t = expression-lts.spec (claims t) (expression-at t) expression
     (λ c. (c .before .before .before .before .before .before .before .before .simple .ensures) .kept .same-out)
     -- returns-5
     (λ c.
-    let c1 = c .before .before .before .before .before .before .before .before in
-    let c2 = c1 .before .before .before .before .before .before in
-    let c3 = c2 .before in
-    let c4 = c3 .before in
-    answer-as (λ n h e. simple-expr n h (λ z. c3 .match .rest .0 .0 .1 (c4 .half-at .ensures ∙ (sym e ∙ z)))
-    (λ z. c3 .match .rest .0 .1 (c4 .half-at .ensures ∙ (sym e ∙ z))) (λ z. c3 .match .rest .1 (c4 .half-at .ensures ∙ (sym e ∙ z)))
-    (omega (arith, e, c4 .half-at .ensures, c2 .if1 .left))) (answers-anew _ (c1 .simple .ensures)))
+    let at-simple = c .before .before .before .before .before .before .before .before in
+    let at-if1 = at-simple .before .before .before .before .before .before in
+    let at-match = at-if1 .before in
+    let at-half-at = at-match .before in
+    answer-as (λ n h e. simple-expr n h (λ z. at-match .match .rest .0 .0 .1 (at-half-at .half-at .ensures ∙ (sym e ∙ z)))
+    (λ z. at-match .match .rest .0 .1 (at-half-at .half-at .ensures ∙ (sym e ∙ z))) (λ z. at-match .match .rest .1 (at-half-at .half-at .ensures ∙ (sym e ∙ z)))
+    (omega (arith, e, at-half-at .half-at .ensures, at-if1 .if1 .left))) (answers-anew _ (at-simple .simple .ensures)))

@@ -24,54 +24,58 @@ items-meets t = items-lts.spec (statement-below t, statement′.Post, size-at-re
     (λ c. items-start _ _ _ _ _ _ _ _ _ _ _ _ _)
     -- statement-requires
     (λ c κs.
-    let c1 = c .before .before .before .before in
-    let c2 = c1 .before in
-    let c3 = c2 .before .before .before .before .before .before .before .before .before .before in
-    (omega (arith, c3 .pre .0), items-asks (c2 .loop .inv) (c1 .loop-test .taken) (c3 .pre .1)))
+    let at-loop-test = c .before .before .before .before in
+    let at-loop = at-loop-test .before in
+    let at-start = at-loop .before .before .before .before .before .before .before .before .before .before in
+    (omega (arith, at-start .pre .0), items-asks (at-loop .loop .inv) (at-loop-test .loop-test .taken) (at-start .pre .1)))
     -- size-at-requires
     (λ c κs.
-    let c1 = c .before .before .before .before .before .before .before .before .before .before .before .before .before in
-    let c2 = c1 .before in
-    let c3 = c2 .before .before .before .before .before .before .before .before .before .before in
-    items-passes (c2 .loop .inv) (c1 .loop-test .taken) (c3 .pre .1) _ refl .known)
+    let at-loop-test = c .before .before .before .before .before .before .before .before .before .before .before .before .before in
+    let at-loop = at-loop-test .before in
+    let at-start = at-loop .before .before .before .before .before .before .before .before .before .before in
+    items-passes (at-loop .loop .inv) (at-loop-test .loop-test .taken) (at-start .pre .1) _ refl .known)
     -- mul-from
     (λ c.
-    let c2 = c .before .before .before .before .before .before .before .before .before .before .before .before .before .before in
-    let c3 = c2 .before in
-    let c4 = c3 .before .before .before .before .before .before .before .before .before .before in
-    omega (arith, items-passes (c3 .loop .inv) (c2 .loop-test .taken) (c4 .pre .1) (c .size-at .result) (c .size-at .ensures) .small))
+    let at-loop-test = c .before .before .before .before .before .before .before .before .before .before .before .before .before .before in
+    let at-loop = at-loop-test .before in
+    let at-start = at-loop .before .before .before .before .before .before .before .before .before .before in
+    omega (arith, items-passes (at-loop .loop .inv) (at-loop-test .loop-test .taken) (at-start .pre .1) (c .size-at .result) (c .size-at .ensures) .small))
     -- sub-rest
     (λ c.
-    let c2 = c .before .before .before .before .before .before .before .before .before .before .before .before .before .before in
-    let c3 = c2 .before in
-    let c4 = c3 .before .before .before .before .before .before .before .before .before .before in
-    items-passes (c3 .loop .inv) (c2 .loop-test .taken) (c4 .pre .1) (c .size-at .result) (c .size-at .ensures) .fits)
+    let at-loop-test = c .before .before .before .before .before .before .before .before .before .before .before .before .before .before in
+    let at-loop = at-loop-test .before in
+    let at-start = at-loop .before .before .before .before .before .before .before .before .before .before in
+    items-passes (at-loop .loop .inv) (at-loop-test .loop-test .taken) (at-start .pre .1) (c .size-at .result) (c .size-at .ensures) .fits)
     -- part-rest-start
     (λ c.
-    let c2 = c .before .before .before .before .before .before .before .before .before .before .before .before .before .before in
-    let c3 = c2 .before in
-    let c4 = c3 .before .before .before .before .before .before .before .before .before .before in
-    items-passes (c3 .loop .inv) (c2 .loop-test .taken) (c4 .pre .1) (c .size-at .result) (c .size-at .ensures) .fits)
+    let at-loop-test = c .before .before .before .before .before .before .before .before .before .before .before .before .before .before in
+    let at-loop = at-loop-test .before in
+    let at-start = at-loop .before .before .before .before .before .before .before .before .before .before in
+    items-passes (at-loop .loop .inv) (at-loop-test .loop-test .taken) (at-start .pre .1) (c .size-at .result) (c .size-at .ensures) .fits)
     -- part-rest-end
     (λ c. search needs)
     -- add-place
     (λ c.
-    let c1 = c .before in
-    let c2 = c1 .before .before .before .before .before .before .before .before .before .before .before .before .before .before in
-    let c3 = c2 .before in
-    let c4 = c3 .before .before .before .before .before .before .before .before .before .before in
-    omega (arith, items-passes (c3 .loop .inv) (c2 .loop-test .taken) (c4 .pre .1) (c1 .size-at .result) (c1 .size-at .ensures) .small))
+    let at-size-at = c .before in
+    let at-loop-test = at-size-at .before .before .before .before .before .before .before .before .before .before .before .before .before .before in
+    let at-loop = at-loop-test .before in
+    let at-start = at-loop .before .before .before .before .before .before .before .before .before .before in
+    omega (arith, items-passes (at-loop .loop .inv) (at-loop-test .loop-test .taken) (at-start .pre .1) (at-size-at .size-at .result) (at-size-at .size-at .ensures) .small))
     -- sub-left
-    (λ c. omega (arith, c .before .before .before .before .before .before .before .before .before .before .before .before .before .before .before .loop-test .taken))
+    (λ c.
+    let at-loop-test = c .before .before .before .before .before .before .before .before .before .before .before .before .before .before .before in
+    omega (arith, at-loop-test .loop-test .taken))
     -- loop-less
-    (λ c. omega (arith, c .before .before .before .before .before .before .before .before .before .before .before .before .before .before .before .loop-test .taken))
+    (λ c.
+    let at-loop-test = c .before .before .before .before .before .before .before .before .before .before .before .before .before .before .before in
+    omega (arith, at-loop-test .loop-test .taken))
     -- loop-again
     (λ c.
-    let c1 = c .before in
-    let c2 = c1 .before .before .before .before .before .before .before .before .before in
-    let c3 = c2 .before .before .before .before .before in
-    let c4 = c3 .before in
-    items-next (c4 .loop .inv) (c3 .loop-test .taken) (c2 .statement .ensures) (c1 .size-at .result) (c1 .size-at .ensures))
+    let at-size-at = c .before in
+    let at-statement = at-size-at .before .before .before .before .before .before .before .before .before in
+    let at-loop-test = at-statement .before .before .before .before .before in
+    let at-loop = at-loop-test .before in
+    items-next (at-loop .loop .inv) (at-loop-test .loop-test .taken) (at-statement .statement .ensures) (at-size-at .size-at .result) (at-size-at .size-at .ensures))
     -- same-length
     (λ c. (items-end (c .before .loop .inv) (omega arith)) .kept .same-env)
     -- same-length-2

@@ -24,64 +24,66 @@ operands-meets t = operands-lts.spec (expression-below t, expression.Post, size-
     (λ c. es-start _ _ _ _ _ _ _ _ _ _ _ _ _)
     -- add-expression
     (λ c.
-    let c1 = c .before .before .before in
-    let c2 = c1 .before in
-    let c3 = c2 .before .before .before .before .before .before .before .before .before .before in
-    omega (arith, asked (es-asks (c2 .loop .inv) (c1 .loop-test .taken) (c3 .pre .1)) .deep))
+    let at-loop-test = c .before .before .before in
+    let at-loop = at-loop-test .before in
+    let at-start = at-loop .before .before .before .before .before .before .before .before .before .before in
+    omega (arith, asked (es-asks (at-loop .loop .inv) (at-loop-test .loop-test .taken) (at-start .pre .1)) .deep))
     -- expression-requires
     (λ c κs.
-    let c1 = c .before .before .before .before in
-    let c2 = c1 .before in
-    let c3 = c2 .before .before .before .before .before .before .before .before .before .before in
-    (omega (arith, c3 .pre .0), es-asks (c2 .loop .inv) (c1 .loop-test .taken) (c3 .pre .1)))
+    let at-loop-test = c .before .before .before .before in
+    let at-loop = at-loop-test .before in
+    let at-start = at-loop .before .before .before .before .before .before .before .before .before .before in
+    (omega (arith, at-start .pre .0), es-asks (at-loop .loop .inv) (at-loop-test .loop-test .taken) (at-start .pre .1)))
     -- size-at-requires
     (λ c κs.
-    let c1 = c .before .before .before .before .before .before .before .before .before .before .before .before .before in
-    let c2 = c1 .before in
-    let c3 = c2 .before .before .before .before .before .before .before .before .before .before in
-    es-passes (c2 .loop .inv) (c1 .loop-test .taken) (c3 .pre .1) _ refl .known)
+    let at-loop-test = c .before .before .before .before .before .before .before .before .before .before .before .before .before in
+    let at-loop = at-loop-test .before in
+    let at-start = at-loop .before .before .before .before .before .before .before .before .before .before in
+    es-passes (at-loop .loop .inv) (at-loop-test .loop-test .taken) (at-start .pre .1) _ refl .known)
     -- mul-from
     (λ c.
-    let c2 = c .before .before .before .before .before .before .before .before .before .before .before .before .before .before in
-    let c3 = c2 .before in
-    let c4 = c3 .before .before .before .before .before .before .before .before .before .before in
-    omega (arith, es-passes (c3 .loop .inv) (c2 .loop-test .taken) (c4 .pre .1) (c .size-at .result) (c .size-at .ensures) .small))
+    let at-loop-test = c .before .before .before .before .before .before .before .before .before .before .before .before .before .before in
+    let at-loop = at-loop-test .before in
+    let at-start = at-loop .before .before .before .before .before .before .before .before .before .before in
+    omega (arith, es-passes (at-loop .loop .inv) (at-loop-test .loop-test .taken) (at-start .pre .1) (c .size-at .result) (c .size-at .ensures) .small))
     -- sub-rest
     (λ c.
-    let c2 = c .before .before .before .before .before .before .before .before .before .before .before .before .before .before in
-    let c3 = c2 .before in
-    let c4 = c3 .before .before .before .before .before .before .before .before .before .before in
-    es-passes (c3 .loop .inv) (c2 .loop-test .taken) (c4 .pre .1) (c .size-at .result) (c .size-at .ensures) .fits)
+    let at-loop-test = c .before .before .before .before .before .before .before .before .before .before .before .before .before .before in
+    let at-loop = at-loop-test .before in
+    let at-start = at-loop .before .before .before .before .before .before .before .before .before .before in
+    es-passes (at-loop .loop .inv) (at-loop-test .loop-test .taken) (at-start .pre .1) (c .size-at .result) (c .size-at .ensures) .fits)
     -- part-rest-start
     (λ c.
-    let c2 = c .before .before .before .before .before .before .before .before .before .before .before .before .before .before in
-    let c3 = c2 .before in
-    let c4 = c3 .before .before .before .before .before .before .before .before .before .before in
-    es-passes (c3 .loop .inv) (c2 .loop-test .taken) (c4 .pre .1) (c .size-at .result) (c .size-at .ensures) .fits)
+    let at-loop-test = c .before .before .before .before .before .before .before .before .before .before .before .before .before .before in
+    let at-loop = at-loop-test .before in
+    let at-start = at-loop .before .before .before .before .before .before .before .before .before .before in
+    es-passes (at-loop .loop .inv) (at-loop-test .loop-test .taken) (at-start .pre .1) (c .size-at .result) (c .size-at .ensures) .fits)
     -- part-rest-end
     (λ c. search needs)
     -- add-place
     (λ c.
-    let c1 = c .before in
-    let c2 = c1 .before .before .before .before .before .before .before .before .before .before .before .before .before .before in
-    let c3 = c2 .before in
-    let c4 = c3 .before .before .before .before .before .before .before .before .before .before in
-    omega (arith, es-passes (c3 .loop .inv) (c2 .loop-test .taken) (c4 .pre .1) (c1 .size-at .result) (c1 .size-at .ensures) .small))
+    let at-size-at = c .before in
+    let at-loop-test = at-size-at .before .before .before .before .before .before .before .before .before .before .before .before .before .before in
+    let at-loop = at-loop-test .before in
+    let at-start = at-loop .before .before .before .before .before .before .before .before .before .before in
+    omega (arith, es-passes (at-loop .loop .inv) (at-loop-test .loop-test .taken) (at-start .pre .1) (at-size-at .size-at .result) (at-size-at .size-at .ensures) .small))
     -- add-i
     (λ c.
-    let c1 = c .before .before .before .before .before .before .before .before .before .before .before .before .before .before .before in
-    let c2 = c1 .before in
-    let c3 = c2 .before .before .before .before .before .before .before .before .before .before in
-    omega (arith, asked (es-asks (c2 .loop .inv) (c1 .loop-test .taken) (c3 .pre .1)) .deep))
+    let at-loop-test = c .before .before .before .before .before .before .before .before .before .before .before .before .before .before .before in
+    let at-loop = at-loop-test .before in
+    let at-start = at-loop .before .before .before .before .before .before .before .before .before .before in
+    omega (arith, asked (es-asks (at-loop .loop .inv) (at-loop-test .loop-test .taken) (at-start .pre .1)) .deep))
     -- loop-less
-    (λ c. omega (arith, c .before .before .before .before .before .before .before .before .before .before .before .before .before .before .before .loop-test .taken))
+    (λ c.
+    let at-loop-test = c .before .before .before .before .before .before .before .before .before .before .before .before .before .before .before in
+    omega (arith, at-loop-test .loop-test .taken))
     -- loop-again
     (λ c.
-    let c1 = c .before in
-    let c2 = c1 .before .before .before .before .before .before .before .before .before in
-    let c3 = c2 .before .before .before .before .before in
-    let c4 = c3 .before in
-    es-next (c4 .loop .inv) (c3 .loop-test .taken) (c2 .expression .ensures) (c1 .size-at .result) (c1 .size-at .ensures))
+    let at-size-at = c .before in
+    let at-expression = at-size-at .before .before .before .before .before .before .before .before .before in
+    let at-loop-test = at-expression .before .before .before .before .before in
+    let at-loop = at-loop-test .before in
+    es-next (at-loop .loop .inv) (at-loop-test .loop-test .taken) (at-expression .expression .ensures) (at-size-at .size-at .result) (at-size-at .size-at .ensures))
     -- same-length
     (λ c. (es-end (c .before .loop .inv) (omega arith)) .kept .same-env)
     -- same-length-2

@@ -48,22 +48,22 @@ claims t = (
 -- what it has done where it returns
 pair-ends : (t : ℕ) → pair-lts.Need-returns (claims t) (pair-at t) pair.Post
 pair-ends t c =
-    let c1 = c .before .before in
-    let c2 = c1 .before .before .before in
-    let c3 = c2 .before .before .before .before in
-    let c4 = c3 .before .before .before .before .before .before .before .before .before in
-    let c5 = c4 .before .before in
-    let c6 = c5 .before .before .before .before .before .before .before in
-    let c7 = c6 .before .before .before in
-    let c8 = c7 .before .before in
-    let c9 = c8 .before in
-    let c10 = c9 .before .before .before .before .before .before .before .before .before in
-    let c11 = c10 .before .before .before .before .before .before in
-    let c12 = c11 .before .before .before .before .before .before .before .before .before .before in
-    answers-pair (c12 .pre .1) (c9 .size-at .result) (c9 .size-at .ensures) (c10 .expression .ensures) (c11 .half-at .ensures)
-    (c8 .end-of .ensures .0) (c7 .way-of .ensures) (c6 .between .ensures) (c12 .args .depth + c5 .waiting .result)
-    (ap (λ (k : ℕ). c12 .args .depth + k) (c5 .waiting .ensures))
-    (c4 .expression2 .ensures) (c3 .pair-type .ensures) (c2 .behind .ensures) (c1 .finish .ensures)
+    let at-finish = c .before .before in
+    let at-behind = at-finish .before .before .before in
+    let at-pair-type = at-behind .before .before .before .before in
+    let at-expression2 = at-pair-type .before .before .before .before .before .before .before .before .before in
+    let at-waiting = at-expression2 .before .before in
+    let at-between = at-waiting .before .before .before .before .before .before .before in
+    let at-way-of = at-between .before .before .before in
+    let at-end-of = at-way-of .before .before in
+    let at-size-at = at-end-of .before in
+    let at-expression = at-size-at .before .before .before .before .before .before .before .before .before in
+    let at-half-at = at-expression .before .before .before .before .before .before in
+    let at-start = at-half-at .before .before .before .before .before .before .before .before .before .before in
+    answers-pair (at-start .pre .1) (at-size-at .size-at .result) (at-size-at .size-at .ensures) (at-expression .expression .ensures) (at-half-at .half-at .ensures)
+    (at-end-of .end-of .ensures .0) (at-way-of .way-of .ensures) (at-between .between .ensures) (at-start .args .depth + at-waiting .waiting .result)
+    (ap (λ (k : ℕ). at-start .args .depth + k) (at-waiting .waiting .ensures))
+    (at-expression2 .expression2 .ensures) (at-pair-type .pair-type .ensures) (at-behind .behind .ensures) (at-finish .finish .ensures)
 
 pub pair-meets : {M : Type 1} (t : ℕ) → pair-lts.Closed (claims t) (pair-at t) pair.Post M
 pair-meets t = pair-lts.spec (claims t) (pair-at t) pair.Post
@@ -81,142 +81,161 @@ pair-meets t = pair-lts.spec (claims t) (pair-at t) pair.Post
     (λ c. omega (arith, asked (c .before .before .before .before .before .before .before .before .before .before .before .pre .1) .small))
     -- expression-requires
     (λ c κs.
-    let c1 = c .before .before .before .before .before .before .before .before .before .before .before .before .before .before .before in
-    (omega (arith, asked (c1 .pre .1) .nested, c1 .pre .0), asks-pair-first (c1 .pre .1)))
+    let at-start = c .before .before .before .before .before .before .before .before .before .before .before .before .before .before .before in
+    (omega (arith, asked (at-start .pre .1) .nested, at-start .pre .0), asks-pair-first (at-start .pre .1)))
     -- add-second
-    (λ c. omega (arith, asked (c .before .before .before .before .before .before .before .before .before .before .before .before .before .before .before .before .before .before .before .before .before .before .before .before .pre .1) .small))
+    (λ c.
+    let at-start = c .before .before .before .before .before .before .before .before .before .before .before .before .before .before .before .before
+    .before .before .before .before .before .before .before .before in
+    omega (arith, asked (at-start .pre .1) .small))
     -- add-size-at
-    (λ c. omega (arith, asked (c .before .before .before .before .before .before .before .before .before .before .before .before .before .before .before .before .before .before .before .before .before .before .before .before .pre .1) .small))
+    (λ c.
+    let at-start = c .before .before .before .before .before .before .before .before .before .before .before .before .before .before .before .before
+    .before .before .before .before .before .before .before .before in
+    omega (arith, asked (at-start .pre .1) .small))
     -- size-at-requires
-    (λ c κs. asks-pair-passes (c .before .before .before .before .before .before .before .before .before .before .before .before .before .before .before .before .before .before .before .before .before .before .before .before .pre .1)
-    _ refl .known)
+    (λ c κs.
+    let at-start = c .before .before .before .before .before .before .before .before .before .before .before .before .before .before .before .before
+    .before .before .before .before .before .before .before .before in
+    asks-pair-passes (at-start .pre .1) _ refl .known)
     -- add-second-2
     (λ c.
-    let c2 = c .before .before .before .before .before .before .before .before .before .before .before .before .before .before .before .before .before .before .before .before .before .before .before .before .before in
-    omega (arith, asks-pair-passes (c2 .pre .1) (c .size-at .result) (c .size-at .ensures) .small))
+    let at-start = c .before .before .before .before .before .before .before .before .before .before .before .before .before .before .before .before
+    .before .before .before .before .before .before .before .before .before in
+    omega (arith, asks-pair-passes (at-start .pre .1) (c .size-at .result) (c .size-at .ensures) .small))
     -- end-of-requires
     (λ c κs. search needs)
     -- slice-read-first
     (λ c.
-    let c1 = c .before .before in
-    let c2 = c1 .before .before .before .before .before .before .before .before .before in
-    let c3 = c2 .before .before .before .before .before .before .before .before .before .before .before .before .before .before .before .before in
-    asks-pair-read (c3 .pre .1) (c1 .size-at .result) (c1 .size-at .ensures) (c2 .expression .ensures))
+    let at-size-at = c .before .before in
+    let at-expression = at-size-at .before .before .before .before .before .before .before .before .before in
+    let at-start = at-expression .before .before .before .before .before .before .before .before .before .before .before .before .before .before
+    .before .before in
+    asks-pair-read (at-start .pre .1) (at-size-at .size-at .result) (at-size-at .size-at .ensures) (at-expression .expression .ensures))
     -- way-of-requires
     (λ c κs. search needs)
     -- between-requires
     (λ c κs.
-    let c1 = c .before .before in
-    let c2 = c1 .before .before in
-    let c3 = c2 .before in
-    let c4 = c3 .before .before .before .before .before .before .before .before .before in
-    let c5 = c4 .before .before .before .before .before .before in
-    let c6 = c5 .before .before .before .before .before .before .before .before .before .before in
-    let z = asks-pair-between (c6 .pre .1) (c3 .size-at .result) (c3 .size-at .ensures) (c4 .expression .ensures) (c5 .half-at .ensures)
-    (c2 .end-of .ensures .0) (c1 .way-of .ensures) in (c2 .end-of .ensures .1, z .0, z .1, z .2, z .3))
+    let at-way-of = c .before .before in
+    let at-end-of = at-way-of .before .before in
+    let at-size-at = at-end-of .before in
+    let at-expression = at-size-at .before .before .before .before .before .before .before .before .before in
+    let at-half-at = at-expression .before .before .before .before .before .before in
+    let at-start = at-half-at .before .before .before .before .before .before .before .before .before .before in
+    let z = asks-pair-between (at-start .pre .1) (at-size-at .size-at .result) (at-size-at .size-at .ensures) (at-expression .expression .ensures) (at-half-at .half-at .ensures)
+    (at-end-of .end-of .ensures .0) (at-way-of .way-of .ensures) in (at-end-of .end-of .ensures .1, z .0, z .1, z .2, z .3))
     -- sub-from
     (λ c. omega arith)
     -- mul-from
     (λ c.
-    let c1 = c .before .before .before .before .before .before .before .before in
-    let c2 = c1 .before .before .before .before .before .before .before .before .before .before .before .before .before .before .before .before .before .before .before .before .before .before .before .before .before in
-    omega (arith, asks-pair-passes (c2 .pre .1) (c1 .size-at .result) (c1 .size-at .ensures) .small))
+    let at-size-at = c .before .before .before .before .before .before .before .before in
+    let at-start = at-size-at .before .before .before .before .before .before .before .before .before .before .before .before .before .before .before
+    .before .before .before .before .before .before .before .before .before .before in
+    omega (arith, asks-pair-passes (at-start .pre .1) (at-size-at .size-at .result) (at-size-at .size-at .ensures) .small))
     -- sub-expression-3
     (λ c.
-    let c1 = c .before .before .before .before .before .before .before .before in
-    let c2 = c1 .before .before .before .before .before .before .before .before .before .before .before .before .before .before .before .before .before .before .before .before .before .before .before .before .before in
-    second-within (c2 .args .part .now) (c2 .args .at) (c1 .size-at .result) (asked (c2 .pre .1) .long) (asks-pair-passes (c2 .pre .1) (c1 .size-at .result) (c1 .size-at .ensures)))
+    let at-size-at = c .before .before .before .before .before .before .before .before in
+    let at-start = at-size-at .before .before .before .before .before .before .before .before .before .before .before .before .before .before .before
+    .before .before .before .before .before .before .before .before .before .before in
+    second-within (at-start .args .part .now) (at-start .args .at) (at-size-at .size-at .result) (asked (at-start .pre .1) .long)
+    (asks-pair-passes (at-start .pre .1) (at-size-at .size-at .result) (at-size-at .size-at .ensures)))
     -- part-expression-start-2
     (λ c.
-    let c1 = c .before .before .before .before .before .before .before .before in
-    let c2 = c1 .before .before .before .before .before .before .before .before .before .before .before .before .before .before .before .before .before .before .before .before .before .before .before .before .before in
-    second-within (c2 .args .part .now) (c2 .args .at) (c1 .size-at .result) (asked (c2 .pre .1) .long) (asks-pair-passes (c2 .pre .1) (c1 .size-at .result) (c1 .size-at .ensures)))
+    let at-size-at = c .before .before .before .before .before .before .before .before in
+    let at-start = at-size-at .before .before .before .before .before .before .before .before .before .before .before .before .before .before .before
+    .before .before .before .before .before .before .before .before .before .before in
+    second-within (at-start .args .part .now) (at-start .args .at) (at-size-at .size-at .result) (asked (at-start .pre .1) .long)
+    (asks-pair-passes (at-start .pre .1) (at-size-at .size-at .result) (at-size-at .size-at .ensures)))
     -- part-expression-end-2
     (λ c. search needs)
     -- sub-expression-4
-    (λ c. omega (arith, asked (c .before .before .before .before .before .before .before .before .before .before .before .before .before .before .before .before .before .before .before .before .before .before .before .before .before .before .before .before .before .before .before .before .before .before .pre .1) .nested))
+    (λ c.
+    let at-start = c .before .before .before .before .before .before .before .before .before .before .before .before .before .before .before .before
+    .before .before .before .before .before .before .before .before .before .before .before .before .before .before .before .before .before
+    .before in
+    omega (arith, asked (at-start .pre .1) .nested))
     -- waiting-requires
     (λ c κs. search needs)
     -- add-expression-2
     (λ c.
-    let c2 = c .before .before .before .before .before .before .before in
-    let c3 = c2 .before .before .before in
-    let c4 = c3 .before .before in
-    let c5 = c4 .before in
-    let c6 = c5 .before .before .before .before .before .before .before .before .before in
-    let c7 = c6 .before .before .before .before .before .before in
-    let c8 = c7 .before .before .before .before .before .before .before .before .before .before in
+    let at-between = c .before .before .before .before .before .before .before in
+    let at-way-of = at-between .before .before .before in
+    let at-end-of = at-way-of .before .before in
+    let at-size-at = at-end-of .before in
+    let at-expression = at-size-at .before .before .before .before .before .before .before .before .before in
+    let at-half-at = at-expression .before .before .before .before .before .before in
+    let at-start = at-half-at .before .before .before .before .before .before .before .before .before .before in
     omega (
       arith,
-      asked (asks-pair-second (c8 .pre .1) (c5 .size-at .result) (c5 .size-at .ensures) (c6 .expression .ensures) (c7 .half-at .ensures)
-          (c4 .end-of .ensures .0) (c3 .way-of .ensures) (c2 .between .ensures) (c8 .args .depth + c .waiting .result)
-          (ap (λ (k : ℕ). c8 .args .depth + k) (c .waiting .ensures))) .deep,
+      asked (asks-pair-second (at-start .pre .1) (at-size-at .size-at .result) (at-size-at .size-at .ensures) (at-expression .expression .ensures) (at-half-at .half-at .ensures)
+          (at-end-of .end-of .ensures .0) (at-way-of .way-of .ensures) (at-between .between .ensures) (at-start .args .depth + c .waiting .result)
+          (ap (λ (k : ℕ). at-start .args .depth + k) (c .waiting .ensures))) .deep,
     ))
     -- expression-requires-2
     (λ c κs.
-    let c1 = c .before in
-    let c2 = c1 .before .before .before .before .before .before .before in
-    let c3 = c2 .before .before .before in
-    let c4 = c3 .before .before in
-    let c5 = c4 .before in
-    let c6 = c5 .before .before .before .before .before .before .before .before .before in
-    let c7 = c6 .before .before .before .before .before .before in
-    let c8 = c7 .before .before .before .before .before .before .before .before .before .before in (
-      omega (arith, asked (c8 .pre .1) .nested, c8 .pre .0),
-      asks-pair-second (c8 .pre .1) (c5 .size-at .result) (c5 .size-at .ensures) (c6 .expression .ensures) (c7 .half-at .ensures)
-          (c4 .end-of .ensures .0) (c3 .way-of .ensures) (c2 .between .ensures) (c8 .args .depth + c1 .waiting .result)
-          (ap (λ (k : ℕ). c8 .args .depth + k) (c1 .waiting .ensures)),
+    let at-waiting = c .before in
+    let at-between = at-waiting .before .before .before .before .before .before .before in
+    let at-way-of = at-between .before .before .before in
+    let at-end-of = at-way-of .before .before in
+    let at-size-at = at-end-of .before in
+    let at-expression = at-size-at .before .before .before .before .before .before .before .before .before in
+    let at-half-at = at-expression .before .before .before .before .before .before in
+    let at-start = at-half-at .before .before .before .before .before .before .before .before .before .before in (
+      omega (arith, asked (at-start .pre .1) .nested, at-start .pre .0),
+      asks-pair-second (at-start .pre .1) (at-size-at .size-at .result) (at-size-at .size-at .ensures) (at-expression .expression .ensures) (at-half-at .half-at .ensures)
+          (at-end-of .end-of .ensures .0) (at-way-of .way-of .ensures) (at-between .between .ensures) (at-start .args .depth + at-waiting .waiting .result)
+          (ap (λ (k : ℕ). at-start .args .depth + k) (at-waiting .waiting .ensures)),
     ))
     -- pair-type-requires
     (λ c κs. search needs)
     -- slice-write-stack
     (λ c.
-    let c1 = c .before .before .before .before .before .before .before .before .before in
-    let c2 = c1 .before .before in
-    let c3 = c2 .before .before .before .before .before .before .before in
-    let c4 = c3 .before .before .before in
-    let c5 = c4 .before .before in
-    let c6 = c5 .before in
-    let c7 = c6 .before .before .before .before .before .before .before .before .before in
-    let c8 = c7 .before .before .before .before .before .before in
-    let c9 = c8 .before .before .before .before .before .before .before .before .before .before in
-    asks-pair-write (c9 .pre .1) (c6 .size-at .result) (c6 .size-at .ensures) (c7 .expression .ensures) (c8 .half-at .ensures)
-    (c5 .end-of .ensures .0) (c4 .way-of .ensures) (c3 .between .ensures) (c9 .args .depth + c2 .waiting .result)
-    (ap (λ (k : ℕ). c9 .args .depth + k) (c2 .waiting .ensures))
-    (c1 .expression2 .ensures))
+    let at-expression2 = c .before .before .before .before .before .before .before .before .before in
+    let at-waiting = at-expression2 .before .before in
+    let at-between = at-waiting .before .before .before .before .before .before .before in
+    let at-way-of = at-between .before .before .before in
+    let at-end-of = at-way-of .before .before in
+    let at-size-at = at-end-of .before in
+    let at-expression = at-size-at .before .before .before .before .before .before .before .before .before in
+    let at-half-at = at-expression .before .before .before .before .before .before in
+    let at-start = at-half-at .before .before .before .before .before .before .before .before .before .before in
+    asks-pair-write (at-start .pre .1) (at-size-at .size-at .result) (at-size-at .size-at .ensures) (at-expression .expression .ensures) (at-half-at .half-at .ensures)
+    (at-end-of .end-of .ensures .0) (at-way-of .way-of .ensures) (at-between .between .ensures) (at-start .args .depth + at-waiting .waiting .result)
+    (ap (λ (k : ℕ). at-start .args .depth + k) (at-waiting .waiting .ensures))
+    (at-expression2 .expression2 .ensures))
     -- behind-requires
     (λ c κs.
-    let c1 = c .before .before .before in
-    let c2 = c1 .before .before .before .before .before .before .before .before .before in
-    let c3 = c2 .before .before in
-    let c4 = c3 .before .before .before .before .before .before .before in
-    let c5 = c4 .before .before .before in
-    let c6 = c5 .before .before in
-    let c7 = c6 .before in
-    let c8 = c7 .before .before .before .before .before .before .before .before .before in
-    let c9 = c8 .before .before .before .before .before .before in
-    let c10 = c9 .before .before .before .before .before .before .before .before .before .before in
-    let z = asks-pair-behind (c10 .pre .1) (c7 .size-at .result) (c7 .size-at .ensures) (c8 .expression .ensures) (c9 .half-at .ensures)
-    (c6 .end-of .ensures .0) (c5 .way-of .ensures) (c4 .between .ensures) (c10 .args .depth + c3 .waiting .result)
-    (ap (λ (k : ℕ). c10 .args .depth + k) (c3 .waiting .ensures))
-    (c2 .expression2 .ensures) (c1 .pair-type .ensures) in (c6 .end-of .ensures .1, z .0, z .1, z .2, z .3))
+    let at-pair-type = c .before .before .before in
+    let at-expression2 = at-pair-type .before .before .before .before .before .before .before .before .before in
+    let at-waiting = at-expression2 .before .before in
+    let at-between = at-waiting .before .before .before .before .before .before .before in
+    let at-way-of = at-between .before .before .before in
+    let at-end-of = at-way-of .before .before in
+    let at-size-at = at-end-of .before in
+    let at-expression = at-size-at .before .before .before .before .before .before .before .before .before in
+    let at-half-at = at-expression .before .before .before .before .before .before in
+    let at-start = at-half-at .before .before .before .before .before .before .before .before .before .before in
+    let z = asks-pair-behind (at-start .pre .1) (at-size-at .size-at .result) (at-size-at .size-at .ensures) (at-expression .expression .ensures) (at-half-at .half-at .ensures)
+    (at-end-of .end-of .ensures .0) (at-way-of .way-of .ensures) (at-between .between .ensures) (at-start .args .depth + at-waiting .waiting .result)
+    (ap (λ (k : ℕ). at-start .args .depth + k) (at-waiting .waiting .ensures))
+    (at-expression2 .expression2 .ensures) (at-pair-type .pair-type .ensures) in (at-end-of .end-of .ensures .1, z .0, z .1, z .2, z .3))
     -- finish-requires
     (λ c κs.
-    let c1 = c .before .before in
-    let c2 = c1 .before .before .before .before in
-    let c3 = c2 .before .before .before .before .before .before .before .before .before in
-    let c4 = c3 .before .before in
-    let c5 = c4 .before .before .before .before .before .before .before in
-    let c6 = c5 .before .before .before in
-    let c7 = c6 .before .before in
-    let c8 = c7 .before in
-    let c9 = c8 .before .before .before .before .before .before .before .before .before in
-    let c10 = c9 .before .before .before .before .before .before in
-    let c11 = c10 .before .before .before .before .before .before .before .before .before .before in
-    asks-pair-finish (c11 .pre .1) (c8 .size-at .result) (c8 .size-at .ensures) (c9 .expression .ensures) (c10 .half-at .ensures)
-    (c7 .end-of .ensures .0) (c6 .way-of .ensures) (c5 .between .ensures) (c11 .args .depth + c4 .waiting .result)
-    (ap (λ (k : ℕ). c11 .args .depth + k) (c4 .waiting .ensures))
-    (c3 .expression2 .ensures) (c2 .pair-type .ensures) (c1 .behind .ensures))
+    let at-behind = c .before .before in
+    let at-pair-type = at-behind .before .before .before .before in
+    let at-expression2 = at-pair-type .before .before .before .before .before .before .before .before .before in
+    let at-waiting = at-expression2 .before .before in
+    let at-between = at-waiting .before .before .before .before .before .before .before in
+    let at-way-of = at-between .before .before .before in
+    let at-end-of = at-way-of .before .before in
+    let at-size-at = at-end-of .before in
+    let at-expression = at-size-at .before .before .before .before .before .before .before .before .before in
+    let at-half-at = at-expression .before .before .before .before .before .before in
+    let at-start = at-half-at .before .before .before .before .before .before .before .before .before .before in
+    asks-pair-finish (at-start .pre .1) (at-size-at .size-at .result) (at-size-at .size-at .ensures) (at-expression .expression .ensures) (at-half-at .half-at .ensures)
+    (at-end-of .end-of .ensures .0) (at-way-of .way-of .ensures) (at-between .between .ensures) (at-start .args .depth + at-waiting .waiting .result)
+    (ap (λ (k : ℕ). at-start .args .depth + k) (at-waiting .waiting .ensures))
+    (at-expression2 .expression2 .ensures) (at-pair-type .pair-type .ensures) (at-behind .behind .ensures))
     -- same-length
     (λ c. pair-ends t c .kept .same-env)
     -- same-length-2

@@ -41,19 +41,20 @@ claims t = (
 -- what it has done where it returns
 repeat-ends : (t : ℕ) → repeat-lts.Need-returns (claims t) (repeat-at t) repeat.Post
 repeat-ends t c =
-    let c1 = c .before .before in
-    let c2 = c1 .before .before .before in
-    let c3 = c2 .before .before .before .before .before .before in
-    let c4 = c3 .before .before .before .before .before .before .before .before .before .before in
-    let c5 = c4 .before .before .before .before .before .before .before .before in
-    let c6 = c5 .before in
-    let c7 = c6 .before .before in
-    let c8 = c7 .before .before .before .before .before .before .before .before .before in
-    let c9 = c8 .before .before .before .before .before .before .before .before in
-    let c10 = c9 .before .before .before .before .before .before .before .before .before .before .before .before .before in
-    answers-while (c10 .pre .1) (c9 .shape .ensures) (c7 .size-at .result) (c7 .size-at .ensures) (c8 .expression .ensures) (c6 .end-of .ensures .0) (c5 .emit .ensures) (c4 .statement .ensures) refl
-    (c3 .emit2 .ensures)
-    (c2 .shape2 .ensures) (c1 .finish .ensures)
+    let at-finish = c .before .before in
+    let at-shape2 = at-finish .before .before .before in
+    let at-emit2 = at-shape2 .before .before .before .before .before .before in
+    let at-statement = at-emit2 .before .before .before .before .before .before .before .before .before .before in
+    let at-emit = at-statement .before .before .before .before .before .before .before .before in
+    let at-end-of = at-emit .before in
+    let at-size-at = at-end-of .before .before in
+    let at-expression = at-size-at .before .before .before .before .before .before .before .before .before in
+    let at-shape = at-expression .before .before .before .before .before .before .before .before in
+    let at-start = at-shape .before .before .before .before .before .before .before .before .before .before .before .before .before in
+    answers-while (at-start .pre .1) (at-shape .shape .ensures) (at-size-at .size-at .result) (at-size-at .size-at .ensures)
+    (at-expression .expression .ensures) (at-end-of .end-of .ensures .0) (at-emit .emit .ensures) (at-statement .statement .ensures) refl
+    (at-emit2 .emit2 .ensures)
+    (at-shape2 .shape2 .ensures) (at-finish .finish .ensures)
 
 pub repeat-meets : {M : Type 1} (t : ℕ) → repeat-lts.Closed (claims t) (repeat-at t) repeat.Post M
 repeat-meets t = repeat-lts.spec (claims t) (repeat-at t) repeat.Post
@@ -62,118 +63,142 @@ repeat-meets t = repeat-lts.spec (claims t) (repeat-at t) repeat.Post
     -- shape-requires
     (λ c κs. asks-while-shape (c .before .before .before .before .before .before .before .before .before .before .before .before .pre .1))
     -- sub-expression
-    (λ c. omega (arith, asked (c .before .before .before .before .before .before .before .before .before .before .before .before .before .before .before .pre .1) .long))
+    (λ c.
+    let at-start = c .before .before .before .before .before .before .before .before .before .before .before .before .before .before .before in
+    omega (arith, asked (at-start .pre .1) .long))
     -- part-expression-start
-    (λ c. omega (arith, asked (c .before .before .before .before .before .before .before .before .before .before .before .before .before .before .before .pre .1) .long))
+    (λ c.
+    let at-start = c .before .before .before .before .before .before .before .before .before .before .before .before .before .before .before in
+    omega (arith, asked (at-start .pre .1) .long))
     -- part-expression-end
     (λ c. search needs)
     -- sub-expression-2
-    (λ c. omega (arith, asked (c .before .before .before .before .before .before .before .before .before .before .before .before .before .before .before .before .pre .1) .nested))
+    (λ c.
+    let at-start = c .before .before .before .before .before .before .before .before .before .before .before .before .before .before .before .before in
+    omega (arith, asked (at-start .pre .1) .nested))
     -- add-expression
-    (λ c. omega (arith, asked (c .before .before .before .before .before .before .before .before .before .before .before .before .before .before .before .before .pre .1) .small))
+    (λ c.
+    let at-start = c .before .before .before .before .before .before .before .before .before .before .before .before .before .before .before .before in
+    omega (arith, asked (at-start .pre .1) .small))
     -- expression-requires
     (λ c κs.
-    let c1 = c .before .before .before .before .before .before .before in
-    let c2 = c1 .before .before .before .before .before .before .before .before .before .before .before .before .before in
-    (omega (arith, asked (c2 .pre .1) .nested, c2 .pre .0), asks-while-first (c2 .pre .1) (c1 .shape .ensures)))
+    let at-shape = c .before .before .before .before .before .before .before in
+    let at-start = at-shape .before .before .before .before .before .before .before .before .before .before .before .before .before in
+    (omega (arith, asked (at-start .pre .1) .nested, at-start .pre .0), asks-while-first (at-start .pre .1) (at-shape .shape .ensures)))
     -- add-second
-    (λ c. omega (arith, asked (c .before .before .before .before .before .before .before .before .before .before .before .before .before .before .before .before .before .before .before .before .before .before .before .before .before .before .before .before .before .pre .1) .small))
+    (λ c.
+    let at-start = c .before .before .before .before .before .before .before .before .before .before .before .before .before .before .before .before
+    .before .before .before .before .before .before .before .before .before .before .before .before .before in
+    omega (arith, asked (at-start .pre .1) .small))
     -- add-size-at
-    (λ c. omega (arith, asked (c .before .before .before .before .before .before .before .before .before .before .before .before .before .before .before .before .before .before .before .before .before .before .before .before .before .before .before .before .before .pre .1) .small))
+    (λ c.
+    let at-start = c .before .before .before .before .before .before .before .before .before .before .before .before .before .before .before .before
+    .before .before .before .before .before .before .before .before .before .before .before .before .before in
+    omega (arith, asked (at-start .pre .1) .small))
     -- size-at-requires
     (λ c κs.
-    let c1 = c .before .before .before .before .before .before .before .before .before .before .before .before .before .before .before .before in
-    let c2 = c1 .before .before .before .before .before .before .before .before .before .before .before .before .before in
-    asks-while-passes (c2 .pre .1) (c1 .shape .ensures) _ refl .known)
+    let at-shape = c .before .before .before .before .before .before .before .before .before .before .before .before .before .before .before .before in
+    let at-start = at-shape .before .before .before .before .before .before .before .before .before .before .before .before .before in
+    asks-while-passes (at-start .pre .1) (at-shape .shape .ensures) _ refl .known)
     -- add-second-2
     (λ c.
-    let c2 = c .before .before .before .before .before .before .before .before .before .before .before .before .before .before .before .before .before in
-    let c3 = c2 .before .before .before .before .before .before .before .before .before .before .before .before .before in
-    omega (arith, asks-while-passes (c3 .pre .1) (c2 .shape .ensures) (c .size-at .result) (c .size-at .ensures) .small))
+    let at-shape = c .before .before .before .before .before .before .before .before .before .before .before .before .before .before .before .before
+    .before in
+    let at-start = at-shape .before .before .before .before .before .before .before .before .before .before .before .before .before in
+    omega (arith, asks-while-passes (at-start .pre .1) (at-shape .shape .ensures) (c .size-at .result) (c .size-at .ensures) .small))
     -- end-of-requires
     (λ c κs. search needs)
     -- add-emit
     (λ c. omega (arith, c .end-of .ensures .1))
     -- emit-requires
     (λ c κs.
-    let c1 = c .before .before in
-    let c2 = c1 .before .before .before .before .before .before .before .before .before in
-    let c3 = c2 .before .before .before .before .before .before .before .before in
-    let c4 = c3 .before .before .before .before .before .before .before .before .before .before .before .before .before in
-    asks-while-emit (c4 .pre .1) (c3 .shape .ensures) (c1 .size-at .result) (c1 .size-at .ensures) (c2 .expression .ensures))
+    let at-size-at = c .before .before in
+    let at-expression = at-size-at .before .before .before .before .before .before .before .before .before in
+    let at-shape = at-expression .before .before .before .before .before .before .before .before in
+    let at-start = at-shape .before .before .before .before .before .before .before .before .before .before .before .before .before in
+    asks-while-emit (at-start .pre .1) (at-shape .shape .ensures) (at-size-at .size-at .result) (at-size-at .size-at .ensures) (at-expression .expression .ensures))
     -- sub-from
     (λ c. omega arith)
     -- mul-from
     (λ c.
-    let c1 = c .before .before .before .before .before in
-    let c2 = c1 .before .before .before .before .before .before .before .before .before .before .before .before .before .before .before .before .before in
-    let c3 = c2 .before .before .before .before .before .before .before .before .before .before .before .before .before in
-    omega (arith, asks-while-passes (c3 .pre .1) (c2 .shape .ensures) (c1 .size-at .result) (c1 .size-at .ensures) .small))
+    let at-size-at = c .before .before .before .before .before in
+    let at-shape = at-size-at .before .before .before .before .before .before .before .before .before .before .before .before .before .before .before
+    .before .before in
+    let at-start = at-shape .before .before .before .before .before .before .before .before .before .before .before .before .before in
+    omega (arith, asks-while-passes (at-start .pre .1) (at-shape .shape .ensures) (at-size-at .size-at .result) (at-size-at .size-at .ensures) .small))
     -- sub-statement
     (λ c.
-    let c1 = c .before .before .before .before .before in
-    let c2 = c1 .before .before .before .before .before .before .before .before .before .before .before .before .before .before .before .before .before in
-    let c3 = c2 .before .before .before .before .before .before .before .before .before .before .before .before .before in
-    second-within (c3 .args .part .now) (c3 .args .at) (c1 .size-at .result) (asked (c3 .pre .1) .long)
-    (asks-while-passes (c3 .pre .1) (c2 .shape .ensures) (c1 .size-at .result) (c1 .size-at .ensures)))
+    let at-size-at = c .before .before .before .before .before in
+    let at-shape = at-size-at .before .before .before .before .before .before .before .before .before .before .before .before .before .before .before
+    .before .before in
+    let at-start = at-shape .before .before .before .before .before .before .before .before .before .before .before .before .before in
+    second-within (at-start .args .part .now) (at-start .args .at) (at-size-at .size-at .result) (asked (at-start .pre .1) .long)
+    (asks-while-passes (at-start .pre .1) (at-shape .shape .ensures) (at-size-at .size-at .result) (at-size-at .size-at .ensures)))
     -- part-statement-start
     (λ c.
-    let c1 = c .before .before .before .before .before in
-    let c2 = c1 .before .before .before .before .before .before .before .before .before .before .before .before .before .before .before .before .before in
-    let c3 = c2 .before .before .before .before .before .before .before .before .before .before .before .before .before in
-    second-within (c3 .args .part .now) (c3 .args .at) (c1 .size-at .result) (asked (c3 .pre .1) .long)
-    (asks-while-passes (c3 .pre .1) (c2 .shape .ensures) (c1 .size-at .result) (c1 .size-at .ensures)))
+    let at-size-at = c .before .before .before .before .before in
+    let at-shape = at-size-at .before .before .before .before .before .before .before .before .before .before .before .before .before .before .before
+    .before .before in
+    let at-start = at-shape .before .before .before .before .before .before .before .before .before .before .before .before .before in
+    second-within (at-start .args .part .now) (at-start .args .at) (at-size-at .size-at .result) (asked (at-start .pre .1) .long)
+    (asks-while-passes (at-start .pre .1) (at-shape .shape .ensures) (at-size-at .size-at .result) (at-size-at .size-at .ensures)))
     -- part-statement-end
     (λ c. search needs)
     -- sub-statement-2
-    (λ c. omega (arith, asked (c .before .before .before .before .before .before .before .before .before .before .before .before .before .before .before .before .before .before .before .before .before .before .before .before .before .before .before .before .before .before .before .before .before .before .before .before .pre .1) .nested))
+    (λ c.
+    let at-start = c .before .before .before .before .before .before .before .before .before .before .before .before .before .before .before .before
+    .before .before .before .before .before .before .before .before .before .before .before .before .before .before .before .before .before
+    .before .before .before in
+    omega (arith, asked (at-start .pre .1) .nested))
     -- statement-requires
     (λ c κs.
-    let c1 = c .before .before .before .before .before .before .before in
-    let c2 = c1 .before in
-    let c3 = c2 .before .before in
-    let c4 = c3 .before .before .before .before .before .before .before .before .before in
-    let c5 = c4 .before .before .before .before .before .before .before .before in
-    let c6 = c5 .before .before .before .before .before .before .before .before .before .before .before .before .before in (
-      omega (arith, asked (c6 .pre .1) .nested, c6 .pre .0),
-      asks-while-second (c6 .pre .1) (c5 .shape .ensures) (c3 .size-at .result) (c3 .size-at .ensures) (c4 .expression .ensures) (c2 .end-of .ensures .0) (c1 .emit .ensures),
+    let at-emit = c .before .before .before .before .before .before .before in
+    let at-end-of = at-emit .before in
+    let at-size-at = at-end-of .before .before in
+    let at-expression = at-size-at .before .before .before .before .before .before .before .before .before in
+    let at-shape = at-expression .before .before .before .before .before .before .before .before in
+    let at-start = at-shape .before .before .before .before .before .before .before .before .before .before .before .before .before in (
+      omega (arith, asked (at-start .pre .1) .nested, at-start .pre .0),
+      asks-while-second (at-start .pre .1) (at-shape .shape .ensures) (at-size-at .size-at .result) (at-size-at .size-at .ensures)
+          (at-expression .expression .ensures) (at-end-of .end-of .ensures .0) (at-emit .emit .ensures),
     ))
     -- emit-requires-2
     (λ c κs.
-    let c1 = c .before .before .before .before .before .before .before .before .before in
-    let c2 = c1 .before .before .before .before .before .before .before .before in
-    let c3 = c2 .before in
-    let c4 = c3 .before .before in
-    let c5 = c4 .before .before .before .before .before .before .before .before .before in
-    let c6 = c5 .before .before .before .before .before .before .before .before in
-    let c7 = c6 .before .before .before .before .before .before .before .before .before .before .before .before .before in
-    asks-while-emit₂ (c7 .pre .1) (c6 .shape .ensures) (c4 .size-at .result) (c4 .size-at .ensures) (c5 .expression .ensures) (c3 .end-of .ensures .0) (c2 .emit .ensures) (c1 .statement .ensures))
+    let at-statement = c .before .before .before .before .before .before .before .before .before in
+    let at-emit = at-statement .before .before .before .before .before .before .before .before in
+    let at-end-of = at-emit .before in
+    let at-size-at = at-end-of .before .before in
+    let at-expression = at-size-at .before .before .before .before .before .before .before .before .before in
+    let at-shape = at-expression .before .before .before .before .before .before .before .before in
+    let at-start = at-shape .before .before .before .before .before .before .before .before .before .before .before .before .before in
+    asks-while-emit₂ (at-start .pre .1) (at-shape .shape .ensures) (at-size-at .size-at .result) (at-size-at .size-at .ensures)
+    (at-expression .expression .ensures) (at-end-of .end-of .ensures .0) (at-emit .emit .ensures) (at-statement .statement .ensures))
     -- shape-requires-2
     (λ c κs.
-    let c1 = c .before .before .before .before .before in
-    let c2 = c1 .before .before .before .before .before .before .before .before .before .before in
-    let c3 = c2 .before .before .before .before .before .before .before .before in
-    let c4 = c3 .before in
-    let c5 = c4 .before .before in
-    let c6 = c5 .before .before .before .before .before .before .before .before .before in
-    let c7 = c6 .before .before .before .before .before .before .before .before in
-    let c8 = c7 .before .before .before .before .before .before .before .before .before .before .before .before .before in
-    asks-while-shape₂ (c8 .pre .1) (c7 .shape .ensures) (c5 .size-at .result) (c5 .size-at .ensures) (c6 .expression .ensures)
-    (c4 .end-of .ensures .0) (c3 .emit .ensures) (c2 .statement .ensures) refl (c1 .emit2 .ensures))
+    let at-emit2 = c .before .before .before .before .before in
+    let at-statement = at-emit2 .before .before .before .before .before .before .before .before .before .before in
+    let at-emit = at-statement .before .before .before .before .before .before .before .before in
+    let at-end-of = at-emit .before in
+    let at-size-at = at-end-of .before .before in
+    let at-expression = at-size-at .before .before .before .before .before .before .before .before .before in
+    let at-shape = at-expression .before .before .before .before .before .before .before .before in
+    let at-start = at-shape .before .before .before .before .before .before .before .before .before .before .before .before .before in
+    asks-while-shape₂ (at-start .pre .1) (at-shape .shape .ensures) (at-size-at .size-at .result) (at-size-at .size-at .ensures) (at-expression .expression .ensures)
+    (at-end-of .end-of .ensures .0) (at-emit .emit .ensures) (at-statement .statement .ensures) refl (at-emit2 .emit2 .ensures))
     -- finish-requires
     (λ c κs.
-    let c1 = c .before .before in
-    let c2 = c1 .before .before .before .before .before .before in
-    let c3 = c2 .before .before .before .before .before .before .before .before .before .before in
-    let c4 = c3 .before .before .before .before .before .before .before .before in
-    let c5 = c4 .before in
-    let c6 = c5 .before .before in
-    let c7 = c6 .before .before .before .before .before .before .before .before .before in
-    let c8 = c7 .before .before .before .before .before .before .before .before in
-    let c9 = c8 .before .before .before .before .before .before .before .before .before .before .before .before .before in
-    asks-while-finish (c9 .pre .1) (c8 .shape .ensures) (c6 .size-at .result) (c6 .size-at .ensures) (c7 .expression .ensures)
-    (c5 .end-of .ensures .0) (c4 .emit .ensures) (c3 .statement .ensures) refl (c2 .emit2 .ensures)
-    (c1 .shape2 .ensures))
+    let at-shape2 = c .before .before in
+    let at-emit2 = at-shape2 .before .before .before .before .before .before in
+    let at-statement = at-emit2 .before .before .before .before .before .before .before .before .before .before in
+    let at-emit = at-statement .before .before .before .before .before .before .before .before in
+    let at-end-of = at-emit .before in
+    let at-size-at = at-end-of .before .before in
+    let at-expression = at-size-at .before .before .before .before .before .before .before .before .before in
+    let at-shape = at-expression .before .before .before .before .before .before .before .before in
+    let at-start = at-shape .before .before .before .before .before .before .before .before .before .before .before .before .before in
+    asks-while-finish (at-start .pre .1) (at-shape .shape .ensures) (at-size-at .size-at .result) (at-size-at .size-at .ensures) (at-expression .expression .ensures)
+    (at-end-of .end-of .ensures .0) (at-emit .emit .ensures) (at-statement .statement .ensures) refl (at-emit2 .emit2 .ensures)
+    (at-shape2 .shape2 .ensures))
     -- same-length
     (λ c. repeat-ends t c .kept .same-env)
     -- same-length-2

@@ -46,20 +46,21 @@ claims t = (
 -- what it has done where it returns
 select-ends : (t : ℕ) → select-lts.Need-returns (claims t) (select-at t) select.Post
 select-ends t c =
-    let c1 = c .before .before in
-    let c2 = c1 .before .before .before in
-    let c3 = c2 .before .before .before .before .before .before in
-    let c4 = c3 .before .before .before .before .before .before .before .before .before .before in
-    let c5 = c4 .before .before .before .before .before .before in
-    let c6 = c5 .before .before .before in
-    let c7 = c6 .before .before .before .before .before .before .before .before .before .before in
-    let c8 = c7 .before .before .before .before .before .before in
-    let c9 = c8 .before in
-    let c10 = c9 .before in
-    let c11 = c10 .before .before .before .before .before .before .before .before .before .before in
-    answers-select (c11 .pre .1) (c5 .size-at .result) (c5 .size-at .ensures) (c7 .expression .ensures) (c10 .half-at .ensures) (c8 .second-in .ensures ∙ ap secondIn (c9 .known-at .ensures))
-    (c6 .emit .ensures) (c4 .arms .ensures) (c3 .emit2 .ensures) (c2 .shape .ensures)
-    (c1 .finish .ensures)
+    let at-finish = c .before .before in
+    let at-shape = at-finish .before .before .before in
+    let at-emit2 = at-shape .before .before .before .before .before .before in
+    let at-arms = at-emit2 .before .before .before .before .before .before .before .before .before .before in
+    let at-size-at = at-arms .before .before .before .before .before .before in
+    let at-emit = at-size-at .before .before .before in
+    let at-expression = at-emit .before .before .before .before .before .before .before .before .before .before in
+    let at-second-in = at-expression .before .before .before .before .before .before in
+    let at-known-at = at-second-in .before in
+    let at-half-at = at-known-at .before in
+    let at-start = at-half-at .before .before .before .before .before .before .before .before .before .before in
+    answers-select (at-start .pre .1) (at-size-at .size-at .result) (at-size-at .size-at .ensures) (at-expression .expression .ensures)
+    (at-half-at .half-at .ensures) (at-second-in .second-in .ensures ∙ ap secondIn (at-known-at .known-at .ensures))
+    (at-emit .emit .ensures) (at-arms .arms .ensures) (at-emit2 .emit2 .ensures) (at-shape .shape .ensures)
+    (at-finish .finish .ensures)
 
 pub select-meets : {M : Type 1} (t : ℕ) → select-lts.Closed (claims t) (select-at t) select.Post M
 select-meets t = select-lts.spec (claims t) (select-at t) select.Post
@@ -78,99 +79,122 @@ select-meets t = select-lts.spec (claims t) (select-at t) select.Post
     -- part-expression-end
     (λ c. search needs)
     -- sub-expression-2
-    (λ c. omega (arith, asked (c .before .before .before .before .before .before .before .before .before .before .before .before .before .pre .1) .nested))
+    (λ c.
+    let at-start = c .before .before .before .before .before .before .before .before .before .before .before .before .before in
+    omega (arith, asked (at-start .pre .1) .nested))
     -- add-expression
-    (λ c. omega (arith, asked (c .before .before .before .before .before .before .before .before .before .before .before .before .before .pre .1) .small))
+    (λ c.
+    let at-start = c .before .before .before .before .before .before .before .before .before .before .before .before .before in
+    omega (arith, asked (at-start .pre .1) .small))
     -- expression-requires
     (λ c κs.
-    let c1 = c .before .before .before .before .before .before .before .before .before .before .before .before .before .before .before .before .before in
-    (omega (arith, asked (c1 .pre .1) .nested, c1 .pre .0), asks-select-first (c1 .pre .1)))
+    let at-start = c .before .before .before .before .before .before .before .before .before .before .before .before .before .before .before .before
+    .before in
+    (omega (arith, asked (at-start .pre .1) .nested, at-start .pre .0), asks-select-first (at-start .pre .1)))
     -- emit-requires
     (λ c κs.
-    let c1 = c .before .before .before .before .before .before .before .before .before in
-    let c2 = c1 .before .before .before .before .before .before .before .before .before .before .before .before .before .before .before .before .before .before in
-    asks-select-emit (c2 .pre .1) _ refl (c1 .expression .ensures))
+    let at-expression = c .before .before .before .before .before .before .before .before .before in
+    let at-start = at-expression .before .before .before .before .before .before .before .before .before .before .before .before .before .before
+    .before .before .before .before in
+    asks-select-emit (at-start .pre .1) _ refl (at-expression .expression .ensures))
     -- add-second
-    (λ c. omega (arith, asked (c .before .before .before .before .before .before .before .before .before .before .before .before .before .before .before .before .before .before .before .before .before .before .before .before .before .before .before .before .before .before .pre .1) .small))
+    (λ c.
+    let at-start = c .before .before .before .before .before .before .before .before .before .before .before .before .before .before .before .before
+    .before .before .before .before .before .before .before .before .before .before .before .before .before .before in
+    omega (arith, asked (at-start .pre .1) .small))
     -- add-size-at
-    (λ c. omega (arith, asked (c .before .before .before .before .before .before .before .before .before .before .before .before .before .before .before .before .before .before .before .before .before .before .before .before .before .before .before .before .before .before .pre .1) .small))
+    (λ c.
+    let at-start = c .before .before .before .before .before .before .before .before .before .before .before .before .before .before .before .before
+    .before .before .before .before .before .before .before .before .before .before .before .before .before .before in
+    omega (arith, asked (at-start .pre .1) .small))
     -- size-at-requires
-    (λ c κs. asks-select-passes (c .before .before .before .before .before .before .before .before .before .before .before .before .before .before .before .before .before .before .before .before .before .before .before .before .before .before .before .before .before .before .pre .1)
-    _ refl .known)
+    (λ c κs.
+    let at-start = c .before .before .before .before .before .before .before .before .before .before .before .before .before .before .before .before
+    .before .before .before .before .before .before .before .before .before .before .before .before .before .before in
+    asks-select-passes (at-start .pre .1) _ refl .known)
     -- add-second-2
     (λ c.
-    let c2 = c .before .before .before .before .before .before .before .before .before .before .before .before .before .before .before .before .before .before .before .before .before .before .before .before .before .before .before .before .before .before .before in
-    omega (arith, asks-select-passes (c2 .pre .1) (c .size-at .result) (c .size-at .ensures) .small))
+    let at-start = c .before .before .before .before .before .before .before .before .before .before .before .before .before .before .before .before
+    .before .before .before .before .before .before .before .before .before .before .before .before .before .before .before in
+    omega (arith, asks-select-passes (at-start .pre .1) (c .size-at .result) (c .size-at .ensures) .small))
     -- sub-from
     (λ c. omega arith)
     -- mul-from
     (λ c.
-    let c2 = c .before .before .before .before .before .before .before .before .before .before .before .before .before .before .before .before .before .before .before .before .before .before .before .before .before .before .before .before .before .before .before in
-    omega (arith, asks-select-passes (c2 .pre .1) (c .size-at .result) (c .size-at .ensures) .small))
+    let at-start = c .before .before .before .before .before .before .before .before .before .before .before .before .before .before .before .before
+    .before .before .before .before .before .before .before .before .before .before .before .before .before .before .before in
+    omega (arith, asks-select-passes (at-start .pre .1) (c .size-at .result) (c .size-at .ensures) .small))
     -- sub-arms
     (λ c.
-    let c2 = c .before .before .before .before .before .before .before .before .before .before .before .before .before .before .before .before .before .before .before .before .before .before .before .before .before .before .before .before .before .before .before in
-    second-within (c2 .args .part .now) (c2 .args .at) (c .size-at .result) (asked (c2 .pre .1) .long) (asks-select-passes (c2 .pre .1) (c .size-at .result) (c .size-at .ensures)))
+    let at-start = c .before .before .before .before .before .before .before .before .before .before .before .before .before .before .before .before
+    .before .before .before .before .before .before .before .before .before .before .before .before .before .before .before in
+    second-within (at-start .args .part .now) (at-start .args .at) (c .size-at .result) (asked (at-start .pre .1) .long)
+    (asks-select-passes (at-start .pre .1) (c .size-at .result) (c .size-at .ensures)))
     -- part-arms-start
     (λ c.
-    let c2 = c .before .before .before .before .before .before .before .before .before .before .before .before .before .before .before .before .before .before .before .before .before .before .before .before .before .before .before .before .before .before .before in
-    second-within (c2 .args .part .now) (c2 .args .at) (c .size-at .result) (asked (c2 .pre .1) .long) (asks-select-passes (c2 .pre .1) (c .size-at .result) (c .size-at .ensures)))
+    let at-start = c .before .before .before .before .before .before .before .before .before .before .before .before .before .before .before .before
+    .before .before .before .before .before .before .before .before .before .before .before .before .before .before .before in
+    second-within (at-start .args .part .now) (at-start .args .at) (c .size-at .result) (asked (at-start .pre .1) .long)
+    (asks-select-passes (at-start .pre .1) (c .size-at .result) (c .size-at .ensures)))
     -- part-arms-end
     (λ c. search needs)
     -- sub-arms-2
-    (λ c. omega (arith, asked (c .before .before .before .before .before .before .before .before .before .before .before .before .before .before .before .before .before .before .before .before .before .before .before .before .before .before .before .before .before .before .before .before .pre .1) .nested))
+    (λ c.
+    let at-start = c .before .before .before .before .before .before .before .before .before .before .before .before .before .before .before .before
+    .before .before .before .before .before .before .before .before .before .before .before .before .before .before .before .before in
+    omega (arith, asked (at-start .pre .1) .nested))
     -- arms-requires
     (λ c κs.
-    let c1 = c .before .before .before .before .before in
-    let c2 = c1 .before .before .before in
-    let c3 = c2 .before .before .before .before .before .before .before .before .before .before in
-    let c4 = c3 .before .before .before .before .before .before in
-    let c5 = c4 .before in
-    let c6 = c5 .before in
-    let c7 = c6 .before .before .before .before .before .before .before .before .before .before in (
-      omega (arith, asked (c7 .pre .1) .nested, c7 .pre .0),
-      asks-select-second (c7 .pre .1) (c1 .size-at .result) (c1 .size-at .ensures) (c3 .expression .ensures) (c6 .half-at .ensures)
-          (c4 .second-in .ensures ∙ ap secondIn (c5 .known-at .ensures)) (c2 .emit .ensures),
+    let at-size-at = c .before .before .before .before .before in
+    let at-emit = at-size-at .before .before .before in
+    let at-expression = at-emit .before .before .before .before .before .before .before .before .before .before in
+    let at-second-in = at-expression .before .before .before .before .before .before in
+    let at-known-at = at-second-in .before in
+    let at-half-at = at-known-at .before in
+    let at-start = at-half-at .before .before .before .before .before .before .before .before .before .before in (
+      omega (arith, asked (at-start .pre .1) .nested, at-start .pre .0),
+      asks-select-second (at-start .pre .1) (at-size-at .size-at .result) (at-size-at .size-at .ensures) (at-expression .expression .ensures) (at-half-at .half-at .ensures)
+          (at-second-in .second-in .ensures ∙ ap secondIn (at-known-at .known-at .ensures)) (at-emit .emit .ensures),
     ))
     -- emit-requires-2
     (λ c κs.
-    let c1 = c .before .before .before .before .before .before .before .before .before in
-    let c2 = c1 .before .before .before .before .before .before in
-    let c3 = c2 .before .before .before in
-    let c4 = c3 .before .before .before .before .before .before .before .before .before .before in
-    let c5 = c4 .before .before .before .before .before .before in
-    let c6 = c5 .before in
-    let c7 = c6 .before in
-    let c8 = c7 .before .before .before .before .before .before .before .before .before .before in
-    asks-select-emit₂ (c8 .pre .1) (c2 .size-at .result) (c2 .size-at .ensures) (c4 .expression .ensures) (c7 .half-at .ensures)
-    (c5 .second-in .ensures ∙ ap secondIn (c6 .known-at .ensures)) (c3 .emit .ensures) (c1 .arms .ensures))
+    let at-arms = c .before .before .before .before .before .before .before .before .before in
+    let at-size-at = at-arms .before .before .before .before .before .before in
+    let at-emit = at-size-at .before .before .before in
+    let at-expression = at-emit .before .before .before .before .before .before .before .before .before .before in
+    let at-second-in = at-expression .before .before .before .before .before .before in
+    let at-known-at = at-second-in .before in
+    let at-half-at = at-known-at .before in
+    let at-start = at-half-at .before .before .before .before .before .before .before .before .before .before in
+    asks-select-emit₂ (at-start .pre .1) (at-size-at .size-at .result) (at-size-at .size-at .ensures) (at-expression .expression .ensures) (at-half-at .half-at .ensures)
+    (at-second-in .second-in .ensures ∙ ap secondIn (at-known-at .known-at .ensures)) (at-emit .emit .ensures) (at-arms .arms .ensures))
     -- shape-requires
     (λ c κs.
-    let c1 = c .before .before .before .before .before in
-    let c2 = c1 .before .before .before .before .before .before .before .before .before .before in
-    let c3 = c2 .before .before .before .before .before .before in
-    let c4 = c3 .before .before .before in
-    let c5 = c4 .before .before .before .before .before .before .before .before .before .before in
-    let c6 = c5 .before .before .before .before .before .before in
-    let c7 = c6 .before in
-    let c8 = c7 .before in
-    let c9 = c8 .before .before .before .before .before .before .before .before .before .before in
-    asks-select-shape (c9 .pre .1) (c3 .size-at .result) (c3 .size-at .ensures) (c5 .expression .ensures) (c8 .half-at .ensures)
-    (c6 .second-in .ensures ∙ ap secondIn (c7 .known-at .ensures)) (c4 .emit .ensures) (c2 .arms .ensures) (c1 .emit2 .ensures))
+    let at-emit2 = c .before .before .before .before .before in
+    let at-arms = at-emit2 .before .before .before .before .before .before .before .before .before .before in
+    let at-size-at = at-arms .before .before .before .before .before .before in
+    let at-emit = at-size-at .before .before .before in
+    let at-expression = at-emit .before .before .before .before .before .before .before .before .before .before in
+    let at-second-in = at-expression .before .before .before .before .before .before in
+    let at-known-at = at-second-in .before in
+    let at-half-at = at-known-at .before in
+    let at-start = at-half-at .before .before .before .before .before .before .before .before .before .before in
+    asks-select-shape (at-start .pre .1) (at-size-at .size-at .result) (at-size-at .size-at .ensures) (at-expression .expression .ensures) (at-half-at .half-at .ensures)
+    (at-second-in .second-in .ensures ∙ ap secondIn (at-known-at .known-at .ensures)) (at-emit .emit .ensures) (at-arms .arms .ensures) (at-emit2 .emit2 .ensures))
     -- finish-requires
     (λ c κs.
-    let c1 = c .before .before in
-    let c2 = c1 .before .before .before .before .before .before in
-    let c3 = c2 .before .before .before .before .before .before .before .before .before .before in
-    let c4 = c3 .before .before .before .before .before .before in
-    let c5 = c4 .before .before .before in
-    let c6 = c5 .before .before .before .before .before .before .before .before .before .before in
-    let c7 = c6 .before .before .before .before .before .before in
-    let c8 = c7 .before in
-    let c9 = c8 .before in
-    let c10 = c9 .before .before .before .before .before .before .before .before .before .before in
-    asks-select-finish (c10 .pre .1) (c4 .size-at .result) (c4 .size-at .ensures) (c6 .expression .ensures) (c9 .half-at .ensures)
-    (c7 .second-in .ensures ∙ ap secondIn (c8 .known-at .ensures)) (c5 .emit .ensures) (c3 .arms .ensures) (c2 .emit2 .ensures) (c1 .shape .ensures))
+    let at-shape = c .before .before in
+    let at-emit2 = at-shape .before .before .before .before .before .before in
+    let at-arms = at-emit2 .before .before .before .before .before .before .before .before .before .before in
+    let at-size-at = at-arms .before .before .before .before .before .before in
+    let at-emit = at-size-at .before .before .before in
+    let at-expression = at-emit .before .before .before .before .before .before .before .before .before .before in
+    let at-second-in = at-expression .before .before .before .before .before .before in
+    let at-known-at = at-second-in .before in
+    let at-half-at = at-known-at .before in
+    let at-start = at-half-at .before .before .before .before .before .before .before .before .before .before in
+    asks-select-finish (at-start .pre .1) (at-size-at .size-at .result) (at-size-at .size-at .ensures) (at-expression .expression .ensures) (at-half-at .half-at .ensures)
+    (at-second-in .second-in .ensures ∙ ap secondIn (at-known-at .known-at .ensures)) (at-emit .emit .ensures) (at-arms .arms .ensures) (at-emit2 .emit2 .ensures) (at-shape .shape .ensures))
     -- same-length
     (λ c. select-ends t c .kept .same-env)
     -- same-length-2

@@ -40,18 +40,19 @@ claims t = (
 -- what it has done where it returns
 simple-ends : (t : ℕ) → simple-lts.Need-returns (claims t) (simple-at t) simple.Post
 simple-ends t c =
-    let c1 = c .before .before in
-    let c2 = c1 .before .before .before in
-    let c3 = c2 .before .before .before in
-    let c4 = c3 .before .before in
-    let c5 = c4 .before .before .before .before .before .before .before .before .before .before in
-    let c6 = c5 .before .before .before .before .before .before in
-    let c7 = c6 .before in
-    let c8 = c7 .before in
-    let c9 = c8 .before in
-    let c10 = c9 .before .before .before .before .before .before .before .before .before .before in
-    answers-simple (c10 .pre .1) (c9 .half-at .ensures) (c8 .half-at2 .ensures) (c7 .word-at .ensures) (c6 .operands-of .ensures) (c5 .operands .ensures) (c4 .known-of .ensures) (c2 .last .ensures)
-    (c3 .last-type .ensures) (c1 .finish .ensures)
+    let at-finish = c .before .before in
+    let at-last = at-finish .before .before .before in
+    let at-last-type = at-last .before .before .before in
+    let at-known-of = at-last-type .before .before in
+    let at-operands = at-known-of .before .before .before .before .before .before .before .before .before .before in
+    let at-operands-of = at-operands .before .before .before .before .before .before in
+    let at-word-at = at-operands-of .before in
+    let at-half-at2 = at-word-at .before in
+    let at-half-at = at-half-at2 .before in
+    let at-start = at-half-at .before .before .before .before .before .before .before .before .before .before in
+    answers-simple (at-start .pre .1) (at-half-at .half-at .ensures) (at-half-at2 .half-at2 .ensures) (at-word-at .word-at .ensures)
+    (at-operands-of .operands-of .ensures) (at-operands .operands .ensures) (at-known-of .known-of .ensures) (at-last .last .ensures)
+    (at-last-type .last-type .ensures) (at-finish .finish .ensures)
 
 pub simple-meets : {M : Type 1} (t : ℕ) → simple-lts.Closed (claims t) (simple-at t) simple.Post M
 simple-meets t = simple-lts.spec (claims t) (simple-at t) simple.Post
@@ -64,74 +65,89 @@ simple-meets t = simple-lts.spec (claims t) (simple-at t) simple.Post
     -- operands-of-requires
     (λ c κs. search needs)
     -- sub-operands
-    (λ c. omega (arith, asked (c .before .before .before .before .before .before .before .before .before .before .before .before .before .pre .1) .long))
+    (λ c.
+    let at-start = c .before .before .before .before .before .before .before .before .before .before .before .before .before in
+    omega (arith, asked (at-start .pre .1) .long))
     -- part-operands-start
-    (λ c. omega (arith, asked (c .before .before .before .before .before .before .before .before .before .before .before .before .before .pre .1) .long))
+    (λ c.
+    let at-start = c .before .before .before .before .before .before .before .before .before .before .before .before .before in
+    omega (arith, asked (at-start .pre .1) .long))
     -- part-operands-end
     (λ c. search needs)
     -- sub-operands-2
-    (λ c. omega (arith, asked (c .before .before .before .before .before .before .before .before .before .before .before .before .before .before .pre .1) .nested))
+    (λ c.
+    let at-start = c .before .before .before .before .before .before .before .before .before .before .before .before .before .before in
+    omega (arith, asked (at-start .pre .1) .nested))
     -- add-operands
-    (λ c. omega (arith, asked (c .before .before .before .before .before .before .before .before .before .before .before .before .before .before .pre .1) .small))
+    (λ c.
+    let at-start = c .before .before .before .before .before .before .before .before .before .before .before .before .before .before in
+    omega (arith, asked (at-start .pre .1) .small))
     -- operands-requires
     (λ c κs.
-    let c1 = c .before .before .before .before .before in
-    let c2 = c1 .before in
-    let c3 = c2 .before in
-    let c4 = c3 .before in
-    let c5 = c4 .before .before .before .before .before .before .before .before .before .before in
-    (omega (arith, asked (c5 .pre .1) .nested, c5 .pre .0), asks-simple-first (c5 .pre .1) (c4 .half-at .ensures) (c3 .half-at2 .ensures) (c2 .word-at .ensures) (c1 .operands-of .ensures)))
+    let at-operands-of = c .before .before .before .before .before in
+    let at-word-at = at-operands-of .before in
+    let at-half-at2 = at-word-at .before in
+    let at-half-at = at-half-at2 .before in
+    let at-start = at-half-at .before .before .before .before .before .before .before .before .before .before in (
+      omega (arith, asked (at-start .pre .1) .nested, at-start .pre .0),
+      asks-simple-first (at-start .pre .1) (at-half-at .half-at .ensures) (at-half-at2 .half-at2 .ensures) (at-word-at .word-at .ensures)
+          (at-operands-of .operands-of .ensures),
+    ))
     -- known-of-requires
     (λ c κs.
-    let c1 = c .before .before .before .before .before .before .before .before .before in
-    let c2 = c1 .before .before .before .before .before .before in
-    let c3 = c2 .before in
-    let c4 = c3 .before in
-    let c5 = c4 .before in
-    let c6 = c5 .before .before .before .before .before .before .before .before .before .before in
-    asks-simple-room (c6 .pre .1) (c5 .half-at .ensures) (c4 .half-at2 .ensures) (c3 .word-at .ensures) (c2 .operands-of .ensures) (c1 .operands .ensures))
+    let at-operands = c .before .before .before .before .before .before .before .before .before in
+    let at-operands-of = at-operands .before .before .before .before .before .before in
+    let at-word-at = at-operands-of .before in
+    let at-half-at2 = at-word-at .before in
+    let at-half-at = at-half-at2 .before in
+    let at-start = at-half-at .before .before .before .before .before .before .before .before .before .before in
+    asks-simple-room (at-start .pre .1) (at-half-at .half-at .ensures) (at-half-at2 .half-at2 .ensures) (at-word-at .word-at .ensures)
+    (at-operands-of .operands-of .ensures) (at-operands .operands .ensures))
     -- slice-read-last-type
     (λ c.
-    let c1 = c .before .before .before .before .before .before .before .before .before .before .before in
-    let c2 = c1 .before .before .before .before .before .before in
-    let c3 = c2 .before in
-    let c4 = c3 .before in
-    let c5 = c4 .before in
-    let c6 = c5 .before .before .before .before .before .before .before .before .before .before in
-    asks-simple-read (c6 .pre .1) (c5 .half-at .ensures) (c4 .half-at2 .ensures) (c3 .word-at .ensures) (c2 .operands-of .ensures) (c1 .operands .ensures))
+    let at-operands = c .before .before .before .before .before .before .before .before .before .before .before in
+    let at-operands-of = at-operands .before .before .before .before .before .before in
+    let at-word-at = at-operands-of .before in
+    let at-half-at2 = at-word-at .before in
+    let at-half-at = at-half-at2 .before in
+    let at-start = at-half-at .before .before .before .before .before .before .before .before .before .before in
+    asks-simple-read (at-start .pre .1) (at-half-at .half-at .ensures) (at-half-at2 .half-at2 .ensures) (at-word-at .word-at .ensures)
+    (at-operands-of .operands-of .ensures) (at-operands .operands .ensures))
     -- last-type-requires
     (λ c κs. search needs)
     -- slice-write-stack
     (λ c.
-    let c1 = c .before .before .before .before .before .before .before .before .before .before .before .before in
-    let c2 = c1 .before .before .before .before .before .before in
-    let c3 = c2 .before in
-    let c4 = c3 .before in
-    let c5 = c4 .before in
-    let c6 = c5 .before .before .before .before .before .before .before .before .before .before in
-    asks-simple-read (c6 .pre .1) (c5 .half-at .ensures) (c4 .half-at2 .ensures) (c3 .word-at .ensures) (c2 .operands-of .ensures) (c1 .operands .ensures))
+    let at-operands = c .before .before .before .before .before .before .before .before .before .before .before .before in
+    let at-operands-of = at-operands .before .before .before .before .before .before in
+    let at-word-at = at-operands-of .before in
+    let at-half-at2 = at-word-at .before in
+    let at-half-at = at-half-at2 .before in
+    let at-start = at-half-at .before .before .before .before .before .before .before .before .before .before in
+    asks-simple-read (at-start .pre .1) (at-half-at .half-at .ensures) (at-half-at2 .half-at2 .ensures) (at-word-at .word-at .ensures)
+    (at-operands-of .operands-of .ensures) (at-operands .operands .ensures))
     -- last-requires
     (λ c κs.
-    let c1 = c .before .before .before .before in
-    let c2 = c1 .before .before .before .before .before .before .before .before .before .before in
-    let c3 = c2 .before .before .before .before .before .before in
-    let c4 = c3 .before in
-    let c5 = c4 .before in
-    let c6 = c5 .before in
-    let c7 = c6 .before .before .before .before .before .before .before .before .before .before in
-    asks-simple-last (c7 .pre .1) (c6 .half-at .ensures) (c5 .half-at2 .ensures) (c4 .word-at .ensures) (c3 .operands-of .ensures) (c2 .operands .ensures) (c1 .known-of .ensures))
+    let at-known-of = c .before .before .before .before in
+    let at-operands = at-known-of .before .before .before .before .before .before .before .before .before .before in
+    let at-operands-of = at-operands .before .before .before .before .before .before in
+    let at-word-at = at-operands-of .before in
+    let at-half-at2 = at-word-at .before in
+    let at-half-at = at-half-at2 .before in
+    let at-start = at-half-at .before .before .before .before .before .before .before .before .before .before in
+    asks-simple-last (at-start .pre .1) (at-half-at .half-at .ensures) (at-half-at2 .half-at2 .ensures) (at-word-at .word-at .ensures)
+    (at-operands-of .operands-of .ensures) (at-operands .operands .ensures) (at-known-of .known-of .ensures))
     -- finish-requires
     (λ c κs.
-    let c1 = c .before .before in
-    let c2 = c1 .before .before .before .before .before in
-    let c3 = c2 .before .before .before .before .before .before .before .before .before .before in
-    let c4 = c3 .before .before .before .before .before .before in
-    let c5 = c4 .before in
-    let c6 = c5 .before in
-    let c7 = c6 .before in
-    let c8 = c7 .before .before .before .before .before .before .before .before .before .before in
-    asks-simple-finish (c8 .pre .1) (c7 .half-at .ensures) (c6 .half-at2 .ensures) (c5 .word-at .ensures) (c4 .operands-of .ensures)
-    (c3 .operands .ensures) (c2 .known-of .ensures) (c1 .last .ensures))
+    let at-last = c .before .before in
+    let at-known-of = at-last .before .before .before .before .before in
+    let at-operands = at-known-of .before .before .before .before .before .before .before .before .before .before in
+    let at-operands-of = at-operands .before .before .before .before .before .before in
+    let at-word-at = at-operands-of .before in
+    let at-half-at2 = at-word-at .before in
+    let at-half-at = at-half-at2 .before in
+    let at-start = at-half-at .before .before .before .before .before .before .before .before .before .before in
+    asks-simple-finish (at-start .pre .1) (at-half-at .half-at .ensures) (at-half-at2 .half-at2 .ensures) (at-word-at .word-at .ensures) (at-operands-of .operands-of .ensures)
+    (at-operands .operands .ensures) (at-known-of .known-of .ensures) (at-last .last .ensures))
     -- same-length
     (λ c. simple-ends t c .kept .same-env)
     -- same-length-2

@@ -58,24 +58,25 @@ claims t = (
 -- what it has done where it returns
 statement-ends-2 : (t : ℕ) → statement-lts.Need-returns-2 (claims t) (statement-at t) statement′.Post
 statement-ends-2 t c =
-    let c1 = c .before .before in
-    let c2 = c1 .before .before .before in
-    let c3 = c2 .before .before .before .before in
-    let c4 = c3 .before in
-    let c5 = c4 .before .before .before .before .before .before .before .before .before .before in
-    answer-as (λ n h e. e ∙ (sym (c4 .half-at .ensures) ∙ c3 .match .keys2))
-    (answers-label (ask-as (λ n h e. e ∙ (sym (c4 .half-at .ensures) ∙ c3 .match .keys2)) (c5 .pre .1)) (c2 .shape .ensures) (c1 .finish .ensures))
+    let at-finish = c .before .before in
+    let at-shape = at-finish .before .before .before in
+    let at-match = at-shape .before .before .before .before in
+    let at-half-at = at-match .before in
+    let at-start = at-half-at .before .before .before .before .before .before .before .before .before .before in
+    answer-as (λ n h e. e ∙ (sym (at-half-at .half-at .ensures) ∙ at-match .match .keys2))
+    (answers-label (ask-as (λ n h e. e ∙ (sym (at-half-at .half-at .ensures) ∙ at-match .match .keys2)) (at-start .pre .1)) (at-shape .shape .ensures) (at-finish .finish .ensures))
 
 statement-ends-7 : (t : ℕ) → statement-lts.Need-returns-7 (claims t) (statement-at t) statement′.Post
 statement-ends-7 t c =
-    let c1 = c .before .before in
-    let c2 = c1 .before .before .before in
-    let c3 = c2 .before .before .before .before in
-    let c4 = c3 .before .before in
-    let c5 = c4 .before in
-    let c6 = c5 .before .before .before .before .before .before .before .before .before .before in
-    answer-as (λ n h e. e ∙ (sym (c5 .half-at .ensures) ∙ c4 .match .keys7))
-    (answers-goto (ask-as (λ n h e. e ∙ (sym (c5 .half-at .ensures) ∙ c4 .match .keys7)) (c6 .pre .1)) (c3 .half-at2 .ensures) (c2 .goto .ensures) (c1 .finish2 .ensures))
+    let at-finish2 = c .before .before in
+    let at-goto = at-finish2 .before .before .before in
+    let at-half-at2 = at-goto .before .before .before .before in
+    let at-match = at-half-at2 .before .before in
+    let at-half-at = at-match .before in
+    let at-start = at-half-at .before .before .before .before .before .before .before .before .before .before in
+    answer-as (λ n h e. e ∙ (sym (at-half-at .half-at .ensures) ∙ at-match .match .keys7))
+    (answers-goto (ask-as (λ n h e. e ∙ (sym (at-half-at .half-at .ensures) ∙ at-match .match .keys7)) (at-start .pre .1))
+    (at-half-at2 .half-at2 .ensures) (at-goto .goto .ensures) (at-finish2 .finish2 .ensures))
 
 pub statement-meets : {M : Type 1} (t : ℕ) → statement-lts.Closed (claims t) (statement-at t) statement′.Post M
 statement-meets t = statement-lts.spec (claims t) (statement-at t) statement′.Post
@@ -83,70 +84,70 @@ statement-meets t = statement-lts.spec (claims t) (statement-at t) statement′.
     (λ c κs. omega (arith, asked (c .before .before .before .before .before .before .before .before .before .pre .1) .long))
     -- block-requires
     (λ c κs.
-    let c1 = c .before .before .before .before in
-    let c2 = c1 .before in
-    let c3 = c2 .before .before .before .before .before .before .before .before .before .before in
-    (omega (arith, c3 .pre .0), ask-as (λ n h e. e ∙ (sym (c2 .half-at .ensures) ∙ c1 .match .keys1)) (c3 .pre .1)))
+    let at-match = c .before .before .before .before in
+    let at-half-at = at-match .before in
+    let at-start = at-half-at .before .before .before .before .before .before .before .before .before .before in
+    (omega (arith, at-start .pre .0), ask-as (λ n h e. e ∙ (sym (at-half-at .half-at .ensures) ∙ at-match .match .keys1)) (at-start .pre .1)))
     -- shape-requires
     (λ c κs.
-    let c1 = c .before .before .before in
-    let c2 = c1 .before in
-    let c3 = c2 .before .before .before .before .before .before .before .before .before .before in
-    asks-label-shape (ask-as (λ n h e. e ∙ (sym (c2 .half-at .ensures) ∙ c1 .match .keys2)) (c3 .pre .1)))
+    let at-match = c .before .before .before in
+    let at-half-at = at-match .before in
+    let at-start = at-half-at .before .before .before .before .before .before .before .before .before .before in
+    asks-label-shape (ask-as (λ n h e. e ∙ (sym (at-half-at .half-at .ensures) ∙ at-match .match .keys2)) (at-start .pre .1)))
     -- finish-requires
     (λ c κs.
-    let c1 = c .before .before in
-    let c2 = c1 .before .before .before .before in
-    let c3 = c2 .before in
-    let c4 = c3 .before .before .before .before .before .before .before .before .before .before in
-    asks-label-finish (ask-as (λ n h e. e ∙ (sym (c3 .half-at .ensures) ∙ c2 .match .keys2)) (c4 .pre .1)) (c1 .shape .ensures))
+    let at-shape = c .before .before in
+    let at-match = at-shape .before .before .before .before in
+    let at-half-at = at-match .before in
+    let at-start = at-half-at .before .before .before .before .before .before .before .before .before .before in
+    asks-label-finish (ask-as (λ n h e. e ∙ (sym (at-half-at .half-at .ensures) ∙ at-match .match .keys2)) (at-start .pre .1)) (at-shape .shape .ensures))
     -- assign-requires
     (λ c κs.
-    let c1 = c .before .before .before .before in
-    let c2 = c1 .before in
-    let c3 = c2 .before .before .before .before .before .before .before .before .before .before in
-    (omega (arith, c3 .pre .0), ask-as (λ n h e. e ∙ (sym (c2 .half-at .ensures) ∙ c1 .match .keys3)) (c3 .pre .1)))
+    let at-match = c .before .before .before .before in
+    let at-half-at = at-match .before in
+    let at-start = at-half-at .before .before .before .before .before .before .before .before .before .before in
+    (omega (arith, at-start .pre .0), ask-as (λ n h e. e ∙ (sym (at-half-at .half-at .ensures) ∙ at-match .match .keys3)) (at-start .pre .1)))
     -- when-requires
     (λ c κs.
-    let c1 = c .before .before .before .before in
-    let c2 = c1 .before in
-    let c3 = c2 .before .before .before .before .before .before .before .before .before .before in
-    (omega (arith, c3 .pre .0), ask-as (λ n h e. e ∙ (sym (c2 .half-at .ensures) ∙ c1 .match .keys4)) (c3 .pre .1)))
+    let at-match = c .before .before .before .before in
+    let at-half-at = at-match .before in
+    let at-start = at-half-at .before .before .before .before .before .before .before .before .before .before in
+    (omega (arith, at-start .pre .0), ask-as (λ n h e. e ∙ (sym (at-half-at .half-at .ensures) ∙ at-match .match .keys4)) (at-start .pre .1)))
     -- choose-requires
     (λ c κs.
-    let c1 = c .before .before .before .before in
-    let c2 = c1 .before in
-    let c3 = c2 .before .before .before .before .before .before .before .before .before .before in
-    (omega (arith, c3 .pre .0), ask-as (λ n h e. e ∙ (sym (c2 .half-at .ensures) ∙ c1 .match .keys5)) (c3 .pre .1)))
+    let at-match = c .before .before .before .before in
+    let at-half-at = at-match .before in
+    let at-start = at-half-at .before .before .before .before .before .before .before .before .before .before in
+    (omega (arith, at-start .pre .0), ask-as (λ n h e. e ∙ (sym (at-half-at .half-at .ensures) ∙ at-match .match .keys5)) (at-start .pre .1)))
     -- repeat-requires
     (λ c κs.
-    let c1 = c .before .before .before .before in
-    let c2 = c1 .before in
-    let c3 = c2 .before .before .before .before .before .before .before .before .before .before in
-    (omega (arith, c3 .pre .0), ask-as (λ n h e. e ∙ (sym (c2 .half-at .ensures) ∙ c1 .match .keys6)) (c3 .pre .1)))
+    let at-match = c .before .before .before .before in
+    let at-half-at = at-match .before in
+    let at-start = at-half-at .before .before .before .before .before .before .before .before .before .before in
+    (omega (arith, at-start .pre .0), ask-as (λ n h e. e ∙ (sym (at-half-at .half-at .ensures) ∙ at-match .match .keys6)) (at-start .pre .1)))
     -- half-at-requires-2
     (λ c κs. omega (arith, asked (c .before .before .before .before .before .before .before .before .before .before .before .before .pre .1) .long))
     -- goto-requires
     (λ c κs.
-    let c1 = c .before .before .before in
-    let c2 = c1 .before .before in
-    let c3 = c2 .before in
-    let c4 = c3 .before .before .before .before .before .before .before .before .before .before in
-    asks-goto (ask-as (λ n h e. e ∙ (sym (c3 .half-at .ensures) ∙ c2 .match .keys7)) (c4 .pre .1)) (c1 .half-at2 .ensures))
+    let at-half-at2 = c .before .before .before in
+    let at-match = at-half-at2 .before .before in
+    let at-half-at = at-match .before in
+    let at-start = at-half-at .before .before .before .before .before .before .before .before .before .before in
+    asks-goto (ask-as (λ n h e. e ∙ (sym (at-half-at .half-at .ensures) ∙ at-match .match .keys7)) (at-start .pre .1)) (at-half-at2 .half-at2 .ensures))
     -- finish-requires-2
     (λ c κs.
-    let c1 = c .before .before in
-    let c2 = c1 .before .before .before .before in
-    let c3 = c2 .before .before in
-    let c4 = c3 .before in
-    let c5 = c4 .before .before .before .before .before .before .before .before .before .before in
-    asks-goto-finish (ask-as (λ n h e. e ∙ (sym (c4 .half-at .ensures) ∙ c3 .match .keys7)) (c5 .pre .1)) (c2 .half-at2 .ensures) (c1 .goto .ensures))
+    let at-goto = c .before .before in
+    let at-half-at2 = at-goto .before .before .before .before in
+    let at-match = at-half-at2 .before .before in
+    let at-half-at = at-match .before in
+    let at-start = at-half-at .before .before .before .before .before .before .before .before .before .before in
+    asks-goto-finish (ask-as (λ n h e. e ∙ (sym (at-half-at .half-at .ensures) ∙ at-match .match .keys7)) (at-start .pre .1)) (at-half-at2 .half-at2 .ensures) (at-goto .goto .ensures))
     -- select-requires
     (λ c κs.
-    let c1 = c .before .before .before .before in
-    let c2 = c1 .before in
-    let c3 = c2 .before .before .before .before .before .before .before .before .before .before in
-    (omega (arith, c3 .pre .0), ask-as (λ n h e. e ∙ (sym (c2 .half-at .ensures) ∙ c1 .match .keys8)) (c3 .pre .1)))
+    let at-match = c .before .before .before .before in
+    let at-half-at = at-match .before in
+    let at-start = at-half-at .before .before .before .before .before .before .before .before .before .before in
+    (omega (arith, at-start .pre .0), ask-as (λ n h e. e ∙ (sym (at-half-at .half-at .ensures) ∙ at-match .match .keys8)) (at-start .pre .1)))
     -- sub-simple
     (λ c. omega arith)
     -- part-simple-start
@@ -155,17 +156,17 @@ statement-meets t = statement-lts.spec (claims t) (statement-at t) statement′.
     (λ c. search needs)
     -- simple-requires
     (λ c κs.
-    let c1 = c .before .before .before .before .before in
-    let c2 = c1 .before in
-    let c3 = c2 .before .before .before .before .before .before .before .before .before .before in (
-      omega (arith, c3 .pre .0),
+    let at-match = c .before .before .before .before .before in
+    let at-half-at = at-match .before in
+    let at-start = at-half-at .before .before .before .before .before .before .before .before .before .before in (
+      omega (arith, at-start .pre .0),
       asks-anew _ (ask-as (λ n h e. simple-stmt n h
-          (λ z. c1 .match .rest .0 .0 .0 .0 .0 .0 .0 .1 (c2 .half-at .ensures ∙ (sym e ∙ z)))
-          (λ z. c1 .match .rest .0 .0 .0 .0 .0 .0 .1 (c2 .half-at .ensures ∙ (sym e ∙ z)))
-          (λ z. c1 .match .rest .0 .0 .0 .0 .0 .1 (c2 .half-at .ensures ∙ (sym e ∙ z)))
-          (λ z. c1 .match .rest .0 .0 .0 .0 .1 (c2 .half-at .ensures ∙ (sym e ∙ z)))
-          (λ z. c1 .match .rest .0 .0 .0 .1 (c2 .half-at .ensures ∙ (sym e ∙ z))) (λ z. c1 .match .rest .0 .0 .1 (c2 .half-at .ensures ∙ (sym e ∙ z)))
-          (λ z. c1 .match .rest .0 .1 (c2 .half-at .ensures ∙ (sym e ∙ z))) (λ z. c1 .match .rest .1 (c2 .half-at .ensures ∙ (sym e ∙ z)))) (c3 .pre .1)),
+          (λ z. at-match .match .rest .0 .0 .0 .0 .0 .0 .0 .1 (at-half-at .half-at .ensures ∙ (sym e ∙ z)))
+          (λ z. at-match .match .rest .0 .0 .0 .0 .0 .0 .1 (at-half-at .half-at .ensures ∙ (sym e ∙ z)))
+          (λ z. at-match .match .rest .0 .0 .0 .0 .0 .1 (at-half-at .half-at .ensures ∙ (sym e ∙ z)))
+          (λ z. at-match .match .rest .0 .0 .0 .0 .1 (at-half-at .half-at .ensures ∙ (sym e ∙ z)))
+          (λ z. at-match .match .rest .0 .0 .0 .1 (at-half-at .half-at .ensures ∙ (sym e ∙ z))) (λ z. at-match .match .rest .0 .0 .1 (at-half-at .half-at .ensures ∙ (sym e ∙ z)))
+          (λ z. at-match .match .rest .0 .1 (at-half-at .half-at .ensures ∙ (sym e ∙ z))) (λ z. at-match .match .rest .1 (at-half-at .half-at .ensures ∙ (sym e ∙ z)))) (at-start .pre .1)),
     ))
     -- same-length
     (λ c. (c .before .before .before .before .before .before .before .before .block .ensures) .kept .same-env)
@@ -177,10 +178,10 @@ statement-meets t = statement-lts.spec (claims t) (statement-at t) statement′.
     (λ c. (c .before .before .before .before .before .before .before .before .block .ensures) .kept .same-out)
     -- returns
     (λ c.
-    let c1 = c .before .before .before .before .before .before .before .before in
-    let c2 = c1 .before .before .before .before .before in
-    let c3 = c2 .before in
-    answer-as (λ n h e. e ∙ (sym (c3 .half-at .ensures) ∙ c2 .match .keys1)) (c1 .block .ensures))
+    let at-block = c .before .before .before .before .before .before .before .before in
+    let at-match = at-block .before .before .before .before .before in
+    let at-half-at = at-match .before in
+    answer-as (λ n h e. e ∙ (sym (at-half-at .half-at .ensures) ∙ at-match .match .keys1)) (at-block .block .ensures))
     -- same-length-5
     (λ c. statement-ends-2 t c .kept .same-ends)
     -- same-length-6
@@ -199,10 +200,10 @@ statement-meets t = statement-lts.spec (claims t) (statement-at t) statement′.
     (λ c. (c .before .before .before .before .before .before .before .before .assign .ensures) .kept .same-out)
     -- returns-3
     (λ c.
-    let c1 = c .before .before .before .before .before .before .before .before in
-    let c2 = c1 .before .before .before .before .before in
-    let c3 = c2 .before in
-    answer-as (λ n h e. e ∙ (sym (c3 .half-at .ensures) ∙ c2 .match .keys3)) (c1 .assign .ensures))
+    let at-assign = c .before .before .before .before .before .before .before .before in
+    let at-match = at-assign .before .before .before .before .before in
+    let at-half-at = at-match .before in
+    answer-as (λ n h e. e ∙ (sym (at-half-at .half-at .ensures) ∙ at-match .match .keys3)) (at-assign .assign .ensures))
     -- same-length-12
     (λ c. (c .before .before .before .before .before .before .before .before .when .ensures) .kept .same-env)
     -- same-length-13
@@ -213,10 +214,10 @@ statement-meets t = statement-lts.spec (claims t) (statement-at t) statement′.
     (λ c. (c .before .before .before .before .before .before .before .before .when .ensures) .kept .same-out)
     -- returns-4
     (λ c.
-    let c1 = c .before .before .before .before .before .before .before .before in
-    let c2 = c1 .before .before .before .before .before in
-    let c3 = c2 .before in
-    answer-as (λ n h e. e ∙ (sym (c3 .half-at .ensures) ∙ c2 .match .keys4)) (c1 .when .ensures))
+    let at-when = c .before .before .before .before .before .before .before .before in
+    let at-match = at-when .before .before .before .before .before in
+    let at-half-at = at-match .before in
+    answer-as (λ n h e. e ∙ (sym (at-half-at .half-at .ensures) ∙ at-match .match .keys4)) (at-when .when .ensures))
     -- same-length-16
     (λ c. (c .before .before .before .before .before .before .before .before .choose .ensures) .kept .same-env)
     -- same-length-17
@@ -227,10 +228,10 @@ statement-meets t = statement-lts.spec (claims t) (statement-at t) statement′.
     (λ c. (c .before .before .before .before .before .before .before .before .choose .ensures) .kept .same-out)
     -- returns-5
     (λ c.
-    let c1 = c .before .before .before .before .before .before .before .before in
-    let c2 = c1 .before .before .before .before .before in
-    let c3 = c2 .before in
-    answer-as (λ n h e. e ∙ (sym (c3 .half-at .ensures) ∙ c2 .match .keys5)) (c1 .choose .ensures))
+    let at-choose = c .before .before .before .before .before .before .before .before in
+    let at-match = at-choose .before .before .before .before .before in
+    let at-half-at = at-match .before in
+    answer-as (λ n h e. e ∙ (sym (at-half-at .half-at .ensures) ∙ at-match .match .keys5)) (at-choose .choose .ensures))
     -- same-length-20
     (λ c. (c .before .before .before .before .before .before .before .before .repeat .ensures) .kept .same-env)
     -- same-length-21
@@ -241,10 +242,10 @@ statement-meets t = statement-lts.spec (claims t) (statement-at t) statement′.
     (λ c. (c .before .before .before .before .before .before .before .before .repeat .ensures) .kept .same-out)
     -- returns-6
     (λ c.
-    let c1 = c .before .before .before .before .before .before .before .before in
-    let c2 = c1 .before .before .before .before .before in
-    let c3 = c2 .before in
-    answer-as (λ n h e. e ∙ (sym (c3 .half-at .ensures) ∙ c2 .match .keys6)) (c1 .repeat .ensures))
+    let at-repeat = c .before .before .before .before .before .before .before .before in
+    let at-match = at-repeat .before .before .before .before .before in
+    let at-half-at = at-match .before in
+    answer-as (λ n h e. e ∙ (sym (at-half-at .half-at .ensures) ∙ at-match .match .keys6)) (at-repeat .repeat .ensures))
     -- same-length-24
     (λ c. statement-ends-7 t c .kept .same-env)
     -- same-length-25
@@ -265,10 +266,10 @@ statement-meets t = statement-lts.spec (claims t) (statement-at t) statement′.
     (λ c. (c .before .before .before .before .before .before .before .before .select .ensures) .kept .same-out)
     -- returns-8
     (λ c.
-    let c1 = c .before .before .before .before .before .before .before .before in
-    let c2 = c1 .before .before .before .before .before in
-    let c3 = c2 .before in
-    answer-as (λ n h e. e ∙ (sym (c3 .half-at .ensures) ∙ c2 .match .keys8)) (c1 .select .ensures))
+    let at-select = c .before .before .before .before .before .before .before .before in
+    let at-match = at-select .before .before .before .before .before in
+    let at-half-at = at-match .before in
+    answer-as (λ n h e. e ∙ (sym (at-half-at .half-at .ensures) ∙ at-match .match .keys8)) (at-select .select .ensures))
     -- same-length-32
     (λ c. (c .before .before .before .before .before .before .before .before .simple .ensures) .kept .same-env)
     -- same-length-33
@@ -279,13 +280,13 @@ statement-meets t = statement-lts.spec (claims t) (statement-at t) statement′.
     (λ c. (c .before .before .before .before .before .before .before .before .simple .ensures) .kept .same-out)
     -- returns-9
     (λ c.
-    let c1 = c .before .before .before .before .before .before .before .before in
-    let c2 = c1 .before .before .before .before .before .before in
-    let c3 = c2 .before in
-    answer-as (λ n h e. simple-stmt n h (λ z. c2 .match .rest .0 .0 .0 .0 .0 .0 .0 .1 (c3 .half-at .ensures ∙ (sym e ∙ z)))
-    (λ z. c2 .match .rest .0 .0 .0 .0 .0 .0 .1 (c3 .half-at .ensures ∙ (sym e ∙ z)))
-    (λ z. c2 .match .rest .0 .0 .0 .0 .0 .1 (c3 .half-at .ensures ∙ (sym e ∙ z)))
-    (λ z. c2 .match .rest .0 .0 .0 .0 .1 (c3 .half-at .ensures ∙ (sym e ∙ z)))
-    (λ z. c2 .match .rest .0 .0 .0 .1 (c3 .half-at .ensures ∙ (sym e ∙ z))) (λ z. c2 .match .rest .0 .0 .1 (c3 .half-at .ensures ∙ (sym e ∙ z)))
-    (λ z. c2 .match .rest .0 .1 (c3 .half-at .ensures ∙ (sym e ∙ z))) (λ z. c2 .match .rest .1 (c3 .half-at .ensures ∙ (sym e ∙ z))))
-    (answers-anew _ (c1 .simple .ensures)))
+    let at-simple = c .before .before .before .before .before .before .before .before in
+    let at-match = at-simple .before .before .before .before .before .before in
+    let at-half-at = at-match .before in
+    answer-as (λ n h e. simple-stmt n h (λ z. at-match .match .rest .0 .0 .0 .0 .0 .0 .0 .1 (at-half-at .half-at .ensures ∙ (sym e ∙ z)))
+    (λ z. at-match .match .rest .0 .0 .0 .0 .0 .0 .1 (at-half-at .half-at .ensures ∙ (sym e ∙ z)))
+    (λ z. at-match .match .rest .0 .0 .0 .0 .0 .1 (at-half-at .half-at .ensures ∙ (sym e ∙ z)))
+    (λ z. at-match .match .rest .0 .0 .0 .0 .1 (at-half-at .half-at .ensures ∙ (sym e ∙ z)))
+    (λ z. at-match .match .rest .0 .0 .0 .1 (at-half-at .half-at .ensures ∙ (sym e ∙ z))) (λ z. at-match .match .rest .0 .0 .1 (at-half-at .half-at .ensures ∙ (sym e ∙ z)))
+    (λ z. at-match .match .rest .0 .1 (at-half-at .half-at .ensures ∙ (sym e ∙ z))) (λ z. at-match .match .rest .1 (at-half-at .half-at .ensures ∙ (sym e ∙ z))))
+    (answers-anew _ (at-simple .simple .ensures)))

@@ -41,16 +41,18 @@ claims t = (
 -- what it has done where it returns
 when-ends : (t : ℕ) → when-lts.Need-returns (claims t) (when-at t) when.Post
 when-ends t c =
-    let c1 = c .before .before in
-    let c2 = c1 .before .before .before in
-    let c3 = c2 .before .before .before .before .before .before .before .before .before .before .before .before in
-    let c4 = c3 .before .before .before .before .before .before .before .before in
-    let c5 = c4 .before in
-    let c6 = c5 .before .before in
-    let c7 = c6 .before .before .before .before .before .before .before .before .before in
-    let c8 = c7 .before .before .before .before .before .before .before .before .before .before .before .before .before .before .before in
-    answers-when (c8 .pre .1) (c6 .size-at .result) (c6 .size-at .ensures) (c7 .expression .ensures) (c5 .end-of .ensures .0) (c4 .emit .ensures) (c3 .statement .ensures) (c2 .shape .ensures)
-    (c1 .finish .ensures)
+    let at-finish = c .before .before in
+    let at-shape = at-finish .before .before .before in
+    let at-statement = at-shape .before .before .before .before .before .before .before .before .before .before .before .before in
+    let at-emit = at-statement .before .before .before .before .before .before .before .before in
+    let at-end-of = at-emit .before in
+    let at-size-at = at-end-of .before .before in
+    let at-expression = at-size-at .before .before .before .before .before .before .before .before .before in
+    let at-start = at-expression .before .before .before .before .before .before .before .before .before .before .before .before .before .before
+    .before in
+    answers-when (at-start .pre .1) (at-size-at .size-at .result) (at-size-at .size-at .ensures) (at-expression .expression .ensures)
+    (at-end-of .end-of .ensures .0) (at-emit .emit .ensures) (at-statement .statement .ensures) (at-shape .shape .ensures)
+    (at-finish .finish .ensures)
 
 pub when-meets : {M : Type 1} (t : ℕ) → when-lts.Closed (claims t) (when-at t) when.Post M
 when-meets t = when-lts.spec (claims t) (when-at t) when.Post
@@ -66,77 +68,100 @@ when-meets t = when-lts.spec (claims t) (when-at t) when.Post
     (λ c. omega (arith, asked (c .before .before .before .before .before .before .before .before .before .before .pre .1) .small))
     -- expression-requires
     (λ c κs.
-    let c1 = c .before .before .before .before .before .before .before .before .before .before .before .before .before .before in
-    (omega (arith, asked (c1 .pre .1) .nested, c1 .pre .0), asks-when-first (c1 .pre .1)))
+    let at-start = c .before .before .before .before .before .before .before .before .before .before .before .before .before .before in
+    (omega (arith, asked (at-start .pre .1) .nested, at-start .pre .0), asks-when-first (at-start .pre .1)))
     -- add-second
-    (λ c. omega (arith, asked (c .before .before .before .before .before .before .before .before .before .before .before .before .before .before .before .before .before .before .before .before .before .before .before .pre .1) .small))
+    (λ c.
+    let at-start = c .before .before .before .before .before .before .before .before .before .before .before .before .before .before .before .before
+    .before .before .before .before .before .before .before in
+    omega (arith, asked (at-start .pre .1) .small))
     -- add-size-at
-    (λ c. omega (arith, asked (c .before .before .before .before .before .before .before .before .before .before .before .before .before .before .before .before .before .before .before .before .before .before .before .pre .1) .small))
+    (λ c.
+    let at-start = c .before .before .before .before .before .before .before .before .before .before .before .before .before .before .before .before
+    .before .before .before .before .before .before .before in
+    omega (arith, asked (at-start .pre .1) .small))
     -- size-at-requires
-    (λ c κs. asks-when-passes (c .before .before .before .before .before .before .before .before .before .before .before .before .before .before .before .before .before .before .before .before .before .before .before .pre .1)
-    _ refl .known)
+    (λ c κs.
+    let at-start = c .before .before .before .before .before .before .before .before .before .before .before .before .before .before .before .before
+    .before .before .before .before .before .before .before in
+    asks-when-passes (at-start .pre .1) _ refl .known)
     -- add-second-2
     (λ c.
-    let c2 = c .before .before .before .before .before .before .before .before .before .before .before .before .before .before .before .before .before .before .before .before .before .before .before .before in
-    omega (arith, asks-when-passes (c2 .pre .1) (c .size-at .result) (c .size-at .ensures) .small))
+    let at-start = c .before .before .before .before .before .before .before .before .before .before .before .before .before .before .before .before
+    .before .before .before .before .before .before .before .before in
+    omega (arith, asks-when-passes (at-start .pre .1) (c .size-at .result) (c .size-at .ensures) .small))
     -- end-of-requires
     (λ c κs. search needs)
     -- emit-requires
     (λ c κs.
-    let c1 = c .before .before in
-    let c2 = c1 .before .before .before .before .before .before .before .before .before in
-    let c3 = c2 .before .before .before .before .before .before .before .before .before .before .before .before .before .before .before in
-    asks-when-emit (c3 .pre .1) (c1 .size-at .result) (c1 .size-at .ensures) (c2 .expression .ensures))
+    let at-size-at = c .before .before in
+    let at-expression = at-size-at .before .before .before .before .before .before .before .before .before in
+    let at-start = at-expression .before .before .before .before .before .before .before .before .before .before .before .before .before .before
+    .before in
+    asks-when-emit (at-start .pre .1) (at-size-at .size-at .result) (at-size-at .size-at .ensures) (at-expression .expression .ensures))
     -- sub-from
     (λ c. omega arith)
     -- mul-from
     (λ c.
-    let c1 = c .before .before .before .before .before in
-    let c2 = c1 .before .before .before .before .before .before .before .before .before .before .before .before .before .before .before .before .before .before .before .before .before .before .before .before in
-    omega (arith, asks-when-passes (c2 .pre .1) (c1 .size-at .result) (c1 .size-at .ensures) .small))
+    let at-size-at = c .before .before .before .before .before in
+    let at-start = at-size-at .before .before .before .before .before .before .before .before .before .before .before .before .before .before .before
+    .before .before .before .before .before .before .before .before .before in
+    omega (arith, asks-when-passes (at-start .pre .1) (at-size-at .size-at .result) (at-size-at .size-at .ensures) .small))
     -- sub-statement
     (λ c.
-    let c1 = c .before .before .before .before .before in
-    let c2 = c1 .before .before .before .before .before .before .before .before .before .before .before .before .before .before .before .before .before .before .before .before .before .before .before .before in
-    second-within (c2 .args .part .now) (c2 .args .at) (c1 .size-at .result) (asked (c2 .pre .1) .long) (asks-when-passes (c2 .pre .1) (c1 .size-at .result) (c1 .size-at .ensures)))
+    let at-size-at = c .before .before .before .before .before in
+    let at-start = at-size-at .before .before .before .before .before .before .before .before .before .before .before .before .before .before .before
+    .before .before .before .before .before .before .before .before .before in
+    second-within (at-start .args .part .now) (at-start .args .at) (at-size-at .size-at .result) (asked (at-start .pre .1) .long)
+    (asks-when-passes (at-start .pre .1) (at-size-at .size-at .result) (at-size-at .size-at .ensures)))
     -- part-statement-start
     (λ c.
-    let c1 = c .before .before .before .before .before in
-    let c2 = c1 .before .before .before .before .before .before .before .before .before .before .before .before .before .before .before .before .before .before .before .before .before .before .before .before in
-    second-within (c2 .args .part .now) (c2 .args .at) (c1 .size-at .result) (asked (c2 .pre .1) .long) (asks-when-passes (c2 .pre .1) (c1 .size-at .result) (c1 .size-at .ensures)))
+    let at-size-at = c .before .before .before .before .before in
+    let at-start = at-size-at .before .before .before .before .before .before .before .before .before .before .before .before .before .before .before
+    .before .before .before .before .before .before .before .before .before in
+    second-within (at-start .args .part .now) (at-start .args .at) (at-size-at .size-at .result) (asked (at-start .pre .1) .long)
+    (asks-when-passes (at-start .pre .1) (at-size-at .size-at .result) (at-size-at .size-at .ensures)))
     -- part-statement-end
     (λ c. search needs)
     -- sub-statement-2
-    (λ c. omega (arith, asked (c .before .before .before .before .before .before .before .before .before .before .before .before .before .before .before .before .before .before .before .before .before .before .before .before .before .before .before .before .before .before .pre .1) .nested))
+    (λ c.
+    let at-start = c .before .before .before .before .before .before .before .before .before .before .before .before .before .before .before .before
+    .before .before .before .before .before .before .before .before .before .before .before .before .before .before in
+    omega (arith, asked (at-start .pre .1) .nested))
     -- statement-requires
     (λ c κs.
-    let c1 = c .before .before .before .before .before .before .before in
-    let c2 = c1 .before in
-    let c3 = c2 .before .before in
-    let c4 = c3 .before .before .before .before .before .before .before .before .before in
-    let c5 = c4 .before .before .before .before .before .before .before .before .before .before .before .before .before .before .before in (
-      omega (arith, asked (c5 .pre .1) .nested, c5 .pre .0),
-      asks-when-second (c5 .pre .1) (c3 .size-at .result) (c3 .size-at .ensures) (c4 .expression .ensures) (c2 .end-of .ensures .0) (c1 .emit .ensures),
+    let at-emit = c .before .before .before .before .before .before .before in
+    let at-end-of = at-emit .before in
+    let at-size-at = at-end-of .before .before in
+    let at-expression = at-size-at .before .before .before .before .before .before .before .before .before in
+    let at-start = at-expression .before .before .before .before .before .before .before .before .before .before .before .before .before .before
+    .before in (
+      omega (arith, asked (at-start .pre .1) .nested, at-start .pre .0),
+      asks-when-second (at-start .pre .1) (at-size-at .size-at .result) (at-size-at .size-at .ensures) (at-expression .expression .ensures) (at-end-of .end-of .ensures .0) (at-emit .emit .ensures),
     ))
     -- shape-requires
     (λ c κs.
-    let c1 = c .before .before .before .before .before .before .before .before .before .before .before in
-    let c2 = c1 .before .before .before .before .before .before .before .before in
-    let c3 = c2 .before in
-    let c4 = c3 .before .before in
-    let c5 = c4 .before .before .before .before .before .before .before .before .before in
-    let c6 = c5 .before .before .before .before .before .before .before .before .before .before .before .before .before .before .before in
-    asks-when-shape (c6 .pre .1) (c4 .size-at .result) (c4 .size-at .ensures) (c5 .expression .ensures) (c3 .end-of .ensures .0) (c2 .emit .ensures) (c1 .statement .ensures))
+    let at-statement = c .before .before .before .before .before .before .before .before .before .before .before in
+    let at-emit = at-statement .before .before .before .before .before .before .before .before in
+    let at-end-of = at-emit .before in
+    let at-size-at = at-end-of .before .before in
+    let at-expression = at-size-at .before .before .before .before .before .before .before .before .before in
+    let at-start = at-expression .before .before .before .before .before .before .before .before .before .before .before .before .before .before
+    .before in
+    asks-when-shape (at-start .pre .1) (at-size-at .size-at .result) (at-size-at .size-at .ensures) (at-expression .expression .ensures)
+    (at-end-of .end-of .ensures .0) (at-emit .emit .ensures) (at-statement .statement .ensures))
     -- finish-requires
     (λ c κs.
-    let c1 = c .before .before in
-    let c2 = c1 .before .before .before .before .before .before .before .before .before .before .before .before in
-    let c3 = c2 .before .before .before .before .before .before .before .before in
-    let c4 = c3 .before in
-    let c5 = c4 .before .before in
-    let c6 = c5 .before .before .before .before .before .before .before .before .before in
-    let c7 = c6 .before .before .before .before .before .before .before .before .before .before .before .before .before .before .before in
-    asks-when-finish (c7 .pre .1) (c5 .size-at .result) (c5 .size-at .ensures) (c6 .expression .ensures) (c4 .end-of .ensures .0) (c3 .emit .ensures) (c2 .statement .ensures) (c1 .shape .ensures))
+    let at-shape = c .before .before in
+    let at-statement = at-shape .before .before .before .before .before .before .before .before .before .before .before .before in
+    let at-emit = at-statement .before .before .before .before .before .before .before .before in
+    let at-end-of = at-emit .before in
+    let at-size-at = at-end-of .before .before in
+    let at-expression = at-size-at .before .before .before .before .before .before .before .before .before in
+    let at-start = at-expression .before .before .before .before .before .before .before .before .before .before .before .before .before .before
+    .before in
+    asks-when-finish (at-start .pre .1) (at-size-at .size-at .result) (at-size-at .size-at .ensures) (at-expression .expression .ensures)
+    (at-end-of .end-of .ensures .0) (at-emit .emit .ensures) (at-statement .statement .ensures) (at-shape .shape .ensures))
     -- same-length
     (λ c. when-ends t c .kept .same-env)
     -- same-length-2

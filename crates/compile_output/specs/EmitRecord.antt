@@ -1,4 +1,4 @@
--- What one instruction and one shape come to: the pen after it, and the output's bytes after it.
+-- What one instruction and one shape come to: the cursor after it, and the output's bytes after it.
 use mathlib.Core.Path.{_≡_, refl, ap, sym, _∙_}
 use mathlib.Core.Bool.{Bool, true, false}
 use mathlib.Core.List.{List, _∷_, _++_}
@@ -9,7 +9,7 @@ use lib.ListN.{length, set, take, drop, getD}
 use lib.Seq.{sets, length-sets, sets-eq, paste, paste-suc, length-take-le}
 use Rattle.logic.specs.Choice.{if_then_else_}
 use Rattle.words.specs.Numbers.{word, half}
-use Rattle.compile_output.specs.declared.Pen.{Pen}
+use Rattle.compile_output.specs.declared.Cursor.{Cursor}
 
 -- ── the records: `codeBytes` and `shapeBytes` of crates/compile_code/specs/Encode, over their numbers ──
 abbrev pub instruction : ℕ → ℕ → ℕ → List ℕ
@@ -19,31 +19,31 @@ instruction k a b = 73 ∷ 78 ∷ k ∷ a ∷ word b
 abbrev pub shapeRecord : ℕ → ℕ → ℕ → List ℕ → List ℕ
 shapeRecord i h d ts = 83 ∷ 72 ∷ (half i ++ (h ∷ d ∷ ts))
 
--- ── the pen ──
+-- ── the cursor ──
 -- after an instruction
-abbrev pub moved : Pen → Pen
+abbrev pub moved : Cursor → Cursor
 moved p =
     record { at = p .at + 8; address = p .address + 1; sh = p .sh; shapes = p .shapes; waits = false; dry = p .dry; inside = p .inside }
 
 -- after a shape with d operands, whether one stands for this address already or not
-abbrev pub penMarked : ℕ → Pen → Pen
-penMarked d p =
+abbrev pub cursorMarked : ℕ → Cursor → Cursor
+cursorMarked d p =
     record { at = p .at; address = p .address; sh = p .sh + 6 + d; shapes = p .shapes + 1; waits = true; dry = p .dry; inside = p .inside }
 
 -- of two shapes at one address the first is kept
-abbrev pub penShaped : ℕ → Pen → Pen
-penShaped d p = if p .waits then p else penMarked d p
+abbrev pub cursorShaped : ℕ → Cursor → Cursor
+cursorShaped d p = if p .waits then p else cursorMarked d p
 
 -- ── the bytes ──
-abbrev pub inkOp : Pen → List ℕ → ℕ → ℕ → ℕ → List ℕ
-inkOp p l k a b = if p .dry then l else sets l (p .at) (instruction k a b)
+abbrev pub emitOp : Cursor → List ℕ → ℕ → ℕ → ℕ → List ℕ
+emitOp p l k a b = if p .dry then l else sets l (p .at) (instruction k a b)
 
-abbrev pub inkShape : Pen → List ℕ → ℕ → ℕ → List ℕ → List ℕ
-inkShape p l h d ts = if p .dry then l else if p .waits then l else sets l (p .sh) (shapeRecord (p .address) h d ts)
+abbrev pub emitShape : Cursor → List ℕ → ℕ → ℕ → List ℕ → List ℕ
+emitShape p l h d ts = if p .dry then l else if p .waits then l else sets l (p .sh) (shapeRecord (p .address) h d ts)
 
--- What a pen may have come to in an output of n bytes: sums of places do not wrap, an address is a u16, and what is written lies in the output.
--- It is asked of the pen after a part; it then holds of every pen within the part (`fits-before` in Folds).
-pub record Fits (q : Pen) (n : ℕ) : Type 0 where
+-- What a cursor may have come to in an output of n bytes: sums of places do not wrap, an address is a u16, and what is written lies in the output.
+-- It is asked of the cursor after a part; it then holds of every cursor within the part (`fits-before` in EmitCode).
+pub record Fits (q : Cursor) (n : ℕ) : Type 0 where
   pub at-small : q .at < 2 ^ 62
   pub sh-small : q .sh < 2 ^ 62
   pub shapes-small : q .shapes < 2 ^ 62
@@ -51,45 +51,45 @@ pub record Fits (q : Pen) (n : ℕ) : Type 0 where
   pub room : q .dry ≡ false → (q .at ≤ n) × (q .sh ≤ n)
 
 -- ── laws for the code ──
-module _ (p : Pen) (l : List ℕ) (k a b : ℕ) where
-  pub ink-wet : p .dry ≡ false → sets l (p .at) (instruction k a b) ≡ inkOp p l k a b
-  ink-wet d = rw d
+module _ (p : Cursor) (l : List ℕ) (k a b : ℕ) where
+  pub emit-writes : p .dry ≡ false → sets l (p .at) (instruction k a b) ≡ emitOp p l k a b
+  emit-writes d = rw d
 
-  pub ink-dry : p .dry ≡ true → l ≡ inkOp p l k a b
-  ink-dry d = rw d
+  pub emit-dry : p .dry ≡ true → l ≡ emitOp p l k a b
+  emit-dry d = rw d
 
-  pub length-ink : length (inkOp p l k a b) ≡ length l
-  length-ink = by (p .dry)
+  pub length-emit : length (emitOp p l k a b) ≡ length l
+  length-emit = by (p .dry)
     where
       by : (d : Bool) → length (if d then l else sets l (p .at) (instruction k a b)) ≡ length l
       by true = refl
       by false = length-sets l (p .at) (instruction k a b)
 
-module _ (d : ℕ) (p : Pen) where
-  pub pen-kept : p .waits ≡ true → p ≡ penShaped d p
-  pen-kept w = rw w
+module _ (d : ℕ) (p : Cursor) where
+  pub cursor-kept : p .waits ≡ true → p ≡ cursorShaped d p
+  cursor-kept w = rw w
 
-  pub pen-marked : p .waits ≡ false → penMarked d p ≡ penShaped d p
-  pen-marked w = rw w
+  pub cursor-marked : p .waits ≡ false → cursorMarked d p ≡ cursorShaped d p
+  cursor-marked w = rw w
 
-  pub fits-marked : (n : ℕ) → p .waits ≡ false → Fits (penShaped d p) n → Fits (penMarked d p) n
+  pub fits-marked : (n : ℕ) → p .waits ≡ false → Fits (cursorShaped d p) n → Fits (cursorMarked d p) n
   fits-marked n w f = rw w at f
 
-module _ (p : Pen) (l : List ℕ) (h d : ℕ) (ts : List ℕ) where
-  pub shape-kept : p .waits ≡ true → l ≡ inkShape p l h d ts
+module _ (p : Cursor) (l : List ℕ) (h d : ℕ) (ts : List ℕ) where
+  pub shape-kept : p .waits ≡ true → l ≡ emitShape p l h d ts
   shape-kept w = by (p .dry)
     where
       by : (b : Bool) → l ≡ (if b then l else if p .waits then l else sets l (p .sh) (shapeRecord (p .address) h d ts))
       by true = refl
       by false = rw w
 
-  pub shape-dry : p .dry ≡ true → l ≡ inkShape p l h d ts
+  pub shape-dry : p .dry ≡ true → l ≡ emitShape p l h d ts
   shape-dry b = rw b
 
-  pub shape-wet : p .dry ≡ false → p .waits ≡ false → sets l (p .sh) (shapeRecord (p .address) h d ts) ≡ inkShape p l h d ts
-  shape-wet b w = rw (b, w)
+  pub shape-writes : p .dry ≡ false → p .waits ≡ false → sets l (p .sh) (shapeRecord (p .address) h d ts) ≡ emitShape p l h d ts
+  shape-writes b w = rw (b, w)
 
-  pub length-shape : length (inkShape p l h d ts) ≡ length l
+  pub length-shape : length (emitShape p l h d ts) ≡ length l
   length-shape = by (p .dry) (p .waits)
     where
       by : (b w : Bool) → length (if b then l else if w then l else sets l (p .sh) (shapeRecord (p .address) h d ts)) ≡ length l

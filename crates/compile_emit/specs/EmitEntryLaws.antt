@@ -20,90 +20,76 @@ use Rattle.table_entries.specs.Entries.{half-part}
 use Rattle.compile_symbols.specs.Numbers.{typeIn, secondIn}
 use Rattle.compile_symbols.specs.Meaning.{knownOf, meaningOf}
 use Rattle.compile_nodes.specs.Knows.{holdMark, passedTo}
-use Rattle.compile_output.specs.declared.Pen.{Pen}
-use Rattle.compile_output.specs.Ink.{moved, penShaped, inkOp, inkShape, Fits, length-ink, length-shape}
-use Rattle.compile_output.specs.Folds.{lets, inked, later-moved, later-shaped, fits-before, length-inked, Later, later-self, later-trans}
-use Rattle.compile_emit.specs.Owns.{inkInitial, penDeclared, inkDeclared, pensHead, inksHead, finishes, holdsBy, holdsHead, penBetween, penBehind}
+use Rattle.compile_output.specs.declared.Cursor.{Cursor}
+use Rattle.compile_output.specs.EmitRecord.{moved, cursorShaped, emitOp, emitShape, Fits, length-emit, length-shape}
+use Rattle.compile_output.specs.EmitCode.{lets, emitted, later-moved, later-shaped, fits-before, length-emitted, Later, later-self, later-trans}
+use Rattle.compile_emit.specs.EmitEntry.{emitInitial, cursorDeclared, emitDeclared, cursorHead, emitHead, finishes, holdsBy, holdsHead, cursorBetween, cursorBehind}
 use Rattle.compile_scopes.specs.Marks.{marks}
 
 -- ── one record after the other ──
-pub fits-op : {p : Pen} (n : ℕ) → Fits (moved p) n → Fits p n
+pub fits-op : {p : Cursor} (n : ℕ) → Fits (moved p) n → Fits p n
 fits-op {p} n f = fits-before n (later-moved p) f
 
-pub fits-mark : {p : Pen} (n d : ℕ) → Fits (penShaped d p) n → Fits p n
+pub fits-mark : {p : Cursor} (n d : ℕ) → Fits (cursorShaped d p) n → Fits p n
 fits-mark {p} n d f = fits-before n (later-shaped d p) f
 
 -- what is done next fits where all did
-pub op-fits : (f : Pen → Pen) (p : Pen) (l : List ℕ) (k a b : ℕ) {q : Pen} {m : List ℕ} → (q ≡ moved p) × (m ≡ inkOp p l k a b) → Fits (f (moved p)) (length l) → Fits (f q) (length m)
-op-fits f p l k a b e h = rw (e .0, e .1, length-ink p l k a b) h
+pub op-fits : (f : Cursor → Cursor) (p : Cursor) (l : List ℕ) (k a b : ℕ) {q : Cursor} {m : List ℕ} → (q ≡ moved p) × (m ≡ emitOp p l k a b) → Fits (f (moved p)) (length l) → Fits (f q) (length m)
+op-fits f p l k a b e h = rw (e .0, e .1, length-emit p l k a b) h
 
-pub mark-fits : (f : Pen → Pen) (p : Pen) (l : List ℕ) (h d : ℕ) (ts : List ℕ) {q : Pen} {m : List ℕ} → (q ≡ penShaped d p) × (m ≡ inkShape p l h d ts) → Fits (f (penShaped d p)) (length l)
+pub mark-fits : (f : Cursor → Cursor) (p : Cursor) (l : List ℕ) (h d : ℕ) (ts : List ℕ) {q : Cursor} {m : List ℕ} → (q ≡ cursorShaped d p) × (m ≡ emitShape p l h d ts) → Fits (f (cursorShaped d p)) (length l)
     → Fits (f q) (length m)
 mark-fits f p l h d ts e g = rw (e .0, e .1, length-shape p l h d ts) g
 
-pub op-length : (p : Pen) (l : List ℕ) (k a b : ℕ) {m : List ℕ} → m ≡ inkOp p l k a b → length m ≡ length l
-op-length p l k a b e = ap (length {A = ℕ}) e ∙ length-ink p l k a b
-
-pub mark-length : (p : Pen) (l : List ℕ) (h d : ℕ) (ts : List ℕ) {m : List ℕ} → m ≡ inkShape p l h d ts → length m ≡ length l
-mark-length p l h d ts e = ap (length {A = ℕ}) e ∙ length-shape p l h d ts
-
 -- ── between and behind two operands, by the way ──
-module _ (w d : ℕ) (p : Pen) where
-  pub between-0 : w ≡ 0 → penBetween w d p ≡ p
-  unfolding penBetween
-  between-0 e = rw e
-
-  pub between-1 : w ≡ 1 → penBetween w d p ≡ penShaped (d + 1) p
-  unfolding penBetween
+module _ (w d : ℕ) (p : Cursor) where
+  pub between-1 : w ≡ 1 → cursorBetween w d p ≡ cursorShaped (d + 1) p
+  unfolding cursorBetween
   between-1 e = rw e
 
-  pub between-2 : w ≡ 2 → penBetween w d p ≡ moved p
-  unfolding penBetween
+  pub between-2 : w ≡ 2 → cursorBetween w d p ≡ moved p
+  unfolding cursorBetween
   between-2 e = rw e
 
-  pub between-3 : ¬ (w ≡ 0) → ¬ (w ≡ 1) → ¬ (w ≡ 2) → penBetween w d p ≡ penShaped d (moved (moved (moved p)))
-  unfolding penBetween
+  pub between-3 : ¬ (w ≡ 0) → ¬ (w ≡ 1) → ¬ (w ≡ 2) → cursorBetween w d p ≡ cursorShaped d (moved (moved (moved p)))
+  unfolding cursorBetween
   between-3 a b c = rw (ne-eqb _ _ a, ne-eqb _ _ b, ne-eqb _ _ c)
 
-  pub behind-2 : w ≡ 2 → penBehind w d p ≡ penShaped (d + 1) (moved (penShaped d (moved p)))
-  unfolding penBehind
+  pub behind-2 : w ≡ 2 → cursorBehind w d p ≡ cursorShaped (d + 1) (moved (cursorShaped d (moved p)))
+  unfolding cursorBehind
   behind-2 e = rw e
 
-  pub behind-3 : w ≡ 3 → penBehind w d p ≡ penShaped (d + 1) p
-  unfolding penBehind
+  pub behind-3 : w ≡ 3 → cursorBehind w d p ≡ cursorShaped (d + 1) p
+  unfolding cursorBehind
   behind-3 e = rw e
 
-  pub behind-0 : ¬ (w ≡ 2) → ¬ (w ≡ 3) → penBehind w d p ≡ moved p
-  unfolding penBehind
+  pub behind-0 : ¬ (w ≡ 2) → ¬ (w ≡ 3) → cursorBehind w d p ≡ moved p
+  unfolding cursorBehind
   behind-0 a b = rw (ne-eqb _ _ a, ne-eqb _ _ b)
 
 -- ── heads ──
-module _ (k : ℕ) (p : Pen) where
-  pub declared-10 : k ≡ 10 → penDeclared k p ≡ moved (moved p)
-  unfolding penDeclared
+module _ (k : ℕ) (p : Cursor) where
+  pub declared-10 : k ≡ 10 → cursorDeclared k p ≡ moved (moved p)
+  unfolding cursorDeclared
   declared-10 e = rw e
 
-  pub declared-14 : k ≡ 14 → penDeclared k p ≡ moved p
-  unfolding penDeclared
+  pub declared-14 : k ≡ 14 → cursorDeclared k p ≡ moved p
+  unfolding cursorDeclared
   declared-14 e = rw e
 
-  pub declared-none : ¬ (k ≡ 10) → ¬ (k ≡ 14) → penDeclared k p ≡ p
-  unfolding penDeclared
-  declared-none a b = rw (ne-eqb _ _ a, ne-eqb _ _ b)
-
-pub initial-length : (t : ℕ) (p : Pen) (l : List ℕ) {m : List ℕ} → m ≡ inkInitial t p l → length m ≡ length l
+pub initial-length : (t : ℕ) (p : Cursor) (l : List ℕ) {m : List ℕ} → m ≡ emitInitial t p l → length m ≡ length l
 initial-length t p l e = ap (length {A = ℕ}) e ∙ by (ltb t 16)
   where
-    by : (b : Bool) → length (if b then inkOp p l t 0 0 else inkOp p l 4 (t - 16) 0) ≡ length l
-    by true = length-ink p l t 0 0
-    by false = length-ink p l 4 (t - 16) 0
+    by : (b : Bool) → length (if b then emitOp p l t 0 0 else emitOp p l 4 (t - 16) 0) ≡ length l
+    by true = length-emit p l t 0 0
+    by false = length-emit p l 4 (t - 16) 0
 
 -- the part of a slice that begins at a place
 pub part-from : (part : List ℕ) (k : ℕ) → take (length part - k) (drop k part) ≡ drop k part
 part-from part k = take-all (length part - k) (drop k part) (omega (arith, length-drop k part))
 
-later-declared : (k : ℕ) (p : Pen) → Later p (penDeclared k p)
-unfolding penDeclared
+later-declared : (k : ℕ) (p : Cursor) → Later p (cursorDeclared k p)
+unfolding cursorDeclared
 later-declared k p = by (eqb k 10) (eqb k 14)
   where
     by : (b c : Bool) → Later p (if b then moved (moved p) else if c then moved p else p)
@@ -111,55 +97,52 @@ later-declared k p = by (eqb k 10) (eqb k 14)
     by false true = later-moved p
     by false false = later-self p
 
-pub later-head : (part : List ℕ) (n : ℕ) (p : Pen) → Later p (pensHead part n p)
-unfolding pensHead
+pub later-head : (part : List ℕ) (n : ℕ) (p : Cursor) → Later p (cursorHead part n p)
+unfolding cursorHead
 later-head part zero p = later-self p
-later-head part (suc n) p = later-trans (later-declared (halfAt part 0) p) (later-head (drop 8 part) n (penDeclared (halfAt part 0) p))
+later-head part (suc n) p = later-trans (later-declared (halfAt part 0) p) (later-head (drop 8 part) n (cursorDeclared (halfAt part 0) p))
 
-pub length-declared : (k a known : ℕ) (p : Pen) (l : List ℕ) → length (inkDeclared k a known p l) ≡ length l
-unfolding inkDeclared
+pub length-declared : (k a known : ℕ) (p : Cursor) (l : List ℕ) → length (emitDeclared k a known p l) ≡ length l
+unfolding emitDeclared
 length-declared k a known p l = by (eqb k 10) (eqb k 14)
   where
-    by : (b c : Bool) → length (if b then inkOp (moved p) (inkInitial (typeIn known) p l) 6 0 (secondIn known) else if c then inkOp p l 17 0 a else l) ≡ length l
-    by true c = length-ink (moved p) (inkInitial (typeIn known) p l) 6 0 (secondIn known) ∙ initial-length (typeIn known) p l refl
-    by false true = length-ink p l 17 0 a
+    by : (b c : Bool) → length (if b then emitOp (moved p) (emitInitial (typeIn known) p l) 6 0 (secondIn known) else if c then emitOp p l 17 0 a else l) ≡ length l
+    by true c = length-emit (moved p) (emitInitial (typeIn known) p l) 6 0 (secondIn known) ∙ initial-length (typeIn known) p l refl
+    by false true = length-emit p l 17 0 a
     by false false = refl
 
 next-entry : (part : List ℕ) (i : ℕ) → drop 8 (drop (8 * i) part) ≡ drop (8 * (i + 1)) part
 next-entry part i = drop-drop 8 (8 * i) part ∙ ap (λ (k : ℕ). drop k part) (let z : 8 * i + 8 ≡ 8 * (i + 1) = omega arith in z)
 
 -- the loop's step: one declaration, and those after it
-module _ (part : List ℕ) (count i : ℕ) (p : Pen) (h : i < count) where
-  here-kind : ℕ
-  here-kind = halfAt (drop (8 * i) part) 0
-
+module _ (part : List ℕ) (count i : ℕ) (p : Cursor) (h : i < count) where
   left-is : count - i ≡ suc (count - (i + 1))
   left-is = omega arith
 
-  pub pens-step : pensHead (drop (8 * i) part) (count - i) p ≡ pensHead (drop (8 * (i + 1)) part) (count - (i + 1)) (penDeclared (halfAt (drop (8 * i) part) 0) p)
-  unfolding pensHead
-  pens-step = ap (λ (n : ℕ). pensHead (drop (8 * i) part) n p) left-is ∙ ap (λ (t : List ℕ). pensHead t (count - (i + 1)) (penDeclared (halfAt (drop (8 * i) part) 0) p)) (next-entry part i)
+  pub cursors-step : cursorHead (drop (8 * i) part) (count - i) p ≡ cursorHead (drop (8 * (i + 1)) part) (count - (i + 1)) (cursorDeclared (halfAt (drop (8 * i) part) 0) p)
+  unfolding cursorHead
+  cursors-step = ap (λ (n : ℕ). cursorHead (drop (8 * i) part) n p) left-is ∙ ap (λ (t : List ℕ). cursorHead t (count - (i + 1)) (cursorDeclared (halfAt (drop (8 * i) part) 0) p)) (next-entry part i)
 
-  pub inks-step : (known : List ℕ) (at : ℕ) (l : List ℕ)
-      → inksHead (drop (8 * i) part) known (at + i) (count - i) p l
-      ≡ inksHead (drop (8 * (i + 1)) part) known (at + (i + 1)) (count - (i + 1)) (penDeclared (halfAt (drop (8 * i) part) 0) p)
-      (inkDeclared (halfAt (drop (8 * i) part) 0) (halfAt (drop (8 * i) part) 2) (getD known (at + i) 0) p l)
-  unfolding inksHead
-  inks-step known at l =
+  pub emits-step : (known : List ℕ) (at : ℕ) (l : List ℕ)
+      → emitHead (drop (8 * i) part) known (at + i) (count - i) p l
+      ≡ emitHead (drop (8 * (i + 1)) part) known (at + (i + 1)) (count - (i + 1)) (cursorDeclared (halfAt (drop (8 * i) part) 0) p)
+      (emitDeclared (halfAt (drop (8 * i) part) 0) (halfAt (drop (8 * i) part) 2) (getD known (at + i) 0) p l)
+  unfolding emitHead
+  emits-step known at l =
       let k : at + i + 1 ≡ at + (i + 1) = omega arith in
-      let q = penDeclared (halfAt (drop (8 * i) part) 0) p in
-      let m = inkDeclared (halfAt (drop (8 * i) part) 0) (halfAt (drop (8 * i) part) 2) (getD known (at + i) 0) p l in
-      ap (λ (n : ℕ). inksHead (drop (8 * i) part) known (at + i) n p l) left-is
-      ∙ (ap (λ (t : List ℕ). inksHead t known (at + i + 1) (count - (i + 1)) q m) (next-entry part i) ∙ ap (λ (j : ℕ). inksHead (drop (8 * (i + 1)) part) known j (count - (i + 1)) q m) k)
+      let q = cursorDeclared (halfAt (drop (8 * i) part) 0) p in
+      let m = emitDeclared (halfAt (drop (8 * i) part) 0) (halfAt (drop (8 * i) part) 2) (getD known (at + i) 0) p l in
+      ap (λ (n : ℕ). emitHead (drop (8 * i) part) known (at + i) n p l) left-is
+      ∙ (ap (λ (t : List ℕ). emitHead t known (at + i + 1) (count - (i + 1)) q m) (next-entry part i) ∙ ap (λ (j : ℕ). emitHead (drop (8 * (i + 1)) part) known j (count - (i + 1)) q m) k)
 
   pub finishes-step : (ends : List ℕ) (at : ℕ)
       → sets ends (at + i) (finishes (drop (8 * i) part) (count - i) p)
-      ≡ sets (set ends (at + i) (penDeclared (halfAt (drop (8 * i) part) 0) p .address)) (at + (i + 1))
-      (finishes (drop (8 * (i + 1)) part) (count - (i + 1)) (penDeclared (halfAt (drop (8 * i) part) 0) p))
+      ≡ sets (set ends (at + i) (cursorDeclared (halfAt (drop (8 * i) part) 0) p .address)) (at + (i + 1))
+      (finishes (drop (8 * (i + 1)) part) (count - (i + 1)) (cursorDeclared (halfAt (drop (8 * i) part) 0) p))
   unfolding finishes
   finishes-step ends at =
       let k : suc (at + i) ≡ at + (i + 1) = omega arith in
-      let q = penDeclared (halfAt (drop (8 * i) part) 0) p in
+      let q = cursorDeclared (halfAt (drop (8 * i) part) 0) p in
       ap (λ (n : ℕ). sets ends (at + i) (finishes (drop (8 * i) part) n p)) left-is
       ∙ (ap (λ (t : List ℕ). sets (set ends (at + i) (q .address)) (suc (at + i)) (finishes t (count - (i + 1)) q)) (next-entry part i)
       ∙ ap (λ (j : ℕ). sets (set ends (at + i) (q .address)) j (finishes (drop (8 * (i + 1)) part) (count - (i + 1)) q)) k)
@@ -173,19 +156,10 @@ holds-step part count i h =
     ∙ (ap (λ (t : List ℕ). holdsBy (halfAt (drop (8 * i) part) 0) + holdsHead t (count - (i + 1))) (next-entry part i)
     ∙ ap (λ (k : ℕ). holdsBy k + holdsHead (drop (8 * (i + 1)) part) (count - (i + 1))) z)
 
-pub heads-none : (part known ends l : List ℕ) (at n : ℕ) (p : Pen) → n ≡ 0 → (pensHead part n p ≡ p) × (inksHead part known at n p l ≡ l)
+pub heads-none : (part known ends l : List ℕ) (at n : ℕ) (p : Cursor) → n ≡ 0 → (cursorHead part n p ≡ p) × (emitHead part known at n p l ≡ l)
     × (sets ends at (finishes part n p) ≡ ends) × (holdsHead part n ≡ 0)
-unfolding pensHead inksHead finishes holdsHead
+unfolding cursorHead emitHead finishes holdsHead
 heads-none part known ends l at n p e = rw e (refl, refl, refl, refl)
-
-pub holds-most : (part : List ℕ) (n : ℕ) → holdsHead part n ≤ n
-unfolding holdsHead
-holds-most part zero = omega arith
-holds-most part (suc n) = go (eqb (halfAt part 0) 14) (holds-most (drop 8 part) n)
-  where
-    go : (b : Bool) {m : ℕ} → m ≤ n → (if b then 1 else 0) + m ≤ suc n
-    go true h = omega arith
-    go false h = omega arith
 
 -- ── holds among the names in sight ──
 pub marks-push : (old env new : List ℕ) (top i : ℕ) → 4 * (top + i + 1) ≤ length env → Grown top old env (top + i) (marks i ++ envOf old top) i → new ≡ stored env (top + i) holdMark 0 0 0
@@ -242,8 +216,8 @@ unfolding find envOf
 meant-none l known a i e = rw e
 
 -- releases, and what follows
-pub lets-length : (n : ℕ) (p : Pen) (l : List ℕ) {m : List ℕ} → m ≡ inked (lets n) p l → length m ≡ length l
-lets-length n p l e = ap (length {A = ℕ}) e ∙ length-inked (lets n) p l
+pub lets-length : (n : ℕ) (p : Cursor) (l : List ℕ) {m : List ℕ} → m ≡ emitted (lets n) p l → length m ≡ length l
+lets-length n p l e = ap (length {A = ℕ}) e ∙ length-emitted (lets n) p l
 
 pub holds-one : (k : ℕ) → holdsBy k ≤ 1
 holds-one k = by (eqb k 14)
