@@ -86,7 +86,7 @@ unfolding putLowest
 put-lowest cs g [] = refl
 put-lowest cs g (h ∷ hs) = refl
 
-length-lowest : (cs : List Cell) (fs : List Activation) → length (putLowest cs fs) ≡ length fs
+pub length-lowest : (cs : List Cell) (fs : List Activation) → length (putLowest cs fs) ≡ length fs
 unfolding putLowest
 length-lowest cs [] = refl
 length-lowest cs (f ∷ []) = refl

@@ -26,6 +26,7 @@ use Rattle.compile_rules.specs.Lines.{dropped}
 use Rattle.compile_rules.specs.Flows.{Marks}
 use Rattle.compile_rules.specs.Faultless.{Lined, NotFirst, Faultless}
 use Rattle.compile_rules.specs.Bodies.{linesAlone}
+use Rattle.logic.specs.Tests.{and-false}
 
 -- ── lengths ──
 unfoldable pub ops : Code → ℕ
@@ -218,11 +219,7 @@ module _ (m : Macro) (ps : List Part) (eb : m .bodies ≡ headsOf ps) (ec : m .c
 
       outside : inBody m k (p .head .first + ops (p .code)) ≡ false
       unfolding inBody
-      outside = rw (its .its-head, its .its-end, le-ltb (p .head .first + ops (p .code)) (p .head .first + ops (p .code)) (omega arith)) (no (leb (p .head .first) (p .head .first + ops (p .code))))
-        where
-          no : (b : Bool) → (b && false) ≡ false
-          no true = refl
-          no false = refl
+      outside = rw (its .its-head, its .its-end, le-ltb (p .head .first + ops (p .code)) (p .head .first + ops (p .code)) (omega arith)) (and-false (leb (p .head .first) (p .head .first + ops (p .code))))
 
       pub begins-empty : into m (p .head .first) ≡ atFirst
       unfolding into

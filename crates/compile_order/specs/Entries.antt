@@ -19,7 +19,7 @@ use Rattle.language.specs.Table.{Entry, entry, inLayout, classCount, procedureC
 use Rattle.logic.specs.OptionLaws.{never-some, same-some}
 use Rattle.logic.specs.Tests.{halves}
 use Rattle.bytecode_laws.specs.Terms.{Named}
-use Rattle.table_scopes.specs.Trees.{length-Items, length-Global}
+use Rattle.table_scopes.specs.Trees.{length-Items, length-Global, length-head}
 use Rattle.compile_code.specs.Compile.{Class, classesOf, Proc, procsOf, tyIn}
 use Rattle.compile_code.specs.Encode.{fieldTypes}
 use Rattle.compile_macro.specs.Fields.{Entered, parted}
@@ -49,10 +49,6 @@ few-classes gs (class c xs ∷ hs) = let q = few-classes gs hs in omega arith
 few-classes gs (procedure a xs b ∷ hs) = let q = few-classes gs hs in omega arith
 
 -- ── how many entries ──
-length-head : (gs : List Global) → length (flatHead gs) ≡ total sizeGlobal gs
-unfolding flatHead total
-length-head [] = refl
-length-head (g ∷ gs) = omega (arith, length-append (flatGlobal g) (flatHead gs), length-Global g, length-head gs)
 
 pub length-tree : (t : Tree) → length (flatten t) ≡ suc (total sizeGlobal (t .head) + sizeItems (t .items))
 unfolding flatten

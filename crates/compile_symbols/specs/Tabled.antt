@@ -24,6 +24,7 @@ use Rattle.table_scopes.specs.Trees.{Heads, spans-Global}
 use Rattle.table_scopes.specs.Sees.{Legible}
 use Rattle.table_scopes.specs.Defines.{span-here}
 use Rattle.compile_code.specs.Compile.{classesOf, classNames}
+use Rattle.language_laws.specs.Roots.{result-small}
 
 -- ── a table that holds a tree ──
 pub record Tabled (l sizes : List ℕ) (t : Tree) : Type 0 where
@@ -99,14 +100,6 @@ module _ {l sizes : List ℕ} {count : ℕ} (h : Headed l sizes count) where
   pub left-start : Left l 1 count (theTree l .head)
   unfolding flatten
   left-start = record { rest = ap (λ (es : List Entry). drop 1 es) (h .tabled .same); many = h .counted }
-
--- "result 1, 2 or 3": the layout of the heading
-result-small : (n : ℕ) (b : Body) → leb ((256 * n + resultCode b) / 256) 8 ≡ true → resultCode b < 256
-result-small n (proper s) h = omega arith
-result-small n (function integer e) h = omega arith
-result-small n (function logical e) h = omega arith
-result-small n (function bits e) h = omega arith
-result-small n (function (reference c) e) h = absurd (let k = leb-true ((256 * n + (65536 + c)) / 256) 8 h in omega arith)
 
 -- a heading that keeps to the layout
 heading-small : (a n : ℕ) (b : Body) → inLayout (entry 12 a (pos (256 * n + resultCode b))) ≡ true → resultCode b < 256

@@ -33,6 +33,14 @@ small-result (function logical e) n h = omega arith
 small-result (function bits e) n h = omega arith
 small-result (function (reference c) e) n h = absurd (omega arith)
 
+-- "result 1, 2 or 3": the layout of the heading
+pub result-small : (n : ℕ) (b : Body) → leb ((256 * n + resultCode b) / 256) 8 ≡ true → resultCode b < 256
+result-small n (proper s) h = omega arith
+result-small n (function integer e) h = omega arith
+result-small n (function logical e) h = omega arith
+result-small n (function bits e) h = omega arith
+result-small n (function (reference c) e) h = absurd (let k = leb-true ((256 * n + (65536 + c)) / 256) 8 h in omega arith)
+
 -- ── what is read ──
 module _ {r : Below} {d : ℕ} (G : Reads r d) where
   takes-list : (xs : List Typed) → Fits d (map flatTyped xs) (deepList xs) → Takes (repeated (length xs) (r .typed)) (map flatTyped xs) xs

@@ -8,7 +8,7 @@ pub use Rattle.load_views.specs.Views.{Viewed, viewed, passing, judges}
 pub use Rattle.load_views.specs.Known.{reads-view, known-class, known-body, some-body, first-rises, type-byte}
 -- ── its bodies, classes, instructions and types ──
 pub use Rattle.load_views.specs.Bodies.{body-at, in-body, stands, before-end}
-pub use Rattle.load_views.specs.Ops.{class-at}
+pub use Rattle.load_views.specs.Ops.{class-at, class-count}
 pub use Rattle.load_views.specs.Address.{code-at}
 pub use Rattle.load_views.specs.Readers.{type-reads}
 pub use Rattle.load_views.specs.Stack.{stack-bytes, same-byte, alike-bytes}

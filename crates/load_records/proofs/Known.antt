@@ -16,7 +16,8 @@ use Rattle.load_places.specs.declared.Records.{Records}
 use Rattle.load_places.specs.declared.Records.the-variants.{Reads}
 use Rattle.load_records.specs.Answer.{Left}
 use Rattle.load_records.proofs.Search.{first-clean}
-use Rattle.load_records.proofs.Tests.{unlike, no-true, no-false, no-else, neither, room}
+use Rattle.logic.specs.Tests.{never, no-true, no-false, no-else, neither}
+use Rattle.load_records.proofs.Tests.{room}
 
 -- each of the n bytes from q is a type
 abbrev pub Types : List ℕ → ℕ → ℕ → Type 0
@@ -101,7 +102,7 @@ shape-known l p e =
 -- ── of a macro whose records read ──
 kept : (a b : Bool) → cond a (not b) true ≡ false → (a ≡ true) × (b ≡ true)
 kept true b e = (refl, not-false b e)
-kept false b e = unlike (sym e)
+kept false b e = never (sym e)
 
 module _ (l : List ℕ) (W : Well l) where
   pub head-of : Head l

@@ -11,26 +11,9 @@ use Rattle.words.specs.Numbers.{byteAt, halfAt}
 use Rattle.load_places.specs.Search.{seek}
 use Rattle.load_places.specs.Records.{classes, count, classPlace, noMark, noType, badTypes, badHead, badClass, rises, bodyFits, shapeFits, readEnd, reads, unread}
 use Rattle.load_records.specs.Answer.{typedFits}
+use Rattle.logic.specs.Tests.{never, no-true, no-false}
 
 -- ── a chain of tests that came out well passed each ──
-pub unlike : {A : Type 0} → false ≡ true → A
-unlike e = let z : _≡_ {A = ℕ} 0 1 = cc in absurd (omega arith)
-
-pub no-true : (a b : Bool) → cond a true b ≡ false → (a ≡ false) × (b ≡ false)
-no-true true b e = unlike (sym e)
-no-true false b e = (refl, e)
-
-pub no-false : (a b : Bool) → cond a false b ≡ true → (a ≡ false) × (b ≡ true)
-no-false true b e = unlike e
-no-false false b e = (refl, e)
-
-pub no-else : (a b : Bool) → cond a b false ≡ true → (a ≡ true) × (b ≡ true)
-no-else true b e = (refl, e)
-no-else false b e = unlike e
-
-pub neither : (a b : Bool) → a || b ≡ false → (a ≡ false) × (b ≡ false)
-neither true b e = unlike (sym e)
-neither false b e = (refl, e)
 
 -- ── a mark ──
 module _ (l : List ℕ) (p n x y : ℕ) where
@@ -129,7 +112,7 @@ module _ (l : List ℕ) (p k : ℕ) (e : p ≡ classPlace l k) where
       go false b c false true q = refl
       go false true c false false q = refl
       go false false true false false q = refl
-      go false false false false false q = unlike (sym q)
+      go false false false false false q = never (sym q)
 
   module _ (t : typedFits l p 3 2 67 76 ≡ true) where
     pub class-2 : byteAt l (p + 2) < 1 → badClass l k ≡ true
@@ -169,7 +152,7 @@ module _ (l : List ℕ) (p : ℕ) where
       go false false c false f q = refl
       go false false c true true q = refl
       go false false true true false q = refl
-      go false false false true false q = unlike (sym q)
+      go false false false true false q = never (sym q)
 
   module _ (t : typedFits l p 7 6 66 68 ≡ true) where
     pub body-2 : eqb (byteAt l (p + 5)) 0 || not (noType (classes l) (byteAt l (p + 5))) ≡ false → bodyFits l p ≡ false
@@ -196,7 +179,7 @@ module _ (l : List ℕ) (p : ℕ) where
       go true b c q = refl
       go false true c q = refl
       go false false true q = refl
-      go false false false q = unlike (sym q)
+      go false false false q = never (sym q)
 
   pub shape-2 : typedFits l p 6 5 83 72 ≡ true → shapeFits l p ≡ ltb (halfAt l (p + 2)) (count l)
   unfolding shapeFits

@@ -9,7 +9,7 @@ use Rattle.load_places.specs.declared.Moved.{Moved}
 use Rattle.load_places.specs.declared.Moved.the-variants.{Goes}
 use Rattle.load_rules.specs.Paired.{hasOperands}
 use Rattle.load_rules.specs.Moves.{flowOf, Fit}
-use Rattle.load_records.proofs.Tests.{unlike}
+use Rattle.logic.specs.Tests.{never}
 
 pub told : (st : List ℕ) {r v : Moved} {F : Flow} → r ≡ v → flowOf r st ≡ F → F ≡ flowOf v st
 told st q m = sym m ∙ ap (λ (x : Moved). flowOf x st) q
@@ -32,11 +32,11 @@ after-two {F = F} f g m e d = after g (after f m e) d ∙ chain-chain F f g
 -- a test that was made, as `need` takes it
 pub meets : (b : Bool) (F : Flow) → b ≡ true → F ≡ need b F
 meets true F e = refl
-meets false F e = unlike e
+meets false F e = never e
 
 pub lacks : (b : Bool) (F : Flow) → b ≡ false → bad ≡ need b F
 lacks false F e = refl
-lacks true F e = unlike (sym e)
+lacks true F e = never (sym e)
 
 -- an instruction that has no use for operands
 module _ (a b : ℕ) where
@@ -45,7 +45,7 @@ module _ (a b : ℕ) where
   operands-some t F = go (eqb a 0) (eqb b 0) t
     where
       go : (x y : Bool) → not (x && y) ≡ true → need x (need y F) ≡ bad
-      go true true q = unlike q
+      go true true q = never q
       go true false q = refl
       go false y q = refl
 
@@ -55,5 +55,5 @@ module _ (a b : ℕ) where
     where
       go : (x y : Bool) → not (x && y) ≡ false → (x ≡ true) × (y ≡ true)
       go true true q = (refl, refl)
-      go true false q = unlike (sym q)
-      go false y q = unlike (sym q)
+      go true false q = never (sym q)
+      go false y q = never (sym q)

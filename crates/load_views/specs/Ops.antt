@@ -41,7 +41,7 @@ pub class-at : (l : List ℕ) (c : ℕ) → getElem? (view l .classes) c ≡ bel
 unfolding view
 class-at l c = rw (span-at (λ k. classOn l (classPlace l k)) (classes l) 0 c, zero-add c)
 
-class-count : (l : List ℕ) → length (view l .classes) ≡ classes l
+pub class-count : (l : List ℕ) → length (view l .classes) ≡ classes l
 unfolding view
 class-count l = span-length (λ k. classOn l (classPlace l k)) (classes l) 0
 

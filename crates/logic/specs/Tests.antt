@@ -55,6 +55,10 @@ pub neither : (a b : Bool) → (a || b) ≡ false → (a ≡ false) × (b ≡ fa
 neither true b e = never (sym e)
 neither false b e = (refl, e)
 
+pub or-false : (a : Bool) → (a || false) ≡ a
+or-false true = refl
+or-false false = refl
+
 pub or-left : (a b : Bool) → a ≡ true → (a || b) ≡ true
 or-left true b e = refl
 or-left false b e = never e
@@ -91,6 +95,18 @@ past y false b e = (refl, e)
 pub held : (y a b : Bool) → cond a b (not y) ≡ y → (a ≡ true) × (b ≡ y)
 held y true b e = (refl, e)
 held y false b e = absurd (no-other y e)
+
+pub no-true : (a b : Bool) → cond a true b ≡ false → (a ≡ false) × (b ≡ false)
+no-true true b e = never (sym e)
+no-true false b e = (refl, e)
+
+pub no-false : (a b : Bool) → cond a false b ≡ true → (a ≡ false) × (b ≡ true)
+no-false true b e = never e
+no-false false b e = (refl, e)
+
+pub no-else : (a b : Bool) → cond a b false ≡ true → (a ≡ true) × (b ≡ true)
+no-else true b e = (refl, e)
+no-else false b e = never e
 
 pub cond-and : (a b : Bool) → cond a b false ≡ a && b
 cond-and true b = refl

@@ -19,7 +19,7 @@ use Rattle.bytecode_layout.specs.Parts.{length-encode}
 use Rattle.bytecode_layout.specs.Places.{framePlace, depth, open′, address, cellWord, operandWord, cellType, operandType, fieldWord, fieldType, phase, code, activations, records, holds, group}
 use Rattle.bytecode_layout.specs.Edits.{on}
 use Rattle.bytecode_layout.specs.Steps.{activation, goes-law, push-law, pop-law, operand-law, cell-law, cell-next-law, take-law, let-law, enter-law}
-use Rattle.bytecode_layout.specs.Records.{made, make-law, field-next-law, field-law, root-cell-law}
+use Rattle.bytecode_layout.specs.Records.{made, make-law, field-next-law, field-law, root-cell-law, length-lowest}
 use Rattle.bytecode_layout.specs.Phases.{condition-law, end-law, release-law, finish-law}
 use Rattle.bytecode_layout.specs.Leaves.{drop-law}
 use Rattle.bytecode_layout.specs.Reads.{encode-reads, on-reads, root-reads, operand-is, value-is, record-reads, group-is}
@@ -61,13 +61,6 @@ module _ {l : List ℕ} {f : ℕ} {rs : Shared} {us fs : List Activation} {t : A
     rw (p .bytes, p .place) (on-reads (cellWord j) h rs us t fs (p .few) ∙ value-is wordOfCell 32 (t .cells) j c e h),
     rw (p .bytes, p .place) (on-reads (cellType j) h rs us t fs (p .few) ∙ value-is byteOfCell 32 (t .cells) j c e h),
   )
-
--- the root changes and no activation comes or goes
-lowest-length : (cs : List Cell) (fs : List Activation) → length (putLowest cs fs) ≡ length fs
-unfolding putLowest
-lowest-length cs [] = refl
-lowest-length cs (f ∷ []) = refl
-lowest-length cs (f ∷ (g ∷ gs)) = ap suc (lowest-length cs (g ∷ gs))
 
 -- ── stores within an activation ──
 module _ {l : List ℕ} {f : ℕ} {rs : Shared} {us fs : List Activation} {b i : ℕ} {cs : List Cell} {vs : List Value} {gs : List ℕ} where
@@ -165,7 +158,7 @@ module _ {l : List ℕ} {f : ℕ} {rs : Shared} {fs : List Activation} {t : Acti
     pub on-root : (j : ℕ) → j < length (rootOf t fs .cells) → j < 32
         → On (cellSet l 32 j w y) f rs [] (putTop (replace (rootOf t fs .cells) j (assigned v)) t fs) (putLowest (replace (rootOf t fs .cells) j (assigned v)) fs)
     on-root j h k =
-        let n = lowest-length (replace (rootOf t fs .cells) j (assigned v)) fs in
+        let n = length-lowest (replace (rootOf t fs .cells) j (assigned v)) fs in
         record { few = rw n (p .few); place = rw n (p .place); bytes = rw (p .bytes, ew, et) (root-cell-law rs t fs j v h k) }
 
   -- ── the phases ──

@@ -33,7 +33,8 @@ use Rattle.machine_frames.specs.On.{On, on-enter, on-leave, on-push, on-pop, on
 use Rattle.machine_ops.specs.declared.Out.{Out}
 use Rattle.machine_ops.specs.declared.Out.the-variants.{Goes}
 use Rattle.machine_ops.specs.Acts.{here, Now, Told, Tells}
-use Rattle.machine_ops.proofs.RunningFacts.{never, few-operands, demanded, supplied, goes-on}
+use Rattle.logic.specs.Tests.{never}
+use Rattle.machine_ops.proofs.RunningFacts.{few-operands, demanded, supplied, goes-on}
 use Rattle.machine_ops.specs.Moves.{dropped, filled, given, cells, CallRoom, Entered, enteredBy, TellsOf, ReturnRoom, FieldRoom, MakeRoom}
 use Rattle.machine_ops.proofs.MovedLists.{assign-length, below-top, above-it, on-drop, on-fill, on-fields, TypesAt, on-begin}
 use Rattle.bytecode.specs.State.{recordsAt, recordLength, cellWordsAt, cellTypesAt, fieldWordsAt, fieldTypesAt, activationLength, operandTypesAt, operandWordsAt}
@@ -55,7 +56,7 @@ drop-span f (suc p) (suc n) j h =
     let e : suc n - suc p ≡ n - p = omega arith in
     drop-span f p n (suc j) (omega arith) ∙ rw (suc-add j p, add-suc j p, e)
 
-not-root : (m : Macro) (k : ℕ) (b : Body) → procedureAt m k ≡ some b → bodyAt m k ≡ some b
+pub not-root : (m : Macro) (k : ℕ) (b : Body) → procedureAt m k ≡ some b → bodyAt m k ≡ some b
 not-root m zero b e = let z : _≡_ {A = ℕ} 0 1 = cc in absurd (omega arith)
 not-root m (suc k) b e = e
 

@@ -25,12 +25,9 @@ use Rattle.machine_ops.specs.declared.Event.the-variants.{Set, Hold, Rel
 use Rattle.machine_ops.specs.declared.Out.{Out}
 use Rattle.machine_ops.specs.declared.Out.the-variants.{Goes, Gives, Ends}
 use Rattle.machine_ops.specs.Acts.{here, Now, Told, Tells, Jumps, Holding}
-use Rattle.machine_ops.proofs.RunningFacts.{never, stands, few-records, integer-small, in-range, below-range, above-range, demanded, goes-to, goes-on}
+use Rattle.logic.specs.Tests.{never, and-false}
+use Rattle.machine_ops.proofs.RunningFacts.{stands, few-records, integer-small, in-range, below-range, above-range, demanded, goes-to, goes-on}
 use Rattle.bytecode.specs.State.{holdsAt, operandWordsAt}
-
-and-no : (b : Bool) → (b && false) ≡ false
-and-no true = refl
-and-no false = refl
 
 module _ {l : List ℕ} {f n i : ℕ} where
   -- ── jumps ──
@@ -162,7 +159,7 @@ module _ {l : List ℕ} {f n i : ℕ} where
       set-high h = set-by k r (λ m rs c0 a0 cs u z vs gs fs N ez eu. rw (above-range 1 512 (omega arith) z x ez h) (C m rs _ fs N))
 
       pub set-level : 255 < y → Tells (λ m h. doSet h) l f n i k r
-      set-level h = set-by k r (λ m rs c0 a0 cs u z vs gs fs N ez eu. rw (above-range 0 255 (omega arith) u y eu h, and-no (between 1 512 z)) (C m rs _ fs N))
+      set-level h = set-by k r (λ m rs c0 a0 cs u z vs gs fs N ez eu. rw (above-range 0 255 (omega arith) u y eu h, and-false (between 1 512 z)) (C m rs _ fs N))
 
     pub set-tells : (k1 k2 k3 : List ℕ) → 1 ≤ x → x ≤ 512 → y ≤ 255 → k1 ≡ popped l f (n - 1) → k2 ≡ popped k1 f (n - 2) → k3 ≡ wentTo k2 f (i + 1)
         → Tells (λ m h. doSet h) l f n i k3 (Gives (Set x y))

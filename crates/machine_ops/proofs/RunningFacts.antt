@@ -30,9 +30,7 @@ use Rattle.machine_frames.specs.On.{On, on-go}
 use Rattle.machine_ops.specs.declared.Out.{Out}
 use Rattle.values.specs.Trace.{Item}
 use Rattle.machine_ops.specs.Acts.{here, Now, Told, outOf}
-
-pub never : {A : Type 0} → false ≡ true → A
-never h = let z : _≡_ {A = ℕ} 0 1 = cc h in absurd (omega arith)
+use Rattle.logic.specs.Tests.{and-false}
 
 -- ── a sound state ──
 module _ {m : Macro} {l : List ℕ} {f n i : ℕ} {rs : Shared} {t : Activation} {fs : List Activation} (N : Now m l f n i rs t fs) where
@@ -83,11 +81,7 @@ module _ (lo hi : ℕ) (low : hi < 2147483648) where
   below-range (negsuc n) x e a = refl
 
   pub above-range : (z : ℤ) (x : ℕ) → x ≡ wordOf z → hi < x → between lo hi z ≡ false
-  above-range (pos n) x e a = rw (lt-leb n hi (omega arith)) (both-false (leb lo n))
-    where
-      both-false : (b : Bool) → (b && false) ≡ false
-      both-false true = refl
-      both-false false = refl
+  above-range (pos n) x e a = rw (lt-leb n hi (omega arith)) (and-false (leb lo n))
   above-range (negsuc n) x e a = refl
 
 -- ── what is told ──

@@ -32,7 +32,9 @@ use Rattle.logic.specs.ListLaws.{index-below, each-at}
 use Rattle.bytecode_layout.specs.Places.{framePlace}
 use Rattle.machine_frames.specs.On.{on-long, read-count, read-records, read-holds, read-open, read-operand, read-depth, read-address}
 use Rattle.machine_ops.specs.Acts.{here, Now, Room, Holding}
-use Rattle.machine_ops.proofs.RunningFacts.{never, around, stands, few-operands, few-holds, few-records}
+use Rattle.logic.specs.Tests.{never}
+use Rattle.machine_ops.proofs.CallRecordOps.{not-root}
+use Rattle.machine_ops.proofs.RunningFacts.{around, stands, few-operands, few-holds, few-records}
 use Rattle.machine_ops.specs.Moves.{CallRoom, ReturnRoom, FieldRoom, MakeRoom}
 use Rattle.machine_ops.specs.Moves.{given as given-of}
 use Rattle.load_check.specs.Lookups.{BodyAt, ClassAt}
@@ -75,9 +77,6 @@ goes-room : (is : List Item) (vs : List Value) (h : Here) → Moved (goesOn is v
 goes-room is vs h e = leb-true (length vs) 32 (demand-there (leb (length vs) 32) badFrame (moved is (running (h .shared) (at (suc (h .top .address)) vs (h .top)) (h .below))) e .0)
 
 -- ── what stands in the macro ──
-not-root : (m : Macro) (k : ℕ) (b : Body) → procedureAt m k ≡ some b → bodyAt m k ≡ some b
-not-root m zero b e = let z : _≡_ {A = ℕ} 0 1 = cc in absurd (omega arith)
-not-root m (suc k) b e = e
 
 below-there : {A : Type 0} (k n : ℕ) (y x : A) → below k n y ≡ some x → (k < n) × (x ≡ y)
 below-there k n y x e = go (ltb k n) refl e

@@ -23,7 +23,9 @@ use Rattle.bytecode.specs.Machine.{doFader, doTakeHold, letting, doAssert, act}
 use Rattle.bytecode.specs.Runs.{bankOf}
 use Rattle.machine_ops.specs.declared.Out.{Out}
 use Rattle.machine_ops.specs.Acts.{here, Tells, Pushes, Jumps}
-use Rattle.machine_ops.proofs.RunningFacts.{never, demanded}
+use Rattle.logic.specs.Tests.{never, halves}
+use Rattle.logic.specs.OptionLaws.{kept}
+use Rattle.machine_ops.proofs.RunningFacts.{demanded}
 use Rattle.machine_ops.specs.Moves.{TellsOf}
 use Rattle.machine_run.specs.Held.{record-of, Poised, Acts}
 
@@ -31,14 +33,6 @@ use Rattle.machine_run.specs.Held.{record-of, Poised, Acts}
 exact : {A : Type 0} (p : Bool) (y x : A) → exactly p y ≡ some x → (p ≡ true) × (x ≡ y)
 exact true y x e = (refl, cc)
 exact false y x e = let z : _≡_ {A = ℕ} 0 1 = cc in absurd (omega arith)
-
-kept : {A B : Type 0} (o : Option A) (f : A → Option B) (x : B) → keep o f ≡ some x → (y : A) × (o ≡ some y) × (f y ≡ some x)
-kept none f x e = let z : _≡_ {A = ℕ} 0 1 = cc in absurd (omega arith)
-kept (some y) f x e = (y, refl, e)
-
-both-true : (p q : Bool) → (p && q) ≡ true → (p ≡ true) × (q ≡ true)
-both-true true q e = (refl, e)
-both-true false q e = never e
 
 module _ (op a b : ℕ) (x : Instr) (d : instruction (record-of op a b) ≡ some x) where
   pub is-end : op ≡ 0 → x ≡ end
@@ -51,7 +45,7 @@ module _ (op a b : ℕ) (x : Instr) (d : instruction (record-of op a b) ≡ some
 
   pub is-logical : op ≡ 2 → (x ≡ push (log (eqb b 1))) × (b < 2)
   unfolding instruction
-  is-logical e = let q = exact (eqb a 0 && ltb b 2) _ _ (rw e at d) in (q .1, ltb-true b 2 (both-true (eqb a 0) (ltb b 2) (q .0) .1))
+  is-logical e = let q = exact (eqb a 0 && ltb b 2) _ _ (rw e at d) in (q .1, ltb-true b 2 (halves (eqb a 0) (ltb b 2) (q .0) .1))
 
   pub is-bits : op ≡ 3 → x ≡ push (bit b)
   unfolding instruction
@@ -111,7 +105,7 @@ module _ (op a b : ℕ) (x : Instr) (d : instruction (record-of op a b) ≡ some
 
   pub is-hold : op ≡ 17 → (x ≡ takeHold b) × (b ≤ 63)
   unfolding instruction
-  is-hold e = let q = exact (eqb a 0 && leb b 63) _ _ (rw e at d) in (q .1, leb-true b 63 (both-true (eqb a 0) (leb b 63) (q .0) .1))
+  is-hold e = let q = exact (eqb a 0 && leb b 63) _ _ (rw e at d) in (q .1, leb-true b 63 (halves (eqb a 0) (leb b 63) (q .0) .1))
 
   pub is-release : op ≡ 18 → x ≡ letHold
   unfolding instruction

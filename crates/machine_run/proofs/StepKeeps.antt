@@ -23,12 +23,7 @@ use Rattle.bytecode.specs.Machine.{demand, Here, at, withHolds, withRecords, fi
 use Rattle.bytecode.specs.Machine.{putTop, putCells, pushCell, popMany, recording, onMade, letting, handDown, doLoad, doStore, doOperate, doGoUnless, doReturn, doEnd}
 use Rattle.bytecode.specs.Machine.{doMake, doGetField, doPutField, doSet, doFader, doTakeHold, doAssert, doPush, act}
 use Rattle.machine_ops.specs.Acts.{here}
-
-lowest-length : (cs : List Cell) (fs : List Activation) → length (putLowest cs fs) ≡ length fs
-unfolding putLowest
-lowest-length cs [] = refl
-lowest-length cs (f ∷ []) = refl
-lowest-length cs (f ∷ (g ∷ gs)) = ap suc (lowest-length cs (g ∷ gs))
+use Rattle.bytecode_layout.specs.Records.{length-lowest}
 
 top-address : (cs : List Cell) (t : Activation) (fs : List Activation) → putTop cs t fs .address ≡ t .address
 top-address cs t [] = refl
@@ -140,7 +135,7 @@ module _ (t : Activation) (fs : List Activation) where
 
     with-cells : (o : Owner) (cs : List Cell) → Alike (putCells o cs h)
     with-cells own cs = record { address = refl; count = refl }
-    with-cells root cs = record { address = top-address cs t fs; count = lowest-length cs fs }
+    with-cells root cs = record { address = top-address cs t fs; count = length-lowest cs fs }
 
     on-push : (v : Value) → Onward (doPush m v h)
     on-push v = on-demand (known m (tyOf v)) noStep (goesOn [] (v ∷ t .operands) h) (on-goes [] (v ∷ t .operands) h found)

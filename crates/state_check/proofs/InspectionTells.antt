@@ -21,7 +21,7 @@ use Rattle.load_places.specs.Rules.{Verdict, judge, passes, refused}
 use Rattle.load_check.specs.Views.{verdictOf, judges}
 use Rattle.state_sound.specs.Each.{each, each-get, each-alike, each-none}
 use Rattle.state_sound.specs.Fits.{bodyIn, depthIn, openIn, addressIn, held, groupsFit, recordFits, frameFits, runningFits, plainFits, stands, activationsIn, soundBytes}
-use Rattle.state_sound.specs.Frames.{chosen}
+use Rattle.logic.specs.Tests.{no-else}
 use Rattle.state_sound.specs.Decoded.{cellCount}
 use Rattle.state_sound.specs.Sounds.{sounds}
 use Rattle.state_check.specs.declared.inspection.Inspected.{Inspected}
@@ -40,23 +40,23 @@ pub record Running (c l : List ℕ) (n r : ℕ) : Type 0 where
 frame-known : (c l : List ℕ) (r n k : ℕ) → frameFits c l r n k ≡ true → (bodyIn l k < bodies c) × (addressIn l k < count c)
 unfolding frameFits
 frame-known c l r n k e =
-    let a = chosen (ltb (bodyIn l k) (bodies c)) _ e in
-    let b = chosen (leb (cellCount c l k) 32) _ (a .1) in
-    let d = chosen (leb (depthIn l k) 32) _ (b .1) in
-    let f = chosen (leb (openIn l k) 16) _ (d .1) in
-    let g = chosen (ltb (addressIn l k) (count c)) _ (f .1) in
+    let a = no-else (ltb (bodyIn l k) (bodies c)) _ e in
+    let b = no-else (leb (cellCount c l k) 32) _ (a .1) in
+    let d = no-else (leb (depthIn l k) 32) _ (b .1) in
+    let f = no-else (leb (openIn l k) 16) _ (d .1) in
+    let g = no-else (ltb (addressIn l k) (count c)) _ (f .1) in
     (ltb-true _ _ (a .0), ltb-true _ _ (g .0))
 
 running-known : (c l : List ℕ) (n r h : ℕ) → runningFits c l n r h ≡ true → Running c l n r
 unfolding runningFits
 running-known c l n r h e =
-    let t1 = chosen (leb 1 n) _ e in
-    let t2 = chosen (leb n 32) _ (t1 .1) in
-    let t3 = chosen (leb r 256) _ (t2 .1) in
-    let t4 = chosen (eqb (bodyIn l 0) 0) _ (t3 .1) in
-    let t5 = chosen (eqb (held l n) h) _ (t4 .1) in
-    let t6 = chosen (groupsFit l h) _ (t5 .1) in
-    let t7 = chosen (each (recordFits c l r) 0 r) (each (frameFits c l r n) 0 n) (t6 .1) in
+    let t1 = no-else (leb 1 n) _ e in
+    let t2 = no-else (leb n 32) _ (t1 .1) in
+    let t3 = no-else (leb r 256) _ (t2 .1) in
+    let t4 = no-else (eqb (bodyIn l 0) 0) _ (t3 .1) in
+    let t5 = no-else (eqb (held l n) h) _ (t4 .1) in
+    let t6 = no-else (groupsFit l h) _ (t5 .1) in
+    let t7 = no-else (each (recordFits c l r) 0 r) (each (frameFits c l r n) 0 n) (t6 .1) in
     record { few = leb-true n 32 (t2 .0); small = leb-true r 256 (t3 .0); frames = λ k p. frame-known c l r n k (each-get (frameFits c l r n) n (t7 .1) k p) }
 
 plain-known : (c l : List ℕ) → plainFits c l ≡ true → eqb (byteAt l 0) 0 ≡ true → Running c l (byteAt l 2) (halfAt l 4)

@@ -16,6 +16,7 @@ use Rattle.state_check.specs.Inspecting.{recordsIn}
 use Rattle.state_check.specs.Tested.{argsFit, standing, fitBefore, Upto}
 use Rattle.state_check.proofs.TypeRows.{by-test, alike-rows, each-and}
 use Rattle.bytecode.specs.State.{operandTypesAt, operandWordsAt}
+use Rattle.logic.specs.Tests.{and-true}
 
 -- ── the arguments ──
 module _ (c l : List ℕ) (n k : ℕ) (st : List ℕ) (a d : ℕ) where
@@ -103,15 +104,11 @@ module _ (c l : List ℕ) (r n i : ℕ) (ok : Bool) (next : ℕ) (U : Upto c l r
       rw (U .tested) (each-and _ _ n 0 ∙ each-alike _ _ n (λ k p.
       by-test (ltb (addressIn l k) i)
       (λ x. let g : addressIn l k < i = ltb-true (addressIn l k) i x in
-      rw (x, ne-eqb (addressIn l k) i (λ z. omega arith), lt-ltb (addressIn l k) (i + 1) (omega arith)) (last (stands c l r n k)))
+      rw (x, ne-eqb (addressIn l k) i (λ z. omega arith), lt-ltb (addressIn l k) (i + 1) (omega arith)) (and-true (stands c l r n k)))
       (λ x. let g : i ≤ addressIn l k = ltb-false (addressIn l k) i x in
       rw x (by-test (eqb (addressIn l k) i)
       (λ y. let z : addressIn l k ≡ i = eqb-true (addressIn l k) i y in rw (y, lt-ltb (addressIn l k) (i + 1) (omega arith), z, ← e, ← d))
       (λ y. let z : (addressIn l k ≡ i → ⊥) = eqb-false (addressIn l k) i y in rw (y, le-ltb (addressIn l k) (i + 1) (omega (arith, z))))))))
-    where
-      last : (a : Bool) → (a && true) ≡ a
-      last true = refl
-      last false = refl
   tests-more ends b e d q = absurd (fault ends e q refl)
   tests-more bad b e d q = absurd (fault bad e q refl)
 

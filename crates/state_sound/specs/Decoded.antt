@@ -20,8 +20,9 @@ use Rattle.bytecode.specs.Machine.{Activation, Made}
 use Rattle.bytecode.specs.State.{part, readValue, readCell, readRow, readActivation, readActivations, readRecord, readRecords}
 use Rattle.load_places.specs.Records.{classes, bodies, classPlace, bodyPlace, noMark, badClass}
 use Rattle.load_places.specs.Index.{Well}
-use Rattle.load_check.specs.Views.{span, span-length, by-test, past, view, body-at, class-at}
-use Rattle.state_sound.specs.Each.{each, halves}
+use Rattle.load_check.specs.Views.{span, span-length, by-test, past, view, body-at, class-at, class-count}
+use Rattle.logic.specs.Tests.{halves}
+use Rattle.state_sound.specs.Each.{each}
 use Rattle.state_sound.specs.Fits.{frameAt, entryAt, bodyIn, depthIn, openIn, addressIn, classIn, held}
 use Rattle.state_sound.specs.Rows.{rowReads, rowOn, cellRow, values-read, cells-read}
 use Rattle.bytecode.specs.State.{activationLength, cellTypesAt, cellWordsAt, holdsAt, operandTypesAt, operandWordsAt}
@@ -114,10 +115,6 @@ class-few c W k h =
     let b = past false (ltb (byteAt c (classPlace c k + 2)) 1) _ (a .1) in
     let d = past false (ltb 8 (byteAt c (classPlace c k + 2))) _ (b .1) in
     ltb-false 8 (byteAt c (classPlace c k + 2)) (d .0)
-
-class-count : (c : List ℕ) → length (view c .classes) ≡ classes c
-unfolding view
-class-count c = span-length _ (classes c) 0
 
 module _ (c l : List ℕ) (W : Well c) where
   abbrev m : Macro

@@ -25,10 +25,11 @@ use Rattle.load_places.specs.Rules.{bodyOf, endOf, broken}
 use Rattle.load_places.specs.Index.{Well}
 use Rattle.load_check.specs.Views.{span, backs, span-at, reverse-span, tests, by-test, view, bodyOn, bytes, below, alike-bytes, known-class, known-body, first-rises}
 use Rattle.load_check.specs.Views.{body-at, in-body, stands as standing, before-end, class-at, Viewed}
-use Rattle.state_sound.specs.Each.{each, halves, both, same-test}
+use Rattle.state_sound.specs.Each.{each, same-test}
 use Rattle.state_sound.specs.Fits.{frameAt, entryAt, bodyIn, depthIn, openIn, addressIn, classIn, held, valueIn, rowFits, recordFits, cellsFit, operandsIn, takenIn, standsIn, stands}
 use Rattle.state_sound.specs.Rows.{cells-typed, Recorded, row-bytes, row-sound, row-typed}
 use Rattle.state_sound.specs.Decoded.{typesAt, wordsAt, fieldCount, recordOn, recordReads, cellCount, cellsRead, cellsOn, operandsRead, operandsOn, holdsOn, frameOn, frameReads}
+use Rattle.logic.specs.Tests.{and-false, and-true, halves, both, no-else}
 
 -- ── lists ──
 pub all-span : {A : Type 0} (t : A → Bool) (f : ℕ → A) (n j : ℕ) → all t (span f j n) ≡ each (λ k. t (f k)) j n
@@ -49,11 +50,7 @@ all-turned t (x ∷ xs) ys = all-turned t xs (x ∷ ys) ∙ move (all t xs) (t x
 
 pub all-reverse : {A : Type 0} (t : A → Bool) (xs : List A) → all t (reverse xs) ≡ all t xs
 unfolding all
-all-reverse t xs = all-turned t xs [] ∙ end (all t xs)
-  where
-    end : (a : Bool) → (a && true) ≡ a
-    end true = refl
-    end false = refl
+all-reverse t xs = all-turned t xs [] ∙ and-true (all t xs)
 
 module _ (c l : List ℕ) (r : ℕ) where
   pub recorded : Recorded l r (span (recordOn c l) 0 r)
@@ -102,13 +99,9 @@ module _ (c : List ℕ) (W : Well c) where
       by-test (eqb k (bodyOf c i))
       (λ e. let q : k ≡ j = eqb-true k j e in rw (e, q, le-leb (firstOf c j) i (s .begun), lt-ltb i (endOf c j) (before-end c W j i s b)))
       (λ e. rw e (by-test (ltb k j)
-      (λ p. let o : endOf c k ≤ i = omega (arith, end-below k j (ltb-true k j p) (s .within), s .begun) in rw (le-ltb i (endOf c k) o) (never-both (leb (firstOf c k) i)))
+      (λ p. let o : endOf c k ≤ i = omega (arith, end-below k j (ltb-true k j p) (s .within), s .begun) in rw (le-ltb i (endOf c k) o) (and-false (leb (firstOf c k) i)))
       (λ p. let d : suc j ≤ k = omega tests in
       let o : i < firstOf c k = omega (arith, s .next (omega arith), rising k (suc j) d h) in rw (lt-leb (firstOf c k) i o))))
-    where
-      never-both : (a : Bool) → (a && false) ≡ false
-      never-both true = refl
-      never-both false = refl
 
   end-count : (k : ℕ) → k < bodies c → endOf c k ≤ count c
   unfolding endOf
@@ -119,11 +112,7 @@ module _ (c : List ℕ) (W : Well c) where
 
   -- none stands behind the code
   pub stands-not : (k i : ℕ) → k < bodies c → count c ≤ i → inBody (view c) k i ≡ false
-  stands-not k i h b = in-body c k i h ∙ rw (le-ltb i (endOf c k) (omega (arith, end-count k h))) (never-both (leb (firstOf c k) i))
-    where
-      never-both : (a : Bool) → (a && false) ≡ false
-      never-both true = refl
-      never-both false = refl
+  stands-not k i h b = in-body c k i h ∙ rw (le-ltb i (endOf c k) (omega (arith, end-count k h))) (and-false (leb (firstOf c k) i))
 
 -- ── types as bytes ──
 bytes-append : (ts us : List Ty) → bytes (ts ++ us) ≡ bytes ts ++ bytes us
@@ -136,9 +125,6 @@ bytes-backs l q f zero e = refl
 bytes-backs l q f (suc n) e = rw (e n (omega arith), bytes-backs l q f n (λ i h. e i (omega arith)))
 
 -- ── tests put together ──
-pub chosen : (a b : Bool) → cond a b false ≡ true → (a ≡ true) × (b ≡ true)
-chosen true b e = (refl, e)
-chosen false b e = absurd (false≢true e)
 
 pub choose : {a b : Bool} → a ≡ true → b ≡ true → cond a b false ≡ true
 choose p q = rw (p, q)
@@ -160,9 +146,9 @@ spread cR oR I Sm Vo H G Tc A q =
     let a = halves (cR && Tc) _ e in
     let b = halves cR Tc (a .0) in
     let d = halves (cond I (cond H (cond A (oR && Vo) false) false) false) G (a .1) in
-    let i = chosen I _ (d .0) in
-    let h = chosen H _ (i .1) in
-    let t = chosen A _ (h .1) in
+    let i = no-else I _ (d .0) in
+    let h = no-else H _ (i .1) in
+    let t = no-else A _ (h .1) in
     let o = halves oR Vo (t .1) in
     both (both (b .0) (o .0)) (both (i .0) (both (q (o .0) ∙ t .0) (both (o .1) (both (h .0) (both (d .1) (b .1)))))))
 

@@ -24,7 +24,8 @@ use Rattle.bytecode.specs.Sound.{soundValue, points, typedValues, soundCell, ty
 use Rattle.bytecode.specs.State.{readValue, readCell, readRow}
 use Rattle.load_places.specs.Records.{classes, noType}
 use Rattle.load_check.specs.Views.{span, by-test, tyOn, type-byte, same-byte, type-reads}
-use Rattle.state_sound.specs.Each.{each, each-at, and-true}
+use Rattle.logic.specs.Tests.{and-true, and-false}
+use Rattle.state_sound.specs.Each.{each, each-at}
 use Rattle.state_sound.specs.Fits.{pointsTo, valueFits, classIn}
 
 -- ── one value ──
@@ -37,10 +38,6 @@ readable n t w = not (noType n t) && validWord (tyOn t) w
 value-reads : (n t w : ℕ) → readValue n t w ≡ (if readable n t w then some (valueOn t w) else none)
 unfolding readValue
 value-reads n t w = rw (type-reads n t) (by-test (noType n t) (λ e. rw e) (λ e. rw e))
-
-and-false : (a : Bool) → (a && false) ≡ false
-and-false true = refl
-and-false false = refl
 
 -- the made records are r, of the classes that stand in l
 pub record Recorded (l : List ℕ) (r : ℕ) (rs : List Made) : Type 0 where

@@ -24,15 +24,12 @@ use Rattle.load_places.specs.Search.{tops, Clean}
 use Rattle.load_places.specs.Records.{bodies, count, bodyPlace, codePlace}
 use Rattle.load_places.specs.Rules.{broken}
 use Rattle.load_check.specs.Views.{span, backs, span-length, backs-length, reverse-span, tests, by-test, view, bytes, code-at, Viewed}
-use Rattle.state_sound.specs.Each.{each, halves, both, same-test, each-get, each-all}
+use Rattle.logic.specs.Tests.{halves, both, no-else, and-false}
+use Rattle.state_sound.specs.Each.{each, same-test, each-get, each-all}
 use Rattle.state_sound.specs.Fits.{bodyIn, depthIn, openIn, addressIn, held, calls, takenIn, recordFits, cellsFit, frameFits, groupsFit, runningFits, stands}
 use Rattle.state_sound.specs.Decoded.{recordOn, recordReads, records-read, cellCount, holdsOn, frameOn, frameReads, activations-read}
-use Rattle.state_sound.specs.Frames.{Rough, chosen, choose, all-span, record-fits, stands-not, frame-fits}
+use Rattle.state_sound.specs.Frames.{Rough, choose, all-span, record-fits, stands-not, frame-fits}
 use Rattle.state_sound.specs.Waiting.{calls-only, groupAt, groups-all, holds-all, argumentsOn, arguments-bytes, waitsAt, waiting-is}
-
-and-false : (a : Bool) → (a && false) ≡ false
-and-false true = refl
-and-false false = refl
 
 -- ── an activation of n ──
 -- the arguments that its call took; whether it stands at a call of the next
@@ -107,10 +104,10 @@ module _ (c l : List ℕ) where
   limits-fit : (r n k : ℕ) → frameFits c l r n k ≡ true → Limits c l k
   unfolding frameFits
   limits-fit r n k e =
-      let a = chosen (ltb (bodyIn l k) (bodies c)) _ e in
-      let b = chosen (leb (cellCount c l k) 32) _ (a .1) in
-      let d = chosen (leb (depthIn l k) 32) _ (b .1) in
-      let f = chosen (leb (openIn l k) 16) _ (d .1) in
+      let a = no-else (ltb (bodyIn l k) (bodies c)) _ e in
+      let b = no-else (leb (cellCount c l k) 32) _ (a .1) in
+      let d = no-else (leb (depthIn l k) 32) _ (b .1) in
+      let f = no-else (leb (openIn l k) 16) _ (d .1) in
       record { body = ltb-true _ _ (a .0); cells = leb-true _ _ (b .0); depth = leb-true _ _ (d .0); open′ = leb-true _ _ (f .0) }
 
   few-held : (n : ℕ) → ((k : ℕ) → k < n → openIn l k ≤ 16) → held l n ≤ 16 * n
@@ -218,15 +215,15 @@ module _ (c l : List ℕ) (seen : Viewed c (view c)) (clean : Clean (broken c) (
   to-sound : cond (runningFits c l n r h) (each (stands c l r n) 0 n) false ≡ true → readAndSound ≡ true
   unfolding runningFits groupsFit sound
   to-sound e =
-      let a = chosen (runningFits c l n r h) _ e in
-      let t1 = chosen (leb 1 n) _ (a .0) in
-      let t2 = chosen (leb n 32) _ (t1 .1) in
-      let t3 = chosen (leb r 256) _ (t2 .1) in
-      let t4 = chosen (eqb (bodyIn l 0) 0) _ (t3 .1) in
-      let t5 = chosen (eqb (held l n) h) _ (t4 .1) in
-      let t6 = chosen (groupsFit l h) _ (t5 .1) in
-      let t7 = chosen (each (recordFits c l r) 0 r) (each (frameFits c l r n) 0 n) (t6 .1) in
-      let t8 = chosen (leb h 512) (each (groupAt l) 0 h) (t6 .0) in
+      let a = no-else (runningFits c l n r h) _ e in
+      let t1 = no-else (leb 1 n) _ (a .0) in
+      let t2 = no-else (leb n 32) _ (t1 .1) in
+      let t3 = no-else (leb r 256) _ (t2 .1) in
+      let t4 = no-else (eqb (bodyIn l 0) 0) _ (t3 .1) in
+      let t5 = no-else (eqb (held l n) h) _ (t4 .1) in
+      let t6 = no-else (groupsFit l h) _ (t5 .1) in
+      let t7 = no-else (each (recordFits c l r) 0 r) (each (frameFits c l r n) 0 n) (t6 .1) in
+      let t8 = no-else (leb h 512) (each (groupAt l) 0 h) (t6 .0) in
       let few : n ≤ 32 = leb-true n 32 (t2 .0) in
       let ff = each-get (frameFits c l r n) n (t7 .1) in
       let L : (j : ℕ) → j < n → Limits c l j = λ j p. limits-fit c l r n j (ff j p) in

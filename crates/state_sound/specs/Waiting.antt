@@ -21,7 +21,8 @@ use Rattle.load_places.specs.Search.{tops}
 use Rattle.load_places.specs.Records.{bodies, bodyPlace}
 use Rattle.load_places.specs.Index.{Well}
 use Rattle.load_check.specs.Views.{backs, span-take, reverse-span, view, bytes, stack-bytes, known-body, body-at}
-use Rattle.state_sound.specs.Each.{each, and-assoc, each-snoc, each-same}
+use Rattle.logic.specs.Tests.{and-assoc}
+use Rattle.state_sound.specs.Each.{each, each-snoc, each-same}
 use Rattle.state_sound.specs.Fits.{bodyIn, openIn, addressIn, held}
 use Rattle.state_sound.specs.Decoded.{cellCount, holdsOn, frameOn}
 

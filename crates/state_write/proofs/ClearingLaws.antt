@@ -26,7 +26,7 @@ use Rattle.load_places.specs.Records.{classes, bodies, classPlace, bodyPlace}
 use Rattle.load_check.specs.Views.{span-length, view, reads-view, body-at, class-at, passing}
 use Rattle.state_sound.specs.Each.{each, each-get}
 use Rattle.state_sound.specs.Fits.{bodyIn, classIn, held, groupsFit, recordFits, frameFits, runningFits, plainFits, stands, activationsIn, soundBytes}
-use Rattle.state_sound.specs.Frames.{chosen}
+use Rattle.logic.specs.Tests.{no-else}
 use Rattle.state_sound.specs.Sounds.{sounds}
 use Rattle.state_check.specs.Inspecting.{Held}
 use Rattle.state_write.specs.Clearing.{Below, Uncleared, Encodes}
@@ -187,24 +187,24 @@ module _ (c l : List ℕ) (b : ℕ) {k q : ℕ} {x : List ℕ} (first : k ≡ by
 -- ── bytes that hold a sound state ──
 frame-body : (c l : List ℕ) (r n k : ℕ) → frameFits c l r n k ≡ true → bodyIn l k < bodies c
 unfolding frameFits
-frame-body c l r n k e = ltb-true _ _ (chosen (ltb (bodyIn l k) (bodies c)) _ e .0)
+frame-body c l r n k e = ltb-true _ _ (no-else (ltb (bodyIn l k) (bodies c)) _ e .0)
 
 record-class : (c l : List ℕ) (r k : ℕ) → recordFits c l r k ≡ true → classIn l k < classes c
 unfolding recordFits
-record-class c l r k e = ltb-true _ _ (chosen (ltb (classIn l k) (classes c)) _ e .0)
+record-class c l r k e = ltb-true _ _ (no-else (ltb (classIn l k) (classes c)) _ e .0)
 
 running-uncleared : (c l : List ℕ) → runningFits c l (byteAt l 2) (halfAt l 4) (halfAt l 6) ≡ true → Uncleared c l
 unfolding runningFits
 running-uncleared c l e =
     let n = byteAt l 2 in
     let r = halfAt l 4 in
-    let t1 = chosen (leb 1 n) _ e in
-    let t2 = chosen (leb n 32) _ (t1 .1) in
-    let t3 = chosen (leb r 256) _ (t2 .1) in
-    let t4 = chosen (eqb (bodyIn l 0) 0) _ (t3 .1) in
-    let t5 = chosen (eqb (held l n) (halfAt l 6)) _ (t4 .1) in
-    let t6 = chosen (groupsFit l (halfAt l 6)) _ (t5 .1) in
-    let t7 = chosen (each (recordFits c l r) 0 r) (each (frameFits c l r n) 0 n) (t6 .1) in
+    let t1 = no-else (leb 1 n) _ e in
+    let t2 = no-else (leb n 32) _ (t1 .1) in
+    let t3 = no-else (leb r 256) _ (t2 .1) in
+    let t4 = no-else (eqb (bodyIn l 0) 0) _ (t3 .1) in
+    let t5 = no-else (eqb (held l n) (halfAt l 6)) _ (t4 .1) in
+    let t6 = no-else (groupsFit l (halfAt l 6)) _ (t5 .1) in
+    let t7 = no-else (each (recordFits c l r) 0 r) (each (frameFits c l r n) 0 n) (t6 .1) in
     record {
       few = leb-true n 32 (t2 .0);
       some-records = leb-true r 256 (t3 .0);
@@ -217,8 +217,8 @@ module _ (c l : List ℕ) (small : Bytes l) (H : Held c l) where
   unfolding soundBytes
   plain =
       let e : soundBytes c l ≡ true = sym (sounds c (H .macro) (H .passes) l small) ∙ ap isSome (H .sound) in
-      let a = chosen (eqb (length l) stateLength) _ e in
-      let d = chosen (plainFits c l) (each (stands c l (halfAt l 4) (byteAt l 2)) 0 (activationsIn l)) (a .1) in
+      let a = no-else (eqb (length l) stateLength) _ e in
+      let d = no-else (plainFits c l) (each (stands c l (halfAt l 4) (byteAt l 2)) 0 (activationsIn l)) (a .1) in
       (eqb-true (length l) stateLength (a .0), d .0)
 
   pub long : length l ≡ stateLength

@@ -18,7 +18,7 @@ use Rattle.language.specs.Judge.{firstFault, judgeTree, judgeTable}
 use Rattle.language_laws.specs.Claims.{entriesOf}
 use Rattle.language_laws.specs.Order.{first-fault}
 use Rattle.table_entries.specs.Entries.{length-entries}
-use Rattle.table_scopes.specs.Trees.{length-Items, length-Global}
+use Rattle.table_scopes.specs.Trees.{length-Items, length-Global, length-head}
 use Rattle.table_forms.specs.Tables.{read-held}
 
 abbrev pub Narrow : Judged Tree → Type 0
@@ -26,10 +26,6 @@ Narrow (accepted t) = Unit {0}
 Narrow (refused r) = (r .number ≤ 6) × (r .place ≤ 2048)
 
 -- ── how many entries a tree has ──
-length-head : (gs : List Global) → length (flatHead gs) ≡ total sizeGlobal gs
-unfolding flatHead total
-length-head [] = refl
-length-head (g ∷ gs) = omega (arith, length-append (flatGlobal g) (flatHead gs), length-Global g, length-head gs)
 
 entry-count : (l : List ℕ) (t : Tree) → readTable l ≡ accepted t → 1 + (total sizeGlobal (t .head) + sizeItems (t .items)) ≤ 2048
 unfolding flatten

@@ -28,6 +28,7 @@ use Rattle.table_scopes.specs.Trees.{length-map, typed-decls, length-Global, He
 use Rattle.table_scopes.specs.Sees.{Legible, Result, Matches, matches-append}
 use Rattle.table_scopes.specs.Once.{Rising, rising-later}
 use Rattle.table_scopes.specs.Defines.{headItems, head-items, number-here, span-here, one-small, items-small, head-matches, field-matches, head-rising, length-heads}
+use Rattle.language_laws.specs.Roots.{result-small}
 
 -- ── the items ──
 unfoldable pub itemsOf : ℕ → Global → List Item
@@ -38,14 +39,6 @@ itemsOf p (procedure a xs b) = item a 7 (256 * length xs + resultCode b) p ∷ [
 unfoldable pub globalItems : ℕ → List Global → List Item
 globalItems p [] = []
 globalItems p (g ∷ gs) = itemsOf p g ++ globalItems (p + sizeGlobal g) gs
-
--- "result 1, 2 or 3": the layout of the heading
-result-small : (n : ℕ) (b : Body) → leb ((256 * n + resultCode b) / 256) 8 ≡ true → resultCode b < 256
-result-small n (proper s) h = omega arith
-result-small n (function integer e) h = omega arith
-result-small n (function logical e) h = omega arith
-result-small n (function bits e) h = omega arith
-result-small n (function (reference c) e) h = absurd (let k = leb-true ((256 * n + (65536 + c)) / 256) 8 h in omega arith)
 
 pub heads-here : {l : List ℕ} (legible : Legible l) {p : ℕ} (g : Global) → Stands (entriesOf l) p (flatGlobal g) → Heads g
 unfolding flatGlobal Heads inLayout

@@ -28,7 +28,7 @@ use Rattle.table_scopes.specs.Trees.{length-map, typed-decls, length-Body, leng
 use Rattle.table_scopes.specs.Sees.{Sees}
 use Rattle.table_scopes.specs.Once.{OnceAll}
 use Rattle.table_scopes.specs.Defines.{OnceHead, seenHead, once-head, head-faults}
-use Rattle.table_scopes.specs.Once.{eqb-comm}
+use Rattle.logic.specs.Tests.{eqb-comm}
 use Rattle.table_types.specs.Types.{tyNum, code-some, is-number}
 use Rattle.table_types.specs.Settles.{Types}
 use Rattle.table_forms.specs.Forms.{formS, formE, form-expr, form-stmt, flat-S, flat-E, deep-S, deep-E, valid-S, valid-E, once-S, once-E, faults-S, faults-E, type-E, StmtForm, ExprForm}

@@ -18,7 +18,7 @@ use Rattle.language.specs.Tree.{proper, function, Global, local, class, procedu
 use Rattle.language.specs.Table as table
 use Rattle.language.specs.Table.{Entry, inLayout, took, stop, Reader, after, made, two, repeated, first, Below, itemsOf, itemsBelow, formDecl, below, bodyBelow, tyOfCode}
 use Rattle.language.specs.Table.{formGlobal, classCount, procedureCount, readHead, treeOf, formRoot, oneTree, readTable}
-use Rattle.logic.specs.Tests.{clash}
+use Rattle.logic.specs.Tests.{clash, and-false}
 use Rattle.language_laws.specs.Claims.{entriesOf}
 use Rattle.table_read.specs.declared.kinds.Sort.{Sort}
 use Rattle.table_read.specs.declared.kinds.Sort.the-variants.{Typed, Part, Stmt, Expr}
@@ -139,11 +139,7 @@ roots = record { ends = at }
         (if eqb (e .kind) 1 && b then moved 1 (onward (walkHead (e .a) 0 0 es) (λ n. chain (walk 63) (replicate (natAbs (e .b)) Part) (drop n es))) else Fault 0)
     here e es true =
         elim (ℕ-discrete (e .kind) 1) [ yes q ↦ rw (eq-eqb _ _ q) (whole e es) | no n ↦ rw (ne-eqb _ _ n) (ends-stop (e ∷ es)) ]
-    here e es false = rw (never (eqb (e .kind) 1)) (ends-stop (e ∷ es))
-      where
-        never : (b : Bool) → (b && false) ≡ false
-        never true = refl
-        never false = refl
+    here e es false = rw (and-false (eqb (e .kind) 1)) (ends-stop (e ∷ es))
 
     at : (es : List Entry) → Ends es (first formRoot es) (walkRoot es)
     at [] = ends-stop []

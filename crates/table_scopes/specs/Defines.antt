@@ -23,7 +23,7 @@ use Rattle.language.specs.Table.{Entry, entry, inLayout}
 use Rattle.language.specs.Names.{isVariable, isLabel, isClass, isField, isProcedure, definesTyped, definesHead, definesItems, definesFields, Scope, blockOf, expressionOf, nowhere, found, lookup}
 use Rattle.language.specs.Names as names
 use Rattle.language.specs.Faults.{twice, typeFaults, named, classSort, faultsTyped, faultsHead, namesHead, sizeS, sizeItems}
-use Rattle.logic.specs.Tests.{clash}
+use Rattle.logic.specs.Tests.{clash, or-false}
 use Rattle.language_laws.specs.Claims.{entriesOf}
 use Rattle.table_scopes.specs.declared.environment.Found.{Found}
 use Rattle.table_scopes.specs.declared.environment.Found.the-variants.{Nothing, Def}
@@ -238,10 +238,6 @@ unfolding among seenHead namesHead
 among-seen a [] seen = refl
 among-seen a (declare x ∷ ds) seen = among-seen a ds (x .name ∷ seen) ∙ or-shift (among a (namesHead ds)) (eqb a (x .name)) (among a seen)
 among-seen a (holding g ∷ ds) seen = among-seen a ds seen
-
-or-false : (x : Bool) → (x || false) ≡ x
-or-false true = refl
-or-false false = refl
 
 pub seen-names : (a : ℕ) (ds : List Decl) → among a (seenHead ds []) ≡ among a (namesHead ds)
 unfolding among

@@ -17,15 +17,12 @@ use Rattle.words.specs.Laws.{in-sets, out-sets}
 use Rattle.table_scopes.specs.declared.environment.Found.{Found}
 use Rattle.table_scopes.specs.declared.environment.Found.the-variants.{Nothing, Def}
 use Rattle.table_scopes.specs.Environment.{Item, item, nameOf, find, here, adding, addAll, envOf, passing, shut, Grown}
+use Rattle.logic.specs.Tests.{or-false}
 
 -- ── the item on top ──
 pub top-item : (l : List ℕ) (i : ℕ) → 0 < i → envOf l i ≡ item (getD l (4 * (i - 1)) 0) (getD l (4 * (i - 1) + 1) 0) (getD l (4 * (i - 1) + 2) 0) (getD l (4 * (i - 1) + 3) 0) ∷ envOf l (i - 1)
 unfolding envOf
 top-item l i h = let e : i ≡ suc (i - 1) = omega arith in ap (λ (m : ℕ). envOf l m) e
-
-or-false : (b : Bool) → (b || false) ≡ b
-or-false true = refl
-or-false false = refl
 
 passing-passing : (b d : Bool) (f : Found) → passing b (passing d f) ≡ passing (b || d) f
 passing-passing true d Nothing = refl

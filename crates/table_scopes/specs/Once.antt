@@ -16,6 +16,7 @@ use Rattle.table_scopes.specs.declared.environment.Found.the-variants.{N
 use Rattle.table_scopes.specs.Environment.{Item, item, nameOf, find, addAll, passing, shut}
 use Rattle.table_scopes.specs.EnvironmentLaws.{firstIn, orOuter, Small, find-block}
 use Rattle.table_scopes.specs.Flaws.{onceOf, onceFlaw}
+use Rattle.logic.specs.Tests.{eqb-comm}
 
 abbrev pub placeOf : Item → ℕ
 placeOf (item a s n q) = q
@@ -54,9 +55,6 @@ first-cons a (item b s n q) is = go (eqb b a)
     go : (x : Bool) → (if x then Def s n q false else firstIn a is) ≡ orOuter (if x then Def s n q false else Nothing) (firstIn a is)
     go true = refl
     go false = refl
-
-pub eqb-comm : (a b : ℕ) → eqb a b ≡ eqb b a
-eqb-comm a b = elim (ℕ-discrete a b) [ yes e ↦ eq-eqb a b e ∙ sym (eq-eqb b a (sym e)) | no e ↦ ne-eqb a b e ∙ sym (ne-eqb b a (λ z. e (sym z))) ]
 
 before-more : (f : ℕ → Found) (seen : List ℕ) (p : ℕ) (i : Item) → Before f seen p → p ≤ placeOf i → Before (more f i) (nameOf i ∷ seen) (suc (placeOf i))
 unfolding among firstIn

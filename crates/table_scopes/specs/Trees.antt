@@ -171,3 +171,8 @@ spans-Global (procedure a xs b) h =
     let e : length xs + 1 ≡ (256 * length xs + resultCode b) / 256 + 1 = omega arith in
     spans-one _ _ (spans-as (length xs + 1) ((256 * length xs + resultCode b) / 256 + 1) (map flatTyped xs ++ flatBody b)
     (spans-then (length xs) 1 (map flatTyped xs) (flatBody b) (spans-typed xs) (spans-Body b)) e)
+
+pub length-head : (gs : List Global) → length (flatHead gs) ≡ total sizeGlobal gs
+unfolding flatHead total
+length-head [] = refl
+length-head (g ∷ gs) = omega (arith, length-append (flatGlobal g) (flatHead gs), length-Global g, length-head gs)

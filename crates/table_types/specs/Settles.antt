@@ -18,7 +18,7 @@ use Rattle.language.specs.Tree.{Typed}
 use Rattle.language.specs.Names.{isVariable, isLabel, isClass, isField, isProcedure, types, Scope, nowhere, found, lookup}
 use Rattle.language.specs.Names as names
 use Rattle.language.specs.Faults.{variableTy, resultTy, fieldTy, isTy, sameTy, fitsTy, fitTys, mistypedUnless, named, variableSort, classSort, classFrom, fieldOf, callOf, aimed}
-use Rattle.logic.specs.Tests.{clash}
+use Rattle.logic.specs.Tests.{clash, eqb-comm}
 use Rattle.language_laws.specs.Claims.{entriesOf}
 use Rattle.table_scopes.specs.declared.environment.Found.{Found}
 use Rattle.table_scopes.specs.declared.environment.Found.the-variants.{Nothing, Def}
@@ -34,7 +34,6 @@ use Rattle.table_scopes.specs.Defines.{number-here}
 use Rattle.table_types.specs.Settle.{ifBoth, rightIf, sameAll, typesAt, typedBy, namedBy, namesBy, foundBy, settledBy, Within}
 use Rattle.table_types.specs.Operations.{Operation, numeral, truth, pattern, nullOf, variableOf, invokes, fieldAt, makes, calls, goesTo, unaryOp, binaryOp, chooses}
 use Rattle.table_types.specs.Operations.{reads, assigns, asserts, sets, kindOp, nameOp, Takes, sequence, operTy, gives, own}
-use Rattle.table_scopes.specs.Once.{eqb-comm}
 use Rattle.table_types.specs.Types.{tyNum, code-some, is-number, both-same, both-fit, unary-number, binary-number, arguments}
 
 -- an answer gives this type

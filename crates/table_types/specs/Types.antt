@@ -16,7 +16,7 @@ use Rattle.values.specs.Operators.{both, either, shiftLeft, shiftRight, unaryCo
 use Rattle.language.specs.Faults.{consTy, isTy, sameTy, fitsTy, fitTys}
 use Rattle.table_types.specs.Settle.{ifBoth, ifEither, operatedBy, sameAll}
 use Rattle.table_types.specs.Operations.{sequence, operTy}
-use Rattle.table_scopes.specs.Once.{eqb-comm}
+use Rattle.logic.specs.Tests.{eqb-comm}
 
 -- the number of a type, 0 for none
 abbrev pub tyNum : Option Ty → ℕ
