@@ -12,8 +12,6 @@ use Rattle.values.specs.Ends.{Refusal, refusal, accepted, refused}
 use Rattle.bytecode.specs.Macro.{Body, Code, Shape, shape, Macro, readMacro}
 use Rattle.bytecode.specs.Instructions.{Instr, call, bodyAt, inBody, instrAt}
 use Rattle.bytecode.specs.Rules.{bodyOf, effect, flow, faultAt, judgeMacro}
-use Rattle.logic.specs.Lists.{Each}
-use Rattle.logic.specs.ListLaws.{each-at}
 use Rattle.bytecode_laws.specs.Terms.{WellFormed, Narrow, Passed, Allowed, Follows, Does, Finds}
 use Rattle.bytecode_laws.specs.Judging.{accepts, refuses-9, refuses-8, refuses-only}
 use Rattle.bytecode_laws.specs.Reading.{reads}

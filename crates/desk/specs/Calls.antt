@@ -1,6 +1,6 @@
 -- A list of calls in the numbers that C sees: cue_start, and then a cue_run for each feed, on the bytes that the call before it left.
 -- cueStart and cueRun are what the contracts of cue_start and cue_run say (src/lent.rt).
-use mathlib.Core.Path.{_≡_, refl, sym, ap, _∙_}
+use mathlib.Core.Path.{_≡_, refl, ap, _∙_}
 use mathlib.Core.List.{List, [], _∷_, map}
 use Prim.Native.Nat.{ℕ, _%_}
 use native.Mathlib.Omega.{arith}

@@ -9,12 +9,12 @@ use lib.ListN.{length}
 use lib.Seq.{sets}
 use Rattle.logic.specs.Choice.{if_then_else_}
 use Rattle.words.specs.Laws.{Bytes}
-use Rattle.values.specs.Ends.{Refusal, refusal, Judged, accepted, refused}
+use Rattle.values.specs.Ends.{refusal, Judged, accepted, refused}
 use Rattle.language.specs.Tree.{Tree}
-use Rattle.language.specs.Judge.{Compiled, judgeTable, compileTree, writeMacro, compileRefused, compileOn}
+use Rattle.language.specs.Judge.{judgeTable, compileTree, writeMacro, compileRefused, compileOn}
 use Rattle.bytecode.specs.Answers.{Numbers, doneNumbers, refusalNumbers}
 use Rattle.language_laws.specs.Programs.{accepted-program}
-use Rattle.compile_code.specs.Encode.{compiled, macroOf}
+use Rattle.compile_code.specs.Encode.{macroOf}
 use Rattle.compile_macro.specs.Built.{writable, few-instructions}
 use Rattle.compile_order.specs.Order.{in-order}
 use Rattle.compile_bytes.specs.Room.{macro-most}

@@ -2,12 +2,12 @@
 use machine_ops::Event;
 use run::Ran;
 use values::Refusal;
-ghost use mathlib.Core.List.{_∷_, [], _++_};
+ghost use mathlib.Core.List.{_∷_, []};
 ghost use Prim.Native.Nat.{_+_, _≤_};
 ghost use lib.ListN.{length};
 ghost use Rattle.values.specs.Refusals.{refusalOf};
 ghost use Rattle.run.specs.Answers.{eventBack, answerOf};
-ghost use Rattle.listing_text.specs.Text.{decimal, numbers, line, eventLine, refusedLine, answerLine};
+ghost use Rattle.listing_text.specs.Text.{decimal, line, eventLine, refusedLine, answerLine};
 ghost use Rattle.listing_text.specs.Writing.{Puts};
 
 // A number in decimal.

@@ -3,7 +3,6 @@
 mod root;
 
 use load_places::Judged;
-use values::Refusal;
 pub use load_records::bad_head;
 pub use load_records::no_type;
 pub use load_records::scan;
@@ -15,6 +14,7 @@ pub use load_rules::instruction_at;
 pub use load_rules::is_bad;
 pub use load_rules::next_body;
 pub use root::root_at;
+use values::Refusal;
 ghost use mathlib.Core.Path.{_≡_};
 ghost use Rattle.bytecode.specs.Rules.{judgeMacro};
 ghost use Rattle.load_check.specs.Loaded.{loadedOf};

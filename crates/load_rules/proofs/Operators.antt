@@ -1,7 +1,7 @@
 -- The operators: what the test of their number that was made gives.
 use mathlib.Core.Path.{_≡_}
 use mathlib.Core.List.{List}
-use Prim.Native.Nat.{ℕ, _-_, _<_, _≤_}
+use Prim.Native.Nat.{ℕ, _<_, _≤_}
 use native.Mathlib.Omega.{arith}
 use borrow.Author.Tests.{lt-ltb, le-ltb}
 use Rattle.load_places.specs.Rules.{bad, need, topOf, trade1, trade2, twofold, operates}

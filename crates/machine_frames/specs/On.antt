@@ -1,6 +1,6 @@
 -- The bytes hold a running state, in which an activation stands at f: what is read there, and what each store makes of the state.
 -- A value v stands as its word w and its type byte t.
-use mathlib.Core.Path.{_≡_, refl, ap, _∙_}
+use mathlib.Core.Path.{_≡_, _∙_}
 use mathlib.Core.List.{List, [], _∷_, _++_}
 use mathlib.Core.Option.{some}
 use Prim.Native.Nat.{ℕ, suc, _+_, _*_, _-_, _≤_, _<_}

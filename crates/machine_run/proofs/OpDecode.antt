@@ -2,14 +2,13 @@
 use mathlib.Core.Path.{_≡_, refl, sym, subst}
 use mathlib.Core.Bool.{Bool, true, false, _&&_}
 use mathlib.Core.List.{List, [], _∷_}
-use mathlib.Core.Option.{Option, none, some}
+use mathlib.Core.Option.{none, some}
 use Prim.Native.Nat.{ℕ, zero, suc, _+_, _≤_, _<_}
 use native.Mathlib.Omega.{arith}
 use lib.Dec.{eqb, leb, ltb}
 use lib.ListN.{length}
 use borrow.Author.Tests.{ne-eqb, ltb-true, leb-true}
 use Rattle.bytecode.specs.Words.{logWord}
-use Rattle.logic.specs.Options.{keep}
 use Rattle.logic.specs.Choice.{if_then_else_}
 use Rattle.words.specs.Numbers.{integerOf}
 use Rattle.words.specs.Laws.{word-back}
@@ -23,7 +22,7 @@ use Rattle.bytecode.specs.Machine.{doFader, doTakeHold, letting, doAssert, act}
 use Rattle.bytecode.specs.Runs.{bankOf}
 use Rattle.machine_ops.specs.declared.Out.{Out}
 use Rattle.machine_ops.specs.Acts.{here, Tells, Pushes, Jumps}
-use Rattle.logic.specs.Tests.{never, halves}
+use Rattle.logic.specs.Tests.{halves}
 use Rattle.logic.specs.OptionLaws.{kept}
 use Rattle.machine_ops.proofs.RunningFacts.{demanded}
 use Rattle.machine_ops.specs.Moves.{TellsOf}

@@ -19,7 +19,7 @@ use Rattle.bytecode.specs.Macro.{Macro}
 use Rattle.bytecode.specs.Instructions.{Owner, own, root, Instr, end, push, load, store, operate, go, goUnless, call, return, make, getField, putField, setLevel}
 use Rattle.bytecode.specs.Instructions.{readFader, takeHold, letHold, assert, stop, cellTy, fieldTy, known, procedureAt}
 use Rattle.bytecode.specs.Machine.{Activation, Made, Shared, running, unwinding, ended, Stuck, noStep, badType, badRecord, badFrame, groupHeld, Stepped, moved, stuck}
-use Rattle.bytecode.specs.Machine.{demand, Here, at, withHolds, withRecords, fieldPut, cellsFor, onField, isEmpty, condition, goesOn, settled, pop, given, putLowest}
+use Rattle.bytecode.specs.Machine.{demand, Here, at, withHolds, withRecords, fieldPut, cellsFor, onField, isEmpty, condition, goesOn, settled, pop, given}
 use Rattle.bytecode.specs.Machine.{putTop, putCells, pushCell, popMany, recording, onMade, letting, handDown, doLoad, doStore, doOperate, doGoUnless, doReturn, doEnd}
 use Rattle.bytecode.specs.Machine.{doMake, doGetField, doPutField, doSet, doFader, doTakeHold, doAssert, doPush, act}
 use Rattle.machine_ops.specs.Acts.{here}

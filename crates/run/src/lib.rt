@@ -3,9 +3,9 @@ mod runs;
 mod starts;
 
 use machine_ops::Event;
-use values::Refusal;
 pub use runs::run;
 pub use starts::start;
+use values::Refusal;
 
 // The fresh state is written, or the start is refused.
 pub enum Started {

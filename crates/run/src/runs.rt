@@ -53,10 +53,7 @@ fn run_passed(
     let unread = refusal_unless(readings.len() == FADERS, 11);
     let number = first_of(unsound, unread);
     if number != 0 {
-        return Ran::Refused(Refusal {
-            number,
-            place: 0,
-        });
+        return Ran::Refused(Refusal { number, place: 0 });
     }
     state_write::clear(code, bx, cx, state);
     ran(machine_run::run_sound(code, bx, cx, base, state, readings, allowance))

@@ -7,7 +7,7 @@ use Prim.Native.Nat.{ℕ, zero, suc, _+_, _*_, _≤_, _<_}
 use native.Mathlib.Nat.{add-zero, zero-add}
 use native.Mathlib.Omega.{arith}
 use lib.Dec.{leb, ltb}
-use lib.ListN.{length, drop, take}
+use lib.ListN.{drop, take}
 use lib.Seq.{getD-drop, getD-take, drop-drop}
 use borrow.Author.Tests.{leb-true, ltb-true, ltb-false}
 use Rattle.logic.specs.Options.{keep}

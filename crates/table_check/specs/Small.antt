@@ -7,7 +7,7 @@ use native.Mathlib.Omega.{arith}
 use lib.Dec.{eqb, ltb}
 use lib.ListN.{length, length-append}
 use borrow.Author.Tests.{ltb-false}
-use Rattle.language.specs.Program.{flatItems, flatGlobal, flatHead, flatten, total}
+use Rattle.language.specs.Program.{flatItems, flatHead, flatten, total}
 use Rattle.logic.specs.Choice.{if_then_else_}
 use Rattle.values.specs.Ends.{Refusal, refusal, Judged, accepted, refused}
 use Rattle.language.specs.Tree.{Global, local, class, procedure, Tree}
@@ -18,7 +18,7 @@ use Rattle.language.specs.Judge.{firstFault, judgeTree, judgeTable}
 use Rattle.language_laws.specs.Claims.{entriesOf}
 use Rattle.language_laws.specs.Order.{first-fault}
 use Rattle.table_entries.specs.Entries.{length-entries}
-use Rattle.table_scopes.specs.Trees.{length-Items, length-Global, length-head}
+use Rattle.table_scopes.specs.Trees.{length-Items, length-head}
 use Rattle.table_forms.specs.Tables.{read-held}
 
 abbrev pub Narrow : Judged Tree → Type 0

@@ -2,7 +2,7 @@
 use mathlib.Core.Path.{_≡_, refl, sym, _∙_}
 use mathlib.Core.Bool.{true, false}
 use mathlib.Core.List.{List}
-use Prim.Native.Nat.{ℕ, _-_}
+use Prim.Native.Nat.{ℕ}
 use Rattle.words.specs.Numbers.{halfAt}
 use Rattle.language.specs.Names.{Scope}
 use Rattle.logic.specs.Tests.{clash}

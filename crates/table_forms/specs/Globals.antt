@@ -2,17 +2,16 @@
 use mathlib.Core.Path.{_≡_, refl, ap, sym, _∙_}
 use mathlib.Core.Bool.{Bool, true, false}
 use mathlib.Core.List.{List, [], _∷_, _++_, map, append-assoc}
-use Prim.Native.Nat.{ℕ, zero, suc, _+_, _-_, _*_, _/_, _%_, _≤_, _<_}
+use Prim.Native.Nat.{ℕ, zero, suc, _+_, _*_, _/_, _%_, _≤_, _<_}
 use native.Mathlib.Omega.{arith}
 use native.Mathlib.Nat.{add-zero}
 use native.Mathlib.Numerals.{add-one}
 use lib.Dec.{eqb, leb}
 use lib.IntN.{pos}
 use lib.ListN.{length, length-append}
-use borrow.Author.Tests.{leb-true}
 use Rattle.language.specs.Program.{flatTyped, flatDecl, resultCode, flatBody, flatGlobal, flatHead}
 use Rattle.logic.specs.Choice.{if_then_else_}
-use Rattle.values.specs.Types.{integer, logical, bits, reference, tyCode}
+use Rattle.values.specs.Types.{tyCode}
 use Rattle.language.specs.Tree.{declare, holding, Body, proper, function, Global, local, class, procedure}
 use Rattle.language.specs.Table.{entry, inLayout}
 use Rattle.language.specs.Names.{definesHead, definesFields, definesGlobals, results}

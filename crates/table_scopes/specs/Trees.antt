@@ -1,7 +1,7 @@
 -- The entries of a tree: how many they are, and that each part is spanned from its first.
 use mathlib.Core.Path.{_≡_, refl, ap}
 use mathlib.Core.List.{List, [], _∷_, _++_, map}
-use Prim.Native.Nat.{suc, _+_, _-_, _*_, _/_, _<_}
+use Prim.Native.Nat.{suc, _+_, _*_, _/_, _<_}
 use native.Mathlib.Omega.{arith}
 use lib.IntN.{pos}
 use lib.ListN.{length, length-append}

@@ -1,7 +1,7 @@
 -- What the proofs of the operators on integers cite: exact results by way of 64 bits, and those that stay within 32.
 -- A test for one integer is a fact of its bits, as wordOf has them. Assumes nothing.
 use mathlib.Core.Path.{_≡_, refl, sym, ap, _∙_}
-use mathlib.Core.Bool.{Bool, true, false, _&&_}
+use mathlib.Core.Bool.{Bool, true, false}
 use Prim.Native.Nat.{ℕ, zero, suc, _+_, _*_, _/_, _≤_, _<_}
 use native.Mathlib.Nat.{mul-le-mul, div-le-self, div-lt-self, div-one, mod-one}
 use native.Mathlib.Omega.{arith}

@@ -1,3 +1,4 @@
+-- `compile_bodies::procedures` meets its contract. Assumes nothing.
 use borrow.Author.Needs.{needs}
 use native.Mathlib.Omega.{arith}
 use Rattle.compile_whole.specs.Stage.{lentOf}

@@ -1,3 +1,4 @@
+-- `compile_emit::before_arm` meets its contract. Assumes nothing.
 use mathlib.Core.Path.{refl}
 use Prim.Native.Nat.{_+_}
 use lib.ListN.{length}

@@ -1,3 +1,4 @@
+-- `compile_emit::between` meets its contract. Assumes nothing.
 use Rattle.compile_output.specs.EmitRecord.{Fits}
 use borrow.Author.Tests.{ne-eqb}
 use mathlib.Core.Path.{refl}

@@ -1,3 +1,4 @@
+-- `compile_emit::declare_one` meets its contract. Assumes nothing.
 use borrow.Author.Tests.{ne-eqb}
 use mathlib.Core.Path.{refl, sym, _∙_}
 use lib.ListN.{length}

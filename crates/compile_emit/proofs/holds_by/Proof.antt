@@ -1,3 +1,4 @@
+-- `compile_emit::holds_by` meets its contract. Assumes nothing.
 use borrow.Author.Tests.{eq-eqb, ne-eqb}
 use Rattle.compile_emit.proofs.holds_by.Statement.{statement}
 use Rattle.compile_emit.proofs.holds_by.Tie as tie

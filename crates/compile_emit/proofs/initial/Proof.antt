@@ -1,3 +1,4 @@
+-- `compile_emit::initial` meets its contract. Assumes nothing.
 use borrow.Author.Tests.{lt-ltb, le-ltb}
 use borrow.Author.Needs.{needs}
 use Rattle.compile_emit.proofs.initial.Statement.{statement}

@@ -1,3 +1,4 @@
+-- `compile_emit::known_of` meets its contract. Assumes nothing.
 use mathlib.Core.Path.{sym}
 use borrow.Author.Needs.{needs}
 use Rattle.compile_emit.proofs.known_of.Statement.{statement}

@@ -1,3 +1,4 @@
+-- `compile_emit::last` meets its contract. Assumes nothing.
 use borrow.Author.Tests.{ne-eqb}
 use mathlib.Core.Path.{sym}
 use Rattle.compile_emit.specs.EmitEntry.{emitLast}

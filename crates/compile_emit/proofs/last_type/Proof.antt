@@ -1,3 +1,4 @@
+-- `compile_emit::last_type` meets its contract. Assumes nothing.
 use borrow.Author.Tests.{eq-eqb, ne-eqb}
 use Rattle.compile_emit.specs.EmitEntry.{lastType}
 use borrow.Author.Needs.{needs}

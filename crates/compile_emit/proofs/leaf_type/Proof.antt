@@ -1,3 +1,4 @@
+-- `compile_emit::leaf_type` meets its contract. Assumes nothing.
 use borrow.Author.Tests.{ne-eqb}
 use Rattle.compile_emit.specs.EmitEntry.{leafType}
 use borrow.Author.Needs.{needs}

@@ -1,3 +1,4 @@
+-- `compile_emit::names` meets its contract. Assumes nothing.
 use borrow.Author.Tests.{ne-eqb}
 use Rattle.compile_emit.specs.EmitEntry.{names}
 use Rattle.compile_emit.proofs.names.Statement.{statement}

@@ -1,3 +1,4 @@
+-- `compile_emit::owner` meets its contract. Assumes nothing.
 use borrow.Author.Needs.{needs}
 use Rattle.compile_emit.proofs.owner.Statement.{statement}
 use Rattle.compile_emit.proofs.owner.Tie as tie

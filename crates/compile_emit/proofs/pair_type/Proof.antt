@@ -1,3 +1,4 @@
+-- `compile_emit::pair_type` meets its contract. Assumes nothing.
 use borrow.Author.Tests.{lt-ltb, le-ltb}
 use Rattle.compile_emit.specs.EmitEntry.{pairType}
 use Rattle.compile_emit.proofs.pair_type.Statement.{statement}

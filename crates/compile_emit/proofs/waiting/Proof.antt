@@ -1,3 +1,4 @@
+-- `compile_emit::waiting` meets its contract. Assumes nothing.
 use borrow.Author.Tests.{lt-ltb, le-ltb}
 use Rattle.compile_emit.proofs.waiting.Statement.{statement}
 use Rattle.compile_emit.proofs.waiting.Tie as tie

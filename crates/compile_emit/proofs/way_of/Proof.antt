@@ -1,3 +1,4 @@
+-- `compile_emit::way_of` meets its contract. Assumes nothing.
 use borrow.Author.Tests.{eq-eqb, ne-eqb}
 use Rattle.compile_emit.specs.EmitEntry.{wayBy}
 use Rattle.compile_emit.proofs.way_of.Statement.{statement}

@@ -1,3 +1,4 @@
+-- `compile_symbols::counted` meets its contract. Assumes nothing.
 use native.Mathlib.Omega.{arith}
 use Rattle.compile_symbols.specs.Entries.{cells-few, one-few}
 use borrow.Author.Needs.{needs}

@@ -26,7 +26,6 @@ enum-told c = search needs
 
 list-runs-requires : tie.Need-list-runs-requires
 list-runs-requires c κs =
-    let at-before = c .before .before .before .before .before in
     let started = c .before .before .before .before .before .before in
     let known = started .before .before .before .before in
     let entry = known .before in

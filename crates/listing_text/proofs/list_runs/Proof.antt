@@ -48,7 +48,6 @@ steps c =
 
 loop-less : tie.Need-loop-less Inv-loop μ-loop
 loop-less c =
-    let at-before = c .before .before .before .before .before .before .before .before .before in
     let test = c .before .before .before .before .before .before .before .before .before .before in
     fewer (test .before .loop .goes) (test .before .loop .left) (c .event-steps .result) (test .loop-test .taken) (steps c)
 

@@ -1,4 +1,4 @@
--- `loader::load` meets its contract: the verdict over places is the verdict on the macro, and its numbers are small. Assumes nothing.
+-- `load_check::load` meets its contract: the verdict over places is the verdict on the macro, and its numbers are small. Assumes nothing.
 use borrow.Author.Needs.{needs}
 use mathlib.Core.Path.{_≡_, sym, ap, _∙_}
 use Prim.Native.Nat.{_<_}

@@ -1,4 +1,4 @@
--- `table::check` meets its contract: the table does not read, or it does and is judged. Assumes nothing.
+-- `table_check::check` meets its contract: the table does not read, or it does and is judged. Assumes nothing.
 use borrow.Author.Needs.{needs}
 use mathlib.Core.Path.{_≡_, sym, _∙_}
 use native.Mathlib.Omega.{arith}

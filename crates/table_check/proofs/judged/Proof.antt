@@ -1,4 +1,4 @@
--- `table::judged` meets its contract: the first fault, and where there is none the first limit, is the verdict. Assumes nothing.
+-- `table_check::judged` meets its contract: the first fault, and where there is none the first limit, is the verdict. Assumes nothing.
 use borrow.Author.Needs.{needs}
 use mathlib.Core.Path.{_≡_}
 use native.Mathlib.Omega.{arith}

@@ -12,19 +12,16 @@ put-word-requires c κs =
 
 put-number-requires : tie.Need-put-number-requires
 put-number-requires c κs =
-    let at-before = c .before .before .before .before .before .before in
     let entry = c .before .before .before .before .before .before .before in
     omega (arith, room-1 (entry .args .word .now) (entry .args .n))
 
 put-newline-requires : tie.Need-put-newline-requires
 put-newline-requires c κs =
-    let at-before = c .before .before .before .before .before .before .before .before .before .before in
     let entry = c .before .before .before .before .before .before .before .before .before .before .before in
     omega (arith, room-1 (entry .args .word .now) (entry .args .n))
 
 returns : tie.Need-returns
 returns c =
-    let at-before = c .before .before .before .before .before in
     let first = c .before .before .before .before .before .before in
     let word = first .before .before .before .before in
     let entry = word .before .before .before .before in

@@ -12,25 +12,21 @@ put-word-requires c κs =
 
 put-number-requires : tie.Need-put-number-requires
 put-number-requires c κs =
-    let at-before = c .before .before .before .before .before .before in
     let entry = c .before .before .before .before .before .before .before in
     omega (arith, room-2 (entry .args .word .now) (entry .args .m) (entry .args .n))
 
 put-number-requires-2 : tie.Need-put-number-requires-2
 put-number-requires-2 c κs =
-    let at-before = c .before .before .before .before .before .before .before .before .before .before in
     let entry = c .before .before .before .before .before .before .before .before .before .before .before in
     omega (arith, room-2 (entry .args .word .now) (entry .args .m) (entry .args .n))
 
 put-newline-requires : tie.Need-put-newline-requires
 put-newline-requires c κs =
-    let at-before = c .before .before .before .before .before .before .before .before .before .before .before .before .before .before in
     let entry = c .before .before .before .before .before .before .before .before .before .before .before .before .before .before .before in
     omega (arith, room-2 (entry .args .word .now) (entry .args .m) (entry .args .n))
 
 returns : tie.Need-returns
 returns c =
-    let at-before = c .before .before .before .before .before in
     let second = c .before .before .before .before .before .before in
     let first = second .before .before .before .before in
     let word = first .before .before .before .before in

@@ -11,7 +11,6 @@ same-length c = c .before .before .put-decimal .kept .0 ∙ simp length-set
 
 returns : tie.Need-returns
 returns c =
-    let at-before = c .before .before .before .before in
     let at-start = c .before .before .before .before .before in
     puts-number (at-start .args .text .now) (at-start .args .at) (at-start .args .n) _ _ (c .before .before .put-decimal .ensures)
 

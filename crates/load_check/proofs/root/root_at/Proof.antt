@@ -1,4 +1,4 @@
--- `loader::root::root_at` meets its contract. The loop has come to the place of the k-th class. Assumes nothing.
+-- `load_check::root::root_at` meets its contract. The loop has come to the place of the k-th class. Assumes nothing.
 use native.Mathlib.Omega.{arith}
 use mathlib.Core.Path.{_≡_}
 use Prim.Native.Nat.{_-_, _≤_}

@@ -1,4 +1,4 @@
--- `running::runs::first_of` meets its contract. Assumes nothing.
+-- `run::runs::first_of` meets its contract. Assumes nothing.
 use borrow.Author.Tests.{eq-eqb, ne-eqb}
 use Rattle.run.proofs.runs.first_of.Statement.{statement}
 use Rattle.run.proofs.runs.first_of.Tie as tie

@@ -1,4 +1,4 @@
--- `running::runs::ran` meets its contract. Assumes nothing.
+-- `run::runs::ran` meets its contract. Assumes nothing.
 use borrow.Author.Needs.{needs}
 use Rattle.run.proofs.runs.ran.Statement.{statement}
 use Rattle.run.proofs.runs.ran.Tie as tie

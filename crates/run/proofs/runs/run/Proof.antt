@@ -1,4 +1,4 @@
--- `running::runs::run` meets its contract. Assumes nothing.
+-- `run::runs::run` meets its contract. Assumes nothing.
 use borrow.Author.Needs.{needs}
 use native.Mathlib.Omega.{arith}
 use Rattle.run.specs.Fields.{judged-small}

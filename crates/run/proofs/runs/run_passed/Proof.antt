@@ -1,4 +1,4 @@
--- `running::runs::run_passed` meets its contract. Assumes nothing.
+-- `run::runs::run_passed` meets its contract. Assumes nothing.
 use borrow.Author.Needs.{needs}
 use Rattle.run.proofs.Told as law
 use Rattle.run.proofs.runs.run_passed.Statement.{statement}

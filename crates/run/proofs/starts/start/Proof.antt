@@ -1,4 +1,4 @@
--- `running::starts::start` meets its contract. Assumes nothing.
+-- `run::starts::start` meets its contract. Assumes nothing.
 use borrow.Author.Needs.{needs}
 use mathlib.Core.Path.{sym, _∙_}
 use Rattle.run.proofs.Starting as law

@@ -1,5 +1,5 @@
 -- `table_names::faults::class` meets its contract. Assumes nothing.
-use Prim.Native.Nat.{_+_, _-_}
+use Prim.Native.Nat.{_+_}
 use Rattle.words.specs.Numbers.{halfAt, wordAt}
 use Rattle.table_scopes.specs.Environment.{envOf}
 use Rattle.table_scopes.specs.Flaws.{onceFlaw, headFlaws, says-then, says-first}

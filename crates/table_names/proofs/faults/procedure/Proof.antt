@@ -1,6 +1,6 @@
 -- `table_names::faults::procedure` meets its contract. Assumes nothing.
 use native.Mathlib.Omega.{arith}
-use Prim.Native.Nat.{_+_, _-_, _/_}
+use Prim.Native.Nat.{_+_, _/_}
 use Rattle.table_scopes.specs.Environment.{item}
 use Rattle.table_scopes.specs.EnvironmentLaws.{grown-push}
 use Rattle.table_scopes.specs.Items.{itemsAt, grown-marked}

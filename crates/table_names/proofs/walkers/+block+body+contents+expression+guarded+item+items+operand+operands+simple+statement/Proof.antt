@@ -224,7 +224,6 @@ block-meets t =
     let at-enter = c .before .before .before .before .before .before in
     let at-b = at-enter .before .before in
     let at-a = at-b .before in
-    let at-start = at-a .before .before .before .before .before in
     block-judged (at-a .a-at .result) (at-b .b-at .result) (at-a .a-at .ensures, at-b .b-at .ensures) (at-enter .enter .ensures) (c .before .before .contents .ensures))
 
 body-meets : {M : Type 1} (t : ℕ) → body-lts.Closed (
@@ -438,7 +437,6 @@ body-meets t =
     let at-enter = at-contents .before .before .before .before in
     let at-b = at-enter .before .before in
     let at-a = at-b .before in
-    let at-start = at-a .before .before .before .before .before in
     body-judged (at-a .a-at .result) (at-b .b-at .result) (at-a .a-at .ensures, at-b .b-at .ensures) (at-enter .enter .ensures)
     (at-contents .contents .ensures) _ (at-spanned .spanned .result) (at-told .enum-told .given .1) (at-spanned .spanned .ensures)
     (c .before .before .expression .ensures))
@@ -450,7 +448,6 @@ body-meets t =
     let at-enter = c .before .before .before .before .before .before .before .before .before in
     let at-b = at-enter .before .before in
     let at-a = at-b .before in
-    let at-start = at-a .before .before .before .before .before in
     body-stop (at-a .a-at .result) (at-b .b-at .result) (at-a .a-at .ensures, at-b .b-at .ensures) (at-enter .enter .ensures) (at-contents .contents .ensures) _ _ (c .before .k .given .1))
 
 contents-meets : {M : Type 1} (t : ℕ) → contents-lts.Closed (head-reads.Asked, head-reads.Learnt, items-below t, items.Post) (contents-at t) contents.Post M

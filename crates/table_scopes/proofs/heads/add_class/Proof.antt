@@ -1,7 +1,7 @@
 -- `table_scopes::heads::add_class` meets its contract. Assumes nothing.
 use native.Mathlib.Omega.{arith}
 use lib.ListN.{length}
-use Prim.Native.Nat.{_+_, _-_}
+use Prim.Native.Nat.{_+_}
 use Rattle.table_scopes.specs.Items.{aAt, bAt, oneAt, itemsAt, grown-append, room-left, room-right}
 use borrow.Author.Needs.{needs}
 use Rattle.table_scopes.proofs.heads.add_class.Statement.{statement}

@@ -1,6 +1,5 @@
 -- `table_scopes::heads::add_global` meets its contract. Assumes nothing.
 use mathlib.Core.Path.{sym, _∙_}
-use Prim.Native.Nat.{_-_}
 use Rattle.table_scopes.specs.Items.{global-class, global-procedure, global-local}
 use borrow.Author.Needs.{needs}
 use Rattle.table_scopes.proofs.heads.add_global.Statement.{statement}

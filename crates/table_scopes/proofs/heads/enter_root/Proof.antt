@@ -1,7 +1,6 @@
 -- `table_scopes::heads::enter_root` meets its contract. Assumes nothing.
 use native.Mathlib.Omega.{arith}
 use mathlib.Core.List.{_++_}
-use Prim.Native.Nat.{_+_, _-_}
 use lib.ListN.{length-append}
 use Rattle.table_scopes.specs.Environment.{item}
 use Rattle.table_scopes.specs.EnvironmentLaws.{grown-push}
