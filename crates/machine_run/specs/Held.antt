@@ -25,9 +25,9 @@ use Rattle.machine_run.specs.declared.Answer.{Answer}
 use Rattle.machine_run.specs.declared.Answer.the-variants.{Happens, Spends, Finishes}
 
 -- where the bodies, the classes and the first instruction stand in the macro
-pub record Found (code bx cx : List ℕ) (base : ℕ) : Type 0 where
-  pub bodied : Bodied code bx
-  pub classed : Classed code cx
+pub record Found (code bodies classes : List ℕ) (base : ℕ) : Type 0 where
+  pub bodied : Bodied code bodies
+  pub classed : Classed code classes
   pub based : base ≡ codeBase code
   pub small : base < 65536
 

@@ -28,12 +28,12 @@ use Rattle.run.specs.Answers.{answerOf, ranOf, back-event}
 use Rattle.run.specs.Fields.{state-sound}
 use Rattle.run.specs.Order.{Seen}
 
-pub found : (c bx cx : List ℕ) (base : ℕ) → Bytes c → Placed c bx cx base → Found c bx cx base
-found c bx cx base B P = record { bodied = P .bodied; classed = P .classed; based = P .based; small = rw (P .based) (base-small c (P .bodied .well) B) }
+pub found : (c bodies classes : List ℕ) (base : ℕ) → Bytes c → Placed c bodies classes base → Found c bodies classes base
+found c bodies classes base B P = record { bodied = P .bodied; classed = P .classed; based = P .based; small = rw (P .based) (base-small c (P .bodied .well) B) }
 
 -- ── what the inspection told ──
-module _ (c l bx cx : List ℕ) (x : Inspected) (I : Inspects c l bx cx x) where
-  pub told-sound : (base : ℕ) → x ≡ Sound base → Held c l × Placed c bx cx base
+module _ (c l bodies classes : List ℕ) (x : Inspected) (I : Inspects c l bodies classes x) where
+  pub told-sound : (base : ℕ) → x ≡ Sound base → Held c l × Placed c bodies classes base
   told-sound base e = rw e at I
 
   pub told-unsound : x ≡ Unsound → NotHeld c l
@@ -92,26 +92,26 @@ module _ (c l readings : List ℕ) (allowance : ℕ) where
         run-held ∙ ends-in (ran .answer) (ran .state) k o (x .answer) (x .bytes)
 
   -- ── 10 before 11: u is the number of the one, v of the other, n of the first ──
-  module _ (bx cx : List ℕ) (base : ℕ) where
+  module _ (bodies classes : List ℕ) (base : ℕ) where
     ordered : (s t : Bool) (u v n : ℕ) → u ≡ cond s 0 10 → v ≡ cond t 0 11 → n ≡ cond (eqb u 0) v u → n ≡ cond s (cond t 0 11) 10
     ordered true t u v n eu ev en = en ∙ rw (eu, ev)
     ordered false t u v n eu ev en = en ∙ rw eu
 
-    pub refused-first : (s : Bool) → Seen c l bx cx base s → (u v n : ℕ) → u ≡ cond s 0 10 → v ≡ cond (eqb (length readings) 64) 0 11 → n ≡ cond (eqb u 0) v u → (n ≡ 0 → ⊥)
+    pub refused-first : (s : Bool) → Seen c l bodies classes base s → (u v n : ℕ) → u ≡ cond s 0 10 → v ≡ cond (eqb (length readings) 64) 0 11 → n ≡ cond (eqb u 0) v u → (n ≡ 0 → ⊥)
         → runOn c l readings allowance ≡ record { answer = refuses (refusal n 0); bytes = l }
     refused-first s S u v n eu ev en some = go s S (eqb (length readings) 64) refl (ordered s (eqb (length readings) 64) u v n eu ev en)
       where
-        go : (s : Bool) → Seen c l bx cx base s → (t : Bool) → eqb (length readings) 64 ≡ t → n ≡ cond s (cond t 0 11) 10
+        go : (s : Bool) → Seen c l bodies classes base s → (t : Bool) → eqb (length readings) 64 ≡ t → n ≡ cond s (cond t 0 11) 10
             → runOn c l readings allowance ≡ record { answer = refuses (refusal n 0); bytes = l }
         go true S true e h = absurd (some h)
         go true S false e h = rw h (run-unread (S .0) (eqb-false _ _ e))
         go false S t e h = rw h (run-unsound S)
 
-    pub none-first : (s : Bool) → Seen c l bx cx base s → (u v n : ℕ) → u ≡ cond s 0 10 → v ≡ cond (eqb (length readings) 64) 0 11 → n ≡ cond (eqb u 0) v u → n ≡ 0
-        → (Held c l × Placed c bx cx base) × (length readings ≡ 64)
+    pub none-first : (s : Bool) → Seen c l bodies classes base s → (u v n : ℕ) → u ≡ cond s 0 10 → v ≡ cond (eqb (length readings) 64) 0 11 → n ≡ cond (eqb u 0) v u → n ≡ 0
+        → (Held c l × Placed c bodies classes base) × (length readings ≡ 64)
     none-first s S u v n eu ev en none = go s S (eqb (length readings) 64) refl (ordered s (eqb (length readings) 64) u v n eu ev en)
       where
-        go : (s : Bool) → Seen c l bx cx base s → (t : Bool) → eqb (length readings) 64 ≡ t → n ≡ cond s (cond t 0 11) 10 → (Held c l × Placed c bx cx base) × (length readings ≡ 64)
+        go : (s : Bool) → Seen c l bodies classes base s → (t : Bool) → eqb (length readings) 64 ≡ t → n ≡ cond s (cond t 0 11) 10 → (Held c l × Placed c bodies classes base) × (length readings ≡ 64)
         go true S true e h = (S, eqb-true _ _ e)
         go true S false e h = absurd (omega arith)
         go false S t e h = absurd (omega arith)

@@ -6,5 +6,5 @@ use Rattle.state_check.specs.Inspecting.{Placed, Held, NotHeld}
 
 -- whether a sound state decodes from the bytes, and if so where things stand in the macro
 abbrev pub Seen : List ℕ → List ℕ → List ℕ → List ℕ → ℕ → Bool → Type 0
-Seen c l bx cx base true = Held c l × Placed c bx cx base
-Seen c l bx cx base false = NotHeld c l
+Seen c l bodies classes base true = Held c l × Placed c bodies classes base
+Seen c l bodies classes base false = NotHeld c l

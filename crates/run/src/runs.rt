@@ -38,15 +38,15 @@ fn first_of(a: u8, b: u8) -> u8
 // Of a macro that passes. What a sound state does not use is made 0 first, so that the bytes after the run are those of the state alone.
 fn run_passed(
     code: &[u8],
-    bx: &[u32],
-    cx: &[u32],
+    bodies: &[u32],
+    classes: &[u32],
     base: usize,
     sound: bool,
     state: &mut [u8],
     readings: &[u8],
     allowance: u16,
 ) -> Ran
-    requires { ⌜ Seen (now code) (now state) (now bx) (now cx) base sound ⌝ }
+    requires { ⌜ Seen (now code) (now state) (now bodies) (now classes) base sound ⌝ }
     ensures { λ r. ⌜ runOn (now (code .entry)) (now (state .entry)) (now (readings .entry)) allowance ≡ record { answer = answerOf r; bytes = now (state .exit) } ⌝ }
 {
     let unsound = refusal_unless(sound, 10);
@@ -55,25 +55,34 @@ fn run_passed(
     if number != 0 {
         return Ran::Refused(Refusal { number, place: 0 });
     }
-    state_write::clear(code, bx, cx, state);
-    ran(machine_run::run_sound(code, bx, cx, base, state, readings, allowance))
+    state_write::clear(code, bodies, classes, state);
+    ran(machine_run::run_sound(code, bodies, classes, base, state, readings, allowance))
 }
 
 pub fn run(code: &[u8], state: &mut [u8], readings: &[u8], allowance: u16) -> Ran
     ensures { λ r. ⌜ runOn (now (code .entry)) (now (state .entry)) (now (readings .entry)) allowance ≡ record { answer = answerOf r; bytes = now (state .exit) } ⌝ }
 {
-    let mut bx = [0u32; MAX_BODIES];
-    let mut cx = [0u32; MAX_CLASSES];
-    match state_check::inspect(code, state, &mut bx, &mut cx) {
+    let mut bodies = [0u32; MAX_BODIES];
+    let mut classes = [0u32; MAX_CLASSES];
+    match state_check::inspect(code, state, &mut bodies, &mut classes) {
         Inspected::Refused(number, place) => Ran::Refused(Refusal {
             number: number as u8,
             place: place as u32,
         }),
-        Inspected::Unsound => run_passed(code, &bx, &cx, 0, false, state, readings, allowance),
+        Inspected::Unsound => run_passed(
+            code,
+            &bodies,
+            &classes,
+            0,
+            false,
+            state,
+            readings,
+            allowance,
+        ),
         Inspected::Sound(base) => run_passed(
             code,
-            &bx,
-            &cx,
+            &bodies,
+            &classes,
             base,
             true,
             state,

@@ -8,7 +8,7 @@ returns : tie.Need-returns
 returns c =
     let at-start = c .before .before .before .before .before .before .before .before .before in
     law.refused-first (at-start .args .code .now) (at-start .args .state .now) (at-start .args .readings .now) (at-start .args .allowance)
-    (at-start .args .bx .now) (at-start .args .cx .now) (at-start .args .base) (at-start .args .sound) (at-start .pre) _ _ _
+    (at-start .args .bodies .now) (at-start .args .classes .now) (at-start .args .base) (at-start .args .sound) (at-start .pre) _ _ _
     (c .before .before .before .refusal-unless .ensures) (c .before .before .refusal-unless2 .ensures) (c .before .first-of .ensures) (c .if1 .taken)
 
 clear-requires : tie.Need-clear-requires
@@ -16,7 +16,7 @@ clear-requires c κs =
     let at-refusal-unless = c .before .before .before .before in
     let at-start = at-refusal-unless .before .before .before .before .before .before in
     let s = law.none-first (at-start .args .code .now) (at-start .args .state .now) (at-start .args .readings .now) (at-start .args .allowance)
-    (at-start .args .bx .now) (at-start .args .cx .now) (at-start .args .base) (at-start .args .sound) (at-start .pre) _ _ _
+    (at-start .args .bodies .now) (at-start .args .classes .now) (at-start .args .base) (at-start .args .sound) (at-start .pre) _ _ _
     (at-refusal-unless .refusal-unless .ensures) (c .before .before .before .refusal-unless2 .ensures) (c .before .before .first-of .ensures)
     (c .before .if1 .left) in
     (s .0 .0, s .0 .1 .bodied, s .0 .1 .classed)
@@ -30,7 +30,7 @@ run-sound-requires c κs =
     let at-shared-slice-known = at-refusal-unless .before .before .before .before .before in
     let at-start = at-shared-slice-known .before in
     let s = law.none-first (at-start .args .code .now) (at-start .args .state .now) (at-start .args .readings .now) (at-start .args .allowance)
-    (at-start .args .bx .now) (at-start .args .cx .now) (at-start .args .base) (at-start .args .sound) (at-start .pre) _ _ _
+    (at-start .args .bodies .now) (at-start .args .classes .now) (at-start .args .base) (at-start .args .sound) (at-start .pre) _ _ _
     (at-refusal-unless .refusal-unless .ensures) (at-refusal-unless2 .refusal-unless2 .ensures) (at-first-of .first-of .ensures) (at-if1 .if1 .left) in (
       law.found _ _ _ _ (λ k. at-shared-slice-known .shared-slice-known .given k .fits) (s .0 .1),
       law.held _ _ _ (λ k. at-shared-slice-known .shared-slice-known .given k .fits) (s .0 .0) (c .before .before .before .clear .ensures),
@@ -48,7 +48,7 @@ returns-2 c =
     let at-shared-slice-known = at-refusal-unless .before .before .before .before .before in
     let at-start = at-shared-slice-known .before in
     let s = law.none-first (at-start .args .code .now) (at-start .args .state .now) (at-start .args .readings .now) (at-start .args .allowance)
-    (at-start .args .bx .now) (at-start .args .cx .now) (at-start .args .base) (at-start .args .sound) (at-start .pre) _ _ _
+    (at-start .args .bodies .now) (at-start .args .classes .now) (at-start .args .base) (at-start .args .sound) (at-start .pre) _ _ _
     (at-refusal-unless .refusal-unless .ensures) (at-refusal-unless2 .refusal-unless2 .ensures) (at-first-of .first-of .ensures) (at-if1 .if1 .left) in
     rw (c .ran .ensures) (law.run-told _ _ _ _ (s .0 .0) _ _ (at-run-sound .run-sound .result)
     (λ k. at-shared-slice-known .shared-slice-known .given k .fits) (at-clear .clear .ensures) (at-run-sound .run-sound .ensures))
