@@ -16,7 +16,6 @@ use Rattle.table_scopes.specs.Environment.{envOf, shut}
 use Rattle.table_scopes.specs.Stands.{Stands, stands-left, stands-within, length-entries}
 use Rattle.table_scopes.specs.Trees.{length-map, length-Items}
 use Rattle.table_scopes.specs.Defines.{heads-stand}
-use Rattle.table_scopes.specs.Defines as defines
 use Rattle.table_forms.specs.Steps.{table-next}
 use Rattle.compile_code.specs.Code.{Code, _▸_, At, at, after}
 use Rattle.compile_code.specs.Compile.{Around, inside, held, labels, scopesOf, heldIn, codeItems, codeE}

@@ -1,3 +1,4 @@
+-- `compile_emit::end_of` meets its contract. Assumes nothing.
 use mathlib.Core.Path.{refl, sym}
 use Prim.Native.Nat.{_≤_}
 use lib.ListN.{length, List·getD-eq-default}
@@ -5,8 +6,6 @@ use native.Mathlib.Omega.{arith}
 use borrow.Author.Needs.{needs}
 use Rattle.compile_emit.proofs.end_of.Statement.{statement}
 use Rattle.compile_emit.proofs.end_of.Tie as tie
-use Rattle.compile_emit.proofs.end_of.Reads as reads
-use Rattle.compile_emit.proofs.end_of.Lts as lts
 
 cast-result : tie.Need-cast-result
 cast-result c = omega (arith, c .shared-slice-known .given (c .before .before .args .place))

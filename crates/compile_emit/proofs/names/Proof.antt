@@ -1,9 +1,8 @@
+-- `compile_emit::names` meets its contract. Assumes nothing.
 use borrow.Author.Tests.{ne-eqb}
 use Rattle.compile_emit.specs.EmitEntry.{names}
 use Rattle.compile_emit.proofs.names.Statement.{statement}
 use Rattle.compile_emit.proofs.names.Tie as tie
-use Rattle.compile_emit.proofs.names.Reads as reads
-use Rattle.compile_emit.proofs.names.Lts as lts
 
 returns : tie.Need-returns
 unfolding names

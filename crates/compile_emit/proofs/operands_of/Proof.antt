@@ -1,3 +1,4 @@
+-- `compile_emit::operands_of` meets its contract. Assumes nothing.
 use borrow.Author.Tests.{ne-eqb}
 use Rattle.compile_emit.specs.EmitEntry.{operandsBy}
 use Rattle.compile_emit.proofs.operands_of.Statement.{statement}

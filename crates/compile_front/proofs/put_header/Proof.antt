@@ -1,3 +1,4 @@
+-- `compile_front::put_header` meets its contract. Assumes nothing.
 use mathlib.Core.Path.{_∙_, ap}
 use native.Mathlib.Omega.{arith}
 use lib.ListN.{length, length-set}

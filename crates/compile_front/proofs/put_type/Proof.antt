@@ -1,3 +1,4 @@
+-- `compile_front::put_type` meets its contract. Assumes nothing.
 use mathlib.Core.Path.{sym, _∙_, ap}
 use native.Mathlib.Omega.{arith}
 use Rattle.compile_front.specs.Leaves.{put-some, put-none, type-room}

@@ -1,3 +1,4 @@
+-- `compile_symbols::cells_of` meets its contract. Assumes nothing.
 use borrow.Author.Tests.{ne-eqb}
 use Rattle.compile_symbols.proofs.cells_of.Statement.{statement}
 use Rattle.compile_symbols.proofs.cells_of.Tie as tie

@@ -1,3 +1,4 @@
+-- `compile_symbols::known_at` meets its contract. Assumes nothing.
 use mathlib.Core.Path.{sym}
 use borrow.Author.Needs.{needs}
 use Prim.Native.Nat.{_≤_}

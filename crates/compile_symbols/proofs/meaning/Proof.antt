@@ -1,3 +1,4 @@
+-- `compile_symbols::meaning` meets its contract. Assumes nothing.
 use mathlib.Core.Path.{sym}
 use borrow.Author.Needs.{needs}
 use Rattle.compile_symbols.proofs.meaning.Statement.{statement}

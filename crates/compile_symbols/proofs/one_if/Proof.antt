@@ -1,3 +1,4 @@
+-- `compile_symbols::one_if` meets its contract. Assumes nothing.
 use borrow.Author.Tests.{eq-eqb, ne-eqb}
 use Rattle.compile_symbols.proofs.one_if.Statement.{statement}
 use Rattle.compile_symbols.proofs.one_if.Tie as tie
