@@ -14,7 +14,6 @@ ghost use Rattle.compile_output.specs.EmitCode.{cursorAfter, emitted, within};
 ghost use Rattle.compile_symbols.specs.Tabled.{theTree, Headed};
 ghost use Rattle.compile_whole.specs.Heads.{rootHead};
 ghost use Rattle.compile_whole.specs.Stage.{Prepared, lentOf};
-ghost use Rattle.compile_whole.specs.Declares.{holdsOf};
 ghost use Rattle.compile_whole.specs.Procs.{AsksProc, AnswersProc};
 ghost use Rattle.compile_whole.specs.Loop.{AsksGlobal, AnswersGlobal, AsksProcs, AnswersProcs};
 ghost use Rattle.compile_whole.specs.Walks.{AsksRoot, AnswersRoot, AsksWalk, AnswersWalk};
@@ -28,7 +27,8 @@ fn declare_globals(
     out: &mut [u8],
     cursor: Cursor,
 ) -> Cursor
-    requires { ⌜ Prepared (theTree (now table)) (now table) (now sizes) (now known) × (count ≡ length (theTree (now table) .head)) × Fits (cursorAfter (rootHead (theTree (now table))) cursor) (length (now out)) ⌝ }
+    requires { ⌜ Prepared (theTree (now table)) (now table) (now sizes) (now known) × (count ≡ length (theTree (now table) .head))
+        × Fits (cursorAfter (rootHead (theTree (now table))) cursor) (length (now out)) ⌝ }
     ensures { λ r. ⌜ (r ≡ cursorAfter (rootHead (theTree (now (table .entry)))) cursor) × (now (out .exit) ≡ emitted (rootHead (theTree (now (table .entry)))) cursor (now (out .entry))) ⌝ }
 {
     let mut place = 1;
@@ -44,12 +44,6 @@ fn declare_globals(
     p
 }
 
-fn holds_of(kind: u16) -> usize
-    ensures { λ r. ⌜ r ≡ holdsOf kind ⌝ }
-{
-    if kind == KIND_HOLD { 1 } else { 0 }
-}
-
 // How many of them are holds.
 fn root_holds(table: &[u8], count: usize, sizes: &[u16]) -> usize
     requires { ⌜ Headed (now table) (now sizes) count ⌝ }
@@ -59,7 +53,7 @@ fn root_holds(table: &[u8], count: usize, sizes: &[u16]) -> usize
     let mut left = count;
     let mut n = 0;
     while 0 < left {
-        n += holds_of(table_scopes::kind_at(table, place));
+        n += compile_emit::holds_by(table_scopes::kind_at(table, place));
         place += table_scopes::size_at(sizes, place);
         left -= 1;
     }
@@ -82,7 +76,8 @@ fn root(
     cursor: Cursor,
 ) -> Cursor
     requires { ⌜ AsksRoot (now table) count after (now sizes) (lentOf (now env) (now ends) (now stack) (now out)) top (now known) (now aims) cursor ⌝ }
-    ensures { λ r. ⌜ AnswersRoot (now (table .entry)) (lentOf (now (env .entry)) (now (ends .entry)) (now (stack .entry)) (now (out .entry))) (lentOf (now (env .exit)) (now (ends .exit)) (now (stack .exit)) (now (out .exit))) top cursor r ⌝ }
+    ensures { λ r. ⌜ AnswersRoot (now (table .entry)) (lentOf (now (env .entry)) (now (ends .entry)) (now (stack .entry)) (now (out .entry)))
+        (lentOf (now (env .exit)) (now (ends .exit)) (now (stack .exit)) (now (out .exit))) top cursor r ⌝ }
 {
     let items = words::word_at(table, B_AT) as usize;
     let held = root_holds(table, count, sizes);
@@ -126,7 +121,9 @@ fn procedure(
     cursor: Cursor,
 ) -> Cursor
     requires { ⌜ AsksProc (now table) (now part) at (now sizes) (now env) top (now known) (now aims) (now ends) (now stack) (now out) cursor ⌝ }
-    ensures { λ r. ⌜ AnswersProc (now (table .entry)) (now (part .entry)) at (now (sizes .entry)) (lentOf (now (env .entry)) (now (ends .entry)) (now (stack .entry)) (now (out .entry))) (lentOf (now (env .exit)) (now (ends .exit)) (now (stack .exit)) (now (out .exit))) top (now (known .entry)) (now (aims .entry)) cursor r ⌝ }
+    ensures { λ r. ⌜ AnswersProc (now (table .entry)) (now (part .entry)) at (now (sizes .entry))
+        (lentOf (now (env .entry)) (now (ends .entry)) (now (stack .entry)) (now (out .entry)))
+        (lentOf (now (env .exit)) (now (ends .exit)) (now (stack .exit)) (now (out .exit))) top (now (known .entry)) (now (aims .entry)) cursor r ⌝ }
 {
     let heading = words::word_at(part, B_AT);
     let parameters = heading as usize / 256;
@@ -189,7 +186,9 @@ fn global(
     cursor: Cursor,
 ) -> Cursor
     requires { ⌜ AsksGlobal (now table) (now part) at (now sizes) (lentOf (now env) (now ends) (now stack) (now out)) top (now known) (now aims) cursor ⌝ }
-    ensures { λ r. ⌜ AnswersGlobal (now (table .entry)) (now (part .entry)) at (now (sizes .entry)) (lentOf (now (env .entry)) (now (ends .entry)) (now (stack .entry)) (now (out .entry))) (lentOf (now (env .exit)) (now (ends .exit)) (now (stack .exit)) (now (out .exit))) top (now (known .entry)) (now (aims .entry)) cursor r ⌝ }
+    ensures { λ r. ⌜ AnswersGlobal (now (table .entry)) (now (part .entry)) at (now (sizes .entry))
+        (lentOf (now (env .entry)) (now (ends .entry)) (now (stack .entry)) (now (out .entry)))
+        (lentOf (now (env .exit)) (now (ends .exit)) (now (stack .exit)) (now (out .exit))) top (now (known .entry)) (now (aims .entry)) cursor r ⌝ }
 {
     if words::half_at(part, KIND_AT) == KIND_PROCEDURE {
         return procedure(
@@ -224,7 +223,8 @@ fn procedures(
     cursor: Cursor,
 ) -> Cursor
     requires { ⌜ AsksProcs (now table) count (now sizes) (lentOf (now env) (now ends) (now stack) (now out)) top (now known) (now aims) cursor ⌝ }
-    ensures { λ r. ⌜ AnswersProcs (now (table .entry)) (lentOf (now (env .entry)) (now (ends .entry)) (now (stack .entry)) (now (out .entry))) (lentOf (now (env .exit)) (now (ends .exit)) (now (stack .exit)) (now (out .exit))) top cursor r ⌝ }
+    ensures { λ r. ⌜ AnswersProcs (now (table .entry)) (lentOf (now (env .entry)) (now (ends .entry)) (now (stack .entry)) (now (out .entry)))
+        (lentOf (now (env .exit)) (now (ends .exit)) (now (stack .exit)) (now (out .exit))) top cursor r ⌝ }
 {
     let mut place = 1;
     let mut left = count;
@@ -281,7 +281,8 @@ pub fn walk(
     cursor: Cursor,
 ) -> Cursor
     requires { ⌜ AsksWalk (now table) count after (now sizes) (now env) top (now known) (now aims) (now ends) (now out) cursor × (32 ≤ length (now stack)) ⌝ }
-    ensures { λ r. ⌜ AnswersWalk (now (table .entry)) (lentOf (now (env .entry)) (now (ends .entry)) (now (stack .entry)) (now (out .entry))) (lentOf (now (env .exit)) (now (ends .exit)) (now (stack .exit)) (now (out .exit))) top cursor r ⌝ }
+    ensures { λ r. ⌜ AnswersWalk (now (table .entry)) (lentOf (now (env .entry)) (now (ends .entry)) (now (stack .entry)) (now (out .entry)))
+        (lentOf (now (env .exit)) (now (ends .exit)) (now (stack .exit)) (now (out .exit))) top cursor r ⌝ }
 {
     let p = root(
         table,

@@ -20,7 +20,8 @@ use Rattle.compile_code.specs.Encode.{Part, codeRoot, codeProc, procParts, part
 use Rattle.compile_output.specs.declared.Cursor.{Cursor}
 use Rattle.compile_output.specs.EmitCode.{cursorAfter, emitted}
 use Rattle.compile_bytes.specs.Stores.{sets-join, sets-comm, each-length}
-use Rattle.compile_bytes.specs.Lines.{past, noted, waitsAfter, cursorLine, emitLine, cursorEarly, emittedEarly, early-waits, early-dry, cursor-early, emitted-early, cursorLines, emitLines, cursor-lines, emit-lines}
+use Rattle.compile_bytes.specs.Lines.{past, noted, waitsAfter, cursorLine, emitLine, cursorEarly, emittedEarly, early-waits, early-dry, cursor-early, emitted-early}
+use Rattle.compile_bytes.specs.Lines.{cursorLines, emitLines, cursor-lines, emit-lines}
 
 -- ── the bytes of lines ──
 abbrev pub codeIn : List Line → List ℕ

@@ -37,7 +37,8 @@ fits-mark {p} n d f = fits-before n (later-shaped d p) f
 pub op-fits : (f : Cursor → Cursor) (p : Cursor) (l : List ℕ) (k a b : ℕ) {q : Cursor} {m : List ℕ} → (q ≡ moved p) × (m ≡ emitOp p l k a b) → Fits (f (moved p)) (length l) → Fits (f q) (length m)
 op-fits f p l k a b e h = rw (e .0, e .1, length-emit p l k a b) h
 
-pub mark-fits : (f : Cursor → Cursor) (p : Cursor) (l : List ℕ) (h d : ℕ) (ts : List ℕ) {q : Cursor} {m : List ℕ} → (q ≡ cursorShaped d p) × (m ≡ emitShape p l h d ts) → Fits (f (cursorShaped d p)) (length l)
+pub mark-fits : (f : Cursor → Cursor) (p : Cursor) (l : List ℕ) (h d : ℕ) (ts : List ℕ) {q : Cursor} {m : List ℕ} → (q ≡ cursorShaped d p)
+    × (m ≡ emitShape p l h d ts) → Fits (f (cursorShaped d p)) (length l)
     → Fits (f q) (length m)
 mark-fits f p l h d ts e g = rw (e .0, e .1, length-shape p l h d ts) g
 

@@ -11,7 +11,10 @@ ghost use Rattle.words.specs.Numbers.{halfAt};
 ghost use Rattle.table_scopes.specs.Environment.{envOf, Grown};
 ghost use Rattle.compile_symbols.specs.Meaning.{meaningOf};
 ghost use Rattle.compile_output.specs.EmitRecord.{moved, Fits};
-ghost use Rattle.compile_emit.specs.EmitEntry.{names, knownFor, ownerBy, emitLeaf, leafType, operandsBy, emitLast, lastType, emitInitial, cursorDeclared, emitDeclared, cursorHead, emitHead, finishes, holdsBy, holdsHead, wayBy, waitingBy, cursorBetween, emitBetween, cursorBehind, emitBehind, pairType, cursorBefore, emitBefore, cursorBehindArm, emitBehindArm, cursorGoto, emitGoto};
+ghost use Rattle.compile_emit.specs.EmitEntry.{names, knownFor, ownerBy, emitLeaf, leafType, operandsBy, emitLast, lastType, emitInitial};
+ghost use Rattle.compile_emit.specs.EmitEntry.{cursorDeclared, emitDeclared, cursorHead, emitHead, finishes, holdsBy, holdsHead, wayBy};
+ghost use Rattle.compile_emit.specs.EmitEntry.{waitingBy, cursorBetween, emitBetween, cursorBehind, emitBehind, pairType, cursorBefore};
+ghost use Rattle.compile_emit.specs.EmitEntry.{emitBefore, cursorBehindArm, emitBehindArm, cursorGoto, emitGoto};
 ghost use Rattle.compile_scopes.specs.Marks.{marks};
 ghost use Rattle.compile_emit.specs.Opens.{OpenAsks, OpenGives};
 ghost use Rattle.compile_nodes.specs.Knows.{passedTo};
@@ -170,7 +173,8 @@ fn initial(ty: u8, out: &mut [u8], p: Cursor) -> Cursor
 // One declaration of a head; classes and procedures have no code there.
 pub fn declare_one(part: &[u8], known: u32, out: &mut [u8], p: Cursor) -> Cursor
     requires { ⌜ (8 ≤ length (now part)) × Fits (cursorDeclared (halfAt (now part) 0) p) (length (now out)) ⌝ }
-    ensures { λ r. ⌜ (r ≡ cursorDeclared (halfAt (now (part .entry)) 0) p) × (now (out .exit) ≡ emitDeclared (halfAt (now (part .entry)) 0) (halfAt (now (part .entry)) 2) known p (now (out .entry))) ⌝ }
+    ensures { λ r. ⌜ (r ≡ cursorDeclared (halfAt (now (part .entry)) 0) p)
+        × (now (out .exit) ≡ emitDeclared (halfAt (now (part .entry)) 0) (halfAt (now (part .entry)) 2) known p (now (out .entry))) ⌝ }
 {
     let kind = words::half_at(part, KIND_AT);
     match kind {
@@ -194,7 +198,9 @@ pub fn declare(
     cursor: Cursor,
 ) -> Cursor
     requires { ⌜ (8 * count ≤ length (now part)) × (at + count ≤ length (now ends)) × Fits (cursorHead (now part) count cursor) (length (now out)) ⌝ }
-    ensures { λ r. ⌜ (r ≡ cursorHead (now (part .entry)) count cursor) × (now (out .exit) ≡ emitHead (now (part .entry)) (now (known .entry)) at count cursor (now (out .entry))) × (now (ends .exit) ≡ sets (now (ends .entry)) at (finishes (now (part .entry)) count cursor)) ⌝ }
+    ensures { λ r. ⌜ (r ≡ cursorHead (now (part .entry)) count cursor)
+        × (now (out .exit) ≡ emitHead (now (part .entry)) (now (known .entry)) at count cursor (now (out .entry)))
+        × (now (ends .exit) ≡ sets (now (ends .entry)) at (finishes (now (part .entry)) count cursor)) ⌝ }
 {
     let mut i = 0;
     let mut p = cursor;
@@ -208,7 +214,7 @@ pub fn declare(
 }
 
 // How many holds a declaration of this kind takes.
-fn holds_by(kind: u16) -> usize
+pub fn holds_by(kind: u16) -> usize
     ensures { λ r. ⌜ r ≡ holdsBy kind ⌝ }
 {
     if kind == KIND_HOLD { 1 } else { 0 }
@@ -266,7 +272,8 @@ pub fn open_block(
     cursor: Cursor,
 ) -> Opened
     requires { ⌜ OpenAsks (now table) (now part) at heads count (now sizes) (now env) top (now ends) (now out) cursor ⌝ }
-    ensures { λ r. ⌜ OpenGives mark (now (table .entry)) (now (part .entry)) at heads count (now (env .entry)) top (now (known .entry)) (now (ends .entry)) (now (out .entry)) cursor r (now (env .exit)) (now (ends .exit)) (now (out .exit)) ⌝ }
+    ensures { λ r. ⌜ OpenGives mark (now (table .entry)) (now (part .entry)) at heads count (now (env .entry)) top (now (known .entry))
+        (now (ends .entry)) (now (out .entry)) cursor r (now (env .exit)) (now (ends .exit)) (now (out .exit)) ⌝ }
 {
     let holds = holds_in(part, heads);
     mark_holds(env, top, holds);
@@ -325,8 +332,11 @@ pub fn goto(
     out: &mut [u8],
     cursor: Cursor,
 ) -> Cursor
-    requires { ⌜ (4 * top ≤ length (now env)) × (depth ≤ length (now stack)) × (depth < 256) × (holds < 256) × Fits (cursorGoto (passedTo name (envOf (now env) top)) depth cursor) (length (now out)) ⌝ }
-    ensures { λ r. ⌜ (r ≡ cursorGoto (passedTo name (envOf (now (env .entry)) top)) depth cursor) × (now (out .exit) ≡ emitGoto (passedTo name (envOf (now (env .entry)) top)) (meaningOf name (envOf (now (env .entry)) top) (now (aims .entry))) holds (now (stack .entry)) depth cursor (now (out .entry))) ⌝ }
+    requires { ⌜ (4 * top ≤ length (now env)) × (depth ≤ length (now stack)) × (depth < 256) × (holds < 256)
+        × Fits (cursorGoto (passedTo name (envOf (now env) top)) depth cursor) (length (now out)) ⌝ }
+    ensures { λ r. ⌜ (r ≡ cursorGoto (passedTo name (envOf (now (env .entry)) top)) depth cursor)
+        × (now (out .exit) ≡ emitGoto (passedTo name (envOf (now (env .entry)) top))
+        (meaningOf name (envOf (now (env .entry)) top) (now (aims .entry))) holds (now (stack .entry)) depth cursor (now (out .entry))) ⌝ }
 {
     let l = land(env, top, name as u32, aims);
     let p = compile_output::releases(out, cursor, l.passed);

@@ -16,7 +16,8 @@ ghost use Rattle.compile_symbols.specs.Tabled.{Headed, Within, between, partAt}
 ghost use Rattle.compile_front.specs.Told.{TypesKnown};
 ghost use Rattle.compile_front.specs.Bodies.{bodyOf};
 ghost use Rattle.compile_front.specs.Writing.{Wrote};
-ghost use Rattle.compile_front.specs.Front.{bodyHead, typeAt, typesBetween, classAt, bodyAt, Brief, firstAfter, afterHead, rootTypes, classesFront, variablesFront, procsFront, Ended, Measuring, Fronted};
+ghost use Rattle.compile_front.specs.Front.{bodyHead, typeAt, typesBetween, classAt, bodyAt, Brief, firstAfter, afterHead, rootTypes};
+ghost use Rattle.compile_front.specs.Front.{classesFront, variablesFront, procsFront, Ended, Measuring, Fronted};
 
 // How many of the entries from a place to another have a type: each is one byte of a CL or BD record.
 fn typed_in(table: &[u8], from: usize, to: usize) -> usize
@@ -87,7 +88,8 @@ fn put_class(
     out: &mut [u8],
     at: usize,
 ) -> usize
-    requires { ⌜ TypesKnown (now table) (now known) × (place < end) × (end ≤ length (now table) / 8) × (end ≤ place + 256) × (at + (3 + length (typesBetween (now table) (place + 1) end)) ≤ length (now out)) ⌝ }
+    requires { ⌜ TypesKnown (now table) (now known) × (place < end) × (end ≤ length (now table) / 8) × (end ≤ place + 256)
+        × (at + (3 + length (typesBetween (now table) (place + 1) end)) ≤ length (now out)) ⌝ }
     ensures { λ r. ⌜ Wrote (now (out .entry)) at (67 ∷ 76 ∷ (end - (place + 1)) ∷ typesBetween (now (table .entry)) (place + 1) end) (now (out .exit)) r ⌝ }
 {
     out[at] = b'C';
@@ -105,7 +107,8 @@ fn put_if_class(
     out: &mut [u8],
     at: usize,
 ) -> usize
-    requires { ⌜ TypesKnown (now table) (now known) × Within (now table) (now sizes) place × (halfAt (now table) (8 * place) ≡ 11 → getD (now sizes) place 0 ≤ 256) × (at + length (classAt (now table) (now sizes) place) ≤ length (now out)) ⌝ }
+    requires { ⌜ TypesKnown (now table) (now known) × Within (now table) (now sizes) place
+        × (halfAt (now table) (8 * place) ≡ 11 → getD (now sizes) place 0 ≤ 256) × (at + length (classAt (now table) (now sizes) place) ≤ length (now out)) ⌝ }
     ensures { λ r. ⌜ Wrote (now (out .entry)) at (classAt (now (table .entry)) (now (sizes .entry)) place) (now (out .exit)) r ⌝ }
 {
     if table_scopes::kind_at(table, place) == KIND_CLASS {
@@ -184,7 +187,8 @@ fn put_root(
     out: &mut [u8],
     at: usize,
 ) -> usize
-    requires { ⌜ Headed (now table) (now sizes) count × TypesKnown (now table) (now known) × (after ≡ afterHead (now table)) × (length (rootTypes (now table)) ≤ 255) × (at + (7 + length (rootTypes (now table))) ≤ length (now out)) ⌝ }
+    requires { ⌜ Headed (now table) (now sizes) count × TypesKnown (now table) (now known) × (after ≡ afterHead (now table))
+        × (length (rootTypes (now table)) ≤ 255) × (at + (7 + length (rootTypes (now table))) ≤ length (now out)) ⌝ }
     ensures { λ r. ⌜ Wrote (now (out .entry)) at (bodyOf 0 0 0 (rootTypes (now (table .entry)))) (now (out .exit)) r ⌝ }
 {
     let types = put_variables(table, count, sizes, known, out, at + BODY_BYTES);
@@ -203,8 +207,10 @@ fn put_procedure(
     out: &mut [u8],
     at: usize,
 ) -> usize
-    requires { ⌜ TypesKnown (now table) (now known) × (place < end) × (end ≤ length (now table) / 8) × (wordAt (now table) (8 * place + 4) < 65536) × (length (typesBetween (now table) (place + 1) end) ≤ 255) × (at + (7 + length (typesBetween (now table) (place + 1) end)) ≤ length (now out)) ⌝ }
-    ensures { λ r. ⌜ Wrote (now (out .entry)) at (bodyOf first (wordAt (now (table .entry)) (8 * place + 4) / 256) (wordAt (now (table .entry)) (8 * place + 4) % 256) (typesBetween (now (table .entry)) (place + 1) end)) (now (out .exit)) r ⌝ }
+    requires { ⌜ TypesKnown (now table) (now known) × (place < end) × (end ≤ length (now table) / 8) × (wordAt (now table) (8 * place + 4) < 65536)
+        × (length (typesBetween (now table) (place + 1) end) ≤ 255) × (at + (7 + length (typesBetween (now table) (place + 1) end)) ≤ length (now out)) ⌝ }
+    ensures { λ r. ⌜ Wrote (now (out .entry)) at (bodyOf first (wordAt (now (table .entry)) (8 * place + 4) / 256)
+        (wordAt (now (table .entry)) (8 * place + 4) % 256) (typesBetween (now (table .entry)) (place + 1) end)) (now (out .exit)) r ⌝ }
 {
     let heading = table_scopes::b_at(table, place);
     let last = put_types(table, place + 1, end, known, out, at + BODY_BYTES);
@@ -229,7 +235,9 @@ fn put_if_procedure(
     out: &mut [u8],
     at: usize,
 ) -> usize
-    requires { ⌜ TypesKnown (now table) (now known) × Within (now table) (now sizes) place × (halfAt (now table) (8 * place) ≡ 12 → Brief (now table) (partAt (now table) (now sizes) place)) × (at + length (bodyAt (now table) (now sizes) place first) ≤ length (now out)) ⌝ }
+    requires { ⌜ TypesKnown (now table) (now known) × Within (now table) (now sizes) place
+        × (halfAt (now table) (8 * place) ≡ 12 → Brief (now table) (partAt (now table) (now sizes) place))
+        × (at + length (bodyAt (now table) (now sizes) place first) ≤ length (now out)) ⌝ }
     ensures { λ r. ⌜ Wrote (now (out .entry)) at (bodyAt (now (table .entry)) (now (sizes .entry)) place first) (now (out .exit)) r ⌝ }
 {
     if table_scopes::kind_at(table, place) == KIND_PROCEDURE {
@@ -306,7 +314,8 @@ pub fn put(
     out: &mut [u8],
 ) -> usize
     requires { ⌜ ((t : Tree) × Fronted t (now table) count after (now sizes) (now known) (now ends) classes bodies instructions shapes (length (now out))) ⌝ }
-    ensures { λ r. ⌜ ((t : Tree) → Fronted t (now (table .entry)) count after (now (sizes .entry)) (now (known .entry)) (now (ends .entry)) classes bodies instructions shapes (length (now (out .entry))) → Wrote (now (out .entry)) 0 (front (compiled t)) (now (out .exit)) r) ⌝ }
+    ensures { λ r. ⌜ ((t : Tree) → Fronted t (now (table .entry)) count after (now (sizes .entry)) (now (known .entry))
+        (now (ends .entry)) classes bodies instructions shapes (length (now (out .entry))) → Wrote (now (out .entry)) 0 (front (compiled t)) (now (out .exit)) r) ⌝ }
 {
     put_header(
         out,

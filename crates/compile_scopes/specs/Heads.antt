@@ -35,7 +35,6 @@ use Rattle.compile_symbols.specs.Numbers.{packed, numberOf, numbersFrom, cellsW
 use Rattle.table_scopes.specs.declared.environment.Found.{Found}
 use Rattle.table_scopes.specs.declared.environment.Found.the-variants.{Nothing, Def}
 use Rattle.table_scopes.specs.Environment.{Item, find}
-use Rattle.table_scopes.specs.Environment as env
 use Rattle.table_scopes.specs.EnvironmentLaws.{firstIn}
 use Rattle.compile_nodes.specs.Ends.{aroundHead, belowS, endsItems}
 use Rattle.compile_nodes.specs.Knows.{Lies, Walk, MeansCell, MeansClass, Means, Known, Knows, targetOf}

@@ -12,7 +12,6 @@ use Rattle.logic.specs.Choice.{if_then_else_}
 use Rattle.values.specs.Types.{Ty, tyByte}
 use Rattle.language.specs.Tree.{Decl, declare, holding, Global, local, class, procedure, Tree, countItems, locals}
 use Rattle.language.specs.Names.{Sort, isVariable, isLabel, isClass, isField, isProcedure, definesItems, definesGlobals, Scope, rootOf, found, firstOf, lookup}
-use Rattle.language.specs.Names as names
 use Rattle.language.specs.Faults.{faults, sizeGlobal}
 use Rattle.language.specs.Limits.{headCells}
 use Rattle.language_laws.specs.Claims.{entriesOf, Readable}

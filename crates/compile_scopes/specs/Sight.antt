@@ -15,7 +15,6 @@ use Rattle.language.specs.Names.{definesTyped, blockOf, expressionOf, procedure
 use Rattle.language.specs.Faults.{faults}
 use Rattle.language.specs.Limits.{headCells}
 use Rattle.bytecode.specs.Instructions.{own}
-use Rattle.language.specs.Names as names
 use Rattle.language_laws.specs.Claims.{entriesOf, Readable}
 use Rattle.table_entries.specs.Stands.{Stands, stands-left, stands-tail}
 use Rattle.logic.specs.Tests.{never}

@@ -281,11 +281,13 @@ module _ {c j z : ℕ} {W : Walk} {X : Place} {l rest : List ℕ} {count nesting
         this-next : Rest W (movedTo X (then W X (armOf r))) l (place + n) (lent (N .env) (N .ends) (N .stack) o₂) top holds depth t (laterEntries r) (laterEnds W X r) (laterCode W X r c j z)
         this-next = arm-next (armOf r) (laterEntries r) (laterEnds W X r) (laterCode W X r c j z) c j z W X (first-rest r h) aim i out-of leaving n (this-size n e) few many k d g
 
-        this-wrote : {o₃ : List ℕ} {u : Cursor} → Wrote o₂ o₃ t u (laterCode W X r c j z) → Wrote (L .out) o₃ cursor u (all (armOf r) (laterEntries r) (laterEnds W X r) (laterCode W X r c j z) c j z W X)
+        this-wrote : {o₃ : List ℕ} {u : Cursor} → Wrote o₂ o₃ t u (laterCode W X r c j z)
+            → Wrote (L .out) o₃ cursor u (all (armOf r) (laterEntries r) (laterEnds W X r) (laterCode W X r c j z) c j z W X)
         this-wrote w = arm-wrote (armOf r) (laterEntries r) (laterEnds W X r) (laterCode W X r c j z) c j z W X (first-rest r h) aim i out-of leaving n (this-size n e) few many k d g w
 
 -- a case split: the last statement, or one before others
-module _ {c j z : ℕ} {W : Walk} {X : Place} {l rest : List ℕ} {count nesting place : ℕ} {sizes : List ℕ} {L : Lent} {top holds depth : ℕ} {cursor : Cursor} {i : ℕ} {Whole : Lent → Cursor → Type 0} where
+module _ {c j z : ℕ} {W : Walk} {X : Place} {l rest : List ℕ} {count nesting place : ℕ} {sizes : List ℕ} {L : Lent} {top holds depth : ℕ}
+    {cursor : Cursor} {i : ℕ} {Whole : Lent → Cursor → Type 0} where
   going : (r : Arms) (h : ReadyArms r c j z W X l rest (count - i) nesting place sizes L top holds depth cursor) → j ≡ i + 1 → i < count
       → ((N : Lent) (q : Cursor) → DoneArms r c j z W X place L N depth cursor q → Whole N q)
       → {b : ℕ} {p : Cursor} {o : List ℕ} (aim : b ≡ getD (W .aims) place 0) (e : (p ≡ moved (moved (moved (moved cursor)))) × (o ≡ before-out r h b))
@@ -402,5 +404,6 @@ over-of h (more g) = absurd (omega (arith, g .ready .many, arms-count (g .left))
 over-of h (over k d) = d
 
 pub arms-end : {known aims l part : List ℕ} {owner count nesting at : ℕ} {sizes : List ℕ} {L : Lent} {top holds depth : ℕ} {cursor : Cursor} {M : Lent} {rest : List ℕ} {place i : ℕ} {p : Cursor}
-    → ArmsSoFar known aims l part owner count nesting at sizes L top holds depth cursor M rest place i p → count ≤ i → AnswersArms known aims l part owner count nesting at sizes L M top holds depth cursor p
+    → ArmsSoFar known aims l part owner count nesting at sizes L top holds depth cursor M rest place i p → count ≤ i
+    → AnswersArms known aims l part owner count nesting at sizes L M top holds depth cursor p
 arms-end s h = record { kept = s .kept; done = λ r c z W X x y w rd. over-of h (s .goes r c z W X x y w rd) }

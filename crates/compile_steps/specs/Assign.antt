@@ -199,7 +199,8 @@ module _ {a : ℕ} {f e : Expr} {W : Walk} {X : Place} {l part : List ℕ} {nest
   abbrev whole : Code
   whole = x ▸ (v ▸ op into)
 
-  in-both : Rest W X l at L top holds depth cursor (entry 21 0 (pos 0) ∷ (entry 46 a (pos 0) ∷ (flatE f ++ flatE e))) (after whole (X .start) .address ∷ (after x (X .start) .address ∷ (fs ++ ks))) whole
+  in-both : Rest W X l at L top holds depth cursor (entry 21 0 (pos 0) ∷ (entry 46 a (pos 0) ∷ (flatE f ++ flatE e)))
+      (after whole (X .start) .address ∷ (after x (X .start) .address ∷ (fs ++ ks))) whole
   unfolding flatS codeS belowS
   in-both = record { laid = h .laid; stood = h .stood; room = h .room; ending = h .ending; fits = h .fits }
 
@@ -274,7 +275,8 @@ module _ {a : ℕ} {f e : Expr} {W : Walk} {X : Place} {l part : List ℕ} {nest
           kept-both : Kept L N top depth
           kept-both = kept-then k (kept-then (kept-ends M ends long-ends) (kept-less (omega arith) k₂))
 
-          module _ {m : ℕ} {s : Cursor} {o : List ℕ} (mean : m ≡ meaningOf (halfAt part 10) (envOf (L .env) top) (W .known)) (i : (s ≡ moved r) × (o ≡ emitOp r (N .out) 14 (firstIn m) (secondIn m))) where
+          module _ {m : ℕ} {s : Cursor} {o : List ℕ} (mean : m ≡ meaningOf (halfAt part 10) (envOf (L .env) top) (W .known))
+              (i : (s ≡ moved r) × (o ≡ emitOp r (N .out) 14 (firstIn m) (secondIn m))) where
             field-meant : recordOf into ≡ rec 14 (firstIn m) (secondIn m)
             unfolding goodS recordOf
             field-meant =
@@ -300,7 +302,8 @@ module _ {a : ℕ} {f e : Expr} {W : Walk} {X : Place} {l part : List ℕ} {nest
                 ends-then (L .ends) (at + 1) n (after x (X .start) .address ∷ fs) ks
                 (size-field ∙ (let u : 1 + length (flatE f) ≡ suc (length fs) = omega (arith, ends-N (expr f) W X) in u)) own (d₂ .ended)
 
-            pub field-done : {u : Cursor} {last : List ℕ} → (u ≡ s) × (last ≡ set (N .ends) at (s .address)) → Done (stmt (assign (toField a f) e)) W X at L (lent (N .env) last (N .stack) o) depth cursor u
+            pub field-done : {u : Cursor} {last : List ℕ} → (u ≡ s) × (last ≡ set (N .ends) at (s .address))
+                → Done (stmt (assign (toField a f) e)) W X at L (lent (N .env) last (N .stack) o) depth cursor u
             unfolding codeS belowS
             field-done j =
                 record {
@@ -447,7 +450,8 @@ module _ {known aims l part : List ℕ} {nesting at : ℕ} {sizes : List ℕ} {L
 
           module _ {N : Lent} {r : Cursor} (b₂ : Answers IsExpr known aims l (below part (8 * (at + 1 + n - at))) (nesting - 1) (at + 1 + n) sizes
               (lent (M .env) ends (M .stack) (M .out)) N top holds (depth + 1) q r) where
-            done-two : {W : Walk} {X : Place} {c : ℕ} {f e : Expr} → W .known ≡ known → W .aims ≡ aims → (h : Ready (stmt (assign (toField c f) e)) W X l part nesting at sizes L top holds depth cursor)
+            done-two : {W : Walk} {X : Place} {c : ℕ} {f e : Expr} → W .known ≡ known → W .aims ≡ aims
+                → (h : Ready (stmt (assign (toField c f) e)) W X l part nesting at sizes L top holds depth cursor)
                 → Done (expr e) W (Y h) (at + 1 + n) (lent (M .env) ends (M .stack) (M .out)) N (depth + 1) q r
             done-two {W} {X} {c} {f} {e} i j h = b₂ .done (expr e) W _ tt i j (field-second-ready h n z (b₁ .kept) (done-one i j h) w)
 

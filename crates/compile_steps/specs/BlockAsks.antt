@@ -29,7 +29,8 @@ use Rattle.compile_steps.specs.Blocks.{block-headed, block-heads, block-
 abbrev inBlock : List Decl → Items → Place → Place
 inBlock ds is X = record { around = aroundItems (blockOf ds is) ds is (X .around) (X .start); types = X .types; start = atHead ds (X .start) }
 
-module _ {known aims l part : List ℕ} {nesting at : ℕ} {sizes : List ℕ} {L : Lent} {top holds depth : ℕ} {cursor : Cursor} (a : Asks (IsKind 1) known aims l part nesting at sizes L top holds depth cursor)
+module _ {known aims l part : List ℕ} {nesting at : ℕ} {sizes : List ℕ} {L : Lent} {top holds depth : ℕ} {cursor : Cursor}
+    (a : Asks (IsKind 1) known aims l part nesting at sizes L top holds depth cursor)
     {heads count : ℕ} (ha : heads ≡ halfAt part 2) (co : count ≡ wordAt part 4) where
   v : Block (a .node)
   v = block-of (a .node) (a .such)

@@ -12,7 +12,6 @@ use Rattle.language.specs.Names.{blockOf}
 use Rattle.table_scopes.specs.Environment.{opened}
 use Rattle.table_scopes.specs.Trees.{length-map}
 use Rattle.table_scopes.specs.Defines.{heads-stand}
-use Rattle.table_scopes.specs.Defines as defines
 use Rattle.table_forms.specs.Part.{table-next}
 use Rattle.compile_code.specs.Code.{Code, cell, _▸_, At, at}
 use Rattle.compile_code.specs.Compile.{Around, inside, bound, labels, scopesOf, heldIn, codeS, codeItems}

@@ -17,7 +17,6 @@ use Rattle.table_entries.specs.Entries.{length-entries}
 use Rattle.table_entries.specs.Stands.{Stands, stands-left, stands-within}
 use Rattle.table_scopes.specs.Trees.{length-map, length-Items}
 use Rattle.table_scopes.specs.Defines.{heads-stand}
-use Rattle.table_scopes.specs.Defines as defines
 use Rattle.table_forms.specs.Part.{table-next}
 use Rattle.compile_code.specs.Code.{Code, _▸_, At, at, after}
 use Rattle.compile_code.specs.Compile.{Around, inside, held, labels, scopesOf, heldIn, codeItems, codeE}

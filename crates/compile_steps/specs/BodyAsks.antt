@@ -44,7 +44,8 @@ inValue ds is W X =
       start = after (codeItems (W .globals) is (aroundItems (expressionOf ds is) ds is (X .around) (X .start)) (X .types) q) q;
     }
 
-module _ {known aims l part : List ℕ} {nesting at : ℕ} {sizes : List ℕ} {L : Lent} {top holds depth : ℕ} {cursor : Cursor} (a : Asks (IsKind 53) known aims l part nesting at sizes L top holds depth cursor)
+module _ {known aims l part : List ℕ} {nesting at : ℕ} {sizes : List ℕ} {L : Lent} {top holds depth : ℕ} {cursor : Cursor}
+    (a : Asks (IsKind 53) known aims l part nesting at sizes L top holds depth cursor)
     {heads count : ℕ} (ha : heads ≡ halfAt part 2) (co : count ≡ wordAt part 4) where
   v : Body (a .node)
   v = body-of (a .node) (a .such)
@@ -147,5 +148,6 @@ module _ {known aims l part : List ℕ} {nesting at : ℕ} {sizes : List ℕ} {L
                 kept = kept-then kept-value (kept-then (kept-out O late (ap (length {A = ℕ}) (j .1) ∙ length-emitted (lets (r .holds)) t (O .out)))
                     (kept-ends (lent (O .env) (O .ends) (O .stack) late) last (ap (length {A = ℕ}) (f .1) ∙ length-set (O .ends) at (u .address))));
                 done = λ m W X is x y h. let s = body-of m is in let i = ready-as (s .same) h in
-                    done-as (s .same) (rw (f .0) (body-done (s .ds) (s .is) (s .e) i (hs i) (cs i) (o .opens) (o .pushed) (declared W x) (b₁ .kept) (items-done x y i) size (value-done x y i) j (f .1)));
+                    done-as (s .same) (rw (f .0) (body-done (s .ds) (s .is) (s .e) i (hs i) (cs i) (o .opens) (o .pushed) (declared W x) (b₁ .kept)
+                    (items-done x y i) size (value-done x y i) j (f .1)));
               }

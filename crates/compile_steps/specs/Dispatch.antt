@@ -25,7 +25,8 @@ kind-here : {n : Node} {W : Walk} {X : Place} {l part : List ℕ} {nesting at : 
     → Ready n W X l part nesting at sizes L top holds depth cursor → kindN n ≡ halfAt part 0
 kind-here {n} r = sym (head-N n (r .table) (r .laid .stands) .kind)
 
-module _ {P Q : Node → Type 0} {known aims l part : List ℕ} {nesting at : ℕ} {sizes : List ℕ} {L : Lent} {top holds depth : ℕ} {cursor : Cursor} (to : (n : Node) → P n → kindN n ≡ halfAt part 0 → Q n) where
+module _ {P Q : Node → Type 0} {known aims l part : List ℕ} {nesting at : ℕ} {sizes : List ℕ} {L : Lent} {top holds depth : ℕ} {cursor : Cursor}
+    (to : (n : Node) → P n → kindN n ≡ halfAt part 0 → Q n) where
   pub ask-as : Asks P known aims l part nesting at sizes L top holds depth cursor → Asks Q known aims l part nesting at sizes L top holds depth cursor
   ask-as a =
       record { node = a .node; walk = a .walk; place = a .place; such = to (a .node) (a .such) (kind-here (a .ready)); same-known = a .same-known; same-aims = a .same-aims; ready = a .ready }
@@ -41,11 +42,13 @@ module _ {Q : Node → Type 0} {known aims l : List ℕ} (part : List ℕ) {nest
   pub asks-anew : Asks Q known aims l part nesting at sizes L top holds depth cursor → Asks Q known aims l (below part 0) nesting at sizes L top holds depth cursor
   asks-anew a = rw (whole part) a
 
-  pub answers-anew : {M : Lent} {r : Cursor} → Answers Q known aims l (below part 0) nesting at sizes L M top holds depth cursor r → Answers Q known aims l part nesting at sizes L M top holds depth cursor r
+  pub answers-anew : {M : Lent} {r : Cursor} → Answers Q known aims l (below part 0) nesting at sizes L M top holds depth cursor r
+      → Answers Q known aims l part nesting at sizes L M top holds depth cursor r
   answers-anew b = rw (← whole part) b
 
 -- ── an expression with nothing below it ──
-module _ {known aims l part : List ℕ} {nesting at : ℕ} {sizes : List ℕ} {L : Lent} {top holds depth : ℕ} {cursor : Cursor} (a : Asks IsLeaf known aims l part nesting at sizes L top holds depth cursor) where
+module _ {known aims l part : List ℕ} {nesting at : ℕ} {sizes : List ℕ} {L : Lent} {top holds depth : ℕ} {cursor : Cursor}
+    (a : Asks IsLeaf known aims l part nesting at sizes L top holds depth cursor) where
   pub asks-leaf : Fits (moved cursor) (length (L .out))
   asks-leaf = leaf-fits (a .node) (a .such) (a .ready)
 

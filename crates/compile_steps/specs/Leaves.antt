@@ -193,7 +193,8 @@ goto-cursor (labels is x ∷ Γ) a n p h = by (hasLabel a is) n h (λ m k. goto-
     by true (suc n) h f = absurd (omega arith)
     by false n h f = f n h
 
-goto-emitted : (Γ : List Around) (a n : ℕ) (p : Cursor) (l : List ℕ) → suc n ≡ sizeGoto (passing Γ) a → emitted (codeGoto Γ a) p l ≡ emitted (op (go (targetOf Γ a))) (cursorAfter (lets n) p) (emitted (lets n) p l)
+goto-emitted : (Γ : List Around) (a n : ℕ) (p : Cursor) (l : List ℕ) → suc n ≡ sizeGoto (passing Γ) a
+    → emitted (codeGoto Γ a) p l ≡ emitted (op (go (targetOf Γ a))) (cursorAfter (lets n) p) (emitted (lets n) p l)
 unfolding cursorAfter emitted codeGoto sizeGoto passing lets targetOf
 goto-emitted [] a zero p l h = refl
 goto-emitted [] a (suc n) p l h = absurd (omega arith)

@@ -3,6 +3,7 @@ pub mod Stages
 pub mod Cells
 pub mod Views
 pub mod Ifs
+pub mod Forks
 pub mod Elses
 pub mod Ways
 pub mod Pairs
@@ -15,12 +16,14 @@ pub mod Headed
 pub mod Blocks
 pub mod Bodies
 pub mod Shared
-pub mod When
-pub mod Choose
+pub mod WhenAsks
+pub mod ChooseAsks
 pub mod Arms
 pub mod Select
 pub mod Assign
-pub mod Adapt
+pub mod WhileAsks
+pub mod ConditionalAsks
+pub mod PairAsks
 pub mod Dispatch
 pub mod BlockAsks
 pub mod BodyAsks

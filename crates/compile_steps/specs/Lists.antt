@@ -45,7 +45,8 @@ pub record Going (es : Exprs) (W : Walk) (X : Place) (l rest : List ℕ) (count 
   pub stack : pushed (W .globals) (X .around) es (X .types) ≡ pushed (W .globals) (X .around) left types
   pub many : countExprs es ≡ i + countExprs left
 
-pub record EsSoFar (known aims l part : List ℕ) (count nesting at : ℕ) (sizes : List ℕ) (L : Lent) (top holds depth : ℕ) (cursor : Cursor) (M : Lent) (rest : List ℕ) (place i : ℕ) (p : Cursor) : Type 0 where
+pub record EsSoFar (known aims l part : List ℕ) (count nesting at : ℕ) (sizes : List ℕ) (L : Lent) (top holds depth : ℕ) (cursor : Cursor) (M : Lent)
+    (rest : List ℕ) (place i : ℕ) (p : Cursor) : Type 0 where
   pub kept : Kept L M top depth
   pub most : i ≤ count
   pub goes : (es : Exprs) (W : Walk) (X : Place) → W .known ≡ known → W .aims ≡ aims

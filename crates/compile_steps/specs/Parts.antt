@@ -4,7 +4,7 @@ use mathlib.Core.Bool.{false}
 use mathlib.Core.List.{List, [], _∷_, _++_, map, reverse, reverse-cons, map-append}
 use Prim.Native.Nat.{ℕ, suc, _+_, _-_, _*_, _≤_, _<_}
 use native.Mathlib.Omega.{arith}
-use lib.ListN.{length, getD, take, drop, set, length-set}
+use lib.ListN.{length, getD, take, drop, set, length-set, length-drop}
 use lib.Seq.{sets, take-take, take-suc, take-set-le, set-comm}
 use Rattle.language.specs.Measure.{measureS}
 use Rattle.values.specs.Types.{Ty, tyByte}
@@ -22,11 +22,12 @@ use Rattle.table_scopes.specs.Spans.{Spans, spans-one, spans-none}
 use Rattle.table_entries.specs.Entries.{length-entries}
 use Rattle.table_entries.specs.Stands.{Stands, stands-left, stands-right, stands-tail, stands-within}
 use Rattle.table_forms.specs.Walk.{Table}
-use Rattle.table_forms.specs.Forms.{Form, headF, tailF, flatF, labelled, formS, formE, flat-S, flat-E}
+use Rattle.table_forms.specs.Forms.{headF, flatF, labelled, flat-S, flat-E}
 use Rattle.table_forms.specs.Part.{Head, head-of, table-next, size-here, Passes, passes, spans-form, spans-stmt}
 use Rattle.compile_code.specs.Code.{Code, nil, op, mark, cell, _▸_, At, at, skip, after}
 use Rattle.language.specs.Names.{Scope}
-use Rattle.compile_code.specs.Compile.{scopesOf, found}
+use Rattle.compile_code.specs.Compile.{scopesOf, found, codeE}
+use Rattle.compile_emit.specs.EmitEntryLaws.{part-from}
 use Rattle.compile_code.specs.Encode.{rec, recordOf}
 use Rattle.words.specs.Laws.{sets-append}
 use Rattle.compile_symbols.specs.Entries.{cells-append}
@@ -239,7 +240,8 @@ module _ {W : Walk} {X : Place} {l : List ℕ} {L M : Lent} {top holds depth : �
       }
 
 -- the shape that is found at a place
-pub stood-shape : {W : Walk} {X : Place} {l : List ℕ} {L : Lent} {top holds depth : ℕ} {cursor : Cursor} → Stood W X l L top holds depth cursor → Stacked (found (X .around) (X .types)) holds (L .stack) depth
+pub stood-shape : {W : Walk} {X : Place} {l : List ℕ} {L : Lent} {top holds depth : ℕ} {cursor : Cursor} → Stood W X l L top holds depth cursor
+    → Stacked (found (X .around) (X .types)) holds (L .stack) depth
 stood-shape h = record { same-holds = sym (h .held); same-depth = sym (h .deep); same-types = h .typed }
 
 -- ── a part is ready ──
@@ -377,3 +379,28 @@ asked {cursor = cursor} q =
       ending = omega (arith, r .ending, flat-one (q .node));
       address = f .address-small;
     }
+
+-- ── where the parts begin ──
+length-below : (part : List ℕ) (k : ℕ) → length (below part k) ≡ length part - k
+length-below part k = ap (length {A = ℕ}) (part-from part k) ∙ length-drop k part
+
+-- where the part behind a part begins, it is within
+pub second-within : (part : List ℕ) (at n : ℕ) {sizes : List ℕ} → 8 ≤ length part → Passes (below part 8) sizes (at + 1) n → 8 * (at + 1 + n - at) ≤ length part
+second-within part at n h p = omega (arith, p .fits, length-below part 8)
+
+pub third-within : (part : List ℕ) (at place n : ℕ) {sizes : List ℕ} → at ≤ place → 8 * (place - at) ≤ length part
+    → Passes (below part (8 * (place - at))) sizes place n → 8 * (place + n - at) ≤ length part
+third-within part at place n g h p = omega (arith, p .fits, length-below part (8 * (place - at)))
+
+-- the size of what is ready
+module _ {n : Node} {W : Walk} {X : Place} {l part : List ℕ} {nesting at : ℕ} {sizes : List ℕ} {L : Lent} {top holds depth : ℕ} {cursor : Cursor}
+    (r : Ready n W X l part nesting at sizes L top holds depth cursor) (k : ℕ) (e : k ≡ getD sizes at 0) where
+  pub ready-passes : Passes part sizes at k
+  ready-passes = passes-N n (r .table) (r .laid .stands) k e
+
+  pub ready-size : k ≡ length (flatN n)
+  ready-size = e ∙ size-N n (r .table) (r .laid .stands)
+
+-- where the code behind a test begins, and behind what follows it
+abbrev pub behind-test : Walk → Place → Expr → At
+behind-test W X e = skip 1 (after (codeE (W .globals) e (X .around) (X .types) (X .start)) (X .start))

@@ -37,7 +37,8 @@ use Rattle.compile_steps.specs.Shared.{shaped-wrote, fits-op, ends-then,
 
 -- ── the code of the statements is that of the cases, and a stop ──
 module _ (gs : List Global) where
-  arms-cursor : (r : Arms) (c i z : ℕ) (Γ : List Around) (st : List Ty) (p : At) (cursor : Cursor) → cursorAfter (codeArms gs r c i z Γ st p) cursor ≡ cursorAfter (codeCases gs r c i z Γ st p ▸ op (stop caseIndex)) cursor
+  arms-cursor : (r : Arms) (c i z : ℕ) (Γ : List Around) (st : List Ty) (p : At) (cursor : Cursor)
+      → cursorAfter (codeArms gs r c i z Γ st p) cursor ≡ cursorAfter (codeCases gs r c i z Γ st p ▸ op (stop caseIndex)) cursor
   unfolding codeArms codeCases cursorAfter
   arms-cursor (lastArm s) c i z Γ st p cursor = refl
   arms-cursor (arm s r) c i z Γ st p cursor = arms-cursor r c (suc i) z Γ st _ _
@@ -93,7 +94,14 @@ module _ {e : Expr} {r : Arms} {W : Walk} {X : Place} {l part : List ℕ} {nesti
   in-all : Rest W X l at L top holds depth cursor (entry 30 (countArms r) (pos 0) ∷ (flatE e ++ flatArms r)) (after all (X .start) .address ∷ (es ++ fs))
       (x ▸ (op (store own c) ▸ (y ▸ (op (stop caseIndex) ▸ seen))))
   unfolding flatS codeS belowS cursorAfter
-  in-all = record { laid = h .laid; stood = h .stood; room = h .room; ending = h .ending; fits = rw (arms-cursor (W .globals) r c 1 exit (X .around) (X .types) b (moved (cursorAfter x cursor))) at (h .fits) }
+  in-all =
+      record {
+        laid = h .laid;
+        stood = h .stood;
+        room = h .room;
+        ending = h .ending;
+        fits = rw (arms-cursor (W .globals) r c 1 exit (X .around) (X .types) b (moved (cursorAfter x cursor))) at (h .fits);
+      }
 
   below-all : Rest W (movedTo X q) l (at + 1) L top holds depth cursor (flatE e ++ flatArms r) (es ++ fs) (x ▸ (op (store own c) ▸ (y ▸ (op (stop caseIndex) ▸ seen))))
   below-all = rest-enter (entry 30 (countArms r) (pos 0)) (flatE e ++ flatArms r) _ _ _ q (omega arith) refl in-all

@@ -199,7 +199,8 @@ module _ {W : Walk} {X : Place} {l : List ℕ} {L : Lent} {top holds depth : ℕ
   pub shaping : (y : Code) → Fits (cursorAfter (mark (found (X .around) (X .types)) ▸ y) cursor) (length (L .out)) → Shaping (L .stack) (L .out) holds depth cursor
   shaping y f = shaping-last (fits-first (mark (found (X .around) (X .types))) y cursor (length (L .out)) f)
 
-  pub shaped-wrote : {q : Cursor} {o : List ℕ} → (q ≡ cursorShaped depth cursor) × (o ≡ emitShape cursor (L .out) holds depth (take depth (L .stack))) → Wrote (L .out) o cursor q (mark (found (X .around) (X .types)))
+  pub shaped-wrote : {q : Cursor} {o : List ℕ} → (q ≡ cursorShaped depth cursor) × (o ≡ emitShape cursor (L .out) holds depth (take depth (L .stack)))
+      → Wrote (L .out) o cursor q (mark (found (X .around) (X .types)))
   shaped-wrote e = wrote-mark (found (X .around) (X .types)) holds depth (L .stack) (stood-shape s) e
 
 pub fits-op : (i : Instr) (y : Code) (p : Cursor) (n : ℕ) → Fits (cursorAfter (op i ▸ y) p) n → Fits (moved p) n

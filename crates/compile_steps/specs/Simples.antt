@@ -27,13 +27,11 @@ use Rattle.language.specs.Table.{Entry}
 use Rattle.language.specs.Faults.{typeE}
 use Rattle.language.specs.Limits.{holdsEs, needEs}
 use Rattle.language.specs.Names.{Scope}
-use Rattle.language.specs.Names as names
 use Rattle.table_scopes.specs.Environment.{envOf}
 use Rattle.table_forms.specs.Forms.{headF, one, two}
 use Rattle.table_forms.specs.Part.{table-next}
 use Rattle.compile_code.specs.Code.{nil, op, _▸_, At, after}
 use Rattle.compile_code.specs.Compile.{Around, scopesOf, codeS, codeEs, tyE, orInteger, bodyNumber, fieldNumber, tyIn, classNumber}
-use Rattle.compile_code.specs.Compile as compile
 use Rattle.compile_code.specs.Encode.{rec, recordOf}
 use Rattle.compile_names.specs.Good.{goodS, goodEs}
 use Rattle.compile_symbols.specs.Numbers.{firstIn, secondIn}

@@ -44,7 +44,8 @@ module _ {W : Walk} {l : List ℕ} {L : Lent} {top holds depth : ℕ} {cursor : 
   stage-fits-mark left h = rw (h .stood .deep) (fits-first (mark (found (Y .around) (Y .types))) left p (length (M .out)) (h .fits))
 
   -- an instruction
-  module _ (i : Instr) (left : Code) (h : Stage W l L top holds depth cursor at M Y d p before (op i ▸ left) es) {out : List ℕ} {q : Cursor} (k a b : ℕ) (e : (q ≡ moved p) × (out ≡ emitOp p (M .out) k a b))
+  module _ (i : Instr) (left : Code) (h : Stage W l L top holds depth cursor at M Y d p before (op i ▸ left) es) {out : List ℕ} {q : Cursor}
+      (k a b : ℕ) (e : (q ≡ moved p) × (out ≡ emitOp p (M .out) k a b))
       (same : W .dry ≡ false → recordOf i ≡ rec k a b) where
     op-wrote : Wrote (M .out) out p q (op i)
     op-wrote = wrote-op i k a b e (λ z. same (sym (h .stood .dryness) ∙ z))

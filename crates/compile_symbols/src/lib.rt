@@ -202,7 +202,8 @@ fn number_global(
     n: Numbers,
     known: &mut [u32],
 )
-    requires { ⌜ Headed (now table) (now sizes) count × Within (now table) (now sizes) place × (length (now table) / 8 ≤ length (now known)) × (n .cells ≤ 2048) × (n .classes ≤ 2048) × (n .bodies ≤ 2048) ⌝ }
+    requires { ⌜ Headed (now table) (now sizes) count × Within (now table) (now sizes) place × (length (now table) / 8 ≤ length (now known))
+        × (n .cells ≤ 2048) × (n .classes ≤ 2048) × (n .bodies ≤ 2048) ⌝ }
     ensures { λ _. ⌜ now (known .exit) ≡ sets (now (known .entry)) place (numbersGlobal (classesIn (now (table .entry))) n (partAt (now (table .entry)) (now (sizes .entry)) place)) ⌝ }
 {
     let end = place + table_scopes::size_at(sizes, place);

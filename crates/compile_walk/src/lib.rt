@@ -29,7 +29,9 @@ fn operands(
     cursor: Cursor,
 ) -> Cursor
     requires { ⌜ AsksEs (now known) (now aims) (now table) (now part) count nesting at (now sizes) (lent (now env) (now ends) (now stack) (now out)) top holds depth cursor ⌝ }
-    ensures { λ r. ⌜ AnswersEs (now (known .entry)) (now (aims .entry)) (now (table .entry)) (now (part .entry)) count nesting at (now (sizes .entry)) (lent (now (env .entry)) (now (ends .entry)) (now (stack .entry)) (now (out .entry))) (lent (now (env .exit)) (now (ends .exit)) (now (stack .exit)) (now (out .exit))) top holds depth cursor r ⌝ }
+    ensures { λ r. ⌜ AnswersEs (now (known .entry)) (now (aims .entry)) (now (table .entry)) (now (part .entry)) count nesting at (now (sizes .entry))
+        (lent (now (env .entry)) (now (ends .entry)) (now (stack .entry)) (now (out .entry)))
+        (lent (now (env .exit)) (now (ends .exit)) (now (stack .exit)) (now (out .exit))) top holds depth cursor r ⌝ }
 {
     let mut rest = part;
     let mut place = at;
@@ -63,7 +65,7 @@ fn operands(
 }
 
 // An entry with expressions only below it: they, and its instruction. (Its part is handed over as `&part[0..]`, built anew: the compiler takes
-// 6 to 8 % less time so; docs/PROOFS.md, "Speed".)
+// 6 to 8 % less time so; docs/SPEED.md.)
 fn simple(
     table: &[u8],
     part: &[u8],
@@ -82,7 +84,9 @@ fn simple(
     cursor: Cursor,
 ) -> Cursor
     requires { ⌜ Asks IsSimple (now known) (now aims) (now table) (now part) nesting at (now sizes) (lent (now env) (now ends) (now stack) (now out)) top holds depth cursor ⌝ }
-    ensures { λ r. ⌜ Answers IsSimple (now (known .entry)) (now (aims .entry)) (now (table .entry)) (now (part .entry)) nesting at (now (sizes .entry)) (lent (now (env .entry)) (now (ends .entry)) (now (stack .entry)) (now (out .entry))) (lent (now (env .exit)) (now (ends .exit)) (now (stack .exit)) (now (out .exit))) top holds depth cursor r ⌝ }
+    ensures { λ r. ⌜ Answers IsSimple (now (known .entry)) (now (aims .entry)) (now (table .entry)) (now (part .entry)) nesting at (now (sizes .entry))
+        (lent (now (env .entry)) (now (ends .entry)) (now (stack .entry)) (now (out .entry)))
+        (lent (now (env .exit)) (now (ends .exit)) (now (stack .exit)) (now (out .exit))) top holds depth cursor r ⌝ }
 {
     let kind = words::half_at(part, KIND_AT);
     let a = words::half_at(part, A_AT);
@@ -129,7 +133,9 @@ fn pair(
     cursor: Cursor,
 ) -> Cursor
     requires { ⌜ Asks (IsKind 49) (now known) (now aims) (now table) (now part) nesting at (now sizes) (lent (now env) (now ends) (now stack) (now out)) top holds depth cursor ⌝ }
-    ensures { λ r. ⌜ Answers (IsKind 49) (now (known .entry)) (now (aims .entry)) (now (table .entry)) (now (part .entry)) nesting at (now (sizes .entry)) (lent (now (env .entry)) (now (ends .entry)) (now (stack .entry)) (now (out .entry))) (lent (now (env .exit)) (now (ends .exit)) (now (stack .exit)) (now (out .exit))) top holds depth cursor r ⌝ }
+    ensures { λ r. ⌜ Answers (IsKind 49) (now (known .entry)) (now (aims .entry)) (now (table .entry)) (now (part .entry)) nesting at (now (sizes .entry))
+        (lent (now (env .entry)) (now (ends .entry)) (now (stack .entry)) (now (out .entry)))
+        (lent (now (env .exit)) (now (ends .exit)) (now (stack .exit)) (now (out .exit))) top holds depth cursor r ⌝ }
 {
     let operator = words::half_at(part, A_AT);
     let p = expression(
@@ -199,7 +205,9 @@ fn conditional(
     cursor: Cursor,
 ) -> Cursor
     requires { ⌜ Asks (IsKind 50) (now known) (now aims) (now table) (now part) nesting at (now sizes) (lent (now env) (now ends) (now stack) (now out)) top holds depth cursor ⌝ }
-    ensures { λ r. ⌜ Answers (IsKind 50) (now (known .entry)) (now (aims .entry)) (now (table .entry)) (now (part .entry)) nesting at (now (sizes .entry)) (lent (now (env .entry)) (now (ends .entry)) (now (stack .entry)) (now (out .entry))) (lent (now (env .exit)) (now (ends .exit)) (now (stack .exit)) (now (out .exit))) top holds depth cursor r ⌝ }
+    ensures { λ r. ⌜ Answers (IsKind 50) (now (known .entry)) (now (aims .entry)) (now (table .entry)) (now (part .entry)) nesting at (now (sizes .entry))
+        (lent (now (env .entry)) (now (ends .entry)) (now (stack .entry)) (now (out .entry)))
+        (lent (now (env .exit)) (now (ends .exit)) (now (stack .exit)) (now (out .exit))) top holds depth cursor r ⌝ }
 {
     let p = expression(
         table,
@@ -287,7 +295,9 @@ fn when(
     cursor: Cursor,
 ) -> Cursor
     requires { ⌜ Asks (IsKind 22) (now known) (now aims) (now table) (now part) nesting at (now sizes) (lent (now env) (now ends) (now stack) (now out)) top holds depth cursor ⌝ }
-    ensures { λ r. ⌜ Answers (IsKind 22) (now (known .entry)) (now (aims .entry)) (now (table .entry)) (now (part .entry)) nesting at (now (sizes .entry)) (lent (now (env .entry)) (now (ends .entry)) (now (stack .entry)) (now (out .entry))) (lent (now (env .exit)) (now (ends .exit)) (now (stack .exit)) (now (out .exit))) top holds depth cursor r ⌝ }
+    ensures { λ r. ⌜ Answers (IsKind 22) (now (known .entry)) (now (aims .entry)) (now (table .entry)) (now (part .entry)) nesting at (now (sizes .entry))
+        (lent (now (env .entry)) (now (ends .entry)) (now (stack .entry)) (now (out .entry)))
+        (lent (now (env .exit)) (now (ends .exit)) (now (stack .exit)) (now (out .exit))) top holds depth cursor r ⌝ }
 {
     let p = expression(
         table,
@@ -348,7 +358,9 @@ fn choose(
     cursor: Cursor,
 ) -> Cursor
     requires { ⌜ Asks (IsKind 23) (now known) (now aims) (now table) (now part) nesting at (now sizes) (lent (now env) (now ends) (now stack) (now out)) top holds depth cursor ⌝ }
-    ensures { λ r. ⌜ Answers (IsKind 23) (now (known .entry)) (now (aims .entry)) (now (table .entry)) (now (part .entry)) nesting at (now (sizes .entry)) (lent (now (env .entry)) (now (ends .entry)) (now (stack .entry)) (now (out .entry))) (lent (now (env .exit)) (now (ends .exit)) (now (stack .exit)) (now (out .exit))) top holds depth cursor r ⌝ }
+    ensures { λ r. ⌜ Answers (IsKind 23) (now (known .entry)) (now (aims .entry)) (now (table .entry)) (now (part .entry)) nesting at (now (sizes .entry))
+        (lent (now (env .entry)) (now (ends .entry)) (now (stack .entry)) (now (out .entry)))
+        (lent (now (env .exit)) (now (ends .exit)) (now (stack .exit)) (now (out .exit))) top holds depth cursor r ⌝ }
 {
     let p = expression(
         table,
@@ -430,7 +442,9 @@ fn repeat(
     cursor: Cursor,
 ) -> Cursor
     requires { ⌜ Asks (IsKind 24) (now known) (now aims) (now table) (now part) nesting at (now sizes) (lent (now env) (now ends) (now stack) (now out)) top holds depth cursor ⌝ }
-    ensures { λ r. ⌜ Answers (IsKind 24) (now (known .entry)) (now (aims .entry)) (now (table .entry)) (now (part .entry)) nesting at (now (sizes .entry)) (lent (now (env .entry)) (now (ends .entry)) (now (stack .entry)) (now (out .entry))) (lent (now (env .exit)) (now (ends .exit)) (now (stack .exit)) (now (out .exit))) top holds depth cursor r ⌝ }
+    ensures { λ r. ⌜ Answers (IsKind 24) (now (known .entry)) (now (aims .entry)) (now (table .entry)) (now (part .entry)) nesting at (now (sizes .entry))
+        (lent (now (env .entry)) (now (ends .entry)) (now (stack .entry)) (now (out .entry)))
+        (lent (now (env .exit)) (now (ends .exit)) (now (stack .exit)) (now (out .exit))) top holds depth cursor r ⌝ }
 {
     let start = cursor.address as u32;
     let p = compile_output::shape(out, cursor, holds, stack, depth);
@@ -496,7 +510,9 @@ fn arms(
     cursor: Cursor,
 ) -> Cursor
     requires { ⌜ AsksArms (now known) (now aims) (now table) (now part) owner count nesting at (now sizes) (lent (now env) (now ends) (now stack) (now out)) top holds depth cursor ⌝ }
-    ensures { λ r. ⌜ AnswersArms (now (known .entry)) (now (aims .entry)) (now (table .entry)) (now (part .entry)) owner count nesting at (now (sizes .entry)) (lent (now (env .entry)) (now (ends .entry)) (now (stack .entry)) (now (out .entry))) (lent (now (env .exit)) (now (ends .exit)) (now (stack .exit)) (now (out .exit))) top holds depth cursor r ⌝ }
+    ensures { λ r. ⌜ AnswersArms (now (known .entry)) (now (aims .entry)) (now (table .entry)) (now (part .entry)) owner count nesting at (now (sizes .entry))
+        (lent (now (env .entry)) (now (ends .entry)) (now (stack .entry)) (now (out .entry)))
+        (lent (now (env .exit)) (now (ends .exit)) (now (stack .exit)) (now (out .exit))) top holds depth cursor r ⌝ }
 {
     let cell = compile_symbols::second_in(compile_symbols::known_at(known, owner));
     let end = compile_emit::end_of(aims, owner);
@@ -552,7 +568,9 @@ fn select(
     cursor: Cursor,
 ) -> Cursor
     requires { ⌜ Asks (IsKind 30) (now known) (now aims) (now table) (now part) nesting at (now sizes) (lent (now env) (now ends) (now stack) (now out)) top holds depth cursor ⌝ }
-    ensures { λ r. ⌜ Answers (IsKind 30) (now (known .entry)) (now (aims .entry)) (now (table .entry)) (now (part .entry)) nesting at (now (sizes .entry)) (lent (now (env .entry)) (now (ends .entry)) (now (stack .entry)) (now (out .entry))) (lent (now (env .exit)) (now (ends .exit)) (now (stack .exit)) (now (out .exit))) top holds depth cursor r ⌝ }
+    ensures { λ r. ⌜ Answers (IsKind 30) (now (known .entry)) (now (aims .entry)) (now (table .entry)) (now (part .entry)) nesting at (now (sizes .entry))
+        (lent (now (env .entry)) (now (ends .entry)) (now (stack .entry)) (now (out .entry)))
+        (lent (now (env .exit)) (now (ends .exit)) (now (stack .exit)) (now (out .exit))) top holds depth cursor r ⌝ }
 {
     let count = words::half_at(part, A_AT) as usize;
     let cell = compile_symbols::second_in(compile_symbols::known_at(known, at));
@@ -604,6 +622,9 @@ const TARGET_KIND_AT: usize = ENTRY_BYTES + KIND_AT;
 
 const TARGET_A_AT: usize = ENTRY_BYTES + A_AT;
 
+// The reference of a field is the entry behind that.
+const REFERENCE_AT: usize = 2 * ENTRY_BYTES;
+
 // An assignment: to a variable its value alone is computed, to a field the reference before it.
 fn assign(
     table: &[u8],
@@ -623,7 +644,9 @@ fn assign(
     cursor: Cursor,
 ) -> Cursor
     requires { ⌜ Asks (IsKind 21) (now known) (now aims) (now table) (now part) nesting at (now sizes) (lent (now env) (now ends) (now stack) (now out)) top holds depth cursor ⌝ }
-    ensures { λ r. ⌜ Answers (IsKind 21) (now (known .entry)) (now (aims .entry)) (now (table .entry)) (now (part .entry)) nesting at (now (sizes .entry)) (lent (now (env .entry)) (now (ends .entry)) (now (stack .entry)) (now (out .entry))) (lent (now (env .exit)) (now (ends .exit)) (now (stack .exit)) (now (out .exit))) top holds depth cursor r ⌝ }
+    ensures { λ r. ⌜ Answers (IsKind 21) (now (known .entry)) (now (aims .entry)) (now (table .entry)) (now (part .entry)) nesting at (now (sizes .entry))
+        (lent (now (env .entry)) (now (ends .entry)) (now (stack .entry)) (now (out .entry)))
+        (lent (now (env .exit)) (now (ends .exit)) (now (stack .exit)) (now (out .exit))) top holds depth cursor r ⌝ }
 {
     let k = compile_symbols::meaning(env, top, words::half_at(part, TARGET_A_AT), known);
     let second = at + 1 + table_scopes::size_at(sizes, at + 1);
@@ -658,7 +681,7 @@ fn assign(
     }
     let p = expression(
         table,
-        &part[16..],
+        &part[REFERENCE_AT..],
         nesting - 2,
         at + 2,
         sizes,
@@ -721,7 +744,9 @@ pub fn items(
     cursor: Cursor,
 ) -> Cursor
     requires { ⌜ AsksItems (now known) (now aims) (now table) (now part) count nesting at (now sizes) (lent (now env) (now ends) (now stack) (now out)) top holds depth cursor ⌝ }
-    ensures { λ r. ⌜ AnswersItems (now (known .entry)) (now (aims .entry)) (now (table .entry)) (now (part .entry)) count nesting at (now (sizes .entry)) (lent (now (env .entry)) (now (ends .entry)) (now (stack .entry)) (now (out .entry))) (lent (now (env .exit)) (now (ends .exit)) (now (stack .exit)) (now (out .exit))) top holds depth cursor r ⌝ }
+    ensures { λ r. ⌜ AnswersItems (now (known .entry)) (now (aims .entry)) (now (table .entry)) (now (part .entry)) count nesting at (now (sizes .entry))
+        (lent (now (env .entry)) (now (ends .entry)) (now (stack .entry)) (now (out .entry)))
+        (lent (now (env .exit)) (now (ends .exit)) (now (stack .exit)) (now (out .exit))) top holds depth cursor r ⌝ }
 {
     let mut rest = part;
     let mut place = at;
@@ -773,7 +798,9 @@ fn block(
     cursor: Cursor,
 ) -> Cursor
     requires { ⌜ Asks (IsKind 1) (now known) (now aims) (now table) (now part) nesting at (now sizes) (lent (now env) (now ends) (now stack) (now out)) top holds depth cursor ⌝ }
-    ensures { λ r. ⌜ Answers (IsKind 1) (now (known .entry)) (now (aims .entry)) (now (table .entry)) (now (part .entry)) nesting at (now (sizes .entry)) (lent (now (env .entry)) (now (ends .entry)) (now (stack .entry)) (now (out .entry))) (lent (now (env .exit)) (now (ends .exit)) (now (stack .exit)) (now (out .exit))) top holds depth cursor r ⌝ }
+    ensures { λ r. ⌜ Answers (IsKind 1) (now (known .entry)) (now (aims .entry)) (now (table .entry)) (now (part .entry)) nesting at (now (sizes .entry))
+        (lent (now (env .entry)) (now (ends .entry)) (now (stack .entry)) (now (out .entry)))
+        (lent (now (env .exit)) (now (ends .exit)) (now (stack .exit)) (now (out .exit))) top holds depth cursor r ⌝ }
 {
     let heads = words::half_at(part, A_AT) as usize;
     let count = words::word_at(part, B_AT) as usize;
@@ -834,7 +861,9 @@ fn body(
     cursor: Cursor,
 ) -> Cursor
     requires { ⌜ Asks (IsKind 53) (now known) (now aims) (now table) (now part) nesting at (now sizes) (lent (now env) (now ends) (now stack) (now out)) top holds depth cursor ⌝ }
-    ensures { λ r. ⌜ Answers (IsKind 53) (now (known .entry)) (now (aims .entry)) (now (table .entry)) (now (part .entry)) nesting at (now (sizes .entry)) (lent (now (env .entry)) (now (ends .entry)) (now (stack .entry)) (now (out .entry))) (lent (now (env .exit)) (now (ends .exit)) (now (stack .exit)) (now (out .exit))) top holds depth cursor r ⌝ }
+    ensures { λ r. ⌜ Answers (IsKind 53) (now (known .entry)) (now (aims .entry)) (now (table .entry)) (now (part .entry)) nesting at (now (sizes .entry))
+        (lent (now (env .entry)) (now (ends .entry)) (now (stack .entry)) (now (out .entry)))
+        (lent (now (env .exit)) (now (ends .exit)) (now (stack .exit)) (now (out .exit))) top holds depth cursor r ⌝ }
 {
     let heads = words::half_at(part, A_AT) as usize;
     let count = words::word_at(part, B_AT) as usize;
@@ -913,7 +942,9 @@ pub fn expression(
     cursor: Cursor,
 ) -> Cursor
     requires { ⌜ Asks IsExpr (now known) (now aims) (now table) (now part) nesting at (now sizes) (lent (now env) (now ends) (now stack) (now out)) top holds depth cursor ⌝ }
-    ensures { λ r. ⌜ Answers IsExpr (now (known .entry)) (now (aims .entry)) (now (table .entry)) (now (part .entry)) nesting at (now (sizes .entry)) (lent (now (env .entry)) (now (ends .entry)) (now (stack .entry)) (now (out .entry))) (lent (now (env .exit)) (now (ends .exit)) (now (stack .exit)) (now (out .exit))) top holds depth cursor r ⌝ }
+    ensures { λ r. ⌜ Answers IsExpr (now (known .entry)) (now (aims .entry)) (now (table .entry)) (now (part .entry)) nesting at (now (sizes .entry))
+        (lent (now (env .entry)) (now (ends .entry)) (now (stack .entry)) (now (out .entry)))
+        (lent (now (env .exit)) (now (ends .exit)) (now (stack .exit)) (now (out .exit))) top holds depth cursor r ⌝ }
 {
     let kind = words::half_at(part, KIND_AT);
     match kind {
@@ -1017,7 +1048,9 @@ pub fn statement(
     cursor: Cursor,
 ) -> Cursor
     requires { ⌜ Asks IsStmt (now known) (now aims) (now table) (now part) nesting at (now sizes) (lent (now env) (now ends) (now stack) (now out)) top holds depth cursor ⌝ }
-    ensures { λ r. ⌜ Answers IsStmt (now (known .entry)) (now (aims .entry)) (now (table .entry)) (now (part .entry)) nesting at (now (sizes .entry)) (lent (now (env .entry)) (now (ends .entry)) (now (stack .entry)) (now (out .entry))) (lent (now (env .exit)) (now (ends .exit)) (now (stack .exit)) (now (out .exit))) top holds depth cursor r ⌝ }
+    ensures { λ r. ⌜ Answers IsStmt (now (known .entry)) (now (aims .entry)) (now (table .entry)) (now (part .entry)) nesting at (now (sizes .entry))
+        (lent (now (env .entry)) (now (ends .entry)) (now (stack .entry)) (now (out .entry)))
+        (lent (now (env .exit)) (now (ends .exit)) (now (stack .exit)) (now (out .exit))) top holds depth cursor r ⌝ }
 {
     let kind = words::half_at(part, KIND_AT);
     match kind {

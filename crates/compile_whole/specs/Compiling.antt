@@ -299,7 +299,9 @@ module _ {l : List ℕ} {count behind classes bodies : ℕ} {sizes env : List �
             let c = codesOf (parts t) in
             let m : n ≡ length (macroOf t) = k ∙ dry-length h in
             let o : N .out ≡ emittedAll c (cursorAt f (f + 8 * r .address) false) (sets out 0 (front (compiled t)))
-            = z .written ∙ (ap (λ (x : Cursor). emittedAll c x put) g ∙ ap (emittedAll c (cursorAt f (f + 8 * r .address) false)) (w .written ∙ ap (λ (x : List ℕ). sets x 0 (front (compiled t))) dry-out)) in
+            =
+            z .written ∙ (ap (λ (x : Cursor). emittedAll c x put) g
+            ∙ ap (emittedAll c (cursorAt f (f + 8 * r .address) false)) (w .written ∙ ap (λ (x : List ℕ). sets x 0 (front (compiled t))) dry-out)) in
             let i : n - 2 ≡ cursorAll c (cursorAt f (f + 8 * r .address) false) .sh = omega (arith, real-sh) in
             let last : set (set (N .out) (n - 2) 90) (n - 1) 90 ≡ sets out 0 (macroOf t)
             = two-set (N .out) n (omega arith) ∙ (ap (λ (j : ℕ). sets (N .out) j zz) i ∙ (ap (λ (x : List ℕ). sets x (cursorAll c (cursorAt f (f + 8 * r .address) false) .sh) zz) o

@@ -1,17 +1,14 @@
 -- The loops over the root's declarations: their instructions, and how many of them are holds.
 use mathlib.Core.Path.{_≡_, refl, ap, sym, _∙_}
-use mathlib.Core.Bool.{Bool, true, false}
 use mathlib.Core.List.{List, [], _∷_}
 use Prim.Native.Nat.{ℕ, _+_, _-_, _*_, _≤_, _<_}
 use native.Mathlib.Omega.{arith}
 use native.Mathlib.Nat.{add-zero}
 use native.Mathlib.Numerals.{add-one}
-use lib.Dec.{eqb}
 use lib.ListN.{length, drop, getD, length-drop}
 use lib.Seq.{take-all}
 use borrow.Author.Tests.{le-ltb}
 use Rattle.language.specs.Program.{flatTyped, flatDecl, flatGlobal}
-use Rattle.logic.specs.Choice.{if_then_else_}
 use Rattle.words.specs.Numbers.{halfAt}
 use Rattle.values.specs.Types.{Ty, integer, logical, bits, reference, tyByte}
 use Rattle.values.specs.Values.{initial}
@@ -33,7 +30,8 @@ use Rattle.compile_symbols.specs.Numbers.{packed, typeIn, secondIn, numberOf}
 use Rattle.compile_symbols.specs.Packed.{type-packed, second-packed}
 use Rattle.compile_symbols.specs.Whole.{kindOf, kind-here}
 use Rattle.compile_symbols.specs.Tabled.{Tabled, theTree, Headed, Left, left-start, Next, next-global, Within}
-use Rattle.compile_emit.specs.EmitEntry.{emitInitial, cursorDeclared, emitDeclared}
+use Rattle.compile_emit.specs.EmitEntry.{emitInitial, cursorDeclared, emitDeclared, holdsBy}
+use Rattle.compile_emit.specs.EmitEntryLaws.{holds-one}
 use Rattle.compile_code.specs.Counts.{length-class-names, length-classes}
 use Rattle.compile_symbols.specs.Classes.{none-left}
 use Rattle.compile_scopes.specs.Means.{byte-small}
@@ -119,7 +117,8 @@ pub record HeadSoFar (l known old : List ℕ) (cursor : Cursor) (out : List ℕ)
   pub advanced : cursorAfter (headOps (theTree l .head) (locals globals) cells) p ≡ cursorAfter (rootHead (theTree l)) cursor
   pub written : emitted (headOps (theTree l .head) (locals globals) cells) p out ≡ emitted (rootHead (theTree l)) cursor old
 
-pub head-start : {l sizes known : List ℕ} {count : ℕ} (old : List ℕ) (cursor : Cursor) → Prepared (theTree l) l sizes known → count ≡ length (theTree l .head) → HeadSoFar l known old cursor old 1 count cursor
+pub head-start : {l sizes known : List ℕ} {count : ℕ} (old : List ℕ) (cursor : Cursor) → Prepared (theTree l) l sizes known
+    → count ≡ length (theTree l .head) → HeadSoFar l known old cursor old 1 count cursor
 head-start {l} old cursor h c =
     record {
       globals = theTree l .head;
@@ -149,7 +148,8 @@ known-here t (procedure a xs b) gs h = tt
 
 next-in : (gs : List Global) (n : ℕ) {l sizes known old : List ℕ} {cursor : Cursor} {out : List ℕ} {place left : ℕ} {p : Cursor} → Tabled l sizes (theTree l) → 0 < left → Left l place left gs
     → Numbers (classesBy (theTree l)) (itemsBy (theTree l)) known place n gs → n + headCells (locals gs) ≤ 32
-    → cursorAfter (headOps (theTree l .head) (locals gs) n) p ≡ cursorAfter (rootHead (theTree l)) cursor → emitted (headOps (theTree l .head) (locals gs) n) p out ≡ emitted (rootHead (theTree l)) cursor old
+    → cursorAfter (headOps (theTree l .head) (locals gs) n) p ≡ cursorAfter (rootHead (theTree l)) cursor
+    → emitted (headOps (theTree l .head) (locals gs) n) p out ≡ emitted (rootHead (theTree l)) cursor old
     → NextHead l sizes known old cursor out place left p
 next-in [] n t h k m few e f = absurd (omega (arith, k .many))
 next-in (g ∷ gs) n {l} t h k m few e f =
@@ -206,10 +206,7 @@ module _ {l sizes known old : List ℕ} {cursor : Cursor} {out : List ℕ} {plac
   head-end m = let e = none-left (s .globals) (s .remain) m in (rw e at (s .advanced), rw e at (s .written))
 
 -- ── the loop that counts holds ──
-abbrev pub holdsOf : ℕ → ℕ
-holdsOf kind = if eqb kind 14 then 1 else 0
-
-open-next : (g : Global) (gs : List Global) → headHolds (locals (g ∷ gs)) ≡ holdsOf (kindOf g) + headHolds (locals gs)
+open-next : (g : Global) (gs : List Global) → headHolds (locals (g ∷ gs)) ≡ holdsBy (kindOf g) + headHolds (locals gs)
 unfolding headHolds locals kindOf
 open-next (local (declare x)) gs = omega arith
 open-next (local (holding g)) gs = omega arith
@@ -240,25 +237,18 @@ module _ {l sizes : List ℕ} {place left n : ℕ} (t : Tabled l sizes (theTree 
   pub holds-within : 0 < left → Within l sizes place
   holds-within m = next-hold (s .globals) t m (s .remain) (s .same) .next .within
 
-  pub holds-next : (k size : ℕ) → 0 < left → k ≡ holdsOf (halfAt l (8 * place)) → size ≡ getD sizes place 0 → HoldsSoFar l (place + size) (left - 1) (n + k)
+  pub holds-next : (k size : ℕ) → 0 < left → k ≡ holdsBy (halfAt l (8 * place)) → size ≡ getD sizes place 0 → HoldsSoFar l (place + size) (left - 1) (n + k)
   holds-next k size m e z =
       let x = next-hold (s .globals) t m (s .remain) (s .same) in
-      let f : k ≡ holdsOf (kindOf (x .this)) = e ∙ ap holdsOf (kind-here l place (x .this) (x .later) (x .next)) in
+      let f : k ≡ holdsBy (kindOf (x .this)) = e ∙ ap holdsBy (kind-here l place (x .this) (x .later) (x .next)) in
       record {
         globals = x .later;
         remain = rw z (x .next .next);
         same = omega (arith, x .same, open-next (x .this) (x .later));
-        few = omega (arith, s .few, x .next .within .some, one (kindOf (x .this)));
+        few = omega (arith, s .few, x .next .within .some, holds-one (kindOf (x .this)));
       }
-    where
-      one : (k : ℕ) → holdsOf k ≤ 1
-      one k = by (eqb k 14)
-        where
-          by : (b : Bool) → (if b then 1 else 0) ≤ 1
-          by true = omega arith
-          by false = omega arith
 
-  pub holds-few : (k size : ℕ) → 0 < left → k ≡ holdsOf (halfAt l (8 * place)) → size ≡ getD sizes place 0 → n + k < place + size
+  pub holds-few : (k size : ℕ) → 0 < left → k ≡ holdsBy (halfAt l (8 * place)) → size ≡ getD sizes place 0 → n + k < place + size
   holds-few k size m e z = holds-next k size m e z .few
 
   pub holds-end : left ≡ 0 → n ≡ headHolds (locals (theTree l .head))

@@ -282,7 +282,8 @@ record NextProc (l sizes known aims : List ℕ) (top : ℕ) (old : Lent) (cursor
   pub written : emitProcs (theTree l) (this ∷ later) p (new .out) ≡ emitProcs (theTree l) (theTree l .head) cursor (old .out)
   pub ended : endedProcs (theTree l) (this ∷ later) place (p .address) (new .ends) ≡ endedProcs (theTree l) (theTree l .head) 1 (cursor .address) (old .ends)
 
-next-proc : (gs : List Global) {l sizes known aims : List ℕ} {top : ℕ} {old : Lent} {cursor : Cursor} {new : Lent} {place left : ℕ} {p : Cursor} → Tabled l sizes (theTree l) → 0 < left → Left l place left gs
+next-proc : (gs : List Global) {l sizes known aims : List ℕ} {top : ℕ} {old : Lent} {cursor : Cursor} {new : Lent} {place left : ℕ} {p : Cursor}
+    → Tabled l sizes (theTree l) → 0 < left → Left l place left gs
     → Remaining (theTree l) l sizes known aims p gs place → cursorProcs (theTree l) gs p ≡ cursorProcs (theTree l) (theTree l .head) cursor
     → emitProcs (theTree l) gs p (new .out) ≡ emitProcs (theTree l) (theTree l .head) cursor (old .out)
     → endedProcs (theTree l) gs place (p .address) (new .ends) ≡ endedProcs (theTree l) (theTree l .head) 1 (cursor .address) (old .ends)

@@ -8,7 +8,9 @@ use lib.Seq.{sets}
 use Rattle.language.specs.Program.{resultCode}
 use Rattle.words.specs.Numbers.{wordAt}
 use Rattle.language.specs.Tree.{Typed, Stmt, Expr, Body, proper, function, Tree}
-use Rattle.table_scopes.specs.EnvironmentLaws.{fewer}
+use Rattle.table_scopes.specs.Environment.{item, envOf, addAll, Grown}
+use Rattle.table_scopes.specs.EnvironmentLaws.{fewer, grown-push, stored}
+use Rattle.table_scopes.specs.Items.{itemsAt, grown-marked}
 use Rattle.table_forms.specs.Part.{below}
 use Rattle.table_types.specs.Types.{code-some}
 use Rattle.table_forms.specs.Procedures.{Walled}
@@ -110,7 +112,8 @@ module _ {l part : List ℕ} {place : ℕ} {sizes env : List ℕ} {top : ℕ} {k
 
   -- ── it is walked: the return, and its end ──
   module _ {P : Node → Type 0} (such : P (nodeOf (q .body))) {M : Lent} {p : Cursor} (y : BodyAnswers P known aims l part heading place sizes (lentOf mid ends stack out) M up cursor p) where
-    done-here : Done (nodeOf (q .body)) (walkOf (theTree l) known aims cursor) (bodyPlace (theTree l) (q .parameters) (cursor .address)) (place + 1 + heading / 256) (lentOf mid ends stack out) M 0 cursor p
+    done-here : Done (nodeOf (q .body)) (walkOf (theTree l) known aims cursor) (bodyPlace (theTree l) (q .parameters) (cursor .address))
+        (place + 1 + heading / 256) (lentOf mid ends stack out) M 0 cursor p
     done-here = y .done (nodeOf (q .body)) (walkOf (theTree l) known aims cursor) (bodyPlace (theTree l) (q .parameters) (cursor .address)) such refl refl body-ready
 
     last-cursor : moved p ≡ cursorAfter (codeProc (theTree l) q (cursor .address)) cursor
@@ -134,7 +137,8 @@ module _ {l part : List ℕ} {place : ℕ} {sizes env : List ℕ} {top : ℕ} {k
     proc-done-in s written later e f g =
         let h = heading-of r heading c in
         let a = e ∙ last-cursor in
-        let z : s .address ≡ procEnd (theTree l) q (cursor .address) = ap (λ (x : Cursor). x .address) a ∙ address-after (codeProc (theTree l) q (cursor .address)) cursor (at (cursor .address) 0) refl in
+        let z : s .address ≡ procEnd (theTree l) q (cursor .address) = ap (λ (x : Cursor). x .address) a
+        ∙ address-after (codeProc (theTree l) q (cursor .address)) cursor (at (cursor .address) 0) refl in
         record {
           advanced = a;
           emits = f ∙ last-emit;
@@ -162,6 +166,13 @@ module _ {l part : List ℕ} {place : ℕ} {sizes env : List ℕ} {top : ℕ} {k
           room = omega (arith, r .stage .room, h .within, h .many);
           ending = omega (arith, r .ending, h .within);
         }
+
+    -- its parameters behind a wall
+    pub proc-walled : {mid new : List ℕ} {up : ℕ} → mid ≡ stored env top 65537 0 0 0
+        → Grown (top + 1) mid new up (addAll (itemsAt 4 l (place + 1) (heading / 256)) (envOf mid (top + 1))) (length (itemsAt 4 l (place + 1) (heading / 256)))
+        → Walled l place (heading / 256) top env new up
+    proc-walled {mid} p g =
+        grown-marked (item 65537 0 0 0) (itemsAt 4 l (place + 1) (heading / 256)) (grown-push env mid top 65537 0 0 0 (omega (arith, proc-asks .room)) p) g
 
     -- P is what the walker of the body takes
     module _ {mid : List ℕ} {up : ℕ} (w : Walled l place (heading / 256) top env mid up) (P : Node → Type 0) where

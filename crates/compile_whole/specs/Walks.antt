@@ -122,7 +122,9 @@ module _ {l : List ℕ} {count behind : ℕ} {sizes : List ℕ} {L : Lent} {top 
       items-cursor = items-done .wrote .advanced ∙ ap (cursorAfter (rootItems (theTree l))) (h .0)
 
       items-emit : M .out ≡ emitted (rootItems (theTree l)) (cursorAfter (rootHead (theTree l)) cursor) (emitted (rootHead (theTree l)) cursor (L .out))
-      items-emit = items-done .wrote .written ∙ (ap (λ (z : Cursor). emitted (rootItems (theTree l)) z out) (h .0) ∙ ap (emitted (rootItems (theTree l)) (cursorAfter (rootHead (theTree l)) cursor)) (h .1))
+      items-emit =
+          items-done .wrote .written ∙ (ap (λ (z : Cursor). emitted (rootItems (theTree l)) z out) (h .0)
+          ∙ ap (emitted (rootItems (theTree l)) (cursorAfter (rootHead (theTree l)) cursor)) (h .1))
 
       lets-cursor : cursorAfter (lets held) r ≡ cursorAfter (rootLets (theTree l)) (cursorAfter (rootItems (theTree l)) (cursorAfter (rootHead (theTree l)) cursor))
       lets-cursor = rw (o, items-cursor)
@@ -248,6 +250,8 @@ module _ {l : List ℕ} {count behind : ℕ} {sizes env : List ℕ} {top : ℕ} 
       kept = kept-then (y .kept) (z .kept);
       advanced = z .advanced ∙ (ap (cursorProcs (theTree l) (theTree l .head)) e ∙ procs-cursor);
       written = z .written ∙ (ap (λ (x : Cursor). emitProcs (theTree l) (theTree l .head) x (M .out)) e ∙ procs-emit);
-      ended = z .ended ∙ (ap (λ (x : Cursor). endedProcs (theTree l) (theTree l .head) 1 (x .address) (M .ends)) e ∙ (ap (λ (n : ℕ). endedProcs (theTree l) (theTree l .head) 1 n (M .ends)) root-address
+      ended =
+          z .ended ∙ (ap (λ (x : Cursor). endedProcs (theTree l) (theTree l .head) 1 (x .address) (M .ends)) e
+          ∙ (ap (λ (n : ℕ). endedProcs (theTree l) (theTree l .head) 1 n (M .ends)) root-address
           ∙ ap (endedProcs (theTree l) (theTree l .head) 1 (rootEnd (theTree l))) (y .ended)));
     }

@@ -2,12 +2,10 @@
 use borrow.Author.Needs.{needs}
 use native.Mathlib.Omega.{arith}
 use Prim.Native.Nat.{_+_, _/_}
-use Rattle.table_scopes.specs.Environment.{item}
 use Rattle.table_scopes.specs.EnvironmentLaws.{grown-push}
-use Rattle.table_scopes.specs.Items.{itemsAt, grown-marked}
 use Rattle.compile_whole.specs.Stage.{items-few}
 use Rattle.compile_steps.specs.Views.{IsStmt, IsExpr}
-use Rattle.compile_whole.specs.Procs.{proc-long, proc-asks, proc-statement, proc-expression, proper-fits, function-fits, proc-proper, proc-function}
+use Rattle.compile_whole.specs.Procs.{proc-long, proc-asks, proc-walled, proc-statement, proc-expression, proper-fits, function-fits, proc-proper, proc-function}
 use Rattle.compile_bodies.proofs.procedure.Statement.{statement}
 use Rattle.compile_bodies.proofs.procedure.Tie as tie
 
@@ -80,10 +78,7 @@ statement-requires c κs =
     let at-word-at = at-push .before .before in
     let at-start = at-word-at .before .before .before .before .before .before .before .before .before .before in
     proc-statement (at-start .pre) (at-word-at .word-at .result) (at-word-at .word-at .ensures)
-    (grown-marked (item 65537 0 0 0) (itemsAt 4 (at-start .args .table .now) ((at-start .args .at) + 1) (at-word-at .word-at .result / 256))
-    (grown-push (at-start .args .env .now) _ (at-start .args .top) 65537 0 0 0
-    (omega (arith, proc-asks (at-start .pre) (at-word-at .word-at .result) (at-word-at .word-at .ensures) .room)) (at-push .push .ensures))
-    (at-add-head .add-head .ensures)) IsStmt (λ s. tt) (at-if1 .if1 .taken)
+    (proc-walled (at-start .pre) (at-word-at .word-at .result) (at-word-at .word-at .ensures) (at-push .push .ensures) (at-add-head .add-head .ensures)) IsStmt (λ s. tt) (at-if1 .if1 .taken)
 
 emit-requires : tie.Need-emit-requires
 emit-requires c κs =
@@ -94,9 +89,7 @@ emit-requires c κs =
     let at-word-at = at-push .before .before in
     let at-start = at-word-at .before .before .before .before .before .before .before .before .before .before in
     proper-fits (at-start .pre) (at-word-at .word-at .result) (at-word-at .word-at .ensures)
-    (grown-marked (item 65537 0 0 0) (itemsAt 4 (at-start .args .table .now) ((at-start .args .at) + 1) (at-word-at .word-at .result / 256))
-    (grown-push (at-start .args .env .now) _ (at-start .args .top) 65537 0 0 0
-    (omega (arith, proc-asks (at-start .pre) (at-word-at .word-at .result) (at-word-at .word-at .ensures) .room)) (at-push .push .ensures))
+    (proc-walled (at-start .pre) (at-word-at .word-at .result) (at-word-at .word-at .ensures) (at-push .push .ensures)
     (at-add-head .add-head .ensures)) IsStmt (λ s. tt) (at-if1 .if1 .taken) (at-statement .statement .ensures)
 
 finish-requires : tie.Need-finish-requires
@@ -114,27 +107,9 @@ finish-requires c κs =
       ),
       rw (c .before .before .emit .ensures .0)
           (proper-fits (at-start .pre) (at-word-at .word-at .result) (at-word-at .word-at .ensures)
-          (grown-marked (item 65537 0 0 0) (itemsAt 4 (at-start .args .table .now) ((at-start .args .at) + 1) (at-word-at .word-at .result / 256))
-          (grown-push (at-start .args .env .now) _ (at-start .args .top) 65537 0 0 0
-          (omega (arith, proc-asks (at-start .pre) (at-word-at .word-at .result) (at-word-at .word-at .ensures) .room)) (at-push .push .ensures))
+          (proc-walled (at-start .pre) (at-word-at .word-at .result) (at-word-at .word-at .ensures) (at-push .push .ensures)
           (at-add-head .add-head .ensures)) IsStmt (λ s. tt) (at-if1 .if1 .taken) (at-statement .statement .ensures) .address-small),
     )
-
-same-length : tie.Need-same-length
-same-length c =
-    let at-emit = c .before .before .before .before .before in
-    let at-statement = at-emit .before .before .before .before .before .before .before .before .before .before .before in
-    let at-if1 = at-statement .before .before .before .before .before .before in
-    let at-add-head = at-if1 .before .before .before in
-    let at-push = at-add-head .before .before .before .before in
-    let at-word-at = at-push .before .before in
-    let at-start = at-word-at .before .before .before .before .before .before .before .before .before .before in
-    proc-proper (at-start .pre) (at-word-at .word-at .result) (at-word-at .word-at .ensures)
-    (grown-marked (item 65537 0 0 0) (itemsAt 4 (at-start .args .table .now) ((at-start .args .at) + 1) (at-word-at .word-at .result / 256))
-    (grown-push (at-start .args .env .now) _ (at-start .args .top) 65537 0 0 0
-    (omega (arith, proc-asks (at-start .pre) (at-word-at .word-at .result) (at-word-at .word-at .ensures) .room)) (at-push .push .ensures))
-    (at-add-head .add-head .ensures)) IsStmt (λ s. tt) (at-if1 .if1 .taken) (at-statement .statement .ensures) (at-emit .emit .ensures)
-    (c .before .before .finish .ensures) .kept .same-env
 
 returns : tie.Need-returns
 returns c =
@@ -146,11 +121,12 @@ returns c =
     let at-word-at = at-push .before .before in
     let at-start = at-word-at .before .before .before .before .before .before .before .before .before .before in
     proc-proper (at-start .pre) (at-word-at .word-at .result) (at-word-at .word-at .ensures)
-    (grown-marked (item 65537 0 0 0) (itemsAt 4 (at-start .args .table .now) ((at-start .args .at) + 1) (at-word-at .word-at .result / 256))
-    (grown-push (at-start .args .env .now) _ (at-start .args .top) 65537 0 0 0
-    (omega (arith, proc-asks (at-start .pre) (at-word-at .word-at .result) (at-word-at .word-at .ensures) .room)) (at-push .push .ensures))
+    (proc-walled (at-start .pre) (at-word-at .word-at .result) (at-word-at .word-at .ensures) (at-push .push .ensures)
     (at-add-head .add-head .ensures)) IsStmt (λ s. tt) (at-if1 .if1 .taken) (at-statement .statement .ensures) (at-emit .emit .ensures)
     (c .before .before .finish .ensures)
+
+same-length : tie.Need-same-length
+same-length c = returns c .kept .same-env
 
 sub-expression : tie.Need-sub-expression
 sub-expression c =
@@ -184,10 +160,7 @@ expression-requires c κs =
     let at-word-at = at-push .before .before in
     let at-start = at-word-at .before .before .before .before .before .before .before .before .before .before in
     proc-expression (at-start .pre) (at-word-at .word-at .result) (at-word-at .word-at .ensures)
-    (grown-marked (item 65537 0 0 0) (itemsAt 4 (at-start .args .table .now) ((at-start .args .at) + 1) (at-word-at .word-at .result / 256))
-    (grown-push (at-start .args .env .now) _ (at-start .args .top) 65537 0 0 0
-    (omega (arith, proc-asks (at-start .pre) (at-word-at .word-at .result) (at-word-at .word-at .ensures) .room)) (at-push .push .ensures))
-    (at-add-head .add-head .ensures)) IsExpr (λ e. tt) (at-if1 .if1 .left)
+    (proc-walled (at-start .pre) (at-word-at .word-at .result) (at-word-at .word-at .ensures) (at-push .push .ensures) (at-add-head .add-head .ensures)) IsExpr (λ e. tt) (at-if1 .if1 .left)
 
 emit-requires-2 : tie.Need-emit-requires-2
 emit-requires-2 c κs =
@@ -198,9 +171,7 @@ emit-requires-2 c κs =
     let at-word-at = at-push .before .before in
     let at-start = at-word-at .before .before .before .before .before .before .before .before .before .before in
     function-fits (at-start .pre) (at-word-at .word-at .result) (at-word-at .word-at .ensures)
-    (grown-marked (item 65537 0 0 0) (itemsAt 4 (at-start .args .table .now) ((at-start .args .at) + 1) (at-word-at .word-at .result / 256))
-    (grown-push (at-start .args .env .now) _ (at-start .args .top) 65537 0 0 0
-    (omega (arith, proc-asks (at-start .pre) (at-word-at .word-at .result) (at-word-at .word-at .ensures) .room)) (at-push .push .ensures))
+    (proc-walled (at-start .pre) (at-word-at .word-at .result) (at-word-at .word-at .ensures) (at-push .push .ensures)
     (at-add-head .add-head .ensures)) IsExpr (λ e. tt) (at-if1 .if1 .left) (at-expression .expression .ensures)
 
 finish-requires-2 : tie.Need-finish-requires-2
@@ -218,27 +189,9 @@ finish-requires-2 c κs =
       ),
       rw (c .before .before .emit2 .ensures .0)
           (function-fits (at-start .pre) (at-word-at .word-at .result) (at-word-at .word-at .ensures)
-          (grown-marked (item 65537 0 0 0) (itemsAt 4 (at-start .args .table .now) ((at-start .args .at) + 1) (at-word-at .word-at .result / 256))
-          (grown-push (at-start .args .env .now) _ (at-start .args .top) 65537 0 0 0
-          (omega (arith, proc-asks (at-start .pre) (at-word-at .word-at .result) (at-word-at .word-at .ensures) .room)) (at-push .push .ensures))
+          (proc-walled (at-start .pre) (at-word-at .word-at .result) (at-word-at .word-at .ensures) (at-push .push .ensures)
           (at-add-head .add-head .ensures)) IsExpr (λ e. tt) (at-if1 .if1 .left) (at-expression .expression .ensures) .address-small),
     )
-
-same-length-5 : tie.Need-same-length-5
-same-length-5 c =
-    let at-emit2 = c .before .before .before .before .before in
-    let at-expression = at-emit2 .before .before .before .before .before .before .before .before .before .before .before in
-    let at-if1 = at-expression .before .before .before .before .before .before in
-    let at-add-head = at-if1 .before .before .before in
-    let at-push = at-add-head .before .before .before .before in
-    let at-word-at = at-push .before .before in
-    let at-start = at-word-at .before .before .before .before .before .before .before .before .before .before in
-    proc-function (at-start .pre) (at-word-at .word-at .result) (at-word-at .word-at .ensures)
-    (grown-marked (item 65537 0 0 0) (itemsAt 4 (at-start .args .table .now) ((at-start .args .at) + 1) (at-word-at .word-at .result / 256))
-    (grown-push (at-start .args .env .now) _ (at-start .args .top) 65537 0 0 0
-    (omega (arith, proc-asks (at-start .pre) (at-word-at .word-at .result) (at-word-at .word-at .ensures) .room)) (at-push .push .ensures))
-    (at-add-head .add-head .ensures)) IsExpr (λ e. tt) (at-if1 .if1 .left) (at-expression .expression .ensures) (at-emit2 .emit2 .ensures)
-    (c .before .before .finish2 .ensures) .kept .same-env
 
 returns-2 : tie.Need-returns-2
 returns-2 c =
@@ -250,11 +203,12 @@ returns-2 c =
     let at-word-at = at-push .before .before in
     let at-start = at-word-at .before .before .before .before .before .before .before .before .before .before in
     proc-function (at-start .pre) (at-word-at .word-at .result) (at-word-at .word-at .ensures)
-    (grown-marked (item 65537 0 0 0) (itemsAt 4 (at-start .args .table .now) ((at-start .args .at) + 1) (at-word-at .word-at .result / 256))
-    (grown-push (at-start .args .env .now) _ (at-start .args .top) 65537 0 0 0
-    (omega (arith, proc-asks (at-start .pre) (at-word-at .word-at .result) (at-word-at .word-at .ensures) .room)) (at-push .push .ensures))
+    (proc-walled (at-start .pre) (at-word-at .word-at .result) (at-word-at .word-at .ensures) (at-push .push .ensures)
     (at-add-head .add-head .ensures)) IsExpr (λ e. tt) (at-if1 .if1 .left) (at-expression .expression .ensures) (at-emit2 .emit2 .ensures)
     (c .before .before .finish2 .ensures)
+
+same-length-5 : tie.Need-same-length-5
+same-length-5 c = returns-2 c .kept .same-env
 
 pub procedure-spec : {M : Type 1} → statement M
 procedure-spec =

@@ -42,21 +42,27 @@ global-requires c κs =
 
 size-at-requires : tie.Need-size-at-requires Inv-loop μ-loop
 size-at-requires c κs =
-    let w = procs-within (c .before .before .before .before .before .before .before .before .before .before .before .before .before .before .before .before .before .before .before .before .before .before .before .before .pre)
-    (c .before .before .before .before .before .before .before .before .before .before .before .before .before .before .before .loop .inv)
-    (omega arith) in omega (arith, w .some, w .within, w .wide)
+    let at-test = c .before .before .before .before .before .before .before .before .before .before .before .before .before .before in
+    let at-loop = at-test .before in
+    let at-start = at-loop .before .before .before .before .before .before .before .before .before in
+    let w = procs-within (at-start .pre) (at-loop .loop .inv) (omega (arith, at-test .loop-test .taken)) in
+    omega (arith, w .some, w .within, w .wide)
 
 add-place : tie.Need-add-place Inv-loop μ-loop
 add-place c =
-    let w = procs-within (c .before .before .before .before .before .before .before .before .before .before .before .before .before .before .before .before .before .before .before .before .before .before .before .before .before .pre)
-    (c .before .before .before .before .before .before .before .before .before .before .before .before .before .before .before .before .loop .inv)
-    (omega arith) in omega (arith, w .within, c .size-at .ensures, c .before .before .before .before .before .before .before .before .before .before .before .before .before .before .before .before .before .before .before .before .before .before .before .before .before .pre .stage .prepared .tabled .legible .short)
+    let at-test = c .before .before .before .before .before .before .before .before .before .before .before .before .before .before .before in
+    let at-loop = at-test .before in
+    let at-start = at-loop .before .before .before .before .before .before .before .before .before in
+    let w = procs-within (at-start .pre) (at-loop .loop .inv) (omega (arith, at-test .loop-test .taken)) in
+    omega (arith, w .within, c .size-at .ensures, at-start .pre .stage .prepared .tabled .legible .short)
 
 loop-again : tie.Need-loop-again Inv-loop μ-loop
 loop-again c =
-    procs-next (c .before .before .before .before .before .before .before .before .before .before .before .before .before .before .before .before .before .before .before .before .before .before .before .before .before .pre)
-    (c .before .before .before .before .before .before .before .before .before .before .before .before .before .before .before .before .loop .inv)
-    (omega arith) (c .size-at .result) (c .before .before .before .before .before .before .before .before .before .global .ensures) (c .size-at .ensures)
+    let at-global = c .before .before .before .before .before .before .before .before .before in
+    let at-test = at-global .before .before .before .before .before .before in
+    let at-loop = at-test .before in
+    let at-start = at-loop .before .before .before .before .before .before .before .before .before in
+    procs-next (at-start .pre) (at-loop .loop .inv) (omega (arith, at-test .loop-test .taken)) (c .size-at .result) (at-global .global .ensures) (c .size-at .ensures)
 
 returns : tie.Need-returns Inv-loop μ-loop
 returns c = procs-end (c .before .before .before .before .before .before .before .before .before .before .pre) (c .before .loop .inv) (omega arith)

@@ -81,32 +81,6 @@ finish-requires c κs =
           (at-root-holds .root-holds .ensures) (at-declare-globals .declare-globals .ensures) (at-items .items .ensures) (at-releases .releases .ensures) .address-small),
     )
 
-same-length : tie.Need-same-length
-same-length c =
-    let at-emit = c .before .before .before .before .before in
-    let at-releases = at-emit .before .before .before .before .before in
-    let at-items = at-releases .before .before .before .before .before .before .before .before .before .before in
-    let at-declare-globals = at-items .before .before .before .before .before .before .before .before in
-    let at-root-holds = at-declare-globals .before .before in
-    let at-word-at = at-root-holds .before in
-    let at-start = at-word-at .before .before .before .before .before .before .before .before .before in
-    root-done (at-start .pre) (at-word-at .word-at .result) (at-root-holds .root-holds .result) (at-word-at .word-at .ensures)
-    (at-root-holds .root-holds .ensures) (at-declare-globals .declare-globals .ensures) (at-items .items .ensures)
-    (at-releases .releases .ensures) (at-emit .emit .ensures) (c .before .before .finish .ensures) .kept .same-env
-
-same-length-4 : tie.Need-same-length-4
-same-length-4 c =
-    let at-emit = c .before .before .before .before .before in
-    let at-releases = at-emit .before .before .before .before .before in
-    let at-items = at-releases .before .before .before .before .before .before .before .before .before .before in
-    let at-declare-globals = at-items .before .before .before .before .before .before .before .before in
-    let at-root-holds = at-declare-globals .before .before in
-    let at-word-at = at-root-holds .before in
-    let at-start = at-word-at .before .before .before .before .before .before .before .before .before in
-    root-done (at-start .pre) (at-word-at .word-at .result) (at-root-holds .root-holds .result) (at-word-at .word-at .ensures)
-    (at-root-holds .root-holds .ensures) (at-declare-globals .declare-globals .ensures) (at-items .items .ensures)
-    (at-releases .releases .ensures) (at-emit .emit .ensures) (c .before .before .finish .ensures) .kept .same-out
-
 returns : tie.Need-returns
 returns c =
     let at-emit = c .before .before .before .before .before in
@@ -119,6 +93,12 @@ returns c =
     root-done (at-start .pre) (at-word-at .word-at .result) (at-root-holds .root-holds .result) (at-word-at .word-at .ensures)
     (at-root-holds .root-holds .ensures) (at-declare-globals .declare-globals .ensures) (at-items .items .ensures)
     (at-releases .releases .ensures) (at-emit .emit .ensures) (c .before .before .finish .ensures)
+
+same-length : tie.Need-same-length
+same-length c = returns c .kept .same-env
+
+same-length-4 : tie.Need-same-length-4
+same-length-4 c = returns c .kept .same-out
 
 pub root-spec : {M : Type 1} → statement M
 root-spec =

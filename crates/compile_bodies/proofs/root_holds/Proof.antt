@@ -2,7 +2,8 @@
 use borrow.Author.Needs.{needs}
 use native.Mathlib.Omega.{arith}
 use mathlib.Core.Path.{refl, ap, _∙_}
-use Rattle.compile_whole.specs.Declares.{holdsOf, HoldsSoFar, holds-start, holds-within, holds-few, holds-next, holds-end}
+use Rattle.compile_emit.specs.EmitEntry.{holdsBy}
+use Rattle.compile_whole.specs.Declares.{HoldsSoFar, holds-start, holds-within, holds-few, holds-next, holds-end}
 use Rattle.compile_bodies.proofs.root_holds.Statement.{statement}
 use Rattle.compile_bodies.proofs.root_holds.Tie as tie
 
@@ -22,7 +23,7 @@ add-n : tie.Need-add-n Inv-loop μ-loop
 add-n c =
     let w = holds-within (c .before .before .before .before .before .before .pre .tabled) (c .before .before .before .loop .inv) (omega arith) in
     let h = holds-few (c .before .before .before .before .before .before .pre .tabled) (c .before .before .before .loop .inv) _ _ (omega arith)
-    (c .holds-of .ensures ∙ ap holdsOf (c .before .kind-at .ensures)) refl in
+    (c .holds-by .ensures ∙ ap holdsBy (c .before .kind-at .ensures)) refl in
     omega (arith, w .within, h, c .before .before .before .before .before .before .pre .tabled .legible .short)
 
 size-at-requires : tie.Need-size-at-requires Inv-loop μ-loop
@@ -38,7 +39,7 @@ add-place c =
 loop-again : tie.Need-loop-again Inv-loop μ-loop
 loop-again c =
     holds-next (c .before .before .before .before .before .before .before .pre .tabled) (c .before .before .before .before .loop .inv)
-    (c .before .holds-of .result) (c .size-at .result) (omega arith) (c .before .holds-of .ensures ∙ ap holdsOf (c .before .before .kind-at .ensures))
+    (c .before .holds-by .result) (c .size-at .result) (omega arith) (c .before .holds-by .ensures ∙ ap holdsBy (c .before .before .kind-at .ensures))
     (c .size-at .ensures)
 
 returns : tie.Need-returns Inv-loop μ-loop

@@ -8,10 +8,6 @@ use Rattle.compile_emit.specs.EmitEntryLaws.{op-fits, fits-mark}
 use borrow.Author.Needs.{needs}
 use Rattle.compile_emit.proofs.after_arm.Statement.{statement}
 use Rattle.compile_emit.proofs.after_arm.Tie as tie
-use Rattle.compile_emit.proofs.after_arm.Reads as reads
-use Rattle.compile_emit.proofs.after_arm.Lts as lts
-use Rattle.compile_output.proofs.emit.Reads as emit-reads
-use Rattle.compile_output.proofs.shape.Reads as shape-reads
 
 emit-requires : tie.Need-emit-requires
 emit-requires c κs =

@@ -8,9 +8,6 @@ use Rattle.compile_emit.specs.EmitEntryLaws.{fits-op, op-fits}
 use borrow.Author.Needs.{needs}
 use Rattle.compile_emit.proofs.before_arm.Statement.{statement}
 use Rattle.compile_emit.proofs.before_arm.Tie as tie
-use Rattle.compile_emit.proofs.before_arm.Reads as reads
-use Rattle.compile_emit.proofs.before_arm.Lts as lts
-use Rattle.compile_output.proofs.emit.Reads as emit-reads
 
 emit-requires : tie.Need-emit-requires
 emit-requires c κs =

@@ -11,10 +11,6 @@ use Rattle.compile_emit.specs.EmitEntry.{cursorBehind, emitBehind}
 use borrow.Author.Needs.{needs}
 use Rattle.compile_emit.proofs.behind.Statement.{statement}
 use Rattle.compile_emit.proofs.behind.Tie as tie
-use Rattle.compile_emit.proofs.behind.Reads as reads
-use Rattle.compile_emit.proofs.behind.Lts as lts
-use Rattle.compile_output.proofs.emit.Reads as emit-reads
-use Rattle.compile_output.proofs.shape.Reads as shape-reads
 
 emit-requires : tie.Need-emit-requires
 emit-requires c κs =

@@ -12,10 +12,6 @@ use Rattle.compile_emit.specs.EmitEntry.{cursorBetween, emitBetween}
 use borrow.Author.Needs.{needs}
 use Rattle.compile_emit.proofs.between.Statement.{statement}
 use Rattle.compile_emit.proofs.between.Tie as tie
-use Rattle.compile_emit.proofs.between.Reads as reads
-use Rattle.compile_emit.proofs.between.Lts as lts
-use Rattle.compile_output.proofs.emit.Reads as emit-reads
-use Rattle.compile_output.proofs.shape.Reads as shape-reads
 
 shape-requires : tie.Need-shape-requires
 shape-requires c κs =

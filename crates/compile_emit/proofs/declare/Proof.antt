@@ -15,11 +15,6 @@ use Rattle.compile_output.specs.EmitRecord.{Fits}
 use Rattle.compile_output.specs.EmitCode.{fits-before}
 use Rattle.compile_emit.proofs.declare.Statement.{statement}
 use Rattle.compile_emit.proofs.declare.Tie as tie
-use Rattle.compile_emit.proofs.declare.Reads as reads
-use Rattle.compile_emit.proofs.declare.Lts as lts
-use Rattle.compile_symbols.proofs.known_at.Reads as known-at-reads
-use Rattle.compile_emit.proofs.declare_one.Reads as declare-one-reads
-use Rattle.compile_emit.proofs.finish.Reads as finish-reads
 
 abbrev Inv-loop : tie.InvT-loop
 Inv-loop part at count known ends₀ out₀ i₀ p₀ ends out i p = (i ≤ count) × (cursorHead part count p₀ ≡ cursorHead (drop (8 * i) part) (count - i) p)

@@ -7,13 +7,6 @@ use Rattle.compile_emit.specs.EmitEntry.{cursorDeclared, emitDeclared}
 use borrow.Author.Needs.{needs}
 use Rattle.compile_emit.proofs.declare_one.Statement.{statement}
 use Rattle.compile_emit.proofs.declare_one.Tie as tie
-use Rattle.compile_emit.proofs.declare_one.Reads as reads
-use Rattle.compile_emit.proofs.declare_one.Lts as lts
-use Rattle.compile_symbols.proofs.second_in.Reads as second-in-reads
-use Rattle.compile_symbols.proofs.type_in.Reads as type-in-reads
-use Rattle.compile_emit.proofs.initial.Reads as initial-reads
-use Rattle.compile_output.proofs.emit.Reads as emit-reads
-use Rattle.words.proofs.half_at.Reads as half-at-reads
 
 initial-requires : tie.Need-initial-requires
 initial-requires c κs =

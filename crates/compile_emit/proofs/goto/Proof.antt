@@ -8,10 +8,6 @@ use Rattle.compile_output.specs.EmitRecord.{cursorShaped}
 use Rattle.compile_emit.specs.EmitEntryLaws.{fits-op, fits-mark, op-fits, lets-length}
 use Rattle.compile_emit.proofs.goto.Statement.{statement}
 use Rattle.compile_emit.proofs.goto.Tie as tie
-use Rattle.compile_emit.proofs.land.Reads as land-reads
-use Rattle.compile_output.proofs.emit.Reads as emit-reads
-use Rattle.compile_output.proofs.releases.Reads as releases-reads
-use Rattle.compile_output.proofs.shape.Reads as shape-reads
 
 releases-requires : tie.Need-releases-requires
 releases-requires c κs =

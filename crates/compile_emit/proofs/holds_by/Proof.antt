@@ -2,8 +2,6 @@
 use borrow.Author.Tests.{eq-eqb, ne-eqb}
 use Rattle.compile_emit.proofs.holds_by.Statement.{statement}
 use Rattle.compile_emit.proofs.holds_by.Tie as tie
-use Rattle.compile_emit.proofs.holds_by.Reads as reads
-use Rattle.compile_emit.proofs.holds_by.Lts as lts
 
 returns : tie.Need-returns
 returns c = rw (eq-eqb _ _ (c .if1 .taken))

@@ -11,10 +11,6 @@ use lib.ListN.{drop}
 use Rattle.words.specs.Numbers.{halfAt}
 use Rattle.compile_emit.proofs.holds_in.Statement.{statement}
 use Rattle.compile_emit.proofs.holds_in.Tie as tie
-use Rattle.compile_emit.proofs.holds_in.Reads as reads
-use Rattle.compile_emit.proofs.holds_in.Lts as lts
-use Rattle.compile_emit.proofs.holds_by.Reads as holds-by-reads
-use Rattle.words.proofs.half_at.Reads as half-at-reads
 
 abbrev Inv-loop : tie.InvT-loop
 Inv-loop part count i₀ n₀ i n = (i ≤ count) × (holdsHead part count ≡ n + holdsHead (drop (8 * i) part) (count - i)) × (n ≤ i)

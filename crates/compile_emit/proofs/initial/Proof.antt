@@ -3,9 +3,6 @@ use borrow.Author.Tests.{lt-ltb, le-ltb}
 use borrow.Author.Needs.{needs}
 use Rattle.compile_emit.proofs.initial.Statement.{statement}
 use Rattle.compile_emit.proofs.initial.Tie as tie
-use Rattle.compile_emit.proofs.initial.Reads as reads
-use Rattle.compile_emit.proofs.initial.Lts as lts
-use Rattle.compile_output.proofs.emit.Reads as emit-reads
 
 returns : tie.Need-returns
 returns c =

@@ -3,10 +3,6 @@ use mathlib.Core.Path.{sym}
 use borrow.Author.Needs.{needs}
 use Rattle.compile_emit.proofs.known_of.Statement.{statement}
 use Rattle.compile_emit.proofs.known_of.Tie as tie
-use Rattle.compile_emit.proofs.known_of.Reads as reads
-use Rattle.compile_emit.proofs.known_of.Lts as lts
-use Rattle.compile_symbols.proofs.meaning.Reads as meaning-reads
-use Rattle.compile_emit.proofs.names.Reads as names-reads
 
 returns : tie.Need-returns
 returns c = rw (sym (c .before .before .names .ensures), c .before .if1 .taken) (c .meaning .ensures)

@@ -9,7 +9,6 @@ use Rattle.compile_nodes.specs.Knows.{passedTo}
 use Rattle.compile_emit.specs.EmitEntryLaws.{passed-hit, passed-hold, passed-other, passed-none, meant-hit, meant-miss, meant-none}
 use Rattle.compile_emit.proofs.land.Statement.{statement}
 use Rattle.compile_emit.proofs.land.Tie as tie
-use Rattle.compile_emit.proofs.end_of.Reads as end-of-reads
 
 abbrev Inv-loop : tie.InvT-loop
 Inv-loop env top name aims i₀ n₀ i n =

@@ -5,11 +5,6 @@ use Rattle.compile_emit.specs.EmitEntry.{emitLast}
 use borrow.Author.Needs.{needs}
 use Rattle.compile_emit.proofs.last.Statement.{statement}
 use Rattle.compile_emit.proofs.last.Tie as tie
-use Rattle.compile_emit.proofs.last.Reads as reads
-use Rattle.compile_emit.proofs.last.Lts as lts
-use Rattle.compile_symbols.proofs.first_in.Reads as first-in-reads
-use Rattle.compile_symbols.proofs.second_in.Reads as second-in-reads
-use Rattle.compile_output.proofs.emit.Reads as emit-reads
 
 returns : tie.Need-returns
 unfolding emitLast

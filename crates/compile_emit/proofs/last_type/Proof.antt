@@ -4,9 +4,6 @@ use Rattle.compile_emit.specs.EmitEntry.{lastType}
 use borrow.Author.Needs.{needs}
 use Rattle.compile_emit.proofs.last_type.Statement.{statement}
 use Rattle.compile_emit.proofs.last_type.Tie as tie
-use Rattle.compile_emit.proofs.last_type.Reads as reads
-use Rattle.compile_emit.proofs.last_type.Lts as lts
-use Rattle.compile_symbols.proofs.type_in.Reads as type-in-reads
 
 returns : tie.Need-returns
 unfolding lastType

@@ -5,12 +5,6 @@ use Rattle.compile_emit.specs.EmitEntry.{emitLeaf}
 use borrow.Author.Needs.{needs}
 use Rattle.compile_emit.proofs.leaf.Statement.{statement}
 use Rattle.compile_emit.proofs.leaf.Tie as tie
-use Rattle.compile_emit.proofs.leaf.Reads as reads
-use Rattle.compile_emit.proofs.leaf.Lts as lts
-use Rattle.compile_symbols.proofs.first_in.Reads as first-in-reads
-use Rattle.compile_symbols.proofs.second_in.Reads as second-in-reads
-use Rattle.compile_emit.proofs.owner.Reads as owner-reads
-use Rattle.compile_output.proofs.emit.Reads as emit-reads
 
 returns : tie.Need-returns
 unfolding emitLeaf

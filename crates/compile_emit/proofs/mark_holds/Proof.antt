@@ -9,9 +9,6 @@ use Prim.Native.Nat.{_-_}
 use Rattle.compile_scopes.specs.Marks.{marks}
 use Rattle.compile_emit.proofs.mark_holds.Statement.{statement}
 use Rattle.compile_emit.proofs.mark_holds.Tie as tie
-use Rattle.compile_emit.proofs.mark_holds.Reads as reads
-use Rattle.compile_emit.proofs.mark_holds.Lts as lts
-use Rattle.table_scopes.proofs.push.Reads as push-reads
 
 abbrev Inv-loop : tie.InvT-loop
 Inv-loop env₀ top count i₀ env i = (i ≤ count) × Grown top env₀ env (top + i) (marks i ++ envOf env₀ top) i

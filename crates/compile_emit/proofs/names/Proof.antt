@@ -3,8 +3,6 @@ use borrow.Author.Tests.{ne-eqb}
 use Rattle.compile_emit.specs.EmitEntry.{names}
 use Rattle.compile_emit.proofs.names.Statement.{statement}
 use Rattle.compile_emit.proofs.names.Tie as tie
-use Rattle.compile_emit.proofs.names.Reads as reads
-use Rattle.compile_emit.proofs.names.Lts as lts
 
 returns : tie.Need-returns
 unfolding names

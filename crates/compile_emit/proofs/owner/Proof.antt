@@ -2,9 +2,6 @@
 use borrow.Author.Needs.{needs}
 use Rattle.compile_emit.proofs.owner.Statement.{statement}
 use Rattle.compile_emit.proofs.owner.Tie as tie
-use Rattle.compile_emit.proofs.owner.Reads as reads
-use Rattle.compile_emit.proofs.owner.Lts as lts
-use Rattle.compile_symbols.proofs.first_in.Reads as first-in-reads
 
 returns : tie.Need-returns
 returns c = rw (c .before .if1 .taken) (c .first-in .ensures)

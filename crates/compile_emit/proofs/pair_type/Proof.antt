@@ -3,8 +3,6 @@ use borrow.Author.Tests.{lt-ltb, le-ltb}
 use Rattle.compile_emit.specs.EmitEntry.{pairType}
 use Rattle.compile_emit.proofs.pair_type.Statement.{statement}
 use Rattle.compile_emit.proofs.pair_type.Tie as tie
-use Rattle.compile_emit.proofs.pair_type.Reads as reads
-use Rattle.compile_emit.proofs.pair_type.Lts as lts
 
 returns : tie.Need-returns
 unfolding pairType

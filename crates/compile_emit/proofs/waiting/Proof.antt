@@ -2,8 +2,6 @@
 use borrow.Author.Tests.{lt-ltb, le-ltb}
 use Rattle.compile_emit.proofs.waiting.Statement.{statement}
 use Rattle.compile_emit.proofs.waiting.Tie as tie
-use Rattle.compile_emit.proofs.waiting.Reads as reads
-use Rattle.compile_emit.proofs.waiting.Lts as lts
 
 returns : tie.Need-returns
 returns c = rw (lt-ltb _ _ (c .if1 .taken))

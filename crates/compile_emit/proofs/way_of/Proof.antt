@@ -3,8 +3,6 @@ use borrow.Author.Tests.{eq-eqb, ne-eqb}
 use Rattle.compile_emit.specs.EmitEntry.{wayBy}
 use Rattle.compile_emit.proofs.way_of.Statement.{statement}
 use Rattle.compile_emit.proofs.way_of.Tie as tie
-use Rattle.compile_emit.proofs.way_of.Reads as reads
-use Rattle.compile_emit.proofs.way_of.Lts as lts
 
 returns : tie.Need-returns
 unfolding wayBy

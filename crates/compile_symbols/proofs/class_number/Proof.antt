@@ -7,12 +7,6 @@ use Rattle.compile_symbols.specs.Entries.{oneIf, one-few}
 use Rattle.compile_symbols.specs.Classes.{ClassSoFar, class-start, class-within, class-hit, class-next, class-end}
 use Rattle.compile_symbols.proofs.class_number.Statement.{statement}
 use Rattle.compile_symbols.proofs.class_number.Tie as tie
-use Rattle.compile_symbols.proofs.class_number.Reads as reads
-use Rattle.compile_symbols.proofs.class_number.Lts as lts
-use Rattle.compile_symbols.proofs.names_class.Reads as names-class-reads
-use Rattle.compile_symbols.proofs.one_if.Reads as one-if-reads
-use Rattle.table_scopes.proofs.kind_at.Reads as kind-at-reads
-use Rattle.table_scopes.proofs.size_at.Reads as size-at-reads
 
 abbrev Inv-loop : tie.InvT-loop
 Inv-loop table count sizes name place₀ left₀ n₀ place left n = ClassSoFar table name place left n

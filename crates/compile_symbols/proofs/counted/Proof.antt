@@ -4,10 +4,6 @@ use Rattle.compile_symbols.specs.Entries.{cells-few, one-few}
 use borrow.Author.Needs.{needs}
 use Rattle.compile_symbols.proofs.counted.Statement.{statement}
 use Rattle.compile_symbols.proofs.counted.Tie as tie
-use Rattle.compile_symbols.proofs.counted.Reads as reads
-use Rattle.compile_symbols.proofs.counted.Lts as lts
-use Rattle.compile_symbols.proofs.cells_of.Reads as cells-of-reads
-use Rattle.compile_symbols.proofs.one_if.Reads as one-if-reads
 
 -- src/lib.rt:189:16
 add-t4 : tie.Need-add-t4

@@ -4,10 +4,6 @@ use borrow.Author.Tests.{ne-eqb}
 use borrow.Author.Needs.{needs}
 use Rattle.compile_symbols.proofs.names_class.Statement.{statement}
 use Rattle.compile_symbols.proofs.names_class.Tie as tie
-use Rattle.compile_symbols.proofs.names_class.Reads as reads
-use Rattle.compile_symbols.proofs.names_class.Lts as lts
-use Rattle.table_scopes.proofs.a_at.Reads as a-at-reads
-use Rattle.table_scopes.proofs.kind_at.Reads as kind-at-reads
 
 -- src/lib.rt:67:1
 returns : tie.Need-returns

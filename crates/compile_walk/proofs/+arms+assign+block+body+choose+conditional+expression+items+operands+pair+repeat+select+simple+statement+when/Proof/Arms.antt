@@ -15,7 +15,7 @@ use Rattle.compile_emit.proofs.after_arm.Reads as after-arm-reads
 use Rattle.compile_emit.proofs.before_arm.Reads as before-arm-reads
 use Rattle.compile_emit.proofs.end_of.Reads as end-of-reads
 use Rattle.table_scopes.proofs.size_at.Reads as size-at-reads
-use Rattle.compile_walk.proofs.+arms+assign+block+body+choose+conditional+expression+items+operands+pair+repeat+select+simple+statement+when.Proof.Base.{arms-at, statement-below}
+use Rattle.compile_walk.proofs.+arms+assign+block+body+choose+conditional+expression+items+operands+pair+repeat+select+simple+statement+when.Proof.Base.{arms-at, kind-below}
 
 abbrev arms-Inv-loop : arms-lts.InvT-loop
 arms-Inv-loop table part owner count nesting at sizes env₀ top known aims ends₀ holds stack₀ depth out₀ cell end rest₀ place₀ i₀ p₀ env ends stack out
@@ -34,13 +34,13 @@ pub arms-meets : {M : Type 1} (t : ℕ) → arms-lts.Closed (
   end-of-reads.Learnt,
   before-arm-reads.Asked,
   before-arm-reads.Learnt,
-  statement-below t,
+  kind-below statement′.Pre t,
   statement′.Post,
   after-arm-reads.Asked,
   after-arm-reads.Learnt,
   size-at-reads.Asked,
   size-at-reads.Learnt,
-) (arms-at t) arms.Post M
+) (arms-at arms.Pre t) arms.Post M
 arms-meets t =
     arms-lts.spec (
       known-at-reads.Asked,
@@ -51,13 +51,13 @@ arms-meets t =
       end-of-reads.Learnt,
       before-arm-reads.Asked,
       before-arm-reads.Learnt,
-      statement-below t,
+      kind-below statement′.Pre t,
       statement′.Post,
       after-arm-reads.Asked,
       after-arm-reads.Learnt,
       size-at-reads.Asked,
       size-at-reads.Learnt,
-    ) (arms-at t) arms.Post arms-Inv-loop arms-μ-loop
+    ) (arms-at arms.Pre t) arms.Post arms-Inv-loop arms-μ-loop
     -- known-at-requires
     (λ c κs. search needs)
     -- second-in-requires

@@ -3,7 +3,7 @@ use mathlib.Core.Path.{refl, sym, _∙_}
 use native.Mathlib.Omega.{arith}
 use borrow.Author.Needs.{needs}
 use Rattle.compile_steps.specs.Parts.{asked}
-use Rattle.compile_steps.specs.Adapt.{second-within}
+use Rattle.compile_steps.specs.Parts.{second-within}
 use Rattle.compile_steps.specs.Assign.{asks-assign, asks-variable-first, asks-variable-second, asks-variable-emit, asks-variable-finish, answers-variable}
 use Rattle.compile_steps.specs.Assign.{asks-field-nests, asks-field-first, asks-field-mid, asks-field-second, asks-field-emit, asks-field-finish, answers-field}
 use Prim.Native.Nat.{ℕ}
@@ -18,7 +18,7 @@ use Rattle.compile_emit.proofs.owner.Reads as owner-reads
 use Rattle.compile_output.proofs.emit.Reads as emit-reads
 use Rattle.table_scopes.proofs.size_at.Reads as size-at-reads
 use Rattle.words.proofs.half_at.Reads as half-at-reads
-use Rattle.compile_walk.proofs.+arms+assign+block+body+choose+conditional+expression+items+operands+pair+repeat+select+simple+statement+when.Proof.Base.{assign-at, expression-below}
+use Rattle.compile_walk.proofs.+arms+assign+block+body+choose+conditional+expression+items+operands+pair+repeat+select+simple+statement+when.Proof.Base.{entry-at, kind-below}
 
 -- what the functions that it calls are taken to ask and give
 abbrev claims : ℕ → assign-lts.Claims
@@ -31,7 +31,7 @@ claims t = (
   size-at-reads.Learnt,
   finish-reads.Asked,
   finish-reads.Learnt,
-  expression-below t,
+  kind-below expression.Pre t,
   expression.Post,
   owner-reads.Asked,
   owner-reads.Learnt,
@@ -44,7 +44,7 @@ claims t = (
 )
 
 -- what it has done where it returns
-assign-ends : (t : ℕ) → assign-lts.Need-returns (claims t) (assign-at t) assign.Post
+assign-ends : (t : ℕ) → assign-lts.Need-returns (claims t) (entry-at assign.Pre t) assign.Post
 assign-ends t c =
     let at-finish2 = c .before .before in
     let at-emit = at-finish2 .before .before .before .before in
@@ -62,7 +62,7 @@ assign-ends t c =
     (sym (at-half-at2 .half-at2 .ensures) ∙ at-if1 .if1 .taken) (at-finish .finish .ensures) (at-expression .expression .ensures)
     (rw (at-owner .owner .ensures, at-second-in .second-in .ensures) at (at-emit .emit .ensures)) (at-finish2 .finish2 .ensures)
 
-assign-ends-2 : (t : ℕ) → assign-lts.Need-returns-2 (claims t) (assign-at t) assign.Post
+assign-ends-2 : (t : ℕ) → assign-lts.Need-returns-2 (claims t) (entry-at assign.Pre t) assign.Post
 assign-ends-2 t c =
     let c1 = c .before .before in
     let c2 = c1 .before .before .before .before in
@@ -81,8 +81,8 @@ assign-ends-2 t c =
     (λ z. c8 .if1 .left (c9 .half-at2 .ensures ∙ z)) (c7 .expression2 .ensures) (c6 .finish3 .ensures) (c5 .expression3 .ensures)
     (rw (c4 .first-in .ensures, c3 .second-in2 .ensures) at (c2 .emit2 .ensures)) (c1 .finish4 .ensures)
 
-pub assign-meets : {M : Type 1} (t : ℕ) → assign-lts.Closed (claims t) (assign-at t) assign.Post M
-assign-meets t = assign-lts.spec (claims t) (assign-at t) assign.Post
+pub assign-meets : {M : Type 1} (t : ℕ) → assign-lts.Closed (claims t) (entry-at assign.Pre t) assign.Post M
+assign-meets t = assign-lts.spec (claims t) (entry-at assign.Pre t) assign.Post
     -- half-at-requires
     (λ c κs. omega (arith, asks-assign (c .before .before .before .before .before .before .before .before .before .before .pre .1) .long))
     -- meaning-requires

@@ -14,7 +14,7 @@ use Rattle.compile_emit.proofs.open_block.Reads as open-block-reads
 use Rattle.compile_output.proofs.releases.Reads as releases-reads
 use Rattle.words.proofs.half_at.Reads as half-at-reads
 use Rattle.words.proofs.word_at.Reads as word-at-reads
-use Rattle.compile_walk.proofs.+arms+assign+block+body+choose+conditional+expression+items+operands+pair+repeat+select+simple+statement+when.Proof.Base.{block-at, items-below}
+use Rattle.compile_walk.proofs.+arms+assign+block+body+choose+conditional+expression+items+operands+pair+repeat+select+simple+statement+when.Proof.Base.{entry-at, list-below}
 
 -- what the functions that it calls are taken to ask and give
 abbrev claims : ℕ → block-lts.Claims
@@ -25,7 +25,7 @@ claims t = (
   word-at-reads.Learnt,
   open-block-reads.Asked,
   open-block-reads.Learnt,
-  items-below t,
+  list-below items.Pre t,
   items.Post,
   releases-reads.Asked,
   releases-reads.Learnt,
@@ -34,7 +34,7 @@ claims t = (
 )
 
 -- the part behind its declarations
-block-within : (t : ℕ) (c : block-lts.After-struct-known (claims t) (block-at t) block.Post)
+block-within : (t : ℕ) (c : block-lts.After-struct-known (claims t) (entry-at block.Pre t) block.Post)
     → let h = c .before .before .before .before .before .before .before .before .before .before .before .before .before in
     let s = h .before .before .before .before .before .before .before .before .before .before in
     (8 * (1 + h .half-at .result) ≤ length (s .args .part .now)) × (s .args .at + 1 + h .half-at .result ≤ 2048)
@@ -45,7 +45,7 @@ block-within t c =
     asks-block-within (at-start .pre .1) (at-half-at .half-at .ensures) (at-word-at .word-at .ensures)
 
 -- what it has done where it returns
-block-ends : (t : ℕ) → block-lts.Need-returns (claims t) (block-at t) block.Post
+block-ends : (t : ℕ) → block-lts.Need-returns (claims t) (entry-at block.Pre t) block.Post
 block-ends t c =
     let at-finish = c .before .before in
     let at-releases = at-finish .before .before .before in
@@ -57,8 +57,8 @@ block-ends t c =
     answers-block (at-start .pre .1) (at-half-at .half-at .ensures) (at-word-at .word-at .ensures) (at-open-block .open-block .ensures)
     (at-items .items .ensures) (at-releases .releases .ensures) (at-finish .finish .ensures)
 
-pub block-meets : {M : Type 1} (t : ℕ) → block-lts.Closed (claims t) (block-at t) block.Post M
-block-meets t = block-lts.spec (claims t) (block-at t) block.Post
+pub block-meets : {M : Type 1} (t : ℕ) → block-lts.Closed (claims t) (entry-at block.Pre t) block.Post M
+block-meets t = block-lts.spec (claims t) (entry-at block.Pre t) block.Post
     -- half-at-requires
     (λ c κs.
     let at-start = c .before .before .before .before .before .before .before .before .before in

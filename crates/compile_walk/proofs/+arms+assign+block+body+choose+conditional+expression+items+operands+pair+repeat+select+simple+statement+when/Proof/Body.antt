@@ -16,7 +16,7 @@ use Rattle.compile_output.proofs.releases.Reads as releases-reads
 use Rattle.table_scopes.proofs.spanned.Reads as spanned-reads
 use Rattle.words.proofs.half_at.Reads as half-at-reads
 use Rattle.words.proofs.word_at.Reads as word-at-reads
-use Rattle.compile_walk.proofs.+arms+assign+block+body+choose+conditional+expression+items+operands+pair+repeat+select+simple+statement+when.Proof.Base.{body-at, expression-below, items-below}
+use Rattle.compile_walk.proofs.+arms+assign+block+body+choose+conditional+expression+items+operands+pair+repeat+select+simple+statement+when.Proof.Base.{entry-at, kind-below, list-below}
 
 -- what the functions that it calls are taken to ask and give
 abbrev claims : ℕ → body-lts.Claims
@@ -27,11 +27,11 @@ claims t = (
   word-at-reads.Learnt,
   open-block-reads.Asked,
   open-block-reads.Learnt,
-  items-below t,
+  list-below items.Pre t,
   items.Post,
   spanned-reads.Asked,
   spanned-reads.Learnt,
-  expression-below t,
+  kind-below expression.Pre t,
   expression.Post,
   releases-reads.Asked,
   releases-reads.Learnt,
@@ -40,7 +40,7 @@ claims t = (
 )
 
 -- the part behind its declarations
-body-within : (t : ℕ) (c : body-lts.After-struct-known (claims t) (body-at t) body.Post)
+body-within : (t : ℕ) (c : body-lts.After-struct-known (claims t) (entry-at body.Pre t) body.Post)
     → let h = c .before .before .before .before .before .before .before .before .before .before .before .before .before in
     let s = h .before .before .before .before .before .before .before .before .before .before in
     (8 * (1 + h .half-at .result) ≤ length (s .args .part .now)) × (s .args .at + 1 + h .half-at .result ≤ 2048)
@@ -51,7 +51,7 @@ body-within t c =
     asks-body-within (at-start .pre .1) (at-half-at .half-at .ensures) (at-word-at .word-at .ensures)
 
 -- the part behind its items
-body-passes : (t : ℕ) (c : body-lts.After-spanned (claims t) (body-at t) body.Post)
+body-passes : (t : ℕ) (c : body-lts.After-spanned (claims t) (entry-at body.Pre t) body.Post)
     → let h = c .before .before .before .before .before .before .before .before .before .before .before .before .before .before .before .before .before
     .before .before .before .before .before .before .before .before .before .before .before in
     let s = h .before .before .before .before .before .before .before .before .before .before in
@@ -65,7 +65,7 @@ body-passes t c =
     asks-body-passes (at-start .pre .1) (at-half-at .half-at .ensures) (at-word-at .word-at .ensures) (at-open-block .open-block .ensures) (at-items .items .ensures) (c .spanned .ensures)
 
 -- what it has done where it returns
-body-ends : (t : ℕ) → body-lts.Need-returns (claims t) (body-at t) body.Post
+body-ends : (t : ℕ) → body-lts.Need-returns (claims t) (entry-at body.Pre t) body.Post
 body-ends t c =
     let at-finish = c .before .before in
     let at-releases = at-finish .before .before .before in
@@ -79,8 +79,8 @@ body-ends t c =
     answers-body (at-start .pre .1) (at-half-at .half-at .ensures) (at-word-at .word-at .ensures) (at-open-block .open-block .ensures)
     (at-items .items .ensures) (at-spanned .spanned .ensures) (at-expression .expression .ensures) (at-releases .releases .ensures) (at-finish .finish .ensures)
 
-pub body-meets : {M : Type 1} (t : ℕ) → body-lts.Closed (claims t) (body-at t) body.Post M
-body-meets t = body-lts.spec (claims t) (body-at t) body.Post
+pub body-meets : {M : Type 1} (t : ℕ) → body-lts.Closed (claims t) (entry-at body.Pre t) body.Post M
+body-meets t = body-lts.spec (claims t) (entry-at body.Pre t) body.Post
     -- half-at-requires
     (λ c κs.
     let at-start = c .before .before .before .before .before .before .before .before .before in

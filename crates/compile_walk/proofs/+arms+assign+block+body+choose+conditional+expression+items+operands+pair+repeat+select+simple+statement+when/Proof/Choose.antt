@@ -5,9 +5,9 @@ use lib.ListN.{length}
 use borrow.Author.Needs.{needs}
 use Rattle.table_forms.specs.Part.{Passes}
 use Rattle.compile_steps.specs.Parts.{asked, below}
-use Rattle.compile_steps.specs.Choose.{asks-choose-first, asks-choose-passes, asks-choose-passes₂, asks-choose-emit, asks-choose-second, asks-choose-emit₂}
-use Rattle.compile_steps.specs.Choose.{asks-choose-shape, asks-choose-third, asks-choose-shape₂, asks-choose-finish, answers-choose}
-use Rattle.compile_steps.specs.Adapt.{second-within, third-within}
+use Rattle.compile_steps.specs.ChooseAsks.{asks-choose-first, asks-choose-passes, asks-choose-passes₂, asks-choose-emit, asks-choose-second, asks-choose-emit₂}
+use Rattle.compile_steps.specs.ChooseAsks.{asks-choose-shape, asks-choose-third, asks-choose-shape₂, asks-choose-finish, answers-choose}
+use Rattle.compile_steps.specs.Parts.{second-within, third-within}
 use Prim.Native.Nat.{ℕ, _+_, _-_, _*_, _≤_}
 use Rattle.compile_walk.proofs.choose.Reads as choose
 use Rattle.compile_walk.proofs.+arms+assign+block+body+choose+conditional+expression+items+operands+pair+repeat+select+simple+statement+when.Lts-choose as choose-lts
@@ -18,14 +18,12 @@ use Rattle.compile_emit.proofs.finish.Reads as finish-reads
 use Rattle.compile_output.proofs.emit.Reads as emit-reads
 use Rattle.compile_output.proofs.shape.Reads as shape-reads
 use Rattle.table_scopes.proofs.size_at.Reads as size-at-reads
-use Rattle.compile_walk.proofs.+arms+assign+block+body+choose+conditional+expression+items+operands+pair+repeat+select+simple+statement+when.Proof.Base.{choose-at}
-use Rattle.compile_walk.proofs.+arms+assign+block+body+choose+conditional+expression+items+operands+pair+repeat+select+simple+statement+when.Proof.Base.{expression-below}
-use Rattle.compile_walk.proofs.+arms+assign+block+body+choose+conditional+expression+items+operands+pair+repeat+select+simple+statement+when.Proof.Base.{statement-below}
+use Rattle.compile_walk.proofs.+arms+assign+block+body+choose+conditional+expression+items+operands+pair+repeat+select+simple+statement+when.Proof.Base.{entry-at, kind-below}
 
 -- what the functions that it calls are taken to ask and give
 abbrev claims : ℕ → choose-lts.Claims
 claims t = (
-  expression-below t,
+  kind-below expression.Pre t,
   expression.Post,
   size-at-reads.Asked,
   size-at-reads.Learnt,
@@ -33,7 +31,7 @@ claims t = (
   end-of-reads.Learnt,
   emit-reads.Asked,
   emit-reads.Learnt,
-  statement-below t,
+  kind-below statement′.Pre t,
   statement′.Post,
   shape-reads.Asked,
   shape-reads.Learnt,
@@ -42,7 +40,7 @@ claims t = (
 )
 
 -- the third part
-choose-passes : (t : ℕ) (c : choose-lts.After-size-at2 (claims t) (choose-at t) choose.Post)
+choose-passes : (t : ℕ) (c : choose-lts.After-size-at2 (claims t) (entry-at choose.Pre t) choose.Post)
     → let d = c .before in
     let e = d .before .before .before .before .before .before .before .before .before in
     let s = e .before .before .before .before .before .before .before .before .before .before .before .before .before .before .before in
@@ -53,7 +51,7 @@ choose-passes t c =
     let s = e .before .before .before .before .before .before .before .before .before .before .before .before .before .before .before in
     asks-choose-passes₂ (s .pre .1) (d .size-at .result) (d .size-at .ensures) (c .size-at2 .result) (c .size-at2 .ensures) (e .expression .ensures)
 
-choose-third : (t : ℕ) (c : choose-lts.After-size-at2 (claims t) (choose-at t) choose.Post)
+choose-third : (t : ℕ) (c : choose-lts.After-size-at2 (claims t) (entry-at choose.Pre t) choose.Post)
     → let d = c .before in
     let e = d .before .before .before .before .before .before .before .before .before in
     let s = e .before .before .before .before .before .before .before .before .before .before .before .before .before .before .before in
@@ -67,7 +65,7 @@ choose-third t c =
     (choose-passes t c)
 
 -- what it has done where it returns
-choose-ends : (t : ℕ) → choose-lts.Need-returns (claims t) (choose-at t) choose.Post
+choose-ends : (t : ℕ) → choose-lts.Need-returns (claims t) (entry-at choose.Pre t) choose.Post
 choose-ends t c =
     let at-finish = c .before .before in
     let at-shape2 = at-finish .before .before .before in
@@ -88,8 +86,8 @@ choose-ends t c =
     (at-statement .statement .ensures) (at-end-of2 .end-of2 .ensures .0) (at-emit2 .emit2 .ensures) (at-shape .shape .ensures)
     (at-statement2 .statement2 .ensures) (at-shape2 .shape2 .ensures) (at-finish .finish .ensures)
 
-pub choose-meets : {M : Type 1} (t : ℕ) → choose-lts.Closed (claims t) (choose-at t) choose.Post M
-choose-meets t = choose-lts.spec (claims t) (choose-at t) choose.Post
+pub choose-meets : {M : Type 1} (t : ℕ) → choose-lts.Closed (claims t) (entry-at choose.Pre t) choose.Post M
+choose-meets t = choose-lts.spec (claims t) (entry-at choose.Pre t) choose.Post
     -- sub-expression
     (λ c. omega (arith, asked (c .before .before .before .before .before .before .before .before .before .pre .1) .long))
     -- part-expression-start

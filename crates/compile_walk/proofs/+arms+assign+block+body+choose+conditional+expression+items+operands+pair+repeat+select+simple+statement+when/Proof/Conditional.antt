@@ -5,9 +5,9 @@ use lib.ListN.{length}
 use borrow.Author.Needs.{needs}
 use Rattle.table_forms.specs.Part.{Passes}
 use Rattle.compile_steps.specs.Parts.{asked, below}
-use Rattle.compile_steps.specs.Adapt.{second-within, third-within}
-use Rattle.compile_steps.specs.Adapt.{asks-cond-first, asks-cond-passes, asks-cond-passes₂, asks-cond-emit, asks-cond-second, asks-cond-read, asks-cond-emit₂}
-use Rattle.compile_steps.specs.Adapt.{asks-cond-shape, asks-cond-third, asks-cond-write, asks-cond-shape₂, asks-cond-finish, answers-cond}
+use Rattle.compile_steps.specs.Parts.{second-within, third-within}
+use Rattle.compile_steps.specs.ConditionalAsks.{asks-cond-first, asks-cond-passes, asks-cond-passes₂, asks-cond-emit, asks-cond-second, asks-cond-read, asks-cond-emit₂}
+use Rattle.compile_steps.specs.ConditionalAsks.{asks-cond-shape, asks-cond-third, asks-cond-write, asks-cond-shape₂, asks-cond-finish, answers-cond}
 use Prim.Native.Nat.{ℕ, _+_, _-_, _*_, _≤_}
 use Rattle.compile_walk.proofs.conditional.Reads as conditional
 use Rattle.compile_walk.proofs.+arms+assign+block+body+choose+conditional+expression+items+operands+pair+repeat+select+simple+statement+when.Lts-conditional as conditional-lts
@@ -17,12 +17,12 @@ use Rattle.compile_emit.proofs.finish.Reads as finish-reads
 use Rattle.compile_output.proofs.emit.Reads as emit-reads
 use Rattle.compile_output.proofs.shape.Reads as shape-reads
 use Rattle.table_scopes.proofs.size_at.Reads as size-at-reads
-use Rattle.compile_walk.proofs.+arms+assign+block+body+choose+conditional+expression+items+operands+pair+repeat+select+simple+statement+when.Proof.Base.{conditional-at, expression-below}
+use Rattle.compile_walk.proofs.+arms+assign+block+body+choose+conditional+expression+items+operands+pair+repeat+select+simple+statement+when.Proof.Base.{entry-at, kind-below}
 
 -- what the functions that it calls are taken to ask and give
 abbrev claims : ℕ → conditional-lts.Claims
 claims t = (
-  expression-below t,
+  kind-below expression.Pre t,
   expression.Post,
   size-at-reads.Asked,
   size-at-reads.Learnt,
@@ -37,7 +37,7 @@ claims t = (
 )
 
 -- the third part
-conditional-passes : (t : ℕ) (c : conditional-lts.After-size-at2 (claims t) (conditional-at t) conditional.Post)
+conditional-passes : (t : ℕ) (c : conditional-lts.After-size-at2 (claims t) (entry-at conditional.Pre t) conditional.Post)
     → let d = c .before in
     let e = d .before .before .before .before .before .before .before .before .before in
     let s = e .before .before .before .before .before .before .before .before .before .before .before .before .before .before .before in
@@ -48,7 +48,7 @@ conditional-passes t c =
     let s = e .before .before .before .before .before .before .before .before .before .before .before .before .before .before .before in
     asks-cond-passes₂ (s .pre .1) (d .size-at .result) (d .size-at .ensures) (e .expression .ensures) (c .size-at2 .result) (c .size-at2 .ensures)
 
-conditional-third : (t : ℕ) (c : conditional-lts.After-size-at2 (claims t) (conditional-at t) conditional.Post)
+conditional-third : (t : ℕ) (c : conditional-lts.After-size-at2 (claims t) (entry-at conditional.Pre t) conditional.Post)
     → let d = c .before in
     let e = d .before .before .before .before .before .before .before .before .before in
     let s = e .before .before .before .before .before .before .before .before .before .before .before .before .before .before .before in
@@ -62,7 +62,7 @@ conditional-third t c =
     (conditional-passes t c)
 
 -- what it has done where it returns
-conditional-ends : (t : ℕ) → conditional-lts.Need-returns (claims t) (conditional-at t) conditional.Post
+conditional-ends : (t : ℕ) → conditional-lts.Need-returns (claims t) (entry-at conditional.Pre t) conditional.Post
 conditional-ends t c =
     let at-finish = c .before .before in
     let at-shape2 = at-finish .before .before .before in
@@ -83,8 +83,8 @@ conditional-ends t c =
     (at-size-at2 .size-at2 .result) (at-size-at2 .size-at2 .ensures)
     (at-end-of2 .end-of2 .ensures .0) (at-emit2 .emit2 .ensures) (at-shape .shape .ensures) (at-expression3 .expression3 .ensures) _ refl (at-shape2 .shape2 .ensures) (at-finish .finish .ensures)
 
-pub conditional-meets : {M : Type 1} (t : ℕ) → conditional-lts.Closed (claims t) (conditional-at t) conditional.Post M
-conditional-meets t = conditional-lts.spec (claims t) (conditional-at t) conditional.Post
+pub conditional-meets : {M : Type 1} (t : ℕ) → conditional-lts.Closed (claims t) (entry-at conditional.Pre t) conditional.Post M
+conditional-meets t = conditional-lts.spec (claims t) (entry-at conditional.Pre t) conditional.Post
     -- sub-expression
     (λ c. omega (arith, asked (c .before .before .before .before .before .before .before .before .before .pre .1) .long))
     -- part-expression-start

@@ -18,22 +18,18 @@ use Rattle.compile_emit.proofs.leaf.Reads as leaf-reads
 use Rattle.compile_emit.proofs.leaf_type.Reads as leaf-type-reads
 use Rattle.words.proofs.half_at.Reads as half-at-reads
 use Rattle.words.proofs.word_at.Reads as word-at-reads
-use Rattle.compile_walk.proofs.+arms+assign+block+body+choose+conditional+expression+items+operands+pair+repeat+select+simple+statement+when.Proof.Base.{body-below}
-use Rattle.compile_walk.proofs.+arms+assign+block+body+choose+conditional+expression+items+operands+pair+repeat+select+simple+statement+when.Proof.Base.{conditional-below}
-use Rattle.compile_walk.proofs.+arms+assign+block+body+choose+conditional+expression+items+operands+pair+repeat+select+simple+statement+when.Proof.Base.{expression-at}
-use Rattle.compile_walk.proofs.+arms+assign+block+body+choose+conditional+expression+items+operands+pair+repeat+select+simple+statement+when.Proof.Base.{pair-below}
-use Rattle.compile_walk.proofs.+arms+assign+block+body+choose+conditional+expression+items+operands+pair+repeat+select+simple+statement+when.Proof.Base.{simple-below}
+use Rattle.compile_walk.proofs.+arms+assign+block+body+choose+conditional+expression+items+operands+pair+repeat+select+simple+statement+when.Proof.Base.{entry-below, kind-at}
 
 -- what the functions that it calls are taken to ask and give
 abbrev claims : ℕ → expression-lts.Claims
 claims t = (
   half-at-reads.Asked,
   half-at-reads.Learnt,
-  pair-below t,
+  entry-below pair.Pre t,
   pair.Post,
-  conditional-below t,
+  entry-below conditional.Pre t,
   conditional.Post,
-  body-below t,
+  entry-below body.Pre t,
   body.Post,
   known-of-reads.Asked,
   known-of-reads.Learnt,
@@ -45,12 +41,12 @@ claims t = (
   leaf-reads.Learnt,
   finish-reads.Asked,
   finish-reads.Learnt,
-  simple-below t,
+  entry-below simple.Pre t,
   simple.Post,
 )
 
 -- what it has done where it returns
-expression-ends-4 : (t : ℕ) → expression-lts.Need-returns-4 (claims t) (expression-at t) expression.Post
+expression-ends-4 : (t : ℕ) → expression-lts.Need-returns-4 (claims t) (kind-at expression.Pre t) expression.Post
 expression-ends-4 t c =
     let at-finish = c .before .before in
     let at-leaf = at-finish .before .before .before in
@@ -70,8 +66,8 @@ expression-ends-4 t c =
     (at-start .pre .1)) (at-half-at .half-at .ensures) (at-half-at2 .half-at2 .ensures)
     (at-word-at .word-at .ensures) (at-known-of .known-of .ensures) (at-leaf-type .leaf-type .ensures) (at-leaf .leaf .ensures) (at-finish .finish .ensures))
 
-pub expression-meets : {M : Type 1} (t : ℕ) → expression-lts.Closed (claims t) (expression-at t) expression.Post M
-expression-meets t = expression-lts.spec (claims t) (expression-at t) expression.Post
+pub expression-meets : {M : Type 1} (t : ℕ) → expression-lts.Closed (claims t) (kind-at expression.Pre t) expression.Post M
+expression-meets t = expression-lts.spec (claims t) (kind-at expression.Pre t) expression.Post
     -- half-at-requires
     (λ c κs. omega (arith, asked (c .before .before .before .before .before .before .before .before .before .pre .1) .long))
     -- pair-requires

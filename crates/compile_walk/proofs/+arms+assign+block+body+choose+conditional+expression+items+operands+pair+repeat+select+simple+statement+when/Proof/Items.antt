@@ -9,7 +9,7 @@ use Rattle.compile_walk.proofs.items.Reads as items
 use Rattle.compile_walk.proofs.+arms+assign+block+body+choose+conditional+expression+items+operands+pair+repeat+select+simple+statement+when.Lts-items as items-lts
 use Rattle.compile_walk.proofs.statement.Reads as statement′
 use Rattle.table_scopes.proofs.size_at.Reads as size-at-reads
-use Rattle.compile_walk.proofs.+arms+assign+block+body+choose+conditional+expression+items+operands+pair+repeat+select+simple+statement+when.Proof.Base.{items-at, statement-below}
+use Rattle.compile_walk.proofs.+arms+assign+block+body+choose+conditional+expression+items+operands+pair+repeat+select+simple+statement+when.Proof.Base.{kind-below, list-at}
 
 abbrev items-Inv-loop : items-lts.InvT-loop
 items-Inv-loop table part count nesting at sizes env₀ top known aims ends₀ holds stack₀ depth out₀ rest₀ place₀ left₀ p₀ env ends stack out rest place
@@ -18,8 +18,8 @@ items-Inv-loop table part count nesting at sizes env₀ top known aims ends₀ h
 abbrev items-μ-loop : items-lts.MeasureT-loop
 items-μ-loop table part count nesting at sizes env₀ top known aims ends₀ holds stack₀ depth out₀ rest₀ place₀ left₀ p₀ env ends stack out rest place left p = left
 
-pub items-meets : {M : Type 1} (t : ℕ) → items-lts.Closed (statement-below t, statement′.Post, size-at-reads.Asked, size-at-reads.Learnt) (items-at t) items.Post M
-items-meets t = items-lts.spec (statement-below t, statement′.Post, size-at-reads.Asked, size-at-reads.Learnt) (items-at t) items.Post items-Inv-loop items-μ-loop
+pub items-meets : {M : Type 1} (t : ℕ) → items-lts.Closed (kind-below statement′.Pre t, statement′.Post, size-at-reads.Asked, size-at-reads.Learnt) (list-at items.Pre t) items.Post M
+items-meets t = items-lts.spec (kind-below statement′.Pre t, statement′.Post, size-at-reads.Asked, size-at-reads.Learnt) (list-at items.Pre t) items.Post items-Inv-loop items-μ-loop
     -- loop-holds
     (λ c. items-start _ _ _ _ _ _ _ _ _ _ _ _ _)
     -- statement-requires

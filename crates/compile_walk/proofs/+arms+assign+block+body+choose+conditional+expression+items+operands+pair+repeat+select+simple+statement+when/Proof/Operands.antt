@@ -9,7 +9,7 @@ use Rattle.compile_walk.proofs.expression.Reads as expression
 use Rattle.compile_walk.proofs.operands.Reads as operands
 use Rattle.compile_walk.proofs.+arms+assign+block+body+choose+conditional+expression+items+operands+pair+repeat+select+simple+statement+when.Lts-operands as operands-lts
 use Rattle.table_scopes.proofs.size_at.Reads as size-at-reads
-use Rattle.compile_walk.proofs.+arms+assign+block+body+choose+conditional+expression+items+operands+pair+repeat+select+simple+statement+when.Proof.Base.{expression-below, operands-at}
+use Rattle.compile_walk.proofs.+arms+assign+block+body+choose+conditional+expression+items+operands+pair+repeat+select+simple+statement+when.Proof.Base.{kind-below, list-at}
 
 abbrev operands-Inv-loop : operands-lts.InvT-loop
 operands-Inv-loop table part count nesting at sizes env₀ top known aims ends₀ holds stack₀ depth out₀ rest₀ place₀ i₀ p₀ env ends stack out rest place
@@ -18,8 +18,8 @@ operands-Inv-loop table part count nesting at sizes env₀ top known aims ends�
 abbrev operands-μ-loop : operands-lts.MeasureT-loop
 operands-μ-loop table part count nesting at sizes env₀ top known aims ends₀ holds stack₀ depth out₀ rest₀ place₀ i₀ p₀ env ends stack out rest place i p = count - i
 
-pub operands-meets : {M : Type 1} (t : ℕ) → operands-lts.Closed (expression-below t, expression.Post, size-at-reads.Asked, size-at-reads.Learnt) (operands-at t) operands.Post M
-operands-meets t = operands-lts.spec (expression-below t, expression.Post, size-at-reads.Asked, size-at-reads.Learnt) (operands-at t) operands.Post operands-Inv-loop operands-μ-loop
+pub operands-meets : {M : Type 1} (t : ℕ) → operands-lts.Closed (kind-below expression.Pre t, expression.Post, size-at-reads.Asked, size-at-reads.Learnt) (list-at operands.Pre t) operands.Post M
+operands-meets t = operands-lts.spec (kind-below expression.Pre t, expression.Post, size-at-reads.Asked, size-at-reads.Learnt) (list-at operands.Pre t) operands.Post operands-Inv-loop operands-μ-loop
     -- loop-holds
     (λ c. es-start _ _ _ _ _ _ _ _ _ _ _ _ _)
     -- add-expression

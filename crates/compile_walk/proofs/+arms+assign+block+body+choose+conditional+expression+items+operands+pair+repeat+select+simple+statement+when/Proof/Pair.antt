@@ -3,8 +3,8 @@ use mathlib.Core.Path.{refl, ap}
 use native.Mathlib.Omega.{arith}
 use borrow.Author.Needs.{needs}
 use Rattle.compile_steps.specs.Parts.{asked}
-use Rattle.compile_steps.specs.Adapt.{second-within}
-use Rattle.compile_steps.specs.Adapt.{asks-pair-first, asks-pair-passes, asks-pair-read, asks-pair-between, asks-pair-second, asks-pair-write, asks-pair-behind, asks-pair-finish, answers-pair}
+use Rattle.compile_steps.specs.Parts.{second-within}
+use Rattle.compile_steps.specs.PairAsks.{asks-pair-first, asks-pair-passes, asks-pair-read, asks-pair-between, asks-pair-second, asks-pair-write, asks-pair-behind, asks-pair-finish, answers-pair}
 use Prim.Native.Nat.{ℕ, _+_}
 use Rattle.compile_walk.proofs.expression.Reads as expression
 use Rattle.compile_walk.proofs.pair.Reads as pair
@@ -18,14 +18,14 @@ use Rattle.compile_emit.proofs.waiting.Reads as waiting-reads
 use Rattle.compile_emit.proofs.way_of.Reads as way-of-reads
 use Rattle.table_scopes.proofs.size_at.Reads as size-at-reads
 use Rattle.words.proofs.half_at.Reads as half-at-reads
-use Rattle.compile_walk.proofs.+arms+assign+block+body+choose+conditional+expression+items+operands+pair+repeat+select+simple+statement+when.Proof.Base.{expression-below, pair-at}
+use Rattle.compile_walk.proofs.+arms+assign+block+body+choose+conditional+expression+items+operands+pair+repeat+select+simple+statement+when.Proof.Base.{entry-at, kind-below}
 
 -- what the functions that it calls are taken to ask and give
 abbrev claims : ℕ → pair-lts.Claims
 claims t = (
   half-at-reads.Asked,
   half-at-reads.Learnt,
-  expression-below t,
+  kind-below expression.Pre t,
   expression.Post,
   size-at-reads.Asked,
   size-at-reads.Learnt,
@@ -46,7 +46,7 @@ claims t = (
 )
 
 -- what it has done where it returns
-pair-ends : (t : ℕ) → pair-lts.Need-returns (claims t) (pair-at t) pair.Post
+pair-ends : (t : ℕ) → pair-lts.Need-returns (claims t) (entry-at pair.Pre t) pair.Post
 pair-ends t c =
     let at-finish = c .before .before in
     let at-behind = at-finish .before .before .before in
@@ -65,8 +65,8 @@ pair-ends t c =
     (ap (λ (k : ℕ). at-start .args .depth + k) (at-waiting .waiting .ensures))
     (at-expression2 .expression2 .ensures) (at-pair-type .pair-type .ensures) (at-behind .behind .ensures) (at-finish .finish .ensures)
 
-pub pair-meets : {M : Type 1} (t : ℕ) → pair-lts.Closed (claims t) (pair-at t) pair.Post M
-pair-meets t = pair-lts.spec (claims t) (pair-at t) pair.Post
+pub pair-meets : {M : Type 1} (t : ℕ) → pair-lts.Closed (claims t) (entry-at pair.Pre t) pair.Post M
+pair-meets t = pair-lts.spec (claims t) (entry-at pair.Pre t) pair.Post
     -- half-at-requires
     (λ c κs. omega (arith, asked (c .before .before .before .before .before .before .before .before .before .pre .1) .long))
     -- sub-expression

@@ -3,8 +3,9 @@ use mathlib.Core.Path.{refl}
 use native.Mathlib.Omega.{arith}
 use borrow.Author.Needs.{needs}
 use Rattle.compile_steps.specs.Parts.{asked}
-use Rattle.compile_steps.specs.Adapt.{second-within}
-use Rattle.compile_steps.specs.Adapt.{asks-while-shape, asks-while-first, asks-while-passes, asks-while-emit, asks-while-second, asks-while-emit₂, asks-while-shape₂, asks-while-finish, answers-while}
+use Rattle.compile_steps.specs.Parts.{second-within}
+use Rattle.compile_steps.specs.WhileAsks.{asks-while-shape, asks-while-first, asks-while-passes, asks-while-emit, asks-while-second, asks-while-emit₂, asks-while-shape₂}
+use Rattle.compile_steps.specs.WhileAsks.{asks-while-finish, answers-while}
 use Prim.Native.Nat.{ℕ}
 use Rattle.compile_walk.proofs.expression.Reads as expression
 use Rattle.compile_walk.proofs.repeat.Reads as repeat
@@ -15,16 +16,14 @@ use Rattle.compile_emit.proofs.finish.Reads as finish-reads
 use Rattle.compile_output.proofs.emit.Reads as emit-reads
 use Rattle.compile_output.proofs.shape.Reads as shape-reads
 use Rattle.table_scopes.proofs.size_at.Reads as size-at-reads
-use Rattle.compile_walk.proofs.+arms+assign+block+body+choose+conditional+expression+items+operands+pair+repeat+select+simple+statement+when.Proof.Base.{expression-below}
-use Rattle.compile_walk.proofs.+arms+assign+block+body+choose+conditional+expression+items+operands+pair+repeat+select+simple+statement+when.Proof.Base.{repeat-at}
-use Rattle.compile_walk.proofs.+arms+assign+block+body+choose+conditional+expression+items+operands+pair+repeat+select+simple+statement+when.Proof.Base.{statement-below}
+use Rattle.compile_walk.proofs.+arms+assign+block+body+choose+conditional+expression+items+operands+pair+repeat+select+simple+statement+when.Proof.Base.{entry-at, kind-below}
 
 -- what the functions that it calls are taken to ask and give
 abbrev claims : ℕ → repeat-lts.Claims
 claims t = (
   shape-reads.Asked,
   shape-reads.Learnt,
-  expression-below t,
+  kind-below expression.Pre t,
   expression.Post,
   size-at-reads.Asked,
   size-at-reads.Learnt,
@@ -32,14 +31,14 @@ claims t = (
   end-of-reads.Learnt,
   emit-reads.Asked,
   emit-reads.Learnt,
-  statement-below t,
+  kind-below statement′.Pre t,
   statement′.Post,
   finish-reads.Asked,
   finish-reads.Learnt,
 )
 
 -- what it has done where it returns
-repeat-ends : (t : ℕ) → repeat-lts.Need-returns (claims t) (repeat-at t) repeat.Post
+repeat-ends : (t : ℕ) → repeat-lts.Need-returns (claims t) (entry-at repeat.Pre t) repeat.Post
 repeat-ends t c =
     let at-finish = c .before .before in
     let at-shape2 = at-finish .before .before .before in
@@ -56,8 +55,8 @@ repeat-ends t c =
     (at-emit2 .emit2 .ensures)
     (at-shape2 .shape2 .ensures) (at-finish .finish .ensures)
 
-pub repeat-meets : {M : Type 1} (t : ℕ) → repeat-lts.Closed (claims t) (repeat-at t) repeat.Post M
-repeat-meets t = repeat-lts.spec (claims t) (repeat-at t) repeat.Post
+pub repeat-meets : {M : Type 1} (t : ℕ) → repeat-lts.Closed (claims t) (entry-at repeat.Pre t) repeat.Post M
+repeat-meets t = repeat-lts.spec (claims t) (entry-at repeat.Pre t) repeat.Post
     -- cast-start
     (λ c. omega (arith, asked (c .before .before .before .before .before .before .before .before .before .before .pre .1) .address))
     -- shape-requires

@@ -4,7 +4,7 @@ use native.Mathlib.Omega.{arith}
 use borrow.Author.Needs.{needs}
 use Rattle.compile_steps.specs.Parts.{asked}
 use Rattle.compile_steps.specs.Select.{asks-select-first, asks-select-passes, asks-select-emit, asks-select-second, asks-select-emit₂, asks-select-shape, asks-select-finish, answers-select}
-use Rattle.compile_steps.specs.Adapt.{second-within}
+use Rattle.compile_steps.specs.Parts.{second-within}
 use Rattle.compile_symbols.specs.Numbers.{secondIn}
 use Prim.Native.Nat.{ℕ}
 use Rattle.compile_walk.proofs.arms.Reads as arms
@@ -18,7 +18,7 @@ use Rattle.compile_output.proofs.emit.Reads as emit-reads
 use Rattle.compile_output.proofs.shape.Reads as shape-reads
 use Rattle.table_scopes.proofs.size_at.Reads as size-at-reads
 use Rattle.words.proofs.half_at.Reads as half-at-reads
-use Rattle.compile_walk.proofs.+arms+assign+block+body+choose+conditional+expression+items+operands+pair+repeat+select+simple+statement+when.Proof.Base.{arms-below, expression-below, select-at}
+use Rattle.compile_walk.proofs.+arms+assign+block+body+choose+conditional+expression+items+operands+pair+repeat+select+simple+statement+when.Proof.Base.{arms-below, entry-at, kind-below}
 
 -- what the functions that it calls are taken to ask and give
 abbrev claims : ℕ → select-lts.Claims
@@ -29,13 +29,13 @@ claims t = (
   known-at-reads.Learnt,
   second-in-reads.Asked,
   second-in-reads.Learnt,
-  expression-below t,
+  kind-below expression.Pre t,
   expression.Post,
   emit-reads.Asked,
   emit-reads.Learnt,
   size-at-reads.Asked,
   size-at-reads.Learnt,
-  arms-below t,
+  arms-below arms.Pre t,
   arms.Post,
   shape-reads.Asked,
   shape-reads.Learnt,
@@ -44,7 +44,7 @@ claims t = (
 )
 
 -- what it has done where it returns
-select-ends : (t : ℕ) → select-lts.Need-returns (claims t) (select-at t) select.Post
+select-ends : (t : ℕ) → select-lts.Need-returns (claims t) (entry-at select.Pre t) select.Post
 select-ends t c =
     let at-finish = c .before .before in
     let at-shape = at-finish .before .before .before in
@@ -62,8 +62,8 @@ select-ends t c =
     (at-emit .emit .ensures) (at-arms .arms .ensures) (at-emit2 .emit2 .ensures) (at-shape .shape .ensures)
     (at-finish .finish .ensures)
 
-pub select-meets : {M : Type 1} (t : ℕ) → select-lts.Closed (claims t) (select-at t) select.Post M
-select-meets t = select-lts.spec (claims t) (select-at t) select.Post
+pub select-meets : {M : Type 1} (t : ℕ) → select-lts.Closed (claims t) (entry-at select.Pre t) select.Post M
+select-meets t = select-lts.spec (claims t) (entry-at select.Pre t) select.Post
     -- half-at-requires
     (λ c κs. omega (arith, asked (c .before .before .before .before .before .before .before .before .before .pre .1) .long))
     -- cast-count

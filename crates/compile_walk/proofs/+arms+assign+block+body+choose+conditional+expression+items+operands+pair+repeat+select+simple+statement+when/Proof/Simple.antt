@@ -14,7 +14,7 @@ use Rattle.compile_emit.proofs.last_type.Reads as last-type-reads
 use Rattle.compile_emit.proofs.operands_of.Reads as operands-of-reads
 use Rattle.words.proofs.half_at.Reads as half-at-reads
 use Rattle.words.proofs.word_at.Reads as word-at-reads
-use Rattle.compile_walk.proofs.+arms+assign+block+body+choose+conditional+expression+items+operands+pair+repeat+select+simple+statement+when.Proof.Base.{operands-below, simple-at}
+use Rattle.compile_walk.proofs.+arms+assign+block+body+choose+conditional+expression+items+operands+pair+repeat+select+simple+statement+when.Proof.Base.{entry-at, list-below}
 
 -- what the functions that it calls are taken to ask and give
 abbrev claims : ℕ → simple-lts.Claims
@@ -25,7 +25,7 @@ claims t = (
   word-at-reads.Learnt,
   operands-of-reads.Asked,
   operands-of-reads.Learnt,
-  operands-below t,
+  list-below operands.Pre t,
   operands.Post,
   known-of-reads.Asked,
   known-of-reads.Learnt,
@@ -38,7 +38,7 @@ claims t = (
 )
 
 -- what it has done where it returns
-simple-ends : (t : ℕ) → simple-lts.Need-returns (claims t) (simple-at t) simple.Post
+simple-ends : (t : ℕ) → simple-lts.Need-returns (claims t) (entry-at simple.Pre t) simple.Post
 simple-ends t c =
     let at-finish = c .before .before in
     let at-last = at-finish .before .before .before in
@@ -54,8 +54,8 @@ simple-ends t c =
     (at-operands-of .operands-of .ensures) (at-operands .operands .ensures) (at-known-of .known-of .ensures) (at-last .last .ensures)
     (at-last-type .last-type .ensures) (at-finish .finish .ensures)
 
-pub simple-meets : {M : Type 1} (t : ℕ) → simple-lts.Closed (claims t) (simple-at t) simple.Post M
-simple-meets t = simple-lts.spec (claims t) (simple-at t) simple.Post
+pub simple-meets : {M : Type 1} (t : ℕ) → simple-lts.Closed (claims t) (entry-at simple.Pre t) simple.Post M
+simple-meets t = simple-lts.spec (claims t) (entry-at simple.Pre t) simple.Post
     -- half-at-requires
     (λ c κs. omega (arith, asked (c .before .before .before .before .before .before .before .before .before .pre .1) .long))
     -- half-at-requires-2

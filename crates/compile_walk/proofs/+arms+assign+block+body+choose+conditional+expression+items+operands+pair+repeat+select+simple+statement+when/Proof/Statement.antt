@@ -19,44 +19,37 @@ use Rattle.compile_emit.proofs.finish.Reads as finish-reads
 use Rattle.compile_emit.proofs.goto.Reads as goto-reads
 use Rattle.compile_output.proofs.shape.Reads as shape-reads
 use Rattle.words.proofs.half_at.Reads as half-at-reads
-use Rattle.compile_walk.proofs.+arms+assign+block+body+choose+conditional+expression+items+operands+pair+repeat+select+simple+statement+when.Proof.Base.{assign-below}
-use Rattle.compile_walk.proofs.+arms+assign+block+body+choose+conditional+expression+items+operands+pair+repeat+select+simple+statement+when.Proof.Base.{block-below}
-use Rattle.compile_walk.proofs.+arms+assign+block+body+choose+conditional+expression+items+operands+pair+repeat+select+simple+statement+when.Proof.Base.{choose-below}
-use Rattle.compile_walk.proofs.+arms+assign+block+body+choose+conditional+expression+items+operands+pair+repeat+select+simple+statement+when.Proof.Base.{repeat-below}
-use Rattle.compile_walk.proofs.+arms+assign+block+body+choose+conditional+expression+items+operands+pair+repeat+select+simple+statement+when.Proof.Base.{select-below}
-use Rattle.compile_walk.proofs.+arms+assign+block+body+choose+conditional+expression+items+operands+pair+repeat+select+simple+statement+when.Proof.Base.{simple-below}
-use Rattle.compile_walk.proofs.+arms+assign+block+body+choose+conditional+expression+items+operands+pair+repeat+select+simple+statement+when.Proof.Base.{statement-at}
-use Rattle.compile_walk.proofs.+arms+assign+block+body+choose+conditional+expression+items+operands+pair+repeat+select+simple+statement+when.Proof.Base.{when-below}
+use Rattle.compile_walk.proofs.+arms+assign+block+body+choose+conditional+expression+items+operands+pair+repeat+select+simple+statement+when.Proof.Base.{entry-below, kind-at}
 
 -- what the functions that it calls are taken to ask and give
 abbrev claims : ℕ → statement-lts.Claims
 claims t = (
   half-at-reads.Asked,
   half-at-reads.Learnt,
-  block-below t,
+  entry-below block.Pre t,
   block.Post,
   shape-reads.Asked,
   shape-reads.Learnt,
   finish-reads.Asked,
   finish-reads.Learnt,
-  assign-below t,
+  entry-below assign.Pre t,
   assign.Post,
-  when-below t,
+  entry-below when.Pre t,
   when.Post,
-  choose-below t,
+  entry-below choose.Pre t,
   choose.Post,
-  repeat-below t,
+  entry-below repeat.Pre t,
   repeat.Post,
   goto-reads.Asked,
   goto-reads.Learnt,
-  select-below t,
+  entry-below select.Pre t,
   select.Post,
-  simple-below t,
+  entry-below simple.Pre t,
   simple.Post,
 )
 
 -- what it has done where it returns
-statement-ends-2 : (t : ℕ) → statement-lts.Need-returns-2 (claims t) (statement-at t) statement′.Post
+statement-ends-2 : (t : ℕ) → statement-lts.Need-returns-2 (claims t) (kind-at statement′.Pre t) statement′.Post
 statement-ends-2 t c =
     let at-finish = c .before .before in
     let at-shape = at-finish .before .before .before in
@@ -66,7 +59,7 @@ statement-ends-2 t c =
     answer-as (λ n h e. e ∙ (sym (at-half-at .half-at .ensures) ∙ at-match .match .keys2))
     (answers-label (ask-as (λ n h e. e ∙ (sym (at-half-at .half-at .ensures) ∙ at-match .match .keys2)) (at-start .pre .1)) (at-shape .shape .ensures) (at-finish .finish .ensures))
 
-statement-ends-7 : (t : ℕ) → statement-lts.Need-returns-7 (claims t) (statement-at t) statement′.Post
+statement-ends-7 : (t : ℕ) → statement-lts.Need-returns-7 (claims t) (kind-at statement′.Pre t) statement′.Post
 statement-ends-7 t c =
     let at-finish2 = c .before .before in
     let at-goto = at-finish2 .before .before .before in
@@ -78,8 +71,8 @@ statement-ends-7 t c =
     (answers-goto (ask-as (λ n h e. e ∙ (sym (at-half-at .half-at .ensures) ∙ at-match .match .keys7)) (at-start .pre .1))
     (at-half-at2 .half-at2 .ensures) (at-goto .goto .ensures) (at-finish2 .finish2 .ensures))
 
-pub statement-meets : {M : Type 1} (t : ℕ) → statement-lts.Closed (claims t) (statement-at t) statement′.Post M
-statement-meets t = statement-lts.spec (claims t) (statement-at t) statement′.Post
+pub statement-meets : {M : Type 1} (t : ℕ) → statement-lts.Closed (claims t) (kind-at statement′.Pre t) statement′.Post M
+statement-meets t = statement-lts.spec (claims t) (kind-at statement′.Pre t) statement′.Post
     -- half-at-requires
     (λ c κs. omega (arith, asked (c .before .before .before .before .before .before .before .before .before .pre .1) .long))
     -- block-requires

@@ -3,8 +3,8 @@ use mathlib.Core.Path.{refl}
 use native.Mathlib.Omega.{arith}
 use borrow.Author.Needs.{needs}
 use Rattle.compile_steps.specs.Parts.{asked}
-use Rattle.compile_steps.specs.When.{asks-when-first, asks-when-passes, asks-when-emit, asks-when-second, asks-when-shape, asks-when-finish, answers-when}
-use Rattle.compile_steps.specs.Adapt.{second-within}
+use Rattle.compile_steps.specs.WhenAsks.{asks-when-first, asks-when-passes, asks-when-emit, asks-when-second, asks-when-shape, asks-when-finish, answers-when}
+use Rattle.compile_steps.specs.Parts.{second-within}
 use Prim.Native.Nat.{ℕ}
 use Rattle.compile_walk.proofs.expression.Reads as expression
 use Rattle.compile_walk.proofs.statement.Reads as statement′
@@ -15,14 +15,12 @@ use Rattle.compile_emit.proofs.finish.Reads as finish-reads
 use Rattle.compile_output.proofs.emit.Reads as emit-reads
 use Rattle.compile_output.proofs.shape.Reads as shape-reads
 use Rattle.table_scopes.proofs.size_at.Reads as size-at-reads
-use Rattle.compile_walk.proofs.+arms+assign+block+body+choose+conditional+expression+items+operands+pair+repeat+select+simple+statement+when.Proof.Base.{expression-below}
-use Rattle.compile_walk.proofs.+arms+assign+block+body+choose+conditional+expression+items+operands+pair+repeat+select+simple+statement+when.Proof.Base.{statement-below}
-use Rattle.compile_walk.proofs.+arms+assign+block+body+choose+conditional+expression+items+operands+pair+repeat+select+simple+statement+when.Proof.Base.{when-at}
+use Rattle.compile_walk.proofs.+arms+assign+block+body+choose+conditional+expression+items+operands+pair+repeat+select+simple+statement+when.Proof.Base.{entry-at, kind-below}
 
 -- what the functions that it calls are taken to ask and give
 abbrev claims : ℕ → when-lts.Claims
 claims t = (
-  expression-below t,
+  kind-below expression.Pre t,
   expression.Post,
   size-at-reads.Asked,
   size-at-reads.Learnt,
@@ -30,7 +28,7 @@ claims t = (
   end-of-reads.Learnt,
   emit-reads.Asked,
   emit-reads.Learnt,
-  statement-below t,
+  kind-below statement′.Pre t,
   statement′.Post,
   shape-reads.Asked,
   shape-reads.Learnt,
@@ -39,7 +37,7 @@ claims t = (
 )
 
 -- what it has done where it returns
-when-ends : (t : ℕ) → when-lts.Need-returns (claims t) (when-at t) when.Post
+when-ends : (t : ℕ) → when-lts.Need-returns (claims t) (entry-at when.Pre t) when.Post
 when-ends t c =
     let at-finish = c .before .before in
     let at-shape = at-finish .before .before .before in
@@ -54,8 +52,8 @@ when-ends t c =
     (at-end-of .end-of .ensures .0) (at-emit .emit .ensures) (at-statement .statement .ensures) (at-shape .shape .ensures)
     (at-finish .finish .ensures)
 
-pub when-meets : {M : Type 1} (t : ℕ) → when-lts.Closed (claims t) (when-at t) when.Post M
-when-meets t = when-lts.spec (claims t) (when-at t) when.Post
+pub when-meets : {M : Type 1} (t : ℕ) → when-lts.Closed (claims t) (entry-at when.Pre t) when.Post M
+when-meets t = when-lts.spec (claims t) (entry-at when.Pre t) when.Post
     -- sub-expression
     (λ c. omega (arith, asked (c .before .before .before .before .before .before .before .before .before .pre .1) .long))
     -- part-expression-start

@@ -15,7 +15,7 @@ use Rattle.compile_steps.specs.Parts.{lent, below, movedTo, asked}
 use Rattle.compile_steps.specs.Views.{IsExpr, IsStmt, IsKind, When, when-of}
 use Rattle.compile_steps.specs.Shared.{Shaping, ready-as, done-as, aim-as, kept-done}
 use Rattle.compile_steps.specs.Ifs.{when-test, when-jump, when-body, when-mark, when-small, when-done}
-use Rattle.compile_steps.specs.Adapt.{ready-passes, ready-size, behind-test}
+use Rattle.compile_steps.specs.Parts.{ready-passes, ready-size, behind-test}
 
 module _ {known aims l part : List ℕ} {nesting at : ℕ} {sizes : List ℕ} {L : Lent} {top holds depth : ℕ} {cursor : Cursor}
     (a : Asks (IsKind 22) known aims l part nesting at sizes L top holds depth cursor) where
