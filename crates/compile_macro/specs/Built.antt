@@ -13,7 +13,7 @@ use Rattle.logic.specs.Choice.{if_then_else_}
 use Rattle.words.specs.Laws.{Bytes}
 use Rattle.values.specs.Types.{Ty, sames}
 use Rattle.values.specs.Ends.{accepted}
-use Rattle.language.specs.Tree.{Typed, Decl, declare, holding, Global, local, class, procedure, Tree, locals}
+use Rattle.language.specs.Tree.{Typed, Global, local, class, procedure, Tree, locals}
 use Rattle.language.specs.Tree.{Body as TreeBody, proper, function}
 use Rattle.language.specs.Names.{types, procedureOf, definesTyped}
 use Rattle.language.specs.Names.{results as resultsOf}

@@ -1,5 +1,5 @@
 -- The code of bodies one after the other: where each body's lines lie in the macro.
-use mathlib.Core.Bool.{Bool, true, false, _&&_}
+use mathlib.Core.Bool.{true, false}
 use mathlib.Core.Path.{_≡_, refl, ap, sym, _∙_, subst}
 use mathlib.Core.List.{List, [], _∷_, _++_}
 use mathlib.Core.Option.{Option, none, some}
@@ -219,7 +219,9 @@ module _ (m : Macro) (ps : List Part) (eb : m .bodies ≡ headsOf ps) (ec : m .c
 
       outside : inBody m k (p .head .first + ops (p .code)) ≡ false
       unfolding inBody
-      outside = rw (its .its-head, its .its-end, le-ltb (p .head .first + ops (p .code)) (p .head .first + ops (p .code)) (omega arith)) (and-false (leb (p .head .first) (p .head .first + ops (p .code))))
+      outside =
+          rw (its .its-head, its .its-end, le-ltb (p .head .first + ops (p .code)) (p .head .first + ops (p .code)) (omega arith))
+          (and-false (leb (p .head .first) (p .head .first + ops (p .code))))
 
       pub begins-empty : into m (p .head .first) ≡ atFirst
       unfolding into

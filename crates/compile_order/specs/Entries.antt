@@ -15,11 +15,11 @@ use Rattle.values.specs.Types.{integer, logical, bits, reference}
 use Rattle.language.specs.Tree.{Body, proper, function, Global, local, class, procedure, Tree, locals}
 use Rattle.language.specs.Names.{results}
 use Rattle.language.specs.Faults.{sizeItems, sizeGlobal}
-use Rattle.language.specs.Table.{Entry, entry, inLayout, classCount, procedureCount}
+use Rattle.language.specs.Table.{Entry, entry, inLayout, classCount}
 use Rattle.logic.specs.OptionLaws.{never-some, same-some}
 use Rattle.logic.specs.Tests.{halves}
 use Rattle.bytecode_laws.specs.Terms.{Named}
-use Rattle.table_scopes.specs.Trees.{length-Items, length-Global, length-head}
+use Rattle.table_scopes.specs.Trees.{length-Items, length-head}
 use Rattle.compile_code.specs.Compile.{Class, classesOf, Proc, procsOf, tyIn}
 use Rattle.compile_code.specs.Encode.{fieldTypes}
 use Rattle.compile_macro.specs.Fields.{Entered, parted}

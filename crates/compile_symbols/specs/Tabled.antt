@@ -8,11 +8,9 @@ use lib.Dec.{leb}
 use lib.IntN.{pos}
 use lib.ListN.{length, take, drop, getD, length-append, length-drop}
 use lib.Seq.{take-at, drop-at, drop-drop}
-use borrow.Author.Tests.{leb-true}
 use Rattle.language.specs.Program.{flatTyped, flatItems, resultCode, flatBody, flatGlobal, flatHead, flatten}
 use Rattle.logic.specs.Lists.{all}
-use Rattle.values.specs.Types.{integer, logical, bits, reference}
-use Rattle.language.specs.Tree.{noItem, Body, proper, function, Global, local, class, procedure, Tree}
+use Rattle.language.specs.Tree.{noItem, Body, Global, local, class, procedure, Tree}
 use Rattle.language.specs.Table.{Entry, entry, inLayout, Read, took, stop, first, formRoot}
 use Rattle.logic.specs.Tests.{both-left}
 use Rattle.language_laws.specs.Claims.{entriesOf, Readable}

@@ -11,7 +11,6 @@ use Rattle.compile_emit.proofs.goto.Tie as tie
 
 releases-requires : tie.Need-releases-requires
 releases-requires c κs =
-    let at-before = c .before .before .before .before .before in
     let at-start = c .before .before .before .before .before .before in
     let n = length (at-start .args .out .now) in
     rw (c .before .land .ensures .0) (fits-op n (fits-mark n (at-start .args .depth) (at-start .pre .4)))
@@ -27,7 +26,6 @@ emit-requires c κs =
 
 shape-requires : tie.Need-shape-requires
 shape-requires c κs =
-    let at-before = c .before .before .before .before .before .before in
     let at-releases = c .before .before .before .before .before .before .before in
     let at-land = at-releases .before .before in
     let at-start = at-land .before .before .before .before .before in

@@ -12,19 +12,16 @@ use Rattle.compile_front.proofs.put.Tie as tie
 
 cast-put-header : tie.Need-cast-put-header
 cast-put-header c =
-    let at-before = c .before .before .before .before .before in
     let at-start = c .before .before .before .before .before .before in
     let f = asks-tree (at-start .pre .1) in omega (arith, top-classes f)
 
 cast-put-header-2 : tie.Need-cast-put-header-2
 cast-put-header-2 c =
-    let at-before = c .before .before .before .before .before in
     let at-start = c .before .before .before .before .before .before in
     let f = asks-tree (at-start .pre .1) in omega (arith, top-bodies f)
 
 put-classes-requires : tie.Need-put-classes-requires
 put-classes-requires c κs =
-    let at-before = c .before .before .before .before .before .before .before .before .before in
     let at-start = c .before .before .before .before .before .before .before .before .before .before in
     let f = asks-tree (at-start .pre .1) in (top-headed f, top-known f, omega (arith, top-room f, simp length-sets at (ap length (c .before .before .before .put-header .ensures))))
 
@@ -70,7 +67,6 @@ put-procedures-requires c κs =
 
 returns : tie.Need-returns
 returns c =
-    let at-before = c .before .before .before .before .before in
     let at-put-root = c .before .before .before .before .before .before in
     let at-put-classes = at-put-root .before .before .before .before in
     let at-put-header = at-put-classes .before .before .before .before in

@@ -24,13 +24,11 @@ put-half-requires-2 c κs = omega (arith, simp (length-sets, length-set) at (ap 
 
 same-length : tie.Need-same-length
 same-length c =
-    let at-before = c .before .before .before .before .before in
     let at-put-half = c .before .before .before .before .before .before in
     simp (length-sets, length-set) at (ap length (c .before .before .put-half2 .ensures)) ∙ (simp (length-sets, length-set) at (ap length (at-put-half .put-half .ensures)))
 
 returns : tie.Need-returns
 returns c =
-    let at-before = c .before .before .before .before .before in
     let at-put-half = c .before .before .before .before .before .before in
     c .before .before .put-half2 .ensures ∙ rw (at-put-half .put-half .ensures)
 

@@ -15,13 +15,11 @@ kind-at-requires c κs =
 
 size-at-requires : tie.Need-size-at-requires
 size-at-requires c κs =
-    let at-before = c .before .before .before .before .before in
     let at-start = c .before .before .before .before .before .before in
     omega (arith, at-start .pre .1 .some, at-start .pre .1 .within, at-start .pre .1 .wide)
 
 add-end : tie.Need-add-end
 add-end c =
-    let at-before = c .before .before .before .before .before .before in
     let at-start = c .before .before .before .before .before .before .before in
     omega (arith, at-start .pre .1 .within, c .size-at .ensures)
 
@@ -63,7 +61,6 @@ returns c =
 
 returns-2 : tie.Need-returns-2
 returns-2 c =
-    let at-before = c .before .before .before .before .before in
     let at-start = c .before .before .before .before .before .before in
     wrote-as (wrote-nothing _ _) (sym (class-no (at-start .args .table .now) (at-start .args .sizes .now) (at-start .args .place)
     (at-start .pre .1) _ refl (λ e. c .if1 .left (c .before .kind-at .ensures ∙ e))))

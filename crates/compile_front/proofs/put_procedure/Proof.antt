@@ -24,7 +24,6 @@ put-types-requires c κs = (
 
 cast-put-body : tie.Need-cast-put-body
 cast-put-body c =
-    let at-before = c .before .before .before .before in
     let at-b-at = c .before .before .before .before .before in
     let at-start = at-b-at .before .before .before .before in
     omega (arith, at-b-at .b-at .ensures, at-start .pre .3)
@@ -37,19 +36,16 @@ sub-put-body-2 c = omega (arith, c .before .before .before .put-types .ensures .
 
 cast-put-body-3 : tie.Need-cast-put-body-3
 cast-put-body-3 c =
-    let at-before = c .before .before .before .before .before .before .before .before in
     let at-start = c .before .before .before .before .before .before .before .before .before in
     omega (arith, c .before .before .before .put-types .ensures .ends, at-start .pre .4)
 
 put-body-requires : tie.Need-put-body-requires
 put-body-requires c κs =
-    let at-before = c .before .before .before .before .before .before .before .before in
     let at-start = c .before .before .before .before .before .before .before .before .before in
     omega (arith, wrote-long (c .before .before .before .put-types .ensures), at-start .pre .5)
 
 returns : tie.Need-returns
 returns c =
-    let at-before = c .before .before .before .before .before in
     let at-put-types = c .before .before .before .before .before .before in
     let at-b-at = at-put-types .before .before in
     let at-start = at-b-at .before .before .before .before in

@@ -15,13 +15,11 @@ abbrev μ-loop : tie.MeasureT-loop
 
 shared-slice-read-first : tie.Need-shared-slice-read-first Inv-loop μ-loop
 shared-slice-read-first c =
-    let at-before = c .before .before .before .before .before in
     let at-start = c .before .before .before .before .before .before in
     omega (arith, table-some (at-start .pre .0), at-start .pre .2 .wide)
 
 loop-holds : tie.Need-loop-holds Inv-loop μ-loop
 loop-holds c =
-    let at-before = c .before .before .before .before .before in
     let at-start = c .before .before .before .before .before .before in
     procs-start _ _ _ (at-start .pre .0) (at-start .pre .2) refl
 
@@ -46,7 +44,6 @@ next-first-requires c κs =
 
 size-at-requires : tie.Need-size-at-requires Inv-loop μ-loop
 size-at-requires c κs =
-    let at-before = c .before .before .before .before in
     let at-loop-test = c .before .before .before .before .before in
     let at-loop = at-loop-test .before in
     let at-start = at-loop .before .before .before .before .before .before .before in
@@ -54,7 +51,6 @@ size-at-requires c κs =
 
 add-place : tie.Need-add-place Inv-loop μ-loop
 add-place c =
-    let at-before = c .before .before .before .before .before in
     let at-loop-test = c .before .before .before .before .before .before in
     let at-loop = at-loop-test .before in
     let at-start = at-loop .before .before .before .before .before .before .before in

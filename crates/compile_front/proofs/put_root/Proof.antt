@@ -10,7 +10,6 @@ use Rattle.compile_front.proofs.put_root.Tie as tie
 
 put-variables-requires : tie.Need-put-variables-requires
 put-variables-requires c κs =
-    let at-before = c .before .before .before .before in
     let at-start = c .before .before .before .before .before in
     (at-start .pre .0, at-start .pre .1, omega (arith, at-start .pre .4, root-length (at-start .pre .0) (at-start .args .after) (at-start .pre .2)))
 
@@ -35,19 +34,16 @@ put-types-requires c κs = (
 
 sub-put-body : tie.Need-sub-put-body
 sub-put-body c =
-    let at-before = c .before .before .before .before .before .before in
     let at-put-variables = c .before .before .before .before .before .before .before in
     omega (arith, at-put-variables .put-variables .ensures .ends, c .before .before .before .put-types .ensures .ends)
 
 sub-put-body-2 : tie.Need-sub-put-body-2
 sub-put-body-2 c =
-    let at-before = c .before .before .before .before .before .before in
     let at-put-variables = c .before .before .before .before .before .before .before in
     omega (arith, at-put-variables .put-variables .ensures .ends, c .before .before .before .put-types .ensures .ends)
 
 cast-put-body : tie.Need-cast-put-body
 cast-put-body c =
-    let at-before = c .before .before .before .before .before .before in
     let at-put-variables = c .before .before .before .before .before .before .before in
     let at-start = at-put-variables .before .before .before .before .before .before in
     omega (
@@ -60,14 +56,12 @@ cast-put-body c =
 
 put-body-requires : tie.Need-put-body-requires
 put-body-requires c κs =
-    let at-before = c .before .before .before .before .before .before in
     let at-put-variables = c .before .before .before .before .before .before .before in
     let at-start = at-put-variables .before .before .before .before .before .before in
     omega (arith, at-start .pre .4, wrote-long (at-put-variables .put-variables .ensures), wrote-long (c .before .before .before .put-types .ensures))
 
 returns : tie.Need-returns
 returns c =
-    let at-before = c .before .before .before .before .before in
     let at-put-types = c .before .before .before .before .before .before in
     let at-put-variables = at-put-types .before .before .before .before in
     let at-start = at-put-variables .before .before .before .before .before .before in

@@ -29,7 +29,6 @@ returns c =
 
 returns-2 : tie.Need-returns-2
 returns-2 c =
-    let at-before = c .before .before .before .before .before in
     let at-start = c .before .before .before .before .before .before in
     put-none (at-start .args .table .now) (at-start .args .known .now) (at-start .args .i) (at-start .args .out .now) (at-start .args .at)
     (λ e. c .if1 .left (c .before .cells-of .ensures ∙ ((ap cellsOfKind (c .before .before .kind-at .ensures)) ∙ e)))

@@ -16,7 +16,6 @@ loop-holds c = types-start _ _ _ _ _ (c .before .before .before .pre .2)
 
 put-type-requires : tie.Need-put-type-requires Inv-loop μ-loop
 put-type-requires c κs =
-    let at-before = c .before .before .before .before .before in
     let at-start = c .before .before .before .before .before .before in
     let s = c .before .before .loop .inv in (
       at-start .pre .0,

@@ -22,19 +22,16 @@ kind-at-requires c κs = omega (arith, c .before .before .before .pre .1)
 
 add-n : tie.Need-add-n Inv-loop μ-loop
 add-n c =
-    let at-before = c .before .before .before .before in
     let at-start = c .before .before .before .before .before in
     omega (arith, cells-few (c .before .kind-at .result), c .before .before .before .loop .inv .few, at-start .pre .1)
 
 add-i : tie.Need-add-i Inv-loop μ-loop
 add-i c =
-    let at-before = c .before .before .before .before in
     let at-start = c .before .before .before .before .before in
     omega (arith, at-start .pre .1)
 
 loop-again : tie.Need-loop-again Inv-loop μ-loop
 loop-again c =
-    let at-before = c .before .before .before .before in
     let at-start = c .before .before .before .before .before in
     count-next (c .before .before .before .loop .inv) (c .cells-of .result) (c .before .before .loop-test .taken) (at-start .pre .1)
     (c .cells-of .ensures ∙ ap cellsOfKind (c .before .kind-at .ensures))

@@ -35,13 +35,11 @@ copy-requires c κs = (omega arith, simp length-set (omega (arith, same (c .befo
 
 same-length : tie.Need-same-length
 same-length c =
-    let at-before = c .before .before .before .before .before in
     let half = c .before .before .before .before .before .before in
     ap (length {A = ℕ}) (c .before .before .copy .ensures) ∙ simp (length-sets, length-set) (same half)
 
 returns : tie.Need-returns
 returns c =
-    let at-before = c .before .before .before .before .before in
     let half = c .before .before .before .before .before .before in
     let a = half .before .before .before .before .args in
     (rw (half .put-half .ensures) at (c .before .before .copy .ensures))

@@ -29,7 +29,6 @@ names-class-requires c κs =
 -- src/lib.rt:95:13
 returns : tie.Need-returns Inv-loop μ-loop
 returns c =
-    let at-before = c .before .before .before .before .before in
     let at-start = c .before .before .before .before .before .before in
     class-hit (at-start .pre .tabled) (c .before .before .before .loop .inv) (c .before .before .loop-test .taken) (sym (c .before .names-class .ensures) ∙ c .if1 .taken)
 
@@ -64,7 +63,6 @@ size-at-requires c κs =
 -- src/lib.rt:98:9
 add-place : tie.Need-add-place Inv-loop μ-loop
 add-place c =
-    let at-before = c .before .before .before .before in
     let at-loop-test = c .before .before .before .before .before in
     let at-loop = at-loop-test .before in
     let at-start = at-loop .before .before .before in

@@ -18,7 +18,6 @@ add-t6 c =
 -- src/lib.rt:191:17
 add-t8 : tie.Need-add-t8
 add-t8 c =
-    let at-before = c .before .before .before .before .before in
     let at-start = c .before .before .before .before .before .before in
     omega (arith, one-few (at-start .args .kind) 12)
 

@@ -12,7 +12,6 @@ use Rattle.compile_symbols.proofs.entry_known.Tie as tie
 
 pack-requires : tie.Need-pack-requires
 pack-requires c κs =
-    let at-before = c .before .before .before .before .before in
     let at-start = c .before .before .before .before .before .before in
     let q = read-type (classesIn (at-start .args .table .now)) (at-start .pre .0 .tabled .legible) (at-start .args .place) (at-start .pre .1)
     (sym (c .before .before .before .kind-at .ensures) ∙ c .before .before .match .keys1) in
@@ -32,7 +31,6 @@ returns c =
 
 returns-2 : tie.Need-returns-2
 returns-2 c =
-    let at-before = c .before .before .before .before in
     let at-start = c .before .before .before .before .before in
     c .pack2 .ensures ∙ sym (number-case (classesIn (at-start .args .table .now)) (at-start .args .owner) (at-start .args .cell)
     (at-start .args .table .now) (at-start .args .place) (sym (c .before .before .kind-at .ensures) ∙ c .before .match .keys2))

@@ -41,7 +41,6 @@ kind-at-requires c κs =
 
 counted-requires : tie.Need-counted-requires Inv-loop μ-loop
 counted-requires c κs =
-    let at-before = c .before .before .before .before in
     let at-loop-test = c .before .before .before .before .before in
     let at-loop = at-loop-test .before in
     let at-start = at-loop .before .before .before .before in
@@ -51,7 +50,6 @@ counted-requires c κs =
 
 size-at-requires : tie.Need-size-at-requires Inv-loop μ-loop
 size-at-requires c κs =
-    let at-before = c .before .before .before .before .before in
     let at-loop-test = c .before .before .before .before .before .before in
     let at-loop = at-loop-test .before in
     let at-start = at-loop .before .before .before .before in
@@ -59,7 +57,6 @@ size-at-requires c κs =
 
 add-place : tie.Need-add-place Inv-loop μ-loop
 add-place c =
-    let at-before = c .before .before .before .before .before .before in
     let at-loop-test = c .before .before .before .before .before .before .before in
     let at-loop = at-loop-test .before in
     let at-start = at-loop .before .before .before .before in
@@ -68,7 +65,6 @@ add-place c =
 
 loop-again : tie.Need-loop-again Inv-loop μ-loop
 loop-again c =
-    let at-before = c .before .before .before .before in
     let at-number-global = c .before .before .before .before .before in
     let at-loop-test = at-number-global .before .before in
     let at-loop = at-loop-test .before in
@@ -83,7 +79,6 @@ number-cells-requires c κs =
 
 same-length : tie.Need-same-length Inv-loop μ-loop
 same-length c =
-    let at-before = c .before .before .before .before in
     let at-loop = c .before .before .before .before .before in
     ap length (c .before .before .number-cells .ensures) ∙ (simp length-sets (at-loop .loop .inv .long))
 

@@ -21,7 +21,6 @@ loop-holds c =
 
 entry-known-requires : tie.Need-entry-known-requires Inv-loop μ-loop
 entry-known-requires c κs =
-    let at-before = c .before .before .before .before in
     let at-start = c .before .before .before .before .before in
     let s = c .before .loop .inv in (at-start .pre .0, omega (arith, s .most), at-start .pre .4, omega (arith, s .few, s .most, entries-few (at-start .pre .0 .tabled)))
 
