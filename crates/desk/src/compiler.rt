@@ -11,7 +11,8 @@ ghost use Rattle.compile_code.specs.Encode.{macroOf};
 // The macro of a table, at the front of the output, and its length. A refusal writes nothing.
 #[no_mangle]
 pub extern "C" fn cue_compile(table: &[u8], out: &mut [u8]) -> u64
-    ensures { λ r. ⌜ (r ≡ packed (compiledNumbers (compileOn macroOf (now (table .entry)) (now (out .entry)) .verdict))) × (now (out .exit) ≡ compileOn macroOf (now (table .entry)) (now (out .entry)) .bytes) ⌝ }
+    ensures { λ r. ⌜ (r ≡ packed (compiledNumbers (compileOn macroOf (now (table .entry)) (now (out .entry)) .verdict)))
+        × (now (out .exit) ≡ compileOn macroOf (now (table .entry)) (now (out .entry)) .bytes) ⌝ }
 {
     match compile::compile(table, out) {
         Compiled::Done(length) => pack(1, 0, 0, length as u64),

@@ -33,7 +33,8 @@ pub extern "C" fn cue_start(code: &[u8], state: &mut [u8]) -> u64
 // A run of a macro from a state, with the readings and the allowance of this run. What a list of calls comes to: specs/Calls.
 #[no_mangle]
 pub extern "C" fn cue_run(code: &[u8], state: &mut [u8], readings: &[u8], allowance: u16) -> u64
-    ensures { λ r. ⌜ (r ≡ cueRun (now (code .entry)) (now (state .entry)) (feed (now (readings .entry)) allowance) .answer) × (now (state .exit) ≡ cueRun (now (code .entry)) (now (state .entry)) (feed (now (readings .entry)) allowance) .state) ⌝ }
+    ensures { λ r. ⌜ (r ≡ cueRun (now (code .entry)) (now (state .entry)) (feed (now (readings .entry)) allowance) .answer)
+        × (now (state .exit) ≡ cueRun (now (code .entry)) (now (state .entry)) (feed (now (readings .entry)) allowance) .state) ⌝ }
 {
     match run::run(code, state, readings, allowance) {
         Ran::Happens(e, steps) => pack_event(e, steps),

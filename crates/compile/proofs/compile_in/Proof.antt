@@ -95,24 +95,33 @@ number-all-requires c κs =
 
 write-requires : tie.Need-write-requires
 write-requires c κs = (
-  compile-write (c .before .before .before .before .before .before .before .before .before .before .before .before .before .before .before .before .before .before .before .before .before .before .before .before .before .before .before .before .before .before .before .before .pre)
+  let at-number-all = c .before .before .before .before .before .before .before .before .before in
+      let at-enter-root = at-number-all .before .before .before .before .before in
+      let at-spanned = at-enter-root .before .before .before in
+      let at-word-at = at-spanned .before .before in
+      let at-half-at = at-word-at .before in
+      let at-measure = at-half-at .before .before .before in
+      let at-shared-slice-known = at-measure .before .before .before .before .before .before .before .before in
+      let at-start = at-shared-slice-known .before in
+      compile-write (at-start .pre)
       (λ k. omega (
         arith,
-        c .before .before .before .before .before .before .before .before .before .before .before .before .before .before .before .before .before .before .before .before .before .before .before .before .before .before .before .before .before .before .before .shared-slice-known .given
+        at-shared-slice-known .shared-slice-known .given
             k,
-      )) (c .before .before .before .before .before .before .before .before .before .before .before .before .before .before .before .before .before .before .before .before .before .before .before .measure .ensures)
+      )) (at-measure .measure .ensures)
       (record {
-        first = c .before .before .before .before .before .before .before .before .before .before .before .before .before .before .before .before .before .before .before .before .half-at .ensures;
-        second = c .before .before .before .before .before .before .before .before .before .before .before .before .before .before .before .before .before .before .before .word-at .ensures;
-        third = ap (λ (n : ℕ). 1 + n) (c .before .before .before .before .before .before .before .before .before .before .before .before .before .before .before .before .before .spanned .ensures);
-      }) (c .before .before .before .before .before .before .before .before .before .before .before .before .before .before .enter-root .ensures)
-      (c .before .before .before .before .before .before .before .before .before .number-all .ensures),
+        first = at-half-at .half-at .ensures;
+        second = at-word-at .word-at .ensures;
+        third = ap (λ (n : ℕ). 1 + n) (at-spanned .spanned .ensures);
+      }) (at-enter-root .enter-root .ensures)
+      (at-number-all .number-all .ensures),
   omega arith,
 )
 
 same-length : tie.Need-same-length
 same-length c =
-    let at-measure = c .before .before .before .before .before .before .before .before .before .before .before .before .before .before .before .before .before .before .before .before .before .before .before .before .before .before .before .before .before .before .before .before .before in
+    let after-measure = c .before .before .before .before .before .before .before .before .before .before .before .before .before .before .before .before in
+    let at-measure = after-measure .before .before .before .before .before .before .before .before .before .before .before .before .before .before .before .before .before in
     at-measure .measure .kept .1 .0
 
 pub compile-in-spec : {M : Type 1} → statement M

@@ -15,7 +15,8 @@ walk-requires c κs =
 
 length-requires : tie.Need-length-requires
 length-requires c κs =
-    let at-start = c .before .before .before .before .before .before .before .before .before .before .before .before .before .before .before .before .before .before .before .before .before .before .before in
+    let after-start = c .before .before .before .before .before .before .before .before .before .before .before in
+    let at-start = after-start .before .before .before .before .before .before .before .before .before .before .before .before in
     ((theTree (at-start .args .table .now)), write-front (at-start .pre .0))
 
 mul-shapes : tie.Need-mul-shapes
@@ -183,18 +184,21 @@ slice-write-out-2 c =
 same-length-6 : tie.Need-same-length-6
 same-length-6 c =
     let at-walk2 = c .before .before .before .before .before .before .before .before in
-    let at-walk = at-walk2 .before .before .before .before .before .before .before .before .before .before .before .before .before .before .before .before .before .before .before .before .before .before .before .before in
+    let after-walk = at-walk2 .before .before .before .before .before .before .before .before .before .before .before .before in
+    let at-walk = after-walk .before .before .before .before .before .before .before .before .before .before .before .before in
     at-walk2 .walk2 .ensures .kept .same-env ∙ at-walk .walk .ensures .kept .same-env
 
 same-length-7 : tie.Need-same-length-7
 same-length-7 c =
-    let at-walk = c .before .before .before .before .before .before .before .before .before .before .before .before .before .before .before .before .before .before .before .before .before .before .before .before .before .before .before .before .before .before .before .before in
+    let after-walk = c .before .before .before .before .before .before .before .before .before .before .before .before .before .before .before .before in
+    let at-walk = after-walk .before .before .before .before .before .before .before .before .before .before .before .before .before .before .before .before in
     at-walk .walk .ensures .kept .same-ends
 
 same-length-9 : tie.Need-same-length-9
 same-length-9 c =
     let at-walk2 = c .before .before .before .before .before .before .before .before in
-    let at-walk = at-walk2 .before .before .before .before .before .before .before .before .before .before .before .before .before .before .before .before .before .before .before .before .before .before .before .before in
+    let after-walk = at-walk2 .before .before .before .before .before .before .before .before .before .before .before .before in
+    let at-walk = after-walk .before .before .before .before .before .before .before .before .before .before .before .before in
     at-walk2 .walk2 .ensures .kept .same-stack ∙ at-walk .walk .ensures .kept .same-stack
 
 same-length-10 : tie.Need-same-length-10
