@@ -1,5 +1,5 @@
-// The reader of tables (refusals 1 and 2). The walkers of statements and expressions call each other, the remaining nesting falling; each
-// is given the part of the table after the entry that it is an operand of, and passes on further parts that start inside it.
+// The reader of tables (refusals 1 and 2). An entry and its operands call each other, the remaining nesting falling; each is given the part of
+// the table after the entry that it is an operand of, and passes on further parts that start inside it.
 pub mod kinds;
 pub mod layout;
 
