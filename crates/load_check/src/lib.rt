@@ -30,9 +30,12 @@ pub fn load(code: &[u8]) -> Loaded
 {
     match load_rules::judge_places(code) {
         Judged::Passes => Loaded::Passes,
-        Judged::Refused(number, place) => Loaded::Refused(Refusal {
-            number: number as u8,
-            place: place as u32,
-        }),
+        Judged::Refused(number, place) => {
+            let refusal = Refusal {
+                number: number as u8,
+                place: place as u32,
+            };
+            Loaded::Refused(refusal)
+        }
     }
 }

@@ -22,11 +22,11 @@ fits c =
     small (now (c .before .before .before .before .before .args .code)) (λ k. c .before .before .before .before .shared-slice-known .given k .fits)
     (c .before .number .given .0 .0) (c .before .number .given .0 .1 .0) (verdict-is c)
 
-cast-t6 : tie.Need-cast-t6
-cast-t6 c = record { fits = fits c .0 }
-
 cast-t7 : tie.Need-cast-t7
-cast-t7 c = record { fits = omega (arith, fits c .1) }
+cast-t7 c = record { fits = fits c .0 }
+
+cast-t8 : tie.Need-cast-t8
+cast-t8 c = record { fits = omega (arith, fits c .1) }
 
 returns : tie.Need-returns
 returns c = loads _ passes (sym (ap verdictOf (c .enum-told .given .1)) ∙ c .before .before .judge-places .ensures)
@@ -37,4 +37,4 @@ returns-2 c = loads _ (refused (c .before .number .given .0 .0) (c .before .numb
 pub load-spec : {M : Type 1} → statement M
 load-spec =
     tie.close
-    (tie.spec (λ c κs. search needs) enum-told (λ c. search needs) cast-t6 cast-t7 returns returns-2)
+    (tie.spec (λ c κs. search needs) enum-told (λ c. search needs) cast-t7 cast-t8 returns returns-2)
