@@ -27,14 +27,14 @@ fn folder() -> PathBuf {
     Path::new(env!("CARGO_MANIFEST_DIR")).join("../examples")
 }
 
-/// The names of the examples: each has a text, a table and a listing. Beside them stands the script `list`.
+/// The names of the examples: each has a text, a table and a listing. Beside them stand the scripts `list` and `show`.
 fn names() -> BTreeSet<String> {
     let mut names = BTreeSet::new();
     for file in std::fs::read_dir(folder()).expect("examples/ is there") {
         let path = file.unwrap().path();
         let part = |part: Option<&std::ffi::OsStr>| part.unwrap_or_default().to_str().unwrap().to_string();
         let (name, sort) = (part(path.file_stem()), part(path.extension()));
-        if name == "list" && sort.is_empty() {
+        if ["list", "show"].contains(&name.as_str()) && sort.is_empty() {
             continue;
         }
         assert!(["entries", "table", "listing"].contains(&sort.as_str()), "{path:?} is no part of an example");
@@ -163,5 +163,18 @@ fn listings_of_the_library() {
         let code = compiled(&bytes_of(&name, "table"), LISTED_ROOM).unwrap();
         let mut state = started(&code);
         assert_eq!(listing(|allowance| run(&code, &mut state, &[0; 64], allowance)), text_of(&name, "listing"), "{name}");
+    }
+}
+
+/// README's first command, over the proved library: the desk's shell in C prints each example's listing, after the refusal of a bank of 63
+/// readings that it lends first.
+#[cfg(desk)]
+#[test]
+fn show_prints_the_listings() {
+    for name in names() {
+        let table = folder().join(format!("{name}.table"));
+        let shown = std::process::Command::new("bash").args([folder().join("show"), table]).output().expect("bash runs");
+        assert!(shown.status.success(), "{name}: {}", String::from_utf8_lossy(&shown.stderr));
+        assert_eq!(String::from_utf8_lossy(&shown.stdout), format!("refused 11 0\n{}", text_of(&name, "listing")), "{name}");
     }
 }
