@@ -122,8 +122,8 @@ fn compile_in(
     ensures { λ r. ⌜ compileOn macroOf (now (table .entry)) (now (out .entry)) ≡ record { verdict = verdictOf r; bytes = now (out .exit) } ⌝ }
 {
     table_scopes::measure(table, sizes);
-    let count = words::half_at(table, A_AT) as usize;
-    let items = words::word_at(table, B_AT) as usize;
+    let count = table_entries::a_at(table, 0) as usize;
+    let items = table_entries::b_at(table, 0) as usize;
     let after = 1 + table_scopes::spanned(table, sizes, 1, count);
     let top = table_scopes::enter_root(table, count, after, items, sizes, env);
     let n = compile_symbols::number_all(table, count, sizes, known);

@@ -53,7 +53,7 @@ fn root_holds(table: &[u8], count: usize, sizes: &[u16]) -> usize
     let mut left = count;
     let mut n = 0;
     while 0 < left {
-        n += compile_emit::holds_by(table_scopes::kind_at(table, place));
+        n += compile_emit::holds_by(table_entries::kind_at(table, place));
         place += table_scopes::size_at(sizes, place);
         left -= 1;
     }
@@ -79,7 +79,7 @@ fn root(
     ensures { λ r. ⌜ AnswersRoot (now (table .entry)) (lentOf (now (env .entry)) (now (ends .entry)) (now (stack .entry)) (now (out .entry)))
         (lentOf (now (env .exit)) (now (ends .exit)) (now (stack .exit)) (now (out .exit))) top cursor r ⌝ }
 {
-    let items = words::word_at(table, B_AT) as usize;
+    let items = table_entries::b_at(table, 0) as usize;
     let held = root_holds(table, count, sizes);
     let p = declare_globals(table, count, sizes, known, out, cursor);
     let from = ENTRY_BYTES * after;
@@ -125,7 +125,7 @@ fn procedure(
         (lentOf (now (env .entry)) (now (ends .entry)) (now (stack .entry)) (now (out .entry)))
         (lentOf (now (env .exit)) (now (ends .exit)) (now (stack .exit)) (now (out .exit))) top (now (known .entry)) (now (aims .entry)) cursor r ⌝ }
 {
-    let heading = words::word_at(part, B_AT);
+    let heading = table_entries::b_at(part, 0);
     let parameters = heading as usize / 256;
     table_scopes::push(env, top, 65537, 0, 0, 0);
     let up = table_scopes::add_head(table, at + 1, parameters, 4, env, top + 1);
@@ -190,7 +190,7 @@ fn global(
         (lentOf (now (env .entry)) (now (ends .entry)) (now (stack .entry)) (now (out .entry)))
         (lentOf (now (env .exit)) (now (ends .exit)) (now (stack .exit)) (now (out .exit))) top (now (known .entry)) (now (aims .entry)) cursor r ⌝ }
 {
-    if words::half_at(part, KIND_AT) == KIND_PROCEDURE {
+    if table_entries::kind_at(part, 0) == KIND_PROCEDURE {
         return procedure(
             table,
             part,

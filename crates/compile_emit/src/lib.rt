@@ -176,13 +176,13 @@ pub fn declare_one(part: &[u8], known: u32, out: &mut [u8], p: Cursor) -> Cursor
     ensures { λ r. ⌜ (r ≡ cursorDeclared (halfAt (now (part .entry)) 0) p)
         × (now (out .exit) ≡ emitDeclared (halfAt (now (part .entry)) 0) (halfAt (now (part .entry)) 2) known p (now (out .entry))) ⌝ }
 {
-    let kind = words::half_at(part, KIND_AT);
+    let kind = table_entries::kind_at(part, 0);
     match kind {
         KIND_DECLARE => {
             let q = initial(compile_symbols::type_in(known), out, p);
             compile_output::emit(out, q, OP_STORE, 0, compile_symbols::second_in(known))
         }
-        KIND_HOLD => compile_output::emit(out, p, OP_HOLD, 0, words::half_at(part, A_AT) as u32),
+        KIND_HOLD => compile_output::emit(out, p, OP_HOLD, 0, table_entries::a_at(part, 0) as u32),
         _ => p,
     }
 }
@@ -228,7 +228,7 @@ pub fn holds_in(part: &[u8], count: usize) -> usize
     let mut i = 0;
     let mut n = 0;
     while i < count {
-        n += holds_by(words::half_at(part, ENTRY_BYTES * i));
+        n += holds_by(table_entries::kind_at(part, i));
         i += 1;
     }
     n

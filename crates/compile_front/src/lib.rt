@@ -27,7 +27,7 @@ fn typed_in(table: &[u8], from: usize, to: usize) -> usize
     let mut i = from;
     let mut n = 0;
     while i < to {
-        n += compile_symbols::cells_of(table_scopes::kind_at(table, i));
+        n += compile_symbols::cells_of(table_entries::kind_at(table, i));
         i += 1;
     }
     n
@@ -50,7 +50,7 @@ fn put_type(table: &[u8], i: usize, known: &[u32], out: &mut [u8], at: usize) ->
     requires { ⌜ TypesKnown (now table) (now known) × (1 ≤ i) × (i < length (now table) / 8) × (at + length (typeAt (now table) i) ≤ length (now out)) ⌝ }
     ensures { λ r. ⌜ Wrote (now (out .entry)) at (typeAt (now (table .entry)) i) (now (out .exit)) r ⌝ }
 {
-    if compile_symbols::cells_of(table_scopes::kind_at(table, i)) == 1 {
+    if compile_symbols::cells_of(table_entries::kind_at(table, i)) == 1 {
         out[at] = compile_symbols::type_in(known[i]);
         return at + 1;
     }
@@ -111,7 +111,7 @@ fn put_if_class(
         × (halfAt (now table) (8 * place) ≡ 11 → getD (now sizes) place 0 ≤ 256) × (at + length (classAt (now table) (now sizes) place) ≤ length (now out)) ⌝ }
     ensures { λ r. ⌜ Wrote (now (out .entry)) at (classAt (now (table .entry)) (now (sizes .entry)) place) (now (out .exit)) r ⌝ }
 {
-    if table_scopes::kind_at(table, place) == KIND_CLASS {
+    if table_entries::kind_at(table, place) == KIND_CLASS {
         let end = place + table_scopes::size_at(sizes, place);
         return put_class(table, place, end, known, out, at);
     }
@@ -212,7 +212,7 @@ fn put_procedure(
     ensures { λ r. ⌜ Wrote (now (out .entry)) at (bodyOf first (wordAt (now (table .entry)) (8 * place + 4) / 256)
         (wordAt (now (table .entry)) (8 * place + 4) % 256) (typesBetween (now (table .entry)) (place + 1) end)) (now (out .exit)) r ⌝ }
 {
-    let heading = table_scopes::b_at(table, place);
+    let heading = table_entries::b_at(table, place);
     let last = put_types(table, place + 1, end, known, out, at + BODY_BYTES);
     put_body(
         out,
@@ -240,7 +240,7 @@ fn put_if_procedure(
         × (at + length (bodyAt (now table) (now sizes) place first) ≤ length (now out)) ⌝ }
     ensures { λ r. ⌜ Wrote (now (out .entry)) at (bodyAt (now (table .entry)) (now (sizes .entry)) place first) (now (out .exit)) r ⌝ }
 {
-    if table_scopes::kind_at(table, place) == KIND_PROCEDURE {
+    if table_entries::kind_at(table, place) == KIND_PROCEDURE {
         let end = place + table_scopes::size_at(sizes, place);
         return put_procedure(table, place, end, first, known, out, at);
     }
@@ -252,7 +252,7 @@ fn next_first(table: &[u8], place: usize, ends: &[u16], first: u16) -> u16
     requires { ⌜ (place < length (now table) / 8) × (place < length (now ends)) ⌝ }
     ensures { λ r. ⌜ r ≡ firstAfter (halfAt (now (table .entry)) (8 * place)) (getD (now (ends .entry)) place 0) first ⌝ }
 {
-    if table_scopes::kind_at(table, place) == KIND_PROCEDURE {
+    if table_entries::kind_at(table, place) == KIND_PROCEDURE {
         ends[place]
     } else {
         first

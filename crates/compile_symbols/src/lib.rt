@@ -69,8 +69,8 @@ fn names_class(table: &[u8], place: usize, name: u32) -> bool
     requires { ⌜ place < length (now table) / 8 ⌝ }
     ensures { λ r. ⌜ r ≡ namesClass name (entryAt (now (table .entry)) place) ⌝ }
 {
-    if table_scopes::kind_at(table, place) == KIND_CLASS {
-        table_scopes::a_at(table, place) as u32 == name
+    if table_entries::kind_at(table, place) == KIND_CLASS {
+        table_entries::a_at(table, place) as u32 == name
     } else {
         false
     }
@@ -95,7 +95,7 @@ fn class_number(table: &[u8], count: usize, sizes: &[u16], name: u32) -> usize
         if names_class(table, place, name) {
             return n;
         }
-        n += one_if(table_scopes::kind_at(table, place), KIND_CLASS);
+        n += one_if(table_entries::kind_at(table, place), KIND_CLASS);
         place += table_scopes::size_at(sizes, place);
         left -= 1;
     }
@@ -127,10 +127,10 @@ fn entry_known(
     requires { ⌜ Headed (now table) (now sizes) count × (place < length (now table) / 8) × (owner ≤ 2048) × (cell ≤ 2048) ⌝ }
     ensures { λ r. ⌜ r ≡ numberOf (classesIn (now (table .entry))) owner cell (entryAt (now (table .entry)) place) ⌝ }
 {
-    let kind = table_scopes::kind_at(table, place);
+    let kind = table_entries::kind_at(table, place);
     match kind {
         KIND_DECLARE => pack(
-            type_byte(table, count, sizes, table_scopes::b_at(table, place)),
+            type_byte(table, count, sizes, table_entries::b_at(table, place)),
             owner as u32,
             cell as u32,
         ),
@@ -167,7 +167,7 @@ fn number_cells(
     let mut cell = first;
     while place < to {
         known[place] = entry_known(table, count, sizes, place, owner, cell);
-        cell += cells_of(table_scopes::kind_at(table, place));
+        cell += cells_of(table_entries::kind_at(table, place));
         place += 1;
     }
 }
@@ -207,7 +207,7 @@ fn number_global(
     ensures { λ _. ⌜ now (known .exit) ≡ sets (now (known .entry)) place (numbersGlobal (classesIn (now (table .entry))) n (partAt (now (table .entry)) (now (sizes .entry)) place)) ⌝ }
 {
     let end = place + table_scopes::size_at(sizes, place);
-    let kind = table_scopes::kind_at(table, place);
+    let kind = table_entries::kind_at(table, place);
     match kind {
         KIND_CLASS => {
             let class = n.classes;
@@ -215,7 +215,7 @@ fn number_global(
             number_cells(table, count, sizes, place + 1, end, class, 0, known);
         }
         KIND_PROCEDURE => {
-            known[place] = pack(table_scopes::b_at(table, place) % 256, 0, n.bodies as u32);
+            known[place] = pack(table_entries::b_at(table, place) % 256, 0, n.bodies as u32);
             number_cells(table, count, sizes, place + 1, end, 0, 0, known);
         }
         _ => {
@@ -238,7 +238,7 @@ pub fn number_all(table: &[u8], count: usize, sizes: &[u16], known: &mut [u32]) 
     };
     while 0 < left {
         number_global(table, count, sizes, place, n, known);
-        n = counted(table_scopes::kind_at(table, place), n);
+        n = counted(table_entries::kind_at(table, place), n);
         place += table_scopes::size_at(sizes, place);
         left -= 1;
     }

@@ -88,9 +88,9 @@ fn simple(
         (lent (now (env .entry)) (now (ends .entry)) (now (stack .entry)) (now (out .entry)))
         (lent (now (env .exit)) (now (ends .exit)) (now (stack .exit)) (now (out .exit))) top holds depth cursor r ⌝ }
 {
-    let kind = words::half_at(part, KIND_AT);
-    let a = words::half_at(part, A_AT);
-    let count = compile_emit::operands_of(kind, words::word_at(part, B_AT));
+    let kind = table_entries::kind_at(part, 0);
+    let a = table_entries::a_at(part, 0);
+    let count = compile_emit::operands_of(kind, table_entries::b_at(part, 0));
     let p = operands(
         table,
         &part[ENTRY_BYTES..],
@@ -137,7 +137,7 @@ fn pair(
         (lent (now (env .entry)) (now (ends .entry)) (now (stack .entry)) (now (out .entry)))
         (lent (now (env .exit)) (now (ends .exit)) (now (stack .exit)) (now (out .exit))) top holds depth cursor r ⌝ }
 {
-    let operator = words::half_at(part, A_AT);
+    let operator = table_entries::a_at(part, 0);
     let p = expression(
         table,
         &part[ENTRY_BYTES..],
@@ -572,7 +572,7 @@ fn select(
         (lent (now (env .entry)) (now (ends .entry)) (now (stack .entry)) (now (out .entry)))
         (lent (now (env .exit)) (now (ends .exit)) (now (stack .exit)) (now (out .exit))) top holds depth cursor r ⌝ }
 {
-    let count = words::half_at(part, A_AT) as usize;
+    let count = table_entries::a_at(part, 0) as usize;
     let cell = compile_symbols::second_in(compile_symbols::known_at(known, at));
     let p = expression(
         table,
@@ -617,12 +617,7 @@ fn select(
     compile_emit::finish(ends, at, compile_output::shape(out, s, holds, stack, depth))
 }
 
-// The target of an assignment is the entry right behind it.
-const TARGET_KIND_AT: usize = ENTRY_BYTES + KIND_AT;
-
-const TARGET_A_AT: usize = ENTRY_BYTES + A_AT;
-
-// The reference of a field is the entry behind that.
+// The target of an assignment is the entry right behind it, at place 1; the reference of a field is the entry behind that.
 const REFERENCE_AT: usize = 2 * ENTRY_BYTES;
 
 // An assignment: to a variable its value alone is computed, to a field the reference before it.
@@ -648,10 +643,10 @@ fn assign(
         (lent (now (env .entry)) (now (ends .entry)) (now (stack .entry)) (now (out .entry)))
         (lent (now (env .exit)) (now (ends .exit)) (now (stack .exit)) (now (out .exit))) top holds depth cursor r ⌝ }
 {
-    let k = compile_symbols::meaning(env, top, words::half_at(part, TARGET_A_AT), known);
+    let k = compile_symbols::meaning(env, top, table_entries::a_at(part, 1), known);
     let second = at + 1 + table_scopes::size_at(sizes, at + 1);
     let from = ENTRY_BYTES * (second - at);
-    if words::half_at(part, TARGET_KIND_AT) == KIND_VARIABLE {
+    if table_entries::kind_at(part, 1) == KIND_VARIABLE {
         let p = compile_emit::finish(ends, at + 1, cursor);
         let q = expression(
             table,
@@ -802,8 +797,8 @@ fn block(
         (lent (now (env .entry)) (now (ends .entry)) (now (stack .entry)) (now (out .entry)))
         (lent (now (env .exit)) (now (ends .exit)) (now (stack .exit)) (now (out .exit))) top holds depth cursor r ⌝ }
 {
-    let heads = words::half_at(part, A_AT) as usize;
-    let count = words::word_at(part, B_AT) as usize;
+    let heads = table_entries::a_at(part, 0) as usize;
+    let count = table_entries::b_at(part, 0) as usize;
     let o = compile_emit::open_block(
         table,
         &part[ENTRY_BYTES..],
@@ -865,8 +860,8 @@ fn body(
         (lent (now (env .entry)) (now (ends .entry)) (now (stack .entry)) (now (out .entry)))
         (lent (now (env .exit)) (now (ends .exit)) (now (stack .exit)) (now (out .exit))) top holds depth cursor r ⌝ }
 {
-    let heads = words::half_at(part, A_AT) as usize;
-    let count = words::word_at(part, B_AT) as usize;
+    let heads = table_entries::a_at(part, 0) as usize;
+    let count = table_entries::b_at(part, 0) as usize;
     let o = compile_emit::open_block(
         table,
         &part[ENTRY_BYTES..],
@@ -946,7 +941,7 @@ pub fn expression(
         (lent (now (env .entry)) (now (ends .entry)) (now (stack .entry)) (now (out .entry)))
         (lent (now (env .exit)) (now (ends .exit)) (now (stack .exit)) (now (out .exit))) top holds depth cursor r ⌝ }
 {
-    let kind = words::half_at(part, KIND_AT);
+    let kind = table_entries::kind_at(part, 0);
     match kind {
         KIND_BINARY => pair(
             table,
@@ -1000,12 +995,12 @@ pub fn expression(
             cursor,
         ),
         _ => if kind < KIND_FUNCTION {
-            let k = compile_emit::known_of(kind, words::half_at(part, A_AT), env, top, known);
+            let k = compile_emit::known_of(kind, table_entries::a_at(part, 0), env, top, known);
             stack[depth] = compile_emit::leaf_type(kind, k);
             compile_emit::finish(
                 ends,
                 at,
-                compile_emit::leaf(kind, words::word_at(part, B_AT), k, out, cursor),
+                compile_emit::leaf(kind, table_entries::b_at(part, 0), k, out, cursor),
             )
         } else {
             simple(
@@ -1052,7 +1047,7 @@ pub fn statement(
         (lent (now (env .entry)) (now (ends .entry)) (now (stack .entry)) (now (out .entry)))
         (lent (now (env .exit)) (now (ends .exit)) (now (stack .exit)) (now (out .exit))) top holds depth cursor r ⌝ }
 {
-    let kind = words::half_at(part, KIND_AT);
+    let kind = table_entries::kind_at(part, 0);
     match kind {
         KIND_BLOCK => block(
             table,
@@ -1148,7 +1143,7 @@ pub fn statement(
             ends,
             at,
             compile_emit::goto(
-                words::half_at(part, A_AT),
+                table_entries::a_at(part, 0),
                 env,
                 top,
                 aims,

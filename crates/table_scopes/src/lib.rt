@@ -16,6 +16,3 @@ pub use heads::once;
 pub use spans::measure;
 pub use spans::size_at;
 pub use spans::spanned;
-pub use table_entries::a_at;
-pub use table_entries::b_at;
-pub use table_entries::kind_at;

@@ -108,7 +108,7 @@ fn fitting(
     let mut i = 0;
     while i < count {
         let t = operand(env, top, i, count);
-        let u = table_scopes::b_at(table, from + i);
+        let u = table_entries::b_at(table, from + i);
         if t != u {
             return false;
         }

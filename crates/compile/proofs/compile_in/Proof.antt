@@ -16,14 +16,14 @@ measure-requires c κs =
     let at-start = at-shared-slice-known .before in
     (compile-short (at-start .pre) (λ k. omega (arith, at-shared-slice-known .shared-slice-known .given k)), at-start .pre .wide-sizes)
 
-half-at-requires : tie.Need-half-at-requires
-half-at-requires c κs =
+a-at-requires : tie.Need-a-at-requires
+a-at-requires c κs =
     let at-shared-slice-known = c .before .before .before .before .before .before .before .before .before .before in
     let at-start = at-shared-slice-known .before in
     omega (arith, root-long (compile-whole (at-start .pre) (λ k. omega (arith, at-shared-slice-known .shared-slice-known .given k)) (c .before .before .measure .ensures)) .0)
 
-word-at-requires : tie.Need-word-at-requires
-word-at-requires c κs =
+b-at-requires : tie.Need-b-at-requires
+b-at-requires c κs =
     let at-shared-slice-known = c .before .before .before .before .before .before .before .before .before .before .before in
     let at-start = at-shared-slice-known .before in
     omega (arith, root-long (compile-whole (at-start .pre) (λ k. omega (arith, at-shared-slice-known .shared-slice-known .given k)) (c .before .before .before .measure .ensures)) .0)
@@ -41,37 +41,37 @@ add-after c =
     let at-start = at-shared-slice-known .before in
     omega (
       arith,
-      size-small (at-start .args .table .now) 1 (c .before .before .before .half-at .result) (c .spanned .result) (c .spanned .ensures),
+      size-small (at-start .args .table .now) 1 (c .before .before .before .a-at .result) (c .spanned .result) (c .spanned .ensures),
       compile-short (at-start .pre) (λ k. omega (arith, at-shared-slice-known .shared-slice-known .given k)),
     )
 
 enter-root-requires : tie.Need-enter-root-requires
 enter-root-requires c κs =
     let at-spanned = c .before .before in
-    let at-word-at = at-spanned .before .before in
-    let at-half-at = at-word-at .before in
-    let at-measure = at-half-at .before .before .before in
+    let at-b-at = at-spanned .before .before in
+    let at-a-at = at-b-at .before in
+    let at-measure = at-a-at .before .before .before in
     let at-shared-slice-known = at-measure .before .before .before .before .before .before .before .before in
     let at-start = at-shared-slice-known .before in (
       (at-measure .measure .ensures),
       root-reach (compile-whole (at-start .pre)
           (λ k. omega (arith, at-shared-slice-known .shared-slice-known .given k)) (at-measure .measure .ensures))
           (record {
-            first = at-half-at .half-at .ensures;
-            second = at-word-at .word-at .ensures;
+            first = at-a-at .a-at .ensures;
+            second = at-b-at .b-at .ensures;
             third = ap (λ (n : ℕ). 1 + n) (at-spanned .spanned .ensures);
           }) .0,
       root-reach (compile-whole (at-start .pre) (λ k. omega (arith, at-shared-slice-known .shared-slice-known .given k))
           (at-measure .measure .ensures)) (record {
-            first = at-half-at .half-at .ensures;
-            second = at-word-at .word-at .ensures;
+            first = at-a-at .a-at .ensures;
+            second = at-b-at .b-at .ensures;
             third = ap (λ (n : ℕ). 1 + n) (at-spanned .spanned .ensures);
           }) .1,
       compile-short (at-start .pre) (λ k. omega (arith, at-shared-slice-known .shared-slice-known .given k)),
       root-room (compile-whole (at-start .pre) (λ k. omega (arith, at-shared-slice-known .shared-slice-known .given k))
           (at-measure .measure .ensures)) (record {
-            first = at-half-at .half-at .ensures;
-            second = at-word-at .word-at .ensures;
+            first = at-a-at .a-at .ensures;
+            second = at-b-at .b-at .ensures;
             third = ap (λ (n : ℕ). 1 + n) (at-spanned .spanned .ensures);
           }),
     )
@@ -79,15 +79,15 @@ enter-root-requires c κs =
 number-all-requires : tie.Need-number-all-requires
 number-all-requires c κs =
     let at-spanned = c .before .before .before .before .before .before .before in
-    let at-word-at = at-spanned .before .before in
-    let at-half-at = at-word-at .before in
-    let at-measure = at-half-at .before .before .before in
+    let at-b-at = at-spanned .before .before in
+    let at-a-at = at-b-at .before in
+    let at-measure = at-a-at .before .before .before in
     let at-shared-slice-known = at-measure .before .before .before .before .before .before .before .before in
     let at-start = at-shared-slice-known .before in (
       compile-holding (at-start .pre) (λ k. omega (arith, at-shared-slice-known .shared-slice-known .given k)) (at-measure .measure .ensures)
           (record {
-            first = at-half-at .half-at .ensures;
-            second = at-word-at .word-at .ensures;
+            first = at-a-at .a-at .ensures;
+            second = at-b-at .b-at .ensures;
             third = ap (λ (n : ℕ). 1 + n) (at-spanned .spanned .ensures);
           }),
       at-start .pre .wide-known,
@@ -98,9 +98,9 @@ write-requires c κs = (
   let at-number-all = c .before .before .before .before .before .before .before .before .before in
       let at-enter-root = at-number-all .before .before .before .before .before in
       let at-spanned = at-enter-root .before .before .before in
-      let at-word-at = at-spanned .before .before in
-      let at-half-at = at-word-at .before in
-      let at-measure = at-half-at .before .before .before in
+      let at-b-at = at-spanned .before .before in
+      let at-a-at = at-b-at .before in
+      let at-measure = at-a-at .before .before .before in
       let at-shared-slice-known = at-measure .before .before .before .before .before .before .before .before in
       let at-start = at-shared-slice-known .before in
       compile-write (at-start .pre)
@@ -110,8 +110,8 @@ write-requires c κs = (
             k,
       )) (at-measure .measure .ensures)
       (record {
-        first = at-half-at .half-at .ensures;
-        second = at-word-at .word-at .ensures;
+        first = at-a-at .a-at .ensures;
+        second = at-b-at .b-at .ensures;
         third = ap (λ (n : ℕ). 1 + n) (at-spanned .spanned .ensures);
       }) (at-enter-root .enter-root .ensures)
       (at-number-all .number-all .ensures),
@@ -129,9 +129,9 @@ compile-in-spec =
     tie.close
     (tie.spec
     measure-requires
-    half-at-requires
+    a-at-requires
     (λ c. search needs)
-    word-at-requires
+    b-at-requires
     (λ c. search needs)
     spanned-requires
     add-after

@@ -9,76 +9,76 @@ use Rattle.compile_whole.specs.Procs.{proc-long, proc-asks, proc-walled, proc-s
 use Rattle.compile_bodies.proofs.procedure.Statement.{statement}
 use Rattle.compile_bodies.proofs.procedure.Tie as tie
 
-word-at-requires : tie.Need-word-at-requires
-word-at-requires c κs =
+b-at-requires : tie.Need-b-at-requires
+b-at-requires c κs =
     let at-start = c .before .before .before .before .before .before .before .before .before in
     omega (arith, proc-long (at-start .pre))
 
 push-requires : tie.Need-push-requires
 push-requires c κs =
     let at-start = c .before .before .before .before .before .before .before .before .before .before .before in
-    omega (arith, proc-asks (at-start .pre) (c .before .word-at .result) (c .before .word-at .ensures) .room)
+    omega (arith, proc-asks (at-start .pre) (c .before .b-at .result) (c .before .b-at .ensures) .room)
 
 add-add-head : tie.Need-add-add-head
 add-add-head c =
-    let at-word-at = c .before .before .before .before in
-    let at-start = at-word-at .before .before .before .before .before .before .before .before .before .before in
-    omega (arith, proc-asks (at-start .pre) (at-word-at .word-at .result) (at-word-at .word-at .ensures) .small)
+    let at-b-at = c .before .before .before .before in
+    let at-start = at-b-at .before .before .before .before .before .before .before .before .before .before in
+    omega (arith, proc-asks (at-start .pre) (at-b-at .b-at .result) (at-b-at .b-at .ensures) .small)
 
 add-add-head-2 : tie.Need-add-add-head-2
 add-add-head-2 c =
-    let at-word-at = c .before .before .before .before .before in
-    let at-start = at-word-at .before .before .before .before .before .before .before .before .before .before in
-    omega (arith, proc-asks (at-start .pre) (at-word-at .word-at .result) (at-word-at .word-at .ensures) .room)
+    let at-b-at = c .before .before .before .before .before in
+    let at-start = at-b-at .before .before .before .before .before .before .before .before .before .before in
+    omega (arith, proc-asks (at-start .pre) (at-b-at .b-at .result) (at-b-at .b-at .ensures) .room)
 
 add-head-requires : tie.Need-add-head-requires
 add-head-requires c κs =
-    let at-word-at = c .before .before .before .before .before in
-    let at-start = at-word-at .before .before .before .before .before .before .before .before .before .before in (
-      proc-asks (at-start .pre) (at-word-at .word-at .result) (at-word-at .word-at .ensures) .within,
-      proc-asks (at-start .pre) (at-word-at .word-at .result) (at-word-at .word-at .ensures) .short,
+    let at-b-at = c .before .before .before .before .before in
+    let at-start = at-b-at .before .before .before .before .before .before .before .before .before .before in (
+      proc-asks (at-start .pre) (at-b-at .b-at .result) (at-b-at .b-at .ensures) .within,
+      proc-asks (at-start .pre) (at-b-at .b-at .result) (at-b-at .b-at .ensures) .short,
       omega (
         arith,
-        proc-asks (at-start .pre) (at-word-at .word-at .result) (at-word-at .word-at .ensures) .room,
-        items-few 4 (at-start .args .table .now) ((at-start .args .at) + 1) (at-word-at .word-at .result / 256),
+        proc-asks (at-start .pre) (at-b-at .b-at .result) (at-b-at .b-at .ensures) .room,
+        items-few 4 (at-start .args .table .now) ((at-start .args .at) + 1) (at-b-at .b-at .result / 256),
         (grown-push (at-start .args .env .now) _ (at-start .args .top) 65537 0 0 0
-            (omega (arith, proc-asks (at-start .pre) (at-word-at .word-at .result) (at-word-at .word-at .ensures) .room)) (c .before .before .before .push .ensures)) .same,
+            (omega (arith, proc-asks (at-start .pre) (at-b-at .b-at .result) (at-b-at .b-at .ensures) .room)) (c .before .before .before .push .ensures)) .same,
       ),
     )
 
 sub-statement : tie.Need-sub-statement
 sub-statement c =
-    let at-word-at = c .before .before .before .before .before .before .before .before .before in
-    let at-start = at-word-at .before .before .before .before .before .before .before .before .before .before in
-    proc-asks (at-start .pre) (at-word-at .word-at .result) (at-word-at .word-at .ensures) .inside
+    let at-b-at = c .before .before .before .before .before .before .before .before .before in
+    let at-start = at-b-at .before .before .before .before .before .before .before .before .before .before in
+    proc-asks (at-start .pre) (at-b-at .b-at .result) (at-b-at .b-at .ensures) .inside
 
 part-statement-start : tie.Need-part-statement-start
 part-statement-start c =
-    let at-word-at = c .before .before .before .before .before .before .before .before .before in
-    let at-start = at-word-at .before .before .before .before .before .before .before .before .before .before in
-    proc-asks (at-start .pre) (at-word-at .word-at .result) (at-word-at .word-at .ensures) .inside
+    let at-b-at = c .before .before .before .before .before .before .before .before .before in
+    let at-start = at-b-at .before .before .before .before .before .before .before .before .before .before in
+    proc-asks (at-start .pre) (at-b-at .b-at .result) (at-b-at .b-at .ensures) .inside
 
 add-statement : tie.Need-add-statement
 add-statement c =
-    let at-word-at = c .before .before .before .before .before .before .before .before .before .before in
-    let at-start = at-word-at .before .before .before .before .before .before .before .before .before .before in
-    omega (arith, proc-asks (at-start .pre) (at-word-at .word-at .result) (at-word-at .word-at .ensures) .small)
+    let at-b-at = c .before .before .before .before .before .before .before .before .before .before in
+    let at-start = at-b-at .before .before .before .before .before .before .before .before .before .before in
+    omega (arith, proc-asks (at-start .pre) (at-b-at .b-at .result) (at-b-at .b-at .ensures) .small)
 
 add-statement-2 : tie.Need-add-statement-2
 add-statement-2 c =
-    let at-word-at = c .before .before .before .before .before .before .before .before .before .before in
-    let at-start = at-word-at .before .before .before .before .before .before .before .before .before .before in
-    omega (arith, proc-asks (at-start .pre) (at-word-at .word-at .result) (at-word-at .word-at .ensures) .small)
+    let at-b-at = c .before .before .before .before .before .before .before .before .before .before in
+    let at-start = at-b-at .before .before .before .before .before .before .before .before .before .before in
+    omega (arith, proc-asks (at-start .pre) (at-b-at .b-at .result) (at-b-at .b-at .ensures) .small)
 
 statement-requires : tie.Need-statement-requires
 statement-requires c κs =
     let at-if1 = c .before .before .before .before .before in
     let at-add-head = at-if1 .before .before .before in
     let at-push = at-add-head .before .before .before .before in
-    let at-word-at = at-push .before .before in
-    let at-start = at-word-at .before .before .before .before .before .before .before .before .before .before in
-    proc-statement (at-start .pre) (at-word-at .word-at .result) (at-word-at .word-at .ensures)
-    (proc-walled (at-start .pre) (at-word-at .word-at .result) (at-word-at .word-at .ensures) (at-push .push .ensures) (at-add-head .add-head .ensures)) IsStmt (λ s. tt) (at-if1 .if1 .taken)
+    let at-b-at = at-push .before .before in
+    let at-start = at-b-at .before .before .before .before .before .before .before .before .before .before in
+    proc-statement (at-start .pre) (at-b-at .b-at .result) (at-b-at .b-at .ensures)
+    (proc-walled (at-start .pre) (at-b-at .b-at .result) (at-b-at .b-at .ensures) (at-push .push .ensures) (at-add-head .add-head .ensures)) IsStmt (λ s. tt) (at-if1 .if1 .taken)
 
 emit-requires : tie.Need-emit-requires
 emit-requires c κs =
@@ -86,10 +86,10 @@ emit-requires c κs =
     let at-if1 = at-statement .before .before .before .before .before .before in
     let at-add-head = at-if1 .before .before .before in
     let at-push = at-add-head .before .before .before .before in
-    let at-word-at = at-push .before .before in
-    let at-start = at-word-at .before .before .before .before .before .before .before .before .before .before in
-    proper-fits (at-start .pre) (at-word-at .word-at .result) (at-word-at .word-at .ensures)
-    (proc-walled (at-start .pre) (at-word-at .word-at .result) (at-word-at .word-at .ensures) (at-push .push .ensures)
+    let at-b-at = at-push .before .before in
+    let at-start = at-b-at .before .before .before .before .before .before .before .before .before .before in
+    proper-fits (at-start .pre) (at-b-at .b-at .result) (at-b-at .b-at .ensures)
+    (proc-walled (at-start .pre) (at-b-at .b-at .result) (at-b-at .b-at .ensures) (at-push .push .ensures)
     (at-add-head .add-head .ensures)) IsStmt (λ s. tt) (at-if1 .if1 .taken) (at-statement .statement .ensures)
 
 finish-requires : tie.Need-finish-requires
@@ -98,16 +98,16 @@ finish-requires c κs =
     let at-if1 = at-statement .before .before .before .before .before .before in
     let at-add-head = at-if1 .before .before .before in
     let at-push = at-add-head .before .before .before .before in
-    let at-word-at = at-push .before .before in
-    let at-start = at-word-at .before .before .before .before .before .before .before .before .before .before in (
+    let at-b-at = at-push .before .before in
+    let at-start = at-b-at .before .before .before .before .before .before .before .before .before .before in (
       omega (
         arith,
-        proc-asks (at-start .pre) (at-word-at .word-at .result) (at-word-at .word-at .ensures) .ending,
+        proc-asks (at-start .pre) (at-b-at .b-at .result) (at-b-at .b-at .ensures) .ending,
         at-statement .statement .ensures .kept .same-ends,
       ),
       rw (c .before .before .emit .ensures .0)
-          (proper-fits (at-start .pre) (at-word-at .word-at .result) (at-word-at .word-at .ensures)
-          (proc-walled (at-start .pre) (at-word-at .word-at .result) (at-word-at .word-at .ensures) (at-push .push .ensures)
+          (proper-fits (at-start .pre) (at-b-at .b-at .result) (at-b-at .b-at .ensures)
+          (proc-walled (at-start .pre) (at-b-at .b-at .result) (at-b-at .b-at .ensures) (at-push .push .ensures)
           (at-add-head .add-head .ensures)) IsStmt (λ s. tt) (at-if1 .if1 .taken) (at-statement .statement .ensures) .address-small),
     )
 
@@ -118,10 +118,10 @@ returns c =
     let at-if1 = at-statement .before .before .before .before .before .before in
     let at-add-head = at-if1 .before .before .before in
     let at-push = at-add-head .before .before .before .before in
-    let at-word-at = at-push .before .before in
-    let at-start = at-word-at .before .before .before .before .before .before .before .before .before .before in
-    proc-proper (at-start .pre) (at-word-at .word-at .result) (at-word-at .word-at .ensures)
-    (proc-walled (at-start .pre) (at-word-at .word-at .result) (at-word-at .word-at .ensures) (at-push .push .ensures)
+    let at-b-at = at-push .before .before in
+    let at-start = at-b-at .before .before .before .before .before .before .before .before .before .before in
+    proc-proper (at-start .pre) (at-b-at .b-at .result) (at-b-at .b-at .ensures)
+    (proc-walled (at-start .pre) (at-b-at .b-at .result) (at-b-at .b-at .ensures) (at-push .push .ensures)
     (at-add-head .add-head .ensures)) IsStmt (λ s. tt) (at-if1 .if1 .taken) (at-statement .statement .ensures) (at-emit .emit .ensures)
     (c .before .before .finish .ensures)
 
@@ -130,37 +130,37 @@ same-length c = returns c .kept .same-env
 
 sub-expression : tie.Need-sub-expression
 sub-expression c =
-    let at-word-at = c .before .before .before .before .before .before .before .before .before in
-    let at-start = at-word-at .before .before .before .before .before .before .before .before .before .before in
-    proc-asks (at-start .pre) (at-word-at .word-at .result) (at-word-at .word-at .ensures) .inside
+    let at-b-at = c .before .before .before .before .before .before .before .before .before in
+    let at-start = at-b-at .before .before .before .before .before .before .before .before .before .before in
+    proc-asks (at-start .pre) (at-b-at .b-at .result) (at-b-at .b-at .ensures) .inside
 
 part-expression-start : tie.Need-part-expression-start
 part-expression-start c =
-    let at-word-at = c .before .before .before .before .before .before .before .before .before in
-    let at-start = at-word-at .before .before .before .before .before .before .before .before .before .before in
-    proc-asks (at-start .pre) (at-word-at .word-at .result) (at-word-at .word-at .ensures) .inside
+    let at-b-at = c .before .before .before .before .before .before .before .before .before in
+    let at-start = at-b-at .before .before .before .before .before .before .before .before .before .before in
+    proc-asks (at-start .pre) (at-b-at .b-at .result) (at-b-at .b-at .ensures) .inside
 
 add-expression : tie.Need-add-expression
 add-expression c =
-    let at-word-at = c .before .before .before .before .before .before .before .before .before .before in
-    let at-start = at-word-at .before .before .before .before .before .before .before .before .before .before in
-    omega (arith, proc-asks (at-start .pre) (at-word-at .word-at .result) (at-word-at .word-at .ensures) .small)
+    let at-b-at = c .before .before .before .before .before .before .before .before .before .before in
+    let at-start = at-b-at .before .before .before .before .before .before .before .before .before .before in
+    omega (arith, proc-asks (at-start .pre) (at-b-at .b-at .result) (at-b-at .b-at .ensures) .small)
 
 add-expression-2 : tie.Need-add-expression-2
 add-expression-2 c =
-    let at-word-at = c .before .before .before .before .before .before .before .before .before .before in
-    let at-start = at-word-at .before .before .before .before .before .before .before .before .before .before in
-    omega (arith, proc-asks (at-start .pre) (at-word-at .word-at .result) (at-word-at .word-at .ensures) .small)
+    let at-b-at = c .before .before .before .before .before .before .before .before .before .before in
+    let at-start = at-b-at .before .before .before .before .before .before .before .before .before .before in
+    omega (arith, proc-asks (at-start .pre) (at-b-at .b-at .result) (at-b-at .b-at .ensures) .small)
 
 expression-requires : tie.Need-expression-requires
 expression-requires c κs =
     let at-if1 = c .before .before .before .before .before in
     let at-add-head = at-if1 .before .before .before in
     let at-push = at-add-head .before .before .before .before in
-    let at-word-at = at-push .before .before in
-    let at-start = at-word-at .before .before .before .before .before .before .before .before .before .before in
-    proc-expression (at-start .pre) (at-word-at .word-at .result) (at-word-at .word-at .ensures)
-    (proc-walled (at-start .pre) (at-word-at .word-at .result) (at-word-at .word-at .ensures) (at-push .push .ensures) (at-add-head .add-head .ensures)) IsExpr (λ e. tt) (at-if1 .if1 .left)
+    let at-b-at = at-push .before .before in
+    let at-start = at-b-at .before .before .before .before .before .before .before .before .before .before in
+    proc-expression (at-start .pre) (at-b-at .b-at .result) (at-b-at .b-at .ensures)
+    (proc-walled (at-start .pre) (at-b-at .b-at .result) (at-b-at .b-at .ensures) (at-push .push .ensures) (at-add-head .add-head .ensures)) IsExpr (λ e. tt) (at-if1 .if1 .left)
 
 emit-requires-2 : tie.Need-emit-requires-2
 emit-requires-2 c κs =
@@ -168,10 +168,10 @@ emit-requires-2 c κs =
     let at-if1 = at-expression .before .before .before .before .before .before in
     let at-add-head = at-if1 .before .before .before in
     let at-push = at-add-head .before .before .before .before in
-    let at-word-at = at-push .before .before in
-    let at-start = at-word-at .before .before .before .before .before .before .before .before .before .before in
-    function-fits (at-start .pre) (at-word-at .word-at .result) (at-word-at .word-at .ensures)
-    (proc-walled (at-start .pre) (at-word-at .word-at .result) (at-word-at .word-at .ensures) (at-push .push .ensures)
+    let at-b-at = at-push .before .before in
+    let at-start = at-b-at .before .before .before .before .before .before .before .before .before .before in
+    function-fits (at-start .pre) (at-b-at .b-at .result) (at-b-at .b-at .ensures)
+    (proc-walled (at-start .pre) (at-b-at .b-at .result) (at-b-at .b-at .ensures) (at-push .push .ensures)
     (at-add-head .add-head .ensures)) IsExpr (λ e. tt) (at-if1 .if1 .left) (at-expression .expression .ensures)
 
 finish-requires-2 : tie.Need-finish-requires-2
@@ -180,16 +180,16 @@ finish-requires-2 c κs =
     let at-if1 = at-expression .before .before .before .before .before .before in
     let at-add-head = at-if1 .before .before .before in
     let at-push = at-add-head .before .before .before .before in
-    let at-word-at = at-push .before .before in
-    let at-start = at-word-at .before .before .before .before .before .before .before .before .before .before in (
+    let at-b-at = at-push .before .before in
+    let at-start = at-b-at .before .before .before .before .before .before .before .before .before .before in (
       omega (
         arith,
-        proc-asks (at-start .pre) (at-word-at .word-at .result) (at-word-at .word-at .ensures) .ending,
+        proc-asks (at-start .pre) (at-b-at .b-at .result) (at-b-at .b-at .ensures) .ending,
         at-expression .expression .ensures .kept .same-ends,
       ),
       rw (c .before .before .emit2 .ensures .0)
-          (function-fits (at-start .pre) (at-word-at .word-at .result) (at-word-at .word-at .ensures)
-          (proc-walled (at-start .pre) (at-word-at .word-at .result) (at-word-at .word-at .ensures) (at-push .push .ensures)
+          (function-fits (at-start .pre) (at-b-at .b-at .result) (at-b-at .b-at .ensures)
+          (proc-walled (at-start .pre) (at-b-at .b-at .result) (at-b-at .b-at .ensures) (at-push .push .ensures)
           (at-add-head .add-head .ensures)) IsExpr (λ e. tt) (at-if1 .if1 .left) (at-expression .expression .ensures) .address-small),
     )
 
@@ -200,10 +200,10 @@ returns-2 c =
     let at-if1 = at-expression .before .before .before .before .before .before in
     let at-add-head = at-if1 .before .before .before in
     let at-push = at-add-head .before .before .before .before in
-    let at-word-at = at-push .before .before in
-    let at-start = at-word-at .before .before .before .before .before .before .before .before .before .before in
-    proc-function (at-start .pre) (at-word-at .word-at .result) (at-word-at .word-at .ensures)
-    (proc-walled (at-start .pre) (at-word-at .word-at .result) (at-word-at .word-at .ensures) (at-push .push .ensures)
+    let at-b-at = at-push .before .before in
+    let at-start = at-b-at .before .before .before .before .before .before .before .before .before .before in
+    proc-function (at-start .pre) (at-b-at .b-at .result) (at-b-at .b-at .ensures)
+    (proc-walled (at-start .pre) (at-b-at .b-at .result) (at-b-at .b-at .ensures) (at-push .push .ensures)
     (at-add-head .add-head .ensures)) IsExpr (λ e. tt) (at-if1 .if1 .left) (at-expression .expression .ensures) (at-emit2 .emit2 .ensures)
     (c .before .before .finish2 .ensures)
 
@@ -214,7 +214,7 @@ pub procedure-spec : {M : Type 1} → statement M
 procedure-spec =
     tie.close
     (tie.spec
-    word-at-requires
+    b-at-requires
     (λ c. search needs)
     push-requires
     add-add-head

@@ -5,8 +5,8 @@ use Rattle.compile_whole.specs.Walks.{root-long, root-place, root-headed, head-
 use Rattle.compile_bodies.proofs.root.Statement.{statement}
 use Rattle.compile_bodies.proofs.root.Tie as tie
 
-word-at-requires : tie.Need-word-at-requires
-word-at-requires c κs =
+b-at-requires : tie.Need-b-at-requires
+b-at-requires c κs =
     let at-start = c .before .before .before .before .before .before .before .before in
     omega (arith, root-long (at-start .pre) .0)
 
@@ -39,9 +39,9 @@ items-requires : tie.Need-items-requires
 items-requires c κs =
     let at-declare-globals = c .before .before .before .before .before .before .before in
     let at-root-holds = at-declare-globals .before .before in
-    let at-word-at = at-root-holds .before in
-    let at-start = at-word-at .before .before .before .before .before .before .before .before .before in
-    root-asks (at-start .pre) (at-word-at .word-at .result) (at-root-holds .root-holds .result) (at-word-at .word-at .ensures)
+    let at-b-at = at-root-holds .before in
+    let at-start = at-b-at .before .before .before .before .before .before .before .before .before in
+    root-asks (at-start .pre) (at-b-at .b-at .result) (at-root-holds .root-holds .result) (at-b-at .b-at .ensures)
     (at-root-holds .root-holds .ensures) (at-declare-globals .declare-globals .ensures)
 
 releases-requires : tie.Need-releases-requires
@@ -49,9 +49,9 @@ releases-requires c κs =
     let at-items = c .before .before .before .before .before .before .before .before .before in
     let at-declare-globals = at-items .before .before .before .before .before .before .before .before in
     let at-root-holds = at-declare-globals .before .before in
-    let at-word-at = at-root-holds .before in
-    let at-start = at-word-at .before .before .before .before .before .before .before .before .before in
-    releases-fit (at-start .pre) (at-word-at .word-at .result) (at-root-holds .root-holds .result) (at-word-at .word-at .ensures)
+    let at-b-at = at-root-holds .before in
+    let at-start = at-b-at .before .before .before .before .before .before .before .before .before in
+    releases-fit (at-start .pre) (at-b-at .b-at .result) (at-root-holds .root-holds .result) (at-b-at .b-at .ensures)
     (at-root-holds .root-holds .ensures) (at-declare-globals .declare-globals .ensures) (at-items .items .ensures)
 
 emit-requires : tie.Need-emit-requires
@@ -60,9 +60,9 @@ emit-requires c κs =
     let at-items = at-releases .before .before .before .before .before .before .before .before .before .before in
     let at-declare-globals = at-items .before .before .before .before .before .before .before .before in
     let at-root-holds = at-declare-globals .before .before in
-    let at-word-at = at-root-holds .before in
-    let at-start = at-word-at .before .before .before .before .before .before .before .before .before in
-    end-fits (at-start .pre) (at-word-at .word-at .result) (at-root-holds .root-holds .result) (at-word-at .word-at .ensures)
+    let at-b-at = at-root-holds .before in
+    let at-start = at-b-at .before .before .before .before .before .before .before .before .before in
+    end-fits (at-start .pre) (at-b-at .b-at .result) (at-root-holds .root-holds .result) (at-b-at .b-at .ensures)
     (at-root-holds .root-holds .ensures) (at-declare-globals .declare-globals .ensures) (at-items .items .ensures) (at-releases .releases .ensures)
 
 finish-requires : tie.Need-finish-requires
@@ -71,13 +71,13 @@ finish-requires c κs =
     let at-items = at-releases .before .before .before .before .before .before .before .before .before .before in
     let at-declare-globals = at-items .before .before .before .before .before .before .before .before in
     let at-root-holds = at-declare-globals .before .before in
-    let at-word-at = at-root-holds .before in
-    let at-start = at-word-at .before .before .before .before .before .before .before .before .before in (
-      ends-some (at-start .pre) (at-word-at .word-at .result) (at-root-holds .root-holds .result) (at-word-at .word-at .ensures)
+    let at-b-at = at-root-holds .before in
+    let at-start = at-b-at .before .before .before .before .before .before .before .before .before in (
+      ends-some (at-start .pre) (at-b-at .b-at .result) (at-root-holds .root-holds .result) (at-b-at .b-at .ensures)
           (at-root-holds .root-holds .ensures) (at-declare-globals .declare-globals .ensures) (at-items .items .ensures)
           (at-releases .releases .ensures),
       rw (c .before .before .emit .ensures .0)
-          (end-fits (at-start .pre) (at-word-at .word-at .result) (at-root-holds .root-holds .result) (at-word-at .word-at .ensures)
+          (end-fits (at-start .pre) (at-b-at .b-at .result) (at-root-holds .root-holds .result) (at-b-at .b-at .ensures)
           (at-root-holds .root-holds .ensures) (at-declare-globals .declare-globals .ensures) (at-items .items .ensures) (at-releases .releases .ensures) .address-small),
     )
 
@@ -88,9 +88,9 @@ returns c =
     let at-items = at-releases .before .before .before .before .before .before .before .before .before .before in
     let at-declare-globals = at-items .before .before .before .before .before .before .before .before in
     let at-root-holds = at-declare-globals .before .before in
-    let at-word-at = at-root-holds .before in
-    let at-start = at-word-at .before .before .before .before .before .before .before .before .before in
-    root-done (at-start .pre) (at-word-at .word-at .result) (at-root-holds .root-holds .result) (at-word-at .word-at .ensures)
+    let at-b-at = at-root-holds .before in
+    let at-start = at-b-at .before .before .before .before .before .before .before .before .before in
+    root-done (at-start .pre) (at-b-at .b-at .result) (at-root-holds .root-holds .result) (at-b-at .b-at .ensures)
     (at-root-holds .root-holds .ensures) (at-declare-globals .declare-globals .ensures) (at-items .items .ensures)
     (at-releases .releases .ensures) (at-emit .emit .ensures) (c .before .before .finish .ensures)
 
@@ -104,7 +104,7 @@ pub root-spec : {M : Type 1} → statement M
 root-spec =
     tie.close
     (tie.spec
-    word-at-requires
+    b-at-requires
     (λ c. search needs)
     root-holds-requires
     declare-globals-requires

@@ -12,23 +12,23 @@ initial-requires : tie.Need-initial-requires
 initial-requires c κs =
     let at-start = c .before .before .before .before .before .before in
     let a = at-start .args in let n = length (a .out .now) in let f = rw
-    (declared-10 _ (a .p) (sym (c .before .before .before .half-at .ensures) ∙ c .before .before .match .keys1)) at (at-start .pre .1) in fits-op n f
+    (declared-10 _ (a .p) (sym (c .before .before .before .kind-at .ensures) ∙ c .before .before .match .keys1)) at (at-start .pre .1) in fits-op n f
 
 emit-requires : tie.Need-emit-requires
 emit-requires c κs =
     let at-initial = c .before .before .before .before in
     let at-type-in = at-initial .before .before in
     let at-match = at-type-in .before in
-    let at-half-at = at-match .before in
-    let at-start = at-half-at .before .before .before in
+    let at-kind-at = at-match .before in
+    let at-start = at-kind-at .before .before .before in
     let a = at-start .args in let n = length (a .out .now) in let f = rw
-    (declared-10 _ (a .p) (sym (at-half-at .half-at .ensures) ∙ at-match .match .keys1)) at (at-start .pre .1) in
+    (declared-10 _ (a .p) (sym (at-kind-at .kind-at .ensures) ∙ at-match .match .keys1)) at (at-start .pre .1) in
     rw (at-initial .initial .ensures .0, initial-length (at-type-in .type-in .result) (a .p) (a .out .now) (at-initial .initial .ensures .1)) f
 
 emit-requires-2 : tie.Need-emit-requires-2
 emit-requires-2 c κs =
     let at-start = c .before .before .before .before .before .before in
-    let a = at-start .args in let n = length (a .out .now) in rw (declared-14 _ (a .p) (sym (c .before .before .before .half-at .ensures) ∙ c .before .before .match .keys2)) at (at-start .pre .1)
+    let a = at-start .args in let n = length (a .out .now) in rw (declared-14 _ (a .p) (sym (c .before .before .before .kind-at .ensures) ∙ c .before .before .match .keys2)) at (at-start .pre .1)
 
 returns : tie.Need-returns
 unfolding cursorDeclared emitDeclared
@@ -37,9 +37,9 @@ returns c =
     let at-initial = at-emit .before .before .before .before .before in
     let at-type-in = at-initial .before .before in
     let at-match = at-type-in .before in
-    let at-half-at = at-match .before in
+    let at-kind-at = at-match .before in
     rw (
-      sym (at-half-at .half-at .ensures) ∙ at-match .match .keys1,
+      sym (at-kind-at .kind-at .ensures) ∙ at-match .match .keys1,
       at-emit .emit .ensures .0,
       at-emit .emit .ensures .1,
       at-initial .initial .ensures .0,
@@ -52,12 +52,12 @@ returns-2 : tie.Need-returns-2
 unfolding cursorDeclared emitDeclared
 returns-2 c =
     let at-match = c .before .before .before .before .before in
-    let at-half-at = at-match .before in
-    rw (sym (at-half-at .half-at .ensures) ∙ at-match .match .keys2, sym (c .before .before .before .half-at2 .ensures)) (c .before .before .emit2 .ensures)
+    let at-kind-at = at-match .before in
+    rw (sym (at-kind-at .kind-at .ensures) ∙ at-match .match .keys2, sym (c .before .before .before .a-at .ensures)) (c .before .before .emit2 .ensures)
 
 returns-3 : tie.Need-returns-3
 unfolding cursorDeclared emitDeclared
-returns-3 c = let r = c .match .rest in rw (sym (c .before .half-at .ensures), ne-eqb _ _ (r .0 .1), ne-eqb _ _ (r .1)) (refl, refl)
+returns-3 c = let r = c .match .rest in rw (sym (c .before .kind-at .ensures), ne-eqb _ _ (r .0 .1), ne-eqb _ _ (r .1)) (refl, refl)
 
 pub declare-one-spec : {M : Type 1} → statement M
 declare-one-spec =

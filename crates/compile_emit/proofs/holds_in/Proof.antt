@@ -22,16 +22,16 @@ loop-holds : tie.Need-loop-holds Inv-loop μ-loop
 loop-holds c = let a = c .before .args in (omega arith, rw (sub-zero (a .count)) (omega arith), omega arith)
 
 add-n : tie.Need-add-n Inv-loop μ-loop
-add-n c = omega (arith, c .holds-by .ensures, holds-one (c .before .half-at .result), c .before .before .before .loop .inv .2)
+add-n c = omega (arith, c .holds-by .ensures, holds-one (c .before .kind-at .result), c .before .before .before .loop .inv .2)
 
 loop-again : tie.Need-loop-again Inv-loop μ-loop
 loop-again c =
     let a = c .before .before .before .before .before .args in let w = c .before .before .before .loop in
     let h : c .holds-by .result ≡ holdsBy (halfAt (a .part .now) (8 * w .i)) = c .holds-by .ensures
-    ∙ ap (λ (k : ℕ). holdsBy k) (c .before .half-at .ensures) in (
+    ∙ ap (λ (k : ℕ). holdsBy k) (c .before .kind-at .ensures) in (
       omega arith,
       omega (arith, w .inv .1, holds-step (a .part .now) (a .count) (w .i) (omega arith), h),
-      omega (arith, w .inv .2, c .holds-by .ensures, holds-one (c .before .half-at .result)),
+      omega (arith, w .inv .2, c .holds-by .ensures, holds-one (c .before .kind-at .result)),
     )
 
 returns : tie.Need-returns Inv-loop μ-loop
@@ -44,7 +44,6 @@ holds-in-spec =
     Inv-loop
     μ-loop
     loop-holds
-    (λ c. omega arith)
     (λ c κs. omega arith)
     (λ c κs. search needs)
     add-n

@@ -17,18 +17,21 @@ use Rattle.compile_emit.proofs.finish.Reads as finish-reads
 use Rattle.compile_emit.proofs.owner.Reads as owner-reads
 use Rattle.compile_output.proofs.emit.Reads as emit-reads
 use Rattle.table_scopes.proofs.size_at.Reads as size-at-reads
-use Rattle.words.proofs.half_at.Reads as half-at-reads
+use Rattle.table_entries.proofs.a_at.Reads as a-at-reads
+use Rattle.table_entries.proofs.kind_at.Reads as kind-at-reads
 use Rattle.compile_walk.proofs.+arms+assign+block+body+choose+conditional+expression+items+operands+pair+repeat+select+simple+statement+when.Proof.Base.{entry-at, kind-below}
 
 -- what the functions that it calls are taken to ask and give
 abbrev claims : ℕ → assign-lts.Claims
 claims t = (
-  half-at-reads.Asked,
-  half-at-reads.Learnt,
+  a-at-reads.Asked,
+  a-at-reads.Learnt,
   meaning-reads.Asked,
   meaning-reads.Learnt,
   size-at-reads.Asked,
   size-at-reads.Learnt,
+  kind-at-reads.Asked,
+  kind-at-reads.Learnt,
   finish-reads.Asked,
   finish-reads.Learnt,
   kind-below expression.Pre t,
@@ -53,13 +56,13 @@ assign-ends t c =
     let at-expression = at-owner .before .before .before .before .before .before .before .before .before .before in
     let at-finish = at-expression .before .before .before .before .before .before .before .before in
     let at-if1 = at-finish .before .before in
-    let at-half-at2 = at-if1 .before in
-    let at-size-at = at-half-at2 .before in
+    let at-kind-at = at-if1 .before in
+    let at-size-at = at-kind-at .before in
     let at-meaning = at-size-at .before in
-    let at-half-at = at-meaning .before in
-    let at-start = at-half-at .before .before .before .before .before .before .before .before .before .before .before in
-    answers-variable (at-start .pre .1) (at-size-at .size-at .result) (at-size-at .size-at .ensures) (at-meaning .meaning .result) (rw (at-half-at .half-at .ensures) at (at-meaning .meaning .ensures))
-    (sym (at-half-at2 .half-at2 .ensures) ∙ at-if1 .if1 .taken) (at-finish .finish .ensures) (at-expression .expression .ensures)
+    let at-a-at = at-meaning .before in
+    let at-start = at-a-at .before .before .before .before .before .before .before .before .before .before .before in
+    answers-variable (at-start .pre .1) (at-size-at .size-at .result) (at-size-at .size-at .ensures) (at-meaning .meaning .result) (rw (at-a-at .a-at .ensures) at (at-meaning .meaning .ensures))
+    (sym (at-kind-at .kind-at .ensures) ∙ at-if1 .if1 .taken) (at-finish .finish .ensures) (at-expression .expression .ensures)
     (rw (at-owner .owner .ensures, at-second-in .second-in .ensures) at (at-emit .emit .ensures)) (at-finish2 .finish2 .ensures)
 
 assign-ends-2 : (t : ℕ) → assign-lts.Need-returns-2 (claims t) (entry-at assign.Pre t) assign.Post
@@ -75,15 +78,15 @@ assign-ends-2 t c =
     let c9 = c8 .before in
     let at-size-at = c9 .before in
     let at-meaning = at-size-at .before in
-    let at-half-at = at-meaning .before in
-    let at-start = at-half-at .before .before .before .before .before .before .before .before .before .before .before in
-    answers-field (at-start .pre .1) (at-size-at .size-at .result) (at-size-at .size-at .ensures) (at-meaning .meaning .result) (rw (at-half-at .half-at .ensures) at (at-meaning .meaning .ensures))
-    (λ z. c8 .if1 .left (c9 .half-at2 .ensures ∙ z)) (c7 .expression2 .ensures) (c6 .finish3 .ensures) (c5 .expression3 .ensures)
+    let at-a-at = at-meaning .before in
+    let at-start = at-a-at .before .before .before .before .before .before .before .before .before .before .before in
+    answers-field (at-start .pre .1) (at-size-at .size-at .result) (at-size-at .size-at .ensures) (at-meaning .meaning .result) (rw (at-a-at .a-at .ensures) at (at-meaning .meaning .ensures))
+    (λ z. c8 .if1 .left (c9 .kind-at .ensures ∙ z)) (c7 .expression2 .ensures) (c6 .finish3 .ensures) (c5 .expression3 .ensures)
     (rw (c4 .first-in .ensures, c3 .second-in2 .ensures) at (c2 .emit2 .ensures)) (c1 .finish4 .ensures)
 
 pub assign-meets : {M : Type 1} (t : ℕ) → assign-lts.Closed (claims t) (entry-at assign.Pre t) assign.Post M
 assign-meets t = assign-lts.spec (claims t) (entry-at assign.Pre t) assign.Post
-    -- half-at-requires
+    -- a-at-requires
     (λ c κs. omega (arith, asks-assign (c .before .before .before .before .before .before .before .before .before .before .pre .1) .long))
     -- meaning-requires
     (λ c κs. asks-assign (c .before .before .before .before .before .before .before .before .before .before .before .pre .1) .room)
@@ -105,7 +108,7 @@ assign-meets t = assign-lts.spec (claims t) (entry-at assign.Pre t) assign.Post
     (λ c.
     let at-start = c .before .before .before .before .before .before .before .before .before .before .before .before .before in
     omega (arith, asks-assign (at-start .pre .1) .passes (c .size-at .result) (c .size-at .ensures) .small))
-    -- half-at-requires-2
+    -- kind-at-requires
     (λ c κs.
     let at-start = c .before .before .before .before .before .before .before .before .before .before .before .before .before in
     omega (arith, asks-assign (at-start .pre .1) .long))
@@ -116,13 +119,13 @@ assign-meets t = assign-lts.spec (claims t) (entry-at assign.Pre t) assign.Post
     -- finish-requires
     (λ c κs.
     let at-if1 = c .before in
-    let at-half-at2 = at-if1 .before in
-    let at-size-at = at-half-at2 .before in
+    let at-kind-at = at-if1 .before in
+    let at-size-at = at-kind-at .before in
     let at-meaning = at-size-at .before in
-    let at-half-at = at-meaning .before in
-    let at-start = at-half-at .before .before .before .before .before .before .before .before .before .before .before in
+    let at-a-at = at-meaning .before in
+    let at-start = at-a-at .before .before .before .before .before .before .before .before .before .before .before in
     asks-variable-first (at-start .pre .1) (at-size-at .size-at .result) (at-size-at .size-at .ensures) (at-meaning .meaning .result)
-    (rw (at-half-at .half-at .ensures) at (at-meaning .meaning .ensures)) (sym (at-half-at2 .half-at2 .ensures) ∙ at-if1 .if1 .taken))
+    (rw (at-a-at .a-at .ensures) at (at-meaning .meaning .ensures)) (sym (at-kind-at .kind-at .ensures) ∙ at-if1 .if1 .taken))
     -- sub-expression
     (λ c.
     let at-size-at = c .before .before .before .before .before .before in
@@ -146,14 +149,14 @@ assign-meets t = assign-lts.spec (claims t) (entry-at assign.Pre t) assign.Post
     (λ c κs.
     let at-finish = c .before .before .before .before .before .before .before in
     let at-if1 = at-finish .before .before in
-    let at-half-at2 = at-if1 .before in
-    let at-size-at = at-half-at2 .before in
+    let at-kind-at = at-if1 .before in
+    let at-size-at = at-kind-at .before in
     let at-meaning = at-size-at .before in
-    let at-half-at = at-meaning .before in
-    let at-start = at-half-at .before .before .before .before .before .before .before .before .before .before .before in (
+    let at-a-at = at-meaning .before in
+    let at-start = at-a-at .before .before .before .before .before .before .before .before .before .before .before in (
       omega (arith, asked (at-start .pre .1) .nested, at-start .pre .0),
       asks-variable-second (at-start .pre .1) (at-size-at .size-at .result) (at-size-at .size-at .ensures)
-          (at-meaning .meaning .result) (rw (at-half-at .half-at .ensures) at (at-meaning .meaning .ensures)) (sym (at-half-at2 .half-at2 .ensures) ∙ at-if1 .if1 .taken) (at-finish .finish .ensures),
+          (at-meaning .meaning .result) (rw (at-a-at .a-at .ensures) at (at-meaning .meaning .ensures)) (sym (at-kind-at .kind-at .ensures) ∙ at-if1 .if1 .taken) (at-finish .finish .ensures),
     ))
     -- owner-requires
     (λ c κs. search needs)
@@ -164,13 +167,13 @@ assign-meets t = assign-lts.spec (claims t) (entry-at assign.Pre t) assign.Post
     let at-expression = c .before .before .before .before .before .before .before .before .before .before .before in
     let at-finish = at-expression .before .before .before .before .before .before .before .before in
     let at-if1 = at-finish .before .before in
-    let at-half-at2 = at-if1 .before in
-    let at-size-at = at-half-at2 .before in
+    let at-kind-at = at-if1 .before in
+    let at-size-at = at-kind-at .before in
     let at-meaning = at-size-at .before in
-    let at-half-at = at-meaning .before in
-    let at-start = at-half-at .before .before .before .before .before .before .before .before .before .before .before in
+    let at-a-at = at-meaning .before in
+    let at-start = at-a-at .before .before .before .before .before .before .before .before .before .before .before in
     asks-variable-emit (at-start .pre .1) (at-size-at .size-at .result) (at-size-at .size-at .ensures) (at-meaning .meaning .result)
-    (rw (at-half-at .half-at .ensures) at (at-meaning .meaning .ensures)) (sym (at-half-at2 .half-at2 .ensures) ∙ at-if1 .if1 .taken) (at-finish .finish .ensures) (at-expression .expression .ensures))
+    (rw (at-a-at .a-at .ensures) at (at-meaning .meaning .ensures)) (sym (at-kind-at .kind-at .ensures) ∙ at-if1 .if1 .taken) (at-finish .finish .ensures) (at-expression .expression .ensures))
     -- finish-requires-2
     (λ c κs.
     let at-emit = c .before .before .before in
@@ -179,13 +182,13 @@ assign-meets t = assign-lts.spec (claims t) (entry-at assign.Pre t) assign.Post
     let at-expression = at-owner .before .before .before .before .before .before .before .before .before .before in
     let at-finish = at-expression .before .before .before .before .before .before .before .before in
     let at-if1 = at-finish .before .before in
-    let at-half-at2 = at-if1 .before in
-    let at-size-at = at-half-at2 .before in
+    let at-kind-at = at-if1 .before in
+    let at-size-at = at-kind-at .before in
     let at-meaning = at-size-at .before in
-    let at-half-at = at-meaning .before in
-    let at-start = at-half-at .before .before .before .before .before .before .before .before .before .before .before in
+    let at-a-at = at-meaning .before in
+    let at-start = at-a-at .before .before .before .before .before .before .before .before .before .before .before in
     asks-variable-finish (at-start .pre .1) (at-size-at .size-at .result) (at-size-at .size-at .ensures) (at-meaning .meaning .result)
-    (rw (at-half-at .half-at .ensures) at (at-meaning .meaning .ensures)) (sym (at-half-at2 .half-at2 .ensures) ∙ at-if1 .if1 .taken) (at-finish .finish .ensures)
+    (rw (at-a-at .a-at .ensures) at (at-meaning .meaning .ensures)) (sym (at-kind-at .kind-at .ensures) ∙ at-if1 .if1 .taken) (at-finish .finish .ensures)
     (at-expression .expression .ensures) (rw (at-owner .owner .ensures, at-second-in .second-in .ensures) at (at-emit .emit .ensures)))
     -- same-length
     (λ c. assign-ends t c .kept .same-env)
@@ -210,15 +213,15 @@ assign-meets t = assign-lts.spec (claims t) (entry-at assign.Pre t) assign.Post
     -- sub-expression-4
     (λ c.
     let at-if1 = c .before in
-    let at-half-at2 = at-if1 .before in
-    let at-size-at = at-half-at2 .before in
+    let at-kind-at = at-if1 .before in
+    let at-size-at = at-kind-at .before in
     let at-meaning = at-size-at .before in
-    let at-half-at = at-meaning .before in
-    let at-start = at-half-at .before .before .before .before .before .before .before .before .before .before .before in
+    let at-a-at = at-meaning .before in
+    let at-start = at-a-at .before .before .before .before .before .before .before .before .before .before .before in
     omega (
       arith,
       asks-field-nests (at-start .pre .1) (at-size-at .size-at .result) (at-size-at .size-at .ensures) (at-meaning .meaning .result)
-          (rw (at-half-at .half-at .ensures) at (at-meaning .meaning .ensures)) (λ z. at-if1 .if1 .left (at-half-at2 .half-at2 .ensures ∙ z)),
+          (rw (at-a-at .a-at .ensures) at (at-meaning .meaning .ensures)) (λ z. at-if1 .if1 .left (at-kind-at .kind-at .ensures ∙ z)),
     ))
     -- add-expression
     (λ c.
@@ -227,19 +230,19 @@ assign-meets t = assign-lts.spec (claims t) (entry-at assign.Pre t) assign.Post
     -- expression-requires-2
     (λ c κs.
     let at-if1 = c .before .before .before .before .before in
-    let at-half-at2 = at-if1 .before in
-    let at-size-at = at-half-at2 .before in
+    let at-kind-at = at-if1 .before in
+    let at-size-at = at-kind-at .before in
     let at-meaning = at-size-at .before in
-    let at-half-at = at-meaning .before in
-    let at-start = at-half-at .before .before .before .before .before .before .before .before .before .before .before in (
+    let at-a-at = at-meaning .before in
+    let at-start = at-a-at .before .before .before .before .before .before .before .before .before .before .before in (
       omega (
         arith,
         asks-field-nests (at-start .pre .1) (at-size-at .size-at .result) (at-size-at .size-at .ensures) (at-meaning .meaning .result)
-            (rw (at-half-at .half-at .ensures) at (at-meaning .meaning .ensures)) (λ z. at-if1 .if1 .left (at-half-at2 .half-at2 .ensures ∙ z)),
+            (rw (at-a-at .a-at .ensures) at (at-meaning .meaning .ensures)) (λ z. at-if1 .if1 .left (at-kind-at .kind-at .ensures ∙ z)),
         at-start .pre .0,
       ),
       asks-field-first (at-start .pre .1) (at-size-at .size-at .result) (at-size-at .size-at .ensures) (at-meaning .meaning .result)
-          (rw (at-half-at .half-at .ensures) at (at-meaning .meaning .ensures)) (λ z. at-if1 .if1 .left (at-half-at2 .half-at2 .ensures ∙ z)),
+          (rw (at-a-at .a-at .ensures) at (at-meaning .meaning .ensures)) (λ z. at-if1 .if1 .left (at-kind-at .kind-at .ensures ∙ z)),
     ))
     -- add-finish-2
     (λ c.
@@ -250,13 +253,13 @@ assign-meets t = assign-lts.spec (claims t) (entry-at assign.Pre t) assign.Post
     (λ c κs.
     let at-expression2 = c .before .before .before .before .before .before .before .before .before in
     let at-if1 = at-expression2 .before .before .before .before .before .before in
-    let at-half-at2 = at-if1 .before in
-    let at-size-at = at-half-at2 .before in
+    let at-kind-at = at-if1 .before in
+    let at-size-at = at-kind-at .before in
     let at-meaning = at-size-at .before in
-    let at-half-at = at-meaning .before in
-    let at-start = at-half-at .before .before .before .before .before .before .before .before .before .before .before in
+    let at-a-at = at-meaning .before in
+    let at-start = at-a-at .before .before .before .before .before .before .before .before .before .before .before in
     asks-field-mid (at-start .pre .1) (at-size-at .size-at .result) (at-size-at .size-at .ensures) (at-meaning .meaning .result)
-    (rw (at-half-at .half-at .ensures) at (at-meaning .meaning .ensures)) (λ z. at-if1 .if1 .left (at-half-at2 .half-at2 .ensures ∙ z)) (at-expression2 .expression2 .ensures))
+    (rw (at-a-at .a-at .ensures) at (at-meaning .meaning .ensures)) (λ z. at-if1 .if1 .left (at-kind-at .kind-at .ensures ∙ z)) (at-expression2 .expression2 .ensures))
     -- sub-expression-5
     (λ c.
     let at-size-at = c .before .before .before .before .before .before .before .before .before .before .before .before .before .before .before .before
@@ -290,14 +293,14 @@ assign-meets t = assign-lts.spec (claims t) (entry-at assign.Pre t) assign.Post
     let at-finish3 = c .before .before .before .before .before .before .before in
     let at-expression2 = at-finish3 .before .before .before .before .before .before .before .before .before .before in
     let at-if1 = at-expression2 .before .before .before .before .before .before in
-    let at-half-at2 = at-if1 .before in
-    let at-size-at = at-half-at2 .before in
+    let at-kind-at = at-if1 .before in
+    let at-size-at = at-kind-at .before in
     let at-meaning = at-size-at .before in
-    let at-half-at = at-meaning .before in
-    let at-start = at-half-at .before .before .before .before .before .before .before .before .before .before .before in (
+    let at-a-at = at-meaning .before in
+    let at-start = at-a-at .before .before .before .before .before .before .before .before .before .before .before in (
       omega (arith, asked (at-start .pre .1) .nested, at-start .pre .0),
       asks-field-second (at-start .pre .1) (at-size-at .size-at .result) (at-size-at .size-at .ensures)
-          (at-meaning .meaning .result) (rw (at-half-at .half-at .ensures) at (at-meaning .meaning .ensures)) (λ z. at-if1 .if1 .left (at-half-at2 .half-at2 .ensures ∙ z))
+          (at-meaning .meaning .result) (rw (at-a-at .a-at .ensures) at (at-meaning .meaning .ensures)) (λ z. at-if1 .if1 .left (at-kind-at .kind-at .ensures ∙ z))
           (at-expression2 .expression2 .ensures) (at-finish3 .finish3 .ensures),
     ))
     -- first-in-requires
@@ -310,13 +313,13 @@ assign-meets t = assign-lts.spec (claims t) (entry-at assign.Pre t) assign.Post
     let at-finish3 = at-expression3 .before .before .before .before .before .before .before .before in
     let at-expression2 = at-finish3 .before .before .before .before .before .before .before .before .before .before in
     let at-if1 = at-expression2 .before .before .before .before .before .before in
-    let at-half-at2 = at-if1 .before in
-    let at-size-at = at-half-at2 .before in
+    let at-kind-at = at-if1 .before in
+    let at-size-at = at-kind-at .before in
     let at-meaning = at-size-at .before in
-    let at-half-at = at-meaning .before in
-    let at-start = at-half-at .before .before .before .before .before .before .before .before .before .before .before in
+    let at-a-at = at-meaning .before in
+    let at-start = at-a-at .before .before .before .before .before .before .before .before .before .before .before in
     asks-field-emit (at-start .pre .1) (at-size-at .size-at .result) (at-size-at .size-at .ensures) (at-meaning .meaning .result)
-    (rw (at-half-at .half-at .ensures) at (at-meaning .meaning .ensures)) (λ z. at-if1 .if1 .left (at-half-at2 .half-at2 .ensures ∙ z)) (at-expression2 .expression2 .ensures)
+    (rw (at-a-at .a-at .ensures) at (at-meaning .meaning .ensures)) (λ z. at-if1 .if1 .left (at-kind-at .kind-at .ensures ∙ z)) (at-expression2 .expression2 .ensures)
     (at-finish3 .finish3 .ensures) (at-expression3 .expression3 .ensures))
     -- finish-requires-4
     (λ c κs.
@@ -327,13 +330,13 @@ assign-meets t = assign-lts.spec (claims t) (entry-at assign.Pre t) assign.Post
     let at-finish3 = at-expression3 .before .before .before .before .before .before .before .before in
     let at-expression2 = at-finish3 .before .before .before .before .before .before .before .before .before .before in
     let at-if1 = at-expression2 .before .before .before .before .before .before in
-    let at-half-at2 = at-if1 .before in
-    let at-size-at = at-half-at2 .before in
+    let at-kind-at = at-if1 .before in
+    let at-size-at = at-kind-at .before in
     let at-meaning = at-size-at .before in
-    let at-half-at = at-meaning .before in
-    let at-start = at-half-at .before .before .before .before .before .before .before .before .before .before .before in
+    let at-a-at = at-meaning .before in
+    let at-start = at-a-at .before .before .before .before .before .before .before .before .before .before .before in
     asks-field-finish (at-start .pre .1) (at-size-at .size-at .result) (at-size-at .size-at .ensures) (at-meaning .meaning .result)
-    (rw (at-half-at .half-at .ensures) at (at-meaning .meaning .ensures)) (λ z. at-if1 .if1 .left (at-half-at2 .half-at2 .ensures ∙ z)) (at-expression2 .expression2 .ensures)
+    (rw (at-a-at .a-at .ensures) at (at-meaning .meaning .ensures)) (λ z. at-if1 .if1 .left (at-kind-at .kind-at .ensures ∙ z)) (at-expression2 .expression2 .ensures)
     (at-finish3 .finish3 .ensures) (at-expression3 .expression3 .ensures) (rw (at-first-in .first-in .ensures, at-second-in2 .second-in2 .ensures) at (at-emit2 .emit2 .ensures)))
     -- same-length-5
     (λ c. assign-ends-2 t c .kept .same-env)

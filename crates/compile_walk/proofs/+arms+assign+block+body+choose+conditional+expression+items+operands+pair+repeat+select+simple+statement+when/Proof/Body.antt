@@ -14,17 +14,17 @@ use Rattle.compile_emit.proofs.finish.Reads as finish-reads
 use Rattle.compile_emit.proofs.open_block.Reads as open-block-reads
 use Rattle.compile_output.proofs.releases.Reads as releases-reads
 use Rattle.table_scopes.proofs.spanned.Reads as spanned-reads
-use Rattle.words.proofs.half_at.Reads as half-at-reads
-use Rattle.words.proofs.word_at.Reads as word-at-reads
+use Rattle.table_entries.proofs.a_at.Reads as a-at-reads
+use Rattle.table_entries.proofs.b_at.Reads as b-at-reads
 use Rattle.compile_walk.proofs.+arms+assign+block+body+choose+conditional+expression+items+operands+pair+repeat+select+simple+statement+when.Proof.Base.{entry-at, kind-below, list-below}
 
 -- what the functions that it calls are taken to ask and give
 abbrev claims : ℕ → body-lts.Claims
 claims t = (
-  half-at-reads.Asked,
-  half-at-reads.Learnt,
-  word-at-reads.Asked,
-  word-at-reads.Learnt,
+  a-at-reads.Asked,
+  a-at-reads.Learnt,
+  b-at-reads.Asked,
+  b-at-reads.Learnt,
   open-block-reads.Asked,
   open-block-reads.Learnt,
   list-below items.Pre t,
@@ -43,26 +43,26 @@ claims t = (
 body-within : (t : ℕ) (c : body-lts.After-struct-known (claims t) (entry-at body.Pre t) body.Post)
     → let h = c .before .before .before .before .before .before .before .before .before .before .before .before .before in
     let s = h .before .before .before .before .before .before .before .before .before .before in
-    (8 * (1 + h .half-at .result) ≤ length (s .args .part .now)) × (s .args .at + 1 + h .half-at .result ≤ 2048)
+    (8 * (1 + h .a-at .result) ≤ length (s .args .part .now)) × (s .args .at + 1 + h .a-at .result ≤ 2048)
 body-within t c =
-    let at-word-at = c .before .before .before .before .before .before .before .before .before .before .before .before in
-    let at-half-at = at-word-at .before in
-    let at-start = at-half-at .before .before .before .before .before .before .before .before .before .before in
-    asks-body-within (at-start .pre .1) (at-half-at .half-at .ensures) (at-word-at .word-at .ensures)
+    let at-b-at = c .before .before .before .before .before .before .before .before .before .before .before .before in
+    let at-a-at = at-b-at .before in
+    let at-start = at-a-at .before .before .before .before .before .before .before .before .before .before in
+    asks-body-within (at-start .pre .1) (at-a-at .a-at .ensures) (at-b-at .b-at .ensures)
 
 -- the part behind its items
 body-passes : (t : ℕ) (c : body-lts.After-spanned (claims t) (entry-at body.Pre t) body.Post)
     → let h = c .before .before .before .before .before .before .before .before .before .before .before .before .before .before .before .before .before
     .before .before .before .before .before .before .before .before .before .before .before in
     let s = h .before .before .before .before .before .before .before .before .before .before in
-    (8 * (1 + h .half-at .result + c .spanned .result) ≤ length (s .args .part .now)) × (s .args .at + 1 + h .half-at .result + c .spanned .result ≤ 2048)
+    (8 * (1 + h .a-at .result + c .spanned .result) ≤ length (s .args .part .now)) × (s .args .at + 1 + h .a-at .result + c .spanned .result ≤ 2048)
 body-passes t c =
     let at-items = c .before .before .before .before .before .before .before .before .before in
     let at-open-block = at-items .before .before .before .before .before .before .before .before .before .before .before .before .before in
-    let at-word-at = at-open-block .before .before .before .before .before in
-    let at-half-at = at-word-at .before in
-    let at-start = at-half-at .before .before .before .before .before .before .before .before .before .before in
-    asks-body-passes (at-start .pre .1) (at-half-at .half-at .ensures) (at-word-at .word-at .ensures) (at-open-block .open-block .ensures) (at-items .items .ensures) (c .spanned .ensures)
+    let at-b-at = at-open-block .before .before .before .before .before in
+    let at-a-at = at-b-at .before in
+    let at-start = at-a-at .before .before .before .before .before .before .before .before .before .before in
+    asks-body-passes (at-start .pre .1) (at-a-at .a-at .ensures) (at-b-at .b-at .ensures) (at-open-block .open-block .ensures) (at-items .items .ensures) (c .spanned .ensures)
 
 -- what it has done where it returns
 body-ends : (t : ℕ) → body-lts.Need-returns (claims t) (entry-at body.Pre t) body.Post
@@ -73,21 +73,21 @@ body-ends t c =
     let at-spanned = at-expression .before .before .before .before .before .before in
     let at-items = at-spanned .before .before .before .before .before .before .before .before .before in
     let at-open-block = at-items .before .before .before .before .before .before .before .before .before .before .before .before .before in
-    let at-word-at = at-open-block .before .before .before .before .before in
-    let at-half-at = at-word-at .before in
-    let at-start = at-half-at .before .before .before .before .before .before .before .before .before .before in
-    answers-body (at-start .pre .1) (at-half-at .half-at .ensures) (at-word-at .word-at .ensures) (at-open-block .open-block .ensures)
+    let at-b-at = at-open-block .before .before .before .before .before in
+    let at-a-at = at-b-at .before in
+    let at-start = at-a-at .before .before .before .before .before .before .before .before .before .before in
+    answers-body (at-start .pre .1) (at-a-at .a-at .ensures) (at-b-at .b-at .ensures) (at-open-block .open-block .ensures)
     (at-items .items .ensures) (at-spanned .spanned .ensures) (at-expression .expression .ensures) (at-releases .releases .ensures) (at-finish .finish .ensures)
 
 pub body-meets : {M : Type 1} (t : ℕ) → body-lts.Closed (claims t) (entry-at body.Pre t) body.Post M
 body-meets t = body-lts.spec (claims t) (entry-at body.Pre t) body.Post
-    -- half-at-requires
+    -- a-at-requires
     (λ c κs.
     let at-start = c .before .before .before .before .before .before .before .before .before in
     omega (arith, asked (at-start .pre .1) .long))
     -- cast-heads
     (λ c. search needs)
-    -- word-at-requires
+    -- b-at-requires
     (λ c κs.
     let at-start = c .before .before .before .before .before .before .before .before .before .before in
     omega (arith, asked (at-start .pre .1) .long))
@@ -109,17 +109,17 @@ body-meets t = body-lts.spec (claims t) (entry-at body.Pre t) body.Post
     omega (arith, asked (at-start .pre .1) .small))
     -- open-block-requires
     (λ c κs.
-    let at-word-at = c .before .before .before .before in
-    let at-half-at = at-word-at .before in
-    let at-start = at-half-at .before .before .before .before .before .before .before .before .before .before in
-    asks-body-open (at-start .pre .1) (at-half-at .half-at .ensures) (at-word-at .word-at .ensures))
+    let at-b-at = c .before .before .before .before in
+    let at-a-at = at-b-at .before in
+    let at-start = at-a-at .before .before .before .before .before .before .before .before .before .before in
+    asks-body-open (at-start .pre .1) (at-a-at .a-at .ensures) (at-b-at .b-at .ensures))
     -- add-within
     (λ c.
     let at-open-block = c .before .before .before .before .before .before .before in
-    let at-word-at = at-open-block .before .before .before .before .before in
-    let at-half-at = at-word-at .before in
-    let at-start = at-half-at .before .before .before .before .before .before .before .before .before .before in
-    omega (arith, asks-body-few (at-start .pre .1) (at-half-at .half-at .ensures) (at-word-at .word-at .ensures) (at-open-block .open-block .ensures)))
+    let at-b-at = at-open-block .before .before .before .before .before in
+    let at-a-at = at-b-at .before in
+    let at-start = at-a-at .before .before .before .before .before .before .before .before .before .before in
+    omega (arith, asks-body-few (at-start .pre .1) (at-a-at .a-at .ensures) (at-b-at .b-at .ensures) (at-open-block .open-block .ensures)))
     -- add-from
     (λ c. omega (arith, body-within t c .1))
     -- mul-from
@@ -145,11 +145,11 @@ body-meets t = body-lts.spec (claims t) (entry-at body.Pre t) body.Post
     -- items-requires
     (λ c κs.
     let at-open-block = c .before .before .before .before .before .before .before .before .before .before .before .before in
-    let at-word-at = at-open-block .before .before .before .before .before in
-    let at-half-at = at-word-at .before in
-    let at-start = at-half-at .before .before .before .before .before .before .before .before .before .before in (
+    let at-b-at = at-open-block .before .before .before .before .before in
+    let at-a-at = at-b-at .before in
+    let at-start = at-a-at .before .before .before .before .before .before .before .before .before .before in (
       omega (arith, asked (at-start .pre .1) .nested, at-start .pre .0),
-      asks-body-items (at-start .pre .1) (at-half-at .half-at .ensures) (at-word-at .word-at .ensures) (at-open-block .open-block .ensures),
+      asks-body-items (at-start .pre .1) (at-a-at .a-at .ensures) (at-b-at .b-at .ensures) (at-open-block .open-block .ensures),
     ))
     -- add-spanned
     (λ c.
@@ -163,11 +163,11 @@ body-meets t = body-lts.spec (claims t) (entry-at body.Pre t) body.Post
     omega (arith, body-within t at-within .1))
     -- spanned-requires
     (λ c κs.
-    let at-word-at = c .before .before .before .before .before .before .before .before .before .before .before .before .before .before .before .before
+    let at-b-at = c .before .before .before .before .before .before .before .before .before .before .before .before .before .before .before .before
     .before .before .before .before .before .before .before .before .before .before in
-    let at-half-at = at-word-at .before in
-    let at-start = at-half-at .before .before .before .before .before .before .before .before .before .before in
-    asks-body-spanned (at-start .pre .1) (at-half-at .half-at .ensures) (at-word-at .word-at .ensures))
+    let at-a-at = at-b-at .before in
+    let at-start = at-a-at .before .before .before .before .before .before .before .before .before .before in
+    asks-body-spanned (at-start .pre .1) (at-a-at .a-at .ensures) (at-b-at .b-at .ensures))
     -- add-after
     (λ c.
     let at-within = c .before .before .before .before .before .before .before .before .before .before .before .before .before .before .before in
@@ -205,11 +205,11 @@ body-meets t = body-lts.spec (claims t) (entry-at body.Pre t) body.Post
     let at-spanned = c .before .before .before .before .before in
     let at-items = at-spanned .before .before .before .before .before .before .before .before .before in
     let at-open-block = at-items .before .before .before .before .before .before .before .before .before .before .before .before .before in
-    let at-word-at = at-open-block .before .before .before .before .before in
-    let at-half-at = at-word-at .before in
-    let at-start = at-half-at .before .before .before .before .before .before .before .before .before .before in (
+    let at-b-at = at-open-block .before .before .before .before .before in
+    let at-a-at = at-b-at .before in
+    let at-start = at-a-at .before .before .before .before .before .before .before .before .before .before in (
       omega (arith, asked (at-start .pre .1) .nested, at-start .pre .0),
-      asks-body-value (at-start .pre .1) (at-half-at .half-at .ensures) (at-word-at .word-at .ensures) (at-open-block .open-block .ensures)
+      asks-body-value (at-start .pre .1) (at-a-at .a-at .ensures) (at-b-at .b-at .ensures) (at-open-block .open-block .ensures)
           (at-items .items .ensures) (at-spanned .spanned .ensures),
     ))
     -- releases-requires
@@ -218,10 +218,10 @@ body-meets t = body-lts.spec (claims t) (entry-at body.Pre t) body.Post
     let at-spanned = at-expression .before .before .before .before .before .before in
     let at-items = at-spanned .before .before .before .before .before .before .before .before .before in
     let at-open-block = at-items .before .before .before .before .before .before .before .before .before .before .before .before .before in
-    let at-word-at = at-open-block .before .before .before .before .before in
-    let at-half-at = at-word-at .before in
-    let at-start = at-half-at .before .before .before .before .before .before .before .before .before .before in
-    asks-body-releases (at-start .pre .1) (at-half-at .half-at .ensures) (at-word-at .word-at .ensures) (at-open-block .open-block .ensures)
+    let at-b-at = at-open-block .before .before .before .before .before in
+    let at-a-at = at-b-at .before in
+    let at-start = at-a-at .before .before .before .before .before .before .before .before .before .before in
+    asks-body-releases (at-start .pre .1) (at-a-at .a-at .ensures) (at-b-at .b-at .ensures) (at-open-block .open-block .ensures)
     (at-items .items .ensures) (at-spanned .spanned .ensures) (at-expression .expression .ensures))
     -- finish-requires
     (λ c κs.
@@ -230,10 +230,10 @@ body-meets t = body-lts.spec (claims t) (entry-at body.Pre t) body.Post
     let at-spanned = at-expression .before .before .before .before .before .before in
     let at-items = at-spanned .before .before .before .before .before .before .before .before .before in
     let at-open-block = at-items .before .before .before .before .before .before .before .before .before .before .before .before .before in
-    let at-word-at = at-open-block .before .before .before .before .before in
-    let at-half-at = at-word-at .before in
-    let at-start = at-half-at .before .before .before .before .before .before .before .before .before .before in
-    asks-body-finish (at-start .pre .1) (at-half-at .half-at .ensures) (at-word-at .word-at .ensures) (at-open-block .open-block .ensures)
+    let at-b-at = at-open-block .before .before .before .before .before in
+    let at-a-at = at-b-at .before in
+    let at-start = at-a-at .before .before .before .before .before .before .before .before .before .before in
+    asks-body-finish (at-start .pre .1) (at-a-at .a-at .ensures) (at-b-at .b-at .ensures) (at-open-block .open-block .ensures)
     (at-items .items .ensures) (at-spanned .spanned .ensures) (at-expression .expression .ensures) (at-releases .releases .ensures))
     -- same-length
     (λ c. body-ends t c .kept .same-env)

@@ -17,14 +17,14 @@ use Rattle.compile_emit.proofs.pair_type.Reads as pair-type-reads
 use Rattle.compile_emit.proofs.waiting.Reads as waiting-reads
 use Rattle.compile_emit.proofs.way_of.Reads as way-of-reads
 use Rattle.table_scopes.proofs.size_at.Reads as size-at-reads
-use Rattle.words.proofs.half_at.Reads as half-at-reads
+use Rattle.table_entries.proofs.a_at.Reads as a-at-reads
 use Rattle.compile_walk.proofs.+arms+assign+block+body+choose+conditional+expression+items+operands+pair+repeat+select+simple+statement+when.Proof.Base.{entry-at, kind-below}
 
 -- what the functions that it calls are taken to ask and give
 abbrev claims : ℕ → pair-lts.Claims
 claims t = (
-  half-at-reads.Asked,
-  half-at-reads.Learnt,
+  a-at-reads.Asked,
+  a-at-reads.Learnt,
   kind-below expression.Pre t,
   expression.Post,
   size-at-reads.Asked,
@@ -58,16 +58,16 @@ pair-ends t c =
     let at-end-of = at-way-of .before .before in
     let at-size-at = at-end-of .before in
     let at-expression = at-size-at .before .before .before .before .before .before .before .before .before in
-    let at-half-at = at-expression .before .before .before .before .before .before in
-    let at-start = at-half-at .before .before .before .before .before .before .before .before .before .before in
-    answers-pair (at-start .pre .1) (at-size-at .size-at .result) (at-size-at .size-at .ensures) (at-expression .expression .ensures) (at-half-at .half-at .ensures)
+    let at-a-at = at-expression .before .before .before .before .before .before in
+    let at-start = at-a-at .before .before .before .before .before .before .before .before .before .before in
+    answers-pair (at-start .pre .1) (at-size-at .size-at .result) (at-size-at .size-at .ensures) (at-expression .expression .ensures) (at-a-at .a-at .ensures)
     (at-end-of .end-of .ensures .0) (at-way-of .way-of .ensures) (at-between .between .ensures) (at-start .args .depth + at-waiting .waiting .result)
     (ap (λ (k : ℕ). at-start .args .depth + k) (at-waiting .waiting .ensures))
     (at-expression2 .expression2 .ensures) (at-pair-type .pair-type .ensures) (at-behind .behind .ensures) (at-finish .finish .ensures)
 
 pub pair-meets : {M : Type 1} (t : ℕ) → pair-lts.Closed (claims t) (entry-at pair.Pre t) pair.Post M
 pair-meets t = pair-lts.spec (claims t) (entry-at pair.Pre t) pair.Post
-    -- half-at-requires
+    -- a-at-requires
     (λ c κs. omega (arith, asked (c .before .before .before .before .before .before .before .before .before .pre .1) .long))
     -- sub-expression
     (λ c. omega (arith, asked (c .before .before .before .before .before .before .before .before .before .before .pre .1) .long))
@@ -120,9 +120,9 @@ pair-meets t = pair-lts.spec (claims t) (entry-at pair.Pre t) pair.Post
     let at-end-of = at-way-of .before .before in
     let at-size-at = at-end-of .before in
     let at-expression = at-size-at .before .before .before .before .before .before .before .before .before in
-    let at-half-at = at-expression .before .before .before .before .before .before in
-    let at-start = at-half-at .before .before .before .before .before .before .before .before .before .before in
-    let z = asks-pair-between (at-start .pre .1) (at-size-at .size-at .result) (at-size-at .size-at .ensures) (at-expression .expression .ensures) (at-half-at .half-at .ensures)
+    let at-a-at = at-expression .before .before .before .before .before .before in
+    let at-start = at-a-at .before .before .before .before .before .before .before .before .before .before in
+    let z = asks-pair-between (at-start .pre .1) (at-size-at .size-at .result) (at-size-at .size-at .ensures) (at-expression .expression .ensures) (at-a-at .a-at .ensures)
     (at-end-of .end-of .ensures .0) (at-way-of .way-of .ensures) in (at-end-of .end-of .ensures .1, z .0, z .1, z .2, z .3))
     -- sub-from
     (λ c. omega arith)
@@ -163,11 +163,11 @@ pair-meets t = pair-lts.spec (claims t) (entry-at pair.Pre t) pair.Post
     let at-end-of = at-way-of .before .before in
     let at-size-at = at-end-of .before in
     let at-expression = at-size-at .before .before .before .before .before .before .before .before .before in
-    let at-half-at = at-expression .before .before .before .before .before .before in
-    let at-start = at-half-at .before .before .before .before .before .before .before .before .before .before in
+    let at-a-at = at-expression .before .before .before .before .before .before in
+    let at-start = at-a-at .before .before .before .before .before .before .before .before .before .before in
     omega (
       arith,
-      asked (asks-pair-second (at-start .pre .1) (at-size-at .size-at .result) (at-size-at .size-at .ensures) (at-expression .expression .ensures) (at-half-at .half-at .ensures)
+      asked (asks-pair-second (at-start .pre .1) (at-size-at .size-at .result) (at-size-at .size-at .ensures) (at-expression .expression .ensures) (at-a-at .a-at .ensures)
           (at-end-of .end-of .ensures .0) (at-way-of .way-of .ensures) (at-between .between .ensures) (at-start .args .depth + c .waiting .result)
           (ap (λ (k : ℕ). at-start .args .depth + k) (c .waiting .ensures))) .deep,
     ))
@@ -179,10 +179,10 @@ pair-meets t = pair-lts.spec (claims t) (entry-at pair.Pre t) pair.Post
     let at-end-of = at-way-of .before .before in
     let at-size-at = at-end-of .before in
     let at-expression = at-size-at .before .before .before .before .before .before .before .before .before in
-    let at-half-at = at-expression .before .before .before .before .before .before in
-    let at-start = at-half-at .before .before .before .before .before .before .before .before .before .before in (
+    let at-a-at = at-expression .before .before .before .before .before .before in
+    let at-start = at-a-at .before .before .before .before .before .before .before .before .before .before in (
       omega (arith, asked (at-start .pre .1) .nested, at-start .pre .0),
-      asks-pair-second (at-start .pre .1) (at-size-at .size-at .result) (at-size-at .size-at .ensures) (at-expression .expression .ensures) (at-half-at .half-at .ensures)
+      asks-pair-second (at-start .pre .1) (at-size-at .size-at .result) (at-size-at .size-at .ensures) (at-expression .expression .ensures) (at-a-at .a-at .ensures)
           (at-end-of .end-of .ensures .0) (at-way-of .way-of .ensures) (at-between .between .ensures) (at-start .args .depth + at-waiting .waiting .result)
           (ap (λ (k : ℕ). at-start .args .depth + k) (at-waiting .waiting .ensures)),
     ))
@@ -197,9 +197,9 @@ pair-meets t = pair-lts.spec (claims t) (entry-at pair.Pre t) pair.Post
     let at-end-of = at-way-of .before .before in
     let at-size-at = at-end-of .before in
     let at-expression = at-size-at .before .before .before .before .before .before .before .before .before in
-    let at-half-at = at-expression .before .before .before .before .before .before in
-    let at-start = at-half-at .before .before .before .before .before .before .before .before .before .before in
-    asks-pair-write (at-start .pre .1) (at-size-at .size-at .result) (at-size-at .size-at .ensures) (at-expression .expression .ensures) (at-half-at .half-at .ensures)
+    let at-a-at = at-expression .before .before .before .before .before .before in
+    let at-start = at-a-at .before .before .before .before .before .before .before .before .before .before in
+    asks-pair-write (at-start .pre .1) (at-size-at .size-at .result) (at-size-at .size-at .ensures) (at-expression .expression .ensures) (at-a-at .a-at .ensures)
     (at-end-of .end-of .ensures .0) (at-way-of .way-of .ensures) (at-between .between .ensures) (at-start .args .depth + at-waiting .waiting .result)
     (ap (λ (k : ℕ). at-start .args .depth + k) (at-waiting .waiting .ensures))
     (at-expression2 .expression2 .ensures))
@@ -213,9 +213,9 @@ pair-meets t = pair-lts.spec (claims t) (entry-at pair.Pre t) pair.Post
     let at-end-of = at-way-of .before .before in
     let at-size-at = at-end-of .before in
     let at-expression = at-size-at .before .before .before .before .before .before .before .before .before in
-    let at-half-at = at-expression .before .before .before .before .before .before in
-    let at-start = at-half-at .before .before .before .before .before .before .before .before .before .before in
-    let z = asks-pair-behind (at-start .pre .1) (at-size-at .size-at .result) (at-size-at .size-at .ensures) (at-expression .expression .ensures) (at-half-at .half-at .ensures)
+    let at-a-at = at-expression .before .before .before .before .before .before in
+    let at-start = at-a-at .before .before .before .before .before .before .before .before .before .before in
+    let z = asks-pair-behind (at-start .pre .1) (at-size-at .size-at .result) (at-size-at .size-at .ensures) (at-expression .expression .ensures) (at-a-at .a-at .ensures)
     (at-end-of .end-of .ensures .0) (at-way-of .way-of .ensures) (at-between .between .ensures) (at-start .args .depth + at-waiting .waiting .result)
     (ap (λ (k : ℕ). at-start .args .depth + k) (at-waiting .waiting .ensures))
     (at-expression2 .expression2 .ensures) (at-pair-type .pair-type .ensures) in (at-end-of .end-of .ensures .1, z .0, z .1, z .2, z .3))
@@ -230,9 +230,9 @@ pair-meets t = pair-lts.spec (claims t) (entry-at pair.Pre t) pair.Post
     let at-end-of = at-way-of .before .before in
     let at-size-at = at-end-of .before in
     let at-expression = at-size-at .before .before .before .before .before .before .before .before .before in
-    let at-half-at = at-expression .before .before .before .before .before .before in
-    let at-start = at-half-at .before .before .before .before .before .before .before .before .before .before in
-    asks-pair-finish (at-start .pre .1) (at-size-at .size-at .result) (at-size-at .size-at .ensures) (at-expression .expression .ensures) (at-half-at .half-at .ensures)
+    let at-a-at = at-expression .before .before .before .before .before .before in
+    let at-start = at-a-at .before .before .before .before .before .before .before .before .before .before in
+    asks-pair-finish (at-start .pre .1) (at-size-at .size-at .result) (at-size-at .size-at .ensures) (at-expression .expression .ensures) (at-a-at .a-at .ensures)
     (at-end-of .end-of .ensures .0) (at-way-of .way-of .ensures) (at-between .between .ensures) (at-start .args .depth + at-waiting .waiting .result)
     (ap (λ (k : ℕ). at-start .args .depth + k) (at-waiting .waiting .ensures))
     (at-expression2 .expression2 .ensures) (at-pair-type .pair-type .ensures) (at-behind .behind .ensures))

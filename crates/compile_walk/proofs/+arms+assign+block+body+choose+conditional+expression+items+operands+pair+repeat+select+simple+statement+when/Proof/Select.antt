@@ -17,14 +17,14 @@ use Rattle.compile_emit.proofs.finish.Reads as finish-reads
 use Rattle.compile_output.proofs.emit.Reads as emit-reads
 use Rattle.compile_output.proofs.shape.Reads as shape-reads
 use Rattle.table_scopes.proofs.size_at.Reads as size-at-reads
-use Rattle.words.proofs.half_at.Reads as half-at-reads
+use Rattle.table_entries.proofs.a_at.Reads as a-at-reads
 use Rattle.compile_walk.proofs.+arms+assign+block+body+choose+conditional+expression+items+operands+pair+repeat+select+simple+statement+when.Proof.Base.{arms-below, entry-at, kind-below}
 
 -- what the functions that it calls are taken to ask and give
 abbrev claims : ℕ → select-lts.Claims
 claims t = (
-  half-at-reads.Asked,
-  half-at-reads.Learnt,
+  a-at-reads.Asked,
+  a-at-reads.Learnt,
   known-at-reads.Asked,
   known-at-reads.Learnt,
   second-in-reads.Asked,
@@ -55,16 +55,16 @@ select-ends t c =
     let at-expression = at-emit .before .before .before .before .before .before .before .before .before .before in
     let at-second-in = at-expression .before .before .before .before .before .before in
     let at-known-at = at-second-in .before in
-    let at-half-at = at-known-at .before in
-    let at-start = at-half-at .before .before .before .before .before .before .before .before .before .before in
+    let at-a-at = at-known-at .before in
+    let at-start = at-a-at .before .before .before .before .before .before .before .before .before .before in
     answers-select (at-start .pre .1) (at-size-at .size-at .result) (at-size-at .size-at .ensures) (at-expression .expression .ensures)
-    (at-half-at .half-at .ensures) (at-second-in .second-in .ensures ∙ ap secondIn (at-known-at .known-at .ensures))
+    (at-a-at .a-at .ensures) (at-second-in .second-in .ensures ∙ ap secondIn (at-known-at .known-at .ensures))
     (at-emit .emit .ensures) (at-arms .arms .ensures) (at-emit2 .emit2 .ensures) (at-shape .shape .ensures)
     (at-finish .finish .ensures)
 
 pub select-meets : {M : Type 1} (t : ℕ) → select-lts.Closed (claims t) (entry-at select.Pre t) select.Post M
 select-meets t = select-lts.spec (claims t) (entry-at select.Pre t) select.Post
-    -- half-at-requires
+    -- a-at-requires
     (λ c κs. omega (arith, asked (c .before .before .before .before .before .before .before .before .before .pre .1) .long))
     -- cast-count
     (λ c. search needs)
@@ -150,10 +150,10 @@ select-meets t = select-lts.spec (claims t) (entry-at select.Pre t) select.Post
     let at-expression = at-emit .before .before .before .before .before .before .before .before .before .before in
     let at-second-in = at-expression .before .before .before .before .before .before in
     let at-known-at = at-second-in .before in
-    let at-half-at = at-known-at .before in
-    let at-start = at-half-at .before .before .before .before .before .before .before .before .before .before in (
+    let at-a-at = at-known-at .before in
+    let at-start = at-a-at .before .before .before .before .before .before .before .before .before .before in (
       omega (arith, asked (at-start .pre .1) .nested, at-start .pre .0),
-      asks-select-second (at-start .pre .1) (at-size-at .size-at .result) (at-size-at .size-at .ensures) (at-expression .expression .ensures) (at-half-at .half-at .ensures)
+      asks-select-second (at-start .pre .1) (at-size-at .size-at .result) (at-size-at .size-at .ensures) (at-expression .expression .ensures) (at-a-at .a-at .ensures)
           (at-second-in .second-in .ensures ∙ ap secondIn (at-known-at .known-at .ensures)) (at-emit .emit .ensures),
     ))
     -- emit-requires-2
@@ -164,9 +164,9 @@ select-meets t = select-lts.spec (claims t) (entry-at select.Pre t) select.Post
     let at-expression = at-emit .before .before .before .before .before .before .before .before .before .before in
     let at-second-in = at-expression .before .before .before .before .before .before in
     let at-known-at = at-second-in .before in
-    let at-half-at = at-known-at .before in
-    let at-start = at-half-at .before .before .before .before .before .before .before .before .before .before in
-    asks-select-emit₂ (at-start .pre .1) (at-size-at .size-at .result) (at-size-at .size-at .ensures) (at-expression .expression .ensures) (at-half-at .half-at .ensures)
+    let at-a-at = at-known-at .before in
+    let at-start = at-a-at .before .before .before .before .before .before .before .before .before .before in
+    asks-select-emit₂ (at-start .pre .1) (at-size-at .size-at .result) (at-size-at .size-at .ensures) (at-expression .expression .ensures) (at-a-at .a-at .ensures)
     (at-second-in .second-in .ensures ∙ ap secondIn (at-known-at .known-at .ensures)) (at-emit .emit .ensures) (at-arms .arms .ensures))
     -- shape-requires
     (λ c κs.
@@ -177,9 +177,9 @@ select-meets t = select-lts.spec (claims t) (entry-at select.Pre t) select.Post
     let at-expression = at-emit .before .before .before .before .before .before .before .before .before .before in
     let at-second-in = at-expression .before .before .before .before .before .before in
     let at-known-at = at-second-in .before in
-    let at-half-at = at-known-at .before in
-    let at-start = at-half-at .before .before .before .before .before .before .before .before .before .before in
-    asks-select-shape (at-start .pre .1) (at-size-at .size-at .result) (at-size-at .size-at .ensures) (at-expression .expression .ensures) (at-half-at .half-at .ensures)
+    let at-a-at = at-known-at .before in
+    let at-start = at-a-at .before .before .before .before .before .before .before .before .before .before in
+    asks-select-shape (at-start .pre .1) (at-size-at .size-at .result) (at-size-at .size-at .ensures) (at-expression .expression .ensures) (at-a-at .a-at .ensures)
     (at-second-in .second-in .ensures ∙ ap secondIn (at-known-at .known-at .ensures)) (at-emit .emit .ensures) (at-arms .arms .ensures) (at-emit2 .emit2 .ensures))
     -- finish-requires
     (λ c κs.
@@ -191,9 +191,9 @@ select-meets t = select-lts.spec (claims t) (entry-at select.Pre t) select.Post
     let at-expression = at-emit .before .before .before .before .before .before .before .before .before .before in
     let at-second-in = at-expression .before .before .before .before .before .before in
     let at-known-at = at-second-in .before in
-    let at-half-at = at-known-at .before in
-    let at-start = at-half-at .before .before .before .before .before .before .before .before .before .before in
-    asks-select-finish (at-start .pre .1) (at-size-at .size-at .result) (at-size-at .size-at .ensures) (at-expression .expression .ensures) (at-half-at .half-at .ensures)
+    let at-a-at = at-known-at .before in
+    let at-start = at-a-at .before .before .before .before .before .before .before .before .before .before in
+    asks-select-finish (at-start .pre .1) (at-size-at .size-at .result) (at-size-at .size-at .ensures) (at-expression .expression .ensures) (at-a-at .a-at .ensures)
     (at-second-in .second-in .ensures ∙ ap secondIn (at-known-at .known-at .ensures)) (at-emit .emit .ensures) (at-arms .arms .ensures) (at-emit2 .emit2 .ensures) (at-shape .shape .ensures))
     -- same-length
     (λ c. select-ends t c .kept .same-env)

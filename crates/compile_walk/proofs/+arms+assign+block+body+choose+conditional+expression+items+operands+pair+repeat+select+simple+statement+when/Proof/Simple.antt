@@ -12,17 +12,20 @@ use Rattle.compile_emit.proofs.known_of.Reads as known-of-reads
 use Rattle.compile_emit.proofs.last.Reads as last-reads
 use Rattle.compile_emit.proofs.last_type.Reads as last-type-reads
 use Rattle.compile_emit.proofs.operands_of.Reads as operands-of-reads
-use Rattle.words.proofs.half_at.Reads as half-at-reads
-use Rattle.words.proofs.word_at.Reads as word-at-reads
+use Rattle.table_entries.proofs.kind_at.Reads as kind-at-reads
+use Rattle.table_entries.proofs.a_at.Reads as a-at-reads
+use Rattle.table_entries.proofs.b_at.Reads as b-at-reads
 use Rattle.compile_walk.proofs.+arms+assign+block+body+choose+conditional+expression+items+operands+pair+repeat+select+simple+statement+when.Proof.Base.{entry-at, list-below}
 
 -- what the functions that it calls are taken to ask and give
 abbrev claims : ℕ → simple-lts.Claims
 claims t = (
-  half-at-reads.Asked,
-  half-at-reads.Learnt,
-  word-at-reads.Asked,
-  word-at-reads.Learnt,
+  kind-at-reads.Asked,
+  kind-at-reads.Learnt,
+  a-at-reads.Asked,
+  a-at-reads.Learnt,
+  b-at-reads.Asked,
+  b-at-reads.Learnt,
   operands-of-reads.Asked,
   operands-of-reads.Learnt,
   list-below operands.Pre t,
@@ -46,21 +49,21 @@ simple-ends t c =
     let at-known-of = at-last-type .before .before in
     let at-operands = at-known-of .before .before .before .before .before .before .before .before .before .before in
     let at-operands-of = at-operands .before .before .before .before .before .before in
-    let at-word-at = at-operands-of .before in
-    let at-half-at2 = at-word-at .before in
-    let at-half-at = at-half-at2 .before in
-    let at-start = at-half-at .before .before .before .before .before .before .before .before .before .before in
-    answers-simple (at-start .pre .1) (at-half-at .half-at .ensures) (at-half-at2 .half-at2 .ensures) (at-word-at .word-at .ensures)
+    let at-b-at = at-operands-of .before in
+    let at-a-at = at-b-at .before in
+    let at-kind-at = at-a-at .before in
+    let at-start = at-kind-at .before .before .before .before .before .before .before .before .before .before in
+    answers-simple (at-start .pre .1) (at-kind-at .kind-at .ensures) (at-a-at .a-at .ensures) (at-b-at .b-at .ensures)
     (at-operands-of .operands-of .ensures) (at-operands .operands .ensures) (at-known-of .known-of .ensures) (at-last .last .ensures)
     (at-last-type .last-type .ensures) (at-finish .finish .ensures)
 
 pub simple-meets : {M : Type 1} (t : ℕ) → simple-lts.Closed (claims t) (entry-at simple.Pre t) simple.Post M
 simple-meets t = simple-lts.spec (claims t) (entry-at simple.Pre t) simple.Post
-    -- half-at-requires
+    -- kind-at-requires
     (λ c κs. omega (arith, asked (c .before .before .before .before .before .before .before .before .before .pre .1) .long))
-    -- half-at-requires-2
+    -- a-at-requires
     (λ c κs. omega (arith, asked (c .before .before .before .before .before .before .before .before .before .before .pre .1) .long))
-    -- word-at-requires
+    -- b-at-requires
     (λ c κs. omega (arith, asked (c .before .before .before .before .before .before .before .before .before .before .before .pre .1) .long))
     -- operands-of-requires
     (λ c κs. search needs)
@@ -85,33 +88,33 @@ simple-meets t = simple-lts.spec (claims t) (entry-at simple.Pre t) simple.Post
     -- operands-requires
     (λ c κs.
     let at-operands-of = c .before .before .before .before .before in
-    let at-word-at = at-operands-of .before in
-    let at-half-at2 = at-word-at .before in
-    let at-half-at = at-half-at2 .before in
-    let at-start = at-half-at .before .before .before .before .before .before .before .before .before .before in (
+    let at-b-at = at-operands-of .before in
+    let at-a-at = at-b-at .before in
+    let at-kind-at = at-a-at .before in
+    let at-start = at-kind-at .before .before .before .before .before .before .before .before .before .before in (
       omega (arith, asked (at-start .pre .1) .nested, at-start .pre .0),
-      asks-simple-first (at-start .pre .1) (at-half-at .half-at .ensures) (at-half-at2 .half-at2 .ensures) (at-word-at .word-at .ensures)
+      asks-simple-first (at-start .pre .1) (at-kind-at .kind-at .ensures) (at-a-at .a-at .ensures) (at-b-at .b-at .ensures)
           (at-operands-of .operands-of .ensures),
     ))
     -- known-of-requires
     (λ c κs.
     let at-operands = c .before .before .before .before .before .before .before .before .before in
     let at-operands-of = at-operands .before .before .before .before .before .before in
-    let at-word-at = at-operands-of .before in
-    let at-half-at2 = at-word-at .before in
-    let at-half-at = at-half-at2 .before in
-    let at-start = at-half-at .before .before .before .before .before .before .before .before .before .before in
-    asks-simple-room (at-start .pre .1) (at-half-at .half-at .ensures) (at-half-at2 .half-at2 .ensures) (at-word-at .word-at .ensures)
+    let at-b-at = at-operands-of .before in
+    let at-a-at = at-b-at .before in
+    let at-kind-at = at-a-at .before in
+    let at-start = at-kind-at .before .before .before .before .before .before .before .before .before .before in
+    asks-simple-room (at-start .pre .1) (at-kind-at .kind-at .ensures) (at-a-at .a-at .ensures) (at-b-at .b-at .ensures)
     (at-operands-of .operands-of .ensures) (at-operands .operands .ensures))
     -- slice-read-last-type
     (λ c.
     let at-operands = c .before .before .before .before .before .before .before .before .before .before .before in
     let at-operands-of = at-operands .before .before .before .before .before .before in
-    let at-word-at = at-operands-of .before in
-    let at-half-at2 = at-word-at .before in
-    let at-half-at = at-half-at2 .before in
-    let at-start = at-half-at .before .before .before .before .before .before .before .before .before .before in
-    asks-simple-read (at-start .pre .1) (at-half-at .half-at .ensures) (at-half-at2 .half-at2 .ensures) (at-word-at .word-at .ensures)
+    let at-b-at = at-operands-of .before in
+    let at-a-at = at-b-at .before in
+    let at-kind-at = at-a-at .before in
+    let at-start = at-kind-at .before .before .before .before .before .before .before .before .before .before in
+    asks-simple-read (at-start .pre .1) (at-kind-at .kind-at .ensures) (at-a-at .a-at .ensures) (at-b-at .b-at .ensures)
     (at-operands-of .operands-of .ensures) (at-operands .operands .ensures))
     -- last-type-requires
     (λ c κs. search needs)
@@ -119,22 +122,22 @@ simple-meets t = simple-lts.spec (claims t) (entry-at simple.Pre t) simple.Post
     (λ c.
     let at-operands = c .before .before .before .before .before .before .before .before .before .before .before .before in
     let at-operands-of = at-operands .before .before .before .before .before .before in
-    let at-word-at = at-operands-of .before in
-    let at-half-at2 = at-word-at .before in
-    let at-half-at = at-half-at2 .before in
-    let at-start = at-half-at .before .before .before .before .before .before .before .before .before .before in
-    asks-simple-read (at-start .pre .1) (at-half-at .half-at .ensures) (at-half-at2 .half-at2 .ensures) (at-word-at .word-at .ensures)
+    let at-b-at = at-operands-of .before in
+    let at-a-at = at-b-at .before in
+    let at-kind-at = at-a-at .before in
+    let at-start = at-kind-at .before .before .before .before .before .before .before .before .before .before in
+    asks-simple-read (at-start .pre .1) (at-kind-at .kind-at .ensures) (at-a-at .a-at .ensures) (at-b-at .b-at .ensures)
     (at-operands-of .operands-of .ensures) (at-operands .operands .ensures))
     -- last-requires
     (λ c κs.
     let at-known-of = c .before .before .before .before in
     let at-operands = at-known-of .before .before .before .before .before .before .before .before .before .before in
     let at-operands-of = at-operands .before .before .before .before .before .before in
-    let at-word-at = at-operands-of .before in
-    let at-half-at2 = at-word-at .before in
-    let at-half-at = at-half-at2 .before in
-    let at-start = at-half-at .before .before .before .before .before .before .before .before .before .before in
-    asks-simple-last (at-start .pre .1) (at-half-at .half-at .ensures) (at-half-at2 .half-at2 .ensures) (at-word-at .word-at .ensures)
+    let at-b-at = at-operands-of .before in
+    let at-a-at = at-b-at .before in
+    let at-kind-at = at-a-at .before in
+    let at-start = at-kind-at .before .before .before .before .before .before .before .before .before .before in
+    asks-simple-last (at-start .pre .1) (at-kind-at .kind-at .ensures) (at-a-at .a-at .ensures) (at-b-at .b-at .ensures)
     (at-operands-of .operands-of .ensures) (at-operands .operands .ensures) (at-known-of .known-of .ensures))
     -- finish-requires
     (λ c κs.
@@ -142,11 +145,11 @@ simple-meets t = simple-lts.spec (claims t) (entry-at simple.Pre t) simple.Post
     let at-known-of = at-last .before .before .before .before .before in
     let at-operands = at-known-of .before .before .before .before .before .before .before .before .before .before in
     let at-operands-of = at-operands .before .before .before .before .before .before in
-    let at-word-at = at-operands-of .before in
-    let at-half-at2 = at-word-at .before in
-    let at-half-at = at-half-at2 .before in
-    let at-start = at-half-at .before .before .before .before .before .before .before .before .before .before in
-    asks-simple-finish (at-start .pre .1) (at-half-at .half-at .ensures) (at-half-at2 .half-at2 .ensures) (at-word-at .word-at .ensures) (at-operands-of .operands-of .ensures)
+    let at-b-at = at-operands-of .before in
+    let at-a-at = at-b-at .before in
+    let at-kind-at = at-a-at .before in
+    let at-start = at-kind-at .before .before .before .before .before .before .before .before .before .before in
+    asks-simple-finish (at-start .pre .1) (at-kind-at .kind-at .ensures) (at-a-at .a-at .ensures) (at-b-at .b-at .ensures) (at-operands-of .operands-of .ensures)
     (at-operands .operands .ensures) (at-known-of .known-of .ensures) (at-last .last .ensures))
     -- same-length
     (λ c. simple-ends t c .kept .same-env)

@@ -18,14 +18,15 @@ use Rattle.compile_walk.proofs.when.Reads as when
 use Rattle.compile_emit.proofs.finish.Reads as finish-reads
 use Rattle.compile_emit.proofs.goto.Reads as goto-reads
 use Rattle.compile_output.proofs.shape.Reads as shape-reads
-use Rattle.words.proofs.half_at.Reads as half-at-reads
+use Rattle.table_entries.proofs.kind_at.Reads as kind-at-reads
+use Rattle.table_entries.proofs.a_at.Reads as a-at-reads
 use Rattle.compile_walk.proofs.+arms+assign+block+body+choose+conditional+expression+items+operands+pair+repeat+select+simple+statement+when.Proof.Base.{entry-below, kind-at}
 
 -- what the functions that it calls are taken to ask and give
 abbrev claims : ℕ → statement-lts.Claims
 claims t = (
-  half-at-reads.Asked,
-  half-at-reads.Learnt,
+  kind-at-reads.Asked,
+  kind-at-reads.Learnt,
   entry-below block.Pre t,
   block.Post,
   shape-reads.Asked,
@@ -40,6 +41,8 @@ claims t = (
   choose.Post,
   entry-below repeat.Pre t,
   repeat.Post,
+  a-at-reads.Asked,
+  a-at-reads.Learnt,
   goto-reads.Asked,
   goto-reads.Learnt,
   entry-below select.Pre t,
@@ -54,93 +57,93 @@ statement-ends-2 t c =
     let at-finish = c .before .before in
     let at-shape = at-finish .before .before .before in
     let at-match = at-shape .before .before .before .before in
-    let at-half-at = at-match .before in
-    let at-start = at-half-at .before .before .before .before .before .before .before .before .before .before in
-    answer-as (λ n h e. e ∙ (sym (at-half-at .half-at .ensures) ∙ at-match .match .keys2))
-    (answers-label (ask-as (λ n h e. e ∙ (sym (at-half-at .half-at .ensures) ∙ at-match .match .keys2)) (at-start .pre .1)) (at-shape .shape .ensures) (at-finish .finish .ensures))
+    let at-kind-at = at-match .before in
+    let at-start = at-kind-at .before .before .before .before .before .before .before .before .before .before in
+    answer-as (λ n h e. e ∙ (sym (at-kind-at .kind-at .ensures) ∙ at-match .match .keys2))
+    (answers-label (ask-as (λ n h e. e ∙ (sym (at-kind-at .kind-at .ensures) ∙ at-match .match .keys2)) (at-start .pre .1)) (at-shape .shape .ensures) (at-finish .finish .ensures))
 
 statement-ends-7 : (t : ℕ) → statement-lts.Need-returns-7 (claims t) (kind-at statement′.Pre t) statement′.Post
 statement-ends-7 t c =
     let at-finish2 = c .before .before in
     let at-goto = at-finish2 .before .before .before in
-    let at-half-at2 = at-goto .before .before .before .before in
-    let at-match = at-half-at2 .before .before in
-    let at-half-at = at-match .before in
-    let at-start = at-half-at .before .before .before .before .before .before .before .before .before .before in
-    answer-as (λ n h e. e ∙ (sym (at-half-at .half-at .ensures) ∙ at-match .match .keys7))
-    (answers-goto (ask-as (λ n h e. e ∙ (sym (at-half-at .half-at .ensures) ∙ at-match .match .keys7)) (at-start .pre .1))
-    (at-half-at2 .half-at2 .ensures) (at-goto .goto .ensures) (at-finish2 .finish2 .ensures))
+    let at-a-at = at-goto .before .before .before .before in
+    let at-match = at-a-at .before .before in
+    let at-kind-at = at-match .before in
+    let at-start = at-kind-at .before .before .before .before .before .before .before .before .before .before in
+    answer-as (λ n h e. e ∙ (sym (at-kind-at .kind-at .ensures) ∙ at-match .match .keys7))
+    (answers-goto (ask-as (λ n h e. e ∙ (sym (at-kind-at .kind-at .ensures) ∙ at-match .match .keys7)) (at-start .pre .1))
+    (at-a-at .a-at .ensures) (at-goto .goto .ensures) (at-finish2 .finish2 .ensures))
 
 pub statement-meets : {M : Type 1} (t : ℕ) → statement-lts.Closed (claims t) (kind-at statement′.Pre t) statement′.Post M
 statement-meets t = statement-lts.spec (claims t) (kind-at statement′.Pre t) statement′.Post
-    -- half-at-requires
+    -- kind-at-requires
     (λ c κs. omega (arith, asked (c .before .before .before .before .before .before .before .before .before .pre .1) .long))
     -- block-requires
     (λ c κs.
     let at-match = c .before .before .before .before in
-    let at-half-at = at-match .before in
-    let at-start = at-half-at .before .before .before .before .before .before .before .before .before .before in
-    (omega (arith, at-start .pre .0), ask-as (λ n h e. e ∙ (sym (at-half-at .half-at .ensures) ∙ at-match .match .keys1)) (at-start .pre .1)))
+    let at-kind-at = at-match .before in
+    let at-start = at-kind-at .before .before .before .before .before .before .before .before .before .before in
+    (omega (arith, at-start .pre .0), ask-as (λ n h e. e ∙ (sym (at-kind-at .kind-at .ensures) ∙ at-match .match .keys1)) (at-start .pre .1)))
     -- shape-requires
     (λ c κs.
     let at-match = c .before .before .before in
-    let at-half-at = at-match .before in
-    let at-start = at-half-at .before .before .before .before .before .before .before .before .before .before in
-    asks-label-shape (ask-as (λ n h e. e ∙ (sym (at-half-at .half-at .ensures) ∙ at-match .match .keys2)) (at-start .pre .1)))
+    let at-kind-at = at-match .before in
+    let at-start = at-kind-at .before .before .before .before .before .before .before .before .before .before in
+    asks-label-shape (ask-as (λ n h e. e ∙ (sym (at-kind-at .kind-at .ensures) ∙ at-match .match .keys2)) (at-start .pre .1)))
     -- finish-requires
     (λ c κs.
     let at-shape = c .before .before in
     let at-match = at-shape .before .before .before .before in
-    let at-half-at = at-match .before in
-    let at-start = at-half-at .before .before .before .before .before .before .before .before .before .before in
-    asks-label-finish (ask-as (λ n h e. e ∙ (sym (at-half-at .half-at .ensures) ∙ at-match .match .keys2)) (at-start .pre .1)) (at-shape .shape .ensures))
+    let at-kind-at = at-match .before in
+    let at-start = at-kind-at .before .before .before .before .before .before .before .before .before .before in
+    asks-label-finish (ask-as (λ n h e. e ∙ (sym (at-kind-at .kind-at .ensures) ∙ at-match .match .keys2)) (at-start .pre .1)) (at-shape .shape .ensures))
     -- assign-requires
     (λ c κs.
     let at-match = c .before .before .before .before in
-    let at-half-at = at-match .before in
-    let at-start = at-half-at .before .before .before .before .before .before .before .before .before .before in
-    (omega (arith, at-start .pre .0), ask-as (λ n h e. e ∙ (sym (at-half-at .half-at .ensures) ∙ at-match .match .keys3)) (at-start .pre .1)))
+    let at-kind-at = at-match .before in
+    let at-start = at-kind-at .before .before .before .before .before .before .before .before .before .before in
+    (omega (arith, at-start .pre .0), ask-as (λ n h e. e ∙ (sym (at-kind-at .kind-at .ensures) ∙ at-match .match .keys3)) (at-start .pre .1)))
     -- when-requires
     (λ c κs.
     let at-match = c .before .before .before .before in
-    let at-half-at = at-match .before in
-    let at-start = at-half-at .before .before .before .before .before .before .before .before .before .before in
-    (omega (arith, at-start .pre .0), ask-as (λ n h e. e ∙ (sym (at-half-at .half-at .ensures) ∙ at-match .match .keys4)) (at-start .pre .1)))
+    let at-kind-at = at-match .before in
+    let at-start = at-kind-at .before .before .before .before .before .before .before .before .before .before in
+    (omega (arith, at-start .pre .0), ask-as (λ n h e. e ∙ (sym (at-kind-at .kind-at .ensures) ∙ at-match .match .keys4)) (at-start .pre .1)))
     -- choose-requires
     (λ c κs.
     let at-match = c .before .before .before .before in
-    let at-half-at = at-match .before in
-    let at-start = at-half-at .before .before .before .before .before .before .before .before .before .before in
-    (omega (arith, at-start .pre .0), ask-as (λ n h e. e ∙ (sym (at-half-at .half-at .ensures) ∙ at-match .match .keys5)) (at-start .pre .1)))
+    let at-kind-at = at-match .before in
+    let at-start = at-kind-at .before .before .before .before .before .before .before .before .before .before in
+    (omega (arith, at-start .pre .0), ask-as (λ n h e. e ∙ (sym (at-kind-at .kind-at .ensures) ∙ at-match .match .keys5)) (at-start .pre .1)))
     -- repeat-requires
     (λ c κs.
     let at-match = c .before .before .before .before in
-    let at-half-at = at-match .before in
-    let at-start = at-half-at .before .before .before .before .before .before .before .before .before .before in
-    (omega (arith, at-start .pre .0), ask-as (λ n h e. e ∙ (sym (at-half-at .half-at .ensures) ∙ at-match .match .keys6)) (at-start .pre .1)))
-    -- half-at-requires-2
+    let at-kind-at = at-match .before in
+    let at-start = at-kind-at .before .before .before .before .before .before .before .before .before .before in
+    (omega (arith, at-start .pre .0), ask-as (λ n h e. e ∙ (sym (at-kind-at .kind-at .ensures) ∙ at-match .match .keys6)) (at-start .pre .1)))
+    -- a-at-requires
     (λ c κs. omega (arith, asked (c .before .before .before .before .before .before .before .before .before .before .before .before .pre .1) .long))
     -- goto-requires
     (λ c κs.
-    let at-half-at2 = c .before .before .before in
-    let at-match = at-half-at2 .before .before in
-    let at-half-at = at-match .before in
-    let at-start = at-half-at .before .before .before .before .before .before .before .before .before .before in
-    asks-goto (ask-as (λ n h e. e ∙ (sym (at-half-at .half-at .ensures) ∙ at-match .match .keys7)) (at-start .pre .1)) (at-half-at2 .half-at2 .ensures))
+    let at-a-at = c .before .before .before in
+    let at-match = at-a-at .before .before in
+    let at-kind-at = at-match .before in
+    let at-start = at-kind-at .before .before .before .before .before .before .before .before .before .before in
+    asks-goto (ask-as (λ n h e. e ∙ (sym (at-kind-at .kind-at .ensures) ∙ at-match .match .keys7)) (at-start .pre .1)) (at-a-at .a-at .ensures))
     -- finish-requires-2
     (λ c κs.
     let at-goto = c .before .before in
-    let at-half-at2 = at-goto .before .before .before .before in
-    let at-match = at-half-at2 .before .before in
-    let at-half-at = at-match .before in
-    let at-start = at-half-at .before .before .before .before .before .before .before .before .before .before in
-    asks-goto-finish (ask-as (λ n h e. e ∙ (sym (at-half-at .half-at .ensures) ∙ at-match .match .keys7)) (at-start .pre .1)) (at-half-at2 .half-at2 .ensures) (at-goto .goto .ensures))
+    let at-a-at = at-goto .before .before .before .before in
+    let at-match = at-a-at .before .before in
+    let at-kind-at = at-match .before in
+    let at-start = at-kind-at .before .before .before .before .before .before .before .before .before .before in
+    asks-goto-finish (ask-as (λ n h e. e ∙ (sym (at-kind-at .kind-at .ensures) ∙ at-match .match .keys7)) (at-start .pre .1)) (at-a-at .a-at .ensures) (at-goto .goto .ensures))
     -- select-requires
     (λ c κs.
     let at-match = c .before .before .before .before in
-    let at-half-at = at-match .before in
-    let at-start = at-half-at .before .before .before .before .before .before .before .before .before .before in
-    (omega (arith, at-start .pre .0), ask-as (λ n h e. e ∙ (sym (at-half-at .half-at .ensures) ∙ at-match .match .keys8)) (at-start .pre .1)))
+    let at-kind-at = at-match .before in
+    let at-start = at-kind-at .before .before .before .before .before .before .before .before .before .before in
+    (omega (arith, at-start .pre .0), ask-as (λ n h e. e ∙ (sym (at-kind-at .kind-at .ensures) ∙ at-match .match .keys8)) (at-start .pre .1)))
     -- sub-simple
     (λ c. omega arith)
     -- part-simple-start
@@ -150,16 +153,16 @@ statement-meets t = statement-lts.spec (claims t) (kind-at statement′.Pre t) s
     -- simple-requires
     (λ c κs.
     let at-match = c .before .before .before .before .before in
-    let at-half-at = at-match .before in
-    let at-start = at-half-at .before .before .before .before .before .before .before .before .before .before in (
+    let at-kind-at = at-match .before in
+    let at-start = at-kind-at .before .before .before .before .before .before .before .before .before .before in (
       omega (arith, at-start .pre .0),
       asks-anew _ (ask-as (λ n h e. simple-stmt n h
-          (λ z. at-match .match .rest .0 .0 .0 .0 .0 .0 .0 .1 (at-half-at .half-at .ensures ∙ (sym e ∙ z)))
-          (λ z. at-match .match .rest .0 .0 .0 .0 .0 .0 .1 (at-half-at .half-at .ensures ∙ (sym e ∙ z)))
-          (λ z. at-match .match .rest .0 .0 .0 .0 .0 .1 (at-half-at .half-at .ensures ∙ (sym e ∙ z)))
-          (λ z. at-match .match .rest .0 .0 .0 .0 .1 (at-half-at .half-at .ensures ∙ (sym e ∙ z)))
-          (λ z. at-match .match .rest .0 .0 .0 .1 (at-half-at .half-at .ensures ∙ (sym e ∙ z))) (λ z. at-match .match .rest .0 .0 .1 (at-half-at .half-at .ensures ∙ (sym e ∙ z)))
-          (λ z. at-match .match .rest .0 .1 (at-half-at .half-at .ensures ∙ (sym e ∙ z))) (λ z. at-match .match .rest .1 (at-half-at .half-at .ensures ∙ (sym e ∙ z)))) (at-start .pre .1)),
+          (λ z. at-match .match .rest .0 .0 .0 .0 .0 .0 .0 .1 (at-kind-at .kind-at .ensures ∙ (sym e ∙ z)))
+          (λ z. at-match .match .rest .0 .0 .0 .0 .0 .0 .1 (at-kind-at .kind-at .ensures ∙ (sym e ∙ z)))
+          (λ z. at-match .match .rest .0 .0 .0 .0 .0 .1 (at-kind-at .kind-at .ensures ∙ (sym e ∙ z)))
+          (λ z. at-match .match .rest .0 .0 .0 .0 .1 (at-kind-at .kind-at .ensures ∙ (sym e ∙ z)))
+          (λ z. at-match .match .rest .0 .0 .0 .1 (at-kind-at .kind-at .ensures ∙ (sym e ∙ z))) (λ z. at-match .match .rest .0 .0 .1 (at-kind-at .kind-at .ensures ∙ (sym e ∙ z)))
+          (λ z. at-match .match .rest .0 .1 (at-kind-at .kind-at .ensures ∙ (sym e ∙ z))) (λ z. at-match .match .rest .1 (at-kind-at .kind-at .ensures ∙ (sym e ∙ z)))) (at-start .pre .1)),
     ))
     -- same-length
     (λ c. (c .before .before .before .before .before .before .before .before .block .ensures) .kept .same-env)
@@ -173,8 +176,8 @@ statement-meets t = statement-lts.spec (claims t) (kind-at statement′.Pre t) s
     (λ c.
     let at-block = c .before .before .before .before .before .before .before .before in
     let at-match = at-block .before .before .before .before .before in
-    let at-half-at = at-match .before in
-    answer-as (λ n h e. e ∙ (sym (at-half-at .half-at .ensures) ∙ at-match .match .keys1)) (at-block .block .ensures))
+    let at-kind-at = at-match .before in
+    answer-as (λ n h e. e ∙ (sym (at-kind-at .kind-at .ensures) ∙ at-match .match .keys1)) (at-block .block .ensures))
     -- same-length-5
     (λ c. statement-ends-2 t c .kept .same-ends)
     -- same-length-6
@@ -195,8 +198,8 @@ statement-meets t = statement-lts.spec (claims t) (kind-at statement′.Pre t) s
     (λ c.
     let at-assign = c .before .before .before .before .before .before .before .before in
     let at-match = at-assign .before .before .before .before .before in
-    let at-half-at = at-match .before in
-    answer-as (λ n h e. e ∙ (sym (at-half-at .half-at .ensures) ∙ at-match .match .keys3)) (at-assign .assign .ensures))
+    let at-kind-at = at-match .before in
+    answer-as (λ n h e. e ∙ (sym (at-kind-at .kind-at .ensures) ∙ at-match .match .keys3)) (at-assign .assign .ensures))
     -- same-length-12
     (λ c. (c .before .before .before .before .before .before .before .before .when .ensures) .kept .same-env)
     -- same-length-13
@@ -209,8 +212,8 @@ statement-meets t = statement-lts.spec (claims t) (kind-at statement′.Pre t) s
     (λ c.
     let at-when = c .before .before .before .before .before .before .before .before in
     let at-match = at-when .before .before .before .before .before in
-    let at-half-at = at-match .before in
-    answer-as (λ n h e. e ∙ (sym (at-half-at .half-at .ensures) ∙ at-match .match .keys4)) (at-when .when .ensures))
+    let at-kind-at = at-match .before in
+    answer-as (λ n h e. e ∙ (sym (at-kind-at .kind-at .ensures) ∙ at-match .match .keys4)) (at-when .when .ensures))
     -- same-length-16
     (λ c. (c .before .before .before .before .before .before .before .before .choose .ensures) .kept .same-env)
     -- same-length-17
@@ -223,8 +226,8 @@ statement-meets t = statement-lts.spec (claims t) (kind-at statement′.Pre t) s
     (λ c.
     let at-choose = c .before .before .before .before .before .before .before .before in
     let at-match = at-choose .before .before .before .before .before in
-    let at-half-at = at-match .before in
-    answer-as (λ n h e. e ∙ (sym (at-half-at .half-at .ensures) ∙ at-match .match .keys5)) (at-choose .choose .ensures))
+    let at-kind-at = at-match .before in
+    answer-as (λ n h e. e ∙ (sym (at-kind-at .kind-at .ensures) ∙ at-match .match .keys5)) (at-choose .choose .ensures))
     -- same-length-20
     (λ c. (c .before .before .before .before .before .before .before .before .repeat .ensures) .kept .same-env)
     -- same-length-21
@@ -237,8 +240,8 @@ statement-meets t = statement-lts.spec (claims t) (kind-at statement′.Pre t) s
     (λ c.
     let at-repeat = c .before .before .before .before .before .before .before .before in
     let at-match = at-repeat .before .before .before .before .before in
-    let at-half-at = at-match .before in
-    answer-as (λ n h e. e ∙ (sym (at-half-at .half-at .ensures) ∙ at-match .match .keys6)) (at-repeat .repeat .ensures))
+    let at-kind-at = at-match .before in
+    answer-as (λ n h e. e ∙ (sym (at-kind-at .kind-at .ensures) ∙ at-match .match .keys6)) (at-repeat .repeat .ensures))
     -- same-length-24
     (λ c. statement-ends-7 t c .kept .same-env)
     -- same-length-25
@@ -261,8 +264,8 @@ statement-meets t = statement-lts.spec (claims t) (kind-at statement′.Pre t) s
     (λ c.
     let at-select = c .before .before .before .before .before .before .before .before in
     let at-match = at-select .before .before .before .before .before in
-    let at-half-at = at-match .before in
-    answer-as (λ n h e. e ∙ (sym (at-half-at .half-at .ensures) ∙ at-match .match .keys8)) (at-select .select .ensures))
+    let at-kind-at = at-match .before in
+    answer-as (λ n h e. e ∙ (sym (at-kind-at .kind-at .ensures) ∙ at-match .match .keys8)) (at-select .select .ensures))
     -- same-length-32
     (λ c. (c .before .before .before .before .before .before .before .before .simple .ensures) .kept .same-env)
     -- same-length-33
@@ -275,11 +278,11 @@ statement-meets t = statement-lts.spec (claims t) (kind-at statement′.Pre t) s
     (λ c.
     let at-simple = c .before .before .before .before .before .before .before .before in
     let at-match = at-simple .before .before .before .before .before .before in
-    let at-half-at = at-match .before in
-    answer-as (λ n h e. simple-stmt n h (λ z. at-match .match .rest .0 .0 .0 .0 .0 .0 .0 .1 (at-half-at .half-at .ensures ∙ (sym e ∙ z)))
-    (λ z. at-match .match .rest .0 .0 .0 .0 .0 .0 .1 (at-half-at .half-at .ensures ∙ (sym e ∙ z)))
-    (λ z. at-match .match .rest .0 .0 .0 .0 .0 .1 (at-half-at .half-at .ensures ∙ (sym e ∙ z)))
-    (λ z. at-match .match .rest .0 .0 .0 .0 .1 (at-half-at .half-at .ensures ∙ (sym e ∙ z)))
-    (λ z. at-match .match .rest .0 .0 .0 .1 (at-half-at .half-at .ensures ∙ (sym e ∙ z))) (λ z. at-match .match .rest .0 .0 .1 (at-half-at .half-at .ensures ∙ (sym e ∙ z)))
-    (λ z. at-match .match .rest .0 .1 (at-half-at .half-at .ensures ∙ (sym e ∙ z))) (λ z. at-match .match .rest .1 (at-half-at .half-at .ensures ∙ (sym e ∙ z))))
+    let at-kind-at = at-match .before in
+    answer-as (λ n h e. simple-stmt n h (λ z. at-match .match .rest .0 .0 .0 .0 .0 .0 .0 .1 (at-kind-at .kind-at .ensures ∙ (sym e ∙ z)))
+    (λ z. at-match .match .rest .0 .0 .0 .0 .0 .0 .1 (at-kind-at .kind-at .ensures ∙ (sym e ∙ z)))
+    (λ z. at-match .match .rest .0 .0 .0 .0 .0 .1 (at-kind-at .kind-at .ensures ∙ (sym e ∙ z)))
+    (λ z. at-match .match .rest .0 .0 .0 .0 .1 (at-kind-at .kind-at .ensures ∙ (sym e ∙ z)))
+    (λ z. at-match .match .rest .0 .0 .0 .1 (at-kind-at .kind-at .ensures ∙ (sym e ∙ z))) (λ z. at-match .match .rest .0 .0 .1 (at-kind-at .kind-at .ensures ∙ (sym e ∙ z)))
+    (λ z. at-match .match .rest .0 .1 (at-kind-at .kind-at .ensures ∙ (sym e ∙ z))) (λ z. at-match .match .rest .1 (at-kind-at .kind-at .ensures ∙ (sym e ∙ z))))
     (answers-anew _ (at-simple .simple .ensures)))
