@@ -1,4 +1,4 @@
--- The types found at an address name classes that are index-below, where those written in the macro do; so Sized asks nothing more of a macro
+-- The types found at an address name classes that are there, where those written in the macro do; so Sized asks nothing more of a macro
 -- than what is read of it and the limits of the states found.
 use mathlib.Core.Path.{_≡_, refl}
 use mathlib.Core.Bool.{Bool, true, false}

@@ -27,7 +27,7 @@ use Rattle.logic.specs.ListLaws.{each-all, each-end, index-below}
 use Rattle.bytecode_laws.specs.Terms.{Named}
 use Rattle.values.specs.Identical.{sames→≡, length-types}
 
--- types that name classes that are index-below
+-- types that name classes that are there
 abbrev pub AllNamed : Macro → List Ty → Type 0
 AllNamed m ts = Each (Named (length (m .classes))) ts
 

@@ -1,4 +1,4 @@
--- What each op asks, where it is the next: from index-below being a next step, and from the loading check's promise.
+-- What each op asks, where it is the next: from there being a next step, and from the loading check's promise.
 use mathlib.Core.Path.{_≡_, refl, sym, ap, _∙_, subst}
 use mathlib.Core.Bool.{Bool, true, false}
 use mathlib.Core.List.{List, [], _∷_, _++_, map}
