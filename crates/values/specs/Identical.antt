@@ -49,7 +49,7 @@ sames→≡ (t ∷ ts) (u ∷ us) h = go (same t u) refl h (sames→≡ ts us)
     go true e k rest = ap₂ (λ x xs. x ∷ xs) (same→≡ t u e) (rest k)
     go false e k rest = let z : _≡_ {A = ℕ} 0 1 = cc k in absurd (omega arith)
 
--- for now what fits a place is of its very type: all that turns on it goes through these two
+-- what fits a place is of its very type (DECISIONS, D25): all that turns on it goes through these two
 pub fits→≡ : (t u : Ty) → fits t u ≡ true → t ≡ u
 fits→≡ = same→≡
 
