@@ -10,6 +10,7 @@ use Rattle.bytecode.specs.Sound.{soundValue, soundActivation, soundWaiti
 use Rattle.bytecode.specs.State.{zeros, pad, flat, activationBytes, recordBytes, headerBytes, stateBytes, encode, readValue, readCell, readRow, readActivation}
 use Rattle.bytecode.specs.State.{readActivations, readRecord, readRecords, readRunning, readUnwinding, decode}
 use Rattle.bytecode.specs.Lent.{soundState, startOn, runOn}
+use Rattle.bytecode.specs.Play.{playFrom, playOn}
 
 unfoldable pub bytecodeComputes : Unit {0}
 unfolding tyOfByte readTypes readClass readResult readBody readCode shapeIn readShape orUnread records onward headReads readEnd parseMacro readMacro
@@ -17,4 +18,5 @@ unfolding tyOfByte readTypes readClass readResult readBody readCode shapeIn read
     putLowest doLoad doStore doOperate doGoUnless popMany assignAll doCall doReturn doEnd doMake doGetField doPutField doSet doFader doTakeHold
     doAssert act fetch step steps run runs all soundValue soundActivation soundWaiting sound zeros pad flat activationBytes recordBytes headerBytes
     stateBytes encode readValue readCell readRow readActivation readActivations readRecord readRecords readRunning readUnwinding decode soundState startOn runOn
+    playFrom playOn
 bytecodeComputes = tt

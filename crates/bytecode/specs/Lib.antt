@@ -8,4 +8,5 @@ pub mod Sound
 pub mod State
 pub mod Lent
 pub mod Answers
+pub mod Play
 pub mod Computes
