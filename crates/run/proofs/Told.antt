@@ -24,7 +24,8 @@ use Rattle.state_write.specs.Clearing.{Encodes}
 use Rattle.machine_run.specs.Held.{Found, Answers, Runs}
 use Rattle.machine_run.specs.Held as machine
 use Rattle.machine_run.specs.declared.Answer as machine-answer
-use Rattle.run.specs.Answers.{answerOf, ranOf, back-event}
+use Rattle.packing.specs.Events.{back-event}
+use Rattle.run.specs.Answers.{answerOf, ranOf}
 use Rattle.run.specs.Fields.{state-sound}
 use Rattle.run.specs.Order.{Seen}
 
@@ -67,7 +68,7 @@ module _ (c l readings : List ℕ) (allowance : ℕ) where
     abbrev ran : Ran
     ran = run (H .macro) readings allowance (H .state)
 
-    run-held : runOn c l readings allowance ≡ written (ran .answer) (ran .state) l
+    pub run-held : runOn c l readings allowance ≡ written (ran .answer) (ran .state) l
     unfolding runOn
     run-held = rw (H .passes, H .sound)
 
@@ -91,15 +92,10 @@ module _ (c l readings : List ℕ) (allowance : ℕ) where
         let x = R (h .macro) (h .reads) (h .passed) (h .state) (h .sounds) (h .bytes) in
         run-held ∙ ends-in (ran .answer) (ran .state) k o (x .answer) (x .bytes)
 
-  -- ── 10 before 11: u is the number of the one, v of the other, n of the first ──
-  module _ (bodies classes : List ℕ) (base : ℕ) where
-    ordered : (s t : Bool) (u v n : ℕ) → u ≡ cond s 0 10 → v ≡ cond t 0 11 → n ≡ cond (eqb u 0) v u → n ≡ cond s (cond t 0 11) 10
-    ordered true t u v n eu ev en = en ∙ rw (eu, ev)
-    ordered false t u v n eu ev en = en ∙ rw eu
-
-    pub refused-first : (s : Bool) → Seen c l bodies classes base s → (u v n : ℕ) → u ≡ cond s 0 10 → v ≡ cond (eqb (length readings) 64) 0 11 → n ≡ cond (eqb u 0) v u → (n ≡ 0 → ⊥)
-        → runOn c l readings allowance ≡ record { answer = refuses (refusal n 0); bytes = l }
-    refused-first s S u v n eu ev en some = go s S (eqb (length readings) 64) refl (ordered s (eqb (length readings) 64) u v n eu ev en)
+  -- ── 10 before 11: n is the number of the first that refuses, 0 where none does ──
+  module _ (bodies classes : List ℕ) (base : ℕ) (s : Bool) (S : Seen c l bodies classes base s) (n : ℕ) (first : n ≡ cond s (cond (eqb (length readings) 64) 0 11) 10) where
+    pub refused-first : (n ≡ 0 → ⊥) → runOn c l readings allowance ≡ record { answer = refuses (refusal n 0); bytes = l }
+    refused-first some = go s S (eqb (length readings) 64) refl first
       where
         go : (s : Bool) → Seen c l bodies classes base s → (t : Bool) → eqb (length readings) 64 ≡ t → n ≡ cond s (cond t 0 11) 10
             → runOn c l readings allowance ≡ record { answer = refuses (refusal n 0); bytes = l }
@@ -107,11 +103,15 @@ module _ (c l readings : List ℕ) (allowance : ℕ) where
         go true S false e h = rw h (run-unread (S .0) (eqb-false _ _ e))
         go false S t e h = rw h (run-unsound S)
 
-    pub none-first : (s : Bool) → Seen c l bodies classes base s → (u v n : ℕ) → u ≡ cond s 0 10 → v ≡ cond (eqb (length readings) 64) 0 11 → n ≡ cond (eqb u 0) v u → n ≡ 0
-        → (Held c l × Placed c bodies classes base) × (length readings ≡ 64)
-    none-first s S u v n eu ev en none = go s S (eqb (length readings) 64) refl (ordered s (eqb (length readings) 64) u v n eu ev en)
+    pub none-first : n ≡ 0 → (Held c l × Placed c bodies classes base) × (length readings ≡ 64)
+    none-first none = go s S (eqb (length readings) 64) refl first
       where
         go : (s : Bool) → Seen c l bodies classes base s → (t : Bool) → eqb (length readings) 64 ≡ t → n ≡ cond s (cond t 0 11) 10 → (Held c l × Placed c bodies classes base) × (length readings ≡ 64)
         go true S true e h = (S, eqb-true _ _ e)
         go true S false e h = absurd (omega arith)
         go false S t e h = absurd (omega arith)
+
+-- u is the number of the one, v of the other
+pub ordered : (s t : Bool) (u v n : ℕ) → u ≡ cond s 0 10 → v ≡ cond t 0 11 → n ≡ cond (eqb u 0) v u → n ≡ cond s (cond t 0 11) 10
+ordered true t u v n eu ev en = en ∙ rw (eu, ev)
+ordered false t u v n eu ev en = en ∙ rw eu

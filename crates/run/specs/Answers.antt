@@ -2,17 +2,18 @@
 use mathlib.Core.Path.{_≡_, refl, sym, ap, _∙_}
 use Rattle.values.specs.Ends.{Judged, accepted, refused}
 use Rattle.values.specs.Refusals.{inCode, refusalOf}
-use Rattle.values.specs.Trace as trace
 use Rattle.bytecode.specs.Runs.{Answer, happens, spends, finishes, refuses, halts}
-use Rattle.machine_ops.specs.declared.Event.{Event}
-use Rattle.machine_ops.specs.declared.Event.the-variants.{Set, Hold, Release}
+use Rattle.bytecode.specs.Answers.{Numbers, numbers, refusalNumbers}
 use Rattle.machine_ops.specs.Acts.{eventOf}
+use Rattle.packing.specs.Events.{eventBack, event-back}
 use Rattle.machine_run.specs.declared.Answer as machine
 use Rattle.machine_run.specs.declared.Answer.the-variants as machine-gives
 use Rattle.run.specs.declared.Started.{Started}
 use Rattle.run.specs.declared.Started.the-variants.{Fresh, Refused as Declined}
 use Rattle.run.specs.declared.Ran.{Ran}
 use Rattle.run.specs.declared.Ran.the-variants.{Happens, Spends, Finishes, Refused}
+use Rattle.run.specs.declared.Played.{Played}
+use Rattle.run.specs.declared.Played.the-variants as plays
 
 -- a start's verdict
 abbrev pub verdictOf : Started → Judged (Unit {0})
@@ -20,11 +21,6 @@ verdictOf Fresh = accepted tt
 verdictOf (Declined r) = refused (refusalOf r)
 
 -- a run's answer
-abbrev pub eventBack : Event → trace.Event
-eventBack (Set c v) = trace.set c v
-eventBack (Hold g) = trace.hold g
-eventBack (Release g) = trace.release g
-
 abbrev pub answerOf : Ran → Answer
 answerOf (Happens e n) = happens (eventBack e) n
 answerOf (Spends n) = spends n
@@ -37,6 +33,13 @@ ranOf (machine-gives.Happens e n) = Happens e n
 ranOf (machine-gives.Spends n) = Spends n
 ranOf (machine-gives.Finishes c n) = Finishes c n
 
+-- a play's
+abbrev pub playNumbers : Played → Numbers
+playNumbers (plays.Spends n k) = numbers 2 n 0 k
+playNumbers (plays.Finishes c n k) = numbers 3 n c k
+playNumbers (plays.Fills n k) = numbers 8 n 0 k
+playNumbers (plays.Refused r) = refusalNumbers (refusalOf r)
+
 -- ── and back ──
 abbrev startedBack : Judged (Unit {0}) → Started
 startedBack (accepted x) = Fresh
@@ -48,16 +51,6 @@ started-back (Declined r) = refl
 
 pub verdict-injective : (a b : Started) → verdictOf a ≡ verdictOf b → a ≡ b
 verdict-injective a b e = sym (started-back a) ∙ ap startedBack e ∙ started-back b
-
-event-back : (e : Event) → eventOf (eventBack e) ≡ e
-event-back (Set c v) = refl
-event-back (Hold g) = refl
-event-back (Release g) = refl
-
-pub back-event : (e : trace.Event) → eventBack (eventOf e) ≡ e
-back-event (trace.set c v) = refl
-back-event (trace.hold g) = refl
-back-event (trace.release g) = refl
 
 -- no run answers a halt, so any answer serves for it
 abbrev ranBack : Answer → Ran

@@ -1,8 +1,10 @@
-// Start and run on lent bytes: any macro, any bytes of a state, any readings. A refusal writes nothing.
+// Start, run and play on lent bytes: any macro, any bytes of a state, any readings. A refusal writes nothing.
+mod plays;
 mod runs;
 mod starts;
 
 use machine_ops::Event;
+pub use plays::play;
 pub use runs::run;
 pub use starts::start;
 use values::Refusal;
@@ -18,5 +20,13 @@ pub enum Ran {
     Happens(Event, u16),
     Spends(u16),
     Finishes(u8, u16),
+    Refused(Refusal),
+}
+
+// With all steps taken and the events written: the allowance used, an end by 0 or a condition, no room for another event; or the play is refused.
+pub enum Played {
+    Spends(u16, u16),
+    Finishes(u8, u16, u16),
+    Fills(u16, u16),
     Refused(Refusal),
 }

@@ -7,6 +7,7 @@ use values::Refusal;
 ghost use mathlib.Core.Path.{_≡_};
 ghost use mathlib.Core.Bool.{cond};
 ghost use lib.Dec.{eqb};
+ghost use lib.ListN.{length};
 ghost use Rattle.bytecode.specs.Lent.{runOn};
 ghost use Rattle.run.specs.Answers.{answerOf, ranOf};
 ghost use Rattle.run.specs.Order.{Seen};
@@ -35,6 +36,15 @@ fn first_of(a: u8, b: u8) -> u8
     if a == 0 { b } else { a }
 }
 
+// What a run refuses of a macro that passes: 10, then 11; 0 is none.
+pub fn refusal_of(sound: bool, readings: &[u8]) -> u8
+    ensures { λ r. ⌜ r ≡ cond sound (cond (eqb (length (now (readings .entry))) 64) 0 11) 10 ⌝ }
+{
+    let unsound = refusal_unless(sound, 10);
+    let unread = refusal_unless(readings.len() == FADERS, 11);
+    first_of(unsound, unread)
+}
+
 // Of a macro that passes. What a sound state does not use is made 0 first, so that the bytes after the run are those of the state alone.
 fn run_passed(
     code: &[u8],
@@ -49,9 +59,7 @@ fn run_passed(
     requires { ⌜ Seen (now code) (now state) (now bodies) (now classes) base sound ⌝ }
     ensures { λ r. ⌜ runOn (now (code .entry)) (now (state .entry)) (now (readings .entry)) allowance ≡ record { answer = answerOf r; bytes = now (state .exit) } ⌝ }
 {
-    let unsound = refusal_unless(sound, 10);
-    let unread = refusal_unless(readings.len() == FADERS, 11);
-    let number = first_of(unsound, unread);
+    let number = refusal_of(sound, readings);
     if number != 0 {
         return Ran::Refused(Refusal { number, place: 0 });
     }

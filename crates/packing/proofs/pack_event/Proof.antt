@@ -1,7 +1,7 @@
--- `desk::lent::pack_event` meets its contract. Assumes nothing.
+-- `packing::pack_event` meets its contract. Assumes nothing.
 use borrow.Author.Needs.{needs}
-use Rattle.desk.proofs.lent.pack_event.Statement.{statement}
-use Rattle.desk.proofs.lent.pack_event.Tie as tie
+use Rattle.packing.proofs.pack_event.Statement.{statement}
+use Rattle.packing.proofs.pack_event.Tie as tie
 
 returns : tie.Need-returns
 returns c = rw (c .before .before .e .given .1) (c .pack .ensures)

@@ -1,0 +1,116 @@
+// The play: 8, 9, 10, 11 in this order, tested once; then as many runs as fit, each event's answer packed into the bytes lent for it.
+use crate::Played;
+use crate::runs::refusal_of;
+use formats::limits::*;
+use machine_run::Answer;
+use packing::ANSWER_BYTES;
+use state_check::Inspected;
+use values::Refusal;
+ghost use mathlib.Core.Path.{_≡_};
+ghost use Prim.Native.Nat.{_/_};
+ghost use lib.ListN.{length};
+ghost use Rattle.machine_run.specs.Held.{Found};
+ghost use Rattle.bytecode.specs.Play.{played, playFrom, playOn};
+ghost use Rattle.run.specs.Answers.{playNumbers};
+ghost use Rattle.run.specs.Order.{Seen, Standing};
+
+// From a state's own bytes.
+fn play_sound(
+    code: &[u8],
+    bodies: &[u32],
+    classes: &[u32],
+    base: usize,
+    state: &mut [u8],
+    readings: &[u8],
+    allowance: u16,
+    answers: &mut [u8],
+) -> Played
+    requires { ⌜ (Found (now code) (now bodies) (now classes) base) × (Standing (now code) (now state)) × (length (now readings) ≡ 64) ⌝ }
+    ensures { λ r. ⌜ playFrom (now (code .entry)) (now (readings .entry)) allowance (length (now (answers .entry)) / 8) 0 0 (now (state .entry)) (now (answers .entry))
+        ≡ played (playNumbers r) (now (state .exit)) (now (answers .exit)) ⌝ }
+{
+    let room = answers.len() / ANSWER_BYTES;
+    let mut taken: u16 = 0;
+    let mut events: u16 = 0;
+    while (events as usize) < room {
+        let left = allowance - taken;
+        match machine_run::run_sound(code, bodies, classes, base, state, readings, left) {
+            Answer::Happens(e, n) => {
+                let answer = packing::pack_event(e, n);
+                packing::put_answer(answers, ANSWER_BYTES * (events as usize), answer);
+                taken += n;
+                events += 1;
+            }
+            Answer::Spends(n) => {
+                return Played::Spends(taken + n, events);
+            }
+            Answer::Finishes(c, n) => {
+                return Played::Finishes(c, taken + n, events);
+            }
+        }
+    }
+    Played::Fills(taken, events)
+}
+
+// Of a macro that passes. Without room for an event no run is made, and the state's bytes stay as they are.
+fn play_passed(
+    code: &[u8],
+    bodies: &[u32],
+    classes: &[u32],
+    base: usize,
+    sound: bool,
+    state: &mut [u8],
+    readings: &[u8],
+    allowance: u16,
+    answers: &mut [u8],
+) -> Played
+    requires { ⌜ Seen (now code) (now state) (now bodies) (now classes) base sound ⌝ }
+    ensures { λ r. ⌜ playOn (now (code .entry)) (now (state .entry)) (now (readings .entry)) allowance (now (answers .entry))
+        ≡ played (playNumbers r) (now (state .exit)) (now (answers .exit)) ⌝ }
+{
+    let number = refusal_of(sound, readings);
+    if number != 0 {
+        return Played::Refused(Refusal { number, place: 0 });
+    }
+    if answers.len() < ANSWER_BYTES {
+        return Played::Fills(0, 0);
+    }
+    state_write::clear(code, bodies, classes, state);
+    play_sound(code, bodies, classes, base, state, readings, allowance, answers)
+}
+
+pub fn play(code: &[u8], state: &mut [u8], readings: &[u8], allowance: u16, answers: &mut [u8]) -> Played
+    ensures { λ r. ⌜ playOn (now (code .entry)) (now (state .entry)) (now (readings .entry)) allowance (now (answers .entry))
+        ≡ played (playNumbers r) (now (state .exit)) (now (answers .exit)) ⌝ }
+{
+    let mut bodies = [0u32; MAX_BODIES];
+    let mut classes = [0u32; MAX_CLASSES];
+    match state_check::inspect(code, state, &mut bodies, &mut classes) {
+        Inspected::Refused(number, place) => Played::Refused(Refusal {
+            number: number as u8,
+            place: place as u32,
+        }),
+        Inspected::Unsound => play_passed(
+            code,
+            &bodies,
+            &classes,
+            0,
+            false,
+            state,
+            readings,
+            allowance,
+            answers,
+        ),
+        Inspected::Sound(base) => play_passed(
+            code,
+            &bodies,
+            &classes,
+            base,
+            true,
+            state,
+            readings,
+            allowance,
+            answers,
+        ),
+    }
+}
