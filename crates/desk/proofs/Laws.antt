@@ -12,6 +12,7 @@ use Rattle.language.specs.Judge.{judgeTable, compileOn}
 use Rattle.bytecode.specs.Macro.{Macro}
 use Rattle.bytecode.specs.Rules.{judgeMacro}
 use Rattle.bytecode.specs.Lent.{startOn, runOn}
+use Rattle.bytecode.specs.Play.{playOn}
 use Rattle.bytecode.specs.Answers.{Numbers, doneNumbers, refusalNumbers, verdictNumbers, answerNumbers, packed}
 use Rattle.compile_code.specs.Encode.{macroOf}
 use Rattle.compile.specs.Verdict.{verdictOf as compiledOf}
@@ -24,12 +25,16 @@ use Rattle.table_check.specs.declared.Checked.the-variants.{Accepted, Refused a
 use Rattle.load_check.specs.Loaded.{loadedOf, fields}
 use Rattle.load_check.specs.declared.Loaded.{Loaded}
 use Rattle.load_check.specs.declared.Loaded.the-variants.{Passes, Refused}
-use Rattle.run.specs.Answers.{verdictOf, answerOf}
+use Rattle.packing.specs.Packing.{Fits}
+use Rattle.run.specs.Answers.{verdictOf, answerOf, playNumbers}
 use Rattle.run.specs.Fields.{start-small, run-small}
+use Rattle.run.specs.Plays.{play-fits}
 use Rattle.run.specs.declared.Started.{Started}
 use Rattle.run.specs.declared.Started.the-variants.{Refused as Declined}
 use Rattle.run.specs.declared.Ran.{Ran}
 use Rattle.run.specs.declared.Ran.the-variants.{Refused as Unrun}
+use Rattle.run.specs.declared.Played.{Played}
+use Rattle.run.specs.declared.Played.the-variants.{Refused as Unplayed}
 
 -- ── the table check ──
 abbrev checkedNumbers : Checked → Numbers
@@ -79,6 +84,18 @@ module _ (c l readings : List ℕ) (allowance : ℕ) (k : List ℕ) (a : Ran) (e
 
   pub ran-small : Bytes c → Bytes readings → (r : Refusal) → a ≡ Unrun r → r .place < 16777216
   ran-small B R r d = run-small c B l readings allowance R (refusalOf r) (rw (e, d)) .1
+
+-- ── the play ──
+module _ (c l readings : List ℕ) (allowance : ℕ) (answers k b : List ℕ) (a : Played)
+    (e : playOn c l readings allowance answers ≡ record { answer = playNumbers a; state = k; answers = b }) where
+  pub plays : (v : Played) → a ≡ v → (r : ℕ) → r ≡ packed (playNumbers v)
+      → let p = playOn c l readings allowance answers in (r ≡ packed (p .answer)) × (k ≡ p .state) × (b ≡ p .answers)
+  plays v d r h = rw (e, d) (h, refl, refl)
+
+  pub play-small : Bytes c → Bytes readings → allowance < 65536 → (r : Refusal) → a ≡ Unplayed r → r .place < 16777216
+  play-small B R w r d =
+      let f : Fits (playNumbers (Unplayed r)) = rw (e, d) at (play-fits c readings B R allowance w l answers) in
+      f .second-fits
 
 -- ── the compiler ──
 module _ (l out k : List ℕ) (a : Compiled) (e : compileOn macroOf l out ≡ record { verdict = compiledOf a; bytes = k }) where

@@ -1,5 +1,5 @@
 -- A list of calls in the numbers that C sees: cue_start, and then a cue_run for each feed, on the bytes that the call before it left.
--- cueStart and cueRun are what the contracts of cue_start and cue_run say (src/lent.rt).
+-- cueStart, cueRun and cuePlay are what the contracts of cue_start, cue_run and cue_play say (src/lent.rt).
 use mathlib.Core.Path.{_≡_, refl, ap, _∙_}
 use mathlib.Core.List.{List, [], _∷_, map}
 use Prim.Native.Nat.{ℕ, _%_}
@@ -14,6 +14,7 @@ use Rattle.bytecode.specs.Machine.{freshMachine}
 use Rattle.bytecode.specs.Runs.{Answer, happens, spends, finishes, refuses, halts, Ran, Feed, runs}
 use Rattle.bytecode.specs.State.{stateLength, encode}
 use Rattle.bytecode.specs.Lent.{RanOn, startOn, runOn}
+use Rattle.bytecode.specs.Play.{playOn}
 use Rattle.bytecode.specs.Answers.{verdictNumbers, answerNumbers, packed}
 use Rattle.logic.specs.Lists.{Each}
 use Rattle.bytecode_laws.specs.Promises.{passed}
@@ -35,6 +36,17 @@ feed readings allowance = record { readings = readings; allowance = allowance }
 
 abbrev pub cueRun : List ℕ → List ℕ → Feed → Seen
 cueRun code state f = let r = runOn code state (f .readings) (f .allowance) in record { answer = packed (answerNumbers (r .answer)); state = r .bytes }
+
+-- of a play also the bytes lent for the events' answers
+pub record SeenPlay : Type 0 where
+  pub answer : ℕ
+  pub state : List ℕ
+  pub answers : List ℕ
+
+abbrev pub cuePlay : List ℕ → List ℕ → Feed → List ℕ → SeenPlay
+cuePlay code state f answers =
+    let p = playOn code state (f .readings) (f .allowance) answers in
+    record { answer = packed (p .answer); state = p .state; answers = p .answers }
 
 unfoldable pub cueRuns : List ℕ → List ℕ → List Feed → List Seen
 cueRuns code state [] = []

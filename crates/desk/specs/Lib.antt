@@ -1,4 +1,3 @@
-pub mod Packing
 pub mod Compiled
 pub mod Told
 pub mod Calls

@@ -20,7 +20,7 @@ use Rattle.run.specs.Fields.{Small, Ranged, judged-small, start-small, run-rang
 use Rattle.logic.specs.Choice.{if_then_else_}
 use Rattle.compile_code.specs.Encode.{macroOf}
 use Rattle.desk.specs.Compiled.{compiledNumbers, Short, short}
-use Rattle.desk.specs.Packing.{Fits, packed-injective, bare, verdicts-differ, Told, answers-differ}
+use Rattle.packing.specs.Packing.{Fits, packed-injective, bare, verdicts-differ, Told, answers-differ}
 
 -- ── runs ──
 low-end : (c : ℕ) → (c ≡ 0) ⊎ (isCondition c ≡ true) → c < 65536

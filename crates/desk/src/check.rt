@@ -1,6 +1,6 @@
 // The table check.
-use crate::pack;
-use crate::pack_refusal;
+use packing::pack;
+use packing::pack_refusal;
 use table_check::Checked;
 ghost use mathlib.Core.Path.{_≡_};
 ghost use Rattle.language.specs.Judge.{judgeTable};

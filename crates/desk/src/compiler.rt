@@ -1,7 +1,7 @@
 // The compiler, into bytes that C lends.
-use crate::pack;
-use crate::pack_refusal;
 use compile::Compiled;
+use packing::pack;
+use packing::pack_refusal;
 ghost use mathlib.Core.Path.{_≡_};
 ghost use Rattle.language.specs.Judge.{compileOn};
 ghost use Rattle.bytecode.specs.Answers.{packed};

@@ -1,23 +1,12 @@
-// Start and run, on a state's bytes that C lends.
-use crate::pack;
-use crate::pack_refusal;
-use machine_ops::Event;
+// Start, run and play, on a state's bytes that C lends.
+use packing::pack;
+use packing::pack_event;
+use packing::pack_refusal;
+use run::Played;
 use run::Ran;
 use run::Started;
 ghost use mathlib.Core.Path.{_≡_};
-ghost use Rattle.bytecode.specs.Answers.{packed, eventNumbers};
-ghost use Rattle.desk.specs.Calls.{feed, cueStart, cueRun};
-ghost use Rattle.run.specs.Answers.{eventBack};
-
-fn pack_event(e: Event, steps: u16) -> u64
-    ensures { λ r. ⌜ r ≡ packed (eventNumbers (eventBack e) steps) ⌝ }
-{
-    match e {
-        Event::Set(channel, level) => pack(4, steps as u64, channel as u64, level as u64),
-        Event::Hold(group) => pack(5, steps as u64, group as u64, 0),
-        Event::Release(group) => pack(6, steps as u64, group as u64, 0),
-    }
-}
+ghost use Rattle.desk.specs.Calls.{feed, cueStart, cueRun, cuePlay};
 
 // The fresh state of a macro.
 #[no_mangle]
@@ -41,5 +30,26 @@ pub extern "C" fn cue_run(code: &[u8], state: &mut [u8], readings: &[u8], allowa
         Ran::Spends(steps) => pack(2, steps as u64, 0, 0),
         Ran::Finishes(end, steps) => pack(3, steps as u64, end as u64, 0),
         Ran::Refused(refusal) => pack_refusal(refusal),
+    }
+}
+
+// As many runs as fit, tested once: each event's answer, as cue_run gives it, in eight bytes of `answers`.
+#[no_mangle]
+pub extern "C" fn cue_play(
+    code: &[u8],
+    state: &mut [u8],
+    readings: &[u8],
+    allowance: u16,
+    answers: &mut [u8],
+) -> u64
+    ensures { λ r. ⌜ (r ≡ cuePlay (now (code .entry)) (now (state .entry)) (feed (now (readings .entry)) allowance) (now (answers .entry)) .answer)
+        × (now (state .exit) ≡ cuePlay (now (code .entry)) (now (state .entry)) (feed (now (readings .entry)) allowance) (now (answers .entry)) .state)
+        × (now (answers .exit) ≡ cuePlay (now (code .entry)) (now (state .entry)) (feed (now (readings .entry)) allowance) (now (answers .entry)) .answers) ⌝ }
+{
+    match run::play(code, state, readings, allowance, answers) {
+        Played::Spends(steps, events) => pack(2, steps as u64, 0, events as u64),
+        Played::Finishes(end, steps, events) => pack(3, steps as u64, end as u64, events as u64),
+        Played::Fills(steps, events) => pack(8, steps as u64, 0, events as u64),
+        Played::Refused(refusal) => pack_refusal(refusal),
     }
 }

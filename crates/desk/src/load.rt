@@ -1,7 +1,7 @@
 // The loading check.
-use crate::pack;
-use crate::pack_refusal;
 use load_check::Loaded;
+use packing::pack;
+use packing::pack_refusal;
 ghost use mathlib.Core.Path.{_≡_};
 ghost use Rattle.bytecode.specs.Rules.{judgeMacro};
 ghost use Rattle.bytecode.specs.Answers.{packed, verdictNumbers};

@@ -36,50 +36,9 @@ use Rattle.machine_run.specs.declared.Answer as machine-answer
 use Rattle.machine_run.specs.declared.Answer.the-variants.{Happens, Spends, Finishes}
 use Rattle.run.specs.Answers.{answerOf, ranOf}
 use Rattle.run.specs.Fields.{state-sound}
+use Rattle.run.specs.Plays.{Later, run-later}
 use Rattle.run.specs.Order.{Standing}
 use Rattle.run.proofs.Told.{run-held}
-
--- ── an event takes a step ──
-abbrev Later : ℕ → Answer → Type 0
-Later n (happens e k) = n < k
-Later n (spends k) = Unit {0}
-Later n (finishes c k) = Unit {0}
-Later n (refuses r) = Unit {0}
-Later n (halts why) = Unit {0}
-
-later-from : (n : ℕ) (a : Answer) → Later (suc n) a → Later n a
-later-from n (happens e k) h = omega arith
-later-from n (spends k) h = tt
-later-from n (finishes c k) h = tt
-later-from n (refuses r) h = tt
-later-from n (halts why) h = tt
-
--- after a step, where what follows it takes more
-module _ (s : Machine) (n : ℕ) (k : Machine → Ran) (later : (t : Machine) → Later (suc n) (k t .answer)) where
-  unless-ended : (t : Machine) → Later n (ends t (suc n) k .answer)
-  unless-ended (running h f fs) = later-from n (k (running h f fs) .answer) (later (running h f fs))
-  unless-ended (unwinding gs a) = later-from n (k (unwinding gs a) .answer) (later (unwinding gs a))
-  unless-ended (ended c) = tt
-
-  step-later : (x : Stepped) → Later n (afterStep x s (suc n) k .answer)
-  step-later (moved [] t) = unless-ended t
-  step-later (moved (event e ∷ is) t) = omega arith
-  step-later (moved (reading f v ∷ is) t) = unless-ended t
-  step-later (stuck why) = tt
-
-event-steps : (m : Macro) (bank : ℕ → ℕ) (left n : ℕ) (s : Machine) → Later n (steps m bank left n s .answer)
-unfolding steps
-event-steps m bank zero n s = tt
-event-steps m bank (suc left) n s = step-later s n (λ t. steps m bank left (suc n) t) (event-steps m bank left (suc n)) (step m bank s)
-
-run-later : (m : Macro) (readings : List ℕ) (allowance : ℕ) (s : Machine) → length readings ≡ 64 → Later 0 (run m readings allowance s .answer)
-unfolding run
-run-later m readings allowance s h = rw (eq-eqb (length readings) 64 h) (on s)
-  where
-    on : (s : Machine) → Later 0 (ends s 0 (λ t. steps m (bankOf readings) allowance 0 t) .answer)
-    on (running h f fs) = event-steps m (bankOf readings) allowance 0 (running h f fs)
-    on (unwinding gs a) = event-steps m (bankOf readings) allowance 0 (unwinding gs a)
-    on (ended c) = tt
 
 -- ── a run from a state's own bytes ──
 -- the steps of an answer: an event takes one, and none takes more than are left
@@ -127,7 +86,7 @@ module _ (c readings : List ℕ) (B : Bytes c) (R : Bytes readings) (full : leng
       record {
         is = e ∙ named (r .answer) (r .state) o (x .answer) (x .bytes);
         standing = record { macro = m; passes = S .passes; state = r .state; sounds = w .still-sound; bytes = x .bytes };
-        within = within (r .answer) (r .state) o (x .answer) (w .answers) (run-later m readings left (S .state) full);
+        within = within (r .answer) (r .state) o (x .answer) (w .answers) (run-later m readings left (S .state));
       }
     where
       named : (a : Answer) (t : Machine) (o : machine-answer.Answer) → Answers a o → k ≡ encode t
@@ -233,8 +192,7 @@ module _ (c l readings : List ℕ) (allowance : ℕ) (answers : List ℕ) where
         let r = run m readings n (H .state) in
         let f : Feed = record { readings = readings; allowance = n } in
         let w = run-safe m (passed c m B (H .passes)) f R (H .state) (state-sound m l (H .state) (H .sound)) in
-        let e = run-held c l readings n H in
-        (
+        let e = run-held c l readings n H in (
           e ∙ same (r .answer) (r .state) (w .answers) ∙ sym (run-held c own readings n own-held),
           λ p. rw e (goes p (r .answer) (r .state) (w .answers)),
         )

@@ -76,10 +76,25 @@ fn play_passed(
         return Played::Fills(0, 0);
     }
     state_write::clear(code, bodies, classes, state);
-    play_sound(code, bodies, classes, base, state, readings, allowance, answers)
+    play_sound(
+        code,
+        bodies,
+        classes,
+        base,
+        state,
+        readings,
+        allowance,
+        answers,
+    )
 }
 
-pub fn play(code: &[u8], state: &mut [u8], readings: &[u8], allowance: u16, answers: &mut [u8]) -> Played
+pub fn play(
+    code: &[u8],
+    state: &mut [u8],
+    readings: &[u8],
+    allowance: u16,
+    answers: &mut [u8],
+) -> Played
     ensures { λ r. ⌜ playOn (now (code .entry)) (now (state .entry)) (now (readings .entry)) allowance (now (answers .entry))
         ≡ played (playNumbers r) (now (state .exit)) (now (answers .exit)) ⌝ }
 {

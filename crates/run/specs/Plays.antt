@@ -1,0 +1,129 @@
+-- The numbers of a play's answer fit the fields that they are packed into.
+use mathlib.Core.Path.{_≡_}
+use mathlib.Core.Bool.{Bool, true, false}
+use mathlib.Core.List.{List, [], _∷_}
+use mathlib.Core.Logic.{_⊎_, inl, inr}
+use mathlib.Core.Option.{Option, none, some}
+use Prim.Native.Nat.{ℕ, zero, suc, _+_, _-_, _/_, _≤_, _<_}
+use native.Mathlib.Omega.{arith}
+use lib.Dec.{eqb}
+use lib.ListN.{length}
+use Rattle.logic.specs.Choice.{if_then_else_}
+use Rattle.words.specs.Laws.{Bytes}
+use Rattle.values.specs.Ends.{refusal, Judged, accepted, refused, isCondition}
+use Rattle.values.specs.Conditions.{condition-byte}
+use Rattle.values.specs.Trace.{event, reading}
+use Rattle.bytecode.specs.Macro.{Macro}
+use Rattle.bytecode.specs.Rules.{judgeMacro}
+use Rattle.bytecode.specs.Machine.{Machine, running, unwinding, ended, Stepped, moved, stuck, step}
+use Rattle.bytecode.specs.Runs.{Answer, happens, spends, finishes, refuses, halts, Ran, with, bankOf, ends, afterStep, steps, run}
+use Rattle.bytecode.specs.Lent.{soundState, written, runState, runMacro, runOn}
+use Rattle.bytecode.specs.Play.{Played, afterRun, playFrom, unlessRefused, playOn}
+use Rattle.packing.specs.Packing.{Fits}
+use Rattle.run.specs.Fields.{Ranged, run-ranged}
+
+-- ── an event takes a step ──
+abbrev pub Later : ℕ → Answer → Type 0
+Later n (happens e k) = n < k
+Later n (spends k) = Unit {0}
+Later n (finishes c k) = Unit {0}
+Later n (refuses r) = Unit {0}
+Later n (halts why) = Unit {0}
+
+later-from : (n : ℕ) (a : Answer) → Later (suc n) a → Later n a
+later-from n (happens e k) h = omega arith
+later-from n (spends k) h = tt
+later-from n (finishes c k) h = tt
+later-from n (refuses r) h = tt
+later-from n (halts why) h = tt
+
+-- after a step, where what follows it takes more
+module _ (s : Machine) (n : ℕ) (k : Machine → Ran) (later : (t : Machine) → Later (suc n) (k t .answer)) where
+  unless-ended : (t : Machine) → Later n (ends t (suc n) k .answer)
+  unless-ended (running h f fs) = later-from n (k (running h f fs) .answer) (later (running h f fs))
+  unless-ended (unwinding gs a) = later-from n (k (unwinding gs a) .answer) (later (unwinding gs a))
+  unless-ended (ended c) = tt
+
+  step-later : (x : Stepped) → Later n (afterStep x s (suc n) k .answer)
+  step-later (moved [] t) = unless-ended t
+  step-later (moved (event e ∷ is) t) = omega arith
+  step-later (moved (reading f v ∷ is) t) = unless-ended t
+  step-later (stuck why) = tt
+
+event-steps : (m : Macro) (bank : ℕ → ℕ) (left n : ℕ) (s : Machine) → Later n (steps m bank left n s .answer)
+unfolding steps
+event-steps m bank zero n s = tt
+event-steps m bank (suc left) n s = step-later s n (λ t. steps m bank left (suc n) t) (event-steps m bank left (suc n)) (step m bank s)
+
+pub run-later : (m : Macro) (readings : List ℕ) (allowance : ℕ) (s : Machine) → Later 0 (run m readings allowance s .answer)
+unfolding run
+run-later m readings allowance s = by (eqb (length readings) 64)
+  where
+    on : (s : Machine) → Later 0 (ends s 0 (λ t. steps m (bankOf readings) allowance 0 t) .answer)
+    on (running h f fs) = event-steps m (bankOf readings) allowance 0 (running h f fs)
+    on (unwinding gs a) = event-steps m (bankOf readings) allowance 0 (unwinding gs a)
+    on (ended c) = tt
+
+    by : (b : Bool) → Later 0 ((if b then ends s 0 (λ t. steps m (bankOf readings) allowance 0 t) else with (refuses (refusal 11 0)) s) .answer)
+    by true = on s
+    by false = tt
+
+written-later : (a : Answer) (t : Machine) (l : List ℕ) → Later 0 a → Later 0 (written a t l .answer)
+written-later (happens e n) t l h = h
+written-later (spends n) t l h = tt
+written-later (finishes c n) t l h = tt
+written-later (refuses r) t l h = tt
+written-later (halts why) t l h = tt
+
+on-bytes-later : (c l readings : List ℕ) (allowance : ℕ) → Later 0 (runOn c l readings allowance .answer)
+unfolding runOn
+on-bytes-later c l readings allowance = judged (judgeMacro c)
+  where
+    from : (m : Macro) (o : Option Machine) → Later 0 (runState o m readings allowance l .answer)
+    from m none = tt
+    from m (some s) = let r = run m readings allowance s in written-later (r .answer) (r .state) l (run-later m readings allowance s)
+
+    judged : (j : Judged Macro) → Later 0 (runMacro j readings allowance l .answer)
+    judged (refused r) = tt
+    judged (accepted m) = from m (soundState m l)
+
+-- ── the fields ──
+low-end : (c : ℕ) → (c ≡ 0) ⊎ (isCondition c ≡ true) → c < 65536
+low-end c (inl e) = omega arith
+low-end c (inr h) = omega (arith, condition-byte c h)
+
+module _ (c readings : List ℕ) (B : Bytes c) (R : Bytes readings) (allowance : ℕ) (h : allowance < 65536) where
+  -- after a run, where what follows it fits: as many steps are taken as there are events, or more
+  after-fits : (a : Answer) (taken events : ℕ) → taken ≤ allowance → events ≤ taken → Ranged (allowance - taken) a → Later 0 a
+      → (state answers : List ℕ) (next : ℕ → List ℕ → Played) → ((n : ℕ) (b : List ℕ) → n ≤ allowance → suc events ≤ n → Fits (next n b .answer))
+      → Fits (afterRun a taken events state answers next .answer)
+  after-fits (happens e n) taken events up few r l state answers next later = later (taken + n) _ (omega (arith, r .0)) (omega arith)
+  after-fits (spends n) taken events up few r l state answers next later =
+      record { tag-fits = omega arith; steps-fit = omega arith; first-fits = omega arith; second-fits = omega arith }
+  after-fits (finishes d n) taken events up few r l state answers next later =
+      record { tag-fits = omega arith; steps-fit = omega (arith, r .0); first-fits = low-end d (r .1); second-fits = omega arith }
+  after-fits (refuses q) taken events up few r l state answers next later =
+      record { tag-fits = omega arith; steps-fit = omega arith; first-fits = omega (arith, r .0); second-fits = r .1 }
+  after-fits (halts why) taken events up few r l state answers next later = absurd r
+
+  from-fits : (room taken events : ℕ) → taken ≤ allowance → events ≤ taken → (l a : List ℕ) → Fits (playFrom c readings allowance room taken events l a .answer)
+  unfolding playFrom
+  from-fits zero taken events up few l a = record { tag-fits = omega arith; steps-fit = omega arith; first-fits = omega arith; second-fits = omega arith }
+  from-fits (suc room) taken events up few l a =
+      let r = runOn c l readings (allowance - taken) in
+      after-fits (r .answer) taken events up few (run-ranged c B l readings (allowance - taken) R) (on-bytes-later c l readings (allowance - taken)) (r .bytes) a
+      (λ n b. playFrom c readings allowance room n (suc events) (r .bytes) b) (λ n b u f. from-fits room n (suc events) u f (r .bytes) b)
+
+  pub play-fits : (l answers : List ℕ) → Fits (playOn c l readings allowance answers .answer)
+  unfolding playOn
+  play-fits l answers = by (runOn c l readings 0 .answer) (run-ranged c B l readings 0 R)
+    where
+      p : Fits (playFrom c readings allowance (length answers / 8) 0 0 l answers .answer)
+      p = from-fits (length answers / 8) 0 0 (omega arith) (omega arith) l answers
+
+      by : (a : Answer) → Ranged 0 a → Fits (unlessRefused a l answers (playFrom c readings allowance (length answers / 8) 0 0 l answers) .answer)
+      by (refuses q) r = record { tag-fits = omega arith; steps-fit = omega arith; first-fits = omega (arith, r .0); second-fits = r .1 }
+      by (happens e n) r = p
+      by (spends n) r = p
+      by (finishes d n) r = p
+      by (halts why) r = p
