@@ -4,20 +4,21 @@
  * the length is 0), to be read and, where it is not const, to be written; nobody else reads or writes the bytes during a call; and the slices of one
  * call do not overlap. Nothing is asked of what the bytes hold, nor of the lengths: anything is answered.
  *
- * An answer is one number: tag + 2^8 * steps + 2^24 * first + 2^40 * second. The steps are 0 but for the answers of a run.
+ * An answer is one number: tag + 2^8 * steps + 2^24 * first + 2^40 * second. The steps are 0 but for the answers of a run and of a play.
  *
  *   tag                 first                       second
  *   0 refusal           its number                  its place
  *   1 done              0                           the macro's length, of a compile; else 0
- *   2 allowance used    0                           0
- *   3 end               0, or the condition         0
+ *   2 allowance used    0                           the events, of a play; else 0
+ *   3 end               0, or the condition         the events, of a play; else 0
  *   4 set               the channel, 1 to 512       the level, 0 to 255
  *   5 hold              the group, 0 to 63          0
  *   6 release           the group, 0 to 63          0
+ *   8 no room left      0                           the events, of a play
  *
  * There is no other tag. The definitions number a machine that has no next step 7 (answerNumbers, crates/bytecode/specs/Answers.antt), and no cue_run
- * answers it, whatever bytes are lent: never-stuck in crates/desk/specs/Calls.antt. From a start of a macro on, over any list of runs, every number
- * answered and every byte of the state are those of the plain machine of paper 01: calls, there.
+ * or cue_play answers it, whatever bytes are lent: never-stuck in crates/desk/specs/Calls.antt. From a start of a macro on, over any list of runs and
+ * plays, every number answered and every byte of the state are those of the plain machine of paper 01: calls and both, there.
  *
  * Stack: the numbers below were read off the object code with objdump and, where a function calls itself, measured; then rounded up.
  *
@@ -45,13 +46,17 @@ enum cue_tag {
     CUE_END = 3,
     CUE_SET = 4,
     CUE_HOLD = 5,
-    CUE_RELEASE = 6
+    CUE_RELEASE = 6,
+    CUE_FULL = 8
 };
 
 /* The length of a run state and of a bank of readings, and the most that a table has, in bytes. */
 #define CUE_STATE_BYTES 24576
 #define CUE_READINGS 64
 #define CUE_TABLE_BYTES 16384
+
+/* What a play takes for an event, in bytes. */
+#define CUE_ANSWER_BYTES 8
 
 /* The table check: done, or a refusal by the first that holds of these, with its place (entries count from 0):
  *
@@ -95,6 +100,35 @@ uint64_t cue_start(const uint8_t *code, size_t n, uint8_t *state, size_t len);
  * The refusals are tested in this order. Every run makes the loading check anew and tests the state, so that its time grows with the
  * macro's length and not with the allowance alone. Stack: under 290,000 bytes. */
 uint64_t cue_run(const uint8_t *code, size_t n, uint8_t *state, size_t len, const uint8_t *readings, size_t m, uint16_t allowance);
+
+/* A play: as many runs as fit into one call, with the same readings, and tested once: the first run with the allowance, each later one with what the
+ * steps before it left, as long as a run gives an event and `answers` has room for another 8 bytes. The i-th event's answer, as cue_run gives it, is
+ * written at answers + 8 * i, little-endian (cue_answer reads it); bytes behind the last stay as they are.
+ *
+ *   refusal 8 to 11   as cue_run, in this order; nothing is written
+ *   allowance used    the steps are the allowance; play again to go on
+ *   end               as cue_run
+ *   no room left      there is none for another event, and the allowance may not be used up; play again to go on. Where k is below 8 no run is
+ *                     made and nothing is written
+ *
+ * The steps are those of all runs, `second` is the number of events written (CUE_EVENTS). The loading check and the test of the state are made once for
+ * all of them, so that a desk calls this once a frame: examples/frames.c. Stack: under 290,000 bytes. */
+uint64_t cue_play(const uint8_t *code, size_t n, uint8_t *state, size_t len, const uint8_t *readings, size_t m, uint16_t allowance, uint8_t *answers,
+                  size_t k);
+
+/* How many events a play wrote; of a refusal `second` is its place. */
+#define CUE_EVENTS(answer) (CUE_TAG(answer) == CUE_REFUSAL ? 0 : CUE_SECOND(answer))
+
+/* The i-th event's answer of a play. */
+static inline uint64_t cue_answer(const uint8_t *answers, size_t i)
+{
+    uint64_t answer = 0;
+    int byte;
+
+    for (byte = CUE_ANSWER_BYTES - 1; byte >= 0; byte--)
+        answer = answer << 8 | answers[CUE_ANSWER_BYTES * i + (size_t)byte];
+    return answer;
+}
 
 #ifdef __cplusplus
 }

@@ -1,17 +1,18 @@
-/* A desk's shell in small, over include/desk.h: takes the table on standard input through check, compile, start and run, a few steps at a
- * time, and prints each event and the end as paper 01's listing does. Called as `shell macro` it loads a compiled macro instead. Before the
- * first run it lends a bank of 63 readings, to see it refused. */
+/* A desk's shell in small, over include/desk.h: takes the table on standard input through check, compile, start and play, a few steps and events at a
+ * time, and prints each event and the end as paper 01's listing does. Called as `shell macro` it loads a compiled macro instead. Before it plays
+ * it asks for a run with a bank of 63 readings, to see it refused. */
 #include <stdio.h>
 #include <string.h>
 
 #include "desk.h"
 
-enum { SLICE = 3, MOST_STEPS = 65535, MACRO_BYTES = 65536 };
+enum { SLICE = 30, EVENTS = 3, MOST_STEPS = 65535, MACRO_BYTES = 65536 };
 
 static uint8_t table[CUE_TABLE_BYTES + 1]; /* one byte more, so that a longer table is seen to be one */
 static uint8_t code[MACRO_BYTES];
 static uint8_t state[CUE_STATE_BYTES];
 static uint8_t readings[CUE_READINGS];
+static uint8_t answers[EVENTS * CUE_ANSWER_BYTES];
 
 /* Prints an answer, if there is something to print; whether there is more to come. */
 static int shown(uint64_t answer)
@@ -34,7 +35,7 @@ static int shown(uint64_t answer)
     case CUE_RELEASE:
         printf("release %u\n", first);
         return 1;
-    default: /* done, or the allowance used */
+    default: /* done, the allowance used, or no room for another event */
         return 1;
     }
 }
@@ -56,18 +57,29 @@ static size_t macro(int compiled)
     return shown(answer) ? CUE_SECOND(answer) : 0;
 }
 
+/* At most so many steps of the macro, its events printed. */
+static uint64_t played(size_t n, unsigned steps)
+{
+    uint64_t answer = cue_play(code, n, state, sizeof state, readings, sizeof readings, (uint16_t)steps, answers, sizeof answers);
+    unsigned i;
+
+    for (i = 0; i < CUE_EVENTS(answer); i++)
+        shown(cue_answer(answers, i));
+    return answer;
+}
+
 int main(int count, char **arguments)
 {
     size_t n = macro(count == 2 && strcmp(arguments[1], "macro") == 0);
-    unsigned long steps = 0;
+    unsigned left = MOST_STEPS;
     uint64_t answer;
 
     if (n == 0 || !shown(cue_start(code, n, state, sizeof state)))
         return 1;
     shown(cue_run(code, n, state, sizeof state, readings, sizeof readings - 1, SLICE));
-    while (steps < MOST_STEPS) {
-        answer = cue_run(code, n, state, sizeof state, readings, sizeof readings, SLICE);
-        steps += CUE_STEPS(answer);
+    while (left > 0) {
+        answer = played(n, left < SLICE ? left : SLICE);
+        left -= CUE_STEPS(answer);
         if (!shown(answer))
             return CUE_TAG(answer) != CUE_END;
     }

@@ -3,16 +3,16 @@
 #![cfg(desk)]
 
 use second::evaluator::answer::{Answer, Event, Item, Refusal};
-use second::evaluator::code::{judge_macro, write_macro, Macro};
+use second::evaluator::code::{write_macro, Macro};
 use second::evaluator::compiler::compile;
-use second::evaluator::machine::{fresh, step, State};
+use second::evaluator::machine::{fresh, State};
 use second::evaluator::names::judge_table;
 use second::evaluator::state::LENGTH;
-use second::generate::edge_cases::{edge_macro, endless_counter, endless_records, endless_recursion, long_macro};
-use second::generate::macros::{damaged_macro, good_macro, Size};
+use second::generate::edge_cases::{endless_counter, endless_records, endless_recursion};
+use second::generate::macros::damaged_macro;
 use second::generate::notation::{self, body, root_only, shape, table, LISTING_EXAMPLE};
 use second::generate::rng::Rng;
-use second::generate::runs::{some_run, some_runs, Run};
+use second::generate::runs::{passing_macro, some_run, some_runs, Run};
 use second::harness::compare_machines::{run, run_along, start, AnswerCounts};
 use second::harness::compare_tree_and_code::balanced;
 use second::harness::desk;
@@ -20,30 +20,6 @@ use second::harness::setup::{case_count, with_large_stack};
 
 fn refusal(number: u8, place: usize) -> Answer {
     Answer::Refusal(Refusal { number, place })
-}
-
-/// Whether a macro goes on for so many steps, all readings 100.
-fn lives(m: &Macro, steps: usize) -> bool {
-    let mut state = fresh(m);
-    (0..steps).all(|_| step(m, &mut state, &mut |_| 100).is_ok() && !matches!(state, State::Ended { .. }))
-}
-
-/// Some macro that passes, mostly one that does not end at once.
-fn passing(rng: &mut Rng) -> Macro {
-    loop {
-        let m = match rng.below(20) {
-            0 => long_macro(rng),
-            1 => match judge_macro(&edge_macro(rng)) {
-                Ok(loaded) => loaded.code,
-                Err(_) => continue,
-            },
-            2 => good_macro(rng, Size { bodies: 8, instructions: 40, classes: 6 }),
-            _ => good_macro(rng, Size { bodies: 3, instructions: 16, classes: 2 }),
-        };
-        if rng.chance(20) || lives(&m, 25) {
-            return m;
-        }
-    }
 }
 
 /// A run that must be refused, on a copy of the state: another macro, a state of another length, or both.
@@ -95,7 +71,7 @@ fn lists_of_runs() {
         let mut done = 0;
         for seed in 0..count {
             let mut rng = Rng::new(20_000_000 + seed as u64);
-            let m = passing(&mut rng);
+            let m = passing_macro(&mut rng);
             let largest = if rng.chance(3) { 65_535 } else { 300 };
             let runs = some_runs(&mut rng, 16, largest);
             done += follow(&mut rng, &m, &runs, &mut seen);
@@ -124,7 +100,7 @@ fn slices_do_not_matter() {
         let count = case_count(2_000);
         for seed in 0..count {
             let mut rng = Rng::new(21_000_000 + seed as u64);
-            let m = passing(&mut rng);
+            let m = passing_macro(&mut rng);
             let whole = said(&m, |_| 2_000);
             let sliced = said(&m, |k| [1, 7, 0, 2, 300, 3][k % 6]);
             assert_eq!(whole, sliced);

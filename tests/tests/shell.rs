@@ -1,5 +1,5 @@
 //! A desk's shell in C (shell.c) over include/desk.h and the static library: compiled without a warning, it takes a table through check,
-//! compile, start and run and prints what paper 01 lists. And the stack that the header says is enough.
+//! compile, start and play and prints what paper 01 lists. And the stack that the header says is enough.
 #![cfg(desk)]
 
 use std::io::Write;
@@ -19,13 +19,18 @@ const COMPILE_STACK: usize = 230_000;
 
 /// The shell, compiled for this test alone.
 fn compiled(name: &str) -> PathBuf {
+    compiled_from("shell.c", name)
+}
+
+/// A program in C over the header and the library.
+fn compiled_from(source: &str, name: &str) -> PathBuf {
     let tests = Path::new(env!("CARGO_MANIFEST_DIR"));
     let program = Path::new(env!("CARGO_TARGET_TMPDIR")).join(name);
     let status = Command::new("gcc")
         .args(["-std=c99", "-pedantic", "-Wall", "-Wextra", "-Werror", "-O2"])
         .arg(format!("-I{}", tests.join("../include").display()))
         .arg("-o")
-        .args([&program, &tests.join("shell.c"), &tests.join("../target/staticlib/libdesk.a")])
+        .args([&program, &tests.join(source), &tests.join("../target/staticlib/libdesk.a")])
         .status()
         .expect("gcc runs");
     assert!(status.success());
@@ -80,6 +85,22 @@ fn a_shell_in_c_loads_macros() {
     assert_eq!(printed(&shell, &["macro"], &cut[..cut.len() - 1]), ("refused 8 3\n".to_string(), false));
 }
 
+/// The example of one call a frame: all its events are those of the listing, and the frames go on where the steps of one are used.
+#[test]
+fn one_call_a_frame() {
+    let frames = compiled_from("../examples/frames.c", "frames");
+    let example = |name: &str| Path::new(env!("CARGO_MANIFEST_DIR")).join("../examples").join(name);
+    let table = std::fs::read(example("chase.table")).unwrap();
+    let listing = std::fs::read_to_string(example("chase.listing")).unwrap();
+    let (text, content) = printed(&frames, &[], &table);
+    let (heads, events): (Vec<&str>, Vec<&str>) = text.lines().partition(|line| line.starts_with("frame"));
+    assert!(content && heads.len() > 1, "{text}");
+    assert_eq!(events, listing.lines().collect::<Vec<_>>());
+    // so many frames and no more
+    let (first, _) = printed(&frames, &["1"], &table);
+    assert!(text.starts_with(&first) && first.lines().filter(|line| line.starts_with("frame")).count() == 1, "{first}");
+}
+
 /// On a thread with this much stack; where it is not enough, this process ends.
 fn on_stack(bytes: usize, work: impl FnOnce() -> u64 + Send) -> u64 {
     // what a thread takes for itself, measured as 5,000
@@ -125,4 +146,7 @@ fn stack_as_the_header_says() {
     assert_eq!(on_stack(265_000, || desk::start(&code, &mut state)), 1);
     assert_eq!(on_stack(290_000, || desk::run(&code, &mut state, &[0; 64], 9)), held);
     assert_eq!(on_stack(290_000, || desk::run(&code, &mut state[1..], &[0; 64], 9)), unsound);
+    assert_eq!(on_stack(290_000, || desk::play(&code, &mut state[1..], &[0; 64], 9, &mut [0; 800])), unsound);
+    desk::start(&code, &mut state);
+    assert_eq!(desk::unpacked(on_stack(290_000, || desk::play(&code, &mut state, &[0; 64], 9, &mut [0; 800]))), [2, 9, 0, 1]);
 }

@@ -284,3 +284,25 @@ pub fn run_bytes(code: &[u8], state: &mut [u8], readings: &[u8], allowance: u16)
     }
     answer
 }
+
+/// Tag, steps, first and second of a play, "what a list of runs with the same readings gives": the tests of a run, once; then the machine runs with what
+/// is left of the allowance, as long as it gives events and another eight bytes are free. A refused play changes nothing.
+pub fn play_bytes(code: &[u8], state: &mut [u8], readings: &[u8], allowance: u16, answers: &mut [u8]) -> [u64; 4] {
+    if let refused @ Answer::Refusal(_) = run_bytes(code, &mut state.to_vec(), readings, 0) {
+        return refused.numbers();
+    }
+    let loaded = judge_macro(code).expect("it was tested");
+    let mut moved = sound_state(&loaded, state).expect("it was tested");
+    let mut taken = 0;
+    for (events, place) in answers.chunks_exact_mut(8).enumerate() {
+        let answer = run(&loaded.code, &mut moved, readings, allowance - taken).expect("a sound state is never stuck");
+        state.copy_from_slice(&encode(&moved));
+        let [tag, steps, first, _] = answer.numbers();
+        taken += steps as u16;
+        if tag == 2 || tag == 3 {
+            return [tag, taken as u64, first, events as u64];
+        }
+        place.copy_from_slice(&answer.packed().to_le_bytes());
+    }
+    [8, taken as u64, 0, (answers.len() / 8) as u64]
+}

@@ -1,6 +1,10 @@
-//! Input of runs and executions: lists of runs with their allowances and banks of readings, and readings from a seed.
+//! Input of runs and executions: macros that pass, lists of runs with their allowances and banks of readings, and readings from a seed.
 
+use super::edge_cases::{edge_macro, long_macro};
+use super::macros::{good_macro, Size};
 use super::rng::Rng;
+use crate::evaluator::code::{judge_macro, Macro};
+use crate::evaluator::machine::{fresh, step, State};
 
 /// "reading k of fader n = (SEED + 31*k + 7*n) mod 256"
 pub fn oracle(seed: u8) -> impl Fn(usize, u8) -> u8 {
@@ -42,4 +46,28 @@ pub fn some_run(rng: &mut Rng, largest: u16) -> Run {
 pub fn some_runs(rng: &mut Rng, most: usize, largest: u16) -> Vec<Run> {
     let count = 1 + rng.below(most);
     (0..count).map(|_| some_run(rng, largest)).collect()
+}
+
+/// Whether a macro goes on for so many steps, all readings 100.
+fn lives(m: &Macro, steps: usize) -> bool {
+    let mut state = fresh(m);
+    (0..steps).all(|_| step(m, &mut state, &mut |_| 100).is_ok() && !matches!(state, State::Ended { .. }))
+}
+
+/// Some macro that passes, mostly one that does not end at once.
+pub fn passing_macro(rng: &mut Rng) -> Macro {
+    loop {
+        let m = match rng.below(20) {
+            0 => long_macro(rng),
+            1 => match judge_macro(&edge_macro(rng)) {
+                Ok(loaded) => loaded.code,
+                Err(_) => continue,
+            },
+            2 => good_macro(rng, Size { bodies: 8, instructions: 40, classes: 6 }),
+            _ => good_macro(rng, Size { bodies: 3, instructions: 16, classes: 2 }),
+        };
+        if rng.chance(20) || lives(&m, 25) {
+            return m;
+        }
+    }
 }

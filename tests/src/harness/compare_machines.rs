@@ -1,4 +1,4 @@
-//! Start and run by the proved library, by the plain machine and by the second evaluator, on the same bytes: all must give the same
+//! Start, run and play by the proved library, by the plain machine and by the second evaluator, on the same bytes: all must give the same
 //! answer and leave the same bytes; the proved library gets memory between closed pages.
 
 use std::cell::RefCell;
@@ -28,17 +28,18 @@ struct Memory {
     code: GuardedMemory,
     readings: GuardedMemory,
     state: GuardedMemory,
+    answers: GuardedMemory,
 }
 
 thread_local! {
     static MEMORY: RefCell<Memory> =
-        RefCell::new(Memory { code: GuardedMemory::new(1 << 20), readings: GuardedMemory::new(4_096), state: GuardedMemory::new(1 << 16) });
+        RefCell::new(Memory { code: GuardedMemory::new(1 << 20), readings: GuardedMemory::new(4_096), state: GuardedMemory::new(1 << 16), answers: GuardedMemory::new(1 << 16) });
 }
 
 impl Call<'_> {
     /// The call by the proved library, on memory that is lent to it.
     fn by_desk(&self, who: &str, work: impl FnOnce(&[u8], &mut [u8], &[u8]) -> u64) {
-        MEMORY.with_borrow_mut(|Memory { code, readings, state }| {
+        MEMORY.with_borrow_mut(|Memory { code, readings, state, .. }| {
             let (answer, after) = code.lend(self.code, |code| {
                 readings.lend(self.readings, |readings| state.lend_to_write(self.before, |state| work(code, state, readings)))
             });
@@ -118,13 +119,60 @@ pub fn run_along(m: &Macro, code: &[u8], machine: &mut State, state: &mut Vec<u8
     answer
 }
 
+/// A play by a list of calls of `cue_run`: with what is left of the allowance, as long as they give events and there is room.
+fn by_runs(code: &[u8], state: &mut [u8], readings: &[u8], allowance: u16, answers: &mut [u8]) -> [u64; 4] {
+    if let [0, _, number, place] = desk::unpacked(desk::run(code, &mut state.to_vec(), readings, 0)) {
+        return [0, 0, number, place];
+    }
+    let mut taken = 0;
+    for i in 0..answers.len() / 8 {
+        let answer = desk::run(code, state, readings, allowance - taken as u16);
+        let [tag, steps, first, _] = desk::unpacked(answer);
+        taken += steps;
+        if !(4..=6).contains(&tag) {
+            return [tag, taken, first, i as u64];
+        }
+        answers[8 * i..8 * i + 8].copy_from_slice(&answer.to_le_bytes());
+    }
+    [8, taken, 0, (answers.len() / 8) as u64]
+}
+
+/// A play on any bytes, its answer's numbers: by the second evaluator, by the proved library and by the library's runs.
+pub fn play(code: &[u8], state: &mut Vec<u8>, readings: &[u8], allowance: u16, answers: &mut Vec<u8>) -> [u64; 4] {
+    let (before, lent) = (state.clone(), answers.clone());
+    let wanted = state::play_bytes(code, state, readings, allowance, answers);
+    let case = || format!("\nmacro {code:?}\nreadings {readings:?}\nallowance {allowance}, {} bytes for answers", lent.len());
+    let (mut run_state, mut run_answers) = (before.clone(), lent.clone());
+    let ran = by_runs(code, &mut run_state, readings, allowance, &mut run_answers);
+    assert!((ran, &run_state, &run_answers) == (wanted, &*state, &*answers), "cue_run, again and again, answers {ran:?}, not {wanted:?}{}", case());
+    MEMORY.with_borrow_mut(|memory| {
+        let ((answer, left), after) = memory.code.lend(code, |code| {
+            memory.readings.lend(readings, |readings| {
+                let (answer, after) = memory.state.lend_to_write(&before, |state| {
+                    let (answer, left) = memory.answers.lend_to_write(&lent, |answers| desk::play(code, state, readings, allowance, answers));
+                    (answer, left.to_vec())
+                });
+                (answer, after.to_vec())
+            })
+        });
+        let given = desk::unpacked(answer);
+        assert!(given == wanted, "cue_play answers {given:?}, not {wanted:?}{}", case());
+        assert!(after == *state, "cue_play leaves another state{}", case());
+        assert!(left == *answers, "cue_play writes other answers{}", case());
+    });
+    wanted
+}
+
 /// How often each answer was given: by its tag and, for a refusal or an end, its number.
 #[derive(Default, Debug)]
 pub struct AnswerCounts(BTreeMap<(u64, u64), usize>);
 
 impl AnswerCounts {
     pub fn note(&mut self, answer: &Answer) {
-        let [tag, _, first, _] = answer.numbers();
+        self.note_numbers(answer.numbers());
+    }
+
+    pub fn note_numbers(&mut self, [tag, _, first, _]: [u64; 4]) {
         *self.0.entry((tag, if tag == 0 || tag == 3 { first } else { 0 })).or_default() += 1;
     }
 

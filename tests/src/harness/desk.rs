@@ -12,6 +12,17 @@ extern "C" {
     fn cue_compile(table: *const u8, n: usize, out: *mut u8, room: usize) -> u64;
     fn cue_start(code: *const u8, n: usize, state: *mut u8, len: usize) -> u64;
     fn cue_run(code: *const u8, n: usize, state: *mut u8, len: usize, readings: *const u8, m: usize, allowance: u16) -> u64;
+    fn cue_play(
+        code: *const u8,
+        n: usize,
+        state: *mut u8,
+        len: usize,
+        readings: *const u8,
+        m: usize,
+        allowance: u16,
+        answers: *mut u8,
+        k: usize,
+    ) -> u64;
 }
 
 /// "packed = tag + 2^8 × steps + 2^24 × first + 2^40 × second"
@@ -47,6 +58,13 @@ pub fn start(code: &[u8], state: &mut [u8]) -> u64 {
 pub fn run(code: &[u8], state: &mut [u8], readings: &[u8], allowance: u16) -> u64 {
     // SAFETY: the function reads code and readings, reads and writes state and touches nothing else, for any bytes and any lengths.
     unsafe { cue_run(code.as_ptr(), code.len(), state.as_mut_ptr(), state.len(), readings.as_ptr(), readings.len(), allowance) }
+}
+
+/// The answer of a play.
+pub fn play(code: &[u8], state: &mut [u8], readings: &[u8], allowance: u16, answers: &mut [u8]) -> u64 {
+    let (n, len, m, k) = (code.len(), state.len(), readings.len(), answers.len());
+    // SAFETY: the function reads code and readings, reads and writes state and answers and touches nothing else, for any bytes and any lengths.
+    unsafe { cue_play(code.as_ptr(), n, state.as_mut_ptr(), len, readings.as_ptr(), m, allowance, answers.as_mut_ptr(), k) }
 }
 
 /// More than the longest macro of any table: 45,120 instructions (L12), a shape at each with 32 types, and the heads.
