@@ -1,5 +1,5 @@
 -- The third demand, whole in `Third` at the end: what the loading check gives for every macro that passes it, and that every compiled macro does. Each
--- statement is read without its proof; the terms are in Terms.antt, in safety/specs/Terms.antt (SafeRun, Reaches) and in lent_runs/specs/Terms.antt (runsOn).
+-- statement is read without its proof; the terms are in Terms.antt, in bytecode_safety/specs/Terms.antt (SafeRun, Reaches) and in bytecode_runs/specs/Terms.antt (runsOn).
 use mathlib.Core.Path.{_≡_, refl, ap, sym, _∙_}
 use mathlib.Core.Bool.{Bool, true, false}
 use mathlib.Core.List.{List}
@@ -16,15 +16,16 @@ use Rattle.values.specs.Ends.{Refusal, refusal, Judged, accepted, refused}
 use Rattle.bytecode.specs.Macro.{Macro, readMacro}
 use Rattle.bytecode.specs.Rules.{faultAt, judgeMacro}
 use Rattle.bytecode.specs.Machine.{Machine, freshMachine}
-use Rattle.bytecode.specs.Runs.{Feed, refuses}
+use Rattle.bytecode.specs.Runs.{Feed, refuses, runs}
 use Rattle.bytecode.specs.Sound.{sound}
 use Rattle.bytecode.specs.State.{stateLength, encode, decode}
-use Rattle.bytecode.specs.Lent.{runRefused, runOn}
+use Rattle.bytecode.specs.Lent.{runRefused, startOn, runOn}
 use Rattle.bytecode_laws.specs.Promises.{passed}
 use Rattle.bytecode_layout.specs.Layout
 use Rattle.bytecode_layout.specs.Passing.{sized}
 use Rattle.bytecode_safety.specs.Safety.{step-safe, fresh-safe, reached-safe, runs-safe}
 use Rattle.logic.specs.Choice.{if_then_else_}
+use Rattle.logic.specs.Lists.{Each}
 use Rattle.language.specs.Tree.{Tree}
 use Rattle.language.specs.Judge.{Compiled, judgeTable, compileTree, compileRefused, writeMacro, compileOn}
 use Rattle.bytecode_laws.specs.Promises.{passes-exactly}
@@ -32,6 +33,7 @@ use Rattle.compile_code.specs.Encode.{macroOf, compiled}
 use Rattle.compile_order.specs.Order.{accepted-passes}
 use Rattle.bytecode_runs.specs.Terms.{Fed, NoneSound}
 use Rattle.bytecode_runs.specs.Bytes.{runs-are, started, not-stuck, ten-if, ten-only}
+use Rattle.bytecode_runs.specs.Plays.{Call, feedOf, callsOn, plainCalls, callsRuns, callsFeeds, calls-are, one-list}
 use Rattle.demands.specs.Terms.{Demanded}
 
 -- A macro that passes, any lent bytes of the right length, and any list of runs.
@@ -47,6 +49,16 @@ third code m b h l n fs fed =
       each-step = λ p. (reached-safe m w p, λ bank low why e. not-stuck m bank _ (step-safe m w bank low _ (reached-safe m w p)) why e);
       released = safe .released;
     }
+
+-- The same macro, and any list of runs and plays (bytecode_runs/specs/Plays): each call answers and writes what the plain machine shows of the runs
+-- that it comes to, and these are one list of runs of the plain machine, so that its events are theirs.
+pub plays : (code : List ℕ) (m : Macro) → Bytes code → judgeMacro code ≡ accepted m
+    → (l : List ℕ) → length l ≡ stateLength → (cs : List Call) → Each (λ c. Bytes (feedOf c .readings)) cs
+    → (callsOn code cs (startOn code l .bytes) ≡ plainCalls m cs (freshMachine m))
+    × (callsRuns m cs (freshMachine m) ≡ runs m (callsFeeds m cs (freshMachine m)) (freshMachine m))
+plays code m b h l n cs fed =
+    let w = passed code m b h in
+    (rw (started code m h l n .1) (calls-are code m h w cs fed (freshMachine m) (fresh-safe m w)), one-list m cs (freshMachine m))
 
 module _ (code : List ℕ) (m : Macro) (b : Bytes code) (h : judgeMacro code ≡ accepted m) where
   -- A state of right length gets 10 exactly if no sound state decodes from it.

@@ -25,10 +25,9 @@ use Rattle.table_check.specs.declared.Checked.the-variants.{Accepted, Refused a
 use Rattle.load_check.specs.Loaded.{loadedOf, fields}
 use Rattle.load_check.specs.declared.Loaded.{Loaded}
 use Rattle.load_check.specs.declared.Loaded.the-variants.{Passes, Refused}
-use Rattle.packing.specs.Packing.{Fits}
 use Rattle.run.specs.Answers.{verdictOf, answerOf, playNumbers}
 use Rattle.run.specs.Fields.{start-small, run-small}
-use Rattle.run.specs.Plays.{play-fits}
+use Rattle.run.specs.Plays.{Fine, play-fine}
 use Rattle.run.specs.declared.Started.{Started}
 use Rattle.run.specs.declared.Started.the-variants.{Refused as Declined}
 use Rattle.run.specs.declared.Ran.{Ran}
@@ -94,8 +93,8 @@ module _ (c l readings : List ℕ) (allowance : ℕ) (answers k b : List ℕ) (a
 
   pub play-small : Bytes c → Bytes readings → allowance < 65536 → (r : Refusal) → a ≡ Unplayed r → r .place < 16777216
   play-small B R w r d =
-      let f : Fits (playNumbers (Unplayed r)) = rw (e, d) at (play-fits c readings B R allowance w l answers) in
-      f .second-fits
+      let f : Fine (playNumbers (Unplayed r)) = rw (e, d) at (play-fine c readings B R allowance w l answers) in
+      f .fits .second-fits
 
 -- ── the compiler ──
 module _ (l out k : List ℕ) (a : Compiled) (e : compileOn macroOf l out ≡ record { verdict = compiledOf a; bytes = k }) where

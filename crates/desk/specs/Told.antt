@@ -14,9 +14,11 @@ use Rattle.language.specs.Judge.{judgeTable, compileOn}
 use Rattle.bytecode.specs.Rules.{judgeMacro}
 use Rattle.bytecode.specs.Runs.{Answer, happens, spends, finishes, refuses, halts}
 use Rattle.bytecode.specs.Lent.{startOn, runOn}
+use Rattle.bytecode.specs.Play.{playOn}
 use Rattle.bytecode.specs.Answers.{Numbers, verdictNumbers, answerNumbers, packed}
 use Rattle.table_check.specs.Small.{Narrow, narrow}
 use Rattle.run.specs.Fields.{Small, Ranged, judged-small, start-small, run-ranged}
+use Rattle.run.specs.Plays.{play-fine}
 use Rattle.logic.specs.Choice.{if_then_else_}
 use Rattle.compile_code.specs.Encode.{macroOf}
 use Rattle.desk.specs.Compiled.{compiledNumbers, Short, short}
@@ -57,6 +59,20 @@ run-told x y e =
   where
     fit : (x : Call) → Told (answerOf x) × Fits (answerNumbers (answerOf x))
     fit x = answer-fits (x .allowance) (x .allowance-fits) (answerOf x) (run-ranged (x .code) (x .code-bytes) (x .state) (x .readings) (x .allowance) (x .reading-bytes))
+
+-- a call of cue_play: the same, and the bytes lent for the events' answers
+pub record Play : Type 0 where
+  pub call : Call
+  pub answers : List ℕ
+
+abbrev pub numbersOf : Play → Numbers
+numbersOf x = let c = x .call in playOn (c .code) (c .state) (c .readings) (c .allowance) (x .answers) .answer
+
+pub play-told : (x y : Play) → packed (numbersOf x) ≡ packed (numbersOf y) → numbersOf x ≡ numbersOf y
+play-told x y e = packed-injective (numbersOf x) (numbersOf y) (fit x) (fit y) e
+  where
+    fit : (x : Play) → Fits (numbersOf x)
+    fit x = let c = x .call in play-fine (c .code) (c .readings) (c .code-bytes) (c .reading-bytes) (c .allowance) (c .allowance-fits) (c .state) (x .answers) .fits
 
 -- ── verdicts: of what was accepted it is told that it was ──
 verdict-fits : {A : Type 0} (v : Judged A) → ((r : Refusal) → v ≡ refused r → Small r) → Fits (verdictNumbers v)

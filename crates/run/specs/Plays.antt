@@ -1,4 +1,4 @@
--- The numbers of a play's answer fit the fields that they are packed into.
+-- The numbers of a play's answer fit the fields that they are packed into, and none is that of a machine with no next step.
 use mathlib.Core.Path.{_≡_}
 use mathlib.Core.Bool.{Bool, true, false}
 use mathlib.Core.List.{List, [], _∷_}
@@ -18,6 +18,7 @@ use Rattle.bytecode.specs.Rules.{judgeMacro}
 use Rattle.bytecode.specs.Machine.{Machine, running, unwinding, ended, Stepped, moved, stuck, step}
 use Rattle.bytecode.specs.Runs.{Answer, happens, spends, finishes, refuses, halts, Ran, with, bankOf, ends, afterStep, steps, run}
 use Rattle.bytecode.specs.Lent.{soundState, written, runState, runMacro, runOn}
+use Rattle.bytecode.specs.Answers.{Numbers, numbers}
 use Rattle.bytecode.specs.Play.{Played, afterRun, playFrom, unlessRefused, playOn}
 use Rattle.packing.specs.Packing.{Fits}
 use Rattle.run.specs.Fields.{Ranged, run-ranged}
@@ -92,37 +93,45 @@ low-end : (c : ℕ) → (c ≡ 0) ⊎ (isCondition c ≡ true) → c < 65536
 low-end c (inl e) = omega arith
 low-end c (inr h) = omega (arith, condition-byte c h)
 
+-- numbers that fit, and are not those of a machine with no next step
+pub record Fine (x : Numbers) : Type 0 where
+  pub fits : Fits x
+  pub goes-on : x .tag ≡ 7 → ⊥
+
+fine : (t n x y : ℕ) → t < 256 → (t ≡ 7 → ⊥) → n < 65536 → x < 65536 → y < 16777216 → Fine (numbers t n x y)
+fine t n x y ht h hn hx hy = record { fits = record { tag-fits = ht; steps-fit = hn; first-fits = hx; second-fits = hy }; goes-on = h }
+
 module _ (c readings : List ℕ) (B : Bytes c) (R : Bytes readings) (allowance : ℕ) (h : allowance < 65536) where
   -- after a run, where what follows it fits: as many steps are taken as there are events, or more
-  after-fits : (a : Answer) (taken events : ℕ) → taken ≤ allowance → events ≤ taken → Ranged (allowance - taken) a → Later 0 a
-      → (state answers : List ℕ) (next : ℕ → List ℕ → Played) → ((n : ℕ) (b : List ℕ) → n ≤ allowance → suc events ≤ n → Fits (next n b .answer))
-      → Fits (afterRun a taken events state answers next .answer)
-  after-fits (happens e n) taken events up few r l state answers next later = later (taken + n) _ (omega (arith, r .0)) (omega arith)
-  after-fits (spends n) taken events up few r l state answers next later =
-      record { tag-fits = omega arith; steps-fit = omega arith; first-fits = omega arith; second-fits = omega arith }
-  after-fits (finishes d n) taken events up few r l state answers next later =
-      record { tag-fits = omega arith; steps-fit = omega (arith, r .0); first-fits = low-end d (r .1); second-fits = omega arith }
-  after-fits (refuses q) taken events up few r l state answers next later =
-      record { tag-fits = omega arith; steps-fit = omega arith; first-fits = omega (arith, r .0); second-fits = r .1 }
-  after-fits (halts why) taken events up few r l state answers next later = absurd r
+  after-fine : (a : Answer) (taken events : ℕ) → taken ≤ allowance → events ≤ taken → Ranged (allowance - taken) a → Later 0 a
+      → (state answers : List ℕ) (next : ℕ → List ℕ → Played) → ((n : ℕ) (b : List ℕ) → n ≤ allowance → suc events ≤ n → Fine (next n b .answer))
+      → Fine (afterRun a taken events state answers next .answer)
+  after-fine (happens e n) taken events up few r l state answers next later = later (taken + n) _ (omega (arith, r .0)) (omega arith)
+  after-fine (spends n) taken events up few r l state answers next later =
+      fine _ _ _ _ (omega arith) (λ k. omega arith) (omega arith) (omega arith) (omega arith)
+  after-fine (finishes d n) taken events up few r l state answers next later =
+      fine _ _ _ _ (omega arith) (λ k. omega arith) (omega (arith, r .0)) (low-end d (r .1)) (omega arith)
+  after-fine (refuses q) taken events up few r l state answers next later =
+      fine _ _ _ _ (omega arith) (λ k. omega arith) (omega arith) (omega (arith, r .0)) (r .1)
+  after-fine (halts why) taken events up few r l state answers next later = absurd r
 
-  from-fits : (room taken events : ℕ) → taken ≤ allowance → events ≤ taken → (l a : List ℕ) → Fits (playFrom c readings allowance room taken events l a .answer)
+  from-fine : (room taken events : ℕ) → taken ≤ allowance → events ≤ taken → (l a : List ℕ) → Fine (playFrom c readings allowance room taken events l a .answer)
   unfolding playFrom
-  from-fits zero taken events up few l a = record { tag-fits = omega arith; steps-fit = omega arith; first-fits = omega arith; second-fits = omega arith }
-  from-fits (suc room) taken events up few l a =
+  from-fine zero taken events up few l a = fine _ _ _ _ (omega arith) (λ k. omega arith) (omega arith) (omega arith) (omega arith)
+  from-fine (suc room) taken events up few l a =
       let r = runOn c l readings (allowance - taken) in
-      after-fits (r .answer) taken events up few (run-ranged c B l readings (allowance - taken) R) (on-bytes-later c l readings (allowance - taken)) (r .bytes) a
-      (λ n b. playFrom c readings allowance room n (suc events) (r .bytes) b) (λ n b u f. from-fits room n (suc events) u f (r .bytes) b)
+      after-fine (r .answer) taken events up few (run-ranged c B l readings (allowance - taken) R) (on-bytes-later c l readings (allowance - taken)) (r .bytes) a
+      (λ n b. playFrom c readings allowance room n (suc events) (r .bytes) b) (λ n b u f. from-fine room n (suc events) u f (r .bytes) b)
 
-  pub play-fits : (l answers : List ℕ) → Fits (playOn c l readings allowance answers .answer)
+  pub play-fine : (l answers : List ℕ) → Fine (playOn c l readings allowance answers .answer)
   unfolding playOn
-  play-fits l answers = by (runOn c l readings 0 .answer) (run-ranged c B l readings 0 R)
+  play-fine l answers = by (runOn c l readings 0 .answer) (run-ranged c B l readings 0 R)
     where
-      p : Fits (playFrom c readings allowance (length answers / 8) 0 0 l answers .answer)
-      p = from-fits (length answers / 8) 0 0 (omega arith) (omega arith) l answers
+      p : Fine (playFrom c readings allowance (length answers / 8) 0 0 l answers .answer)
+      p = from-fine (length answers / 8) 0 0 (omega arith) (omega arith) l answers
 
-      by : (a : Answer) → Ranged 0 a → Fits (unlessRefused a l answers (playFrom c readings allowance (length answers / 8) 0 0 l answers) .answer)
-      by (refuses q) r = record { tag-fits = omega arith; steps-fit = omega arith; first-fits = omega (arith, r .0); second-fits = r .1 }
+      by : (a : Answer) → Ranged 0 a → Fine (unlessRefused a l answers (playFrom c readings allowance (length answers / 8) 0 0 l answers) .answer)
+      by (refuses q) r = fine _ _ _ _ (omega arith) (λ k. omega arith) (omega arith) (omega (arith, r .0)) (r .1)
       by (happens e n) r = p
       by (spends n) r = p
       by (finishes d n) r = p
