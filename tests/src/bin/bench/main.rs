@@ -1,15 +1,55 @@
 //! Benchmarks: the proved library beside plain Rust on the same bytes, in one run. Not a test.
 //!
-//!     rt staticlib desk && cargo run --profile speed --offline --bin bench
+//!     rt staticlib desk && cargo run --profile speed --offline --bin bench [PART...] [store]
+//!
+//! Parts: load, check, compile, machine, programs, chase; none named: all. At the end each ratio of the machine to the plain one is held to the one stored in
+//! tests/bench.ratios, and a line says SLOWER where it is a fifth above; with the word store they are stored instead.
+
+#[cfg(desk)]
+mod chase;
+#[cfg(desk)]
+mod lua;
+#[cfg(desk)]
+mod programs;
+#[cfg(desk)]
+mod ratios;
 
 #[cfg(desk)]
 fn main() {
-    load::table();
-    check::table();
-    compile::table();
-    compile::to_first_event();
-    runs::steps();
-    runs::fixed();
+    const PARTS: [&str; 6] = ["load", "check", "compile", "machine", "programs", "chase"];
+    let words: Vec<String> = std::env::args().skip(1).collect();
+    let (store, parts): (Vec<&String>, Vec<&String>) = words.iter().partition(|word| *word == "store");
+    if let Some(other) = parts.iter().find(|part| !PARTS.contains(&part.as_str())) {
+        eprintln!("bench: there is no part {other}; there are {PARTS:?}");
+        std::process::exit(2);
+    }
+    let wanted = |part: &str| parts.is_empty() || parts.iter().any(|word| *word == part);
+    let mut ratios = ratios::Ratios::read();
+    if wanted("load") {
+        load::table();
+    }
+    if wanted("check") {
+        check::table();
+    }
+    if wanted("compile") {
+        compile::table();
+        compile::to_first_event();
+    }
+    if wanted("machine") {
+        runs::steps(&mut ratios);
+        runs::fixed();
+    }
+    if wanted("programs") {
+        programs::table_of_rounds(&mut ratios);
+    }
+    if wanted("chase") {
+        chase::table_of_events();
+    }
+    if store.is_empty() {
+        ratios.compare();
+    } else {
+        ratios.store();
+    }
 }
 
 #[cfg(not(desk))]
@@ -260,6 +300,7 @@ mod compile {
 
 #[cfg(desk)]
 mod runs {
+    use super::ratios::Ratios;
     use super::{in_turn, load};
     use second::evaluator::code::{write_macro, Macro};
     use second::evaluator::state::LENGTH;
@@ -335,7 +376,7 @@ mod runs {
     }
 
     /// What a step takes: a run of many, less the same run with none.
-    pub fn steps() {
+    pub fn steps(ratios: &mut Ratios) {
         println!("machine: ns per step, one run, same bytes");
         println!("{:>13} {:>10} {:>10} {:>7} {:>10} {:>7} {:>10} {:>7}", "loop", "cue_run", "plain", "ratio", "beside", "ratio", "in locals", "ratio");
         // Of the records 255 are made.
@@ -353,6 +394,7 @@ mod runs {
                 print!(" {other:>10.2} {:>7.2}", proved / other);
             }
             println!();
+            ratios.note(&format!("machine {name}"), proved / plain);
         }
     }
 
