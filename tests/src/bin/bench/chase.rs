@@ -6,22 +6,22 @@ use crate::in_turn;
 use crate::lua;
 use crate::programs::started;
 
-/// The chase alone has so many instructions, and one more loop behind it, which is never reached, three more.
+/// The chase alone has so many instructions, and a statement behind it, which is never reached, three more.
 const CHASE: usize = 17;
-const LOOP: usize = 3;
+const STATEMENT: usize = 3;
 
-/// Channel after channel of the 512 is set to 255, for ever: a table whose macro has so many instructions, those behind the chase for the loading check alone.
-fn chase(instructions: usize) -> String {
-    let loops = (instructions - CHASE) / LOOP;
-    // Loops stand in each other, eight deep: entries are fewer so.
-    let nest = |depth: usize| format!("{} 1 0 0,", "24 0 0, 41 0 0,".repeat(depth));
-    let (nests, rest) = (loops / 8, loops % 8);
-    let behind = format!("{}{}", nest(8).repeat(nests), if rest > 0 { nest(rest) } else { String::new() });
-    let statements = 5 + nests + usize::from(rest > 0);
+/// What stands behind the chase, for the loading check alone: an entry and its two or three, for each three instructions.
+const SETS: &str = "28 0 0, 40 0 1, 40 0 255,";
+const LOOPS: &str = "24 0 0, 41 0 0, 1 0 0,";
+
+/// Channel after channel of the 512 is set to 255, for ever: a table whose macro has so many instructions.
+fn chase(instructions: usize, behind: &str) -> String {
+    let more = (instructions - CHASE) / STATEMENT;
+    let statements = 5 + more;
     let step = "21 0 0, 44 1 0, 49 1 0, 44 1 0, 40 0 1";
     let set = "28 0 0, 44 1 0, 40 0 255";
     let again = "22 0 0, 49 9 0, 44 1 0, 40 0 512, 21 0 0, 44 1 0, 40 0 0";
-    format!("1 1 {statements}, 10 1 1, 20 2 0, {step}, {set}, {again}, 25 2 0, {behind}")
+    format!("1 1 {statements}, 10 1 1, 20 2 0, {step}, {set}, {again}, 25 2 0, {}", behind.repeat(more))
 }
 
 fn in_lua(events: usize) -> String {
@@ -48,10 +48,10 @@ fn played(code: &[u8], state: &mut [u8], answers: &mut [u8]) -> u64 {
 /// What an event takes, in calls that end when there is no room for another one.
 pub fn table_of_events() {
     println!("a chase of sets by cue_play: ns per event, one run; Lua 5.4 calls a C function that stores 8 bytes");
-    println!("{:>13} {:>8} {:>10} {:>10} {:>10} {:>7}", "instructions", "events", "cue_play", "a call", "Lua", "ratio");
-    for instructions in [20, 200, 2_000] {
+    println!("{:>13} {:>8} {:>8} {:>10} {:>10} {:>10} {:>7}", "instructions", "mostly", "events", "cue_play", "a call", "Lua", "ratio");
+    for (instructions, name, behind) in [(20, "sets", SETS), (200, "sets", SETS), (2_000, "sets", SETS), (2_000, "loops", LOOPS)] {
         for events in [100, 512] {
-            let (code, mut state) = started(&chase(instructions));
+            let (code, mut state) = started(&chase(instructions, behind));
             assert_eq!(u16::from_le_bytes([code[4], code[5]]) as usize, instructions);
             let mut answers = vec![0; 8 * events];
             played(&code, &mut state, &mut answers);
@@ -67,7 +67,7 @@ pub fn table_of_events() {
                 }
             };
             let each = |time: f64| time / events as f64;
-            print!("{instructions:>13} {events:>8} {:>10.2} {:>10.0}", each(times[0]), times[0]);
+            print!("{instructions:>13} {name:>8} {events:>8} {:>10.2} {:>10.0}", each(times[0]), times[0]);
             for other in &times[1..] {
                 print!(" {:>10.2} {:>7.2}", each(*other), times[0] / other);
             }
