@@ -1,11 +1,11 @@
 -- The demands are not empty: the listing example's macro passes, and what is demanded of it comes to its four lines.
 use mathlib.Core.Path.{_≡_, refl, ap, _∙_, subst}
 use mathlib.Core.Bool.{true}
-use mathlib.Core.List.{List, [], _∷_, map}
+use mathlib.Core.List.{List, [], _∷_, _++_, map}
 use Prim.Native.Nat.{ℕ, zero, suc, _≤_}
 use native.Mathlib.Omega.{arith}
 use lib.Dec.{ltb}
-use lib.ListN.{length}
+use lib.ListN.{length, replicate}
 use borrow.Author.Tests.{ltb-true}
 use Rattle.language.specs.Program.{tableBytes, Program}
 use Rattle.logic.specs.Lists.{all}
@@ -20,6 +20,8 @@ use Rattle.bytecode.specs.Runs.{Answer, happens, finishes, Ran, Feed, runs}
 use Rattle.bytecode.specs.Sound.{sound}
 use Rattle.bytecode.specs.State.{stateLength}
 use Rattle.bytecode.specs.Lent.{RanOn, startOn}
+use Rattle.bytecode.specs.Answers.{Numbers, numbers, eventNumbers, packed}
+use Rattle.bytecode.specs.Play.{Played, long, playOn}
 use Rattle.examples.specs.Cases.{casesCompute}
 use Rattle.examples.specs.Notation.{refusalOf, joined, feed}
 use Rattle.examples.specs.Listing.{table, code, passes}
@@ -28,8 +30,9 @@ use Rattle.logic.specs.Tests.{halves}
 use Rattle.bytecode_laws.specs.Promises.{passed}
 use Rattle.bytecode_safety.specs.Safety.{fresh-safe}
 use Rattle.bytecode_runs.specs.Terms.{Fed, runsOn, onBytes}
+use Rattle.bytecode_runs.specs.Plays.{Call, many, callsOn, playFeeds, shownPlay, plainCalls}
 use Rattle.demands.specs.Terms.{Demanded}
-use Rattle.demands.specs.Third.{third}
+use Rattle.demands.specs.Third.{third, plays}
 use Rattle.demands.specs.Second.{SameReadings, answered, events, EndsOn, second}
 use Rattle.compile_code.specs.Encode.{macroOf}
 use Rattle.compile_runs.specs.Enough.{Stepping}
@@ -94,6 +97,34 @@ listing =
       fresh-safe m (passed code m bytes h),
       λ l n. let d = third code m bytes h l n feeds fed in (d, ap answersOn (d .equals) ∙ (answers-on (runs m feeds (freshMachine m)) ∙ told)),
     )
+
+-- ── the same in one play, with room for four events in bytes that hold something ──
+abbrev pub call : Call
+call = many (feed 65535) (replicate 32 9)
+
+-- what the first call of a list answered, and the bytes of its events' answers
+abbrev told : List Played → Numbers × List ℕ
+told [] = (numbers 0 0 0 0, [])
+told (p ∷ ps) = (p .answer, p .answers)
+
+abbrev plainPlay : Judged Macro → Numbers × List ℕ
+plainPlay (accepted m) = told (plainCalls m (call ∷ []) (freshMachine m))
+plainPlay (refused r) = told []
+
+-- the end by 0 after 7 steps, and three events: "hold 7, set 3 200, release 7", each with the steps of its own run; the bytes behind them stay
+abbrev pub sheet : Numbers × List ℕ
+sheet = (numbers 3 7 0 3, long (packed (eventNumbers (hold 7) 1)) ++ long (packed (eventNumbers (set 3 200) 3)) ++ long (packed (eventNumbers (release 7) 1)) ++ replicate 8 9)
+
+plain-play : plainPlay (judgeMacro code) ≡ sheet
+unfolding casesCompute joined code playFeeds shownPlay plainCalls
+plain-play = refl
+
+pub listing-play : (l : List ℕ) → length l ≡ stateLength
+    → let p = playOn code (startOn code l .bytes) (feed 65535 .readings) 65535 (replicate 32 9) in (p .answer, p .answers) ≡ sheet
+unfolding callsOn
+listing-play l n =
+    let j = judged (judgeMacro code) passes in
+    ap told (plays code (j .0) bytes (j .1) l n (call ∷ []) (fed .0, tt) .0) ∙ subst (λ x. plainPlay x ≡ sheet) (j .1) plain-play
 
 -- ── the second demand ──
 -- the listing example is a program
