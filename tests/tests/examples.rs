@@ -27,14 +27,14 @@ fn folder() -> PathBuf {
     Path::new(env!("CARGO_MANIFEST_DIR")).join("../examples")
 }
 
-/// The names of the examples: each has a text, a table and a listing. Beside them stand the scripts `list` and `show`.
+/// The names of the examples: each has a text, a table and a listing. Beside them stand the scripts `list` and `show`, and the program `frames.c`.
 fn names() -> BTreeSet<String> {
     let mut names = BTreeSet::new();
     for file in std::fs::read_dir(folder()).expect("examples/ is there") {
         let path = file.unwrap().path();
         let part = |part: Option<&std::ffi::OsStr>| part.unwrap_or_default().to_str().unwrap().to_string();
         let (name, sort) = (part(path.file_stem()), part(path.extension()));
-        if ["list", "show"].contains(&name.as_str()) && sort.is_empty() {
+        if ["list", "show", "frames.c"].iter().any(|beside| path.ends_with(beside)) {
             continue;
         }
         assert!(["entries", "table", "listing"].contains(&sort.as_str()), "{path:?} is no part of an example");
