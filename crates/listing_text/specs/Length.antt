@@ -6,7 +6,7 @@ use mathlib.Core.List.{List, [], _∷_, _++_}
 use Prim.Native.Nat.{ℕ, zero, suc, _+_, _-_, _*_, _/_, _%_, _≤_, _<_}
 use native.Mathlib.Omega.{arith}
 use lib.Dec.{ltb}
-use lib.ListN.{length, replicate, length-append}
+use lib.ListN.{length, length-append}
 use borrow.Author.Tests.{ltb-true, ltb-false, lt-ltb, le-ltb}
 use Rattle.logic.specs.Choice.{if_then_else_}
 use Rattle.words.specs.Laws.{Bytes}
@@ -18,7 +18,8 @@ use Rattle.bytecode.specs.Lent.{runOn}
 use Rattle.bytecode_safety.specs.Terms.{InRange}
 use Rattle.run.specs.Fields.{Ranged, run-ranged}
 use Rattle.listing_text.specs.Text.{digit, digits, decimal, numbers, eventLine, endLine, openLine, refusedLine, answerLine, afterEvent, zeros, runsText, linesOf}
-use Rattle.listing_text.specs.Steps.{Within, event-within}
+use Rattle.run.specs.Plays.{Later, on-bytes-later}
+use Rattle.listing_text.specs.Steps.{zeros-bytes}
 
 -- ── decimals ──
 -- as many digits as there are to come do not matter, if they are enough
@@ -107,32 +108,24 @@ end-small : (c : ℕ) → (c ≡ 0) ⊎ (isCondition c ≡ true) → c < 256
 end-small c (inl e) = omega arith
 end-small c (inr t) = condition-byte c t
 
-after-answer : (left : ℕ) (a : Answer) (more : ℕ → List ℕ) → Ranged left a → Within 0 left a
+after-answer : (left : ℕ) (a : Answer) (more : ℕ → List ℕ) → Ranged left a → Later 0 a
     → ((n : ℕ) → 0 < n → n ≤ left → length (more n) ≤ 12 * (left - n) + 23) → length (answerLine a ++ afterEvent a more) ≤ 12 * left + 23
 after-answer left (happens e n) more r w h =
     let i = event-line e (r .1) in
-    let j = h n (w .0) (omega (arith, w .1)) in
-    rw (length-append (eventLine e) (more n)) (omega (arith, w .0, r .0))
+    let j = h n w (r .0) in
+    rw (length-append (eventLine e) (more n)) (omega (arith, r .0))
 after-answer left (spends n) more r w h = rw (length-append openLine []) (omega (arith, open-line))
 after-answer left (finishes c n) more r w h = rw (length-append (endLine c) []) (omega (arith, end-line c (end-small c (r .1))))
 after-answer left (refuses q) more r w h =
     rw (length-append (refusedLine q) []) (omega (arith, refused-line q (r .0) (omega (arith, r .1))))
 after-answer left (halts why) more r w h = absurd r
 
-replicate-bytes : (n : ℕ) → Bytes (replicate n 0)
-replicate-bytes zero k = omega arith
-replicate-bytes (suc n) zero = omega arith
-replicate-bytes (suc n) (suc k) = replicate-bytes n k
-
-zeros-bytes : Bytes zeros
-zeros-bytes = replicate-bytes 64
-
 runs-length : (k : ℕ) (code : List ℕ) → Bytes code → (state : List ℕ) (left : ℕ) → length (runsText k code state left) ≤ 12 * left + 23
 unfolding runsText
 runs-length zero code B state left = omega arith
 runs-length (suc k) code B state left =
     let r = runOn code state zeros left in
-    after-answer left (r .answer) (λ n. runsText k code (r .bytes) (left - n)) (run-ranged code B state zeros left zeros-bytes) (event-within code state zeros left)
+    after-answer left (r .answer) (λ n. runsText k code (r .bytes) (left - n)) (run-ranged code B state zeros left zeros-bytes) (on-bytes-later code state zeros left)
     (λ n p q. runs-length k code B (r .bytes) (left - n))
 
 pub lines-length : (code : List ℕ) → Bytes code → (state : List ℕ) (left : ℕ) → length (linesOf code state left) ≤ 12 * left + 23

@@ -28,7 +28,21 @@ within-text {whole} {text} l = omega (arith, l .fits, ap (length {A = ℕ}) (l .
 pub in-front : (whole text after : List ℕ) (n : ℕ) → length whole ≤ length text → Puts text 0 whole after n → Lists whole text after n
 in-front whole text after n h p = record { all = let e = p .index in omega arith; fits = let e = p .index in omega arith; bytes = p .bytes }
 
--- one after the other
+-- of a text by another name
+pub fits-as : (at room : ℕ) {xs ys : List ℕ} → xs ≡ ys → at + length xs ≤ room → at + length ys ≤ room
+fits-as at room e h = rw (← e) h
+
+pub puts-as : {text after : List ℕ} {at next : ℕ} {xs ys : List ℕ} → xs ≡ ys → Puts text at ys after next → Puts text at xs after next
+puts-as e p = rw e p
+
+-- of two, one after the other: room for the first, and for the second once the first is there
+pub front-fits : (at room : ℕ) (xs ys : List ℕ) → at + length (xs ++ ys) ≤ room → at + length xs ≤ room
+front-fits at room xs ys h = let k = length-append xs ys in omega arith
+
+pub back-fits : {text after : List ℕ} {at next : ℕ} {xs : List ℕ} (ys : List ℕ) → Puts text at xs after next → at + length (xs ++ ys) ≤ length text → next + length ys ≤ length after
+back-fits {text} {after} {at} {next} {xs} ys p h =
+    let k = length-append xs ys in let e = p .index in let l = ap length (p .bytes) ∙ length-sets text at xs in omega arith
+
 pub join : (text : List ℕ) (at : ℕ) (xs ys middle after : List ℕ) (next last : ℕ)
     → Puts text at xs middle next → Puts middle next ys after last → Puts text at (xs ++ ys) after last
 join text at xs ys middle after next last p q = record {
@@ -91,28 +105,28 @@ pub room-2 : (word : List ℕ) (m n : ℕ) → length (line word (m ∷ (n ∷ [
 room-2 word m n = length-append word (numbers (m ∷ (n ∷ []))) ∙ ap (λ k. length word + k) (two-numbers m n)
 
 -- ── a text, line by line ──
--- what is left finishes the text
-pub record Left (text₀ whole text : List ℕ) (at : ℕ) (rest : List ℕ) : Type 0 where
-  pub index : at + length rest ≡ length whole
-  pub bytes : sets text at rest ≡ sets text₀ 0 whole
+-- what is left finishes the text, which begins at an index
+pub record Left (text₀ : List ℕ) (from : ℕ) (whole text : List ℕ) (at : ℕ) (rest : List ℕ) : Type 0 where
+  pub index : at + length rest ≡ from + length whole
+  pub bytes : sets text at rest ≡ sets text₀ from whole
   pub long : length text ≡ length text₀
 
-pub begun : (text whole : List ℕ) → Left text whole text 0 whole
-begun text whole = record { index = omega arith; bytes = refl; long = refl }
+pub begun : (text : List ℕ) (from : ℕ) (whole : List ℕ) → Left text from whole text from whole
+begun text from whole = record { index = refl; bytes = refl; long = refl }
 
-pub room-left : (text₀ whole text : List ℕ) (at : ℕ) (xs ys rest : List ℕ) → Left text₀ whole text at rest → rest ≡ xs ++ ys → length whole ≤ length text₀ → at + length xs ≤ length text
-room-left text₀ whole text at xs ys rest l e h = let k = l .index in let g = l .long in let i = ap length e in let j = length-append xs ys in omega arith
+module _ (text₀ : List ℕ) (from : ℕ) (whole text : List ℕ) (at : ℕ) (rest : List ℕ) (l : Left text₀ from whole text at rest) where
+  pub room-left : (xs ys : List ℕ) → rest ≡ xs ++ ys → from + length whole ≤ length text₀ → at + length xs ≤ length text
+  room-left xs ys e h = let k = l .index in let g = l .long in let i = ap length e in let j = length-append xs ys in omega arith
 
-pub goes-left : (text₀ whole text : List ℕ) (at : ℕ) (xs ys rest after : List ℕ) (next : ℕ)
-    → Left text₀ whole text at rest → rest ≡ xs ++ ys → Puts text at xs after next → Left text₀ whole after next ys
-goes-left text₀ whole text at xs ys rest after next l e p = record {
-  index = let k = l .index in let g = p .index in let i = ap length e in let j = length-append xs ys in omega arith;
-  bytes = ap (λ x. sets x next ys) (p .bytes) ∙ sets-join text at next xs ys (p .index) ∙ ap (λ x. sets text at x) (sym e) ∙ l .bytes;
-  long = ap length (p .bytes) ∙ length-sets text at xs ∙ l .long;
-}
+  pub goes-left : (xs ys after : List ℕ) (next : ℕ) → rest ≡ xs ++ ys → Puts text at xs after next → Left text₀ from whole after next ys
+  goes-left xs ys after next e p = record {
+    index = let k = l .index in let g = p .index in let i = ap length e in let j = length-append xs ys in omega arith;
+    bytes = ap (λ x. sets x next ys) (p .bytes) ∙ sets-join text at next xs ys (p .index) ∙ ap (λ x. sets text at x) (sym e) ∙ l .bytes;
+    long = ap length (p .bytes) ∙ length-sets text at xs ∙ l .long;
+  }
 
-pub finished : (text₀ whole text : List ℕ) (at : ℕ) (rest : List ℕ) → Left text₀ whole text at rest → rest ≡ [] → Puts text₀ 0 whole text at
-finished text₀ whole text at rest l e = record {
-  index = let k = l .index in let i = ap length e in omega arith;
-  bytes = sym (ap (λ x. sets text at x) e) ∙ l .bytes;
-}
+  pub finished : rest ≡ [] → Puts text₀ from whole text at
+  finished e = record {
+    index = let k = l .index in let i = ap length e in omega arith;
+    bytes = sym (ap (λ x. sets text at x) e) ∙ l .bytes;
+  }

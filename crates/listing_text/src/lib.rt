@@ -1,45 +1,52 @@
 // The listing of a table, as text in lent bytes: its events, and its end, `open 0`, or a refusal.
 mod lines;
+mod plays;
 
 use compile::Compiled;
 use formats::limits::*;
 use formats::state::*;
-use run::Ran;
+use run::Played;
 use run::Started;
 ghost use mathlib.Core.Path.{_≡_};
 ghost use Prim.Native.Nat.{_≤_};
 ghost use lib.ListN.{length};
-ghost use Rattle.run.specs.Answers.{answerOf};
+ghost use Rattle.run.specs.Answers.{playNumbers};
 ghost use Rattle.listing_text.specs.Text.{linesOf, macroText, listingOf};
-ghost use Rattle.listing_text.specs.Steps.{eventSteps};
+ghost use Rattle.listing_text.specs.Told.{fullSteps};
 ghost use Rattle.listing_text.specs.Length.{textRoom};
 ghost use Rattle.listing_text.specs.Writing.{Lists};
 
-// The steps of a run that gave an event; 0 where it gave none, after which there is no further run.
-fn event_steps(a: Ran) -> u16
-    ensures { λ r. ⌜ r ≡ eventSteps (answerOf a) ⌝ }
+// The bytes lent to a play for its answers: 512 events.
+const ROOM: usize = 4096;
+
+// The steps of a play that stopped for want of room; 0 of any other, after which there is nothing left to play. A play has room for an event, and every
+// event takes a step.
+fn full_steps(p: Played) -> u16
+    ensures { λ r. ⌜ r ≡ fullSteps (playNumbers p) ⌝ }
 {
-    match a {
-        Ran::Happens(_, n) => n,
-        Ran::Spends(_) => 0,
-        Ran::Finishes(_, _) => 0,
-        Ran::Refused(_) => 0,
+    match p {
+        Played::Spends(_, _) => 0,
+        Played::Finishes(_, _, _) => 0,
+        Played::Fills(n, _) => n,
+        Played::Refused(_) => 0,
     }
 }
 
-// A line for each run, all readings 0, until one gives no event. The steps are counted over all runs together (S14).
+// A line for each run, all readings 0, until one gives no event. The steps are counted over all runs together (S14). The runs are played, so that the
+// macro is tested once for each 512 events and not for each.
 fn list_runs(code: &[u8], state: &mut [u8], text: &mut [u8]) -> usize
     requires { ⌜ length (linesOf (now code) (now state) 65535) ≤ length (now text) ⌝ }
     ensures { λ r. ⌜ Lists (linesOf (now (code .entry)) (now (state .entry)) 65535) (now (text .entry)) (now (text .exit)) r ⌝ }
 {
     let readings = [0u8; FADERS];
+    let mut answers = [0u8; ROOM];
     let mut left: u16 = 65535;
     let mut at = 0;
     let mut goes = true;
     while goes {
-        let a = run::run(code, state, &readings, left);
-        at = lines::put_answer(text, at, a);
-        let n = event_steps(a);
+        let p = run::play(code, state, &readings, left, &mut answers);
+        at = plays::put_played(text, at, &answers, p);
+        let n = full_steps(p);
         left -= n;
         goes = 0 < n;
     }

@@ -1,13 +1,10 @@
 // The lines of a listing, written into lent bytes from an index on. Each function answers the index after what it wrote.
-use machine_ops::Event;
-use run::Ran;
 use values::Refusal;
 ghost use mathlib.Core.List.{_∷_, []};
 ghost use Prim.Native.Nat.{_+_, _≤_};
 ghost use lib.ListN.{length};
 ghost use Rattle.values.specs.Refusals.{refusalOf};
-ghost use Rattle.run.specs.Answers.{eventBack, answerOf};
-ghost use Rattle.listing_text.specs.Text.{decimal, line, eventLine, refusedLine, answerLine};
+ghost use Rattle.listing_text.specs.Text.{decimal, line, refusedLine};
 ghost use Rattle.listing_text.specs.Writing.{Puts};
 
 // A number in decimal.
@@ -53,7 +50,7 @@ fn put_newline(text: &mut [u8], at: usize) -> usize
     at + 1
 }
 
-fn put_line_1(text: &mut [u8], at: usize, word: &[u8], n: u32) -> usize
+pub fn put_line_1(text: &mut [u8], at: usize, word: &[u8], n: u32) -> usize
     requires { ⌜ at + length (line (now word) (n ∷ [])) ≤ length (now text) ⌝ }
     ensures { λ r. ⌜ Puts (now (text .entry)) at (line (now (word .entry)) (n ∷ [])) (now (text .exit)) r ⌝ }
 {
@@ -62,7 +59,7 @@ fn put_line_1(text: &mut [u8], at: usize, word: &[u8], n: u32) -> usize
     put_newline(text, b)
 }
 
-fn put_line_2(text: &mut [u8], at: usize, word: &[u8], m: u32, n: u32) -> usize
+pub fn put_line_2(text: &mut [u8], at: usize, word: &[u8], m: u32, n: u32) -> usize
     requires { ⌜ at + length (line (now word) (m ∷ (n ∷ []))) ≤ length (now text) ⌝ }
     ensures { λ r. ⌜ Puts (now (text .entry)) at (line (now (word .entry)) (m ∷ (n ∷ []))) (now (text .exit)) r ⌝ }
 {
@@ -72,33 +69,9 @@ fn put_line_2(text: &mut [u8], at: usize, word: &[u8], m: u32, n: u32) -> usize
     put_newline(text, c)
 }
 
-fn put_event(text: &mut [u8], at: usize, e: Event) -> usize
-    requires { ⌜ at + length (eventLine (eventBack e)) ≤ length (now text) ⌝ }
-    ensures { λ r. ⌜ Puts (now (text .entry)) at (eventLine (eventBack e)) (now (text .exit)) r ⌝ }
-{
-    match e {
-        Event::Set(channel, level) => put_line_2(text, at, b"set", channel as u32, level as u32),
-        Event::Hold(group) => put_line_1(text, at, b"hold", group as u32),
-        Event::Release(group) => put_line_1(text, at, b"release", group as u32),
-    }
-}
-
 pub fn put_refused(text: &mut [u8], at: usize, refusal: Refusal) -> usize
     requires { ⌜ at + length (refusedLine (refusalOf refusal)) ≤ length (now text) ⌝ }
     ensures { λ r. ⌜ Puts (now (text .entry)) at (refusedLine (refusalOf refusal)) (now (text .exit)) r ⌝ }
 {
     put_line_2(text, at, b"refused", refusal.number as u32, refusal.place)
-}
-
-// The line of a run's answer.
-pub fn put_answer(text: &mut [u8], at: usize, a: Ran) -> usize
-    requires { ⌜ at + length (answerLine (answerOf a)) ≤ length (now text) ⌝ }
-    ensures { λ r. ⌜ Puts (now (text .entry)) at (answerLine (answerOf a)) (now (text .exit)) r ⌝ }
-{
-    match a {
-        Ran::Happens(e, _) => put_event(text, at, e),
-        Ran::Spends(_) => put_line_1(text, at, b"open", 0),
-        Ran::Finishes(c, _) => put_line_1(text, at, b"end", c as u32),
-        Ran::Refused(refusal) => put_refused(text, at, refusal),
-    }
 }

@@ -76,7 +76,7 @@ written-later (finishes c n) t l h = tt
 written-later (refuses r) t l h = tt
 written-later (halts why) t l h = tt
 
-on-bytes-later : (c l readings : List ℕ) (allowance : ℕ) → Later 0 (runOn c l readings allowance .answer)
+pub on-bytes-later : (c l readings : List ℕ) (allowance : ℕ) → Later 0 (runOn c l readings allowance .answer)
 unfolding runOn
 on-bytes-later c l readings allowance = judged (judgeMacro c)
   where
