@@ -20,26 +20,28 @@ use Rattle.machine_ops.proofs.RunningFacts.{few-records}
 use Rattle.machine_run.specs.declared.aside.Landing.{Landing}
 use Rattle.machine_run.specs.declared.aside.Landing.the-variants as landing
 use Rattle.machine_run.specs.Held.{Held, Poised, Reaches}
-use Rattle.machine_run.specs.Aside.{Coded, Aside, One, Leads, Led, Lands, Cells, Takes, Follows, Paired, operates, pushes, loads, Leaves, stores, jumps, passes, puts}
+use Rattle.machine_run.specs.Aside.{Coded, Aside, One, Leads, Led, Lands, Cells, Takes, Follows, Paired, operates, pushes, loads, Leaves, Grows, stores, jumps, passes, puts}
 use Rattle.machine_run.proofs.OpAsks.{asks-load, asks-store, asks-operate, asks-unless}
 use Rattle.machine_run.proofs.AsideSteps.{whole, one-whole, now-whole, room-whole, in-code, poised-whole, More, Taken, take, gave, broke, Back, put-bytes, put-back}
 use Rattle.machine_run.proofs.AsideSteps as steps
 
 -- from bytes s after i₀ steps to the operand w, of type byte t, aside after n
-pub record Going (code readings : List ℕ) (k : ℕ) (s : List ℕ) (i₀ : ℕ) (l₀ l : List ℕ) (f d i n w t : ℕ) : Type 0 where
+pub record Going (code readings : List ℕ) (k : ℕ) (s : List ℕ) (at₀ i₀ : ℕ) (l₀ l : List ℕ) (f d i n w t : ℕ) : Type 0 where
   pub upto : n ≤ k
+  pub grown : i₀ ≤ n
+  pub fresh : n ≡ i₀ → i ≡ at₀
   pub long : length l ≡ length l₀
   pub one : One code l f d i w t
   pub leads : Leads code readings k s i₀ (encode (one-whole one)) n
 
-pub start : {code readings l : List ℕ} {k f d i n w t : ℕ} → One code l f d i w t → n ≤ k → Going code readings k (wentTo (pushed l f d w t) f i) n l l f d i n w t
+pub start : {code readings l : List ℕ} {k f d i n w t : ℕ} → One code l f d i w t → n ≤ k → Going code readings k (wentTo (pushed l f d w t) f i) i n l l f d i n w t
 start {code} {readings} {k = k} {n = n} O h =
-    record { upto = h; long = refl; one = O; leads = λ l₀ R. subst (λ (x : List ℕ). Reaches code readings k l₀ x n) (put-bytes O) R }
+    record { upto = h; grown = omega arith; fresh = λ e. refl; long = refl; one = O; leads = λ l₀ R. subst (λ (x : List ℕ). Reaches code readings k l₀ x n) (put-bytes O) R }
 
 -- the operand is put back
-pub put : {code readings : List ℕ} {k : ℕ} {s : List ℕ} {i₀ : ℕ} {l₀ l : List ℕ} {f d i n w t : ℕ} → Going code readings k s i₀ l₀ l f d i n w t
+pub put : {code readings : List ℕ} {k : ℕ} {s : List ℕ} {at₀ i₀ : ℕ} {l₀ l : List ℕ} {f d i n w t : ℕ} → Going code readings k s at₀ i₀ l₀ l f d i n w t
     → Lands code readings k f s i₀ (wentTo (pushed l f d w t) f i) (landing.Lands i n)
-put {code} {readings} {k} {s} {i₀} {n = n} G =
+put {code} {readings} {k} {s} {i₀ = i₀} {n = n} G =
     let B = put-back (G .one) in (
       record { held = B .held; upto = G .upto; leads = subst (λ (z : List ℕ). Leads code readings k s i₀ z n) (sym (put-bytes (G .one))) (G .leads) },
       B .runs,
@@ -63,17 +65,18 @@ pub record Two (code readings : List ℕ) (k : ℕ) (s : List ℕ) (i₀ : ℕ) 
   pub number : c ≡ byteAt code (codePlace code spot + 3)
   pub binary : c < 20
   pub more : taken < k
+  pub grown : i₀ ≤ taken
   pub long : length l ≡ length l₀
   pub leads : Leads code readings k s i₀ (encode (whole aside)) taken
 
 module _ {code readings : List ℕ} {k : ℕ} {s : List ℕ} {i₀ : ℕ} {l₀ l : List ℕ} {f d i n c u x y : ℕ} (low : Bytes readings) (T : Two code readings k s i₀ l₀ l f d i n c u x y) (r : Worked)
     (W : Works2 c u x y r) where
-  pub gives : (w t : ℕ) → r ≡ worked.Gives w t → Going code readings k s i₀ l₀ l f d i n w t
-  gives w t e =
+  pub gives : (at₀ w t : ℕ) → r ≡ worked.Gives w t → Going code readings k s at₀ i₀ l₀ l f d i n w t
+  gives at₀ w t e =
       let g = gave (T .aside) readings low (T .op-is) (T .number) refl refl (T .binary) (T .left-type) (T .left-word) (T .right-word) r W w t e in
-      let G : Going code readings k s i₀ l₀ l f d (T .spot + 1) (T .taken + 1) w t =
-      record { upto = omega (arith, T .more); long = T .long; one = g .0; leads = λ b R. g .1 k (T .taken) (T .more) b (T .leads b R) } in
-      subst (λ (z : ℕ). Going code readings k s i₀ l₀ l f d i z w t) (T .so-far) (subst (λ (z : ℕ). Going code readings k s i₀ l₀ l f d z (T .taken + 1) w t) (T .at-spot) G)
+      let G : Going code readings k s at₀ i₀ l₀ l f d (T .spot + 1) (T .taken + 1) w t =
+      record { upto = omega (arith, T .more); grown = omega (arith, T .grown); fresh = λ q. absurd (omega (arith, T .grown)); long = T .long; one = g .0; leads = λ b R. g .1 k (T .taken) (T .more) b (T .leads b R) } in
+      subst (λ (z : ℕ). Going code readings k s at₀ i₀ l₀ l f d i z w t) (T .so-far) (subst (λ (z : ℕ). Going code readings k s at₀ i₀ l₀ l f d z (T .taken + 1) w t) (T .at-spot) G)
 
   pub breaks : (e : ℕ) → r ≡ worked.Ends e → Led code readings k s i₀ (conditioned l e) n × (byteAt (conditioned l e) 0 ≡ 1)
   breaks e q =
@@ -96,8 +99,8 @@ some-steps (pushes _ _ _ _ _ _ _ e) = omega arith
 some-steps (loads _ _ _ _ _ _ _ e) = omega arith
 
 -- the next instruction is read
-pub record Ready (code readings : List ℕ) (k : ℕ) (s : List ℕ) (i₀ : ℕ) (l₀ l : List ℕ) (f d i n w t base op a b : ℕ) : Type 0 where
-  pub going : Going code readings k s i₀ l₀ l f d i n w t
+pub record Ready (code readings : List ℕ) (k : ℕ) (s : List ℕ) (at₀ i₀ : ℕ) (l₀ l : List ℕ) (f d i n w t base op a b : ℕ) : Type 0 where
+  pub going : Going code readings k s at₀ i₀ l₀ l f d i n w t
   pub low : Bytes readings
   pub coded : Coded code base
   pub more : n < k
@@ -106,11 +109,11 @@ pub record Ready (code readings : List ℕ) (k : ℕ) (s : List ℕ) (i₀ : ℕ
   pub b-is : b ≡ wordAt code (base + 8 * i + 4)
   pub b-low : b < 4294967296
 
-pub stands : {code readings : List ℕ} {k : ℕ} {s : List ℕ} {i₀ : ℕ} {l₀ l : List ℕ} {f d i n w t : ℕ} → Going code readings k s i₀ l₀ l f d i n w t → (base : ℕ) → Coded code base
+pub stands : {code readings : List ℕ} {k : ℕ} {s : List ℕ} {at₀ i₀ : ℕ} {l₀ l : List ℕ} {f d i n w t : ℕ} → Going code readings k s at₀ i₀ l₀ l f d i n w t → (base : ℕ) → Coded code base
     → (base + 8 * i + 8 ≤ length code) × (i < 65535) × (base < 65536)
 stands G base C = (C .inside _ (in-code (G .one .aside)), room-whole (G .one .aside) .address, C .small)
 
-module _ {code readings : List ℕ} {k : ℕ} {s : List ℕ} {i₀ : ℕ} {l₀ l : List ℕ} {f d i n w t base op a b : ℕ} (R : Ready code readings k s i₀ l₀ l f d i n w t base op a b) where
+module _ {code readings : List ℕ} {k : ℕ} {s : List ℕ} {at₀ i₀ : ℕ} {l₀ l : List ℕ} {f d i n w t base op a b : ℕ} (R : Ready code readings k s at₀ i₀ l₀ l f d i n w t base op a b) where
   abbrev O : One code l f d i w t
   O = R .going .one
 
@@ -170,6 +173,7 @@ module _ {code readings : List ℕ} {k : ℕ} {s : List ℕ} {i₀ : ℕ} {l₀ 
         number = ec ∙ ea;
         binary = lo;
         more = R .more;
+        grown = R .going .grown;
         long = on-long (K .aside .on) ∙ sym (on-long (A .on)) ∙ R .going .long;
         leads = subst (λ (z : Machine). Leads code readings k s i₀ (encode z) n) (K .same) (R .going .leads);
       } in
@@ -194,6 +198,7 @@ module _ {code readings : List ℕ} {k : ℕ} {s : List ℕ} {i₀ : ℕ} {l₀ 
         number = N .1;
         binary = F .low;
         more = omega (arith, F .allowed);
+        grown = omega (arith, R .going .grown);
         long = R .going .long;
         leads = λ z Q. M .leads k n (R .more) z (R .going .leads z Q);
       } in
@@ -217,6 +222,7 @@ module _ {code readings : List ℕ} {k : ℕ} {s : List ℕ} {i₀ : ℕ} {l₀ 
         number = N .1;
         binary = F .low;
         more = omega (arith, F .allowed);
+        grown = omega (arith, R .going .grown);
         long = R .going .long;
         leads = λ z Q. M .1 .leads k n (R .more) z (R .going .leads z Q);
       } in
@@ -251,5 +257,26 @@ module _ {code readings : List ℕ} {k : ℕ} {s : List ℕ} {i₀ : ℕ} {l₀ 
   left {l′} (puts el er) =
       subst (λ (z : Landing). Lands code readings k f s i₀ l′ z) (sym er) (subst (λ (z : List ℕ). Lands code readings k f s i₀ z (landing.Lands i n)) (sym el) (put (R .going)))
 
-pub put-asks : {code readings : List ℕ} {k : ℕ} {s : List ℕ} {i₀ : ℕ} {l₀ l : List ℕ} {f d i n w t : ℕ} → Going code readings k s i₀ l₀ l f d i n w t → (length l ≡ stateLength) × (f ≤ 10200) × (d < 32)
+  -- steps were taken, or the first instruction is at hand still
+  pub left-grows : {l′ : List ℕ} {r : Landing} → (op ≡ 7 → 20 ≤ a) → Leaves l f d i n op a b w t l′ r → Grows code (base + 8 * at₀) i₀ k r
+  left-grows high (stores e g p q el er) = subst (Grows code (base + 8 * at₀) i₀ k) (sym er) (omega (arith, R .going .grown), λ x y z. omega (arith, R .going .grown))
+  left-grows high (jumps e z el er) = subst (Grows code (base + 8 * at₀) i₀ k) (sym er) (omega (arith, R .going .grown), λ x y z. omega (arith, R .going .grown))
+  left-grows high (passes e z el er) = subst (Grows code (base + 8 * at₀) i₀ k) (sym er) (omega (arith, R .going .grown), λ x y z. omega (arith, R .going .grown))
+  left-grows high (puts el er) = subst (Grows code (base + 8 * at₀) i₀ k) (sym er) (R .going .grown, λ x y z. later x y)
+    where
+      same-place : n ≡ i₀ → base + 8 * at₀ ≡ base + 8 * i
+      same-place e = let q = R .going .fresh e in omega arith
+
+      later : byteAt code (base + 8 * at₀ + 2) ≡ 7 → byteAt code (base + 8 * at₀ + 3) < 20 → i₀ < n
+      later x y =
+          let not : n ≡ i₀ → ⊥ = λ e.
+          let a7 : op ≡ 7 = R .op-is ∙ ap (λ (z : ℕ). byteAt code (z + 2)) (sym (same-place e)) ∙ x in
+          let a3 : a ≡ byteAt code (base + 8 * at₀ + 3) = R .a-is ∙ ap (λ (z : ℕ). byteAt code (z + 3)) (sym (same-place e)) in
+          omega (arith, high a7) in
+          omega (arith, not, R .going .grown)
+
+pub put-grows : {code readings : List ℕ} {k : ℕ} {s : List ℕ} {at₀ i₀ : ℕ} {l₀ l : List ℕ} {f d i n w t : ℕ} (p : ℕ) → Going code readings k s at₀ i₀ l₀ l f d i n w t → k ≤ n → Grows code p i₀ k (landing.Lands i n)
+put-grows p G h = (G .grown, λ x y z. omega arith)
+
+pub put-asks : {code readings : List ℕ} {k : ℕ} {s : List ℕ} {at₀ i₀ : ℕ} {l₀ l : List ℕ} {f d i n w t : ℕ} → Going code readings k s at₀ i₀ l₀ l f d i n w t → (length l ≡ stateLength) × (f ≤ 10200) × (d < 32)
 put-asks G = let A = G .one .aside in (on-long (A .on), room-whole A .place, omega (arith, room-whole A .depth))

@@ -7,3 +7,4 @@ pub mod LoopKeeps
 pub mod LoopInvariant
 pub mod AsideSteps
 pub mod AsideLoop
+pub mod AsideBegins

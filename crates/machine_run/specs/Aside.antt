@@ -91,7 +91,7 @@ pub data Paired (code : List ℕ) (p : ℕ) (l : List ℕ) (f n op a b w t room 
 
 abbrev pub Pairs : List ℕ → ℕ → List ℕ → ℕ → ℕ → ℕ → ℕ → ℕ → ℕ → ℕ → ℕ → List ℕ → Pair → Type 0
 Pairs code p l f n op a b w t room l′ (pair.Works c u x y k s) = Paired code p l f n op a b w t room l′ c u x y k s
-Pairs code p l f n op a b w t room l′ pair.Other = l′ ≡ l
+Pairs code p l f n op a b w t room l′ pair.Other = (l′ ≡ l) × (op ≡ 7 → 20 ≤ a)
 
 pub data Leaves (l : List ℕ) (f n i j op a b w t : ℕ) (l′ : List ℕ) (r : Landing) : Type 0 where
   stores : op ≡ 6 → (g : ℕ) → (a ≡ 0 → g ≡ f) → (a ≡ 1 → g ≡ 32) → l′ ≡ wentTo (cellSet l g b w t) f (i + 1) → r ≡ landing.Lands (i + 1) (j + 1) → Leaves l f n i j op a b w t l′ r
@@ -110,3 +110,8 @@ abbrev pub Lands : List ℕ → List ℕ → ℕ → ℕ → List ℕ → ℕ �
 Lands code readings k f s i l (landing.Lands at′ j) =
     Led code readings k s i l j × (byteAt l 0 ≡ 0) × (f ≡ activationsAt + activationLength * (byteAt l 2 - 1)) × (at′ ≡ halfAt l (f + 4))
 Lands code readings k f s i l (landing.Breaks j) = Led code readings k s i l j × (byteAt l 0 ≡ 1)
+
+-- that steps are taken, where the first instruction, at p, is an operator of two operands and may be done
+abbrev pub Grows : List ℕ → ℕ → ℕ → ℕ → Landing → Type 0
+Grows code p i k (landing.Lands at′ j) = (i ≤ j) × (byteAt code (p + 2) ≡ 7 → byteAt code (p + 3) < 20 → i < k → i < j)
+Grows code p i k (landing.Breaks j) = Unit {0}

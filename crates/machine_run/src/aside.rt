@@ -2,13 +2,13 @@
 // operator, a store or a jump: it goes into the bytes only where another op comes or the allowance is used. Till then the bytes hold the operands below it,
 // and an address that was left behind.
 ghost use mathlib.Core.Path.{_≡_};
-ghost use Prim.Native.Nat.{_+_, _≤_, _<_};
+ghost use Prim.Native.Nat.{_+_, _*_, _≤_, _<_};
 ghost use mathlib.Core.Bool.{true};
 ghost use lib.ListN.{length};
 ghost use Rattle.words.specs.Numbers.{byteAt};
 ghost use Rattle.bytecode.specs.State.{stateLength};
 ghost use Rattle.machine_frames.specs.Bytes.{wentTo, pushed};
-ghost use Rattle.machine_run.specs.Aside.{Coded, One, Begins, Pairs, Leaves, Lands};
+ghost use Rattle.machine_run.specs.Aside.{Coded, One, Begins, Pairs, Leaves, Lands, Grows};
 ghost use Rattle.machine_run.specs.declared.aside.Landing.the-variants.{Lands as lands};
 use formats::compiled::*;
 use formats::state::*;
@@ -194,7 +194,8 @@ pub fn run_aside(
     t: u8,
 ) -> Landing
     requires { ⌜ (Coded (now code) base) × (One (now code) (now state) frame depth address w t) × (taken ≤ allowance) ⌝ }
-    ensures { λ r. ⌜ Lands (now (code .entry)) (now (readings .entry)) allowance frame (wentTo (pushed (now (state .entry)) frame depth w t) frame address) taken (now (state .exit)) r ⌝ }
+    ensures { λ r. ⌜ (Lands (now (code .entry)) (now (readings .entry)) allowance frame (wentTo (pushed (now (state .entry)) frame depth w t) frame address) taken (now (state .exit)) r)
+        × (Grows (now (code .entry)) (base + 8 * address) taken allowance r) ⌝ }
 {
     let mut k = depth;
     let mut i = address;

@@ -7,7 +7,7 @@ use Rattle.machine_run.proofs.aside.pair_up.Statement.{statement}
 use Rattle.machine_run.proofs.aside.pair_up.Tie as tie
 
 returns : tie.Need-returns
-returns c = search needs
+returns c = (refl, λ e. omega arith)
 
 sub-k : tie.Need-sub-k
 sub-k c = omega (arith, c .before .before .before .before .pre .5 (c .before .match .keys1) (omega arith))
@@ -61,13 +61,13 @@ returns-4 : tie.Need-returns-4
 returns-4 c = operates (c .before .before .before .before .before .before .before .before .before .match .keys1) refl (omega arith) (record { word = c .before .before .before .before .before .before .operand-word .ensures; type = c .before .before .before .before .operand-type .ensures; bytes = c .before .before .pop .ensures; depth = refl }) refl refl
 
 returns-5 : tie.Need-returns-5
-returns-5 c = search needs
+returns-5 c = (refl, λ e. absurd (omega (arith, c .before .before .match .keys2)))
 
 returns-6 : tie.Need-returns-6
-returns-6 c = search needs
+returns-6 c = (refl, λ e. absurd (omega (arith, c .before .before .match .keys3)))
 
 returns-7 : tie.Need-returns-7
-returns-7 c = search needs
+returns-7 c = (refl, λ e. absurd (c .match .rest .0 .0 .1 e))
 
 pub pair-up-spec : {M : Type 1} → statement M
 pair-up-spec =

@@ -8,17 +8,17 @@ use lib.ListN.{length}
 use denote.Ref.{now}
 use Rattle.words.specs.Numbers.{byteAt}
 use Rattle.machine_frames.specs.Bytes.{wentTo, pushed}
-use Rattle.machine_run.specs.Aside.{Pairs, Paired, Leaves, Lands}
+use Rattle.machine_run.specs.Aside.{Pairs, Paired, Leaves, Lands, Grows}
 use Rattle.machine_run.specs.declared.aside.Pair.{Pair}
 use Rattle.machine_run.specs.declared.aside.Landing.{Landing}
 use Rattle.machine_run.specs.declared.aside.Landing.the-variants as landing
-use Rattle.machine_run.proofs.AsideLoop.{Going, Ready, Two, start, put, gives, breaks, break-room, stands, pair-asks, paired, leave-asks, left, put-asks, two-room, some-steps}
+use Rattle.machine_run.proofs.AsideLoop.{Going, Ready, Two, start, put, gives, breaks, break-room, stands, pair-asks, paired, leave-asks, left, left-grows, put-grows, put-asks, two-room, some-steps}
 use Rattle.machine_run.proofs.aside.run_aside.Statement.{statement}
 use Rattle.machine_run.proofs.aside.run_aside.Tie as tie
 
 abbrev Inv-loop : tie.InvT-loop
 Inv-loop code base state₀ readings frame depth address taken allowance w t k₀ i₀ n₀ x₀ u₀ state k i n x u =
-    Going code readings allowance (wentTo (pushed state₀ frame depth w t) frame address) taken state₀ state frame k i n x u
+    Going code readings allowance (wentTo (pushed state₀ frame depth w t) frame address) address taken state₀ state frame k i n x u
 
 abbrev μ-loop : tie.MeasureT-loop
 μ-loop code base state₀ readings frame depth address taken allowance w t k₀ i₀ n₀ x₀ u₀ state k i n x u = allowance - n
@@ -34,7 +34,7 @@ ready : (p : tie.After-word-at Inv-loop μ-loop) →
     let l = loop-of p .loop in
     let s = start-of (loop-of p) .args in
     let place = s .base + 8 * l .i in
-    Ready (now (s .code)) (now (s .readings)) (s .allowance) (wentTo (pushed (now (s .state)) (s .frame) (s .depth) (s .w) (s .t)) (s .frame) (s .address)) (s .taken) (now (s .state)) (l .state) (s .frame)
+    Ready (now (s .code)) (now (s .readings)) (s .allowance) (wentTo (pushed (now (s .state)) (s .frame) (s .depth) (s .w) (s .t)) (s .frame) (s .address)) (s .address) (s .taken) (now (s .state)) (l .state) (s .frame)
     (l .k) (l .i) (l .n) (l .x) (l .u) (s .base) (byteAt (now (s .code)) (place + 2)) (byteAt (now (s .code)) (place + 3)) (p .word-at .result)
 ready p =
     let l = loop-of p in
@@ -84,7 +84,12 @@ two p = paired (ready (found-at p)) (pairs p)
 abbrev left-at : tie.After-enum-told Inv-loop μ-loop → tie.After-word-at Inv-loop μ-loop
 left-at p = p .before .before .before .before .before .before
 
-same : (p : tie.After-enum-told Inv-loop μ-loop) → p .before .before .before .before .pair-up .last .1 .1 .0 ≡ loop-of (left-at p) .loop .state
+same : (p : tie.After-enum-told Inv-loop μ-loop) →
+    let q = left-at p in
+    let l = loop-of q .loop in
+    let s = start-of (loop-of q) .args in
+    let place = s .base + 8 * l .i in
+    (p .before .before .before .before .pair-up .last .1 .1 .0 ≡ l .state) × (byteAt (now (s .code)) (place + 2) ≡ 7 → 20 ≤ byteAt (now (s .code)) (place + 3))
 same p =
     let q = left-at p in
     let l = loop-of q .loop in
@@ -150,7 +155,7 @@ loop-less : tie.Need-loop-less Inv-loop μ-loop
 loop-less c = omega (arith, two-room (two (c .before .before .before .before .before)), some-steps (pairs (c .before .before .before .before .before)))
 
 loop-again : tie.Need-loop-again Inv-loop μ-loop
-loop-again c = let p = c .before .before .before .before .before in gives (ready (found-at p) .low) (two p) _ (c .before .before .before .binary .ensures) _ _ (c .before .y .given .1)
+loop-again c = let p = c .before .before .before .before .before in gives (ready (found-at p) .low) (two p) _ (c .before .before .before .binary .ensures) _ _ _ (c .before .y .given .1)
 
 enum-known-e : tie.Need-enum-known-e Inv-loop μ-loop
 enum-known-e c = search needs
@@ -169,11 +174,13 @@ returns c =
     let p = c .before .before .before .before .before .before .before .before .before in
     let q = found-at p in
     let s = start-of (loop-of q) .args in
-    let B = breaks (ready q .low) (two p) _ (c .before .before .before .before .before .before .before .binary .ensures) _ (c .before .before .before .before .before .e .given .1) in
-    subst
-    (λ (z : List ℕ). Lands (now (s .code)) (now (s .readings)) (s .allowance) (s .frame) (wentTo (pushed (now (s .state)) (s .frame) (s .depth) (s .w) (s .t)) (s .frame) (s .address)) (s .taken) z
-    (landing.Breaks (loop-of q .loop .n + p .c .given .0 .1 .1 .1 .1 .1 .0)))
-    (sym (c .before .before .condition .ensures)) B
+    let B = breaks (ready q .low) (two p) _ (c .before .before .before .before .before .before .before .binary .ensures) _ (c .before .before .before .before .before .e .given .1) in (
+      subst
+          (λ (z : List ℕ). Lands (now (s .code)) (now (s .readings)) (s .allowance) (s .frame) (wentTo (pushed (now (s .state)) (s .frame) (s .depth) (s .w) (s .t)) (s .frame) (s .address)) (s .taken) z
+          (landing.Breaks (loop-of q .loop .n + p .c .given .0 .1 .1 .1 .1 .1 .0)))
+          (sym (c .before .before .condition .ensures)) B,
+      tt,
+    )
 
 enum-told : tie.Need-enum-told Inv-loop μ-loop
 enum-told c = search needs
@@ -183,12 +190,12 @@ leave-requires c κs =
     let p = c .before in
     let s = start-of (loop-of (left-at p)) in
     let a = leave-asks (ready (left-at p)) (omega (arith, s .fits .allowance .fits)) in
-    (ap length (same p) ∙ a .0, a .1, a .2, a .3, a .4, a .5, a .6)
+    (ap length (same p .0) ∙ a .0, a .1, a .2, a .3, a .4, a .5, a .6)
 
 same-length-2 : tie.Need-same-length-2 Inv-loop μ-loop
 same-length-2 c =
     let p = c .before .before .before .before in
-    c .before .before .leave .kept .0 ∙ ap length (same p) ∙ loop-of (left-at p) .loop .inv .long
+    c .before .before .leave .kept .0 ∙ ap length (same p .0) ∙ loop-of (left-at p) .loop .inv .long
 
 returns-2 : tie.Need-returns-2 Inv-loop μ-loop
 returns-2 c =
@@ -197,10 +204,12 @@ returns-2 c =
     let l = loop-of q .loop in
     let s = start-of (loop-of q) .args in
     let place = s .base + 8 * l .i in
-    left (ready q)
-    (subst
-    (λ (z : List ℕ). Leaves z (s .frame) (l .k) (l .i) (l .n) (byteAt (now (s .code)) (place + 2)) (byteAt (now (s .code)) (place + 3)) (q .word-at .result) (l .x) (l .u) (c .before .before .leave .last .0) (c .before .before .leave .result))
-    (same p) (c .before .before .leave .ensures))
+    let L =
+    subst
+    (λ (z : List ℕ). Leaves z (s .frame) (l .k) (l .i) (l .n) (byteAt (now (s .code)) (place + 2)) (byteAt (now (s .code)) (place + 3)) (q .word-at .result) (l .x) (l .u)
+    (c .before .before .leave .last .0) (c .before .before .leave .result))
+    (same p .0) (c .before .before .leave .ensures) in
+    (left (ready q) L, left-grows (ready q) (same p .1) L)
 
 put-back-requires : tie.Need-put-back-requires Inv-loop μ-loop
 put-back-requires c κs = put-asks (c .before .before .loop .inv)
@@ -212,13 +221,15 @@ returns-3 : tie.Need-returns-3 Inv-loop μ-loop
 returns-3 c =
     let l = c .before .before .before .before .before in
     let s = start-of l .args in
-    let g = s .code in
-    subst (λ (z : Landing). Lands (now (s .code)) (now (s .readings)) (s .allowance) (s .frame) (wentTo (pushed (now (s .state)) (s .frame) (s .depth) (s .w) (s .t)) (s .frame) (s .address)) (s .taken) (c .before .before .put-back .last .0) z)
-    (sym (c .before .before .put-back .ensures .1))
-    (subst
-    (λ (z : List ℕ). Lands (now (s .code)) (now (s .readings)) (s .allowance) (s .frame) (wentTo (pushed (now (s .state)) (s .frame) (s .depth) (s .w) (s .t)) (s .frame) (s .address)) (s .taken) z
-    (landing.Lands (l .loop .i) (l .loop .n)))
-    (sym (c .before .before .put-back .ensures .0)) (put (l .loop .inv)))
+    let s₀ = wentTo (pushed (now (s .state)) (s .frame) (s .depth) (s .w) (s .t)) (s .frame) (s .address) in
+    let r = landing.Lands (l .loop .i) (l .loop .n) in
+    subst
+    (λ (z : Landing). (Lands (now (s .code)) (now (s .readings)) (s .allowance) (s .frame) s₀ (s .taken) (c .before .before .put-back .last .0) z)
+    × (Grows (now (s .code)) (s .base + 8 * s .address) (s .taken) (s .allowance) z))
+    (sym (c .before .before .put-back .ensures .1)) (
+      subst (λ (z : List ℕ). Lands (now (s .code)) (now (s .readings)) (s .allowance) (s .frame) s₀ (s .taken) z r) (sym (c .before .before .put-back .ensures .0)) (put (l .loop .inv)),
+      put-grows _ (l .loop .inv) (omega arith),
+    )
 
 pub run-aside-spec : {M : Type 1} → statement M
 run-aside-spec =
