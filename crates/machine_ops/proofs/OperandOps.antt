@@ -139,61 +139,7 @@ module _ {l : List ℕ} {f n i : ℕ} where
         (λ m rs c0 a0 cs v vs gs fs N u eu. let q : _≡_ {A = ℕ} 0 1 = cc in absurd (omega arith))
         (λ d ed. let q : c ≡ d = cc in rw (← q) C)
 
-  module _ (a x t y : ℕ) (r : Worked) (two-operands : 2 ≤ n) (many : n ≤ 32) (ey : y ≡ wordAt l (f + (operandWordsAt + 4 * (n - 1)))) (ex : x ≡ wordAt l (f + (operandWordsAt + 4 * (n - 2))))
-      (et : t ≡ byteAt l (f + (operandTypesAt + (n - 2)))) (W : Works2 a t x y r) where
-    binary-by : (k : List ℕ) (z : Out)
-        → ((m : Macro) (rs : Shared) (c0 a0 : ℕ) (cs : List Cell) (w v : Value) (vs : List Value) (gs : List ℕ) (fs : List Activation) → Now m l f n i rs (activation c0 a0 cs (w ∷ (v ∷ vs)) gs) fs
-        → (u : Value) → r ≡ worked.Gives (valueWord u) (typeByte u) → Told (goesOn [] (u ∷ vs) (here rs (activation c0 a0 cs (w ∷ (v ∷ vs)) gs) fs)) k z)
-        → ((c : ℕ) → r ≡ worked.Ends c → Tells (λ m h. condition c h) l f n i k z)
-        → (o : Binary) → binaryOf a ≡ some o → Tells (λ m h. doOperate (binary o) h) l f n i k z
-    unfolding doOperate
-    binary-by k z G E o eo m rs t′ fs N = go (t′ .body) (t′ .address) (t′ .cells) (t′ .operands) (t′ .holds) N
-      where
-        go : (c0 a0 : ℕ) (cs : List Cell) (vs : List Value) (gs : List ℕ) → Now m l f n i rs (activation c0 a0 cs vs gs) fs → Told (doOperate (binary o) (here rs (activation c0 a0 cs vs gs) fs)) k z
-        go c0 a0 cs [] gs N = record { are = tt }
-        go c0 a0 cs (w ∷ []) gs N = record { are = tt }
-        go c0 a0 cs (w ∷ (v ∷ vs)) gs N =
-            let d : n - 1 ≡ suc (length vs) = omega (arith, N .depth) in
-            let d2 : n - 2 ≡ length vs = omega (arith, N .depth) in
-            let rw′ = read-operand (N .on) [] w (v ∷ vs) (n - 1) refl d (omega arith) in
-            let rv = read-operand (N .on) (w ∷ []) v vs (n - 2) refl d2 (omega arith) in
-            let sw = all-first (soundValue (rs .records)) w (v ∷ vs) (stands N .operands) in
-            let wb = value-back (rs .records) w (sw .0) in
-            let vb = value-back (rs .records) v (all-first (soundValue (rs .records)) v vs (sw .1) .0) in
-            let s0 = W o (tyOf v) (tyOf w) eo (et ∙ rv .1) (rw (ex ∙ rv .0) (word-valid v)) (rw (ey ∙ rw′ .0) (word-valid w)) in
-            let s : Says (apply2 o v w) r = rw (ex ∙ rv .0, vb, ey ∙ rw′ .0, wb) at s0 in
-            by-outcome m rs (activation c0 a0 cs (w ∷ (v ∷ vs)) gs) fs r k z (apply2 o v w) vs s (λ u eu. G m rs c0 a0 cs w v vs gs fs N u eu) (λ c ec. E c ec m rs _ fs N)
-
-    pub binary-gives : (w u : ℕ) (k1 k2 k3 : List ℕ) → r ≡ worked.Gives w u → k1 ≡ popped l f (n - 1) → k2 ≡ operandSet k1 f (n - 2) w u → k3 ≡ wentTo k2 f (i + 1)
-        → (o : Binary) → binaryOf a ≡ some o → Tells (λ m h. doOperate (binary o) h) l f n i k3 Goes
-    binary-gives w u k1 k2 k3 er e1 e2 e3 = binary-by k3 Goes
-        (λ m rs c0 a0 cs y′ v vs gs fs N z ez.
-        let ew : w ≡ valueWord z = cc in
-        let eu : u ≡ typeByte z = cc in
-        let p1 = on-pop y′ (N .on) (n - 1) (omega (arith, N .depth)) (omega arith) in
-        let p2 = on-operand z w u ew eu [] v vs p1 (n - 2) (omega (arith, N .depth)) (omega arith) in
-        goes-on (activation c0 a0 cs (y′ ∷ (v ∷ vs)) gs) [] Goes p2 k3 (i + 1) (e3 ∙ rw (e2, e1)) (omega (arith, N .address)) refl)
-        (λ c ec. let z : _≡_ {A = ℕ} 0 1 = cc in absurd (omega arith))
-
-    pub binary-ends : (c : ℕ) (k : List ℕ) (z : Out) → r ≡ worked.Ends c → Tells (λ m h. condition c h) l f n i k z
-        → (o : Binary) → binaryOf a ≡ some o → Tells (λ m h. doOperate (binary o) h) l f n i k z
-    binary-ends c k z er C = binary-by k z
-        (λ m rs c0 a0 cs w v vs gs fs N u eu. let q : _≡_ {A = ℕ} 0 1 = cc in absurd (omega arith))
-        (λ d ed. let q : c ≡ d = cc in rw (← q) C)
-
 -- ── by number ──
-pub binary-number : {l : List ℕ} {f n i : ℕ} (a : ℕ) (k : List ℕ) (r : Out) → a < 20 → ((o : Binary) → binaryOf a ≡ some o → Tells (λ m h. doOperate (binary o) h) l f n i k r)
-    → (o : Operator) → operatorOf a ≡ some o → Tells (λ m h. doOperate o h) l f n i k r
-unfolding unaryOf
-binary-number {l} {f} {n} {i} a k r h B o e = go (binaryOf a) refl q
-  where
-    q : keep (binaryOf a) (λ b. some (binary b)) ≡ some o
-    q = rw (ne-eqb a 20 (λ z. omega arith), ne-eqb a 21 (λ z. omega arith), ne-eqb a 22 (λ z. omega arith)) at e
-
-    go : (x : Option Binary) → binaryOf a ≡ x → keep x (λ b. some (binary b)) ≡ some o → Tells (λ m h. doOperate o h) l f n i k r
-    go none p q = let z : _≡_ {A = ℕ} 0 1 = cc in absurd (omega arith)
-    go (some b) p q = let s : binary b ≡ o = cc in rw (← s) (B b p)
-
 pub unary-number : {l : List ℕ} {f n i : ℕ} (a : ℕ) (k : List ℕ) (r : Out) → 20 ≤ a → ((o : Unary) → unaryOf a ≡ some o → Tells (λ m h. doOperate (unary o) h) l f n i k r)
     → (o : Operator) → operatorOf a ≡ some o → Tells (λ m h. doOperate o h) l f n i k r
 unfolding binaryOf

@@ -4,7 +4,7 @@ ghost use mathlib.Core.Path.{_≡_};
 ghost use mathlib.Core.Option.{some};
 ghost use Prim.Native.Nat.{_≤_, _<_};
 ghost use Rattle.bytecode.specs.Instructions.{Owner, ownerOf, operatorOf};
-ghost use Rattle.values.specs.Operators.{Operator, Unary, Binary, unary, binary, unaryOf, binaryOf};
+ghost use Rattle.values.specs.Operators.{Operator, Unary, unary, unaryOf};
 ghost use Rattle.bytecode.specs.Machine.{doLoad, doStore, doOperate, condition};
 ghost use Rattle.machine_ops.specs.Acts.{Room, Tells, Pushes};
 use crate::Out;
@@ -30,7 +30,7 @@ pub fn op_push(state: &mut [u8], frame: usize, depth: usize, address: u16, w: u3
 }
 
 // The activation whose cells are meant: a 0 the top itself, 1 the root.
-fn owner(frame: usize, a: u8) -> usize
+pub fn owner(frame: usize, a: u8) -> usize
     requires { ⌜ frame ≤ 10200 ⌝ }
     ensures { λ r. ⌜ (r ≤ 10200) × (a ≡ 0 → r ≡ frame) × (a ≡ 1 → r ≡ 32) ⌝ }
 {
@@ -81,34 +81,10 @@ fn op_unary(state: &mut [u8], frame: usize, depth: usize, address: u16, a: u8) -
     }
 }
 
-// The right operand is on top.
-fn op_binary(state: &mut [u8], frame: usize, depth: usize, address: u16, a: u8) -> Out
-    requires { ⌜ (Room (now state) frame depth address) × (2 ≤ depth) ⌝ }
-    ensures { λ r. ⌜ ((o : Binary) → binaryOf a ≡ some o → Tells (λ m h. doOperate (binary o) h) (now (state .entry)) frame depth address (now (state .exit)) r) ⌝ }
-{
-    let k = depth - 1;
-    let j = depth - 2;
-    let y = machine_frames::operand_word(state, frame, k);
-    let x = machine_frames::operand_word(state, frame, j);
-    let t = machine_frames::operand_type(state, frame, j);
-    match operators::binary(a, t, x, y) {
-        Worked::Gives(w, u) => {
-            machine_frames::pop(state, frame, k);
-            machine_frames::put_operand(state, frame, j, w, u);
-            machine_frames::go_to(state, frame, address + 1);
-            Out::Goes
-        }
-        Worked::Ends(c) => op_condition(state, frame, depth, address, c),
-    }
-}
-
-// The operators of one operand have the numbers from 20.
+// The operators of one operand, which have the numbers from 20; those of two are done where their operands are at hand.
 pub fn op_operate(state: &mut [u8], frame: usize, depth: usize, address: u16, a: u8) -> Out
-    requires { ⌜ (Room (now state) frame depth address) × (0 < depth) × (a < 20 → 2 ≤ depth) ⌝ }
+    requires { ⌜ (Room (now state) frame depth address) × (0 < depth) × (20 ≤ a) ⌝ }
     ensures { λ r. ⌜ ((o : Operator) → operatorOf a ≡ some o → Tells (λ m h. doOperate o h) (now (state .entry)) frame depth address (now (state .exit)) r) ⌝ }
 {
-    if a < 20 {
-        return op_binary(state, frame, depth, address, a);
-    }
     op_unary(state, frame, depth, address, a)
 }

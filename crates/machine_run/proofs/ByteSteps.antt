@@ -15,7 +15,8 @@ use Rattle.values.specs.Ends.{accepted, isCondition}
 use Rattle.values.specs.Values.{tysOf}
 use Rattle.bytecode.specs.Macro.{Macro, shape, readMacro}
 use Rattle.bytecode.specs.Instructions.{Instr, instruction, instrAt}
-use Rattle.bytecode.specs.Machine.{Activation, Shared, endBy, Machine, running, unwinding, ended, act, fetch, step}
+use Rattle.values.specs.Trace.{Item}
+use Rattle.bytecode.specs.Machine.{Activation, Shared, endBy, Machine, running, unwinding, ended, moved, act, fetch, step}
 use Rattle.bytecode.specs.Runs.{bankOf}
 use Rattle.bytecode.specs.Sound.{sound}
 use Rattle.bytecode.specs.State.{encode, activationLength, activationsAt, holdsAt, stateLength}
@@ -77,6 +78,16 @@ pub record Top (l : List ℕ) : Type 0 where
   pub low : 1 ≤ byteAt l 2
   pub high : byteAt l 2 ≤ 32
 
+-- the step of a sound running state, by the instruction that stands at its address
+pub record Next (readings : List ℕ) (m : Macro) (rs : Shared) (t : Activation) (fs : List Activation) (op a b : ℕ) : Type 0 where
+  pub instr : Instr
+  pub decoded : instruction (record-of op a b) ≡ some instr
+  pub items : List Item
+  pub next : Machine
+  pub is : step m (bankOf readings) (running rs t fs) ≡ moved items next
+  pub does : act m (bankOf readings) instr (here rs t fs) ≡ moved items next
+  pub still : sound m next ≡ true
+
 module _ (code l : List ℕ) (m : Macro) (reads : readMacro code ≡ accepted m) (w : Passed m) (rs : Shared) (t : Activation) (fs : List Activation)
     (sounds : sound m (running rs t fs) ≡ true) (bytes : l ≡ encode (running rs t fs)) where
   on-at : (f : ℕ) → f ≡ activationsAt + activationLength * (byteAt l 2 - 1) → On l f rs [] t fs
@@ -94,7 +105,7 @@ module _ (code l : List ℕ) (m : Macro) (reads : readMacro code ≡ accepted m)
       let p = on-at f (R .place) in
       record { passed = w; sounds = sounds; on = p; depth = R .depth ∙ read-depth p; address = R .address ∙ read-address p }
 
-  in-macro : t .address < count code
+  pub in-macro : t .address < count code
   in-macro = rw (← viewed code m reads .codes) (in-code m w (t .body) (t .address) (allowed .inside))
 
   -- the op there, and that a step does it
@@ -130,6 +141,21 @@ module _ (code l : List ℕ) (m : Macro) (reads : readMacro code ≡ accepted m)
         moves = sym (step-is (bankOf readings) (o .0) (o .1)) ∙ q .2;
         still = q .3 .still-sound;
         finds = o .2;
+      }
+
+  pub next-at : (readings : List ℕ) → Bytes readings → (i op a b : ℕ) → i ≡ t .address → op ≡ byteAt code (codePlace code i + 2) → a ≡ byteAt code (codePlace code i + 3)
+      → b ≡ wordAt code (codePlace code i + 4) → Next readings m rs t fs op a b
+  next-at readings low i op a b ei eo ea eb =
+      let o = ops m w (t .body) (t .address) (shape (length (t .holds)) (tysOf (t .operands))) allowed in
+      let q = step-safe m w (bankOf readings) (λ k. low (k - 1)) (running rs t fs) sounds in
+      record {
+        instr = o .0;
+        decoded = op-there (o .0) (o .1) i op a b ei eo ea eb;
+        items = q .0;
+        next = q .1;
+        is = q .2;
+        does = sym (step-is (bankOf readings) (o .0) (o .1)) ∙ q .2;
+        still = q .3 .still-sound;
       }
 
   told-at : (readings k : List ℕ) (r : Out) (f n i op a b : ℕ) → Read code l f n i op a b → Acts code readings op a b l f n i k r → Told (step m (bankOf readings) (running rs t fs)) k r

@@ -5,3 +5,6 @@ pub mod RunLoop
 pub mod StepKeeps
 pub mod LoopKeeps
 pub mod LoopInvariant
+pub mod AsideSteps
+pub mod AsideLoop
+pub mod AsideBegins

@@ -1,5 +1,6 @@
-// The op of a number. What each asks is shown here, from the loading check's promise.
+// The op of a number, but for operators of two operands. What each asks is shown here, from the loading check's promise.
 ghost use mathlib.Core.Path.{_≡_};
+ghost use Prim.Native.Nat.{_≤_};
 ghost use lib.ListN.{length};
 ghost use Rattle.bytecode.specs.Machine.{doCall, doMake};
 ghost use Rattle.machine_ops.specs.Acts.{Room};
@@ -61,7 +62,7 @@ pub fn dispatch(
     b: u32,
 ) -> Out
     requires { ⌜ (Room (now state) frame depth address) × (Bodied (now code) (now bodies)) × (Classed (now code) (now classes)) × (length (now readings) ≡ 64)
-        × (Poised (now code) (now readings) op a b (now state) frame depth address) ⌝ }
+        × (Poised (now code) (now readings) op a b (now state) frame depth address) × (op ≡ 7 → 20 ≤ a) ⌝ }
     ensures { λ r. ⌜ Acts (now (code .entry)) (now (readings .entry)) op a b (now (state .entry)) frame depth address (now (state .exit)) r ⌝ }
 {
     match op {

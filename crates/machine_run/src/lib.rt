@@ -1,4 +1,5 @@
 // The machine on lent bytes: a run from a sound state of a macro that passes the loading check.
+mod aside;
 mod dispatch;
 mod steps;
 

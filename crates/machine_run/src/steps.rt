@@ -6,6 +6,10 @@ ghost use Rattle.words.specs.Numbers.{byteAt, halfAt};
 ghost use Rattle.machine_run.specs.Held.{Found, Held, Runs, RunsFrom};
 ghost use Rattle.bytecode.specs.State.{activationLength, stateLength};
 use crate::Answer;
+use crate::aside::Begun;
+use crate::aside::Landing;
+use crate::aside::begin;
+use crate::aside::run_aside;
 use crate::dispatch::dispatch;
 use formats::compiled::*;
 use formats::state::*;
@@ -75,54 +79,81 @@ fn run_running(
         let op = code[p + CODE_OP_AT];
         let a = code[p + CODE_A_AT];
         let b = words::word_at(code, p + CODE_B_AT);
-        match dispatch(
-            code,
-            bodies,
-            classes,
-            state,
-            readings,
-            frame,
-            depth,
-            address,
-            op,
-            a,
-            b,
-        ) {
-            Out::Goes => {
-                taken += 1;
-                match op {
-                    OP_GO => {
-                        address = words::half_at(state, frame + ADDRESS_AT);
+        match begin(state, frame, depth, op, a, b) {
+            Begun::Value(w, t, k, s) => {
+                match run_aside(
+                    code,
+                    base,
+                    state,
+                    readings,
+                    frame,
+                    k,
+                    address + s,
+                    taken + s,
+                    allowance,
+                    w,
+                    t,
+                ) {
+                    Landing::Lands(i, n) => {
+                        address = i;
+                        taken = n;
                     }
-                    OP_UNLESS => {
-                        address = words::half_at(state, frame + ADDRESS_AT);
-                    }
-                    OP_CALL => {
-                        if state[PHASE_AT] != RUNNING {
-                            return release(code, state, readings, taken, allowance);
-                        }
-                        let t = top_of(state);
-                        frame = t.place;
-                        address = t.address;
-                    }
-                    OP_RETURN => {
-                        let t = top_of(state);
-                        frame = t.place;
-                        address = t.address;
-                    }
-                    _ => {
-                        if state[PHASE_AT] != RUNNING {
-                            return release(code, state, readings, taken, allowance);
-                        }
-                        address += 1;
+                    Landing::Breaks(n) => {
+                        return release(code, state, readings, n, allowance);
                     }
                 }
             }
-            Out::Gives(e) => {
-                return Answer::Happens(e, taken + 1);
-            }
-            Out::Ends(c) => {
-                return Answer::Finishes(c, taken + 1);
+            Begun::Other => {
+                match dispatch(
+                    code,
+                    bodies,
+                    classes,
+                    state,
+                    readings,
+                    frame,
+                    depth,
+                    address,
+                    op,
+                    a,
+                    b,
+                ) {
+                    Out::Goes => {
+                        taken += 1;
+                        match op {
+                            OP_GO => {
+                                address = words::half_at(state, frame + ADDRESS_AT);
+                            }
+                            OP_UNLESS => {
+                                address = words::half_at(state, frame + ADDRESS_AT);
+                            }
+                            OP_CALL => {
+                                if state[PHASE_AT] != RUNNING {
+                                    return release(code, state, readings, taken, allowance);
+                                }
+                                let t = top_of(state);
+                                frame = t.place;
+                                address = t.address;
+                            }
+                            OP_RETURN => {
+                                let t = top_of(state);
+                                frame = t.place;
+                                address = t.address;
+                            }
+                            _ => {
+                                if state[PHASE_AT] != RUNNING {
+                                    return release(code, state, readings, taken, allowance);
+                                }
+                                address += 1;
+                            }
+                        }
+                    }
+                    Out::Gives(e) => {
+                        return Answer::Happens(e, taken + 1);
+                    }
+                    Out::Ends(c) => {
+                        return Answer::Finishes(c, taken + 1);
+                    }
+                }
             }
         }
     }

@@ -35,7 +35,7 @@ op-store-requires : tie.Need-op-store-requires
 op-store-requires c κs = let s = start-of (c .before .before) .pre in let a = asks-store (s .4) (c .before .match .keys7) in (s .0, a .0, a .1)
 
 op-operate-requires : tie.Need-op-operate-requires
-op-operate-requires c κs = let s = start-of (c .before .before) .pre in let a = asks-operate (s .4) (c .before .match .keys8) in (s .0, a .0, a .1)
+op-operate-requires c κs = let s = start-of (c .before .before) .pre in (s .0, asks-operate (s .4) (c .before .match .keys8) .0, s .5 (c .before .match .keys8))
 
 cast-op-go : tie.Need-cast-op-go
 cast-op-go c = let s = start-of (c .before .before) .pre in omega (arith, asks-go (s .4) (c .before .match .keys9))

@@ -1,8 +1,9 @@
 -- `machine_run::steps::run_running` meets its contract. Assumes nothing. The invariant, and that each op's arm keeps it, are in `LoopInvariant`.
 use borrow.Author.Needs.{needs}
 use native.Mathlib.Omega.{arith}
-use Prim.Native.Nat.{_+_, _*_, _-_, _≤_, _<_}
-use mathlib.Core.Path.{_≡_, refl, _∙_}
+use Prim.Native.Nat.{ℕ, _+_, _*_, _-_, _≤_, _<_}
+use mathlib.Core.Path.{_≡_, refl, sym, _∙_, subst}
+use mathlib.Core.List.{List}
 use lib.ListN.{length}
 use denote.Ref.{now}
 use Rattle.words.specs.Numbers.{byteAt}
@@ -12,6 +13,12 @@ use Rattle.machine_run.proofs.OpAsks.{room}
 use Rattle.machine_run.proofs.ByteSteps.{held-long, top-of}
 use Rattle.machine_run.proofs.RunLoop.{begin, spent}
 use Rattle.machine_run.proofs.LoopInvariant.{Loop, Ready, Acted, ready-of, low-place, in-code, small, poise, still, further, there, left-off, back, still-long}
+use Rattle.machine_run.specs.declared.aside.Begun.{Begun}
+use Rattle.machine_run.specs.declared.aside.Landing.{Landing}
+use Rattle.machine_run.specs.Aside.{Begin, Begins, Lands, Grows}
+use Rattle.machine_frames.specs.Bytes.{wentTo, pushed}
+use Rattle.machine_run.proofs.AsideSteps.{room-whole}
+use Rattle.machine_run.proofs.AsideBegins.{Set, coded, begin-asks, begun, one-step, grows, landed, broken}
 use Rattle.machine_run.proofs.LoopInvariant.{again, again-to, again-unless, again-next, happened, done}
 use Rattle.machine_run.proofs.steps.run_running.Statement.{statement}
 use Rattle.machine_run.proofs.steps.run_running.Tie as tie
@@ -29,8 +36,14 @@ start-of p = p .before .before .before .before .before .before .before .before
 abbrev loop-of : tie.After-word-at Inv-loop μ-loop → tie.At-loop Inv-loop μ-loop
 loop-of p = p .before .before .before .before .before .before
 
-abbrev loop-told : tie.After-enum-told Inv-loop μ-loop → tie.At-loop Inv-loop μ-loop
-loop-told p = loop-of (p .before .before .before .before .before .before)
+abbrev read-of : tie.After-enum-told Inv-loop μ-loop → tie.After-word-at Inv-loop μ-loop
+read-of p = p .before .before .before .before .before .before
+
+abbrev read-set : tie.After-w Inv-loop μ-loop → tie.After-word-at Inv-loop μ-loop
+read-set p = p .before .before .before .before .before .before
+
+abbrev loop-told : tie.After-enum-told2 Inv-loop μ-loop → tie.At-loop Inv-loop μ-loop
+loop-told p = loop-of (read-of (p .before .before .before .before .before .before))
 
 ready : (p : tie.After-word-at Inv-loop μ-loop) →
     let l = loop-of p .loop in
@@ -43,15 +56,49 @@ ready p =
     ready-of (l .loop .inv) (λ k. omega (arith, l .before .before .before .shared-slice-known4 .given k)) _ _ _ _ _ (start-of l .pre .0 .based)
     (p .before .before .before .wide .ensures .0) refl refl (p .word-at .ensures)
 
-acted : (p : tie.After-dispatch Inv-loop μ-loop) → Acted (ready (p .before .before)) (p .dispatch .last .1 .1 .1 .0) (p .dispatch .result)
+-- nothing is set aside: the bytes are as they were
+other : (p : tie.After-enum-told Inv-loop μ-loop) →
+    let q = read-of p in
+    let l = loop-of q .loop in
+    let s = start-of (loop-of q) .args in
+    let place = s .base + 8 * l .address in
+    (p .before .before .before .before .begin .last .0 ≡ l .state) × (byteAt (now (s .code)) (place + 2) ≡ 7 → 20 ≤ byteAt (now (s .code)) (place + 3))
+other p =
+    let q = read-of p in
+    let l = loop-of q .loop in
+    let s = start-of (loop-of q) .args in
+    let place = s .base + 8 * l .address in
+    subst
+    (λ (z : Begun). Begins (l .state) (l .frame) (q .before .before .before .wide .result) (byteAt (now (s .code)) (place + 2)) (byteAt (now (s .code)) (place + 3)) (q .word-at .result)
+    (p .before .before .before .before .begin .last .0) z)
+    (p .enum-told .given .1) (p .before .before .before .before .begin .ensures)
+
+ready-on : (p : tie.After-enum-told Inv-loop μ-loop) →
+    let q = read-of p in
+    let l = loop-of q .loop in
+    let s = start-of (loop-of q) .args in
+    let place = s .base + 8 * l .address in
+    Ready (now (s .code)) (now (s .readings)) (s .allowance) (now (s .state)) (p .before .before .before .before .begin .last .0) (l .frame) (l .address) (l .taken)
+    (q .before .before .before .wide .result) (byteAt (now (s .code)) (place + 2)) (byteAt (now (s .code)) (place + 3)) (q .word-at .result)
+ready-on p =
+    let q = read-of p in
+    let l = loop-of q .loop in
+    let s = start-of (loop-of q) .args in
+    let place = s .base + 8 * l .address in
+    subst
+    (λ (z : List ℕ). Ready (now (s .code)) (now (s .readings)) (s .allowance) (now (s .state)) z (l .frame) (l .address) (l .taken) (q .before .before .before .wide .result)
+    (byteAt (now (s .code)) (place + 2)) (byteAt (now (s .code)) (place + 3)) (q .word-at .result))
+    (sym (other p .0)) (ready q)
+
+acted : (p : tie.After-dispatch Inv-loop μ-loop) → Acted (ready-on (p .before .before)) (p .dispatch .last .1 .1 .1 .0) (p .dispatch .result)
 acted p = record { acts = p .dispatch .ensures; more = omega arith; same = p .dispatch .kept .1 .1 .1 .0 }
 
 -- where it gave nothing
-went : (p : tie.After-enum-told Inv-loop μ-loop) → let d = p .before .before .before .before in Acted (ready (d .before .before)) (d .dispatch .last .1 .1 .1 .0) (d .dispatch .result)
+went : (p : tie.After-enum-told2 Inv-loop μ-loop) → let d = p .before .before .before .before in Acted (ready-on (d .before .before)) (d .dispatch .last .1 .1 .1 .0) (d .dispatch .result)
 went p = acted (p .before .before .before .before)
 
-kept-held : (p : tie.After-enum-told Inv-loop μ-loop) → Held (now (start-of (loop-told p) .args .code)) (p .before .before .before .before .dispatch .last .1 .1 .1 .0)
-kept-held p = still (went p) (p .enum-told .given .1)
+kept-held : (p : tie.After-enum-told2 Inv-loop μ-loop) → Held (now (start-of (loop-told p) .args .code)) (p .before .before .before .before .dispatch .last .1 .1 .1 .0)
+kept-held p = still (went p) (p .enum-told2 .given .1)
 
 -- a running state has not ended
 alive : (p : tie.At-loop Inv-loop μ-loop) → byteAt (now (start-of p .args .state)) 0 ≡ 2 → ⊥
@@ -63,28 +110,75 @@ stands p =
     let found = start-of p .pre .0 in
     (omega (arith, found .based, code-of _ (found .bodied .well) _ (in-code (p .loop .inv))), small (p .loop .inv), found .small)
 
+-- ── an operand set aside ──
+value : (p : tie.After-w Inv-loop μ-loop) →
+    let q = read-set p in
+    let l = loop-of q .loop in
+    let s = start-of (loop-of q) .args in
+    let place = s .base + 8 * l .address in
+    let v = p .w .given .0 in
+    Begin (l .state) (l .frame) (q .before .before .before .wide .result) (byteAt (now (s .code)) (place + 2)) (byteAt (now (s .code)) (place + 3)) (q .word-at .result)
+    (p .before .before .before .before .begin .last .0) (v .0) (v .1 .0) (v .1 .1 .0) (v .1 .1 .1 .0)
+value p =
+    let q = read-set p in
+    let l = loop-of q .loop in
+    let s = start-of (loop-of q) .args in
+    let place = s .base + 8 * l .address in
+    subst
+    (λ (z : Begun). Begins (l .state) (l .frame) (q .before .before .before .wide .result) (byteAt (now (s .code)) (place + 2)) (byteAt (now (s .code)) (place + 3)) (q .word-at .result)
+    (p .before .before .before .before .begin .last .0) z)
+    (p .w .given .1) (p .before .before .before .before .begin .ensures)
+
+more-at : (p : tie.After-w Inv-loop μ-loop) → let l = loop-of (read-set p) in l .loop .taken < start-of l .args .allowance
+more-at p = omega arith
+
+set : (p : tie.After-w Inv-loop μ-loop) → let v = p .w .given .0 in Set (ready (read-set p)) (p .before .before .before .before .begin .last .0) (v .0) (v .1 .0) (v .1 .1 .0) (v .1 .1 .1 .0)
+set p = begun (ready (read-set p)) (omega (arith, read-set p .word-at .ok)) (more-at p) (value p)
+
+-- where the steps with it lead
+leads-to : (p : tie.After-run-aside Inv-loop μ-loop) (r : Landing) → p .run-aside .result ≡ r →
+    let w = p .before .before .before in
+    let q = read-set w in
+    let l = loop-of q .loop in
+    let s = start-of (loop-of q) .args in
+    let v = w .w .given .0 in
+    (Lands (now (s .code)) (now (s .readings)) (s .allowance) (l .frame)
+    (wentTo (pushed (w .before .before .before .before .begin .last .0) (l .frame) (v .1 .1 .0) (v .0) (v .1 .0)) (l .frame) (l .address + v .1 .1 .1 .0)) (l .taken + v .1 .1 .1 .0)
+    (p .run-aside .last .1 .1 .0) r)
+    × (Grows (now (s .code)) (s .base + 8 * (l .address + v .1 .1 .1 .0)) (l .taken + v .1 .1 .1 .0) (s .allowance) r)
+leads-to p r e =
+    let w = p .before .before .before in
+    let q = read-set w in
+    let l = loop-of q .loop in
+    let s = start-of (loop-of q) .args in
+    let v = w .w .given .0 in
+    subst
+    (λ (z : Landing). (Lands (now (s .code)) (now (s .readings)) (s .allowance) (l .frame)
+    (wentTo (pushed (w .before .before .before .before .begin .last .0) (l .frame) (v .1 .1 .0) (v .0) (v .1 .0)) (l .frame) (l .address + v .1 .1 .1 .0)) (l .taken + v .1 .1 .1 .0)
+    (p .run-aside .last .1 .1 .0) z)
+    × (Grows (now (s .code)) (s .base + 8 * (l .address + v .1 .1 .1 .0)) (l .taken + v .1 .1 .1 .0) (s .allowance) z))
+    e (p .run-aside .ensures)
+
 top-of-requires : tie.Need-top-of-requires Inv-loop μ-loop
 top-of-requires c κs =
-    let at-start = c .before .before .before .before .before .before in
-    let T = top-of _ _ (at-start .pre .1) (at-start .pre .3) in
-    (held-long (at-start .pre .1), T .low, T .high)
+    let T = top-of _ _ (c .before .before .before .before .before .before .pre .1) (c .before .before .before .before .before .before .pre .3) in
+    (held-long (c .before .before .before .before .before .before .pre .1), T .low, T .high)
 
 loop-holds : tie.Need-loop-holds Inv-loop μ-loop
 loop-holds c =
-    let at-start = c .before .before .before .before .before .before .before in
     record {
       upto = omega arith;
-      held = at-start .pre .1;
+      held = c .before .before .before .before .before .before .before .pre .1;
       long = refl;
-      reached = begin (now (at-start .args .code)) (now (at-start .args .readings)) _ _;
-      kept = record { phase = at-start .pre .3; place = c .top-of .ensures .0; address = c .top-of .ensures .1 };
+      reached = begin (now (c .before .before .before .before .before .before .before .args .code)) (now (c .before .before .before .before .before .before .before .args .readings)) _ _;
+      kept = record { phase = c .before .before .before .before .before .before .before .pre .3; place = c .top-of .ensures .0; address = c .top-of .ensures .1 };
     }
 
 add-wide : tie.Need-add-wide Inv-loop μ-loop
 add-wide c = omega (arith, low-place (c .before .loop .inv))
 
 slice-read-wide : tie.Need-slice-read-wide Inv-loop μ-loop
-slice-read-wide c = let l = c .before .before .loop in omega (arith, held-long (l .inv .held), low-place (l .inv))
+slice-read-wide c = omega (arith, held-long (c .before .before .loop .inv .held), low-place (c .before .before .loop .inv))
 
 cast-p : tie.Need-cast-p Inv-loop μ-loop
 cast-p c = omega (arith, stands (c .before .before .before))
@@ -113,131 +207,179 @@ add-word-at c = omega (arith, stands (c .before .before .before .before .before)
 word-at-requires : tie.Need-word-at-requires Inv-loop μ-loop
 word-at-requires c κs = omega (arith, stands (c .before .before .before .before .before))
 
+begin-requires : tie.Need-begin-requires Inv-loop μ-loop
+begin-requires c κs = begin-asks (ready (c .before))
+
+add-run-aside : tie.Need-add-run-aside Inv-loop μ-loop
+add-run-aside c = omega (arith, room-whole (set (c .before .before) .0 .aside) .address)
+
+add-run-aside-2 : tie.Need-add-run-aside-2 Inv-loop μ-loop
+add-run-aside-2 c = omega (arith, one-step (ready (read-set (c .before .before))) (value (c .before .before)), c .before .before .before .before .before .before .before .before .before .before .before .before .before .before .before .before .before .before .before .before .before .before .fits .allowance .fits)
+
+run-aside-requires : tie.Need-run-aside-requires Inv-loop μ-loop
+run-aside-requires c κs =
+    let p = c .before .before in
+    (coded (c .before .before .before .before .before .before .before .before .before .before .before .before .before .before .before .before .before .before .before .before .before .before .pre .0), set p .0, omega (arith, one-step (ready (read-set p)) (value p)))
+
+loop-less : tie.Need-loop-less Inv-loop μ-loop
+loop-less c =
+    let p = c .before .before .before .before .before in
+    let w = p .before .before .before in
+    let g = grows (ready (read-set w)) (c .before .before .before .before .before .before .before .before .before .before .before .before .before .before .before .before .before .before .before .before .before .before .before .before .before .before .before .before .args .base) refl refl (more-at w) (c .before .i .given .0 .0) (c .before .i .given .0 .1 .0) (value w) (leads-to p _ (c .before .i .given .1) .1) in
+    omega (arith, g, leads-to p _ (c .before .i .given .1) .0 .0 .upto)
+
+loop-again : tie.Need-loop-again Inv-loop μ-loop
+loop-again c =
+    let p = c .before .before .before .before .before in
+    let w = p .before .before .before in
+    landed (ready (read-set w)) _ (set w) (leads-to p _ (c .before .i .given .1) .0) (c .before .before .before .before .before .run-aside .kept .1 .1 .0 ∙ c .before .before .before .before .before .before .before .before .before .before .before .before .begin .kept .0)
+
+release-requires : tie.Need-release-requires Inv-loop μ-loop
+release-requires c κs =
+    let p = c .before .before .before .before .before .before in
+    let w = p .before .before .before in
+    let B = broken (ready (read-set w)) _ (set w) (leads-to p _ (c .before .before .n .given .1) .0) in
+    (B .0, B .1, c .before .before .before .before .before .before .before .before .before .before .before .before .before .before .before .before .before .before .before .before .before .before .before .before .before .before .before .before .before .pre .2, B .2)
+
+same-length : tie.Need-same-length Inv-loop μ-loop
+same-length c = c .before .before .release .kept .1 .0 ∙ c .before .before .before .before .before .before .before .before .before .run-aside .kept .1 .1 .0 ∙ c .before .before .before .before .before .before .before .before .before .before .before .before .before .before .before .before .begin .kept .0 ∙ c .before .before .before .before .before .before .before .before .before .before .before .before .before .before .before .before .before .before .before .before .before .before .before .before .loop .inv .long
+
+returns : tie.Need-returns Inv-loop μ-loop
+returns c =
+    let p = c .before .before .before .before .before .before .before .before .before in
+    let w = p .before .before .before in
+    let B = broken (ready (read-set w)) _ (set w) (leads-to p _ (c .before .before .before .before .before .n .given .1) .0) in
+    c .before .before .release .ensures _ (alive (loop-of (read-set w))) (B .3)
+
 dispatch-requires : tie.Need-dispatch-requires Inv-loop μ-loop
 dispatch-requires c κs =
-    let s = start-of (loop-of (c .before)) in
-    let P = poise (ready (c .before)) in
-    (room (P .at-hand), s .pre .0 .bodied, s .pre .0 .classed, s .pre .2, P)
+    let p = c .before in
+    let P = poise (ready-on p) in
+    (room (P .at-hand), c .before .before .before .before .before .before .before .before .before .before .before .before .before .before .before .before .before .before .before .before .before .pre .0 .bodied, c .before .before .before .before .before .before .before .before .before .before .before .before .before .before .before .before .before .before .before .before .before .pre .0 .classed, c .before .before .before .before .before .before .before .before .before .before .before .before .before .before .before .before .before .before .before .before .before .pre .2, P, other p .1)
+
+add-taken : tie.Need-add-taken Inv-loop μ-loop
+add-taken c = omega (arith, went (c) .more, c .before .before .before .before .before .before .before .before .before .before .before .before .before .before .before .before .before .before .before .before .before .before .before .before .before .before .fits .allowance .fits)
+
+add-t70 : tie.Need-add-t70 Inv-loop μ-loop
+add-t70 c = omega (arith, acted (c .before .before .before .before .before) .more, c .before .before .before .before .before .before .before .before .before .before .before .before .before .before .before .before .before .before .before .before .before .before .before .before .before .before .before .fits .allowance .fits)
+
+add-t71 : tie.Need-add-t71 Inv-loop μ-loop
+add-t71 c = omega (arith, acted (c .before .before .before .before .before) .more, c .before .before .before .before .before .before .before .before .before .before .before .before .before .before .before .before .before .before .before .before .before .before .before .before .before .before .before .fits .allowance .fits)
+
+loop-less-2 : tie.Need-loop-less-2 Inv-loop μ-loop
+loop-less-2 c = omega (arith, went (c .before .before .before) .more)
+
+loop-less-3 : tie.Need-loop-less-3 Inv-loop μ-loop
+loop-less-3 c = omega (arith, went (c .before .before .before) .more)
+
+loop-less-4 : tie.Need-loop-less-4 Inv-loop μ-loop
+loop-less-4 c = omega (arith, went (c .before .before .before .before .before) .more)
+
+loop-less-5 : tie.Need-loop-less-5 Inv-loop μ-loop
+loop-less-5 c = omega (arith, went (c .before .before .before) .more)
+
+loop-less-6 : tie.Need-loop-less-6 Inv-loop μ-loop
+loop-less-6 c = omega (arith, went (c .before .before .before) .more)
 
 -- ── ops 8 and 9 ──
 add-half-at : tie.Need-add-half-at Inv-loop μ-loop
-add-half-at c = omega (arith, low-place (c .before .before .before .before .before .before .before .before .before .before .before .before .before .before .loop .inv))
+add-half-at c = omega (arith, low-place (c .before .before .before .before .before .before .before .before .before .before .before .before .before .before .before .before .before .before .before .before .loop .inv))
 
 half-at-requires : tie.Need-half-at-requires Inv-loop μ-loop
-half-at-requires c κs =
-    omega (
-      arith,
-      held-long (kept-held (c .before .before)),
-      low-place
-          (c .before .before .before .before .before .before .before .before .before .before .before .before .before .before .loop .inv),
-    )
-
-loop-again : tie.Need-loop-again Inv-loop μ-loop
-loop-again c = let p = c .before .before .before in again-to (went p) (p .enum-told .given .1) (c .before .before .match2 .keys1) _ (c .half-at .ensures)
-
-add-half-at-2 : tie.Need-add-half-at-2 Inv-loop μ-loop
-add-half-at-2 c = omega (arith, low-place (c .before .before .before .before .before .before .before .before .before .before .before .before .before .before .loop .inv))
-
-half-at-requires-2 : tie.Need-half-at-requires-2 Inv-loop μ-loop
-half-at-requires-2 c κs =
-    omega (
-      arith,
-      held-long (kept-held (c .before .before)),
-      low-place
-          (c .before .before .before .before .before .before .before .before .before .before .before .before .before .before .loop .inv),
-    )
+half-at-requires c κs = omega (arith, held-long (kept-held (c .before .before)), low-place (c .before .before .before .before .before .before .before .before .before .before .before .before .before .before .before .before .before .before .before .before .loop .inv))
 
 loop-again-2 : tie.Need-loop-again-2 Inv-loop μ-loop
-loop-again-2 c = let p = c .before .before .before in again-unless (went p) (p .enum-told .given .1) (c .before .before .match2 .keys2) _ (c .half-at2 .ensures)
+loop-again-2 c = let p = c .before .before .before in again-to (went p) (p .enum-told2 .given .1) (c .before .before .match4 .keys1) _ (c .half-at .ensures)
+
+add-half-at-2 : tie.Need-add-half-at-2 Inv-loop μ-loop
+add-half-at-2 c = omega (arith, low-place (c .before .before .before .before .before .before .before .before .before .before .before .before .before .before .before .before .before .before .before .before .loop .inv))
+
+half-at-requires-2 : tie.Need-half-at-requires-2 Inv-loop μ-loop
+half-at-requires-2 c κs = omega (arith, held-long (kept-held (c .before .before)), low-place (c .before .before .before .before .before .before .before .before .before .before .before .before .before .before .before .before .before .before .before .before .loop .inv))
+
+loop-again-3 : tie.Need-loop-again-3 Inv-loop μ-loop
+loop-again-3 c = let p = c .before .before .before in again-unless (went p) (p .enum-told2 .given .1) (c .before .before .match4 .keys2) _ (c .half-at2 .ensures)
 
 -- ── op 10 ──
 slice-read-if1 : tie.Need-slice-read-if1 Inv-loop μ-loop
 slice-read-if1 c = omega (arith, held-long (kept-held (c .before .before)))
 
-release-requires : tie.Need-release-requires Inv-loop μ-loop
-release-requires c κs =
-    let p = c .before .before .before .before in
-    (kept-held p, left-off (went p) (p .enum-told .given .1) (c .before .if1 .taken), start-of (loop-told p) .pre .2, omega arith)
-
-same-length : tie.Need-same-length Inv-loop μ-loop
-same-length c = c .before .before .release .kept .1 .0 ∙ still-long (went (c .before .before .before .before .before .before .before))
-
-returns : tie.Need-returns Inv-loop μ-loop
-returns c =
-    let p = c .before .before .before .before .before .before .before in
-    c .before .before .release .ensures _ (alive (loop-told p)) (further (went p) (p .enum-told .given .1))
-
-top-of-requires-2 : tie.Need-top-of-requires-2 Inv-loop μ-loop
-top-of-requires-2 c κs =
-    let p = c .before .before .before .before in
-    let T = there (went p) (p .enum-told .given .1) (c .before .if1 .left) in
-    (held-long (kept-held p), T .low, T .high)
-
-loop-again-3 : tie.Need-loop-again-3 Inv-loop μ-loop
-loop-again-3 c = let p = c .before .before .before .before .before in again (went p) (p .enum-told .given .1) _ _ (c .before .before .if1 .left) (c .top-of2 .ensures .0) (c .top-of2 .ensures .1)
-
--- ── op 11 ──
-top-of-requires-3 : tie.Need-top-of-requires-3 Inv-loop μ-loop
-top-of-requires-3 c κs =
-    let p = c .before .before in
-    let q = p .enum-told .given .1 in
-    let T = there (went p) q (back (went p) q (c .before .match2 .keys4)) in
-    (held-long (kept-held p), T .low, T .high)
-
-loop-again-4 : tie.Need-loop-again-4 Inv-loop μ-loop
-loop-again-4 c =
-    let p = c .before .before .before in
-    let q = p .enum-told .given .1 in
-    again (went p) q _ _ (back (went p) q (c .before .before .match2 .keys4)) (c .top-of3 .ensures .0) (c .top-of3 .ensures .1)
-
--- ── the other ops ──
-slice-read-if2 : tie.Need-slice-read-if2 Inv-loop μ-loop
-slice-read-if2 c = omega (arith, held-long (kept-held (c .before .before)))
-
 release-requires-2 : tie.Need-release-requires-2 Inv-loop μ-loop
 release-requires-2 c κs =
     let p = c .before .before .before .before in
-    (kept-held p, left-off (went p) (p .enum-told .given .1) (c .before .if2 .taken), start-of (loop-told p) .pre .2, omega arith)
+    (kept-held p, left-off (went p) (p .enum-told2 .given .1) (c .before .if1 .taken), c .before .before .before .before .before .before .before .before .before .before .before .before .before .before .before .before .before .before .before .before .before .before .before .before .before .before .before .before .before .before .pre .2, omega (arith, went p .more))
 
 same-length-2 : tie.Need-same-length-2 Inv-loop μ-loop
 same-length-2 c = c .before .before .release2 .kept .1 .0 ∙ still-long (went (c .before .before .before .before .before .before .before))
 
 returns-2 : tie.Need-returns-2 Inv-loop μ-loop
-returns-2 c =
-    let p = c .before .before .before .before .before .before .before in
-    c .before .before .release2 .ensures _ (alive (loop-told p)) (further (went p) (p .enum-told .given .1))
+returns-2 c = let p = c .before .before .before .before .before .before .before in c .before .before .release2 .ensures _ (alive (loop-told p)) (further (went p) (p .enum-told2 .given .1))
 
-add-address : tie.Need-add-address Inv-loop μ-loop
-add-address c = omega (arith, room (poise (ready (c .before .before .before .before .before .before .before .before .before)) .at-hand) .address)
+top-of-requires-2 : tie.Need-top-of-requires-2 Inv-loop μ-loop
+top-of-requires-2 c κs =
+    let p = c .before .before .before .before in
+    let T = there (went p) (p .enum-told2 .given .1) (c .before .if1 .left) in
+    (held-long (kept-held p), T .low, T .high)
+
+loop-again-4 : tie.Need-loop-again-4 Inv-loop μ-loop
+loop-again-4 c = let p = c .before .before .before .before .before in again (went p) (p .enum-told2 .given .1) _ _ (c .before .before .if1 .left) (c .top-of2 .ensures .0) (c .top-of2 .ensures .1)
+
+-- ── op 11 ──
+top-of-requires-3 : tie.Need-top-of-requires-3 Inv-loop μ-loop
+top-of-requires-3 c κs =
+    let p = c .before .before in
+    let q = p .enum-told2 .given .1 in
+    let T = there (went p) q (back (went p) q (c .before .match4 .keys4)) in
+    (held-long (kept-held p), T .low, T .high)
 
 loop-again-5 : tie.Need-loop-again-5 Inv-loop μ-loop
 loop-again-5 c =
     let p = c .before .before .before in
-    let others = c .before .before .match2 .rest in
-    again-next (went p) (p .enum-told .given .1) (others .0 .0 .0 .1) (others .0 .0 .1) (others .0 .1) (others .1) (c .if2 .left)
+    let q = p .enum-told2 .given .1 in
+    again (went p) q _ _ (back (went p) q (c .before .before .match4 .keys4)) (c .top-of3 .ensures .0) (c .top-of3 .ensures .1)
 
--- ── an event, an end, the allowance used ──
+-- ── the other ops ──
+slice-read-if2 : tie.Need-slice-read-if2 Inv-loop μ-loop
+slice-read-if2 c = omega (arith, held-long (kept-held (c .before .before)))
+
+release-requires-3 : tie.Need-release-requires-3 Inv-loop μ-loop
+release-requires-3 c κs =
+    let p = c .before .before .before .before in
+    (kept-held p, left-off (went p) (p .enum-told2 .given .1) (c .before .if2 .taken), c .before .before .before .before .before .before .before .before .before .before .before .before .before .before .before .before .before .before .before .before .before .before .before .before .before .before .before .before .before .before .pre .2, omega (arith, went p .more))
+
 same-length-3 : tie.Need-same-length-3 Inv-loop μ-loop
-same-length-3 c = still-long (acted (c .before .before .before .before .before))
+same-length-3 c = c .before .before .release3 .kept .1 .0 ∙ still-long (went (c .before .before .before .before .before .before .before))
 
 returns-3 : tie.Need-returns-3 Inv-loop μ-loop
-returns-3 c =
-    let l = c .before .before .before .before .before .before .before .before .before .before .before .before .before in
-    happened (acted (c .before .before .before .before .before)) (start-of l .pre .2) (alive l) _ (c .before .e .given .1)
+returns-3 c = let p = c .before .before .before .before .before .before .before in c .before .before .release3 .ensures _ (alive (loop-told p)) (further (went p) (p .enum-told2 .given .1))
 
+add-address : tie.Need-add-address Inv-loop μ-loop
+add-address c = omega (arith, room (poise (ready-on (c .before .before .before .before .before .before .before .before .before)) .at-hand) .address)
+
+loop-again-6 : tie.Need-loop-again-6 Inv-loop μ-loop
+loop-again-6 c =
+    let p = c .before .before .before in
+    let others = c .before .before .match4 .rest in
+    again-next (went p) (p .enum-told2 .given .1) (others .0 .0 .0 .1) (others .0 .0 .1) (others .0 .1) (others .1) (c .if2 .left)
+
+-- ── an event, an end, the allowance used ──
 same-length-4 : tie.Need-same-length-4 Inv-loop μ-loop
 same-length-4 c = still-long (acted (c .before .before .before .before .before))
 
 returns-4 : tie.Need-returns-4 Inv-loop μ-loop
-returns-4 c =
-    let l = c .before .before .before .before .before .before .before .before .before .before .before .before .before in
-    done (acted (c .before .before .before .before .before)) (start-of l .pre .2) (alive l) _ (c .before .c .given .1)
+returns-4 c = happened (acted (c .before .before .before .before .before)) (c .before .before .before .before .before .before .before .before .before .before .before .before .before .before .before .before .before .before .before .before .before .before .before .before .before .before .before .pre .2) (alive (c .before .before .before .before .before .before .before .before .before .before .before .before .before .before .before .before .before .before .before)) _ (c .before .e .given .1)
 
 same-length-5 : tie.Need-same-length-5 Inv-loop μ-loop
-same-length-5 c = c .before .loop .inv .long
+same-length-5 c = still-long (acted (c .before .before .before .before .before))
 
 returns-5 : tie.Need-returns-5 Inv-loop μ-loop
-returns-5 c =
+returns-5 c = done (acted (c .before .before .before .before .before)) (c .before .before .before .before .before .before .before .before .before .before .before .before .before .before .before .before .before .before .before .before .before .before .before .before .before .before .before .pre .2) (alive (c .before .before .before .before .before .before .before .before .before .before .before .before .before .before .before .before .before .before .before)) _ (c .before .c .given .1)
+
+same-length-6 : tie.Need-same-length-6 Inv-loop μ-loop
+same-length-6 c = c .before .loop .inv .long
+
+returns-6 : tie.Need-returns-6 Inv-loop μ-loop
+returns-6 c =
     let l = c .before in
     let s = start-of l in
     spent (now (s .args .code)) (now (s .args .readings)) _ _ _ _ (s .pre .2) (alive l) (omega (arith, l .loop .inv .upto)) (l .loop .inv .reached)
@@ -262,41 +404,54 @@ run-running-spec =
     shared-slice-read-a
     add-word-at
     word-at-requires
-    dispatch-requires
+    begin-requires
     (λ c. search needs)
-    (λ c. omega arith)
-    add-half-at
-    half-at-requires
-    (λ c. omega arith)
+    add-run-aside
+    add-run-aside-2
+    run-aside-requires
+    (λ c. search needs)
+    loop-less
     loop-again
-    add-half-at-2
-    half-at-requires-2
-    (λ c. omega arith)
-    loop-again-2
-    slice-read-if1
+    (λ c. search needs)
     release-requires
     same-length
     returns
-    top-of-requires-2
-    (λ c. omega arith)
+    (λ c. search needs)
+    dispatch-requires
+    (λ c. search needs)
+    add-taken
+    add-half-at
+    half-at-requires
+    loop-less-2
+    loop-again-2
+    add-half-at-2
+    half-at-requires-2
+    loop-less-3
     loop-again-3
-    top-of-requires-3
-    (λ c. omega arith)
-    loop-again-4
-    slice-read-if2
+    slice-read-if1
     release-requires-2
     same-length-2
     returns-2
-    add-address
-    (λ c. omega arith)
+    top-of-requires-2
+    loop-less-4
+    loop-again-4
+    top-of-requires-3
+    loop-less-5
     loop-again-5
-    (λ c. search needs)
-    (λ c. omega arith)
+    slice-read-if2
+    release-requires-3
     same-length-3
     returns-3
+    add-address
+    loop-less-6
+    loop-again-6
     (λ c. search needs)
-    (λ c. omega arith)
+    add-t70
     same-length-4
     returns-4
+    (λ c. search needs)
+    add-t71
     same-length-5
-    returns-5)
+    returns-5
+    same-length-6
+    returns-6)
