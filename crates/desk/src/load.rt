@@ -10,7 +10,7 @@ ghost use Rattle.bytecode.specs.Answers.{packed, verdictNumbers};
 pub extern "C" fn cue_load(code: &[u8]) -> u64
     ensures { λ r. ⌜ r ≡ packed (verdictNumbers (judgeMacro (now (code .entry)))) ⌝ }
 {
-    match load_check::load(code) {
+    match state_check::load(code) {
         Loaded::Passes => pack(1, 0, 0, 0),
         Loaded::Refused(refusal) => pack_refusal(refusal),
     }

@@ -1,8 +1,7 @@
 // The loading check: refusals 8 and 9, from a macro's bytes alone. This crate is all that the machine knows of it: the verdict, where things stand
-// in a macro whose records read, and the state found at each address.
+// in a macro whose records read, and the state found at each address. The walk over the addresses, and with it `load`, is in `state_check`.
 mod root;
 
-use load_places::Judged;
 pub use load_records::bad_head;
 pub use load_records::no_type;
 pub use load_records::scan;
@@ -15,27 +14,9 @@ pub use load_rules::is_bad;
 pub use load_rules::next_body;
 pub use root::root_at;
 use values::Refusal;
-ghost use mathlib.Core.Path.{_≡_};
-ghost use Rattle.bytecode.specs.Rules.{judgeMacro};
-ghost use Rattle.load_check.specs.Loaded.{loadedOf};
 
 // The place of a refusal is a record's index for 8, an address for 9.
 pub enum Loaded {
     Passes,
     Refused(Refusal),
-}
-
-pub fn load(code: &[u8]) -> Loaded
-    ensures { λ r. ⌜ r ≡ loadedOf (judgeMacro (now (code .entry))) ⌝ }
-{
-    match load_rules::judge_places(code) {
-        Judged::Passes => Loaded::Passes,
-        Judged::Refused(number, place) => {
-            let refusal = Refusal {
-                number: number as u8,
-                place: place as u32,
-            };
-            Loaded::Refused(refusal)
-        }
-    }
 }

@@ -19,9 +19,3 @@ pub enum Moved {
     Ends,
     Bad,
 }
-
-// Refused with the refusal's number and the place: a record's index for 8, an address for 9.
-pub enum Judged {
-    Passes,
-    Refused(usize, usize),
-}

@@ -7,12 +7,10 @@ use lib.ListN.{length}
 use Rattle.words.specs.Numbers.{byteAt}
 use Rattle.load_places.specs.Search.{tops}
 use Rattle.load_places.specs.Records.{classes, bodies, count, shapes, classPlace, bodyPlace}
-use Rattle.load_places.specs.Rules.{Flow, goes, ends, bad, shapeAt, Verdict, passes, refused}
+use Rattle.load_places.specs.Rules.{Flow, goes, ends, bad, shapeAt}
 use Rattle.load_places.specs.Index.{Well, Indexed, Placed}
 use Rattle.load_places.specs.declared.Moved.{Moved}
 use Rattle.load_places.specs.declared.Moved.the-variants.{Goes, Ends, Bad}
-use Rattle.load_places.specs.declared.Judged.{Judged}
-use Rattle.load_places.specs.declared.Judged.the-variants.{Passes, Refused}
 
 -- the type bytes stand in st from the bottom; a move says how many of them count
 abbrev pub flowOf : Moved → List ℕ → Flow
@@ -33,10 +31,6 @@ abbrev pub isBadMove : Moved → Bool
 isBadMove (Goes h d) = false
 isBadMove Ends = false
 isBadMove Bad = true
-
-abbrev pub verdictOf : Judged → Verdict
-verdictOf Passes = passes
-verdictOf (Refused n k) = refused n k
 
 -- a stack of d types and h holds
 abbrev pub Stack : List ℕ → ℕ → ℕ → Type 0

@@ -12,12 +12,11 @@ use formats::limits::*;
 use load_places::Moved;
 ghost use mathlib.Core.Path.{_≡_};
 ghost use mathlib.Core.Bool.{true, false};
-ghost use Prim.Native.Nat.{_+_, _≤_, _<_};
+ghost use Prim.Native.Nat.{_+_, _<_};
 ghost use lib.ListN.{length};
 ghost use Rattle.words.specs.Numbers.{byteAt, wordAt};
-ghost use Rattle.load_places.specs.Search.{first};
 ghost use Rattle.load_places.specs.Records.{bodies as bodyCount, count, codeBase, codePlace};
-ghost use Rattle.load_places.specs.Rules.{shapeAt, bodyOf, chain, effect, meet, leave, plain, opens, found, step, broken};
+ghost use Rattle.load_places.specs.Rules.{shapeAt, bodyOf, chain, effect, meet, leave, plain, opens, found};
 ghost use Rattle.load_rules.specs.Moves.{flowOf, Fit, Moves, isBadMove, Bodied, Shaped, Able};
 
 fn meet_shape(code: &[u8], shapes: &[u32], address: usize, stack: &mut [u8], flow: Moved) -> Moved
@@ -208,6 +207,8 @@ fn onward(
     leave_to(code, shapes, bodies, body, address, stack, e)
 }
 
+// What goes on, for the walk that has found the state at the address. There is one such walk (`state_check`): with one caller on the way down to
+// `effect_of` all of it is inlined there; with two, every address costs a call more, and what it answers goes through memory (docs/SPEED.md).
 pub fn go_on(
     code: &[u8],
     shapes: &[u32],
@@ -239,25 +240,6 @@ pub fn go_on(
     ))
 }
 
-fn step_at(
-    code: &[u8],
-    shapes: &[u32],
-    bodies: &[u32],
-    classes: &[u32],
-    base: usize,
-    body: usize,
-    address: usize,
-    stack: &mut [u8],
-    flow: Moved,
-) -> Moved
-    requires { ⌜ (Able (now code) (now shapes) (now bodies) (now classes)) × (base ≡ codeBase (now code)) × (body < bodyCount (now code))
-        × (body ≡ bodyOf (now code) address) × (address < count (now code)) × (length (now stack) ≡ 32) × (Fit flow) ⌝ }
-    ensures { λ r. ⌜ Moves (now (stack .exit)) r (step (now (code .entry)) address (flowOf flow (now (stack .entry)))) ⌝ }
-{
-    let g = found_at(code, shapes, bodies, body, address, stack, flow);
-    rebuilt(onward(code, shapes, bodies, classes, base, body, address, stack, g))
-}
-
 pub fn next_body(code: &[u8], bodies: &[u32], body: usize, address: usize) -> usize
     requires { ⌜ (Bodied (now code) (now bodies)) × (body < bodyCount (now code)) × (body ≡ bodyOf (now code) address) × (address < count (now code)) ⌝ }
     ensures { λ r. ⌜ (r ≡ bodyOf (now (code .entry)) (address + 1)) × (r < bodyCount (now (code .entry))) ⌝ }
@@ -283,32 +265,4 @@ pub fn is_bad(flow: Moved) -> bool
         Moved::Ends => false,
         Moved::Bad => true,
     }
-}
-
-// The first address below stop with a fault, or stop.
-pub fn walk(
-    code: &[u8],
-    shapes: &[u32],
-    bodies: &[u32],
-    classes: &[u32],
-    base: usize,
-    stack: &mut [u8],
-    stop: usize,
-) -> usize
-    requires { ⌜ (Able (now code) (now shapes) (now bodies) (now classes)) × (base ≡ codeBase (now code)) × (length (now stack) ≡ 32) × (stop ≤ count (now code)) ⌝ }
-    ensures { λ r. ⌜ r ≡ first (broken (now (code .entry))) stop ⌝ }
-{
-    let mut i: usize = 0;
-    let mut k: usize = 0;
-    let mut f = Moved::Ends;
-    while i < stop {
-        let g = step_at(code, shapes, bodies, classes, base, k, i, stack, f);
-        if is_bad(g) {
-            return i;
-        }
-        k = next_body(code, bodies, k, i);
-        f = g;
-        i += 1;
-    }
-    i
 }

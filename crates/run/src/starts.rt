@@ -11,7 +11,7 @@ ghost use Rattle.run.specs.Answers.{verdictOf};
 pub fn start(code: &[u8], state: &mut [u8]) -> Started
     ensures { λ r. ⌜ startOn (now (code .entry)) (now (state .entry)) ≡ record { verdict = verdictOf r; bytes = now (state .exit) } ⌝ }
 {
-    match load_check::load(code) {
+    match state_check::load(code) {
         Loaded::Refused(refusal) => Started::Refused(refusal),
         Loaded::Passes => {
             if state.len() != STATE_BYTES {

@@ -7,11 +7,12 @@ use Prim.Native.Nat.{ℕ, _<_, _≤_}
 use native.Mathlib.Omega.{arith}
 use lib.ListN.{length}
 use lib.Dec.{ltb, leb, eqb}
-use borrow.Author.Tests.{eq-eqb, ne-eqb, lt-ltb, ltb-true, leb-true}
+use borrow.Author.Tests.{eq-eqb, eqb-true, lt-ltb, ltb-true, leb-true}
 use Rattle.logic.specs.Options.{isSome}
 use Rattle.words.specs.Numbers.{byteAt, halfAt}
 use Rattle.words.specs.Laws.{Bytes}
 use Rattle.values.specs.Ends.{refusal, Judged, accepted, refused as refusedBy}
+use Rattle.values.specs.Refusals.{coded}
 use Rattle.bytecode.specs.Macro.{Macro}
 use Rattle.bytecode.specs.Rules.{judgeMacro}
 use Rattle.bytecode.specs.Machine.{Machine}
@@ -19,6 +20,8 @@ use Rattle.bytecode.specs.Lent.{soundState}
 use Rattle.load_places.specs.Records.{bodies, count}
 use Rattle.load_places.specs.Rules.{Verdict, judge, passes, refused}
 use Rattle.load_check.specs.Views.{verdictOf, judges}
+use Rattle.load_check.specs.Loaded.{loadedOf, fields}
+use Rattle.load_check.specs.declared.Loaded.the-variants.{Passes, Refused as Turned}
 use Rattle.state_sound.specs.Each.{each, each-get, each-alike, each-none}
 use Rattle.state_sound.specs.Fits.{bodyIn, depthIn, openIn, addressIn, held, groupsFit, recordFits, frameFits, runningFits, plainFits, stands, activationsIn, soundBytes}
 use Rattle.logic.specs.Tests.{no-else}
@@ -26,8 +29,8 @@ use Rattle.state_sound.specs.Decoded.{cellCount}
 use Rattle.state_sound.specs.Sounds.{sounds}
 use Rattle.state_check.specs.declared.inspection.Inspected.{Inspected}
 use Rattle.state_check.specs.declared.inspection.Inspected.the-variants.{Sound, Unsound, Refused}
-use Rattle.state_check.specs.Tested.{Counted, fitBefore}
-use Rattle.state_check.specs.Inspecting.{recordsIn, shortOf, Tells, Sees, Held, NotHeld, Inspects}
+use Rattle.state_check.specs.Tested.{AnyCounted, fitBefore}
+use Rattle.state_check.specs.Inspecting.{recordsIn, sizedFits, Placed, Tells, Held, NotHeld, Inspects}
 use Rattle.state_check.proofs.TypeRows.{by-test}
 use Rattle.bytecode.specs.State.{stateLength}
 
@@ -63,28 +66,37 @@ plain-known : (c l : List ℕ) → plainFits c l ≡ true → eqb (byteAt l 0) 0
 unfolding plainFits
 plain-known c l e z = running-known c l (byteAt l 2) (halfAt l 4) (halfAt l 6) (rw z at e)
 
--- what the walk is to test is within the limits
-pub wanted : (c l : List ℕ) (p : Bool) (n r : ℕ) → p ≡ plainFits c l → n ≡ cond p (activationsIn l) 0 → r ≡ cond p (recordsIn l) 0 → Running c l n r
+-- ── what the walk is to test is within the limits ──
+sized : (c l : List ℕ) → sizedFits c l ≡ true → (length l ≡ stateLength) × (plainFits c l ≡ true)
+sized c l e = let a = no-else (eqb (length l) stateLength) (plainFits c l) e in (eqb-true _ _ (a .0), a .1)
+
+pub wanted : (c l : List ℕ) (p : Bool) (n r : ℕ) → p ≡ sizedFits c l → n ≡ cond p (activationsIn l) 0 → r ≡ cond p (recordsIn l) 0 → Running c l n r
 wanted c l false n r e a b = record { few = omega arith; small = omega arith; frames = λ k q. absurd (omega arith) }
 wanted c l true n r e a b =
     by-test (eqb (byteAt l 0) 0)
-    (λ z. let a′ : n ≡ byteAt l 2 = rw z at a in let b′ : r ≡ halfAt l 4 = rw z at b in rw (a′, b′) (plain-known c l (sym e) z))
+    (λ z. let a′ : n ≡ byteAt l 2 = rw z at a in let b′ : r ≡ halfAt l 4 = rw z at b in rw (a′, b′) (plain-known c l (sized c l (sym e) .1) z))
     (λ z. let a′ : n ≡ 0 = rw z at a in let b′ : r ≡ 0 = rw z at b in
     record { few = omega arith; small = omega arith; frames = λ k q. absurd (omega arith) })
 
-pub counted : (c l : List ℕ) (n r : ℕ) → length l ≡ stateLength → Running c l n r → Counted c l n
-counted c l n r e R = record { long = e; few = R .few; of-bodies = λ k p. R .frames k p .0 }
+pub long : (c l : List ℕ) (p : Bool) → p ≡ sizedFits c l → p ≡ true → length l ≡ stateLength
+long c l p e t = sized c l (sym e ∙ t) .0
+
+pub counted : (c l : List ℕ) (p : Bool) (n r : ℕ) → p ≡ sizedFits c l → n ≡ cond p (activationsIn l) 0 → Running c l n r → AnyCounted c l n
+counted c l false n r e a R s = absurd (omega arith)
+counted c l true n r e a R s = record { long = long c l true e refl; few = R .few; of-bodies = λ k p. R .frames k p .0 }
 
 -- all activations stand at addresses of the code
 all-before : (c l : List ℕ) (r n : ℕ) → Running c l n r → fitBefore c l r n (count c) ≡ each (stands c l r n) 0 n
 all-before c l r n R = each-alike _ _ n (λ k p. rw (lt-ltb (addressIn l k) (count c) (R .frames k p .1)))
 
-pub sound-is : (c l : List ℕ) → length l ≡ stateLength → (p ok : Bool) (n r : ℕ) → p ≡ plainFits c l → n ≡ cond p (activationsIn l) 0 → r ≡ cond p (recordsIn l) 0
+pub sound-is : (c l : List ℕ) (p ok : Bool) (n r : ℕ) → p ≡ sizedFits c l → n ≡ cond p (activationsIn l) 0 → r ≡ cond p (recordsIn l) 0
     → ok ≡ fitBefore c l r n (count c) → (p && ok) ≡ soundBytes c l
 unfolding soundBytes
-sound-is c l long false ok n r e a b f = rw (eq-eqb (length l) stateLength long, ← e)
-sound-is c l long true ok n r e a b f =
-    rw (eq-eqb (length l) stateLength long, ← e)
+sound-is c l false ok n r e a b f =
+    by-test (eqb (length l) stateLength) (λ t. let e′ : false ≡ plainFits c l = rw t at e in rw (t, ← e′)) (λ t. rw t)
+sound-is c l true ok n r e a b f =
+    let s = sized c l (sym e) in
+    rw (eq-eqb (length l) stateLength (s .0), s .1)
     (f ∙ all-before c l r n (wanted c l true n r e a b) ∙ by-test (eqb (byteAt l 0) 0)
     (λ z. let a′ : n ≡ byteAt l 2 = rw z at a in let b′ : r ≡ halfAt l 4 = rw z at b in rw (a′, b′, z))
     (λ z. let a′ : n ≡ 0 = rw z at a in rw (a′, z) (each-none _ ∙ sym (each-none _))))
@@ -106,7 +118,7 @@ module _ (c l : List ℕ) where
   accepts : judge c ≡ passes → (m : Macro) × (judgeMacro c ≡ accepted m)
   accepts e = passes-by (judgeMacro c) (sym (judges c) ∙ e)
 
-  refuses : (n k : ℕ) → judge c ≡ refused n k → judgeMacro c ≡ refusedBy (refusal n k)
+  pub refuses : (n k : ℕ) → judge c ≡ refused n k → judgeMacro c ≡ refusedBy (refusal n k)
   refuses n k e = refused-by (judgeMacro c) n k (sym (judges c) ∙ e)
 
   is-held : (m : Macro) → judgeMacro c ≡ accepted m → (o : Option Machine) → soundState m l ≡ o → isSome o ≡ true → Held c l
@@ -124,17 +136,17 @@ module _ (c l : List ℕ) where
       let a = accepts (t .0) in not-held (a .0) (a .1) (soundState (a .0) l) refl (sounds c (a .0) (a .1) l B ∙ t .1)
   told B bx cx (Refused n k) t = refuses n k t
 
-  short : (m : Macro) → (length l ≡ stateLength → ⊥) → soundState m l ≡ none
-  unfolding soundState
-  short m n = rw (ne-eqb (length l) stateLength n)
+-- ── of the macro alone, whatever bytes it was judged beside ──
+module _ (c l bx cx : List ℕ) (x : Inspected) (I : Inspects c l bx cx x) where
+  pub loads-sound : (base : ℕ) → x ≡ Sound base → Passes ≡ loadedOf (judgeMacro c)
+  loads-sound base e = let H : Held c l × Placed c bx cx base = rw e at I in rw (H .0 .passes)
 
-  pub told-short : (length l ≡ stateLength → ⊥) → (bx cx : List ℕ) (x : Inspected) → Sees c x → Inspects c l bx cx x
-  told-short n bx cx (Sound base) t = absurd t
-  told-short n bx cx Unsound t = let a = accepts t in record { macro = a .0; passes = a .1; unsound = short (a .0) n }
-  told-short n bx cx (Refused i p) t = refuses i p t
+  pub loads-unsound : x ≡ Unsound → Passes ≡ loadedOf (judgeMacro c)
+  loads-unsound e = let H : NotHeld c l = rw e at I in rw (H .passes)
 
--- whatever bytes the macro was judged beside
-pub seen-by : (c l bx cx : List ℕ) (x : Inspected) → Tells c l bx cx x → Sees c (shortOf x)
-seen-by c l bx cx (Sound base) t = t .0
-seen-by c l bx cx Unsound t = t .0
-seen-by c l bx cx (Refused n k) t = t
+  pub loads-refused : (n k : ℕ) → x ≡ Refused n k → Turned (coded n k) ≡ loadedOf (judgeMacro c)
+  loads-refused n k e = let H : judgeMacro c ≡ refusedBy (refusal n k) = rw e at I in rw H
+
+  -- a refusal's numbers fit the fields that answers are packed into
+  pub loads-small : Bytes c → (n k : ℕ) → x ≡ Refused n k → (n < 256) × (k < 16777216)
+  loads-small B n k e = fields c B (coded n k) (loads-refused n k e)

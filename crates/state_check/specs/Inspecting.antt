@@ -1,20 +1,22 @@
 -- What an inspection tells: by the bytes alone, and of the macro and the state that they hold.
 use mathlib.Core.Path.{_≡_}
-use mathlib.Core.Bool.{true, false, cond}
+use mathlib.Core.Bool.{Bool, true, false, cond}
 use mathlib.Core.List.{List}
 use mathlib.Core.Option.{some, none}
 use Prim.Native.Nat.{ℕ}
 use lib.Dec.{eqb}
+use lib.ListN.{length}
 use Rattle.words.specs.Numbers.{byteAt, halfAt}
 use Rattle.values.specs.Ends.{refusal, accepted, refused as refusedBy}
 use Rattle.bytecode.specs.Macro.{Macro}
 use Rattle.bytecode.specs.Rules.{judgeMacro}
 use Rattle.bytecode.specs.Machine.{Machine}
 use Rattle.bytecode.specs.Lent.{soundState}
+use Rattle.bytecode.specs.State.{stateLength}
 use Rattle.load_places.specs.Records.{codeBase}
 use Rattle.load_places.specs.Rules.{judge, passes, refused}
 use Rattle.load_check.specs.Lookups.{Bodied, Classed}
-use Rattle.state_sound.specs.Fits.{soundBytes}
+use Rattle.state_sound.specs.Fits.{plainFits, soundBytes}
 use Rattle.state_check.specs.declared.inspection.Inspected.{Inspected}
 use Rattle.state_check.specs.declared.inspection.Inspected.the-variants.{Sound, Unsound, Refused}
 
@@ -22,11 +24,9 @@ use Rattle.state_check.specs.declared.inspection.Inspected.the-variants.
 abbrev pub recordsIn : List ℕ → ℕ
 recordsIn l = cond (eqb (byteAt l 0) 0) (halfAt l 4) 0
 
--- what is told of a state of wrong length
-abbrev pub shortOf : Inspected → Inspected
-shortOf (Sound base) = Unsound
-shortOf Unsound = Unsound
-shortOf (Refused n k) = Refused n k
+-- the tests that need no state found by the loading rules, of bytes of any length
+abbrev pub sizedFits : List ℕ → List ℕ → Bool
+sizedFits c l = cond (eqb (length l) stateLength) (plainFits c l) false
 
 -- the places of the bodies, of the classes and of the first instruction are there
 pub record Placed (c bx cx : List ℕ) (base : ℕ) : Type 0 where
@@ -38,12 +38,6 @@ abbrev pub Tells : List ℕ → List ℕ → List ℕ → List ℕ → Inspected
 Tells c l bx cx (Sound base) = (judge c ≡ passes) × (soundBytes c l ≡ true) × Placed c bx cx base
 Tells c l bx cx Unsound = (judge c ≡ passes) × (soundBytes c l ≡ false)
 Tells c l bx cx (Refused n k) = judge c ≡ refused n k
-
--- of the macro alone
-abbrev pub Sees : List ℕ → Inspected → Type 0
-Sees c (Sound base) = ⊥
-Sees c Unsound = judge c ≡ passes
-Sees c (Refused n k) = judge c ≡ refused n k
 
 -- a macro that passes and a sound state of it
 pub record Held (c l : List ℕ) : Type 0 where

@@ -19,6 +19,13 @@ pub record Counted (c l : List ℕ) (n : ℕ) : Type 0 where
   pub few : n ≤ 32
   pub of-bodies : (k : ℕ) → k < n → bodyIn l k < bodies c
 
+-- as much as is asked where no activation may count, so that nothing of the bytes is read
+abbrev pub AnyCounted : List ℕ → List ℕ → ℕ → Type 0
+AnyCounted c l n = 0 < n → Counted c l n
+
+abbrev pub AnySized : List ℕ → ℕ → Type 0
+AnySized l n = 0 < n → (length l ≡ stateLength) × (n ≤ 32)
+
 -- d types in st are a operands, and above them the arguments that activation k's call took
 unfoldable pub argsFit : List ℕ → List ℕ → ℕ → ℕ → List ℕ → ℕ → ℕ → Bool
 argsFit c l n k st a d =

@@ -1,4 +1,4 @@
-// Whether bytes hold a sound state of a macro: the loading check and the soundness test, in one walk of the macro.
+// Whether bytes hold a sound state of a macro: the loading check and the soundness test, in one walk of the macro. And the loading check alone.
 use crate::tests::both;
 use crate::tests::plain_fits;
 use crate::tests::row_fits;
@@ -6,8 +6,10 @@ use formats::compiled::*;
 use formats::limits::*;
 use formats::state::*;
 use formats::wide;
+use load_check::Loaded;
 use load_places::Moved;
 use load_places::Records;
+use values::Refusal;
 ghost use mathlib.Core.Path.{_≡_};
 ghost use mathlib.Core.Bool.{true, false, cond};
 ghost use Prim.Native.Nat.{ℕ, _+_, _*_, _≤_, _<_};
@@ -18,12 +20,14 @@ ghost use Rattle.load_places.specs.Search.{tops};
 ghost use Rattle.load_places.specs.Records.{count, codeBase, badHead};
 ghost use Rattle.load_places.specs.Rules.{bodyOf, found, into, broken};
 ghost use Rattle.load_places.specs.Index.{Indexed};
-ghost use Rattle.load_check.specs.Lookups.{Bodied};
+ghost use Rattle.load_check.specs.Lookups.{Bodied, Classed};
+ghost use Rattle.load_check.specs.Loaded.{loadedOf};
 ghost use Rattle.load_check.specs.Walk.{flowOf, Fit, Able};
 ghost use Rattle.state_sound.specs.Each.{each};
 ghost use Rattle.state_sound.specs.Fits.{addressIn, standsIn, activationsIn};
-ghost use Rattle.state_check.specs.Tested.{Counted, argsFit, standing, Upto, Tests};
-ghost use Rattle.state_check.specs.Inspecting.{recordsIn, shortOf, Inspects, Tells, Sees};
+ghost use Rattle.state_check.specs.Tested.{Counted, AnyCounted, AnySized, argsFit, standing, Upto, Tests};
+ghost use Rattle.state_check.specs.Inspecting.{recordsIn, sizedFits, Inspects, Tells};
+ghost use Rattle.bytecode.specs.Rules.{judgeMacro};
 ghost use Rattle.bytecode.specs.State.{stateLength};
 
 // Sound, with the place of the first instruction; unsound (10); or refused with the refusal's number and place.
@@ -166,7 +170,7 @@ fn all_stand(
     holds: usize,
     depth: usize,
 ) -> bool
-    requires { ⌜ (Bodied (now code) (now bodies)) × (Counted (now code) (now state) activations) × (records ≤ 256) × (length (now stack) ≡ 32) × (depth ≤ 32) ⌝ }
+    requires { ⌜ (Bodied (now code) (now bodies)) × (AnyCounted (now code) (now state) activations) × (records ≤ 256) × (length (now stack) ≡ 32) × (depth ≤ 32) ⌝ }
     ensures { λ x. ⌜ x ≡ each (λ k. cond (eqb (addressIn (now (state .entry)) k) address) (standsIn (now (code .entry)) (now (state .entry)) records activations k body holds
         (tops (now (stack .entry)) 0 depth)) true) 0 activations ⌝ }
 {
@@ -204,7 +208,7 @@ fn found_fits(
     stack: &[u8],
     flow: Moved,
 ) -> bool
-    requires { ⌜ (Bodied (now code) (now bodies)) × (Counted (now code) (now state) activations) × (records ≤ 256) × (length (now stack) ≡ 32) × (Fit flow) ⌝ }
+    requires { ⌜ (Bodied (now code) (now bodies)) × (AnyCounted (now code) (now state) activations) × (records ≤ 256) × (length (now stack) ≡ 32) × (Fit flow) ⌝ }
     ensures { λ x. ⌜ x ≡ standing (now (code .entry)) (now (state .entry)) records activations address body (flowOf flow (now (stack .entry))) ⌝ }
 {
     match flow {
@@ -240,7 +244,7 @@ fn nearer(best: usize, a: usize, address: usize) -> usize
 
 // No activation stands from the given address on before this one.
 fn next_wanted(state: &[u8], activations: usize, address: usize) -> usize
-    requires { ⌜ (length (now state) ≡ stateLength) × (activations ≤ 32) ⌝ }
+    requires { ⌜ AnySized (now state) activations ⌝ }
     ensures { λ x. ⌜ ((k : ℕ) → k < activations → address ≤ addressIn (now (state .entry)) k → x ≤ addressIn (now (state .entry)) k) ⌝ }
 {
     let mut best: usize = 65536;
@@ -273,7 +277,7 @@ fn look(
     ok: bool,
     next: usize,
 ) -> Wanted
-    requires { ⌜ (Bodied (now code) (now bodies)) × (Counted (now code) (now state) activations) × (records ≤ 256) × (length (now stack) ≡ 32) × (Fit flow) × (address < 65536)
+    requires { ⌜ (Bodied (now code) (now bodies)) × (AnyCounted (now code) (now state) activations) × (records ≤ 256) × (length (now stack) ≡ 32) × (Fit flow) × (address < 65536)
         × (body ≡ bodyOf (now code) address) × (flowOf flow (now stack) ≡ found (now code) address (into (now code) address))
         × (Upto (now code) (now state) records activations address ok next) ⌝ }
     ensures { λ x. ⌜ (broken (now (code .entry)) address ≡ false → Upto (now (code .entry)) (now (state .entry)) records activations (address + 1) (x .ok) (x .next)) ⌝ }
@@ -316,7 +320,7 @@ fn walk_tests(
     records: usize,
     activations: usize,
 ) -> Tested
-    requires { ⌜ (Able (now code) (now shapes) (now bodies) (now classes)) × (base ≡ codeBase (now code)) × (length (now stack) ≡ 32) × (Counted (now code) (now state) activations)
+    requires { ⌜ (Able (now code) (now shapes) (now bodies) (now classes)) × (base ≡ codeBase (now code)) × (length (now stack) ≡ 32) × (AnyCounted (now code) (now state) activations)
         × (records ≤ 256) ⌝ }
     ensures { λ x. ⌜ Tests (now (code .entry)) (now (state .entry)) records activations (x .at) (x .ok) ⌝ }
 {
@@ -367,7 +371,7 @@ struct Counts {
 
 // What the walk is to test: nothing where the state is refused anyway, or has no activations.
 fn count_wanted(state: &[u8], plain: bool) -> Counts
-    requires { ⌜ length (now state) ≡ stateLength ⌝ }
+    requires { ⌜ (plain ≡ true → length (now state) ≡ stateLength) ⌝ }
     ensures { λ x. ⌜ (x .activations ≡ cond plain (activationsIn (now (state .entry))) 0) × (x .records ≡ cond plain (recordsIn (now (state .entry))) 0) ⌝ }
 {
     if !plain {
@@ -391,6 +395,17 @@ fn count_wanted(state: &[u8], plain: bool) -> Counts
     }
 }
 
+// A state of another length is not sound, and not looked at: the macro is judged beside it all the same.
+fn sized_fits(code: &[u8], bodies: &[u32], classes: &[u32], base: usize, state: &[u8]) -> bool
+    requires { ⌜ (Bodied (now code) (now bodies)) × (Classed (now code) (now classes)) × (base ≡ codeBase (now code)) ⌝ }
+    ensures { λ x. ⌜ x ≡ sizedFits (now (code .entry)) (now (state .entry)) ⌝ }
+{
+    if state.len() != STATE_BYTES {
+        return false;
+    }
+    plain_fits(code, bodies, classes, base, state)
+}
+
 fn inspect_in(
     code: &[u8],
     state: &[u8],
@@ -400,14 +415,14 @@ fn inspect_in(
     instructions: usize,
 ) -> Inspected
     requires { ⌜ (badHead (now code) ≡ false) × (instructions ≡ count (now code)) × (instructions ≤ length (now shapes)) × (64 ≤ length (now bodies)) × (16 ≤ length (now classes))
-        × (Indexed (now code) (now shapes) instructions 0) × (length (now state) ≡ stateLength) ⌝ }
+        × (Indexed (now code) (now shapes) instructions 0) ⌝ }
     ensures { λ x. ⌜ Tells (now (code .entry)) (now (state .entry)) (now (bodies .exit)) (now (classes .exit)) x ⌝ }
 {
     let mut stack = [0u8; MAX_OPERANDS];
     match load_check::scan(code, shapes, bodies, classes, instructions) {
         Records::Unread(k) => Inspected::Refused(8, k),
         Records::Reads(base) => {
-            let plain = plain_fits(code, bodies, classes, base, state);
+            let plain = sized_fits(code, bodies, classes, base, state);
             let counts = count_wanted(state, plain);
             let w = walk_tests(
                 code,
@@ -433,7 +448,7 @@ fn inspect_in(
     }
 }
 
-// The larger indexes: for more than 1,024 instructions, and for a state of wrong length, which is refused whatever the macro's size.
+// The larger indexes, for more than 1,024 instructions.
 fn inspect_large(
     code: &[u8],
     state: &[u8],
@@ -441,8 +456,7 @@ fn inspect_large(
     classes: &mut [u32],
     instructions: usize,
 ) -> Inspected
-    requires { ⌜ (badHead (now code) ≡ false) × (instructions ≡ count (now code)) × (instructions < 65536) × (64 ≤ length (now bodies)) × (16 ≤ length (now classes))
-        × (length (now state) ≡ stateLength) ⌝ }
+    requires { ⌜ (badHead (now code) ≡ false) × (instructions ≡ count (now code)) × (instructions < 65536) × (64 ≤ length (now bodies)) × (16 ≤ length (now classes)) ⌝ }
     ensures { λ x. ⌜ Tells (now (code .entry)) (now (state .entry)) (now (bodies .exit)) (now (classes .exit)) x ⌝ }
 {
     if instructions <= 8192 {
@@ -453,10 +467,12 @@ fn inspect_large(
     inspect_in(code, state, &mut shapes, bodies, classes, instructions)
 }
 
-// The index of shapes is cleared at each call, so that its size goes by the number of instructions.
-fn inspect_long(code: &[u8], state: &[u8], bodies: &mut [u32], classes: &mut [u32]) -> Inspected
-    requires { ⌜ (64 ≤ length (now bodies)) × (16 ≤ length (now classes)) × (length (now state) ≡ stateLength) ⌝ }
-    ensures { λ x. ⌜ Tells (now (code .entry)) (now (state .entry)) (now (bodies .exit)) (now (classes .exit)) x ⌝ }
+// A macro and a state's bytes, whatever they are: the refusal 8 or 9 of the loading check, or whether a sound state decodes from the bytes.
+// The places of bodies and classes are left in `bodies` and `classes`. The index of shapes is cleared at each call, so that its size goes by the
+// number of instructions.
+pub fn inspect(code: &[u8], state: &[u8], bodies: &mut [u32], classes: &mut [u32]) -> Inspected
+    requires { ⌜ (64 ≤ length (now bodies)) × (16 ≤ length (now classes)) ⌝ }
+    ensures { λ x. ⌜ Inspects (now (code .entry)) (now (state .entry)) (now (bodies .exit)) (now (classes .exit)) x ⌝ }
 {
     if load_check::bad_head(code) {
         return Inspected::Refused(8, 0);
@@ -473,38 +489,23 @@ fn inspect_long(code: &[u8], state: &[u8], bodies: &mut [u32], classes: &mut [u3
     inspect_large(code, state, bodies, classes, instructions)
 }
 
-// What is told of a state of wrong length, which is never sound.
-fn short(x: Inspected) -> Inspected
-    ensures { λ r. ⌜ r ≡ shortOf x ⌝ }
+// The loading check alone, by the same walk beside no state: a walk of its own would be a second caller of the rules' step, and cost both their speed
+// (`load_rules::go_on`).
+pub fn load(code: &[u8]) -> Loaded
+    ensures { λ r. ⌜ r ≡ loadedOf (judgeMacro (now (code .entry))) ⌝ }
 {
-    match x {
-        Inspected::Sound(_) => Inspected::Unsound,
-        Inspected::Unsound => Inspected::Unsound,
-        Inspected::Refused(n, k) => Inspected::Refused(n, k),
+    let mut bodies = [0u32; MAX_BODIES];
+    let mut classes = [0u32; MAX_CLASSES];
+    let none = [0u8; 0];
+    match inspect(code, &none, &mut bodies, &mut classes) {
+        Inspected::Sound(_) => Loaded::Passes,
+        Inspected::Unsound => Loaded::Passes,
+        Inspected::Refused(number, place) => {
+            let refusal = Refusal {
+                number: number as u8,
+                place: place as u32,
+            };
+            Loaded::Refused(refusal)
+        }
     }
-}
-
-// The macro is judged beside bytes that hold nothing, as long as a state.
-fn inspect_short(code: &[u8], bodies: &mut [u32], classes: &mut [u32]) -> Inspected
-    requires { ⌜ (64 ≤ length (now bodies)) × (16 ≤ length (now classes)) ⌝ }
-    ensures { λ x. ⌜ Sees (now (code .entry)) x ⌝ }
-{
-    if load_check::bad_head(code) {
-        return Inspected::Refused(8, 0);
-    }
-    let instructions = words::wide::half_at(code, CODE_COUNT_AT);
-    let nothing = [0u8; STATE_BYTES];
-    short(inspect_large(code, &nothing, bodies, classes, instructions))
-}
-
-// A macro and a state's bytes, whatever they are: the refusal 8 or 9 of the loading check, or whether a sound state decodes from the bytes.
-// The places of bodies and classes are left in `bodies` and `classes`.
-pub fn inspect(code: &[u8], state: &[u8], bodies: &mut [u32], classes: &mut [u32]) -> Inspected
-    requires { ⌜ (64 ≤ length (now bodies)) × (16 ≤ length (now classes)) ⌝ }
-    ensures { λ x. ⌜ Inspects (now (code .entry)) (now (state .entry)) (now (bodies .exit)) (now (classes .exit)) x ⌝ }
-{
-    if state.len() != STATE_BYTES {
-        return inspect_short(code, bodies, classes);
-    }
-    inspect_long(code, state, bodies, classes)
 }

@@ -5,3 +5,4 @@ mod tests;
 
 pub use inspection::Inspected;
 pub use inspection::inspect;
+pub use inspection::load;

@@ -23,7 +23,7 @@ stands-if-requires : tie.Need-stands-if-requires Inv-loop μ-loop
 stands-if-requires c κs =
     let at-start = c .before .before .before .before .before .before in (
       at-start .pre .0,
-      at-start .pre .1,
+      at-start .pre .1 (omega arith),
       at-start .pre .2,
       omega arith,
       at-start .pre .3,
@@ -33,7 +33,7 @@ stands-if-requires c κs =
 add-k : tie.Need-add-k Inv-loop μ-loop
 add-k c =
     let at-start = c .before .before .before .before .before .before .before .before in
-    omega (arith, at-start .pre .1 .few)
+    omega (arith, at-start .pre .1 (omega arith) .few)
 
 loop-again : tie.Need-loop-again Inv-loop μ-loop
 loop-again c =

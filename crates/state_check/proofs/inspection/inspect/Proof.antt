@@ -1,30 +1,83 @@
 -- `state_check::inspection::inspect` meets its contract. Assumes nothing.
 use borrow.Author.Needs.{needs}
+use native.Mathlib.Omega.{arith}
+use mathlib.Core.Path.{sym, _∙_}
+use Rattle.load_check.specs.Walk as rule
+use Rattle.load_check.specs.Lookups.{head-known}
 use Rattle.state_check.proofs.InspectionTells as telling
 use Rattle.state_check.proofs.inspection.inspect.Statement.{statement}
 use Rattle.state_check.proofs.inspection.inspect.Tie as tie
 
 returns : tie.Need-returns
-returns c =
-    let at-inspect-short = c .before .before .before .before in
-    let at-if1 = at-inspect-short .before .before .before in
-    telling.told-short _ _ (at-if1 .if1 .taken) _ _ (at-inspect-short .inspect-short .result) (at-inspect-short .inspect-short .ensures)
+returns c = telling.refuses _ (c .before .before .before .before .before .before .args .state .now) 8 0 (sym (rule.judge-head _ (sym (c .before .bad-head .ensures) ∙ c .if1 .taken)))
+
+half-at-requires : tie.Need-half-at-requires
+half-at-requires c κs = omega (arith, head-known _ (sym (c .before .bad-head .ensures) ∙ c .if1 .left) .bytes)
+
+inspect-in-requires : tie.Need-inspect-in-requires
+inspect-in-requires c κs =
+    let at-half-at = c .before .before .before .before in
+    let at-if1 = at-half-at .before in
+    let at-bad-head = at-if1 .before in
+    let at-start = at-bad-head .before .before .before .before .before in (
+      sym (at-bad-head .bad-head .ensures) ∙ at-if1 .if1 .left,
+      at-half-at .half-at .ensures .0,
+      rule.zeros-long _ 64 (omega arith),
+      at-start .pre .0,
+      at-start .pre .1,
+      rule.zeros-index _ 64 _,
+    )
+
+inspect-in-requires-2 : tie.Need-inspect-in-requires-2
+inspect-in-requires-2 c κs =
+    let at-half-at = c .before .before .before .before .before in
+    let at-if1 = at-half-at .before in
+    let at-bad-head = at-if1 .before in
+    let at-start = at-bad-head .before .before .before .before .before in (
+      sym (at-bad-head .bad-head .ensures)
+          ∙ at-if1 .if1 .left,
+      at-half-at .half-at .ensures .0,
+      rule.zeros-long _ 1024 (omega arith),
+      at-start .pre .0,
+      at-start .pre .1,
+      rule.zeros-index _ 1024 _,
+    )
+
+inspect-large-requires : tie.Need-inspect-large-requires
+inspect-large-requires c κs =
+    let at-half-at = c .before .before .before .before in
+    let at-if1 = at-half-at .before in
+    let at-bad-head = at-if1 .before in
+    let at-start = at-bad-head .before .before .before .before .before in
+    (sym (at-bad-head .bad-head .ensures) ∙ at-if1 .if1 .left, at-half-at .half-at .ensures .0, at-half-at .half-at .ensures .1, at-start .pre .0, at-start .pre .1)
 
 returns-2 : tie.Need-returns-2
-returns-2 c =
-    let at-inspect-long = c .before .before .before .before in
-    let at-shared-slice-known2 = at-inspect-long .before .before .before .before .before .before in
-    telling.told _ _ (λ i. at-shared-slice-known2 .shared-slice-known2 .given i .fits) _ _ (at-inspect-long .inspect-long .result) (at-inspect-long .inspect-long .ensures)
+returns-2 c = telling.told _ _ (λ i. c .before .before .before .before .before .before .before .before .before .before .before .before .before .before .before .shared-slice-known2 .given i .fits) _ _ (c .before .before .before .before .before .inspect-in .result) (c .before .before .before .before .before .inspect-in .ensures)
+
+returns-3 : tie.Need-returns-3
+returns-3 c = telling.told _ _ (λ i. c .before .before .before .before .before .before .before .before .before .before .before .before .before .before .before .before .shared-slice-known2 .given i .fits) _ _ (c .before .before .before .before .before .inspect-in2 .result) (c .before .before .before .before .before .inspect-in2 .ensures)
+
+returns-4 : tie.Need-returns-4
+returns-4 c = telling.told _ _ (λ i. c .before .before .before .before .before .before .before .before .before .before .before .before .before .before .shared-slice-known2 .given i .fits) _ _ (c .before .before .before .before .inspect-large .result) (c .before .before .before .before .inspect-large .ensures)
 
 pub inspect-spec : {M : Type 1} → statement M
 inspect-spec =
     tie.close
     (tie.spec
     (λ c κs. search needs)
-    (λ c. search needs)
-    (λ c. search needs)
     returns
-    (λ c κs. search needs)
+    half-at-requires
+    (λ c. search needs)
+    inspect-in-requires
     (λ c. search needs)
     (λ c. search needs)
-    returns-2)
+    returns-2
+    (λ c. search needs)
+    inspect-in-requires-2
+    (λ c. search needs)
+    (λ c. search needs)
+    returns-3
+    inspect-large-requires
+    (λ c. search needs)
+    (λ c. search needs)
+    returns-4)

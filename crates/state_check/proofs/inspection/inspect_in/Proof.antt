@@ -40,29 +40,32 @@ passed p =
 
 sounds : (p : tie.Else1) → let s =
     start-of (p .before .before .before .before .before .before .before .before .before .before .before .before) .args in
-    soundBytes (s .code .now) (s .state .now) ≡ (p .before .before .before .before .before .before .before .before .plain-fits .result
+    soundBytes (s .code .now) (s .state .now) ≡ (p .before .before .before .before .before .before .before .before .sized-fits .result
     && p .before .before .walk-tests .result .ok)
 sounds p =
     let at-start = start-of (p .before .before .before .before .before .before .before .before .before .before .before .before) in
     let counts = p .before .before .before .before .before .before .before .count-wanted in
-    let plain = p .before .before .before .before .before .before .before .before .plain-fits in
+    let plain = p .before .before .before .before .before .before .before .before .sized-fits in
     let walk = p .before .before .walk-tests in
-    sym (telling.sound-is (at-start .args .code .now) (at-start .args .state .now) (at-start .pre .6) (plain .result) (walk .result .ok)
+    sym (telling.sound-is (at-start .args .code .now) (at-start .args .state .now) (plain .result) (walk .result .ok)
     (counts .result .activations) (counts .result .records) (plain .ensures) (counts .ensures .0) (counts .ensures .1)
     (walk .ensures .tested (omega (arith, at-start .pre .1))))
 
-plain-fits-requires : tie.Need-plain-fits-requires
-plain-fits-requires c κs = let p = c .before .before .before in (able p .bodied, able p .classed, based p, start-of p .pre .6)
+sized-fits-requires : tie.Need-sized-fits-requires
+sized-fits-requires c κs = let p = c .before .before .before in (able p .bodied, able p .classed, based p)
+
+count-wanted-requires : tie.Need-count-wanted-requires
+count-wanted-requires c κs = let s = c .before .before .before .before .before .before .before .before .before .before .before .before .before .before .before .before .before .before .before .before .before .args in telling.long (s .code .now) (s .state .now) _ (c .sized-fits .ensures)
 
 walk-tests-requires : tie.Need-walk-tests-requires
 walk-tests-requires c κs =
     let counts = c .before .before .before .before .count-wanted in
-    let plain = c .before .before .before .before .before .plain-fits in
+    let plain = c .before .before .before .before .before .sized-fits in
     let p = c .before .before .before .before .before .before .before .before .before in
     let s = start-of p in
     let w = telling.wanted (s .args .code .now) (s .args .state .now) (plain .result) (counts .result .activations) (counts .result .records)
     (plain .ensures) (counts .ensures .0) (counts .ensures .1) in
-    (able p, based p, refl, telling.counted _ _ _ _ (s .pre .6) w, w .small)
+    (able p, based p, refl, telling.counted _ _ _ _ _ (plain .ensures) (counts .ensures .0) w, w .small)
 
 returns : tie.Need-returns
 returns c =
@@ -93,8 +96,8 @@ inspect-in-spec =
     (λ c κs. search needs)
     (λ c. search needs)
     (λ c. search needs)
-    plain-fits-requires
-    (λ c κs. search needs)
+    sized-fits-requires
+    count-wanted-requires
     (λ c. search needs)
     walk-tests-requires
     (λ c. search needs)

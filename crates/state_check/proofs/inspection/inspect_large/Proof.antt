@@ -14,7 +14,6 @@ inspect-in-requires c κs =
       at-start .pre .3,
       at-start .pre .4,
       rule.zeros-index _ 8192 _,
-      at-start .pre .5,
     )
 
 inspect-in-requires-2 : tie.Need-inspect-in-requires-2
@@ -26,7 +25,6 @@ inspect-in-requires-2 c κs =
       at-start .pre .3,
       at-start .pre .4,
       rule.zeros-index _ 65536 _,
-      at-start .pre .5,
     )
 
 pub inspect-large-spec : {M : Type 1} → statement M

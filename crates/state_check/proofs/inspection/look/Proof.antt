@@ -9,6 +9,9 @@ returns c =
     let at-start = c .before .before .before .before .before in
     λ q. law.skipped _ _ _ _ _ _ _ (at-start .pre .8) (c .if1 .taken)
 
+next-wanted-requires : tie.Need-next-wanted-requires
+next-wanted-requires c κs = λ s. (c .before .before .before .before .before .before .pre .1 s .long, c .before .before .before .before .before .before .pre .1 s .few)
+
 returns-2 : tie.Need-returns-2
 returns-2 c =
     let at-start = c .before .before .before .before .before .before .before .before in
@@ -21,6 +24,6 @@ look-spec =
     returns
     (λ c κs. search needs)
     (λ c. search needs)
-    (λ c κs. search needs)
+    next-wanted-requires
     (λ c κs. search needs)
     returns-2)

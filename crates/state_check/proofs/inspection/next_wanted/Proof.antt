@@ -35,12 +35,12 @@ next-wanted-spec =
     Inv-loop
     μ-loop
     loop-holds
-    (λ c. omega arith)
-    (λ c. omega arith)
-    (λ c. omega arith)
-    (λ c κs. omega arith)
+    (λ c. omega (arith, c .before .before .before .pre (omega arith)))
+    (λ c. omega (arith, c .before .before .before .pre (omega arith)))
+    (λ c. omega (arith, c .before .before .before .pre (omega arith)))
+    (λ c κs. omega (arith, c .before .before .before .pre (omega arith)))
     (λ c κs. tt)
-    (λ c. omega arith)
+    (λ c. omega (arith, c .before .before .before .before .before .pre (omega arith)))
     (λ c. omega arith)
     loop-again
     returns)

@@ -43,7 +43,7 @@ half-at-requires : tie.Need-half-at-requires Inv-loop μ-loop
 half-at-requires c κs = omega (arith, head-of _ (c .before .before .before .before .before .before .pre .0 .bodied .well) .bytes)
 
 next-wanted-requires : tie.Need-next-wanted-requires Inv-loop μ-loop
-next-wanted-requires c κs = (c .before .before .before .before .before .before .before .pre .3 .long, c .before .before .before .before .before .before .before .pre .3 .few)
+next-wanted-requires c κs = let counted = c .before .before .before .before .before .before .before .pre .3 in λ s. (counted s .long, counted s .few)
 
 loop-holds : tie.Need-loop-holds Inv-loop μ-loop
 loop-holds c = (
