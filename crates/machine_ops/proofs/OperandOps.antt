@@ -3,7 +3,7 @@ use mathlib.Core.Path.{_≡_, refl, _∙_}
 use mathlib.Core.List.{List, [], _∷_}
 use mathlib.Core.Logic.{_⊎_, inl, inr}
 use mathlib.Core.Option.{Option, none, some}
-use Prim.Native.Nat.{ℕ, suc, _+_, _*_, _-_, _≤_, _<_}
+use Prim.Native.Nat.{ℕ, _+_, _*_, _-_, _≤_, _<_}
 use native.Mathlib.Omega.{arith}
 use lib.ListN.{length, getElem?}
 use lib.ListN.{set as replace}
@@ -12,9 +12,9 @@ use Rattle.bytecode.specs.Words.{valueWord}
 use Rattle.logic.specs.Options.{keep}
 use Rattle.words.specs.Numbers.{byteAt, wordAt}
 use Rattle.values.specs.Types.{Ty, fits}
-use Rattle.values.specs.Operators.{Unary, Binary, Operator, unary, binary, unaryOf, binaryOf}
+use Rattle.values.specs.Operators.{Unary, Operator, unary, unaryOf, binaryOf}
 use Rattle.values.specs.Arithmetic.{Outcome, gives, ends, mistyped}
-use Rattle.values.specs.Values.{Value, tyOf, Cell, assigned, apply1, apply2}
+use Rattle.values.specs.Values.{Value, tyOf, Cell, assigned, apply1}
 use Rattle.bytecode.specs.Macro.{Macro}
 use Rattle.bytecode.specs.Instructions.{Owner, own, root, ownerOf, operatorOf, orBinary, cellTy}
 use Rattle.bytecode.specs.Machine.{Activation, Shared, badFrame, badType, condition, goesOn, settled, onCell, pushCell, rootOf, doLoad, doStore, doOperate}
@@ -27,7 +27,7 @@ use Rattle.machine_frames.specs.Bytes.{wentTo, pushed, popped, operandSet, cell
 use Rattle.machine_frames.specs.On.{on-push, on-pop, on-operand, on-cell, on-root, on-condition, read-operand, read-cell, read-root}
 use Rattle.machine_ops.specs.declared.operators.Worked.{Worked}
 use Rattle.machine_ops.specs.declared.operators.Worked.the-variants as worked
-use Rattle.machine_ops.specs.Works.{Says, Works1, Works2}
+use Rattle.machine_ops.specs.Works.{Says, Works1}
 use Rattle.machine_ops.specs.declared.Out.{Out}
 use Rattle.machine_ops.specs.declared.Out.the-variants.{Goes}
 use Rattle.machine_ops.specs.Acts.{here, Now, Told, Tells, Pushes}

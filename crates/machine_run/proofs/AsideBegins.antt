@@ -18,7 +18,7 @@ use Rattle.machine_run.specs.Held.{Found, Held, Poised, Reaches}
 use Rattle.machine_run.specs.Aside.{Coded, Aside, One, Leads, Begin, loads, pushes, takes, Lands, Grows}
 use Rattle.machine_run.proofs.OpAsks.{room, asks-load, asks-operate}
 use Rattle.machine_run.proofs.LoopInvariant.{Loop, Ready, poise}
-use Rattle.machine_run.proofs.AsideSteps.{whole, room-whole, take, put-bytes}
+use Rattle.machine_run.proofs.AsideSteps.{whole, take, put-bytes}
 use Rattle.machine_run.proofs.AsideSteps as steps
 
 pub coded : {code bodies classes : List ℕ} {base : ℕ} → Found code bodies classes base → Coded code base

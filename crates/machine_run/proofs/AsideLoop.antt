@@ -9,8 +9,8 @@ use Rattle.words.specs.Laws.{Bytes, word-back}
 use Rattle.values.specs.Values.{Value, int}
 use Rattle.bytecode.specs.Words.{valueWord}
 use Rattle.bytecode.specs.Machine.{Machine}
-use Rattle.bytecode.specs.State.{typeByte, encode, stateLength, activationsAt, activationLength}
-use Rattle.load_places.specs.Records.{codePlace, codeBase}
+use Rattle.bytecode.specs.State.{typeByte, encode, stateLength}
+use Rattle.load_places.specs.Records.{codePlace}
 use Rattle.machine_frames.specs.Bytes.{wentTo, pushed, popped, conditioned}
 use Rattle.machine_frames.specs.On.{on-long, read-count, read-records}
 use Rattle.machine_ops.specs.declared.operators.Worked.{Worked}
@@ -19,10 +19,10 @@ use Rattle.machine_ops.specs.Works.{Works2}
 use Rattle.machine_ops.proofs.RunningFacts.{few-records}
 use Rattle.machine_run.specs.declared.aside.Landing.{Landing}
 use Rattle.machine_run.specs.declared.aside.Landing.the-variants as landing
-use Rattle.machine_run.specs.Held.{Held, Poised, Reaches}
-use Rattle.machine_run.specs.Aside.{Coded, Aside, One, Leads, Led, Lands, Cells, Takes, Follows, Paired, operates, pushes, loads, Leaves, Grows, stores, jumps, passes, puts}
+use Rattle.machine_run.specs.Held.{Poised, Reaches}
+use Rattle.machine_run.specs.Aside.{Coded, Aside, One, Leads, Led, Lands, Follows, Paired, operates, pushes, loads, Leaves, Grows, stores, jumps, passes, puts}
 use Rattle.machine_run.proofs.OpAsks.{asks-load, asks-store, asks-operate, asks-unless}
-use Rattle.machine_run.proofs.AsideSteps.{whole, one-whole, now-whole, room-whole, in-code, poised-whole, More, Taken, take, gave, broke, Back, put-bytes, put-back}
+use Rattle.machine_run.proofs.AsideSteps.{whole, one-whole, now-whole, room-whole, in-code, poised-whole, take, gave, broke, Back, put-bytes, put-back}
 use Rattle.machine_run.proofs.AsideSteps as steps
 
 -- from bytes s after i₀ steps to the operand w, of type byte t, aside after n
@@ -75,7 +75,14 @@ module _ {code readings : List ℕ} {k : ℕ} {s : List ℕ} {i₀ : ℕ} {l₀ 
   gives at₀ w t e =
       let g = gave (T .aside) readings low (T .op-is) (T .number) refl refl (T .binary) (T .left-type) (T .left-word) (T .right-word) r W w t e in
       let G : Going code readings k s at₀ i₀ l₀ l f d (T .spot + 1) (T .taken + 1) w t =
-      record { upto = omega (arith, T .more); grown = omega (arith, T .grown); fresh = λ q. absurd (omega (arith, T .grown)); long = T .long; one = g .0; leads = λ b R. g .1 k (T .taken) (T .more) b (T .leads b R) } in
+      record {
+        upto = omega (arith, T .more);
+        grown = omega (arith, T .grown);
+        fresh = λ q. absurd (omega (arith, T .grown));
+        long = T .long;
+        one = g .0;
+        leads = λ b R. g .1 k (T .taken) (T .more) b (T .leads b R);
+      } in
       subst (λ (z : ℕ). Going code readings k s at₀ i₀ l₀ l f d i z w t) (T .so-far) (subst (λ (z : ℕ). Going code readings k s at₀ i₀ l₀ l f d z (T .taken + 1) w t) (T .at-spot) G)
 
   pub breaks : (e : ℕ) → r ≡ worked.Ends e → Led code readings k s i₀ (conditioned l e) n × (byteAt (conditioned l e) 0 ≡ 1)
@@ -275,8 +282,10 @@ module _ {code readings : List ℕ} {k : ℕ} {s : List ℕ} {at₀ i₀ : ℕ} 
           omega (arith, high a7) in
           omega (arith, not, R .going .grown)
 
-pub put-grows : {code readings : List ℕ} {k : ℕ} {s : List ℕ} {at₀ i₀ : ℕ} {l₀ l : List ℕ} {f d i n w t : ℕ} (p : ℕ) → Going code readings k s at₀ i₀ l₀ l f d i n w t → k ≤ n → Grows code p i₀ k (landing.Lands i n)
+pub put-grows : {code readings : List ℕ} {k : ℕ} {s : List ℕ} {at₀ i₀ : ℕ} {l₀ l : List ℕ} {f d i n w t : ℕ} (p : ℕ)
+    → Going code readings k s at₀ i₀ l₀ l f d i n w t → k ≤ n → Grows code p i₀ k (landing.Lands i n)
 put-grows p G h = (G .grown, λ x y z. omega arith)
 
-pub put-asks : {code readings : List ℕ} {k : ℕ} {s : List ℕ} {at₀ i₀ : ℕ} {l₀ l : List ℕ} {f d i n w t : ℕ} → Going code readings k s at₀ i₀ l₀ l f d i n w t → (length l ≡ stateLength) × (f ≤ 10200) × (d < 32)
+pub put-asks : {code readings : List ℕ} {k : ℕ} {s : List ℕ} {at₀ i₀ : ℕ} {l₀ l : List ℕ} {f d i n w t : ℕ}
+    → Going code readings k s at₀ i₀ l₀ l f d i n w t → (length l ≡ stateLength) × (f ≤ 10200) × (d < 32)
 put-asks G = let A = G .one .aside in (on-long (A .on), room-whole A .place, omega (arith, room-whole A .depth))

@@ -11,23 +11,22 @@ use lib.Dec.{leb}
 use lib.ListN.{length, getElem?, length-append}
 use lib.ListN.{set as replace}
 use borrow.Author.Tests.{ne-eqb}
-use Rattle.logic.specs.Choice.{if_then_else_}
 use Rattle.logic.specs.Options.{keep}
 use Rattle.logic.specs.OptionLaws.{same-some}
 use Rattle.logic.specs.ListLaws.{index-below}
 use Rattle.words.specs.Numbers.{byteAt, halfAt, wordAt, integerOf}
-use Rattle.words.specs.Laws.{Bytes, word-back}
+use Rattle.words.specs.Laws.{Bytes}
 use Rattle.values.specs.Ends.{accepted}
 use Rattle.values.specs.Trace.{Item}
 use Rattle.values.specs.Types.{Ty, fits}
-use Rattle.values.specs.Operators.{Operator, Binary, unary, binary, unaryOf, binaryOf}
+use Rattle.values.specs.Operators.{Operator, Binary, binary, unaryOf, binaryOf}
 use Rattle.values.specs.Arithmetic.{Outcome, gives, ends, mistyped}
 use Rattle.values.specs.Values.{Value, int, log, bit, ref, tyOf, asLogical, Cell, assigned, apply2}
 use Rattle.bytecode.specs.Words.{valueWord, wordValue}
 use Rattle.bytecode.specs.Macro.{Macro, readMacro}
-use Rattle.bytecode.specs.Instructions.{Instr, Owner, own, root, ownerOf, operatorOf, push, load, store, operate, goUnless, cellTy, known}
+use Rattle.bytecode.specs.Instructions.{Instr, Owner, own, root, ownerOf, operatorOf, push, load, operate, cellTy, known}
 use Rattle.bytecode.specs.Machine.{Activation, Shared, endBy, Machine, running, unwinding, Stuck, badFrame, badType, noStep, Stepped, moved, stuck, demand, given, Here, at, maxOperands}
-use Rattle.bytecode.specs.Machine.{goesOn, goes, settled, condition, allHolds, rootOf, cellsFor, pushCell, putTop, putLowest, putCells, doLoad, doStore, doOperate, doGoUnless, act, step}
+use Rattle.bytecode.specs.Machine.{goesOn, goes, settled, condition, allHolds, rootOf, cellsFor, pushCell, putLowest, putCells, doLoad, doStore, doOperate, doGoUnless, act, step}
 use Rattle.bytecode.specs.Runs.{bankOf}
 use Rattle.bytecode.specs.Sound.{sound, soundValue}
 use Rattle.bytecode.specs.State.{typeByte, encode, decode, activationsAt, activationLength, cellWordsAt, cellTypesAt, operandWordsAt, operandTypesAt}
@@ -47,11 +46,11 @@ use Rattle.machine_ops.specs.declared.Out.the-variants.{Goes}
 use Rattle.machine_ops.specs.Works.{Says, Works2}
 use Rattle.machine_ops.specs.Acts.{here, outOf, Now, Told, Room}
 use Rattle.machine_ops.proofs.RunningFacts.{stands, few-records, value-back, word-valid, owner-is}
-use Rattle.machine_run.specs.Held.{Held, Poised, Steps, Reaches}
-use Rattle.machine_run.specs.Aside.{Aside, One, Leads, Led}
+use Rattle.machine_run.specs.Held.{Held, Poised, Steps}
+use Rattle.machine_run.specs.Aside.{Aside, One, Leads}
 use Rattle.machine_run.proofs.OpDecode.{is-integer, is-load, is-store, is-operate, is-unless}
 use Rattle.machine_run.proofs.OpAsks.{room}
-use Rattle.machine_run.proofs.ByteSteps.{Read, Next, next-at, in-macro, poised}
+use Rattle.machine_run.proofs.ByteSteps.{Next, next-at, in-macro, poised}
 use Rattle.machine_run.proofs.RunLoop.{go-on}
 
 -- ── a step that is made ──
@@ -216,8 +215,8 @@ module _ {code l : List ℕ} {f n i : ℕ} {vs : List Value} (A : Aside code l f
       more (int (integerOf b)) (g .0) (g .1)
 
   -- the word and the type byte of a cell, where they stand
-  cell-bytes : (o : Owner) → ownerOf a ≡ some o → (v : Value) → getElem? (cellsFor o (here (A .shared) (full A) (A .below))) b ≡ some (assigned v) → b < 32 → (g : ℕ) → (a ≡ 0 → g ≡ f) → (a ≡ 1 → g ≡ 32)
-      → (wordAt l (g + (cellWordsAt + 4 * b)) ≡ valueWord v) × (byteAt l (g + (cellTypesAt + b)) ≡ typeByte v)
+  cell-bytes : (o : Owner) → ownerOf a ≡ some o → (v : Value) → getElem? (cellsFor o (here (A .shared) (full A) (A .below))) b ≡ some (assigned v) → b < 32
+      → (g : ℕ) → (a ≡ 0 → g ≡ f) → (a ≡ 1 → g ≡ 32) → (wordAt l (g + (cellWordsAt + 4 * b)) ≡ valueWord v) × (byteAt l (g + (cellTypesAt + b)) ≡ typeByte v)
   cell-bytes o eo′ v e few g own-place root-place = by o (owner-is a o eo′) e
     where
       by : (o : Owner) → ((a ≡ 0) × (o ≡ own)) ⊎ ((a ≡ 1) × (o ≡ root)) → getElem? (cellsFor o (here (A .shared) (full A) (A .below))) b ≡ some (assigned v)
@@ -246,7 +245,8 @@ pub record Taken {code l : List ℕ} {f n i : ℕ} {vs : List Value} (A : Aside 
   pub aside : Aside code (popped l f (n - 1)) f (n - 1) i (ws value)
   pub same : whole A ≡ whole aside
 
-pub take : {code l : List ℕ} {f n i : ℕ} {vs : List Value} (A : Aside code l f n i vs) (ws : Value → List Value) → ((x : Value) (us : List Value) → ws x ++ us ≡ vs ++ (x ∷ us)) → 0 < n → n ≤ 32 → Taken A ws
+pub take : {code l : List ℕ} {f n i : ℕ} {vs : List Value} (A : Aside code l f n i vs) (ws : Value → List Value)
+    → ((x : Value) (us : List Value) → ws x ++ us ≡ vs ++ (x ∷ us)) → 0 < n → n ≤ 32 → Taken A ws
 take {code} {l} {f} {n} {i} {vs} A ws joins some-operand few = go (A .top .operands) refl
   where
     go : (us : List Value) → A .top .operands ≡ us → Taken A ws
@@ -344,7 +344,8 @@ module _ {code l : List ℕ} {f n i : ℕ} {x y : Value} (A : Aside code l f n i
           let cs : conditioned l c ≡ encode s′ = on-condition (A .on) (few-records (now-whole A)) c in (
             record { macro = A .macro; reads = A .reads; passed = A .passed; state = s′; sounds = still A readings low eo ea eb s′ e′; bytes = cs },
             read-releasing (conditioned l c) c (allHolds (A .top ∷ A .below)) cs .0,
-            λ k j more. subst (λ (z : List ℕ). Leads code readings k (encode (whole A)) j z (j + 1)) (sym cs) (lead A readings low eo ea eb s′ e′ (ap (λ (z : List Item). outOf z s′) (sym ei)) k j more),
+            λ k j more. subst (λ (z : List ℕ). Leads code readings k (encode (whole A)) j z (j + 1)) (sym cs)
+                (lead A readings low eo ea eb s′ e′ (ap (λ (z : List Item). outOf z s′) (sym ei)) k j more),
           )
 
 -- ── all in the bytes again ──
@@ -437,7 +438,8 @@ module _ {code l : List ℕ} {f n i w t : ℕ} (O : One code l f n i w t) (readi
       let H′ = putCells (q .0) (replace (cellsFor (q .0) H) b (assigned (O .value))) H in
       let m = goes-is (A .top .operands) H′ (demand-is (fits (tyOf (O .value)) (ty .0)) badType _ (c .2)) in
       let u = A .top in
-      let p = stored-on (A .shared) (u .body) (u .address) (u .cells) (u .operands) (u .holds) (A .below) (q .0) a b g w t i (O .value) (O .word) (O .type) (A .on) (owner-is a (q .0) (q .1)) (c .0) (c .1) few own-place
+      let p = stored-on (A .shared) (u .body) (u .address) (u .cells) (u .operands) (u .holds) (A .below) (q .0) a b g w t i (O .value) (O .word) (O .type)
+      (A .on) (owner-is a (q .0) (q .1)) (c .0) (c .1) few own-place
       root-place in
       arrives (wentTo (cellSet l g b w t) f (i + 1)) p (m .0) (m .1 ∙ next-is (q .0) (A .below) _)
     where

@@ -9,7 +9,7 @@ use Rattle.values.specs.Ends.{accepted}
 use Rattle.values.specs.Values.{Value}
 use Rattle.bytecode.specs.Words.{valueWord}
 use Rattle.bytecode.specs.Macro.{Macro, readMacro}
-use Rattle.bytecode.specs.Machine.{Activation, Shared, Machine, running, at}
+use Rattle.bytecode.specs.Machine.{Activation, Shared, running, at}
 use Rattle.bytecode.specs.Sound.{sound}
 use Rattle.bytecode.specs.State.{typeByte, activationsAt, activationLength, cellWordsAt, cellTypesAt, operandWordsAt, operandTypesAt}
 use Rattle.bytecode_laws.specs.Terms.{Passed}

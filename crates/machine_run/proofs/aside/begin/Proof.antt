@@ -1,7 +1,7 @@
 -- `machine_run::aside::begin` meets its contract. Assumes nothing.
 use native.Mathlib.Omega.{arith}
-use mathlib.Core.Path.{refl, ap, _∙_}
-use Rattle.machine_run.specs.Aside.{Begin, loads, pushes, takes}
+use mathlib.Core.Path.{refl}
+use Rattle.machine_run.specs.Aside.{loads, pushes, takes}
 use borrow.Author.Needs.{needs}
 use Rattle.machine_run.proofs.aside.begin.Statement.{statement}
 use Rattle.machine_run.proofs.aside.begin.Tie as tie
@@ -10,10 +10,18 @@ owner-requires : tie.Need-owner-requires
 owner-requires c κs = search needs
 
 cell-word-requires : tie.Need-cell-word-requires
-cell-word-requires c κs = record { long = c .before .before .before .before .pre .0; place = c .before .owner .ensures .0; slot = c .before .before .before .before .pre .3 (c .before .before .match .keys1) }
+cell-word-requires c κs =
+    let at-owner = c .before in
+    let at-match = at-owner .before in
+    let at-start = at-match .before .before in
+    record { long = at-start .pre .0; place = at-owner .owner .ensures .0; slot = at-start .pre .3 (at-match .match .keys1) }
 
 cell-type-requires : tie.Need-cell-type-requires
-cell-type-requires c κs = record { long = c .before .before .before .before .before .before .pre .0; place = c .before .before .before .owner .ensures .0; slot = c .before .before .before .before .before .before .pre .3 (c .before .before .before .before .match .keys1) }
+cell-type-requires c κs =
+    let at-owner = c .before .before .before in
+    let at-match = at-owner .before in
+    let at-start = at-match .before .before in
+    record { long = at-start .pre .0; place = at-owner .owner .ensures .0; slot = at-start .pre .3 (at-match .match .keys1) }
 
 returns : tie.Need-returns
 returns c = search needs
@@ -34,7 +42,13 @@ same-length : tie.Need-same-length
 same-length c = search needs
 
 returns-2 : tie.Need-returns-2
-returns-2 c = loads (c .before .before .before .before .before .match .keys1) (record { place = c .before .before .before .before .owner .result; own = c .before .before .before .before .owner .ensures .1; roots = c .before .before .before .before .owner .ensures .2; word = c .before .before .cell-word .ensures }) (c .cell-type .ensures) refl refl refl
+returns-2 c =
+    let at-cell-word = c .before .before in
+    let at-owner = at-cell-word .before .before in
+    let at-match = at-owner .before in
+    loads (at-match .match .keys1)
+    (record { place = at-owner .owner .result; own = at-owner .owner .ensures .1; roots = at-owner .owner .ensures .2; word = at-cell-word .cell-word .ensures })
+    (c .cell-type .ensures) refl refl refl
 
 returns-3 : tie.Need-returns-3
 returns-3 c = pushes (c .match .keys2) refl refl refl refl refl
@@ -43,7 +57,14 @@ same-length-2 : tie.Need-same-length-2
 same-length-2 c = search needs
 
 returns-4 : tie.Need-returns-4
-returns-4 c = takes (c .before .before .before .before .before .before .before .before .before .match .keys3) (omega arith) (record { word = c .before .before .before .before .before .before .operand-word .ensures; type = c .before .before .before .before .operand-type .ensures; bytes = c .before .before .pop .ensures; depth = refl }) refl
+returns-4 c =
+    let at-pop = c .before .before in
+    let at-operand-type = at-pop .before .before in
+    let at-operand-word = at-operand-type .before .before in
+    let at-match = at-operand-word .before .before .before in
+    takes (at-match .match .keys3) (omega arith)
+    (record { word = at-operand-word .operand-word .ensures; type = at-operand-type .operand-type .ensures; bytes = at-pop .pop .ensures; depth = refl })
+    refl
 
 returns-5 : tie.Need-returns-5
 returns-5 c = search needs

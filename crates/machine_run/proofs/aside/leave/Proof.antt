@@ -13,7 +13,11 @@ owner-requires : tie.Need-owner-requires
 owner-requires c κs = search needs
 
 put-cell-requires : tie.Need-put-cell-requires
-put-cell-requires c κs = record { long = c .before .before .before .before .pre .0; place = c .before .owner .ensures .0; slot = c .before .before .before .before .pre .5 (c .before .before .match .keys1) }
+put-cell-requires c κs =
+    let at-owner = c .before in
+    let at-match = at-owner .before in
+    let at-start = at-match .before .before in
+    record { long = at-start .pre .0; place = at-owner .owner .ensures .0; slot = at-start .pre .5 (at-match .match .keys1) }
 
 add-go-to : tie.Need-add-go-to
 add-go-to c = search needs
@@ -64,7 +68,14 @@ same-length-2 : tie.Need-same-length-2
 same-length-2 c = search needs
 
 returns-2 : tie.Need-returns-2
-returns-2 c = stores (c .before .before .before .before .before .before .before .before .before .match .keys1) (c .before .before .before .before .before .before .before .before .owner .result) (c .before .before .before .before .before .before .before .before .owner .ensures .1) (c .before .before .before .before .before .before .before .before .owner .ensures .2) (c .before .before .go-to .ensures ∙ ap (λ (x : List ℕ). wentTo x (c .before .before .before .before .before .before .before .before .before .before .before .args .frame) (c .before .before .before .before .before .before .before .before .before .before .before .args .address + 1)) (c .before .before .before .before .before .before .put-cell .ensures)) refl
+returns-2 c =
+    let at-go-to = c .before .before in
+    let at-put-cell = at-go-to .before .before .before .before in
+    let at-owner = at-put-cell .before .before in
+    let at-match = at-owner .before in
+    let at-start = at-match .before .before in
+    stores (at-match .match .keys1) (at-owner .owner .result) (at-owner .owner .ensures .1) (at-owner .owner .ensures .2)
+    (at-go-to .go-to .ensures ∙ ap (λ (x : List ℕ). wentTo x (at-start .args .frame) (at-start .args .address + 1)) (at-put-cell .put-cell .ensures)) refl
 
 same-length-3 : tie.Need-same-length-3
 same-length-3 c = search needs

@@ -1,7 +1,7 @@
 -- `machine_run::aside::pair_up` meets its contract. Assumes nothing.
 use native.Mathlib.Omega.{arith}
-use mathlib.Core.Path.{refl, ap, _∙_}
-use Rattle.machine_run.specs.Aside.{Paired, operates, pushes, loads}
+use mathlib.Core.Path.{refl}
+use Rattle.machine_run.specs.Aside.{operates, pushes, loads}
 use borrow.Author.Needs.{needs}
 use Rattle.machine_run.proofs.aside.pair_up.Statement.{statement}
 use Rattle.machine_run.proofs.aside.pair_up.Tie as tie
@@ -31,7 +31,14 @@ shared-slice-read-t29 : tie.Need-shared-slice-read-t29
 shared-slice-read-t29 c = omega (arith, c .before .before .before .before .before .before .pre .3 (c .before .before .before .match .keys2))
 
 returns-2 : tie.Need-returns-2
-returns-2 c = pushes (c .before .before .before .match .keys2) (record { op = c .before .before .follows .ensures (c .before .if2 .taken) .0; number = refl; low = c .before .before .follows .ensures (c .before .if2 .taken) .1; allowed = c .before .before .follows .ensures (c .before .if2 .taken) .2 }) refl refl refl refl refl refl
+returns-2 c =
+    let at-if2 = c .before in
+    let at-follows = at-if2 .before in
+    let at-match = at-follows .before in
+    let F = at-follows .follows .ensures (at-if2 .if2 .taken) in
+    pushes (at-match .match .keys2)
+    (record { op = F .0; number = refl; low = F .1; allowed = F .2 })
+    refl refl refl refl refl refl
 
 follows-requires-2 : tie.Need-follows-requires-2
 follows-requires-2 c κs = c .before .before .before .pre .4 (c .match .keys3) .0
@@ -40,7 +47,11 @@ owner-requires : tie.Need-owner-requires
 owner-requires c κs = search needs
 
 cell-word-requires : tie.Need-cell-word-requires
-cell-word-requires c κs = record { long = c .before .before .before .before .before .before .before .pre .0; place = c .before .owner .ensures .0; slot = c .before .before .before .before .before .before .before .pre .4 (c .before .before .before .before .match .keys3) .1 }
+cell-word-requires c κs =
+    let at-owner = c .before in
+    let at-match = at-owner .before .before .before in
+    let at-start = at-match .before .before .before in
+    record { long = at-start .pre .0; place = at-owner .owner .ensures .0; slot = at-start .pre .4 (at-match .match .keys3) .1 }
 
 add-t33 : tie.Need-add-t33
 add-t33 c = omega (arith, c .before .before .before .before .before .before .before .before .pre .4 (c .before .before .before .before .before .match .keys3) .0)
@@ -52,13 +63,30 @@ same-length : tie.Need-same-length
 same-length c = search needs
 
 returns-3 : tie.Need-returns-3
-returns-3 c = loads (c .before .before .before .before .before .before .match .keys3) (record { op = c .before .before .before .before .before .follows2 .ensures (c .before .before .before .before .if3 .taken) .0; number = refl; low = c .before .before .before .before .before .follows2 .ensures (c .before .before .before .before .if3 .taken) .1; allowed = c .before .before .before .before .before .follows2 .ensures (c .before .before .before .before .if3 .taken) .2 }) (record { place = c .before .before .before .owner .result; own = c .before .before .before .owner .ensures .1; roots = c .before .before .before .owner .ensures .2; word = c .before .cell-word .ensures }) refl refl refl refl refl
+returns-3 c =
+    let at-cell-word = c .before in
+    let at-owner = at-cell-word .before .before in
+    let at-if3 = at-owner .before in
+    let at-follows2 = at-if3 .before in
+    let at-match = at-follows2 .before in
+    let F = at-follows2 .follows2 .ensures (at-if3 .if3 .taken) in
+    loads (at-match .match .keys3)
+    (record { op = F .0; number = refl; low = F .1; allowed = F .2 })
+    (record { place = at-owner .owner .result; own = at-owner .owner .ensures .1; roots = at-owner .owner .ensures .2; word = at-cell-word .cell-word .ensures })
+    refl refl refl refl refl
 
 same-length-2 : tie.Need-same-length-2
 same-length-2 c = search needs
 
 returns-4 : tie.Need-returns-4
-returns-4 c = operates (c .before .before .before .before .before .before .before .before .before .match .keys1) refl (omega arith) (record { word = c .before .before .before .before .before .before .operand-word .ensures; type = c .before .before .before .before .operand-type .ensures; bytes = c .before .before .pop .ensures; depth = refl }) refl refl
+returns-4 c =
+    let at-pop = c .before .before in
+    let at-operand-type = at-pop .before .before in
+    let at-operand-word = at-operand-type .before .before in
+    let at-match = at-operand-word .before .before .before in
+    operates (at-match .match .keys1) refl (omega arith)
+    (record { word = at-operand-word .operand-word .ensures; type = at-operand-type .operand-type .ensures; bytes = at-pop .pop .ensures; depth = refl })
+    refl refl
 
 returns-5 : tie.Need-returns-5
 returns-5 c = (refl, λ e. absurd (omega (arith, c .before .before .match .keys2)))

@@ -17,7 +17,11 @@ same-length : tie.Need-same-length
 same-length c = search needs
 
 returns : tie.Need-returns
-returns c = (c .before .before .go-to .ensures ∙ ap (λ (x : List ℕ). wentTo x (c .before .before .before .before .before .before .before .before .before .args .frame) (c .before .before .before .before .before .before .before .before .before .args .address)) (c .before .before .before .before .before .before .push .ensures), refl)
+returns c =
+    let at-go-to = c .before .before in
+    let at-push = at-go-to .before .before .before .before in
+    let at-start = at-push .before .before .before in
+    (at-go-to .go-to .ensures ∙ ap (λ (x : List ℕ). wentTo x (at-start .args .frame) (at-start .args .address)) (at-push .push .ensures), refl)
 
 pub put-back-spec : {M : Type 1} → statement M
 put-back-spec = tie.close (tie.spec push-requires go-to-requires same-length returns)

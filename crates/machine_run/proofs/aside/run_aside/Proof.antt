@@ -1,7 +1,7 @@
 -- `machine_run::aside::run_aside` meets its contract. Assumes nothing. The invariant, and what each op makes of it, are in `AsideLoop`.
 use borrow.Author.Needs.{needs}
 use native.Mathlib.Omega.{arith}
-use Prim.Native.Nat.{ℕ, _+_, _*_, _-_, _≤_, _<_}
+use Prim.Native.Nat.{ℕ, _+_, _*_, _-_, _≤_}
 use mathlib.Core.Path.{_≡_, refl, sym, ap, _∙_, subst}
 use mathlib.Core.List.{List}
 use lib.ListN.{length}
@@ -12,7 +12,8 @@ use Rattle.machine_run.specs.Aside.{Pairs, Paired, Leaves, Lands, Grows}
 use Rattle.machine_run.specs.declared.aside.Pair.{Pair}
 use Rattle.machine_run.specs.declared.aside.Landing.{Landing}
 use Rattle.machine_run.specs.declared.aside.Landing.the-variants as landing
-use Rattle.machine_run.proofs.AsideLoop.{Going, Ready, Two, start, put, gives, breaks, break-room, stands, pair-asks, paired, leave-asks, left, left-grows, put-grows, put-asks, two-room, some-steps}
+use Rattle.machine_run.proofs.AsideLoop.{Going, Ready, Two, start, put, gives, breaks, break-room, stands, pair-asks, paired}
+use Rattle.machine_run.proofs.AsideLoop.{leave-asks, left, left-grows, put-grows, put-asks, two-room, some-steps}
 use Rattle.machine_run.proofs.aside.run_aside.Statement.{statement}
 use Rattle.machine_run.proofs.aside.run_aside.Tie as tie
 
@@ -34,7 +35,8 @@ ready : (p : tie.After-word-at Inv-loop μ-loop) →
     let l = loop-of p .loop in
     let s = start-of (loop-of p) .args in
     let place = s .base + 8 * l .i in
-    Ready (now (s .code)) (now (s .readings)) (s .allowance) (wentTo (pushed (now (s .state)) (s .frame) (s .depth) (s .w) (s .t)) (s .frame) (s .address)) (s .address) (s .taken) (now (s .state)) (l .state) (s .frame)
+    Ready (now (s .code)) (now (s .readings)) (s .allowance) (wentTo (pushed (now (s .state)) (s .frame) (s .depth) (s .w) (s .t)) (s .frame) (s .address))
+    (s .address) (s .taken) (now (s .state)) (l .state) (s .frame)
     (l .k) (l .i) (l .n) (l .x) (l .u) (s .base) (byteAt (now (s .code)) (place + 2)) (byteAt (now (s .code)) (place + 3)) (p .word-at .result)
 ready p =
     let l = loop-of p in
@@ -59,7 +61,8 @@ pairs : (p : tie.After-c Inv-loop μ-loop) →
     let s = start-of (loop-of q) .args in
     let place = s .base + 8 * l .i in
     let v = p .c .given .0 in
-    Paired (now (s .code)) place (l .state) (s .frame) (l .k) (byteAt (now (s .code)) (place + 2)) (byteAt (now (s .code)) (place + 3)) (q .word-at .result) (l .x) (l .u) (s .allowance - l .n)
+    Paired (now (s .code)) place (l .state) (s .frame) (l .k) (byteAt (now (s .code)) (place + 2)) (byteAt (now (s .code)) (place + 3))
+    (q .word-at .result) (l .x) (l .u) (s .allowance - l .n)
     (p .before .before .before .before .pair-up .last .1 .1 .0) (v .0) (v .1 .0) (v .1 .1 .0) (v .1 .1 .1 .0) (v .1 .1 .1 .1 .0) (v .1 .1 .1 .1 .1 .0)
 pairs p =
     let q = found-at p in
@@ -67,7 +70,8 @@ pairs p =
     let s = start-of (loop-of q) .args in
     let place = s .base + 8 * l .i in
     subst
-    (λ (z : Pair). Pairs (now (s .code)) place (l .state) (s .frame) (l .k) (byteAt (now (s .code)) (place + 2)) (byteAt (now (s .code)) (place + 3)) (q .word-at .result) (l .x) (l .u) (s .allowance - l .n)
+    (λ (z : Pair). Pairs (now (s .code)) place (l .state) (s .frame) (l .k) (byteAt (now (s .code)) (place + 2)) (byteAt (now (s .code)) (place + 3))
+    (q .word-at .result) (l .x) (l .u) (s .allowance - l .n)
     (p .before .before .before .before .pair-up .last .1 .1 .0) z)
     (p .c .given .1) (p .before .before .before .before .pair-up .ensures)
 
@@ -96,7 +100,8 @@ same p =
     let s = start-of (loop-of q) .args in
     let place = s .base + 8 * l .i in
     subst
-    (λ (z : Pair). Pairs (now (s .code)) place (l .state) (s .frame) (l .k) (byteAt (now (s .code)) (place + 2)) (byteAt (now (s .code)) (place + 3)) (q .word-at .result) (l .x) (l .u) (s .allowance - l .n)
+    (λ (z : Pair). Pairs (now (s .code)) place (l .state) (s .frame) (l .k) (byteAt (now (s .code)) (place + 2)) (byteAt (now (s .code)) (place + 3))
+    (q .word-at .result) (l .x) (l .u) (s .allowance - l .n)
     (p .before .before .before .before .pair-up .last .1 .1 .0) z)
     (p .enum-told .given .1) (p .before .before .before .before .pair-up .ensures)
 
@@ -149,7 +154,10 @@ add-i : tie.Need-add-i Inv-loop μ-loop
 add-i c = omega (arith, two-room (two (c .before .before .before .before .before)))
 
 add-n : tie.Need-add-n Inv-loop μ-loop
-add-n c = omega (arith, two-room (two (c .before .before .before .before .before)), c .before .before .before .before .before .before .before .before .before .before .before .before .before .before .before .before .before .before .before .fits .allowance .fits)
+add-n c =
+    let p = c .before .before .before .before .before in
+    let at-start = p .before .before .before .before .before .before .before .before .before .before .before .before .before .before in
+    omega (arith, two-room (two p), at-start .fits .allowance .fits)
 
 loop-less : tie.Need-loop-less Inv-loop μ-loop
 loop-less c = omega (arith, two-room (two (c .before .before .before .before .before)), some-steps (pairs (c .before .before .before .before .before)))
@@ -164,7 +172,10 @@ condition-requires : tie.Need-condition-requires Inv-loop μ-loop
 condition-requires c κs = let p = c .before .before .before .before .before .before in break-room (ready (found-at p) .low) (two p) _ (c .before .before .before .before .binary .ensures)
 
 add-t44 : tie.Need-add-t44 Inv-loop μ-loop
-add-t44 c = omega (arith, two-room (two (c .before .before .before .before .before .before .before .before .before)), c .before .before .before .before .before .before .before .before .before .before .before .before .before .before .before .before .before .before .before .before .before .before .before .fits .allowance .fits)
+add-t44 c =
+    let p = c .before .before .before .before .before .before .before .before .before in
+    let at-start = p .before .before .before .before .before .before .before .before .before .before .before .before .before .before in
+    omega (arith, two-room (two p), at-start .fits .allowance .fits)
 
 same-length : tie.Need-same-length Inv-loop μ-loop
 same-length c = c .before .before .condition .kept .0 ∙ two (c .before .before .before .before .before .before .before .before .before) .long
@@ -176,7 +187,8 @@ returns c =
     let s = start-of (loop-of q) .args in
     let B = breaks (ready q .low) (two p) _ (c .before .before .before .before .before .before .before .binary .ensures) _ (c .before .before .before .before .before .e .given .1) in (
       subst
-          (λ (z : List ℕ). Lands (now (s .code)) (now (s .readings)) (s .allowance) (s .frame) (wentTo (pushed (now (s .state)) (s .frame) (s .depth) (s .w) (s .t)) (s .frame) (s .address)) (s .taken) z
+          (λ (z : List ℕ). Lands (now (s .code)) (now (s .readings)) (s .allowance) (s .frame)
+          (wentTo (pushed (now (s .state)) (s .frame) (s .depth) (s .w) (s .t)) (s .frame) (s .address)) (s .taken) z
           (landing.Breaks (loop-of q .loop .n + p .c .given .0 .1 .1 .1 .1 .1 .0)))
           (sym (c .before .before .condition .ensures)) B,
       tt,

@@ -214,35 +214,43 @@ add-run-aside : tie.Need-add-run-aside Inv-loop μ-loop
 add-run-aside c = omega (arith, room-whole (set (c .before .before) .0 .aside) .address)
 
 add-run-aside-2 : tie.Need-add-run-aside-2 Inv-loop μ-loop
-add-run-aside-2 c = omega (arith, one-step (ready (read-set (c .before .before))) (value (c .before .before)), c .before .before .before .before .before .before .before .before .before .before .before .before .before .before .before .before .before .before .before .before .before .before .fits .allowance .fits)
+add-run-aside-2 c =
+    let p = c .before .before in
+    omega (arith, more-at p, one-step (ready (read-set p)) (value p), start-of (loop-of (read-set p)) .fits .allowance .fits)
 
 run-aside-requires : tie.Need-run-aside-requires Inv-loop μ-loop
 run-aside-requires c κs =
     let p = c .before .before in
-    (coded (c .before .before .before .before .before .before .before .before .before .before .before .before .before .before .before .before .before .before .before .before .before .before .pre .0), set p .0, omega (arith, one-step (ready (read-set p)) (value p)))
+    (coded (start-of (loop-of (read-set p)) .pre .0), set p .0, omega (arith, one-step (ready (read-set p)) (value p)))
 
 loop-less : tie.Need-loop-less Inv-loop μ-loop
 loop-less c =
     let p = c .before .before .before .before .before in
     let w = p .before .before .before in
-    let g = grows (ready (read-set w)) (c .before .before .before .before .before .before .before .before .before .before .before .before .before .before .before .before .before .before .before .before .before .before .before .before .before .before .before .before .args .base) refl refl (more-at w) (c .before .i .given .0 .0) (c .before .i .given .0 .1 .0) (value w) (leads-to p _ (c .before .i .given .1) .1) in
+    let v = c .before .i .given in
+    let g = grows (ready (read-set w)) (start-of (loop-of (read-set w)) .args .base) refl refl (more-at w) (v .0 .0) (v .0 .1 .0) (value w) (leads-to p _ (v .1) .1) in
     omega (arith, g, leads-to p _ (c .before .i .given .1) .0 .0 .upto)
 
 loop-again : tie.Need-loop-again Inv-loop μ-loop
 loop-again c =
     let p = c .before .before .before .before .before in
     let w = p .before .before .before in
-    landed (ready (read-set w)) _ (set w) (leads-to p _ (c .before .i .given .1) .0) (c .before .before .before .before .before .run-aside .kept .1 .1 .0 ∙ c .before .before .before .before .before .before .before .before .before .before .before .before .begin .kept .0)
+    landed (ready (read-set w)) _ (set w) (leads-to p _ (c .before .i .given .1) .0) (p .run-aside .kept .1 .1 .0 ∙ w .before .before .before .before .begin .kept .0)
 
 release-requires : tie.Need-release-requires Inv-loop μ-loop
 release-requires c κs =
     let p = c .before .before .before .before .before .before in
     let w = p .before .before .before in
     let B = broken (ready (read-set w)) _ (set w) (leads-to p _ (c .before .before .n .given .1) .0) in
-    (B .0, B .1, c .before .before .before .before .before .before .before .before .before .before .before .before .before .before .before .before .before .before .before .before .before .before .before .before .before .before .before .before .before .pre .2, B .2)
+    (B .0, B .1, start-of (loop-of (read-set w)) .pre .2, B .2)
 
 same-length : tie.Need-same-length Inv-loop μ-loop
-same-length c = c .before .before .release .kept .1 .0 ∙ c .before .before .before .before .before .before .before .before .before .run-aside .kept .1 .1 .0 ∙ c .before .before .before .before .before .before .before .before .before .before .before .before .before .before .before .before .begin .kept .0 ∙ c .before .before .before .before .before .before .before .before .before .before .before .before .before .before .before .before .before .before .before .before .before .before .before .before .loop .inv .long
+same-length c =
+    let at-release = c .before .before in
+    let at-run-aside = at-release .before .before .before .before .before .before .before in
+    let at-begin = at-run-aside .before .before .before .before .before .before .before in
+    let at-loop = at-begin .before .before .before .before .before .before .before .before in
+    at-release .release .kept .1 .0 ∙ at-run-aside .run-aside .kept .1 .1 .0 ∙ at-begin .begin .kept .0 ∙ at-loop .loop .inv .long
 
 returns : tie.Need-returns Inv-loop μ-loop
 returns c =
@@ -255,16 +263,17 @@ dispatch-requires : tie.Need-dispatch-requires Inv-loop μ-loop
 dispatch-requires c κs =
     let p = c .before in
     let P = poise (ready-on p) in
-    (room (P .at-hand), c .before .before .before .before .before .before .before .before .before .before .before .before .before .before .before .before .before .before .before .before .before .pre .0 .bodied, c .before .before .before .before .before .before .before .before .before .before .before .before .before .before .before .before .before .before .before .before .before .pre .0 .classed, c .before .before .before .before .before .before .before .before .before .before .before .before .before .before .before .before .before .before .before .before .before .pre .2, P, other p .1)
+    let s = start-of (loop-of (read-of p)) in
+    (room (P .at-hand), s .pre .0 .bodied, s .pre .0 .classed, s .pre .2, P, other p .1)
 
 add-taken : tie.Need-add-taken Inv-loop μ-loop
-add-taken c = omega (arith, went (c) .more, c .before .before .before .before .before .before .before .before .before .before .before .before .before .before .before .before .before .before .before .before .before .before .before .before .before .before .fits .allowance .fits)
+add-taken c = omega (arith, went c .more, start-of (loop-told c) .fits .allowance .fits)
 
 add-t70 : tie.Need-add-t70 Inv-loop μ-loop
-add-t70 c = omega (arith, acted (c .before .before .before .before .before) .more, c .before .before .before .before .before .before .before .before .before .before .before .before .before .before .before .before .before .before .before .before .before .before .before .before .before .before .before .fits .allowance .fits)
+add-t70 c = let p = c .before .before .before .before .before in omega (arith, acted p .more, start-of (loop-of (read-of (p .before .before))) .fits .allowance .fits)
 
 add-t71 : tie.Need-add-t71 Inv-loop μ-loop
-add-t71 c = omega (arith, acted (c .before .before .before .before .before) .more, c .before .before .before .before .before .before .before .before .before .before .before .before .before .before .before .before .before .before .before .before .before .before .before .before .before .before .before .fits .allowance .fits)
+add-t71 c = let p = c .before .before .before .before .before in omega (arith, acted p .more, start-of (loop-of (read-of (p .before .before))) .fits .allowance .fits)
 
 loop-less-2 : tie.Need-loop-less-2 Inv-loop μ-loop
 loop-less-2 c = omega (arith, went (c .before .before .before) .more)
@@ -283,19 +292,29 @@ loop-less-6 c = omega (arith, went (c .before .before .before) .more)
 
 -- ── ops 8 and 9 ──
 add-half-at : tie.Need-add-half-at Inv-loop μ-loop
-add-half-at c = omega (arith, low-place (c .before .before .before .before .before .before .before .before .before .before .before .before .before .before .before .before .before .before .before .before .loop .inv))
+add-half-at c =
+    let at-loop = c .before .before .before .before .before .before .before .before .before .before .before .before .before .before .before .before .before .before .before .before in
+    omega (arith, low-place (at-loop .loop .inv))
 
 half-at-requires : tie.Need-half-at-requires Inv-loop μ-loop
-half-at-requires c κs = omega (arith, held-long (kept-held (c .before .before)), low-place (c .before .before .before .before .before .before .before .before .before .before .before .before .before .before .before .before .before .before .before .before .loop .inv))
+half-at-requires c κs =
+    let p = c .before .before in
+    let at-loop = p .before .before .before .before .before .before .before .before .before .before .before .before .before .before .before .before .before .before in
+    omega (arith, held-long (kept-held p), low-place (at-loop .loop .inv))
 
 loop-again-2 : tie.Need-loop-again-2 Inv-loop μ-loop
 loop-again-2 c = let p = c .before .before .before in again-to (went p) (p .enum-told2 .given .1) (c .before .before .match4 .keys1) _ (c .half-at .ensures)
 
 add-half-at-2 : tie.Need-add-half-at-2 Inv-loop μ-loop
-add-half-at-2 c = omega (arith, low-place (c .before .before .before .before .before .before .before .before .before .before .before .before .before .before .before .before .before .before .before .before .loop .inv))
+add-half-at-2 c =
+    let at-loop = c .before .before .before .before .before .before .before .before .before .before .before .before .before .before .before .before .before .before .before .before in
+    omega (arith, low-place (at-loop .loop .inv))
 
 half-at-requires-2 : tie.Need-half-at-requires-2 Inv-loop μ-loop
-half-at-requires-2 c κs = omega (arith, held-long (kept-held (c .before .before)), low-place (c .before .before .before .before .before .before .before .before .before .before .before .before .before .before .before .before .before .before .before .before .loop .inv))
+half-at-requires-2 c κs =
+    let p = c .before .before in
+    let at-loop = p .before .before .before .before .before .before .before .before .before .before .before .before .before .before .before .before .before .before in
+    omega (arith, held-long (kept-held p), low-place (at-loop .loop .inv))
 
 loop-again-3 : tie.Need-loop-again-3 Inv-loop μ-loop
 loop-again-3 c = let p = c .before .before .before in again-unless (went p) (p .enum-told2 .given .1) (c .before .before .match4 .keys2) _ (c .half-at2 .ensures)
@@ -307,7 +326,7 @@ slice-read-if1 c = omega (arith, held-long (kept-held (c .before .before)))
 release-requires-2 : tie.Need-release-requires-2 Inv-loop μ-loop
 release-requires-2 c κs =
     let p = c .before .before .before .before in
-    (kept-held p, left-off (went p) (p .enum-told2 .given .1) (c .before .if1 .taken), c .before .before .before .before .before .before .before .before .before .before .before .before .before .before .before .before .before .before .before .before .before .before .before .before .before .before .before .before .before .before .pre .2, omega (arith, went p .more))
+    (kept-held p, left-off (went p) (p .enum-told2 .given .1) (c .before .if1 .taken), start-of (loop-told p) .pre .2, omega (arith, went p .more))
 
 same-length-2 : tie.Need-same-length-2 Inv-loop μ-loop
 same-length-2 c = c .before .before .release2 .kept .1 .0 ∙ still-long (went (c .before .before .before .before .before .before .before))
@@ -345,7 +364,7 @@ slice-read-if2 c = omega (arith, held-long (kept-held (c .before .before)))
 release-requires-3 : tie.Need-release-requires-3 Inv-loop μ-loop
 release-requires-3 c κs =
     let p = c .before .before .before .before in
-    (kept-held p, left-off (went p) (p .enum-told2 .given .1) (c .before .if2 .taken), c .before .before .before .before .before .before .before .before .before .before .before .before .before .before .before .before .before .before .before .before .before .before .before .before .before .before .before .before .before .before .pre .2, omega (arith, went p .more))
+    (kept-held p, left-off (went p) (p .enum-told2 .given .1) (c .before .if2 .taken), start-of (loop-told p) .pre .2, omega (arith, went p .more))
 
 same-length-3 : tie.Need-same-length-3 Inv-loop μ-loop
 same-length-3 c = c .before .before .release3 .kept .1 .0 ∙ still-long (went (c .before .before .before .before .before .before .before))
@@ -367,13 +386,19 @@ same-length-4 : tie.Need-same-length-4 Inv-loop μ-loop
 same-length-4 c = still-long (acted (c .before .before .before .before .before))
 
 returns-4 : tie.Need-returns-4 Inv-loop μ-loop
-returns-4 c = happened (acted (c .before .before .before .before .before)) (c .before .before .before .before .before .before .before .before .before .before .before .before .before .before .before .before .before .before .before .before .before .before .before .before .before .before .before .pre .2) (alive (c .before .before .before .before .before .before .before .before .before .before .before .before .before .before .before .before .before .before .before)) _ (c .before .e .given .1)
+returns-4 c =
+    let p = c .before .before .before .before .before in
+    let l = loop-of (read-of (p .before .before)) in
+    happened (acted p) (start-of l .pre .2) (alive l) _ (c .before .e .given .1)
 
 same-length-5 : tie.Need-same-length-5 Inv-loop μ-loop
 same-length-5 c = still-long (acted (c .before .before .before .before .before))
 
 returns-5 : tie.Need-returns-5 Inv-loop μ-loop
-returns-5 c = done (acted (c .before .before .before .before .before)) (c .before .before .before .before .before .before .before .before .before .before .before .before .before .before .before .before .before .before .before .before .before .before .before .before .before .before .before .pre .2) (alive (c .before .before .before .before .before .before .before .before .before .before .before .before .before .before .before .before .before .before .before)) _ (c .before .c .given .1)
+returns-5 c =
+    let p = c .before .before .before .before .before in
+    let l = loop-of (read-of (p .before .before)) in
+    done (acted p) (start-of l .pre .2) (alive l) _ (c .before .c .given .1)
 
 same-length-6 : tie.Need-same-length-6 Inv-loop μ-loop
 same-length-6 c = c .before .loop .inv .long
