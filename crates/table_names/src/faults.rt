@@ -174,7 +174,8 @@ fn root(table: &[u8], sizes: &[u16], env: &mut [u32]) -> Verdict
     let count = table_entries::a_at(table, 0) as usize;
     let rest = table_entries::b_at(table, 0) as usize;
     let after = 1 + table_scopes::spanned(table, sizes, 1, count);
-    let top = table_scopes::enter_root(table, count, after, rest, sizes, env);
+    let opened = table_scopes::open_root(table, count, after, rest, sizes, env);
+    let top = opened.top;
     match globals(table, count, sizes, env, top) {
         Verdict::Fine(_) => {
             let from = ENTRY_BYTES * after;
@@ -187,6 +188,7 @@ fn root(table: &[u8], sizes: &[u16], env: &mut [u32]) -> Verdict
                 sizes,
                 env,
                 top,
+                opened.once,
             )
         }
         Verdict::Refused(n, p) => Verdict::Refused(n, p),

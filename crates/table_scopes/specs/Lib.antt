@@ -7,4 +7,5 @@ pub mod Flaws
 pub mod Trees
 pub mod Sees
 pub mod Once
+pub mod Spared
 pub mod Defines

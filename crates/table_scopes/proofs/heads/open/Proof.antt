@@ -1,4 +1,4 @@
--- `table_scopes::heads::enter` meets its contract: the mark, the names of the head, the labels. Assumes nothing.
+-- `table_scopes::heads::open` meets its contract: the mark, the names of the head, the labels. Assumes nothing.
 use native.Mathlib.Omega.{arith}
 use mathlib.Core.List.{_++_}
 use Prim.Native.Nat.{_+_}
@@ -7,8 +7,8 @@ use Rattle.table_scopes.specs.Environment.{item}
 use Rattle.table_scopes.specs.EnvironmentLaws.{grown-push}
 use Rattle.table_scopes.specs.Items.{itemsAt, labelsFrom, grown-append, grown-marked, room-right}
 use borrow.Author.Needs.{needs}
-use Rattle.table_scopes.proofs.heads.enter.Statement.{statement}
-use Rattle.table_scopes.proofs.heads.enter.Tie as tie
+use Rattle.table_scopes.proofs.heads.open.Statement.{statement}
+use Rattle.table_scopes.proofs.heads.open.Tie as tie
 
 add-head-requires : tie.Need-add-head-requires
 add-head-requires c κs =
@@ -38,13 +38,15 @@ returns c =
     let heads = itemsAt 4 l at (at-start .args .heads) in
     let labels = labelsFrom l (at + at-start .args .heads) (at-start .args .items) in
     let pushed = grown-push (at-start .args .env .now) _ (at-start .args .top) (at-start .args .mark) 0 0 0 (omega arith)
-    (c .before .before .before .before .before .before .before .before .before .before .push .ensures) in
-    grown-marked (item (at-start .args .mark) 0 0 0) (heads ++ labels)
-    pushed
-    (grown-append heads labels (c .before .before .before .before .before .before .add-head .ensures) (c .before .before .add-labels .ensures))
+    (c .before .before .before .before .before .before .before .before .before .before .push .ensures) in (
+      grown-marked (item (at-start .args .mark) 0 0 0) (heads ++ labels)
+          pushed
+          (grown-append heads labels (c .before .before .before .before .before .before .add-head .ensures) (c .before .before .add-labels .ensures .0)),
+      c .before .before .add-labels .ensures .1,
+    )
 
-pub enter-spec : {M : Type 1} → statement M
-enter-spec =
+pub open-spec : {M : Type 1} → statement M
+open-spec =
     tie.close
     (tie.spec
     (λ c κs. search needs)
