@@ -8,4 +8,5 @@ pub mod Trees
 pub mod Sees
 pub mod Once
 pub mod Spared
+pub mod Filter
 pub mod Defines

@@ -14,6 +14,7 @@ ghost use Rattle.logic.specs.Choice.{if_then_else_};
 ghost use Rattle.table_scopes.specs.Environment.{item, addAll, envOf, Grown};
 ghost use Rattle.table_scopes.specs.Sizes.{Known};
 ghost use Rattle.table_scopes.specs.Items.{oneAt, itemsAt, labelsFrom, Reach, globalAt, globalsFrom, WithinGlobal, ReachGlobals, blockItems, rootItems, aAt, bAt};
+ghost use Rattle.table_scopes.specs.Filter.{Covers};
 ghost use Rattle.table_scopes.specs.Spared.{Spared};
 ghost use Rattle.table_scopes.specs.Flaws.{Says, onceFlaw, classFlaw, declFlaws, headFlaws};
 
@@ -74,6 +75,9 @@ pub fn add_head(
     up
 }
 
+// Fewer items than these are searched sooner than a filter is cleared.
+const FEW: usize = 64;
+
 // Whether a label was pushed, where one stands, and all those before it were.
 fn all_pushed(before: bool, kind: u16, top: usize, up: usize) -> bool
     ensures { λ r. ⌜ r ≡ (if eqb kind 20 then «before» && ltb top up else «before») ⌝ }
@@ -109,6 +113,76 @@ fn add_labels(
         left -= 1;
     }
     Labelled { top: up, once }
+}
+
+// The name that a label defines, where one stands.
+fn add_label(table: &[u8], place: usize, env: &mut [u32], top: usize, seen: &mut [u8]) -> usize
+    requires { ⌜ (8 * (place + 1) ≤ length (now table)) × (length (now table) ≤ 16384) × (4 * (top + length (oneAt 20 5 (now table) place)) ≤ length (now env))
+        × Covers (now seen) (envOf (now env) top) ⌝ }
+    ensures { λ r. ⌜ Grown top (now (env .entry)) (now (env .exit)) r
+        (addAll (oneAt 20 5 (now (table .entry)) place) (envOf (now (env .entry)) top)) (length (oneAt 20 5 (now (table .entry)) place))
+        × Covers (now (seen .exit)) (envOf (now (env .exit)) r) ⌝ }
+{
+    if table_entries::kind_at(table, place) == KIND_LABEL {
+        environment::add_by(
+            seen,
+            env,
+            top,
+            table_entries::a_at(table, place) as u32,
+            5,
+            table_entries::b_at(table, place),
+            place as u32,
+        )
+    } else {
+        top
+    }
+}
+
+// The labels among the items of a block, with a filter of the names that it has.
+fn add_each(
+    table: &[u8],
+    at: usize,
+    count: usize,
+    sizes: &[u16],
+    env: &mut [u32],
+    top: usize,
+    seen: &mut [u8],
+) -> Labelled
+    requires { ⌜ Known (now table) (now sizes) 0 × Reach (now table) at count × (length (now table) ≤ 16384) × (4 * (top + length (labelsFrom (now table) at count)) ≤ length (now env))
+        × Covers (now seen) (envOf (now env) top) ⌝ }
+    ensures { λ r. ⌜ Grown top (now (env .entry)) (now (env .exit)) (r .top) (addAll (labelsFrom (now (table .entry)) at count) (envOf (now (env .entry)) top))
+        (length (labelsFrom (now (table .entry)) at count)) × Spared (r .once) (now (table .entry)) (envOf (now (env .exit)) (r .top)) at count ⌝ }
+{
+    let mut place = at;
+    let mut up = top;
+    let mut once = true;
+    let mut left = count;
+    while 0 < left {
+        let more = add_label(table, place, env, up, seen);
+        once = all_pushed(once, table_entries::kind_at(table, place), up, more);
+        up = more;
+        place += spans::size_at(sizes, place);
+        left -= 1;
+    }
+    Labelled { top: up, once }
+}
+
+// The same where there are many items: most names are told by a filter to be new, and need not be searched for.
+fn add_many(
+    table: &[u8],
+    at: usize,
+    count: usize,
+    sizes: &[u16],
+    env: &mut [u32],
+    top: usize,
+) -> Labelled
+    requires { ⌜ Known (now table) (now sizes) 0 × Reach (now table) at count × (length (now table) ≤ 16384) × (4 * (top + length (labelsFrom (now table) at count)) ≤ length (now env)) ⌝ }
+    ensures { λ r. ⌜ Grown top (now (env .entry)) (now (env .exit)) (r .top) (addAll (labelsFrom (now (table .entry)) at count) (envOf (now (env .entry)) top))
+        (length (labelsFrom (now (table .entry)) at count)) × Spared (r .once) (now (table .entry)) (envOf (now (env .exit)) (r .top)) at count ⌝ }
+{
+    let mut seen = [0u8; 2048];
+    environment::note_block(env, top, &mut seen);
+    add_each(table, at, count, sizes, env, top, &mut seen)
 }
 
 // A class with its fields, a procedure, or a variable of the root's head.
@@ -177,7 +251,11 @@ pub fn open_root(
 {
     environment::push(env, 0, 65536, 0, 0, 0);
     let up = add_globals(table, heads, sizes, env, 1);
-    add_labels(table, after, items, sizes, env, up)
+    if items < FEW {
+        add_labels(table, after, items, sizes, env, up)
+    } else {
+        add_many(table, after, items, sizes, env, up)
+    }
 }
 
 // The same, for whom it is enough how many names are in sight.
@@ -216,7 +294,11 @@ pub fn open(
 {
     environment::push(env, top, mark, 0, 0, 0);
     let up = add_head(table, at, heads, 4, env, top + 1);
-    add_labels(table, at + heads, items, sizes, env, up)
+    if items < FEW {
+        add_labels(table, at + heads, items, sizes, env, up)
+    } else {
+        add_many(table, at + heads, items, sizes, env, up)
+    }
 }
 
 // The same, for whom it is enough how many names are in sight.
