@@ -1,14 +1,14 @@
 -- What the code comes to at each operand, and the bounds that keep its sums from wrapping. Assumes nothing.
 use mathlib.Core.Path.{_≡_, refl, ap, sym, _∙_}
-use mathlib.Core.Bool.{Bool, true, false, _&&_, _||_}
-use mathlib.Core.List.{List, []}
+use mathlib.Core.Bool.{Bool, true, false, _&&_}
+use mathlib.Core.List.{List}
 use Prim.Native.Nat.{ℕ, zero, suc, _+_, _-_, _≤_, _<_}
 use native.Mathlib.Omega.{arith}
 use native.Mathlib.Decide.{decLe}
 use native.Mathlib.Numerals.{add-one}
 use lib.Dec.{eqb, ltb}
 use lib.ListN.{length, drop}
-use borrow.Author.Tests.{eqb-true, ltb-true, le-ltb}
+use borrow.Author.Tests.{ltb-true, le-ltb}
 use Rattle.logic.specs.Choice.{if_then_else_}
 use Rattle.language.specs.Table.{Entry}
 use Rattle.logic.specs.Tests.{clash, both-left, both-right}

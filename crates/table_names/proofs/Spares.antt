@@ -1,8 +1,8 @@
 -- Labels that need no look at the names in sight, one after the other. Assumes nothing.
-use mathlib.Core.Path.{_≡_, sym, ap, _∙_}
+use mathlib.Core.Path.{_≡_, ap, _∙_}
 use mathlib.Core.Bool.{Bool, true, false}
 use mathlib.Core.List.{List}
-use Prim.Native.Nat.{ℕ, suc, _+_, _-_, _*_, _/_, _≤_, _<_}
+use Prim.Native.Nat.{ℕ, suc, _+_, _-_, _*_, _/_, _<_}
 use native.Mathlib.Omega.{arith}
 use native.Mathlib.Nat.{add-zero}
 use lib.ListN.{length, getD, length-drop}
@@ -14,7 +14,7 @@ use Rattle.table_scopes.specs.Flaws.{onceFlaw, Says}
 use Rattle.table_scopes.specs.Items.{kindAt}
 use Rattle.table_scopes.specs.Spared.{Free, Spared}
 use Rattle.table_scopes.specs.declared.heads.Verdict.the-variants.{Fine}
-use Rattle.table_forms.specs.Forms.{Form, StmtForm}
+use Rattle.table_forms.specs.Forms.{StmtForm}
 use Rattle.table_forms.specs.Walk.{Asks}
 use Rattle.table_forms.specs.Part.{asked}
 

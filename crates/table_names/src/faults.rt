@@ -210,14 +210,19 @@ pub fn first_fault(table: &[u8]) -> Faulted
     ensures { λ r. ⌜ GivesFirst (now (table .entry)) r ⌝ }
 {
     let bytes = table.len();
+    if bytes <= 128 {
+        let mut sizes = [0u16; 16];
+        let mut env = [0u32; 128];
+        return fault_in(table, &mut sizes, &mut env);
+    }
     if bytes <= 512 {
         let mut sizes = [0u16; 64];
         let mut env = [0u32; 512];
         return fault_in(table, &mut sizes, &mut env);
     }
-    if bytes <= 4096 {
-        let mut sizes = [0u16; 512];
-        let mut env = [0u32; 4096];
+    if bytes <= 2048 {
+        let mut sizes = [0u16; 256];
+        let mut env = [0u32; 2048];
         return fault_in(table, &mut sizes, &mut env);
     }
     let mut sizes = [0u16; 2048];

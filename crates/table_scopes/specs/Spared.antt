@@ -2,17 +2,17 @@
 use mathlib.Core.Path.{_≡_, refl, ap, sym, _∙_}
 use mathlib.Core.Bool.{Bool, true, false, _&&_}
 use mathlib.Core.List.{List, [], _∷_}
-use Prim.Native.Nat.{ℕ, zero, suc, _+_, _-_, _*_, _≤_, _<_}
+use Prim.Native.Nat.{ℕ, zero, suc, _+_, _-_, _*_, _<_}
 use native.Mathlib.Omega.{arith}
 use lib.Dec.{eqb, ltb}
 use lib.ListN.{length, drop}
-use borrow.Author.Tests.{eq-eqb, ne-eqb, eqb-true, le-ltb, ltb-true}
+use borrow.Author.Tests.{eq-eqb, ne-eqb, le-ltb, ltb-true}
 use Rattle.logic.specs.Choice.{if_then_else_}
 use Rattle.logic.specs.Tests.{clash, both-left, both-right}
 use Rattle.words.specs.Laws.{Bytes, two, number-below}
 use Rattle.language_laws.specs.Claims.{entriesOf}
 use Rattle.table_scopes.specs.declared.environment.Found.the-variants.{Def}
-use Rattle.table_scopes.specs.Environment.{Item, item, find, here, addAll, adding, envOf, shut, Grown}
+use Rattle.table_scopes.specs.Environment.{Item, item, find, here, addAll, envOf, shut}
 use Rattle.table_scopes.specs.EnvironmentLaws.{passing-none}
 use Rattle.table_scopes.specs.Spans.{span}
 use Rattle.table_scopes.specs.Items.{kindAt, aAt, bAt, after, oneAt}

@@ -8,7 +8,7 @@ use lib.ListN.{length, drop, length-drop}
 use Rattle.language_laws.specs.Claims.{entriesOf}
 use Rattle.table_read.specs.declared.Read.the-variants.{Tree, Fault}
 use Rattle.table_read.specs.Operands.{sorts, isLeaf}
-use Rattle.table_read.specs.Walk.{moved, counted, chain, walk, under}
+use Rattle.table_read.specs.Walk.{moved, counted, chain, walk}
 use Rattle.table_entries.specs.Entries.{rest, entries-rest}
 use Rattle.table_read.proofs.Steps.{walk-fits, moved-moved, chain-step, chain-stop, chain-end, under-whole, under-leaf, walk-refused, walk-admitted, admitted-here}
 use Prim.Native.Nat.{ℕ, _+_, _-_, _*_, _≤_, _<_}
@@ -88,65 +88,111 @@ operands-meets t =
     (λ c κs. search needs)
     -- returns
     (λ c.
-    let es = entriesOf (c .before .before .before .before .loop .rest .now) in
-    let ss = sorts (c .before .before .before .before .before .before .before .args .kind) (c .before .before .before .before .before .before .before .args .a) (c .before .before .before .before .before .before .before .args .n) in
-    let less : c .before .before .before .before .loop .i < length ss = omega arith in
-    let e = walk-refused (c .before .before .before .before .before .before .before .args .nesting) (c .before .before .sort-of .result) es (sym (c .before .admitted .ensures) ∙ not-true _ (c .if1 .taken)) in
-    sym (c .before .before .before .before .loop .inv .0
-    ∙ ap (moved (c .before .before .before .before .loop .passed)) (chain-stop (walk (c .before .before .before .before .before .before .before .args .nesting)) ss (c .before .before .before .before .loop .i) es less (ap (λ s. walk (c .before .before .before .before .before .before .before .args .nesting) s es) (c .before .before .sort-of .ensures)) e)
-    ∙ ap Fault (add-zero (c .before .before .before .before .loop .passed))))
+    let at-sort-of = c .before .before in
+    let at-loop = at-sort-of .before .before in
+    let at-start = at-loop .before .before .before in
+    let es = entriesOf (at-loop .loop .rest .now) in
+    let ss = sorts (at-start .args .kind) (at-start .args .a) (at-start .args .n) in
+    let less : at-loop .loop .i < length ss = omega arith in
+    let e = walk-refused (at-start .args .nesting) (at-sort-of .sort-of .result) es (sym (c .before .admitted .ensures) ∙ not-true _ (c .if1 .taken)) in
+    sym (at-loop .loop .inv .0
+    ∙ ap (moved (at-loop .loop .passed)) (chain-stop (walk (at-start .args .nesting)) ss (at-loop .loop .i) es less (ap (λ s. walk (at-start .args .nesting) s es) (at-sort-of .sort-of .ensures)) e)
+    ∙ ap Fault (add-zero (at-loop .loop .passed))))
     -- sub-read-entry
     (λ c.
-    omega (arith, admitted-here (c .before .before .before .before .before .before .before .args .nesting) (c .before .before .sort-of .result) (c .before .before .before .before .loop .rest .now) (sym (c .before .admitted .ensures) ∙ not-false _ (c .if1 .left))))
+    let at-sort-of = c .before .before in
+    let at-loop = at-sort-of .before .before in
+    let at-start = at-loop .before .before .before in
+    omega (arith, admitted-here (at-start .args .nesting) (at-sort-of .sort-of .result) (at-loop .loop .rest .now) (sym (c .before .admitted .ensures) ∙ not-false _ (c .if1 .left))))
     -- read-entry-requires
     (λ c κs.
-    let h = admitted-here (c .before .before .before .before .before .before .before .args .nesting) (c .before .before .sort-of .result) (c .before .before .before .before .loop .rest .now) (sym (c .before .admitted .ensures) ∙ not-false _ (c .if1 .left)) in
+    let at-sort-of = c .before .before in
+    let at-loop = at-sort-of .before .before in
+    let at-start = at-loop .before .before .before in
+    let h = admitted-here (at-start .args .nesting) (at-sort-of .sort-of .result) (at-loop .loop .rest .now) (sym (c .before .admitted .ensures) ∙ not-false _ (c .if1 .left)) in
     (omega arith, h .1))
     -- enum-known-k
     (λ c. search needs)
     -- mul-at
     (λ c.
-    let es = entriesOf (c .before .before .before .before .before .before .before .before .loop .rest .now) in
-    let e = c .before .before .before .read-entry .ensures ∙ sym (walk-admitted (c .before .before .before .before .before .before .before .before .before .before .before .args .nesting) (c .before .before .before .before .before .before .sort-of .result) es (sym (c .before .before .before .before .before .admitted .ensures) ∙ not-false _ (c .before .before .before .before .if1 .left))) in
-    omega (arith, walk-fits (c .before .before .before .before .before .before .before .before .before .before .before .args .nesting) (c .before .before .before .before .before .before .sort-of .result) (c .before .before .before .before .before .before .before .before .loop .rest .now) e, ap counted (c .before .k .given .1)))
+    let at-read-entry = c .before .before .before in
+    let at-if1 = at-read-entry .before in
+    let at-admitted = at-if1 .before in
+    let at-sort-of = at-admitted .before in
+    let at-loop = at-sort-of .before .before in
+    let at-start = at-loop .before .before .before in
+    let es = entriesOf (at-loop .loop .rest .now) in
+    let e = at-read-entry .read-entry .ensures
+    ∙ sym (walk-admitted (at-start .args .nesting) (at-sort-of .sort-of .result) es (sym (at-admitted .admitted .ensures) ∙ not-false _ (at-if1 .if1 .left))) in
+    omega (arith, walk-fits (at-start .args .nesting) (at-sort-of .sort-of .result) (at-loop .loop .rest .now) e, ap counted (c .before .k .given .1)))
     -- sub-rest
     (λ c.
-    let es = entriesOf (c .before .before .before .before .before .before .before .before .loop .rest .now) in
-    let e = c .before .before .before .read-entry .ensures ∙ sym (walk-admitted (c .before .before .before .before .before .before .before .before .before .before .before .args .nesting) (c .before .before .before .before .before .before .sort-of .result) es (sym (c .before .before .before .before .before .admitted .ensures) ∙ not-false _ (c .before .before .before .before .if1 .left))) in
-    omega (arith, walk-fits (c .before .before .before .before .before .before .before .before .before .before .before .args .nesting) (c .before .before .before .before .before .before .sort-of .result) (c .before .before .before .before .before .before .before .before .loop .rest .now) e, ap counted (c .before .k .given .1)))
+    let at-read-entry = c .before .before .before in
+    let at-if1 = at-read-entry .before in
+    let at-admitted = at-if1 .before in
+    let at-sort-of = at-admitted .before in
+    let at-loop = at-sort-of .before .before in
+    let at-start = at-loop .before .before .before in
+    let es = entriesOf (at-loop .loop .rest .now) in
+    let e = at-read-entry .read-entry .ensures
+    ∙ sym (walk-admitted (at-start .args .nesting) (at-sort-of .sort-of .result) es (sym (at-admitted .admitted .ensures) ∙ not-false _ (at-if1 .if1 .left))) in
+    omega (arith, walk-fits (at-start .args .nesting) (at-sort-of .sort-of .result) (at-loop .loop .rest .now) e, ap counted (c .before .k .given .1)))
     -- part-rest-start
     (λ c.
-    let es = entriesOf (c .before .before .before .before .before .before .before .before .loop .rest .now) in
-    let e = c .before .before .before .read-entry .ensures ∙ sym (walk-admitted (c .before .before .before .before .before .before .before .before .before .before .before .args .nesting) (c .before .before .before .before .before .before .sort-of .result) es (sym (c .before .before .before .before .before .admitted .ensures) ∙ not-false _ (c .before .before .before .before .if1 .left))) in
-    omega (arith, walk-fits (c .before .before .before .before .before .before .before .before .before .before .before .args .nesting) (c .before .before .before .before .before .before .sort-of .result) (c .before .before .before .before .before .before .before .before .loop .rest .now) e, ap counted (c .before .k .given .1)))
+    let at-read-entry = c .before .before .before in
+    let at-if1 = at-read-entry .before in
+    let at-admitted = at-if1 .before in
+    let at-sort-of = at-admitted .before in
+    let at-loop = at-sort-of .before .before in
+    let at-start = at-loop .before .before .before in
+    let es = entriesOf (at-loop .loop .rest .now) in
+    let e = at-read-entry .read-entry .ensures
+    ∙ sym (walk-admitted (at-start .args .nesting) (at-sort-of .sort-of .result) es (sym (at-admitted .admitted .ensures) ∙ not-false _ (at-if1 .if1 .left))) in
+    omega (arith, walk-fits (at-start .args .nesting) (at-sort-of .sort-of .result) (at-loop .loop .rest .now) e, ap counted (c .before .k .given .1)))
     -- part-rest-end
     (λ c. search needs)
     -- add-passed
     (λ c.
-    let es = entriesOf (c .before .before .before .before .before .before .before .before .before .loop .rest .now) in
-    let e = c .before .before .before .before .read-entry .ensures ∙ sym (walk-admitted (c .before .before .before .before .before .before .before .before .before .before .before .before .args .nesting) (c .before .before .before .before .before .before .before .sort-of .result) es (sym (c .before .before .before .before .before .before .admitted .ensures) ∙ not-false _ (c .before .before .before .before .before .if1 .left))) in
-    omega (arith, walk-fits (c .before .before .before .before .before .before .before .before .before .before .before .before .args .nesting) (c .before .before .before .before .before .before .before .sort-of .result) (c .before .before .before .before .before .before .before .before .before .loop .rest .now) e, ap counted (c .before .before .k .given .1)))
+    let at-k = c .before .before in
+    let at-read-entry = at-k .before .before in
+    let at-if1 = at-read-entry .before in
+    let at-admitted = at-if1 .before in
+    let at-sort-of = at-admitted .before in
+    let at-loop = at-sort-of .before .before in
+    let at-start = at-loop .before .before .before in
+    let es = entriesOf (at-loop .loop .rest .now) in
+    let e = at-read-entry .read-entry .ensures
+    ∙ sym (walk-admitted (at-start .args .nesting) (at-sort-of .sort-of .result) es (sym (at-admitted .admitted .ensures) ∙ not-false _ (at-if1 .if1 .left))) in
+    omega (arith, walk-fits (at-start .args .nesting) (at-sort-of .sort-of .result) (at-loop .loop .rest .now) e, ap counted (at-k .k .given .1)))
     -- add-i
     (λ c. search needs)
     -- loop-less
     (λ c. search needs)
     -- loop-again
     (λ c.
-    let es = entriesOf (c .before .before .before .before .before .before .before .before .before .loop .rest .now) in
-    let e = c .before .before .before .before .read-entry .ensures ∙ sym (walk-admitted (c .before .before .before .before .before .before .before .before .before .before .before .before .args .nesting) (c .before .before .before .before .before .before .before .sort-of .result) es (sym (c .before .before .before .before .before .before .admitted .ensures) ∙ not-false _ (c .before .before .before .before .before .if1 .left))) in
-    let ss = sorts (c .before .before .before .before .before .before .before .before .before .before .before .before .args .kind) (c .before .before .before .before .before .before .before .before .before .before .before .before .args .a) (c .before .before .before .before .before .before .before .before .before .before .before .before .args .n) in
-    let less : c .before .before .before .before .before .before .before .before .before .loop .i < length ss = omega arith in
-    let k = c .before .before .k .given .0 .0 in (
-      c .before .before .before .before .before .before .before .before .before .loop .inv .0
-          ∙ ap (moved (c .before .before .before .before .before .before .before .before .before .loop .passed)) (chain-step (walk (c .before .before .before .before .before .before .before .before .before .before .before .before .args .nesting)) ss (c .before .before .before .before .before .before .before .before .before .loop .i) es less (rw (c .before .before .before .before .before .before .before .sort-of .ensures) at e) (c .before .before .k .given .1))
-          ∙ rw (entries-rest k (c .before .before .before .before .before .before .before .before .before .loop .rest .now))
-          (moved-moved (c .before .before .before .before .before .before .before .before .before .loop .passed) k (chain (walk (c .before .before .before .before .before .before .before .before .before .before .before .before .args .nesting)) (drop (c .before .before .before .before .before .before .before .before .before .loop .i + 1) ss) (drop k es))),
-      rw (rest (8 * k) (c .before .before .before .before .before .before .before .before .before .loop .rest .now))
+    let at-k = c .before .before in
+    let at-read-entry = at-k .before .before in
+    let at-if1 = at-read-entry .before in
+    let at-admitted = at-if1 .before in
+    let at-sort-of = at-admitted .before in
+    let at-loop = at-sort-of .before .before in
+    let at-start = at-loop .before .before .before in
+    let es = entriesOf (at-loop .loop .rest .now) in
+    let e = at-read-entry .read-entry .ensures
+    ∙ sym (walk-admitted (at-start .args .nesting) (at-sort-of .sort-of .result) es (sym (at-admitted .admitted .ensures) ∙ not-false _ (at-if1 .if1 .left))) in
+    let ss = sorts (at-start .args .kind) (at-start .args .a) (at-start .args .n) in
+    let less : at-loop .loop .i < length ss = omega arith in
+    let k = at-k .k .given .0 .0 in (
+      at-loop .loop .inv .0
+          ∙ ap (moved (at-loop .loop .passed)) (chain-step (walk (at-start .args .nesting)) ss (at-loop .loop .i) es less (rw (at-sort-of .sort-of .ensures) at e) (at-k .k .given .1))
+          ∙ rw (entries-rest k (at-loop .loop .rest .now))
+          (moved-moved (at-loop .loop .passed) k (chain (walk (at-start .args .nesting)) (drop (at-loop .loop .i + 1) ss) (drop k es))),
+      rw (rest (8 * k) (at-loop .loop .rest .now))
           (omega (
             arith,
-            walk-fits (c .before .before .before .before .before .before .before .before .before .before .before .before .args .nesting) (c .before .before .before .before .before .before .before .sort-of .result) (c .before .before .before .before .before .before .before .before .before .loop .rest .now) e,
-            ap counted (c .before .before .k .given .1),
-            length-drop (8 * k) (c .before .before .before .before .before .before .before .before .before .loop .rest .now),
+            walk-fits (at-start .args .nesting) (at-sort-of .sort-of .result) (at-loop .loop .rest .now) e,
+            ap counted (at-k .k .given .1),
+            length-drop (8 * k) (at-loop .loop .rest .now),
           )),
       omega arith,
     ))
@@ -154,17 +200,31 @@ operands-meets t =
     (λ c. search needs)
     -- add-t21
     (λ c.
-    let es = entriesOf (c .before .before .before .before .before .before .before .before .loop .rest .now) in
-    let e = c .before .before .before .read-entry .ensures ∙ sym (walk-admitted (c .before .before .before .before .before .before .before .before .before .before .before .args .nesting) (c .before .before .before .before .before .before .sort-of .result) es (sym (c .before .before .before .before .before .admitted .ensures) ∙ not-false _ (c .before .before .before .before .if1 .left))) in
-    omega (arith, walk-fits (c .before .before .before .before .before .before .before .before .before .before .before .args .nesting) (c .before .before .before .before .before .before .sort-of .result) (c .before .before .before .before .before .before .before .before .loop .rest .now) e, ap counted (c .before .p .given .1)))
+    let at-read-entry = c .before .before .before in
+    let at-if1 = at-read-entry .before in
+    let at-admitted = at-if1 .before in
+    let at-sort-of = at-admitted .before in
+    let at-loop = at-sort-of .before .before in
+    let at-start = at-loop .before .before .before in
+    let es = entriesOf (at-loop .loop .rest .now) in
+    let e = at-read-entry .read-entry .ensures
+    ∙ sym (walk-admitted (at-start .args .nesting) (at-sort-of .sort-of .result) es (sym (at-admitted .admitted .ensures) ∙ not-false _ (at-if1 .if1 .left))) in
+    omega (arith, walk-fits (at-start .args .nesting) (at-sort-of .sort-of .result) (at-loop .loop .rest .now) e, ap counted (c .before .p .given .1)))
     -- returns-2
     (λ c.
-    let es = entriesOf (c .before .before .before .before .before .before .before .before .loop .rest .now) in
-    let e = c .before .before .before .read-entry .ensures ∙ sym (walk-admitted (c .before .before .before .before .before .before .before .before .before .before .before .args .nesting) (c .before .before .before .before .before .before .sort-of .result) es (sym (c .before .before .before .before .before .admitted .ensures) ∙ not-false _ (c .before .before .before .before .if1 .left))) in
-    let ss = sorts (c .before .before .before .before .before .before .before .before .before .before .before .args .kind) (c .before .before .before .before .before .before .before .before .before .before .before .args .a) (c .before .before .before .before .before .before .before .before .before .before .before .args .n) in
-    let less : c .before .before .before .before .before .before .before .before .loop .i < length ss = omega arith in
-    sym (c .before .before .before .before .before .before .before .before .loop .inv .0
-    ∙ ap (moved (c .before .before .before .before .before .before .before .before .loop .passed)) (chain-stop (walk (c .before .before .before .before .before .before .before .before .before .before .before .args .nesting)) ss (c .before .before .before .before .before .before .before .before .loop .i) es less (rw (c .before .before .before .before .before .before .sort-of .ensures) at e) (c .before .p .given .1))))
+    let at-read-entry = c .before .before .before in
+    let at-if1 = at-read-entry .before in
+    let at-admitted = at-if1 .before in
+    let at-sort-of = at-admitted .before in
+    let at-loop = at-sort-of .before .before in
+    let at-start = at-loop .before .before .before in
+    let es = entriesOf (at-loop .loop .rest .now) in
+    let e = at-read-entry .read-entry .ensures
+    ∙ sym (walk-admitted (at-start .args .nesting) (at-sort-of .sort-of .result) es (sym (at-admitted .admitted .ensures) ∙ not-false _ (at-if1 .if1 .left))) in
+    let ss = sorts (at-start .args .kind) (at-start .args .a) (at-start .args .n) in
+    let less : at-loop .loop .i < length ss = omega arith in
+    sym (at-loop .loop .inv .0
+    ∙ ap (moved (at-loop .loop .passed)) (chain-stop (walk (at-start .args .nesting)) ss (at-loop .loop .i) es less (rw (at-sort-of .sort-of .ensures) at e) (c .before .p .given .1))))
     -- returns-3
     (λ c.
     let ss = sorts (c .before .before .before .before .args .kind) (c .before .before .before .before .args .a) (c .before .before .before .before .args .n) in
@@ -204,7 +264,9 @@ read-entry-meets t =
     (λ c κs. search needs)
     -- returns
     (λ c.
-    sym (under-leaf (walk (c .before .before .before .before .args .nesting)) (entriesOf (c .before .before .before .before .args .part .now)) (ap isLeaf (sym (c .before .before .kind-of .ensures)) ∙ sym (c .before .is-leaf .ensures) ∙ c .if1 .taken)))
+    let at-kind-of = c .before .before in
+    let at-start = at-kind-of .before .before in
+    sym (under-leaf (walk (at-start .args .nesting)) (entriesOf (at-start .args .part .now)) (ap isLeaf (sym (at-kind-of .kind-of .ensures)) ∙ sym (c .before .is-leaf .ensures) ∙ c .if1 .taken)))
     -- sub-operands
     (λ c. search needs)
     -- part-operands-start
@@ -219,8 +281,11 @@ read-entry-meets t =
     (λ c κs. omega arith)
     -- returns-2
     (λ c.
-    rw (c .before .before .before .before .before .before .kind-of .ensures, c .before .before .name-of .ensures, c .before .size-of .ensures, entries-rest 1 (c .before .before .before .before .before .before .before .before .args .part .now)) at (c .operands .ensures)
-    ∙ sym (under-whole (walk (c .before .before .before .before .before .before .before .before .args .nesting)) (entriesOf (c .before .before .before .before .before .before .before .before .args .part .now))))
+    let at-name-of = c .before .before in
+    let at-kind-of = at-name-of .before .before .before .before in
+    let at-start = at-kind-of .before .before in
+    rw (at-kind-of .kind-of .ensures, at-name-of .name-of .ensures, c .before .size-of .ensures, entries-rest 1 (at-start .args .part .now)) at (c .operands .ensures)
+    ∙ sym (under-whole (walk (at-start .args .nesting)) (entriesOf (at-start .args .part .now))))
 
 pub +operands+read-entry-spec : {M : Type 1} → statement M
 +operands+read-entry-spec = close μ-operands μ-read-entry operands-meets read-entry-meets

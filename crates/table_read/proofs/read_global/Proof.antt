@@ -19,19 +19,32 @@ kind-of-requires c κs = laid-here (c .before .before .before .args .part .now) 
 
 returns-2 : tie.Need-returns-2
 returns-2 c =
-    let admits = isGlobal (c .before .before .before .before .before .before .args .classes) (c .before .before .before .before .before .before .args .procedures) in
-    sym (entered-other (walk 62) admits (entriesOf (c .before .before .before .before .before .before .args .part .now)) (sym (c .before .before .before .before .laid .ensures) ∙ not-false _ (c .before .before .before .if1 .left))
-    (ap admits (sym (c .before .before .kind-of .ensures)) ∙ sym (c .before .is-global .ensures) ∙ not-true _ (c .if2 .taken)))
+    let at-kind-of = c .before .before in
+    let at-if1 = at-kind-of .before in
+    let at-laid = at-if1 .before in
+    let at-start = at-laid .before .before in
+    let admits = isGlobal (at-start .args .classes) (at-start .args .procedures) in
+    sym (entered-other (walk 62) admits (entriesOf (at-start .args .part .now)) (sym (at-laid .laid .ensures) ∙ not-false _ (at-if1 .if1 .left))
+    (ap admits (sym (at-kind-of .kind-of .ensures)) ∙ sym (c .before .is-global .ensures) ∙ not-true _ (c .if2 .taken)))
 
 read-entry-requires : tie.Need-read-entry-requires
-read-entry-requires c κs = laid-here (c .before .before .before .before .before .before .args .part .now) (sym (c .before .before .before .before .laid .ensures) ∙ not-false _ (c .before .before .before .if1 .left))
+read-entry-requires c κs =
+    let at-if1 = c .before .before .before in
+    let at-laid = at-if1 .before in
+    let at-start = at-laid .before .before in
+    laid-here (at-start .args .part .now) (sym (at-laid .laid .ensures) ∙ not-false _ (at-if1 .if1 .left))
 
 returns-3 : tie.Need-returns-3
 returns-3 c =
-    let admits = isGlobal (c .before .before .before .before .before .before .before .args .classes) (c .before .before .before .before .before .before .before .args .procedures) in
+    let at-is-global = c .before .before in
+    let at-kind-of = at-is-global .before in
+    let at-if1 = at-kind-of .before in
+    let at-laid = at-if1 .before in
+    let at-start = at-laid .before .before in
+    let admits = isGlobal (at-start .args .classes) (at-start .args .procedures) in
     c .read-entry .ensures
-    ∙ sym (entered-whole (walk 62) admits (entriesOf (c .before .before .before .before .before .before .before .args .part .now)) (sym (c .before .before .before .before .before .laid .ensures) ∙ not-false _ (c .before .before .before .before .if1 .left))
-    (ap admits (sym (c .before .before .before .kind-of .ensures)) ∙ sym (c .before .before .is-global .ensures) ∙ not-false _ (c .before .if2 .left)))
+    ∙ sym (entered-whole (walk 62) admits (entriesOf (at-start .args .part .now)) (sym (at-laid .laid .ensures) ∙ not-false _ (at-if1 .if1 .left))
+    (ap admits (sym (at-kind-of .kind-of .ensures)) ∙ sym (at-is-global .is-global .ensures) ∙ not-false _ (c .before .if2 .left)))
 
 pub read-global-spec : {M : Type 1} → statement M
 read-global-spec =

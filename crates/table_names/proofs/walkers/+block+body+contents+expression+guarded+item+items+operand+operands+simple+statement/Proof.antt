@@ -740,14 +740,22 @@ item-meets t =
     -- is-plain-requires
     (λ c κs. search needs)
     -- simple-requires
-    (λ c κs. (
+    (λ c κs.
+    let at-is-plain = c .before .before in
+    let at-kind-at = at-is-plain .before in
+    let at-start = at-kind-at .before .before .before .before .before in (
       omega arith,
-      ask-as (λ f h e. plain-form f h _ (sym (c .before .before .is-plain .ensures) ∙ c .before .if1 .taken) (c .before .before .before .kind-at .ensures ∙ e)) (c .before .before .before .before .before .before .before .before .pre .1 .0),
+      ask-as (λ f h e. plain-form f h _ (sym (at-is-plain .is-plain .ensures) ∙ c .before .if1 .taken) (at-kind-at .kind-at .ensures ∙ e)) (at-start .pre .1 .0),
     ))
     -- same-length
     (λ c. search needs)
     -- returns
-    (λ c. typed-answer (λ f h e. plain-form f h _ (sym (c .before .before .before .before .before .is-plain .ensures) ∙ c .before .before .before .before .if1 .taken) (c .before .before .before .before .before .before .kind-at .ensures ∙ e)) (c .before .before .simple .ensures))
+    (λ c.
+    let at-simple = c .before .before in
+    let at-if1 = at-simple .before .before in
+    let at-is-plain = at-if1 .before in
+    let at-kind-at = at-is-plain .before in
+    typed-answer (λ f h e. plain-form f h _ (sym (at-is-plain .is-plain .ensures) ∙ at-if1 .if1 .taken) (at-kind-at .kind-at .ensures ∙ e)) (at-simple .simple .ensures))
     -- is-spared-requires
     (λ c κs. search needs)
     -- statement-requires

@@ -31,7 +31,10 @@ returns-2 c = rw (c .before .before .if2 .taken) (cc (toZ-ofZ w32 _ (c .before .
 
 returns-3 : tie.Need-returns-3
 unfolding inLayout
-returns-3 c = rw (c .before .before .before .before .if3 .taken) (cc (toZ-ofZ w32 _ (c .before .before .before .before .before .before .before .fits .b), within-top 1 (c .before .before .before .before .before .before .before .args .b)))
+returns-3 c =
+    let at-if3 = c .before .before .before .before in
+    let at-start = at-if3 .before .before .before in
+    rw (at-if3 .if3 .taken) (cc (toZ-ofZ w32 _ (at-start .fits .b), within-top 1 (at-start .args .b)))
 
 returns-4 : tie.Need-returns-4
 unfolding inLayout
@@ -43,8 +46,13 @@ returns-5 c = rw (c .if5 .taken)
 
 returns-6 : tie.Need-returns-6
 returns-6 c =
-    rw (← named (c .before .before .before .before .before .before .args .kind) (c .before .before .before .before .before .before .args .a) (c .before .before .before .before .before .before .args .b) (c .before .before .before .before .before .before .pre) (c .before .before .before .before .before .if1 .left) (c .before .before .before .before .if2 .left) (c .before .before .before .if3 .left) (c .before .before .if4 .left) (c .before .if5 .left))
-    (cc (toZ-ofZ w32 _ (c .before .before .before .before .before .before .fits .b)))
+    let at-if4 = c .before .before in
+    let at-if3 = at-if4 .before in
+    let at-if2 = at-if3 .before in
+    let at-if1 = at-if2 .before in
+    let at-start = at-if1 .before in
+    rw (← named (at-start .args .kind) (at-start .args .a) (at-start .args .b) (at-start .pre) (at-if1 .if1 .left) (at-if2 .if2 .left) (at-if3 .if3 .left) (at-if4 .if4 .left) (c .before .if5 .left))
+    (cc (toZ-ofZ w32 _ (at-start .fits .b)))
 
 pub leaf-layout-spec : {M : Type 1} → statement M
 leaf-layout-spec =

@@ -6,20 +6,28 @@ use Rattle.table_scopes.proofs.environment.add_by.Statement.{statement}
 use Rattle.table_scopes.proofs.environment.add_by.Tie as tie
 
 returns : tie.Need-returns
-returns c = (
-  not-added (c .before .before .before .before .before .before .args .env .now) (c .before .before .before .before .before .before .args .top) (c .before .before .before .before .before .before .args .name) (c .before .before .before .before .before .before .args .sort) (c .before .before .before .before .before .before .args .number) (c .before .before .before .before .before .before .args .place) (c .before .here-by .ensures) (c .if1 .taken),
-  c .before .before .before .before .before .before .pre .1,
-)
+returns c =
+    let at-start = c .before .before .before .before .before .before in (
+      not-added (at-start .args .env .now) (at-start .args .top) (at-start .args .name) (at-start .args .sort) (at-start .args .number) (at-start .args .place)
+          (c .before .here-by .ensures) (c .if1 .taken),
+      at-start .pre .1,
+    )
 
 returns-2 : tie.Need-returns-2
-returns-2 c = (
-  is-added (c .before .before .before .before .before .before .before .before .before .before .before .before .before .before .args .env .now) _ (c .before .before .before .before .before .before .before .before .before .before .before .before .before .before .args .top) (c .before .before .before .before .before .before .before .before .before .before .before .before .before .before .args .name) (c .before .before .before .before .before .before .before .before .before .before .before .before .before .before .args .sort) (c .before .before .before .before .before .before .before .before .before .before .before .before .before .before .args .number)
-      (c .before .before .before .before .before .before .before .before .before .before .before .before .before .before .args .place) (c .before .before .before .before .before .before .before .before .before .before .before .before .before .before .pre .0) (c .before .before .before .before .before .before .before .before .before .here-by .ensures) (c .before .before .before .before .before .before .before .before .if1 .left) (c .before .before .before .before .before .before .push .ensures),
-  rw (
-    grown-push (c .before .before .before .before .before .before .before .before .before .before .before .before .before .before .args .env .now) _ (c .before .before .before .before .before .before .before .before .before .before .before .before .before .before .args .top) (c .before .before .before .before .before .before .before .before .before .before .before .before .before .before .args .name) (c .before .before .before .before .before .before .before .before .before .before .before .before .before .before .args .sort) (c .before .before .before .before .before .before .before .before .before .before .before .before .before .before .args .number) (c .before .before .before .before .before .before .before .before .before .before .before .before .before .before .args .place) (c .before .before .before .before .before .before .before .before .before .before .before .before .before .before .pre .0) (c .before .before .before .before .before .before .push .ensures) .now,
-    c .before .before .note .ensures,
-  ) (covers-push (c .before .before .before .before .before .before .before .before .before .before .before .before .before .before .args .name) (c .before .before .before .before .before .before .before .before .before .before .before .before .before .before .args .sort) (c .before .before .before .before .before .before .before .before .before .before .before .before .before .before .args .number) (c .before .before .before .before .before .before .before .before .before .before .before .before .before .before .args .place) (c .before .before .before .before .before .before .before .before .before .before .before .before .before .before .pre .1)),
-)
+returns-2 c =
+    let at-note = c .before .before in
+    let at-push = at-note .before .before .before .before in
+    let at-if1 = at-push .before .before in
+    let at-here-by = at-if1 .before in
+    let at-start = at-here-by .before .before .before .before .before in (
+      is-added (at-start .args .env .now) _ (at-start .args .top) (at-start .args .name) (at-start .args .sort) (at-start .args .number)
+          (at-start .args .place) (at-start .pre .0) (at-here-by .here-by .ensures) (at-if1 .if1 .left) (at-push .push .ensures),
+      rw (
+        grown-push (at-start .args .env .now) _ (at-start .args .top) (at-start .args .name) (at-start .args .sort) (at-start .args .number) (at-start .args .place)
+            (at-start .pre .0) (at-push .push .ensures) .now,
+        at-note .note .ensures,
+      ) (covers-push (at-start .args .name) (at-start .args .sort) (at-start .args .number) (at-start .args .place) (at-start .pre .1)),
+    )
 
 pub add-by-spec : {M : Type 1} → statement M
 add-by-spec =

@@ -22,14 +22,20 @@ same-length : tie.Need-same-length Inv-loop μ-loop
 same-length c = c .before .before .before .loop .inv .1
 
 returns : tie.Need-returns Inv-loop μ-loop
-returns c = (but-mark (c .before .before .before .before .before .before .args .env .now) (c .before .before .before .loop .i) (c .before .before .before .loop .inv .0) (omega arith) (omega arith), c .before .before .before .loop .inv .1)
+returns c =
+    let at-loop = c .before .before .before in
+    let at-start = at-loop .before .before .before in
+    (but-mark (at-start .args .env .now) (at-loop .loop .i) (at-loop .loop .inv .0) (omega arith) (omega arith), at-loop .loop .inv .1)
 
 loop-again : tie.Need-loop-again Inv-loop μ-loop
-loop-again c = (
-  rw (c .before .before .note .ensures) (but-next (c .before .before .before .before .before .before .before .before .before .before .args .env .now) (c .before .before .before .before .before .before .before .loop .i) (c .before .before .before .before .before .before .before .loop .inv .0) (omega arith) (omega arith)),
-  rw (c .before .before .note .ensures) (noted-length (c .before .before .before .before .before .before .before .loop .seen) (getD (c .before .before .before .before .before .before .before .before .before .before .args .env .now) (4 * (c .before .before .before .before .before .before .before .loop .i - 1)) 0) ∙ c .before .before .before .before .before .before .before .loop .inv .1),
-  omega arith,
-)
+loop-again c =
+    let at-note = c .before .before in
+    let at-loop = at-note .before .before .before .before .before in
+    let at-start = at-loop .before .before .before in (
+      rw (at-note .note .ensures) (but-next (at-start .args .env .now) (at-loop .loop .i) (at-loop .loop .inv .0) (omega arith) (omega arith)),
+      rw (at-note .note .ensures) (noted-length (at-loop .loop .seen) (getD (at-start .args .env .now) (4 * (at-loop .loop .i - 1)) 0) ∙ at-loop .loop .inv .1),
+      omega arith,
+    )
 
 same-length-2 : tie.Need-same-length-2 Inv-loop μ-loop
 same-length-2 c = c .before .loop .inv .1

@@ -1,6 +1,6 @@
 -- `table_scopes::heads::add_labels` meets its contract. Assumes nothing.
 use native.Mathlib.Omega.{arith}
-use mathlib.Core.Path.{_≡_, refl, sym, _∙_}
+use mathlib.Core.Path.{_≡_, refl, _∙_}
 use mathlib.Core.Bool.{true}
 use lib.ListN.{length}
 use Prim.Native.Nat.{_+_, _-_}
@@ -21,12 +21,13 @@ abbrev μ-loop : tie.MeasureT-loop
 μ-loop table at count sizes env₀ top place₀ up₀ once₀ left₀ env place up once left = left
 
 loop-holds : tie.Need-loop-holds Inv-loop μ-loop
-loop-holds c = (
-  adds-start (labelsFrom (c .before .before .before .args .table .now) (c .before .before .before .args .at) (c .before .before .before .args .count)) (c .before .before .before .args .top) (c .before .before .before .args .env .now),
-  c .before .before .before .pre .1,
-  refl,
-  sparing-start (c .before .before .before .args .table .now) (c .before .before .before .args .at) (c .before .before .before .args .count) true (envOf (c .before .before .before .args .env .now) (c .before .before .before .args .top)),
-)
+loop-holds c =
+    let at-start = c .before .before .before in (
+      adds-start (labelsFrom (at-start .args .table .now) (at-start .args .at) (at-start .args .count)) (at-start .args .top) (at-start .args .env .now),
+      at-start .pre .1,
+      refl,
+      sparing-start (at-start .args .table .now) (at-start .args .at) (at-start .args .count) true (envOf (at-start .args .env .now) (at-start .args .top)),
+    )
 
 add-one-requires : tie.Need-add-one-requires Inv-loop μ-loop
 add-one-requires c κs =
@@ -41,36 +42,47 @@ add-one-requires c κs =
     )
 
 kind-at-requires : tie.Need-kind-at-requires Inv-loop μ-loop
-kind-at-requires c κs = reach-here (c .before .before .before .before .before .before .before .before .before .args .table .now) (c .before .before .before .before .before .loop .place) (c .before .before .before .before .before .loop .left) (omega arith) (c .before .before .before .before .before .loop .inv .1)
+kind-at-requires c κs =
+    let at-loop = c .before .before .before .before .before in
+    let at-start = at-loop .before .before .before .before in
+    reach-here (at-start .args .table .now) (at-loop .loop .place) (at-loop .loop .left) (omega arith) (at-loop .loop .inv .1)
 
 size-at-requires : tie.Need-size-at-requires Inv-loop μ-loop
 size-at-requires c κs =
-    let rh = reach-here (c .before .before .before .before .before .before .before .before .before .before .before .args .table .now) (c .before .before .before .before .before .before .before .loop .place) (c .before .before .before .before .before .before .before .loop .left) (omega arith) (c .before .before .before .before .before .before .before .loop .inv .1) in
-    omega (arith, c .before .before .before .before .before .before .before .before .before .before .before .pre .0 .wide)
+    let at-loop = c .before .before .before .before .before .before .before in
+    let at-start = at-loop .before .before .before .before in
+    let rh = reach-here (at-start .args .table .now) (at-loop .loop .place) (at-loop .loop .left) (omega arith) (at-loop .loop .inv .1) in
+    omega (arith, at-start .pre .0 .wide)
 
 add-place : tie.Need-add-place Inv-loop μ-loop
 add-place c =
-    let l = c .before .before .before .before .before .before .before .before .before .before .before .before .args .table .now in
-    let place = c .before .before .before .before .before .before .before .before .loop .place in
-    let rh = reach-here l place (c .before .before .before .before .before .before .before .before .loop .left) (omega arith) (c .before .before .before .before .before .before .before .before .loop .inv .1) in
-    let z = c .size-at .ensures ∙ c .before .before .before .before .before .before .before .before .before .before .before .before .pre .0 .sized place (omega arith) (omega (arith, rh)) in
+    let at-loop = c .before .before .before .before .before .before .before .before in
+    let at-start = at-loop .before .before .before .before in
+    let l = at-start .args .table .now in
+    let place = at-loop .loop .place in
+    let rh = reach-here l place (at-loop .loop .left) (omega arith) (at-loop .loop .inv .1) in
+    let z = c .size-at .ensures ∙ at-start .pre .0 .sized place (omega arith) (omega (arith, rh)) in
     omega (arith, size-small l place 1 (c .size-at .result) z)
 
 loop-again : tie.Need-loop-again Inv-loop μ-loop
 loop-again c =
-    let l = c .before .before .before .before .before .before .before .before .before .before .before .before .args .table .now in
-    let place = c .before .before .before .before .before .before .before .before .loop .place in
-    let left = c .before .before .before .before .before .before .before .before .loop .left in
-    let rh = reach-here l place left (omega arith) (c .before .before .before .before .before .before .before .before .loop .inv .1) in
-    let z = c .size-at .ensures ∙ c .before .before .before .before .before .before .before .before .before .before .before .before .pre .0 .sized place (omega arith) (omega (arith, rh)) in
+    let at-kind-at = c .before .before in
+    let at-add-one = at-kind-at .before .before .before in
+    let at-loop = at-add-one .before .before .before in
+    let at-start = at-loop .before .before .before .before in
+    let l = at-start .args .table .now in
+    let place = at-loop .loop .place in
+    let left = at-loop .loop .left in
+    let rh = reach-here l place left (omega arith) (at-loop .loop .inv .1) in
+    let z = c .size-at .ensures ∙ at-start .pre .0 .sized place (omega arith) (omega (arith, rh)) in
     let step = labels-more l place left (c .size-at .result) (omega arith) z in
-    let g = c .before .before .before .before .before .add-one .ensures in
-    let a = adds-next (c .before .before .before .before .before .before .before .before .loop .inv .0) (oneAt 20 5 l place) (labelsFrom l (place + c .size-at .result) (left - 1)) step g in (
+    let g = at-add-one .add-one .ensures in
+    let a = adds-next (at-loop .loop .inv .0) (oneAt 20 5 l place) (labelsFrom l (place + c .size-at .result) (left - 1)) step g in (
       a,
-      reach-next l place left (c .size-at .result) (omega arith) z (c .before .before .before .before .before .before .before .before .loop .inv .1),
+      reach-next l place left (c .size-at .result) (omega arith) z (at-loop .loop .inv .1),
       a .same,
-      sparing-next (c .before .before .before .before .before .before .before .before .loop .inv .3) (omega arith) (envOf _ (c .before .before .before .before .before .add-one .result)) (c .before .all-pushed .result) (c .size-at .result) z
-          (rw (env-length _ (c .before .before .before .before .before .before .before .before .loop .up), env-length _ (c .before .before .before .before .before .add-one .result), ← c .before .before .kind-at .ensures) (c .before .all-pushed .ensures))
+      sparing-next (at-loop .loop .inv .3) (omega arith) (envOf _ (at-add-one .add-one .result)) (c .before .all-pushed .result) (c .size-at .result) z
+          (rw (env-length _ (at-loop .loop .up), env-length _ (at-add-one .add-one .result), ← at-kind-at .kind-at .ensures) (c .before .all-pushed .ensures))
           (g .now),
     )
 
