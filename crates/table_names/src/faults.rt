@@ -225,6 +225,11 @@ pub fn first_fault(table: &[u8]) -> Faulted
         let mut env = [0u32; 2048];
         return fault_in(table, &mut sizes, &mut env);
     }
+    if bytes <= 4096 {
+        let mut sizes = [0u16; 512];
+        let mut env = [0u32; 4096];
+        return fault_in(table, &mut sizes, &mut env);
+    }
     let mut sizes = [0u16; 2048];
     let mut env = [0u32; 16384];
     fault_in(table, &mut sizes, &mut env)
