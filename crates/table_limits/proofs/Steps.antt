@@ -1,27 +1,28 @@
 -- What the code comes to at each operand, and the bounds that keep its sums from wrapping. Assumes nothing.
 use mathlib.Core.Path.{_≡_, refl, ap, sym, _∙_}
-use mathlib.Core.Bool.{Bool, true, false, _&&_, _||_}
-use mathlib.Core.List.{List, []}
+use mathlib.Core.Bool.{Bool, true, false, _&&_}
+use mathlib.Core.List.{List}
 use Prim.Native.Nat.{ℕ, zero, suc, _+_, _-_, _≤_, _<_}
 use native.Mathlib.Omega.{arith}
 use native.Mathlib.Decide.{decLe}
 use native.Mathlib.Numerals.{add-one}
 use lib.Dec.{eqb, ltb}
 use lib.ListN.{length, drop}
-use borrow.Author.Tests.{eqb-true, ltb-true, le-ltb}
+use borrow.Author.Tests.{ltb-true, le-ltb}
 use Rattle.logic.specs.Choice.{if_then_else_}
 use Rattle.language.specs.Table.{Entry}
 use Rattle.logic.specs.Tests.{clash, both-left, both-right}
 use Rattle.language_laws.specs.Claims.{entriesOf}
-use Rattle.table_read.specs.Operands.{sorts}
+use Rattle.table_read.specs.Operands.{isLeaf, sorts}
 use Rattle.table_read.specs.Walk.{kindAt, nameAt, sizeAt}
 use Rattle.table_entries.specs.Entries.{entries-none, entries-some}
 use Rattle.table_read.proofs.Roots.{tally-small}
+use Rattle.table_read.proofs.Sorts.{leaf-sorts}
 use Rattle.table_limits.specs.declared.sums.Used.{Used}
 use Rattle.table_limits.specs.declared.Usage.{Usage}
 use Rattle.table_limits.specs.declared.Usage.the-variants.{Of, Unread}
 use Rattle.table_limits.specs.declared.Head.the-variants.{Own, Exceeds, Ended}
-use Rattle.table_limits.specs.Sums.{used, isLeaf, aloneOf, stacks, weightOf, headOf, keptOf, joined, overOf, declaredOf, Level}
+use Rattle.table_limits.specs.Sums.{used, aloneOf, stacks, weightOf, headOf, keptOf, joined, overOf, declaredOf, Level}
 use Rattle.table_limits.specs.Usage.{through, usageAt, leafAt, Bounded, headFrom}
 
 -- ── operands ──
@@ -110,19 +111,6 @@ alone-level k = go (eqb k 10) (eqb k 14) (eqb k 30)
     go false false false = (omega arith, refl)
 
 -- ── an entry without operands ──
-kind-or : {A : Type 0} (k j : ℕ) {b : Bool} → (k ≡ j → A) → (b ≡ true → A) → (eqb k j || b) ≡ true → A
-kind-or {A} k j {b} f g = go (eqb k j) (λ t. f (eqb-true k j t))
-  where
-    go : (a : Bool) → (a ≡ true → A) → (a || b) ≡ true → A
-    go true h t = h refl
-    go false h t = g t
-
-leaf-sorts : (k a n : ℕ) → isLeaf k ≡ true → sorts k a n ≡ []
-unfolding isLeaf sorts
-leaf-sorts k a n =
-    kind-or k 10 (λ e. rw e) (kind-or k 14 (λ e. rw e) (kind-or k 20 (λ e. rw e) (kind-or k 25 (λ e. rw e) (kind-or k 40 (λ e. rw e)
-    (kind-or k 41 (λ e. rw e) (kind-or k 42 (λ e. rw e) (kind-or k 43 (λ e. rw e) (λ t. rw (eqb-true k 44 t)))))))))
-
 pub leaf-short : (d : ℕ) (l : List ℕ) → length l < 8 → false ≡ leafAt d (entriesOf l)
 unfolding isLeaf
 leaf-short d l h = rw (entries-none l h) (never (ltb 0 d))

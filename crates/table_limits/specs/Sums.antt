@@ -9,10 +9,6 @@ use Rattle.table_limits.specs.declared.sums.Used.{Used}
 abbrev pub used : ℕ → ℕ → ℕ → ℕ → Used
 used n d c h = record { entries = n; need = d; cells = c; holds = h }
 
--- the kinds that have no operands
-unfoldable pub isLeaf : ℕ → Bool
-isLeaf k = eqb k 10 || (eqb k 14 || (eqb k 20 || (eqb k 25 || (eqb k 40 || (eqb k 41 || (eqb k 42 || (eqb k 43 || eqb k 44)))))))
-
 -- without its operands: "at least 1 … a case needs at least 2"; cells are "variables of all its blocks, one per case"
 unfoldable pub aloneOf : ℕ → Used
 aloneOf k =

@@ -10,6 +10,7 @@ use Rattle.values.specs.Ends.{Refusal, accepted}
 use Rattle.language.specs.Tree.{Tree}
 use Rattle.language.specs.Table.{Entry, readTable}
 use Rattle.language.specs.Limits.{limits}
+use Rattle.table_read.specs.Operands.{isLeaf}
 use Rattle.table_read.specs.Walk.{kindAt, nameAt, sizeAt, sortsOf}
 use Rattle.table_limits.specs.declared.sums.Used.{Used}
 use Rattle.table_limits.specs.declared.Usage.{Usage}
@@ -18,7 +19,7 @@ use Rattle.table_limits.specs.declared.Head.{Head}
 use Rattle.table_limits.specs.declared.Head.the-variants.{Own, Exceeds, Ended}
 use Rattle.table_limits.specs.declared.Limited.{Limited}
 use Rattle.table_limits.specs.declared.Limited.the-variants.{Within, Over}
-use Rattle.table_limits.specs.Sums.{isLeaf, aloneOf, weightOf, headOf, keptOf, joined, keepsAll, overOf, declaredOf, Level}
+use Rattle.table_limits.specs.Sums.{aloneOf, weightOf, headOf, keptOf, joined, keepsAll, overOf, declaredOf, Level}
 
 -- ── entries ──
 abbrev pub onward : Usage → (Used → Usage) → Usage

@@ -42,7 +42,7 @@ fn leaf(part: &[u8], nesting: usize) -> bool
     if part.len() < ENTRY_BYTES {
         return false;
     }
-    sums::is_leaf(table_read::kind_of(part))
+    table_read::kinds::is_leaf(table_read::kind_of(part))
 }
 
 fn leaf_usage(part: &[u8]) -> Usage

@@ -3,7 +3,7 @@ use formats::entries::*;
 use formats::limits::*;
 ghost use mathlib.Core.Path.{_≡_};
 ghost use Prim.Native.Nat.{_+_, _^_, _<_, max};
-ghost use Rattle.table_limits.specs.Sums.{used, isLeaf, aloneOf, weightOf, headOf, keptOf, joined, Small, keepsAll, overOf, declaredOf};
+ghost use Rattle.table_limits.specs.Sums.{used, aloneOf, weightOf, headOf, keptOf, joined, Small, keepsAll, overOf, declaredOf};
 
 pub struct Used {
     pub entries: usize,
@@ -26,24 +26,6 @@ fn one(need: usize, cells: usize, holds: usize) -> Used
         need,
         cells,
         holds,
-    }
-}
-
-// The kinds that have no operands.
-pub fn is_leaf(kind: u16) -> bool
-    ensures { λ r. ⌜ r ≡ isLeaf kind ⌝ }
-{
-    match kind {
-        KIND_DECLARE => true,
-        KIND_HOLD => true,
-        KIND_LABEL => true,
-        KIND_GOTO => true,
-        KIND_INTEGER => true,
-        KIND_LOGICAL => true,
-        KIND_BITS => true,
-        KIND_NULL => true,
-        KIND_VARIABLE => true,
-        _ => false,
     }
 }
 

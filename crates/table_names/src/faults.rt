@@ -174,7 +174,8 @@ fn root(table: &[u8], sizes: &[u16], env: &mut [u32]) -> Verdict
     let count = table_entries::a_at(table, 0) as usize;
     let rest = table_entries::b_at(table, 0) as usize;
     let after = 1 + table_scopes::spanned(table, sizes, 1, count);
-    let top = table_scopes::enter_root(table, count, after, rest, sizes, env);
+    let opened = table_scopes::open_root(table, count, after, rest, sizes, env);
+    let top = opened.top;
     match globals(table, count, sizes, env, top) {
         Verdict::Fine(_) => {
             let from = ENTRY_BYTES * after;
@@ -187,6 +188,7 @@ fn root(table: &[u8], sizes: &[u16], env: &mut [u32]) -> Verdict
                 sizes,
                 env,
                 top,
+                opened.once,
             )
         }
         Verdict::Refused(n, p) => Verdict::Refused(n, p),
@@ -208,9 +210,19 @@ pub fn first_fault(table: &[u8]) -> Faulted
     ensures { λ r. ⌜ GivesFirst (now (table .entry)) r ⌝ }
 {
     let bytes = table.len();
+    if bytes <= 128 {
+        let mut sizes = [0u16; 16];
+        let mut env = [0u32; 128];
+        return fault_in(table, &mut sizes, &mut env);
+    }
     if bytes <= 512 {
         let mut sizes = [0u16; 64];
         let mut env = [0u32; 512];
+        return fault_in(table, &mut sizes, &mut env);
+    }
+    if bytes <= 2048 {
+        let mut sizes = [0u16; 256];
+        let mut env = [0u32; 2048];
         return fault_in(table, &mut sizes, &mut env);
     }
     if bytes <= 4096 {

@@ -3,7 +3,11 @@
 use formats::entries::*;
 use table_scopes::Verdict;
 ghost use mathlib.Core.Path.{_≡_};
+ghost use mathlib.Core.Bool.{_&&_};
 ghost use Prim.Native.Nat.{_+_, _*_};
+ghost use lib.Dec.{eqb};
+ghost use Rattle.table_scopes.specs.Environment.{envOf};
+ghost use Rattle.table_scopes.specs.Spared.{Spared};
 ghost use Rattle.table_forms.specs.Forms.{ExprForm, StmtForm, SimpleForm, GuardForm, BlockForm, BodyForm};
 ghost use Rattle.table_forms.specs.Block.{AsksContents, AnswersContents};
 ghost use Rattle.table_forms.specs.Walk.{Asks, Answers, Typed, AsksEs, AnswersEs, Alike, AsksItems, AnswersItems, operandsBy, isPlain, guardedBy, testedBy};
@@ -205,6 +209,7 @@ fn guarded(
                 sizes,
                 env,
                 top,
+                false,
             ) {
                 Verdict::Fine(_) => tested(kind, t, at),
                 Verdict::Refused(k, p) => Verdict::Refused(k, p),
@@ -214,7 +219,7 @@ fn guarded(
     }
 }
 
-// Labels and statements one after the other.
+// Labels and statements one after the other; `once` says that no label among them has a name that its block has already.
 pub fn items(
     table: &[u8],
     part: &[u8],
@@ -224,15 +229,16 @@ pub fn items(
     sizes: &[u16],
     env: &mut [u32],
     top: usize,
+    once: bool,
 ) -> Verdict
-    requires { ⌜ AsksItems (now table) (now part) count nesting at (now sizes) (now env) top ⌝ }
+    requires { ⌜ AsksItems (now table) (now part) count nesting at (now sizes) (now env) top × Spared «once» (now table) (envOf (now env) top) at count ⌝ }
     ensures { λ r. ⌜ AnswersItems (now (table .entry)) (now (part .entry)) count nesting at (now (sizes .entry)) (now (env .entry)) (now (env .exit)) top r ⌝ }
 {
     let mut rest = part;
     let mut place = at;
     let mut left = count;
     while 0 < left {
-        match item(table, rest, nesting, place, sizes, env, top) {
+        match item(table, rest, nesting, place, sizes, env, top, once) {
             Verdict::Fine(_) => {
                 let n = table_scopes::size_at(sizes, place);
                 let from = ENTRY_BYTES * n;
@@ -248,6 +254,13 @@ pub fn items(
     Verdict::Fine(0)
 }
 
+// Whether the entry is a label that needs no look at the names in sight.
+fn is_spared(once: bool, kind: u16) -> bool
+    ensures { λ r. ⌜ r ≡ («once» && eqb kind 20) ⌝ }
+{
+    if once { kind == KIND_LABEL } else { false }
+}
+
 // One of them. Most are plain: such a one is not handed on twice.
 fn item(
     table: &[u8],
@@ -257,12 +270,17 @@ fn item(
     sizes: &[u16],
     env: &mut [u32],
     top: usize,
+    once: bool,
 ) -> Verdict
-    requires { ⌜ Asks StmtForm (now table) (now part) nesting at (now sizes) (now env) top ⌝ }
+    requires { ⌜ Asks StmtForm (now table) (now part) nesting at (now sizes) (now env) top × Spared «once» (now table) (envOf (now env) top) at 1 ⌝ }
     ensures { λ r. ⌜ Answers StmtForm (now (table .entry)) (now (part .entry)) nesting at (now (sizes .entry)) (now (env .entry)) (now (env .exit)) top r ⌝ }
 {
-    if is_plain(table_entries::kind_at(part, 0)) {
-        simple(table, part, nesting, at, sizes, env, top)
+    let kind = table_entries::kind_at(part, 0);
+    if is_plain(kind) {
+        return simple(table, part, nesting, at, sizes, env, top);
+    }
+    if is_spared(once, kind) {
+        Verdict::Fine(0)
     } else {
         statement(table, part, nesting, at, sizes, env, top)
     }
@@ -279,8 +297,10 @@ fn contents(
     sizes: &[u16],
     env: &mut [u32],
     top: usize,
+    once: bool,
 ) -> Verdict
-    requires { ⌜ AsksContents (now table) (now part) heads count nesting at (now sizes) (now env) top ⌝ }
+    requires { ⌜ AsksContents (now table) (now part) heads count nesting at (now sizes) (now env) top
+        × Spared «once» (now table) (envOf (now env) top) (at + 1 + heads) count ⌝ }
     ensures { λ r. ⌜ AnswersContents (now (table .entry)) (now (part .entry)) heads count nesting at (now (sizes .entry)) (now (env .entry)) (now (env .exit)) top r ⌝ }
 {
     match table_scopes::head(table, at + 1, heads, env, top) {
@@ -295,6 +315,7 @@ fn contents(
                 sizes,
                 env,
                 top,
+                once,
             )
         }
         Verdict::Refused(k, p) => Verdict::Refused(k, p),
@@ -316,8 +337,19 @@ fn block(
 {
     let heads = table_entries::a_at(part, 0) as usize;
     let count = table_entries::b_at(part, 0) as usize;
-    let up = table_scopes::enter(table, at + 1, heads, count, 65536, sizes, env, top);
-    contents(table, part, heads, count, nesting - 1, at, sizes, env, up)
+    let opened = table_scopes::open(table, at + 1, heads, count, 65536, sizes, env, top);
+    contents(
+        table,
+        part,
+        heads,
+        count,
+        nesting - 1,
+        at,
+        sizes,
+        env,
+        opened.top,
+        opened.once,
+    )
 }
 
 // A block expression: the same behind a wall, which no goto passes, and then its expression.
@@ -335,8 +367,20 @@ fn body(
 {
     let heads = table_entries::a_at(part, 0) as usize;
     let count = table_entries::b_at(part, 0) as usize;
-    let up = table_scopes::enter(table, at + 1, heads, count, 65537, sizes, env, top);
-    match contents(table, part, heads, count, nesting - 1, at, sizes, env, up) {
+    let opened = table_scopes::open(table, at + 1, heads, count, 65537, sizes, env, top);
+    let up = opened.top;
+    match contents(
+        table,
+        part,
+        heads,
+        count,
+        nesting - 1,
+        at,
+        sizes,
+        env,
+        up,
+        opened.once,
+    ) {
         Verdict::Fine(_) => {
             let n = table_scopes::spanned(table, sizes, at + 1 + heads, count);
             let after = ENTRY_BYTES * (1 + heads + n);

@@ -1,19 +1,16 @@
 -- Laws of the operand table: what stands at a place of it. Assumes nothing.
 use mathlib.Core.Path.{_≡_, refl, ap, sym, _∙_}
-use mathlib.Core.Bool.{Bool, true, false}
+use mathlib.Core.Bool.{Bool, true, false, _||_}
 use mathlib.Core.List.{List, [], _∷_, _++_}
 use Prim.Native.Nat.{ℕ, zero, suc, _+_, _-_, _≤_, _<_}
 use native.Mathlib.Omega.{arith}
-use native.Mathlib.Nat.{add-assoc}
-use native.Mathlib.Numerals.{add-one}
 use lib.Dec.{eqb}
 use lib.ListN.{length, getD, replicate, getD-replicate, length-append, length-replicate}
-use borrow.Author.Tests.{ne-eqb}
+use borrow.Author.Tests.{ne-eqb, eqb-true}
 use Rattle.logic.specs.Choice.{if_then_else_}
 use Rattle.table_read.specs.declared.kinds.Sort.{Sort}
 use Rattle.table_read.specs.declared.kinds.Sort.the-variants.{Stmt, Target, Expr}
-use Rattle.table_entries.specs.Arity.{parts}
-use Rattle.table_read.specs.Operands.{sorts}
+use Rattle.table_read.specs.Operands.{isLeaf, sorts}
 
 -- a run of one sort, and what follows it
 module _ {A : Type 0} (x d : A) (ys : List A) where
@@ -84,11 +81,17 @@ others k a n i p1 p11 p12 p21 p22 p23 p24 p30 p53 =
     (chosen (eqb k 50) (Expr ∷ Expr ∷ Expr ∷ []) _ i (exprs 3 i)
     (chosen (eqb k 51) (Expr ∷ []) [] i (exprs 1 i) refl))))))))))
 
-length-if : (b : Bool) (xs ys : List Sort) → length (if b then xs else ys) ≡ (if b then length xs else length ys)
-length-if true xs ys = refl
-length-if false xs ys = refl
+-- a kind is one of a few
+pub kind-or : {A : Type 0} (k j : ℕ) {b : Bool} → (k ≡ j → A) → (b ≡ true → A) → (eqb k j || b) ≡ true → A
+kind-or {A} k j {b} f g = go (eqb k j) (λ t. f (eqb-true k j t))
+  where
+    go : (a : Bool) → (a ≡ true → A) → (a || b) ≡ true → A
+    go true h t = h refl
+    go false h t = g t
 
--- as many operands as there are parts below an entry
-pub sorts-length : (k a n : ℕ) → length (sorts k a n) ≡ parts k a n
-unfolding sorts parts
-sorts-length k a n = simp (length-if, length-append, length-replicate) (rw (← add-one a, ← add-assoc a n 1))
+-- those with no operands
+pub leaf-sorts : (k a n : ℕ) → isLeaf k ≡ true → sorts k a n ≡ []
+unfolding isLeaf sorts
+leaf-sorts k a n =
+    kind-or k 10 (λ e. rw e) (kind-or k 14 (λ e. rw e) (kind-or k 20 (λ e. rw e) (kind-or k 25 (λ e. rw e) (kind-or k 40 (λ e. rw e)
+    (kind-or k 41 (λ e. rw e) (kind-or k 42 (λ e. rw e) (kind-or k 43 (λ e. rw e) (λ t. rw (eqb-true k 44 t)))))))))

@@ -18,6 +18,10 @@ isE k =
     eqb k 40 || (eqb k 41 || (eqb k 42 || (eqb k 43 || (eqb k 44 || (eqb k 45
     || (eqb k 46 || (eqb k 47 || (eqb k 48 || (eqb k 49 || (eqb k 50 || (eqb k 51 || eqb k 53)))))))))))
 
+-- the kinds that have no operands
+unfoldable pub isLeaf : ℕ → Bool
+isLeaf k = eqb k 10 || (eqb k 14 || (eqb k 20 || (eqb k 25 || (eqb k 40 || (eqb k 41 || (eqb k 42 || (eqb k 43 || eqb k 44)))))))
+
 -- "its body: S when result is 0, E when result is 1, 2 or 3"
 abbrev pub bodySort : ℕ → Sort
 bodySort r = if eqb r 0 then Stmt else Expr

@@ -2,7 +2,7 @@
 use mathlib.Core.Bool.{Bool, false, _&&_, _||_}
 use mathlib.Core.List.{List, [], _∷_}
 use Prim.Native.Nat.{ℕ, zero, suc, _+_}
-use lib.Dec.{eqb, leb, ltb}
+use lib.Dec.{eqb, ltb}
 use lib.IntN.{natAbs}
 use lib.ListN.{drop, replicate}
 use Rattle.logic.specs.Choice.{if_then_else_}
@@ -39,10 +39,6 @@ abbrev pub onward : Read → (ℕ → Read) → Read
 onward (Tree n) g = moved n (g n)
 onward (Fault p) g = Fault p
 
--- an entry with no operands, where one may stand
-abbrev pub leafOf : Bool → Read
-leafOf b = if b then Tree 1 else Fault 0
-
 -- operands, one after the other
 unfoldable pub chain : (Sort → List Entry → Read) → List Sort → List Entry → Read
 chain w [] es = Tree 0
@@ -60,10 +56,6 @@ laidAt (e ∷ es) = inLayout e
 abbrev pub standsAt : ℕ → List Entry → Bool
 standsAt k es = eqb (kindAt es) k && laidAt es
 
--- an expression with no operands
-abbrev pub atomAt : List Entry → Bool
-atomAt es = (leb 40 (kindAt es) && leb (kindAt es) 44) && laidAt es
-
 abbrev pub sortsOf : Entry → List Sort
 sortsOf e = sorts (e .kind) (e .a) (natAbs (e .b))
 
@@ -80,9 +72,17 @@ admits Stmt k = isS k
 admits Target k = eqb k 44 || eqb k 46
 admits Expr k = isE k
 
--- an entry of a kind that is admitted, and then its operands, each read by w
+-- an entry and its operands, each read by w
+abbrev pub under : (Sort → List Entry → Read) → List Entry → Read
+under w es = moved 1 (chain w (sortsAt es) (drop 1 es))
+
+-- the same where the entry is laid out and of a kind that is admitted
 unfoldable pub entered : (Sort → List Entry → Read) → (ℕ → Bool) → List Entry → Read
-entered w p es = if laidAt es && p (kindAt es) then moved 1 (chain w (sortsAt es) (drop 1 es)) else Fault 0
+entered w p es = if laidAt es && p (kindAt es) then under w es else Fault 0
+
+-- whether an operand of a sort stands here, where so much nesting is left
+abbrev pub admittedAt : ℕ → Sort → List Entry → Bool
+admittedAt d s es = ltb 0 d && (laidAt es && admits s (kindAt es))
 
 unfoldable pub walk : ℕ → Sort → List Entry → Read
 walk zero s es = Fault 0

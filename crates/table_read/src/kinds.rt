@@ -1,11 +1,13 @@
 // Which kinds are statements and which are expressions, and the operands of each.
 use formats::entries::*;
 ghost use mathlib.Core.Path.{_≡_};
+ghost use mathlib.Core.Bool.{_||_};
 ghost use Prim.Native.Nat.{_<_};
 ghost use lib.Dec.{eqb};
 ghost use lib.ListN.{length, getD};
 ghost use Rattle.logic.specs.Choice.{if_then_else_};
-ghost use Rattle.table_read.specs.Operands.{isS, isE, sorts};
+ghost use Rattle.table_read.specs.Operands.{isS, isE, isLeaf, sorts};
+ghost use Rattle.table_read.specs.Walk.{admits as admittedBy};
 
 // What an operand is read as.
 pub enum Sort {
@@ -56,11 +58,72 @@ pub fn is_expression(kind: u16) -> bool
     }
 }
 
-// How many operands an entry has; n is how far its b is from 0.
+// A function, not `||`, so that a sort's rule is one equation where the arms of the match meet.
+fn either(p: bool, q: bool) -> bool
+    ensures { λ r. ⌜ r ≡ (p || q) ⌝ }
+{
+    if p { true } else { q }
+}
+
+// Which kinds can stand as an operand.
+pub fn admits(sort: Sort, kind: u16) -> bool
+    ensures { λ r. ⌜ r ≡ admittedBy sort kind ⌝ }
+{
+    match sort {
+        Sort::Typed => kind == KIND_DECLARE,
+        Sort::Decl => either(kind == KIND_DECLARE, kind == KIND_HOLD),
+        Sort::Part => either(kind == KIND_LABEL, is_statement(kind)),
+        Sort::Stmt => is_statement(kind),
+        Sort::Target => either(kind == KIND_VARIABLE, kind == KIND_FIELD),
+        Sort::Expr => is_expression(kind),
+    }
+}
+
+// The kinds that have no operands.
+pub fn is_leaf(kind: u16) -> bool
+    ensures { λ r. ⌜ r ≡ isLeaf kind ⌝ }
+{
+    match kind {
+        KIND_DECLARE => true,
+        KIND_HOLD => true,
+        KIND_LABEL => true,
+        KIND_GOTO => true,
+        KIND_INTEGER => true,
+        KIND_LOGICAL => true,
+        KIND_BITS => true,
+        KIND_NULL => true,
+        KIND_VARIABLE => true,
+        _ => false,
+    }
+}
+
+// How many operands an entry has; n is how far its b is from 0. It is what `table_entries::arity` says, but that is called at every entry that is
+// measured and is only quick where it has no second caller.
 pub fn count(kind: u16, a: u16, n: u32) -> usize
     ensures { λ r. ⌜ r ≡ length (sorts kind a n) ⌝ }
 {
-    table_entries::arity(kind, a, n)
+    match kind {
+        KIND_BLOCK => a as usize + n as usize,
+        KIND_CLASS => n as usize,
+        KIND_PROCEDURE => n as usize / 256 + 1,
+        KIND_ASSIGN => 2,
+        KIND_IF => 2,
+        KIND_IF_ELSE => 3,
+        KIND_WHILE => 2,
+        KIND_ASSERT => 1,
+        KIND_CALL => n as usize,
+        KIND_SET => 2,
+        KIND_CASE => a as usize + 1,
+        KIND_FUNCTION => n as usize,
+        KIND_FIELD => 1,
+        KIND_RECORD => n as usize,
+        KIND_UNARY => 1,
+        KIND_BINARY => 2,
+        KIND_IF_EXPRESSION => 3,
+        KIND_FADER => 1,
+        KIND_BLOCK_EXPRESSION => a as usize + n as usize + 1,
+        _ => 0,
+    }
 }
 
 // An expression, and then statements.

@@ -2,10 +2,12 @@
 use formats::entries::*;
 ghost use mathlib.Core.Path.{_≡_};
 ghost use mathlib.Core.Bool.{_&&_};
+ghost use mathlib.Core.Bool.{true};
 ghost use lib.IntN.{natAbs};
 ghost use Rattle.logic.specs.Options.{isSome};
 ghost use Rattle.values.specs.Operators.{unaryOf, binaryOf};
 ghost use Rattle.language.specs.Table.{natural as isNatural, entry, inLayout, tyOfCode, isHeading};
+ghost use Rattle.table_read.specs.Operands.{isLeaf};
 
 // How far a signed field is from 0. A cast of a negative number is not defined, so it goes by way of 64 bits.
 pub fn magnitude(b: i32) -> u32
@@ -101,4 +103,27 @@ pub fn in_layout(kind: u16, a: u16, b: i32) -> bool
         KIND_BLOCK_EXPRESSION => whole,
         _ => false,
     }
+}
+
+// The same for an entry with no operands, by few tests.
+pub fn leaf_layout(kind: u16, a: u16, b: i32) -> bool
+    requires { ⌜ isLeaf kind ≡ true ⌝ }
+    ensures { λ r. ⌜ r ≡ inLayout (entry kind a b) ⌝ }
+{
+    if kind == KIND_DECLARE {
+        return both(natural(b), is_type(magnitude(b)));
+    }
+    if kind == KIND_HOLD {
+        return both(a <= 63, magnitude(b) == 0);
+    }
+    if kind == KIND_LOGICAL {
+        return both(a == 0, both(natural(b), magnitude(b) <= 1));
+    }
+    if kind == KIND_INTEGER {
+        return a == 0;
+    }
+    if kind == KIND_BITS {
+        return a == 0;
+    }
+    magnitude(b) == 0
 }

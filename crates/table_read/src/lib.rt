@@ -7,13 +7,12 @@ use formats::entries::*;
 use formats::limits::*;
 use kinds::Sort;
 ghost use mathlib.Core.Path.{_≡_};
-ghost use mathlib.Core.Bool.{_||_};
 ghost use Prim.Native.Nat.{_+_, _*_, _^_, _≤_, _<_};
 ghost use lib.ListN.{length};
 ghost use Rattle.language.specs.Table.{readTable};
 ghost use Rattle.language_laws.specs.Claims.{entriesOf};
 ghost use Rattle.table_read.specs.Operands.{sorts};
-ghost use Rattle.table_read.specs.Walk.{readingOf, leafOf, counted, moved, chain, laidAt, standsAt, atomAt, kindAt, nameAt, sizeAt, walk, entered, isGlobal};
+ghost use Rattle.table_read.specs.Walk.{readingOf, counted, moved, chain, laidAt, standsAt, admittedAt, kindAt, nameAt, sizeAt, walk, under, entered, isGlobal};
 ghost use Rattle.table_read.specs.Walk.{tally as tallyOf, walkHead, walkRoot};
 
 pub enum Read {
@@ -52,16 +51,6 @@ pub fn size_of(part: &[u8]) -> u32
     layout::magnitude(table_entries::signed_b_at(part, 0))
 }
 
-// The kind of the entry there, and 0, which is no kind, where none stands.
-fn kind_here(part: &[u8]) -> u16
-    ensures { λ r. ⌜ r ≡ kindAt (entriesOf (now (part .entry))) ⌝ }
-{
-    if part.len() < ENTRY_BYTES {
-        return 0;
-    }
-    kind_of(part)
-}
-
 // Whether an entry stands there and keeps to the layout.
 fn laid(part: &[u8]) -> bool
     ensures { λ r. ⌜ r ≡ laidAt (entriesOf (now (part .entry))) ⌝ }
@@ -88,48 +77,6 @@ fn stands(part: &[u8], kind: u16) -> bool
     laid(part)
 }
 
-fn either(part: &[u8], one: u16, other: u16) -> bool
-    ensures { λ r. ⌜ r ≡ (standsAt one (entriesOf (now (part .entry))) || standsAt other (entriesOf (now (part .entry)))) ⌝ }
-{
-    if stands(part, one) {
-        return true;
-    }
-    stands(part, other)
-}
-
-// Whether an expression with no operands stands there. Most operands are such, and nothing is read below them. The kind is tested first,
-// so that the layout of few kinds is left to look at.
-fn atom(part: &[u8]) -> bool
-    ensures { λ r. ⌜ r ≡ atomAt (entriesOf (now (part .entry))) ⌝ }
-{
-    if part.len() < ENTRY_BYTES {
-        return false;
-    }
-    let kind = kind_of(part);
-    if kind < KIND_INTEGER {
-        return false;
-    }
-    if KIND_VARIABLE < kind {
-        return false;
-    }
-    layout::in_layout(
-        kind,
-        table_entries::a_at(part, 0),
-        table_entries::signed_b_at(part, 0),
-    )
-}
-
-// An entry with no operands.
-fn leaf(stands_here: bool) -> Read
-    ensures { λ r. ⌜ r ≡ leafOf «stands_here» ⌝ }
-{
-    if stands_here {
-        Read::Tree(1)
-    } else {
-        Read::Fault(0)
-    }
-}
-
 // The answer, counted from so many entries earlier.
 fn later(by: usize, r: Read) -> Read
     requires { ⌜ (by < 2 ^ 62) × (counted r < 2 ^ 62) ⌝ }
@@ -142,31 +89,27 @@ fn later(by: usize, r: Read) -> Read
 }
 
 // ── statements and expressions ──
-fn operand(part: &[u8], sort: Sort, nesting: usize) -> Read
-    ensures { λ r. ⌜ r ≡ walk nesting sort (entriesOf (now (part .entry))) ⌝ }
+// Whether an operand of this sort stands there, not too deep; nothing is read below it. The layout of an entry with no operands is told by few
+// tests, and most entries are such.
+fn admitted(part: &[u8], sort: Sort, nesting: usize) -> bool
+    ensures { λ r. ⌜ r ≡ admittedAt nesting sort (entriesOf (now (part .entry))) ⌝ }
 {
     if nesting == 0 {
-        return Read::Fault(0);
+        return false;
     }
-    match sort {
-        Sort::Typed => leaf(stands(part, KIND_DECLARE)),
-        Sort::Decl => leaf(either(part, KIND_DECLARE, KIND_HOLD)),
-        Sort::Part => if stands(part, KIND_LABEL) {
-            Read::Tree(1)
-        } else {
-            read_entry(part, kinds::is_statement(kind_here(part)), nesting - 1)
-        },
-        Sort::Stmt => read_entry(part, kinds::is_statement(kind_here(part)), nesting - 1),
-        Sort::Target => if stands(part, KIND_VARIABLE) {
-            Read::Tree(1)
-        } else {
-            read_entry(part, stands(part, KIND_FIELD), nesting - 1)
-        },
-        Sort::Expr => if atom(part) {
-            Read::Tree(1)
-        } else {
-            read_entry(part, kinds::is_expression(kind_here(part)), nesting - 1)
-        },
+    if part.len() < ENTRY_BYTES {
+        return false;
+    }
+    let kind = kind_of(part);
+    if !kinds::admits(sort, kind) {
+        return false;
+    }
+    let a = table_entries::a_at(part, 0);
+    let b = table_entries::signed_b_at(part, 0);
+    if kinds::is_leaf(kind) {
+        layout::leaf_layout(kind, a, b)
+    } else {
+        layout::in_layout(kind, a, b)
     }
 }
 
@@ -179,7 +122,10 @@ fn operands(part: &[u8], kind: u16, a: u16, n: u32, nesting: usize) -> Read
     let mut passed: usize = 1;
     let mut i: usize = 0;
     while i < all {
-        match operand(rest, kinds::sort_of(kind, a, n, i), nesting) {
+        if !admitted(rest, kinds::sort_of(kind, a, n, i), nesting) {
+            return Read::Fault(passed);
+        }
+        match read_entry(rest, nesting - 1) {
             Read::Tree(k) => {
                 let at = ENTRY_BYTES * k;
                 rest = &rest[at..];
@@ -194,19 +140,18 @@ fn operands(part: &[u8], kind: u16, a: u16, n: u32, nesting: usize) -> Read
     Read::Tree(passed)
 }
 
-// An entry that may stand there by its kind, and its operands, below which so much nesting is left.
-fn read_entry(part: &[u8], admitted: bool, nesting: usize) -> Read
-    ensures { λ r. ⌜ r ≡ entered (walk nesting) (λ _. «admitted») (entriesOf (now (part .entry))) ⌝ }
+// The entry there with all that stands below it; so much nesting is left for its operands. One with no operands is answered without a call.
+fn read_entry(part: &[u8], nesting: usize) -> Read
+    requires { ⌜ 8 ≤ length (now part) ⌝ }
+    ensures { λ r. ⌜ r ≡ under (walk nesting) (entriesOf (now (part .entry))) ⌝ }
 {
-    if !laid(part) {
-        return Read::Fault(0);
-    }
-    if !admitted {
-        return Read::Fault(0);
+    let kind = kind_of(part);
+    if kinds::is_leaf(kind) {
+        return Read::Tree(1);
     }
     operands(
         &part[ENTRY_BYTES..],
-        kind_of(part),
+        kind,
         name_of(part),
         size_of(part),
         nesting,
@@ -230,11 +175,13 @@ fn is_global(kind: u16, classes: usize, procedures: usize) -> bool
 fn read_global(part: &[u8], classes: usize, procedures: usize) -> Read
     ensures { λ r. ⌜ r ≡ entered (walk 62) (isGlobal classes procedures) (entriesOf (now (part .entry))) ⌝ }
 {
-    read_entry(
-        part,
-        is_global(kind_here(part), classes, procedures),
-        BELOW_HEAD,
-    )
+    if !laid(part) {
+        return Read::Fault(0);
+    }
+    if !is_global(kind_of(part), classes, procedures) {
+        return Read::Fault(0);
+    }
+    read_entry(part, BELOW_HEAD)
 }
 
 pub fn tally(kind: u16, of: u16) -> usize

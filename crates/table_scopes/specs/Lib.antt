@@ -7,4 +7,6 @@ pub mod Flaws
 pub mod Trees
 pub mod Sees
 pub mod Once
+pub mod Spared
+pub mod Filter
 pub mod Defines

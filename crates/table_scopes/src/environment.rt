@@ -6,6 +6,7 @@ ghost use Prim.Native.Nat.{_+_, _*_, _≤_};
 ghost use lib.ListN.{length};
 ghost use lib.Seq.{sets};
 ghost use lib.Dec.{eqb};
+ghost use Rattle.table_scopes.specs.Filter.{absentIn, noted, Covers};
 ghost use Rattle.table_scopes.specs.Environment.{item, find, here, adding, envOf, shut, Grown};
 
 pub enum Found {
@@ -81,5 +82,77 @@ pub fn add(env: &mut [u32], top: usize, name: u32, sort: u32, number: u32, place
         return top;
     }
     push(env, top, name, sort, number, place);
+    top + 1
+}
+
+// ── a filter of the innermost block's names ──
+// A name has the slot of its remainder by 2,048; where that holds 0, the block has no such name. A filter of another length says nothing.
+const SLOTS: usize = 2048;
+
+fn absent(seen: &[u8], name: u32) -> bool
+    ensures { λ r. ⌜ r ≡ absentIn (now (seen .entry)) name ⌝ }
+{
+    if seen.len() != SLOTS {
+        return false;
+    }
+    let slot = name as usize % SLOTS;
+    seen[slot] == 0
+}
+
+fn note(seen: &mut [u8], name: u32)
+    ensures { λ _. ⌜ now (seen .exit) ≡ noted (now (seen .entry)) name ⌝ }
+{
+    if seen.len() == SLOTS {
+        let slot = name as usize % SLOTS;
+        seen[slot] = 1;
+    }
+}
+
+// The names that the innermost block has.
+pub fn note_block(env: &[u32], top: usize, seen: &mut [u8])
+    requires { ⌜ 4 * top ≤ length (now env) ⌝ }
+    ensures { λ _. ⌜ Covers (now (seen .exit)) (envOf (now (env .entry)) top) × (length (now (seen .exit)) ≡ length (now (seen .entry))) ⌝ }
+{
+    let mut i = top;
+    while 0 < i {
+        i -= 1;
+        let n = env[4 * i];
+        if 65535 < n {
+            return;
+        }
+        note(seen, n);
+    }
+}
+
+// Whether the innermost block defines the name: mostly the filter says no.
+fn here_by(seen: &[u8], env: &[u32], top: usize, name: u32) -> bool
+    requires { ⌜ (4 * top ≤ length (now env)) × Covers (now seen) (envOf (now env) top) ⌝ }
+    ensures { λ r. ⌜ r ≡ here name (envOf (now (env .entry)) top) ⌝ }
+{
+    if absent(seen, name) {
+        return false;
+    }
+    here(env, top, name)
+}
+
+// One definition more, as `add` does it.
+pub fn add_by(
+    seen: &mut [u8],
+    env: &mut [u32],
+    top: usize,
+    name: u32,
+    sort: u32,
+    number: u32,
+    place: u32,
+) -> usize
+    requires { ⌜ (4 * (top + 1) ≤ length (now env)) × Covers (now seen) (envOf (now env) top) ⌝ }
+    ensures { λ r. ⌜ Grown top (now (env .entry)) (now (env .exit)) r (adding (item name sort number place) (envOf (now (env .entry)) top)) 1
+        × Covers (now (seen .exit)) (envOf (now (env .exit)) r) ⌝ }
+{
+    if here_by(seen, env, top, name) {
+        return top;
+    }
+    push(env, top, name, sort, number, place);
+    note(seen, name);
     top + 1
 }

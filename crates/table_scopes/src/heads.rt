@@ -4,12 +4,18 @@ use crate::environment;
 use crate::environment::Found;
 use crate::spans;
 use formats::entries::*;
+ghost use mathlib.Core.Path.{_≡_};
+ghost use mathlib.Core.Bool.{_&&_};
 ghost use mathlib.Core.List.{_∷_, _++_};
 ghost use Prim.Native.Nat.{_+_, _*_, _≤_, _<_};
 ghost use lib.ListN.{length};
+ghost use lib.Dec.{eqb, ltb};
+ghost use Rattle.logic.specs.Choice.{if_then_else_};
 ghost use Rattle.table_scopes.specs.Environment.{item, addAll, envOf, Grown};
 ghost use Rattle.table_scopes.specs.Sizes.{Known};
 ghost use Rattle.table_scopes.specs.Items.{oneAt, itemsAt, labelsFrom, Reach, globalAt, globalsFrom, WithinGlobal, ReachGlobals, blockItems, rootItems, aAt, bAt};
+ghost use Rattle.table_scopes.specs.Filter.{Covers};
+ghost use Rattle.table_scopes.specs.Spared.{Spared};
 ghost use Rattle.table_scopes.specs.Flaws.{Says, onceFlaw, classFlaw, declFlaws, headFlaws};
 
 pub enum Verdict {
@@ -17,6 +23,12 @@ pub enum Verdict {
     Fine(u32),
     // a number and a place
     Refused(u8, usize),
+}
+
+// The names in sight after a block's labels were pushed, and whether none of them is a name that the block had before.
+pub struct Labelled {
+    pub top: usize,
+    pub once: bool,
 }
 
 // The name that the entry at a place defines, where it is of this kind.
@@ -63,6 +75,19 @@ pub fn add_head(
     up
 }
 
+// Fewer items than these are searched sooner than a filter is cleared.
+const FEW: usize = 64;
+
+// Whether a label was pushed, where one stands, and all those before it were.
+fn all_pushed(before: bool, kind: u16, top: usize, up: usize) -> bool
+    ensures { λ r. ⌜ r ≡ (if eqb kind 20 then «before» && ltb top up else «before») ⌝ }
+{
+    if kind != KIND_LABEL {
+        return before;
+    }
+    if before { top < up } else { false }
+}
+
 // The labels among the items of a block.
 fn add_labels(
     table: &[u8],
@@ -71,20 +96,93 @@ fn add_labels(
     sizes: &[u16],
     env: &mut [u32],
     top: usize,
-) -> usize
+) -> Labelled
     requires { ⌜ Known (now table) (now sizes) 0 × Reach (now table) at count × (length (now table) ≤ 16384) × (4 * (top + length (labelsFrom (now table) at count)) ≤ length (now env)) ⌝ }
-    ensures { λ r. ⌜ Grown top (now (env .entry)) (now (env .exit)) r (addAll (labelsFrom (now (table .entry)) at count) (envOf (now (env .entry)) top))
-        (length (labelsFrom (now (table .entry)) at count)) ⌝ }
+    ensures { λ r. ⌜ Grown top (now (env .entry)) (now (env .exit)) (r .top) (addAll (labelsFrom (now (table .entry)) at count) (envOf (now (env .entry)) top))
+        (length (labelsFrom (now (table .entry)) at count)) × Spared (r .once) (now (table .entry)) (envOf (now (env .exit)) (r .top)) at count ⌝ }
 {
     let mut place = at;
     let mut up = top;
+    let mut once = true;
     let mut left = count;
     while 0 < left {
-        up = add_one(table, place, KIND_LABEL, 5, env, up);
+        let more = add_one(table, place, KIND_LABEL, 5, env, up);
+        once = all_pushed(once, table_entries::kind_at(table, place), up, more);
+        up = more;
         place += spans::size_at(sizes, place);
         left -= 1;
     }
-    up
+    Labelled { top: up, once }
+}
+
+// The name that a label defines, where one stands.
+fn add_label(table: &[u8], place: usize, env: &mut [u32], top: usize, seen: &mut [u8]) -> usize
+    requires { ⌜ (8 * (place + 1) ≤ length (now table)) × (length (now table) ≤ 16384) × (4 * (top + length (oneAt 20 5 (now table) place)) ≤ length (now env))
+        × Covers (now seen) (envOf (now env) top) ⌝ }
+    ensures { λ r. ⌜ Grown top (now (env .entry)) (now (env .exit)) r
+        (addAll (oneAt 20 5 (now (table .entry)) place) (envOf (now (env .entry)) top)) (length (oneAt 20 5 (now (table .entry)) place))
+        × Covers (now (seen .exit)) (envOf (now (env .exit)) r) ⌝ }
+{
+    if table_entries::kind_at(table, place) == KIND_LABEL {
+        environment::add_by(
+            seen,
+            env,
+            top,
+            table_entries::a_at(table, place) as u32,
+            5,
+            table_entries::b_at(table, place),
+            place as u32,
+        )
+    } else {
+        top
+    }
+}
+
+// The labels among the items of a block, with a filter of the names that it has.
+fn add_each(
+    table: &[u8],
+    at: usize,
+    count: usize,
+    sizes: &[u16],
+    env: &mut [u32],
+    top: usize,
+    seen: &mut [u8],
+) -> Labelled
+    requires { ⌜ Known (now table) (now sizes) 0 × Reach (now table) at count × (length (now table) ≤ 16384) × (4 * (top + length (labelsFrom (now table) at count)) ≤ length (now env))
+        × Covers (now seen) (envOf (now env) top) ⌝ }
+    ensures { λ r. ⌜ Grown top (now (env .entry)) (now (env .exit)) (r .top) (addAll (labelsFrom (now (table .entry)) at count) (envOf (now (env .entry)) top))
+        (length (labelsFrom (now (table .entry)) at count)) × Spared (r .once) (now (table .entry)) (envOf (now (env .exit)) (r .top)) at count ⌝ }
+{
+    let mut place = at;
+    let mut up = top;
+    let mut once = true;
+    let mut left = count;
+    while 0 < left {
+        let more = add_label(table, place, env, up, seen);
+        once = all_pushed(once, table_entries::kind_at(table, place), up, more);
+        up = more;
+        place += spans::size_at(sizes, place);
+        left -= 1;
+    }
+    Labelled { top: up, once }
+}
+
+// The same where there are many items: most names are told by a filter to be new, and need not be searched for.
+fn add_many(
+    table: &[u8],
+    at: usize,
+    count: usize,
+    sizes: &[u16],
+    env: &mut [u32],
+    top: usize,
+) -> Labelled
+    requires { ⌜ Known (now table) (now sizes) 0 × Reach (now table) at count × (length (now table) ≤ 16384) × (4 * (top + length (labelsFrom (now table) at count)) ≤ length (now env)) ⌝ }
+    ensures { λ r. ⌜ Grown top (now (env .entry)) (now (env .exit)) (r .top) (addAll (labelsFrom (now (table .entry)) at count) (envOf (now (env .entry)) top))
+        (length (labelsFrom (now (table .entry)) at count)) × Spared (r .once) (now (table .entry)) (envOf (now (env .exit)) (r .top)) at count ⌝ }
+{
+    let mut seen = [0u8; 2048];
+    environment::note_block(env, top, &mut seen);
+    add_each(table, at, count, sizes, env, top, &mut seen)
 }
 
 // A class with its fields, a procedure, or a variable of the root's head.
@@ -138,6 +236,29 @@ fn add_globals(table: &[u8], count: usize, sizes: &[u16], env: &mut [u32], top: 
 }
 
 // The root's names, above nothing: `after` is the place of the first of its items.
+pub fn open_root(
+    table: &[u8],
+    heads: usize,
+    after: usize,
+    items: usize,
+    sizes: &[u16],
+    env: &mut [u32],
+) -> Labelled
+    requires { ⌜ Known (now table) (now sizes) 0 × ReachGlobals (now table) 1 heads × Reach (now table) after items × (length (now table) ≤ 16384)
+        × (4 * (1 + length (rootItems (now table) heads after items)) ≤ length (now env)) ⌝ }
+    ensures { λ r. ⌜ Grown 0 (now (env .entry)) (now (env .exit)) (r .top) (addAll (rootItems (now (table .entry)) heads after items) (item 65536 0 0 0 ∷ envOf (now (env .entry)) 0))
+        (1 + length (rootItems (now (table .entry)) heads after items)) × Spared (r .once) (now (table .entry)) (envOf (now (env .exit)) (r .top)) after items ⌝ }
+{
+    environment::push(env, 0, 65536, 0, 0, 0);
+    let up = add_globals(table, heads, sizes, env, 1);
+    if items < FEW {
+        add_labels(table, after, items, sizes, env, up)
+    } else {
+        add_many(table, after, items, sizes, env, up)
+    }
+}
+
+// The same, for whom it is enough how many names are in sight.
 pub fn enter_root(
     table: &[u8],
     heads: usize,
@@ -151,12 +272,36 @@ pub fn enter_root(
     ensures { λ r. ⌜ Grown 0 (now (env .entry)) (now (env .exit)) r (addAll (rootItems (now (table .entry)) heads after items) (item 65536 0 0 0 ∷ envOf (now (env .entry)) 0))
         (1 + length (rootItems (now (table .entry)) heads after items)) ⌝ }
 {
-    environment::push(env, 0, 65536, 0, 0, 0);
-    let up = add_globals(table, heads, sizes, env, 1);
-    add_labels(table, after, items, sizes, env, up)
+    open_root(table, heads, after, items, sizes, env).top
 }
 
 // A block or a block expression, by the mark given.
+pub fn open(
+    table: &[u8],
+    at: usize,
+    heads: usize,
+    items: usize,
+    mark: u32,
+    sizes: &[u16],
+    env: &mut [u32],
+    top: usize,
+) -> Labelled
+    requires { ⌜ Known (now table) (now sizes) 0 × (8 * (at + heads) ≤ length (now table)) × Reach (now table) (at + heads) items × (length (now table) ≤ 16384)
+        × (4 * (top + (1 + length (blockItems (now table) at heads items))) ≤ length (now env)) ⌝ }
+    ensures { λ r. ⌜ Grown top (now (env .entry)) (now (env .exit)) (r .top)
+        (addAll (blockItems (now (table .entry)) at heads items) (item mark 0 0 0 ∷ envOf (now (env .entry)) top))
+        (1 + length (blockItems (now (table .entry)) at heads items)) × Spared (r .once) (now (table .entry)) (envOf (now (env .exit)) (r .top)) (at + heads) items ⌝ }
+{
+    environment::push(env, top, mark, 0, 0, 0);
+    let up = add_head(table, at, heads, 4, env, top + 1);
+    if items < FEW {
+        add_labels(table, at + heads, items, sizes, env, up)
+    } else {
+        add_many(table, at + heads, items, sizes, env, up)
+    }
+}
+
+// The same, for whom it is enough how many names are in sight.
 pub fn enter(
     table: &[u8],
     at: usize,
@@ -173,9 +318,7 @@ pub fn enter(
         (addAll (blockItems (now (table .entry)) at heads items) (item mark 0 0 0 ∷ envOf (now (env .entry)) top))
         (1 + length (blockItems (now (table .entry)) at heads items)) ⌝ }
 {
-    environment::push(env, top, mark, 0, 0, 0);
-    let up = add_head(table, at, heads, 4, env, top + 1);
-    add_labels(table, at + heads, items, sizes, env, up)
+    open(table, at, heads, items, mark, sizes, env, top).top
 }
 
 // The definition at `at` is the one that its block has of the name: of two the first is found.

@@ -5,9 +5,9 @@ use Rattle.table_forms.specs.Tables.{read-held}
 use Rattle.table_names.proofs.faults.first_fault.Statement.{statement}
 use Rattle.table_names.proofs.faults.first_fault.Tie as tie
 
-fault-in-requires-3 : tie.Need-fault-in-requires-3
-fault-in-requires-3 c κs =
-    let at-start = c .before .before .before .before .before in
+fault-in-requires-5 : tie.Need-fault-in-requires-5
+fault-in-requires-5 c κs =
+    let at-start = c .before .before .before .before .before .before .before in
     let h = read-held (at-start .args .table .now) (at-start .pre .0) (at-start .pre .1) in (at-start .pre, omega (arith, h .short), omega (arith, h .short))
 
 pub first-fault-spec : {M : Type 1} → statement M
@@ -24,5 +24,13 @@ first-fault-spec =
     (λ c. search needs)
     (λ c. search needs)
     (λ c. search needs)
-    fault-in-requires-3
+    (λ c κs. search needs)
+    (λ c. search needs)
+    (λ c. search needs)
+    (λ c. search needs)
+    (λ c κs. search needs)
+    (λ c. search needs)
+    (λ c. search needs)
+    (λ c. search needs)
+    fault-in-requires-5
     (λ c. search needs))

@@ -6,6 +6,7 @@ use Rattle.table_scopes.specs.Sizes.{size-small}
 use Rattle.table_forms.specs.Body.{known-from}
 use Rattle.table_forms.specs.Tables.{root-long, root-reach, root-room, root-globals, root-rest, root-stop, root-judged, root-place}
 use borrow.Author.Needs.{needs}
+use Rattle.table_names.proofs.Spares.{spared-kept}
 use Rattle.table_names.proofs.faults.root.Statement.{statement}
 use Rattle.table_names.proofs.faults.root.Tie as tie
 
@@ -27,8 +28,8 @@ add-after c =
     let at-start = c .before .before .before .before .before .before in
     omega (arith, size-small (at-start .args .table .now) 1 (c .before .before .a-at .result) (c .spanned .result) (c .spanned .ensures), (at-start .pre) .whole .legible .short)
 
-enter-root-requires : tie.Need-enter-root-requires
-enter-root-requires c κs =
+open-root-requires : tie.Need-open-root-requires
+open-root-requires c κs =
     let at-b-at = c .before .before in
     let at-a-at = at-b-at .before in
     let at-start = at-a-at .before .before .before .before in (
@@ -62,7 +63,7 @@ globals-requires c κs =
       first = at-a-at .a-at .ensures;
       second = at-b-at .b-at .ensures;
       third = ap (λ (n : ℕ). 1 + n) (at-spanned .spanned .ensures);
-    }) (c .before .before .before .enter-root .ensures) (at-start .pre)
+    }) (c .before .before .before .open-root .ensures .0) (at-start .pre)
 
 enum-told : tie.Need-enum-told
 enum-told c = search needs
@@ -94,44 +95,46 @@ part-items-start c =
 items-requires : tie.Need-items-requires
 items-requires c κs =
     let at-globals = c .before .before .before .before .before .before in
-    let at-enter-root = at-globals .before .before .before .before in
-    let at-spanned = at-enter-root .before .before in
+    let at-open-root = at-globals .before .before .before .before in
+    let at-spanned = at-open-root .before .before in
     let at-b-at = at-spanned .before in
     let at-a-at = at-b-at .before in
-    let at-start = at-a-at .before .before .before .before in
-    root-rest (record {
-      first = at-a-at .a-at .ensures;
-      second = at-b-at .b-at .ensures;
-      third = ap (λ (n : ℕ). 1 + n) (at-spanned .spanned .ensures);
-    }) (at-enter-root .enter-root .ensures) (at-globals .globals .ensures) (at-start .pre)
+    let at-start = at-a-at .before .before .before .before in (
+      root-rest (record {
+        first = at-a-at .a-at .ensures;
+        second = at-b-at .b-at .ensures;
+        third = ap (λ (n : ℕ). 1 + n) (at-spanned .spanned .ensures);
+      }) (at-open-root .open-root .ensures .0) (at-globals .globals .ensures) (at-start .pre),
+      spared-kept (at-globals .globals .ensures .kept) (at-open-root .open-root .ensures .1),
+    )
 
 returns : tie.Need-returns
 returns c =
     let at-enum-told = c .before .before .before .before .before in
     let at-globals = at-enum-told .before .before .before .before in
-    let at-enter-root = at-globals .before .before .before .before in
-    let at-spanned = at-enter-root .before .before in
+    let at-open-root = at-globals .before .before .before .before in
+    let at-spanned = at-open-root .before .before in
     let at-b-at = at-spanned .before in
     let at-a-at = at-b-at .before in
     root-judged (record {
       first = at-a-at .a-at .ensures;
       second = at-b-at .b-at .ensures;
       third = ap (λ (n : ℕ). 1 + n) (at-spanned .spanned .ensures);
-    }) (at-enter-root .enter-root .ensures) (at-globals .globals .ensures) _
+    }) (at-open-root .open-root .ensures .0) (at-globals .globals .ensures) _
     (at-enum-told .enum-told .given .1) (c .before .before .items .ensures)
 
 returns-2 : tie.Need-returns-2
 returns-2 c =
     let at-globals = c .before .before .before .before .before in
-    let at-enter-root = at-globals .before .before .before .before in
-    let at-spanned = at-enter-root .before .before in
+    let at-open-root = at-globals .before .before .before .before in
+    let at-spanned = at-open-root .before .before in
     let at-b-at = at-spanned .before in
     let at-a-at = at-b-at .before in
     root-stop (record {
       first = at-a-at .a-at .ensures;
       second = at-b-at .b-at .ensures;
       third = ap (λ (n : ℕ). 1 + n) (at-spanned .spanned .ensures);
-    }) (at-enter-root .enter-root .ensures) (at-globals .globals .ensures) _ _ (c .before .n .given .1)
+    }) (at-open-root .open-root .ensures .0) (at-globals .globals .ensures) _ _ (c .before .n .given .1)
 
 pub root-spec : {M : Type 1} → statement M
 root-spec =
@@ -143,7 +146,7 @@ root-spec =
     (λ c. search needs)
     spanned-requires
     add-after
-    enter-root-requires
+    open-root-requires
     globals-requires
     enum-told
     mul-from

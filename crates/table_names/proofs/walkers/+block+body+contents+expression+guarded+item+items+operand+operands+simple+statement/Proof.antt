@@ -1,6 +1,11 @@
 -- The walkers meet their contracts: the nesting that is left falls from an entry to those below it, and on one level the walkers have an order.
 -- What each asks and answers is in table_forms. Assumes nothing.
 use mathlib.Core.Path.{refl, sym, _∙_}
+use borrow.Author.Tests.{eqb-true}
+use Rattle.logic.specs.Tests.{both-left, both-right}
+use Rattle.table_scopes.specs.Environment.{envOf}
+use Rattle.table_scopes.specs.Spared.{Spared}
+use Rattle.table_names.proofs.Spares.{spared-label, spared-one, spared-next, unspared}
 use native.Mathlib.Omega.{arith}
 use borrow.Author.Needs.{needs}
 use Rattle.table_forms.specs.Forms.{is-body, is-simple, is-block, is-guard, is-other}
@@ -54,10 +59,11 @@ use Rattle.table_entries.proofs.b_at.Reads as b-at-reads
 use Rattle.table_entries.proofs.kind_at.Reads as kind-at-reads
 use Rattle.table_names.proofs.walkers.guarded_of.Reads as guarded-of-reads
 use Rattle.table_names.proofs.walkers.is_plain.Reads as is-plain-reads
+use Rattle.table_names.proofs.walkers.is_spared.Reads as is-spared-reads
 use Rattle.table_names.proofs.walkers.operands_of.Reads as operands-of-reads
 use Rattle.table_names.proofs.walkers.tested.Reads as tested-reads
 use Rattle.table_scopes.proofs.push.Reads as push-reads
-use Rattle.table_scopes.proofs.enter.Reads as enter-reads
+use Rattle.table_scopes.proofs.open.Reads as open-reads
 use Rattle.table_scopes.proofs.head.Reads as head-reads
 use Rattle.table_scopes.proofs.once.Reads as once-reads
 use Rattle.table_scopes.proofs.size_at.Reads as size-at-reads
@@ -173,8 +179,8 @@ block-meets : {M : Type 1} (t : ℕ) → block-lts.Closed (
   a-at-reads.Learnt,
   b-at-reads.Asked,
   b-at-reads.Learnt,
-  enter-reads.Asked,
-  enter-reads.Learnt,
+  open-reads.Asked,
+  open-reads.Learnt,
   contents-below t,
   contents.Post,
 ) (block-at t) block.Post M
@@ -184,8 +190,8 @@ block-meets t =
       a-at-reads.Learnt,
       b-at-reads.Asked,
       b-at-reads.Learnt,
-      enter-reads.Asked,
-      enter-reads.Learnt,
+      open-reads.Asked,
+      open-reads.Learnt,
       contents-below t,
       contents.Post,
     ) (block-at t) block.Post
@@ -197,9 +203,9 @@ block-meets t =
     (λ c κs. omega (arith, asked (c .before .before .before .before .before .pre .1) .long))
     -- cast-count
     (λ c. search needs)
-    -- add-enter
+    -- add-open
     (λ c. omega (arith, asked (c .before .before .before .before .before .before .pre .1) .small))
-    -- enter-requires
+    -- open-requires
     (λ c κs.
     let at-b = c .before in
     let at-a = at-b .before in
@@ -209,30 +215,33 @@ block-meets t =
     (λ c. omega (arith, asked (c .before .before .before .before .before .before .before .before .before .before .pre .1) .nested))
     -- contents-requires
     (λ c κs.
-    let at-enter = c .before .before .before in
-    let at-b = at-enter .before .before in
+    let at-open = c .before .before .before in
+    let at-b = at-open .before .before in
     let at-a = at-b .before in
     let at-start = at-a .before .before .before .before .before in (
       omega (arith, asked (at-start .pre .1) .nested),
-      block-contents (at-a .a-at .result) (at-b .b-at .result)
-          (at-a .a-at .ensures, at-b .b-at .ensures) (at-enter .enter .ensures) (at-start .pre .1),
+      (
+        block-contents (at-a .a-at .result) (at-b .b-at .result)
+            (at-a .a-at .ensures, at-b .b-at .ensures) (at-open .open .ensures .0) (at-start .pre .1),
+        at-open .open .ensures .1,
+      ),
     ))
     -- same-length
     (λ c. search needs)
     -- returns
     (λ c.
-    let at-enter = c .before .before .before .before .before .before in
-    let at-b = at-enter .before .before in
+    let at-open = c .before .before .before .before .before .before in
+    let at-b = at-open .before .before in
     let at-a = at-b .before in
-    block-judged (at-a .a-at .result) (at-b .b-at .result) (at-a .a-at .ensures, at-b .b-at .ensures) (at-enter .enter .ensures) (c .before .before .contents .ensures))
+    block-judged (at-a .a-at .result) (at-b .b-at .result) (at-a .a-at .ensures, at-b .b-at .ensures) (at-open .open .ensures .0) (c .before .before .contents .ensures))
 
 body-meets : {M : Type 1} (t : ℕ) → body-lts.Closed (
   a-at-reads.Asked,
   a-at-reads.Learnt,
   b-at-reads.Asked,
   b-at-reads.Learnt,
-  enter-reads.Asked,
-  enter-reads.Learnt,
+  open-reads.Asked,
+  open-reads.Learnt,
   contents-below t,
   contents.Post,
   spanned-reads.Asked,
@@ -246,8 +255,8 @@ body-meets t =
       a-at-reads.Learnt,
       b-at-reads.Asked,
       b-at-reads.Learnt,
-      enter-reads.Asked,
-      enter-reads.Learnt,
+      open-reads.Asked,
+      open-reads.Learnt,
       contents-below t,
       contents.Post,
       spanned-reads.Asked,
@@ -263,9 +272,9 @@ body-meets t =
     (λ c κs. omega (arith, asked (c .before .before .before .before .before .pre .1) .long))
     -- cast-count
     (λ c. search needs)
-    -- add-enter
+    -- add-open
     (λ c. omega (arith, asked (c .before .before .before .before .before .before .pre .1) .small))
-    -- enter-requires
+    -- open-requires
     (λ c κs.
     let at-b = c .before in
     let at-a = at-b .before in
@@ -275,54 +284,59 @@ body-meets t =
     (λ c. omega (arith, asked (c .before .before .before .before .before .before .before .before .before .before .pre .1) .nested))
     -- contents-requires
     (λ c κs.
-    let at-enter = c .before .before .before in
-    let at-b = at-enter .before .before in
+    let at-open = c .before .before .before in
+    let at-b = at-open .before .before in
     let at-a = at-b .before in
-    let at-start = at-a .before .before .before .before .before in
-    (omega (arith, asked (at-start .pre .1) .nested), body-contents (at-a .a-at .result) (at-b .b-at .result) (at-a .a-at .ensures, at-b .b-at .ensures) (at-enter .enter .ensures) (at-start .pre .1)))
+    let at-start = at-a .before .before .before .before .before in (
+      omega (arith, asked (at-start .pre .1) .nested),
+      (
+        body-contents (at-a .a-at .result) (at-b .b-at .result) (at-a .a-at .ensures, at-b .b-at .ensures) (at-open .open .ensures .0) (at-start .pre .1),
+        at-open .open .ensures .1,
+      ),
+    ))
     -- enum-told
     (λ c. search needs)
     -- add-spanned
     (λ c. omega (arith, asked (c .before .before .before .before .before .before .before .before .before .before .before .before .before .before .before .before .pre .1) .small))
     -- add-spanned-2
     (λ c.
-    let at-enter = c .before .before .before .before .before .before .before .before in
-    let at-b = at-enter .before .before in
+    let at-open = c .before .before .before .before .before .before .before .before in
+    let at-b = at-open .before .before in
     let at-a = at-b .before in
     let at-start = at-a .before .before .before .before .before in
-    let w = body-contents (at-a .a-at .result) (at-b .b-at .result) (at-a .a-at .ensures, at-b .b-at .ensures) (at-enter .enter .ensures) (at-start .pre .1) in
+    let w = body-contents (at-a .a-at .result) (at-b .b-at .result) (at-a .a-at .ensures, at-b .b-at .ensures) (at-open .open .ensures .0) (at-start .pre .1) in
     omega (arith, w .fits, w .within, w .short))
     -- spanned-requires
     (λ c κs.
-    let at-enter = c .before .before .before .before .before .before .before .before in
-    let at-b = at-enter .before .before in
+    let at-open = c .before .before .before .before .before .before .before .before in
+    let at-b = at-open .before .before in
     let at-a = at-b .before in
     let at-start = at-a .before .before .before .before .before in
-    let w = body-contents (at-a .a-at .result) (at-b .b-at .result) (at-a .a-at .ensures, at-b .b-at .ensures) (at-enter .enter .ensures) (at-start .pre .1) in (
+    let w = body-contents (at-a .a-at .result) (at-b .b-at .result) (at-a .a-at .ensures, at-b .b-at .ensures) (at-open .open .ensures .0) (at-start .pre .1) in (
       known-from (at-start .args .at + 1 + at-a .a-at .result) (body-asks (at-a .a-at .result) (at-b .b-at .result)
           (at-a .a-at .ensures, at-b .b-at .ensures) (at-start .pre .1) .known),
       omega (arith, w .within),
     ))
     -- add-after
     (λ c.
-    let at-enter = c .before .before .before .before .before .before .before .before .before in
-    let at-b = at-enter .before .before in
+    let at-open = c .before .before .before .before .before .before .before .before .before in
+    let at-b = at-open .before .before in
     let at-a = at-b .before in
     let at-start = at-a .before .before .before .before .before in
-    let w = body-contents (at-a .a-at .result) (at-b .b-at .result) (at-a .a-at .ensures, at-b .b-at .ensures) (at-enter .enter .ensures) (at-start .pre .1) in
+    let w = body-contents (at-a .a-at .result) (at-b .b-at .result) (at-a .a-at .ensures, at-b .b-at .ensures) (at-open .open .ensures .0) (at-start .pre .1) in
     omega (arith, w .fits, w .within, w .short))
     -- add-after-2
     (λ c.
     let at-spanned = c in
     let at-told = at-spanned .before in
     let at-contents = at-told .before .before .before .before in
-    let at-enter = at-contents .before .before .before .before in
-    let at-b = at-enter .before .before in
+    let at-open = at-contents .before .before .before .before in
+    let at-b = at-open .before .before in
     let at-a = at-b .before in
     let at-start = at-a .before .before .before .before .before in
     omega (
       arith,
-      body-fits (at-a .a-at .result) (at-b .b-at .result) (at-a .a-at .ensures, at-b .b-at .ensures) (at-enter .enter .ensures)
+      body-fits (at-a .a-at .result) (at-b .b-at .result) (at-a .a-at .ensures, at-b .b-at .ensures) (at-open .open .ensures .0)
           (at-contents .contents .ensures) _ (at-spanned .spanned .result) (at-told .enum-told .given .1) (at-spanned .spanned .ensures) (at-start .pre .1),
     ))
     -- mul-after
@@ -330,13 +344,13 @@ body-meets t =
     let at-spanned = c in
     let at-told = at-spanned .before in
     let at-contents = at-told .before .before .before .before in
-    let at-enter = at-contents .before .before .before .before in
-    let at-b = at-enter .before .before in
+    let at-open = at-contents .before .before .before .before in
+    let at-b = at-open .before .before in
     let at-a = at-b .before in
     let at-start = at-a .before .before .before .before .before in
     omega (
       arith,
-      body-fits (at-a .a-at .result) (at-b .b-at .result) (at-a .a-at .ensures, at-b .b-at .ensures) (at-enter .enter .ensures)
+      body-fits (at-a .a-at .result) (at-b .b-at .result) (at-a .a-at .ensures, at-b .b-at .ensures) (at-open .open .ensures .0)
           (at-contents .contents .ensures) _ (at-spanned .spanned .result) (at-told .enum-told .given .1) (at-spanned .spanned .ensures) (at-start .pre .1),
     ))
     -- sub-expression
@@ -344,22 +358,22 @@ body-meets t =
     let at-spanned = c in
     let at-told = at-spanned .before in
     let at-contents = at-told .before .before .before .before in
-    let at-enter = at-contents .before .before .before .before in
-    let at-b = at-enter .before .before in
+    let at-open = at-contents .before .before .before .before in
+    let at-b = at-open .before .before in
     let at-a = at-b .before in
     let at-start = at-a .before .before .before .before .before in
-    body-fits (at-a .a-at .result) (at-b .b-at .result) (at-a .a-at .ensures, at-b .b-at .ensures) (at-enter .enter .ensures)
+    body-fits (at-a .a-at .result) (at-b .b-at .result) (at-a .a-at .ensures, at-b .b-at .ensures) (at-open .open .ensures .0)
     (at-contents .contents .ensures) _ (at-spanned .spanned .result) (at-told .enum-told .given .1) (at-spanned .spanned .ensures) (at-start .pre .1) .0)
     -- part-expression-start
     (λ c.
     let at-spanned = c in
     let at-told = at-spanned .before in
     let at-contents = at-told .before .before .before .before in
-    let at-enter = at-contents .before .before .before .before in
-    let at-b = at-enter .before .before in
+    let at-open = at-contents .before .before .before .before in
+    let at-b = at-open .before .before in
     let at-a = at-b .before in
     let at-start = at-a .before .before .before .before .before in
-    body-fits (at-a .a-at .result) (at-b .b-at .result) (at-a .a-at .ensures, at-b .b-at .ensures) (at-enter .enter .ensures)
+    body-fits (at-a .a-at .result) (at-b .b-at .result) (at-a .a-at .ensures, at-b .b-at .ensures) (at-open .open .ensures .0)
     (at-contents .contents .ensures) _ (at-spanned .spanned .result) (at-told .enum-told .given .1) (at-spanned .spanned .ensures) (at-start .pre .1) .0)
     -- part-expression-end
     (λ c. search needs)
@@ -368,8 +382,8 @@ body-meets t =
     let at-spanned = c .before in
     let at-told = at-spanned .before in
     let at-contents = at-told .before .before .before .before in
-    let at-enter = at-contents .before .before .before .before in
-    let at-b = at-enter .before .before in
+    let at-open = at-contents .before .before .before .before in
+    let at-b = at-open .before .before in
     let at-a = at-b .before in
     let at-start = at-a .before .before .before .before .before in
     omega (arith, asked (at-start .pre .1) .nested))
@@ -378,8 +392,8 @@ body-meets t =
     let at-spanned = c .before in
     let at-told = at-spanned .before in
     let at-contents = at-told .before .before .before .before in
-    let at-enter = at-contents .before .before .before .before in
-    let at-b = at-enter .before .before in
+    let at-open = at-contents .before .before .before .before in
+    let at-b = at-open .before .before in
     let at-a = at-b .before in
     let at-start = at-a .before .before .before .before .before in
     omega (arith, asked (at-start .pre .1) .small))
@@ -388,13 +402,13 @@ body-meets t =
     let at-spanned = c .before in
     let at-told = at-spanned .before in
     let at-contents = at-told .before .before .before .before in
-    let at-enter = at-contents .before .before .before .before in
-    let at-b = at-enter .before .before in
+    let at-open = at-contents .before .before .before .before in
+    let at-b = at-open .before .before in
     let at-a = at-b .before in
     let at-start = at-a .before .before .before .before .before in
     omega (
       arith,
-      body-fits (at-a .a-at .result) (at-b .b-at .result) (at-a .a-at .ensures, at-b .b-at .ensures) (at-enter .enter .ensures)
+      body-fits (at-a .a-at .result) (at-b .b-at .result) (at-a .a-at .ensures, at-b .b-at .ensures) (at-open .open .ensures .0)
           (at-contents .contents .ensures) _ (at-spanned .spanned .result) (at-told .enum-told .given .1) (at-spanned .spanned .ensures) (at-start .pre .1),
     ))
     -- add-expression-3
@@ -402,13 +416,13 @@ body-meets t =
     let at-spanned = c .before in
     let at-told = at-spanned .before in
     let at-contents = at-told .before .before .before .before in
-    let at-enter = at-contents .before .before .before .before in
-    let at-b = at-enter .before .before in
+    let at-open = at-contents .before .before .before .before in
+    let at-b = at-open .before .before in
     let at-a = at-b .before in
     let at-start = at-a .before .before .before .before .before in
     omega (
       arith,
-      body-fits (at-a .a-at .result) (at-b .b-at .result) (at-a .a-at .ensures, at-b .b-at .ensures) (at-enter .enter .ensures)
+      body-fits (at-a .a-at .result) (at-b .b-at .result) (at-a .a-at .ensures, at-b .b-at .ensures) (at-open .open .ensures .0)
           (at-contents .contents .ensures) _ (at-spanned .spanned .result) (at-told .enum-told .given .1) (at-spanned .spanned .ensures) (at-start .pre .1),
     ))
     -- expression-requires
@@ -416,13 +430,13 @@ body-meets t =
     let at-spanned = c .before .before in
     let at-told = at-spanned .before in
     let at-contents = at-told .before .before .before .before in
-    let at-enter = at-contents .before .before .before .before in
-    let at-b = at-enter .before .before in
+    let at-open = at-contents .before .before .before .before in
+    let at-b = at-open .before .before in
     let at-a = at-b .before in
     let at-start = at-a .before .before .before .before .before in (
       omega (arith, asked (at-start .pre .1) .nested),
       body-result (at-a .a-at .result) (at-b .b-at .result) (at-a .a-at .ensures, at-b .b-at .ensures)
-          (at-enter .enter .ensures) (at-contents .contents .ensures) _ (at-spanned .spanned .result) (at-told .enum-told .given .1)
+          (at-open .open .ensures .0) (at-contents .contents .ensures) _ (at-spanned .spanned .result) (at-told .enum-told .given .1)
           (at-spanned .spanned .ensures) (at-start .pre .1),
     ))
     -- enum-known-k
@@ -434,10 +448,10 @@ body-meets t =
     let at-spanned = c .before .before .before .before .before in
     let at-told = at-spanned .before in
     let at-contents = at-told .before .before .before .before in
-    let at-enter = at-contents .before .before .before .before in
-    let at-b = at-enter .before .before in
+    let at-open = at-contents .before .before .before .before in
+    let at-b = at-open .before .before in
     let at-a = at-b .before in
-    body-judged (at-a .a-at .result) (at-b .b-at .result) (at-a .a-at .ensures, at-b .b-at .ensures) (at-enter .enter .ensures)
+    body-judged (at-a .a-at .result) (at-b .b-at .result) (at-a .a-at .ensures, at-b .b-at .ensures) (at-open .open .ensures .0)
     (at-contents .contents .ensures) _ (at-spanned .spanned .result) (at-told .enum-told .given .1) (at-spanned .spanned .ensures)
     (c .before .before .expression .ensures))
     -- same-length-2
@@ -445,35 +459,35 @@ body-meets t =
     -- returns-2
     (λ c.
     let at-contents = c .before .before .before .before .before in
-    let at-enter = c .before .before .before .before .before .before .before .before .before in
-    let at-b = at-enter .before .before in
+    let at-open = c .before .before .before .before .before .before .before .before .before in
+    let at-b = at-open .before .before in
     let at-a = at-b .before in
-    body-stop (at-a .a-at .result) (at-b .b-at .result) (at-a .a-at .ensures, at-b .b-at .ensures) (at-enter .enter .ensures) (at-contents .contents .ensures) _ _ (c .before .k .given .1))
+    body-stop (at-a .a-at .result) (at-b .b-at .result) (at-a .a-at .ensures, at-b .b-at .ensures) (at-open .open .ensures .0) (at-contents .contents .ensures) _ _ (c .before .k .given .1))
 
 contents-meets : {M : Type 1} (t : ℕ) → contents-lts.Closed (head-reads.Asked, head-reads.Learnt, items-below t, items.Post) (contents-at t) contents.Post M
 contents-meets t = contents-lts.spec (head-reads.Asked, head-reads.Learnt, items-below t, items.Post) (contents-at t) contents.Post
     -- add-head
-    (λ c. let a = c .before .before .before .before .pre .1 in omega (arith, a .within, a .short))
+    (λ c. let a = c .before .before .before .before .pre .1 .0 in omega (arith, a .within, a .short))
     -- head-requires
-    (λ c κs. let a = c .before .before .before .before .before .pre .1 in (a .within, a .room))
+    (λ c κs. let a = c .before .before .before .before .before .pre .1 .0 in (a .within, a .room))
     -- enum-told
     (λ c. search needs)
     -- add-from
-    (λ c. let a = c .before .before .before .before .before .before .before .before .pre .1 in omega (arith, a .within, a .short))
+    (λ c. let a = c .before .before .before .before .before .before .before .before .pre .1 .0 in omega (arith, a .within, a .short))
     -- mul-from
-    (λ c. let a = c .before .before .before .before .before .before .before .before .pre .1 in omega (arith, a .within, a .short))
+    (λ c. let a = c .before .before .before .before .before .before .before .before .pre .1 .0 in omega (arith, a .within, a .short))
     -- sub-items
-    (λ c. let a = c .before .before .before .before .before .before .before .before .pre .1 in a .fits)
+    (λ c. let a = c .before .before .before .before .before .before .before .before .pre .1 .0 in a .fits)
     -- part-items-start
-    (λ c. let a = c .before .before .before .before .before .before .before .before .pre .1 in a .fits)
+    (λ c. let a = c .before .before .before .before .before .before .before .before .pre .1 .0 in a .fits)
     -- part-items-end
     (λ c. search needs)
     -- add-items
-    (λ c. let a = c .before .before .before .before .before .before .before .before .before .pre .1 in omega (arith, a .within, a .short))
+    (λ c. let a = c .before .before .before .before .before .before .before .before .before .pre .1 .0 in omega (arith, a .within, a .short))
     -- add-items-2
-    (λ c. let a = c .before .before .before .before .before .before .before .before .before .pre .1 in omega (arith, a .within, a .short))
+    (λ c. let a = c .before .before .before .before .before .before .before .before .before .pre .1 .0 in omega (arith, a .within, a .short))
     -- items-requires
-    (λ c κs. (omega arith, c .before .before .before .before .before .before .before .before .before .before .pre .1 .asks))
+    (λ c κs. let at-start = c .before .before .before .before .before .before .before .before .before .before in (omega arith, (at-start .pre .1 .0 .asks, at-start .pre .1 .1)))
     -- enum-known-k
     (λ c. search needs)
     -- same-length
@@ -646,9 +660,12 @@ guarded-meets t =
     let at-kind = at-a .before in
     let at-start = at-kind .before .before .before .before .before in (
       omega (arith, asked (at-start .pre .1) .nested),
-      guard-items (at-count .guarded-of .result)
-          (at-count .guarded-of .ensures ∙ rw (at-kind .kind-at .ensures, at-a .a-at .ensures)) (at-test .expression .ensures) _
-          (at-size .size-at .result) (at-size .before .before .t .given .1) (at-size .size-at .ensures) (at-start .pre .1),
+      (
+        guard-items (at-count .guarded-of .result)
+            (at-count .guarded-of .ensures ∙ rw (at-kind .kind-at .ensures, at-a .a-at .ensures)) (at-test .expression .ensures) _
+            (at-size .size-at .result) (at-size .before .before .t .given .1) (at-size .size-at .ensures) (at-start .pre .1),
+        unspared,
+      ),
     ))
     -- enum-told
     (λ c. search needs)
@@ -700,6 +717,8 @@ item-meets : {M : Type 1} (t : ℕ) → item-lts.Closed (
   is-plain-reads.Learnt,
   simple-below t,
   simple.Post,
+  is-spared-reads.Asked,
+  is-spared-reads.Learnt,
   statement-below t,
   statement′.Post,
 ) (item-at t) item.Post M
@@ -711,97 +730,121 @@ item-meets t =
       is-plain-reads.Learnt,
       simple-below t,
       simple.Post,
+      is-spared-reads.Asked,
+      is-spared-reads.Learnt,
       statement-below t,
       statement′.Post,
     ) (item-at t) item.Post
     -- kind-at-requires
-    (λ c κs. omega (arith, asked (c .before .before .before .before .pre .1) .long))
+    (λ c κs. omega (arith, asked (c .before .before .before .before .pre .1 .0) .long))
     -- is-plain-requires
     (λ c κs. search needs)
     -- simple-requires
-    (λ c κs. (
+    (λ c κs.
+    let at-is-plain = c .before .before in
+    let at-kind-at = at-is-plain .before in
+    let at-start = at-kind-at .before .before .before .before .before in (
       omega arith,
-      ask-as (λ f h e. plain-form f h _ (sym (c .before .before .is-plain .ensures) ∙ c .before .if1 .taken)
-          (c .before .before .before .kind-at .ensures ∙ e)) (c .before .before .before .before .before .before .before .before .pre .1),
+      ask-as (λ f h e. plain-form f h _ (sym (at-is-plain .is-plain .ensures) ∙ c .before .if1 .taken) (at-kind-at .kind-at .ensures ∙ e)) (at-start .pre .1 .0),
     ))
-    -- statement-requires
-    (λ c κs. (omega arith, c .before .before .before .before .before .before .before .before .pre .1))
     -- same-length
     (λ c. search needs)
     -- returns
-    (λ c. typed-answer (λ f h e. plain-form f h _ (sym (c .before .before .before .before .before .is-plain .ensures)
-    ∙ c .before .before .before .before .if1 .taken) (c .before .before .before .before .before .before .kind-at .ensures ∙ e)) (c .before .before .simple .ensures))
+    (λ c.
+    let at-simple = c .before .before in
+    let at-if1 = at-simple .before .before in
+    let at-is-plain = at-if1 .before in
+    let at-kind-at = at-is-plain .before in
+    typed-answer (λ f h e. plain-form f h _ (sym (at-is-plain .is-plain .ensures) ∙ at-if1 .if1 .taken) (at-kind-at .kind-at .ensures ∙ e)) (at-simple .simple .ensures))
+    -- is-spared-requires
+    (λ c κs. search needs)
+    -- statement-requires
+    (λ c κs. (omega arith, c .before .before .before .before .before .before .before .before .before .before .pre .1 .0))
+    -- returns-2
+    (λ c.
+    let at-kind = c .before .before .before .before in
+    let at-start = at-kind .before .before .before .before .before in
+    let told = sym (c .before .is-spared .ensures) ∙ c .if2 .taken in
+    let label = sym (at-kind .kind-at .ensures) ∙ eqb-true _ 20 (both-right (at-start .args .once) _ told) in
+    label-answer label (spared-label (at-start .pre .1 .0) (at-start .args .once) (at-start .pre .1 .1) (both-left (at-start .args .once) _ told) label))
     -- same-length-2
     (λ c. search needs)
-    -- returns-2
+    -- returns-3
     (λ c. c .before .before .statement .ensures)
 
 abbrev items-Inv-loop : items-lts.InvT-loop
-items-Inv-loop table part count nesting at sizes env₀ top rest₀ place₀ left₀ env rest place left = ItemsSoFar table part count nesting at sizes env₀ top env rest place left
+items-Inv-loop table part count nesting at sizes env₀ top once rest₀ place₀ left₀ env rest place left =
+    ItemsSoFar table part count nesting at sizes env₀ top env rest place left × Spared once table (envOf env top) place left
 
 abbrev items-μ-loop : items-lts.MeasureT-loop
-items-μ-loop table part count nesting at sizes env₀ top rest₀ place₀ left₀ env rest place left = left
+items-μ-loop table part count nesting at sizes env₀ top once rest₀ place₀ left₀ env rest place left = left
 
 items-meets : {M : Type 1} (t : ℕ) → items-lts.Closed (item-below t, item.Post, size-at-reads.Asked, size-at-reads.Learnt) (items-at t) items.Post M
 items-meets t = items-lts.spec (item-below t, item.Post, size-at-reads.Asked, size-at-reads.Learnt) (items-at t) items.Post items-Inv-loop items-μ-loop
     -- loop-holds
     (λ c.
-    let at-start = c .before .before .before .before in
-    items-start (at-start .args .table .now) (at-start .args .part .now) (at-start .args .count) (at-start .args .nesting)
-    (at-start .args .at) (at-start .args .sizes .now) (at-start .args .env .now) (at-start .args .top))
+    let at-start = c .before .before .before .before in (
+      items-start (at-start .args .table .now) (at-start .args .part .now) (at-start .args .count) (at-start .args .nesting)
+          (at-start .args .at) (at-start .args .sizes .now) (at-start .args .env .now) (at-start .args .top),
+      at-start .pre .1 .1,
+    ))
     -- item-requires
     (λ c κs.
     let at-loop = c .before .before in
     let at-start = at-loop .before .before .before .before .before in
-    (omega arith, items-asks (at-loop .loop .inv) (omega arith) (at-start .pre .1)))
+    (omega arith, (items-asks (at-loop .loop .inv .0) (omega arith) (at-start .pre .1 .0), spared-one (omega arith) (at-loop .loop .inv .1))))
     -- enum-told
     (λ c. search needs)
     -- size-at-requires
     (λ c κs.
     let at-loop = c .before .before .before .before .before .before .before in
     let at-start = at-loop .before .before .before .before .before in
-    items-passes (at-loop .loop .inv) (omega arith) (at-start .pre .1) _ refl .known)
+    items-passes (at-loop .loop .inv .0) (omega arith) (at-start .pre .1 .0) _ refl .known)
     -- mul-from
     (λ c.
     let at-loop = c .before .before .before .before .before .before .before .before in
     let at-start = at-loop .before .before .before .before .before in
-    omega (arith, items-passes (at-loop .loop .inv) (omega arith) (at-start .pre .1) (c .size-at .result) (c .size-at .ensures) .small))
+    omega (arith, items-passes (at-loop .loop .inv .0) (omega arith) (at-start .pre .1 .0) (c .size-at .result) (c .size-at .ensures) .small))
     -- sub-rest
     (λ c.
     let at-loop = c .before .before .before .before .before .before .before .before in
     let at-start = at-loop .before .before .before .before .before in
-    items-passes (at-loop .loop .inv) (omega arith) (at-start .pre .1) (c .size-at .result) (c .size-at .ensures) .fits)
+    items-passes (at-loop .loop .inv .0) (omega arith) (at-start .pre .1 .0) (c .size-at .result) (c .size-at .ensures) .fits)
     -- part-rest-start
     (λ c.
     let at-loop = c .before .before .before .before .before .before .before .before in
     let at-start = at-loop .before .before .before .before .before in
-    items-passes (at-loop .loop .inv) (omega arith) (at-start .pre .1) (c .size-at .result) (c .size-at .ensures) .fits)
+    items-passes (at-loop .loop .inv .0) (omega arith) (at-start .pre .1 .0) (c .size-at .result) (c .size-at .ensures) .fits)
     -- part-rest-end
     (λ c. search needs)
     -- add-place
     (λ c.
     let at-loop = c .before .before .before .before .before .before .before .before .before in
     let at-start = at-loop .before .before .before .before .before in
-    omega (arith, items-passes (at-loop .loop .inv) (omega arith) (at-start .pre .1) (c .before .size-at .result) (c .before .size-at .ensures) .small))
+    omega (arith, items-passes (at-loop .loop .inv .0) (omega arith) (at-start .pre .1 .0) (c .before .size-at .result) (c .before .size-at .ensures) .small))
     -- sub-left
     (λ c. omega arith)
     -- loop-less
     (λ c. omega arith)
     -- loop-again
-    (λ c. items-next (c .before .before .before .before .before .before .before .before .before .loop .inv) (omega arith) _
-    (c .before .size-at .result) (c .before .before .before .before .before .before .item .ensures)
-    (c .before .before .enum-told .given .1) (c .before .size-at .ensures))
+    (λ c.
+    let at-loop = c .before .before .before .before .before .before .before .before .before in
+    let at-item = c .before .before .before .before .before .before in
+    let at-start = at-loop .before .before .before .before .before in (
+      items-next (at-loop .loop .inv .0) (omega arith) _ (c .before .size-at .result) (at-item .item .ensures) (c .before .before .enum-told .given .1) (c .before .size-at .ensures),
+      spared-next (items-asks (at-loop .loop .inv .0) (omega arith) (at-start .pre .1 .0)) (omega arith) (c .before .size-at .ensures) (at-item .item .ensures .kept) (at-loop .loop .inv .1),
+    ))
     -- enum-known-k
     (λ c. search needs)
     -- same-length
     (λ c. search needs)
     -- returns
-    (λ c. items-stop (c .before .before .before .before .before .before .before .before .loop .inv) (omega arith) _ _
+    (λ c. items-stop (c .before .before .before .before .before .before .before .before .loop .inv .0) (omega arith) _ _
     (c .before .before .before .before .before .item .ensures) (c .before .k .given .1))
     -- same-length-2
     (λ c. search needs)
     -- returns-2
-    (λ c. items-end (c .before .loop .inv) (omega arith))
+    (λ c. items-end (c .before .loop .inv .0) (omega arith))
 
 operand-meets : {M : Type 1} (t : ℕ) → operand-lts.Closed (
   kind-at-reads.Asked,

@@ -1,8 +1,8 @@
--- `table_limits::sums::is_leaf` meets its contract. Assumes nothing.
+-- `table_read::kinds::is_leaf` meets its contract. Assumes nothing.
 use borrow.Author.Tests.{ne-eqb}
-use Rattle.table_limits.specs.Sums.{isLeaf}
-use Rattle.table_limits.proofs.sums.is_leaf.Statement.{statement}
-use Rattle.table_limits.proofs.sums.is_leaf.Tie as tie
+use Rattle.table_read.specs.Operands.{isLeaf}
+use Rattle.table_read.proofs.kinds.is_leaf.Statement.{statement}
+use Rattle.table_read.proofs.kinds.is_leaf.Tie as tie
 
 pub is-leaf-spec : {M : Type 1} → statement M
 unfolding isLeaf
