@@ -493,6 +493,7 @@ fn op_stop(a: usize, b: usize, stack: &[u8]) -> Moved
     Moved::Ends
 }
 
+// Each answer is built anew, so that the walk has holds and depth in registers: handed on as it comes, it goes through memory at every address.
 pub fn effect_of(
     code: &[u8],
     shapes: &[u32],
@@ -510,27 +511,37 @@ pub fn effect_of(
     ensures { λ r. ⌜ Moves (now (stack .exit)) r (effect (now (code .entry)) body op a b holds (tops (now (stack .entry)) 0 depth)) ⌝ }
 {
     match op {
-        wide::OP_END => op_end(body, a, b, stack, holds, depth),
-        wide::OP_INTEGER => op_constant(a, TYPE_INTEGER, stack, holds, depth),
-        wide::OP_LOGICAL => op_logical(a, b, stack, holds, depth),
-        wide::OP_BITS => op_constant(a, TYPE_BITS, stack, holds, depth),
-        wide::OP_NULL => op_null(code, a, b, stack, holds, depth),
-        wide::OP_LOAD => op_cell(code, bodies, body, a, b, false, stack, holds, depth),
-        wide::OP_STORE => op_cell(code, bodies, body, a, b, true, stack, holds, depth),
-        wide::OP_OPERATOR => op_operator(a, b, stack, holds, depth),
-        wide::OP_GO => op_go(code, shapes, bodies, body, a, b, stack, holds, depth),
-        wide::OP_UNLESS => op_unless(code, shapes, bodies, body, a, b, stack, holds, depth),
-        wide::OP_CALL => op_call(code, bodies, a, b, stack, holds, depth),
-        wide::OP_RETURN => op_return(code, bodies, body, a, b, stack, holds, depth),
-        wide::OP_MAKE => op_make(code, classes, a, b, stack, holds, depth),
-        wide::OP_GET_FIELD => op_field(code, classes, a, b, false, stack, holds, depth),
-        wide::OP_PUT_FIELD => op_field(code, classes, a, b, true, stack, holds, depth),
-        wide::OP_SET => op_set(a, b, stack, holds, depth),
-        wide::OP_FADER => op_fader(a, b, stack, holds, depth),
-        wide::OP_HOLD => op_hold(a, b, stack, holds, depth),
-        wide::OP_RELEASE => op_release(a, b, stack, holds, depth),
-        wide::OP_ASSERT => op_assert(a, b, stack, holds, depth),
-        wide::OP_STOP => op_stop(a, b, stack),
+        wide::OP_END => rebuilt(op_end(body, a, b, stack, holds, depth)),
+        wide::OP_INTEGER => rebuilt(op_constant(a, TYPE_INTEGER, stack, holds, depth)),
+        wide::OP_LOGICAL => rebuilt(op_logical(a, b, stack, holds, depth)),
+        wide::OP_BITS => rebuilt(op_constant(a, TYPE_BITS, stack, holds, depth)),
+        wide::OP_NULL => rebuilt(op_null(code, a, b, stack, holds, depth)),
+        wide::OP_LOAD => rebuilt(op_cell(code, bodies, body, a, b, false, stack, holds, depth)),
+        wide::OP_STORE => rebuilt(op_cell(code, bodies, body, a, b, true, stack, holds, depth)),
+        wide::OP_OPERATOR => rebuilt(op_operator(a, b, stack, holds, depth)),
+        wide::OP_GO => rebuilt(op_go(code, shapes, bodies, body, a, b, stack, holds, depth)),
+        wide::OP_UNLESS => rebuilt(op_unless(
+            code,
+            shapes,
+            bodies,
+            body,
+            a,
+            b,
+            stack,
+            holds,
+            depth,
+        )),
+        wide::OP_CALL => rebuilt(op_call(code, bodies, a, b, stack, holds, depth)),
+        wide::OP_RETURN => rebuilt(op_return(code, bodies, body, a, b, stack, holds, depth)),
+        wide::OP_MAKE => rebuilt(op_make(code, classes, a, b, stack, holds, depth)),
+        wide::OP_GET_FIELD => rebuilt(op_field(code, classes, a, b, false, stack, holds, depth)),
+        wide::OP_PUT_FIELD => rebuilt(op_field(code, classes, a, b, true, stack, holds, depth)),
+        wide::OP_SET => rebuilt(op_set(a, b, stack, holds, depth)),
+        wide::OP_FADER => rebuilt(op_fader(a, b, stack, holds, depth)),
+        wide::OP_HOLD => rebuilt(op_hold(a, b, stack, holds, depth)),
+        wide::OP_RELEASE => rebuilt(op_release(a, b, stack, holds, depth)),
+        wide::OP_ASSERT => rebuilt(op_assert(a, b, stack, holds, depth)),
+        wide::OP_STOP => rebuilt(op_stop(a, b, stack)),
         _ => Moved::Bad,
     }
 }
