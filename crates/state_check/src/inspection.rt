@@ -459,6 +459,10 @@ fn inspect_large(
     requires { ⌜ (badHead (now code) ≡ false) × (instructions ≡ count (now code)) × (instructions < 65536) × (64 ≤ length (now bodies)) × (16 ≤ length (now classes)) ⌝ }
     ensures { λ x. ⌜ Tells (now (code .entry)) (now (state .entry)) (now (bodies .exit)) (now (classes .exit)) x ⌝ }
 {
+    if instructions <= 2048 {
+        let mut shapes = [0u32; 2048];
+        return inspect_in(code, state, &mut shapes, bodies, classes, instructions);
+    }
     if instructions <= 8192 {
         let mut shapes = [0u32; 8192];
         return inspect_in(code, state, &mut shapes, bodies, classes, instructions);

@@ -107,7 +107,8 @@ returns : tie.Need-returns Inv-loop μ-loop
 returns c =
     record {
       upto =
-          sym (first-hit _ _ _ (c .before .before .before .before .before .before .before .before .before .before .before .before .before .loop .inv .4) (omega (arith, c .before .before .before .before .before .before .before .before .before .before .before .before .before .before .before .before .half-at .ensures .0))
+          sym (first-hit _ _ _ (c .before .before .before .before .before .before .before .before .before .before .before .before .before .loop .inv .4)
+          (omega (arith, c .before .before .before .before .before .before .before .before .before .before .before .before .before .before .before .before .half-at .ensures .0))
           (flagged (c .before) ∙ c .if1 .taken));
       tested = λ h. absurd (omega (arith, c .before .before .before .before .before .before .before .before .before .before .before .before .before .before .before .before .half-at .ensures .0));
     }
