@@ -7,6 +7,7 @@ pub use load_records::no_type;
 pub use load_records::scan;
 pub use load_rules::body_at;
 pub use load_rules::class_at;
+pub use load_rules::first_body;
 pub use load_rules::found_at;
 pub use load_rules::go_on;
 pub use load_rules::instruction_at;

@@ -19,3 +19,10 @@ pub enum Moved {
     Ends,
     Bad,
 }
+
+// The body that an address is in, its first address, and the address past its last.
+pub struct Within {
+    pub body: usize,
+    pub first: usize,
+    pub end: usize,
+}

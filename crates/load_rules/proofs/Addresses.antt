@@ -4,9 +4,9 @@ use mathlib.Core.Bool.{true, false}
 use mathlib.Core.List.{List}
 use Prim.Native.Nat.{ℕ, _+_, _<_, _≤_}
 use borrow.Author.Tests.{eq-eqb, ne-eqb, lt-ltb, le-ltb}
-use Rattle.words.specs.Numbers.{byteAt, halfAt, wordAt}
+use Rattle.words.specs.Numbers.{byteAt, wordAt}
 use Rattle.load_places.specs.Search.{tops}
-use Rattle.load_places.specs.Records.{bodyPlace, codePlace}
+use Rattle.load_places.specs.Records.{bodyPlace, firstOf, codePlace}
 use Rattle.load_places.specs.Rules.{Flow, goes, ends, bad, shapeAt, equals, bodyOf, endOf, chain, effect, meet, agree, leave, plain, opens, found, step}
 
 module _ (l : List ℕ) (x : ℕ) (f : Flow) (p : ℕ) (e : p ≡ shapeAt l x) where
@@ -67,24 +67,24 @@ module _ (l : List ℕ) (k i : ℕ) (f : Flow) (x : ℕ) (ex : x ≡ endOf l k) 
   unfolding leave
   leave-bad y = rw y
 
-module _ (l : List ℕ) (k i : ℕ) (f : Flow) (q : ℕ) (e : q ≡ bodyPlace l k) (a : ℕ) (d : a ≡ halfAt l (q + 2)) where
+module _ (l : List ℕ) (k i : ℕ) (f : Flow) (a : ℕ) (d : a ≡ firstOf l k) where
   pub opens-other : (a ≡ i → ⊥) → f ≡ opens l k i f
   unfolding opens
-  opens-other n = rw (← e, ← d, ne-eqb a i n)
+  opens-other n = rw (← d, ne-eqb a i n)
 
-  module _ (y : a ≡ i) where
+  module _ (y : a ≡ i) (q : ℕ) (e : q ≡ bodyPlace l k) where
     pub opens-cells : 32 < byteAt l (q + 6) → bad ≡ opens l k i f
     unfolding opens
-    opens-cells p = rw (← e, ← d, eq-eqb a i y, lt-ltb 32 (byteAt l (q + 6)) p)
+    opens-cells p = rw (← d, ← e, eq-eqb a i y, lt-ltb 32 (byteAt l (q + 6)) p)
 
     module _ (p : byteAt l (q + 6) ≤ 32) (x : ℕ) (ex : x ≡ byteAt l (q + 4)) (w : ℕ) (ew : w ≡ byteAt l (q + 5)) where
       pub opens-plain : plain k x w ≡ true → (st : List ℕ) → goes 0 (tops st 0 0) ≡ opens l k i f
       unfolding opens tops
-      opens-plain g st = rw (← e, ← d, eq-eqb a i y, le-ltb 32 (byteAt l (q + 6)) p, ← ex, ← ew, g)
+      opens-plain g st = rw (← d, ← e, eq-eqb a i y, le-ltb 32 (byteAt l (q + 6)) p, ← ex, ← ew, g)
 
       pub opens-odd : plain k x w ≡ false → bad ≡ opens l k i f
       unfolding opens
-      opens-odd g = rw (← e, ← d, eq-eqb a i y, le-ltb 32 (byteAt l (q + 6)) p, ← ex, ← ew, g)
+      opens-odd g = rw (← d, ← e, eq-eqb a i y, le-ltb 32 (byteAt l (q + 6)) p, ← ex, ← ew, g)
 
 module _ (l : List ℕ) (k i : ℕ) (ek : k ≡ bodyOf l i) (f : Flow) where
   pub found-is : (o : Flow) → o ≡ opens l k i f → meet l (shapeAt l i) o ≡ found l i f

@@ -6,11 +6,12 @@ use Prim.Native.Nat.{ℕ, _+_, _<_, _≤_}
 use lib.ListN.{length}
 use Rattle.words.specs.Numbers.{byteAt}
 use Rattle.load_places.specs.Search.{tops}
-use Rattle.load_places.specs.Records.{classes, bodies, count, shapes, classPlace, bodyPlace}
-use Rattle.load_places.specs.Rules.{Flow, goes, ends, bad, shapeAt}
+use Rattle.load_places.specs.Records.{classes, bodies, count, shapes, classPlace, bodyPlace, firstOf}
+use Rattle.load_places.specs.Rules.{Flow, goes, ends, bad, shapeAt, bodyOf, endOf}
 use Rattle.load_places.specs.Index.{Well, Indexed, Placed}
 use Rattle.load_places.specs.declared.Moved.{Moved}
 use Rattle.load_places.specs.declared.Moved.the-variants.{Goes, Ends, Bad}
+use Rattle.load_places.specs.declared.Within.{Within}
 
 -- the type bytes stand in st from the bottom; a move says how many of them count
 abbrev pub flowOf : Moved → List ℕ → Flow
@@ -56,6 +57,13 @@ pub record Able (l ix bx cx : List ℕ) : Type 0 where
   pub shaped : Shaped l ix
   pub bodied : Bodied l bx
   pub classed : Classed l cx
+
+-- w is the body of address i, with its bounds
+pub record InBody (l : List ℕ) (i : ℕ) (w : Within) : Type 0 where
+  pub is : w .body ≡ bodyOf l i
+  pub counted : w .body < bodies l
+  pub from : w .first ≡ firstOf l (w .body)
+  pub upto : w .end ≡ endOf l (w .body)
 
 -- what is known of the place r of body b, of class a, of the shape of address x
 pub record BodyAt (l : List ℕ) (b r : ℕ) : Type 0 where

@@ -8,6 +8,7 @@ mod walk;
 pub use lookup::body_at;
 pub use lookup::class_at;
 pub use lookup::instruction_at;
+pub use walk::first_body;
 pub use walk::found_at;
 pub use walk::go_on;
 pub use walk::is_bad;

@@ -29,6 +29,14 @@ pub fn class_at(code: &[u8], classes: &[u32], class: usize) -> usize
     wide(classes[class])
 }
 
+// The shape of an address that there is: without the test, which the walk would make at each address.
+pub fn shape_of(code: &[u8], shapes: &[u32], address: usize) -> usize
+    requires { ⌜ (Shaped (now code) (now shapes)) × (address < count (now code)) ⌝ }
+    ensures { λ r. ⌜ ShapeAt (now (code .entry)) address r ⌝ }
+{
+    wide(shapes[address])
+}
+
 pub fn shape_at(code: &[u8], shapes: &[u32], address: usize) -> usize
     requires { ⌜ Shaped (now code) (now shapes) ⌝ }
     ensures { λ r. ⌜ ShapeAt (now (code .entry)) address r ⌝ }
@@ -37,7 +45,7 @@ pub fn shape_at(code: &[u8], shapes: &[u32], address: usize) -> usize
     if n <= address {
         return 0;
     }
-    wide(shapes[address])
+    shape_of(code, shapes, address)
 }
 
 pub fn end_of(code: &[u8], bodies: &[u32], body: usize) -> usize

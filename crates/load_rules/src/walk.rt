@@ -3,6 +3,7 @@ use crate::lookup::body_at;
 use crate::lookup::end_of;
 use crate::lookup::instruction_at;
 use crate::lookup::shape_at;
+use crate::lookup::shape_of;
 use crate::ops::effect_of;
 use crate::stack::equal_shape;
 use crate::stack::load_types;
@@ -10,20 +11,21 @@ use crate::stack::rebuilt;
 use formats::compiled::*;
 use formats::limits::*;
 use load_places::Moved;
+use load_places::Within;
 ghost use mathlib.Core.Path.{_≡_};
 ghost use mathlib.Core.Bool.{true, false};
 ghost use Prim.Native.Nat.{_+_, _<_};
 ghost use lib.ListN.{length};
 ghost use Rattle.words.specs.Numbers.{byteAt, wordAt};
 ghost use Rattle.load_places.specs.Records.{bodies as bodyCount, count, codeBase, codePlace};
-ghost use Rattle.load_places.specs.Rules.{shapeAt, bodyOf, chain, effect, meet, leave, plain, opens, found};
-ghost use Rattle.load_rules.specs.Moves.{flowOf, Fit, Moves, isBadMove, Bodied, Shaped, Able};
+ghost use Rattle.load_places.specs.Rules.{shapeAt, chain, effect, meet, leave, plain, opens, found};
+ghost use Rattle.load_rules.specs.Moves.{flowOf, Fit, Moves, isBadMove, Bodied, Shaped, Able, InBody};
 
 fn meet_shape(code: &[u8], shapes: &[u32], address: usize, stack: &mut [u8], flow: Moved) -> Moved
-    requires { ⌜ (Shaped (now code) (now shapes)) × (length (now stack) ≡ 32) × (Fit flow) ⌝ }
+    requires { ⌜ (Shaped (now code) (now shapes)) × (length (now stack) ≡ 32) × (Fit flow) × (address < count (now code)) ⌝ }
     ensures { λ r. ⌜ Moves (now (stack .exit)) r (meet (now (code .entry)) (shapeAt (now (code .entry)) address) (flowOf flow (now (stack .entry)))) ⌝ }
 {
-    let p = shape_at(code, shapes, address);
+    let p = shape_of(code, shapes, address);
     if p == 0 {
         return flow;
     }
@@ -52,25 +54,23 @@ fn meet_shape(code: &[u8], shapes: &[u32], address: usize, stack: &mut [u8], flo
 fn leave_to(
     code: &[u8],
     shapes: &[u32],
-    bodies: &[u32],
-    body: usize,
+    within: Within,
     address: usize,
     stack: &[u8],
     flow: Moved,
 ) -> Moved
-    requires { ⌜ (Shaped (now code) (now shapes)) × (Bodied (now code) (now bodies)) × (body < bodyCount (now code)) × (address < count (now code)) × (Fit flow) ⌝ }
-    ensures { λ r. ⌜ Moves (now (stack .entry)) r (leave (now (code .entry)) body address (flowOf flow (now (stack .entry)))) ⌝ }
+    requires { ⌜ (Shaped (now code) (now shapes)) × (InBody (now code) address within) × (address < count (now code)) × (Fit flow) ⌝ }
+    ensures { λ r. ⌜ Moves (now (stack .entry)) r (leave (now (code .entry)) (within .body) address (flowOf flow (now (stack .entry)))) ⌝ }
 {
     let j = address + 1;
-    let e = end_of(code, bodies, body);
     match flow {
-        Moved::Goes(h, d) => if j == e {
+        Moved::Goes(h, d) => if j == within.end {
             Moved::Bad
         } else {
             Moved::Goes(h, d)
         },
         Moved::Ends => {
-            if j == e {
+            if j == within.end {
                 return Moved::Ends;
             }
             let p = shape_at(code, shapes, j);
@@ -93,26 +93,25 @@ fn is_plain(body: usize, parameters: usize, result: usize) -> bool
 fn open_body(
     code: &[u8],
     bodies: &[u32],
-    body: usize,
+    within: Within,
     address: usize,
     stack: &[u8],
     flow: Moved,
 ) -> Moved
-    requires { ⌜ (Bodied (now code) (now bodies)) × (body < bodyCount (now code)) × (Fit flow) ⌝ }
-    ensures { λ r. ⌜ Moves (now (stack .entry)) r (opens (now (code .entry)) body address (flowOf flow (now (stack .entry)))) ⌝ }
+    requires { ⌜ (Bodied (now code) (now bodies)) × (InBody (now code) address within) × (Fit flow) ⌝ }
+    ensures { λ r. ⌜ Moves (now (stack .entry)) r (opens (now (code .entry)) (within .body) address (flowOf flow (now (stack .entry)))) ⌝ }
 {
-    let q = body_at(code, bodies, body);
-    let a = words::wide::half_at(code, q + FIRST_AT);
-    if a != address {
+    if within.first != address {
         return flow;
     }
+    let q = body_at(code, bodies, within.body);
     let c = words::wide::byte_at(code, q + CELL_COUNT_AT);
     if MAX_CELLS < c {
         return Moved::Bad;
     }
     let x = words::wide::byte_at(code, q + PARAMETER_COUNT_AT);
     let y = words::wide::byte_at(code, q + RESULT_AT);
-    if is_plain(body, x, y) {
+    if is_plain(within.body, x, y) {
         Moved::Goes(0, 0)
     } else {
         Moved::Bad
@@ -124,15 +123,16 @@ pub fn found_at(
     code: &[u8],
     shapes: &[u32],
     bodies: &[u32],
-    body: usize,
+    within: Within,
     address: usize,
     stack: &mut [u8],
     flow: Moved,
 ) -> Moved
-    requires { ⌜ (Shaped (now code) (now shapes)) × (Bodied (now code) (now bodies)) × (body < bodyCount (now code)) × (body ≡ bodyOf (now code) address) × (length (now stack) ≡ 32) × (Fit flow) ⌝ }
+    requires { ⌜ (Shaped (now code) (now shapes)) × (Bodied (now code) (now bodies)) × (InBody (now code) address within) × (length (now stack) ≡ 32) × (Fit flow)
+        × (address < count (now code)) ⌝ }
     ensures { λ r. ⌜ Moves (now (stack .exit)) r (found (now (code .entry)) address (flowOf flow (now (stack .entry)))) ⌝ }
 {
-    let o = open_body(code, bodies, body, address, stack, flow);
+    let o = open_body(code, bodies, within, address, stack, flow);
     meet_shape(code, shapes, address, stack, o)
 }
 
@@ -181,15 +181,15 @@ fn onward(
     bodies: &[u32],
     classes: &[u32],
     base: usize,
-    body: usize,
+    within: Within,
     address: usize,
     stack: &mut [u8],
     flow: Moved,
 ) -> Moved
-    requires { ⌜ (Able (now code) (now shapes) (now bodies) (now classes)) × (base ≡ codeBase (now code)) × (body < bodyCount (now code))
+    requires { ⌜ (Able (now code) (now shapes) (now bodies) (now classes)) × (base ≡ codeBase (now code)) × (InBody (now code) address within)
         × (address < count (now code)) × (length (now stack) ≡ 32) × (Fit flow) ⌝ }
-    ensures { λ r. ⌜ Moves (now (stack .exit)) r (leave (now (code .entry)) body address
-        (chain (flowOf flow (now (stack .entry))) (λ h s. effect (now (code .entry)) body
+    ensures { λ r. ⌜ Moves (now (stack .exit)) r (leave (now (code .entry)) (within .body) address
+        (chain (flowOf flow (now (stack .entry))) (λ h s. effect (now (code .entry)) (within .body)
         (byteAt (now (code .entry)) (codePlace (now (code .entry)) address + 2))
         (byteAt (now (code .entry)) (codePlace (now (code .entry)) address + 3)) (wordAt (now (code .entry)) (codePlace (now (code .entry)) address + 4)) h s))) ⌝ }
 {
@@ -199,12 +199,12 @@ fn onward(
         bodies,
         classes,
         base,
-        body,
+        within.body,
         address,
         stack,
         flow,
     );
-    leave_to(code, shapes, bodies, body, address, stack, e)
+    leave_to(code, shapes, within, address, stack, e)
 }
 
 // What goes on, for the walk that has found the state at the address. There is one such walk (`state_check`): with one caller on the way down to
@@ -215,15 +215,15 @@ pub fn go_on(
     bodies: &[u32],
     classes: &[u32],
     base: usize,
-    body: usize,
+    within: Within,
     address: usize,
     stack: &mut [u8],
     flow: Moved,
 ) -> Moved
-    requires { ⌜ (Able (now code) (now shapes) (now bodies) (now classes)) × (base ≡ codeBase (now code)) × (body < bodyCount (now code))
+    requires { ⌜ (Able (now code) (now shapes) (now bodies) (now classes)) × (base ≡ codeBase (now code)) × (InBody (now code) address within)
         × (address < count (now code)) × (length (now stack) ≡ 32) × (Fit flow) ⌝ }
-    ensures { λ r. ⌜ Moves (now (stack .exit)) r (leave (now (code .entry)) body address
-        (chain (flowOf flow (now (stack .entry))) (λ h s. effect (now (code .entry)) body
+    ensures { λ r. ⌜ Moves (now (stack .exit)) r (leave (now (code .entry)) (within .body) address
+        (chain (flowOf flow (now (stack .entry))) (λ h s. effect (now (code .entry)) (within .body)
         (byteAt (now (code .entry)) (codePlace (now (code .entry)) address + 2))
         (byteAt (now (code .entry)) (codePlace (now (code .entry)) address + 3)) (wordAt (now (code .entry)) (codePlace (now (code .entry)) address + 4)) h s))) ⌝ }
 {
@@ -233,28 +233,48 @@ pub fn go_on(
         bodies,
         classes,
         base,
-        body,
+        within,
         address,
         stack,
         flow,
     ))
 }
 
-pub fn next_body(code: &[u8], bodies: &[u32], body: usize, address: usize) -> usize
-    requires { ⌜ (Bodied (now code) (now bodies)) × (body < bodyCount (now code)) × (body ≡ bodyOf (now code) address) × (address < count (now code)) ⌝ }
-    ensures { λ r. ⌜ (r ≡ bodyOf (now (code .entry)) (address + 1)) × (r < bodyCount (now (code .entry))) ⌝ }
+// Where the walk begins: the first body.
+pub fn first_body(code: &[u8], bodies: &[u32]) -> Within
+    requires { ⌜ Bodied (now code) (now bodies) ⌝ }
+    ensures { λ r. ⌜ InBody (now (code .entry)) 0 r ⌝ }
 {
-    let m = words::wide::byte_at(code, BODY_COUNT_AT);
-    if m <= body + 1 {
-        return body;
+    let q = body_at(code, bodies, 0);
+    let first = words::wide::half_at(code, q + FIRST_AT);
+    let end = end_of(code, bodies, 0);
+    Within {
+        body: 0,
+        first: first,
+        end: end,
     }
-    let q = body_at(code, bodies, body + 1);
-    let a = words::wide::half_at(code, q + FIRST_AT);
+}
+
+// The body of the next address. Where a body begins and ends is looked up where it begins, and not at each of its addresses.
+pub fn next_body(code: &[u8], bodies: &[u32], within: Within, address: usize) -> Within
+    requires { ⌜ (Bodied (now code) (now bodies)) × (InBody (now code) address within) × (address < count (now code)) ⌝ }
+    ensures { λ r. ⌜ InBody (now (code .entry)) (address + 1) r ⌝ }
+{
     let j = address + 1;
-    if a == j {
-        return body + 1;
+    if j != within.end {
+        return within;
     }
-    body
+    let m = words::wide::byte_at(code, BODY_COUNT_AT);
+    let k = within.body + 1;
+    if m <= k {
+        return within;
+    }
+    let end = end_of(code, bodies, k);
+    Within {
+        body: k,
+        first: j,
+        end: end,
+    }
 }
 
 pub fn is_bad(flow: Moved) -> bool

@@ -326,12 +326,12 @@ fn walk_tests(
 {
     let stop = words::wide::half_at(code, CODE_COUNT_AT);
     let mut address: usize = 0;
-    let mut body: usize = 0;
+    let mut here = load_check::first_body(code, bodies);
     let mut flow = Moved::Ends;
     let mut ok = true;
     let mut next = next_wanted(state, activations, 0);
     while address < stop {
-        let g = load_check::found_at(code, shapes, bodies, body, address, stack, flow);
+        let g = load_check::found_at(code, shapes, bodies, here, address, stack, flow);
         let w = look(
             code,
             bodies,
@@ -339,20 +339,20 @@ fn walk_tests(
             records,
             activations,
             address,
-            body,
+            here.body,
             stack,
             g,
             ok,
             next,
         );
-        let e = load_check::go_on(code, shapes, bodies, classes, base, body, address, stack, g);
+        let e = load_check::go_on(code, shapes, bodies, classes, base, here, address, stack, g);
         if load_check::is_bad(e) {
             return Tested {
                 at: address,
                 ok: false,
             };
         }
-        body = load_check::next_body(code, bodies, body, address);
+        here = load_check::next_body(code, bodies, here, address);
         flow = e;
         ok = w.ok;
         next = w.next;
@@ -459,6 +459,10 @@ fn inspect_large(
     requires { ⌜ (badHead (now code) ≡ false) × (instructions ≡ count (now code)) × (instructions < 65536) × (64 ≤ length (now bodies)) × (16 ≤ length (now classes)) ⌝ }
     ensures { λ x. ⌜ Tells (now (code .entry)) (now (state .entry)) (now (bodies .exit)) (now (classes .exit)) x ⌝ }
 {
+    if instructions <= 2048 {
+        let mut shapes = [0u32; 2048];
+        return inspect_in(code, state, &mut shapes, bodies, classes, instructions);
+    }
     if instructions <= 8192 {
         let mut shapes = [0u32; 8192];
         return inspect_in(code, state, &mut shapes, bodies, classes, instructions);

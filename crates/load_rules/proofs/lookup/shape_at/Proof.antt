@@ -2,7 +2,7 @@
 use borrow.Author.Needs.{needs}
 use native.Mathlib.Omega.{arith}
 use Rattle.load_records.proofs.Known.{head-of}
-use Rattle.load_rules.proofs.Places.{shape-none, shape-some}
+use Rattle.load_rules.proofs.Places.{shape-none}
 use Rattle.load_rules.proofs.lookup.shape_at.Statement.{statement}
 use Rattle.load_rules.proofs.lookup.shape_at.Tie as tie
 
@@ -12,10 +12,5 @@ half-at-requires c κs = omega (arith, head-of _ (c .before .before .pre .well) 
 returns : tie.Need-returns
 returns c = shape-none _ _ (omega arith)
 
-returns-2 : tie.Need-returns-2
-returns-2 c = shape-some _ _ _ _ (c .before .before .before .before .before .before .pre) (omega arith) (c .wide .ensures .0) (c .wide .ensures .1)
-
 pub shape-at-spec : {M : Type 1} → statement M
-shape-at-spec =
-    tie.close
-    (tie.spec half-at-requires returns (λ c. search needs) (λ c. search needs) (λ c κs. search needs) returns-2)
+shape-at-spec = tie.close (tie.spec half-at-requires returns (λ c κs. search needs) (λ c. search needs))

@@ -12,53 +12,50 @@ enum-told c = search needs
 
 returns : tie.Need-returns
 returns c =
-    let at-start = c .before .before .before .before .before .before .before .before in
-    (leave-end _ _ _ _ _ (c .before .before .before .end-of .ensures) (ap (λ x. flowOf x (at-start .args .stack .now)) (c .before .enum-told .given .1)) (c .if2 .taken), tt)
+    let at-start = c .before .before .before .before .before .before .before in
+    (leave-end _ _ _ _ _ (at-start .pre .1 .upto) (ap (λ x. flowOf x (at-start .args .stack .now)) (c .before .before .enum-told .given .1)) (c .if2 .taken), tt)
 
 returns-2 : tie.Need-returns-2
 returns-2 c =
-    let at-end-of = c .before .before .before .before in
-    let at-start = at-end-of .before .before .before .before .before in
-    (leave-out _ _ _ _ _ (at-end-of .end-of .ensures) _ _ (ap (λ x. flowOf x (at-start .args .stack .now)) (c .before .before .flow .given .1)) (c .if1 .taken), tt)
+    let at-start = c .before .before .before .before .before .before .before .before in
+    (leave-out _ _ _ _ _ (at-start .pre .1 .upto) _ _ (ap (λ x. flowOf x (at-start .args .stack .now)) (c .before .before .before .flow .given .1)) (c .if1 .taken), tt)
 
 returns-3 : tie.Need-returns-3
 returns-3 c =
-    let at-flow = c .before .before in
-    let at-end-of = at-flow .before .before in
-    let at-start = at-end-of .before .before .before .before .before in (
-      leave-on _ _ _ _ _ (at-end-of .end-of .ensures) _ _ (ap (λ x. flowOf x (at-start .args .stack .now)) (at-flow .flow .given .1)) (c .if1 .left),
-      fit-goes _ _ _ (at-start .pre .4) (at-flow .flow .given .1),
+    let at-flow = c .before .before .before in
+    let at-start = at-flow .before .before .before .before .before in (
+      leave-on _ _ _ _ _ (at-start .pre .1 .upto) _ _ (ap (λ x. flowOf x (at-start .args .stack .now)) (at-flow .flow .given .1)) (c .if1 .left),
+      fit-goes _ _ _ (at-start .pre .3) (at-flow .flow .given .1),
     )
 
 returns-4 : tie.Need-returns-4
 returns-4 c =
-    let at-end-of = c .before .before .before .before .before in
-    let at-start = at-end-of .before .before .before .before .before in (
-      leave-lost _ _ _ _ _ (at-end-of .end-of .ensures) (ap (λ x. flowOf x (at-start .args .stack .now))
-          (c .before .before .before .enum-told .given .1)) (c .before .before .if2 .left) _ (c .before .shape-at .ensures .is) (c .if3 .taken),
+    let at-enum-told = c .before .before .before .before in
+    let at-start = at-enum-told .before .before .before .before .before in (
+      leave-lost _ _ _ _ _ (at-start .pre .1 .upto) (ap (λ x. flowOf x (at-start .args .stack .now)) (at-enum-told .enum-told .given .1))
+          (c .before .before .if2 .left) _ (c .before .shape-at .ensures .is) (c .if3 .taken),
       tt,
     )
 
 returns-5 : tie.Need-returns-5
 returns-5 c =
-    let at-end-of = c .before .before .before .before .before in
-    let at-start = at-end-of .before .before .before .before .before in (
-      leave-met _ _ _ _ _ (at-end-of .end-of .ensures) (ap (λ x. flowOf x (at-start .args .stack .now))
-          (c .before .before .before .enum-told .given .1)) (c .before .before .if2 .left) _ (c .before .shape-at .ensures .is) (c .if3 .left),
+    let at-enum-told = c .before .before .before .before in
+    let at-start = at-enum-told .before .before .before .before .before in (
+      leave-met _ _ _ _ _ (at-start .pre .1 .upto) (ap (λ x. flowOf x (at-start .args .stack .now)) (at-enum-told .enum-told .given .1))
+          (c .before .before .if2 .left) _ (c .before .shape-at .ensures .is) (c .if3 .left),
       tt,
     )
 
 returns-6 : tie.Need-returns-6
 returns-6 c =
-    let at-start = c .before .before .before .before .before .before .before in
-    (leave-bad _ _ _ _ _ (c .before .before .end-of .ensures) (ap (λ x. flowOf x (at-start .args .stack .now)) (c .enum-told2 .given .1)), tt)
+    let at-start = c .before .before .before .before .before in
+    (leave-bad _ _ _ _ _ (at-start .pre .1 .upto) (ap (λ x. flowOf x (at-start .args .stack .now)) (c .enum-told2 .given .1)), tt)
 
 pub leave-to-spec : {M : Type 1} → statement M
 leave-to-spec =
     tie.close
     (tie.spec
     (λ c. search needs)
-    (λ c κs. search needs)
     (λ c. search needs)
     enum-told
     returns

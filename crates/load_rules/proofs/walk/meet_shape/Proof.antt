@@ -11,38 +11,38 @@ use Rattle.load_rules.proofs.walk.meet_shape.Tie as tie
 returns : tie.Need-returns
 returns c =
     let at-start = c .before .before .before .before .before in
-    (meet-none _ _ _ _ (c .before .shape-at .ensures .is) (c .if1 .taken), at-start .pre .2)
+    (meet-none _ _ _ _ (c .before .shape-of .ensures .is) (c .if1 .taken), at-start .pre .2)
 
 byte-at-requires : tie.Need-byte-at-requires
-byte-at-requires c κs = omega (arith, c .before .shape-at .ensures .inside (c .if1 .left))
+byte-at-requires c κs = omega (arith, c .before .shape-of .ensures .inside (c .if1 .left))
 
 returns-2 : tie.Need-returns-2
-returns-2 c = (meet-holds _ _ _ _ (c .before .before .before .shape-at .ensures .is) (c .before .before .if1 .left) (omega arith), tt)
+returns-2 c = (meet-holds _ _ _ _ (c .before .before .before .shape-of .ensures .is) (c .before .before .if1 .left) (omega arith), tt)
 
 byte-at-requires-2 : tie.Need-byte-at-requires-2
-byte-at-requires-2 c κs = omega (arith, c .before .before .before .shape-at .ensures .inside (c .before .before .if1 .left))
+byte-at-requires-2 c κs = omega (arith, c .before .before .before .shape-of .ensures .inside (c .before .before .if1 .left))
 
 returns-3 : tie.Need-returns-3
-returns-3 c = (meet-depth _ _ _ _ (c .before .before .before .before .before .shape-at .ensures .is) (c .before .before .before .before .if1 .left) (omega arith) (omega arith), tt)
+returns-3 c = (meet-depth _ _ _ _ (c .before .before .before .before .before .shape-of .ensures .is) (c .before .before .before .before .if1 .left) (omega arith) (omega arith), tt)
 
 equal-shape-requires : tie.Need-equal-shape-requires
 equal-shape-requires c κs =
     let at-if1 = c .before .before .before .before .before .before .before .before in
-    let at-shape-at = at-if1 .before in
-    let at-start = at-shape-at .before .before .before .before in
-    (at-shape-at .shape-at .ensures .inside (at-if1 .if1 .left), at-start .pre .1, fit-goes _ _ _ (at-start .pre .2) (c .before .before .flow .given .1) .1)
+    let at-shape-of = at-if1 .before in
+    let at-start = at-shape-of .before .before .before .before in
+    (at-shape-of .shape-of .ensures .inside (at-if1 .if1 .left), at-start .pre .1, fit-goes _ _ _ (at-start .pre .2) (c .before .before .flow .given .1) .1)
 
 enum-told : tie.Need-enum-told
 enum-told c = search needs
 
 load-types-requires : tie.Need-load-types-requires
 load-types-requires c κs =
-    let r = c .before .before .before .before .before .before .before .before .shape-at .ensures .inside
+    let r = c .before .before .before .before .before .before .before .before .shape-of .ensures .inside
     (c .before .before .before .before .before .before .before .if1 .left) in (omega arith, omega arith)
 
 returns-4 : tie.Need-returns-4
 returns-4 c = (
-  meet-same _ _ _ _ (c .before .before .before .before .before .before .before .before .before .before .before .shape-at .ensures .is)
+  meet-same _ _ _ _ (c .before .before .before .before .before .before .before .before .before .before .before .shape-of .ensures .is)
       (c .before .before .before .before .before .before .before .before .before .before .if1 .left) (omega arith) (omega arith) _ _
       (ap (λ x. flowOf x (c .before .before .before .before .before .before .before .before .before .before .before .before .before .before .before .args .stack .now))
       (c .before .before .before .before .flow .given .1)) (sym (c .before .equal-shape .ensures) ∙ c .if4 .taken),
@@ -52,7 +52,7 @@ returns-4 c = (
 
 returns-5 : tie.Need-returns-5
 returns-5 c = (
-  meet-other _ _ _ _ (c .before .before .before .before .before .before .before .before .before .before .before .shape-at .ensures .is)
+  meet-other _ _ _ _ (c .before .before .before .before .before .before .before .before .before .before .before .shape-of .ensures .is)
       (c .before .before .before .before .before .before .before .before .before .before .if1 .left) (omega arith) (omega arith) _ _
       (ap (λ x. flowOf x (c .before .before .before .before .before .before .before .before .before .before .before .before .before .before .before .args .stack .now))
       (c .before .before .before .before .flow .given .1)) (sym (c .before .equal-shape .ensures) ∙ c .if4 .left),
@@ -61,7 +61,7 @@ returns-5 c = (
 
 returns-6 : tie.Need-returns-6
 returns-6 c = (
-  meet-load _ _ _ _ (c .before .before .before .before .before .before .before .before .before .before .before .shape-at .ensures .is)
+  meet-load _ _ _ _ (c .before .before .before .before .before .before .before .before .before .before .before .shape-of .ensures .is)
       (c .before .before .before .before .before .before .before .before .before .before .if1 .left) (omega arith) (omega arith)
       (ap (λ x. flowOf x (c .before .before .before .before .before .before .before .before .before .before .before .before .before .before .before .args .stack .now))
       (c .before .before .before .before .enum-told .given .1)) _ _ _ (c .before .before .before .before .before .before .before .before .before .byte-at .ensures .0)
@@ -71,7 +71,7 @@ returns-6 c = (
 
 returns-7 : tie.Need-returns-7
 returns-7 c = (
-  meet-bad _ _ _ _ (c .before .before .before .before .before .before .before .shape-at .ensures .is)
+  meet-bad _ _ _ _ (c .before .before .before .before .before .before .before .shape-of .ensures .is)
       (c .before .before .before .before .before .before .if1 .left) (omega arith) (omega arith)
       (ap (λ x. flowOf x (c .before .before .before .before .before .before .before .before .before .before .before .args .stack .now)) (c .enum-told2 .given .1)),
   tt,

@@ -8,37 +8,38 @@ use Rattle.load_rules.proofs.walk.open_body.Tie as tie
 
 returns : tie.Need-returns
 returns c =
-    let at-start = c .before .before .before .before .before .before in
-    (opens-other _ _ _ _ _ (c .before .before .body-at .ensures .is) _ (c .before .half-at .ensures .0) (c .if1 .taken), at-start .pre .2)
+    let at-start = c .before .before .before .before .before in
+    (opens-other _ _ _ _ _ (at-start .pre .1 .from) (c .if1 .taken), at-start .pre .2)
 
 returns-2 : tie.Need-returns-2
-returns-2 c = (opens-cells _ _ _ _ _ (c .before .before .before .before .body-at .ensures .is) _ (c .before .before .before .half-at .ensures .0) (c .before .before .if1 .left) (omega arith), tt)
+returns-2 c =
+    let at-if1 = c .before .before .before in
+    (opens-cells _ _ _ _ _ (at-if1 .before .before .before .before .before .pre .1 .from) (at-if1 .if1 .left) _ (c .before .before .body-at .ensures .is) (omega arith), tt)
 
 returns-3 : tie.Need-returns-3
-returns-3 c = (
-  opens-plain _ _ _ _ _ (c .before .before .before .before .before .before .before .before .body-at .ensures .is) _
-      (c .before .before .before .before .before .before .before .half-at .ensures .0) (c .before .before .before .before .before .before .if1 .left)
-      (omega arith) _ (c .before .before .before .byte-at2 .ensures .0) _ (c .before .before .byte-at3 .ensures .0)
-      (sym (c .before .is-plain .ensures) ∙ c .if3 .taken) _,
-  (omega arith, omega arith),
-)
+returns-3 c =
+    let at-body-at = c .before .before .before .before .before .before in
+    let at-if1 = at-body-at .before in (
+      opens-plain _ _ _ _ _ (at-if1 .before .before .before .before .before .pre .1 .from) (at-if1 .if1 .left) _ (at-body-at .body-at .ensures .is) (omega arith) _
+          (c .before .before .before .byte-at2 .ensures .0) _ (c .before .before .byte-at3 .ensures .0) (sym (c .before .is-plain .ensures) ∙ c .if3 .taken) _,
+      (omega arith, omega arith),
+    )
 
 returns-4 : tie.Need-returns-4
-returns-4 c = (
-  opens-odd _ _ _ _ _ (c .before .before .before .before .before .before .before .before .body-at .ensures .is) _
-      (c .before .before .before .before .before .before .before .half-at .ensures .0) (c .before .before .before .before .before .before .if1 .left)
-      (omega arith) _ (c .before .before .before .byte-at2 .ensures .0) _ (c .before .before .byte-at3 .ensures .0) (sym (c .before .is-plain .ensures) ∙ c .if3 .left),
-  tt,
-)
+returns-4 c =
+    let at-body-at = c .before .before .before .before .before .before in
+    let at-if1 = at-body-at .before in (
+      opens-odd _ _ _ _ _ (at-if1 .before .before .before .before .before .pre .1 .from) (at-if1 .if1 .left) _ (at-body-at .body-at .ensures .is) (omega arith) _
+          (c .before .before .before .byte-at2 .ensures .0) _ (c .before .before .byte-at3 .ensures .0) (sym (c .before .is-plain .ensures) ∙ c .if3 .left),
+      tt,
+    )
 
 pub open-body-spec : {M : Type 1} → statement M
 open-body-spec =
     tie.close
     (tie.spec
-    (λ c κs. search needs)
-    (λ c. search needs)
-    (λ c κs. search needs)
     returns
+    (λ c κs. search needs)
     (λ c. search needs)
     (λ c κs. search needs)
     returns-2

@@ -9,7 +9,9 @@ use Rattle.state_check.proofs.inspection.inspect.Statement.{statement}
 use Rattle.state_check.proofs.inspection.inspect.Tie as tie
 
 returns : tie.Need-returns
-returns c = telling.refuses _ (c .before .before .before .before .before .before .args .state .now) 8 0 (sym (rule.judge-head _ (sym (c .before .bad-head .ensures) ∙ c .if1 .taken)))
+returns c =
+    let at-start = c .before .before .before .before .before .before in
+    telling.refuses _ (at-start .args .state .now) 8 0 (sym (rule.judge-head _ (sym (c .before .bad-head .ensures) ∙ c .if1 .taken)))
 
 half-at-requires : tie.Need-half-at-requires
 half-at-requires c κs = omega (arith, head-known _ (sym (c .before .bad-head .ensures) ∙ c .if1 .left) .bytes)
@@ -52,13 +54,22 @@ inspect-large-requires c κs =
     (sym (at-bad-head .bad-head .ensures) ∙ at-if1 .if1 .left, at-half-at .half-at .ensures .0, at-half-at .half-at .ensures .1, at-start .pre .0, at-start .pre .1)
 
 returns-2 : tie.Need-returns-2
-returns-2 c = telling.told _ _ (λ i. c .before .before .before .before .before .before .before .before .before .before .before .before .before .before .before .shared-slice-known2 .given i .fits) _ _ (c .before .before .before .before .before .inspect-in .result) (c .before .before .before .before .before .inspect-in .ensures)
+returns-2 c =
+    let at-inspect-in = c .before .before .before .before .before in
+    let at-shared-slice-known2 = at-inspect-in .before .before .before .before .before .before .before .before .before .before in
+    telling.told _ _ (λ i. at-shared-slice-known2 .shared-slice-known2 .given i .fits) _ _ (at-inspect-in .inspect-in .result) (at-inspect-in .inspect-in .ensures)
 
 returns-3 : tie.Need-returns-3
-returns-3 c = telling.told _ _ (λ i. c .before .before .before .before .before .before .before .before .before .before .before .before .before .before .before .before .shared-slice-known2 .given i .fits) _ _ (c .before .before .before .before .before .inspect-in2 .result) (c .before .before .before .before .before .inspect-in2 .ensures)
+returns-3 c =
+    let at-inspect-in2 = c .before .before .before .before .before in
+    let at-shared-slice-known2 = at-inspect-in2 .before .before .before .before .before .before .before .before .before .before .before in
+    telling.told _ _ (λ i. at-shared-slice-known2 .shared-slice-known2 .given i .fits) _ _ (at-inspect-in2 .inspect-in2 .result) (at-inspect-in2 .inspect-in2 .ensures)
 
 returns-4 : tie.Need-returns-4
-returns-4 c = telling.told _ _ (λ i. c .before .before .before .before .before .before .before .before .before .before .before .before .before .before .shared-slice-known2 .given i .fits) _ _ (c .before .before .before .before .inspect-large .result) (c .before .before .before .before .inspect-large .ensures)
+returns-4 c =
+    let at-inspect-large = c .before .before .before .before in
+    let at-shared-slice-known2 = at-inspect-large .before .before .before .before .before .before .before .before .before .before in
+    telling.told _ _ (λ i. at-shared-slice-known2 .shared-slice-known2 .given i .fits) _ _ (at-inspect-large .inspect-large .result) (at-inspect-large .inspect-large .ensures)
 
 pub inspect-spec : {M : Type 1} → statement M
 inspect-spec =

@@ -55,12 +55,17 @@ sized-fits-requires : tie.Need-sized-fits-requires
 sized-fits-requires c κs = let p = c .before .before .before in (able p .bodied, able p .classed, based p)
 
 count-wanted-requires : tie.Need-count-wanted-requires
-count-wanted-requires c κs = let s = c .before .before .before .before .before .before .before .before .before .before .before .before .before .before .before .before .before .before .before .before .before .args in telling.long (s .code .now) (s .state .now) _ (c .sized-fits .ensures)
+count-wanted-requires c κs =
+    let at-start = c .before .before .before .before .before .before .before .before .before .before .before .before .before .before .before .before .before .before .before .before .before in
+    let s = at-start .args in telling.long (s .code .now) (s .state .now) _ (c .sized-fits .ensures)
 
 walk-tests-requires : tie.Need-walk-tests-requires
 walk-tests-requires c κs =
-    let counts = c .before .before .before .before .count-wanted in
-    let plain = c .before .before .before .before .before .sized-fits in
+    let at-count-wanted = c .before .before .before .before in
+    let at-sized-fits = at-count-wanted .before in
+    let at-before = at-sized-fits .before .before .before in
+    let counts = at-count-wanted .count-wanted in
+    let plain = at-sized-fits .sized-fits in
     let p = c .before .before .before .before .before .before .before .before .before in
     let s = start-of p in
     let w = telling.wanted (s .args .code .now) (s .args .state .now) (plain .result) (counts .result .activations) (counts .result .records)
@@ -77,11 +82,13 @@ returns c =
 
 returns-2 : tie.Need-returns-2
 returns-2 c =
-    let scan = c .before .before .before .before .before .before .before .before .before .scan in
+    let at-scan = c .before .before .before .before .before .before .before .before .before in
+    let scan = at-scan .scan in
     sym (rule.judge-unread _ (scan .result) (scan .ensures .0) _ (c .before .k .given .1))
 
 returns-3 : tie.Need-returns-3
 returns-3 c =
+    let at-before = c .before .before .before .before .before .before .before .before .before .before .before .before .before in
     let p = c .before .before in
     let q = c .before .before .before .before .before .before .before .before .before .before .before .before .before .before in
     (passed p, sounds p ∙ sym (c .before .both .ensures) ∙ c .if2 .taken, record { bodied = able q .bodied; classed = able q .classed; based = based q })
