@@ -2,9 +2,11 @@
 //!
 //!     rt staticlib desk && cargo run --profile speed --offline --bin bench [PART...] [store]
 //!
-//! Parts: load, check, compile, machine, programs; none named: all. At the end each ratio of the machine to the plain one is held to the one stored in
+//! Parts: load, check, compile, machine, programs, chase; none named: all. At the end each ratio of the machine to the plain one is held to the one stored in
 //! tests/bench.ratios, and a line says SLOWER where it is a fifth above; with the word store they are stored instead.
 
+#[cfg(desk)]
+mod chase;
 #[cfg(desk)]
 mod lua;
 #[cfg(desk)]
@@ -14,7 +16,7 @@ mod ratios;
 
 #[cfg(desk)]
 fn main() {
-    const PARTS: [&str; 5] = ["load", "check", "compile", "machine", "programs"];
+    const PARTS: [&str; 6] = ["load", "check", "compile", "machine", "programs", "chase"];
     let words: Vec<String> = std::env::args().skip(1).collect();
     let (store, parts): (Vec<&String>, Vec<&String>) = words.iter().partition(|word| *word == "store");
     if let Some(other) = parts.iter().find(|part| !PARTS.contains(&part.as_str())) {
@@ -39,6 +41,9 @@ fn main() {
     }
     if wanted("programs") {
         programs::table_of_rounds(&mut ratios);
+    }
+    if wanted("chase") {
+        chase::table_of_events();
     }
     if store.is_empty() {
         ratios.compare();

@@ -66,7 +66,7 @@ fn programs() -> Vec<Program> {
 }
 
 /// The program's macro, and its fresh state.
-fn started(entries: &str) -> (Vec<u8>, Vec<u8>) {
+pub fn started(entries: &str) -> (Vec<u8>, Vec<u8>) {
     let mut code = vec![0; MOST_MACRO_BYTES];
     let [tag, _, refusal, length] = desk::unpacked(desk::compile(&table(entries), &mut code));
     assert_eq!(tag, 1, "refused by {refusal}, at {length}");
