@@ -1,17 +1,17 @@
 -- Plays on the bytes of a sound state are runs of the plain machine: what a list of calls, of runs and of plays, answers and writes is what one list of
 -- runs of the plain machine gives.
-use mathlib.Core.Path.{_≡_, refl, sym, ap, _∙_, subst}
+use mathlib.Core.Path.{_≡_, refl, sym, ap, _∙_}
 use mathlib.Core.Bool.{Bool, true, false}
 use mathlib.Core.List.{List, [], _∷_, _++_}
 use Prim.Native.Nat.{ℕ, zero, suc, _+_, _-_, _/_}
 use native.Mathlib.Omega.{arith}
 use lib.Dec.{eqb}
 use lib.ListN.{length}
-use borrow.Author.Tests.{eqb-true, eqb-false}
+use borrow.Author.Tests.{eqb-true}
 use Rattle.logic.specs.Choice.{if_then_else_}
 use Rattle.logic.specs.Lists.{Each}
 use Rattle.words.specs.Laws.{Bytes}
-use Rattle.values.specs.Ends.{refusal, accepted}
+use Rattle.values.specs.Ends.{accepted}
 use Rattle.bytecode.specs.Macro.{Macro}
 use Rattle.bytecode.specs.Rules.{judgeMacro}
 use Rattle.bytecode.specs.Machine.{Machine}

@@ -23,7 +23,7 @@ use Rattle.bytecode_runs.specs.Terms.{Fed, runsOn, onBytes}
 use Rattle.bytecode_runs.specs.Bytes.{started, runs-are}
 use Rattle.bytecode_runs.specs.Plays.{Call, one, many, feedOf, callOn, callsOn, plainCalls, calls-are}
 use Rattle.run.specs.Fields.{Ranged, run-ranged}
-use Rattle.run.specs.Plays.{Fine, play-fine}
+use Rattle.run.specs.Plays.{play-fine}
 
 -- what C sees of a call: the number answered, and the state's bytes after it
 pub record Seen : Type 0 where

@@ -1,19 +1,15 @@
 -- What a play gives: its runs one after the other, and before them what the tests told.
-use mathlib.Core.Path.{_≡_, refl, sym, ap, _∙_, subst}
-use mathlib.Core.Bool.{Bool, true, false, cond}
-use mathlib.Core.List.{List, [], _∷_}
-use Prim.Native.Nat.{ℕ, zero, suc, _+_, _*_, _-_, _/_, _≤_, _<_}
+use mathlib.Core.Path.{_≡_, refl, sym, ap, _∙_}
+use mathlib.Core.List.{List}
+use Prim.Native.Nat.{ℕ, suc, _+_, _*_, _-_, _/_, _≤_, _<_}
 use native.Mathlib.Omega.{arith}
-use lib.Dec.{eqb}
 use lib.ListN.{length}
 use lib.Seq.{sets}
-use borrow.Author.Tests.{eq-eqb}
 use Rattle.words.specs.Laws.{Bytes}
-use Rattle.values.specs.Ends.{refusal, accepted}
-use Rattle.values.specs.Trace.{Event, Item, event, reading}
-use Rattle.bytecode.specs.Macro.{Macro}
-use Rattle.bytecode.specs.Machine.{Machine, running, unwinding, ended, Stepped, moved, stuck, step}
-use Rattle.bytecode.specs.Runs.{Answer, happens, spends, finishes, refuses, halts, Ran, Feed, bankOf, ends, afterStep, steps, run}
+use Rattle.values.specs.Ends.{refusal}
+use Rattle.values.specs.Trace.{Event, event}
+use Rattle.bytecode.specs.Machine.{Machine}
+use Rattle.bytecode.specs.Runs.{Answer, happens, spends, finishes, refuses, halts, Feed, steps, run}
 use Rattle.bytecode.specs.Sound.{sound}
 use Rattle.bytecode.specs.State.{encode}
 use Rattle.bytecode.specs.Lent.{RanOn, written, runOn}

@@ -8,11 +8,7 @@ use Rattle.words.specs.Numbers.{word}
 use Rattle.words.specs.Laws.{sets-append}
 use Rattle.packing.proofs.put_answer.Statement.{statement}
 use Rattle.packing.proofs.put_answer.Tie as tie
-use Rattle.packing.proofs.put_answer.Reads as reads
-use Rattle.packing.proofs.put_answer.Lts as lts
-use Rattle.words.proofs.put_word.Reads as put-word-reads
 
--- src/lib.rt:38:1
 returns : tie.Need-returns
 returns c =
     let at-put-word = c .before .before .before .before .before .before in

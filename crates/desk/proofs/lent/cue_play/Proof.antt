@@ -4,35 +4,25 @@ use Rattle.desk.proofs.Laws as law
 use borrow.Author.Needs.{needs}
 use Rattle.desk.proofs.lent.cue_play.Statement.{statement}
 use Rattle.desk.proofs.lent.cue_play.Tie as tie
-use Rattle.desk.proofs.lent.cue_play.Reads as reads
-use Rattle.desk.proofs.lent.cue_play.Lts as lts
-use Rattle.packing.proofs.pack.Reads as pack-reads
-use Rattle.packing.proofs.pack_refusal.Reads as pack-refusal-reads
-use Rattle.run.proofs.play.Reads as play-reads
 
--- src/lent.rt:47:37
 pack-refusal-requires : tie.Need-pack-refusal-requires
 pack-refusal-requires c κs = law.play-small _ _ _ _ _ _ _ (c .before .before .before .before .before .before .before .play .result) (c .before .before .before .before .before .before .before .play .ensures) (λ k. c .before .before .before .before .before .before .before .before .before .before .before .before .before .shared-slice-known .given k .fits) (λ k. c .before .before .before .before .before .before .before .before .before .before .before .shared-slice-known2 .given k .fits) (omega arith) _ (c .before .refusal .given .1)
 
--- src/lent.rt:37:1
 returns : tie.Need-returns
 returns c =
     let at-play = c .before .before .before .before .before .before .before .before in
     law.plays _ _ _ _ _ _ _ (at-play .play .result) (at-play .play .ensures) _ (c .before .before .steps .given .1) _ (c .pack .ensures)
 
--- src/lent.rt:37:1
 returns-2 : tie.Need-returns-2
 returns-2 c =
     let at-play = c .before .before .before .before .before .before .before .before in
     law.plays _ _ _ _ _ _ _ (at-play .play .result) (at-play .play .ensures) _ (c .before .before .end .given .1) _ (c .pack2 .ensures)
 
--- src/lent.rt:37:1
 returns-3 : tie.Need-returns-3
 returns-3 c =
     let at-play = c .before .before .before .before .before .before .before .before in
     law.plays _ _ _ _ _ _ _ (at-play .play .result) (at-play .play .ensures) _ (c .before .before .steps2 .given .1) _ (c .pack3 .ensures)
 
--- src/lent.rt:37:1
 returns-4 : tie.Need-returns-4
 returns-4 c =
     let at-play = c .before .before .before .before .before .before .before .before in

@@ -5,158 +5,115 @@ use Rattle.load_places.specs.Rules.{effect, opInteger, opBits}
 use Rattle.load_rules.specs.Paired.{opCell, opField}
 use Rattle.load_rules.proofs.ops.effect_of.Statement.{statement}
 use Rattle.load_rules.proofs.ops.effect_of.Tie as tie
-use Rattle.load_rules.proofs.ops.effect_of.Reads as reads
-use Rattle.load_rules.proofs.ops.effect_of.Lts as lts
-use Rattle.load_rules.proofs.ops.op_assert.Reads as op-assert-reads
-use Rattle.load_rules.proofs.ops.op_call.Reads as op-call-reads
-use Rattle.load_rules.proofs.ops.op_cell.Reads as op-cell-reads
-use Rattle.load_rules.proofs.ops.op_constant.Reads as op-constant-reads
-use Rattle.load_rules.proofs.ops.op_end.Reads as op-end-reads
-use Rattle.load_rules.proofs.ops.op_fader.Reads as op-fader-reads
-use Rattle.load_rules.proofs.ops.op_field.Reads as op-field-reads
-use Rattle.load_rules.proofs.ops.op_go.Reads as op-go-reads
-use Rattle.load_rules.proofs.ops.op_hold.Reads as op-hold-reads
-use Rattle.load_rules.proofs.ops.op_logical.Reads as op-logical-reads
-use Rattle.load_rules.proofs.ops.op_make.Reads as op-make-reads
-use Rattle.load_rules.proofs.ops.op_null.Reads as op-null-reads
-use Rattle.load_rules.proofs.ops.op_operator.Reads as op-operator-reads
-use Rattle.load_rules.proofs.ops.op_release.Reads as op-release-reads
-use Rattle.load_rules.proofs.ops.op_return.Reads as op-return-reads
-use Rattle.load_rules.proofs.ops.op_set.Reads as op-set-reads
-use Rattle.load_rules.proofs.ops.op_stop.Reads as op-stop-reads
-use Rattle.load_rules.proofs.ops.op_unless.Reads as op-unless-reads
-use Rattle.load_rules.proofs.stack.rebuilt.Reads as rebuilt-reads
 
--- src/ops.rt:497:1
 returns : tie.Need-returns
 unfolding effect opInteger opBits opCell opField
 returns c = rw (c .rebuilt .ensures, c .before .before .before .match .keys1) (c .before .op-end .ensures)
 
--- src/ops.rt:497:1
 returns-2 : tie.Need-returns-2
 unfolding effect opInteger opBits opCell opField
 returns-2 c =
     let at-match = c .before .before .before .before .before in
     rw (c .rebuilt2 .ensures, at-match .match .keys2) (c .before .before .before .op-constant .ensures)
 
--- src/ops.rt:497:1
 returns-3 : tie.Need-returns-3
 unfolding effect opInteger opBits opCell opField
 returns-3 c =
     let at-match = c .before .before .before .before .before in
     rw (c .rebuilt3 .ensures, at-match .match .keys3) (c .before .before .before .op-logical .ensures)
 
--- src/ops.rt:497:1
 returns-4 : tie.Need-returns-4
 unfolding effect opInteger opBits opCell opField
 returns-4 c =
     let at-match = c .before .before .before .before .before in
     rw (c .rebuilt4 .ensures, at-match .match .keys4) (c .before .before .before .op-constant2 .ensures)
 
--- src/ops.rt:497:1
 returns-5 : tie.Need-returns-5
 unfolding effect opInteger opBits opCell opField
 returns-5 c =
     let at-match = c .before .before .before .before .before in
     rw (c .rebuilt5 .ensures, at-match .match .keys5) (c .before .before .before .op-null .ensures)
 
--- src/ops.rt:497:1
 returns-6 : tie.Need-returns-6
 unfolding effect opInteger opBits opCell opField
 returns-6 c =
     let at-match = c .before .before .before .before .before in
     rw (c .rebuilt6 .ensures, at-match .match .keys6) (c .before .before .before .op-cell .ensures)
 
--- src/ops.rt:497:1
 returns-7 : tie.Need-returns-7
 unfolding effect opInteger opBits opCell opField
 returns-7 c =
     let at-match = c .before .before .before .before .before in
     rw (c .rebuilt7 .ensures, at-match .match .keys7) (c .before .before .before .op-cell2 .ensures)
 
--- src/ops.rt:497:1
 returns-8 : tie.Need-returns-8
 unfolding effect opInteger opBits opCell opField
 returns-8 c =
     let at-match = c .before .before .before .before .before in
     rw (c .rebuilt8 .ensures, at-match .match .keys8) (c .before .before .before .op-operator .ensures)
 
--- src/ops.rt:497:1
 returns-9 : tie.Need-returns-9
 unfolding effect opInteger opBits opCell opField
 returns-9 c = rw (c .rebuilt9 .ensures, c .before .before .before .match .keys9) (c .before .op-go .ensures)
 
--- src/ops.rt:497:1
 returns-10 : tie.Need-returns-10
 unfolding effect opInteger opBits opCell opField
 returns-10 c = rw (c .rebuilt10 .ensures, c .before .before .before .match .keys10) (c .before .op-unless .ensures)
 
--- src/ops.rt:497:1
 returns-11 : tie.Need-returns-11
 unfolding effect opInteger opBits opCell opField
 returns-11 c =
     let at-match = c .before .before .before .before .before in
     rw (c .rebuilt11 .ensures, at-match .match .keys11) (c .before .before .before .op-call .ensures)
 
--- src/ops.rt:497:1
 returns-12 : tie.Need-returns-12
 unfolding effect opInteger opBits opCell opField
 returns-12 c = rw (c .rebuilt12 .ensures, c .before .before .before .match .keys12) (c .before .op-return .ensures)
 
--- src/ops.rt:497:1
 returns-13 : tie.Need-returns-13
 unfolding effect opInteger opBits opCell opField
 returns-13 c =
     let at-match = c .before .before .before .before .before in
     rw (c .rebuilt13 .ensures, at-match .match .keys13) (c .before .before .before .op-make .ensures)
 
--- src/ops.rt:497:1
 returns-14 : tie.Need-returns-14
 unfolding effect opInteger opBits opCell opField
 returns-14 c =
     let at-match = c .before .before .before .before .before in
     rw (c .rebuilt14 .ensures, at-match .match .keys14) (c .before .before .before .op-field .ensures)
 
--- src/ops.rt:497:1
 returns-15 : tie.Need-returns-15
 unfolding effect opInteger opBits opCell opField
 returns-15 c =
     let at-match = c .before .before .before .before .before in
     rw (c .rebuilt15 .ensures, at-match .match .keys15) (c .before .before .before .op-field2 .ensures)
 
--- src/ops.rt:497:1
 returns-16 : tie.Need-returns-16
 unfolding effect opInteger opBits opCell opField
 returns-16 c = rw (c .rebuilt16 .ensures, c .before .before .before .match .keys16) (c .before .op-set .ensures)
 
--- src/ops.rt:497:1
 returns-17 : tie.Need-returns-17
 unfolding effect opInteger opBits opCell opField
 returns-17 c =
     let at-match = c .before .before .before .before .before in
     rw (c .rebuilt17 .ensures, at-match .match .keys17) (c .before .before .before .op-fader .ensures)
 
--- src/ops.rt:497:1
 returns-18 : tie.Need-returns-18
 unfolding effect opInteger opBits opCell opField
 returns-18 c = rw (c .rebuilt18 .ensures, c .before .before .before .match .keys18) (c .before .op-hold .ensures)
 
--- src/ops.rt:497:1
 returns-19 : tie.Need-returns-19
 unfolding effect opInteger opBits opCell opField
 returns-19 c = rw (c .rebuilt19 .ensures, c .before .before .before .match .keys19) (c .before .op-release .ensures)
 
--- src/ops.rt:497:1
 returns-20 : tie.Need-returns-20
 unfolding effect opInteger opBits opCell opField
 returns-20 c = rw (c .rebuilt20 .ensures, c .before .before .before .match .keys20) (c .before .op-assert .ensures)
 
--- src/ops.rt:497:1
 returns-21 : tie.Need-returns-21
 unfolding effect opInteger opBits opCell opField
 returns-21 c = rw (c .rebuilt21 .ensures, c .before .before .before .match .keys21) (c .before .op-stop .ensures)
 
--- src/ops.rt:497:1
 returns-22 : tie.Need-returns-22
 unfolding effect
 returns-22 c = (

@@ -6,44 +6,34 @@ use Rattle.run.proofs.Playing as play
 use borrow.Author.Needs.{needs}
 use Rattle.run.proofs.plays.play.Statement.{statement}
 use Rattle.run.proofs.plays.play.Tie as tie
-use Rattle.run.proofs.plays.play.Reads as reads
-use Rattle.run.proofs.plays.play.Lts as lts
-use Rattle.run.proofs.plays.play_passed.Reads as play-passed-reads
-use Rattle.state_check.proofs.inspect.Reads as inspect-reads
 
--- src/plays.rt:90:21
 cast-t19 : tie.Need-cast-t19
 cast-t19 c =
     let at-inspect = c .before .before .before .before .before in
     let at-shared-slice-known = at-inspect .before .before .before .before .before .before .before in
     record { fits = judged-small _ (λ k. at-shared-slice-known .shared-slice-known .given k .fits) _ (law.told-refused _ _ _ _ (at-inspect .inspect .result) (at-inspect .inspect .ensures) _ _ (c .before .number .given .1)) .0 }
 
--- src/plays.rt:91:20
 cast-t20 : tie.Need-cast-t20
 cast-t20 c =
     let at-inspect = c .before .before .before .before .before in
     let at-shared-slice-known = at-inspect .before .before .before .before .before .before .before in
     record { fits = omega (arith, judged-small _ (λ k. at-shared-slice-known .shared-slice-known .given k .fits) _ (law.told-refused _ _ _ _ (at-inspect .inspect .result) (at-inspect .inspect .ensures) _ _ (c .before .number .given .1)) .1) }
 
--- src/plays.rt:95:13
 enum-told : tie.Need-enum-told
 enum-told c = search needs
 
--- src/plays.rt:93:31
 play-passed-requires : tie.Need-play-passed-requires
 play-passed-requires c κs =
     let at-enum-told = c .before .before .before .before in
     let at-inspect = at-enum-told .before .before .before .before in
     law.told-unsound _ _ _ _ (at-inspect .inspect .result) (at-inspect .inspect .ensures) (at-enum-told .enum-told .given .1)
 
--- src/plays.rt:104:35
 play-passed-requires-2 : tie.Need-play-passed-requires-2
 play-passed-requires-2 c κs =
     let at-base = c .before .before .before .before .before in
     let at-inspect = at-base .before .before .before .before in
     law.told-sound _ _ _ _ (at-inspect .inspect .result) (at-inspect .inspect .ensures) _ (at-base .base .given .1)
 
--- src/plays.rt:82:1
 returns : tie.Need-returns
 returns c =
     let at-inspect = c .before .before .before .before .before in

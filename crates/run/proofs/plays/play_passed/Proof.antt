@@ -6,19 +6,12 @@ use Rattle.run.proofs.Playing as play
 use borrow.Author.Needs.{needs}
 use Rattle.run.proofs.plays.play_passed.Statement.{statement}
 use Rattle.run.proofs.plays.play_passed.Tie as tie
-use Rattle.run.proofs.plays.play_passed.Reads as reads
-use Rattle.run.proofs.plays.play_passed.Lts as lts
-use Rattle.run.proofs.plays.play_sound.Reads as play-sound-reads
-use Rattle.run.proofs.runs.refusal_of.Reads as refusal-of-reads
-use Rattle.state_write.proofs.clear.Reads as clear-reads
 
--- src/plays.rt:73:9
 returns : tie.Need-returns
 returns c =
     let at-start = c .before .before .before .before .before .before .before .before in
     play.play-refused _ _ _ _ _ _ _ (law.refused-first (now (at-start .args .code)) (now (at-start .args .state)) (now (at-start .args .readings)) 0 (now (at-start .args .bodies)) (now (at-start .args .classes)) (at-start .args .base) (at-start .args .sound) (at-start .pre) _ (c .before .refusal-of .ensures) (c .if1 .taken))
 
--- src/plays.rt:76:9
 returns-2 : tie.Need-returns-2
 returns-2 c =
     let at-shared-slice-known4 = c .before .before .before .before in
@@ -26,13 +19,11 @@ returns-2 c =
     let at-start = at-shared-slice-known .before in
     let s = law.none-first (now (at-start .args .code)) (now (at-start .args .state)) (now (at-start .args .readings)) (at-start .args .allowance) (now (at-start .args .bodies)) (now (at-start .args .classes)) (at-start .args .base) (at-start .args .sound) (at-start .pre) _ (c .before .before .refusal-of .ensures) (c .before .if1 .left) in play.play-none _ _ _ _ _ (λ k. at-shared-slice-known .shared-slice-known .given k .fits) (λ k. at-shared-slice-known4 .shared-slice-known4 .given k .fits) (s .0 .0) (s .1) (c .if2 .taken)
 
--- src/plays.rt:78:5
 clear-requires : tie.Need-clear-requires
 clear-requires c κs =
     let at-start = c .before .before .before .before .before .before .before .before .before .before in
     let s = law.none-first (now (at-start .args .code)) (now (at-start .args .state)) (now (at-start .args .readings)) (at-start .args .allowance) (now (at-start .args .bodies)) (now (at-start .args .classes)) (at-start .args .base) (at-start .args .sound) (at-start .pre) _ (c .before .before .before .refusal-of .ensures) (c .before .before .if1 .left) in (s .0 .0, s .0 .1 .bodied, s .0 .1 .classed)
 
--- src/plays.rt:79:5
 play-sound-requires : tie.Need-play-sound-requires
 play-sound-requires c κs =
     let at-clear = c .before .before .before .before in
@@ -43,7 +34,6 @@ play-sound-requires c κs =
     let at-start = at-shared-slice-known .before in
     let s = law.none-first (now (at-start .args .code)) (now (at-start .args .state)) (now (at-start .args .readings)) (at-start .args .allowance) (now (at-start .args .bodies)) (now (at-start .args .classes)) (at-start .args .base) (at-start .args .sound) (at-start .pre) _ (at-refusal-of .refusal-of .ensures) (at-if1 .if1 .left) in (law.found _ _ _ _ (λ k. at-shared-slice-known .shared-slice-known .given k .fits) (s .0 .1), play.standing _ _ (now (at-start .args .readings)) (at-start .args .allowance) (now (at-start .args .answers)) (λ k. at-shared-slice-known .shared-slice-known .given k .fits) (λ k. at-shared-slice-known4 .shared-slice-known4 .given k .fits) (s .0 .0) (s .1) _ (at-clear .clear .ensures), s .1)
 
--- src/plays.rt:56:1
 returns-3 : tie.Need-returns-3
 returns-3 c =
     let at-play-sound = c .before .before .before .before in

@@ -1,16 +1,10 @@
 -- `run::plays::play_sound` meets its contract. Assumes nothing.
 use Prim.Native.Nat.{_-_}
-use denote.Ref.{now}
 use borrow.Author.Needs.{needs}
 use native.Mathlib.Omega.{arith}
 use Rattle.run.proofs.Playing.{Plays, plays-first, plays-full, plays-on, plays-spent, plays-ended, ran-on, held, taken-upto, spent-upto, ended-upto}
 use Rattle.run.proofs.plays.play_sound.Statement.{statement}
 use Rattle.run.proofs.plays.play_sound.Tie as tie
-use Rattle.run.proofs.plays.play_sound.Reads as reads
-use Rattle.run.proofs.plays.play_sound.Lts as lts
-use Rattle.machine_run.proofs.run_sound.Reads as run-sound-reads
-use Rattle.packing.proofs.pack_event.Reads as pack-event-reads
-use Rattle.packing.proofs.put_answer.Reads as put-answer-reads
 
 abbrev Inv-loop : tie.InvT-loop
 Inv-loop code bodies classes base state₀ readings allowance answers₀ room taken₀ events₀ state answers taken events = Plays code readings allowance room state₀ answers₀ state answers taken events
@@ -18,47 +12,39 @@ Inv-loop code bodies classes base state₀ readings allowance answers₀ room ta
 abbrev μ-loop : tie.MeasureT-loop
 μ-loop code bodies classes base state₀ readings allowance answers₀ room taken₀ events₀ state answers taken events = room - events
 
--- src/plays.rt:35:5
 loop-holds : tie.Need-loop-holds Inv-loop μ-loop
 loop-holds c =
     let at-start = c .before .before .before .before .before .before in
     plays-first _ _ _ _ _ _ (at-start .pre .1)
 
--- src/plays.rt:35:12
 cast-loop : tie.Need-cast-loop Inv-loop μ-loop
 cast-loop c = record { fits = omega (arith, c .loop .inv .few, c .loop .inv .upto) }
 
--- src/plays.rt:36:20
 sub-left : tie.Need-sub-left Inv-loop μ-loop
 sub-left c = c .before .loop .inv .upto
 
--- src/plays.rt:37:15
 run-sound-requires : tie.Need-run-sound-requires Inv-loop μ-loop
 run-sound-requires c κs =
     let at-shared-slice-known = c .before .before .before .before .before .before .before .before in
     let at-start = at-shared-slice-known .before in
     (at-start .pre .0, held _ _ (λ k. at-shared-slice-known .shared-slice-known .given k .fits) (c .before .before .loop .inv .standing), at-start .pre .2)
 
--- src/plays.rt:40:62
 cast-put-answer : tie.Need-cast-put-answer Inv-loop μ-loop
 cast-put-answer c =
     let at-loop = c .before .before .before .before .before .before .before .before .before .before in
     record { fits = omega (arith, at-loop .loop .inv .few, at-loop .loop .inv .upto) }
 
--- src/plays.rt:40:46
 mul-put-answer : tie.Need-mul-put-answer Inv-loop μ-loop
 mul-put-answer c =
     let at-loop = c .before .before .before .before .before .before .before .before .before .before in
     record { fits = omega (arith, at-loop .loop .inv .few, at-loop .loop .inv .upto) }
 
--- src/plays.rt:40:17
 put-answer-requires : tie.Need-put-answer-requires Inv-loop μ-loop
 put-answer-requires c κs =
     let at-loop-test = c .before .before .before .before .before .before .before .before .before in
     let at-loop = at-loop-test .before in
     omega (arith, at-loop .loop .inv .long, at-loop-test .loop-test)
 
--- src/plays.rt:41:17
 add-taken : tie.Need-add-taken Inv-loop μ-loop
 add-taken c =
     let at-e = c .before .before .before .before .before .before in
@@ -69,7 +55,6 @@ add-taken c =
     let at-start = at-shared-slice-known .before in
     let x = ran-on _ _ (λ k. at-shared-slice-known .shared-slice-known .given k .fits) (λ k. at-shared-slice-known4 .shared-slice-known4 .given k .fits) (at-start .pre .2) _ (at-loop .loop .inv .standing) _ _ (at-run-sound .run-sound .result) (at-run-sound .run-sound .ensures) in record { fits = omega (arith, taken-upto x _ _ (at-e .e .given .1), at-loop .loop .inv .upto) }
 
--- src/plays.rt:42:17
 add-events : tie.Need-add-events Inv-loop μ-loop
 add-events c =
     let at-e = c .before .before .before .before .before .before in
@@ -80,13 +65,11 @@ add-events c =
     let at-start = at-shared-slice-known .before in
     let x = ran-on _ _ (λ k. at-shared-slice-known .shared-slice-known .given k .fits) (λ k. at-shared-slice-known4 .shared-slice-known4 .given k .fits) (at-start .pre .2) _ (at-loop .loop .inv .standing) _ _ (at-run-sound .run-sound .result) (at-run-sound .run-sound .ensures) in record { fits = omega (arith, taken-upto x _ _ (at-e .e .given .1), at-loop .loop .inv .upto, at-loop .loop .inv .few) }
 
--- src/plays.rt:35:5
 loop-less : tie.Need-loop-less Inv-loop μ-loop
 loop-less c =
     let at-loop-test = c .before .before .before .before .before .before .before .before .before .before .before .before in
     omega (arith, at-loop-test .loop-test)
 
--- src/plays.rt:35:5
 loop-again : tie.Need-loop-again Inv-loop μ-loop
 loop-again c =
     let at-put-answer = c .before .before in
@@ -100,7 +83,6 @@ loop-again c =
     let at-start = at-shared-slice-known .before in
     plays-on _ _ _ (at-loop .loop .inv) (at-loop-test .loop-test .taken) _ _ (ran-on _ _ (λ k. at-shared-slice-known .shared-slice-known .given k .fits) (λ k. at-shared-slice-known4 .shared-slice-known4 .given k .fits) (at-start .pre .2) _ (at-loop .loop .inv .standing) _ _ (at-run-sound .run-sound .result) (at-run-sound .run-sound .ensures)) _ _ (at-e .e .given .1) _ (at-pack-event .pack-event .ensures) _ (at-put-answer .put-answer .ensures) (at-put-answer .put-answer .kept .0) (at-run-sound .run-sound .kept .1 .1 .1 .1 .0)
 
--- src/plays.rt:45:39
 add-t30 : tie.Need-add-t30 Inv-loop μ-loop
 add-t30 c =
     let at-run-sound = c .before .before .before .before .before in
@@ -110,13 +92,11 @@ add-t30 c =
     let at-start = at-shared-slice-known .before in
     let x = ran-on _ _ (λ k. at-shared-slice-known .shared-slice-known .given k .fits) (λ k. at-shared-slice-known4 .shared-slice-known4 .given k .fits) (at-start .pre .2) _ (at-loop .loop .inv .standing) _ _ (at-run-sound .run-sound .result) (at-run-sound .run-sound .ensures) in record { fits = omega (arith, spent-upto x _ (c .before .n .given .1), at-loop .loop .inv .upto) }
 
--- src/plays.rt:45:17
 same-length-2 : tie.Need-same-length-2 Inv-loop μ-loop
 same-length-2 c =
     let at-loop = c .before .before .before .before .before .before .before .before in
     at-loop .loop .inv .long
 
--- src/plays.rt:45:17
 returns : tie.Need-returns Inv-loop μ-loop
 returns c =
     let at-run-sound = c .before .before .before .before .before in
@@ -127,7 +107,6 @@ returns c =
     let at-start = at-shared-slice-known .before in
     plays-spent _ _ _ (at-loop .loop .inv) (at-loop-test .loop-test .taken) _ _ (ran-on _ _ (λ k. at-shared-slice-known .shared-slice-known .given k .fits) (λ k. at-shared-slice-known4 .shared-slice-known4 .given k .fits) (at-start .pre .2) _ (at-loop .loop .inv .standing) _ _ (at-run-sound .run-sound .result) (at-run-sound .run-sound .ensures)) _ (c .before .n .given .1)
 
--- src/plays.rt:48:44
 add-t31 : tie.Need-add-t31 Inv-loop μ-loop
 add-t31 c =
     let at-run-sound = c .before .before .before .before .before in
@@ -137,13 +116,11 @@ add-t31 c =
     let at-start = at-shared-slice-known .before in
     let x = ran-on _ _ (λ k. at-shared-slice-known .shared-slice-known .given k .fits) (λ k. at-shared-slice-known4 .shared-slice-known4 .given k .fits) (at-start .pre .2) _ (at-loop .loop .inv .standing) _ _ (at-run-sound .run-sound .result) (at-run-sound .run-sound .ensures) in record { fits = omega (arith, ended-upto x _ _ (c .before .c .given .1), at-loop .loop .inv .upto) }
 
--- src/plays.rt:48:17
 same-length-4 : tie.Need-same-length-4 Inv-loop μ-loop
 same-length-4 c =
     let at-loop = c .before .before .before .before .before .before .before .before in
     at-loop .loop .inv .long
 
--- src/plays.rt:48:17
 returns-2 : tie.Need-returns-2 Inv-loop μ-loop
 returns-2 c =
     let at-run-sound = c .before .before .before .before .before in
@@ -154,15 +131,12 @@ returns-2 c =
     let at-start = at-shared-slice-known .before in
     plays-ended _ _ _ (at-loop .loop .inv) (at-loop-test .loop-test .taken) _ _ (ran-on _ _ (λ k. at-shared-slice-known .shared-slice-known .given k .fits) (λ k. at-shared-slice-known4 .shared-slice-known4 .given k .fits) (at-start .pre .2) _ (at-loop .loop .inv .standing) _ _ (at-run-sound .run-sound .result) (at-run-sound .run-sound .ensures)) _ _ (c .before .c .given .1)
 
--- src/plays.rt:18:1
 same-length-5 : tie.Need-same-length-5 Inv-loop μ-loop
 same-length-5 c = c .before .loop .inv .state-long
 
--- src/plays.rt:18:1
 same-length-6 : tie.Need-same-length-6 Inv-loop μ-loop
 same-length-6 c = c .before .loop .inv .long
 
--- src/plays.rt:18:1
 returns-3 : tie.Need-returns-3 Inv-loop μ-loop
 returns-3 c = plays-full _ _ _ (c .before .loop .inv) (c .loop-test .left)
 

@@ -6,12 +6,7 @@ use Rattle.run.proofs.Told as law
 use borrow.Author.Needs.{needs}
 use Rattle.run.proofs.runs.refusal_of.Statement.{statement}
 use Rattle.run.proofs.runs.refusal_of.Tie as tie
-use Rattle.run.proofs.runs.refusal_of.Reads as reads
-use Rattle.run.proofs.runs.refusal_of.Lts as lts
-use Rattle.run.proofs.runs.first_of.Reads as first-of-reads
-use Rattle.run.proofs.runs.refusal_unless.Reads as refusal-unless-reads
 
--- src/runs.rt:40:1
 returns : tie.Need-returns
 returns c =
     let at-start = c .before .before .before .before in

@@ -4,26 +4,17 @@ use Rattle.run.proofs.Told as law
 use borrow.Author.Needs.{needs}
 use Rattle.run.proofs.runs.run_passed.Statement.{statement}
 use Rattle.run.proofs.runs.run_passed.Tie as tie
-use Rattle.run.proofs.runs.run_passed.Reads as reads
-use Rattle.run.proofs.runs.run_passed.Lts as lts
-use Rattle.machine_run.proofs.run_sound.Reads as run-sound-reads
-use Rattle.run.proofs.runs.ran.Reads as ran-reads
-use Rattle.run.proofs.runs.refusal_of.Reads as refusal-of-reads
-use Rattle.state_write.proofs.clear.Reads as clear-reads
 
--- src/runs.rt:64:9
 returns : tie.Need-returns
 returns c =
     let at-start = c .before .before .before .before .before .before .before in
     law.refused-first (now (at-start .args .code)) (now (at-start .args .state)) (now (at-start .args .readings)) (at-start .args .allowance) (now (at-start .args .bodies)) (now (at-start .args .classes)) (at-start .args .base) (at-start .args .sound) (at-start .pre) _ (c .before .refusal-of .ensures) (c .if1 .taken)
 
--- src/runs.rt:66:5
 clear-requires : tie.Need-clear-requires
 clear-requires c κs =
     let at-start = c .before .before .before .before .before .before .before .before in
     let s = law.none-first (now (at-start .args .code)) (now (at-start .args .state)) (now (at-start .args .readings)) (at-start .args .allowance) (now (at-start .args .bodies)) (now (at-start .args .classes)) (at-start .args .base) (at-start .args .sound) (at-start .pre) _ (c .before .before .refusal-of .ensures) (c .before .if1 .left) in (s .0 .0, s .0 .1 .bodied, s .0 .1 .classed)
 
--- src/runs.rt:67:9
 run-sound-requires : tie.Need-run-sound-requires
 run-sound-requires c κs =
     let at-if1 = c .before .before .before .before .before in
@@ -32,7 +23,6 @@ run-sound-requires c κs =
     let at-start = at-shared-slice-known .before in
     let s = law.none-first (now (at-start .args .code)) (now (at-start .args .state)) (now (at-start .args .readings)) (at-start .args .allowance) (now (at-start .args .bodies)) (now (at-start .args .classes)) (at-start .args .base) (at-start .args .sound) (at-start .pre) _ (at-refusal-of .refusal-of .ensures) (at-if1 .if1 .left) in (law.found _ _ _ _ (λ k. at-shared-slice-known .shared-slice-known .given k .fits) (s .0 .1), law.held _ _ _ (λ k. at-shared-slice-known .shared-slice-known .given k .fits) (s .0 .0) (c .before .before .before .clear .ensures), s .1)
 
--- src/runs.rt:49:1
 returns-2 : tie.Need-returns-2
 returns-2 c =
     let at-run-sound = c .before .before .before in
