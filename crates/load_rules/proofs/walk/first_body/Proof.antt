@@ -1,6 +1,5 @@
 -- `load_rules::walk::first_body` meets its contract. Assumes nothing.
 use borrow.Author.Needs.{needs}
-use native.Mathlib.Omega.{arith}
 use Rattle.load_records.proofs.Known.{head-of}
 use Rattle.load_rules.proofs.Walking.{body-none}
 use Rattle.load_rules.proofs.walk.first_body.Statement.{statement}
