@@ -1,12 +1,16 @@
 -- `desk::lent::cue_play` meets its contract. Assumes nothing.
-use native.Mathlib.Omega.{arith}
 use Rattle.desk.proofs.Laws as law
 use borrow.Author.Needs.{needs}
 use Rattle.desk.proofs.lent.cue_play.Statement.{statement}
 use Rattle.desk.proofs.lent.cue_play.Tie as tie
 
 pack-refusal-requires : tie.Need-pack-refusal-requires
-pack-refusal-requires c κs = law.play-small _ _ _ _ _ _ _ (c .before .before .before .before .before .before .before .play .result) (c .before .before .before .before .before .before .before .play .ensures) (λ k. c .before .before .before .before .before .before .before .before .before .before .before .before .before .shared-slice-known .given k .fits) (λ k. c .before .before .before .before .before .before .before .before .before .before .before .shared-slice-known2 .given k .fits) (omega arith) _ (c .before .refusal .given .1)
+pack-refusal-requires c κs =
+    let at-play = c .before .before .before .before .before .before .before in
+    let at-readings = at-play .before .before .before .before in
+    let at-code = at-readings .before .before in
+    law.play-small _ _ _ _ _ _ _ (at-play .play .result) (at-play .play .ensures) (λ k. at-code .shared-slice-known .given k .fits)
+    (λ k. at-readings .shared-slice-known2 .given k .fits) (at-code .before .fits .allowance .fits) _ (c .before .refusal .given .1)
 
 returns : tie.Need-returns
 returns c =

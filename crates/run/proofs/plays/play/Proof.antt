@@ -11,13 +11,15 @@ cast-t19 : tie.Need-cast-t19
 cast-t19 c =
     let at-inspect = c .before .before .before .before .before in
     let at-shared-slice-known = at-inspect .before .before .before .before .before .before .before in
-    record { fits = judged-small _ (λ k. at-shared-slice-known .shared-slice-known .given k .fits) _ (law.told-refused _ _ _ _ (at-inspect .inspect .result) (at-inspect .inspect .ensures) _ _ (c .before .number .given .1)) .0 }
+    let told = law.told-refused _ _ _ _ (at-inspect .inspect .result) (at-inspect .inspect .ensures) _ _ (c .before .number .given .1) in
+    record { fits = judged-small _ (λ k. at-shared-slice-known .shared-slice-known .given k .fits) _ told .0 }
 
 cast-t20 : tie.Need-cast-t20
 cast-t20 c =
     let at-inspect = c .before .before .before .before .before in
     let at-shared-slice-known = at-inspect .before .before .before .before .before .before .before in
-    record { fits = omega (arith, judged-small _ (λ k. at-shared-slice-known .shared-slice-known .given k .fits) _ (law.told-refused _ _ _ _ (at-inspect .inspect .result) (at-inspect .inspect .ensures) _ _ (c .before .number .given .1)) .1) }
+    let told = law.told-refused _ _ _ _ (at-inspect .inspect .result) (at-inspect .inspect .ensures) _ _ (c .before .number .given .1) in
+    record { fits = omega (arith, judged-small _ (λ k. at-shared-slice-known .shared-slice-known .given k .fits) _ told .1) }
 
 enum-told : tie.Need-enum-told
 enum-told c = search needs
@@ -37,7 +39,8 @@ play-passed-requires-2 c κs =
 returns : tie.Need-returns
 returns c =
     let at-inspect = c .before .before .before .before .before in
-    play.play-refused _ _ _ _ _ _ _ (law.run-refused _ _ _ _ _ _ (law.told-refused _ _ _ _ (at-inspect .inspect .result) (at-inspect .inspect .ensures) _ _ (c .before .number .given .1)))
+    let told = law.told-refused _ _ _ _ (at-inspect .inspect .result) (at-inspect .inspect .ensures) _ _ (c .before .number .given .1) in
+    play.play-refused _ _ _ _ _ _ _ (law.run-refused _ _ _ _ _ _ told)
 
 pub play-spec : {M : Type 1} → statement M
 play-spec =

@@ -2,7 +2,9 @@
 use Prim.Native.Nat.{_-_}
 use borrow.Author.Needs.{needs}
 use native.Mathlib.Omega.{arith}
-use Rattle.run.proofs.Playing.{Plays, plays-first, plays-full, plays-on, plays-spent, plays-ended, ran-on, held, taken-upto, spent-upto, ended-upto}
+use denote.Ref.{now}
+use Rattle.words.specs.Laws.{Bytes}
+use Rattle.run.proofs.Playing.{Plays, plays-first, plays-full, plays-on, plays-spent, plays-ended, Ran-on, ran-on, held, taken-upto, spent-upto, ended-upto}
 use Rattle.run.proofs.plays.play_sound.Statement.{statement}
 use Rattle.run.proofs.plays.play_sound.Tie as tie
 
@@ -12,10 +14,37 @@ Inv-loop code bodies classes base state₀ readings allowance answers₀ room ta
 abbrev μ-loop : tie.MeasureT-loop
 μ-loop code bodies classes base state₀ readings allowance answers₀ room taken₀ events₀ state answers taken events = room - events
 
+-- ── the points that most answers go back to: the function's entry, the loop's head, the run made ──
+abbrev start-of : tie.At-loop Inv-loop μ-loop → tie.Start Inv-loop μ-loop
+start-of l = l .before .before .before .before .before .before .before
+
+abbrev loop-of : tie.After-run-sound Inv-loop μ-loop → tie.At-loop Inv-loop μ-loop
+loop-of p = p .before .before .before
+
+-- the loop's head where the run gave an event, before and after it is written
+abbrev loop-writing : tie.After-put-answer-arg Inv-loop μ-loop → tie.At-loop Inv-loop μ-loop
+loop-writing c = loop-of (c .before .before .before .before .before .before .before)
+
+abbrev run-written : tie.After-slice-known4 Inv-loop μ-loop → tie.After-run-sound Inv-loop μ-loop
+run-written c = c .before .before .before .before .before .before .before .before .before .before
+
+code-bytes : (l : tie.At-loop Inv-loop μ-loop) → Bytes (now (start-of l .args .code))
+code-bytes l k = l .before .before .before .before .before .before .shared-slice-known .given k .fits
+
+reading-bytes : (l : tie.At-loop Inv-loop μ-loop) → Bytes (now (start-of l .args .readings))
+reading-bytes l k = l .before .before .shared-slice-known4 .given k .fits
+
+-- what the run came to
+ran : (p : tie.After-run-sound Inv-loop μ-loop) →
+    let l = loop-of p in
+    let s = start-of l .args in
+    Ran-on (now (s .code)) (now (s .readings)) (l .loop .state) (s .allowance - l .loop .taken) (p .run-sound .last .1 .1 .1 .1 .0) (p .run-sound .result)
+ran p =
+    let l = loop-of p in
+    ran-on _ _ (code-bytes l) (reading-bytes l) (start-of l .pre .2) _ (l .loop .inv .standing) _ _ (p .run-sound .result) (p .run-sound .ensures)
+
 loop-holds : tie.Need-loop-holds Inv-loop μ-loop
-loop-holds c =
-    let at-start = c .before .before .before .before .before .before in
-    plays-first _ _ _ _ _ _ (at-start .pre .1)
+loop-holds c = let at-start = c .before .before .before .before .before .before in plays-first _ _ _ _ _ _ (at-start .pre .1)
 
 cast-loop : tie.Need-cast-loop Inv-loop μ-loop
 cast-loop c = record { fits = omega (arith, c .loop .inv .few, c .loop .inv .upto) }
@@ -25,111 +54,74 @@ sub-left c = c .before .loop .inv .upto
 
 run-sound-requires : tie.Need-run-sound-requires Inv-loop μ-loop
 run-sound-requires c κs =
-    let at-shared-slice-known = c .before .before .before .before .before .before .before .before in
-    let at-start = at-shared-slice-known .before in
-    (at-start .pre .0, held _ _ (λ k. at-shared-slice-known .shared-slice-known .given k .fits) (c .before .before .loop .inv .standing), at-start .pre .2)
+    let l = c .before .before in
+    let s = start-of l in
+    (s .pre .0, held _ _ (code-bytes l) (l .loop .inv .standing), s .pre .2)
 
+-- ── an event ──
 cast-put-answer : tie.Need-cast-put-answer Inv-loop μ-loop
-cast-put-answer c =
-    let at-loop = c .before .before .before .before .before .before .before .before .before .before in
-    record { fits = omega (arith, at-loop .loop .inv .few, at-loop .loop .inv .upto) }
+cast-put-answer c = let l = loop-writing c .loop in record { fits = omega (arith, l .inv .few, l .inv .upto) }
 
 mul-put-answer : tie.Need-mul-put-answer Inv-loop μ-loop
-mul-put-answer c =
-    let at-loop = c .before .before .before .before .before .before .before .before .before .before in
-    record { fits = omega (arith, at-loop .loop .inv .few, at-loop .loop .inv .upto) }
+mul-put-answer c = let l = loop-writing c .loop in record { fits = omega (arith, l .inv .few, l .inv .upto) }
 
 put-answer-requires : tie.Need-put-answer-requires Inv-loop μ-loop
 put-answer-requires c κs =
     let at-loop-test = c .before .before .before .before .before .before .before .before .before in
-    let at-loop = at-loop-test .before in
-    omega (arith, at-loop .loop .inv .long, at-loop-test .loop-test)
+    omega (arith, at-loop-test .before .loop .inv .long, at-loop-test .loop-test)
 
 add-taken : tie.Need-add-taken Inv-loop μ-loop
 add-taken c =
     let at-e = c .before .before .before .before .before .before in
-    let at-run-sound = at-e .before .before .before .before in
-    let at-loop = at-run-sound .before .before .before in
-    let at-shared-slice-known4 = at-loop .before .before in
-    let at-shared-slice-known = at-shared-slice-known4 .before .before .before .before in
-    let at-start = at-shared-slice-known .before in
-    let x = ran-on _ _ (λ k. at-shared-slice-known .shared-slice-known .given k .fits) (λ k. at-shared-slice-known4 .shared-slice-known4 .given k .fits) (at-start .pre .2) _ (at-loop .loop .inv .standing) _ _ (at-run-sound .run-sound .result) (at-run-sound .run-sound .ensures) in record { fits = omega (arith, taken-upto x _ _ (at-e .e .given .1), at-loop .loop .inv .upto) }
+    let p = at-e .before .before .before .before in
+    let s = start-of (loop-of p) in
+    record { fits = omega (arith, s .fits .allowance, taken-upto (ran p) _ _ (at-e .e .given .1), loop-of p .loop .inv .upto) }
 
 add-events : tie.Need-add-events Inv-loop μ-loop
 add-events c =
     let at-e = c .before .before .before .before .before .before in
-    let at-run-sound = at-e .before .before .before .before in
-    let at-loop = at-run-sound .before .before .before in
-    let at-shared-slice-known4 = at-loop .before .before in
-    let at-shared-slice-known = at-shared-slice-known4 .before .before .before .before in
-    let at-start = at-shared-slice-known .before in
-    let x = ran-on _ _ (λ k. at-shared-slice-known .shared-slice-known .given k .fits) (λ k. at-shared-slice-known4 .shared-slice-known4 .given k .fits) (at-start .pre .2) _ (at-loop .loop .inv .standing) _ _ (at-run-sound .run-sound .result) (at-run-sound .run-sound .ensures) in record { fits = omega (arith, taken-upto x _ _ (at-e .e .given .1), at-loop .loop .inv .upto, at-loop .loop .inv .few) }
+    let p = at-e .before .before .before .before in
+    let s = start-of (loop-of p) in
+    record { fits = omega (arith, s .fits .allowance, taken-upto (ran p) _ _ (at-e .e .given .1), loop-of p .loop .inv .upto, loop-of p .loop .inv .few) }
 
 loop-less : tie.Need-loop-less Inv-loop μ-loop
-loop-less c =
-    let at-loop-test = c .before .before .before .before .before .before .before .before .before .before .before .before in
-    omega (arith, at-loop-test .loop-test)
+loop-less c = let at-loop-test = run-written c .before .before in omega (arith, at-loop-test .loop-test)
 
 loop-again : tie.Need-loop-again Inv-loop μ-loop
 loop-again c =
     let at-put-answer = c .before .before in
     let at-pack-event = at-put-answer .before .before in
     let at-e = at-pack-event .before .before in
-    let at-run-sound = at-e .before .before .before .before in
-    let at-loop-test = at-run-sound .before .before in
-    let at-loop = at-loop-test .before in
-    let at-shared-slice-known4 = at-loop .before .before in
-    let at-shared-slice-known = at-shared-slice-known4 .before .before .before .before in
-    let at-start = at-shared-slice-known .before in
-    plays-on _ _ _ (at-loop .loop .inv) (at-loop-test .loop-test .taken) _ _ (ran-on _ _ (λ k. at-shared-slice-known .shared-slice-known .given k .fits) (λ k. at-shared-slice-known4 .shared-slice-known4 .given k .fits) (at-start .pre .2) _ (at-loop .loop .inv .standing) _ _ (at-run-sound .run-sound .result) (at-run-sound .run-sound .ensures)) _ _ (at-e .e .given .1) _ (at-pack-event .pack-event .ensures) _ (at-put-answer .put-answer .ensures) (at-put-answer .put-answer .kept .0) (at-run-sound .run-sound .kept .1 .1 .1 .1 .0)
+    let p = run-written c in
+    plays-on _ _ _ (loop-of p .loop .inv) (p .before .before .loop-test .taken) _ _ (ran p) _ _ (at-e .e .given .1) _ (at-pack-event .pack-event .ensures) _
+    (at-put-answer .put-answer .ensures) (at-put-answer .put-answer .kept .0) (p .run-sound .kept .1 .1 .1 .1 .0)
 
+-- ── the allowance used, an end, no room ──
 add-t30 : tie.Need-add-t30 Inv-loop μ-loop
 add-t30 c =
-    let at-run-sound = c .before .before .before .before .before in
-    let at-loop = at-run-sound .before .before .before in
-    let at-shared-slice-known4 = at-loop .before .before in
-    let at-shared-slice-known = at-shared-slice-known4 .before .before .before .before in
-    let at-start = at-shared-slice-known .before in
-    let x = ran-on _ _ (λ k. at-shared-slice-known .shared-slice-known .given k .fits) (λ k. at-shared-slice-known4 .shared-slice-known4 .given k .fits) (at-start .pre .2) _ (at-loop .loop .inv .standing) _ _ (at-run-sound .run-sound .result) (at-run-sound .run-sound .ensures) in record { fits = omega (arith, spent-upto x _ (c .before .n .given .1), at-loop .loop .inv .upto) }
+    let p = c .before .before .before .before .before in
+    record { fits = omega (arith, spent-upto (ran p) _ (c .before .n .given .1), loop-of p .loop .inv .upto) }
 
 same-length-2 : tie.Need-same-length-2 Inv-loop μ-loop
-same-length-2 c =
-    let at-loop = c .before .before .before .before .before .before .before .before in
-    at-loop .loop .inv .long
+same-length-2 c = loop-of (c .before .before .before .before .before) .loop .inv .long
 
 returns : tie.Need-returns Inv-loop μ-loop
 returns c =
-    let at-run-sound = c .before .before .before .before .before in
-    let at-loop-test = at-run-sound .before .before in
-    let at-loop = at-loop-test .before in
-    let at-shared-slice-known4 = at-loop .before .before in
-    let at-shared-slice-known = at-shared-slice-known4 .before .before .before .before in
-    let at-start = at-shared-slice-known .before in
-    plays-spent _ _ _ (at-loop .loop .inv) (at-loop-test .loop-test .taken) _ _ (ran-on _ _ (λ k. at-shared-slice-known .shared-slice-known .given k .fits) (λ k. at-shared-slice-known4 .shared-slice-known4 .given k .fits) (at-start .pre .2) _ (at-loop .loop .inv .standing) _ _ (at-run-sound .run-sound .result) (at-run-sound .run-sound .ensures)) _ (c .before .n .given .1)
+    let p = c .before .before .before .before .before in
+    plays-spent _ _ _ (loop-of p .loop .inv) (p .before .before .loop-test .taken) _ _ (ran p) _ (c .before .n .given .1)
 
 add-t31 : tie.Need-add-t31 Inv-loop μ-loop
 add-t31 c =
-    let at-run-sound = c .before .before .before .before .before in
-    let at-loop = at-run-sound .before .before .before in
-    let at-shared-slice-known4 = at-loop .before .before in
-    let at-shared-slice-known = at-shared-slice-known4 .before .before .before .before in
-    let at-start = at-shared-slice-known .before in
-    let x = ran-on _ _ (λ k. at-shared-slice-known .shared-slice-known .given k .fits) (λ k. at-shared-slice-known4 .shared-slice-known4 .given k .fits) (at-start .pre .2) _ (at-loop .loop .inv .standing) _ _ (at-run-sound .run-sound .result) (at-run-sound .run-sound .ensures) in record { fits = omega (arith, ended-upto x _ _ (c .before .c .given .1), at-loop .loop .inv .upto) }
+    let p = c .before .before .before .before .before in
+    record { fits = omega (arith, ended-upto (ran p) _ _ (c .before .c .given .1), loop-of p .loop .inv .upto) }
 
 same-length-4 : tie.Need-same-length-4 Inv-loop μ-loop
-same-length-4 c =
-    let at-loop = c .before .before .before .before .before .before .before .before in
-    at-loop .loop .inv .long
+same-length-4 c = loop-of (c .before .before .before .before .before) .loop .inv .long
 
 returns-2 : tie.Need-returns-2 Inv-loop μ-loop
 returns-2 c =
-    let at-run-sound = c .before .before .before .before .before in
-    let at-loop-test = at-run-sound .before .before in
-    let at-loop = at-loop-test .before in
-    let at-shared-slice-known4 = at-loop .before .before in
-    let at-shared-slice-known = at-shared-slice-known4 .before .before .before .before in
-    let at-start = at-shared-slice-known .before in
-    plays-ended _ _ _ (at-loop .loop .inv) (at-loop-test .loop-test .taken) _ _ (ran-on _ _ (λ k. at-shared-slice-known .shared-slice-known .given k .fits) (λ k. at-shared-slice-known4 .shared-slice-known4 .given k .fits) (at-start .pre .2) _ (at-loop .loop .inv .standing) _ _ (at-run-sound .run-sound .result) (at-run-sound .run-sound .ensures)) _ _ (c .before .c .given .1)
+    let p = c .before .before .before .before .before in
+    plays-ended _ _ _ (loop-of p .loop .inv) (p .before .before .loop-test .taken) _ _ (ran p) _ _ (c .before .c .given .1)
 
 same-length-5 : tie.Need-same-length-5 Inv-loop μ-loop
 same-length-5 c = c .before .loop .inv .state-long

@@ -10,7 +10,8 @@ use Rattle.run.proofs.runs.refusal_of.Tie as tie
 returns : tie.Need-returns
 returns c =
     let at-start = c .before .before .before .before in
-    law.ordered (at-start .args .sound) (eqb (length (now (at-start .args .readings))) 64) _ _ _ (c .before .before .refusal-unless .ensures) (c .before .refusal-unless2 .ensures) (c .first-of .ensures)
+    law.ordered (at-start .args .sound) (eqb (length (now (at-start .args .readings))) 64) _ _ _ (c .before .before .refusal-unless .ensures)
+    (c .before .refusal-unless2 .ensures) (c .first-of .ensures)
 
 pub refusal-of-spec : {M : Type 1} → statement M
 refusal-of-spec =
