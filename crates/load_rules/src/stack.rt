@@ -11,8 +11,7 @@ ghost use Rattle.load_places.specs.Search.{tops, alike};
 ghost use Rattle.load_places.specs.Rules.{push, pop, chain, takes, trade1, trade2, topOf, equals};
 ghost use Rattle.load_rules.specs.Moves.{flowOf, Fit, Moves, Stack};
 
-// The same value built anew. The answer of a function that is not inlined comes back through memory and is copied on with its padding, which stalls the walk at each
-// address: four times its time. So `onward` has two callers, and each builds its answer anew.
+// The same value built anew. An answer that comes back through memory and is copied on with its padding stalls the walk at each address: up to four times its time.
 pub fn rebuilt(flow: Moved) -> Moved
     ensures { λ r. ⌜ r ≡ flow ⌝ }
 {
