@@ -493,7 +493,7 @@ fn op_stop(a: usize, b: usize, stack: &[u8]) -> Moved
     Moved::Ends
 }
 
-// Each answer is built anew, so that the walk has holds and depth in registers: handed on as it comes, it goes through memory at every address.
+// Each answer is built anew, so that the walk has the depth in a register: handed on as it comes, it goes through memory at every address.
 pub fn effect_of(
     code: &[u8],
     shapes: &[u32],
