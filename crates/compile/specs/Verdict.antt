@@ -1,7 +1,8 @@
 -- What the code answers, in the terms of the definition.
 use mathlib.Core.Path.{_≡_, refl}
 use mathlib.Core.List.{List}
-use Prim.Native.Nat.{ℕ}
+use Prim.Native.Nat.{ℕ, _/_, _≤_}
+use lib.ListN.{length}
 use Rattle.values.specs.Ends.{Judged, accepted, refused}
 use Rattle.values.specs.Refusals.{inCode, refusalOf}
 use Rattle.values.specs.declared.Refusal.{Refusal}
@@ -19,6 +20,10 @@ use Rattle.compile.specs.declared.Compiled.the-variants.{Done, Refused}
 abbrev pub verdictOf : Compiled → Judged ℕ
 verdictOf (Done n) = accepted n
 verdictOf (Refused r) = refused (refusalOf r)
+
+-- room for a number for each entry that a table can have
+abbrev pub Room : List ℕ → List ℕ → Type 0
+Room l xs = length l ≤ 16384 → length l / 8 ≤ length xs
 
 -- a table that the check accepts
 abbrev pub Accepts : List ℕ → Type 0

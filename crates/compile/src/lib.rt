@@ -10,9 +10,10 @@ ghost use mathlib.Core.Path.{_≡_};
 ghost use Prim.Native.Nat.{_≤_};
 ghost use lib.ListN.{length};
 ghost use Rattle.language.specs.Judge.{compileOn};
+ghost use Rattle.table_check.specs.Checked.{Lends};
 ghost use Rattle.compile_code.specs.Encode.{macroOf};
 ghost use Rattle.compile_whole.specs.Compiling.{AsksCompile, AsksWrite, cursorAt};
-ghost use Rattle.compile.specs.Verdict.{verdictOf, Accepts};
+ghost use Rattle.compile.specs.Verdict.{verdictOf, Room};
 
 pub enum Compiled {
     // the macro's length
@@ -34,7 +35,7 @@ fn cursor(at: usize, sh: usize, dry: bool) -> Cursor
     }
 }
 
-// A table whose entries are measured and numbered, and the root's names in sight. The dry walk finds the ends that the other one aims at.
+// A table whose entries are numbered, and the root's names in sight. The dry walk finds the ends that the other one aims at.
 fn write(
     table: &[u8],
     count: usize,
@@ -108,10 +109,10 @@ fn write(
     Compiled::Done(length)
 }
 
-// A table that is accepted; the lent arrays have room for its entries.
-fn compile_in(
+// A table that is accepted, with the sizes that the check left; the lent arrays have room for its entries.
+fn compile_accepted(
     table: &[u8],
-    sizes: &mut [u16],
+    sizes: &[u16],
     env: &mut [u32],
     known: &mut [u32],
     aims: &mut [u16],
@@ -121,7 +122,6 @@ fn compile_in(
     requires { ⌜ AsksCompile (now table) (now sizes) (now env) (now known) (now aims) (now ends) ⌝ }
     ensures { λ r. ⌜ compileOn macroOf (now (table .entry)) (now (out .entry)) ≡ record { verdict = verdictOf r; bytes = now (out .exit) } ⌝ }
 {
-    table_scopes::measure(table, sizes);
     let count = table_entries::a_at(table, 0) as usize;
     let items = table_entries::b_at(table, 0) as usize;
     let after = 1 + table_scopes::spanned(table, sizes, 1, count);
@@ -145,9 +145,26 @@ fn compile_in(
     )
 }
 
-// The arrays are cleared at each call, so that their size goes by the number of entries.
-fn compile_accepted(table: &[u8], out: &mut [u8]) -> Compiled
-    requires { ⌜ Accepts (now table) ⌝ }
+fn compile_in(
+    table: &[u8],
+    sizes: &mut [u16],
+    env: &mut [u32],
+    known: &mut [u32],
+    aims: &mut [u16],
+    ends: &mut [u16],
+    out: &mut [u8],
+) -> Compiled
+    requires { ⌜ Lends (now table) (now sizes) (now env) × Room (now table) (now known) × Room (now table) (now aims) × Room (now table) (now ends) ⌝ }
+    ensures { λ r. ⌜ compileOn macroOf (now (table .entry)) (now (out .entry)) ≡ record { verdict = verdictOf r; bytes = now (out .exit) } ⌝ }
+{
+    match table_check::check_in(table, sizes, env) {
+        Checked::Accepted => compile_accepted(table, sizes, env, known, aims, ends, out),
+        Checked::Refused(refusal) => Compiled::Refused(refusal),
+    }
+}
+
+// For all bytes: the verdict, and what the output then holds. The arrays are cleared at each call, so that their size goes by the number of entries.
+pub fn compile(table: &[u8], out: &mut [u8]) -> Compiled
     ensures { λ r. ⌜ compileOn macroOf (now (table .entry)) (now (out .entry)) ≡ record { verdict = verdictOf r; bytes = now (out .exit) } ⌝ }
 {
     let bytes = table.len();
@@ -197,14 +214,4 @@ fn compile_accepted(table: &[u8], out: &mut [u8]) -> Compiled
         &mut ends,
         out,
     )
-}
-
-// For all bytes: the verdict, and what the output then holds.
-pub fn compile(table: &[u8], out: &mut [u8]) -> Compiled
-    ensures { λ r. ⌜ compileOn macroOf (now (table .entry)) (now (out .entry)) ≡ record { verdict = verdictOf r; bytes = now (out .exit) } ⌝ }
-{
-    match table_check::check(table) {
-        Checked::Accepted => compile_accepted(table, out),
-        Checked::Refused(refusal) => Compiled::Refused(refusal),
-    }
 }

@@ -6,7 +6,7 @@ use lib.ListN.{length}
 use lib.Seq.{sets}
 use Rattle.table_scopes.specs.Environment.{item, envOf, addAll, Grown}
 use Rattle.table_scopes.specs.Items.{Reach, blockItems}
-use Rattle.table_scopes.specs.Sizes.{Known}
+use Rattle.table_entries.specs.Sizes.{Known}
 use Rattle.compile_output.specs.declared.Cursor.{Cursor}
 use Rattle.compile_output.specs.EmitRecord.{Fits}
 use Rattle.compile_scopes.specs.Marks.{marks}
@@ -16,7 +16,7 @@ use Rattle.compile_emit.specs.EmitEntry.{cursorHead, emitHead, finishes,
 -- the declarations begin the part; the first stands at a place
 pub record OpenAsks (l part : List ℕ) (at heads count : ℕ) (sizes env : List ℕ) (top : ℕ) (ends out : List ℕ) (cursor : Cursor) : Type 0 where
   pub long : 8 * heads ≤ length part
-  pub known : Known l sizes 0
+  pub known : Known l sizes
   pub within : 8 * (at + heads) ≤ length l
   pub reach : Reach l (at + heads) count
   pub short : length l ≤ 16384

@@ -41,7 +41,7 @@ use Rattle.compile_scopes.specs.HeadOps.{headOps, head-cursor, head-emitted, ho
 use Rattle.compile_steps.specs.HeadCode.{head-read}
 use Rattle.compile_scopes.specs.Lengths.{length-items}
 use Rattle.compile_steps.specs.Headed.{held-head, Headed, headed-open, headed-now, headed-same, headed-most, headed-wrote, headed-ended, headed-ends, headed-fits, headed-stood}
-use Rattle.table_scopes.specs.Spans.{span}
+use Rattle.table_entries.specs.Spans.{span}
 use Rattle.table_scopes.specs.Trees.{spans-Items}
 use Rattle.language.specs.Faults.{typeE}
 use Rattle.compile_code.specs.Compile.{bound, tyIn, orInteger}

@@ -10,9 +10,8 @@ use Rattle.language.specs.Names.{expressionOf}
 use Rattle.language.specs.Measure.{measureS}
 use Rattle.table_scopes.specs.Environment.{shut}
 use Rattle.language_laws.specs.Claims.{entriesOf}
-use Rattle.table_scopes.specs.Spans.{span}
-use Rattle.table_scopes.specs.Sizes.{Known}
-use Rattle.table_forms.specs.Body.{known-from}
+use Rattle.table_entries.specs.Spans.{span}
+use Rattle.table_entries.specs.Sizes.{Known}
 use Rattle.compile_code.specs.Code.{after}
 use Rattle.compile_code.specs.Compile.{codeItems}
 use Rattle.compile_output.specs.declared.Cursor.{Cursor}
@@ -66,8 +65,8 @@ module _ {known aims l part : List ℕ} {nesting at : ℕ} {sizes : List ℕ} {L
   asks-body-open = headed-asks ready (body-headed _ _ _ ready) (hs ready) (cs ready)
 
   -- before the entries of the items are counted
-  pub asks-body-spanned : Known l sizes (at + 1 + heads) × (at + 1 + heads ≤ length l / 8)
-  asks-body-spanned = (known-from (at + 1 + heads) (ready .table .known), omega (arith, asks-body-open .within))
+  pub asks-body-spanned : Known l sizes × (at + 1 + heads ≤ length l / 8)
+  asks-body-spanned = (ready .table .known, omega (arith, asks-body-open .within))
 
   module _ {r : Opened} {new ends out : List ℕ}
       (o : OpenGives shut l (below part 8) (at + 1) heads count (L .env) top known (L .ends) (L .out) cursor r new ends out) where

@@ -17,7 +17,7 @@ use Rattle.language.specs.Table.{Entry}
 use Rattle.language.specs.Limits.{needS, needItems, needE, needEs}
 use Rattle.language_laws.specs.Claims.{entriesOf}
 use Rattle.table_entries.specs.Arity.{parts}
-use Rattle.table_scopes.specs.Spans.{Spans, spans-one, spans-none}
+use Rattle.table_entries.specs.Spans.{Spans, spans-one, spans-none}
 use Rattle.table_entries.specs.Stands.{Stands, stands-left, stands-right, stands-tail}
 use Rattle.table_forms.specs.Walk.{Table}
 use Rattle.table_forms.specs.Forms.{headF, flatF, labelled, flat-S, flat-E}

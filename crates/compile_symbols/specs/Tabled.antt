@@ -17,7 +17,7 @@ use Rattle.language_laws.specs.Claims.{entriesOf, Readable}
 use Rattle.language_laws.specs.Programs.{read-flatten}
 use Rattle.table_entries.specs.Entries.{length-entries, entryAt, entry-here}
 use Rattle.table_entries.specs.Stands.{Stands}
-use Rattle.table_scopes.specs.Sizes.{Known}
+use Rattle.table_entries.specs.Sizes.{Known}
 use Rattle.table_scopes.specs.Trees.{Heads, spans-Global}
 use Rattle.table_scopes.specs.Sees.{Legible}
 use Rattle.table_scopes.specs.Defines.{span-here}
@@ -27,7 +27,7 @@ use Rattle.language_laws.specs.Roots.{result-small}
 -- ── a table that holds a tree ──
 pub record Tabled (l sizes : List ℕ) (t : Tree) : Type 0 where
   pub legible : Legible l
-  pub known : Known l sizes 0
+  pub known : Known l sizes
   pub same : entriesOf l ≡ flatten t
   pub readable : Readable t
 
@@ -140,7 +140,7 @@ next-global {l} {sizes} {t} {place} {left} g gs h k =
     let n : length (entriesOf l) ≡ length l / 8 = length-entries (length l / 8) l in
     let m : length (entriesOf l) - place ≡ length us + length vs = sym (length-drop place (entriesOf l)) ∙ (ap length e ∙ length-append us vs) in
     let o = some-entry g in
-    let z : getD sizes place 0 ≡ length us = h .known .sized place (omega arith) (omega arith) ∙ span-here l us (spans-Global g (heads-here (h .legible) g s)) s in
+    let z : getD sizes place 0 ≡ length us = h .known .sized place (omega arith) ∙ span-here l us (spans-Global g (heads-here (h .legible) g s)) s in
     let y : place + getD sizes place 0 - place ≡ length us = omega arith in
     record {
       stands = s;

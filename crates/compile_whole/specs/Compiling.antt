@@ -22,7 +22,7 @@ use Rattle.logic.specs.Lists.{Each}
 use Rattle.language_laws.specs.Programs.{accepted-program}
 use Rattle.language_laws.specs.Trees.{formed-faultless}
 use Rattle.table_scopes.specs.Environment.{envOf}
-use Rattle.table_scopes.specs.Sizes.{Known}
+use Rattle.table_entries.specs.Sizes.{Known}
 use Rattle.table_scopes.specs.Trees.{length-Global}
 use Rattle.table_forms.specs.Tables.{Counted, Whole, Held, read-held, held-whole, parts as partsOf, RootPushed, ready-globals}
 use Rattle.compile_code.specs.Code.{Code}
@@ -70,13 +70,13 @@ accepted-short l t e = read-held l t (accepted-read l t e) .short
 pub record AsksCompile (l sizes env known aims ends : List ℕ) : Type 0 where
   pub tree : Tree
   pub judged : judgeTable l ≡ accepted tree
-  pub wide-sizes : length l / 8 ≤ length sizes
+  pub sized : Known l sizes
   pub wide-env : length l ≤ length env
   pub wide-known : length l / 8 ≤ length known
   pub wide-aims : length l / 8 ≤ length aims
   pub wide-ends : length l / 8 ≤ length ends
 
--- what is asked once its entries are measured and numbered, and the root's names entered
+-- what is asked once its entries are numbered, and the root's names entered
 pub record Writes (t : Tree) (l : List ℕ) (count behind classes bodies : ℕ) (sizes env : List ℕ) (top : ℕ) (known aims ends : List ℕ) : Type 0 where
   pub judged : judgeTable l ≡ accepted t
   pub order : InOrder t
@@ -99,51 +99,50 @@ module _ {l sizes env known aims ends : List ℕ} (q : AsksCompile l sizes env k
   pub compile-short : length l ≤ 16384
   compile-short = held .short
 
-  module _ {measured-sizes : List ℕ} (k : Known l measured-sizes 0) where
-    pub compile-whole : Whole (q .tree) l measured-sizes env
-    compile-whole = held-whole (q .tree) b k (q .wide-env) held
+  pub compile-whole : Whole (q .tree) l sizes env
+  compile-whole = held-whole (q .tree) b (q .sized) (q .wide-env) held
 
-    tabled-here : Tabled l measured-sizes (q .tree)
-    tabled-here = record { legible = compile-whole .legible; known = k; same = compile-whole .same; readable = held .readable }
+  tabled-here : Tabled l sizes (q .tree)
+  tabled-here = record { legible = compile-whole .legible; known = q .sized; same = compile-whole .same; readable = held .readable }
 
-    tree-is : theTree l ≡ q .tree
-    tree-is = the-tree (q .tree) tabled-here
+  tree-is : theTree l ≡ q .tree
+  tree-is = the-tree (q .tree) tabled-here
 
-    module _ {count items behind : ℕ} (c : Counted l count items behind) where
-      pub compile-holding : Holding l measured-sizes count
-      compile-holding = record { tree = q .tree; tabled = tabled-here; counted = partsOf compile-whole c .many }
+  module _ {count items behind : ℕ} (c : Counted l count items behind) where
+    pub compile-holding : Holding l sizes count
+    compile-holding = record { tree = q .tree; tabled = tabled-here; counted = partsOf compile-whole c .many }
 
-      module _ {mid : List ℕ} {top : ℕ} (g : RootPushed l count behind items env mid top) where
-        sight-here : envOf mid top ≡ rootSight l (q .tree)
-        unfolding envOf
-        sight-here = let p = partsOf compile-whole c in g .now ∙ rw (p .many, p .count, p .place)
+    module _ {mid : List ℕ} {top : ℕ} (g : RootPushed l count behind items env mid top) where
+      sight-here : envOf mid top ≡ rootSight l (q .tree)
+      unfolding envOf
+      sight-here = let p = partsOf compile-whole c in g .now ∙ rw (p .many, p .count, p .place)
 
-        pub compile-write : {numbers : List ℕ} {n : Numbers} → ((t : Tree) → Tabled l measured-sizes t → Numbered t known numbers n)
-            → AsksWrite l count behind (n .classes) (n .bodies) measured-sizes mid top numbers aims ends
-        compile-write {numbers} {n} f =
-            let t = q .tree in let p = partsOf compile-whole c in let d = f t tabled-here in
-            let a = accepted-program l b t (q .judged) in
-            rw tree-is (record {
-              judged = q .judged;
-              order = subst InOrder (a .1) (in-order l (a .0));
-              stage = record {
-                prepared = record {
-                  tabled = tabled-here;
-                  faultless = subst (λ (u : Tree). faults u ≡ []) (a .1) (formed-faultless _ (a .0 .well-formed));
-                  limited = subst KeepsLimits (a .1) (a .0 .keeps-limits);
-                  numbered = record { rest = drop (1 + length (numbersOf t)) known; split = numbers-lie known t tabled-here (q .wide-known) (d .known) };
-                };
-                sight = sight-here;
-                room = ready-globals compile-whole c g .room;
+      pub compile-write : {numbers : List ℕ} {n : Numbers} → ((t : Tree) → Tabled l sizes t → Numbered t known numbers n)
+          → AsksWrite l count behind (n .classes) (n .bodies) sizes mid top numbers aims ends
+      compile-write {numbers} {n} f =
+          let t = q .tree in let p = partsOf compile-whole c in let d = f t tabled-here in
+          let a = accepted-program l b t (q .judged) in
+          rw tree-is (record {
+            judged = q .judged;
+            order = subst InOrder (a .1) (in-order l (a .0));
+            stage = record {
+              prepared = record {
+                tabled = tabled-here;
+                faultless = subst (λ (u : Tree). faults u ≡ []) (a .1) (formed-faultless _ (a .0 .well-formed));
+                limited = subst KeepsLimits (a .1) (a .0 .keeps-limits);
+                numbered = record { rest = drop (1 + length (numbersOf t)) known; split = numbers-lie known t tabled-here (q .wide-known) (d .known) };
               };
-              counted = p .many;
-              placed = p .place;
-              classes-are = d .classes;
-              bodies-are = d .bodies;
-              wide-known = rw (d .known, length-sets known 1 (numbersOf t)) (q .wide-known);
-              wide-aims = q .wide-aims;
-              wide-ends = q .wide-ends;
-            })
+              sight = sight-here;
+              room = ready-globals compile-whole c g .room;
+            };
+            counted = p .many;
+            placed = p .place;
+            classes-are = d .classes;
+            bodies-are = d .bodies;
+            wide-known = rw (d .known, length-sets known 1 (numbersOf t)) (q .wide-known);
+            wide-aims = q .wide-aims;
+            wide-ends = q .wide-ends;
+          })
 
 -- ── the cursors ──
 abbrev pub cursorAt : ℕ → ℕ → Bool → Cursor

@@ -3,6 +3,7 @@ use mathlib.Core.Path.{_≡_, refl, sym, ap, _∙_}
 use mathlib.Core.List.{List, [], _∷_, _++_}
 use Prim.Native.Nat.{ℕ, _≤_}
 use native.Mathlib.Omega.{arith}
+use lib.ListN.{length}
 use Rattle.values.specs.Ends.{Refusal, Judged, accepted, refused}
 use Rattle.values.specs.declared.Refusal as code
 use Rattle.values.specs.Refusals.{coded, inCode}
@@ -13,7 +14,9 @@ use Rattle.language.specs.Limits.{limits}
 use Rattle.language.specs.Judge as judge
 use Rattle.language.specs.Judge.{judgeTree, judgeTable}
 use Rattle.logic.specs.Tests.{clash}
+use Rattle.table_entries.specs.Sizes.{Known}
 use Rattle.table_read.specs.Walk.{readingOf}
+use Rattle.table_read.specs.Filling.{Wide}
 use Rattle.table_read.specs.declared.Reading.the-variants as reading
 use Rattle.table_forms.specs.Tables.{Reads}
 use Rattle.table_names.specs.Answer.{GivesFirst, firstFault}
@@ -30,6 +33,18 @@ use Rattle.table_check.specs.declared.Checked.the-variants.{Accepted, Re
 abbrev pub checkedOf : Judged Tree → Checked
 checkedOf (accepted t) = Accepted
 checkedOf (refused r) = Refused (inCode r)
+
+-- ── what is lent, and what is left ──
+abbrev pub Lends : List ℕ → List ℕ → List ℕ → Type 0
+Lends l sizes env = Wide l sizes × (length l ≤ 16384 → length l ≤ length env)
+
+abbrev pub Leaves : List ℕ → List ℕ → Checked → Type 0
+Leaves l sizes Accepted = Known l sizes
+Leaves l sizes (Refused r) = Unit {0}
+
+pub leaves-known : {l sizes : List ℕ} (r : Checked) → Known l sizes → Leaves l sizes r
+leaves-known Accepted k = k
+leaves-known (Refused r) k = tt
 
 -- ── reading ──
 pub reads : (l : List ℕ) → reading.Reads ≡ readingOf (readTable l) → Reads l

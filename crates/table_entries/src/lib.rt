@@ -5,7 +5,6 @@ ghost use mathlib.Core.Path.{_≡_};
 ghost use Prim.Native.Nat.{_+_, _*_, _≤_};
 ghost use lib.ListN.{length};
 ghost use Rattle.words.specs.Numbers.{halfAt, wordAt, integerOf};
-ghost use Rattle.table_entries.specs.Arity.{parts};
 
 pub fn kind_at(table: &[u8], place: usize) -> u16
     requires { ⌜ 8 * (place + 1) ≤ length (now table) ⌝ }
@@ -35,32 +34,4 @@ pub fn signed_b_at(table: &[u8], place: usize) -> i32
     ensures { λ r. ⌜ r ≡ integerOf (wordAt (now (table .entry)) (8 * place + 4)) ⌝ }
 {
     words::integer_at(table, ENTRY_BYTES * place + B_AT)
-}
-
-// The parts directly below an entry, whatever they are. Arms that take a from b stand apart, so that each is one sum.
-pub fn arity(kind: u16, a: u16, b: u32) -> usize
-    ensures { λ r. ⌜ r ≡ parts kind a b ⌝ }
-{
-    match kind {
-        KIND_BLOCK => a as usize + b as usize,
-        KIND_CLASS => b as usize,
-        KIND_PROCEDURE => b as usize / 256 + 1,
-        KIND_ASSIGN => 2,
-        KIND_IF => 2,
-        KIND_IF_ELSE => 3,
-        KIND_WHILE => 2,
-        KIND_ASSERT => 1,
-        KIND_CALL => b as usize,
-        KIND_SET => 2,
-        KIND_CASE => a as usize + 1,
-        KIND_FUNCTION => b as usize,
-        KIND_FIELD => 1,
-        KIND_RECORD => b as usize,
-        KIND_UNARY => 1,
-        KIND_BINARY => 2,
-        KIND_IF_EXPRESSION => 3,
-        KIND_FADER => 1,
-        KIND_BLOCK_EXPRESSION => a as usize + b as usize + 1,
-        _ => 0,
-    }
 }

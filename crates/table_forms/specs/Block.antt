@@ -17,7 +17,7 @@ use Rattle.table_scopes.specs.Environment.{item as pushed, envOf, addAll, Grown
 use Rattle.table_scopes.specs.EnvironmentLaws.{fewer}
 use Rattle.table_entries.specs.Entries.{length-entries}
 use Rattle.table_entries.specs.Stands.{Stands, stands-tail, stands-within}
-use Rattle.table_scopes.specs.Sizes.{Known}
+use Rattle.table_entries.specs.Sizes.{Known}
 use Rattle.table_scopes.specs.declared.heads.Verdict.{Verdict}
 use Rattle.table_scopes.specs.declared.heads.Verdict.the-variants.{Fine, Refused}
 use Rattle.table_scopes.specs.Items.{blockItems, Reach}
@@ -38,7 +38,7 @@ pub record Block (ds : List Decl) (is : Items) (l part : List ℕ) (heads count 
   pub within : 8 * (at + 1 + length ds) ≤ length l
 
 pub record EnterAsks (l sizes env : List ℕ) (at heads count top : ℕ) : Type 0 where
-  pub known : Known l sizes 0
+  pub known : Known l sizes
   pub within : 8 * (at + heads) ≤ length l
   pub reach : Reach l (at + heads) count
   pub short : length l ≤ 16384

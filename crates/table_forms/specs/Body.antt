@@ -14,10 +14,9 @@ use Rattle.language.specs.Faults.{typeE, sizeItems, faultsHead, namesHead, faul
 use Rattle.language_laws.specs.Claims.{entriesOf}
 use Rattle.table_scopes.specs.Environment.{item as pushed, envOf, addAll, shut}
 use Rattle.table_scopes.specs.EnvironmentLaws.{fewer}
-use Rattle.table_scopes.specs.Spans.{span}
+use Rattle.table_entries.specs.Spans.{span}
 use Rattle.table_entries.specs.Entries.{length-entries}
 use Rattle.table_entries.specs.Stands.{Stands, stands-left, stands-right, stands-tail, stands-within}
-use Rattle.table_scopes.specs.Sizes.{Known}
 use Rattle.table_scopes.specs.declared.heads.Verdict.{Verdict}
 use Rattle.table_scopes.specs.declared.heads.Verdict.the-variants.{Fine, Refused}
 use Rattle.table_scopes.specs.Items.{blockItems}
@@ -78,9 +77,6 @@ bodied-of (bodied ds is e) h {l = l} {at = at} heads count c q =
     }
 
 -- ── asked and answered ──
-pub known-from : {l sizes : List ℕ} (from : ℕ) → Known l sizes 0 → Known l sizes from
-known-from from k = record { wide = k .wide; sized = λ j h w. k .sized j (omega arith) w }
-
 items-size : {f : Form} {ss : List Scope} {seen l part : List ℕ} {heads count nesting at : ℕ} {sizes env : List ℕ} {top : ℕ}
     (b : Bodied f ss seen l part heads count nesting at sizes env top) → span count (drop (at + 1 + heads) (entriesOf l)) ≡ sizeItems (b .is)
 items-size {l = l} {heads = heads} {at = at} b =

@@ -15,7 +15,7 @@ use Rattle.language.specs.Table.{entry}
 use Rattle.language.specs.Names.{Scope}
 use Rattle.language.specs.Faults.{sizeS, faultsItems}
 use Rattle.table_scopes.specs.Environment.{envOf}
-use Rattle.table_scopes.specs.Spans.{Spans}
+use Rattle.table_entries.specs.Spans.{Spans}
 use Rattle.table_entries.specs.Stands.{stands-left, stands-right}
 use Rattle.table_scopes.specs.declared.heads.Verdict.{Verdict}
 use Rattle.table_scopes.specs.declared.heads.Verdict.the-variants.{Fine, Refused}

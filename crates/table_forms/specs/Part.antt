@@ -16,7 +16,7 @@ use Rattle.language.specs.Faults.{sizeE}
 use Rattle.logic.specs.Tests.{clash}
 use Rattle.language_laws.specs.Claims.{entriesOf}
 use Rattle.table_entries.specs.Arity.{parts}
-use Rattle.table_scopes.specs.Spans.{Spans, spans-one, spans-none}
+use Rattle.table_entries.specs.Spans.{Spans, spans-one, spans-none}
 use Rattle.table_entries.specs.Entries.{half-part, word-part, length-entries}
 use Rattle.table_entries.specs.Stands.{Stands, stands-within, fields}
 use Rattle.table_scopes.specs.declared.heads.Verdict.{Verdict}
@@ -56,7 +56,7 @@ table-next {l} {part} {sizes} {at} t k n e =
 pub size-here : {l part sizes : List ℕ} {at : ℕ} (e : Entry) (us : List Entry) → Table l part sizes at → Spans 1 (e ∷ us) → Stands (entriesOf l) at (e ∷ us) → getD sizes at 0 ≡ length (e ∷ us)
 size-here {l} {at = at} e us t s h =
     let w = stands-within e us h in
-    t .known .sized at (omega arith) (omega (arith, length-entries (length l / 8) l)) ∙ span-here l (e ∷ us) s h
+    t .known .sized at (omega (arith, length-entries (length l / 8) l)) ∙ span-here l (e ∷ us) s h
 
 pub room-le : (f : Form) → roomF f ≤ length (flatF f)
 room-le (simple o es) = omega arith

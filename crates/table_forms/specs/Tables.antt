@@ -24,10 +24,10 @@ use Rattle.language_laws.specs.Claims.{entriesOf, Readable}
 use Rattle.language_laws.specs.Programs.{flatten-read}
 use Rattle.table_scopes.specs.Environment.{item, envOf, addAll, opened, Grown}
 use Rattle.table_scopes.specs.EnvironmentLaws.{Small, small-append}
-use Rattle.table_scopes.specs.Spans.{Spans, span}
+use Rattle.table_entries.specs.Spans.{Spans, span}
 use Rattle.table_entries.specs.Entries.{length-entries}
 use Rattle.table_entries.specs.Stands.{Stands, stands-left, stands-right, stands-tail, stands-within}
-use Rattle.table_scopes.specs.Sizes.{Known}
+use Rattle.table_entries.specs.Sizes.{Known}
 use Rattle.table_scopes.specs.declared.heads.Verdict.{Verdict}
 use Rattle.table_scopes.specs.declared.heads.Verdict.the-variants.{Fine, Refused}
 use Rattle.table_scopes.specs.Items.{labelsFrom, globalsFrom, rootItems, Reach, ReachGlobals}
@@ -40,14 +40,14 @@ use Rattle.table_forms.specs.Walk.{Table, ReadyItems, AsksItems, Answers
 use Rattle.table_forms.specs.Part.{head-of, table-next, below}
 use Rattle.table_forms.specs.Globals.{itemsOf, globalItems, heads-here, globals-at, globals-small, globals-match, length-items, globals-rising}
 use lib.Seq.{take-all}
-use Rattle.table_scopes.specs.Spans.{spans-none, spans-then, spans-as}
+use Rattle.table_entries.specs.Spans.{spans-none, spans-then, spans-as}
 use Rattle.table_scopes.specs.Defines.{span-here}
 use Rattle.table_forms.specs.Root.{OnceGlobals, seenGlobals, once-globals, faultsDeclared, faults-then, ReadyGlobal, AsksGlobal, AnswersGlobal, Any, global-head, size-least}
 
 -- ── declarations one after the other ──
 pub record ReadyGlobals (gs : List Global) (ss : List Scope) (seen l : List ℕ) (count place : ℕ) (sizes env : List ℕ) (top : ℕ) : Type 0 where
   pub legible : Legible l
-  pub known : Known l sizes 0
+  pub known : Known l sizes
   pub stands : Stands (entriesOf l) place (flatHead gs)
   pub deep : deepGlobals gs ≤ 63
   pub room : 4 * (top + length l / 8) ≤ length env
@@ -139,7 +139,7 @@ module _ {l : List ℕ} {count : ℕ} {sizes old : List ℕ} {top : ℕ} {env : 
   size-g gs ss r n k =
       let x = this-g gs ss r in
       let d = global-head (x .this) (x .ready) in
-      k ∙ x .ready .table .known .sized place (omega arith) (omega (arith, d .fits, size-least (x .this)))
+      k ∙ x .ready .table .known .sized place (omega (arith, d .fits, size-least (x .this)))
       ∙ span-here l (flatGlobal (x .this)) (spans-Global (x .this) (heads-here (x .ready .table .legible) (x .this) (x .ready .stands)))
       (x .ready .stands) ∙ length-Global (x .this)
 
@@ -210,7 +210,7 @@ spans-head legible (g ∷ gs) h =
 
 pub record Whole (t : Tree) (l sizes env : List ℕ) : Type 0 where
   pub legible : Legible l
-  pub known : Known l sizes 0
+  pub known : Known l sizes
   pub same : entriesOf l ≡ flatten t
   pub depth : nesting t ≤ 64
   pub room : length l ≤ length env
@@ -410,7 +410,7 @@ all-at [] (suc p) e ys h k = clash (cc)
 all-at (x ∷ xs) zero e ys h k = let z : x ≡ e = cc in rw z at (both-left (inLayout x) (all inLayout xs) h)
 all-at (x ∷ xs) (suc p) e ys h k = all-at xs p e ys (both-right (inLayout x) (all inLayout xs) h) k
 
-pub held-whole : {l sizes env : List ℕ} (t : Tree) → Bytes l → Known l sizes 0 → length l ≤ length env → Held l t → Whole t l sizes env
+pub held-whole : {l sizes env : List ℕ} (t : Tree) → Bytes l → Known l sizes → length l ≤ length env → Held l t → Whole t l sizes env
 held-whole {l} t b k r h =
     record {
       legible = record {

@@ -14,7 +14,7 @@ use Rattle.language.specs.Faults.{faultsItems, faultsEs}
 use Rattle.language_laws.specs.Claims.{entriesOf}
 use Rattle.table_scopes.specs.Environment.{envOf, find}
 use Rattle.table_entries.specs.Stands.{Stands}
-use Rattle.table_scopes.specs.Sizes.{Known}
+use Rattle.table_entries.specs.Sizes.{Known}
 use Rattle.table_scopes.specs.declared.heads.Verdict.{Verdict}
 use Rattle.table_scopes.specs.declared.heads.Verdict.the-variants.{Fine, Refused}
 use Rattle.table_scopes.specs.Flaws.{Says}
@@ -29,7 +29,7 @@ use Rattle.table_forms.specs.Forms.{Form, simple, guard, blocked, bodied
 pub record Table (l part sizes : List ℕ) (at : ℕ) : Type 0 where
   pub whole : part ≡ drop (8 * at) l
   pub legible : Legible l
-  pub known : Known l sizes 0
+  pub known : Known l sizes
 
 -- how many items are pushed below it, at most; a label's is there already
 abbrev pub roomF : Form → ℕ

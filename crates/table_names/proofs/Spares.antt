@@ -45,4 +45,4 @@ module _ {l part : List ℕ} {nesting at : ℕ} {sizes env : List ℕ} {top : �
   spared-next {left = left} {n} h k e s =
       let m : left ≡ suc (left - 1) = omega arith in
       let within : at < length l / 8 = omega (arith, asked q .long, ap length (q .ready .table .whole), length-drop (8 * at) l) in
-      record { free = λ t u. rw (e, k ∙ q .ready .table .known .sized at (omega arith) within) ((rw m at (s .free t u)) .1) }
+      record { free = λ t u. rw (e, k ∙ q .ready .table .known .sized at within) ((rw m at (s .free t u)) .1) }

@@ -5,9 +5,10 @@ use formats::limits::*;
 use table_scopes::Verdict;
 ghost use mathlib.Core.Path.{_≡_};
 ghost use mathlib.Core.List.{_++_};
-ghost use Prim.Native.Nat.{_+_, _*_, _/_, _≤_};
+ghost use Prim.Native.Nat.{_+_, _*_, _≤_};
 ghost use lib.ListN.{length};
 ghost use Rattle.words.specs.Numbers.{halfAt, wordAt};
+ghost use Rattle.table_entries.specs.Sizes.{Known};
 ghost use Rattle.table_scopes.specs.Environment.{envOf};
 ghost use Rattle.table_scopes.specs.Flaws.{Says, onceFlaw, headFlaws};
 ghost use Rattle.table_forms.specs.Root.{AsksBody, AnswersBody, resultFlaw, AsksGlobal, AnswersGlobal, Any, IsProcedure};
@@ -196,41 +197,9 @@ fn root(table: &[u8], sizes: &[u16], env: &mut [u32]) -> Verdict
 }
 
 // Twice the entries are room enough for the names: those of the root stay while a procedure's are judged.
-fn fault_in(table: &[u8], sizes: &mut [u16], env: &mut [u32]) -> Faulted
-    requires { ⌜ Reads (now table) × (length (now table) / 8 ≤ length (now sizes)) × (length (now table) ≤ length (now env)) ⌝ }
+pub fn first_fault(table: &[u8], sizes: &[u16], env: &mut [u32]) -> Faulted
+    requires { ⌜ Reads (now table) × Known (now table) (now sizes) × (length (now table) ≤ length (now env)) ⌝ }
     ensures { λ r. ⌜ GivesFirst (now (table .entry)) r ⌝ }
 {
-    table_scopes::measure(table, sizes);
     answered(root(table, sizes, env))
-}
-
-// The arrays are cleared at each call, so that their size goes by the number of entries.
-pub fn first_fault(table: &[u8]) -> Faulted
-    requires { ⌜ Reads (now table) ⌝ }
-    ensures { λ r. ⌜ GivesFirst (now (table .entry)) r ⌝ }
-{
-    let bytes = table.len();
-    if bytes <= 128 {
-        let mut sizes = [0u16; 16];
-        let mut env = [0u32; 128];
-        return fault_in(table, &mut sizes, &mut env);
-    }
-    if bytes <= 512 {
-        let mut sizes = [0u16; 64];
-        let mut env = [0u32; 512];
-        return fault_in(table, &mut sizes, &mut env);
-    }
-    if bytes <= 2048 {
-        let mut sizes = [0u16; 256];
-        let mut env = [0u32; 2048];
-        return fault_in(table, &mut sizes, &mut env);
-    }
-    if bytes <= 4096 {
-        let mut sizes = [0u16; 512];
-        let mut env = [0u32; 4096];
-        return fault_in(table, &mut sizes, &mut env);
-    }
-    let mut sizes = [0u16; 2048];
-    let mut env = [0u32; 16384];
-    fault_in(table, &mut sizes, &mut env)
 }

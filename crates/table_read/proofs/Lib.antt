@@ -1,3 +1,4 @@
+pub mod Counts
 pub mod Ends
 pub mod Forms
 pub mod Fields

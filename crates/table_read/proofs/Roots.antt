@@ -5,11 +5,12 @@ use mathlib.Core.List.{List, [], _∷_}
 use mathlib.Core.Option.{Option·getD}
 use Prim.Native.Nat.{ℕ, zero, suc, _+_, _-_, _*_, _/_, _%_, _≤_, _<_}
 use native.Mathlib.Omega.{arith}
+use native.Mathlib.Nat.{add-zero}
 use native.Mathlib.Decide.{ℕ-discrete}
 use lib.Dec.{eqb, ltb}
 use lib.IntN.{natAbs}
-use lib.ListN.{length, drop, replicate, length-drop}
-use lib.Seq.{drop-length}
+use lib.ListN.{length, take, drop, replicate, length-drop}
+use lib.Seq.{drop-length, drop-drop}
 use borrow.Author.Tests.{ne-eqb, eq-eqb, lt-ltb, le-ltb}
 use Rattle.logic.specs.Choice.{if_then_else_}
 use Rattle.values.specs.Types.{integer}
@@ -27,12 +28,15 @@ use Rattle.table_read.specs.declared.Read.the-variants.{Tree, Fault}
 use Rattle.table_read.specs.declared.Reading.{Reading}
 use Rattle.table_read.specs.declared.Reading.the-variants.{Reads, Refused}
 use Rattle.table_read.specs.Operands.{sorts, bodySort}
-use Rattle.table_read.specs.Walk.{readingOf, counted, moved, onward, chain, kindAt, nameAt, sizeAt, laidAt, standsAt, sortsOf, sortsAt, entered, walk, isGlobal, tally, walkHead, walkRoot}
+use Rattle.table_read.specs.Walk.{readingOf, counted, moved, onward, chain, kindAt, nameAt, sizeAt, laidAt, standsAt, sortsOf, sortsAt, entered, walk, isGlobal, tally, walkHead, walkBelow, walkRoot}
 use Rattle.table_read.proofs.Ends.{Ends, ended, halted, Same, Chained, ends-count, ends-moved, ends-made, ends-then, ends-entry, ends-if, ends-stop, same-made}
 use Rattle.table_read.proofs.Ends.{same-one, same-times, times-then, same-first}
 use Rattle.table_read.proofs.Forms.{reads, below-entry, declaration, walks}
-use Rattle.table_entries.specs.Entries.{entries-length}
-use Rattle.table_read.proofs.Steps.{moved-swap, counted-moved}
+use Rattle.table_entries.specs.Entries.{entries-length, entries-rest, rest as back}
+use Rattle.table_entries.specs.Sizes.{Sized, sized-none, sized-then}
+use Rattle.table_read.specs.Filling.{Fills}
+use Rattle.table_read.proofs.Parts.{laid-here}
+use Rattle.table_read.proofs.Steps.{moved-zero, moved-moved, counted-moved, chain-count}
 
 -- ── a declaration of the root's head ──
 module _ (r : Below) (w : Sort → List Entry → Read) (h : (s : Sort) → Same (reads s r) (w s)) where
@@ -125,7 +129,7 @@ heads (suc n) c p = record { ends = λ es. head-step n c p (heads n) es refl (gl
 
 -- ── the root ──
 pub roots : Same (first formRoot) walkRoot
-unfolding first formRoot walkRoot
+unfolding first formRoot walkRoot walkBelow
 roots = record { ends = at }
   where
     whole : (e : Entry) (es : List Entry) → Ends (e ∷ es) (two treeOf (readHead (below 62) (e .a) 0 0) (itemsBelow (below 63) e) es)
@@ -146,19 +150,10 @@ roots = record { ends = at }
     at (e ∷ es) = here e es (inLayout e)
 
 -- ── what the code comes to ──
-pub global-fits : (c p : ℕ) (l : List ℕ) {x : Read} → x ≡ entered (walk 62) (isGlobal c p) (entriesOf l) → 8 * counted x ≤ length l
-global-fits c p l e = rw e (omega (arith, ends-count (globals (below 62) (walk 62) (walks 62) c p .ends (entriesOf l)), entries-length l))
-
 pub head-fits : (n : ℕ) (l : List ℕ) {x : Read} → x ≡ walkHead n 0 0 (entriesOf l) → 8 * counted x ≤ length l
 head-fits n l e = rw e (omega (arith, ends-count (heads n 0 0 .ends (entriesOf l)), entries-length l))
 
--- the statements of the root
-pub parts-fit : (n : ℕ) (l : List ℕ) {x : Read} → x ≡ moved 1 (chain (walk 63) (sorts 1 0 n) (entriesOf l)) → 8 * counted x ≤ 8 + length l
-unfolding sorts
-parts-fit n l e =
-    rw e (omega (arith, counted-moved 1 (chain (walk 63) (replicate n Part) (entriesOf l)), ends-count (same-times (walk 63) (walks 63 Part) n .ends (entriesOf l)), entries-length l))
-
-pub entered-laid : (w : Sort → List Entry → Read) (q : ℕ → Bool) (es : List Entry) {k : ℕ} → entered w q es ≡ Tree k → laidAt es ≡ true
+entered-laid : (w : Sort → List Entry → Read) (q : ℕ → Bool) (es : List Entry) {k : ℕ} → entered w q es ≡ Tree k → laidAt es ≡ true
 unfolding entered
 entered-laid w q es {k} e = go (laidAt es) e
   where
@@ -174,33 +169,97 @@ tally-small k j = go (eqb k j)
     go false = omega arith
 
 module _ (n c p : ℕ) (es : List Entry) where
-  pub walk-head-step : {k : ℕ} {x : Read} → 0 < n → x ≡ entered (walk 62) (isGlobal c p) es → x ≡ Tree k
+  walk-head-step : {k : ℕ} {x : Read} → 0 < n → x ≡ entered (walk 62) (isGlobal c p) es → x ≡ Tree k
       → walkHead n c p es ≡ moved k (walkHead (n - 1) (c + tally (kindAt es) 11) (p + tally (kindAt es) 12) (drop k es))
   unfolding walkHead
   walk-head-step h e q = let m : n ≡ suc (n - 1) = omega arith in ap (λ (i : ℕ). walkHead i c p es) m ∙ rw (sym e ∙ q)
 
-  pub walk-head-stop : {f : ℕ} {x : Read} → 0 < n → x ≡ entered (walk 62) (isGlobal c p) es → x ≡ Fault f → walkHead n c p es ≡ Fault f
+  walk-head-stop : {f : ℕ} {x : Read} → 0 < n → x ≡ entered (walk 62) (isGlobal c p) es → x ≡ Fault f → walkHead n c p es ≡ Fault f
   unfolding walkHead
   walk-head-stop h e q = let m : n ≡ suc (n - 1) = omega arith in ap (λ (i : ℕ). walkHead i c p es) m ∙ rw (sym e ∙ q)
 
-  pub walk-head-end : n ≡ 0 → walkHead n c p es ≡ Tree 0
+  walk-head-end : n ≡ 0 → walkHead n c p es ≡ Tree 0
   unfolding walkHead
   walk-head-end h = rw h
+
+-- declarations, as the loop passes them
+pub record Declared (count : ℕ) (part old new rest : List ℕ) (passed classes procedures left : ℕ) : Type 0 where
+  pub same : walkHead count 0 0 (entriesOf part) ≡ moved passed (walkHead left classes procedures (entriesOf rest))
+  pub behind : entriesOf rest ≡ drop passed (entriesOf part)
+  pub long : 8 * passed + length rest ≡ length part
+  pub few : classes + left ≤ count
+  pub fewer : procedures + left ≤ count
+  pub sized : Sized (entriesOf part) 1 passed old new
+
+pub declared-none : (count : ℕ) (part old : List ℕ) → Declared count part old old part 0 0 0 count
+declared-none count part old =
+    record { same = moved-zero _; behind = refl; long = omega arith; few = omega arith; fewer = omega arith; sized = sized-none (entriesOf part) 1 old }
+
+module _ {count : ℕ} {part old new rest : List ℕ} {passed classes procedures left : ℕ} (h : Declared count part old new rest passed classes procedures left) where
+  pub declared-end : left ≡ 0 → Tree passed ≡ walkHead count 0 0 (entriesOf part)
+  declared-end e = sym (h .same ∙ ap (moved passed) (walk-head-end left classes procedures (entriesOf rest) e) ∙ ap Tree (add-zero passed))
+
+  module _ (more : 0 < left) {x : Read} (r : x ≡ entered (walk 62) (isGlobal classes procedures) (entriesOf rest)) where
+    pub declared-fits : {n : ℕ} → counted x ≡ n → 8 * n ≤ length rest
+    declared-fits c = omega (arith, ap counted r, ends-count (globals (below 62) (walk 62) (walks 62) classes procedures .ends (entriesOf rest)), entries-length rest)
+
+    pub declared-stop : {p : ℕ} → x ≡ Fault p → Fault (passed + p) ≡ walkHead count 0 0 (entriesOf part)
+    declared-stop c = sym (h .same ∙ ap (moved passed) (walk-head-stop left classes procedures (entriesOf rest) more r c))
+
+    pub declared-here : {k : ℕ} → x ≡ Tree k → 8 ≤ length rest
+    declared-here c = laid-here rest (entered-laid (walk 62) (isGlobal classes procedures) (entriesOf rest) (sym r ∙ c))
+
+    pub declared-next : {k kind u v : ℕ} {late : List ℕ} → x ≡ Tree k → Fills (entriesOf rest) (1 + passed) new late x → kind ≡ kindAt (entriesOf rest)
+        → u ≡ tally kind 11 → v ≡ tally kind 12
+        → Declared count part old late (take (length rest - 8 * k) (drop (8 * k) rest)) (passed + k) (classes + u) (procedures + v) (left - 1)
+    declared-next {k} {kind} {u} {v} c f e p q =
+        let long = declared-fits (ap counted c) in
+        let g : Sized (entriesOf rest) (1 + passed) k new _ = rw c at f in
+        let on = walkHead (left - 1) (classes + tally (kindAt (entriesOf rest)) 11) (procedures + tally (kindAt (entriesOf rest)) 12) (drop k (entriesOf rest)) in
+        record {
+          same = h .same ∙ ap (moved passed) (walk-head-step left classes procedures (entriesOf rest) more r c) ∙ rw (p, q, e, entries-rest k rest) (moved-moved passed k on);
+          behind = entries-rest k rest ∙ ap (drop k) (h .behind) ∙ drop-drop k passed (entriesOf part);
+          long = rw (back (8 * k) rest) (omega (arith, h .long, length-drop (8 * k) rest));
+          few = omega (arith, h .few, tally-small kind 11);
+          fewer = omega (arith, h .fewer, tally-small kind 12);
+          sized = sized-then (h .sized) (rw (h .behind) at g);
+        }
+
+-- what stands below the root: its declarations, and then its statements
+below-count : (a b : ℕ) (es : List Entry) → counted (walkBelow a b es) ≤ length es
+unfolding walkBelow
+below-count a b es = go (walkHead a 0 0 es) (ends-count (heads a 0 0 .ends es))
+  where
+    go : (r : Read) → counted r ≤ length es → counted (onward r (λ n. chain (walk 63) (replicate b Part) (drop n es))) ≤ length es
+    go (Tree n) h =
+        omega (arith, counted-moved n (chain (walk 63) (replicate b Part) (drop n es)), chain-count 63 (replicate b Part) (drop n es), length-drop n es)
+    go (Fault p) h = h
+
+pub below-fits : (a b : ℕ) (l : List ℕ) {x : Read} → x ≡ walkBelow a b (entriesOf l) → 8 * counted x ≤ length l
+below-fits a b l e = rw e (omega (arith, below-count a b (entriesOf l), entries-length l))
+
+pub fills-then : (r : Read) {es : List Entry} {at k : ℕ} {old mid : List ℕ} (new : List ℕ) → Sized es at k old mid → Fills (drop k es) (at + k) mid new r → Fills es at old new (moved k r)
+fills-then (Tree n) new h f = sized-then h f
+fills-then (Fault p) new h f = tt
+
+module _ (a b : ℕ) (es : List Entry) where
+  pub walk-below-stop : {p : ℕ} {x : Read} → x ≡ walkHead a 0 0 es → x ≡ Fault p → walkBelow a b es ≡ Fault p
+  unfolding walkBelow
+  walk-below-stop e q = rw (sym e ∙ q)
+
+  -- the statements after a head of k entries
+  pub walk-below-whole : {k : ℕ} {x : Read} → x ≡ walkHead a 0 0 es → x ≡ Tree k → walkBelow a b es ≡ moved k (chain (walk 63) (sorts 1 0 b) (drop k es))
+  unfolding walkBelow sorts
+  walk-below-whole e q = rw (sym e ∙ q)
 
 module _ (es : List Entry) where
   pub walk-root-none : standsAt 1 es ≡ false → walkRoot es ≡ Fault 0
   unfolding walkRoot
   walk-root-none e = rw e
 
-  pub walk-root-stop : {p : ℕ} {x : Read} → standsAt 1 es ≡ true → x ≡ walkHead (nameAt es) 0 0 (drop 1 es) → x ≡ Fault p → walkRoot es ≡ Fault (1 + p)
+  pub walk-root-whole : standsAt 1 es ≡ true → walkRoot es ≡ moved 1 (walkBelow (nameAt es) (sizeAt es) (drop 1 es))
   unfolding walkRoot
-  walk-root-stop s e q = rw (s, sym e ∙ q)
-
-  -- the statements after a head of k entries
-  pub walk-root-whole : {k : ℕ} {x : Read} → standsAt 1 es ≡ true → x ≡ walkHead (nameAt es) 0 0 (drop 1 es) → x ≡ Tree k
-      → walkRoot es ≡ moved k (moved 1 (chain (walk 63) (sorts 1 0 (sizeAt es)) (drop k (drop 1 es))))
-  unfolding walkRoot sorts
-  walk-root-whole {k} s e q = rw (s, sym e ∙ q) (moved-swap 1 k (chain (walk 63) (replicate (sizeAt es) Part) (drop k (drop 1 es))))
+  walk-root-whole e = rw e
 
 -- ── the table ──
 module _ (l : List ℕ) where

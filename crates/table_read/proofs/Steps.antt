@@ -4,11 +4,11 @@ use mathlib.Core.Bool.{Bool, true, false, _&&_}
 use mathlib.Core.List.{List, [], _∷_}
 use Prim.Native.Nat.{ℕ, zero, suc, _+_, _-_, _*_, _≤_, _<_}
 use native.Mathlib.Omega.{arith}
-use native.Mathlib.Nat.{add-assoc, zero-add}
+use native.Mathlib.Nat.{add-assoc, add-zero, zero-add}
 use native.Mathlib.Numerals.{add-one}
 use lib.Dec.{ltb}
-use lib.ListN.{length, getD, drop}
-use lib.Seq.{drop-cons, drop-length}
+use lib.ListN.{length, getD, take, drop, length-drop}
+use lib.Seq.{drop-cons, drop-length, drop-drop}
 use borrow.Author.Tests.{lt-ltb, ltb-true}
 use Rattle.language.specs.Table.{Entry}
 use Rattle.logic.specs.Tests.{clash, both-left, both-right}
@@ -18,12 +18,14 @@ use Rattle.table_read.specs.declared.kinds.Sort.the-variants.{Expr}
 use Rattle.table_read.specs.declared.Read.{Read}
 use Rattle.table_read.specs.declared.Read.the-variants.{Tree, Fault}
 use Rattle.table_read.specs.Operands.{isLeaf, sorts}
-use Rattle.table_read.specs.Walk.{counted, moved, chain, kindAt, nameAt, sizeAt, laidAt, sortsAt, under, entered, admits, admittedAt, walk}
+use Rattle.table_read.specs.Walk.{counted, moved, onward, chain, kindAt, nameAt, sizeAt, laidAt, sortsAt, under, entered, admits, admittedAt, walk}
 use Rattle.table_read.proofs.Parts.{laid-here}
 use Rattle.table_read.proofs.Sorts.{leaf-sorts}
 use Rattle.table_read.proofs.Ends.{ends-count}
 use Rattle.table_read.proofs.Forms.{walks}
-use Rattle.table_entries.specs.Entries.{entries-none, entries-length}
+use Rattle.table_entries.specs.Entries.{entries-none, entries-length, entries-rest, rest as back}
+use Rattle.table_entries.specs.Sizes.{Sized, sized-none, sized-then}
+use Rattle.table_read.specs.Filling.{Fills}
 
 -- no answer counts more entries than there are bytes for
 pub walk-fits : (d : ℕ) (s : Sort) (l : List ℕ) {x : Read} → x ≡ walk d s (entriesOf l) → 8 * counted x ≤ length l
@@ -42,11 +44,20 @@ pub counted-moved : (k : ℕ) (r : Read) → counted (moved k r) ≡ k + counted
 counted-moved k (Tree n) = refl
 counted-moved k (Fault p) = refl
 
-pub moved-swap : (k n : ℕ) (r : Read) → moved k (moved n r) ≡ moved n (moved k r)
-moved-swap k n (Tree m) = ap Tree (omega arith)
-moved-swap k n (Fault p) = ap Fault (omega arith)
-
 -- ── operands ──
+pub chain-count : (d : ℕ) (ss : List Sort) (es : List Entry) → counted (chain (walk d) ss es) ≤ length es
+unfolding chain
+chain-count d [] es = omega arith
+chain-count d (s ∷ ss) es = go (walk d s es) (ends-count (walks d s .ends es)) (λ n. chain-count d ss (drop n es))
+  where
+    go : (r : Read) → counted r ≤ length es → ((n : ℕ) → counted (chain (walk d) ss (drop n es)) ≤ length (drop n es))
+        → counted (onward r (λ n. chain (walk d) ss (drop n es))) ≤ length es
+    go (Tree n) h k = omega (arith, counted-moved n (chain (walk d) ss (drop n es)), k n, length-drop n es)
+    go (Fault p) h k = h
+
+pub chain-fits : (d : ℕ) (ss : List Sort) (l : List ℕ) {x : Read} → x ≡ chain (walk d) ss (entriesOf l) → 8 * counted x ≤ length l
+chain-fits d ss l e = rw e (omega (arith, chain-count d ss (entriesOf l), entries-length l))
+
 module _ (w : Sort → List Entry → Read) (ss : List Sort) (i : ℕ) (es : List Entry) where
   pub chain-step : {k : ℕ} {x : Read} → i < length ss → x ≡ w (getD ss i Expr) es → x ≡ Tree k → chain w (drop i ss) es ≡ moved k (chain w (drop (i + 1) ss) (drop k es))
   unfolding chain
@@ -83,9 +94,9 @@ module _ (w : Sort → List Entry → Read) (p : ℕ → Bool) (es : List Entry)
   entered-whole l e = rw (l, e)
 
 -- with no operands
-pub under-leaf : (w : Sort → List Entry → Read) (es : List Entry) → isLeaf (kindAt es) ≡ true → under w es ≡ Tree 1
+pub leaf-below : (w : Sort → List Entry → Read) (es : List Entry) → isLeaf (kindAt es) ≡ true → Tree 0 ≡ chain w (sorts (kindAt es) (nameAt es) (sizeAt es)) (drop 1 es)
 unfolding chain
-under-leaf w es t = rw (sorts-at es, leaf-sorts (kindAt es) (nameAt es) (sizeAt es) t)
+leaf-below w es t = rw (leaf-sorts (kindAt es) (nameAt es) (sizeAt es) t)
 
 -- ── an operand ──
 pub admitted-none : (d : ℕ) (s : Sort) (l : List ℕ) → length l < 8 → false ≡ admittedAt d s (entriesOf l)
@@ -128,3 +139,56 @@ pub walk-admitted : (d : ℕ) (s : Sort) (es : List Entry) → admittedAt d s es
 unfolding walk entered
 walk-admitted zero s es e = clash (let z : false ≡ true = e in cc)
 walk-admitted (suc m) s es e = let h : suc m - 1 ≡ m = omega arith in rw (h, sym (deep m s es) ∙ e)
+
+-- ── operands, as the loop passes them ──
+pub record Passed (d : ℕ) (ss : List Sort) (part : List ℕ) (place : ℕ) (old new rest : List ℕ) (passed i : ℕ) : Type 0 where
+  pub same : chain (walk d) ss (entriesOf part) ≡ moved passed (chain (walk d) (drop i ss) (entriesOf rest))
+  pub behind : entriesOf rest ≡ drop passed (entriesOf part)
+  pub long : 8 * passed + length rest ≡ length part
+  pub few : i ≤ length ss
+  pub sized : Sized (entriesOf part) place passed old new
+
+pub passed-none : (d : ℕ) (ss : List Sort) (part : List ℕ) (place : ℕ) (old : List ℕ) → Passed d ss part place old old part 0 0
+passed-none d ss part place old =
+    record { same = moved-zero _; behind = refl; long = omega arith; few = omega arith; sized = sized-none (entriesOf part) place old }
+
+module _ {d : ℕ} {ss : List Sort} {part : List ℕ} {place : ℕ} {old new rest : List ℕ} {passed i : ℕ} (h : Passed d ss part place old new rest passed i) where
+  pub passed-end : i ≡ length ss → Tree passed ≡ chain (walk d) ss (entriesOf part)
+  passed-end e = sym (h .same ∙ ap (moved passed) (chain-end (walk d) ss i (entriesOf rest) e) ∙ ap Tree (add-zero passed))
+
+  module _ (less : i < length ss) {s : Sort} (q : s ≡ getD ss i Expr) {b : Bool} (e : b ≡ admittedAt d s (entriesOf rest)) where
+    pub passed-refused : b ≡ false → Fault passed ≡ chain (walk d) ss (entriesOf part)
+    passed-refused n =
+        let z = ap (λ (t : Sort). walk d t (entriesOf rest)) q in
+        sym (h .same ∙ ap (moved passed) (chain-stop (walk d) ss i (entriesOf rest) less z (walk-refused d s (entriesOf rest) (sym e ∙ n))) ∙ ap Fault (add-zero passed))
+
+    module _ (y : b ≡ true) where
+      pub passed-deep : (0 < d) × (8 ≤ length rest)
+      passed-deep = admitted-here d s rest (sym e ∙ y)
+
+      module _ {x : Read} (r : x ≡ under (walk (d - 1)) (entriesOf rest)) where
+        here : x ≡ walk d s (entriesOf rest)
+        here = r ∙ sym (walk-admitted d s (entriesOf rest) (sym e ∙ y))
+
+        sorted : x ≡ walk d (getD ss i Expr) (entriesOf rest)
+        sorted = here ∙ ap (λ (t : Sort). walk d t (entriesOf rest)) q
+
+        pub passed-fits : {n : ℕ} → counted x ≡ n → 8 * n ≤ length rest
+        passed-fits c = omega (arith, walk-fits d s rest here)
+
+        pub passed-stop : {p : ℕ} → x ≡ Fault p → Fault (passed + p) ≡ chain (walk d) ss (entriesOf part)
+        passed-stop c = sym (h .same ∙ ap (moved passed) (chain-stop (walk d) ss i (entriesOf rest) less sorted c))
+
+        pub passed-next : {k : ℕ} {more : List ℕ} → x ≡ Tree k → Fills (entriesOf rest) (place + passed) new more x
+            → Passed d ss part place old more (take (length rest - 8 * k) (drop (8 * k) rest)) (passed + k) (i + 1)
+        passed-next {k} c f =
+            let long = passed-fits (ap counted c) in
+            let g : Sized (entriesOf rest) (place + passed) k new _ = rw c at f in
+            record {
+              same = h .same ∙ ap (moved passed) (chain-step (walk d) ss i (entriesOf rest) less sorted c)
+                  ∙ rw (entries-rest k rest) (moved-moved passed k (chain (walk d) (drop (i + 1) ss) (drop k (entriesOf rest))));
+              behind = entries-rest k rest ∙ ap (drop k) (h .behind) ∙ drop-drop k passed (entriesOf part);
+              long = rw (back (8 * k) rest) (omega (arith, h .long, length-drop (8 * k) rest));
+              few = omega arith;
+              sized = sized-then (h .sized) (rw (h .behind) at g);
+            }

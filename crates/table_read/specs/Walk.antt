@@ -112,8 +112,9 @@ abbrev pub sizeAt : List Entry → ℕ
 sizeAt [] = 0
 sizeAt (e ∷ es) = natAbs (e .b)
 
+-- its declarations, and then its statements
+unfoldable pub walkBelow : ℕ → ℕ → List Entry → Read
+walkBelow a n es = onward (walkHead a 0 0 es) (λ m. chain (walk 63) (replicate n Part) (drop m es))
+
 unfoldable pub walkRoot : List Entry → Read
-walkRoot es =
-    if standsAt 1 es then
-    moved 1 (onward (walkHead (nameAt es) 0 0 (drop 1 es)) (λ n. chain (walk 63) (replicate (sizeAt es) Part) (drop n (drop 1 es))))
-    else Fault 0
+walkRoot es = if standsAt 1 es then moved 1 (walkBelow (nameAt es) (sizeAt es) (drop 1 es)) else Fault 0

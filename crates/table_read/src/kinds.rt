@@ -97,8 +97,7 @@ pub fn is_leaf(kind: u16) -> bool
     }
 }
 
-// How many operands an entry has; n is how far its b is from 0. It is what `table_entries::arity` says, but that is called at every entry that is
-// measured and is only quick where it has no second caller.
+// How many operands an entry has; n is how far its b is from 0. Arms that take a from n stand apart, so that each is one sum.
 pub fn count(kind: u16, a: u16, n: u32) -> usize
     ensures { λ r. ⌜ r ≡ length (sorts kind a n) ⌝ }
 {

@@ -1,5 +1,6 @@
 // The reader of tables (refusals 1 and 2). An entry and its operands call each other, the remaining nesting falling; each is given the part of
-// the table after the entry that it is an operand of, and passes on further parts that start inside it.
+// the table after the entry that it is an operand of, and passes on further parts that start inside it. How many entries each entry has with all
+// that stands below it is noted at its place, for the passes after this one.
 pub mod kinds;
 pub mod layout;
 
@@ -13,7 +14,8 @@ ghost use Rattle.language.specs.Table.{readTable};
 ghost use Rattle.language_laws.specs.Claims.{entriesOf};
 ghost use Rattle.table_read.specs.Operands.{sorts};
 ghost use Rattle.table_read.specs.Walk.{readingOf, counted, moved, chain, laidAt, standsAt, admittedAt, kindAt, nameAt, sizeAt, walk, under, entered, isGlobal};
-ghost use Rattle.table_read.specs.Walk.{tally as tallyOf, walkHead, walkRoot};
+ghost use Rattle.table_read.specs.Walk.{tally as tallyOf, walkHead, walkBelow, walkRoot};
+ghost use Rattle.table_read.specs.Filling.{Room, Fills, noted, Wide, Hands};
 
 pub enum Read {
     // a whole tree, and how many entries it has
@@ -113,19 +115,43 @@ fn admitted(part: &[u8], sort: Sort, nesting: usize) -> bool
     }
 }
 
-// The operands of an entry, of which part is what follows it; the answer counts from the entry.
-fn operands(part: &[u8], kind: u16, a: u16, n: u32, nesting: usize) -> Read
-    ensures { λ r. ⌜ r ≡ moved 1 (chain (walk nesting) (sorts kind a n) (entriesOf (now (part .entry)))) ⌝ }
+// The entry at a place, after what was read below it: its size is noted.
+fn whole(sizes: &mut [u16], place: usize, below: Read) -> Read
+    requires { ⌜ (place < length (now sizes)) × (counted below < 65535) ⌝ }
+    ensures { λ r. ⌜ (r ≡ moved 1 below) × (now (sizes .exit) ≡ noted below place (now (sizes .entry))) ⌝ }
+{
+    match below {
+        Read::Tree(n) => {
+            sizes[place] = (1 + n) as u16;
+            Read::Tree(1 + n)
+        }
+        Read::Fault(p) => Read::Fault(1 + p),
+    }
+}
+
+// The operands of an entry; part begins with the first of them, which is at a place of the table.
+fn operands(
+    part: &[u8],
+    place: usize,
+    sizes: &mut [u16],
+    kind: u16,
+    a: u16,
+    n: u32,
+    nesting: usize,
+) -> Read
+    requires { ⌜ Room (now part) place (now sizes) ⌝ }
+    ensures { λ r. ⌜ (r ≡ chain (walk nesting) (sorts kind a n) (entriesOf (now (part .entry))))
+        × Fills (entriesOf (now (part .entry))) place (now (sizes .entry)) (now (sizes .exit)) r ⌝ }
 {
     let all = kinds::count(kind, a, n);
     let mut rest = part;
-    let mut passed: usize = 1;
+    let mut passed: usize = 0;
     let mut i: usize = 0;
     while i < all {
         if !admitted(rest, kinds::sort_of(kind, a, n, i), nesting) {
             return Read::Fault(passed);
         }
-        match read_entry(rest, nesting - 1) {
+        match read_entry(rest, place + passed, sizes, nesting - 1) {
             Read::Tree(k) => {
                 let at = ENTRY_BYTES * k;
                 rest = &rest[at..];
@@ -141,21 +167,25 @@ fn operands(part: &[u8], kind: u16, a: u16, n: u32, nesting: usize) -> Read
 }
 
 // The entry there with all that stands below it; so much nesting is left for its operands. One with no operands is answered without a call.
-fn read_entry(part: &[u8], nesting: usize) -> Read
-    requires { ⌜ 8 ≤ length (now part) ⌝ }
-    ensures { λ r. ⌜ r ≡ under (walk nesting) (entriesOf (now (part .entry))) ⌝ }
+fn read_entry(part: &[u8], place: usize, sizes: &mut [u16], nesting: usize) -> Read
+    requires { ⌜ (8 ≤ length (now part)) × Room (now part) place (now sizes) ⌝ }
+    ensures { λ r. ⌜ (r ≡ under (walk nesting) (entriesOf (now (part .entry))))
+        × Fills (entriesOf (now (part .entry))) place (now (sizes .entry)) (now (sizes .exit)) r ⌝ }
 {
     let kind = kind_of(part);
     if kinds::is_leaf(kind) {
-        return Read::Tree(1);
+        return whole(sizes, place, Read::Tree(0));
     }
-    operands(
+    let below = operands(
         &part[ENTRY_BYTES..],
+        place + 1,
+        sizes,
         kind,
         name_of(part),
         size_of(part),
         nesting,
-    )
+    );
+    whole(sizes, place, below)
 }
 
 // ── the root ──
@@ -172,8 +202,16 @@ fn is_global(kind: u16, classes: usize, procedures: usize) -> bool
     }
 }
 
-fn read_global(part: &[u8], classes: usize, procedures: usize) -> Read
-    ensures { λ r. ⌜ r ≡ entered (walk 62) (isGlobal classes procedures) (entriesOf (now (part .entry))) ⌝ }
+fn read_global(
+    part: &[u8],
+    place: usize,
+    sizes: &mut [u16],
+    classes: usize,
+    procedures: usize,
+) -> Read
+    requires { ⌜ Room (now part) place (now sizes) ⌝ }
+    ensures { λ r. ⌜ (r ≡ entered (walk 62) (isGlobal classes procedures) (entriesOf (now (part .entry))))
+        × Fills (entriesOf (now (part .entry))) place (now (sizes .entry)) (now (sizes .exit)) r ⌝ }
 {
     if !laid(part) {
         return Read::Fault(0);
@@ -181,7 +219,7 @@ fn read_global(part: &[u8], classes: usize, procedures: usize) -> Read
     if !is_global(kind_of(part), classes, procedures) {
         return Read::Fault(0);
     }
-    read_entry(part, BELOW_HEAD)
+    read_entry(part, place, sizes, BELOW_HEAD)
 }
 
 pub fn tally(kind: u16, of: u16) -> usize
@@ -190,8 +228,11 @@ pub fn tally(kind: u16, of: u16) -> usize
     if kind == of { 1 } else { 0 }
 }
 
-fn read_head(part: &[u8], count: u16) -> Read
-    ensures { λ r. ⌜ r ≡ walkHead count 0 0 (entriesOf (now (part .entry))) ⌝ }
+// The declarations of the root's head, which begin at place 1.
+fn read_head(part: &[u8], sizes: &mut [u16], count: u16) -> Read
+    requires { ⌜ Room (now part) 1 (now sizes) ⌝ }
+    ensures { λ r. ⌜ (r ≡ walkHead count 0 0 (entriesOf (now (part .entry))))
+        × Fills (entriesOf (now (part .entry))) 1 (now (sizes .entry)) (now (sizes .exit)) r ⌝ }
 {
     let mut rest = part;
     let mut passed: usize = 0;
@@ -199,7 +240,7 @@ fn read_head(part: &[u8], count: u16) -> Read
     let mut procedures: usize = 0;
     let mut left = count;
     while 0 < left {
-        match read_global(rest, classes, procedures) {
+        match read_global(rest, 1 + passed, sizes, classes, procedures) {
             Read::Tree(k) => {
                 let kind = kind_of(rest);
                 let at = ENTRY_BYTES * k;
@@ -217,29 +258,40 @@ fn read_head(part: &[u8], count: u16) -> Read
     Read::Tree(passed)
 }
 
-// The root is at depth 1 of 64: 63 are left below it, and 62 below a declaration of its head.
-fn read_root(part: &[u8]) -> Read
-    ensures { λ r. ⌜ r ≡ walkRoot (entriesOf (now (part .entry))) ⌝ }
+// What stands below the root, which is at depth 1 of 64: 63 are left for its statements, and 62 below a declaration of its head.
+fn below_root(part: &[u8], sizes: &mut [u16], a: u16, n: u32) -> Read
+    requires { ⌜ Room (now part) 1 (now sizes) ⌝ }
+    ensures { λ r. ⌜ (r ≡ walkBelow a n (entriesOf (now (part .entry))))
+        × Fills (entriesOf (now (part .entry))) 1 (now (sizes .entry)) (now (sizes .exit)) r ⌝ }
 {
-    if !stands(part, KIND_BLOCK) {
-        return Read::Fault(0);
-    }
-    let rest = &part[ENTRY_BYTES..];
-    match read_head(rest, name_of(part)) {
+    match read_head(part, sizes, a) {
         Read::Tree(k) => {
             let at = ENTRY_BYTES * k;
             later(
                 k,
-                operands(&rest[at..], KIND_BLOCK, 0, size_of(part), BELOW_ROOT),
+                operands(&part[at..], 1 + k, sizes, KIND_BLOCK, 0, n, BELOW_ROOT),
             )
         }
-        Read::Fault(p) => Read::Fault(1 + p),
+        Read::Fault(p) => Read::Fault(p),
     }
 }
 
-// Whether a table is one tree within the layout; any bytes.
-pub fn read_table(table: &[u8]) -> Reading
-    ensures { λ r. ⌜ r ≡ readingOf (readTable (now (table .entry))) ⌝ }
+fn read_root(part: &[u8], sizes: &mut [u16]) -> Read
+    requires { ⌜ Room (now part) 0 (now sizes) ⌝ }
+    ensures { λ r. ⌜ (r ≡ walkRoot (entriesOf (now (part .entry))))
+        × Fills (entriesOf (now (part .entry))) 0 (now (sizes .entry)) (now (sizes .exit)) r ⌝ }
+{
+    if !stands(part, KIND_BLOCK) {
+        return Read::Fault(0);
+    }
+    let below = below_root(&part[ENTRY_BYTES..], sizes, name_of(part), size_of(part));
+    whole(sizes, 0, below)
+}
+
+// Whether a table is one tree within the layout; any bytes. Where it is, the sizes of all its entries are left.
+pub fn read_table(table: &[u8], sizes: &mut [u16]) -> Reading
+    requires { ⌜ Wide (now table) (now sizes) ⌝ }
+    ensures { λ r. ⌜ (r ≡ readingOf (readTable (now (table .entry)))) × Hands (now (table .entry)) (now (sizes .exit)) r ⌝ }
 {
     let bytes = table.len();
     if bytes == 0 {
@@ -251,7 +303,7 @@ pub fn read_table(table: &[u8]) -> Reading
     if bytes % ENTRY_BYTES != 0 {
         return Reading::Refused(1, 0);
     }
-    match read_root(table) {
+    match read_root(table, sizes) {
         Read::Tree(n) => if n == bytes / ENTRY_BYTES {
             Reading::Reads
         } else {

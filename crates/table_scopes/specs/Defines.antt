@@ -31,7 +31,7 @@ use Rattle.table_scopes.specs.Environment.{Item, opened, shut, find, add
 use Rattle.table_scopes.specs.Environment as env
 use Rattle.table_scopes.specs.EnvironmentLaws.{Small, small-append}
 use Rattle.table_entries.specs.Arity.{parts}
-use Rattle.table_scopes.specs.Spans.{Spans, span, spans-one, spans-none}
+use Rattle.table_entries.specs.Spans.{Spans, span, spans-one, spans-none}
 use Rattle.table_entries.specs.Stands.{Stands, stands-left, stands-right, stands-tail, Fields, fields, field-number}
 use Rattle.table_scopes.specs.Items.{kindAt, aAt, bAt, after, oneAt, itemsAt, labelsFrom, Reach, blockItems, one-is, one-not}
 use Rattle.table_scopes.specs.Flaws.{onceFlaw, classOf, classFlaw, headFlaws, decl-is, decl-not}

@@ -9,7 +9,7 @@ use lib.ListN.{length, drop, length-append}
 use Rattle.logic.specs.Choice.{if_then_else_}
 use Rattle.words.specs.Numbers.{halfAt, wordAt}
 use Rattle.language_laws.specs.Claims.{entriesOf}
-use Rattle.table_scopes.specs.Spans.{span}
+use Rattle.table_entries.specs.Spans.{span}
 use Rattle.table_scopes.specs.Environment.{Item, item, addAll, adding, envOf, Grown}
 use Rattle.table_scopes.specs.EnvironmentLaws.{all-append, fewer, grown-none}
 

@@ -1,5 +1,4 @@
-pub mod Spans
-pub mod Sizes
+pub mod Hops
 pub mod Environment
 pub mod EnvironmentLaws
 pub mod Items

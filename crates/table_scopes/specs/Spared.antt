@@ -14,7 +14,7 @@ use Rattle.language_laws.specs.Claims.{entriesOf}
 use Rattle.table_scopes.specs.declared.environment.Found.the-variants.{Def}
 use Rattle.table_scopes.specs.Environment.{Item, item, find, here, addAll, envOf, shut}
 use Rattle.table_scopes.specs.EnvironmentLaws.{passing-none}
-use Rattle.table_scopes.specs.Spans.{span}
+use Rattle.table_entries.specs.Spans.{span}
 use Rattle.table_scopes.specs.Items.{kindAt, aAt, bAt, after, oneAt}
 use Rattle.table_scopes.specs.Flaws.{onceFlaw}
 

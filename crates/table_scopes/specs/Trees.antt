@@ -14,7 +14,7 @@ use Rattle.language.specs.Tree.{countExprs}
 use Rattle.language.specs.Table.{Entry, entry}
 use Rattle.language.specs.Faults.{sizeS, sizeItems, sizeArms, sizeTarget, sizeE, sizeEs, sizeBody, sizeGlobal}
 use Rattle.table_entries.specs.Arity.{parts}
-use Rattle.table_scopes.specs.Spans.{Spans, spans-none, spans-then, spans-as, spans-one}
+use Rattle.table_entries.specs.Spans.{Spans, spans-none, spans-then, spans-as, spans-one}
 
 pub length-map : {A B : Type 0} (f : A → B) (xs : List A) → length (map f xs) ≡ length xs
 length-map f [] = refl

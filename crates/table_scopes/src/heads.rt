@@ -12,7 +12,7 @@ ghost use lib.ListN.{length};
 ghost use lib.Dec.{eqb, ltb};
 ghost use Rattle.logic.specs.Choice.{if_then_else_};
 ghost use Rattle.table_scopes.specs.Environment.{item, addAll, envOf, Grown};
-ghost use Rattle.table_scopes.specs.Sizes.{Known};
+ghost use Rattle.table_entries.specs.Sizes.{Known};
 ghost use Rattle.table_scopes.specs.Items.{oneAt, itemsAt, labelsFrom, Reach, globalAt, globalsFrom, WithinGlobal, ReachGlobals, blockItems, rootItems, aAt, bAt};
 ghost use Rattle.table_scopes.specs.Filter.{Covers};
 ghost use Rattle.table_scopes.specs.Spared.{Spared};
@@ -97,7 +97,7 @@ fn add_labels(
     env: &mut [u32],
     top: usize,
 ) -> Labelled
-    requires { ⌜ Known (now table) (now sizes) 0 × Reach (now table) at count × (length (now table) ≤ 16384) × (4 * (top + length (labelsFrom (now table) at count)) ≤ length (now env)) ⌝ }
+    requires { ⌜ Known (now table) (now sizes) × Reach (now table) at count × (length (now table) ≤ 16384) × (4 * (top + length (labelsFrom (now table) at count)) ≤ length (now env)) ⌝ }
     ensures { λ r. ⌜ Grown top (now (env .entry)) (now (env .exit)) (r .top) (addAll (labelsFrom (now (table .entry)) at count) (envOf (now (env .entry)) top))
         (length (labelsFrom (now (table .entry)) at count)) × Spared (r .once) (now (table .entry)) (envOf (now (env .exit)) (r .top)) at count ⌝ }
 {
@@ -148,7 +148,7 @@ fn add_each(
     top: usize,
     seen: &mut [u8],
 ) -> Labelled
-    requires { ⌜ Known (now table) (now sizes) 0 × Reach (now table) at count × (length (now table) ≤ 16384) × (4 * (top + length (labelsFrom (now table) at count)) ≤ length (now env))
+    requires { ⌜ Known (now table) (now sizes) × Reach (now table) at count × (length (now table) ≤ 16384) × (4 * (top + length (labelsFrom (now table) at count)) ≤ length (now env))
         × Covers (now seen) (envOf (now env) top) ⌝ }
     ensures { λ r. ⌜ Grown top (now (env .entry)) (now (env .exit)) (r .top) (addAll (labelsFrom (now (table .entry)) at count) (envOf (now (env .entry)) top))
         (length (labelsFrom (now (table .entry)) at count)) × Spared (r .once) (now (table .entry)) (envOf (now (env .exit)) (r .top)) at count ⌝ }
@@ -176,7 +176,7 @@ fn add_many(
     env: &mut [u32],
     top: usize,
 ) -> Labelled
-    requires { ⌜ Known (now table) (now sizes) 0 × Reach (now table) at count × (length (now table) ≤ 16384) × (4 * (top + length (labelsFrom (now table) at count)) ≤ length (now env)) ⌝ }
+    requires { ⌜ Known (now table) (now sizes) × Reach (now table) at count × (length (now table) ≤ 16384) × (4 * (top + length (labelsFrom (now table) at count)) ≤ length (now env)) ⌝ }
     ensures { λ r. ⌜ Grown top (now (env .entry)) (now (env .exit)) (r .top) (addAll (labelsFrom (now (table .entry)) at count) (envOf (now (env .entry)) top))
         (length (labelsFrom (now (table .entry)) at count)) × Spared (r .once) (now (table .entry)) (envOf (now (env .exit)) (r .top)) at count ⌝ }
 {
@@ -220,7 +220,7 @@ fn add_class(table: &[u8], place: usize, env: &mut [u32], top: usize) -> usize
 }
 
 fn add_globals(table: &[u8], count: usize, sizes: &[u16], env: &mut [u32], top: usize) -> usize
-    requires { ⌜ Known (now table) (now sizes) 0 × ReachGlobals (now table) 1 count × (length (now table) ≤ 16384) × (4 * (top + length (globalsFrom (now table) 1 count)) ≤ length (now env)) ⌝ }
+    requires { ⌜ Known (now table) (now sizes) × ReachGlobals (now table) 1 count × (length (now table) ≤ 16384) × (4 * (top + length (globalsFrom (now table) 1 count)) ≤ length (now env)) ⌝ }
     ensures { λ r. ⌜ Grown top (now (env .entry)) (now (env .exit)) r (addAll (globalsFrom (now (table .entry)) 1 count) (envOf (now (env .entry)) top))
         (length (globalsFrom (now (table .entry)) 1 count)) ⌝ }
 {
@@ -244,7 +244,7 @@ pub fn open_root(
     sizes: &[u16],
     env: &mut [u32],
 ) -> Labelled
-    requires { ⌜ Known (now table) (now sizes) 0 × ReachGlobals (now table) 1 heads × Reach (now table) after items × (length (now table) ≤ 16384)
+    requires { ⌜ Known (now table) (now sizes) × ReachGlobals (now table) 1 heads × Reach (now table) after items × (length (now table) ≤ 16384)
         × (4 * (1 + length (rootItems (now table) heads after items)) ≤ length (now env)) ⌝ }
     ensures { λ r. ⌜ Grown 0 (now (env .entry)) (now (env .exit)) (r .top) (addAll (rootItems (now (table .entry)) heads after items) (item 65536 0 0 0 ∷ envOf (now (env .entry)) 0))
         (1 + length (rootItems (now (table .entry)) heads after items)) × Spared (r .once) (now (table .entry)) (envOf (now (env .exit)) (r .top)) after items ⌝ }
@@ -267,7 +267,7 @@ pub fn enter_root(
     sizes: &[u16],
     env: &mut [u32],
 ) -> usize
-    requires { ⌜ Known (now table) (now sizes) 0 × ReachGlobals (now table) 1 heads × Reach (now table) after items × (length (now table) ≤ 16384)
+    requires { ⌜ Known (now table) (now sizes) × ReachGlobals (now table) 1 heads × Reach (now table) after items × (length (now table) ≤ 16384)
         × (4 * (1 + length (rootItems (now table) heads after items)) ≤ length (now env)) ⌝ }
     ensures { λ r. ⌜ Grown 0 (now (env .entry)) (now (env .exit)) r (addAll (rootItems (now (table .entry)) heads after items) (item 65536 0 0 0 ∷ envOf (now (env .entry)) 0))
         (1 + length (rootItems (now (table .entry)) heads after items)) ⌝ }
@@ -286,7 +286,7 @@ pub fn open(
     env: &mut [u32],
     top: usize,
 ) -> Labelled
-    requires { ⌜ Known (now table) (now sizes) 0 × (8 * (at + heads) ≤ length (now table)) × Reach (now table) (at + heads) items × (length (now table) ≤ 16384)
+    requires { ⌜ Known (now table) (now sizes) × (8 * (at + heads) ≤ length (now table)) × Reach (now table) (at + heads) items × (length (now table) ≤ 16384)
         × (4 * (top + (1 + length (blockItems (now table) at heads items))) ≤ length (now env)) ⌝ }
     ensures { λ r. ⌜ Grown top (now (env .entry)) (now (env .exit)) (r .top)
         (addAll (blockItems (now (table .entry)) at heads items) (item mark 0 0 0 ∷ envOf (now (env .entry)) top))
@@ -312,7 +312,7 @@ pub fn enter(
     env: &mut [u32],
     top: usize,
 ) -> usize
-    requires { ⌜ Known (now table) (now sizes) 0 × (8 * (at + heads) ≤ length (now table)) × Reach (now table) (at + heads) items × (length (now table) ≤ 16384)
+    requires { ⌜ Known (now table) (now sizes) × (8 * (at + heads) ≤ length (now table)) × Reach (now table) (at + heads) items × (length (now table) ≤ 16384)
         × (4 * (top + (1 + length (blockItems (now table) at heads items))) ≤ length (now env)) ⌝ }
     ensures { λ r. ⌜ Grown top (now (env .entry)) (now (env .exit)) r
         (addAll (blockItems (now (table .entry)) at heads items) (item mark 0 0 0 ∷ envOf (now (env .entry)) top))

@@ -16,6 +16,5 @@ pub use heads::head;
 pub use heads::once;
 pub use heads::open;
 pub use heads::open_root;
-pub use spans::measure;
 pub use spans::size_at;
 pub use spans::spanned;

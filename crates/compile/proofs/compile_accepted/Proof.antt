@@ -1,82 +1,62 @@
--- `compile_accepted`: in each of its cases the arrays are as large as the table asks for.
+-- `compile_accepted`: the entries are numbered, and the root's names entered (crates/compile_whole/specs/Compiling).
 use borrow.Author.Needs.{needs}
 use native.Mathlib.Omega.{arith}
-use Rattle.compile_whole.specs.Compiling.{accepted-short}
+use mathlib.Core.Path.{ap}
+use Prim.Native.Nat.{ℕ, _+_}
+use Rattle.table_entries.specs.Sizes.{size-small}
+use Rattle.table_forms.specs.Tables.{Counted, root-long, root-reach, root-room}
+use Rattle.compile_whole.specs.Compiling.{compile-short, compile-whole, compile-holding, compile-write}
 use Rattle.compile.proofs.compile_accepted.Statement.{statement}
 use Rattle.compile.proofs.compile_accepted.Tie as tie
 
-compile-in-requires : tie.Need-compile-in-requires
-compile-in-requires c κs =
-    let h = accepted-short (c .before .before .before .before .before .before .before .before .before .args .table .now)
-    (c .before .before .before .before .before .before .before .before .before .pre .0)
-    (c .before .before .before .before .before .before .before .before .before .pre .1) in
-    record {
-      tree = c .before .before .before .before .before .before .before .before .before .pre .0;
-      judged = c .before .before .before .before .before .before .before .before .before .pre .1;
-      wide-sizes = omega arith;
-      wide-env = omega arith;
-      wide-known = omega arith;
-      wide-aims = omega arith;
-      wide-ends = omega arith;
-    }
+a-at-requires : tie.Need-a-at-requires
+a-at-requires c κs = omega (arith, root-long (compile-whole (c .before .before .before .before .before .before .before .pre) (λ k. omega (arith, c .before .before .before .before .before .before .shared-slice-known .given k))) .0)
 
-compile-in-requires-2 : tie.Need-compile-in-requires-2
-compile-in-requires-2 c κs =
-    let h = accepted-short (c .before .before .before .before .before .before .before .before .before .before .args .table .now)
-    (c .before .before .before .before .before .before .before .before .before .before .pre .0)
-    (c .before .before .before .before .before .before .before .before .before .before .pre .1) in
-    record {
-      tree = c .before .before .before .before .before .before .before .before .before .before .pre .0;
-      judged = c .before .before .before .before .before .before .before .before .before .before .pre .1;
-      wide-sizes = omega arith;
-      wide-env =
-          omega arith;
-      wide-known = omega arith;
-      wide-aims = omega arith;
-      wide-ends = omega arith;
-    }
+b-at-requires : tie.Need-b-at-requires
+b-at-requires c κs = omega (arith, root-long (compile-whole (c .before .before .before .before .before .before .before .before .pre) (λ k. omega (arith, c .before .before .before .before .before .before .before .shared-slice-known .given k))) .0)
 
-compile-in-requires-3 : tie.Need-compile-in-requires-3
-compile-in-requires-3 c κs =
-    let h = accepted-short (c .before .before .before .before .before .before .before .before .before .before .args .table .now)
-    (c .before .before .before .before .before .before .before .before .before .before .pre .0)
-    (c .before .before .before .before .before .before .before .before .before .before .pre .1) in
-    record {
-      tree = c .before .before .before .before .before .before .before .before .before .before .pre .0;
-      judged = c .before .before .before .before .before .before .before .before .before .before .pre .1;
-      wide-sizes = omega arith;
-      wide-env =
-          omega arith;
-      wide-known = omega arith;
-      wide-aims = omega arith;
-      wide-ends = omega arith;
-    }
+spanned-requires : tie.Need-spanned-requires
+spanned-requires c κs = (c .before .before .before .before .before .before .before .before .before .pre .sized, root-long (compile-whole (c .before .before .before .before .before .before .before .before .before .pre) (λ k. omega (arith, c .before .before .before .before .before .before .before .before .shared-slice-known .given k))) .3)
+
+add-after : tie.Need-add-after
+add-after c =
+    omega (arith, size-small (c .before .before .before .before .before .before .before .before .before .before .args .table .now) 1 (c .before .before .a-at .result) (c .spanned .result) (c .spanned .ensures), compile-short (c .before .before .before .before .before .before .before .before .before .before .pre) (λ k. omega (arith, c .before .before .before .before .before .before .before .before .before .shared-slice-known .given k)))
+
+enter-root-requires : tie.Need-enter-root-requires
+enter-root-requires c κs =
+    let whole = (compile-whole (c .before .before .before .before .before .before .before .before .before .before .before .pre) (λ k. omega (arith, c .before .before .before .before .before .before .before .before .before .before .shared-slice-known .given k))) in
+    let counted : Counted (c .before .before .before .before .before .before .before .before .before .before .before .args .table .now) (c .before .before .before .a-at .result) (c .before .before .b-at .result) (1 + c .before .spanned .result) = (record { first = c .before .before .before .a-at .ensures; second = c .before .before .b-at .ensures; third = ap (λ (n : ℕ). 1 + n) (c .before .spanned .ensures) }) in
+    (c .before .before .before .before .before .before .before .before .before .before .before .pre .sized, root-reach whole counted .0, root-reach whole counted .1, compile-short (c .before .before .before .before .before .before .before .before .before .before .before .pre) (λ k. omega (arith, c .before .before .before .before .before .before .before .before .before .before .shared-slice-known .given k)), root-room whole counted)
+
+number-all-requires : tie.Need-number-all-requires
+number-all-requires c κs = (
+  compile-holding (c .before .before .before .before .before .before .before .before .before .before .before .before .before .before .before .pre) (λ k. omega (arith, c .before .before .before .before .before .before .before .before .before .before .before .before .before .before .shared-slice-known .given k)) (record { first = c .before .before .before .before .before .before .before .a-at .ensures; second = c .before .before .before .before .before .before .b-at .ensures; third = ap (λ (n : ℕ). 1 + n) (c .before .before .before .before .before .spanned .ensures) }),
+  c .before .before .before .before .before .before .before .before .before .before .before .before .before .before .before .pre .wide-known,
+)
+
+write-requires : tie.Need-write-requires
+write-requires c κs = (
+  compile-write (c .before .before .before .before .before .before .before .before .before .before .before .before .before .before .before .before .before .before .before .before .before .before .before .before .pre) (λ k. omega (arith, c .before .before .before .before .before .before .before .before .before .before .before .before .before .before .before .before .before .before .before .before .before .before .before .shared-slice-known .given k)) (record { first = c .before .before .before .before .before .before .before .before .before .before .before .before .before .before .before .before .a-at .ensures; second = c .before .before .before .before .before .before .before .before .before .before .before .before .before .before .before .b-at .ensures; third = ap (λ (n : ℕ). 1 + n) (c .before .before .before .before .before .before .before .before .before .before .before .before .before .before .spanned .ensures) }) (c .before .before .before .before .before .before .before .before .before .before .before .before .enter-root .ensures) (c .before .before .before .before .before .before .before .before .number-all .ensures),
+  omega arith,
+)
 
 pub compile-accepted-spec : {M : Type 1} → statement M
 compile-accepted-spec =
     tie.close
     (tie.spec
+    a-at-requires
+    (λ c. search needs)
+    b-at-requires
+    (λ c. search needs)
+    spanned-requires
+    add-after
+    enter-root-requires
+    number-all-requires
+    (λ c. search needs)
+    write-requires
     (λ c. search needs)
     (λ c. search needs)
     (λ c. search needs)
     (λ c. search needs)
-    (λ c. search needs)
-    compile-in-requires
-    (λ c. search needs)
-    (λ c. search needs)
-    (λ c. search needs)
-    (λ c. search needs)
-    (λ c. search needs)
-    (λ c. search needs)
-    (λ c. search needs)
-    compile-in-requires-2
-    (λ c. search needs)
-    (λ c. search needs)
-    (λ c. search needs)
-    (λ c. search needs)
-    (λ c. search needs)
-    (λ c. search needs)
-    (λ c. search needs)
-    compile-in-requires-3
     (λ c. search needs)
     (λ c. search needs))

@@ -1,36 +1,25 @@
--- `table_names::faults::first_fault` meets its contract: in each of its cases the arrays are as large as the table asks for. Assumes nothing.
+-- `table_names::faults::first_fault` meets its contract. Assumes nothing.
 use borrow.Author.Needs.{needs}
 use native.Mathlib.Omega.{arith}
-use Rattle.table_forms.specs.Tables.{read-held}
+use mathlib.Core.Path.{_∙_}
+use Rattle.language.specs.Faults.{faults}
+use Rattle.table_forms.specs.Tables.{read-held, held-whole}
+use Rattle.table_names.specs.Answer.{says-answer}
 use Rattle.table_names.proofs.faults.first_fault.Statement.{statement}
 use Rattle.table_names.proofs.faults.first_fault.Tie as tie
 
-fault-in-requires-5 : tie.Need-fault-in-requires-5
-fault-in-requires-5 c κs =
-    let at-start = c .before .before .before .before .before .before .before in
-    let h = read-held (at-start .args .table .now) (at-start .pre .0) (at-start .pre .1) in (at-start .pre, omega (arith, h .short), omega (arith, h .short))
+root-requires : tie.Need-root-requires
+root-requires c κs =
+    record {
+      tree = c .before .before .before .before .pre .0 .0;
+      whole = held-whole (c .before .before .before .before .pre .0 .0) (λ k. omega (arith, c .before .before .before .shared-slice-known .given k)) (c .before .before .before .before .pre .1) (c .before .before .before .before .pre .2)
+          (read-held (c .before .before .before .before .args .table .now) (c .before .before .before .before .pre .0 .0) (c .before .before .before .before .pre .0 .1));
+    }
+
+returns : tie.Need-returns
+returns c =
+    λ t e. c .answered .ensures ∙ says-answer (c .before .before .before .root .result) (faults t)
+    (c .before .before .before .root .ensures .judged t (held-whole t (λ k. omega (arith, c .before .before .before .before .before .before .before .shared-slice-known .given k)) (c .before .before .before .before .before .before .before .before .pre .1) (c .before .before .before .before .before .before .before .before .pre .2) (read-held (c .before .before .before .before .before .before .before .before .args .table .now) t e)))
 
 pub first-fault-spec : {M : Type 1} → statement M
-first-fault-spec =
-    tie.close
-    (tie.spec
-    (λ c. search needs)
-    (λ c. search needs)
-    (λ c κs. search needs)
-    (λ c. search needs)
-    (λ c. search needs)
-    (λ c. search needs)
-    (λ c κs. search needs)
-    (λ c. search needs)
-    (λ c. search needs)
-    (λ c. search needs)
-    (λ c κs. search needs)
-    (λ c. search needs)
-    (λ c. search needs)
-    (λ c. search needs)
-    (λ c κs. search needs)
-    (λ c. search needs)
-    (λ c. search needs)
-    (λ c. search needs)
-    fault-in-requires-5
-    (λ c. search needs))
+first-fault-spec = tie.close (tie.spec root-requires (λ c κs. search needs) (λ c. search needs) returns)

@@ -2,8 +2,7 @@
 use native.Mathlib.Omega.{arith}
 use mathlib.Core.Path.{ap}
 use Prim.Native.Nat.{ℕ, _+_}
-use Rattle.table_scopes.specs.Sizes.{size-small}
-use Rattle.table_forms.specs.Body.{known-from}
+use Rattle.table_entries.specs.Sizes.{size-small}
 use Rattle.table_forms.specs.Tables.{root-long, root-reach, root-room, root-globals, root-rest, root-stop, root-judged, root-place}
 use borrow.Author.Needs.{needs}
 use Rattle.table_names.proofs.Spares.{spared-kept}
@@ -21,7 +20,7 @@ b-at-requires c κs =
 spanned-requires : tie.Need-spanned-requires
 spanned-requires c κs =
     let at-start = c .before .before .before .before .before in
-    (known-from 1 ((at-start .pre) .whole .known), root-long ((at-start .pre) .whole) .3)
+    ((at-start .pre) .whole .known, root-long ((at-start .pre) .whole) .3)
 
 add-after : tie.Need-add-after
 add-after c =

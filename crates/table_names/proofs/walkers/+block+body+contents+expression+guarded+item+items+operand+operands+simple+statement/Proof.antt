@@ -17,7 +17,7 @@ use Rattle.table_forms.specs.Simple.{simple-asks, settle-asks, simple-stop, sim
 use Rattle.table_forms.specs.Leaf.{leaf-judged, leaf-small}
 use Rattle.table_forms.specs.Guard.{guard-asks, guard-passes, guard-stop, guard-items, guard-stop-2, guard-judged}
 use Rattle.table_forms.specs.Block.{contents-stop, contents-judged, block-asks, block-contents, block-judged}
-use Rattle.table_forms.specs.Body.{known-from, body-asks, body-contents, body-stop, body-result, body-fits, body-judged}
+use Rattle.table_forms.specs.Body.{body-asks, body-contents, body-stop, body-result, body-fits, body-judged}
 use Prim.Native.Nat.{ℕ, _+_, _-_, _*_, _<_}
 use borrow.Fn.Kinds.{In}
 use borrow.Fn.PlainCycle.{Measures, is, falls, and}
@@ -313,8 +313,7 @@ body-meets t =
     let at-a = at-b .before in
     let at-start = at-a .before .before .before .before .before in
     let w = body-contents (at-a .a-at .result) (at-b .b-at .result) (at-a .a-at .ensures, at-b .b-at .ensures) (at-open .open .ensures .0) (at-start .pre .1) in (
-      known-from (at-start .args .at + 1 + at-a .a-at .result) (body-asks (at-a .a-at .result) (at-b .b-at .result)
-          (at-a .a-at .ensures, at-b .b-at .ensures) (at-start .pre .1) .known),
+      body-asks (at-a .a-at .result) (at-b .b-at .result) (at-a .a-at .ensures, at-b .b-at .ensures) (at-start .pre .1) .known,
       omega (arith, w .within),
     ))
     -- add-after

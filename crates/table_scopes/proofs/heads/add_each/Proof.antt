@@ -6,7 +6,7 @@ use lib.ListN.{length}
 use Prim.Native.Nat.{_+_, _-_}
 use borrow.Author.Needs.{needs}
 use Rattle.table_scopes.specs.Environment.{envOf}
-use Rattle.table_scopes.specs.Sizes.{size-small}
+use Rattle.table_entries.specs.Sizes.{size-small}
 use Rattle.table_scopes.specs.Items.{oneAt, labelsFrom, after, Reach, Adds, adds-start, adds-room, adds-next, adds-end, labels-more, labels-none, reach-here, reach-next}
 use Rattle.table_scopes.specs.Spared.{Sparing, sparing-start, sparing-next, sparing-end, env-length}
 use Rattle.table_scopes.specs.Filter.{Covers}
@@ -67,7 +67,7 @@ add-place c =
     let left = c .before .before .before .before .before .before .before .before .before .before .before .loop .left in
     let rh = reach-here l place left (omega arith) (c .before .before .before .before .before .before .before .before .before .before .before .loop .inv .1) in
     let known = c .before .before .before .before .before .before .before .before .before .before .before .before .before .before .before .before .pre .0 in
-    let z = c .size-at .ensures ∙ known .sized place (omega arith) (omega (arith, rh)) in
+    let z = c .size-at .ensures ∙ known .sized place (omega (arith, rh)) in
     omega (arith, size-small l place 1 (c .size-at .result) z)
 
 loop-again : tie.Need-loop-again Inv-loop μ-loop
@@ -80,7 +80,7 @@ loop-again c =
     let place = at-loop .loop .place in
     let left = at-loop .loop .left in
     let rh = reach-here l place left (omega arith) (at-loop .loop .inv .1) in
-    let z = c .size-at .ensures ∙ at-start .pre .0 .sized place (omega arith) (omega (arith, rh)) in
+    let z = c .size-at .ensures ∙ at-start .pre .0 .sized place (omega (arith, rh)) in
     let step = labels-more l place left (c .size-at .result) (omega arith) z in
     let g = at-add-label .add-label .ensures .0 in
     let a = adds-next (at-loop .loop .inv .0) (oneAt 20 5 l place) (labelsFrom l (place + c .size-at .result) (left - 1)) step g in (

@@ -3,7 +3,7 @@ use native.Mathlib.Omega.{arith}
 use mathlib.Core.Path.{_≡_, refl, _∙_}
 use lib.ListN.{length}
 use Prim.Native.Nat.{_+_, _-_}
-use Rattle.table_scopes.specs.Sizes.{size-small}
+use Rattle.table_entries.specs.Sizes.{size-small}
 use Rattle.table_scopes.specs.Items.{globalAt, globalsFrom, after, ReachGlobals, Adds, adds-start, adds-room, adds-next, adds-end, globals-more, globals-none, globals-here, globals-next}
 use Rattle.table_scopes.proofs.heads.add_globals.Statement.{statement}
 use Rattle.table_scopes.proofs.heads.add_globals.Tie as tie
@@ -46,7 +46,7 @@ add-place c =
     let place = c .before .before .before .before .before .before .loop .place in
     let left = c .before .before .before .before .before .before .loop .left in
     let rh = globals-here l place left (omega arith) (c .before .before .before .before .before .before .loop .inv .1) in
-    let z = c .size-at .ensures ∙ c .before .before .before .before .before .before .before .before .before .before .pre .0 .sized place (omega arith) (omega (arith, rh .within)) in
+    let z = c .size-at .ensures ∙ c .before .before .before .before .before .before .before .before .before .before .pre .0 .sized place (omega (arith, rh .within)) in
     omega (arith, size-small l place 1 (c .size-at .result) z, rh .within)
 
 loop-again : tie.Need-loop-again Inv-loop μ-loop
@@ -55,7 +55,7 @@ loop-again c =
     let place = c .before .before .before .before .before .before .loop .place in
     let left = c .before .before .before .before .before .before .loop .left in
     let rh = globals-here l place left (omega arith) (c .before .before .before .before .before .before .loop .inv .1) in
-    let z = c .size-at .ensures ∙ c .before .before .before .before .before .before .before .before .before .before .pre .0 .sized place (omega arith) (omega (arith, rh .within)) in
+    let z = c .size-at .ensures ∙ c .before .before .before .before .before .before .before .before .before .before .pre .0 .sized place (omega (arith, rh .within)) in
     let step = globals-more l place left (c .size-at .result) (omega arith) z in
     let a = adds-next (c .before .before .before .before .before .before .loop .inv .0) (globalAt l place)
     (globalsFrom l (place + c .size-at .result) (left - 1)) step (c .before .before .before .add-global .ensures) in

@@ -3,7 +3,7 @@ use mathlib.Core.Path.{_≡_, refl, _∙_}
 use native.Mathlib.Omega.{arith}
 use Prim.Native.Nat.{_/_}
 use lib.ListN.{length}
-use Rattle.table_scopes.specs.Sizes.{Hops, hops-start, hops-next, hops-early, hops-end}
+use Rattle.table_scopes.specs.Hops.{Hops, hops-start, hops-next, hops-early, hops-end}
 use Rattle.table_scopes.proofs.spans.spanned.Statement.{statement}
 use Rattle.table_scopes.proofs.spans.spanned.Tie as tie
 
@@ -26,13 +26,13 @@ add-at c =
     omega (
       arith,
       hops-next (c .before .before .before .loop .inv .0) (c .size-at .result) (omega arith)
-          (c .size-at .ensures ∙ c .before .before .before .before .before .before .pre .0 .sized (c .before .before .before .loop .at) (omega arith) (omega arith)) .within,
+          (c .size-at .ensures ∙ c .before .before .before .before .before .before .pre .0 .sized (c .before .before .before .loop .at) (omega arith)) .within,
     )
 
 loop-again : tie.Need-loop-again Inv-loop μ-loop
 loop-again c = (
   hops-next (c .before .before .before .loop .inv .0) (c .size-at .result) (omega arith)
-      (c .size-at .ensures ∙ c .before .before .before .before .before .before .pre .0 .sized (c .before .before .before .loop .at) (omega arith)
+      (c .size-at .ensures ∙ c .before .before .before .before .before .before .pre .0 .sized (c .before .before .before .loop .at)
       (omega arith)),
   c .before .before .before .loop .inv .1,
 )

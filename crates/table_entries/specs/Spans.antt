@@ -4,15 +4,15 @@ use mathlib.Core.List.{List, [], _∷_, _++_, append-assoc}
 use Prim.Native.Nat.{ℕ, zero, suc, _+_, _-_, _≤_, _<_}
 use native.Mathlib.Omega.{arith}
 use native.Mathlib.Nat.{add-zero, zero-add, add-assoc, suc-add}
+use lib.IntN.{natAbs}
 use lib.ListN.{length, drop, length-append, length-drop}
 use lib.Seq.{drop-at, drop-drop}
-use Rattle.words.specs.Numbers.{wordOf}
 use Rattle.language.specs.Table.{Entry}
 use Rattle.table_entries.specs.Arity.{parts}
 
 -- the parts below an entry
 abbrev pub arity : Entry → ℕ
-arity e = parts (e .kind) (e .a) (wordOf (e .b))
+arity e = parts (e .kind) (e .a) (natAbs (e .b))
 
 -- the entries of so many parts
 unfoldable pub spanOf : List Entry → ℕ → ℕ
