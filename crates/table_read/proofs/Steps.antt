@@ -98,6 +98,13 @@ pub leaf-below : (w : Sort → List Entry → Read) (es : List Entry) → isLeaf
 unfolding chain
 leaf-below w es t = rw (leaf-sorts (kindAt es) (nameAt es) (sizeAt es) t)
 
+-- no more entries stand below an entry than there are bytes for
+pub below-fits : (d : ℕ) (l : List ℕ) → 8 ≤ length l → {x : Read} → x ≡ chain (walk d) (sorts (kindAt (entriesOf l)) (nameAt (entriesOf l)) (sizeAt (entriesOf l))) (drop 1 (entriesOf l))
+    → 8 * counted x + 8 ≤ length l
+below-fits d l h e =
+    let es = entriesOf l in
+    rw e (omega (arith, chain-count d (sorts (kindAt es) (nameAt es) (sizeAt es)) (drop 1 es), length-drop 1 es, entries-length l))
+
 -- ── an operand ──
 pub admitted-none : (d : ℕ) (s : Sort) (l : List ℕ) → length l < 8 → false ≡ admittedAt d s (entriesOf l)
 admitted-none d s l h = rw (entries-none l h) (never (ltb 0 d))

@@ -173,18 +173,19 @@ fn read_entry(part: &[u8], place: usize, sizes: &mut [u16], nesting: usize) -> R
         × Fills (entriesOf (now (part .entry))) place (now (sizes .entry)) (now (sizes .exit)) r ⌝ }
 {
     let kind = kind_of(part);
-    if kinds::is_leaf(kind) {
-        return whole(sizes, place, Read::Tree(0));
-    }
-    let below = operands(
-        &part[ENTRY_BYTES..],
-        place + 1,
-        sizes,
-        kind,
-        name_of(part),
-        size_of(part),
-        nesting,
-    );
+    let below = if kinds::is_leaf(kind) {
+        Read::Tree(0)
+    } else {
+        operands(
+            &part[ENTRY_BYTES..],
+            place + 1,
+            sizes,
+            kind,
+            name_of(part),
+            size_of(part),
+            nesting,
+        )
+    };
     whole(sizes, place, below)
 }
 

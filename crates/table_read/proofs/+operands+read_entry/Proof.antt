@@ -1,16 +1,18 @@
 -- The walkers of the reader meet their contracts: the nesting that is left falls from an operand to the entries below it. Assumes nothing.
 use mathlib.Core.Path.{_≡_, refl, sym, ap, _∙_}
 use native.Mathlib.Omega.{arith}
+use mathlib.Core.Logic.{⊎-elim}
 use borrow.Author.Needs.{needs}
 use borrow.Author.Tests.{not-true, not-false}
 use lib.ListN.{length, drop, length-drop}
 use Rattle.language_laws.specs.Claims.{entriesOf}
 use Rattle.table_read.specs.declared.Read.the-variants.{Tree, Fault}
 use Rattle.table_read.specs.Operands.{sorts, isLeaf}
-use Rattle.table_read.specs.Walk.{moved, counted, chain, walk}
+use Rattle.table_read.specs.Walk.{counted, chain, kindAt, nameAt, sizeAt, walk}
+use Rattle.table_read.specs.Filling.{Fills}
 use Rattle.table_entries.specs.Entries.{entries-rest, rest as back}
 use Rattle.table_entries.specs.Sizes.{sized-none}
-use Rattle.table_read.proofs.Steps.{Passed, passed-none, passed-end, passed-refused, passed-deep, passed-fits, passed-stop, passed-next, leaf-below, chain-fits}
+use Rattle.table_read.proofs.Steps.{Passed, passed-none, passed-end, passed-refused, passed-deep, passed-fits, passed-stop, passed-next, leaf-below, below-fits}
 use Rattle.table_read.proofs.Counts.{entry-read}
 use Prim.Native.Nat.{ℕ, _+_, _-_, _*_, _≤_, _<_}
 use borrow.Fn.Kinds.{In}
@@ -51,6 +53,13 @@ read-entry-at t = and 2 read-entry-kinds.ps (is 2 read-entry-kinds.ps μ-read-en
 abbrev read-entry-below : ℕ → In 2 read-entry-kinds.ps
 read-entry-below t = and 2 read-entry-kinds.ps (falls 2 read-entry-kinds.ps _<_ μ-read-entry t) read-entry.Pre
 
+-- what each asks of its callees, and learns of them
+abbrev operands-claims : ℕ → operands-lts.Claims
+operands-claims t = (count-reads.Asked, count-reads.Learnt, sort-of-reads.Asked, sort-of-reads.Learnt, admitted-reads.Asked, admitted-reads.Learnt, read-entry-below t, read-entry.Post)
+
+abbrev read-entry-claims : ℕ → read-entry-lts.Claims
+read-entry-claims t = (kind-of-reads.Asked, kind-of-reads.Learnt, is-leaf-reads.Asked, is-leaf-reads.Learnt, name-of-reads.Asked, name-of-reads.Learnt, size-of-reads.Asked, size-of-reads.Learnt, operands-below t, operands.Post, whole-reads.Asked, whole-reads.Learnt)
+
 abbrev operands-Inv-loop : operands-lts.InvT-loop
 operands-Inv-loop part place sizes₀ kind a n nesting all rest₀ passed₀ i₀ sizes rest passed i =
     Passed nesting (sorts kind a n) part place sizes₀ sizes rest passed i × (length sizes ≡ length sizes₀)
@@ -58,8 +67,8 @@ operands-Inv-loop part place sizes₀ kind a n nesting all rest₀ passed₀ i�
 abbrev operands-μ-loop : operands-lts.MeasureT-loop
 operands-μ-loop part place sizes₀ kind a n nesting all rest₀ passed₀ i₀ sizes rest passed i = all - i
 
-operands-meets : {M : Type 1} (t : ℕ) → operands-lts.Closed (count-reads.Asked, count-reads.Learnt, sort-of-reads.Asked, sort-of-reads.Learnt, admitted-reads.Asked, admitted-reads.Learnt, read-entry-below t, read-entry.Post) (operands-at t) operands.Post M
-operands-meets t = operands-lts.spec (count-reads.Asked, count-reads.Learnt, sort-of-reads.Asked, sort-of-reads.Learnt, admitted-reads.Asked, admitted-reads.Learnt, read-entry-below t, read-entry.Post) (operands-at t) operands.Post operands-Inv-loop operands-μ-loop
+operands-meets : {M : Type 1} (t : ℕ) → operands-lts.Closed (operands-claims t) (operands-at t) operands.Post M
+operands-meets t = operands-lts.spec (operands-claims t) (operands-at t) operands.Post operands-Inv-loop operands-μ-loop
     -- count-requires
     (λ c κs. search needs)
     -- loop-holds
@@ -109,21 +118,36 @@ operands-meets t = operands-lts.spec (count-reads.Asked, count-reads.Learnt, sor
     -- returns-3
     (λ c. let end : c .before .loop .i ≡ length (sorts (c .before .before .before .before .before .args .kind) (c .before .before .before .before .before .args .a) (c .before .before .before .before .before .args .n)) = omega (arith, c .before .before .count .ensures, (c .before .loop .inv .0) .few) in (passed-end (c .before .loop .inv .0) end, (c .before .loop .inv .0) .sized))
 
-read-entry-meets : {M : Type 1} (t : ℕ) → read-entry-lts.Closed (kind-of-reads.Asked, kind-of-reads.Learnt, is-leaf-reads.Asked, is-leaf-reads.Learnt, whole-reads.Asked, whole-reads.Learnt, name-of-reads.Asked, name-of-reads.Learnt, size-of-reads.Asked, size-of-reads.Learnt, operands-below t, operands.Post) (read-entry-at t) read-entry.Post M
-read-entry-meets t = read-entry-lts.spec (kind-of-reads.Asked, kind-of-reads.Learnt, is-leaf-reads.Asked, is-leaf-reads.Learnt, whole-reads.Asked, whole-reads.Learnt, name-of-reads.Asked, name-of-reads.Learnt, size-of-reads.Asked, size-of-reads.Learnt, operands-below t, operands.Post) (read-entry-at t) read-entry.Post
+-- what stands below an entry, by whichever way it was read
+below-read : (t : ℕ) (c : read-entry-lts.Joined1 (read-entry-claims t) (read-entry-at t) read-entry.Post)
+    → let at-start = c .before .before .before .before .before in
+    let es = entriesOf (at-start .args .part .now) in
+    (c .if1 .below ≡ chain (walk (at-start .args .nesting)) (sorts (kindAt es) (nameAt es) (sizeAt es)) (drop 1 es))
+    × Fills (drop 1 es) (at-start .args .place + 1) (at-start .args .sizes .now) (c .if1 .sizes) (c .if1 .below)
+    × (length (c .if1 .sizes) ≡ length (at-start .args .sizes .now))
+below-read t c =
+    let at-start = c .before .before .before .before .before in
+    let part = at-start .args .part .now in
+    let kind = c .before .before .kind-of .ensures in
+    ⊎-elim
+    (λ w. rw (w .1, w .2) (
+      leaf-below (walk (at-start .args .nesting)) (entriesOf part) (ap isLeaf (sym kind) ∙ sym (c .before .is-leaf .ensures) ∙ w .0 .taken),
+      sized-none (drop 1 (entriesOf part)) (at-start .args .place + 1) (at-start .args .sizes .now),
+      refl,
+    ))
+    (λ w. rw (w .8, w .9) (
+      rw (kind, w .3 .ensures, w .4 .ensures, entries-rest 1 part) at (w .5 .ensures .0),
+      rw (entries-rest 1 part) at (w .5 .ensures .1),
+      w .5 .kept .1 .1 .0,
+    ))
+    (c .if1 .came)
+
+read-entry-meets : {M : Type 1} (t : ℕ) → read-entry-lts.Closed (read-entry-claims t) (read-entry-at t) read-entry.Post M
+read-entry-meets t = read-entry-lts.spec (read-entry-claims t) (read-entry-at t) read-entry.Post
     -- kind-of-requires
     (λ c κs. search needs)
     -- is-leaf-requires
     (λ c κs. search needs)
-    -- whole-requires
-    (λ c κs. (omega (arith, c .before .before .before .before .before .before .pre .1 .1 .0, c .before .before .before .before .before .before .pre .1 .0), omega arith))
-    -- same-length
-    (λ c. c .before .before .whole .kept .0)
-    -- returns
-    (λ c. let es = entriesOf (c .before .before .before .before .before .before .before .before .before .args .part .now) in
-    entry-read (c .before .before .before .before .before .before .before .before .before .args .nesting) (c .before .before .before .before .before .before .before .before .before .args .part .now) (c .before .before .before .before .before .before .before .before .before .pre .1 .0) (c .before .before .before .before .before .before .before .before .before .args .place) (c .before .before .before .before .before .before .before .before .before .args .sizes .now) (c .before .before .before .before .before .before .before .before .before .args .sizes .now) (Tree 0)
-    (leaf-below (walk (c .before .before .before .before .before .before .before .before .before .args .nesting)) es (ap isLeaf (sym (c .before .before .before .before .before .before .kind-of .ensures)) ∙ sym (c .before .before .before .before .before .is-leaf .ensures) ∙ c .before .before .before .before .if1 .taken))
-    (sized-none (drop 1 es) (c .before .before .before .before .before .before .before .before .before .args .place + 1) (c .before .before .before .before .before .before .before .before .before .args .sizes .now)) (omega (arith, c .before .before .before .before .before .before .before .before .before .pre .1 .1 .0, c .before .before .before .before .before .before .before .before .before .pre .1 .0)) (c .before .before .whole .ensures .0) (c .before .before .whole .ensures .1))
     -- sub-operands
     (λ c. search needs)
     -- part-operands-start
@@ -138,17 +162,19 @@ read-entry-meets t = read-entry-lts.spec (kind-of-reads.Asked, kind-of-reads.Lea
     (λ c κs. search needs)
     -- operands-requires
     (λ c κs. (omega arith, (rw (back 8 (c .before .before .before .before .before .before .before .before .before .args .part .now)) (omega (arith, length-drop 8 (c .before .before .before .before .before .before .before .before .before .args .part .now), c .before .before .before .before .before .before .before .before .before .pre .1 .1 .0, c .before .before .before .before .before .before .before .before .before .pre .1 .0)), c .before .before .before .before .before .before .before .before .before .pre .1 .1 .1)))
-    -- whole-requires-2
-    (λ c κs. let fits = chain-fits (c .before .before .before .before .before .before .before .before .before .before .before .before .before .args .nesting) (sorts (c .before .before .before .before .before .before .before .before .before .before .kind-of .result) (c .before .before .before .before .before .name-of .result) (c .before .before .before .before .size-of .result)) (drop 8 (c .before .before .before .before .before .before .before .before .before .before .before .before .before .args .part .now)) (rw (back 8 (c .before .before .before .before .before .before .before .before .before .before .before .before .before .args .part .now)) at (c .before .before .before .operands .ensures .0)) in
-    (omega (arith, c .before .before .before .operands .kept .1 .1 .0, c .before .before .before .before .before .before .before .before .before .before .before .before .before .pre .1 .1 .0, c .before .before .before .before .before .before .before .before .before .before .before .before .before .pre .1 .0), omega (arith, fits, length-drop 8 (c .before .before .before .before .before .before .before .before .before .before .before .before .before .args .part .now), c .before .before .before .before .before .before .before .before .before .before .before .before .before .pre .1 .1 .0, c .before .before .before .before .before .before .before .before .before .before .before .before .before .pre .1 .1 .1)))
-    -- same-length-2
-    (λ c. c .before .before .whole2 .kept .0 ∙ c .before .before .before .before .before .before .operands .kept .1 .1 .0)
-    -- returns-2
+    -- whole-requires
+    (λ c κs.
+    let h = below-read t (c .before) in
+    let fits = below-fits (c .before .before .before .before .before .before .args .nesting) (c .before .before .before .before .before .before .args .part .now) (c .before .before .before .before .before .before .pre .1 .0) (h .0) in
+    (omega (arith, h .2, c .before .before .before .before .before .before .pre .1 .1 .0, c .before .before .before .before .before .before .pre .1 .0), omega (arith, fits, c .before .before .before .before .before .before .pre .1 .1 .0, c .before .before .before .before .before .before .pre .1 .1 .1)))
+    -- same-length
+    (λ c. c .before .before .whole .kept .0 ∙ below-read t (c .before .before .before .before) .2)
+    -- returns
     (λ c.
-    let below = rw (c .before .before .before .before .before .before .before .before .before .before .before .before .before .kind-of .ensures, c .before .before .before .before .before .before .before .before .name-of .ensures, c .before .before .before .before .before .before .before .size-of .ensures, entries-rest 1 (c .before .before .before .before .before .before .before .before .before .before .before .before .before .before .before .before .args .part .now)) at (c .before .before .before .before .before .before .operands .ensures .0) in
-    let fills = rw (entries-rest 1 (c .before .before .before .before .before .before .before .before .before .before .before .before .before .before .before .before .args .part .now)) at (c .before .before .before .before .before .before .operands .ensures .1) in
-    entry-read (c .before .before .before .before .before .before .before .before .before .before .before .before .before .before .before .before .args .nesting) (c .before .before .before .before .before .before .before .before .before .before .before .before .before .before .before .before .args .part .now) (c .before .before .before .before .before .before .before .before .before .before .before .before .before .before .before .before .pre .1 .0) (c .before .before .before .before .before .before .before .before .before .before .before .before .before .before .before .before .args .place) (c .before .before .before .before .before .before .before .before .before .before .before .before .before .before .before .before .args .sizes .now) (c .before .before .before .before .before .before .operands .last .1 .1 .0) (c .before .before .before .before .before .before .operands .result) below
-    fills (omega (arith, c .before .before .before .before .before .before .operands .kept .1 .1 .0, c .before .before .before .before .before .before .before .before .before .before .before .before .before .before .before .before .pre .1 .1 .0, c .before .before .before .before .before .before .before .before .before .before .before .before .before .before .before .before .pre .1 .0)) (c .before .before .whole2 .ensures .0) (c .before .before .whole2 .ensures .1))
+    let at-joined = c .before .before .before .before in
+    let h = below-read t at-joined in
+    entry-read (c .before .before .before .before .before .before .before .before .before .args .nesting) (c .before .before .before .before .before .before .before .before .before .args .part .now) (c .before .before .before .before .before .before .before .before .before .pre .1 .0) (c .before .before .before .before .before .before .before .before .before .args .place) (c .before .before .before .before .before .before .before .before .before .args .sizes .now) (at-joined .if1 .sizes) (at-joined .if1 .below)
+    (h .0) (h .1) (omega (arith, h .2, c .before .before .before .before .before .before .before .before .before .pre .1 .1 .0, c .before .before .before .before .before .before .before .before .before .pre .1 .0)) (c .before .before .whole .ensures .0) (c .before .before .whole .ensures .1))
 
 pub +operands+read-entry-spec : {M : Type 1} → statement M
 +operands+read-entry-spec = close μ-operands μ-read-entry operands-meets read-entry-meets
