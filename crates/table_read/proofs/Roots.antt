@@ -28,7 +28,8 @@ use Rattle.table_read.specs.declared.Read.the-variants.{Tree, Fault}
 use Rattle.table_read.specs.declared.Reading.{Reading}
 use Rattle.table_read.specs.declared.Reading.the-variants.{Reads, Refused}
 use Rattle.table_read.specs.Operands.{sorts, bodySort}
-use Rattle.table_read.specs.Walk.{readingOf, counted, moved, onward, chain, kindAt, nameAt, sizeAt, laidAt, standsAt, sortsOf, sortsAt, entered, walk, isGlobal, tally, walkHead, walkBelow, walkRoot}
+use Rattle.table_read.specs.Walk.{readingOf, counted, moved, onward, chain, kindAt, nameAt, sizeAt, laidAt}
+use Rattle.table_read.specs.Walk.{standsAt, sortsOf, sortsAt, entered, walk, isGlobal, tally, walkHead, walkBelow, walkRoot}
 use Rattle.table_read.proofs.Ends.{Ends, ended, halted, Same, Chained, ends-count, ends-moved, ends-made, ends-then, ends-entry, ends-if, ends-stop, same-made}
 use Rattle.table_read.proofs.Ends.{same-one, same-times, times-then, same-first}
 use Rattle.table_read.proofs.Forms.{reads, below-entry, declaration, walks}

@@ -12,15 +12,20 @@ use Rattle.table_check.proofs.check_in.Statement.{statement}
 use Rattle.table_check.proofs.check_in.Tie as tie
 
 read-table-requires : tie.Need-read-table-requires
-read-table-requires c κs = c .before .before .before .before .pre .0
+read-table-requires c κs =
+    let at-start = c .before .before .before .before in
+    at-start .pre .0
 
 enum-told : tie.Need-enum-told
 enum-told c = search needs
 
 judged-requires : tie.Need-judged-requires
 judged-requires c κs =
-    let r = reads (now (c .before .before .before .before .before .before .before .before .before .before .before .args .table)) (sym (c .before .before .enum-told .given .1) ∙ c .before .before .before .before .before .before .read-table .ensures .0) in
-    (r, rw (c .before .before .enum-told .given .1) at (c .before .before .before .before .before .before .read-table .ensures .1), c .before .before .before .before .before .before .before .before .before .before .before .pre .1 (read-held (now (c .before .before .before .before .before .before .before .before .before .before .before .args .table)) (r .0) (r .1) .short))
+    let at-enum-told = c .before .before in
+    let at-read-table = at-enum-told .before .before .before .before in
+    let at-start = at-read-table .before .before .before .before .before in
+    let r = reads (now (at-start .args .table)) (sym (at-enum-told .enum-told .given .1) ∙ at-read-table .read-table .ensures .0) in
+    (r, rw (at-enum-told .enum-told .given .1) at (at-read-table .read-table .ensures .1), at-start .pre .1 (read-held (now (at-start .args .table)) (r .0) (r .1) .short))
 
 -- what the arm of a table that does not read answers
 unread-is : (c : tie.After-known-told) → Refused (coded (c .before .number .given .0 .0) (c .before .number .given .0 .1 .0))
@@ -32,16 +37,24 @@ cast-t14 : tie.Need-cast-t14
 cast-t14 c = record { fits = omega (arith, place-small _ _ (unread-is c)) }
 
 same-length : tie.Need-same-length
-same-length c = c .before .before .before .before .before .before .before .before .before .read-table .kept .1 .0
+same-length c =
+    let at-read-table = c .before .before .before .before .before .before .before .before .before in
+    at-read-table .read-table .kept .1 .0
 
 same-length-2 : tie.Need-same-length-2
 same-length-2 c = c .before .before .judged .kept .1 .1 .0
 
 returns : tie.Need-returns
-returns c = (c .before .before .judged .ensures, leaves-known (c .before .before .judged .result) (rw (c .before .before .before .before .before .enum-told .given .1) at (c .before .before .before .before .before .before .before .before .before .read-table .ensures .1)))
+returns c =
+    let at-judged = c .before .before in
+    let at-enum-told = at-judged .before .before .before in
+    let at-read-table = at-enum-told .before .before .before .before in
+    (at-judged .judged .ensures, leaves-known (at-judged .judged .result) (rw (at-enum-told .enum-told .given .1) at (at-read-table .read-table .ensures .1)))
 
 same-length-3 : tie.Need-same-length-3
-same-length-3 c = c .before .before .before .before .before .read-table .kept .1 .0
+same-length-3 c =
+    let at-read-table = c .before .before .before .before .before in
+    at-read-table .read-table .kept .1 .0
 
 returns-2 : tie.Need-returns-2
 returns-2 c = (unread-is c, tt)

@@ -14,7 +14,8 @@ enum-told : tie.Need-enum-told
 enum-told c = search needs
 
 -- what each arm of a refusal answers
-over-is : (c : tie.After-known-told) → Refused (coded 6 (c .before .place .given .0 .0)) ≡ checkedOf (judgeTable (now (c .before .before .before .before .before .before .before .before .before .before .before .before .before .args .table)))
+over-is : (c : tie.After-known-told) → Refused (coded 6 (c .before .place .given .0 .0)) ≡ checkedOf
+    (judgeTable (now (c .before .before .before .before .before .before .before .before .before .before .before .before .before .args .table)))
 over-is c =
     let at-first-fault = c .before .before .before .before .before .before .before .before in
     over _ (at-first-fault .before .before .before .before .before .pre .0) (at-first-fault .first-fault .ensures) (c .before .before .before .before .enum-told .given .1)
@@ -35,7 +36,9 @@ cast-t15 c = record { fits = omega (arith, place-small _ _ (fault-is c)) }
 
 returns : tie.Need-returns
 returns c =
-    within _ (c .before .before .before .before .before .before .before .before .before .before .before .before .pre .0) (c .before .before .before .before .before .before .before .first-fault .ensures) (c .before .before .before .enum-told .given .1) (c .before .before .over-limits .ensures) (c .enum-told2 .given .1)
+    within _ (c .before .before .before .before .before .before .before .before .before .before .before .before .pre .0)
+    (c .before .before .before .before .before .before .before .first-fault .ensures) (c .before .before .before .enum-told .given .1) (c .before .before .over-limits .ensures)
+    (c .enum-told2 .given .1)
 
 returns-2 : tie.Need-returns-2
 returns-2 c = over-is c

@@ -55,10 +55,32 @@ read-entry-below t = and 2 read-entry-kinds.ps (falls 2 read-entry-kinds.ps _<_ 
 
 -- what each asks of its callees, and learns of them
 abbrev operands-claims : ℕ → operands-lts.Claims
-operands-claims t = (count-reads.Asked, count-reads.Learnt, sort-of-reads.Asked, sort-of-reads.Learnt, admitted-reads.Asked, admitted-reads.Learnt, read-entry-below t, read-entry.Post)
+operands-claims t = (
+  count-reads.Asked,
+  count-reads.Learnt,
+  sort-of-reads.Asked,
+  sort-of-reads.Learnt,
+  admitted-reads.Asked,
+  admitted-reads.Learnt,
+  read-entry-below t,
+  read-entry.Post,
+)
 
 abbrev read-entry-claims : ℕ → read-entry-lts.Claims
-read-entry-claims t = (kind-of-reads.Asked, kind-of-reads.Learnt, is-leaf-reads.Asked, is-leaf-reads.Learnt, name-of-reads.Asked, name-of-reads.Learnt, size-of-reads.Asked, size-of-reads.Learnt, operands-below t, operands.Post, whole-reads.Asked, whole-reads.Learnt)
+read-entry-claims t = (
+  kind-of-reads.Asked,
+  kind-of-reads.Learnt,
+  is-leaf-reads.Asked,
+  is-leaf-reads.Learnt,
+  name-of-reads.Asked,
+  name-of-reads.Learnt,
+  size-of-reads.Asked,
+  size-of-reads.Learnt,
+  operands-below t,
+  operands.Post,
+  whole-reads.Asked,
+  whole-reads.Learnt,
+)
 
 abbrev operands-Inv-loop : operands-lts.InvT-loop
 operands-Inv-loop part place sizes₀ kind a n nesting all rest₀ passed₀ i₀ sizes rest passed i =
@@ -67,12 +89,24 @@ operands-Inv-loop part place sizes₀ kind a n nesting all rest₀ passed₀ i�
 abbrev operands-μ-loop : operands-lts.MeasureT-loop
 operands-μ-loop part place sizes₀ kind a n nesting all rest₀ passed₀ i₀ sizes rest passed i = all - i
 
+-- what an operand counts is within the rest
+read-fits : (t : ℕ) (c : operands-lts.After-read-entry (operands-claims t) (operands-at t) operands.Post operands-Inv-loop operands-μ-loop) {n : ℕ} → counted (c .read-entry .result) ≡ n
+    → 8 * n ≤ length (c .before .before .before .before .before .before .loop .rest .now)
+read-fits t c e =
+    let at-if1 = c .before .before in
+    let at-admitted = at-if1 .before in
+    let at-sort-of = at-admitted .before in
+    let at-loop = at-sort-of .before .before in
+    passed-fits (at-loop .loop .inv .0) (omega arith) (at-sort-of .sort-of .ensures) (at-admitted .admitted .ensures) (not-false _ (at-if1 .if1 .left)) (c .read-entry .ensures .0) e
+
 operands-meets : {M : Type 1} (t : ℕ) → operands-lts.Closed (operands-claims t) (operands-at t) operands.Post M
 operands-meets t = operands-lts.spec (operands-claims t) (operands-at t) operands.Post operands-Inv-loop operands-μ-loop
     -- count-requires
     (λ c κs. search needs)
     -- loop-holds
-    (λ c. (passed-none (c .before .before .before .args .nesting) (sorts (c .before .before .before .args .kind) (c .before .before .before .args .a) (c .before .before .before .args .n)) (c .before .before .before .args .part .now) (c .before .before .before .args .place) (c .before .before .before .args .sizes .now), refl))
+    (λ c.
+    let a = c .before .before .before .args in
+    (passed-none (a .nesting) (sorts (a .kind) (a .a) (a .n)) (a .part .now) (a .place) (a .sizes .now), refl))
     -- sort-of-requires
     (λ c κs. omega arith)
     -- admitted-requires
@@ -80,43 +114,91 @@ operands-meets t = operands-lts.spec (operands-claims t) (operands-at t) operand
     -- same-length
     (λ c. c .before .before .before .before .loop .inv .1)
     -- returns
-    (λ c. let less : c .before .before .before .before .loop .i < length (sorts (c .before .before .before .before .before .before .before .before .args .kind) (c .before .before .before .before .before .before .before .before .args .a) (c .before .before .before .before .before .before .before .before .args .n)) = omega (arith, c .before .before .before .before .before .count .ensures) in (passed-refused (c .before .before .before .before .loop .inv .0) less (c .before .before .sort-of .ensures) (c .before .admitted .ensures) (not-true _ (c .if1 .taken)), tt))
+    (λ c.
+    let at-admitted = c .before in
+    let at-sort-of = at-admitted .before in
+    let at-loop = at-sort-of .before .before in
+    let at-start = at-loop .before .before .before .before in
+    let less : at-loop .loop .i < length (sorts (at-start .args .kind) (at-start .args .a) (at-start .args .n)) = omega arith in
+    (passed-refused (at-loop .loop .inv .0) less (at-sort-of .sort-of .ensures) (at-admitted .admitted .ensures) (not-true _ (c .if1 .taken)), tt))
     -- add-read-entry
-    (λ c. let less : c .before .before .before .before .loop .i < length (sorts (c .before .before .before .before .before .before .before .before .args .kind) (c .before .before .before .before .before .before .before .before .args .a) (c .before .before .before .before .before .before .before .before .args .n)) = omega (arith, c .before .before .before .before .before .count .ensures) in omega (arith, (c .before .before .before .before .loop .inv .0) .long, c .before .before .before .before .before .before .before .before .pre .1 .0, c .before .before .before .before .before .before .before .before .pre .1 .1))
+    (λ c.
+    let at-start = c .before .before .before .before .before .before .before .before in
+    omega (arith, c .before .before .before .before .loop .inv .0 .long, at-start .pre .1 .0, at-start .pre .1 .1))
     -- sub-read-entry
-    (λ c. let less : c .before .before .before .before .before .loop .i < length (sorts (c .before .before .before .before .before .before .before .before .before .args .kind) (c .before .before .before .before .before .before .before .before .before .args .a) (c .before .before .before .before .before .before .before .before .before .args .n)) = omega (arith, c .before .before .before .before .before .before .count .ensures) in omega (arith, passed-deep (c .before .before .before .before .before .loop .inv .0) less (c .before .before .before .sort-of .ensures) (c .before .before .admitted .ensures) (not-false _ (c .before .if1 .left)) .0))
+    (λ c.
+    let at-if1 = c .before in
+    let at-admitted = at-if1 .before in
+    let at-sort-of = at-admitted .before in
+    let at-loop = at-sort-of .before .before in
+    let at-start = at-loop .before .before .before .before in
+    let less : at-loop .loop .i < length (sorts (at-start .args .kind) (at-start .args .a) (at-start .args .n)) = omega arith in
+    omega (arith, passed-deep (at-loop .loop .inv .0) less (at-sort-of .sort-of .ensures) (at-admitted .admitted .ensures) (not-false _ (at-if1 .if1 .left)) .0))
     -- read-entry-requires
-    (λ c κs. let less : c .before .before .before .before .before .loop .i < length (sorts (c .before .before .before .before .before .before .before .before .before .args .kind) (c .before .before .before .before .before .before .before .before .before .args .a) (c .before .before .before .before .before .before .before .before .before .args .n)) = omega (arith, c .before .before .before .before .before .before .count .ensures) in let h = passed-deep (c .before .before .before .before .before .loop .inv .0) less (c .before .before .before .sort-of .ensures) (c .before .before .admitted .ensures) (not-false _ (c .before .if1 .left)) in (omega arith, (h .1, (omega (arith, (c .before .before .before .before .before .loop .inv .0) .long, c .before .before .before .before .before .before .before .before .before .pre .1 .0, c .before .before .before .before .before .loop .inv .1), omega (arith, c .before .before .before .before .before .before .before .before .before .pre .1 .1, c .before .before .before .before .before .loop .inv .1)))))
+    (λ c κs.
+    let at-if1 = c .before in
+    let at-admitted = at-if1 .before in
+    let at-sort-of = at-admitted .before in
+    let at-loop = at-sort-of .before .before in
+    let at-start = at-loop .before .before .before .before in
+    let less : at-loop .loop .i < length (sorts (at-start .args .kind) (at-start .args .a) (at-start .args .n)) = omega arith in
+    let h = passed-deep (at-loop .loop .inv .0) less (at-sort-of .sort-of .ensures) (at-admitted .admitted .ensures) (not-false _ (at-if1 .if1 .left)) in (
+      omega arith,
+      (h .1, (omega (arith, at-loop .loop .inv .0 .long, at-start .pre .1 .0, at-loop .loop .inv .1), omega (arith, at-start .pre .1 .1, at-loop .loop .inv .1))),
+    ))
     -- enum-known-k
     (λ c. search needs)
     -- mul-at
-    (λ c. let less : c .before .before .before .before .before .before .before .before .before .before .before .loop .i < length (sorts (c .before .before .before .before .before .before .before .before .before .before .before .before .before .before .before .args .kind) (c .before .before .before .before .before .before .before .before .before .before .before .before .before .before .before .args .a) (c .before .before .before .before .before .before .before .before .before .before .before .before .before .before .before .args .n)) = omega (arith, c .before .before .before .before .before .before .before .before .before .before .before .before .count .ensures) in omega (arith, passed-fits (c .before .before .before .before .before .before .before .before .before .before .before .loop .inv .0) less (c .before .before .before .before .before .before .before .before .before .sort-of .ensures) (c .before .before .before .before .before .before .before .before .admitted .ensures) (not-false _ (c .before .before .before .before .before .before .before .if1 .left)) (c .before .before .before .before .before .read-entry .ensures .0) (ap counted (c .before .k .given .1)), (c .before .before .before .before .before .before .before .before .before .before .before .loop .inv .0) .long))
+    (λ c. omega (arith, read-fits t (c .before .before .before .before .before) (ap counted (c .before .k .given .1)),
+    c .before .before .before .before .before .before .before .before .before .before .before .loop .inv .0 .long))
     -- sub-rest
-    (λ c. let less : c .before .before .before .before .before .before .before .before .before .before .before .loop .i < length (sorts (c .before .before .before .before .before .before .before .before .before .before .before .before .before .before .before .args .kind) (c .before .before .before .before .before .before .before .before .before .before .before .before .before .before .before .args .a) (c .before .before .before .before .before .before .before .before .before .before .before .before .before .before .before .args .n)) = omega (arith, c .before .before .before .before .before .before .before .before .before .before .before .before .count .ensures) in omega (arith, passed-fits (c .before .before .before .before .before .before .before .before .before .before .before .loop .inv .0) less (c .before .before .before .before .before .before .before .before .before .sort-of .ensures) (c .before .before .before .before .before .before .before .before .admitted .ensures) (not-false _ (c .before .before .before .before .before .before .before .if1 .left)) (c .before .before .before .before .before .read-entry .ensures .0) (ap counted (c .before .k .given .1)), (c .before .before .before .before .before .before .before .before .before .before .before .loop .inv .0) .long))
+    (λ c. omega (arith, read-fits t (c .before .before .before .before .before) (ap counted (c .before .k .given .1))))
     -- part-rest-start
-    (λ c. let less : c .before .before .before .before .before .before .before .before .before .before .before .loop .i < length (sorts (c .before .before .before .before .before .before .before .before .before .before .before .before .before .before .before .args .kind) (c .before .before .before .before .before .before .before .before .before .before .before .before .before .before .before .args .a) (c .before .before .before .before .before .before .before .before .before .before .before .before .before .before .before .args .n)) = omega (arith, c .before .before .before .before .before .before .before .before .before .before .before .before .count .ensures) in omega (arith, passed-fits (c .before .before .before .before .before .before .before .before .before .before .before .loop .inv .0) less (c .before .before .before .before .before .before .before .before .before .sort-of .ensures) (c .before .before .before .before .before .before .before .before .admitted .ensures) (not-false _ (c .before .before .before .before .before .before .before .if1 .left)) (c .before .before .before .before .before .read-entry .ensures .0) (ap counted (c .before .k .given .1)), (c .before .before .before .before .before .before .before .before .before .before .before .loop .inv .0) .long))
+    (λ c. omega (arith, read-fits t (c .before .before .before .before .before) (ap counted (c .before .k .given .1))))
     -- part-rest-end
     (λ c. search needs)
     -- add-passed
-    (λ c. let less : c .before .before .before .before .before .before .before .before .before .before .before .before .loop .i < length (sorts (c .before .before .before .before .before .before .before .before .before .before .before .before .before .before .before .before .args .kind) (c .before .before .before .before .before .before .before .before .before .before .before .before .before .before .before .before .args .a) (c .before .before .before .before .before .before .before .before .before .before .before .before .before .before .before .before .args .n)) = omega (arith, c .before .before .before .before .before .before .before .before .before .before .before .before .before .count .ensures) in omega (arith, passed-fits (c .before .before .before .before .before .before .before .before .before .before .before .before .loop .inv .0) less (c .before .before .before .before .before .before .before .before .before .before .sort-of .ensures) (c .before .before .before .before .before .before .before .before .before .admitted .ensures) (not-false _ (c .before .before .before .before .before .before .before .before .if1 .left)) (c .before .before .before .before .before .before .read-entry .ensures .0) (ap counted (c .before .before .k .given .1)), (c .before .before .before .before .before .before .before .before .before .before .before .before .loop .inv .0) .long))
+    (λ c. omega (arith, read-fits t (c .before .before .before .before .before .before) (ap counted (c .before .before .k .given .1)),
+    c .before .before .before .before .before .before .before .before .before .before .before .before .loop .inv .0 .long))
     -- add-i
     (λ c. search needs)
     -- loop-less
     (λ c. search needs)
     -- loop-again
-    (λ c. let less : c .before .before .before .before .before .before .before .before .before .before .before .before .loop .i < length (sorts (c .before .before .before .before .before .before .before .before .before .before .before .before .before .before .before .before .args .kind) (c .before .before .before .before .before .before .before .before .before .before .before .before .before .before .before .before .args .a) (c .before .before .before .before .before .before .before .before .before .before .before .before .before .before .before .before .args .n)) = omega (arith, c .before .before .before .before .before .before .before .before .before .before .before .before .before .count .ensures) in (passed-next (c .before .before .before .before .before .before .before .before .before .before .before .before .loop .inv .0) less (c .before .before .before .before .before .before .before .before .before .before .sort-of .ensures) (c .before .before .before .before .before .before .before .before .before .admitted .ensures) (not-false _ (c .before .before .before .before .before .before .before .before .if1 .left)) (c .before .before .before .before .before .before .read-entry .ensures .0) (c .before .before .k .given .1) (c .before .before .before .before .before .before .read-entry .ensures .1), c .before .before .before .before .before .before .read-entry .kept .1 .1 .0 ∙ c .before .before .before .before .before .before .before .before .before .before .before .before .loop .inv .1))
+    (λ c.
+    let at-read-entry = c .before .before .before .before .before .before in
+    let at-if1 = at-read-entry .before .before in
+    let at-admitted = at-if1 .before in
+    let at-sort-of = at-admitted .before in
+    let at-loop = at-sort-of .before .before in
+    let at-start = at-loop .before .before .before .before in
+    let less : at-loop .loop .i < length (sorts (at-start .args .kind) (at-start .args .a) (at-start .args .n)) = omega arith in (
+      passed-next (at-loop .loop .inv .0) less (at-sort-of .sort-of .ensures) (at-admitted .admitted .ensures) (not-false _ (at-if1 .if1 .left)) (at-read-entry .read-entry .ensures .0)
+          (c .before .before .k .given .1) (at-read-entry .read-entry .ensures .1),
+      at-read-entry .read-entry .kept .1 .1 .0 ∙ at-loop .loop .inv .1,
+    ))
     -- enum-known-p
     (λ c. search needs)
     -- add-t26
-    (λ c. let less : c .before .before .before .before .before .before .before .before .before .before .before .loop .i < length (sorts (c .before .before .before .before .before .before .before .before .before .before .before .before .before .before .before .args .kind) (c .before .before .before .before .before .before .before .before .before .before .before .before .before .before .before .args .a) (c .before .before .before .before .before .before .before .before .before .before .before .before .before .before .before .args .n)) = omega (arith, c .before .before .before .before .before .before .before .before .before .before .before .before .count .ensures) in omega (arith, passed-fits (c .before .before .before .before .before .before .before .before .before .before .before .loop .inv .0) less (c .before .before .before .before .before .before .before .before .before .sort-of .ensures) (c .before .before .before .before .before .before .before .before .admitted .ensures) (not-false _ (c .before .before .before .before .before .before .before .if1 .left)) (c .before .before .before .before .before .read-entry .ensures .0) (ap counted (c .before .p .given .1)), (c .before .before .before .before .before .before .before .before .before .before .before .loop .inv .0) .long))
+    (λ c. omega (arith, read-fits t (c .before .before .before .before .before) (ap counted (c .before .p .given .1)),
+    c .before .before .before .before .before .before .before .before .before .before .before .loop .inv .0 .long))
     -- same-length-2
     (λ c. c .before .before .before .before .before .read-entry .kept .1 .1 .0 ∙ c .before .before .before .before .before .before .before .before .before .before .before .loop .inv .1)
     -- returns-2
-    (λ c. let less : c .before .before .before .before .before .before .before .before .before .before .before .loop .i < length (sorts (c .before .before .before .before .before .before .before .before .before .before .before .before .before .before .before .args .kind) (c .before .before .before .before .before .before .before .before .before .before .before .before .before .before .before .args .a) (c .before .before .before .before .before .before .before .before .before .before .before .before .before .before .before .args .n)) = omega (arith, c .before .before .before .before .before .before .before .before .before .before .before .before .count .ensures) in (passed-stop (c .before .before .before .before .before .before .before .before .before .before .before .loop .inv .0) less (c .before .before .before .before .before .before .before .before .before .sort-of .ensures) (c .before .before .before .before .before .before .before .before .admitted .ensures) (not-false _ (c .before .before .before .before .before .before .before .if1 .left)) (c .before .before .before .before .before .read-entry .ensures .0) (c .before .p .given .1), tt))
+    (λ c.
+    let at-read-entry = c .before .before .before .before .before in
+    let at-if1 = at-read-entry .before .before in
+    let at-admitted = at-if1 .before in
+    let at-sort-of = at-admitted .before in
+    let at-loop = at-sort-of .before .before in
+    let at-start = at-loop .before .before .before .before in
+    let less : at-loop .loop .i < length (sorts (at-start .args .kind) (at-start .args .a) (at-start .args .n)) = omega arith in
+    (passed-stop (at-loop .loop .inv .0) less (at-sort-of .sort-of .ensures) (at-admitted .admitted .ensures) (not-false _ (at-if1 .if1 .left)) (at-read-entry .read-entry .ensures .0)
+    (c .before .p .given .1), tt))
     -- same-length-3
     (λ c. c .before .loop .inv .1)
     -- returns-3
-    (λ c. let end : c .before .loop .i ≡ length (sorts (c .before .before .before .before .before .args .kind) (c .before .before .before .before .before .args .a) (c .before .before .before .before .before .args .n)) = omega (arith, c .before .before .count .ensures, (c .before .loop .inv .0) .few) in (passed-end (c .before .loop .inv .0) end, (c .before .loop .inv .0) .sized))
+    (λ c. (passed-end (c .before .loop .inv .0) (omega (arith, c .before .loop .inv .0 .few)), c .before .loop .inv .0 .sized))
 
 -- what stands below an entry, by whichever way it was read
 below-read : (t : ℕ) (c : read-entry-lts.Joined1 (read-entry-claims t) (read-entry-at t) read-entry.Post)
@@ -161,20 +243,27 @@ read-entry-meets t = read-entry-lts.spec (read-entry-claims t) (read-entry-at t)
     -- size-of-requires
     (λ c κs. search needs)
     -- operands-requires
-    (λ c κs. (omega arith, (rw (back 8 (c .before .before .before .before .before .before .before .before .before .args .part .now)) (omega (arith, length-drop 8 (c .before .before .before .before .before .before .before .before .before .args .part .now), c .before .before .before .before .before .before .before .before .before .pre .1 .1 .0, c .before .before .before .before .before .before .before .before .before .pre .1 .0)), c .before .before .before .before .before .before .before .before .before .pre .1 .1 .1)))
+    (λ c κs.
+    let at-start = c .before .before .before .before .before .before .before .before .before in
+    let part = at-start .args .part .now in
+    (omega arith, (rw (back 8 part) (omega (arith, length-drop 8 part, at-start .pre .1 .1 .0, at-start .pre .1 .0)), at-start .pre .1 .1 .1)))
     -- whole-requires
     (λ c κs.
+    let at-start = c .before .before .before .before .before .before in
     let h = below-read t (c .before) in
-    let fits = below-fits (c .before .before .before .before .before .before .args .nesting) (c .before .before .before .before .before .before .args .part .now) (c .before .before .before .before .before .before .pre .1 .0) (h .0) in
-    (omega (arith, h .2, c .before .before .before .before .before .before .pre .1 .1 .0, c .before .before .before .before .before .before .pre .1 .0), omega (arith, fits, c .before .before .before .before .before .before .pre .1 .1 .0, c .before .before .before .before .before .before .pre .1 .1 .1)))
+    let fits = below-fits (at-start .args .nesting) (at-start .args .part .now) (at-start .pre .1 .0) (h .0) in
+    (omega (arith, h .2, at-start .pre .1 .1 .0, at-start .pre .1 .0), omega (arith, fits, at-start .pre .1 .1 .0, at-start .pre .1 .1 .1)))
     -- same-length
     (λ c. c .before .before .whole .kept .0 ∙ below-read t (c .before .before .before .before) .2)
     -- returns
     (λ c.
-    let at-joined = c .before .before .before .before in
+    let at-whole = c .before .before in
+    let at-joined = at-whole .before .before in
+    let at-start = at-joined .before .before .before .before .before in
+    let a = at-start .args in
     let h = below-read t at-joined in
-    entry-read (c .before .before .before .before .before .before .before .before .before .args .nesting) (c .before .before .before .before .before .before .before .before .before .args .part .now) (c .before .before .before .before .before .before .before .before .before .pre .1 .0) (c .before .before .before .before .before .before .before .before .before .args .place) (c .before .before .before .before .before .before .before .before .before .args .sizes .now) (at-joined .if1 .sizes) (at-joined .if1 .below)
-    (h .0) (h .1) (omega (arith, h .2, c .before .before .before .before .before .before .before .before .before .pre .1 .1 .0, c .before .before .before .before .before .before .before .before .before .pre .1 .0)) (c .before .before .whole .ensures .0) (c .before .before .whole .ensures .1))
+    entry-read (a .nesting) (a .part .now) (at-start .pre .1 .0) (a .place) (a .sizes .now) (at-joined .if1 .sizes) (at-joined .if1 .below)
+    (h .0) (h .1) (omega (arith, h .2, at-start .pre .1 .1 .0, at-start .pre .1 .0)) (at-whole .whole .ensures .0) (at-whole .whole .ensures .1))
 
 pub +operands+read-entry-spec : {M : Type 1} → statement M
 +operands+read-entry-spec = close μ-operands μ-read-entry operands-meets read-entry-meets

@@ -19,48 +19,79 @@ read-head-requires : tie.Need-read-head-requires
 read-head-requires c κs = c .before .before .before .pre
 
 mul-at : tie.Need-mul-at
-mul-at c = omega (arith, head-fits (c .before .before .before .before .before .before .before .before .before .args .a) (c .before .before .before .before .before .before .before .before .before .args .part .now) (c .before .before .before .before .before .read-head .ensures .0), ap counted (c .before .k .given .1))
+mul-at c =
+    let at-read-head = c .before .before .before .before .before in
+    let at-start = at-read-head .before .before .before .before in
+    omega (arith, head-fits (at-start .args .a) (at-start .args .part .now) (at-read-head .read-head .ensures .0), ap counted (c .before .k .given .1))
 
 sub-operands : tie.Need-sub-operands
-sub-operands c = omega (arith, head-fits (c .before .before .before .before .before .before .before .before .before .args .a) (c .before .before .before .before .before .before .before .before .before .args .part .now) (c .before .before .before .before .before .read-head .ensures .0), ap counted (c .before .k .given .1))
+sub-operands c =
+    let at-read-head = c .before .before .before .before .before in
+    let at-start = at-read-head .before .before .before .before in
+    omega (arith, head-fits (at-start .args .a) (at-start .args .part .now) (at-read-head .read-head .ensures .0), ap counted (c .before .k .given .1))
 
 part-operands-start : tie.Need-part-operands-start
-part-operands-start c = omega (arith, head-fits (c .before .before .before .before .before .before .before .before .before .args .a) (c .before .before .before .before .before .before .before .before .before .args .part .now) (c .before .before .before .before .before .read-head .ensures .0), ap counted (c .before .k .given .1))
+part-operands-start c =
+    let at-read-head = c .before .before .before .before .before in
+    let at-start = at-read-head .before .before .before .before in
+    omega (arith, head-fits (at-start .args .a) (at-start .args .part .now) (at-read-head .read-head .ensures .0), ap counted (c .before .k .given .1))
 
 add-operands : tie.Need-add-operands
-add-operands c = omega (arith, head-fits (c .before .before .before .before .before .before .before .before .before .before .args .a) (c .before .before .before .before .before .before .before .before .before .before .args .part .now) (c .before .before .before .before .before .before .read-head .ensures .0), ap counted (c .before .before .k .given .1), c .before .before .before .before .before .before .before .before .before .before .pre .0, c .before .before .before .before .before .before .before .before .before .before .pre .1)
+add-operands c =
+    let at-read-head = c .before .before .before .before .before .before in
+    let at-start = at-read-head .before .before .before .before in
+    omega (arith, head-fits (at-start .args .a) (at-start .args .part .now) (at-read-head .read-head .ensures .0), ap counted (c .before .before .k .given .1), at-start .pre .0, at-start .pre .1)
 
 operands-requires : tie.Need-operands-requires
 operands-requires c κs =
-    let k = c .before .before .before .k .given .0 .0 in
-    (rw (back (8 * k) (c .before .before .before .before .before .before .before .before .before .before .before .args .part .now)) (omega (arith, head-fits (c .before .before .before .before .before .before .before .before .before .before .before .args .a) (c .before .before .before .before .before .before .before .before .before .before .before .args .part .now) (c .before .before .before .before .before .before .before .read-head .ensures .0), ap counted (c .before .before .before .k .given .1), length-drop (8 * k) (c .before .before .before .before .before .before .before .before .before .before .before .args .part .now), c .before .before .before .before .before .before .before .before .before .before .before .pre .0, c .before .before .before .before .before .before .before .read-head .kept .1 .0)), omega (arith, c .before .before .before .before .before .before .before .before .before .before .before .pre .1, c .before .before .before .before .before .before .before .read-head .kept .1 .0))
+    let at-k = c .before .before .before in
+    let at-read-head = at-k .before .before .before .before in
+    let at-start = at-read-head .before .before .before .before in
+    let k = at-k .k .given .0 .0 in
+    (rw (back (8 * k) (at-start .args .part .now)) (omega (arith, head-fits (at-start .args .a) (at-start .args .part .now) (at-read-head .read-head .ensures .0), ap counted
+    (at-k .k .given .1), length-drop (8 * k) (at-start .args .part .now), at-start .pre .0, at-read-head .read-head .kept .1 .0)), omega (arith, at-start .pre .1, at-read-head .read-head .kept .1 .0))
 
 later-requires : tie.Need-later-requires
 later-requires c κs =
-    let k = c .before .before .before .before .before .before .k .given .0 .0 in
-    let fits = chain-fits 63 (sorts 1 0 (c .before .before .before .before .before .before .before .before .before .before .before .before .before .before .args .n)) (drop (8 * k) (c .before .before .before .before .before .before .before .before .before .before .before .before .before .before .args .part .now)) (rw (back (8 * k) (c .before .before .before .before .before .before .before .before .before .before .before .before .before .before .args .part .now)) at (c .before .before .operands .ensures .0)) in
-    (omega (arith, head-fits (c .before .before .before .before .before .before .before .before .before .before .before .before .before .before .args .a) (c .before .before .before .before .before .before .before .before .before .before .before .before .before .before .args .part .now) (c .before .before .before .before .before .before .before .before .before .before .read-head .ensures .0), ap counted (c .before .before .before .before .before .before .k .given .1), c .before .before .before .before .before .before .before .before .before .before .before .before .before .before .pre .0, c .before .before .before .before .before .before .before .before .before .before .before .before .before .before .pre .1), omega (arith, fits, length-drop (8 * k) (c .before .before .before .before .before .before .before .before .before .before .before .before .before .before .args .part .now), c .before .before .before .before .before .before .before .before .before .before .before .before .before .before .pre .0, c .before .before .before .before .before .before .before .before .before .before .before .before .before .before .pre .1))
+    let at-k = c .before .before .before .before .before .before in
+    let at-read-head = at-k .before .before .before .before in
+    let at-start = at-read-head .before .before .before .before in
+    let k = at-k .k .given .0 .0 in
+    let fits = chain-fits 63 (sorts 1 0 (at-start .args .n)) (drop (8 * k) (at-start .args .part .now)) (rw (back (8 * k) (at-start .args .part .now)) at (c .before .before .operands .ensures .0)) in
+    (omega (arith, head-fits (at-start .args .a) (at-start .args .part .now) (at-read-head .read-head .ensures .0), ap counted (at-k .k .given .1), at-start .pre .0, at-start .pre .1), omega
+    (arith, fits, length-drop (8 * k) (at-start .args .part .now), at-start .pre .0, at-start .pre .1))
 
 same-length : tie.Need-same-length
-same-length c = c .before .before .before .operands .kept .1 .1 .0 ∙ c .before .before .before .before .before .before .before .before .before .before .before .read-head .kept .1 .0
+same-length c =
+    let at-read-head = c .before .before .before .before .before .before .before .before .before .before .before in
+    c .before .before .before .operands .kept .1 .1 .0 ∙ at-read-head .read-head .kept .1 .0
 
 returns : tie.Need-returns
 returns c =
-    let k = c .before .before .before .before .before .before .before .k .given .0 .0 in
-    let es = entriesOf (c .before .before .before .before .before .before .before .before .before .before .before .before .before .before .before .args .part .now) in
-    let e = rw (entries-rest k (c .before .before .before .before .before .before .before .before .before .before .before .before .before .before .before .args .part .now)) at (c .before .before .before .operands .ensures .0) in
-    let f = rw (entries-rest k (c .before .before .before .before .before .before .before .before .before .before .before .before .before .before .before .args .part .now)) at (c .before .before .before .operands .ensures .1) in
-    let g : Fills es 1 _ (c .before .before .before .before .before .before .before .before .before .before .before .read-head .last .1 .0) (Tree k) = rw (c .before .before .before .before .before .before .before .k .given .1) at (c .before .before .before .before .before .before .before .before .before .before .before .read-head .ensures .1) in
+    let at-operands = c .before .before .before in
+    let at-k = at-operands .before .before .before .before in
+    let at-read-head = at-k .before .before .before .before in
+    let at-start = at-read-head .before .before .before .before in
+    let k = at-k .k .given .0 .0 in
+    let es = entriesOf (at-start .args .part .now) in
+    let e = rw (entries-rest k (at-start .args .part .now)) at (at-operands .operands .ensures .0) in
+    let f = rw (entries-rest k (at-start .args .part .now)) at (at-operands .operands .ensures .1) in
+    let g : Fills es 1 _ (at-read-head .read-head .last .1 .0) (Tree k) = rw (at-k .k .given .1) at (at-read-head .read-head .ensures .1) in
     rw (c .later .ensures) (
-      ap (moved k) e ∙ sym (walk-below-whole (c .before .before .before .before .before .before .before .before .before .before .before .before .before .before .before .args .a) (c .before .before .before .before .before .before .before .before .before .before .before .before .before .before .before .args .n) es (c .before .before .before .before .before .before .before .before .before .before .before .read-head .ensures .0) (c .before .before .before .before .before .before .before .k .given .1)),
-      fills-then (c .before .before .before .operands .result) (c .before .before .before .operands .last .1 .1 .0) g f,
+      ap (moved k) e ∙ sym (walk-below-whole (at-start .args .a) (at-start .args .n) es (at-read-head .read-head .ensures .0) (at-k .k .given .1)),
+      fills-then (at-operands .operands .result) (at-operands .operands .last .1 .1 .0) g f,
     )
 
 same-length-2 : tie.Need-same-length-2
-same-length-2 c = c .before .before .before .before .before .read-head .kept .1 .0
+same-length-2 c =
+    let at-read-head = c .before .before .before .before .before in
+    at-read-head .read-head .kept .1 .0
 
 returns-2 : tie.Need-returns-2
-returns-2 c = (sym (walk-below-stop (c .before .before .before .before .before .before .before .before .before .args .a) (c .before .before .before .before .before .before .before .before .before .args .n) (entriesOf (c .before .before .before .before .before .before .before .before .before .args .part .now)) (c .before .before .before .before .before .read-head .ensures .0) (c .before .p .given .1)), tt)
+returns-2 c =
+    let at-read-head = c .before .before .before .before .before in
+    let at-start = at-read-head .before .before .before .before in
+    (sym (walk-below-stop (at-start .args .a) (at-start .args .n) (entriesOf (at-start .args .part .now)) (at-read-head .read-head .ensures .0) (c .before .p .given .1)), tt)
 
 pub below-root-spec : {M : Type 1} → statement M
 below-root-spec =

@@ -1,6 +1,6 @@
 -- `table_read::read_head` meets its contract. What is read from the rest, moved by what is passed, is what is read from the part.
 -- Assumes nothing.
-use Prim.Native.Nat.{_<_}
+use Prim.Native.Nat.{ℕ, _*_, _≤_}
 use mathlib.Core.Path.{_≡_, refl, ap, _∙_}
 use native.Mathlib.Omega.{arith}
 use borrow.Author.Needs.{needs}
@@ -17,47 +17,80 @@ Inv-loop part sizes₀ count rest₀ passed₀ classes₀ procedures₀ left₀ 
 abbrev μ-loop : tie.MeasureT-loop
 μ-loop part sizes₀ count rest₀ passed₀ classes₀ procedures₀ left₀ sizes rest passed classes procedures left = left
 
+-- what a declaration counts is within the rest
+read-fits : (c : tie.After-read-global Inv-loop μ-loop) {n : ℕ} → counted (c .read-global .result) ≡ n → 8 * n ≤ length (c .before .before .before .loop .rest .now)
+read-fits c e = declared-fits (c .before .before .before .loop .inv .0) (omega arith) (c .read-global .ensures .0) e
+
 loop-holds : tie.Need-loop-holds Inv-loop μ-loop
-loop-holds c = (declared-none (c .before .before .args .count) (c .before .before .args .part .now) (c .before .before .args .sizes .now), refl)
+loop-holds c = let a = c .before .before .args in (declared-none (a .count) (a .part .now) (a .sizes .now), refl)
 
 add-read-global : tie.Need-add-read-global Inv-loop μ-loop
-add-read-global c = omega (arith, c .before .loop .inv .0 .long, c .before .before .before .before .pre .0, c .before .before .before .before .pre .1)
+add-read-global c =
+    let at-start = c .before .before .before .before in
+    omega (arith, c .before .loop .inv .0 .long, at-start .pre .0, at-start .pre .1)
 
 read-global-requires : tie.Need-read-global-requires Inv-loop μ-loop
-read-global-requires c κs = (omega (arith, c .before .before .loop .inv .0 .long, c .before .before .before .before .before .pre .0, c .before .before .loop .inv .1), omega (arith, c .before .before .before .before .before .pre .1, c .before .before .loop .inv .1))
+read-global-requires c κs =
+    let at-loop = c .before .before in
+    let at-start = at-loop .before .before .before in
+    (omega (arith, at-loop .loop .inv .0 .long, at-start .pre .0, at-loop .loop .inv .1), omega (arith, at-start .pre .1, at-loop .loop .inv .1))
 
 kind-of-requires : tie.Need-kind-of-requires Inv-loop μ-loop
-kind-of-requires c κs = let more : 0 < c .before .before .before .before .before .before .before .before .loop .left = omega arith in declared-here (c .before .before .before .before .before .before .before .before .loop .inv .0) more (c .before .before .before .before .before .read-global .ensures .0) (c .before .k .given .1)
+kind-of-requires c κs = declared-here (c .before .before .before .before .before .before .before .before .loop .inv .0) (omega arith)
+    (c .before .before .before .before .before .read-global .ensures .0) (c .before .k .given .1)
 
 mul-at : tie.Need-mul-at Inv-loop μ-loop
-mul-at c = let more : 0 < c .before .before .before .before .before .before .before .before .before .loop .left = omega arith in omega (arith, declared-fits (c .before .before .before .before .before .before .before .before .before .loop .inv .0) more (c .before .before .before .before .before .before .read-global .ensures .0) (ap counted (c .before .before .k .given .1)), c .before .before .before .before .before .before .before .before .before .loop .inv .0 .long)
+mul-at c =
+    let at-loop = c .before .before .before .before .before .before .before .before .before in
+    omega (arith, read-fits (c .before .before .before .before .before .before) (ap counted (c .before .before .k .given .1)), at-loop .loop .inv .0 .long)
 
 sub-rest : tie.Need-sub-rest Inv-loop μ-loop
-sub-rest c = let more : 0 < c .before .before .before .before .before .before .before .before .before .loop .left = omega arith in omega (arith, declared-fits (c .before .before .before .before .before .before .before .before .before .loop .inv .0) more (c .before .before .before .before .before .before .read-global .ensures .0) (ap counted (c .before .before .k .given .1)), c .before .before .before .before .before .before .before .before .before .loop .inv .0 .long)
+sub-rest c =
+    omega (arith, read-fits (c .before .before .before .before .before .before) (ap counted (c .before .before .k .given .1)))
 
 part-rest-start : tie.Need-part-rest-start Inv-loop μ-loop
-part-rest-start c = let more : 0 < c .before .before .before .before .before .before .before .before .before .loop .left = omega arith in omega (arith, declared-fits (c .before .before .before .before .before .before .before .before .before .loop .inv .0) more (c .before .before .before .before .before .before .read-global .ensures .0) (ap counted (c .before .before .k .given .1)), c .before .before .before .before .before .before .before .before .before .loop .inv .0 .long)
+part-rest-start c =
+    omega (arith, read-fits (c .before .before .before .before .before .before) (ap counted (c .before .before .k .given .1)))
 
 add-passed : tie.Need-add-passed Inv-loop μ-loop
-add-passed c = let more : 0 < c .before .before .before .before .before .before .before .before .before .before .loop .left = omega arith in omega (arith, declared-fits (c .before .before .before .before .before .before .before .before .before .before .loop .inv .0) more (c .before .before .before .before .before .before .before .read-global .ensures .0) (ap counted (c .before .before .before .k .given .1)), c .before .before .before .before .before .before .before .before .before .before .loop .inv .0 .long)
+add-passed c =
+    let at-loop = c .before .before .before .before .before .before .before .before .before .before in
+    omega (arith, read-fits (c .before .before .before .before .before .before .before) (ap counted (c .before .before .before .k .given .1)), at-loop .loop .inv .0 .long)
 
 add-classes : tie.Need-add-classes Inv-loop μ-loop
-add-classes c = omega (arith, c .before .before .before .before .before .before .before .before .before .before .before .loop .inv .0 .few, tally-small (c .before .before .kind-of .result) 11, c .tally .ensures)
+add-classes c =
+    let at-loop = c .before .before .before .before .before .before .before .before .before .before .before in
+    omega (arith, at-loop .loop .inv .0 .few, tally-small (c .before .before .kind-of .result) 11, c .tally .ensures)
 
 add-procedures : tie.Need-add-procedures Inv-loop μ-loop
-add-procedures c = omega (arith, c .before .before .before .before .before .before .before .before .before .before .before .before .loop .inv .0 .fewer, tally-small (c .before .before .before .kind-of .result) 12, c .tally2 .ensures)
+add-procedures c =
+    let at-loop = c .before .before .before .before .before .before .before .before .before .before .before .before in
+    omega (arith, at-loop .loop .inv .0 .fewer, tally-small (c .before .before .before .kind-of .result) 12, c .tally2 .ensures)
 
 loop-again : tie.Need-loop-again Inv-loop μ-loop
-loop-again c = let more : 0 < c .before .before .before .before .before .before .before .before .before .before .before .before .loop .left = omega arith in (declared-next (c .before .before .before .before .before .before .before .before .before .before .before .before .loop .inv .0) more (c .before .before .before .before .before .before .before .before .before .read-global .ensures .0) (c .before .before .before .before .before .k .given .1) (c .before .before .before .before .before .before .before .before .before .read-global .ensures .1) (c .before .before .before .kind-of .ensures) (c .before .tally .ensures) (c .tally2 .ensures), c .before .before .before .before .before .before .before .before .before .read-global .kept .1 .1 .0 ∙ c .before .before .before .before .before .before .before .before .before .before .before .before .loop .inv .1)
+loop-again c = (
+  declared-next (c .before .before .before .before .before .before .before .before .before .before .before .before .loop .inv .0) (omega arith)
+    (c .before .before .before .before .before .before .before .before .before .read-global .ensures .0) (c .before .before .before .before .before .k .given .1)
+    (c .before .before .before .before .before .before .before .before .before .read-global .ensures .1)
+      (c .before .before .before .kind-of .ensures) (c .before .tally .ensures) (c .tally2 .ensures),
+  c .before .before .before .before .before .before .before .before .before .read-global .kept .1 .1 .0
+    ∙ c .before .before .before .before .before .before .before .before .before .before .before .before .loop .inv .1,
+)
 
 add-t21 : tie.Need-add-t21 Inv-loop μ-loop
-add-t21 c = let more : 0 < c .before .before .before .before .before .before .before .before .loop .left = omega arith in omega (arith, declared-fits (c .before .before .before .before .before .before .before .before .loop .inv .0) more (c .before .before .before .before .before .read-global .ensures .0) (ap counted (c .before .p .given .1)), c .before .before .before .before .before .before .before .before .loop .inv .0 .long)
+add-t21 c =
+    let at-loop = c .before .before .before .before .before .before .before .before in
+    omega (arith, read-fits (c .before .before .before .before .before) (ap counted (c .before .p .given .1)), at-loop .loop .inv .0 .long)
 
 same-length : tie.Need-same-length Inv-loop μ-loop
-same-length c = c .before .before .before .before .before .read-global .kept .1 .1 .0 ∙ c .before .before .before .before .before .before .before .before .loop .inv .1
+same-length c =
+    let at-read-global = c .before .before .before .before .before in
+    let at-loop = at-read-global .before .before .before in
+    at-read-global .read-global .kept .1 .1 .0 ∙ at-loop .loop .inv .1
 
 returns : tie.Need-returns Inv-loop μ-loop
-returns c = let more : 0 < c .before .before .before .before .before .before .before .before .loop .left = omega arith in (declared-stop (c .before .before .before .before .before .before .before .before .loop .inv .0) more (c .before .before .before .before .before .read-global .ensures .0) (c .before .p .given .1), tt)
+returns c = (declared-stop (c .before .before .before .before .before .before .before .before .loop .inv .0) (omega arith)
+    (c .before .before .before .before .before .read-global .ensures .0) (c .before .p .given .1), tt)
 
 same-length-2 : tie.Need-same-length-2 Inv-loop μ-loop
 same-length-2 c = c .before .loop .inv .1

@@ -10,16 +10,21 @@ use Rattle.table_names.proofs.faults.first_fault.Tie as tie
 
 root-requires : tie.Need-root-requires
 root-requires c κs =
+    let at-start = c .before .before .before .before in
     record {
-      tree = c .before .before .before .before .pre .0 .0;
-      whole = held-whole (c .before .before .before .before .pre .0 .0) (λ k. omega (arith, c .before .before .before .shared-slice-known .given k)) (c .before .before .before .before .pre .1) (c .before .before .before .before .pre .2)
-          (read-held (c .before .before .before .before .args .table .now) (c .before .before .before .before .pre .0 .0) (c .before .before .before .before .pre .0 .1));
+      tree = at-start .pre .0 .0;
+      whole = held-whole (at-start .pre .0 .0) (λ k. omega (arith, c .before .before .before .shared-slice-known .given k)) (at-start .pre .1) (at-start .pre .2)
+          (read-held (at-start .args .table .now) (at-start .pre .0 .0) (at-start .pre .0 .1));
     }
 
 returns : tie.Need-returns
 returns c =
-    λ t e. c .answered .ensures ∙ says-answer (c .before .before .before .root .result) (faults t)
-    (c .before .before .before .root .ensures .judged t (held-whole t (λ k. omega (arith, c .before .before .before .before .before .before .before .shared-slice-known .given k)) (c .before .before .before .before .before .before .before .before .pre .1) (c .before .before .before .before .before .before .before .before .pre .2) (read-held (c .before .before .before .before .before .before .before .before .args .table .now) t e)))
+    let at-root = c .before .before .before in
+    let at-shared-slice-known = at-root .before .before .before .before in
+    let at-start = at-shared-slice-known .before in
+    λ t e. c .answered .ensures ∙ says-answer (at-root .root .result) (faults t)
+    (at-root .root .ensures .judged t (held-whole t (λ k. omega (arith, at-shared-slice-known .shared-slice-known .given k)) (at-start .pre .1) (at-start .pre .2)
+    (read-held (at-start .args .table .now) t e)))
 
 pub first-fault-spec : {M : Type 1} → statement M
 first-fault-spec = tie.close (tie.spec root-requires (λ c κs. search needs) (λ c. search needs) returns)
