@@ -1,5 +1,5 @@
 -- The loop's invariant, and that each op's arm keeps it.
-use mathlib.Core.Path.{_≡_, refl, _∙_}
+use mathlib.Core.Path.{_≡_, refl, _∙_, subst}
 use mathlib.Core.List.{List}
 use Prim.Native.Nat.{ℕ, _+_, _*_, _-_, _≤_, _<_}
 use native.Mathlib.Omega.{arith}
@@ -31,6 +31,10 @@ pub record Loop (code readings : List ℕ) (k : ℕ) (l₀ l : List ℕ) (f at i
   pub long : length l ≡ length l₀
   pub reached : Reaches code readings k l₀ l i
   pub kept : Kept l f at
+
+-- the steps taken, by another name
+pub recount : {code readings : List ℕ} {k : ℕ} {l₀ l : List ℕ} {f at i j : ℕ} → i ≡ j → Loop code readings k l₀ l f at i → Loop code readings k l₀ l f at j
+recount {code} {readings} {k} {l₀} {l} {f} {at} e I = subst (λ (z : ℕ). Loop code readings k l₀ l f at z) e I
 
 module _ {code readings : List ℕ} {k : ℕ} {l₀ l : List ℕ} {f at i : ℕ} (I : Loop code readings k l₀ l f at i) where
   pub top : Top l
