@@ -81,7 +81,8 @@ two : (p : tie.After-c Inv-loop μ-loop) →
     let s = start-of (loop-of q) .args in
     let v = p .c .given .0 in
     Two (now (s .code)) (now (s .readings)) (s .allowance) (wentTo (pushed (now (s .state)) (s .frame) (s .depth) (s .w) (s .t)) (s .frame) (s .address)) (s .taken) (now (s .state))
-    (p .before .before .before .before .pair-up .last .1 .1 .0) (s .frame) (v .1 .1 .1 .1 .0) (l .i + v .1 .1 .1 .1 .1 .0) (s .allowance - l .left + v .1 .1 .1 .1 .1 .0) (v .0) (v .1 .0) (v .1 .1 .0) (v .1 .1 .1 .0)
+    (p .before .before .before .before .pair-up .last .1 .1 .0) (s .frame) (v .1 .1 .1 .1 .0) (l .i + v .1 .1 .1 .1 .1 .0)
+    (s .allowance - l .left + v .1 .1 .1 .1 .1 .0) (v .0) (v .1 .0) (v .1 .1 .0) (v .1 .1 .1 .0)
 two p = let l = loop-of (found-at p) in paired (ready (found-at p)) (omega (arith, l .loop .inv .1)) (pairs p)
 
 -- ── no pair found: the bytes are as they were ──
