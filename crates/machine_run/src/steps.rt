@@ -57,7 +57,7 @@ fn release(code: &[u8], state: &mut [u8], readings: &[u8], taken: u16, allowance
 // From a running state. The place of the top activation and its address are kept in locals beside the bytes: only ops 8 to 11 do otherwise than go
 // on to the next address, and only 10 and 11 leave the activation. Each kept local changes in an arm of its own, so that a branch decides on
 // it, which is foreseen, and no conditional move, which waits for the op. The steps that are left are counted down, here and with an operand aside: the
-// loops test against 0 and ask for the allowance only where they end.
+// loops test against 0 and ask for the allowance only where they end. After a return the place is reckoned: read by way of the count, calls took a sixth longer.
 fn run_running(
     code: &[u8],
     bodies: &[u32],
@@ -142,9 +142,8 @@ fn run_running(
                                 address = t.address;
                             }
                             OP_RETURN => {
-                                let t = top_of(state);
-                                frame = t.place;
-                                address = t.address;
+                                frame -= ACTIVATION_BYTES;
+                                address = words::half_at(state, frame + ADDRESS_AT);
                             }
                             _ => {
                                 if state[PHASE_AT] != RUNNING {

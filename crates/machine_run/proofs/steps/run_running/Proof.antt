@@ -12,7 +12,7 @@ use Rattle.machine_run.specs.Held.{Held, Reaches}
 use Rattle.machine_run.proofs.OpAsks.{room}
 use Rattle.machine_run.proofs.ByteSteps.{held-long, top-of}
 use Rattle.machine_run.proofs.RunLoop.{begin, spent}
-use Rattle.machine_run.proofs.LoopInvariant.{Loop, Ready, Acted, ready-of, low-place, in-code, small, poise, still, further, there, left-off, back, still-long}
+use Rattle.machine_run.proofs.LoopInvariant.{Loop, Ready, Acted, ready-of, low-place, in-code, small, poise, still, further, there, left-off, lower, still-long}
 use Rattle.machine_run.specs.declared.aside.Begun.{Begun}
 use Rattle.machine_run.specs.declared.aside.Landing.{Landing}
 use Rattle.machine_run.specs.declared.aside.Landing.the-variants as landing
@@ -20,7 +20,7 @@ use Rattle.machine_run.specs.Aside.{Begin, Begins, Lands, Grows}
 use Rattle.machine_frames.specs.Bytes.{wentTo, pushed}
 use Rattle.machine_run.proofs.AsideSteps.{room-whole}
 use Rattle.machine_run.proofs.AsideBegins.{Set, coded, begin-asks, begun, one-step, grows, landed, broken}
-use Rattle.machine_run.proofs.LoopInvariant.{recount, again, again-to, again-unless, again-next, happened, done}
+use Rattle.machine_run.proofs.LoopInvariant.{recount, again, again-below, again-to, again-unless, again-next, happened, done}
 use Rattle.machine_run.proofs.steps.run_running.Statement.{statement}
 use Rattle.machine_run.proofs.steps.run_running.Tie as tie
 
@@ -393,18 +393,24 @@ loop-again-4 c =
     (recount (fewer p .0) (again (went p) (p .enum-told2 .given .1) _ _ (c .before .before .if1 .left) (c .top-of2 .ensures .0) (c .top-of2 .ensures .1)), fewer p .1)
 
 -- ── op 11 ──
-top-of-requires-3 : tie.Need-top-of-requires-3 Inv-loop μ-loop
-top-of-requires-3 c κs =
-    let p = c .before .before in
-    let q = p .enum-told2 .given .1 in
-    let T = there (went p) q (back (went p) q (c .before .match4 .keys4)) in
-    (held-long (kept-held p), T .low, T .high)
+-- the activation below
+lower-at : (p : tie.After-enum-told2 Inv-loop μ-loop) → byteAt (now (start-of (loop-told p) .args .code)) (start-of (loop-told p) .args .base + 8 * loop-told p .loop .address + 2) ≡ 11 →
+    (360 ≤ loop-told p .loop .frame) × (loop-told p .loop .frame ≤ 10200)
+lower-at p e = (omega (arith, lower (went p) (p .enum-told2 .given .1) e .0), low-place (loop-told p .loop .inv .0))
+
+sub-frame : tie.Need-sub-frame Inv-loop μ-loop
+sub-frame c = omega (arith, lower-at (c .before) (c .match4 .keys4))
+
+add-half-at-3 : tie.Need-add-half-at-3 Inv-loop μ-loop
+add-half-at-3 c = omega (arith, lower-at (c .before .before) (c .before .match4 .keys4))
+
+half-at-requires-3 : tie.Need-half-at-requires-3 Inv-loop μ-loop
+half-at-requires-3 c κs = let p = c .before .before in omega (arith, held-long (kept-held p), lower-at p (c .before .match4 .keys4))
 
 loop-again-5 : tie.Need-loop-again-5 Inv-loop μ-loop
 loop-again-5 c =
     let p = c .before .before .before in
-    let q = p .enum-told2 .given .1 in
-    (recount (fewer p .0) (again (went p) q _ _ (back (went p) q (c .before .before .match4 .keys4)) (c .top-of3 .ensures .0) (c .top-of3 .ensures .1)), fewer p .1)
+    (recount (fewer p .0) (again-below (went p) (p .enum-told2 .given .1) (c .before .before .match4 .keys4) _ (c .half-at3 .ensures)), fewer p .1)
 
 -- ── the other ops ──
 slice-read-if2 : tie.Need-slice-read-if2 Inv-loop μ-loop
@@ -516,7 +522,9 @@ run-running-spec =
     top-of-requires-2
     loop-less-4
     loop-again-4
-    top-of-requires-3
+    sub-frame
+    add-half-at-3
+    half-at-requires-3
     loop-less-5
     loop-again-5
     slice-read-if2
