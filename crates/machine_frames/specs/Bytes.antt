@@ -59,6 +59,20 @@ entered l f k b i = sets (sets (sets l f (b ∷ [])) (f + 4) (half i)) 2 ((k + 1
 abbrev pub left : List ℕ → ℕ → ℕ → List ℕ
 left l f k = sets (sets l f (zeros activationLength)) 2 (k ∷ [])
 
+-- of an activation without operands: what stands before its cells, and eight of them
+abbrev pub trimmed : List ℕ → ℕ → List ℕ
+trimmed l f = sets (sets (sets l f (zeros 8)) (f + cellWordsAt) (zeros 32)) (f + cellTypesAt) (zeros 8)
+
+-- all of it, or that alone, where there is no ninth cell
+abbrev pub Wiped : List ℕ → ℕ → List ℕ → Type 0
+Wiped l f l′ = (byteAt l (f + (cellTypesAt + 8)) ≡ 0 → l′ ≡ trimmed l f) × ((byteAt l (f + (cellTypesAt + 8)) ≡ 0 → ⊥) → l′ ≡ sets l f (zeros activationLength))
+
+-- and one activation less
+pub record Left (l : List ℕ) (f k : ℕ) (l′ : List ℕ) : Type 0 where
+  pub wiped : List ℕ
+  pub is-wiped : Wiped l f wiped
+  pub bytes : l′ ≡ sets wiped 2 (k ∷ [])
+
 abbrev pub recordMade : List ℕ → ℕ → ℕ → List ℕ
 recordMade l r c = sets (sets l (recordsAt + recordLength * r) (c ∷ [])) 4 (half (r + 1))
 

@@ -5,7 +5,7 @@ ghost use lib.ListN.{length};
 ghost use lib.Seq.{sets};
 ghost use Rattle.words.specs.Numbers.{byteAt, halfAt};
 ghost use Rattle.bytecode.specs.State.{zeros, stateLength};
-ghost use Rattle.machine_frames.specs.Bytes.{Framed, holdTaken, holdLet, entered, left, recordMade, wipedAll, conditioned, finished, released};
+ghost use Rattle.machine_frames.specs.Bytes.{Framed, holdTaken, holdLet, entered, Left, Wiped, recordMade, wipedAll, conditioned, finished, released};
 use crate::reads::wide;
 use crate::writes::put_byte;
 use formats::state::*;
@@ -55,11 +55,30 @@ pub fn enter(state: &mut [u8], frame: usize, k: u8, b: u8, address: u16)
     put_byte(state, ACTIVATION_COUNT_AT, k + 1);
 }
 
+// So many cells are cleared without counting them.
+const FEW_CELLS: usize = 8;
+
+const FEW_CELL_WORDS: usize = WORD_BYTES * FEW_CELLS;
+
+// An activation without operands. What it does not use is 0, so that most are cleared by three stores or four: clearing all bytes of one costs a call.
+fn wipe_activation(state: &mut [u8], frame: usize)
+    requires { ⌜ Framed (now state) frame 0 ⌝ }
+    ensures { λ _. ⌜ Wiped (now (state .entry)) frame (now (state .exit)) ⌝ }
+{
+    if state[frame + (CELL_TYPES_AT + FEW_CELLS)] != 0 {
+        clear(state, frame, ACTIVATION_BYTES);
+        return;
+    }
+    clear(state, frame, CELL_WORDS_AT);
+    clear(state, frame + CELL_WORDS_AT, FEW_CELL_WORDS);
+    clear(state, frame + CELL_TYPES_AT, FEW_CELLS);
+}
+
 pub fn leave(state: &mut [u8], frame: usize, k: u8)
     requires { ⌜ Framed (now state) frame 0 ⌝ }
-    ensures { λ _. ⌜ now (state .exit) ≡ left (now (state .entry)) frame k ⌝ }
+    ensures { λ _. ⌜ Left (now (state .entry)) frame k (now (state .exit)) ⌝ }
 {
-    clear(state, frame, ACTIVATION_BYTES);
+    wipe_activation(state, frame);
     put_byte(state, ACTIVATION_COUNT_AT, k);
 }
 

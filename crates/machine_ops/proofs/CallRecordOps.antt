@@ -28,8 +28,9 @@ use Rattle.logic.specs.ListLaws.{index-below}
 use Rattle.bytecode_layout.specs.Places.{framePlace}
 use Rattle.bytecode_layout.specs.Steps.{activation}
 use Rattle.bytecode_layout.specs.Records.{made}
-use Rattle.machine_frames.specs.Bytes.{wentTo, pushed, popped, operandSet, fieldSet, left, recordMade}
+use Rattle.machine_frames.specs.Bytes.{wentTo, pushed, popped, operandSet, fieldSet, left, Left, recordMade}
 use Rattle.machine_frames.specs.On.{On, on-enter, on-leave, on-push, on-pop, on-operand, on-make, on-field, read-count, read-records, read-depth, read-address, read-operand, read-field}
+use Rattle.machine_frames.specs.Trimmed.{left-is}
 use Rattle.machine_ops.specs.declared.Out.{Out}
 use Rattle.machine_ops.specs.declared.Out.the-variants.{Goes}
 use Rattle.machine_ops.specs.Acts.{here, Now, Told, Tells}
@@ -124,9 +125,9 @@ module _ (code : List ℕ) (q : ℕ) {l : List ℕ} {f n i : ℕ} (k0 : ℕ) (eq
       rw (le-ltb (suc (length fs)) 32 (omega arith)) (C m rs t fs N))
 
 -- ── a return ──
--- the activation below, with the top dropped, and its numbers
-record Down (l : List ℕ) (f c a : ℕ) (rs : Shared) (u : Activation) (fs : List Activation) : Type 0 where
-  on : On (left l f c) (f - activationLength) rs [] u fs
+-- the activation below, with the top, of which l′ has no operand, dropped, and its numbers
+record Down (l l′ : List ℕ) (f c a : ℕ) (rs : Shared) (u : Activation) (fs : List Activation) : Type 0 where
+  on : On (left l′ f c) (f - activationLength) rs [] u fs
   depth : byteAt l (f - activationLength + 1) ≡ length (u .operands)
   address : a ≡ u .address
 
@@ -145,36 +146,38 @@ module _ {l : List ℕ} {f n i : ℕ} where
       go (g ∷ gs) (u ∷ fs) h N = never h
 
   module _ (c a : ℕ) (R : ReturnRoom l f n) (ec : c ≡ byteAt l 2 - 1) (ea : a ≡ halfAt l (f - activationLength + 4)) where
-    down : {m : Macro} {rs : Shared} {b j : ℕ} {cs : List Cell} {vs : List Value} {u : Activation} {fs : List Activation} → Now m l f n i rs (activation b j cs vs []) (u ∷ fs) → Down l f c a rs u fs
-    down {fs = fs} N =
+    down : {m : Macro} {rs : Shared} {b j : ℕ} {cs : List Cell} {vs : List Value} {u : Activation} {fs : List Activation} {l′ : List ℕ} → Now m l f n i rs (activation b j cs vs []) (u ∷ fs)
+        → On l′ f rs [] (activation b j cs [] []) (u ∷ fs) → Down l l′ f c a rs u fs
+    down {fs = fs} N q =
         let co : byteAt l 2 ≡ suc (suc (length fs)) = read-count (N .on) in
         let pl : f ≡ framePlace (suc (length fs)) = N .on .place in
         let under = below-top (N .on) (f - activationLength) (rw pl (omega arith)) in
-        record { on = on-leave (N .on) refl c (omega arith); depth = read-depth under; address = ea ∙ read-address under }
+        record { on = on-leave q refl c (omega arith); depth = read-depth under; address = ea ∙ read-address under }
 
-    pub return-none : (k1 k2 : List ℕ) → n ≡ 0 → k1 ≡ left l f c → k2 ≡ wentTo k1 (f - activationLength) (a + 1) → Tells (λ m h. doReturn m h) l f n i k2 Goes
+    pub return-none : (k1 k2 : List ℕ) → n ≡ 0 → Left l f c k1 → k2 ≡ wentTo k1 (f - activationLength) (a + 1) → Tells (λ m h. doReturn m h) l f n i k2 Goes
     return-none k1 k2 z e1 e2 = return-by k2 Goes (λ m rs b j cs vs u fs N. go rs b j cs vs u fs N)
       where
         go : {m : Macro} (rs : Shared) (b j : ℕ) (cs : List Cell) (vs : List Value) (u : Activation) (fs : List Activation)
             → Now m l f n i rs (activation b j cs vs []) (u ∷ fs) → Told (goesOn [] (vs ++ u .operands) (here rs u fs)) k2 Goes
         go rs b j cs [] u fs N =
-            let d = down N in
-            goes-on u [] Goes (d .on) k2 (a + 1) (e2 ∙ rw e1) (omega (arith, d .address)) refl
+            let d = down N (N .on) in
+            goes-on u [] Goes (d .on) k2 (a + 1) (e2 ∙ rw (left-is (N .on) c k1 e1)) (omega (arith, d .address)) refl
         go rs b j cs (v ∷ vs) u fs N = absurd (omega (arith, N .depth))
 
-    pub return-one : (w y : ℕ) (k1 k2 k3 : List ℕ) → n ≡ 1 → w ≡ wordAt l (f + (operandWordsAt + 4 * 0)) → y ≡ byteAt l (f + (operandTypesAt + 0))
-        → k1 ≡ left l f c → k2 ≡ pushed k1 (f - activationLength) (byteAt l (f - activationLength + 1)) w y
+    pub return-one : (w y : ℕ) (k0 k1 k2 k3 : List ℕ) → n ≡ 1 → w ≡ wordAt l (f + (operandWordsAt + 4 * 0)) → y ≡ byteAt l (f + (operandTypesAt + 0))
+        → k0 ≡ popped l f 0 → Left k0 f c k1 → k2 ≡ pushed k1 (f - activationLength) (byteAt l (f - activationLength + 1)) w y
         → k3 ≡ wentTo k2 (f - activationLength) (a + 1) → Tells (λ m h. doReturn m h) l f n i k3 Goes
-    return-one w y k1 k2 k3 z ew ey e1 e2 e3 = return-by k3 Goes (λ m rs b j cs vs u fs N. go rs b j cs vs u fs N)
+    return-one w y k0 k1 k2 k3 z ew ey e0 e1 e2 e3 = return-by k3 Goes (λ m rs b j cs vs u fs N. go rs b j cs vs u fs N)
       where
         go : {m : Macro} (rs : Shared) (b j : ℕ) (cs : List Cell) (vs : List Value) (u : Activation) (fs : List Activation)
             → Now m l f n i rs (activation b j cs vs []) (u ∷ fs) → Told (goesOn [] (vs ++ u .operands) (here rs u fs)) k3 Goes
         go rs b j cs [] u fs N = absurd (omega (arith, N .depth))
         go rs b j cs (v ∷ []) u fs N =
-            let d = down N in
+            let q : On k0 f rs [] (activation b j cs [] []) (u ∷ fs) = rw e0 (on-pop v (N .on) 0 refl (omega arith)) in
+            let d = down N q in
             let rd = read-operand (N .on) [] v [] 0 refl refl (omega arith) in
             let p = on-push v w y (ew ∙ rd .0) (ey ∙ rd .1) (d .on) (byteAt l (f - activationLength + 1)) (d .depth) (omega (arith, R .below-depth)) in
-            goes-on u [] Goes p k3 (a + 1) (e3 ∙ rw (e2, e1)) (omega (arith, d .address)) refl
+            goes-on u [] Goes p k3 (a + 1) (e3 ∙ rw (e2, left-is q c k1 e1)) (omega (arith, d .address)) refl
         go rs b j cs (v ∷ (x ∷ vs)) u fs N = absurd (omega (arith, N .depth))
 
 -- ── a record made ──

@@ -83,6 +83,7 @@ fn return_value(state: &mut [u8], frame: usize, depth: usize, address: u16) -> O
     let d = machine_frames::wide(state[g + OPERAND_COUNT_AT]);
     let w = machine_frames::operand_word(state, frame, 0);
     let t = machine_frames::operand_type(state, frame, 0);
+    machine_frames::pop(state, frame, 0);
     machine_frames::leave(state, frame, k);
     machine_frames::push(state, g, d, w, t);
     machine_frames::go_to(state, g, a + 1);

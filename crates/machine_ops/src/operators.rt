@@ -2,6 +2,8 @@
 ghost use mathlib.Core.Path.{_≡_};
 ghost use lib.Dec.{eqb};
 ghost use Rattle.bytecode.specs.Words.{logWord};
+ghost use Rattle.values.specs.Answers.{computed};
+ghost use Rattle.values.specs.Arithmetic.{settle as exactly, sum, difference, product};
 ghost use Rattle.values.specs.Values.{sameInteger};
 ghost use Rattle.words.specs.Numbers.{integerOf};
 ghost use Rattle.logic.specs.Choice.{if_then_else_};
@@ -23,6 +25,38 @@ fn number(c: Computed) -> Worked
         Computed::Gives(z) => Worked::Gives(words::word_of(z), TYPE_INTEGER),
         Computed::Ends(e) => Worked::Ends(e),
     }
+}
+
+// An exact result of +, − or ×, brought into 32 bits. It is not handed on as a `Computed`: that has eight bytes, which LLVM packs into one register, and
+// whether it overflowed then is a conditional move that the result waits for, where here it is a branch, which is foreseen.
+fn settled(z: i64) -> Worked
+    ensures { λ r. ⌜ r ≡ worked (computed (exactly z)) ⌝ }
+{
+    if z < -2147483648 {
+        return Worked::Ends(values::OVERFLOW);
+    }
+    if 2147483647 < z {
+        return Worked::Ends(values::OVERFLOW);
+    }
+    Worked::Gives(words::word_of(z as i32), TYPE_INTEGER)
+}
+
+fn plus(x: i32, y: i32) -> Worked
+    ensures { λ r. ⌜ r ≡ worked (computed (sum x y)) ⌝ }
+{
+    settled((x as i64) + (y as i64))
+}
+
+fn minus(x: i32, y: i32) -> Worked
+    ensures { λ r. ⌜ r ≡ worked (computed (difference x y)) ⌝ }
+{
+    settled((x as i64) - (y as i64))
+}
+
+fn times(x: i32, y: i32) -> Worked
+    ensures { λ r. ⌜ r ≡ worked (computed (product x y)) ⌝ }
+{
+    settled((x as i64) * (y as i64))
 }
 
 fn truth(b: bool) -> Worked
@@ -66,9 +100,9 @@ pub fn binary(op: u8, t: u8, x: u32, y: u32) -> Worked
     let a = words::integer_of(x);
     let b = words::integer_of(y);
     match op {
-        1 => number(values::add(a, b)),
-        2 => number(values::subtract(a, b)),
-        3 => number(values::multiply(a, b)),
+        1 => plus(a, b),
+        2 => minus(a, b),
+        3 => times(a, b),
         4 => number(values::divide(a, b)),
         5 => number(values::remainder(a, b)),
         6 => truth(values::less(a, b)),

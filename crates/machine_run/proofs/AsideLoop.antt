@@ -38,6 +38,11 @@ pub start : {code readings l : List ℕ} {k f d i n w t : ℕ} → One code l f 
 start {code} {readings} {k = k} {n = n} O h =
     record { upto = h; grown = omega arith; fresh = λ e. refl; long = refl; one = O; leads = λ l₀ R. subst (λ (x : List ℕ). Reaches code readings k l₀ x n) (put-bytes O) R }
 
+-- the steps taken, by another name
+pub recount : {code readings : List ℕ} {k : ℕ} {s : List ℕ} {at₀ i₀ : ℕ} {l₀ l : List ℕ} {f d i n m w t : ℕ} → n ≡ m → Going code readings k s at₀ i₀ l₀ l f d i n w t
+    → Going code readings k s at₀ i₀ l₀ l f d i m w t
+recount {code} {readings} {k} {s} {at₀} {i₀} {l₀} {l} {f} {d} {i} {w = w} {t = t} e G = subst (λ (z : ℕ). Going code readings k s at₀ i₀ l₀ l f d i z w t) e G
+
 -- the operand is put back
 pub put : {code readings : List ℕ} {k : ℕ} {s : List ℕ} {at₀ i₀ : ℕ} {l₀ l : List ℕ} {f d i n w t : ℕ} → Going code readings k s at₀ i₀ l₀ l f d i n w t
     → Lands code readings k f s i₀ (wentTo (pushed l f d w t) f i) (landing.Lands i n)
@@ -161,8 +166,9 @@ module _ {code readings : List ℕ} {k : ℕ} {s : List ℕ} {at₀ i₀ : ℕ} 
       let e = R .coded .based in
       (sym (F .op) ∙ ap (byteAt code) (omega arith), F .number ∙ ap (byteAt code) (omega arith))
 
-  pub paired : {l′ : List ℕ} {c u x y d′ m : ℕ} → Paired code (base + 8 * i) l f d op a b w t (k - n) l′ c u x y d′ m → Two code readings k s i₀ l₀ l′ f d′ (i + m) (n + m) c u x y
-  paired {c = c} {u = u} {x = x} {y = y} {d′ = d′} {m = m} (operates e7 ec lo T ey em) =
+  pub paired : {l′ : List ℕ} {c u x y d′ m room : ℕ} → room ≡ k - n → Paired code (base + 8 * i) l f d op a b w t room l′ c u x y d′ m
+      → Two code readings k s i₀ l₀ l′ f d′ (i + m) (n + m) c u x y
+  paired {c = c} {u = u} {x = x} {y = y} {d′ = d′} {m = m} er (operates e7 ec lo T ey em) =
       let K = take A (λ z. O .value ∷ (z ∷ [])) (λ z us. refl) (omega (arith, asks-operate P e7 .1 (omega arith))) (omega (arith, room-whole A .depth)) in
       let X : Two code readings k s i₀ l₀ (popped l f (d - 1)) f (d - 1) (i + m) (n + m) c u x y =
       record {
@@ -186,7 +192,7 @@ module _ {code readings : List ℕ} {k : ℕ} {s : List ℕ} {at₀ i₀ : ℕ} 
       } in
       subst (λ (z : List ℕ). Two code readings k s i₀ l₀ z f d′ (i + m) (n + m) c u x y) (sym (T .bytes))
       (subst (λ (z : ℕ). Two code readings k s i₀ l₀ (popped l f (d - 1)) f z (i + m) (n + m) c u x y) (sym (T .depth)) X)
-  paired {c = c} {u = u} {x = x} {y = y} {d′ = d′} {m = m} (pushes e1 F el eu ex ey ed em) =
+  paired {c = c} {u = u} {x = x} {y = y} {d′ = d′} {m = m} er (pushes e1 F el eu ex ey ed em) =
       let M = steps.pushes A readings (R .low) eo ea eb e1 in
       let N = next-op F in
       let X : Two code readings k s i₀ l₀ l f d (i + m) (n + m) c u x y =
@@ -210,7 +216,7 @@ module _ {code readings : List ℕ} {k : ℕ} {s : List ℕ} {at₀ i₀ : ℕ} 
         leads = λ z Q. M .leads k n (R .more) z (R .going .leads z Q);
       } in
       subst (λ (z : List ℕ). Two code readings k s i₀ l₀ z f d′ (i + m) (n + m) c u x y) (sym el) (subst (λ (z : ℕ). Two code readings k s i₀ l₀ l f z (i + m) (n + m) c u x y) (sym ed) X)
-  paired {c = c} {u = u} {x = x} {y = y} {d′ = d′} {m = m} (loads e5 F C el eu ex ed em) =
+  paired {c = c} {u = u} {x = x} {y = y} {d′ = d′} {m = m} er (loads e5 F C el eu ex ed em) =
       let M = steps.loads A readings (R .low) eo ea eb e5 (few-cells e5) in
       let N = next-op F in
       let X : Two code readings k s i₀ l₀ l f d (i + m) (n + m) c u x y =

@@ -1,7 +1,7 @@
 -- The loop's invariant, and that each op's arm keeps it.
-use mathlib.Core.Path.{_≡_, refl, _∙_}
+use mathlib.Core.Path.{_≡_, refl, _∙_, subst}
 use mathlib.Core.List.{List}
-use Prim.Native.Nat.{ℕ, _+_, _*_, _-_, _≤_, _<_}
+use Prim.Native.Nat.{ℕ, suc, _+_, _*_, _-_, _≤_, _<_}
 use native.Mathlib.Omega.{arith}
 use lib.ListN.{length}
 use Rattle.words.specs.Numbers.{byteAt, halfAt, wordAt}
@@ -31,6 +31,10 @@ pub record Loop (code readings : List ℕ) (k : ℕ) (l₀ l : List ℕ) (f at i
   pub long : length l ≡ length l₀
   pub reached : Reaches code readings k l₀ l i
   pub kept : Kept l f at
+
+-- the steps taken, by another name
+pub recount : {code readings : List ℕ} {k : ℕ} {l₀ l : List ℕ} {f at i j : ℕ} → i ≡ j → Loop code readings k l₀ l f at i → Loop code readings k l₀ l f at j
+recount {code} {readings} {k} {l₀} {l} {f} {at} e I = subst (λ (z : ℕ). Loop code readings k l₀ l f at z) e I
 
 module _ {code readings : List ℕ} {k : ℕ} {l₀ l : List ℕ} {f at i : ℕ} (I : Loop code readings k l₀ l f at i) where
   pub top : Top l
@@ -94,12 +98,19 @@ module _ {code readings : List ℕ} {k : ℕ} {l₀ l : List ℕ} {f at i n op a
       pub left-off : (byteAt l′ 0 ≡ 0 → ⊥) → byteAt l′ 0 ≡ 1
       left-off = after.releasing code readings l op a b f n at (poise R) l′ o (A .acts) q
 
-      pub back : op ≡ 11 → byteAt l′ 0 ≡ 0
+      pub back : op ≡ 11 → (byteAt l′ 0 ≡ 0) × (suc (byteAt l′ 2) ≡ byteAt l 2)
       back = after.comes-back code readings l op a b f n at (poise R) l′ o (A .acts)
+
+      -- the activation below stands below
+      pub lower : op ≡ 11 → (activationsAt + activationLength ≤ f) × (f - activationLength ≡ activationsAt + activationLength * (byteAt l′ 2 - 1))
+      lower e = let g = back e in let T = there (g .0) in (omega (arith, g .1, T .low, R .loop .kept .place), omega (arith, g .1, T .low, R .loop .kept .place))
 
       -- with what is kept read anew
       pub again : (f′ at′ : ℕ) → byteAt l′ 0 ≡ 0 → f′ ≡ activationsAt + activationLength * (byteAt l′ 2 - 1) → at′ ≡ halfAt l′ (f′ + 4) → Loop code readings k l₀ l′ f′ at′ (i + 1)
       again f′ at′ z p e = record { upto = omega (arith, A .more); held = still; long = still-long; reached = further; kept = record { phase = z; place = p; address = e } }
+
+      pub again-below : op ≡ 11 → (at′ : ℕ) → at′ ≡ halfAt l′ (f - activationLength + 4) → Loop code readings k l₀ l′ (f - activationLength) at′ (i + 1)
+      again-below e at′ h = again (f - activationLength) at′ (back e .0) (lower e .1) h
 
       as-before : byteAt l′ 2 ≡ byteAt l 2 → f ≡ activationsAt + activationLength * (byteAt l′ 2 - 1)
       as-before e = rw e (R .loop .kept .place)

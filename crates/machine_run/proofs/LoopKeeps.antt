@@ -16,7 +16,7 @@ use Rattle.bytecode.specs.Runs.{bankOf}
 use Rattle.bytecode.specs.Sound.{sound}
 use Rattle.bytecode.specs.State.{encode}
 use Rattle.bytecode_safety.specs.States.{running-sound}
-use Rattle.bytecode_layout.specs.Places.{framePlace, phase}
+use Rattle.bytecode_layout.specs.Places.{framePlace, phase, activations}
 use Rattle.bytecode_layout.specs.Reads.{encode-reads}
 use Rattle.machine_frames.specs.On.{On, read-count, read-address, read-releasing, read-ended}
 use Rattle.machine_ops.specs.declared.Out.{Out}
@@ -110,10 +110,15 @@ module _ (code readings l : List ℕ) (op a b f n i : ℕ) (P : Poised code read
   pub goes-unless : op ≡ 9 → (byteAt k 0 ≡ 0) × (byteAt k 2 ≡ byteAt l 2)
   goes-unless e = within (rw (is-unless op a b (P .instr) (P .decoded) e) (jumps-unless (P .macro) (bankOf readings) (P .shared) (P .top) (P .below) b))
 
-  pub comes-back : op ≡ 11 → byteAt k 0 ≡ 0
-  comes-back e = by (P .next) (are .0) (subst Ran (P .moves) (rw (is-return op a b (P .instr) (P .decoded) e) (returns (P .macro) (bankOf readings) (P .shared) (P .top) (P .below) .ran)))
+  -- and in the activation below
+  pub comes-back : op ≡ 11 → (byteAt k 0 ≡ 0) × (suc (byteAt k 2) ≡ byteAt l 2)
+  comes-back e =
+      by (P .next) (are .0)
+      (subst (Ran (length (P .below))) (P .moves) (rw (is-return op a b (P .instr) (P .decoded) e) (returns (P .macro) (bankOf readings) (P .shared) (P .top) (P .below) .ran)))
     where
-      by : (s : Machine) → k ≡ encode s → Ran (moved (P .items) s) → byteAt k 0 ≡ 0
-      by (running rs u us) e x = is-running rs u us e
+      by : (s : Machine) → k ≡ encode s → Ran (length (P .below)) (moved (P .items) s) → (byteAt k 0 ≡ 0) × (suc (byteAt k 2) ≡ byteAt l 2)
+      by (running rs u us) e x =
+          let count : byteAt k 2 ≡ suc (length us) = rw e (encode-reads activations tt (running rs u us)) in
+          (is-running rs u us e, ap suc (count ∙ x) ∙ sym (read-count (P .at-hand .on)))
       by (unwinding gs a) e x = absurd x
       by (ended c) e x = absurd x

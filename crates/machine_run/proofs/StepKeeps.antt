@@ -236,14 +236,15 @@ Within n (moved is (unwinding gs a)) = ⊥
 Within n (moved is (ended c)) = ⊥
 Within n (stuck why) = Unit {0}
 
-abbrev pub Ran : Stepped → Type 0
-Ran (moved is (running rs u us)) = Unit {0}
-Ran (moved is (unwinding gs a)) = ⊥
-Ran (moved is (ended c)) = ⊥
-Ran (stuck why) = Unit {0}
+-- one activation less, of n below the top
+abbrev pub Ran : ℕ → Stepped → Type 0
+Ran n (moved is (running rs u us)) = suc (length us) ≡ n
+Ran n (moved is (unwinding gs a)) = ⊥
+Ran n (moved is (ended c)) = ⊥
+Ran n (stuck why) = Unit {0}
 
-pub record Stays (s : Stepped) : Type 0 where
-  pub ran : Ran s
+pub record Stays (n : ℕ) (s : Stepped) : Type 0 where
+  pub ran : Ran n s
 
 module _ (m : Macro) (bank : ℕ → ℕ) (rs : Shared) (t : Activation) (fs : List Activation) where
   pub jumps : (i : ℕ) → Within (length fs) (act m bank (go i) (here rs t fs))
@@ -263,18 +264,20 @@ module _ (m : Macro) (bank : ℕ → ℕ) (rs : Shared) (t : Activation) (fs : L
       go-pop (bit n ∷ vs) = tt
       go-pop (ref c r ∷ vs) = tt
 
-  pub returns : Stays (act m bank return (here rs t fs))
+  pub returns : Stays (length fs) (act m bank return (here rs t fs))
   unfolding act doReturn
-  returns = stays-given (procedureAt m (t .body)) noStep _ (λ b. stays (sames (tysOf (t .operands)) (b .results)) badType _ (stays (isEmpty (t .holds)) groupHeld _ (by-hand (t .operands) fs)))
+  returns =
+      stays-given (length fs) (procedureAt m (t .body)) noStep _ (λ b. stays (length fs) (sames (tysOf (t .operands)) (b .results)) badType _ (stays (length fs) (isEmpty (t .holds)) groupHeld _
+      (by-hand (t .operands) fs)))
     where
-      stays : (b : Bool) (why : Stuck) (s : Stepped) → Stays s → Stays (demand b why s)
-      stays = by-demand Stays (λ why. record { ran = tt })
+      stays : (n : ℕ) (b : Bool) (why : Stuck) (s : Stepped) → Stays n s → Stays n (demand b why s)
+      stays n = by-demand (Stays n) (λ why. record { ran = tt })
 
-      stays-given : {A : Type 0} (o : Option A) (why : Stuck) (g : A → Stepped) → ((x : A) → Stays (g x)) → Stays (given o why g)
-      stays-given = by-given Stays (λ why. record { ran = tt })
+      stays-given : (n : ℕ) {A : Type 0} (o : Option A) (why : Stuck) (g : A → Stepped) → ((x : A) → Stays n (g x)) → Stays n (given o why g)
+      stays-given n = by-given (Stays n) (λ why. record { ran = tt })
 
-      by-hand : (vs : List Value) (gs : List Activation) → Stays (handDown vs rs gs)
+      by-hand : (vs : List Value) (gs : List Activation) → Stays (length gs) (handDown vs rs gs)
       by-hand vs [] = record { ran = tt }
       by-hand vs (f ∷ gs) =
           let s : Stepped = moved [] (running rs (at (suc (f .address)) (vs ++ f .operands) f) gs) in
-          stays (leb (length (vs ++ f .operands)) 32) badFrame s (record { ran = tt })
+          stays (suc (length gs)) (leb (length (vs ++ f .operands)) 32) badFrame s (record { ran = refl })

@@ -199,32 +199,32 @@ pub fn run_aside(
 {
     let mut k = depth;
     let mut i = address;
-    let mut n = taken;
+    let mut left = allowance - taken;
     let mut x = w;
     let mut u = t;
-    while n < allowance {
+    while 0 < left {
         let p = base + CODE_BYTES * (i as usize);
         let op = code[p + CODE_OP_AT];
         let a = code[p + CODE_A_AT];
         let b = words::word_at(code, p + CODE_B_AT);
-        match pair_up(code, p, state, frame, k, op, a, b, x, u, allowance - n) {
+        match pair_up(code, p, state, frame, k, op, a, b, x, u, left) {
             Pair::Works(c, v, l, r, d, s) => match machine_ops::binary(c, v, l, r) {
                 Worked::Gives(y, z) => {
                     k = d;
                     x = y;
                     u = z;
                     i += s;
-                    n += s;
+                    left -= s;
                 }
                 Worked::Ends(e) => {
                     machine_frames::condition(state, e);
-                    return Landing::Breaks(n + s);
+                    return Landing::Breaks(allowance - left + s);
                 }
             },
             Pair::Other => {
-                return leave(state, frame, k, i, n, op, a, b, x, u);
+                return leave(state, frame, k, i, allowance - left, op, a, b, x, u);
             }
         }
     }
-    put_back(state, frame, k, i, n, x, u)
+    put_back(state, frame, k, i, allowance, x, u)
 }

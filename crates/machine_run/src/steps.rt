@@ -56,7 +56,8 @@ fn release(code: &[u8], state: &mut [u8], readings: &[u8], taken: u16, allowance
 
 // From a running state. The place of the top activation and its address are kept in locals beside the bytes: only ops 8 to 11 do otherwise than go
 // on to the next address, and only 10 and 11 leave the activation. Each kept local changes in an arm of its own, so that a branch decides on
-// it, which is foreseen, and no conditional move, which waits for the op.
+// it, which is foreseen, and no conditional move, which waits for the op. The steps that are left are counted down, here and with an operand aside: the
+// loops test against 0 and ask for the allowance only where they end. After a return the place is reckoned: read by way of the count, calls took a sixth longer.
 fn run_running(
     code: &[u8],
     bodies: &[u32],
@@ -72,8 +73,8 @@ fn run_running(
     let t = top_of(state);
     let mut frame = t.place;
     let mut address = t.address;
-    let mut taken: u16 = 0;
-    while taken < allowance {
+    let mut left = allowance;
+    while 0 < left {
         let depth = machine_frames::wide(state[frame + OPERAND_COUNT_AT]);
         let p = base + CODE_BYTES * (address as usize);
         let op = code[p + CODE_OP_AT];
@@ -89,14 +90,14 @@ fn run_running(
                     frame,
                     k,
                     address + s,
-                    taken + s,
+                    allowance - left + s,
                     allowance,
                     w,
                     t,
                 ) {
                     Landing::Lands(i, n) => {
                         address = i;
-                        taken = n;
+                        left = allowance - n;
                     }
                     Landing::Breaks(n) => {
                         return release(code, state, readings, n, allowance);
@@ -118,7 +119,7 @@ fn run_running(
                     b,
                 ) {
                     Out::Goes => {
-                        taken += 1;
+                        left -= 1;
                         match op {
                             OP_GO => {
                                 address = words::half_at(state, frame + ADDRESS_AT);
@@ -128,36 +129,47 @@ fn run_running(
                             }
                             OP_CALL => {
                                 if state[PHASE_AT] != RUNNING {
-                                    return release(code, state, readings, taken, allowance);
+                                    return release(
+                                        code,
+                                        state,
+                                        readings,
+                                        allowance - left,
+                                        allowance,
+                                    );
                                 }
                                 let t = top_of(state);
                                 frame = t.place;
                                 address = t.address;
                             }
                             OP_RETURN => {
-                                let t = top_of(state);
-                                frame = t.place;
-                                address = t.address;
+                                frame -= ACTIVATION_BYTES;
+                                address = words::half_at(state, frame + ADDRESS_AT);
                             }
                             _ => {
                                 if state[PHASE_AT] != RUNNING {
-                                    return release(code, state, readings, taken, allowance);
+                                    return release(
+                                        code,
+                                        state,
+                                        readings,
+                                        allowance - left,
+                                        allowance,
+                                    );
                                 }
                                 address += 1;
                             }
                         }
                     }
                     Out::Gives(e) => {
-                        return Answer::Happens(e, taken + 1);
+                        return Answer::Happens(e, allowance - left + 1);
                     }
                     Out::Ends(c) => {
-                        return Answer::Finishes(c, taken + 1);
+                        return Answer::Finishes(c, allowance - left + 1);
                     }
                 }
             }
         }
     }
-    Answer::Spends(taken)
+    Answer::Spends(allowance)
 }
 
 pub fn run_sound(

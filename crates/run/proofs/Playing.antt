@@ -30,6 +30,7 @@ use Rattle.machine_run.specs.Held as machine
 use Rattle.machine_ops.specs.declared.Event as machine-event
 use Rattle.machine_run.specs.declared.Answer as machine-answer
 use Rattle.machine_run.specs.declared.Answer.the-variants.{Happens, Spends, Finishes}
+use Rattle.run.specs.declared.Ran.the-variants as runs
 use Rattle.run.specs.Answers.{answerOf, ranOf}
 use Rattle.run.specs.Fields.{state-sound}
 use Rattle.run.specs.Plays.{Later, run-later}
@@ -57,6 +58,28 @@ module _ {c readings l : List ℕ} {left : ℕ} {k : List ℕ} {o : machine-answ
 
   pub ended-upto : (v n : ℕ) → o ≡ Finishes v n → n ≤ left
   ended-upto v n d = rw d at (X .within)
+
+-- where no run was made yet of a call that began with the state's bytes l₀
+pub record First (l₀ l : List ℕ) (taken events : ℕ) : Type 0 where
+  pub same : l ≡ l₀
+  pub no-step : taken ≡ 0
+  pub no-event : events ≡ 0
+
+module _ (allowance : ℕ) {c readings l : List ℕ} {taken : ℕ} {k : List ℕ} {o : machine-answer.Answer} (X : Ran-on c readings l (allowance - taken) k o) {l₀ : List ℕ} {events : ℕ}
+    (F : First l₀ l taken events) where
+  first-told : runOn c l₀ readings allowance ≡ record { answer = answerOf (ranOf o); bytes = k }
+  first-told =
+      let z : allowance ≡ allowance - taken = omega (arith, F .no-step) in
+      ap (λ (x : ℕ). runOn c l₀ readings x) z ∙ ap (λ (x : List ℕ). runOn c x readings (allowance - taken)) (sym (F .same)) ∙ X .is
+
+  pub first-happens : (e : machine-event.Event) (n : ℕ) → o ≡ Happens e n → runOn c l₀ readings allowance ≡ record { answer = answerOf (runs.Happens e n); bytes = k }
+  first-happens e n d = first-told ∙ rw d
+
+  pub first-spends : (n : ℕ) → o ≡ Spends n → runOn c l₀ readings allowance ≡ record { answer = answerOf (runs.Spends (taken + n)); bytes = k }
+  first-spends n d = let z : taken + n ≡ n = omega (arith, F .no-step) in first-told ∙ rw (d, z)
+
+  pub first-finishes : (v n : ℕ) → o ≡ Finishes v n → runOn c l₀ readings allowance ≡ record { answer = answerOf (runs.Finishes v (taken + n)); bytes = k }
+  first-finishes v n d = let z : taken + n ≡ n = omega (arith, F .no-step) in first-told ∙ rw (d, z)
 
 pub held : (c l : List ℕ) → Bytes c → Standing c l → machine.Held c l
 held c l B S = record {
@@ -229,6 +252,9 @@ module _ (c l readings : List ℕ) (allowance : ℕ) (answers : List ℕ) where
 
       pub standing : Standing c e
       standing = record { macro = H .macro; passes = H .passes; state = H .state; sounds = state-sound (H .macro) l (H .state) (H .sound); bytes = cleared }
+
+      pub run-own : runOn c l readings allowance ≡ runOn c e readings allowance
+      run-own = rw cleared (not-refused allowance .0)
 
       pub play-runs : 8 ≤ length answers → playOn c l readings allowance answers ≡ playFrom c readings allowance (length answers / 8) 0 0 e answers
       play-runs h =

@@ -10,23 +10,13 @@ use borrow.Author.Tests.{ne-eqb, eqb-true, eqb-false}
 use Rattle.words.specs.Laws.{Bytes}
 use Rattle.values.specs.Ends.{refusal, refused}
 use Rattle.bytecode.specs.Rules.{judgeMacro}
-use Rattle.bytecode.specs.Machine.{Machine}
-use Rattle.bytecode.specs.Runs.{Answer, happens, spends, finishes, refuses, halts, Ran, run}
-use Rattle.bytecode.specs.State.{encode}
+use Rattle.bytecode.specs.Runs.{refuses, Ran, run}
 use Rattle.bytecode.specs.Lent.{written, runOn}
-use Rattle.bytecode_laws.specs.Promises.{passed}
 use Rattle.load_check.specs.Small.{base-small}
-use Rattle.load_check.specs.Views.{passing}
 use Rattle.state_check.specs.Inspecting.{Placed, Held, NotHeld, Inspects}
 use Rattle.state_check.specs.declared.inspection.Inspected.{Inspected}
 use Rattle.state_check.specs.declared.inspection.Inspected.the-variants.{Sound, Unsound, Refused}
-use Rattle.state_write.specs.Clearing.{Encodes}
-use Rattle.machine_run.specs.Held.{Found, Answers, Runs}
-use Rattle.machine_run.specs.Held as machine
-use Rattle.machine_run.specs.declared.Answer as machine-answer
-use Rattle.packing.specs.Events.{back-event}
-use Rattle.run.specs.Answers.{answerOf, ranOf}
-use Rattle.run.specs.Fields.{state-sound}
+use Rattle.machine_run.specs.Held.{Found}
 use Rattle.run.specs.Order.{Seen}
 
 pub found : (c bodies classes : List ℕ) (base : ℕ) → Bytes c → Placed c bodies classes base → Found c bodies classes base
@@ -42,17 +32,6 @@ module _ (c l bodies classes : List ℕ) (x : Inspected) (I : Inspects c l bodie
 
   pub told-refused : (n k : ℕ) → x ≡ Refused n k → judgeMacro c ≡ refused (refusal n k)
   told-refused n k e = rw e at I
-
--- the state that the bytes hold once they are cleared
-pub held : (c l e : List ℕ) → Bytes c → Held c l → Encodes c l e → machine.Held c e
-held c l e B H C = record {
-  macro = H .macro;
-  reads = passing c (H .macro) (H .passes) .0;
-  passed = passed c (H .macro) B (H .passes);
-  state = H .state;
-  sounds = state-sound (H .macro) l (H .state) (H .sound);
-  bytes = C (H .macro) (H .passes) (H .state) (H .sound);
-}
 
 module _ (c l readings : List ℕ) (allowance : ℕ) where
   -- ── the refusals ──
@@ -75,22 +54,6 @@ module _ (c l readings : List ℕ) (allowance : ℕ) where
     pub run-unread : (length readings ≡ 64 → ⊥) → runOn c l readings allowance ≡ record { answer = refuses (refusal 11 0); bytes = l }
     unfolding run
     run-unread n = run-held ∙ rw (ne-eqb (length readings) 64 n)
-
-    -- ── the machine ──
-    ends-in : (a : Answer) (t : Machine) (k : List ℕ) (o : machine-answer.Answer) → Answers a o → k ≡ encode t → written a t l ≡ record { answer = answerOf (ranOf o); bytes = k }
-    ends-in (happens v n) t k o h b = rw (h, b, back-event v)
-    ends-in (spends n) t k o h b = rw (h, b)
-    ends-in (finishes d n) t k o h b = rw (h, b)
-    ends-in (refuses r) t k o h b = absurd h
-    ends-in (halts why) t k o h b = absurd h
-
-    pub run-told : (e k : List ℕ) (o : machine-answer.Answer) → Bytes c → Encodes c l e → Runs c readings allowance e k o
-        → runOn c l readings allowance ≡ record { answer = answerOf (ranOf o); bytes = k }
-    unfolding held
-    run-told e k o B C R =
-        let h = held c l e B H C in
-        let x = R (h .macro) (h .reads) (h .passed) (h .state) (h .sounds) (h .bytes) in
-        run-held ∙ ends-in (ran .answer) (ran .state) k o (x .answer) (x .bytes)
 
   -- ── 10 before 11: n is the number of the first that refuses, 0 where none does ──
   module _ (bodies classes : List ℕ) (base : ℕ) (s : Bool) (S : Seen c l bodies classes base s) (n : ℕ) (first : n ≡ cond s (cond (eqb (length readings) 64) 0 11) 10) where

@@ -1,18 +1,27 @@
-// The play: 8, 9, 10, 11 in this order, tested once; then as many runs as fit, each event's answer packed into the bytes lent for it.
+// The play: 8, 9, 10, 11 in this order, tested once; then as many runs as fit, each event's answer packed into the bytes lent for it. A run is made here, too,
+// as one that hands its first event back, so that the machine's loop has one caller: it is compiled into the loop over the runs.
 use crate::Played;
 use crate::runs::refusal_of;
 use formats::limits::*;
+use machine_ops::Event;
 use machine_run::Answer;
 use packing::ANSWER_BYTES;
 use state_check::Inspected;
 use values::Refusal;
 ghost use mathlib.Core.Path.{_≡_};
-ghost use Prim.Native.Nat.{_/_};
+ghost use Prim.Native.Nat.{_≤_};
 ghost use lib.ListN.{length};
 ghost use Rattle.machine_run.specs.Held.{Found};
-ghost use Rattle.bytecode.specs.Play.{played, playFrom, playOn};
+ghost use Rattle.bytecode.specs.Play.{played, playOn};
 ghost use Rattle.run.specs.Answers.{playNumbers};
 ghost use Rattle.run.specs.Order.{Seen, Standing};
+ghost use Rattle.run.specs.Once.{Goes, GoesOn};
+
+// The first event, with the steps taken, where only that is asked for; or what a play gives.
+pub enum Outcome {
+    Happens(Event, u16),
+    Plays(Played),
+}
 
 // From a state's own bytes.
 fn play_sound(
@@ -23,11 +32,11 @@ fn play_sound(
     state: &mut [u8],
     readings: &[u8],
     allowance: u16,
+    once: bool,
     answers: &mut [u8],
-) -> Played
-    requires { ⌜ (Found (now code) (now bodies) (now classes) base) × (Standing (now code) (now state)) × (length (now readings) ≡ 64) ⌝ }
-    ensures { λ r. ⌜ playFrom (now (code .entry)) (now (readings .entry)) allowance (length (now (answers .entry)) / 8) 0 0 (now (state .entry)) (now (answers .entry))
-        ≡ played (playNumbers r) (now (state .exit)) (now (answers .exit)) ⌝ }
+) -> Outcome
+    requires { ⌜ (Found (now code) (now bodies) (now classes) base) × (Standing (now code) (now state)) × (length (now readings) ≡ 64) × (8 ≤ length (now answers)) ⌝ }
+    ensures { λ r. ⌜ Goes once (now (code .entry)) (now (readings .entry)) allowance (now (state .entry)) (now (answers .entry)) (now (state .exit)) (now (answers .exit)) r ⌝ }
 {
     let room = answers.len() / ANSWER_BYTES;
     let mut taken: u16 = 0;
@@ -36,23 +45,27 @@ fn play_sound(
         let left = allowance - taken;
         match machine_run::run_sound(code, bodies, classes, base, state, readings, left) {
             Answer::Happens(e, n) => {
+                if once {
+                    return Outcome::Happens(e, n);
+                }
                 let answer = packing::pack_event(e, n);
                 packing::put_answer(answers, ANSWER_BYTES * (events as usize), answer);
                 taken += n;
                 events += 1;
             }
             Answer::Spends(n) => {
-                return Played::Spends(taken + n, events);
+                return Outcome::Plays(Played::Spends(taken + n, events));
             }
             Answer::Finishes(c, n) => {
-                return Played::Finishes(c, taken + n, events);
+                return Outcome::Plays(Played::Finishes(c, taken + n, events));
             }
         }
     }
-    Played::Fills(taken, events)
+    Outcome::Plays(Played::Fills(taken, events))
 }
 
-// Of a macro that passes. Without room for an event no run is made, and the state's bytes stay as they are.
+// Of a macro that passes. What a sound state does not use is made 0 first, so that the bytes after a run are those of the state alone. Without room for an
+// event no run is made, and the state's bytes stay as they are.
 fn play_passed(
     code: &[u8],
     bodies: &[u32],
@@ -62,18 +75,18 @@ fn play_passed(
     state: &mut [u8],
     readings: &[u8],
     allowance: u16,
+    once: bool,
     answers: &mut [u8],
-) -> Played
+) -> Outcome
     requires { ⌜ Seen (now code) (now state) (now bodies) (now classes) base sound ⌝ }
-    ensures { λ r. ⌜ playOn (now (code .entry)) (now (state .entry)) (now (readings .entry)) allowance (now (answers .entry))
-        ≡ played (playNumbers r) (now (state .exit)) (now (answers .exit)) ⌝ }
+    ensures { λ r. ⌜ GoesOn once (now (code .entry)) (now (readings .entry)) allowance (now (state .entry)) (now (answers .entry)) (now (state .exit)) (now (answers .exit)) r ⌝ }
 {
     let number = refusal_of(sound, readings);
     if number != 0 {
-        return Played::Refused(Refusal { number, place: 0 });
+        return Outcome::Plays(Played::Refused(Refusal { number, place: 0 }));
     }
     if answers.len() < ANSWER_BYTES {
-        return Played::Fills(0, 0);
+        return Outcome::Plays(Played::Fills(0, 0));
     }
     state_write::clear(code, bodies, classes, state);
     play_sound(
@@ -84,8 +97,54 @@ fn play_passed(
         state,
         readings,
         allowance,
+        once,
         answers,
     )
+}
+
+// The first run, or as many as fit.
+pub fn go(
+    code: &[u8],
+    state: &mut [u8],
+    readings: &[u8],
+    allowance: u16,
+    once: bool,
+    answers: &mut [u8],
+) -> Outcome
+    ensures { λ r. ⌜ GoesOn once (now (code .entry)) (now (readings .entry)) allowance (now (state .entry)) (now (answers .entry)) (now (state .exit)) (now (answers .exit)) r ⌝ }
+{
+    let mut bodies = [0u32; MAX_BODIES];
+    let mut classes = [0u32; MAX_CLASSES];
+    match state_check::inspect(code, state, &mut bodies, &mut classes) {
+        Inspected::Refused(number, place) => Outcome::Plays(Played::Refused(Refusal {
+            number: number as u8,
+            place: place as u32,
+        })),
+        Inspected::Unsound => play_passed(
+            code,
+            &bodies,
+            &classes,
+            0,
+            false,
+            state,
+            readings,
+            allowance,
+            once,
+            answers,
+        ),
+        Inspected::Sound(base) => play_passed(
+            code,
+            &bodies,
+            &classes,
+            base,
+            true,
+            state,
+            readings,
+            allowance,
+            once,
+            answers,
+        ),
+    }
 }
 
 pub fn play(
@@ -98,34 +157,8 @@ pub fn play(
     ensures { λ r. ⌜ playOn (now (code .entry)) (now (state .entry)) (now (readings .entry)) allowance (now (answers .entry))
         ≡ played (playNumbers r) (now (state .exit)) (now (answers .exit)) ⌝ }
 {
-    let mut bodies = [0u32; MAX_BODIES];
-    let mut classes = [0u32; MAX_CLASSES];
-    match state_check::inspect(code, state, &mut bodies, &mut classes) {
-        Inspected::Refused(number, place) => Played::Refused(Refusal {
-            number: number as u8,
-            place: place as u32,
-        }),
-        Inspected::Unsound => play_passed(
-            code,
-            &bodies,
-            &classes,
-            0,
-            false,
-            state,
-            readings,
-            allowance,
-            answers,
-        ),
-        Inspected::Sound(base) => play_passed(
-            code,
-            &bodies,
-            &classes,
-            base,
-            true,
-            state,
-            readings,
-            allowance,
-            answers,
-        ),
+    match go(code, state, readings, allowance, false, answers) {
+        Outcome::Plays(p) => p,
+        Outcome::Happens(e, n) => Played::Fills(n, 0), // no play hands an event back
     }
 }

@@ -1,26 +1,17 @@
-// The run: 8, 9, 10, 11 in this order, then the machine.
+// The run: the first of a play. What refuses it: 8, 9, 10, 11 in this order.
+use crate::Played;
 use crate::Ran;
+use crate::plays::Outcome;
+use crate::plays::go;
 use formats::limits::*;
-use machine_run::Answer;
-use state_check::Inspected;
-use values::Refusal;
+use packing::ANSWER_BYTES;
 ghost use mathlib.Core.Path.{_≡_};
 ghost use mathlib.Core.Bool.{cond};
 ghost use lib.Dec.{eqb};
 ghost use lib.ListN.{length};
 ghost use Rattle.bytecode.specs.Lent.{runOn};
-ghost use Rattle.run.specs.Answers.{answerOf, ranOf};
-ghost use Rattle.run.specs.Order.{Seen};
-
-fn ran(a: Answer) -> Ran
-    ensures { λ r. ⌜ r ≡ ranOf a ⌝ }
-{
-    match a {
-        Answer::Happens(e, n) => Ran::Happens(e, n),
-        Answer::Spends(n) => Ran::Spends(n),
-        Answer::Finishes(c, n) => Ran::Finishes(c, n),
-    }
-}
+ghost use Rattle.run.specs.Answers.{answerOf};
+ghost use Rattle.run.specs.Once.{eventless};
 
 // The number by which a test refuses that does not hold; 0 where it holds.
 fn refusal_unless(holds: bool, number: u8) -> u8
@@ -45,57 +36,23 @@ pub fn refusal_of(sound: bool, readings: &[u8]) -> u8
     first_of(unsound, unread)
 }
 
-// Of a macro that passes. What a sound state does not use is made 0 first, so that the bytes after the run are those of the state alone.
-fn run_passed(
-    code: &[u8],
-    bodies: &[u32],
-    classes: &[u32],
-    base: usize,
-    sound: bool,
-    state: &mut [u8],
-    readings: &[u8],
-    allowance: u16,
-) -> Ran
-    requires { ⌜ Seen (now code) (now state) (now bodies) (now classes) base sound ⌝ }
-    ensures { λ r. ⌜ runOn (now (code .entry)) (now (state .entry)) (now (readings .entry)) allowance ≡ record { answer = answerOf r; bytes = now (state .exit) } ⌝ }
+fn ran(p: Played) -> Ran
+    ensures { λ r. ⌜ r ≡ eventless p ⌝ }
 {
-    let number = refusal_of(sound, readings);
-    if number != 0 {
-        return Ran::Refused(Refusal { number, place: 0 });
+    match p {
+        Played::Spends(n, k) => Ran::Spends(n),
+        Played::Finishes(c, n, k) => Ran::Finishes(c, n),
+        Played::Fills(n, k) => Ran::Spends(n), // with room for one event its run is made
+        Played::Refused(refusal) => Ran::Refused(refusal),
     }
-    state_write::clear(code, bodies, classes, state);
-    ran(machine_run::run_sound(code, bodies, classes, base, state, readings, allowance))
 }
 
 pub fn run(code: &[u8], state: &mut [u8], readings: &[u8], allowance: u16) -> Ran
     ensures { λ r. ⌜ runOn (now (code .entry)) (now (state .entry)) (now (readings .entry)) allowance ≡ record { answer = answerOf r; bytes = now (state .exit) } ⌝ }
 {
-    let mut bodies = [0u32; MAX_BODIES];
-    let mut classes = [0u32; MAX_CLASSES];
-    match state_check::inspect(code, state, &mut bodies, &mut classes) {
-        Inspected::Refused(number, place) => Ran::Refused(Refusal {
-            number: number as u8,
-            place: place as u32,
-        }),
-        Inspected::Unsound => run_passed(
-            code,
-            &bodies,
-            &classes,
-            0,
-            false,
-            state,
-            readings,
-            allowance,
-        ),
-        Inspected::Sound(base) => run_passed(
-            code,
-            &bodies,
-            &classes,
-            base,
-            true,
-            state,
-            readings,
-            allowance,
-        ),
+    let mut room = [0u8; ANSWER_BYTES]; // an event is let in only where there is room for it
+    match go(code, state, readings, allowance, true, &mut room) {
+        Outcome::Happens(e, n) => Ran::Happens(e, n),
+        Outcome::Plays(p) => ran(p),
     }
 }

@@ -1,8 +1,13 @@
 -- `run::plays::play_passed` meets its contract. Assumes nothing.
 use mathlib.Core.Path.{_≡_, _∙_}
+use Prim.Native.Nat.{ℕ}
+use native.Mathlib.Omega.{arith}
 use lib.ListN.{length}
 use denote.Ref.{now}
 use Rattle.words.specs.Laws.{Bytes}
+use Rattle.values.specs.Ends.{refusal}
+use Rattle.bytecode.specs.Runs.{refuses}
+use Rattle.bytecode.specs.Lent.{runOn}
 use Rattle.state_check.specs.Inspecting.{Held, Placed}
 use Rattle.run.proofs.Told as law
 use Rattle.run.proofs.Playing as play
@@ -28,18 +33,23 @@ tested p none =
     law.none-first (now (s .code)) (now (s .state)) (now (s .readings)) (s .allowance) (now (s .bodies)) (now (s .classes)) (s .base) (s .sound) (start-of p .pre) _
     (p .refusal-of .ensures) none
 
-returns : tie.Need-returns
-returns c =
-    let p = c .before in
+-- where 10 or 11 refuses, with whatever allowance
+refused : (p : tie.After-refusal-of) → (p .refusal-of .result ≡ 0 → ⊥) → (allowance : ℕ) →
     let s = start-of p .args in
-    play.play-refused _ _ _ _ _ _ _
-    (law.refused-first (now (s .code)) (now (s .state)) (now (s .readings)) 0 (now (s .bodies)) (now (s .classes)) (s .base) (s .sound) (start-of p .pre) _ (p .refusal-of .ensures) (c .if1 .taken))
+    runOn (now (s .code)) (now (s .state)) (now (s .readings)) allowance ≡ record { answer = refuses (refusal (p .refusal-of .result) 0); bytes = now (s .state) }
+refused p some allowance =
+    let s = start-of p .args in
+    law.refused-first (now (s .code)) (now (s .state)) (now (s .readings)) allowance (now (s .bodies)) (now (s .classes)) (s .base) (s .sound) (start-of p .pre) _
+    (p .refusal-of .ensures) some
+
+returns : tie.Need-returns
+returns c = (λ t h. refused (c .before) (c .if1 .taken) _, λ f. play.play-refused _ _ _ _ _ _ _ (refused (c .before) (c .if1 .taken) 0))
 
 returns-2 : tie.Need-returns-2
 returns-2 c =
     let p = c .before .before in
     let t = tested p (c .before .if1 .left) in
-    play.play-none _ _ _ _ _ (code-bytes p) (reading-bytes p) (t .0 .0) (t .1) (c .if2 .taken)
+    (λ once h. absurd (omega (arith, c .if2 .taken)), λ f. play.play-none _ _ _ _ _ (code-bytes p) (reading-bytes p) (t .0 .0) (t .1) (c .if2 .taken))
 
 clear-requires : tie.Need-clear-requires
 clear-requires c κs =
@@ -50,13 +60,14 @@ clear-requires c κs =
 play-sound-requires : tie.Need-play-sound-requires
 play-sound-requires c κs =
     let at-clear = c .before .before .before .before in
-    let at-if1 = at-clear .before .before .before in
+    let at-if2 = at-clear .before .before in
+    let at-if1 = at-if2 .before in
     let p = at-if1 .before in
     let s = start-of p .args in
     let t = tested p (at-if1 .if1 .left) in
     let stands =
     play.standing _ _ (now (s .readings)) (s .allowance) (now (s .answers)) (code-bytes p) (reading-bytes p) (t .0 .0) (t .1) _ (at-clear .clear .ensures) in
-    (law.found _ _ _ _ (code-bytes p) (t .0 .1), stands, t .1)
+    (law.found _ _ _ _ (code-bytes p) (t .0 .1), stands, t .1, at-if2 .if2 .left)
 
 returns-3 : tie.Need-returns-3
 returns-3 c =
@@ -66,7 +77,12 @@ returns-3 c =
     let at-if1 = at-if2 .before in
     let p = at-if1 .before in
     let t = tested p (at-if1 .if1 .left) in
-    play.play-runs _ _ _ _ _ (code-bytes p) (reading-bytes p) (t .0 .0) (t .1) _ (at-clear .clear .ensures) (at-if2 .if2 .left) ∙ at-play-sound .play-sound .ensures
+    let s = start-of p .args in
+    let own = at-clear .clear .ensures in
+    let goes = at-play-sound .play-sound .ensures in (
+      λ once h. play.run-own _ _ (now (s .readings)) (s .allowance) (now (s .answers)) (code-bytes p) (reading-bytes p) (t .0 .0) (t .1) _ own ∙ goes .0 once,
+      λ f. play.play-runs _ _ _ _ _ (code-bytes p) (reading-bytes p) (t .0 .0) (t .1) _ own (at-if2 .if2 .left) ∙ goes .1 f,
+    )
 
 pub play-passed-spec : {M : Type 1} → statement M
 play-passed-spec =
