@@ -3,7 +3,7 @@
 use mathlib.Core.Path.{_≡_, refl, ap, sym, _∙_}
 use mathlib.Core.Bool.{Bool, true, false, _&&_}
 use mathlib.Core.List.{List, [], _∷_, _++_}
-use Prim.Native.Nat.{ℕ, zero, suc, _+_, _*_, _/_, _%_, _≤_, _<_}
+use Prim.Native.Nat.{ℕ, zero, suc, _+_, _/_, _%_, _≤_, _<_}
 use native.Mathlib.Omega.{arith}
 use native.Mathlib.Nat.{add-zero}
 use lib.Dec.{eqb}
@@ -26,14 +26,14 @@ use Rattle.table_read.proofs.Steps.{under-whole}
 use Rattle.table_read.proofs.Roots.{walk-root-whole}
 use Rattle.table_read.specs.Filling.{Fills, noted}
 use Rattle.table_read.specs.Operands.{sorts, bodySort}
-use Rattle.table_read.specs.Walk.{moved, onward, chain, kindAt, nameAt, sizeAt, laidAt, standsAt, sortsOf, sortsAt, under, entered, admits, walk, isGlobal, tally, walkHead, walkBelow, walkRoot}
+use Rattle.table_read.specs.Walk.{moved, onward, chain, kindAt, nameAt, sizeAt, laidAt, standsAt, sortsOf, under, entered, admits, walk, isGlobal, tally, walkHead, walkBelow, walkRoot}
 
 -- ── how many operands an entry has ──
 either : (b : Bool) (x y : List Sort) {m n : ℕ} → length x ≡ m → length y ≡ n → length (if b then x else y) ≡ (if b then m else n)
 either true x y h k = h
 either false x y h k = k
 
-pub sorts-parts : (k a n : ℕ) → length (sorts k a n) ≡ parts k a n
+sorts-parts : (k a n : ℕ) → length (sorts k a n) ≡ parts k a n
 unfolding sorts parts
 sorts-parts k a n =
     either (eqb k 1) (replicate a Decl ++ replicate n Part) _ (simp (length-append, length-replicate))
@@ -74,7 +74,7 @@ both-span : (es : List Entry) (i j k m n : ℕ) → k ≡ span i es → m ≡ sp
 both-span es i j k m n h g e = omega (arith, span-then es i j, h, g, ap (λ (x : ℕ). span j (drop x es)) h)
 
 module _ (w : Sort → List Entry → Read) (h : (s : Sort) → Counts (w s)) where
-  pub chain-span : (ss : List Sort) (es : List Entry) (n : ℕ) → chain w ss es ≡ Tree n → n ≡ span (length ss) es
+  chain-span : (ss : List Sort) (es : List Entry) (n : ℕ) → chain w ss es ≡ Tree n → n ≡ span (length ss) es
   unfolding chain
   chain-span [] es n e = let z : n ≡ 0 = cc in z ∙ sym (span-zero es)
   chain-span (s ∷ ss) es n e =
@@ -83,7 +83,7 @@ module _ (w : Sort → List Entry → Read) (h : (s : Sort) → Counts (w s)) wh
       (λ k m p q z. both-span es 1 (length ss) k m n (h s es k p) (chain-span ss (drop k es) m q) z ∙ ap (λ (x : ℕ). span x es) l)
 
   -- an entry and its operands
-  pub below-span : (e : Entry) (es : List Entry) (n : ℕ) → chain w (sortsOf e) es ≡ Tree n → 1 + n ≡ span 1 (e ∷ es)
+  below-span : (e : Entry) (es : List Entry) (n : ℕ) → chain w (sortsOf e) es ≡ Tree n → 1 + n ≡ span 1 (e ∷ es)
   unfolding spanOf
   below-span e es n q =
       let k : n ≡ span (arity e) es = chain-span (sortsOf e) es n q ∙ ap (λ (x : ℕ). span x es) (sorts-parts (e .kind) (e .a) (natAbs (e .b))) in
@@ -98,13 +98,13 @@ module _ (w : Sort → List Entry → Read) (h : (s : Sort) → Counts (w s)) wh
       go true q = moved-tree 1 n (chain w (sortsOf f) es) q (λ m k z. z ∙ below-span f es m k)
       go false q = clash (cc)
 
-pub walk-span : (d : ℕ) (s : Sort) → Counts (walk d s)
+walk-span : (d : ℕ) (s : Sort) → Counts (walk d s)
 unfolding walk
 walk-span zero s es n e = clash (let z : Fault 0 ≡ Tree n = e in cc)
 walk-span (suc d) s es n e = entered-span (λ t x. walk d t x) (walk-span d) (admits s) es n e
 
 -- ── the root ──
-pub head-span : (m c p : ℕ) (es : List Entry) (n : ℕ) → walkHead m c p es ≡ Tree n → n ≡ span m es
+head-span : (m c p : ℕ) (es : List Entry) (n : ℕ) → walkHead m c p es ≡ Tree n → n ≡ span m es
 unfolding walkHead
 head-span zero c p es n e = let z : n ≡ 0 = cc in z ∙ sym (span-zero es)
 head-span (suc m) c p es n e =
@@ -120,7 +120,7 @@ below-root a b es n e =
     (λ k m p q z. both-span es a b k m n (head-span a 0 0 es k p)
     (chain-span (walk 63) (walk-span 63) (replicate b Part) (drop k es) m q ∙ ap (λ (x : ℕ). span x (drop k es)) (length-replicate b Part)) z)
 
-pub root-span : (es : List Entry) (n : ℕ) → standsAt 1 es ≡ true → walkBelow (nameAt es) (sizeAt es) (drop 1 es) ≡ Tree n → 1 + n ≡ span 1 es
+root-span : (es : List Entry) (n : ℕ) → standsAt 1 es ≡ true → walkBelow (nameAt es) (sizeAt es) (drop 1 es) ≡ Tree n → 1 + n ≡ span 1 es
 unfolding spanOf parts
 root-span [] n s e = clash (let z : false ≡ true = s in cc)
 root-span (f ∷ es) n s e =

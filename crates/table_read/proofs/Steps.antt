@@ -28,7 +28,7 @@ use Rattle.table_entries.specs.Sizes.{Sized, sized-none, sized-then}
 use Rattle.table_read.specs.Filling.{Fills}
 
 -- no answer counts more entries than there are bytes for
-pub walk-fits : (d : ℕ) (s : Sort) (l : List ℕ) {x : Read} → x ≡ walk d s (entriesOf l) → 8 * counted x ≤ length l
+walk-fits : (d : ℕ) (s : Sort) (l : List ℕ) {x : Read} → x ≡ walk d s (entriesOf l) → 8 * counted x ≤ length l
 walk-fits d s l e = rw e (omega (arith, ends-count (walks d s .ends (entriesOf l)), entries-length l))
 
 -- ── answers ──
@@ -59,15 +59,15 @@ pub chain-fits : (d : ℕ) (ss : List Sort) (l : List ℕ) {x : Read} → x ≡ 
 chain-fits d ss l e = rw e (omega (arith, chain-count d ss (entriesOf l), entries-length l))
 
 module _ (w : Sort → List Entry → Read) (ss : List Sort) (i : ℕ) (es : List Entry) where
-  pub chain-step : {k : ℕ} {x : Read} → i < length ss → x ≡ w (getD ss i Expr) es → x ≡ Tree k → chain w (drop i ss) es ≡ moved k (chain w (drop (i + 1) ss) (drop k es))
+  chain-step : {k : ℕ} {x : Read} → i < length ss → x ≡ w (getD ss i Expr) es → x ≡ Tree k → chain w (drop i ss) es ≡ moved k (chain w (drop (i + 1) ss) (drop k es))
   unfolding chain
   chain-step h e p = rw (add-one, drop-cons ss i Expr h, sym e ∙ p)
 
-  pub chain-stop : {p : ℕ} {x : Read} → i < length ss → x ≡ w (getD ss i Expr) es → x ≡ Fault p → chain w (drop i ss) es ≡ Fault p
+  chain-stop : {p : ℕ} {x : Read} → i < length ss → x ≡ w (getD ss i Expr) es → x ≡ Fault p → chain w (drop i ss) es ≡ Fault p
   unfolding chain
   chain-stop h e p = rw (drop-cons ss i Expr h, sym e ∙ p)
 
-  pub chain-end : i ≡ length ss → chain w (drop i ss) es ≡ Tree 0
+  chain-end : i ≡ length ss → chain w (drop i ss) es ≡ Tree 0
   unfolding chain
   chain-end h = rw (h, drop-length ss)
 
@@ -128,7 +128,7 @@ admitted-laid d s es h e = rw (lt-ltb 0 d (omega arith), e) (plain (laidAt es))
     plain true = refl
     plain false = refl
 
-pub admitted-here : (d : ℕ) (s : Sort) (l : List ℕ) → admittedAt d s (entriesOf l) ≡ true → (0 < d) × (8 ≤ length l)
+admitted-here : (d : ℕ) (s : Sort) (l : List ℕ) → admittedAt d s (entriesOf l) ≡ true → (0 < d) × (8 ≤ length l)
 admitted-here d s l t =
     let laid = laidAt (entriesOf l) in
     let kind = admits s (kindAt (entriesOf l)) in
@@ -137,12 +137,12 @@ admitted-here d s l t =
 deep : (m : ℕ) (s : Sort) (es : List Entry) → admittedAt (suc m) s es ≡ (laidAt es && admits s (kindAt es))
 deep m s es = rw (lt-ltb 0 (suc m) (omega arith))
 
-pub walk-refused : (d : ℕ) (s : Sort) (es : List Entry) → admittedAt d s es ≡ false → walk d s es ≡ Fault 0
+walk-refused : (d : ℕ) (s : Sort) (es : List Entry) → admittedAt d s es ≡ false → walk d s es ≡ Fault 0
 unfolding walk entered
 walk-refused zero s es e = refl
 walk-refused (suc m) s es e = rw (sym (deep m s es) ∙ e)
 
-pub walk-admitted : (d : ℕ) (s : Sort) (es : List Entry) → admittedAt d s es ≡ true → walk d s es ≡ under (walk (d - 1)) es
+walk-admitted : (d : ℕ) (s : Sort) (es : List Entry) → admittedAt d s es ≡ true → walk d s es ≡ under (walk (d - 1)) es
 unfolding walk entered
 walk-admitted zero s es e = clash (let z : false ≡ true = e in cc)
 walk-admitted (suc m) s es e = let h : suc m - 1 ≡ m = omega arith in rw (h, sym (deep m s es) ∙ e)

@@ -49,9 +49,9 @@ number-all-requires c κs =
 
 write-requires : tie.Need-write-requires
 write-requires c κs =
-    let at-known = c .before .before .before .before .before .before .before .before .before .before .before .before .before .before .before .before .before .before .before .before .before .before .before in
     let at-number-all = c .before .before .before .before .before .before .before .before in
     let at-enter-root = at-number-all .before .before .before .before in
+    let at-known = at-enter-root .before .before .before .before .before .before .before .before .before .before .before in
     (compile-write (at-known .before .pre) (bytes-of at-known) (counted-of (at-enter-root .before .before)) (at-enter-root .enter-root .ensures) (at-number-all .number-all .ensures), omega arith)
 
 pub compile-accepted-spec : {M : Type 1} → statement M

@@ -34,7 +34,8 @@ compile-accepted-requires c κs =
 
 same-length : tie.Need-same-length
 same-length c =
-    let at-check-in = c .before .before .before .before .before .before .before .before .before .before .before .before .before .before .before .before .before .before .before .before .before .before .before in
+    let at-compile-accepted = c .before .before .before .before .before .before .before .before .before .before in
+    let at-check-in = at-compile-accepted .before .before .before .before .before .before .before .before .before .before .before .before .before in
     at-check-in .check-in .kept .1 .0
 
 same-length-2 : tie.Need-same-length-2

@@ -6,7 +6,6 @@ use borrow.Author.Needs.{needs}
 use borrow.Author.Tests.{not-true, not-false}
 use lib.ListN.{length, drop, length-drop}
 use Rattle.language_laws.specs.Claims.{entriesOf}
-use Rattle.table_read.specs.declared.Read.the-variants.{Tree, Fault}
 use Rattle.table_read.specs.Operands.{sorts, isLeaf}
 use Rattle.table_read.specs.Walk.{counted, chain, kindAt, nameAt, sizeAt, walk}
 use Rattle.table_read.specs.Filling.{Fills}
@@ -149,8 +148,11 @@ operands-meets t = operands-lts.spec (operands-claims t) (operands-at t) operand
     -- enum-known-k
     (λ c. search needs)
     -- mul-at
-    (λ c. omega (arith, read-fits t (c .before .before .before .before .before) (ap counted (c .before .k .given .1)),
-    c .before .before .before .before .before .before .before .before .before .before .before .loop .inv .0 .long))
+    (λ c. omega (
+      arith,
+      read-fits t (c .before .before .before .before .before) (ap counted (c .before .k .given .1)),
+      c .before .before .before .before .before .before .before .before .before .before .before .loop .inv .0 .long,
+    ))
     -- sub-rest
     (λ c. omega (arith, read-fits t (c .before .before .before .before .before) (ap counted (c .before .k .given .1))))
     -- part-rest-start
@@ -158,8 +160,11 @@ operands-meets t = operands-lts.spec (operands-claims t) (operands-at t) operand
     -- part-rest-end
     (λ c. search needs)
     -- add-passed
-    (λ c. omega (arith, read-fits t (c .before .before .before .before .before .before) (ap counted (c .before .before .k .given .1)),
-    c .before .before .before .before .before .before .before .before .before .before .before .before .loop .inv .0 .long))
+    (λ c. omega (
+      arith,
+      read-fits t (c .before .before .before .before .before .before) (ap counted (c .before .before .k .given .1)),
+      c .before .before .before .before .before .before .before .before .before .before .before .before .loop .inv .0 .long,
+    ))
     -- add-i
     (λ c. search needs)
     -- loop-less
@@ -180,8 +185,11 @@ operands-meets t = operands-lts.spec (operands-claims t) (operands-at t) operand
     -- enum-known-p
     (λ c. search needs)
     -- add-t26
-    (λ c. omega (arith, read-fits t (c .before .before .before .before .before) (ap counted (c .before .p .given .1)),
-    c .before .before .before .before .before .before .before .before .before .before .before .loop .inv .0 .long))
+    (λ c. omega (
+      arith,
+      read-fits t (c .before .before .before .before .before) (ap counted (c .before .p .given .1)),
+      c .before .before .before .before .before .before .before .before .before .before .before .loop .inv .0 .long,
+    ))
     -- same-length-2
     (λ c. c .before .before .before .before .before .read-entry .kept .1 .1 .0 ∙ c .before .before .before .before .before .before .before .before .before .before .before .loop .inv .1)
     -- returns-2
@@ -192,9 +200,11 @@ operands-meets t = operands-lts.spec (operands-claims t) (operands-at t) operand
     let at-sort-of = at-admitted .before in
     let at-loop = at-sort-of .before .before in
     let at-start = at-loop .before .before .before .before in
-    let less : at-loop .loop .i < length (sorts (at-start .args .kind) (at-start .args .a) (at-start .args .n)) = omega arith in
-    (passed-stop (at-loop .loop .inv .0) less (at-sort-of .sort-of .ensures) (at-admitted .admitted .ensures) (not-false _ (at-if1 .if1 .left)) (at-read-entry .read-entry .ensures .0)
-    (c .before .p .given .1), tt))
+    let less : at-loop .loop .i < length (sorts (at-start .args .kind) (at-start .args .a) (at-start .args .n)) = omega arith in (
+      passed-stop (at-loop .loop .inv .0) less (at-sort-of .sort-of .ensures) (at-admitted .admitted .ensures) (not-false _ (at-if1 .if1 .left)) (at-read-entry .read-entry .ensures .0)
+          (c .before .p .given .1),
+      tt,
+    ))
     -- same-length-3
     (λ c. c .before .loop .inv .1)
     -- returns-3

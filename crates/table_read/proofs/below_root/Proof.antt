@@ -1,9 +1,9 @@
 -- `table_read::below_root` meets its contract. Assumes nothing.
-use mathlib.Core.Path.{_≡_, sym, ap, _∙_}
-use Prim.Native.Nat.{ℕ, _+_, _*_}
+use mathlib.Core.Path.{sym, ap, _∙_}
+use Prim.Native.Nat.{_*_}
 use native.Mathlib.Omega.{arith}
 use borrow.Author.Needs.{needs}
-use lib.ListN.{length, drop, length-drop}
+use lib.ListN.{drop, length-drop}
 use Rattle.language_laws.specs.Claims.{entriesOf}
 use Rattle.table_entries.specs.Entries.{entries-rest, rest as back}
 use Rattle.table_read.specs.declared.Read.the-variants.{Tree}
@@ -47,9 +47,18 @@ operands-requires c κs =
     let at-k = c .before .before .before in
     let at-read-head = at-k .before .before .before .before in
     let at-start = at-read-head .before .before .before .before in
-    let k = at-k .k .given .0 .0 in
-    (rw (back (8 * k) (at-start .args .part .now)) (omega (arith, head-fits (at-start .args .a) (at-start .args .part .now) (at-read-head .read-head .ensures .0), ap counted
-    (at-k .k .given .1), length-drop (8 * k) (at-start .args .part .now), at-start .pre .0, at-read-head .read-head .kept .1 .0)), omega (arith, at-start .pre .1, at-read-head .read-head .kept .1 .0))
+    let k = at-k .k .given .0 .0 in (
+      rw (back (8 * k) (at-start .args .part .now)) (omega (
+        arith,
+        head-fits (at-start .args .a) (at-start .args .part .now) (at-read-head .read-head .ensures .0),
+        ap counted
+            (at-k .k .given .1),
+        length-drop (8 * k) (at-start .args .part .now),
+        at-start .pre .0,
+        at-read-head .read-head .kept .1 .0,
+      )),
+      omega (arith, at-start .pre .1, at-read-head .read-head .kept .1 .0),
+    )
 
 later-requires : tie.Need-later-requires
 later-requires c κs =
@@ -57,9 +66,11 @@ later-requires c κs =
     let at-read-head = at-k .before .before .before .before in
     let at-start = at-read-head .before .before .before .before in
     let k = at-k .k .given .0 .0 in
-    let fits = chain-fits 63 (sorts 1 0 (at-start .args .n)) (drop (8 * k) (at-start .args .part .now)) (rw (back (8 * k) (at-start .args .part .now)) at (c .before .before .operands .ensures .0)) in
-    (omega (arith, head-fits (at-start .args .a) (at-start .args .part .now) (at-read-head .read-head .ensures .0), ap counted (at-k .k .given .1), at-start .pre .0, at-start .pre .1), omega
-    (arith, fits, length-drop (8 * k) (at-start .args .part .now), at-start .pre .0, at-start .pre .1))
+    let fits = chain-fits 63 (sorts 1 0 (at-start .args .n)) (drop (8 * k) (at-start .args .part .now)) (rw (back (8 * k) (at-start .args .part .now)) at (c .before .before .operands .ensures .0)) in (
+      omega (arith, head-fits (at-start .args .a) (at-start .args .part .now) (at-read-head .read-head .ensures .0), ap counted (at-k .k .given .1), at-start .pre .0, at-start .pre .1),
+      omega
+          (arith, fits, length-drop (8 * k) (at-start .args .part .now), at-start .pre .0, at-start .pre .1),
+    )
 
 same-length : tie.Need-same-length
 same-length c =

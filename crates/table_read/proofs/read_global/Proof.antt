@@ -1,10 +1,9 @@
 -- `table_read::read_global` meets its contract. Assumes nothing.
-use mathlib.Core.Path.{_≡_, sym, ap, _∙_}
-use mathlib.Core.Bool.{true}
+use mathlib.Core.Path.{sym, ap, _∙_}
 use borrow.Author.Needs.{needs}
 use borrow.Author.Tests.{not-true, not-false}
 use Rattle.language_laws.specs.Claims.{entriesOf}
-use Rattle.table_read.specs.Walk.{laidAt, isGlobal, walk}
+use Rattle.table_read.specs.Walk.{isGlobal, walk}
 use Rattle.table_read.proofs.Parts.{laid-here}
 use Rattle.table_read.proofs.Steps.{entered-unlaid, entered-other, entered-whole}
 use Rattle.table_read.proofs.read_global.Statement.{statement}

@@ -70,11 +70,11 @@ add-procedures c =
 loop-again : tie.Need-loop-again Inv-loop μ-loop
 loop-again c = (
   declared-next (c .before .before .before .before .before .before .before .before .before .before .before .before .loop .inv .0) (omega arith)
-    (c .before .before .before .before .before .before .before .before .before .read-global .ensures .0) (c .before .before .before .before .before .k .given .1)
-    (c .before .before .before .before .before .before .before .before .before .read-global .ensures .1)
+      (c .before .before .before .before .before .before .before .before .before .read-global .ensures .0) (c .before .before .before .before .before .k .given .1)
+      (c .before .before .before .before .before .before .before .before .before .read-global .ensures .1)
       (c .before .before .before .kind-of .ensures) (c .before .tally .ensures) (c .tally2 .ensures),
   c .before .before .before .before .before .before .before .before .before .read-global .kept .1 .1 .0
-    ∙ c .before .before .before .before .before .before .before .before .before .before .before .before .loop .inv .1,
+      ∙ c .before .before .before .before .before .before .before .before .before .before .before .before .loop .inv .1,
 )
 
 add-t21 : tie.Need-add-t21 Inv-loop μ-loop
@@ -89,8 +89,11 @@ same-length c =
     at-read-global .read-global .kept .1 .1 .0 ∙ at-loop .loop .inv .1
 
 returns : tie.Need-returns Inv-loop μ-loop
-returns c = (declared-stop (c .before .before .before .before .before .before .before .before .loop .inv .0) (omega arith)
-    (c .before .before .before .before .before .read-global .ensures .0) (c .before .p .given .1), tt)
+returns c = (
+  declared-stop (c .before .before .before .before .before .before .before .before .loop .inv .0) (omega arith)
+      (c .before .before .before .before .before .read-global .ensures .0) (c .before .p .given .1),
+  tt,
+)
 
 same-length-2 : tie.Need-same-length-2 Inv-loop μ-loop
 same-length-2 c = c .before .loop .inv .1

@@ -1,9 +1,9 @@
 -- `table_read::read_root` meets its contract. Assumes nothing.
-use mathlib.Core.Path.{_≡_, sym, _∙_}
+use mathlib.Core.Path.{sym, _∙_}
 use native.Mathlib.Omega.{arith}
 use borrow.Author.Needs.{needs}
 use borrow.Author.Tests.{not-true, not-false}
-use lib.ListN.{length, drop, length-drop}
+use lib.ListN.{drop, length-drop}
 use Rattle.language_laws.specs.Claims.{entriesOf}
 use Rattle.table_entries.specs.Entries.{entries-rest, rest as back}
 use Rattle.table_read.proofs.Parts.{stands-here}
@@ -42,9 +42,16 @@ below-root-requires : tie.Need-below-root-requires
 below-root-requires c κs =
     let at-if1 = c .before .before .before .before in
     let at-stands = at-if1 .before in
-    let at-start = at-stands .before .before .before in
-    (rw (back 8 (at-start .args .part .now)) (omega (arith, length-drop 8 (at-start .args .part .now), stands-here 1 (at-start .args .part .now)
-    (sym (at-stands .stands .ensures) ∙ not-false _ (at-if1 .if1 .left)), at-start .pre .0)), at-start .pre .1)
+    let at-start = at-stands .before .before .before in (
+      rw (back 8 (at-start .args .part .now)) (omega (
+        arith,
+        length-drop 8 (at-start .args .part .now),
+        stands-here 1 (at-start .args .part .now)
+            (sym (at-stands .stands .ensures) ∙ not-false _ (at-if1 .if1 .left)),
+        at-start .pre .0,
+      )),
+      at-start .pre .1,
+    )
 
 whole-requires : tie.Need-whole-requires
 whole-requires c κs =
@@ -55,9 +62,10 @@ whole-requires c κs =
     let at-stands = at-if1 .before in
     let at-start = at-stands .before .before .before in
     let fits = below-fits (at-name-of .name-of .result) (at-size-of .size-of .result) (drop 8 (at-start .args .part .now))
-    (rw (back 8 (at-start .args .part .now)) at (at-below-root .below-root .ensures .0)) in
-    (omega (arith, stands-here 1 (at-start .args .part .now) (sym (at-stands .stands .ensures) ∙ not-false _ (at-if1 .if1 .left)), at-start .pre .0, at-below-root .below-root .kept .1 .0),
-    omega (arith, fits, length-drop 8 (at-start .args .part .now), at-start .pre .0, at-start .pre .1))
+    (rw (back 8 (at-start .args .part .now)) at (at-below-root .below-root .ensures .0)) in (
+      omega (arith, stands-here 1 (at-start .args .part .now) (sym (at-stands .stands .ensures) ∙ not-false _ (at-if1 .if1 .left)), at-start .pre .0, at-below-root .below-root .kept .1 .0),
+      omega (arith, fits, length-drop 8 (at-start .args .part .now), at-start .pre .0, at-start .pre .1),
+    )
 
 same-length : tie.Need-same-length
 same-length c =

@@ -1,5 +1,5 @@
 -- `table_read::read_table` meets its contract. Assumes nothing.
-use mathlib.Core.Path.{_≡_, sym, _∙_}
+use mathlib.Core.Path.{sym, _∙_}
 use native.Mathlib.Omega.{arith}
 use borrow.Author.Needs.{needs}
 use Rattle.language_laws.specs.Claims.{entriesOf}
@@ -39,12 +39,11 @@ returns-4 c =
     let at-if3 = at-read-root .before .before in
     let at-if2 = at-if3 .before in
     let at-if1 = at-if2 .before in
-    let at-start = at-if1 .before .before .before in
-    (
-  rw (table-shaped (at-start .args .table .now) (at-if1 .if1 .left) (at-if2 .if2 .left) (at-if3 .if3 .left))
-    (one-tree (entriesOf (at-start .args .table .now)) (at-read-root .read-root .ensures .0) (at-n .n .given .1) (c .if4 .taken ∙ sym (entries-length (at-start .args .table .now)))),
-  sized-known (rw (at-n .n .given .1) at (at-read-root .read-root .ensures .1)) (c .if4 .taken) (omega (arith, at-start .pre .0 (at-if2 .if2 .left), at-read-root .read-root .kept .1 .0)),
-)
+    let at-start = at-if1 .before .before .before in (
+      rw (table-shaped (at-start .args .table .now) (at-if1 .if1 .left) (at-if2 .if2 .left) (at-if3 .if3 .left))
+          (one-tree (entriesOf (at-start .args .table .now)) (at-read-root .read-root .ensures .0) (at-n .n .given .1) (c .if4 .taken ∙ sym (entries-length (at-start .args .table .now)))),
+      sized-known (rw (at-n .n .given .1) at (at-read-root .read-root .ensures .1)) (c .if4 .taken) (omega (arith, at-start .pre .0 (at-if2 .if2 .left), at-read-root .read-root .kept .1 .0)),
+    )
 
 same-length-2 : tie.Need-same-length-2
 same-length-2 c =
@@ -57,10 +56,12 @@ returns-5 c =
     let at-if3 = at-read-root .before .before in
     let at-if2 = at-if3 .before in
     let at-if1 = at-if2 .before in
-    let at-start = at-if1 .before .before .before in
-    (rw (table-shaped (at-start .args .table .now) (at-if1 .if1 .left) (at-if2 .if2 .left) (at-if3 .if3 .left))
-    (more-entries (entriesOf (at-start .args .table .now)) (at-read-root .read-root .ensures .0) (c .before .before .n .given .1)
-    (λ e. c .if4 .left (e ∙ entries-length (at-start .args .table .now)))), tt)
+    let at-start = at-if1 .before .before .before in (
+      rw (table-shaped (at-start .args .table .now) (at-if1 .if1 .left) (at-if2 .if2 .left) (at-if3 .if3 .left))
+          (more-entries (entriesOf (at-start .args .table .now)) (at-read-root .read-root .ensures .0) (c .before .before .n .given .1)
+          (λ e. c .if4 .left (e ∙ entries-length (at-start .args .table .now)))),
+      tt,
+    )
 
 same-length-3 : tie.Need-same-length-3
 same-length-3 c =
@@ -73,9 +74,11 @@ returns-6 c =
     let at-if3 = at-read-root .before .before in
     let at-if2 = at-if3 .before in
     let at-if1 = at-if2 .before in
-    let at-start = at-if1 .before .before .before in
-    (rw (table-shaped (at-start .args .table .now) (at-if1 .if1 .left) (at-if2 .if2 .left) (at-if3 .if3 .left))
-    (no-tree (entriesOf (at-start .args .table .now)) (at-read-root .read-root .ensures .0) (c .before .p .given .1)), tt)
+    let at-start = at-if1 .before .before .before in (
+      rw (table-shaped (at-start .args .table .now) (at-if1 .if1 .left) (at-if2 .if2 .left) (at-if3 .if3 .left))
+          (no-tree (entriesOf (at-start .args .table .now)) (at-read-root .read-root .ensures .0) (c .before .p .given .1)),
+      tt,
+    )
 
 pub read-table-spec : {M : Type 1} → statement M
 read-table-spec =

@@ -1,7 +1,7 @@
 -- `table_read::whole` meets its contract. Assumes nothing.
 use borrow.Author.Needs.{needs}
 use native.Mathlib.Omega.{arith}
-use mathlib.Core.Path.{_≡_, refl}
+use mathlib.Core.Path.{refl}
 use Rattle.table_read.proofs.whole.Statement.{statement}
 use Rattle.table_read.proofs.whole.Tie as tie
 
