@@ -66,7 +66,8 @@ later-requires c κs =
     let at-read-head = at-k .before .before .before .before in
     let at-start = at-read-head .before .before .before .before in
     let k = at-k .k .given .0 .0 in
-    let fits = chain-fits 63 (sorts 1 0 (at-start .args .n)) (drop (8 * k) (at-start .args .part .now)) (rw (back (8 * k) (at-start .args .part .now)) at (c .before .before .operands .ensures .0)) in (
+    let part = at-start .args .part .now in
+    let fits = chain-fits 63 (sorts 1 0 (at-start .args .n)) (drop (8 * k) part) (rw (back (8 * k) part) at (c .before .before .operands .ensures .0)) in (
       omega (arith, head-fits (at-start .args .a) (at-start .args .part .now) (at-read-head .read-head .ensures .0), ap counted (at-k .k .given .1), at-start .pre .0, at-start .pre .1),
       omega
           (arith, fits, length-drop (8 * k) (at-start .args .part .now), at-start .pre .0, at-start .pre .1),
