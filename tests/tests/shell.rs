@@ -1,21 +1,14 @@
 //! A desk's shell in C (shell.c) over include/desk.h and the static library: compiled without a warning, it takes a table through check,
-//! compile, start and play and prints what paper 01 lists. And the stack that the header says is enough.
+//! compile, start and play and prints what paper 01 lists.
 #![cfg(desk)]
 
 use std::io::Write;
 use std::path::{Path, PathBuf};
 use std::process::{Command, Stdio};
 
-use second::evaluator::answer::{Answer, Event, Refusal};
 use second::evaluator::code::{write_macro, Macro};
-use second::evaluator::state::LENGTH;
 use second::generate::edge_cases::endless_counter;
 use second::generate::notation::{root_only, table, LISTING_EXAMPLE};
-use second::harness::desk;
-use second::plain;
-
-/// The stack that cue_compile is given, in bytes: what include/desk.h says is enough.
-const COMPILE_STACK: usize = 230_000;
 
 /// The shell, compiled for this test alone.
 fn compiled(name: &str) -> PathBuf {
@@ -99,54 +92,4 @@ fn one_call_a_frame() {
     // so many frames and no more
     let (first, _) = printed(&frames, &["1"], &table);
     assert!(text.starts_with(&first) && first.lines().filter(|line| line.starts_with("frame")).count() == 1, "{first}");
-}
-
-/// On a thread with this much stack; where it is not enough, this process ends.
-fn on_stack(bytes: usize, work: impl FnOnce() -> u64 + Send) -> u64 {
-    // what a thread takes for itself, measured as 5,000
-    const THREAD: usize = 8_192;
-    std::thread::scope(|scope| {
-        let small = std::thread::Builder::new().stack_size(bytes + THREAD);
-        small.spawn_scoped(scope, work).unwrap().join().unwrap()
-    })
-}
-
-/// Tables 64 deep, or as deep as a body's limits allow, by each of the entries that may stand in themselves.
-fn deepest_tables() -> Vec<Vec<u8>> {
-    let set = |around: &str, behind: &str| format!("1 0 1, 28 0 0, 40 0 1, {}40 0 5{}", around.repeat(61), behind.repeat(61));
-    let tables = [
-        format!("1 0 1 {}, 1 0 0", ", 22 0 0, 41 0 1".repeat(62)),
-        format!("1 0 1 {}, 1 0 0", ", 23 0 0, 41 0 1".repeat(62)) + &", 1 0 0".repeat(62),
-        format!("1 0 1 {}, 1 0 0", ", 30 1 0, 40 0 1".repeat(31)),
-        format!("{} 1 0 0", "1 0 1, ".repeat(63)),
-        set("48 20 0, ", ""),
-        set("49 1 0, ", ", 40 0 1"),
-        format!("1 0 1, 26 0 0, {}41 0 1{}", "50 0 0, ".repeat(61), ", 41 0 1, 41 0 1".repeat(61)),
-        set("53 0 0, ", ""),
-        set("45 1 1, ", "").replacen("1 0 1", "1 1 1, 12 1 257, 10 2 1, 44 2 0", 1),
-    ];
-    tables.iter().map(|text| table(text)).collect()
-}
-
-/// As much stack as include/desk.h says is enough: also for the deepest table, and for a state of wrong length.
-#[test]
-fn stack_as_the_header_says() {
-    let code = write_macro(&endless_counter(40_000));
-    let held = Answer::Event { steps: 1, event: Event::Hold { group: 9 } }.packed();
-    let unsound = Answer::Refusal(Refusal { number: 10, place: 0 }).packed();
-    let mut state = vec![0; LENGTH];
-    let ifs = table(&format!("1 0 1 {}, 1 0 0", ", 22 0 0, 41 0 1".repeat(62)));
-    assert_eq!(on_stack(110_000, || desk::check(&ifs)), 1);
-    for deepest in deepest_tables() {
-        let mut out = vec![0; 65_536];
-        let length = plain::compiler::compile(&deepest, &mut out).unwrap();
-        assert_eq!(on_stack(COMPILE_STACK, || desk::compile(&deepest, &mut out)), 1 + ((length as u64) << 40));
-    }
-    assert_eq!(on_stack(265_000, || desk::load(&code)), 1);
-    assert_eq!(on_stack(265_000, || desk::start(&code, &mut state)), 1);
-    assert_eq!(on_stack(290_000, || desk::run(&code, &mut state, &[0; 64], 9)), held);
-    assert_eq!(on_stack(290_000, || desk::run(&code, &mut state[1..], &[0; 64], 9)), unsound);
-    assert_eq!(on_stack(290_000, || desk::play(&code, &mut state[1..], &[0; 64], 9, &mut [0; 800])), unsound);
-    desk::start(&code, &mut state);
-    assert_eq!(desk::unpacked(on_stack(290_000, || desk::play(&code, &mut state, &[0; 64], 9, &mut [0; 800]))), [2, 9, 0, 1]);
 }

@@ -8,5 +8,7 @@ pub mod desk;
 #[cfg(desk)]
 mod guarded_memory;
 pub mod listings;
+#[cfg(desk)]
+pub mod painted_stack;
 pub mod setup;
 pub mod verdicts;
