@@ -1,12 +1,12 @@
 -- The records of a compiled macro and how they are read (refusal 8). (paper 01, Compiled macro)
-use mathlib.Core.Bool.{Bool, not, _&&_}
+use mathlib.Core.Bool.{Bool, true, _&&_}
 use mathlib.Core.List.{List, [], _∷_, reverse}
 use mathlib.Core.Option.{Option, none, some}
 use Prim.Native.Nat.{ℕ, zero, suc, _-_}
 use lib.Dec.{eqb, leb, ltb}
 use lib.ListN.{length, drop}
 use Rattle.logic.specs.Choice.{if_then_else_}
-use Rattle.logic.specs.Options.{isSome, keep}
+use Rattle.logic.specs.Options.{keep}
 use Rattle.words.specs.Numbers.{byteAt, halfAt, wordAt}
 use Rattle.values.specs.Types.{Ty, integer, logical, bits, reference}
 use Rattle.values.specs.Ends.{refusal, Judged, accepted, refused}
@@ -121,16 +121,20 @@ readCode before l =
     then some (cut (record { op = byteAt l 2; a = byteAt l 3; b = wordAt l 4 }) (drop codeLength l))
     else none
 
--- the shape given for an address, the first there is
+-- the shape given for an address
 unfoldable pub shapeIn : List Placed → ℕ → Option Shape
 shapeIn [] i = none
 shapeIn (p ∷ ps) i = if eqb (p .address) i then some (p .found) else shapeIn ps i
 
--- "no address has two SH"
+-- "by rising address", strictly (M24)
+abbrev pub follows : List Placed → ℕ → Bool
+follows [] a = true
+follows (p ∷ ps) a = ltb (p .address) a
+
 unfoldable pub readShape : ℕ → ℕ → List Placed → List ℕ → Option (Cut Placed)
 readShape classes instructions before l =
     let at = halfAt l 2 in
-    if marked 83 72 shapeLength l && (ltb at instructions && not (isSome (shapeIn before at)))
+    if marked 83 72 shapeLength l && (ltb at instructions && follows before at)
     then keep (readTypes classes (byteAt l 5) (drop shapeLength l)) (λ c.
     some (cut (record { address = at; found = shape (byteAt l 4) (reverse (c .value)) }) (c .rest)))
     else none
@@ -161,7 +165,7 @@ unfoldable pub readEnd : {A : Type 0} → A → ℕ → List ℕ → Parsed A
 readEnd x i l =
     if marked 90 90 endLength l then (if eqb (length l) endLength then parsed x (suc i) [] else unread (suc i)) else unread i
 
--- "Order: HD, CL, BD, IN by address, SH in any order, ZZ"
+-- "Order: HD, CL, BD, IN by address, SH by address, ZZ"
 unfoldable pub parseMacro : List ℕ → Parsed Macro
 parseMacro l =
     let classes = byteAt l 2 in let instructions = halfAt l 4 in

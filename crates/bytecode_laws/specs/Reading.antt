@@ -8,28 +8,24 @@ use native.Mathlib.Omega.{arith}
 use lib.Dec.{eqb, leb, ltb}
 use lib.ListN.{length, getElem?, drop, length-reverse}
 use lib.Seq.{getD-drop}
-use borrow.Author.Tests.{eqb-true, eqb-false, leb-true, ltb-true, not-true}
-use Rattle.logic.specs.Options.{keep, isSome}
+use borrow.Author.Tests.{eqb-true, leb-true, ltb-true}
+use Rattle.logic.specs.Options.{keep}
 use Rattle.logic.specs.Choice.{if_then_else_}
 use Rattle.words.specs.Numbers.{byteAt, halfAt, wordAt}
 use Rattle.words.specs.Laws.{Bytes, two, four, number-below}
 use Rattle.values.specs.Types.{Ty, integer, logical, bits, reference}
 use Rattle.values.specs.Ends.{accepted}
-use Rattle.bytecode.specs.Macro.{Body, Code, shape, Placed, Macro, Cut, cut, marked, tyOfByte, readTypes, readClass, readResult, rises, readBody, readCode, shapeIn}
+use Rattle.bytecode.specs.Macro.{Body, Code, shape, Placed, Macro, Cut, cut, marked, tyOfByte, readTypes, readClass, readResult, rises, readBody, readCode, follows}
 use Rattle.bytecode.specs.Macro.{readShape, Parsed, parsed, unread, orUnread, records, onward, headReads, readEnd, parseMacro, readOr8, readMacro}
 use Rattle.logic.specs.Tests.{never, halves}
 use Rattle.logic.specs.OptionLaws.{never-some, same-some, chosen, kept}
 use Rattle.logic.specs.Lists.{Each}
-use Rattle.bytecode_laws.specs.Terms.{Named, ReadClass, ReadBody, ReadShape, RisesFrom, Apart, WellFormed, OfBytes, Narrow}
+use Rattle.bytecode_laws.specs.Terms.{Named, ReadClass, ReadBody, ReadShape, RisesFrom, Ascends, WellFormed, OfBytes, Narrow}
 
 -- ── lists ──
 each-reverse : {A : Type 0} (P : A → Type 0) (ys zs : List A) → Each P ys → Each P zs → Each P (reverseAux ys zs)
 each-reverse P [] zs p q = q
 each-reverse P (y ∷ ys) zs p q = each-reverse P ys (y ∷ zs) (p .1) (p .0, q)
-
-each-both : {A : Type 0} (P Q R : A → Type 0) → ((x : A) → P x → Q x → R x) → (xs : List A) → Each P xs → Each Q xs → Each R xs
-each-both P Q R f [] p q = tt
-each-both P Q R f (x ∷ xs) p q = (f x (p .0) (q .0), each-both P Q R f xs (p .1) (q .1))
 
 -- ── single records ──
 -- bytes are left where bytes were read
@@ -130,21 +126,21 @@ code-read before l c h b =
     (record { op-byte = b 2; a-byte = b 3; b-word = number-below l b 4 four }, bytes-drop 8 l b)
 
 shape-read : (n size : ℕ) (before : List Placed) (l : List ℕ) (c : Cut Placed) → readShape n size before l ≡ some c
-    → ReadShape n size (c .value) × (isSome (shapeIn before (c .value .address)) ≡ false) × Leaves l (c .rest)
+    → ReadShape n size (c .value) × (follows before (c .value .address) ≡ true) × Leaves l (c .rest)
 unfolding readShape
 shape-read n size before l c h =
     let at = halfAt l 2 in
     let made : Cut (List Ty)
     → Option (Cut Placed) = λ c. some (cut (record { address = at; found = shape (byteAt l 4) (reverse (c .value)) }) (c .rest)) in
-    let new = not (isSome (shapeIn before at)) in
-    let p = chosen (marked 83 72 6 l && (ltb at size && new)) (keep (readTypes n (byteAt l 5) (drop 6 l)) made) c h in
-    let t = halves (ltb at size) new (halves (marked 83 72 6 l) (ltb at size && new) (p .0) .1) in
+    let fit = ltb at size && follows before at in
+    let p = chosen (marked 83 72 6 l && fit) (keep (readTypes n (byteAt l 5) (drop 6 l)) made) c h in
+    let t = halves (ltb at size) (follows before at) (halves (marked 83 72 6 l) fit (p .0) .1) in
     let q = kept (readTypes n (byteAt l 5) (drop 6 l)) made c (p .1) in
     let ts = types-read n (byteAt l 5) (drop 6 l) (q .0) (q .1) in
-    subst (λ (c : Cut Placed). ReadShape n size (c .value) × (isSome (shapeIn before (c .value .address)) ≡ false) × Leaves l (c .rest))
+    subst (λ (c : Cut Placed). ReadShape n size (c .value) × (follows before (c .value .address) ≡ true) × Leaves l (c .rest))
     (same-some (q .2)) (
       record { stands = ltb-true at size (t .0); named = each-reverse (Named n) (q .0 .value) [] (ts .1) tt },
-      not-true (isSome (shapeIn before at)) (t .1),
+      t .1,
       λ b. ts .2 (bytes-drop 6 l b),
     )
 
@@ -213,28 +209,22 @@ begins-first : (bs : List Body) → Begins bs → (b : Body) → getElem? bs 0 �
 begins-first [] g b h = never-some h
 begins-first (c ∷ bs) g b h = ap (λ (x : Body). x .first) (sym (same-some h)) ∙ g
 
--- shapes
-new-shape : (ps : List Placed) (i : ℕ) → isSome (shapeIn ps i) ≡ false → Each (λ q. q .address ≡ i → ⊥) ps
-unfolding shapeIn
-new-shape [] i h = tt
-new-shape (p ∷ ps) i h = go (eqb (p .address) i) refl h (new-shape ps i)
-  where
-    go : (b : Bool) → eqb (p .address) i ≡ b → isSome (if b then some (p .found) else shapeIn ps i) ≡ false
-        → (isSome (shapeIn ps i) ≡ false → Each (λ q. q .address ≡ i → ⊥) ps) → Each (λ q. q .address ≡ i → ⊥) (p ∷ ps)
-    go true e h r = never (sym h)
-    go false e h r = (eqb-false (p .address) i e, r h)
+-- addresses of shapes, the latest first
+abbrev Descends : List Placed → Type 0
+Descends [] = Unit {0}
+Descends (p ∷ ps) = (follows ps (p .address) ≡ true) × Descends ps
 
-apart-reverse : (ys zs : List Placed) → Apart ys → Apart zs → Each (λ y. Each (λ q. q .address ≡ y .address → ⊥) zs) ys → Apart (reverseAux ys zs)
-apart-reverse [] zs a b c = b
-apart-reverse (y ∷ ys) zs a b c =
-    apart-reverse ys (y ∷ zs) (a .1) (c .0, b)
-    (each-both (λ q. q .address ≡ y .address → ⊥) (λ x. Each (λ q. q .address ≡ x .address → ⊥) zs)
-    (λ x. Each (λ q. q .address ≡ x .address → ⊥) (y ∷ zs))
-    (λ x p r. ((λ e. p (sym e)), r)) ys (a .0) (c .1))
+abbrev beyond : List Placed → ℕ
+beyond [] = 0
+beyond (p ∷ ps) = suc (p .address)
 
-apart-none : (ys : List Placed) → Each (λ y. Each {A = Placed} (λ q. q .address ≡ y .address → ⊥) []) ys
-apart-none [] = tt
-apart-none (y ∷ ys) = (tt, apart-none ys)
+follows-above : (ps : List Placed) (a : ℕ) → follows ps a ≡ true → beyond ps ≤ a
+follows-above [] a h = omega arith
+follows-above (p ∷ ps) a h = ltb-true (p .address) a h
+
+ascends-reverse : (ys zs : List Placed) → Descends ys → Ascends (beyond ys) zs → Ascends 0 (reverseAux ys zs)
+ascends-reverse [] zs f r = r
+ascends-reverse (y ∷ ys) zs f r = ascends-reverse ys (y ∷ zs) (f .1) (follows-above ys (y .address) (f .0), r)
 
 -- ── the whole ──
 onwards : {A B : Type 0} (p : Parsed A) (f : A → ℕ → List ℕ → Parsed B) (y : B) (i : ℕ) (l : List ℕ) → onward p f ≡ parsed y i l
@@ -262,8 +252,8 @@ module _ (cs : List (List Ty)) (bs : List Body) (xs : List Code) (ss : List Plac
   whole = record { classes = reverse cs; bodies = reverse bs; code = reverse xs; shapes = reverse ss }
 
   gathered : (n size : ℕ) → length (reverse cs) ≡ n → length (reverse xs) ≡ size → n ≤ 16 → 1 ≤ length bs → length bs ≤ 64
-      → Each (ReadClass n) cs → Each (ReadBody n size) bs → Falls bs → Each (ReadShape n size) ss → Apart ss → WellFormed whole
-  gathered n size en es fewClasses someBody fewBodies rcs rbs falls rss apart =
+      → Each (ReadClass n) cs → Each (ReadBody n size) bs → Falls bs → Each (ReadShape n size) ss → Descends ss → WellFormed whole
+  gathered n size en es fewClasses someBody fewBodies rcs rbs falls rss descends =
       record {
         some-body = rw (length-reverse bs) someBody;
         few-bodies = rw (length-reverse bs) fewBodies;
@@ -273,7 +263,7 @@ module _ (cs : List (List Ty)) (bs : List Body) (xs : List Code) (ss : List Plac
         rises = rises-reverse bs [] falls tt;
         bodies-read = rw (en, es) (each-reverse (ReadBody n size) bs [] rbs tt);
         shapes-read = rw (en, es) (each-reverse (ReadShape n size) ss [] rss tt);
-        shapes-apart = apart-reverse ss [] apart tt (apart-none ss);
+        ascends = ascends-reverse ss [] descends tt;
       }
 
 headed : (b : Bool) (p : Parsed Macro) (m : Macro) (i : ℕ) (k : List ℕ) → (if b then p else unread 0) ≡ parsed m i k → (b ≡ true) × (p ≡ parsed m i k)
@@ -302,9 +292,9 @@ reads l m h =
     let tx = took readCode (λ xs. Bytes l → Each OfBytes xs) (Leaves l)
     (λ before k c p q h. ((λ b. (code-read before k c h (q b) .0, p b)), λ b. code-read before k c h (q b) .1)) size [] (b .1) (b .2) (x .0)
     (x .1) (x .2) (λ b. tt) (tb .3) (x .3) in
-    let ts = took (readShape n size) (λ ss. Each (ReadShape n size) ss × Apart ss) (Leaves l)
+    let ts = took (readShape n size) (λ ss. Each (ReadShape n size) ss × Descends ss) (Leaves l)
     (λ before k c p q h. let r = shape-read n size before k c h in
-    (((r .0, p .0), (new-shape before (c .value .address) (r .1), p .1)), λ b. r .2 (q b))) (halfAt l 6) [] (x .1) (x .2) (s .0) (s .1)
+    (((r .0, p .0), (r .1, p .1)), λ b. r .2 (q b))) (halfAt l 6) [] (x .1) (x .2) (s .0) (s .1)
     (s .2) (tt, tt) (tx .3) (s .3) in
     let cs = tc .0 in let bs = tb .0 in let xs = tx .0 in let ss = ts .0 in
     let all : whole cs bs xs ss ≡ m = (λ i. record { classes = tc .1 i; bodies = tb .1 i; code = tx .1 i; shapes = ts .1 i }) ∙ e in

@@ -46,10 +46,10 @@ abbrev pub RisesFrom : ℕ → List Body → Type 0
 RisesFrom a [] = Unit {0}
 RisesFrom a (b ∷ bs) = (a ≤ b .first) × RisesFrom (suc (b .first)) bs
 
--- no address has two shapes
-abbrev pub Apart : List Placed → Type 0
-Apart [] = Unit {0}
-Apart (p ∷ ps) = Each (λ q. q .address ≡ p .address → ⊥) ps × Apart ps
+-- the addresses of shapes, each at least a and above the one before it
+abbrev pub Ascends : ℕ → List Placed → Type 0
+Ascends a [] = Unit {0}
+Ascends a (p ∷ ps) = (a ≤ p .address) × Ascends (suc (p .address)) ps
 
 pub record WellFormed (m : Macro) : Type 0 where
   pub some-body : 1 ≤ length (m .bodies)
@@ -60,7 +60,7 @@ pub record WellFormed (m : Macro) : Type 0 where
   pub rises : RisesFrom 0 (m .bodies)
   pub bodies-read : Each (ReadBody (length (m .classes)) (length (m .code))) (m .bodies)
   pub shapes-read : Each (ReadShape (length (m .classes)) (length (m .code))) (m .shapes)
-  pub shapes-apart : Apart (m .shapes)
+  pub ascends : Ascends 0 (m .shapes)
 
 -- the numbers of a macro that was read from bytes
 pub record OfBytes (c : Code) : Type 0 where

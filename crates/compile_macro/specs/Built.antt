@@ -53,7 +53,7 @@ use Rattle.compile_macro.specs.Laid.{ops, after-ops, Chain, total, lines
 use Rattle.compile_macro.specs.Fields.{Entered, Holdable, holdable-writable, more-ops, of-head, fieldsS, fieldsItems, fieldsE}
 use Rattle.compile_macro.specs.Cells.{newCells, cells-length, count-head, countS, countItems, countE, celled, each-cell}
 use Rattle.compile_macro.specs.Shapes.{Heads}
-use Rattle.compile_macro.specs.Narrow.{roomy-marks, ShapeLines, shape-lines, both-marks, placed-each, placed-apart, placed-few, flowing, two-ops, narrow-op, narrow-lines, each-more}
+use Rattle.compile_macro.specs.Narrow.{roomy-marks, ShapeLines, shape-lines, both-marks, placed-each, placed-ascends, placed-few, flowing, two-ops, narrow-op, narrow-lines, each-more}
 use Rattle.language.specs.Faults.{sizeItems, sizeGlobal}
 use Rattle.compile_macro.specs.Short.{short}
 use Rattle.compile_macro.specs.Right.{RootOk, okBodyTy, root-cells-known, root-marks-known, root-flows, proc-cells-known, proc-marks-known, proc-flows}
@@ -375,7 +375,7 @@ module _ (t : Tree) where
       shapes-read =
           rw code-size (each-more (λ (p : Placed). (0 ≤ p .address) × (p .address < total (parts t)) × Fine (p .found))
           (ReadShape (classCount t) (total (parts t))) (λ p h. record { stands = h .1; named = h .2 .0 }) (compiled t .shapes) fine-shapes);
-      shapes-apart = rw shapes-are (placed-apart (linesOf (parts t)) 0);
+      ascends = rw shapes-are (placed-ascends (linesOf (parts t)) 0 0 (omega arith));
     }
       where
         parts-count : length (parts t) ≡ suc (length (procsOf (t .head)))

@@ -24,7 +24,7 @@ use Rattle.logic.specs.Lists.{Each}
 use Rattle.logic.specs.ListLaws.{each-at, index-below}
 use Rattle.logic.specs.OptionLaws.{never-some}
 use Rattle.logic.specs.Tests.{halves}
-use Rattle.bytecode_laws.specs.Terms.{Apart, OfBytes, WellFormed, ReadClass}
+use Rattle.bytecode_laws.specs.Terms.{Ascends, OfBytes, WellFormed, ReadClass}
 use Rattle.bytecode_laws.specs.Bodies.{inside-code}
 use Rattle.compile_code.specs.Code.{Code, nil, op, mark, cell, _▸_, At, after, Line, first, lay, placed, placedAt}
 use Rattle.compile_code.specs.Encode.{recordOf, recordsOf, operatorCode}
@@ -93,26 +93,14 @@ placed-each Q (x ∷ ls) i e l h =
     pick none g u = u
     pick (some s) g u = ((omega arith, omega arith, g), u)
 
-free-lines : (ls : List Line) → ShapeLines (λ s. Unit {0}) ls
-free-lines [] = tt
-free-lines (l ∷ ls) = (pick (l .shape), free-lines ls)
-  where
-    pick : (o : Option Shape) → IfSome (λ s. Unit {0}) o
-    pick none = tt
-    pick (some s) = tt
-
-pub placed-apart : (ls : List Line) (i : ℕ) → Apart (placed i ls)
+pub placed-ascends : (ls : List Line) (i a : ℕ) → a ≤ i → Ascends a (placed i ls)
 unfolding placed
-placed-apart [] i = tt
-placed-apart (x ∷ ls) i = pick (x .shape) (placed-apart ls (suc i))
+placed-ascends [] i a h = tt
+placed-ascends (x ∷ ls) i a h = pick (x .shape) (λ b g. placed-ascends ls (suc i) b g)
   where
-    pick : (o : Option Shape) → Apart (placed (suc i) ls) → Apart (placedAt o i (placed (suc i) ls))
-    pick none u = u
-    pick (some s) u = (
-      each-more (Spread (λ t. Unit {0}) (suc i) (suc i + length ls)) (λ (q : Placed). q .address ≡ i → ⊥) (λ q z e. let y = z .0 in omega arith)
-          (placed (suc i) ls) (placed-each (λ t. Unit {0}) ls (suc i) (suc i + length ls) (omega arith) (free-lines ls)),
-      u,
-    )
+    pick : (o : Option Shape) → ((b : ℕ) → b ≤ suc i → Ascends b (placed (suc i) ls)) → Ascends a (placedAt o i (placed (suc i) ls))
+    pick none u = u a (omega arith)
+    pick (some s) u = (h, u (suc i) (omega arith))
 
 pub placed-few : (ls : List Line) (i : ℕ) → length (placed i ls) ≤ length ls
 unfolding placed

@@ -7,14 +7,13 @@ use Prim.Native.Nat.{ℕ, suc, _+_, _-_, _*_, _/_, _%_, _≤_}
 use native.Mathlib.Omega.{arith}
 use lib.ListN.{length, getElem?}
 use borrow.Author.Tests.{le-leb, lt-ltb, ne-eqb, eq-eqb}
-use Rattle.logic.specs.Options.{isSome}
 use Rattle.values.specs.Types.{Ty, integer, logical, bits, reference, tyByte}
 use Rattle.values.specs.Ends.{accepted}
-use Rattle.bytecode.specs.Macro.{Body, Code, Placed, Macro, Cut, cut, tyOfByte, readTypes, readClass, readResult, rises, readBody, readCode, shapeIn, readShape, parsed}
+use Rattle.bytecode.specs.Macro.{Body, Code, Placed, Macro, Cut, cut, tyOfByte, readTypes, readClass, readResult, rises, readBody, readCode, follows, readShape, parsed}
 use Rattle.bytecode.specs.Macro.{orUnread, records, onward, headReads, readEnd, parseMacro, readMacro}
 use Rattle.logic.specs.Lists.{Each}
 use Rattle.logic.specs.ListLaws.{app-nil}
-use Rattle.bytecode_laws.specs.Terms.{Named, ReadClass, ReadBody, ReadShape, RisesFrom, Apart, WellFormed}
+use Rattle.bytecode_laws.specs.Terms.{Named, ReadClass, ReadBody, ReadShape, RisesFrom, Ascends, WellFormed}
 use Rattle.compile_code.specs.Encode.{classBytes, resultByte, bodyBytes, codeBytes, shapeBytes, each, macroBytes}
 
 -- ── lists ──
@@ -87,7 +86,7 @@ code-back before c r =
     let f : n % 256 + n / 256 % 256 * 256 + n / 65536 % 256 * 65536 + n / 16777216 * 16777216 ≡ n = omega arith in
     rw (le-leb 8 (length (codeBytes c ++ r)) (omega arith), f) refl
 
-shape-back : (n size : ℕ) (before : List Placed) (p : Placed) (r : List ℕ) → ReadShape n size p → isSome (shapeIn before (p .address)) ≡ false
+shape-back : (n size : ℕ) (before : List Placed) (p : Placed) (r : List ℕ) → ReadShape n size p → follows before (p .address) ≡ true
     → readShape n size before (shapeBytes p ++ r) ≡ some (cut p r)
 unfolding readShape
 shape-back n size before p r h e =
@@ -108,7 +107,7 @@ all-back f g I s (x ∷ xs) before i l h =
     let z = all-back f g I s xs (x ∷ before) (suc i) l (q .1) in
     (z .0, rw (q .0) (z .1))
 
--- bodies rise; shapes are apart
+-- bodies rise, and so do shapes
 abbrev Rising : List Body → List Body → Type 0
 Rising [] [] = Unit {0}
 Rising [] (b ∷ bs) = (b .first ≡ 0) × RisesFrom (suc (b .first)) bs
@@ -118,18 +117,13 @@ rising : (before : List Body) (b : Body) (bs : List Body) → Rising before (b �
 rising [] b bs h = (eq-eqb (b .first) 0 (h .0), h .1)
 rising (c ∷ cs) b bs h = (lt-ltb (c .first) (b .first) (h .0), h .1)
 
-abbrev Unlike : List Placed → List Placed → Type 0
-Unlike before ps = Each (λ p. isSome (shapeIn before (p .address)) ≡ false) ps
+abbrev Ascending : List Placed → List Placed → Type 0
+Ascending [] ps = Ascends 0 ps
+Ascending (q ∷ qs) ps = Ascends (suc (q .address)) ps
 
-unlike : (before : List Placed) (p : Placed) (ps : List Placed) → Unlike before ps → Each (λ q. q .address ≡ p .address → ⊥) ps → Unlike (p ∷ before) ps
-unfolding shapeIn
-unlike before p [] u a = tt
-unlike before p (q ∷ ps) u a = (rw (ne-eqb (p .address) (q .address) (λ z. a .0 (sym z))) (u .0), unlike before p ps (u .1) (a .1))
-
-unlike-none : (ps : List Placed) → Unlike [] ps
-unfolding shapeIn
-unlike-none [] = tt
-unlike-none (p ∷ ps) = (refl, unlike-none ps)
+ascending : (before : List Placed) (p : Placed) (ps : List Placed) → Ascending before (p ∷ ps) → (follows before (p .address) ≡ true) × Ascending (p ∷ before) ps
+ascending [] p ps h = (refl, h .1)
+ascending (q ∷ qs) p ps h = (lt-ltb (q .address) (p .address) (h .0), h .1)
 
 end-back : {A : Type 0} (x : A) (i : ℕ) → readEnd x i (90 ∷ 90 ∷ []) ≡ parsed x (suc i) []
 unfolding readEnd
@@ -163,9 +157,11 @@ module _ (m : Macro) (w : WellFormed m) where
 
   shapes-back : (i : ℕ) (l : List ℕ) → (j : ℕ) × (records (readShape (length (m .classes)) (length (m .code))) (length (m .shapes)) [] i (each shapeBytes (m .shapes) l) ≡ parsed (m .shapes) j l)
   shapes-back i l =
-      let q = all-back (readShape (length (m .classes)) (length (m .code))) shapeBytes (λ before xs. Each (ReadShape (length (m .classes)) (length (m .code))) xs × (Unlike before xs × Apart xs))
-      (λ before x xs r h. (shape-back (length (m .classes)) (length (m .code)) before x r (h .0 .0) (h .1 .0 .0), (h .0 .1, (unlike before x xs (h .1 .0 .1) (h .1 .1 .0), h .1 .1 .1))))
-      (m .shapes) [] i l (w .shapes-read, (unlike-none (m .shapes), w .shapes-apart)) in
+      let q = all-back (readShape (length (m .classes)) (length (m .code))) shapeBytes (λ before xs. Each (ReadShape (length (m .classes)) (length (m .code))) xs × Ascending before xs)
+      (λ before x xs r h. let u = ascending before x xs (h .1) in (
+        shape-back (length (m .classes)) (length (m .code)) before x r (h .0 .0) (u .0),
+        (h .0 .1, u .1),
+      )) (m .shapes) [] i l (w .shapes-read, w .ascends) in
       (q .0, q .1 ∙ ap (λ xs. parsed xs (q .0) l) (twice (m .shapes)))
 
   pub read-back : readMacro (macroBytes m) ≡ accepted m

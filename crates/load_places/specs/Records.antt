@@ -45,10 +45,13 @@ unfoldable pub shapePlace : List ℕ → ℕ → ℕ
 shapePlace l zero = codePlace l (count l)
 shapePlace l (suc k) = shapePlace l k + 6 + byteAt l (shapePlace l k + 5)
 
+abbrev pub addressOf : List ℕ → ℕ → ℕ
+addressOf l k = halfAt l (shapePlace l k + 2)
+
 -- among the first k shapes, where that of address x stands; 0 if there is none
 unfoldable pub find : List ℕ → ℕ → ℕ → ℕ
 find l zero x = 0
-find l (suc k) x = cond (eqb (find l k x) 0) (cond (eqb (halfAt l (shapePlace l k + 2)) x) (shapePlace l k) 0) (find l k x)
+find l (suc k) x = cond (eqb (find l k x) 0) (cond (eqb (addressOf l k) x) (shapePlace l k) 0) (find l k x)
 
 -- ── the tests of each record ──
 -- a record of n bytes with the mark x, y does not stand at p
@@ -102,10 +105,13 @@ shapeFits l p =
     (cond (badTypes l (p + 6) (byteAt l (p + 5))) false
     (ltb (halfAt l (p + 2)) (count l))))
 
--- also bad is a second shape of an address
+-- the least address that the k-th shape may have: past the one before it
+unfoldable pub least : List ℕ → ℕ → ℕ
+least l zero = 0
+least l (suc k) = suc (addressOf l k)
+
 unfoldable pub badShape : List ℕ → ℕ → Bool
-badShape l k =
-    cond (shapeFits l (shapePlace l k)) (not (eqb (find l k (halfAt l (shapePlace l k + 2))) 0)) true
+badShape l k = cond (shapeFits l (shapePlace l k)) (ltb (addressOf l k) (least l k)) true
 
 -- ── the records read, or the index of the first that does not ──
 pub data Read : Type 0 where

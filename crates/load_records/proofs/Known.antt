@@ -16,7 +16,7 @@ use Rattle.load_places.specs.declared.Records.{Records}
 use Rattle.load_places.specs.declared.Records.the-variants.{Reads}
 use Rattle.load_records.specs.Answer.{Left}
 use Rattle.load_records.proofs.Search.{first-clean}
-use Rattle.logic.specs.Tests.{never, no-true, no-false, no-else, neither}
+use Rattle.logic.specs.Tests.{never, held, no-true, no-false, no-else, neither}
 use Rattle.load_records.proofs.Tests.{room}
 
 -- each of the n bytes from q is a type
@@ -120,7 +120,7 @@ module _ (l : List ℕ) (W : Well l) where
 
   pub shape-of : (k : ℕ) → k < shapes l → Shape l (shapePlace l k)
   unfolding badShape
-  shape-of k h = shape-known l (shapePlace l k) (kept _ (eqb (find l k (halfAt l (shapePlace l k + 2))) 0) (W .of-shapes k h) .0)
+  shape-of k h = shape-known l (shapePlace l k) (held false (shapeFits l (shapePlace l k)) _ (W .of-shapes k h) .0)
 
 -- ── how far the places go ──
 module _ (l : List ℕ) (B : Bytes l) where

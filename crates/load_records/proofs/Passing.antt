@@ -9,10 +9,10 @@ use native.Mathlib.Decide.{ℕ-discrete}
 use lib.ListN.{length, set}
 use lib.Seq.{getD-set-other, getD-set-same}
 use lib.Dec.{eqb, eqb·suc-zero}
-use borrow.Author.Tests.{eq-eqb, ne-eqb}
+use borrow.Author.Tests.{eq-eqb, ne-eqb, lt-ltb, le-ltb}
 use Rattle.words.specs.Numbers.{byteAt, halfAt}
 use Rattle.load_places.specs.Search.{seek, first}
-use Rattle.load_places.specs.Records.{classPlace, bodyPlace, firstOf, codeBase, shapePlace, find, rises, bodyFits, badBody, badCode, shapeFits, badShape}
+use Rattle.load_places.specs.Records.{classPlace, bodyPlace, firstOf, codeBase, shapePlace, find, least, rises, bodyFits, badBody, badCode, shapeFits, badShape}
 use Rattle.load_places.specs.Index.{Indexed, Placed}
 use Rattle.load_records.specs.Answer.{Upto, Passes}
 use Rattle.load_records.proofs.Search.{first-hit, first-none, first-cut, clean-none, clean-more}
@@ -91,19 +91,27 @@ module _ (l : List ℕ) (base : ℕ) (e : base ≡ codeBase l) where
       f ∙ sym (first-cut (badCode l) n w h (λ y. rw (← e) (cut l (base + 8 * w) 8 73 78 (c y))))
 
 -- ── the shapes ──
+pub least-first : (l : List ℕ) → 0 ≡ least l 0
+unfolding least
+least-first l = refl
+
 module _ (l : List ℕ) (k p : ℕ) (e : p ≡ shapePlace l k) where
   pub shape-unfit : shapeFits l p ≡ false → badShape l k ≡ true
   unfolding badShape
   shape-unfit h = rw (← e, h)
 
-  module _ (f : shapeFits l p ≡ true) (a : ℕ) (d : a ≡ halfAt l (p + 2)) where
-    pub shape-second : (find l k a ≡ 0 → ⊥) → badShape l k ≡ true
+  module _ (f : shapeFits l p ≡ true) (u a : ℕ) (h : u ≡ least l k) (d : a ≡ halfAt l (p + 2)) where
+    pub shape-late : a < u → badShape l k ≡ true
     unfolding badShape
-    shape-second h = rw (← e, f, ← d, ne-eqb _ _ h)
+    shape-late r = rw (← e, f, ← d, ← h, lt-ltb a u r)
 
-    pub shape-only : find l k a ≡ 0 → badShape l k ≡ false
+    pub shape-good : u ≤ a → badShape l k ≡ false
     unfolding badShape
-    shape-only h = rw (← e, f, ← d, eq-eqb _ _ h)
+    shape-good r = rw (← e, f, ← d, ← h, le-ltb a u r)
+
+  pub next-least : (a : ℕ) → a ≡ halfAt l (p + 2) → a + 1 ≡ least l (k + 1)
+  unfolding least
+  next-least a d = rw (add-one k, add-one a, d, e)
 
   pub next-shape : (c : ℕ) → c ≡ byteAt l (p + 5) → p + 6 + c ≡ shapePlace l (k + 1)
   unfolding shapePlace

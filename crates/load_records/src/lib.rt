@@ -173,7 +173,7 @@ fn rises_from(k: usize, last: usize, address: usize) -> bool
     last < address
 }
 
-// A shape's record, all but that it is the address's first.
+// A shape's record, all but that its address rises.
 fn shape_fits(code: &[u8], place: usize, classes: usize, instructions: usize) -> bool
     requires { ⌜ (place < 4294967296) × (classes ≡ classCount (now code)) × (instructions ≡ count (now code)) ⌝ }
     ensures { λ r. ⌜ r ≡ shapeFits (now (code .entry)) place ⌝ }
@@ -309,15 +309,17 @@ fn shapes_pass(
 {
     let mut k: usize = 0;
     let mut p: usize = from;
+    let mut least: usize = 0;
     while k < total {
         if !shape_fits(code, p, classes, instructions) {
             return Passed { read: k, end: p };
         }
         let a = words::wide::half_at(code, p + SHAPE_ADDRESS_AT);
-        if shapes[a] != 0 {
+        if a < least {
             return Passed { read: k, end: p };
         }
         shapes[a] = p as u32;
+        least = a + 1;
         p = p + SHAPE_BYTES + words::wide::byte_at(code, p + SHAPE_DEPTH_AT);
         k += 1;
     }

@@ -11,14 +11,13 @@ use lib.Dec.{eqb, ltb, eqb·suc-zero}
 use lib.ListN.{length, drop, length-drop, drop-of-length-le}
 use lib.Seq.{drop-cons, getD-drop, drop-drop}
 use borrow.Author.Tests.{lt-ltb, le-ltb, le-leb, lt-leb, ne-eqb}
-use Rattle.logic.specs.Options.{isSome}
 use Rattle.logic.specs.Choice.{if_then_else_}
 use Rattle.words.specs.Numbers.{byteAt, halfAt}
 use Rattle.words.specs.Laws.{Size, one, two, four, numberAt, same-number}
 use Rattle.values.specs.Types.{Ty}
-use Rattle.bytecode.specs.Macro.{Code, Cut, cut, marked, tyOfByte, readTypes, readClass, readResult, rises as risesAfter, readBody, readCode, shapeIn, readShape}
+use Rattle.bytecode.specs.Macro.{Code, Cut, cut, marked, tyOfByte, readTypes, readClass, readResult, rises as risesAfter, readBody, readCode, follows, readShape}
 use Rattle.load_places.specs.Search.{seek}
-use Rattle.load_places.specs.Records.{classes, bodies, count, classPlace, bodyPlace, firstOf, codePlace, shapePlace, find, noMark, noType, badTypes, badClass, rises}
+use Rattle.load_places.specs.Records.{classes, bodies, count, classPlace, bodyPlace, firstOf, codePlace, shapePlace, addressOf, least, noMark, noType, badTypes, badClass, rises}
 use Rattle.load_places.specs.Records.{bodyFits, badBody, badCode, shapeFits, badShape}
 use Rattle.load_views.specs.Lists.{span, backs, reverse-span}
 use Rattle.logic.specs.Tests.{tests, by-test, leb-not, if-same, if-not}
@@ -153,16 +152,10 @@ module _ (l : List ℕ) where
   shape-past zero = omega (arith, body-past (bodies l))
   shape-past (suc k) = omega (arith, shape-past k)
 
-  -- an address has a shape among the first k exactly where one is found
-  shape-found : (k x : ℕ) → isSome (shapeIn (backs (λ j. placedOn l (shapePlace l j)) k) x) ≡ not (eqb (find l k x) 0)
-  unfolding backs shapeIn find
-  shape-found zero x = refl
-  shape-found (suc k) x =
-      by-test (eqb (find l k x) 0)
-      (λ e. by-test (eqb (halfAt l (shapePlace l k + 2)) x)
-      (λ h. rw (e, h, ne-eqb (shapePlace l k) 0 (omega (arith, shape-past k))))
-      (λ h. rw (e, h) (shape-found k x ∙ rw e)))
-      (λ e. rw (e, e) (by-test (eqb (halfAt l (shapePlace l k + 2)) x) (λ h. rw h) (λ h. rw h (shape-found k x ∙ rw e))))
+  follows-on : (k a : ℕ) → follows (backs (λ j. placedOn l (shapePlace l j)) k) a ≡ not (ltb a (least l k))
+  unfolding backs least
+  follows-on zero a = rw (le-ltb a 0 (omega arith))
+  follows-on (suc k) a = by-test (ltb (addressOf l k) a) (λ h. rw (h, le-ltb a (suc (addressOf l k)) (omega tests))) (λ h. rw (h, lt-ltb a (suc (addressOf l k)) (omega tests)))
 
   pub shape-reads : (k : ℕ)
       → readShape (classes l) (count l) (backs (λ j. placedOn l (shapePlace l j)) k) (drop (shapePlace l k) l)
@@ -171,11 +164,11 @@ module _ (l : List ℕ) where
   shape-reads k =
       let p = shapePlace l k in let n = byteAt l (p + 5) in
       rw (marked-at p 6 83 72 (omega arith), number-drop two p 2, number-drop one p 4, number-drop one p 5, drop-drop 6 p l)
-      (rw (shape-found k (halfAt l (p + 2)), badShape, shapeFits)
+      (rw (follows-on k (addressOf l k), badShape, shapeFits)
       (by-test (noMark l p 6 83 72) (λ e. rw e)
       (λ e. rw (e, types-at (p + 6) n (mark-room p 6 83 72 e))
       (by-test (ltb (length l) (p + 6 + n)) (λ h. rw h (simp alike-ways))
       (λ h. rw h (by-test (badTypes l (p + 6) n) (λ h. rw h (simp alike-ways))
       (λ h. rw h (by-test (ltb (halfAt l (p + 2)) (count l))
-      (λ h. rw (h, reverse-span (λ k. tyOn (byteAt l (p + 6 + k))) n) (if-not (not (eqb (find l k (halfAt l (p + 2))) 0)) _ _))
+      (λ h. rw (h, reverse-span (λ k. tyOn (byteAt l (p + 6 + k))) n) (if-not (ltb (addressOf l k) (least l k)) _ _))
       (λ h. rw h)))))))))

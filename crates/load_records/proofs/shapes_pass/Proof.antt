@@ -5,29 +5,30 @@ use mathlib.Core.Bool.{true}
 use Prim.Native.Nat.{_+_, _*_, _-_, _≤_}
 use lib.ListN.{length, length-set}
 use borrow.Author.Tests.{not-true, not-false}
-use Rattle.load_places.specs.Records.{badShape, shapePlace, shapeFits, find}
+use Rattle.load_places.specs.Records.{badShape, shapePlace, shapeFits, least}
 use Rattle.load_places.specs.Index.{Indexed}
 use Rattle.load_records.specs.Answer.{Upto}
 use Rattle.load_records.proofs.Known as known
+use Rattle.load_records.proofs.Order.{find-past}
 use Rattle.load_records.proofs.Passing as law
 use Rattle.load_records.proofs.shapes_pass.Statement.{statement}
 use Rattle.load_records.proofs.shapes_pass.Tie as tie
 
 abbrev Inv-loop : tie.InvT-loop
-Inv-loop code shapes₀ from classes instructions total k₀ p₀ shapes k p =
-    Upto (badShape code) (shapePlace code) total k p × (p ≤ 1000000 + 261 * k) × (length shapes ≡ length shapes₀) × Indexed code shapes instructions k
+Inv-loop code shapes₀ from classes instructions total k₀ p₀ least₀ shapes k p u =
+    Upto (badShape code) (shapePlace code) total k p × (p ≤ 1000000 + 261 * k) × (u ≡ least code k) × (length shapes ≡ length shapes₀) × Indexed code shapes instructions k
 
 abbrev μ-loop : tie.MeasureT-loop
-μ-loop code shapes₀ from classes instructions total k₀ p₀ shapes k p = total - k
+μ-loop code shapes₀ from classes instructions total k₀ p₀ least₀ shapes k p u = total - k
 
 loop-holds : tie.Need-loop-holds Inv-loop μ-loop
-loop-holds c = (law.starts _ (c .before .before .pre .0), omega arith, refl, c .before .before .pre .6)
+loop-holds c = (law.starts _ (c .before .before .pre .0), omega arith, law.least-first _, refl, c .before .before .pre .6)
 
 shape-fits-requires : tie.Need-shape-fits-requires Inv-loop μ-loop
 shape-fits-requires c κs = (omega arith, c .before .before .before .before .pre .2, c .before .before .before .before .pre .3)
 
 same-length : tie.Need-same-length Inv-loop μ-loop
-same-length c = c .before .before .before .loop .inv .2
+same-length c = c .before .before .before .loop .inv .3
 
 returns : tie.Need-returns Inv-loop μ-loop
 returns c =
@@ -35,7 +36,7 @@ returns c =
     let I = loop .inv in (
       law.stops (I .0) (omega arith) (law.shape-unfit _ _ _ (I .0 .stands) (sym (c .before .shape-fits .ensures) ∙ not-true _ (c .if1 .taken))),
       omega arith,
-      I .3,
+      I .4,
     )
 
 -- the record at p fits, past the first test
@@ -45,58 +46,52 @@ fit c = sym (c .before .shape-fits .ensures) ∙ not-false _ (c .if1 .left)
 half-at-requires : tie.Need-half-at-requires Inv-loop μ-loop
 half-at-requires c κs = let h = known.shape-known _ _ (fit c) in omega arith
 
-mul-if2 : tie.Need-mul-if2 Inv-loop μ-loop
-mul-if2 c = let h = known.shape-known _ _ (fit (c .before)) in omega arith
-
-slice-read-if2 : tie.Need-slice-read-if2 Inv-loop μ-loop
-slice-read-if2 c = let h = known.shape-known _ _ (fit (c .before .before)) in omega arith
-
 same-length-2 : tie.Need-same-length-2 Inv-loop μ-loop
 same-length-2 c =
-    let at-loop = c .before .before .before .before .before .before in
-    at-loop .loop .inv .2
+    let at-loop = c .before .before .before .before .before in
+    at-loop .loop .inv .3
 
 returns-2 : tie.Need-returns-2 Inv-loop μ-loop
 returns-2 c =
-    let half-at = c .before .before .half-at in
-    let at-if1 = c .before .before .before in
-    let I = at-if1 .before .before .before .loop .inv in
-    let h = known.shape-known _ _ (fit at-if1) in
-    let there = I .3 (half-at .result) (omega arith) in
-    (law.stops (I .0) (omega arith) (law.shape-second _ _ _ (I .0 .stands) (fit at-if1) _ (half-at .ensures .0) (λ z. omega arith)), omega arith, I .3)
+    let at-if1 = c .before .before in
+    let I = at-if1 .before .before .before .loop .inv in (
+      law.stops (I .0) (omega arith) (law.shape-late _ _ _ (I .0 .stands) (fit at-if1) _ _ (I .2) (c .before .half-at .ensures .0) (omega arith)),
+      omega arith,
+      I .4,
+    )
 
 mul-shapes : tie.Need-mul-shapes Inv-loop μ-loop
-mul-shapes c = let h = known.shape-known _ _ (fit (c .before .before .before)) in omega arith
+mul-shapes c = let h = known.shape-known _ _ (fit (c .before .before)) in omega arith
 
 slice-write-shapes : tie.Need-slice-write-shapes Inv-loop μ-loop
-slice-write-shapes c = let h = known.shape-known _ _ (fit (c .before .before .before)) in omega arith
+slice-write-shapes c = let h = known.shape-known _ _ (fit (c .before .before)) in omega arith
 
 byte-at-requires : tie.Need-byte-at-requires Inv-loop μ-loop
-byte-at-requires c κs = let h = known.shape-known _ _ (fit (c .before .before .before)) in omega arith
+byte-at-requires c κs = let h = known.shape-known _ _ (fit (c .before .before)) in omega arith
 
 loop-again : tie.Need-loop-again Inv-loop μ-loop
 loop-again c =
-    let half-at = c .before .before .before .half-at in
-    let at-if1 = c .before .before .before .before in
+    let half-at = c .before .before .half-at in
+    let at-if1 = c .before .before .before in
     let loop = at-if1 .before .before .before .loop in
     let start = at-if1 .before .before .before .before .before .before in
     let I = loop .inv in
     let h = known.shape-known _ _ (fit at-if1) in
-    let there = I .3 (half-at .result) (omega arith) in
-    let z : find (start .args .code .now) (loop .k) (half-at .result) ≡ 0 = omega arith in (
-      law.goes-on (I .0) _ (omega arith) (law.shape-only _ _ _ (I .0 .stands) (fit at-if1) _ (half-at .ensures .0) z)
+    let z = find-past (start .args .code .now) (loop .k) (half-at .result) (I .0 .clean) (omega (arith, I .2)) in (
+      law.goes-on (I .0) _ (omega arith) (law.shape-good _ _ _ (I .0 .stands) (fit at-if1) _ _ (I .2) (half-at .ensures .0) (omega arith))
           (law.next-shape _ _ _ (I .0 .stands) _ (c .byte-at .ensures .0)),
       omega arith,
-      simp length-set (I .2),
+      law.next-least _ _ _ (I .0 .stands) _ (half-at .ensures .0),
+      simp length-set (I .3),
       law.indexed-more (start .args .code .now) (loop .k) (loop .p) (I .0 .stands) (loop .shapes) (start .args .instructions)
-          (half-at .result) (half-at .ensures .0) (omega arith) (omega arith) z (I .3),
+          (half-at .result) (half-at .ensures .0) (omega arith) (omega arith) z (I .4),
     )
 
 same-length-3 : tie.Need-same-length-3 Inv-loop μ-loop
-same-length-3 c = c .before .loop .inv .2
+same-length-3 c = c .before .loop .inv .3
 
 returns-3 : tie.Need-returns-3 Inv-loop μ-loop
-returns-3 c = let I = c .before .loop .inv in (law.finishes (I .0) (omega arith), omega (arith, I .0 .within), I .3)
+returns-3 c = let I = c .before .loop .inv in (law.finishes (I .0) (omega arith), omega (arith, I .0 .within), I .4)
 
 pub shapes-pass-spec : {M : Type 1} → statement M
 shapes-pass-spec =
@@ -110,13 +105,12 @@ shapes-pass-spec =
     returns
     (λ c. omega arith)
     half-at-requires
-    mul-if2
-    slice-read-if2
     same-length-2
     returns-2
     (λ c. omega arith)
     mul-shapes
     slice-write-shapes
+    (λ c. omega arith)
     (λ c. omega arith)
     (λ c. omega arith)
     byte-at-requires
