@@ -4,6 +4,7 @@
 
 use std::cell::RefCell;
 use std::collections::BTreeMap;
+use std::path::Path;
 
 use second::evaluator::answer::{Answer, Event, Item, Refusal};
 use second::evaluator::code::{judge_macro, Macro};
@@ -310,6 +311,35 @@ fn every_room() {
             }
             for room in [length, length + 1, length + 2, length + 8, length + 1 + rng.below(4_096)] {
                 assert_eq!(as_the_check(&bytes, room), 0);
+            }
+        }
+    });
+}
+
+/// The tables of examples/.
+fn examples() -> Vec<Vec<u8>> {
+    let folder = Path::new(env!("CARGO_MANIFEST_DIR")).join("../examples");
+    let paths = std::fs::read_dir(folder).expect("examples/ is there").map(|file| file.unwrap().path());
+    paths.filter(|path| path.extension().is_some_and(|sort| sort == "table")).map(|path| std::fs::read(path).unwrap()).collect()
+}
+
+/// "Equal tables then compile to equal bytes" (paper 02, ticket 10): whatever the room is and whatever stood in it.
+#[test]
+fn equal_tables_compile_to_equal_bytes() {
+    with_large_stack(|| {
+        let mut rng = Rng::new(44);
+        let mut tables = examples();
+        assert!(!tables.is_empty());
+        for _ in 0..case_count(5_000) {
+            let size = some_size(&mut rng, [60, 30, 9]);
+            tables.push(bytes_of(&write_tree(&some_program(&mut rng, size))));
+        }
+        for bytes in tables {
+            let (code, _) = macro_of(&bytes);
+            for before in [0, 255, rng.byte()] {
+                let mut out = vec![before; code.len() + rng.below(4_096)];
+                assert_eq!(desk::unpacked(desk::compile(&bytes, &mut out)), [1, 0, 0, code.len() as u64]);
+                assert!(out[..code.len()] == code, "other bytes in {} bytes of {before}: table {bytes:?}", out.len());
             }
         }
     });

@@ -1,12 +1,13 @@
 //! `cue_load`, through the C interface, against the second evaluator: number and place.
 #![cfg(desk)]
 
-use second::evaluator::answer::Refusal;
+use second::evaluator::answer::{Answer, Refusal};
 use second::evaluator::code::{judge_macro, write_macro, Macro};
 use second::generate::edge_cases::edge_macro;
 use second::generate::macros::{damaged_macro, good_macro, Size};
 use second::generate::notation::{body, code, root_only, shape};
 use second::generate::rng::Rng;
+use second::harness::compare_machines::{play, run, start, started};
 use second::harness::desk;
 use second::harness::setup::{case_count, with_large_stack};
 use second::plain;
@@ -76,8 +77,8 @@ fn bytes_that_are_no_macro() {
 #[test]
 fn every_truncation() {
     let m = root_only("17 0 7, 1 0 3, 1 0 200, 15 0 0, 18 0 0, 8 0 10, 18 0 0, 1 0 4, 1 0 9, 15 0 0, 0 0 0", vec![
-        shape(10, 0, &[]),
         shape(6, 1, &[]),
+        shape(10, 0, &[]),
     ]);
     let bytes = write_macro(&m);
     for length in 0..=bytes.len() {
@@ -135,6 +136,36 @@ fn jumps_at_the_first_and_last_address() {
     assert_eq!(at(2, vec![shape(1, 0, &[])]), [0, 0, 9, 0]);
     assert_eq!(at(0, vec![shape(1, 0, &[])]), [0, 0, 9, 0]);
     assert_eq!(at(-1, vec![shape(1, 0, &[])]), [0, 0, 9, 0]);
+}
+
+/// SH records "shall come by rising address; a macro with others is refused by 8 at the first SH out of order" (paper 02, ticket 10), by
+/// every call, and nothing lent is written. Each shape here is the state found at its address, so nothing but the order is wrong.
+#[test]
+fn shapes_by_rising_address() {
+    let with = |addresses: &[u16]| {
+        let found = |address: &u16| match address {
+            4 => shape(4, 1, &[]),
+            7 => shape(7, 2, &[1, 1]),
+            _ => shape(9, 2, &[2]),
+        };
+        let text = "17 0 7, 1 0 3, 1 0 200, 15 0 0, 17 0 8, 1 0 4, 1 0 9, 15 0 0, 2 0 1, 19 0 0, 18 0 0, 18 0 0, 0 0 0";
+        root_only(text, addresses.iter().map(found).collect())
+    };
+    assert_eq!(given(&with(&[4, 7, 9])), [1, 0, 0, 0]);
+    assert_eq!(given(&with(&[4, 9])), [1, 0, 0, 0]);
+    let fresh = started(&write_macro(&with(&[4, 9])));
+    // HD, BD and 13 IN stand before the first SH.
+    for (addresses, place) in [(&[4, 9, 7][..], 15 + 2), (&[4, 4], 15 + 1), (&[9, 4], 15 + 1)] {
+        let m = with(addresses);
+        let told = [0, 0, 8, place as u64];
+        assert_eq!(given(&m), told, "{addresses:?}");
+        let (code, refusal) = (write_macro(&m), Refusal { number: 8, place });
+        let (mut state, mut answers) = (fresh.clone(), vec![0xee; 80]);
+        assert_eq!(start(&code, &mut state), Some(refusal));
+        assert_eq!(run(&code, &mut state, &[0; 64], 9), Answer::Refusal(refusal));
+        assert_eq!(play(&code, &mut state, &[0; 64], 9, &mut answers), told);
+        assert!(state == fresh && answers == [0xee; 80], "{addresses:?}");
+    }
 }
 
 /// As many instructions and shapes as the counts can say.

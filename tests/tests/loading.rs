@@ -2,7 +2,7 @@
 //! address), sentence by sentence; and generated damage.
 
 use second::evaluator::code::*;
-use second::generate::macros::{damaged_macro, good_macro, Size};
+use second::generate::macros::{damaged_macro, disordered_macro, good_macro, Size};
 use second::generate::notation::{body, code, root_only, shape};
 use second::generate::rng::Rng;
 use second::generate::runs::oracle;
@@ -270,6 +270,28 @@ fn calls_in_code() {
     assert_eq!(with("1 0 1, 2 0 1, 10 0 0, 6 0 0"), (9, 2));
     assert_eq!(with("1 0 1, 2 0 1, 10 0 2, 6 0 0"), (9, 2));
     assert_eq!(with("1 0 1, 2 0 1, 10 1 1, 6 0 0"), (9, 2));
+}
+
+/// Macros that passed until their shapes were taken out of order: 8 at the first that is not above the one before it.
+#[test]
+fn shapes_out_of_order() {
+    let (mut falling, mut equal) = (0, 0);
+    let count = case_count(10_000);
+    for seed in 0..count {
+        let mut rng = Rng::new(9_500_000 + seed as u64);
+        let mut m = disordered_macro(&mut rng, Size { bodies: 3, instructions: 12, classes: 2 }, 60);
+        let later = (1..m.shapes.len()).find(|&k| m.shapes[k].address <= m.shapes[k - 1].address).expect("they do not rise");
+        assert_eq!(loads(&m), (8, 1 + m.classes.len() + m.bodies.len() + m.code.len() + later), "{m:?}");
+        if m.shapes[later].address == m.shapes[later - 1].address {
+            equal += 1;
+        } else {
+            m.shapes.sort_by_key(|s| s.address);
+            assert_eq!(loads(&m), (0, 0), "{m:?}");
+            falling += 1;
+        }
+    }
+    // Only many cases can be asked to be spread.
+    assert!(count < 1_000 || falling.min(equal) > count / 4, "{falling} fall, {equal} are equal");
 }
 
 /// Damaged macros: judging is total, places are in range, and whatever still passes is never

@@ -100,6 +100,17 @@ judged-so : (l out : List ℕ) → Bytes l → (j : Judged Tree) → judgeTable 
 judged-so l out bytes (accepted t) h n b e = (compiled t, ap judgeMacro (written (macroOf t) out n b e) ∙ accepted-passes l bytes t h)
 judged-so l out bytes (refused r) h n b e = absurd (never-accepted (ap (λ (x : Compiled). x .verdict) e))
 
+-- "Equal tables then compile to equal bytes." (M25): whatever room is lent, and whatever stands in it
+same-front : (j : Judged Tree) (out out′ : List ℕ) (n n′ : ℕ) (b b′ : List ℕ) → compileTree macroOf j out ≡ record { verdict = accepted n; bytes = b }
+    → compileTree macroOf j out′ ≡ record { verdict = accepted n′; bytes = b′ } → take n b ≡ take n′ b′
+same-front (accepted t) out out′ n n′ b b′ e e′ = written (macroOf t) out n b e ∙ sym (written (macroOf t) out′ n′ b′ e′)
+same-front (refused r) out out′ n n′ b b′ e e′ = absurd (never-accepted (ap (λ (x : Compiled). x .verdict) e))
+
+pub equal-bytes : (table out out′ : List ℕ) (n n′ : ℕ) (b b′ : List ℕ) → compileOn macroOf table out ≡ record { verdict = accepted n; bytes = b }
+    → compileOn macroOf table out′ ≡ record { verdict = accepted n′; bytes = b′ } → take n b ≡ take n′ b′
+unfolding compileOn
+equal-bytes table out out′ n n′ b b′ e e′ = same-front (judgeTable table) out out′ n n′ b b′ e e′
+
 -- ── the whole ──
 pub record Third : Type 0 where
   -- "The loading check passes exactly the macros to which paper 01 gives neither 8 nor 9": those that read, and have a fault at no address

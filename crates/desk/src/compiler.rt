@@ -8,7 +8,8 @@ ghost use Rattle.bytecode.specs.Answers.{packed};
 ghost use Rattle.desk.specs.Compiled.{compiledNumbers};
 ghost use Rattle.compile_code.specs.Encode.{macroOf};
 
-// The macro of a table, at the front of the output, and its length. A refusal writes nothing.
+// The macro of a table, at the front of the output, and its length. A refusal writes nothing. Equal tables give equal macros: what is written is
+// `macroOf` of the table's tree, whatever the output held (`equal-bytes`, demands/specs/Third).
 #[no_mangle]
 pub extern "C" fn cue_compile(table: &[u8], out: &mut [u8]) -> u64
     ensures { λ r. ⌜ (r ≡ packed (compiledNumbers (compileOn macroOf (now (table .entry)) (now (out .entry)) .verdict)))

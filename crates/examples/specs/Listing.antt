@@ -21,7 +21,7 @@ code = joined
     (hd 0 1 11 2 ∷ bd 0 0 0 []
     ∷ op 17 0 7 ∷ op 1 0 3 ∷ op 1 0 200 ∷ op 15 0 0 ∷ op 18 0 0 ∷ op 8 0 10
     ∷ op 18 0 0 ∷ op 1 0 4 ∷ op 1 0 9 ∷ op 15 0 0 ∷ op 0 0 0
-    ∷ sh 10 0 [] ∷ sh 6 1 [] ∷ [])
+    ∷ sh 6 1 [] ∷ sh 10 0 [] ∷ [])
 
 pub passes : loading code ≡ []
 unfolding casesCompute joined code

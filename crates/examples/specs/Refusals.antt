@@ -82,6 +82,20 @@ eight : (loading (81 ∷ 81 ∷ []) ≡ 8 ∷ 0 ∷ [])
 unfolding casesCompute joined
 eight = (refl, refl, refl, refl, refl)
 
+-- 8, request 10: nine instructions that set three levels and the end, with so many SH from record 12 on; out of order it is the first that does
+-- not rise, also one of the same address, also where each is the state found there
+unfoldable shaped : ℕ → List (List ℕ) → List ℕ
+shaped n ss =
+    let set = op 1 0 1 ∷ op 1 0 1 ∷ op 15 0 0 ∷ [] in
+    joined (hd 0 1 10 n ∷ bd 0 0 0 [] ∷ (set ++ (set ++ (set ++ (op 0 0 0 ∷ ss)))))
+
+in-address-order : (loading (shaped 3 (sh 4 0 [] ∷ sh 9 0 [] ∷ sh 7 0 [] ∷ [])) ≡ 8 ∷ 14 ∷ [])
+    × (loading (shaped 2 (sh 4 0 (1 ∷ []) ∷ sh 4 0 (1 ∷ []) ∷ [])) ≡ 8 ∷ 13 ∷ [])
+    × (loading (shaped 2 (sh 9 0 [] ∷ sh 4 0 (1 ∷ []) ∷ [])) ≡ 8 ∷ 13 ∷ [])
+    × (loading (shaped 2 (sh 4 0 (1 ∷ []) ∷ sh 9 0 [] ∷ [])) ≡ [])
+unfolding casesCompute joined shaped
+in-address-order = (refl, refl, refl, refl)
+
 -- 9: op 11 in the root
 nine : loading (joined (hd 0 1 1 0 ∷ bd 0 0 0 [] ∷ op 11 0 0 ∷ [])) ≡ 9 ∷ 0 ∷ []
 unfolding casesCompute joined

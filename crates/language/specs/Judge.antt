@@ -44,6 +44,6 @@ abbrev pub compileTree : (Tree → List ℕ) → Judged Tree → List ℕ → Co
 compileTree macroOf (accepted t) out = writeMacro (macroOf t) out
 compileTree macroOf (refused r) out = compileRefused r out
 
--- "Free are the compiled code and SH order": the code of a tree is whatever a compiler makes of it
+-- "Free are the compiled code and SH order" (the order no longer: M24): the code of a tree is whatever a compiler makes of it
 unfoldable pub compileOn : (Tree → List ℕ) → List ℕ → List ℕ → Compiled
 compileOn macroOf l out = compileTree macroOf (judgeTable l) out

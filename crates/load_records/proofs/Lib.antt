@@ -1,6 +1,5 @@
 pub mod Search
 pub mod Tests
 pub mod Known
-pub mod Order
 pub mod Passing
 pub mod Whole

@@ -136,22 +136,6 @@ module _ (l : List ℕ) where
       rw (marked-at p 8 73 78 (omega arith), number-drop one p 2, number-drop one p 3, number-drop four p 4, drop-drop 8 p l, e)
       (if-not (noMark l p 8 73 78) _ _)
 
-  -- every record stands past the head
-  class-past : (k : ℕ) → 8 ≤ classPlace l k
-  unfolding classPlace
-  class-past zero = omega arith
-  class-past (suc k) = omega (arith, class-past k)
-
-  body-past : (k : ℕ) → 8 ≤ bodyPlace l k
-  unfolding bodyPlace
-  body-past zero = class-past (classes l)
-  body-past (suc k) = omega (arith, body-past k)
-
-  pub shape-past : (k : ℕ) → 8 ≤ shapePlace l k
-  unfolding shapePlace
-  shape-past zero = omega (arith, body-past (bodies l))
-  shape-past (suc k) = omega (arith, shape-past k)
-
   follows-on : (k a : ℕ) → follows (backs (λ j. placedOn l (shapePlace l j)) k) a ≡ not (ltb a (least l k))
   unfolding backs least
   follows-on zero a = rw (le-ltb a 0 (omega arith))

@@ -19,10 +19,10 @@ use Rattle.load_places.specs.Search.{alike}
 use Rattle.load_places.specs.Records.{bodies, count, shapes, shapePlace, firstOf, find}
 use Rattle.load_places.specs.Rules.{Flow, goes, ends, bad, shapeAt, shapeTypes, equals, endOf, lands, meet}
 use Rattle.load_places.specs.Index.{Well}
+use Rattle.load_places.specs.Order.{shape-past, find-none}
 use Rattle.load_views.specs.Lists.{span, span-snoc, backs-length}
 use Rattle.logic.specs.Tests.{by-test, eqb-comm, leb-not, cond-and, halves}
 use Rattle.load_views.specs.View.{stackOn, stateOn, placedOn, view, shapeOn, Typed, bytes}
-use Rattle.load_views.specs.Readers.{shape-past}
 use Rattle.load_views.specs.Known.{known-shape}
 use Rattle.load_views.specs.Stack.{alike-bytes, alike-same, sames-sym, stack-bytes}
 use Rattle.load_views.specs.Bodies.{in-body}
@@ -46,12 +46,6 @@ module _ (l : List ℕ) where
       (λ e. rw (e, e)))
 
   module _ (w : Well l) where
-    find-none : (n x : ℕ) → n ≤ shapes l → count l ≤ x → find l n x ≡ 0
-    unfolding find
-    find-none zero x h b = refl
-    find-none (suc n) x h b =
-        rw (find-none n x (omega arith) b, ne-eqb (halfAt l (shapePlace l n + 2)) x (omega (arith, known-shape l w n h .0)))
-
     find-typed : (n x : ℕ) → n ≤ shapes l → eqb (find l n x) 0 ≡ false → Typed l (find l n x + 6) (byteAt l (find l n x + 5))
     unfolding find
     find-typed zero x h e = absurd (true≢false e)
@@ -65,7 +59,7 @@ module _ (l : List ℕ) where
     unfolding view shapeAt
     shape-at x =
         by-test (ltb x (count l)) (λ h. rw h (shape-from (shapes l) x))
-        (λ h. rw h (shape-from (shapes l) x ∙ rw (find-none (shapes l) x (omega arith) (ltb-false x (count l) h))))
+        (λ h. rw h (shape-from (shapes l) x ∙ rw (find-none l (shapes l) x (λ j g e. omega (arith, known-shape l w j g .0, ltb-false x (count l) h)))))
 
     pub shape-typed : (x : ℕ) → eqb (shapeAt l x) 0 ≡ false → Typed l (shapeAt l x + 6) (byteAt l (shapeAt l x + 5))
     unfolding shapeAt

@@ -11,7 +11,7 @@ use second::evaluator::state::{sound_state, LENGTH};
 use second::evaluator::table::{bytes_of, write_tree, Tree};
 use second::generate::edge_cases::{deciding_table, deep_macro, edge_macro, edge_state, edge_table};
 use second::generate::judged_tables::judged_table;
-use second::generate::macros::{good_macro, judged_macro, Size};
+use second::generate::macros::{disordered_macro, good_macro, judged_macro, Size};
 use second::generate::programs::{plan, program, some_program};
 use second::generate::rng::Rng;
 use second::generate::runs::{oracle, some_runs, Run};
@@ -100,7 +100,12 @@ fn macro_case(rng: &mut Rng, i: usize) -> String {
     const WANTED: [u8; 9] = [0, 8, 9, 0, 9, 8, 0, 9, 9];
     let wanted = WANTED[i % WANTED.len()];
     let size = Size { bodies: 3, instructions: 10, classes: 2 };
-    let bytes = if i % 4 == 1 { edge_macro(rng) } else { judged_macro(rng, wanted, size, 25) };
+    let bytes = match i % 8 {
+        1 | 5 => edge_macro(rng),
+        // Random damage takes shapes out of order too seldom for so few cases.
+        3 => write_macro(&disordered_macro(rng, size, 25)),
+        _ => judged_macro(rng, wanted, size, 25),
+    };
     let (number, place) = number_and_place(&judge_macro(&bytes));
     format!("loaded ({}) {number} {place}", bytes_text(&bytes))
 }

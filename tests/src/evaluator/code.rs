@@ -1,7 +1,7 @@
 //! The compiled macro: its records, reading them (refusal 8), the loading rules (refusal 9),
 //! and writing a macro from its parts. Knows nothing of tables.
 
-use std::collections::{HashMap, HashSet};
+use std::collections::HashMap;
 
 use super::answer::{refuse, Refusal};
 use super::values::{binary_type, is_binary, is_unary, unary_type, Type};
@@ -76,7 +76,7 @@ pub fn byte_of_type(ty: Type) -> u8 {
 
 // Writing.
 
-/// The bytes of a macro. "Order: HD, CL, BD, IN by address, SH in any order, ZZ".
+/// The bytes of a macro, its records in the order given. "Order: HD, CL, BD, IN by address", SH "by rising address" (paper 02, ticket 10), ZZ.
 pub fn write_macro(m: &Macro) -> Vec<u8> {
     let mut out = Vec::new();
     for record in write_records(m) {
@@ -188,7 +188,8 @@ impl Bytes<'_> {
 
 /// "Refusal 8 covers marks, order, lengths, a second SH, counts (1 to 64 bodies, 16 classes,
 /// 1 to 8 fields), and a type byte, parameter count over the cells, first address not rising
-/// from 0, or first or SH address that names nothing". The place is the record's number.
+/// from 0, or first or SH address that names nothing"; and SH records that do not "come by rising address" (paper 02, ticket 10). The
+/// place is the record's number.
 pub fn read_macro(bytes: &[u8]) -> Result<Macro, Refusal> {
     let mut r = Bytes { rest: bytes, record: 0 };
     r.mark(b"HD")?;
@@ -238,7 +239,6 @@ pub fn read_macro(bytes: &[u8]) -> Result<Macro, Refusal> {
         let b = r.b32()?;
         m.code.push(Instr { op, a, b });
     }
-    let mut shaped = HashSet::new();
     for _ in 0..shapes {
         r.record += 1;
         r.mark(b"SH")?;
@@ -246,8 +246,9 @@ pub fn read_macro(bytes: &[u8]) -> Result<Macro, Refusal> {
         let holds = r.u8()?;
         let depth = r.u8()?;
         let types = r.types(depth, classes)?;
-        // "no address has two SH"
-        if address as usize >= instructions || !shaped.insert(address) {
+        // "refused by 8 at the first SH out of order"; a second SH at one address does not rise
+        let rising = m.shapes.last().is_none_or(|before| address > before.address);
+        if !rising || address as usize >= instructions {
             return r.cut();
         }
         m.shapes.push(Shape { address, holds, types });

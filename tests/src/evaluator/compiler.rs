@@ -1,6 +1,7 @@
 //! A simple compiler from an accepted tree to a macro, so that tree and machine can be held
-//! against each other ("Free are the compiled code and SH order"). An SH stands wherever a
-//! jump lands and behind every op 0, 8, 11 and 20 that is not a body's last.
+//! against each other ("Free are the compiled code and SH order"; the order no longer, by
+//! ticket 10 of paper 02). An SH stands wherever a jump lands and behind every op 0, 8, 11 and
+//! 20 that is not a body's last.
 
 use std::collections::{BTreeMap, HashMap};
 

@@ -274,7 +274,9 @@ fn jump_across(rng: &mut Rng) -> Macro {
     let from_root = rng.chance(50);
     let (a, b) = if from_root { (target, 5) } else { (1, target) };
     let mut shapes = vec![shape(1, 0, &[]), shape(3, 0, &[]), shape(5, 0, &[])];
-    rng.shuffle(&mut shapes);
+    if rng.chance(20) {
+        shapes.remove(rng.below(3));
+    }
     Macro {
         classes: Vec::new(),
         bodies: vec![body(0, 0, 0, &[]), body(3, 0, 0, &[])],
@@ -283,7 +285,7 @@ fn jump_across(rng: &mut Rng) -> Macro {
             .enumerate()
             .map(|(i, x)| if i == 4 { Instr { op: 20, a: 0, b: 0 } } else { x })
             .collect(),
-        shapes: if rng.chance(80) { shapes } else { shapes[1..].to_vec() },
+        shapes,
     }
 }
 

@@ -1,5 +1,5 @@
 //! Generated macros, made directly as code and not from trees: well-typed ones with jumps of
-//! every direction, dead code and shapes in any order, and damaged ones.
+//! every direction and dead code, and damaged ones.
 
 use crate::evaluator::answer::number_and_place;
 use crate::evaluator::code::{byte_of_type, judge_macro, type_of_byte, write_macro, write_records, Body, Instr, Macro, Shape};
@@ -93,9 +93,6 @@ fn make(rng: &mut Rng, size: Size) -> Macro {
     };
     for body in 0..body_count {
         m.make_body(body, size.instructions);
-    }
-    if m.rng.chance(60) {
-        m.rng.shuffle(&mut m.shapes);
     }
     Macro { classes: m.classes, bodies: m.bodies, code: m.code, shapes: m.shapes }
 }
@@ -582,7 +579,7 @@ pub fn damaged_macro(rng: &mut Rng, good: &Macro) -> Vec<u8> {
 fn damage_parts(rng: &mut Rng, m: &mut Macro) {
     let n = m.code.len();
     let i = rng.below(n);
-    match rng.below(22) {
+    match rng.below(23) {
         0 => m.code[i].op = rng.below(23) as u8,
         1 => m.code[i].a = m.code[i].a.wrapping_add(1),
         2 => m.code[i].b = m.code[i].b.wrapping_add(*rng.pick(&[1, -1, 256])),
@@ -615,13 +612,19 @@ fn damage_parts(rng: &mut Rng, m: &mut Macro) {
         8 if !m.shapes.is_empty() => {
             let k = rng.below(m.shapes.len());
             m.shapes[k].address = rng.below(n + 2) as u16;
+            if rng.chance(50) {
+                m.shapes.sort_by_key(|s| s.address);
+            }
         }
         9 if !m.shapes.is_empty() => {
-            let mut s = rng.pick(&m.shapes).clone();
+            // A second shape at an address, behind the first or behind all.
+            let k = rng.below(m.shapes.len());
+            let mut s = m.shapes[k].clone();
             if rng.chance(50) {
                 s.holds = s.holds.wrapping_add(1);
             }
-            m.shapes.push(s);
+            let place = if rng.chance(50) { k + 1 } else { m.shapes.len() };
+            m.shapes.insert(place, s);
         }
         10 => {
             let k = rng.below(m.bodies.len());
@@ -679,7 +682,20 @@ fn damage_parts(rng: &mut Rng, m: &mut Macro) {
             m.code.push(Instr { op: 20, a: 0, b: 0 });
             m.bodies.truncate(1);
         }
+        21 if m.shapes.len() > 1 => disorder(rng, &mut m.shapes),
         _ => m.code[i].b = 0,
+    }
+}
+
+/// Takes rising shapes, at least two, out of order: two of them, neighbours or not, change places, or one gets its neighbour's address.
+fn disorder(rng: &mut Rng, shapes: &mut [Shape]) {
+    let later = 1 + rng.below(shapes.len() - 1);
+    let before = later - 1;
+    match rng.below(4) {
+        0 => shapes.swap(before, later),
+        1 => shapes.swap(rng.below(later), later),
+        2 => shapes[later].address = shapes[before].address,
+        _ => shapes[before].address = shapes[later].address,
     }
 }
 
@@ -724,13 +740,31 @@ fn damage_records(rng: &mut Rng, m: &Macro) -> Vec<u8> {
     records.concat()
 }
 
+/// A macro that passes, with at most so many instructions.
+fn short_macro(rng: &mut Rng, size: Size, most: usize) -> Macro {
+    loop {
+        let good = good_macro(rng, size);
+        if good.code.len() <= most {
+            return good;
+        }
+    }
+}
+
+/// A macro that passed until its shapes were taken out of order, with at most so many instructions.
+pub fn disordered_macro(rng: &mut Rng, size: Size, most: usize) -> Macro {
+    loop {
+        let mut m = short_macro(rng, size, most);
+        if m.shapes.len() > 1 {
+            disorder(rng, &mut m.shapes);
+            return m;
+        }
+    }
+}
+
 /// Bytes that the loading check gives this number (0: passes).
 pub fn judged_macro(rng: &mut Rng, number: u8, size: Size, most: usize) -> Vec<u8> {
     loop {
-        let good = good_macro(rng, size);
-        if good.code.len() > most {
-            continue;
-        }
+        let good = short_macro(rng, size, most);
         let bytes = if number == 0 && rng.chance(85) { write_macro(&good) } else { damaged_macro(rng, &good) };
         if number_and_place(&judge_macro(&bytes)).0 == number {
             return bytes;

@@ -77,14 +77,17 @@ pub(crate) fn records(l: &[u8]) -> Result<Records, usize> {
         p += 8;
         i += 1;
     }
+    // the lowest address that the next SH may have
+    let mut lowest = 0;
     for _ in 0..shapes {
         if !marked(l, p, 6, b"SH") || !all_types(l, p + 6, l[p + 5] as usize, classes) {
             return Err(i);
         }
         let at = half(l, p + 2);
-        if at >= count || r.shapes[at] != 0 {
+        if at < lowest || at >= count {
             return Err(i);
         }
+        lowest = at + 1;
         r.shapes[at] = p as u32;
         p += 6 + l[p + 5] as usize;
         i += 1;

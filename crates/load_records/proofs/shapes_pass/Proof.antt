@@ -7,9 +7,9 @@ use lib.ListN.{length, length-set}
 use borrow.Author.Tests.{not-true, not-false}
 use Rattle.load_places.specs.Records.{badShape, shapePlace, shapeFits, least}
 use Rattle.load_places.specs.Index.{Indexed}
+use Rattle.load_places.specs.Order.{find-past}
 use Rattle.load_records.specs.Answer.{Upto}
 use Rattle.load_records.proofs.Known as known
-use Rattle.load_records.proofs.Order.{find-past}
 use Rattle.load_records.proofs.Passing as law
 use Rattle.load_records.proofs.shapes_pass.Statement.{statement}
 use Rattle.load_records.proofs.shapes_pass.Tie as tie
