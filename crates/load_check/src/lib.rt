@@ -8,11 +8,13 @@ pub use load_records::scan;
 pub use load_rules::body_at;
 pub use load_rules::class_at;
 pub use load_rules::first_body;
+pub use load_rules::first_shape;
 pub use load_rules::found_at;
 pub use load_rules::go_on;
 pub use load_rules::instruction_at;
 pub use load_rules::is_bad;
 pub use load_rules::next_body;
+pub use load_rules::shape_after;
 pub use root::root_at;
 use values::Refusal;
 

@@ -2,14 +2,20 @@
 use mathlib.Core.Path.{_≡_}
 use mathlib.Core.List.{List}
 use mathlib.Core.Bool.{false}
-use Prim.Native.Nat.{ℕ, _<_}
-use lib.ListN.{getD}
+use Prim.Native.Nat.{ℕ, _+_, _*_, _/_, _<_, _≤_}
+use lib.ListN.{length, getD}
 use Rattle.load_places.specs.Search.{Clean}
-use Rattle.load_places.specs.Records.{classes, bodies, count, shapes, classPlace, bodyPlace, codeBase, find, badHead, badClass, badBody, badCode, badShape}
+use Rattle.load_places.specs.Records.{classes, bodies, count, shapes, classPlace, bodyPlace, codeBase, shapePlace, addressOf, least, badHead, badClass, badBody, badCode, badShape}
 
--- ix has at each address below n the place of its shape among the first k, else 0
+-- where a search among the first k shapes for those of addresses 8 * b to 8 * b + 7 begins: there is none, p is 0; or p is the place of one that
+-- none of them stands before
+pub data Group (l : List ℕ) (k b p : ℕ) : Type 0 where
+  vacant : p ≡ 0 → ((j : ℕ) → j < k → addressOf l j / 8 ≡ b → ⊥) → Group l k b p
+  begins : (j : ℕ) → j < k → p ≡ shapePlace l j → least l j ≤ 8 * b → Group l k b p
+
+-- ix has such a place for each group of addresses below n
 abbrev pub Indexed : List ℕ → List ℕ → ℕ → ℕ → Type 0
-Indexed l ix n k = (x : ℕ) → x < n → getD ix x 0 ≡ find l k x
+Indexed l ix n k = (b : ℕ) → 8 * b < n → Group l k b (getD ix b 0)
 
 -- px has the places of the first k of the records whose places are given
 abbrev pub Placed : (ℕ → ℕ) → List ℕ → ℕ → Type 0
@@ -23,9 +29,14 @@ pub record Well (l : List ℕ) : Type 0 where
   pub of-code : Clean (badCode l) (count l)
   pub of-shapes : Clean (badShape l) (shapes l)
 
+-- the end stands behind the last shape
+abbrev pub Ended : List ℕ → Type 0
+Ended l = shapePlace l (shapes l) + 2 ≡ length l
+
 -- what the record pass leaves in the indexes of shapes, bodies and classes, and the place of the first instruction
 pub record Ready (l ix bx cx : List ℕ) (base : ℕ) : Type 0 where
   pub well : Well l
+  pub ended : Ended l
   pub based : base ≡ codeBase l
   pub small : base < 65536
   pub indexed : Indexed l ix (count l) (shapes l)

@@ -26,3 +26,10 @@ pub struct Within {
     pub first: usize,
     pub end: usize,
 }
+
+// The first shape that is not before an address: where it stands, and its address. Past the last one: where the end stands, and an address that no
+// instruction has.
+pub struct NextShape {
+    pub place: usize,
+    pub address: usize,
+}

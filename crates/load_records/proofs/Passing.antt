@@ -1,22 +1,23 @@
 -- Laws of the passes over records: how far a pass has come, and what it leaves in its index.
-use mathlib.Core.Path.{_≡_, refl, sym, _∙_}
+use mathlib.Core.Path.{_≡_, refl, sym, ap, _∙_}
 use mathlib.Core.Bool.{Bool, true, false, cond, not, _&&_}
 use mathlib.Core.List.{List}
-use Prim.Native.Nat.{ℕ, zero, suc, _+_, _*_, _-_, _<_, _≤_}
+use Prim.Native.Nat.{ℕ, zero, suc, _+_, _*_, _/_, _-_, _<_, _≤_}
 use native.Mathlib.Omega.{arith}
 use native.Mathlib.Numerals.{add-one}
 use native.Mathlib.Decide.{ℕ-discrete}
-use lib.ListN.{length, set}
+use lib.ListN.{length, set, getD}
 use lib.Seq.{getD-set-other, getD-set-same}
-use lib.Dec.{eqb, eqb·suc-zero}
-use borrow.Author.Tests.{eq-eqb, ne-eqb, lt-ltb, le-ltb}
+use lib.Dec.{eqb, ltb}
+use borrow.Author.Tests.{ltb-true, ltb-false, lt-ltb, le-ltb}
 use Rattle.words.specs.Numbers.{byteAt, halfAt}
 use Rattle.load_places.specs.Search.{seek, first}
-use Rattle.load_places.specs.Records.{classPlace, bodyPlace, firstOf, codeBase, shapePlace, find, least, rises, bodyFits, badBody, badCode, shapeFits, badShape}
-use Rattle.load_places.specs.Index.{Indexed, Placed}
+use Rattle.load_places.specs.Records.{classPlace, bodyPlace, firstOf, codeBase, shapePlace, addressOf, least, rises, bodyFits, badBody, badCode, shapeFits, badShape}
+use Rattle.load_places.specs.Index.{Group, vacant, begins, Indexed, Placed}
 use Rattle.load_records.specs.Answer.{Upto, Passes}
 use Rattle.load_records.proofs.Search.{first-hit, first-none, first-cut, clean-none, clean-more}
 use Rattle.load_records.proofs.Tests.{cut, whole}
+use Rattle.logic.specs.Tests.{by-test}
 
 module _ {bad : ℕ → Bool} {place : ℕ → ℕ} {n : ℕ} where
   pub starts : (p : ℕ) → p ≡ place 0 → Upto bad place n 0 p
@@ -91,6 +92,13 @@ module _ (l : List ℕ) (base : ℕ) (e : base ≡ codeBase l) where
       f ∙ sym (first-cut (badCode l) n w h (λ y. rw (← e) (cut l (base + 8 * w) 8 73 78 (c y))))
 
 -- ── the shapes ──
+module _ (ix : List ℕ) (u a p : ℕ) where
+  pub noted-late : 8 * (a / 8) < u → ix ≡ cond (ltb (8 * (a / 8)) u) ix (set ix (a / 8) p)
+  noted-late h = rw (lt-ltb _ _ h)
+
+  pub noted-first : u ≤ 8 * (a / 8) → set ix (a / 8) p ≡ cond (ltb (8 * (a / 8)) u) ix (set ix (a / 8) p)
+  noted-first h = rw (le-ltb _ _ h)
+
 pub least-first : (l : List ℕ) → 0 ≡ least l 0
 unfolding least
 least-first l = refl
@@ -117,13 +125,28 @@ module _ (l : List ℕ) (k p : ℕ) (e : p ≡ shapePlace l k) where
   unfolding shapePlace
   next-shape c d = rw (add-one k, ← e, ← d)
 
-  pub indexed-more : (ix : List ℕ) (n a : ℕ) → a ≡ halfAt l (p + 2) → a < n → n ≤ length ix → find l k a ≡ 0 → Indexed l ix n k → Indexed l (set ix a p) n (k + 1)
-  unfolding find
-  indexed-more ix n a d h g z I x r = elim (ℕ-discrete x a) [
-    | yes q ↦ rw (q, add-one k, eq-eqb (find l k a) 0 z, ← e, eq-eqb (halfAt l (p + 2)) a (sym d)) (getD-set-same ix a p 0 (omega arith))
-    | no q ↦ getD-set-other ix a x p 0 q ∙ I x r ∙ rw (add-one k, ← e, ne-eqb (halfAt l (p + 2)) x (λ y. q (sym y ∙ sym d))) (kept (find l k x))
-  ]
-    where
-      kept : (v : ℕ) → v ≡ cond (eqb v 0) 0 v
-      kept zero = refl
-      kept (suc v) = simp (eqb·suc-zero v)
+  -- a group's search begins at its first shape
+  module _ (u a : ℕ) (h : u ≡ least l k) (d : a ≡ halfAt l (p + 2)) (g : u ≤ a) where
+    at-hand : addressOf l k ≡ a
+    at-hand = ap (λ (q : ℕ). halfAt l (q + 2)) (sym e) ∙ sym d
+
+    -- one more shape; b is no group of it, or has one already
+    more : (b q : ℕ) → (a / 8 ≡ b → 8 * b < u) → Group l k b q → Group l (k + 1) b q
+    unfolding least
+    more b q o (begins j f s r) = begins j (omega arith) s r
+    more b q o (vacant z f) = vacant z (λ j r y. elim (ℕ-discrete j k) [
+      | yes v ↦ let w : a / 8 ≡ b = ap (λ (x : ℕ). x / 8) (sym at-hand) ∙ ap (λ (i : ℕ). addressOf l i / 8) (sym v) ∙ y in late k h f (o w) w
+      | no v ↦ f j (omega (arith, v)) y
+    ])
+      where
+        late : (k : ℕ) → u ≡ least l k → ((j : ℕ) → j < k → addressOf l j / 8 ≡ b → ⊥) → 8 * b < u → a / 8 ≡ b → ⊥
+        late zero h f t w = omega arith
+        late (suc i) h f t w = f i (omega arith) (omega arith)
+
+    pub indexed-more : (ix : List ℕ) (n : ℕ) → a < 8 * length ix → Indexed l ix n k → Indexed l (cond (ltb (8 * (a / 8)) u) ix (set ix (a / 8) p)) n (k + 1)
+    indexed-more ix n t I b r = by-test (ltb (8 * (a / 8)) u)
+        (λ y. rw y (more b (getD ix b 0) (λ w. rw (← w) (ltb-true _ _ y)) (I b r)))
+        (λ y. rw y (elim (ℕ-discrete b (a / 8)) [
+          | yes q ↦ rw q (begins k (omega arith) (getD-set-same ix (a / 8) p 0 (omega arith) ∙ e) (rw (← h) (ltb-false _ _ y)))
+          | no q ↦ rw (getD-set-other ix (a / 8) b p 0 q) (more b (getD ix b 0) (λ w. absurd (q (sym w))) (I b r))
+        ]))

@@ -6,12 +6,12 @@ use Prim.Native.Nat.{ℕ, _+_, _-_, _<_, _≤_}
 use native.Mathlib.Omega.{arith}
 use lib.ListN.{length}
 use lib.Dec.{ltb, leb, eqb}
-use borrow.Author.Tests.{eq-eqb, ne-eqb, lt-ltb, le-ltb, ltb-false, not-true}
+use borrow.Author.Tests.{eq-eqb, ne-eqb, lt-ltb, le-ltb, ltb-false, eqb-true, not-true}
 use Rattle.words.specs.Numbers.{byteAt, halfAt}
 use Rattle.load_places.specs.Search.{seek}
 use Rattle.load_places.specs.Records.{classes, count, classPlace, noMark, noType, badTypes, badHead, badClass, rises, bodyFits, shapeFits, readEnd, reads, unread}
 use Rattle.load_records.specs.Answer.{typedFits}
-use Rattle.logic.specs.Tests.{never, no-true, no-false}
+use Rattle.logic.specs.Tests.{never, by-test, no-true, no-false}
 
 -- ── a chain of tests that came out well passed each ──
 
@@ -198,3 +198,10 @@ module _ (l : List ℕ) (p k : ℕ) where
   pub end-3 : noMark l p 2 90 90 ≡ false → (length l ≡ p + 2 → ⊥) → readEnd l p k ≡ unread (k + 1)
   unfolding readEnd
   end-3 a b = simp (a, ne-eqb _ _ b)
+
+  pub end-stands : readEnd l p k ≡ reads → length l ≡ p + 2
+  unfolding readEnd
+  end-stands e =
+      by-test (noMark l p 2 90 90) (λ a. let z : unread k ≡ reads = rw a at e in absurd (let y : _≡_ {A = ℕ} 0 1 = cc in omega arith))
+      (λ a. by-test (eqb (length l) (p + 2)) (λ b. eqb-true _ _ b)
+      (λ b. let z : unread (k + 1) ≡ reads = rw (a, b) at e in absurd (let y : _≡_ {A = ℕ} 0 1 = cc in omega arith)))

@@ -1,17 +1,19 @@
 -- The record pass as a whole: each way out of it is what the definition says, and the last leaves the indexes ready.
-use mathlib.Core.Path.{_≡_, ap, _∙_}
+use mathlib.Core.Path.{_≡_, sym, ap, subst, _∙_}
 use mathlib.Core.Bool.{Bool, false}
 use mathlib.Core.List.{List}
 use Prim.Native.Nat.{ℕ, _+_, _*_, _<_, _≤_}
 use native.Mathlib.Omega.{arith}
+use lib.ListN.{length, getD}
 use borrow.Author.Tests.{lt-ltb, le-ltb}
 use Rattle.load_places.specs.Search.{first}
-use Rattle.load_places.specs.Records.{classes, bodies, count, classPlace, bodyPlace, codeBase, shapePlace, find, badHead, badClass, badBody, badCode, badShape, unread, readEnd, readRecords}
-use Rattle.load_places.specs.Index.{Indexed, Placed, Well, Ready}
+use Rattle.load_places.specs.Records.{classes, bodies, count, classPlace, bodyPlace, codeBase, shapePlace, badHead, badClass, badBody, badCode, badShape, unread, readEnd, readRecords}
+use Rattle.load_places.specs.Index.{Group, Indexed, Placed, Well, Ready}
 use Rattle.load_places.specs.declared.Records.{Records}
 use Rattle.load_places.specs.declared.Records.the-variants.{Reads, Unread}
-use Rattle.load_records.specs.Answer.{Left, BaseIs, Passes, Counts}
+use Rattle.load_records.specs.Answer.{readOf, Left, BaseIs, Passes, Counts}
 use Rattle.load_records.proofs.Search.{first-le, first-clean}
+use Rattle.load_records.proofs.Tests.{end-stands}
 
 -- ── where a pass that met no bad one ends, the next begins ──
 module _ {bad : ℕ → Bool} {place : ℕ → ℕ} {n k p : ℕ} (P : Passes bad place n k p) (h : n ≤ k) where
@@ -70,16 +72,18 @@ module _ {l : List ℕ} {c m n t : ℕ} (h : badHead l ≡ false) (N : Counts l 
             of-shapes = first-clean _ _ (rw (← N .of-shapes, ← S .upto) hs);
           }
 
-          pub whole-ready : (ix bx cx : List ℕ) → q < 65536 → Indexed l ix n s → Placed (bodyPlace l) bx b → Placed (classPlace l) cx k → Ready l ix bx cx q
-          whole-ready ix bx cx small X Y Z = record {
+          pub whole-ready : (ix bx cx : List ℕ) → q < 65536 → Indexed l ix n s → Placed (bodyPlace l) bx b → Placed (classPlace l) cx k → length l ≡ r + 2
+              → Ready l ix bx cx q
+          whole-ready ix bx cx small X Y Z z = record {
             well = whole-well;
+            ended = ap (λ (p : ℕ). p + 2) (ap (shapePlace l) (sym (N .of-shapes)) ∙ sym (at-end S hs)) ∙ sym z;
             based = code-start l B (N .of-bodies) hb;
             small = small;
-            indexed = λ x g. X x (rw (N .of-code) g) ∙ ap (λ (j : ℕ). find l j x) (all-read S hs ∙ N .of-shapes);
+            indexed = λ x g. subst (λ (j : ℕ). Group l j x (getD ix x 0)) (all-read S hs ∙ N .of-shapes) (X x (rw (N .of-code) g));
             of-bodies = λ j g. Y j (omega (arith, N .of-bodies));
             of-classes = λ j g. Z j (omega (arith, N .of-classes));
           }
 
-pub left : (l ix bx cx : List ℕ) (base : ℕ) (r : Records) → BaseIs r base → Ready l ix bx cx base → Left l ix bx cx r
-left l ix bx cx base (Reads b) e R = rw e R
-left l ix bx cx base (Unread k) e R = tt
+pub left : (l ix bx cx : List ℕ) (base p k : ℕ) (r : Records) → readOf r ≡ readEnd l p k → BaseIs r base → (length l ≡ p + 2 → Ready l ix bx cx base) → Left l ix bx cx r
+left l ix bx cx base p k (Reads b) d e R = rw e (R (end-stands l p k (sym d)))
+left l ix bx cx base p k (Unread j) d e R = tt

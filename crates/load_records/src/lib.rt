@@ -5,9 +5,9 @@ use formats::wide;
 use load_places::Records;
 ghost use mathlib.Core.Path.{_≡_};
 ghost use mathlib.Core.Bool.{true, false, cond, not, _&&_, _||_};
-ghost use Prim.Native.Nat.{ℕ, _+_, _*_, _-_, _≤_, _<_};
-ghost use lib.ListN.{length};
-ghost use lib.Dec.{eqb};
+ghost use Prim.Native.Nat.{ℕ, _+_, _*_, _/_, _-_, _≤_, _<_};
+ghost use lib.ListN.{length, set};
+ghost use lib.Dec.{eqb, ltb};
 ghost use Rattle.load_places.specs.Search.{first};
 ghost use Rattle.load_places.specs.Records.{classes as classCount, count, classPlace, bodyPlace, codeBase, shapePlace, noMark, noType, badTypes, badHead, badClass};
 ghost use Rattle.load_places.specs.Records.{rises, bodyFits, badBody, badCode, shapeFits, badShape, readEnd, readRecords};
@@ -293,7 +293,20 @@ fn code_pass(code: &[u8], base: usize, instructions: usize) -> usize
     bad
 }
 
-// The shapes, from the first one's place; the index gets each one's place at its address.
+// The index of shapes gets the place of an address's shape if it is the first of its group: if the least address that it may have is not past the
+// group's first.
+fn note_shape(shapes: &mut [u32], least: usize, address: usize, place: usize)
+    requires { ⌜ (address < 8 * length (now shapes)) × (address < 65536) × (place < 4294967296) ⌝ }
+    ensures { λ r. ⌜ now (shapes .exit) ≡ cond (ltb (8 * (address / 8)) least) (now (shapes .entry)) (set (now (shapes .entry)) (address / 8) place) ⌝ }
+{
+    let group = address / SHAPE_GROUP;
+    if SHAPE_GROUP * group < least {
+        return;
+    }
+    shapes[group] = place as u32;
+}
+
+// The shapes, from the first one's place.
 fn shapes_pass(
     code: &[u8],
     shapes: &mut [u32],
@@ -303,7 +316,7 @@ fn shapes_pass(
     total: usize,
 ) -> Passed
     requires { ⌜ (from ≡ shapePlace (now code) 0) × (from < 1000000) × (classes ≡ classCount (now code)) × (instructions ≡ count (now code))
-        × (total < 65536) × (instructions ≤ length (now shapes)) × (Indexed (now code) (now shapes) instructions 0) ⌝ }
+        × (total < 65536) × (instructions ≤ 8 * length (now shapes)) × (Indexed (now code) (now shapes) instructions 0) ⌝ }
     ensures { λ r. ⌜ Passes (badShape (now (code .entry))) (shapePlace (now (code .entry))) total (r .read) (r .end) × (r .end < 4294967296)
         × Indexed (now (code .entry)) (now (shapes .exit)) instructions (r .read) ⌝ }
 {
@@ -318,7 +331,7 @@ fn shapes_pass(
         if a < least {
             return Passed { read: k, end: p };
         }
-        shapes[a] = p as u32;
+        note_shape(shapes, least, a, p);
         least = a + 1;
         p = p + SHAPE_BYTES + words::wide::byte_at(code, p + SHAPE_DEPTH_AT);
         k += 1;
@@ -334,7 +347,7 @@ pub fn scan(
     classes: &mut [u32],
     instructions: usize,
 ) -> Records
-    requires { ⌜ (badHead (now code) ≡ false) × (instructions ≡ count (now code)) × (instructions ≤ length (now shapes)) × (64 ≤ length (now bodies))
+    requires { ⌜ (badHead (now code) ≡ false) × (instructions ≡ count (now code)) × (instructions ≤ 8 * length (now shapes)) × (64 ≤ length (now bodies))
         × (16 ≤ length (now classes)) × (Indexed (now code) (now shapes) instructions 0) ⌝ }
     ensures { λ r. ⌜ (readOf r ≡ readRecords (now (code .entry))) × Left (now (code .entry)) (now (shapes .exit)) (now (bodies .exit)) (now (classes .exit)) r ⌝ }
 {

@@ -1,5 +1,5 @@
 -- An address: what flows in opens a body and meets a shape, and what the op leaves flows on.
-use mathlib.Core.Path.{_≡_, sym, _∙_}
+use mathlib.Core.Path.{_≡_, refl, sym, _∙_}
 use mathlib.Core.Bool.{true, false}
 use mathlib.Core.List.{List}
 use Prim.Native.Nat.{ℕ, _+_, _<_, _≤_}
@@ -9,37 +9,36 @@ use Rattle.load_places.specs.Search.{tops}
 use Rattle.load_places.specs.Records.{bodyPlace, firstOf, codePlace}
 use Rattle.load_places.specs.Rules.{Flow, goes, ends, bad, shapeAt, equals, bodyOf, endOf, chain, effect, meet, agree, leave, plain, opens, found, step}
 
-module _ (l : List ℕ) (x : ℕ) (f : Flow) (p : ℕ) (e : p ≡ shapeAt l x) where
-  pub meet-none : p ≡ 0 → f ≡ meet l (shapeAt l x) f
+pub meet-none : (l : List ℕ) (f : Flow) → f ≡ meet l 0 f
+unfolding meet
+meet-none l f = refl
+
+module _ (l : List ℕ) (f : Flow) (p : ℕ) (n : (p ≡ 0 → ⊥)) where
+  pub meet-holds : 16 < byteAt l (p + 4) → bad ≡ meet l p f
   unfolding meet
-  meet-none z = rw (← e, eq-eqb p 0 z)
+  meet-holds h = rw (ne-eqb p 0 n, lt-ltb 16 (byteAt l (p + 4)) h)
 
-  module _ (n : (p ≡ 0 → ⊥)) where
-    pub meet-holds : 16 < byteAt l (p + 4) → bad ≡ meet l (shapeAt l x) f
+  module _ (h : byteAt l (p + 4) ≤ 16) where
+    pub meet-depth : 32 < byteAt l (p + 5) → bad ≡ meet l p f
     unfolding meet
-    meet-holds h = rw (← e, ne-eqb p 0 n, lt-ltb 16 (byteAt l (p + 4)) h)
+    meet-depth d = rw (ne-eqb p 0 n, le-ltb 16 (byteAt l (p + 4)) h, lt-ltb 32 (byteAt l (p + 5)) d)
 
-    module _ (h : byteAt l (p + 4) ≤ 16) where
-      pub meet-depth : 32 < byteAt l (p + 5) → bad ≡ meet l (shapeAt l x) f
+    module _ (d : byteAt l (p + 5) ≤ 32) where
+      meet-agree : agree l p f ≡ meet l p f
       unfolding meet
-      meet-depth d = rw (← e, ne-eqb p 0 n, le-ltb 16 (byteAt l (p + 4)) h, lt-ltb 32 (byteAt l (p + 5)) d)
+      meet-agree = rw (ne-eqb p 0 n, le-ltb 16 (byteAt l (p + 4)) h, le-ltb 32 (byteAt l (p + 5)) d)
 
-      module _ (d : byteAt l (p + 5) ≤ 32) where
-        meet-agree : agree l p f ≡ meet l (shapeAt l x) f
-        unfolding meet
-        meet-agree = rw (← e, ne-eqb p 0 n, le-ltb 16 (byteAt l (p + 4)) h, le-ltb 32 (byteAt l (p + 5)) d)
+      pub meet-same : (g : ℕ) (s : List ℕ) → f ≡ goes g s → equals l p g s ≡ true → goes g s ≡ meet l p f
+      meet-same g s y q = sym (rw (y, q)) ∙ meet-agree
 
-        pub meet-same : (g : ℕ) (s : List ℕ) → f ≡ goes g s → equals l p g s ≡ true → goes g s ≡ meet l (shapeAt l x) f
-        meet-same g s y q = sym (rw (y, q)) ∙ meet-agree
+      pub meet-other : (g : ℕ) (s : List ℕ) → f ≡ goes g s → equals l p g s ≡ false → bad ≡ meet l p f
+      meet-other g s y q = sym (rw (y, q)) ∙ meet-agree
 
-        pub meet-other : (g : ℕ) (s : List ℕ) → f ≡ goes g s → equals l p g s ≡ false → bad ≡ meet l (shapeAt l x) f
-        meet-other g s y q = sym (rw (y, q)) ∙ meet-agree
+      pub meet-load : f ≡ ends → (st : List ℕ) (g c : ℕ) → g ≡ byteAt l (p + 4) → c ≡ byteAt l (p + 5) → tops st 0 c ≡ tops l (p + 6) c → goes g (tops st 0 c) ≡ meet l p f
+      meet-load y st g c eg ec t = sym (rw (y, t, eg, ec)) ∙ meet-agree
 
-        pub meet-load : f ≡ ends → (st : List ℕ) (g c : ℕ) → g ≡ byteAt l (p + 4) → c ≡ byteAt l (p + 5) → tops st 0 c ≡ tops l (p + 6) c → goes g (tops st 0 c) ≡ meet l (shapeAt l x) f
-        meet-load y st g c eg ec t = sym (rw (y, t, eg, ec)) ∙ meet-agree
-
-        pub meet-bad : f ≡ bad → bad ≡ meet l (shapeAt l x) f
-        meet-bad y = sym (rw y) ∙ meet-agree
+      pub meet-bad : f ≡ bad → bad ≡ meet l p f
+      meet-bad y = sym (rw y) ∙ meet-agree
 
 module _ (l : List ℕ) (k i : ℕ) (f : Flow) (x : ℕ) (ex : x ≡ endOf l k) where
   pub leave-out : (h : ℕ) (s : List ℕ) → f ≡ goes h s → i + 1 ≡ x → bad ≡ leave l k i f
@@ -54,14 +53,14 @@ module _ (l : List ℕ) (k i : ℕ) (f : Flow) (x : ℕ) (ex : x ≡ endOf l k) 
   unfolding leave
   leave-end y e = rw (y, ← ex, eq-eqb (i + 1) x e)
 
-  module _ (y : f ≡ ends) (e : (i + 1 ≡ x → ⊥)) (p : ℕ) (ep : p ≡ shapeAt l (i + 1)) where
-    pub leave-lost : p ≡ 0 → bad ≡ leave l k i f
+  module _ (y : f ≡ ends) (e : (i + 1 ≡ x → ⊥)) where
+    pub leave-lost : 0 ≡ shapeAt l (i + 1) → bad ≡ leave l k i f
     unfolding leave
-    leave-lost z = rw (y, ← ex, ne-eqb (i + 1) x e, ← ep, eq-eqb p 0 z)
+    leave-lost z = rw (y, ← ex, ne-eqb (i + 1) x e, ← z)
 
-    pub leave-met : (p ≡ 0 → ⊥) → ends ≡ leave l k i f
+    pub leave-met : (p : ℕ) → p ≡ shapeAt l (i + 1) → (p ≡ 0 → ⊥) → ends ≡ leave l k i f
     unfolding leave
-    leave-met z = rw (y, ← ex, ne-eqb (i + 1) x e, ← ep, ne-eqb p 0 z)
+    leave-met p ep z = rw (y, ← ex, ne-eqb (i + 1) x e, ← ep, ne-eqb p 0 z)
 
   pub leave-bad : f ≡ bad → bad ≡ leave l k i f
   unfolding leave
@@ -87,8 +86,8 @@ module _ (l : List ℕ) (k i : ℕ) (f : Flow) (a : ℕ) (d : a ≡ firstOf l k)
       opens-odd g = rw (← d, ← e, eq-eqb a i y, le-ltb 32 (byteAt l (q + 6)) p, ← ex, ← ew, g)
 
 module _ (l : List ℕ) (k i : ℕ) (ek : k ≡ bodyOf l i) (f : Flow) where
-  pub found-is : (o : Flow) → o ≡ opens l k i f → meet l (shapeAt l i) o ≡ found l i f
-  found-is o e = rw (e, ek)
+  pub found-is : (o : Flow) → o ≡ opens l k i f → (p : ℕ) → p ≡ shapeAt l i → meet l p o ≡ found l i f
+  found-is o e p d = rw (e, ek, d)
 
   pub step-is : (g e : Flow) → g ≡ found l i f → e ≡ chain g (λ h s. effect l k (byteAt l (codePlace l i + 2)) (byteAt l (codePlace l i + 3))
       (wordAt l (codePlace l i + 4)) h s) → leave l k i e ≡ step l i f

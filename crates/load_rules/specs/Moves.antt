@@ -1,17 +1,19 @@
 -- How the code holds a flow, and what its workers may take for granted.
 use mathlib.Core.Path.{_≡_}
-use mathlib.Core.Bool.{Bool, true, false}
+use mathlib.Core.Bool.{Bool, true, false, cond}
 use mathlib.Core.List.{List}
-use Prim.Native.Nat.{ℕ, _+_, _<_, _≤_}
+use Prim.Native.Nat.{ℕ, _+_, _*_, _<_, _≤_}
+use lib.Dec.{ltb}
 use lib.ListN.{length}
 use Rattle.words.specs.Numbers.{byteAt}
 use Rattle.load_places.specs.Search.{tops}
-use Rattle.load_places.specs.Records.{classes, bodies, count, shapes, classPlace, bodyPlace, firstOf}
+use Rattle.load_places.specs.Records.{classes, bodies, count, shapes, classPlace, bodyPlace, firstOf, shapePlace, addressOf, least}
 use Rattle.load_places.specs.Rules.{Flow, goes, ends, bad, shapeAt, bodyOf, endOf}
-use Rattle.load_places.specs.Index.{Well, Indexed, Placed}
+use Rattle.load_places.specs.Index.{Well, Ended, Indexed, Placed}
 use Rattle.load_places.specs.declared.Moved.{Moved}
 use Rattle.load_places.specs.declared.Moved.the-variants.{Goes, Ends, Bad}
 use Rattle.load_places.specs.declared.Within.{Within}
+use Rattle.load_places.specs.declared.NextShape.{NextShape}
 
 -- the type bytes stand in st from the bottom; a move says how many of them count
 abbrev pub flowOf : Moved → List ℕ → Flow
@@ -50,8 +52,9 @@ pub record Classed (l cx : List ℕ) : Type 0 where
 
 pub record Shaped (l ix : List ℕ) : Type 0 where
   pub well : Well l
+  pub ended : Ended l
   pub indexed : Indexed l ix (count l) (shapes l)
-  pub long : count l ≤ length ix
+  pub long : count l ≤ 8 * length ix
 
 pub record Able (l ix bx cx : List ℕ) : Type 0 where
   pub shaped : Shaped l ix
@@ -79,5 +82,27 @@ pub record ClassAt (l : List ℕ) (a r : ℕ) : Type 0 where
 
 pub record ShapeAt (l : List ℕ) (x r : ℕ) : Type 0 where
   pub is : r ≡ shapeAt l x
-  pub small : r < 4294967296
   pub inside : (r ≡ 0 → ⊥) → r + 6 + byteAt l (r + 5) ≤ length l
+
+-- ── shapes by rising address ──
+-- p is the place of a shape, or of the end behind the last
+abbrev pub OneOfShapes : List ℕ → ℕ → Type 0
+OneOfShapes l p = (j : ℕ) × (j ≤ shapes l) × (p ≡ shapePlace l j)
+
+-- of one that is not past address x
+abbrev pub NotPast : List ℕ → ℕ → ℕ → Type 0
+NotPast l x p = (j : ℕ) × (j ≤ shapes l) × (p ≡ shapePlace l j) × (least l j ≤ x)
+
+-- the j-th shape's address; behind the last, one that there is not
+abbrev pub nextAddress : List ℕ → ℕ → ℕ
+nextAddress l j = cond (ltb j (shapes l)) (addressOf l j) 65536
+
+-- s is the first shape not before address i
+pub record Next (l : List ℕ) (i : ℕ) (s : NextShape) : Type 0 where
+  pub index : ℕ
+  pub within : index ≤ shapes l
+  pub stands : s .place ≡ shapePlace l index
+  pub passed : least l index ≤ i
+  pub is : s .address ≡ nextAddress l index
+  pub ahead : i ≤ s .address
+  pub few : count l < 65536

@@ -2,12 +2,15 @@
 // here; the walk itself, which also tests a state on its way, is in `state_check`.
 mod lookup;
 mod ops;
+mod shapes;
 mod stack;
 mod walk;
 
 pub use lookup::body_at;
 pub use lookup::class_at;
 pub use lookup::instruction_at;
+pub use shapes::first_shape;
+pub use shapes::shape_after;
 pub use walk::first_body;
 pub use walk::found_at;
 pub use walk::go_on;

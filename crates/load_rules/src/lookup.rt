@@ -7,9 +7,9 @@ ghost use Rattle.words.specs.Numbers.{byteAt, wordAt};
 ghost use Rattle.load_places.specs.Records.{classes as classCount, bodies as bodyCount, count, codeBase, codePlace};
 ghost use Rattle.load_places.specs.Rules.{endOf};
 ghost use Rattle.load_places.specs.Index.{Well};
-ghost use Rattle.load_rules.specs.Moves.{Bodied, Classed, Shaped, BodyAt, ClassAt, ShapeAt};
+ghost use Rattle.load_rules.specs.Moves.{Bodied, Classed, BodyAt, ClassAt};
 
-fn wide(x: u32) -> usize
+pub fn wide(x: u32) -> usize
     ensures { λ r. ⌜ (r ≡ x) × (r < 4294967296) ⌝ }
 {
     x as usize
@@ -27,25 +27,6 @@ pub fn class_at(code: &[u8], classes: &[u32], class: usize) -> usize
     ensures { λ r. ⌜ ClassAt (now (code .entry)) class r ⌝ }
 {
     wide(classes[class])
-}
-
-// The shape of an address that there is: without the test, which the walk would make at each address.
-pub fn shape_of(code: &[u8], shapes: &[u32], address: usize) -> usize
-    requires { ⌜ (Shaped (now code) (now shapes)) × (address < count (now code)) ⌝ }
-    ensures { λ r. ⌜ ShapeAt (now (code .entry)) address r ⌝ }
-{
-    wide(shapes[address])
-}
-
-pub fn shape_at(code: &[u8], shapes: &[u32], address: usize) -> usize
-    requires { ⌜ Shaped (now code) (now shapes) ⌝ }
-    ensures { λ r. ⌜ ShapeAt (now (code .entry)) address r ⌝ }
-{
-    let n = words::wide::half_at(code, CODE_COUNT_AT);
-    if n <= address {
-        return 0;
-    }
-    shape_of(code, shapes, address)
 }
 
 pub fn end_of(code: &[u8], bodies: &[u32], body: usize) -> usize

@@ -2,7 +2,7 @@
 use crate::lookup::body_at;
 use crate::lookup::class_at;
 use crate::lookup::end_of;
-use crate::lookup::shape_at;
+use crate::shapes::shape_at;
 use crate::stack::equal_shape;
 use crate::stack::pop_after;
 use crate::stack::pop_type;

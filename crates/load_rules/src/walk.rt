@@ -2,8 +2,6 @@
 use crate::lookup::body_at;
 use crate::lookup::end_of;
 use crate::lookup::instruction_at;
-use crate::lookup::shape_at;
-use crate::lookup::shape_of;
 use crate::ops::effect_of;
 use crate::stack::equal_shape;
 use crate::stack::load_types;
@@ -11,55 +9,55 @@ use crate::stack::rebuilt;
 use formats::compiled::*;
 use formats::limits::*;
 use load_places::Moved;
+use load_places::NextShape;
 use load_places::Within;
 ghost use mathlib.Core.Path.{_≡_};
 ghost use mathlib.Core.Bool.{true, false};
-ghost use Prim.Native.Nat.{_+_, _<_};
+ghost use Prim.Native.Nat.{_+_, _≤_, _<_};
 ghost use lib.ListN.{length};
 ghost use Rattle.words.specs.Numbers.{byteAt, wordAt};
 ghost use Rattle.load_places.specs.Records.{bodies as bodyCount, count, codeBase, codePlace};
-ghost use Rattle.load_places.specs.Rules.{shapeAt, chain, effect, meet, leave, plain, opens, found};
-ghost use Rattle.load_rules.specs.Moves.{flowOf, Fit, Moves, isBadMove, Bodied, Shaped, Able, InBody};
+ghost use Rattle.load_places.specs.Index.{Well};
+ghost use Rattle.load_places.specs.Rules.{chain, effect, meet, leave, plain, opens, found};
+ghost use Rattle.load_rules.specs.Moves.{flowOf, Fit, Moves, isBadMove, Bodied, Able, InBody, Next};
 
-fn meet_shape(code: &[u8], shapes: &[u32], address: usize, stack: &mut [u8], flow: Moved) -> Moved
-    requires { ⌜ (Shaped (now code) (now shapes)) × (length (now stack) ≡ 32) × (Fit flow) × (address < count (now code)) ⌝ }
-    ensures { λ r. ⌜ Moves (now (stack .exit)) r (meet (now (code .entry)) (shapeAt (now (code .entry)) address) (flowOf flow (now (stack .entry)))) ⌝ }
+// The shape at the place, which the state equals, or which is the state where nothing flows in.
+fn meet_shape(code: &[u8], place: usize, stack: &mut [u8], flow: Moved) -> Moved
+    requires { ⌜ ((place ≡ 0 → ⊥)) × (place + 6 + byteAt (now code) (place + 5) ≤ length (now code)) × (length (now stack) ≡ 32) × (Fit flow) ⌝ }
+    ensures { λ r. ⌜ Moves (now (stack .exit)) r (meet (now (code .entry)) place (flowOf flow (now (stack .entry)))) ⌝ }
 {
-    let p = shape_of(code, shapes, address);
-    if p == 0 {
-        return flow;
-    }
-    let h = words::wide::byte_at(code, p + SHAPE_HOLDS_AT);
+    let h = words::wide::byte_at(code, place + SHAPE_HOLDS_AT);
     if MAX_HOLDS < h {
         return Moved::Bad;
     }
-    let d = words::wide::byte_at(code, p + SHAPE_DEPTH_AT);
+    let d = words::wide::byte_at(code, place + SHAPE_DEPTH_AT);
     if MAX_OPERANDS < d {
         return Moved::Bad;
     }
     match flow {
-        Moved::Goes(g, e) => if equal_shape(code, p, stack, g, e) {
+        Moved::Goes(g, e) => if equal_shape(code, place, stack, g, e) {
             Moved::Goes(g, e)
         } else {
             Moved::Bad
         },
         Moved::Ends => {
-            load_types(code, p + SHAPE_BYTES, stack, d);
+            load_types(code, place + SHAPE_BYTES, stack, d);
             Moved::Goes(h, d)
         }
         Moved::Bad => Moved::Bad,
     }
 }
 
+// Behind an op that nothing flows on from there is a shape, or the body's end.
 fn leave_to(
     code: &[u8],
-    shapes: &[u32],
     within: Within,
+    next: NextShape,
     address: usize,
     stack: &[u8],
     flow: Moved,
 ) -> Moved
-    requires { ⌜ (Shaped (now code) (now shapes)) × (InBody (now code) address within) × (address < count (now code)) × (Fit flow) ⌝ }
+    requires { ⌜ (Well (now code)) × (InBody (now code) address within) × (Next (now code) (address + 1) next) × (address < count (now code)) × (Fit flow) ⌝ }
     ensures { λ r. ⌜ Moves (now (stack .entry)) r (leave (now (code .entry)) (within .body) address (flowOf flow (now (stack .entry)))) ⌝ }
 {
     let j = address + 1;
@@ -73,8 +71,11 @@ fn leave_to(
             if j == within.end {
                 return Moved::Ends;
             }
-            let p = shape_at(code, shapes, j);
-            if p == 0 { Moved::Bad } else { Moved::Ends }
+            if next.address == j {
+                Moved::Ends
+            } else {
+                Moved::Bad
+            }
         }
         Moved::Bad => Moved::Bad,
     }
@@ -118,22 +119,25 @@ fn open_body(
     }
 }
 
-// The state found at an address of the body, where the flow comes in.
+// The state found at an address of the body, where the flow comes in; `next` is the first shape not before it.
 pub fn found_at(
     code: &[u8],
-    shapes: &[u32],
     bodies: &[u32],
     within: Within,
+    next: NextShape,
     address: usize,
     stack: &mut [u8],
     flow: Moved,
 ) -> Moved
-    requires { ⌜ (Shaped (now code) (now shapes)) × (Bodied (now code) (now bodies)) × (InBody (now code) address within) × (length (now stack) ≡ 32) × (Fit flow)
+    requires { ⌜ (Bodied (now code) (now bodies)) × (InBody (now code) address within) × (Next (now code) address next) × (length (now stack) ≡ 32) × (Fit flow)
         × (address < count (now code)) ⌝ }
     ensures { λ r. ⌜ Moves (now (stack .exit)) r (found (now (code .entry)) address (flowOf flow (now (stack .entry)))) ⌝ }
 {
     let o = open_body(code, bodies, within, address, stack, flow);
-    meet_shape(code, shapes, address, stack, o)
+    if next.address != address {
+        return o;
+    }
+    meet_shape(code, next.place, stack, o)
 }
 
 // What the op at the address makes of a state.
@@ -174,7 +178,7 @@ fn effect_after(
     }
 }
 
-// What goes on from the address, where the flow is the state found there.
+// What goes on from the address, where the flow is the state found there; `next` is the first shape after it.
 fn onward(
     code: &[u8],
     shapes: &[u32],
@@ -182,11 +186,12 @@ fn onward(
     classes: &[u32],
     base: usize,
     within: Within,
+    next: NextShape,
     address: usize,
     stack: &mut [u8],
     flow: Moved,
 ) -> Moved
-    requires { ⌜ (Able (now code) (now shapes) (now bodies) (now classes)) × (base ≡ codeBase (now code)) × (InBody (now code) address within)
+    requires { ⌜ (Able (now code) (now shapes) (now bodies) (now classes)) × (base ≡ codeBase (now code)) × (InBody (now code) address within) × (Next (now code) (address + 1) next)
         × (address < count (now code)) × (length (now stack) ≡ 32) × (Fit flow) ⌝ }
     ensures { λ r. ⌜ Moves (now (stack .exit)) r (leave (now (code .entry)) (within .body) address
         (chain (flowOf flow (now (stack .entry))) (λ h s. effect (now (code .entry)) (within .body)
@@ -204,7 +209,7 @@ fn onward(
         stack,
         flow,
     );
-    leave_to(code, shapes, within, address, stack, e)
+    leave_to(code, within, next, address, stack, e)
 }
 
 // What goes on, for the walk that has found the state at the address. There is one such walk (`state_check`): with one caller on the way down to
@@ -216,11 +221,12 @@ pub fn go_on(
     classes: &[u32],
     base: usize,
     within: Within,
+    next: NextShape,
     address: usize,
     stack: &mut [u8],
     flow: Moved,
 ) -> Moved
-    requires { ⌜ (Able (now code) (now shapes) (now bodies) (now classes)) × (base ≡ codeBase (now code)) × (InBody (now code) address within)
+    requires { ⌜ (Able (now code) (now shapes) (now bodies) (now classes)) × (base ≡ codeBase (now code)) × (InBody (now code) address within) × (Next (now code) (address + 1) next)
         × (address < count (now code)) × (length (now stack) ≡ 32) × (Fit flow) ⌝ }
     ensures { λ r. ⌜ Moves (now (stack .exit)) r (leave (now (code .entry)) (within .body) address
         (chain (flowOf flow (now (stack .entry))) (λ h s. effect (now (code .entry)) (within .body)
@@ -234,6 +240,7 @@ pub fn go_on(
         classes,
         base,
         within,
+        next,
         address,
         stack,
         flow,

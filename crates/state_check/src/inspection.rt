@@ -327,11 +327,13 @@ fn walk_tests(
     let stop = words::wide::half_at(code, CODE_COUNT_AT);
     let mut address: usize = 0;
     let mut here = load_check::first_body(code, bodies);
+    let mut shape = load_check::first_shape(code, base, stop);
     let mut flow = Moved::Ends;
     let mut ok = true;
     let mut next = next_wanted(state, activations, 0);
     while address < stop {
-        let g = load_check::found_at(code, shapes, bodies, here, address, stack, flow);
+        let g = load_check::found_at(code, bodies, here, shape, address, stack, flow);
+        let after = load_check::shape_after(code, shape, address);
         let w = look(
             code,
             bodies,
@@ -345,7 +347,18 @@ fn walk_tests(
             ok,
             next,
         );
-        let e = load_check::go_on(code, shapes, bodies, classes, base, here, address, stack, g);
+        let e = load_check::go_on(
+            code,
+            shapes,
+            bodies,
+            classes,
+            base,
+            here,
+            after,
+            address,
+            stack,
+            g,
+        );
         if load_check::is_bad(e) {
             return Tested {
                 at: address,
@@ -353,6 +366,7 @@ fn walk_tests(
             };
         }
         here = load_check::next_body(code, bodies, here, address);
+        shape = after;
         flow = e;
         ok = w.ok;
         next = w.next;
@@ -414,7 +428,7 @@ fn inspect_in(
     classes: &mut [u32],
     instructions: usize,
 ) -> Inspected
-    requires { ⌜ (badHead (now code) ≡ false) × (instructions ≡ count (now code)) × (instructions ≤ length (now shapes)) × (64 ≤ length (now bodies)) × (16 ≤ length (now classes))
+    requires { ⌜ (badHead (now code) ≡ false) × (instructions ≡ count (now code)) × (instructions ≤ 8 * length (now shapes)) × (64 ≤ length (now bodies)) × (16 ≤ length (now classes))
         × (Indexed (now code) (now shapes) instructions 0) ⌝ }
     ensures { λ x. ⌜ Tells (now (code .entry)) (now (state .entry)) (now (bodies .exit)) (now (classes .exit)) x ⌝ }
 {
@@ -448,29 +462,6 @@ fn inspect_in(
     }
 }
 
-// The larger indexes, for more than 1,024 instructions.
-fn inspect_large(
-    code: &[u8],
-    state: &[u8],
-    bodies: &mut [u32],
-    classes: &mut [u32],
-    instructions: usize,
-) -> Inspected
-    requires { ⌜ (badHead (now code) ≡ false) × (instructions ≡ count (now code)) × (instructions < 65536) × (64 ≤ length (now bodies)) × (16 ≤ length (now classes)) ⌝ }
-    ensures { λ x. ⌜ Tells (now (code .entry)) (now (state .entry)) (now (bodies .exit)) (now (classes .exit)) x ⌝ }
-{
-    if instructions <= 2048 {
-        let mut shapes = [0u32; 2048];
-        return inspect_in(code, state, &mut shapes, bodies, classes, instructions);
-    }
-    if instructions <= 8192 {
-        let mut shapes = [0u32; 8192];
-        return inspect_in(code, state, &mut shapes, bodies, classes, instructions);
-    }
-    let mut shapes = [0u32; 65536];
-    inspect_in(code, state, &mut shapes, bodies, classes, instructions)
-}
-
 // A macro and a state's bytes, whatever they are: the refusal 8 or 9 of the loading check, or whether a sound state decodes from the bytes.
 // The places of bodies and classes are left in `bodies` and `classes`. The index of shapes is cleared at each call, so that its size goes by the
 // number of instructions.
@@ -482,15 +473,16 @@ pub fn inspect(code: &[u8], state: &[u8], bodies: &mut [u32], classes: &mut [u32
         return Inspected::Refused(8, 0);
     }
     let instructions = words::wide::half_at(code, CODE_COUNT_AT);
-    if instructions <= 64 {
+    if instructions <= 512 {
         let mut shapes = [0u32; 64];
         return inspect_in(code, state, &mut shapes, bodies, classes, instructions);
     }
-    if instructions <= 1024 {
+    if instructions <= 8192 {
         let mut shapes = [0u32; 1024];
         return inspect_in(code, state, &mut shapes, bodies, classes, instructions);
     }
-    inspect_large(code, state, bodies, classes, instructions)
+    let mut shapes = [0u32; 8192];
+    inspect_in(code, state, &mut shapes, bodies, classes, instructions)
 }
 
 // The loading check alone, by the same walk beside no state: a walk of its own would be a second caller of the rules' step, and cost both their speed

@@ -185,7 +185,7 @@ returns-5 c =
           (at-bodies-pass .bodies-pass .ensures .0) (at-if2 .if2 .left) (at-code-pass .code-pass .ensures) (at-if3 .if3 .left)
           (at-shapes-pass .shapes-pass .ensures .0) (c .before .if4 .left),
       law.left (start .args .code .now) (at-shapes-pass .shapes-pass .last .1 .0) (at-bodies-pass .bodies-pass .last .1 .0)
-          (at-classes-pass .classes-pass .last .1 .0) _ (c .read-end .result) (c .read-end .ensures .1)
+          (at-classes-pass .classes-pass .last .1 .0) _ _ _ (c .read-end .result) (c .read-end .ensures .0) (c .read-end .ensures .1)
           (law.whole-ready (start .pre .0) (counts at-half-at) (at-classes-pass .classes-pass .ensures .0) (at-if1 .if1 .left)
           (at-bodies-pass .bodies-pass .ensures .0) (at-if2 .if2 .left) (at-code-pass .code-pass .ensures) (at-if3 .if3 .left)
           (at-shapes-pass .shapes-pass .ensures .0) (c .before .if4 .left) _ _ _ (at-bodies-pass .bodies-pass .ensures .1)

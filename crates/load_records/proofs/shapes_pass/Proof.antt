@@ -1,5 +1,6 @@
 -- `load_records::shapes_pass` meets its contract. The loop has come to the k-th shape, at p, met no bad one, and put the places passed into the index, each at its address.
 use native.Mathlib.Omega.{arith}
+use borrow.Author.Needs.{needs}
 use mathlib.Core.Path.{_≡_, refl, sym, _∙_}
 use mathlib.Core.Bool.{true}
 use Prim.Native.Nat.{_+_, _*_, _-_, _≤_}
@@ -7,7 +8,6 @@ use lib.ListN.{length, length-set}
 use borrow.Author.Tests.{not-true, not-false}
 use Rattle.load_places.specs.Records.{badShape, shapePlace, shapeFits, least}
 use Rattle.load_places.specs.Index.{Indexed}
-use Rattle.load_places.specs.Order.{find-past}
 use Rattle.load_records.specs.Answer.{Upto}
 use Rattle.load_records.proofs.Known as known
 use Rattle.load_records.proofs.Passing as law
@@ -60,31 +60,29 @@ returns-2 c =
       I .4,
     )
 
-mul-shapes : tie.Need-mul-shapes Inv-loop μ-loop
-mul-shapes c = let h = known.shape-known _ _ (fit (c .before .before)) in omega arith
-
-slice-write-shapes : tie.Need-slice-write-shapes Inv-loop μ-loop
-slice-write-shapes c = let h = known.shape-known _ _ (fit (c .before .before)) in omega arith
+note-shape-requires : tie.Need-note-shape-requires Inv-loop μ-loop
+note-shape-requires c κs = let h = known.shape-known _ _ (fit (c .before .before .before)) in (omega arith, omega arith, omega arith)
 
 byte-at-requires : tie.Need-byte-at-requires Inv-loop μ-loop
-byte-at-requires c κs = let h = known.shape-known _ _ (fit (c .before .before)) in omega arith
+byte-at-requires c κs = let h = known.shape-known _ _ (fit (c .before .before .before .before .before .before)) in omega arith
 
 loop-again : tie.Need-loop-again Inv-loop μ-loop
 loop-again c =
-    let half-at = c .before .before .half-at in
-    let at-if1 = c .before .before .before in
+    let note-shape = c .before .before .before .note-shape in
+    let half-at = c .before .before .before .before .before .before .half-at in
+    let at-if1 = c .before .before .before .before .before .before .before in
     let loop = at-if1 .before .before .before .loop in
     let start = at-if1 .before .before .before .before .before .before in
     let I = loop .inv in
     let h = known.shape-known _ _ (fit at-if1) in
-    let z = find-past (start .args .code .now) (loop .k) (half-at .result) (I .0 .clean) (omega (arith, I .2)) in (
-      law.goes-on (I .0) _ (omega arith) (law.shape-good _ _ _ (I .0 .stands) (fit at-if1) _ _ (I .2) (half-at .ensures .0) (omega arith))
+    let z : loop .least ≤ half-at .result = omega arith in (
+      law.goes-on (I .0) _ (omega arith) (law.shape-good _ _ _ (I .0 .stands) (fit at-if1) _ _ (I .2) (half-at .ensures .0) z)
           (law.next-shape _ _ _ (I .0 .stands) _ (c .byte-at .ensures .0)),
       omega arith,
       law.next-least _ _ _ (I .0 .stands) _ (half-at .ensures .0),
-      simp length-set (I .3),
-      law.indexed-more (start .args .code .now) (loop .k) (loop .p) (I .0 .stands) (loop .shapes) (start .args .instructions)
-          (half-at .result) (half-at .ensures .0) (omega arith) (omega arith) z (I .4),
+      note-shape .kept .0 ∙ I .3,
+      rw (note-shape .ensures) (law.indexed-more (start .args .code .now) (loop .k) (loop .p) (I .0 .stands) (loop .least) (half-at .result)
+          (I .2) (half-at .ensures .0) z (loop .shapes) (start .args .instructions) (omega (arith, I .3)) (I .4)),
     )
 
 same-length-3 : tie.Need-same-length-3 Inv-loop μ-loop
@@ -107,10 +105,8 @@ shapes-pass-spec =
     half-at-requires
     same-length-2
     returns-2
-    (λ c. omega arith)
-    mul-shapes
-    slice-write-shapes
-    (λ c. omega arith)
+    note-shape-requires
+    (λ c. search needs)
     (λ c. omega arith)
     (λ c. omega arith)
     byte-at-requires

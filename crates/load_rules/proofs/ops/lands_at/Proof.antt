@@ -2,6 +2,7 @@
 use borrow.Author.Needs.{needs}
 use native.Mathlib.Omega.{arith}
 use mathlib.Core.Path.{_∙_}
+use Rattle.load_rules.proofs.Places.{end-within}
 use Rattle.load_rules.proofs.Jumps.{lands-below, lands-past, lands-none, lands-some}
 use Rattle.load_rules.proofs.ops.lands_at.Statement.{statement}
 use Rattle.load_rules.proofs.ops.lands_at.Tie as tie
@@ -13,6 +14,9 @@ returns-2 : tie.Need-returns-2
 returns-2 c =
     lands-past _ _ _ _ _ _ (c .before .before .before .before .body-at .ensures .is) _ (c .before .before .before .half-at .ensures .0)
     (omega arith) _ (c .before .end-of .ensures) (omega arith)
+
+shape-at-requires : tie.Need-shape-at-requires
+shape-at-requires c κs = (c .before .before .before .before .before .before .before .before .before .pre .0, omega (arith, c .before .end-of .ensures, end-within _ (c .before .before .before .before .before .before .before .before .before .args .body) (c .before .before .before .before .before .before .before .before .before .pre .0 .well)))
 
 returns-3 : tie.Need-returns-3
 returns-3 c =
@@ -41,7 +45,7 @@ lands-at-spec =
     returns
     (λ c κs. search needs)
     returns-2
-    (λ c κs. search needs)
+    shape-at-requires
     returns-3
     equal-shape-requires
     returns-4)

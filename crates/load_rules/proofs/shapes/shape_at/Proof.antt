@@ -1,0 +1,17 @@
+-- `load_rules::shapes::shape_at` meets its contract. Assumes nothing.
+use native.Mathlib.Omega.{arith}
+use borrow.Author.Needs.{needs}
+use Rattle.load_rules.proofs.ShapeSearch as law
+use Rattle.load_rules.proofs.shapes.shape_at.Statement.{statement}
+use Rattle.load_rules.proofs.shapes.shape_at.Tie as tie
+
+returns : tie.Need-returns
+returns c = law.group-vacant _ _ (c .before .before .before .before .before .pre .0) _ _ (c .before .before .before .before .before .pre .1) (c .before .wide .ensures .0) (c .if1 .taken)
+
+search-shape-requires : tie.Need-search-shape-requires
+search-shape-requires c κs =
+    (c .before .before .before .before .before .pre .0 .well, c .before .before .before .before .before .pre .0 .ended, law.group-begins _ _ (c .before .before .before .before .before .pre .0) _ _ (c .before .before .before .before .before .pre .1) (c .before .wide .ensures .0) (c .if1 .left), c .before .before .before .before .before .pre .1)
+
+pub shape-at-spec : {M : Type 1} → statement M
+shape-at-spec = tie.close (tie.spec (λ c. omega (arith, c .before .before .pre .0 .long)) (λ c. omega (arith, c .before .before .before .pre .0 .long)) (λ c κs. search needs) returns
+    search-shape-requires (λ c. search needs))
