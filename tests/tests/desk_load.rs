@@ -128,6 +128,62 @@ fn cells_operands_and_holds_at_their_limits() {
     }
 }
 
+/// So many instructions with jumps from everywhere to everywhere. About one in `spread` pieces of code is a goto, and a shape stands behind it.
+fn jumping(rng: &mut Rng, instructions: usize, spread: usize) -> Macro {
+    let (goto, fork, set) = (1, 2, 3);
+    let mut pieces = Vec::new();
+    let mut length = 1;
+    while length < instructions {
+        let piece = if rng.below(spread) == 0 { goto } else { *rng.pick(&[fork, set]) };
+        let piece = piece.min(instructions - length);
+        pieces.push((length - 1, piece));
+        length += piece;
+    }
+    let mut targets = vec![0];
+    for pair in pieces.windows(2) {
+        if pair[0].1 == goto || rng.below(2 * spread) == 0 {
+            targets.push(pair[1].0);
+        }
+    }
+    // the end, behind a goto
+    if pieces.last().is_some_and(|last| last.1 == goto) {
+        targets.push(instructions - 1);
+    }
+    let mut text = Vec::new();
+    for (_, piece) in &pieces {
+        let target = rng.pick(&targets);
+        text.push(match piece {
+            1 => format!("8 0 {target}"),
+            2 => format!("2 0 1, 9 0 {target}"),
+            _ => "1 0 1, 1 0 1, 15 0 0".to_string(),
+        });
+    }
+    text.push("0 0 0".to_string());
+    root_only(&text.join(","), targets.iter().map(|address| shape(*address as u16, 0, &[])).collect())
+}
+
+/// Every number of instructions at which the loading check's index of shapes has another size, and those beside it: macros that pass, and the same
+/// without one of their shapes, or with one that has a hold.
+#[test]
+fn jumps_among_shapes_near_and_far() {
+    let mut rng = Rng::new(31);
+    let mut refused = 0;
+    for instructions in [2, 7, 8, 9, 17, 511, 512, 513, 8_191, 8_192, 8_193, 65_534, 65_535] {
+        for spread in [1, 2, 4, 40] {
+            let m = jumping(&mut rng, instructions, spread);
+            assert_eq!(m.code.len(), instructions);
+            assert_eq!(given(&m), [1, 0, 0, 0]);
+            let damaged = rng.below(m.shapes.len());
+            let mut less = m.clone();
+            less.shapes.remove(damaged);
+            let mut held = m.clone();
+            held.shapes[damaged].holds = 1;
+            refused += [less, held].iter().filter(|m| given(m)[..3] == [0, 0, 9]).count();
+        }
+    }
+    assert!(refused > 60, "{refused}");
+}
+
 #[test]
 fn jumps_at_the_first_and_last_address() {
     let at = |target: i32, shapes: Vec<_>| given(&root_only(&format!("8 0 {target}, 0 0 0"), shapes));

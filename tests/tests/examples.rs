@@ -83,8 +83,8 @@ fn tree_events(tree: &Tree) -> (Vec<String>, Option<u8>) {
 }
 
 #[test]
-fn there_are_eight_examples() {
-    assert_eq!(names().len(), 8, "{:?}", names());
+fn there_are_nine_examples() {
+    assert_eq!(names().len(), 9, "{:?}", names());
 }
 
 /// Text to table and back: the table is that of the text, and its text without comments gives it again.

@@ -165,7 +165,7 @@ unfoldable pub readEnd : {A : Type 0} → A → ℕ → List ℕ → Parsed A
 readEnd x i l =
     if marked 90 90 endLength l then (if eqb (length l) endLength then parsed x (suc i) [] else unread (suc i)) else unread i
 
--- "Order: HD, CL, BD, IN by address, SH by address, ZZ"
+-- "Order: HD, CL, BD, IN by address, SH in any order, ZZ"; SH now by rising address, too
 unfoldable pub parseMacro : List ℕ → Parsed Macro
 parseMacro l =
     let classes = byteAt l 2 in let instructions = halfAt l 4 in

@@ -1,6 +1,6 @@
 -- A macro that reads is well-formed, and its numbers are narrow where it was read from bytes.
 use mathlib.Core.Path.{_≡_, refl, ap, sym, _∙_, subst}
-use mathlib.Core.Bool.{Bool, true, false, not, _&&_}
+use mathlib.Core.Bool.{Bool, true, false, _&&_}
 use mathlib.Core.List.{List, [], _∷_, reverse, reverseAux}
 use mathlib.Core.Option.{Option, none, some}
 use Prim.Native.Nat.{ℕ, zero, suc, _+_, _-_, _≤_}
@@ -17,7 +17,7 @@ use Rattle.values.specs.Types.{Ty, integer, logical, bits, reference}
 use Rattle.values.specs.Ends.{accepted}
 use Rattle.bytecode.specs.Macro.{Body, Code, shape, Placed, Macro, Cut, cut, marked, tyOfByte, readTypes, readClass, readResult, rises, readBody, readCode, follows}
 use Rattle.bytecode.specs.Macro.{readShape, Parsed, parsed, unread, orUnread, records, onward, headReads, readEnd, parseMacro, readOr8, readMacro}
-use Rattle.logic.specs.Tests.{never, halves}
+use Rattle.logic.specs.Tests.{halves}
 use Rattle.logic.specs.OptionLaws.{never-some, same-some, chosen, kept}
 use Rattle.logic.specs.Lists.{Each}
 use Rattle.bytecode_laws.specs.Terms.{Named, ReadClass, ReadBody, ReadShape, RisesFrom, Ascends, WellFormed, OfBytes, Narrow}

@@ -45,9 +45,6 @@ pub const SHAPE_DEPTH_AT: usize = 5;
 
 pub const SHAPE_BYTES: usize = 6;
 
-// Of so many addresses on end the loading check's index of shapes keeps one place, where the first of their shapes stands.
-pub const SHAPE_GROUP: usize = 8;
-
 // "ZZ: empty, last"
 pub const END_BYTES: usize = 2;
 

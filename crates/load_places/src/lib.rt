@@ -1,6 +1,9 @@
 // A compiled macro by the places of its records: the form that the loading check computes. The definitions are in specs/; here the types of
 // what the check's functions answer, so that whoever calls them names no crate of the check but its face, `load_check`.
 
+// The index of shapes has one place for so many addresses on end: where the first of their shapes stands.
+pub const SHAPE_GROUP: usize = 8;
+
 // What the record pass tells: the place of the first instruction, or the index of the first record that does not read.
 pub enum Records {
     Reads(usize),

@@ -6,10 +6,10 @@ use Prim.Native.Nat.{ℕ, zero, suc, _+_, _*_, _-_, _<_, _≤_}
 use native.Mathlib.Omega.{arith}
 use lib.ListN.{length}
 use lib.Dec.{eqb}
-use borrow.Author.Tests.{ltb-true, ltb-false, eqb-false, not-false}
+use borrow.Author.Tests.{ltb-true, ltb-false, not-false}
 use Rattle.words.specs.Numbers.{byteAt, halfAt}
 use Rattle.words.specs.Laws.{Bytes}
-use Rattle.load_places.specs.Records.{classes, bodies, count, shapes, classPlace, bodyPlace, firstOf, codePlace, shapePlace, find, noMark, noType, badTypes, badHead}
+use Rattle.load_places.specs.Records.{classes, bodies, count, shapes, classPlace, bodyPlace, firstOf, codePlace, shapePlace, noMark, noType, badTypes, badHead}
 use Rattle.load_places.specs.Records.{badClass, rises, bodyFits, badBody, shapeFits, badShape}
 use Rattle.load_places.specs.Index.{Well, Ready}
 use Rattle.load_places.specs.declared.Records.{Records}
@@ -132,34 +132,6 @@ module _ (l : List ℕ) (B : Bytes l) where
   -- within a u32, and so within an index
   pub class-below : (k : ℕ) → k ≤ classes l → classPlace l k < 4294967296
   class-below k h = omega (arith, class-high k, B 2)
-
--- ── where the shape of an address is found ──
--- p is where one of the first k shapes stands, or 0
-data Found (l : List ℕ) (k p : ℕ) : Type 0 where
-  none : p ≡ 0 → Found l k p
-  some : (j : ℕ) → j < k → p ≡ shapePlace l j → Found l k p
-
-find-gives : (l : List ℕ) (k x : ℕ) → Found l k (find l k x)
-unfolding find
-find-gives l zero x = none refl
-find-gives l (suc k) x = go (eqb (find l k x) 0) refl (eqb (halfAt l (shapePlace l k + 2)) x) (find-gives l k x)
-  where
-    more : {p : ℕ} → Found l k p → (p ≡ 0 → ⊥) → Found l (suc k) p
-    more (none e) n = absurd (n e)
-    more (some j h e) n = some j (omega arith) e
-
-    go : (a : Bool) → eqb (find l k x) 0 ≡ a → (b : Bool) → Found l k (find l k x)
-        → Found l (suc k) (cond a (cond b (shapePlace l k) 0) (find l k x))
-    go true e true F = some k (omega arith) refl
-    go true e false F = none refl
-    go false e b F = more F (eqb-false _ _ e)
-
-pub find-shape : (l : List ℕ) → Well l → (x : ℕ) → (find l (shapes l) x ≡ 0 → ⊥) → Shape l (find l (shapes l) x)
-find-shape l W x n = go (find-gives l (shapes l) x)
-  where
-    go : Found l (shapes l) (find l (shapes l) x) → Shape l (find l (shapes l) x)
-    go (none e) = absurd (n e)
-    go (some j g e) = rw e (shape-of l W j g)
 
 -- ── for a caller of scan that was told where the instructions begin ──
 pub ready : (l ix bx cx : List ℕ) (r : Records) (base : ℕ) → r ≡ Reads base → Left l ix bx cx r → Ready l ix bx cx base

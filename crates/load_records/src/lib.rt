@@ -3,6 +3,7 @@ use formats::compiled::*;
 use formats::limits::*;
 use formats::wide;
 use load_places::Records;
+use load_places::SHAPE_GROUP;
 ghost use mathlib.Core.Path.{_≡_};
 ghost use mathlib.Core.Bool.{true, false, cond, not, _&&_, _||_};
 ghost use Prim.Native.Nat.{ℕ, _+_, _*_, _/_, _-_, _≤_, _<_};

@@ -1,8 +1,7 @@
 -- Shapes by rising address: what the one in hand tells of an address, and what a search comes to.
 use mathlib.Core.Path.{_≡_, refl, sym, ap, _∙_}
-use mathlib.Core.Bool.{true, false}
 use mathlib.Core.List.{List}
-use Prim.Native.Nat.{ℕ, zero, suc, _+_, _*_, _/_, _<_, _≤_}
+use Prim.Native.Nat.{ℕ, suc, _+_, _/_, _<_, _≤_}
 use native.Mathlib.Omega.{arith}
 use native.Mathlib.Numerals.{add-one}
 use native.Mathlib.Decide.{ℕ-discrete}
@@ -11,7 +10,7 @@ use lib.ListN.{length, getD}
 use borrow.Author.Tests.{lt-ltb, le-ltb, ltb-true, ltb-false}
 use Rattle.logic.specs.Tests.{by-test}
 use Rattle.words.specs.Numbers.{byteAt, halfAt}
-use Rattle.load_places.specs.Records.{count, shapes, codeBase, shapePlace, addressOf, least, find}
+use Rattle.load_places.specs.Records.{count, shapes, shapePlace, addressOf, least, find}
 use Rattle.load_places.specs.Rules.{shapeAt}
 use Rattle.load_places.specs.Index.{Group, vacant, begins, Well, Ended}
 use Rattle.load_places.specs.Order.{in-order, find-none, find-between, find-at, shape-past}

@@ -2,6 +2,7 @@
 use crate::lookup::wide;
 use formats::compiled::*;
 use load_places::NextShape;
+use load_places::SHAPE_GROUP;
 ghost use mathlib.Core.Path.{_≡_};
 ghost use Prim.Native.Nat.{ℕ, _+_, _≤_, _<_};
 ghost use Rattle.load_places.specs.Records.{count, shapes as shapeCount, codeBase, shapePlace};

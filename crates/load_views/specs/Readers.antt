@@ -17,7 +17,7 @@ use Rattle.words.specs.Laws.{Size, one, two, four, numberAt, same-number}
 use Rattle.values.specs.Types.{Ty}
 use Rattle.bytecode.specs.Macro.{Code, Cut, cut, marked, tyOfByte, readTypes, readClass, readResult, rises as risesAfter, readBody, readCode, follows, readShape}
 use Rattle.load_places.specs.Search.{seek}
-use Rattle.load_places.specs.Records.{classes, bodies, count, classPlace, bodyPlace, firstOf, codePlace, shapePlace, addressOf, least, noMark, noType, badTypes, badClass, rises}
+use Rattle.load_places.specs.Records.{classes, count, classPlace, bodyPlace, firstOf, codePlace, shapePlace, addressOf, least, noMark, noType, badTypes, badClass, rises}
 use Rattle.load_places.specs.Records.{bodyFits, badBody, badCode, shapeFits, badShape}
 use Rattle.load_views.specs.Lists.{span, backs, reverse-span}
 use Rattle.logic.specs.Tests.{tests, by-test, leb-not, if-same, if-not}

@@ -1,6 +1,5 @@
 -- `load_rules::shapes::first_shape` meets its contract. Assumes nothing.
 use native.Mathlib.Omega.{arith}
-use mathlib.Core.Path.{sym, _∙_}
 use Rattle.load_records.proofs.Whole.{shape-start}
 use Rattle.load_rules.proofs.ShapeSearch as law
 use Rattle.load_rules.proofs.shapes.first_shape.Statement.{statement}

@@ -1,6 +1,6 @@
 -- `load_rules::shapes::search_shape` meets its contract: the loop stands at a shape that is not past the address, or at the end.
 use native.Mathlib.Omega.{arith}
-use Prim.Native.Nat.{_-_, _<_}
+use Prim.Native.Nat.{_-_}
 use lib.ListN.{length}
 use Rattle.load_rules.specs.Moves.{NotPast}
 use Rattle.load_rules.proofs.ShapeSearch as law
