@@ -75,16 +75,18 @@ uint64_t cue_check(const uint8_t *table, size_t n);
 
 /* The compiler: the table check's refusal, whatever `out` is; or 7 (place 0) where the macro is longer than m bytes; or done, with the macro's length
  * as `second`: then the macro is the first so many bytes of `out`, and those behind it are as they were. A macro that was compiled passes the
- * loading check. The work is linear in the table's entries but for looking names up, as the check's. Stack: under 200,000 bytes (measured:
- * 195,200 with a fader in a fader, 64 deep, the most of all that was tried; 174,100 with a statement in a statement). */
+ * loading check. Equal tables compile to equal bytes, whatever `out` held. The work is linear in the table's entries but for looking names up, as the
+ * check's. Stack: under 200,000 bytes (measured: 195,200 with a fader in a fader, 64 deep, the most of all that was tried; 174,100 with a statement
+ * in a statement). */
 uint64_t cue_compile(const uint8_t *table, size_t n, uint8_t *out, size_t m);
 
-/* The loading check: refusal 8 (place: the first record that does not read) or 9 (place: the lowest address at fault), or done.
- * Stack: under 270,000 bytes, at every call and whatever the macro's size, since the compiler gives the indexes of all sizes one frame. */
+/* The loading check: refusal 8 (place: the first record that does not read; an SH whose address is not above that of the SH before it is one) or 9
+ * (place: the lowest address at fault), or done.
+ * Stack: under 39,000 bytes, at every call and whatever the macro's size, since the compiler gives the indexes of all sizes one frame. */
 uint64_t cue_load(const uint8_t *code, size_t n);
 
 /* The start of a macro: refusal 8 or 9 as above, 10 where len is not CUE_STATE_BYTES, or done; then all of the state has been written,
- * whatever it held: it stands before the macro's first instruction. Stack: under 270,000 bytes. */
+ * whatever it held: it stands before the macro's first instruction. Stack: under 39,000 bytes. */
 uint64_t cue_start(const uint8_t *code, size_t n, uint8_t *state, size_t len);
 
 /* A run of at most `allowance` steps from a state that a start or a run of the same macro left (docs/STATE.md has the layout; any other bytes are
@@ -98,7 +100,7 @@ uint64_t cue_start(const uint8_t *code, size_t n, uint8_t *state, size_t len);
  *   end               by 0, or by the condition (20 to 27) after its releases; further runs give the end again, with 0 steps
  *
  * The refusals are tested in this order. Every run makes the loading check anew and tests the state, so that its time grows with the
- * macro's length and not with the allowance alone. Stack: under 270,000 bytes. */
+ * macro's length and not with the allowance alone. Stack: under 39,000 bytes. */
 uint64_t cue_run(const uint8_t *code, size_t n, uint8_t *state, size_t len, const uint8_t *readings, size_t m, uint16_t allowance);
 
 /* A play: as many runs as fit into one call, with the same readings, and tested once: the first run with the allowance, each later one with what the
@@ -112,7 +114,7 @@ uint64_t cue_run(const uint8_t *code, size_t n, uint8_t *state, size_t len, cons
  *                     made and nothing is written
  *
  * The steps are those of all runs, `second` is the number of events written (CUE_EVENTS). The loading check and the test of the state are made once for
- * all of them, so that a desk calls this once a frame: examples/frames.c. Stack: under 270,000 bytes. */
+ * all of them, so that a desk calls this once a frame: examples/frames.c. Stack: under 40,000 bytes. */
 uint64_t cue_play(const uint8_t *code, size_t n, uint8_t *state, size_t len, const uint8_t *readings, size_t m, uint16_t allowance, uint8_t *answers,
                   size_t k);
 
