@@ -16,7 +16,9 @@ returns-2 c =
     (omega arith) _ (c .before .end-of .ensures) (omega arith)
 
 shape-at-requires : tie.Need-shape-at-requires
-shape-at-requires c κs = (c .before .before .before .before .before .before .before .before .before .pre .0, omega (arith, c .before .end-of .ensures, end-within _ (c .before .before .before .before .before .before .before .before .before .args .body) (c .before .before .before .before .before .before .before .before .before .pre .0 .well)))
+shape-at-requires c κs =
+    let at-start = c .before .before .before .before .before .before .before .before .before in
+    (at-start .pre .0, omega (arith, c .before .end-of .ensures, end-within _ (at-start .args .body) (at-start .pre .0 .well)))
 
 returns-3 : tie.Need-returns-3
 returns-3 c =
@@ -26,6 +28,7 @@ returns-3 c =
 
 equal-shape-requires : tie.Need-equal-shape-requires
 equal-shape-requires c κs =
+    let at-before = c .before .before .before .before .before .before .before .before .before .before in
     let at-start = c .before .before .before .before .before .before .before .before .before .before .before in
     (c .before .shape-at .ensures .inside (c .if3 .left), at-start .pre .3, at-start .pre .4)
 

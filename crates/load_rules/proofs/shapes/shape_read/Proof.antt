@@ -9,19 +9,26 @@ add-if1 : tie.Need-add-if1
 add-if1 c = let t = c .before .pre .2 in omega (arith, t .2, law.end-low _ (c .before .pre .0) (c .before .pre .1) (t .0) (t .1))
 
 returns : tie.Need-returns
-returns c = (refl, λ j h e. law.told-end _ (c .before .before .pre .0) (c .before .before .pre .1) _ j h e (c .if1 .taken))
+returns c =
+    let at-start = c .before .before in
+    (refl, λ j h e. law.told-end _ (at-start .pre .0) (at-start .pre .1) _ j h e (c .if1 .taken))
 
 add-half-at : tie.Need-add-half-at
-add-half-at c = let t = c .before .before .pre .2 in omega (arith, t .2, law.end-low _ (c .before .before .pre .0) (c .before .before .pre .1) (t .0) (t .1))
+add-half-at c =
+    let at-start = c .before .before in
+    let t = at-start .pre .2 in omega (arith, t .2, law.end-low _ (at-start .pre .0) (at-start .pre .1) (t .0) (t .1))
 
 half-at-requires : tie.Need-half-at-requires
 half-at-requires c κs =
-    let t = c .before .before .pre .2 in
-    let h = law.before-end _ (c .before .before .pre .0) (c .before .before .pre .1) (t .0) _ (t .1) (t .2) (c .if1 .left) in
-    omega (arith, t .2, law.shape-low _ (c .before .before .pre .0) (c .before .before .pre .1) (t .0) h)
+    let at-start = c .before .before in
+    let t = at-start .pre .2 in
+    let h = law.before-end _ (at-start .pre .0) (at-start .pre .1) (t .0) _ (t .1) (t .2) (c .if1 .left) in
+    omega (arith, t .2, law.shape-low _ (at-start .pre .0) (at-start .pre .1) (t .0) h)
 
 returns-2 : tie.Need-returns-2
-returns-2 c = (refl, λ j h e. law.told-shape _ (c .before .before .before .pre .0) (c .before .before .before .pre .1) _ j h e (c .before .if1 .left) _ (c .half-at .ensures .0))
+returns-2 c =
+    let at-start = c .before .before .before in
+    (refl, λ j h e. law.told-shape _ (at-start .pre .0) (at-start .pre .1) _ j h e (c .before .if1 .left) _ (c .half-at .ensures .0))
 
 pub shape-read-spec : {M : Type 1} → statement M
 shape-read-spec = tie.close (tie.spec add-if1 returns add-half-at half-at-requires returns-2)

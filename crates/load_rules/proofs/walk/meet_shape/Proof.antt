@@ -18,46 +18,64 @@ returns : tie.Need-returns
 returns c = (meet-holds _ _ _ (c .before .before .before .before .pre .0) (omega arith), tt)
 
 add-byte-at-2 : tie.Need-add-byte-at-2
-add-byte-at-2 c = omega (arith, c .before .before .before .before .pre .1)
+add-byte-at-2 c =
+    let at-start = c .before .before .before .before in
+    omega (arith, at-start .pre .1)
 
 byte-at-requires-2 : tie.Need-byte-at-requires-2
-byte-at-requires-2 c κs = omega (arith, c .before .before .before .before .pre .1)
+byte-at-requires-2 c κs =
+    let at-start = c .before .before .before .before in
+    omega (arith, at-start .pre .1)
 
 returns-2 : tie.Need-returns-2
 returns-2 c = (meet-depth _ _ _ (c .before .before .before .before .before .before .pre .0) (omega arith) (omega arith), tt)
 
 equal-shape-requires : tie.Need-equal-shape-requires
-equal-shape-requires c κs = (c .before .before .before .before .before .before .before .before .before .before .pre .1, c .before .before .before .before .before .before .before .before .before .before .pre .2, fit-goes _ _ _ (c .before .before .before .before .before .before .before .before .before .before .pre .3) (c .before .before .flow .given .1) .1)
+equal-shape-requires c κs =
+    let at-start = c .before .before .before .before .before .before .before .before .before .before in
+    (at-start .pre .1, at-start .pre .2, fit-goes _ _ _ (at-start .pre .3) (c .before .before .flow .given .1) .1)
 
 add-load-types : tie.Need-add-load-types
-add-load-types c = omega (arith, c .before .before .before .before .before .before .before .before .pre .1)
+add-load-types c =
+    let at-start = c .before .before .before .before .before .before .before .before in
+    omega (arith, at-start .pre .1)
 
 load-types-requires : tie.Need-load-types-requires
 load-types-requires c κs = let r = c .before .before .before .before .before .before .before .before .before .pre .1 in (omega arith, omega arith)
 
 returns-3 : tie.Need-returns-3
-returns-3 c = (
-  meet-same _ _ _ (c .before .before .before .before .before .before .before .before .before .before .before .before .pre .0) (omega arith) (omega arith) _ _ (ap (λ x. flowOf x (c .before .before .before .before .before .before .before .before .before .before .before .before .args .stack .now)) (c .before .before .before .before .flow .given .1))
-      (sym (c .before .equal-shape .ensures) ∙ c .if3 .taken),
-  fit-goes _ _ _ (c .before .before .before .before .before .before .before .before .before .before .before .before .pre .3) (c .before .before .before .before .flow .given .1),
-)
+returns-3 c =
+    let at-flow = c .before .before .before .before in
+    let at-start = at-flow .before .before .before .before .before .before .before .before in (
+      meet-same _ _ _ (at-start .pre .0) (omega arith) (omega arith) _ _ (ap (λ x. flowOf x (at-start .args .stack .now)) (at-flow .flow .given .1))
+          (sym (c .before .equal-shape .ensures) ∙ c .if3 .taken),
+      fit-goes _ _ _ (at-start .pre .3) (at-flow .flow .given .1),
+    )
 
 returns-4 : tie.Need-returns-4
-returns-4 c = (
-  meet-other _ _ _ (c .before .before .before .before .before .before .before .before .before .before .before .before .pre .0) (omega arith) (omega arith) _ _ (ap (λ x. flowOf x (c .before .before .before .before .before .before .before .before .before .before .before .before .args .stack .now)) (c .before .before .before .before .flow .given .1))
-      (sym (c .before .equal-shape .ensures) ∙ c .if3 .left),
-  tt,
-)
+returns-4 c =
+    let at-flow = c .before .before .before .before in
+    let at-start = at-flow .before .before .before .before .before .before .before .before in (
+      meet-other _ _ _ (at-start .pre .0) (omega arith) (omega arith) _ _ (ap (λ x. flowOf x (at-start .args .stack .now)) (at-flow .flow .given .1))
+          (sym (c .before .equal-shape .ensures) ∙ c .if3 .left),
+      tt,
+    )
 
 returns-5 : tie.Need-returns-5
-returns-5 c = (
-  meet-load _ _ _ (c .before .before .before .before .before .before .before .before .before .before .before .before .pre .0) (omega arith) (omega arith) (ap (λ x. flowOf x (c .before .before .before .before .before .before .before .before .before .before .before .before .args .stack .now)) (c .before .before .before .before .enum-told .given .1)) _ _ _
-      (c .before .before .before .before .before .before .before .before .before .byte-at .ensures .0) (c .before .before .before .before .before .before .before .byte-at2 .ensures .0) (c .before .before .load-types .ensures),
-  (omega arith, omega arith),
-)
+returns-5 c =
+    let at-enum-told = c .before .before .before .before in
+    let at-byte-at2 = at-enum-told .before .before .before in
+    let at-byte-at = at-byte-at2 .before .before in
+    let at-start = at-byte-at .before .before .before in (
+      meet-load _ _ _ (at-start .pre .0) (omega arith) (omega arith) (ap (λ x. flowOf x (at-start .args .stack .now)) (at-enum-told .enum-told .given .1)) _ _ _
+          (at-byte-at .byte-at .ensures .0) (at-byte-at2 .byte-at2 .ensures .0) (c .before .before .load-types .ensures),
+      (omega arith, omega arith),
+    )
 
 returns-6 : tie.Need-returns-6
-returns-6 c = (meet-bad _ _ _ (c .before .before .before .before .before .before .before .before .pre .0) (omega arith) (omega arith) (ap (λ x. flowOf x (c .before .before .before .before .before .before .before .before .args .stack .now)) (c .enum-told2 .given .1)), tt)
+returns-6 c =
+    let at-start = c .before .before .before .before .before .before .before .before in
+    (meet-bad _ _ _ (at-start .pre .0) (omega arith) (omega arith) (ap (λ x. flowOf x (at-start .args .stack .now)) (c .enum-told2 .given .1)), tt)
 
 pub meet-shape-spec : {M : Type 1} → statement M
 meet-shape-spec =
