@@ -20,7 +20,7 @@ use Rattle.bytecode.specs.Macro.{readShape, Parsed, parsed, unread, orUnread, r
 use Rattle.logic.specs.Tests.{halves}
 use Rattle.logic.specs.OptionLaws.{never-some, same-some, chosen, kept}
 use Rattle.logic.specs.Lists.{Each}
-use Rattle.bytecode_laws.specs.Terms.{Named, ReadClass, ReadBody, ReadShape, RisesFrom, Ascends, WellFormed, OfBytes, Narrow}
+use Rattle.bytecode_laws.specs.Terms.{Named, ReadClass, ReadBody, ReadShape, Rises, WellFormed, OfBytes, Narrow}
 
 -- ── lists ──
 each-reverse : {A : Type 0} (P : A → Type 0) (ys zs : List A) → Each P ys → Each P zs → Each P (reverseAux ys zs)
@@ -176,22 +176,33 @@ took {A} f P Q step (suc n) before i l xs j k p q h =
         let t = r c (s .0) (s .1) h in
         (t .0, t .1, t .2, t .3, omega (arith, t .4))
 
--- first addresses, the latest body first
+-- addresses, the latest first: each passes the test that f makes of it beside those before it
+module _ {A : Type 0} (at : A → ℕ) (f : List A → ℕ → Bool) where
+  abbrev Falling : List A → Type 0
+  Falling [] = Unit {0}
+  Falling (x ∷ xs) = (f xs (at x) ≡ true) × Falling xs
+
+  abbrev past : List A → ℕ
+  past [] = 0
+  past (x ∷ xs) = suc (at x)
+
+  rises-reverse : ((xs : List A) (a : ℕ) → f xs a ≡ true → past xs ≤ a) → (ys zs : List A) → Falling ys → Rises at (past ys) zs → Rises at 0 (reverseAux ys zs)
+  rises-reverse above [] zs t r = r
+  rises-reverse above (y ∷ ys) zs t r = rises-reverse above ys (y ∷ zs) (t .1) (above ys (at y) (t .0), r)
+
 abbrev Falls : List Body → Type 0
-Falls [] = Unit {0}
-Falls (b ∷ bs) = (rises bs (b .first) ≡ true) × Falls bs
+Falls bs = Falling (λ (b : Body). b .first) rises bs
 
-abbrev past : List Body → ℕ
-past [] = 0
-past (b ∷ bs) = suc (b .first)
-
-above : (bs : List Body) (a : ℕ) → rises bs a ≡ true → past bs ≤ a
+above : (bs : List Body) (a : ℕ) → rises bs a ≡ true → past (λ (b : Body). b .first) rises bs ≤ a
 above [] a h = omega arith
 above (b ∷ bs) a h = ltb-true (b .first) a h
 
-rises-reverse : (ys zs : List Body) → Falls ys → RisesFrom (past ys) zs → RisesFrom 0 (reverseAux ys zs)
-rises-reverse [] zs f r = r
-rises-reverse (y ∷ ys) zs f r = rises-reverse ys (y ∷ zs) (f .1) (above ys (y .first) (f .0), r)
+abbrev Descends : List Placed → Type 0
+Descends ps = Falling (λ (p : Placed). p .address) follows ps
+
+follows-above : (ps : List Placed) (a : ℕ) → follows ps a ≡ true → past (λ (p : Placed). p .address) follows ps ≤ a
+follows-above [] a h = omega arith
+follows-above (p ∷ ps) a h = ltb-true (p .address) a h
 
 abbrev Begins : List Body → Type 0
 Begins [] = Unit {0}
@@ -208,23 +219,6 @@ begins (y ∷ ys) f = begins-reverse y ys [] f
 begins-first : (bs : List Body) → Begins bs → (b : Body) → getElem? bs 0 ≡ some b → b .first ≡ 0
 begins-first [] g b h = never-some h
 begins-first (c ∷ bs) g b h = ap (λ (x : Body). x .first) (sym (same-some h)) ∙ g
-
--- addresses of shapes, the latest first
-abbrev Descends : List Placed → Type 0
-Descends [] = Unit {0}
-Descends (p ∷ ps) = (follows ps (p .address) ≡ true) × Descends ps
-
-abbrev beyond : List Placed → ℕ
-beyond [] = 0
-beyond (p ∷ ps) = suc (p .address)
-
-follows-above : (ps : List Placed) (a : ℕ) → follows ps a ≡ true → beyond ps ≤ a
-follows-above [] a h = omega arith
-follows-above (p ∷ ps) a h = ltb-true (p .address) a h
-
-ascends-reverse : (ys zs : List Placed) → Descends ys → Ascends (beyond ys) zs → Ascends 0 (reverseAux ys zs)
-ascends-reverse [] zs f r = r
-ascends-reverse (y ∷ ys) zs f r = ascends-reverse ys (y ∷ zs) (f .1) (follows-above ys (y .address) (f .0), r)
 
 -- ── the whole ──
 onwards : {A B : Type 0} (p : Parsed A) (f : A → ℕ → List ℕ → Parsed B) (y : B) (i : ℕ) (l : List ℕ) → onward p f ≡ parsed y i l
@@ -260,10 +254,10 @@ module _ (cs : List (List Ty)) (bs : List Body) (xs : List Code) (ss : List Plac
         few-classes = rw en fewClasses;
         classes-read = rw en (each-reverse (ReadClass n) cs [] rcs tt);
         root-first = begins-first (reverse bs) (begins bs falls);
-        rises = rises-reverse bs [] falls tt;
+        rises = rises-reverse (λ (b : Body). b .first) rises above bs [] falls tt;
         bodies-read = rw (en, es) (each-reverse (ReadBody n size) bs [] rbs tt);
         shapes-read = rw (en, es) (each-reverse (ReadShape n size) ss [] rss tt);
-        ascends = ascends-reverse ss [] descends tt;
+        ascends = rises-reverse (λ (p : Placed). p .address) follows follows-above ss [] descends tt;
       }
 
 headed : (b : Bool) (p : Parsed Macro) (m : Macro) (i : ℕ) (k : List ℕ) → (if b then p else unread 0) ≡ parsed m i k → (b ≡ true) × (p ≡ parsed m i k)

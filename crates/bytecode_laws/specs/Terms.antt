@@ -41,15 +41,17 @@ pub record ReadShape (classes instructions : ℕ) (p : Placed) : Type 0 where
   pub stands : p .address < instructions
   pub named : Each (Named classes) (p .found .operands)
 
--- first addresses, each at least a and above the one before it
-abbrev pub RisesFrom : ℕ → List Body → Type 0
-RisesFrom a [] = Unit {0}
-RisesFrom a (b ∷ bs) = (a ≤ b .first) × RisesFrom (suc (b .first)) bs
+-- addresses, each at least a and above the one before it
+abbrev pub Rises : {A : Type 0} → (A → ℕ) → ℕ → List A → Type 0
+Rises at a [] = Unit {0}
+Rises at a (x ∷ xs) = (a ≤ at x) × Rises at (suc (at x)) xs
 
--- the addresses of shapes, each at least a and above the one before it
+-- first addresses of bodies, and addresses of shapes
+abbrev pub RisesFrom : ℕ → List Body → Type 0
+RisesFrom a bs = Rises (λ (b : Body). b .first) a bs
+
 abbrev pub Ascends : ℕ → List Placed → Type 0
-Ascends a [] = Unit {0}
-Ascends a (p ∷ ps) = (a ≤ p .address) × Ascends (suc (p .address)) ps
+Ascends a ps = Rises (λ (p : Placed). p .address) a ps
 
 pub record WellFormed (m : Macro) : Type 0 where
   pub some-body : 1 ≤ length (m .bodies)

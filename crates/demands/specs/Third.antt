@@ -83,7 +83,7 @@ front-of : (code out : List ℕ) → length code ≤ length out → take (length
 front-of code out h = ap (take (length code)) (sets-eq code out 0 (omega arith)) ∙ take-append-seam code (drop (0 + length code) out)
 
 abbrev Written : Compiled → List ℕ → Type 0
-Written r code = (n : ℕ) (b : List ℕ) → r ≡ record { verdict = accepted n; bytes = b } → take n b ≡ code
+Written r code = (n : ℕ) (b : List ℕ) → r ≡ record { verdict = accepted n; bytes = b } → (length code ≡ n) × (take n b ≡ code)
 
 written : (code out : List ℕ) → Written (writeMacro code out) code
 written code out = by (leb (length code) (length out)) refl
@@ -92,22 +92,25 @@ written code out = by (leb (length code) (length out)) refl
     by true h n b e =
         let k : length code ≡ n = same-number (ap (λ (r : Compiled). r .verdict) e) in
         let l : sets out 0 code ≡ b = ap (λ (r : Compiled). r .bytes) e in
-        ap (λ (i : ℕ). take i b) (sym k) ∙ ap (take (length code)) (sym l) ∙ front-of code out (leb-true (length code) (length out) h)
+        (k, ap (λ (i : ℕ). take i b) (sym k) ∙ ap (take (length code)) (sym l) ∙ front-of code out (leb-true (length code) (length out) h))
     by false h n b e = absurd (never-accepted (ap (λ (r : Compiled). r .verdict) e))
 
 judged-so : (l out : List ℕ) → Bytes l → (j : Judged Tree) → judgeTable l ≡ j → (n : ℕ) (b : List ℕ)
     → compileTree macroOf j out ≡ record { verdict = accepted n; bytes = b } → (m : Macro) × (judgeMacro (take n b) ≡ accepted m)
-judged-so l out bytes (accepted t) h n b e = (compiled t, ap judgeMacro (written (macroOf t) out n b e) ∙ accepted-passes l bytes t h)
+judged-so l out bytes (accepted t) h n b e = (compiled t, ap judgeMacro (written (macroOf t) out n b e .1) ∙ accepted-passes l bytes t h)
 judged-so l out bytes (refused r) h n b e = absurd (never-accepted (ap (λ (x : Compiled). x .verdict) e))
 
 -- "Equal tables then compile to equal bytes." (M25): whatever room is lent, and whatever stands in it
 same-front : (j : Judged Tree) (out out′ : List ℕ) (n n′ : ℕ) (b b′ : List ℕ) → compileTree macroOf j out ≡ record { verdict = accepted n; bytes = b }
-    → compileTree macroOf j out′ ≡ record { verdict = accepted n′; bytes = b′ } → take n b ≡ take n′ b′
-same-front (accepted t) out out′ n n′ b b′ e e′ = written (macroOf t) out n b e ∙ sym (written (macroOf t) out′ n′ b′ e′)
+    → compileTree macroOf j out′ ≡ record { verdict = accepted n′; bytes = b′ } → (n ≡ n′) × (take n b ≡ take n′ b′)
+same-front (accepted t) out out′ n n′ b b′ e e′ =
+    let w = written (macroOf t) out n b e in
+    let w′ = written (macroOf t) out′ n′ b′ e′ in
+    (sym (w .0) ∙ w′ .0, w .1 ∙ sym (w′ .1))
 same-front (refused r) out out′ n n′ b b′ e e′ = absurd (never-accepted (ap (λ (x : Compiled). x .verdict) e))
 
 pub equal-bytes : (table out out′ : List ℕ) (n n′ : ℕ) (b b′ : List ℕ) → compileOn macroOf table out ≡ record { verdict = accepted n; bytes = b }
-    → compileOn macroOf table out′ ≡ record { verdict = accepted n′; bytes = b′ } → take n b ≡ take n′ b′
+    → compileOn macroOf table out′ ≡ record { verdict = accepted n′; bytes = b′ } → (n ≡ n′) × (take n b ≡ take n′ b′)
 unfolding compileOn
 equal-bytes table out out′ n n′ b b′ e e′ = same-front (judgeTable table) out out′ n n′ b b′ e e′
 
