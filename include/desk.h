@@ -100,7 +100,8 @@ uint64_t cue_start(const uint8_t *code, size_t n, uint8_t *state, size_t len);
  *   end               by 0, or by the condition (20 to 27) after its releases; further runs give the end again, with 0 steps
  *
  * The refusals are tested in this order. Every run makes the loading check anew and tests the state, so that its time grows with the
- * macro's length and not with the allowance alone. Stack: under 39,000 bytes. */
+ * macro's length and not with the allowance alone. How many readings it took is not told: the end sheet is the listing
+ * program's. Stack: under 39,000 bytes. */
 uint64_t cue_run(const uint8_t *code, size_t n, uint8_t *state, size_t len, const uint8_t *readings, size_t m, uint16_t allowance);
 
 /* A play: as many runs as fit into one call, with the same readings, and tested once: the first run with the allowance, each later one with what the

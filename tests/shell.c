@@ -1,6 +1,6 @@
 /* A desk's shell in small, over include/desk.h: takes the table on standard input through check, compile, start and play, a few steps and events at a
- * time, and prints each event and the end as paper 01's listing does. Called as `shell macro` it loads a compiled macro instead. Before it plays
- * it asks for a run with a bank of 63 readings, to see it refused. */
+ * time, and prints each event and the end, or `open 0`, as a listing has them; the four totals are the listing program's alone. Called as `shell macro`
+ * it loads a compiled macro instead. Before it plays it asks for a run with a bank of 63 readings, to see it refused. */
 #include <stdio.h>
 #include <string.h>
 

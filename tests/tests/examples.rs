@@ -1,27 +1,17 @@
 //! The macros of examples/: the table is what its commented text stands for, and the listing beside it is what the tree does, what the
-//! machine does with two compilers' code and, where it is linked, what the proved library does.
+//! machine does with two compilers' code and, but for the readings, which it does not count, what the proved library does where it is linked.
 
 use std::collections::BTreeSet;
 use std::path::{Path, PathBuf};
 
 use cue_tools::entries::{to_table, to_text};
-use second::evaluator::answer::Answer;
-use second::evaluator::code::{judge_macro, write_macro, Macro};
+use second::evaluator::code::{judge_macro, write_macro};
 use second::evaluator::compiler::compile;
-use second::evaluator::execute::{budget, execute};
-use second::evaluator::machine::{fresh, run};
 use second::evaluator::names::judge_table;
-use second::evaluator::table::Tree;
 use second::generate::notation::{table, LISTING_EXAMPLE};
-use second::harness::listings::event_line;
+use second::harness::listings::{listed, without_sheet, Listing};
 use second::harness::setup::with_large_stack;
 use second::harness::verdicts::judged;
-use second::plain;
-
-/// "or `open 0` after 65,535 steps"
-const LISTED_STEPS: u64 = 65_535;
-/// "It lends 65,536 bytes for the macro"
-const LISTED_ROOM: usize = 65_536;
 
 fn folder() -> PathBuf {
     Path::new(env!("CARGO_MANIFEST_DIR")).join("../examples")
@@ -52,39 +42,9 @@ fn text_of(name: &str, sort: &str) -> String {
     String::from_utf8(bytes_of(name, sort)).expect("a text")
 }
 
-// Listings.
-
-/// The listing of a macro, by whatever answers a run with an allowance.
-fn listing(mut run: impl FnMut(u16) -> Answer) -> String {
-    let mut lines = String::new();
-    let mut left = LISTED_STEPS;
-    while left > 0 {
-        let answer = run(left as u16);
-        left -= answer.numbers()[1];
-        match answer {
-            Answer::Event { event, .. } => lines += &(event_line(&event) + "\n"),
-            Answer::End { code, .. } => return lines + &format!("end {code}\n"),
-            Answer::AllowanceUsed { .. } => assert_eq!(left, 0),
-            Answer::Refusal(refusal) => panic!("{refusal:?}"),
-        }
-    }
-    lines + "open 0\n"
-}
-
-fn machine_listing(m: &Macro) -> String {
-    let mut state = fresh(m);
-    listing(|allowance| run(m, &mut state, &[0; 64], allowance).expect("a passed macro is never stuck"))
-}
-
-/// The events of the tree, more than any machine can answer in the steps of a listing, and the end.
-fn tree_events(tree: &Tree) -> (Vec<String>, Option<u8>) {
-    let x = execute(tree, &mut |_, _| 0, budget(LISTED_STEPS + 2));
-    (x.events().iter().map(|event| event_line(event) + "\n").collect(), x.end)
-}
-
 #[test]
-fn there_are_nine_examples() {
-    assert_eq!(names().len(), 9, "{:?}", names());
+fn there_are_ten_examples() {
+    assert_eq!(names().len(), 10, "{:?}", names());
 }
 
 /// Text to table and back: the table is that of the text, and its text without comments gives it again.
@@ -126,6 +86,8 @@ fn texts_are_laid_out_as_their_tree() {
     }
 }
 
+// Listings.
+
 #[test]
 fn listings() {
     with_large_stack(|| {
@@ -133,48 +95,45 @@ fn listings() {
             let bytes = bytes_of(&name, "table");
             let wanted = text_of(&name, "listing");
             assert_eq!(judged(&bytes), (0, 0), "{name}");
-            let tree = judge_table(&bytes).unwrap();
-            // two compilers, two codes
-            let mut code = vec![0; LISTED_ROOM];
-            let length = plain::compiler::compile(&bytes, &mut code).unwrap();
-            for code in [&code[..length], &write_macro(&compile(&tree))] {
-                assert_eq!(machine_listing(&judge_macro(code).unwrap().code), wanted, "{name}");
-            }
-            // the tree
-            let (events, end) = tree_events(&tree);
-            match end {
-                Some(end) => assert_eq!(events.concat() + &format!("end {end}\n"), wanted, "{name}"),
-                None => {
-                    let open = wanted.strip_suffix("open 0\n").expect("the tree does not end");
-                    assert!(events.concat().starts_with(open), "{name}");
-                }
+            // the tree, and the machine with the plain compiler's code
+            let listing = listed(&bytes, 0).unwrap();
+            assert_eq!(listing.text(), wanted, "{name}");
+            // the machine with other code, whose 65,535 steps may take more readings or fewer
+            let code = write_macro(&compile(&judge_table(&bytes).unwrap()));
+            let other = Listing::of_macro(&judge_macro(&code).unwrap().code, 0).text();
+            match listing.end {
+                Some(_) => assert_eq!(other, wanted, "{name}"),
+                None => assert_eq!(without_sheet(&other), without_sheet(&wanted), "{name}"),
             }
         }
     });
 }
 
-/// The same through the C interface.
+/// The same through the C interface, whose answers tell the sets, holds and releases.
 #[cfg(desk)]
 #[test]
 fn listings_of_the_library() {
     use second::harness::compare_machines::{run, started};
     use second::harness::desk::compiled;
+    use second::harness::listings::{without_readings, LISTED_ROOM};
     for name in names() {
         let code = compiled(&bytes_of(&name, "table"), LISTED_ROOM).unwrap();
         let mut state = started(&code);
-        assert_eq!(listing(|allowance| run(&code, &mut state, &[0; 64], allowance)), text_of(&name, "listing"), "{name}");
+        let listing = Listing::of_runs(|allowance| (run(&code, &mut state, &[0; 64], allowance), 0));
+        assert_eq!(without_readings(&listing.text()), without_readings(&text_of(&name, "listing")), "{name}");
     }
 }
 
-/// README's first command, over the proved library: the desk's shell in C prints each example's listing, after the refusal of a bank of 63
-/// readings that it lends first.
+/// README's first command, over the proved library: the desk's shell in C prints each example's events and end, after the refusal of a bank
+/// of 63 readings that it lends first.
 #[cfg(desk)]
 #[test]
-fn show_prints_the_listings() {
+fn show_prints_the_events() {
     for name in names() {
         let table = folder().join(format!("{name}.table"));
         let shown = std::process::Command::new("bash").args([folder().join("show"), table]).output().expect("bash runs");
         assert!(shown.status.success(), "{name}: {}", String::from_utf8_lossy(&shown.stderr));
-        assert_eq!(String::from_utf8_lossy(&shown.stdout), format!("refused 11 0\n{}", text_of(&name, "listing")), "{name}");
+        let wanted = format!("refused 11 0\n{}", without_sheet(&text_of(&name, "listing")));
+        assert_eq!(String::from_utf8_lossy(&shown.stdout), wanted, "{name}");
     }
 }

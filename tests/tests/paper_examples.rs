@@ -5,8 +5,8 @@ use second::evaluator::answer::{Answer, Refusal};
 use second::evaluator::code::write_macro;
 use second::evaluator::state::{run_bytes, start, LENGTH};
 use second::evaluator::values::{binary, unary, Trouble, Value};
-use second::generate::notation::{each, root_only, LISTING_EXAMPLE};
-use second::harness::listings::{end_of, lines};
+use second::generate::notation::{each, root_only, table, LISTING_EXAMPLE};
+use second::harness::listings::{end_of, lines, listing_of};
 use second::harness::setup::with_large_stack;
 use second::harness::verdicts::{judged, loaded, loads, verdict};
 
@@ -291,11 +291,12 @@ fn star_shifts() {
     assert_eq!(shift(15, u32::MAX, -31), Ok(Value::Bits(0x8000_0000)));
 }
 
-// The listing example.
+// The listing example, in the longer form of paper 02.
 
 #[test]
 fn listing_example() {
-    assert_eq!(lines(LISTING_EXAMPLE), ["hold 7", "set 3 200", "release 7", "end 0"]);
+    let printed = ["hold 7", "set 3 200", "release 7", "sets 1", "holds 1", "releases 1", "readings 0", "end 0"];
+    assert_eq!(listing_of(&table(LISTING_EXAMPLE), 0), printed);
 }
 
 // "Plausible ways to get it wrong"

@@ -1,4 +1,5 @@
-//! docs/REFERENCE.md is right: its table, listing and macro are those of examples/listing, and its C program prints the listings.
+//! docs/REFERENCE.md is right: its table, listing and macro are those of examples/listing, and its C program prints
+//! the events and ends of listings.
 
 use std::path::Path;
 
@@ -52,6 +53,8 @@ fn the_definitions_are_there() {
 fn the_program_in_c() {
     use std::io::Write;
     use std::process::{Command, Stdio};
+
+    use second::harness::listings::without_sheet;
     let folder = Path::new(env!("CARGO_TARGET_TMPDIR"));
     let root = Path::new(env!("CARGO_MANIFEST_DIR")).join("..");
     let (source, program) = (folder.join("reference.c"), folder.join("reference"));
@@ -68,6 +71,6 @@ fn the_program_in_c() {
         let mut child = Command::new(&program).stdin(Stdio::piped()).stdout(Stdio::piped()).spawn().expect("the program runs");
         child.stdin.take().unwrap().write_all(&file(&format!("examples/{name}.table"))).unwrap();
         let printed = String::from_utf8(child.wait_with_output().unwrap().stdout).unwrap();
-        assert_eq!(printed, text(&format!("examples/{name}.listing")), "{name}");
+        assert_eq!(printed, without_sheet(&text(&format!("examples/{name}.listing"))), "{name}");
     }
 }

@@ -1,5 +1,5 @@
 //! A desk's shell in C (shell.c) over include/desk.h and the static library: compiled without a warning, it takes a table through check,
-//! compile, start and play and prints what paper 01 lists.
+//! compile, start and play and prints the events and the end that a listing has.
 #![cfg(desk)]
 
 use std::io::Write;
@@ -9,6 +9,7 @@ use std::process::{Command, Stdio};
 use second::evaluator::code::{write_macro, Macro};
 use second::generate::edge_cases::endless_counter;
 use second::generate::notation::{root_only, table, LISTING_EXAMPLE};
+use second::harness::listings::without_sheet;
 
 /// The shell, compiled for this test alone.
 fn compiled(name: &str) -> PathBuf {
@@ -88,7 +89,7 @@ fn one_call_a_frame() {
     let (text, content) = printed(&frames, &[], &table);
     let (heads, events): (Vec<&str>, Vec<&str>) = text.lines().partition(|line| line.starts_with("frame"));
     assert!(content && heads.len() > 1, "{text}");
-    assert_eq!(events, listing.lines().collect::<Vec<_>>());
+    assert_eq!(events, without_sheet(&listing).lines().collect::<Vec<_>>());
     // so many frames and no more
     let (first, _) = printed(&frames, &["1"], &table);
     assert!(text.starts_with(&first) && first.lines().filter(|line| line.starts_with("frame")).count() == 1, "{first}");

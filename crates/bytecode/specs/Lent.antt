@@ -7,6 +7,7 @@ use lib.ListN.{length}
 use Rattle.logic.specs.Choice.{if_then_else_}
 use Rattle.logic.specs.Options.{keep}
 use Rattle.values.specs.Ends.{Refusal, refusal, Judged, accepted, refused}
+use Rattle.values.specs.Trace.{readingsIn}
 use Rattle.bytecode.specs.Macro.{Macro}
 use Rattle.bytecode.specs.Rules.{judgeMacro}
 use Rattle.bytecode.specs.Machine.{Machine, freshMachine}
@@ -43,20 +44,24 @@ startOn code l = startMacro (judgeMacro code) l
 pub record RanOn : Type 0 where
   pub answer : Answer
   pub bytes : List ℕ
+  pub readings : ℕ  -- how many the run took (paper 02, ticket 4)
 
 abbrev pub runRefused : Refusal → List ℕ → RanOn
-runRefused r l = record { answer = refuses r; bytes = l }
+runRefused r l = record { answer = refuses r; bytes = l; readings = 0 }
 
-abbrev pub written : Answer → Machine → List ℕ → RanOn
-written (refuses r) s l = runRefused r l
-written (happens e n) s l = record { answer = happens e n; bytes = encode s }
-written (spends n) s l = record { answer = spends n; bytes = encode s }
-written (finishes c n) s l = record { answer = finishes c n; bytes = encode s }
-written (halts w) s l = record { answer = halts w; bytes = l }
+-- the bytes after a run, by its answer
+abbrev pub written : Answer → Machine → List ℕ → List ℕ
+written (happens e n) s l = encode s
+written (spends n) s l = encode s
+written (finishes c n) s l = encode s
+written (refuses r) s l = l
+written (halts w) s l = l
 
 abbrev pub runState : Option Machine → Macro → List ℕ → ℕ → List ℕ → RanOn
 runState none m readings allowance l = runRefused (refusal 10 0) l
-runState (some s) m readings allowance l = let r = run m readings allowance s in written (r .answer) (r .state) l
+runState (some s) m readings allowance l =
+    let r = run m readings allowance s in
+    record { answer = r .answer; bytes = written (r .answer) (r .state) l; readings = readingsIn (r .trace) }
 
 abbrev pub runMacro : Judged Macro → List ℕ → ℕ → List ℕ → RanOn
 runMacro (refused r) readings allowance l = runRefused r l

@@ -9,14 +9,19 @@ use Rattle.bytecode.specs.Runs.{Answer, happens, spends, finishes, refus
 use Rattle.bytecode.specs.Lent.{runOn}
 use Rattle.bytecode.specs.Answers.{Numbers, numbers, refusalNumbers, eventNumbers, answerNumbers, packed}
 
--- what is answered, and what the lent bytes hold after: those of the state, and those for the events' answers
+-- what is answered, what the lent bytes hold after, those of the state and those for the events' answers, and how many readings the runs took
 pub record Played : Type 0 where
   pub answer : Numbers
   pub state : List ℕ
   pub answers : List ℕ
+  pub readings : ℕ
 
 abbrev pub played : Numbers → List ℕ → List ℕ → Played
-played a state answers = record { answer = a; state = state; answers = answers }
+played a state answers = record { answer = a; state = state; answers = answers; readings = 0 }
+
+-- a run's readings beside those of the runs behind it
+abbrev pub taking : ℕ → Played → Played
+taking n p = record { answer = p .answer; state = p .state; answers = p .answers; readings = n + p .readings }
 
 -- a packed answer takes eight bytes, "little-endian"
 abbrev pub long : ℕ → List ℕ
@@ -41,7 +46,7 @@ module _ (code readings : List ℕ) (allowance : ℕ) where
   playFrom zero taken events state answers = played (numbers 8 taken 0 events) state answers
   playFrom (suc room) taken events state answers =
       let r = runOn code state readings (allowance - taken) in
-      afterRun (r .answer) taken events (r .bytes) answers (λ n a. playFrom room n (suc events) (r .bytes) a)
+      taking (r .readings) (afterRun (r .answer) taken events (r .bytes) answers (λ n a. playFrom room n (suc events) (r .bytes) a))
 
 -- "a refusal as cue_run (8, 9, 10, 11 in order), and then nothing is written"
 abbrev pub unlessRefused : Answer → List ℕ → List ℕ → Played → Played

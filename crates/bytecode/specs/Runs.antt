@@ -1,5 +1,5 @@
 -- A run, and a list of runs, of the plain machine. (paper 01, Running)
-use mathlib.Core.List.{List, [], _∷_}
+use mathlib.Core.List.{List, [], _∷_, _++_}
 use Prim.Native.Nat.{ℕ, zero, suc, _-_}
 use lib.Dec.{eqb}
 use lib.ListN.{length, getD}
@@ -17,13 +17,18 @@ pub data Answer : Type 0 where
   refuses : Refusal → Answer
   halts : Stuck → Answer
 
--- an answer, and the state after it
+-- an answer, the state after it, and the trace of the run: what its steps gave, in order
 pub record Ran : Type 0 where
   pub answer : Answer
   pub state : Machine
+  pub trace : List Item
 
 abbrev pub with : Answer → Machine → Ran
-with a s = record { answer = a; state = s }
+with a s = record { answer = a; state = s; trace = [] }
+
+-- what a step gave stands before what the steps behind it give
+abbrev pub after : List Item → Ran → Ran
+after is r = record { answer = r .answer; state = r .state; trace = is ++ r .trace }
 
 -- "op 16 reads fader n in the n-th of its run's 64 bytes"
 abbrev pub bankOf : List ℕ → ℕ → ℕ
@@ -42,7 +47,7 @@ visible (event e ∷ is) s n k = with (happens e n) s
 visible (reading f v ∷ is) s n k = ends s n k
 
 abbrev pub afterStep : Stepped → Machine → ℕ → (Machine → Ran) → Ran
-afterStep (moved is t) s n k = visible is t n k
+afterStep (moved is t) s n k = after is (visible is t n k)
 afterStep (stuck why) s n k = with (halts why) s
 
 unfoldable pub steps : Macro → (ℕ → ℕ) → ℕ → ℕ → Machine → Ran

@@ -10,7 +10,7 @@ use borrow.Author.Tests.{eq-eqb}
 use Rattle.logic.specs.Options.{keep}
 use Rattle.words.specs.Laws.{Bytes}
 use Rattle.values.specs.Ends.{Refusal, refusal, accepted}
-use Rattle.values.specs.Trace.{Item}
+use Rattle.values.specs.Trace.{Item, readingsIn}
 use Rattle.bytecode.specs.Macro.{Macro}
 use Rattle.bytecode.specs.Rules.{judgeMacro}
 use Rattle.bytecode.specs.Machine.{Machine, Stuck, moved, stuck, freshMachine, step}
@@ -26,19 +26,12 @@ use Rattle.bytecode_safety.specs.Terms.{Answers, Moves}
 use Rattle.bytecode_runs.specs.Terms.{Fed, runsOn, onBytes, NoneSound}
 
 -- what is written after an answer that is allowed
-written-is : (f : Feed) (s t : Machine) (a : Answer) → Answers f s a t → written a t (encode s) ≡ record { answer = a; bytes = encode t }
+written-is : (f : Feed) (s t : Machine) (a : Answer) → Answers f s a t → written a t (encode s) ≡ encode t
 written-is f s t (happens e n) h = refl
 written-is f s t (spends n) h = refl
 written-is f s t (finishes c n) h = refl
-written-is f s t (refuses r) h = ap (λ (x : Machine). record { answer = refuses r; bytes = encode x }) (sym (h .2))
+written-is f s t (refuses r) h = ap encode (sym (h .2))
 written-is f s t (halts why) h = absurd h
-
-written-answer : (a : Answer) (t : Machine) (l : List ℕ) → written a t l .answer ≡ a
-written-answer (happens e n) t l = refl
-written-answer (spends n) t l = refl
-written-answer (finishes c n) t l = refl
-written-answer (refuses r) t l = refl
-written-answer (halts why) t l = refl
 
 module _ (code : List ℕ) (m : Macro) (h : judgeMacro code ≡ accepted m) (w : Passed m) where
   pub run-is : (f : Feed) → Bytes (f .readings) → (s : Machine) → sound m s ≡ true
@@ -46,7 +39,8 @@ module _ (code : List ℕ) (m : Macro) (h : judgeMacro code ≡ accepted m) (w :
   unfolding runOn
   run-is f b s q =
       let r = run m (f .readings) (f .allowance) s in
-      rw (h, soundState-encode m (sized m w) s q) (written-is f s (r .state) (r .answer) (run-safe m w f b s q .answers))
+      rw (h, soundState-encode m (sized m w) s q)
+      (ap (λ l. record { answer = r .answer; bytes = l; readings = readingsIn (r .trace) }) (written-is f s (r .state) (r .answer) (run-safe m w f b s q .answers)))
 
   pub runs-are : (fs : List Feed) → Fed fs → (s : Machine) → sound m s ≡ true → runsOn code fs (encode s) ≡ map onBytes (runs m fs s)
   unfolding runsOn runs
@@ -91,5 +85,5 @@ module _ (code : List ℕ) (m : Macro) (h : judgeMacro code ≡ accepted m) (w :
           let r = run m (f .readings) (f .allowance) s in
           let a = run-safe m w f b s q .answers in
           let i : runOn code l (f .readings) (f .allowance) .answer ≡ r .answer =
-          rw (h, eq-eqb (length l) stateLength n, d, q) (written-answer (r .answer) (r .state) l) in
+          rw (h, eq-eqb (length l) stateLength n, d, q) refl in
           absurd (not-ten f s (r .state) (r .answer) a (sym i ∙ e))

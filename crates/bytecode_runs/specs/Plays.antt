@@ -12,15 +12,16 @@ use Rattle.logic.specs.Choice.{if_then_else_}
 use Rattle.logic.specs.Lists.{Each}
 use Rattle.words.specs.Laws.{Bytes}
 use Rattle.values.specs.Ends.{accepted}
+use Rattle.values.specs.Trace.{readingsIn}
 use Rattle.bytecode.specs.Macro.{Macro}
 use Rattle.bytecode.specs.Rules.{judgeMacro}
 use Rattle.bytecode.specs.Machine.{Machine}
-use Rattle.bytecode.specs.Runs.{Answer, happens, spends, finishes, refuses, halts, Ran, with, run, Feed, runs}
+use Rattle.bytecode.specs.Runs.{Answer, happens, spends, finishes, refuses, halts, Ran, run, Feed, runs}
 use Rattle.bytecode.specs.Sound.{sound}
 use Rattle.bytecode.specs.State.{encode}
 use Rattle.bytecode.specs.Lent.{RanOn, runOn}
 use Rattle.bytecode.specs.Answers.{numbers, answerNumbers}
-use Rattle.bytecode.specs.Play.{Played, played, afterRun, playFrom, unlessRefused, playOn}
+use Rattle.bytecode.specs.Play.{Played, played, taking, afterRun, playFrom, unlessRefused, playOn}
 use Rattle.bytecode_laws.specs.Terms.{Passed}
 use Rattle.bytecode_safety.specs.Safety.{run-safe}
 use Rattle.bytecode_safety.specs.Terms.{Answers, stateAfter}
@@ -39,7 +40,7 @@ feedOf (many f answers) = f
 
 -- what is answered and written; a run is lent no bytes for answers
 abbrev pub callOn : List ℕ → List ℕ → Call → Played
-callOn code state (one f) = let r = runOn code state (f .readings) (f .allowance) in played (answerNumbers (r .answer)) (r .bytes) []
+callOn code state (one f) = let r = runOn code state (f .readings) (f .allowance) in taking (r .readings) (played (answerNumbers (r .answer)) (r .bytes) [])
 callOn code state (many f answers) = playOn code state (f .readings) (f .allowance) answers
 
 -- calls on lent bytes, each on what the one before it left there
@@ -71,11 +72,11 @@ callFeeds m (many f answers) s = if eqb (length (f .readings)) 64 then playFeeds
 unfoldable pub shownPlay : List Ran → ℕ → ℕ → Machine → List ℕ → Played
 shownPlay [] taken events s answers = played (numbers 8 taken 0 events) (encode s) answers
 shownPlay (r ∷ rs) taken events s answers =
-    afterRun (r .answer) taken events (encode (r .state)) answers (λ n b. shownPlay rs n (suc events) (r .state) b)
+    taking (readingsIn (r .trace)) (afterRun (r .answer) taken events (encode (r .state)) answers (λ n b. shownPlay rs n (suc events) (r .state) b))
 
 abbrev pub shownRun : List Ran → Machine → Played
 shownRun [] s = played (numbers 8 0 0 0) (encode s) []
-shownRun (r ∷ rs) s = played (answerNumbers (r .answer)) (encode (r .state)) []
+shownRun (r ∷ rs) s = taking (readingsIn (r .trace)) (played (answerNumbers (r .answer)) (encode (r .state)) [])
 
 abbrev pub shownCall : Call → List Ran → Machine → Played
 shownCall (one f) rs s = shownRun rs s
@@ -132,10 +133,11 @@ module _ (code : List ℕ) (m : Macro) (h : judgeMacro code ≡ accepted m) (w :
           let f : Feed = record { readings = readings; allowance = allowance - taken } in
           let r = run m readings (allowance - taken) s in
           let left : (n : ℕ) → allowance - (taken + n) ≡ allowance - taken - n = λ n. omega arith in
-          ap (λ (x : RanOn). afterRun (x .answer) taken events (x .bytes) answers (λ n c. playFrom code readings allowance room n (suc events) (x .bytes) c)) (run-is code m h w f b s q)
-          ∙ after-same (r .answer) taken events (r .state) answers _ (λ n. playFeeds m readings room (allowance - taken - n) (r .state))
+          ap (λ (x : RanOn). taking (x .readings) (afterRun (x .answer) taken events (x .bytes) answers (λ n c. playFrom code readings allowance room n (suc events) (x .bytes) c)))
+          (run-is code m h w f b s q)
+          ∙ ap (taking (readingsIn (r .trace))) (after-same (r .answer) taken events (r .state) answers _ (λ n. playFeeds m readings room (allowance - taken - n) (r .state))
           (λ n c. play-runs room (taken + n) (suc events) (r .state) (run-safe m w f b s q .still-sound) c
-          ∙ ap (λ k. shownPlay (runs m (playFeeds m readings room k (r .state)) (r .state)) (taken + n) (suc events) (r .state) c) (left n))
+          ∙ ap (λ k. shownPlay (runs m (playFeeds m readings room k (r .state)) (r .state)) (taken + n) (suc events) (r .state) c) (left n)))
 
       -- the state's bytes after it are those of the plain machine's state after its runs
       after-state : (a : Answer) (taken events : ℕ) (t : Machine) (answers : List ℕ) (more : ℕ → List Feed)
@@ -191,7 +193,7 @@ module _ (code : List ℕ) (m : Macro) (h : judgeMacro code ≡ accepted m) (w :
   call-is : (c : Call) → Bytes (feedOf c .readings) → (s : Machine) → sound m s ≡ true
       → let rs = runs m (callFeeds m c s) s in (callOn code (encode s) c ≡ shownCall c rs s) × (shownCall c rs s .state ≡ encode (stateAfter s rs))
   unfolding playOn shownPlay runs run
-  call-is (one f) b s q = (ap (λ (x : RanOn). played (answerNumbers (x .answer)) (x .bytes) []) (run-is code m h w f b s q), refl)
+  call-is (one f) b s q = (ap (λ (x : RanOn). taking (x .readings) (played (answerNumbers (x .answer)) (x .bytes) [])) (run-is code m h w f b s q), refl)
   call-is (many f answers) b s q = by (eqb (length (f .readings)) 64) refl
     where
       tested : runOn code (encode s) (f .readings) 0 ≡ onBytes (run m (f .readings) 0 s)

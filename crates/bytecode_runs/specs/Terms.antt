@@ -5,6 +5,7 @@ use mathlib.Core.List.{List, [], _∷_}
 use mathlib.Core.Option.{some}
 use Prim.Native.Nat.{ℕ}
 use Rattle.words.specs.Laws.{Bytes}
+use Rattle.values.specs.Trace.{readingsIn}
 use Rattle.bytecode.specs.Macro.{Macro}
 use Rattle.bytecode.specs.Machine.{Machine}
 use Rattle.bytecode.specs.Runs.{Ran, Feed}
@@ -22,9 +23,9 @@ unfoldable pub runsOn : List ℕ → List Feed → List ℕ → List RanOn
 runsOn code [] l = []
 runsOn code (f ∷ fs) l = let r = runOn code l (f .readings) (f .allowance) in r ∷ runsOn code fs (r .bytes)
 
--- an answer of the plain machine, beside the bytes of its state
+-- an answer of the plain machine, beside the bytes of its state and the number of readings in its trace
 abbrev pub onBytes : Ran → RanOn
-onBytes r = record { answer = r .answer; bytes = encode (r .state) }
+onBytes r = record { answer = r .answer; bytes = encode (r .state); readings = readingsIn (r .trace) }
 
 -- the state that decodes from bytes is not sound, if one does
 abbrev pub NoneSound : Macro → List ℕ → Type 0

@@ -1,4 +1,5 @@
 pub mod Terms
+pub mod Traces
 pub mod Operators
 pub mod Lists
 pub mod States

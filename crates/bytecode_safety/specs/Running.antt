@@ -15,16 +15,17 @@ use Rattle.logic.specs.Choice.{if_then_else_}
 use Rattle.words.specs.Laws.{Bytes}
 use Rattle.values.specs.Ends.{refusal, isCondition}
 use Rattle.values.specs.Values.{tysOf, freshAll}
-use Rattle.values.specs.Trace.{Event, Item, event, reading}
+use Rattle.values.specs.Trace.{Event, Item, event, reading, readingsIn}
 use Rattle.bytecode.specs.Macro.{Body, shape, Macro}
 use Rattle.bytecode.specs.Machine.{Activation, Shared, After, Machine, running, unwinding, ended, endBy, Stepped, moved, stuck, rootCells, freshMachine, step}
-use Rattle.bytecode.specs.Runs.{Answer, happens, spends, finishes, refuses, halts, Ran, with, bankOf, visible, afterStep, steps, run, Feed, runs}
+use Rattle.bytecode.specs.Runs.{Answer, happens, spends, finishes, refuses, halts, Ran, with, after, bankOf, visible, afterStep, steps, run, Feed, runs}
 use Rattle.bytecode.specs.Runs.{ends as endsOr}
 use Rattle.bytecode.specs.Sound.{soundGroup, sound}
 use Rattle.logic.specs.Tests.{both, halves, or-right}
 use Rattle.bytecode_laws.specs.Terms.{Passed, Allowed}
 use Rattle.bytecode_laws.specs.Promises.{entry}
-use Rattle.bytecode_safety.specs.Terms.{counted, occurs, isHold, isRelease, holdsOf, releasesOf, openHolds, InRange, Moves, Steps, eventOf, eventsOf, stateAfter, Answers, SafeRun, EachSafe}
+use Rattle.bytecode_safety.specs.Terms.{counted, occurs, isHold, isRelease, holdsOf, releasesOf, openHolds, InRange}
+use Rattle.bytecode_safety.specs.Terms.{eventsIn, Moves, Steps, eventOf, stepsOf, eventsOf, stateAfter, Answers, SafeRun, EachSafe}
 use Rattle.bytecode_safety.specs.Lists.{all-first, all-none, fresh-types, fresh-values}
 use Rattle.bytecode_safety.specs.States.{running-sound, running-back}
 use Rattle.bytecode_safety.specs.Steps.{safe-running}
@@ -53,6 +54,7 @@ module _ (m : Macro) (w : Passed m) where
             (both (le-leb (length gs) 512 (omega (arith, leb-true (length (g ∷ gs)) 512 (b .0)))) (all-first soundGroup g gs (b .1) .1));
         one-item = omega arith;
         in-range = (leb-true g 63 (all-first soundGroup g gs (b .1) .0), tt);
+        reads-on = refl;
         account = λ x. less-one (eqb g x) (occurs x gs);
       }
   safe-any bank low (unwinding [] (endBy c)) h =
@@ -61,9 +63,10 @@ module _ (m : Macro) (w : Passed m) where
             (halves (isCondition c) (leb 0 512 && all soundGroup []) h .0);
         one-item = omega arith;
         in-range = tt;
+        reads-on = refl;
         account = λ g. refl;
       }
-  safe-any bank low (ended c) h = record { still-sound = h; one-item = omega arith; in-range = tt; account = λ g. refl }
+  safe-any bank low (ended c) h = record { still-sound = h; one-item = omega arith; in-range = tt; reads-on = refl; account = λ g. refl }
 
   -- ── the fresh machine ──
   first-body : (bs : List Body) → 1 ≤ length bs → (b : Body) × (getElem? bs 0 ≡ some b)
@@ -110,6 +113,8 @@ module _ (m : Macro) (w : Passed m) where
     sounds : sound m (x .state) ≡ true
     goes : Goes n left (x .answer) (x .state)
     account : Account s x
+    told : eventsIn (x .trace) ≡ eventOf (x .answer)
+    few : n + readingsIn (x .trace) ≤ stepsOf (x .answer)
 
   later : (n left : ℕ) (a : Answer) (t : Machine) → Goes (suc n) left a t → Goes n (suc left) a t
   later n left (happens e k) t h = (omega (arith, h .0), h .1)
@@ -119,42 +124,52 @@ module _ (m : Macro) (w : Passed m) where
   later n left (halts why) t h = h
 
   module _ (bank : ℕ → ℕ) (low : (n : ℕ) → bank n < 256) where
-    -- after a step that gives no event
+    -- after a step that gives no event: the step may have taken a reading
     silent : (n left : ℕ) (s t : Machine) → sound m t ≡ true → ((g : ℕ) → openHolds g s ≡ openHolds g t)
         → ((t : Machine) → sound m t ≡ true → Went (suc n) left t (steps m bank left (suc n) t))
-        → Went n (suc left) s (endsOr t (suc n) (λ t. steps m bank left (suc n) t))
-    silent n left s (running rs f fs) h e ih =
-        let x = ih (running rs f fs) h in let y = steps m bank left (suc n) (running rs f fs) in
-        record {
-          sounds = x .sounds;
-          goes = later n left (y .answer) (y .state) (x .goes);
-          account = λ g. ap
-              (λ z. holdsOf g (eventOf (y .answer)) + z) (e g) ∙ x .account g;
-        }
-    silent n left s (unwinding gs a) h e ih =
-        let x = ih (unwinding gs a) h in let y = steps m bank left (suc n) (unwinding gs a) in
-        record {
-          sounds = x .sounds;
-          goes = later n left (y .answer) (y .state) (x .goes);
-          account = λ g. ap
-              (λ z. holdsOf g (eventOf (y .answer)) + z) (e g) ∙ x .account g;
-        }
-    silent n left s (ended c) h e ih =
-        record {
-          sounds = h;
-          goes = (omega arith, refl, ends-by c (unfold sound in h));
-          account = λ g. unfold holdsOf releasesOf in ap (λ z. 0 + z)
-              (e g);
-        }
+        → (let x = endsOr t (suc n) (λ t. steps m bank left (suc n) t) in Went n (suc left) s x × (suc (n + readingsIn (x .trace)) ≤ stepsOf (x .answer)))
+    silent n left s t h e ih = by t h e
+      where
+        on : (t : Machine) → sound m t ≡ true → ((g : ℕ) → openHolds g s ≡ openHolds g t)
+            → (let y = steps m bank left (suc n) t in Went n (suc left) s y × (suc (n + readingsIn (y .trace)) ≤ stepsOf (y .answer)))
+        on t h e =
+            let x = ih t h in let y = steps m bank left (suc n) t in (
+              record {
+                sounds = x .sounds;
+                goes = later n left (y .answer) (y .state) (x .goes);
+                account = λ g. ap (λ z. holdsOf g (eventOf (y .answer)) + z) (e g) ∙ x .account g;
+                told = x .told;
+                few = omega (arith, x .few);
+              },
+              omega (arith, x .few),
+            )
+
+        by : (t : Machine) → sound m t ≡ true → ((g : ℕ) → openHolds g s ≡ openHolds g t)
+            → (let x = endsOr t (suc n) (λ t. steps m bank left (suc n) t) in Went n (suc left) s x × (suc (n + readingsIn (x .trace)) ≤ stepsOf (x .answer)))
+        by (running rs f fs) h e = on (running rs f fs) h e
+        by (unwinding gs a) h e = on (unwinding gs a) h e
+        by (ended c) h e = (
+          record {
+            sounds = h;
+            goes = (omega arith, refl, ends-by c (unfold sound in h));
+            account = λ g. unfold holdsOf releasesOf in ap (λ z. 0 + z) (e g);
+            told = refl;
+            few = omega arith;
+          },
+          omega arith,
+        )
 
     shown : (n left : ℕ) (s : Machine) (is : List Item) (t : Machine) → Moves m s is t
         → ((t : Machine) → sound m t ≡ true → Went (suc n) left t (steps m bank left (suc n) t))
-        → Went n (suc left) s (visible is t (suc n) (λ t. steps m bank left (suc n) t))
+        → Went n (suc left) s (after is (visible is t (suc n) (λ t. steps m bank left (suc n) t)))
     unfolding holdsOf releasesOf
-    shown n left s [] t v ih = silent n left s t (v .still-sound) (λ g. omega (arith, v .account g)) ih
-    shown n left s (event e ∷ []) t v ih = record { sounds = v .still-sound; goes = (omega arith, v .in-range .0); account = v .account }
+    shown n left s [] t v ih = silent n left s t (v .still-sound) (λ g. omega (arith, v .account g)) ih .0
+    shown n left s (event e ∷ []) t v ih =
+        record { sounds = v .still-sound; goes = (omega arith, v .in-range .0); account = v .account; told = refl; few = omega arith }
     shown n left s (event e ∷ (i ∷ is)) t v ih = absurd (omega (arith, v .one-item))
-    shown n left s (reading x y ∷ []) t v ih = silent n left s t (v .still-sound) (λ g. omega (arith, v .account g)) ih
+    shown n left s (reading x y ∷ []) t v ih =
+        let q = silent n left s t (v .still-sound) (λ g. omega (arith, v .account g)) ih in
+        record { sounds = q .0 .sounds; goes = q .0 .goes; account = q .0 .account; told = q .0 .told; few = omega (arith, q .1) }
     shown n left s (reading x y ∷ (i ∷ is)) t v ih = absurd (omega (arith, v .one-item))
 
     stepped : (n left : ℕ) (s : Machine) (x : Stepped) → Steps m s x
@@ -165,7 +180,7 @@ module _ (m : Macro) (w : Passed m) where
 
     went : (left n : ℕ) (s : Machine) → sound m s ≡ true → Went n left s (steps m bank left n s)
     unfolding steps holdsOf releasesOf
-    went zero n s h = record { sounds = h; goes = omega arith; account = λ g. refl }
+    went zero n s h = record { sounds = h; goes = omega arith; account = λ g. refl; told = refl; few = omega arith }
     went (suc left) n s h = stepped n left s (step m bank s) (safe-any bank low s h) (λ t q. went left (suc n) t q)
 
   -- from 0 steps of a run of 64 readings
@@ -191,6 +206,7 @@ module _ (m : Macro) (w : Passed m) where
         record {
           still-sound = x .sounds;
           answers = answers-of f (running rs g gs) (y .answer) (y .state) n (x .goes);
+          traced = (x .told, omega (arith, x .few));
           ends-again = λ c e. absurd
               (running-not rs g gs c e);
         },
@@ -202,6 +218,7 @@ module _ (m : Macro) (w : Passed m) where
         record {
           still-sound = x .sounds;
           answers = answers-of f (unwinding gs a) (y .answer) (y .state) n (x .goes);
+          traced = (x .told, omega (arith, x .few));
           ends-again = λ c e. absurd
               (unwinding-not gs a c e);
         },
@@ -211,6 +228,7 @@ module _ (m : Macro) (w : Passed m) where
     record {
       still-sound = h;
       answers = (n, omega arith, refl, ends-by d (unfold sound in h));
+      traced = (refl, omega arith);
       ends-again = λ c e p. let q : d ≡ c = cc in
           (ap (λ x. finishes x 0) q, ap ended q);
     },
@@ -228,7 +246,7 @@ module _ (m : Macro) (w : Passed m) where
       go true e = read-runs f b s h (eqb-true (length (f .readings)) 64 e)
       go false e =
           let n = eqb-false (length (f .readings)) 64 e in
-          (record { still-sound = h; answers = (n, refl, refl); ends-again = λ c q p. absurd (n p) }, λ g. refl)
+          (record { still-sound = h; answers = (n, refl, refl); traced = (refl, omega arith); ends-again = λ c q p. absurd (n p) }, λ g. refl)
 
   -- ── a list of runs ──
   pub each-safe : (fs : List Feed) → Each (λ f. Bytes (f .readings)) fs → (s : Machine) → sound m s ≡ true → EachSafe m fs s (runs m fs s)

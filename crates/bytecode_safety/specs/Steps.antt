@@ -87,7 +87,7 @@ module _ (m : Macro) (w : Passed m) (bank : ℕ → ℕ) (low : (n : ℕ) → ba
 
   by-condition : (c : ℕ) → isCondition c ≡ true → Steps m state (condition c here)
   unfolding condition holdsOf releasesOf
-  by-condition c h = record { still-sound = unwinds m w sh f fs c s r h; one-item = omega arith; in-range = tt; account = λ g. refl }
+  by-condition c h = record { still-sound = unwinds m w sh f fs c s r h; one-item = omega arith; in-range = tt; reads-on = refl; account = λ g. refl }
 
   -- the top goes on, after a change that leaves its holds as they are
   goes-on : (is : List Item) (vs : List Value) (h : Here) → Quiet is → Around m h
@@ -103,6 +103,7 @@ module _ (m : Macro) (w : Passed m) (bank : ℕ → ℕ) (low : (n : ℕ) → ba
             (around-at m h (suc (h .top .address)) vs x) a v;
         one-item = q .0;
         in-range = q .2;
+        reads-on = tt;
         account = λ g. ap₂ (λ x y. x + y) (q .1 g .0 ∙ sym (q .1 g .1)) (ap (occurs g) e);
       })
 
@@ -226,6 +227,7 @@ module _ (m : Macro) (w : Passed m) (bank : ℕ → ℕ) (low : (n : ℕ) → ba
         (around-at m here j vs r) a v;
     one-item = omega arith;
     in-range = tt;
+    reads-on = tt;
     account = λ g. refl;
   }
 
@@ -290,6 +292,7 @@ module _ (m : Macro) (w : Passed m) (bank : ℕ → ℕ) (low : (n : ℕ) → ba
                 (entry m w k b e) (all-none (soundValue rs));
             one-item = omega arith;
             in-range = tt;
+            reads-on = tt;
             account = λ g. refl;
           }
 
@@ -362,6 +365,7 @@ module _ (m : Macro) (w : Passed m) (bank : ℕ → ℕ) (low : (n : ℕ) → ba
         still-sound = unfold sound in refl;
         one-item = omega arith;
         in-range = tt;
+        reads-on = refl;
         account = λ g. unfold holdsOf releasesOf allHolds occurs in ap₂
             (λ (x : List ℕ) (y : List Activation). 0 + occurs g (x ++ allHolds y)) e z;
       }
@@ -522,6 +526,7 @@ module _ (m : Macro) (w : Passed m) (bank : ℕ → ℕ) (low : (n : ℕ) → ba
         still-sound = holding (g ∷ f .holds) (all-cons soundGroup g (f .holds) (le-leb g 63 (d .0)) (r .frame .groups)) (d .1);
         one-item = omega arith;
         in-range = (d .0, tt);
+        reads-on = tt;
         account = λ x. one-more (eqb g x) (occurs x (f .holds ++ allHolds fs));
       })
 
@@ -538,6 +543,7 @@ module _ (m : Macro) (w : Passed m) (bank : ℕ → ℕ) (low : (n : ℕ) → ba
                 (subst (λ z. Allowed m (f .body) (suc (f .address)) (shape z (tysOf (f .operands)))) (sym n) (d .2));
             one-item = omega arith;
             in-range = (leb-true g 63 (groups .0), tt);
+            reads-on = tt;
             account = λ x. unfold holdsOf releasesOf allHolds occurs in ap (λ (z : List ℕ). 0 + occurs x (z ++ allHolds fs)) e
                 ∙ sym (one-more (eqb g x) (occurs x (gs ++ allHolds fs)));
           }

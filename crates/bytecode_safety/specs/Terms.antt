@@ -10,7 +10,7 @@ use Rattle.values.specs.Types.{Ty}
 use Rattle.values.specs.Ends.{refusal, isCondition}
 use Rattle.values.specs.Arithmetic.{Outcome, gives, ends, mistyped}
 use Rattle.values.specs.Values.{Value, tyOf}
-use Rattle.values.specs.Trace.{Event, set, hold, release, Item, event, reading}
+use Rattle.values.specs.Trace.{Event, set, hold, release, Item, event, reading, readingsIn}
 use Rattle.bytecode.specs.Macro.{Macro}
 use Rattle.bytecode.specs.Machine.{Made, Machine, running, unwinding, ended, Stepped, moved, stuck, allHolds, step}
 use Rattle.bytecode.specs.Runs.{Answer, happens, spends, finishes, refuses, halts, Ran, Feed}
@@ -72,11 +72,18 @@ InRange (set c l) = (1 ≤ c) × (c ≤ 512) × (l ≤ 255)
 InRange (hold g) = g ≤ 63
 InRange (release g) = g ≤ 63
 
+-- a step that gives a reading goes on running
+abbrev pub ReadsOn : List Item → Machine → Type 0
+ReadsOn is (running s f fs) = Unit {0}
+ReadsOn is (unwinding gs a) = readingsIn is ≡ 0
+ReadsOn is (ended c) = readingsIn is ≡ 0
+
 -- a safe step from s to t: t is sound, at most one item is given, and each hold open in s or given is open in t or released
 pub record Moves (m : Macro) (s : Machine) (is : List Item) (t : Machine) : Type 0 where
   pub still-sound : sound m t ≡ true
   pub one-item : length is ≤ 1
   pub in-range : Each InRange (eventsIn is)
+  pub reads-on : ReadsOn is t
   pub account : (g : ℕ) → holdsOf g (eventsIn is) + openHolds g s ≡ releasesOf g (eventsIn is) + openHolds g t
 
 -- a step from s: there is one, and it is safe
@@ -96,6 +103,13 @@ eventOf (spends n) = []
 eventOf (finishes c n) = []
 eventOf (refuses r) = []
 eventOf (halts why) = []
+
+abbrev pub stepsOf : Answer → ℕ
+stepsOf (happens e n) = n
+stepsOf (spends n) = n
+stepsOf (finishes c n) = n
+stepsOf (refuses r) = 0
+stepsOf (halts why) = 0
 
 abbrev pub eventsOf : List Ran → List Event
 eventsOf [] = []
@@ -118,6 +132,8 @@ Answers f s (halts why) t = ⊥
 pub record SafeRun (m : Macro) (f : Feed) (s : Machine) (r : Ran) : Type 0 where
   pub still-sound : sound m (r .state) ≡ true
   pub answers : Answers f s (r .answer) (r .state)
+  -- the event of its trace is the one answered, and no step takes more than one reading
+  pub traced : (eventsIn (r .trace) ≡ eventOf (r .answer)) × (readingsIn (r .trace) ≤ stepsOf (r .answer))
   -- an ended state answers its end again, with 0 steps
   pub ends-again : (c : ℕ) → s ≡ ended c → length (f .readings) ≡ 64 → (r .answer ≡ finishes c 0) × (r .state ≡ ended c)
 

@@ -26,7 +26,7 @@ unfolding casesCompute compilingComputes
 loads = refl
 
 on-the-machine : answers (made table) (feed 65535 ∷ feed 65535 ∷ feed 65535 ∷ feed 65535 ∷ [])
-    ≡ 5 ∷ 1 ∷ 7 ∷ 0 ∷ 4 ∷ 3 ∷ 3 ∷ 200 ∷ 6 ∷ 1 ∷ 7 ∷ 0 ∷ 3 ∷ 2 ∷ 0 ∷ 0 ∷ []
+    ≡ 5 ∷ 1 ∷ 7 ∷ 0 ∷ 0 ∷ 4 ∷ 3 ∷ 3 ∷ 200 ∷ 0 ∷ 6 ∷ 1 ∷ 7 ∷ 0 ∷ 0 ∷ 3 ∷ 2 ∷ 0 ∷ 0 ∷ 0 ∷ []
 unfolding casesCompute compilingComputes
 on-the-machine = refl
 

@@ -10,7 +10,7 @@ use lib.ListN.{length, take, drop}
 use borrow.Author.Tests.{eq-eqb}
 use Rattle.logic.specs.Choice.{if_then_else_}
 use Rattle.words.specs.Laws.{Bytes}
-use Rattle.values.specs.Trace.{Event, Item, event, reading}
+use Rattle.values.specs.Trace.{Item, event, reading}
 use Rattle.bytecode.specs.Macro.{Macro}
 use Rattle.bytecode.specs.Machine.{Machine, running, unwinding, ended, moved}
 use Rattle.values.specs.Ends.{refusal}
@@ -20,9 +20,10 @@ use Rattle.bytecode.specs.Sound.{sound}
 use Rattle.logic.specs.Lists.{Each}
 use Rattle.bytecode_laws.specs.Terms.{Passed}
 use Rattle.bytecode_safety.specs.Safety.{step-safe, run-safe}
-use Rattle.bytecode_safety.specs.Terms.{eventOf, eventsOf, stateAfter, Answers}
+use Rattle.bytecode_safety.specs.Terms.{stepsOf, stateAfter, Answers}
 use Rattle.compile_runs.specs.Readings.{takesIn, Follows}
-use Rattle.compile_runs.specs.Oracle.{stepsOf, totalSteps}
+use Rattle.compile_runs.specs.Traces.{traceOf}
+use Rattle.compile_runs.specs.Oracle.{totalSteps}
 
 abbrev pub FedBytes : List Feed → Type 0
 FedBytes fs = Each (λ (f : Feed). Bytes (f .readings)) fs
@@ -41,14 +42,6 @@ pub runs-split : (m : Macro) (gs hs : List Feed) (s : Machine) → runs m (gs ++
 unfolding runs
 runs-split m [] hs s = refl
 runs-split m (f ∷ gs) hs s = let r = run m (f .readings) (f .allowance) s in ap (λ (l : List Ran). r ∷ l) (runs-split m gs hs (r .state))
-
-pub events-split : (rs qs : List Ran) → eventsOf (rs ++ qs) ≡ eventsOf rs ++ eventsOf qs
-events-split [] qs = refl
-events-split (r ∷ rs) qs = ap (λ (l : List Event). eventOf (r .answer) ++ l) (events-split rs qs) ∙ assoc (eventOf (r .answer)) (eventsOf rs) (eventsOf qs)
-  where
-    assoc : (xs ys zs : List Event) → xs ++ (ys ++ zs) ≡ (xs ++ ys) ++ zs
-    assoc [] ys zs = refl
-    assoc (x ∷ xs) ys zs = ap (λ (l : List Event). x ∷ l) (assoc xs ys zs)
 
 pub each-split : (P : Feed → Type 0) (gs hs : List Feed) → Each P (gs ++ hs) → Each P gs × Each P hs
 each-split P [] hs h = (tt, h)
@@ -70,11 +63,11 @@ end-right c (r ∷ rs) qs h = inr (end-right c rs qs h)
 
 module _ (m : Macro) (w : Passed m) where
   -- ── after an end ──
-  pub end-again : (c : ℕ) (f : Feed) → length (f .readings) ≡ 64 → run m (f .readings) (f .allowance) (ended c) ≡ record { answer = finishes c 0; state = ended c }
+  pub end-again : (c : ℕ) (f : Feed) → length (f .readings) ≡ 64 → run m (f .readings) (f .allowance) (ended c) ≡ with (finishes c 0) (ended c)
   unfolding run
   end-again c f n = rw (eq-eqb (length (f .readings)) 64 n)
 
-  pub after-end : (c : ℕ) (fs : List Feed) → Stepping fs → (stateAfter (ended c) (runs m fs (ended c)) ≡ ended c) × (eventsOf (runs m fs (ended c)) ≡ [])
+  pub after-end : (c : ℕ) (fs : List Feed) → Stepping fs → (stateAfter (ended c) (runs m fs (ended c)) ≡ ended c) × (traceOf (runs m fs (ended c)) ≡ [])
   unfolding runs
   after-end c [] h = (refl, refl)
   after-end c (f ∷ fs) h = rw (end-again c f (h .0 .0)) (after-end c fs (h .1))

@@ -1,7 +1,7 @@
 -- The machine with an oracle does what the runs do that follow it.
 use mathlib.Core.Bool.{Bool, true, false}
 use mathlib.Core.Path.{_≡_, refl, ap, sym, _∙_, subst}
-use mathlib.Core.List.{List, [], _∷_, _++_, reverse, reverseAux}
+use mathlib.Core.List.{List, [], _∷_, _++_, reverseAux}
 use mathlib.Core.Option.{Option, none, some}
 use Prim.Native.Nat.{ℕ, zero, suc, _+_, _-_, _≤_, _<_}
 use native.Mathlib.Omega.{arith}
@@ -12,60 +12,29 @@ use Rattle.words.specs.Laws.{Bytes}
 use lib.IntN.{ℤ, pos}
 use Rattle.values.specs.Values.{Value, int, asInteger, between, size}
 use Rattle.values.specs.Ends.{outOfRange, refusal}
-use Rattle.values.specs.Trace.{Event, Item, event, reading}
+use Rattle.values.specs.Trace.{Event, Item, event, reading, readingsIn}
 use Rattle.bytecode.specs.Macro.{Macro}
 use Rattle.bytecode.specs.Instructions.{Instr, end, push, load, store, operate, go, goUnless, call, return, make, getField, putField, setLevel, readFader, takeHold, letHold, assert, stop}
 use Rattle.bytecode.specs.Machine.{Machine, running, unwinding, endBy, ended, Stepped, moved, stuck, step, act, noStep, badFrame, badType, fetch, given, Here, doFader}
 use Rattle.bytecode.specs.Machine.{maxOperands, pop, goesOn, condition}
 use Rattle.bytecode.specs.Runs.{ends as endsRun}
-use Rattle.bytecode.specs.Runs.{Answer, happens, spends, finishes, refuses, halts, Ran, Feed, bankOf, afterStep, steps, run, runs}
+use Rattle.bytecode.specs.Runs.{Answer, happens, finishes, refuses, Ran, with, after, Feed, bankOf, afterStep, steps, run, runs}
 use Rattle.bytecode.specs.Sound.{sound}
 use Rattle.logic.specs.Lists.{Each}
-use Rattle.logic.specs.ListLaws.{app-nil}
 use Rattle.bytecode_laws.specs.Terms.{Passed}
 use Rattle.bytecode_safety.specs.Safety.{step-safe, run-safe}
 use Rattle.bytecode_safety.specs.Steps.{size-between}
-use Rattle.bytecode_safety.specs.Terms.{eventsIn, eventOf, eventsOf, stateAfter, Moves}
-use Rattle.compile_runs.specs.Readings.{unlessEnded, takesBy, takes, takesIn, Reads, Follows}
+use Rattle.bytecode_safety.specs.Terms.{eventsIn, eventOf, stepsOf, eventsOf, stateAfter, Moves}
+use Rattle.bytecode_safety.specs.Traces.{readings-append, events-append}
+use Rattle.compile_runs.specs.Readings.{takesIn, Reads, Follows}
+use Rattle.compile_runs.specs.Traces.{traceOf, turned-append}
 use Rattle.compile_simulation.specs.Meets.{Conf, live, counted, stepped, Setting}
 use Rattle.compile_simulation.specs.Meets.{run as runConf, go as goConf}
 
 -- the steps that a list of runs takes
-abbrev pub stepsOf : Answer → ℕ
-stepsOf (happens e n) = n
-stepsOf (spends n) = n
-stepsOf (finishes c n) = n
-stepsOf (refuses r) = 0
-stepsOf (halts why) = 0
-
 unfoldable pub totalSteps : List Ran → ℕ
 totalSteps [] = 0
 totalSteps (r ∷ rs) = stepsOf (r .answer) + totalSteps rs
-
--- the events of a trace, its latest item first
-unfoldable pub told : List Item → List Event
-told [] = []
-told (event e ∷ tr) = told tr ++ (e ∷ [])
-told (reading f v ∷ tr) = told tr
-
-app-assoc : {A : Type 0} (xs ys zs : List A) → (xs ++ ys) ++ zs ≡ xs ++ (ys ++ zs)
-app-assoc [] ys zs = refl
-app-assoc (x ∷ xs) ys zs = ap (λ l. x ∷ l) (app-assoc xs ys zs)
-
-told-onto : (tr is : List Item) → eventsIn (reverseAux tr is) ≡ told tr ++ eventsIn is
-unfolding told
-told-onto [] is = refl
-told-onto (event e ∷ tr) is = told-onto tr (event e ∷ is) ∙ sym (app-assoc (told tr) (e ∷ []) (eventsIn is))
-told-onto (reading f v ∷ tr) is = told-onto tr (reading f v ∷ is)
-
-pub told-is : (tr : List Item) → eventsIn (reverse tr) ≡ told tr
-told-is tr = told-onto tr [] ∙ app-nil (told tr)
-
-pub told-more : (u tr : List Item) → (rest : List Event) × (told (u ++ tr) ≡ told tr ++ rest)
-unfolding told
-told-more [] tr = ([], sym (app-nil (told tr)))
-told-more (event e ∷ u) tr = let q = told-more u tr in (q .0 ++ (e ∷ []), ap (λ l. l ++ (e ∷ [])) (q .1) ∙ app-assoc (told tr) (q .0) (e ∷ []))
-told-more (reading f v ∷ u) tr = told-more u tr
 
 -- ── a step that gives no reading does not ask the bank ──
 abbrev Quiet : Stepped → Type 0
@@ -190,94 +159,105 @@ module _ (W : Setting) (w : Passed (W .macro)) where
   abbrev m : Macro
   m = W .macro
 
-  -- after d steps: the state, the events told, the readings taken
-  abbrev Comes : Machine → List Item → ℕ → ℕ → Machine → List Event → ℕ → Type 0
-  Comes s tr k d t es c = (tr' : List Item) × (runConf W d (live s tr k) ≡ live t tr' (k + c)) × (told tr' ≡ told tr ++ es)
+  -- after d steps: the state, and these items more
+  abbrev Comes : Machine → List Item → ℕ → ℕ → Machine → List Item → Type 0
+  Comes s tr k d t is = runConf W d (live s tr k) ≡ live t (reverseAux is tr) (k + readingsIn is)
 
-  stay : (s : Machine) (tr : List Item) (k : ℕ) → Comes s tr k 0 s [] 0
+  stay : (s : Machine) (tr : List Item) (k : ℕ) → Comes s tr k 0 s []
   unfolding runConf
-  stay s tr k = (tr, ap (λ z. live s tr z) (omega arith), sym (app-nil (told tr)))
+  stay s tr k = ap (λ (z : ℕ). live s tr z) (omega arith)
 
   -- one step, then the rest
-  then-on : (s t u : Machine) (tr is : List Item) (k d c : ℕ) (es fs : List Event) → goConf W (live s tr k) ≡ live t (is ++ tr) (counted is k)
-      → told (is ++ tr) ≡ told tr ++ es → Comes t (is ++ tr) (counted is k) d u fs c
-      → (n : ℕ) → counted is k + c ≡ k + n → Comes s tr k (suc d) u (es ++ fs) n
+  then-on : (s t u : Machine) (tr is : List Item) (k d : ℕ) (js : List Item) → length is ≤ 1 → goConf W (live s tr k) ≡ live t (is ++ tr) (counted is k)
+      → Comes t (is ++ tr) (counted is k) d u js → Comes s tr k (suc d) u (is ++ js)
   unfolding runConf
-  then-on s t u tr is k d c es fs e x y n z =
-      (y .0, ap (runConf W d) e ∙ y .1 ∙ ap (λ i. live u (y .0) i) z, y .2 ∙ ap (λ l. l ++ fs) x ∙ app-assoc (told tr) es fs)
+  then-on s t u tr [] k d js one e y = ap (runConf W d) e ∙ y
+  then-on s t u tr (event x ∷ []) k d js one e y = ap (runConf W d) e ∙ y
+  then-on s t u tr (reading x v ∷ []) k d js one e y = ap (runConf W d) e ∙ y ∙ ap (λ (z : ℕ). live u (reverseAux js (reading x v ∷ tr)) z) (omega arith)
+  then-on s t u tr (i ∷ (j ∷ is)) k d js one e y = absurd (omega arith)
 
   module _ (bank : ℕ → ℕ) (low : (n : ℕ) → bank n < 256) where
     abbrev Ask : ℕ → ℕ → Type 0
     Ask k c = (j : ℕ) → j < c → (n : ℕ) → 1 ≤ n → n ≤ 64 → W .oracle (k + j) n ≡ bank n
 
     -- the same step with the oracle's bank
-    same : (s : Machine) (k : ℕ) (is : List Item) (t : Machine) (f : Machine → ℕ) → step m bank s ≡ moved is t → Ask k (takesBy (moved is t) f) → step m (W .oracle k) s ≡ moved is t
-    same s k [] t f e a = quiet m (W .oracle k) bank s (subst Quiet (sym e) tt) ∙ e
-    same s k (event x ∷ is) t f e a = quiet m (W .oracle k) bank s (subst Quiet (sym e) tt) ∙ e
-    same s k (reading x v ∷ is) t f e a =
+    same : (s : Machine) (k : ℕ) (is js : List Item) (t : Machine) → step m bank s ≡ moved is t → Ask k (readingsIn (is ++ js)) → step m (W .oracle k) s ≡ moved is t
+    same s k [] js t e a = quiet m (W .oracle k) bank s (subst Quiet (sym e) tt) ∙ e
+    same s k (event x ∷ is) js t e a = quiet m (W .oracle k) bank s (subst Quiet (sym e) tt) ∙ e
+    same s k (reading x v ∷ is) js t e a =
         let z : k + 0 ≡ k = omega arith in
         agree (W .oracle k) bank (λ n lo hi. ap (λ (i : ℕ). W .oracle i n) (sym z) ∙ a 0 (omega arith) n lo hi) m s ∙ e
 
-    abbrev Gives : ℕ → Machine → List Item → ℕ → Ran → ℕ → Type 0
-    Gives n s tr k r c = (d : ℕ) × (d + n ≡ stepsOf (r .answer)) × Comes s tr k d (r .state) (eventOf (r .answer)) c
+    -- of what is asked, what is asked after these items
+    rest-asked : (k : ℕ) (is js : List Item) → length is ≤ 1 → Ask k (readingsIn (is ++ js)) → Ask (counted is k) (readingsIn js)
+    rest-asked k [] js one a = a
+    rest-asked k (event x ∷ []) js one a = a
+    rest-asked k (reading x v ∷ []) js one a = λ j l n lo hi. ap (λ (i : ℕ). W .oracle i n) (omega arith) ∙ a (suc j) (omega arith) n lo hi
+    rest-asked k (i ∷ (j ∷ is)) js one a = absurd (omega arith)
 
-    steps-as : (left n : ℕ) (s : Machine) (tr : List Item) (k : ℕ) → sound m s ≡ true → Ask k (takes m bank left s) → Gives n s tr k (steps m bank left n s) (takes m bank left s)
-    unfolding steps takes goConf told
+    abbrev Gives : ℕ → Machine → List Item → ℕ → Ran → Type 0
+    Gives n s tr k r = (d : ℕ) × (d + n ≡ stepsOf (r .answer)) × Comes s tr k d (r .state) (r .trace)
+
+    steps-as : (left n : ℕ) (s : Machine) (tr : List Item) (k : ℕ) → sound m s ≡ true → Ask k (readingsIn (steps m bank left n s .trace)) → Gives n s tr k (steps m bank left n s)
+    unfolding steps goConf
     steps-as zero n s tr k h a = (0, omega arith, stay s tr k)
     steps-as (suc left) n s tr k h a =
         let q = step-safe m w bank low s h in
-        subst (λ x. Gives n s tr k (afterStep x s (suc n) (λ t. steps m bank left (suc n) t)) (takesBy x (λ t. takes m bank left t))) (sym (q .2))
-        (go (q .0) (q .1) (q .3) (λ e. ap (λ x. stepped x tr k) (same s k (q .0) (q .1) (λ t. takes m bank left t) (q .2) e)) (subst (λ x. Ask k (takesBy x (λ t. takes m bank left t))) (q .2) a)
-        (λ tr' k' u. steps-as left (suc n) (q .1) tr' k' (q .3 .still-sound) u))
+        subst (λ x. Gives n s tr k (afterStep x s (suc n) (λ t. steps m bank left (suc n) t))) (sym (q .2))
+        (go (q .0) (q .1) (q .3) (q .2) (subst (λ x. Ask k (readingsIn (afterStep x s (suc n) (λ t. steps m bank left (suc n) t) .trace))) (q .2) a)
+        (λ tr k. steps-as left (suc n) (q .1) tr k (q .3 .still-sound)))
       where
-        on : (is : List Item) (t : Machine) → told (is ++ tr) ≡ told tr ++ [] → (c : ℕ) → (c' : ℕ) → counted is k + c ≡ k + c' → goConf W (live s tr k) ≡ live t (is ++ tr) (counted is k)
-            → Gives (suc n) t (is ++ tr) (counted is k) (steps m bank left (suc n) t) c → Gives n s tr k (steps m bank left (suc n) t) c'
-        on is t x c c' z e (d, y, g) = (suc d, omega arith, then-on s t (steps m bank left (suc n) t .state) tr is k d c [] (eventOf (steps m bank left (suc n) t .answer)) e x g c' z)
+        -- the rest of the steps, from any trace
+        Rest : Machine → Type 0
+        Rest t = (tr : List Item) (k : ℕ) → Ask k (readingsIn (steps m bank left (suc n) t .trace)) → Gives (suc n) t tr k (steps m bank left (suc n) t)
 
-        over : (is : List Item) (c c' : ℕ) → told (is ++ tr) ≡ told tr ++ [] → counted is k + 0 ≡ k + c'
-            → goConf W (live s tr k) ≡ live (ended c) (is ++ tr) (counted is k) → Gives n s tr k (record { answer = finishes c (suc n); state = ended c }) c'
-        over is c c' x z e = (1, omega arith, then-on s (ended c) (ended c) tr is k 0 0 [] [] e x (stay (ended c) (is ++ tr) (counted is k)) c' z)
+        -- the step, and what follows it
+        on : (is : List Item) (t : Machine) (r : Ran) → Moves m s is t → step m bank s ≡ moved is t → Ask k (readingsIn (is ++ r .trace))
+            → (Ask (counted is k) (readingsIn (r .trace)) → Gives (suc n) t (is ++ tr) (counted is k) r) → Gives n s tr k (after is r)
+        on is t r v e a f =
+            let g = f (rest-asked k is (r .trace) (v .one-item) a) in
+            (suc (g .0), (let z = g .1 in omega arith), then-on s t (r .state) tr is k (g .0) (r .trace) (v .one-item) (ap (λ x. stepped x tr k) (same s k is (r .trace) t e a)) (g .2))
 
-        go : (is : List Item) (t : Machine) → Moves m s is t → (Ask k (takesBy (moved is t) (λ t. takes m bank left t))
-            → goConf W (live s tr k) ≡ live t (is ++ tr) (counted is k)) → Ask k (takesBy (moved is t) (λ t. takes m bank left t))
-            → ((tr' : List Item) (k' : ℕ) → Ask k' (takes m bank left t) → Gives (suc n) t tr' k' (steps m bank left (suc n) t) (takes m bank left t))
-            → Gives n s tr k (afterStep (moved is t) s (suc n) (λ t. steps m bank left (suc n) t)) (takesBy (moved is t) (λ t. takes m bank left t))
-        go [] (ended c) v e a f = over [] c 0 (sym (app-nil (told tr))) refl (e a)
-        go [] (running rs x fs) v e a f = on [] (running rs x fs) (sym (app-nil (told tr))) (takes m bank left (running rs x fs)) (takes m bank left (running rs x fs)) refl (e a) (f tr k a)
-        go [] (unwinding gs x) v e a f = on [] (unwinding gs x) (sym (app-nil (told tr))) (takes m bank left (unwinding gs x)) (takes m bank left (unwinding gs x)) refl (e a) (f tr k a)
-        go (event x ∷ []) t v e a f = (1, omega arith, then-on s t t tr (event x ∷ []) k 0 0 (x ∷ []) [] (e a) refl (stay t (event x ∷ tr) k) 0 refl)
-        go (reading x y ∷ []) (ended c) v e a f = over (reading x y ∷ []) c 1 (sym (app-nil (told tr))) (omega arith) (e a)
-        go (reading x y ∷ []) (running rs z fs) v e a f =
-            on (reading x y ∷ []) (running rs z fs) (sym (app-nil (told tr))) (takes m bank left (running rs z fs))
-            (suc (takes m bank left (running rs z fs))) (omega arith) (e a)
-            (f (reading x y ∷ tr) (suc k) (λ j l n lo hi. ap (λ (i : ℕ). W .oracle i n) (omega arith) ∙ a (suc j) (omega arith) n lo hi))
-        go (reading x y ∷ []) (unwinding gs z) v e a f =
-            on (reading x y ∷ []) (unwinding gs z) (sym (app-nil (told tr))) (takes m bank left (unwinding gs z))
-            (suc (takes m bank left (unwinding gs z))) (omega arith) (e a)
-            (f (reading x y ∷ tr) (suc k) (λ j l n lo hi. ap (λ (i : ℕ). W .oracle i n) (omega arith) ∙ a (suc j) (omega arith) n lo hi))
-        go (i ∷ (j ∷ is)) t v e a f = absurd (let z = v .one-item in omega arith)
+        further : (is : List Item) (t : Machine) → Moves m s is t → step m bank s ≡ moved is t → Ask k (readingsIn (is ++ steps m bank left (suc n) t .trace)) → Rest t
+            → Gives n s tr k (after is (steps m bank left (suc n) t))
+        further is t v e a f = on is t (steps m bank left (suc n) t) v e a (f (is ++ tr) (counted is k))
+
+        last : (is : List Item) (t : Machine) (x : Answer) → stepsOf x ≡ suc n → Moves m s is t → step m bank s ≡ moved is t → Ask k (readingsIn (is ++ []))
+            → Gives n s tr k (after is (with x t))
+        last is t x z v e a = on is t (with x t) v e a (λ b. (0, omega arith, stay t (is ++ tr) (counted is k)))
+
+        go : (is : List Item) (t : Machine) → Moves m s is t → step m bank s ≡ moved is t
+            → Ask k (readingsIn (afterStep (moved is t) s (suc n) (λ t. steps m bank left (suc n) t) .trace)) → Rest t
+            → Gives n s tr k (afterStep (moved is t) s (suc n) (λ t. steps m bank left (suc n) t))
+        go [] (ended c) v e a f = last [] (ended c) (finishes c (suc n)) refl v e a
+        go [] (running rs x fs) v e a f = further [] (running rs x fs) v e a f
+        go [] (unwinding gs x) v e a f = further [] (unwinding gs x) v e a f
+        go (event x ∷ is) t v e a f = last (event x ∷ is) t (happens x (suc n)) refl v e a
+        go (reading x y ∷ is) (ended c) v e a f = last (reading x y ∷ is) (ended c) (finishes c (suc n)) refl v e a
+        go (reading x y ∷ is) (running rs z fs) v e a f = further (reading x y ∷ is) (running rs z fs) v e a f
+        go (reading x y ∷ is) (unwinding gs z) v e a f = further (reading x y ∷ is) (unwinding gs z) v e a f
 
   -- a run
   run-as : (f : Feed) → Bytes (f .readings) → (s : Machine) (tr : List Item) (k : ℕ) → sound m s ≡ true → ((j : ℕ) → j < takesIn m f s → Reads (W .oracle) (k + j) (f .readings))
-      → (d : ℕ) × (d ≡ stepsOf (run m (f .readings) (f .allowance) s .answer))
-      × Comes s tr k d (run m (f .readings) (f .allowance) s .state) (eventOf (run m (f .readings) (f .allowance) s .answer)) (takesIn m f s)
+      → let r = run m (f .readings) (f .allowance) s in (d : ℕ) × (d ≡ stepsOf (r .answer)) × Comes s tr k d (r .state) (r .trace)
   unfolding run
   run-as f b s tr k h a = go (eqb (length (f .readings)) 64) a
     where
-      bank : ℕ → ℕ
-      bank = bankOf (f .readings)
+      whole : Machine → Ran
+      whole s = steps m (bankOf (f .readings)) (f .allowance) 0 s
 
-      by : (s : Machine) → sound m s ≡ true → ((j : ℕ) → j < unlessEnded s (takes m (bankOf (f .readings)) (f .allowance) s) → Reads (W .oracle) (k + j) (f .readings))
-          → let r =
-          endsRun s 0 (λ t. steps m (bankOf (f .readings)) (f .allowance) 0 t) in
-          (d : ℕ) × (d ≡ stepsOf (r .answer)) × Comes s tr k d (r .state) (eventOf (r .answer)) (unlessEnded s (takes m (bankOf (f .readings)) (f .allowance) s))
+      on : (s : Machine) → sound m s ≡ true → ((j : ℕ) → j < readingsIn (whole s .trace) → Reads (W .oracle) (k + j) (f .readings))
+          → let r = whole s in (d : ℕ) × (d ≡ stepsOf (r .answer)) × Comes s tr k d (r .state) (r .trace)
+      on s h a = let q = steps-as (bankOf (f .readings)) (λ n. b (n - 1)) (f .allowance) 0 s tr k h a in (q .0, (let z = q .1 in omega arith), q .2)
+
+      by : (s : Machine) → sound m s ≡ true → ((j : ℕ) → j < readingsIn (endsRun s 0 whole .trace) → Reads (W .oracle) (k + j) (f .readings))
+          → let r = endsRun s 0 whole in (d : ℕ) × (d ≡ stepsOf (r .answer)) × Comes s tr k d (r .state) (r .trace)
       by (ended c) h a = (0, refl, stay (ended c) tr k)
-      by (running rs x fs) h a = let q = steps-as (bankOf (f .readings)) (λ n. b (n - 1)) (f .allowance) 0 (running rs x fs) tr k h a in (q .0, (let z = q .1 in omega arith), q .2)
-      by (unwinding gs x) h a = let q = steps-as (bankOf (f .readings)) (λ n. b (n - 1)) (f .allowance) 0 (unwinding gs x) tr k h a in (q .0, (let z = q .1 in omega arith), q .2)
+      by (running rs x fs) h a = on (running rs x fs) h a
+      by (unwinding gs x) h a = on (unwinding gs x) h a
 
-      go : (t : Bool) → ((j : ℕ) → j < (if t then unlessEnded s (takes m (bankOf (f .readings)) (f .allowance) s) else 0) → Reads (W .oracle) (k + j) (f .readings))
-          → let r = if t then endsRun s 0 (λ t. steps m (bankOf (f .readings)) (f .allowance) 0 t) else record { answer = refuses (refusal 11 0); state = s } in
-          (d : ℕ) × (d ≡ stepsOf (r .answer)) × Comes s tr k d (r .state) (eventOf (r .answer)) (if t then unlessEnded s (takes m (bankOf (f .readings)) (f .allowance) s) else 0)
+      go : (t : Bool) → ((j : ℕ) → j < readingsIn ((if t then endsRun s 0 whole else with (refuses (refusal 11 0)) s) .trace) → Reads (W .oracle) (k + j) (f .readings))
+          → let r = if t then endsRun s 0 whole else with (refuses (refusal 11 0)) s in (d : ℕ) × (d ≡ stepsOf (r .answer)) × Comes s tr k d (r .state) (r .trace)
       go true a = by s h a
       go false a = (0, refl, stay s tr k)
 
@@ -288,16 +268,30 @@ module _ (W : Setting) (w : Passed (W .macro)) where
 
   -- a list of runs
   pub runs-as : (fs : List Feed) → Each (λ (f : Feed). Bytes (f .readings)) fs → (s : Machine) (tr : List Item) (k : ℕ) → sound m s ≡ true → Follows m (W .oracle) k fs s
-      → (tr' : List Item) × (k' : ℕ) × (runConf W (totalSteps (runs m fs s)) (live s tr k) ≡ live (stateAfter s (runs m fs s)) tr' k') × (told tr' ≡ told tr ++ eventsOf (runs m fs s))
+      → let rs = runs m fs s in Comes s tr k (totalSteps rs) (stateAfter s rs) (traceOf rs)
   unfolding runs totalSteps runConf
-  runs-as [] b s tr k h a = (tr, k, refl, sym (app-nil (told tr)))
+  runs-as [] b s tr k h a = stay s tr k
   runs-as (f ∷ fs) b s tr k h a =
-      let r = run m (f .readings) (f .allowance) s in let c = takesIn m f s in
+      let r = run m (f .readings) (f .allowance) s in
+      let rs = runs m fs (r .state) in
       let q = run-as f (b .0) s tr k h (a .0) in
-      let g = runs-as fs (b .1) (r .state) (q .2 .0) (k + c) (run-safe m w f (b .0) s h .still-sound) (a .1) in (
-        g .0,
-        g .1,
-        ap (λ n. runConf W (n + totalSteps (runs m fs (r .state))) (live s tr k)) (sym (q .1))
-            ∙ run-sum (q .0) (totalSteps (runs m fs (r .state))) (live s tr k) ∙ ap (runConf W (totalSteps (runs m fs (r .state)))) (q .2 .1) ∙ g .2,
-        g .3 ∙ ap (λ l. l ++ eventsOf (runs m fs (r .state))) (q .2 .2) ∙ app-assoc (told tr) (eventOf (r .answer)) (eventsOf (runs m fs (r .state))),
-      )
+      let g = runs-as fs (b .1) (r .state) (reverseAux (r .trace) tr) (k + takesIn m f s) (run-safe m w f (b .0) s h .still-sound) (a .1) in
+      let z : k + takesIn m f s + readingsIn (traceOf rs) ≡ k + readingsIn (r .trace ++ traceOf rs) = omega (arith, readings-append (r .trace) (traceOf rs)) in
+      ap (λ n. runConf W (n + totalSteps rs) (live s tr k)) (sym (q .1))
+      ∙ run-sum (q .0) (totalSteps rs) (live s tr k)
+      ∙ ap (runConf W (totalSteps rs)) (q .2)
+      ∙ g
+      ∙ ap (λ (l : List Item). live (stateAfter (r .state) rs) l (k + takesIn m f s + readingsIn (traceOf rs))) (sym (turned-append (r .trace) (traceOf rs) tr))
+      ∙ ap (λ (n : ℕ). live (stateAfter (r .state) rs) (reverseAux (r .trace ++ traceOf rs) tr) n) z
+
+  -- the events of the trace are those answered
+  pub trace-told : (fs : List Feed) → Each (λ (f : Feed). Bytes (f .readings)) fs → (s : Machine) → sound m s ≡ true → let rs = runs m fs s in eventsIn (traceOf rs) ≡ eventsOf rs
+  unfolding runs
+  trace-told [] b s h = refl
+  trace-told (f ∷ fs) b s h =
+      let r = run m (f .readings) (f .allowance) s in
+      let rs = runs m fs (r .state) in
+      let q = run-safe m w f (b .0) s h in
+      events-append (r .trace) (traceOf rs)
+      ∙ ap (λ (es : List Event). es ++ eventsIn (traceOf rs)) (q .traced .0)
+      ∙ ap (λ (es : List Event). eventOf (r .answer) ++ es) (trace-told fs (b .1) (r .state) (q .still-sound))

@@ -2,37 +2,21 @@
 use mathlib.Core.Bool.{Bool, true, false}
 use mathlib.Core.Path.{_≡_, ap, _∙_}
 use mathlib.Core.List.{List, [], _∷_}
-use Prim.Native.Nat.{ℕ, zero, suc, _+_, _-_, _≤_, _<_}
+use Prim.Native.Nat.{ℕ, _+_, _-_, _≤_, _<_}
 use native.Mathlib.Omega.{arith}
-use lib.Dec.{eqb, ltb}
-use lib.ListN.{length}
+use lib.Dec.{ltb}
 use borrow.Author.Tests.{lt-ltb, le-ltb}
 use Rattle.logic.specs.Choice.{if_then_else_}
 use Rattle.words.specs.Laws.{Bytes}
-use Rattle.values.specs.Trace.{event, reading}
+use Rattle.values.specs.Trace.{readingsIn}
 use Rattle.bytecode.specs.Macro.{Macro}
-use Rattle.bytecode.specs.Machine.{Machine, running, unwinding, ended, Stepped, moved, stuck, step}
+use Rattle.bytecode.specs.Machine.{Machine}
 use Rattle.bytecode.specs.Runs.{Feed, bankOf, run}
 use Rattle.logic.specs.Lists.{Each}
 
--- ── how many readings a run takes ──
-abbrev pub unlessEnded : Machine → ℕ → ℕ
-unlessEnded (running rs f fs) n = n
-unlessEnded (unwinding gs a) n = n
-unlessEnded (ended c) n = 0
-
-abbrev pub takesBy : Stepped → (Machine → ℕ) → ℕ
-takesBy (moved [] t) k = unlessEnded t (k t)
-takesBy (moved (event e ∷ is) t) k = 0
-takesBy (moved (reading f v ∷ is) t) k = suc (unlessEnded t (k t))
-takesBy (stuck why) k = 0
-
-unfoldable pub takes : Macro → (ℕ → ℕ) → ℕ → Machine → ℕ
-takes m bank zero s = 0
-takes m bank (suc left) s = takesBy (step m bank s) (λ t. takes m bank left t)
-
+-- how many readings a run takes
 abbrev pub takesIn : Macro → Feed → Machine → ℕ
-takesIn m f s = if eqb (length (f .readings)) 64 then unlessEnded s (takes m (bankOf (f .readings)) (f .allowance) s) else 0
+takesIn m f s = readingsIn (run m (f .readings) (f .allowance) s .trace)
 
 -- the bank of each reading: of the run in which it falls
 unfoldable pub oracleOf : Macro → List Feed → Machine → ℕ → ℕ → ℕ

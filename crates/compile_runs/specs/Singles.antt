@@ -1,19 +1,20 @@
 -- Every oracle of bytes is followed by lists of runs of any length: runs of a step each, given the bytes that the oracle has next.
-use mathlib.Core.Bool.{Bool, true, false}
+use mathlib.Core.Bool.{true}
 use mathlib.Core.Path.{_≡_, refl, ap, sym, _∙_}
 use mathlib.Core.List.{List, [], _∷_}
 use Prim.Native.Nat.{ℕ, zero, suc, _+_, _-_, _≤_, _<_}
 use native.Mathlib.Omega.{arith}
-use lib.Dec.{eqb}
 use lib.ListN.{length, getD}
-use Rattle.logic.specs.Choice.{if_then_else_}
 use Rattle.words.specs.Laws.{Bytes}
-use Rattle.values.specs.Trace.{event, reading}
 use Rattle.bytecode.specs.Macro.{Macro}
-use Rattle.bytecode.specs.Machine.{Machine, running, unwinding, ended, Stepped, moved, stuck, step}
-use Rattle.bytecode.specs.Runs.{Feed, bankOf, run}
+use Rattle.bytecode.specs.Machine.{Machine}
+use Rattle.bytecode.specs.Runs.{Answer, happens, spends, finishes, refuses, halts, Feed, run}
+use Rattle.bytecode.specs.Sound.{sound}
+use Rattle.bytecode_laws.specs.Terms.{Passed}
+use Rattle.bytecode_safety.specs.Terms.{stepsOf, Answers, SafeRun}
+use Rattle.bytecode_safety.specs.Safety.{run-safe}
 use Rattle.language_laws.specs.Endings.{ByteReadings}
-use Rattle.compile_runs.specs.Readings.{unlessEnded, takesBy, takes, takesIn, Follows}
+use Rattle.compile_runs.specs.Readings.{takesIn, Follows}
 use Rattle.compile_runs.specs.Enough.{FedBytes, Stepping}
 
 -- n readings of a bank, from the i-th fader on
@@ -47,31 +48,6 @@ singles m o (suc n) k s =
     let f = single (o k) in
     f ∷ singles m o n (k + takesIn m f s) (run m (f .readings) (f .allowance) s .state)
 
--- one step takes one reading at most
-takes-few : (m : Macro) (bank : ℕ → ℕ) (s : Machine) → takes m bank 1 s ≤ 1
-unfolding takes
-takes-few m bank s = by (step m bank s)
-  where
-    none-more : (t : Machine) → unlessEnded t 0 ≡ 0
-    none-more (running rs f fs) = refl
-    none-more (unwinding gs x) = refl
-    none-more (ended c) = refl
-
-    by : (z : Stepped) → takesBy z (λ t. 0) ≤ 1
-    by (moved [] t) = let e = none-more t in omega arith
-    by (moved (event e ∷ is) t) = omega arith
-    by (moved (reading f v ∷ is) t) = let e = none-more t in omega arith
-    by (stuck why) = omega arith
-
-takes-in-few : (m : Macro) (b : ℕ → ℕ) (s : Machine) → takesIn m (single b) s ≤ 1
-takes-in-few m b s = by (eqb (length (bankBytes 64 1 b)) 64) s (takes-few m (bankOf (bankBytes 64 1 b)) s)
-  where
-    by : (t : Bool) (s : Machine) → takes m (bankOf (bankBytes 64 1 b)) 1 s ≤ 1 → (if t then unlessEnded s (takes m (bankOf (bankBytes 64 1 b)) 1 s) else 0) ≤ 1
-    by true (running rs f fs) h = h
-    by true (unwinding gs x) h = h
-    by true (ended c) h = omega arith
-    by false s h = omega arith
-
 module _ (m : Macro) (o : ℕ → ℕ → ℕ) (low : ByteReadings o) where
   pub singles-length : (n k : ℕ) (s : Machine) → length (singles m o n k s) ≡ n
   unfolding singles
@@ -90,13 +66,32 @@ module _ (m : Macro) (o : ℕ → ℕ → ℕ) (low : ByteReadings o) where
       let f = single (o k) in
       ((bank-length 64 1 (o k), omega arith), singles-step n (k + takesIn m f s) (run m (f .readings) (f .allowance) s .state))
 
-  pub singles-follow : (n k : ℕ) (s : Machine) → Follows m o k (singles m o n k s) s
-  unfolding singles
-  singles-follow zero k s = tt
-  singles-follow (suc n) k s =
-      let f = single (o k) in (
-        (λ j l i lo hi.
-            let few = takes-in-few m (o k) s in let here : k + j ≡ k = omega arith in let at : i ≡ 1 + (i - 1) = omega arith in
-            ap (λ (q : ℕ). o q i) here ∙ ap (o k) at ∙ sym (bank-at 64 1 (i - 1) (o k) (omega arith))),
-        singles-follow n (k + takesIn m f s) (run m (f .readings) (f .allowance) s .state),
-      )
+  module _ (w : Passed m) where
+    -- what a run of one step from a sound state comes to
+    safe : (k : ℕ) (s : Machine) → sound m s ≡ true → SafeRun m (single (o k)) s (run m (single (o k) .readings) 1 s)
+    safe k s h = run-safe m w (single (o k)) (bank-bytes 64 1 (o k) (low k)) s h
+
+    -- it takes one reading at most
+    takes-few : (k : ℕ) (s : Machine) → sound m s ≡ true → takesIn m (single (o k)) s ≤ 1
+    takes-few k s h =
+        let r = run m (single (o k) .readings) 1 s in
+        let q = safe k s h in
+        omega (arith, q .traced .1, by (r .answer) (r .state) (q .answers))
+      where
+        by : (a : Answer) (t : Machine) → Answers (single (o k)) s a t → stepsOf a ≤ 1
+        by (happens e n) t g = g .1
+        by (spends n) t g = omega (arith, g .1)
+        by (finishes c n) t g = g .1
+        by (refuses r) t g = omega arith
+        by (halts why) t g = omega arith
+
+    pub singles-follow : (n k : ℕ) (s : Machine) → sound m s ≡ true → Follows m o k (singles m o n k s) s
+    unfolding singles
+    singles-follow zero k s h = tt
+    singles-follow (suc n) k s h =
+        let f = single (o k) in (
+          (λ j l i lo hi.
+              let few = takes-few k s h in let here : k + j ≡ k = omega arith in let at : i ≡ 1 + (i - 1) = omega arith in
+              ap (λ (q : ℕ). o q i) here ∙ ap (o k) at ∙ sym (bank-at 64 1 (i - 1) (o k) (omega arith))),
+          singles-follow n (k + takesIn m f s) (run m (f .readings) (f .allowance) s .state) (safe k s h .still-sound),
+        )

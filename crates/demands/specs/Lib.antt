@@ -1,4 +1,5 @@
 pub mod Terms
 pub mod Third
 pub mod Second
+pub mod Sheet
 pub mod Listing

@@ -14,7 +14,7 @@ use Rattle.values.specs.Trace.{Event, Item}
 use Rattle.language.specs.Tree.{Tree}
 use Rattle.language.specs.Judge.{compileOn, compileRefused}
 use Rattle.language.specs.Execute.{illFormed, execute}
-use Rattle.language_laws.specs.Endings.{ByteReadings, EndsBy, GoesOn}
+use Rattle.language_laws.specs.Endings.{ByteReadings, EndsBy, GoesOn, Prefix}
 use Rattle.language_laws.specs.Programs.{program-accepted}
 use Rattle.bytecode.specs.Machine.{freshMachine}
 use Rattle.bytecode.specs.Runs.{Feed, finishes}
@@ -22,12 +22,15 @@ use Rattle.bytecode.specs.Runs.{Ran as PlainRan}
 use Rattle.bytecode.specs.State.{stateLength}
 use Rattle.bytecode.specs.Lent.{RanOn, startOn}
 use Rattle.bytecode_safety.specs.Terms.{eventOf, eventsIn, eventsOf}
+use Rattle.bytecode_safety.specs.Traces.{events-append}
+use Rattle.bytecode_safety.specs.Safety.{fresh-safe}
 use Rattle.compile_code.specs.Encode.{compiled, macroOf}
+use Rattle.compile_macro.specs.Built.{passed-macro}
 use Rattle.compile_order.specs.Order.{in-order, passes, fits}
 use Rattle.compile_runs.specs.Readings.{Follows, oracleOf, follows, oracle-bytes}
 use Rattle.compile_runs.specs.Enough.{Stepping, EndAnswered}
 use Rattle.compile_runs.specs.Singles.{singles, singles-length, singles-fed, singles-step, singles-follow}
-use Rattle.compile_runs.specs.Second.{itemsOf, answers, AsTree, as-tree}
+use Rattle.compile_runs.specs.Second.{itemsOf, answers, trace, AsTree, as-tree}
 use Rattle.bytecode_runs.specs.Terms.{Fed, runsOn, onBytes}
 use Rattle.demands.specs.Third.{third}
 
@@ -100,7 +103,7 @@ ends-same c [] h = h
 ends-same c (r ∷ rs) (inl h) = inl h
 ends-same c (r ∷ rs) (inr h) = inr (ends-same c rs h)
 
-same-ends : (c : ℕ) (rs : List PlainRan) → EndsOn c (map onBytes rs) → EndAnswered c rs
+pub same-ends : (c : ℕ) (rs : List PlainRan) → EndsOn c (map onBytes rs) → EndAnswered c rs
 unfolding EndAnswered EndsOn
 same-ends c [] h = h
 same-ends c (r ∷ rs) (inl h) = inl h
@@ -116,22 +119,33 @@ module _ (l : List ℕ) (P : Program l) (oracle : ℕ → ℕ → ℕ) (low : By
   on-bytes : (fs : List Feed) → Fed fs → answered (macroOf t) state fs ≡ map onBytes (answers t fs)
   on-bytes fs fed = third (macroOf t) (compiled t) (fits l P .1) (passes l P) state n fs fed .equals
 
-  heard : (fs : List Feed) → Fed fs → events (answered (macroOf t) state fs) ≡ eventsOf (answers t fs)
-  heard fs fed = ap events (on-bytes fs fed) ∙ events-same (answers t fs)
+  -- the events answered are those of what the runs gave
+  pub heard : (fs : List Feed) → Fed fs → events (answered (macroOf t) state fs) ≡ eventsIn (trace t fs)
+  heard fs fed = ap events (on-bytes fs fed) ∙ events-same (answers t fs) ∙ sym (plain .told fs fed)
+
+  begun : (is js : List Item) → Prefix is js → Begins (eventsIn is) (eventsIn js)
+  begun is js q = (eventsIn (q .0), ap eventsIn (q .1) ∙ events-append is (q .0))
 
   produced : Produces (macroOf t) t oracle state
   produced = record {
     starts = third (macroOf t) (compiled t) (fits l P .1) (passes l P) state n [] tt .starts .0;
-    prefix = λ fs fed same. let q = plain .prefix fs fed same in (q .0, (q .1, q .2 ∙ ap (λ es. es ++ q .1) (sym (heard fs fed))));
-    ends = λ fs fed same c e. let q = plain .ends fs fed same c (same-ends c (answers t fs) (subst (EndsOn c) (on-bytes fs fed) e)) in
-        (q .0, q .1, q .2 ∙ sym (heard fs fed));
+    prefix = λ fs fed same. let q = plain .prefix fs fed same in
+        (q .0, subst (λ es. Begins es (treeEvents oracle t (q .0))) (sym (heard fs fed)) (begun (trace t fs) (itemsOf (execute oracle t (q .0))) (q .1)));
+    ends = λ fs fed same c e. (
+      trace t fs,
+      plain .ends fs fed same c (same-ends c (answers t fs) (subst (EndsOn c) (on-bytes fs fed) e)),
+      sym (heard fs fed),
+    );
     enough = λ is c e. let q = plain .enough is c e in (
       q .0,
       λ fs fed same st more. let r = q .1 fs fed same st more in
-          (subst (EndsOn c) (sym (on-bytes fs fed)) (ends-same c (answers t fs) (r .0)), heard fs fed ∙ r .1),
+          (subst (EndsOn c) (sym (on-bytes fs fed)) (ends-same c (answers t fs) (r .0)), heard fs fed ∙ ap eventsIn (r .1)),
     );
     for-ever = λ g fs fed same c e. plain .for-ever g fs fed same c (same-ends c (answers t fs) (subst (EndsOn c) (on-bytes fs fed) e));
-    comes = λ k. let q = plain .comes k in (q .0, λ fs fed same st more. let r = q .1 fs fed same st more in (r .0, heard fs fed ∙ r .1));
+    comes = λ k. let q = plain .comes k in (
+      q .0,
+      λ fs fed same st more. subst (Begins (treeEvents oracle t k)) (sym (heard fs fed)) (begun (itemsOf (execute oracle t k)) (trace t fs) (q .1 fs fed same st more)),
+    );
   }
 
 -- Every list of bytes that is a program, and nothing else asked.
@@ -150,7 +164,7 @@ second l P =
         singles m oracle k 0 (freshMachine m),
         singles-length m oracle low k 0 (freshMachine m),
         singles-fed m oracle low k 0 (freshMachine m),
-        singles-follow m oracle low k 0 (freshMachine m),
+        singles-follow m oracle low (passed-macro t (in-order l P)) k 0 (freshMachine m) (fresh-safe m (passed-macro t (in-order l P))),
         singles-step m oracle low k 0 (freshMachine m),
       );
     }

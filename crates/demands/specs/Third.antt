@@ -79,7 +79,7 @@ never-accepted : {r : Refusal} {n : ℕ} → _≡_ {A = Judged ℕ} (refused r) 
 never-accepted h = let z : _≡_ {A = ℕ} 0 1 = cc h in omega arith
 
 -- what stands at the front of an output is what was written there
-front-of : (code out : List ℕ) → length code ≤ length out → take (length code) (sets out 0 code) ≡ code
+pub front-of : (code out : List ℕ) → length code ≤ length out → take (length code) (sets out 0 code) ≡ code
 front-of code out h = ap (take (length code)) (sets-eq code out 0 (omega arith)) ∙ take-append-seam code (drop (0 + length code) out)
 
 abbrev Written : Compiled → List ℕ → Type 0

@@ -76,7 +76,7 @@ module _ (c l k : List ℕ) (a : Started) (e : startOn c l ≡ record { verdict 
   started-small B r d = start-small c B l (refusalOf r) (rw (e, d)) .1
 
 -- ── the run ──
-module _ (c l readings : List ℕ) (allowance : ℕ) (k : List ℕ) (a : Ran) (e : runOn c l readings allowance ≡ record { answer = answerOf a; bytes = k }) where
+module _ (c l readings : List ℕ) (allowance : ℕ) (k : List ℕ) (a : Ran) (i : ℕ) (e : runOn c l readings allowance ≡ record { answer = answerOf a; bytes = k; readings = i }) where
   pub ran : (v : Ran) → a ≡ v → (r : ℕ) → r ≡ packed (answerNumbers (answerOf v))
       → (r ≡ packed (answerNumbers (runOn c l readings allowance .answer))) × (k ≡ runOn c l readings allowance .bytes)
   ran v d r h = rw (e, d) (h, refl)
@@ -85,8 +85,8 @@ module _ (c l readings : List ℕ) (allowance : ℕ) (k : List ℕ) (a : Ran) (e
   ran-small B R r d = run-small c B l readings allowance R (refusalOf r) (rw (e, d)) .1
 
 -- ── the play ──
-module _ (c l readings : List ℕ) (allowance : ℕ) (answers k b : List ℕ) (a : Played)
-    (e : playOn c l readings allowance answers ≡ record { answer = playNumbers a; state = k; answers = b }) where
+module _ (c l readings : List ℕ) (allowance : ℕ) (answers k b : List ℕ) (a : Played) (i : ℕ)
+    (e : playOn c l readings allowance answers ≡ record { answer = playNumbers a; state = k; answers = b; readings = i }) where
   pub plays : (v : Played) → a ≡ v → (r : ℕ) → r ≡ packed (playNumbers v)
       → let p = playOn c l readings allowance answers in (r ≡ packed (p .answer)) × (k ≡ p .state) × (b ≡ p .answers)
   plays v d r h = rw (e, d) (h, refl, refl)

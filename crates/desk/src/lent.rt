@@ -25,7 +25,9 @@ pub extern "C" fn cue_run(code: &[u8], state: &mut [u8], readings: &[u8], allowa
     ensures { λ r. ⌜ (r ≡ cueRun (now (code .entry)) (now (state .entry)) (feed (now (readings .entry)) allowance) .answer)
         × (now (state .exit) ≡ cueRun (now (code .entry)) (now (state .entry)) (feed (now (readings .entry)) allowance) .state) ⌝ }
 {
-    match run::run(code, state, readings, allowance) {
+    let r = run::run(code, state, readings, allowance);
+    let answer = r.answer;
+    match answer {
         Ran::Happens(e, steps) => pack_event(e, steps),
         Ran::Spends(steps) => pack(2, steps as u64, 0, 0),
         Ran::Finishes(end, steps) => pack(3, steps as u64, end as u64, 0),
@@ -46,7 +48,9 @@ pub extern "C" fn cue_play(
         × (now (state .exit) ≡ cuePlay (now (code .entry)) (now (state .entry)) (feed (now (readings .entry)) allowance) (now (answers .entry)) .state)
         × (now (answers .exit) ≡ cuePlay (now (code .entry)) (now (state .entry)) (feed (now (readings .entry)) allowance) (now (answers .entry)) .answers) ⌝ }
 {
-    match run::play(code, state, readings, allowance, answers) {
+    let p = run::play(code, state, readings, allowance, answers);
+    let answer = p.answer;
+    match answer {
         Played::Spends(steps, events) => pack(2, steps as u64, 0, events as u64),
         Played::Finishes(end, steps, events) => pack(3, steps as u64, end as u64, events as u64),
         Played::Fills(steps, events) => pack(8, steps as u64, 0, events as u64),

@@ -9,7 +9,7 @@ use lib.ListN.{replicate}
 use Rattle.logic.specs.Options.{isSome}
 use Rattle.logic.specs.Choice.{if_then_else_}
 use Rattle.values.specs.Ends.{Judged, accepted, refused}
-use Rattle.values.specs.Trace.{set, hold, release, Item, event, reading}
+use Rattle.values.specs.Trace.{set, hold, release, Item, event, reading, readingsIn}
 use Rattle.values.specs.Computes.{valuesCompute}
 use Rattle.language.specs.Tree.{Tree}
 use Rattle.language.specs.Judge.{judgeTable}
@@ -90,7 +90,7 @@ executedAs (refused r) seed fuel e ns = false
 unfoldable pub executionHolds : ExecutionCase → Bool
 executionHolds (executed l seed fuel e ns) = executedAs (judgeTable l) seed fuel e ns
 
--- ── lists of runs: three numbers a run, four an answer ──
+-- ── lists of runs: three numbers a run; of its answer four, and how many readings it took ──
 pub data RunsCase : Type 0 where
   ran : List ℕ → List ℕ → List ℕ → RunsCase  -- macro, runs, answers
 
@@ -107,7 +107,7 @@ feeds (n ∷ (s ∷ (a ∷ ns))) = record { readings = bank n s; allowance = a }
 
 unfoldable pub answersOf : List Runs.Ran → List ℕ
 answersOf [] = []
-answersOf (r ∷ rs) = let x = answerNumbers (r .answer) in x .tag ∷ x .steps ∷ x .first ∷ x .second ∷ answersOf rs
+answersOf (r ∷ rs) = let x = answerNumbers (r .answer) in x .tag ∷ x .steps ∷ x .first ∷ x .second ∷ readingsIn (r .trace) ∷ answersOf rs
 
 -- the last state is sound as its bytes are, and these read back to bytes that are the same
 abbrev pub readsBack : Macro → Option Machine → List ℕ → Bool

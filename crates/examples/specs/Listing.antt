@@ -29,6 +29,6 @@ passes = refl
 
 -- a run for each line: the answer's tag (5 hold, 4 set, 6 release, 3 end), its steps, its numbers
 on-the-machine : answers code (feed 65535 ∷ feed 65535 ∷ feed 65535 ∷ feed 65535 ∷ [])
-    ≡ 5 ∷ 1 ∷ 7 ∷ 0 ∷ 4 ∷ 3 ∷ 3 ∷ 200 ∷ 6 ∷ 1 ∷ 7 ∷ 0 ∷ 3 ∷ 2 ∷ 0 ∷ 0 ∷ []
+    ≡ 5 ∷ 1 ∷ 7 ∷ 0 ∷ 0 ∷ 4 ∷ 3 ∷ 3 ∷ 200 ∷ 0 ∷ 6 ∷ 1 ∷ 7 ∷ 0 ∷ 0 ∷ 3 ∷ 2 ∷ 0 ∷ 0 ∷ 0 ∷ []
 unfolding casesCompute joined code
 on-the-machine = refl

@@ -97,7 +97,7 @@ unfoldable short : Feed
 short = record { readings = replicate 63 0; allowance = 9 }
 
 runs-on : answers Listing.code (feed 0 ∷ feed 9 ∷ feed 1 ∷ short ∷ feed 9 ∷ feed 9 ∷ feed 9 ∷ feed 9 ∷ feed 0 ∷ [])
-    ≡ 2 ∷ 0 ∷ 0 ∷ 0 ∷ 5 ∷ 1 ∷ 7 ∷ 0 ∷ 2 ∷ 1 ∷ 0 ∷ 0 ∷ 0 ∷ 0 ∷ 11 ∷ 0 ∷ 4 ∷ 2 ∷ 3 ∷ 200 ∷ 6 ∷ 1 ∷ 7 ∷ 0 ∷ 3 ∷ 2 ∷ 0 ∷ 0 ∷ 3 ∷ 0 ∷ 0 ∷ 0 ∷ 3 ∷ 0 ∷ 0 ∷ 0 ∷ []
+    ≡ 2 ∷ 0 ∷ 0 ∷ 0 ∷ 0 ∷ 5 ∷ 1 ∷ 7 ∷ 0 ∷ 0 ∷ 2 ∷ 1 ∷ 0 ∷ 0 ∷ 0 ∷ 0 ∷ 0 ∷ 11 ∷ 0 ∷ 0 ∷ 4 ∷ 2 ∷ 3 ∷ 200 ∷ 0 ∷ 6 ∷ 1 ∷ 7 ∷ 0 ∷ 0 ∷ 3 ∷ 2 ∷ 0 ∷ 0 ∷ 0 ∷ 3 ∷ 0 ∷ 0 ∷ 0 ∷ 0 ∷ 3 ∷ 0 ∷ 0 ∷ 0 ∷ 0 ∷ []
 unfolding casesCompute joined Listing.code short
 runs-on = refl
 
@@ -107,7 +107,7 @@ failing = joined (hd 0 1 5 0 ∷ bd 0 0 0 [] ∷ op 17 0 3 ∷ op 17 0 4 ∷ op 
 
 releases-last-first : (loading failing ≡ [])
     × (answers failing (feed 9 ∷ feed 9 ∷ feed 9 ∷ feed 9 ∷ feed 9 ∷ [])
-    ≡ 5 ∷ 1 ∷ 3 ∷ 0 ∷ 5 ∷ 1 ∷ 4 ∷ 0 ∷ 6 ∷ 3 ∷ 4 ∷ 0 ∷ 6 ∷ 1 ∷ 3 ∷ 0 ∷ 3 ∷ 1 ∷ 23 ∷ 0 ∷ [])
+    ≡ 5 ∷ 1 ∷ 3 ∷ 0 ∷ 0 ∷ 5 ∷ 1 ∷ 4 ∷ 0 ∷ 0 ∷ 6 ∷ 3 ∷ 4 ∷ 0 ∷ 0 ∷ 6 ∷ 1 ∷ 3 ∷ 0 ∷ 0 ∷ 3 ∷ 1 ∷ 23 ∷ 0 ∷ 0 ∷ [])
 unfolding casesCompute joined failing
 releases-last-first = (refl, refl)
 
@@ -120,7 +120,7 @@ failingInside = joined
 
 releases-of-all : (loading failingInside ≡ [])
     × (answers failingInside (feed 9 ∷ feed 9 ∷ feed 9 ∷ feed 9 ∷ feed 9 ∷ feed 9 ∷ feed 9 ∷ feed 9 ∷ feed 9 ∷ [])
-    ≡ 5 ∷ 1 ∷ 1 ∷ 0 ∷ 5 ∷ 1 ∷ 2 ∷ 0 ∷ 5 ∷ 2 ∷ 3 ∷ 0 ∷ 5 ∷ 1 ∷ 4 ∷ 0
-    ∷ 6 ∷ 3 ∷ 4 ∷ 0 ∷ 6 ∷ 1 ∷ 3 ∷ 0 ∷ 6 ∷ 1 ∷ 2 ∷ 0 ∷ 6 ∷ 1 ∷ 1 ∷ 0 ∷ 3 ∷ 1 ∷ 23 ∷ 0 ∷ [])
+    ≡ 5 ∷ 1 ∷ 1 ∷ 0 ∷ 0 ∷ 5 ∷ 1 ∷ 2 ∷ 0 ∷ 0 ∷ 5 ∷ 2 ∷ 3 ∷ 0 ∷ 0 ∷ 5 ∷ 1 ∷ 4 ∷ 0 ∷ 0
+    ∷ 6 ∷ 3 ∷ 4 ∷ 0 ∷ 0 ∷ 6 ∷ 1 ∷ 3 ∷ 0 ∷ 0 ∷ 6 ∷ 1 ∷ 2 ∷ 0 ∷ 0 ∷ 6 ∷ 1 ∷ 1 ∷ 0 ∷ 0 ∷ 3 ∷ 1 ∷ 23 ∷ 0 ∷ 0 ∷ [])
 unfolding casesCompute joined failingInside
 releases-of-all = (refl, refl)

@@ -72,7 +72,7 @@ loading l = refusalOf (judgeMacro l)
 abbrev pub feed : ℕ → Feed
 feed n = record { readings = replicate 64 0; allowance = n }
 
--- the answers to a list of runs from the fresh state, four numbers each: tag, steps, first, second
+-- the answers to a list of runs from the fresh state, five numbers each: tag, steps, first, second, readings
 abbrev pub runMacro : Judged Macro → List Feed → List ℕ
 runMacro (accepted m) fs = answersOf (runs m fs (freshMachine m))
 runMacro (refused r) fs = 777 ∷ r .number ∷ r .place ∷ []

@@ -11,11 +11,11 @@ fn table_room() -> [u8; 16385]
     [0; 16385]
 }
 
-// 65,535 lines of 12 bytes, and a last line of 23.
-fn text_room() -> [u8; 786443]
-    ensures { λ r. ⌜ 786443 ≡ length r ⌝ }
+// 65,535 lines of 12 bytes, 53 bytes of totals, and a last line of 23.
+fn text_room() -> [u8; 786496]
+    ensures { λ r. ⌜ 786496 ≡ length r ⌝ }
 {
-    [0; 786443]
+    [0; 786496]
 }
 
 fn main() {

@@ -1,4 +1,4 @@
--- How long the lines of a listing are: an event's at most 12 bytes, any other at most 23.
+-- How long the lines of a listing are: an event's at most 12 bytes, the four totals at most 53, any other at most 23.
 use mathlib.Core.Path.{_≡_, refl, ap}
 use mathlib.Core.Bool.{Bool, true, false}
 use mathlib.Core.Logic.{_⊎_, inl, inr}
@@ -15,11 +15,14 @@ use Rattle.values.specs.Conditions.{condition-byte}
 use Rattle.values.specs.Trace.{Event, set, hold, release}
 use Rattle.bytecode.specs.Runs.{Answer, happens, spends, finishes, refuses, halts}
 use Rattle.bytecode.specs.Lent.{runOn}
-use Rattle.bytecode_safety.specs.Terms.{InRange}
-use Rattle.run.specs.Fields.{Ranged, run-ranged}
-use Rattle.listing_text.specs.Text.{digit, digits, decimal, numbers, eventLine, endLine, openLine, refusedLine, answerLine, afterEvent, zeros, runsText, linesOf}
+use Rattle.bytecode_safety.specs.Terms.{InRange, stepsOf}
+use Rattle.run.specs.Fields.{Ranged, run-ranged, run-read}
+use Rattle.listing_text.specs.Sheet.{Totals, none, count, read, countAnswer}
+use Rattle.listing_text.specs.Bounds.{Below, none-below, not-grown, count-grown, steps-below}
+use Rattle.listing_text.specs.Text.{digit, digits, decimal, numbers, eventLine, setsLine, holdsLine, releasesLine, readingsLine, sheetText}
+use Rattle.listing_text.specs.Text.{endLine, openLine, refusedLine, answerText, afterEvent, zeros, runsOf, textOf, linesOf}
 use Rattle.run.specs.Plays.{Later, on-bytes-later}
-use Rattle.listing_text.specs.Steps.{zeros-bytes}
+use Rattle.listing_text.specs.Steps.{zeros-bytes, lines-step}
 
 -- ── decimals ──
 -- as many digits as there are to come do not matter, if they are enough
@@ -68,13 +71,15 @@ short-2 = next 10 1 short-1 (omega arith) (omega arith)
 pub short-3 : Short 1000 3
 short-3 = next 100 2 short-2 (omega arith) (omega arith)
 
-short-6 : Short 1000000 6
-short-6 = next 100000 5 (next 10000 4 (next 1000 3 short-3 (omega arith) (omega arith)) (omega arith) (omega arith)) (omega arith) (omega arith)
+short-5 : Short 100000 5
+short-5 = next 10000 4 (next 1000 3 short-3 (omega arith) (omega arith)) (omega arith) (omega arith)
 
 pub short-10 : Short 10000000000 10
 short-10 =
     next 1000000000 9
-    (next 100000000 8 (next 10000000 7 (next 1000000 6 short-6 (omega arith) (omega arith)) (omega arith) (omega arith)) (omega arith) (omega arith))
+    (next 100000000 8
+    (next 10000000 7 (next 1000000 6 (next 100000 5 short-5 (omega arith) (omega arith)) (omega arith) (omega arith)) (omega arith) (omega arith))
+    (omega arith) (omega arith))
     (omega arith) (omega arith)
 
 -- ── lines ──
@@ -108,37 +113,68 @@ end-small : (c : ℕ) → (c ≡ 0) ⊎ (isCondition c ≡ true) → c < 256
 end-small c (inl e) = omega arith
 end-small c (inr t) = condition-byte c t
 
-after-answer : (left : ℕ) (a : Answer) (more : ℕ → List ℕ) → Ranged left a → Later 0 a
-    → ((n : ℕ) → 0 < n → n ≤ left → length (more n) ≤ 12 * (left - n) + 23) → length (answerLine a ++ afterEvent a more) ≤ 12 * left + 23
-after-answer left (happens e n) more r w h =
-    let i = event-line e (r .1) in
-    let j = h n w (r .0) in
-    rw (length-append (eventLine e) (more n)) (omega (arith, r .0))
-after-answer left (spends n) more r w h = rw (length-append openLine []) (omega (arith, open-line))
-after-answer left (finishes c n) more r w h = rw (length-append (endLine c) []) (omega (arith, end-line c (end-small c (r .1))))
-after-answer left (refuses q) more r w h =
-    rw (length-append (refusedLine q) []) (omega (arith, refused-line q (r .0) (omega (arith, r .1))))
-after-answer left (halts why) more r w h = absurd r
+-- none of the totals is above the 65,535 steps
+sheet-text : (t : Totals) (left : ℕ) → Below 65535 t left → length (sheetText t) ≤ 53
+unfolding sheetText
+sheet-text t left f =
+    let sets = setsLine (t .sets) in
+    let holds = holdsLine (t .holds) in
+    let releases = releasesLine (t .releases) in
+    let readings = readingsLine (t .readings) in
+    omega (
+      arith,
+      length-append sets (holds ++ (releases ++ readings)),
+      length-append holds (releases ++ readings),
+      length-append releases readings,
+      one-number (t .sets),
+      one-number (t .holds),
+      one-number (t .releases),
+      one-number (t .readings),
+      short-5 (t .sets) (omega (arith, f .sets)),
+      short-5 (t .holds) (omega (arith, f .holds)),
+      short-5 (t .releases) (omega (arith, f .releases)),
+      short-5 (t .readings) (omega (arith, f .readings)),
+    )
 
-runs-length : (k : ℕ) (code : List ℕ) → Bytes code → (state : List ℕ) (left : ℕ) → length (runsText k code state left) ≤ 12 * left + 23
-unfolding runsText
-runs-length zero code B state left = omega arith
-runs-length (suc k) code B state left =
+-- after n steps that gave no event
+last-text : (i left n : ℕ) (t : Totals) → i ≤ n → n ≤ left → Below 65535 t left → length (sheetText (read i t)) ≤ 53
+last-text i left n t h k f = sheet-text (read i t) (left - n) (steps-below 0 i n left (omega arith) h k (not-grown t) f)
+
+after-answer : (left i : ℕ) (t : Totals) (a : Answer) (more : ℕ → Totals → List ℕ) → Ranged left a → Later 0 a → i ≤ stepsOf a → Below 65535 t left
+    → ((n : ℕ) (u : Totals) → 0 < n → n ≤ left → Below 65535 u (left - n) → length (more n u) ≤ 12 * (left - n) + 76)
+    → (let u = read i (countAnswer a t) in length (answerText a u ++ afterEvent a (λ n. more n u)) ≤ 12 * left + 76)
+after-answer left i t (happens e n) more r w q f h =
+    let j = event-line e (r .1) in
+    let u = read i (count e t) in
+    let k = h n u w (r .0) (steps-below 1 i n left w q (r .0) (count-grown e t) f) in
+    rw (length-append (eventLine e) (more n u)) (omega (arith, r .0))
+after-answer left i t (spends n) more r w q f h =
+    let s = sheetText (read i t) in
+    rw (length-append (s ++ openLine) [], length-append s openLine) (omega (arith, open-line, last-text i left n t q r f))
+after-answer left i t (finishes c n) more r w q f h =
+    let s = sheetText (read i t) in
+    rw (length-append (s ++ endLine c) [], length-append s (endLine c)) (omega (arith, end-line c (end-small c (r .1)), last-text i left n t q (r .0) f))
+after-answer left i t (refuses x) more r w q f h =
+    rw (length-append (refusedLine x) []) (omega (arith, refused-line x (r .0) (omega (arith, r .1))))
+after-answer left i t (halts why) more r w q f h = absurd r
+
+runs-length : (k : ℕ) (code : List ℕ) → Bytes code → (state : List ℕ) (left : ℕ) (t : Totals) → left < k → Below 65535 t left → length (textOf t (runsOf code state left)) ≤ 12 * left + 76
+runs-length zero code B state left t h f = absurd (omega arith)
+runs-length (suc k) code B state left t h f =
     let r = runOn code state zeros left in
-    after-answer left (r .answer) (λ n. runsText k code (r .bytes) (left - n)) (run-ranged code B state zeros left zeros-bytes) (on-bytes-later code state zeros left)
-    (λ n p q. runs-length k code B (r .bytes) (left - n))
-
-pub lines-length : (code : List ℕ) → Bytes code → (state : List ℕ) (left : ℕ) → length (linesOf code state left) ≤ 12 * left + 23
-unfolding linesOf
-lines-length code B state left = runs-length (suc left) code B state left
+    rw (lines-step code B t state left)
+    (after-answer left (r .readings) t (r .answer) (λ n u. textOf u (runsOf code (r .bytes) (left - n))) (run-ranged code B state zeros left zeros-bytes)
+    (on-bytes-later code state zeros left) (run-read code B state zeros left zeros-bytes) f
+    (λ n u p q g. runs-length k code B (r .bytes) (left - n) u (omega arith) g))
 
 -- ── the bytes that are enough for a listing ──
 abbrev pub textRoom : ℕ
-textRoom = 786443
+textRoom = 786496
 
--- a line of 12 bytes for each step, and a last line of 23
+-- a line of 12 bytes for each step, 53 of totals, and a last line of 23
 pub lines-fit : (code : List ℕ) → Bytes code → (state : List ℕ) → length (linesOf code state 65535) ≤ textRoom
-lines-fit code B state = lines-length code B state 65535
+unfolding linesOf
+lines-fit code B state = runs-length 65536 code B state 65535 none (omega arith) (none-below 65535)
 
 pub refused-fits : (number place : ℕ) → number < 256 → place < 4294967296 → length (refusedLine (refusal number place)) ≤ textRoom
 refused-fits number place h i = let k = refused-line (refusal number place) h i in omega arith

@@ -1,8 +1,11 @@
+pub mod Sheet
 pub mod Text
 pub mod Steps
+pub mod Bounds
 pub mod Length
 pub mod Writing
 pub mod Told
+pub mod Counting
 pub mod Plays
 pub mod Whole
 pub mod Example

@@ -1,7 +1,8 @@
 -- The listing of a table, byte for byte. (paper 01, Marked with *)
 -- "A listing program reads a table from standard input, all readings 0, and prints each event (word, then group, or channel and level) and
 -- `end` with 0 or the condition, or `open 0` after 65,535 steps. It lends 65,536 bytes for the macro; a refusal prints as `refused`, number
--- and place."
+-- and place." "The listing program prints these four totals in that order, one line each, that word and the number, before `end` or `open`."
+-- (paper 02, ticket 4)
 use mathlib.Core.List.{List, [], _∷_, _++_}
 use Prim.Native.Nat.{ℕ, zero, suc, _+_, _-_, _/_, _%_}
 use lib.Dec.{ltb}
@@ -13,7 +14,8 @@ use Rattle.language.specs.Judge.{compileOn}
 use Rattle.compile_code.specs.Encode.{macroOf}
 use Rattle.bytecode.specs.Runs.{Answer, happens, spends, finishes, refuses, halts}
 use Rattle.bytecode.specs.State.{stateLength}
-use Rattle.bytecode.specs.Lent.{startOn, runOn}
+use Rattle.bytecode.specs.Lent.{RanOn, startOn, runOn}
+use Rattle.listing_text.specs.Sheet.{Totals, none, countRun}
 
 -- ── lines, in ASCII ──
 abbrev pub digit : ℕ → ℕ
@@ -54,17 +56,33 @@ openLine = line (111 ∷ 112 ∷ 101 ∷ 110 ∷ []) (0 ∷ [])
 abbrev pub refusedLine : Refusal → List ℕ
 refusedLine r = line (114 ∷ 101 ∷ 102 ∷ 117 ∷ 115 ∷ 101 ∷ 100 ∷ []) (r .number ∷ r .place ∷ [])
 
--- the line of a run's answer; a macro that passes never halts, so that nothing is said of it
-abbrev pub answerLine : Answer → List ℕ
-answerLine (happens e n) = eventLine e
-answerLine (spends n) = openLine
-answerLine (finishes c n) = endLine c
-answerLine (refuses r) = refusedLine r
-answerLine (halts why) = []
+-- "these four totals in that order, one line each, that word and the number"
+abbrev pub setsLine : ℕ → List ℕ
+setsLine n = line (115 ∷ 101 ∷ 116 ∷ 115 ∷ []) (n ∷ [])  -- sets
+
+abbrev pub holdsLine : ℕ → List ℕ
+holdsLine n = line (104 ∷ 111 ∷ 108 ∷ 100 ∷ 115 ∷ []) (n ∷ [])  -- holds
+
+abbrev pub releasesLine : ℕ → List ℕ
+releasesLine n = line (114 ∷ 101 ∷ 108 ∷ 101 ∷ 97 ∷ 115 ∷ 101 ∷ 115 ∷ []) (n ∷ [])  -- releases
+
+abbrev pub readingsLine : ℕ → List ℕ
+readingsLine n = line (114 ∷ 101 ∷ 97 ∷ 100 ∷ 105 ∷ 110 ∷ 103 ∷ 115 ∷ []) (n ∷ [])  -- readings
+
+unfoldable pub sheetText : Totals → List ℕ
+sheetText t = setsLine (t .sets) ++ (holdsLine (t .holds) ++ (releasesLine (t .releases) ++ readingsLine (t .readings)))
+
+-- what a run's answer prints, with the totals after it; a macro that passes never halts, so that nothing is said of it
+abbrev pub answerText : Answer → Totals → List ℕ
+answerText (happens e n) t = eventLine e
+answerText (spends n) t = sheetText t ++ openLine
+answerText (finishes c n) t = sheetText t ++ endLine c
+answerText (refuses r) t = refusedLine r
+answerText (halts why) t = []
 
 -- ── runs ──
 -- after an event there is another run, with the steps that are left (S14); after any other answer there is none
-abbrev pub afterEvent : Answer → (ℕ → List ℕ) → List ℕ
+abbrev pub afterEvent : {A : Type 0} → Answer → (ℕ → List A) → List A
 afterEvent (happens e n) more = more n
 afterEvent (spends n) more = []
 afterEvent (finishes c n) more = []
@@ -75,15 +93,23 @@ afterEvent (halts why) more = []
 abbrev pub zeros : List ℕ
 zeros = replicate 64 0
 
--- the lines of at most k runs, with so many steps left
-unfoldable pub runsText : ℕ → List ℕ → List ℕ → ℕ → List ℕ
-runsText zero code state left = []
-runsText (suc k) code state left =
-    let r = runOn code state zeros left in answerLine (r .answer) ++ afterEvent (r .answer) (λ n. runsText k code (r .bytes) (left - n))
+-- at most k runs, with so many steps left
+unfoldable pub runsFrom : ℕ → List ℕ → List ℕ → ℕ → List RanOn
+runsFrom zero code state left = []
+runsFrom (suc k) code state left =
+    let r = runOn code state zeros left in r ∷ afterEvent (r .answer) (λ n. runsFrom k code (r .bytes) (left - n))
 
 -- every run that gives an event takes a step (Steps), so that there is one run more at most than there are steps
+abbrev pub runsOf : List ℕ → List ℕ → ℕ → List RanOn
+runsOf code state left = runsFrom (suc left) code state left
+
+-- what runs print, with these totals before them
+unfoldable pub textOf : Totals → List RanOn → List ℕ
+textOf t [] = []
+textOf t (r ∷ rs) = let u = countRun r t in answerText (r .answer) u ++ textOf u rs
+
 unfoldable pub linesOf : List ℕ → List ℕ → ℕ → List ℕ
-linesOf code state left = runsText (suc left) code state left
+linesOf code state left = textOf none (runsOf code state left)
 
 -- ── a macro and a table ──
 -- "after 65,535 steps"

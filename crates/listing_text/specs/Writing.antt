@@ -54,6 +54,10 @@ join text at xs ys middle after next last p q = record {
 pub one : (text : List ℕ) (at v : ℕ) → Puts text at (v ∷ []) (set text at v) (at + 1)
 one text at v = record { index = refl; bytes = refl }
 
+-- nothing
+pub nothing : (text : List ℕ) (at : ℕ) → Puts text at [] text at
+nothing text at = record { index = omega arith; bytes = refl }
+
 -- ── a number ──
 pub puts-digit : (text : List ℕ) (at n : ℕ) → n < 10 → Puts text at (decimal n) (set text at (digit n)) (at + 1)
 puts-digit text at n h = rw (one-digit n h) (one text at (digit n))

@@ -1,12 +1,14 @@
-// The listing of a table, as text in lent bytes: its events, and its end, `open 0`, or a refusal.
+// The listing of a table, as text in lent bytes: its events, its totals, and its end or `open 0`; or a refusal.
 mod lines;
 mod plays;
+mod totals;
 
 use compile::Compiled;
 use formats::limits::*;
 use formats::state::*;
 use run::Played;
 use run::Started;
+use totals::Totals;
 ghost use mathlib.Core.Path.{_≡_};
 ghost use Prim.Native.Nat.{_≤_};
 ghost use lib.ListN.{length};
@@ -32,8 +34,8 @@ fn full_steps(p: Played) -> u16
     }
 }
 
-// A line for each run, all readings 0, until one gives no event. The steps are counted over all runs together (S14). The runs are played, so that the
-// macro is tested once for each 512 events and not for each.
+// A line for each event, all readings 0, until a run gives none; then the totals and the end. The steps are counted over all runs together (S14). The
+// runs are played, so that the macro is tested once for each 512 events and not for each.
 fn list_runs(code: &[u8], state: &mut [u8], text: &mut [u8]) -> usize
     requires { ⌜ length (linesOf (now code) (now state) 65535) ≤ length (now text) ⌝ }
     ensures { λ r. ⌜ Lists (linesOf (now (code .entry)) (now (state .entry)) 65535) (now (text .entry)) (now (text .exit)) r ⌝ }
@@ -42,11 +44,19 @@ fn list_runs(code: &[u8], state: &mut [u8], text: &mut [u8]) -> usize
     let mut answers = [0u8; ROOM];
     let mut left: u16 = 65535;
     let mut at = 0;
+    let mut all = Totals {
+        sets: 0,
+        holds: 0,
+        releases: 0,
+        readings: 0,
+    };
     let mut goes = true;
     while goes {
         let p = run::play(code, state, &readings, left, &mut answers);
-        at = plays::put_played(text, at, &answers, p);
-        let n = full_steps(p);
+        let answer = p.answer;
+        all = totals::count_play(all, &answers, answer, p.readings);
+        at = plays::put_played(text, at, &answers, answer, all);
+        let n = full_steps(answer);
         left -= n;
         goes = 0 < n;
     }
@@ -65,8 +75,8 @@ fn list_macro(code: &[u8], state: &mut [u8], text: &mut [u8]) -> usize
 }
 
 // The listing of `table`: its text stands at the front of `text`, and its length is answered. The room is the longest listing's: 65,535 lines
-// of 12 bytes, and a last line of 23.
-pub fn list(table: &[u8], text: &mut [u8; 786443]) -> usize
+// of 12 bytes, 53 bytes of totals, and a last line of 23.
+pub fn list(table: &[u8], text: &mut [u8; 786496]) -> usize
     ensures { λ r. ⌜ Lists (listingOf (now (table .entry))) (now (text .entry)) (now (text .exit)) r ⌝ }
 {
     let mut code = [0u8; 65536];

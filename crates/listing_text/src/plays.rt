@@ -1,13 +1,18 @@
-// The lines of a play, read from the bytes that it wrote.
+// The lines of a play, read from the bytes that it wrote, and the totals before its end.
 use crate::lines::put_line_1;
 use crate::lines::put_line_2;
 use crate::lines::put_refused;
+use crate::totals::Totals;
+use crate::totals::events_of;
 use packing::ANSWER_BYTES;
 use run::Played;
+ghost use mathlib.Core.List.{[], _∷_, _++_};
 ghost use Prim.Native.Nat.{_+_, _*_, _≤_};
 ghost use lib.ListN.{length};
 ghost use Rattle.run.specs.Answers.{playNumbers};
-ghost use Rattle.listing_text.specs.Told.{lineAt, eventLines, eventsOf, playText};
+ghost use Rattle.listing_text.specs.Text.{line, sheetText};
+ghost use Rattle.listing_text.specs.Told.{lineAt, eventLines, eventsOf, lastText, playText};
+ghost use Rattle.listing_text.specs.Counting.{totalsOf};
 ghost use Rattle.listing_text.specs.Writing.{Puts};
 
 // Where the fields of a packed answer stand in its bytes: after the tag and the steps a channel or a group, then a level.
@@ -41,21 +46,44 @@ fn put_events(text: &mut [u8], at: usize, answers: &[u8], events: usize) -> usiz
     next
 }
 
-// The lines of a play's events, and the line of its end; a play that stopped for want of room has none.
-pub fn put_played(text: &mut [u8], at: usize, answers: &[u8], p: Played) -> usize
-    requires { ⌜ (8 * eventsOf (playNumbers p) ≤ length (now answers)) × (at + length (playText (now answers) (playNumbers p)) ≤ length (now text)) ⌝ }
-    ensures { λ r. ⌜ Puts (now (text .entry)) at (playText (now (answers .entry)) (playNumbers p)) (now (text .exit)) r ⌝ }
+// The four totals, a line each.
+fn put_sheet(text: &mut [u8], at: usize, t: Totals) -> usize
+    requires { ⌜ at + length (sheetText (totalsOf t)) ≤ length (now text) ⌝ }
+    ensures { λ r. ⌜ Puts (now (text .entry)) at (sheetText (totalsOf t)) (now (text .exit)) r ⌝ }
+{
+    let a = put_line_1(text, at, b"sets", t.sets);
+    let b = put_line_1(text, a, b"holds", t.holds);
+    let c = put_line_1(text, b, b"releases", t.releases);
+    put_line_1(text, c, b"readings", t.readings)
+}
+
+// The totals, and the line of an end.
+fn put_end(text: &mut [u8], at: usize, t: Totals, word: &[u8], n: u32) -> usize
+    requires { ⌜ at + length (sheetText (totalsOf t) ++ line (now word) (n ∷ [])) ≤ length (now text) ⌝ }
+    ensures { λ r. ⌜ Puts (now (text .entry)) at (sheetText (totalsOf t) ++ line (now (word .entry)) (n ∷ [])) (now (text .exit)) r ⌝ }
+{
+    let next = put_sheet(text, at, t);
+    put_line_1(text, next, word, n)
+}
+
+// What follows a play's events, with the totals after it; nothing where it stopped for want of room.
+fn put_last(text: &mut [u8], at: usize, p: Played, t: Totals) -> usize
+    requires { ⌜ at + length (lastText (playNumbers p) (totalsOf t)) ≤ length (now text) ⌝ }
+    ensures { λ r. ⌜ Puts (now (text .entry)) at (lastText (playNumbers p) (totalsOf t)) (now (text .exit)) r ⌝ }
 {
     match p {
-        Played::Spends(_, events) => {
-            let next = put_events(text, at, answers, events as usize);
-            put_line_1(text, next, b"open", 0)
-        }
-        Played::Finishes(c, _, events) => {
-            let next = put_events(text, at, answers, events as usize);
-            put_line_1(text, next, b"end", c as u32)
-        }
-        Played::Fills(_, events) => put_events(text, at, answers, events as usize),
+        Played::Spends(_, _) => put_end(text, at, t, b"open", 0),
+        Played::Finishes(c, _, _) => put_end(text, at, t, b"end", c as u32),
+        Played::Fills(_, _) => at,
         Played::Refused(refusal) => put_refused(text, at, refusal),
     }
+}
+
+pub fn put_played(text: &mut [u8], at: usize, answers: &[u8], p: Played, t: Totals) -> usize
+    requires { ⌜ (8 * eventsOf (playNumbers p) ≤ length (now answers)) × (at + length (playText (now answers) (playNumbers p) (totalsOf t)) ≤ length (now text)) ⌝ }
+    ensures { λ r. ⌜ Puts (now (text .entry)) at (playText (now (answers .entry)) (playNumbers p) (totalsOf t)) (now (text .exit)) r ⌝ }
+{
+    let events = events_of(p);
+    let next = put_events(text, at, answers, events);
+    put_last(text, next, p, t)
 }

@@ -23,7 +23,7 @@ use Rattle.machine_frames.specs.Bytes.{wentTo, popped, operandSet, holdTaken, h
 use Rattle.machine_frames.specs.On.{On, on-pop, on-operand, on-take, on-let, on-finish, read-operand, read-holds, read-group}
 use Rattle.machine_ops.specs.declared.Event.the-variants.{Set, Hold, Release}
 use Rattle.machine_ops.specs.declared.Out.{Out}
-use Rattle.machine_ops.specs.declared.Out.the-variants.{Goes, Gives, Ends}
+use Rattle.machine_ops.specs.declared.Out.the-variants.{Goes, Reads, Gives, Ends}
 use Rattle.machine_ops.specs.Acts.{here, Now, Told, Tells, Jumps, Holding}
 use Rattle.logic.specs.Tests.{never, and-false}
 use Rattle.machine_ops.proofs.RunningFacts.{stands, few-records, integer-small, in-range, below-range, above-range, demanded, goes-to, goes-on}
@@ -118,13 +118,13 @@ module _ {l : List ℕ} {f n i : ℕ} where
     fader-high readings k r h C = fader-by readings k r (λ m rs c0 a0 cs z vs gs fs N. rw (above-range 1 64 (omega arith) z w (word-on N) h) (C m rs _ fs N))
 
     pub fader-tells : (readings k1 k2 : List ℕ) (v : ℕ) → 1 ≤ w → w ≤ 64 → v ≡ getD readings (w - 1) 0 → k1 ≡ operandSet l f (n - 1) v 1 → k2 ≡ wentTo k1 f (i + 1)
-        → Tells (λ m h. doFader (bankOf readings) h) l f n i k2 Goes
-    fader-tells readings k1 k2 v h h′ ev e1 e2 = fader-by readings k2 Goes (λ m rs c0 a0 cs z vs gs fs N.
+        → Tells (λ m h. doFader (bankOf readings) h) l f n i k2 Reads
+    fader-tells readings k1 k2 v h h′ ev e1 e2 = fader-by readings k2 Reads (λ m rs c0 a0 cs z vs gs fs N.
         let small = integer-small (rs .records) z (all-first (soundValue (rs .records)) (int z) vs (stands N .operands) .0) in
         let q = in-range 1 64 (omega arith) z w small (word-on N) h h′ in
         let b : v ≡ bankOf readings (size z) = rw (q .1) ev in
         let p = on-operand (int (pos (bankOf readings (size z)))) v 1 b refl [] (int z) vs (N .on) (n - 1) (omega (arith, N .depth)) (omega arith) in
-        rw (q .0) (goes-on (activation c0 a0 cs (int z ∷ vs) gs) (reading (size z) (bankOf readings (size z)) ∷ []) Goes p k2 (i + 1) (e2 ∙ rw e1) (omega (arith, N .address)) refl))
+        rw (q .0) (goes-on (activation c0 a0 cs (int z ∷ vs) gs) (reading (size z) (bankOf readings (size z)) ∷ []) Reads p k2 (i + 1) (e2 ∙ rw e1) (omega (arith, N .address)) refl))
 
   -- ── set ──
   module _ (two-operands : 2 ≤ n) (many : n ≤ 32) (x y : ℕ) (ey : y ≡ wordAt l (f + (operandWordsAt + 4 * (n - 1)))) (ex : x ≡ wordAt l (f + (operandWordsAt + 4 * (n - 2)))) where

@@ -18,9 +18,9 @@ use Rattle.machine_frames.specs.On.{On}
 use Rattle.machine_ops.specs.declared.Event.{Event}
 use Rattle.machine_ops.specs.declared.Event.the-variants.{Set, Hold, Release}
 use Rattle.machine_ops.specs.declared.Out.{Out}
-use Rattle.machine_ops.specs.declared.Out.the-variants.{Goes, Gives, Ends}
+use Rattle.machine_ops.specs.declared.Out.the-variants.{Goes, Reads, Gives, Ends}
 
--- ── what is answered for a step: its event, or that it ended, or nothing ──
+-- ── what is answered for a step: its event, that it took a reading, that it ended, or nothing ──
 abbrev pub eventOf : trace.Event → Event
 eventOf (trace.set c v) = Set c v
 eventOf (trace.hold g) = Hold g
@@ -34,7 +34,7 @@ outEnd (ended c) = Ends c
 abbrev pub outOf : List Item → Machine → Out
 outOf [] s = outEnd s
 outOf (event e ∷ is) s = Gives (eventOf e)
-outOf (reading f v ∷ is) s = outEnd s
+outOf (reading f v ∷ is) s = Reads
 
 -- the bytes and the answer are those of a step; of a step that is none nothing is said
 abbrev pub Are : Stepped → List ℕ → Out → Type 0

@@ -54,7 +54,7 @@ pub fn op_fader(state: &mut [u8], frame: usize, depth: usize, address: u16, read
     let v = readings[(x as usize) - 1];
     machine_frames::put_operand(state, frame, k, v as u32, TYPE_INTEGER);
     machine_frames::go_to(state, frame, address + 1);
-    Out::Goes
+    Out::Reads
 }
 
 pub fn op_assert(state: &mut [u8], frame: usize, depth: usize, address: u16) -> Out

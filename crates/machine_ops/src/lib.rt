@@ -39,9 +39,10 @@ pub enum Event {
     Release(u8),
 }
 
-// What a step gives: nothing, an event, or the end by 0 or a condition.
+// What a step gives: nothing, a reading taken, an event, or the end by 0 or a condition.
 pub enum Out {
     Goes,
+    Reads,
     Gives(Event),
     Ends(u8),
 }

@@ -14,7 +14,7 @@ use Rattle.bytecode.specs.State.{encode, stateLength}
 use Rattle.load_check.specs.Lookups.{code-of}
 use Rattle.machine_frames.specs.Bytes.{wentTo, pushed, popped}
 use Rattle.machine_run.specs.declared.aside.Landing.the-variants as landing
-use Rattle.machine_run.specs.Held.{Found, Held, Poised, Reaches}
+use Rattle.machine_run.specs.Held.{Found, Held, Poised, Since, Reaches}
 use Rattle.machine_run.specs.Aside.{Coded, Aside, One, Leads, Begin, loads, pushes, takes, Lands, Grows}
 use Rattle.machine_run.proofs.OpAsks.{room, asks-load, asks-operate}
 use Rattle.machine_run.proofs.LoopInvariant.{Loop, Ready, poise}
@@ -24,7 +24,7 @@ use Rattle.machine_run.proofs.AsideSteps as steps
 pub coded : {code bodies classes : List ℕ} {base : ℕ} → Found code bodies classes base → Coded code base
 coded F = record { based = F .based; small = F .small; inside = λ i h. omega (arith, F .based, code-of _ (F .bodied .well) _ h) }
 
-module _ {code readings : List ℕ} {k : ℕ} {l₀ l : List ℕ} {f at′ i n op a b : ℕ} (R : Ready code readings k l₀ l f at′ i n op a b) where
+module _ {code readings : List ℕ} {k : ℕ} {b₀ : Since} {l : List ℕ} {f at′ i n op a b : ℕ} (R : Ready code readings k b₀ l f at′ i n op a b) where
   abbrev P : Poised code readings op a b l f n at′
   P = poise R
 
@@ -102,16 +102,17 @@ module _ {code readings : List ℕ} {k : ℕ} {l₀ l : List ℕ} {f at′ i n o
       omega (arith, G .1 e7 (omega arith) (omega arith))
 
   pub landed : {l′ l″ : List ℕ} {w t d x j : ℕ} (s : ℕ) → Set l′ w t d s → Lands code readings k f (wentTo (pushed l′ f d w t) f (at′ + s)) (i + s) l″ (landing.Lands x j) → length l″ ≡ length l
-      → Loop code readings k l₀ l″ f x j
-  landed s S L e =
+      → i ≤ j → Loop code readings k b₀ l″ f x j
+  landed s S L e h =
       record {
         upto = L .0 .upto;
+        few = omega (arith, R .loop .few);
         held = L .0 .held;
         long = e ∙ R .loop .long;
-        reached = L .0 .leads l₀ (S .1 l₀ (R .loop .reached));
+        reached = L .0 .leads b₀ (S .1 b₀ (R .loop .reached));
         kept = record { phase = L .1; place = L .2; address = L .3 };
       }
 
   pub broken : {l′ l″ : List ℕ} {w t d j : ℕ} (s : ℕ) → Set l′ w t d s → Lands code readings k f (wentTo (pushed l′ f d w t) f (at′ + s)) (i + s) l″ (landing.Breaks j)
-      → Held code l″ × (byteAt l″ 0 ≡ 1) × (j ≤ k) × Reaches code readings k l₀ l″ j
-  broken s S L = (L .0 .held, L .1, L .0 .upto, L .0 .leads l₀ (S .1 l₀ (R .loop .reached)))
+      → Held code l″ × (byteAt l″ 0 ≡ 1) × (j ≤ k) × Reaches code readings k b₀ l″ j
+  broken s S L = (L .0 .held, L .1, L .0 .upto, L .0 .leads b₀ (S .1 b₀ (R .loop .reached)))

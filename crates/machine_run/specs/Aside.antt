@@ -22,7 +22,7 @@ use Rattle.machine_run.specs.declared.aside.Pair.{Pair}
 use Rattle.machine_run.specs.declared.aside.Pair.the-variants as pair
 use Rattle.machine_run.specs.declared.aside.Landing.{Landing}
 use Rattle.machine_run.specs.declared.aside.Landing.the-variants as landing
-use Rattle.machine_run.specs.Held.{Held, Reaches}
+use Rattle.machine_run.specs.Held.{Held, Since, Reaches}
 
 -- where the instructions stand
 pub record Coded (code : List ℕ) (base : ℕ) : Type 0 where
@@ -49,9 +49,9 @@ pub record One (code l : List ℕ) (f n i w t : ℕ) : Type 0 where
   pub type : t ≡ typeByte value
   pub aside : Aside code l f n i (value ∷ [])
 
--- whatever bytes a run of k steps began with, if it comes to l after i steps it comes to l′ after j
+-- whatever a run of k steps began with, if it comes to l after i steps it comes to l′ after j, with no reading more
 abbrev pub Leads : List ℕ → List ℕ → ℕ → List ℕ → ℕ → List ℕ → ℕ → Type 0
-Leads code readings k l i l′ j = (l₀ : List ℕ) → Reaches code readings k l₀ l i → Reaches code readings k l₀ l′ j
+Leads code readings k l i l′ j = (b : Since) → Reaches code readings k b l i → Reaches code readings k b l′ j
 
 -- ── what the functions do to bytes and numbers ──
 -- the word of cell b, of the top at f or of the root

@@ -7,12 +7,12 @@ use Prim.Native.Nat.{ℕ, _-_, _<_}
 use lib.ListN.{length}
 use Rattle.words.specs.Numbers.{byteAt}
 use Rattle.values.specs.Ends.{accepted}
-use Rattle.values.specs.Trace.{Item}
+use Rattle.values.specs.Trace.{Item, readingsIn}
 use Rattle.values.specs.Values.{tysOf}
 use Rattle.bytecode.specs.Macro.{Code, Macro, shape, readMacro}
 use Rattle.bytecode.specs.Instructions.{Instr, instruction}
 use Rattle.bytecode.specs.Machine.{Activation, Shared, Machine, moved, act, step}
-use Rattle.bytecode.specs.Runs.{bankOf, happens, spends, finishes, refuses, halts, Ran, steps, run}
+use Rattle.bytecode.specs.Runs.{bankOf, happens, spends, finishes, refuses, halts, Ran, after, steps, run}
 use Rattle.bytecode.specs.Runs as runs
 use Rattle.bytecode.specs.Sound.{sound}
 use Rattle.bytecode.specs.State.{encode}
@@ -23,6 +23,7 @@ use Rattle.machine_ops.specs.declared.Out.{Out}
 use Rattle.machine_ops.specs.Acts.{here, Now, Told, eventOf}
 use Rattle.machine_run.specs.declared.Answer.{Answer}
 use Rattle.machine_run.specs.declared.Answer.the-variants.{Happens, Spends, Finishes}
+use Rattle.machine_run.specs.declared.Run.{Run}
 
 -- where the bodies, the classes and the first instruction stand in the macro
 pub record Found (code bodies classes : List ℕ) (base : ℕ) : Type 0 where
@@ -80,24 +81,40 @@ Answers (finishes c n) a = a ≡ Finishes c n
 Answers (refuses r) a = ⊥
 Answers (halts why) a = ⊥
 
-pub record Ends (w : Ran) (k : List ℕ) (a : Answer) : Type 0 where
-  pub answer : Answers (w .answer) a
+abbrev pub ran : Answer → ℕ → Run
+ran a c = record { answer = a; readings = c }
+
+pub record Ends (w : Ran) (k : List ℕ) (r : Run) : Type 0 where
+  pub answer : Answers (w .answer) (r .answer)
   pub bytes : k ≡ encode (w .state)
+  pub readings : r .readings ≡ readingsIn (w .trace)
 
-abbrev pub Runs : List ℕ → List ℕ → ℕ → List ℕ → List ℕ → Answer → Type 0
-Runs code readings allowance l k a =
-    (m : Macro) → readMacro code ≡ accepted m → Passed m → (s : Machine) → sound m s ≡ true → l ≡ encode s → Ends (run m readings allowance s) k a
+abbrev pub Runs : List ℕ → List ℕ → ℕ → List ℕ → List ℕ → Run → Type 0
+Runs code readings allowance l k r =
+    (m : Macro) → readMacro code ≡ accepted m → Passed m → (s : Machine) → sound m s ≡ true → l ≡ encode s → Ends (run m readings allowance s) k r
 
--- after i steps of k from the state s₀ the bytes hold a sound state from which the run goes on
-pub record Reached (readings l : List ℕ) (k i : ℕ) (m : Macro) (s₀ : Machine) : Type 0 where
+-- the bytes that a run began with, and how many readings it has taken since
+pub record Since : Type 0 where
+  pub first : List ℕ
+  pub read : ℕ
+
+abbrev pub since : List ℕ → ℕ → Since
+since l c = record { first = l; read = c }
+
+-- after i steps of k from the state s₀, with c readings, the bytes hold a sound state from which the run goes on
+pub record Reached (readings l : List ℕ) (k i c : ℕ) (m : Macro) (s₀ : Machine) : Type 0 where
   pub state : Machine
   pub sounds : sound m state ≡ true
   pub bytes : l ≡ encode state
-  pub same : steps m (bankOf readings) k 0 s₀ ≡ steps m (bankOf readings) (k - i) i state
+  pub before : List Item
+  pub same : steps m (bankOf readings) k 0 s₀ ≡ after before (steps m (bankOf readings) (k - i) i state)
+  pub counted : c ≡ readingsIn before
 
-abbrev pub Reaches : List ℕ → List ℕ → ℕ → List ℕ → List ℕ → ℕ → Type 0
-Reaches code readings k l₀ l i = (m : Macro) → readMacro code ≡ accepted m → Passed m → (s : Machine) → sound m s ≡ true → l₀ ≡ encode s → Reached readings l k i m s
+abbrev pub Reaches : List ℕ → List ℕ → ℕ → Since → List ℕ → ℕ → Type 0
+Reaches code readings k b l i =
+    (m : Macro) → readMacro code ≡ accepted m → Passed m → (s : Machine) → sound m s ≡ true → b .first ≡ encode s → Reached readings l k i (b .read) m s
 
--- the rest of a run of k steps, after i of them, whatever bytes it began with
+-- the rest of a run of k steps, after i of them, whatever it began with; it takes no reading more
 abbrev pub RunsFrom : List ℕ → List ℕ → ℕ → ℕ → List ℕ → List ℕ → Answer → Type 0
-RunsFrom code readings k i l l′ a = (l₀ : List ℕ) → (byteAt l₀ 0 ≡ 2 → ⊥) → Reaches code readings k l₀ l i → Runs code readings k l₀ l′ a
+RunsFrom code readings k i l l′ a =
+    (b : Since) → (byteAt (b .first) 0 ≡ 2 → ⊥) → Reaches code readings k b l i → Runs code readings k (b .first) l′ (ran a (b .read))

@@ -12,3 +12,9 @@ pub enum Answer {
     Spends(u16),
     Finishes(u8, u16),
 }
+
+// A run: its answer, and how many readings it took.
+pub struct Run {
+    pub answer: Answer,
+    pub readings: u16,
+}

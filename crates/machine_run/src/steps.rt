@@ -6,6 +6,7 @@ ghost use Rattle.words.specs.Numbers.{byteAt, halfAt};
 ghost use Rattle.machine_run.specs.Held.{Found, Held, Runs, RunsFrom};
 ghost use Rattle.bytecode.specs.State.{activationLength, stateLength};
 use crate::Answer;
+use crate::Run;
 use crate::aside::Begun;
 use crate::aside::Landing;
 use crate::aside::begin;
@@ -66,7 +67,7 @@ fn run_running(
     state: &mut [u8],
     readings: &[u8],
     allowance: u16,
-) -> Answer
+) -> Run
     requires { ⌜ (Found (now code) (now bodies) (now classes) base) × (Held (now code) (now state)) × (length (now readings) ≡ 64) × (byteAt (now state) 0 ≡ 0) ⌝ }
     ensures { λ r. ⌜ Runs (now (code .entry)) (now (readings .entry)) allowance (now (state .entry)) (now (state .exit)) r ⌝ }
 {
@@ -74,6 +75,7 @@ fn run_running(
     let mut frame = t.place;
     let mut address = t.address;
     let mut left = allowance;
+    let mut read: u16 = 0;
     while 0 < left {
         let depth = machine_frames::wide(state[frame + OPERAND_COUNT_AT]);
         let p = base + CODE_BYTES * (address as usize);
@@ -100,7 +102,11 @@ fn run_running(
                         left = allowance - n;
                     }
                     Landing::Breaks(n) => {
-                        return release(code, state, readings, n, allowance);
+                        let answer = release(code, state, readings, n, allowance);
+                        return Run {
+                            answer,
+                            readings: read,
+                        };
                     }
                 }
             }
@@ -129,13 +135,17 @@ fn run_running(
                             }
                             OP_CALL => {
                                 if state[PHASE_AT] != RUNNING {
-                                    return release(
+                                    let answer = release(
                                         code,
                                         state,
                                         readings,
                                         allowance - left,
                                         allowance,
                                     );
+                                    return Run {
+                                        answer,
+                                        readings: read,
+                                    };
                                 }
                                 let t = top_of(state);
                                 frame = t.place;
@@ -147,29 +157,50 @@ fn run_running(
                             }
                             _ => {
                                 if state[PHASE_AT] != RUNNING {
-                                    return release(
+                                    let answer = release(
                                         code,
                                         state,
                                         readings,
                                         allowance - left,
                                         allowance,
                                     );
+                                    return Run {
+                                        answer,
+                                        readings: read,
+                                    };
                                 }
                                 address += 1;
                             }
                         }
                     }
+                    // A reading goes on running; place and address are read anew, so that no more need be known of the op.
+                    Out::Reads => {
+                        left -= 1;
+                        read += 1;
+                        let t = top_of(state);
+                        frame = t.place;
+                        address = t.address;
+                    }
                     Out::Gives(e) => {
-                        return Answer::Happens(e, allowance - left + 1);
+                        return Run {
+                            answer: Answer::Happens(e, allowance - left + 1),
+                            readings: read,
+                        };
                     }
                     Out::Ends(c) => {
-                        return Answer::Finishes(c, allowance - left + 1);
+                        return Run {
+                            answer: Answer::Finishes(c, allowance - left + 1),
+                            readings: read,
+                        };
                     }
                 }
             }
         }
     }
-    Answer::Spends(allowance)
+    Run {
+        answer: Answer::Spends(allowance),
+        readings: read,
+    }
 }
 
 pub fn run_sound(
@@ -180,7 +211,7 @@ pub fn run_sound(
     state: &mut [u8],
     readings: &[u8],
     allowance: u16,
-) -> Answer
+) -> Run
     requires { ⌜ (Found (now code) (now bodies) (now classes) base) × (Held (now code) (now state)) × (length (now readings) ≡ 64) ⌝ }
     ensures { λ r. ⌜ Runs (now (code .entry)) (now (readings .entry)) allowance (now (state .entry)) (now (state .exit)) r ⌝ }
 {
@@ -189,7 +220,14 @@ pub fn run_sound(
         return run_running(code, bodies, classes, base, state, readings, allowance);
     }
     if phase == RELEASING {
-        return release(code, state, readings, 0, allowance);
+        let answer = release(code, state, readings, 0, allowance);
+        return Run {
+            answer,
+            readings: 0,
+        };
     }
-    Answer::Finishes(state[CONDITION_AT], 0)
+    Run {
+        answer: Answer::Finishes(state[CONDITION_AT], 0),
+        readings: 0,
+    }
 }

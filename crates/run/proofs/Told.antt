@@ -9,6 +9,7 @@ use lib.Dec.{eqb}
 use borrow.Author.Tests.{ne-eqb, eqb-true, eqb-false}
 use Rattle.words.specs.Laws.{Bytes}
 use Rattle.values.specs.Ends.{refusal, refused}
+use Rattle.values.specs.Trace.{readingsIn}
 use Rattle.bytecode.specs.Rules.{judgeMacro}
 use Rattle.bytecode.specs.Runs.{refuses, Ran, run}
 use Rattle.bytecode.specs.Lent.{written, runOn}
@@ -35,11 +36,11 @@ module _ (c l bodies classes : List ℕ) (x : Inspected) (I : Inspects c l bodie
 
 module _ (c l readings : List ℕ) (allowance : ℕ) where
   -- ── the refusals ──
-  pub run-refused : (n p : ℕ) → judgeMacro c ≡ refused (refusal n p) → runOn c l readings allowance ≡ record { answer = refuses (refusal n p); bytes = l }
+  pub run-refused : (n p : ℕ) → judgeMacro c ≡ refused (refusal n p) → runOn c l readings allowance ≡ record { answer = refuses (refusal n p); bytes = l; readings = 0 }
   unfolding runOn
   run-refused n p e = rw e
 
-  pub run-unsound : NotHeld c l → runOn c l readings allowance ≡ record { answer = refuses (refusal 10 0); bytes = l }
+  pub run-unsound : NotHeld c l → runOn c l readings allowance ≡ record { answer = refuses (refusal 10 0); bytes = l; readings = 0 }
   unfolding runOn
   run-unsound H = rw (H .passes, H .unsound)
 
@@ -47,21 +48,21 @@ module _ (c l readings : List ℕ) (allowance : ℕ) where
     abbrev ran : Ran
     ran = run (H .macro) readings allowance (H .state)
 
-    pub run-held : runOn c l readings allowance ≡ written (ran .answer) (ran .state) l
+    pub run-held : runOn c l readings allowance ≡ record { answer = ran .answer; bytes = written (ran .answer) (ran .state) l; readings = readingsIn (ran .trace) }
     unfolding runOn
     run-held = rw (H .passes, H .sound)
 
-    pub run-unread : (length readings ≡ 64 → ⊥) → runOn c l readings allowance ≡ record { answer = refuses (refusal 11 0); bytes = l }
+    pub run-unread : (length readings ≡ 64 → ⊥) → runOn c l readings allowance ≡ record { answer = refuses (refusal 11 0); bytes = l; readings = 0 }
     unfolding run
     run-unread n = run-held ∙ rw (ne-eqb (length readings) 64 n)
 
   -- ── 10 before 11: n is the number of the first that refuses, 0 where none does ──
   module _ (bodies classes : List ℕ) (base : ℕ) (s : Bool) (S : Seen c l bodies classes base s) (n : ℕ) (first : n ≡ cond s (cond (eqb (length readings) 64) 0 11) 10) where
-    pub refused-first : (n ≡ 0 → ⊥) → runOn c l readings allowance ≡ record { answer = refuses (refusal n 0); bytes = l }
+    pub refused-first : (n ≡ 0 → ⊥) → runOn c l readings allowance ≡ record { answer = refuses (refusal n 0); bytes = l; readings = 0 }
     refused-first some = go s S (eqb (length readings) 64) refl first
       where
         go : (s : Bool) → Seen c l bodies classes base s → (t : Bool) → eqb (length readings) 64 ≡ t → n ≡ cond s (cond t 0 11) 10
-            → runOn c l readings allowance ≡ record { answer = refuses (refusal n 0); bytes = l }
+            → runOn c l readings allowance ≡ record { answer = refuses (refusal n 0); bytes = l; readings = 0 }
         go true S true e h = absurd (some h)
         go true S false e h = rw h (run-unread (S .0) (eqb-false _ _ e))
         go false S t e h = rw h (run-unsound S)

@@ -18,10 +18,10 @@ use Rattle.bytecode.specs.Machine.{Machine, freshMachine}
 use Rattle.bytecode.specs.Runs.{Answer, happens, spends, finishes, refuses, halts, run}
 use Rattle.bytecode.specs.Sound.{sound}
 use Rattle.bytecode.specs.State.{stateLength, encode, decode}
-use Rattle.bytecode.specs.Lent.{onlySound, soundState, startRefused, startMacro, startOn, written, runState, runMacro, runOn}
+use Rattle.bytecode.specs.Lent.{onlySound, soundState, startRefused, startMacro, startOn, runState, runMacro, runOn}
 use Rattle.bytecode_laws.specs.Promises.{passed}
 use Rattle.logic.specs.OptionLaws.{chosen, kept, same-some}
-use Rattle.bytecode_safety.specs.Terms.{InRange, Answers}
+use Rattle.bytecode_safety.specs.Terms.{InRange, stepsOf, Answers}
 use Rattle.bytecode_safety.specs.Safety.{run-safe}
 use Rattle.values.specs.Refusals.{inCode}
 use Rattle.load_check.specs.Loaded.{loadedOf, fields}
@@ -72,7 +72,7 @@ module _ (c : List ℕ) (B : Bytes c) where
   unfolding runOn
   run-ranged l readings allowance R = go (judgeMacro c) refl
     where
-      told : (s t : Machine) (a : Answer) → Answers (record { readings = readings; allowance = allowance }) s a t → Ranged allowance (written a t l .answer)
+      told : (s t : Machine) (a : Answer) → Answers (record { readings = readings; allowance = allowance }) s a t → Ranged allowance a
       told s t (happens v n) A = (A .1, A .2)
       told s t (spends n) A = omega (arith, A .1)
       told s t (finishes d n) A = (A .1, A .3)
@@ -92,3 +92,16 @@ module _ (c : List ℕ) (B : Bytes c) where
 
   pub run-small : (l readings : List ℕ) (allowance : ℕ) → Bytes readings → (r : Refusal) → runOn c l readings allowance .answer ≡ refuses r → Small r
   run-small l readings allowance R r e = subst (λ a. Ranged allowance a) e (run-ranged l readings allowance R)
+
+  -- no run takes more readings than steps
+  pub run-read : (l readings : List ℕ) (allowance : ℕ) → Bytes readings → let r = runOn c l readings allowance in r .readings ≤ stepsOf (r .answer)
+  unfolding runOn
+  run-read l readings allowance R = go (judgeMacro c) refl
+    where
+      state : (m : Macro) → judgeMacro c ≡ accepted m → (o : Option Machine) → soundState m l ≡ o → let r = runState o m readings allowance l in r .readings ≤ stepsOf (r .answer)
+      state m d none q = omega arith
+      state m d (some s) q = run-safe m (passed c m B d) (record { readings = readings; allowance = allowance }) R s (state-sound m l s q) .traced .1
+
+      go : (j : Judged Macro) → judgeMacro c ≡ j → let r = runMacro j readings allowance l in r .readings ≤ stepsOf (r .answer)
+      go (refused q) d = omega arith
+      go (accepted m) d = state m d (soundState m l) refl

@@ -17,7 +17,7 @@ use Rattle.bytecode.specs.Macro.{Macro}
 use Rattle.bytecode.specs.Rules.{judgeMacro}
 use Rattle.bytecode.specs.Machine.{Machine, running, unwinding, ended, Stepped, moved, stuck, step}
 use Rattle.bytecode.specs.Runs.{Answer, happens, spends, finishes, refuses, halts, Ran, with, bankOf, ends, afterStep, steps, run}
-use Rattle.bytecode.specs.Lent.{soundState, written, runState, runMacro, runOn}
+use Rattle.bytecode.specs.Lent.{soundState, runState, runMacro, runOn}
 use Rattle.bytecode.specs.Answers.{Numbers, numbers}
 use Rattle.bytecode.specs.Play.{Played, afterRun, playFrom, unlessRefused, playOn}
 use Rattle.packing.specs.Packing.{Fits}
@@ -69,20 +69,13 @@ run-later m readings allowance s = by (eqb (length readings) 64)
     by true = on s
     by false = tt
 
-written-later : (a : Answer) (t : Machine) (l : List ℕ) → Later 0 a → Later 0 (written a t l .answer)
-written-later (happens e n) t l h = h
-written-later (spends n) t l h = tt
-written-later (finishes c n) t l h = tt
-written-later (refuses r) t l h = tt
-written-later (halts why) t l h = tt
-
 pub on-bytes-later : (c l readings : List ℕ) (allowance : ℕ) → Later 0 (runOn c l readings allowance .answer)
 unfolding runOn
 on-bytes-later c l readings allowance = judged (judgeMacro c)
   where
     from : (m : Macro) (o : Option Machine) → Later 0 (runState o m readings allowance l .answer)
     from m none = tt
-    from m (some s) = let r = run m readings allowance s in written-later (r .answer) (r .state) l (run-later m readings allowance s)
+    from m (some s) = run-later m readings allowance s
 
     judged : (j : Judged Macro) → Later 0 (runMacro j readings allowance l .answer)
     judged (refused r) = tt

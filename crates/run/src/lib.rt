@@ -23,10 +23,22 @@ pub enum Ran {
     Refused(Refusal),
 }
 
+// A run: its answer, and how many readings it took.
+pub struct RanWith {
+    pub answer: Ran,
+    pub readings: u16,
+}
+
 // With all steps taken and the events written: the allowance used, an end by 0 or a condition, no room for another event; or the play is refused.
 pub enum Played {
     Spends(u16, u16),
     Finishes(u8, u16, u16),
     Fills(u16, u16),
     Refused(Refusal),
+}
+
+// A play: its answer, and how many readings its runs took.
+pub struct PlayedWith {
+    pub answer: Played,
+    pub readings: u16,
 }

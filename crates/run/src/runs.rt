@@ -1,6 +1,7 @@
 // The run: the first of a play. What refuses it: 8, 9, 10, 11 in this order.
 use crate::Played;
 use crate::Ran;
+use crate::RanWith;
 use crate::plays::Outcome;
 use crate::plays::go;
 use formats::limits::*;
@@ -47,12 +48,21 @@ fn ran(p: Played) -> Ran
     }
 }
 
-pub fn run(code: &[u8], state: &mut [u8], readings: &[u8], allowance: u16) -> Ran
-    ensures { λ r. ⌜ runOn (now (code .entry)) (now (state .entry)) (now (readings .entry)) allowance ≡ record { answer = answerOf r; bytes = now (state .exit) } ⌝ }
+pub fn run(code: &[u8], state: &mut [u8], readings: &[u8], allowance: u16) -> RanWith
+    ensures { λ r. ⌜ runOn (now (code .entry)) (now (state .entry)) (now (readings .entry)) allowance
+        ≡ record { answer = answerOf (r .answer); bytes = now (state .exit); readings = r .readings } ⌝ }
 {
     let mut room = [0u8; ANSWER_BYTES]; // an event is let in only where there is room for it
-    match go(code, state, readings, allowance, true, &mut room) {
-        Outcome::Happens(e, n) => Ran::Happens(e, n),
-        Outcome::Plays(p) => ran(p),
+    let g = go(code, state, readings, allowance, true, &mut room);
+    let outcome = g.outcome;
+    match outcome {
+        Outcome::Happens(e, n) => RanWith {
+            answer: Ran::Happens(e, n),
+            readings: g.readings,
+        },
+        Outcome::Plays(p) => RanWith {
+            answer: ran(p),
+            readings: g.readings,
+        },
     }
 }

@@ -383,26 +383,34 @@ fn do_op(
 /// "A run takes macro, state, 64 reading bytes and an allowance (0 to 65,535)." The refusals
 /// 8, 9 and 10 are tested elsewhere; 11 here.
 pub fn run(m: &Macro, state: &mut State, readings: &[u8], allowance: u16) -> Result<Answer, Stuck> {
+    Ok(run_counted(m, state, readings, allowance)?.0)
+}
+
+/// A run's answer and, beside it, how many readings its steps took (paper 02, ticket 4).
+pub fn run_counted(m: &Macro, state: &mut State, readings: &[u8], allowance: u16) -> Result<(Answer, u16), Stuck> {
     if readings.len() != 64 {
-        return Ok(Answer::Refusal(Refusal { number: 11, place: 0 }));
+        return Ok((Answer::Refusal(Refusal { number: 11, place: 0 }), 0));
     }
     // "An ended state gives its end again with 0 steps."
     if let State::Ended { code } = state {
-        return Ok(Answer::End { steps: 0, code: *code });
+        return Ok((Answer::End { steps: 0, code: *code }, 0));
     }
     // "A run returns after the step that gives an event or ends, counting it, else with
     // "allowance used" and steps equal to the allowance."
     let mut steps = 0;
+    let mut taken = 0;
     while steps < allowance {
         // "op 16 reads fader n in the n-th of its run's 64 bytes"
         let item = step(m, state, &mut |fader| readings[fader as usize - 1])?;
         steps += 1;
-        if let Some(Item::Event(event)) = item {
-            return Ok(Answer::Event { steps, event });
+        match item {
+            Some(Item::Event(event)) => return Ok((Answer::Event { steps, event }, taken)),
+            Some(Item::Reading { .. }) => taken += 1,
+            None => {}
         }
         if let State::Ended { code } = state {
-            return Ok(Answer::End { steps, code: *code });
+            return Ok((Answer::End { steps, code: *code }, taken));
         }
     }
-    Ok(Answer::AllowanceUsed { steps })
+    Ok((Answer::AllowanceUsed { steps }, taken))
 }

@@ -3,6 +3,7 @@
 pub mod damaged_entries;
 pub mod damaged_structure;
 pub mod edge_cases;
+pub mod end_sheets;
 pub mod entries;
 pub mod judged_tables;
 pub mod macros;

@@ -6,7 +6,7 @@ use Rattle.listing.proofs.text_room.Statement.{statement}
 use Rattle.listing.proofs.text_room.Tie as tie
 
 returns : tie.Need-returns
-returns c = sym (length-replicate {0} {A = ℕ} 786443 0)
+returns c = sym (length-replicate {0} {A = ℕ} 786496 0)
 
 pub text-room-spec : {M : Type 1} → statement M
 text-room-spec = tie.close (tie.spec returns)

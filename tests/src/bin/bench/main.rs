@@ -345,6 +345,16 @@ mod runs {
         }
     }
 
+    /// Reads a fader into a cell, again and again.
+    fn faders() -> Macro {
+        Macro {
+            classes: Vec::new(),
+            bodies: vec![body(0, 0, 0, &[1])],
+            code: code("1 0 1, 16 0 0, 6 0 0, 8 0 0"),
+            shapes: vec![shape(0, 0, &[])],
+        }
+    }
+
     /// As much as a state can hold: 255 records of eight fields, then 31 calls with 31 operands below each, of bodies with 32 cells.
     fn full() -> Macro {
         let making = format!("{} 5 0 1, 12 0 0, 6 0 1, 5 0 0, 1 0 1, 7 1 0, 6 0 0", "1 0 7,".repeat(7));
@@ -380,7 +390,13 @@ mod runs {
         println!("machine: ns per step, one run, same bytes");
         println!("{:>13} {:>10} {:>10} {:>7} {:>10} {:>7} {:>10} {:>7}", "loop", "cue_run", "plain", "ratio", "beside", "ratio", "in locals", "ratio");
         // Of the records 255 are made.
-        let loops = [("counting", count(), 65_535), ("calls", call(), 65_535), ("fields", fields(), 65_535), ("records", endless_records(3), 7 * 255)];
+        let loops = [
+            ("counting", count(), 65_535),
+            ("calls", call(), 65_535),
+            ("fields", fields(), 65_535),
+            ("faders", faders(), 65_535),
+            ("records", endless_records(3), 7 * 255),
+        ];
         for (name, m, steps) in loops {
             let code = write_macro(&m);
             let state = started(&code);

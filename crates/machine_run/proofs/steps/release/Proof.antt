@@ -11,7 +11,7 @@ use Rattle.machine_run.proofs.steps.release.Tie as tie
 returns : tie.Need-returns
 returns c =
     let at-start = c .before .before .before .before in
-    λ l₀ alive R. spent (now (at-start .args .code)) (now (at-start .args .readings)) l₀ _ _ _ (at-start .pre .2) alive (omega (arith, at-start .pre .3)) R
+    λ b alive R. spent (now (at-start .args .code)) (now (at-start .args .readings)) _ b _ _ (at-start .pre .2) alive (omega (arith, at-start .pre .3)) R
 
 half-at-requires : tie.Need-half-at-requires
 half-at-requires c κs =
@@ -34,10 +34,10 @@ returns-2 c =
     let at-half-at = at-if2 .before in
     let at-shared-slice-known2 = at-half-at .before .before .before in
     let at-start = at-shared-slice-known2 .before .before .before in
-    λ l₀ alive R. finished (now (at-start .args .code)) (now (at-start .args .readings)) _ _ _
+    λ b alive R. finished (now (at-start .args .code)) (now (at-start .args .readings)) _ _ _
     (λ k. omega (arith, at-shared-slice-known2 .shared-slice-known2 .given k))
     (releasing-ends (now (at-start .args .code)) _ (now (at-start .args .readings)) _ _ _ 0 (at-start .pre .1) (at-half-at .half-at .ensures)
-    (at-if2 .if2 .taken) (c .before .before .put-byte .ensures) refl) _ _ l₀ (omega arith) R (at-start .pre .2) alive _ refl
+    (at-if2 .if2 .taken) (c .before .before .put-byte .ensures) refl) _ _ b (omega arith) R (at-start .pre .2) alive _ refl
 
 slice-read-g : tie.Need-slice-read-g
 slice-read-g c =
@@ -55,7 +55,7 @@ returns-3 c =
     let at-half-at = at-if2 .before in
     let at-shared-slice-known2 = at-half-at .before .before .before in
     let at-start = at-shared-slice-known2 .before .before .before in
-    λ l₀ alive R. gave (now (at-start .args .code))
+    λ b alive R. gave (now (at-start .args .code))
     (now (at-start .args .readings)) _ _ _
     (λ k. omega (arith, at-shared-slice-known2 .shared-slice-known2 .given k))
     (releasing-gives (now (at-start .args .code)) _
@@ -68,7 +68,7 @@ returns-3 c =
       few-open _ _ (at-start .pre .0)
           (at-start .pre .1),
     )) refl
-    (c .before .before .release .ensures)) _ _ l₀ (omega arith) R (at-start .pre .2)
+    (c .before .before .release .ensures)) _ _ b (omega arith) R (at-start .pre .2)
     alive _ refl
 
 pub release-spec : {M : Type 1} → statement M

@@ -8,7 +8,7 @@ use lib.ListN.{length}
 use denote.Ref.{now}
 use Rattle.words.specs.Numbers.{byteAt}
 use Rattle.load_check.specs.Lookups.{code-of}
-use Rattle.machine_run.specs.Held.{Held, Reaches}
+use Rattle.machine_run.specs.Held.{Held, since, Reaches}
 use Rattle.machine_run.proofs.OpAsks.{room}
 use Rattle.machine_run.proofs.ByteSteps.{held-long, top-of}
 use Rattle.machine_run.proofs.RunLoop.{begin, spent}
@@ -20,16 +20,16 @@ use Rattle.machine_run.specs.Aside.{Begin, Begins, Lands, Grows}
 use Rattle.machine_frames.specs.Bytes.{wentTo, pushed}
 use Rattle.machine_run.proofs.AsideSteps.{room-whole}
 use Rattle.machine_run.proofs.AsideBegins.{Set, coded, begin-asks, begun, one-step, grows, landed, broken}
-use Rattle.machine_run.proofs.LoopInvariant.{recount, again, again-below, again-to, again-unless, again-next, happened, done}
+use Rattle.machine_run.proofs.LoopInvariant.{recount, again, again-below, again-to, again-unless, again-next, again-read, runs-on, happened, done}
 use Rattle.machine_run.proofs.steps.run_running.Statement.{statement}
 use Rattle.machine_run.proofs.steps.run_running.Tie as tie
 
 abbrev Inv-loop : tie.InvT-loop
-Inv-loop code bodies classes base state₀ readings allowance frame₀ address₀ left₀ state frame address left =
-    Loop code readings allowance state₀ state frame address (allowance - left) × (left ≤ allowance)
+Inv-loop code bodies classes base state₀ readings allowance frame₀ address₀ left₀ read₀ state frame address left read =
+    Loop code readings allowance (since state₀ read) state frame address (allowance - left) × (left ≤ allowance)
 
 abbrev μ-loop : tie.MeasureT-loop
-μ-loop code bodies classes base state₀ readings allowance frame₀ address₀ left₀ state frame address left = left
+μ-loop code bodies classes base state₀ readings allowance frame₀ address₀ left₀ read₀ state frame address left read = left
 
 -- ── the points that most answers go back to: the loop's head, the op read, the op done ──
 abbrev start-of : tie.At-loop Inv-loop μ-loop → tie.Start Inv-loop μ-loop
@@ -51,7 +51,7 @@ ready : (p : tie.After-word-at Inv-loop μ-loop) →
     let l = loop-of p .loop in
     let s = start-of (loop-of p) .args in
     let place = s .base + 8 * l .address in
-    Ready (now (s .code)) (now (s .readings)) (s .allowance) (now (s .state)) (l .state) (l .frame) (l .address) (s .allowance - l .left)
+    Ready (now (s .code)) (now (s .readings)) (s .allowance) (since (now (s .state)) (l .read)) (l .state) (l .frame) (l .address) (s .allowance - l .left)
     (p .before .before .before .wide .result) (byteAt (now (s .code)) (place + 2)) (byteAt (now (s .code)) (place + 3)) (p .word-at .result)
 ready p =
     let l = loop-of p in
@@ -80,7 +80,7 @@ ready-on : (p : tie.After-enum-told Inv-loop μ-loop) →
     let l = loop-of q .loop in
     let s = start-of (loop-of q) .args in
     let place = s .base + 8 * l .address in
-    Ready (now (s .code)) (now (s .readings)) (s .allowance) (now (s .state)) (p .before .before .before .before .begin .last .0) (l .frame) (l .address) (s .allowance - l .left)
+    Ready (now (s .code)) (now (s .readings)) (s .allowance) (since (now (s .state)) (l .read)) (p .before .before .before .before .begin .last .0) (l .frame) (l .address) (s .allowance - l .left)
     (q .before .before .before .wide .result) (byteAt (now (s .code)) (place + 2)) (byteAt (now (s .code)) (place + 3)) (q .word-at .result)
 ready-on p =
     let q = read-of p in
@@ -88,7 +88,8 @@ ready-on p =
     let s = start-of (loop-of q) .args in
     let place = s .base + 8 * l .address in
     subst
-    (λ (z : List ℕ). Ready (now (s .code)) (now (s .readings)) (s .allowance) (now (s .state)) z (l .frame) (l .address) (s .allowance - l .left) (q .before .before .before .wide .result)
+    (λ (z : List ℕ). Ready (now (s .code)) (now (s .readings)) (s .allowance) (since (now (s .state)) (l .read)) z (l .frame) (l .address) (s .allowance - l .left)
+    (q .before .before .before .wide .result)
     (byteAt (now (s .code)) (place + 2)) (byteAt (now (s .code)) (place + 3)) (q .word-at .result))
     (sym (other p .0)) (ready q)
 
@@ -102,7 +103,7 @@ went : (p : tie.After-enum-told2 Inv-loop μ-loop) → let d = p .before .before
 went p = acted (p .before .before .before .before)
 
 kept-held : (p : tie.After-enum-told2 Inv-loop μ-loop) → Held (now (start-of (loop-told p) .args .code)) (p .before .before .before .before .dispatch .last .1 .1 .1 .0)
-kept-held p = still (went p) (p .enum-told2 .given .1)
+kept-held p = still (went p)
 
 -- a running state has not ended
 alive : (p : tie.At-loop Inv-loop μ-loop) → byteAt (now (start-of p .args .state)) 0 ≡ 2 → ⊥
@@ -175,6 +176,7 @@ loop-holds c =
       recount none
           (record {
             upto = omega arith;
+            few = omega arith;
             held = at-start .pre .1;
             long = refl;
             reached = begin (now (at-start .args .code)) (now (at-start .args .readings)) _ _;
@@ -255,7 +257,8 @@ loop-again c =
     let p = c .before .before .before .before .before in
     let w = p .before .before .before in (
       recount (omega (arith, sub-left c))
-          (landed (ready (read-set w)) _ (set w) (leads-to p _ (c .before .i .given .1) .0) (p .run-aside .kept .1 .1 .0 ∙ w .before .before .before .before .begin .kept .0)),
+          (landed (ready (read-set w)) _ (set w) (leads-to p _ (c .before .i .given .1) .0) (p .run-aside .kept .1 .1 .0 ∙ w .before .before .before .before .begin .kept .0)
+          (omega (arith, leads-to p _ (c .before .i .given .1) .1 .0))),
       omega arith,
     )
 
@@ -291,17 +294,17 @@ dispatch-requires c κs =
 sub-left-2 : tie.Need-sub-left-2 Inv-loop μ-loop
 sub-left-2 c = omega (arith, went c .more)
 
-sub-t73 : tie.Need-sub-t73 Inv-loop μ-loop
-sub-t73 c = loop-of (read-of (c .before .before .before .before .before .before .before)) .loop .inv .1
+sub-t80 : tie.Need-sub-t80 Inv-loop μ-loop
+sub-t80 c = loop-of (read-of (c .before .before .before .before .before .before .before)) .loop .inv .1
 
-add-t74 : tie.Need-add-t74 Inv-loop μ-loop
-add-t74 c = let p = c .before .before .before .before .before in omega (arith, acted p .more, start-of (loop-of (read-of (p .before .before))) .fits .allowance .fits)
+add-t81 : tie.Need-add-t81 Inv-loop μ-loop
+add-t81 c = let p = c .before .before .before .before .before in omega (arith, acted p .more, start-of (loop-of (read-of (p .before .before))) .fits .allowance .fits)
 
-sub-t75 : tie.Need-sub-t75 Inv-loop μ-loop
-sub-t75 c = loop-of (read-of (c .before .before .before .before .before .before .before)) .loop .inv .1
+sub-t83 : tie.Need-sub-t83 Inv-loop μ-loop
+sub-t83 c = loop-of (read-of (c .before .before .before .before .before .before .before)) .loop .inv .1
 
-add-t76 : tie.Need-add-t76 Inv-loop μ-loop
-add-t76 c = let p = c .before .before .before .before .before in omega (arith, acted p .more, start-of (loop-of (read-of (p .before .before))) .fits .allowance .fits)
+add-t84 : tie.Need-add-t84 Inv-loop μ-loop
+add-t84 c = let p = c .before .before .before .before .before in omega (arith, acted p .more, start-of (loop-of (read-of (p .before .before))) .fits .allowance .fits)
 
 -- one step less is left: one more is taken
 fewer : (p : tie.After-enum-told2 Inv-loop μ-loop) →
@@ -313,10 +316,11 @@ fewer p = let few = loop-told p .loop .inv .1 in (omega (arith, few, went p .mor
 reached : (p : tie.After-enum-told2 Inv-loop μ-loop) →
     let l = loop-told p in
     let s = start-of l .args in
-    Reaches (now (s .code)) (now (s .readings)) (s .allowance) (now (s .state)) (p .before .before .before .before .dispatch .last .1 .1 .1 .0) (s .allowance - (l .loop .left - 1))
+    Reaches (now (s .code)) (now (s .readings)) (s .allowance) (since (now (s .state)) (l .loop .read)) (p .before .before .before .before .dispatch .last .1 .1 .1 .0)
+    (s .allowance - (l .loop .left - 1))
 reached p =
     let s = start-of (loop-told p) .args in
-    subst (λ (z : ℕ). Reaches (now (s .code)) (now (s .readings)) (s .allowance) (now (s .state)) (p .before .before .before .before .dispatch .last .1 .1 .1 .0) z)
+    subst (λ (z : ℕ). Reaches (now (s .code)) (now (s .readings)) (s .allowance) (since (now (s .state)) (loop-told p .loop .read)) (p .before .before .before .before .dispatch .last .1 .1 .1 .0) z)
     (fewer p .0) (further (went p) (p .enum-told2 .given .1))
 
 loop-less-2 : tie.Need-loop-less-2 Inv-loop μ-loop
@@ -384,7 +388,7 @@ returns-2 c = let p = c .before .before .before .before .before .before .before 
 top-of-requires-2 : tie.Need-top-of-requires-2 Inv-loop μ-loop
 top-of-requires-2 c κs =
     let p = c .before .before .before .before in
-    let T = there (went p) (p .enum-told2 .given .1) (c .before .if1 .left) in
+    let T = there (went p) (c .before .if1 .left) in
     (held-long (kept-held p), T .low, T .high)
 
 loop-again-4 : tie.Need-loop-again-4 Inv-loop μ-loop
@@ -439,6 +443,36 @@ loop-again-6 c =
     let others = c .before .before .match4 .rest in
     (recount (fewer p .0) (again-next (went p) (p .enum-told2 .given .1) (others .0 .0 .0 .1) (others .0 .0 .1) (others .0 .1) (others .1) (c .if2 .left)), fewer p .1)
 
+-- ── a reading ──
+took : (p : tie.After-enum-told3 Inv-loop μ-loop) → let d = p .before .before .before .before in Acted (ready-on (d .before .before)) (d .dispatch .last .1 .1 .1 .0) (d .dispatch .result)
+took p = acted (p .before .before .before .before)
+
+abbrev loop-took : tie.After-enum-told3 Inv-loop μ-loop → tie.At-loop Inv-loop μ-loop
+loop-took p = loop-of (read-of (p .before .before .before .before .before .before))
+
+sub-left-3 : tie.Need-sub-left-3 Inv-loop μ-loop
+sub-left-3 c = omega (arith, took c .more)
+
+add-read : tie.Need-add-read Inv-loop μ-loop
+add-read c = omega (arith, took c .more, loop-took c .loop .inv .0 .few, start-of (loop-took c) .fits .allowance .fits)
+
+top-of-requires-3 : tie.Need-top-of-requires-3 Inv-loop μ-loop
+top-of-requires-3 c κs =
+    let p = c .before in
+    let T = there (took p) (runs-on (took p) (p .enum-told3 .given .1)) in
+    (held-long (still (took p)), T .low, T .high)
+
+loop-less-7 : tie.Need-loop-less-7 Inv-loop μ-loop
+loop-less-7 c = omega (arith, took (c .before .before) .more)
+
+loop-again-7 : tie.Need-loop-again-7 Inv-loop μ-loop
+loop-again-7 c =
+    let p = c .before .before in
+    let l = loop-took p in (
+      recount (omega (arith, l .loop .inv .1, took p .more)) (again-read (took p) (p .enum-told3 .given .1) _ _ (c .top-of3 .ensures .0) (c .top-of3 .ensures .1)),
+      omega (arith, l .loop .inv .1),
+    )
+
 -- ── an event, an end, the allowance used ──
 same-length-4 : tie.Need-same-length-4 Inv-loop μ-loop
 same-length-4 c = still-long (acted (c .before .before .before .before .before))
@@ -466,7 +500,7 @@ returns-6 c =
     let l = c .before in
     let s = start-of l in
     let all = recount {j = s .args .allowance} (omega arith) (l .loop .inv .0) in
-    spent (now (s .args .code)) (now (s .args .readings)) _ _ _ _ (s .pre .2) (alive l) refl (all .reached)
+    spent (now (s .args .code)) (now (s .args .readings)) _ (since (now (s .args .state)) (l .loop .read)) _ _ (s .pre .2) (alive l) refl (all .reached)
 
 pub run-running-spec : {M : Type 1} → statement M
 run-running-spec =
@@ -536,13 +570,19 @@ run-running-spec =
     loop-less-6
     loop-again-6
     (λ c. search needs)
-    sub-t73
-    add-t74
+    sub-left-3
+    add-read
+    top-of-requires-3
+    loop-less-7
+    loop-again-7
+    (λ c. search needs)
+    sub-t80
+    add-t81
     same-length-4
     returns-4
     (λ c. search needs)
-    sub-t75
-    add-t76
+    sub-t83
+    add-t84
     same-length-5
     returns-5
     same-length-6

@@ -2,6 +2,7 @@
 use borrow.Author.Needs.{needs}
 use native.Mathlib.Omega.{arith}
 use denote.Ref.{now}
+use Rattle.machine_run.specs.Held.{since}
 use Rattle.machine_run.proofs.ByteSteps.{held-long}
 use Rattle.machine_run.proofs.RunLoop.{begin, ended-runs}
 use Rattle.machine_run.proofs.steps.run_sound.Statement.{statement}
@@ -16,10 +17,10 @@ returns-2 : tie.Need-returns-2
 returns-2 c =
     let at-if2 = c .before .before .before .before in
     let at-start = at-if2 .before .before .before .before .before .before .before .before in
-    c .before .before .release .ensures _ (λ q. omega (arith, at-if2 .if2 .taken)) (begin (now (at-start .args .code)) (now (at-start .args .readings)) _ _)
+    c .before .before .release .ensures (since _ 0) (λ q. omega (arith, at-if2 .if2 .taken)) (begin (now (at-start .args .code)) (now (at-start .args .readings)) _ _)
 
-slice-read-t10 : tie.Need-slice-read-t10
-slice-read-t10 c =
+slice-read-t11 : tie.Need-slice-read-t11
+slice-read-t11 c =
     let at-start = c .before .before .before .before .before .before .before .before .before in
     omega (arith, held-long (at-start .pre .1))
 
@@ -39,5 +40,5 @@ run-sound-spec =
     (λ c κs. search needs)
     (λ c. search needs)
     returns-2
-    slice-read-t10
+    slice-read-t11
     returns-3)

@@ -38,9 +38,9 @@ play-passed-requires-2 c κs =
 
 returns : tie.Need-returns
 returns c =
-    let at-inspect = c .before .before .before .before .before in
-    let told = law.told-refused _ _ _ _ (at-inspect .inspect .result) (at-inspect .inspect .ensures) _ _ (c .before .number .given .1) in
-    (λ t h. law.run-refused _ _ _ _ _ _ told, λ f. play.play-refused _ _ _ _ _ _ _ (law.run-refused _ _ _ _ _ _ told))
+    let at-inspect = c .before .before .before .before .before .before in
+    let told = law.told-refused _ _ _ _ (at-inspect .inspect .result) (at-inspect .inspect .ensures) _ _ (c .before .before .number .given .1) in
+    rw (c .unread .ensures) (λ t h. law.run-refused _ _ _ _ _ _ told, λ f. play.play-refused _ _ _ _ _ _ _ (law.run-refused _ _ _ _ _ _ told))
 
 pub go-spec : {M : Type 1} → statement M
 go-spec =
@@ -52,6 +52,7 @@ go-spec =
     (λ c. search needs)
     cast-t20
     cast-t21
+    (λ c κs. search needs)
     enum-told
     (λ c. search needs)
     (λ c. search needs)

@@ -36,20 +36,25 @@ tested p none =
 -- where 10 or 11 refuses, with whatever allowance
 refused : (p : tie.After-refusal-of) → (p .refusal-of .result ≡ 0 → ⊥) → (allowance : ℕ) →
     let s = start-of p .args in
-    runOn (now (s .code)) (now (s .state)) (now (s .readings)) allowance ≡ record { answer = refuses (refusal (p .refusal-of .result) 0); bytes = now (s .state) }
+    runOn (now (s .code)) (now (s .state)) (now (s .readings)) allowance ≡ record { answer = refuses (refusal (p .refusal-of .result) 0); bytes = now (s .state); readings = 0 }
 refused p some allowance =
     let s = start-of p .args in
     law.refused-first (now (s .code)) (now (s .state)) (now (s .readings)) allowance (now (s .bodies)) (now (s .classes)) (s .base) (s .sound) (start-of p .pre) _
     (p .refusal-of .ensures) some
 
 returns : tie.Need-returns
-returns c = (λ t h. refused (c .before) (c .if1 .taken) _, λ f. play.play-refused _ _ _ _ _ _ _ (refused (c .before) (c .if1 .taken) 0))
+returns c =
+    let at-if1 = c .before in
+    let no = refused (at-if1 .before) (at-if1 .if1 .taken) in
+    rw (c .unread .ensures) (λ t h. no _, λ f. play.play-refused _ _ _ _ _ _ _ (no 0))
 
 returns-2 : tie.Need-returns-2
 returns-2 c =
-    let p = c .before .before in
-    let t = tested p (c .before .if1 .left) in
-    (λ once h. absurd (omega (arith, c .if2 .taken)), λ f. play.play-none _ _ _ _ _ (code-bytes p) (reading-bytes p) (t .0 .0) (t .1) (c .if2 .taken))
+    let at-if2 = c .before in
+    let p = at-if2 .before .before in
+    let t = tested p (at-if2 .before .if1 .left) in
+    rw (c .unread2 .ensures)
+    (λ once h. absurd (omega (arith, at-if2 .if2 .taken)), λ f. play.play-none _ _ _ _ _ (code-bytes p) (reading-bytes p) (t .0 .0) (t .1) (at-if2 .if2 .taken))
 
 clear-requires : tie.Need-clear-requires
 clear-requires c κs =
@@ -89,7 +94,9 @@ play-passed-spec =
     tie.close
     (tie.spec
     (λ c κs. search needs)
+    (λ c κs. search needs)
     returns
+    (λ c κs. search needs)
     returns-2
     clear-requires
     play-sound-requires

@@ -8,12 +8,12 @@ use Rattle.run.proofs.runs.run.Tie as tie
 returns : tie.Need-returns
 returns c =
     let at-go = c .before .before .before .before .before .before in
-    rw (c .before .e .given .1) at (at-go .go .ensures .0 refl (omega arith))
+    rw (c .before .outcome .given .1) at (at-go .go .ensures .0 refl (omega arith))
 
 returns-2 : tie.Need-returns-2
 returns-2 c =
     let at-go = c .before .before .before .before .before .before .before in
-    rw (c .ran .ensures) (rw (c .before .before .p .given .1) at (at-go .go .ensures .0 refl (omega arith)))
+    rw (c .ran .ensures) (rw (c .before .before .outcome2 .given .1) at (at-go .go .ensures .0 refl (omega arith)))
 
 pub run-spec : {M : Type 1} → statement M
 run-spec =
