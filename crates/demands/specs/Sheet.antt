@@ -49,16 +49,16 @@ releasesIn (hold g ∷ es) = releasesIn es
 releasesIn (release g ∷ es) = suc (releasesIn es)
 
 -- the totals of the runs of fs, begun on lent bytes, beside the tree's execution with the same readings
-pub record Filed (code : List ℕ) (t : Tree) (oracle : ℕ → ℕ → ℕ) (state : List ℕ) (fs : List Feed) : Type 0 where
+pub record Filed (t : Tree) (oracle : ℕ → ℕ → ℕ) (state : List ℕ) (fs : List Feed) : Type 0 where
   -- sets, holds and releases are the numbers of such events answered
-  pub told : let rs = answered code state fs in let all = totals none rs in
+  pub told : let rs = answered (macroOf t) state fs in let all = totals none rs in
       (all .sets ≡ setsIn (events rs)) × (all .holds ≡ holdsIn (events rs)) × (all .releases ≡ releasesIn (events rs))
-  -- where the runs end, readings and all are those of the tree's execution
-  pub ended : let rs = answered code state fs in
-      (c : ℕ) → EndsOn c rs → (is : List Item) × EndsBy oracle t is c × (totals none rs ≡ traced none is)
-  -- where they are still open, of the part of it that the steps reach: the first of what it gives, with exactly the events answered
-  pub still-open : let rs = answered code state fs in
-      (n : ℕ) × (is : List Item) × Prefix is (itemsOf (execute oracle t n)) × (eventsIn is ≡ events rs) × (totals none rs ≡ traced none is)
+  -- readings and all are those of the part of the tree's execution that the steps reach: what the plain machine gives in these runs,
+  pub reached : totals none (answered (macroOf t) state fs) ≡ traced none (trace t fs)
+  -- which is the first of what the tree gives,
+  pub first : (n : ℕ) × Prefix (trace t fs) (itemsOf (execute oracle t n))
+  -- and all of it where the runs end
+  pub ended : (c : ℕ) → EndsOn c (answered (macroOf t) state fs) → EndsBy oracle t (trace t fs) c
 
 -- ── totals of traces ──
 unfoldable countEvents : Totals → List Event → Totals
@@ -131,7 +131,7 @@ module _ (l : List ℕ) (P : Program l) (oracle : ℕ → ℕ → ℕ) (low : By
   abbrev code : List ℕ
   code = macroOf t
 
-  pub filed : (fs : List Feed) → Fed fs → SameReadings t oracle fs → Filed code t oracle state fs
+  pub filed : (fs : List Feed) → Fed fs → SameReadings t oracle fs → Filed t oracle state fs
   filed fs fed same =
       let m = compiled t in
       let d = third code m (fits l P .1) (passes l P) state n fs fed in
@@ -149,8 +149,9 @@ module _ (l : List ℕ) (P : Program l) (oracle : ℕ → ℕ → ℕ) (low : By
           omega (arith, ap (λ t. t .holds) split, k .holds, ap holdsIn hear),
           omega (arith, ap (λ t. t .releases) split, k .releases, ap releasesIn hear),
         );
-        ended = λ c e. (is, plain .ends fs fed same c (same-ends c (answers t fs) (subst (EndsOn c) (d .equals) e)), all);
-        still-open = let q = plain .prefix fs fed same in (q .0, is, q .1, sym hear, all);
+        reached = all;
+        first = plain .prefix fs fed same;
+        ended = λ c e. plain .ends fs fed same c (same-ends c (answers t fs) (subst (EndsOn c) (d .equals) e));
       }
 
 -- ── the listing ──
@@ -216,7 +217,7 @@ blank = replicate stateLength 0
 
 -- a program's listing, where its macro has room: the text of a list of runs, whose totals it prints; they are those of the execution with all readings 0
 pub listed : (l : List ℕ) (P : Program l) → length (macroOf (P .tree)) ≤ 65536
-    → (fs : List Feed) × (listingOf l ≡ textOf none (answered (macroOf (P .tree)) blank fs)) × Filed (macroOf (P .tree)) (P .tree) allZero blank fs
+    → (fs : List Feed) × (listingOf l ≡ textOf none (answered (macroOf (P .tree)) blank fs)) × Filed (P .tree) allZero blank fs
 unfolding listingOf listingOn macroText linesOf
 listed l P room =
     let t = P .tree in
