@@ -574,6 +574,32 @@ fn n24_index_channel_level_and_fader_are_integers() {
     }
 }
 
+/// More in lookup.rs.
+#[test]
+fn n25_its_own_names_then_its_parameters_then_the_next_block() {
+    // Own name 6, parameter 5 and the root's 7, of a function's block expression and of a procedure's block.
+    assert_eq!(verdict("1 2 0, 10 7 1, 12 9 257, 10 5 1, 53 1 0, 10 6 1, 49 1 0, 49 1 0, 44 6 0, 44 5 0, 44 7 0"), ACCEPTED);
+    assert_eq!(verdict("1 2 0, 10 7 1, 12 9 256, 10 5 1, 1 1 2, 10 6 1, 21 0 0, 44 6 0, 44 5 0, 21 0 0, 44 7 0, 44 8 0"), (3, 11));
+    // A label among the body's own names comes before the parameter.
+    assert_eq!(verdict("1 1 0, 12 9 256, 10 5 1, 1 0 2, 20 5 0, 25 5 0"), ACCEPTED);
+    assert_eq!(verdict("1 1 0, 12 9 256, 10 5 1, 1 0 2, 20 6 0, 25 5 0"), (4, 5));
+}
+
+#[test]
+fn n26_a_body_that_is_no_block_is_a_block_without_names() {
+    for body in ["21 0 0, 44 5 0, 44 5 0", "24 0 0, 41 0 0, 21 0 0, 44 5 0, 44 5 0", "30 1 0, 44 5 0, 1 1 1, 10 6 1, 21 0 0, 44 6 0, 44 5 0"] {
+        assert_eq!(verdict(&format!("1 1 0, 12 9 256, 10 5 1, {body}")), ACCEPTED, "{body}");
+        assert_eq!(verdict(&format!("1 1 0, 12 9 0, {body}")).0, 3, "{body}");
+    }
+}
+
+#[test]
+fn n27_a_name_of_a_parameter_is_not_twice_in_the_bodys_block() {
+    assert_eq!(verdict("1 1 0, 12 9 256, 10 5 1, 1 1 0, 10 5 1"), ACCEPTED);
+    assert_eq!(verdict("1 1 0, 12 9 256, 10 5 1, 1 2 0, 10 5 1, 10 5 1"), (3, 5));
+    assert_eq!(verdict("1 1 0, 12 9 512, 10 5 1, 10 5 2, 1 1 0, 10 5 1"), (3, 3));
+}
+
 // A body's limits (6)
 
 #[test]

@@ -43,8 +43,8 @@ fn text_of(name: &str, sort: &str) -> String {
 }
 
 #[test]
-fn there_are_ten_examples() {
-    assert_eq!(names().len(), 10, "{:?}", names());
+fn there_are_eleven_examples() {
+    assert_eq!(names().len(), 11, "{:?}", names());
 }
 
 /// Text to table and back: the table is that of the text, and its text without comments gives it again.

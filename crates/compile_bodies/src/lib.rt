@@ -127,8 +127,7 @@ fn procedure(
 {
     let heading = table_entries::b_at(part, 0);
     let parameters = heading as usize / 256;
-    table_scopes::push(env, top, 65537, 0, 0, 0);
-    let up = table_scopes::add_head(table, at + 1, parameters, 4, env, top + 1);
+    let up = table_scopes::enter_procedure(table, at + 1, parameters, env, top);
     let from = ENTRY_BYTES * (1 + parameters);
     if heading % 256 == 0 {
         let p = compile_walk::statement(

@@ -10,6 +10,7 @@ use Rattle.values.specs.Types.{Ty}
 use Rattle.language.specs.Tree.{Typed, declare, holding, Global, local, class, procedure, Tree, locals}
 use Rattle.language.specs.Names.{Sort, isVariable, isLabel, isClass, isField, isProcedure, Definition, types, results, definesHead, definesFields, definesGlobals}
 use Rattle.language.specs.Names.{procedureOf, rootOf, Found, nowhere, found, firstOf, otherwise, across, lookup, definesTyped, definesItems}
+use Rattle.language_laws.specs.Lookup.{lookup-procedure, lookup-root}
 use Rattle.bytecode.specs.Instructions.{Owner}
 use Rattle.logic.specs.Tests.{never}
 use Rattle.compile_code.specs.Compile.{Around, inside, labels, scopesOf, hasLabel}
@@ -56,10 +57,10 @@ no-label-root (procedure b xs d ∷ gs) a h =
 -- ── names of the root ──
 module _ (P : Owner → ℕ → Ty → Type 0) (t : Tree) (whole : goodGlobals (rootOf t ∷ []) [] (t .head)) where
   known-root : (S : Style) (Δ : List Around) → ((a : ℕ) → keptOf a Δ ≡ S .look a Δ) → Entered P S (locals (t .head)) (startOfRoot t) Δ → Known P Δ
-  unfolding lookup scopesOf
+  unfolding scopesOf
   known-root S Δ same e a u w h =
       let q = outer (definesGlobals (t .head)) (t .items) a (isVariable u) w nowhere (λ z. z)
-      (subst (λ ss. lookup a ss ≡ found (isVariable u) w) (entered-scopes P S (locals (t .head)) (startOfRoot t) Δ e) h)
+      (sym (lookup-root a _) ∙ subst (λ ss. lookup a ss ≡ found (isVariable u) w) (entered-scopes P S (locals (t .head)) (startOfRoot t) Δ e) h)
       (firstOf a (definesGlobals (t .head)) ≡ found (isVariable u) w) (λ z. z) (λ n z. nothing (isVariable u) w z) in
       subst (λ z. Has P z u) (sym (same a)) (entered-new P S (locals (t .head)) (startOfRoot t) Δ a u w (rootOf t ∷ []) [] e
       (good-locals (t .head) (rootOf t ∷ []) [] [] (λ b z. z) whole) (variable-found (t .head) a u w q))
@@ -73,10 +74,10 @@ module _ (P : Owner → ℕ → Ty → Type 0) (t : Tree) (whole : goodGlobals (
 
   -- every label of the root is reached
   pub reached-root : (S : Style) (Δ : List Around) (x : ℕ) → Entered P S (locals (t .head)) (startOfRoot t) Δ → Reached (labels (t .items) x ∷ Δ)
-  unfolding lookup scopesOf gotoOk
+  unfolding scopesOf gotoOk
   reached-root S Δ x e a h =
       let h' : otherwise (firstOf a (definesGlobals (t .head) ++ definesItems (t .items))) nowhere ≡ found isLabel false =
-      subst (λ ss. lookup a ss ≡ found isLabel false) (entered-scopes P S (locals (t .head)) (startOfRoot t) Δ e) h in
+      sym (lookup-root a _) ∙ subst (λ ss. lookup a ss ≡ found isLabel false) (entered-scopes P S (locals (t .head)) (startOfRoot t) Δ e) h in
       here-or (hasLabel a (t .items)) (gotoOk true Δ a) (λ n. absurd (pick (firstOf a (definesGlobals (t .head))) refl (firstOf a (definesItems (t .items))) refl n
       (subst (λ z. otherwise z nowhere ≡ found isLabel false) (first-append a (definesGlobals (t .head)) (definesItems (t .items))) h')))
     where
@@ -88,10 +89,10 @@ module _ (P : Owner → ℕ → Ty → Type 0) (t : Tree) (whole : goodGlobals (
 
   -- a procedure: no goto leaves it
   pub reached-procedure : (xs : List Typed) (Γ : List Around) → Reached (parameterCells xs 0 (inside (procedureOf xs) ∷ Γ))
-  unfolding lookup scopesOf
+  unfolding scopesOf
   reached-procedure xs Γ a h =
       absurd (pick (firstOf a (definesTyped xs)) refl (lookup a (scopesOf Γ))
-      (subst (λ ss. lookup a ss ≡ found isLabel false) (scopes-parameters P xs 0 (inside (procedureOf xs) ∷ Γ)) h))
+      (sym (lookup-procedure a _ (scopesOf Γ)) ∙ subst (λ ss. lookup a ss ≡ found isLabel false) (scopes-parameters P xs 0 (inside (procedureOf xs) ∷ Γ)) h))
     where
       pick : (u : Found) → firstOf a (definesTyped xs) ≡ u → (f : Found) → otherwise u (across f) ≡ found isLabel false → ⊥
       pick nowhere e nowhere k = nothing isLabel false k

@@ -14,9 +14,10 @@ use Rattle.values.specs.Types.{Ty}
 use Rattle.values.specs.Ends.{Refusal}
 use Rattle.language.specs.Tree.{Typed, Decl, declare, holding, Items, Body, proper, function, Global, local, class, procedure, Tree, locals}
 use Rattle.language.specs.Names.{Sort, isVariable, isLabel, isClass, isField, isProcedure, Definition, types, results, definesTyped, definesHead, definesFields}
-use Rattle.language.specs.Names.{definesGlobals, Scope, blockOf, expressionOf, procedureOf, rootOf, Found, nowhere, found, firstOf, otherwise, across, lookup}
+use Rattle.language.specs.Names.{definesItems, definesGlobals, Scope, blockOf, expressionOf, procedureOf, rootOf, Found, nowhere, found, firstOf, otherwise, across, lookup}
 use Rattle.language.specs.Faults.{typeE, mistypedUnless, twice, faultsTyped, namesHead, namesTyped, namesGlobal, bodyFits, faultsBody, faultsGlobal, faultsGlobals, faultsItems, faults, sizeGlobal}
 use Rattle.language.specs.Execute.{Procedure, procedureIn, classIn}
+use Rattle.language_laws.specs.Lookup.{lookup-block, lookup-expression, lookup-procedure, lookup-root}
 use Rattle.logic.specs.Tests.{neither, eqb-comm}
 use Rattle.compile_code.specs.Compile.{indexOf, amongNames, namesOf, Class, classesOf, classNames, Proc, procsOf, procNames, fieldIn}
 use Rattle.language_laws.specs.Tests.{fault-if, told}
@@ -105,24 +106,22 @@ typed-global a (x ∷ xs) = pick (eqb (x .name) a) (typed-global a xs)
     pick false h = h
 
 pub globals-root : (t : Tree) → GlobalsIn (t .head) (rootOf t ∷ [])
-unfolding lookup
 globals-root t a s w g h =
-    outer (definesGlobals (t .head)) (t .items) a s w nowhere (no-label s w g) h ((v : Bool) × (firstOf a (definesGlobals (t .head)) ≡ found s v))
+    outer (definesGlobals (t .head)) (t .items) a s w nowhere (no-label s w g) (sym (lookup-root a (definesGlobals (t .head) ++ definesItems (t .items))) ∙ h) ((v : Bool) × (firstOf a (definesGlobals (t .head)) ≡ found s v))
     (λ q. (w, q)) (λ n q. nothing s w q)
 
 pub globals-block : (gs : List Global) (ds : List Decl) (is : Items) (ss : List Scope) → GlobalsIn gs ss → GlobalsIn gs (blockOf ds is ∷ ss)
-unfolding lookup
-globals-block gs ds is ss k a s w g h = outer (definesHead ds) is a s w (lookup a ss) (no-label s w g) h ((v : Bool) × (firstOf a (definesGlobals gs) ≡ found s v))
+globals-block gs ds is ss k a s w g h =
+    outer (definesHead ds) is a s w (lookup a ss) (no-label s w g) (sym (lookup-block a (definesHead ds ++ definesItems is) ss) ∙ h) ((v : Bool) × (firstOf a (definesGlobals gs) ≡ found s v))
     (λ q. let z : NoGlobal (found s w) = subst NoGlobal q (head-global a ds) in absurd (z g)) (λ n q. k a s w g q)
 
 pub globals-expression : (gs : List Global) (ds : List Decl) (is : Items) (ss : List Scope) → GlobalsIn gs ss → GlobalsIn gs (expressionOf ds is ∷ ss)
-unfolding lookup
-globals-expression gs ds is ss k a s w g h = outer (definesHead ds) is a s w (across (lookup a ss)) (no-label s w g) h ((v : Bool) × (firstOf a (definesGlobals gs) ≡ found s v))
+globals-expression gs ds is ss k a s w g h =
+    outer (definesHead ds) is a s w (across (lookup a ss)) (no-label s w g) (sym (lookup-expression a (definesHead ds ++ definesItems is) ss) ∙ h) ((v : Bool) × (firstOf a (definesGlobals gs) ≡ found s v))
     (λ q. let z : NoGlobal (found s w) = subst NoGlobal q (head-global a ds) in absurd (z g)) (λ n q. let u = uncross (lookup a ss) s w q in k a s (u .0) g (u .1))
 
 pub globals-procedure : (gs : List Global) (xs : List Typed) (ss : List Scope) → GlobalsIn gs ss → GlobalsIn gs (procedureOf xs ∷ ss)
-unfolding lookup
-globals-procedure gs xs ss k a s w g h = pick (firstOf a (definesTyped xs)) refl (typed-global a xs) h
+globals-procedure gs xs ss k a s w g h = pick (firstOf a (definesTyped xs)) refl (typed-global a xs) (sym (lookup-procedure a (definesTyped xs) ss) ∙ h)
   where
     pick : (f : Found) → firstOf a (definesTyped xs) ≡ f → NoGlobal f → otherwise f (across (lookup a ss)) ≡ found s w → (v : Bool) × (firstOf a (definesGlobals gs) ≡ found s v)
     pick nowhere e n q = let u = uncross (lookup a ss) s w q in k a s (u .0) g (u .1)

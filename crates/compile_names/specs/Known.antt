@@ -13,6 +13,7 @@ use Rattle.values.specs.Types.{Ty}
 use Rattle.language.specs.Tree.{Typed, Decl, declare, holding, Items, noItem, label, item}
 use Rattle.language.specs.Names.{Sort, isVariable, isLabel, isClass, isField, isProcedure, Definition, definesTyped, definesHead, definesItems, Scope, blockOf}
 use Rattle.language.specs.Names.{expressionOf, procedureOf, Found, nowhere, found, firstOf, otherwise, across, lookup}
+use Rattle.language_laws.specs.Lookup.{lookup-block, lookup-expression, lookup-procedure}
 use Rattle.bytecode.specs.Instructions.{Owner, own, root}
 use Rattle.logic.specs.Tests.{never, or-left, or-right}
 use Rattle.compile_code.specs.Compile.{Around, inside, bound, global, held, labels, scopesOf, boundAt, globalAt, kept, orCell}
@@ -211,18 +212,18 @@ inside-look a s Γ = refl
 module _ (P : Owner → ℕ → Ty → Type 0) where
   -- entering a block keeps what is known
   pub known-block : (ds : List Decl) (is : Items) (Γ Δ : List Around) (ss : List Scope) → goodHead ss [] ds → Entered P ofBlock ds (inside (blockOf ds is) ∷ Γ) Δ → Known P Γ → Known P Δ
-  unfolding lookup scopesOf
+  unfolding scopesOf
   known-block ds is Γ Δ ss g e k a t w h =
       outer (definesHead ds) is a (isVariable t) w (lookup a (scopesOf Γ)) (λ q. q)
-      (subst (λ ss. lookup a ss ≡ found (isVariable t) w) (entered-scopes P ofBlock ds (inside (blockOf ds is) ∷ Γ) Δ e) h) (Has P (keptOf a Δ) t)
+      (sym (lookup-block a _ (scopesOf Γ)) ∙ subst (λ ss. lookup a ss ≡ found (isVariable t) w) (entered-scopes P ofBlock ds (inside (blockOf ds is) ∷ Γ) Δ e) h) (Has P (keptOf a Δ) t)
       (λ q. entered-new P ofBlock ds (inside (blockOf ds is) ∷ Γ) Δ a t w ss [] e g q)
       (λ n q. subst (λ z. Has P z t) (sym (entered-past P ofBlock ds (inside (blockOf ds is) ∷ Γ) Δ a e n ∙ inside-look a (blockOf ds is) Γ)) (k a t w q))
 
   pub known-expression : (ds : List Decl) (is : Items) (Γ Δ : List Around) (ss : List Scope) → goodHead ss [] ds → Entered P ofBlock ds (inside (expressionOf ds is) ∷ Γ) Δ → Known P Γ → Known P Δ
-  unfolding lookup scopesOf
+  unfolding scopesOf
   known-expression ds is Γ Δ ss g e k a t w h =
       outer (definesHead ds) is a (isVariable t) w (across (lookup a (scopesOf Γ))) (λ q. q)
-      (subst (λ ss. lookup a ss ≡ found (isVariable t) w) (entered-scopes P ofBlock ds (inside (expressionOf ds is) ∷ Γ) Δ e) h) (Has P (keptOf a Δ) t)
+      (sym (lookup-expression a _ (scopesOf Γ)) ∙ subst (λ ss. lookup a ss ≡ found (isVariable t) w) (entered-scopes P ofBlock ds (inside (expressionOf ds is) ∷ Γ) Δ e) h) (Has P (keptOf a Δ) t)
       (λ q. entered-new P ofBlock ds (inside (expressionOf ds is) ∷ Γ) Δ a t w ss [] e g q)
       (λ n q. let z = uncross (lookup a (scopesOf Γ)) (isVariable t) w q in subst (λ z. Has P z t)
       (sym (entered-past P ofBlock ds (inside (expressionOf ds is) ∷ Γ) Δ a e n ∙ inside-look a (expressionOf ds is) Γ)) (k a t (z .0) (z .1)))
@@ -265,8 +266,10 @@ module _ (P : Owner → ℕ → Ty → Type 0) where
   scopes-parameters (x ∷ xs) n Γ = scopes-parameters xs (suc n) Γ
 
   pub known-procedure : (xs : List Typed) (Γ : List Around) → Given xs 0 → Known P Γ → Known P (parameterCells xs 0 (inside (procedureOf xs) ∷ Γ))
-  unfolding lookup scopesOf
-  known-procedure xs Γ g k a t w h = pick (firstOf a (definesTyped xs)) refl (subst (λ ss. lookup a ss ≡ found (isVariable t) w) (scopes-parameters xs 0 (inside (procedureOf xs) ∷ Γ)) h)
+  unfolding scopesOf
+  known-procedure xs Γ g k a t w h =
+      pick (firstOf a (definesTyped xs)) refl
+      (sym (lookup-procedure a _ (scopesOf Γ)) ∙ subst (λ ss. lookup a ss ≡ found (isVariable t) w) (scopes-parameters xs 0 (inside (procedureOf xs) ∷ Γ)) h)
     where
       pick : (f : Found) → firstOf a (definesTyped xs) ≡ f → otherwise f (across (lookup a (scopesOf Γ))) ≡ found (isVariable t) w
           → Has P (keptOf a (parameterCells xs 0 (inside (procedureOf xs) ∷ Γ))) t

@@ -9,6 +9,7 @@ use borrow.Author.Tests.{eqb-true, eq-eqb}
 use Rattle.logic.specs.Choice.{if_then_else_}
 use Rattle.language.specs.Tree.{Decl, declare, holding, Items, noItem, label, item}
 use Rattle.language.specs.Names.{Sort, isVariable, isLabel, definesHead, definesItems, blockOf, expressionOf, Found, nowhere, found, firstOf, otherwise, across, lookup}
+use Rattle.language_laws.specs.Lookup.{lookup-block, lookup-expression}
 use Rattle.compile_code.specs.Compile.{Around, inside, bound, held, labels, scopesOf, hasLabel}
 use Rattle.compile_simulation.specs.Placed.{landsAt}
 use Rattle.compile_simulation.specs.Blocks.{gotoOk}
@@ -54,10 +55,10 @@ module _ (P : Owner → ℕ → Ty → Type 0) where
   entered-goto (holding g ∷ ds) Γ Δ a e h exact = entered-goto ds (held g ∷ Γ) Δ a e h exact
 
   pub reached-block : (ds : List Decl) (is : Items) (x : ℕ) (Γ Δ : List Around) → Entered P ofBlock ds (inside (blockOf ds is) ∷ Γ) Δ → Reached Γ → Reached (labels is x ∷ Δ)
-  unfolding lookup scopesOf gotoOk
+  unfolding scopesOf gotoOk
   reached-block ds is x Γ Δ e r a h = here-or (hasLabel a is) (gotoOk true Δ a) (λ n.
       let h' : otherwise (firstOf a (definesHead ds ++ definesItems is)) (lookup a (scopesOf Γ)) ≡ found isLabel false =
-      subst (λ ss. lookup a ss ≡ found isLabel false) (entered-scopes P ofBlock ds (inside (blockOf ds is) ∷ Γ) Δ e) h in
+      sym (lookup-block a _ (scopesOf Γ)) ∙ subst (λ ss. lookup a ss ≡ found isLabel false) (entered-scopes P ofBlock ds (inside (blockOf ds is) ∷ Γ) Δ e) h in
       entered-goto ds (inside (blockOf ds is) ∷ Γ) Δ a e (λ b. r a (pick (firstOf a (definesHead ds)) refl (firstOf a (definesItems is)) refl n
       (subst (λ z. otherwise z (lookup a (scopesOf Γ)) ≡ found isLabel false) (first-append a (definesHead ds) (definesItems is)) h'))) true)
     where
@@ -68,10 +69,10 @@ module _ (P : Owner → ℕ → Ty → Type 0) where
       pick (found s w) p v q n h = absurd (no-label a ds false (p ∙ h))
 
   pub reached-expression : (ds : List Decl) (is : Items) (x : ℕ) (Γ Δ : List Around) → Entered P ofBlock ds (inside (expressionOf ds is) ∷ Γ) Δ → Reached (labels is x ∷ Δ)
-  unfolding lookup scopesOf gotoOk
+  unfolding scopesOf gotoOk
   reached-expression ds is x Γ Δ e a h = here-or (hasLabel a is) (gotoOk true Δ a) (λ n.
       let h' : otherwise (firstOf a (definesHead ds ++ definesItems is)) (across (lookup a (scopesOf Γ))) ≡ found isLabel false =
-      subst (λ ss. lookup a ss ≡ found isLabel false) (entered-scopes P ofBlock ds (inside (expressionOf ds is) ∷ Γ) Δ e) h in
+      sym (lookup-expression a _ (scopesOf Γ)) ∙ subst (λ ss. lookup a ss ≡ found isLabel false) (entered-scopes P ofBlock ds (inside (expressionOf ds is) ∷ Γ) Δ e) h in
       absurd (pick (firstOf a (definesHead ds)) refl (firstOf a (definesItems is)) refl (lookup a (scopesOf Γ)) n
       (subst (λ z. otherwise z (across (lookup a (scopesOf Γ))) ≡ found isLabel false) (first-append a (definesHead ds) (definesItems is)) h')))
     where

@@ -1,7 +1,7 @@
 -- The variables of a head and the labels of a block: the items that are pushed for them stand for what the definition of the code finds.
 use mathlib.Core.Path.{_≡_, refl, ap, sym, _∙_, subst}
 use mathlib.Core.Bool.{Bool, true, false}
-use mathlib.Core.List.{List, [], _∷_, map}
+use mathlib.Core.List.{List, [], _∷_, _++_, map}
 use mathlib.Core.Option.{some}
 use Prim.Native.Nat.{ℕ, suc, _+_, _≤_, _<_}
 use native.Mathlib.Omega.{arith}
@@ -19,6 +19,7 @@ use Rattle.language.specs.Table.{Entry}
 use Rattle.language.specs.Names.{isVariable, isLabel, isClass, definesTyped, definesHead, definesItems, Scope, blockOf, expressionOf, nowhere, found, firstOf, across, lookup}
 use Rattle.language.specs.Names as names
 use Rattle.language.specs.Faults.{sizeS}
+use Rattle.language_laws.specs.Lookup.{lookup-block, lookup-expression}
 use Rattle.logic.specs.Tests.{eqb-comm, or-left}
 use Rattle.language_laws.specs.Claims.{entriesOf}
 use Rattle.table_entries.specs.Stands.{Stands, stands-tail}
@@ -146,13 +147,12 @@ no-class c (declare x ∷ ds) ts w h = pick (eqb (x .name) c) h (no-class c ds t
 no-class c (holding g ∷ ds) ts w h = no-class c ds ts w h
 
 pub classes-block : (gs : List Global) (ds : List Decl) (is : Items) (ss : List Scope) → Classes gs ss → Classes gs (blockOf ds is ∷ ss)
-unfolding lookup
-classes-block gs ds is ss k c ts w h e = outer (definesHead ds) is c (isClass ts) w (lookup c ss) (λ q. q) e (classNumber gs c < 240) (λ q. absurd (no-class c ds ts w q)) (λ n q. k c ts w h q)
+classes-block gs ds is ss k c ts w h e =
+    outer (definesHead ds) is c (isClass ts) w (lookup c ss) (λ q. q) (sym (lookup-block c (definesHead ds ++ definesItems is) ss) ∙ e) (classNumber gs c < 240) (λ q. absurd (no-class c ds ts w q)) (λ n q. k c ts w h q)
 
 pub classes-expression : (gs : List Global) (ds : List Decl) (is : Items) (ss : List Scope) → Classes gs ss → Classes gs (expressionOf ds is ∷ ss)
-unfolding lookup
 classes-expression gs ds is ss k c ts w h e =
-    outer (definesHead ds) is c (isClass ts) w (across (lookup c ss)) (λ q. q) e (classNumber gs c < 240) (λ q. absurd (no-class c ds ts w q))
+    outer (definesHead ds) is c (isClass ts) w (across (lookup c ss)) (λ q. q) (sym (lookup-expression c (definesHead ds ++ definesItems is) ss) ∙ e) (classNumber gs c < 240) (λ q. absurd (no-class c ds ts w q))
     (λ n q. let u = uncross (lookup c ss) (isClass ts) w q in k c ts (u .0) h (u .1))
 
 -- ── the variables of a head ──

@@ -14,6 +14,7 @@ use Rattle.language.specs.Tree.{Decl, declare, holding, Global, local, class, p
 use Rattle.language.specs.Names.{Sort, isVariable, isLabel, isClass, isField, isProcedure, definesItems, definesGlobals, Scope, rootOf, found, firstOf, lookup}
 use Rattle.language.specs.Faults.{faults, sizeGlobal}
 use Rattle.language.specs.Limits.{headCells}
+use Rattle.language_laws.specs.Lookup.{lookup-root}
 use Rattle.language_laws.specs.Claims.{entriesOf, Readable}
 use Rattle.table_entries.specs.Stands.{Stands, stands-left, stands-right, stands-tail}
 use Rattle.table_scopes.specs.Items.{labelsFrom, globalsFrom, rootItems}
@@ -138,10 +139,10 @@ module _ {l : List ℕ} (legible : Legible l) (t : Tree) (same : entriesOf l ≡
         → ((a : ℕ) → cellOf a (entering S (locals (t .head)) 0 (startOfRoot t)) ≡ S .look a (entering S (locals (t .head)) 0 (startOfRoot t)))
         → Readable t → faults t ≡ [] → headCells (locals (t .head)) ≤ 32 → W .globals ≡ t .head → Lies (W .known) 1 (numbersOf t)
         → Knows W (addAll (globalItems 1 (t .head) ++ labelItems rest (t .items)) (env.item opened 0 0 0 ∷ [])) (entering S (locals (t .head)) 0 (startOfRoot t))
-    unfolding scopesOf lookup
+    unfolding scopesOf
     root-knows owned looks readable good cells globals lies =
         knows-root W (globalItems 1 (t .head) ++ labelItems rest (t .items)) (definesGlobals (t .head) ++ definesItems (t .items)) root-items-small
-        (λ a. ap (lookup a) (scopes-entering S (locals (t .head)) 0 (startOfRoot t)))
+        (λ a. ap (lookup a) (scopes-entering S (locals (t .head)) 0 (startOfRoot t)) ∙ lookup-root a (definesGlobals (t .head) ++ definesItems (t .items)))
         (λ a. rw (in-append a (globalItems 1 (t .head)) (labelItems rest (t .items)), first-append a (definesGlobals (t .head)) (definesItems (t .items)))
         (both-or (λ q s. Means W Δ a q s) (firstIn a (globalItems 1 (t .head))) (firstIn a (labelItems rest (t .items))) (firstOf a (definesGlobals (t .head))) (firstOf a (definesItems (t .items)))
         (both-more (λ q s. Numbered W S a (classesOf (W .globals)) (procsOf (W .globals)) 0 1 Δ q s) (λ q s. Means W Δ a q s) (firstIn a (globalItems 1 (t .head)))

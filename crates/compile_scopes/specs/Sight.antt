@@ -11,9 +11,10 @@ use Rattle.language.specs.Program.{flatTyped, flatDecl, flatS, flatItems, flatE
 use Rattle.values.specs.Types.{Ty}
 use Rattle.language.specs.Tree.{Typed, Decl, declare, block, Expr, blockExpr, Items, Tree, countItems, locals}
 use Rattle.language.specs.Table.{Entry}
-use Rattle.language.specs.Names.{definesTyped, blockOf, expressionOf, procedureOf, rootOf, across, lookup}
+use Rattle.language.specs.Names.{definesTyped, definesHead, definesItems, blockOf, expressionOf, procedureOf, rootOf, across, lookup}
 use Rattle.language.specs.Faults.{faults}
 use Rattle.language.specs.Limits.{headCells}
+use Rattle.language_laws.specs.Lookup.{lookup-block, lookup-expression, lookup-procedure}
 use Rattle.bytecode.specs.Instructions.{own}
 use Rattle.language_laws.specs.Claims.{entriesOf, Readable}
 use Rattle.table_entries.specs.Stands.{Stands, stands-left, stands-tail}
@@ -70,14 +71,14 @@ module _ {l : List ℕ} (legible : Legible l) (place : ℕ) (ds : List Decl) (is
   pub knows-in-block : {W : Walk} {v : List Item} {Γ : List Around} → Sees l v (scopesOf Γ) → Knows W v Γ → goodHead (blockOf ds is ∷ scopesOf Γ) [] ds
       → Lies (W .known) place (numbersFrom (classesIn W) (p .cell) (flatS (block ds is))) → p .cell + cellsWithin (flatS (block ds is)) ≤ 32
       → Knows W (within opened l place ds is v) (aroundItems (blockOf ds is) ds is Γ p)
-  unfolding flatS numbersFrom cellsWithin lookup
+  unfolding flatS numbersFrom cellsWithin
   knows-in-block {W} {v} {Γ} see know good lies few =
       let numbers = rw (add-zero (p .cell), numbers-append (classesIn W) (p .cell) (map flatDecl ds) (flatItems is)) at (lies-next _ _ lies) in
       let classes = classes-block (W .globals) ds is (scopesOf Γ) (classes-known see know) in
       let bytes = bytes-head legible (W .globals) (blockOf ds is ∷ scopesOf Γ) classes (place + 1) [] ds (heads-stand legible (place + 1) ds is block-stands) good in
       knows-labels W is (atHead ds p .address)
       (rw (items-are legible (place + 1) ds is block-stands)
-      (knows-within (knows-marks (openIn ds) know) opened (blockOf ds is) (place + 1) ds is p (λ x. x) (omega arith) (λ ss a. refl) (λ a f x k. k)
+      (knows-within (knows-marks (openIn ds) know) opened (blockOf ds is) (place + 1) ds is p (λ x. x) (omega arith) (λ ss a. lookup-block a (definesHead ds ++ definesItems is) ss) (λ a f x k. k)
       (items-are-small legible (place + 1) ds is block-stands) good bytes (lies-left _ _ numbers) (omega (arith, cells-append (map flatDecl ds) (flatItems is)))))
 
   pub lands-in-block : {W : Walk} {v : List Item} {Γ : List Around} (st : List Ty) → Lands W v Γ → (W .dry ≡ false → Lies (W .aims) place (endsS (W .globals) (block ds is) Γ st p))
@@ -109,13 +110,13 @@ module _ {l : List ℕ} (legible : Legible l) (place : ℕ) (ds : List Decl) (is
   pub knows-in-value : {W : Walk} {v : List Item} {Γ : List Around} → Sees l v (scopesOf Γ) → Knows W v Γ → goodHead (expressionOf ds is ∷ scopesOf Γ) [] ds
       → Lies (W .known) place (numbersFrom (classesIn W) (p .cell) (flatE (blockExpr ds is x))) → p .cell + cellsWithin (flatE (blockExpr ds is x)) ≤ 32
       → Knows W (within shut l place ds is v) (aroundValue (expressionOf ds is) ds Γ p)
-  unfolding flatE numbersFrom cellsWithin lookup
+  unfolding flatE numbersFrom cellsWithin
   knows-in-value {W} {v} {Γ} see know good lies few =
       let numbers = rw (add-zero (p .cell), numbers-append (classesIn W) (p .cell) (map flatDecl ds) (flatItems is ++ flatE x)) at (lies-next _ _ lies) in
       let classes = classes-expression (W .globals) ds is (scopesOf Γ) (classes-known see know) in
       let bytes = bytes-head legible (W .globals) (expressionOf ds is ∷ scopesOf Γ) classes (place + 1) [] ds (heads-stand legible (place + 1) ds is expression-stands) good in
       rw (items-are legible (place + 1) ds is expression-stands)
-      (knows-within (knows-marks (openIn ds) know) shut (expressionOf ds is) (place + 1) ds is p across (omega arith) (λ ss a. refl) (λ a f y k. known-across W Γ a f y k)
+      (knows-within (knows-marks (openIn ds) know) shut (expressionOf ds is) (place + 1) ds is p across (omega arith) (λ ss a. lookup-expression a (definesHead ds ++ definesItems is) ss) (λ a f y k. known-across W Γ a f y k)
       (items-are-small legible (place + 1) ds is expression-stands) good bytes (lies-left _ _ numbers) (omega (arith, cells-append (map flatDecl ds) (flatItems is ++ flatE x))))
 
   pub knows-in-expression : {W : Walk} {v : List Item} {Γ : List Around} → Sees l v (scopesOf Γ) → Knows W v Γ → goodHead (expressionOf ds is ∷ scopesOf Γ) [] ds
@@ -204,11 +205,11 @@ module _ {l : List ℕ} (legible : Legible l) (place : ℕ) (xs : List Typed) (u
 
   pub knows-in-procedure : {W : Walk} {v : List Item} {Γ : List Around} → Knows W v Γ → length (classesOf (W .globals)) ≤ 16 → length xs ≤ 32
       → Lies (W .known) (place + 1) (numbersFrom (classesIn W) 0 (map flatTyped xs ++ us)) → Knows W (procedureSight l place xs v) (aroundParameters xs Γ)
-  unfolding scopesOf lookup boundAt globalAt
+  unfolding scopesOf boundAt globalAt
   knows-in-procedure {W} {v} {Γ} know classes few lies =
       rw parameters-are
       (knows-inside W know shut (headItems 4 (place + 1) (map declare xs)) (definesTyped xs) across (omega arith) parameters-small
-      (λ a. ap (lookup a) (scopes-parameters Anything xs 0 (inside (procedureOf xs) ∷ Γ))) (λ a f x k. known-across W Γ a f x k)
+      (λ a. ap (lookup a) (scopes-parameters Anything xs 0 (inside (procedureOf xs) ∷ Γ)) ∙ lookup-procedure a (definesTyped xs) (scopesOf Γ)) (λ a f x k. known-across W Γ a f x k)
       (λ a e. past-parameters W a xs 0 (inside (procedureOf xs) ∷ Γ) e)
       (λ a. parameters-mean W a xs (place + 1) 0 (inside (procedureOf xs) ∷ Γ) (bytes-typed (W .globals) classes xs)
       (lies-left _ _ (rw (numbers-append (classesIn W) 0 (map flatTyped xs) us) at lies)) (omega arith)))

@@ -8,9 +8,7 @@ use lib.Seq.{sets}
 use Rattle.language.specs.Program.{resultCode}
 use Rattle.words.specs.Numbers.{wordAt}
 use Rattle.language.specs.Tree.{Typed, Stmt, Expr, Body, proper, function, Tree}
-use Rattle.table_scopes.specs.Environment.{item, envOf, addAll, Grown}
-use Rattle.table_scopes.specs.EnvironmentLaws.{fewer, grown-push, stored}
-use Rattle.table_scopes.specs.Items.{itemsAt, grown-marked}
+use Rattle.table_scopes.specs.EnvironmentLaws.{fewer}
 use Rattle.table_forms.specs.Part.{below}
 use Rattle.table_types.specs.Types.{code-some}
 use Rattle.table_forms.specs.Procedures.{Walled}
@@ -166,13 +164,6 @@ module _ {l part : List ℕ} {place : ℕ} {sizes env : List ℕ} {top : ℕ} {k
           room = omega (arith, r .stage .room, h .within, h .many);
           ending = omega (arith, r .ending, h .within);
         }
-
-    -- its parameters behind a wall
-    pub proc-walled : {mid new : List ℕ} {up : ℕ} → mid ≡ stored env top 65537 0 0 0
-        → Grown (top + 1) mid new up (addAll (itemsAt 4 l (place + 1) (heading / 256)) (envOf mid (top + 1))) (length (itemsAt 4 l (place + 1) (heading / 256)))
-        → Walled l place (heading / 256) top env new up
-    proc-walled {mid} p g =
-        grown-marked (item 65537 0 0 0) (itemsAt 4 l (place + 1) (heading / 256)) (grown-push env mid top 65537 0 0 0 (omega (arith, proc-asks .room)) p) g
 
     -- P is what the walker of the body takes
     module _ {mid : List ℕ} {up : ℕ} (w : Walled l place (heading / 256) top env mid up) (P : Node → Type 0) where

@@ -5,7 +5,7 @@ use Rattle.logic.specs.Lists.{all, among}
 use Rattle.language.specs.Tree.{countItems, countArms, countExprs, locals}
 use Rattle.language.specs.Table.{inLayout, after, repeated, first, formTyped, formDecl, itemsOf, armsOf, exprsOf, formS, formPart, formTarget, formE, below}
 use Rattle.language.specs.Table.{formGlobal, readHead, formRoot, entries, oneTree, readTable}
-use Rattle.language.specs.Names.{types, definesTyped, definesHead, definesItems, definesFields, definesGlobals, firstOf, lookup}
+use Rattle.language.specs.Names.{types, definesTyped, definesHead, definesItems, definesFields, definesGlobals, firstOf, blocksFrom, identify, lookup}
 use Rattle.language.specs.Faults.{typeE, typesE, faultsTyped, faultsHead, namesHead, faultsS, namesTyped, faultsGlobals, faults}
 use Rattle.language.specs.Limits.{headCells, headHolds, procedureLimits, limits}
 use Rattle.language.specs.Judge.{judgeTable, compileOn}
@@ -16,7 +16,7 @@ use Rattle.language.specs.Execute.{activate, exec, execBody, evalBody, f
 unfoldable pub languageComputes : Unit {0}
 unfolding countItems countArms countExprs inLayout flatTyped flatDecl flatS flatBody flatGlobal flatHead flatten tableBytes measureS deepGlobals
     nesting after repeated first formTyped formDecl itemsOf armsOf exprsOf formS formPart formTarget formE below formGlobal readHead formRoot entries
-    oneTree readTable types definesTyped definesHead definesItems definesFields definesGlobals firstOf lookup typeE typesE among faultsTyped
+    oneTree readTable types definesTyped definesHead definesItems definesFields definesGlobals firstOf blocksFrom identify lookup typeE typesE among faultsTyped
     faultsHead namesHead faultsS namesTyped faultsGlobals faults headCells headHolds locals procedureLimits limits judgeTable compileOn all total
     cellIn cellOf putIn putOf valueOf assignTo declareIn next releaseAll settled branch doSet doFader doField doPutField doAssign pairUp doMake
     deciding decides letGo within outerBlocks leaving from catch procedureIn classIn activate exec execBody evalBody fueled ran execute

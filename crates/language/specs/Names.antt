@@ -96,12 +96,12 @@ definesGlobals (local d ∷ gs) = definesHead (d ∷ []) ++ definesGlobals gs
 definesGlobals (class c xs ∷ gs) = define c (isClass (types xs)) ∷ (definesFields c xs ++ definesGlobals gs)
 definesGlobals (procedure a xs b ∷ gs) = define a (isProcedure (types xs) (results b)) ∷ definesGlobals gs
 
--- a block around an entry (N3), with all names of its head and its labels in one name space (N4), whichever stand before or behind the entry
--- (N2): "All names of a head are visible throughout it."
+-- what lies around an entry (N3), with all names of a block's head and its labels in one name space (N4), whichever stand before or behind the
+-- entry (N2): "All names of a head are visible throughout it."
 pub data Scope : Type 0 where
   inBlock : List Definition → Scope  -- a block
   inExpression : List Definition → Scope  -- a block expression, which no goto leaves
-  inProcedure : List Definition → Scope  -- "parameters to one around the body", which no goto leaves
+  inProcedure : List Definition → Scope  -- a procedure heading, "parameters to one around the body", which no goto leaves
 
 -- what it defines
 abbrev pub definitions : Scope → List Definition
@@ -139,17 +139,72 @@ abbrev pub across : Found → Found
 across nowhere = nowhere
 across (found s w) = found s true
 
--- Step 1: a declaration or a label within the smallest block embracing the occurrence.
-abbrev pub step1 : ℕ → List Definition → Found
-step1 a ds = firstOf a ds
+-- ── the blocks that section 3 of 000 speaks of ──
+-- what stands before a block: nothing, a procedure heading with its formal parameters, or a for clause with its control identifier
+pub data Heading : Type 0 where
+  noHeading : Heading
+  parameters : List Definition → Heading
+  control : Definition → Heading  -- request 1 will give loops theirs
 
--- Step 2: a formal parameter, where that block is a procedure body.
-abbrev pub step2 : ℕ → List Definition → Found
-step2 a xs = firstOf a xs
+pub record Block : Type 0 where
+  pub names : List Definition  -- declared in it, and its labels
+  pub closed : Bool  -- a block expression
+  pub heading : Heading
+
+-- the heading that stands directly around what is inside
+abbrev pub headingOf : List Scope → Heading
+headingOf [] = noHeading
+headingOf (inBlock ds ∷ ss) = noHeading
+headingOf (inExpression ds ∷ ss) = noHeading
+headingOf (inProcedure xs ∷ ss) = parameters xs
+
+-- "A statement following a procedure heading (cf. 5.3) or a for clause (cf. 7.8) is considered to be a block.": a heading is that of the block
+-- directly inside it, which has then `taken` it, and else that of a block without names (N26)
+unfoldable pub blocksFrom : Bool → List Scope → List Block
+blocksFrom taken [] = []
+blocksFrom taken (inBlock ds ∷ ss) = record { names = ds; closed = false; heading = headingOf ss } ∷ blocksFrom true ss
+blocksFrom taken (inExpression ds ∷ ss) = record { names = ds; closed = true; heading = headingOf ss } ∷ blocksFrom true ss
+blocksFrom taken (inProcedure xs ∷ ss) =
+    if taken then blocksFrom false ss else record { names = []; closed = false; heading = parameters xs } ∷ blocksFrom false ss
+
+-- ── the lookup of section 3 of 000 ──
+-- Step 1. "If the identifier is defined by a declaration of a quantity or by its standing as a label within the smallest block (cf. 7.1)
+-- embracing a given occurrence of that identifier, then it denotes that quantity or label."
+abbrev pub step1 : ℕ → Block → Found
+step1 a b = firstOf a (b .names)
+
+-- Step 2. "Otherwise, if that block is a procedure body and if the given identifier is identical with a formal parameter in the associated
+-- procedure heading, then it stands as that formal parameter."
+abbrev pub step2 : ℕ → Heading → Found
+step2 a noHeading = nowhere
+step2 a (parameters xs) = firstOf a xs
+step2 a (control d) = nowhere
+
+-- Step 3. "Otherwise, if that block is preceded by a for clause and the identifier is identical to the control identifier of that for clause,
+-- then it stands as that control identifier."
+abbrev pub step3 : ℕ → Heading → Found
+step3 a noHeading = nowhere
+step3 a (parameters xs) = nowhere
+step3 a (control d) = firstOf a (d ∷ [])
+
+-- no goto leaves a block expression or a procedure: what is found beyond is seen across it
+abbrev pub outOf : Block → Found → Found
+outOf b f = if b .closed then across f else f
+
+abbrev pub before : Heading → Found → Found
+before noHeading f = f
+before (parameters xs) f = across f
+before (control d) f = f
 
 -- "Otherwise, these rules are applied considering the smallest block embracing the block which has previously been considered."
+unfoldable pub identify : ℕ → List Block → Found
+identify a [] = nowhere
+identify a (b ∷ bs) =
+    otherwise (step1 a b) (outOf b
+    (otherwise (step2 a (b .heading))
+    (otherwise (step3 a (b .heading)) (before (b .heading)
+    (identify a bs)))))
+
+-- what a name denotes with this around it, innermost first
 unfoldable pub lookup : ℕ → List Scope → Found
-lookup a [] = nowhere
-lookup a (inBlock ds ∷ ss) = otherwise (step1 a ds) (lookup a ss)
-lookup a (inExpression ds ∷ ss) = otherwise (step1 a ds) (across (lookup a ss))
-lookup a (inProcedure xs ∷ ss) = otherwise (step2 a xs) (across (lookup a ss))
+lookup a ss = identify a (blocksFrom false ss)

@@ -16,6 +16,7 @@ pub mod Outline
 pub mod Outlined
 pub mod Sizes
 pub mod Tests
+pub mod Lookup
 pub mod Once
 pub mod Typing
 pub mod Trees

@@ -76,7 +76,7 @@ fn headed(heading: u32, t: u32, env: &[u32], top: usize, name: u32, at: usize) -
     }
 }
 
-// A wall stands around a procedure's body: no goto leaves it.
+// A procedure: its heading, and behind the wall of that its body.
 fn procedure(
     table: &[u8],
     part: &[u8],
@@ -91,8 +91,7 @@ fn procedure(
     let heading = table_entries::b_at(part, 0);
     let name = table_entries::a_at(part, 0);
     let parameters = heading as usize / 256;
-    table_scopes::push(env, top, 65537, 0, 0, 0);
-    let up = table_scopes::add_head(table, at + 1, parameters, 4, env, top + 1);
+    let up = table_scopes::enter_procedure(table, at + 1, parameters, env, top);
     match table_scopes::head(table, at + 1, parameters, env, up) {
         Verdict::Fine(_) => {
             let from = ENTRY_BYTES * (1 + parameters);

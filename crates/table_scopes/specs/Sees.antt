@@ -15,6 +15,7 @@ use Rattle.language.specs.Table.{Entry, inLayout}
 use Rattle.language.specs.Names.{Sort, isVariable, isLabel, isClass, isField, isProcedure, Definition, types, Scope, inBlock, inExpression, inProcedure, nowhere, found}
 use Rattle.language.specs.Names.{firstOf, otherwise, across, lookup}
 use Rattle.language.specs.Names as names
+use Rattle.language_laws.specs.Lookup.{lookup-none, lookup-block, lookup-expression, lookup-procedure}
 use Rattle.language_laws.specs.Claims.{entriesOf}
 use Rattle.table_scopes.specs.declared.environment.Found.{Found}
 use Rattle.table_scopes.specs.declared.environment.Found.the-variants.{Nothing, Def}
@@ -99,26 +100,23 @@ across-agrees l (Def s n q w) (found t b) h = (refl, h .1)
 -- within a block, a block expression, a procedure
 module _ {l : List ℕ} {v : List Item} {ss : List Scope} (h : Sees l v ss) (is : List Item) (ds : List Definition) (m : Matches l is ds) (small : Small is) where
   pub sees-block : Sees l (addAll is (item opened 0 0 0 ∷ v)) (inBlock ds ∷ ss)
-  unfolding lookup
   sees-block = record {
     sees = λ a k.
-        rw (find-block a k opened is v (omega arith) small, sym (passing-none (find a v)))
+        rw (find-block a k opened is v (omega arith) small, sym (passing-none (find a v)), lookup-block a ds ss)
         (or-agrees l (firstIn a is) (find a v) (firstOf a ds) (lookup a ss) (first-agrees l a is ds m) (h .sees a k));
   }
 
   pub sees-expression : Sees l (addAll is (item shut 0 0 0 ∷ v)) (inExpression ds ∷ ss)
-  unfolding lookup
   sees-expression = record {
     sees = λ a k.
-        rw (find-block a k shut is v (omega arith) small)
+        rw (find-block a k shut is v (omega arith) small, lookup-expression a ds ss)
         (or-agrees l (firstIn a is) (passing true (find a v)) (firstOf a ds) (across (lookup a ss)) (first-agrees l a is ds m) (across-agrees l (find a v) (lookup a ss) (h .sees a k)));
   }
 
   pub sees-procedure : Sees l (addAll is (item shut 0 0 0 ∷ v)) (inProcedure ds ∷ ss)
-  unfolding lookup
   sees-procedure = record {
     sees = λ a k.
-        rw (find-block a k shut is v (omega arith) small)
+        rw (find-block a k shut is v (omega arith) small, lookup-procedure a ds ss)
         (or-agrees l (firstIn a is) (passing true (find a v)) (firstOf a ds) (across (lookup a ss)) (first-agrees l a is ds m) (across-agrees l (find a v) (lookup a ss) (h .sees a k)));
   }
 
@@ -127,5 +125,5 @@ pub sees-value : {l : List ℕ} {v : List Item} {ss : List Scope} (t : ℕ) → 
 sees-value {v = v} t h = record { sees = λ a k. rw (past-mark a k value 0 t 0 v (omega arith), sym (passing-none (find a v))) (h .sees a k) }
 
 pub sees-none : (l : List ℕ) → Sees l [] []
-unfolding find lookup
-sees-none l = record { sees = λ a k. tt }
+unfolding find
+sees-none l = record { sees = λ a k. rw (lookup-none a) tt }

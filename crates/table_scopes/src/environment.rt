@@ -1,4 +1,9 @@
-// The names in sight: a stack in lent numbers, four to an item: name, sort, number and place.
+// The names in sight: a stack in lent numbers, four to an item: name, sort, number and place. They lie in the order of the steps of section 3 of
+// 000, so that a lookup, going down, takes the steps in their order. Topmost are
+//   step 1: the names of the smallest block around, its declarations and labels (`open`), down to the mark that it begins with; below it,
+//   step 2: where that block is a procedure body, the formal parameters of the heading (`enter_procedure`), down to a wall;
+//   step 3: where a for clause precedes it, the control identifier (no table has one yet);
+// and then, in the same order, what belongs to the smallest block around that block.
 ghost use mathlib.Core.Path.{_≡_};
 ghost use mathlib.Core.Bool.{_||_};
 ghost use mathlib.Core.List.{_∷_, []};
@@ -34,7 +39,7 @@ fn walled(passed: bool, name: u32) -> bool
     if passed { true } else { name == 65537 }
 }
 
-// The definition of a name that is in sight: the innermost.
+// The definition of a name that is in sight, by the rules of section 3 of 000.
 pub fn find(env: &[u32], top: usize, name: u32) -> Found
     requires { ⌜ 4 * top ≤ length (now env) ⌝ }
     ensures { λ r. ⌜ r ≡ find name (envOf (now (env .entry)) top) ⌝ }
@@ -45,9 +50,11 @@ pub fn find(env: &[u32], top: usize, name: u32) -> Found
         i -= 1;
         let at = 4 * i;
         let n = env[at];
+        // Step 1, step 2 or step 3: whichever finds the name first.
         if n == name {
             return Found::Def(env[at + 1], env[at + 2], env[at + 3], passed);
         }
+        // Otherwise the next step, and after the third the next block.
         passed = walled(passed, n);
     }
     Found::Nothing

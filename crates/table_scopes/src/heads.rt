@@ -275,7 +275,7 @@ pub fn enter_root(
     open_root(table, heads, after, items, sizes, env).top
 }
 
-// A block or a block expression, by the mark given.
+// A block or a block expression, by the mark given: the names that step 1 finds.
 pub fn open(
     table: &[u8],
     at: usize,
@@ -319,6 +319,23 @@ pub fn enter(
         (1 + length (blockItems (now (table .entry)) at heads items)) ⌝ }
 {
     open(table, at, heads, items, mark, sizes, env, top).top
+}
+
+// A procedure heading: the formal parameters, which step 2 finds, behind a wall, since no goto leaves a procedure.
+pub fn enter_procedure(
+    table: &[u8],
+    at: usize,
+    parameters: usize,
+    env: &mut [u32],
+    top: usize,
+) -> usize
+    requires { ⌜ (8 * (at + parameters) ≤ length (now table)) × (length (now table) ≤ 16384) × (4 * (top + (1 + length (itemsAt 4 (now table) at parameters))) ≤ length (now env)) ⌝ }
+    ensures { λ r. ⌜ Grown top (now (env .entry)) (now (env .exit)) r
+        (addAll (itemsAt 4 (now (table .entry)) at parameters) (item 65537 0 0 0 ∷ envOf (now (env .entry)) top))
+        (1 + length (itemsAt 4 (now (table .entry)) at parameters)) ⌝ }
+{
+    environment::push(env, top, 65537, 0, 0, 0);
+    add_head(table, at, parameters, 4, env, top + 1)
 }
 
 // The definition at `at` is the one that its block has of the name: of two the first is found.

@@ -31,39 +31,45 @@ enum Meaning<'t> {
     Procedure(&'t Procedure),
 }
 
-/// "Blocks for names: kind 1, kind 53, and one block per procedure for its parameters,
-/// around its body. In each, one name space".
-struct Scope<'t> {
-    sort: ScopeSort,
-    names: HashMap<Name, Meaning<'t>>,
+type Definitions<'t> = HashMap<Name, Meaning<'t>>;
+
+/// A block as section 3 of 000 speaks of it: "A statement following a procedure heading or a
+/// for clause is considered to be a block." A body that is a kind 1 or 53 is that one block,
+/// any other is a block without names.
+struct NamedBlock<'t> {
+    /// Of its declarations and labels, in one name space.
+    names: Definitions<'t>,
+    heading: Heading<'t>,
+    /// A kind 53, which no goto leaves.
+    is_expression: bool,
 }
 
-#[derive(Clone, Copy, PartialEq)]
-enum ScopeSort {
-    Block,
-    BlockExpression,
-    Parameters,
+/// What stands before a block; for clauses come with request 1.
+enum Heading<'t> {
+    Nothing,
+    /// The formal parameters of a procedure heading.
+    Parameters(Definitions<'t>),
 }
 
 struct Names<'t> {
     /// From the root's block inward.
-    scopes: Vec<Scope<'t>>,
+    blocks: Vec<NamedBlock<'t>>,
     /// The entries that define a name which an earlier entry of the same block defines:
     /// "3: the second of two".
     twice: HashSet<usize>,
 }
 
 pub fn judge_names(tree: &Tree) -> Result<(), Refusal> {
-    let mut names = Names { scopes: Vec::new(), twice: HashSet::new() };
-    names.block(&tree.root, ScopeSort::Block)
+    let mut names = Names { blocks: Vec::new(), twice: HashSet::new() };
+    names.block(&tree.root, Heading::Nothing)
 }
 
 impl<'t> Names<'t> {
-    /// Opens a block with the names that its head and its labels define, which come in the
-    /// order of their entries. "Of two definitions the first by index is what a lookup finds."
-    fn open(&mut self, sort: ScopeSort, definitions: Vec<(usize, Name, Meaning<'t>)>) {
+    /// The definitions of a block or a heading, which come in the order of their entries.
+    /// "Of two definitions the first by index is what a lookup finds."
+    fn definitions(&mut self, list: Vec<(usize, Name, Meaning<'t>)>) -> Definitions<'t> {
         let mut names = HashMap::new();
-        for (at, name, meaning) in definitions {
+        for (at, name, meaning) in list {
             match names.entry(name) {
                 hash_map::Entry::Vacant(place) => {
                     place.insert(meaning);
@@ -73,34 +79,63 @@ impl<'t> Names<'t> {
                 }
             }
         }
-        self.scopes.push(Scope { sort, names });
+        names
     }
 
-    fn close(&mut self) {
-        self.scopes.pop();
+    fn close(&mut self) -> Option<NamedBlock<'t>> {
+        self.blocks.pop()
     }
 
-    /// "Names follow section 3 of 000: innermost block first."
     fn find(&self, name: Name) -> Option<Meaning<'t>> {
-        for scope in self.scopes.iter().rev() {
-            if let Some(meaning) = scope.names.get(&name) {
-                return Some(*meaning);
+        self.identify(name).map(|(meaning, _)| meaning)
+    }
+
+    /// The rules of section 3 of 000, and whether what is found lies beyond a procedure or a
+    /// block expression.
+    fn identify(&self, name: Name) -> Option<(Meaning<'t>, bool)> {
+        let mut beyond = false;
+        for block in self.blocks.iter().rev() {
+            // Step 1. "If the identifier is defined by a declaration of a quantity or by its
+            // standing as a label within the smallest block"
+            if let Some(meaning) = block.names.get(&name) {
+                return Some((*meaning, beyond));
             }
+            // Step 2. "Otherwise, if that block is a procedure body and if the given identifier
+            // is identical with a formal parameter"
+            if let Heading::Parameters(parameters) = &block.heading {
+                if let Some(meaning) = parameters.get(&name) {
+                    return Some((*meaning, beyond));
+                }
+                beyond = true;
+            }
+            // Step 3. "Otherwise, if that block is preceded by a for clause": none is, yet.
+            // "Otherwise, these rules are applied considering the smallest block embracing the
+            // block which has previously been considered."
+            beyond |= block.is_expression;
         }
         None
     }
 
-    /// A block or the block part of a block expression; the scope stays open in neither.
-    fn block(&mut self, block: &'t Block, sort: ScopeSort) -> Result<(), Refusal> {
-        self.open_block(block, sort);
+    /// A block; it stays open nowhere.
+    fn block(&mut self, block: &'t Block, heading: Heading<'t>) -> Result<(), Refusal> {
+        self.open_block(block, heading, false);
         self.block_parts(block)?;
         self.close();
         Ok(())
     }
 
+    /// A block expression, and its type.
+    fn block_expression(&mut self, block: &'t Block, value: &'t Expr, heading: Heading<'t>) -> Result<Type, Refusal> {
+        self.open_block(block, heading, true);
+        self.block_parts(block)?;
+        let ty = self.expression(value)?;
+        self.close();
+        Ok(ty)
+    }
+
     /// "All names of a head are visible throughout it." "Fields belong to the root's head,
     /// labels to their block, parameters to one around the body."
-    fn open_block(&mut self, block: &'t Block, sort: ScopeSort) {
+    fn open_block(&mut self, block: &'t Block, heading: Heading<'t>, is_expression: bool) {
         let mut definitions = Vec::new();
         for d in &block.head {
             match &d.kind {
@@ -121,7 +156,8 @@ impl<'t> Names<'t> {
                 definitions.push((s.at, name, Meaning::Label));
             }
         }
-        self.open(sort, definitions);
+        let names = self.definitions(definitions);
+        self.blocks.push(NamedBlock { names, heading, is_expression });
     }
 
     fn block_parts(&mut self, block: &'t Block) -> Result<(), Refusal> {
@@ -179,16 +215,16 @@ impl<'t> Names<'t> {
         for v in &p.parameters {
             parameters.push((v.at, v.name, Meaning::Variable(v.ty)));
         }
-        self.open(ScopeSort::Parameters, parameters);
+        let heading = Heading::Parameters(self.definitions(parameters));
+        // a block without names, until the body is known to be one with some
+        self.blocks.push(NamedBlock { names: HashMap::new(), heading, is_expression: false });
         for v in &p.parameters {
             self.variable(v)?;
         }
-        let mut right_type = true;
-        match &p.body {
-            Body::Statement(s) => self.statement(s)?,
-            Body::Expression(result, e) => right_type = self.expression(e)? == *result,
-        }
-        self.close();
+        let right_type = match &p.body {
+            Body::Statement(s) => self.body_statement(s).map(|_| true)?,
+            Body::Expression(result, e) => self.body_expression(e)? == *result,
+        };
         self.not_twice(p.at)?;
         // "A function body's type other than its result: 4 at the kind 12."
         if !right_type {
@@ -197,9 +233,34 @@ impl<'t> Names<'t> {
         Ok(())
     }
 
+    /// The heading that was opened for a body: the body's own block has it, if it is one.
+    fn heading(&mut self) -> Heading<'t> {
+        self.close().map_or(Heading::Nothing, |block| block.heading)
+    }
+
+    fn body_statement(&mut self, s: &'t Stmt) -> Result<(), Refusal> {
+        if let StmtKind::Block(block) = &s.kind {
+            let heading = self.heading();
+            return self.block(block, heading);
+        }
+        self.statement(s)?;
+        self.close();
+        Ok(())
+    }
+
+    fn body_expression(&mut self, e: &'t Expr) -> Result<Type, Refusal> {
+        if let ExprKind::Block(block, value) = &e.kind {
+            let heading = self.heading();
+            return self.block_expression(block, value, heading);
+        }
+        let ty = self.expression(e)?;
+        self.close();
+        Ok(ty)
+    }
+
     fn statement(&mut self, s: &'t Stmt) -> Result<(), Refusal> {
         match &s.kind {
-            StmtKind::Block(block) => self.block(block, ScopeSort::Block),
+            StmtKind::Block(block) => self.block(block, Heading::Nothing),
             StmtKind::Label(_) => self.not_twice(s.at),
             StmtKind::Assign(target, value) => {
                 let target = self.expression(target)?;
@@ -251,20 +312,13 @@ impl<'t> Names<'t> {
     /// "goto: no visible definition 3; visible and no label 4; a visible label across a
     /// procedure or block-expression boundary 5."
     fn goto(&self, at: usize, name: Name) -> Result<(), Refusal> {
-        let mut boundary = false;
-        for scope in self.scopes.iter().rev() {
-            match scope.names.get(&name) {
-                Some(Meaning::Label) if boundary => return refuse(5, at),
-                Some(Meaning::Label) => return Ok(()),
-                Some(_) => return refuse(4, at),
-                None => {}
-            }
+        match self.identify(name) {
+            None => refuse(3, at),
             // "within its body and not out of a block expression"
-            if scope.sort != ScopeSort::Block {
-                boundary = true;
-            }
+            Some((Meaning::Label, true)) => refuse(5, at),
+            Some((Meaning::Label, false)) => Ok(()),
+            Some(_) => refuse(4, at),
         }
-        refuse(3, at)
     }
 
     fn expressions(&mut self, list: &'t [Expr]) -> Result<Vec<Type>, Refusal> {
@@ -352,13 +406,7 @@ impl<'t> Names<'t> {
                 demand(x == Type::Integer, e.at)?;
                 Ok(Type::Integer)
             }
-            ExprKind::Block(block, value) => {
-                self.open_block(block, ScopeSort::BlockExpression);
-                self.block_parts(block)?;
-                let ty = self.expression(value)?;
-                self.close();
-                Ok(ty)
-            }
+            ExprKind::Block(block, value) => self.block_expression(block, value, Heading::Nothing),
         }
     }
 }

@@ -1,9 +1,5 @@
 -- `table_names::faults::procedure` meets its contract. Assumes nothing.
 use native.Mathlib.Omega.{arith}
-use Prim.Native.Nat.{_+_, _/_}
-use Rattle.table_scopes.specs.Environment.{item}
-use Rattle.table_scopes.specs.EnvironmentLaws.{grown-push}
-use Rattle.table_scopes.specs.Items.{itemsAt, grown-marked}
 use Rattle.table_forms.specs.Root.{global-asks}
 use Rattle.table_forms.specs.Procedures.{proc-asks, proc-top, proc-body, proc-stop, proc-stop-2, proc-judged}
 use borrow.Author.Needs.{needs}
@@ -20,128 +16,81 @@ a-at-requires c κs =
     let at-start = c .before .before .before .before .before in
     omega (arith, global-asks (at-start .pre) .0)
 
-push-requires : tie.Need-push-requires
-push-requires c κs =
+add-enter-procedure : tie.Need-add-enter-procedure
+add-enter-procedure c =
+    let at-start = c .before .before .before .before .before .before in
+    omega (arith, proc-asks (c .before .b-at .result) (c .before .b-at .ensures) (at-start .pre) .small)
+
+enter-procedure-requires : tie.Need-enter-procedure-requires
+enter-procedure-requires c κs =
     let at-b-at = c .before .before in
-    let at-start = at-b-at .before .before .before .before .before in
-    omega (arith, proc-asks (at-b-at .b-at .result) (at-b-at .b-at .ensures) (at-start .pre) .room)
-
-add-add-head : tie.Need-add-add-head
-add-add-head c =
-    let at-b-at = c .before .before .before .before .before in
-    let at-start = at-b-at .before .before .before .before .before in
-    omega (arith, proc-asks (at-b-at .b-at .result) (at-b-at .b-at .ensures) (at-start .pre) .small)
-
-add-add-head-2 : tie.Need-add-add-head-2
-add-add-head-2 c =
-    let at-b-at = c .before .before .before .before .before .before in
-    let at-start = at-b-at .before .before .before .before .before in
-    omega (arith, proc-asks (at-b-at .b-at .result) (at-b-at .b-at .ensures) (at-start .pre) .room)
-
-add-head-requires : tie.Need-add-head-requires
-add-head-requires c κs =
-    let at-b-at = c .before .before .before .before .before .before in
     let at-start = at-b-at .before .before .before .before .before in (
       proc-asks (at-b-at .b-at .result) (at-b-at .b-at .ensures) (at-start .pre) .within,
       proc-asks (at-b-at .b-at .result) (at-b-at .b-at .ensures) (at-start .pre) .short,
-      omega (
-        arith,
-        proc-asks (at-b-at .b-at .result) (at-b-at .b-at .ensures) (at-start .pre) .room,
-        (grown-push (at-start .args .env .now) _ (at-start .args .top) 65537 0 0 0
-            (omega (arith, proc-asks (at-b-at .b-at .result) (at-b-at .b-at .ensures) (at-start .pre) .room)) (c .before .before .before .push .ensures)) .same,
-      ),
+      omega (arith, proc-asks (at-b-at .b-at .result) (at-b-at .b-at .ensures) (at-start .pre) .room),
     )
 
 add-head : tie.Need-add-head
 add-head c =
-    let at-b-at = c .before .before .before .before .before .before .before .before .before in
+    let at-b-at = c .before .before .before .before .before in
     let at-start = at-b-at .before .before .before .before .before in
     omega (arith, proc-asks (at-b-at .b-at .result) (at-b-at .b-at .ensures) (at-start .pre) .small)
 
 head-requires : tie.Need-head-requires
 head-requires c κs =
-    let at-push = c .before .before .before .before .before .before .before in
-    let at-b-at = at-push .before .before .before in
+    let at-b-at = c .before .before .before .before .before .before in
     let at-start = at-b-at .before .before .before .before .before in (
       proc-asks (at-b-at .b-at .result) (at-b-at .b-at .ensures) (at-start .pre) .within,
-      proc-top (at-b-at .b-at .result) (at-b-at .b-at .ensures)
-          (grown-marked (item 65537 0 0 0) (itemsAt 4 (at-start .args .table .now) ((at-start .args .at) + 1) (at-b-at .b-at .result / 256))
-          (grown-push (at-start .args .env .now) _ (at-start .args .top) 65537 0 0 0
-          (omega (arith, proc-asks (at-b-at .b-at .result) (at-b-at .b-at .ensures) (at-start .pre) .room)) (at-push .push .ensures))
-          (c .before .before .before .add-head .ensures)) (at-start .pre),
+      proc-top (at-b-at .b-at .result) (at-b-at .b-at .ensures) (c .before .before .before .enter-procedure .ensures) (at-start .pre),
     )
-
-enum-told : tie.Need-enum-told
-enum-told c = search needs
 
 sub-body : tie.Need-sub-body
 sub-body c =
-    let at-b-at = c .before .before .before .before .before .before .before .before .before .before .before .before .before in
+    let at-b-at = c .before .before .before .before .before .before .before .before .before in
     let at-start = at-b-at .before .before .before .before .before in
     proc-asks (at-b-at .b-at .result) (at-b-at .b-at .ensures) (at-start .pre) .fits
 
 part-body-start : tie.Need-part-body-start
 part-body-start c =
-    let at-b-at = c .before .before .before .before .before .before .before .before .before .before .before .before .before in
+    let at-b-at = c .before .before .before .before .before .before .before .before .before in
     let at-start = at-b-at .before .before .before .before .before in
     proc-asks (at-b-at .b-at .result) (at-b-at .b-at .ensures) (at-start .pre) .fits
 
 add-body : tie.Need-add-body
 add-body c =
-    let at-b-at = c .before .before .before .before .before .before .before .before .before .before .before .before .before .before in
+    let at-b-at = c .before .before .before .before .before .before .before .before .before .before in
     let at-start = at-b-at .before .before .before .before .before in
     omega (arith, proc-asks (at-b-at .b-at .result) (at-b-at .b-at .ensures) (at-start .pre) .small)
 
 add-body-2 : tie.Need-add-body-2
 add-body-2 c =
-    let at-b-at = c .before .before .before .before .before .before .before .before .before .before .before .before .before .before in
+    let at-b-at = c .before .before .before .before .before .before .before .before .before .before in
     let at-start = at-b-at .before .before .before .before .before in
     omega (arith, proc-asks (at-b-at .b-at .result) (at-b-at .b-at .ensures) (at-start .pre) .small)
 
 body-requires : tie.Need-body-requires
 body-requires c κs =
-    let at-add-head = c .before .before .before .before .before .before .before .before in
-    let at-push = at-add-head .before .before .before .before in
-    let at-b-at = at-push .before .before .before in
+    let at-enter-procedure = c .before .before .before .before .before .before .before .before in
+    let at-b-at = at-enter-procedure .before .before .before in
     let at-start = at-b-at .before .before .before .before .before in
-    proc-body (at-b-at .b-at .result) (at-b-at .b-at .ensures)
-    (grown-marked (item 65537 0 0 0) (itemsAt 4 (at-start .args .table .now) ((at-start .args .at) + 1) (at-b-at .b-at .result / 256))
-    (grown-push (at-start .args .env .now) _ (at-start .args .top) 65537 0 0 0
-    (omega (arith, proc-asks (at-b-at .b-at .result) (at-b-at .b-at .ensures) (at-start .pre) .room)) (at-push .push .ensures))
-    (at-add-head .add-head .ensures)) (at-start .pre)
+    proc-body (at-b-at .b-at .result) (at-b-at .b-at .ensures) (at-enter-procedure .enter-procedure .ensures) (at-start .pre)
 
 headed-requires : tie.Need-headed-requires
 headed-requires c κs =
     let at-body = c .before .before .before .before .before .before in
-    let at-add-head = at-body .before .before .before .before .before .before .before .before .before in
-    let at-push = at-add-head .before .before .before .before in
-    let at-b-at = at-push .before .before .before in
-    let at-start = at-b-at .before .before .before .before .before in
-    omega (
-      arith,
-      global-asks (at-start .pre) .2,
-      at-body .body .ensures .same,
-      (grown-marked (item 65537 0 0 0) (itemsAt 4 (at-start .args .table .now) ((at-start .args .at) + 1) (at-b-at .b-at .result / 256))
-          (grown-push (at-start .args .env .now) _ (at-start .args .top) 65537 0 0 0
-          (omega (arith, proc-asks (at-b-at .b-at .result) (at-b-at .b-at .ensures) (at-start .pre) .room)) (at-push .push .ensures))
-          (at-add-head .add-head .ensures)) .same,
-    )
+    let at-enter-procedure = at-body .before .before .before .before .before .before .before .before .before in
+    let at-start = at-enter-procedure .before .before .before .before .before .before .before .before in
+    omega (arith, global-asks (at-start .pre) .2, at-body .body .ensures .same, at-enter-procedure .enter-procedure .ensures .same)
 
 returns : tie.Need-returns
 returns c =
     let at-body = c .before .before .before .before .before .before .before in
     let at-enum-told = at-body .before .before .before in
     let at-head = at-enum-told .before .before in
-    let at-add-head = at-head .before .before .before .before in
-    let at-push = at-add-head .before .before .before .before in
-    let at-a-at = at-push .before .before in
+    let at-enter-procedure = at-head .before .before .before .before in
+    let at-a-at = at-enter-procedure .before .before in
     let at-b-at = at-a-at .before in
-    let at-start = at-b-at .before .before .before .before .before in
-    proc-judged (at-b-at .b-at .result) (at-b-at .b-at .ensures)
-    (grown-marked (item 65537 0 0 0) (itemsAt 4 (at-start .args .table .now) ((at-start .args .at) + 1) (at-b-at .b-at .result / 256))
-    (grown-push (at-start .args .env .now) _ (at-start .args .top) 65537 0 0 0
-    (omega (arith, proc-asks (at-b-at .b-at .result) (at-b-at .b-at .ensures) (at-start .pre) .room)) (at-push .push .ensures))
-    (at-add-head .add-head .ensures)) (at-head .head .ensures) _ (at-enum-told .enum-told .given .1) (at-body .body .ensures) _
+    proc-judged (at-b-at .b-at .result) (at-b-at .b-at .ensures) (at-enter-procedure .enter-procedure .ensures) (at-head .head .ensures) _ (at-enum-told .enum-told .given .1) (at-body .body .ensures) _
     (c .before .before .before .t .given .1) (rw (at-a-at .a-at .ensures) at (c .headed .ensures))
 
 returns-2 : tie.Need-returns-2
@@ -149,27 +98,16 @@ returns-2 c =
     let at-body = c .before .before .before .before .before in
     let at-enum-told = at-body .before .before .before in
     let at-head = at-enum-told .before .before in
-    let at-add-head = at-head .before .before .before .before in
-    let at-push = at-add-head .before .before .before .before in
-    let at-b-at = at-push .before .before .before in
-    let at-start = at-b-at .before .before .before .before .before in
-    proc-stop-2 (at-b-at .b-at .result) (at-b-at .b-at .ensures)
-    (grown-marked (item 65537 0 0 0) (itemsAt 4 (at-start .args .table .now) ((at-start .args .at) + 1) (at-b-at .b-at .result / 256))
-    (grown-push (at-start .args .env .now) _ (at-start .args .top) 65537 0 0 0
-    (omega (arith, proc-asks (at-b-at .b-at .result) (at-b-at .b-at .ensures) (at-start .pre) .room)) (at-push .push .ensures))
-    (at-add-head .add-head .ensures)) (at-head .head .ensures) _ (at-enum-told .enum-told .given .1) (at-body .body .ensures) _ _ (c .before .n .given .1)
+    let at-enter-procedure = at-head .before .before .before .before in
+    let at-b-at = at-enter-procedure .before .before .before in
+    proc-stop-2 (at-b-at .b-at .result) (at-b-at .b-at .ensures) (at-enter-procedure .enter-procedure .ensures) (at-head .head .ensures) _ (at-enum-told .enum-told .given .1) (at-body .body .ensures) _ _
+    (c .before .n .given .1)
 
 returns-3 : tie.Need-returns-3
 returns-3 c =
-    let at-add-head = c .before .before .before .before .before .before .before in
-    let at-push = at-add-head .before .before .before .before in
-    let at-b-at = at-push .before .before .before in
-    let at-start = at-b-at .before .before .before .before .before in
-    proc-stop (at-b-at .b-at .result) (at-b-at .b-at .ensures)
-    (grown-marked (item 65537 0 0 0) (itemsAt 4 (at-start .args .table .now) ((at-start .args .at) + 1) (at-b-at .b-at .result / 256))
-    (grown-push (at-start .args .env .now) _ (at-start .args .top) 65537 0 0 0
-    (omega (arith, proc-asks (at-b-at .b-at .result) (at-b-at .b-at .ensures) (at-start .pre) .room)) (at-push .push .ensures))
-    (at-add-head .add-head .ensures)) (c .before .before .before .head .ensures) _ _ (c .before .n2 .given .1)
+    let at-enter-procedure = c .before .before .before .before .before .before .before in
+    let at-b-at = at-enter-procedure .before .before .before in
+    proc-stop (at-b-at .b-at .result) (at-b-at .b-at .ensures) (at-enter-procedure .enter-procedure .ensures) (c .before .before .before .head .ensures) _ _ (c .before .n2 .given .1)
 
 pub procedure-spec : {M : Type 1} → statement M
 procedure-spec =
@@ -178,13 +116,11 @@ procedure-spec =
     b-at-requires
     a-at-requires
     (λ c. search needs)
-    push-requires
-    add-add-head
-    add-add-head-2
-    add-head-requires
+    add-enter-procedure
+    enter-procedure-requires
     add-head
     head-requires
-    enum-told
+    (λ c. search needs)
     (λ c. search needs)
     (λ c. search needs)
     sub-body
