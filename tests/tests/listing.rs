@@ -49,7 +49,7 @@ fn the_stored_listings() {
             count += 1;
         }
     }
-    assert_eq!(count, 10);
+    assert_eq!(count, 11);
 }
 
 // Tables with the listing that is written down.

@@ -101,7 +101,7 @@ definesGlobals (procedure a xs b ∷ gs) = define a (isProcedure (types xs) (res
 pub data Scope : Type 0 where
   inBlock : List Definition → Scope  -- a block
   inExpression : List Definition → Scope  -- a block expression, which no goto leaves
-  inProcedure : List Definition → Scope  -- a procedure heading, "parameters to one around the body", which no goto leaves
+  inProcedure : List Definition → Scope  -- a procedure heading, by its parameters: "parameters to one around the body", which no goto leaves
 
 -- what it defines
 abbrev pub definitions : Scope → List Definition
@@ -144,7 +144,7 @@ across (found s w) = found s true
 pub data Heading : Type 0 where
   noHeading : Heading
   parameters : List Definition → Heading
-  control : Definition → Heading  -- request 1 will give loops theirs
+  control : Definition → Heading  -- of no table yet: request 1
 
 pub record Block : Type 0 where
   pub names : List Definition  -- declared in it, and its labels
@@ -175,19 +175,25 @@ step1 a b = firstOf a (b .names)
 
 -- Step 2. "Otherwise, if that block is a procedure body and if the given identifier is identical with a formal parameter in the associated
 -- procedure heading, then it stands as that formal parameter."
-abbrev pub step2 : ℕ → Heading → Found
-step2 a noHeading = nowhere
-step2 a (parameters xs) = firstOf a xs
-step2 a (control d) = nowhere
+abbrev pub formalParameters : Heading → List Definition
+formalParameters noHeading = []
+formalParameters (parameters xs) = xs
+formalParameters (control d) = []
+
+abbrev pub step2 : ℕ → Block → Found
+step2 a b = firstOf a (formalParameters (b .heading))
 
 -- Step 3. "Otherwise, if that block is preceded by a for clause and the identifier is identical to the control identifier of that for clause,
 -- then it stands as that control identifier."
-abbrev pub step3 : ℕ → Heading → Found
-step3 a noHeading = nowhere
-step3 a (parameters xs) = nowhere
-step3 a (control d) = firstOf a (d ∷ [])
+abbrev pub controlIdentifier : Heading → List Definition
+controlIdentifier noHeading = []
+controlIdentifier (parameters xs) = []
+controlIdentifier (control d) = d ∷ []
 
--- no goto leaves a block expression or a procedure: what is found beyond is seen across it
+abbrev pub step3 : ℕ → Block → Found
+step3 a b = firstOf a (controlIdentifier (b .heading))
+
+-- no goto leaves a block expression, nor what follows a procedure heading: what is found beyond is seen across it
 abbrev pub outOf : Block → Found → Found
 outOf b f = if b .closed then across f else f
 
@@ -201,8 +207,8 @@ unfoldable pub identify : ℕ → List Block → Found
 identify a [] = nowhere
 identify a (b ∷ bs) =
     otherwise (step1 a b) (outOf b
-    (otherwise (step2 a (b .heading))
-    (otherwise (step3 a (b .heading)) (before (b .heading)
+    (otherwise (step2 a b)
+    (otherwise (step3 a b) (before (b .heading)
     (identify a bs)))))
 
 -- what a name denotes with this around it, innermost first

@@ -10,12 +10,13 @@ fn entry(kind: u16, a: usize, b: usize) -> Entry {
 }
 
 /// What each is, its bytes, and the number of its verdict.
-pub fn worst_case_tables() -> [(&'static str, Vec<u8>, u8); 6] {
+pub fn worst_case_tables() -> [(&'static str, Vec<u8>, u8); 7] {
     [
         ("labels", bytes_of(&labels(MOST - 1)), 0),
         ("gotos to the first", bytes_of(&labels(MOST / 2)), 0),
         ("nested blocks", bytes_of(&nested()), 0),
         ("one name, nested", bytes_of(&hidden()), 0),
+        ("parameter, nested", bytes_of(&parameter()), 0),
         ("references", bytes_of(&references()), 6),
         ("arguments", bytes_of(&arguments()), 4),
     ]
@@ -57,6 +58,21 @@ fn hidden() -> Vec<Entry> {
             list.extend((0..left % 3).map(|_| entry(1, 0, 0)));
         }
     }
+    list
+}
+
+/// A procedure with one parameter, whose body is blocks, one in the other, with a name each; the innermost uses the parameter (step 2 of section 3 of 000).
+fn parameter() -> Vec<Entry> {
+    let blocks = 30;
+    let mut list = entries("1 1 0, 12 2 256, 10 1 1");
+    let left = MOST - list.len() - 2 * blocks;
+    for block in 0..blocks {
+        let last = block == blocks - 1;
+        list.push(entry(1, 1, if last { left / 3 + left % 3 } else { 1 }));
+        list.push(entry(10, 0, 1));
+    }
+    list.extend((0..left / 3).flat_map(|_| entries("21 0 0, 44 1 0, 44 1 0")));
+    list.extend((0..left % 3).map(|_| entry(1, 0, 0)));
     list
 }
 
