@@ -107,7 +107,8 @@ typed-global a (x ∷ xs) = pick (eqb (x .name) a) (typed-global a xs)
 
 pub globals-root : (t : Tree) → GlobalsIn (t .head) (rootOf t ∷ [])
 globals-root t a s w g h =
-    outer (definesGlobals (t .head)) (t .items) a s w nowhere (no-label s w g) (sym (lookup-root a (definesGlobals (t .head) ++ definesItems (t .items))) ∙ h) ((v : Bool) × (firstOf a (definesGlobals (t .head)) ≡ found s v))
+    outer (definesGlobals (t .head)) (t .items) a s w nowhere (no-label s w g) (sym (lookup-root a (definesGlobals (t .head) ++ definesItems (t .items))) ∙ h)
+    ((v : Bool) × (firstOf a (definesGlobals (t .head)) ≡ found s v))
     (λ q. (w, q)) (λ n q. nothing s w q)
 
 pub globals-block : (gs : List Global) (ds : List Decl) (is : Items) (ss : List Scope) → GlobalsIn gs ss → GlobalsIn gs (blockOf ds is ∷ ss)
@@ -117,7 +118,8 @@ globals-block gs ds is ss k a s w g h =
 
 pub globals-expression : (gs : List Global) (ds : List Decl) (is : Items) (ss : List Scope) → GlobalsIn gs ss → GlobalsIn gs (expressionOf ds is ∷ ss)
 globals-expression gs ds is ss k a s w g h =
-    outer (definesHead ds) is a s w (across (lookup a ss)) (no-label s w g) (sym (lookup-expression a (definesHead ds ++ definesItems is) ss) ∙ h) ((v : Bool) × (firstOf a (definesGlobals gs) ≡ found s v))
+    outer (definesHead ds) is a s w (across (lookup a ss)) (no-label s w g) (sym (lookup-expression a (definesHead ds ++ definesItems is) ss) ∙ h)
+    ((v : Bool) × (firstOf a (definesGlobals gs) ≡ found s v))
     (λ q. let z : NoGlobal (found s w) = subst NoGlobal q (head-global a ds) in absurd (z g)) (λ n q. let u = uncross (lookup a ss) s w q in k a s (u .0) g (u .1))
 
 pub globals-procedure : (gs : List Global) (xs : List Typed) (ss : List Scope) → GlobalsIn gs ss → GlobalsIn gs (procedureOf xs ∷ ss)

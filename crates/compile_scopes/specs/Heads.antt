@@ -148,11 +148,13 @@ no-class c (holding g ∷ ds) ts w h = no-class c ds ts w h
 
 pub classes-block : (gs : List Global) (ds : List Decl) (is : Items) (ss : List Scope) → Classes gs ss → Classes gs (blockOf ds is ∷ ss)
 classes-block gs ds is ss k c ts w h e =
-    outer (definesHead ds) is c (isClass ts) w (lookup c ss) (λ q. q) (sym (lookup-block c (definesHead ds ++ definesItems is) ss) ∙ e) (classNumber gs c < 240) (λ q. absurd (no-class c ds ts w q)) (λ n q. k c ts w h q)
+    outer (definesHead ds) is c (isClass ts) w (lookup c ss) (λ q. q) (sym (lookup-block c (definesHead ds ++ definesItems is) ss) ∙ e) (classNumber gs c < 240)
+    (λ q. absurd (no-class c ds ts w q)) (λ n q. k c ts w h q)
 
 pub classes-expression : (gs : List Global) (ds : List Decl) (is : Items) (ss : List Scope) → Classes gs ss → Classes gs (expressionOf ds is ∷ ss)
 classes-expression gs ds is ss k c ts w h e =
-    outer (definesHead ds) is c (isClass ts) w (across (lookup c ss)) (λ q. q) (sym (lookup-expression c (definesHead ds ++ definesItems is) ss) ∙ e) (classNumber gs c < 240) (λ q. absurd (no-class c ds ts w q))
+    outer (definesHead ds) is c (isClass ts) w (across (lookup c ss)) (λ q. q) (sym (lookup-expression c (definesHead ds ++ definesItems is) ss) ∙ e) (classNumber gs c < 240)
+    (λ q. absurd (no-class c ds ts w q))
     (λ n q. let u = uncross (lookup c ss) (isClass ts) w q in k c ts (u .0) h (u .1))
 
 -- ── the variables of a head ──

@@ -116,7 +116,8 @@ module _ {l : List ℕ} (legible : Legible l) (place : ℕ) (ds : List Decl) (is
       let classes = classes-expression (W .globals) ds is (scopesOf Γ) (classes-known see know) in
       let bytes = bytes-head legible (W .globals) (expressionOf ds is ∷ scopesOf Γ) classes (place + 1) [] ds (heads-stand legible (place + 1) ds is expression-stands) good in
       rw (items-are legible (place + 1) ds is expression-stands)
-      (knows-within (knows-marks (openIn ds) know) shut (expressionOf ds is) (place + 1) ds is p across (omega arith) (λ ss a. lookup-expression a (definesHead ds ++ definesItems is) ss) (λ a f y k. known-across W Γ a f y k)
+      (knows-within (knows-marks (openIn ds) know) shut (expressionOf ds is) (place + 1) ds is p across (omega arith)
+      (λ ss a. lookup-expression a (definesHead ds ++ definesItems is) ss) (λ a f y k. known-across W Γ a f y k)
       (items-are-small legible (place + 1) ds is expression-stands) good bytes (lies-left _ _ numbers) (omega (arith, cells-append (map flatDecl ds) (flatItems is ++ flatE x))))
 
   pub knows-in-expression : {W : Walk} {v : List Item} {Γ : List Around} → Sees l v (scopesOf Γ) → Knows W v Γ → goodHead (expressionOf ds is ∷ scopesOf Γ) [] ds

@@ -90,8 +90,8 @@ returns c =
     let at-enter-procedure = at-head .before .before .before .before in
     let at-a-at = at-enter-procedure .before .before in
     let at-b-at = at-a-at .before in
-    proc-judged (at-b-at .b-at .result) (at-b-at .b-at .ensures) (at-enter-procedure .enter-procedure .ensures) (at-head .head .ensures) _ (at-enum-told .enum-told .given .1) (at-body .body .ensures) _
-    (c .before .before .before .t .given .1) (rw (at-a-at .a-at .ensures) at (c .headed .ensures))
+    proc-judged (at-b-at .b-at .result) (at-b-at .b-at .ensures) (at-enter-procedure .enter-procedure .ensures) (at-head .head .ensures) _
+    (at-enum-told .enum-told .given .1) (at-body .body .ensures) _ (c .before .before .before .t .given .1) (rw (at-a-at .a-at .ensures) at (c .headed .ensures))
 
 returns-2 : tie.Need-returns-2
 returns-2 c =
@@ -100,8 +100,8 @@ returns-2 c =
     let at-head = at-enum-told .before .before in
     let at-enter-procedure = at-head .before .before .before .before in
     let at-b-at = at-enter-procedure .before .before .before in
-    proc-stop-2 (at-b-at .b-at .result) (at-b-at .b-at .ensures) (at-enter-procedure .enter-procedure .ensures) (at-head .head .ensures) _ (at-enum-told .enum-told .given .1) (at-body .body .ensures) _ _
-    (c .before .n .given .1)
+    proc-stop-2 (at-b-at .b-at .result) (at-b-at .b-at .ensures) (at-enter-procedure .enter-procedure .ensures) (at-head .head .ensures) _
+    (at-enum-told .enum-told .given .1) (at-body .body .ensures) _ _ (c .before .n .given .1)
 
 returns-3 : tie.Need-returns-3
 returns-3 c =
