@@ -80,10 +80,15 @@ impl Untyped<'_> {
                     let (parameters, result) = (self.rng.below(3), *self.rng.pick(&[0, 0, 0, 1, 1, 2]));
                     self.put(12, name, 256 * parameters as i32 + result);
                     (0..parameters).for_each(|_| self.variable());
-                    if result == 0 {
-                        self.statement(3, false);
-                    } else {
-                        self.expression(3);
+                    // Half of the bodies are blocks, which may define the names of the parameters again.
+                    match (result, self.rng.chance(50)) {
+                        (0, true) => self.block(1, 3),
+                        (0, false) => self.statement(3, false),
+                        (_, true) => {
+                            self.block(53, 3);
+                            self.expression(4);
+                        }
+                        (_, false) => self.expression(3),
                     }
                 }
                 4 => self.put(14, name, 0),
