@@ -1,22 +1,23 @@
 -- How the tree runs: by names and blocks. (paper 01, How the tree runs; 000, section 7)
--- Fuel bounds the loop rounds, caught gotos and calls under way; an execution that needs more is still going on.
+-- Fuel bounds the loop rounds and turns, caught gotos and calls under way; an execution that needs more is still going on.
 use mathlib.Core.Bool.{Bool, true, false, _&&_, Bool·beq}
 use mathlib.Core.List.{List, [], _∷_, _++_, reverse}
 use mathlib.Core.Option.{Option, none, some}
 use Prim.Native.Nat.{ℕ, zero, suc}
 use lib.Dec.{eqb, ltb}
-use lib.IntN.{pos}
+use lib.IntN.{ℤ, pos}
 use lib.ListN.{length, getElem?}
 use lib.ListN.{set as put}
+use lib.Signed.{ltZ, leZ}
 use Rattle.logic.specs.Choice.{if_then_else_}
 use Rattle.logic.specs.Options.{isSome, orElse, ifSome}
 use Rattle.words.specs.Numbers.{wordOf}
-use Rattle.values.specs.Ends.{fieldOfNull, assertFalse, caseIndex, outOfRange, tooManyActivations, tooManyRecords}
+use Rattle.values.specs.Ends.{fieldOfNull, assertFalse, caseIndex, outOfRange, tooManyActivations, tooManyRecords, stepZero}
 use Rattle.values.specs.Operators.{Binary, both, either, binaryCode}
-use Rattle.values.specs.Arithmetic.{Outcome, gives, ends, mistyped}
+use Rattle.values.specs.Arithmetic.{Outcome, gives, ends, mistyped, isZero, sum}
 use Rattle.values.specs.Values.{Value, int, log, bit, ref, asInteger, asLogical, asReference, Cell, assigned, fresh, between, size, apply1, apply2}
 use Rattle.values.specs.Trace.{Event, set, hold, release, Item, event, reading}
-use Rattle.language.specs.Tree.{Typed, Decl, declare, holding, Stmt, block, assign, when, choose, while, goto, assert, call, setLevel, select, Items, noItem, label}
+use Rattle.language.specs.Tree.{Typed, Decl, declare, holding, Stmt, block, assign, when, choose, while, goto, assert, call, setLevel, select, for, Items, noItem, label}
 use Rattle.language.specs.Tree.{item, Arms, lastArm, arm, Target, toVariable, toField, Expr, number, truth, pattern, null, variable, invoke, field, make, operate1}
 use Rattle.language.specs.Tree.{operate2, conditional, fader, blockExpr, Exprs, noExpr, expr, Body, proper, function, Global, local, class, procedure, Tree, locals}
 
@@ -232,9 +233,32 @@ from a noItem = none
 from a (label b is) = if eqb a b then some is else from a is
 from a (item s is) = from a is
 
+-- ── loops ──
+-- a for whose step and limit are known
+pub record Loop : Type 0 where
+  pub control : ℕ
+  pub step : ℤ
+  pub limit : ℤ
+  pub statement : Stmt
+
+-- a turn is due: the value has not passed the limit in the direction of the step (000, 7.8.1; O6)
+unfoldable pub due : Loop → ℤ → Bool
+due l v = if ltZ (l .step) (pos 0) then leZ (l .limit) v else leZ v (l .limit)
+
+-- one turn of the statement, in a block of its own where the control name has this value
+unfoldable pub turning : ℕ → ℤ → (Place → Store → Result (Unit {0})) → Place → Store → Result (Unit {0})
+turning a v f X σ = leaving (λ τ. outerBlocks (τ .blocks)) (f X (withBlocks ((slot a (assigned (int v)) ∷ []) ∷ σ .blocks) σ))
+
+-- the next value is exact: "A loop whose next value would pass the 32-bit range ends there without a condition." (ticket 1)
+unfoldable pub advancing : Outcome ℤ → (ℤ → Store → Result (Unit {0})) → Store → Result (Unit {0})
+advancing (gives w) f σ = f w σ
+advancing (ends c) f σ = done tt σ
+advancing mistyped f σ = wrong
+
 -- ── one level of execution over what is run with less fuel ──
 pub record Less : Type 0 where
-  pub again : Expr → Stmt → Place → Store → Result (Unit {0})  -- a loop's next round
+  pub again : Expr → Stmt → Place → Store → Result (Unit {0})  -- a while's next round
+  pub further : Loop → ℤ → Place → Store → Result (Unit {0})  -- a for from its next value on
   pub resume : Items → Items → Place → Store → Result (Unit {0})  -- a block's statements from a label on
   pub callS : Body → Place → Store → Result (Unit {0})
   pub callE : Body → Place → Store → Result Value
@@ -289,6 +313,17 @@ armAt zero f g X σ = condition caseIndex X σ
 armAt (suc zero) f g X σ = f σ
 armAt (suc (suc n)) f g X σ = g (suc n) σ
 
+-- the value is tested before each turn; then "statement-0; statement-1; …" (000, 7.8.1)
+unfoldable pub turns : Less → Loop → (Place → Store → Result (Unit {0})) → ℤ → Place → Store → Result (Unit {0})
+turns r l f v X σ =
+    if due l v
+    then next (turning (l .control) v f X σ) (λ u τ. advancing (sum v (l .step)) (λ w ρ. r .further l w X ρ) τ)
+    else done tt σ
+
+-- 28: "step zero, found after the limit"
+unfoldable pub counted : Less → Loop → (Place → Store → Result (Unit {0})) → ℤ → Place → Store → Result (Unit {0})
+counted r l f v X σ = if isZero (l .step) then condition stepZero X σ else turns r l f v X σ
+
 module _ (W : World) (r : Less) where
   unfoldable mutual
     pub exec : Stmt → Place → Store → Result (Unit {0})
@@ -303,6 +338,11 @@ module _ (W : World) (r : Less) where
     exec (call a es) X σ = next (evals es X σ) (λ vs τ. activate (procedureIn a (W .globals)) (r .callS) vs X τ)
     exec (setLevel e f) X σ = next (eval e X σ) (λ v τ. next (eval f X τ) (λ w ρ. doSet v w X ρ))
     exec (select e rs) X σ = next (eval e X σ) (λ v τ. asked (asInteger v) (λ z. execArm rs (size z) X τ))
+    -- "The three are evaluated once, in that order." (ticket 1)
+    exec (for a e f g s) X σ =
+        next (eval e X σ) (λ u τ. next (eval f X τ) (λ v ρ. next (eval g X ρ) (λ w π.
+        asked (asInteger u) (λ x. asked (asInteger v) (λ y. asked (asInteger w) (λ z.
+        counted r (record { control = a; step = y; limit = z; statement = s }) (λ Y μ. exec s Y μ) x X π))))))
 
     pub execItems : Items → Place → Store → Result (Unit {0})
     execItems noItem X σ = done tt σ
@@ -349,9 +389,10 @@ module _ (W : World) (r : Less) where
 
 -- with so much fuel
 unfoldable pub fueled : World → ℕ → Less
-fueled W zero = record { again = λ e s X σ. later σ; resume = λ is js X σ. later σ; callS = λ b X σ. later σ; callE = λ b X σ. later σ }
+fueled W zero = record { again = λ e s X σ. later σ; further = λ l v X σ. later σ; resume = λ is js X σ. later σ; callS = λ b X σ. later σ; callE = λ b X σ. later σ }
 fueled W (suc n) = let r = fueled W n in record {
   again = λ e s X σ. exec W r (while e s) X σ;
+  further = λ l v X σ. turns r l (λ Y μ. exec W r (l .statement) Y μ) v X σ;
   resume = λ is js X σ. catch r is X (execItems W r js X σ);
   callS = λ b X σ. execBody W r b X σ;
   callE = λ b X σ. evalBody W r b X σ;

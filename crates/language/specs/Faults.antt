@@ -12,11 +12,11 @@ use Rattle.logic.specs.Lists.{among}
 use Rattle.values.specs.Types.{Ty, integer, logical, bits, reference, same, fits, allFit}
 use Rattle.values.specs.Ends.{Refusal, refusal}
 use Rattle.values.specs.Operators.{unary, binary, opType}
-use Rattle.language.specs.Tree.{Typed, Decl, declare, holding, Stmt, block, assign, when, choose, while, goto, assert, call, setLevel, select, Items, noItem, label}
+use Rattle.language.specs.Tree.{Typed, Decl, declare, holding, Stmt, block, assign, when, choose, while, goto, assert, call, setLevel, select, for, Items, noItem, label}
 use Rattle.language.specs.Tree.{item, Arms, lastArm, arm, Target, toVariable, toField, Expr, number, truth, pattern, null, variable, invoke, field, make, operate1}
 use Rattle.language.specs.Tree.{operate2, conditional, fader, blockExpr, Exprs, noExpr, expr, Body, proper, function, Global, local, class, procedure, Tree}
 use Rattle.language.specs.Measure.{Measure, measureS, measureItems, measureArms, measureTarget, measureE, measureEs}
-use Rattle.language.specs.Names.{Sort, asVariable, asLabel, asClass, asField, asProcedure, Scope, blockOf, expressionOf, procedureOf, rootOf, Found, nowhere, found, lookup}
+use Rattle.language.specs.Names.{Sort, asVariable, asAssignable, asLabel, asClass, asField, asProcedure, Scope, blockOf, expressionOf, procedureOf, loopOf, rootOf, Found, nowhere, found, lookup}
 
 -- ── what is found ──
 -- what a name was found as, if as one of this sort
@@ -106,6 +106,9 @@ named (found s w) f p = mistypedUnless (f s) p
 abbrev pub variableSort : Sort → Bool
 variableSort s = isSome (asVariable s)
 
+abbrev pub assignableSort : Sort → Bool
+assignableSort s = isSome (asAssignable s)
+
 abbrev pub classSort : Sort → Bool
 classSort s = isSome (asClass s)
 
@@ -140,7 +143,7 @@ typeFaults ss (reference c) p = named (lookup c ss) classSort p
 -- ── how many entries a part has, so that each has its place ──
 abbrev pub bySize : Measure
 bySize =
-    record { ofNone = 0; ofParts = _+_; ofEntry = suc; ofLabel = suc; ofCase = suc; ofBlock = λ ds n. suc (length ds + n); stacked = false }
+    record { ofNone = 0; ofParts = _+_; ofEntry = suc; ofLabel = suc; ofCase = suc; ofLoop = suc; ofBlock = λ ds n. suc (length ds + n); stacked = false }
 
 abbrev pub sizeS : Stmt → ℕ
 sizeS s = measureS bySize s
@@ -194,6 +197,12 @@ unfoldable mutual
       faultsE ss (suc p) e
       ++ (faultsE ss (suc p + sizeE e) f ++ mistypedUnless (isTy integer (typeE ss e) && isTy integer (typeE ss f)) p)
   faultsS ss p (select e r) = faultsE ss (suc p) e ++ (faultsArms ss (suc p + sizeE e) r ++ mistypedUnless (isTy integer (typeE ss e)) p)
+  faultsS ss p (for a e f g s) =
+      faultsE ss (suc p) e
+      ++ (faultsE ss (suc p + sizeE e) f
+      ++ (faultsE ss (suc p + sizeE e + sizeE f) g
+      ++ (faultsS (loopOf a ∷ ss) (suc p + sizeE e + sizeE f + sizeE g) s
+      ++ mistypedUnless (isTy integer (typeE ss e) && (isTy integer (typeE ss f) && isTy integer (typeE ss g))) p)))
 
   pub faultsItems : List Scope → List ℕ → ℕ → Items → List Refusal
   faultsItems ss seen p noItem = []
@@ -205,7 +214,7 @@ unfoldable mutual
   faultsArms ss p (arm s r) = faultsS ss p s ++ faultsArms ss (p + sizeS s) r
 
   pub faultsTarget : List Scope → ℕ → Target → List Refusal
-  faultsTarget ss p (toVariable a) = named (lookup a ss) variableSort p
+  faultsTarget ss p (toVariable a) = named (lookup a ss) assignableSort p
   faultsTarget ss p (toField a e) = faultsE ss (suc p) e ++ named (lookup a ss) (fieldOf (typeE ss e)) p
 
   pub faultsE : List Scope → ℕ → Expr → List Refusal

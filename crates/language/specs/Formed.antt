@@ -11,11 +11,11 @@ use lib.IntN.{ℤ}
 use lib.ListN.{getElem?}
 use Rattle.values.specs.Types.{Ty, integer, logical, bits, reference, fits}
 use Rattle.values.specs.Operators.{Unary, Binary, unary, binary, opType}
-use Rattle.language.specs.Tree.{Typed, Decl, Stmt, block, assign, when, choose, while, goto, assert, call, setLevel, select, Items, noItem, label, item, Arms}
+use Rattle.language.specs.Tree.{Typed, Decl, Stmt, block, assign, when, choose, while, goto, assert, call, setLevel, select, for, Items, noItem, label, item, Arms}
 use Rattle.language.specs.Tree.{lastArm, arm, Target, toVariable, toField, Expr, number, truth, pattern, null, variable, invoke, field, make, operate1, operate2}
 use Rattle.language.specs.Tree.{conditional, fader, blockExpr, Exprs, noExpr, expr, Body, proper, function, Global, procedure, Tree}
-use Rattle.language.specs.Names.{Sort, isVariable, isLabel, isClass, isField, isProcedure, Definition, Scope, definitions, blockOf, expressionOf, procedureOf}
-use Rattle.language.specs.Names.{rootOf, nowhere, found, firstOf, lookup}
+use Rattle.language.specs.Names.{Sort, isVariable, isLabel, isClass, isField, isProcedure, isControl, Definition, Scope, definitions, blockOf, expressionOf, procedureOf}
+use Rattle.language.specs.Names.{loopOf, rootOf, nowhere, found, firstOf, lookup}
 use Rattle.language.specs.Limits.{Usage, bodyUsage, rootUsage}
 
 -- ── names ──
@@ -46,6 +46,7 @@ Declared ss isLabel = Unit {0}
 Declared ss (isClass ts) = Unit {0}
 Declared ss (isField c t) = IsType ss t
 Declared ss (isProcedure ts us) = Unit {0}
+Declared ss isControl = Unit {0}
 
 -- a block's definitions: no name "twice in a block", whatever the two define (N4, N7)
 pub data Defines (ss : Blocks) : List Definition → Type 0 where
@@ -67,6 +68,7 @@ mutual
     t-pattern : {ss : Blocks} {z : ℤ} → HasType ss (pattern z) bits
     t-null : {ss : Blocks} {c : ℕ} {ts : List Ty} → Denotes ss c (isClass ts) → HasType ss (null c) (reference c)
     t-variable : {ss : Blocks} {a : ℕ} {t : Ty} → Denotes ss a (isVariable t) → HasType ss (variable a) t
+    t-control : {ss : Blocks} {a : ℕ} → Denotes ss a isControl → HasType ss (variable a) integer
     -- "45 function a with b arguments": a procedure with a result (N12)
     t-invoke : {ss : Blocks} {a : ℕ} {es : Exprs} {ts : List Ty} {t : Ty} → Denotes ss a (isProcedure ts (t ∷ [])) → Fit ss es ts → HasType ss (invoke a es) t
     -- "46 field a of (E)": of a reference to the class that owns the field (N16)
@@ -90,7 +92,7 @@ mutual
     f-none : {ss : Blocks} → Fit ss noExpr []
     f-more : {ss : Blocks} {e : Expr} {es : Exprs} {t u : Ty} {us : List Ty} → HasType ss e t → fits t u ≡ true → Fit ss es us → Fit ss (expr e es) (u ∷ us)
 
-  -- a target is of the type: "assign (variable or field E, value E)"
+  -- a target is of the type: "assign (variable or field E, value E)"; a control name "cannot be assigned" (ticket 1)
   pub data Assignable : Blocks → Target → Ty → Type 0 where
     a-variable : {ss : Blocks} {a : ℕ} {t : Ty} → Denotes ss a (isVariable t) → Assignable ss (toVariable a) t
     a-field : {ss : Blocks} {a c : ℕ} {e : Expr} {t : Ty} → Denotes ss a (isField c t) → HasType ss e (reference c) → Assignable ss (toField a e) t
@@ -111,6 +113,9 @@ mutual
     -- "28 set (channel E, level E); 30 case (E, then a statements, a at least 1)" (N24)
     s-set : {ss : Blocks} {e f : Expr} → HasType ss e integer → HasType ss f integer → Formed ss (setLevel e f)
     s-case : {ss : Blocks} {e : Expr} {r : Arms} → HasType ss e integer → ArmsFormed ss r → Formed ss (select e r)
+    -- "Kind 31, a the control name, takes start, step and limit expressions and a statement." (ticket 1)
+    s-for : {ss : Blocks} {a : ℕ} {e f g : Expr} {s : Stmt} → HasType ss e integer → HasType ss f integer → HasType ss g integer
+        → Formed (loopOf a ∷ ss) s → Formed ss (for a e f g s)
 
   -- each of a block's statements
   pub data ItemsFormed : Blocks → Items → Type 0 where

@@ -9,7 +9,7 @@ use Rattle.language.specs.Tree.{Typed, Decl, declare, holding, Stmt, Ite
 use Rattle.language.specs.Measure.{Measure, measureS, measureItems, measureArms, measureTarget, measureE, measureEs}
 use Rattle.language.specs.Faults.{faultIf, sizeGlobal}
 
--- ── cells: "parameters, variables of all its blocks, one per case"; siblings share none (L4) ──
+-- ── cells: "parameters, variables of all its blocks, one per case"; "Each loop counts three cells." (ticket 1); siblings share none (L4) ──
 abbrev pub declCells : Decl → ℕ
 declCells (declare x) = 1
 declCells (holding g) = 0
@@ -21,9 +21,21 @@ headCells (d ∷ ds) = declCells d + headCells ds
 abbrev pub caseCells : ℕ
 caseCells = 1
 
+abbrev pub loopCells : ℕ
+loopCells = 3
+
 abbrev pub byCells : Measure
 byCells =
-    record { ofNone = 0; ofParts = _+_; ofEntry = λ n. n; ofLabel = λ n. n; ofCase = λ n. caseCells + n; ofBlock = λ ds n. headCells ds + n; stacked = false }
+    record {
+      ofNone = 0;
+      ofParts = _+_;
+      ofEntry = λ n. n;
+      ofLabel = λ n. n;
+      ofCase = λ n. caseCells + n;
+      ofLoop = λ n. loopCells + n;
+      ofBlock = λ ds n. headCells ds + n;
+      stacked = false;
+    }
 
 abbrev pub cellsS : Stmt → ℕ
 cellsS s = measureS byCells s
@@ -54,7 +66,7 @@ headHolds (d ∷ ds) = declHolds d + headHolds ds
 
 abbrev pub byHolds : Measure
 byHolds =
-    record { ofNone = 0; ofParts = max; ofEntry = λ n. n; ofLabel = λ n. n; ofCase = λ n. n; ofBlock = λ ds n. headHolds ds + n; stacked = false }
+    record { ofNone = 0; ofParts = max; ofEntry = λ n. n; ofLabel = λ n. n; ofCase = λ n. n; ofLoop = λ n. n; ofBlock = λ ds n. headHolds ds + n; stacked = false }
 
 abbrev pub holdsS : Stmt → ℕ
 holdsS s = measureS byHolds s
@@ -85,6 +97,7 @@ byNeed =
       ofEntry = λ n. n;
       ofLabel = λ n. n;
       ofCase = max 2;  -- "a case needs at least 2"
+      ofLoop = λ n. n;
       ofBlock = λ ds n. n;  -- "counts as its neediest part"
       stacked = true;  -- "i − 1 plus the need of its i-th operand"
     }

@@ -3,7 +3,7 @@ use mathlib.Core.Bool.{Bool}
 use mathlib.Core.List.{List}
 use Prim.Native.Nat.{ℕ, suc, _+_}
 use Rattle.logic.specs.Choice.{if_then_else_}
-use Rattle.language.specs.Tree.{Decl, Stmt, block, assign, when, choose, while, goto, assert, call, setLevel, select, Items, noItem, label, item, Arms, lastArm}
+use Rattle.language.specs.Tree.{Decl, Stmt, block, assign, when, choose, while, goto, assert, call, setLevel, select, for, Items, noItem, label, item, Arms, lastArm}
 use Rattle.language.specs.Tree.{arm, Target, toVariable, toField, Expr, number, truth, pattern, null, variable, invoke, field, make, operate1, operate2}
 use Rattle.language.specs.Tree.{conditional, fader, blockExpr, Exprs, noExpr, expr}
 
@@ -14,6 +14,7 @@ pub record Measure : Type 0 where
   pub ofEntry : ℕ → ℕ  -- an entry, over its operands
   pub ofLabel : ℕ → ℕ  -- a label, over the items after it
   pub ofCase : ℕ → ℕ  -- a case, over its operands
+  pub ofLoop : ℕ → ℕ  -- a for, over its operands
   pub ofBlock : List Decl → ℕ → ℕ  -- a block or block expression, over the parts after its declarations
   pub stacked : Bool  -- whether an operand counts those before it, "i − 1 plus the need of its i-th operand"
 
@@ -37,6 +38,8 @@ unfoldable mutual
   measureS m (call a es) = m .ofEntry (measureEs m 0 es)
   measureS m (setLevel e f) = m .ofEntry (m .ofParts (measureE m e) (operand m 1 (measureE m f)))
   measureS m (select e r) = m .ofCase (m .ofParts (measureE m e) (measureArms m r))
+  measureS m (for a e f g s) =
+      m .ofLoop (m .ofParts (measureE m e) (m .ofParts (operand m 1 (measureE m f)) (m .ofParts (operand m 2 (measureE m g)) (measureS m s))))
 
   pub measureItems : Measure → Items → ℕ
   measureItems m noItem = m .ofNone

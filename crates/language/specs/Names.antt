@@ -5,7 +5,7 @@ use mathlib.Core.Option.{Option, none, some}
 use Prim.Native.Nat.{ℕ}
 use lib.Dec.{eqb}
 use Rattle.logic.specs.Choice.{if_then_else_}
-use Rattle.values.specs.Types.{Ty}
+use Rattle.values.specs.Types.{Ty, integer}
 use Rattle.language.specs.Tree.{Typed, Decl, declare, holding, Items, noItem, label, item, Body, proper, function, Global, local, class, procedure, Tree}
 
 -- what a name may be defined as
@@ -15,6 +15,7 @@ pub data Sort : Type 0 where
   isClass : List Ty → Sort  -- the types of its fields
   isField : ℕ → Ty → Sort  -- the class that owns it, and its type
   isProcedure : List Ty → List Ty → Sort  -- the types of its parameters, and of its result, if it has one
+  isControl : Sort  -- a control name: "an integer of the loop only", which "cannot be assigned" (ticket 1)
 
 -- each sort asked for: what a name of it is, if it is of that one
 abbrev pub asVariable : Sort → Option Ty
@@ -23,6 +24,16 @@ asVariable isLabel = none
 asVariable (isClass ts) = none
 asVariable (isField c t) = none
 asVariable (isProcedure ts us) = none
+asVariable isControl = some integer
+
+-- what may be assigned to
+abbrev pub asAssignable : Sort → Option Ty
+asAssignable (isVariable t) = some t
+asAssignable isLabel = none
+asAssignable (isClass ts) = none
+asAssignable (isField c t) = none
+asAssignable (isProcedure ts us) = none
+asAssignable isControl = none
 
 abbrev pub asLabel : Sort → Bool
 asLabel (isVariable t) = false
@@ -30,6 +41,7 @@ asLabel isLabel = true
 asLabel (isClass ts) = false
 asLabel (isField c t) = false
 asLabel (isProcedure ts us) = false
+asLabel isControl = false
 
 abbrev pub asClass : Sort → Option (List Ty)
 asClass (isVariable t) = none
@@ -37,6 +49,7 @@ asClass isLabel = none
 asClass (isClass ts) = some ts
 asClass (isField c t) = none
 asClass (isProcedure ts us) = none
+asClass isControl = none
 
 -- its class, and its type
 abbrev pub asField : Sort → Option (ℕ × Ty)
@@ -45,6 +58,7 @@ asField isLabel = none
 asField (isClass ts) = none
 asField (isField c t) = some (c, t)
 asField (isProcedure ts us) = none
+asField isControl = none
 
 -- the types of its parameters, and of its result
 abbrev pub asProcedure : Sort → Option (List Ty × List Ty)
@@ -53,6 +67,7 @@ asProcedure isLabel = none
 asProcedure (isClass ts) = none
 asProcedure (isField c t) = none
 asProcedure (isProcedure ts us) = some (ts, us)
+asProcedure isControl = none
 
 pub record Definition : Type 0 where
   pub name : ℕ
@@ -102,12 +117,14 @@ pub data Scope : Type 0 where
   inBlock : List Definition → Scope  -- a block
   inExpression : List Definition → Scope  -- a block expression, which no goto leaves
   inProcedure : List Definition → Scope  -- a procedure heading, by its parameters: "parameters to one around the body", which no goto leaves
+  inLoop : Definition → Scope  -- a for clause, by its control name
 
 -- what it defines
 abbrev pub definitions : Scope → List Definition
 definitions (inBlock ds) = ds
 definitions (inExpression ds) = ds
 definitions (inProcedure ds) = ds
+definitions (inLoop d) = d ∷ []
 
 abbrev pub blockOf : List Decl → Items → Scope
 blockOf ds is = inBlock (definesHead ds ++ definesItems is)
@@ -117,6 +134,10 @@ expressionOf ds is = inExpression (definesHead ds ++ definesItems is)
 
 abbrev pub procedureOf : List Typed → Scope
 procedureOf xs = inProcedure (definesTyped xs)
+
+-- "The control name is an integer of the loop only": it stands in a block of its own around the statement, not around start, step and limit (N28)
+abbrev pub loopOf : ℕ → Scope
+loopOf a = inLoop (define a isControl)
 
 abbrev pub rootOf : Tree → Scope
 rootOf t = inBlock (definesGlobals (t .head) ++ definesItems (t .items))
@@ -144,7 +165,7 @@ across (found s w) = found s true
 pub data Heading : Type 0 where
   noHeading : Heading
   parameters : List Definition → Heading
-  control : Definition → Heading  -- of no table yet: request 1
+  control : Definition → Heading
 
 pub record Block : Type 0 where
   pub names : List Definition  -- declared in it, and its labels
@@ -157,6 +178,7 @@ headingOf [] = noHeading
 headingOf (inBlock ds ∷ ss) = noHeading
 headingOf (inExpression ds ∷ ss) = noHeading
 headingOf (inProcedure xs ∷ ss) = parameters xs
+headingOf (inLoop d ∷ ss) = control d
 
 -- "A statement following a procedure heading (cf. 5.3) or a for clause (cf. 7.8) is considered to be a block.": a heading is that of the block
 -- directly inside it, which has then `taken` it, and else that of a block without names (N26)
@@ -166,6 +188,8 @@ blocksFrom taken (inBlock ds ∷ ss) = record { names = ds; closed = false; head
 blocksFrom taken (inExpression ds ∷ ss) = record { names = ds; closed = true; heading = headingOf ss } ∷ blocksFrom true ss
 blocksFrom taken (inProcedure xs ∷ ss) =
     if taken then blocksFrom false ss else record { names = []; closed = false; heading = parameters xs } ∷ blocksFrom false ss
+blocksFrom taken (inLoop d ∷ ss) =
+    if taken then blocksFrom false ss else record { names = []; closed = false; heading = control d } ∷ blocksFrom false ss
 
 -- ── the lookup of section 3 of 000 ──
 -- Step 1. "If the identifier is defined by a declaration of a quantity or by its standing as a label within the smallest block (cf. 7.1)

@@ -11,7 +11,7 @@ use Rattle.logic.specs.Lists.{all}
 use Rattle.words.specs.Numbers.{half, word, wordOf}
 use Rattle.values.specs.Types.{tyCode}
 use Rattle.values.specs.Operators.{unaryCode, binaryCode}
-use Rattle.language.specs.Tree.{Typed, Decl, declare, holding, Stmt, block, assign, when, choose, while, goto, assert, call, setLevel, select, Items, noItem, label}
+use Rattle.language.specs.Tree.{Typed, Decl, declare, holding, Stmt, block, assign, when, choose, while, goto, assert, call, setLevel, select, for, Items, noItem, label}
 use Rattle.language.specs.Tree.{item, Arms, lastArm, arm, Target, toVariable, toField, Expr, number, truth, pattern, null, variable, invoke, field, make, operate1}
 use Rattle.language.specs.Tree.{operate2, conditional, fader, blockExpr, Exprs, noExpr, expr, Body, proper, function, Global, local, class, procedure, Tree}
 use Rattle.language.specs.Tree.{countItems, countArms, countExprs}
@@ -43,6 +43,7 @@ unfoldable mutual
   flatS (call a es) = entry 27 a (pos (countExprs es)) ∷ flatEs es
   flatS (setLevel e f) = entry 28 0 (pos 0) ∷ (flatE e ++ flatE f)
   flatS (select e r) = entry 30 (countArms r) (pos 0) ∷ (flatE e ++ flatArms r)
+  flatS (for a e f g s) = entry 31 a (pos 0) ∷ (flatE e ++ (flatE f ++ (flatE g ++ flatS s)))
 
   pub flatItems : Items → List Entry
   flatItems noItem = []
@@ -109,7 +110,7 @@ deepHead (d ∷ ds) = 1
 
 abbrev pub byDepth : Measure
 byDepth =
-    record { ofNone = 0; ofParts = max; ofEntry = suc; ofLabel = max 1; ofCase = suc; ofBlock = λ ds n. suc (max (deepHead ds) n); stacked = false }
+    record { ofNone = 0; ofParts = max; ofEntry = suc; ofLabel = max 1; ofCase = suc; ofLoop = suc; ofBlock = λ ds n. suc (max (deepHead ds) n); stacked = false }
 
 abbrev pub deepS : Stmt → ℕ
 deepS s = measureS byDepth s

@@ -14,7 +14,7 @@ use Rattle.values.specs.Ends.{refusal, Judged, accepted, refused}
 use Rattle.values.specs.Operators.{negate, plus, unaryOf, binaryOf}
 use Rattle.values.specs.Arithmetic.{isZero}
 use Rattle.values.specs.Values.{between}
-use Rattle.language.specs.Tree.{Typed, typed, Decl, declare, holding, Stmt, block, assign, when, choose, while, goto, assert, call, setLevel, select, Items, noItem}
+use Rattle.language.specs.Tree.{Typed, typed, Decl, declare, holding, Stmt, block, assign, when, choose, while, goto, assert, call, setLevel, select, for, Items, noItem}
 use Rattle.language.specs.Tree.{label, item, Arms, lastArm, arm, Target, toVariable, toField, Expr, number, truth, pattern, null, variable, invoke, field, make}
 use Rattle.language.specs.Tree.{operate1, operate2, conditional, fader, blockExpr, Exprs, noExpr, expr, Body, proper, function, Global, local, class, procedure}
 use Rattle.language.specs.Tree.{Tree}
@@ -64,6 +64,7 @@ inLayout e =
     if eqb k 27 then natural z else  -- 27 call a with b arguments
     if eqb k 28 then eqb x 0 && isZero z else  -- 28 set
     if eqb k 30 then leb 1 x && isZero z else  -- 30 case, a at least 1
+    if eqb k 31 then isZero z else  -- "Kind 31, a the control name" (ticket 1)
     if eqb k 40 then eqb x 0 else  -- 40 integer b
     if eqb k 41 then eqb x 0 && between 0 1 z else  -- 41 logical b (0 or 1)
     if eqb k 42 then eqb x 0 else  -- 42 bits b
@@ -99,6 +100,9 @@ two f r q es = after (r es) (λ x. made (f x) q)
 
 abbrev pub three : {A B C D : Type 0} → (A → B → C → D) → Reader A → Reader B → Reader C → Reader D
 three f r q p es = after (r es) (λ x. two (f x) q p)
+
+abbrev pub four : {A B C D E : Type 0} → (A → B → C → D → E) → Reader A → Reader B → Reader C → Reader D → Reader E
+four f r q p o es = after (r es) (λ x. three (f x) q p o)
 
 -- one after the other, as many as the count says
 unfoldable pub repeated : {A : Type 0} → ℕ → Reader A → Reader (List A)
@@ -169,6 +173,7 @@ formS r e es =
     if eqb k 27 then made (call (e .a)) (exprsBelow r e) es else
     if eqb k 28 then two setLevel (r .expr) (r .expr) es else
     if eqb k 30 then three (λ x s ss. select x (armsOf s ss)) (r .expr) (r .stmt) (repeated (e .a - 1) (r .stmt)) es else
+    if eqb k 31 then four (for (e .a)) (r .expr) (r .expr) (r .expr) (r .stmt) es else
     stop (e ∷ es)
 
 -- a label or a statement (R15); b of a block counts both (R20)

@@ -31,6 +31,7 @@ mutual
     call : ℕ → Exprs → Stmt  -- 27
     setLevel : Expr → Expr → Stmt  -- 28
     select : Expr → Arms → Stmt  -- 30
+    for : ℕ → Expr → Expr → Expr → Stmt → Stmt  -- 31: the control name; start, step and limit; the statement
 
   -- the statements of a block: "20 label a, standing only directly among the statements of a block or block expression"
   pub data Items : Type 0 where

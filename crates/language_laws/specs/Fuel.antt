@@ -151,6 +151,7 @@ fuels : (W : World) (n m : ℕ) → n ≤ m → Below MoreFuel (fueled W n) (fue
 unfolding fueled
 fuels W zero m h = let b = below W m in record {
   again = λ e s X σ. none-left (b .again e s X σ);
+  further = λ l v X σ. none-left (b .further l v X σ);
   resume = λ is js X σ. none-left (b .resume is js X σ);
   callS = λ d X σ. none-left (b .callS d X σ);
   callE = λ d X σ. none-left (b .callE d X σ);

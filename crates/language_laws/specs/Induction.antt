@@ -6,19 +6,20 @@ use mathlib.Core.List.{List, [], _∷_}
 use mathlib.Core.Option.{Option, none, some}
 use Prim.Native.Nat.{ℕ, zero, suc}
 use lib.Dec.{ltb}
+use lib.IntN.{ℤ}
 use lib.ListN.{length, getElem?}
 use Rattle.logic.specs.Options.{isSome}
 use Rattle.logic.specs.Choice.{if_then_else_}
-use Rattle.values.specs.Arithmetic.{Outcome, gives, ends, mistyped}
+use Rattle.values.specs.Arithmetic.{Outcome, gives, ends, mistyped, isZero, sum}
 use Rattle.values.specs.Values.{Value, asInteger, asLogical, asReference, Cell, assigned, fresh, between, size, apply1, apply2}
 use Rattle.values.specs.Trace.{set, hold, Item, event, reading}
 use Rattle.language.specs.Tree.{Typed, Decl, declare, holding, Target, toVariable, toField, Exprs, noExpr, expr, Body, proper, function}
-use Rattle.language.specs.Tree.{Stmt, block, assign, when, choose, while, goto, assert, call, setLevel, select, Items, noItem, label, item, Arms, lastArm, arm}
+use Rattle.language.specs.Tree.{Stmt, block, assign, when, choose, while, goto, assert, call, setLevel, select, for, Items, noItem, label, item, Arms, lastArm, arm}
 use Rattle.language.specs.Tree.{Expr, number, truth, pattern, null, variable, invoke, field, make, operate1, operate2, conditional, fader, blockExpr}
 use Rattle.language.specs.Execute.{Slot, slot, Made, Store, withBlocks, withRoot, say, cellIn, cellOf, putIn, putOf, valueOf, assignTo, declareFirst, declareIn}
 use Rattle.language.specs.Execute.{Result, done, jump, wrong, next, Place, under, deeper, condition, settled, asked, branch, cellValue, onMade, onRecord}
 use Rattle.language.specs.Execute.{doSet, doFader, doField, doPutField, ofVariable, ofField, Location, doAssign, pairUp, doMake, decides}
-use Rattle.language.specs.Execute.{letGo, within, leaving, newBlock, Less, catch, Procedure, procedureIn, classIn, World, activate, armAt}
+use Rattle.language.specs.Execute.{letGo, within, leaving, newBlock, Loop, due, turning, advancing, turns, counted, Less, catch, Procedure, procedureIn, classIn, World, activate, armAt}
 use Rattle.language.specs.Execute.{exec, execItems, execArm, locate, eval, evals, execBody, evalBody, fueled}
 use Rattle.language_laws.specs.Holds.{Quiet}
 
@@ -54,6 +55,7 @@ pub record Lawful (R : Claim) : Type 1 where
 -- what is known of the parts that run with one fuel less
 pub record Below (R : Claim) (r s : Less) : Type 0 where
   pub again : (e : Expr) (b : Stmt) → Anywhere R (Unit {0}) (r .again e b) (s .again e b)
+  pub further : (l : Loop) (z : ℤ) → Anywhere R (Unit {0}) (r .further l z) (s .further l z)
   pub resume : (is js : Items) → Anywhere R (Unit {0}) (r .resume is js) (s .resume is js)
   pub callS : (b : Body) → Anywhere R (Unit {0}) (r .callS b) (s .callS b)
   pub callE : (b : Body) → Anywhere R Value (r .callE b) (s .callE b)
@@ -168,6 +170,26 @@ module _ (R : Claim) (L : Lawful R) where
   picks (suc zero) X σ h k = h σ
   picks (suc (suc n)) X σ h k = k (suc n) σ
 
+  -- ── loops ──
+  advances : {X : Place} {σ : Store} (o : Outcome ℤ) {f h : ℤ → Store → Result (Unit {0})} → ((w : ℤ) → Here R (Unit {0}) X (f w) (h w))
+      → R (Unit {0}) X σ (advancing o f σ) (advancing o h σ)
+  unfolding advancing
+  advances {σ = σ} (gives w) k = k w σ
+  advances (ends c) k = L .gives
+  advances mistyped k = L .fails
+
+  -- the tree below the loop is run over one `Less` and over another
+  turned : (r s : Less) (l : Loop) {f h : Place → Store → Result (Unit {0})} (v : ℤ) → Anywhere R (Unit {0}) f h
+      → ((w : ℤ) → Anywhere R (Unit {0}) (r .further l w) (s .further l w)) → Anywhere R (Unit {0}) (turns r l f v) (turns s l h v)
+  unfolding turns turning
+  turned r s l v h k X σ =
+      either-way (due l v) (L .binds (L .leaves _ (L .same refl (h X _))) (λ u τ. advances (sum v (l .step)) (λ w ρ. k w X ρ))) (L .gives)
+
+  counts : (r s : Less) (l : Loop) {f h : Place → Store → Result (Unit {0})} (v : ℤ) → Anywhere R (Unit {0}) f h
+      → ((w : ℤ) → Anywhere R (Unit {0}) (r .further l w) (s .further l w)) → Anywhere R (Unit {0}) (counted r l f v) (counted s l h v)
+  unfolding counted
+  counts r s l v h k X σ = either-way (isZero (l .step)) (L .stops) (turned r s l v h k X σ)
+
   -- ── the tree ──
   module _ (W : World) (r s : Less) (B : Below R r s) where
     mutual
@@ -184,6 +206,10 @@ module _ (R : Claim) (L : Lawful R) where
       statement (call a es) X σ = L .binds (expressions es X σ) (λ vs τ. calls (procedureIn a (W .globals)) vs X τ (B .callS))
       statement (setLevel e f) X σ = L .binds (expression e X σ) (λ v τ. L .binds (expression f X τ) (λ w ρ. sets-level v w X ρ))
       statement (select e cs) X σ = L .binds (expression e X σ) (λ v τ. asks (asInteger v) (λ z. arms cs (size z) X τ))
+      statement (for a e f g b) X σ =
+          L .binds (expression e X σ) (λ u τ. L .binds (expression f X τ) (λ v ρ. L .binds (expression g X ρ) (λ w π.
+          asks (asInteger u) (λ x. asks (asInteger v) (λ y. asks (asInteger w) (λ z. let l : Loop = record { control = a; step = y; limit = z; statement = b } in
+          counts r s l x (λ Y μ. statement b Y μ) (λ i. B .further l i) X π))))))
 
       pub items : (is : Items) → Anywhere R (Unit {0}) (execItems W r is) (execItems W s is)
       items noItem X σ = L .gives
@@ -240,6 +266,7 @@ module _ (R : Claim) (L : Lawful R) where
   unfolding fueled
   more W n m B = record {
     again = λ e b X σ. statement W (fueled W n) (fueled W m) B (while e b) X σ;
+    further = λ l v X σ. turned (fueled W n) (fueled W m) l v (λ Y μ. statement W (fueled W n) (fueled W m) B (l .statement) Y μ) (λ w. B .further l w) X σ;
     resume = λ is js X σ. block-items W (fueled W n) (fueled W m) B is js X σ;
     callS = λ b X σ. bodyS W (fueled W n) (fueled W m) B b X σ;
     callE = λ b X σ. bodyE W (fueled W n) (fueled W m) B b X σ;

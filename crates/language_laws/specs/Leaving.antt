@@ -122,5 +122,5 @@ late X σ = record { leave = (X .holds, stay refl) }
 -- with any fuel
 pub below : (W : World) (n : ℕ) → Below Leaving (fueled W n) (fueled W n)
 unfolding fueled
-below W zero = record { again = λ e b X σ. late X σ; resume = λ is js X σ. late X σ; callS = λ b X σ. late X σ; callE = λ b X σ. late X σ }
+below W zero = record { again = λ e b X σ. late X σ; further = λ l v X σ. late X σ; resume = λ is js X σ. late X σ; callS = λ b X σ. late X σ; callE = λ b X σ. late X σ }
 below W (suc n) = more Leaving lawful W n n (below W n)

@@ -11,11 +11,11 @@ use Rattle.logic.specs.Lists.{among}
 use Rattle.logic.specs.Options.{isSome}
 use Rattle.values.specs.Types.{Ty, integer, logical, bits, reference}
 use Rattle.values.specs.Ends.{Refusal, refusal}
-use Rattle.language.specs.Tree.{Typed, Decl, declare, holding, Stmt, block, assign, when, choose, while, goto, assert, call, setLevel, select, Items, noItem, label, item}
+use Rattle.language.specs.Tree.{Typed, Decl, declare, holding, Stmt, block, assign, when, choose, while, goto, assert, call, setLevel, select, for, Items, noItem, label, item}
 use Rattle.language.specs.Tree.{Arms, lastArm, arm, Target, toVariable, toField, Expr, number, truth, pattern, null, variable, invoke, field, make, operate1, operate2}
 use Rattle.language.specs.Tree.{conditional, fader, blockExpr, Exprs, noExpr, expr, Body, proper, function, Global, local, class, procedure, Tree}
-use Rattle.language.specs.Names.{Sort, asLabel, Scope, blockOf, expressionOf, procedureOf, rootOf, Found, nowhere, found, lookup}
-use Rattle.language.specs.Faults.{typeE, typesE, isTy, sameTy, fitsTy, typeTarget, faultIf, named, variableSort, classSort, classFrom, fieldOf, callOf, aimed, typeFaults}
+use Rattle.language.specs.Names.{Sort, asLabel, Scope, blockOf, expressionOf, procedureOf, loopOf, rootOf, Found, nowhere, found, lookup}
+use Rattle.language.specs.Faults.{typeE, typesE, isTy, sameTy, fitsTy, typeTarget, faultIf, named, variableSort, assignableSort, classSort, classFrom, fieldOf, callOf, aimed, typeFaults}
 use Rattle.language.specs.Faults.{sizeS, sizeItems, sizeTarget, sizeE, faultsTyped, faultsHead, namesHead, faultsS, faultsItems, faultsArms, faultsTarget, faultsE}
 use Rattle.language.specs.Faults.{faultsEs, sizeGlobal, faultsBody, bodyFits, namesGlobal, faultsGlobal, faultsGlobals, faults}
 use Rattle.language_laws.specs.Claims.{Walk, end, pass}
@@ -61,6 +61,10 @@ post-two {xs = xs} {ys = ys} {own = own} h k e w = rw (← append-assoc xs ys ow
 post-three : {p q r : ℕ} {a b c : Outline} {xs ys zs own : List Refusal} → Met a (suc p) xs → Met b q ys → Met c r zs → suc p + size a ≡ q → q + size b ≡ r
     → Walk 3 (p ∷ []) own → Met (under (a beside b beside c)) p (xs ++ (ys ++ (zs ++ own)))
 post-three {ys = ys} {zs = zs} {own = own} h k l e f w = rw (← append-assoc ys zs own) (post-two h (met-beside k l f) e w)
+
+post-four : {p q r s : ℕ} {a b c d : Outline} {xs ys zs ws own : List Refusal} → Met a (suc p) xs → Met b q ys → Met c r zs → Met d s ws → suc p + size a ≡ q → q + size b ≡ r
+    → r + size c ≡ s → Walk 3 (p ∷ []) own → Met (under (a beside b beside c beside d)) p (xs ++ (ys ++ (zs ++ (ws ++ own))))
+post-four {zs = zs} {ws = ws} {own = own} h k l m e f g w = rw (← append-assoc zs ws own) (post-three h k (met-beside l m g) e f w)
 
 -- ── the faults at one entry ──
 wrong : (b : Bool) (p : ℕ) → Walk 3 (p ∷ []) (faultIf b 4 p)
@@ -128,6 +132,10 @@ mutual
       (wrong (not (isTy integer (typeE ss e) && isTy integer (typeE ss f))) p)
   met-stmt (select e r) ss p =
       post-two (met-expr e ss (suc p)) (met-arms r ss (suc p + sizeE e)) (omega (arith, size-expr e)) (wrong (not (isTy integer (typeE ss e))) p)
+  met-stmt (for a e f g s) ss p =
+      post-four (met-expr e ss (suc p)) (met-expr f ss (suc p + sizeE e)) (met-expr g ss (suc p + sizeE e + sizeE f)) (met-stmt s (loopOf a ∷ ss) (suc p + sizeE e + sizeE f + sizeE g))
+      (omega (arith, size-expr e)) (omega (arith, size-expr f)) (omega (arith, size-expr g))
+      (wrong (not (isTy integer (typeE ss e) && (isTy integer (typeE ss f) && isTy integer (typeE ss g)))) p)
 
   met-items : (is : Items) (ss : List Scope) (seen : List ℕ) (p : ℕ) → Met (outlineItems is) p (faultsItems ss seen p is)
   met-items noItem ss seen p = met-none
@@ -139,7 +147,7 @@ mutual
   met-arms (arm s r) ss p = met-beside (met-stmt s ss p) (met-arms r ss (p + sizeS s)) (omega (arith, size-stmt s))
 
   met-target : (x : Target) (ss : List Scope) (p : ℕ) → Met (outlineTarget x) p (faultsTarget ss p x)
-  met-target (toVariable a) ss p = met-leaf (at-named (lookup a ss) variableSort p)
+  met-target (toVariable a) ss p = met-leaf (at-named (lookup a ss) assignableSort p)
   met-target (toField a e) ss p = post (met-expr e ss (suc p)) (at-named (lookup a ss) (fieldOf (typeE ss e)) p)
 
   met-expr : (e : Expr) (ss : List Scope) (p : ℕ) → Met (outlineE e) p (faultsE ss p e)

@@ -1,7 +1,7 @@
 -- Which entry of a tree stands under which, and from it the depth of each entry and the order in which entries are judged.
 use mathlib.Core.List.{List, [], _∷_, _++_}
 use Prim.Native.Nat.{ℕ, suc, _+_, max}
-use Rattle.language.specs.Tree.{Stmt, block, assign, when, choose, while, goto, assert, call, setLevel, select, Items, noItem, label, item, Arms, lastArm, arm, Target}
+use Rattle.language.specs.Tree.{Stmt, block, assign, when, choose, while, goto, assert, call, setLevel, select, for, Items, noItem, label, item, Arms, lastArm, arm, Target}
 use Rattle.language.specs.Tree.{toVariable, toField, Expr, number, truth, pattern, null, variable, invoke, field, make, operate1, operate2, conditional, fader, blockExpr}
 use Rattle.language.specs.Tree.{Exprs, noExpr, expr, Body, proper, function, Global, local, class, procedure, Tree}
 
@@ -55,6 +55,7 @@ unfoldable mutual
   outlineS (call a es) = under (outlineEs es)
   outlineS (setLevel e f) = under (outlineE e beside outlineE f)
   outlineS (select e r) = under (outlineE e beside outlineArms r)
+  outlineS (for a e f g s) = under (outlineE e beside outlineE f beside outlineE g beside outlineS s)
 
   pub outlineItems : Items → Outline
   outlineItems noItem = none

@@ -13,7 +13,7 @@ use Rattle.language.specs.Measure.{measureS}
 use Rattle.language.specs.Program.{flatTyped, flatDecl, flatS, flatItems, flatArms, flatTarget, flatE, flatEs, deepHead, deepS, deepItems, deepArms, deepTarget, deepE, deepEs}
 use Rattle.logic.specs.Choice.{if_then_else_}
 use Rattle.values.specs.Operators.{negate, plus, unaryCode, binaryCode, unaryOf, binaryOf}
-use Rattle.language.specs.Tree.{Typed, Decl, declare, holding, Stmt, block, assign, when, choose, while, goto, assert, call, setLevel, select, Items, noItem, label, item}
+use Rattle.language.specs.Tree.{Typed, Decl, declare, holding, Stmt, block, assign, when, choose, while, goto, assert, call, setLevel, select, for, Items, noItem, label, item}
 use Rattle.language.specs.Tree.{Arms, lastArm, arm, Target, toVariable, toField, Expr, number, truth, pattern, null, variable, invoke, field, make, operate1, operate2}
 use Rattle.language.specs.Tree.{conditional, fader, blockExpr, Exprs, noExpr, expr, countItems, countArms, countExprs}
 use Rattle.language.specs.Table as T
@@ -21,7 +21,7 @@ use Rattle.language.specs.Table.{Entry, entry, inLayout, took, stop, Reader, af
 use Rattle.language.specs.Table.{exprsOf, Below, formS, formPart, formTarget, formE, below}
 use Rattle.logic.specs.Tests.{clash}
 use Rattle.language_laws.specs.Codes.{type-back, unary-back, binary-back}
-use Rattle.language_laws.specs.Takes.{Fits, fits-head, Takes, takes-as, takes-here, takes-made, takes-two, takes-three, takes-none, takes-more, takes-first}
+use Rattle.language_laws.specs.Takes.{Fits, fits-head, Takes, takes-as, takes-here, takes-made, takes-two, takes-three, takes-four, takes-none, takes-more, takes-first}
 
 -- ── the readers of what stands below, where so much nesting is left ──
 abbrev pub flatPart : Part → List Entry
@@ -178,6 +178,7 @@ module _ {r : Below} {d : ℕ} (G : Reads r d) where
   takes-stmt (call a es) h = takes-first (formS r) h (λ k. takes-made (call a) (takes-exprs es k))
   takes-stmt (setLevel e f) h = takes-first (formS r) h (λ k. takes-two setLevel k (G .expr e) (G .expr f))
   takes-stmt (select e a) h = takes-first (formS r) h (takes-select e a)
+  takes-stmt (for a e f g s) h = takes-first (formS r) h (λ k. takes-four (for a) k (G .expr e) (G .expr f) (G .expr g) (G .stmt s))
 
   takes-target : (x : Target) → Fits (suc d) (flatTarget x) (deepTarget x) → Takes (first (formTarget r)) (flatTarget x) x
   unfolding formTarget flatS measureS
@@ -248,6 +249,7 @@ pos-stmt s =
       | call a es ↦ omega arith
       | setLevel e f ↦ omega arith
       | select e a ↦ omega arith
+      | for a e f g s ↦ omega arith
     ]
 
 pos-target : (x : Target) → 1 ≤ deepTarget x

@@ -6,7 +6,7 @@ use native.Mathlib.Omega.{arith}
 use lib.ListN.{length, length-append}
 use Rattle.language.specs.Measure.{measureS}
 use Rattle.language.specs.Program.{deepS, deepItems, deepArms, deepTarget, deepE, deepEs, deepBody, deepGlobal, deepGlobals, nesting, total}
-use Rattle.language.specs.Tree.{Stmt, block, assign, when, choose, while, goto, assert, call, setLevel, select, Items, noItem, label, item, Arms, lastArm, arm, Target}
+use Rattle.language.specs.Tree.{Stmt, block, assign, when, choose, while, goto, assert, call, setLevel, select, for, Items, noItem, label, item, Arms, lastArm, arm, Target}
 use Rattle.language.specs.Tree.{toVariable, toField, Expr, number, truth, pattern, null, variable, invoke, field, make, operate1, operate2, conditional, fader, blockExpr}
 use Rattle.language.specs.Tree.{Exprs, noExpr, expr, Body, proper, function, Global, local, class, procedure, Tree}
 use Rattle.language.specs.Faults.{sizeS, sizeItems, sizeArms, sizeTarget, sizeE, sizeEs, sizeBody, sizeGlobal}
@@ -44,6 +44,7 @@ mutual
   size-stmt (call a es) = omega (arith, size-exprs es)
   size-stmt (setLevel e f) = omega (arith, size-expr e, size-expr f)
   size-stmt (select e r) = omega (arith, size-expr e, size-arms r)
+  size-stmt (for a e f g s) = omega (arith, size-expr e, size-expr f, size-expr g, size-stmt s)
 
   pub size-items : (is : Items) → Sized (outlineItems is) (sizeItems is) (deepItems is)
   size-items noItem = omega arith

@@ -8,12 +8,12 @@ use lib.Dec.{eqb}
 use lib.IntN.{pos, natAbs}
 use Rattle.values.specs.Types.{integer}
 use Rattle.values.specs.Operators.{negate, plus, unaryOf, binaryOf}
-use Rattle.language.specs.Tree.{typed, holding, Stmt, block, assign, when, choose, while, goto, assert, call, setLevel, select, Items, Target, toVariable, toField, Expr}
+use Rattle.language.specs.Tree.{typed, holding, Stmt, block, assign, when, choose, while, goto, assert, call, setLevel, select, for, Items, Target, toVariable, toField, Expr}
 use Rattle.language.specs.Tree.{number, truth, pattern, null, variable, invoke, field, make, operate1, operate2, conditional, fader, blockExpr, Exprs}
 use Rattle.language.specs.Table as T
 use Rattle.language.specs.Table.{Entry, entry, inLayout, made, first, formTyped, formDecl, Part, labelPart, stmtPart, itemsOf, armsOf, exprsOf, Below, formS, formPart, formTarget, formE, below}
 use Rattle.language_laws.specs.Outline.{Outline, leaf, depths, leavesOf, outlineS, outlineItems, outlineArms, outlineTarget, outlineE, outlineEs}
-use Rattle.language_laws.specs.Stops.{Whole, Stops, stops-here, stops-made, stops-two, stops-three, stops-times, Forms, goes, forms-stop, forms-if, forms-made}
+use Rattle.language_laws.specs.Stops.{Whole, Stops, stops-here, stops-made, stops-two, stops-three, stops-four, stops-times, Forms, goes, forms-stop, forms-if, forms-made}
 use Rattle.language_laws.specs.Stops.{Rooted, stops-at-once, stops-first}
 
 -- ── the depths of each sort of part, its first entry at depth d ──
@@ -70,6 +70,7 @@ root-stmt d s =
       | call a es ↦ refl
       | setLevel e f ↦ refl
       | select e a ↦ refl
+      | for a e f g s ↦ refl
     ]
 
 root-part : (d : ℕ) → Rooted d (partAt d)
@@ -156,7 +157,8 @@ module _ {r q : Below} {d : ℕ} (G : Beside r q (suc d)) where
       (forms-if (eqb k 28) (goes (stops-two setLevel (G .expr) (G .expr) (λ x y. refl)))
       (forms-if (eqb k 30) (goes (stops-three (λ x s ss. select x (armsOf s ss)) (G .expr) (G .stmt) (stops-arms (e .a - 1))
       (λ x s ss. ap (λ (l : List ℕ). exprAt (suc d) x ++ l) (arms-at (suc d) s ss))))
-      forms-stop)))))))))
+      (forms-if (eqb k 31) (goes (stops-four (for (e .a)) (G .expr) (G .expr) (G .expr) (G .stmt) (λ x y z t. refl)))
+      forms-stop))))))))))
 
   part-form : (e : Entry) → Forms e (formPart r e) (formPart q e) (partAt d)
   unfolding depths formPart

@@ -8,7 +8,7 @@ use native.Mathlib.Omega.{arith}
 use lib.ListN.{length, getD, drop, length-append, List·getD-append}
 use lib.Seq.{getD-append-add}
 use Rattle.logic.specs.Choice.{if_then_else_}
-use Rattle.language.specs.Table.{Entry, inLayout, Read, took, stop, Reader, after, made, two, three, repeated, first}
+use Rattle.language.specs.Table.{Entry, inLayout, Read, took, stop, Reader, after, made, two, three, four, repeated, first}
 use Rattle.logic.specs.Tests.{clash}
 use Rattle.language_laws.specs.Takes.{Takes, takes-here, takes-made, takes-after}
 use Rattle.language_laws.specs.Yields.{split-after}
@@ -224,6 +224,24 @@ stops-three {B = B} {C = C} {r = r} {q = q} {s = s} {p = p} {u = u} {v = v} {E =
     let both : Stops (two pair s u) (two pair p v) (λ (yz : B × C). E (yz .0) ++ F (yz .1)) = stops-two pair k l (λ y z. refl) in
     subst₂ (λ a b. Stops a b H) (sym (fun-ext (triple f r s u))) (sym (fun-ext (triple f q p v)))
     (stops-two (λ x. of (f x)) h both (λ x yz. j x (yz .0) (yz .1)))
+
+-- and four are three, the third of a pair
+fourfold : {A B C D E : Type 0} (f : A → B → C → D → E) (r : Reader A) (q : Reader B) (p : Reader C) (o : Reader D) (es : List Entry)
+    → four f r q p o es ≡ three (λ x y. of (f x y)) r q (two pair p o) es
+unfolding after
+fourfold {A} f r q p o es = go (r es)
+  where
+    go : (y : Read A) → after y (λ x. three (f x) q p o) ≡ after y (λ x. two (λ y. of (f x y)) q (two pair p o))
+    go (took x rest) = triple (f x) q p o rest
+    go (stop rest) = refl
+
+pub stops-four : {A B C I G : Type 0} {r q : Reader A} {s p : Reader B} {u v : Reader C} {m n : Reader I} {D : A → List ℕ} {E : B → List ℕ} {F : C → List ℕ} {J : I → List ℕ}
+    {H : G → List ℕ} (f : A → B → C → I → G) → Stops r q D → Stops s p E → Stops u v F → Stops m n J
+    → ((x : A) (y : B) (z : C) (t : I) → H (f x y z t) ≡ D x ++ (E y ++ (F z ++ J t))) → Stops (four f r s u m) (four f q p v n) H
+stops-four {C = C} {I = I} {r = r} {q = q} {s = s} {p = p} {u = u} {v = v} {m = m} {n = n} {F = F} {J = J} {H = H} f h k l i j =
+    let both : Stops (two pair u m) (two pair v n) (λ (zt : C × I). F (zt .0) ++ J (zt .1)) = stops-two pair l i (λ z t. refl) in
+    subst₂ (λ a b. Stops a b H) (sym (fun-ext (fourfold f r s u m))) (sym (fun-ext (fourfold f q p v n)))
+    (stops-three (λ x y. of (f x y)) h k both (λ x y zt. j x y (zt .0) (zt .1)))
 
 pub stops-times : {A : Type 0} {r q : Reader A} {D : A → List ℕ} (P : List A → List ℕ) → P [] ≡ [] → ((x : A) (xs : List A) → P (x ∷ xs) ≡ D x ++ P xs)
     → Stops r q D → (n : ℕ) → Stops (repeated n r) (repeated n q) P

@@ -5,7 +5,7 @@ use mathlib.Core.List.{List, [], _∷_, _++_, append-assoc}
 use Prim.Native.Nat.{ℕ, suc, _≤_, max}
 use native.Mathlib.Omega.{arith}
 use Rattle.logic.specs.Lists.{all}
-use Rattle.language.specs.Table.{Entry, inLayout, Reader, took, after, made, two, three, repeated, first}
+use Rattle.language.specs.Table.{Entry, inLayout, Reader, took, after, made, two, three, four, repeated, first}
 use Rattle.logic.specs.Tests.{both-left, both-right}
 use Rattle.logic.specs.ListLaws.{all-append}
 
@@ -78,6 +78,11 @@ takes-two {q = q} {x = x} f g h k = takes-then (λ z. made (f z) q) g h (λ v. t
 pub takes-three : {A B C D : Type 0} {r : Reader A} {q : Reader B} {p : Reader C} {us vs ws : List Entry} {x : A} {y : B} {z : C} {d n m l : ℕ} (f : A → B → C → D)
     → Fits d (us ++ (vs ++ ws)) (max n (max m l)) → (Fits d us n → Takes r us x) → (Fits d vs m → Takes q vs y) → (Fits d ws l → Takes p ws z) → Takes (three f r q p) (us ++ (vs ++ ws)) (f x y z)
 takes-three {q = q} {p = p} {x = x} f g h k j = takes-then (λ z. two (f z) q p) g h (λ v. takes-two (f x) v k j)
+
+pub takes-four : {A B C D E : Type 0} {r : Reader A} {q : Reader B} {p : Reader C} {o : Reader D} {us vs ws zs : List Entry} {x : A} {y : B} {z : C} {t : D} {d n m l k : ℕ}
+    (f : A → B → C → D → E) → Fits d (us ++ (vs ++ (ws ++ zs))) (max n (max m (max l k))) → (Fits d us n → Takes r us x) → (Fits d vs m → Takes q vs y)
+    → (Fits d ws l → Takes p ws z) → (Fits d zs k → Takes o zs t) → Takes (four f r q p o) (us ++ (vs ++ (ws ++ zs))) (f x y z t)
+takes-four {q = q} {p = p} {o = o} {x = x} f g h k j i = takes-then (λ z. three (f z) q p o) g h (λ v. takes-three (f x) v k j i)
 
 pub takes-none : {A : Type 0} (r : Reader A) → Takes (repeated 0 r) [] []
 unfolding repeated

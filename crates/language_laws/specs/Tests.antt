@@ -1,5 +1,5 @@
 -- What the tests that Faults makes at one entry say of it, both ways: the list of faults is empty, and what a rule of Formed asks.
-use mathlib.Core.Path.{_≡_, refl, ap}
+use mathlib.Core.Path.{_≡_, refl, ap, subst}
 use mathlib.Core.Bool.{Bool, true, false}
 use mathlib.Core.List.{List, [], _∷_, _++_}
 use mathlib.Core.Option.{Option, none, some}
@@ -11,9 +11,11 @@ use borrow.Author.Tests.{eqb-true}
 use Rattle.logic.specs.Options.{isSome}
 use Rattle.values.specs.Types.{Ty, integer, logical, bits, reference, fits, allFit}
 use Rattle.values.specs.Identical.{same-refl, same→≡}
-use Rattle.language.specs.Names.{Sort, isVariable, isLabel, isClass, isField, isProcedure, Found, nowhere, found, lookup}
-use Rattle.language.specs.Faults.{withTy, variableTy, isTy, sameTy, fitsTy, fitTys, consTy, faultIf, mistypedUnless, named, classSort, classFrom, fieldOf, callOf, aimed, typeFaults}
-use Rattle.language.specs.Formed.{Blocks, Denotes, Reachable, IsType, integer-type, logical-type, bits-type, reference-type}
+use Rattle.language.specs.Names.{Sort, isVariable, isLabel, isClass, isField, isProcedure, isControl, Found, nowhere, found, lookup}
+use Rattle.language.specs.Faults.{withTy, variableTy, isTy, sameTy, fitsTy, fitTys, consTy, faultIf, mistypedUnless, named, assignableSort, classSort, classFrom, fieldOf, callOf}
+use Rattle.language.specs.Faults.{aimed, typeFaults}
+use Rattle.language.specs.Tree.{variable}
+use Rattle.language.specs.Formed.{Blocks, Denotes, Reachable, IsType, integer-type, logical-type, bits-type, reference-type, HasType, t-variable, t-control}
 use Rattle.logic.specs.Tests.{clash, both-left, both-right}
 
 -- ── lists of faults ──
@@ -119,6 +121,7 @@ module _ (ss : Blocks) (a : ℕ) where
       go (isClass ts) d k = (ts, d)
       go (isField c t) d k = clash (cc)
       go (isProcedure ts us) d k = clash (cc)
+      go isControl d k = clash (cc)
 
   pub record-named : (vs : Option (List Ty)) (p : ℕ) → named (lookup a ss) (classFrom vs) p ≡ [] → (ts : List Ty) × Denotes ss a (isClass ts) × (fitTys vs ts ≡ true)
   record-named vs p h = let q = named-so ss a (classFrom vs) p h in go (q .0) (q .1) (q .2)
@@ -129,6 +132,7 @@ module _ (ss : Blocks) (a : ℕ) where
       go (isClass ts) d k = (ts, d, k)
       go (isField c t) d k = clash (cc)
       go (isProcedure ts us) d k = clash (cc)
+      go isControl d k = clash (cc)
 
   pub field-named : (r : Option Ty) (p : ℕ) → named (lookup a ss) (fieldOf r) p ≡ [] → (c : ℕ) × (t : Ty) × Denotes ss a (isField c t) × (r ≡ some (reference c))
   field-named r p h = let q = named-so ss a (fieldOf r) p h in go (q .0) (q .1) (q .2)
@@ -139,6 +143,7 @@ module _ (ss : Blocks) (a : ℕ) where
       go (isClass ts) d k = clash (cc)
       go (isField c t) d k = (c, t, d, is-ty (reference c) r k)
       go (isProcedure ts us) d k = clash (cc)
+      go isControl d k = clash (cc)
 
   procedure-named : (n : ℕ) (vs : Option (List Ty)) (p : ℕ) → named (lookup a ss) (callOf n vs) p ≡ []
       → (ts : List Ty) × (us : List Ty) × Denotes ss a (isProcedure ts us) × (fitTys vs ts ≡ true) × (length us ≡ n)
@@ -151,6 +156,7 @@ module _ (ss : Blocks) (a : ℕ) where
       go (isClass ts) d k = clash (cc)
       go (isField c t) d k = clash (cc)
       go (isProcedure ts us) d k = (ts, us, d, both-right (eqb (length us) n) (fitTys vs ts) k, eqb-true (length us) n (both-left (eqb (length us) n) (fitTys vs ts) k))
+      go isControl d k = clash (cc)
 
   pub no-result : (vs : Option (List Ty)) (p : ℕ) → named (lookup a ss) (callOf 0 vs) p ≡ [] → (ts : List Ty) × Denotes ss a (isProcedure ts []) × (fitTys vs ts ≡ true)
   no-result vs p h = let q = procedure-named 0 vs p h in (q .0, go (q .1) (q .2) (q .4), q .3)
@@ -169,16 +175,31 @@ module _ (ss : Blocks) (a : ℕ) where
       go (u ∷ (v ∷ us)) d n = absurd (omega arith)
 
   -- a variable by its type
-  pub variable-named : (t : Ty) → variableTy (lookup a ss) ≡ some t → Denotes ss a (isVariable t)
+  -- a variable or a parameter, or a control name
+  pub variable-named : (t : Ty) → variableTy (lookup a ss) ≡ some t → HasType ss (variable a) t
   variable-named t h = go (lookup a ss) refl h
     where
-      go : (f : Found) → lookup a ss ≡ f → variableTy f ≡ some t → Denotes ss a (isVariable t)
+      go : (f : Found) → lookup a ss ≡ f → variableTy f ≡ some t → HasType ss (variable a) t
       go nowhere e k = clash (cc)
-      go (found (isVariable u) w) e k = record { across = w; is-found = cc }
+      go (found (isVariable u) w) e k = let d : Denotes ss a (isVariable t) = record { across = w; is-found = cc } in t-variable d
       go (found isLabel w) e k = clash (cc)
       go (found (isClass ts) w) e k = clash (cc)
       go (found (isField c u) w) e k = clash (cc)
       go (found (isProcedure ts us) w) e k = clash (cc)
+      go (found isControl w) e k = let q : integer ≡ t = cc in subst (HasType ss (variable a)) q (t-control (record { across = w; is-found = e }))
+
+  -- of these a control name is not assigned to
+  pub target-named : (t : Ty) (p : ℕ) → named (lookup a ss) assignableSort p ≡ [] → variableTy (lookup a ss) ≡ some t → Denotes ss a (isVariable t)
+  target-named t p h k = go (lookup a ss) refl h k
+    where
+      go : (f : Found) → lookup a ss ≡ f → named f assignableSort p ≡ [] → variableTy f ≡ some t → Denotes ss a (isVariable t)
+      go nowhere e h k = clash (cc)
+      go (found (isVariable u) w) e h k = record { across = w; is-found = cc }
+      go (found isLabel w) e h k = clash (cc)
+      go (found (isClass ts) w) e h k = clash (cc)
+      go (found (isField c u) w) e h k = clash (cc)
+      go (found (isProcedure ts us) w) e h k = clash (cc)
+      go (found isControl w) e h k = clash (cc)
 
   pub label-aimed : (p : ℕ) → aimed (lookup a ss) p ≡ [] → Reachable ss a
   label-aimed p h = go (lookup a ss) refl h
@@ -190,6 +211,7 @@ module _ (ss : Blocks) (a : ℕ) where
       go (found (isClass ts) w) e k = clash (cc)
       go (found (isField c t) w) e k = clash (cc)
       go (found (isProcedure ts us) w) e k = clash (cc)
+      go (found isControl w) e k = clash (cc)
 
 -- a declared type
 pub type-so : (ss : Blocks) (t : Ty) (p : ℕ) → typeFaults ss t p ≡ [] → IsType ss t

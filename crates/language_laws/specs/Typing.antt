@@ -8,19 +8,19 @@ use lib.ListN.{length}
 use Rattle.logic.specs.Lists.{among}
 use Rattle.values.specs.Types.{Ty, integer, logical, reference, allFit}
 use Rattle.values.specs.Operators.{unary, binary, opType}
-use Rattle.language.specs.Tree.{Decl, Stmt, block, assign, when, choose, while, goto, assert, call, setLevel, select, Items, noItem, label, item, Arms, lastArm, arm}
+use Rattle.language.specs.Tree.{Decl, Stmt, block, assign, when, choose, while, goto, assert, call, setLevel, select, for, Items, noItem, label, item, Arms, lastArm, arm}
 use Rattle.language.specs.Tree.{Target, toVariable, toField, Expr, number, truth, pattern, null, variable, invoke, field, make, operate1, operate2, conditional, fader}
 use Rattle.language.specs.Tree.{blockExpr, Exprs, noExpr, expr}
-use Rattle.language.specs.Names.{isLabel, define, definesHead, definesItems, blockOf, expressionOf}
-use Rattle.language.specs.Faults.{withTy, variableTy, resultTy, fieldTy, typeE, typeTarget, typesE, isTy, fitTys, variableSort, classSort, classFrom, fieldOf, callOf}
+use Rattle.language.specs.Names.{isLabel, define, definesHead, definesItems, blockOf, expressionOf, loopOf}
+use Rattle.language.specs.Faults.{withTy, variableTy, resultTy, fieldTy, typeE, typeTarget, typesE, isTy, fitTys, variableSort, assignableSort, classSort, classFrom, fieldOf, callOf}
 use Rattle.language.specs.Faults.{twice, sizeS, sizeTarget, sizeE, sizeItems, namesHead, faultsHead, faultsS, faultsItems, faultsArms, faultsTarget, faultsE, faultsEs}
-use Rattle.language.specs.Formed.{Blocks, Defines, HasType, t-number, t-truth, t-pattern, t-null, t-variable, t-invoke, t-field, t-make, t-operate1, t-operate2}
-use Rattle.language.specs.Formed.{t-conditional, t-fader, t-block, Fit, f-none, f-more, Assignable, a-variable, a-field, Formed, s-block, s-assign, s-when, s-choose}
-use Rattle.language.specs.Formed.{s-while, s-assert, s-goto, s-call, s-set, s-case, ItemsFormed, i-none, i-label, i-item, ArmsFormed, r-last, r-more}
+use Rattle.language.specs.Formed.{Blocks, Defines, HasType, t-number, t-truth, t-pattern, t-null, t-variable, t-control, t-invoke, t-field, t-make, t-operate1}
+use Rattle.language.specs.Formed.{t-operate2, t-conditional, t-fader, t-block, Fit, f-none, f-more, Assignable, a-variable, a-field, Formed, s-block, s-assign, s-when, s-choose}
+use Rattle.language.specs.Formed.{s-while, s-assert, s-goto, s-call, s-set, s-case, s-for, ItemsFormed, i-none, i-label, i-item, ArmsFormed, r-last, r-more}
 use Rattle.logic.specs.Tests.{clash, both-left, both-right, both}
 use Rattle.language_laws.specs.Tests.{none-left, none-right, none-both, fault-if, no-fault-if, unless, typed-so, is-ty, told, ty-is, same-ty, ty-same, fits-ty}
 use Rattle.language_laws.specs.Tests.{ty-fits, fit-none, fit-more, more-fit, has-1, has-ty, so-named, class-named, record-named, field-named, no-result, one-result}
-use Rattle.language_laws.specs.Tests.{variable-named, label-aimed}
+use Rattle.language_laws.specs.Tests.{variable-named, target-named, label-aimed}
 use Rattle.language_laws.specs.Once.{Adds, adds-all, adds-none, adds-more, adds-first, head-adds, adds-head}
 
 -- ── from no fault to the rules ──
@@ -48,7 +48,7 @@ mutual
   typed-E ss p (truth b) h t q = retype q t-truth
   typed-E ss p (pattern z) h t q = retype q t-pattern
   typed-E ss p (null c) h t q = retype q (t-null (class-named ss c p h .1))
-  typed-E ss p (variable a) h t q = t-variable (variable-named ss a t q)
+  typed-E ss p (variable a) h t q = variable-named ss a t q
   typed-E ss p (invoke a es) h t q =
       let k = one-result ss a (typesE ss es) p (none-right (faultsEs ss (suc p) es) _ h) in
       retype (sym (ap resultTy (k .2 .is-found)) ∙ q) (t-invoke (k .2) (fit-Es ss (suc p) es (none-left _ _ h) (k .0) (k .3)))
@@ -93,7 +93,7 @@ mutual
       f-more (typed-E ss p e (none-left _ _ h) (k .0) (k .1)) (k .2) (fit-Es ss (p + sizeE e) es (none-right (faultsE ss p e) _ h) us (k .3))
 
   assigned : (ss : Blocks) (p : ℕ) (x : Target) → faultsTarget ss p x ≡ [] → (t : Ty) → typeTarget ss x ≡ some t → Assignable ss x t
-  assigned ss p (toVariable a) h t q = a-variable (variable-named ss a t q)
+  assigned ss p (toVariable a) h t q = a-variable (target-named ss a t p h q)
   assigned ss p (toField a e) h t q =
       let k = field-named ss a (typeE ss e) p (none-right (faultsE ss (suc p) e) _ h) in
       subst (Assignable ss (toField a e)) (cc (ap fieldTy (k .2 .is-found), q)) (a-field (k .2) (typed-E ss (suc p) e (none-left _ _ h) (reference (k .0)) (k .3)))
@@ -135,6 +135,16 @@ mutual
       let l = none-right (faultsE ss (suc p) e) _ h in
       s-case (typed-E ss (suc p) e (none-left _ _ h) integer (told integer (typeE ss e) p (none-right (faultsArms ss (suc p + sizeE e) r) _ l)))
       (formed-arms ss (suc p + sizeE e) r (none-left _ _ l))
+  formed-S ss p (for a e f g s) h =
+      let r = none-right (faultsE ss (suc p) e) _ h in
+      let r2 = none-right (faultsE ss (suc p + sizeE e) f) _ r in
+      let r3 = none-right (faultsE ss (suc p + sizeE e + sizeE f) g) _ r2 in
+      let k = unless _ p (none-right (faultsS (loopOf a ∷ ss) (suc p + sizeE e + sizeE f + sizeE g) s) _ r3) in
+      let l = both-right (isTy integer (typeE ss e)) _ k in
+      s-for (typed-E ss (suc p) e (none-left _ _ h) integer (is-ty integer (typeE ss e) (both-left _ _ k)))
+      (typed-E ss (suc p + sizeE e) f (none-left _ _ r) integer (is-ty integer (typeE ss f) (both-left _ _ l)))
+      (typed-E ss (suc p + sizeE e + sizeE f) g (none-left _ _ r2) integer (is-ty integer (typeE ss g) (both-right (isTy integer (typeE ss f)) _ l)))
+      (formed-S (loopOf a ∷ ss) (suc p + sizeE e + sizeE f + sizeE g) s (none-left _ _ r3))
 
   pub formed-items : (ss : Blocks) (seen : List ℕ) (p : ℕ) (is : Items) → faultsItems ss seen p is ≡ [] → ItemsFormed ss is
   formed-items ss seen p noItem h = i-none
@@ -155,6 +165,7 @@ mutual
   type-of t-pattern = refl
   type-of (t-null d) = refl
   type-of (t-variable d) = ap variableTy (d .is-found)
+  type-of (t-control d) = ap variableTy (d .is-found)
   type-of (t-invoke d fs) = ap resultTy (d .is-found)
   type-of (t-field d h) = ap fieldTy (d .is-found)
   type-of (t-make d fs) = refl
@@ -186,6 +197,7 @@ mutual
   no-fault-E t-pattern p = refl
   no-fault-E (t-null d) p = so-named classSort p d refl
   no-fault-E (t-variable d) p = so-named variableSort p d refl
+  no-fault-E (t-control d) p = so-named variableSort p d refl
   no-fault-E {ss} (t-invoke {es = es} d fs) p = none-both (no-fault-Es fs (suc p)) (so-named (callOf 1 (typesE ss es)) p d (fit-of fs))
   no-fault-E {ss} (t-field {e = e} d h) p = none-both (no-fault-E h (suc p)) (so-named (fieldOf (typeE ss e)) p d (ty-is (type-of h)))
   no-fault-E {ss} (t-make {es = es} d fs) p = none-both (no-fault-Es fs (suc p)) (so-named (classFrom (typesE ss es)) p d (fit-of fs))
@@ -205,7 +217,7 @@ mutual
   no-fault-Es (f-more {e = e} h q fs) p = none-both (no-fault-E h p) (no-fault-Es fs (p + sizeE e))
 
   no-fault-target : {ss : Blocks} {x : Target} {t : Ty} → Assignable ss x t → (p : ℕ) → faultsTarget ss p x ≡ []
-  no-fault-target (a-variable d) p = so-named variableSort p d refl
+  no-fault-target (a-variable d) p = so-named assignableSort p d refl
   no-fault-target {ss} (a-field {e = e} d h) p = none-both (no-fault-E h (suc p)) (so-named (fieldOf (typeE ss e)) p d (ty-is (type-of h)))
 
   pub no-fault-S : {ss : Blocks} {s : Stmt} → Formed ss s → (p : ℕ) → faultsS ss p s ≡ []
@@ -224,6 +236,9 @@ mutual
   no-fault-S (s-set {e = e} h k) p =
       none-both (no-fault-E h (suc p)) (none-both (no-fault-E k (suc p + sizeE e)) (typed-so p (both (ty-is (type-of h)) (ty-is (type-of k)))))
   no-fault-S (s-case {e = e} h k) p = none-both (no-fault-E h (suc p)) (none-both (no-fault-arms k (suc p + sizeE e)) (typed-so p (ty-is (type-of h))))
+  no-fault-S (s-for {e = e} {f = f} {g = g} h k l b) p =
+      none-both (no-fault-E h (suc p)) (none-both (no-fault-E k (suc p + sizeE e)) (none-both (no-fault-E l (suc p + sizeE e + sizeE f))
+      (none-both (no-fault-S b (suc p + sizeE e + sizeE f + sizeE g)) (typed-so p (both (ty-is (type-of h)) (both (ty-is (type-of k)) (ty-is (type-of l))))))))
 
   pub no-fault-items : {ss : Blocks} {is : Items} → ItemsFormed ss is → (seen : List ℕ) (p : ℕ) → Adds ss seen (definesItems is) → faultsItems ss seen p is ≡ []
   no-fault-items i-none seen p a = refl

@@ -16,7 +16,7 @@ use Rattle.language.specs.Program.{flatTyped, flatDecl, flag, flatS, flatItems,
 use Rattle.logic.specs.Options.{isSome}
 use Rattle.logic.specs.Choice.{if_then_else_}
 use Rattle.values.specs.Operators.{negate, plus, unaryOf, binaryOf}
-use Rattle.language.specs.Tree.{Typed, Decl, Items, Target, Exprs, Stmt, block, assign, when, choose, while, assert, call, setLevel, select, toField, Expr, invoke, field}
+use Rattle.language.specs.Tree.{Typed, Decl, Items, Target, Exprs, Stmt, block, assign, when, choose, while, assert, call, setLevel, select, for, toField, Expr, invoke, field}
 use Rattle.language.specs.Tree.{make, operate1, operate2, conditional, fader, blockExpr, expr, countItems, countArms, countExprs}
 use Rattle.language.specs.Table as T
 use Rattle.language.specs.Table.{Entry, entry, inLayout, natural, asTyped, tyOfCode, Reader, made, first, formTyped, formDecl, Part, labelPart, stmtPart, itemsOf, armsOf}
@@ -24,7 +24,7 @@ use Rattle.language.specs.Table.{exprsOf, Below, formS, formPart, formTarget, f
 use Rattle.logic.specs.Tests.{clash, both-left, both-right}
 use Rattle.language_laws.specs.Codes.{unary-coded, binary-coded, type-coded, nothing-zero, natural-pos}
 use Rattle.language_laws.specs.Takes.{Fits, fits-cons, fits-join, fits-none}
-use Rattle.language_laws.specs.Yields.{Claim, Yields, yields-here, yields-stop, yields-if, yields-made, yields-two, yields-three, yields-times, yields-first}
+use Rattle.language_laws.specs.Yields.{Claim, Yields, yields-here, yields-stop, yields-if, yields-made, yields-two, yields-three, yields-four, yields-times, yields-first}
 use Rattle.language_laws.specs.ReadBack.{flatPart, deepPart}
 
 -- entries that are those of a part, keep to the layout and are nested no deeper than so
@@ -196,7 +196,9 @@ module _ {r : Below} {d : ℕ} (G : Gives r d) where
       (kind-if e 28 l (λ q m. yields-two setLevel (G .expr) (G .expr) (λ us vs x y a b. kept-cons l (plain-is e q m) (kept-join a b)))
       (kind-if e 30 l (λ q m. yields-three (λ x s ss. select x (armsOf s ss)) (G .expr) (G .stmt) (yields-arms (e .a - 1))
       (λ us vs ws x s ss a b c. kept-cons l (named-is e q (leb 1 (e .a)) m (λ t. omega (arith, leb-true 1 (e .a) t, c .1, count-arms s ss))) (kept-join a (c .0 s vs b))))
-      yields-stop)))))))))
+      (kind-if e 31 l (λ q m. yields-four (for (e .a)) (G .expr) (G .expr) (G .expr) (G .stmt)
+      (λ us vs ws zs x y z t a b c i. kept-cons l (named-is e q true m (λ t. refl)) (kept-join a (kept-join b (kept-join c i)))))
+      yields-stop))))))))))
 
   yields-stmt : Yields (first (formS r)) (IsStmt (suc d))
   yields-stmt = yields-first (formS r) stmt-yields

@@ -5,7 +5,7 @@ use mathlib.Core.List.{List, [], _∷_, _++_, append-assoc, append-nil}
 use Prim.Native.Nat.{ℕ, zero, suc}
 use lib.ListN.{length}
 use Rattle.logic.specs.Choice.{if_then_else_}
-use Rattle.language.specs.Table.{Entry, inLayout, Read, took, stop, Reader, after, made, two, three, repeated, first}
+use Rattle.language.specs.Table.{Entry, inLayout, Read, took, stop, Reader, after, made, two, three, four, repeated, first}
 use Rattle.logic.specs.Tests.{clash}
 
 -- entries and a part of which Q holds, and the entries left
@@ -72,6 +72,13 @@ pub yields-three : {A B C D : Type 0} {r : Reader A} {q : Reader B} {p : Reader 
     → Yields (three f r q p) T
 yields-three {q = q} {p = p} f h k l g =
     yields-after (λ x. two (f x) q p) h (λ us x a. yields-two (f x) k l (λ vs ws y z b c. g us vs ws x y z a b c))
+
+pub yields-four : {A B C D E : Type 0} {r : Reader A} {q : Reader B} {p : Reader C} {o : Reader D} {Q : Claim A} {R : Claim B} {S : Claim C} {U : Claim D} {T : Claim E}
+    (f : A → B → C → D → E) → Yields r Q → Yields q R → Yields p S → Yields o U
+    → ((us vs ws zs : List Entry) (x : A) (y : B) (z : C) (t : D) → Q us x → R vs y → S ws z → U zs t → T (us ++ (vs ++ (ws ++ zs))) (f x y z t))
+    → Yields (four f r q p o) T
+yields-four {q = q} {p = p} {o = o} f h k l m g =
+    yields-after (λ x. three (f x) q p o) h (λ us x a. yields-three (f x) k l m (λ vs ws zs y z t b c d. g us vs ws zs x y z t a b c d))
 
 -- as many as the count says, of which P holds from the first to the last
 pub yields-times : {A : Type 0} {r : Reader A} {Q : Claim A} (P : Claim (List A)) → P [] []

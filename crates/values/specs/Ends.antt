@@ -43,6 +43,9 @@ tooManyActivations = 26
 abbrev pub tooManyRecords : ℕ
 tooManyRecords = 27
 
+abbrev pub stepZero : ℕ
+stepZero = 28
+
 -- "A condition (20 to 27) stops execution"
 abbrev pub conditions : List ℕ
 conditions =
