@@ -4,23 +4,23 @@ use mathlib.Core.List.{List, [], _∷_}
 use mathlib.Core.Option.{Option, none, some}
 use Prim.Native.Nat.{ℕ, suc, _+_}
 use lib.Dec.{eqb}
-use lib.IntN.{pos}
+use lib.IntN.{ℤ, pos, negsuc}
 use lib.ListN.{length}
 use Rattle.logic.specs.Choice.{if_then_else_}
 use Rattle.words.specs.Numbers.{wordOf}
 use Rattle.values.specs.Types.{Ty, integer, logical, bits, reference}
 use Rattle.values.specs.Operators.{unary, binary, Binary, plus, minus, times, divide, remainder, less, atMost, greater, atLeast, equal, unequal, both, either, shiftLeft, shiftRight}
-use Rattle.values.specs.Ends.{caseIndex}
+use Rattle.values.specs.Ends.{caseIndex, stepZero}
 use Rattle.values.specs.Values.{int, log, bit, ref, initial}
-use Rattle.language.specs.Tree.{Typed, Decl, declare, holding, Stmt, block, assign, when, choose, while, goto, assert, call, setLevel, select, Items, noItem, label, item}
+use Rattle.language.specs.Tree.{Typed, Decl, declare, holding, Stmt, block, assign, when, choose, while, goto, assert, call, setLevel, select, for, Items, noItem, label, item}
 use Rattle.language.specs.Tree.{Arms, lastArm, arm, Target, toVariable, toField, Expr, number, truth, pattern, null, variable, invoke, field, make, operate1, operate2}
 use Rattle.language.specs.Tree.{conditional, fader, blockExpr, Exprs, noExpr, expr, Body, Global, local, class, procedure}
-use Rattle.language.specs.Names.{Scope, blockOf, expressionOf}
+use Rattle.language.specs.Names.{Scope, blockOf, expressionOf, loopOf}
 use Rattle.language.specs.Faults.{typeE, isTy}
 use Rattle.bytecode.specs.Macro.{Shape, shape}
 use Rattle.bytecode.specs.Instructions.{Owner, own, Instr, push, load, store, operate, go, goUnless, getField, putField, readFader, takeHold, letHold, stop}
 use Rattle.bytecode.specs.Instructions.{call as callOp, make as makeOp, setLevel as setOp, assert as assertOp}
-use Rattle.compile_code.specs.Code.{Code, nil, op, mark, cell, _▸_, At, at, skip, after}
+use Rattle.compile_code.specs.Code.{Code, nil, op, mark, cell, _▸_, At, at, ahead, skip, after}
 
 -- ── numbers of classes, procedures and fields ──
 -- the place of the first that is a
@@ -225,6 +225,7 @@ unfoldable mutual
   opsS (call a es) ss Θ = suc (opsEs es ss Θ)
   opsS (setLevel e f) ss Θ = suc (opsE e ss Θ + opsE f ss Θ)
   opsS (select e r) ss Θ = suc (opsE e ss Θ + opsArms r ss Θ)
+  opsS (for a e f g s) ss Θ = 61 + (opsE e ss Θ + (opsE f ss Θ + (opsE g ss Θ + opsS s (loopOf a ∷ ss) Θ)))
 
   pub opsItems : Items → List Scope → List Passing → ℕ
   opsItems noItem ss Θ = 0
@@ -294,6 +295,52 @@ codeWay ifFalse o Γ st t x p f =
     let q = skip 3 (after x p) in let y = f st q in
     x ▸ (op (goUnless (q .address)) ▸ (op (push (log true)) ▸ (op (go (after y q .address)) ▸ (mark (found Γ st) ▸ (y ▸ mark (found Γ (logical ∷ st)))))))
 
+-- ── loops: the value, the step and the limit are in cells c, c + 1 and c + 2 ──
+-- a for begins at x, with limit, step and start on the stack; z is the address after it, m the shape that is found around it. The limit's cell is made a
+-- bound: after a turn the next value is due exactly if the value is at most the bound, or above it where the step is negative. No sum leaves 32 bits.
+abbrev pub mostInteger : ℤ
+mostInteger = pos 2147483647
+
+abbrev pub leastInteger : ℤ
+leastInteger = negsuc 2147483647
+
+-- from 0 on: the three are stored, and a step that is zero stops
+unfoldable pub codeStored : ℕ → ℕ → Shape → Code
+codeStored c x m =
+    op (store own (suc (suc c))) ▸ (op (store own (suc c)) ▸ (op (store own c)
+    ▸ (op (load own (suc c)) ▸ (op (push (int (pos 0))) ▸ (op (operate (binary equal)) ▸ (op (goUnless (ahead 8 x)) ▸ (op (stop stepZero) ▸ mark m)))))))
+
+-- from 8 on: where the step is negative, the limit is at most the value, and the bound limit − step − 1, if it is of 32 bits
+unfoldable pub codeDownward : ℕ → ℕ → ℕ → Shape → Code
+codeDownward c x z m =
+    op (load own (suc c)) ▸ (op (push (int (pos 0))) ▸ (op (operate (binary less)) ▸ (op (goUnless (ahead 29 x))
+    ▸ (op (load own c) ▸ (op (load own (suc (suc c))) ▸ (op (operate (binary atLeast)) ▸ (op (goUnless z)
+    ▸ (op (load own (suc (suc c))) ▸ (op (push (int mostInteger)) ▸ (op (load own (suc c)) ▸ (op (operate (binary plus)) ▸ (op (operate (binary atMost)) ▸ (op (goUnless (ahead 44 x))
+    ▸ (op (load own (suc (suc c))) ▸ (op (load own (suc c)) ▸ (op (operate (binary minus)) ▸ (op (push (int (pos 1))) ▸ (op (operate (binary minus))
+    ▸ (op (store own (suc (suc c))) ▸ (op (go (ahead 48 x)) ▸ mark m))))))))))))))))))))
+
+-- from 29 on: where it is positive, the value is at most the limit, and the bound limit − step, if it is of 32 bits
+unfoldable pub codeUpward : ℕ → ℕ → ℕ → Shape → Code
+codeUpward c x z m =
+    op (load own c) ▸ (op (load own (suc (suc c))) ▸ (op (operate (binary atMost)) ▸ (op (goUnless z)
+    ▸ (op (load own (suc (suc c))) ▸ (op (push (int leastInteger)) ▸ (op (load own (suc c)) ▸ (op (operate (binary plus)) ▸ (op (operate (binary atLeast)) ▸ (op (goUnless (ahead 44 x))
+    ▸ (op (load own (suc (suc c))) ▸ (op (load own (suc c)) ▸ (op (operate (binary minus)) ▸ (op (store own (suc (suc c))) ▸ (op (go (ahead 48 x)) ▸ mark m))))))))))))))
+
+-- from 44 on: else there is one turn only, which a step of −1 and the largest bound say
+unfoldable pub codeOnce : ℕ → Shape → Code
+codeOnce c m =
+    op (push (int (negsuc 0))) ▸ (op (store own (suc c)) ▸ (op (push (int mostInteger)) ▸ (op (store own (suc (suc c))) ▸ mark m)))
+
+abbrev pub codeEntered : ℕ → ℕ → ℕ → Shape → Code
+codeEntered c x z m = codeStored c x m ▸ (codeDownward c x z m ▸ (codeUpward c x z m ▸ codeOnce c m))
+
+-- after a turn, which began at b: whether the next value is due
+unfoldable pub codeTurned : ℕ → ℕ → ℕ → Shape → Code
+codeTurned c b z m =
+    op (load own (suc c)) ▸ (op (push (int (pos 0))) ▸ (op (operate (binary less)) ▸ (op (load own c) ▸ (op (load own (suc (suc c))) ▸ (op (operate (binary greater))
+    ▸ (op (operate (binary equal)) ▸ (op (goUnless z)
+    ▸ (op (load own c) ▸ (op (load own (suc c)) ▸ (op (operate (binary plus)) ▸ (op (store own c) ▸ (op (go b) ▸ mark m))))))))))))
+
 module _ (gs : List Global) where
   abbrev pub classNumber : ℕ → ℕ
   classNumber c = indexOf c (classNames (classesOf gs))
@@ -355,6 +402,14 @@ module _ (gs : List Global) where
         let q = at (p .address) (suc (p .cell)) in let x = codeE e Γ st q in let b = skip 1 (after x q) in
         cell integer ▸ (x ▸ (op (store own (p .cell))
         ▸ (codeArms r (p .cell) 1 (b .address + opsArms r (scopesOf Γ) (passing Γ)) Γ st b ▸ mark (found Γ st))))
+    codeS (for a e f g s) Γ st p =
+        let q = at (p .address) (suc (suc (suc (p .cell)))) in let x = codeE e Γ st q in let ts = tyE Γ e ∷ st in
+        let y = codeE f Γ ts (after x q) in let us = tyE Γ f ∷ ts in let z = codeE g Γ us (after y (after x q)) in
+        let h = after z (after y (after x q)) in let b = skip 48 h in
+        let w = codeS s (bound a (p .cell) ∷ inside (loopOf a) ∷ Γ) st b in let n = after w b in
+        cell integer ▸ (cell integer ▸ (cell integer ▸ (x ▸ (y ▸ (z ▸ (mark (found Γ (tyE Γ g ∷ us))
+        ▸ (codeEntered (p .cell) (h .address) (ahead 13 (n .address)) (found Γ st) ▸ (w
+        ▸ codeTurned (p .cell) (b .address) (ahead 13 (n .address)) (found Γ st)))))))))
 
     pub codeItems : Items → List Around → List Ty → At → Code
     codeItems noItem Γ st p = nil

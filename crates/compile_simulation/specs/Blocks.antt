@@ -13,7 +13,7 @@ use Rattle.values.specs.Types.{Ty}
 use Rattle.values.specs.Values.{Value, Cell, assigned, initial, fresh}
 use Rattle.values.specs.Trace.{release, hold, event}
 use Rattle.language.specs.Tree.{Typed, Decl, declare, holding, Global, Items, noItem, label, item, Stmt}
-use Rattle.language.specs.Names.{inBlock, inExpression, inProcedure}
+use Rattle.language.specs.Names.{inBlock, inExpression, inProcedure, inLoop}
 use Rattle.language.specs.Execute.{Slot, slot, Store, Result, done, jump, ended, later, wrong, Place, under, say, withBlocks, outerBlocks, declareIn, letGo, within, leaving, Less, caught, catch, from}
 use Rattle.bytecode.specs.Instructions.{own, root, go, letHold}
 use Rattle.bytecode.specs.Machine.{fetch, step, act}
@@ -32,6 +32,7 @@ gotoOk exact [] a = ⊥
 gotoOk exact (inside (inBlock ds) ∷ Γ) a = gotoOk true Γ a
 gotoOk exact (inside (inExpression ds) ∷ Γ) a = ⊥
 gotoOk exact (inside (inProcedure ds) ∷ Γ) a = ⊥
+gotoOk exact (inside (inLoop d) ∷ Γ) a = gotoOk true Γ a
 gotoOk exact (outermost s ∷ Γ) a = ⊥
 gotoOk exact (bound b c ∷ Γ) a = gotoOk false Γ a
 gotoOk exact (global o b c ∷ Γ) a = ⊥
@@ -93,6 +94,7 @@ module _ (W : Setting) (gs : List Global) (C : Work) where
   goes (inside (inBlock ds) ∷ Γ) exact a p st D σ o h e k = goes Γ true a p st D (withBlocks (outerBlocks (σ .blocks)) σ) o h (looser exact σ (inside (inBlock ds) ∷ Γ) D e) k
   goes (inside (inExpression ds) ∷ Γ) exact a p st D σ o h e k = absurd o
   goes (inside (inProcedure ds) ∷ Γ) exact a p st D σ o h e k = absurd o
+  goes (inside (inLoop d) ∷ Γ) exact a p st D σ o h e k = goes Γ true a p st D (withBlocks (outerBlocks (σ .blocks)) σ) o h (looser exact σ (inside (inLoop d) ∷ Γ) D e) k
   goes (outermost s ∷ Γ) exact a p st D σ o h e k = absurd o
   goes (bound b c ∷ Γ) exact a p st D σ o h e k = goes Γ false a p st D σ o h
       (ap (λ z. withBlocks z (seen gs Γ D)) (sym (first-inner gs (slot b (seenC gs (cellAt (D .cells) c))) (blocksOf gs Γ (D .cells)))) ∙ looser exact σ (bound b c ∷ Γ) D e) k

@@ -6,10 +6,10 @@ use native.Mathlib.Omega.{arith}
 use lib.ListN.{length}
 use Rattle.logic.specs.Choice.{if_then_else_}
 use Rattle.values.specs.Types.{logical}
-use Rattle.language.specs.Tree.{Decl, declare, holding, Stmt, block, assign, when, choose, while, goto, assert, call, setLevel, select, Items, noItem, label, item, Arms}
+use Rattle.language.specs.Tree.{Decl, declare, holding, Stmt, block, assign, when, choose, while, goto, assert, call, setLevel, select, for, Items, noItem, label, item, Arms}
 use Rattle.language.specs.Tree.{lastArm, arm, Target, toVariable, toField, Expr, number, truth, pattern, null, variable, invoke, field, make, operate1, operate2}
 use Rattle.language.specs.Tree.{conditional, fader, blockExpr, Exprs, noExpr, expr}
-use Rattle.language.specs.Names.{Scope, blockOf, expressionOf}
+use Rattle.language.specs.Names.{Scope, blockOf, expressionOf, loopOf}
 use Rattle.language.specs.Measure.{measureS}
 use Rattle.language.specs.Faults.{typeE, isTy, sizeS, sizeItems, sizeArms, sizeTarget, sizeE, sizeEs}
 use Rattle.language.specs.Limits.{headHolds, holdsS, holdsItems, holdsArms, holdsTarget, holdsE, holdsEs}
@@ -59,6 +59,8 @@ mutual
   fewS (call a es) ss Θ l = let q = fewEs es ss Θ l in omega arith
   fewS (setLevel e f) ss Θ l = let q = fewE e ss Θ (omega arith) in let r = fewE f ss Θ (omega arith) in omega arith
   fewS (select e r) ss Θ l = let q = fewE e ss Θ (omega arith) in let u = fewArms r ss Θ (omega arith) in omega arith
+  fewS (for a e f g s) ss Θ l =
+      let q = fewE e ss Θ (omega arith) in let r = fewE f ss Θ (omega arith) in let u = fewE g ss Θ (omega arith) in let v = fewS s (loopOf a ∷ ss) Θ (omega arith) in omega arith
 
   pub fewItems : (is : Items) (ss : List Scope) (Θ : List Passing) → holdsIn Θ + holdsItems is ≤ 16 → opsItems is ss Θ ≤ 22 * sizeItems is
   fewItems noItem ss Θ l = omega arith
@@ -73,7 +75,7 @@ mutual
   fewTarget (toVariable a) ss Θ l = omega arith
   fewTarget (toField a e) ss Θ l = let q = fewE e ss Θ l in omega arith
 
-  pub fewE : (e : Expr) (ss : List Scope) (Θ : List Passing) → holdsIn Θ + holdsE e ≤ 16 → opsE e ss Θ ≤ 22 * sizeE e
+  pub fewE : (e : Expr) (ss : List Scope) (Θ : List Passing) → holdsIn Θ + holdsE e ≤ 16 → opsE e ss Θ + 13 ≤ 22 * sizeE e
   fewE (number z) ss Θ l = omega arith
   fewE (truth b) ss Θ l = omega arith
   fewE (pattern z) ss Θ l = omega arith

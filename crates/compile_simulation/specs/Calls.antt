@@ -142,7 +142,7 @@ fit-callee W gs C k Γ a st D n xs s w t = record {
   distinct = t .apart;
   below-n = t .few;
   owners = λ b c o e. anyone o;
-  stable = λ b c o x cs ls e h. any-write b c o x cs ls (kept-cases b c o (inside-proc xs s (W .shared-names)) e) h;
+  stable = λ b c o x cs ls e f h. any-write b c o x cs ls (kept-cases b c o (inside-proc xs s (W .shared-names)) e) h;
   stable-global = λ b c o x cs ls e h. global-write b c o x cs ls (sym (global-past b xs 0 (inside s ∷ W .shared-names)) ∙ e) h;
   roots = λ cs ls ds. roots-past gs xs 0 (inside s ∷ W .shared-names) cs ls ∙ t .lowest-only cs ds ls;
   shared = λ b c o e. let q = w .shared b c o e in (q .0, global-past b xs 0 (inside s ∷ W .shared-names) ∙ e ∙ ap (λ z. some (kept z c)) (q .0));

@@ -5,37 +5,39 @@ use mathlib.Core.List.{List, [], _∷_, _++_, map, append-assoc}
 use mathlib.Core.Option.{Option, none, some}
 use Prim.Native.Nat.{ℕ, zero, suc, _+_, _≤_, zero-le}
 use native.Mathlib.Omega.{arith}
-use lib.IntN.{ℤ, pos}
+use lib.Dec.{ltb}
+use lib.IntN.{ℤ, pos, _+ℤ_}
 use lib.ListN.{length, getElem?, length-append}
+use lib.Signed.{mag}
 use Rattle.logic.specs.Choice.{if_then_else_}
 use Rattle.logic.specs.Options.{ifSome}
 use Rattle.words.specs.Numbers.{wordOf}
-use Rattle.values.specs.Types.{Ty, logical}
-use Rattle.values.specs.Ends.{outOfRange, assertFalse, caseIndex}
+use Rattle.values.specs.Types.{Ty, integer, logical}
+use Rattle.values.specs.Ends.{overflow, outOfRange, assertFalse, caseIndex, stepZero}
 use Rattle.values.specs.Operators.{Binary, unary, binary, plus, minus, times, divide, remainder, less, atMost, greater, atLeast, equal, unequal, both, either, shiftLeft, shiftRight}
-use Rattle.values.specs.Arithmetic.{Outcome, gives, mistyped}
+use Rattle.values.specs.Arithmetic.{Outcome, gives, mistyped, settle, sum, isZero}
 use Rattle.values.specs.Arithmetic.{ends as endsBy}
 use Rattle.values.specs.Values.{Value, int, log, bit, ref, asInteger, asLogical, tyOf, Cell, assigned, between, size, apply1, apply2}
 use Rattle.values.specs.Trace.{event, reading}
 use Rattle.values.specs.Trace.{set as setEvent}
-use Rattle.language.specs.Tree.{Typed, holding, Stmt, block, assign, when, choose, while, goto, assert, call, setLevel, select, Items, noItem, label, item, Arms, lastArm}
+use Rattle.language.specs.Tree.{Typed, holding, Stmt, block, assign, when, choose, while, goto, assert, call, setLevel, select, for, Items, noItem, label, item, Arms, lastArm}
 use Rattle.language.specs.Tree.{arm, Target, toVariable, toField, Expr, number, truth, pattern, null, variable, invoke, field, make, operate1, operate2, conditional}
 use Rattle.language.specs.Tree.{fader, blockExpr, Exprs, noExpr, expr, Global, proper, function, countExprs}
 use Rattle.language.specs.Tree.{Body as TreeBody}
-use Rattle.language.specs.Names.{Scope, Definition, inProcedure, blockOf, expressionOf}
+use Rattle.language.specs.Names.{Scope, Definition, inProcedure, blockOf, expressionOf, loopOf}
 use Rattle.language.specs.Faults.{typeE, isTy}
-use Rattle.language.specs.Execute.{Store, Result, done, jump, ended, later, wrong, next, Place, World, Less, say, read, valueOf, asked, branch, doSet, doFader, doAssign}
+use Rattle.language.specs.Execute.{slot, withBlocks, outerBlocks, leaving, Store, Result, done, jump, ended, later, wrong, next, Place, World, Less, say, read, valueOf, asked, branch, doSet, doFader, doAssign}
 use Rattle.language.specs.Execute.{ofField, doMake, classIn, deciding, decides, catch, from, exec, execItems, execArm, execBody, evalBody, Procedure, procedureIn}
-use Rattle.language.specs.Execute.{activate, locate, eval, evals, fueled}
+use Rattle.language.specs.Execute.{Loop, due, ifDue, turning, advancing, turns, counted, activate, locate, eval, evals, fueled}
 use Rattle.language.specs.Execute.{settled as treeSettled, condition as treeCondition}
 use Rattle.bytecode.specs.Instructions.{Owner, own, root, push, load, operate, go, goUnless, readFader, stop}
 use Rattle.bytecode.specs.Instructions.{return, procedureAt}
 use Rattle.bytecode.specs.Instructions.{setLevel as setOp, assert as assertOp, call as callOp}
 use Rattle.bytecode.specs.Machine.{allHolds, fetch, act, settled, doOperate, doGoUnless, goesOn, doSet as machineSet, doFader as machineFader, doAssert, condition, badType, goes as goesTo}
-use Rattle.compile_code.specs.Code.{Code, cell, _▸_, At, at, skip, after}
-use Rattle.compile_code.specs.Compile.{Around, inside, labels, heldIn, scopesOf, passing, theLabels, hasLabel, labelAt, found, kept, Way, plainly, marked, ifTrue}
+use Rattle.compile_code.specs.Code.{Code, cell, _▸_, At, at, ahead, skip, after}
+use Rattle.compile_code.specs.Compile.{Around, inside, bound, labels, heldIn, scopesOf, passing, theLabels, hasLabel, labelAt, found, kept, Way, plainly, marked, ifTrue}
 use Rattle.compile_code.specs.Compile.{ifFalse, wayOf, codeWay, codeS, codeItems, codeArms, codeTarget, codeE, codeEs, bodyNumber, fieldNumber, classesOf, opsArms, tyE}
-use Rattle.compile_code.specs.Compile.{tyTarget, classNumber, opTarget}
+use Rattle.compile_code.specs.Compile.{tyTarget, classNumber, opTarget, codeStored, codeDownward, codeUpward, codeOnce, codeTurned, codeEntered}
 use Rattle.compile_code.specs.Compile.{cellOf as keptOf}
 use Rattle.compile_simulation.specs.Meets.{Conf, run, stepped, Setting, Meets, ends, here, lost, asks, onward, binds}
 use Rattle.compile_simulation.specs.View.{Data, written, ofOwner, seen, seenV, seenC, blocksOf, rootsOf, cellAt, found-at, cellFor, reads, writes, classOf, seenR}
@@ -45,10 +47,12 @@ use Rattle.compile_simulation.specs.Ops.{says, hereOf, op-at, op-tick, p
 use Rattle.compile_simulation.specs.Operate.{Agrees, seen-1, seen-2, seen-decides}
 use Rattle.compile_simulation.specs.Sizes.{more-cells, lenArms}
 use Rattle.compile_simulation.specs.Cases.{Index, starts, hits, misses, nexts, tests}
-use Rattle.compile_simulation.specs.Placed.{Work, Holds, Fit, fit-on, fit-inside, fit-labels, Stands, at-work, placeOf, Sees, Within, Nothing, One, Arrives, lands}
+use Rattle.compile_simulation.specs.Placed.{Work, Holds, Fit, fit-on, fit-inside, fit-labels, fit-loop, looping, Free, Stands, at-work, placeOf, Sees, Within, Nothing, One, Arrives, lands}
 use Rattle.compile_simulation.specs.Placed.{nowhere, bindE, alsoE, bindS, alsoS, given-one, arrived}
-use Rattle.compile_simulation.specs.Typing.{typed, is-log, not-log}
-use Rattle.bytecode.specs.Macro.{Body, shapeIn}
+use Rattle.compile_simulation.specs.Typing.{typed, integers, is-log, not-log}
+use Rattle.compile_simulation.specs.Counting.{Small, fits-small, Steers, settles-to}
+use Rattle.compile_simulation.specs.Loops.{hidden, Held, stored, downward, turned, releases}
+use Rattle.bytecode.specs.Macro.{Body, Shape, shapeIn}
 use Rattle.compile_code.specs.Encode.{codeBody, parameterCells}
 use Rattle.compile_simulation.specs.Records.{okField, gets, puts, makes}
 use Rattle.compile_code.specs.Counts.{held-parameters}
@@ -77,6 +81,8 @@ module _ (gs : List Global) where
     okS (call a es) Γ = (q : Procedure) × (procedureIn a gs ≡ some q) × IsProper (q .body) × (countExprs es ≡ length (q .parameters)) × okEs es Γ
     okS (setLevel e f) Γ = okE e Γ × okE f Γ
     okS (select e r) Γ = okE e Γ × okArms r Γ
+    okS (for a e f g s) Γ =
+        okE e Γ × okE f Γ × okE g Γ × (tyE gs Γ e ≡ integer) × (tyE gs Γ f ≡ integer) × (tyE gs Γ g ≡ integer) × ((c : ℕ) → okS s (bound a c ∷ inside (loopOf a) ∷ Γ))
 
     pub okItems : Items → List Around → Type 0
     okItems noItem Γ = Unit {0}
@@ -88,7 +94,7 @@ module _ (gs : List Global) where
     okArms (arm s r) Γ = okS s Γ × okArms r Γ
 
     pub okTarget : Target → List Around → Type 0
-    okTarget (toVariable a) Γ = (o : Owner) × (c : ℕ) × (keptOf a Γ ≡ some (kept o c))
+    okTarget (toVariable a) Γ = (o : Owner) × (c : ℕ) × (keptOf a Γ ≡ some (kept o c)) × Free a Γ
     okTarget (toField a e) Γ = okE e Γ × okField gs a (fieldNumber gs a .class) (fieldNumber gs a .index)
 
     pub okE : Expr → List Around → Type 0
@@ -115,11 +121,6 @@ module _ (gs : List Global) where
   abbrev pub okBody : TreeBody → List Around → Type 0
   okBody (proper s) Γ = okS s Γ
   okBody (function t e) Γ = okE e Γ
-
--- a cell that no name has is not seen
-hidden : (gs : List Global) (Γ : List Around) (c : ℕ) (x : Cell) (D : Data) → Apart own c Γ → seen gs Γ (written own c x D) ≡ seen gs Γ D
-hidden gs Γ c x D a = ap₂ (λ l m. record { root = m; blocks = l; records = map (seenR gs) (D .shared .records); trace = D .trace; taken = D .taken })
-    (apart-blocks gs own c x (D .cells) (D .lowest) Γ a) (apart-roots gs own c x (D .cells) (D .lowest) Γ a)
 
 module _ (W : Setting) (gs : List Global) where
   abbrev pub world : World
@@ -155,12 +156,24 @@ module _ (W : Setting) (gs : List Global) where
   abbrev pub endOf : (a : ℕ) (q : Procedure) → Called a q → ℕ
   endOf a q c = after (codeBody gs (q .body) (around a q c) (at (c .head .first) (length (q .parameters)))) (at (c .head .first) (length (q .parameters))) .address
 
+  -- a loop that stands from its turns on: the statement at b, the loop's cells from c on, what follows the loop at z
+  pub record Turning (C : Work) (l : Loop) (Γ : List Around) (ts : List Ty) (b : At) (c z : ℕ) : Type 0 where
+    pub good : okS gs (l .statement) (bound (l .control) c ∷ inside (loopOf (l .control)) ∷ Γ)
+    pub fit : Fit W gs C Γ c
+    pub later-cells : suc (suc (suc c)) ≤ b .cell
+    pub stand : Stands W (C .body) (codeS gs (l .statement) (bound (l .control) c ∷ inside (loopOf (l .control)) ∷ Γ) ts b) b
+    pub turned : Stands W (C .body) (codeTurned c (b .address) z (found Γ ts)) (after (codeS gs (l .statement) (bound (l .control) c ∷ inside (loopOf (l .control)) ∷ Γ) ts b) b)
+
   -- what is known of the parts that run at one fuel less
   pub record Below (n : ℕ) (r : Less) : Type 1 where
     pub b-again : (C : Work) (e : Expr) (s : Stmt) (Γ : List Around) (ts : List Ty) (p : At) (st : List Value) (D : Data) → okS gs (while e s) Γ
         → Fit W gs C Γ (p .cell) → Stands W (C .body) (codeS gs (while e s) Γ ts p) p → Holds C D
         → Meets W n (lands W gs C Γ st) (Arrives W gs C (Nothing W gs C) (Sees W gs C Γ) (heldIn Γ)
         (after (codeS gs (while e s) Γ ts p) p .address) st) (at-work W gs C (p .address) st (heldIn Γ) D) (r .again e s (placeOf W gs C Γ) (seen gs Γ D))
+    pub b-further : (C : Work) (l : Loop) (Γ : List Around) (ts : List Ty) (b : At) (c z : ℕ) (h : Turning C l Γ ts b c z) (st : List Value) (σ : Store) (D : Data) (v s t : ℤ)
+        → Held W gs C Γ c (h .fit) st σ D v s t → Steers l s t → Small v
+        → Meets W n (lands W gs C Γ st) (Arrives W gs C (Nothing W gs C) (Sees W gs C Γ) (heldIn Γ) z st)
+        (at-work W gs C (b .address) st (heldIn Γ) D) (r .further l v (placeOf W gs C Γ) σ)
     pub b-resume : (C : Work) (is : Items) (Γ : List Around) (ts : List Ty) (st : List Value) (x n' : ℕ) (e : At)
         → ((a : ℕ) → Found W gs C (hasLabel a is) (from a is) (labels is x ∷ Γ) ts (labelAt is (scopesOf Γ) (theLabels is ∷ passing Γ) x a) n' e
         (λ js. okItems gs js (labels is x ∷ Γ)))
@@ -387,11 +400,11 @@ module _ (W : Setting) (gs : List Global) where
             rw same-value (pushes W gs (C .body) (C .below) (int (pos i)) (suc a) (v ∷ st) (heldIn Γ) D (p .1)
             (op-at W gs (C .body) (C .below) (operate (binary equal)) (suc (suc a)) (int (pos i) ∷ (v ∷ st)) (heldIn Γ) D (p .2) (rw (unlike (λ b. b) v (pos i) e) lost))))
 
-    stops : {L : ℕ → Store → Conf → Type 0} {F : Unit {0} → Store → Conf → Type 0} (C : Work) (Γ : List Around) (a : ℕ) (st : List Value) (D : Data)
-        → fetch (W .macro) (C .body) a ≡ some (stop caseIndex)
-        → Meets W (suc n) L F (at-work W gs C a st (heldIn Γ) D) (treeCondition caseIndex (placeOf W gs C Γ) (seen gs Γ D))
+    stops : {L : ℕ → Store → Conf → Type 0} {F : Unit {0} → Store → Conf → Type 0} (c : ℕ) (C : Work) (Γ : List Around) (a : ℕ) (st : List Value) (D : Data)
+        → fetch (W .macro) (C .body) a ≡ some (stop c)
+        → Meets W (suc n) L F (at-work W gs C a st (heldIn Γ) D) (treeCondition c (placeOf W gs C Γ) (seen gs Γ D))
     unfolding act
-    stops C Γ a st D p = op-at W gs (C .body) (C .below) (stop caseIndex) a st (heldIn Γ) D p (conds W gs (C .body) (C .below) caseIndex Γ a st D)
+    stops c C Γ a st D p = op-at W gs (C .body) (C .below) (stop c) a st (heldIn Γ) D p (conds W gs (C .body) (C .below) c Γ a st D)
 
     arms-none : (rs : Arms) (X : Place) (σ : Store) → execArm world r rs zero X σ ≡ treeCondition caseIndex X σ
     unfolding exec
@@ -412,6 +425,89 @@ module _ (W : Setting) (gs : List Global) where
     -- the values of a list of operands, the last on top
     abbrev Many : ℕ → List Value → List Value → Type 0
     Many c vs top = (map (seenV gs) (onto top []) ≡ vs) × (length top ≡ c)
+
+    -- ── loops ──
+    loop-stands : (k c x z : ℕ) (m : Shape) (p : At) (y y' : Code) → Stands W k (codeEntered c x z m ▸ (y ▸ y')) p
+        → Stands W k (codeEntered c x z m) p × Stands W k y (skip 48 p) × Stands W k y' (after y (skip 48 p))
+    unfolding Stands after codeStored codeDownward codeUpward codeOnce
+    loop-stands k c x z m p y y' h = (h .0, h .1 .0, h .1 .1)
+
+    loop-ends : (c x z b : ℕ) (m : Shape) (p : At) (y : Code) → after (codeEntered c x z m ▸ (y ▸ codeTurned c b z m)) p .address ≡ ahead 13 (after y (skip 48 p) .address)
+    unfolding after codeStored codeDownward codeUpward codeOnce codeTurned
+    loop-ends c x z b m p y = refl
+
+    all-integers : (Γ : List Around) (ts : List Ty) (t u v : Ty) → t ≡ integer → u ≡ integer → v ≡ integer
+        → some (found Γ (v ∷ (u ∷ (t ∷ ts)))) ≡ some (found Γ (integer ∷ (integer ∷ (integer ∷ ts))))
+    all-integers Γ ts t u v e f g = rw (e, f, g) refl
+
+    -- the next value is not due, or of more than 32 bits
+    leaves-off : {L : ℕ → Store → Conf → Type 0} (C : Work) (Γ : List Around) (l : Loop) (v : ℤ) (z : ℕ) (st : List Value) (E : Data) (τ : Store) (f : ℤ → Store → Result (Unit {0}))
+        → (Small (v +ℤ l .step) → due l (v +ℤ l .step) ≡ false) → seen gs Γ E ≡ τ → Holds C E
+        → Meets W (suc n) L (Arrives W gs C (Nothing W gs C) (Sees W gs C Γ) (heldIn Γ) z st) (at-work W gs C z st (heldIn Γ) E)
+        (advancing (sum v (l .step)) (λ w ρ. ifDue l w (f w) ρ) τ)
+    unfolding advancing ifDue settle
+    leaves-off {L} C Γ l v z st E τ f o q k = go (ltb (mag (v +ℤ l .step)) 2147483648) refl
+      where
+        over : Meets W (suc n) L (Arrives W gs C (Nothing W gs C) (Sees W gs C Γ) (heldIn Γ) z st) (at-work W gs C z st (heldIn Γ) E) (done tt τ)
+        over = subst (λ s. Meets W (suc n) L (Arrives W gs C (Nothing W gs C) (Sees W gs C Γ) (heldIn Γ) z st) (at-work W gs C z st (heldIn Γ) E) (done tt s)) q (arrived W gs C Γ tt E k)
+
+        go : (b : Bool) → ltb (mag (v +ℤ l .step)) 2147483648 ≡ b → Meets W (suc n) L (Arrives W gs C (Nothing W gs C) (Sees W gs C Γ) (heldIn Γ) z st) (at-work W gs C z st (heldIn Γ) E)
+            (advancing (if b then gives (v +ℤ l .step) else endsBy overflow) (λ w ρ. ifDue l w (f w) ρ) τ)
+        go true e = rw (o (fits-small (v +ℤ l .step) e)) over
+        go false e = over
+
+    -- a turn: the statement with its control name, then the next value
+    turn : (C : Work) (l : Loop) (Γ : List Around) (ts : List Ty) (b : At) (c z : ℕ) (h : Turning C l Γ ts b c z) (st : List Value) (σ : Store) (D : Data) (v s t : ℤ)
+        → Held W gs C Γ c (h .fit) st σ D v s t → Steers l s t → Small v
+        → Goes (looping C c v s t) (bound (l .control) c ∷ inside (loopOf (l .control)) ∷ Γ) st (b .address)
+        (after (codeS gs (l .statement) (bound (l .control) c ∷ inside (loopOf (l .control)) ∷ Γ) ts b) b .address) (exec world r (l .statement))
+        → Meets W (suc n) (lands W gs C Γ st) (Arrives W gs C (Nothing W gs C) (Sees W gs C Γ) (heldIn Γ) z st)
+        (at-work W gs C (b .address) st (heldIn Γ) D) (turns r l (λ Y μ. exec world r (l .statement) Y μ) v (placeOf W gs C Γ) σ)
+    unfolding turns turning heldIn blocksOf rootsOf lands advancing ifDue act
+    turn C l Γ ts b c z h st σ D v s t k f m sim =
+        let C' = looping C c v s t in let a = l .control in let Δ = bound a c ∷ inside (loopOf a) ∷ Γ in
+        let e = after (codeS gs (l .statement) Δ ts b) b in
+        let inner : seen gs Δ D ≡ withBlocks ((slot a (assigned (int v)) ∷ []) ∷ σ .blocks) σ =
+        ap (λ x. record { root = rootsOf gs Γ (D .cells) (D .lowest); blocks = (slot a (seenC gs x) ∷ []) ∷ blocksOf gs Γ (D .cells); records = map (seenR gs) (D .shared .records);
+          trace = D .trace; taken = D .taken }) (k .value) ∙ ap (λ τ. withBlocks ((slot a (assigned (int v)) ∷ []) ∷ τ .blocks) τ) (k .same) in
+        binds (leaving (λ τ. outerBlocks (τ .blocks)) (exec world r (l .statement) (placeOf W gs C Γ) (withBlocks ((slot a (assigned (int v)) ∷ []) ∷ σ .blocks) σ)))
+        (λ j τ q. releases W gs C c v s t Γ st j τ q)
+        (left W gs C' Γ (heldIn Γ) (e .address) st _ _ (inward C' Γ Δ (heldIn Γ) (e .address) st _ _ (λ cs. (slot a (seenC gs (cellAt cs c)) ∷ [], refl)) (λ cs ls. refl)
+        (subst (λ τ. Meets W (suc n) (lands W gs C' Δ st) (Arrives W gs C' (Nothing W gs C') (Sees W gs C' Δ) (heldIn Γ) (e .address) st)
+        (at-work W gs C' (b .address) st (heldIn Γ) D) (exec world r (l .statement) (placeOf W gs C Γ) τ)) inner
+        (sim D (k .holding, k .value, k .step, k .bound)))))
+        (λ u τ y x.
+        let E = x .now in let i = x .holding in
+        let held : Held W gs C Γ c (h .fit) st τ E v s t = record { value = i .1; step = i .2; bound = i .3; holding = i .0; same = x .sees } in
+        let at-end : at-work W gs C (e .address) st (heldIn Γ) E ≡ y = sym (x .there ∙ ap (λ q. at-work W gs C (e .address) (q ++ st) (heldIn Γ) E) (x .gave)) in
+        subst (λ q. Meets W (suc n) (lands W gs C Γ st) (Arrives W gs C (Nothing W gs C) (Sees W gs C Γ) (heldIn Γ) z st) q
+        (advancing (sum v (l .step)) (λ w ρ. ifDue l w (λ π. r .further l w (placeOf W gs C Γ) π) ρ) τ)) at-end
+        (turned W gs C Γ c (h .fit) st τ l v s t (b .address) z (e .cell) (e .address) (found Γ ts) E held f m (h .turned)
+        (λ E' k' m' d' p. rw (settles-to (v +ℤ l .step) m', d') (op-tick W gs (C .body) (C .below) (go (b .address)) (ahead 12 (e .address)) st (heldIn Γ) E' p
+        (below .b-further C l Γ ts b c z h st τ E' (v +ℤ l .step) s t k' f m')))
+        (λ o. leaves-off C Γ l v z st E τ _ o (x .sees) (i .0))))
+
+    -- from the three values to the first turn, or past the loop
+    begins-loop : (C : Work) (l : Loop) (Γ : List Around) (ts : List Ty) (p : At) (c z : ℕ) (h : Turning C l Γ ts (skip 48 p) c z) (st : List Value) (D : Data) (v : ℤ)
+        → Small v → Small (l .step) → Small (l .limit) → Stands W (C .body) (codeEntered c (p .address) z (found Γ ts)) p → Holds C D
+        → ((E : Data) (s t : ℤ) → Held W gs C Γ c (h .fit) st (seen gs Γ D) E v s t → Steers l s t
+        → Meets W (suc n) (lands W gs C Γ st) (Arrives W gs C (Nothing W gs C) (Sees W gs C Γ) (heldIn Γ) z st) (at-work W gs C (ahead 48 (p .address)) st (heldIn Γ) E)
+        (turns r l (λ Y μ. exec world r (l .statement) Y μ) v (placeOf W gs C Γ) (seen gs Γ D)))
+        → Meets W (suc n) (lands W gs C Γ st) (Arrives W gs C (Nothing W gs C) (Sees W gs C Γ) (heldIn Γ) z st)
+        (at-work W gs C (p .address) (int (l .limit) ∷ (int (l .step) ∷ (int v ∷ st))) (heldIn Γ) D)
+        (counted r l (λ Y μ. exec world r (l .statement) Y μ) v (placeOf W gs C Γ) (seen gs Γ D))
+    unfolding counted ifDue Stands after codeStored codeDownward codeUpward
+    begins-loop C l Γ ts p c z h st D v hv hs hl e k go-on =
+        let σ = seen gs Γ D in let x = p .address in let Y = placeOf W gs C Γ in
+        let f : Place → Store → Result (Unit {0}) = λ X μ. exec world r (l .statement) X μ in
+        let F = Arrives W gs C (Nothing W gs C) (Sees W gs C Γ) (heldIn Γ) z st in
+        stored W gs C Γ c (h .fit) st σ (counted r l f v Y σ) v (l .step) (l .limit) x (p .cell) (found Γ ts) D k refl (e .0)
+        (λ E m i q. rw i (subst (λ τ. Meets W (suc n) (lands W gs C Γ st) F (at-work W gs C (ahead 7 x) st (heldIn Γ) E) (treeCondition stepZero Y τ)) (m .same)
+        (stops stepZero C Γ (ahead 7 x) st E q)))
+        (λ E m i. rw i (downward W gs C Γ c (h .fit) st σ l v x z (p .cell) (found Γ ts) hs hl
+        (λ s t E₁ m₁ g d. rw d (go-on E₁ s t m₁ g))
+        (λ s t E₁ m₁ d. rw d (subst (λ τ. Meets W (suc n) (lands W gs C Γ st) F (at-work W gs C z st (heldIn Γ) E₁) (done tt τ)) (m₁ .same) (arrived W gs C Γ tt E₁ (m₁ .holding))))
+        E m (e .1 .0) (e .1 .1 .0) (e .1 .1 .1)))
 
     -- a procedure's body starts with no holds of its own
     called : {A : Type 0} (G : A → List Value → Type 0) (C : Work) (Γ : List Around) (a : ℕ) (q : Procedure) (c : Called a q) (m n' : ℕ)
@@ -503,6 +599,24 @@ module _ (W : Setting) (gs : List Global) where
           (lenArms gs rs (p .cell) 1 (b .address + opsArms rs (scopesOf Γ) (passing Γ)) Γ ts b) E
           (put-same (D' .cells) (p .cell) (assigned v) y g ∙ ap assigned e') (w .fresh (p .cell) (assigned v) (D' .cells) (D' .lowest) (omega arith) k'))))))
 
+      simS (for a e f g s) C Γ ts p st o w h D k =
+          let c = p .cell in let q = at (p .address) (suc (suc (suc c))) in let x = codeE gs e Γ ts q in let q₁ = after x q in let us = tyE gs Γ e ∷ ts in
+          let y = codeE gs f Γ us q₁ in let q₂ = after y q₁ in let vs = tyE gs Γ f ∷ us in let z = codeE gs g Γ vs q₂ in let q₃ = after z q₂ in let b = skip 48 q₃ in
+          let Δ = bound a c ∷ inside (loopOf a) ∷ Γ in let exit = ahead 13 (after (codeS gs s Δ ts b) b .address) in
+          let l₁ = more-cells x q in let l₂ = more-cells y q₁ in let l₃ = more-cells z q₂ in let h₃ = h .1 .1 .1 in
+          let there = loop-stands (C .body) c (q₃ .address) exit (found Γ ts) q₃ (codeS gs s Δ ts b) (codeTurned c (b .address) exit (found Γ ts)) (h₃ .1 .1 .1 .1) in
+          subst (λ j. Meets W (suc n) (lands W gs C Γ st) (Arrives W gs C (Nothing W gs C) (Sees W gs C Γ) (heldIn Γ) j st) (at-work W gs C (p .address) st (heldIn Γ) D)
+          (exec world r (for a e f g s) (placeOf W gs C Γ) (seen gs Γ D))) (sym (loop-ends c (q₃ .address) exit (b .address) (found Γ ts) q₃ (codeS gs s Δ ts b)))
+          (bindE W gs C Γ _ (simE e C Γ ts q st (o .0) (fit-on (omega arith) w) (h₃ .0) D k) (λ i D₁ k₁.
+          bindE W gs C Γ _ (simE f C Γ us q₁ (i ∷ st) (o .1) (fit-on (omega arith) w) (h₃ .1 .0) D₁ k₁) (λ j D₂ k₂.
+          bindE W gs C Γ _ (simE g C Γ vs q₂ (j ∷ (i ∷ st)) (o .2) (fit-on (omega arith) w) (h₃ .1 .1 .0) D₂ k₂) (λ m D₃ k₃.
+          integers W gs (C .body) (C .below) Γ i j m st (q₃ .address) ts (heldIn Γ) D₃ (h₃ .1 .1 .1 .0 ∙ all-integers Γ ts (tyE gs Γ e) (tyE gs Γ f) (tyE gs Γ g) (o .3) (o .4) (o .5)) (λ v d t ei ej em hv hd ht.
+          let l : Loop = record { control = a; step = d; limit = t; statement = s } in
+          let turning : Turning C l Γ ts b c exit = record { good = o .6 c; fit = w; later-cells = omega arith; stand = there .1; turned = there .2 } in
+          rw (ei, ej, em) (begins-loop C l Γ ts q₃ c exit turning st D₃ v hv hd ht (there .0) k₃ (λ E s' t' held steers.
+          turn C l Γ ts b c exit turning st (seen gs Γ D₃) E v s' t' held steers hv
+          (simS s (looping C c v s' t') Δ ts b st (o .6 c) (fit-on (omega arith) (fit-loop a v s' t' w)) (there .1)))))))))
+
       pub simItems : (is : Items) (C : Work) (Γ : List Around) (ts : List Ty) (p : At) (st : List Value) → okItems gs is Γ → Fit W gs C Γ (p .cell) → Stands W (C .body) (codeItems gs is Γ ts p) p
           → Goes C Γ st (p .address) (after (codeItems gs is Γ ts p) p .address) (execItems world r is)
       simItems noItem C Γ ts p st o w h D k = arrived W gs C Γ tt D k
@@ -519,7 +633,7 @@ module _ (W : Setting) (gs : List Global) where
       simArms (lastArm s) c i z' z C Γ ts p st zero x o w h e D g k =
           let q = skip 4 p in let y = codeS gs s Γ ts q in
           tests W gs (C .body) (C .below) z i c (suc (after y q .address)) (p .address) st (heldIn Γ) D false (x i (omega arith)) g (h .0) (h .1 .0) (h .1 .1 .0) (h .1 .1 .1 .0) (λ u. never u)
-          (λ u. stops C Γ (suc (after y q .address)) st D (h .1 .1 .1 .1 .1 .1 .1))
+          (λ u. stops caseIndex C Γ (suc (after y q .address)) st D (h .1 .1 .1 .1 .1 .1 .1))
       simArms (lastArm s) c i z' z C Γ ts p st (suc zero) x o w h e D g k =
           let q = skip 4 p in let y = codeS gs s Γ ts q in
           tests W gs (C .body) (C .below) z i c (suc (after y q .address)) (p .address) st (heldIn Γ) D true (hits z i x) g (h .0) (h .1 .0) (h .1 .1 .0) (h .1 .1 .1 .0)
@@ -528,7 +642,7 @@ module _ (W : Setting) (gs : List Global) where
       simArms (lastArm s) c i z' z C Γ ts p st (suc (suc m)) x o w h e D g k =
           let q = skip 4 p in let y = codeS gs s Γ ts q in
           tests W gs (C .body) (C .below) z i c (suc (after y q .address)) (p .address) st (heldIn Γ) D false (misses z i m x) g (h .0) (h .1 .0) (h .1 .1 .0) (h .1 .1 .1 .0) (λ u. never u)
-          (λ u. stops C Γ (suc (after y q .address)) st D (h .1 .1 .1 .1 .1 .1 .1))
+          (λ u. stops caseIndex C Γ (suc (after y q .address)) st D (h .1 .1 .1 .1 .1 .1 .1))
       simArms (arm s rs) c i z' z C Γ ts p st zero x o w h e D g k =
           let q = skip 4 p in let y = codeS gs s Γ ts q in let v = skip 1 (after y q) in
           tests W gs (C .body) (C .below) z i c (v .address) (p .address) st (heldIn Γ) D false (x i (omega arith)) g (h .0) (h .1 .0) (h .1 .1 .0) (h .1 .1 .1 .0) (λ u. never u)
@@ -553,7 +667,7 @@ module _ (W : Setting) (gs : List Global) where
           bindE W gs C Γ _ (g st D k) (λ v D' k'.
           stores W gs (C .body) (C .below) (o .0) (o .1) v m st (heldIn Γ) D' (w .owners a (o .1) (o .0) (o .2)) (rw (o .2) at i) (λ y z.
           rw (writes gs a Γ (o .0) (o .1) v y D' (o .2) (w .distinct) z)
-          (arrived W gs C Γ tt (written (o .0) (o .1) (assigned v) D') (w .stable a (o .1) (o .0) (assigned v) (D' .cells) (D' .lowest) (o .2) k'))))
+          (arrived W gs C Γ tt (written (o .0) (o .1) (assigned v) D') (w .stable a (o .1) (o .0) (assigned v) (D' .cells) (D' .lowest) (o .2) (o .3) k'))))
       simTarget (toField a e) C Γ ts p m st f o w h i D k g =
           rw (next-next (eval world r e (placeOf W gs C Γ) (seen gs Γ D)) (λ v τ. done (ofField a v) τ) (λ l τ. next (eval world r f (placeOf W gs C Γ) τ) (λ v ρ. doAssign l v (placeOf W gs C Γ) ρ)))
           (bindE W gs C Γ _ (simE e C Γ ts p st (o .0) w h D k) (λ v D' k'.
@@ -710,6 +824,18 @@ module _ (W : Setting) (gs : List Global) where
   unfolding run
   lateAt C Γ a st D = ends (record { steps = 0; many = zero-le; alive = (refl, refl) })
 
+  turnsOn : (table : (a : ℕ) (q : Procedure) → procedureIn a gs ≡ some q → Called a q)
+      (classes : (c : ℕ) (xs : List Typed) → classIn c gs ≡ some xs → (ts : List Ty) × (getElem? (W .macro .classes) (classNumber gs c) ≡ some ts)
+      × (length ts ≡ length xs)) (n : ℕ) (r : Less) (below : Below n r)
+      (C : Work) (l : Loop) (Γ : List Around) (ts : List Ty) (b : At) (c z : ℕ) (h : Turning C l Γ ts b c z) (st : List Value) (σ : Store) (D : Data) (v s t : ℤ)
+      → Held W gs C Γ c (h .fit) st σ D v s t → Steers l s t → Small v
+      → Meets W (suc n) (lands W gs C Γ st) (Arrives W gs C (Nothing W gs C) (Sees W gs C Γ) (heldIn Γ) z st)
+      (at-work W gs C (b .address) st (heldIn Γ) D) (turns r l (λ Y μ. exec world r (l .statement) Y μ) v (placeOf W gs C Γ) σ)
+  turnsOn table classes n r ih C l Γ ts b c z h st σ D v s t k f m =
+      turn table classes n r ih C l Γ ts b c z h st σ D v s t k f m
+      (simS table classes n r ih (l .statement) (looping C c v s t) (bound (l .control) c ∷ inside (loopOf (l .control)) ∷ Γ) ts b st (h .good)
+      (fit-on (h .later-cells) (fit-loop (l .control) v s t (h .fit))) (h .stand))
+
   pub all : (table : (a : ℕ) (q : Procedure) → procedureIn a gs ≡ some q → Called a q)
       (classes : (c : ℕ) (xs : List Typed) → classIn c gs ≡ some xs → (ts : List Ty) × (getElem? (W .macro .classes) (classNumber gs c) ≡ some ts)
       × (length ts ≡ length xs)) (n : ℕ) → Below n (fueled world n)
@@ -718,11 +844,14 @@ module _ (W : Setting) (gs : List Global) where
     b-callS = λ a q c C D i e w k. lateAt C (around a q c) (c .head .first) [] D;
     b-callE = λ a q c C D i e w k. lateAt C (around a q c) (c .head .first) [] D;
     b-again = λ C e s Γ ts p st D o w h k. late C Γ (p .address) st D;
+    b-further = λ C l Γ ts b c z h st σ D v s t k f m. subst (λ τ. Meets W {A = Unit {0}} zero (lands W gs C Γ st) (Arrives W gs C (Nothing W gs C) (Sees W gs C Γ) (heldIn Γ) z st)
+        (at-work W gs C (b .address) st (heldIn Γ) D) (later τ)) (k .same) (late C Γ (b .address) st D);
     b-resume = λ C is Γ ts st x n' e f w js q D o w' h g k. late C Γ (q .address) st D;
   }
   all table classes (suc n) = let r = fueled world n in let ih = all table classes n in record {
     b-callS = λ a q c C D i e w k. bodyS table classes n r ih a q c C D i e w k;
     b-callE = λ a q c C D i e w k. bodyE table classes n r ih a q c C D i e w k;
     b-again = λ C e s Γ ts p st D o w h k. simS table classes n r ih (while e s) C Γ ts p st o w h D k;
+    b-further = λ C l Γ ts b c z h st σ D v s t k f m. turnsOn table classes n r ih C l Γ ts b c z h st σ D v s t k f m;
     b-resume = λ C is Γ ts st x n' e f w js q D o w' h g k. resumed table classes n r ih C is Γ ts st x n' e f w js q D o w' h g k;
   }

@@ -7,16 +7,16 @@ use native.Mathlib.Omega.{arith}
 use Rattle.logic.specs.Choice.{if_then_else_}
 use Rattle.values.specs.Types.{Ty, logical}
 use Rattle.values.specs.Operators.{Binary}
-use Rattle.language.specs.Tree.{Decl, declare, holding, Stmt, block, assign, when, choose, while, goto, assert, call, setLevel, select, Items, noItem, label, item, Arms}
+use Rattle.language.specs.Tree.{Decl, declare, holding, Stmt, block, assign, when, choose, while, goto, assert, call, setLevel, select, for, Items, noItem, label, item, Arms}
 use Rattle.language.specs.Tree.{lastArm, arm, Target, toVariable, toField, Expr, number, truth, pattern, null, variable, invoke, field, make, operate1, operate2}
 use Rattle.language.specs.Tree.{conditional, fader, blockExpr, Exprs, noExpr, expr, Global}
-use Rattle.language.specs.Names.{Scope, blockOf, expressionOf}
+use Rattle.language.specs.Names.{Scope, blockOf, expressionOf, loopOf}
 use Rattle.language.specs.Faults.{typeE, isTy}
 use Rattle.bytecode.specs.Instructions.{go}
 use Rattle.compile_code.specs.Code.{Code, nil, op, mark, cell, _▸_, At, at, skip, after}
 use Rattle.compile_code.specs.Compile.{Around, inside, outermost, bound, global, held, labels, scopesOf, passing, Passing, theLabels, hasLabel, sizeGoto, sizeHead, Way}
 use Rattle.compile_code.specs.Compile.{plainly, marked, ifTrue, ifFalse, sizeWay, wayOf, opsS, opsItems, opsArms, opsTarget, opsE, opsEs, labelAt, codeGoto, codeWay}
-use Rattle.compile_code.specs.Compile.{codeHead, codeS, codeItems, codeArms, codeTarget, codeE, codeEs, tyE, tyTarget}
+use Rattle.compile_code.specs.Compile.{codeHead, codeStored, codeDownward, codeUpward, codeOnce, codeTurned, codeS, codeItems, codeArms, codeTarget, codeE, codeEs, tyE, tyTarget}
 
 -- cells are only ever added
 pub more-cells : (x : Code) (p : At) → p .cell ≤ after x p .cell
@@ -69,7 +69,7 @@ module _ (gs : List Global) where
   by-bound a c Γ = (refl, refl)
 
   mutual
-    unfolding codeS opsS after passing scopesOf
+    unfolding codeS opsS after passing scopesOf codeStored codeDownward codeUpward codeOnce codeTurned
 
     pub lenS : (s : Stmt) (Γ : List Around) (ts : List Ty) (p : At) → after (codeS gs s Γ ts p) p .address ≡ p .address + opsS s (scopesOf Γ) (passing Γ)
     lenS (block ds is) Γ ts p = lenHead bound by-bound ds (inside (blockOf ds is) ∷ Γ) p (λ Δ q. codeItems gs is (labels is (q .address) ∷ Δ) ts q)
@@ -87,6 +87,11 @@ module _ (gs : List Global) where
     lenS (select e r) Γ ts p =
         let m = at (p .address) (suc (p .cell)) in let q = lenE e Γ ts m in let b = skip 1 (after (codeE gs e Γ ts m) m) in
         let u = lenArms r (p .cell) 1 (b .address + opsArms r (scopesOf Γ) (passing Γ)) Γ ts b in omega arith
+    lenS (for a e f g s) Γ ts p =
+        let m = at (p .address) (suc (suc (suc (p .cell)))) in let q = lenE e Γ ts m in let m₁ = after (codeE gs e Γ ts m) m in
+        let us = tyE gs Γ e ∷ ts in let r = lenE f Γ us m₁ in let m₂ = after (codeE gs f Γ us m₁) m₁ in
+        let vs = tyE gs Γ f ∷ us in let u = lenE g Γ vs m₂ in let m₃ = after (codeE gs g Γ vs m₂) m₂ in
+        let v = lenS s (bound a (p .cell) ∷ inside (loopOf a) ∷ Γ) ts (skip 48 m₃) in omega arith
 
     pub lenItems : (is : Items) (Γ : List Around) (ts : List Ty) (p : At) → after (codeItems gs is Γ ts p) p .address ≡ p .address + opsItems is (scopesOf Γ) (passing Γ)
     lenItems noItem Γ ts p = omega arith

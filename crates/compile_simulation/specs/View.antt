@@ -283,7 +283,7 @@ bound-own a (global q b d ∷ Γ) o c h = bound-own a Γ o c h
 bound-own a (held g ∷ Γ) o c h = bound-own a Γ o c h
 bound-own a (labels is x ∷ Γ) o c h = bound-own a Γ o c h
 
-bound-apart : (a : ℕ) (Γ : List Around) (c d : ℕ) → boundAt a Γ ≡ some (kept own c) → Apart own d Γ → d ≡ c → ⊥
+pub bound-apart : (a : ℕ) (Γ : List Around) (c d : ℕ) → boundAt a Γ ≡ some (kept own c) → Apart own d Γ → d ≡ c → ⊥
 unfolding boundAt Apart
 bound-apart a [] c d h p = let z : _≡_ {A = ℕ} 0 1 = cc h in absurd (omega arith)
 bound-apart a (inside s ∷ Γ) c d h p = bound-apart a Γ c d h p

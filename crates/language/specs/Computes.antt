@@ -10,7 +10,7 @@ use Rattle.language.specs.Faults.{typeE, typesE, faultsTyped, faultsHead
 use Rattle.language.specs.Limits.{headCells, headHolds, procedureLimits, limits}
 use Rattle.language.specs.Judge.{judgeTable, compileOn}
 use Rattle.language.specs.Execute.{cellIn, cellOf, putIn, putOf, valueOf, assignTo, declareIn, next, releaseAll, settled, branch, doSet, doFader, doField}
-use Rattle.language.specs.Execute.{doPutField, doAssign, pairUp, doMake, deciding, decides, letGo, within, outerBlocks, leaving, from, due, turning, advancing, turns, counted, catch, procedureIn, classIn}
+use Rattle.language.specs.Execute.{doPutField, doAssign, pairUp, doMake, deciding, decides, letGo, within, outerBlocks, leaving, from, due, ifDue, turning, advancing, turns, counted, catch, procedureIn, classIn}
 use Rattle.language.specs.Execute.{activate, exec, execBody, evalBody, fueled, ran, execute}
 
 unfoldable pub languageComputes : Unit {0}
@@ -19,5 +19,5 @@ unfolding countItems countArms countExprs inLayout flatTyped flatDecl flatS flat
     oneTree readTable types definesTyped definesHead definesItems definesFields definesGlobals firstOf blocksFrom identify lookup typeE typesE among faultsTyped
     faultsHead namesHead faultsS namesTyped faultsGlobals faults headCells headHolds locals procedureLimits limits judgeTable compileOn all total
     cellIn cellOf putIn putOf valueOf assignTo declareIn next releaseAll settled branch doSet doFader doField doPutField doAssign pairUp doMake
-    deciding decides letGo within outerBlocks leaving from due turning advancing turns counted catch procedureIn classIn activate exec execBody evalBody fueled ran execute
+    deciding decides letGo within outerBlocks leaving from due ifDue turning advancing turns counted catch procedureIn classIn activate exec execBody evalBody fueled ran execute
 languageComputes = tt

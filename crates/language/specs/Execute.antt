@@ -245,7 +245,11 @@ pub record Loop : Type 0 where
 unfoldable pub due : Loop → ℤ → Bool
 due l v = if ltZ (l .step) (pos 0) then leZ (l .limit) v else leZ v (l .limit)
 
--- one turn of the statement, in a block of its own where the control name has this value
+-- the value is tested before each turn
+unfoldable pub ifDue : Loop → ℤ → (Store → Result (Unit {0})) → Store → Result (Unit {0})
+ifDue l v f σ = if due l v then f σ else done tt σ
+
+-- the statement, in a block of its own where the control name has this value
 unfoldable pub turning : ℕ → ℤ → (Place → Store → Result (Unit {0})) → Place → Store → Result (Unit {0})
 turning a v f X σ = leaving (λ τ. outerBlocks (τ .blocks)) (f X (withBlocks ((slot a (assigned (int v)) ∷ []) ∷ σ .blocks) σ))
 
@@ -258,7 +262,7 @@ advancing mistyped f σ = wrong
 -- ── one level of execution over what is run with less fuel ──
 pub record Less : Type 0 where
   pub again : Expr → Stmt → Place → Store → Result (Unit {0})  -- a while's next round
-  pub further : Loop → ℤ → Place → Store → Result (Unit {0})  -- a for from its next value on
+  pub further : Loop → ℤ → Place → Store → Result (Unit {0})  -- a for's next turn, with this value
   pub resume : Items → Items → Place → Store → Result (Unit {0})  -- a block's statements from a label on
   pub callS : Body → Place → Store → Result (Unit {0})
   pub callE : Body → Place → Store → Result Value
@@ -313,16 +317,14 @@ armAt zero f g X σ = condition caseIndex X σ
 armAt (suc zero) f g X σ = f σ
 armAt (suc (suc n)) f g X σ = g (suc n) σ
 
--- the value is tested before each turn; then "statement-0; statement-1; …" (000, 7.8.1)
+-- a turn, and those after it: "statement-0; statement-1; …" (000, 7.8.1)
 unfoldable pub turns : Less → Loop → (Place → Store → Result (Unit {0})) → ℤ → Place → Store → Result (Unit {0})
 turns r l f v X σ =
-    if due l v
-    then next (turning (l .control) v f X σ) (λ u τ. advancing (sum v (l .step)) (λ w ρ. r .further l w X ρ) τ)
-    else done tt σ
+    next (turning (l .control) v f X σ) (λ u τ. advancing (sum v (l .step)) (λ w ρ. ifDue l w (λ π. r .further l w X π) ρ) τ)
 
 -- 28: "step zero, found after the limit"
 unfoldable pub counted : Less → Loop → (Place → Store → Result (Unit {0})) → ℤ → Place → Store → Result (Unit {0})
-counted r l f v X σ = if isZero (l .step) then condition stepZero X σ else turns r l f v X σ
+counted r l f v X σ = if isZero (l .step) then condition stepZero X σ else ifDue l v (λ ρ. turns r l f v X ρ) σ
 
 module _ (W : World) (r : Less) where
   unfoldable mutual

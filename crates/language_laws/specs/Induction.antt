@@ -19,7 +19,7 @@ use Rattle.language.specs.Tree.{Expr, number, truth, pattern, null, variable, i
 use Rattle.language.specs.Execute.{Slot, slot, Made, Store, withBlocks, withRoot, say, cellIn, cellOf, putIn, putOf, valueOf, assignTo, declareFirst, declareIn}
 use Rattle.language.specs.Execute.{Result, done, jump, wrong, next, Place, under, deeper, condition, settled, asked, branch, cellValue, onMade, onRecord}
 use Rattle.language.specs.Execute.{doSet, doFader, doField, doPutField, ofVariable, ofField, Location, doAssign, pairUp, doMake, decides}
-use Rattle.language.specs.Execute.{letGo, within, leaving, newBlock, Loop, due, turning, advancing, turns, counted, Less, catch, Procedure, procedureIn, classIn, World, activate, armAt}
+use Rattle.language.specs.Execute.{letGo, within, leaving, newBlock, Loop, due, ifDue, turning, advancing, turns, counted, Less, catch, Procedure, procedureIn, classIn, World, activate, armAt}
 use Rattle.language.specs.Execute.{exec, execItems, execArm, locate, eval, evals, execBody, evalBody, fueled}
 use Rattle.language_laws.specs.Holds.{Quiet}
 
@@ -181,14 +181,13 @@ module _ (R : Claim) (L : Lawful R) where
   -- the tree below the loop is run over one `Less` and over another
   turned : (r s : Less) (l : Loop) {f h : Place → Store → Result (Unit {0})} (v : ℤ) → Anywhere R (Unit {0}) f h
       → ((w : ℤ) → Anywhere R (Unit {0}) (r .further l w) (s .further l w)) → Anywhere R (Unit {0}) (turns r l f v) (turns s l h v)
-  unfolding turns turning
-  turned r s l v h k X σ =
-      either-way (due l v) (L .binds (L .leaves _ (L .same refl (h X _))) (λ u τ. advances (sum v (l .step)) (λ w ρ. k w X ρ))) (L .gives)
+  unfolding turns turning ifDue
+  turned r s l v h k X σ = L .binds (L .leaves _ (L .same refl (h X _))) (λ u τ. advances (sum v (l .step)) (λ w ρ. either-way (due l w) (k w X ρ) (L .gives)))
 
   counts : (r s : Less) (l : Loop) {f h : Place → Store → Result (Unit {0})} (v : ℤ) → Anywhere R (Unit {0}) f h
       → ((w : ℤ) → Anywhere R (Unit {0}) (r .further l w) (s .further l w)) → Anywhere R (Unit {0}) (counted r l f v) (counted s l h v)
-  unfolding counted
-  counts r s l v h k X σ = either-way (isZero (l .step)) (L .stops) (turned r s l v h k X σ)
+  unfolding counted ifDue
+  counts r s l v h k X σ = either-way (isZero (l .step)) (L .stops) (either-way (due l v) (turned r s l v h k X σ) (L .gives))
 
   -- ── the tree ──
   module _ (W : World) (r s : Less) (B : Below R r s) where
