@@ -14,26 +14,28 @@ use Rattle.values.specs.Types.{Ty, integer, logical, bits, reference, sames}
 use Rattle.values.specs.Operators.{unary, binary, Binary, equal, opType}
 use Rattle.values.specs.Ends.{caseIndex}
 use Rattle.values.specs.Values.{int, log, bit, ref, initial}
-use Rattle.language.specs.Tree.{Decl, declare, holding, Stmt, block, assign, when, choose, while, goto, assert, call, setLevel, select, Items, noItem, label, item, Arms}
+use Rattle.language.specs.Tree.{Decl, declare, holding, Stmt, block, assign, when, choose, while, goto, assert, call, setLevel, select, for, Items, noItem, label, item, Arms}
 use Rattle.language.specs.Tree.{lastArm, arm, Target, toVariable, toField, Expr, number, truth, pattern, null, variable, invoke, field, make, operate1, operate2}
 use Rattle.language.specs.Tree.{conditional, fader, blockExpr, Exprs, noExpr, expr, Global}
-use Rattle.language.specs.Names.{inBlock, inExpression, inProcedure, blockOf, expressionOf}
+use Rattle.language.specs.Names.{inBlock, inExpression, inProcedure, inLoop, blockOf, expressionOf, loopOf}
 use Rattle.language.specs.Measure.{measureS}
 use Rattle.language.specs.Faults.{typeE, isTy}
 use Rattle.language.specs.Limits.{headHolds, holdsS, holdsItems, holdsArms, holdsTarget, holdsE, holdsEs, needS, needItems, needArms, needTarget, needE, needEs}
 use Rattle.bytecode.specs.Macro.{Body, Shape, shape, Macro}
 use Rattle.bytecode.specs.Instructions.{Owner, own, push, go, letHold, operate, cellTy, fieldTy, procedureAt}
 use Rattle.bytecode.specs.Rules.{plain, effect}
-use Rattle.compile_code.specs.Code.{Code, nil, op, mark, cell, _▸_, At, at, skip, after}
+use Rattle.compile_code.specs.Code.{Code, nil, op, mark, cell, _▸_, At, at, ahead, skip, after}
 use Rattle.compile_code.specs.Compile.{Around, inside, outermost, bound, global, held, labels, heldIn, scopesOf, passing, theLabels, hasLabel, labelAt, found, kept, Way}
 use Rattle.compile_code.specs.Compile.{plainly, marked, ifTrue, ifFalse, wayOf, codeWay, codeGoto, codeHead, codeS, codeItems, codeArms, codeTarget, codeE, codeEs}
-use Rattle.compile_code.specs.Compile.{opsArms, opTarget, tyTarget, tyE, tyIn, classNumber, bodyNumber, fieldNumber}
+use Rattle.compile_code.specs.Compile.{opsArms, opTarget, tyTarget, tyE, tyIn, classNumber, bodyNumber, fieldNumber, codeStored, codeDownward, codeUpward, codeOnce}
+use Rattle.compile_code.specs.Compile.{codeEntered, codeTurned}
 use Rattle.compile_code.specs.Compile.{cellOf as keptOf}
 use Rattle.compile_simulation.specs.Sizes.{lenS, lenArms}
 use Rattle.compile_simulation.specs.Placed.{landsAt}
 use Rattle.compile_simulation.specs.Blocks.{gotoOk}
 use Rattle.compile_rules.specs.Flows.{Seg, Marks, pushes, loads, stores, operates, operates1, asserts, sets, fades, tests, goes, holds, frees, marks-on, marks-here}
 use Rattle.compile_rules.specs.Flows.{joins, calls, makes, gets, puts, stopped}
+use Rattle.compile_rules.specs.Loops.{pass-entered, pass-turned, marks-loop}
 
 target-types : (gs : List Global) (x : Target) (Γ : List Around) (ts : List Ty) → length (tyTarget gs Γ x ts) ≤ suc (length ts)
 target-types gs (toVariable a) Γ ts = omega arith
@@ -77,6 +79,9 @@ module _ (m : Macro) (k : ℕ) (gs : List Global) where
     okS (call a es) Γ = okEs es Γ × ((B : Body) × (procedureAt m (bodyNumber gs a) ≡ some B) × (take (B .parameters) (B .cells) ≡ tysE gs Γ es) × (B .results ≡ []))
     okS (setLevel e f) Γ = okE e Γ × (tyE gs Γ e ≡ integer) × okE f Γ × (tyE gs Γ f ≡ integer)
     okS (select e r) Γ = okE e Γ × (tyE gs Γ e ≡ integer) × okArms r Γ
+    okS (for a e f g s) Γ =
+        okE e Γ × (tyE gs Γ e ≡ integer) × okE f Γ × (tyE gs Γ f ≡ integer) × okE g Γ × (tyE gs Γ g ≡ integer)
+        × ((c : ℕ) → cellTy m k own c ≡ some integer → okS s (bound a c ∷ inside (loopOf a) ∷ Γ))
 
     pub okItems : Items → List Around → Type 0
     okItems noItem Γ = Unit {0}
@@ -117,6 +122,7 @@ module _ (m : Macro) (k : ℕ) (gs : List Global) where
     Reaches (inside (inBlock ds) ∷ Γ) ts = Reaches Γ ts
     Reaches (inside (inExpression ds) ∷ Γ) ts = Unit {0}
     Reaches (inside (inProcedure ds) ∷ Γ) ts = Unit {0}
+    Reaches (inside (inLoop d) ∷ Γ) ts = Reaches Γ ts
     Reaches (outermost s ∷ Γ) ts = Unit {0}
     Reaches (bound b c ∷ Γ) ts = Reaches Γ ts
     Reaches (global o b c ∷ Γ) ts = Reaches Γ ts
@@ -129,6 +135,7 @@ module _ (m : Macro) (k : ℕ) (gs : List Global) where
     passGoto (inside (inBlock ds) ∷ Γ) exact a ts o r = passGoto Γ true a ts o r
     passGoto (inside (inExpression ds) ∷ Γ) exact a ts o r = absurd o
     passGoto (inside (inProcedure ds) ∷ Γ) exact a ts o r = absurd o
+    passGoto (inside (inLoop d) ∷ Γ) exact a ts o r = passGoto Γ true a ts o r
     passGoto (outermost s ∷ Γ) exact a ts o r = absurd o
     passGoto (bound b c ∷ Γ) exact a ts o r = passGoto Γ false a ts o r
     passGoto (global q b c ∷ Γ) exact a ts o r = absurd o
@@ -331,6 +338,27 @@ module _ (m : Macro) (k : ℕ) (gs : List Global) where
     storing! (toVariable a) Γ ts t o p q = rw (o .2) (stores m k Aim (o .0) (o .1) (length (heldIn Γ)) t ts (o .3) p q)
     storing! (toField a e) Γ ts t o p q = puts m k Aim (fieldNumber gs a .class) (fieldNumber gs a .index) (length (heldIn Γ)) (tyE gs Γ e) t ts (o .1) (o .2) p q
 
+    -- a loop, over the code of its statement
+    passLoop : (Γ : List Around) (ts : List Ty) (c : ℕ) (t u v : Ty) (p : At) (y : Code) → t ≡ integer → u ≡ integer → v ≡ integer → length (heldIn Γ) ≤ 16 → 3 + length ts ≤ 32
+        → cellTy m k own c ≡ some integer → cellTy m k own (suc c) ≡ some integer → cellTy m k own (suc (suc c)) ≡ some integer
+        → Celled (codeEntered c (p .address) (ahead 13 (after y (skip 48 p) .address)) (found Γ ts) ▸ (y ▸ codeTurned c (ahead 48 (p .address)) (ahead 13 (after y (skip 48 p) .address)) (found Γ ts))) p
+        → Marks m k Aim (codeEntered c (p .address) (ahead 13 (after y (skip 48 p) .address)) (found Γ ts) ▸ (y ▸ codeTurned c (ahead 48 (p .address)) (ahead 13 (after y (skip 48 p) .address)) (found Γ ts))) p
+        → (Celled y (skip 48 p) → Marks m k Aim y (skip 48 p) → Seg m k Aim y (some (found Γ ts)) (some (found Γ ts)))
+        → Seg m k Aim (mark (found Γ (v ∷ (u ∷ (t ∷ ts)))) ▸ (codeEntered c (p .address) (ahead 13 (after y (skip 48 p) .address)) (found Γ ts)
+        ▸ (y ▸ codeTurned c (ahead 48 (p .address)) (ahead 13 (after y (skip 48 p) .address)) (found Γ ts)))) (some (found Γ (v ∷ (u ∷ (t ∷ ts))))) (some (found Γ ts))
+    unfolding Celled after Seg codeStored codeDownward codeUpward codeOnce
+    passLoop Γ ts c t u v p y et eu ev few room tv td tl cs g f =
+        let h = length (heldIn Γ) in let z = ahead 13 (after y (skip 48 p) .address) in let a = marks-loop m k Aim c z (ahead 48 (p .address)) (found Γ ts) p y g in
+        rw (et, eu, ev) (
+          some (found Γ (integer ∷ (integer ∷ (integer ∷ ts)))),
+          marks-on m k Aim h (integer ∷ (integer ∷ (integer ∷ ts))) few (omega arith),
+          (
+            some (found Γ ts),
+            pass-entered m k Aim h ts few room c tv td tl (p .address) z (a .0) (a .1) (a .5) (a .2) (a .3),
+            (some (found Γ ts), f (cs .1 .0) (a .4), pass-turned m k Aim h ts few room c tv td tl (ahead 48 (p .address)) z (a .3) (a .5)),
+          ),
+        )
+
     mutual
       unfolding okS codeS Celled Marks after Seg measureS Reaches heldIn typeE tysE
 
@@ -435,6 +463,36 @@ module _ (m : Macro) (k : ℕ) (gs : List Global) where
                   passArms rs (p .cell) 1 (b .address + opsArms rs (scopesOf Γ) (passing Γ)) Γ ts b (c .0) (o .2) r (omega arith) (omega arith) (omega arith) (c .1 .1 .1 .0)
                       (subst (λ z. Aim z (found Γ ts)) (lenArms gs rs (p .cell) 1 (b .address + opsArms rs (scopesOf Γ) (passing Γ)) Γ ts b) (g .1 .1 .1 .1)) (g .1 .1 .1 .0),
                   marks-here m k Aim h ts (omega arith) (omega arith),
+                ),
+              ),
+            ),
+          )
+      passS (for a e f w s) Γ ts p o r l n c g =
+          let q = at (p .address) (suc (suc (suc (p .cell)))) in let x = codeE gs e Γ ts q in let q₁ = after x q in let us = tyE gs Γ e ∷ ts in
+          let y = codeE gs f Γ us q₁ in let q₂ = after y q₁ in let vs = tyE gs Γ f ∷ us in let z = codeE gs w Γ vs q₂ in let q₃ = after z q₂ in
+          let Δ = bound a (p .cell) ∷ inside (loopOf a) ∷ Γ in let need = some-need w in let c₃ = c .1 .1 .1 in let g₃ = g .1 .1 .1 in (
+            some (found Γ ts),
+            refl,
+            (
+              some (found Γ ts),
+              refl,
+              (
+                some (found Γ ts),
+                refl,
+                (
+                  some (found Γ us),
+                  passE e Γ ts q (o .0) (omega arith) (omega arith) (c₃ .0) (g₃ .0),
+                  (
+                    some (found Γ vs),
+                    passE f Γ us q₁ (o .2) (omega arith) (omega arith) (c₃ .1 .0) (g₃ .1 .0),
+                    (
+                      some (found Γ (tyE gs Γ w ∷ vs)),
+                      passE w Γ vs q₂ (o .4) (omega arith) (omega arith) (c₃ .1 .1 .0) (g₃ .1 .1 .0),
+                      passLoop Γ ts (p .cell) (tyE gs Γ e) (tyE gs Γ f) (tyE gs Γ w) q₃ (codeS gs s Δ ts (skip 48 q₃)) (o .1) (o .3) (o .5) (omega arith) (omega arith)
+                          (c .0) (c .1 .0) (c .1 .1 .0) (c₃ .1 .1 .1 .1) (g₃ .1 .1 .1 .1)
+                          (λ c' g'. passS s Δ ts (skip 48 q₃) (o .6 (p .cell) (c .0)) r (omega arith) (omega arith) c' g'),
+                    ),
+                  ),
                 ),
               ),
             ),
