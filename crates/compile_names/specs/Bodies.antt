@@ -16,8 +16,10 @@ use Rattle.logic.specs.Tests.{never}
 use Rattle.compile_code.specs.Compile.{Around, inside, labels, scopesOf, hasLabel}
 use Rattle.compile_code.specs.Compile.{cellOf as keptOf}
 use Rattle.compile_code.specs.Encode.{parameterCells, startOfRoot}
+use Rattle.compile_simulation.specs.Placed.{Free}
 use Rattle.compile_simulation.specs.Blocks.{gotoOk}
-use Rattle.compile_names.specs.Known.{Style, Entered, entered-scopes, entered-new, Has, Known, Given, known-procedure, scopes-parameters, outer, first-append, nothing}
+use Rattle.compile_names.specs.Known.{Style, Entered, entered-scopes, entered-new, entered-free, Has, Known, Given, known-procedure, scopes-parameters, outer, first-append, nothing}
+use Rattle.compile_names.specs.Known.{no-label-variable}
 use Rattle.compile_names.specs.Labels.{Reached, here-or, has-label}
 use Rattle.compile_names.specs.Globals.{goodGlobals, GlobalsIn, globals-root, globals-procedure, variable-found, good-locals}
 use Rattle.compile_names.specs.Inside.{Inside}
@@ -57,13 +59,15 @@ no-label-root (procedure b xs d ∷ gs) a h =
 -- ── names of the root ──
 module _ (P : Owner → ℕ → Ty → Type 0) (t : Tree) (whole : goodGlobals (rootOf t ∷ []) [] (t .head)) where
   known-root : (S : Style) (Δ : List Around) → ((a : ℕ) → keptOf a Δ ≡ S .look a Δ) → Entered P S (locals (t .head)) (startOfRoot t) Δ → Known P Δ
-  unfolding scopesOf
-  known-root S Δ same e a u w h =
-      let q = outer (definesGlobals (t .head)) (t .items) a (isVariable u) w nowhere (λ z. z)
-      (sym (lookup-root a _) ∙ subst (λ ss. lookup a ss ≡ found (isVariable u) w) (entered-scopes P S (locals (t .head)) (startOfRoot t) Δ e) h)
-      (firstOf a (definesGlobals (t .head)) ≡ found (isVariable u) w) (λ z. z) (λ n z. nothing (isVariable u) w z) in
-      subst (λ z. Has P z u) (sym (same a)) (entered-new P S (locals (t .head)) (startOfRoot t) Δ a u w (rootOf t ∷ []) [] e
-      (good-locals (t .head) (rootOf t ∷ []) [] [] (λ b z. z) whole) (variable-found (t .head) a u w q))
+  unfolding scopesOf Free
+  known-root S Δ same e a s u w v h =
+      let q = outer (definesGlobals (t .head)) (t .items) a s w nowhere (no-label-variable s u w v)
+      (sym (lookup-root a _) ∙ subst (λ ss. lookup a ss ≡ found s w) (entered-scopes P S (locals (t .head)) (startOfRoot t) Δ e) h)
+      (firstOf a (definesGlobals (t .head)) ≡ found s w) (λ z. z) (λ n z. nothing s w z) in (
+        subst (λ z. Has P z u) (sym (same a)) (entered-new P S (locals (t .head)) (startOfRoot t) Δ a s u w (rootOf t ∷ []) [] v e
+            (good-locals (t .head) (rootOf t ∷ []) [] [] (λ b z. z) whole) (variable-found (t .head) a s u w v q)),
+        λ z. entered-free P S (locals (t .head)) (startOfRoot t) Δ a e tt (λ n. tt),
+      )
 
   pub inside-root : (S : Style) (Δ : List Around) → ((a : ℕ) → keptOf a Δ ≡ S .look a Δ) → Entered P S (locals (t .head)) (startOfRoot t) Δ → Inside P (t .head) Δ
   unfolding scopesOf

@@ -12,10 +12,10 @@ use Rattle.logic.specs.Options.{keep}
 use Rattle.values.specs.Types.{Ty, integer, logical, bits, reference}
 use Rattle.values.specs.Operators.{Binary, unary, binary, opType}
 use Rattle.values.specs.Values.{ref, initial}
-use Rattle.language.specs.Tree.{Decl, declare, holding, Stmt, block, assign, when, choose, while, goto, assert, call, setLevel, select, Items, noItem, label, item, Arms}
+use Rattle.language.specs.Tree.{Decl, declare, holding, Stmt, block, assign, when, choose, while, goto, assert, call, setLevel, select, for, Items, noItem, label, item, Arms}
 use Rattle.language.specs.Tree.{lastArm, arm, Target, toVariable, toField, Expr, number, truth, pattern, null, variable, invoke, field, make, operate1, operate2}
 use Rattle.language.specs.Tree.{conditional, fader, blockExpr, Exprs, noExpr, expr, Global}
-use Rattle.language.specs.Names.{isVariable, isClass, isField, isProcedure, types, results, Scope, blockOf, expressionOf}
+use Rattle.language.specs.Names.{asVariable, isVariable, isClass, isField, isProcedure, types, results, Scope, blockOf, expressionOf, loopOf}
 use Rattle.language.specs.Faults.{withTy, typeE, typesE, typeTarget, isTy, variableTy, resultTy}
 use Rattle.language.specs.Faults.{fieldTy as treeFieldTy}
 use Rattle.bytecode.specs.Macro.{Body, Shape, Macro}
@@ -28,11 +28,11 @@ use Rattle.compile_code.specs.Encode.{fieldTypes}
 use Rattle.logic.specs.ListLaws.{index-below}
 use Rattle.compile_rules.specs.Pass.{tysE, okHead, WayOk, okS, okItems, okArms, okTarget, okE, okEs}
 use Rattle.language_laws.specs.Tests.{is-ty}
-use Rattle.compile_names.specs.Good.{ClassAt, IsA, goodTy, goodHead, HasTy, goodS, goodItems, goodArms, goodTarget, goodE, goodEs}
+use Rattle.compile_names.specs.Good.{ClassAt, VariableAt, IsA, goodTy, goodHead, HasTy, goodS, goodItems, goodArms, goodTarget, goodE, goodEs}
 use Rattle.compile_names.specs.Known.{ofBlock, Entered}
-use Rattle.compile_names.specs.Labels.{Reached, reached-block, reached-expression}
+use Rattle.compile_names.specs.Labels.{Reached, reached-block, reached-expression, reached-loop}
 use Rattle.compile_names.specs.Globals.{classAs, goodGlobals, GlobalsIn, globals-block, globals-expression, ClassFound, class-found, procedure-found, field-found}
-use Rattle.compile_names.specs.Inside.{Inside, block-scopes, in-labels, in-block, in-expression, good-inside, good-value}
+use Rattle.compile_names.specs.Inside.{Inside, block-scopes, in-labels, in-block, in-expression, in-loop, good-inside, good-value, good-turn}
 use Rattle.compile_names.specs.Named.{types-split}
 use Rattle.compile_names.specs.Types.{unary-in, ways-in}
 
@@ -116,9 +116,9 @@ module _ (m : Macro) (k : ℕ) (gs : List Global) where
           )
 
       -- the type of what stands where
-      variable-type : (Γ : List Around) (a : ℕ) (t : Ty) → IsA a (scopesOf Γ) (isVariable t) → tyE gs Γ (variable a) ≡ tyIn gs t
+      variable-type : (Γ : List Around) (a : ℕ) (t : Ty) → VariableAt a (scopesOf Γ) t → tyE gs Γ (variable a) ≡ tyIn gs t
       unfolding typeE
-      variable-type Γ a t i = ap (λ f. tyIn gs (orInteger (variableTy f))) (i .1)
+      variable-type Γ a t i = ap (λ f. tyIn gs (orInteger (variableTy f))) (i .2 .1) ∙ ap (λ o. tyIn gs (orInteger o)) (i .1)
 
       field-type : (Γ : List Around) (a c : ℕ) (t : Ty) (e : Expr) → IsA a (scopesOf Γ) (isField c t) → tyE gs Γ (field a e) ≡ tyIn gs t
       unfolding typeE
@@ -128,9 +128,9 @@ module _ (m : Macro) (k : ℕ) (gs : List Global) where
       unfolding typeE
       result-type Γ a es ts u i = ap (λ f. tyIn gs (orInteger (resultTy f))) (i .1)
 
-      variable-found : (Γ : List Around) (a : ℕ) (t : Ty) → Inside CellTy gs Γ → IsA a (scopesOf Γ) (isVariable t) → (o : Owner) × (c : ℕ)
+      variable-found : (Γ : List Around) (a : ℕ) (t : Ty) → Inside CellTy gs Γ → VariableAt a (scopesOf Γ) t → (o : Owner) × (c : ℕ)
           × (keptOf a Γ ≡ some (kept o c)) × (cellTy m k o c ≡ some (tyIn gs t))
-      variable-found Γ a t h i = h .known a t (i .0) (i .1)
+      variable-found Γ a t h i = h .known a (i .0) t (i .2 .0) (i .1) (i .2 .1) .0
 
       fit-way : (Γ : List Around) (o : Binary) (e f : Expr) (t u r : Ty) → tyE gs Γ e ≡ tyIn gs t → tyE gs Γ f ≡ tyIn gs u → tyE gs Γ (operate2 o e f) ≡ tyIn gs r
           → WayOk m k gs (wayOf o (isTy logical (typeE (scopesOf Γ) e))) o (tyIn gs t) (tyIn gs u) (tyIn gs r)
@@ -156,6 +156,15 @@ module _ (m : Macro) (k : ℕ) (gs : List Global) where
         typed-S (call a es) Γ h r g = (typed-Es es Γ h (g .0), calls-ok Γ a es (g .1 .0) [] (h .globals) (g .1 .1) (g .1 .2))
         typed-S (setLevel e f) Γ h r g = (typed-E e Γ h (g .0), has-type Γ e integer (g .1), typed-E f Γ h (g .2), has-type Γ f integer (g .3))
         typed-S (select e xs) Γ h r g = (typed-E e Γ h (g .0), has-type Γ e integer (g .1), typed-arms xs Γ h r (g .2))
+        typed-S (for a e f v s) Γ h r g = (
+          typed-E e Γ h (g .0),
+          has-type Γ e integer (g .1),
+          typed-E f Γ h (g .2),
+          has-type Γ f integer (g .3),
+          typed-E v Γ h (g .4),
+          has-type Γ v integer (g .5),
+          λ c t. typed-S s (bound a c ∷ inside (loopOf a) ∷ Γ) (in-loop CellTy gs a c Γ t h) (reached-loop a c Γ r) (good-turn a c s Γ (g .6)),
+        )
 
         pub typed-items : (is : Items) (Γ : List Around) → Inside CellTy gs Γ → Reached Γ → goodItems (scopesOf Γ) is → okItems m k gs is Γ
         typed-items noItem Γ h r g = tt
@@ -168,7 +177,7 @@ module _ (m : Macro) (k : ℕ) (gs : List Global) where
 
         typed-target : (x : Target) (Γ : List Around) (u t : Ty) → Inside CellTy gs Γ → goodTarget (scopesOf Γ) x → typeTarget (scopesOf Γ) x ≡ some t → u ≡ tyIn gs t → okTarget m k gs x Γ u
         typed-target (toVariable a) Γ u t h g e y = rw y (
-            let q = variable-found Γ a (g .0) h (g .1) in let z : some (g .0) ≡ some t = sym (ap variableTy (g .1 .1)) ∙ e in let x : g .0 ≡ t = cc z in
+            let q = variable-found Γ a (g .0) h (isVariable (g .0), refl, g .1) in let z : some (g .0) ≡ some t = sym (ap variableTy (g .1 .1)) ∙ e in let x : g .0 ≡ t = cc z in
             (q .0, q .1, q .2, q .3 ∙ ap (λ w. some (tyIn gs w)) x))
         typed-target (toField a v) Γ u t h g e y = rw y (
             let q = fields-ok Γ a (g .1 .0) (g .1 .1) v (h .globals) (g .1 .2) (g .1 .3) in let z : some (g .1 .1) ≡ some t = sym (ap treeFieldTy (g .1 .2 .1)) ∙ e in let x : g .1 .1 ≡ t = cc z in

@@ -2,7 +2,7 @@
 use mathlib.Core.Bool.{Bool, true, false, _||_}
 use mathlib.Core.Path.{_≡_, refl, ap, sym, _∙_, subst}
 use mathlib.Core.List.{List, [], _∷_, _++_}
-use mathlib.Core.Option.{some}
+use mathlib.Core.Option.{none, some}
 use Prim.Native.Nat.{ℕ, zero, suc, _+_}
 use native.Mathlib.Omega.{arith}
 use lib.Dec.{eqb}
@@ -13,11 +13,11 @@ use Rattle.logic.specs.Choice.{if_then_else_}
 use Rattle.values.specs.Types.{Ty}
 use Rattle.values.specs.Ends.{Refusal}
 use Rattle.language.specs.Tree.{Typed, Decl, declare, holding, Items, Body, proper, function, Global, local, class, procedure, Tree, locals}
-use Rattle.language.specs.Names.{Sort, isVariable, isLabel, isClass, isField, isProcedure, Definition, types, results, definesTyped, definesHead, definesFields}
-use Rattle.language.specs.Names.{definesItems, definesGlobals, Scope, blockOf, expressionOf, procedureOf, rootOf, Found, nowhere, found, firstOf, otherwise, across, lookup}
+use Rattle.language.specs.Names.{Sort, isVariable, isLabel, isClass, isField, isProcedure, isControl, asVariable, Definition, define, types, results, definesTyped, definesHead, definesFields}
+use Rattle.language.specs.Names.{definesItems, definesGlobals, Scope, blockOf, expressionOf, procedureOf, loopOf, rootOf, Found, nowhere, found, firstOf, otherwise, across, lookup}
 use Rattle.language.specs.Faults.{typeE, mistypedUnless, twice, faultsTyped, namesHead, namesTyped, namesGlobal, bodyFits, faultsBody, faultsGlobal, faultsGlobals, faultsItems, faults, sizeGlobal}
 use Rattle.language.specs.Execute.{Procedure, procedureIn, classIn}
-use Rattle.language_laws.specs.Lookup.{lookup-block, lookup-expression, lookup-procedure, lookup-root}
+use Rattle.language_laws.specs.Lookup.{lookup-block, lookup-expression, lookup-procedure, lookup-loop, lookup-root}
 use Rattle.logic.specs.Tests.{neither, eqb-comm}
 use Rattle.compile_code.specs.Compile.{indexOf, amongNames, namesOf, Class, classesOf, classNames, Proc, procsOf, procNames, fieldIn}
 use Rattle.language_laws.specs.Tests.{fault-if, told}
@@ -71,6 +71,7 @@ IsGlobal isLabel = ⊥
 IsGlobal (isClass ts) = Unit {0}
 IsGlobal (isField c t) = Unit {0}
 IsGlobal (isProcedure ts us) = Unit {0}
+IsGlobal isControl = ⊥
 
 abbrev NoGlobal : Found → Type 0
 NoGlobal nowhere = Unit {0}
@@ -85,6 +86,7 @@ no-label isLabel w g l = g
 no-label (isClass ts) w g l = l
 no-label (isField c t) w g l = l
 no-label (isProcedure ts us) w g l = l
+no-label isControl w g l = l
 
 head-global : (a : ℕ) (ds : List Decl) → NoGlobal (firstOf a (definesHead ds))
 unfolding firstOf definesHead
@@ -129,6 +131,14 @@ globals-procedure gs xs ss k a s w g h = pick (firstOf a (definesTyped xs)) refl
     pick nowhere e n q = let u = uncross (lookup a ss) s w q in k a s (u .0) g (u .1)
     pick (found u v) e n q = let z : NoGlobal (found s w) = subst NoGlobal q n in absurd (z g)
 
+pub globals-loop : (gs : List Global) (b : ℕ) (ss : List Scope) → GlobalsIn gs ss → GlobalsIn gs (loopOf b ∷ ss)
+unfolding firstOf
+globals-loop gs b ss k a s w g h = pick (eqb b a) (sym (lookup-loop a (define b isControl) ss) ∙ h)
+  where
+    pick : (t : Bool) → otherwise (if t then found isControl false else nowhere) (lookup a ss) ≡ found s w → (v : Bool) × (firstOf a (definesGlobals gs) ≡ found s v)
+    pick true q = let z : NoGlobal (found s w) = subst NoGlobal q (λ u. u) in absurd (z g)
+    pick false q = k a s w g q
+
 -- ── found in the root's head ──
 
 abbrev IsField : ℕ → Found → Type 0
@@ -138,6 +148,7 @@ IsField c (found isLabel w) = ⊥
 IsField c (found (isClass ts) w) = ⊥
 IsField c (found (isField d t) w) = d ≡ c
 IsField c (found (isProcedure ts us) w) = ⊥
+IsField c (found isControl w) = ⊥
 
 only-fields : (a c : ℕ) (xs : List Typed) → IsField c (firstOf a (definesFields c xs))
 unfolding firstOf definesFields
@@ -331,23 +342,35 @@ field-found (procedure b xs d ∷ gs) ss seen k a c t w g h =
     }
 
 -- ── the root's variables ──
-pub variable-found : (gs : List Global) (a : ℕ) (t : Ty) (w : Bool) → firstOf a (definesGlobals gs) ≡ found (isVariable t) w → firstOf a (definesHead (locals gs)) ≡ found (isVariable t) w
+no-field-variable : (s : Sort) (t : Ty) (c : ℕ) (w : Bool) → asVariable s ≡ some t → IsField c (found s w) → ⊥
+no-field-variable (isVariable u) t c w v f = f
+no-field-variable isLabel t c w v f = f
+no-field-variable (isClass ts) t c w v f = f
+no-field-variable (isField d u) t c w v f = let z : _≡_ {A = ℕ} 0 1 = cc v in omega arith
+no-field-variable (isProcedure ts us) t c w v f = f
+no-field-variable isControl t c w v f = f
+
+not-variable : (u s : Sort) (t : Ty) → asVariable u ≡ none → asVariable s ≡ some t → u ≡ s → ⊥
+not-variable u s t n v e = let z : _≡_ {A = ℕ} 0 1 = cc (sym n ∙ ap asVariable e ∙ v) in omega arith
+
+pub variable-found : (gs : List Global) (a : ℕ) (s : Sort) (t : Ty) (w : Bool) → asVariable s ≡ some t → firstOf a (definesGlobals gs) ≡ found s w
+    → firstOf a (definesHead (locals gs)) ≡ found s w
 unfolding definesGlobals definesHead firstOf locals
-variable-found [] a t w h = h
-variable-found (local (declare x) ∷ gs) a t w h = pick (eqb (x .name) a) h (λ k. variable-found gs a t w k)
+variable-found [] a s t w v h = h
+variable-found (local (declare x) ∷ gs) a s t w v h = pick (eqb (x .name) a) h (λ k. variable-found gs a s t w v k)
   where
-    pick : (b : Bool) → (if b then found (isVariable (x .type)) false else firstOf a (definesGlobals gs)) ≡ found (isVariable t) w
-        → (firstOf a (definesGlobals gs) ≡ found (isVariable t) w → firstOf a (definesHead (locals gs)) ≡ found (isVariable t) w)
-        → (if b then found (isVariable (x .type)) false else firstOf a (definesHead (locals gs))) ≡ found (isVariable t) w
+    pick : (b : Bool) → (if b then found (isVariable (x .type)) false else firstOf a (definesGlobals gs)) ≡ found s w
+        → (firstOf a (definesGlobals gs) ≡ found s w → firstOf a (definesHead (locals gs)) ≡ found s w)
+        → (if b then found (isVariable (x .type)) false else firstOf a (definesHead (locals gs))) ≡ found s w
     pick true k f = k
     pick false k f = f k
-variable-found (local (holding g) ∷ gs) a t w h = variable-found gs a t w h
-variable-found (class c xs ∷ gs) a t w h =
-    let q = skips a c (isClass (types xs)) (isVariable t) w (firstOf a (definesFields c xs ++ definesGlobals gs)) (λ e. let z : _≡_ {A = ℕ} 0 1 = cc e in absurd (omega arith)) h in
-    variable-found gs a t w (past-fields a c xs (definesGlobals gs) (isVariable t) w (λ v z. z) (q .1))
-variable-found (procedure b xs d ∷ gs) a t w h =
-    let q = skips a b (isProcedure (types xs) (results d)) (isVariable t) w (firstOf a (definesGlobals gs)) (λ e. let z : _≡_ {A = ℕ} 0 1 = cc e in absurd (omega arith)) h in
-    variable-found gs a t w (q .1)
+variable-found (local (holding g) ∷ gs) a s t w v h = variable-found gs a s t w v h
+variable-found (class c xs ∷ gs) a s t w v h =
+    let q = skips a c (isClass (types xs)) s w (firstOf a (definesFields c xs ++ definesGlobals gs)) (not-variable (isClass (types xs)) s t refl v) h in
+    variable-found gs a s t w v (past-fields a c xs (definesGlobals gs) s w (λ b z. no-field-variable s t c b v z) (q .1))
+variable-found (procedure b xs d ∷ gs) a s t w v h =
+    let q = skips a b (isProcedure (types xs) (results d)) s w (firstOf a (definesGlobals gs)) (not-variable (isProcedure (types xs) (results d)) s t refl v) h in
+    variable-found gs a s t w v (q .1)
 
 -- fewer names seen
 abbrev Fewer : List ℕ → List ℕ → Type 0

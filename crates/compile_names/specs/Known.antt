@@ -1,4 +1,5 @@
--- A variable that the lookup of the definitions finds has a cell in what lies around, of which P holds: kept by entering a block.
+-- A variable or control name that the lookup of the definitions finds has a cell in what lies around, of which P holds, and a variable may be assigned to:
+-- kept by entering a block or a loop.
 use mathlib.Core.Bool.{Bool, true, false}
 use mathlib.Core.Path.{_≡_, refl, ap, sym, _∙_, subst}
 use mathlib.Core.List.{List, [], _∷_, _++_}
@@ -9,16 +10,18 @@ use lib.Dec.{eqb}
 use borrow.Author.Tests.{eqb-true, eq-eqb}
 use Rattle.logic.specs.Lists.{among}
 use Rattle.logic.specs.Choice.{if_then_else_}
-use Rattle.values.specs.Types.{Ty}
+use Rattle.values.specs.Types.{Ty, integer}
 use Rattle.language.specs.Tree.{Typed, Decl, declare, holding, Items, noItem, label, item}
-use Rattle.language.specs.Names.{Sort, isVariable, isLabel, isClass, isField, isProcedure, Definition, definesTyped, definesHead, definesItems, Scope, blockOf}
-use Rattle.language.specs.Names.{expressionOf, procedureOf, Found, nowhere, found, firstOf, otherwise, across, lookup}
-use Rattle.language_laws.specs.Lookup.{lookup-block, lookup-expression, lookup-procedure}
+use Rattle.language.specs.Names.{Sort, isVariable, isLabel, isClass, isField, isProcedure, isControl, asVariable, Definition, define, definesTyped, definesHead, definesItems, Scope}
+use Rattle.language.specs.Names.{blockOf, expressionOf, procedureOf, loopOf, Found, nowhere, found, firstOf, otherwise, across, lookup}
+use Rattle.language_laws.specs.Lookup.{lookup-block, lookup-expression, lookup-procedure, lookup-loop}
 use Rattle.bytecode.specs.Instructions.{Owner, own, root}
 use Rattle.logic.specs.Tests.{never, or-left, or-right}
 use Rattle.compile_code.specs.Compile.{Around, inside, bound, global, held, labels, scopesOf, boundAt, globalAt, kept, orCell}
 use Rattle.compile_code.specs.Compile.{Cell as Kept, cellOf as keptOf}
 use Rattle.compile_code.specs.Encode.{parameterCells}
+use Rattle.language.specs.Faults.{variableTy}
+use Rattle.compile_simulation.specs.Placed.{landsAt, NoLoop, Free}
 use Rattle.compile_names.specs.Good.{goodHead}
 
 -- how the variables of a head are known inside, and how they are looked up
@@ -31,6 +34,10 @@ pub record Style : Type 0 where
   pub look-hold : (a g : ℕ) (Γ : List Around) → look a (hold g Γ) ≡ look a Γ
   pub scopes-name : (b c : ℕ) (Γ : List Around) → scopesOf (name b c ∷ Γ) ≡ scopesOf Γ
   pub scopes-hold : (g : ℕ) (Γ : List Around) → scopesOf (hold g Γ) ≡ scopesOf Γ
+  pub free-name : (a b c : ℕ) (Γ : List Around) → NoLoop Γ → (eqb b a ≡ false → Free a Γ) → Free a (name b c ∷ Γ)
+  pub free-hold : (a g : ℕ) (Γ : List Around) → Free a Γ → Free a (hold g Γ)
+  pub clear-name : (b c : ℕ) (Γ : List Around) → NoLoop (name b c ∷ Γ)
+  pub clear-hold : (g : ℕ) (Γ : List Around) → NoLoop Γ → NoLoop (hold g Γ)
 
 pub bound-look : (a b c : ℕ) (Γ : List Around) → keptOf a (bound b c ∷ Γ) ≡ (if eqb b a then some (kept own c) else keptOf a Γ)
 unfolding boundAt globalAt
@@ -64,35 +71,70 @@ pub global-scopes : (o : Owner) (b c : ℕ) (Γ : List Around) → scopesOf (glo
 unfolding scopesOf
 global-scopes o b c Γ = refl
 
+pub bound-free : (a b c : ℕ) (Γ : List Around) → NoLoop Γ → (eqb b a ≡ false → Free a Γ) → Free a (bound b c ∷ Γ)
+unfolding Free
+bound-free a b c Γ n f = pick (eqb b a) f
+  where
+    pick : (t : Bool) → (t ≡ false → Free a Γ) → landsAt t (NoLoop Γ) (Free a Γ)
+    pick true g = n
+    pick false g = g refl
+
+pub global-free : (o : Owner) (a b c : ℕ) (Γ : List Around) → NoLoop Γ → (eqb b a ≡ false → Free a Γ) → Free a (global o b c ∷ Γ)
+unfolding Free
+global-free o a b c Γ n f = tt
+
+pub held-free : (a g : ℕ) (Γ : List Around) → Free a Γ → Free a (held g ∷ Γ)
+unfolding Free
+held-free a g Γ f = f
+
 -- in a block or block expression; in the root; the root's variables in a procedure
 abbrev pub ofBlock : Style
-ofBlock = record { owner = own; name = bound; hold = λ g Γ. held g ∷ Γ; look = λ a Γ. keptOf a Γ; look-name = bound-look; look-hold = held-look; scopes-name = bound-scopes; scopes-hold = held-scopes }
+ofBlock = record {
+  owner = own;
+  name = bound;
+  hold = λ g Γ. held g ∷ Γ;
+  look = λ a Γ. keptOf a Γ;
+  look-name = bound-look;
+  look-hold = held-look;
+  scopes-name = bound-scopes;
+  scopes-hold = held-scopes;
+  free-name = bound-free;
+  free-hold = held-free;
+  clear-name = λ b c Γ. tt;
+  clear-hold = λ g Γ n. tt;
+}
 
 abbrev pub ofRoot : Style
-ofRoot =
-    record {
-      owner = own;
-      name = global own;
-      hold = λ g Γ. held g ∷ Γ;
-      look = λ a Γ. globalAt a Γ;
-      look-name = global-look own;
-      look-hold = held-global;
-      scopes-name = global-scopes own;
-      scopes-hold = held-scopes;
-    }
+ofRoot = record {
+  owner = own;
+  name = global own;
+  hold = λ g Γ. held g ∷ Γ;
+  look = λ a Γ. globalAt a Γ;
+  look-name = global-look own;
+  look-hold = held-global;
+  scopes-name = global-scopes own;
+  scopes-hold = held-scopes;
+  free-name = global-free own;
+  free-hold = held-free;
+  clear-name = λ b c Γ. tt;
+  clear-hold = λ g Γ n. tt;
+}
 
 abbrev pub ofShared : Style
-ofShared =
-    record {
-      owner = root;
-      name = global root;
-      hold = λ g Γ. Γ;
-      look = λ a Γ. globalAt a Γ;
-      look-name = global-look root;
-      look-hold = λ a g Γ. refl;
-      scopes-name = global-scopes root;
-      scopes-hold = λ g Γ. refl;
-    }
+ofShared = record {
+  owner = root;
+  name = global root;
+  hold = λ g Γ. Γ;
+  look = λ a Γ. globalAt a Γ;
+  look-name = global-look root;
+  look-hold = λ a g Γ. refl;
+  scopes-name = global-scopes root;
+  scopes-hold = λ g Γ. refl;
+  free-name = global-free root;
+  free-hold = λ a g Γ f. f;
+  clear-name = λ b c Γ. tt;
+  clear-hold = λ g Γ n. n;
+}
 
 -- ── names of a head stand in it once ──
 
@@ -107,6 +149,9 @@ not-again a ss seen (declare x ∷ ds) g h = pick (eqb (x .name) a) refl (not-ag
 not-again a ss seen (holding q ∷ ds) g h = not-again a ss seen ds g h
 
 -- ── entering ──
+some-type : {t u : Ty} → some t ≡ some u → t ≡ u
+some-type h = cc h
+
 pub nothing : {A : Type 0} (s : Sort) (w : Bool) → nowhere ≡ found s w → A
 nothing s w h = let z : _≡_ {A = ℕ} 0 1 = cc h in absurd (omega arith)
 
@@ -115,8 +160,12 @@ module _ (P : Owner → ℕ → Ty → Type 0) where
   abbrev pub Has : Option Kept → Ty → Type 0
   Has k t = (o : Owner) × (c : ℕ) × (k ≡ some (kept o c)) × P o c t
 
+  -- the name a, of sort s: its cell, and whether it may be assigned to
+  abbrev pub Keeps : ℕ → Sort → Ty → List Around → Type 0
+  Keeps a s t Γ = Has (keptOf a Γ) t × (s ≡ isVariable t → Free a Γ)
+
   abbrev pub Known : List Around → Type 0
-  Known Γ = (a : ℕ) (t : Ty) (w : Bool) → lookup a (scopesOf Γ) ≡ found (isVariable t) w → Has (keptOf a Γ) t
+  Known Γ = (a : ℕ) (s : Sort) (t : Ty) (w : Bool) → asVariable s ≡ some t → lookup a (scopesOf Γ) ≡ found s w → Keeps a s t Γ
 
   module _ (S : Style) where
     -- Δ is Γ after a head
@@ -142,16 +191,25 @@ module _ (P : Owner → ℕ → Ty → Type 0) where
         pick false u k f = f k ∙ S .look-name a (x .name) (e .0) Γ ∙ ap (λ b. if b then some (kept (S .owner) (e .0)) else S .look a Γ) u
     entered-past (holding g ∷ ds) Γ Δ a e h = entered-past ds (S .hold g Γ) Δ a e h ∙ S .look-hold a g Γ
 
-    pub entered-new : (ds : List Decl) (Γ Δ : List Around) (a : ℕ) (t : Ty) (w : Bool) (ss : List Scope) (seen : List ℕ) → Entered ds Γ Δ
-        → goodHead ss seen ds → firstOf a (definesHead ds) ≡ found (isVariable t) w → Has (S .look a Δ) t
+    -- a name that the head has is free, and so is one that was free before
+    pub entered-free : (ds : List Decl) (Γ Δ : List Around) (a : ℕ) → Entered ds Γ Δ → NoLoop Γ → (firstOf a (definesHead ds) ≡ nowhere → Free a Γ) → Free a Δ
+    unfolding Entered definesHead firstOf
+    entered-free [] Γ Δ a e n f = subst (Free a) (sym e) (f refl)
+    entered-free (declare x ∷ ds) Γ Δ a e n f = entered-free ds (S .name (x .name) (e .0) ∷ Γ) Δ a (e .2) (S .clear-name (x .name) (e .0) Γ) (λ h.
+        S .free-name a (x .name) (e .0) Γ n (λ u. f (ap (λ b. if b then found (isVariable (x .type)) false else firstOf a (definesHead ds)) u ∙ h)))
+    entered-free (holding g ∷ ds) Γ Δ a e n f = entered-free ds (S .hold g Γ) Δ a e (S .clear-hold g Γ n) (λ h. S .free-hold a g Γ (f h))
+
+    pub entered-new : (ds : List Decl) (Γ Δ : List Around) (a : ℕ) (s : Sort) (t : Ty) (w : Bool) (ss : List Scope) (seen : List ℕ) → asVariable s ≡ some t → Entered ds Γ Δ
+        → goodHead ss seen ds → firstOf a (definesHead ds) ≡ found s w → Has (S .look a Δ) t
     unfolding Entered definesHead firstOf goodHead among
-    entered-new [] Γ Δ a t w ss seen e g h = nothing (isVariable t) w h
-    entered-new (declare x ∷ ds) Γ Δ a t w ss seen e g h = pick (eqb (x .name) a) refl h (λ k. entered-new ds (S .name (x .name) (e .0) ∷ Γ) Δ a t w ss (x .name ∷ seen) (e .2) (g .2) k)
+    entered-new [] Γ Δ a s t w ss seen v e g h = nothing s w h
+    entered-new (declare x ∷ ds) Γ Δ a s t w ss seen v e g h =
+        pick (eqb (x .name) a) refl h (λ k. entered-new ds (S .name (x .name) (e .0) ∷ Γ) Δ a s t w ss (x .name ∷ seen) v (e .2) (g .2) k)
       where
-        pick : (b : Bool) → eqb (x .name) a ≡ b → (if b then found (isVariable (x .type)) false else firstOf a (definesHead ds)) ≡ found (isVariable t) w
-            → (firstOf a (definesHead ds) ≡ found (isVariable t) w → Has (S .look a Δ) t) → Has (S .look a Δ) t
+        pick : (b : Bool) → eqb (x .name) a ≡ b → (if b then found (isVariable (x .type)) false else firstOf a (definesHead ds)) ≡ found s w
+            → (firstOf a (definesHead ds) ≡ found s w → Has (S .look a Δ) t) → Has (S .look a Δ) t
         pick true u k f =
-            let z : x .type ≡ t = cc k in
+            let z : x .type ≡ t = some-type (sym (ap variableTy (sym k)) ∙ v) in
             let new : among a (x .name ∷ seen) ≡ true = or-left (eqb a (x .name)) (among a seen) (eq-eqb a (x .name) (sym (eqb-true (x .name) a u))) in (
               S .owner,
               e .0,
@@ -160,7 +218,7 @@ module _ (P : Owner → ℕ → Ty → Type 0) where
               subst (λ y. P (S .owner) (e .0) y) z (e .1),
             )
         pick false u k f = f k
-    entered-new (holding q ∷ ds) Γ Δ a t w ss seen e g h = entered-new ds (S .hold q Γ) Δ a t w ss seen e g h
+    entered-new (holding q ∷ ds) Γ Δ a s t w ss seen v e g h = entered-new ds (S .hold q Γ) Δ a s t w ss seen v e g h
 
 pub first-append : (a : ℕ) (xs ys : List Definition) → firstOf a (xs ++ ys) ≡ otherwise (firstOf a xs) (firstOf a ys)
 unfolding firstOf
@@ -180,6 +238,16 @@ IsLabel (found isLabel w) = Unit {0}
 IsLabel (found (isClass ts) w) = ⊥
 IsLabel (found (isField c t) w) = ⊥
 IsLabel (found (isProcedure ts us) w) = ⊥
+IsLabel (found isControl w) = ⊥
+
+-- what has a type as a variable is no label
+pub no-label-variable : (s : Sort) (t : Ty) (w : Bool) → asVariable s ≡ some t → IsLabel (found s w) → ⊥
+no-label-variable (isVariable u) t w v l = l
+no-label-variable isLabel t w v l = let z : _≡_ {A = ℕ} 0 1 = cc v in omega arith
+no-label-variable (isClass ts) t w v l = l
+no-label-variable (isField c u) t w v l = l
+no-label-variable (isProcedure ts us) t w v l = l
+no-label-variable isControl t w v l = l
 
 pub only-labels : (a : ℕ) (is : Items) → IsLabel (firstOf a (definesItems is))
 unfolding firstOf definesItems
@@ -211,43 +279,85 @@ inside-look a s Γ = refl
 
 module _ (P : Owner → ℕ → Ty → Type 0) where
   -- entering a block keeps what is known
+  module _ (ds : List Decl) (q : Scope) (Γ Δ : List Around) (ss : List Scope) (n : NoLoop (inside q ∷ Γ)) (g : goodHead ss [] ds) (e : Entered P ofBlock ds (inside q ∷ Γ) Δ)
+      (a : ℕ) (s : Sort) (t : Ty) (v : asVariable s ≡ some t) where
+    new-name : (w : Bool) → firstOf a (definesHead ds) ≡ found s w → Keeps P a s t Δ
+    new-name w h = (
+      entered-new P ofBlock ds (inside q ∷ Γ) Δ a s t w ss [] v e g h,
+      λ u. entered-free P ofBlock ds (inside q ∷ Γ) Δ a e n (λ z. nothing s w (sym z ∙ h)),
+    )
+
+    old-name : firstOf a (definesHead ds) ≡ nowhere → Keeps P a s t Γ → Keeps P a s t Δ
+    unfolding Free
+    old-name h k = (
+      subst (λ z. Has P z t) (sym (entered-past P ofBlock ds (inside q ∷ Γ) Δ a e h ∙ inside-look a q Γ)) (k .0),
+      λ u. entered-free P ofBlock ds (inside q ∷ Γ) Δ a e n (λ z. k .1 u),
+    )
+
   pub known-block : (ds : List Decl) (is : Items) (Γ Δ : List Around) (ss : List Scope) → goodHead ss [] ds → Entered P ofBlock ds (inside (blockOf ds is) ∷ Γ) Δ → Known P Γ → Known P Δ
   unfolding scopesOf
-  known-block ds is Γ Δ ss g e k a t w h =
-      outer (definesHead ds) is a (isVariable t) w (lookup a (scopesOf Γ)) (λ q. q)
-      (sym (lookup-block a _ (scopesOf Γ)) ∙ subst (λ ss. lookup a ss ≡ found (isVariable t) w) (entered-scopes P ofBlock ds (inside (blockOf ds is) ∷ Γ) Δ e) h) (Has P (keptOf a Δ) t)
-      (λ q. entered-new P ofBlock ds (inside (blockOf ds is) ∷ Γ) Δ a t w ss [] e g q)
-      (λ n q. subst (λ z. Has P z t) (sym (entered-past P ofBlock ds (inside (blockOf ds is) ∷ Γ) Δ a e n ∙ inside-look a (blockOf ds is) Γ)) (k a t w q))
+  known-block ds is Γ Δ ss g e k a s t w v h =
+      outer (definesHead ds) is a s w (lookup a (scopesOf Γ)) (no-label-variable s t w v)
+      (sym (lookup-block a _ (scopesOf Γ)) ∙ subst (λ ss. lookup a ss ≡ found s w) (entered-scopes P ofBlock ds (inside (blockOf ds is) ∷ Γ) Δ e) h) (Keeps P a s t Δ)
+      (λ q. new-name ds (blockOf ds is) Γ Δ ss tt g e a s t v w q) (λ n q. old-name ds (blockOf ds is) Γ Δ ss tt g e a s t v n (k a s t w v q))
 
   pub known-expression : (ds : List Decl) (is : Items) (Γ Δ : List Around) (ss : List Scope) → goodHead ss [] ds → Entered P ofBlock ds (inside (expressionOf ds is) ∷ Γ) Δ → Known P Γ → Known P Δ
   unfolding scopesOf
-  known-expression ds is Γ Δ ss g e k a t w h =
-      outer (definesHead ds) is a (isVariable t) w (across (lookup a (scopesOf Γ))) (λ q. q)
-      (sym (lookup-expression a _ (scopesOf Γ)) ∙ subst (λ ss. lookup a ss ≡ found (isVariable t) w) (entered-scopes P ofBlock ds (inside (expressionOf ds is) ∷ Γ) Δ e) h) (Has P (keptOf a Δ) t)
-      (λ q. entered-new P ofBlock ds (inside (expressionOf ds is) ∷ Γ) Δ a t w ss [] e g q)
-      (λ n q. let z = uncross (lookup a (scopesOf Γ)) (isVariable t) w q in subst (λ z. Has P z t)
-      (sym (entered-past P ofBlock ds (inside (expressionOf ds is) ∷ Γ) Δ a e n ∙ inside-look a (expressionOf ds is) Γ)) (k a t (z .0) (z .1)))
+  known-expression ds is Γ Δ ss g e k a s t w v h =
+      outer (definesHead ds) is a s w (across (lookup a (scopesOf Γ))) (no-label-variable s t w v)
+      (sym (lookup-expression a _ (scopesOf Γ)) ∙ subst (λ ss. lookup a ss ≡ found s w) (entered-scopes P ofBlock ds (inside (expressionOf ds is) ∷ Γ) Δ e) h) (Keeps P a s t Δ)
+      (λ q. new-name ds (expressionOf ds is) Γ Δ ss tt g e a s t v w q)
+      (λ n q. let z = uncross (lookup a (scopesOf Γ)) s w q in old-name ds (expressionOf ds is) Γ Δ ss tt g e a s t v n (k a s t (z .0) v (z .1)))
+
+  -- and so does a loop: its control name is an integer in its cell, and not assigned to
+  pub known-loop : (b c : ℕ) (Γ : List Around) → P own c integer → Known P Γ → Known P (bound b c ∷ inside (loopOf b) ∷ Γ)
+  unfolding scopesOf firstOf Free
+  known-loop b c Γ p k a s t w v h = subst (λ z. Has P z t × (s ≡ isVariable t → Free a (bound b c ∷ inside (loopOf b) ∷ Γ))) (sym (bound-look a b c (inside (loopOf b) ∷ Γ)))
+      (pick (eqb b a) (sym (lookup-loop a (define b isControl) (scopesOf Γ)) ∙ h))
+    where
+      pick : (x : Bool) → otherwise (if x then found isControl false else nowhere) (lookup a (scopesOf Γ)) ≡ found s w
+          → Has P (if x then some (kept own c) else keptOf a (inside (loopOf b) ∷ Γ)) t × (s ≡ isVariable t → landsAt x ⊥ (Free a Γ))
+      pick true q = (
+        (own, c, refl, subst (P own c) (some-type (ap variableTy q ∙ v)) p),
+        λ u. let z : _≡_ {A = ℕ} 0 1 = cc (q, u) in absurd (omega arith),
+      )
+      pick false q = let z = k a s t w v q in (subst (λ x. Has P x t) (sym (inside-look a (loopOf b) Γ)) (z .0), z .1)
 
   -- labels do not matter
   pub known-labels : (is : Items) (x : ℕ) (Γ : List Around) → Known P Γ → Known P (labels is x ∷ Γ)
-  unfolding scopesOf boundAt globalAt
-  known-labels is x Γ k a t w h = k a t w h
+  unfolding scopesOf boundAt globalAt Free
+  known-labels is x Γ k a s t w v h = k a s t w v h
 
   -- parameters: the first of two with one name is found, in both
   unfoldable pub Given : List Typed → ℕ → Type 0
   Given [] n = Unit {0}
   Given (x ∷ xs) n = P own n (x .type) × Given xs (suc n)
 
-  given-new : (xs : List Typed) (n : ℕ) (Γ : List Around) (a : ℕ) (t : Ty) (w : Bool) → Given xs n → firstOf a (definesTyped xs) ≡ found (isVariable t) w → Has P (keptOf a (parameterCells xs n Γ)) t
+  given-new : (xs : List Typed) (n : ℕ) (Γ : List Around) (a : ℕ) (s : Sort) (t : Ty) (w : Bool) → asVariable s ≡ some t → Given xs n → firstOf a (definesTyped xs) ≡ found s w
+      → Has P (keptOf a (parameterCells xs n Γ)) t
   unfolding Given definesTyped firstOf parameterCells
-  given-new [] n Γ a t w g h = nothing (isVariable t) w h
-  given-new (x ∷ xs) n Γ a t w g h = subst (λ z. Has P z t) (sym (bound-look a (x .name) n (parameterCells xs (suc n) Γ))) (pick (eqb (x .name) a) h (λ k. given-new xs (suc n) Γ a t w (g .1) k))
+  given-new [] n Γ a s t w v g h = nothing s w h
+  given-new (x ∷ xs) n Γ a s t w v g h =
+      subst (λ z. Has P z t) (sym (bound-look a (x .name) n (parameterCells xs (suc n) Γ))) (pick (eqb (x .name) a) h (λ k. given-new xs (suc n) Γ a s t w v (g .1) k))
     where
-      pick : (b : Bool) → (if b then found (isVariable (x .type)) false else firstOf a (definesTyped xs)) ≡ found (isVariable t) w
-          → (firstOf a (definesTyped xs) ≡ found (isVariable t) w → Has P (keptOf a (parameterCells xs (suc n) Γ)) t)
+      pick : (b : Bool) → (if b then found (isVariable (x .type)) false else firstOf a (definesTyped xs)) ≡ found s w
+          → (firstOf a (definesTyped xs) ≡ found s w → Has P (keptOf a (parameterCells xs (suc n) Γ)) t)
           → Has P (if b then some (kept own n) else keptOf a (parameterCells xs (suc n) Γ)) t
-      pick true k f = let z : x .type ≡ t = cc k in (own, n, refl, subst (λ y. P own n y) z (g .0))
+      pick true k f = (own, n, refl, subst (P own n) (some-type (ap variableTy k ∙ v)) (g .0))
       pick false k f = f k
+
+  no-loop : (xs : List Typed) (n : ℕ) (Γ : List Around) → NoLoop Γ → NoLoop (parameterCells xs n Γ)
+  unfolding parameterCells
+  no-loop [] n Γ l = l
+  no-loop (x ∷ xs) n Γ l = tt
+
+  -- a parameter is free, and so is what was free before
+  given-free : (xs : List Typed) (n : ℕ) (Γ : List Around) (a : ℕ) → NoLoop Γ → (firstOf a (definesTyped xs) ≡ nowhere → Free a Γ)
+      → Free a (parameterCells xs n Γ)
+  unfolding definesTyped firstOf parameterCells
+  given-free [] n Γ a l f = f refl
+  given-free (x ∷ xs) n Γ a l f = bound-free a (x .name) n (parameterCells xs (suc n) Γ) (no-loop xs (suc n) Γ l) (λ e.
+      given-free xs (suc n) Γ a l (λ h. f (ap (λ b. if b then found (isVariable (x .type)) false else firstOf a (definesTyped xs)) e ∙ h)))
 
   given-past : (xs : List Typed) (n : ℕ) (Γ : List Around) (a : ℕ) → firstOf a (definesTyped xs) ≡ nowhere → keptOf a (parameterCells xs n Γ) ≡ keptOf a Γ
   unfolding definesTyped firstOf parameterCells
@@ -266,13 +376,17 @@ module _ (P : Owner → ℕ → Ty → Type 0) where
   scopes-parameters (x ∷ xs) n Γ = scopes-parameters xs (suc n) Γ
 
   pub known-procedure : (xs : List Typed) (Γ : List Around) → Given xs 0 → Known P Γ → Known P (parameterCells xs 0 (inside (procedureOf xs) ∷ Γ))
-  unfolding scopesOf
-  known-procedure xs Γ g k a t w h =
+  unfolding scopesOf Free
+  known-procedure xs Γ g k a s t w v h =
       pick (firstOf a (definesTyped xs)) refl
-      (sym (lookup-procedure a _ (scopesOf Γ)) ∙ subst (λ ss. lookup a ss ≡ found (isVariable t) w) (scopes-parameters xs 0 (inside (procedureOf xs) ∷ Γ)) h)
+      (sym (lookup-procedure a _ (scopesOf Γ)) ∙ subst (λ ss. lookup a ss ≡ found s w) (scopes-parameters xs 0 (inside (procedureOf xs) ∷ Γ)) h)
     where
-      pick : (f : Found) → firstOf a (definesTyped xs) ≡ f → otherwise f (across (lookup a (scopesOf Γ))) ≡ found (isVariable t) w
-          → Has P (keptOf a (parameterCells xs 0 (inside (procedureOf xs) ∷ Γ))) t
-      pick nowhere e q = let z = uncross (lookup a (scopesOf Γ)) (isVariable t) w q in
-          subst (λ z. Has P z t) (sym (given-past xs 0 (inside (procedureOf xs) ∷ Γ) a e ∙ inside-look a (procedureOf xs) Γ)) (k a t (z .0) (z .1))
-      pick (found s v) e q = given-new xs 0 (inside (procedureOf xs) ∷ Γ) a t w g (e ∙ q)
+      Δ : List Around
+      Δ = inside (procedureOf xs) ∷ Γ
+
+      pick : (f : Found) → firstOf a (definesTyped xs) ≡ f → otherwise f (across (lookup a (scopesOf Γ))) ≡ found s w → Keeps P a s t (parameterCells xs 0 Δ)
+      pick nowhere e q = let z = uncross (lookup a (scopesOf Γ)) s w q in let y = k a s t (z .0) v (z .1) in (
+        subst (λ z. Has P z t) (sym (given-past xs 0 Δ a e ∙ inside-look a (procedureOf xs) Γ)) (y .0),
+        λ u. given-free xs 0 Δ a tt (λ n. y .1 u),
+      )
+      pick (found x b) e q = (given-new xs 0 Δ a s t w v g (e ∙ q), λ u. given-free xs 0 Δ a tt (λ n. nothing x b (sym n ∙ e)))

@@ -8,8 +8,8 @@ use lib.Dec.{eqb}
 use borrow.Author.Tests.{eqb-true, eq-eqb}
 use Rattle.logic.specs.Choice.{if_then_else_}
 use Rattle.language.specs.Tree.{Decl, declare, holding, Items, noItem, label, item}
-use Rattle.language.specs.Names.{Sort, isVariable, isLabel, definesHead, definesItems, blockOf, expressionOf, Found, nowhere, found, firstOf, otherwise, across, lookup}
-use Rattle.language_laws.specs.Lookup.{lookup-block, lookup-expression}
+use Rattle.language.specs.Names.{Sort, isVariable, isLabel, isControl, define, loopOf, definesHead, definesItems, blockOf, expressionOf, Found, nowhere, found, firstOf, otherwise, across, lookup}
+use Rattle.language_laws.specs.Lookup.{lookup-block, lookup-expression, lookup-loop}
 use Rattle.compile_code.specs.Compile.{Around, inside, bound, held, labels, scopesOf, hasLabel}
 use Rattle.compile_simulation.specs.Placed.{landsAt}
 use Rattle.compile_simulation.specs.Blocks.{gotoOk}
@@ -82,3 +82,12 @@ module _ (P : Owner → ℕ → Ty → Type 0) where
       pick nowhere p nowhere q (found s w) n h = let z : true ≡ false = cc h in let y : _≡_ {A = ℕ} 0 1 = cc z in omega arith
       pick nowhere p (found s w) q f n h = let z : false ≡ true = sym n ∙ has-label a is s w q in let y : _≡_ {A = ℕ} 0 1 = cc z in omega arith
       pick (found s w) p v q f n h = no-label a ds false (p ∙ h)
+
+-- a goto passes the for clause
+pub reached-loop : (b c : ℕ) (Γ : List Around) → Reached Γ → Reached (bound b c ∷ inside (loopOf b) ∷ Γ)
+unfolding scopesOf gotoOk firstOf
+reached-loop b c Γ r a h = r a (pick (eqb b a) (sym (lookup-loop a (define b isControl) (scopesOf Γ)) ∙ h))
+  where
+    pick : (t : Bool) → otherwise (if t then found isControl false else nowhere) (lookup a (scopesOf Γ)) ≡ found isLabel false → lookup a (scopesOf Γ) ≡ found isLabel false
+    pick true q = let z : _≡_ {A = ℕ} 0 1 = cc q in absurd (omega arith)
+    pick false q = q

@@ -7,22 +7,22 @@ use native.Mathlib.Omega.{arith}
 use lib.ListN.{length, getElem?}
 use Rattle.values.specs.Types.{Ty, integer, logical, bits, reference}
 use Rattle.values.specs.Values.{ref, initial}
-use Rattle.language.specs.Tree.{Typed, Decl, declare, holding, Stmt, block, assign, when, choose, while, goto, assert, call, setLevel, select, Items, noItem, label, item}
+use Rattle.language.specs.Tree.{Typed, Decl, declare, holding, Stmt, block, assign, when, choose, while, goto, assert, call, setLevel, select, for, Items, noItem, label, item}
 use Rattle.language.specs.Tree.{Arms, lastArm, arm, Target, toVariable, toField, Expr, number, truth, pattern, null, variable, invoke, field, make, operate1, operate2}
 use Rattle.language.specs.Tree.{conditional, fader, blockExpr, Exprs, noExpr, expr, Body, proper, function, Global, countExprs}
-use Rattle.language.specs.Names.{isClass, isField, isProcedure, types, results, Scope, blockOf, expressionOf}
+use Rattle.language.specs.Names.{isVariable, isClass, isField, isProcedure, types, results, Scope, blockOf, expressionOf, loopOf}
 use Rattle.language.specs.Faults.{typeE, typesE, consTy}
 use Rattle.bytecode.specs.Instructions.{Owner}
-use Rattle.compile_code.specs.Compile.{Around, inside, bound, held, labels, scopesOf, Class, classesOf, namesOf, indexOf, classNumber, fieldNumber, tyIn}
+use Rattle.compile_code.specs.Compile.{Around, inside, bound, held, labels, scopesOf, Class, classesOf, namesOf, indexOf, classNumber, fieldNumber, orInteger, tyIn, tyE}
 use Rattle.compile_simulation.specs.View.{classOf, seenV}
 use Rattle.compile_simulation.specs.Records.{okField, field-there}
 use Rattle.compile_simulation.specs.Blocks.{okTyped, okHead}
 use Rattle.compile_simulation.specs.Sim.{IsProper, IsFunction, okS, okItems, okArms, okTarget, okE, okEs}
-use Rattle.compile_names.specs.Good.{ClassAt, IsA, goodTy, goodHead, goodS, goodItems, goodArms, goodTarget, goodE, goodEs}
+use Rattle.compile_names.specs.Good.{ClassAt, IsA, HasTy, goodTy, goodHead, goodS, goodItems, goodArms, goodTarget, goodE, goodEs}
 use Rattle.compile_names.specs.Known.{ofBlock, Entered}
-use Rattle.compile_names.specs.Labels.{Reached, reached-block, reached-expression}
+use Rattle.compile_names.specs.Labels.{Reached, reached-block, reached-expression, reached-loop}
 use Rattle.compile_names.specs.Globals.{classAs, goodGlobals, GlobalsIn, globals-block, globals-expression, ClassFound, class-found, procedure-found, FieldFound, field-found}
-use Rattle.compile_names.specs.Inside.{Inside, in-labels, in-block, in-expression, good-inside, good-value}
+use Rattle.compile_names.specs.Inside.{Inside, in-labels, in-block, in-expression, in-loop, good-inside, good-value, good-turn}
 
 pub class-of : (cs : List Class) (k : ℕ) (x : Class) → getElem? cs k ≡ some x → classOf cs k ≡ x
 class-of [] k x h = let z : _≡_ {A = ℕ} 0 1 = cc h in absurd (omega arith)
@@ -88,6 +88,9 @@ module _ (gs : List Global) where
         ∙ ap (λ x. x .fields) (class-of (classesOf gs) (classNumber gs c) (classAs c (q .fields)) (q .at-number)) in
         rw (f, i) (λ ws w h. field-there gs a (q .fields) ws w (q .there) h)
 
+    integer-type : (Γ : List Around) (e : Expr) → HasTy (scopesOf Γ) e integer → tyE gs Γ e ≡ integer
+    integer-type Γ e h = ap (λ o. tyIn gs (orInteger o)) h
+
     mutual
       unfolding goodS okS
 
@@ -114,6 +117,15 @@ module _ (gs : List Global) where
           )
       named-S (setLevel e f) Γ k r g = (named-E e Γ k (g .0), named-E f Γ k (g .2))
       named-S (select e rs) Γ k r g = (named-E e Γ k (g .0), named-arms rs Γ k r (g .2))
+      named-S (for a e f w s) Γ k r g = (
+        named-E e Γ k (g .0),
+        named-E f Γ k (g .2),
+        named-E w Γ k (g .4),
+        integer-type Γ e (g .1),
+        integer-type Γ f (g .3),
+        integer-type Γ w (g .5),
+        λ c. named-S s (bound a c ∷ inside (loopOf a) ∷ Γ) (in-loop AnyCell gs a c Γ tt k) (reached-loop a c Γ r) (good-turn a c s Γ (g .6)),
+      )
 
       pub named-items : (is : Items) (Γ : List Around) → Inside AnyCell gs Γ → Reached Γ → goodItems (scopesOf Γ) is → okItems gs is Γ
       named-items noItem Γ k r g = tt
@@ -125,7 +137,7 @@ module _ (gs : List Global) where
       named-arms (arm s rs) Γ k r g = (named-S s Γ k r (g .0), named-arms rs Γ k r (g .1))
 
       named-target : (x : Target) (Γ : List Around) → Inside AnyCell gs Γ → goodTarget (scopesOf Γ) x → okTarget gs x Γ
-      named-target (toVariable a) Γ k g = let q = k .known a (g .0) (g .1 .0) (g .1 .1) in (q .0, q .1, q .2)
+      named-target (toVariable a) Γ k g = let q = k .known a (isVariable (g .0)) (g .0) (g .1 .0) refl (g .1 .1) in (q .0 .0, q .0 .1, q .0 .2, q .1 refl)
       named-target (toField a e) Γ k g = (named-E e Γ k (g .0), field-ok (scopesOf Γ) a (g .1 .0) (g .1 .1) (k .globals) (g .1 .2))
 
       pub named-E : (e : Expr) (Γ : List Around) → Inside AnyCell gs Γ → goodE (scopesOf Γ) e → okE gs e Γ
@@ -133,7 +145,7 @@ module _ (gs : List Global) where
       named-E (truth b) Γ k g = tt
       named-E (pattern z) Γ k g = tt
       named-E (null c) Γ k g = typed-ok (scopesOf Γ) (record { name = 0; type = reference c }) (k .globals) g
-      named-E (variable a) Γ k g = let q = k .known a (g .0) (g .1 .0) (g .1 .1) in (q .0, q .1, q .2)
+      named-E (variable a) Γ k g = let q = k .known a (g .1 .0) (g .0) (g .1 .2 .0) (g .1 .1) (g .1 .2 .1) in (q .0 .0, q .0 .1, q .0 .2)
       named-E (invoke a es) Γ k g =
           let q = k .globals a (isProcedure (g .1 .0) (g .1 .1 ∷ [])) (g .1 .2 .0) tt (g .1 .2 .1) in let f = procedure-found gs a (g .1 .0) (g .1 .1 ∷ []) (q .0) (q .1) in (
             f .its,

@@ -145,7 +145,7 @@ module _ (gs : List Global) where
     distinct = h .distinct;
     below-n = h .below;
     owners = λ a c o e. subst (λ q. Owners [] q) (sym (h .owns a c o (sym (kept-global a Δ (h .unbound a)) ∙ e))) tt;
-    stable = λ a c o x cs ls e k. tt;
+    stable = λ a c o x cs ls e f k. tt;
     stable-global = λ a c o x cs ls e k. tt;
     roots = λ cs ls ds. h .same-roots cs ls ds;
     shared = h .shared;

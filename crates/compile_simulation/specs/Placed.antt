@@ -60,13 +60,13 @@ NoLoop (global o b c ∷ Γ) = Unit {0}
 NoLoop (held g ∷ Γ) = Unit {0}
 NoLoop (labels is x ∷ Γ) = Unit {0}
 
--- the name may be assigned to: it is no control name
+-- the name may be assigned to: it is no control name. The root's variables lie outermost
 unfoldable pub Free : ℕ → List Around → Type 0
 Free a [] = Unit {0}
 Free a (inside s ∷ Γ) = Free a Γ
-Free a (outermost s ∷ Γ) = Free a Γ
+Free a (outermost s ∷ Γ) = Unit {0}
 Free a (bound b c ∷ Γ) = landsAt (eqb b a) (NoLoop Γ) (Free a Γ)
-Free a (global o b c ∷ Γ) = Free a Γ
+Free a (global o b c ∷ Γ) = Unit {0}
 Free a (held g ∷ Γ) = Free a Γ
 Free a (labels is x ∷ Γ) = Free a Γ
 
