@@ -387,11 +387,11 @@ module _ (W : Setting) (gs : List Global) where
             rw same-value (pushes W gs (C .body) (C .below) (int (pos i)) (suc a) (v ∷ st) (heldIn Γ) D (p .1)
             (op-at W gs (C .body) (C .below) (operate (binary equal)) (suc (suc a)) (int (pos i) ∷ (v ∷ st)) (heldIn Γ) D (p .2) (rw (unlike (λ b. b) v (pos i) e) lost))))
 
-    stops : {L : ℕ → Store → Conf → Type 0} {F : Unit {0} → Store → Conf → Type 0} (C : Work) (Γ : List Around) (a : ℕ) (st : List Value) (D : Data)
-        → fetch (W .macro) (C .body) a ≡ some (stop caseIndex)
-        → Meets W (suc n) L F (at-work W gs C a st (heldIn Γ) D) (treeCondition caseIndex (placeOf W gs C Γ) (seen gs Γ D))
+    stops : {L : ℕ → Store → Conf → Type 0} {F : Unit {0} → Store → Conf → Type 0} (C : Work) (Γ : List Around) (c a : ℕ) (st : List Value) (D : Data)
+        → fetch (W .macro) (C .body) a ≡ some (stop c)
+        → Meets W (suc n) L F (at-work W gs C a st (heldIn Γ) D) (treeCondition c (placeOf W gs C Γ) (seen gs Γ D))
     unfolding act
-    stops C Γ a st D p = op-at W gs (C .body) (C .below) (stop caseIndex) a st (heldIn Γ) D p (conds W gs (C .body) (C .below) caseIndex Γ a st D)
+    stops C Γ c a st D p = op-at W gs (C .body) (C .below) (stop c) a st (heldIn Γ) D p (conds W gs (C .body) (C .below) c Γ a st D)
 
     arms-none : (rs : Arms) (X : Place) (σ : Store) → execArm world r rs zero X σ ≡ treeCondition caseIndex X σ
     unfolding exec
@@ -519,7 +519,7 @@ module _ (W : Setting) (gs : List Global) where
       simArms (lastArm s) c i z' z C Γ ts p st zero x o w h e D g k =
           let q = skip 4 p in let y = codeS gs s Γ ts q in
           tests W gs (C .body) (C .below) z i c (suc (after y q .address)) (p .address) st (heldIn Γ) D false (x i (omega arith)) g (h .0) (h .1 .0) (h .1 .1 .0) (h .1 .1 .1 .0) (λ u. never u)
-          (λ u. stops C Γ (suc (after y q .address)) st D (h .1 .1 .1 .1 .1 .1 .1))
+          (λ u. stops C Γ caseIndex (suc (after y q .address)) st D (h .1 .1 .1 .1 .1 .1 .1))
       simArms (lastArm s) c i z' z C Γ ts p st (suc zero) x o w h e D g k =
           let q = skip 4 p in let y = codeS gs s Γ ts q in
           tests W gs (C .body) (C .below) z i c (suc (after y q .address)) (p .address) st (heldIn Γ) D true (hits z i x) g (h .0) (h .1 .0) (h .1 .1 .0) (h .1 .1 .1 .0)
@@ -528,7 +528,7 @@ module _ (W : Setting) (gs : List Global) where
       simArms (lastArm s) c i z' z C Γ ts p st (suc (suc m)) x o w h e D g k =
           let q = skip 4 p in let y = codeS gs s Γ ts q in
           tests W gs (C .body) (C .below) z i c (suc (after y q .address)) (p .address) st (heldIn Γ) D false (misses z i m x) g (h .0) (h .1 .0) (h .1 .1 .0) (h .1 .1 .1 .0) (λ u. never u)
-          (λ u. stops C Γ (suc (after y q .address)) st D (h .1 .1 .1 .1 .1 .1 .1))
+          (λ u. stops C Γ caseIndex (suc (after y q .address)) st D (h .1 .1 .1 .1 .1 .1 .1))
       simArms (arm s rs) c i z' z C Γ ts p st zero x o w h e D g k =
           let q = skip 4 p in let y = codeS gs s Γ ts q in let v = skip 1 (after y q) in
           tests W gs (C .body) (C .below) z i c (v .address) (p .address) st (heldIn Γ) D false (x i (omega arith)) g (h .0) (h .1 .0) (h .1 .1 .0) (h .1 .1 .1 .0) (λ u. never u)

@@ -103,7 +103,7 @@ runs-on = refl
 
 -- a condition on the machine: its own step gives no event, then a release a step, then one step that ends
 unfoldable failing : List ℕ
-failing = joined (hd 0 1 5 0 ∷ bd 0 0 0 [] ∷ op 17 0 3 ∷ op 17 0 4 ∷ op 2 0 0 ∷ op 19 0 0 ∷ op 20 0 0 ∷ [])
+failing = joined (hd 0 1 5 0 ∷ bd 0 0 0 [] ∷ op 17 0 3 ∷ op 17 0 4 ∷ op 2 0 0 ∷ op 19 0 0 ∷ op 20 24 0 ∷ [])
 
 releases-last-first : (loading failing ≡ [])
     × (answers failing (feed 9 ∷ feed 9 ∷ feed 9 ∷ feed 9 ∷ feed 9 ∷ [])
