@@ -111,6 +111,16 @@ releases-last-first : (loading failing ≡ [])
 unfolding casesCompute joined failing
 releases-last-first = (refl, refl)
 
+-- op 20 stops by its a: 28 after its own step and that of the end; with a 0, as it was written before request 1, 25 or a b it is refused (9)
+unfoldable stopping : ℕ → ℕ → List ℕ
+stopping a b = joined (hd 0 1 1 0 ∷ bd 0 0 0 [] ∷ op 20 a b ∷ [])
+
+stops-by-a : (loading (stopping 28 0) ≡ []) × (answers (stopping 28 0) (feed 9 ∷ []) ≡ 3 ∷ 2 ∷ 28 ∷ 0 ∷ 0 ∷ [])
+    × (answers (stopping 24 0) (feed 9 ∷ []) ≡ 3 ∷ 2 ∷ 24 ∷ 0 ∷ 0 ∷ [])
+    × (loading (stopping 0 0) ≡ 9 ∷ 0 ∷ []) × (loading (stopping 25 0) ≡ 9 ∷ 0 ∷ []) × (loading (stopping 28 1) ≡ 9 ∷ 0 ∷ [])
+unfolding casesCompute joined stopping
+stops-by-a = (refl, refl, refl, refl, refl, refl)
+
 -- and inside a called procedure, with holds 3, 4 open in it and 1, 2 in the root: all are released, the procedure's last first, then the root's
 unfoldable failingInside : List ℕ
 failingInside = joined
