@@ -97,7 +97,7 @@ uint64_t cue_start(const uint8_t *code, size_t n, uint8_t *state, size_t len);
  *   refusal 11        m is not CUE_READINGS
  *   set, hold, release  what the last of the steps taken gave; run again to go on
  *   allowance used    the steps are the allowance; run again to go on
- *   end               by 0, or by the condition (20 to 27) after its releases; further runs give the end again, with 0 steps
+ *   end               by 0, or by the condition (20 to 28) after its releases; further runs give the end again, with 0 steps
  *
  * The refusals are tested in this order. Every run makes the loading check anew and tests the state, so that its time grows with the
  * macro's length and not with the allowance alone. How many readings it took is not told: the end sheet is the listing

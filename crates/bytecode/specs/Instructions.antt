@@ -1,5 +1,5 @@
 -- The instructions: what op, a and b of a record stand for. (paper 01, Compiled macro)
-use mathlib.Core.Bool.{Bool, true, false, _&&_}
+use mathlib.Core.Bool.{Bool, true, false, _&&_, _||_}
 use mathlib.Core.Option.{Option, none, some}
 use Prim.Native.Nat.{ℕ, zero, suc}
 use mathlib.Core.List.{List, [], _∷_}
@@ -11,7 +11,7 @@ use Rattle.words.specs.Numbers.{integerOf}
 use Rattle.values.specs.Operators.{Operator, unary, binary, unaryOf, binaryOf}
 use Rattle.values.specs.Values.{Value, int, log, bit, ref}
 use Rattle.values.specs.Types.{Ty, integer, logical, bits, reference}
-use Rattle.values.specs.Ends.{caseIndex}
+use Rattle.values.specs.Ends.{caseIndex, stepZero}
 use Rattle.bytecode.specs.Macro.{Body, Code, Macro}
 
 -- whose cells: "a 0 own, 1 root's", in the root too (M17)
@@ -51,6 +51,10 @@ orBinary (some o) n = some o
 abbrev pub operatorOf : ℕ → Option Operator
 operatorOf n = orBinary (keep (unaryOf n) (λ o. some (unary o))) n
 
+-- "Op 20 stops by its a, 24 or 28." (paper 02, ticket 1)
+abbrev pub stopsBy : ℕ → Bool
+stopsBy n = eqb n caseIndex || eqb n stepZero
+
 -- "An unknown op is a fault, and an a or b out of range, or unused and not 0."; what is in range by the macro is the rules' to say
 unfoldable pub instruction : Code → Option Instr
 instruction c =
@@ -76,7 +80,7 @@ instruction c =
     if eqb k 17 then exactly (eqb x 0 && leb n 63) (takeHold n) else  -- 17 hold b
     if eqb k 18 then exactly plain letHold else  -- 18 release
     if eqb k 19 then exactly plain assert else  -- 19 assert
-    if eqb k 20 then exactly plain (stop caseIndex) else none  -- 20 stop by 24
+    if eqb k 20 then exactly (stopsBy x && eqb n 0) (stop x) else none  -- 20 stop by a
 
 -- ── where the code of each body lies ──
 abbrev pub bodyAt : Macro → ℕ → Option Body

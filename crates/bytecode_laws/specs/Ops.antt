@@ -14,16 +14,16 @@ use Rattle.words.specs.Numbers.{integerOf}
 use Rattle.words.specs.Laws.{integer-fits}
 use Rattle.logic.specs.Lists.{among}
 use Rattle.values.specs.Types.{Ty, integer, logical, bits, reference}
-use Rattle.values.specs.Ends.{isCondition, caseIndex}
+use Rattle.values.specs.Ends.{isCondition, caseIndex, stepZero}
 use Rattle.values.specs.Operators.{Unary, unary, Binary, binary, opType}
 use Rattle.values.specs.Values.{Value, int, log, bit, ref, tyOf}
 use Rattle.bytecode.specs.Macro.{Body, Code, Shape, shape, Macro}
 use Rattle.bytecode.specs.Instructions.{Instr, end, push, load, store, operate, go, goUnless, call, return, make, getField, putField, setLevel, readFader, takeHold}
-use Rattle.bytecode.specs.Instructions.{letHold, assert, stop, exactly, ownerOf, operatorOf, instruction, bodyAt, instrAt, cellTy, fieldTy, known, procedureAt}
+use Rattle.bytecode.specs.Instructions.{letHold, assert, stop, exactly, stopsBy, ownerOf, operatorOf, instruction, bodyAt, instrAt, cellTy, fieldTy, known, procedureAt}
 use Rattle.bytecode.specs.Rules.{plain, wrong, effect, giving, taking, operating, pushing, calling, making, endingIn, returning}
 use Rattle.bytecode.specs.Sound.{soundValue}
 use Rattle.logic.specs.OptionLaws.{never-some, kept}
-use Rattle.logic.specs.Tests.{halves}
+use Rattle.logic.specs.Tests.{by-test, halves}
 use Rattle.logic.specs.ListLaws.{each-at}
 use Rattle.bytecode_laws.specs.Terms.{Named, OfBytes, Passed, Allowed, Takes, Does, Literal, Finds}
 use Rattle.bytecode_laws.specs.Takes.{takes-first, takes-one}
@@ -66,6 +66,12 @@ literal-null : (c : ℕ) → Literal (ref c none)
 unfolding soundValue
 literal-null c rs = refl
 
+-- what op 20 stops by is a condition
+pub stop-condition : (n : ℕ) → stopsBy n ≡ true → isCondition n ≡ true
+unfolding among
+stop-condition n h =
+    by-test (eqb n caseIndex) (λ e. rw (eqb-true n caseIndex e)) (λ e. rw (eqb-true n stepZero (rw e at h)))
+
 module _ (c : Code) where
   either : (b : Bool) (o p : Option Instr) (x : Instr) → (b ≡ true → o ≡ some x → Proper c x) → (p ≡ some x → Proper c x)
       → (if b then o else p) ≡ some x → Proper c x
@@ -104,7 +110,7 @@ proper c x w h =
     either c (eqb (c .op) 17) _ _ x (λ t. just c (eqb a 0 && leb n 63) (takeHold n) x (λ e. leb-true n 63 (halves (eqb a 0) (leb n 63) e .1))) (
     either c (eqb (c .op) 18) _ _ x (λ t. just c p letHold x (λ e. tt)) (
     either c (eqb (c .op) 19) _ _ x (λ t. just c p assert x (λ e. tt)) (
-    either c (eqb (c .op) 20) _ none x (λ t. just c p (stop caseIndex) x (λ e. unfold among in refl)) never-some)))))))))))))))))))) h
+    either c (eqb (c .op) 20) _ none x (λ t. just c (stopsBy a && eqb n 0) (stop a) x (λ e. stop-condition a (halves (stopsBy a) (eqb n 0) e .0))) never-some)))))))))))))))))))) h
 
 -- ── what is declared ──
 pub known-named : (m : Macro) (t : Ty) → known m t ≡ true → Named (length (m .classes)) t

@@ -105,7 +105,7 @@ recordOf readFader = rec 16 0 0
 recordOf (takeHold g) = rec 17 0 g
 recordOf letHold = rec 18 0 0
 recordOf assert = rec 19 0 0
-recordOf (stop c) = rec 20 0 0
+recordOf (stop c) = rec 20 c 0
 
 unfoldable pub linesOf : List Part → List Line
 linesOf [] = []

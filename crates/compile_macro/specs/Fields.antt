@@ -24,8 +24,7 @@ use Rattle.language.specs.Tree.{conditional, fader, blockExpr, Exprs, noExpr, e
 use Rattle.language.specs.Names.{blockOf, expressionOf}
 use Rattle.language.specs.Faults.{typeE, isTy}
 use Rattle.language.specs.Table.{Entry, entry, inLayout}
-use Rattle.values.specs.Ends.{caseIndex}
-use Rattle.bytecode.specs.Instructions.{Instr, end, push, load, store, operate, go, goUnless, return, getField, putField, readFader, takeHold, letHold, stop}
+use Rattle.bytecode.specs.Instructions.{Instr, end, push, load, store, operate, go, goUnless, return, getField, putField, readFader, takeHold, letHold, stop, stopsBy}
 use Rattle.bytecode.specs.Instructions.{call as callOp, make as makeOp, setLevel as setOp, assert as assertOp}
 use Rattle.logic.specs.Lists.{Each}
 use Rattle.logic.specs.Tests.{halves}
@@ -65,7 +64,7 @@ Holdable readFader = Unit {0}
 Holdable (takeHold g) = leb g 63 ≡ true
 Holdable letHold = Unit {0}
 Holdable assertOp = Unit {0}
-Holdable (stop c) = c ≡ caseIndex
+Holdable (stop c) = stopsBy c ≡ true
 
 pub holdable-writable : (i : Instr) → Holdable i → Writable i
 holdable-writable end h = tt

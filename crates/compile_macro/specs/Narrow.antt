@@ -15,6 +15,7 @@ use Rattle.values.specs.Types.{Ty, logical, reference}
 use Rattle.values.specs.Operators.{Operator, unary, binary, negate, absolute, complement, plus, minus, times, divide, remainder, less, atMost, greater, atLeast, equal}
 use Rattle.values.specs.Operators.{unequal, both, either, shiftLeft, shiftRight}
 use Rattle.values.specs.Values.{int, log, bit, ref}
+use Rattle.values.specs.Conditions.{condition-byte}
 use Rattle.bytecode.specs.Macro.{Body, Shape, shape, Placed, Macro, shapeIn}
 use Rattle.bytecode.specs.Instructions.{Owner, own, root, Instr, end, push, load, store, operate, go, goUnless, return, getField, putField, readFader, takeHold, letHold}
 use Rattle.bytecode.specs.Instructions.{stop, bodyAt, inBody, procedureAt, cellTy, cellsOf, fieldTy}
@@ -26,6 +27,7 @@ use Rattle.logic.specs.OptionLaws.{never-some}
 use Rattle.logic.specs.Tests.{halves}
 use Rattle.bytecode_laws.specs.Terms.{Ascends, OfBytes, WellFormed, ReadClass}
 use Rattle.bytecode_laws.specs.Bodies.{inside-code}
+use Rattle.bytecode_laws.specs.Ops.{stop-condition}
 use Rattle.compile_code.specs.Code.{Code, nil, op, mark, cell, _▸_, At, after, Line, first, lay, placed, placedAt}
 use Rattle.compile_code.specs.Encode.{recordOf, recordsOf, operatorCode}
 use Rattle.compile_rules.specs.Flows.{Goes, Comes, Seg, Marks}
@@ -251,7 +253,7 @@ module _ (m : Macro) (k : ℕ) (w : WellFormed m) (short : length (m .code) < 65
   narrow-op (takeHold g) h f = let z = leb-true g 63 h in rec (takeHold g) (omega arith) (omega arith) (omega arith)
   narrow-op letHold h f = rec letHold (omega arith) (omega arith) (omega arith)
   narrow-op assertOp h f = rec assertOp (omega arith) (omega arith) (omega arith)
-  narrow-op (stop c) h f = rec (stop c) (omega arith) (omega arith) (omega arith)
+  narrow-op (stop c) h f = rec (stop c) (omega arith) (condition-byte c (stop-condition c h)) (omega arith)
 
 -- each record of lines whose ops are so
 pub narrow-lines : (ls : List Line) → Each (λ (l : Line). OfBytes (recordOf (l .instr))) ls → Each OfBytes (recordsOf ls)

@@ -1,18 +1,17 @@
 -- An instruction written as a record reads back.
 use mathlib.Core.Bool.{true, false}
-use mathlib.Core.Path.{_≡_, refl, ap, sym}
+use mathlib.Core.Path.{_≡_, refl, ap}
 use mathlib.Core.Option.{none, some}
 use lib.Dec.{leb}
 use Rattle.words.specs.Numbers.{integerOf, wordOf}
 use Rattle.values.specs.Operators.{unary, binary, negate, absolute, complement, plus, minus, times, divide, remainder, less, atMost, greater, atLeast, equal, unequal}
 use Rattle.values.specs.Operators.{both, either, shiftLeft, shiftRight, unaryOf, binaryOf}
-use Rattle.values.specs.Ends.{caseIndex}
 use Rattle.values.specs.Values.{int, log, bit, ref}
 use Rattle.bytecode.specs.Instructions.{own, root, Instr, end, push, load, store, operate, go, goUnless, call, return, make, getField, putField, setLevel, readFader}
-use Rattle.bytecode.specs.Instructions.{takeHold, letHold, assert, stop, instruction}
+use Rattle.bytecode.specs.Instructions.{takeHold, letHold, assert, stop, stopsBy, instruction}
 use Rattle.compile_code.specs.Encode.{recordOf}
 
--- what a record can hold: 32 bits, a null, a group, the one condition of op 20
+-- what a record can hold: 32 bits, a null, a group, a condition of op 20
 abbrev pub Writable : Instr → Type 0
 Writable end = Unit {0}
 Writable (push (int z)) = integerOf (wordOf z) ≡ z
@@ -35,7 +34,7 @@ Writable readFader = Unit {0}
 Writable (takeHold g) = leb g 63 ≡ true
 Writable letHold = Unit {0}
 Writable assert = Unit {0}
-Writable (stop c) = c ≡ caseIndex
+Writable (stop c) = stopsBy c ≡ true
 
 pub reads-back : (i : Instr) → Writable i → instruction (recordOf i) ≡ some i
 unfolding instruction recordOf unaryOf binaryOf
@@ -80,4 +79,4 @@ reads-back readFader w = refl
 reads-back (takeHold g) w = rw w refl
 reads-back letHold w = refl
 reads-back assert w = refl
-reads-back (stop c) w = ap (λ x. some (stop x)) (sym w)
+reads-back (stop c) w = rw w refl

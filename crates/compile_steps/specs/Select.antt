@@ -196,10 +196,10 @@ module _ {e : Expr} {r : Arms} {W : Walk} {X : Place} {l part : List ℕ} {nesti
           pub select-fits₂ : Fits (moved t) (length (N .out))
           select-fits₂ = fits-op (stop caseIndex) _ t (length (N .out)) (after-arms .fits)
 
-          module _ {p₃ : Cursor} {o₂ : List ℕ} (i₂ : (p₃ ≡ moved t) × (o₂ ≡ emitOp t (N .out) 20 0 0)) where
+          module _ {p₃ : Cursor} {o₂ : List ℕ} (i₂ : (p₃ ≡ moved t) × (o₂ ≡ emitOp t (N .out) 20 24 0)) where
             stopped : Wrote (N .out) o₂ t p₃ (op (stop caseIndex))
             unfolding recordOf
-            stopped = wrote-op (stop caseIndex) 20 0 0 i₂ (λ w. refl)
+            stopped = wrote-op (stop caseIndex) 20 24 0 i₂ (λ w. refl)
 
             stood-last : Stood W (movedTo X (skip 1 there)) l (lent (N .env) (N .ends) (N .stack) o₂) top holds depth p₃
             unfolding after
@@ -296,7 +296,7 @@ module _ {known aims l part : List ℕ} {nesting at : ℕ} {sizes : List ℕ} {L
               let x = a .same-known in let y = a .same-aims in
               select-fits₂ ready n z (b₁ .kept) (done-first x y ready) (cell-is x ready) i (b₂ .kept) (done-second x y ready)
 
-          module _ {p₃ : Cursor} {o₂ : List ℕ} (i₂ : (p₃ ≡ moved t) × (o₂ ≡ emitOp t (N .out) 20 0 0)) where
+          module _ {p₃ : Cursor} {o₂ : List ℕ} (i₂ : (p₃ ≡ moved t) × (o₂ ≡ emitOp t (N .out) 20 24 0)) where
             pub asks-select-shape : Shaping (N .stack) o₂ holds depth p₃
             asks-select-shape =
                 let x = a .same-known in let y = a .same-aims in

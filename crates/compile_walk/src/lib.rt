@@ -613,7 +613,7 @@ fn select(
         out,
         q,
     );
-    let s = compile_output::emit(out, r, OP_STOP, 0, 0);
+    let s = compile_output::emit(out, r, OP_STOP, values::CASE_INDEX, 0);
     compile_emit::finish(ends, at, compile_output::shape(out, s, holds, stack, depth))
 }
 

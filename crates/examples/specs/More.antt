@@ -103,13 +103,23 @@ runs-on = refl
 
 -- a condition on the machine: its own step gives no event, then a release a step, then one step that ends
 unfoldable failing : List ℕ
-failing = joined (hd 0 1 5 0 ∷ bd 0 0 0 [] ∷ op 17 0 3 ∷ op 17 0 4 ∷ op 2 0 0 ∷ op 19 0 0 ∷ op 20 0 0 ∷ [])
+failing = joined (hd 0 1 5 0 ∷ bd 0 0 0 [] ∷ op 17 0 3 ∷ op 17 0 4 ∷ op 2 0 0 ∷ op 19 0 0 ∷ op 20 24 0 ∷ [])
 
 releases-last-first : (loading failing ≡ [])
     × (answers failing (feed 9 ∷ feed 9 ∷ feed 9 ∷ feed 9 ∷ feed 9 ∷ [])
     ≡ 5 ∷ 1 ∷ 3 ∷ 0 ∷ 0 ∷ 5 ∷ 1 ∷ 4 ∷ 0 ∷ 0 ∷ 6 ∷ 3 ∷ 4 ∷ 0 ∷ 0 ∷ 6 ∷ 1 ∷ 3 ∷ 0 ∷ 0 ∷ 3 ∷ 1 ∷ 23 ∷ 0 ∷ 0 ∷ [])
 unfolding casesCompute joined failing
 releases-last-first = (refl, refl)
+
+-- op 20 stops by its a: 28 after its own step and that of the end; with a 0, as it was written before request 1, 25 or a b it is refused (9)
+unfoldable stopping : ℕ → ℕ → List ℕ
+stopping a b = joined (hd 0 1 1 0 ∷ bd 0 0 0 [] ∷ op 20 a b ∷ [])
+
+stops-by-a : (loading (stopping 28 0) ≡ []) × (answers (stopping 28 0) (feed 9 ∷ []) ≡ 3 ∷ 2 ∷ 28 ∷ 0 ∷ 0 ∷ [])
+    × (answers (stopping 24 0) (feed 9 ∷ []) ≡ 3 ∷ 2 ∷ 24 ∷ 0 ∷ 0 ∷ [])
+    × (loading (stopping 0 0) ≡ 9 ∷ 0 ∷ []) × (loading (stopping 25 0) ≡ 9 ∷ 0 ∷ []) × (loading (stopping 28 1) ≡ 9 ∷ 0 ∷ [])
+unfolding casesCompute joined stopping
+stops-by-a = (refl, refl, refl, refl, refl, refl)
 
 -- and inside a called procedure, with holds 3, 4 open in it and 1, 2 in the root: all are released, the procedure's last first, then the root's
 unfoldable failingInside : List ℕ

@@ -6,7 +6,7 @@ use lib.ListN.{replicate}
 use Rattle.language.specs.Program.{tableBytes}
 use Rattle.language.specs.Table.{Entry}
 use Rattle.language.specs.Judge.{judgeTable, compileOn}
-use Rattle.bytecode.specs.Runs.{refuses}
+use Rattle.bytecode.specs.Runs.{finishes, refuses}
 use Rattle.bytecode.specs.Lent.{startOn, runOn}
 use Rattle.bytecode.specs.Answers.{answerNumbers}
 use Rattle.examples.specs.Cases.{casesCompute}
@@ -108,6 +108,12 @@ ten : (refusalOf (startOn Listing.code (replicate 24575 0) .verdict) ≡ 10 ∷ 
     × (runOn Listing.code (replicate 24576 0) (replicate 64 0) 9 .answer ≡ refuses (record { number = 10; place = 0 }))
 unfolding casesCompute joined Listing.code
 ten = (refl, refl, refl)
+
+-- a state that ended by 28, of a macro without an op 20, is sound; one that ended by 29 is not
+carries-28 : (runOn Listing.code (2 ∷ 28 ∷ replicate 24574 0) (replicate 64 0) 9 .answer ≡ finishes 28 0)
+    × (runOn Listing.code (2 ∷ 29 ∷ replicate 24574 0) (replicate 64 0) 9 .answer ≡ refuses (record { number = 10; place = 0 }))
+unfolding casesCompute joined Listing.code
+carries-28 = (refl, refl)
 
 -- 11: 63 bytes, and then the same run with 64
 eleven : (runOn Listing.code (startOn Listing.code (replicate 24576 0) .bytes) (replicate 63 0) 9 .answer ≡ refuses (record { number = 11; place = 0 }))

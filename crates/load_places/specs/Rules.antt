@@ -175,8 +175,12 @@ opRelease a b h s = unused a (unused b (need (not (eqb h 0)) (goes (h - 1) s)))
 unfoldable pub opAssert : ℕ → ℕ → ℕ → List ℕ → Flow
 opAssert a b h s = unused a (unused b (pop 2 h s))
 
+-- "Op 20 stops by its a, 24 or 28." (paper 02, ticket 1)
+abbrev pub stopsBy : ℕ → Bool
+stopsBy a = eqb a 24 || eqb a 28
+
 unfoldable pub opStop : ℕ → ℕ → Flow
-opStop a b = unused a (unused b ends)
+opStop a b = need (stopsBy a) (unused b ends)
 
 unfoldable pub effect : List ℕ → ℕ → ℕ → ℕ → ℕ → ℕ → List ℕ → Flow
 effect l k o a b h s =

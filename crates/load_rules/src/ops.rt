@@ -25,7 +25,7 @@ ghost use Rattle.load_places.specs.Search.{tops};
 ghost use Rattle.load_places.specs.Records.{bodies as bodyCount};
 ghost use Rattle.load_places.specs.Rules.{need, push, unused, trade1, trade2, lands, opEnd, opLogical, opNull, ownerBody, twofold, operates};
 ghost use Rattle.load_places.specs.Rules.{opOperator, opGo, opUnless, opCall, justs, opReturn, opMake, opSet, opFader, opHold, opRelease};
-ghost use Rattle.load_places.specs.Rules.{opAssert, opStop, effect};
+ghost use Rattle.load_places.specs.Rules.{opAssert, stopsBy, opStop, effect};
 ghost use Rattle.load_places.specs.Index.{Well};
 ghost use Rattle.load_rules.specs.Paired.{hasOperands, opCell, opField};
 ghost use Rattle.load_rules.specs.Moves.{Moves, Stack, Bodied, Classed, Shaped, Able};
@@ -484,10 +484,27 @@ fn op_assert(a: usize, b: usize, stack: &[u8], holds: usize, depth: usize) -> Mo
     pop_type(stack, TYPE_LOGICAL, holds, depth)
 }
 
+const CASE_INDEX: usize = values::CASE_INDEX as usize;
+
+const STEP_ZERO: usize = values::STEP_ZERO as usize;
+
+fn stops_by(a: usize) -> bool
+    ensures { λ r. ⌜ r ≡ stopsBy a ⌝ }
+{
+    match a {
+        CASE_INDEX => true,
+        STEP_ZERO => true,
+        _ => false,
+    }
+}
+
 fn op_stop(a: usize, b: usize, stack: &[u8]) -> Moved
     ensures { λ r. ⌜ Moves (now (stack .entry)) r (opStop a b) ⌝ }
 {
-    if has_operands(a, b) {
+    if !stops_by(a) {
+        return Moved::Bad;
+    }
+    if b != 0 {
         return Moved::Bad;
     }
     Moved::Ends

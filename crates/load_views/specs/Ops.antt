@@ -13,11 +13,10 @@ use borrow.Author.Tests.{ne-eqb, lt-ltb, le-ltb, ltb-true}
 use Rattle.logic.specs.Options.{keep}
 use Rattle.words.specs.Numbers.{byteAt, integerOf}
 use Rattle.values.specs.Types.{Ty, integer, logical, bits, reference, tyByte, sames}
-use Rattle.values.specs.Ends.{caseIndex}
 use Rattle.values.specs.Values.{int, log, bit, ref}
 use Rattle.bytecode.specs.Macro.{shape}
 use Rattle.bytecode.specs.Instructions.{Owner, own, root, Instr, end, load, store, operate, go, goUnless, call, return, make, getField, putField, setLevel, readFader}
-use Rattle.bytecode.specs.Instructions.{takeHold, letHold, assert, stop, push as pushes, exactly, ownerOf, operatorOf, instruction, bodyAt, cellsOf, fieldTy, procedureAt}
+use Rattle.bytecode.specs.Instructions.{takeHold, letHold, assert, stop, push as pushes, exactly, stopsBy, ownerOf, operatorOf, instruction, bodyAt, cellsOf, fieldTy, procedureAt}
 use Rattle.bytecode.specs.Rules.{Effect, plain, leaves, endingIn, returning, calling, onStack, oneLess, giving, taking, effect as effectIn, strip, roomy, flow, flowOf}
 use Rattle.load_places.specs.Search.{tops}
 use Rattle.load_places.specs.Records.{classes, bodies, classPlace, bodyPlace}
@@ -268,9 +267,9 @@ module _ (l : List ℕ) (w : Well l) (k : ℕ) (within : k < bodies l) (h : ℕ)
   unfolding opAssert effectIn
   at-assert a b = exact2 does refl (eqb a 0) (eqb b 0) _ _ (pop-draws 2 h (bytes ts) ∙ gives-none (view l) k h ts room (logical ∷ []))
 
-  at-stop : (a b : ℕ) → opStop a b ≡ does (exactly (eqb a 0 && eqb b 0) (stop caseIndex))
+  at-stop : (a b : ℕ) → opStop a b ≡ does (exactly (stopsBy a && eqb b 0) (stop a))
   unfolding opStop effectIn flow
-  at-stop a b = exact2 does refl (eqb a 0) (eqb b 0) _ _ refl
+  at-stop a b = exact2 does refl (stopsBy a) (eqb b 0) _ _ refl
 
   -- ── every op ──
   pub op-same : (o a b : ℕ) → effect l k o a b h (bytes ts) ≡ does (instruction (record { op = o; a = a; b = b }))

@@ -1,12 +1,10 @@
-// Ops 0, 17, 18 and 20: end, hold, release, stop.
+// Ops 0, 17 and 18: end, hold, release.
 ghost use Prim.Native.Nat.{_+_, _≤_, _<_};
-ghost use Rattle.values.specs.Ends.{caseIndex};
 ghost use Rattle.words.specs.Numbers.{byteAt, halfAt};
-ghost use Rattle.bytecode.specs.Machine.{condition, doEnd, doTakeHold, letting};
+ghost use Rattle.bytecode.specs.Machine.{doEnd, doTakeHold, letting};
 ghost use Rattle.machine_ops.specs.Acts.{Room, Tells, Holding};
 use crate::Event;
 use crate::Out;
-use crate::operands::op_condition;
 use formats::state::*;
 
 pub fn op_hold(state: &mut [u8], frame: usize, depth: usize, address: u16, g: u8) -> Out
@@ -28,13 +26,6 @@ pub fn op_release(state: &mut [u8], frame: usize, depth: usize, address: u16) ->
     machine_frames::let_hold(state, frame);
     machine_frames::go_to(state, frame, address + 1);
     Out::Gives(Event::Release(g))
-}
-
-pub fn op_stop(state: &mut [u8], frame: usize, depth: usize, address: u16) -> Out
-    requires { ⌜ Room (now state) frame depth address ⌝ }
-    ensures { λ r. ⌜ Tells (λ m h. condition caseIndex h) (now (state .entry)) frame depth address (now (state .exit)) r ⌝ }
-{
-    op_condition(state, frame, depth, address, values::CASE_INDEX)
 }
 
 pub fn op_end(state: &mut [u8], frame: usize, depth: usize, address: u16) -> Out

@@ -18,7 +18,6 @@ pub use events::op_set;
 pub use holds::op_end;
 pub use holds::op_hold;
 pub use holds::op_release;
-pub use holds::op_stop;
 pub use jumps::op_go;
 pub use jumps::op_unless;
 pub use operands::op_condition;

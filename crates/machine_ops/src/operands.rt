@@ -11,7 +11,7 @@ use crate::Out;
 use crate::operators::Worked;
 use formats::state::*;
 
-// Every condition goes on by releasing.
+// Every condition goes on by releasing; so does op 20, by its a.
 pub fn op_condition(state: &mut [u8], frame: usize, depth: usize, address: u16, c: u8) -> Out
     requires { ⌜ Room (now state) frame depth address ⌝ }
     ensures { λ o. ⌜ Tells (λ m h. condition c h) (now (state .entry)) frame depth address (now (state .exit)) o ⌝ }

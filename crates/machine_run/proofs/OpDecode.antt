@@ -14,9 +14,8 @@ use Rattle.words.specs.Numbers.{integerOf}
 use Rattle.words.specs.Laws.{word-back}
 use Rattle.values.specs.Operators.{Operator}
 use Rattle.values.specs.Values.{int, log, bit, ref}
-use Rattle.values.specs.Ends.{caseIndex}
 use Rattle.bytecode.specs.Instructions.{Owner, Instr, end, push, load, store, operate, go, goUnless, call, return, make, getField, putField, setLevel, readFader}
-use Rattle.bytecode.specs.Instructions.{takeHold, letHold, assert, stop, exactly, ownerOf, operatorOf, instruction}
+use Rattle.bytecode.specs.Instructions.{takeHold, letHold, assert, stop, exactly, stopsBy, ownerOf, operatorOf, instruction}
 use Rattle.bytecode.specs.Machine.{noStep, condition, goesOn, doLoad, doStore, doOperate, doGoUnless, doCall, doReturn, doEnd, doMake, doGetField, doPutField, doSet}
 use Rattle.bytecode.specs.Machine.{doFader, doTakeHold, letting, doAssert, act}
 use Rattle.bytecode.specs.Runs.{bankOf}
@@ -119,11 +118,11 @@ pub data Other (op : ℕ) : Type 0 where
   other : (op ≡ 0 → ⊥) → (op ≡ 1 → ⊥) → (op ≡ 2 → ⊥) → (op ≡ 3 → ⊥) → (op ≡ 4 → ⊥) → (op ≡ 5 → ⊥) → (op ≡ 6 → ⊥) → (op ≡ 7 → ⊥) → (op ≡ 8 → ⊥) → (op ≡ 9 → ⊥) → (op ≡ 10 → ⊥)
       → (op ≡ 11 → ⊥) → (op ≡ 12 → ⊥) → (op ≡ 13 → ⊥) → (op ≡ 14 → ⊥) → (op ≡ 15 → ⊥) → (op ≡ 16 → ⊥) → (op ≡ 17 → ⊥) → (op ≡ 18 → ⊥) → (op ≡ 19 → ⊥) → Other op
 
-pub is-stop : (op a b : ℕ) (x : Instr) → instruction (record-of op a b) ≡ some x → Other op → x ≡ stop caseIndex
+pub is-stop : (op a b : ℕ) (x : Instr) → instruction (record-of op a b) ≡ some x → Other op → x ≡ stop a
 unfolding instruction
 is-stop op a b x d (other n0 n1 n2 n3 n4 n5 n6 n7 n8 n9 n10 n11 n12 n13 n14 n15 n16 n17 n18 n19) = go (eqb op 20) q
   where
-    q : (if eqb op 20 then exactly (eqb a 0 && eqb b 0) (stop caseIndex) else none) ≡ some x
+    q : (if eqb op 20 then exactly (stopsBy a && eqb b 0) (stop a) else none) ≡ some x
     q = rw (
       ne-eqb op 0 n0,
       ne-eqb op 1 n1,
@@ -147,8 +146,8 @@ is-stop op a b x d (other n0 n1 n2 n3 n4 n5 n6 n7 n8 n9 n10 n11 n12 n13 n14 n15 
       ne-eqb op 19 n19,
     ) at d
 
-    go : (z : Bool) → (if z then exactly (eqb a 0 && eqb b 0) (stop caseIndex) else none) ≡ some x → x ≡ stop caseIndex
-    go true e = exact (eqb a 0 && eqb b 0) (stop caseIndex) x e .1
+    go : (z : Bool) → (if z then exactly (stopsBy a && eqb b 0) (stop a) else none) ≡ some x → x ≡ stop a
+    go true e = exact (stopsBy a && eqb b 0) (stop a) x e .1
     go false e = let z : _≡_ {A = ℕ} 0 1 = cc in absurd (omega arith)
 
 -- ── what it does ──
@@ -243,6 +242,6 @@ module _ {code readings : List ℕ} {op a b : ℕ} {l : List ℕ} {f n i : ℕ} 
   unfolding act
   by-assert e T m r rs t fs N x d = rw (is-assert op a b x d e) (T m rs t fs N)
 
-  pub by-stop : Other op → Tells (λ m h. condition caseIndex h) l f n i k o → Acts code readings op a b l f n i k o
+  pub by-stop : Other op → Tells (λ m h. condition a h) l f n i k o → Acts code readings op a b l f n i k o
   unfolding act
   by-stop e T m r rs t fs N x d = rw (is-stop op a b x d e) (T m rs t fs N)

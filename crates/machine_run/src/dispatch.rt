@@ -86,6 +86,6 @@ pub fn dispatch(
         OP_HOLD => machine_ops::op_hold(state, frame, depth, address, b as u8),
         OP_RELEASE => machine_ops::op_release(state, frame, depth, address),
         OP_ASSERT => machine_ops::op_assert(state, frame, depth, address),
-        _ => machine_ops::op_stop(state, frame, depth, address),
+        _ => machine_ops::op_condition(state, frame, depth, address, a),
     }
 }

@@ -43,13 +43,14 @@ tooManyActivations = 26
 abbrev pub tooManyRecords : ℕ
 tooManyRecords = 27
 
+-- "(28: step zero, found after the limit.)" (paper 02, ticket 1)
 abbrev pub stepZero : ℕ
 stepZero = 28
 
--- "A condition (20 to 27) stops execution"
+-- "A condition (20 to 27) stops execution"; "A loaded macro may end by 28 besides 20 to 27" (paper 02, ticket 1)
 abbrev pub conditions : List ℕ
 conditions =
-    overflow ∷ zeroDivisor ∷ fieldOfNull ∷ assertFalse ∷ caseIndex ∷ outOfRange ∷ tooManyActivations ∷ tooManyRecords ∷ []
+    overflow ∷ zeroDivisor ∷ fieldOfNull ∷ assertFalse ∷ caseIndex ∷ outOfRange ∷ tooManyActivations ∷ tooManyRecords ∷ stepZero ∷ []
 
 abbrev pub isCondition : ℕ → Bool
 isCondition c = among c conditions

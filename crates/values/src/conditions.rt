@@ -18,6 +18,8 @@ pub const TOO_MANY_ACTIVATIONS: u8 = 26;
 
 pub const TOO_MANY_RECORDS: u8 = 27;
 
+pub const STEP_ZERO: u8 = 28;
+
 pub fn is_condition(c: u8) -> bool
     ensures { λ r. ⌜ r ≡ isCondition c ⌝ }
 {
@@ -30,6 +32,7 @@ pub fn is_condition(c: u8) -> bool
         OUT_OF_RANGE => true,
         TOO_MANY_ACTIVATIONS => true,
         TOO_MANY_RECORDS => true,
+        STEP_ZERO => true,
         _ => false,
     }
 }

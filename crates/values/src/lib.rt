@@ -14,6 +14,7 @@ pub use conditions::CASE_INDEX;
 pub use conditions::FIELD_OF_NULL;
 pub use conditions::OUT_OF_RANGE;
 pub use conditions::OVERFLOW;
+pub use conditions::STEP_ZERO;
 pub use conditions::TOO_MANY_ACTIVATIONS;
 pub use conditions::TOO_MANY_RECORDS;
 pub use conditions::ZERO_DIVISOR;

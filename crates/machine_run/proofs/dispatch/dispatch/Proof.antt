@@ -95,7 +95,7 @@ returns-21 c =
     let r5 = r10 .0 .0 .0 .0 .0 in
     by-stop (start-of (m .before) .pre .4) (other (r5 .0 .0 .0 .0 .1) (r5 .0 .0 .0 .1) (r5 .0 .0 .1) (r5 .0 .1) (r5 .1) (r10 .0 .0 .0 .0 .1)
     (r10 .0 .0 .0 .1) (r10 .0 .0 .1) (r10 .0 .1) (r10 .1) (r15 .0 .0 .0 .0 .1) (r15 .0 .0 .0 .1) (r15 .0 .0 .1) (r15 .0 .1) (r15 .1)
-    (r .0 .0 .0 .0 .1) (r .0 .0 .0 .1) (r .0 .0 .1) (r .0 .1) (r .1)) (c .before .before .op-stop .ensures)
+    (r .0 .0 .0 .0 .1) (r .0 .0 .0 .1) (r .0 .0 .1) (r .0 .1) (r .1)) (c .before .before .op-condition .ensures)
 
 pub dispatch-spec : {M : Type 1} → statement M
 dispatch-spec =

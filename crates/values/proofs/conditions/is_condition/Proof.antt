@@ -15,6 +15,7 @@ is-condition-spec = tie.close (tie.spec
     (λ c. rw (c .match .keys6))
     (λ c. rw (c .match .keys7))
     (λ c. rw (c .match .keys8))
+    (λ c. rw (c .match .keys9))
     (λ c. let r = c .match .rest in let s = r .0 .0 .0 .0 in
     simp (
       ne-eqb _ _ (r .1),
@@ -25,4 +26,5 @@ is-condition-spec = tie.close (tie.spec
       ne-eqb _ _ (s .0 .1),
       ne-eqb _ _ (s .0 .0 .1),
       ne-eqb _ _ (s .0 .0 .0 .1),
+      ne-eqb _ _ (s .0 .0 .0 .0 .1),
     )))
