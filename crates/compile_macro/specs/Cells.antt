@@ -12,21 +12,22 @@ use Rattle.logic.specs.Choice.{if_then_else_}
 use Rattle.values.specs.Types.{Ty, integer, logical, bits, reference}
 use Rattle.values.specs.Operators.{Binary}
 use Rattle.values.specs.Values.{initial}
-use Rattle.language.specs.Tree.{Decl, declare, holding, Stmt, block, assign, when, choose, while, goto, assert, call, setLevel, select, Items, noItem, label, item, Arms}
+use Rattle.language.specs.Tree.{Decl, declare, holding, Stmt, block, assign, when, choose, while, goto, assert, call, setLevel, select, for, Items, noItem, label, item, Arms}
 use Rattle.language.specs.Tree.{lastArm, arm, Target, toVariable, toField, Expr, number, truth, pattern, null, variable, invoke, field, make, operate1, operate2}
 use Rattle.language.specs.Tree.{conditional, fader, blockExpr, Exprs, noExpr, expr, Global}
-use Rattle.language.specs.Names.{blockOf, expressionOf}
+use Rattle.language.specs.Names.{blockOf, expressionOf, loopOf}
 use Rattle.language.specs.Measure.{measureS}
 use Rattle.language.specs.Faults.{typeE, isTy}
 use Rattle.language.specs.Limits.{headCells, cellsS, cellsItems, cellsArms, cellsTarget, cellsE, cellsEs}
-use Rattle.bytecode.specs.Macro.{Body, shape, Macro}
+use Rattle.bytecode.specs.Macro.{Body, Shape, shape, Macro}
 use Rattle.bytecode.specs.Instructions.{push, go, bodyAt, cellsOf}
 use Rattle.bytecode.specs.Rules.{plain, wrong, effect}
 use Rattle.logic.specs.Lists.{Each}
 use Rattle.bytecode_laws.specs.Terms.{Named}
-use Rattle.compile_code.specs.Code.{Code, nil, op, mark, cell, _▸_, At, at, skip, after, cellsIn}
+use Rattle.compile_code.specs.Code.{Code, nil, op, mark, cell, _▸_, At, at, ahead, skip, after, cellsIn}
 use Rattle.compile_code.specs.Compile.{Around, inside, outermost, bound, global, held, labels, scopesOf, passing, theLabels, hasLabel, labelAt, Way, plainly, marked}
 use Rattle.compile_code.specs.Compile.{ifTrue, ifFalse, wayOf, codeWay, codeGoto, codeHead, codeS, codeItems, codeArms, codeTarget, codeE, codeEs, opsArms, tyTarget, tyE}
+use Rattle.compile_code.specs.Compile.{found, codeStored, codeDownward, codeUpward, codeOnce, codeEntered, codeTurned}
 use Rattle.compile_code.specs.Compile.{tyIn}
 use Rattle.compile_rules.specs.Lines.{dropped}
 use Rattle.compile_rules.specs.Pass.{Celled, okHead, okS, okItems, okArms, okTarget, okE, okEs}
@@ -60,6 +61,10 @@ none-goto (labels is x ∷ Γ) a = pick (hasLabel a is) (none-goto Γ a)
     pick : (b : Bool) → newCells (codeGoto Γ a) ≡ 0 → newCells (if b then op (go (labelAt is (scopesOf Γ) (theLabels is ∷ passing Γ) x a)) else codeGoto Γ a) ≡ 0
     pick true h = refl
     pick false h = h
+
+none-loop : (c x z b : ℕ) (m : Shape) → (newCells (codeEntered c x z m) ≡ 0) × (newCells (codeTurned c b z m) ≡ 0)
+unfolding newCells codeStored codeDownward codeUpward codeOnce codeTurned
+none-loop c x z b m = (refl, refl)
 
 count-way : (w : Way) (o : Binary) (Γ : List Around) (ts : List Ty) (t : Ty) (x : Code) (p : At) (f : List Ty → At → Code) (n k : ℕ) → newCells x ≡ n
     → ((us : List Ty) (q : At) → newCells (f us q) ≡ k) → newCells (codeWay w o Γ ts t x p f) ≡ n + k
@@ -96,6 +101,12 @@ module _ (gs : List Global) where
     countS (select e r) Γ ts p =
         let m = at (p .address) (suc (p .cell)) in let q = countE e Γ ts m in let b = skip 1 (after (codeE gs e Γ ts m) m) in
         let u = countArms r (p .cell) 1 (b .address + opsArms r (scopesOf Γ) (passing Γ)) Γ ts b in omega arith
+    countS (for a e f g s) Γ ts p =
+        let m = at (p .address) (suc (suc (suc (p .cell)))) in let q = countE e Γ ts m in let m₁ = after (codeE gs e Γ ts m) m in
+        let us = tyE gs Γ e ∷ ts in let r = countE f Γ us m₁ in let m₂ = after (codeE gs f Γ us m₁) m₁ in
+        let vs = tyE gs Γ f ∷ us in let u = countE g Γ vs m₂ in let m₃ = after (codeE gs g Γ vs m₂) m₂ in let b = skip 48 m₃ in
+        let Δ = bound a (p .cell) ∷ inside (loopOf a) ∷ Γ in let v = countS s Δ ts b in
+        let w = none-loop (p .cell) (m₃ .address) (ahead 13 (after (codeS gs s Δ ts b) b .address)) (b .address) (found Γ ts) in omega (arith, q, r, u, v, w .0, w .1)
 
     pub countItems : (is : Items) (Γ : List Around) (ts : List Ty) (p : At) → newCells (codeItems gs is Γ ts p) ≡ cellsItems is
     countItems noItem Γ ts p = refl
@@ -159,19 +170,19 @@ each-cell P (mark s) ts h g = g
 each-cell P (cell t) ts h g = (h, g)
 each-cell P (x ▸ y) ts h g = each-cell P x (cellsIn y ts) (h .0) (each-cell P y ts (h .1) g)
 
-free-goto : (P : Ty → Type 0) (Γ : List Around) (a : ℕ) → Cells P (codeGoto Γ a)
-unfolding Cells codeGoto
-free-goto P [] a = tt
-free-goto P (inside s ∷ Γ) a = free-goto P Γ a
-free-goto P (outermost s ∷ Γ) a = free-goto P Γ a
-free-goto P (bound b c ∷ Γ) a = free-goto P Γ a
-free-goto P (global o b c ∷ Γ) a = free-goto P Γ a
-free-goto P (held g ∷ Γ) a = (tt, free-goto P Γ a)
-free-goto P (labels is x ∷ Γ) a = pick (hasLabel a is) (free-goto P Γ a)
-  where
-    pick : (b : Bool) → Cells P (codeGoto Γ a) → Cells P (if b then op (go (labelAt is (scopesOf Γ) (theLabels is ∷ passing Γ) x a)) else codeGoto Γ a)
-    pick true h = tt
-    pick false h = h
+no-cells : (P : Ty → Type 0) (x : Code) → newCells x ≡ 0 → Cells P x
+unfolding Cells newCells
+no-cells P nil h = tt
+no-cells P (op i) h = tt
+no-cells P (mark s) h = tt
+no-cells P (cell t) h = absurd (omega arith)
+no-cells P (x ▸ y) h = (no-cells P x (omega arith), no-cells P y (omega arith))
+
+-- the statement of a loop
+pub celled-turn : (m : Macro) (k : ℕ) (gs : List Global) (c x z b : ℕ) (s : Shape) (p : At) (y : Code) → Celled m k gs (codeEntered c x z s ▸ (y ▸ codeTurned c b z s)) p
+    → Celled m k gs y (skip 48 p)
+unfolding Celled after codeStored codeDownward codeUpward codeOnce
+celled-turn m k gs c x z b s p y h = h .1 .0
 
 module _ (m : Macro) (k : ℕ) (gs : List Global) where
   abbrev pub Known : Ty → Type 0
@@ -227,11 +238,19 @@ module _ (m : Macro) (k : ℕ) (gs : List Global) where
     cellsOkS (when e s) Γ ts p o c = (cellsOkE e Γ ts p (o .0) (c .0), (tt, (cellsOkS s Γ ts _ (o .2) (c .1 .1 .0), tt)))
     cellsOkS (choose e s t) Γ ts p o c = (cellsOkE e Γ ts p (o .0) (c .0), (tt, (cellsOkS s Γ ts _ (o .2) (c .1 .1 .0), (tt, (tt, (cellsOkS t Γ ts _ (o .3) (c .1 .1 .1 .1 .1 .0), tt))))))
     cellsOkS (while e s) Γ ts p o c = (tt, (cellsOkE e Γ ts p (o .0) (c .1 .0), (tt, (cellsOkS s Γ ts _ (o .2) (c .1 .1 .1 .0), (tt, tt)))))
-    cellsOkS (goto a) Γ ts p o c = (free-goto Known Γ a, tt)
+    cellsOkS (goto a) Γ ts p o c = (no-cells Known (codeGoto Γ a) (none-goto Γ a), tt)
     cellsOkS (assert e) Γ ts p o c = (cellsOkE e Γ ts p (o .0) (c .0), tt)
     cellsOkS (call a es) Γ ts p o c = (cellsOkEs es Γ ts p (o .0) (c .0), tt)
     cellsOkS (setLevel e f) Γ ts p o c = (cellsOkE e Γ ts p (o .0) (c .0), (cellsOkE f Γ _ _ (o .2) (c .1 .0), tt))
     cellsOkS (select e r) Γ ts p o c = (tt, (cellsOkE e Γ ts _ (o .0) (c .1 .0), (tt, (cellsOkArms r (p .cell) 1 _ Γ ts _ (o .2) (c .1 .1 .1 .0), tt))))
+    cellsOkS (for a e f g s) Γ ts p o c =
+        let q = at (p .address) (suc (suc (suc (p .cell)))) in let q₁ = after (codeE gs e Γ ts q) q in let us = tyE gs Γ e ∷ ts in
+        let q₂ = after (codeE gs f Γ us q₁) q₁ in let vs = tyE gs Γ f ∷ us in let q₃ = after (codeE gs g Γ vs q₂) q₂ in let b = skip 48 q₃ in
+        let Δ = bound a (p .cell) ∷ inside (loopOf a) ∷ Γ in let y = codeS gs s Δ ts b in let z = ahead 13 (after y b .address) in let c₃ = c .1 .1 .1 in
+        let none = none-loop (p .cell) (q₃ .address) z (b .address) (found Γ ts) in
+        (tt, (tt, (tt, (cellsOkE e Γ ts q (o .0) (c₃ .0), (cellsOkE f Γ us q₁ (o .2) (c₃ .1 .0), (cellsOkE g Γ vs q₂ (o .4) (c₃ .1 .1 .0), (tt,
+        (no-cells Known _ (none .0), (cellsOkS s Δ ts b (o .6 (p .cell) (c .0)) (celled-turn m k gs (p .cell) (q₃ .address) z (b .address) (found Γ ts) q₃ y (c₃ .1 .1 .1 .1)),
+        no-cells Known _ (none .1))))))))))
 
     pub cellsOkItems : (is : Items) (Γ : List Around) (ts : List Ty) (p : At) → okItems m k gs is Γ → Celled m k gs (codeItems gs is Γ ts p) p → Cells Known (codeItems gs is Γ ts p)
     cellsOkItems noItem Γ ts p o c = tt

@@ -18,19 +18,21 @@ use Rattle.words.specs.Laws.{integer-back, word-below}
 use Rattle.values.specs.Types.{Ty, integer, logical, bits, reference}
 use Rattle.values.specs.Operators.{Binary}
 use Rattle.values.specs.Values.{int, log, bit, ref, initial}
-use Rattle.language.specs.Tree.{Decl, declare, holding, Stmt, block, assign, when, choose, while, goto, assert, call, setLevel, select, Items, noItem, label, item, Arms}
+use Rattle.language.specs.Tree.{Decl, declare, holding, Stmt, block, assign, when, choose, while, goto, assert, call, setLevel, select, for, Items, noItem, label, item, Arms}
 use Rattle.language.specs.Tree.{lastArm, arm, Target, toVariable, toField, Expr, number, truth, pattern, null, variable, invoke, field, make, operate1, operate2}
 use Rattle.language.specs.Tree.{conditional, fader, blockExpr, Exprs, noExpr, expr, Global, countArms}
-use Rattle.language.specs.Names.{blockOf, expressionOf}
+use Rattle.language.specs.Names.{blockOf, expressionOf, loopOf}
 use Rattle.language.specs.Faults.{typeE, isTy}
 use Rattle.language.specs.Table.{Entry, entry, inLayout}
 use Rattle.bytecode.specs.Instructions.{Instr, end, push, load, store, operate, go, goUnless, return, getField, putField, readFader, takeHold, letHold, stop, stopsBy}
 use Rattle.bytecode.specs.Instructions.{call as callOp, make as makeOp, setLevel as setOp, assert as assertOp}
 use Rattle.logic.specs.Lists.{Each}
 use Rattle.logic.specs.Tests.{halves}
-use Rattle.compile_code.specs.Code.{Code, nil, op, mark, cell, _▸_, At, skip, after}
+use Rattle.bytecode.specs.Macro.{Shape}
+use Rattle.compile_code.specs.Code.{Code, nil, op, mark, cell, _▸_, At, ahead, skip, after}
 use Rattle.compile_code.specs.Compile.{Around, inside, outermost, bound, global, held, labels, scopesOf, passing, theLabels, hasLabel, labelAt, kept, loading, storing}
 use Rattle.compile_code.specs.Compile.{Way, plainly, marked, ifTrue, ifFalse, wayOf, codeWay, codeGoto, codeHead, codeS, codeItems, codeArms, codeTarget, codeE, codeEs}
+use Rattle.compile_code.specs.Compile.{found, codeStored, codeDownward, codeUpward, codeOnce, codeEntered, codeTurned}
 use Rattle.compile_code.specs.Compile.{opTarget, tyE, tyIn}
 use Rattle.compile_code.specs.Compile.{Cell as Kept, cellOf as keptOf}
 use Rattle.compile_rules.specs.Records.{Writable}
@@ -150,6 +152,23 @@ of-way marked o Γ ts t x p f h g = (h, (tt, (g (t ∷ ts) (after x p), tt)))
 of-way ifTrue o Γ ts t x p f h g = (h, (tt, (g ts (skip 1 (after x p)), (tt, (tt, (tt, tt))))))
 of-way ifFalse o Γ ts t x p f h g = (h, (tt, (tt, (tt, (tt, (g ts (skip 3 (after x p)), tt))))))
 
+of-entered : (c x z : ℕ) (m : Shape) → Ops Holdable (codeEntered c x z m)
+unfolding Ops codeStored codeDownward codeUpward codeOnce
+of-entered c x z m = (
+  (tt, (tt, (tt, (tt, (small 0 (omega arith), (tt, (tt, (refl, tt)))))))),
+  (
+    (tt, (small 0 (omega arith), (tt, (tt, (tt, (tt, (tt, (tt, (tt, (record { sfits = omega arith }, (tt, (tt, (tt, (tt, (tt, (tt, (tt, (small 1 (omega arith), (tt, (tt, (tt, tt))))))))))))))))))))),
+    (
+      (tt, (tt, (tt, (tt, (tt, (record { sfits = omega arith }, (tt, (tt, (tt, (tt, (tt, (tt, (tt, (tt, (tt, tt))))))))))))))),
+      (record { sfits = omega arith }, (tt, (record { sfits = omega arith }, (tt, tt)))),
+    ),
+  ),
+)
+
+of-turned : (c b z : ℕ) (m : Shape) → Ops Holdable (codeTurned c b z m)
+unfolding Ops codeTurned
+of-turned c b z m = (tt, (small 0 (omega arith), (tt, (tt, (tt, (tt, (tt, (tt, (tt, (tt, (tt, (tt, (tt, tt)))))))))))))
+
 module _ (gs : List Global) where
   pub of-head : (name : ℕ → ℕ → Around) (ds : List Decl) (Γ : List Around) (p : At) (f : List Around → At → Code) → Each Entered (map flatDecl ds)
       → ((Δ : List Around) (q : At) → Ops Holdable (f Δ q)) → Ops Holdable (codeHead gs name ds Γ p f)
@@ -179,6 +198,11 @@ module _ (gs : List Global) where
     fieldsS (setLevel e f) Γ ts p h = let q = parted Entered (flatE e) (flatE f) (h .1) in (fieldsE e Γ ts p (q .0), (fieldsE f Γ _ _ (q .1), tt))
     fieldsS (select e r) Γ ts p h = let q = parted Entered (flatE e) (flatArms r) (h .1) in let n = its-a (entry 30 (countArms r) (pos 0)) (h .0 .0) in
         (tt, (fieldsE e Γ ts _ (q .0), (tt, (fieldsArms r (p .cell) 1 _ Γ ts _ (omega arith) (q .1), tt))))
+    fieldsS (for a e f g s) Γ ts p h =
+        let q = parted Entered (flatE e) (flatE f ++ (flatE g ++ flatS s)) (h .1) in let r = parted Entered (flatE f) (flatE g ++ flatS s) (q .1) in
+        let u = parted Entered (flatE g) (flatS s) (r .1) in
+        (tt, (tt, (tt, (fieldsE e Γ ts _ (q .0), (fieldsE f Γ _ _ (r .0), (fieldsE g Γ _ _ (u .0), (tt, (of-entered (p .cell) _ _ (found Γ ts), (fieldsS s _ ts _ (u .1),
+        of-turned (p .cell) _ _ (found Γ ts))))))))))
 
     pub fieldsItems : (is : Items) (Γ : List Around) (ts : List Ty) (p : At) → Each Entered (flatItems is) → Ops Holdable (codeItems gs is Γ ts p)
     fieldsItems noItem Γ ts p h = tt

@@ -10,10 +10,10 @@ use Rattle.logic.specs.Choice.{if_then_else_}
 use Rattle.values.specs.Types.{Ty, integer, logical, bits, reference, sames}
 use Rattle.values.specs.Operators.{Operator, unary, binary, negate, absolute, complement, plus, minus, times, divide, remainder, less, atMost, greater, atLeast, equal}
 use Rattle.values.specs.Operators.{unequal, both, either, shiftLeft, shiftRight, Binary, takes, logicalOrBits, anyOne, opType}
-use Rattle.language.specs.Tree.{Decl, declare, holding, Stmt, block, assign, when, choose, while, goto, assert, call, setLevel, select, Items, noItem, label, item, Arms}
+use Rattle.language.specs.Tree.{Decl, declare, holding, Stmt, block, assign, when, choose, while, goto, assert, call, setLevel, select, for, Items, noItem, label, item, Arms}
 use Rattle.language.specs.Tree.{lastArm, arm, Target, toVariable, toField, Expr, number, truth, pattern, null, variable, invoke, field, make, operate1, operate2}
 use Rattle.language.specs.Tree.{conditional, fader, blockExpr, Exprs, noExpr, expr, Global}
-use Rattle.language.specs.Names.{blockOf, expressionOf}
+use Rattle.language.specs.Names.{blockOf, expressionOf, loopOf}
 use Rattle.language.specs.Faults.{typeE, isTy}
 use Rattle.bytecode.specs.Macro.{Body, Shape, shape, Macro}
 use Rattle.bytecode.specs.Instructions.{Owner, go, cellTy, fieldTy, procedureAt}
@@ -21,13 +21,14 @@ use Rattle.logic.specs.Lists.{Each}
 use Rattle.logic.specs.OptionLaws.{never-some, same-some}
 use Rattle.logic.specs.ListLaws.{index-below}
 use Rattle.bytecode_laws.specs.Terms.{Named}
-use Rattle.compile_code.specs.Code.{Code, op, cell, _▸_, At, at, skip, after}
+use Rattle.compile_code.specs.Code.{Code, op, cell, _▸_, At, at, ahead, skip, after}
 use Rattle.compile_code.specs.Compile.{Around, inside, outermost, bound, global, held, labels, scopesOf, passing, theLabels, hasLabel, labelAt, Way, plainly, marked}
 use Rattle.compile_code.specs.Compile.{ifTrue, ifFalse, wayOf, codeWay, codeGoto, codeHead, codeS, codeItems, codeArms, codeTarget, codeE, codeEs, tyTarget, tyE}
+use Rattle.compile_code.specs.Compile.{found, codeStored, codeDownward, codeUpward, codeOnce, codeEntered, codeTurned}
 use Rattle.compile_code.specs.Compile.{classNumber, fieldNumber, bodyNumber}
 use Rattle.compile_rules.specs.Flows.{Marks}
 use Rattle.compile_rules.specs.Pass.{Celled, okHead, okS, okItems, okArms, okTarget, okE, okEs, WayOk, tysE}
-use Rattle.compile_macro.specs.Cells.{Known, of-initial}
+use Rattle.compile_macro.specs.Cells.{Known, of-initial, celled-turn}
 
 -- ── the types that operators give ──
 of-takes : (n : ℕ) (asked : List Ty) (g : Ty) (ts : List Ty) (r : Ty) → Named n g → takes asked g ts ≡ some r → Named n r
@@ -103,6 +104,24 @@ module _ (m : Macro) (k : ℕ) (gs : List Global) (H : Heads m) where
   way-type ifTrue o t u r h = subst (Known m k gs) (sym (h .2)) tt
   way-type ifFalse o t u r h = subst (Known m k gs) (sym (h .2)) tt
 
+  -- a loop, over the marks of its statement
+  mark-loop : (Γ : List Around) (ts : List Ty) (c x z b : ℕ) (p : At) (y : Code) → KnownAll ts → Marks m k Typed! y (skip 48 p)
+      → Marks m k Typed! (codeEntered c x z (found Γ ts) ▸ (y ▸ codeTurned c b z (found Γ ts))) p
+  unfolding Marks after codeStored codeDownward codeUpward codeOnce codeTurned
+  mark-loop Γ ts c x z b p y n h = (
+    (
+      (tt, (tt, (tt, (tt, (tt, (tt, (tt, (tt, n)))))))),
+      (
+        (tt, (tt, (tt, (tt, (tt, (tt, (tt, (tt, (tt, (tt, (tt, (tt, (tt, (tt, (tt, (tt, (tt, (tt, (tt, (tt, (tt, n))))))))))))))))))))),
+        (
+          (tt, (tt, (tt, (tt, (tt, (tt, (tt, (tt, (tt, (tt, (tt, (tt, (tt, (tt, (tt, n))))))))))))))),
+          (tt, (tt, (tt, (tt, n)))),
+        ),
+      ),
+    ),
+    (h, (tt, (tt, (tt, (tt, (tt, (tt, (tt, (tt, (tt, (tt, (tt, (tt, (tt, n)))))))))))))),
+  )
+
   mark-way : (w : Way) (o : Binary) (Γ : List Around) (ts : List Ty) (t : Ty) (x : Code) (p : At) (f : List Ty → At → Code) → Celled m k gs (codeWay w o Γ ts t x p f) p → KnownAll ts
       → (Celled m k gs x p → Marks m k Typed! x p × Known m k gs t) → ((us : List Ty) (q : At) → KnownAll us → Celled m k gs (f us q) q
       → Marks m k Typed! (f us q) q) → Marks m k Typed! (codeWay w o Γ ts t x p f) p
@@ -138,6 +157,13 @@ module _ (m : Macro) (k : ℕ) (gs : List Global) (H : Heads m) where
     markS (call a es) Γ ts p o c n = (markEs es Γ ts p (o .0) (c .0) n, tt)
     markS (setLevel e f) Γ ts p o c n = let u = markE e Γ ts p (o .0) (c .0) n in (u .0, (markE f Γ _ _ (o .2) (c .1 .0) (u .1, n) .0, tt))
     markS (select e r) Γ ts p o c n = (tt, (markE e Γ ts _ (o .0) (c .1 .0) n .0, (tt, (markArms r (p .cell) 1 _ Γ ts _ (o .2) (c .1 .1 .1 .0) n, n))))
+    markS (for a e f g s) Γ ts p o c n =
+        let q = at (p .address) (suc (suc (suc (p .cell)))) in let q₁ = after (codeE gs e Γ ts q) q in let us = tyE gs Γ e ∷ ts in
+        let q₂ = after (codeE gs f Γ us q₁) q₁ in let vs = tyE gs Γ f ∷ us in let q₃ = after (codeE gs g Γ vs q₂) q₂ in let b = skip 48 q₃ in
+        let Δ = bound a (p .cell) ∷ inside (loopOf a) ∷ Γ in let y = codeS gs s Δ ts b in let z = ahead 13 (after y b .address) in let c₃ = c .1 .1 .1 in
+        let u = markE e Γ ts q (o .0) (c₃ .0) n in let v = markE f Γ us q₁ (o .2) (c₃ .1 .0) (u .1, n) in let w = markE g Γ vs q₂ (o .4) (c₃ .1 .1 .0) (v .1, (u .1, n)) in
+        (tt, (tt, (tt, (u .0, (v .0, (w .0, ((w .1, (v .1, (u .1, n))), mark-loop Γ ts (p .cell) (q₃ .address) z (b .address) q₃ y n
+        (markS s Δ ts b (o .6 (p .cell) (c .0)) (celled-turn m k gs (p .cell) (q₃ .address) z (b .address) (found Γ ts) q₃ y (c₃ .1 .1 .1 .1)) n))))))))
 
     pub markItems : (is : Items) (Γ : List Around) (ts : List Ty) (p : At) → okItems m k gs is Γ → Celled m k gs (codeItems gs is Γ ts p) p → KnownAll ts → Marks m k Typed! (codeItems gs is Γ ts p) p
     markItems noItem Γ ts p o c n = tt
