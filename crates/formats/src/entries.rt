@@ -32,6 +32,8 @@ pub const KIND_SET: u16 = 28;
 
 pub const KIND_CASE: u16 = 30;
 
+pub const KIND_FOR: u16 = 31;
+
 // ── declarations ──
 pub const KIND_DECLARE: u16 = 10;
 

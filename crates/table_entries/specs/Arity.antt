@@ -17,6 +17,7 @@ parts k a b =
     if eqb k 27 then b else
     if eqb k 28 then 2 else
     if eqb k 30 then a + 1 else
+    if eqb k 31 then 4 else
     if eqb k 45 then b else
     if eqb k 46 then 1 else
     if eqb k 47 then b else

@@ -24,7 +24,7 @@ use Rattle.table_scopes.specs.Items.{blockItems, Reach}
 use Rattle.table_scopes.specs.Flaws.{Says, says-first, says-then, headFlaws}
 use Rattle.table_scopes.specs.Trees.{length-map, length-Items}
 use Rattle.table_scopes.specs.Defines.{labels, labels-bulk, Enters, enters, Entered, entered-block, heads-stand, items-stand, head-faults}
-use Rattle.table_forms.specs.Forms.{Form, simple, guard, blocked, bodied, labelled, faultsF, BlockForm}
+use Rattle.table_forms.specs.Forms.{Form, simple, guard, counted, blocked, bodied, labelled, faultsF, BlockForm}
 use Rattle.table_forms.specs.Walk.{Table, Ready, Asks, Answers, ReadyItems, AsksItems, AnswersItems}
 use Rattle.table_forms.specs.Part.{head-of, table-next, below}
 
@@ -139,6 +139,7 @@ pub blocked-of : (f : Form) → BlockForm f → {ss : List Scope} {seen l part :
     → Ready f ss seen l part nesting at sizes env top → Blocked f ss seen l part heads count nesting at sizes env top
 blocked-of (simple o es) h heads count c q = absurd h
 blocked-of (guard g e is) h heads count c q = absurd h
+blocked-of (counted a e f g s) h heads count c q = absurd h
 blocked-of (bodied ds is e) h heads count c q = absurd h
 blocked-of (labelled a) h heads count c q = absurd h
 blocked-of (blocked ds is) h {l = l} {at = at} heads count c q =

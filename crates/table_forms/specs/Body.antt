@@ -23,7 +23,7 @@ use Rattle.table_scopes.specs.Items.{blockItems}
 use Rattle.table_scopes.specs.Flaws.{Says, says-first, says-then}
 use Rattle.table_scopes.specs.Trees.{length-map, length-Items, spans-Items}
 use Rattle.table_scopes.specs.Defines.{labels-bulk, Entered, entered-expression}
-use Rattle.table_forms.specs.Forms.{Form, simple, guard, blocked, bodied, labelled, flatF, typeF, faultsF, formE, ExprForm, BodyForm, flat-E, deep-E, valid-E}
+use Rattle.table_forms.specs.Forms.{Form, simple, guard, counted, blocked, bodied, labelled, flatF, typeF, faultsF, formE, ExprForm, BodyForm, flat-E, deep-E, valid-E}
 use Rattle.table_forms.specs.Forms.{type-E, faults-E, form-expr, once-E}
 use Rattle.table_forms.specs.Walk.{roomF, Ready, Asks, Typed, ReadyItems}
 use Rattle.table_forms.specs.Part.{head-of, table-next, room-le, below}
@@ -47,6 +47,7 @@ pub bodied-of : (f : Form) → BodyForm f → {ss : List Scope} {seen l part : L
     → Ready f ss seen l part nesting at sizes env top → Bodied f ss seen l part heads count nesting at sizes env top
 bodied-of (simple o es) h heads count c q = absurd h
 bodied-of (guard g e is) h heads count c q = absurd h
+bodied-of (counted a e f g s) h heads count c q = absurd h
 bodied-of (blocked ds is) h heads count c q = absurd h
 bodied-of (labelled a) h heads count c q = absurd h
 bodied-of (bodied ds is e) h {l = l} {at = at} heads count c q =

@@ -9,7 +9,7 @@ use Rattle.logic.specs.Tests.{clash}
 use Rattle.table_scopes.specs.Environment.{envOf}
 use Rattle.table_scopes.specs.declared.heads.Verdict.{Verdict}
 use Rattle.table_scopes.specs.Flaws.{Says, onceFlaw}
-use Rattle.table_forms.specs.Forms.{Form, simple, guard, blocked, bodied, labelled, headF, faultsF, StmtForm, SimpleForm, LabelForm, is-label, is-other}
+use Rattle.table_forms.specs.Forms.{Form, simple, guard, counted, blocked, bodied, labelled, headF, faultsF, StmtForm, SimpleForm, LabelForm, is-label, is-other}
 use Rattle.table_forms.specs.Walk.{Ready, Asks, Answers, Typed, isPlain}
 use Rattle.table_forms.specs.Part.{head-of}
 
@@ -33,13 +33,14 @@ pub plain-form : (f : Form) → StmtForm f → (k : ℕ) → isPlain k ≡ true 
 unfolding isPlain
 plain-form f h k e z =
     let differs : (m : ℕ) → isPlain m ≡ false → ¬ (headF f .kind ≡ m) = λ m d y. clash (let w : isPlain m ≡ true = rw (z ∙ y) at e in let x : true ≡ false = sym w ∙ d in cc) in
-    is-other f h (differs 1 refl) (differs 20 refl) (differs 22 refl) (differs 23 refl) (differs 24 refl) (differs 30 refl)
+    is-other f h (differs 1 refl) (differs 20 refl) (differs 22 refl) (differs 23 refl) (differs 24 refl) (differs 30 refl) (differs 31 refl)
 
 -- a label
 label-says : (f : Form) → LabelForm f → {ss : List Scope} {seen l part : List ℕ} {nesting at : ℕ} {sizes env : List ℕ} {top : ℕ} (r : Verdict) → Ready f ss seen l part nesting at sizes env top
     → Says r (onceFlaw (envOf env top) (halfAt part 2) at) → Says r (faultsF ss seen at f)
 label-says (simple o es) h r q k = absurd h
 label-says (guard g e is) h r q k = absurd h
+label-says (counted a e f g s) h r q k = absurd h
 label-says (blocked ds is) h r q k = absurd h
 label-says (bodied ds is e) h r q k = absurd h
 label-says (labelled a) h r q k = rw (head-of _ _ (q .table) (q .stands) .a, q .once) at k

@@ -24,7 +24,7 @@ use Rattle.table_scopes.specs.Flaws.{Says, says-first, says-then}
 use Rattle.table_scopes.specs.Trees.{length-E, length-Items}
 use Rattle.table_scopes.specs.Defines.{labels-bulk}
 use Rattle.table_types.specs.Types.{tyNum, is-number}
-use Rattle.table_forms.specs.Forms.{Guard, ifOnly, ifElse, loops, cases, kindG, countG, TakesG, askG, Form, simple, guard, blocked, bodied, labelled, typeF}
+use Rattle.table_forms.specs.Forms.{Guard, ifOnly, ifElse, loops, cases, kindG, countG, TakesG, askG, Form, simple, guard, counted, blocked, bodied, labelled, typeF}
 use Rattle.table_forms.specs.Forms.{faultsF, formE, ExprForm, GuardForm, flat-E, deep-E, valid-E, type-E, faults-E, form-expr, once-E, unlabelled-once}
 use Rattle.table_forms.specs.Walk.{Ready, Asks, Answers, Typed, ReadyItems, AsksItems, AnswersItems, guardedBy, testedBy}
 use Rattle.table_forms.specs.Part.{head-of, table-next, size-here, room-le, passes, spans-form, fine-type, below}
@@ -62,6 +62,7 @@ pub record Guarded (f : Form) (ss : List Scope) (seen l part : List ℕ) (count 
 pub guarded : (f : Form) → GuardForm f → {ss : List Scope} {seen l part : List ℕ} {nesting at : ℕ} {sizes env : List ℕ} {top : ℕ} (count : ℕ) → count ≡ guardedBy (halfAt part 0) (halfAt part 2)
     → Ready f ss seen l part nesting at sizes env top → Guarded f ss seen l part count nesting at sizes env top
 guarded (simple o es) h count c q = absurd h
+guarded (counted a e f g s) h count c q = absurd h
 guarded (blocked ds is) h count c q = absurd h
 guarded (bodied ds is e) h count c q = absurd h
 guarded (labelled a) h count c q = absurd h

@@ -7,11 +7,12 @@ use native.Mathlib.Omega.{arith}
 use lib.Dec.{eqb}
 use borrow.Author.Tests.{ne-eqb}
 use Rattle.words.specs.Numbers.{halfAt, wordAt}
+use Rattle.table_scopes.specs.declared.environment.Found.{Found}
 use Rattle.table_scopes.specs.Environment.{envOf, find}
 use Rattle.table_scopes.specs.declared.heads.Verdict.{Verdict}
 use Rattle.table_types.specs.Settle.{values, isLeaf, leafBy, leaf-kind, leaf-settled}
 use Rattle.table_forms.specs.Forms.{Form, ExprForm, is-simple}
-use Rattle.table_forms.specs.Walk.{Asks, Typed, Alike, operandsBy}
+use Rattle.table_forms.specs.Walk.{Asks, Typed, Alike, fixedBy, operandsBy}
 use Rattle.table_forms.specs.Part.{below}
 use Rattle.table_forms.specs.OperandList.{es-start, es-end}
 use Rattle.table_forms.specs.ByKind.{typed-as}
@@ -37,6 +38,11 @@ leaf-count k b e =
       o 51 (omega arith),
     )
 
+-- it is no assignment
+leaf-free : (part : List ℕ) (f : Found) → isLeaf (halfAt part 0) ≡ true → fixedBy part f ≡ false
+unfolding fixedBy
+leaf-free part f e = rw (ne-eqb (halfAt part 0) 21 (λ y. omega (arith, leaf-kind (halfAt part 0) e .0)))
+
 pub leaf-judged : {l part : List ℕ} {nesting at : ℕ} {sizes env : List ℕ} {top i : ℕ} {r : Verdict} → isLeaf (halfAt part 0) ≡ true → Alike env top i
     → r ≡ leafBy (halfAt part 0) (halfAt part 2) at (find (halfAt part 2) (envOf env top))
     → halfAt part 2 < 65536 → Typed ExprForm l part nesting at sizes env env (top + i) r
@@ -45,7 +51,7 @@ leaf-judged {l} {part} {nesting} {at} {sizes} {env} {top} {i} {r} e h z small =
     let k = leaf-kind (halfAt part 0) e in
     let n = es-end (es-start l (below part 8) 0 (nesting - 1) (at + 1) sizes env (top + i)) (omega arith) in
     typed-as (λ f x y. is-simple f x (λ w. omega (arith, k .0, k .1)))
-    (simple-judged 0 (leaf-count (halfAt part 0) (wordAt part 4) e) n 0 refl
+    (simple-judged 0 (leaf-count (halfAt part 0) (wordAt part 4) e) n (leaf-free part (find (halfAt part 10) (envOf env (top + i))) e) 0 refl
     (z ∙ rw (h .finds (halfAt part 2) small) (sym (leaf-settled l (halfAt part 0) (halfAt part 2) at (find (halfAt part 2) (envOf env top)) e))))
 
 pub leaf-small : {P : Form → Type 0} {l part : List ℕ} {nesting at : ℕ} {sizes env : List ℕ} {top : ℕ} → Asks P l part nesting at sizes env top → halfAt part 2 < 65536

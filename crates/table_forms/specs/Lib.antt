@@ -7,6 +7,7 @@ pub mod ByKind
 pub mod Simple
 pub mod Leaf
 pub mod Guard
+pub mod Count
 pub mod Block
 pub mod Body
 pub mod Globals

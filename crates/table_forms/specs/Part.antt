@@ -25,7 +25,7 @@ use Rattle.table_scopes.specs.Trees.{length-E, spans-S, spans-E}
 use Rattle.table_scopes.specs.Defines.{number-here, span-here}
 use Rattle.table_types.specs.Types.{tyNum}
 use Rattle.table_types.specs.Settles.{Types}
-use Rattle.table_forms.specs.Forms.{Form, simple, guard, blocked, bodied, labelled, flatF, formS, formE, ExprForm, flat-S, flat-E, deepF}
+use Rattle.table_forms.specs.Forms.{Form, simple, guard, counted, blocked, bodied, labelled, flatF, formS, formE, ExprForm, flat-S, flat-E, deepF}
 use Rattle.table_forms.specs.Walk.{Table, roomF, Asks, Holds}
 
 pub record Head (l part : List ℕ) (at : ℕ) (e : Entry) : Type 0 where
@@ -61,6 +61,7 @@ size-here {l} {at = at} e us t s h =
 pub room-le : (f : Form) → roomF f ≤ length (flatF f)
 room-le (simple o es) = omega arith
 room-le (guard g e is) = omega arith
+room-le (counted a e f g s) = omega arith
 room-le (blocked ds is) = omega arith
 room-le (bodied ds is e) = omega arith
 room-le (labelled a) = omega arith
@@ -88,6 +89,7 @@ size-one e = omega (arith, length-E e, ap length (flat-E e))
 pub expr-room : (f : Form) → ExprForm f → (top n : ℕ) → 4 * (top + roomF f) ≤ n → 4 * (top + 1) ≤ n
 expr-room (simple o es) h top n r = omega arith
 expr-room (guard g e is) h top n r = absurd h
+expr-room (counted a e f g s) h top n r = absurd h
 expr-room (blocked ds is) h top n r = absurd h
 expr-room (bodied ds is e) h top n r = omega arith
 expr-room (labelled a) h top n r = absurd h
@@ -116,6 +118,7 @@ below part k = take (length part - k) (drop k part)
 deep-one : (f : Form) → 1 ≤ deepF f
 deep-one (simple o es) = omega arith
 deep-one (guard g e is) = omega arith
+deep-one (counted a e f g s) = omega arith
 deep-one (blocked ds is) = omega arith
 deep-one (bodied ds is e) = omega arith
 deep-one (labelled a) = omega arith

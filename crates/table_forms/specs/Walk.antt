@@ -12,6 +12,8 @@ use Rattle.language.specs.Tree.{Items, Exprs, countItems, countExprs}
 use Rattle.language.specs.Names.{Scope}
 use Rattle.language.specs.Faults.{faultsItems, faultsEs}
 use Rattle.language_laws.specs.Claims.{entriesOf}
+use Rattle.words.specs.Numbers.{halfAt}
+use Rattle.table_scopes.specs.declared.environment.Found.{Found}
 use Rattle.table_scopes.specs.Environment.{envOf, find}
 use Rattle.table_entries.specs.Stands.{Stands}
 use Rattle.table_entries.specs.Sizes.{Known}
@@ -20,10 +22,10 @@ use Rattle.table_scopes.specs.declared.heads.Verdict.the-variants.{Fine, Refuse
 use Rattle.table_scopes.specs.Flaws.{Says}
 use Rattle.table_scopes.specs.Sees.{Legible, Sees}
 use Rattle.table_scopes.specs.Defines.{OnceItems, bulk}
-use Rattle.table_types.specs.Settle.{values}
+use Rattle.table_types.specs.Settle.{values, controls}
 use Rattle.table_types.specs.Types.{tyNum}
 use Rattle.table_types.specs.Settles.{Settled}
-use Rattle.table_forms.specs.Forms.{Form, simple, guard, blocked, bodied, labelled, flatF, deepF, Valid, OnceF, faultsF, typeF, typesOf}
+use Rattle.table_forms.specs.Forms.{Form, simple, guard, counted, blocked, bodied, labelled, flatF, deepF, Valid, OnceF, faultsF, typeF, typesOf}
 
 -- the part of a table that begins at a place
 pub record Table (l part sizes : List ℕ) (at : ℕ) : Type 0 where
@@ -35,6 +37,7 @@ pub record Table (l part sizes : List ℕ) (at : ℕ) : Type 0 where
 abbrev pub roomF : Form → ℕ
 roomF (simple o es) = length (flatF (simple o es))
 roomF (guard g e is) = length (flatF (guard g e is))
+roomF (counted a e f g s) = length (flatF (counted a e f g s))
 roomF (blocked ds is) = length (flatF (blocked ds is))
 roomF (bodied ds is e) = length (flatF (bodied ds is e))
 roomF (labelled a) = 0
@@ -118,6 +121,10 @@ pub record AnswersItems (l part : List ℕ) (count nesting at : ℕ) (sizes old 
   pub kept : envOf new top ≡ envOf old top
   pub same : length new ≡ length old
   pub judged : (is : Items) (ss : List Scope) (seen : List ℕ) → ReadyItems is ss seen l part count nesting at sizes old top → Says r (faultsItems ss seen at is)
+
+-- an assignment's target is a control name, f being what is found of the name that stands there
+unfoldable pub fixedBy : List ℕ → Found → Bool
+fixedBy part f = if eqb (halfAt part 0) 21 then if eqb (halfAt part 8) 44 then controls f else false else false
 
 -- ── counts of operands, near the code ──
 unfoldable pub operandsBy : ℕ → ℕ → ℕ

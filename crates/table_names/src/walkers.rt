@@ -4,13 +4,16 @@ use formats::entries::*;
 use table_scopes::Verdict;
 ghost use mathlib.Core.Path.{_≡_};
 ghost use mathlib.Core.Bool.{_&&_};
-ghost use Prim.Native.Nat.{_+_, _*_};
+ghost use Prim.Native.Nat.{_+_, _*_, _≤_};
 ghost use lib.Dec.{eqb};
-ghost use Rattle.table_scopes.specs.Environment.{envOf};
+ghost use lib.ListN.{length};
+ghost use Rattle.words.specs.Numbers.{halfAt};
+ghost use Rattle.table_scopes.specs.Environment.{envOf, find};
 ghost use Rattle.table_scopes.specs.Spared.{Spared};
-ghost use Rattle.table_forms.specs.Forms.{ExprForm, StmtForm, SimpleForm, GuardForm, BlockForm, BodyForm};
+ghost use Rattle.table_forms.specs.Forms.{ExprForm, StmtForm, SimpleForm, GuardForm, CountForm, BlockForm, BodyForm};
 ghost use Rattle.table_forms.specs.Block.{AsksContents, AnswersContents};
-ghost use Rattle.table_forms.specs.Walk.{Asks, Answers, Typed, AsksEs, AnswersEs, Alike, AsksItems, AnswersItems, operandsBy, isPlain, guardedBy, testedBy};
+ghost use Rattle.table_forms.specs.Walk.{Asks, Answers, Typed, AsksEs, AnswersEs, Alike, AsksItems, AnswersItems, fixedBy, operandsBy};
+ghost use Rattle.table_forms.specs.Walk.{isPlain, guardedBy, testedBy};
 
 // The expressions below an entry that has no other operands.
 fn operands_of(kind: u16, b: u32) -> usize
@@ -75,6 +78,20 @@ fn tested(kind: u16, t: u32, at: usize) -> Verdict
             Verdict::Refused(4, at)
         }
     }
+}
+
+// Whether the part begins with an assignment to a control name. That is a fault at the target, which comes before all others of the statement.
+fn is_fixed(part: &[u8], kind: u16, env: &[u32], top: usize) -> bool
+    requires { ⌜ (kind ≡ halfAt (now part) 0) × (halfAt (now part) 0 ≡ 21 → 16 ≤ length (now part)) × (4 * top ≤ length (now env)) ⌝ }
+    ensures { λ r. ⌜ r ≡ fixedBy (now (part .entry)) (find (halfAt (now (part .entry)) 10) (envOf (now (env .entry)) top)) ⌝ }
+{
+    if kind != KIND_ASSIGN {
+        return false;
+    }
+    if table_entries::kind_at(part, 1) != KIND_VARIABLE {
+        return false;
+    }
+    table_types::is_control(table_entries::a_at(part, 1) as u32, env, top)
 }
 
 // Expressions one after the other, whose types are left above the names in sight.
@@ -149,6 +166,9 @@ fn simple(
 {
     let kind = table_entries::kind_at(part, 0);
     let name = table_entries::a_at(part, 0);
+    if is_fixed(part, kind, env, top) {
+        return Verdict::Refused(4, at + 1);
+    }
     let count = operands_of(kind, table_entries::b_at(part, 0));
     match operands(
         table,
@@ -212,6 +232,52 @@ fn guarded(
                 false,
             ) {
                 Verdict::Fine(_) => tested(kind, t, at),
+                Verdict::Refused(k, p) => Verdict::Refused(k, p),
+            }
+        }
+        Verdict::Refused(k, p) => Verdict::Refused(k, p),
+    }
+}
+
+// A for: start, step and limit, and then the statement, among whose names is the control name. What the three are is judged last.
+fn counted(
+    table: &[u8],
+    part: &[u8],
+    nesting: usize,
+    at: usize,
+    sizes: &[u16],
+    env: &mut [u32],
+    top: usize,
+) -> Verdict
+    requires { ⌜ Asks CountForm (now table) (now part) nesting at (now sizes) (now env) top ⌝ }
+    ensures { λ r. ⌜ Answers CountForm (now (table .entry)) (now (part .entry)) nesting at (now (sizes .entry)) (now (env .entry)) (now (env .exit)) top r ⌝ }
+{
+    let control = table_entries::a_at(part, 0);
+    match operands(
+        table,
+        &part[ENTRY_BYTES..],
+        3,
+        nesting - 1,
+        at + 1,
+        sizes,
+        env,
+        top,
+    ) {
+        Verdict::Fine(_) => {
+            let whole = table_types::counted(at, env, top);
+            let n = table_scopes::spanned(table, sizes, at + 1, 3);
+            let from = ENTRY_BYTES * (1 + n);
+            let up = table_scopes::enter_loop(control as u32, at, env, top);
+            match statement(
+                table,
+                &part[from..],
+                nesting - 1,
+                at + 1 + n,
+                sizes,
+                env,
+                up,
+            ) {
+                Verdict::Fine(_) => whole,
                 Verdict::Refused(k, p) => Verdict::Refused(k, p),
             }
         }
@@ -438,6 +504,7 @@ pub fn statement(
         KIND_IF_ELSE => guarded(table, part, nesting, at, sizes, env, top),
         KIND_WHILE => guarded(table, part, nesting, at, sizes, env, top),
         KIND_CASE => guarded(table, part, nesting, at, sizes, env, top),
+        KIND_FOR => counted(table, part, nesting, at, sizes, env, top),
         _ => simple(table, part, nesting, at, sizes, env, top),
     }
 }

@@ -47,6 +47,7 @@ sorts-parts k a n =
     (either (eqb k 27) (replicate n Expr) _ (length-replicate n Expr)
     (either (eqb k 28) (Expr ∷ Expr ∷ []) _ refl
     (either (eqb k 30) (Expr ∷ replicate a Stmt) _ (simp length-replicate (omega arith))
+    (either (eqb k 31) (Expr ∷ Expr ∷ Expr ∷ Stmt ∷ []) _ refl
     (either (eqb k 45) (replicate n Expr) _ (length-replicate n Expr)
     (either (eqb k 46) (Expr ∷ []) _ refl
     (either (eqb k 47) (replicate n Expr) _ (length-replicate n Expr)
@@ -54,7 +55,7 @@ sorts-parts k a n =
     (either (eqb k 49) (Expr ∷ Expr ∷ []) _ refl
     (either (eqb k 50) (Expr ∷ Expr ∷ Expr ∷ []) _ refl
     (either (eqb k 51) (Expr ∷ []) _ refl
-    (either (eqb k 53) (replicate a Decl ++ (replicate n Part ++ (Expr ∷ []))) [] (simp (length-append, length-replicate) (omega arith)) refl))))))))))))))))))
+    (either (eqb k 53) (replicate a Decl ++ (replicate n Part ++ (Expr ∷ []))) [] (simp (length-append, length-replicate) (omega arith)) refl)))))))))))))))))))
 
 -- ── answers ──
 -- w counts what one entry spans

@@ -16,7 +16,7 @@ use Rattle.language.specs.Tree as tree
 use Rattle.language.specs.Tree.{block, assign, when, choose, while, assert, call, setLevel, select, invoke, field, make, operate1, operate2, conditional, fader, blockExpr, toField}
 use Rattle.values.specs.Operators.{negate, plus, unaryOf, binaryOf}
 use Rattle.language.specs.Table as table
-use Rattle.language.specs.Table.{Entry, inLayout, Reader, made, two, three, repeated, Below, labelPart, stmtPart, itemsOf, armsOf, itemsBelow, exprsOf, exprsBelow}
+use Rattle.language.specs.Table.{Entry, inLayout, Reader, made, two, three, four, repeated, Below, labelPart, stmtPart, itemsOf, armsOf, itemsBelow, exprsOf, exprsBelow}
 use Rattle.language.specs.Table.{formTyped, formDecl, formPart, formS, formTarget, formE, below}
 use Rattle.logic.specs.Tests.{both-left}
 use Rattle.table_read.specs.declared.kinds.Sort.{Sort}
@@ -63,6 +63,12 @@ module _ (r : Below) (w : Sort → List Entry → Read) (h : (s : Sort) → Same
 
   guarded : {A : Type 0} (f : tree.Expr → tree.Stmt → A) → Chained w (two f (r .expr) (r .stmt)) ((Expr ∷ Stmt ∷ []))
   guarded f = same-then w (λ x. made (f x) (r .stmt)) (h Expr) (λ x. same-made w (f x) (same-one w (h Stmt)))
+
+  counted : {A : Type 0} (f : tree.Expr → tree.Expr → tree.Expr → tree.Stmt → A)
+      → Chained w (four f (r .expr) (r .expr) (r .expr) (r .stmt)) ((Expr ∷ Expr ∷ Expr ∷ Stmt ∷ []))
+  counted f =
+      same-then w (λ x. three (f x) (r .expr) (r .expr) (r .stmt)) (h Expr)
+      (λ x. same-then w (λ y. two (f x y) (r .expr) (r .stmt)) (h Expr) (λ y. guarded (f x y)))
 
   cases : (a : ℕ) → 1 ≤ a → Chained w (three (λ x s ss. select x (armsOf s ss)) (r .expr) (r .stmt) (repeated (a - 1) (r .stmt))) ((Expr ∷ replicate a Stmt))
   cases a l =
@@ -113,18 +119,23 @@ module _ (r : Below) (w : Sort → List Entry → Read) (h : (s : Sort) → Same
                                                             elim (ℕ-discrete (e .kind) 30) [
                                                               | yes p ↦ rw p (below-entry (cases (e .a) (leb-true 1 (e .a) (both-left (leb 1 (e .a)) (isZero (e .b)) (rw p at l)))))
                                                               | no n30 ↦
-                                                                  simp (
-                                                                    ne-eqb _ _ n1,
-                                                                    ne-eqb _ _ n21,
-                                                                    ne-eqb _ _ n22,
-                                                                    ne-eqb _ _ n23,
-                                                                    ne-eqb _ _ n24,
-                                                                    ne-eqb _ _ n25,
-                                                                    ne-eqb _ _ n26,
-                                                                    ne-eqb _ _ n27,
-                                                                    ne-eqb _ _ n28,
-                                                                    ne-eqb _ _ n30,
-                                                                  ) (ends-stop (e ∷ es))
+                                                                  elim (ℕ-discrete (e .kind) 31) [
+                                                                    | yes p ↦ rw p (below-entry (counted (tree.for (e .a))))
+                                                                    | no n31 ↦
+                                                                        simp (
+                                                                          ne-eqb _ _ n1,
+                                                                          ne-eqb _ _ n21,
+                                                                          ne-eqb _ _ n22,
+                                                                          ne-eqb _ _ n23,
+                                                                          ne-eqb _ _ n24,
+                                                                          ne-eqb _ _ n25,
+                                                                          ne-eqb _ _ n26,
+                                                                          ne-eqb _ _ n27,
+                                                                          ne-eqb _ _ n28,
+                                                                          ne-eqb _ _ n30,
+                                                                          ne-eqb _ _ n31,
+                                                                        ) (ends-stop (e ∷ es))
+                                                                  ]
                                                             ]
                                                       ]
                                                 ]

@@ -4,7 +4,7 @@ use mathlib.Core.Bool.{Bool, true, false, _||_}
 use mathlib.Core.List.{List, [], _∷_, _++_}
 use Prim.Native.Nat.{ℕ, zero, suc, _+_, _-_, _≤_, _<_}
 use native.Mathlib.Omega.{arith}
-use lib.Dec.{eqb}
+use lib.Dec.{eqb, ltb}
 use lib.ListN.{length, getD, replicate, getD-replicate, length-append, length-replicate}
 use borrow.Author.Tests.{ne-eqb, eqb-true}
 use Rattle.logic.specs.Choice.{if_then_else_}
@@ -50,6 +50,14 @@ pub guards : (i m : ℕ) → i < suc m → (if eqb i 0 then Expr else Stmt) ≡ 
 guards zero m h = refl
 guards (suc i) m h = rw (ne-eqb (suc i) 0 (λ e. omega arith)) (sym (getD-replicate m i Stmt Expr (omega arith)))
 
+-- three alike, and then another
+pub counts : (i : ℕ) → i < 4 → (if ltb i 3 then Expr else Stmt) ≡ getD (Expr ∷ Expr ∷ Expr ∷ Stmt ∷ []) i Expr
+counts zero h = refl
+counts (suc zero) h = refl
+counts (suc (suc zero)) h = refl
+counts (suc (suc (suc zero))) h = refl
+counts (suc (suc (suc (suc i)))) h = absurd (omega arith)
+
 pub later-one : (i : ℕ) → (i ≡ 0 → ⊥) → getD (Target ∷ Expr ∷ []) i Expr ≡ Expr
 later-one zero h = absurd (h refl)
 later-one (suc zero) h = refl
@@ -65,11 +73,11 @@ chosen : (b : Bool) (x y : List Sort) (i : ℕ) → getD x i Expr ≡ Expr → g
 chosen true x y i h k = h
 chosen false x y i h k = k
 
-pub others : (k a n i : ℕ) → (k ≡ 1 → ⊥) → (k ≡ 11 → ⊥) → (k ≡ 12 → ⊥) → (k ≡ 21 → ⊥) → (k ≡ 22 → ⊥) → (k ≡ 23 → ⊥) → (k ≡ 24 → ⊥) → (k ≡ 30 → ⊥) → (k ≡ 53 → ⊥)
+pub others : (k a n i : ℕ) → (k ≡ 1 → ⊥) → (k ≡ 11 → ⊥) → (k ≡ 12 → ⊥) → (k ≡ 21 → ⊥) → (k ≡ 22 → ⊥) → (k ≡ 23 → ⊥) → (k ≡ 24 → ⊥) → (k ≡ 30 → ⊥) → (k ≡ 31 → ⊥) → (k ≡ 53 → ⊥)
     → getD (sorts k a n) i Expr ≡ Expr
 unfolding sorts
-others k a n i p1 p11 p12 p21 p22 p23 p24 p30 p53 =
-    rw (ne-eqb k 1 p1, ne-eqb k 11 p11, ne-eqb k 12 p12, ne-eqb k 21 p21, ne-eqb k 22 p22, ne-eqb k 23 p23, ne-eqb k 24 p24, ne-eqb k 30 p30, ne-eqb k 53 p53)
+others k a n i p1 p11 p12 p21 p22 p23 p24 p30 p31 p53 =
+    rw (ne-eqb k 1 p1, ne-eqb k 11 p11, ne-eqb k 12 p12, ne-eqb k 21 p21, ne-eqb k 22 p22, ne-eqb k 23 p23, ne-eqb k 24 p24, ne-eqb k 30 p30, ne-eqb k 31 p31, ne-eqb k 53 p53)
     (chosen (eqb k 26) (Expr ∷ []) _ i (exprs 1 i)
     (chosen (eqb k 27) (replicate n Expr) _ i (exprs n i)
     (chosen (eqb k 28) (Expr ∷ Expr ∷ []) _ i (exprs 2 i)

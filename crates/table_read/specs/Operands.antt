@@ -11,7 +11,7 @@ use Rattle.table_read.specs.declared.kinds.Sort.the-variants.{Typed, Dec
 unfoldable pub isS : ℕ → Bool
 isS k =
     eqb k 1 || (eqb k 21 || (eqb k 22 || (eqb k 23 || (eqb k 24
-    || (eqb k 25 || (eqb k 26 || (eqb k 27 || (eqb k 28 || eqb k 30))))))))
+    || (eqb k 25 || (eqb k 26 || (eqb k 27 || (eqb k 28 || (eqb k 30 || eqb k 31)))))))))
 
 unfoldable pub isE : ℕ → Bool
 isE k =
@@ -40,6 +40,7 @@ sorts k a n =
     if eqb k 27 then replicate n Expr else
     if eqb k 28 then Expr ∷ Expr ∷ [] else
     if eqb k 30 then Expr ∷ replicate a Stmt else
+    if eqb k 31 then Expr ∷ Expr ∷ Expr ∷ Stmt ∷ [] else
     if eqb k 45 then replicate n Expr else
     if eqb k 46 then Expr ∷ [] else
     if eqb k 47 then replicate n Expr else

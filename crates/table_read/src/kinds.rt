@@ -3,7 +3,7 @@ use formats::entries::*;
 ghost use mathlib.Core.Path.{_≡_};
 ghost use mathlib.Core.Bool.{_||_};
 ghost use Prim.Native.Nat.{_<_};
-ghost use lib.Dec.{eqb};
+ghost use lib.Dec.{eqb, ltb};
 ghost use lib.ListN.{length, getD};
 ghost use Rattle.logic.specs.Choice.{if_then_else_};
 ghost use Rattle.table_read.specs.Operands.{isS, isE, isLeaf, sorts};
@@ -33,6 +33,7 @@ pub fn is_statement(kind: u16) -> bool
         KIND_CALL => true,
         KIND_SET => true,
         KIND_CASE => true,
+        KIND_FOR => true,
         _ => false,
     }
 }
@@ -113,6 +114,7 @@ pub fn count(kind: u16, a: u16, n: u32) -> usize
         KIND_CALL => n as usize,
         KIND_SET => 2,
         KIND_CASE => a as usize + 1,
+        KIND_FOR => 4,
         KIND_FUNCTION => n as usize,
         KIND_FIELD => 1,
         KIND_RECORD => n as usize,
@@ -130,6 +132,13 @@ fn guarded(i: usize) -> Sort
     ensures { λ r. ⌜ r ≡ (if eqb i 0 then Sort.Expr else Sort.Stmt) ⌝ }
 {
     if i == 0 { Sort::Expr } else { Sort::Stmt }
+}
+
+// Three expressions, and then a statement.
+fn counted(i: usize) -> Sort
+    ensures { λ r. ⌜ r ≡ (if ltb i 3 then Sort.Expr else Sort.Stmt) ⌝ }
+{
+    if i < 3 { Sort::Expr } else { Sort::Stmt }
 }
 
 pub fn sort_of(kind: u16, a: u16, n: u32, i: usize) -> Sort
@@ -154,6 +163,7 @@ pub fn sort_of(kind: u16, a: u16, n: u32, i: usize) -> Sort
         KIND_IF_ELSE => guarded(i),
         KIND_WHILE => guarded(i),
         KIND_CASE => guarded(i),
+        KIND_FOR => counted(i),
         KIND_BLOCK_EXPRESSION => {
             if i < head {
                 Sort::Decl

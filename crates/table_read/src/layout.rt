@@ -88,6 +88,7 @@ pub fn in_layout(kind: u16, a: u16, b: i32) -> bool
         KIND_CALL => whole,
         KIND_SET => both(a == 0, n == 0),
         KIND_CASE => both(1 <= a, n == 0),
+        KIND_FOR => n == 0,
         KIND_INTEGER => a == 0,
         KIND_LOGICAL => both(a == 0, both(whole, n <= 1)),
         KIND_BITS => a == 0,

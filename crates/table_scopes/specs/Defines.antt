@@ -18,9 +18,9 @@ use Rattle.logic.specs.Options.{isSome}
 use Rattle.logic.specs.Choice.{if_then_else_}
 use Rattle.words.specs.Laws.{two, four, number-below}
 use Rattle.values.specs.Types.{Ty, integer, logical, bits, reference, tyCode}
-use Rattle.language.specs.Tree.{Typed, Decl, declare, holding, Stmt, block, assign, when, choose, while, goto, assert, call, setLevel, select, Items, noItem, label, item, countItems}
+use Rattle.language.specs.Tree.{Typed, Decl, declare, holding, Stmt, block, assign, when, choose, while, goto, assert, call, setLevel, select, for, Items, noItem, label, item, countItems}
 use Rattle.language.specs.Table.{Entry, entry, inLayout}
-use Rattle.language.specs.Names.{isVariable, isLabel, isClass, isField, isProcedure, definesTyped, definesHead, definesItems, definesFields, Scope, blockOf, expressionOf, nowhere, found, lookup}
+use Rattle.language.specs.Names.{isVariable, isLabel, isClass, isField, isProcedure, isControl, definesTyped, definesHead, definesItems, definesFields, Scope, blockOf, expressionOf, nowhere, found, lookup}
 use Rattle.language.specs.Names as names
 use Rattle.language.specs.Faults.{twice, typeFaults, named, classSort, faultsTyped, faultsHead, namesHead, sizeS, sizeItems}
 use Rattle.logic.specs.Tests.{clash, or-false}
@@ -116,6 +116,7 @@ module _ {l : List ℕ} (legible : Legible l) where
   no-label (call a es) h = plain _ h (λ z. omega arith)
   no-label (setLevel e f) h = plain _ h (λ z. omega arith)
   no-label (select e r) h = plain _ h (λ z. omega arith)
+  no-label (for a e f g s) h = plain _ h (λ z. omega arith)
 
   pub label-items : (p : ℕ) (is : Items) → Stands (entriesOf l) p (flatItems is) → Reach l p (countItems is) × (labelsFrom l p (countItems is) ≡ labelItems p is)
   unfolding labelItems labelsFrom Reach countItems flatItems parts
@@ -253,6 +254,7 @@ class-found l p (Def s n q w) (found isLabel b) h = rw (h .1)
 class-found l p (Def s n q w) (found (isClass ts) b) h = rw (h .1 .0)
 class-found l p (Def s n q w) (found (isField c t) b) h = rw (ne-eqb s 6 (λ z. omega (arith, h .1 .0)))
 class-found l p (Def s n q w) (found (isProcedure ts us) b) h = rw (h .1 .0)
+class-found l p (Def s n q w) (found isControl b) h = rw (h .1 .0)
 
 pub class-small : (a c : ℕ) → inLayout (entry 10 a (pos (65536 + c))) ≡ true → c < 65536
 unfolding inLayout

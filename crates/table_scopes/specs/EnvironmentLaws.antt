@@ -137,6 +137,16 @@ unfolding Small
 small-append [] js s t = t
 small-append (i ∷ is) js s t = (s .0, small-append is js (s .1) t)
 
+-- a definition, and else what is found behind it
+pub find-item : (a b s n q : ℕ) (v : List Item) → b < 65536 → find a (item b s n q ∷ v) ≡ orOuter (firstIn a (item b s n q ∷ [])) (find a v)
+unfolding find firstIn
+find-item a b s n q v h = go (eqb b a) refl
+  where
+    go : (x : Bool) → eqb b a ≡ x
+        → (if eqb b a then Def s n q false else passing (eqb b shut) (find a v)) ≡ orOuter (if eqb b a then Def s n q false else Nothing) (find a v)
+    go true e = rw e
+    go false e = let w : ¬ (b ≡ shut) = omega arith in rw (e, ne-eqb b shut w, ← passing-none (find a v))
+
 module _ (a : ℕ) (small : a < 65536) where
   abbrev seen : List Item → Found → Found
   seen v g = if here a v then find a v else orOuter g (find a v)

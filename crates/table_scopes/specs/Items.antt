@@ -27,7 +27,7 @@ bAt l p = wordAt l (8 * p + 4)
 abbrev pub after : List ℕ → ℕ → ℕ
 after l p = p + span 1 (drop p (entriesOf l))
 
--- "sort: 4 a variable, 5 a label, 6 a class, 7 a procedure, 65,536 + c a field of class c"; the number is b of the entry
+-- "sort: 4 a variable, 5 a label, 6 a class, 7 a procedure, 65,536 + c a field of class c" (and 8 a control name, `enter_loop`); the number is b of the entry
 unfoldable pub oneAt : ℕ → ℕ → List ℕ → ℕ → List Item
 oneAt k sort l p = if eqb (kindAt l p) k then item (aAt l p) sort (bAt l p) p ∷ [] else []
 
@@ -121,6 +121,19 @@ grown-marked i xs {top} {r} {old} {m} {new} g h =
       same = h .same ∙ g .same;
       least = omega (arith, h .least);
       most = omega (arith, h .most);
+    }
+
+-- a mark and one item above it
+pub grown-two : (i j : Item) {top : ℕ} {old m new : List ℕ} → Grown top old m (top + 1) (i ∷ envOf old top) 1 → Grown (top + 1) m new (top + 1 + 1) (j ∷ envOf m (top + 1)) 1
+    → Grown top old new (top + 2) (j ∷ (i ∷ envOf old top)) 2
+grown-two i j {top} {old} {m} {new} g h =
+    let e : top + 1 + 1 ≡ top + 2 = omega arith in
+    record {
+      now = rw (← e) (h .now ∙ rw (g .now));
+      kept = fewer new m top (top + 1) (g .least) (h .kept) ∙ g .kept;
+      same = h .same ∙ g .same;
+      least = omega arith;
+      most = omega arith;
     }
 
 -- ── one step of each loop ──

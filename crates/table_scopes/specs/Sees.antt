@@ -12,15 +12,15 @@ use Rattle.words.specs.Laws.{Bytes}
 use Rattle.values.specs.Types.{Ty, tyCode}
 use Rattle.language.specs.Tree.{Typed}
 use Rattle.language.specs.Table.{Entry, inLayout}
-use Rattle.language.specs.Names.{Sort, isVariable, isLabel, isClass, isField, isProcedure, Definition, types, Scope, inBlock, inExpression, inProcedure, nowhere, found}
-use Rattle.language.specs.Names.{firstOf, otherwise, across, lookup}
+use Rattle.language.specs.Names.{Sort, isVariable, isLabel, isClass, isField, isProcedure, isControl, Definition, types, Scope, inBlock, inExpression}
+use Rattle.language.specs.Names.{inProcedure, define, loopOf, nowhere, found, firstOf, otherwise, across, lookup}
 use Rattle.language.specs.Names as names
-use Rattle.language_laws.specs.Lookup.{lookup-none, lookup-block, lookup-expression, lookup-procedure}
+use Rattle.language_laws.specs.Lookup.{lookup-none, lookup-block, lookup-expression, lookup-procedure, lookup-loop}
 use Rattle.language_laws.specs.Claims.{entriesOf}
 use Rattle.table_scopes.specs.declared.environment.Found.{Found}
 use Rattle.table_scopes.specs.declared.environment.Found.the-variants.{Nothing, Def}
 use Rattle.table_scopes.specs.Environment.{Item, item, opened, shut, value, find, addAll, passing}
-use Rattle.table_scopes.specs.EnvironmentLaws.{firstIn, orOuter, Small, find-block, past-mark, passing-none}
+use Rattle.table_scopes.specs.EnvironmentLaws.{firstIn, orOuter, Small, find-block, find-item, past-mark, passing-none}
 use Rattle.table_entries.specs.Stands.{Stands}
 
 -- a table whose entries all keep to the layout
@@ -49,6 +49,7 @@ Sorted l s n q isLabel = s ≡ 5
 Sorted l s n q (isClass ts) = (s ≡ 6) × Declared l n q ts
 Sorted l s n q (isField c t) = (s ≡ 65536 + c) × (n ≡ tyCode t)
 Sorted l s n q (isProcedure ts us) = (s ≡ 7) × Declared l (n / 256) q ts × Result (n % 256) us
+Sorted l s n q isControl = (s ≡ 8) × (n ≡ 1)
 
 abbrev pub Agrees : List ℕ → Found → names.Found → Type 0
 Agrees l Nothing nowhere = Unit {0}
@@ -119,6 +120,18 @@ module _ {l : List ℕ} {v : List Item} {ss : List Scope} (h : Sees l v ss) (is 
         rw (find-block a k shut is v (omega arith) small, lookup-procedure a ds ss)
         (or-agrees l (firstIn a is) (passing true (find a v)) (firstOf a ds) (across (lookup a ss)) (first-agrees l a is ds m) (across-agrees l (find a v) (lookup a ss) (h .sees a k)));
   }
+
+-- within a for clause, whose kind 31 stands at q
+pub sees-loop : {l : List ℕ} {v : List Item} {ss : List Scope} → Sees l v ss → (a q : ℕ) → a < 65536
+    → Sees l (item a 8 1 q ∷ (item opened 0 0 0 ∷ v)) (loopOf a ∷ ss)
+unfolding Matches
+sees-loop {l} {v} {ss} h a q small = record {
+  sees = λ b k.
+      let is = item a 8 1 q ∷ [] in
+      let ds = define a isControl ∷ [] in
+      rw (find-item b a 8 1 q (item opened 0 0 0 ∷ v) small, past-mark b k opened 0 0 0 v (omega arith), sym (passing-none (find b v)), lookup-loop b (define a isControl) ss)
+      (or-agrees l (firstIn b is) (find b v) (firstOf b ds) (lookup b ss) (first-agrees l b is ds (refl, (refl, refl), tt)) (h .sees b k));
+}
 
 -- above the type of an operand
 pub sees-value : {l : List ℕ} {v : List Item} {ss : List Scope} (t : ℕ) → Sees l v ss → Sees l (item value 0 t 0 ∷ v) ss

@@ -7,7 +7,7 @@ use lib.IntN.{pos}
 use lib.ListN.{length, length-append}
 use Rattle.language.specs.Measure.{measureS}
 use Rattle.language.specs.Program.{flatTyped, flatDecl, flatS, flatItems, flatArms, flatTarget, flatE, flatEs, resultCode, flatBody, flatGlobal, flatHead, total}
-use Rattle.language.specs.Tree.{Typed, Decl, declare, holding, Stmt, block, assign, when, choose, while, goto, assert, call, setLevel, select, Items, noItem, label, item}
+use Rattle.language.specs.Tree.{Typed, Decl, declare, holding, Stmt, block, assign, when, choose, while, goto, assert, call, setLevel, select, for, Items, noItem, label, item}
 use Rattle.language.specs.Tree.{Arms, lastArm, arm, Target, toVariable, toField, Expr, number, truth, pattern, null, variable, invoke, field, make, operate1, operate2}
 use Rattle.language.specs.Tree.{conditional, fader, blockExpr, Exprs, noExpr, expr, Body, proper, function, Global, local, class, procedure, countItems, countArms}
 use Rattle.language.specs.Tree.{countExprs}
@@ -34,6 +34,17 @@ mutual
   length-S (call a es) = ap suc (length-Es es)
   length-S (setLevel e f) = omega (arith, length-append (flatE e) (flatE f), length-E e, length-E f)
   length-S (select e r) = omega (arith, length-append (flatE e) (flatArms r), length-E e, length-Arms r)
+  length-S (for a e f g s) =
+      omega (
+        arith,
+        length-append (flatE e) (flatE f ++ (flatE g ++ flatS s)),
+        length-append (flatE f) (flatE g ++ flatS s),
+        length-append (flatE g) (flatS s),
+        length-E e,
+        length-E f,
+        length-E g,
+        length-S s,
+      )
 
   pub length-Items : (is : Items) → length (flatItems is) ≡ sizeItems is
   length-Items noItem = refl
@@ -93,6 +104,9 @@ mutual
   spans-S (select e r) =
       spans-one _ _ (spans-as (1 + countArms r) (countArms r + 1) (flatE e ++ flatArms r)
       (spans-then 1 (countArms r) (flatE e) (flatArms r) (spans-E e) (spans-Arms r)) (omega arith))
+  spans-S (for a e f g s) =
+      spans-one _ _ (spans-then 1 3 (flatE e) (flatE f ++ (flatE g ++ flatS s)) (spans-E e)
+      (spans-then 1 2 (flatE f) (flatE g ++ flatS s) (spans-E f) (spans-then 1 1 (flatE g) (flatS s) (spans-E g) (spans-S s))))
 
   pub spans-Items : (is : Items) → Spans (countItems is) (flatItems is)
   spans-Items noItem = spans-none

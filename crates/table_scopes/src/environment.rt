@@ -2,7 +2,7 @@
 // 000, so that a lookup, going down, takes the steps in their order. Topmost are
 //   step 1: the names of the smallest block around, its declarations and labels (`open`), down to the mark that it begins with; below it,
 //   step 2: where that block is a procedure body, the formal parameters of the heading (`enter_procedure`), down to a wall;
-//   step 3: where a for clause precedes it, the control identifier (no table has one yet);
+//   step 3: where a for clause precedes it, the control identifier (`enter_loop`), which stands on a mark of its own;
 // and then, in the same order, what belongs to the smallest block around that block.
 ghost use mathlib.Core.Path.{_≡_};
 ghost use mathlib.Core.Bool.{_||_};

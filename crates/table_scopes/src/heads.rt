@@ -338,6 +338,17 @@ pub fn enter_procedure(
     add_head(table, at, parameters, 4, env, top + 1)
 }
 
+// A for clause at a place: the control identifier, which step 3 finds, in a block of its own; it is an integer.
+pub fn enter_loop(name: u32, place: usize, env: &mut [u32], top: usize) -> usize
+    requires { ⌜ (place < 2048) × (4 * (top + 2) ≤ length (now env)) ⌝ }
+    ensures { λ r. ⌜ (r ≡ top + 2) × Grown top (now (env .entry)) (now (env .exit)) r
+        (item name 8 1 place ∷ (item 65536 0 0 0 ∷ envOf (now (env .entry)) top)) 2 ⌝ }
+{
+    environment::push(env, top, 65536, 0, 0, 0);
+    environment::push(env, top + 1, name, 8, 1, place as u32);
+    top + 2
+}
+
 // The definition at `at` is the one that its block has of the name: of two the first is found.
 pub fn once(env: &[u32], top: usize, name: u32, at: usize) -> Verdict
     requires { ⌜ 4 * top ≤ length (now env) ⌝ }

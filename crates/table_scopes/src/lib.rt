@@ -10,6 +10,7 @@ pub use environment::push;
 pub use heads::Labelled;
 pub use heads::Verdict;
 pub use heads::enter;
+pub use heads::enter_loop;
 pub use heads::enter_procedure;
 pub use heads::enter_root;
 pub use heads::head;

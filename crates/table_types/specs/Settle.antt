@@ -70,6 +70,10 @@ typesAt l p (suc n) = bAt l p ∷ typesAt l (p + 1) n
 abbrev pub rightIf : Bool → ℕ → ℕ → Verdict
 rightIf b t p = if b then Fine t else Refused 4 p
 
+-- a variable, a parameter or a control name
+abbrev pub hasValue : ℕ → Bool
+hasValue s = if eqb s 4 then true else eqb s 8
+
 abbrev pub aimedBy : ℕ → Bool → ℕ → Verdict
 aimedBy s w p = if eqb s 5 then if w then Refused 5 p else Fine 1 else Refused 4 p
 
@@ -84,7 +88,7 @@ namedBy l k a s n q w p vs =
     if eqb k 25 then aimedBy s w p else
     if eqb k 27 then calledBy l s n q (eqb (n % 256) 0) p vs else
     if eqb k 43 then rightIf (eqb s 6) (65536 + a) p else
-    if eqb k 44 then rightIf (eqb s 4) n p else
+    if eqb k 44 then rightIf (hasValue s) n p else
     if eqb k 45 then calledBy l s n q (not (eqb (n % 256) 0)) p vs else
     if eqb k 46 then rightIf (eqb s (getD vs 0 0)) n p else recordedBy l a s n q p vs
 
@@ -101,13 +105,22 @@ typeBy k a vs = typedBy k a (getD vs 0 0) (getD vs 1 0) (getD vs 2 0)
 unfoldable pub settledBy : List ℕ → ℕ → ℕ → ℕ → Found → List ℕ → Verdict
 settledBy l k a p f vs = if namesBy k then foundBy l k a p f vs else rightIf (not (eqb (typeBy k a vs) 0)) (typeBy k a vs) p
 
+-- start, step and limit of a for
+abbrev pub countedBy : ℕ → List ℕ → Verdict
+countedBy p vs = rightIf (eqb (ifBoth (eqb (getD vs 0 0) 1) (eqb (getD vs 1 0) 1) (getD vs 2 0)) 1) 1 p
+
+-- a control name was found
+abbrev pub controls : Found → Bool
+controls Nothing = false
+controls (Def s n q w) = eqb s 8
+
 -- an expression with nothing below it: a constant, null or a variable
 unfoldable pub isLeaf : ℕ → Bool
 isLeaf k = if ltb k 40 then false else ltb k 45
 
 abbrev pub leafOf : ℕ → ℕ → ℕ → Found → Verdict
 leafOf k a p Nothing = Refused 3 p
-leafOf k a p (Def s n q w) = if eqb k 43 then rightIf (eqb s 6) (65536 + a) p else rightIf (eqb s 4) n p
+leafOf k a p (Def s n q w) = if eqb k 43 then rightIf (eqb s 6) (65536 + a) p else rightIf (hasValue s) n p
 
 unfoldable pub leafBy : ℕ → ℕ → ℕ → Found → Verdict
 leafBy k a p f = if eqb k 40 then Fine 1 else if eqb k 41 then Fine 2 else if eqb k 42 then Fine 3 else leafOf k a p f

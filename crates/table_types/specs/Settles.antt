@@ -1,7 +1,7 @@
 -- What the code settles is what the definitions say: the type and the faults of each operation.
 use mathlib.Core.Path.{_≡_, refl, sym, _∙_}
 use mathlib.Core.Bool.{Bool, true, false, not, _&&_}
-use mathlib.Core.List.{List, [], _∷_, map}
+use mathlib.Core.List.{List, [], _∷_, _++_, map}
 use mathlib.Core.Option.{Option, none, some}
 use Prim.Native.Nat.{ℕ, _+_, _*_, _/_, _%_, _≤_, _<_}
 use native.Mathlib.Omega.{arith}
@@ -15,9 +15,10 @@ use Rattle.values.specs.Types.{Ty, integer, logical, bits, reference, tyCode}
 use Rattle.values.specs.Ends.{Refusal, refusal}
 use Rattle.values.specs.Operators.{unary, binary}
 use Rattle.language.specs.Tree.{Typed}
-use Rattle.language.specs.Names.{isVariable, isLabel, isClass, isField, isProcedure, types, Scope, nowhere, found, lookup}
+use Rattle.language.specs.Names.{isVariable, isLabel, isClass, isField, isProcedure, isControl, types, Scope, nowhere, found, lookup}
 use Rattle.language.specs.Names as names
-use Rattle.language.specs.Faults.{variableTy, resultTy, fieldTy, isTy, sameTy, fitsTy, fitTys, mistypedUnless, named, variableSort, classSort, classFrom, fieldOf, callOf, aimed}
+use Rattle.language.specs.Faults.{variableTy, resultTy, fieldTy, isTy, sameTy, fitsTy, fitTys, faultIf, mistypedUnless, named, variableSort, assignableSort, classSort}
+use Rattle.language.specs.Faults.{classFrom, fieldOf, callOf, aimed}
 use Rattle.logic.specs.Tests.{clash, eqb-comm}
 use Rattle.language_laws.specs.Claims.{entriesOf}
 use Rattle.table_scopes.specs.declared.environment.Found.{Found}
@@ -31,7 +32,7 @@ use Rattle.table_scopes.specs.Flaws.{Says}
 use Rattle.table_scopes.specs.Sees.{Legible, Declared, Agrees, Sees}
 use Rattle.table_scopes.specs.Trees.{length-map}
 use Rattle.table_scopes.specs.Defines.{number-here}
-use Rattle.table_types.specs.Settle.{ifBoth, rightIf, sameAll, typesAt, typedBy, namedBy, namesBy, foundBy, settledBy, Within}
+use Rattle.table_types.specs.Settle.{ifBoth, rightIf, sameAll, typesAt, typedBy, namedBy, namesBy, foundBy, settledBy, countedBy, controls, Within}
 use Rattle.table_types.specs.Operations.{Operation, numeral, truth, pattern, nullOf, variableOf, invokes, fieldAt, makes, calls, goesTo, unaryOp, binaryOp, chooses}
 use Rattle.table_types.specs.Operations.{reads, assigns, asserts, sets, kindOp, nameOp, Takes, sequence, operTy, gives, own}
 use Rattle.table_types.specs.Types.{tyNum, code-some, is-number, both-same, both-fit, unary-number, binary-number, arguments}
@@ -82,6 +83,7 @@ module _ {l : List ℕ} (legible : Legible l) where
   found-within (Def s n q w) (found (isClass ts) b) h = (λ e. absurd (omega (arith, h .1 .0)), λ e. declared-within n q ts (h .1 .1))
   found-within (Def s n q w) (found (isField c t) b) h = (λ e. absurd (omega (arith, h .1 .0)), λ e. absurd (omega (arith, h .1 .0)))
   found-within (Def s n q w) (found (isProcedure ts us) b) h = (λ e. declared-within (n / 256) q ts (h .1 .1), λ e. absurd (omega (arith, h .1 .0)))
+  found-within (Def s n q w) (found isControl b) h = (λ e. absurd (omega (arith, h .1 .0)), λ e. absurd (omega (arith, h .1 .0)))
 
 undefined : {p : ℕ} {o : Option Ty} → Settled (Refused 3 p) (refusal 3 p ∷ []) o
 undefined = record { says = ([], refl); types = tt }
@@ -119,6 +121,7 @@ module _ {l : List ℕ} (legible : Legible l) (p : ℕ) where
   null-settles a vs (Def s n q w) (found (isClass ts) b) h = rw (h .1 .0) (right-if true (65536 + a) p (some (reference a)) refl)
   null-settles a vs (Def s n q w) (found (isField c t) b) h = rw (ne-eqb s 6 (λ z. omega (arith, h .1 .0))) wrong
   null-settles a vs (Def s n q w) (found (isProcedure ts us) b) h = rw (h .1 .0) wrong
+  null-settles a vs (Def s n q w) (found isControl b) h = rw (h .1 .0) wrong
 
   variable-settles : (a : ℕ) (vs : List ℕ) (f : Found) (g : names.Found) → Agrees l f g → Settled (foundBy l 44 a p f vs) (named g variableSort p) (variableTy g)
   unfolding namedBy
@@ -128,8 +131,9 @@ module _ {l : List ℕ} (legible : Legible l) (p : ℕ) where
   variable-settles a vs (Def s n q w) (found (isVariable t) b) h = rw (h .1 .0) (right-if true n p (some t) (h .1 .1))
   variable-settles a vs (Def s n q w) (found isLabel b) h = rw (h .1) wrong
   variable-settles a vs (Def s n q w) (found (isClass ts) b) h = rw (h .1 .0) wrong
-  variable-settles a vs (Def s n q w) (found (isField c t) b) h = rw (ne-eqb s 4 (λ z. omega (arith, h .1 .0))) wrong
+  variable-settles a vs (Def s n q w) (found (isField c t) b) h = rw (ne-eqb s 4 (λ z. omega (arith, h .1 .0)), ne-eqb s 8 (λ z. omega (arith, h .1 .0))) wrong
   variable-settles a vs (Def s n q w) (found (isProcedure ts us) b) h = rw (h .1 .0) wrong
+  variable-settles a vs (Def s n q w) (found isControl b) h = rw (h .1 .0) (right-if true n p (some integer) (h .1 .1))
 
   goto-settles : (a : ℕ) (vs : List ℕ) (f : Found) (g : names.Found) → Agrees l f g → Settled (foundBy l 25 a p f vs) (aimed g p) (some integer)
   unfolding namedBy
@@ -141,6 +145,7 @@ module _ {l : List ℕ} (legible : Legible l) (p : ℕ) where
   goto-settles a vs (Def s n q w) (found (isClass ts) b) h = rw (h .1 .0) wrong
   goto-settles a vs (Def s n q w) (found (isField c t) b) h = rw (ne-eqb s 5 (λ z. omega (arith, h .1 .0))) wrong
   goto-settles a vs (Def s n q w) (found (isProcedure ts us) b) h = rw (h .1 .0) wrong
+  goto-settles a vs (Def s n q w) (found isControl b) h = rw (h .1 .0) wrong
 
   make-settles : (a : ℕ) (xs : List (Option Ty)) (f : Found) (g : names.Found) → Agrees l f g → Settled (foundBy l 47 a p f (map tyNum xs)) (named g (classFrom (sequence xs)) p) (some (reference a))
   unfolding namedBy
@@ -152,6 +157,7 @@ module _ {l : List ℕ} (legible : Legible l) (p : ℕ) where
   make-settles a xs (Def s n q w) (found (isClass ts) b) h = rw (h .1 .0, fit-declared legible n q xs ts (h .1 .1)) (right-if (fitTys (sequence xs) ts) (65536 + a) p (some (reference a)) refl)
   make-settles a xs (Def s n q w) (found (isField c t) b) h = rw (ne-eqb s 6 (λ z. omega (arith, h .1 .0))) wrong
   make-settles a xs (Def s n q w) (found (isProcedure ts us) b) h = rw (h .1 .0) wrong
+  make-settles a xs (Def s n q w) (found isControl b) h = rw (h .1 .0) wrong
 
   field-settles : (a : ℕ) (x : Option Ty) (f : Found) (g : names.Found) → Agrees l f g → Settled (foundBy l 46 a p f (tyNum x ∷ [])) (named g (fieldOf x) p) (fieldTy g)
   unfolding namedBy
@@ -163,6 +169,7 @@ module _ {l : List ℕ} (legible : Legible l) (p : ℕ) where
   field-settles a x (Def s n q w) (found (isClass ts) b) h = rw (ne-eqb s (tyNum x) (λ z. no-type 6 x (omega arith) (omega arith) (sym (h .1 .0) ∙ z))) wrong
   field-settles a x (Def s n q w) (found (isField c t) b) h = rw (h .1 .0, swapped c x) (right-if (isTy (reference c) x) n p (some t) (h .1 .1))
   field-settles a x (Def s n q w) (found (isProcedure ts us) b) h = rw (ne-eqb s (tyNum x) (λ z. no-type 7 x (omega arith) (omega arith) (sym (h .1 .0) ∙ z))) wrong
+  field-settles a x (Def s n q w) (found isControl b) h = rw (ne-eqb s (tyNum x) (λ z. no-type 8 x (omega arith) (omega arith) (sym (h .1 .0) ∙ z))) wrong
 
   invoke-settles : (a : ℕ) (xs : List (Option Ty)) (f : Found) (g : names.Found) → Agrees l f g → Settled (foundBy l 45 a p f (map tyNum xs)) (named g (callOf 1 (sequence xs)) p) (resultTy g)
   unfolding namedBy
@@ -178,6 +185,7 @@ module _ {l : List ℕ} (legible : Legible l) (p : ℕ) where
       rw (h .1 .0, ne-eqb (n % 256) 0 (λ z. code-some t (sym (h .1 .2) ∙ z)), fit-declared legible (n / 256) q xs ts (h .1 .1))
       (right-if (fitTys (sequence xs) ts) (n % 256) p (some t) (h .1 .2))
   invoke-settles a xs (Def s n q w) (found (isProcedure ts (t ∷ (u ∷ us))) b) h = absurd (h .1 .2)
+  invoke-settles a xs (Def s n q w) (found isControl b) h = rw (h .1 .0) wrong
 
   call-settles : (a : ℕ) (xs : List (Option Ty)) (f : Found) (g : names.Found) → Agrees l f g → Settled (foundBy l 27 a p f (map tyNum xs)) (named g (callOf 0 (sequence xs)) p) (none)
   unfolding namedBy
@@ -192,6 +200,39 @@ module _ {l : List ℕ} (legible : Legible l) (p : ℕ) where
       rw (h .1 .0, eq-eqb (n % 256) 0 (h .1 .2), fit-declared legible (n / 256) q xs ts (h .1 .1)) (right-if (fitTys (sequence xs) ts) (n % 256) p none (h .1 .2))
   call-settles a xs (Def s n q w) (found (isProcedure ts (t ∷ [])) b) h = rw (h .1 .0, ne-eqb (n % 256) 0 (λ z. code-some t (sym (h .1 .2) ∙ z))) wrong
   call-settles a xs (Def s n q w) (found (isProcedure ts (t ∷ (u ∷ us))) b) h = absurd (h .1 .2)
+  call-settles a xs (Def s n q w) (found isControl b) h = rw (h .1 .0) wrong
+
+-- ── control names ──
+-- what was found is a control name
+abbrev pub controlled : names.Found → Bool
+controlled nowhere = false
+controlled (found (isVariable t) b) = false
+controlled (found isLabel b) = false
+controlled (found (isClass ts) b) = false
+controlled (found (isField c t) b) = false
+controlled (found (isProcedure ts us) b) = false
+controlled (found isControl b) = true
+
+pub control-found : (l : List ℕ) (f : Found) (g : names.Found) → Agrees l f g → controls f ≡ controlled g
+control-found l Nothing nowhere h = refl
+control-found l Nothing (found t b) h = absurd h
+control-found l (Def s n q w) nowhere h = absurd h
+control-found l (Def s n q w) (found (isVariable t) b) h = rw (h .1 .0)
+control-found l (Def s n q w) (found isLabel b) h = rw (h .1)
+control-found l (Def s n q w) (found (isClass ts) b) h = rw (h .1 .0)
+control-found l (Def s n q w) (found (isField c t) b) h = ne-eqb s 8 (λ z. omega (arith, h .1 .0))
+control-found l (Def s n q w) (found (isProcedure ts us) b) h = rw (h .1 .0)
+control-found l (Def s n q w) (found isControl b) h = rw (h .1 .0)
+
+-- as a target a name has the faults that it has as an expression, and is at fault where it is a control name
+pub target-named : (g : names.Found) (p : ℕ) → named g assignableSort p ≡ faultIf (controlled g) 4 p ++ named g variableSort p
+target-named nowhere p = refl
+target-named (found (isVariable t) b) p = refl
+target-named (found isLabel b) p = refl
+target-named (found (isClass ts) b) p = refl
+target-named (found (isField c t) b) p = refl
+target-named (found (isProcedure ts us) b) p = refl
+target-named (found isControl b) p = refl
 
 joined : (x y : Bool) (n : ℕ) → ifBoth x y n ≡ ifBoth (x && y) true n
 joined true true n = refl
@@ -201,6 +242,16 @@ joined false y n = refl
 some-same : (u w : Option Ty) → sameTy u w ≡ true → ¬ (tyNum u ≡ 0)
 some-same none w e z = clash (cc)
 some-same (some t) w e z = code-some t z
+
+-- start, step and limit of a for
+pub counted-says : (t u w : Option Ty) (p : ℕ) → Says (countedBy p (map tyNum (t ∷ u ∷ w ∷ []))) (mistypedUnless (isTy integer t && (isTy integer u && isTy integer w)) p)
+counted-says t u w p = rw (is-number integer t, is-number integer u, is-number integer w) (go (eqb (tyNum t) 1) (eqb (tyNum u) 1) (eqb (tyNum w) 1) refl)
+  where
+    go : (x y z : Bool) → eqb (tyNum w) 1 ≡ z → Says (rightIf (eqb (ifBoth x y (tyNum w)) 1) 1 p) (mistypedUnless (x && (y && z)) p)
+    go true true true e = rw e
+    go true true false e = rw e ([], refl)
+    go true false z e = ([], refl)
+    go false y z e = ([], refl)
 
 -- a conditional, whose type is that of its branches
 choice : (x y : Bool) (u : Option Ty) (n p : ℕ) → (y ≡ true → ¬ (tyNum u ≡ 0)) → n ≡ ifBoth x true (ifBoth y true (tyNum u)) → Settled (rightIf (not (eqb n 0)) n p) (mistypedUnless (x && y) p) u

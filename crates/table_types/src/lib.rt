@@ -10,8 +10,8 @@ ghost use lib.ListN.{length, getD};
 ghost use lib.Dec.{eqb};
 ghost use mathlib.Core.Bool.{true};
 ghost use Rattle.table_scopes.specs.Environment.{envOf, find};
-ghost use Rattle.table_types.specs.Settle.{values, ifBoth, ifEither, operatedBy, typedBy, sameAll, typesAt, rightIf, aimedBy, calledBy, recordedBy, namedBy};
-ghost use Rattle.table_types.specs.Settle.{namesBy, settledBy, isLeaf, leafBy, Within, WithinCall, WithinRecord};
+ghost use Rattle.table_types.specs.Settle.{values, ifBoth, ifEither, operatedBy, typedBy, sameAll, typesAt, rightIf, hasValue, aimedBy, calledBy, recordedBy};
+ghost use Rattle.table_types.specs.Settle.{namedBy, namesBy, settledBy, countedBy, controls, isLeaf, leafBy, Within, WithinCall, WithinRecord};
 
 fn operand(env: &[u32], top: usize, i: usize, count: usize) -> u32
     requires { ⌜ 4 * (top + count) ≤ length (now env) ⌝ }
@@ -127,6 +127,13 @@ fn right_if(b: bool, t: u32, at: usize) -> Verdict
     }
 }
 
+// A variable, a parameter or a control name, by the sort.
+fn has_value(sort: u32) -> bool
+    ensures { λ r. ⌜ r ≡ hasValue sort ⌝ }
+{
+    if sort == 4 { true } else { sort == 8 }
+}
+
 // A goto, by the sort of what it names.
 fn aimed(sort: u32, wall: bool, at: usize) -> Verdict
     ensures { λ r. ⌜ r ≡ aimedBy sort wall at ⌝ }
@@ -233,7 +240,7 @@ fn named(
             top,
         ),
         kinds::NULL => right_if(sort == 6, 65536 + a, at),
-        kinds::VARIABLE => right_if(sort == 4, number, at),
+        kinds::VARIABLE => right_if(has_value(sort), number, at),
         kinds::FUNCTION => called(
             table,
             sort,
@@ -307,6 +314,30 @@ pub fn settle(
     }
 }
 
+// Start, step and limit of a for, whose types were found, are integers.
+pub fn counted(at: usize, env: &[u32], top: usize) -> Verdict
+    requires { ⌜ 4 * (top + 3) ≤ length (now env) ⌝ }
+    ensures { λ r. ⌜ r ≡ countedBy at (values 3 (envOf (now (env .entry)) (top + 3))) ⌝ }
+{
+    let t = if_both(
+        operand(env, top, 0, 3) == 1,
+        operand(env, top, 1, 3) == 1,
+        operand(env, top, 2, 3),
+    );
+    right_if(t == 1, 1, at)
+}
+
+// Whether a name is that of a for in sight, "an integer of the loop only", which "cannot be assigned".
+pub fn is_control(a: u32, env: &[u32], top: usize) -> bool
+    requires { ⌜ 4 * top ≤ length (now env) ⌝ }
+    ensures { λ r. ⌜ r ≡ controls (find a (envOf (now (env .entry)) top)) ⌝ }
+{
+    match table_scopes::find(env, top, a) {
+        Found::Nothing => false,
+        Found::Def(sort, _, _, _) => sort == 8,
+    }
+}
+
 // An expression with nothing below it.
 pub fn is_leaf(kind: u16) -> bool
     ensures { λ r. ⌜ r ≡ isLeaf kind ⌝ }
@@ -331,7 +362,7 @@ pub fn leaf(kind: u16, a: u32, at: usize, env: &[u32], top: usize) -> Verdict
             Found::Def(sort, number, _, _) => if kind == KIND_NULL {
                 right_if(sort == 6, 65536 + a, at)
             } else {
-                right_if(sort == 4, number, at)
+                right_if(has_value(sort), number, at)
             },
         },
     }

@@ -44,15 +44,16 @@ returns-5 c =
 returns-6 : tie.Need-returns-6
 unfolding leafBy
 returns-6 c =
-    let at-find = c .before .before .before .before .before in
+    let at-find = c .before .before .before .before .before .before in
     let at-match = at-find .before in
     rw (
       ne-eqb _ 40 (at-match .match .rest .0 .0 .1),
       ne-eqb _ 41 (at-match .match .rest .0 .1),
       ne-eqb _ 42 (at-match .match .rest .1),
       sym (at-find .find .ensures),
-      c .before .before .before .sort .given .1,
-      ne-eqb _ _ (c .before .if1 .left),
+      c .before .before .before .before .sort .given .1,
+      ne-eqb _ _ (c .before .before .if1 .left),
+      ← c .before .has-value .ensures,
     ) (c .right-if2 .ensures)
 
 pub leaf-spec : {M : Type 1} → statement M
@@ -63,6 +64,7 @@ leaf-spec =
     enum-told
     (λ c. search needs)
     (λ c. search needs)
+    (λ c κs. search needs)
     (λ c κs. search needs)
     (λ c κs. search needs)
     returns

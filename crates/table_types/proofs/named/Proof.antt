@@ -20,7 +20,7 @@ returns-3 c = rw (c .before .match .keys3) (c .right-if .ensures)
 
 returns-4 : tie.Need-returns-4
 unfolding namedBy
-returns-4 c = rw (c .before .match .keys4) (c .right-if2 .ensures)
+returns-4 c = rw (c .before .before .match .keys4, ← c .before .has-value .ensures) (c .right-if2 .ensures)
 
 returns-5 : tie.Need-returns-5
 unfolding namedBy
@@ -49,6 +49,7 @@ named-spec =
     (λ c κs. search needs)
     (λ c κs. search needs)
     (λ c. search needs)
+    (λ c κs. search needs)
     (λ c κs. search needs)
     (λ c κs. search needs)
     (λ c κs. search needs)

@@ -26,14 +26,15 @@ count-spec = tie.close (tie.spec
     (λ c. rw (c .match .keys9) (simp length-replicate))
     (λ c. rw (c .match .keys10))
     (λ c. rw (c .match .keys11) (simp length-replicate (omega arith)))
-    (λ c. rw (c .match .keys12) (simp length-replicate))
-    (λ c. rw (c .match .keys13))
-    (λ c. rw (c .match .keys14) (simp length-replicate))
-    (λ c. rw (c .match .keys15))
+    (λ c. rw (c .match .keys12))
+    (λ c. rw (c .match .keys13) (simp length-replicate))
+    (λ c. rw (c .match .keys14))
+    (λ c. rw (c .match .keys15) (simp length-replicate))
     (λ c. rw (c .match .keys16))
     (λ c. rw (c .match .keys17))
     (λ c. rw (c .match .keys18))
-    (λ c. rw (c .match .keys19) (simp (length-append, length-replicate) (omega arith)))
+    (λ c. rw (c .match .keys19))
+    (λ c. rw (c .match .keys20) (simp (length-append, length-replicate) (omega arith)))
     (λ c. let r = c .match .rest in simp (
       ne-eqb _ _ (r .1),
       ne-eqb _ _ (r .0 .1),
@@ -54,4 +55,5 @@ count-spec = tie.close (tie.spec
       ne-eqb _ _ (r .0 .0 .0 .0 .0 .0 .0 .0 .0 .0 .0 .0 .0 .0 .0 .0 .1),
       ne-eqb _ _ (r .0 .0 .0 .0 .0 .0 .0 .0 .0 .0 .0 .0 .0 .0 .0 .0 .0 .1),
       ne-eqb _ _ (r .0 .0 .0 .0 .0 .0 .0 .0 .0 .0 .0 .0 .0 .0 .0 .0 .0 .0 .1),
+      ne-eqb _ _ (r .0 .0 .0 .0 .0 .0 .0 .0 .0 .0 .0 .0 .0 .0 .0 .0 .0 .0 .0 .1),
     )))

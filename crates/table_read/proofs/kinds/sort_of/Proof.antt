@@ -7,7 +7,7 @@ use Prim.Native.Nat.{_/_, _%_}
 use lib.ListN.{replicate, getD-replicate, length-replicate}
 use Rattle.table_read.specs.declared.kinds.Sort.the-variants.{Typed, Decl, Part, Expr}
 use Rattle.table_read.specs.Operands.{sorts, bodySort}
-use Rattle.table_read.proofs.Sorts.{run-first, run-last, run-second, run-end, run-both, guards, later-one, others}
+use Rattle.table_read.proofs.Sorts.{run-first, run-last, run-second, run-end, run-both, guards, counts, later-one, others}
 use Rattle.table_read.proofs.kinds.sort_of.Statement.{statement}
 use Rattle.table_read.proofs.kinds.sort_of.Tie as tie
 
@@ -15,6 +15,7 @@ pub sort-of-spec : {M : Type 1} → statement M
 unfolding sorts
 sort-of-spec = tie.close (tie.spec
     (λ c. search needs)
+    (λ c κs. search needs)
     (λ c κs. search needs)
     (λ c κs. search needs)
     (λ c κs. search needs)
@@ -39,12 +40,13 @@ sort-of-spec = tie.close (tie.spec
     (λ c. rw (c .before .match .keys7) (c .guarded3 .ensures ∙ guards (c .before .before .args .i) 1 (rw (c .before .match .keys7) at (c .before .before .pre))))
     (λ c. rw (c .before .match .keys8) (c .guarded4 .ensures ∙ guards (c .before .before .args .i) (c .before .before .args .a)
     (rw (c .before .match .keys8, length-replicate) at (c .before .before .pre))))
-    (λ c. rw (c .before .match .keys9) (sym (run-first Decl Expr _ (c .before .before .args .a) (c .before .before .args .i) (c .if5 .taken))))
-    (λ c. rw (c .before .before .match .keys9) (sym (run-second Decl Part Expr (Expr ∷ []) (c .before .before .before .args .a)
+    (λ c. rw (c .before .match .keys9) (c .counted .ensures ∙ counts (c .before .before .args .i) (rw (c .before .match .keys9) at (c .before .before .pre))))
+    (λ c. rw (c .before .match .keys10) (sym (run-first Decl Expr _ (c .before .before .args .a) (c .before .before .args .i) (c .if5 .taken))))
+    (λ c. rw (c .before .before .match .keys10) (sym (run-second Decl Part Expr (Expr ∷ []) (c .before .before .before .args .a)
     (c .before .before .before .args .n) (c .before .before .before .args .i) (c .before .if5 .left) (c .if6 .taken))))
-    (λ c. rw (c .before .before .match .keys9) (sym (run-end Decl Part Expr Expr (c .before .before .before .args .a)
+    (λ c. rw (c .before .before .match .keys10) (sym (run-end Decl Part Expr Expr (c .before .before .before .args .a)
     (c .before .before .before .args .n) (c .before .before .before .args .i) (c .if6 .left)
-    (rw (c .before .before .match .keys9) at (c .before .before .before .pre)))))
+    (rw (c .before .before .match .keys10) at (c .before .before .before .pre)))))
     (λ c. let r = c .match .rest in sym (others (c .before .args .kind) (c .before .args .a) (c .before .args .n) (c .before .args .i)
-    (r .0 .0 .0 .0 .0 .0 .0 .0 .1) (r .0 .0 .0 .0 .0 .0 .0 .1) (r .0 .0 .0 .0 .0 .0 .1) (r .0 .0 .0 .0 .0 .1) (r .0 .0 .0 .0 .1) (r .0 .0 .0 .1)
+    (r .0 .0 .0 .0 .0 .0 .0 .0 .0 .1) (r .0 .0 .0 .0 .0 .0 .0 .0 .1) (r .0 .0 .0 .0 .0 .0 .0 .1) (r .0 .0 .0 .0 .0 .0 .1) (r .0 .0 .0 .0 .0 .1) (r .0 .0 .0 .0 .1) (r .0 .0 .0 .1)
     (r .0 .0 .1) (r .0 .1) (r .1))))

@@ -70,19 +70,19 @@ returns-15 c = rw (c .before .match .keys15) (cc (toZ-ofZ w32 _ (c .before .befo
 
 returns-16 : tie.Need-returns-16
 unfolding inLayout
-returns-16 c = rw (c .match .keys16)
+returns-16 c = rw (c .match .keys16) (cc (toZ-ofZ w32 _ (c .before .before .before .fits .b)))
 
 returns-17 : tie.Need-returns-17
 unfolding inLayout
-returns-17 c = rw (c .before .before .match .keys17) (cc (toZ-ofZ w32 _ (c .before .before .before .before .before .fits .b), within-top 1 (c .before .before .before .before .before .args .b)))
+returns-17 c = rw (c .match .keys17)
 
 returns-18 : tie.Need-returns-18
 unfolding inLayout
-returns-18 c = rw (c .match .keys18)
+returns-18 c = rw (c .before .before .match .keys18) (cc (toZ-ofZ w32 _ (c .before .before .before .before .before .fits .b), within-top 1 (c .before .before .before .before .before .args .b)))
 
 returns-19 : tie.Need-returns-19
 unfolding inLayout
-returns-19 c = rw (c .match .keys19) (cc (toZ-ofZ w32 _ (c .before .before .before .fits .b)))
+returns-19 c = rw (c .match .keys19)
 
 returns-20 : tie.Need-returns-20
 unfolding inLayout
@@ -102,7 +102,7 @@ returns-23 c = rw (c .match .keys23) (cc (toZ-ofZ w32 _ (c .before .before .befo
 
 returns-24 : tie.Need-returns-24
 unfolding inLayout
-returns-24 c = rw (c .before .before .match .keys24) (cc (toZ-ofZ w32 _ (c .before .before .before .before .before .fits .b)))
+returns-24 c = rw (c .match .keys24) (cc (toZ-ofZ w32 _ (c .before .before .before .fits .b)))
 
 returns-25 : tie.Need-returns-25
 unfolding inLayout
@@ -110,7 +110,7 @@ returns-25 c = rw (c .before .before .match .keys25) (cc (toZ-ofZ w32 _ (c .befo
 
 returns-26 : tie.Need-returns-26
 unfolding inLayout
-returns-26 c = rw (c .before .match .keys26) (cc (toZ-ofZ w32 _ (c .before .before .before .before .fits .b)))
+returns-26 c = rw (c .before .before .match .keys26) (cc (toZ-ofZ w32 _ (c .before .before .before .before .before .fits .b)))
 
 returns-27 : tie.Need-returns-27
 unfolding inLayout
@@ -118,11 +118,15 @@ returns-27 c = rw (c .before .match .keys27) (cc (toZ-ofZ w32 _ (c .before .befo
 
 returns-28 : tie.Need-returns-28
 unfolding inLayout
-returns-28 c = rw (c .match .keys28) (cc (toZ-ofZ w32 _ (c .before .before .before .fits .b)))
+returns-28 c = rw (c .before .match .keys28) (cc (toZ-ofZ w32 _ (c .before .before .before .before .fits .b)))
 
 returns-29 : tie.Need-returns-29
 unfolding inLayout
-returns-29 c =
+returns-29 c = rw (c .match .keys29) (cc (toZ-ofZ w32 _ (c .before .before .before .fits .b)))
+
+returns-30 : tie.Need-returns-30
+unfolding inLayout
+returns-30 c =
     let r = c .match .rest in simp (
       ne-eqb _ _ (r .1),
       ne-eqb _ _ (r .0 .1),
@@ -152,6 +156,7 @@ returns-29 c =
       ne-eqb _ _ (r .0 .0 .0 .0 .0 .0 .0 .0 .0 .0 .0 .0 .0 .0 .0 .0 .0 .0 .0 .0 .0 .0 .0 .0 .0 .1),
       ne-eqb _ _ (r .0 .0 .0 .0 .0 .0 .0 .0 .0 .0 .0 .0 .0 .0 .0 .0 .0 .0 .0 .0 .0 .0 .0 .0 .0 .0 .1),
       ne-eqb _ _ (r .0 .0 .0 .0 .0 .0 .0 .0 .0 .0 .0 .0 .0 .0 .0 .0 .0 .0 .0 .0 .0 .0 .0 .0 .0 .0 .0 .1),
+      ne-eqb _ _ (r .0 .0 .0 .0 .0 .0 .0 .0 .0 .0 .0 .0 .0 .0 .0 .0 .0 .0 .0 .0 .0 .0 .0 .0 .0 .0 .0 .0 .1),
     )
 
 pub in-layout-spec : {M : Type 1} → statement M
@@ -210,4 +215,5 @@ in-layout-spec =
     returns-26
     returns-27
     returns-28
-    returns-29)
+    returns-29
+    returns-30)

@@ -8,14 +8,15 @@ use Rattle.table_scopes.specs.Spared.{Spared}
 use Rattle.table_names.proofs.Spares.{spared-label, spared-one, spared-next, unspared}
 use native.Mathlib.Omega.{arith}
 use borrow.Author.Needs.{needs}
-use Rattle.table_forms.specs.Forms.{is-body, is-simple, is-block, is-guard, is-other}
+use Rattle.table_forms.specs.Forms.{is-body, is-simple, is-block, is-count, is-guard, is-other}
 use Rattle.table_forms.specs.Part.{asked}
 use Rattle.table_forms.specs.OperandList.{EsSoFar, es-start, es-asks, es-room, es-passes, es-stop, es-next, es-end}
 use Rattle.table_forms.specs.ItemList.{ItemsSoFar, items-start, items-asks, items-passes, items-stop, items-next, items-end}
 use Rattle.table_forms.specs.ByKind.{ask-as, answer-as, typed-as, typed-answer, label-answer, plain-form}
-use Rattle.table_forms.specs.Simple.{simple-asks, settle-asks, simple-stop, simple-judged}
+use Rattle.table_forms.specs.Simple.{simple-asks, settle-asks, simple-stop, simple-judged, simple-fixed, fixed-long}
 use Rattle.table_forms.specs.Leaf.{leaf-judged, leaf-small}
 use Rattle.table_forms.specs.Guard.{guard-asks, guard-passes, guard-stop, guard-items, guard-stop-2, guard-judged}
+use Rattle.table_forms.specs.Count.{count-asks, count-room, count-spans, count-fits, count-stop, count-inner, count-stop-2, count-judged}
 use Rattle.table_forms.specs.Block.{contents-stop, contents-judged, block-asks, block-contents, block-judged}
 use Rattle.table_forms.specs.Body.{body-asks, body-contents, body-stop, body-result, body-fits, body-judged}
 use Prim.Native.Nat.{ℕ, _+_, _-_, _*_, _<_}
@@ -23,56 +24,62 @@ use borrow.Fn.Kinds.{In}
 use borrow.Fn.PlainCycle.{Measures, is, falls, and}
 use Rattle.table_names.proofs.walkers.block.Reads as block
 use Rattle.table_names.proofs.walkers.block.Kinds as block-kinds
-use Rattle.table_names.proofs.walkers.+block+body+contents+expression+guarded+item+items+operand+operands+simple+statement.Lts-block as block-lts
+use Rattle.table_names.proofs.walkers.+block+body+contents+counted+expression+guarded+item+items+operand+operands+simple+statement.Lts-block as block-lts
 use Rattle.table_names.proofs.walkers.body.Reads as body
 use Rattle.table_names.proofs.walkers.body.Kinds as body-kinds
-use Rattle.table_names.proofs.walkers.+block+body+contents+expression+guarded+item+items+operand+operands+simple+statement.Lts-body as body-lts
+use Rattle.table_names.proofs.walkers.+block+body+contents+counted+expression+guarded+item+items+operand+operands+simple+statement.Lts-body as body-lts
 use Rattle.table_names.proofs.walkers.contents.Reads as contents
 use Rattle.table_names.proofs.walkers.contents.Kinds as contents-kinds
-use Rattle.table_names.proofs.walkers.+block+body+contents+expression+guarded+item+items+operand+operands+simple+statement.Lts-contents as contents-lts
+use Rattle.table_names.proofs.walkers.+block+body+contents+counted+expression+guarded+item+items+operand+operands+simple+statement.Lts-contents as contents-lts
+use Rattle.table_names.proofs.walkers.counted.Reads as counted
+use Rattle.table_names.proofs.walkers.counted.Kinds as counted-kinds
+use Rattle.table_names.proofs.walkers.+block+body+contents+counted+expression+guarded+item+items+operand+operands+simple+statement.Lts-counted as counted-lts
 use Rattle.table_names.proofs.walkers.expression.Reads as expression
 use Rattle.table_names.proofs.walkers.expression.Kinds as expression-kinds
-use Rattle.table_names.proofs.walkers.+block+body+contents+expression+guarded+item+items+operand+operands+simple+statement.Lts-expression as expression-lts
+use Rattle.table_names.proofs.walkers.+block+body+contents+counted+expression+guarded+item+items+operand+operands+simple+statement.Lts-expression as expression-lts
 use Rattle.table_names.proofs.walkers.guarded.Reads as guarded
 use Rattle.table_names.proofs.walkers.guarded.Kinds as guarded-kinds
-use Rattle.table_names.proofs.walkers.+block+body+contents+expression+guarded+item+items+operand+operands+simple+statement.Lts-guarded as guarded-lts
+use Rattle.table_names.proofs.walkers.+block+body+contents+counted+expression+guarded+item+items+operand+operands+simple+statement.Lts-guarded as guarded-lts
 use Rattle.table_names.proofs.walkers.item.Reads as item
 use Rattle.table_names.proofs.walkers.item.Kinds as item-kinds
-use Rattle.table_names.proofs.walkers.+block+body+contents+expression+guarded+item+items+operand+operands+simple+statement.Lts-item as item-lts
+use Rattle.table_names.proofs.walkers.+block+body+contents+counted+expression+guarded+item+items+operand+operands+simple+statement.Lts-item as item-lts
 use Rattle.table_names.proofs.walkers.items.Reads as items
 use Rattle.table_names.proofs.walkers.items.Kinds as items-kinds
-use Rattle.table_names.proofs.walkers.+block+body+contents+expression+guarded+item+items+operand+operands+simple+statement.Lts-items as items-lts
+use Rattle.table_names.proofs.walkers.+block+body+contents+counted+expression+guarded+item+items+operand+operands+simple+statement.Lts-items as items-lts
 use Rattle.table_names.proofs.walkers.operand.Reads as operand
 use Rattle.table_names.proofs.walkers.operand.Kinds as operand-kinds
-use Rattle.table_names.proofs.walkers.+block+body+contents+expression+guarded+item+items+operand+operands+simple+statement.Lts-operand as operand-lts
+use Rattle.table_names.proofs.walkers.+block+body+contents+counted+expression+guarded+item+items+operand+operands+simple+statement.Lts-operand as operand-lts
 use Rattle.table_names.proofs.walkers.operands.Reads as operands
 use Rattle.table_names.proofs.walkers.operands.Kinds as operands-kinds
-use Rattle.table_names.proofs.walkers.+block+body+contents+expression+guarded+item+items+operand+operands+simple+statement.Lts-operands as operands-lts
+use Rattle.table_names.proofs.walkers.+block+body+contents+counted+expression+guarded+item+items+operand+operands+simple+statement.Lts-operands as operands-lts
 use Rattle.table_names.proofs.walkers.simple.Reads as simple
 use Rattle.table_names.proofs.walkers.simple.Kinds as simple-kinds
-use Rattle.table_names.proofs.walkers.+block+body+contents+expression+guarded+item+items+operand+operands+simple+statement.Lts-simple as simple-lts
+use Rattle.table_names.proofs.walkers.+block+body+contents+counted+expression+guarded+item+items+operand+operands+simple+statement.Lts-simple as simple-lts
 use Rattle.table_names.proofs.walkers.statement.Reads as statement′
 use Rattle.table_names.proofs.walkers.statement.Kinds as statement-kinds
-use Rattle.table_names.proofs.walkers.+block+body+contents+expression+guarded+item+items+operand+operands+simple+statement.Lts-statement as statement-lts
+use Rattle.table_names.proofs.walkers.+block+body+contents+counted+expression+guarded+item+items+operand+operands+simple+statement.Lts-statement as statement-lts
 use Rattle.table_entries.proofs.a_at.Reads as a-at-reads
 use Rattle.table_entries.proofs.b_at.Reads as b-at-reads
 use Rattle.table_entries.proofs.kind_at.Reads as kind-at-reads
 use Rattle.table_names.proofs.walkers.guarded_of.Reads as guarded-of-reads
+use Rattle.table_names.proofs.walkers.is_fixed.Reads as is-fixed-reads
 use Rattle.table_names.proofs.walkers.is_plain.Reads as is-plain-reads
 use Rattle.table_names.proofs.walkers.is_spared.Reads as is-spared-reads
 use Rattle.table_names.proofs.walkers.operands_of.Reads as operands-of-reads
 use Rattle.table_names.proofs.walkers.tested.Reads as tested-reads
 use Rattle.table_scopes.proofs.push.Reads as push-reads
+use Rattle.table_scopes.proofs.enter_loop.Reads as enter-loop-reads
 use Rattle.table_scopes.proofs.open.Reads as open-reads
 use Rattle.table_scopes.proofs.head.Reads as head-reads
 use Rattle.table_scopes.proofs.once.Reads as once-reads
 use Rattle.table_scopes.proofs.size_at.Reads as size-at-reads
 use Rattle.table_scopes.proofs.spanned.Reads as spanned-reads
+use Rattle.table_types.proofs.counted.Reads as counted-reads
 use Rattle.table_types.proofs.is_leaf.Reads as is-leaf-reads
 use Rattle.table_types.proofs.leaf.Reads as leaf-reads
 use Rattle.table_types.proofs.settle.Reads as settle-reads
-use Rattle.table_names.proofs.walkers.+block+body+contents+expression+guarded+item+items+operand+operands+simple+statement.{statement}
-use Rattle.table_names.proofs.walkers.+block+body+contents+expression+guarded+item+items+operand+operands+simple+statement.Tie.{close}
+use Rattle.table_names.proofs.walkers.+block+body+contents+counted+expression+guarded+item+items+operand+operands+simple+statement.{statement}
+use Rattle.table_names.proofs.walkers.+block+body+contents+counted+expression+guarded+item+items+operand+operands+simple+statement.Tie.{close}
 
 abbrev μ-block : Measures 4 block-kinds.ps ℕ
 μ-block κs a = 5 * a .1 .1 .0
@@ -82,6 +89,9 @@ abbrev μ-body : Measures 4 body-kinds.ps ℕ
 
 abbrev μ-contents : Measures 4 contents-kinds.ps ℕ
 μ-contents κs a = 5 * a .1 .1 .1 .1 .0 + 4
+
+abbrev μ-counted : Measures 4 counted-kinds.ps ℕ
+μ-counted κs a = 5 * a .1 .1 .0
 
 abbrev μ-expression : Measures 4 expression-kinds.ps ℕ
 μ-expression κs a = 5 * a .1 .1 .0 + 1
@@ -125,6 +135,12 @@ contents-at t = and 4 contents-kinds.ps (is 4 contents-kinds.ps μ-contents t) c
 
 abbrev contents-below : ℕ → In 4 contents-kinds.ps
 contents-below t = and 4 contents-kinds.ps (falls 4 contents-kinds.ps _<_ μ-contents t) contents.Pre
+
+abbrev counted-at : ℕ → In 4 counted-kinds.ps
+counted-at t = and 4 counted-kinds.ps (is 4 counted-kinds.ps μ-counted t) counted.Pre
+
+abbrev counted-below : ℕ → In 4 counted-kinds.ps
+counted-below t = and 4 counted-kinds.ps (falls 4 counted-kinds.ps _<_ μ-counted t) counted.Pre
 
 abbrev expression-at : ℕ → In 4 expression-kinds.ps
 expression-at t = and 4 expression-kinds.ps (is 4 expression-kinds.ps μ-expression t) expression.Pre
@@ -498,6 +514,95 @@ contents-meets t = contents-lts.spec (head-reads.Asked, head-reads.Learnt, items
     (λ c. search needs)
     -- returns-2
     (λ c. contents-stop (c .before .before .before .head .ensures) _ _ (c .before .k .given .1))
+
+counted-meets : {M : Type 1} (t : ℕ) → counted-lts.Closed (a-at-reads.Asked, a-at-reads.Learnt, operands-below t, operands.Post, counted-reads.Asked, counted-reads.Learnt, spanned-reads.Asked, spanned-reads.Learnt, enter-loop-reads.Asked, enter-loop-reads.Learnt, statement-below t, statement′.Post) (counted-at t) counted.Post M
+counted-meets t = counted-lts.spec (a-at-reads.Asked, a-at-reads.Learnt, operands-below t, operands.Post, counted-reads.Asked, counted-reads.Learnt, spanned-reads.Asked, spanned-reads.Learnt, enter-loop-reads.Asked, enter-loop-reads.Learnt, statement-below t, statement′.Post) (counted-at t) counted.Post
+    -- a-at-requires
+    (λ c κs. omega (arith, asked (c .before .before .before .before .pre .1) .long))
+    -- sub-operands
+    (λ c. omega (arith, asked (c .before .before .before .before .before .pre .1) .long))
+    -- part-operands-start
+    (λ c. omega (arith, asked (c .before .before .before .before .before .pre .1) .long))
+    -- part-operands-end
+    (λ c. search needs)
+    -- sub-operands-2
+    (λ c. omega (arith, asked (c .before .before .before .before .before .before .pre .1) .nested))
+    -- add-operands
+    (λ c. omega (arith, asked (c .before .before .before .before .before .before .pre .1) .small))
+    -- operands-requires
+    (λ c κs. (omega (arith, asked (c .before .before .before .before .before .before .before .pre .1) .nested), count-asks (c .before .before .before .before .before .before .before .pre .1)))
+    -- enum-told
+    (λ c. search needs)
+    -- counted-requires
+    (λ c κs. omega (arith, count-room (c .before .before .before .before .before .before .before .before .before .before .before .before .before .pre .1), c .before .before .before .before .before .operands .ensures .same))
+    -- add-spanned
+    (λ c. omega (arith, asked (c .before .before .before .before .before .before .before .before .before .before .before .before .before .before .pre .1) .small))
+    -- spanned-requires
+    (λ c κs. count-spans (c .before .before .before .before .before .before .before .before .before .before .before .before .before .before .pre .1))
+    -- add-from
+    (λ c. omega (arith, count-fits (c .before .before .before .before .before .before .before .before .before .before .before .before .before .before .before .pre .1) (c .spanned .result) (c .spanned .ensures)))
+    -- mul-from
+    (λ c. omega (arith, count-fits (c .before .before .before .before .before .before .before .before .before .before .before .before .before .before .before .pre .1) (c .spanned .result) (c .spanned .ensures)))
+    -- cast-enter-loop
+    (λ c. search needs)
+    -- enter-loop-requires
+    (λ c κs. (omega (arith, asked (c .before .before .before .before .before .before .before .before .before .before .before .before .before .before .before .before .pre .1) .small), omega (arith, count-room (c .before .before .before .before .before .before .before .before .before .before .before .before .before .before .before .before .pre .1), c .before .before .before .before .before .before .before .before .operands .ensures .same)))
+    -- sub-statement
+    (λ c. count-fits (c .before .before .before .before .before .before .before .before .before .before .before .before .before .before .before .before .before .before .before .pre .1) (c .before .before .before .before .spanned .result) (c .before .before .before .before .spanned .ensures) .0)
+    -- part-statement-start
+    (λ c. count-fits (c .before .before .before .before .before .before .before .before .before .before .before .before .before .before .before .before .before .before .before .pre .1) (c .before .before .before .before .spanned .result) (c .before .before .before .before .spanned .ensures) .0)
+    -- part-statement-end
+    (λ c. search needs)
+    -- sub-statement-2
+    (λ c. omega (arith, asked (c .before .before .before .before .before .before .before .before .before .before .before .before .before .before .before .before .before .before .before .before .pre .1) .nested))
+    -- add-statement
+    (λ c. omega (arith, asked (c .before .before .before .before .before .before .before .before .before .before .before .before .before .before .before .before .before .before .before .before .pre .1) .small))
+    -- add-statement-2
+    (λ c. omega (arith, count-fits (c .before .before .before .before .before .before .before .before .before .before .before .before .before .before .before .before .before .before .before .before .pre .1) (c .before .before .before .before .before .spanned .result) (c .before .before .before .before .before .spanned .ensures)))
+    -- statement-requires
+    (λ c κs. 
+    let at-loop = c .before .before .before .before in
+    let at-spanned = at-loop .before .before in
+    let at-told = at-spanned .before .before .before in
+    let at-operands = at-told .before .before .before .before in
+    let at-a = at-operands .before .before .before in
+    let at-start = at-a .before .before .before .before .before in
+    (omega (arith, asked (at-start .pre .1) .nested), count-inner (at-operands .operands .ensures) _ (at-spanned .spanned .result) (at-told .enum-told .given .1) (at-spanned .spanned .ensures)
+    (rw (at-a .a-at .ensures) at (at-loop .enter-loop .ensures)) (at-start .pre .1)))
+    -- enum-told-2
+    (λ c. search needs)
+    -- enum-known-k
+    (λ c. search needs)
+    -- enum-known-k-2
+    (λ c. search needs)
+    -- same-length
+    (λ c. search needs)
+    -- returns
+    (λ c. 
+    let at-loop = c .before .before .before .before .before .before .before .before .before in
+    let at-spanned = at-loop .before .before in
+    let at-told = at-spanned .before .before .before in
+    let at-operands = at-told .before .before .before .before in
+    let at-a = at-operands .before .before .before in
+    count-judged (at-operands .operands .ensures) _ (at-spanned .spanned .result) (at-told .enum-told .given .1) (at-spanned .spanned .ensures)
+    (rw (at-a .a-at .ensures) at (at-loop .enter-loop .ensures))
+    (c .before .before .before .before .statement .ensures) _ (c .enum-told2 .given .1) (at-spanned .before .counted .ensures))
+    -- same-length-2
+    (λ c. search needs)
+    -- returns-2
+    (λ c. 
+    let at-loop = c .before .before .before .before .before .before .before .before .before .before in
+    let at-spanned = at-loop .before .before in
+    let at-told = at-spanned .before .before .before in
+    let at-operands = at-told .before .before .before .before in
+    let at-a = at-operands .before .before .before in
+    count-stop-2 (at-operands .operands .ensures) _ (at-spanned .spanned .result) (at-told .enum-told .given .1) (at-spanned .spanned .ensures)
+    (rw (at-a .a-at .ensures) at (at-loop .enter-loop .ensures))
+    (c .before .before .before .before .before .statement .ensures) _ _ (c .before .k .given .1))
+    -- same-length-3
+    (λ c. search needs)
+    -- returns-3
+    (λ c. count-stop (c .before .before .before .before .before .operands .ensures) _ _ (c .before .k2 .given .1))
 
 expression-meets : {M : Type 1} (t : ℕ) → expression-lts.Closed (kind-at-reads.Asked, kind-at-reads.Learnt, body-below t, body.Post, simple-below t, simple.Post) (expression-at t) expression.Post M
 expression-meets t = expression-lts.spec (kind-at-reads.Asked, kind-at-reads.Learnt, body-below t, body.Post, simple-below t, simple.Post) (expression-at t) expression.Post
@@ -997,6 +1102,8 @@ simple-meets : {M : Type 1} (t : ℕ) → simple-lts.Closed (
   kind-at-reads.Learnt,
   a-at-reads.Asked,
   a-at-reads.Learnt,
+  is-fixed-reads.Asked,
+  is-fixed-reads.Learnt,
   b-at-reads.Asked,
   b-at-reads.Learnt,
   operands-of-reads.Asked,
@@ -1012,6 +1119,8 @@ simple-meets t =
       kind-at-reads.Learnt,
       a-at-reads.Asked,
       a-at-reads.Learnt,
+      is-fixed-reads.Asked,
+      is-fixed-reads.Learnt,
       b-at-reads.Asked,
       b-at-reads.Learnt,
       operands-of-reads.Asked,
@@ -1025,25 +1134,33 @@ simple-meets t =
     (λ c κs. omega (arith, asked (c .before .before .before .before .pre .1) .long))
     -- a-at-requires
     (λ c κs. omega (arith, asked (c .before .before .before .before .before .pre .1) .long))
+    -- is-fixed-requires
+    (λ c κs. (c .before .before .kind-at .ensures, fixed-long (c .before .before .before .before .before .before .before .pre .1), asked (c .before .before .before .before .before .before .before .pre .1) .room))
+    -- add-t16
+    (λ c. omega (arith, asked (c .before .before .before .before .before .before .before .before .before .pre .1) .small))
+    -- same-length
+    (λ c. search needs)
+    -- returns
+    (λ c. simple-fixed (sym (c .before .is-fixed .ensures) ∙ c .if1 .taken))
     -- b-at-requires
-    (λ c κs. omega (arith, asked (c .before .before .before .before .before .before .pre .1) .long))
+    (λ c κs. omega (arith, asked (c .before .before .before .before .before .before .before .before .before .pre .1) .long))
     -- operands-of-requires
     (λ c κs. search needs)
     -- sub-operands
-    (λ c. omega (arith, asked (c .before .before .before .before .before .before .before .before .pre .1) .long))
+    (λ c. omega (arith, asked (c .before .before .before .before .before .before .before .before .before .before .before .pre .1) .long))
     -- part-operands-start
-    (λ c. omega (arith, asked (c .before .before .before .before .before .before .before .before .pre .1) .long))
+    (λ c. omega (arith, asked (c .before .before .before .before .before .before .before .before .before .before .before .pre .1) .long))
     -- part-operands-end
     (λ c. search needs)
     -- sub-operands-2
-    (λ c. omega (arith, asked (c .before .before .before .before .before .before .before .before .before .pre .1) .nested))
+    (λ c. omega (arith, asked (c .before .before .before .before .before .before .before .before .before .before .before .before .pre .1) .nested))
     -- add-operands
-    (λ c. omega (arith, asked (c .before .before .before .before .before .before .before .before .before .pre .1) .small))
+    (λ c. omega (arith, asked (c .before .before .before .before .before .before .before .before .before .before .before .before .pre .1) .small))
     -- operands-requires
     (λ c κs.
     let at-count = c .before .before in
     let at-b = at-count .before in
-    let at-kind = at-b .before .before in
+    let at-kind = at-b .before .before .before .before .before in
     let at-start = at-kind .before .before .before .before .before in (
       omega (arith, asked (at-start .pre .1) .nested),
       simple-asks (at-count .operands-of .result)
@@ -1059,7 +1176,7 @@ simple-meets t =
     (λ c κs.
     let at-count = c .before .before .before .before .before .before .before .before in
     let at-b = at-count .before in
-    let at-a = at-b .before in
+    let at-a = at-b .before .before .before .before in
     let at-kind = at-a .before in
     let at-start = at-kind .before .before .before .before .before in
     rw (at-a .a-at .ensures) (settle-asks (at-count .operands-of .result)
@@ -1067,26 +1184,27 @@ simple-meets t =
     (c .before .before .before .before .before .operands .ensures) (at-start .pre .1)))
     -- enum-known-n
     (λ c. search needs)
-    -- same-length
-    (λ c. search needs)
-    -- returns
-    (λ c.
-    let at-count = c .before .before .before .before .before .before .before .before .before in
-    let at-b = at-count .before in
-    let at-a = at-b .before in
-    let at-kind = at-a .before in
-    simple-judged (at-count .operands-of .result) (at-count .operands-of .ensures ∙ rw (at-kind .kind-at .ensures, at-b .b-at .ensures))
-    (c .before .before .before .before .before .before .operands .ensures) _ (c .before .before .enum-told .given .1)
-    (c .settle .ensures ∙ rw (at-kind .kind-at .ensures, at-a .a-at .ensures)))
     -- same-length-2
     (λ c. search needs)
     -- returns-2
     (λ c.
+    let at-count = c .before .before .before .before .before .before .before .before .before in
+    let at-b = at-count .before in
+    let at-a = at-b .before .before .before .before in
+    let at-kind = at-a .before in
+    simple-judged (at-count .operands-of .result) (at-count .operands-of .ensures ∙ rw (at-kind .kind-at .ensures, at-b .b-at .ensures))
+    (c .before .before .before .before .before .before .operands .ensures) (sym (at-b .before .before .is-fixed .ensures) ∙ at-b .before .if1 .left)
+    _ (c .before .before .enum-told .given .1)
+    (c .settle .ensures ∙ rw (at-kind .kind-at .ensures, at-a .a-at .ensures)))
+    -- same-length-3
+    (λ c. search needs)
+    -- returns-3
+    (λ c.
     let at-count = c .before .before .before .before .before .before .before .before in
     let at-b = at-count .before in
-    let at-kind = at-b .before .before in
+    let at-kind = at-b .before .before .before .before .before in
     simple-stop (at-count .operands-of .result) (at-count .operands-of .ensures ∙ rw (at-kind .kind-at .ensures, at-b .b-at .ensures))
-    (c .before .before .before .before .before .operands .ensures) _ _ (c .before .n .given .1))
+    (c .before .before .before .before .before .operands .ensures) (sym (at-b .before .before .is-fixed .ensures) ∙ at-b .before .if1 .left) _ _ (c .before .n .given .1))
 
 statement-meets : {M : Type 1} (t : ℕ) → statement-lts.Closed (
   kind-at-reads.Asked,
@@ -1099,6 +1217,8 @@ statement-meets : {M : Type 1} (t : ℕ) → statement-lts.Closed (
   once-reads.Learnt,
   guarded-below t,
   guarded.Post,
+  counted-below t,
+  counted.Post,
   simple-below t,
   simple.Post,
 ) (statement-at t) statement′.Post M
@@ -1114,6 +1234,8 @@ statement-meets t =
       once-reads.Learnt,
       guarded-below t,
       guarded.Post,
+      counted-below t,
+      counted.Post,
       simple-below t,
       simple.Post,
     ) (statement-at t) statement′.Post
@@ -1135,30 +1257,37 @@ statement-meets t =
     (λ c κs. (
       omega arith,
       ask-as (λ f h e. is-guard f 22 h (sym e ∙ (sym (c .before .before .kind-at .ensures) ∙ c .before .match .keys3)) refl
-          (λ z. omega arith) (λ z. omega arith)) (c .before .before .before .before .before .before .before .pre .1),
+          (λ z. omega arith) (λ z. omega arith) (λ z. omega arith)) (c .before .before .before .before .before .before .before .pre .1),
     ))
     -- guarded-requires-2
     (λ c κs. (
       omega arith,
       ask-as (λ f h e. is-guard f 23 h (sym e ∙ (sym (c .before .before .kind-at .ensures) ∙ c .before .match .keys4)) refl
-          (λ z. omega arith) (λ z. omega arith)) (c .before .before .before .before .before .before .before .pre .1),
+          (λ z. omega arith) (λ z. omega arith) (λ z. omega arith)) (c .before .before .before .before .before .before .before .pre .1),
     ))
     -- guarded-requires-3
     (λ c κs. (
       omega arith,
       ask-as (λ f h e. is-guard f 24 h (sym e ∙ (sym (c .before .before .kind-at .ensures) ∙ c .before .match .keys5)) refl
-          (λ z. omega arith) (λ z. omega arith)) (c .before .before .before .before .before .before .before .pre .1),
+          (λ z. omega arith) (λ z. omega arith) (λ z. omega arith)) (c .before .before .before .before .before .before .before .pre .1),
     ))
     -- guarded-requires-4
     (λ c κs. (
       omega arith,
       ask-as (λ f h e. is-guard f 30 h (sym e ∙ (sym (c .before .before .kind-at .ensures) ∙ c .before .match .keys6)) refl
-          (λ z. omega arith) (λ z. omega arith)) (c .before .before .before .before .before .before .before .pre .1),
+          (λ z. omega arith) (λ z. omega arith) (λ z. omega arith)) (c .before .before .before .before .before .before .before .pre .1),
+    ))
+    -- counted-requires
+    (λ c κs. (
+      omega arith,
+      ask-as (λ f h e. is-count f h (sym e ∙ (sym (c .before .before .kind-at .ensures) ∙ c .before .match .keys7)))
+          (c .before .before .before .before .before .before .before .pre .1),
     ))
     -- simple-requires
     (λ c κs. (
       omega arith,
-      ask-as (λ f h e. is-other f h (λ z. c .before .match .rest .0 .0 .0 .0 .0 .1 (c .before .before .kind-at .ensures ∙ e ∙ z))
+      ask-as (λ f h e. is-other f h (λ z. c .before .match .rest .0 .0 .0 .0 .0 .0 .1 (c .before .before .kind-at .ensures ∙ e ∙ z))
+          (λ z. c .before .match .rest .0 .0 .0 .0 .0 .1 (c .before .before .kind-at .ensures ∙ e ∙ z))
           (λ z. c .before .match .rest .0 .0 .0 .0 .1 (c .before .before .kind-at .ensures ∙ e ∙ z))
           (λ z. c .before .match .rest .0 .0 .0 .1 (c .before .before .kind-at .ensures ∙ e ∙ z))
           (λ z. c .before .match .rest .0 .0 .1 (c .before .before .kind-at .ensures ∙ e ∙ z))
@@ -1178,27 +1307,33 @@ statement-meets t =
     (λ c. search needs)
     -- returns-3
     (λ c. answer-as (λ f h e. is-guard f 22 h (sym e ∙ (sym (c .before .before .before .before .before .kind-at .ensures)
-    ∙ c .before .before .before .before .match .keys3)) refl (λ z. omega arith) (λ z. omega arith)) (c .before .before .guarded .ensures))
+    ∙ c .before .before .before .before .match .keys3)) refl (λ z. omega arith) (λ z. omega arith) (λ z. omega arith)) (c .before .before .guarded .ensures))
     -- same-length-4
     (λ c. search needs)
     -- returns-4
     (λ c. answer-as (λ f h e. is-guard f 23 h (sym e ∙ (sym (c .before .before .before .before .before .kind-at .ensures)
-    ∙ c .before .before .before .before .match .keys4)) refl (λ z. omega arith) (λ z. omega arith)) (c .before .before .guarded2 .ensures))
+    ∙ c .before .before .before .before .match .keys4)) refl (λ z. omega arith) (λ z. omega arith) (λ z. omega arith)) (c .before .before .guarded2 .ensures))
     -- same-length-5
     (λ c. search needs)
     -- returns-5
     (λ c. answer-as (λ f h e. is-guard f 24 h (sym e ∙ (sym (c .before .before .before .before .before .kind-at .ensures)
-    ∙ c .before .before .before .before .match .keys5)) refl (λ z. omega arith) (λ z. omega arith)) (c .before .before .guarded3 .ensures))
+    ∙ c .before .before .before .before .match .keys5)) refl (λ z. omega arith) (λ z. omega arith) (λ z. omega arith)) (c .before .before .guarded3 .ensures))
     -- same-length-6
     (λ c. search needs)
     -- returns-6
     (λ c. answer-as (λ f h e. is-guard f 30 h (sym e ∙ (sym (c .before .before .before .before .before .kind-at .ensures)
-    ∙ c .before .before .before .before .match .keys6)) refl (λ z. omega arith) (λ z. omega arith)) (c .before .before .guarded4 .ensures))
+    ∙ c .before .before .before .before .match .keys6)) refl (λ z. omega arith) (λ z. omega arith) (λ z. omega arith)) (c .before .before .guarded4 .ensures))
     -- same-length-7
     (λ c. search needs)
     -- returns-7
-    (λ c. typed-answer (λ f h e. is-other f h (λ z. c .before .before .before .before .match .rest .0 .0 .0 .0 .0 .1
+    (λ c. answer-as (λ f h e. is-count f h (sym e ∙ (sym (c .before .before .before .before .before .kind-at .ensures)
+    ∙ c .before .before .before .before .match .keys7))) (c .before .before .counted .ensures))
+    -- same-length-8
+    (λ c. search needs)
+    -- returns-8
+    (λ c. typed-answer (λ f h e. is-other f h (λ z. c .before .before .before .before .match .rest .0 .0 .0 .0 .0 .0 .1
     (c .before .before .before .before .before .kind-at .ensures ∙ e ∙ z))
+    (λ z. c .before .before .before .before .match .rest .0 .0 .0 .0 .0 .1 (c .before .before .before .before .before .kind-at .ensures ∙ e ∙ z))
     (λ z. c .before .before .before .before .match .rest .0 .0 .0 .0 .1 (c .before .before .before .before .before .kind-at .ensures ∙ e ∙ z))
     (λ z. c .before .before .before .before .match .rest .0 .0 .0 .1 (c .before .before .before .before .before .kind-at .ensures ∙ e ∙ z))
     (λ z. c .before .before .before .before .match .rest .0 .0 .1 (c .before .before .before .before .before .kind-at .ensures ∙ e ∙ z))
@@ -1206,7 +1341,7 @@ statement-meets t =
     (λ z. c .before .before .before .before .match .rest .1 (c .before .before .before .before .before .kind-at .ensures ∙ e ∙ z)))
     (c .before .before .simple .ensures))
 
-pub +block+body+contents+expression+guarded+item+items+operand+operands+simple+statement-spec : {M : Type 1} → statement M
-+block+body+contents+expression+guarded+item+items+operand+operands+simple+statement-spec =
-    close μ-block μ-body μ-contents μ-expression μ-guarded μ-item μ-items μ-operand μ-operands μ-simple μ-statement block-meets body-meets
-    contents-meets expression-meets guarded-meets item-meets items-meets operand-meets operands-meets simple-meets statement-meets
+pub +block+body+contents+counted+expression+guarded+item+items+operand+operands+simple+statement-spec : {M : Type 1} → statement M
++block+body+contents+counted+expression+guarded+item+items+operand+operands+simple+statement-spec =
+    close μ-block μ-body μ-contents μ-counted μ-expression μ-guarded μ-item μ-items μ-operand μ-operands μ-simple μ-statement block-meets body-meets
+    contents-meets counted-meets expression-meets guarded-meets item-meets items-meets operand-meets operands-meets simple-meets statement-meets
