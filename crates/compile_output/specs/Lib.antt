@@ -1,2 +1,3 @@
 pub mod EmitRecord
 pub mod EmitCode
+pub mod Rows

@@ -1,5 +1,9 @@
 // The cursor: where the next instruction and the next shape go in the output. A dry one writes nothing: it only counts, so that one walk serves to measure and to write.
+mod loops;
+
 use formats::compiled::*;
+pub use loops::enter_turns;
+pub use loops::leave_turn;
 ghost use mathlib.Core.Path.{_≡_};
 ghost use mathlib.Core.Bool.{true, false};
 ghost use Prim.Native.Nat.{_+_, _≤_, _<_};
