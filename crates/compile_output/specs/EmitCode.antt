@@ -2,7 +2,7 @@
 use mathlib.Core.Path.{_≡_, refl, ap, sym, _∙_}
 use mathlib.Core.Bool.{Bool, true, false}
 use mathlib.Core.List.{List, map, reverse}
-use Prim.Native.Nat.{ℕ, zero, suc, _-_, _≤_}
+use Prim.Native.Nat.{ℕ, zero, suc, _-_, _≤_, _<_}
 use native.Mathlib.Omega.{arith}
 use lib.ListN.{length, take}
 use lib.Seq.{sets, length-sets}
@@ -135,6 +135,10 @@ fits-before {p} {q} n h f = record {
   address-small = omega arith;
   room = λ d. let r = f .room (h .same-dry ∙ d) in (omega (arith, r), omega (arith, r));
 }
+
+-- the address before a part that fits
+pub address-small : (x : Code) (p : Cursor) (n : ℕ) → Fits (cursorAfter x p) n → p .address < 65536
+address-small x p n f = fits-before n (grows x p) f .address-small
 
 -- ── releases, as the loop takes them ──
 pub lets-step : (n : ℕ) → 1 ≤ n → lets n ≡ op letHold ▸ lets (n - 1)

@@ -1,3 +1,4 @@
 pub mod EmitRecord
 pub mod EmitCode
 pub mod Rows
+pub mod LoopRows

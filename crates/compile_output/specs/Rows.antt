@@ -8,6 +8,7 @@ use lib.Dec.{eqb, leb}
 use lib.ListN.{length, getD}
 use borrow.Author.Tests.{eqb-true, eqb-false, leb-true, leb-false}
 use Rattle.logic.specs.Choice.{if_then_else_}
+use Rattle.compile_code.specs.Code.{ahead}
 use Rattle.compile_output.specs.declared.Cursor.{Cursor}
 use Rattle.compile_output.specs.EmitRecord.{moved, cursorShaped, emitOp, emitShape, Fits, length-emit, length-shape}
 use Rattle.compile_output.specs.EmitCode.{Later, later-self, later-trans, later-moved, later-shaped, fits-before}
@@ -29,8 +30,8 @@ offsetIn r = r % 256
 -- b: counted from the cell c, or from the address x where the pattern begins; the address z behind the loop; or a number
 abbrev pub numberIn : ℕ → ℕ → ℕ → ℕ → ℕ
 numberIn c x z r =
-    if eqb (baseIn r) 1 then c + offsetIn r else
-    if eqb (baseIn r) 2 then x + offsetIn r else
+    if eqb (baseIn r) 1 then ahead (offsetIn r) c else
+    if eqb (baseIn r) 2 then ahead (offsetIn r) x else
     if eqb (baseIn r) 3 then z else
     if eqb (baseIn r) 4 then 2147483647 else
     if eqb (baseIn r) 5 then 2147483648 else
@@ -53,6 +54,10 @@ emitRows t zero h d ts c x z p l = l
 emitRows t (suc n) h d ts c x z p l = emitRow h d ts (numberIn c x z (getD t n 0)) (getD t n 0) (cursorRows t n d p) (emitRows t n h d ts c x z p l)
 
 -- ── laws ──
+pub ahead-sum : (n a : ℕ) → a + n ≡ ahead n a
+ahead-sum zero a = omega arith
+ahead-sum (suc n) a = let q = ahead-sum n a in omega (arith, q)
+
 later-row : (d r : ℕ) (p : Cursor) → Later p (cursorRow d r p)
 later-row d r p = by (eqb (opIn r) 255)
   where
