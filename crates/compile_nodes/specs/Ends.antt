@@ -2,10 +2,10 @@
 use mathlib.Core.List.{List, [], _∷_, _++_}
 use Prim.Native.Nat.{ℕ, suc}
 use Rattle.values.specs.Types.{Ty, logical}
-use Rattle.language.specs.Tree.{Decl, declare, holding, Stmt, block, assign, when, choose, while, goto, assert, call, setLevel, select, Items, noItem, label, item}
+use Rattle.language.specs.Tree.{Decl, declare, holding, Stmt, block, assign, when, choose, while, goto, assert, call, setLevel, select, for, Items, noItem, label, item}
 use Rattle.language.specs.Tree.{Arms, lastArm, arm, Target, toVariable, toField, Expr, number, truth, pattern, null, variable, invoke, field, make, operate1, operate2}
 use Rattle.language.specs.Tree.{conditional, fader, blockExpr, Exprs, noExpr, expr, Global}
-use Rattle.language.specs.Names.{blockOf, expressionOf}
+use Rattle.language.specs.Names.{blockOf, expressionOf, loopOf}
 use Rattle.language.specs.Faults.{typeE, isTy}
 use Rattle.compile_code.specs.Code.{Code, At, at, skip, after}
 use Rattle.compile_code.specs.Compile.{Around, inside, bound, held, labels, scopesOf, Way, plainly, marked, ifTrue, ifFalse, wayOf, codeS, codeItems, codeTarget, codeE, tyE, tyTarget}
@@ -72,6 +72,12 @@ module _ (gs : List Global) where
     belowS (select e r) Γ st p =
         let q = at (p .address) (suc (p .cell)) in let x = codeE gs e Γ st q in
         ending x q (belowE e Γ st q) ++ endsArms r Γ st (skip 1 (after x q))
+    belowS (for a e f g s) Γ st p =
+        let q = at (p .address) (suc (suc (suc (p .cell)))) in let x = codeE gs e Γ st q in let ts = tyE gs Γ e ∷ st in
+        let y = codeE gs f Γ ts (after x q) in let us = tyE gs Γ f ∷ ts in let z = codeE gs g Γ us (after y (after x q)) in
+        let b = skip 48 (after z (after y (after x q))) in let Δ = bound a (p .cell) ∷ inside (loopOf a) ∷ Γ in
+        ending x q (belowE e Γ st q) ++ (ending y (after x q) (belowE f Γ ts (after x q)) ++ (ending z (after y (after x q)) (belowE g Γ us (after y (after x q)))
+        ++ ending (codeS gs s Δ st b) b (belowS s Δ st b)))
 
     pub endsItems : Items → List Around → List Ty → At → List ℕ
     endsItems noItem Γ st p = []

@@ -7,9 +7,9 @@ use Prim.Native.Nat.{ℕ, suc, _+_, _<_}
 use lib.Dec.{eqb}
 use lib.ListN.{getD, drop}
 use Rattle.logic.specs.Choice.{if_then_else_}
-use Rattle.values.specs.Types.{Ty, tyByte}
+use Rattle.values.specs.Types.{Ty, integer, tyByte}
 use Rattle.language.specs.Tree.{Global}
-use Rattle.language.specs.Names.{Sort, isVariable, isLabel, isClass, isField, isProcedure, lookup}
+use Rattle.language.specs.Names.{Sort, isVariable, isLabel, isClass, isField, isProcedure, isControl, lookup}
 use Rattle.language.specs.Names as names
 use Rattle.bytecode.specs.Instructions.{Owner}
 use Rattle.compile_code.specs.Compile.{Around, inside, outermost, bound, global, held, labels, scopesOf, passing, theLabels, hasLabel, sizeGoto, labelAt, kept, cellOf}
@@ -96,6 +96,7 @@ Means W Γ a q isLabel = Unit {0}
 Means W Γ a q (isClass ts) = MeansClass W a q
 Means W Γ a q (isField c t) = MeansField W a q t
 Means W Γ a q (isProcedure ts us) = MeansBody W a q us
+Means W Γ a q isControl = MeansCell W Γ a q integer
 
 abbrev pub Known : Walk → List Around → ℕ → Found → names.Found → Type 0
 Known W Γ a Nothing f = Unit {0}

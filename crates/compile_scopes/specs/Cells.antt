@@ -6,7 +6,7 @@ use native.Mathlib.Omega.{arith}
 use lib.ListN.{length}
 use Rattle.language.specs.Measure.{measureS}
 use Rattle.language.specs.Program.{flatTyped, flatDecl, flatS, flatItems, flatArms, flatTarget, flatE, flatEs}
-use Rattle.language.specs.Tree.{Typed, Decl, declare, holding, Stmt, block, assign, when, choose, while, goto, assert, call, setLevel, select, Items, noItem, label, item}
+use Rattle.language.specs.Tree.{Typed, Decl, declare, holding, Stmt, block, assign, when, choose, while, goto, assert, call, setLevel, select, for, Items, noItem, label, item}
 use Rattle.language.specs.Tree.{Arms, lastArm, arm, Target, toVariable, toField, Expr, number, truth, pattern, null, variable, invoke, field, make, operate1, operate2}
 use Rattle.language.specs.Tree.{conditional, fader, blockExpr, Exprs, noExpr, expr}
 use Rattle.language.specs.Limits.{headCells, cellsS, cellsItems, cellsArms, cellsTarget, cellsE, cellsEs}
@@ -38,6 +38,17 @@ mutual
   within-S (call a es) = omega (arith, within-Es es)
   within-S (setLevel e f) = omega (arith, cells-append (flatE e) (flatE f), within-E e, within-E f)
   within-S (select e r) = omega (arith, cells-append (flatE e) (flatArms r), within-E e, within-arms r)
+  within-S (for a e f g s) =
+      omega (
+        arith,
+        cells-append (flatE e) (flatE f ++ (flatE g ++ flatS s)),
+        cells-append (flatE f) (flatE g ++ flatS s),
+        cells-append (flatE g) (flatS s),
+        within-E e,
+        within-E f,
+        within-E g,
+        within-S s,
+      )
 
   pub within-items : (is : Items) → cellsWithin (flatItems is) ≡ cellsItems is
   within-items noItem = refl

@@ -5,11 +5,11 @@ use Prim.Native.Nat.{ℕ, suc, _+_}
 use native.Mathlib.Omega.{arith}
 use lib.ListN.{length, length-append}
 use Rattle.values.specs.Types.{Ty, logical}
-use Rattle.language.specs.Tree.{Decl, declare, holding, Stmt, block, assign, when, choose, while, goto, assert, call, setLevel, select, Items, noItem, label, item, Arms}
+use Rattle.language.specs.Tree.{Decl, declare, holding, Stmt, block, assign, when, choose, while, goto, assert, call, setLevel, select, for, Items, noItem, label, item, Arms}
 use Rattle.language.specs.Tree.{lastArm, arm, Target, toVariable, toField, Expr, number, truth, pattern, null, variable, invoke, field, make, operate1, operate2}
 use Rattle.language.specs.Tree.{conditional, fader, blockExpr, Exprs, noExpr, expr, Global}
 use Rattle.language.specs.Table.{Entry}
-use Rattle.language.specs.Names.{blockOf, expressionOf}
+use Rattle.language.specs.Names.{blockOf, expressionOf, loopOf}
 use Rattle.language.specs.Measure.{measureS}
 use Rattle.language.specs.Faults.{typeE, isTy, sizeS, sizeItems, sizeArms, sizeTarget, sizeE, sizeEs}
 use Rattle.compile_code.specs.Code.{At, at, skip, after}
@@ -52,6 +52,11 @@ module _ (gs : List Global) where
     length-below (select e r) Γ st p =
         let q = at (p .address) (suc (p .cell)) in
         simp length-append (omega (arith, length-belowE e Γ st q, length-arms r Γ st (skip 1 (after (codeE gs e Γ st q) q))))
+    length-below (for a e f g s) Γ st p =
+        let q = at (p .address) (suc (suc (suc (p .cell)))) in let ts = tyE gs Γ e ∷ st in let r = after (codeE gs e Γ st q) q in
+        let us = tyE gs Γ f ∷ ts in let t = after (codeE gs f Γ ts r) r in let b = skip 48 (after (codeE gs g Γ us t) t) in
+        simp length-append
+        (omega (arith, length-belowE e Γ st q, length-belowE f Γ ts r, length-belowE g Γ us t, length-below s (bound a (p .cell) ∷ inside (loopOf a) ∷ Γ) st b))
 
     pub length-items : (is : Items) (Γ : List Around) (st : List Ty) (p : At) → length (endsItems gs is Γ st p) ≡ sizeItems is
     length-items noItem Γ st p = refl

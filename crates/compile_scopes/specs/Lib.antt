@@ -7,5 +7,6 @@ pub mod Blocks
 pub mod RootHead
 pub mod Roots
 pub mod Sight
+pub mod Turns
 pub mod Cells
 pub mod HeadOps

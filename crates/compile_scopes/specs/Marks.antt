@@ -48,7 +48,7 @@ module _ (a : ℕ) (small : a < 65536) where
       rw (ne-eqb k a w, ne-eqb k holdMark u)
 
   -- past or at a name
-  passed-name : (b s n q : ℕ) (v : List Item) → b < 65536 → passedTo a (item b s n q ∷ v) ≡ (if eqb b a then 0 else passedTo a v)
+  pub passed-name : (b s n q : ℕ) (v : List Item) → b < 65536 → passedTo a (item b s n q ∷ v) ≡ (if eqb b a then 0 else passedTo a v)
   unfolding passedTo
   passed-name b s n q v h = let u : ¬ (b ≡ holdMark) = omega arith in rw (ne-eqb b holdMark u)
 

@@ -10,7 +10,7 @@ use borrow.Author.Tests.{le-ltb}
 use Rattle.logic.specs.Choice.{if_then_else_}
 use Rattle.values.specs.Types.{Ty, integer, logical, bits, reference, tyCode, tyByte}
 use Rattle.language.specs.Tree.{Items}
-use Rattle.language.specs.Names.{Sort, isVariable, isLabel, isClass, isField, isProcedure, Definition, nowhere, found, firstOf, otherwise, across, lookup}
+use Rattle.language.specs.Names.{Sort, isVariable, isLabel, isClass, isField, isProcedure, isControl, Definition, nowhere, found, firstOf, otherwise, across, lookup}
 use Rattle.language.specs.Names as names
 use Rattle.compile_code.specs.Compile.{Around, labels, scopesOf, boundAt, globalAt, cellOf, numbered}
 use Rattle.compile_symbols.specs.Numbers.{byteOf}
@@ -18,7 +18,7 @@ use Rattle.table_scopes.specs.declared.environment.Found.{Found}
 use Rattle.table_scopes.specs.declared.environment.Found.the-variants.{Nothing, Def}
 use Rattle.table_scopes.specs.Environment.{Item, item, find, addAll, passing, opened, shut}
 use Rattle.table_scopes.specs.EnvironmentLaws.{firstIn, orOuter, Small, find-block}
-use Rattle.compile_nodes.specs.Knows.{Walk, Means, Known, Knows}
+use Rattle.compile_nodes.specs.Knows.{Walk, MeansCell, Means, Known, Knows}
 use Rattle.compile_code.specs.Counts.{index-most}
 
 -- ── both lookups find nothing, or both a definition that P holds of ──
@@ -61,8 +61,8 @@ byte-small cs (reference c) h = omega (arith, index-most c cs)
 
 -- ── kept ──
 module _ (W : Walk) where
-  pub means-moved : (Γ Δ : List Around) (a q : ℕ) → cellOf a Δ ≡ cellOf a Γ → (t : Sort) → Means W Γ a q t → Means W Δ a q t
-  means-moved Γ Δ a q e (isVariable t) m = record {
+  cell-moved : (Γ Δ : List Around) (a q : ℕ) (t : Ty) → cellOf a Δ ≡ cellOf a Γ → MeansCell W Γ a q t → MeansCell W Δ a q t
+  cell-moved Γ Δ a q t e m = record {
     owner = m .owner;
     cell = m .cell;
     whose = m .whose;
@@ -73,10 +73,14 @@ module _ (W : Walk) where
     small-whose = m .small-whose;
     small-cell = m .small-cell;
   }
+
+  pub means-moved : (Γ Δ : List Around) (a q : ℕ) → cellOf a Δ ≡ cellOf a Γ → (t : Sort) → Means W Γ a q t → Means W Δ a q t
+  means-moved Γ Δ a q e (isVariable t) m = cell-moved Γ Δ a q t e m
   means-moved Γ Δ a q e isLabel m = tt
   means-moved Γ Δ a q e (isClass ts) m = m
   means-moved Γ Δ a q e (isField c t) m = m
   means-moved Γ Δ a q e (isProcedure ts us) m = m
+  means-moved Γ Δ a q e isControl m = cell-moved Γ Δ a q integer e m
 
   known-moved : (Γ Δ : List Around) (a : ℕ) (f : Found) (x : names.Found) → cellOf a Δ ≡ cellOf a Γ → Known W Γ a f x → Known W Δ a f x
   known-moved Γ Δ a Nothing x e k = tt

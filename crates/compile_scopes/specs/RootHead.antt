@@ -17,7 +17,7 @@ use Rattle.logic.specs.Choice.{if_then_else_}
 use Rattle.values.specs.Types.{Ty, integer, logical, bits, reference, tyCode, tyByte}
 use Rattle.language.specs.Tree.{Typed, declare, holding, Body, proper, function, Global, local, class, procedure, locals}
 use Rattle.language.specs.Table.{entry, inLayout}
-use Rattle.language.specs.Names.{Sort, isVariable, isLabel, isClass, isField, isProcedure, types, results, definesHead, definesFields, definesGlobals, Scope, nowhere, found, firstOf, otherwise}
+use Rattle.language.specs.Names.{Sort, isVariable, isLabel, isClass, isField, isProcedure, isControl, types, results, definesHead, definesFields, definesGlobals, Scope, nowhere, found, firstOf, otherwise}
 use Rattle.language.specs.Names as names
 use Rattle.language.specs.Faults.{namesHead, namesTyped, sizeBody, sizeGlobal}
 use Rattle.language.specs.Limits.{headCells}
@@ -92,6 +92,7 @@ module _ (W : Walk) (S : Style) (a : ℕ) where
   Numbered cl ps k b Γ q (isClass ts) = getD (W .known) q 0 ≡ packed (16 + (k + indexOf a (classNames cl))) (k + indexOf a (classNames cl)) 0
   Numbered cl ps k b Γ q (isField c t) = FieldIn cl k q t
   Numbered cl ps k b Γ q (isProcedure ts us) = ProcIn ps b q us
+  Numbered cl ps k b Γ q isControl = ⊥
 
   -- past a class, past a procedure
   past-class : (c : Class) (cl : List Class) (ps : List Proc) (k b : ℕ) (Γ : List Around) → eqb (c .name) a ≡ false → amongNames a (namesOf (c .fields)) ≡ false
@@ -103,6 +104,7 @@ module _ (W : Walk) (S : Style) (a : ℕ) where
       let z : k + suc (indexOf a (classNames cl)) ≡ suc k + indexOf a (classNames cl) = omega arith in rw (e, z) h
   past-class c cl ps k b Γ e f q (isField d t) h = record { number = rw f (h .number); small = rw f (h .small) }
   past-class c cl ps k b Γ e f q (isProcedure ts us) h = h
+  past-class c cl ps k b Γ e f q isControl h = h
 
   past-procedure : (p : Proc) (cl : List Class) (ps : List Proc) (k b : ℕ) (Γ : List Around) → eqb (p .name) a ≡ false
       → (q : ℕ) (t : Sort) → Numbered cl ps k (suc b) Γ q t → Numbered cl (p ∷ ps) k b Γ q t
@@ -114,6 +116,7 @@ module _ (W : Walk) (S : Style) (a : ℕ) where
   past-procedure p cl ps k b Γ e q (isProcedure ts us) h =
       let z : b + suc (indexOf a (procNames ps)) ≡ suc b + indexOf a (procNames ps) = omega arith in
       record { number = rw (e, z) (h .number); small = h .small }
+  past-procedure p cl ps k b Γ e q isControl h = h
 
   -- ── the fields of a class ──
   record FieldAt (k i : ℕ) (xs : List Typed) (q : ℕ) (t : Ty) : Type 0 where
@@ -127,6 +130,7 @@ module _ (W : Walk) (S : Style) (a : ℕ) where
   Fielded k i xs q (isClass ts) = ⊥
   Fielded k i xs q (isField c t) = FieldAt k i xs q t
   Fielded k i xs q (isProcedure ts us) = ⊥
+  Fielded k i xs q isControl = ⊥
 
   later-field : (k i : ℕ) (x : Typed) (xs : List Typed) → eqb (x .name) a ≡ false → (q : ℕ) (t : Sort) → Fielded k (suc i) xs q t → Fielded k i (x ∷ xs) q t
   unfolding namesOf indexOf amongNames
@@ -137,6 +141,7 @@ module _ (W : Walk) (S : Style) (a : ℕ) where
       let z : i + suc (indexOf a (namesOf xs)) ≡ suc i + indexOf a (namesOf xs) = omega arith in
       record { number = rw (e, z) (m .number); most = rw e (omega (arith, m .most)); there = rw e (m .there) }
   later-field k i x xs e q (isProcedure ts us) m = m
+  later-field k i x xs e q isControl m = m
 
   fields-mean : (xs : List Typed) (c s p k i : ℕ) (us : List ℕ) → Lies (W .known) p (numbersFields classes k i xs ++ us)
       → Both (λ q t. Fielded k i xs q t) (firstIn a (headItems s p (map declare xs))) (firstOf a (definesFields c xs))
@@ -165,6 +170,7 @@ module _ (W : Walk) (S : Style) (a : ℕ) where
   field-here c cl ps k b Γ h q (isClass ts) m = absurd m
   field-here c cl ps k b Γ h q (isField d t) m = record { number = rw (m .there) (rw (zero-add (indexOf a (namesOf (c .fields)))) at (m .number)); small = rw (m .there) (omega (arith, m .most)) }
   field-here c cl ps k b Γ h q (isProcedure ts us) m = absurd m
+  field-here c cl ps k b Γ h q isControl m = absurd m
 
   result-byte : (d : Body) → resultCode d < 256 → resultCode d ≡ resultOf (W .globals) (results d)
   result-byte (proper s) h = refl

@@ -11,7 +11,7 @@ use Rattle.language.specs.Program.{flatItems, resultCode, flatHead, flatten}
 use Rattle.logic.specs.Choice.{if_then_else_}
 use Rattle.values.specs.Types.{Ty, tyByte}
 use Rattle.language.specs.Tree.{Decl, declare, holding, Global, local, class, procedure, Tree, countItems, locals}
-use Rattle.language.specs.Names.{Sort, isVariable, isLabel, isClass, isField, isProcedure, definesItems, definesGlobals, Scope, rootOf, found, firstOf, lookup}
+use Rattle.language.specs.Names.{Sort, isVariable, isLabel, isClass, isField, isProcedure, isControl, definesItems, definesGlobals, Scope, rootOf, found, firstOf, lookup}
 use Rattle.language.specs.Faults.{faults, sizeGlobal}
 use Rattle.language.specs.Limits.{headCells}
 use Rattle.language_laws.specs.Lookup.{lookup-root}
@@ -83,6 +83,7 @@ module _ (W : Walk) (S : Style) (a : ℕ) (owned : (if W .within then 1 else 0) 
   root-means Γ e q (isProcedure ts us) m =
       let z : 1 + indexOf a (procNames (procsOf (W .globals))) ≡ bodyNumber (W .globals) a = omega arith in
       record { number = rw z at (m .number); small-type = m .small; small-body = omega (arith, index-most a (procNames (procsOf (W .globals))), length-proc-names (procsOf (W .globals))) }
+  root-means Γ e q isControl m = absurd m
 
 -- ── the root's variables are no other body's ──
 unbound-root : (a : ℕ) (ds : List Decl) (n : ℕ) (Γ : List Around) → boundAt a (entering ofRoot ds n Γ) ≡ boundAt a Γ

@@ -35,7 +35,7 @@ abbrev pub oneIf : ℕ → ℕ → ℕ
 oneIf k w = if eqb k w then 1 else 0
 
 abbrev pub cellsOfKind : ℕ → ℕ
-cellsOfKind k = if eqb k 10 then 1 else if eqb k 30 then 1 else 0
+cellsOfKind k = if eqb k 10 then 1 else if eqb k 30 then 1 else if eqb k 31 then 3 else 0
 
 abbrev pub namesClass : ℕ → Entry → Bool
 namesClass a e = if eqb (e .kind) 11 then eqb (e .a) a else false
@@ -58,13 +58,14 @@ pub record Counts (kind : ℕ) (n r : Numbers) : Type 0 where
   pub classes : r .classes ≡ n .classes + oneIf kind 11
   pub bodies : r .bodies ≡ n .bodies + oneIf kind 12
 
-pub cells-few : (k : ℕ) → cellsOfKind k ≤ 1
-cells-few k = go (eqb k 10) (eqb k 30)
+pub cells-few : (k : ℕ) → cellsOfKind k ≤ 3
+cells-few k = go (eqb k 10) (eqb k 30) (eqb k 31)
   where
-    go : (a b : Bool) → (if a then 1 else if b then 1 else 0) ≤ 1
-    go true b = omega arith
-    go false true = omega arith
-    go false false = omega arith
+    go : (a b c : Bool) → (if a then 1 else if b then 1 else if c then 3 else 0) ≤ 3
+    go true b c = omega arith
+    go false true c = omega arith
+    go false false true = omega arith
+    go false false false = omega arith
 
 pub one-few : (k w : ℕ) → oneIf k w ≤ 1
 one-few k w = go (eqb k w)
@@ -126,8 +127,12 @@ number-variable cs o n l p w e d = rw (eq-eqb (halfAt l (8 * p)) 10 e, d)
 pub number-case : (cs : List ℕ) (o n : ℕ) (l : List ℕ) (p : ℕ) → halfAt l (8 * p) ≡ 30 → numberOf cs o n (entryAt l p) ≡ packed 1 0 n
 number-case cs o n l p e = rw e
 
-pub number-other : (cs : List ℕ) (o n : ℕ) (l : List ℕ) (p : ℕ) → ¬ (halfAt l (8 * p) ≡ 10) → ¬ (halfAt l (8 * p) ≡ 30) → numberOf cs o n (entryAt l p) ≡ 0
-number-other cs o n l p d e = rw (ne-eqb (halfAt l (8 * p)) 10 d, ne-eqb (halfAt l (8 * p)) 30 e)
+pub number-loop : (cs : List ℕ) (o n : ℕ) (l : List ℕ) (p : ℕ) → halfAt l (8 * p) ≡ 31 → numberOf cs o n (entryAt l p) ≡ packed 1 0 n
+number-loop cs o n l p e = rw e
+
+pub number-other : (cs : List ℕ) (o n : ℕ) (l : List ℕ) (p : ℕ) → ¬ (halfAt l (8 * p) ≡ 10) → ¬ (halfAt l (8 * p) ≡ 30) → ¬ (halfAt l (8 * p) ≡ 31)
+    → numberOf cs o n (entryAt l p) ≡ 0
+number-other cs o n l p d e f = rw (ne-eqb (halfAt l (8 * p)) 10 d, ne-eqb (halfAt l (8 * p)) 30 e, ne-eqb (halfAt l (8 * p)) 31 f)
 
 -- ── the loop over entries: whatever finishes the rest finishes the whole ──
 pub record CellsSoFar (l cs old new : List ℕ) (owner from to first place cell : ℕ) : Type 0 where
@@ -135,9 +140,9 @@ pub record CellsSoFar (l cs old new : List ℕ) (owner from to first place cell 
   pub long : length new ≡ length old
   pub least : from ≤ place
   pub most : place ≤ to
-  pub few : cell ≤ place
+  pub few : cell ≤ 3 * place
 
-pub cells-start : (l cs old : List ℕ) (owner from to first : ℕ) → from ≤ to → first ≤ from → CellsSoFar l cs old old owner from to first from first
+pub cells-start : (l cs old : List ℕ) (owner from to first : ℕ) → from ≤ to → first ≤ 3 * from → CellsSoFar l cs old old owner from to first from first
 cells-start l cs old owner from to first h k = record { same = refl; long = refl; least = omega arith; most = h; few = k }
 
 module _ {l cs old new : List ℕ} {owner from to first place cell : ℕ} (s : CellsSoFar l cs old new owner from to first place cell) where

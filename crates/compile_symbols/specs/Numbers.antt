@@ -27,15 +27,16 @@ secondIn k = k % 256
 abbrev pub byteOf : List ℕ → ℕ → ℕ
 byteOf cs b = if ltb b 65536 then b else 16 + indexOf (b - 65536) cs
 
--- a variable or parameter has a cell, and so has a case: "parameters, variables of all its blocks, one per case"
+-- a variable or parameter has a cell, and so has a case: "parameters, variables of all its blocks, one per case"; "Each loop counts three cells." (ticket 1)
 abbrev pub cellsOf : Entry → ℕ
-cellsOf e = if eqb (e .kind) 10 then 1 else if eqb (e .kind) 30 then 1 else 0
+cellsOf e = if eqb (e .kind) 10 then 1 else if eqb (e .kind) 30 then 1 else if eqb (e .kind) 31 then 3 else 0
 
--- an entry before which its body has n cells; o is whose cell it is (1: the root's)
+-- an entry before which its body has n cells; o is whose cell it is (1: the root's). Of a loop's cells it is the first, its value's
 abbrev pub numberOf : List ℕ → ℕ → ℕ → Entry → ℕ
 numberOf cs o n e =
     if eqb (e .kind) 10 then packed (byteOf cs (natAbs (e .b))) o n else
-    if eqb (e .kind) 30 then packed 1 0 n else 0
+    if eqb (e .kind) 30 then packed 1 0 n else
+    if eqb (e .kind) 31 then packed 1 0 n else 0
 
 unfoldable pub numbersFrom : List ℕ → ℕ → List Entry → List ℕ
 numbersFrom cs n [] = []

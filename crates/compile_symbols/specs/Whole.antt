@@ -109,7 +109,7 @@ pub record NumbersSoFar (l old new : List ℕ) (place left : ℕ) (n : Numbers) 
   pub classes : n .classes + length (classesOf globals) ≡ length (classesOf (theTree l .head))
   pub bodies : n .bodies + length (procsOf globals) ≡ 1 + length (procsOf (theTree l .head))
   pub most : place ≤ length l / 8
-  pub few-cells : n .cells ≤ place
+  pub few-cells : n .cells ≤ 3 * place
   pub few-classes : n .classes ≤ place
   pub few-bodies : n .bodies ≤ place
 

@@ -1,7 +1,7 @@
 // What each definition of a table stands for, by its place: 65,536 times the byte of its type, 256 times the first operand and then the
 // second operand of the instructions that use it. A variable: whose cell (1: the root's), and the cell. A field: its class, and its
 // index. A class: its number, and as its type that of a reference to it. A procedure: its body, and the type of its result. A case has
-// a cell, too. Any other entry: 0.
+// a cell, too, and a for three, of which the first is its control name's. Any other entry: 0.
 use formats::entries::*;
 use table_scopes::Found;
 ghost use mathlib.Core.Path.{_≡_};
@@ -124,7 +124,7 @@ fn entry_known(
     owner: usize,
     cell: usize,
 ) -> u32
-    requires { ⌜ Headed (now table) (now sizes) count × (place < length (now table) / 8) × (owner ≤ 2048) × (cell ≤ 2048) ⌝ }
+    requires { ⌜ Headed (now table) (now sizes) count × (place < length (now table) / 8) × (owner ≤ 2048) × (cell ≤ 6144) ⌝ }
     ensures { λ r. ⌜ r ≡ numberOf (classesIn (now (table .entry))) owner cell (entryAt (now (table .entry)) place) ⌝ }
 {
     let kind = table_entries::kind_at(table, place);
@@ -135,6 +135,7 @@ fn entry_known(
             cell as u32,
         ),
         KIND_CASE => pack(1, 0, cell as u32),
+        KIND_FOR => pack(1, 0, cell as u32),
         _ => 0,
     }
 }
@@ -145,6 +146,7 @@ pub fn cells_of(kind: u16) -> usize
     match kind {
         KIND_DECLARE => 1,
         KIND_CASE => 1,
+        KIND_FOR => 3,
         _ => 0,
     }
 }
@@ -160,7 +162,7 @@ fn number_cells(
     first: usize,
     known: &mut [u32],
 )
-    requires { ⌜ Headed (now table) (now sizes) count × (from ≤ to) × (to ≤ length (now table) / 8) × (to ≤ length (now known)) × (owner ≤ 2048) × (first ≤ from) ⌝ }
+    requires { ⌜ Headed (now table) (now sizes) count × (from ≤ to) × (to ≤ length (now table) / 8) × (to ≤ length (now known)) × (owner ≤ 2048) × (first ≤ 3 * from) ⌝ }
     ensures { λ _. ⌜ now (known .exit) ≡ sets (now (known .entry)) from (numbersOwned (classesIn (now (table .entry))) owner first (between from to (entriesOf (now (table .entry))))) ⌝ }
 {
     let mut place = from;
@@ -183,7 +185,7 @@ pub struct Numbers {
 
 // What there is of each after a declaration.
 fn counted(kind: u16, n: Numbers) -> Numbers
-    requires { ⌜ (n .cells ≤ 2048) × (n .classes ≤ 2048) × (n .bodies ≤ 2048) ⌝ }
+    requires { ⌜ (n .cells ≤ 6144) × (n .classes ≤ 2048) × (n .bodies ≤ 2048) ⌝ }
     ensures { λ r. ⌜ Counts kind n r ⌝ }
 {
     Numbers {
@@ -203,7 +205,7 @@ fn number_global(
     known: &mut [u32],
 )
     requires { ⌜ Headed (now table) (now sizes) count × Within (now table) (now sizes) place × (length (now table) / 8 ≤ length (now known))
-        × (n .cells ≤ 2048) × (n .classes ≤ 2048) × (n .bodies ≤ 2048) ⌝ }
+        × (n .cells ≤ 6144) × (n .classes ≤ 2048) × (n .bodies ≤ 2048) ⌝ }
     ensures { λ _. ⌜ now (known .exit) ≡ sets (now (known .entry)) place (numbersGlobal (classesIn (now (table .entry))) n (partAt (now (table .entry)) (now (sizes .entry)) place)) ⌝ }
 {
     let end = place + table_scopes::size_at(sizes, place);

@@ -2,7 +2,7 @@
 use mathlib.Core.Path.{sym, _∙_, ap}
 use Prim.Native.Nat.{ℕ}
 use native.Mathlib.Omega.{arith}
-use Rattle.compile_symbols.specs.Entries.{read-type, number-variable, number-case, number-other}
+use Rattle.compile_symbols.specs.Entries.{read-type, number-variable, number-case, number-loop, number-other}
 use Rattle.compile_symbols.specs.Tabled.{classesIn}
 use Rattle.compile_symbols.specs.Numbers.{byteOf, packed}
 use Rattle.compile_symbols.specs.Classes.{classes-few}
@@ -37,9 +37,16 @@ returns-2 c =
 
 returns-3 : tie.Need-returns-3
 returns-3 c =
+    let at-start = c .before .before .before .before .before in
+    c .pack3 .ensures ∙ sym (number-loop (classesIn (at-start .args .table .now)) (at-start .args .owner) (at-start .args .cell)
+    (at-start .args .table .now) (at-start .args .place) (sym (c .before .before .kind-at .ensures) ∙ c .before .match .keys3))
+
+returns-4 : tie.Need-returns-4
+returns-4 c =
     let at-start = c .before .before .before .before in
     sym (number-other (classesIn (at-start .args .table .now)) (at-start .args .owner) (at-start .args .cell) (at-start .args .table .now)
-    (at-start .args .place) (λ e. c .match .rest .0 .1 (c .before .kind-at .ensures ∙ e)) (λ e. c .match .rest .1 (c .before .kind-at .ensures ∙ e)))
+    (at-start .args .place) (λ e. c .match .rest .0 .0 .1 (c .before .kind-at .ensures ∙ e))
+    (λ e. c .match .rest .0 .1 (c .before .kind-at .ensures ∙ e)) (λ e. c .match .rest .1 (c .before .kind-at .ensures ∙ e)))
 
 pub entry-known-spec : {M : Type 1} → statement M
 entry-known-spec =
@@ -53,6 +60,9 @@ entry-known-spec =
     pack-requires
     (λ c. search needs)
     (λ c κs. search needs)
+    (λ c. search needs)
+    (λ c κs. search needs)
     returns
     returns-2
-    returns-3)
+    returns-3
+    returns-4)
