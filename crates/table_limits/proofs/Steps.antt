@@ -84,11 +84,12 @@ usage-whole d l p h = let m : d ≡ suc (d - 1) = omega arith in ap (λ (n : ℕ
 
 -- ── bounds ──
 pub weight-low : (k i : ℕ) → weightOf k i ≤ i
-weight-low k i = go (stacks k)
+weight-low k i = go (stacks k) (eqb k 31 && eqb i 3)
   where
-    go : (b : Bool) → (if b then i else 0) ≤ i
-    go true = omega arith
-    go false = omega arith
+    go : (b c : Bool) → (if b then if c then 0 else i else 0) ≤ i
+    go true true = omega arith
+    go true false = omega arith
+    go false c = omega arith
 
 pub kept-low : (head i h : ℕ) → keptOf head i h ≤ h
 kept-low head i h = go (ltb i head)
@@ -99,16 +100,17 @@ kept-low head i h = go (ltb i head)
 
 pub alone-level : (k : ℕ) → Level (aloneOf k) × (aloneOf k .entries ≡ 1)
 unfolding aloneOf
-alone-level k = go (eqb k 10) (eqb k 14) (eqb k 30)
+alone-level k = go (eqb k 10) (eqb k 14) (eqb k 30) (eqb k 31)
   where
-    pick : Bool → Bool → Bool → Used
-    pick a b c = if a then used 1 1 1 0 else if b then used 1 1 0 1 else if c then used 1 2 1 0 else used 1 1 0 0
+    pick : Bool → Bool → Bool → Bool → Used
+    pick a b c d = if a then used 1 1 1 0 else if b then used 1 1 0 1 else if c then used 1 2 1 0 else if d then used 1 1 3 0 else used 1 1 0 0
 
-    go : (a b c : Bool) → Level (pick a b c) × (pick a b c .entries ≡ 1)
-    go true b c = (omega arith, refl)
-    go false true c = (omega arith, refl)
-    go false false true = (omega arith, refl)
-    go false false false = (omega arith, refl)
+    go : (a b c d : Bool) → Level (pick a b c d) × (pick a b c d .entries ≡ 1)
+    go true b c d = (omega arith, refl)
+    go false true c d = (omega arith, refl)
+    go false false true d = (omega arith, refl)
+    go false false false true = (omega arith, refl)
+    go false false false false = (omega arith, refl)
 
 -- ── an entry without operands ──
 pub leaf-short : (d : ℕ) (l : List ℕ) → length l < 8 → false ≡ leafAt d (entriesOf l)

@@ -1,10 +1,11 @@
 -- Where entries are those of a tree, they take what the definitions of Limits say. Assumes nothing.
 use mathlib.Core.Path.{_≡_, refl, ap, _∙_}
-use mathlib.Core.Bool.{Bool, true, false}
+use mathlib.Core.Bool.{Bool, true, false, _&&_}
 use mathlib.Core.List.{List, [], _∷_, _++_, map, append-assoc}
 use Prim.Native.Nat.{ℕ, suc, _+_, _-_, _≤_, max}
-use native.Mathlib.Nat.{suc-add}
+use native.Mathlib.Nat.{zero-add, suc-add}
 use native.Mathlib.Omega.{arith}
+use lib.Dec.{eqb}
 use lib.IntN.{pos}
 use lib.ListN.{length, length-append, length-replicate, length-map}
 use lib.Seq.{drop-at}
@@ -13,7 +14,7 @@ use Rattle.language.specs.Measure.{measureS}
 use Rattle.language.specs.Program.{flatTyped, flatDecl, flag, flatS, flatItems, flatArms, flatTarget, flatE, flatEs, deepHead, deepS, deepItems, deepArms, deepTarget, deepE, deepEs}
 use Rattle.logic.specs.Choice.{if_then_else_}
 use Rattle.values.specs.Operators.{unaryCode, binaryCode}
-use Rattle.language.specs.Tree.{Decl, declare, holding, Stmt, block, assign, when, choose, while, goto, assert, call, setLevel, select, Items, noItem, label, item, Arms}
+use Rattle.language.specs.Tree.{Decl, declare, holding, Stmt, block, assign, when, choose, while, goto, assert, call, setLevel, select, for, Items, noItem, label, item, Arms}
 use Rattle.language.specs.Tree.{lastArm, arm, Target, toVariable, toField, Expr, number, truth, pattern, null, variable, invoke, field, make, operate1, operate2}
 use Rattle.language.specs.Tree.{conditional, fader, blockExpr, Exprs, noExpr, expr, countItems, countArms, countExprs}
 use Rattle.language.specs.Table.{Entry, entry}
@@ -57,6 +58,7 @@ mutual
   needs-S (call a es) = needs-Es 0 es
   needs-S (setLevel e f) = omega arith
   needs-S (select e r) = omega arith
+  needs-S (for a e f g s) = omega (arith, needs-E e)
 
   pub needs-items : (is : Items) → 1 ≤ needItems is
   needs-items noItem = omega arith
@@ -99,6 +101,10 @@ module _ (f : List Entry → Usage) (k head : ℕ) where
   unfolding through
   through-end i o u es = refl
 
+-- a kind all of whose operands wait for the last
+abbrev Stacked : ℕ → Type 0
+Stacked k = (i : ℕ) → weightOf k i ≡ i
+
 -- ── entries that are found to take v ──
 pub record Uses (f : List Entry → Usage) (us : List Entry) (v : Used) : Type 0 where
   pub value : (rest : List Entry) → f (us ++ rest) ≡ Of v
@@ -118,8 +124,8 @@ module _ {f : List Entry → Usage} {us : List Entry} {v : Used} (k head n i o :
     pub step-plain : stacks k ≡ false → through f k head (suc n) i o u (us ++ rest) ≡ through f k head n (suc i) o (joined 0 o u v) rest
     step-plain s = step ∙ rw (s, plain-holds)
 
-    pub step-stacked : stacks k ≡ true → through f k head (suc n) i o u (us ++ rest) ≡ through f k head n (suc i) o (joined i o u v) rest
-    step-stacked s = step ∙ rw (s, plain-holds)
+    pub step-stacked : (w : ℕ) → weightOf k i ≡ w → through f k head (suc n) i o u (us ++ rest) ≡ through f k head n (suc i) o (joined w o u v) rest
+    step-stacked w s = step ∙ rw (s, plain-holds)
 
 -- an entry, of which the operands are us
 module _ (d : ℕ) (e : Entry) (deep : 1 ≤ d) where
@@ -144,11 +150,12 @@ module _ (d : ℕ) (e : Entry) (deep : 1 ≤ d) where
       uses-one n =
           uses-entry (omega (arith, a .size))
           (λ rest. rw (n, flat, bare) (step (e .kind) 0 0 0 0 (used 1 1 0 0) rest a
-          ∙ through-end (usageAt (d - 1)) (e .kind) 0 _ _ _ rest ∙ ap Of (used-same (omega arith) (first-need (stacks (e .kind))) (omega arith) (omega arith))))
+          ∙ through-end (usageAt (d - 1)) (e .kind) 0 _ _ _ rest ∙ ap Of (used-same (omega arith) (first-need (stacks (e .kind)) (eqb (e .kind) 31 && eqb 0 3)) (omega arith) (omega arith))))
         where
-          first-need : (b : Bool) → max 1 ((if b then 0 else 0) + v .need) ≡ v .need
-          first-need true = omega arith
-          first-need false = omega arith
+          first-need : (b c : Bool) → max 1 ((if b then if c then 0 else 0 else 0) + v .need) ≡ v .need
+          first-need true true = omega arith
+          first-need true false = omega arith
+          first-need false c = omega arith
 
       module _ {vs : List Entry} {w : Used} (b : Uses (usageAt (d - 1)) vs w) where
         -- two operands, of which only the last leaves something
@@ -162,13 +169,13 @@ module _ (d : ℕ) (e : Entry) (deep : 1 ≤ d) where
             ∙ through-end (usageAt (d - 1)) (e .kind) 0 _ _ _ rest ∙ ap Of (used-same (omega arith) (omega arith) (omega arith) (omega arith))))
 
         -- two operands, of which the first waits for the second
-        pub uses-stack2 : stacks (e .kind) ≡ true → length (sortsOf e) ≡ 2
+        pub uses-stack2 : Stacked (e .kind) → length (sortsOf e) ≡ 2
             → Uses (usageAt d) (e ∷ (us ++ vs)) (used (suc (v .entries + w .entries)) (max (v .need) (1 + w .need)) (v .cells + w .cells) (max (v .holds) (w .holds)))
         uses-stack2 t n =
             uses-entry (omega (arith, a .size, b .size, length-append us vs))
             (λ rest. rw (n, flat, bare, append-assoc us vs rest)
-            (step-stacked (e .kind) 0 1 0 0 (used 1 1 0 0) (vs ++ rest) a (omega arith) t
-            ∙ step-stacked (e .kind) 0 0 1 0 (joined 0 0 (used 1 1 0 0) v) rest b (omega arith) t
+            (step-stacked (e .kind) 0 1 0 0 (used 1 1 0 0) (vs ++ rest) a (omega arith) 0 (t 0)
+            ∙ step-stacked (e .kind) 0 0 1 0 (joined 0 0 (used 1 1 0 0) v) rest b (omega arith) 1 (t 1)
             ∙ through-end (usageAt (d - 1)) (e .kind) 0 _ _ _ rest ∙ ap Of (used-same (omega arith) (omega arith) (omega arith) (omega arith))))
 
         module _ {ws : List Entry} {z : Used} (c : Uses (usageAt (d - 1)) ws z) where
@@ -188,14 +195,14 @@ module _ (d : ℕ) (e : Entry) (deep : 1 ≤ d) where
               ∙ step-plain (e .kind) 0 0 2 0 (joined 0 0 (joined 0 0 (used 1 1 0 0) v) w) rest c (omega arith) t
               ∙ through-end (usageAt (d - 1)) (e .kind) 0 _ _ _ rest ∙ ap Of (used-same (omega arith) (omega arith) (omega arith) (omega arith))))
 
-          pub uses-stack3 : stacks (e .kind) ≡ true → length (sortsOf e) ≡ 3
+          pub uses-stack3 : Stacked (e .kind) → length (sortsOf e) ≡ 3
               → Uses (usageAt d) (e ∷ (us ++ (vs ++ ws))) (three (max (v .need) (max (1 + w .need) (2 + z .need))))
           uses-stack3 t n =
               uses-entry long
               (λ rest. rw (n, flat, bare, append-assoc us (vs ++ ws) rest, append-assoc vs ws rest)
-              (step-stacked (e .kind) 0 2 0 0 (used 1 1 0 0) (vs ++ (ws ++ rest)) a (omega arith) t
-              ∙ step-stacked (e .kind) 0 1 1 0 (joined 0 0 (used 1 1 0 0) v) (ws ++ rest) b (omega arith) t
-              ∙ step-stacked (e .kind) 0 0 2 0 (joined 1 0 (joined 0 0 (used 1 1 0 0) v) w) rest c (omega arith) t
+              (step-stacked (e .kind) 0 2 0 0 (used 1 1 0 0) (vs ++ (ws ++ rest)) a (omega arith) 0 (t 0)
+              ∙ step-stacked (e .kind) 0 1 1 0 (joined 0 0 (used 1 1 0 0) v) (ws ++ rest) b (omega arith) 1 (t 1)
+              ∙ step-stacked (e .kind) 0 0 2 0 (joined 1 0 (joined 0 0 (used 1 1 0 0) v) w) rest c (omega arith) 2 (t 2)
               ∙ through-end (usageAt (d - 1)) (e .kind) 0 _ _ _ rest ∙ ap Of (used-same (omega arith) (omega arith) (omega arith) (omega arith))))
 
 -- ── declarations ──
@@ -295,13 +302,53 @@ uses-case d e r l a z go =
     ∙ go 1 (joined 0 0 (used 1 2 1 0) (usedE e)) rest (omega arith)
     ∙ ap Of (used-same (omega arith) (omega arith) (omega arith) (omega arith))))
 
+-- the largest of four, in either order
+regroup : (a b c : ℕ) → max (max a b) c ≡ max a (max b c)
+regroup a b c = omega arith
+
+largest : (m a b c n : ℕ) → m ≤ a → max (max (max (max m (0 + a)) b) c) n ≡ max a (max b (max c n))
+largest m a b c n h =
+    let e : max m (0 + a) ≡ a = omega arith in
+    rw (e, regroup (max a b) c n, regroup a b (max c n))
+
+-- a for: its expressions wait for the last of them, and its statement counts alone
+uses-for : (d a : ℕ) (e f g : Expr) (s : Stmt) → 1 ≤ d → Uses (usageAt (d - 1)) (flatE e) (usedE e) → Uses (usageAt (d - 1)) (flatE f) (usedE f)
+    → Uses (usageAt (d - 1)) (flatE g) (usedE g) → Uses (usageAt (d - 1)) (flatS s) (usedS s)
+    → Uses (usageAt d) (flatS (for a e f g s)) (usedS (for a e f g s))
+unfolding flatS measureS headOf sorts stacks aloneOf
+uses-for d a e f g s l p q r t =
+    let one = joined 0 0 (used 1 1 3 0) (usedE e) in
+    let two = joined 1 0 one (usedE f) in
+    let three = joined 2 0 two (usedE g) in
+    let held : max (max (max (max 0 (0 + holdsE e)) (0 + holdsE f)) (0 + holdsE g)) (0 + holdsS s) ≡ max (holdsE e) (max (holdsE f) (max (holdsE g) (holdsS s)))
+        = rw (zero-add (holdsE f), zero-add (holdsE g), zero-add (holdsS s)) (largest 0 (holdsE e) (holdsE f) (holdsE g) (holdsS s) (omega arith)) in
+    let need : max (max (max (max 1 (0 + needE e)) (1 + needE f)) (2 + needE g)) (0 + needS s) ≡ max (needE e) (max (1 + needE f) (max (2 + needE g) (needS s)))
+        = rw (zero-add (needS s)) (largest 1 (needE e) (1 + needE f) (2 + needE g) (needS s) (needs-E e)) in
+    uses-entry d (entry 31 a (pos 0)) l
+    (omega (
+      arith,
+      p .size,
+      q .size,
+      r .size,
+      t .size,
+      length-append (flatE e) (flatE f ++ (flatE g ++ flatS s)),
+      length-append (flatE f) (flatE g ++ flatS s),
+      length-append (flatE g) (flatS s),
+    ))
+    (λ rest. rw (append-assoc (flatE e) (flatE f ++ (flatE g ++ flatS s)) rest, append-assoc (flatE f) (flatE g ++ flatS s) rest, append-assoc (flatE g) (flatS s) rest)
+    (step-stacked 31 0 3 0 0 (used 1 1 3 0) (flatE f ++ (flatE g ++ (flatS s ++ rest))) p (omega arith) 0 refl
+    ∙ step-stacked 31 0 2 1 0 one (flatE g ++ (flatS s ++ rest)) q (omega arith) 1 refl
+    ∙ step-stacked 31 0 1 2 0 two (flatS s ++ rest) r (omega arith) 2 refl
+    ∙ step-stacked 31 0 0 3 0 three rest t (omega arith) 0 refl
+    ∙ through-end (usageAt (d - 1)) 31 0 _ _ _ rest ∙ ap Of (used-same (omega arith) need (omega arith) held)))
+
 mutual
   unfolding flatS measureS countItems countArms countExprs headOf sorts stacks aloneOf
 
   pub uses-S : (x : Stmt) (d : ℕ) → deepS x ≤ d → Uses (usageAt d) (flatS x) (usedS x)
   uses-S (block ds is) d h =
       uses-block d ds is (omega arith) (omega arith) (size-items is) (λ k head m i o u rest p s l q. through-items is (d - 1) (omega arith) k head m i o u rest p s l q)
-  uses-S (assign x e) d h = uses-stack2 d (entry 21 0 (pos 0)) (omega arith) refl refl (uses-T x (d - 1) (omega arith)) (needs-T x) (uses-E e (d - 1) (omega arith)) refl refl
+  uses-S (assign x e) d h = uses-stack2 d (entry 21 0 (pos 0)) (omega arith) refl refl (uses-T x (d - 1) (omega arith)) (needs-T x) (uses-E e (d - 1) (omega arith)) (λ i. refl) refl
   uses-S (when e s) d h = uses-pair d (entry 22 0 (pos 0)) (omega arith) refl refl (uses-E e (d - 1) (omega arith)) (needs-E e) (uses-S s (d - 1) (omega arith)) refl refl
   uses-S (choose e s t) d h =
       uses-triple d (entry 23 0 (pos 0)) (omega arith) refl refl (uses-E e (d - 1) (omega arith)) (needs-E e) (uses-S s (d - 1) (omega arith)) (uses-S t (d - 1) (omega arith)) refl refl
@@ -310,9 +357,11 @@ mutual
   uses-S (assert e) d h = uses-one d (entry 26 0 (pos 0)) (omega arith) refl refl (uses-E e (d - 1) (omega arith)) (needs-E e) refl
   uses-S (call a es) d h =
       uses-list d (entry 27 a (pos (countExprs es))) es (omega arith) refl refl (length-replicate _ _) (size-Es es)
-      (λ rest. through-exprs es (d - 1) (omega arith) 27 refl 0 (used 1 1 0 0) (omega arith) rest)
-  uses-S (setLevel e f) d h = uses-stack2 d (entry 28 0 (pos 0)) (omega arith) refl refl (uses-E e (d - 1) (omega arith)) (needs-E e) (uses-E f (d - 1) (omega arith)) refl refl
+      (λ rest. through-exprs es (d - 1) (omega arith) 27 (λ i. refl) 0 (used 1 1 0 0) (omega arith) rest)
+  uses-S (setLevel e f) d h = uses-stack2 d (entry 28 0 (pos 0)) (omega arith) refl refl (uses-E e (d - 1) (omega arith)) (needs-E e) (uses-E f (d - 1) (omega arith)) (λ i. refl) refl
   uses-S (select e r) d h = uses-case d e r (omega arith) (uses-E e (d - 1) (omega arith)) (size-arms r) (λ i u rest l. through-arms r (d - 1) (omega arith) i u rest l)
+  uses-S (for a e f g s) d h =
+      uses-for d a e f g s (omega arith) (uses-E e (d - 1) (omega arith)) (uses-E f (d - 1) (omega arith)) (uses-E g (d - 1) (omega arith)) (uses-S s (d - 1) (omega arith))
 
   pub through-items : (is : Items) (d : ℕ) → deepItems is ≤ d → (k head m i o : ℕ) (u : Used) (rest : List Entry) → head ≤ i → stacks k ≡ false → 1 ≤ u .need → o ≤ u .holds
       → through (usageAt d) k head (countItems is + m) i o u (flatItems is ++ rest) ≡ through (usageAt d) k head m (i + countItems is) o (withItems o u is) rest
@@ -342,15 +391,15 @@ mutual
   uses-E (variable a) d h = uses-none d (entry 44 a (pos 0)) (omega arith) refl refl refl
   uses-E (invoke a es) d h =
       uses-list d (entry 45 a (pos (countExprs es))) es (omega arith) refl refl (length-replicate _ _) (size-Es es)
-      (λ rest. through-exprs es (d - 1) (omega arith) 45 refl 0 (used 1 1 0 0) (omega arith) rest)
+      (λ rest. through-exprs es (d - 1) (omega arith) 45 (λ i. refl) 0 (used 1 1 0 0) (omega arith) rest)
   uses-E (field a e) d h = uses-one d (entry 46 a (pos 0)) (omega arith) refl refl (uses-E e (d - 1) (omega arith)) (needs-E e) refl
   uses-E (make c es) d h =
       uses-list d (entry 47 c (pos (countExprs es))) es (omega arith) refl refl (length-replicate _ _) (size-Es es)
-      (λ rest. through-exprs es (d - 1) (omega arith) 47 refl 0 (used 1 1 0 0) (omega arith) rest)
+      (λ rest. through-exprs es (d - 1) (omega arith) 47 (λ i. refl) 0 (used 1 1 0 0) (omega arith) rest)
   uses-E (operate1 o e) d h = uses-one d (entry 48 (unaryCode o) (pos 0)) (omega arith) refl refl (uses-E e (d - 1) (omega arith)) (needs-E e) refl
-  uses-E (operate2 o e f) d h = uses-stack2 d (entry 49 (binaryCode o) (pos 0)) (omega arith) refl refl (uses-E e (d - 1) (omega arith)) (needs-E e) (uses-E f (d - 1) (omega arith)) refl refl
+  uses-E (operate2 o e f) d h = uses-stack2 d (entry 49 (binaryCode o) (pos 0)) (omega arith) refl refl (uses-E e (d - 1) (omega arith)) (needs-E e) (uses-E f (d - 1) (omega arith)) (λ i. refl) refl
   uses-E (conditional e f g) d h =
-      uses-stack3 d (entry 50 0 (pos 0)) (omega arith) refl refl (uses-E e (d - 1) (omega arith)) (needs-E e) (uses-E f (d - 1) (omega arith)) (uses-E g (d - 1) (omega arith)) refl refl
+      uses-stack3 d (entry 50 0 (pos 0)) (omega arith) refl refl (uses-E e (d - 1) (omega arith)) (needs-E e) (uses-E f (d - 1) (omega arith)) (uses-E g (d - 1) (omega arith)) (λ i. refl) refl
   uses-E (fader e) d h = uses-one d (entry 51 0 (pos 0)) (omega arith) refl refl (uses-E e (d - 1) (omega arith)) (needs-E e) refl
   uses-E (blockExpr ds is e) d h =
       uses-body d ds is e (omega arith) (omega arith) (size-items is) (λ k head m i o u rest p s l q.
@@ -366,12 +415,12 @@ mutual
       ∙ through-arms r d (omega arith) (suc i) (joined 0 0 u (usedS s)) rest (omega arith)
       ∙ ap Of (used-same (omega arith) (omega arith) (omega arith) (omega arith)))
 
-  through-exprs : (es : Exprs) (d : ℕ) → deepEs es ≤ d → (k : ℕ) → stacks k ≡ true → (i : ℕ) (u : Used) → 1 ≤ u .need → (rest : List Entry)
+  through-exprs : (es : Exprs) (d : ℕ) → deepEs es ≤ d → (k : ℕ) → Stacked k → (i : ℕ) (u : Used) → 1 ≤ u .need → (rest : List Entry)
       → through (usageAt d) k 0 (countExprs es) i 0 u (flatEs es ++ rest) ≡ Of (withExprs i u es)
   through-exprs noExpr d h k s i u l rest = through-end (usageAt d) k 0 i 0 u rest ∙ ap Of (used-same (omega arith) (omega arith) (omega arith) (omega arith))
   through-exprs (expr e es) d h k s i u l rest =
       rw (append-assoc (flatE e) (flatEs es) rest)
-      (step-stacked k 0 (countExprs es) i 0 u (flatEs es ++ rest) (uses-E e d (omega arith)) (omega arith) s
+      (step-stacked k 0 (countExprs es) i 0 u (flatEs es ++ rest) (uses-E e d (omega arith)) (omega arith) i (s i)
       ∙ through-exprs es d (omega arith) k s (suc i) (joined i 0 u (usedE e)) (omega arith) rest
       ∙ ap Of (used-same (omega arith) (omega arith) (omega arith) (omega arith)))
 

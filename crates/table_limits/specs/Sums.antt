@@ -1,6 +1,6 @@
 -- What an entry takes of a body's limits, and how its operands are summed.
 use mathlib.Core.Bool.{Bool, not, _&&_, _||_}
-use Prim.Native.Nat.{ℕ, _+_, _^_, _≤_, _<_, max}
+use Prim.Native.Nat.{ℕ, _+_, _*_, _^_, _≤_, _<_, max}
 use lib.Dec.{eqb, leb, ltb}
 use Rattle.logic.specs.Choice.{if_then_else_}
 use Rattle.table_read.specs.Walk.{tally}
@@ -9,19 +9,21 @@ use Rattle.table_limits.specs.declared.sums.Used.{Used}
 abbrev pub used : ℕ → ℕ → ℕ → ℕ → Used
 used n d c h = record { entries = n; need = d; cells = c; holds = h }
 
--- without its operands: "at least 1 … a case needs at least 2"; cells are "variables of all its blocks, one per case"
+-- without its operands: "at least 1 … a case needs at least 2"; cells are "variables of all its blocks, one per case", "Each loop counts three cells."
 unfoldable pub aloneOf : ℕ → Used
 aloneOf k =
     if eqb k 10 then used 1 1 1 0 else
     if eqb k 14 then used 1 1 0 1 else
-    if eqb k 30 then used 1 2 1 0 else used 1 1 0 0
+    if eqb k 30 then used 1 2 1 0 else
+    if eqb k 31 then used 1 1 3 0 else used 1 1 0 0
 
 -- "the largest over i of i − 1 plus the need of its i-th operand": the kinds whose operands wait for the last. Here i counts from 0.
 unfoldable pub stacks : ℕ → Bool
-stacks k = eqb k 21 || (eqb k 27 || (eqb k 28 || (eqb k 45 || (eqb k 47 || (eqb k 49 || eqb k 50)))))
+stacks k = eqb k 21 || (eqb k 27 || (eqb k 28 || (eqb k 31 || (eqb k 45 || (eqb k 47 || (eqb k 49 || eqb k 50))))))
 
+-- "an operand that is a statement counts its own need alone": of these kinds a for has one, its last
 abbrev pub weightOf : ℕ → ℕ → ℕ
-weightOf k i = if stacks k then i else 0
+weightOf k i = if stacks k then if eqb k 31 && eqb i 3 then 0 else i else 0
 
 -- how many operands are a block's head, and the holds that stay open after an operand
 unfoldable pub headOf : ℕ → ℕ → ℕ
@@ -50,4 +52,4 @@ abbrev pub Small : Used → Type 0
 Small u = (u .entries < 2 ^ 62) × (u .need < 2 ^ 62) × (u .cells < 2 ^ 62) × (u .holds < 2 ^ 62)
 
 abbrev pub Level : Used → Type 0
-Level u = (u .need ≤ u .entries + 1) × (u .cells ≤ u .entries) × (u .holds ≤ u .entries)
+Level u = (u .need ≤ u .entries + 1) × (u .cells ≤ 3 * u .entries) × (u .holds ≤ u .entries)

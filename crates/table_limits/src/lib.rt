@@ -5,7 +5,7 @@ use formats::entries::*;
 use formats::limits::*;
 use sums::Used;
 ghost use mathlib.Core.Path.{_≡_};
-ghost use Prim.Native.Nat.{_^_, _≤_, _<_};
+ghost use Prim.Native.Nat.{_+_, _*_, _^_, _≤_, _<_};
 ghost use lib.ListN.{length};
 ghost use Rattle.language_laws.specs.Claims.{entriesOf};
 ghost use Rattle.table_read.specs.Walk.{kindAt};
@@ -121,7 +121,7 @@ fn root_head(part: &[u8], count: u16) -> Head
 
 // The root's statements, whose holds are open on top of those of its head.
 fn root_items(part: &[u8], count: u32, own: Used) -> Usage
-    requires { ⌜ Level own × (own .entries < 2 ^ 61) ⌝ }
+    requires { ⌜ Level own × (8 * own .entries + length (now part) < 2 ^ 63) ⌝ }
     ensures { λ r. ⌜ r ≡ itemsAt count own (entriesOf (now (part .entry))) ⌝ }
 {
     let open = own.holds;

@@ -3,6 +3,8 @@ use formats::entries::*;
 use formats::limits::*;
 ghost use mathlib.Core.Path.{_≡_};
 ghost use Prim.Native.Nat.{_+_, _^_, _<_, max};
+ghost use lib.Dec.{eqb};
+ghost use Rattle.logic.specs.Choice.{if_then_else_};
 ghost use Rattle.table_limits.specs.Sums.{used, aloneOf, weightOf, headOf, keptOf, joined, Small, keepsAll, overOf, declaredOf};
 
 pub struct Used {
@@ -29,7 +31,7 @@ fn one(need: usize, cells: usize, holds: usize) -> Used
     }
 }
 
-// An entry without its operands: a variable and a case have a cell, and a case needs at least 2.
+// An entry without its operands: a variable and a case have a cell, and a case needs at least 2; a for has three cells.
 pub fn alone(kind: u16) -> Used
     ensures { λ r. ⌜ r ≡ aloneOf kind ⌝ }
 {
@@ -37,8 +39,16 @@ pub fn alone(kind: u16) -> Used
         KIND_DECLARE => one(1, 1, 0),
         KIND_HOLD => one(1, 0, 1),
         KIND_CASE => one(2, 1, 0),
+        KIND_FOR => one(1, 3, 0),
         _ => one(1, 0, 0),
     }
+}
+
+// The values that wait in a for: start, and start and step; none while the statement runs.
+fn for_weight(i: usize) -> usize
+    ensures { λ r. ⌜ r ≡ (if eqb i 3 then 0 else i) ⌝ }
+{
+    if i == 3 { 0 } else { i }
 }
 
 // How many values wait while the operand at i is computed: none where the operands before it leave none.
@@ -49,6 +59,7 @@ pub fn weight(kind: u16, i: usize) -> usize
         KIND_ASSIGN => i,
         KIND_CALL => i,
         KIND_SET => i,
+        KIND_FOR => for_weight(i),
         KIND_FUNCTION => i,
         KIND_RECORD => i,
         KIND_BINARY => i,
