@@ -147,7 +147,8 @@ module _ {l part : List ℕ} {nesting at : ℕ} {sizes old : List ℕ} {top : �
 
       module _ {late : List ℕ} {s : Verdict} (z : Answers StmtForm l (below part (8 * (1 + n))) (nesting - 1) (at + 1 + n) sizes new late up s) where
         says-inner : (f : Form) (h : CountForm f) (ss : List Scope) (seen : List ℕ) (q : Ready f ss seen l part nesting at sizes old top)
-            → Says s (faultsS (loopOf (counted-of f h q .control) ∷ ss) (at + 1 + sizeEs (three (counted-of f h q .start) (counted-of f h q .step) (counted-of f h q .limit))) (counted-of f h q .inner))
+            → Says s (faultsS (loopOf (counted-of f h q .control) ∷ ss)
+            (at + 1 + sizeEs (three (counted-of f h q .start) (counted-of f h q .step) (counted-of f h q .limit))) (counted-of f h q .inner))
         says-inner f h ss seen q =
             let g = counted-of f h q in
             let m : n ≡ sizeEs (three (g .start) (g .step) (g .limit)) = k ∙ g .size in

@@ -81,7 +81,7 @@ unfolding typesOf countExprs
 length-typesOf ss noExpr = refl
 length-typesOf ss (expr e es) = ap suc (length-typesOf ss es)
 
-simple-faults : (at : ℕ) (f : Form) → SimpleForm f → (ss : List Scope) (seen : List ℕ) 
+simple-faults : (at : ℕ) (f : Form) → SimpleForm f → (ss : List Scope) (seen : List ℕ)
     → faultsF ss seen at f ≡ fixed ss (opOf f) (esOf f) (at + 1) ++ (faultsEs ss (at + 1) (esOf f) ++ own ss (opOf f) (typesOf ss (esOf f)) at)
 simple-faults at (simple o es) h ss seen = rw (add-one at)
 simple-faults at (guard g e is) h ss seen = absurd h
@@ -204,7 +204,7 @@ module _ {l part : List ℕ} {nesting at : ℕ} {sizes old : List ℕ} {top : �
       record {
         kept = refl;
         same = refl;
-        judged = λ f ss seen h q. 
+        judged = λ f ss seen h q.
             record {
               says = (
                 faultsEs ss (at + 1) (esOf f) ++ own ss (opOf f) (typesOf ss (esOf f)) at,
@@ -274,7 +274,8 @@ module _ {l part : List ℕ} {nesting at : ℕ} {sizes old : List ℕ} {top : �
               (q .ready .sees .sees (halfAt part 2) w)),
         )
 
-    pub simple-judged : fixedBy part (find (halfAt part 10) (envOf old top)) ≡ false → (u : ℕ) {s : Verdict} → r ≡ Fine u → s ≡ settledBy l (halfAt part 0) (halfAt part 2) at (find (halfAt part 2) (envOf mid top)) (values count (envOf mid (top + count)))
+    pub simple-judged : fixedBy part (find (halfAt part 10) (envOf old top)) ≡ false → (u : ℕ) {s : Verdict} → r ≡ Fine u
+        → s ≡ settledBy l (halfAt part 0) (halfAt part 2) at (find (halfAt part 2) (envOf mid top)) (values count (envOf mid (top + count)))
         → Typed SimpleForm l part nesting at sizes old mid top s
     simple-judged free u {s} e z =
         record { kept = t .kept; same = t .same; judged = λ f ss seen h q. go f ss seen h q (t .judged (esOf f) ss (simple-ready f h q)) }

@@ -321,9 +321,9 @@ uses-for d a e f g s l p q r t =
     let two = joined 1 0 one (usedE f) in
     let three = joined 2 0 two (usedE g) in
     let held : max (max (max (max 0 (0 + holdsE e)) (0 + holdsE f)) (0 + holdsE g)) (0 + holdsS s) ≡ max (holdsE e) (max (holdsE f) (max (holdsE g) (holdsS s)))
-        = rw (zero-add (holdsE f), zero-add (holdsE g), zero-add (holdsS s)) (largest 0 (holdsE e) (holdsE f) (holdsE g) (holdsS s) (omega arith)) in
+    = rw (zero-add (holdsE f), zero-add (holdsE g), zero-add (holdsS s)) (largest 0 (holdsE e) (holdsE f) (holdsE g) (holdsS s) (omega arith)) in
     let need : max (max (max (max 1 (0 + needE e)) (1 + needE f)) (2 + needE g)) (0 + needS s) ≡ max (needE e) (max (1 + needE f) (max (2 + needE g) (needS s)))
-        = rw (zero-add (needS s)) (largest 1 (needE e) (1 + needE f) (2 + needE g) (needS s) (needs-E e)) in
+    = rw (zero-add (needS s)) (largest 1 (needE e) (1 + needE f) (2 + needE g) (needS s) (needs-E e)) in
     uses-entry d (entry 31 a (pos 0)) l
     (omega (
       arith,

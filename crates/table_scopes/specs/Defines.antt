@@ -20,7 +20,8 @@ use Rattle.words.specs.Laws.{two, four, number-below}
 use Rattle.values.specs.Types.{Ty, integer, logical, bits, reference, tyCode}
 use Rattle.language.specs.Tree.{Typed, Decl, declare, holding, Stmt, block, assign, when, choose, while, goto, assert, call, setLevel, select, for, Items, noItem, label, item, countItems}
 use Rattle.language.specs.Table.{Entry, entry, inLayout}
-use Rattle.language.specs.Names.{isVariable, isLabel, isClass, isField, isProcedure, isControl, definesTyped, definesHead, definesItems, definesFields, Scope, blockOf, expressionOf, nowhere, found, lookup}
+use Rattle.language.specs.Names.{isVariable, isLabel, isClass, isField, isProcedure, isControl, definesTyped, definesHead, definesItems, definesFields, Scope}
+use Rattle.language.specs.Names.{blockOf, expressionOf, nowhere, found, lookup}
 use Rattle.language.specs.Names as names
 use Rattle.language.specs.Faults.{twice, typeFaults, named, classSort, faultsTyped, faultsHead, namesHead, sizeS, sizeItems}
 use Rattle.logic.specs.Tests.{clash, or-false}

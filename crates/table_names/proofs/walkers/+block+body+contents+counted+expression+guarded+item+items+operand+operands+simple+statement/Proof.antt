@@ -515,8 +515,35 @@ contents-meets t = contents-lts.spec (head-reads.Asked, head-reads.Learnt, items
     -- returns-2
     (λ c. contents-stop (c .before .before .before .head .ensures) _ _ (c .before .k .given .1))
 
-counted-meets : {M : Type 1} (t : ℕ) → counted-lts.Closed (a-at-reads.Asked, a-at-reads.Learnt, operands-below t, operands.Post, counted-reads.Asked, counted-reads.Learnt, spanned-reads.Asked, spanned-reads.Learnt, enter-loop-reads.Asked, enter-loop-reads.Learnt, statement-below t, statement′.Post) (counted-at t) counted.Post M
-counted-meets t = counted-lts.spec (a-at-reads.Asked, a-at-reads.Learnt, operands-below t, operands.Post, counted-reads.Asked, counted-reads.Learnt, spanned-reads.Asked, spanned-reads.Learnt, enter-loop-reads.Asked, enter-loop-reads.Learnt, statement-below t, statement′.Post) (counted-at t) counted.Post
+counted-meets : {M : Type 1} (t : ℕ) → counted-lts.Closed (
+  a-at-reads.Asked,
+  a-at-reads.Learnt,
+  operands-below t,
+  operands.Post,
+  counted-reads.Asked,
+  counted-reads.Learnt,
+  spanned-reads.Asked,
+  spanned-reads.Learnt,
+  enter-loop-reads.Asked,
+  enter-loop-reads.Learnt,
+  statement-below t,
+  statement′.Post,
+) (counted-at t) counted.Post M
+counted-meets t =
+    counted-lts.spec (
+      a-at-reads.Asked,
+      a-at-reads.Learnt,
+      operands-below t,
+      operands.Post,
+      counted-reads.Asked,
+      counted-reads.Learnt,
+      spanned-reads.Asked,
+      spanned-reads.Learnt,
+      enter-loop-reads.Asked,
+      enter-loop-reads.Learnt,
+      statement-below t,
+      statement′.Post,
+    ) (counted-at t) counted.Post
     -- a-at-requires
     (λ c κs. omega (arith, asked (c .before .before .before .before .pre .1) .long))
     -- sub-operands
@@ -530,45 +557,72 @@ counted-meets t = counted-lts.spec (a-at-reads.Asked, a-at-reads.Learnt, operand
     -- add-operands
     (λ c. omega (arith, asked (c .before .before .before .before .before .before .pre .1) .small))
     -- operands-requires
-    (λ c κs. (omega (arith, asked (c .before .before .before .before .before .before .before .pre .1) .nested), count-asks (c .before .before .before .before .before .before .before .pre .1)))
+    (λ c κs.
+    let at-start = c .before .before .before .before .before .before .before in
+    (omega (arith, asked (at-start .pre .1) .nested), count-asks (at-start .pre .1)))
     -- enum-told
     (λ c. search needs)
     -- counted-requires
-    (λ c κs. omega (arith, count-room (c .before .before .before .before .before .before .before .before .before .before .before .before .before .pre .1), c .before .before .before .before .before .operands .ensures .same))
+    (λ c κs.
+    let at-start = c .before .before .before .before .before .before .before .before .before .before .before .before .before in
+    omega (arith, count-room (at-start .pre .1), c .before .before .before .before .before .operands .ensures .same))
     -- add-spanned
-    (λ c. omega (arith, asked (c .before .before .before .before .before .before .before .before .before .before .before .before .before .before .pre .1) .small))
+    (λ c.
+    let at-start = c .before .before .before .before .before .before .before .before .before .before .before .before .before .before in
+    omega (arith, asked (at-start .pre .1) .small))
     -- spanned-requires
     (λ c κs. count-spans (c .before .before .before .before .before .before .before .before .before .before .before .before .before .before .pre .1))
     -- add-from
-    (λ c. omega (arith, count-fits (c .before .before .before .before .before .before .before .before .before .before .before .before .before .before .before .pre .1) (c .spanned .result) (c .spanned .ensures)))
+    (λ c.
+    let at-start = c .before .before .before .before .before .before .before .before .before .before .before .before .before .before .before in
+    omega (arith, count-fits (at-start .pre .1) (c .spanned .result) (c .spanned .ensures)))
     -- mul-from
-    (λ c. omega (arith, count-fits (c .before .before .before .before .before .before .before .before .before .before .before .before .before .before .before .pre .1) (c .spanned .result) (c .spanned .ensures)))
+    (λ c.
+    let at-start = c .before .before .before .before .before .before .before .before .before .before .before .before .before .before .before in
+    omega (arith, count-fits (at-start .pre .1) (c .spanned .result) (c .spanned .ensures)))
     -- cast-enter-loop
     (λ c. search needs)
     -- enter-loop-requires
-    (λ c κs. (omega (arith, asked (c .before .before .before .before .before .before .before .before .before .before .before .before .before .before .before .before .pre .1) .small), omega (arith, count-room (c .before .before .before .before .before .before .before .before .before .before .before .before .before .before .before .before .pre .1), c .before .before .before .before .before .before .before .before .operands .ensures .same)))
+    (λ c κs.
+    let at-start = c .before .before .before .before .before .before .before .before .before .before .before .before .before .before .before .before in
+    (omega (arith, asked (at-start .pre .1) .small), omega (arith, count-room (at-start .pre .1), c .before .before .before .before .before .before .before .before .operands .ensures .same)))
     -- sub-statement
-    (λ c. count-fits (c .before .before .before .before .before .before .before .before .before .before .before .before .before .before .before .before .before .before .before .pre .1) (c .before .before .before .before .spanned .result) (c .before .before .before .before .spanned .ensures) .0)
+    (λ c.
+    let at-spanned = c .before .before .before .before in
+    let at-start = at-spanned .before .before .before .before .before .before .before .before .before .before .before .before .before .before .before in
+    count-fits (at-start .pre .1) (at-spanned .spanned .result) (at-spanned .spanned .ensures) .0)
     -- part-statement-start
-    (λ c. count-fits (c .before .before .before .before .before .before .before .before .before .before .before .before .before .before .before .before .before .before .before .pre .1) (c .before .before .before .before .spanned .result) (c .before .before .before .before .spanned .ensures) .0)
+    (λ c.
+    let at-spanned = c .before .before .before .before in
+    let at-start = at-spanned .before .before .before .before .before .before .before .before .before .before .before .before .before .before .before in
+    count-fits (at-start .pre .1) (at-spanned .spanned .result) (at-spanned .spanned .ensures) .0)
     -- part-statement-end
     (λ c. search needs)
     -- sub-statement-2
-    (λ c. omega (arith, asked (c .before .before .before .before .before .before .before .before .before .before .before .before .before .before .before .before .before .before .before .before .pre .1) .nested))
+    (λ c.
+    let at-start = c .before .before .before .before .before .before .before .before .before .before .before .before .before .before .before .before .before .before .before .before in
+    omega (arith, asked (at-start .pre .1) .nested))
     -- add-statement
-    (λ c. omega (arith, asked (c .before .before .before .before .before .before .before .before .before .before .before .before .before .before .before .before .before .before .before .before .pre .1) .small))
+    (λ c.
+    let at-start = c .before .before .before .before .before .before .before .before .before .before .before .before .before .before .before .before .before .before .before .before in
+    omega (arith, asked (at-start .pre .1) .small))
     -- add-statement-2
-    (λ c. omega (arith, count-fits (c .before .before .before .before .before .before .before .before .before .before .before .before .before .before .before .before .before .before .before .before .pre .1) (c .before .before .before .before .before .spanned .result) (c .before .before .before .before .before .spanned .ensures)))
+    (λ c.
+    let at-spanned = c .before .before .before .before .before in
+    let at-start = at-spanned .before .before .before .before .before .before .before .before .before .before .before .before .before .before .before in
+    omega (arith, count-fits (at-start .pre .1) (at-spanned .spanned .result) (at-spanned .spanned .ensures)))
     -- statement-requires
-    (λ c κs. 
+    (λ c κs.
     let at-loop = c .before .before .before .before in
     let at-spanned = at-loop .before .before in
     let at-told = at-spanned .before .before .before in
     let at-operands = at-told .before .before .before .before in
     let at-a = at-operands .before .before .before in
-    let at-start = at-a .before .before .before .before .before in
-    (omega (arith, asked (at-start .pre .1) .nested), count-inner (at-operands .operands .ensures) _ (at-spanned .spanned .result) (at-told .enum-told .given .1) (at-spanned .spanned .ensures)
-    (rw (at-a .a-at .ensures) at (at-loop .enter-loop .ensures)) (at-start .pre .1)))
+    let at-start = at-a .before .before .before .before .before in (
+      omega (arith, asked (at-start .pre .1) .nested),
+      count-inner (at-operands .operands .ensures) _ (at-spanned .spanned .result) (at-told .enum-told .given .1) (at-spanned .spanned .ensures)
+          (rw (at-a .a-at .ensures) at (at-loop .enter-loop .ensures)) (at-start .pre .1),
+    ))
     -- enum-told-2
     (λ c. search needs)
     -- enum-known-k
@@ -578,7 +632,7 @@ counted-meets t = counted-lts.spec (a-at-reads.Asked, a-at-reads.Learnt, operand
     -- same-length
     (λ c. search needs)
     -- returns
-    (λ c. 
+    (λ c.
     let at-loop = c .before .before .before .before .before .before .before .before .before in
     let at-spanned = at-loop .before .before in
     let at-told = at-spanned .before .before .before in
@@ -590,7 +644,7 @@ counted-meets t = counted-lts.spec (a-at-reads.Asked, a-at-reads.Learnt, operand
     -- same-length-2
     (λ c. search needs)
     -- returns-2
-    (λ c. 
+    (λ c.
     let at-loop = c .before .before .before .before .before .before .before .before .before .before in
     let at-spanned = at-loop .before .before in
     let at-told = at-spanned .before .before .before in
@@ -1135,7 +1189,10 @@ simple-meets t =
     -- a-at-requires
     (λ c κs. omega (arith, asked (c .before .before .before .before .before .pre .1) .long))
     -- is-fixed-requires
-    (λ c κs. (c .before .before .kind-at .ensures, fixed-long (c .before .before .before .before .before .before .before .pre .1), asked (c .before .before .before .before .before .before .before .pre .1) .room))
+    (λ c κs.
+    let at-kind = c .before .before in
+    let at-start = at-kind .before .before .before .before .before in
+    (at-kind .kind-at .ensures, fixed-long (at-start .pre .1), asked (at-start .pre .1) .room))
     -- add-t16
     (λ c. omega (arith, asked (c .before .before .before .before .before .before .before .before .before .pre .1) .small))
     -- same-length
