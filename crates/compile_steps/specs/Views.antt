@@ -6,8 +6,8 @@ use Prim.Native.Nat.{ℕ, _<_, _≤_}
 use native.Mathlib.Omega.{arith}
 use lib.Dec.{eqb}
 use Rattle.values.specs.Operators.{Binary}
-use Rattle.language.specs.Tree.{Decl, Stmt, block, assign, when, choose, while, goto, assert, call, setLevel, select, for, Items, Arms, Target, Expr, number, truth, pattern, null, variable, invoke, field}
-use Rattle.language.specs.Tree.{make, operate1, operate2, conditional, fader, blockExpr}
+use Rattle.language.specs.Tree.{Decl, Stmt, block, assign, when, choose, while, goto, assert, call, setLevel, select, for, Items, Arms, Target, Expr, number, truth, pattern, null, variable, invoke}
+use Rattle.language.specs.Tree.{field, make, operate1, operate2, conditional, fader, blockExpr}
 use Rattle.compile_nodes.specs.Ready.{Node, stmt, expr, name, kindN}
 
 abbrev pub IsExpr : Node → Type 0
