@@ -1,4 +1,4 @@
--- The cells of a body are, in order, its declarations and cases as they stand in the table.
+-- The cells of a body are, in order, its declarations, cases and loops as they stand in the table.
 use mathlib.Core.Path.{_≡_, refl, ap, sym, _∙_}
 use mathlib.Core.Bool.{Bool, true, false}
 use mathlib.Core.List.{List, [], _∷_, _++_, map}
@@ -9,17 +9,18 @@ use Rattle.language.specs.Program.{flatTyped, flatDecl, flatS, flatItems, flatA
 use Rattle.logic.specs.Choice.{if_then_else_}
 use Rattle.values.specs.Types.{Ty, integer, logical, bits, reference, tyCode, tyByte}
 use Rattle.values.specs.Operators.{Binary}
-use Rattle.language.specs.Tree.{Decl, declare, holding, Stmt, block, assign, when, choose, while, goto, assert, call, setLevel, select, Items, noItem, label, item, Arms}
+use Rattle.language.specs.Tree.{Decl, declare, holding, Stmt, block, assign, when, choose, while, goto, assert, call, setLevel, select, for, Items, noItem, label, item, Arms}
 use Rattle.language.specs.Tree.{lastArm, arm, Target, toVariable, toField, Expr, number, truth, pattern, null, variable, invoke, field, make, operate1, operate2}
 use Rattle.language.specs.Tree.{conditional, fader, blockExpr, Exprs, noExpr, expr, Global}
 use Rattle.language.specs.Table.{Entry}
-use Rattle.language.specs.Names.{blockOf, expressionOf}
+use Rattle.language.specs.Names.{blockOf, expressionOf, loopOf}
 use Rattle.language.specs.Faults.{typeE, isTy}
+use Rattle.bytecode.specs.Macro.{Shape}
 use Rattle.bytecode.specs.Instructions.{go}
-use Rattle.compile_code.specs.Code.{Code, nil, op, mark, cell, _▸_, At, at, skip, after, cellsIn}
+use Rattle.compile_code.specs.Code.{Code, nil, op, mark, cell, _▸_, At, at, ahead, skip, after, cellsIn}
 use Rattle.compile_code.specs.Compile.{classesOf, classNames, Around, inside, outermost, bound, global, held, labels, scopesOf, passing, theLabels, hasLabel, labelAt}
 use Rattle.compile_code.specs.Compile.{Way, plainly, marked, ifTrue, ifFalse, wayOf, codeWay, codeGoto, codeHead, codeS, codeItems, codeArms, codeTarget, codeE, codeEs}
-use Rattle.compile_code.specs.Compile.{opsArms, tyTarget, tyE, tyIn}
+use Rattle.compile_code.specs.Compile.{opsArms, tyTarget, tyE, tyIn, found, codeStored, codeDownward, codeUpward, codeOnce, codeEntered, codeTurned}
 use Rattle.compile_symbols.specs.Numbers.{byteOf}
 use Rattle.compile_front.specs.Types.{typesOf, types-append}
 
@@ -52,6 +53,14 @@ none-goto (labels is x ∷ Γ) a l = pick (hasLabel a is) (none-goto Γ a l)
     pick : (b : Bool) → cellBytes (codeGoto Γ a) l ≡ l → cellBytes (if b then op (go (labelAt is (scopesOf Γ) (theLabels is ∷ passing Γ) x a)) else codeGoto Γ a) l ≡ l
     pick true h = refl
     pick false h = h
+
+none-entered : (c x z : ℕ) (m : Shape) (l : List ℕ) → cellBytes (codeEntered c x z m) l ≡ l
+unfolding cellBytes codeStored codeDownward codeUpward codeOnce
+none-entered c x z m l = refl
+
+none-turned : (c b z : ℕ) (m : Shape) (l : List ℕ) → cellBytes (codeTurned c b z m) l ≡ l
+unfolding cellBytes codeTurned
+none-turned c b z m l = refl
 
 module _ (cs : List ℕ) where
   way : (w : Way) (o : Binary) (Γ : List Around) (ts : List Ty) (t : Ty) (x : Code) (p : At) (f : List Ty → At → Code) (us vs : List Entry) → ((l : List ℕ) → cellBytes x l ≡ typesOf cs us l)
@@ -115,6 +124,18 @@ module _ (gs : List Global) where
         let q = at (p .address) (suc (p .cell)) in let b = skip 1 (after (codeE gs e Γ ts q) q) in let z = b .address + opsArms r (scopesOf Γ) (passing Γ) in
         ap (λ (m : List ℕ). 1 ∷ m)
         (seq (codeE gs e Γ ts q) (codeArms gs r (p .cell) 1 z Γ ts b) (flatE e) (flatArms r) (λ m. types-E e Γ ts q m) (λ m. types-Arms r (p .cell) 1 z Γ ts b m) l)
+    types-S (for a e f g s) Γ ts p l =
+        let q = at (p .address) (suc (suc (suc (p .cell)))) in let x = codeE gs e Γ ts q in let us = tyE gs Γ e ∷ ts in
+        let y = codeE gs f Γ us (after x q) in let vs = tyE gs Γ f ∷ us in let z = codeE gs g Γ vs (after y (after x q)) in
+        let h = after z (after y (after x q)) in let b = skip 48 h in let Δ = bound a (p .cell) ∷ inside (loopOf a) ∷ Γ in
+        let w = codeS gs s Δ ts b in let end = ahead 13 (after w b .address) in
+        let i = codeEntered (p .cell) (h .address) end (found Γ ts) in let o = codeTurned (p .cell) (b .address) end (found Γ ts) in
+        ap (λ (m : List ℕ). 1 ∷ 1 ∷ 1 ∷ m)
+        (seq x (y ▸ (z ▸ (i ▸ (w ▸ o)))) (flatE e) (flatE f ++ (flatE g ++ flatS s)) (λ m. types-E e Γ ts q m)
+        (λ m. seq y (z ▸ (i ▸ (w ▸ o))) (flatE f) (flatE g ++ flatS s) (λ n. types-E f Γ us (after x q) n)
+        (λ n. seq z (i ▸ (w ▸ o)) (flatE g) (flatS s) (λ k. types-E g Γ vs (after y (after x q)) k)
+        (λ k. none-entered (p .cell) (h .address) end (found Γ ts) (cellBytes w (cellBytes o k))
+        ∙ (types-S s Δ ts b (cellBytes o k) ∙ ap (typesOf cs (flatS s)) (none-turned (p .cell) (b .address) end (found Γ ts) k))) n) m) l)
 
     pub types-Items : (is : Items) (Γ : List Around) (ts : List Ty) (p : At) (l : List ℕ) → cellBytes (codeItems gs is Γ ts p) l ≡ typesOf cs (flatItems is) l
     types-Items noItem Γ ts p l = refl

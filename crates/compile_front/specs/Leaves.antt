@@ -2,11 +2,11 @@
 use mathlib.Core.Path.{_≡_, refl, ap, sym, _∙_}
 use mathlib.Core.Bool.{Bool, true, false}
 use mathlib.Core.List.{List, [], _∷_, _++_}
-use Prim.Native.Nat.{ℕ, _+_, _*_, _/_, _≤_, _<_}
+use Prim.Native.Nat.{ℕ, zero, suc, _+_, _-_, _*_, _/_, _≤_, _<_}
 use native.Mathlib.Omega.{arith}
 use lib.Dec.{eqb}
 use lib.IntN.{natAbs}
-use lib.ListN.{length, set, getD}
+use lib.ListN.{length, set, getD, replicate, length-replicate}
 use Rattle.logic.specs.Choice.{if_then_else_}
 use Rattle.words.specs.Numbers.{halfAt}
 use Rattle.language.specs.Table.{Entry}
@@ -15,40 +15,52 @@ use Rattle.table_entries.specs.Entries.{entryAt}
 use Rattle.compile_symbols.specs.Numbers.{typeIn, byteOf, cellsWithin}
 use Rattle.compile_symbols.specs.Tabled.{classesIn, between, between-entry, between-none}
 use Rattle.compile_symbols.specs.Entries.{cellsOfKind, cells-few}
-use Rattle.compile_front.specs.Types.{typeOf, typesOf, types-append, types-end}
+use Rattle.compile_front.specs.Types.{typesOf, types-append, types-end}
 use Rattle.compile_front.specs.Told.{TypesKnown}
-use Rattle.compile_front.specs.Writing.{Wrote, wrote-as, wrote-nothing, Writing, writing-start, writing-next, writing-room, writing-end}
+use Rattle.compile_front.specs.Writing.{Wrote, wrote-as, Writing, writing-start, writing-next, writing-room, writing-end}
+
+-- ── a byte so many times ──
+pub record SameWriting (old : List ℕ) (from count v : ℕ) (new : List ℕ) (at left : ℕ) : Type 0 where
+  pub writing : Writing old from (replicate count v) new at (replicate left v)
+
+pub same-start : (old : List ℕ) (from count v : ℕ) → SameWriting old from count v old from count
+same-start old from count v = record { writing = writing-start old from (replicate count v) }
+
+same-more : (left v : ℕ) → 0 < left → replicate left v ≡ v ∷ replicate (left - 1) v
+same-more zero v h = absurd (omega arith)
+same-more (suc left) v h = let e : suc left - 1 ≡ left = omega arith in rw e
+
+module _ {old new : List ℕ} {from count v at left : ℕ} (s : SameWriting old from count v new at left) where
+  pub same-room : from + count ≤ length old → at + left ≤ length new
+  same-room h = omega (arith, s .writing .whole, s .writing .long, length-replicate left v, length-replicate count v)
+
+  pub same-next : 0 < left → SameWriting old from count v (set new at v) (at + 1) (left - 1)
+  same-next h = record { writing = writing-next (s .writing) (v ∷ []) (replicate (left - 1) v) (same-more left v h) (record { written = refl; ends = refl }) }
+
+  pub same-done : left ≡ 0 → Wrote old from (replicate count v) new at
+  same-done e = writing-end (s .writing) (ap (λ (n : ℕ). replicate n v) e)
 
 -- ── one entry ──
-type-some : (a b : Bool) (x : ℕ) → _≡_ {A = ℕ} (if a then 1 else if b then 1 else 0) 1 → _≡_ {A = List ℕ} (if a then x ∷ [] else if b then 1 ∷ [] else []) ((if a then x else 1) ∷ [])
-type-some true b x h = refl
-type-some false true x h = refl
-type-some false false x h = absurd (omega arith)
+type-same : (a b c : Bool) (x v : ℕ) → (0 < (if a then 1 else if b then 1 else if c then 3 else 0) → v ≡ (if a then x else 1))
+    → replicate (if a then 1 else if b then 1 else if c then 3 else 0) v ≡ (if a then x ∷ [] else if b then 1 ∷ [] else if c then 1 ∷ 1 ∷ 1 ∷ [] else [])
+type-same true b c x v h = rw (h (omega arith))
+type-same false true c x v h = rw (h (omega arith))
+type-same false false true x v h = rw (h (omega arith))
+type-same false false false x v h = refl
 
-type-none : (a b : Bool) (x : ℕ) → ¬ (_≡_ {A = ℕ} (if a then 1 else if b then 1 else 0) 1) → _≡_ {A = List ℕ} (if a then x ∷ [] else if b then 1 ∷ [] else []) []
-type-none true b x h = absurd (h refl)
-type-none false true x h = absurd (h refl)
-type-none false false x h = refl
-
-module _ (l known : List ℕ) (i : ℕ) (old : List ℕ) (at : ℕ) where
-  pub put-some : (v : ℕ) → TypesKnown l known → 1 ≤ i → i < length l / 8 → cellsOfKind (halfAt l (8 * i)) ≡ 1 → v ≡ typeIn (getD known i 0)
-      → Wrote old at (typesOf (classesIn l) (entryAt l i ∷ []) []) (set old at v) (at + 1)
+module _ (l known : List ℕ) (i v : ℕ) (h : TypesKnown l known) (some : 1 ≤ i) (within : i < length l / 8) (tells : v ≡ typeIn (getD known i 0)) where
+  types-same : replicate (cellsOfKind (halfAt l (8 * i))) v ≡ typesOf (classesIn l) (entryAt l i ∷ []) []
   unfolding typesOf
-  put-some v h a b e d =
-      let e' = entryAt l i in
-      let x = byteOf (classesIn l) (natAbs (e' .b)) in
-      let z : v ∷ [] ≡ typeOf (classesIn l) e' [] = ap (λ (n : ℕ). n ∷ []) (d ∙ h .tells i a b e) ∙ sym (type-some (eqb (e' .kind) 10) (eqb (e' .kind) 30) x e) in
-      wrote-as (record { written = refl; ends = refl }) z
+  types-same =
+      let e = entryAt l i in
+      type-same (eqb (e .kind) 10) (eqb (e .kind) 30) (eqb (e .kind) 31) (byteOf (classesIn l) (natAbs (e .b))) v (λ k. tells ∙ h .tells i some within k)
 
-  pub put-none : ¬ (cellsOfKind (halfAt l (8 * i)) ≡ 1) → Wrote old at (typesOf (classesIn l) (entryAt l i ∷ []) []) old at
-  unfolding typesOf
-  put-none h =
-      let e' = entryAt l i in
-      wrote-as (wrote-nothing old at) (sym (type-none (eqb (e' .kind) 10) (eqb (e' .kind) 30) (byteOf (classesIn l) (natAbs (e' .b))) h))
+  pub type-room : (n : ℕ) → n ≡ cellsOfKind (halfAt l (8 * i)) → length (typesOf (classesIn l) (entryAt l i ∷ []) []) ≡ n
+  type-room n e = sym (ap length types-same) ∙ (length-replicate (cellsOfKind (halfAt l (8 * i))) v ∙ sym e)
 
-  pub type-room : 1 ≡ cellsOfKind (halfAt l (8 * i)) → length (typesOf (classesIn l) (entryAt l i ∷ []) []) ≡ 1
-  unfolding typesOf
-  type-room h = let e' = entryAt l i in ap length (type-some (eqb (e' .kind) 10) (eqb (e' .kind) 30) (byteOf (classesIn l) (natAbs (e' .b))) (sym h))
+  pub put-cells : {old new : List ℕ} {at r : ℕ} (n : ℕ) → n ≡ cellsOfKind (halfAt l (8 * i)) → Wrote old at (replicate n v) new r
+      → Wrote old at (typesOf (classesIn l) (entryAt l i ∷ []) []) new r
+  put-cells n e w = wrote-as w (ap (λ (m : ℕ). replicate m v) e ∙ types-same)
 
 -- ── from a place to another ──
 pub types-step : (l cs : List ℕ) (i to : ℕ) → i < to → to ≤ length l / 8
@@ -85,7 +97,7 @@ module _ {l old new : List ℕ} {at from to i place : ℕ} (s : TypesWriting l o
 pub record CountSoFar (l : List ℕ) (from to i n : ℕ) : Type 0 where
   pub same : n + cellsWithin (between i to (entriesOf l)) ≡ cellsWithin (between from to (entriesOf l))
   pub most : i ≤ to
-  pub few : n ≤ i
+  pub few : n ≤ 3 * i
 
 pub count-start : (l : List ℕ) (from to : ℕ) → from ≤ to → CountSoFar l from to from 0
 count-start l from to h = record { same = omega arith; most = h; few = omega arith }

@@ -23,7 +23,7 @@ use Rattle.compile_front.specs.Types.{typesOf, types-length}
 use Rattle.compile_front.specs.Bodies.{root-cells, proc-cells}
 use Rattle.compile_front.specs.Front.{Measuring}
 
-cells-most : (us : List Entry) → cellsWithin us ≤ length us
+cells-most : (us : List Entry) → cellsWithin us ≤ 3 * length us
 unfolding cellsWithin
 cells-most [] = omega arith
 cells-most (u ∷ us) = omega (arith, cells-most us, cells-few (u .kind))
@@ -83,7 +83,7 @@ module _ {t : Tree} {l : List ℕ} {classes bodies : ℕ} (m : Measuring t l cla
   measured =
       omega (arith, cells-all, front-length (compiled t), head-length t (t .head) (after (codeRoot t) (at 0 0) .address), root-count t, m .classes-are, m .bodies-are)
 
-  pub few-measured : (classes ≤ 2048) × (bodies ≤ 2049) × (cellsWithin (between 0 (length l / 8) (entriesOf l)) ≤ 2048)
+  pub few-measured : (classes ≤ 2048) × (bodies ≤ 2049) × (cellsWithin (between 0 (length l / 8) (entriesOf l)) ≤ 6144)
   unfolding flatten
   few-measured =
       let n = length-entries (length l / 8) l in

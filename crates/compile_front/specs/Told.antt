@@ -26,12 +26,12 @@ use Rattle.compile_symbols.specs.Entries.{oneIf, cellsOfKind, cells-few, number
 use Rattle.compile_symbols.specs.Whole.{owned-body, kindOf, global-first, has}
 use Rattle.compile_code.specs.Counts.{length-classes, length-class-names}
 
--- the byte of an entry that has a type
+-- the byte of an entry that has cells
 abbrev pub typeByte : List ℕ → Entry → ℕ
 typeByte cs e = if eqb (e .kind) 10 then byteOf cs (natAbs (e .b)) else 1
 
 abbrev pub Tells : List ℕ → Entry → ℕ → Type 0
-Tells cs e n = cellsOf e ≡ 1 → typeIn n ≡ typeByte cs e
+Tells cs e n = 0 < cellsOf e → typeIn n ≡ typeByte cs e
 
 unfoldable pub Agrees : List ℕ → List Entry → List ℕ → Type 0
 Agrees cs [] [] = Unit {0}
@@ -50,16 +50,18 @@ all-right [] vs h = h
 all-right (u ∷ us) vs h = all-right us vs (both-right (inLayout u) (all inLayout (us ++ vs)) h)
 
 module _ (cs : List ℕ) (few : length cs ≤ 16) where
-  number-tells : (o n : ℕ) (e : Entry) → o ≤ 16 → n ≤ 4096 → inLayout e ≡ true → Tells cs e (numberOf cs o n e)
-  number-tells o n e h k y = go (eqb (e .kind) 10) refl (eqb (e .kind) 30) refl
+  number-tells : (o n : ℕ) (e : Entry) → o ≤ 16 → n ≤ 8192 → inLayout e ≡ true → Tells cs e (numberOf cs o n e)
+  number-tells o n e h k y = go (eqb (e .kind) 10) refl (eqb (e .kind) 30) (eqb (e .kind) 31)
     where
-      go : (a : Bool) → eqb (e .kind) 10 ≡ a → (b : Bool) → eqb (e .kind) 30 ≡ b → _≡_ {A = ℕ} (if a then 1 else if b then 1 else 0) 1
-          → typeIn (if a then packed (byteOf cs (natAbs (e .b))) o n else if b then packed 1 0 n else 0) ≡ (if a then byteOf cs (natAbs (e .b)) else 1)
-      go true i b j w = let z = layout-byte cs e y (eqb-true (e .kind) 10 i) in omega arith
-      go false i true j w = omega arith
-      go false i false j w = absurd (omega arith)
+      go : (a : Bool) → eqb (e .kind) 10 ≡ a → (b c : Bool) → 0 < (if a then 1 else if b then 1 else if c then 3 else 0)
+          → typeIn (if a then packed (byteOf cs (natAbs (e .b))) o n else if b then packed 1 0 n else if c then packed 1 0 n else 0)
+          ≡ (if a then byteOf cs (natAbs (e .b)) else 1)
+      go true i b c w = let z = layout-byte cs e y (eqb-true (e .kind) 10 i) in omega arith
+      go false i true c w = omega arith
+      go false i false true w = omega arith
+      go false i false false w = absurd (omega arith)
 
-  owned-agrees : (o n : ℕ) (es : List Entry) → o ≤ 16 → n + length es ≤ 4096 → all inLayout es ≡ true → Agrees cs es (numbersOwned cs o n es)
+  owned-agrees : (o n : ℕ) (es : List Entry) → o ≤ 16 → n + 3 * length es ≤ 8192 → all inLayout es ≡ true → Agrees cs es (numbersOwned cs o n es)
   unfolding Agrees numbersOwned all
   owned-agrees o n [] h k y = tt
   owned-agrees o n (e ∷ es) h k y = (
@@ -67,7 +69,7 @@ module _ (cs : List ℕ) (few : length cs ≤ 16) where
     owned-agrees o (n + cellsOf e) es h (omega (arith, cells-few (e .kind))) (both-right (inLayout e) (all inLayout es) y),
   )
 
-  global-agrees : (n : Numbers) (g : Global) → n .classes ≤ 16 → n .cells + length (flatGlobal g) ≤ 4096 → all inLayout (flatGlobal g) ≡ true
+  global-agrees : (n : Numbers) (g : Global) → n .classes ≤ 16 → n .cells + 3 * length (flatGlobal g) ≤ 8192 → all inLayout (flatGlobal g) ≡ true
       → Agrees cs (flatGlobal g) (numbersGlobal cs n (flatGlobal g))
   unfolding Agrees numbersGlobal flatGlobal flatDecl flatTyped all
   global-agrees n (local (declare x)) h k y = (number-tells 1 (n .cells) (flatDecl (declare x)) (omega arith) (omega arith) (both-left (inLayout (flatDecl (declare x))) true y), tt)
@@ -88,8 +90,8 @@ module _ (cs : List ℕ) (few : length cs ≤ 16) where
   agrees-append (u ∷ us) vs (m ∷ ms) ns h k = (h .0, agrees-append us vs ms ns (h .1) k)
 
   -- all declarations, and then others
-  globals-agree : (gs : List Global) (n : Numbers) (us : List Entry) (f : ℕ → List ℕ) → ((m : ℕ) → m + length us ≤ 4096 → Agrees cs us (f m)) → n .classes + length (classesOf gs) ≤ 16
-      → n .cells + length (flatHead gs) + length us ≤ 4096 → all inLayout (flatHead gs) ≡ true
+  globals-agree : (gs : List Global) (n : Numbers) (us : List Entry) (f : ℕ → List ℕ) → ((m : ℕ) → m + 3 * length us ≤ 8192 → Agrees cs us (f m)) → n .classes + length (classesOf gs) ≤ 16
+      → n .cells + 3 * length (flatHead gs) + 3 * length us ≤ 8192 → all inLayout (flatHead gs) ≡ true
       → Agrees cs (flatHead gs ++ us) (numbersGlobals cs (n .cells) (n .classes) (n .bodies) gs f)
   unfolding flatHead numbersGlobals
   globals-agree [] n us f h a b y = h (n .cells) (omega arith)
@@ -131,7 +133,7 @@ types-known {l} known more h w e =
     let y : all inLayout (us ++ vs) ≡ true = both-right (inLayout (entry 1 (length (t .head)) (pos (countItems (t .items))))) (all inLayout (us ++ vs)) (h .readable .layout) in
     let d : drop 1 (entriesOf l) ≡ us ++ vs = ap (λ (es : List Entry). drop 1 es) (h .same) in
     let m : length us + length vs ≤ 2048 = omega (arith, length-append us vs, ap length (h .same), length-entries (length l / 8) l, entries-few h) in
-    let f : (k : ℕ) → k + length vs ≤ 4096 → Agrees cs vs (numbersFrom cs k vs) = λ k q. rw (owned-body cs k vs) (owned-agrees cs few 0 k vs (omega arith) q (all-right us vs y)) in
+    let f : (k : ℕ) → k + 3 * length vs ≤ 8192 → Agrees cs vs (numbersFrom cs k vs) = λ k q. rw (owned-body cs k vs) (owned-agrees cs few 0 k vs (omega arith) q (all-right us vs y)) in
     let g : Agrees cs (us ++ vs) (numbersOf t) =
     globals-agree cs few (t .head) (record { cells = 0; classes = 0; bodies = 1 }) vs (λ k. numbersFrom cs k vs) f (omega arith) (omega arith) (all-left us vs y) in
     record {

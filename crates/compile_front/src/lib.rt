@@ -4,7 +4,7 @@ use formats::entries::*;
 ghost use mathlib.Core.Path.{_≡_};
 ghost use mathlib.Core.List.{_∷_, _++_};
 ghost use Prim.Native.Nat.{_+_, _-_, _*_, _/_, _%_, _≤_, _<_};
-ghost use lib.ListN.{length, getD};
+ghost use lib.ListN.{length, getD, replicate};
 ghost use lib.Seq.{sets};
 ghost use Rattle.words.specs.Numbers.{half, halfAt, wordAt};
 ghost use Rattle.language.specs.Tree.{Tree};
@@ -19,7 +19,7 @@ ghost use Rattle.compile_front.specs.Writing.{Wrote};
 ghost use Rattle.compile_front.specs.Front.{bodyHead, typeAt, typesBetween, classAt, bodyAt, Brief, firstAfter, afterHead, rootTypes};
 ghost use Rattle.compile_front.specs.Front.{classesFront, variablesFront, procsFront, Ended, Measuring, Fronted};
 
-// How many of the entries from a place to another have a type: each is one byte of a CL or BD record.
+// How many types the entries from a place to another have: each is one byte of a CL or BD record. A case has one, and a for three.
 fn typed_in(table: &[u8], from: usize, to: usize) -> usize
     requires { ⌜ (from ≤ to) × (to ≤ length (now table) / 8) ⌝ }
     ensures { λ r. ⌜ r ≡ cellsWithin (between from to (entriesOf (now (table .entry)))) ⌝ }
@@ -45,16 +45,28 @@ pub fn length(table: &[u8], classes: usize, bodies: usize) -> usize
 }
 
 // ── types ──
-// The byte of an entry's type, if it has one.
+// A byte so many times.
+fn put_same(ty: u8, count: usize, out: &mut [u8], from: usize) -> usize
+    requires { ⌜ from + count ≤ length (now out) ⌝ }
+    ensures { λ r. ⌜ Wrote (now (out .entry)) from (replicate count ty) (now (out .exit)) r ⌝ }
+{
+    let mut at = from;
+    let mut left = count;
+    while 0 < left {
+        out[at] = ty;
+        at += 1;
+        left -= 1;
+    }
+    at
+}
+
+// The byte of an entry's type, for each of its cells.
 fn put_type(table: &[u8], i: usize, known: &[u32], out: &mut [u8], at: usize) -> usize
     requires { ⌜ TypesKnown (now table) (now known) × (1 ≤ i) × (i < length (now table) / 8) × (at + length (typeAt (now table) i) ≤ length (now out)) ⌝ }
     ensures { λ r. ⌜ Wrote (now (out .entry)) at (typeAt (now (table .entry)) i) (now (out .exit)) r ⌝ }
 {
-    if compile_symbols::cells_of(table_entries::kind_at(table, i)) == 1 {
-        out[at] = compile_symbols::type_in(known[i]);
-        return at + 1;
-    }
-    at
+    let cells = compile_symbols::cells_of(table_entries::kind_at(table, i));
+    put_same(compile_symbols::type_in(known[i]), cells, out, at)
 }
 
 // Of the entries from a place to another.

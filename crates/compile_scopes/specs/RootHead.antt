@@ -17,7 +17,8 @@ use Rattle.logic.specs.Choice.{if_then_else_}
 use Rattle.values.specs.Types.{Ty, integer, logical, bits, reference, tyCode, tyByte}
 use Rattle.language.specs.Tree.{Typed, declare, holding, Body, proper, function, Global, local, class, procedure, locals}
 use Rattle.language.specs.Table.{entry, inLayout}
-use Rattle.language.specs.Names.{Sort, isVariable, isLabel, isClass, isField, isProcedure, isControl, types, results, definesHead, definesFields, definesGlobals, Scope, nowhere, found, firstOf, otherwise}
+use Rattle.language.specs.Names.{Sort, isVariable, isLabel, isClass, isField, isProcedure, isControl, types, results, definesHead, definesFields}
+use Rattle.language.specs.Names.{definesGlobals, Scope, nowhere, found, firstOf, otherwise}
 use Rattle.language.specs.Names as names
 use Rattle.language.specs.Faults.{namesHead, namesTyped, sizeBody, sizeGlobal}
 use Rattle.language.specs.Limits.{headCells}

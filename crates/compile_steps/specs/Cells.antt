@@ -9,16 +9,18 @@ use Rattle.language.specs.Program.{flatDecl, flatS, flatItems, flatArms, flatTa
 use Rattle.logic.specs.Choice.{if_then_else_}
 use Rattle.values.specs.Types.{Ty, logical}
 use Rattle.values.specs.Operators.{Binary}
+use Rattle.bytecode.specs.Macro.{Shape}
 use Rattle.bytecode.specs.Instructions.{go}
-use Rattle.language.specs.Tree.{Decl, declare, holding, Stmt, block, assign, when, choose, while, goto, assert, call, setLevel, select, Items, noItem, label, item, Arms}
+use Rattle.language.specs.Tree.{Decl, declare, holding, Stmt, block, assign, when, choose, while, goto, assert, call, setLevel, select, for, Items, noItem, label, item, Arms}
 use Rattle.language.specs.Tree.{lastArm, arm, Target, toVariable, toField, Expr, number, truth, pattern, null, variable, invoke, field, make, operate1, operate2}
 use Rattle.language.specs.Tree.{conditional, fader, blockExpr, Exprs, noExpr, expr, Global}
-use Rattle.language.specs.Names.{blockOf, expressionOf}
+use Rattle.language.specs.Names.{blockOf, expressionOf, loopOf}
 use Rattle.language.specs.Faults.{typeE, isTy}
 use Rattle.table_scopes.specs.Trees.{length-S, length-E}
 use Rattle.compile_code.specs.Code.{Code, op, cell, _▸_, At, at, skip, after}
 use Rattle.compile_code.specs.Compile.{Around, inside, outermost, bound, global, held, labels, scopesOf, passing, theLabels, hasLabel, labelAt, Way, plainly, marked}
 use Rattle.compile_code.specs.Compile.{ifTrue, ifFalse, wayOf, codeWay, codeGoto, codeHead, codeS, codeItems, codeArms, codeTarget, codeE, codeEs, opsArms, tyTarget, tyE}
+use Rattle.compile_code.specs.Compile.{codeStored, codeDownward, codeUpward, codeOnce, codeEntered, codeTurned}
 use Rattle.compile_symbols.specs.Numbers.{cellsWithin}
 use Rattle.compile_nodes.specs.Ends.{aroundHead, atHead, endsS, endsE}
 use Rattle.compile_scopes.specs.HeadOps.{head-cells}
@@ -39,6 +41,15 @@ goto-cell (labels is x ∷ Γ) a p = pick (hasLabel a is) (goto-cell Γ a p)
     pick : (b : Bool) → after (codeGoto Γ a) p .cell ≡ p .cell → after (if b then op (go (labelAt is (scopesOf Γ) (theLabels is ∷ passing Γ) x a)) else codeGoto Γ a) p .cell ≡ p .cell
     pick true h = refl
     pick false h = h
+
+-- ── a loop's own code: where it ends ──
+pub after-entered : (c x z : ℕ) (m : Shape) (p : At) → after (codeEntered c x z m) p ≡ skip 48 p
+unfolding after codeStored codeDownward codeUpward codeOnce
+after-entered c x z m p = refl
+
+pub after-turned : (c b z : ℕ) (m : Shape) (p : At) → after (codeTurned c b z m) p ≡ skip 13 p
+unfolding after codeTurned
+after-turned c b z m p = refl
 
 pub at-head-cell : (ds : List Decl) (p : At) → atHead ds p .cell ≡ p .cell + cellsWithin (map flatDecl ds)
 at-head-cell ds p = head-cells ds p ∙ ap (λ (n : ℕ). p .cell + n) (sym (within-head ds))
@@ -61,7 +72,7 @@ module _ (gs : List Global) where
   way-cell ifFalse o Γ st t x p f n k h g = omega (arith, h, g st (skip 3 (after x p)))
 
   mutual
-    unfolding after codeS flatS cellsWithin
+    unfolding after codeS flatS cellsWithin codeStored codeDownward codeUpward codeOnce codeTurned
 
     pub cell-S : (s : Stmt) (Γ : List Around) (st : List Ty) (p : At) → after (codeS gs s Γ st p) p .cell ≡ p .cell + cellsWithin (flatS s)
     cell-S (block ds is) Γ st p =
@@ -89,6 +100,19 @@ module _ (gs : List Global) where
     cell-S (select e r) Γ st p =
         let q = at (p .address) (suc (p .cell)) in let b = skip 1 (after (codeE gs e Γ st q) q) in
         omega (arith, cell-E e Γ st q, cell-arms r (p .cell) 1 (b .address + opsArms r (scopesOf Γ) (passing Γ)) Γ st b, cells-append (flatE e) (flatArms r))
+    cell-S (for a e f g s) Γ st p =
+        let q = at (p .address) (suc (suc (suc (p .cell)))) in let r = after (codeE gs e Γ st q) q in let ts = tyE gs Γ e ∷ st in
+        let t = after (codeE gs f Γ ts r) r in let us = tyE gs Γ f ∷ ts in let b = skip 48 (after (codeE gs g Γ us t) t) in
+        omega (
+          arith,
+          cell-E e Γ st q,
+          cell-E f Γ ts r,
+          cell-E g Γ us t,
+          cell-S s (bound a (p .cell) ∷ inside (loopOf a) ∷ Γ) st b,
+          cells-append (flatE e) (flatE f ++ (flatE g ++ flatS s)),
+          cells-append (flatE f) (flatE g ++ flatS s),
+          cells-append (flatE g) (flatS s),
+        )
 
     pub cell-items : (is : Items) (Γ : List Around) (st : List Ty) (p : At) → after (codeItems gs is Γ st p) p .cell ≡ p .cell + cellsWithin (flatItems is)
     cell-items noItem Γ st p = omega arith

@@ -36,7 +36,7 @@ use Rattle.compile_code.specs.Compile.{Around, inside, outermost, bound, global
 use Rattle.compile_code.specs.Compile.{codeE, tyE, tyIn, loading, cellOf, classNumber}
 use Rattle.compile_code.specs.Compile as compile
 use Rattle.compile_code.specs.Encode.{rec, recordOf}
-use Rattle.compile_names.specs.Good.{goodS, goodE}
+use Rattle.compile_names.specs.Good.{VariableAt, goodS, goodE}
 use Rattle.compile_names.specs.Known.{nothing}
 use Rattle.compile_symbols.specs.Numbers.{firstIn, secondIn}
 use Rattle.compile_symbols.specs.Meaning.{meaningOf, knownOf}
@@ -49,7 +49,7 @@ use Rattle.compile_nodes.specs.Ready.{Node, stmt, expr, name, codeN, endsN, Lea
 use Rattle.compile_emit.specs.EmitEntry.{names as namesBy, knownFor, ownerBy, emitLeaf, leafType, cursorGoto, emitGoto}
 use Rattle.compile_steps.specs.Parts.{lent, head-N, wrote-length, kept-out, movedTo}
 use Rattle.compile_steps.specs.Stages.{Stage, stage-start, stage-fits-mark, stage-op, stage-mark, stage-part, stage-done}
-use Rattle.compile_steps.specs.Named.{meaning-of, variable-type, variable-load, class-type, class-first}
+use Rattle.compile_steps.specs.Named.{meaning-of, variable-meaning, variable-type, variable-load, class-type, class-first}
 use Rattle.compile_steps.specs.Views.{IsLeaf}
 
 -- the numbers of an entry
@@ -65,9 +65,9 @@ truth-word : (b : Bool) → valueWord (log b) ≡ wordOf (flag b)
 truth-word true = refl
 truth-word false = refl
 
-variable-ty : (gs : List Global) (Γ : List Around) (a : ℕ) (t : Ty) (w : Bool) → lookup a (scopesOf Γ) ≡ found (isVariable t) w → tyByte (tyE gs Γ (variable a)) ≡ tyByte (tyIn gs t)
+variable-ty : (gs : List Global) (Γ : List Around) (a : ℕ) (t : Ty) → VariableAt a (scopesOf Γ) t → tyByte (tyE gs Γ (variable a)) ≡ tyByte (tyIn gs t)
 unfolding typeE
-variable-ty gs Γ a t w h = rw h
+variable-ty gs Γ a t h = rw (h .2 .1, h .1)
 
 -- ── one instruction ──
 module _ {W : Walk} {X : Place} {l part : List ℕ} {nesting at : ℕ} {sizes : List ℕ} {L : Lent} {top holds depth : ℕ} {cursor : Cursor} where
@@ -128,11 +128,12 @@ module _ {W : Walk} {X : Place} {l part : List ℕ} {nesting at : ℕ} {sizes : 
     leaf-done (expr (variable a)) h r =
         let d = head-N (expr (variable a)) (r .table) (r .laid .stands) in
         let e : k ≡ meaningOf a (envOf (L .env) top) (W .known) = rw (d .kind, d .a) at known in
-        let m = meaning-of (r .stood .sees) (r .stood .knows) a (rw (d .a) at (half-small (r .table))) _ _ (r .good .1 .1) in
+        let m = variable-meaning (r .good .1 .0) (r .good .0) (r .good .1 .1)
+        (meaning-of (r .stood .sees) (r .stood .knows) a (rw (d .a) at (half-small (r .table))) _ _ (r .good .1 .2 .1)) in
         leaf-step (expr (variable a)) (loading (cellOf a (X .around))) r refl refl 5 (ownerBy (cursor .inside) k) (secondIn k) (rw (d .kind) at j)
         (λ dry. variable-load m k e (cursor .inside) (r .stood .inside)) f _
         (put (expr (variable a)) r (tyByte (tyE (W .globals) (X .around) (variable a)))
-        (variable-ty (W .globals) (X .around) a (r .good .0) (r .good .1 .0) (r .good .1 .1)
+        (variable-ty (W .globals) (X .around) a (r .good .0) (r .good .1)
         ∙ (sym (variable-type m k e) ∙ sym (rw (d .kind) at type))) (omega (arith, r .few-values)))
     leaf-done (stmt s) h ready = absurd h
     leaf-done (expr (invoke a es)) h ready = absurd h
@@ -231,6 +232,7 @@ label-at {l} {v} {ss} see a small e = by (find a v) refl (lookup a ss) e (see .s
     by (Def t n q u) h (found (names.isClass i) r) z g = let y : _≡_ {A = ℕ} 0 1 = cc in absurd (omega arith)
     by (Def t n q u) h (found (names.isField c i) r) z g = let y : _≡_ {A = ℕ} 0 1 = cc in absurd (omega arith)
     by (Def t n q u) h (found (names.isProcedure i j) r) z g = let y : _≡_ {A = ℕ} 0 1 = cc in absurd (omega arith)
+    by (Def t n q u) h (found names.isControl r) z g = let y : _≡_ {A = ℕ} 0 1 = cc in absurd (omega arith)
 
 module _ (a : ℕ) {W : Walk} {X : Place} {l part : List ℕ} {nesting at : ℕ} {sizes : List ℕ} {L : Lent} {top holds depth : ℕ} {cursor : Cursor}
     (r : Ready (stmt (goto a)) W X l part nesting at sizes L top holds depth cursor) where

@@ -2,11 +2,12 @@
 use mathlib.Core.Path.{_≡_, refl, ap, _∙_, subst}
 use mathlib.Core.Bool.{Bool}
 use mathlib.Core.List.{List}
+use mathlib.Core.Option.{some}
 use Prim.Native.Nat.{ℕ, _+_, _<_}
 use native.Mathlib.Omega.{arith}
 use lib.ListN.{getD}
-use Rattle.values.specs.Types.{Ty, reference, tyByte}
-use Rattle.language.specs.Names.{Sort, isVariable, isClass, isField, isProcedure, nowhere, found, lookup}
+use Rattle.values.specs.Types.{Ty, integer, reference, tyByte}
+use Rattle.language.specs.Names.{Sort, isVariable, isLabel, isClass, isField, isProcedure, isControl, asVariable, nowhere, found, lookup}
 use Rattle.language.specs.Names as names
 use Rattle.table_scopes.specs.declared.environment.Found.{Found}
 use Rattle.table_scopes.specs.declared.environment.Found.the-variants.{Nothing, Def}
@@ -18,7 +19,7 @@ use Rattle.compile_names.specs.Known.{nothing}
 use Rattle.compile_symbols.specs.Numbers.{packed, typeIn, firstIn, secondIn}
 use Rattle.compile_symbols.specs.Packed.{type-packed, first-packed, second-packed}
 use Rattle.compile_symbols.specs.Meaning.{meaningOf, knownOf}
-use Rattle.compile_nodes.specs.Knows.{Walk, Means, Known, Knows, resultOf}
+use Rattle.compile_nodes.specs.Knows.{Walk, MeansCell, Means, Known, Knows, resultOf}
 use Rattle.compile_emit.specs.EmitEntry.{ownerBy}
 
 pub record Meaning (W : Walk) (v : List Item) (Γ : List Around) (a : ℕ) (s : Sort) : Type 0 where
@@ -37,6 +38,17 @@ meaning-of {W} {l} {v} {Γ} see know a small s b e = go (find a v) refl (lookup 
     go (Def t n q u) h (found i r) z g k = let y : i ≡ s = cc in record { place = q; read = ap (knownOf (W .known)) h; means = subst (λ j. Means W Γ a q j) y k }
 
 module _ {W : Walk} {v : List Item} {Γ : List Around} {a : ℕ} where
+  -- a control name stands for its cell as a variable does
+  pub variable-meaning : (s : Sort) (t : Ty) → asVariable s ≡ some t → Meaning W v Γ a s → Meaning W v Γ a (isVariable t)
+  variable-meaning (isVariable u) t e m =
+      let z : u ≡ t = cc in record { place = m .place; read = m .read; means = subst (λ x. MeansCell W Γ a (m .place) x) z (m .means) }
+  variable-meaning isLabel t e m = let z : _≡_ {A = ℕ} 0 1 = cc e in absurd (omega arith)
+  variable-meaning (isClass ts) t e m = let z : _≡_ {A = ℕ} 0 1 = cc e in absurd (omega arith)
+  variable-meaning (isField c u) t e m = let z : _≡_ {A = ℕ} 0 1 = cc e in absurd (omega arith)
+  variable-meaning (isProcedure ts us) t e m = let z : _≡_ {A = ℕ} 0 1 = cc e in absurd (omega arith)
+  variable-meaning isControl t e m =
+      let z : integer ≡ t = cc in record { place = m .place; read = m .read; means = subst (λ x. MeansCell W Γ a (m .place) x) z (m .means) }
+
   module _ {t : Ty} (m : Meaning W v Γ a (isVariable t)) (k : ℕ) (e : k ≡ meaningOf a v (W .known)) where
     variable-is : k ≡ packed (tyByte (tyIn (W .globals) t)) (m .means .whose) (m .means .cell)
     variable-is = e ∙ m .read ∙ m .means .number

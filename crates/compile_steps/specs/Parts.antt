@@ -10,7 +10,7 @@ use Rattle.language.specs.Measure.{measureS}
 use Rattle.values.specs.Types.{Ty, tyByte}
 use Rattle.bytecode.specs.Macro.{Shape}
 use Rattle.bytecode.specs.Instructions.{Instr}
-use Rattle.language.specs.Tree.{Stmt, block, assign, when, choose, while, goto, assert, call, setLevel, select, Items, noItem, label, item, Expr, number, truth, pattern}
+use Rattle.language.specs.Tree.{Stmt, block, assign, when, choose, while, goto, assert, call, setLevel, select, for, Items, noItem, label, item, Expr, number, truth, pattern}
 use Rattle.language.specs.Tree.{null, variable, invoke, field, make, operate1, operate2, conditional, fader, blockExpr, Exprs, noExpr}
 use Rattle.language.specs.Tree.{expr as more}
 use Rattle.language.specs.Table.{Entry}
@@ -302,6 +302,7 @@ deep-one (stmt (assert e)) = omega arith
 deep-one (stmt (call a es)) = omega arith
 deep-one (stmt (setLevel e f)) = omega arith
 deep-one (stmt (select e r)) = omega arith
+deep-one (stmt (for a e f g s)) = omega arith
 deep-one (expr (number z)) = omega arith
 deep-one (expr (truth b)) = omega arith
 deep-one (expr (pattern z)) = omega arith
@@ -331,6 +332,7 @@ mutual
   need-S (call a es) = need-Es 0 es
   need-S (setLevel e f) = omega arith
   need-S (select e r) = omega arith
+  need-S (for a e f g s) = omega (arith, need-S s)
 
   pub need-items : (is : Items) → 1 ≤ needItems is
   need-items noItem = omega arith

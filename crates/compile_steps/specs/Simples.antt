@@ -21,7 +21,7 @@ use Rattle.values.specs.Operators.{unary, Unary, negate, absolute, complement, 
 use Rattle.language.specs.Tree.{Exprs, noExpr, countExprs}
 use Rattle.language.specs.Tree.{expr as more}
 use Rattle.compile_names.specs.Types.{took}
-use Rattle.language.specs.Tree.{block, assign, when, choose, while, goto, assert, call, setLevel, select, Expr, number, truth, pattern, null, variable, invoke, field, make, operate1, operate2}
+use Rattle.language.specs.Tree.{block, assign, when, choose, while, goto, assert, call, setLevel, select, for, Expr, number, truth, pattern, null, variable, invoke, field, make, operate1, operate2}
 use Rattle.language.specs.Tree.{conditional, fader, blockExpr, Global}
 use Rattle.language.specs.Table.{Entry}
 use Rattle.language.specs.Faults.{typeE}
@@ -74,6 +74,7 @@ simple-of (stmt (assert e)) h = asserts e
 simple-of (stmt (call a es)) h = calls a es
 simple-of (stmt (setLevel e f)) h = levels e f
 simple-of (stmt (select e r)) h = absurd h
+simple-of (stmt (for a e f g s)) h = absurd h
 simple-of (expr (number z)) h = absurd h
 simple-of (expr (truth b)) h = absurd h
 simple-of (expr (pattern z)) h = absurd h
@@ -106,6 +107,7 @@ opsOf (stmt (choose e s t)) = noExpr
 opsOf (stmt (while e s)) = noExpr
 opsOf (stmt (goto a)) = noExpr
 opsOf (stmt (select e r)) = noExpr
+opsOf (stmt (for a e f g s)) = noExpr
 opsOf (expr (number z)) = noExpr
 opsOf (expr (truth b)) = noExpr
 opsOf (expr (pattern z)) = noExpr
@@ -133,6 +135,7 @@ module _ (gs : List Global) where
   lastOp (stmt (while e s)) = stop caseIndex
   lastOp (stmt (goto a)) = stop caseIndex
   lastOp (stmt (select e r)) = stop caseIndex
+  lastOp (stmt (for a e f g s)) = stop caseIndex
   lastOp (expr (number z)) = stop caseIndex
   lastOp (expr (truth b)) = stop caseIndex
   lastOp (expr (pattern z)) = stop caseIndex

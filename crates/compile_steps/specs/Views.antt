@@ -6,8 +6,8 @@ use Prim.Native.Nat.{ℕ, _<_, _≤_}
 use native.Mathlib.Omega.{arith}
 use lib.Dec.{eqb}
 use Rattle.values.specs.Operators.{Binary}
-use Rattle.language.specs.Tree.{Decl, Stmt, block, assign, when, choose, while, goto, assert, call, setLevel, select, Items, Arms, Target, Expr, number, truth, pattern, null, variable, invoke, field}
-use Rattle.language.specs.Tree.{make, operate1, operate2, conditional, fader, blockExpr}
+use Rattle.language.specs.Tree.{Decl, Stmt, block, assign, when, choose, while, goto, assert, call, setLevel, select, for, Items, Arms, Target, Expr, number, truth, pattern, null, variable, invoke}
+use Rattle.language.specs.Tree.{field, make, operate1, operate2, conditional, fader, blockExpr}
 use Rattle.compile_nodes.specs.Ready.{Node, stmt, expr, name, kindN}
 
 abbrev pub IsExpr : Node → Type 0
@@ -54,6 +54,7 @@ IsSimple (stmt (assert e)) = Unit {0}
 IsSimple (stmt (call a es)) = Unit {0}
 IsSimple (stmt (setLevel e f)) = Unit {0}
 IsSimple (stmt (select e r)) = ⊥
+IsSimple (stmt (for a e f g s)) = ⊥
 IsSimple (expr (number z)) = ⊥
 IsSimple (expr (truth b)) = ⊥
 IsSimple (expr (pattern z)) = ⊥
@@ -104,19 +105,20 @@ simple-expr (expr (blockExpr ds is e)) h i j k m = absurd (k refl)
 simple-expr (name a) h i j k m = absurd h
 
 pub simple-stmt : (n : Node) → IsStmt n → ¬ (kindN n ≡ 1) → ¬ (kindN n ≡ 20) → ¬ (kindN n ≡ 21) → ¬ (kindN n ≡ 22) → ¬ (kindN n ≡ 23)
-    → ¬ (kindN n ≡ 24) → ¬ (kindN n ≡ 25) → ¬ (kindN n ≡ 30) → IsSimple n
-simple-stmt (stmt (block ds is)) h h1 h20 h21 h22 h23 h24 h25 h30 = absurd (h1 refl)
-simple-stmt (stmt (assign x e)) h h1 h20 h21 h22 h23 h24 h25 h30 = absurd (h21 refl)
-simple-stmt (stmt (when e s)) h h1 h20 h21 h22 h23 h24 h25 h30 = absurd (h22 refl)
-simple-stmt (stmt (choose e s t)) h h1 h20 h21 h22 h23 h24 h25 h30 = absurd (h23 refl)
-simple-stmt (stmt (while e s)) h h1 h20 h21 h22 h23 h24 h25 h30 = absurd (h24 refl)
-simple-stmt (stmt (goto a)) h h1 h20 h21 h22 h23 h24 h25 h30 = absurd (h25 refl)
-simple-stmt (stmt (assert e)) h h1 h20 h21 h22 h23 h24 h25 h30 = tt
-simple-stmt (stmt (call a es)) h h1 h20 h21 h22 h23 h24 h25 h30 = tt
-simple-stmt (stmt (setLevel e f)) h h1 h20 h21 h22 h23 h24 h25 h30 = tt
-simple-stmt (stmt (select e r)) h h1 h20 h21 h22 h23 h24 h25 h30 = absurd (h30 refl)
-simple-stmt (expr e) h h1 h20 h21 h22 h23 h24 h25 h30 = absurd h
-simple-stmt (name a) h h1 h20 h21 h22 h23 h24 h25 h30 = absurd (h20 refl)
+    → ¬ (kindN n ≡ 24) → ¬ (kindN n ≡ 25) → ¬ (kindN n ≡ 30) → ¬ (kindN n ≡ 31) → IsSimple n
+simple-stmt (stmt (block ds is)) h h1 h20 h21 h22 h23 h24 h25 h30 h31 = absurd (h1 refl)
+simple-stmt (stmt (assign x e)) h h1 h20 h21 h22 h23 h24 h25 h30 h31 = absurd (h21 refl)
+simple-stmt (stmt (when e s)) h h1 h20 h21 h22 h23 h24 h25 h30 h31 = absurd (h22 refl)
+simple-stmt (stmt (choose e s t)) h h1 h20 h21 h22 h23 h24 h25 h30 h31 = absurd (h23 refl)
+simple-stmt (stmt (while e s)) h h1 h20 h21 h22 h23 h24 h25 h30 h31 = absurd (h24 refl)
+simple-stmt (stmt (goto a)) h h1 h20 h21 h22 h23 h24 h25 h30 h31 = absurd (h25 refl)
+simple-stmt (stmt (assert e)) h h1 h20 h21 h22 h23 h24 h25 h30 h31 = tt
+simple-stmt (stmt (call a es)) h h1 h20 h21 h22 h23 h24 h25 h30 h31 = tt
+simple-stmt (stmt (setLevel e f)) h h1 h20 h21 h22 h23 h24 h25 h30 h31 = tt
+simple-stmt (stmt (select e r)) h h1 h20 h21 h22 h23 h24 h25 h30 h31 = absurd (h30 refl)
+simple-stmt (stmt (for a e f g s)) h h1 h20 h21 h22 h23 h24 h25 h30 h31 = absurd (h31 refl)
+simple-stmt (expr e) h h1 h20 h21 h22 h23 h24 h25 h30 h31 = absurd h
+simple-stmt (name a) h h1 h20 h21 h22 h23 h24 h25 h30 h31 = absurd (h20 refl)
 
 pub record When (n : Node) : Type 0 where
   pub e : Expr
@@ -142,6 +144,14 @@ pub record Select (n : Node) : Type 0 where
   pub e : Expr
   pub r : Arms
   pub same : n ≡ stmt (select e r)
+
+pub record For (n : Node) : Type 0 where
+  pub a : ℕ
+  pub e : Expr
+  pub f : Expr
+  pub g : Expr
+  pub s : Stmt
+  pub same : n ≡ stmt (for a e f g s)
 
 pub record Assign (n : Node) : Type 0 where
   pub x : Target
@@ -190,9 +200,10 @@ Viewed k n =
     Pick (eqb k 24) (While n) (
     Pick (eqb k 25) (Goto n) (
     Pick (eqb k 30) (Select n) (
+    Pick (eqb k 31) (For n) (
     Pick (eqb k 49) (Pair n) (
     Pick (eqb k 50) (Conditional n) (
-    Pick (eqb k 53) (Body n) (Unit {0})))))))))))
+    Pick (eqb k 53) (Body n) (Unit {0}))))))))))))
 
 viewed : (n : Node) → Viewed (kindN n) n
 viewed (stmt (block ds is)) = record { ds = ds; is = is; same = refl }
@@ -205,6 +216,7 @@ viewed (stmt (assert e)) = tt
 viewed (stmt (call a es)) = tt
 viewed (stmt (setLevel e f)) = tt
 viewed (stmt (select e r)) = record { e = e; r = r; same = refl }
+viewed (stmt (for a e f g s)) = record { a = a; e = e; f = f; g = g; s = s; same = refl }
 viewed (expr (number z)) = tt
 viewed (expr (truth b)) = tt
 viewed (expr (pattern z)) = tt
@@ -234,6 +246,9 @@ goto-of n h = rw h at (viewed n)
 
 pub select-of : (n : Node) → IsKind 30 n → Select n
 select-of n h = rw h at (viewed n)
+
+pub for-of : (n : Node) → IsKind 31 n → For n
+for-of n h = rw h at (viewed n)
 
 pub assign-of : (n : Node) → IsKind 21 n → Assign n
 assign-of n h = rw h at (viewed n)
