@@ -20,6 +20,7 @@ pub mod WhenAsks
 pub mod ChooseAsks
 pub mod Arms
 pub mod Select
+pub mod Turns
 pub mod Assign
 pub mod WhileAsks
 pub mod ConditionalAsks

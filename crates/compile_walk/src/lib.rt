@@ -489,6 +489,77 @@ fn repeat(
     compile_emit::finish(ends, at, compile_output::shape(out, t, holds, stack, depth))
 }
 
+// A for: its three cells hold its value, its step and its bound.
+fn turns(
+    table: &[u8],
+    part: &[u8],
+    nesting: usize,
+    at: usize,
+    sizes: &[u16],
+    env: &mut [u32],
+    top: usize,
+    known: &[u32],
+    aims: &[u16],
+    ends: &mut [u16],
+    holds: usize,
+    stack: &mut [u8],
+    depth: usize,
+    out: &mut [u8],
+    cursor: Cursor,
+) -> Cursor
+    requires { ⌜ Asks (IsKind 31) (now known) (now aims) (now table) (now part) nesting at (now sizes) (lent (now env) (now ends) (now stack) (now out)) top holds depth cursor ⌝ }
+    ensures { λ r. ⌜ Answers (IsKind 31) (now (known .entry)) (now (aims .entry)) (now (table .entry)) (now (part .entry)) nesting at (now (sizes .entry))
+        (lent (now (env .entry)) (now (ends .entry)) (now (stack .entry)) (now (out .entry)))
+        (lent (now (env .exit)) (now (ends .exit)) (now (stack .exit)) (now (out .exit))) top holds depth cursor r ⌝ }
+{
+    let control = table_entries::a_at(part, 0);
+    let cell = compile_symbols::second_in(compile_symbols::known_at(known, at));
+    let exit = compile_emit::end_of(aims, at);
+    let p = operands(
+        table,
+        &part[ENTRY_BYTES..],
+        3,
+        nesting - 1,
+        at + 1,
+        sizes,
+        env,
+        top,
+        known,
+        aims,
+        ends,
+        holds,
+        stack,
+        depth,
+        out,
+        cursor,
+    );
+    let n = table_scopes::spanned(table, sizes, at + 1, 3);
+    let q = compile_output::shape(out, p, holds, stack, depth + 3);
+    let r = compile_output::enter_turns(cell, exit, holds, stack, depth, out, q);
+    let up = table_scopes::enter_loop(control as u32, at, env, top);
+    let from = ENTRY_BYTES * (1 + n);
+    let s = statement(
+        table,
+        &part[from..],
+        nesting - 1,
+        at + 1 + n,
+        sizes,
+        env,
+        up,
+        known,
+        aims,
+        ends,
+        holds,
+        stack,
+        depth,
+        out,
+        r,
+    );
+    let began = r.address as u32;
+    let t = compile_output::leave_turn(cell, began, exit, holds, stack, depth, out, s);
+    compile_emit::finish(ends, at, t)
+}
+
 // The statements of the case at `owner`: its index is in a cell.
 fn arms(
     table: &[u8],
@@ -1155,6 +1226,23 @@ pub fn statement(
             ),
         ),
         KIND_CASE => select(
+            table,
+            part,
+            nesting,
+            at,
+            sizes,
+            env,
+            top,
+            known,
+            aims,
+            ends,
+            holds,
+            stack,
+            depth,
+            out,
+            cursor,
+        ),
+        KIND_FOR => turns(
             table,
             part,
             nesting,

@@ -8,7 +8,7 @@ use Rattle.compile_steps.specs.PairAsks.{asks-pair-first, asks-pair-passes, ask
 use Prim.Native.Nat.{ℕ, _+_}
 use Rattle.compile_walk.proofs.expression.Reads as expression
 use Rattle.compile_walk.proofs.pair.Reads as pair
-use Rattle.compile_walk.proofs.+arms+assign+block+body+choose+conditional+expression+items+operands+pair+repeat+select+simple+statement+when.Lts-pair as pair-lts
+use Rattle.compile_walk.proofs.+arms+assign+block+body+choose+conditional+expression+items+operands+pair+repeat+select+simple+statement+turns+when.Lts-pair as pair-lts
 use Rattle.compile_emit.proofs.behind.Reads as behind-reads
 use Rattle.compile_emit.proofs.between.Reads as between-reads
 use Rattle.compile_emit.proofs.end_of.Reads as end-of-reads
@@ -18,7 +18,7 @@ use Rattle.compile_emit.proofs.waiting.Reads as waiting-reads
 use Rattle.compile_emit.proofs.way_of.Reads as way-of-reads
 use Rattle.table_scopes.proofs.size_at.Reads as size-at-reads
 use Rattle.table_entries.proofs.a_at.Reads as a-at-reads
-use Rattle.compile_walk.proofs.+arms+assign+block+body+choose+conditional+expression+items+operands+pair+repeat+select+simple+statement+when.Proof.Base.{entry-at, kind-below}
+use Rattle.compile_walk.proofs.+arms+assign+block+body+choose+conditional+expression+items+operands+pair+repeat+select+simple+statement+turns+when.Proof.Base.{entry-at, kind-below}
 
 -- what the functions that it calls are taken to ask and give
 abbrev claims : ℕ → pair-lts.Claims

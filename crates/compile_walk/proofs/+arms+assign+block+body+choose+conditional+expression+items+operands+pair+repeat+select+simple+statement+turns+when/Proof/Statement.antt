@@ -13,14 +13,15 @@ use Rattle.compile_walk.proofs.repeat.Reads as repeat
 use Rattle.compile_walk.proofs.select.Reads as select
 use Rattle.compile_walk.proofs.simple.Reads as simple
 use Rattle.compile_walk.proofs.statement.Reads as statement′
-use Rattle.compile_walk.proofs.+arms+assign+block+body+choose+conditional+expression+items+operands+pair+repeat+select+simple+statement+when.Lts-statement as statement-lts
+use Rattle.compile_walk.proofs.+arms+assign+block+body+choose+conditional+expression+items+operands+pair+repeat+select+simple+statement+turns+when.Lts-statement as statement-lts
+use Rattle.compile_walk.proofs.turns.Reads as turns
 use Rattle.compile_walk.proofs.when.Reads as when
 use Rattle.compile_emit.proofs.finish.Reads as finish-reads
 use Rattle.compile_emit.proofs.goto.Reads as goto-reads
 use Rattle.compile_output.proofs.shape.Reads as shape-reads
 use Rattle.table_entries.proofs.kind_at.Reads as kind-at-reads
 use Rattle.table_entries.proofs.a_at.Reads as a-at-reads
-use Rattle.compile_walk.proofs.+arms+assign+block+body+choose+conditional+expression+items+operands+pair+repeat+select+simple+statement+when.Proof.Base.{entry-below, kind-at}
+use Rattle.compile_walk.proofs.+arms+assign+block+body+choose+conditional+expression+items+operands+pair+repeat+select+simple+statement+turns+when.Proof.Base.{entry-below, kind-at}
 
 -- what the functions that it calls are taken to ask and give
 abbrev claims : ℕ → statement-lts.Claims
@@ -47,6 +48,8 @@ claims t = (
   goto-reads.Learnt,
   entry-below select.Pre t,
   select.Post,
+  entry-below turns.Pre t,
+  turns.Post,
   entry-below simple.Pre t,
   simple.Post,
 )
@@ -144,6 +147,12 @@ statement-meets t = statement-lts.spec (claims t) (kind-at statement′.Pre t) s
     let at-kind-at = at-match .before in
     let at-start = at-kind-at .before .before .before .before .before .before .before .before .before .before in
     (omega (arith, at-start .pre .0), ask-as (λ n h e. e ∙ (sym (at-kind-at .kind-at .ensures) ∙ at-match .match .keys8)) (at-start .pre .1)))
+    -- turns-requires
+    (λ c κs.
+    let at-match = c .before .before .before .before in
+    let at-kind-at = at-match .before in
+    let at-start = at-kind-at .before .before .before .before .before .before .before .before .before .before in
+    (omega (arith, at-start .pre .0), ask-as (λ n h e. e ∙ (sym (at-kind-at .kind-at .ensures) ∙ at-match .match .keys9)) (at-start .pre .1)))
     -- sub-simple
     (λ c. omega arith)
     -- part-simple-start
@@ -157,12 +166,13 @@ statement-meets t = statement-lts.spec (claims t) (kind-at statement′.Pre t) s
     let at-start = at-kind-at .before .before .before .before .before .before .before .before .before .before in (
       omega (arith, at-start .pre .0),
       asks-anew _ (ask-as (λ n h e. simple-stmt n h
+          (λ z. at-match .match .rest .0 .0 .0 .0 .0 .0 .0 .0 .1 (at-kind-at .kind-at .ensures ∙ (sym e ∙ z)))
           (λ z. at-match .match .rest .0 .0 .0 .0 .0 .0 .0 .1 (at-kind-at .kind-at .ensures ∙ (sym e ∙ z)))
           (λ z. at-match .match .rest .0 .0 .0 .0 .0 .0 .1 (at-kind-at .kind-at .ensures ∙ (sym e ∙ z)))
           (λ z. at-match .match .rest .0 .0 .0 .0 .0 .1 (at-kind-at .kind-at .ensures ∙ (sym e ∙ z)))
-          (λ z. at-match .match .rest .0 .0 .0 .0 .1 (at-kind-at .kind-at .ensures ∙ (sym e ∙ z)))
-          (λ z. at-match .match .rest .0 .0 .0 .1 (at-kind-at .kind-at .ensures ∙ (sym e ∙ z))) (λ z. at-match .match .rest .0 .0 .1 (at-kind-at .kind-at .ensures ∙ (sym e ∙ z)))
-          (λ z. at-match .match .rest .0 .1 (at-kind-at .kind-at .ensures ∙ (sym e ∙ z))) (λ z. at-match .match .rest .1 (at-kind-at .kind-at .ensures ∙ (sym e ∙ z)))) (at-start .pre .1)),
+          (λ z. at-match .match .rest .0 .0 .0 .0 .1 (at-kind-at .kind-at .ensures ∙ (sym e ∙ z))) (λ z. at-match .match .rest .0 .0 .0 .1 (at-kind-at .kind-at .ensures ∙ (sym e ∙ z)))
+          (λ z. at-match .match .rest .0 .0 .1 (at-kind-at .kind-at .ensures ∙ (sym e ∙ z))) (λ z. at-match .match .rest .0 .1 (at-kind-at .kind-at .ensures ∙ (sym e ∙ z)))
+          (λ z. at-match .match .rest .1 (at-kind-at .kind-at .ensures ∙ (sym e ∙ z)))) (at-start .pre .1)),
     ))
     -- same-length
     (λ c. (c .before .before .before .before .before .before .before .before .block .ensures) .kept .same-env)
@@ -267,22 +277,37 @@ statement-meets t = statement-lts.spec (claims t) (kind-at statement′.Pre t) s
     let at-kind-at = at-match .before in
     answer-as (λ n h e. e ∙ (sym (at-kind-at .kind-at .ensures) ∙ at-match .match .keys8)) (at-select .select .ensures))
     -- same-length-32
-    (λ c. (c .before .before .before .before .before .before .before .before .simple .ensures) .kept .same-env)
+    (λ c. (c .before .before .before .before .before .before .before .before .turns .ensures) .kept .same-env)
     -- same-length-33
-    (λ c. (c .before .before .before .before .before .before .before .before .simple .ensures) .kept .same-ends)
+    (λ c. (c .before .before .before .before .before .before .before .before .turns .ensures) .kept .same-ends)
     -- same-length-34
-    (λ c. (c .before .before .before .before .before .before .before .before .simple .ensures) .kept .same-stack)
+    (λ c. (c .before .before .before .before .before .before .before .before .turns .ensures) .kept .same-stack)
     -- same-length-35
-    (λ c. (c .before .before .before .before .before .before .before .before .simple .ensures) .kept .same-out)
+    (λ c. (c .before .before .before .before .before .before .before .before .turns .ensures) .kept .same-out)
     -- returns-9
+    (λ c.
+    let at-turns = c .before .before .before .before .before .before .before .before in
+    let at-match = at-turns .before .before .before .before .before in
+    let at-kind-at = at-match .before in
+    answer-as (λ n h e. e ∙ (sym (at-kind-at .kind-at .ensures) ∙ at-match .match .keys9)) (at-turns .turns .ensures))
+    -- same-length-36
+    (λ c. (c .before .before .before .before .before .before .before .before .simple .ensures) .kept .same-env)
+    -- same-length-37
+    (λ c. (c .before .before .before .before .before .before .before .before .simple .ensures) .kept .same-ends)
+    -- same-length-38
+    (λ c. (c .before .before .before .before .before .before .before .before .simple .ensures) .kept .same-stack)
+    -- same-length-39
+    (λ c. (c .before .before .before .before .before .before .before .before .simple .ensures) .kept .same-out)
+    -- returns-10
     (λ c.
     let at-simple = c .before .before .before .before .before .before .before .before in
     let at-match = at-simple .before .before .before .before .before .before in
     let at-kind-at = at-match .before in
-    answer-as (λ n h e. simple-stmt n h (λ z. at-match .match .rest .0 .0 .0 .0 .0 .0 .0 .1 (at-kind-at .kind-at .ensures ∙ (sym e ∙ z)))
+    answer-as (λ n h e. simple-stmt n h (λ z. at-match .match .rest .0 .0 .0 .0 .0 .0 .0 .0 .1 (at-kind-at .kind-at .ensures ∙ (sym e ∙ z)))
+    (λ z. at-match .match .rest .0 .0 .0 .0 .0 .0 .0 .1 (at-kind-at .kind-at .ensures ∙ (sym e ∙ z)))
     (λ z. at-match .match .rest .0 .0 .0 .0 .0 .0 .1 (at-kind-at .kind-at .ensures ∙ (sym e ∙ z)))
     (λ z. at-match .match .rest .0 .0 .0 .0 .0 .1 (at-kind-at .kind-at .ensures ∙ (sym e ∙ z)))
-    (λ z. at-match .match .rest .0 .0 .0 .0 .1 (at-kind-at .kind-at .ensures ∙ (sym e ∙ z)))
-    (λ z. at-match .match .rest .0 .0 .0 .1 (at-kind-at .kind-at .ensures ∙ (sym e ∙ z))) (λ z. at-match .match .rest .0 .0 .1 (at-kind-at .kind-at .ensures ∙ (sym e ∙ z)))
-    (λ z. at-match .match .rest .0 .1 (at-kind-at .kind-at .ensures ∙ (sym e ∙ z))) (λ z. at-match .match .rest .1 (at-kind-at .kind-at .ensures ∙ (sym e ∙ z))))
+    (λ z. at-match .match .rest .0 .0 .0 .0 .1 (at-kind-at .kind-at .ensures ∙ (sym e ∙ z))) (λ z. at-match .match .rest .0 .0 .0 .1 (at-kind-at .kind-at .ensures ∙ (sym e ∙ z)))
+    (λ z. at-match .match .rest .0 .0 .1 (at-kind-at .kind-at .ensures ∙ (sym e ∙ z))) (λ z. at-match .match .rest .0 .1 (at-kind-at .kind-at .ensures ∙ (sym e ∙ z)))
+    (λ z. at-match .match .rest .1 (at-kind-at .kind-at .ensures ∙ (sym e ∙ z))))
     (answers-anew _ (at-simple .simple .ensures)))

@@ -7,7 +7,7 @@ use Rattle.compile_steps.specs.Arms.{ArmsSoFar, arms-start, arms-before, arms-a
 use Rattle.compile_symbols.specs.Numbers.{secondIn}
 use Prim.Native.Nat.{ℕ, _-_}
 use Rattle.compile_walk.proofs.arms.Reads as arms
-use Rattle.compile_walk.proofs.+arms+assign+block+body+choose+conditional+expression+items+operands+pair+repeat+select+simple+statement+when.Lts-arms as arms-lts
+use Rattle.compile_walk.proofs.+arms+assign+block+body+choose+conditional+expression+items+operands+pair+repeat+select+simple+statement+turns+when.Lts-arms as arms-lts
 use Rattle.compile_walk.proofs.statement.Reads as statement′
 use Rattle.compile_symbols.proofs.known_at.Reads as known-at-reads
 use Rattle.compile_symbols.proofs.second_in.Reads as second-in-reads
@@ -15,7 +15,7 @@ use Rattle.compile_emit.proofs.after_arm.Reads as after-arm-reads
 use Rattle.compile_emit.proofs.before_arm.Reads as before-arm-reads
 use Rattle.compile_emit.proofs.end_of.Reads as end-of-reads
 use Rattle.table_scopes.proofs.size_at.Reads as size-at-reads
-use Rattle.compile_walk.proofs.+arms+assign+block+body+choose+conditional+expression+items+operands+pair+repeat+select+simple+statement+when.Proof.Base.{arms-at, kind-below}
+use Rattle.compile_walk.proofs.+arms+assign+block+body+choose+conditional+expression+items+operands+pair+repeat+select+simple+statement+turns+when.Proof.Base.{arms-at, kind-below}
 
 abbrev arms-Inv-loop : arms-lts.InvT-loop
 arms-Inv-loop table part owner count nesting at sizes env₀ top known aims ends₀ holds stack₀ depth out₀ cell end rest₀ place₀ i₀ p₀ env ends stack out

@@ -10,7 +10,7 @@ use Prim.Native.Nat.{ℕ}
 use Rattle.compile_walk.proofs.arms.Reads as arms
 use Rattle.compile_walk.proofs.expression.Reads as expression
 use Rattle.compile_walk.proofs.select.Reads as select
-use Rattle.compile_walk.proofs.+arms+assign+block+body+choose+conditional+expression+items+operands+pair+repeat+select+simple+statement+when.Lts-select as select-lts
+use Rattle.compile_walk.proofs.+arms+assign+block+body+choose+conditional+expression+items+operands+pair+repeat+select+simple+statement+turns+when.Lts-select as select-lts
 use Rattle.compile_symbols.proofs.known_at.Reads as known-at-reads
 use Rattle.compile_symbols.proofs.second_in.Reads as second-in-reads
 use Rattle.compile_emit.proofs.finish.Reads as finish-reads
@@ -18,7 +18,7 @@ use Rattle.compile_output.proofs.emit.Reads as emit-reads
 use Rattle.compile_output.proofs.shape.Reads as shape-reads
 use Rattle.table_scopes.proofs.size_at.Reads as size-at-reads
 use Rattle.table_entries.proofs.a_at.Reads as a-at-reads
-use Rattle.compile_walk.proofs.+arms+assign+block+body+choose+conditional+expression+items+operands+pair+repeat+select+simple+statement+when.Proof.Base.{arms-below, entry-at, kind-below}
+use Rattle.compile_walk.proofs.+arms+assign+block+body+choose+conditional+expression+items+operands+pair+repeat+select+simple+statement+turns+when.Proof.Base.{arms-below, entry-at, kind-below}
 
 -- what the functions that it calls are taken to ask and give
 abbrev claims : ℕ → select-lts.Claims

@@ -7,9 +7,9 @@ use Rattle.compile_steps.specs.Lists.{EsSoFar, es-start, es-asks, es-passes, es
 use Prim.Native.Nat.{ℕ, _-_}
 use Rattle.compile_walk.proofs.expression.Reads as expression
 use Rattle.compile_walk.proofs.operands.Reads as operands
-use Rattle.compile_walk.proofs.+arms+assign+block+body+choose+conditional+expression+items+operands+pair+repeat+select+simple+statement+when.Lts-operands as operands-lts
+use Rattle.compile_walk.proofs.+arms+assign+block+body+choose+conditional+expression+items+operands+pair+repeat+select+simple+statement+turns+when.Lts-operands as operands-lts
 use Rattle.table_scopes.proofs.size_at.Reads as size-at-reads
-use Rattle.compile_walk.proofs.+arms+assign+block+body+choose+conditional+expression+items+operands+pair+repeat+select+simple+statement+when.Proof.Base.{kind-below, list-at}
+use Rattle.compile_walk.proofs.+arms+assign+block+body+choose+conditional+expression+items+operands+pair+repeat+select+simple+statement+turns+when.Proof.Base.{kind-below, list-at}
 
 abbrev operands-Inv-loop : operands-lts.InvT-loop
 operands-Inv-loop table part count nesting at sizes env₀ top known aims ends₀ holds stack₀ depth out₀ rest₀ place₀ i₀ p₀ env ends stack out rest place

@@ -6,10 +6,10 @@ use Rattle.compile_steps.specs.Parts.{lent}
 use Rattle.compile_steps.specs.Lists.{ItemsSoFar, items-start, items-asks, items-passes, items-next, items-end}
 use Prim.Native.Nat.{ℕ}
 use Rattle.compile_walk.proofs.items.Reads as items
-use Rattle.compile_walk.proofs.+arms+assign+block+body+choose+conditional+expression+items+operands+pair+repeat+select+simple+statement+when.Lts-items as items-lts
+use Rattle.compile_walk.proofs.+arms+assign+block+body+choose+conditional+expression+items+operands+pair+repeat+select+simple+statement+turns+when.Lts-items as items-lts
 use Rattle.compile_walk.proofs.statement.Reads as statement′
 use Rattle.table_scopes.proofs.size_at.Reads as size-at-reads
-use Rattle.compile_walk.proofs.+arms+assign+block+body+choose+conditional+expression+items+operands+pair+repeat+select+simple+statement+when.Proof.Base.{kind-below, list-at}
+use Rattle.compile_walk.proofs.+arms+assign+block+body+choose+conditional+expression+items+operands+pair+repeat+select+simple+statement+turns+when.Proof.Base.{kind-below, list-at}
 
 abbrev items-Inv-loop : items-lts.InvT-loop
 items-Inv-loop table part count nesting at sizes env₀ top known aims ends₀ holds stack₀ depth out₀ rest₀ place₀ left₀ p₀ env ends stack out rest place

@@ -7,14 +7,14 @@ use Rattle.compile_steps.specs.BlockAsks.{asks-block-within, asks-block-few, as
 use Rattle.compile_steps.specs.BlockAsks.{asks-block-releases, asks-block-finish, answers-block}
 use Prim.Native.Nat.{ℕ, _+_, _*_, _≤_}
 use Rattle.compile_walk.proofs.block.Reads as block
-use Rattle.compile_walk.proofs.+arms+assign+block+body+choose+conditional+expression+items+operands+pair+repeat+select+simple+statement+when.Lts-block as block-lts
+use Rattle.compile_walk.proofs.+arms+assign+block+body+choose+conditional+expression+items+operands+pair+repeat+select+simple+statement+turns+when.Lts-block as block-lts
 use Rattle.compile_walk.proofs.items.Reads as items
 use Rattle.compile_emit.proofs.finish.Reads as finish-reads
 use Rattle.compile_emit.proofs.open_block.Reads as open-block-reads
 use Rattle.compile_output.proofs.releases.Reads as releases-reads
 use Rattle.table_entries.proofs.a_at.Reads as a-at-reads
 use Rattle.table_entries.proofs.b_at.Reads as b-at-reads
-use Rattle.compile_walk.proofs.+arms+assign+block+body+choose+conditional+expression+items+operands+pair+repeat+select+simple+statement+when.Proof.Base.{entry-at, list-below}
+use Rattle.compile_walk.proofs.+arms+assign+block+body+choose+conditional+expression+items+operands+pair+repeat+select+simple+statement+turns+when.Proof.Base.{entry-at, list-below}
 
 -- what the functions that it calls are taken to ask and give
 abbrev claims : ℕ → block-lts.Claims

@@ -7,7 +7,7 @@ use Rattle.compile_steps.specs.BodyAsks.{asks-body-within, asks-body-few, asks-
 use Rattle.compile_steps.specs.BodyAsks.{asks-body-passes, asks-body-value, asks-body-releases, asks-body-finish, answers-body}
 use Prim.Native.Nat.{ℕ, _+_, _*_, _≤_}
 use Rattle.compile_walk.proofs.body.Reads as body
-use Rattle.compile_walk.proofs.+arms+assign+block+body+choose+conditional+expression+items+operands+pair+repeat+select+simple+statement+when.Lts-body as body-lts
+use Rattle.compile_walk.proofs.+arms+assign+block+body+choose+conditional+expression+items+operands+pair+repeat+select+simple+statement+turns+when.Lts-body as body-lts
 use Rattle.compile_walk.proofs.expression.Reads as expression
 use Rattle.compile_walk.proofs.items.Reads as items
 use Rattle.compile_emit.proofs.finish.Reads as finish-reads
@@ -16,7 +16,7 @@ use Rattle.compile_output.proofs.releases.Reads as releases-reads
 use Rattle.table_scopes.proofs.spanned.Reads as spanned-reads
 use Rattle.table_entries.proofs.a_at.Reads as a-at-reads
 use Rattle.table_entries.proofs.b_at.Reads as b-at-reads
-use Rattle.compile_walk.proofs.+arms+assign+block+body+choose+conditional+expression+items+operands+pair+repeat+select+simple+statement+when.Proof.Base.{entry-at, kind-below, list-below}
+use Rattle.compile_walk.proofs.+arms+assign+block+body+choose+conditional+expression+items+operands+pair+repeat+select+simple+statement+turns+when.Proof.Base.{entry-at, kind-below, list-below}
 
 -- what the functions that it calls are taken to ask and give
 abbrev claims : ℕ → body-lts.Claims

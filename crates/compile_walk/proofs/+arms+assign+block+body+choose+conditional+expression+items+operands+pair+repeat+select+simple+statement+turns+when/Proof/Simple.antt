@@ -6,7 +6,7 @@ use Rattle.compile_steps.specs.Dispatch.{asks-simple-first, asks-simple-room, a
 use Prim.Native.Nat.{ℕ}
 use Rattle.compile_walk.proofs.operands.Reads as operands
 use Rattle.compile_walk.proofs.simple.Reads as simple
-use Rattle.compile_walk.proofs.+arms+assign+block+body+choose+conditional+expression+items+operands+pair+repeat+select+simple+statement+when.Lts-simple as simple-lts
+use Rattle.compile_walk.proofs.+arms+assign+block+body+choose+conditional+expression+items+operands+pair+repeat+select+simple+statement+turns+when.Lts-simple as simple-lts
 use Rattle.compile_emit.proofs.finish.Reads as finish-reads
 use Rattle.compile_emit.proofs.known_of.Reads as known-of-reads
 use Rattle.compile_emit.proofs.last.Reads as last-reads
@@ -15,7 +15,7 @@ use Rattle.compile_emit.proofs.operands_of.Reads as operands-of-reads
 use Rattle.table_entries.proofs.kind_at.Reads as kind-at-reads
 use Rattle.table_entries.proofs.a_at.Reads as a-at-reads
 use Rattle.table_entries.proofs.b_at.Reads as b-at-reads
-use Rattle.compile_walk.proofs.+arms+assign+block+body+choose+conditional+expression+items+operands+pair+repeat+select+simple+statement+when.Proof.Base.{entry-at, list-below}
+use Rattle.compile_walk.proofs.+arms+assign+block+body+choose+conditional+expression+items+operands+pair+repeat+select+simple+statement+turns+when.Proof.Base.{entry-at, list-below}
 
 -- what the functions that it calls are taken to ask and give
 abbrev claims : ℕ → simple-lts.Claims

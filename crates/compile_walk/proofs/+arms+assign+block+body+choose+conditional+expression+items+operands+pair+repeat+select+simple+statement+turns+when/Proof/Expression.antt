@@ -9,7 +9,7 @@ use Prim.Native.Nat.{ℕ}
 use Rattle.compile_walk.proofs.body.Reads as body
 use Rattle.compile_walk.proofs.conditional.Reads as conditional
 use Rattle.compile_walk.proofs.expression.Reads as expression
-use Rattle.compile_walk.proofs.+arms+assign+block+body+choose+conditional+expression+items+operands+pair+repeat+select+simple+statement+when.Lts-expression as expression-lts
+use Rattle.compile_walk.proofs.+arms+assign+block+body+choose+conditional+expression+items+operands+pair+repeat+select+simple+statement+turns+when.Lts-expression as expression-lts
 use Rattle.compile_walk.proofs.pair.Reads as pair
 use Rattle.compile_walk.proofs.simple.Reads as simple
 use Rattle.compile_emit.proofs.finish.Reads as finish-reads
@@ -19,7 +19,7 @@ use Rattle.compile_emit.proofs.leaf_type.Reads as leaf-type-reads
 use Rattle.table_entries.proofs.kind_at.Reads as kind-at-reads
 use Rattle.table_entries.proofs.a_at.Reads as a-at-reads
 use Rattle.table_entries.proofs.b_at.Reads as b-at-reads
-use Rattle.compile_walk.proofs.+arms+assign+block+body+choose+conditional+expression+items+operands+pair+repeat+select+simple+statement+when.Proof.Base.{entry-below, kind-at}
+use Rattle.compile_walk.proofs.+arms+assign+block+body+choose+conditional+expression+items+operands+pair+repeat+select+simple+statement+turns+when.Proof.Base.{entry-below, kind-at}
 
 -- what the functions that it calls are taken to ask and give
 abbrev claims : ℕ → expression-lts.Claims

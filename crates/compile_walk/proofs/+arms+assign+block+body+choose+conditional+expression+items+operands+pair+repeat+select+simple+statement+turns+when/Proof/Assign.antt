@@ -8,7 +8,7 @@ use Rattle.compile_steps.specs.Assign.{asks-assign, asks-variable-first, asks-v
 use Rattle.compile_steps.specs.Assign.{asks-field-nests, asks-field-first, asks-field-mid, asks-field-second, asks-field-emit, asks-field-finish, answers-field}
 use Prim.Native.Nat.{ℕ}
 use Rattle.compile_walk.proofs.assign.Reads as assign
-use Rattle.compile_walk.proofs.+arms+assign+block+body+choose+conditional+expression+items+operands+pair+repeat+select+simple+statement+when.Lts-assign as assign-lts
+use Rattle.compile_walk.proofs.+arms+assign+block+body+choose+conditional+expression+items+operands+pair+repeat+select+simple+statement+turns+when.Lts-assign as assign-lts
 use Rattle.compile_walk.proofs.expression.Reads as expression
 use Rattle.compile_symbols.proofs.first_in.Reads as first-in-reads
 use Rattle.compile_symbols.proofs.meaning.Reads as meaning-reads
@@ -19,7 +19,7 @@ use Rattle.compile_output.proofs.emit.Reads as emit-reads
 use Rattle.table_scopes.proofs.size_at.Reads as size-at-reads
 use Rattle.table_entries.proofs.a_at.Reads as a-at-reads
 use Rattle.table_entries.proofs.kind_at.Reads as kind-at-reads
-use Rattle.compile_walk.proofs.+arms+assign+block+body+choose+conditional+expression+items+operands+pair+repeat+select+simple+statement+when.Proof.Base.{entry-at, kind-below}
+use Rattle.compile_walk.proofs.+arms+assign+block+body+choose+conditional+expression+items+operands+pair+repeat+select+simple+statement+turns+when.Proof.Base.{entry-at, kind-below}
 
 -- what the functions that it calls are taken to ask and give
 abbrev claims : ℕ → assign-lts.Claims
