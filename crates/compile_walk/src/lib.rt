@@ -512,7 +512,7 @@ fn turns(
         (lent (now (env .entry)) (now (ends .entry)) (now (stack .entry)) (now (out .entry)))
         (lent (now (env .exit)) (now (ends .exit)) (now (stack .exit)) (now (out .exit))) top holds depth cursor r ⌝ }
 {
-    let control = table_entries::a_at(part, 0);
+    let control = table_entries::a_at(part, 0) as u32;
     let cell = compile_symbols::second_in(compile_symbols::known_at(known, at));
     let exit = compile_emit::end_of(aims, at);
     let p = operands(
@@ -536,7 +536,7 @@ fn turns(
     let n = table_scopes::spanned(table, sizes, at + 1, 3);
     let q = compile_output::shape(out, p, holds, stack, depth + 3);
     let r = compile_output::enter_turns(cell, exit, holds, stack, depth, out, q);
-    let up = table_scopes::enter_loop(control as u32, at, env, top);
+    let up = table_scopes::enter_loop(control, at, env, top);
     let from = ENTRY_BYTES * (1 + n);
     let s = statement(
         table,
