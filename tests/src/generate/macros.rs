@@ -691,9 +691,9 @@ fn damage_parts(rng: &mut Rng, m: &mut Macro) {
             m.bodies.truncate(1);
         }
         21 if m.shapes.len() > 1 => disorder(rng, &mut m.shapes),
-        // A stop by its a: in the place of one, where there is any, or of something else.
+        // A stop by its a: in the place of what ends or stops, where there is any, or of something else.
         23 => {
-            let stops: Vec<usize> = (0..n).filter(|&k| m.code[k].op == 20).collect();
+            let stops: Vec<usize> = (0..n).filter(|&k| matches!(m.code[k].op, 0 | 11 | 20)).collect();
             let k = if stops.is_empty() { i } else { *rng.pick(&stops) };
             m.code[k] = some_stop(rng);
         }
@@ -703,8 +703,8 @@ fn damage_parts(rng: &mut Rng, m: &mut Macro) {
 
 /// Op 20 with an a about 24 and 28, or that of older macros, and mostly b 0.
 pub fn some_stop(rng: &mut Rng) -> Instr {
-    let a = *rng.pick(&[0, 24, 24, 28, 28, 20, 23, 25, 27, 29, 255]);
-    let b = if rng.chance(85) { 0 } else { *rng.pick(&[1, -1, 24, 28, i32::MIN]) };
+    let a = *rng.pick(&[24, 24, 24, 24, 28, 28, 28, 28, 0, 20, 23, 25, 27, 29, 255]);
+    let b = if rng.chance(90) { 0 } else { *rng.pick(&[1, -1, 24, 28, i32::MIN]) };
     Instr { op: 20, a, b }
 }
 

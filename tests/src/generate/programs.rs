@@ -611,7 +611,7 @@ impl<'r> Generator<'r> {
                 }
             }
         }
-        match self.rng.below(28) {
+        match self.rng.below(29) {
             0..=5 => self.set(depth),
             6..=9 => self.assignment(depth),
             10 | 11 => {
@@ -781,7 +781,11 @@ impl<'r> Generator<'r> {
             _ => self.fresh(&[]),
         };
         self.open_loop(control);
-        let body = if self.rng.chance(50) { self.block_statement(depth + 1, 3) } else { self.statement(depth + 1) };
+        let body = match self.rng.below(10) {
+            0..=4 => self.block_statement(depth + 1, 3),
+            5 | 6 if self.left > 6 && depth < 50 => self.for_statement(depth + 1),
+            _ => self.statement(depth + 1),
+        };
         self.close_loop(bounds, body)
     }
 
@@ -800,7 +804,7 @@ impl<'r> Generator<'r> {
                 self.left -= 4;
                 let seen = self.variables_of(Type::Integer, false);
                 let e = match self.controls.last() {
-                    Some(control) if seen.contains(control) && self.rng.chance(50) => variable(*control),
+                    Some(control) if seen.contains(control) && self.rng.chance(70) => variable(*control),
                     _ => self.expression(Type::Integer, depth + 2, need),
                 };
                 binary(1, binary(5, e, integer(3)), integer(n))
