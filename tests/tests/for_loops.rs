@@ -10,6 +10,8 @@ use second::generate::loops::{looping_table, near_range, EDGE_RANGES};
 use second::generate::notation::table;
 use second::generate::programs::some_program;
 use second::generate::rng::Rng;
+#[cfg(desk)]
+use second::harness::listings::LISTED_STEPS;
 use second::harness::listings::{listing_of, without_sheet, LISTED_ROOM};
 use second::harness::setup::{case_count, with_large_stack};
 use second::harness::verdicts::{judged, verdict};
@@ -54,19 +56,23 @@ fn told(text: &str) -> String {
     told_of(&table(text)).trim_end().replace('\n', ", ")
 }
 
-/// By `cue_compile`, whose bytes are those of the plain compiler, `cue_start` and `cue_run`.
+/// By `cue_compile`, whose bytes are those of the plain compiler, `cue_start` and `cue_play`, which a list of calls of `cue_run` is held to.
 #[cfg(desk)]
 fn by_library(bytes: &[u8]) -> String {
-    use second::harness::compare_machines::{run, started};
-    use second::harness::desk::compiled;
-    use second::harness::listings::Listing;
-    let code = match compiled(bytes, LISTED_ROOM) {
-        Err(refusal) => return format!("refused {} {}\n", refusal.number, refusal.place),
-        Ok(code) => code,
-    };
+    use second::harness::compare_machines::{play, started};
+    use second::harness::desk::{compiled, unpacked};
+    let code = compiled(bytes, LISTED_ROOM).expect("it is accepted, and there is room");
     assert!(code == plain_code(bytes), "other bytes than the plain compiler's: {:?}", entries_of(bytes));
-    let mut state = started(&code);
-    without_sheet(&Listing::of_runs(|allowance| (run(&code, &mut state, &[0; 64], allowance), 0)).text())
+    let mut answers = vec![0; 8 * 1_000];
+    let [tag, _, end, events] = play(&code, &mut started(&code), &[0; 64], LISTED_STEPS, &mut answers);
+    let event = |answer: &[u8]| match unpacked(u64::from_le_bytes(answer.try_into().unwrap())) {
+        [4, _, channel, level] => format!("set {channel} {level}\n"),
+        [5, _, group, 0] => format!("hold {group}\n"),
+        [6, _, group, 0] => format!("release {group}\n"),
+        other => panic!("no event: {other:?}"),
+    };
+    assert_eq!(tag, 3, "it ends");
+    answers.chunks(8).take(events as usize).map(event).collect::<String>() + &format!("end {end}\n")
 }
 
 fn plain_code(bytes: &[u8]) -> Vec<u8> {
@@ -428,7 +434,7 @@ fn counted([start, step, limit]: [i32; 3]) -> String {
 /// Starts, steps and limits at both ends of the 32-bit range and about zero, each with each: every value of the first five turns, and how many there are.
 #[test]
 fn every_choice_of_bounds() {
-    let about = [i32::MIN, i32::MIN + 1, i32::MIN / 2, i32::MIN / 3, -65_536, -3, -1, 0, 1, 2, 3, 65_536, i32::MAX / 3, i32::MAX / 2, i32::MAX - 1, i32::MAX];
+    let about = [i32::MIN, i32::MIN + 1, i32::MIN / 2, i32::MIN / 3, -3, -1, 0, 1, 2, 3, i32::MAX / 3, i32::MAX / 2, i32::MAX - 1, i32::MAX];
     let byte = |operator: u16, n: i32| format!("48 21 0, 49 {operator} 0, 44 5 0, 40 0 {n}");
     let controlled = format!(
         "1 0 4, {}, {}, 21 0 0, 44 1 0, 49 1 0, 44 1 0, 40 0 1, 22 0 0, 49 10 0, 44 1 0, 40 0 5, 25 6 0",

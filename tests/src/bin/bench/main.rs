@@ -44,6 +44,7 @@ fn main() {
     }
     if wanted("chase") {
         chase::table_of_events();
+        chase::table_of_loops();
     }
     if store.is_empty() {
         ratios.compare();
