@@ -425,17 +425,14 @@ impl Compiler {
         self.push(1, 0, 0, INTEGER);
         self.operate(6, LOGICAL);
         self.jump_if_false(up);
-        self.push(5, 0, value, INTEGER);
-        lower(self);
-        self.operate(9, LOGICAL);
-        self.jump_if_false(end);
-        self.jump(8, inside);
-        self.land(up);
-        self.push(5, 0, value, INTEGER);
-        upper(self);
-        self.operate(7, LOGICAL);
-        self.jump_if_false(end);
-        self.land(inside);
+        for (bound, operator, behind) in [(&lower, 9, up), (&upper, 7, inside)] {
+            self.push(5, 0, value, INTEGER);
+            bound(self);
+            self.operate(operator, LOGICAL);
+            self.jump_if_false(end);
+            self.jump(8, inside);
+            self.land(behind);
+        }
     }
 
     /// Goes to the target if the expression is false.

@@ -77,7 +77,7 @@ pub enum StmtKind {
     /// 30 case (E, then a statements, a at least 1)
     Case(Expr, Vec<Stmt>),
     /// 31 for (paper 02, ticket 1)
-    For(For),
+    For(Box<For>),
 }
 
 /// "Kind 31, a the control name, takes start, step and limit expressions and a statement."
@@ -87,7 +87,7 @@ pub struct For {
     pub start: Expr,
     pub step: Expr,
     pub limit: Expr,
-    pub body: Box<Stmt>,
+    pub body: Stmt,
 }
 
 /// The head and the statements of a block (kind 1) or of a block expression (kind 53).
@@ -384,8 +384,8 @@ impl Reader<'_> {
                 let start = self.expression(depth + 1)?;
                 let step = self.expression(depth + 1)?;
                 let limit = self.expression(depth + 1)?;
-                let body = Box::new(self.statement(depth + 1, false)?);
-                StmtKind::For(For { control: e.a, start, step, limit, body })
+                let body = self.statement(depth + 1, false)?;
+                StmtKind::For(Box::new(For { control: e.a, start, step, limit, body }))
             }
             _ => return refuse(2, at),
         };

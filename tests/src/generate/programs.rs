@@ -758,7 +758,7 @@ impl<'r> Generator<'r> {
     fn close_loop(&mut self, [start, step, limit]: [Expr; 3], body: Stmt) -> Stmt {
         self.scopes.pop();
         let control = self.controls.pop().expect("a loop is open");
-        stmt(StmtKind::For(For { control, start, step, limit, body: Box::new(body) }))
+        stmt(StmtKind::For(Box::new(For { control, start, step, limit, body })))
     }
 
     /// Few turns, up or down, near 0 or at the ends of the 32-bit range; now and then so many that they do not end.
