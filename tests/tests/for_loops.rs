@@ -552,7 +552,7 @@ fn the_library_loads_stops_by_their_a() {
     for a in 0..=255 {
         let given = unpacked(load(&write_macro(&root_only(&format!("17 0 5, 20 {a} 0"), vec![]))));
         assert_eq!(given, if a == 24 || a == 28 { [1, 0, 0, 0] } else { [0, 0, 9, 1] }, "{a}");
-        assert_eq!(plain::loader::load(&write_macro(&root_only(&format!("20 24 {a}"), vec![]))).0, if a == 0 { 0 } else { 9 });
+        assert_eq!(unpacked(load(&write_macro(&root_only(&format!("20 24 {a}"), vec![]))))[2], if a == 0 { 0 } else { 9 });
         assert_eq!(unpacked(load(&write_macro(&root_only(&format!("20 28 {a}"), vec![]))))[2], if a == 0 { 0 } else { 9 });
     }
 }

@@ -9,6 +9,7 @@ use second::generate::runs::oracle;
 use second::harness::compare_tree_and_code::{walk, StateChecks};
 use second::harness::setup::{case_count, with_large_stack};
 use second::harness::verdicts::{loaded, loads};
+use second::plain;
 
 /// Two classes, the root with an integer and a reference, a function of one integer.
 fn sample() -> Macro {
@@ -144,14 +145,20 @@ fn operands_of_ops() {
 /// and one with an SH behind it.
 #[test]
 fn stops_by_their_a() {
+    let judged = |text: String, shapes: Vec<Shape>| {
+        let m = root_only(&text, shapes);
+        let verdict = loads(&m);
+        assert_eq!(plain::loader::load(&write_macro(&m)), verdict, "the plain loader: {text}");
+        verdict
+    };
     for a in 0..=255 {
         let expected = if a == 24 || a == 28 { (0, 0) } else { (9, 1) };
-        assert_eq!(loads(&root_only(&format!("1 0 1, 20 {a} 0"), vec![])), expected, "{a}");
-        assert_eq!(loads(&root_only(&format!("1 0 1, 20 {a} 0, 0 0 0"), vec![shape(2, 0, &[])])), expected, "{a}");
+        assert_eq!(judged(format!("1 0 1, 20 {a} 0"), vec![]), expected, "{a}");
+        assert_eq!(judged(format!("1 0 1, 20 {a} 0, 0 0 0"), vec![shape(2, 0, &[])]), expected, "{a}");
     }
     for b in [1, -1, 24, 28, i32::MIN] {
-        assert_eq!(loads(&root_only(&format!("1 0 1, 20 24 {b}"), vec![])), (9, 1));
-        assert_eq!(loads(&root_only(&format!("1 0 1, 20 28 {b}"), vec![])), (9, 1));
+        assert_eq!(judged(format!("1 0 1, 20 24 {b}"), vec![]), (9, 1));
+        assert_eq!(judged(format!("1 0 1, 20 28 {b}"), vec![]), (9, 1));
     }
 }
 
