@@ -317,8 +317,9 @@ impl<'t> Executor<'t, '_> {
         if step == 0 {
             return Err(Stop::Condition(28));
         }
-        // "The index N of the last statement is determined by N <= (E3 - E1)/E2 < N + 1. If N < 0,
-        // then it is understood that the sequence is empty." (000, 7.8.1)
+        // "The index N of the last statement is determined by N < (E3 - E1)/E2 < N + 1. If N < 0,
+        // then it is understood that the sequence is empty." (000, 7.8.1) The first sign is read as
+        // <=, since no N fits a whole quotient otherwise.
         let last = ((limit - start) * step.signum()).div_euclid(step.abs());
         let line = self.line;
         for index in 0..=last {
