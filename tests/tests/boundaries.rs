@@ -414,7 +414,7 @@ fn values_in_fields_of_entries() {
     assert_eq!(verdict("1 1 0, 10 2 4"), (2, 1));
     assert_eq!(verdict("1 1 0, 10 2 -1"), (2, 1));
     // unnamed fields
-    for wrong in ["20 1 1", "21 1 0", "22 0 1", "25 1 1", "26 1 0", "28 0 1", "30 1 1", "24 1 0", "23 1 0"] {
+    for wrong in ["20 1 1", "21 1 0", "22 0 1", "25 1 1", "26 1 0", "28 0 1", "30 1 1", "31 1 1", "24 1 0", "23 1 0"] {
         assert_eq!(verdict(&format!("1 0 1, {wrong}")), (2, 1), "{wrong}");
     }
     for wrong in ["40 1 0", "41 1 0", "42 1 0", "43 1 1", "44 1 1", "46 1 1", "48 20 1", "49 1 1", "50 1 0", "51 0 1"] {
@@ -475,7 +475,7 @@ fn limits_of_a_body_in_code() {
     let pushes = |n: usize| {
         let mut m = root_only("", vec![]);
         m.code = vec![Instr { op: 1, a: 0, b: 5 }; n];
-        m.code.push(Instr { op: 20, a: 0, b: 0 });
+        m.code.push(Instr { op: 20, a: 24, b: 0 });
         loads(&m)
     };
     assert_eq!(pushes(32), (0, 0));
@@ -483,15 +483,15 @@ fn limits_of_a_body_in_code() {
     let holds = |n: usize| {
         let mut m = root_only("", vec![]);
         m.code = vec![Instr { op: 17, a: 0, b: 63 }; n];
-        m.code.push(Instr { op: 20, a: 0, b: 0 });
+        m.code.push(Instr { op: 20, a: 24, b: 0 });
         loads(&m)
     };
     assert_eq!(holds(16), (0, 0));
     assert_eq!(holds(17), (9, 16));
     // at an SH
-    assert_eq!(loads(&root_only("0 0 0, 20 0 0", vec![shape(1, 16, &[1; 32])])), (0, 0));
-    assert_eq!(loads(&root_only("0 0 0, 20 0 0", vec![shape(1, 17, &[1; 32])])), (9, 1));
-    assert_eq!(loads(&root_only("0 0 0, 20 0 0", vec![shape(1, 16, &[1; 33])])), (9, 1));
+    assert_eq!(loads(&root_only("0 0 0, 20 24 0", vec![shape(1, 16, &[1; 32])])), (0, 0));
+    assert_eq!(loads(&root_only("0 0 0, 20 24 0", vec![shape(1, 17, &[1; 32])])), (9, 1));
+    assert_eq!(loads(&root_only("0 0 0, 20 24 0", vec![shape(1, 16, &[1; 33])])), (9, 1));
     // 32 parameters, more than any table has
     let mut m = bodies(2);
     m.bodies[1].cells = vec![1; 32];

@@ -23,7 +23,7 @@ const SIZES: [usize; 3] = [50, 30, 15];
 #[test]
 fn tree_and_code_agree() {
     with_large_stack(|| {
-        let mut ends = [0usize; 28];
+        let mut ends = [0usize; 29];
         let mut going = 0;
         let mut largest = 0;
         let count = case_count(20_000);
@@ -44,7 +44,7 @@ fn tree_and_code_agree() {
         // The generator reaches every end, else this test looks at too little.
         if count >= 3_000 {
             assert!(ends[0] > count / 5, "{ends:?}");
-            for condition in 20..=27 {
+            for condition in 20..=28 {
                 assert!(ends[condition] > 0, "no program ends by {condition}: {ends:?}");
             }
             assert!(going > 0 && largest > 1_000);

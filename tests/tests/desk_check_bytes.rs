@@ -13,7 +13,7 @@ use second::harness::setup::{case_count, with_large_stack};
 use second::harness::verdicts::{judged, verdict};
 
 /// An accepted table with every kind of entry and every sort of count.
-const EVERY_KIND: &str = "1 8 9
+const EVERY_KIND: &str = "1 8 10
     11 1 2, 10 2 1, 10 3 65537
     10 4 1, 10 5 2, 10 6 3, 10 7 65537
     12 8 513, 10 9 1, 10 10 1, 49 1 0, 44 9 0, 44 10 0
@@ -27,7 +27,8 @@ const EVERY_KIND: &str = "1 8 9
     23 0 0, 49 6 0, 44 4 0, 51 0 0, 40 0 2, 27 11 1, 44 7 0, 1 0 0
     24 0 0, 48 22 0, 44 5 0, 26 0 0, 49 10 0, 44 6 0, 42 0 -1
     28 0 0, 40 0 1, 53 1 1, 10 4 1, 21 0 0, 44 4 0, 40 0 9, 50 0 0, 41 0 0, 44 4 0, 40 0 8
-    30 2 0, 40 0 2, 1 0 0, 28 0 0, 40 0 1, 40 0 2";
+    30 2 0, 40 0 2, 1 0 0, 28 0 0, 40 0 1, 40 0 2
+    31 4 0, 44 4 0, 40 0 1, 40 0 3, 28 0 0, 44 4 0, 40 0 5";
 
 #[test]
 fn the_table_of_every_kind_is_accepted() {
@@ -58,7 +59,7 @@ fn every_byte_of_every_value() {
 fn every_entry_by_every_kind() {
     let list = entries(EVERY_KIND);
     for i in 0..list.len() {
-        for kind in KINDS.into_iter().chain([0, 2, 13, 15, 29, 31, 39, 52, 54, 99, 257, 65_535]) {
+        for kind in KINDS.into_iter().chain([0, 2, 13, 15, 29, 32, 39, 52, 54, 99, 257, 65_535]) {
             for a in [0, 1, 4, 8, 20, 63, 64, 65_535] {
                 for b in [0, 1, 2, 256, 65_537, 131_072, -1, i32::MIN, i32::MAX] {
                     let mut other = list.clone();
@@ -213,13 +214,15 @@ fn entries_2048_and_2049() {
 }
 
 /// Each kind that nests: how many levels it goes down, what stands before and behind the nested operand, and the innermost.
-const NESTING: [(usize, &str, &str, &str); 14] = [
+const NESTING: [(usize, &str, &str, &str); 16] = [
     (1, "1 0 1,", "", "1 0 0"),
     (1, "22 0 0, 41 0 1,", "", "1 0 0"),
     (1, "23 0 0, 41 0 1, 1 0 0,", "", "1 0 0"),
     (1, "23 0 0, 41 0 1,", "1 0 0,", "1 0 0"),
     (1, "24 0 0, 41 0 1,", "", "1 0 0"),
     (1, "30 1 0, 40 0 1,", "", "1 0 0"),
+    (1, "31 5 0, 40 0 1, 40 0 1, 40 0 2,", "", "1 0 0"),
+    (2, "31 5 0, 40 0 1, 53 0 1,", "40 0 1, 40 0 2, 1 0 0,", "1 0 0"),
     (2, "26 0 0, 53 0 1,", "41 0 1,", "1 0 0"),
     (1, "48 20 0,", "", "40 0 1"),
     (1, "49 1 0,", "40 0 1,", "40 0 1"),
@@ -247,7 +250,7 @@ fn nesting_64_and_65_by_every_kind() {
             let text = format!("{start}{}{inside},{}{end}", before.repeat(steps), behind.repeat(steps));
             let (number, place) = verdict(&text);
             if depth <= 64 {
-                // Many cases and many waiting operands are over a body's limits, which are judged last.
+                // Many cases, loops and waiting operands are over a body's limits, which are judged last.
                 assert!(matches!(number, 0 | 6), "{text}");
             } else {
                 assert_eq!(number, 2, "{text}");

@@ -63,7 +63,7 @@ fn r4_an_assignment_to_what_is_no_variable_and_no_field() {
 }
 
 /// The fields that the paper names for each kind: a, b.
-const NAMED: [(u16, bool, bool); 28] = [
+const NAMED: [(u16, bool, bool); 29] = [
     (1, true, true),
     (10, true, true),
     (11, true, true),
@@ -79,6 +79,7 @@ const NAMED: [(u16, bool, bool); 28] = [
     (27, true, true),
     (28, false, false),
     (30, true, false),
+    (31, true, false),
     (40, false, true),
     (41, false, true),
     (42, false, true),
@@ -97,9 +98,9 @@ const NAMED: [(u16, bool, bool); 28] = [
 #[test]
 fn r5_a_field_that_is_not_named_is_not_0() {
     let list = entries(
-        "1 2 10, 11 1 1, 10 2 1, 14 3 0, 20 4 0, 21 0 0, 46 2 0, 47 1 1, 40 0 1, 48 20 0, 40 0 1, 22 0 0, 41 0 1, 25 4 0,
+        "1 2 11, 11 1 1, 10 2 1, 14 3 0, 20 4 0, 21 0 0, 46 2 0, 47 1 1, 40 0 1, 48 20 0, 40 0 1, 22 0 0, 41 0 1, 25 4 0,
          23 0 0, 41 0 1, 1 0 0, 1 0 0, 24 0 0, 41 0 1, 1 0 0, 26 0 0, 49 10 0, 42 0 1, 42 0 1, 28 0 0, 51 0 0, 40 0 1, 40 0 1,
-         30 1 0, 40 0 1, 1 0 0, 26 0 0, 49 10 0, 43 1 0, 43 1 0, 28 0 0, 40 0 1, 50 0 0, 41 0 1, 40 0 1, 53 1 0, 10 1 1, 44 1 0",
+         31 1 0, 40 0 1, 40 0 1, 40 0 1, 1 0 0, 30 1 0, 40 0 1, 1 0 0, 26 0 0, 49 10 0, 43 1 0, 43 1 0, 28 0 0, 40 0 1, 50 0 0, 41 0 1, 40 0 1, 53 1 0, 10 1 1, 44 1 0",
     );
     assert_eq!(judged(&bytes_of(&list)), ACCEPTED);
     for (kind, a_named, b_named) in NAMED {
@@ -211,7 +212,8 @@ fn r14_a_case_without_statements() {
 fn r15_where_a_label_stands() {
     assert_eq!(declaration("12 1 0, 20 5 0"), (2, 2));
     let second_arms = ["23 0 0, 41 0 1, 1 0 0", "30 2 0, 40 0 1, 1 0 0"];
-    for before in ["22 0 0, 41 0 1", "24 0 0, 41 0 1", "30 1 0, 40 0 1", "23 0 0, 41 0 1"].into_iter().chain(second_arms) {
+    let first_arms = ["22 0 0, 41 0 1", "24 0 0, 41 0 1", "30 1 0, 40 0 1", "23 0 0, 41 0 1", "31 5 0, 40 0 1, 40 0 1, 40 0 1"];
+    for before in first_arms.into_iter().chain(second_arms) {
         let place = 1 + entries(before).len();
         assert_eq!(statement(&format!("{before}, 20 5 0")), (2, place), "{before}");
     }
@@ -236,7 +238,7 @@ fn r17_a_kind_that_may_not_stand_there() {
         assert_eq!(declaration(&format!("12 1 256, {kind} 1 1, 1 0 0")), (2, 2));
     }
     for (kind, ..) in NAMED {
-        let (is_declaration, is_statement) = (matches!(kind, 10..=14), kind == 1 || matches!(kind, 20..=30));
+        let (is_declaration, is_statement) = (matches!(kind, 10..=14), kind == 1 || matches!(kind, 20..=31));
         let is_expression = kind >= 40;
         let a = if matches!(kind, 48) { 20 } else { matches!(kind, 10 | 30 | 49) as u16 };
         let b = matches!(kind, 10 | 11) as i32;
@@ -244,7 +246,7 @@ fn r17_a_kind_that_may_not_stand_there() {
         assert_eq!(statement(&format!("{kind} {a} {b}")) == (2, 1), !is_statement, "{kind}");
         assert_eq!(statement(&format!("26 0 0, {kind} {a} {b}")) == (2, 2), !is_expression, "{kind}");
     }
-    for kind in [0, 2, 9, 13, 15, 19, 29, 31, 39, 52, 54, 99, 256, 257, 65_535] {
+    for kind in [0, 2, 9, 13, 15, 19, 29, 32, 39, 52, 54, 99, 256, 257, 65_535] {
         assert_eq!(statement(&format!("{kind} 0 0")), (2, 1));
         assert_eq!(declaration(&format!("{kind} 0 0")), (2, 1));
         assert_eq!(statement(&format!("26 0 0, {kind} 0 0")), (2, 2));

@@ -14,25 +14,31 @@ struct Fault {
 }
 
 fn faults() -> Vec<Fault> {
-    // What is over a limit: a need of 33, 33 variables, 17 holds.
+    // What is over a limit: a need of 33, 33 variables, 17 holds, 11 loops.
     let needy = format!("28 0 0, 40 0 1, {} 40 0 1", "49 1 0, 40 0 1,".repeat(31));
     let variables: String = (100..133).map(|name| format!(", 10 {name} 1")).collect();
-    let list: [(u8, usize, String); 15] = [
+    let loops = format!("{} 1 0 0", "31 8 0, 40 0 1, 40 0 1, 40 0 1,".repeat(11));
+    let list: [(u8, usize, String); 20] = [
         (2, 0, "99 0 0".into()),
         (2, 2, "28 0 0, 40 0 1, 41 0 2".into()),
         (2, 3, "28 0 0, 53 0 1, 1 0 0, 20 9 0, 40 0 1".into()),
+        (2, 4, "31 8 0, 40 0 1, 40 0 1, 40 0 1, 20 9 0".into()),
         (3, 0, "25 90 0".into()),
         (3, 2, "28 0 0, 40 0 1, 44 90 0".into()),
         (3, 2, "1 1 1, 10 8 1, 20 8 0".into()),
         (3, 0, "27 90 1, 40 0 1".into()),
+        (3, 1, "31 8 0, 44 8 0, 40 0 1, 40 0 1, 1 0 0".into()),
         (4, 0, "25 1 0".into()),
         (4, 1, "28 0 0, 49 1 0, 41 0 1, 40 0 1, 40 0 2".into()),
         (4, 0, "22 0 0, 40 0 1, 1 0 0".into()),
+        (4, 5, "31 8 0, 40 0 1, 40 0 1, 40 0 1, 21 0 0, 44 8 0, 40 0 1".into()),
+        (4, 0, "31 8 0, 40 0 1, 41 0 1, 40 0 1, 1 0 0".into()),
         (5, 3, "28 0 0, 40 0 1, 53 0 1, 25 5 0, 40 0 2".into()),
         (5, 2, "24 0 0, 53 0 1, 25 5 0, 41 0 1, 1 0 0".into()),
         (6, 0, needy),
         (6, 0, format!("1 33 0{variables}")),
         (6, 0, format!("1 17 0{}", ", 14 3 0".repeat(17))),
+        (6, 0, loops),
     ];
     list.into_iter().map(|(number, at, text)| Fault { number, at, text }).collect()
 }
@@ -118,18 +124,23 @@ fn inside_statements_of_every_kind() {
     inside("30 2 0, 40 0 1", "");
     inside("1 1 2, 10 7 1", "");
     inside("1 0 1, 24 0 0, 41 0 1, 1 0 2", "");
+    inside("31 7 0, 40 0 1, 40 0 1, 40 0 1, 1 0 2", "");
+    inside("31 7 0, 40 0 1, 53 0 2", ", 40 0 1, 40 0 1, 1 0 0");
     inside("28 0 0, 40 0 1, 53 0 2", ", 40 0 3");
 }
 
 /// An entry with a fault of its own around a statement with a fault: the inner one is told, but for 2 and 6.
 #[test]
 fn inner_before_outer() {
-    // A test, an index or an operand of the wrong type; a procedure whose name is there already, or whose body is of another type.
+    // A test, an index, a bound or an operand of the wrong type; a procedure whose name is there already, or whose body is of another type.
     let around = [
         (4, "1 1 2, 10 1 1", "22 0 0, 40 0 1", "20 5 0"),
         (4, "1 1 2, 10 1 1", "23 0 0, 40 0 1, 1 0 0", "20 5 0"),
         (4, "1 1 2, 10 1 1", "24 0 0, 42 0 1", "20 5 0"),
         (4, "1 1 2, 10 1 1", "30 1 0, 41 0 1", "20 5 0"),
+        (4, "1 1 2, 10 1 1", "31 7 0, 41 0 1, 40 0 1, 40 0 1", "20 5 0"),
+        (4, "1 1 2, 10 1 1", "31 7 0, 40 0 1, 40 0 1, 42 0 1", "20 5 0"),
+        (4, "1 1 2, 10 1 1", "31 7 0, 41 0 1, 53 0 1", "40 0 1, 40 0 1, 1 0 0, 20 5 0"),
         (4, "1 1 2, 10 1 1", "28 0 0, 41 0 1, 53 0 1", "40 0 2, 20 5 0"),
         (4, "1 1 2, 10 1 1", "21 0 0, 44 1 0, 53 0 1", "41 0 1, 20 5 0"),
         (3, "1 2 1, 10 1 1", "12 1 0", "20 5 0"),

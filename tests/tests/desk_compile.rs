@@ -196,12 +196,12 @@ impl Spread {
         if count < 5_000 {
             return;
         }
-        let kinds = [1, 10, 11, 12, 14, 20, 21, 22, 23, 24, 25, 26, 27, 28, 30, 40, 41, 42, 43, 44, 45, 46, 47, 48, 49, 50, 51, 53];
+        let kinds = [1, 10, 11, 12, 14, 20, 21, 22, 23, 24, 25, 26, 27, 28, 30, 31, 40, 41, 42, 43, 44, 45, 46, 47, 48, 49, 50, 51, 53];
         for kind in kinds {
             assert!(self.kinds.get(&kind).is_some_and(|n| *n > count / 50), "kind {kind}: {self:?}");
         }
         assert!(self.ends[&0] > count / 5, "{self:?}");
-        for condition in 20..=27 {
+        for condition in 20..=28 {
             assert!(self.ends.get(&condition).is_some_and(|n| *n > count / 2_000), "condition {condition}: {self:?}");
         }
         assert!(self.open > count / 200 && self.open < count / 2, "{self:?}");

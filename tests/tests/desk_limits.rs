@@ -26,7 +26,7 @@ fn ends_by(condition: u8, instructions: &str) {
     let list = code(instructions);
     let steps = list.len() as u16;
     // A body does not run past its end, and nothing follows a stop.
-    let last = if list[list.len() - 1].op == 20 { "" } else { ", 20 0 0" };
+    let last = if list[list.len() - 1].op == 20 { "" } else { ", 20 24 0" };
     let m = Macro { classes: vec![vec![1, 16]], ..root_only(&format!("17 0 5, 17 0 9, {instructions}{last}"), vec![]) };
     let bytes = write_macro(&m);
     let mut state = started(&bytes);
@@ -44,7 +44,7 @@ fn ends_by(condition: u8, instructions: &str) {
 
 /// These instructions go through, up to the stop behind them.
 fn goes_through(instructions: &str) {
-    ends_by(24, &format!("{instructions}, 20 0 0"));
+    ends_by(24, &format!("{instructions}, 20 24 0"));
 }
 
 #[test]
@@ -90,8 +90,14 @@ fn condition_23_assert_false() {
 
 #[test]
 fn condition_24_stop() {
-    ends_by(24, "20 0 0");
-    ends_by(24, "1 0 1, 2 0 1, 3 0 1, 20 0 0");
+    ends_by(24, "20 24 0");
+    ends_by(24, "1 0 1, 2 0 1, 3 0 1, 20 24 0");
+}
+
+#[test]
+fn condition_28_stop() {
+    ends_by(28, "20 28 0");
+    ends_by(28, "1 0 1, 2 0 1, 3 0 1, 20 28 0");
 }
 
 #[test]

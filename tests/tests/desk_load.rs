@@ -116,15 +116,15 @@ fn cells_operands_and_holds_at_their_limits() {
         assert_eq!(given(&m), answer);
     }
     for (n, answer) in [(32, [1, 0, 0, 0]), (33, [0, 0, 9, 32])] {
-        let text = format!("{}20 0 0", "1 0 7,".repeat(n));
+        let text = format!("{}20 24 0", "1 0 7,".repeat(n));
         assert_eq!(given(&root_only(&text, Vec::new())), answer);
     }
     for (n, answer) in [(16, [1, 0, 0, 0]), (17, [0, 0, 9, 16])] {
-        let text = format!("{}20 0 0", "17 0 63,".repeat(n));
+        let text = format!("{}20 24 0", "17 0 63,".repeat(n));
         assert_eq!(given(&root_only(&text, Vec::new())), answer);
     }
     for (holds, depth, answer) in [(16, 0, [1, 0, 0, 0]), (17, 0, [0, 0, 9, 1]), (0, 32, [1, 0, 0, 0]), (0, 33, [0, 0, 9, 1])] {
-        assert_eq!(given(&root_only("0 0 0, 20 0 0", vec![shape(1, holds, &vec![1; depth])])), answer);
+        assert_eq!(given(&root_only("0 0 0, 20 24 0", vec![shape(1, holds, &vec![1; depth])])), answer);
     }
 }
 
@@ -228,8 +228,8 @@ fn shapes_by_rising_address() {
 #[test]
 fn the_largest_macro() {
     let n = 65_535;
-    let mut text = "1 0 7, 20 0 0,".repeat(n / 2);
-    text.push_str("20 0 0");
+    let mut text = "1 0 7, 20 24 0,".repeat(n / 2);
+    text.push_str("20 24 0");
     let shapes: Vec<_> = (0..n as u16).map(|i| shape(i, 0, if i % 2 == 1 && (i as usize) < n - 1 { &[1] } else { &[] })).collect();
     let m = root_only(&text, shapes);
     assert_eq!(given(&m), [1, 0, 0, 0]);

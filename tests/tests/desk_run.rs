@@ -86,7 +86,7 @@ fn lists_of_runs() {
             often(0, number, 20);
         }
         often(3, 0, 10);
-        for condition in 20..=27 {
+        for condition in 20..=28 {
             often(3, condition, 2_000);
         }
     });
@@ -201,7 +201,7 @@ fn lengths_of_a_state() {
 /// 11 is given for a state that is releasing and for an ended one too, and changes nothing.
 #[test]
 fn readings_of_wrong_length() {
-    let m = root_only("17 0 7, 20 0 0", vec![]);
+    let m = root_only("17 0 7, 20 24 0", vec![]);
     let code = write_macro(&m);
     let mut state = vec![0; LENGTH];
     assert_eq!(start(&code, &mut state), None);

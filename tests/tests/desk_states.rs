@@ -173,11 +173,11 @@ fn noise() {
         let most = *rng.pick(&[2, 4, 40, 256]);
         let mut bytes: Vec<u8> = (0..LENGTH).map(|_| rng.below(most) as u8).collect();
         bytes[0] = (i % 4) as u8;
-        bytes[1] = *rng.pick(&[0, 19, 20, 27, 28, 255]);
+        bytes[1] = *rng.pick(&[0, 19, 20, 27, 28, 29, 255]);
         bytes[7] = rng.below(4) as u8;
         seen.note(&run(&code, &mut bytes, &[0; 64], 2));
     }
-    let sound = [seen.times(6, 0), seen.times(3, 0), seen.times(3, 20), seen.times(3, 27)];
+    let sound = [seen.times(6, 0), seen.times(3, 0), seen.times(3, 20), seen.times(3, 27), seen.times(3, 28)];
     assert!(count < 1_000 || (seen.times(0, 10) > count / 4 && sound.iter().all(|n| *n > count / 100)), "{seen:?}");
 }
 
@@ -223,7 +223,7 @@ fn counts_at_their_limits() {
     assert!(refused(&code, &releasing, &[(6, 1)]));
     // 0 and the conditions end, nothing else; a condition releases.
     for number in 0..=255 {
-        let condition = (20..=27).contains(&number);
+        let condition = (20..=28).contains(&number);
         assert_eq!(!refused(&code, &encode(&State::Ended { code: number }), &[]), number == 0 || condition);
         assert_eq!(!refused(&code, &encode(&State::Releasing { condition: number, holds: vec![1] }), &[]), condition);
         assert!(number < 3 || refused(&code, &full, &[(0, number)]));

@@ -34,7 +34,7 @@ fn the_examples() {
 /// "a reading whose value is dropped counts", "a fader out of range takes no reading"
 #[test]
 fn readings_whose_value_is_dropped() {
-    assert_listed(dropped_readings(), 12);
+    assert_listed(dropped_readings(), 14);
 }
 
 #[test]

@@ -43,8 +43,8 @@ fn text_of(name: &str, sort: &str) -> String {
 }
 
 #[test]
-fn there_are_eleven_examples() {
-    assert_eq!(names().len(), 11, "{:?}", names());
+fn there_are_twelve_examples() {
+    assert_eq!(names().len(), 12, "{:?}", names());
 }
 
 /// Text to table and back: the table is that of the text, and its text without comments gives it again.

@@ -9,6 +9,7 @@ use second::generate::runs::oracle;
 use second::harness::compare_tree_and_code::{walk, StateChecks};
 use second::harness::setup::{case_count, with_large_stack};
 use second::harness::verdicts::{loaded, loads};
+use second::plain;
 
 /// Two classes, the root with an integer and a reference, a function of one integer.
 fn sample() -> Macro {
@@ -111,21 +112,21 @@ fn counts_types_and_addresses_that_do_not_read() {
 /// One op after the other with every a and b that is out of range or unused and not 0.
 #[test]
 fn operands_of_ops() {
-    let one = |text: &str| loads(&root_only(&format!("{text}, 20 0 0"), vec![]));
-    for good in ["1 0 -5", "2 0 0", "2 0 1", "3 0 -1", "17 0 0", "17 0 63", "20 0 0"] {
-        let expected = if good == "20 0 0" { (9, 0) } else { (0, 0) };
+    let one = |text: &str| loads(&root_only(&format!("{text}, 20 24 0"), vec![]));
+    for good in ["1 0 -5", "2 0 0", "2 0 1", "3 0 -1", "17 0 0", "17 0 63", "20 24 0", "20 28 0"] {
+        let expected = if good.starts_with("20") { (9, 0) } else { (0, 0) };
         // op 20 without an SH behind it is a fault at the op
         assert_eq!(one(good), expected, "{good}");
     }
     for bad in [
         "0 1 0", "0 0 1", "1 1 0", "2 1 0", "2 0 2", "2 0 -1", "3 1 0", "4 0 0", "5 0 0", "5 1 0", "5 2 0", "6 0 0", "7 1 0",
         "7 0 0", "8 0 1", "9 0 1", "10 0 0", "10 0 1", "11 0 0", "12 0 0", "13 0 0", "14 0 0", "15 0 0", "16 0 0", "17 0 64",
-        "17 0 -1", "17 1 0", "18 0 0", "19 0 0", "20 1 0", "20 0 1", "21 0 0", "255 0 0",
+        "17 0 -1", "17 1 0", "18 0 0", "19 0 0", "20 0 0", "20 1 0", "20 24 1", "21 0 0", "255 0 0",
     ] {
         assert_eq!(one(bad), (9, 0), "{bad}");
     }
     // unused fields of the rest, behind what they need
-    let behind = |before: &str, op: &str| loads(&root_only(&format!("{before}, {op}, 20 0 0"), vec![]));
+    let behind = |before: &str, op: &str| loads(&root_only(&format!("{before}, {op}, 20 24 0"), vec![]));
     for (before, good, bads) in [
         ("1 0 1, 1 0 1", "7 1 0", vec!["7 1 1", "7 14 0", "7 22 0", "7 23 0", "7 16 0"]),
         ("1 0 1, 1 0 1", "15 0 0", vec!["15 1 0", "15 0 1"]),
@@ -140,6 +141,27 @@ fn operands_of_ops() {
     }
 }
 
+/// "Op 20 stops by its a, 24 or 28." (paper 02, ticket 1): any other a, that of older macros too, is a fault at the op; the last of a body
+/// and one with an SH behind it.
+#[test]
+fn stops_by_their_a() {
+    let judged = |text: String, shapes: Vec<Shape>| {
+        let m = root_only(&text, shapes);
+        let verdict = loads(&m);
+        assert_eq!(plain::loader::load(&write_macro(&m)), verdict, "the plain loader: {text}");
+        verdict
+    };
+    for a in 0..=255 {
+        let expected = if a == 24 || a == 28 { (0, 0) } else { (9, 1) };
+        assert_eq!(judged(format!("1 0 1, 20 {a} 0"), vec![]), expected, "{a}");
+        assert_eq!(judged(format!("1 0 1, 20 {a} 0, 0 0 0"), vec![shape(2, 0, &[])]), expected, "{a}");
+    }
+    for b in [1, -1, 24, 28, i32::MIN] {
+        assert_eq!(judged(format!("1 0 1, 20 24 {b}"), vec![]), (9, 1));
+        assert_eq!(judged(format!("1 0 1, 20 28 {b}"), vec![]), (9, 1));
+    }
+}
+
 #[test]
 fn classes_in_code() {
     let with = |text: &str| {
@@ -149,21 +171,21 @@ fn classes_in_code() {
     };
     // the first field's value is deepest
     assert_eq!(with("1 0 5, 4 1 0, 12 0 0, 13 0 1, 13 1 0, 19 0 0, 0 0 0"), (0, 0));
-    assert_eq!(with("4 1 0, 1 0 5, 12 0 0, 20 0 0"), (9, 2));
+    assert_eq!(with("4 1 0, 1 0 5, 12 0 0, 20 24 0"), (9, 2));
     // reference below value
     assert_eq!(with("4 0 0, 1 0 5, 14 0 0, 0 0 0"), (0, 0));
     assert_eq!(with("1 0 5, 4 0 0, 14 0 0, 0 0 0"), (9, 2));
     // a field or class that is not there, another class's reference
-    assert_eq!(with("4 0 0, 13 0 2, 20 0 0"), (9, 1));
-    assert_eq!(with("4 0 0, 13 0 -1, 20 0 0"), (9, 1));
-    assert_eq!(with("4 0 0, 13 1 0, 20 0 0"), (9, 1));
-    assert_eq!(with("4 2 0, 20 0 0"), (9, 0));
-    assert_eq!(with("4 0 1, 20 0 0"), (9, 0));
-    assert_eq!(with("2 0 1, 12 1 1, 20 0 0"), (9, 1));
-    assert_eq!(with("2 0 1, 12 2 0, 20 0 0"), (9, 1));
+    assert_eq!(with("4 0 0, 13 0 2, 20 24 0"), (9, 1));
+    assert_eq!(with("4 0 0, 13 0 -1, 20 24 0"), (9, 1));
+    assert_eq!(with("4 0 0, 13 1 0, 20 24 0"), (9, 1));
+    assert_eq!(with("4 2 0, 20 24 0"), (9, 0));
+    assert_eq!(with("4 0 1, 20 24 0"), (9, 0));
+    assert_eq!(with("2 0 1, 12 1 1, 20 24 0"), (9, 1));
+    assert_eq!(with("2 0 1, 12 2 0, 20 24 0"), (9, 1));
     // = of two references of one class, not of two
-    assert_eq!(with("4 0 0, 4 0 0, 7 10 0, 20 0 0"), (0, 0));
-    assert_eq!(with("4 0 0, 4 1 0, 7 10 0, 20 0 0"), (9, 2));
+    assert_eq!(with("4 0 0, 4 0 0, 7 10 0, 20 24 0"), (0, 0));
+    assert_eq!(with("4 0 0, 4 1 0, 7 10 0, 20 24 0"), (9, 2));
 }
 
 #[test]
@@ -187,18 +209,18 @@ fn cells_of_the_root_and_own() {
 #[test]
 fn shapes_and_jumps() {
     // "At an SH the state equals it": the fault is at the SH
-    assert_eq!(loads(&root_only("1 0 1, 20 0 0", vec![shape(1, 0, &[1])])), (0, 0));
-    assert_eq!(loads(&root_only("1 0 1, 20 0 0", vec![shape(1, 0, &[2])])), (9, 1));
-    assert_eq!(loads(&root_only("1 0 1, 20 0 0", vec![shape(1, 1, &[1])])), (9, 1));
+    assert_eq!(loads(&root_only("1 0 1, 20 24 0", vec![shape(1, 0, &[1])])), (0, 0));
+    assert_eq!(loads(&root_only("1 0 1, 20 24 0", vec![shape(1, 0, &[2])])), (9, 1));
+    assert_eq!(loads(&root_only("1 0 1, 20 24 0", vec![shape(1, 1, &[1])])), (9, 1));
     // also at a first address
     assert_eq!(loads(&root_only("0 0 0", vec![shape(0, 0, &[])])), (0, 0));
-    assert_eq!(loads(&root_only("20 0 0", vec![shape(0, 1, &[])])), (9, 0));
+    assert_eq!(loads(&root_only("20 24 0", vec![shape(0, 1, &[])])), (9, 0));
     // a jump to a first address needs an SH there
     assert_eq!(loads(&root_only("8 0 0", vec![shape(0, 0, &[])])), (0, 0));
     assert_eq!(loads(&root_only("8 0 0", vec![])), (9, 0));
     // a jump with another state: the fault is at the jump
-    assert_eq!(loads(&root_only("17 0 1, 8 0 2, 20 0 0", vec![shape(2, 1, &[])])), (0, 0));
-    assert_eq!(loads(&root_only("17 0 1, 8 0 2, 20 0 0", vec![shape(2, 2, &[])])), (9, 1));
+    assert_eq!(loads(&root_only("17 0 1, 8 0 2, 20 24 0", vec![shape(2, 1, &[])])), (0, 0));
+    assert_eq!(loads(&root_only("17 0 1, 8 0 2, 20 24 0", vec![shape(2, 2, &[])])), (9, 1));
     // addresses that are none
     for target in ["-1", "1", "65536", "2147483647", "-2147483648"] {
         assert_eq!(loads(&root_only(&format!("8 0 {target}"), vec![shape(0, 0, &[])])), (9, 0), "{target}");
@@ -212,8 +234,8 @@ fn shapes_and_jumps() {
     m.code[0].b = 1;
     assert_eq!(loads(&m), (9, 0));
     // "After ops 0, 8, 11, 20 comes an SH or the body's end": the fault is at the op
-    assert_eq!(loads(&root_only("20 0 0, 0 0 0", vec![])), (9, 0));
-    assert_eq!(loads(&root_only("20 0 0, 0 0 0", vec![shape(1, 0, &[])])), (0, 0));
+    assert_eq!(loads(&root_only("20 24 0, 0 0 0", vec![])), (9, 0));
+    assert_eq!(loads(&root_only("20 24 0, 0 0 0", vec![shape(1, 0, &[])])), (0, 0));
     assert_eq!(loads(&root_only("0 0 0, 18 0 0, 0 0 0", vec![shape(1, 1, &[])])), (0, 0));
     // "Code after 0, 8, 11, 20 is judged from its SH, reached or not"
     assert_eq!(loads(&root_only("0 0 0, 18 0 0, 0 0 0", vec![shape(1, 0, &[])])), (9, 1));
@@ -221,7 +243,7 @@ fn shapes_and_jumps() {
     assert_eq!(loads(&root_only("1 0 1", vec![])), (9, 0));
     assert_eq!(loads(&root_only("2 0 1, 9 0 0", vec![shape(0, 0, &[])])), (9, 1));
     // the lowest address that has a fault
-    assert_eq!(loads(&root_only("1 0 1, 1 0 1, 20 0 0, 99 0 0", vec![shape(2, 0, &[1])])), (9, 2));
+    assert_eq!(loads(&root_only("1 0 1, 1 0 1, 20 24 0, 99 0 0", vec![shape(2, 0, &[1])])), (9, 2));
 }
 
 #[test]
@@ -244,7 +266,7 @@ fn ends_and_returns() {
     assert_eq!(procedure(1, "2 0 1, 11 0 0"), (9, 2));
     assert_eq!(procedure(1, "1 0 4, 1 0 4, 11 0 0"), (9, 3));
     assert_eq!(procedure(0, "17 0 4, 11 0 0"), (9, 2));
-    assert_eq!(procedure(0, "20 0 0"), (0, 0));
+    assert_eq!(procedure(0, "20 24 0"), (0, 0));
     // the root with parameters or a result: at its first address
     let mut m = root_only("0 0 0", vec![]);
     m.bodies[0] = body(0, 1, 0, &[1]);

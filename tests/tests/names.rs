@@ -159,7 +159,7 @@ fn kinds_in_their_places() {
 /// A kind that paper 01 does not name reads nowhere, and each named one only as its sort.
 #[test]
 fn every_kind_everywhere() {
-    let statements = [1, 20, 21, 22, 23, 24, 25, 26, 27, 28, 30];
+    let statements = [1, 20, 21, 22, 23, 24, 25, 26, 27, 28, 30, 31];
     let declarations = [10, 11, 12, 14];
     let expressions = [40, 41, 42, 43, 44, 45, 46, 47, 48, 49, 50, 51, 53];
     for kind in (0..400).chain([65_535]) {
@@ -168,7 +168,7 @@ fn every_kind_everywhere() {
             30 => 1,
             48 => 20,
             49 => 1,
-            1 | 10 | 11 | 12 | 14 | 20 | 25 | 27 | 43..=47 | 53 => 1,
+            1 | 10 | 11 | 12 | 14 | 20 | 25 | 27 | 31 | 43..=47 | 53 => 1,
             _ => 0,
         };
         let b = i32::from(matches!(kind, 10 | 11));

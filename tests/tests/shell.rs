@@ -71,7 +71,7 @@ fn a_shell_in_c() {
 fn a_shell_in_c_loads_macros() {
     let shell = compiled("loading-shell");
     let prints = |m: &Macro, lines: &str, content: bool| assert_eq!(printed(&shell, &["macro"], &write_macro(m)), (lines.to_string(), content));
-    prints(&root_only("17 0 7, 17 0 63, 20 0 0", vec![]), "refused 11 0\nhold 7\nhold 63\nrelease 63\nrelease 7\nend 24\n", true);
+    prints(&root_only("17 0 7, 17 0 63, 20 24 0", vec![]), "refused 11 0\nhold 7\nhold 63\nrelease 63\nrelease 7\nend 24\n", true);
     prints(&endless_counter(1_000_000), "refused 11 0\nhold 9\nopen 0\n", true);
     prints(&root_only("1 0 7, 11 0 0", vec![]), "refused 9 1\n", false);
     // HD, BD, IN, and half of ZZ

@@ -20,7 +20,7 @@ fn sample() -> Loaded {
         classes: vec![vec![1, 16]],
         bodies: vec![body(0, 0, 0, &[16, 2]), body(12, 2, 3, &[1, 2, 3])],
         code: code(
-            "1 0 -2, 4 0 0, 12 0 0, 6 0 0, 17 0 7, 1 0 77, 1 0 5, 2 0 1, 10 0 1, 20 0 0, 18 0 0, 20 0 0,
+            "1 0 -2, 4 0 0, 12 0 0, 6 0 0, 17 0 7, 1 0 77, 1 0 5, 2 0 1, 10 0 1, 20 24 0, 18 0 0, 20 24 0,
              17 0 9, 3 0 -1, 18 0 0, 11 0 0",
         ),
         shapes: vec![shape(10, 1, &[]), ],
@@ -158,7 +158,7 @@ fn what_is_sound() {
     assert!(!change(&|_, t| t.push(t[1].clone())));
     // releasing and ended
     for code in 0..=255u8 {
-        let condition = (20..=27).contains(&code);
+        let condition = (20..=28).contains(&code);
         assert_eq!(sound(&loaded, &State::Ended { code }), code == 0 || condition);
         assert_eq!(sound(&loaded, &State::Releasing { condition: code, holds: vec![0, 63] }), condition);
     }
@@ -244,7 +244,7 @@ fn thirty_two_activations() {
 /// Allowances: an event on the last step is an event; the condition's step gives none.
 #[test]
 fn allowances() {
-    let m = root_only("17 0 5, 1 0 1, 1 0 2, 15 0 0, 2 0 0, 19 0 0, 20 0 0", vec![]);
+    let m = root_only("17 0 5, 1 0 1, 1 0 2, 15 0 0, 2 0 0, 19 0 0, 20 24 0", vec![]);
     assert_eq!(loads(&m), (0, 0));
     let bank = [0; 64];
     let mut s = fresh(&m);
@@ -303,12 +303,12 @@ fn ways_to_be_stuck() {
     assert_eq!(root("8 0 7"), Some(Stuck::NoNextStep));
     assert_eq!(root("11 0 0"), Some(Stuck::NoNextStep));
     assert_eq!(root("99 0 0"), Some(Stuck::NoNextStep));
-    assert_eq!(root("2 0 1, 1 0 1, 7 1 0, 20 0 0"), Some(Stuck::Type));
+    assert_eq!(root("2 0 1, 1 0 1, 7 1 0, 20 24 0"), Some(Stuck::Type));
     assert_eq!(root("15 0 0, 0 0 0"), Some(Stuck::Frames));
     assert_eq!(root("18 0 0, 0 0 0"), Some(Stuck::Frames));
     assert_eq!(root("17 0 1, 0 0 0"), Some(Stuck::GroupHeld));
     assert_eq!(root("8 0 1, 1 0 1, 8 0 1"), Some(Stuck::Frames));
-    let mut m = root_only("1 0 1, 12 0 0, 13 1 0, 20 0 0", vec![]);
+    let mut m = root_only("1 0 1, 12 0 0, 13 1 0, 20 24 0", vec![]);
     m.classes = vec![vec![1], vec![1]];
     assert_eq!(stuck(&m), Some(Stuck::Record));
     let mut m = root_only("10 0 1, 0 0 0, 17 0 1, 11 0 0", vec![]);

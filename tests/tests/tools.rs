@@ -111,7 +111,7 @@ ZZ
 #[test]
 fn every_op_has_its_name() {
     let instructions = "0 0 0, 1 0 -5, 2 0 0, 2 0 1, 3 0 255, 4 1 0, 5 0 2, 5 1 3, 6 0 4, 6 1 5, 7 1 0, 7 22 0, 7 16 0, 8 0 9, 9 0 10, 10 0 1, 11 0 0,\
-        12 1 0, 13 1 2, 14 0 3, 15 0 0, 16 0 0, 17 0 63, 18 0 0, 19 0 0, 20 0 0, 21 0 0, 2 0 2, 18 0 1";
+        12 1 0, 13 1 2, 14 0 3, 15 0 0, 16 0 0, 17 0 63, 18 0 0, 19 0 0, 20 24 0, 21 0 0, 2 0 2, 18 0 1, 20 28 0, 20 0 0, 20 24 1";
     let m = Macro {
         classes: vec![vec![1, 16], vec![2]],
         bodies: vec![body(0, 0, 0, &[]), body(4, 1, 3, &[3, 17])],
@@ -122,7 +122,7 @@ fn every_op_has_its_name() {
     assert!(reads);
     let lines: Vec<&str> = text.lines().map(str::trim_start).collect();
     let wanted = [
-        "HD classes 2, bodies 2, instructions 29, shapes 2",
+        "HD classes 2, bodies 2, instructions 32, shapes 2",
         "CL class 0: integer, class 0",
         "CL class 1: logical",
         "BD body 0: first 0, parameters 0, result none, cells: none",
@@ -160,6 +160,9 @@ fn every_op_has_its_name() {
         "27  op 2 a 0 b 2?",
         "SH 28: holds 0, stack: logical",
         "28  op 18 a 0 b 1?",
+        "29  stop by 28",
+        "30  op 20 a 0 b 0?",
+        "31  op 20 a 24 b 1?",
         "ZZ",
     ];
     assert_eq!(lines, wanted);

@@ -185,7 +185,7 @@ fn instruction_words(i: &Instruction) -> String {
         (17, 0, _) => format!("hold {b}"),
         (18, 0, 0) => "release".to_string(),
         (19, 0, 0) => "assert".to_string(),
-        (20, 0, 0) => "stop by 24".to_string(),
+        (20, 24 | 28, 0) => format!("stop by {a}"),
         _ => format!("op {op} a {a} b {b}?"),
     }
 }

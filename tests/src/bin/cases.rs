@@ -11,6 +11,7 @@ use second::evaluator::state::{sound_state, LENGTH};
 use second::evaluator::table::{bytes_of, write_tree, Tree};
 use second::generate::edge_cases::{deciding_table, deep_macro, edge_macro, edge_state, edge_table};
 use second::generate::judged_tables::judged_table;
+use second::generate::loops::looping_table;
 use second::generate::macros::{disordered_macro, good_macro, judged_macro, Size};
 use second::generate::programs::{plan, program, some_program};
 use second::generate::rng::Rng;
@@ -146,12 +147,14 @@ fn item_numbers(items: &[Item]) -> Vec<u64> {
 
 /// `executed (bytes N 0xHEX) SEED FUEL END (ITEMS)`
 fn execution_case(rng: &mut Rng, i: usize) -> String {
-    if i % 4 == 1 {
-        return deciding_case(rng);
+    match i % 8 {
+        1 => return deciding_case(rng),
+        5 => return looping_case(rng),
+        _ => {}
     }
     let forever = i % 12 == 6;
     // Each condition in turn, 0 between them; 26 and 27 take many steps, so they come less often.
-    const ENDS: [u8; 11] = [0, 20, 0, 21, 22, 0, 23, 24, 0, 25, 0];
+    const ENDS: [u8; 13] = [0, 20, 0, 21, 22, 0, 23, 24, 0, 25, 0, 28, 0];
     let wanted = match i % 33 {
         31 => 26,
         _ => ENDS[i % ENDS.len()],
@@ -195,6 +198,18 @@ fn deciding_case(rng: &mut Rng) -> String {
     let x = execute(&tree, &mut oracle(0), Budget { fuel: 400, line: u64::MAX, items: 150 });
     let end = x.end.expect("it has no loop");
     executed(&table, 0, x.fuel, end as u64, &x)
+}
+
+/// A program whose events tell the values of its loops, at the ends of the 32-bit range as often as not.
+fn looping_case(rng: &mut Rng) -> String {
+    loop {
+        let table = looping_table(rng);
+        let tree = judge_table(&table).expect("a looping table is accepted");
+        let x = execute(&tree, &mut oracle(0), Budget { fuel: 400, line: u64::MAX, items: 150 });
+        if let (Some(end), true, Some(_)) = (x.end, table.len() <= 50 * 8, plain_steps(&tree, 0, 300)) {
+            return executed(&table, 0, x.fuel, end as u64, &x);
+        }
+    }
 }
 
 /// A fuel at which the execution is still going, and an execution that is longer than any

@@ -67,7 +67,12 @@ impl Answer {
     }
 }
 
-/// "A condition (20 to 27)".
+/// "A condition (20 to 27)"; "A loaded macro may end by 28 besides 20 to 27" (paper 02, ticket 1).
 pub fn is_condition(code: u8) -> bool {
-    (20..=27).contains(&code)
+    (20..=28).contains(&code)
+}
+
+/// "Op 20 stops by its a, 24 or 28." (paper 02, ticket 1)
+pub fn is_stop(a: u8) -> bool {
+    a == 24 || a == 28
 }

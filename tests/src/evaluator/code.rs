@@ -3,7 +3,7 @@
 
 use std::collections::HashMap;
 
-use super::answer::{refuse, Refusal};
+use super::answer::{is_stop, refuse, Refusal};
 use super::values::{binary_type, is_binary, is_unary, unary_type, Type};
 
 /// "a body's limits": 32 cells, 16 holds, 32 operands.
@@ -548,9 +548,9 @@ fn judge_op(m: &Macro, body: usize, found: Found, i: Instr, shapes: &HashMap<usi
             b_unused?;
             w.pop_type(LOGICAL)?;
         }
-        // 20 stop by 24
+        // 20 stop by a
         20 => {
-            a_unused?;
+            rule(is_stop(i.a))?;
             b_unused?;
         }
         _ => return Err(Broken),

@@ -213,6 +213,12 @@ impl Compiler {
         self.stack.truncate(self.stack.len() - count);
     }
 
+    /// A binary operator that gives this type.
+    fn operate(&mut self, operator: u8, ty: u8) {
+        self.drop(2);
+        self.push(7, operator, 0, ty);
+    }
+
     fn find(&self, name: Name) -> Place {
         for open in self.open.iter().rev() {
             if let Some(place) = open.variables.get(&name) {
@@ -357,17 +363,75 @@ impl Compiler {
                     let next = self.target();
                     self.push(5, 0, cell, INTEGER);
                     self.push(1, 0, i as i32 + 1, INTEGER);
-                    self.emit(7, 10, 0);
-                    self.drop(2);
-                    self.stack.push(LOGICAL);
+                    self.operate(10, LOGICAL);
                     self.jump_if_false(next);
                     self.statement(arm);
                     self.jump(8, end);
                     self.land(next);
                 }
-                self.emit(20, 0, 0);
+                self.emit(20, 24, 0);
                 self.land(end);
             }
+            StmtKind::For(f) => self.turns(f),
+        }
+    }
+
+    /// "Each loop counts three cells": value, step and limit. Before a turn the value is held to the
+    /// limit; after it, to the values from which a step does not pass the 32-bit range.
+    fn turns(&mut self, f: &For) {
+        let [value, step, limit] = [0, 1, 2].map(|i| (self.cells.len() + i) as i32);
+        self.cells.extend([INTEGER; 3]);
+        for e in [&f.start, &f.step, &f.limit] {
+            self.expression(e);
+        }
+        for cell in [limit, step, value] {
+            self.emit(6, 0, cell);
+            self.drop(1);
+        }
+        let (again, end) = (self.target(), self.target());
+        self.push(5, 0, step, INTEGER);
+        self.push(1, 0, 0, INTEGER);
+        self.operate(10, LOGICAL);
+        self.jump_if_false(again);
+        self.emit(20, 28, 0);
+        self.land(again);
+        self.within([value, step], [limit; 2].map(|cell| move |c: &mut Compiler| c.push(5, 0, cell, INTEGER)), end);
+        let control = Place { a: 0, cell: value as usize, ty: INTEGER };
+        self.open.push(Open { variables: HashMap::from([(f.control, control)]), labels: HashMap::new(), holds: self.holds });
+        self.statement(&f.body);
+        self.open.pop();
+        let last_before = |edge: i32| {
+            move |c: &mut Compiler| {
+                c.push(1, 0, edge, INTEGER);
+                c.push(5, 0, step, INTEGER);
+                c.operate(2, INTEGER);
+            }
+        };
+        self.within([value, step], [i32::MIN, i32::MAX].map(last_before), end);
+        self.push(5, 0, value, INTEGER);
+        self.push(5, 0, step, INTEGER);
+        self.operate(1, INTEGER);
+        self.emit(6, 0, value);
+        self.drop(1);
+        self.jump(8, again);
+        self.land(end);
+    }
+
+    /// Goes to the end unless the value is at least the lower bound, where the step is negative, or
+    /// at most the upper one, where it is not; each bound is what its code leaves on the stack.
+    fn within(&mut self, [value, step]: [i32; 2], [lower, upper]: [impl Fn(&mut Compiler); 2], end: Target) {
+        let (up, inside) = (self.target(), self.target());
+        self.push(5, 0, step, INTEGER);
+        self.push(1, 0, 0, INTEGER);
+        self.operate(6, LOGICAL);
+        self.jump_if_false(up);
+        for (bound, operator, behind) in [(&lower, 9, up), (&upper, 7, inside)] {
+            self.push(5, 0, value, INTEGER);
+            bound(self);
+            self.operate(operator, LOGICAL);
+            self.jump_if_false(end);
+            self.jump(8, inside);
+            self.land(behind);
         }
     }
 
@@ -441,13 +505,11 @@ impl Compiler {
                     return;
                 }
                 self.expression(y);
-                self.emit(7, *operator as u8, 0);
-                self.drop(2);
                 let result = match operator {
                     6..=11 => LOGICAL,
                     _ => ty,
                 };
-                self.stack.push(result);
+                self.operate(*operator as u8, result);
             }
             ExprKind::If(test, then, other) => {
                 let otherwise = self.target();

@@ -6,7 +6,7 @@ use std::collections::HashMap;
 
 use super::answer::{Event, Item};
 use super::table::*;
-use super::values::{binary, fader_range, initial, set_range, unary, Trouble, Type, Value};
+use super::values::{binary, fader_range, initial, set_range, settle, unary, Trouble, Type, Value};
 
 /// Where an execution is left, if it has not ended by then.
 #[derive(Clone, Copy, Debug)]
@@ -28,7 +28,7 @@ pub struct Execution {
     pub items: Vec<Item>,
     /// 0 or a condition; None where it was still going.
     pub end: Option<u8>,
-    /// 1 + loop rounds after the first + caught gotos + calls, all in all.
+    /// 1 + loop rounds and turns after the first + caught gotos + calls, all in all.
     pub fuel: u64,
     /// The same counted along the line of what is not yet finished: rounds of a loop that is
     /// over, and calls that have returned, no longer count. The most that was reached.
@@ -135,7 +135,7 @@ pub fn execute(tree: &Tree, oracle: &mut dyn FnMut(usize, u8) -> u8, budget: Bud
         Ok(Flow::Goto(_)) => unreachable!("a goto reaches a label of its body"),
         Err(Stop::Condition(number)) => {
             // "A condition (20 to 27) stops execution, releases every open hold, last first,
-            // and ends."
+            // and ends."; so does 28.
             while let Some(group) = executor.open.pop() {
                 executor.items.push(Item::Event(Event::Release { group }));
             }
@@ -155,7 +155,7 @@ impl<'t> Executor<'t, '_> {
         Ok(())
     }
 
-    /// One more round, caught goto or call.
+    /// One more round, turn, caught goto or call.
     fn spend(&mut self) -> Result<(), Stop> {
         self.fuel += 1;
         self.line += 1;
@@ -302,7 +302,43 @@ impl<'t> Executor<'t, '_> {
                 }
                 return self.statement(&arms[index as usize - 1]);
             }
+            StmtKind::For(f) => return self.turns(f),
         }
+        Ok(Flow::Next)
+    }
+
+    /// "The three are evaluated once, in that order." Then the statement is executed for one value
+    /// after the other, each time in a block of its own that has the control name.
+    fn turns(&mut self, f: &'t For) -> Result<Flow, Stop> {
+        let start = self.integer(&f.start)? as i64;
+        let step = self.integer(&f.step)? as i64;
+        let limit = self.integer(&f.limit)? as i64;
+        // 28: "step zero, found after the limit"
+        if step == 0 {
+            return Err(Stop::Condition(28));
+        }
+        // "The index N of the last statement is determined by N < (E3 - E1)/E2 < N + 1. If N < 0,
+        // then it is understood that the sequence is empty." (000, 7.8.1) The first sign is read as
+        // <=, since no N fits a whole quotient otherwise.
+        let last = ((limit - start) * step.signum()).div_euclid(step.abs());
+        let line = self.line;
+        for index in 0..=last {
+            // "every occurrence of the control identifier is replaced by the value of the expression
+            // (E1 + I x E2)": between start and limit, and so within 32 bits
+            let value = start + index * step;
+            self.activation().blocks.push(HashMap::from([(f.control, Value::Integer(value as i32))]));
+            let flow = self.statement(&f.body)?;
+            self.activation().blocks.pop();
+            if let Flow::Goto(_) = flow {
+                self.line = line;
+                return Ok(flow);
+            }
+            // "A loop whose next value would pass the 32-bit range ends there without a condition."
+            if settle(value + step).is_ok() {
+                self.spend()?;
+            }
+        }
+        self.line = line;
         Ok(Flow::Next)
     }
 

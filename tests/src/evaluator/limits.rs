@@ -1,5 +1,6 @@
 //! A body's limits (refusal 6): "A body has at most 32 cells (parameters, variables of all
-//! its blocks, one per case), 16 holds open together, and a working need of 32."
+//! its blocks, one per case), 16 holds open together, and a working need of 32."; "Each loop
+//! counts three cells." (paper 02, ticket 1)
 
 use super::answer::{refuse, Refusal};
 use super::table::*;
@@ -51,6 +52,7 @@ fn statement_parts(s: &Stmt) -> Vec<Part<'_>> {
             parts.extend(arms.iter().map(Part::S));
             parts
         }
+        StmtKind::For(f) => vec![Part::E(&f.start), Part::E(&f.step), Part::E(&f.limit), Part::S(&f.body)],
     }
 }
 
@@ -133,7 +135,7 @@ pub fn procedure_need(p: &Procedure) -> usize {
 }
 
 // Cells: "parameters, every variable of every block of the body (siblings share nothing),
-// one integer cell per case".
+// one integer cell per case"; three per loop.
 
 pub fn block_cells(block: &Block) -> usize {
     let variables = block.head.iter().filter(|d| matches!(d.kind, DeclKind::Variable(_))).count();
@@ -155,6 +157,7 @@ pub fn statement_cells(s: &Stmt) -> usize {
     match &s.kind {
         StmtKind::Block(block) => block_cells(block),
         StmtKind::Case(..) => 1 + parts_cells(&statement_parts(s)),
+        StmtKind::For(_) => 3 + parts_cells(&statement_parts(s)),
         _ => parts_cells(&statement_parts(s)),
     }
 }

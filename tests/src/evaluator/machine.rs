@@ -1,7 +1,7 @@
 //! The plain machine of paper 01, "Running": one step at a time on a decoded macro, every
 //! value with its type, every way to be stuck named. Nothing here calls the loading check.
 
-use super::answer::{Answer, Event, Item, Refusal};
+use super::answer::{is_stop, Answer, Event, Item, Refusal};
 use super::code::{byte_of_type, type_of_byte, Macro};
 use super::values::{binary, fader_range, initial, is_binary, is_unary, set_range, unary, Trouble, Type, Value};
 
@@ -373,7 +373,7 @@ fn do_op(
                 return Err(Halt::Condition(23));
             }
         }
-        20 => return Err(Halt::Condition(24)),
+        20 if is_stop(i.a) => return Err(Halt::Condition(i.a)),
         _ => return Err(Stuck::NoNextStep.into()),
     }
     top.address = next;

@@ -26,6 +26,8 @@ enum Meaning<'t> {
     /// A variable or a parameter.
     Variable(Type),
     Label,
+    /// "The control name is an integer of the loop only and cannot be assigned" (paper 02, ticket 1).
+    Control,
     Class(&'t Class),
     Field(&'t Class, Type),
     Procedure(&'t Procedure),
@@ -44,11 +46,13 @@ struct NamedBlock<'t> {
     is_expression: bool,
 }
 
-/// What stands before a block; for clauses come with request 1.
+/// What stands before a block.
 enum Heading<'t> {
     Nothing,
     /// The formal parameters of a procedure heading.
     Parameters(Definitions<'t>),
+    /// The control identifier of a for clause.
+    Control(Name),
 }
 
 struct Names<'t> {
@@ -100,15 +104,24 @@ impl<'t> Names<'t> {
             if let Some(meaning) = block.names.get(&name) {
                 return Some((*meaning, beyond));
             }
-            // Step 2. "Otherwise, if that block is a procedure body and if the given identifier
-            // is identical with a formal parameter"
-            if let Heading::Parameters(parameters) = &block.heading {
-                if let Some(meaning) = parameters.get(&name) {
-                    return Some((*meaning, beyond));
+            match &block.heading {
+                Heading::Nothing => {}
+                // Step 2. "Otherwise, if that block is a procedure body and if the given identifier
+                // is identical with a formal parameter"
+                Heading::Parameters(parameters) => {
+                    if let Some(meaning) = parameters.get(&name) {
+                        return Some((*meaning, beyond));
+                    }
+                    beyond = true;
                 }
-                beyond = true;
+                // Step 3. "Otherwise, if that block is preceded by a for clause and the identifier
+                // is identical to the control identifier of that for clause"
+                Heading::Control(control) => {
+                    if *control == name {
+                        return Some((Meaning::Control, beyond));
+                    }
+                }
             }
-            // Step 3. "Otherwise, if that block is preceded by a for clause": none is, yet.
             // "Otherwise, these rules are applied considering the smallest block embracing the
             // block which has previously been considered."
             beyond |= block.is_expression;
@@ -216,8 +229,7 @@ impl<'t> Names<'t> {
             parameters.push((v.at, v.name, Meaning::Variable(v.ty)));
         }
         let heading = Heading::Parameters(self.definitions(parameters));
-        // a block without names, until the body is known to be one with some
-        self.blocks.push(NamedBlock { names: HashMap::new(), heading, is_expression: false });
+        self.open_heading(heading);
         for v in &p.parameters {
             self.variable(v)?;
         }
@@ -233,11 +245,17 @@ impl<'t> Names<'t> {
         Ok(())
     }
 
+    /// A heading and, behind it, a block without names, until what follows is known to be one with some.
+    fn open_heading(&mut self, heading: Heading<'t>) {
+        self.blocks.push(NamedBlock { names: HashMap::new(), heading, is_expression: false });
+    }
+
     /// The heading that was opened for a body: the body's own block has it, if it is one.
     fn heading(&mut self) -> Heading<'t> {
         self.close().map_or(Heading::Nothing, |block| block.heading)
     }
 
+    /// A procedure's body or what a for clause controls, its heading being open.
     fn body_statement(&mut self, s: &'t Stmt) -> Result<(), Refusal> {
         if let StmtKind::Block(block) = &s.kind {
             let heading = self.heading();
@@ -263,7 +281,7 @@ impl<'t> Names<'t> {
             StmtKind::Block(block) => self.block(block, Heading::Nothing),
             StmtKind::Label(_) => self.not_twice(s.at),
             StmtKind::Assign(target, value) => {
-                let target = self.expression(target)?;
+                let target = self.target(target)?;
                 let value = self.expression(value)?;
                 // "Types must be identical"
                 demand(target == value, s.at)
@@ -306,6 +324,22 @@ impl<'t> Names<'t> {
                 }
                 demand(index == Type::Integer, s.at)
             }
+            StmtKind::For(f) => {
+                // The control name is not in sight yet: "they can not depend on the control
+                // identifier" (000, 7.8.1).
+                let types = [self.expression(&f.start)?, self.expression(&f.step)?, self.expression(&f.limit)?];
+                self.open_heading(Heading::Control(f.control));
+                self.body_statement(&f.body)?;
+                demand(types == [Type::Integer; 3], s.at)
+            }
+        }
+    }
+
+    /// A target's type: a control name is of a wrong sort there.
+    fn target(&mut self, e: &'t Expr) -> Result<Type, Refusal> {
+        match e.kind {
+            ExprKind::Variable(name) if matches!(self.find(name), Some(Meaning::Control)) => refuse(4, e.at),
+            _ => self.expression(e),
         }
     }
 
@@ -356,6 +390,7 @@ impl<'t> Names<'t> {
             ExprKind::Variable(name) => match self.find(*name) {
                 None => refuse(3, e.at),
                 Some(Meaning::Variable(ty)) => Ok(ty),
+                Some(Meaning::Control) => Ok(Type::Integer),
                 Some(_) => refuse(4, e.at),
             },
             ExprKind::Function(name, arguments) => match self.call(e.at, *name, arguments)? {

@@ -76,6 +76,18 @@ pub enum StmtKind {
     Set(Expr, Expr),
     /// 30 case (E, then a statements, a at least 1)
     Case(Expr, Vec<Stmt>),
+    /// 31 for (paper 02, ticket 1)
+    For(Box<For>),
+}
+
+/// "Kind 31, a the control name, takes start, step and limit expressions and a statement."
+#[derive(Clone, Debug, PartialEq)]
+pub struct For {
+    pub control: Name,
+    pub start: Expr,
+    pub step: Expr,
+    pub limit: Expr,
+    pub body: Stmt,
 }
 
 /// The head and the statements of a block (kind 1) or of a block expression (kind 53).
@@ -368,6 +380,13 @@ impl Reader<'_> {
                 }
                 StmtKind::Case(index, arms)
             }
+            31 if b_unused => {
+                let start = self.expression(depth + 1)?;
+                let step = self.expression(depth + 1)?;
+                let limit = self.expression(depth + 1)?;
+                let body = self.statement(depth + 1, false)?;
+                StmtKind::For(Box::new(For { control: e.a, start, step, limit, body }))
+            }
             _ => return refuse(2, at),
         };
         Ok(Stmt { at, kind })
@@ -531,6 +550,13 @@ fn write_statement(out: &mut Vec<Entry>, s: &Stmt) {
             for arm in arms {
                 write_statement(out, arm);
             }
+        }
+        StmtKind::For(f) => {
+            put(out, 31, f.control, 0);
+            for e in [&f.start, &f.step, &f.limit] {
+                write_expression(out, e);
+            }
+            write_statement(out, &f.body);
         }
     }
 }

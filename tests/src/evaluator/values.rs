@@ -68,7 +68,7 @@ pub fn unary_type(operator: u16, x: Type) -> Option<Type> {
 pub enum Trouble {
     /// An operand is not of a type that the operator takes.
     Type,
-    /// A condition, 20 to 27.
+    /// A condition, 20 to 28.
     Condition(u8),
 }
 

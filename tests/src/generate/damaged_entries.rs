@@ -14,7 +14,7 @@ fn damage_once(rng: &mut Rng, list: &mut Vec<Entry>) {
     let names: Vec<u16> = list.iter().map(|e| e.a).collect();
     match rng.below(13) {
         0 => list[i].kind = *rng.pick(&KINDS),
-        1 => list[i].kind = *rng.pick(&[0, 2, 13, 15, 29, 31, 39, 52, 54, 99, 256, 65_535]),
+        1 => list[i].kind = *rng.pick(&[0, 2, 13, 15, 29, 32, 39, 52, 54, 99, 256, 65_535]),
         2 => {
             // An entry of one of these kinds becomes another of the like.
             let like: &[u16] = match list[i].kind {
@@ -57,7 +57,7 @@ fn damage_once(rng: &mut Rng, list: &mut Vec<Entry>) {
 /// A name somewhere becomes another.
 fn change_name(rng: &mut Rng, list: &mut [Entry]) {
     let names: Vec<u16> = list.iter().map(|e| e.a).collect();
-    let some = of_kinds(list, &[10, 11, 12, 20, 25, 27, 43, 44, 45, 46, 47]);
+    let some = of_kinds(list, &[10, 11, 12, 20, 25, 27, 31, 43, 44, 45, 46, 47]);
     if !some.is_empty() {
         let k = *rng.pick(&some);
         list[k].a = *rng.pick(&names);
@@ -81,11 +81,39 @@ fn change_type_or_operator(rng: &mut Rng, list: &mut [Entry]) {
     }
 }
 
+/// A loop's control name as a target or a goto's label in what it controls, or as some name there, in the bounds or behind the loop.
+fn misuse_control_name(rng: &mut Rng, list: &mut Vec<Entry>) {
+    let loops = of_kinds(list, &[31]);
+    if loops.is_empty() {
+        return;
+    }
+    let at = *rng.pick(&loops);
+    let name = list[at].a;
+    let controlled = (0..3).fold(at + 1, |next, _| end_of(list, next));
+    let end = end_of(list, controlled);
+    let entry = |kind, a, b| Entry { kind, a, b };
+    match rng.below(6) {
+        0 => {
+            list.splice(controlled..end, [entry(21, 0, 0), entry(44, name, 0), entry(40, 0, 9)]);
+        }
+        1 => {
+            list.splice(controlled..end, [entry(25, name, 0)]);
+        }
+        place => {
+            let among = if place == 2 { at + 1..list.len() } else { controlled..end };
+            let some: Vec<usize> = among.filter(|&k| matches!(list[k].kind, 10 | 20 | 25 | 27 | 31 | 43..=47)).collect();
+            if !some.is_empty() {
+                list[*rng.pick(&some)].a = name;
+            }
+        }
+    }
+}
+
 /// Damage that mostly leaves the table one tree: names, types and operators changed, and whole
 /// operands exchanged or repeated elsewhere. The table must be valid.
 fn damage_meaning(rng: &mut Rng, list: &mut Vec<Entry>) {
     let labels: Vec<u16> = list.iter().filter(|e| e.kind == 20).map(|e| e.a).collect();
-    match rng.below(10) {
+    match rng.below(12) {
         0 | 1 => change_name(rng, list),
         2 => change_type_or_operator(rng, list),
         3 => {
@@ -114,6 +142,7 @@ fn damage_meaning(rng: &mut Rng, list: &mut Vec<Entry>) {
                 list.splice(k..k, [Entry { kind: 53, a: 0, b: 1 }, goto]);
             }
         }
+        6 | 7 => misuse_control_name(rng, list),
         _ => {
             // An operand in the place of another of its sort.
             let from = 1 + rng.below(list.len().max(2) - 1);

@@ -4,6 +4,7 @@
 
 use crate::evaluator::table::{bytes_of, read_table, Entry};
 use super::entries::{end_of, of_kinds, operand_count, sort_of};
+use super::loops::near_range;
 use super::rng::Rng;
 
 /// The field of an entry that counts an operand.
@@ -128,19 +129,25 @@ fn declare(list: &mut Vec<Entry>, block: usize, declarations: Vec<Entry>) {
     list.splice(block + 1..block + 1, declarations);
 }
 
-/// Variables, holds, cases or waiting operands, so many that a limit is near.
+/// Statements, so many, before those of a block.
+fn prepend(list: &mut Vec<Entry>, block: usize, count: u16, statements: impl Iterator<Item = Entry>) {
+    let first = (0..list[block].a).fold(block + 1, |at, _| end_of(list, at));
+    list.splice(first..first, statements);
+    list[block].b += count as i32;
+}
+
+/// Variables, holds, cases, loops or waiting operands, so many that a limit is near.
 fn approach_a_limit(rng: &mut Rng, list: &mut Vec<Entry>) {
     let entry = |kind, a, b| Entry { kind, a, b };
     let block = *rng.pick(&of_kinds(list, &[1, 53]));
     let many = rng.between(1, 34) as u16;
-    match rng.below(4) {
+    match rng.below(5) {
         0 => declare(list, block, (0..many).map(|i| entry(10, 40_000 + i, 1 + (i % 3) as i32)).collect()),
         1 => declare(list, block, (0..many % 18).map(|i| entry(14, i, 0)).collect()),
-        2 => {
-            let cases = (0..many).flat_map(|_| [entry(30, 1, 0), entry(40, 0, 1), entry(1, 0, 0)]);
-            let first = (0..list[block].a).fold(block + 1, |at, _| end_of(list, at));
-            list.splice(first..first, cases);
-            list[block].b += many as i32;
+        2 => prepend(list, block, many, (0..many).flat_map(|_| [entry(30, 1, 0), entry(40, 0, 1), entry(1, 0, 0)])),
+        3 => {
+            let [number, empty] = [entry(40, 0, 1), entry(1, 0, 0)];
+            prepend(list, block, many % 12, (0..many % 12).flat_map(|i| [entry(31, i, 0), number, number, number, empty]));
         }
         _ => {
             let numbers = of_kinds(list, &[40]);
@@ -152,19 +159,29 @@ fn approach_a_limit(rng: &mut Rng, list: &mut Vec<Entry>) {
     }
 }
 
-/// A name of the table once more: as a variable of some block, or as a label.
+/// A name of the table once more: as a variable of some block, as a label, or as a control name.
 fn hide_a_name(rng: &mut Rng, list: &mut Vec<Entry>) {
-    let named: Vec<u16> = list.iter().filter(|e| matches!(e.kind, 10..=12 | 20 | 25 | 27 | 43..=47)).map(|e| e.a).collect();
+    let named: Vec<u16> = list.iter().filter(|e| matches!(e.kind, 10..=12 | 20 | 25 | 27 | 31 | 43..=47)).map(|e| e.a).collect();
     let blocks = of_kinds(list, &[1, 53]);
     let name = if named.is_empty() { 7 } else { *rng.pick(&named) };
     let block = *rng.pick(&blocks);
-    if rng.chance(60) {
-        let ty = *rng.pick(&[1, 1, 2, 3, 65_536 + name as i32]);
-        declare(list, block, vec![Entry { kind: 10, a: name, b: ty }]);
-    } else {
-        let first = (0..list[block].a).fold(block + 1, |at, _| end_of(list, at));
-        list.insert(first, Entry { kind: 20, a: name, b: 0 });
-        list[block].b += 1;
+    match rng.below(10) {
+        0..=4 => {
+            let ty = *rng.pick(&[1, 1, 2, 3, 65_536 + name as i32]);
+            declare(list, block, vec![Entry { kind: 10, a: name, b: ty }]);
+        }
+        5 | 6 => prepend(list, block, 1, std::iter::once(Entry { kind: 20, a: name, b: 0 })),
+        _ => control(rng, list, name),
+    }
+}
+
+/// Some statement becomes what a loop with this control name controls.
+fn control(rng: &mut Rng, list: &mut Vec<Entry>, name: u16) {
+    let statements: Vec<usize> = (1..list.len()).filter(|&k| sort_of(list[k].kind) == 1).collect();
+    if !statements.is_empty() {
+        let at = *rng.pick(&statements);
+        let bounds = near_range(rng).map(|b| Entry { kind: 40, a: 0, b });
+        list.splice(at..at, [Entry { kind: 31, a: name, b: 0 }].into_iter().chain(bounds));
     }
 }
 

@@ -7,7 +7,8 @@ use crate::evaluator::machine::State;
 use crate::evaluator::state::encode;
 use crate::evaluator::table::{bytes_of, Entry};
 use crate::evaluator::values::Value;
-use super::notation::{body, code, shape};
+use super::macros::some_stop;
+use super::notation::{body, code, root_only, shape};
 use super::rng::Rng;
 use super::states::reached;
 
@@ -53,27 +54,34 @@ fn placed(rng: &mut Rng, block: Vec<Entry>) -> Vec<Entry> {
     list
 }
 
-/// Variables and cases, about 32 of them together.
+/// Variables, cases and loops, about 32 cells of them together.
 fn cells(rng: &mut Rng) -> Vec<Entry> {
     let all = about(rng, 32);
-    let cases = rng.below(6);
-    let mut list = vec![entry(1, (all - cases) as u16, cases as i32)];
-    for i in 0..all - cases {
+    let (cases, loops) = (rng.below(6), rng.below(5));
+    let variables = all - cases - 3 * loops;
+    let mut list = vec![entry(1, variables as u16, (cases + loops) as i32)];
+    for i in 0..variables {
         list.push(entry(10, i as u16, 1 + rng.below(3) as i32));
     }
     for _ in 0..cases {
         list.extend([entry(30, 1, 0), entry(40, 0, 1), entry(1, 0, 0)]);
     }
+    for _ in 0..loops {
+        list.extend([entry(31, 7, 0), entry(40, 0, 1), entry(40, 0, 1), entry(40, 0, 2), entry(1, 0, 0)]);
+    }
     list
 }
 
 /// An expression whose working need is about 32: sums nested to the right, with an if-expression
-/// (two more) somewhere.
+/// (two more) somewhere; the level of a set, or a loop's start, step or limit.
 fn need(rng: &mut Rng) -> Vec<Entry> {
     let wanted = about(rng, 32);
-    let mut list = vec![entry(1, 0, 1), entry(28, 0, 0), entry(40, 0, 1)];
+    let looped = rng.chance(50);
     // The level is the second operand, so it has one operand before it.
-    let mut left = wanted - 1;
+    let before = if looped { rng.below(3) } else { 1 };
+    let mut list = vec![entry(1, 0, 1), if looped { entry(31, 7, 0) } else { entry(28, 0, 0) }];
+    list.extend((0..before).map(|_| entry(40, 0, 1)));
+    let mut left = wanted - before;
     while left > 1 {
         if left > 3 && rng.chance(20) {
             list.extend([entry(50, 0, 0), entry(41, 0, 1), entry(40, 0, 5)]);
@@ -84,6 +92,10 @@ fn need(rng: &mut Rng) -> Vec<Entry> {
         }
     }
     list.push(entry(40, 0, 1));
+    if looped {
+        list.extend((before..2).map(|_| entry(40, 0, 1)));
+        list.push(entry(1, 0, 0));
+    }
     list
 }
 
@@ -119,6 +131,11 @@ fn names(rng: &mut Rng) -> Vec<Entry> {
         list.push(if rng.chance(80) { entry(10, few(rng), 1 + rng.below(2) as i32) } else { entry(14, few(rng), 0) });
     }
     if inner {
+        // perhaps what a loop controls
+        if rng.chance(50) {
+            list.push(entry(31, few(rng), 0));
+            list.extend((0..3).map(|_| if rng.chance(70) { entry(40, 0, 1) } else { entry(44, few(rng), 0) }));
+        }
         list.extend([entry(1, 1, 2), entry(10, few(rng), 1), entry(20, few(rng), 0), entry(25, few(rng), 0)]);
     }
     for _ in 0..labels {
@@ -257,12 +274,13 @@ fn test(rng: &mut Rng, list: &mut Vec<Entry>) {
 
 /// A macro with one figure about its limit, or one jump about the border of its body.
 pub fn edge_macro(rng: &mut Rng) -> Vec<u8> {
-    let m = match rng.below(6) {
+    let m = match rng.below(7) {
         0 => jump_across(rng),
         1 => many_cells(rng),
         2 => many_operands(rng),
         3 => many_holds(rng),
         4 => wide_shape(rng),
+        5 => stops(rng),
         _ => many_parameters(rng),
     };
     write_macro(&m)
@@ -283,7 +301,7 @@ fn jump_across(rng: &mut Rng) -> Macro {
         code: code(&format!("8 0 {a}, 10 0 1, 0 0 0, 8 0 {b}, 11 0 0, 11 0 0"))
             .into_iter()
             .enumerate()
-            .map(|(i, x)| if i == 4 { Instr { op: 20, a: 0, b: 0 } } else { x })
+            .map(|(i, x)| if i == 4 { Instr { op: 20, a: 24, b: 0 } } else { x })
             .collect(),
         shapes,
     }
@@ -309,16 +327,16 @@ fn many_cells(rng: &mut Rng) -> Macro {
 fn many_operands(rng: &mut Rng) -> Macro {
     let n = about(rng, 32);
     let mut list = vec!["1 0 7".to_string(); n];
-    list.push("20 0 0".to_string());
-    Macro { classes: Vec::new(), bodies: vec![body(0, 0, 0, &[])], code: code(&list.join(",")), shapes: Vec::new() }
+    list.push("20 24 0".to_string());
+    root_only(&list.join(","), Vec::new())
 }
 
 fn many_holds(rng: &mut Rng) -> Macro {
     let n = about(rng, 16);
     let mut list = vec![format!("17 0 {}", 62 + rng.below(3)); 1];
     list.extend(vec!["17 0 9".to_string(); n - 1]);
-    list.push("20 0 0".to_string());
-    Macro { classes: Vec::new(), bodies: vec![body(0, 0, 0, &[])], code: code(&list.join(",")), shapes: Vec::new() }
+    list.push("20 24 0".to_string());
+    root_only(&list.join(","), Vec::new())
 }
 
 /// Dead code behind an SH with about 16 holds or about 32 operands.
@@ -327,9 +345,16 @@ fn wide_shape(rng: &mut Rng) -> Macro {
     Macro {
         classes: Vec::new(),
         bodies: vec![body(0, 0, 0, &[])],
-        code: code("0 0 0, 20 0 0"),
+        code: code("0 0 0, 20 28 0"),
         shapes: vec![Shape { address: 1, holds: holds as u8, types: vec![1; depth] }],
     }
+}
+
+/// A hold and a stop, and behind it another: each by a condition, or by something that is none.
+fn stops(rng: &mut Rng) -> Macro {
+    let mut m = root_only("17 0 5", if rng.chance(80) { vec![shape(2, 1, &[])] } else { Vec::new() });
+    m.code.extend([some_stop(rng), some_stop(rng)]);
+    m
 }
 
 /// A call with parameters of several types, all given, or one of another type.
@@ -343,7 +368,7 @@ fn many_parameters(rng: &mut Rng) -> Macro {
     }
     let result = rng.below(3) as u8;
     list.push("10 0 1".to_string());
-    list.push("20 0 0".to_string());
+    list.push("20 28 0".to_string());
     let first = list.len() as u16;
     list.push(if result == 0 { "11 0 0".to_string() } else { format!("{} 0 0", 1 + rng.below(2)) });
     if result != 0 {
@@ -362,7 +387,7 @@ fn many_parameters(rng: &mut Rng) -> Macro {
 /// A root and a procedure that calls itself for ever, each with so many cells, and with so many holds and operands at its call.
 pub fn endless_recursion(cells: usize, holds: usize, operands: usize) -> Macro {
     let level: String = (0..holds).map(|g| format!("17 0 {},", 63 - g)).chain((0..operands).map(|n| format!("1 0 {n},"))).collect();
-    let body_text = format!("{level} 10 0 1, 20 0 0");
+    let body_text = format!("{level} 10 0 1, 20 24 0");
     let first = (holds + operands + 2) as u16;
     Macro {
         classes: Vec::new(),
@@ -421,7 +446,7 @@ pub fn deep_macro() -> Loaded {
             body(23, 2, 1, &[1, 17]),
         ],
         code: code(
-            "1 0 5, 12 0 0, 6 0 0, 5 0 0, 4 1 0, 12 1 0, 6 0 1, 17 0 3, 1 0 1, 5 0 1, 10 0 1, 6 0 2, 20 0 0,
+            "1 0 5, 12 0 0, 6 0 0, 5 0 0, 4 1 0, 12 1 0, 6 0 1, 17 0 3, 1 0 1, 5 0 1, 10 0 1, 6 0 2, 20 28 0,
              17 0 4, 1 0 9, 5 0 0, 5 0 1, 10 0 2, 7 1 0, 6 0 0, 18 0 0, 5 0 0, 11 0 0,
              17 0 5, 1 0 9, 5 0 0, 5 0 1, 10 0 1, 7 1 0, 6 0 0, 18 0 0, 5 0 0, 11 0 0",
         ),

@@ -35,6 +35,7 @@ pub fn dropped_readings() -> Vec<Case> {
     let silent = |what, text, readings, end| {
         case(what, table(text), &format!("sets 0, holds 0, releases 0, readings {readings}, end {end}"))
     };
+    let reading_loop = "1 1 1, 10 1 1, 31 5 0, 40 0 1, 40 0 1, 49 1 0, 51 0 0, 40 0 1, 40 0 3, 21 0 0, 44 1 0, 51 0 0, 44 5 0";
     vec![
         silent("SET(1, FADER(1) + 1 div 0)", "1 0 1, 28 0 0, 40 0 1, 49 1 0, 51 0 0, 40 0 1, 49 4 0, 40 0 1, 40 0 0", 1, 21),
         silent("SET(1, 1 div 0 + FADER(1))", "1 0 1, 28 0 0, 40 0 1, 49 1 0, 49 4 0, 40 0 1, 40 0 0, 51 0 0, 40 0 1", 0, 21),
@@ -47,6 +48,8 @@ pub fn dropped_readings() -> Vec<Case> {
         silent("ASSERT FADER(1) = 1", "1 0 1, 26 0 0, 49 10 0, 51 0 0, 40 0 1, 40 0 1", 1, 23),
         silent("IF false and FADER(1) = 0", "1 0 1, 22 0 0, 49 12 0, 41 0 0, 49 10 0, 51 0 0, 40 0 1, 40 0 0, 1 0 0", 0, 0),
         silent("IF true or FADER(1) = 0", "1 0 1, 22 0 0, 49 13 0, 41 0 1, 49 10 0, 51 0 0, 40 0 1, 40 0 0, 1 0 0", 0, 0),
+        silent("a loop's bounds, and step zero", "1 0 1, 31 5 0, 51 0 0, 40 0 1, 51 0 0, 40 0 2, 51 0 0, 40 0 3, 1 0 0", 3, 28),
+        silent("a loop's limit, once, and a fader in each turn", reading_loop, 4, 0),
         // the argument of the 33rd activation is read, too
         silent("an endless self-call", "1 1 1, 12 1 256, 10 2 1, 27 1 1, 51 0 0, 40 0 1, 27 1 1, 40 0 0", 31, 26),
     ]

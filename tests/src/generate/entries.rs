@@ -2,8 +2,8 @@
 
 use crate::evaluator::table::Entry;
 
-pub const KINDS: [u16; 28] = [
-    1, 10, 11, 12, 14, 20, 21, 22, 23, 24, 25, 26, 27, 28, 30, 40, 41, 42, 43, 44, 45, 46, 47, 48, 49, 50, 51, 53,
+pub const KINDS: [u16; 29] = [
+    1, 10, 11, 12, 14, 20, 21, 22, 23, 24, 25, 26, 27, 28, 30, 31, 40, 41, 42, 43, 44, 45, 46, 47, 48, 49, 50, 51, 53,
 ];
 
 /// How many operands an entry of a valid table has.
@@ -17,6 +17,7 @@ pub fn operand_count(e: Entry) -> usize {
         26 | 46 | 48 | 51 => 1,
         21 | 22 | 24 | 28 | 49 => 2,
         23 | 50 => 3,
+        31 => 4,
         _ => 0,
     }
 }
@@ -34,7 +35,7 @@ pub fn end_of(list: &[Entry], at: usize) -> usize {
 pub fn sort_of(kind: u16) -> usize {
     match kind {
         10..=14 => 0,
-        1 | 20..=30 => 1,
+        1 | 20..=31 => 1,
         _ => 2,
     }
 }

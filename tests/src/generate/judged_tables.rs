@@ -53,6 +53,11 @@ pub fn refused_table(rng: &mut Rng, number: u8) -> Vec<u8> {
                 "1 0 1, 25 1 1",
                 "1 0 1, 27 1 -1",
                 "21 0 0, 44 0 0, 40 0 0",
+                "1 0 1, 31 5 1, 40 0 1, 40 0 1, 40 0 3, 1 0 0",
+                "1 0 1, 31 5 0, 40 0 1, 40 0 1, 40 0 3, 20 5 0",
+                "1 0 1, 31 5 0, 40 0 1, 40 0 1, 1 0 0",
+                "1 1 0, 31 5 0, 40 0 1, 40 0 1, 40 0 3, 1 0 0",
+                "1 0 1, 31 5 0, 40 0 1, 40 0 1, 40 0 3",
             ];
             table(rng.pick::<&str>(&texts))
         }
@@ -73,6 +78,10 @@ pub fn refused_table(rng: &mut Rng, number: u8) -> Vec<u8> {
                 "1 0 1, 26 0 0, 49 10 0, 43 7 0, 43 7 0",
                 "1 0 1, 27 3 0",
                 "1 1 1, 10 1 1, 21 0 0, 44 1 0, 49 1 0, 44 2 0, 41 0 1",
+                "1 0 1, 31 5 0, 44 5 0, 40 0 1, 40 0 3, 1 0 0",
+                "1 0 1, 31 5 0, 40 0 1, 40 0 1, 44 5 0, 1 0 0",
+                "1 0 2, 31 5 0, 40 0 1, 40 0 1, 40 0 3, 1 0 0, 28 0 0, 44 5 0, 40 0 1",
+                "1 1 1, 12 1 0, 28 0 0, 44 5 0, 40 0 1, 31 5 0, 40 0 1, 40 0 1, 40 0 3, 27 1 0",
             ];
             table(rng.pick::<&str>(&texts))
         }
@@ -103,6 +112,14 @@ pub fn refused_table(rng: &mut Rng, number: u8) -> Vec<u8> {
                 "1 1 1, 12 1 256, 10 1 1, 1 0 0, 27 1 0",
                 "1 1 1, 12 1 256, 10 1 1, 1 0 0, 27 1 1, 41 0 1",
                 "1 2 0, 10 1 1, 12 1 1, 41 0 1",
+                "1 0 1, 31 5 0, 40 0 1, 40 0 1, 40 0 3, 21 0 0, 44 5 0, 40 0 9",
+                "1 1 1, 10 5 1, 31 5 0, 40 0 1, 40 0 1, 40 0 3, 1 0 1, 21 0 0, 44 5 0, 44 5 0",
+                "1 0 2, 31 5 0, 40 0 1, 40 0 1, 40 0 3, 25 5 0, 20 5 0",
+                "1 1 1, 12 5 0, 1 0 0, 31 5 0, 40 0 1, 40 0 1, 40 0 3, 27 5 0",
+                "1 1 1, 11 5 1, 10 6 1, 31 5 0, 40 0 1, 40 0 1, 40 0 3, 1 1 0, 10 7 65541",
+                "1 0 1, 31 5 0, 41 0 1, 40 0 1, 40 0 3, 1 0 0",
+                "1 0 1, 31 5 0, 40 0 1, 42 0 1, 40 0 3, 1 0 0",
+                "1 0 1, 31 5 0, 40 0 1, 40 0 1, 41 0 1, 1 0 0",
             ];
             table(rng.pick::<&str>(&texts))
         }
@@ -117,6 +134,9 @@ pub fn refused_table(rng: &mut Rng, number: u8) -> Vec<u8> {
                 "1 0 1, 26 0 0, 53 0 2, 20 5 0, 1 0 0, 49 10 0, 53 0 1, 25 5 0, 40 0 1, 40 0 2",
                 "1 1 1, 12 1 1, 53 0 1, 22 0 0, 41 0 0, 25 5 0, 40 0 1, 20 5 0",
                 "1 0 2, 20 5 0, 22 0 0, 53 0 1, 25 5 0, 40 0 1, 1 0 0",
+                "1 0 2, 20 5 0, 31 6 0, 40 0 1, 53 0 1, 25 5 0, 40 0 1, 40 0 3, 1 0 0",
+                "1 0 2, 20 5 0, 31 6 0, 40 0 1, 40 0 1, 40 0 3, 28 0 0, 53 0 1, 25 5 0, 44 6 0, 40 0 1",
+                "1 1 1, 12 1 0, 31 6 0, 40 0 1, 40 0 1, 40 0 3, 25 5 0, 20 5 0",
             ];
             let mut list = notation::entries(rng.pick::<&str>(&texts));
             let add = rng.below(200) as u16;
@@ -128,13 +148,13 @@ pub fn refused_table(rng: &mut Rng, number: u8) -> Vec<u8> {
             bytes_of(&list)
         }
         _ => {
-            // 6: variables, holds (together or nested), cases, need.
+            // 6: variables, holds (together or nested), loops, need.
             let mut list = Vec::new();
             let put = |list: &mut Vec<Entry>, kind, a, b| list.push(Entry { kind, a, b });
             let inside = rng.chance(40);
             let holds = 15 + rng.below(4);
             let root_extra = rng.below(2) as u16;
-            match rng.below(4) {
+            match rng.below(5) {
                 0 => {
                     let count = 31 + rng.below(4) as u16;
                     put(&mut list, 1, count, 0);
@@ -178,6 +198,21 @@ pub fn refused_table(rng: &mut Rng, number: u8) -> Vec<u8> {
                     if !statement {
                         put(&mut list, 41, 0, 1);
                     }
+                }
+                3 => {
+                    // loops, one in the other, and variables beside them
+                    let variables = 2 + rng.below(4) as u16;
+                    put(&mut list, 1, variables, 1);
+                    for i in 0..variables {
+                        put(&mut list, 10, i, 1);
+                    }
+                    for i in 0..10 {
+                        put(&mut list, 31, i, 0);
+                        for _ in 0..3 {
+                            put(&mut list, 40, 0, 1);
+                        }
+                    }
+                    put(&mut list, 1, 0, 0);
                 }
                 _ => {
                     // `record of eight` nested in its last value needs seven more each time:

@@ -164,10 +164,15 @@ impl Make<'_> {
         self.shape_here();
     }
 
+    fn stop(&mut self) {
+        let condition = *self.rng.pick(&[24, 28]);
+        self.emit(20, condition, 0);
+    }
+
     /// End or return (or stop); what comes behind needs a shape.
     fn finish(&mut self) {
         if self.rng.chance(8) {
-            self.emit(20, 0, 0);
+            self.stop();
             return;
         }
         let result = self.bodies[self.body].result;
@@ -255,7 +260,7 @@ impl Make<'_> {
         }
         // A full stack and no cell: an integer or bits may still become a logical value's
         // neighbour; here the body simply stops.
-        self.emit(20, 0, 0);
+        self.stop();
         self.types.pop();
         self.shape_here();
     }
@@ -579,7 +584,7 @@ pub fn damaged_macro(rng: &mut Rng, good: &Macro) -> Vec<u8> {
 fn damage_parts(rng: &mut Rng, m: &mut Macro) {
     let n = m.code.len();
     let i = rng.below(n);
-    match rng.below(23) {
+    match rng.below(24) {
         0 => m.code[i].op = rng.below(23) as u8,
         1 => m.code[i].a = m.code[i].a.wrapping_add(1),
         2 => m.code[i].b = m.code[i].b.wrapping_add(*rng.pick(&[1, -1, 256])),
@@ -664,7 +669,10 @@ fn damage_parts(rng: &mut Rng, m: &mut Macro) {
                 m.code.insert(i, extra);
             }
         }
-        17 => m.code[i] = Instr { op: *rng.pick(&[0, 11, 18, 19, 20, 15, 16]), a: 0, b: 0 },
+        17 => {
+            let (op, a) = *rng.pick(&[(0, 0), (11, 0), (18, 0), (19, 0), (20, 24), (15, 0), (16, 0)]);
+            m.code[i] = Instr { op, a, b: 0 };
+        }
         18 => m.code[i] = Instr { op: 17, a: 0, b: 3 },
         19 => {
             let j = rng.below(n);
@@ -679,12 +687,25 @@ fn damage_parts(rng: &mut Rng, m: &mut Macro) {
             };
             m.shapes.clear();
             m.code = vec![instr; count];
-            m.code.push(Instr { op: 20, a: 0, b: 0 });
+            m.code.push(Instr { op: 20, a: 24, b: 0 });
             m.bodies.truncate(1);
         }
         21 if m.shapes.len() > 1 => disorder(rng, &mut m.shapes),
+        // A stop by its a: in the place of what ends or stops, where there is any, or of something else.
+        23 => {
+            let stops: Vec<usize> = (0..n).filter(|&k| matches!(m.code[k].op, 0 | 11 | 20)).collect();
+            let k = if stops.is_empty() { i } else { *rng.pick(&stops) };
+            m.code[k] = some_stop(rng);
+        }
         _ => m.code[i].b = 0,
     }
+}
+
+/// Op 20 with an a about 24 and 28, or that of older macros, and mostly b 0.
+pub fn some_stop(rng: &mut Rng) -> Instr {
+    let a = *rng.pick(&[24, 24, 24, 24, 28, 28, 28, 28, 0, 20, 23, 25, 27, 29, 255]);
+    let b = if rng.chance(90) { 0 } else { *rng.pick(&[1, -1, 24, 28, i32::MIN]) };
+    Instr { op: 20, a, b }
 }
 
 /// Takes rising shapes, at least two, out of order: two of them, neighbours or not, change places, or one gets its neighbour's address.

@@ -6,6 +6,7 @@ pub mod edge_cases;
 pub mod end_sheets;
 pub mod entries;
 pub mod judged_tables;
+pub mod loops;
 pub mod macros;
 pub mod notation;
 pub mod programs;

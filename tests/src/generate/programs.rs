@@ -4,6 +4,7 @@
 use crate::evaluator::names::judge_table;
 use crate::evaluator::table::*;
 use crate::evaluator::values::Type;
+use super::loops::{far_range, near_range, Range};
 use super::rng::Rng;
 
 /// How a program is to be made.
@@ -21,7 +22,7 @@ pub struct Plan {
 
 /// A plan for about so many entries; mostly terminating.
 pub fn plan(rng: &mut Rng, entries: usize) -> Plan {
-    let provoke = if rng.chance(40) { Some(rng.between(20, 27) as u8) } else { None };
+    let provoke = if rng.chance(40) { Some(rng.between(20, 28) as u8) } else { None };
     Plan { entries, wild: rng.chance(35), forever: if rng.chance(15) { 40 } else { 0 }, provoke }
 }
 
@@ -111,6 +112,8 @@ struct Generator<'r> {
     cells: usize,
     holds: usize,
     procedure: Option<usize>,
+    /// The control names of the loops around, the innermost last.
+    controls: Vec<Name>,
     provoke: Option<u8>,
 }
 
@@ -155,6 +158,7 @@ impl<'r> Generator<'r> {
             cells: 0,
             holds: 0,
             procedure: None,
+            controls: Vec::new(),
             provoke: plan.provoke,
         }
     }
@@ -433,9 +437,7 @@ impl<'r> Generator<'r> {
         let first = self.procedures[p].parameters.first().copied();
         match first {
             Some((n, Type::Integer)) if self.rng.chance(50) && self.left > 10 => {
-                let arguments = self.lesser_arguments(p, n);
-                let name = self.procedures[p].name;
-                let again = stmt(StmtKind::Call(name, arguments));
+                let again = self.call_again(p, n);
                 let before = self.block_statement(5, 2);
                 self.left -= 8;
                 let test = binary(8, variable(n), integer(0));
@@ -444,6 +446,22 @@ impl<'r> Generator<'r> {
             _ if self.rng.chance(75) => self.block_statement(3, 3),
             _ => self.statement(3),
         }
+    }
+
+    /// A procedure's call of itself with a lesser first argument, now and then in a loop of two turns.
+    fn call_again(&mut self, p: usize, n: Name) -> Stmt {
+        let name = self.procedures[p].name;
+        let looped = self.rng.chance(30);
+        if looped {
+            let control = self.fresh(&[n, name]);
+            self.open_loop(control);
+        }
+        let call = stmt(StmtKind::Call(name, self.lesser_arguments(p, n)));
+        if looped {
+            self.left -= 4;
+            return self.close_loop([1, 1, 2].map(integer), call);
+        }
+        call
     }
 
     fn procedure_expression(&mut self, p: usize, ty: Type) -> Expr {
@@ -487,7 +505,11 @@ impl<'r> Generator<'r> {
         for _ in 0..self.rng.below(most) {
             if self.cells < 32 {
                 self.cells += 1;
-                let name = self.fresh(&used);
+                let name = match self.controls.last() {
+                    // declared again
+                    Some(control) if used.is_empty() && self.rng.chance(15) => *control,
+                    _ => self.fresh(&used),
+                };
                 used.push(name);
                 variables.push(name);
                 names.push((name, What::Variable { ty: Type::Integer, fixed: false }));
@@ -535,11 +557,16 @@ impl<'r> Generator<'r> {
     }
 
     fn block_expression(&mut self, ty: Type, depth: usize, need: usize) -> Expr {
+        self.block_with(depth, |g| g.expression(ty, depth + 1, need))
+    }
+
+    /// A block expression with this value.
+    fn block_with(&mut self, depth: usize, value: impl FnOnce(&mut Self) -> Expr) -> Expr {
         self.left -= 1;
         let (head, labels, holds) = self.open_block(Sort::BlockExpression);
         let count = self.rng.below(3);
         let statements = self.statements(&labels, depth + 1, count);
-        let value = self.expression(ty, depth + 1, need);
+        let value = value(self);
         self.scopes.pop();
         self.holds -= holds;
         expr(ExprKind::Block(Block { head, statements }, Box::new(value)))
@@ -584,7 +611,7 @@ impl<'r> Generator<'r> {
                 }
             }
         }
-        match self.rng.below(25) {
+        match self.rng.below(29) {
             0..=5 => self.set(depth),
             6..=9 => self.assignment(depth),
             10 | 11 => {
@@ -612,7 +639,8 @@ impl<'r> Generator<'r> {
             }
             19 | 20 => self.call(depth),
             21 | 22 => self.case(depth),
-            _ => self.block_statement(depth, 4),
+            23 | 24 => self.block_statement(depth, 4),
+            _ => self.for_statement(depth),
         }
     }
 
@@ -716,6 +744,82 @@ impl<'r> Generator<'r> {
         let whole = stmt(StmtKind::While(test, Box::new(block(Vec::new(), inside))));
         let head = vec![decl(DeclKind::Variable(Variable { at: 0, name: counter, ty: Type::Integer }))];
         block(head, vec![whole])
+    }
+
+    // Loops with a control name.
+
+    /// The control name comes into sight, and the loop takes its cells.
+    fn open_loop(&mut self, control: Name) {
+        self.cells += 3;
+        self.controls.push(control);
+        self.scopes.push(Scope { sort: Sort::Block, names: vec![(control, What::Variable { ty: Type::Integer, fixed: true })] });
+    }
+
+    fn close_loop(&mut self, [start, step, limit]: [Expr; 3], body: Stmt) -> Stmt {
+        self.scopes.pop();
+        let control = self.controls.pop().expect("a loop is open");
+        stmt(StmtKind::For(Box::new(For { control, start, step, limit, body })))
+    }
+
+    /// Few turns, up or down, near 0 or at the ends of the 32-bit range; now and then so many that they do not end.
+    fn for_statement(&mut self, depth: usize) -> Stmt {
+        if self.cells + 3 > 32 {
+            return self.set(depth);
+        }
+        self.left -= 4;
+        let range = if self.rng.chance(self.plan.forever) {
+            *self.rng.pick(&[[1, 1, i32::MAX], [0, -1, i32::MIN], [i32::MIN, 1, i32::MAX], [i32::MAX, -3, -5]])
+        } else if self.rng.chance(30) {
+            far_range(self.rng)
+        } else {
+            near_range(self.rng)
+        };
+        let bounds = self.bounds(range, depth + 1);
+        let control = match self.controls.last() {
+            // nested loops of one name
+            Some(around) if self.rng.chance(25) => *around,
+            _ => self.fresh(&[]),
+        };
+        self.open_loop(control);
+        let body = match self.rng.below(10) {
+            0..=4 => self.block_statement(depth + 1, 3),
+            5 | 6 if self.left > 6 && depth < 50 => self.for_statement(depth + 1),
+            _ => self.statement(depth + 1),
+        };
+        self.close_loop(bounds, body)
+    }
+
+    fn bounds(&mut self, [start, step, limit]: Range, depth: usize) -> [Expr; 3] {
+        let start = self.bound(start, true, depth, 30);
+        let step = self.bound(step, self.plan.wild, depth, 29);
+        [start, step, self.bound(limit, true, depth, 28)]
+    }
+
+    /// A number as start, step or limit: itself, the value of some expression, or not quite itself.
+    fn bound(&mut self, n: i32, about: bool, depth: usize, need: usize) -> Expr {
+        let roomy = self.left > 8 && depth < 50;
+        let small = n.unsigned_abs() < 1_000;
+        match self.rng.below(12) {
+            0..=2 if about && small && roomy => {
+                self.left -= 4;
+                let seen = self.variables_of(Type::Integer, false);
+                let e = match self.controls.last() {
+                    Some(control) if seen.contains(control) && self.rng.chance(70) => variable(*control),
+                    _ => self.expression(Type::Integer, depth + 2, need),
+                };
+                binary(1, binary(5, e, integer(3)), integer(n))
+            }
+            3 if roomy => self.block_with(depth, |_| integer(n)),
+            4 if n != i32::MIN => {
+                self.left -= 1;
+                expr(ExprKind::Unary(20, Box::new(integer(-n))))
+            }
+            5 => {
+                self.left -= 2;
+                binary(1, integer(n / 2), integer(n - n / 2))
+            }
+            _ => integer(n),
+        }
     }
 
     /// Ahead, freely; backward with a counter: `begin v := v + 1; if v < k then goto L end`.
@@ -906,6 +1010,18 @@ impl<'r> Generator<'r> {
                     stmt(StmtKind::Assign(variable(*self.rng.pick(&names)), record))
                 };
                 Some(stmt(StmtKind::While(expr(ExprKind::Logical(true)), Box::new(inside))))
+            }
+            28 => {
+                if self.cells + 3 > 32 {
+                    return None;
+                }
+                let [start, limit] = [*self.rng.pick(&EDGES), *self.rng.pick(&EDGES)].map(integer);
+                let n = self.number();
+                let step = if self.rng.chance(60) { integer(0) } else { binary(2, integer(n), integer(n)) };
+                let control = self.fresh(&[]);
+                self.open_loop(control);
+                let body = self.set(depth + 1);
+                Some(self.close_loop([start, step, limit], body))
             }
             _ => None,
         }

@@ -52,7 +52,7 @@ pub fn reached(rng: &mut Rng, loaded: &Loaded, most: usize) -> State {
 
 /// A state that is releasing or has ended, made up.
 fn made_up(rng: &mut Rng) -> State {
-    let code = *rng.pick(&[0, 1, 19, 20, 21, 24, 26, 27, 28, 255]);
+    let code = *rng.pick(&[0, 1, 19, 20, 21, 24, 26, 27, 28, 29, 30, 255]);
     if rng.chance(50) {
         State::Ended { code }
     } else {
@@ -83,7 +83,7 @@ fn damage(rng: &mut Rng, state: &State, bytes: &mut [u8]) {
         State::Releasing { holds, .. } => {
             match rng.below(5) {
                 0 => bytes[0] = rng.below(4) as u8,
-                1 => bytes[1] = *rng.pick(&[0, 19, 20, 23, 27, 28]),
+                1 => bytes[1] = *rng.pick(&[0, 19, 20, 23, 27, 28, 29]),
                 2 => nudge(rng, &mut bytes[6]),
                 3 if !holds.is_empty() => {
                     let i = rng.below(holds.len());
@@ -96,7 +96,7 @@ fn damage(rng: &mut Rng, state: &State, bytes: &mut [u8]) {
         State::Ended { .. } => {
             match rng.below(3) {
                 0 => bytes[0] = rng.below(4) as u8,
-                1 => bytes[1] = *rng.pick(&[0, 1, 19, 20, 23, 27, 28]),
+                1 => bytes[1] = *rng.pick(&[0, 1, 19, 20, 23, 27, 28, 29]),
                 _ => unused_byte(rng, bytes),
             }
             return;

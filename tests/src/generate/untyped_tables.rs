@@ -116,7 +116,7 @@ impl Untyped<'_> {
         if self.left <= 0 || depth > 60 {
             return self.put(1, 0, 0);
         }
-        match self.rng.below(16) {
+        match self.rng.below(18) {
             0..=2 if label_may_stand => self.put(20, name, 0),
             3..=5 => self.put(25, name, 0),
             6 | 7 => self.block(1, depth),
@@ -143,6 +143,11 @@ impl Untyped<'_> {
             11 | 12 => {
                 self.put(28, 0, 0);
                 (0..2).for_each(|_| self.expression(depth + 1));
+            }
+            13 | 14 => {
+                self.put(31, name, 0);
+                (0..3).for_each(|_| self.expression(depth + 1));
+                self.statement(depth + 1, false);
             }
             _ => {
                 self.put(21, 0, 0);

@@ -10,13 +10,14 @@ fn entry(kind: u16, a: usize, b: usize) -> Entry {
 }
 
 /// What each is, its bytes, and the number of its verdict.
-pub fn worst_case_tables() -> [(&'static str, Vec<u8>, u8); 7] {
+pub fn worst_case_tables() -> [(&'static str, Vec<u8>, u8); 8] {
     [
         ("labels", bytes_of(&labels(MOST - 1)), 0),
         ("gotos to the first", bytes_of(&labels(MOST / 2)), 0),
         ("nested blocks", bytes_of(&nested()), 0),
         ("one name, nested", bytes_of(&hidden()), 0),
         ("parameter, nested", bytes_of(&parameter()), 0),
+        ("control, nested", bytes_of(&control()), 0),
         ("references", bytes_of(&references()), 6),
         ("arguments", bytes_of(&arguments()), 4),
     ]
@@ -63,15 +64,23 @@ fn hidden() -> Vec<Entry> {
 
 /// A procedure with one parameter, whose body is blocks, one in the other, with a name each; the innermost uses the parameter (step 2 of section 3 of 000).
 fn parameter() -> Vec<Entry> {
-    let blocks = 30;
-    let mut list = entries("1 1 0, 12 2 256, 10 1 1");
+    used_inside(entries("1 1 0, 12 2 256, 10 1 1"), 30, "21 0 0, 44 1 0, 44 1 0")
+}
+
+/// A loop that controls such blocks, the innermost of which uses its control name (step 3).
+fn control() -> Vec<Entry> {
+    used_inside(entries("1 0 1, 31 1 0, 40 0 1, 40 0 1, 40 0 1"), 29, "28 0 0, 44 1 0, 44 1 0")
+}
+
+/// So many blocks behind these entries, one in the other, with a name each; in the innermost a statement of three entries, again and again.
+fn used_inside(mut list: Vec<Entry>, blocks: usize, statement: &str) -> Vec<Entry> {
     let left = MOST - list.len() - 2 * blocks;
     for block in 0..blocks {
         let last = block == blocks - 1;
         list.push(entry(1, 1, if last { left / 3 + left % 3 } else { 1 }));
         list.push(entry(10, 0, 1));
     }
-    list.extend((0..left / 3).flat_map(|_| entries("21 0 0, 44 1 0, 44 1 0")));
+    list.extend((0..left / 3).flat_map(|_| entries(statement)));
     list.extend((0..left % 3).map(|_| entry(1, 0, 0)));
     list
 }

@@ -229,6 +229,13 @@ impl<'t> Reader<'t> {
                 used.cells += 1;
                 used
             }
+            31 if e.b == 0 => {
+                let mut used = self.expressions(3, below)?;
+                let statement = self.statement(below, false)?;
+                used.join(statement, 0);
+                used.cells += 3;
+                used
+            }
             _ => return Err(at),
         };
         self.done(at, used)
@@ -297,6 +304,8 @@ fn reference(class: u16) -> i32 {
 #[derive(Clone, Copy, PartialEq)]
 enum Sort {
     Variable,
+    /// The control name of a loop: an integer that is not assigned.
+    Control,
     Label,
     Class,
     /// Of the class of this name.
@@ -489,7 +498,7 @@ impl<'t> Judge<'t> {
             }
             20 => self.once(at),
             21 => {
-                let target = self.expression()?;
+                let target = self.target()?;
                 let value = self.expression()?;
                 demand(target == value, at)
             }
@@ -511,7 +520,28 @@ impl<'t> Judge<'t> {
                 let level = self.expression()?;
                 demand(channel == INTEGER && level == INTEGER, at)
             }
-            _ => self.guarded(at, e.a as i32, INTEGER),
+            30 => self.guarded(at, e.a as i32, INTEGER),
+            _ => {
+                let bounds = [self.expression()?, self.expression()?, self.expression()?];
+                let block = self.names.len();
+                self.define(block, e.a, at, Sort::Control, INTEGER);
+                self.statement()?;
+                self.close(block);
+                demand(bounds == [INTEGER; 3], at)
+            }
+        }
+    }
+
+    /// The type of a variable or field that is assigned.
+    fn target(&mut self) -> Result<i32, Refused> {
+        if entry(self.table, self.next).kind != 44 {
+            return self.expression();
+        }
+        let (at, e) = self.take();
+        match self.find(e.a) {
+            None => Err((3, at)),
+            Some((_, d)) if d.sort == Sort::Variable => Ok(d.b),
+            Some(_) => Err((4, at)),
         }
     }
 
@@ -559,7 +589,7 @@ impl<'t> Judge<'t> {
             }
             44 => match self.find(e.a) {
                 None => Err((3, at)),
-                Some((_, d)) if d.sort == Sort::Variable => Ok(d.b),
+                Some((_, d)) if matches!(d.sort, Sort::Variable | Sort::Control) => Ok(d.b),
                 Some(_) => Err((4, at)),
             },
             45 => match self.call(at, e)? {

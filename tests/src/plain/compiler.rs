@@ -49,7 +49,7 @@ pub fn compile(table: &[u8], out: &mut [u8]) -> Result<usize, (u8, usize)> {
 /// What the dry walk finds out, by entry.
 struct Notes {
     /// A declared variable: its cell; a field: 256 × class + place; a class, a procedure: its number; a use of one: the same, 256 more
-    /// where a procedure uses a variable of the root's; a goto: the label; a case: its cell.
+    /// where a procedure uses a variable of the root's; a goto: the label; a case: its cell; a loop: the first of its three.
     note: Vec<u16>,
     /// The type byte of what is declared or evaluated, 0 for none; a label: the holds open in its block; a goto: its releases.
     tag: Vec<u8>,
@@ -514,7 +514,8 @@ impl<'t, P: Pen> Walk<'t, P> {
                 self.op(15, 0, 0);
                 self.drop(2);
             }
-            _ => self.case(at, e.a),
+            30 => self.case(at, e.a),
+            _ => self.turns(at, e.a),
         }
         self.done(at);
     }
@@ -559,8 +560,67 @@ impl<'t, P: Pen> Walk<'t, P> {
             self.jump(8, at, 0);
             self.mark();
         }
-        self.op(20, 0, 0);
+        self.op(20, 24, 0);
         self.mark();
+    }
+
+    /// A loop's value, step and limit are in three cells on end. Before the first turn the limit becomes the last value from which another
+    /// turn is due, one less where the step is negative, so that after each turn one comparison decides, and no sum passes the 32-bit range;
+    /// where no value has another turn behind it, step and limit become such that none is due.
+    fn turns(&mut self, at: usize, control: u16) {
+        let [value, step, limit] = self.new_cells(at);
+        self.expressions(3);
+        self.ops(&[(6, 0, limit), (6, 0, step), (6, 0, value)]);
+        self.drop(3);
+        let up = self.pen.address() as i32 + 26;
+        let (once, turn) = (up + 15, up + 19);
+        // step zero
+        self.ops(&[(5, 0, step), (1, 0, 0), (7, 10, 0), (9, 0, up - 21), (20, 28, 0)]);
+        self.mark();
+        self.ops(&[(5, 0, step), (1, 0, 0), (7, 6, 0), (9, 0, up)]);
+        // down: limit := limit - step - 1
+        self.ops(&[(5, 0, value), (5, 0, limit), (7, 9, 0)]);
+        self.jump(9, at, 0);
+        self.ops(&[(5, 0, limit), (1, 0, i32::MAX), (5, 0, step), (7, 1, 0), (7, 7, 0), (9, 0, once)]);
+        self.ops(&[(5, 0, limit), (5, 0, step), (7, 2, 0), (1, 0, 1), (7, 2, 0), (6, 0, limit), (8, 0, turn)]);
+        self.mark();
+        // up: limit := limit - step
+        self.ops(&[(5, 0, value), (5, 0, limit), (7, 7, 0)]);
+        self.jump(9, at, 0);
+        self.ops(&[(5, 0, limit), (1, 0, i32::MIN), (5, 0, step), (7, 1, 0), (7, 9, 0), (9, 0, once)]);
+        self.ops(&[(5, 0, limit), (5, 0, step), (7, 2, 0), (6, 0, limit), (8, 0, turn)]);
+        self.mark();
+        self.ops(&[(1, 0, -1), (6, 0, step), (1, 0, i32::MAX), (6, 0, limit)]);
+        self.mark();
+        let outside = self.names.len();
+        if P::DRY {
+            self.notes.tag[at] = INTEGER;
+            self.define(control, at);
+        }
+        self.statement();
+        self.names.truncate(outside);
+        self.places.truncate(outside);
+        // another turn is due where (step < 0) = (value > limit)
+        self.ops(&[(5, 0, step), (1, 0, 0), (7, 6, 0), (5, 0, value), (5, 0, limit), (7, 8, 0), (7, 10, 0)]);
+        self.jump(9, at, 0);
+        self.ops(&[(5, 0, value), (5, 0, step), (7, 1, 0), (6, 0, value), (8, 0, turn)]);
+        self.mark();
+    }
+
+    /// Three integer cells on end, the first of which the entry stands for.
+    fn new_cells(&mut self, at: usize) -> [i32; 3] {
+        self.new_cell(at, INTEGER);
+        if P::DRY {
+            self.cells.extend([INTEGER; 2]);
+        }
+        let first = self.notes.note[at] as i32;
+        [first, first + 1, first + 2]
+    }
+
+    fn ops(&mut self, ops: &[(u8, u8, i32)]) {
+        for &(op, a, b) in ops {
+            self.op(op, a, b);
+        }
     }
 
     fn call(&mut self, at: usize, e: Entry) {

@@ -278,7 +278,7 @@ fn op(l: &[u8], r: &Records, k: usize, end: usize, s: &mut Stack, (op, a, b): (u
             true
         }
         19 => plain && s.pop(2),
-        20 => return if plain { Some(false) } else { None },
+        20 => return if matches!(a, 24 | 28) && b == 0 { Some(false) } else { None },
         _ => false,
     };
     if good { Some(true) } else { None }

@@ -354,7 +354,7 @@ impl<const KEPT: u8> Machine<'_, KEPT> {
                     return Out::Condition(23);
                 }
             }
-            _ => return Out::Condition(24),
+            _ => return Out::Condition(a),
         }
         self.go(top, top.i + 1)
     }

@@ -44,6 +44,7 @@ fn main() {
     }
     if wanted("chase") {
         chase::table_of_events();
+        chase::table_of_loops();
     }
     if store.is_empty() {
         ratios.compare();
@@ -358,7 +359,7 @@ mod runs {
     /// As much as a state can hold: 255 records of eight fields, then 31 calls with 31 operands below each, of bodies with 32 cells.
     fn full() -> Macro {
         let making = format!("{} 5 0 1, 12 0 0, 6 0 1, 5 0 0, 1 0 1, 7 1 0, 6 0 0", "1 0 7,".repeat(7));
-        let calling = format!("{} 10 0 1, 20 0 0", "1 0 7,".repeat(31));
+        let calling = format!("{} 10 0 1, 20 24 0", "1 0 7,".repeat(31));
         Macro {
             classes: vec![vec![1, 1, 1, 1, 1, 1, 1, 16]],
             bodies: vec![body(0, 0, 0, &[vec![1], vec![16; 31]].concat()), body(52, 0, 0, &[16; 32])],
