@@ -4,5 +4,6 @@ pub mod Listing
 pub mod Stars
 pub mod Refusals
 pub mod Lookup
+pub mod Loops
 pub mod Formed
 pub mod More
