@@ -6,6 +6,7 @@ use Rattle.compile_code.specs.Encode.{rootVariables, parameterCells, pro
 
 unfoldable pub compilingComputes : Unit {0}
 unfolding after lay cellsIn placed indexOf amongNames namesOf classesOf classNames procsOf procNames fieldIn scopesOf heldIn boundAt globalAt passing
-    hasLabel sizeGoto sizeHead opsS labelAt codeGoto codeStored codeDownward codeUpward codeOnce codeTurned codeHead codeS rootVariables parameterCells procParts parts recordOf linesOf headsOf recordsOf
+    hasLabel sizeGoto sizeHead opsS labelAt codeGoto codeStored codeDownward codeUpward codeOnce codeTurned codeHead codeS rootVariables parameterCells procParts parts
+    recordOf linesOf headsOf recordsOf
     fieldTypes compiled each macroBytes macroOf
 compilingComputes = tt

@@ -247,10 +247,34 @@ module _ (m : Macro) (k : ℕ) (gs : List Global) where
         let q = at (p .address) (suc (suc (suc (p .cell)))) in let q₁ = after (codeE gs e Γ ts q) q in let us = tyE gs Γ e ∷ ts in
         let q₂ = after (codeE gs f Γ us q₁) q₁ in let vs = tyE gs Γ f ∷ us in let q₃ = after (codeE gs g Γ vs q₂) q₂ in let b = skip 48 q₃ in
         let Δ = bound a (p .cell) ∷ inside (loopOf a) ∷ Γ in let y = codeS gs s Δ ts b in let z = ahead 13 (after y b .address) in let c₃ = c .1 .1 .1 in
-        let none = none-loop (p .cell) (q₃ .address) z (b .address) (found Γ ts) in
-        (tt, (tt, (tt, (cellsOkE e Γ ts q (o .0) (c₃ .0), (cellsOkE f Γ us q₁ (o .2) (c₃ .1 .0), (cellsOkE g Γ vs q₂ (o .4) (c₃ .1 .1 .0), (tt,
-        (no-cells Known _ (none .0), (cellsOkS s Δ ts b (o .6 (p .cell) (c .0)) (celled-turn m k gs (p .cell) (q₃ .address) z (b .address) (found Γ ts) q₃ y (c₃ .1 .1 .1 .1)),
-        no-cells Known _ (none .1))))))))))
+        let none = none-loop (p .cell) (q₃ .address) z (b .address) (found Γ ts) in (
+          tt,
+          (
+            tt,
+            (
+              tt,
+              (
+                cellsOkE e Γ ts q (o .0) (c₃ .0),
+                (
+                  cellsOkE f Γ us q₁ (o .2) (c₃ .1 .0),
+                  (
+                    cellsOkE g Γ vs q₂ (o .4) (c₃ .1 .1 .0),
+                    (
+                      tt,
+                      (
+                        no-cells Known _ (none .0),
+                        (
+                          cellsOkS s Δ ts b (o .6 (p .cell) (c .0)) (celled-turn m k gs (p .cell) (q₃ .address) z (b .address) (found Γ ts) q₃ y (c₃ .1 .1 .1 .1)),
+                          no-cells Known _ (none .1),
+                        ),
+                      ),
+                    ),
+                  ),
+                ),
+              ),
+            ),
+          ),
+        )
 
     pub cellsOkItems : (is : Items) (Γ : List Around) (ts : List Ty) (p : At) → okItems m k gs is Γ → Celled m k gs (codeItems gs is Γ ts p) p → Cells Known (codeItems gs is Γ ts p)
     cellsOkItems noItem Γ ts p o c = tt

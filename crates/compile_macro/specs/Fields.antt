@@ -21,7 +21,7 @@ use Rattle.values.specs.Values.{int, log, bit, ref, initial}
 use Rattle.language.specs.Tree.{Decl, declare, holding, Stmt, block, assign, when, choose, while, goto, assert, call, setLevel, select, for, Items, noItem, label, item, Arms}
 use Rattle.language.specs.Tree.{lastArm, arm, Target, toVariable, toField, Expr, number, truth, pattern, null, variable, invoke, field, make, operate1, operate2}
 use Rattle.language.specs.Tree.{conditional, fader, blockExpr, Exprs, noExpr, expr, Global, countArms}
-use Rattle.language.specs.Names.{blockOf, expressionOf, loopOf}
+use Rattle.language.specs.Names.{blockOf, expressionOf}
 use Rattle.language.specs.Faults.{typeE, isTy}
 use Rattle.language.specs.Table.{Entry, entry, inLayout}
 use Rattle.bytecode.specs.Instructions.{Instr, end, push, load, store, operate, go, goUnless, return, getField, putField, readFader, takeHold, letHold, stop, stopsBy}
@@ -29,7 +29,7 @@ use Rattle.bytecode.specs.Instructions.{call as callOp, make as makeOp, setLeve
 use Rattle.logic.specs.Lists.{Each}
 use Rattle.logic.specs.Tests.{halves}
 use Rattle.bytecode.specs.Macro.{Shape}
-use Rattle.compile_code.specs.Code.{Code, nil, op, mark, cell, _▸_, At, ahead, skip, after}
+use Rattle.compile_code.specs.Code.{Code, nil, op, mark, cell, _▸_, At, skip, after}
 use Rattle.compile_code.specs.Compile.{Around, inside, outermost, bound, global, held, labels, scopesOf, passing, theLabels, hasLabel, labelAt, kept, loading, storing}
 use Rattle.compile_code.specs.Compile.{Way, plainly, marked, ifTrue, ifFalse, wayOf, codeWay, codeGoto, codeHead, codeS, codeItems, codeArms, codeTarget, codeE, codeEs}
 use Rattle.compile_code.specs.Compile.{found, codeStored, codeDownward, codeUpward, codeOnce, codeEntered, codeTurned}
@@ -200,9 +200,34 @@ module _ (gs : List Global) where
         (tt, (fieldsE e Γ ts _ (q .0), (tt, (fieldsArms r (p .cell) 1 _ Γ ts _ (omega arith) (q .1), tt))))
     fieldsS (for a e f g s) Γ ts p h =
         let q = parted Entered (flatE e) (flatE f ++ (flatE g ++ flatS s)) (h .1) in let r = parted Entered (flatE f) (flatE g ++ flatS s) (q .1) in
-        let u = parted Entered (flatE g) (flatS s) (r .1) in
-        (tt, (tt, (tt, (fieldsE e Γ ts _ (q .0), (fieldsE f Γ _ _ (r .0), (fieldsE g Γ _ _ (u .0), (tt, (of-entered (p .cell) _ _ (found Γ ts), (fieldsS s _ ts _ (u .1),
-        of-turned (p .cell) _ _ (found Γ ts))))))))))
+        let u = parted Entered (flatE g) (flatS s) (r .1) in (
+          tt,
+          (
+            tt,
+            (
+              tt,
+              (
+                fieldsE e Γ ts _ (q .0),
+                (
+                  fieldsE f Γ _ _ (r .0),
+                  (
+                    fieldsE g Γ _ _ (u .0),
+                    (
+                      tt,
+                      (
+                        of-entered (p .cell) _ _ (found Γ ts),
+                        (
+                          fieldsS s _ ts _ (u .1),
+                          of-turned (p .cell) _ _ (found Γ ts),
+                        ),
+                      ),
+                    ),
+                  ),
+                ),
+              ),
+            ),
+          ),
+        )
 
     pub fieldsItems : (is : Items) (Γ : List Around) (ts : List Ty) (p : At) → Each Entered (flatItems is) → Ops Holdable (codeItems gs is Γ ts p)
     fieldsItems noItem Γ ts p h = tt

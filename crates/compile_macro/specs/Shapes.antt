@@ -161,9 +161,29 @@ module _ (m : Macro) (k : ℕ) (gs : List Global) (H : Heads m) where
         let q = at (p .address) (suc (suc (suc (p .cell)))) in let q₁ = after (codeE gs e Γ ts q) q in let us = tyE gs Γ e ∷ ts in
         let q₂ = after (codeE gs f Γ us q₁) q₁ in let vs = tyE gs Γ f ∷ us in let q₃ = after (codeE gs g Γ vs q₂) q₂ in let b = skip 48 q₃ in
         let Δ = bound a (p .cell) ∷ inside (loopOf a) ∷ Γ in let y = codeS gs s Δ ts b in let z = ahead 13 (after y b .address) in let c₃ = c .1 .1 .1 in
-        let u = markE e Γ ts q (o .0) (c₃ .0) n in let v = markE f Γ us q₁ (o .2) (c₃ .1 .0) (u .1, n) in let w = markE g Γ vs q₂ (o .4) (c₃ .1 .1 .0) (v .1, (u .1, n)) in
-        (tt, (tt, (tt, (u .0, (v .0, (w .0, ((w .1, (v .1, (u .1, n))), mark-loop Γ ts (p .cell) (q₃ .address) z (b .address) q₃ y n
-        (markS s Δ ts b (o .6 (p .cell) (c .0)) (celled-turn m k gs (p .cell) (q₃ .address) z (b .address) (found Γ ts) q₃ y (c₃ .1 .1 .1 .1)) n))))))))
+        let u = markE e Γ ts q (o .0) (c₃ .0) n in let v = markE f Γ us q₁ (o .2) (c₃ .1 .0) (u .1, n) in let w = markE g Γ vs q₂ (o .4) (c₃ .1 .1 .0) (v .1, (u .1, n)) in (
+          tt,
+          (
+            tt,
+            (
+              tt,
+              (
+                u .0,
+                (
+                  v .0,
+                  (
+                    w .0,
+                    (
+                      (w .1, (v .1, (u .1, n))),
+                      mark-loop Γ ts (p .cell) (q₃ .address) z (b .address) q₃ y n
+                          (markS s Δ ts b (o .6 (p .cell) (c .0)) (celled-turn m k gs (p .cell) (q₃ .address) z (b .address) (found Γ ts) q₃ y (c₃ .1 .1 .1 .1)) n),
+                    ),
+                  ),
+                ),
+              ),
+            ),
+          ),
+        )
 
     pub markItems : (is : Items) (Γ : List Around) (ts : List Ty) (p : At) → okItems m k gs is Γ → Celled m k gs (codeItems gs is Γ ts p) p → KnownAll ts → Marks m k Typed! (codeItems gs is Γ ts p) p
     markItems noItem Γ ts p o c n = tt

@@ -15,7 +15,7 @@ use Rattle.values.specs.Values.{ref, initial}
 use Rattle.language.specs.Tree.{Decl, declare, holding, Stmt, block, assign, when, choose, while, goto, assert, call, setLevel, select, for, Items, noItem, label, item, Arms}
 use Rattle.language.specs.Tree.{lastArm, arm, Target, toVariable, toField, Expr, number, truth, pattern, null, variable, invoke, field, make, operate1, operate2}
 use Rattle.language.specs.Tree.{conditional, fader, blockExpr, Exprs, noExpr, expr, Global}
-use Rattle.language.specs.Names.{asVariable, isVariable, isClass, isField, isProcedure, types, results, Scope, blockOf, expressionOf, loopOf}
+use Rattle.language.specs.Names.{isVariable, isClass, isField, isProcedure, types, results, Scope, blockOf, expressionOf, loopOf}
 use Rattle.language.specs.Faults.{withTy, typeE, typesE, typeTarget, isTy, variableTy, resultTy}
 use Rattle.language.specs.Faults.{fieldTy as treeFieldTy}
 use Rattle.bytecode.specs.Macro.{Body, Shape, Macro}

@@ -12,37 +12,58 @@ ghost use Rattle.compile_output.specs.Rows.{numberIn, cursorRow, emitRow
 
 // ── a row: its op, its a, what its b counts from, and how far on ──
 const OP: u32 = 16777216;
+
 const A: u32 = 65536;
+
 const FROM: u32 = 256;
 
 const SHAPE: u32 = 255 * OP;
+
 const PUSH: u32 = compiled::OP_INTEGER as u32 * OP;
+
 const LOAD: u32 = compiled::OP_LOAD as u32 * OP;
+
 const STORE: u32 = compiled::OP_STORE as u32 * OP;
+
 const OPERATE: u32 = compiled::OP_OPERATOR as u32 * OP;
+
 const GO: u32 = compiled::OP_GO as u32 * OP;
+
 const UNLESS: u32 = compiled::OP_UNLESS as u32 * OP;
+
 const STOP: u32 = compiled::OP_STOP as u32 * OP;
 
 const PLUS: u32 = A;
+
 const MINUS: u32 = 2 * A;
+
 const LESS: u32 = 6 * A;
+
 const AT_MOST: u32 = 7 * A;
+
 const GREATER: u32 = 8 * A;
+
 const AT_LEAST: u32 = 9 * A;
+
 const EQUAL: u32 = 10 * A;
+
 const STEP_ZERO: u32 = 28 * A;
 
 // the loop's cells
 const VALUE: u32 = FROM;
+
 const STEP: u32 = FROM + 1;
+
 const LIMIT: u32 = FROM + 2;
 // addresses: from where the pattern begins (or, after a turn, from where the turn began); behind the loop
 const HERE: u32 = 2 * FROM;
+
 const EXIT: u32 = 3 * FROM;
 // the largest integer, the smallest, and −1
 const MOST: u32 = 4 * FROM;
+
 const LEAST: u32 = 5 * FROM;
+
 const MINUS_ONE: u32 = 6 * FROM;
 
 // From the three values on the stack to the first turn: `codeEntered` in crates/compile_code/specs/Compile says what each step is for.
@@ -179,7 +200,15 @@ fn put_rows(
     let mut p = cursor;
     while i < pattern.len() {
         let row = pattern[i];
-        p = put_row(row, number_in(row, cell, start, exit), holds, stack, depth, out, p);
+        p = put_row(
+            row,
+            number_in(row, cell, start, exit),
+            holds,
+            stack,
+            depth,
+            out,
+            p,
+        );
         i += 1;
     }
     p
@@ -232,6 +261,14 @@ pub fn leave_turn(
 {
     let pattern = TURNED;
     put_rows(
-        &pattern, cell, began, exit, holds, stack, depth, out, cursor,
+        &pattern,
+        cell,
+        began,
+        exit,
+        holds,
+        stack,
+        depth,
+        out,
+        cursor,
     )
 }

@@ -341,8 +341,10 @@ module _ (m : Macro) (k : ℕ) (gs : List Global) where
     -- a loop, over the code of its statement
     passLoop : (Γ : List Around) (ts : List Ty) (c : ℕ) (t u v : Ty) (p : At) (y : Code) → t ≡ integer → u ≡ integer → v ≡ integer → length (heldIn Γ) ≤ 16 → 3 + length ts ≤ 32
         → cellTy m k own c ≡ some integer → cellTy m k own (suc c) ≡ some integer → cellTy m k own (suc (suc c)) ≡ some integer
-        → Celled (codeEntered c (p .address) (ahead 13 (after y (skip 48 p) .address)) (found Γ ts) ▸ (y ▸ codeTurned c (ahead 48 (p .address)) (ahead 13 (after y (skip 48 p) .address)) (found Γ ts))) p
-        → Marks m k Aim (codeEntered c (p .address) (ahead 13 (after y (skip 48 p) .address)) (found Γ ts) ▸ (y ▸ codeTurned c (ahead 48 (p .address)) (ahead 13 (after y (skip 48 p) .address)) (found Γ ts))) p
+        → Celled (codeEntered c (p .address) (ahead 13 (after y (skip 48 p) .address)) (found Γ ts)
+        ▸ (y ▸ codeTurned c (ahead 48 (p .address)) (ahead 13 (after y (skip 48 p) .address)) (found Γ ts))) p
+        → Marks m k Aim (codeEntered c (p .address) (ahead 13 (after y (skip 48 p) .address)) (found Γ ts)
+        ▸ (y ▸ codeTurned c (ahead 48 (p .address)) (ahead 13 (after y (skip 48 p) .address)) (found Γ ts))) p
         → (Celled y (skip 48 p) → Marks m k Aim y (skip 48 p) → Seg m k Aim y (some (found Γ ts)) (some (found Γ ts)))
         → Seg m k Aim (mark (found Γ (v ∷ (u ∷ (t ∷ ts)))) ▸ (codeEntered c (p .address) (ahead 13 (after y (skip 48 p) .address)) (found Γ ts)
         ▸ (y ▸ codeTurned c (ahead 48 (p .address)) (ahead 13 (after y (skip 48 p) .address)) (found Γ ts)))) (some (found Γ (v ∷ (u ∷ (t ∷ ts))))) (some (found Γ ts))

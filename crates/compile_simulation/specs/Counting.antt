@@ -4,13 +4,13 @@ use mathlib.Core.Path.{_≡_, refl, sym, ap, _∙_}
 use mathlib.Core.Bool.{Bool, true, false, Bool·beq, not}
 use Prim.Native.Nat.{ℕ, zero, suc, _+_, _-_, _≤_, _<_}
 use native.Mathlib.Omega.{arith}
-use lib.Dec.{ltb, leb}
+use lib.Dec.{ltb}
 use lib.IntN.{ℤ, pos, negsuc, negℤ, natAbs, subℕ, _+ℤ_, _-ℤ_}
 use lib.Signed.{mag, ltZ, leZ}
 use borrow.Author.Tests.{ltb-true, ltb-false, leb-true, leb-false, lt-ltb, le-ltb, le-leb, lt-leb}
 use Rattle.logic.specs.Choice.{if_then_else_}
 use Rattle.logic.specs.Tests.{never}
-use Rattle.values.specs.Arithmetic.{gives, settle, isZero}
+use Rattle.values.specs.Arithmetic.{gives, settle}
 use Rattle.language.specs.Execute.{Loop, due}
 use Rattle.compile_code.specs.Compile.{mostInteger, leastInteger}
 
@@ -186,7 +186,8 @@ module _ (l : Loop) (hs : Small (l .step)) (hl : Small (l .limit)) where
             let q = next-up v h in let b = bound-is in let w = small-up v h in
             let k : Small (v +ℤ d) = up-small (v +ℤ d) (omega (arith, p, q, b, l-up .1)) (omega (arith, q, negative, w .2)) in
             (refl, k, due-down l (v +ℤ d) n ∙ is-at-most z (v +ℤ d) (abs-small z hl) (abs-small (v +ℤ d) k) (omega (arith, p, q, b)));
-        over = λ v h t k. due-down l (v +ℤ d) n ∙ is-above z (v +ℤ d) (omega (arith, at-least (z -ℤ d -ℤ pos 1) v (differing (ltZ d (pos 0)) (ltZ (z -ℤ d -ℤ pos 1) v) t ∙ ap not n), next-up v h, bound-is));
+        over = λ v h t k. due-down l (v +ℤ d) n
+            ∙ is-above z (v +ℤ d) (omega (arith, at-least (z -ℤ d -ℤ pos 1) v (differing (ltZ d (pos 0)) (ltZ (z -ℤ d -ℤ pos 1) v) t ∙ ap not n), next-up v h, bound-is));
       }
 
     -- no value but the first is due
@@ -219,7 +220,12 @@ module _ (l : Loop) (hs : Small (l .step)) (hl : Small (l .limit)) where
             let k : Small (v +ℤ d) = up-small (v +ℤ d) (omega (arith, q, positive, w .1)) (omega (arith, p, q, b, l-up .2)) in
             (refl, k, due-up l (v +ℤ d) n ∙ is-at-most (v +ℤ d) z (abs-small (v +ℤ d) k) (abs-small z hl) (omega (arith, p, q, b)));
         over = λ v h t k. due-up l (v +ℤ d) n ∙ is-above (v +ℤ d) z
-            (omega (arith, below (z -ℤ d) v (abs-small (z -ℤ d) up-small-bound) (abs-small v h) (differing (ltZ d (pos 0)) (ltZ (z -ℤ d) v) t ∙ ap not n), next-up v h, up-difference z d (l-up .0) (s-up .0)));
+            (omega (
+              arith,
+              below (z -ℤ d) v (abs-small (z -ℤ d) up-small-bound) (abs-small v h) (differing (ltZ d (pos 0)) (ltZ (z -ℤ d) v) t ∙ ap not n),
+              next-up v h,
+              up-difference z d (l-up .0) (s-up .0),
+            ));
       }
 
     pub once-up : leZ (leastInteger +ℤ d) z ≡ false → Steers l (negsuc 0) mostInteger

@@ -1,19 +1,17 @@
 -- A for: what its own instructions do, from the three values on the stack to the first turn, and from the end of a turn to the next.
-use mathlib.Core.Bool.{Bool, true, false, _&&_}
+use mathlib.Core.Bool.{Bool, true, false}
 use mathlib.Core.Path.{_≡_, refl, ap, ap₂, sym, _∙_, subst}
 use mathlib.Core.List.{List, [], _∷_, map}
 use mathlib.Core.Option.{some}
 use Prim.Native.Nat.{ℕ, zero, suc, _≤_}
 use native.Mathlib.Omega.{arith}
-use lib.Dec.{eqb, leb}
-use lib.IntN.{ℤ, pos, negsuc, natAbs, _+ℤ_, _-ℤ_}
+use lib.IntN.{ℤ, pos, negsuc, _+ℤ_, _-ℤ_}
 use lib.ListN.{getElem?}
 use lib.Signed.{ltZ, leZ}
 use borrow.Author.Tests.{lt-leb, ne-eqb}
 use Rattle.logic.specs.Choice.{if_then_else_}
-use Rattle.logic.specs.Tests.{and-false}
 use Rattle.values.specs.Ends.{stepZero}
-use Rattle.values.specs.Arithmetic.{Outcome, gives, settle, sum, difference, isZero}
+use Rattle.values.specs.Arithmetic.{gives, isZero}
 use Rattle.values.specs.Operators.{Binary, binary, plus, minus, less, atMost, greater, atLeast, equal}
 use Rattle.values.specs.Values.{Value, int, log, Cell, assigned, sameInteger, mapOutcome, apply2}
 use Rattle.language.specs.Tree.{Global}
@@ -22,14 +20,15 @@ use Rattle.language.specs.Names.{inBlock, inExpression, inProcedure, inLoop}
 use Rattle.language.specs.Execute.{Store, withBlocks, outerBlocks, say, Result, Loop, due}
 use Rattle.bytecode.specs.Macro.{Shape}
 use Rattle.bytecode.specs.Instructions.{own, push, load, store, operate, go, goUnless, stop}
-use Rattle.bytecode.specs.Machine.{fetch, act, doOperate, settled}
-use Rattle.compile_code.specs.Code.{At, at, ahead, after}
-use Rattle.compile_code.specs.Compile.{Around, inside, outermost, bound, global, held, labels, hasLabel, labelAt, theLabels, passing, scopesOf, heldIn, mostInteger, leastInteger, codeStored, codeDownward, codeUpward, codeOnce, codeTurned}
+use Rattle.bytecode.specs.Machine.{fetch, act, doOperate}
+use Rattle.compile_code.specs.Code.{at, ahead, after}
+use Rattle.compile_code.specs.Compile.{Around, inside, outermost, bound, global, held, labels, hasLabel, labelAt, theLabels, passing, scopesOf, heldIn}
+use Rattle.compile_code.specs.Compile.{mostInteger, leastInteger, codeStored, codeDownward, codeUpward, codeOnce, codeTurned}
 use Rattle.compile_simulation.specs.Meets.{Conf, Setting, Reach, run, Meets}
 use Rattle.compile_simulation.specs.View.{Data, written, seen, seenR, cellAt, found-at, put-same, put-other, Apart, apart-blocks, apart-roots, below-apart, below-more}
-use Rattle.compile_simulation.specs.Ops.{hereOf, conf, op-at, pushes, loads, stores, forks, goes-on, jumps}
+use Rattle.compile_simulation.specs.Ops.{op-at, pushes, loads, stores, forks, goes-on, jumps}
 use Rattle.compile_simulation.specs.Placed.{Work, Holds, Fit, Stands, at-work, looping, lands, landsAt, Arrives, Nothing, Sees}
-use Rattle.compile_simulation.specs.Counting.{Small, Steers, onward, settles-to, small-pos, most-small, near-small, down-small, steers-down, once-down, due-down, least-small}
+use Rattle.compile_simulation.specs.Counting.{Small, Steers, onward, settles-to, most-small, near-small, down-small, steers-down, once-down, due-down, least-small}
 use Rattle.compile_simulation.specs.Counting.{up-small-bound, steers-up, once-up, due-up}
 
 -- a cell that no name has is not seen

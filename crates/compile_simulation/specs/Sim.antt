@@ -1,6 +1,6 @@
 -- The simulation: by fuel, and at one fuel by the tree.
 use mathlib.Core.Bool.{Bool, true, false, _&&_, Bool·beq}
-use mathlib.Core.Path.{_≡_, refl, ap, ap₂, sym, _∙_, subst, subst₂}
+use mathlib.Core.Path.{_≡_, refl, ap, sym, _∙_, subst, subst₂}
 use mathlib.Core.List.{List, [], _∷_, _++_, map, append-assoc}
 use mathlib.Core.Option.{Option, none, some}
 use Prim.Native.Nat.{ℕ, zero, suc, _+_, _≤_, zero-le}
@@ -15,9 +15,9 @@ use Rattle.words.specs.Numbers.{wordOf}
 use Rattle.values.specs.Types.{Ty, integer, logical}
 use Rattle.values.specs.Ends.{overflow, outOfRange, assertFalse, caseIndex, stepZero}
 use Rattle.values.specs.Operators.{Binary, unary, binary, plus, minus, times, divide, remainder, less, atMost, greater, atLeast, equal, unequal, both, either, shiftLeft, shiftRight}
-use Rattle.values.specs.Arithmetic.{Outcome, gives, mistyped, settle, sum, isZero}
+use Rattle.values.specs.Arithmetic.{Outcome, gives, mistyped, settle, sum}
 use Rattle.values.specs.Arithmetic.{ends as endsBy}
-use Rattle.values.specs.Values.{Value, int, log, bit, ref, asInteger, asLogical, tyOf, Cell, assigned, between, size, apply1, apply2}
+use Rattle.values.specs.Values.{Value, int, log, bit, ref, asInteger, asLogical, tyOf, assigned, between, size, apply1, apply2}
 use Rattle.values.specs.Trace.{event, reading}
 use Rattle.values.specs.Trace.{set as setEvent}
 use Rattle.language.specs.Tree.{Typed, holding, Stmt, block, assign, when, choose, while, goto, assert, call, setLevel, select, for, Items, noItem, label, item, Arms, lastArm}
@@ -26,7 +26,8 @@ use Rattle.language.specs.Tree.{fader, blockExpr, Exprs, noExpr, expr, Global, 
 use Rattle.language.specs.Tree.{Body as TreeBody}
 use Rattle.language.specs.Names.{Scope, Definition, inProcedure, blockOf, expressionOf, loopOf}
 use Rattle.language.specs.Faults.{typeE, isTy}
-use Rattle.language.specs.Execute.{slot, withBlocks, outerBlocks, leaving, Store, Result, done, jump, ended, later, wrong, next, Place, World, Less, say, read, valueOf, asked, branch, doSet, doFader, doAssign}
+use Rattle.language.specs.Execute.{slot, withBlocks, outerBlocks, leaving, Store, Result, done, jump, ended, later, wrong, next, Place, World, Less}
+use Rattle.language.specs.Execute.{say, read, valueOf, asked, branch, doSet, doFader, doAssign}
 use Rattle.language.specs.Execute.{ofField, doMake, classIn, deciding, decides, catch, from, exec, execItems, execArm, execBody, evalBody, Procedure, procedureIn}
 use Rattle.language.specs.Execute.{Loop, due, ifDue, turning, advancing, turns, counted, activate, locate, eval, evals, fueled}
 use Rattle.language.specs.Execute.{settled as treeSettled, condition as treeCondition}
@@ -41,7 +42,7 @@ use Rattle.compile_code.specs.Compile.{tyTarget, classNumber, opTarget, codeSto
 use Rattle.compile_code.specs.Compile.{cellOf as keptOf}
 use Rattle.compile_simulation.specs.Meets.{Conf, run, stepped, Setting, Meets, ends, here, lost, asks, onward, binds}
 use Rattle.compile_simulation.specs.View.{Data, written, ofOwner, seen, seenV, seenC, blocksOf, rootsOf, cellAt, found-at, cellFor, reads, writes, classOf, seenR}
-use Rattle.compile_simulation.specs.View.{Apart, apart-blocks, apart-roots, below-apart, put-same}
+use Rattle.compile_simulation.specs.View.{below-apart, put-same}
 use Rattle.compile_simulation.specs.Projections.{is-integer, not-logical, unlike, seen-integer, seen-logical}
 use Rattle.compile_simulation.specs.Ops.{says, hereOf, op-at, op-tick, pushes, loads, stores, forks, conds, goes-on, jumps}
 use Rattle.compile_simulation.specs.Operate.{Agrees, seen-1, seen-2, seen-decides}
@@ -468,8 +469,13 @@ module _ (W : Setting) (gs : List Global) where
         let C' = looping C c v s t in let a = l .control in let Δ = bound a c ∷ inside (loopOf a) ∷ Γ in
         let e = after (codeS gs (l .statement) Δ ts b) b in
         let inner : seen gs Δ D ≡ withBlocks ((slot a (assigned (int v)) ∷ []) ∷ σ .blocks) σ =
-        ap (λ x. record { root = rootsOf gs Γ (D .cells) (D .lowest); blocks = (slot a (seenC gs x) ∷ []) ∷ blocksOf gs Γ (D .cells); records = map (seenR gs) (D .shared .records);
-          trace = D .trace; taken = D .taken }) (k .value) ∙ ap (λ τ. withBlocks ((slot a (assigned (int v)) ∷ []) ∷ τ .blocks) τ) (k .same) in
+        ap (λ x. record {
+          root = rootsOf gs Γ (D .cells) (D .lowest);
+          blocks = (slot a (seenC gs x) ∷ []) ∷ blocksOf gs Γ (D .cells);
+          records = map (seenR gs) (D .shared .records);
+          trace = D .trace;
+          taken = D .taken;
+        }) (k .value) ∙ ap (λ τ. withBlocks ((slot a (assigned (int v)) ∷ []) ∷ τ .blocks) τ) (k .same) in
         binds (leaving (λ τ. outerBlocks (τ .blocks)) (exec world r (l .statement) (placeOf W gs C Γ) (withBlocks ((slot a (assigned (int v)) ∷ []) ∷ σ .blocks) σ)))
         (λ j τ q. releases W gs C c v s t Γ st j τ q)
         (left W gs C' Γ (heldIn Γ) (e .address) st _ _ (inward C' Γ Δ (heldIn Γ) (e .address) st _ _ (λ cs. (slot a (seenC gs (cellAt cs c)) ∷ [], refl)) (λ cs ls. refl)
@@ -598,7 +604,6 @@ module _ (W : Setting) (gs : List Global) where
           simArms rs (p .cell) 1 (b .address + opsArms rs (scopesOf Γ) (passing Γ)) z C Γ ts b st (size z) (starts z) (o .1) (fit-on (cells-after x (p .address) (p .cell)) w) (h .1 .1 .1 .0)
           (lenArms gs rs (p .cell) 1 (b .address + opsArms rs (scopesOf Γ) (passing Γ)) Γ ts b) E
           (put-same (D' .cells) (p .cell) (assigned v) y g ∙ ap assigned e') (w .fresh (p .cell) (assigned v) (D' .cells) (D' .lowest) (omega arith) k'))))))
-
       simS (for a e f g s) C Γ ts p st o w h D k =
           let c = p .cell in let q = at (p .address) (suc (suc (suc c))) in let x = codeE gs e Γ ts q in let q₁ = after x q in let us = tyE gs Γ e ∷ ts in
           let y = codeE gs f Γ us q₁ in let q₂ = after y q₁ in let vs = tyE gs Γ f ∷ us in let z = codeE gs g Γ vs q₂ in let q₃ = after z q₂ in let b = skip 48 q₃ in
@@ -610,7 +615,8 @@ module _ (W : Setting) (gs : List Global) where
           (bindE W gs C Γ _ (simE e C Γ ts q st (o .0) (fit-on (omega arith) w) (h₃ .0) D k) (λ i D₁ k₁.
           bindE W gs C Γ _ (simE f C Γ us q₁ (i ∷ st) (o .1) (fit-on (omega arith) w) (h₃ .1 .0) D₁ k₁) (λ j D₂ k₂.
           bindE W gs C Γ _ (simE g C Γ vs q₂ (j ∷ (i ∷ st)) (o .2) (fit-on (omega arith) w) (h₃ .1 .1 .0) D₂ k₂) (λ m D₃ k₃.
-          integers W gs (C .body) (C .below) Γ i j m st (q₃ .address) ts (heldIn Γ) D₃ (h₃ .1 .1 .1 .0 ∙ all-integers Γ ts (tyE gs Γ e) (tyE gs Γ f) (tyE gs Γ g) (o .3) (o .4) (o .5)) (λ v d t ei ej em hv hd ht.
+          integers W gs (C .body) (C .below) Γ i j m st (q₃ .address) ts (heldIn Γ) D₃ (h₃ .1 .1 .1 .0 ∙ all-integers Γ ts (tyE gs Γ e) (tyE gs Γ f) (tyE gs Γ g) (o .3) (o .4) (o .5))
+          (λ v d t ei ej em hv hd ht.
           let l : Loop = record { control = a; step = d; limit = t; statement = s } in
           let turning : Turning C l Γ ts b c exit = record { good = o .6 c; fit = w; later-cells = omega arith; stand = there .1; turned = there .2 } in
           rw (ei, ej, em) (begins-loop C l Γ ts q₃ c exit turning st D₃ v hv hd ht (there .0) k₃ (λ E s' t' held steers.

@@ -2,14 +2,12 @@
 use mathlib.Core.Path.{_≡_, refl, ap, sym, _∙_}
 use mathlib.Core.Bool.{Bool, true, false}
 use mathlib.Core.List.{List, _∷_, _++_, append-assoc, append-nil}
-use Prim.Native.Nat.{ℕ, suc, _+_, _-_, _*_, _/_, _≤_, _<_, max}
+use Prim.Native.Nat.{ℕ, _+_, _-_, _*_, _/_, _≤_, _<_, max}
 use native.Mathlib.Nat.{add-assoc}
 use native.Mathlib.Omega.{arith}
 use lib.IntN.{pos}
 use lib.ListN.{length, getD, drop, set, take, length-set, length-append}
-use lib.Seq.{sets}
 use Rattle.words.specs.Numbers.{halfAt}
-use Rattle.values.specs.Types.{Ty, integer}
 use Rattle.bytecode.specs.Macro.{Shape}
 use Rattle.language.specs.Tree.{Stmt, Expr, Exprs, for, countExprs}
 use Rattle.language.specs.Table.{Entry, entry}
@@ -21,15 +19,15 @@ use Rattle.table_entries.specs.Entries.{length-entries}
 use Rattle.table_entries.specs.Sizes.{Known}
 use Rattle.table_entries.specs.Spans.{span}
 use Rattle.table_entries.specs.Stands.{stands-left, stands-within}
-use Rattle.table_scopes.specs.Environment.{Item, item, opened, envOf, Grown}
+use Rattle.table_scopes.specs.Environment.{item, opened, envOf, Grown}
 use Rattle.table_scopes.specs.EnvironmentLaws.{fewer}
 use Rattle.table_scopes.specs.Trees.{length-Es, spans-Es}
 use Rattle.table_forms.specs.Forms.{three, flat-S, deep-S}
 use Rattle.table_forms.specs.Part.{head-of, table-next}
 use Rattle.table_forms.specs.Simple.{count-le, small-name}
-use Rattle.compile_code.specs.Code.{Code, op, mark, cell, _▸_, At, at, ahead, skip, taken, after}
-use Rattle.compile_code.specs.Compile.{Around, scopesOf, heldIn, found, codeS, codeE, codeEs, tyE, codeStored, codeDownward, codeUpward, codeOnce, codeEntered, codeTurned}
-use Rattle.compile_names.specs.Good.{goodS, goodEs}
+use Rattle.compile_code.specs.Code.{Code, mark, cell, _▸_, At, at, ahead, skip, taken, after}
+use Rattle.compile_code.specs.Compile.{found, codeS, codeE, codeEs, tyE, codeStored, codeDownward, codeUpward, codeOnce, codeEntered, codeTurned}
+use Rattle.compile_names.specs.Good.{goodS}
 use Rattle.compile_symbols.specs.Numbers.{numbersFrom, cellsWithin, secondIn, packed}
 use Rattle.compile_symbols.specs.Packed.{second-packed}
 use Rattle.compile_output.specs.declared.Cursor.{Cursor}
@@ -37,16 +35,16 @@ use Rattle.compile_output.specs.EmitRecord.{Fits, cursorShaped, emitShape}
 use Rattle.compile_output.specs.EmitCode.{cursorAfter, emitted, dry-emitted, address-small, cursor-mark, Stacked}
 use Rattle.compile_nodes.specs.Ends.{belowS, endsS, endsE, endsEs}
 use Rattle.compile_nodes.specs.Knows.{Walk}
-use Rattle.compile_nodes.specs.Ready.{stmt, Place, Lent, Laid, Stood, Kept, Wrote, Ready, Done, Asks, Answers, pushed, ValuesEs, ReadyEs, DoneEs, AsksEs, AnswersEs}
+use Rattle.compile_nodes.specs.Ready.{stmt, Place, Lent, Laid, Kept, Wrote, Ready, Done, Asks, Answers, pushed, ValuesEs, ReadyEs, DoneEs, AsksEs, AnswersEs}
 use Rattle.compile_scopes.specs.Lies.{lies-here}
 use Rattle.compile_scopes.specs.Lengths.{length-es}
 use Rattle.compile_scopes.specs.Turns.{inTurn, aroundTurn, scopes-turn, held-turn, sees-in-turn, knows-in-turn, lands-in-turn}
 use Rattle.compile_steps.specs.Cells.{cell-Es}
 use Rattle.compile_steps.specs.Parts.{lent, below, movedTo, flat-one, laid-aim, laid-at, laid-left, laid-right, kept-then, kept-out, kept-ends, wrote-then, wrote-mark}
-use Rattle.compile_steps.specs.Parts.{wrote-length, wrote-later, wrote-address, wrote-cell, fits-first, fits-rest, stood-shape, need-E}
+use Rattle.compile_steps.specs.Parts.{wrote-length, wrote-later, fits-first, fits-rest, stood-shape, need-E}
 use Rattle.compile_steps.specs.Views.{IsStmt, IsKind, For, for-of}
 use Rattle.compile_steps.specs.Stages.{Finished, finished-done}
-use Rattle.compile_steps.specs.Shared.{Rest, rest-enter, rest-own, rest-stood, rest-fits, lands-kept, Shaping, ends-then, ready-as, done-as}
+use Rattle.compile_steps.specs.Shared.{Rest, rest-enter, rest-own, rest-stood, rest-fits, Shaping, ends-then, ready-as, done-as}
 
 -- ── the code before and after a turn: where it goes on is known on the second walk only ──
 -- all that it is asked with
@@ -297,8 +295,11 @@ module _ {a : ℕ} {e f g : Expr} {s : Stmt} {W : Walk} {X : Place} {l part : Li
             omega (arith, more-values, after-shape .stood .stacked),
             omega (arith, more-values),
             omega (arith, few),
-            (m, stood-shape (after-shape .stood),
-              fits-aimed (λ y. codeEntered c (entry-at .address) y m) exit p₂ entered-same (entered-cursor c (entry-at .address) v exit m p₂) (fits-first enter _ p₂ (length o) (after-shape .fits))),
+            (
+              m,
+              stood-shape (after-shape .stood),
+              fits-aimed (λ y. codeEntered c (entry-at .address) y m) exit p₂ entered-same (entered-cursor c (entry-at .address) v exit m p₂) (fits-first enter _ p₂ (length o) (after-shape .fits)),
+            ),
           )
 
           module _ {p₃ : Cursor} {o₂ : List ℕ} (i : Entered cl (M .stack) depth holds p₂ v o p₃ o₂) where

@@ -10,7 +10,8 @@ use Rattle.language.specs.Faults.{typeE, typesE, faultsTyped, faultsHead
 use Rattle.language.specs.Limits.{headCells, headHolds, procedureLimits, limits}
 use Rattle.language.specs.Judge.{judgeTable, compileOn}
 use Rattle.language.specs.Execute.{cellIn, cellOf, putIn, putOf, valueOf, assignTo, declareIn, next, releaseAll, settled, branch, doSet, doFader, doField}
-use Rattle.language.specs.Execute.{doPutField, doAssign, pairUp, doMake, deciding, decides, letGo, within, outerBlocks, leaving, from, due, ifDue, turning, advancing, turns, counted, catch, procedureIn, classIn}
+use Rattle.language.specs.Execute.{doPutField, doAssign, pairUp, doMake, deciding, decides, letGo, within, outerBlocks, leaving, from}
+use Rattle.language.specs.Execute.{due, ifDue, turning, advancing, turns, counted, catch, procedureIn, classIn}
 use Rattle.language.specs.Execute.{activate, exec, execBody, evalBody, fueled, ran, execute}
 
 unfoldable pub languageComputes : Unit {0}

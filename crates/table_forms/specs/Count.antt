@@ -1,19 +1,16 @@
 -- A for: its three expressions, and then its statement among one more scope, that of its control name.
-use mathlib.Core.Path.{_≡_, refl, ap, sym, _∙_}
+use mathlib.Core.Path.{_≡_, refl, ap, _∙_}
 use mathlib.Core.Bool.{_&&_}
-use mathlib.Core.List.{List, [], _∷_, _++_, map, append-assoc}
-use mathlib.Core.Option.{Option}
+use mathlib.Core.List.{List, [], _∷_, _++_}
 use Prim.Native.Nat.{ℕ, _+_, _-_, _*_, _/_, _≤_}
 use native.Mathlib.Omega.{arith}
 use native.Mathlib.Nat.{add-assoc}
 use native.Mathlib.Numerals.{add-one}
 use lib.ListN.{length, drop, length-append}
-use Rattle.language.specs.Measure.{measureS}
 use Rattle.language.specs.Program.{flatS, flatEs}
 use Rattle.words.specs.Numbers.{halfAt}
-use Rattle.values.specs.Types.{Ty, integer}
-use Rattle.values.specs.Ends.{Refusal}
-use Rattle.language.specs.Tree.{Stmt, Expr, Exprs, countExprs}
+use Rattle.values.specs.Types.{integer}
+use Rattle.language.specs.Tree.{Stmt, Expr, countExprs}
 use Rattle.language.specs.Table.{Entry}
 use Rattle.language.specs.Names.{Scope, loopOf}
 use Rattle.language.specs.Faults.{typeE, isTy, mistypedUnless, sizeEs, faultsS, faultsEs}
@@ -21,16 +18,15 @@ use Rattle.language_laws.specs.Claims.{entriesOf}
 use Rattle.table_entries.specs.Entries.{length-entries}
 use Rattle.table_entries.specs.Sizes.{Known}
 use Rattle.table_entries.specs.Spans.{span}
-use Rattle.table_entries.specs.Stands.{Stands, stands-left, stands-right, stands-tail, stands-within}
+use Rattle.table_entries.specs.Stands.{stands-left, stands-right, stands-tail, stands-within}
 use Rattle.table_scopes.specs.Environment.{item as pushed, envOf, opened, Grown}
 use Rattle.table_scopes.specs.EnvironmentLaws.{fewer}
 use Rattle.table_scopes.specs.declared.heads.Verdict.{Verdict}
 use Rattle.table_scopes.specs.declared.heads.Verdict.the-variants.{Fine, Refused}
 use Rattle.table_scopes.specs.Flaws.{Says, says-first, says-then}
 use Rattle.table_scopes.specs.Sees.{sees-loop}
-use Rattle.table_scopes.specs.Trees.{length-S, length-Es, spans-Es}
+use Rattle.table_scopes.specs.Trees.{length-Es, spans-Es}
 use Rattle.table_types.specs.Settle.{values, countedBy}
-use Rattle.table_types.specs.Types.{tyNum}
 use Rattle.table_types.specs.Settles.{counted-says}
 use Rattle.table_forms.specs.Forms.{Form, simple, guard, counted, blocked, bodied, labelled, three, typesOf, faultsF, formS, StmtForm, CountForm, flat-S, deep-S, valid-S}
 use Rattle.table_forms.specs.Forms.{faults-S, form-stmt, once-S}

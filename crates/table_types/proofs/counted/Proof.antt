@@ -1,5 +1,4 @@
 -- `table_types::counted` meets its contract. Assumes nothing.
-use mathlib.Core.Path.{_∙_}
 use borrow.Author.Needs.{needs}
 use Rattle.table_types.proofs.counted.Statement.{statement}
 use Rattle.table_types.proofs.counted.Tie as tie

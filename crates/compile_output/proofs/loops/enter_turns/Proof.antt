@@ -16,8 +16,14 @@ cast-put-rows c =
 
 put-rows-requires : tie.Need-put-rows-requires
 put-rows-requires c κs =
-    let a = c .before .before .before .before .before .args in let g = c .before .before .before .before .before .pre in let f = g .4 in
-    (g .0, address-small (codeEntered (a .cell) (a .cursor .address) (a .exit) (f .0)) (a .cursor) (length (a .out .now)) (f .2), g .1, g .2, g .3, rw (entered-after (f .1) (a .cell) (a .cursor .address) (a .exit) (a .cursor)) (f .2))
+    let a = c .before .before .before .before .before .args in let g = c .before .before .before .before .before .pre in let f = g .4 in (
+      g .0,
+      address-small (codeEntered (a .cell) (a .cursor .address) (a .exit) (f .0)) (a .cursor) (length (a .out .now)) (f .2),
+      g .1,
+      g .2,
+      g .3,
+      rw (entered-after (f .1) (a .cell) (a .cursor .address) (a .exit) (a .cursor)) (f .2),
+    )
 
 returns : tie.Need-returns
 returns c = λ s k.

@@ -1,10 +1,6 @@
 -- `compile_output::loops::leave_turn` meets its contract: the rows of its pattern come to the code. Assumes nothing.
 use mathlib.Core.Path.{_∙_}
-use native.Mathlib.Omega.{arith}
 use borrow.Author.Needs.{needs}
-use lib.ListN.{length}
-use Rattle.compile_code.specs.Compile.{codeTurned}
-use Rattle.compile_output.specs.EmitCode.{address-small}
 use Rattle.compile_output.specs.LoopRows.{turned-after, turned-written}
 use Rattle.compile_output.proofs.loops.leave_turn.Statement.{statement}
 use Rattle.compile_output.proofs.loops.leave_turn.Tie as tie

@@ -210,11 +210,13 @@ turns-meets t = turns-lts.spec (claims t) (entry-at turns.Pre t) turns.Post
     let at-second-in = at-end-of .before in
     let at-known-at = at-second-in .before in
     let at-a-at = at-known-at .before in
-    let at-start = at-a-at .before .before .before .before .before .before .before .before .before .before in
-    (omega (arith, asked (at-start .pre .1) .nested, at-start .pre .0), asks-turn-second (at-start .pre .1) (at-spanned .spanned .result)
-    (at-spanned .spanned .ensures) (at-operands .operands .ensures) (at-shape .shape .ensures) (at-second-in .second-in .ensures ∙ ap secondIn
-    (at-known-at .known-at .ensures)) (at-end-of .end-of .ensures .0) (at-enter-turns .enter-turns .ensures) (at-a-at .a-at .ensures)
-    (at-enter-loop .enter-loop .ensures)))
+    let at-start = at-a-at .before .before .before .before .before .before .before .before .before .before in (
+      omega (arith, asked (at-start .pre .1) .nested, at-start .pre .0),
+      asks-turn-second (at-start .pre .1) (at-spanned .spanned .result)
+          (at-spanned .spanned .ensures) (at-operands .operands .ensures) (at-shape .shape .ensures) (at-second-in .second-in .ensures ∙ ap secondIn
+          (at-known-at .known-at .ensures)) (at-end-of .end-of .ensures .0) (at-enter-turns .enter-turns .ensures) (at-a-at .a-at .ensures)
+          (at-enter-loop .enter-loop .ensures),
+    ))
     -- cast-began
     (λ c.
     let at-enter-turns = c .before .before .before .before .before .before .before .before .before .before .before .before .before .before .before .before
@@ -226,9 +228,12 @@ turns-meets t = turns-lts.spec (claims t) (entry-at turns.Pre t) turns.Post
     let at-second-in = at-end-of .before in
     let at-known-at = at-second-in .before in
     let at-start = at-known-at .before .before .before .before .before .before .before .before .before .before .before in
-    omega (arith, asks-turn-began (at-start .pre .1) (at-spanned .spanned .result) (at-spanned .spanned .ensures) (at-operands .operands .ensures)
-    (at-shape .shape .ensures) (at-second-in .second-in .ensures ∙ ap secondIn (at-known-at .known-at .ensures)) (at-end-of .end-of .ensures .0)
-    (at-enter-turns .enter-turns .ensures)))
+    omega (
+      arith,
+      asks-turn-began (at-start .pre .1) (at-spanned .spanned .result) (at-spanned .spanned .ensures) (at-operands .operands .ensures)
+          (at-shape .shape .ensures) (at-second-in .second-in .ensures ∙ ap secondIn (at-known-at .known-at .ensures)) (at-end-of .end-of .ensures .0)
+          (at-enter-turns .enter-turns .ensures),
+    ))
     -- leave-turn-requires
     (λ c κs.
     let at-statement = c .before .before .before .before .before .before .before .before .before .before .before in
