@@ -570,6 +570,7 @@ impl<'t, P: Pen> Walk<'t, P> {
     fn turns(&mut self, at: usize, control: u16) {
         let [value, step, limit] = self.new_cells(at);
         self.expressions(3);
+        self.mark();
         self.ops(&[(6, 0, limit), (6, 0, step), (6, 0, value)]);
         self.drop(3);
         let up = self.pen.address() as i32 + 26;
