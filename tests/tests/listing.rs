@@ -12,6 +12,7 @@ use second::generate::damaged_entries::damaged_table;
 use second::generate::edge_cases::{deciding_table, edge_table};
 use second::generate::end_sheets::{self, Case};
 use second::generate::judged_tables::some_refused_table;
+use second::generate::loops::looping_table;
 use second::generate::notation::table;
 use second::generate::programs::{plan, program, some_program, some_size};
 use second::generate::rng::Rng;
@@ -49,7 +50,7 @@ fn the_stored_listings() {
             count += 1;
         }
     }
-    assert_eq!(count, 11);
+    assert_eq!(count, 12);
 }
 
 // Tables with the listing that is written down.
@@ -125,6 +126,7 @@ fn some_table(rng: &mut Rng) -> Vec<u8> {
             damaged_table(rng, &valid)
         }
         4 => deciding_table(rng),
+        5 => looping_table(rng),
         _ => {
             let size = some_size(rng, [60, 30, 9]);
             let mut made = plan(rng, size);
