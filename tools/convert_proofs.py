@@ -1,0 +1,236 @@
+#!/usr/bin/env python3
+"""convert.py CRATEDIR [FUNCTION-PATH..]: turns proofs/F/Proof.antt (old walk by goals) to Invariants.antt and Answers.antt, by the names that rt lists."""
+import json, os, re, subprocess, sys, glob
+crate=os.path.abspath(sys.argv[1]); name=os.path.basename(crate); only=sys.argv[2:]
+gen=f'/tmp/gen-{name}'
+W=r'[^\s(){}.;,@"«»]+'
+norm=lambda s: s.replace('_','-').replace('«','').replace('»','')
+def names():
+    subprocess.run(['rm','-rf',gen]);
+    r=subprocess.run(['rt','check','--generated',gen,'--old-names'],cwd=crate,capture_output=True,text=True)
+    p=glob.glob(gen+'/**/names.json',recursive=True)
+    if not p: sys.exit('no names: '+r.stdout[-3000:]+r.stderr[-1000:])
+    return json.load(open(p[0]))
+def toplevel(text):
+    """blocks: list of (kind, text)"""
+    lines=text.split('\n'); blocks=[]; cur=[]
+    for ln in lines:
+        if ln.strip()=='' :
+            if cur: blocks.append('\n'.join(cur)); cur=[]
+            continue
+        cur.append(ln)
+    if cur: blocks.append('\n'.join(cur))
+    return blocks
+def split_args(s):
+    """top-level juxtaposed args of an application text"""
+    args=[];depth=0;cur='';i=0
+    while i<len(s):
+        ch=s[i]
+        if s.startswith('--',i) and (i==0 or s[i-1] in ' \n(') :
+            j=s.find('\n',i); j=len(s) if j<0 else j
+            i=j; continue
+        if ch in '({[': depth+=1
+        if ch in ')}]': depth-=1
+        if depth==0 and ch in ' \n\t':
+            if cur: args.append(cur); cur=''
+        else: cur+=ch
+        i+=1
+    if cur: args.append(cur)
+    return args
+def labelled(s):
+    """args with the comment in front of each, if any"""
+    out=[];depth=0;cur='';lab=None;i=0
+    while i<len(s):
+        ch=s[i]
+        if depth==0 and s.startswith('--',i) and (i==0 or s[i-1] in ' \n'):
+            j=s.find('\n',i); j=len(s) if j<0 else j
+            if cur.strip(): out.append((lab,cur.strip())); cur=''; lab=None
+            lab=s[i+2:j].strip(); i=j; continue
+        if ch in '({[': depth+=1
+        if ch in ')}]': depth-=1
+        if depth==0 and ch in ' \n\t':
+            if cur: out.append((lab,cur)); cur=''; lab=None
+        else: cur+=ch
+        i+=1
+    if cur: out.append((lab,cur))
+    return out
+def strip_lambda(t):
+    """(λ c κs. body) -> body"""
+    t=t.strip()
+    if t.startswith('(') and t.endswith(')'): t=t[1:-1].strip()
+    m=re.match(r'λ ([^.]*)\.\s*',t)
+    if not m: return None
+    return m[1].split(), t[m.end():]
+TRIVIAL=re.compile(r'(search rules|omega arith|tt|search \(rules\)|refl)$')
+said=[]
+OWN=set('type-inv well-formed view-is loan-name yielded-by len-below len-at-least no-deeper element-fits array-long items-fit'.split())
+def convert(path, fn, d, multi=None):
+    text=open(path).read()
+    lts=d
+    needs=lts['needs']
+    nmap={}
+    for o,n in needs: nmap[norm(o)]=n
+    newset={n for o,n in needs}
+    places={}
+    steps={}
+    for (o,b,f,callee,_),nn in zip(lts['places'],lts['places_by_name']):
+        places[norm(o)]=nn
+        if f[0]: steps.setdefault(norm(f[0]),f[1])
+    def need(old):
+        k=norm(old)
+        for c in (k, re.sub(r'^(overflow|nonzero)-','',k)):
+            if c in nmap: return nmap[c]
+        m=re.sub(r'^(overflow|nonzero)-','',k)
+        # 'read-mul-x' and friends
+        if old in newset: return old
+        return None
+    def fix(t):
+        t=re.sub(r'(\.before)+(?![^\s(){}.;,@"«»])','',t)
+        t=re.sub(r'(\.before)+(?=\.)','',t)
+        # aliases of c
+        while True:
+            m=re.search(r'let ([^\s=:]+) = (c|[a-z]) in\s*',t)
+            if not m: break
+            a,b=m[1],m[2]
+            rest=t[m.end():]
+            rest=re.sub(r'(?<![^\s(){};,@"«».←])'+re.escape(a)+r'(?=[.\s(){};,]|$)',b,rest)
+            t=t[:m.start()]+rest
+        def step(m):
+            k=norm(m[1])
+            if k in OWN: return '.'+k.replace('-','_')
+            return '.'+steps[k] if k in steps else m[0]
+        t=re.sub(r'\.('+W+')',step,t)
+        t=re.sub(r'\b(?:tie|'+'|'.join(lt_alias)+r')\.('+W+')(?: [^\n()→]*?(?:invariant|decreases)[^\n()→]*(?=\)))?',lambda m: 'goal.'+(places.get(norm(m[1])) or 'X-'+m[1]),t) if True else t
+        return t
+    lt_alias=re.findall(r'use \S+\.Lts(?:-\S+)? as (\S+)',text) or ['tie']
+    blocks=toplevel(text)
+    uses=[]; answers=[]; helpers=[]; invs={}; head=[]; items=[]
+    order={}
+    spec_args=None
+    defs={}
+    pend=''
+    for b in blocks:
+        ls=b.split('\n')
+        comments=[l for l in ls if l.startswith('--')]
+        code=[l for l in ls if not l.startswith('--')]
+        if code and all(l.startswith('use ') or l.startswith('pub use ') for l in code):
+            for l in code:
+                if re.search(r'\.(Statement\.\{statement\}|Tie as tie|Lts\S* as \S+|Reads as \S+|Kinds as \S+|Tie\.\{close\})$',l) or 'borrow.Fn.Kinds' in l or 'PlainCycle' in l or re.search(r'\.\{statement\}$',l): continue
+                uses.append(l)
+            head+=comments
+            continue
+        if not code: head+=comments; continue
+        body='\n'.join(code)
+        sig=re.match(r'(abbrev )?(pub )?('+W+r') :((?:.|\n)*?)(?=\n(?:unfolding |\3(?![^\s])|\3 ))',body)
+        if not sig:
+            said.append(f'{path}: block not read: {body[:80]!r}'); continue
+        nm=sig[3]; ty=sig[4].strip(); rest=body[sig.end():].lstrip('\n')
+        unf=''
+        m=re.match(r'unfolding [^\n]*\n(?:    [^\n]*\n)*',rest)
+        if m: unf=m[0]; rest=rest[m.end():]
+        defs[nm]=(comments,ty,unf,rest)
+    for nm,(comments,ty,unf,rest) in defs.items():
+        com='\n'.join(c for c in comments)
+        com=com+'\n' if com else ''
+        if nm.startswith('invariant-') or nm.startswith('decreases-') or re.search(r'tie\.(invariant|decreases)-',ty):
+            invs[nm]=(com,ty,unf,rest); continue
+        if nm.endswith('-spec') or 'tie.close' in rest or '.spec' in rest.split('=')[-1][:40]:
+            s=rest[rest.index('=')+1:]
+            m=re.search(r'tie\.spec',s)
+            if m:
+                s=s[m.end():].strip()
+                # drop the closing parens of close (
+                dep=0; out=''
+                for ch in s:
+                    if ch in '({[': dep+=1
+                    if ch in ')}]':
+                        if dep==0: break
+                        dep-=1
+                    out+=ch
+                spec_args=labelled(out)
+            continue
+        m=re.match(r'(?:tie|'+'|'.join(lt_alias)+r')\.Need-('+W+')',ty)
+        if m:
+            n=need(m[1])
+            if n is None:
+                said.append(f'{path}: no goal for {m[1]}'); n='X-'+m[1]
+            order[nm]=n
+            eq=re.match(re.escape(nm)+r'((?: '+W+r')*)\s*=',rest)
+            if not eq: said.append(f'{path}: equation of {nm}'); continue
+            pars=[p for p in eq[1].split() if p!='κs']
+            bodyt=fix(rest[eq.end():])
+            answers.append((n,com,unf,pars,bodyt)); items.append(('a',n,com,unf,pars,bodyt))
+            continue
+        helpers.append((nm,com,ty,unf,rest)); items.append(('h',nm,com,ty,unf,rest))
+    # inline terms of spec
+    if spec_args is not None:
+        gs=[(l,a) for l,a in spec_args if not (a in invs or a.startswith('invariant') or a.startswith('decreases'))]
+        names_seq=[order.get(a) for l,a in gs]
+        nn=[n for o,n in needs]
+        # align
+        pos={}
+        anchors=[(i,nn.index(n)) for i,n in enumerate(names_seq) if n in nn]
+        if len(gs)==len(nn):
+            for i in range(len(gs)): pos[i]=nn[i]
+            bad=[(names_seq[i],nn[i]) for i in range(len(gs)) if names_seq[i] and names_seq[i]!=nn[i]]
+            if bad: said.append(f'{path}: order differs {bad[:3]}')
+        else:
+            said.append(f'{path}: {len(gs)} answers, {len(nn)} goals')
+            prev=(-1,-1)
+            for a in anchors+[(len(gs),len(nn))]:
+                if a[0]-prev[0]==a[1]-prev[1]:
+                    for k in range(1,a[0]-prev[0]): pos[prev[0]+k]=nn[prev[1]+k]
+                prev=a
+        for i,(l,a) in enumerate(gs):
+            if names_seq[i]: continue
+            lam=strip_lambda(a)
+            if lam is None:
+                if a not in order: said.append(f'{path}: arg {a[:40]!r}')
+                continue
+            pars,bodyt=lam
+            if TRIVIAL.match(bodyt.strip()): continue
+            n=None
+            if l: n=need(l)
+            n=n or pos.get(i)
+            if n is None: said.append(f'{path}: inline at {i}: {bodyt[:60]!r}'); continue
+            answers.append((n,'','',[p for p in pars if p!='κs'],' '+fix(bodyt))); items.append(('a',n,'','',[p for p in pars if p!='κs'],' '+fix(bodyt)))
+    base=os.path.dirname(path)
+    mod='Rattle.'+name+'.proofs.'+os.path.relpath(base,crate+'/proofs').replace('/','.')
+    out='\n'.join(head)+'\n' if head else ''
+    out=out.replace('. Assumes nothing.','.')
+    out+='\n'.join(uses)+('\n' if uses else '')+f'use {mod}.Goals as goal\n'
+    ren={o:n for o,n in order.items() if o!=n}
+    def cite(s):
+        if not ren: return s
+        return re.sub(r'(?<![^\s(){};,@"«»←])('+'|'.join(map(re.escape,sorted(ren,key=len,reverse=True)))+r')(?![^\s(){}.;,@"«»])',lambda m: ren[m[1]],s)
+    for it in items:
+        if it[0]=='h':
+            _,nm,com,ty,unf,rest=it
+            out+=f'\n{com}{nm} : {cite(fix(ty))}\n{unf}{nm}{cite(fix(rest[len(nm):]))}\n'
+        else:
+            _,n,com,unf,pars,b=it
+            b=cite(b)
+            out+=f'\n{com}pub {n} : goal.{n}\n{unf}{n} {" ".join(pars)} ={b if b.startswith((" ",chr(10))) else " "+b}\n'
+    # invariants
+    if invs:
+        io='\n'.join(uses)+('\n' if uses else '')+f'use {mod}.Given as goal\n'
+        for nm,(com,ty,unf,rest) in invs.items():
+            loops=lts.get('loops')
+            eq=re.match(re.escape(nm)+r'((?: '+W+r')*)\s*=',rest)
+            pars=eq[1].split(); b=rest[eq.end():]
+            kind=nm.split('-')[0]
+            old=nm
+            io+=f'\n-- LOOPS {loops} ARGS {lts.get("args")}\n{com}abbrev pub {nm} : goal.{nm}\n{unf}{nm} l ={b}\n-- PARS {pars}\n'
+        open(base+'/Invariants.antt','w').write(io)
+    if answers or helpers:
+        open(base+'/Answers.antt','w').write(out)
+    os.rename(path, path.replace('Proof.antt','Proof.old'))
+if __name__=='__main__':
+    d=names()
+    for p in sorted(glob.glob(crate+'/proofs/**/Proof.antt',recursive=True)):
+        rel=os.path.relpath(os.path.dirname(p),crate+'/proofs').replace('/','.')
+        if only and rel not in only: continue
+        key=[k for k in d if k=='Rattle-'+name+'-proofs.'+rel+'.Lts']
+        if not key: said.append(f'{p}: no names'); continue
+        convert(p,rel,d[key[0]])
+    print('\n'.join(said))
