@@ -100,13 +100,14 @@ def convert(path, fn, d, multi=None):
             if k in OWN: return '.'+k.replace('-','_')
             return '.'+steps[k] if k in steps else m[0]
         t=re.sub(r'\.('+W+')',step,t)
+        t=re.sub(r'(\.in-[^\s(){}.;,]+)\.keys\d+',r'\1.is',t)
         t=re.sub(r'\b(?:tie|'+'|'.join(lt_alias)+r')\.('+W+')(?: [^\n()→]*?(?:invariant|decreases)[^\n()→]*(?=\)))?',lambda m: 'goal.'+(places.get(norm(m[1])) or 'X-'+m[1]),t) if True else t
         return t
     lt_alias=re.findall(r'use \S+\.Lts(?:-\S+)? as (\S+)',text) or ['tie']
     blocks=toplevel(text)
     uses=[]; answers=[]; helpers=[]; invs={}; head=[]; items=[]
     order={}
-    spec_args=None
+    spec_args=None; spec_unf=''
     defs={}
     pend=''
     for b in blocks:
@@ -135,7 +136,7 @@ def convert(path, fn, d, multi=None):
         if nm.startswith('invariant-') or nm.startswith('decreases-') or re.search(r'tie\.(invariant|decreases)-',ty):
             invs[nm]=(com,ty,unf,rest); continue
         if nm.endswith('-spec') or 'tie.close' in rest or '.spec' in rest.split('=')[-1][:40]:
-            s=rest[rest.index('=')+1:]
+            s=rest[rest.index('=')+1:]; spec_unf=unf
             m=re.search(r'tie\.spec',s)
             if m:
                 s=s[m.end():].strip()
@@ -193,7 +194,7 @@ def convert(path, fn, d, multi=None):
             if l: n=need(l)
             n=n or pos.get(i)
             if n is None: said.append(f'{path}: inline at {i}: {bodyt[:60]!r}'); continue
-            answers.append((n,'','',[p for p in pars if p!='κs'],' '+fix(bodyt))); items.append(('a',n,'','',[p for p in pars if p!='κs'],' '+fix(bodyt)))
+            answers.append((n,'',spec_unf,[p for p in pars if p!='κs'],' '+fix(bodyt))); items.append(('a',n,'',spec_unf,[p for p in pars if p!='κs'],' '+fix(bodyt)))
     base=os.path.dirname(path)
     mod='Rattle.'+name+'.proofs.'+os.path.relpath(base,crate+'/proofs').replace('/','.')
     out='\n'.join(head)+'\n' if head else ''
