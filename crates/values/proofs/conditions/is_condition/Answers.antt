@@ -41,7 +41,7 @@ returns-in-28 c = rw c.in-28.is
 
 pub returns-in_default : goal.returns-in_default
 unfolding among
-returns-in_default c = let r = c.in_default.in_default-own in let s = r.0.0.0.0 in
+returns-in_default c = let r = c.in_default.in_default-own.rest in let s = r.0.0.0.0 in
     simp (
       ne_eqb _ _ r.1,
       ne_eqb _ _ r.0.1,
