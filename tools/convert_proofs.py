@@ -215,13 +215,19 @@ def convert(path, fn, d, multi=None):
     # invariants
     if invs:
         io='\n'.join(uses)+('\n' if uses else '')+f'use {mod}.Given as goal\n'
+        lmap={norm(o):(n,vs) for (o,n),vs in lts.get('loops') or []}
         for nm,(com,ty,unf,rest) in invs.items():
-            loops=lts.get('loops')
             eq=re.match(re.escape(nm)+r'((?: '+W+r')*)\s*=',rest)
             pars=eq[1].split(); b=rest[eq.end():]
-            kind=nm.split('-')[0]
-            old=nm
-            io+=f'\n-- LOOPS {loops} ARGS {lts.get("args")}\n{com}abbrev pub {nm} : goal.{nm}\n{unf}{nm} l ={b}\n-- PARS {pars}\n'
+            kind=nm.split('-')[0]; old=nm[len(kind)+1:]
+            new,vs=lmap.get(norm(old),(None,None))
+            if new is None: said.append(f'{path}: no loop {old}'); new='X-'+old
+            for q in sorted(set(pars),key=len,reverse=True):
+                bare=q.strip('«»').rstrip('₀')
+                to=('l.initial.' if q.strip('«»').endswith('₀') else 'l.')+bare
+                b=re.sub(r'(?<![^\s(){};,@"])'+re.escape(q)+r'(?=[.\s(){};,]|$)',to,b)
+            n=f'{kind}-{new}'
+            io+=f'\n{com}abbrev pub {n} : goal.{n}\n{unf}{n} l ={b if b[:1] in " "+chr(10) else " "+b}\n'
         open(base+'/Invariants.antt','w').write(io)
     if answers or helpers:
         open(base+'/Answers.antt','w').write(out)

@@ -232,7 +232,7 @@ takes_part {r} G (stmt_part s) h = takes-done r (takes-stmt G s h)
 pos-stmt : (s : Stmt) → 1 ≤ deep_s s
 unfolding measure_s
 pos-stmt s =
-    elim s [
+    elim s as (λ k. 1 ≤ deep_s k) [
       | block ds is ↦ omega arith
       | assign x e ↦ omega arith
       | when e s ↦ omega arith
@@ -254,7 +254,7 @@ pos-target (to_field a e) = omega arith
 pos-expr : (e : Expr) → 1 ≤ deep_e e
 unfolding measure_s
 pos-expr e =
-    elim e [
+    elim e as (λ k. 1 ≤ deep_e k) [
       | number z ↦ omega arith
       | truth b ↦ omega arith
       | pattern z ↦ omega arith

@@ -1,5 +1,5 @@
 -- Where the readers of parts of the tree stop, beside those that read deeper: what is left to fill in, and which entry is too deep.
-use Rattle.std.specs.Prelude.{◌≡◌, ℕ, zero, suc, ◌+◌, ◌-◌, ◌<◌, eqb, pos, nat_abs}
+use Rattle.std.specs.Prelude.{◌≡◌, ℕ, zero, suc, ◌+◌, ◌-◌, ◌<◌, eqb, drop, pos, nat_abs}
 use Rattle.std.proofs.Math.Path.{refl, ap}
 use Rattle.std.proofs.Common.{sym, arith}
 use mathlib.Core.List.{List, [], ◌∷◌, ◌++◌, append-nil}
@@ -57,7 +57,7 @@ arms_at d s (t ∷ ts) = ap (λ (l : List ℕ). stmt_at d s ++ l) (arms_at d t t
 root-stmt : (d : ℕ) → Rooted d (stmt_at d)
 unfolding depths outline_s
 root-stmt d s =
-    elim s [
+    elim s as (λ k. stmt_at d k ≡ d ∷ drop 1 (stmt_at d k)) [
       | block ds is ↦ refl
       | assign x e ↦ refl
       | when e s ↦ refl
@@ -84,7 +84,7 @@ root-target d (to_field a e) = refl
 root-expr : (d : ℕ) → Rooted d (expr_at d)
 unfolding depths outline_s
 root-expr d e =
-    elim e [
+    elim e as (λ k. expr_at d k ≡ d ∷ drop 1 (expr_at d k)) [
       | number z ↦ refl
       | truth b ↦ refl
       | pattern z ↦ refl

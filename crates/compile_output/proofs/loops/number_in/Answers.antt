@@ -1,0 +1,28 @@
+-- `compile_output::loops::number_in` meets its contract.
+use borrow.Author.Tests.{ne_eqb}
+use borrow.Author.Rules.{rules}
+use Rattle.compile_output.specs.Rows.{ahead-sum}
+use Rattle.compile_output.proofs.loops.number_in.Goals as goal
+
+pub returns-in-1 : goal.returns-in-1
+returns-in-1 c = rw c.in-1.is (ahead-sum _ _)
+
+pub returns-in-2 : goal.returns-in-2
+returns-in-2 c = rw c.in-1.is (ahead-sum _ _)
+
+pub returns-in-3 : goal.returns-in-3
+returns-in-3 c = rw c.in-1.is
+
+pub returns-in-4 : goal.returns-in-4
+returns-in-4 c = rw c.in-1.is
+
+pub returns-in-5 : goal.returns-in-5
+returns-in-5 c = rw c.in-1.is
+
+pub returns-in-6 : goal.returns-in-6
+returns-in-6 c = rw c.in-1.is
+
+pub returns-in_default : goal.returns-in_default
+returns-in_default c =
+    let r = c.in-1.rest in
+    simp (ne_eqb _ _ r.1, ne_eqb _ _ r.0.1, ne_eqb _ _ r.0.0.1, ne_eqb _ _ r.0.0.0.1, ne_eqb _ _ r.0.0.0.0.1, ne_eqb _ _ r.0.0.0.0.0.1)

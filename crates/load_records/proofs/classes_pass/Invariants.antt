@@ -1,0 +1,16 @@
+use native.Mathlib.Omega.{arith}
+use mathlib.Core.Path.{◌≡◌, refl, sym, ◌∙◌}
+use Prim.Native.Nat.{◌+◌, ◌*◌, ◌-◌, ◌≤◌}
+use lib.ListN.{length, length-set}
+use Rattle.load_places.specs.Records.{bad_class, class_place}
+use Rattle.load_places.specs.Index.{Placed}
+use Rattle.load_records.specs.Answer.{Upto}
+use Rattle.load_records.proofs.Known as known
+use Rattle.load_records.proofs.Passing as law
+use Rattle.load_records.proofs.classes_pass.Given as goal
+
+abbrev pub invariant-loop-k : goal.invariant-loop-k
+invariant-loop-k l = Upto (bad_class l.code) (class_place l.code) l.total l.k l.p × (l.p ≤ 8 + 258 * l.k) × (length l.classes ≡ length l.initial.classes) × Placed (class_place l.code) l.classes l.k
+
+abbrev pub decreases-loop-k : goal.decreases-loop-k
+decreases-loop-k l = l.total - l.k

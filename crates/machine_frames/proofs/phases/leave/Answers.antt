@@ -1,0 +1,7 @@
+-- `machine_frames::phases::leave` meets its contract.
+use borrow.Author.Rules.{rules}
+use Rattle.machine_frames.proofs.phases.leave.Goals as goal
+
+pub returns : goal.returns
+returns c =
+    record { wiped = c.wipe_activation.new.0; is-wiped = c.wipe_activation.ensures; bytes = c.put_byte.ensures }

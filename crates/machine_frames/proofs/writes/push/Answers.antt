@@ -1,0 +1,6 @@
+-- `machine_frames::writes::push` meets its contract.
+use borrow.Author.Rules.{rules}
+use Rattle.machine_frames.proofs.writes.push.Goals as goal
+
+pub returns : goal.returns
+returns c = rw c.put_operand.ensures
