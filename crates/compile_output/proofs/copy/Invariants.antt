@@ -7,12 +7,8 @@ use lib.Seq.{paste, paste-zero, length-paste}
 use Rattle.compile_output.specs.EmitRecord.{pasted, paste-turn}
 use Rattle.compile_output.proofs.copy.Given as goal
 
--- LOOPS [[['loop', 'loop-i'], ['from', 'count', 'out', 'at', 'i']]] ARGS []
-abbrev pub invariant-loop : goal.invariant-loop
-invariant-loop l = (i ≤ count) × (out ≡ paste out₀ at from i)
--- PARS ['from', 'count', 'out₀', 'at', 'i₀', 'out', 'i']
+abbrev pub invariant-loop-i : goal.invariant-loop-i
+invariant-loop-i l = (l.i ≤ l.count) × (l.out ≡ paste l.initial.out l.at l.from l.i)
 
--- LOOPS [[['loop', 'loop-i'], ['from', 'count', 'out', 'at', 'i']]] ARGS []
-abbrev pub decreases-loop : goal.decreases-loop
-decreases-loop l = count - i
--- PARS ['from', 'count', 'out₀', 'at', 'i₀', 'out', 'i']
+abbrev pub decreases-loop-i : goal.decreases-loop-i
+decreases-loop-i l = l.count - l.i

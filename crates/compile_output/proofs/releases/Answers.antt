@@ -12,7 +12,7 @@ pub loop-left-init : goal.loop-left-init
 loop-left-init c = (omega arith, refl, refl, c.requires, refl)
 
 pub emit-p-requires : goal.emit-p-requires
-emit-p-requires c = lets-fits c.loop-left.left c.loop-left.p (length c.loop-left.out-1) (omega arith) c.loop-left.invariant.3
+emit-p-requires c = lets-fits c.loop-left.left c.loop-left.p (length c.loop-left.out) (omega arith) c.loop-left.invariant.3
 
 pub loop-left-preserved : goal.loop-left-preserved
 loop-left-preserved c =
@@ -20,8 +20,8 @@ loop-left-preserved c =
     let wrote = c.emit-p in
     let n = turn.left in
     let p = turn.p in
-    let l = turn.out-1 in
-    let s : length wrote.new.0 ≡ length l = ap (length {A = ℕ}) wrote.ensures.1 ∙ length-emit p l 18 0 0 in (
+    let l = turn.out in
+    let s : length wrote.new.out ≡ length l = ap (length {A = ℕ}) wrote.ensures.1 ∙ length-emit p l 18 0 0 in (
       omega arith,
       rw wrote.ensures.0 (turn.invariant.1 ∙ lets-cursor n p (omega arith)),
       rw (wrote.ensures.0, wrote.ensures.1) (turn.invariant.2 ∙ lets-emitted n p l (omega arith)),
@@ -36,5 +36,5 @@ pub returns : goal.returns
 returns c =
     let last = c.loop-left in
     let e : last.left ≡ 0 = omega arith in
-    let none_left = lets-none last.left last.p last.out-1 e in
+    let none_left = lets-none last.left last.p last.out e in
     (sym (last.invariant.1 ∙ none_left.0), sym (last.invariant.2 ∙ none_left.1))

@@ -6,14 +6,10 @@ use Rattle.compile_output.specs.EmitRecord.{Fits, length-emit}
 use Rattle.compile_output.specs.EmitCode.{lets, cursor_after, emitted, lets-cursor, lets-emitted, lets-none, lets-fits}
 use Rattle.compile_output.proofs.releases.Given as goal
 
--- LOOPS [[['loop', 'loop-left'], ['out', 'count', 'left', 'p']]] ARGS []
-abbrev pub invariant-loop : goal.invariant-loop
-invariant-loop l =
-    (left ≤ count) × (cursor_after (lets count) p₀ ≡ cursor_after (lets left) p) × (emitted (lets count) p₀ out₀ ≡ emitted (lets left) p out)
-    × Fits (cursor_after (lets left) p) (length out) × (length out ≡ length out₀)
--- PARS ['out₀', 'count', 'left₀', 'p₀', 'out', 'left', 'p']
+abbrev pub invariant-loop-left : goal.invariant-loop-left
+invariant-loop-left l =
+    (l.left ≤ l.count) × (cursor_after (lets l.count) l.initial.p ≡ cursor_after (lets l.left) l.p) × (emitted (lets l.count) l.initial.p l.initial.out ≡ emitted (lets l.left) l.p l.out)
+    × Fits (cursor_after (lets l.left) l.p) (length l.out) × (length l.out ≡ length l.initial.out)
 
--- LOOPS [[['loop', 'loop-left'], ['out', 'count', 'left', 'p']]] ARGS []
-abbrev pub decreases-loop : goal.decreases-loop
-decreases-loop l = left
--- PARS ['out₀', 'count', 'left₀', 'p₀', 'out', 'left', 'p']
+abbrev pub decreases-loop-left : goal.decreases-loop-left
+decreases-loop-left l = l.left

@@ -11,13 +11,13 @@ use Rattle.compile_output.proofs.loops.enter_turns.Goals as goal
 pub overflow_cast-cursor : goal.overflow_cast-cursor
 overflow_cast-cursor c =
     let a = c.args in let f = c.requires.4 in
-    let s = address-small (code_entered a.cell a.cursor.address a.exit f.0) a.cursor (length a.out-1.now) f.2 in omega (arith, s)
+    let s = address-small (code_entered a.cell a.cursor.address a.exit f.0) a.cursor (length a.out.now) f.2 in omega (arith, s)
 
 pub put_rows-requires : goal.put_rows-requires
 put_rows-requires c =
     let a = c.args in let g = c.requires in let f = g.4 in (
       g.0,
-      address-small (code_entered a.cell a.cursor.address a.exit f.0) a.cursor (length a.out-1.now) f.2,
+      address-small (code_entered a.cell a.cursor.address a.exit f.0) a.cursor (length a.out.now) f.2,
       g.1,
       g.2,
       g.3,
@@ -27,4 +27,4 @@ put_rows-requires c =
 pub returns : goal.returns
 returns c = λ s k.
     let a = c.args in let e = c.put_rows.ensures in
-    (e.0 ∙ entered-after k a.cell a.cursor.address a.exit a.cursor, e.1 ∙ entered-written k a.cell a.cursor.address a.exit a.cursor a.out-1.now)
+    (e.0 ∙ entered-after k a.cell a.cursor.address a.exit a.cursor, e.1 ∙ entered-written k a.cell a.cursor.address a.exit a.cursor a.out.now)

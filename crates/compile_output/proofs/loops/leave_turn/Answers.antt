@@ -12,4 +12,4 @@ put_rows-requires c =
 pub returns : goal.returns
 returns c = λ s k.
     let a = c.args in let e = c.put_rows.ensures in
-    (e.0 ∙ turned-after k a.cell a.began a.exit a.cursor, e.1 ∙ turned-written k a.cell a.began a.exit a.cursor a.out-1.now)
+    (e.0 ∙ turned-after k a.cell a.began a.exit a.cursor, e.1 ∙ turned-written k a.cell a.began a.exit a.cursor a.out.now)

@@ -14,7 +14,7 @@ pub put_row-p-requires : goal.put_row-p-requires
 put_row-p-requires c =
     let a = c.args in let w = c.loop-i in
     let g = c.requires in
-    (g.2, g.3, g.4, rw (w.invariant.1, w.invariant.3) (fits-row a.pattern.now w.i (length a.pattern.now) a.depth (length a.out-1.now) a.cursor (omega arith) g.5))
+    (g.2, g.3, g.4, rw (w.invariant.1, w.invariant.3) (fits-row a.pattern.now w.i (length a.pattern.now) a.depth (length a.out.now) a.cursor (omega arith) g.5))
 
 pub loop-i-preserved : goal.loop-i-preserved
 loop-i-preserved c =
@@ -23,8 +23,8 @@ loop-i-preserved c =
     let e = c.put_row-p.ensures in let b = c.number_in.ensures in let i = w.i in (
       omega arith,
       e.0 ∙ rw w.invariant.1 (rows-cursor t i a.depth a.cursor),
-      e.1 ∙ rw (b, w.invariant.1, w.invariant.2) (rows-emitted t i a.holds a.depth ts a.cell a.start a.exit a.cursor a.out-1.now),
-      ap (length {A = ℕ}) e.1 ∙ (length-row a.holds a.depth ts c.number_in.result (get_or t i 0) w.p w.out-1 ∙ w.invariant.3),
+      e.1 ∙ rw (b, w.invariant.1, w.invariant.2) (rows-emitted t i a.holds a.depth ts a.cell a.start a.exit a.cursor a.out.now),
+      ap (length {A = ℕ}) e.1 ∙ (length-row a.holds a.depth ts c.number_in.result (get_or t i 0) w.p w.out ∙ w.invariant.3),
     )
 
 pub shape_of-out : goal.shape_of-out
@@ -35,7 +35,7 @@ returns c =
     let w = c.loop-i in let a = c.args in
     let e : w.i ≡ length a.pattern.now = omega arith in (
       w.invariant.1 ∙ ap (λ (n : ℕ). cursor_rows a.pattern.now n a.depth a.cursor) e,
-      w.invariant.2 ∙ ap (λ (n : ℕ). emit_rows a.pattern.now n a.holds a.depth (take a.depth a.stack.now) a.cell a.start a.exit a.cursor a.out-1.now) e,
+      w.invariant.2 ∙ ap (λ (n : ℕ). emit_rows a.pattern.now n a.holds a.depth (take a.depth a.stack.now) a.cell a.start a.exit a.cursor a.out.now) e,
     )
 
 pub number_in-requires : goal.number_in-requires

@@ -5,13 +5,9 @@ use lib.ListN.{length, get_or, take}
 use Rattle.compile_output.specs.Rows.{cursor_rows, emit_rows, fits-row, length-row, rows-cursor, rows-emitted}
 use Rattle.compile_output.proofs.loops.put_rows.Given as goal
 
--- LOOPS [[['loop', 'loop-i'], ['pattern', 'cell', 'start', 'exit', 'holds', 'stack', 'depth', 'out', 'i', 'p']]] ARGS []
-abbrev pub invariant-loop : goal.invariant-loop
-invariant-loop l =
-    (i ≤ length pattern) × (p ≡ cursor_rows pattern i depth p₀) × (out ≡ emit_rows pattern i holds depth (take depth stack) cell start exit p₀ out₀) × (length out ≡ length out₀)
--- PARS ['pattern', 'cell', 'start', 'exit', 'holds', 'stack', 'depth', 'out₀', 'i₀', 'p₀', 'out', 'i', 'p']
+abbrev pub invariant-loop-i : goal.invariant-loop-i
+invariant-loop-i l =
+    (l.i ≤ length l.pattern) × (l.p ≡ cursor_rows l.pattern l.i l.depth l.initial.p) × (l.out ≡ emit_rows l.pattern l.i l.holds l.depth (take l.depth l.stack) l.cell l.start l.exit l.initial.p l.initial.out) × (length l.out ≡ length l.initial.out)
 
--- LOOPS [[['loop', 'loop-i'], ['pattern', 'cell', 'start', 'exit', 'holds', 'stack', 'depth', 'out', 'i', 'p']]] ARGS []
-abbrev pub decreases-loop : goal.decreases-loop
-decreases-loop l = length pattern - i
--- PARS ['pattern', 'cell', 'start', 'exit', 'holds', 'stack', 'depth', 'out₀', 'i₀', 'p₀', 'out', 'i', 'p']
+abbrev pub decreases-loop-i : goal.decreases-loop-i
+decreases-loop-i l = length l.pattern - l.i

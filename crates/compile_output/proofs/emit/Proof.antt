@@ -13,20 +13,20 @@ use Rattle.compile_output.proofs.emit.Reads as reads
 use Rattle.compile_output.proofs.emit.Lts as lts
 use Rattle.compile_output.proofs.put_instruction.Reads as put-instruction-reads
 
-put-instruction-requires : tie.Need-put-instruction-requires
+put-instruction-requires : tie.Need-put_instruction-requires
 put-instruction-requires c κs =
     let at-start = c.before.before.before in
-    let r = at-start.requires.room (not-true at-start.args.p.dry c.before.if1.true) in omega (arith, r)
+    let r = at-start.requires.room (not-true at-start.args.p.dry c.before.if-not-dry.true) in omega (arith, r)
 
 -- the output after the test
-emits : (c : lts.After-struct-known (put-instruction-reads.Asked, put-instruction-reads.Learnt) reads.Pre reads.Post)
-    → let a = c.before.before.before.args in c.before.if1.out ≡ emit_op a.p a.out.now a.op a.a a.b
+emits : (c : lts.After-struct_known-1 (put-instruction-reads.Asked, put-instruction-reads.Learnt) reads.Pre reads.Post)
+    → let a = c.before.before.before.args in c.before.if-not-dry.out ≡ emit_op a.p a.out.now a.op a.a a.b
 emits c =
     let a = c.before.before.before.args in
     ⊎_elim (λ t. t.5 ∙ (t.2.ensures ∙ emit-writes a.p a.out.now a.op a.a a.b (not-true a.p.dry t.0.taken)))
-    (λ t. t.1 ∙ emit-dry a.p a.out.now a.op a.a a.b (not-false a.p.dry t.0.left)) c.before.if1.branch
+    (λ t. t.1 ∙ emit-dry a.p a.out.now a.op a.a a.b (not-false a.p.dry t.0.left)) c.before.if-not-dry.branch
 
-same_length : tie.Need-same-length
+same_length : tie.Need-shape_of-out
 same_length c =
     let a = c.before.before.before.args in
     ap (length {A = ℕ}) (emits c) ∙ length-emit a.p a.out.now a.op a.a a.b
@@ -34,5 +34,5 @@ same_length c =
 returns : tie.Need-returns
 returns c = (refl, emits c)
 
-pub emit-spec : {M : Type 1} → statement M
-emit-spec = tie.close (tie.spec put-instruction-requires (λ c. search rules) (λ c. search rules) same_length returns)
+pub emit_spec : {M : Type 1} → statement M
+emit_spec = tie.close (tie.spec put-instruction-requires (λ c. search rules) (λ c. search rules) same_length returns)

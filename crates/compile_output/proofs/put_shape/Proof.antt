@@ -13,27 +13,27 @@ use Rattle.compile_output.proofs.put_shape.Lts as lts
 use Rattle.compile_output.proofs.copy.Reads as copy-reads
 use Rattle.words.proofs.put_half.Reads as put-half-reads
 
-slice-write-out-2 : tie.Need-slice-write-out-2
+slice-write-out-2 : tie.Need-bounds-out-at-2
 slice-write-out-2 c = simp length-set (omega arith)
 
-put-half-requires : tie.Need-put-half-requires
+put-half-requires : tie.Need-put_half-requires
 put-half-requires c κs = simp length-set (omega arith)
 
 -- the address leaves the output's length as it is
-same : (c : lts.After-put-half (put-half-reads.Asked, put-half-reads.Learnt, copy-reads.Asked, copy-reads.Learnt) reads.Pre reads.Post)
-    → length c.put-half.new.0 ≡ length c.before.before.before.before.args.out.now
-same c = ap (length {A = ℕ}) c.put-half.ensures ∙ simp (length-sets, length-set)
+same : (c : lts.After-put_half (put-half-reads.Asked, put-half-reads.Learnt, copy-reads.Asked, copy-reads.Learnt) reads.Pre reads.Post)
+    → length c.put_half.new.s ≡ length c.before.before.before.before.args.out.now
+same c = ap (length {A = ℕ}) c.put_half.ensures ∙ simp (length-sets, length-set)
 
-slice-write-out-3 : tie.Need-slice-write-out-3
+slice-write-out-3 : tie.Need-bounds-out-at-3
 slice-write-out-3 c = omega (arith, same c.before.before)
 
-slice-write-out-4 : tie.Need-slice-write-out-4
+slice-write-out-4 : tie.Need-bounds-out-at-4
 slice-write-out-4 c = simp length-set (omega (arith, same c.before.before))
 
 copy-requires : tie.Need-copy-requires
 copy-requires c κs = (omega arith, simp length-set (omega (arith, same c.before.before.before)))
 
-same_length : tie.Need-same-length
+same_length : tie.Need-shape_of-out
 same_length c =
     let half = c.before.before.before.before.before.before in
     ap (length {A = ℕ}) c.before.before.copy.ensures ∙ simp (length-sets, length-set) (same half)
@@ -42,11 +42,11 @@ returns : tie.Need-returns
 returns c =
     let half = c.before.before.before.before.before.before in
     let a = half.before.before.before.before.args in
-    (rw half.put-half.ensures at c.before.before.copy.ensures)
+    (rw half.put_half.ensures at c.before.before.copy.ensures)
     ∙ shape-written a.out.now a.at a.address a.holds a.depth (take a.depth a.stack.now)
 
-pub put-shape-spec : {M : Type 1} → statement M
-put-shape-spec =
+pub put_shape_spec : {M : Type 1} → statement M
+put_shape_spec =
     tie.close
     (tie.spec
     (λ c. search rules)
