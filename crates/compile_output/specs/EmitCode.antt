@@ -9,7 +9,7 @@ use Rattle.values.specs.Types.{ty_byte}
 use Rattle.bytecode.specs.Macro.{Shape}
 use Rattle.bytecode.specs.Macro.{Code as Record}
 use Rattle.bytecode.specs.Instructions.{Instr, let_hold}
-use Rattle.compile_code.specs.Code.{Code, nil, op, mark, cell, ◌▸◌, At, at, after}
+use Rattle.compile_code.specs.Code.{Code, nil, op, mark, cell, ◌▸◌, At, after}
 use Rattle.compile_code.specs.Encode.{rec, record_of, code_bytes, shape_bytes}
 use Rattle.compile_output.specs.declared.Cursor.{Cursor}
 use Rattle.compile_output.specs.EmitRecord.{instruction, moved, cursor_marked, cursor_shaped, emit_op, emit_shape, Fits, length-shape}

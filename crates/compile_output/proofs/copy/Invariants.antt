@@ -1,10 +1,6 @@
-use native.Mathlib.Omega.{arith}
-use mathlib.Core.Path.{◌≡◌, ap, ◌∙◌}
-use mathlib.Core.List.{List}
-use Prim.Native.Nat.{ℕ, ◌+◌, ◌-◌, ◌≤◌}
-use lib.ListN.{length, set, get_or}
-use lib.Seq.{paste, paste-zero, length-paste}
-use Rattle.compile_output.specs.EmitRecord.{pasted, paste-turn}
+use mathlib.Core.Path.{◌≡◌}
+use Prim.Native.Nat.{◌-◌, ◌≤◌}
+use lib.Seq.{paste}
 use Rattle.compile_output.proofs.copy.Given as goal
 
 abbrev pub invariant-loop-i : goal.invariant-loop-i

@@ -2,10 +2,10 @@
 -- Assumes nothing.
 use native.Mathlib.Omega.{arith}
 use mathlib.Core.Path.{◌≡◌, refl, sym, ap, ◌∙◌}
-use Prim.Native.Nat.{ℕ, ◌≤◌}
+use Prim.Native.Nat.{ℕ}
 use lib.ListN.{length}
-use Rattle.compile_output.specs.EmitRecord.{Fits, length-emit}
-use Rattle.compile_output.specs.EmitCode.{lets, cursor_after, emitted, lets-cursor, lets-emitted, lets-none, lets-fits}
+use Rattle.compile_output.specs.EmitRecord.{length-emit}
+use Rattle.compile_output.specs.EmitCode.{lets-cursor, lets-emitted, lets-none, lets-fits}
 use Rattle.compile_output.proofs.releases.Goals as goal
 
 pub loop-left-init : goal.loop-left-init

@@ -1,9 +1,8 @@
-use native.Mathlib.Omega.{arith}
-use mathlib.Core.Path.{◌≡◌, refl, sym, ap, ◌∙◌}
-use Prim.Native.Nat.{ℕ, ◌≤◌}
+use mathlib.Core.Path.{◌≡◌}
+use Prim.Native.Nat.{◌≤◌}
 use lib.ListN.{length}
-use Rattle.compile_output.specs.EmitRecord.{Fits, length-emit}
-use Rattle.compile_output.specs.EmitCode.{lets, cursor_after, emitted, lets-cursor, lets-emitted, lets-none, lets-fits}
+use Rattle.compile_output.specs.EmitRecord.{Fits}
+use Rattle.compile_output.specs.EmitCode.{lets, cursor_after, emitted}
 use Rattle.compile_output.proofs.releases.Given as goal
 
 abbrev pub invariant-loop-left : goal.invariant-loop-left

@@ -1,7 +1,6 @@
 -- `compile_output::loops::enter_turns` meets its contract: the rows of its pattern come to the code.
 use mathlib.Core.Path.{◌∙◌}
 use native.Mathlib.Omega.{arith}
-use borrow.Author.Rules.{rules}
 use lib.ListN.{length}
 use Rattle.compile_code.specs.Compile.{code_entered}
 use Rattle.compile_output.specs.EmitCode.{address-small}

@@ -1,6 +1,5 @@
 -- `compile_output::loops::leave_turn` meets its contract: the rows of its pattern come to the code.
 use mathlib.Core.Path.{◌∙◌}
-use borrow.Author.Rules.{rules}
 use Rattle.compile_output.specs.LoopRows.{turned-after, turned-written}
 use Rattle.compile_output.proofs.loops.leave_turn.Goals as goal
 

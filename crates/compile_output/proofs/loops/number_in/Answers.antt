@@ -1,6 +1,5 @@
 -- `compile_output::loops::number_in` meets its contract.
 use borrow.Author.Tests.{ne_eqb}
-use borrow.Author.Rules.{rules}
 use Rattle.compile_output.specs.Rows.{ahead-sum}
 use Rattle.compile_output.proofs.loops.number_in.Goals as goal
 

@@ -1,6 +1,5 @@
 -- `compile_output::loops::put_row` meets its contract, by whether the row is a shape.
 use borrow.Author.Tests.{eq-eqb, ne_eqb}
-use borrow.Author.Rules.{rules}
 use Rattle.compile_output.proofs.loops.put_row.Goals as goal
 
 pub shape-requires : goal.shape-requires

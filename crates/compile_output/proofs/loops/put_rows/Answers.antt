@@ -1,7 +1,7 @@
 -- `compile_output::loops::put_rows` meets its contract: after i turns the first i rows are written.
 use mathlib.Core.Path.{◌≡◌, refl, ap, ◌∙◌}
 use native.Mathlib.Omega.{arith}
-use Prim.Native.Nat.{ℕ, ◌-◌, ◌≤◌}
+use Prim.Native.Nat.{ℕ}
 use lib.ListN.{length, get_or, take}
 use Rattle.compile_output.specs.Rows.{cursor_rows, emit_rows, fits-row, length-row, rows-cursor, rows-emitted}
 use Rattle.compile_output.proofs.loops.put_rows.Goals as goal

@@ -1,8 +1,7 @@
-use mathlib.Core.Path.{◌≡◌, refl, ap, ◌∙◌}
-use native.Mathlib.Omega.{arith}
-use Prim.Native.Nat.{ℕ, ◌-◌, ◌≤◌}
-use lib.ListN.{length, get_or, take}
-use Rattle.compile_output.specs.Rows.{cursor_rows, emit_rows, fits-row, length-row, rows-cursor, rows-emitted}
+use mathlib.Core.Path.{◌≡◌}
+use Prim.Native.Nat.{◌-◌, ◌≤◌}
+use lib.ListN.{length, take}
+use Rattle.compile_output.specs.Rows.{cursor_rows, emit_rows}
 use Rattle.compile_output.proofs.loops.put_rows.Given as goal
 
 abbrev pub invariant-loop-i : goal.invariant-loop-i
