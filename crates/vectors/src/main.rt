@@ -1,10 +1,13 @@
 // Answers test vectors: reads records of 12 bytes from standard input, has the proved functions compute each, and prints a line for it.
 // The second evaluator makes records and lines, so a difference shows wrong code before it is proved, and a wrong definition after.
+#![tactic(auto)]
+
 mod operators;
 
-ghost use Rattle.std.specs.Prelude.{◌+◌, ◌≤◌, length};
+ghost use Rattle.std.specs.Prelude.{◌≡◌, ◌+◌, ◌≤◌, IfOk, length};
 
-use libc::{STDIN_FILENO, STDOUT_FILENO};
+use std::io;
+use std::io::Read;
 
 // What a record comes to: the word of a result, the number of a condition, or nothing where it asks for no operator.
 #[derive(Drop)]
@@ -23,38 +26,61 @@ fn evaluate(s: &[u8], at: usize) -> Answer
     operators::apply(s[at], s[at + 1], x, y)
 }
 
-fn print_number(n: u32) {
-    io::print_decimal(STDOUT_FILENO, n as u64);
+fn print_number(rt: &impl Print, n: u32) -> io::Result<()> {
+    rt.print(n)
 }
 
-fn print(a: Answer) {
+fn print(rt: &impl Print, a: Answer) -> io::Result<()> {
     match a {
         Answer::Gives(w) => {
-            io::write_all(STDOUT_FILENO, b"gives ");
-            print_number(w);
+            rt.write_all(b"gives ")?;
+            print_number(rt, w)?;
         }
         Answer::Ends(c) => {
-            io::write_all(STDOUT_FILENO, b"ends ");
-            print_number(c as u32);
+            rt.write_all(b"ends ")?;
+            print_number(rt, c as u32)?;
         }
         Answer::Unknown => {
-            io::write_all(STDOUT_FILENO, b"unknown");
+            rt.write_all(b"unknown")?;
         }
     }
-    io::write_all(STDOUT_FILENO, b"\n");
+    rt.write_all(b"\n")
 }
 
 // Whole records only: bytes after the last are no record.
-fn print_all(s: &[u8]) {
+fn print_all(rt: &impl Print, s: &[u8]) -> io::Result<()> {
     let mut at = 0;
     while 12 <= s.len() - at {
-        print(evaluate(s, at));
+        print(rt, evaluate(s, at))?;
         at += 12;
     }
+    Ok(())
 }
 
-fn main() {
-    let mut buffer = io::large_buffer();
-    let n = io::read_full(STDIN_FILENO, &mut buffer);
-    print_all(&buffer[..n]);
+// Room for the records that are read.
+fn large_buffer() -> [u8; 65536]
+    ensures { 65536 ≡ length result }
+{
+    [0; 65536]
+}
+
+// Reads until `buf` is full or the input ends, and answers how many bytes stand at its front.
+fn read_full(from: &mut impl Read, buf: &mut [u8]) -> io::Result<usize>
+    ensures { IfOk result (λ n. n ≤ length buf.new) }
+{
+    let mut done = 0;
+    while done < buf.len() {
+        let n = from.read(&mut buf[done..])?;
+        if n == 0 {
+            break;
+        }
+        done += n;
+    }
+    Ok(done)
+}
+
+fn main(rt: HostRuntime) -> io::Result<()> {
+    let mut buffer = large_buffer();
+    let n = read_full(&mut rt.reader(), &mut buffer)?;
+    print_all(&rt, &buffer[..n])
 }
