@@ -18,7 +18,7 @@ use Rattle.bytecode.specs.Rules.{effect, flow, at_first}
 use Rattle.compile_code.specs.Code.{Code, At, at}
 use Rattle.compile_code.specs.Compile.{Around, inside, global, labels, held_in, code_items, ty_e, ty_in, Proc}
 use Rattle.compile_code.specs.Encode.{code_root, code_proc, code_body, parameter_cells, root_variables, start_of_root, around_body}
-use Rattle.compile_rules.specs.Flows.{Goes, Seg, Marks, holds}
+use Rattle.compile_rules.specs.Flows.{Goes, Seg, Marks}
 use Rattle.compile_rules.specs.Faultless.{shape-refl}
 use Rattle.compile_rules.specs.Pass.{Celled, OkHead, OkS, OkItems, OkE, Reaches, quiet-global, pass_head, pass_s, pass_items, pass_e, aims}
 use Rattle.compile_macro.specs.Cells.{Cells, Known, cells-head, cells_ok_s, cells_ok_items, cells_ok_e}

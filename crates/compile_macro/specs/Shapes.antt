@@ -20,7 +20,7 @@ use Rattle.logic.specs.Lists.{Each}
 use Rattle.logic.specs.OptionLaws.{never-some, same_some}
 use Rattle.logic.specs.ListLaws.{index_below}
 use Rattle.bytecode_laws.specs.Terms.{Named}
-use Rattle.compile_code.specs.Code.{Code, op, cell, ◌▸◌, At, at, ahead, skip, after}
+use Rattle.compile_code.specs.Code.{Code, op, ◌▸◌, At, at, ahead, skip, after}
 use Rattle.compile_code.specs.Compile.{Around, inside, outermost, bound, global, held, labels, scopes_of, passing, the_labels, has_label, label_at, Way, plainly, marked}
 use Rattle.compile_code.specs.Compile.{if_true, if_false, way_of, code_way, code_goto, code_head, code_s, code_items, code_arms, code_target, code_e, code_es, ty_target, ty_e}
 use Rattle.compile_code.specs.Compile.{found, code_stored, code_downward, code_upward, code_once, code_entered, code_turned}
