@@ -1,0 +1,26 @@
+-- `table_scopes::environment::find` meets its contract.
+use native.Mathlib.Omega.{arith}
+use mathlib.Core.Path.{sym, ◌∙◌}
+use Rattle.table_scopes.specs.EnvironmentLaws.{find-hit, find-miss, find_none, passing-none}
+use Rattle.table_scopes.proofs.environment.find.Goals as goal
+
+pub loop-i-init : goal.loop-i-init
+loop-i-init c = (passing-none _, omega arith)
+
+pub returns-then-n-name : goal.returns-then-n-name
+returns-then-n-name c =
+    sym (c.loop-i.invariant.0
+    ∙ find-hit c.args.env.now
+    c.args.name c.loop-i.i
+    c.loop-i.passed (omega arith) c.if-n-name.true)
+
+pub loop-i-preserved : goal.loop-i-preserved
+loop-i-preserved c = (
+  c.loop-i.invariant.0 ∙ find-miss c.args.env.now
+      c.args.name c.loop-i.i
+      c.loop-i.passed (omega arith) c.if-n-name.false ∙ rw c.walled-passed.ensures,
+  omega arith,
+)
+
+pub returns : goal.returns
+returns c = sym (c.loop-i.invariant.0 ∙ find_none c.args.env.now c.args.name c.loop-i.i c.loop-i.passed (omega arith))
