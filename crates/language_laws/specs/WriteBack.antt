@@ -14,7 +14,7 @@ use Rattle.logic.specs.Options.{is_some}
 use Rattle.logic.specs.Choice.{if◌then◌else◌}
 use Rattle.values.specs.Operators.{negate, plus, unary_of, binary_of}
 use Rattle.language.specs.Tree.{Typed, Decl, Items, Target, Exprs, Stmt, block, assign, when, choose, while, assert, call, set_level, select, for, to_field, Expr, invoke, field}
-use Rattle.language.specs.Tree.{make, operate1, operate2, conditional, fader, block_expr, expr, count_items, count_arms, count_exprs}
+use Rattle.language.specs.Tree.{make, operate1, operate2, conditional, fader, block_expr, count_items, count_arms, count_exprs}
 use Rattle.language.specs.Table as T
 use Rattle.language.specs.Table.{Entry, entry, in_layout, natural, as_typed, ty_of_code, Reader, made, first, form_typed, form_decl, Part, label_part, stmt_part, items_of, arms_of}
 use Rattle.language.specs.Table.{exprs_of, Below, form_s, form_part, form_target, form_e, below}

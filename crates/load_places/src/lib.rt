@@ -1,5 +1,6 @@
 // A compiled macro by the places of its records: the form that the loading check computes. The definitions are in specs/; here the types of
 // what the check's functions answer, so that whoever calls them names no crate of the check but its face, `load_check`.
+#![tactic(auto)]
 
 // The index of shapes has one place for so many addresses on end: where the first of their shapes stands.
 pub const SHAPE_GROUP: usize = 8;

@@ -1,4 +1,6 @@
 // The record pass: whether a macro's records read, and where each class, body and shape stands.
+#![tactic(auto)]
+
 ghost use Rattle.std.specs.Prelude.{◌≡◌, true, false, cond, not, ◌&&◌, ◌||◌, ℕ, ◌+◌, ◌*◌, ◌/◌, ◌-◌, ◌≤◌, ◌<◌, length, set, eqb, ltb};
 ghost use Rattle.load_places.specs.Search.{first};
 ghost use Rattle.load_places.specs.Records.{classes as class_count, count, class_place, body_place, code_base, shape_place, no_mark, no_type, bad_types, bad_head, bad_class};

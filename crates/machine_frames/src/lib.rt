@@ -1,5 +1,7 @@
 // The numbers of a run state in its 24,576 bytes (docs/STATE.md): reading them, and the stores by which a step moves a state in place.
 // An activation is named by the place of its first byte, `frame`. What a store takes away it leaves 0, so that unused bytes are always 0.
+#![tactic(auto)]
+
 mod phases;
 mod reads;
 mod writes;

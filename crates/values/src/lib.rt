@@ -1,5 +1,7 @@
 // The operators of kinds 48 and 49, each equal to its definition in specs/Arithmetic.antt and specs/Values.antt.
 // Equality on logical values, bits and references is `==` on their words and has no function here.
+#![tactic(auto)]
+
 mod bits;
 mod conditions;
 mod integers;

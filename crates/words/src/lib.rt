@@ -1,4 +1,6 @@
 // Numbers in byte slices, little-endian, and the two readings of 32 bits: as a number and as an integer in two's complement.
+#![tactic(auto)]
+
 pub mod wide;
 
 ghost use Rattle.std.specs.Prelude.{◌≡◌, ◌+◌, ◌*◌, ◌≤◌, length};

@@ -2,7 +2,6 @@
 use native.Mathlib.Omega.{arith}
 use mathlib.Core.Path.{sym, ◌∙◌}
 use Rattle.load_records.proofs.Tests as law
-use borrow.Author.Rules.{rules}
 use Rattle.load_records.proofs.bad_head.Goals as goal
 
 pub returns-then-no_mark : goal.returns-then-no_mark

@@ -1,10 +1,6 @@
 -- `load_records::bad_types` meets its contract. Going down, `bad` is the first of the bytes passed that is no type, or their number.
 use native.Mathlib.Omega.{arith}
-use mathlib.Core.Path.{◌≡◌, ◌∙◌}
-use Prim.Native.Nat.{◌+◌, ◌-◌, ◌≤◌}
-use Rattle.words.specs.Numbers.{byte_at}
-use Rattle.load_places.specs.Search.{seek}
-use Rattle.load_places.specs.Records.{no_type}
+use mathlib.Core.Path.{◌∙◌}
 use Rattle.load_records.proofs.Search.{seek-start, seek-down}
 use Rattle.load_records.proofs.Tests as law
 use Rattle.load_records.proofs.bad_types.Goals as goal

@@ -1,11 +1,8 @@
-use native.Mathlib.Omega.{arith}
-use mathlib.Core.Path.{◌≡◌, ◌∙◌}
+use mathlib.Core.Path.{◌≡◌}
 use Prim.Native.Nat.{◌+◌, ◌-◌, ◌≤◌}
 use Rattle.words.specs.Numbers.{byte_at}
 use Rattle.load_places.specs.Search.{seek}
 use Rattle.load_places.specs.Records.{no_type}
-use Rattle.load_records.proofs.Search.{seek-start, seek-down}
-use Rattle.load_records.proofs.Tests as law
 use Rattle.load_records.proofs.bad_types.Given as goal
 
 abbrev pub invariant-loop-i : goal.invariant-loop-i

@@ -4,7 +4,6 @@ use mathlib.Core.Path.{◌≡◌, refl, sym, ◌∙◌}
 use mathlib.Core.Bool.{true}
 use Prim.Native.Nat.{◌+◌, ◌*◌, ◌-◌, ◌≤◌, ◌<◌}
 use lib.ListN.{length, length-set}
-use borrow.Author.Tests.{not-true, not-false}
 use Rattle.load_places.specs.Records.{bad_body, body_place, body_fits, first_of}
 use Rattle.load_places.specs.Index.{Placed}
 use Rattle.load_records.specs.Answer.{Upto}

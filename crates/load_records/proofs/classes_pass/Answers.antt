@@ -1,11 +1,8 @@
 -- `load_records::classes_pass` meets its contract. The loop has come to the k-th class, at p, met no bad one, and put the places passed into the index.
 use native.Mathlib.Omega.{arith}
-use mathlib.Core.Path.{◌≡◌, refl, sym, ◌∙◌}
-use Prim.Native.Nat.{◌+◌, ◌*◌, ◌-◌, ◌≤◌}
-use lib.ListN.{length, length-set}
-use Rattle.load_places.specs.Records.{bad_class, class_place}
-use Rattle.load_places.specs.Index.{Placed}
-use Rattle.load_records.specs.Answer.{Upto}
+use mathlib.Core.Path.{refl, sym, ◌∙◌}
+use lib.ListN.{length-set}
+use Rattle.load_places.specs.Records.{class_place}
 use Rattle.load_records.proofs.Known as known
 use Rattle.load_records.proofs.Passing as law
 use Rattle.load_records.proofs.classes_pass.Goals as goal

@@ -1,12 +1,9 @@
-use native.Mathlib.Omega.{arith}
-use mathlib.Core.Path.{◌≡◌, refl, sym, ◌∙◌}
+use mathlib.Core.Path.{◌≡◌}
 use Prim.Native.Nat.{◌+◌, ◌*◌, ◌-◌, ◌≤◌}
-use lib.ListN.{length, length-set}
+use lib.ListN.{length}
 use Rattle.load_places.specs.Records.{bad_class, class_place}
 use Rattle.load_places.specs.Index.{Placed}
 use Rattle.load_records.specs.Answer.{Upto}
-use Rattle.load_records.proofs.Known as known
-use Rattle.load_records.proofs.Passing as law
 use Rattle.load_records.proofs.classes_pass.Given as goal
 
 abbrev pub invariant-loop-k : goal.invariant-loop-k

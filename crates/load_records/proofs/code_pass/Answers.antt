@@ -1,9 +1,7 @@
 -- `load_records::code_pass` meets its contract. Going down, `bad` is the first of the whole instructions passed that has no mark, or their number.
 use native.Mathlib.Omega.{arith}
-use mathlib.Core.Path.{◌≡◌, ◌∙◌}
-use Prim.Native.Nat.{◌-◌, ◌≤◌}
-use Rattle.load_places.specs.Search.{seek}
-use Rattle.load_places.specs.Records.{bad_code}
+use mathlib.Core.Path.{◌∙◌}
+use Prim.Native.Nat.{◌-◌}
 use Rattle.load_records.proofs.Search.{seek-start, seek-down}
 use Rattle.load_records.proofs.Passing as law
 use Rattle.load_records.proofs.code_pass.Goals as goal

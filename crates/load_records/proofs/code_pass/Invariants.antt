@@ -1,10 +1,7 @@
-use native.Mathlib.Omega.{arith}
-use mathlib.Core.Path.{◌≡◌, ◌∙◌}
+use mathlib.Core.Path.{◌≡◌}
 use Prim.Native.Nat.{◌-◌, ◌≤◌}
 use Rattle.load_places.specs.Search.{seek}
 use Rattle.load_places.specs.Records.{bad_code}
-use Rattle.load_records.proofs.Search.{seek-start, seek-down}
-use Rattle.load_records.proofs.Passing as law
 use Rattle.load_records.proofs.code_pass.Given as goal
 
 abbrev pub invariant-loop-i : goal.invariant-loop-i

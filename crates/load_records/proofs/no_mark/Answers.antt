@@ -2,7 +2,6 @@
 use native.Mathlib.Omega.{arith}
 use mathlib.Core.Path.{sym, ◌∙◌}
 use Rattle.load_records.proofs.Tests.{cut, whole}
-use borrow.Author.Rules.{rules}
 use Rattle.load_records.proofs.no_mark.Goals as goal
 
 pub returns-then-code-place : goal.returns-then-code-place

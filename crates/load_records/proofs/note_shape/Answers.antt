@@ -1,5 +1,4 @@
 -- `load_records::note_shape` meets its contract: a law for each exit.
-use native.Mathlib.Omega.{arith}
 use lib.ListN.{length-set}
 use Rattle.load_records.proofs.Passing as law
 use Rattle.load_records.proofs.note_shape.Goals as goal

@@ -1,7 +1,6 @@
 -- `load_records::read_end` meets its contract, a law for each exit.
 use mathlib.Core.Path.{refl, sym, ◌∙◌}
 use Rattle.load_records.proofs.Tests as law
-use borrow.Author.Rules.{rules}
 use Rattle.load_records.proofs.read_end.Goals as goal
 
 pub returns-then-no_mark : goal.returns-then-no_mark

@@ -2,7 +2,6 @@
 use mathlib.Core.Path.{sym, ap, ◌∙◌}
 use mathlib.Core.Bool.{not}
 use Rattle.load_records.proofs.Tests as law
-use borrow.Author.Rules.{rules}
 use Rattle.load_records.proofs.result_fits.Goals as goal
 
 pub returns-then-byte-eq0 : goal.returns-then-byte-eq0

@@ -2,7 +2,6 @@
 use native.Mathlib.Omega.{arith}
 use mathlib.Core.Path.{◌≡◌, sym, ◌∙◌}
 use mathlib.Core.Bool.{true}
-use borrow.Author.Tests.{not-true, not-false}
 use Rattle.load_records.specs.Answer.{typed_fits}
 use Rattle.load_records.proofs.Tests as law
 use borrow.Author.Rules.{rules}

@@ -5,7 +5,6 @@ use mathlib.Core.Path.{◌≡◌, refl, sym, ◌∙◌}
 use mathlib.Core.Bool.{true}
 use Prim.Native.Nat.{◌+◌, ◌*◌, ◌-◌, ◌≤◌}
 use lib.ListN.{length}
-use borrow.Author.Tests.{not-true, not-false}
 use Rattle.load_places.specs.Records.{bad_shape, shape_place, shape_fits, least}
 use Rattle.load_places.specs.Index.{Indexed}
 use Rattle.load_records.specs.Answer.{Upto}

@@ -3,7 +3,6 @@ use native.Mathlib.Omega.{arith}
 use mathlib.Core.Path.{sym, ap, ◌∙◌}
 use mathlib.Core.Bool.{not}
 use Rattle.load_records.proofs.Tests as law
-use borrow.Author.Rules.{rules}
 use Rattle.load_records.proofs.typed_fits.Goals as goal
 
 pub returns-then-no_mark : goal.returns-then-no_mark

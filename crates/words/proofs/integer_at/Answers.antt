@@ -1,5 +1,4 @@
 -- `words::integer_at` meets its contract.
-use borrow.Author.Rules.{rules}
 use mir.Syntax.{w32}
 use mir.ValLaws.{to_z-of_z}
 use Rattle.words.proofs.integer_at.Goals as goal

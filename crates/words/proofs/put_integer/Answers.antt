@@ -1,5 +1,4 @@
 -- `words::put_integer` meets its contract.
-use borrow.Author.Rules.{rules}
 use mir.Syntax.{w32}
 use mir.ValLaws.{to_z-of_z}
 use Rattle.words.proofs.put_integer.Goals as goal

@@ -1,10 +1,8 @@
 -- `machine_frames::phases::clear` meets its contract.
 use Rattle.machine_frames.proofs.Clearing.{none-cleared, one-cleared}
-use Rattle.bytecode.specs.State.{zeros}
-use Prim.Native.Nat.{ℕ, ◌+◌, ◌-◌, ◌≤◌}
+use Prim.Native.Nat.{ℕ, ◌+◌}
 use mathlib.Core.List.{List}
-use lib.Seq.{sets}
-use lib.ListN.{length, set, length-set}
+use lib.ListN.{set, length-set}
 use mathlib.Core.Path.{◌≡◌, refl, ◌∙◌, ap}
 use native.Mathlib.Omega.{arith}
 use Rattle.machine_frames.proofs.phases.clear.Goals as goal

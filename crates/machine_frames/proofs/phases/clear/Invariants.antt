@@ -1,11 +1,8 @@
-use Rattle.machine_frames.proofs.Clearing.{none-cleared, one-cleared}
 use Rattle.bytecode.specs.State.{zeros}
-use Prim.Native.Nat.{ℕ, ◌+◌, ◌-◌, ◌≤◌}
-use mathlib.Core.List.{List}
+use Prim.Native.Nat.{◌-◌, ◌≤◌}
 use lib.Seq.{sets}
-use lib.ListN.{length, set, length-set}
-use mathlib.Core.Path.{◌≡◌, refl, ◌∙◌, ap}
-use native.Mathlib.Omega.{arith}
+use lib.ListN.{length}
+use mathlib.Core.Path.{◌≡◌}
 use Rattle.machine_frames.proofs.phases.clear.Given as goal
 
 abbrev pub invariant-loop-k : goal.invariant-loop-k

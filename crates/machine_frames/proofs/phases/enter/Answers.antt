@@ -1,5 +1,4 @@
 -- `machine_frames::phases::enter` meets its contract.
-use borrow.Author.Rules.{rules}
 use Rattle.machine_frames.proofs.phases.enter.Goals as goal
 
 pub returns : goal.returns

@@ -1,5 +1,4 @@
 -- `machine_frames::phases::leave` meets its contract.
-use borrow.Author.Rules.{rules}
 use Rattle.machine_frames.proofs.phases.leave.Goals as goal
 
 pub returns : goal.returns

@@ -1,5 +1,4 @@
 -- `machine_frames::phases::make_record` meets its contract.
-use borrow.Author.Rules.{rules}
 use Rattle.machine_frames.proofs.phases.make_record.Goals as goal
 
 pub returns : goal.returns

@@ -1,5 +1,4 @@
 -- `machine_frames::phases::take_hold` meets its contract.
-use borrow.Author.Rules.{rules}
 use Rattle.machine_frames.proofs.phases.take_hold.Goals as goal
 
 pub returns : goal.returns

@@ -1,5 +1,4 @@
 -- `machine_frames::writes::push` meets its contract.
-use borrow.Author.Rules.{rules}
 use Rattle.machine_frames.proofs.writes.push.Goals as goal
 
 pub returns : goal.returns

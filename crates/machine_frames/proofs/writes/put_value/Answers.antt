@@ -1,5 +1,4 @@
 -- `machine_frames::writes::put_value` meets its contract.
-use borrow.Author.Rules.{rules}
 use Rattle.machine_frames.proofs.writes.put_value.Goals as goal
 
 pub returns : goal.returns

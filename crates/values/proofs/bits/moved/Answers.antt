@@ -2,7 +2,6 @@
 use borrow.Author.Tests.{lt-ltb}
 use Rattle.values.specs.Arithmetic.{left_by, right_by}
 use Rattle.values.proofs.Digits.{moved_out}
-use borrow.Author.Rules.{rules}
 use Rattle.values.proofs.bits.moved.Goals as goal
 
 pub returns-then-n-ge32 : goal.returns-then-n-ge32

@@ -2,7 +2,6 @@
 use mir.Syntax.{w32}
 use mir.ValLaws.{to_z-of_z}
 use Rattle.values.proofs.Digits.{shifts_right}
-use borrow.Author.Rules.{rules}
 use Rattle.values.proofs.bits.shift_right.Goals as goal
 
 pub returns : goal.returns

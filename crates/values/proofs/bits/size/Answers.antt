@@ -8,7 +8,6 @@ use mir.Val.{to_z, of_z}
 use mir.ValLaws.{to_z-of_z}
 use Rattle.words.specs.Integers.{widened}
 use Rattle.values.proofs.Exact.{wide, widens, negated, negative, positive, size_below}
-use borrow.Author.Rules.{rules}
 use Rattle.values.proofs.bits.size.Goals as goal
 
 pub overflow_cast-result : goal.overflow_cast-result

@@ -2,7 +2,6 @@
 use mir.Syntax.{w32}
 use mir.ValLaws.{to_z-of_z}
 use Rattle.values.proofs.Exact.{settled, negative, positive}
-use borrow.Author.Rules.{rules}
 use Rattle.values.proofs.integers.absolute.Goals as goal
 
 pub returns-then-x-lt0 : goal.returns-then-x-lt0

@@ -4,7 +4,6 @@ use mir.Syntax.{w32}
 use mir.ValLaws.{to_z-of_z}
 use Rattle.values.specs.Answers.{computed}
 use Rattle.values.proofs.Exact.{zero-divides, quotient-minus-one, divides, quotient-exact}
-use borrow.Author.Rules.{rules}
 use Rattle.values.proofs.integers.divide.Goals as goal
 
 pub returns-then-y-eq0 : goal.returns-then-y-eq0

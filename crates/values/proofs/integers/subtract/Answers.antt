@@ -1,7 +1,6 @@
 -- `values::integers::subtract` meets its contract.
 use lib.IntN.{◌-ℤ◌}
 use Rattle.values.proofs.Exact.{widens, exact, exact-fits, difference-holds}
-use borrow.Author.Rules.{rules}
 use Rattle.values.proofs.integers.subtract.Goals as goal
 
 pub overflow_cast-x : goal.overflow_cast-x
