@@ -1,5 +1,7 @@
 // The loading check: the loading rules, address by address, over the places that the record pass found. What goes from an address to the next is
 // here; the walk itself, which also tests a state on its way, is in `state_check`.
+#![tactic(auto)]
+
 mod lookup;
 mod ops;
 mod shapes;

@@ -1,0 +1,33 @@
+-- `load_rules::ops::op_make` meets its contract.
+use native.Mathlib.Omega.{arith}
+use mathlib.Core.Path.{◌∙◌}
+use borrow.Author.Tests.{ne_eqb}
+use Rattle.load_places.specs.Rules.{op_make}
+use Rattle.load_records.proofs.Known.{head_of}
+use Rattle.load_rules.proofs.Fields.{make-over, make-goes}
+use Rattle.load_rules.proofs.ops.op_make.Goals as goal
+
+pub returns-then-b-ne0 : goal.returns-then-b-ne0
+unfolding op_make
+returns-then-b-ne0 c = (simp (ne_eqb _ _ c.if-b-ne0.true), tt)
+
+pub byte_at-n-requires : goal.byte_at-n-requires
+byte_at-n-requires c =
+    omega (arith, (head_of _ c.requires.0.well).bytes)
+
+pub returns-then-n-a : goal.returns-then-n-a
+returns-then-n-a c = (make-over _ _ _ _ _ c.if-b-ne0.false (omega arith), tt)
+
+pub class_type-requires : goal.class_type-requires
+class_type-requires c =
+    omega (arith, (head_of _ c.requires.0.well).few-classes)
+
+pub returns : goal.returns
+returns c = (
+  c.push_after.ensures.0 ∙ make-goes _ _ _ _ _
+      c.if-b-ne0.false (omega arith) _
+      c.class_at-q.ensures.is _
+      c.byte_at-m.ensures.0 _
+      c.take_types-f.ensures.0 _ c.class_type.ensures,
+  c.push_after.ensures.1,
+)

@@ -1,0 +1,11 @@
+-- `load_rules::stack::push_after` meets its contract.
+use Rattle.load_rules.proofs.Chains.{fit-goes}
+use Rattle.load_rules.proofs.stack.push_after.Goals as goal
+
+pub push_type-requires : goal.push_type-requires
+push_type-requires c =
+    let w = fit-goes _ _ _ c.requires.1 c.in-Goes.is in (c.requires.0, w.1, w.0)
+
+pub returns-in-Goes : goal.returns-in-Goes
+returns-in-Goes c =
+    (rw c.in-Goes.is c.push_type.ensures.0, c.push_type.ensures.1)
