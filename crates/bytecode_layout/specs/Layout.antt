@@ -17,7 +17,6 @@ use Rattle.bytecode_layout.specs.Places.{Place, place_of, size_of, There, get, p
 use Rattle.bytecode_layout.specs.Cleared.{cleared}
 use Rattle.bytecode_layout.specs.Parts
 use Rattle.bytecode_layout.specs.Places
-use Rattle.bytecode_layout.specs.Reads
 use Rattle.bytecode_layout.specs.Bytes
 use Rattle.bytecode_layout.specs.Decode
 use Rattle.bytecode_layout.specs.Whole

@@ -6,7 +6,7 @@ use mathlib.Core.List.{List, [], ◌∷◌}
 use Rattle.std.proofs.Math.Option.{Option, none, some}
 use native.Mathlib.Omega.{arith}
 use Rattle.std.proofs.Math.ListN.{get_elem?, drop}
-use Rattle.bytecode.specs.Macro.{Shape, shape, Macro, shape_in}
+use Rattle.bytecode.specs.Macro.{Shape, Macro, shape_in}
 use Rattle.bytecode.specs.Instructions.{in_body}
 use Rattle.bytecode.specs.Rules.{at_first, into}
 use Rattle.compile_code.specs.Code.{Code, nil, op, mark, cell, ◌▸◌, At, at, after, Line, line, first, lay}

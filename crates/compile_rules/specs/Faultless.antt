@@ -7,7 +7,7 @@ use mathlib.Core.List.{List, [], ◌∷◌}
 use Rattle.std.proofs.Math.Option.{Option, none, some}
 use Rattle.logic.specs.Options.{keep, is_some, or_else}
 use Rattle.values.specs.Identical.{sames-refl}
-use Rattle.bytecode.specs.Macro.{Shape, shape, Macro, shape_in}
+use Rattle.bytecode.specs.Macro.{Shape, Macro, shape_in}
 use Rattle.bytecode.specs.Instructions.{in_body, instr_at}
 use Rattle.bytecode.specs.Rules.{Flow, on, fork, jump, halt, broken, same_shape, flow, flow_at, effect, passed, into, found_at, body_of, is_first, body_fault, shape_fault, lands, flow_fault, op_fault, fault_at}
 use Rattle.compile_code.specs.Code.{Line}

@@ -3,7 +3,7 @@ use Rattle.std.specs.Prelude.{true, ◌≡◌, refl, List, [], ◌∷◌, ℕ, z
 use Rattle.std.proofs.Common.{sym, ◌∙◌, subst, arith}
 use Rattle.std.proofs.Math.Option.{Option, none, some}
 use Rattle.std.proofs.Math.ListN.{get_elem?}
-use Rattle.bytecode.specs.Macro.{Shape, shape, Macro}
+use Rattle.bytecode.specs.Macro.{Shape, Macro}
 use Rattle.bytecode.specs.Rules.{roomy, flow, effect}
 use Rattle.compile_code.specs.Code.{Code, nil, op, mark, cell, ◌▸◌, Line, first, lay}
 use Rattle.compile_rules.specs.Flows.{Goes, Comes, Seg}

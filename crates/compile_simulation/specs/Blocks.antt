@@ -14,9 +14,9 @@ use Rattle.values.specs.Trace.{release, hold, event}
 use Rattle.language.specs.Tree.{Typed, Decl, declare, holding, Global, Items, no_item, label, item, Stmt}
 use Rattle.language.specs.Names.{in_block, in_expression, in_procedure, in_loop}
 use Rattle.language.specs.Execute.{Slot, slot, Store, Result, done, jump, ended, later, wrong, Place, under, say, with_blocks, outer_blocks, declare_in, let_go, within, leaving, Less, caught, catch, from}
-use Rattle.bytecode.specs.Instructions.{own, root, go, let_hold}
+use Rattle.bytecode.specs.Instructions.{own, go, let_hold}
 use Rattle.bytecode.specs.Machine.{fetch, step, act}
-use Rattle.compile_code.specs.Code.{Code, op, cell, At, at, skip, after}
+use Rattle.compile_code.specs.Code.{Code, op, At, at, skip, after}
 use Rattle.compile_code.specs.Compile.{Around, inside, outermost, bound, global, held, labels, held_in, scopes_of, passing, the_labels, has_label, label_at, code_goto, code_head, code_items, code_s, ty_in}
 use Rattle.compile_simulation.specs.Meets.{Conf, Setting, Reach, Meets, crash, ends, here, prior, tick}
 use Rattle.compile_simulation.specs.Meets.{go as go_conf, from as begin}

@@ -6,7 +6,6 @@ use Rattle.std.specs.Bool.{beq}
 use Rattle.std.proofs.Math.IntN.{sub_ℕ}
 use Rattle.std.specs.Int.Signed.{mag, lt_z, le_z}
 use Rattle.std.proofs.lemmas.Bool.{lt-leb}
-use Rattle.logic.specs.Choice.{if◌then◌else◌}
 use Rattle.logic.specs.Tests.{never}
 use Rattle.values.specs.Arithmetic.{gives, settle}
 use Rattle.language.specs.Execute.{Loop, due}

@@ -9,7 +9,6 @@ use Rattle.std.proofs.Math.IntN.{pos}
 use Rattle.std.proofs.Math.ListN.{get_elem?}
 use Rattle.std.specs.Int.Signed.{lt_z, le_z}
 use Rattle.std.proofs.lemmas.Bool.{lt-leb}
-use Rattle.logic.specs.Choice.{if◌then◌else◌}
 use Rattle.values.specs.Ends.{step_zero}
 use Rattle.values.specs.Arithmetic.{gives, is_zero}
 use Rattle.values.specs.Operators.{Binary, binary, plus, minus, less, at_most, greater, at_least, equal}

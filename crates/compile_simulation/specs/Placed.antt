@@ -9,7 +9,7 @@ use Rattle.language.specs.Tree.{Global, Items}
 use Rattle.language.specs.Names.{Scope, in_block, in_expression, in_procedure, in_loop, loop_of}
 use Rattle.language.specs.Execute.{Store, Result, done, next, Place, say, with_blocks, outer_blocks}
 use Rattle.bytecode.specs.Macro.{shape_in}
-use Rattle.bytecode.specs.Instructions.{Owner, own, root, go}
+use Rattle.bytecode.specs.Instructions.{Owner, own, root}
 use Rattle.bytecode.specs.Machine.{Activation, all_holds, fetch}
 use Rattle.compile_code.specs.Code.{Code, nil, op, mark, cell, ◌▸◌, At, after}
 use Rattle.compile_code.specs.Compile.{Around, inside, outermost, bound, global, held, labels, held_in, scopes_of, passing, the_labels, has_label, label_at, kept, bound_at, global_at, or_cell}

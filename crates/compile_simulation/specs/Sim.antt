@@ -20,7 +20,7 @@ use Rattle.values.specs.Arithmetic.{ends as ends_by}
 use Rattle.values.specs.Values.{Value, int, log, bit, ref, as_integer, as_logical, ty_of, assigned, between, size, apply1, apply2}
 use Rattle.values.specs.Trace.{event, reading}
 use Rattle.values.specs.Trace.{set as set_event}
-use Rattle.language.specs.Tree.{Typed, holding, Stmt, block, assign, when, choose, while, goto, assert, call, set_level, select, for, Items, no_item, label, item, Arms, last_arm}
+use Rattle.language.specs.Tree.{Typed, Stmt, block, assign, when, choose, while, goto, assert, call, set_level, select, for, Items, no_item, label, item, Arms, last_arm}
 use Rattle.language.specs.Tree.{arm, Target, to_variable, to_field, Expr, number, truth, pattern, null, variable, invoke, field, make, operate1, operate2, conditional}
 use Rattle.language.specs.Tree.{fader, block_expr, Exprs, no_expr, expr, Global, proper, function, count_exprs}
 use Rattle.language.specs.Tree.{Body as TreeBody}
@@ -31,11 +31,11 @@ use Rattle.language.specs.Execute.{say, read, value_of, asked, branch, do_set, d
 use Rattle.language.specs.Execute.{of_field, do_make, class_in, deciding, decides, catch, from, exec, exec_items, exec_arm, exec_body, eval_body, Procedure, procedure_in}
 use Rattle.language.specs.Execute.{Loop, due, if_due, turning, advancing, turns, counted, activate, locate, eval, evals, fueled}
 use Rattle.language.specs.Execute.{settled as tree_settled, condition as tree_condition}
-use Rattle.bytecode.specs.Instructions.{Owner, own, root, push, load, operate, go, go_unless, read_fader, stop}
+use Rattle.bytecode.specs.Instructions.{Owner, own, push, load, operate, go, go_unless, read_fader, stop}
 use Rattle.bytecode.specs.Instructions.{return, procedure_at}
 use Rattle.bytecode.specs.Instructions.{set_level as set_op, assert as assert_op, call as call_op}
 use Rattle.bytecode.specs.Machine.{all_holds, fetch, act, settled, do_operate, do_go_unless, goes_on, do_set as machine_set, do_fader as machine_fader, do_assert, condition, bad_type, goes as goes_to}
-use Rattle.compile_code.specs.Code.{Code, cell, ◌▸◌, At, at, ahead, skip, after}
+use Rattle.compile_code.specs.Code.{Code, ◌▸◌, At, at, ahead, skip, after}
 use Rattle.compile_code.specs.Compile.{Around, inside, bound, labels, held_in, scopes_of, passing, the_labels, has_label, label_at, found, kept, Way, plainly, marked, if_true}
 use Rattle.compile_code.specs.Compile.{if_false, way_of, code_way, code_s, code_items, code_arms, code_target, code_e, code_es, body_number, field_number, classes_of, ops_arms, ty_e}
 use Rattle.compile_code.specs.Compile.{ty_target, class_number, op_target, code_stored, code_downward, code_upward, code_once, code_turned, code_entered}

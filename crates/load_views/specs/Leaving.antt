@@ -13,7 +13,7 @@ use Rattle.bytecode.specs.Macro.{Shape, shape, shape_in}
 use Rattle.bytecode.specs.Instructions.{in_body}
 use Rattle.bytecode.specs.Rules.{Effect, plain, takes as takes_hold, lets, jumps, forks, leaves, stops, wrong, Flow as FlowIn, on, fork, jump, halt, broken, strip, roomy}
 use Rattle.bytecode.specs.Rules.{on_if, same_shape, one_less, flow, passed, is_first, at_first, head_fault, body_fault, lands as lands_in, flow_fault}
-use Rattle.load_places.specs.Records.{bodies, count, first_of}
+use Rattle.load_places.specs.Records.{count, first_of}
 use Rattle.load_places.specs.Rules.{Flow, goes, bad, need, shape_at, end_of, leave, plain as plain_head, opens}
 use Rattle.load_places.specs.Index.{Well}
 use Rattle.load_views.specs.Lists.{span-length}
