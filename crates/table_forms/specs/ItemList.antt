@@ -1,7 +1,6 @@
 -- Labels and statements one after the other: what is asked and answered while some of them are judged.
 use Rattle.std.specs.Prelude.{◌≡◌, refl, List, [], ◌∷◌, ◌++◌, ℕ, suc, ◌+◌, ◌-◌, ◌*◌, ◌≤◌, ◌<◌, pos, length, drop, take, get_or}
 use Rattle.std.proofs.Common.{ap, sym, ◌∙◌, arith, add-zero, add-one}
-use Rattle.std.proofs.Math.Option.{none}
 use Rattle.language.specs.Measure.{measure_s}
 use Rattle.language.specs.Program.{flat_s, flat_items, deep_items}
 use Rattle.language.specs.Tree.{Items, no_item, label, item, count_items}

@@ -2,7 +2,6 @@
 use Rattle.std.specs.Prelude.{◌≡◌, refl, ℕ, ◌+◌, ◌-◌, ◌*◌, ◌≤◌, ◌<◌, length, drop, take, get_or}
 use Rattle.std.proofs.Common.{ap, sym, ◌∙◌, arith, add-zero, add_assoc, add-one, length-append}
 use mathlib.Core.List.{List, [], ◌∷◌, ◌++◌, map, append_assoc, append-nil}
-use Rattle.std.proofs.Math.Option.{none}
 use Rattle.std.proofs.Math.Nat.{sub-zero}
 use Rattle.language.specs.Measure.{measure_s}
 use Rattle.language.specs.Program.{flat_e, flat_es}

@@ -3,10 +3,9 @@ use Rattle.std.specs.Prelude.{◌≡◌, refl, List, [], ◌∷◌, ◌++◌, ma
 use Rattle.std.proofs.Common.{ap, sym, ◌∙◌, append-nil, arith, add_assoc, add-one}
 use Rattle.language.specs.Program.{flat_typed, flat_decl, result_code, flat_body, flat_global, deep_body}
 use Rattle.words.specs.Numbers.{half_at, word_at}
-use Rattle.values.specs.Types.{same}
 use Rattle.language.specs.Tree.{Typed, declare, Body, Global, local, class, procedure}
 use Rattle.language.specs.Names.{Scope, defines_typed, procedure_of}
-use Rattle.language.specs.Faults.{twice, mistyped_unless, faults_head, faults_body, body_fits, faults_global, faults}
+use Rattle.language.specs.Faults.{twice, mistyped_unless, faults_head, faults_body, body_fits, faults_global}
 use Rattle.language_laws.specs.Claims.{entries_of}
 use Rattle.table_scopes.specs.Environment.{item, env_of, add_all, shut, Grown}
 use Rattle.table_scopes.specs.EnvironmentLaws.{Small, fewer}

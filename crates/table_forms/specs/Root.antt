@@ -4,7 +4,7 @@ use Rattle.std.proofs.Common.{ap, sym, ◌∙◌, append_assoc, append-nil, arit
 use Rattle.language.specs.Program.{flat_typed, flat_decl, result_code, flat_body, flat_global, flat_head, deep_body, deep_global}
 use Rattle.logic.specs.Choice.{if◌then◌else◌}
 use Rattle.words.specs.Numbers.{half_at, word_at}
-use Rattle.values.specs.Types.{Ty, ty_code, same}
+use Rattle.values.specs.Types.{Ty, ty_code}
 use Rattle.values.specs.Ends.{Refusal, refusal}
 use Rattle.language.specs.Tree.{Typed, Decl, declare, holding, Stmt, Expr, Body, proper, function, Global, local, class, procedure}
 use Rattle.language.specs.Names.{Scope}

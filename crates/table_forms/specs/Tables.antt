@@ -3,13 +3,11 @@ use Rattle.std.specs.Prelude.{◌≡◌, Bool, true, false, ℕ, zero, suc, ◌+
 use Rattle.std.proofs.Math.Path.{refl}
 use Rattle.std.proofs.Common.{ap, sym, ◌∙◌, arith, zero-add, length-drop, ltb-false, take_all}
 use mathlib.Core.List.{List, [], ◌∷◌, ◌++◌, append-nil}
-use Rattle.std.proofs.Math.Option.{none}
 use Rattle.std.proofs.Math.ListN.{length, length-append}
 use Rattle.language.specs.Program.{flat_items, flat_global, flat_head, flatten, deep_globals, nesting}
 use Rattle.logic.specs.Lists.{all}
 use Rattle.words.specs.Numbers.{half_at, word_at}
 use Rattle.words.specs.Laws.{Bytes}
-use Rattle.values.specs.Types.{same}
 use Rattle.values.specs.Ends.{accepted}
 use Rattle.language.specs.Tree.{Global, Tree, count_items}
 use Rattle.language.specs.Table.{Entry, in_layout, Read, took, stop, first, form_root, one_tree, read_table}
@@ -198,10 +196,10 @@ globals-end {left = left} s h = record { kept = s.kept; same = s.same; judged = 
 spans-head : {l : List ℕ} (legible : Legible l) {p : ℕ} (gs : List Global) → Stands (entries_of l) p (flat_head gs) → Spans (length gs) (flat_head gs)
 unfolding flat_head
 spans-head legible [] h = spans-none
-spans-head legible (g ∷ gs) h =
+spans-head legible {p = p} (g ∷ gs) h =
     spans-as (1 + length gs) (suc (length gs)) (flat_global g ++ flat_head gs)
     (spans-then 1 (length gs) (flat_global g) (flat_head gs) (spans-Global g (heads-here legible g (stands-left (flat_global g) (flat_head gs) h)))
-    (spans-head legible gs (stands-right (flat_global g) (flat_head gs) h))) (omega arith)
+    (spans-head legible {p = p + length (flat_global g)} gs (stands-right (flat_global g) (flat_head gs) h))) (omega arith)
 
 pub record Whole (t : Tree) (l sizes env : List ℕ) : Type 0 where
   pub legible : Legible l
