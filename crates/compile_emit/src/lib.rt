@@ -245,7 +245,7 @@ pub fn mark_holds(env: &mut [u32], top: usize, count: usize)
 }
 
 // Where the items of a block begin.
-#[derive(Drop)]
+#[derive(Clone, Copy)]
 pub struct Opened {
     // its holds
     pub holds: usize,
@@ -286,7 +286,7 @@ pub fn open_block(
 }
 
 // ── gotos ──
-#[derive(Drop)]
+#[derive(Clone, Copy)]
 pub struct Landing {
     // the holds that lie between here and the definition of the name
     pub passed: usize,

@@ -9,7 +9,7 @@ ghost use Rattle.compile_output.specs.EmitCode.{lets, cursor_after, emitted};
 use formats::compiled::*;
 pub use loops::{enter_turns, leave_turn};
 
-#[derive(Drop)]
+#[derive(Clone, Copy)]
 pub struct Cursor {
     // the place of the next IN record, and its address
     pub at: usize,

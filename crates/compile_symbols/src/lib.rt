@@ -175,7 +175,7 @@ fn number_cells(
 
 // ── the root's head ──
 // What there was of each before a declaration of the root's head.
-#[derive(Drop)]
+#[derive(Clone, Copy)]
 pub struct Numbers {
     pub cells: usize,
     pub classes: usize,

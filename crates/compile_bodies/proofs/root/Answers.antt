@@ -1,0 +1,67 @@
+-- `root`: its parts one after the other (crates/compile_whole/specs/Walks).
+use borrow.Author.Rules.{rules}
+use native.Mathlib.Omega.{arith}
+use Rattle.compile_whole.specs.Walks.{root-long, root-place, root-headed, head-fits, root-asks, releases-fit, end_fits, ends_some, root-done}
+use Rattle.compile_bodies.proofs.root.Goals as goal
+
+pub b_at-items-requires : goal.b_at-items-requires
+b_at-items-requires c =
+    omega (arith, (root-long c.requires).0)
+
+pub root_holds-held-requires : goal.root_holds-held-requires
+root_holds-held-requires c =
+    root-headed c.requires
+
+pub declare_globals-p-requires : goal.declare_globals-p-requires
+declare_globals-p-requires c =
+    (c.requires.stage.prepared, c.requires.counted, head-fits c.requires)
+
+pub overflow_mul-from : goal.overflow_mul-from
+overflow_mul-from c =
+    omega (arith, root-place c.requires)
+
+pub slice_bounds-items-count : goal.slice_bounds-items-count
+slice_bounds-items-count c =
+    (root-place c.requires).0
+
+pub slice_bounds-items-start : goal.slice_bounds-items-start
+slice_bounds-items-start c =
+    (root-place c.requires).0
+
+pub items-q-requires : goal.items-q-requires
+items-q-requires c =
+    root-asks c.requires c.b_at-items.result c.root_holds-held.result c.b_at-items.ensures
+    c.root_holds-held.ensures c.declare_globals-p.ensures
+
+pub releases-r-requires : goal.releases-r-requires
+releases-r-requires c =
+    releases-fit c.requires c.b_at-items.result c.root_holds-held.result c.b_at-items.ensures
+    c.root_holds-held.ensures c.declare_globals-p.ensures c.items-q.ensures
+
+pub emit-requires : goal.emit-requires
+emit-requires c =
+    end_fits c.requires c.b_at-items.result c.root_holds-held.result c.b_at-items.ensures
+    c.root_holds-held.ensures c.declare_globals-p.ensures c.items-q.ensures c.releases-r.ensures
+
+pub finish-requires : goal.finish-requires
+finish-requires c =
+    (
+      ends_some c.requires c.b_at-items.result c.root_holds-held.result c.b_at-items.ensures
+          c.root_holds-held.ensures c.declare_globals-p.ensures c.items-q.ensures
+          c.releases-r.ensures,
+      rw c.emit.ensures.0
+          (end_fits c.requires c.b_at-items.result c.root_holds-held.result c.b_at-items.ensures
+          c.root_holds-held.ensures c.declare_globals-p.ensures c.items-q.ensures c.releases-r.ensures).address-small,
+    )
+
+pub returns : goal.returns
+returns c =
+    root-done c.requires c.b_at-items.result c.root_holds-held.result c.b_at-items.ensures
+    c.root_holds-held.ensures c.declare_globals-p.ensures c.items-q.ensures
+    c.releases-r.ensures c.emit.ensures c.finish.ensures
+
+pub shape_of-env : goal.shape_of-env
+shape_of-env c = (returns c).kept.same-env
+
+pub shape_of-out : goal.shape_of-out
+shape_of-out c = (returns c).kept.same_out

@@ -1,0 +1,12 @@
+use borrow.Author.Rules.{rules}
+use native.Mathlib.Omega.{arith}
+use mathlib.Core.Path.{refl, ap, ◌∙◌}
+use Rattle.compile_emit.specs.EmitEntry.{holds_by}
+use Rattle.compile_whole.specs.Declares.{HoldsSoFar, holds-start, holds-within, holds-few, holds-next, holds-end}
+use Rattle.compile_bodies.proofs.root_holds.Given as goal
+
+abbrev pub invariant-loop-left : goal.invariant-loop-left
+invariant-loop-left l = HoldsSoFar l.table l.place l.left l.n
+
+abbrev pub decreases-loop-left : goal.decreases-loop-left
+decreases-loop-left l = l.left

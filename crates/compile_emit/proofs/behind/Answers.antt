@@ -1,0 +1,84 @@
+-- `compile_emit::behind` meets its contract.
+use borrow.Author.Tests.{ne_eqb}
+use mathlib.Core.Path.{refl}
+use native.Mathlib.Omega.{arith}
+use Prim.Native.Nat.{◌+◌}
+use lib.ListN.{length, take}
+use Rattle.compile_output.specs.declared.Cursor.{Cursor}
+use Rattle.compile_output.specs.EmitRecord.{moved, cursor_shaped}
+use Rattle.compile_emit.specs.EmitEntryLaws.{fits-op, op_fits, fits-mark, mark-fits, behind-0, behind-2, behind-3}
+use Rattle.compile_emit.specs.EmitEntry.{cursor_behind, emit_behind}
+use borrow.Author.Rules.{rules}
+use Rattle.compile_emit.proofs.behind.Goals as goal
+
+pub emit-q-requires : goal.emit-q-requires
+emit-q-requires c =
+    let a = c.args in let n = length a.out.now in let f = rw (behind-2 a.way a.depth a.p c.in-2.is) at
+    c.requires.4 in fits-mark n a.depth (fits-op n (fits-mark n (a.depth + 1) f))
+
+pub shape-r-requires : goal.shape-r-requires
+shape-r-requires c =
+    let a = c.args in let n = length a.out.now in
+    let f = rw (behind-2 a.way a.depth a.p c.in-2.is) at
+    c.requires.4 in (
+      omega arith,
+      omega arith,
+      omega arith,
+      op_fits (λ (q : Cursor). cursor_shaped a.depth q) a.p a.out.now 8 0 (a.end + 2)
+          c.emit-q.ensures (fits-op n (fits-mark n (a.depth + 1) f)),
+    )
+
+pub emit-s-requires : goal.emit-s-requires
+emit-s-requires c =
+    let a = c.args in let n = length a.out.now in let f = rw (behind-2 a.way a.depth a.p c.in-2.is) at
+    c.requires.4 in mark-fits (λ (q : Cursor). moved q) c.emit-q.result c.emit-q.new.out a.holds a.depth
+    (take a.depth a.stack.now) c.shape-r.ensures
+    (op_fits (λ (q : Cursor). moved (cursor_shaped a.depth q)) a.p a.out.now 8 0 (a.end + 2) c.emit-q.ensures (fits-mark n (a.depth + 1) f))
+
+pub shape-requires : goal.shape-requires
+shape-requires c =
+    let a = c.args in let n = length a.out.now in let f = rw (behind-2 a.way a.depth a.p c.in-2.is) at
+    c.requires.4 in (
+      omega (arith, c.requires.1),
+      omega (arith, c.requires.2),
+      omega (arith, c.requires.3),
+      op_fits (λ (q : Cursor). cursor_shaped (a.depth + 1) q) c.shape-r.result c.shape-r.new.out 2 0 0
+          c.emit-s.ensures (mark-fits (λ (q : Cursor). cursor_shaped (a.depth + 1) (moved q)) c.emit-q.result
+          c.emit-q.new.out a.holds a.depth (take a.depth a.stack.now) c.shape-r.ensures
+          (op_fits (λ (q : Cursor). cursor_shaped (a.depth + 1) (moved (cursor_shaped a.depth q))) a.p a.out.now 8 0 (a.end + 2) c.emit-q.ensures f)),
+    )
+
+pub shape-requires-in-3 : goal.shape-requires-in-3
+shape-requires-in-3 c =
+    let a = c.args in let n = length a.out.now in
+    let f = rw (behind-3 a.way a.depth a.p c.in-3.is) at c.requires.4 in
+    (omega arith, omega arith, omega arith, f)
+
+pub emit-requires : goal.emit-requires
+emit-requires c =
+    let a = c.args in let n = length a.out.now in let r = c.in_default.in_default-own.rest in rw (behind-0 a.way a.depth a.p r.0.1 r.1) at c.requires.4
+
+pub returns-in-2 : goal.returns-in-2
+unfolding cursor_behind emit_behind
+returns-in-2 c =
+    rw (
+      c.in-2.is,
+      c.shape-r.ensures.0,
+      c.shape-r.ensures.1,
+      c.emit-s.ensures.0,
+      c.emit-s.ensures.1,
+      c.shape-r.ensures.0,
+      c.shape-r.ensures.1,
+      c.emit-q.ensures.0,
+      c.emit-q.ensures.1,
+    ) (refl, refl)
+
+pub returns-in-3 : goal.returns-in-3
+unfolding cursor_behind emit_behind
+returns-in-3 c =
+    rw c.in-3.is c.shape-in-3.ensures
+
+pub returns-in_default : goal.returns-in_default
+unfolding cursor_behind emit_behind
+returns-in_default c =
+    let r = c.in_default.in_default-own.rest in rw (ne_eqb _ _ r.0.1, ne_eqb _ _ r.1) c.emit-q.ensures

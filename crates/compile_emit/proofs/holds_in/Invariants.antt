@@ -1,0 +1,17 @@
+use mathlib.Core.Path.{◌≡◌, ap, ◌∙◌}
+use native.Mathlib.Omega.{arith}
+use Prim.Native.Nat.{ℕ, ◌+◌, ◌≤◌}
+use Rattle.compile_emit.specs.EmitEntryLaws.{holds-one, holds-step, holds-none}
+use Rattle.compile_emit.specs.EmitEntry.{holds_by, holds_head}
+use borrow.Author.Rules.{rules}
+use native.Mathlib.Nat.{sub-zero}
+use Prim.Native.Nat.{◌-◌, ◌*◌}
+use lib.ListN.{drop}
+use Rattle.words.specs.Numbers.{half_at}
+use Rattle.compile_emit.proofs.holds_in.Given as goal
+
+abbrev pub invariant-loop-i : goal.invariant-loop-i
+invariant-loop-i l = (l.i ≤ l.count) × (holds_head l.part l.count ≡ l.n + holds_head (drop (8 * l.i) l.part) (l.count - l.i)) × (l.n ≤ l.i)
+
+abbrev pub decreases-loop-i : goal.decreases-loop-i
+decreases-loop-i l = l.count - l.i

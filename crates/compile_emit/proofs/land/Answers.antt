@@ -1,0 +1,57 @@
+-- The loop's invariant: the holds passed so far and those still to be passed are all; the name stands for what it does among the items below.
+use mathlib.Core.Path.{◌≡◌, refl, sym, ◌∙◌}
+use native.Mathlib.Omega.{arith}
+use borrow.Author.Rules.{rules}
+use Prim.Native.Nat.{◌+◌, ◌-◌, ◌*◌, ◌≤◌}
+use Rattle.table_scopes.specs.Environment.{env_of}
+use Rattle.compile_symbols.specs.Meaning.{meaning_of}
+use Rattle.compile_nodes.specs.Knows.{passed_to}
+use Rattle.compile_emit.specs.EmitEntryLaws.{passed-hit, passed-hold, passed-other, passed_none, meant-hit, meant-miss, meant-none}
+use Rattle.compile_emit.proofs.land.Goals as goal
+
+pub loop-i-init : goal.loop-i-init
+loop-i-init c = (omega arith, refl, omega arith, omega arith)
+
+pub overflow_cast-env : goal.overflow_cast-env
+overflow_cast-env c =
+    omega (arith, c.shared_slice_known-then-m-name-1.given (4 * (c.loop-i.i - 1) + 3))
+
+pub returns-then-m-name : goal.returns-then-m-name
+returns-then-m-name c =
+    let w = c.loop-i in
+    let a = c.args in (
+      sym (w.invariant.0 ∙ rw (passed-hit a.env.now a.name w.i (omega arith) c.if-m-name.true) (omega arith)),
+      c.end_of_lem.ensures.0 ∙ sym (w.invariant.1 ∙ meant-hit a.env.now a.aims.now a.name w.i (omega arith) c.if-m-name.true),
+    )
+
+pub overflow_add-n : goal.overflow_add-n
+overflow_add-n c =
+    omega (arith, c.requires, c.loop-i.invariant.3)
+
+pub loop-i-preserved-then-m-eq65539 : goal.loop-i-preserved-then-m-eq65539
+loop-i-preserved-then-m-eq65539 c =
+    let w = c.loop-i in
+    let a = c.args in (
+      w.invariant.0 ∙ omega (arith, passed-hold a.env.now a.name w.i (omega arith) c.if-m-name.false c.if-m-eq65539.true),
+      w.invariant.1 ∙ meant-miss a.env.now a.aims.now a.name w.i (omega arith) c.if-m-name.false,
+      omega arith,
+      omega arith,
+    )
+
+pub loop-i-preserved : goal.loop-i-preserved
+loop-i-preserved c =
+    let w = c.loop-i in
+    let a = c.args in (
+      w.invariant.0 ∙ omega (arith, passed-other a.env.now a.name w.i (omega arith) c.if-m-name.false c.if-m-eq65539.false),
+      w.invariant.1 ∙ meant-miss a.env.now a.aims.now a.name w.i (omega arith) c.if-m-name.false,
+      omega arith,
+      omega arith,
+    )
+
+pub returns : goal.returns
+returns c =
+    let w = c.loop-i in
+    let a = c.args in (
+      sym (w.invariant.0 ∙ omega (arith, passed_none a.env.now a.name w.i (omega arith))),
+      sym (w.invariant.1 ∙ meant-none a.env.now a.aims.now a.name w.i (omega arith)),
+    )

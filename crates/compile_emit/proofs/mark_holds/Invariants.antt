@@ -1,0 +1,15 @@
+use mathlib.Core.Path.{◌≡◌}
+use native.Mathlib.Omega.{arith}
+use Prim.Native.Nat.{◌+◌, ◌≤◌}
+use Rattle.compile_emit.specs.EmitEntryLaws.{marks-start, marks-push}
+use Rattle.table_scopes.specs.Environment.{env_of, Grown}
+use mathlib.Core.List.{◌++◌}
+use Prim.Native.Nat.{◌-◌}
+use Rattle.compile_scopes.specs.Marks.{marks}
+use Rattle.compile_emit.proofs.mark_holds.Given as goal
+
+abbrev pub invariant-loop-i : goal.invariant-loop-i
+invariant-loop-i l = (l.i ≤ l.count) × Grown l.top l.initial.env l.env (l.top + l.i) (marks l.i ++ env_of l.initial.env l.top) l.i
+
+abbrev pub decreases-loop-i : goal.decreases-loop-i
+decreases-loop-i l = l.count - l.i

@@ -1,0 +1,11 @@
+use native.Mathlib.Omega.{arith}
+use Rattle.compile_front.specs.Declared.{HeadWriting, head-start, head-within, head-room, head-next, head-end, classes-add, classes-none, class-short}
+use Rattle.compile_front.specs.Front.{class_part, classes_from}
+use Rattle.compile_symbols.specs.Tabled.{the_tree, classes_in, part_at, entries-few}
+use Rattle.compile_front.proofs.put_classes.Given as goal
+
+abbrev pub invariant-loop-left : goal.invariant-loop-left
+invariant-loop-left l = HeadWriting (classes_from (the_tree l.table)) l.table l.initial.out l.from l.out l.place l.left l.at
+
+abbrev pub decreases-loop-left : goal.decreases-loop-left
+decreases-loop-left l = l.left

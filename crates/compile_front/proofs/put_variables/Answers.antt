@@ -1,0 +1,46 @@
+-- The loop's invariant, HeadWriting: what is left to write for the root's variables (specs/Declared).
+use mathlib.Core.List.{[], ◌∷◌}
+use native.Mathlib.Omega.{arith}
+use Rattle.compile_front.specs.Declared.{HeadWriting, head-start, head-within, head-room, head-next, head-end, variables-add, variables-none}
+use Rattle.compile_front.specs.Front.{variables_from}
+use Rattle.compile_front.specs.Types.{types_of}
+use Rattle.compile_symbols.specs.Tabled.{the_tree, classes_in, entries-few}
+use Rattle.table_entries.specs.Entries.{entry_at}
+use Rattle.compile_front.proofs.put_variables.Goals as goal
+
+pub loop-left-init : goal.loop-left-init
+loop-left-init c =
+    head-start (variables_from (the_tree c.args.table.now)) _ _ c.requires.0
+
+pub put_type-at-requires : goal.put_type-at-requires
+put_type-at-requires c =
+    let w = (head-within c.requires.0.tabled c.loop-left.invariant c.loop-left-test.true) in (
+      c.requires.1,
+      c.loop-left.invariant.some,
+      omega (arith, w.some, w.within),
+      head-room c.requires.0.tabled c.loop-left.invariant (types_of (classes_in c.args.table.now)
+          (entry_at c.args.table.now c.loop-left.place ∷ []) [])
+          (variables-add c.args.table.now c.args.sizes.now c.loop-left.place c.loop-left.left) c.requires.2
+          c.loop-left-test.true,
+    )
+
+pub size_at-place-requires : goal.size_at-place-requires
+size_at-place-requires c =
+    let w = (head-within c.requires.0.tabled c.loop-left.invariant c.loop-left-test.true) in omega (arith, w.some, w.within, w.wide)
+
+pub overflow_add-place : goal.overflow_add-place
+overflow_add-place c =
+    let w = (head-within c.requires.0.tabled c.loop-left.invariant c.loop-left-test.true) in omega (arith, w.within, c.size_at-place.ensures, entries-few c.requires.0.tabled)
+
+pub loop-left-preserved : goal.loop-left-preserved
+loop-left-preserved c =
+    head-next c.requires.0.tabled c.loop-left.invariant (variables-add c.args.table.now c.args.sizes.now
+    c.loop-left.place c.loop-left.left) c.put_type-at.ensures c.size_at-place.ensures c.loop-left-test.true
+
+pub shape_of-out : goal.shape_of-out
+shape_of-out c = c.loop-left.invariant.writing.long
+
+pub returns : goal.returns
+returns c =
+    head-end c.requires.0.tabled c.loop-left.invariant
+    (variables-none (the_tree c.args.table.now)) (omega arith)

@@ -1,0 +1,13 @@
+use mathlib.Core.Path.{◌∙◌, ap}
+use Prim.Native.Nat.{◌-◌}
+use native.Mathlib.Omega.{arith}
+use Rattle.compile_symbols.specs.Entries.{cells_of_kind, cells-few, CellsSoFar, cells-start, cells-next, cells-end}
+use Rattle.compile_symbols.specs.Tabled.{classes_in, entries-few}
+use borrow.Author.Rules.{rules}
+use Rattle.compile_symbols.proofs.number_cells.Given as goal
+
+abbrev pub invariant-loop-place : goal.invariant-loop-place
+invariant-loop-place l = CellsSoFar l.table (classes_in l.table) l.initial.known l.known l.owner l.from l.to l.first l.place l.cell
+
+abbrev pub decreases-loop-place : goal.decreases-loop-place
+decreases-loop-place l = l.to - l.place
