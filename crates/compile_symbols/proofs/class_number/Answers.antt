@@ -1,10 +1,9 @@
 -- The loop's invariant, ClassSoFar: so many classes passed, and the name's number among those that are left, make its number (specs/Classes).
-use borrow.Author.Rules.{rules}
 use mathlib.Core.Path.{sym, ◌∙◌, ap}
 use Prim.Native.Nat.{ℕ}
 use native.Mathlib.Omega.{arith}
 use Rattle.compile_symbols.specs.Entries.{one_if, one-few}
-use Rattle.compile_symbols.specs.Classes.{ClassSoFar, class-start, class-within, class-hit, class-next, class-end}
+use Rattle.compile_symbols.specs.Classes.{class-start, class-within, class-hit, class-next, class-end}
 use Rattle.compile_symbols.proofs.class_number.Goals as goal
 
 -- src/lib.rt:93:5

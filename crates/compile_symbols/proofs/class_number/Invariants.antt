@@ -1,9 +1,4 @@
-use borrow.Author.Rules.{rules}
-use mathlib.Core.Path.{sym, ◌∙◌, ap}
-use Prim.Native.Nat.{ℕ}
-use native.Mathlib.Omega.{arith}
-use Rattle.compile_symbols.specs.Entries.{one_if, one-few}
-use Rattle.compile_symbols.specs.Classes.{ClassSoFar, class-start, class-within, class-hit, class-next, class-end}
+use Rattle.compile_symbols.specs.Classes.{ClassSoFar}
 use Rattle.compile_symbols.proofs.class_number.Given as goal
 
 abbrev pub invariant-loop-left : goal.invariant-loop-left

@@ -1,7 +1,6 @@
 -- `compile_symbols::counted` meets its contract.
 use native.Mathlib.Omega.{arith}
 use Rattle.compile_symbols.specs.Entries.{cells-few, one-few}
-use borrow.Author.Rules.{rules}
 use Rattle.compile_symbols.proofs.counted.Goals as goal
 
 -- src/lib.rt:189:16

@@ -6,7 +6,6 @@ use Rattle.compile_symbols.specs.Entries.{read-type, number-variable, number-cas
 use Rattle.compile_symbols.specs.Tabled.{classes_in}
 use Rattle.compile_symbols.specs.Numbers.{byte_of, packed}
 use Rattle.compile_symbols.specs.Classes.{classes-few}
-use borrow.Author.Rules.{rules}
 use Rattle.compile_symbols.proofs.entry_known.Goals as goal
 
 pub pack-requires : goal.pack-requires

@@ -1,6 +1,5 @@
 -- `compile_symbols::known_at` meets its contract.
 use mathlib.Core.Path.{sym}
-use borrow.Author.Rules.{rules}
 use Prim.Native.Nat.{◌≤◌}
 use lib.ListN.{length, get_or-eq_default}
 use native.Mathlib.Omega.{arith}

@@ -1,7 +1,6 @@
 -- `compile_symbols::names_class` meets its contract.
 use mathlib.Core.Path.{sym, ◌∙◌}
 use borrow.Author.Tests.{ne_eqb}
-use borrow.Author.Rules.{rules}
 use Rattle.compile_symbols.proofs.names_class.Goals as goal
 
 -- src/lib.rt:67:1

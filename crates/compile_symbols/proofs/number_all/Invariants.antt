@@ -1,9 +1,4 @@
-use mathlib.Core.Path.{sym, ◌∙◌, ap, refl}
-use native.Mathlib.Omega.{arith}
-use lib.ListN.{length}
-use lib.Seq.{length-sets}
-use Rattle.compile_symbols.specs.Whole.{NumbersSoFar, numbers-start, numbers-within, numbers-next, numbers-end}
-use Rattle.compile_symbols.specs.Tabled.{entries-few, headed, the-tree}
+use Rattle.compile_symbols.specs.Whole.{NumbersSoFar}
 use Rattle.compile_symbols.proofs.number_all.Given as goal
 
 abbrev pub invariant-loop-left : goal.invariant-loop-left

@@ -1,10 +1,8 @@
 -- The loop's invariant, CellsSoFar: the numbers of the entries that are left, put after what is written, are all numbers (specs/Entries).
 use mathlib.Core.Path.{◌∙◌, ap}
-use Prim.Native.Nat.{◌-◌}
 use native.Mathlib.Omega.{arith}
-use Rattle.compile_symbols.specs.Entries.{cells_of_kind, cells-few, CellsSoFar, cells-start, cells-next, cells-end}
-use Rattle.compile_symbols.specs.Tabled.{classes_in, entries-few}
-use borrow.Author.Rules.{rules}
+use Rattle.compile_symbols.specs.Entries.{cells_of_kind, cells-few, cells-start, cells-next, cells-end}
+use Rattle.compile_symbols.specs.Tabled.{entries-few}
 use Rattle.compile_symbols.proofs.number_cells.Goals as goal
 
 pub loop-place-init : goal.loop-place-init
@@ -27,8 +25,8 @@ overflow_add-cell c =
 
 pub loop-place-preserved : goal.loop-place-preserved
 loop-place-preserved c =
-    cells-next c.loop-place.invariant c.entry_Known.result c.Cells-of.result c.loop-place-test.true
-    c.requires.2 c.entry_Known.ensures (c.Cells-of.ensures ∙ ap cells_of_kind c.kind_at.ensures)
+    cells-next c.loop-place.invariant c.entry_known.result c.cells_of-cell.result c.loop-place-test.true
+    c.requires.2 c.entry_known.ensures (c.cells_of-cell.ensures ∙ ap cells_of_kind c.kind_at.ensures)
 
 pub shape_of-known : goal.shape_of-known
 shape_of-known c = c.loop-place.invariant.long

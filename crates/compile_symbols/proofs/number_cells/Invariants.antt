@@ -1,9 +1,6 @@
-use mathlib.Core.Path.{◌∙◌, ap}
 use Prim.Native.Nat.{◌-◌}
-use native.Mathlib.Omega.{arith}
-use Rattle.compile_symbols.specs.Entries.{cells_of_kind, cells-few, CellsSoFar, cells-start, cells-next, cells-end}
-use Rattle.compile_symbols.specs.Tabled.{classes_in, entries-few}
-use borrow.Author.Rules.{rules}
+use Rattle.compile_symbols.specs.Entries.{CellsSoFar}
+use Rattle.compile_symbols.specs.Tabled.{classes_in}
 use Rattle.compile_symbols.proofs.number_cells.Given as goal
 
 abbrev pub invariant-loop-place : goal.invariant-loop-place

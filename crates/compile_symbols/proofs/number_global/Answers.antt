@@ -6,7 +6,6 @@ use lib.ListN.{length, length-set}
 use lib.Seq.{length-sets}
 use Rattle.compile_symbols.specs.Entries.{global-class, global-procedure, global-local}
 use Rattle.compile_symbols.specs.Tabled.{classes_in}
-use borrow.Author.Rules.{rules}
 use Rattle.compile_symbols.proofs.number_global.Goals as goal
 
 pub number_cells-requires : goal.number_cells-requires
@@ -77,6 +76,6 @@ returns-in-12 c =
 pub returns-in_default : goal.returns-in_default
 returns-in_default c =
     global-local c.args.table.now c.args.sizes.now c.args.place c.requires.1
-    (classes_in c.args.table.now) c.args.known.now c.args.n c.entry_Known.result
+    (classes_in c.args.table.now) c.args.known.now c.args.n c.entry_known.result
     (λ e. c.in_default.in_default-own.rest.0.1 (c.kind_at-kind.ensures ∙ e)) (λ e. c.in_default.in_default-own.rest.1 (c.kind_at-kind.ensures ∙ e))
-    c.entry_Known.ensures
+    c.entry_known.ensures

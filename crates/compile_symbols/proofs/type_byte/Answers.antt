@@ -4,7 +4,6 @@ use Prim.Native.Nat.{ℕ, ◌+◌, ◌-◌}
 use native.Mathlib.Omega.{arith}
 use Rattle.compile_symbols.specs.Entries.{byte-below, byte-class}
 use Rattle.compile_symbols.specs.Classes.{class-few}
-use borrow.Author.Rules.{rules}
 use Rattle.compile_symbols.proofs.type_byte.Goals as goal
 
 pub overflow_cast-result : goal.overflow_cast-result
