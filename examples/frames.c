@@ -1,7 +1,7 @@
 /* One call a frame: a macro beside the desk's other work. A frame lasts 25 ms: the faders are read, the macro is played for at most STEPS steps,
  * its events go out, and the desk has the rest of the frame for itself.
  *
- *     cc -std=c99 -I include -o frames examples/frames.c target/staticlib/libdesk.a
+ *     cc -std=c99 -I include -o frames examples/frames.c crates/desk/out/libdesk.a
  *     ./frames 8 < examples/chase.table
  *
  * prints the events of the first 8 frames, or of all frames to the end of the macro where it ends before. */

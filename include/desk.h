@@ -1,4 +1,4 @@
-/* The cue macros' library for the desk's shell: libdesk.a (rt staticlib desk).
+/* The cue macros' library for the desk's shell: libdesk.a (rt lib, in crates/desk).
  *
  * A byte slice is a pointer and then a length. What the caller ensures: each pointer is valid for that many bytes (it may be anything where
  * the length is 0), to be read and, where it is not const, to be written; nobody else reads or writes the bytes during a call; and the slices of one
@@ -16,7 +16,7 @@
  *   6 release           the group, 0 to 63          0
  *   8 no room left      0                           the events, of a play
  *
- * There is no other tag. The definitions number a machine that has no next step 7 (answerNumbers, crates/bytecode/specs/Answers.antt), and no cue_run
+ * There is no other tag. The definitions number a machine that has no next step 7 (answer_numbers, crates/bytecode/specs/Answers.antt), and no cue_run
  * or cue_play answers it, whatever bytes are lent: never-stuck and never-stuck-playing in crates/desk/specs/Calls.antt. From a start of a macro on, over any list of runs and
  * plays, every number answered and every byte of the state are those of the plain machine of paper 01: calls and both, there.
  *

@@ -1,4 +1,4 @@
-//! Links the proved static library where it has been built (`rt staticlib desk`): then `cfg(desk)` is set and the tests over the C
+//! Links the proved static library where it has been built (`rt lib` in crates/desk): then `cfg(desk)` is set and the tests over the C
 //! interface are compiled. The gate sets CUE_DESK=1, so that a missing library is an error there and no test is left out unseen.
 //! Links Lua 5.4 into the benchmark, and sets `cfg(lua)`, where Debian's liblua5.4-dev is installed.
 
@@ -10,7 +10,7 @@ fn main() {
 }
 
 fn link_desk() {
-    let folder = Path::new(env!("CARGO_MANIFEST_DIR")).join("../target/staticlib");
+    let folder = Path::new(env!("CARGO_MANIFEST_DIR")).join("../crates/desk/out");
     let library = folder.join("libdesk.a");
     println!("cargo:rerun-if-env-changed=CUE_DESK");
     println!("cargo:rerun-if-changed={}", library.display());
@@ -20,7 +20,7 @@ fn link_desk() {
         println!("cargo:rustc-link-search=native={}", folder.display());
         println!("cargo:rustc-link-lib=static=desk");
     } else if std::env::var("CUE_DESK").is_ok() {
-        panic!("there is no {}: run 'rt staticlib desk' first", library.display());
+        panic!("there is no {}: run 'rt lib' in crates/desk first", library.display());
     }
 }
 

@@ -1,4 +1,4 @@
-//! The proved listing program, target/bin/listing: what it prints of a table is what the second evaluator lists, with the end sheet of paper
+//! The proved listing program, crates/listing/out/listing: what it prints of a table is what the second evaluator lists, with the end sheet of paper
 //! 02 (ticket 4); the second evaluator's listing is the machine's and the tree's.
 #![cfg(desk)]
 
@@ -26,8 +26,8 @@ fn path(name: &str) -> PathBuf {
 
 /// What the program prints of these bytes on its standard input.
 fn printed(bytes: &[u8]) -> String {
-    let program = path("target/bin/listing");
-    assert!(program.exists(), "there is no {}: run 'rt check listing' first", program.display());
+    let program = path("crates/listing/out/listing");
+    assert!(program.exists(), "there is no {}: run 'rt run' in crates/listing first", program.display());
     let mut child = Command::new(program).stdin(Stdio::piped()).stdout(Stdio::piped()).spawn().expect("the listing program runs");
     child.stdin.take().unwrap().write_all(bytes).unwrap();
     let output = child.wait_with_output().unwrap();

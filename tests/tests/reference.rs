@@ -63,7 +63,7 @@ fn the_program_in_c() {
         .args(["-std=c99", "-pedantic", "-Wall", "-Wextra", "-Werror", "-O2"])
         .arg(format!("-I{}", root.join("include").display()))
         .arg("-o")
-        .args([&program, &source, &root.join("target/staticlib/libdesk.a")])
+        .args([&program, &source, &root.join("crates/desk/out/libdesk.a")])
         .status()
         .expect("gcc runs");
     assert!(status.success());

@@ -24,7 +24,7 @@ fn compiled_from(source: &str, name: &str) -> PathBuf {
         .args(["-std=c99", "-pedantic", "-Wall", "-Wextra", "-Werror", "-O2"])
         .arg(format!("-I{}", tests.join("../include").display()))
         .arg("-o")
-        .args([&program, &tests.join(source), &tests.join("../target/staticlib/libdesk.a")])
+        .args([&program, &tests.join(source), &tests.join("../crates/desk/out/libdesk.a")])
         .status()
         .expect("gcc runs");
     assert!(status.success());

@@ -1,6 +1,6 @@
 //! Benchmarks: the proved library beside plain Rust on the same bytes, in one run. Not a test.
 //!
-//!     rt staticlib desk && cargo run --profile speed --offline --bin bench [PART...] [store]
+//!     (cd ../crates/desk && rt lib) && cargo run --profile speed --offline --bin bench [PART...] [store]
 //!
 //! Parts: load, check, compile, machine, programs, chase; none named: all. At the end each ratio of the machine to the plain one is held to the one stored in
 //! tests/bench.ratios, and a line says SLOWER where it is a fifth above; with the word store they are stored instead.
@@ -55,7 +55,7 @@ fn main() {
 
 #[cfg(not(desk))]
 fn main() {
-    eprintln!("bench: there is no target/staticlib/libdesk.a: run 'rt staticlib desk' first");
+    eprintln!("bench: there is no crates/desk/out/libdesk.a: run 'rt lib' in crates/desk first");
     std::process::exit(2);
 }
 
