@@ -9,7 +9,8 @@ use Rattle.values.specs.Types.{Ty}
 use Rattle.language.specs.Tree.{Typed, declare, holding, Global, local, class, procedure, Tree, locals}
 use Rattle.language.specs.Names.{Sort, is_variable, is_label, is_class, is_field, is_procedure, Definition, types, results, defines_head, defines_fields, defines_globals}
 use Rattle.language.specs.Names.{procedure_of, root_of, Found, nowhere, found, first_of, otherwise, across, lookup, defines_typed, defines_items}
-use Rattle.language_laws.specs.Lookup.{lookup-procedure, lookup-root}
+use Rattle.language_laws.specs.Lookup.{lookup-procedure}
+use Rattle.language_laws.proofs.Unchanged.{lookup-root}
 use Rattle.bytecode.specs.Instructions.{Owner}
 use Rattle.logic.specs.Tests.{never}
 use Rattle.compile_code.specs.Compile.{Around, inside, labels, scopes_of, has_label}

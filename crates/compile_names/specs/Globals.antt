@@ -12,7 +12,8 @@ use Rattle.language.specs.Names.{Sort, is_variable, is_label, is_class, is_field
 use Rattle.language.specs.Names.{defines_items, defines_globals, Scope, block_of, expression_of, procedure_of, loop_of, root_of, Found, nowhere, found, first_of, otherwise, across, lookup}
 use Rattle.language.specs.Faults.{type_e, mistyped_unless, twice, faults_typed, names_head, names_typed, names_global, body_fits, faults_body, faults_global, faults_globals, faults_items, faults, size_global}
 use Rattle.language.specs.Execute.{Procedure, procedure_in, class_in}
-use Rattle.language_laws.specs.Lookup.{lookup-block, lookup-expression, lookup-procedure, lookup-loop, lookup-root}
+use Rattle.language_laws.specs.Lookup.{lookup-block, lookup-expression, lookup-procedure, lookup-loop}
+use Rattle.language_laws.proofs.Unchanged.{lookup-root}
 use Rattle.logic.specs.Tests.{neither, eqb_comm}
 use Rattle.compile_code.specs.Compile.{index_of, among_names, names_of, Class, classes_of, class_names, Proc, procs_of, proc_names, field_in}
 use Rattle.language_laws.specs.Tests.{fault-if, told}

@@ -8,7 +8,7 @@ use Rattle.values.specs.Ends.{accepted}
 use Rattle.language.specs.Tree.{Tree}
 use Rattle.language.specs.Judge.{judge_table}
 use Rattle.bytecode.specs.Rules.{judge_macro}
-use Rattle.language_laws.specs.Programs.{accepted-program}
+use Rattle.language_laws.proofs.Programs.{accepted-program}
 use Rattle.compile_code.specs.Encode.{compiled, macro_of}
 use Rattle.compile_simulation.specs.Top.{Built}
 use Rattle.compile_records.specs.Writing.{Writable}

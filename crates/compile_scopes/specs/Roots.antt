@@ -10,7 +10,7 @@ use Rattle.language.specs.Tree.{Decl, declare, holding, Global, local, class, pr
 use Rattle.language.specs.Names.{Sort, is_variable, is_label, is_class, is_field, is_procedure, is_control, defines_items, defines_globals, Scope, root_of, found, first_of, lookup}
 use Rattle.language.specs.Faults.{faults, size_global}
 use Rattle.language.specs.Limits.{head_cells}
-use Rattle.language_laws.specs.Lookup.{lookup-root}
+use Rattle.language_laws.proofs.Unchanged.{lookup-root}
 use Rattle.language_laws.specs.Claims.{entries_of, Readable}
 use Rattle.table_entries.specs.Stands.{Stands, stands-left, stands-right, stands-tail}
 use Rattle.table_scopes.specs.Items.{labels_from, globals_from, root_items}

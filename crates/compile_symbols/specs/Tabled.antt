@@ -10,7 +10,7 @@ use Rattle.language.specs.Tree.{no_item, Body, Global, local, class, procedure, 
 use Rattle.language.specs.Table.{Entry, entry, in_layout, Read, took, stop, first, form_root}
 use Rattle.logic.specs.Tests.{both_left}
 use Rattle.language_laws.specs.Claims.{entries_of, Readable}
-use Rattle.language_laws.specs.Programs.{read-flatten}
+use Rattle.language_laws.proofs.Programs.{read-flatten}
 use Rattle.table_entries.specs.Entries.{length-entries, entry_at, entry_here}
 use Rattle.table_entries.specs.Stands.{Stands}
 use Rattle.table_entries.specs.Sizes.{Known}

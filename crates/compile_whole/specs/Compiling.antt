@@ -18,7 +18,7 @@ use Rattle.language.specs.Judge.{first_fault, judge_tree, judge_table, compile_o
 use Rattle.bytecode.specs.Macro.{Body}
 use Rattle.logic.specs.Tests.{clash}
 use Rattle.logic.specs.Lists.{Each}
-use Rattle.language_laws.specs.Programs.{accepted-program}
+use Rattle.language_laws.proofs.Programs.{accepted-program}
 use Rattle.language_laws.specs.Trees.{formed-faultless}
 use Rattle.table_scopes.specs.Environment.{env_of}
 use Rattle.table_entries.specs.Sizes.{Known}

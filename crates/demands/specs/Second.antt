@@ -11,7 +11,7 @@ use Rattle.language.specs.Tree.{Tree}
 use Rattle.language.specs.Judge.{compile_on, compile_refused}
 use Rattle.language.specs.Execute.{ill_formed, execute}
 use Rattle.language_laws.specs.Endings.{ByteReadings, EndsBy, GoesOn, Prefix}
-use Rattle.language_laws.specs.Programs.{program-accepted}
+use Rattle.language_laws.proofs.Programs.{program-accepted}
 use Rattle.bytecode.specs.Machine.{fresh_machine}
 use Rattle.bytecode.specs.Runs.{Feed, finishes}
 use Rattle.bytecode.specs.Runs.{Ran as PlainRan}

@@ -8,7 +8,7 @@ use Rattle.values.specs.Ends.{refusal, Judged, accepted, refused}
 use Rattle.language.specs.Tree.{Tree}
 use Rattle.language.specs.Judge.{judge_table, compile_tree, write_macro, compile_refused, compile_on}
 use Rattle.bytecode.specs.Answers.{Numbers, done_numbers, refusal_numbers}
-use Rattle.language_laws.specs.Programs.{accepted-program}
+use Rattle.language_laws.proofs.Programs.{accepted-program}
 use Rattle.compile_code.specs.Encode.{macro_of}
 use Rattle.compile_macro.specs.Built.{writable, few-instructions}
 use Rattle.compile_order.specs.Order.{in_order}

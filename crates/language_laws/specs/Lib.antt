@@ -23,8 +23,4 @@ pub mod Trees
 pub mod Claims
 pub mod Stops
 pub mod StopForms
-pub mod StopRoots
-pub mod Verdicts
 pub mod Walks
-pub mod Order
-pub mod Programs

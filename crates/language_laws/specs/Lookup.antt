@@ -3,7 +3,6 @@
 -- its answer. And it makes no difference whether a block that follows a heading is that one block or stands in a block without names (`apart`, N26).
 use Rattle.std.specs.Prelude.{◌≡◌, Bool, false, ℕ}
 use Rattle.std.proofs.Math.Path.{refl}
-use Rattle.std.proofs.Common.{ap, sym, ◌∙◌}
 use mathlib.Core.List.{List, [], ◌∷◌}
 use Rattle.language.specs.Names.{Definition, Scope, in_block, in_expression, in_procedure, in_loop, Found, nowhere, first_of, otherwise, across, Heading, no_heading, Block}
 use Rattle.language.specs.Names.{blocks_from, identify, lookup}
@@ -37,10 +36,6 @@ module _ (a : ℕ) where
   unfolding lookup blocks_from identify first_of
   lookup-loop d ss = refl
 
--- nothing lies around the root
-pub lookup-root : (a : ℕ) (ds : List Definition) → lookup a (in_block ds ∷ []) ≡ otherwise (first_of a ds) nowhere
-lookup-root a ds = lookup-block a ds [] ∙ ap (otherwise (first_of a ds)) (lookup-none a)
-
 -- the former definition, with a clause for what request 1 added
 pub record Former (f : ℕ → List Scope → Found) : Type 0 where
   pub at_none : (a : ℕ) → f a [] ≡ nowhere
@@ -48,16 +43,6 @@ pub record Former (f : ℕ → List Scope → Found) : Type 0 where
   pub at-expression : (a : ℕ) (ds : List Definition) (ss : List Scope) → f a (in_expression ds ∷ ss) ≡ otherwise (first_of a ds) (across (f a ss))
   pub at-procedure : (a : ℕ) (xs : List Definition) (ss : List Scope) → f a (in_procedure xs ∷ ss) ≡ otherwise (first_of a xs) (across (f a ss))
   pub at-loop : (a : ℕ) (d : Definition) (ss : List Scope) → f a (in_loop d ∷ ss) ≡ otherwise (first_of a (d ∷ [])) (f a ss)
-
-pub unchanged : {f : ℕ → List Scope → Found} → Former f → (a : ℕ) (ss : List Scope) → lookup a ss ≡ f a ss
-unchanged h a [] = lookup-none a ∙ sym (h.at_none a)
-unchanged h a (in_block ds ∷ ss) = lookup-block a ds ss ∙ ap (otherwise (first_of a ds)) (unchanged h a ss) ∙ sym (h.at_block a ds ss)
-unchanged h a (in_expression ds ∷ ss) = lookup-expression a ds ss ∙ ap (λ x. otherwise (first_of a ds) (across x)) (unchanged h a ss) ∙ sym (h.at-expression a ds ss)
-unchanged h a (in_procedure xs ∷ ss) = lookup-procedure a xs ss ∙ ap (λ x. otherwise (first_of a xs) (across x)) (unchanged h a ss) ∙ sym (h.at-procedure a xs ss)
-unchanged h a (in_loop d ∷ ss) = lookup-loop a d ss ∙ ap (otherwise (first_of a (d ∷ []))) (unchanged h a ss) ∙ sym (h.at-loop a d ss)
-
-pub former : Former lookup
-former = record { at_none = lookup-none; at_block = lookup-block; at-expression = lookup-expression; at-procedure = lookup-procedure; at-loop = lookup-loop }
 
 -- a block with the heading before it; the same within a block without names, which has the heading
 pub apart : (a : ℕ) (ds : List Definition) (closed : Bool) (h : Heading) (bs : List Block)

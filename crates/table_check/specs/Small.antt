@@ -10,7 +10,7 @@ use Rattle.language.specs.Faults.{fault_if, size_items, size_global, faults}
 use Rattle.language.specs.Limits.{Usage, keeps_limits, body_usage, root_usage, over_limits, procedure_limits, limits}
 use Rattle.language.specs.Judge.{first_fault, judge_tree, judge_table}
 use Rattle.language_laws.specs.Claims.{entries_of}
-use Rattle.language_laws.specs.Order.{first-fault}
+use Rattle.language_laws.proofs.Order.{first-fault}
 use Rattle.table_entries.specs.Entries.{length-entries}
 use Rattle.table_scopes.specs.Trees.{length-Items, length-head}
 use Rattle.table_forms.specs.Tables.{read_held}

@@ -15,7 +15,7 @@ use Rattle.language.specs.Names.{Scope, defines_globals, defines_items, root_of}
 use Rattle.language.specs.Faults.{faults_items, names_global, faults_global, faults, size_global}
 use Rattle.logic.specs.Tests.{clash, both_left, both_right}
 use Rattle.language_laws.specs.Claims.{entries_of, Readable}
-use Rattle.language_laws.specs.Programs.{flatten-read}
+use Rattle.language_laws.proofs.Programs.{flatten-read}
 use Rattle.table_scopes.specs.Environment.{item, env_of, add_all, opened, Grown}
 use Rattle.table_scopes.specs.EnvironmentLaws.{Small, small-append}
 use Rattle.table_entries.specs.Spans.{Spans, span}

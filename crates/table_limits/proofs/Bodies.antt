@@ -20,7 +20,7 @@ use Rattle.language.specs.Faults.{fault_if, size_body, size_global, size_items}
 use Rattle.language.specs.Limits.{head_cells, head_holds, need_items, keeps_limits, body_usage, root_usage, over_limits, procedure_limits, limits}
 use Rattle.logic.specs.Tests.{clash, both_left}
 use Rattle.language_laws.specs.Claims.{Readable, entries_of}
-use Rattle.language_laws.specs.Programs.{flatten-read}
+use Rattle.language_laws.proofs.Programs.{flatten-read}
 use Rattle.language_laws.specs.Roots.{small_result}
 use Rattle.language_laws.specs.Takes.{Fits, fits_head, fits-tail, fits-left, fits-right}
 use Rattle.table_entries.specs.Entries.{entries_none}

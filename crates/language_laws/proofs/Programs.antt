@@ -13,13 +13,13 @@ use Rattle.language.specs.Formed.{WellFormed, KeepsLimits}
 use Rattle.language.specs.Judge.{judge_table}
 use Rattle.language_laws.specs.Bytes.{bytes_back, fields-kept, entries-all, length-bytes}
 use Rattle.language_laws.specs.Claims.{Readable, entries_of, FirstUnread, Walk, Stands, Earlier, Ordered, Verdict}
-use Rattle.language_laws.specs.Order.{walk-faults}
+use Rattle.language_laws.proofs.Order.{walk-faults}
 use Rattle.language_laws.specs.Outline.{depths, deepest, postorder, outline}
 use Rattle.language_laws.specs.Roots.{takes-root, yields-root}
 use Rattle.language_laws.specs.Sizes
-use Rattle.language_laws.specs.StopRoots
+use Rattle.language_laws.proofs.StopRoots
 use Rattle.language_laws.specs.Trees.{faultless-formed, formed-faultless, limited-keeps, keeps-limited}
-use Rattle.language_laws.specs.Verdicts
+use Rattle.language_laws.proofs.Verdicts
 use Rattle.language_laws.specs.Walks.{walk-order, ordered_same, within-postorder, within-once, postorder-all}
 
 -- ── trees and entries ──

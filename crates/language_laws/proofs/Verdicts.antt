@@ -16,7 +16,7 @@ use Rattle.logic.specs.Tests.{clash}
 use Rattle.language_laws.specs.Bytes.{bytes_back, fields-kept, entries-all, length-bytes}
 use Rattle.language_laws.specs.Claims.{Readable, entries_of, Misshapen, empty, over, uneven, Shaped, Holds, Verdict, misshapen, unread, faulty, sound}
 use Rattle.language_laws.specs.Roots.{takes-root, yields-root}
-use Rattle.language_laws.specs.StopRoots.{first-stop, first-after}
+use Rattle.language_laws.proofs.StopRoots.{first-stop, first-after}
 use Rattle.language_laws.specs.Tests.{none_left, none_right}
 use Rattle.language_laws.specs.Trees.{faultless-formed, formed-faultless, limited-keeps, keeps-limited}
 
