@@ -3,7 +3,6 @@ use Rattle.std.specs.Prelude.{Bool, false, ◌&&◌, ◌||◌, List, [], ◌∷�
 use Rattle.logic.specs.Choice.{if◌then◌else◌}
 use Rattle.values.specs.Ends.{Judged, accepted, refused}
 use Rattle.language.specs.Tree as tree
-use Rattle.language.specs.Table as table
 use Rattle.language.specs.Table.{Entry, in_layout}
 use Rattle.table_read.specs.declared.kinds.Sort.{Sort}
 use Rattle.table_read.specs.declared.kinds.Sort.TheVariants.{Typed, Decl, Part, Stmt, Target, Expr}
