@@ -7,7 +7,7 @@ ghost use Rattle.listing_text.specs.Counting.{totals_of, Roomy};
 use packing::ANSWER_BYTES;
 use run::Played;
 
-#[derive(Drop)]
+#[derive(Clone, Copy)]
 pub struct Totals {
     pub sets: u32,
     pub holds: u32,
