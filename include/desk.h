@@ -17,7 +17,7 @@
  *   8 no room left      0                           the events, of a play
  *
  * There is no other tag. The definitions number a machine that has no next step 7 (answer_numbers, crates/bytecode/specs/Answers.antt), and no cue_run
- * or cue_play answers it, whatever bytes are lent: never-stuck and never-stuck-playing in crates/desk/specs/Calls.antt. From a start of a macro on, over any list of runs and
+ * or cue_play answers it, whatever bytes are lent: never_stuck and never-stuck-playing in crates/desk/specs/Calls.antt. From a start of a macro on, over any list of runs and
  * plays, every number answered and every byte of the state are those of the plain machine of paper 01: calls and both, there.
  *
  * Stack: what the library takes of it on x86-64, measured (tests/tests/stack.rs, which holds the numbers below to it) and rounded up.
