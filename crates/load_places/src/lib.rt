@@ -20,7 +20,7 @@ pub struct Instruction {
 }
 
 // What flows on from an address: a state of holds and operands, whose types stand in a lent stack; nothing; or a fault.
-#[derive(Drop)]
+#[derive(Clone, Copy)]
 pub enum Moved {
     Goes(usize, usize),
     Ends,
@@ -28,7 +28,7 @@ pub enum Moved {
 }
 
 // The body that an address is in, its first address, and the address past its last.
-#[derive(Drop)]
+#[derive(Clone, Copy)]
 pub struct Within {
     pub body: usize,
     pub first: usize,
@@ -37,7 +37,7 @@ pub struct Within {
 
 // The first shape that is not before an address: where it stands, and its address. Past the last one: where the end stands, and an address that no
 // instruction has.
-#[derive(Drop)]
+#[derive(Clone, Copy)]
 pub struct NextShape {
     pub place: usize,
     pub address: usize,
