@@ -6,7 +6,7 @@ ghost use Rattle.table_limits.specs.Sums.{used, alone_of, weight_of, head_of, ke
 use formats::entries::*;
 use formats::limits::*;
 
-#[derive(Drop)]
+#[derive(Clone, Copy)]
 pub struct Used {
     pub entries: usize,
     pub need: usize,
