@@ -19,7 +19,7 @@ use Rattle.load_places.specs.Search.{tops, alike, Clean}
 use Rattle.load_places.specs.Records.{classes, bodies, count, class_place, body_place, first_of}
 use Rattle.load_places.specs.Rules.{body_of, end_of, broken}
 use Rattle.load_places.specs.Index.{Well}
-use Rattle.load_check.specs.Views.{span, backs, span-at, reverse-span, tests, by-test, view, body_on, bytes, below, alike-bytes, known-class, known-body, first-rises}
+use Rattle.load_check.specs.Views.{span, backs, span-at, reverse-span, tests, by-test, view, body_on, bytes, alike-bytes, known-class, known-body, first-rises}
 use Rattle.load_check.specs.Views.{body-at, in-body, stands as standing, before-end, class-at, Viewed}
 use Rattle.state_sound.specs.Each.{each, same_test}
 use Rattle.state_sound.specs.Fits.{frame_at, entry_at, body_in, depth_in, open_in, address_in, class_in, held, value_in, row_fits, record_fits, cells_fit, operands_in, taken_in, stands_in, stands}
