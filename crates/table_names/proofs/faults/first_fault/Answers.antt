@@ -1,0 +1,21 @@
+-- `table_names::faults::first_fault` meets its contract.
+use native.Mathlib.Omega.{arith}
+use mathlib.Core.Path.{◌∙◌}
+use Rattle.language.specs.Faults.{faults}
+use Rattle.table_forms.specs.Tables.{read_held, held_whole}
+use Rattle.table_names.specs.Answer.{says-answer}
+use Rattle.table_names.proofs.faults.first_fault.Goals as goal
+
+pub root-requires : goal.root-requires
+root-requires c =
+    record {
+      tree = c.requires.0.0;
+      whole = held_whole c.requires.0.0 (λ k. omega (arith, c.shared_slice_known-1.given k)) c.requires.1 c.requires.2
+          (read_held c.args.table.now c.requires.0.0 c.requires.0.1);
+    }
+
+pub returns : goal.returns
+returns c =
+    λ t e. c.answered.ensures ∙ says-answer c.root.result (faults t)
+    (c.root.ensures.judged t (held_whole t (λ k. omega (arith, c.shared_slice_known-1.given k)) c.requires.1 c.requires.2
+    (read_held c.args.table.now t e)))
