@@ -5,7 +5,6 @@ use lib.ListN.{length}
 use Rattle.compile_output.specs.declared.Cursor.{Cursor}
 use Rattle.compile_output.specs.EmitRecord.{cursor_shaped}
 use Rattle.compile_emit.specs.EmitEntryLaws.{op_fits, fits-mark}
-use borrow.Author.Rules.{rules}
 use Rattle.compile_emit.proofs.after_arm.Goals as goal
 
 pub emit-q-requires : goal.emit-q-requires

@@ -5,7 +5,6 @@ use lib.ListN.{length}
 use Rattle.compile_output.specs.declared.Cursor.{Cursor}
 use Rattle.compile_output.specs.EmitRecord.{moved}
 use Rattle.compile_emit.specs.EmitEntryLaws.{fits-op, op_fits}
-use borrow.Author.Rules.{rules}
 use Rattle.compile_emit.proofs.before_arm.Goals as goal
 
 pub emit-q-requires : goal.emit-q-requires
@@ -33,8 +32,8 @@ emit-requires c =
 pub returns : goal.returns
 returns c =
     rw (
-      c.emit-q.ensures.0,
-      c.emit-q.ensures.1,
+      c.emit.ensures.0,
+      c.emit.ensures.1,
       c.emit-s.ensures.0,
       c.emit-s.ensures.1,
       c.emit-r.ensures.0,

@@ -8,7 +8,6 @@ use Rattle.compile_output.specs.declared.Cursor.{Cursor}
 use Rattle.compile_output.specs.EmitRecord.{moved, cursor_shaped}
 use Rattle.compile_emit.specs.EmitEntryLaws.{fits-op, op_fits, fits-mark, mark-fits, behind-0, behind-2, behind-3}
 use Rattle.compile_emit.specs.EmitEntry.{cursor_behind, emit_behind}
-use borrow.Author.Rules.{rules}
 use Rattle.compile_emit.proofs.behind.Goals as goal
 
 pub emit-q-requires : goal.emit-q-requires
@@ -63,8 +62,8 @@ unfolding cursor_behind emit_behind
 returns-in-2 c =
     rw (
       c.in-2.is,
-      c.shape-r.ensures.0,
-      c.shape-r.ensures.1,
+      c.shape.ensures.0,
+      c.shape.ensures.1,
       c.emit-s.ensures.0,
       c.emit-s.ensures.1,
       c.shape-r.ensures.0,
@@ -81,4 +80,4 @@ returns-in-3 c =
 pub returns-in_default : goal.returns-in_default
 unfolding cursor_behind emit_behind
 returns-in_default c =
-    let r = c.in_default.in_default-own.rest in rw (ne_eqb _ _ r.0.1, ne_eqb _ _ r.1) c.emit-q.ensures
+    let r = c.in_default.in_default-own.rest in rw (ne_eqb _ _ r.0.1, ne_eqb _ _ r.1) c.emit.ensures

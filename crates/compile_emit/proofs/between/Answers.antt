@@ -9,7 +9,6 @@ use Rattle.compile_output.specs.declared.Cursor.{Cursor}
 use Rattle.compile_output.specs.EmitRecord.{moved, cursor_shaped}
 use Rattle.compile_emit.specs.EmitEntryLaws.{fits-op, op_fits, fits-mark, between-1, between-2, between-3}
 use Rattle.compile_emit.specs.EmitEntry.{cursor_between, emit_between}
-use borrow.Author.Rules.{rules}
 use Rattle.compile_emit.proofs.between.Goals as goal
 
 pub shape-requires : goal.shape-requires

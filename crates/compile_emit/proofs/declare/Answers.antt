@@ -1,14 +1,12 @@
 -- `compile_emit::declare` meets its contract.
 use mathlib.Core.Path.{◌≡◌, refl, sym, ap, ◌∙◌}
 use native.Mathlib.Omega.{arith}
-use Prim.Native.Nat.{ℕ, ◌+◌, ◌≤◌}
+use Prim.Native.Nat.{ℕ, ◌+◌}
 use lib.ListN.{length}
 use Rattle.compile_emit.specs.EmitEntryLaws.{part-from, later-head, cursors-step, emits-step, finishes-step, heads-none, length_declared}
-use Rattle.compile_emit.specs.EmitEntry.{cursor_declared, emit_declared, cursor_head, emit_head, finishes}
-use borrow.Author.Rules.{rules}
+use Rattle.compile_emit.specs.EmitEntry.{cursor_declared, emit_declared}
 use native.Mathlib.Nat.{add-zero, sub-zero}
 use Prim.Native.Nat.{◌-◌, ◌*◌}
-use lib.Seq.{sets}
 use lib.ListN.{drop, get_or, set, length-set, length-drop}
 use Rattle.words.specs.Numbers.{half_at}
 use Rattle.compile_output.specs.EmitRecord.{Fits}
@@ -54,7 +52,7 @@ loop-i-preserved c =
     ≡ cursor_declared (half_at (drop (8 * w.i) a.part.now) 0) w.p = rw s at c.declare_one.ensures.0 in
     let o : c.declare_one.new.out
     ≡ emit_declared (half_at (drop (8 * w.i) a.part.now) 0) (half_at (drop (8 * w.i) a.part.now) 2) (get_or a.known.now (a.at + w.i) 0)
-    w.p w.out = rw (s, c.known_at_lem.ensures) at
+    w.p w.out = rw (s, c.known_at-k.ensures) at
     c.declare_one.ensures.1 in
     let m : length c.declare_one.new.out ≡ length w.out = ap (length {A = ℕ}) o ∙ length_declared _ _ _ w.p w.out in
     let r : c.finish-p.result ≡ cursor_declared (half_at (drop (8 * w.i) a.part.now) 0) w.p = c.finish-p.ensures.0 ∙ q in

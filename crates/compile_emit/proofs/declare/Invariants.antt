@@ -1,17 +1,11 @@
-use mathlib.Core.Path.{◌≡◌, refl, sym, ap, ◌∙◌}
-use native.Mathlib.Omega.{arith}
-use Prim.Native.Nat.{ℕ, ◌+◌, ◌≤◌}
+use mathlib.Core.Path.{◌≡◌}
+use Prim.Native.Nat.{◌+◌, ◌≤◌}
 use lib.ListN.{length}
-use Rattle.compile_emit.specs.EmitEntryLaws.{part-from, later-head, cursors-step, emits-step, finishes-step, heads-none, length_declared}
-use Rattle.compile_emit.specs.EmitEntry.{cursor_declared, emit_declared, cursor_head, emit_head, finishes}
-use borrow.Author.Rules.{rules}
-use native.Mathlib.Nat.{add-zero, sub-zero}
+use Rattle.compile_emit.specs.EmitEntry.{cursor_head, emit_head, finishes}
 use Prim.Native.Nat.{◌-◌, ◌*◌}
 use lib.Seq.{sets}
-use lib.ListN.{drop, get_or, set, length-set, length-drop}
-use Rattle.words.specs.Numbers.{half_at}
+use lib.ListN.{drop}
 use Rattle.compile_output.specs.EmitRecord.{Fits}
-use Rattle.compile_output.specs.EmitCode.{fits-before}
 use Rattle.compile_emit.proofs.declare.Given as goal
 
 abbrev pub invariant-loop-i : goal.invariant-loop-i

@@ -4,7 +4,6 @@ use mathlib.Core.Path.{refl, sym, ◌∙◌}
 use lib.ListN.{length}
 use Rattle.compile_emit.specs.EmitEntryLaws.{fits-op, declared-10, declared-14, initial-length}
 use Rattle.compile_emit.specs.EmitEntry.{cursor_declared, emit_declared}
-use borrow.Author.Rules.{rules}
 use Rattle.compile_emit.proofs.declare_one.Goals as goal
 
 pub initial-q-requires : goal.initial-q-requires

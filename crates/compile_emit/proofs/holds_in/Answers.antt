@@ -1,10 +1,9 @@
 -- `compile_emit::holds_in` meets its contract.
 use mathlib.Core.Path.{◌≡◌, ap, ◌∙◌}
 use native.Mathlib.Omega.{arith}
-use Prim.Native.Nat.{ℕ, ◌+◌, ◌≤◌}
+use Prim.Native.Nat.{ℕ}
 use Rattle.compile_emit.specs.EmitEntryLaws.{holds-one, holds-step, holds-none}
-use Rattle.compile_emit.specs.EmitEntry.{holds_by, holds_head}
-use borrow.Author.Rules.{rules}
+use Rattle.compile_emit.specs.EmitEntry.{holds_by}
 use native.Mathlib.Nat.{sub-zero}
 use Prim.Native.Nat.{◌-◌, ◌*◌}
 use lib.ListN.{drop}
@@ -15,16 +14,16 @@ pub loop-i-init : goal.loop-i-init
 loop-i-init c = let a = c.args in (omega arith, rw (sub-zero a.count) (omega arith), omega arith)
 
 pub overflow_add-n : goal.overflow_add-n
-overflow_add-n c = omega (arith, c.Holds-by.ensures, holds-one c.kind_at.result, c.loop-i.invariant.2)
+overflow_add-n c = omega (arith, c.holds_by-n.ensures, holds-one c.kind_at.result, c.loop-i.invariant.2)
 
 pub loop-i-preserved : goal.loop-i-preserved
 loop-i-preserved c =
     let a = c.args in let w = c.loop-i in
-    let h : c.Holds-by.result ≡ holds_by (half_at a.part.now (8 * w.i)) = c.Holds-by.ensures
+    let h : c.holds_by-n.result ≡ holds_by (half_at a.part.now (8 * w.i)) = c.holds_by-n.ensures
     ∙ ap (λ (k : ℕ). holds_by k) c.kind_at.ensures in (
       omega arith,
       omega (arith, w.invariant.1, holds-step a.part.now a.count w.i (omega arith), h),
-      omega (arith, w.invariant.2, c.Holds-by.ensures, holds-one c.kind_at.result),
+      omega (arith, w.invariant.2, c.holds_by-n.ensures, holds-one c.kind_at.result),
     )
 
 pub returns : goal.returns

@@ -1,13 +1,8 @@
-use mathlib.Core.Path.{◌≡◌, ap, ◌∙◌}
-use native.Mathlib.Omega.{arith}
-use Prim.Native.Nat.{ℕ, ◌+◌, ◌≤◌}
-use Rattle.compile_emit.specs.EmitEntryLaws.{holds-one, holds-step, holds-none}
-use Rattle.compile_emit.specs.EmitEntry.{holds_by, holds_head}
-use borrow.Author.Rules.{rules}
-use native.Mathlib.Nat.{sub-zero}
+use mathlib.Core.Path.{◌≡◌}
+use Prim.Native.Nat.{◌+◌, ◌≤◌}
+use Rattle.compile_emit.specs.EmitEntry.{holds_head}
 use Prim.Native.Nat.{◌-◌, ◌*◌}
 use lib.ListN.{drop}
-use Rattle.words.specs.Numbers.{half_at}
 use Rattle.compile_emit.proofs.holds_in.Given as goal
 
 abbrev pub invariant-loop-i : goal.invariant-loop-i

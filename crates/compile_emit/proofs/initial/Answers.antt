@@ -1,6 +1,5 @@
 -- `compile_emit::initial` meets its contract.
 use borrow.Author.Tests.{lt-ltb, le-ltb}
-use borrow.Author.Rules.{rules}
 use Rattle.compile_emit.proofs.initial.Goals as goal
 
 pub returns-then-ty-lt-TYPE_CLASS : goal.returns-then-ty-lt-TYPE_CLASS

@@ -1,6 +1,5 @@
 -- `compile_emit::known_of` meets its contract.
 use mathlib.Core.Path.{sym}
-use borrow.Author.Rules.{rules}
 use Rattle.compile_emit.proofs.known_of.Goals as goal
 
 pub returns-then-names : goal.returns-then-names

@@ -1,11 +1,7 @@
 -- The loop's invariant: the holds passed so far and those still to be passed are all; the name stands for what it does among the items below.
-use mathlib.Core.Path.{◌≡◌, refl, sym, ◌∙◌}
+use mathlib.Core.Path.{refl, sym, ◌∙◌}
 use native.Mathlib.Omega.{arith}
-use borrow.Author.Rules.{rules}
-use Prim.Native.Nat.{◌+◌, ◌-◌, ◌*◌, ◌≤◌}
-use Rattle.table_scopes.specs.Environment.{env_of}
-use Rattle.compile_symbols.specs.Meaning.{meaning_of}
-use Rattle.compile_nodes.specs.Knows.{passed_to}
+use Prim.Native.Nat.{◌+◌, ◌-◌, ◌*◌}
 use Rattle.compile_emit.specs.EmitEntryLaws.{passed-hit, passed-hold, passed-other, passed_none, meant-hit, meant-miss, meant-none}
 use Rattle.compile_emit.proofs.land.Goals as goal
 
@@ -21,7 +17,7 @@ returns-then-m-name c =
     let w = c.loop-i in
     let a = c.args in (
       sym (w.invariant.0 ∙ rw (passed-hit a.env.now a.name w.i (omega arith) c.if-m-name.true) (omega arith)),
-      c.end_of_lem.ensures.0 ∙ sym (w.invariant.1 ∙ meant-hit a.env.now a.aims.now a.name w.i (omega arith) c.if-m-name.true),
+      c.end_of.ensures.0 ∙ sym (w.invariant.1 ∙ meant-hit a.env.now a.aims.now a.name w.i (omega arith) c.if-m-name.true),
     )
 
 pub overflow_add-n : goal.overflow_add-n

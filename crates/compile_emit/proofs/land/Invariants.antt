@@ -1,11 +1,8 @@
-use mathlib.Core.Path.{◌≡◌, refl, sym, ◌∙◌}
-use native.Mathlib.Omega.{arith}
-use borrow.Author.Rules.{rules}
-use Prim.Native.Nat.{◌+◌, ◌-◌, ◌*◌, ◌≤◌}
+use mathlib.Core.Path.{◌≡◌}
+use Prim.Native.Nat.{◌+◌, ◌≤◌}
 use Rattle.table_scopes.specs.Environment.{env_of}
 use Rattle.compile_symbols.specs.Meaning.{meaning_of}
 use Rattle.compile_nodes.specs.Knows.{passed_to}
-use Rattle.compile_emit.specs.EmitEntryLaws.{passed-hit, passed-hold, passed-other, passed_none, meant-hit, meant-miss, meant-none}
 use Rattle.compile_emit.proofs.land.Given as goal
 
 abbrev pub invariant-loop-i : goal.invariant-loop-i

@@ -1,7 +1,6 @@
 -- `compile_emit::last_type` meets its contract.
 use borrow.Author.Tests.{eq-eqb, ne_eqb}
 use Rattle.compile_emit.specs.EmitEntry.{last_type}
-use borrow.Author.Rules.{rules}
 use Rattle.compile_emit.proofs.last_type.Goals as goal
 
 pub returns-in-45 : goal.returns-in-45

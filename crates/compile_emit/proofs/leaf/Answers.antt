@@ -2,7 +2,6 @@
 use borrow.Author.Tests.{ne_eqb}
 use mathlib.Core.Path.{sym}
 use Rattle.compile_emit.specs.EmitEntry.{emit_leaf}
-use borrow.Author.Rules.{rules}
 use Rattle.compile_emit.proofs.leaf.Goals as goal
 
 pub returns-in-40 : goal.returns-in-40

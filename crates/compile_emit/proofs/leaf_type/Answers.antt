@@ -1,7 +1,6 @@
 -- `compile_emit::leaf_type` meets its contract.
 use borrow.Author.Tests.{ne_eqb}
 use Rattle.compile_emit.specs.EmitEntry.{leaf_type}
-use borrow.Author.Rules.{rules}
 use Rattle.compile_emit.proofs.leaf_type.Goals as goal
 
 pub returns-in-40 : goal.returns-in-40

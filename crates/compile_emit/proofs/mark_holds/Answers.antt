@@ -1,12 +1,7 @@
 -- `compile_emit::mark_holds` meets its contract.
 use mathlib.Core.Path.{◌≡◌}
 use native.Mathlib.Omega.{arith}
-use Prim.Native.Nat.{◌+◌, ◌≤◌}
 use Rattle.compile_emit.specs.EmitEntryLaws.{marks-start, marks-push}
-use Rattle.table_scopes.specs.Environment.{env_of, Grown}
-use mathlib.Core.List.{◌++◌}
-use Prim.Native.Nat.{◌-◌}
-use Rattle.compile_scopes.specs.Marks.{marks}
 use Rattle.compile_emit.proofs.mark_holds.Goals as goal
 
 pub loop-i-init : goal.loop-i-init

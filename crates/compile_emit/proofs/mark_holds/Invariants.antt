@@ -1,7 +1,4 @@
-use mathlib.Core.Path.{◌≡◌}
-use native.Mathlib.Omega.{arith}
 use Prim.Native.Nat.{◌+◌, ◌≤◌}
-use Rattle.compile_emit.specs.EmitEntryLaws.{marks-start, marks-push}
 use Rattle.table_scopes.specs.Environment.{env_of, Grown}
 use mathlib.Core.List.{◌++◌}
 use Prim.Native.Nat.{◌-◌}

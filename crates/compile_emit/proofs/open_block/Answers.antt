@@ -1,5 +1,4 @@
 -- `compile_emit::open_block` meets its contract: what it asks is what its four calls ask, and what they give is what it gives.
-use borrow.Author.Rules.{rules}
 use native.Mathlib.Omega.{arith}
 use Rattle.compile_emit.proofs.open_block.Goals as goal
 

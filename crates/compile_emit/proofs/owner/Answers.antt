@@ -1,5 +1,4 @@
 -- `compile_emit::owner` meets its contract.
-use borrow.Author.Rules.{rules}
 use Rattle.compile_emit.proofs.owner.Goals as goal
 
 pub returns-then-p : goal.returns-then-p
