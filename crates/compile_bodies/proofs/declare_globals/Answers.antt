@@ -45,8 +45,8 @@ pub loop-left-preserved : goal.loop-left-preserved
 loop-left-preserved c =
     head-again c.requires.0
     c.loop-left.invariant (omega arith)
-    c.known_at_lem.result c.size_at-place.result _ _
-    c.known_at_lem.ensures c.size_at-place.ensures c.declare_one-p.ensures
+    c.known_at-k.result c.size_at-place.result _ _
+    c.known_at-k.ensures c.size_at-place.ensures c.declare_one-p.ensures
 
 pub shape_of-out : goal.shape_of-out
 shape_of-out c =

@@ -16,7 +16,7 @@ pub overflow_add-n : goal.overflow_add-n
 overflow_add-n c =
     let w = holds-within c.requires.tabled c.loop-left.invariant (omega arith) in
     let h = holds-few c.requires.tabled c.loop-left.invariant _ _ (omega arith)
-    (c.Holds-by.ensures ∙ ap holds_by c.kind_at.ensures) refl in
+    (c.holds_by-n.ensures ∙ ap holds_by c.kind_at.ensures) refl in
     omega (arith, w.within, h, c.requires.tabled.legible.short)
 
 pub size_at-place-requires : goal.size_at-place-requires
@@ -32,7 +32,7 @@ overflow_add-place c =
 pub loop-left-preserved : goal.loop-left-preserved
 loop-left-preserved c =
     holds-next c.requires.tabled c.loop-left.invariant
-    c.Holds-by.result c.size_at-place.result (omega arith) (c.Holds-by.ensures ∙ ap holds_by c.kind_at.ensures)
+    c.holds_by-n.result c.size_at-place.result (omega arith) (c.holds_by-n.ensures ∙ ap holds_by c.kind_at.ensures)
     c.size_at-place.ensures
 
 pub returns : goal.returns

@@ -23,8 +23,8 @@ overflow_add-i c =
 
 pub loop-i-preserved : goal.loop-i-preserved
 loop-i-preserved c =
-    count_next c.loop-i.invariant c.Cells-of.result c.loop-i-test.true c.requires.1
-    (c.Cells-of.ensures ∙ ap cells_of_kind c.kind_at.ensures)
+    count_next c.loop-i.invariant c.cells_of-n.result c.loop-i-test.true c.requires.1
+    (c.cells_of-n.ensures ∙ ap cells_of_kind c.kind_at.ensures)
 
 pub returns : goal.returns
 returns c = count-end c.loop-i.invariant (omega arith)
