@@ -1,6 +1,8 @@
 // The ops, one function each, on the bytes of a run state. Each has the place of the top activation (`frame`), the number of its operands
 // (`depth`) and its address.
 // No function tests what the loading check promises: it is shown where the op is dispatched.
+#![tactic(auto)]
+
 mod calls;
 mod events;
 mod holds;

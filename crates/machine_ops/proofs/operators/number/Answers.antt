@@ -1,0 +1,12 @@
+-- `machine_ops::operators::number` meets its contract.
+use mir.ValLaws.{to_z-of_z}
+use mir.Syntax.{w32}
+use mir.Val.{SFits}
+use native.Mathlib.Omega.{arith}
+use Rattle.machine_ops.proofs.operators.number.Goals as goal
+
+pub returns-in-Gives : goal.returns-in-Gives
+returns-in-Gives c = let f : SFits w32 c.in-Gives.z = record { sfits = omega arith } in rw (c.in-Gives.is, c.word_of.ensures, to_z-of_z w32 _ f)
+
+pub returns-in-Ends : goal.returns-in-Ends
+returns-in-Ends c = rw c.in-Ends.is
