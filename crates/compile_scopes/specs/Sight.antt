@@ -19,7 +19,8 @@ use Rattle.table_entries.specs.Stands.{Stands, stands-left, stands-tail}
 use Rattle.logic.specs.Tests.{never}
 use Rattle.table_scopes.specs.Items.{items_at, root_items}
 use Rattle.table_scopes.specs.Trees.{length-map, typed-decls}
-use Rattle.table_scopes.specs.Defines.{head_items, head-items, items-small, typed-matches, heads-stand, entered-block, entered-expression}
+use Rattle.table_scopes.specs.Defines.{head_items, head-items, items-small, typed-matches, heads-stand}
+use Rattle.table_scopes.proofs.EnteredBlocks.{entered-block, entered-expression}
 use Rattle.table_scopes.specs.Sees.{Legible, Sees, sees-procedure}
 use Rattle.table_forms.specs.Globals.{global_items}
 use Rattle.compile_code.specs.Code.{At, at}

@@ -22,7 +22,8 @@ use Rattle.desk.specs.Compiled.{compiled_numbers, Short, short}
 use Rattle.table_check.specs.Checked.{checked_of, place-small}
 use Rattle.table_check.specs.declared.Checked.{Checked}
 use Rattle.table_check.specs.declared.Checked.TheVariants.{Accepted, Refused as Rejected}
-use Rattle.load_check.specs.Loaded.{loaded_of, fields}
+use Rattle.load_check.specs.Loaded.{loaded_of}
+use Rattle.load_check.proofs.LoadedLaws.{fields}
 use Rattle.load_check.specs.declared.Loaded.{Loaded}
 use Rattle.load_check.specs.declared.Loaded.TheVariants.{Passes, Refused}
 use Rattle.run.specs.Answers.{verdict_of, answer_of, play_numbers}

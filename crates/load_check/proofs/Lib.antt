@@ -1,1 +1,2 @@
 pub mod RootPlace
+pub mod LoadedLaws

@@ -10,6 +10,3 @@ pub mod Flows
 pub mod Operating
 pub mod Ops
 pub mod Leaving
-pub mod Address
-pub mod Verdict
-pub mod Views

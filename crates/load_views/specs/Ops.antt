@@ -68,17 +68,17 @@ justs-same r h (t ∷ ts) e =
 
 module _ (l : List ℕ) (w : Well l) (k : ℕ) (within : k < bodies l) (h : ℕ) (ts : List Ty) (room : roomy (shape h ts) ≡ true) where
   -- what is sent on by an effect, and by an instruction that there may be
-  abbrev sent : Effect → Flow
+  abbrev pub sent : Effect → Flow
   sent e = sends (view l) k h ts room e
 
-  abbrev does : Option Instr → Flow
+  abbrev pub does : Option Instr → Flow
   does o = send (view l) k (flow_of o (view l) k (shape h ts))
 
   leaving : (rs : List Ty) → need (eqb h 0) (need (sames ts rs) ends) ≡ sent (leaves rs)
   unfolding flow
   leaving rs = by-test (eqb h 0) (λ e. rw e (by-test (sames ts rs) (λ e. rw e) (λ e. rw e))) (λ e. rw e)
 
-  at-end : (a b : ℕ) → op_end k a b h (bytes ts) ≡ does (exactly (eqb a 0 && eqb b 0) end)
+  pub at-end : (a b : ℕ) → op_end k a b h (bytes ts) ≡ does (exactly (eqb a 0 && eqb b 0) end)
   unfolding op_end effect_in
   at-end a b = exact2 does refl (eqb a 0) (eqb b 0) _ end (rw (empty-same ts) (ending k))
     where
@@ -89,19 +89,19 @@ module _ (l : List ℕ) (w : Well l) (k : ℕ) (within : k < bodies l) (h : ℕ)
   one : (t : Ty) → push (ty_byte t) h (bytes ts) ≡ sent (plain [] (t ∷ []))
   one t = (unfold draws in gives_one (view l) k h ts room [] t)
 
-  at-integer : (a b : ℕ) → op_integer a h (bytes ts) ≡ does (exactly (eqb a 0) (pushes (int (integer_of b))))
+  pub at-integer : (a b : ℕ) → op_integer a h (bytes ts) ≡ does (exactly (eqb a 0) (pushes (int (integer_of b))))
   unfolding op_integer effect_in
   at-integer a b = exact does refl (eqb a 0) _ _ (one integer)
 
-  at-logical : (a b : ℕ) → op_logical a b h (bytes ts) ≡ does (exactly (eqb a 0 && ltb b 2) (pushes (log (eqb b 1))))
+  pub at-logical : (a b : ℕ) → op_logical a b h (bytes ts) ≡ does (exactly (eqb a 0 && ltb b 2) (pushes (log (eqb b 1))))
   unfolding op_logical effect_in
   at-logical a b = exact2 does refl (eqb a 0) (ltb b 2) _ _ (one logical)
 
-  at_bits : (a b : ℕ) → op_bits a h (bytes ts) ≡ does (exactly (eqb a 0) (pushes (bit b)))
+  pub at_bits : (a b : ℕ) → op_bits a h (bytes ts) ≡ does (exactly (eqb a 0) (pushes (bit b)))
   unfolding op_bits effect_in
   at_bits a b = exact does refl (eqb a 0) _ _ (one bits)
 
-  at_null : (a b : ℕ) → op_null l a b h (bytes ts) ≡ does (exactly (eqb b 0) (pushes (ref a none)))
+  pub at_null : (a b : ℕ) → op_null l a b h (bytes ts) ≡ does (exactly (eqb b 0) (pushes (ref a none)))
   unfolding op_null effect_in
   at_null a b = exact does refl (eqb b 0) _ _
       (rw (class-count l) (by-test (ltb a (classes l)) (λ e. rw e (one (reference a))) (λ e. rw e (unfold flow in refl))))
@@ -127,20 +127,20 @@ module _ (l : List ℕ) (w : Well l) (k : ℕ) (within : k < bodies l) (h : ℕ)
       rw (cell-at l j b r, pop-draws) (taking-one (view l) k h ts room (ltb b (cells_at l j)) (cell_at l j b) []
       (λ q. (known-body l w j r).cells b (ltb-true _ _ q)))
 
-  at_load : (a b : ℕ) → op_load l k a b h (bytes ts) ≡ does (keep (owner_of a) (λ o. some (load o b)))
+  pub at_load : (a b : ℕ) → op_load l k a b h (bytes ts) ≡ does (keep (owner_of a) (λ o. some (load o b)))
   unfolding op_load effect_in
   at_load a b =
       owners (λ j. need (ltb b (cells_at l j)) (push (cell_at l j b) h (bytes ts))) (λ o. load o b)
       (cell-given k b within) (cell-given 0 b (some-body l w)) a
 
-  at_store : (a b : ℕ) → op_store l k a b h (bytes ts) ≡ does (keep (owner_of a) (λ o. some (store o b)))
+  pub at_store : (a b : ℕ) → op_store l k a b h (bytes ts) ≡ does (keep (owner_of a) (λ o. some (store o b)))
   unfolding op_store effect_in
   at_store a b =
       owners (λ j. need (ltb b (cells_at l j)) (pop (cell_at l j b) h (bytes ts))) (λ o. store o b)
       (cell-taken k b within) (cell-taken 0 b (some-body l w)) a
 
   -- ── operators ──
-  at-operator : (a b : ℕ) → op_operator a b h (bytes ts) ≡ does (keep (operator_of a) (λ o. exactly (eqb b 0) (operate o)))
+  pub at-operator : (a b : ℕ) → op_operator a b h (bytes ts) ≡ does (keep (operator_of a) (λ o. exactly (eqb b 0) (operate o)))
   unfolding op_operator effect_in
   at-operator a b =
       rw (operates-same (view l) k h ts room a)
@@ -148,11 +148,11 @@ module _ (l : List ℕ) (w : Well l) (k : ℕ) (within : k < bodies l) (h : ℕ)
       (λ o e. rw e (by-test (eqb b 0) (λ q. rw q) (λ q. rw q))))
 
   -- ── jumps ──
-  at-go : (a b : ℕ) → op_go l k a b h (bytes ts) ≡ does (exactly (eqb a 0) (go b))
+  pub at-go : (a b : ℕ) → op_go l k a b h (bytes ts) ≡ does (exactly (eqb a 0) (go b))
   unfolding op_go effect_in flow
   at-go a b = exact does refl (eqb a 0) _ _ (rw (lands-same l w k b (shape h ts) within))
 
-  at-unless : (a b : ℕ) → op_unless l k a b h (bytes ts) ≡ does (exactly (eqb a 0) (go_unless b))
+  pub at-unless : (a b : ℕ) → op_unless l k a b h (bytes ts) ≡ does (exactly (eqb a 0) (go_unless b))
   unfolding op_unless effect_in flow draws
   at-unless a b = exact does refl (eqb a 0) _ _
       (draws-strip (logical ∷ []) ts h (λ g r. need (lands l k b g r) (goes g r))
@@ -166,7 +166,7 @@ module _ (l : List ℕ) (w : Well l) (k : ℕ) (within : k < bodies l) (h : ℕ)
       by-test (eqb t 0) (λ q. rw q (gives_none (view l) k h ts room ins))
       (λ q. rw q (ap (λ x. draws (bytes ins) h (bytes ts) (λ g r. push x g r)) (sym (e q)) ∙ gives_one (view l) k h ts room ins (ty_on t)))
 
-  at_call : (a b : ℕ) → op_call l a b h (bytes ts) ≡ does (exactly (eqb a 0) (call b))
+  pub at_call : (a b : ℕ) → op_call l a b h (bytes ts) ≡ does (exactly (eqb a 0) (call b))
   unfolding op_call effect_in
   at_call a b = exact does refl (eqb a 0) _ _ (called b)
     where
@@ -191,7 +191,7 @@ module _ (l : List ℕ) (w : Well l) (k : ℕ) (within : k < bodies l) (h : ℕ)
           rw (eqb-suc-zero b, body-at l (suc b), takes-draws)
           (by-test (ltb (suc b) (bodies l)) (λ e. rw e (fully (suc b) (ltb-true _ _ e))) (λ e. rw e (unfold flow in refl)))
 
-  at_return : (a b : ℕ) → op_return l k a b h (bytes ts) ≡ does (exactly (eqb a 0 && eqb b 0) return)
+  pub at_return : (a b : ℕ) → op_return l k a b h (bytes ts) ≡ does (exactly (eqb a 0 && eqb b 0) return)
   unfolding op_return effect_in
   at_return a b = exact2 does refl (eqb a 0) (eqb b 0) _ _ (returned k within)
     where
@@ -203,7 +203,7 @@ module _ (l : List ℕ) (w : Well l) (k : ℕ) (within : k < bodies l) (h : ℕ)
           (leaving (result_on (result_at l (suc j))))
 
   -- ── records ──
-  at-make : (a b : ℕ) → op_make l a b h (bytes ts) ≡ does (exactly (eqb b 0) (make a))
+  pub at-make : (a b : ℕ) → op_make l a b h (bytes ts) ≡ does (exactly (eqb b 0) (make a))
   unfolding op_make effect_in
   at-make a b = exact does refl (eqb b 0) _ _
       (rw (class-at l a, takes-draws) (by-test (ltb a (classes l)) (λ e. rw e (made (ltb-true _ _ e))) (λ e. rw e (unfold flow in refl))))
@@ -221,7 +221,7 @@ module _ (l : List ℕ) (w : Well l) (k : ℕ) (within : k < bodies l) (h : ℕ)
   no_field : (a b : ℕ) → ltb a (classes l) ≡ false → field_ty (view l) a b ≡ none
   no_field a b e = rw (class-at l a, e)
 
-  at-get_field : (a b : ℕ) → op_get_field l a b h (bytes ts) ≡ does (some (get_field a b))
+  pub at-get_field : (a b : ℕ) → op_get_field l a b h (bytes ts) ≡ does (some (get_field a b))
   unfolding op_get_field effect_in trade1 draws
   at-get_field a b =
       by-test (ltb a (classes l))
@@ -230,7 +230,7 @@ module _ (l : List ℕ) (w : Well l) (k : ℕ) (within : k < bodies l) (h : ℕ)
       (λ q. known-class l w a (ltb-true _ _ e) b (ltb-true _ _ q))))
       (λ e. rw (e, no_field a b e) (unfold flow in refl))
 
-  at-put_field : (a b : ℕ) → op_put_field l a b h (bytes ts) ≡ does (some (put_field a b))
+  pub at-put_field : (a b : ℕ) → op_put_field l a b h (bytes ts) ≡ does (some (put_field a b))
   unfolding op_put_field effect_in
   at-put_field a b =
       by-test (ltb a (classes l))
@@ -240,20 +240,20 @@ module _ (l : List ℕ) (w : Well l) (k : ℕ) (within : k < bodies l) (h : ℕ)
       (λ e. rw (e, no_field a b e) (unfold flow in refl))
 
   -- ── faders, holds, assert, stop ──
-  at_set : (a b : ℕ) → op_set a b h (bytes ts) ≡ does (exactly (eqb a 0 && eqb b 0) set_level)
+  pub at_set : (a b : ℕ) → op_set a b h (bytes ts) ≡ does (exactly (eqb a 0 && eqb b 0) set_level)
   unfolding op_set effect_in
   at_set a b = exact2 does refl (eqb a 0) (eqb b 0) _ _ (pop-pop 1 1 h (bytes ts) ∙ gives_none (view l) k h ts room (integer ∷ integer ∷ []))
 
-  at-fader : (a b : ℕ) → op_fader a b h (bytes ts) ≡ does (exactly (eqb a 0 && eqb b 0) read_fader)
+  pub at-fader : (a b : ℕ) → op_fader a b h (bytes ts) ≡ does (exactly (eqb a 0 && eqb b 0) read_fader)
   unfolding op_fader effect_in trade1 draws
   at-fader a b = exact2 does refl (eqb a 0) (eqb b 0) _ _ (gives_one (view l) k h ts room (integer ∷ []) integer)
 
-  at-hold : (a b : ℕ) → op_hold a b h (bytes ts) ≡ does (exactly (eqb a 0 && leb b 63) (take_hold b))
+  pub at-hold : (a b : ℕ) → op_hold a b h (bytes ts) ≡ does (exactly (eqb a 0 && leb b 63) (take_hold b))
   unfolding op_hold effect_in flow
   at-hold a b = rw (leb-suc-suc b 63) (exact2 does refl (eqb a 0) (leb b 63) _ _
       (rw (add-one h, (halves (leb h 16) (leb (length ts) 32) room).1) (by-test (ltb h 16) (λ e. rw e) (λ e. rw e))))
 
-  at-release : (a b : ℕ) → op_release a b h (bytes ts) ≡ does (exactly (eqb a 0 && eqb b 0) let_hold)
+  pub at-release : (a b : ℕ) → op_release a b h (bytes ts) ≡ does (exactly (eqb a 0 && eqb b 0) let_hold)
   unfolding op_release effect_in flow
   at-release a b = exact2 does refl (eqb a 0) (eqb b 0) _ _ (less h)
     where
@@ -261,36 +261,10 @@ module _ (l : List ℕ) (w : Well l) (k : ℕ) (within : k < bodies l) (h : ℕ)
       less zero = refl
       less (suc g) = rw (eqb-suc-zero g, sub-one)
 
-  at-assert : (a b : ℕ) → op_assert a b h (bytes ts) ≡ does (exactly (eqb a 0 && eqb b 0) assert)
+  pub at-assert : (a b : ℕ) → op_assert a b h (bytes ts) ≡ does (exactly (eqb a 0 && eqb b 0) assert)
   unfolding op_assert effect_in
   at-assert a b = exact2 does refl (eqb a 0) (eqb b 0) _ _ (pop-draws 2 h (bytes ts) ∙ gives_none (view l) k h ts room (logical ∷ []))
 
-  at-stop : (a b : ℕ) → op_stop a b ≡ does (exactly (stops_by a && eqb b 0) (stop a))
+  pub at-stop : (a b : ℕ) → op_stop a b ≡ does (exactly (stops_by a && eqb b 0) (stop a))
   unfolding op_stop effect_in flow
   at-stop a b = exact2 does refl (stops_by a) (eqb b 0) _ _ refl
-
-  -- ── every op ──
-  pub op_same : (o a b : ℕ) → effect l k o a b h (bytes ts) ≡ does (instruction (record { op = o; a = a; b = b }))
-  unfolding effect instruction
-  op_same o a b =
-      (by-test (eqb o 0) (λ e. rw e (at-end a b)) (λ e. rw e
-      (by-test (eqb o 1) (λ e. rw e (at-integer a b)) (λ e. rw e
-      (by-test (eqb o 2) (λ e. rw e (at-logical a b)) (λ e. rw e
-      (by-test (eqb o 3) (λ e. rw e (at_bits a b)) (λ e. rw e
-      (by-test (eqb o 4) (λ e. rw e (at_null a b)) (λ e. rw e
-      (by-test (eqb o 5) (λ e. rw e (at_load a b)) (λ e. rw e
-      (by-test (eqb o 6) (λ e. rw e (at_store a b)) (λ e. rw e
-      (by-test (eqb o 7) (λ e. rw e (at-operator a b)) (λ e. rw e
-      (by-test (eqb o 8) (λ e. rw e (at-go a b)) (λ e. rw e
-      (by-test (eqb o 9) (λ e. rw e (at-unless a b)) (λ e. rw e
-      (by-test (eqb o 10) (λ e. rw e (at_call a b)) (λ e. rw e
-      (by-test (eqb o 11) (λ e. rw e (at_return a b)) (λ e. rw e
-      (by-test (eqb o 12) (λ e. rw e (at-make a b)) (λ e. rw e
-      (by-test (eqb o 13) (λ e. rw e (at-get_field a b)) (λ e. rw e
-      (by-test (eqb o 14) (λ e. rw e (at-put_field a b)) (λ e. rw e
-      (by-test (eqb o 15) (λ e. rw e (at_set a b)) (λ e. rw e
-      (by-test (eqb o 16) (λ e. rw e (at-fader a b)) (λ e. rw e
-      (by-test (eqb o 17) (λ e. rw e (at-hold a b)) (λ e. rw e
-      (by-test (eqb o 18) (λ e. rw e (at-release a b)) (λ e. rw e
-      (by-test (eqb o 19) (λ e. rw e (at-assert a b)) (λ e. rw e
-      (by-test (eqb o 20) (λ e. rw e (at-stop a b)) (λ e. rw e))))))))))))))))))))))))))))))))))))))))))

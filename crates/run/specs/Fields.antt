@@ -21,7 +21,8 @@ use Rattle.logic.specs.OptionLaws.{chosen, kept, same_some}
 use Rattle.bytecode_safety.specs.Terms.{InRange, steps_of, Answers}
 use Rattle.bytecode_safety.specs.Safety.{run-safe}
 use Rattle.values.specs.Refusals.{in_code}
-use Rattle.load_check.specs.Loaded.{loaded_of, fields}
+use Rattle.load_check.specs.Loaded.{loaded_of}
+use Rattle.load_check.proofs.LoadedLaws.{fields}
 
 pub state-sound : (m : Macro) (l : List ℕ) (s : Machine) → sound_state m l ≡ some s → sound m s ≡ true
 unfolding sound_state

@@ -20,13 +20,14 @@ use Rattle.bytecode.specs.Lent.{sound_state}
 use Rattle.load_places.specs.Records.{bodies, count}
 use Rattle.load_places.specs.Rules.{Verdict, judge, passes, refused}
 use Rattle.load_check.specs.Views.{verdict_of, judges}
-use Rattle.load_check.specs.Loaded.{loaded_of, fields}
+use Rattle.load_check.specs.Loaded.{loaded_of}
+use Rattle.load_check.proofs.LoadedLaws.{fields}
 use Rattle.load_check.specs.declared.Loaded.TheVariants.{Passes, Refused as Turned}
 use Rattle.state_sound.specs.Each.{each, each-get, each-alike, each_none}
 use Rattle.state_sound.specs.Fits.{body_in, depth_in, open_in, address_in, held, groups_fit, record_fits, frame_fits, running_fits, plain_fits, stands, activations_in, sound_bytes}
 use Rattle.logic.specs.Tests.{no-else}
-use Rattle.state_sound.specs.Decoded.{cell_count}
-use Rattle.state_sound.specs.Sounds.{sounds}
+use Rattle.state_sound.proofs.Decoded.{cell_count}
+use Rattle.state_sound.proofs.Sounds.{sounds}
 use Rattle.state_check.specs.declared.inspection.Inspected.{Inspected}
 use Rattle.state_check.specs.declared.inspection.Inspected.TheVariants.{Sound, Unsound, Refused}
 use Rattle.state_check.specs.Tested.{AnyCounted, fit_before}

@@ -1,8 +1,2 @@
 pub mod Each
 pub mod Fits
-pub mod Rows
-pub mod Decoded
-pub mod Frames
-pub mod Waiting
-pub mod Running
-pub mod Sounds

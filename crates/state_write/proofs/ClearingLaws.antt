@@ -27,7 +27,7 @@ use Rattle.load_check.specs.Views.{span-length, view, reads-view, body-at, class
 use Rattle.state_sound.specs.Each.{each, each-get}
 use Rattle.state_sound.specs.Fits.{body_in, class_in, held, groups_fit, record_fits, frame_fits, running_fits, plain_fits, stands, activations_in, sound_bytes}
 use Rattle.logic.specs.Tests.{no-else}
-use Rattle.state_sound.specs.Sounds.{sounds}
+use Rattle.state_sound.proofs.Sounds.{sounds}
 use Rattle.state_check.specs.Inspecting.{Held}
 use Rattle.state_write.specs.Clearing.{Below, Uncleared, Encodes}
 

@@ -18,7 +18,8 @@ use Rattle.table_scopes.specs.declared.heads.Verdict.TheVariants.{Fine, Refused}
 use Rattle.table_scopes.specs.Items.{block_items, Reach}
 use Rattle.table_scopes.specs.Flaws.{Says, says_first, says_then, head_flaws}
 use Rattle.table_scopes.specs.Trees.{length-map, length-Items}
-use Rattle.table_scopes.specs.Defines.{labels, labels-bulk, Enters, enters, Entered, entered-block, heads-stand, items-stand, head-faults}
+use Rattle.table_scopes.specs.Defines.{labels, labels-bulk, Enters, enters, Entered, heads-stand, items-stand, head-faults}
+use Rattle.table_scopes.proofs.EnteredBlocks.{entered-block}
 use Rattle.table_forms.specs.Forms.{Form, simple, guard, counted, blocked, bodied, labelled, faults_f, BlockForm}
 use Rattle.table_forms.specs.Walk.{Table, Ready, Asks, Answers, ReadyItems, AsksItems, AnswersItems}
 use Rattle.table_forms.specs.Part.{head_of, table-next, below}

@@ -18,7 +18,8 @@ use Rattle.table_scopes.specs.declared.heads.Verdict.TheVariants.{Fine, Refused}
 use Rattle.table_scopes.specs.Items.{block_items}
 use Rattle.table_scopes.specs.Flaws.{Says, says_first, says_then}
 use Rattle.table_scopes.specs.Trees.{length-map, length-Items, spans-Items}
-use Rattle.table_scopes.specs.Defines.{labels-bulk, Entered, entered-expression}
+use Rattle.table_scopes.specs.Defines.{labels-bulk, Entered}
+use Rattle.table_scopes.proofs.EnteredBlocks.{entered-expression}
 use Rattle.table_forms.specs.Forms.{Form, simple, guard, counted, blocked, bodied, labelled, flat_f, type_f, faults_f, form_e, ExprForm, BodyForm, flat-E, deep-E, valid-E}
 use Rattle.table_forms.specs.Forms.{type-E, faults-E, form-expr, once-E}
 use Rattle.table_forms.specs.Walk.{room_f, Ready, Asks, Typed, ReadyItems}

@@ -16,7 +16,8 @@ use Rattle.table_scopes.specs.Items.{items_at}
 use Rattle.table_scopes.specs.Flaws.{Says, says_first, says_then, once_flaw, head_flaws}
 use Rattle.table_scopes.specs.Trees.{length-map, typed-decls, length-Body, Heads}
 use Rattle.table_scopes.specs.Sees.{Sees, sees-procedure}
-use Rattle.table_scopes.specs.Once.{Rising, once-block}
+use Rattle.table_scopes.specs.Once.{Rising}
+use Rattle.table_scopes.proofs.OnceBlocks.{once-block}
 use Rattle.table_scopes.specs.Defines.{head_items, head-items, items-small, length-heads, typed-matches, head-rising, OnceHead, once-head, head-faults}
 use Rattle.table_forms.specs.Walk.{Table}
 use Rattle.table_forms.specs.Part.{head_of, table-next, below}

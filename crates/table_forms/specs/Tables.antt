@@ -28,7 +28,7 @@ use Rattle.table_scopes.specs.Items.{labels_from, globals_from, root_items, Reac
 use Rattle.table_scopes.specs.Flaws.{Says, says_first, says_then, says-fine}
 use Rattle.table_scopes.specs.Trees.{length-Global, length-Items, spans-Global}
 use Rattle.table_scopes.specs.Sees.{Legible, Sees, matches-append, sees-none, sees-block}
-use Rattle.table_scopes.specs.Once.{once-block}
+use Rattle.table_scopes.proofs.OnceBlocks.{once-block}
 use Rattle.table_scopes.specs.Defines.{labels-small, label_items, label-items, label-matches, label-rising, labels-bulk, length-labels, OnceItems, once-items}
 use Rattle.table_forms.specs.Walk.{Table, ReadyItems, AsksItems, AnswersItems}
 use Rattle.table_forms.specs.Part.{head_of, table-next, below}

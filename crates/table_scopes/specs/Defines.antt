@@ -34,7 +34,7 @@ use Rattle.table_scopes.specs.Items.{kind_at, a_at, b_at, after, one_at, items_a
 use Rattle.table_scopes.specs.Flaws.{once_flaw, class_of, class_flaw, head_flaws, decl-is, decl-not}
 use Rattle.table_scopes.specs.Trees.{length-map, length-S, spans-S}
 use Rattle.table_scopes.specs.Sees.{Legible, Agrees, Sees, Matches, matches-append, sees-block, sees-expression}
-use Rattle.table_scopes.specs.Once.{OnceAll, Rising, rising-later, once-block}
+use Rattle.table_scopes.specs.Once.{OnceAll, Rising, rising-later}
 
 -- ── the items ──
 unfoldable pub head_items : ℕ → ℕ → List Decl → List Item
@@ -309,7 +309,7 @@ module _ {l : List ℕ} (legible : Legible l) (p : ℕ) (ds : List Decl) (is : I
   pub items-stand : Stands (entries_of l) (p + length ds) (flat_items is)
   items-stand = rw (length-map flat_decl ds) at (stands-right (map flat_decl ds) (flat_items is) h)
 
-  block-items : block_items l p (length ds) (count_items is) ≡ head_items 4 p ds ++ label_items (p + length ds) is
+  pub block-items : block_items l p (length ds) (count_items is) ≡ head_items 4 p ds ++ label_items (p + length ds) is
   block-items = rw (head-items legible 4 p ds heads-stand, (label-items legible (p + length ds) is items-stand).1)
 
   pub enters : 8 * (p + length ds) ≤ length l → Enters l p ds is
@@ -320,31 +320,8 @@ module _ {l : List ℕ} (legible : Legible l) (p : ℕ) (ds : List Decl) (is : I
         least = omega (arith, ap length block-items, length-append (head_items 4 p ds) (label_items (p + length ds) is), length-heads 4 p ds, length-labels (p + length ds) is);
       }
 
-  small : Small (block_items l p (length ds) (count_items is))
+  pub small : Small (block_items l p (length ds) (count_items is))
   small = small-append (items_at 4 l p (length ds)) (labels_from l (p + length ds) (count_items is)) (items-small legible 4 p (length ds)) (labels-small legible (p + length ds) (count_items is))
 
-  matches : Matches l (head_items 4 p ds ++ label_items (p + length ds) is) (defines_head ds ++ defines_items is)
+  pub matches : Matches l (head_items 4 p ds ++ label_items (p + length ds) is) (defines_head ds ++ defines_items is)
   matches = matches-append l (head_items 4 p ds) (label_items (p + length ds) is) (defines_head ds) (defines_items is) (head-matches l p ds) (label-matches l (p + length ds) is)
-
-  once-parts : (k : ℕ) (v : List Item) → 65535 < k
-      → OnceHead (add_all (head_items 4 p ds ++ label_items (p + length ds) is) (env.item k 0 0 0 ∷ v)) [] p ds
-      × OnceItems (add_all (head_items 4 p ds ++ label_items (p + length ds) is) (env.item k 0 0 0 ∷ v)) (names_head ds) (p + length ds) is
-  once-parts k v m =
-      let js = label_items (p + length ds) is in
-      let w = add_all (head_items 4 p ds ++ js) (env.item k 0 0 0 ∷ v) in
-      let o = once-head w [] 4 p ds js (once-block k (head_items 4 p ds ++ js) v p m (rw block-items at small) (head-rising 4 p ds js (label-rising (p + length ds) is))) in
-      (o.0, once-seen w (seen_head ds []) (names_head ds) (p + length ds) is (λ a. seen-names a ds) (once-items w (seen_head ds []) (p + length ds) is o.1))
-
-  pub entered-block : {v : List Item} {ss : List Scope} → Sees l v ss → Entered l (add_all (block_items l p (length ds) (count_items is)) (env.item opened 0 0 0 ∷ v)) (block_of ds is ∷ ss) p ds is
-  entered-block {v} see = rw block-items (record {
-    sees = sees-block see (head_items 4 p ds ++ label_items (p + length ds) is) (defines_head ds ++ defines_items is) matches (rw block-items at small);
-    head = (once-parts opened v (omega arith)).0;
-    items = (once-parts opened v (omega arith)).1;
-  })
-
-  pub entered-expression : {v : List Item} {ss : List Scope} → Sees l v ss → Entered l (add_all (block_items l p (length ds) (count_items is)) (env.item shut 0 0 0 ∷ v)) (expression_of ds is ∷ ss) p ds is
-  entered-expression {v} see = rw block-items (record {
-    sees = sees-expression see (head_items 4 p ds ++ label_items (p + length ds) is) (defines_head ds ++ defines_items is) matches (rw block-items at small);
-    head = (once-parts shut v (omega arith)).0;
-    items = (once-parts shut v (omega arith)).1;
-  })

@@ -33,18 +33,18 @@ rising-later p q [] h r = tt
 rising-later p q (i ∷ is) h r = (omega (arith, r.0), r.1)
 
 -- what the definitions before a place hold
-record Before (f : ℕ → Found) (seen : List ℕ) (p : ℕ) : Type 0 where
-  none : (a : ℕ) → among a seen ≡ false → f a ≡ Nothing
-  some : (a : ℕ) → among a seen ≡ true → (s : ℕ) × (n : ℕ) × (q : ℕ) × (f a ≡ Def s n q false) × (q < p)
+pub record Before (f : ℕ → Found) (seen : List ℕ) (p : ℕ) : Type 0 where
+  pub none : (a : ℕ) → among a seen ≡ false → f a ≡ Nothing
+  pub some : (a : ℕ) → among a seen ≡ true → (s : ℕ) × (n : ℕ) × (q : ℕ) × (f a ≡ Def s n q false) × (q < p)
 
-abbrev more : (ℕ → Found) → Item → ℕ → Found
+abbrev pub more : (ℕ → Found) → Item → ℕ → Found
 more f i a = or_outer (f a) (first_in a (i ∷ []))
 
-or_assoc : (f g h : Found) → or_outer (or_outer f g) h ≡ or_outer f (or_outer g h)
+pub or_assoc : (f g h : Found) → or_outer (or_outer f g) h ≡ or_outer f (or_outer g h)
 or_assoc Nothing g h = refl
 or_assoc (Def s n q w) g h = refl
 
-first-cons : (a : ℕ) (i : Item) (is : List Item) → first_in a (i ∷ is) ≡ or_outer (first_in a (i ∷ [])) (first_in a is)
+pub first-cons : (a : ℕ) (i : Item) (is : List Item) → first_in a (i ∷ is) ≡ or_outer (first_in a (i ∷ [])) (first_in a is)
 unfolding first_in
 first-cons a (item b s n q) is = go (eqb b a)
   where
@@ -52,7 +52,7 @@ first-cons a (item b s n q) is = go (eqb b a)
     go true = refl
     go false = refl
 
-before_more : (f : ℕ → Found) (seen : List ℕ) (p : ℕ) (i : Item) → Before f seen p → p ≤ place_of i → Before (more f i) (name_of i ∷ seen) (suc (place_of i))
+pub before_more : (f : ℕ → Found) (seen : List ℕ) (p : ℕ) (i : Item) → Before f seen p → p ≤ place_of i → Before (more f i) (name_of i ∷ seen) (suc (place_of i))
 unfolding among first_in
 before_more f seen p (item b s n q) h r = record { none = λ a e. none_more a e; some = λ a e. some_more a e }
   where
@@ -72,27 +72,3 @@ before_more f seen p (item b s n q) h r = record { none = λ a e. none_more a e;
         go true w x u = let (s', n', q', z, k) = h.some a w in (s', n', q', rw z, omega arith)
         go false w true u = (s, n, q, rw (h.none a w, sym (eqb_comm a b), u), omega arith)
         go false w false u = absurd (let z : false ≡ true = rw (u, w) at e in let k : ◌≡◌ {A = ℕ} 0 1 = cc in omega arith)
-
-once-one : (f : Found) (seen : Bool) (s n p : ℕ) (g : Found) (q : ℕ) → (seen ≡ false → f ≡ Nothing) → (seen ≡ true → (s' : ℕ) × (n' : ℕ) × (q' : ℕ) × (f ≡ Def s' n' q' false) × (q' < p)) → q ≡ p
-    → once_of (or_outer (or_outer f (Def s n q false)) g) p ≡ (if seen then refusal 3 p ∷ [] else [])
-once-one f true s n p g q a b e = let (s', n', q', z, k) = b refl in rw (z, ne_eqb q' p (λ w. omega arith))
-once-one f false s n p g q a b e = rw (a refl, eq-eqb q p e)
-
-module _ (v : List Item) (outer : ℕ → Found) where
-  once-from : (is : List Item) (f : ℕ → Found) (seen : List ℕ) (p : ℕ) → ((a : ℕ) → a < 65536 → find a v ≡ or_outer (or_outer (f a) (first_in a is)) (outer a))
-      → Small is → Rising p is → Before f seen p → OnceAll v seen is
-  unfolding OnceAll Rising Small first_in
-  once-from [] f seen p g s r b = tt
-  once-from (item a s n q ∷ is) f seen p g k r b = (
-    rw (g a k.0, eq-eqb a a refl) (once-one (f a) (among a seen) s n q (outer a) q (b.none a) (λ e. let (s', n', q', z, w) = b.some a e in (s', n', q', z, omega (arith, r.0))) refl),
-    once-from is (more f (item a s n q)) (a ∷ seen) (suc q)
-        (λ x h. g x h ∙ rw (first-cons x (item a s n q) is, or_assoc (f x) (first_in x (item a s n q ∷ [])) (first_in x is)))
-        k.1 r.1 (before_more f seen p (item a s n q) b r.0),
-  )
-
--- the definitions of a block, above its mark
-pub once-block : (k : ℕ) (is v : List Item) (p : ℕ) → 65535 < k → Small is → Rising p is → OnceAll (add_all is (item k 0 0 0 ∷ v)) [] is
-unfolding among
-once-block k is v p h s r =
-    once-from (add_all is (item k 0 0 0 ∷ v)) (λ a. passing (eqb k shut) (find a v)) is (λ a. Nothing) [] p
-    (λ a z. find-block a z k is v h s) s r (record { none = λ a e. refl; some = λ a e. absurd (let w : ◌≡◌ {A = ℕ} 0 1 = cc in omega arith) })

@@ -15,7 +15,7 @@ use Rattle.logic.specs.OptionLaws.{by-option}
 use Rattle.load_views.specs.View.{view, verdict_of}
 use Rattle.load_views.specs.Reading.{told}
 use Rattle.load_views.specs.Known.{clean, reads-well}
-use Rattle.load_views.specs.Address.{code-count, fault-same, agrees}
+use Rattle.load_views.proofs.Address.{code-count, fault-same, agrees}
 
 lowest-first : (l : List ℕ) → Well l → (n j : ℕ) → j + n ≡ count l → Clean (broken l) j
     → lowest (fault_at (view l)) n j ≡ (if ltb (seek (broken l) n j) (j + n) then some (seek (broken l) n j) else none)

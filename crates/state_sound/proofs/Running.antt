@@ -29,9 +29,9 @@ use Rattle.load_check.specs.Views.{span, backs, span-length, backs-length, rever
 use Rattle.logic.specs.Tests.{halves, both, no-else, and-false}
 use Rattle.state_sound.specs.Each.{each, same_test, each-get, each_all}
 use Rattle.state_sound.specs.Fits.{body_in, depth_in, open_in, address_in, held, calls, taken_in, record_fits, cells_fit, frame_fits, groups_fit, running_fits, stands}
-use Rattle.state_sound.specs.Decoded.{record_on, record_reads, records-read, cell_count, holds_on, frame_on, frame_reads, activations-read}
-use Rattle.state_sound.specs.Frames.{Rough, choose, all-span, record-fits, stands-not, frame-fits}
-use Rattle.state_sound.specs.Waiting.{calls-only, group_at, groups-all, holds-all, arguments_on, arguments-bytes, waits_at, waiting-is}
+use Rattle.state_sound.proofs.Decoded.{record_on, record_reads, records-read, cell_count, holds_on, frame_on, frame_reads, activations-read}
+use Rattle.state_sound.proofs.Frames.{Rough, choose, all-span, record-fits, stands-not, frame-fits}
+use Rattle.state_sound.proofs.Waiting.{calls-only, group_at, groups-all, holds-all, arguments_on, arguments-bytes, waits_at, waiting-is}
 
 -- ── an activation of n ──
 -- the arguments that its call took; whether it stands at a call of the next

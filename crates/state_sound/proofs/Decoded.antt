@@ -26,7 +26,7 @@ use Rattle.load_check.specs.Views.{span, span-length, by-test, past, view, body-
 use Rattle.logic.specs.Tests.{halves}
 use Rattle.state_sound.specs.Each.{each}
 use Rattle.state_sound.specs.Fits.{frame_at, entry_at, body_in, depth_in, open_in, address_in, class_in, held}
-use Rattle.state_sound.specs.Rows.{row_reads, row_on, cell_row, values-read, cells-read}
+use Rattle.state_sound.proofs.Rows.{row_reads, row_on, cell_row, values-read, cells-read}
 use Rattle.bytecode.specs.State.{activation_length, cell_types_at, cell_words_at, holds_at, operand_types_at, operand_words_at}
 
 -- ── a number in a part of the bytes ──

@@ -23,7 +23,7 @@ use Rattle.load_check.specs.Views.{backs, span-take, reverse-span, view, bytes, 
 use Rattle.logic.specs.Tests.{and_assoc}
 use Rattle.state_sound.specs.Each.{each, each_snoc, each_same}
 use Rattle.state_sound.specs.Fits.{body_in, open_in, address_in, held}
-use Rattle.state_sound.specs.Decoded.{cell_count, holds_on, frame_on}
+use Rattle.state_sound.proofs.Decoded.{cell_count, holds_on, frame_on}
 
 -- ── a call, by the code record ──
 pub calls-only : (a b c : Bool) → (a && (b && c)) ≡ cond a (cond b c false) false

@@ -23,8 +23,8 @@ use Rattle.load_check.specs.Views.{span, backs, span-at, reverse-span, tests, by
 use Rattle.load_check.specs.Views.{body-at, in-body, stands as standing, before-end, class-at, Viewed}
 use Rattle.state_sound.specs.Each.{each, same_test}
 use Rattle.state_sound.specs.Fits.{frame_at, entry_at, body_in, depth_in, open_in, address_in, class_in, held, value_in, row_fits, record_fits, cells_fit, operands_in, taken_in, stands_in, stands}
-use Rattle.state_sound.specs.Rows.{cells-typed, Recorded, row-bytes, row-sound, row_typed}
-use Rattle.state_sound.specs.Decoded.{types_at, words_at, field_count, record_on, record_reads, cell_count, cells_read, cells_on, operands_read, operands_on, holds_on, frame_on, frame_reads}
+use Rattle.state_sound.proofs.Rows.{cells-typed, Recorded, row-bytes, row-sound, row_typed}
+use Rattle.state_sound.proofs.Decoded.{types_at, words_at, field_count, record_on, record_reads, cell_count, cells_read, cells_on, operands_read, operands_on, holds_on, frame_on, frame_reads}
 use Rattle.logic.specs.Tests.{and-false, and-true, halves, both, no-else}
 
 -- ── lists ──

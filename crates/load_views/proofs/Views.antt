@@ -21,8 +21,8 @@ use Rattle.load_views.specs.Known.{reads-well, reads-view, known-class, known-bo
 use Rattle.load_views.specs.Bodies.{body-at}
 use Rattle.load_views.specs.Shapes.{shape-at, shape_typed}
 use Rattle.load_views.specs.Ops.{class-at}
-use Rattle.load_views.specs.Address.{code_at, code-count, agrees, found-clear}
-use Rattle.load_views.specs.Verdict.{verdict-same, code-accepted, passes-clean}
+use Rattle.load_views.proofs.Address.{code_at, code-count, agrees, found-clear}
+use Rattle.load_views.proofs.Verdict.{verdict-same, code-accepted, passes-clean}
 
 -- the verdict over places is that over the decoded macro
 pub judges : (l : List ℕ) → judge l ≡ verdict_of (judge_macro l)

@@ -27,9 +27,9 @@ use Rattle.load_places.specs.Rules.{broken}
 use Rattle.load_check.specs.Views.{by-test, view, reads-view, Viewed, viewed, passing}
 use Rattle.state_sound.specs.Each.{each, each_same}
 use Rattle.state_sound.specs.Fits.{groups_fit, plain_fits, stands, activations_in, sound_bytes}
-use Rattle.state_sound.specs.Frames.{all-reverse}
-use Rattle.state_sound.specs.Waiting.{group_at, all-part}
-use Rattle.state_sound.specs.Running.{running-is}
+use Rattle.state_sound.proofs.Frames.{all-reverse}
+use Rattle.state_sound.proofs.Waiting.{group_at, all-part}
+use Rattle.state_sound.proofs.Running.{running-is}
 
 some-if : (m : Macro) (a : Bool) (s : Machine) → is_some (keep (if a then some s else none) (only_sound m)) ≡ cond a (sound m s) false
 some-if m true s = by-test (sound m s) (λ p. rw p) (λ p. rw p)

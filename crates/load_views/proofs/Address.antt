@@ -26,7 +26,7 @@ use Rattle.load_views.specs.View.{op_at, a_at, b_at, code_on, view, below, bytes
 use Rattle.load_views.specs.Known.{first-zero}
 use Rattle.load_views.specs.Bodies.{Stands, stands, before-end, in-body, body-in, first-in}
 use Rattle.load_views.specs.Shapes.{state, meets}
-use Rattle.load_views.specs.Ops.{op_same}
+use Rattle.load_views.proofs.EachOp.{op_same}
 use Rattle.load_views.specs.Leaving.{Room, flow-room, leaves-same, opens-same}
 
 pub code_at : (l : List ℕ) (i : ℕ) → get_elem? (view l).code i ≡ below i (count l) (code_on l (code_place l i))

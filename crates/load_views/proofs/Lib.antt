@@ -1,0 +1,4 @@
+pub mod EachOp
+pub mod Address
+pub mod Verdict
+pub mod Views

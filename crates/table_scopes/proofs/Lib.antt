@@ -1,0 +1,2 @@
+pub mod OnceBlocks
+pub mod EnteredBlocks
