@@ -19,7 +19,8 @@ use Rattle.compile.specs.Verdict.{verdict_of as compiled_of}
 use Rattle.compile.specs.declared.Compiled.{Compiled}
 use Rattle.compile.specs.declared.Compiled.TheVariants.{Done, Refused as Unmade}
 use Rattle.desk.specs.Compiled.{compiled_numbers, Short, short}
-use Rattle.table_check.specs.Checked.{checked_of, place-small}
+use Rattle.table_check.specs.Checked.{checked_of}
+use Rattle.table_check.proofs.Verdicts.{place-small}
 use Rattle.table_check.specs.declared.Checked.{Checked}
 use Rattle.table_check.specs.declared.Checked.TheVariants.{Accepted, Refused as Rejected}
 use Rattle.load_check.specs.Loaded.{loaded_of}

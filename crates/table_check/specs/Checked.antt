@@ -1,29 +1,15 @@
--- The verdict on a table as the code answers it, and how the answers of the three parts of the check make it up.
-use Rattle.std.specs.Prelude.{◌≡◌, refl, List, [], ◌∷◌, ◌++◌, ℕ, ◌≤◌, length}
-use Rattle.std.proofs.Common.{sym, ◌∙◌, arith}
-use Rattle.std.proofs.Math.Path.{ap}
-use Rattle.values.specs.Ends.{Refusal, Judged, accepted, refused}
-use Rattle.values.specs.declared.Refusal as code
-use Rattle.values.specs.Refusals.{coded, in_code}
+-- The verdict on a table as the code answers it.
+use Rattle.std.specs.Prelude.{◌≡◌, refl, List, ℕ, ◌≤◌, length}
+use Rattle.values.specs.Ends.{Judged, accepted, refused}
+use Rattle.values.specs.Refusals.{in_code}
 use Rattle.language.specs.Tree.{Tree}
 use Rattle.language.specs.Table.{read_table}
-use Rattle.language.specs.Faults.{faults}
-use Rattle.language.specs.Limits.{limits}
-use Rattle.language.specs.Judge as judge
-use Rattle.language.specs.Judge.{judge_tree, judge_table}
 use Rattle.logic.specs.Tests.{clash}
 use Rattle.table_entries.specs.Sizes.{Known}
 use Rattle.table_read.specs.Walk.{reading_of}
 use Rattle.table_read.specs.Filling.{Wide}
 use Rattle.table_read.specs.declared.Reading.TheVariants as reading
 use Rattle.table_forms.specs.Tables.{Reads}
-use Rattle.table_names.specs.Answer.{GivesFirst, first_fault}
-use Rattle.table_names.specs.declared.faults.Faulted.{Faulted}
-use Rattle.table_names.specs.declared.faults.Faulted.TheVariants.{Faultless, Fault}
-use Rattle.table_limits.specs.Usage.{Limits, limited_of}
-use Rattle.table_limits.specs.declared.Limited.{Limited}
-use Rattle.table_limits.specs.declared.Limited.TheVariants.{Within, Over}
-use Rattle.table_check.specs.Small.{Narrow, narrow, Sixes, sixes}
 use Rattle.table_check.specs.declared.Checked.{Checked}
 use Rattle.table_check.specs.declared.Checked.TheVariants.{Accepted, Refused}
 
@@ -51,54 +37,3 @@ reads l e = go (read_table l) refl
     go : (j : Judged Tree) → read_table l ≡ j → Reads l
     go (accepted t) h = (t, h)
     go (refused r) h = clash (cc (rw h at e))
-
-pub unread : (l : List ℕ) (n p : ℕ) → reading.Refused n p ≡ reading_of (read_table l) → Refused (coded n p) ≡ checked_of (judge_table l)
-unfolding judge_table
-unread l n p e = go (read_table l) e
-  where
-    go : (j : Judged Tree) → reading.Refused n p ≡ reading_of j → Refused (coded n p) ≡ checked_of (judge_tree j)
-    go (accepted t) h = clash (cc)
-    go (refused r) h = cc
-
--- ── faults, and then limits ──
-module _ (l : List ℕ) (r : Reads l) {v : Faulted} (g : GivesFirst l v) where
-  tree-judged : judge_table l ≡ judge.first_fault r.0 (faults r.0 ++ limits r.0)
-  unfolding judge_table
-  tree-judged = ap judge_tree r.1
-
-  pub faulty : (n p : ℕ) → v ≡ Fault n p → Refused (coded n p) ≡ checked_of (judge_table l)
-  faulty n p e = rw tree-judged (go (faults r.0) (sym e ∙ g r.0 r.1))
-    where
-      go : (fs : List Refusal) → Fault n p ≡ first_fault fs → Refused (coded n p) ≡ checked_of (judge.first_fault r.0 (fs ++ limits r.0))
-      go [] h = clash (cc)
-      go (f ∷ fs) h = cc
-
-  module _ (e : v ≡ Faultless) {u : Limited} (k : Limits l u) where
-    limits-judged : judge_table l ≡ judge.first_fault r.0 (limits r.0)
-    limits-judged = tree-judged ∙ go (faults r.0) (sym e ∙ g r.0 r.1)
-      where
-        go : (fs : List Refusal) → Faultless ≡ first_fault fs → judge.first_fault r.0 (fs ++ limits r.0) ≡ judge.first_fault r.0 (limits r.0)
-        go [] h = refl
-        go (f ∷ fs) h = clash (cc)
-
-    pub over : (p : ℕ) → u ≡ Over p → Refused (coded 6 p) ≡ checked_of (judge_table l)
-    over p z = rw limits-judged (go (limits r.0) (sixes l r.0 r.1) (sym z ∙ k r.0 r.1))
-      where
-        go : (fs : List Refusal) → Sixes 2048 fs → Over p ≡ limited_of fs → Refused (coded 6 p) ≡ checked_of (judge.first_fault r.0 fs)
-        go [] s h = clash (cc)
-        go (f ∷ fs) s h = cc s.0
-
-    pub within : u ≡ Within → Accepted ≡ checked_of (judge_table l)
-    within z = rw limits-judged (go (limits r.0) (sym z ∙ k r.0 r.1))
-      where
-        go : (fs : List Refusal) → Within ≡ limited_of fs → Accepted ≡ checked_of (judge.first_fault r.0 fs)
-        go [] h = refl
-        go (f ∷ fs) h = clash (cc)
-
--- ── a refusal's place is at most the entry count ──
-pub place-small : (l : List ℕ) (r : code.Refusal) → Refused r ≡ checked_of (judge_table l) → r.place ≤ 2048
-place-small l r e = go (judge_table l) (narrow l) e
-  where
-    go : (j : Judged Tree) → Narrow j → Refused r ≡ checked_of j → r.place ≤ 2048
-    go (accepted t) h k = clash (cc)
-    go (refused q) h k = let z : r ≡ in_code q = cc in omega (arith, h.1, ap (λ (x : code.Refusal). x.place) z)

@@ -4,7 +4,8 @@ use native.Mathlib.Omega.{arith}
 use Rattle.values.specs.Refusals.{coded}
 use Rattle.language.specs.Judge.{judge_table}
 use Rattle.table_forms.specs.Tables.{read_held}
-use Rattle.table_check.specs.Checked.{checked_of, leaves-known, reads, unread, place-small}
+use Rattle.table_check.specs.Checked.{checked_of, leaves-known, reads}
+use Rattle.table_check.proofs.Verdicts.{unread, place-small}
 use Rattle.table_check.specs.declared.Checked.TheVariants.{Refused}
 use Rattle.table_check.proofs.check_in.Goals as goal
 use Rattle.table_check.proofs.check_in.Goals.{In-Refused}

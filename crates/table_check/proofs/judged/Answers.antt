@@ -3,7 +3,8 @@ use mathlib.Core.Path.{◌≡◌}
 use native.Mathlib.Omega.{arith}
 use Rattle.values.specs.Refusals.{coded}
 use Rattle.language.specs.Judge.{judge_table}
-use Rattle.table_check.specs.Checked.{checked_of, faulty, over, within, place-small}
+use Rattle.table_check.specs.Checked.{checked_of}
+use Rattle.table_check.proofs.Verdicts.{faulty, over, within, place-small}
 use Rattle.table_check.specs.declared.Checked.TheVariants.{Refused}
 use Rattle.table_check.proofs.judged.Goals as goal
 use Rattle.table_check.proofs.judged.Goals.{In-Fault, In-Over}
