@@ -1,5 +1,4 @@
 -- `table_read::read_head` meets its contract. What is read from the rest, moved by what is passed, is what is read from the part.
-
 use Prim.Native.Nat.{ℕ, ◌*◌, ◌≤◌}
 use mathlib.Core.Path.{◌≡◌, refl, ap, ◌∙◌}
 use native.Mathlib.Omega.{arith}
