@@ -26,42 +26,42 @@ pub arms-loop-i-init : goal.arms-loop-i-init
 arms-loop-i-init t c = arms_start _ _ _ _ _ _ _ _ _ _ _ _ _ _
 
 pub arms-before_arm-q-requires : goal.arms-before_arm-q-requires
-arms-before_arm-q-requires t c = let z = arms-before c.requires.1 c.loop-i.invariant c.loop-i-test.true in (z.0, c.end_of.ensures.1, z.1)
+arms-before_arm-q-requires t c = let z = arms-before c.requires c.loop-i.invariant c.loop-i-test.true in (z.0, c.end_of.ensures.1, z.1)
 
 pub arms-statement-r-requires : goal.arms-statement-r-requires
 arms-statement-r-requires t c = (
-      omega (arith, c.requires.0),
-      arms-asks c.requires.1 c.loop-i.invariant c.loop-i-test.true
+      omega (arith, c.decreases),
+      arms-asks c.requires c.loop-i.invariant c.loop-i-test.true
           (c.second_in-cell.ensures ∙ ap second_in c.known_at.ensures) c.end_of.ensures.0 c.before_arm-q.ensures,
     )
 
 pub arms-after_arm-p-requires : goal.arms-after_arm-p-requires
-arms-after_arm-p-requires t c = arms-behind c.requires.1 c.loop-i.invariant c.loop-i-test.true (c.second_in-cell.ensures ∙ ap second_in c.known_at.ensures)
+arms-after_arm-p-requires t c = arms-behind c.requires c.loop-i.invariant c.loop-i-test.true (c.second_in-cell.ensures ∙ ap second_in c.known_at.ensures)
     c.end_of.ensures.0 c.before_arm-q.ensures c.end_of-end.ensures.0 c.statement-r.ensures
 
 pub arms-size_at-n-requires : goal.arms-size_at-n-requires
-arms-size_at-n-requires t c = (arms-passes c.requires.1 c.loop-i.invariant c.loop-i-test.true _ refl).known
+arms-size_at-n-requires t c = (arms-passes c.requires c.loop-i.invariant c.loop-i-test.true _ refl).known
 
 pub arms-overflow_mul-from : goal.arms-overflow_mul-from
-arms-overflow_mul-from t c = omega (arith, (arms-passes c.requires.1 c.loop-i.invariant c.loop-i-test.true c.size_at-n.result c.size_at-n.ensures).small)
+arms-overflow_mul-from t c = omega (arith, (arms-passes c.requires c.loop-i.invariant c.loop-i-test.true c.size_at-n.result c.size_at-n.ensures).small)
 
 pub arms-slice_bounds-rest-count : goal.arms-slice_bounds-rest-count
-arms-slice_bounds-rest-count t c = (arms-passes c.requires.1 c.loop-i.invariant c.loop-i-test.true c.size_at-n.result c.size_at-n.ensures).fits
+arms-slice_bounds-rest-count t c = (arms-passes c.requires c.loop-i.invariant c.loop-i-test.true c.size_at-n.result c.size_at-n.ensures).fits
 
 pub arms-slice_bounds-rest-start : goal.arms-slice_bounds-rest-start
-arms-slice_bounds-rest-start t c = (arms-passes c.requires.1 c.loop-i.invariant c.loop-i-test.true c.size_at-n.result c.size_at-n.ensures).fits
+arms-slice_bounds-rest-start t c = (arms-passes c.requires c.loop-i.invariant c.loop-i-test.true c.size_at-n.result c.size_at-n.ensures).fits
 
 pub arms-overflow_add-place : goal.arms-overflow_add-place
-arms-overflow_add-place t c = omega (arith, (arms-passes c.requires.1 c.loop-i.invariant c.loop-i-test.true c.size_at-n.result c.size_at-n.ensures).small)
+arms-overflow_add-place t c = omega (arith, (arms-passes c.requires c.loop-i.invariant c.loop-i-test.true c.size_at-n.result c.size_at-n.ensures).small)
 
 pub arms-overflow_add-i : goal.arms-overflow_add-i
-arms-overflow_add-i t c = omega (arith, (arms-before c.requires.1 c.loop-i.invariant c.loop-i-test.true).0)
+arms-overflow_add-i t c = omega (arith, (arms-before c.requires c.loop-i.invariant c.loop-i-test.true).0)
 
 pub arms-loop-i-smaller : goal.arms-loop-i-smaller
 arms-loop-i-smaller t c = omega (arith, c.loop-i-test.true)
 
 pub arms-loop-i-preserved : goal.arms-loop-i-preserved
-arms-loop-i-preserved t c = arms_next c.requires.1 c.loop-i.invariant c.loop-i-test.true (c.second_in-cell.ensures ∙ ap second_in c.known_at.ensures)
+arms-loop-i-preserved t c = arms_next c.requires c.loop-i.invariant c.loop-i-test.true (c.second_in-cell.ensures ∙ ap second_in c.known_at.ensures)
     c.end_of.ensures.0 c.before_arm-q.ensures c.end_of-end.ensures.0 c.statement-r.ensures c.after_arm-p.ensures
     c.size_at-n.result c.size_at-n.ensures
 
@@ -83,71 +83,71 @@ arms-returns t c = arms_end c.loop-i.invariant (omega arith)
 -- what it has done where it returns
 pub assign-returns-then-kind_at-eq-KIND_VARIABLE : goal.assign-returns-then-kind_at-eq-KIND_VARIABLE
 assign-returns-then-kind_at-eq-KIND_VARIABLE t c =
-    answers-variable c.requires.1 c.size_at.result c.size_at.ensures c.meaning-k.result (rw c.a_at.ensures at c.meaning-k.ensures)
+    answers-variable c.requires c.size_at.result c.size_at.ensures c.meaning-k.result (rw c.a_at.ensures at c.meaning-k.ensures)
     (sym c.kind_at.ensures ∙ c.if-kind_at-eq-KIND_VARIABLE.true) c.finish-p.ensures c.expression-q.ensures
     (rw (c.owner.ensures, c.second_in.ensures) at c.emit-r.ensures) c.finish.ensures
 
 pub assign-returns : goal.assign-returns
 assign-returns t c =
-    answers-field c.requires.1 c.size_at.result c.size_at.ensures c.meaning-k.result (rw c.a_at.ensures at c.meaning-k.ensures)
+    answers-field c.requires c.size_at.result c.size_at.ensures c.meaning-k.result (rw c.a_at.ensures at c.meaning-k.ensures)
     (λ z. c.if-kind_at-eq-KIND_VARIABLE.false (c.kind_at.ensures ∙ z)) c.expression-p.ensures c.finish-q.ensures c.expression-r.ensures
     (rw (c.first_in.ensures, c.second_in-2.ensures) at c.emit-s.ensures) c.finish-2.ensures
 
 pub assign-a_at-requires : goal.assign-a_at-requires
-assign-a_at-requires t c = omega (arith, (asks-assign c.requires.1).long)
+assign-a_at-requires t c = omega (arith, (asks-assign c.requires).long)
 
 pub assign-meaning-k-requires : goal.assign-meaning-k-requires
-assign-meaning-k-requires t c = (asks-assign c.requires.1).room
+assign-meaning-k-requires t c = (asks-assign c.requires).room
 
 pub assign-overflow_add-second : goal.assign-overflow_add-second
-assign-overflow_add-second t c = omega (arith, (asked c.requires.1).small)
+assign-overflow_add-second t c = omega (arith, (asked c.requires).small)
 
 pub assign-overflow_add-at : goal.assign-overflow_add-at
-assign-overflow_add-at t c = omega (arith, (asked c.requires.1).small)
+assign-overflow_add-at t c = omega (arith, (asked c.requires).small)
 
 pub assign-size_at-requires : goal.assign-size_at-requires
-assign-size_at-requires t c = ((asks-assign c.requires.1).passes _ refl).known
+assign-size_at-requires t c = ((asks-assign c.requires).passes _ refl).known
 
 pub assign-overflow_add-second-2 : goal.assign-overflow_add-second-2
-assign-overflow_add-second-2 t c = omega (arith, ((asks-assign c.requires.1).passes c.size_at.result c.size_at.ensures).small)
+assign-overflow_add-second-2 t c = omega (arith, ((asks-assign c.requires).passes c.size_at.result c.size_at.ensures).small)
 
 pub assign-overflow_mul-from : goal.assign-overflow_mul-from
-assign-overflow_mul-from t c = omega (arith, ((asks-assign c.requires.1).passes c.size_at.result c.size_at.ensures).small)
+assign-overflow_mul-from t c = omega (arith, ((asks-assign c.requires).passes c.size_at.result c.size_at.ensures).small)
 
 pub assign-kind_at-requires : goal.assign-kind_at-requires
-assign-kind_at-requires t c = omega (arith, (asks-assign c.requires.1).long)
+assign-kind_at-requires t c = omega (arith, (asks-assign c.requires).long)
 
 pub assign-overflow_add-at-then-kind_at-eq-KIND_VARIABLE : goal.assign-overflow_add-at-then-kind_at-eq-KIND_VARIABLE
-assign-overflow_add-at-then-kind_at-eq-KIND_VARIABLE t c = omega (arith, (asked c.requires.1).small)
+assign-overflow_add-at-then-kind_at-eq-KIND_VARIABLE t c = omega (arith, (asked c.requires).small)
 
 pub assign-finish-p-requires : goal.assign-finish-p-requires
-assign-finish-p-requires t c = asks-variable-first c.requires.1 c.size_at.result c.size_at.ensures c.meaning-k.result
+assign-finish-p-requires t c = asks-variable-first c.requires c.size_at.result c.size_at.ensures c.meaning-k.result
     (rw c.a_at.ensures at c.meaning-k.ensures) (sym c.kind_at.ensures ∙ c.if-kind_at-eq-KIND_VARIABLE.true)
 
 pub assign-slice_bounds-expression-count : goal.assign-slice_bounds-expression-count
-assign-slice_bounds-expression-count t c = second-within c.args.part.now c.args.at c.size_at.result (asked c.requires.1).long
-    ((asks-assign c.requires.1).passes c.size_at.result c.size_at.ensures)
+assign-slice_bounds-expression-count t c = second-within c.args.part.now c.args.at c.size_at.result (asked c.requires).long
+    ((asks-assign c.requires).passes c.size_at.result c.size_at.ensures)
 
 pub assign-slice_bounds-expression-start : goal.assign-slice_bounds-expression-start
-assign-slice_bounds-expression-start t c = second-within c.args.part.now c.args.at c.size_at.result (asked c.requires.1).long
-    ((asks-assign c.requires.1).passes c.size_at.result c.size_at.ensures)
+assign-slice_bounds-expression-start t c = second-within c.args.part.now c.args.at c.size_at.result (asked c.requires).long
+    ((asks-assign c.requires).passes c.size_at.result c.size_at.ensures)
 
 pub assign-overflow_sub-nesting : goal.assign-overflow_sub-nesting
-assign-overflow_sub-nesting t c = omega (arith, (asked c.requires.1).nested)
+assign-overflow_sub-nesting t c = omega (arith, (asked c.requires).nested)
 
 pub assign-expression-q-requires : goal.assign-expression-q-requires
 assign-expression-q-requires t c = (
-      omega (arith, (asked c.requires.1).nested, c.requires.0),
-      asks-variable-second c.requires.1 c.size_at.result c.size_at.ensures
+      omega (arith, (asked c.requires).nested, c.decreases),
+      asks-variable-second c.requires c.size_at.result c.size_at.ensures
           c.meaning-k.result (rw c.a_at.ensures at c.meaning-k.ensures) (sym c.kind_at.ensures ∙ c.if-kind_at-eq-KIND_VARIABLE.true) c.finish-p.ensures,
     )
 
 pub assign-emit-r-requires : goal.assign-emit-r-requires
-assign-emit-r-requires t c = asks-variable-emit c.requires.1 c.size_at.result c.size_at.ensures c.meaning-k.result
+assign-emit-r-requires t c = asks-variable-emit c.requires c.size_at.result c.size_at.ensures c.meaning-k.result
     (rw c.a_at.ensures at c.meaning-k.ensures) (sym c.kind_at.ensures ∙ c.if-kind_at-eq-KIND_VARIABLE.true) c.finish-p.ensures c.expression-q.ensures
 
 pub assign-finish-requires : goal.assign-finish-requires
-assign-finish-requires t c = asks-variable-finish c.requires.1 c.size_at.result c.size_at.ensures c.meaning-k.result
+assign-finish-requires t c = asks-variable-finish c.requires c.size_at.result c.size_at.ensures c.meaning-k.result
     (rw c.a_at.ensures at c.meaning-k.ensures) (sym c.kind_at.ensures ∙ c.if-kind_at-eq-KIND_VARIABLE.true) c.finish-p.ensures
     c.expression-q.ensures (rw (c.owner.ensures, c.second_in.ensures) at c.emit-r.ensures)
 
@@ -164,69 +164,69 @@ pub assign-shape_of-out-then-kind_at-eq-KIND_VARIABLE : goal.assign-shape_of-out
 assign-shape_of-out-then-kind_at-eq-KIND_VARIABLE t c = (assign-returns-then-kind_at-eq-KIND_VARIABLE t c).kept.same_out
 
 pub assign-slice_bounds-expression-count-2 : goal.assign-slice_bounds-expression-count-2
-assign-slice_bounds-expression-count-2 t c = omega (arith, (asks-assign c.requires.1).long)
+assign-slice_bounds-expression-count-2 t c = omega (arith, (asks-assign c.requires).long)
 
 pub assign-slice_bounds-expression-start-2 : goal.assign-slice_bounds-expression-start-2
-assign-slice_bounds-expression-start-2 t c = omega (arith, (asks-assign c.requires.1).long)
+assign-slice_bounds-expression-start-2 t c = omega (arith, (asks-assign c.requires).long)
 
 pub assign-overflow_sub-nesting-2 : goal.assign-overflow_sub-nesting-2
 assign-overflow_sub-nesting-2 t c = omega (
       arith,
-      asks-field-nests c.requires.1 c.size_at.result c.size_at.ensures c.meaning-k.result
+      asks-field-nests c.requires c.size_at.result c.size_at.ensures c.meaning-k.result
           (rw c.a_at.ensures at c.meaning-k.ensures) (λ z. c.if-kind_at-eq-KIND_VARIABLE.false (c.kind_at.ensures ∙ z)),
     )
 
 pub assign-overflow_add-at-2 : goal.assign-overflow_add-at-2
-assign-overflow_add-at-2 t c = omega (arith, (asked c.requires.1).small)
+assign-overflow_add-at-2 t c = omega (arith, (asked c.requires).small)
 
 pub assign-expression-p-requires : goal.assign-expression-p-requires
 assign-expression-p-requires t c = (
       omega (
         arith,
-        asks-field-nests c.requires.1 c.size_at.result c.size_at.ensures c.meaning-k.result
+        asks-field-nests c.requires c.size_at.result c.size_at.ensures c.meaning-k.result
             (rw c.a_at.ensures at c.meaning-k.ensures) (λ z. c.if-kind_at-eq-KIND_VARIABLE.false (c.kind_at.ensures ∙ z)),
-        c.requires.0,
+        c.decreases,
       ),
-      asks-field-first c.requires.1 c.size_at.result c.size_at.ensures c.meaning-k.result
+      asks-field-first c.requires c.size_at.result c.size_at.ensures c.meaning-k.result
           (rw c.a_at.ensures at c.meaning-k.ensures) (λ z. c.if-kind_at-eq-KIND_VARIABLE.false (c.kind_at.ensures ∙ z)),
     )
 
 pub assign-overflow_add-at-3 : goal.assign-overflow_add-at-3
-assign-overflow_add-at-3 t c = omega (arith, (asked c.requires.1).small)
+assign-overflow_add-at-3 t c = omega (arith, (asked c.requires).small)
 
 pub assign-finish-q-requires : goal.assign-finish-q-requires
-assign-finish-q-requires t c = asks-field-mid c.requires.1 c.size_at.result c.size_at.ensures c.meaning-k.result
+assign-finish-q-requires t c = asks-field-mid c.requires c.size_at.result c.size_at.ensures c.meaning-k.result
     (rw c.a_at.ensures at c.meaning-k.ensures) (λ z. c.if-kind_at-eq-KIND_VARIABLE.false (c.kind_at.ensures ∙ z)) c.expression-p.ensures
 
 pub assign-slice_bounds-expression-count-3 : goal.assign-slice_bounds-expression-count-3
-assign-slice_bounds-expression-count-3 t c = second-within c.args.part.now c.args.at c.size_at.result (asked c.requires.1).long
-    ((asks-assign c.requires.1).passes c.size_at.result c.size_at.ensures)
+assign-slice_bounds-expression-count-3 t c = second-within c.args.part.now c.args.at c.size_at.result (asked c.requires).long
+    ((asks-assign c.requires).passes c.size_at.result c.size_at.ensures)
 
 pub assign-slice_bounds-expression-start-3 : goal.assign-slice_bounds-expression-start-3
-assign-slice_bounds-expression-start-3 t c = second-within c.args.part.now c.args.at c.size_at.result (asked c.requires.1).long
-    ((asks-assign c.requires.1).passes c.size_at.result c.size_at.ensures)
+assign-slice_bounds-expression-start-3 t c = second-within c.args.part.now c.args.at c.size_at.result (asked c.requires).long
+    ((asks-assign c.requires).passes c.size_at.result c.size_at.ensures)
 
 pub assign-overflow_sub-nesting-3 : goal.assign-overflow_sub-nesting-3
-assign-overflow_sub-nesting-3 t c = omega (arith, (asked c.requires.1).nested)
+assign-overflow_sub-nesting-3 t c = omega (arith, (asked c.requires).nested)
 
 pub assign-overflow_add-depth : goal.assign-overflow_add-depth
-assign-overflow_add-depth t c = omega (arith, (asked c.requires.1).deep)
+assign-overflow_add-depth t c = omega (arith, (asked c.requires).deep)
 
 pub assign-expression-r-requires : goal.assign-expression-r-requires
 assign-expression-r-requires t c = (
-      omega (arith, (asked c.requires.1).nested, c.requires.0),
-      asks-field-second c.requires.1 c.size_at.result c.size_at.ensures
+      omega (arith, (asked c.requires).nested, c.decreases),
+      asks-field-second c.requires c.size_at.result c.size_at.ensures
           c.meaning-k.result (rw c.a_at.ensures at c.meaning-k.ensures) (λ z. c.if-kind_at-eq-KIND_VARIABLE.false (c.kind_at.ensures ∙ z))
           c.expression-p.ensures c.finish-q.ensures,
     )
 
 pub assign-emit-s-requires : goal.assign-emit-s-requires
-assign-emit-s-requires t c = asks-field-emit c.requires.1 c.size_at.result c.size_at.ensures c.meaning-k.result
+assign-emit-s-requires t c = asks-field-emit c.requires c.size_at.result c.size_at.ensures c.meaning-k.result
     (rw c.a_at.ensures at c.meaning-k.ensures) (λ z. c.if-kind_at-eq-KIND_VARIABLE.false (c.kind_at.ensures ∙ z)) c.expression-p.ensures
     c.finish-q.ensures c.expression-r.ensures
 
 pub assign-finish-requires-2 : goal.assign-finish-requires-2
-assign-finish-requires-2 t c = asks-field-finish c.requires.1 c.size_at.result c.size_at.ensures c.meaning-k.result
+assign-finish-requires-2 t c = asks-field-finish c.requires c.size_at.result c.size_at.ensures c.meaning-k.result
     (rw c.a_at.ensures at c.meaning-k.ensures) (λ z. c.if-kind_at-eq-KIND_VARIABLE.false (c.kind_at.ensures ∙ z)) c.expression-p.ensures
     c.finish-q.ensures c.expression-r.ensures (rw (c.first_in.ensures, c.second_in-2.ensures) at c.emit-s.ensures)
 
@@ -245,62 +245,62 @@ assign-shape_of-out t c = (assign-returns t c).kept.same_out
 -- what it has done where it returns
 pub block-returns : goal.block-returns
 block-returns t c =
-    answers-block c.requires.1 c.a_at-heads.ensures c.b_at-count.ensures c.open_block-o.ensures
+    answers-block c.requires c.a_at-heads.ensures c.b_at-count.ensures c.open_block-o.ensures
     c.items-q.ensures c.releases.ensures c.finish.ensures
 
 pub block-a_at-heads-requires : goal.block-a_at-heads-requires
-block-a_at-heads-requires t c = omega (arith, (asked c.requires.1).long)
+block-a_at-heads-requires t c = omega (arith, (asked c.requires).long)
 
 pub block-b_at-count-requires : goal.block-b_at-count-requires
-block-b_at-count-requires t c = omega (arith, (asked c.requires.1).long)
+block-b_at-count-requires t c = omega (arith, (asked c.requires).long)
 
 pub block-slice_bounds-open_block-count : goal.block-slice_bounds-open_block-count
-block-slice_bounds-open_block-count t c = omega (arith, (asked c.requires.1).long)
+block-slice_bounds-open_block-count t c = omega (arith, (asked c.requires).long)
 
 pub block-slice_bounds-open_block-start : goal.block-slice_bounds-open_block-start
-block-slice_bounds-open_block-start t c = omega (arith, (asked c.requires.1).long)
+block-slice_bounds-open_block-start t c = omega (arith, (asked c.requires).long)
 
 pub block-overflow_add-at : goal.block-overflow_add-at
-block-overflow_add-at t c = omega (arith, (asked c.requires.1).small)
+block-overflow_add-at t c = omega (arith, (asked c.requires).small)
 
 pub block-open_block-o-requires : goal.block-open_block-o-requires
-block-open_block-o-requires t c = asks-block-open c.requires.1 c.a_at-heads.ensures c.b_at-count.ensures
+block-open_block-o-requires t c = asks-block-open c.requires c.a_at-heads.ensures c.b_at-count.ensures
 
 pub block-overflow_add-within : goal.block-overflow_add-within
-block-overflow_add-within t c = omega (arith, asks-block-few c.requires.1 c.a_at-heads.ensures c.b_at-count.ensures c.open_block-o.ensures)
+block-overflow_add-within t c = omega (arith, asks-block-few c.requires c.a_at-heads.ensures c.b_at-count.ensures c.open_block-o.ensures)
 
 pub block-overflow_add-from : goal.block-overflow_add-from
-block-overflow_add-from t c = omega (arith, (asks-block-within c.requires.1 c.a_at-heads.ensures c.b_at-count.ensures).1)
+block-overflow_add-from t c = omega (arith, (asks-block-within c.requires c.a_at-heads.ensures c.b_at-count.ensures).1)
 
 pub block-overflow_mul-from : goal.block-overflow_mul-from
-block-overflow_mul-from t c = omega (arith, (asks-block-within c.requires.1 c.a_at-heads.ensures c.b_at-count.ensures).1)
+block-overflow_mul-from t c = omega (arith, (asks-block-within c.requires c.a_at-heads.ensures c.b_at-count.ensures).1)
 
 pub block-slice_bounds-items-count : goal.block-slice_bounds-items-count
-block-slice_bounds-items-count t c = (asks-block-within c.requires.1 c.a_at-heads.ensures c.b_at-count.ensures).0
+block-slice_bounds-items-count t c = (asks-block-within c.requires c.a_at-heads.ensures c.b_at-count.ensures).0
 
 pub block-slice_bounds-items-start : goal.block-slice_bounds-items-start
-block-slice_bounds-items-start t c = (asks-block-within c.requires.1 c.a_at-heads.ensures c.b_at-count.ensures).0
+block-slice_bounds-items-start t c = (asks-block-within c.requires c.a_at-heads.ensures c.b_at-count.ensures).0
 
 pub block-overflow_sub-nesting : goal.block-overflow_sub-nesting
-block-overflow_sub-nesting t c = omega (arith, (asked c.requires.1).nested)
+block-overflow_sub-nesting t c = omega (arith, (asked c.requires).nested)
 
 pub block-overflow_add-at-2 : goal.block-overflow_add-at-2
-block-overflow_add-at-2 t c = omega (arith, (asked c.requires.1).small)
+block-overflow_add-at-2 t c = omega (arith, (asked c.requires).small)
 
 pub block-overflow_add-at-3 : goal.block-overflow_add-at-3
-block-overflow_add-at-3 t c = omega (arith, (asks-block-within c.requires.1 c.a_at-heads.ensures c.b_at-count.ensures).1)
+block-overflow_add-at-3 t c = omega (arith, (asks-block-within c.requires c.a_at-heads.ensures c.b_at-count.ensures).1)
 
 pub block-items-q-requires : goal.block-items-q-requires
 block-items-q-requires t c = (
-      omega (arith, (asked c.requires.1).nested, c.requires.0),
-      asks-block-items c.requires.1 c.a_at-heads.ensures c.b_at-count.ensures c.open_block-o.ensures,
+      omega (arith, (asked c.requires).nested, c.decreases),
+      asks-block-items c.requires c.a_at-heads.ensures c.b_at-count.ensures c.open_block-o.ensures,
     )
 
 pub block-releases-requires : goal.block-releases-requires
-block-releases-requires t c = asks-block-releases c.requires.1 c.a_at-heads.ensures c.b_at-count.ensures c.open_block-o.ensures c.items-q.ensures
+block-releases-requires t c = asks-block-releases c.requires c.a_at-heads.ensures c.b_at-count.ensures c.open_block-o.ensures c.items-q.ensures
 
 pub block-finish-requires : goal.block-finish-requires
-block-finish-requires t c = asks-block-finish c.requires.1 c.a_at-heads.ensures c.b_at-count.ensures c.open_block-o.ensures c.items-q.ensures c.releases.ensures
+block-finish-requires t c = asks-block-finish c.requires c.a_at-heads.ensures c.b_at-count.ensures c.open_block-o.ensures c.items-q.ensures c.releases.ensures
 
 pub block-shape_of-env : goal.block-shape_of-env
 block-shape_of-env t c = (block-returns t c).kept.same-env
@@ -317,106 +317,106 @@ block-shape_of-out t c = (block-returns t c).kept.same_out
 -- what it has done where it returns
 pub body-returns : goal.body-returns
 body-returns t c =
-    answers-body c.requires.1 c.a_at-heads.ensures c.b_at-count.ensures c.open_block-o.ensures
+    answers-body c.requires c.a_at-heads.ensures c.b_at-count.ensures c.open_block-o.ensures
     c.items-q.ensures c.spanned-n.ensures c.expression-r.ensures c.releases.ensures c.finish.ensures
 
 pub body-a_at-heads-requires : goal.body-a_at-heads-requires
-body-a_at-heads-requires t c = omega (arith, (asked c.requires.1).long)
+body-a_at-heads-requires t c = omega (arith, (asked c.requires).long)
 
 pub body-b_at-count-requires : goal.body-b_at-count-requires
-body-b_at-count-requires t c = omega (arith, (asked c.requires.1).long)
+body-b_at-count-requires t c = omega (arith, (asked c.requires).long)
 
 pub body-slice_bounds-open_block-count : goal.body-slice_bounds-open_block-count
-body-slice_bounds-open_block-count t c = omega (arith, (asked c.requires.1).long)
+body-slice_bounds-open_block-count t c = omega (arith, (asked c.requires).long)
 
 pub body-slice_bounds-open_block-start : goal.body-slice_bounds-open_block-start
-body-slice_bounds-open_block-start t c = omega (arith, (asked c.requires.1).long)
+body-slice_bounds-open_block-start t c = omega (arith, (asked c.requires).long)
 
 pub body-overflow_add-at : goal.body-overflow_add-at
-body-overflow_add-at t c = omega (arith, (asked c.requires.1).small)
+body-overflow_add-at t c = omega (arith, (asked c.requires).small)
 
 pub body-open_block-o-requires : goal.body-open_block-o-requires
-body-open_block-o-requires t c = asks-body-open c.requires.1 c.a_at-heads.ensures c.b_at-count.ensures
+body-open_block-o-requires t c = asks-body-open c.requires c.a_at-heads.ensures c.b_at-count.ensures
 
 pub body-overflow_add-within : goal.body-overflow_add-within
-body-overflow_add-within t c = omega (arith, asks-body-few c.requires.1 c.a_at-heads.ensures c.b_at-count.ensures c.open_block-o.ensures)
+body-overflow_add-within t c = omega (arith, asks-body-few c.requires c.a_at-heads.ensures c.b_at-count.ensures c.open_block-o.ensures)
 
 pub body-overflow_add-from : goal.body-overflow_add-from
-body-overflow_add-from t c = omega (arith, (asks-body-within c.requires.1 c.a_at-heads.ensures c.b_at-count.ensures).1)
+body-overflow_add-from t c = omega (arith, (asks-body-within c.requires c.a_at-heads.ensures c.b_at-count.ensures).1)
 
 pub body-overflow_mul-from : goal.body-overflow_mul-from
-body-overflow_mul-from t c = omega (arith, (asks-body-within c.requires.1 c.a_at-heads.ensures c.b_at-count.ensures).1)
+body-overflow_mul-from t c = omega (arith, (asks-body-within c.requires c.a_at-heads.ensures c.b_at-count.ensures).1)
 
 pub body-slice_bounds-items-count : goal.body-slice_bounds-items-count
-body-slice_bounds-items-count t c = (asks-body-within c.requires.1 c.a_at-heads.ensures c.b_at-count.ensures).0
+body-slice_bounds-items-count t c = (asks-body-within c.requires c.a_at-heads.ensures c.b_at-count.ensures).0
 
 pub body-slice_bounds-items-start : goal.body-slice_bounds-items-start
-body-slice_bounds-items-start t c = (asks-body-within c.requires.1 c.a_at-heads.ensures c.b_at-count.ensures).0
+body-slice_bounds-items-start t c = (asks-body-within c.requires c.a_at-heads.ensures c.b_at-count.ensures).0
 
 pub body-overflow_sub-nesting : goal.body-overflow_sub-nesting
-body-overflow_sub-nesting t c = omega (arith, (asked c.requires.1).nested)
+body-overflow_sub-nesting t c = omega (arith, (asked c.requires).nested)
 
 pub body-overflow_add-at-2 : goal.body-overflow_add-at-2
-body-overflow_add-at-2 t c = omega (arith, (asked c.requires.1).small)
+body-overflow_add-at-2 t c = omega (arith, (asked c.requires).small)
 
 pub body-overflow_add-at-3 : goal.body-overflow_add-at-3
-body-overflow_add-at-3 t c = omega (arith, (asks-body-within c.requires.1 c.a_at-heads.ensures c.b_at-count.ensures).1)
+body-overflow_add-at-3 t c = omega (arith, (asks-body-within c.requires c.a_at-heads.ensures c.b_at-count.ensures).1)
 
 pub body-items-q-requires : goal.body-items-q-requires
 body-items-q-requires t c = (
-      omega (arith, (asked c.requires.1).nested, c.requires.0),
-      asks-body-items c.requires.1 c.a_at-heads.ensures c.b_at-count.ensures c.open_block-o.ensures,
+      omega (arith, (asked c.requires).nested, c.decreases),
+      asks-body-items c.requires c.a_at-heads.ensures c.b_at-count.ensures c.open_block-o.ensures,
     )
 
 pub body-overflow_add-at-4 : goal.body-overflow_add-at-4
-body-overflow_add-at-4 t c = omega (arith, (asked c.requires.1).small)
+body-overflow_add-at-4 t c = omega (arith, (asked c.requires).small)
 
 pub body-overflow_add-at-5 : goal.body-overflow_add-at-5
-body-overflow_add-at-5 t c = omega (arith, (asks-body-within c.requires.1 c.a_at-heads.ensures c.b_at-count.ensures).1)
+body-overflow_add-at-5 t c = omega (arith, (asks-body-within c.requires c.a_at-heads.ensures c.b_at-count.ensures).1)
 
 pub body-spanned-n-requires : goal.body-spanned-n-requires
-body-spanned-n-requires t c = asks-body-spanned c.requires.1 c.a_at-heads.ensures c.b_at-count.ensures
+body-spanned-n-requires t c = asks-body-spanned c.requires c.a_at-heads.ensures c.b_at-count.ensures
 
 pub body-overflow_add-after : goal.body-overflow_add-after
-body-overflow_add-after t c = omega (arith, (asks-body-within c.requires.1 c.a_at-heads.ensures c.b_at-count.ensures).1)
+body-overflow_add-after t c = omega (arith, (asks-body-within c.requires c.a_at-heads.ensures c.b_at-count.ensures).1)
 
 pub body-overflow_add-after-2 : goal.body-overflow_add-after-2
-body-overflow_add-after-2 t c = omega (arith, (asks-body-passes c.requires.1 c.a_at-heads.ensures c.b_at-count.ensures c.open_block-o.ensures c.items-q.ensures c.spanned-n.ensures).1)
+body-overflow_add-after-2 t c = omega (arith, (asks-body-passes c.requires c.a_at-heads.ensures c.b_at-count.ensures c.open_block-o.ensures c.items-q.ensures c.spanned-n.ensures).1)
 
 pub body-overflow_mul-after : goal.body-overflow_mul-after
-body-overflow_mul-after t c = omega (arith, (asks-body-passes c.requires.1 c.a_at-heads.ensures c.b_at-count.ensures c.open_block-o.ensures c.items-q.ensures c.spanned-n.ensures).1)
+body-overflow_mul-after t c = omega (arith, (asks-body-passes c.requires c.a_at-heads.ensures c.b_at-count.ensures c.open_block-o.ensures c.items-q.ensures c.spanned-n.ensures).1)
 
 pub body-slice_bounds-expression-count : goal.body-slice_bounds-expression-count
-body-slice_bounds-expression-count t c = (asks-body-passes c.requires.1 c.a_at-heads.ensures c.b_at-count.ensures c.open_block-o.ensures c.items-q.ensures c.spanned-n.ensures).0
+body-slice_bounds-expression-count t c = (asks-body-passes c.requires c.a_at-heads.ensures c.b_at-count.ensures c.open_block-o.ensures c.items-q.ensures c.spanned-n.ensures).0
 
 pub body-slice_bounds-expression-start : goal.body-slice_bounds-expression-start
-body-slice_bounds-expression-start t c = (asks-body-passes c.requires.1 c.a_at-heads.ensures c.b_at-count.ensures c.open_block-o.ensures c.items-q.ensures c.spanned-n.ensures).0
+body-slice_bounds-expression-start t c = (asks-body-passes c.requires c.a_at-heads.ensures c.b_at-count.ensures c.open_block-o.ensures c.items-q.ensures c.spanned-n.ensures).0
 
 pub body-overflow_sub-nesting-2 : goal.body-overflow_sub-nesting-2
-body-overflow_sub-nesting-2 t c = omega (arith, (asked c.requires.1).nested)
+body-overflow_sub-nesting-2 t c = omega (arith, (asked c.requires).nested)
 
 pub body-overflow_add-at-6 : goal.body-overflow_add-at-6
-body-overflow_add-at-6 t c = omega (arith, (asked c.requires.1).small)
+body-overflow_add-at-6 t c = omega (arith, (asked c.requires).small)
 
 pub body-overflow_add-at-7 : goal.body-overflow_add-at-7
-body-overflow_add-at-7 t c = omega (arith, (asks-body-within c.requires.1 c.a_at-heads.ensures c.b_at-count.ensures).1)
+body-overflow_add-at-7 t c = omega (arith, (asks-body-within c.requires c.a_at-heads.ensures c.b_at-count.ensures).1)
 
 pub body-overflow_add-at-8 : goal.body-overflow_add-at-8
-body-overflow_add-at-8 t c = omega (arith, (asks-body-passes c.requires.1 c.a_at-heads.ensures c.b_at-count.ensures c.open_block-o.ensures c.items-q.ensures c.spanned-n.ensures).1)
+body-overflow_add-at-8 t c = omega (arith, (asks-body-passes c.requires c.a_at-heads.ensures c.b_at-count.ensures c.open_block-o.ensures c.items-q.ensures c.spanned-n.ensures).1)
 
 pub body-expression-r-requires : goal.body-expression-r-requires
 body-expression-r-requires t c = (
-      omega (arith, (asked c.requires.1).nested, c.requires.0),
-      asks-body-value c.requires.1 c.a_at-heads.ensures c.b_at-count.ensures c.open_block-o.ensures
+      omega (arith, (asked c.requires).nested, c.decreases),
+      asks-body-value c.requires c.a_at-heads.ensures c.b_at-count.ensures c.open_block-o.ensures
           c.items-q.ensures c.spanned-n.ensures,
     )
 
 pub body-releases-requires : goal.body-releases-requires
-body-releases-requires t c = asks-body-releases c.requires.1 c.a_at-heads.ensures c.b_at-count.ensures c.open_block-o.ensures
+body-releases-requires t c = asks-body-releases c.requires c.a_at-heads.ensures c.b_at-count.ensures c.open_block-o.ensures
     c.items-q.ensures c.spanned-n.ensures c.expression-r.ensures
 
 pub body-finish-requires : goal.body-finish-requires
-body-finish-requires t c = asks-body-finish c.requires.1 c.a_at-heads.ensures c.b_at-count.ensures c.open_block-o.ensures
+body-finish-requires t c = asks-body-finish c.requires c.a_at-heads.ensures c.b_at-count.ensures c.open_block-o.ensures
     c.items-q.ensures c.spanned-n.ensures c.expression-r.ensures c.releases.ensures
 
 pub body-shape_of-env : goal.body-shape_of-env
@@ -434,109 +434,109 @@ body-shape_of-out t c = (body-returns t c).kept.same_out
 -- what it has done where it returns
 pub choose-returns : goal.choose-returns
 choose-returns t c =
-    answers-choose c.requires.1 c.size_at.result c.size_at.ensures c.size_at-2.result
+    answers-choose c.requires c.size_at.result c.size_at.ensures c.size_at-2.result
     c.size_at-2.ensures c.expression-p.ensures c.end_of.ensures.0 c.emit-q.ensures
     c.statement-r.ensures c.end_of-2.ensures.0 c.emit-s.ensures c.shape-t.ensures
     c.statement-u.ensures c.shape.ensures c.finish.ensures
 
 pub choose-slice_bounds-expression-count : goal.choose-slice_bounds-expression-count
-choose-slice_bounds-expression-count t c = omega (arith, (asked c.requires.1).long)
+choose-slice_bounds-expression-count t c = omega (arith, (asked c.requires).long)
 
 pub choose-slice_bounds-expression-start : goal.choose-slice_bounds-expression-start
-choose-slice_bounds-expression-start t c = omega (arith, (asked c.requires.1).long)
+choose-slice_bounds-expression-start t c = omega (arith, (asked c.requires).long)
 
 pub choose-overflow_sub-nesting : goal.choose-overflow_sub-nesting
-choose-overflow_sub-nesting t c = omega (arith, (asked c.requires.1).nested)
+choose-overflow_sub-nesting t c = omega (arith, (asked c.requires).nested)
 
 pub choose-overflow_add-at : goal.choose-overflow_add-at
-choose-overflow_add-at t c = omega (arith, (asked c.requires.1).small)
+choose-overflow_add-at t c = omega (arith, (asked c.requires).small)
 
 pub choose-expression-p-requires : goal.choose-expression-p-requires
-choose-expression-p-requires t c = (omega (arith, (asked c.requires.1).nested, c.requires.0), asks-choose-first c.requires.1)
+choose-expression-p-requires t c = (omega (arith, (asked c.requires).nested, c.decreases), asks-choose-first c.requires)
 
 pub choose-overflow_add-second : goal.choose-overflow_add-second
-choose-overflow_add-second t c = omega (arith, (asked c.requires.1).small)
+choose-overflow_add-second t c = omega (arith, (asked c.requires).small)
 
 pub choose-overflow_add-at-2 : goal.choose-overflow_add-at-2
-choose-overflow_add-at-2 t c = omega (arith, (asked c.requires.1).small)
+choose-overflow_add-at-2 t c = omega (arith, (asked c.requires).small)
 
 pub choose-size_at-requires : goal.choose-size_at-requires
-choose-size_at-requires t c = (asks-choose-passes c.requires.1 _ refl).known
+choose-size_at-requires t c = (asks-choose-passes c.requires _ refl).known
 
 pub choose-overflow_add-second-2 : goal.choose-overflow_add-second-2
-choose-overflow_add-second-2 t c = omega (arith, (asks-choose-passes c.requires.1 c.size_at.result c.size_at.ensures).small)
+choose-overflow_add-second-2 t c = omega (arith, (asks-choose-passes c.requires c.size_at.result c.size_at.ensures).small)
 
 pub choose-size_at-requires-2 : goal.choose-size_at-requires-2
-choose-size_at-requires-2 t c = (asks-choose-passes₂ c.requires.1 c.size_at.result c.size_at.ensures _ refl c.expression-p.ensures).known
+choose-size_at-requires-2 t c = (asks-choose-passes₂ c.requires c.size_at.result c.size_at.ensures _ refl c.expression-p.ensures).known
 
 pub choose-overflow_add-third : goal.choose-overflow_add-third
-choose-overflow_add-third t c = omega (arith, (asks-choose-passes₂ c.requires.1 c.size_at.result c.size_at.ensures c.size_at-2.result c.size_at-2.ensures c.expression-p.ensures).small)
+choose-overflow_add-third t c = omega (arith, (asks-choose-passes₂ c.requires c.size_at.result c.size_at.ensures c.size_at-2.result c.size_at-2.ensures c.expression-p.ensures).small)
 
 pub choose-overflow_add-end_of : goal.choose-overflow_add-end_of
 choose-overflow_add-end_of t c = omega (arith, c.end_of.ensures.1)
 
 pub choose-emit-q-requires : goal.choose-emit-q-requires
-choose-emit-q-requires t c = asks-choose-emit c.requires.1 c.size_at.result c.size_at.ensures c.size_at-2.result
+choose-emit-q-requires t c = asks-choose-emit c.requires c.size_at.result c.size_at.ensures c.size_at-2.result
     c.size_at-2.ensures c.expression-p.ensures
 
 pub choose-overflow_mul-from : goal.choose-overflow_mul-from
-choose-overflow_mul-from t c = omega (arith, (asks-choose-passes c.requires.1 c.size_at.result c.size_at.ensures).small)
+choose-overflow_mul-from t c = omega (arith, (asks-choose-passes c.requires c.size_at.result c.size_at.ensures).small)
 
 pub choose-slice_bounds-statement-count : goal.choose-slice_bounds-statement-count
-choose-slice_bounds-statement-count t c = second-within c.args.part.now c.args.at c.size_at.result (asked c.requires.1).long
-    (asks-choose-passes c.requires.1 c.size_at.result c.size_at.ensures)
+choose-slice_bounds-statement-count t c = second-within c.args.part.now c.args.at c.size_at.result (asked c.requires).long
+    (asks-choose-passes c.requires c.size_at.result c.size_at.ensures)
 
 pub choose-slice_bounds-statement-start : goal.choose-slice_bounds-statement-start
-choose-slice_bounds-statement-start t c = second-within c.args.part.now c.args.at c.size_at.result (asked c.requires.1).long
-    (asks-choose-passes c.requires.1 c.size_at.result c.size_at.ensures)
+choose-slice_bounds-statement-start t c = second-within c.args.part.now c.args.at c.size_at.result (asked c.requires).long
+    (asks-choose-passes c.requires c.size_at.result c.size_at.ensures)
 
 pub choose-overflow_sub-nesting-2 : goal.choose-overflow_sub-nesting-2
-choose-overflow_sub-nesting-2 t c = omega (arith, (asked c.requires.1).nested)
+choose-overflow_sub-nesting-2 t c = omega (arith, (asked c.requires).nested)
 
 pub choose-statement-r-requires : goal.choose-statement-r-requires
 choose-statement-r-requires t c = (
-      omega (arith, (asked c.requires.1).nested, c.requires.0),
-      asks-choose-second c.requires.1 c.size_at.result c.size_at.ensures c.size_at-2.result c.size_at-2.ensures
+      omega (arith, (asked c.requires).nested, c.decreases),
+      asks-choose-second c.requires c.size_at.result c.size_at.ensures c.size_at-2.result c.size_at-2.ensures
           c.expression-p.ensures c.end_of.ensures.0 c.emit-q.ensures,
     )
 
 pub choose-emit-s-requires : goal.choose-emit-s-requires
-choose-emit-s-requires t c = asks-choose-emit₂ c.requires.1 c.size_at.result c.size_at.ensures c.size_at-2.result
+choose-emit-s-requires t c = asks-choose-emit₂ c.requires c.size_at.result c.size_at.ensures c.size_at-2.result
     c.size_at-2.ensures c.expression-p.ensures c.end_of.ensures.0 c.emit-q.ensures
     c.statement-r.ensures
 
 pub choose-shape-t-requires : goal.choose-shape-t-requires
-choose-shape-t-requires t c = asks-choose-shape c.requires.1 c.size_at.result c.size_at.ensures c.size_at-2.result
+choose-shape-t-requires t c = asks-choose-shape c.requires c.size_at.result c.size_at.ensures c.size_at-2.result
     c.size_at-2.ensures c.expression-p.ensures c.end_of.ensures.0 c.emit-q.ensures
     c.statement-r.ensures c.end_of-2.ensures.0 c.emit-s.ensures
 
 pub choose-overflow_mul-last : goal.choose-overflow_mul-last
-choose-overflow_mul-last t c = omega (arith, (asks-choose-passes₂ c.requires.1 c.size_at.result c.size_at.ensures c.size_at-2.result c.size_at-2.ensures c.expression-p.ensures).small)
+choose-overflow_mul-last t c = omega (arith, (asks-choose-passes₂ c.requires c.size_at.result c.size_at.ensures c.size_at-2.result c.size_at-2.ensures c.expression-p.ensures).small)
 
 pub choose-slice_bounds-statement-count-2 : goal.choose-slice_bounds-statement-count-2
-choose-slice_bounds-statement-count-2 t c = third-within c.args.part.now c.args.at (c.args.at + 1 + c.size_at.result) c.size_at-2.result (omega arith) (second-within c.args.part.now c.args.at c.size_at.result (asked c.requires.1).long (asks-choose-passes c.requires.1 c.size_at.result c.size_at.ensures)) (asks-choose-passes₂ c.requires.1 c.size_at.result c.size_at.ensures c.size_at-2.result c.size_at-2.ensures c.expression-p.ensures)
+choose-slice_bounds-statement-count-2 t c = third-within c.args.part.now c.args.at (c.args.at + 1 + c.size_at.result) c.size_at-2.result (omega arith) (second-within c.args.part.now c.args.at c.size_at.result (asked c.requires).long (asks-choose-passes c.requires c.size_at.result c.size_at.ensures)) (asks-choose-passes₂ c.requires c.size_at.result c.size_at.ensures c.size_at-2.result c.size_at-2.ensures c.expression-p.ensures)
 
 pub choose-slice_bounds-statement-start-2 : goal.choose-slice_bounds-statement-start-2
-choose-slice_bounds-statement-start-2 t c = third-within c.args.part.now c.args.at (c.args.at + 1 + c.size_at.result) c.size_at-2.result (omega arith) (second-within c.args.part.now c.args.at c.size_at.result (asked c.requires.1).long (asks-choose-passes c.requires.1 c.size_at.result c.size_at.ensures)) (asks-choose-passes₂ c.requires.1 c.size_at.result c.size_at.ensures c.size_at-2.result c.size_at-2.ensures c.expression-p.ensures)
+choose-slice_bounds-statement-start-2 t c = third-within c.args.part.now c.args.at (c.args.at + 1 + c.size_at.result) c.size_at-2.result (omega arith) (second-within c.args.part.now c.args.at c.size_at.result (asked c.requires).long (asks-choose-passes c.requires c.size_at.result c.size_at.ensures)) (asks-choose-passes₂ c.requires c.size_at.result c.size_at.ensures c.size_at-2.result c.size_at-2.ensures c.expression-p.ensures)
 
 pub choose-overflow_sub-nesting-3 : goal.choose-overflow_sub-nesting-3
-choose-overflow_sub-nesting-3 t c = omega (arith, (asked c.requires.1).nested)
+choose-overflow_sub-nesting-3 t c = omega (arith, (asked c.requires).nested)
 
 pub choose-statement-u-requires : goal.choose-statement-u-requires
 choose-statement-u-requires t c = (
-      omega (arith, (asked c.requires.1).nested, c.requires.0),
-      asks-choose-third c.requires.1 c.size_at.result c.size_at.ensures c.size_at-2.result
+      omega (arith, (asked c.requires).nested, c.decreases),
+      asks-choose-third c.requires c.size_at.result c.size_at.ensures c.size_at-2.result
           c.size_at-2.ensures c.expression-p.ensures c.end_of.ensures.0 c.emit-q.ensures
           c.statement-r.ensures c.end_of-2.ensures.0 c.emit-s.ensures c.shape-t.ensures,
     )
 
 pub choose-shape-requires : goal.choose-shape-requires
-choose-shape-requires t c = asks-choose-shape₂ c.requires.1 c.size_at.result c.size_at.ensures c.size_at-2.result
+choose-shape-requires t c = asks-choose-shape₂ c.requires c.size_at.result c.size_at.ensures c.size_at-2.result
     c.size_at-2.ensures c.expression-p.ensures c.end_of.ensures.0 c.emit-q.ensures
     c.statement-r.ensures c.end_of-2.ensures.0 c.emit-s.ensures c.shape-t.ensures c.statement-u.ensures
 
 pub choose-finish-requires : goal.choose-finish-requires
-choose-finish-requires t c = asks-choose-finish c.requires.1 c.size_at.result c.size_at.ensures c.size_at-2.result c.size_at-2.ensures
+choose-finish-requires t c = asks-choose-finish c.requires c.size_at.result c.size_at.ensures c.size_at-2.result c.size_at-2.ensures
     c.expression-p.ensures c.end_of.ensures.0 c.emit-q.ensures
     c.statement-r.ensures c.end_of-2.ensures.0 c.emit-s.ensures c.shape-t.ensures c.statement-u.ensures c.shape.ensures
 
@@ -555,119 +555,119 @@ choose-shape_of-out t c = (choose-returns t c).kept.same_out
 -- what it has done where it returns
 pub conditional-returns : goal.conditional-returns
 conditional-returns t c =
-    answers-cond c.requires.1 c.size_at.result c.size_at.ensures c.expression-p.ensures
+    answers-cond c.requires c.size_at.result c.size_at.ensures c.expression-p.ensures
     c.end_of.ensures.0 c.emit-q.ensures c.expression-r.ensures
     c.size_at-2.result c.size_at-2.ensures
     c.end_of-2.ensures.0 c.emit-s.ensures c.shape-t.ensures c.expression-u.ensures _ refl c.shape.ensures c.finish.ensures
 
 pub conditional-slice_bounds-expression-count : goal.conditional-slice_bounds-expression-count
-conditional-slice_bounds-expression-count t c = omega (arith, (asked c.requires.1).long)
+conditional-slice_bounds-expression-count t c = omega (arith, (asked c.requires).long)
 
 pub conditional-slice_bounds-expression-start : goal.conditional-slice_bounds-expression-start
-conditional-slice_bounds-expression-start t c = omega (arith, (asked c.requires.1).long)
+conditional-slice_bounds-expression-start t c = omega (arith, (asked c.requires).long)
 
 pub conditional-overflow_sub-nesting : goal.conditional-overflow_sub-nesting
-conditional-overflow_sub-nesting t c = omega (arith, (asked c.requires.1).nested)
+conditional-overflow_sub-nesting t c = omega (arith, (asked c.requires).nested)
 
 pub conditional-overflow_add-at : goal.conditional-overflow_add-at
-conditional-overflow_add-at t c = omega (arith, (asked c.requires.1).small)
+conditional-overflow_add-at t c = omega (arith, (asked c.requires).small)
 
 pub conditional-expression-p-requires : goal.conditional-expression-p-requires
-conditional-expression-p-requires t c = (omega (arith, (asked c.requires.1).nested, c.requires.0), asks-cond-first c.requires.1)
+conditional-expression-p-requires t c = (omega (arith, (asked c.requires).nested, c.decreases), asks-cond-first c.requires)
 
 pub conditional-overflow_add-second : goal.conditional-overflow_add-second
-conditional-overflow_add-second t c = omega (arith, (asked c.requires.1).small)
+conditional-overflow_add-second t c = omega (arith, (asked c.requires).small)
 
 pub conditional-overflow_add-at-2 : goal.conditional-overflow_add-at-2
-conditional-overflow_add-at-2 t c = omega (arith, (asked c.requires.1).small)
+conditional-overflow_add-at-2 t c = omega (arith, (asked c.requires).small)
 
 pub conditional-size_at-requires : goal.conditional-size_at-requires
-conditional-size_at-requires t c = (asks-cond-passes c.requires.1 _ refl).known
+conditional-size_at-requires t c = (asks-cond-passes c.requires _ refl).known
 
 pub conditional-overflow_add-second-2 : goal.conditional-overflow_add-second-2
-conditional-overflow_add-second-2 t c = omega (arith, (asks-cond-passes c.requires.1 c.size_at.result c.size_at.ensures).small)
+conditional-overflow_add-second-2 t c = omega (arith, (asks-cond-passes c.requires c.size_at.result c.size_at.ensures).small)
 
 pub conditional-size_at-requires-2 : goal.conditional-size_at-requires-2
-conditional-size_at-requires-2 t c = (asks-cond-passes₂ c.requires.1 c.size_at.result c.size_at.ensures c.expression-p.ensures _ refl).known
+conditional-size_at-requires-2 t c = (asks-cond-passes₂ c.requires c.size_at.result c.size_at.ensures c.expression-p.ensures _ refl).known
 
 pub conditional-overflow_add-third : goal.conditional-overflow_add-third
-conditional-overflow_add-third t c = omega (arith, (asks-cond-passes₂ c.requires.1 c.size_at.result c.size_at.ensures c.expression-p.ensures c.size_at-2.result c.size_at-2.ensures).small)
+conditional-overflow_add-third t c = omega (arith, (asks-cond-passes₂ c.requires c.size_at.result c.size_at.ensures c.expression-p.ensures c.size_at-2.result c.size_at-2.ensures).small)
 
 pub conditional-overflow_add-end_of : goal.conditional-overflow_add-end_of
 conditional-overflow_add-end_of t c = omega (arith, c.end_of.ensures.1)
 
 pub conditional-emit-q-requires : goal.conditional-emit-q-requires
-conditional-emit-q-requires t c = asks-cond-emit c.requires.1 c.size_at.result c.size_at.ensures c.expression-p.ensures
+conditional-emit-q-requires t c = asks-cond-emit c.requires c.size_at.result c.size_at.ensures c.expression-p.ensures
 
 pub conditional-overflow_mul-from : goal.conditional-overflow_mul-from
-conditional-overflow_mul-from t c = omega (arith, (asks-cond-passes c.requires.1 c.size_at.result c.size_at.ensures).small)
+conditional-overflow_mul-from t c = omega (arith, (asks-cond-passes c.requires c.size_at.result c.size_at.ensures).small)
 
 pub conditional-slice_bounds-expression-count-2 : goal.conditional-slice_bounds-expression-count-2
-conditional-slice_bounds-expression-count-2 t c = second-within c.args.part.now c.args.at c.size_at.result (asked c.requires.1).long
-    (asks-cond-passes c.requires.1 c.size_at.result c.size_at.ensures)
+conditional-slice_bounds-expression-count-2 t c = second-within c.args.part.now c.args.at c.size_at.result (asked c.requires).long
+    (asks-cond-passes c.requires c.size_at.result c.size_at.ensures)
 
 pub conditional-slice_bounds-expression-start-2 : goal.conditional-slice_bounds-expression-start-2
-conditional-slice_bounds-expression-start-2 t c = second-within c.args.part.now c.args.at c.size_at.result (asked c.requires.1).long
-    (asks-cond-passes c.requires.1 c.size_at.result c.size_at.ensures)
+conditional-slice_bounds-expression-start-2 t c = second-within c.args.part.now c.args.at c.size_at.result (asked c.requires).long
+    (asks-cond-passes c.requires c.size_at.result c.size_at.ensures)
 
 pub conditional-overflow_sub-nesting-2 : goal.conditional-overflow_sub-nesting-2
-conditional-overflow_sub-nesting-2 t c = omega (arith, (asked c.requires.1).nested)
+conditional-overflow_sub-nesting-2 t c = omega (arith, (asked c.requires).nested)
 
 pub conditional-expression-r-requires : goal.conditional-expression-r-requires
 conditional-expression-r-requires t c = (
-      omega (arith, (asked c.requires.1).nested, c.requires.0),
-      asks-cond-second c.requires.1 c.size_at.result c.size_at.ensures
+      omega (arith, (asked c.requires).nested, c.decreases),
+      asks-cond-second c.requires c.size_at.result c.size_at.ensures
           c.expression-p.ensures c.end_of.ensures.0 c.emit-q.ensures,
     )
 
 pub conditional-bounds-stack-depth : goal.conditional-bounds-stack-depth
-conditional-bounds-stack-depth t c = asks-cond-read c.requires.1 c.size_at.result c.size_at.ensures c.expression-p.ensures
+conditional-bounds-stack-depth t c = asks-cond-read c.requires c.size_at.result c.size_at.ensures c.expression-p.ensures
     c.end_of.ensures.0 c.emit-q.ensures c.expression-r.ensures
 
 pub conditional-emit-s-requires : goal.conditional-emit-s-requires
-conditional-emit-s-requires t c = asks-cond-emit₂ c.requires.1 c.size_at.result c.size_at.ensures c.expression-p.ensures
+conditional-emit-s-requires t c = asks-cond-emit₂ c.requires c.size_at.result c.size_at.ensures c.expression-p.ensures
     c.end_of.ensures.0 c.emit-q.ensures c.expression-r.ensures
 
 pub conditional-shape-t-requires : goal.conditional-shape-t-requires
-conditional-shape-t-requires t c = asks-cond-shape c.requires.1 c.size_at.result c.size_at.ensures c.expression-p.ensures c.end_of.ensures.0 c.emit-q.ensures
+conditional-shape-t-requires t c = asks-cond-shape c.requires c.size_at.result c.size_at.ensures c.expression-p.ensures c.end_of.ensures.0 c.emit-q.ensures
     c.expression-r.ensures c.size_at-2.result c.size_at-2.ensures
     c.end_of-2.ensures.0 c.emit-s.ensures
 
 pub conditional-overflow_mul-last : goal.conditional-overflow_mul-last
-conditional-overflow_mul-last t c = omega (arith, (asks-cond-passes₂ c.requires.1 c.size_at.result c.size_at.ensures c.expression-p.ensures c.size_at-2.result c.size_at-2.ensures).small)
+conditional-overflow_mul-last t c = omega (arith, (asks-cond-passes₂ c.requires c.size_at.result c.size_at.ensures c.expression-p.ensures c.size_at-2.result c.size_at-2.ensures).small)
 
 pub conditional-slice_bounds-expression-count-3 : goal.conditional-slice_bounds-expression-count-3
-conditional-slice_bounds-expression-count-3 t c = third-within c.args.part.now c.args.at (c.args.at + 1 + c.size_at.result) c.size_at-2.result (omega arith) (second-within c.args.part.now c.args.at c.size_at.result (asked c.requires.1).long (asks-cond-passes c.requires.1 c.size_at.result c.size_at.ensures)) (asks-cond-passes₂ c.requires.1 c.size_at.result c.size_at.ensures c.expression-p.ensures c.size_at-2.result c.size_at-2.ensures)
+conditional-slice_bounds-expression-count-3 t c = third-within c.args.part.now c.args.at (c.args.at + 1 + c.size_at.result) c.size_at-2.result (omega arith) (second-within c.args.part.now c.args.at c.size_at.result (asked c.requires).long (asks-cond-passes c.requires c.size_at.result c.size_at.ensures)) (asks-cond-passes₂ c.requires c.size_at.result c.size_at.ensures c.expression-p.ensures c.size_at-2.result c.size_at-2.ensures)
 
 pub conditional-slice_bounds-expression-start-3 : goal.conditional-slice_bounds-expression-start-3
-conditional-slice_bounds-expression-start-3 t c = third-within c.args.part.now c.args.at (c.args.at + 1 + c.size_at.result) c.size_at-2.result (omega arith) (second-within c.args.part.now c.args.at c.size_at.result (asked c.requires.1).long (asks-cond-passes c.requires.1 c.size_at.result c.size_at.ensures)) (asks-cond-passes₂ c.requires.1 c.size_at.result c.size_at.ensures c.expression-p.ensures c.size_at-2.result c.size_at-2.ensures)
+conditional-slice_bounds-expression-start-3 t c = third-within c.args.part.now c.args.at (c.args.at + 1 + c.size_at.result) c.size_at-2.result (omega arith) (second-within c.args.part.now c.args.at c.size_at.result (asked c.requires).long (asks-cond-passes c.requires c.size_at.result c.size_at.ensures)) (asks-cond-passes₂ c.requires c.size_at.result c.size_at.ensures c.expression-p.ensures c.size_at-2.result c.size_at-2.ensures)
 
 pub conditional-overflow_sub-nesting-3 : goal.conditional-overflow_sub-nesting-3
-conditional-overflow_sub-nesting-3 t c = omega (arith, (asked c.requires.1).nested)
+conditional-overflow_sub-nesting-3 t c = omega (arith, (asked c.requires).nested)
 
 pub conditional-expression-u-requires : goal.conditional-expression-u-requires
 conditional-expression-u-requires t c = (
-      omega (arith, (asked c.requires.1).nested, c.requires.0),
-      asks-cond-third c.requires.1 c.size_at.result c.size_at.ensures c.expression-p.ensures c.end_of.ensures.0
+      omega (arith, (asked c.requires).nested, c.decreases),
+      asks-cond-third c.requires c.size_at.result c.size_at.ensures c.expression-p.ensures c.end_of.ensures.0
           c.emit-q.ensures c.expression-r.ensures c.size_at-2.result c.size_at-2.ensures
           c.end_of-2.ensures.0 c.emit-s.ensures c.shape-t.ensures,
     )
 
 pub conditional-bounds-stack-depth-2 : goal.conditional-bounds-stack-depth-2
-conditional-bounds-stack-depth-2 t c = asks-cond-write c.requires.1 c.size_at.result c.size_at.ensures c.expression-p.ensures c.end_of.ensures.0 c.emit-q.ensures
+conditional-bounds-stack-depth-2 t c = asks-cond-write c.requires c.size_at.result c.size_at.ensures c.expression-p.ensures c.end_of.ensures.0 c.emit-q.ensures
     c.expression-r.ensures c.size_at-2.result c.size_at-2.ensures
     c.end_of-2.ensures.0 c.emit-s.ensures c.shape-t.ensures c.expression-u.ensures
 
 pub conditional-overflow_add-depth : goal.conditional-overflow_add-depth
-conditional-overflow_add-depth t c = omega (arith, (asked c.requires.1).deep)
+conditional-overflow_add-depth t c = omega (arith, (asked c.requires).deep)
 
 pub conditional-shape-requires : goal.conditional-shape-requires
-conditional-shape-requires t c = asks-cond-shape₂ c.requires.1 c.size_at.result c.size_at.ensures c.expression-p.ensures c.end_of.ensures.0
+conditional-shape-requires t c = asks-cond-shape₂ c.requires c.size_at.result c.size_at.ensures c.expression-p.ensures c.end_of.ensures.0
     c.emit-q.ensures c.expression-r.ensures c.size_at-2.result c.size_at-2.ensures
     c.end_of-2.ensures.0 c.emit-s.ensures c.shape-t.ensures c.expression-u.ensures _ refl
 
 pub conditional-finish-requires : goal.conditional-finish-requires
-conditional-finish-requires t c = asks-cond-finish c.requires.1 c.size_at.result c.size_at.ensures c.expression-p.ensures c.end_of.ensures.0
+conditional-finish-requires t c = asks-cond-finish c.requires c.size_at.result c.size_at.ensures c.expression-p.ensures c.end_of.ensures.0
     c.emit-q.ensures c.expression-r.ensures c.size_at-2.result c.size_at-2.ensures
     c.end_of-2.ensures.0 c.emit-s.ensures c.shape-t.ensures c.expression-u.ensures _ refl c.shape.ensures
 
@@ -691,49 +691,49 @@ expression-returns-then-kind-lt-KIND_FUNCTION t c =
     (answers-leaf (ask-as (λ n h e. leaf-of n h (λ z. c.in_default.in_default-own.rest.0.0.1 (c.kind_at-kind.ensures ∙ (sym e ∙ z)))
     (λ z. c.in_default.in_default-own.rest.0.1 (c.kind_at-kind.ensures ∙ (sym e ∙ z)))
     (λ z. c.in_default.in_default-own.rest.1 (c.kind_at-kind.ensures ∙ (sym e ∙ z))) (omega (arith, e, c.kind_at-kind.ensures, c.if-kind-lt-KIND_FUNCTION.true)))
-    c.requires.1) c.kind_at-kind.ensures c.a_at.ensures
+    c.requires) c.kind_at-kind.ensures c.a_at.ensures
     c.b_at.ensures c.known_of-k.ensures c.leaf_type.ensures c.leaf.ensures c.finish.ensures)
 
 pub expression-kind_at-kind-requires : goal.expression-kind_at-kind-requires
-expression-kind_at-kind-requires t c = omega (arith, (asked c.requires.1).long)
+expression-kind_at-kind-requires t c = omega (arith, (asked c.requires).long)
 
 pub expression-pair-requires : goal.expression-pair-requires
-expression-pair-requires t c = (omega (arith, c.requires.0), ask-as (λ n h e. e ∙ (sym c.kind_at-kind.ensures ∙ c.in-49.is)) c.requires.1)
+expression-pair-requires t c = (omega (arith, c.decreases), ask-as (λ n h e. e ∙ (sym c.kind_at-kind.ensures ∙ c.in-49.is)) c.requires)
 
 pub expression-conditional-requires : goal.expression-conditional-requires
-expression-conditional-requires t c = (omega (arith, c.requires.0), ask-as (λ n h e. e ∙ (sym c.kind_at-kind.ensures ∙ c.in-50.is)) c.requires.1)
+expression-conditional-requires t c = (omega (arith, c.decreases), ask-as (λ n h e. e ∙ (sym c.kind_at-kind.ensures ∙ c.in-50.is)) c.requires)
 
 pub expression-body-requires : goal.expression-body-requires
-expression-body-requires t c = (omega (arith, c.requires.0), ask-as (λ n h e. e ∙ (sym c.kind_at-kind.ensures ∙ c.in-53.is)) c.requires.1)
+expression-body-requires t c = (omega (arith, c.decreases), ask-as (λ n h e. e ∙ (sym c.kind_at-kind.ensures ∙ c.in-53.is)) c.requires)
 
 pub expression-a_at-requires : goal.expression-a_at-requires
-expression-a_at-requires t c = omega (arith, (asked c.requires.1).long)
+expression-a_at-requires t c = omega (arith, (asked c.requires).long)
 
 pub expression-known_of-k-requires : goal.expression-known_of-k-requires
-expression-known_of-k-requires t c = (asked c.requires.1).room
+expression-known_of-k-requires t c = (asked c.requires).room
 
 pub expression-bounds-stack-depth : goal.expression-bounds-stack-depth
-expression-bounds-stack-depth t c = omega (arith, (asked c.requires.1).deep, (asked c.requires.1).stacked)
+expression-bounds-stack-depth t c = omega (arith, (asked c.requires).deep, (asked c.requires).stacked)
 
 pub expression-b_at-requires : goal.expression-b_at-requires
-expression-b_at-requires t c = omega (arith, (asked c.requires.1).long)
+expression-b_at-requires t c = omega (arith, (asked c.requires).long)
 
 pub expression-leaf-requires : goal.expression-leaf-requires
 expression-leaf-requires t c = asks-leaf (ask-as (λ n h e. leaf-of n h (λ z. c.in_default.in_default-own.rest.0.0.1 (c.kind_at-kind.ensures ∙ (sym e ∙ z)))
     (λ z. c.in_default.in_default-own.rest.0.1 (c.kind_at-kind.ensures ∙ (sym e ∙ z))) (λ z. c.in_default.in_default-own.rest.1 (c.kind_at-kind.ensures ∙ (sym e ∙ z)))
-    (omega (arith, e, c.kind_at-kind.ensures, c.if-kind-lt-KIND_FUNCTION.true))) c.requires.1)
+    (omega (arith, e, c.kind_at-kind.ensures, c.if-kind-lt-KIND_FUNCTION.true))) c.requires)
 
 pub expression-finish-requires : goal.expression-finish-requires
 expression-finish-requires t c = asks-leaf-finish (ask-as (λ n h e. leaf-of n h (λ z. c.in_default.in_default-own.rest.0.0.1 (c.kind_at-kind.ensures ∙ (sym e ∙ z)))
     (λ z. c.in_default.in_default-own.rest.0.1 (c.kind_at-kind.ensures ∙ (sym e ∙ z))) (λ z. c.in_default.in_default-own.rest.1 (c.kind_at-kind.ensures ∙ (sym e ∙ z)))
-    (omega (arith, e, c.kind_at-kind.ensures, c.if-kind-lt-KIND_FUNCTION.true))) c.requires.1) c.leaf.ensures.0
+    (omega (arith, e, c.kind_at-kind.ensures, c.if-kind-lt-KIND_FUNCTION.true))) c.requires) c.leaf.ensures.0
 
 pub expression-simple-requires : goal.expression-simple-requires
 expression-simple-requires t c = (
-      omega (arith, c.requires.0),
+      omega (arith, c.decreases),
       asks-anew _ (ask-as (λ n h e. simple-expr n h (λ z. c.in_default.in_default-own.rest.0.0.1 (c.kind_at-kind.ensures ∙ (sym e ∙ z)))
           (λ z. c.in_default.in_default-own.rest.0.1 (c.kind_at-kind.ensures ∙ (sym e ∙ z))) (λ z. c.in_default.in_default-own.rest.1 (c.kind_at-kind.ensures ∙ (sym e ∙ z)))
-          (omega (arith, e, c.kind_at-kind.ensures, c.if-kind-lt-KIND_FUNCTION.false))) c.requires.1),
+          (omega (arith, e, c.kind_at-kind.ensures, c.if-kind-lt-KIND_FUNCTION.false))) c.requires),
     )
 
 pub expression-shape_of-env-in-49 : goal.expression-shape_of-env-in-49
@@ -814,22 +814,22 @@ pub items-loop-left-init : goal.items-loop-left-init
 items-loop-left-init t c = items-start _ _ _ _ _ _ _ _ _ _ _ _ _
 
 pub items-statement-p-requires : goal.items-statement-p-requires
-items-statement-p-requires t c = (omega (arith, c.requires.0), items-asks c.loop-left.invariant c.loop-left-test.true c.requires.1)
+items-statement-p-requires t c = (omega (arith, c.decreases), items-asks c.loop-left.invariant c.loop-left-test.true c.requires)
 
 pub items-size_at-n-requires : goal.items-size_at-n-requires
-items-size_at-n-requires t c = (items-passes c.loop-left.invariant c.loop-left-test.true c.requires.1 _ refl).known
+items-size_at-n-requires t c = (items-passes c.loop-left.invariant c.loop-left-test.true c.requires _ refl).known
 
 pub items-overflow_mul-from : goal.items-overflow_mul-from
-items-overflow_mul-from t c = omega (arith, (items-passes c.loop-left.invariant c.loop-left-test.true c.requires.1 c.size_at-n.result c.size_at-n.ensures).small)
+items-overflow_mul-from t c = omega (arith, (items-passes c.loop-left.invariant c.loop-left-test.true c.requires c.size_at-n.result c.size_at-n.ensures).small)
 
 pub items-slice_bounds-rest-count : goal.items-slice_bounds-rest-count
-items-slice_bounds-rest-count t c = (items-passes c.loop-left.invariant c.loop-left-test.true c.requires.1 c.size_at-n.result c.size_at-n.ensures).fits
+items-slice_bounds-rest-count t c = (items-passes c.loop-left.invariant c.loop-left-test.true c.requires c.size_at-n.result c.size_at-n.ensures).fits
 
 pub items-slice_bounds-rest-start : goal.items-slice_bounds-rest-start
-items-slice_bounds-rest-start t c = (items-passes c.loop-left.invariant c.loop-left-test.true c.requires.1 c.size_at-n.result c.size_at-n.ensures).fits
+items-slice_bounds-rest-start t c = (items-passes c.loop-left.invariant c.loop-left-test.true c.requires c.size_at-n.result c.size_at-n.ensures).fits
 
 pub items-overflow_add-place : goal.items-overflow_add-place
-items-overflow_add-place t c = omega (arith, (items-passes c.loop-left.invariant c.loop-left-test.true c.requires.1 c.size_at-n.result c.size_at-n.ensures).small)
+items-overflow_add-place t c = omega (arith, (items-passes c.loop-left.invariant c.loop-left-test.true c.requires c.size_at-n.result c.size_at-n.ensures).small)
 
 pub items-overflow_sub-left : goal.items-overflow_sub-left
 items-overflow_sub-left t c = omega (arith, c.loop-left-test.true)
@@ -859,28 +859,28 @@ pub operands-loop-i-init : goal.operands-loop-i-init
 operands-loop-i-init t c = es-start _ _ _ _ _ _ _ _ _ _ _ _ _
 
 pub operands-overflow_add-depth : goal.operands-overflow_add-depth
-operands-overflow_add-depth t c = omega (arith, (asked (es-asks c.loop-i.invariant c.loop-i-test.true c.requires.1)).deep)
+operands-overflow_add-depth t c = omega (arith, (asked (es-asks c.loop-i.invariant c.loop-i-test.true c.requires)).deep)
 
 pub operands-expression-p-requires : goal.operands-expression-p-requires
-operands-expression-p-requires t c = (omega (arith, c.requires.0), es-asks c.loop-i.invariant c.loop-i-test.true c.requires.1)
+operands-expression-p-requires t c = (omega (arith, c.decreases), es-asks c.loop-i.invariant c.loop-i-test.true c.requires)
 
 pub operands-size_at-n-requires : goal.operands-size_at-n-requires
-operands-size_at-n-requires t c = (es-passes c.loop-i.invariant c.loop-i-test.true c.requires.1 _ refl).known
+operands-size_at-n-requires t c = (es-passes c.loop-i.invariant c.loop-i-test.true c.requires _ refl).known
 
 pub operands-overflow_mul-from : goal.operands-overflow_mul-from
-operands-overflow_mul-from t c = omega (arith, (es-passes c.loop-i.invariant c.loop-i-test.true c.requires.1 c.size_at-n.result c.size_at-n.ensures).small)
+operands-overflow_mul-from t c = omega (arith, (es-passes c.loop-i.invariant c.loop-i-test.true c.requires c.size_at-n.result c.size_at-n.ensures).small)
 
 pub operands-slice_bounds-rest-count : goal.operands-slice_bounds-rest-count
-operands-slice_bounds-rest-count t c = (es-passes c.loop-i.invariant c.loop-i-test.true c.requires.1 c.size_at-n.result c.size_at-n.ensures).fits
+operands-slice_bounds-rest-count t c = (es-passes c.loop-i.invariant c.loop-i-test.true c.requires c.size_at-n.result c.size_at-n.ensures).fits
 
 pub operands-slice_bounds-rest-start : goal.operands-slice_bounds-rest-start
-operands-slice_bounds-rest-start t c = (es-passes c.loop-i.invariant c.loop-i-test.true c.requires.1 c.size_at-n.result c.size_at-n.ensures).fits
+operands-slice_bounds-rest-start t c = (es-passes c.loop-i.invariant c.loop-i-test.true c.requires c.size_at-n.result c.size_at-n.ensures).fits
 
 pub operands-overflow_add-place : goal.operands-overflow_add-place
-operands-overflow_add-place t c = omega (arith, (es-passes c.loop-i.invariant c.loop-i-test.true c.requires.1 c.size_at-n.result c.size_at-n.ensures).small)
+operands-overflow_add-place t c = omega (arith, (es-passes c.loop-i.invariant c.loop-i-test.true c.requires c.size_at-n.result c.size_at-n.ensures).small)
 
 pub operands-overflow_add-i : goal.operands-overflow_add-i
-operands-overflow_add-i t c = omega (arith, (asked (es-asks c.loop-i.invariant c.loop-i-test.true c.requires.1)).deep)
+operands-overflow_add-i t c = omega (arith, (asked (es-asks c.loop-i.invariant c.loop-i-test.true c.requires)).deep)
 
 pub operands-loop-i-smaller : goal.operands-loop-i-smaller
 operands-loop-i-smaller t c = omega (arith, c.loop-i-test.true)
@@ -906,92 +906,92 @@ operands-returns t c = es-end c.loop-i.invariant (omega arith)
 -- what it has done where it returns
 pub pair-returns : goal.pair-returns
 pair-returns t c =
-    answers-pair c.requires.1 c.size_at.result c.size_at.ensures c.expression-p.ensures c.a_at-operator.ensures
+    answers-pair c.requires c.size_at.result c.size_at.ensures c.expression-p.ensures c.a_at-operator.ensures
     c.end_of-end.ensures.0 c.way_of-way.ensures c.between-q.ensures (c.args.depth + c.waiting.result)
     (ap (λ (k : ℕ). c.args.depth + k) c.waiting.ensures)
     c.expression-r.ensures c.pair_type.ensures c.behind.ensures c.finish.ensures
 
 pub pair-a_at-operator-requires : goal.pair-a_at-operator-requires
-pair-a_at-operator-requires t c = omega (arith, (asked c.requires.1).long)
+pair-a_at-operator-requires t c = omega (arith, (asked c.requires).long)
 
 pub pair-slice_bounds-expression-count : goal.pair-slice_bounds-expression-count
-pair-slice_bounds-expression-count t c = omega (arith, (asked c.requires.1).long)
+pair-slice_bounds-expression-count t c = omega (arith, (asked c.requires).long)
 
 pub pair-slice_bounds-expression-start : goal.pair-slice_bounds-expression-start
-pair-slice_bounds-expression-start t c = omega (arith, (asked c.requires.1).long)
+pair-slice_bounds-expression-start t c = omega (arith, (asked c.requires).long)
 
 pub pair-overflow_sub-nesting : goal.pair-overflow_sub-nesting
-pair-overflow_sub-nesting t c = omega (arith, (asked c.requires.1).nested)
+pair-overflow_sub-nesting t c = omega (arith, (asked c.requires).nested)
 
 pub pair-overflow_add-at : goal.pair-overflow_add-at
-pair-overflow_add-at t c = omega (arith, (asked c.requires.1).small)
+pair-overflow_add-at t c = omega (arith, (asked c.requires).small)
 
 pub pair-expression-p-requires : goal.pair-expression-p-requires
-pair-expression-p-requires t c = (omega (arith, (asked c.requires.1).nested, c.requires.0), asks-pair-first c.requires.1)
+pair-expression-p-requires t c = (omega (arith, (asked c.requires).nested, c.decreases), asks-pair-first c.requires)
 
 pub pair-overflow_add-second : goal.pair-overflow_add-second
-pair-overflow_add-second t c = omega (arith, (asked c.requires.1).small)
+pair-overflow_add-second t c = omega (arith, (asked c.requires).small)
 
 pub pair-overflow_add-at-2 : goal.pair-overflow_add-at-2
-pair-overflow_add-at-2 t c = omega (arith, (asked c.requires.1).small)
+pair-overflow_add-at-2 t c = omega (arith, (asked c.requires).small)
 
 pub pair-size_at-requires : goal.pair-size_at-requires
-pair-size_at-requires t c = (asks-pair-passes c.requires.1 _ refl).known
+pair-size_at-requires t c = (asks-pair-passes c.requires _ refl).known
 
 pub pair-overflow_add-second-2 : goal.pair-overflow_add-second-2
-pair-overflow_add-second-2 t c = omega (arith, (asks-pair-passes c.requires.1 c.size_at.result c.size_at.ensures).small)
+pair-overflow_add-second-2 t c = omega (arith, (asks-pair-passes c.requires c.size_at.result c.size_at.ensures).small)
 
 pub pair-bounds-stack-depth : goal.pair-bounds-stack-depth
-pair-bounds-stack-depth t c = asks-pair-read c.requires.1 c.size_at.result c.size_at.ensures c.expression-p.ensures
+pair-bounds-stack-depth t c = asks-pair-read c.requires c.size_at.result c.size_at.ensures c.expression-p.ensures
 
 pub pair-between-q-requires : goal.pair-between-q-requires
-pair-between-q-requires t c = let z = asks-pair-between c.requires.1 c.size_at.result c.size_at.ensures c.expression-p.ensures c.a_at-operator.ensures
+pair-between-q-requires t c = let z = asks-pair-between c.requires c.size_at.result c.size_at.ensures c.expression-p.ensures c.a_at-operator.ensures
     c.end_of-end.ensures.0 c.way_of-way.ensures in (c.end_of-end.ensures.1, z.0, z.1, z.2, z.3)
 
 pub pair-overflow_mul-from : goal.pair-overflow_mul-from
-pair-overflow_mul-from t c = omega (arith, (asks-pair-passes c.requires.1 c.size_at.result c.size_at.ensures).small)
+pair-overflow_mul-from t c = omega (arith, (asks-pair-passes c.requires c.size_at.result c.size_at.ensures).small)
 
 pub pair-slice_bounds-expression-count-2 : goal.pair-slice_bounds-expression-count-2
-pair-slice_bounds-expression-count-2 t c = second-within c.args.part.now c.args.at c.size_at.result (asked c.requires.1).long
-    (asks-pair-passes c.requires.1 c.size_at.result c.size_at.ensures)
+pair-slice_bounds-expression-count-2 t c = second-within c.args.part.now c.args.at c.size_at.result (asked c.requires).long
+    (asks-pair-passes c.requires c.size_at.result c.size_at.ensures)
 
 pub pair-slice_bounds-expression-start-2 : goal.pair-slice_bounds-expression-start-2
-pair-slice_bounds-expression-start-2 t c = second-within c.args.part.now c.args.at c.size_at.result (asked c.requires.1).long
-    (asks-pair-passes c.requires.1 c.size_at.result c.size_at.ensures)
+pair-slice_bounds-expression-start-2 t c = second-within c.args.part.now c.args.at c.size_at.result (asked c.requires).long
+    (asks-pair-passes c.requires c.size_at.result c.size_at.ensures)
 
 pub pair-overflow_sub-nesting-2 : goal.pair-overflow_sub-nesting-2
-pair-overflow_sub-nesting-2 t c = omega (arith, (asked c.requires.1).nested)
+pair-overflow_sub-nesting-2 t c = omega (arith, (asked c.requires).nested)
 
 pub pair-overflow_add-depth : goal.pair-overflow_add-depth
 pair-overflow_add-depth t c = omega (
       arith,
-      (asked (asks-pair-second c.requires.1 c.size_at.result c.size_at.ensures c.expression-p.ensures c.a_at-operator.ensures
+      (asked (asks-pair-second c.requires c.size_at.result c.size_at.ensures c.expression-p.ensures c.a_at-operator.ensures
           c.end_of-end.ensures.0 c.way_of-way.ensures c.between-q.ensures (c.args.depth + c.waiting.result)
           (ap (λ (k : ℕ). c.args.depth + k) c.waiting.ensures))).deep,
     )
 
 pub pair-expression-r-requires : goal.pair-expression-r-requires
 pair-expression-r-requires t c = (
-      omega (arith, (asked c.requires.1).nested, c.requires.0),
-      asks-pair-second c.requires.1 c.size_at.result c.size_at.ensures c.expression-p.ensures c.a_at-operator.ensures
+      omega (arith, (asked c.requires).nested, c.decreases),
+      asks-pair-second c.requires c.size_at.result c.size_at.ensures c.expression-p.ensures c.a_at-operator.ensures
           c.end_of-end.ensures.0 c.way_of-way.ensures c.between-q.ensures (c.args.depth + c.waiting.result)
           (ap (λ (k : ℕ). c.args.depth + k) c.waiting.ensures),
     )
 
 pub pair-bounds-stack-depth-2 : goal.pair-bounds-stack-depth-2
-pair-bounds-stack-depth-2 t c = asks-pair-write c.requires.1 c.size_at.result c.size_at.ensures c.expression-p.ensures c.a_at-operator.ensures
+pair-bounds-stack-depth-2 t c = asks-pair-write c.requires c.size_at.result c.size_at.ensures c.expression-p.ensures c.a_at-operator.ensures
     c.end_of-end.ensures.0 c.way_of-way.ensures c.between-q.ensures (c.args.depth + c.waiting.result)
     (ap (λ (k : ℕ). c.args.depth + k) c.waiting.ensures)
     c.expression-r.ensures
 
 pub pair-behind-requires : goal.pair-behind-requires
-pair-behind-requires t c = let z = asks-pair-behind c.requires.1 c.size_at.result c.size_at.ensures c.expression-p.ensures c.a_at-operator.ensures
+pair-behind-requires t c = let z = asks-pair-behind c.requires c.size_at.result c.size_at.ensures c.expression-p.ensures c.a_at-operator.ensures
     c.end_of-end.ensures.0 c.way_of-way.ensures c.between-q.ensures (c.args.depth + c.waiting.result)
     (ap (λ (k : ℕ). c.args.depth + k) c.waiting.ensures)
     c.expression-r.ensures c.pair_type.ensures in (c.end_of-end.ensures.1, z.0, z.1, z.2, z.3)
 
 pub pair-finish-requires : goal.pair-finish-requires
-pair-finish-requires t c = asks-pair-finish c.requires.1 c.size_at.result c.size_at.ensures c.expression-p.ensures c.a_at-operator.ensures
+pair-finish-requires t c = asks-pair-finish c.requires c.size_at.result c.size_at.ensures c.expression-p.ensures c.a_at-operator.ensures
     c.end_of-end.ensures.0 c.way_of-way.ensures c.between-q.ensures (c.args.depth + c.waiting.result)
     (ap (λ (k : ℕ). c.args.depth + k) c.waiting.ensures)
     c.expression-r.ensures c.pair_type.ensures c.behind.ensures
@@ -1011,81 +1011,81 @@ pair-shape_of-out t c = (pair-returns t c).kept.same_out
 -- what it has done where it returns
 pub repeat-returns : goal.repeat-returns
 repeat-returns t c =
-    answers-while c.requires.1 c.shape-p.ensures c.size_at.result c.size_at.ensures
+    answers-while c.requires c.shape-p.ensures c.size_at.result c.size_at.ensures
     c.expression-q.ensures c.end_of.ensures.0 c.emit-r.ensures c.statement-s.ensures refl
     c.emit-t.ensures
     c.shape.ensures c.finish.ensures
 
 pub repeat-overflow_cast-start : goal.repeat-overflow_cast-start
-repeat-overflow_cast-start t c = omega (arith, (asked c.requires.1).address)
+repeat-overflow_cast-start t c = omega (arith, (asked c.requires).address)
 
 pub repeat-shape-p-requires : goal.repeat-shape-p-requires
-repeat-shape-p-requires t c = asks-while-shape c.requires.1
+repeat-shape-p-requires t c = asks-while-shape c.requires
 
 pub repeat-slice_bounds-expression-count : goal.repeat-slice_bounds-expression-count
-repeat-slice_bounds-expression-count t c = omega (arith, (asked c.requires.1).long)
+repeat-slice_bounds-expression-count t c = omega (arith, (asked c.requires).long)
 
 pub repeat-slice_bounds-expression-start : goal.repeat-slice_bounds-expression-start
-repeat-slice_bounds-expression-start t c = omega (arith, (asked c.requires.1).long)
+repeat-slice_bounds-expression-start t c = omega (arith, (asked c.requires).long)
 
 pub repeat-overflow_sub-nesting : goal.repeat-overflow_sub-nesting
-repeat-overflow_sub-nesting t c = omega (arith, (asked c.requires.1).nested)
+repeat-overflow_sub-nesting t c = omega (arith, (asked c.requires).nested)
 
 pub repeat-overflow_add-at : goal.repeat-overflow_add-at
-repeat-overflow_add-at t c = omega (arith, (asked c.requires.1).small)
+repeat-overflow_add-at t c = omega (arith, (asked c.requires).small)
 
 pub repeat-expression-q-requires : goal.repeat-expression-q-requires
-repeat-expression-q-requires t c = (omega (arith, (asked c.requires.1).nested, c.requires.0), asks-while-first c.requires.1 c.shape-p.ensures)
+repeat-expression-q-requires t c = (omega (arith, (asked c.requires).nested, c.decreases), asks-while-first c.requires c.shape-p.ensures)
 
 pub repeat-overflow_add-second : goal.repeat-overflow_add-second
-repeat-overflow_add-second t c = omega (arith, (asked c.requires.1).small)
+repeat-overflow_add-second t c = omega (arith, (asked c.requires).small)
 
 pub repeat-overflow_add-at-2 : goal.repeat-overflow_add-at-2
-repeat-overflow_add-at-2 t c = omega (arith, (asked c.requires.1).small)
+repeat-overflow_add-at-2 t c = omega (arith, (asked c.requires).small)
 
 pub repeat-size_at-requires : goal.repeat-size_at-requires
-repeat-size_at-requires t c = (asks-while-passes c.requires.1 c.shape-p.ensures _ refl).known
+repeat-size_at-requires t c = (asks-while-passes c.requires c.shape-p.ensures _ refl).known
 
 pub repeat-overflow_add-second-2 : goal.repeat-overflow_add-second-2
-repeat-overflow_add-second-2 t c = omega (arith, (asks-while-passes c.requires.1 c.shape-p.ensures c.size_at.result c.size_at.ensures).small)
+repeat-overflow_add-second-2 t c = omega (arith, (asks-while-passes c.requires c.shape-p.ensures c.size_at.result c.size_at.ensures).small)
 
 pub repeat-overflow_add-end_of : goal.repeat-overflow_add-end_of
 repeat-overflow_add-end_of t c = omega (arith, c.end_of.ensures.1)
 
 pub repeat-emit-r-requires : goal.repeat-emit-r-requires
-repeat-emit-r-requires t c = asks-while-emit c.requires.1 c.shape-p.ensures c.size_at.result c.size_at.ensures c.expression-q.ensures
+repeat-emit-r-requires t c = asks-while-emit c.requires c.shape-p.ensures c.size_at.result c.size_at.ensures c.expression-q.ensures
 
 pub repeat-overflow_mul-from : goal.repeat-overflow_mul-from
-repeat-overflow_mul-from t c = omega (arith, (asks-while-passes c.requires.1 c.shape-p.ensures c.size_at.result c.size_at.ensures).small)
+repeat-overflow_mul-from t c = omega (arith, (asks-while-passes c.requires c.shape-p.ensures c.size_at.result c.size_at.ensures).small)
 
 pub repeat-slice_bounds-statement-count : goal.repeat-slice_bounds-statement-count
-repeat-slice_bounds-statement-count t c = second-within c.args.part.now c.args.at c.size_at.result (asked c.requires.1).long
-    (asks-while-passes c.requires.1 c.shape-p.ensures c.size_at.result c.size_at.ensures)
+repeat-slice_bounds-statement-count t c = second-within c.args.part.now c.args.at c.size_at.result (asked c.requires).long
+    (asks-while-passes c.requires c.shape-p.ensures c.size_at.result c.size_at.ensures)
 
 pub repeat-slice_bounds-statement-start : goal.repeat-slice_bounds-statement-start
-repeat-slice_bounds-statement-start t c = second-within c.args.part.now c.args.at c.size_at.result (asked c.requires.1).long
-    (asks-while-passes c.requires.1 c.shape-p.ensures c.size_at.result c.size_at.ensures)
+repeat-slice_bounds-statement-start t c = second-within c.args.part.now c.args.at c.size_at.result (asked c.requires).long
+    (asks-while-passes c.requires c.shape-p.ensures c.size_at.result c.size_at.ensures)
 
 pub repeat-overflow_sub-nesting-2 : goal.repeat-overflow_sub-nesting-2
-repeat-overflow_sub-nesting-2 t c = omega (arith, (asked c.requires.1).nested)
+repeat-overflow_sub-nesting-2 t c = omega (arith, (asked c.requires).nested)
 
 pub repeat-statement-s-requires : goal.repeat-statement-s-requires
 repeat-statement-s-requires t c = (
-      omega (arith, (asked c.requires.1).nested, c.requires.0),
-      asks-while-second c.requires.1 c.shape-p.ensures c.size_at.result c.size_at.ensures
+      omega (arith, (asked c.requires).nested, c.decreases),
+      asks-while-second c.requires c.shape-p.ensures c.size_at.result c.size_at.ensures
           c.expression-q.ensures c.end_of.ensures.0 c.emit-r.ensures,
     )
 
 pub repeat-emit-t-requires : goal.repeat-emit-t-requires
-repeat-emit-t-requires t c = asks-while-emit₂ c.requires.1 c.shape-p.ensures c.size_at.result c.size_at.ensures
+repeat-emit-t-requires t c = asks-while-emit₂ c.requires c.shape-p.ensures c.size_at.result c.size_at.ensures
     c.expression-q.ensures c.end_of.ensures.0 c.emit-r.ensures c.statement-s.ensures
 
 pub repeat-shape-requires : goal.repeat-shape-requires
-repeat-shape-requires t c = asks-while-shape₂ c.requires.1 c.shape-p.ensures c.size_at.result c.size_at.ensures c.expression-q.ensures
+repeat-shape-requires t c = asks-while-shape₂ c.requires c.shape-p.ensures c.size_at.result c.size_at.ensures c.expression-q.ensures
     c.end_of.ensures.0 c.emit-r.ensures c.statement-s.ensures refl c.emit-t.ensures
 
 pub repeat-finish-requires : goal.repeat-finish-requires
-repeat-finish-requires t c = asks-while-finish c.requires.1 c.shape-p.ensures c.size_at.result c.size_at.ensures c.expression-q.ensures
+repeat-finish-requires t c = asks-while-finish c.requires c.shape-p.ensures c.size_at.result c.size_at.ensures c.expression-q.ensures
     c.end_of.ensures.0 c.emit-r.ensures c.statement-s.ensures refl c.emit-t.ensures
     c.shape.ensures
 
@@ -1104,75 +1104,75 @@ repeat-shape_of-out t c = (repeat-returns t c).kept.same_out
 -- what it has done where it returns
 pub select-returns : goal.select-returns
 select-returns t c =
-    answers_select c.requires.1 c.size_at.result c.size_at.ensures c.expression-p.ensures
+    answers_select c.requires c.size_at.result c.size_at.ensures c.expression-p.ensures
     c.a_at-count.ensures (c.second_in-cell.ensures ∙ ap second_in c.known_at.ensures)
     c.emit-q.ensures c.arms-r.ensures c.emit-s.ensures c.shape.ensures
     c.finish.ensures
 
 pub select-a_at-count-requires : goal.select-a_at-count-requires
-select-a_at-count-requires t c = omega (arith, (asked c.requires.1).long)
+select-a_at-count-requires t c = omega (arith, (asked c.requires).long)
 
 pub select-slice_bounds-expression-count : goal.select-slice_bounds-expression-count
-select-slice_bounds-expression-count t c = omega (arith, (asked c.requires.1).long)
+select-slice_bounds-expression-count t c = omega (arith, (asked c.requires).long)
 
 pub select-slice_bounds-expression-start : goal.select-slice_bounds-expression-start
-select-slice_bounds-expression-start t c = omega (arith, (asked c.requires.1).long)
+select-slice_bounds-expression-start t c = omega (arith, (asked c.requires).long)
 
 pub select-overflow_sub-nesting : goal.select-overflow_sub-nesting
-select-overflow_sub-nesting t c = omega (arith, (asked c.requires.1).nested)
+select-overflow_sub-nesting t c = omega (arith, (asked c.requires).nested)
 
 pub select-overflow_add-at : goal.select-overflow_add-at
-select-overflow_add-at t c = omega (arith, (asked c.requires.1).small)
+select-overflow_add-at t c = omega (arith, (asked c.requires).small)
 
 pub select-expression-p-requires : goal.select-expression-p-requires
-select-expression-p-requires t c = (omega (arith, (asked c.requires.1).nested, c.requires.0), asks-select-first c.requires.1)
+select-expression-p-requires t c = (omega (arith, (asked c.requires).nested, c.decreases), asks-select-first c.requires)
 
 pub select-emit-q-requires : goal.select-emit-q-requires
-select-emit-q-requires t c = asks-select-emit c.requires.1 _ refl c.expression-p.ensures
+select-emit-q-requires t c = asks-select-emit c.requires _ refl c.expression-p.ensures
 
 pub select-overflow_add-second : goal.select-overflow_add-second
-select-overflow_add-second t c = omega (arith, (asked c.requires.1).small)
+select-overflow_add-second t c = omega (arith, (asked c.requires).small)
 
 pub select-overflow_add-at-2 : goal.select-overflow_add-at-2
-select-overflow_add-at-2 t c = omega (arith, (asked c.requires.1).small)
+select-overflow_add-at-2 t c = omega (arith, (asked c.requires).small)
 
 pub select-size_at-requires : goal.select-size_at-requires
-select-size_at-requires t c = (asks-select-passes c.requires.1 _ refl).known
+select-size_at-requires t c = (asks-select-passes c.requires _ refl).known
 
 pub select-overflow_add-second-2 : goal.select-overflow_add-second-2
-select-overflow_add-second-2 t c = omega (arith, (asks-select-passes c.requires.1 c.size_at.result c.size_at.ensures).small)
+select-overflow_add-second-2 t c = omega (arith, (asks-select-passes c.requires c.size_at.result c.size_at.ensures).small)
 
 pub select-overflow_mul-from : goal.select-overflow_mul-from
-select-overflow_mul-from t c = omega (arith, (asks-select-passes c.requires.1 c.size_at.result c.size_at.ensures).small)
+select-overflow_mul-from t c = omega (arith, (asks-select-passes c.requires c.size_at.result c.size_at.ensures).small)
 
 pub select-slice_bounds-arms-count : goal.select-slice_bounds-arms-count
-select-slice_bounds-arms-count t c = second-within c.args.part.now c.args.at c.size_at.result (asked c.requires.1).long
-    (asks-select-passes c.requires.1 c.size_at.result c.size_at.ensures)
+select-slice_bounds-arms-count t c = second-within c.args.part.now c.args.at c.size_at.result (asked c.requires).long
+    (asks-select-passes c.requires c.size_at.result c.size_at.ensures)
 
 pub select-slice_bounds-arms-start : goal.select-slice_bounds-arms-start
-select-slice_bounds-arms-start t c = second-within c.args.part.now c.args.at c.size_at.result (asked c.requires.1).long
-    (asks-select-passes c.requires.1 c.size_at.result c.size_at.ensures)
+select-slice_bounds-arms-start t c = second-within c.args.part.now c.args.at c.size_at.result (asked c.requires).long
+    (asks-select-passes c.requires c.size_at.result c.size_at.ensures)
 
 pub select-overflow_sub-nesting-2 : goal.select-overflow_sub-nesting-2
-select-overflow_sub-nesting-2 t c = omega (arith, (asked c.requires.1).nested)
+select-overflow_sub-nesting-2 t c = omega (arith, (asked c.requires).nested)
 
 pub select-arms-r-requires : goal.select-arms-r-requires
 select-arms-r-requires t c = (
-      omega (arith, (asked c.requires.1).nested, c.requires.0),
-      asks-select-second c.requires.1 c.size_at.result c.size_at.ensures c.expression-p.ensures c.a_at-count.ensures
+      omega (arith, (asked c.requires).nested, c.decreases),
+      asks-select-second c.requires c.size_at.result c.size_at.ensures c.expression-p.ensures c.a_at-count.ensures
           (c.second_in-cell.ensures ∙ ap second_in c.known_at.ensures) c.emit-q.ensures,
     )
 
 pub select-emit-s-requires : goal.select-emit-s-requires
-select-emit-s-requires t c = asks-select-emit₂ c.requires.1 c.size_at.result c.size_at.ensures c.expression-p.ensures c.a_at-count.ensures
+select-emit-s-requires t c = asks-select-emit₂ c.requires c.size_at.result c.size_at.ensures c.expression-p.ensures c.a_at-count.ensures
     (c.second_in-cell.ensures ∙ ap second_in c.known_at.ensures) c.emit-q.ensures c.arms-r.ensures
 
 pub select-shape-requires : goal.select-shape-requires
-select-shape-requires t c = asks-select-shape c.requires.1 c.size_at.result c.size_at.ensures c.expression-p.ensures c.a_at-count.ensures
+select-shape-requires t c = asks-select-shape c.requires c.size_at.result c.size_at.ensures c.expression-p.ensures c.a_at-count.ensures
     (c.second_in-cell.ensures ∙ ap second_in c.known_at.ensures) c.emit-q.ensures c.arms-r.ensures c.emit-s.ensures
 
 pub select-finish-requires : goal.select-finish-requires
-select-finish-requires t c = asks-select-finish c.requires.1 c.size_at.result c.size_at.ensures c.expression-p.ensures c.a_at-count.ensures
+select-finish-requires t c = asks-select-finish c.requires c.size_at.result c.size_at.ensures c.expression-p.ensures c.a_at-count.ensures
     (c.second_in-cell.ensures ∙ ap second_in c.known_at.ensures) c.emit-q.ensures c.arms-r.ensures c.emit-s.ensures c.shape.ensures
 
 pub select-shape_of-env : goal.select-shape_of-env
@@ -1190,56 +1190,56 @@ select-shape_of-out t c = (select-returns t c).kept.same_out
 -- what it has done where it returns
 pub simple-returns : goal.simple-returns
 simple-returns t c =
-    answers-simple c.requires.1 c.kind_at-kind.ensures c.a_at-a.ensures c.b_at.ensures
+    answers-simple c.requires c.kind_at-kind.ensures c.a_at-a.ensures c.b_at.ensures
     c.operands_of-count.ensures c.operands-p.ensures c.known_of-k.ensures c.last.ensures
     c.last_type.ensures c.finish.ensures
 
 pub simple-kind_at-kind-requires : goal.simple-kind_at-kind-requires
-simple-kind_at-kind-requires t c = omega (arith, (asked c.requires.1).long)
+simple-kind_at-kind-requires t c = omega (arith, (asked c.requires).long)
 
 pub simple-a_at-a-requires : goal.simple-a_at-a-requires
-simple-a_at-a-requires t c = omega (arith, (asked c.requires.1).long)
+simple-a_at-a-requires t c = omega (arith, (asked c.requires).long)
 
 pub simple-b_at-requires : goal.simple-b_at-requires
-simple-b_at-requires t c = omega (arith, (asked c.requires.1).long)
+simple-b_at-requires t c = omega (arith, (asked c.requires).long)
 
 pub simple-slice_bounds-operands-count : goal.simple-slice_bounds-operands-count
-simple-slice_bounds-operands-count t c = omega (arith, (asked c.requires.1).long)
+simple-slice_bounds-operands-count t c = omega (arith, (asked c.requires).long)
 
 pub simple-slice_bounds-operands-start : goal.simple-slice_bounds-operands-start
-simple-slice_bounds-operands-start t c = omega (arith, (asked c.requires.1).long)
+simple-slice_bounds-operands-start t c = omega (arith, (asked c.requires).long)
 
 pub simple-overflow_sub-nesting : goal.simple-overflow_sub-nesting
-simple-overflow_sub-nesting t c = omega (arith, (asked c.requires.1).nested)
+simple-overflow_sub-nesting t c = omega (arith, (asked c.requires).nested)
 
 pub simple-overflow_add-at : goal.simple-overflow_add-at
-simple-overflow_add-at t c = omega (arith, (asked c.requires.1).small)
+simple-overflow_add-at t c = omega (arith, (asked c.requires).small)
 
 pub simple-operands-p-requires : goal.simple-operands-p-requires
 simple-operands-p-requires t c = (
-      omega (arith, (asked c.requires.1).nested, c.requires.0),
-      asks-simple-first c.requires.1 c.kind_at-kind.ensures c.a_at-a.ensures c.b_at.ensures
+      omega (arith, (asked c.requires).nested, c.decreases),
+      asks-simple-first c.requires c.kind_at-kind.ensures c.a_at-a.ensures c.b_at.ensures
           c.operands_of-count.ensures,
     )
 
 pub simple-known_of-k-requires : goal.simple-known_of-k-requires
-simple-known_of-k-requires t c = asks-simple-room c.requires.1 c.kind_at-kind.ensures c.a_at-a.ensures c.b_at.ensures
+simple-known_of-k-requires t c = asks-simple-room c.requires c.kind_at-kind.ensures c.a_at-a.ensures c.b_at.ensures
     c.operands_of-count.ensures c.operands-p.ensures
 
 pub simple-bounds-stack-depth : goal.simple-bounds-stack-depth
-simple-bounds-stack-depth t c = asks-simple-read c.requires.1 c.kind_at-kind.ensures c.a_at-a.ensures c.b_at.ensures
+simple-bounds-stack-depth t c = asks-simple-read c.requires c.kind_at-kind.ensures c.a_at-a.ensures c.b_at.ensures
     c.operands_of-count.ensures c.operands-p.ensures
 
 pub simple-bounds-stack-depth-2 : goal.simple-bounds-stack-depth-2
-simple-bounds-stack-depth-2 t c = asks-simple-read c.requires.1 c.kind_at-kind.ensures c.a_at-a.ensures c.b_at.ensures
+simple-bounds-stack-depth-2 t c = asks-simple-read c.requires c.kind_at-kind.ensures c.a_at-a.ensures c.b_at.ensures
     c.operands_of-count.ensures c.operands-p.ensures
 
 pub simple-last-requires : goal.simple-last-requires
-simple-last-requires t c = asks-simple-last c.requires.1 c.kind_at-kind.ensures c.a_at-a.ensures c.b_at.ensures
+simple-last-requires t c = asks-simple-last c.requires c.kind_at-kind.ensures c.a_at-a.ensures c.b_at.ensures
     c.operands_of-count.ensures c.operands-p.ensures c.known_of-k.ensures
 
 pub simple-finish-requires : goal.simple-finish-requires
-simple-finish-requires t c = asks-simple-finish c.requires.1 c.kind_at-kind.ensures c.a_at-a.ensures c.b_at.ensures c.operands_of-count.ensures
+simple-finish-requires t c = asks-simple-finish c.requires c.kind_at-kind.ensures c.a_at-a.ensures c.b_at.ensures c.operands_of-count.ensures
     c.operands-p.ensures c.known_of-k.ensures c.last.ensures
 
 pub simple-shape_of-env : goal.simple-shape_of-env
@@ -1258,56 +1258,56 @@ simple-shape_of-out t c = (simple-returns t c).kept.same_out
 pub statement-returns-in-20 : goal.statement-returns-in-20
 statement-returns-in-20 t c =
     answer-as (λ n h e. e ∙ (sym c.kind_at-kind.ensures ∙ c.in-20.is))
-    (answers-label (ask-as (λ n h e. e ∙ (sym c.kind_at-kind.ensures ∙ c.in-20.is)) c.requires.1) c.shape.ensures c.finish.ensures)
+    (answers-label (ask-as (λ n h e. e ∙ (sym c.kind_at-kind.ensures ∙ c.in-20.is)) c.requires) c.shape.ensures c.finish.ensures)
 
 pub statement-returns-in-25 : goal.statement-returns-in-25
 statement-returns-in-25 t c =
     answer-as (λ n h e. e ∙ (sym c.kind_at-kind.ensures ∙ c.in-25.is))
-    (answers-goto (ask-as (λ n h e. e ∙ (sym c.kind_at-kind.ensures ∙ c.in-25.is)) c.requires.1)
+    (answers-goto (ask-as (λ n h e. e ∙ (sym c.kind_at-kind.ensures ∙ c.in-25.is)) c.requires)
     c.a_at.ensures c.goto.ensures c.finish-in-25.ensures)
 
 pub statement-kind_at-kind-requires : goal.statement-kind_at-kind-requires
-statement-kind_at-kind-requires t c = omega (arith, (asked c.requires.1).long)
+statement-kind_at-kind-requires t c = omega (arith, (asked c.requires).long)
 
 pub statement-block-requires : goal.statement-block-requires
-statement-block-requires t c = (omega (arith, c.requires.0), ask-as (λ n h e. e ∙ (sym c.kind_at-kind.ensures ∙ c.in-1.is)) c.requires.1)
+statement-block-requires t c = (omega (arith, c.decreases), ask-as (λ n h e. e ∙ (sym c.kind_at-kind.ensures ∙ c.in-1.is)) c.requires)
 
 pub statement-shape-requires : goal.statement-shape-requires
-statement-shape-requires t c = asks-label-shape (ask-as (λ n h e. e ∙ (sym c.kind_at-kind.ensures ∙ c.in-20.is)) c.requires.1)
+statement-shape-requires t c = asks-label-shape (ask-as (λ n h e. e ∙ (sym c.kind_at-kind.ensures ∙ c.in-20.is)) c.requires)
 
 pub statement-finish-requires : goal.statement-finish-requires
-statement-finish-requires t c = asks-label-finish (ask-as (λ n h e. e ∙ (sym c.kind_at-kind.ensures ∙ c.in-20.is)) c.requires.1) c.shape.ensures
+statement-finish-requires t c = asks-label-finish (ask-as (λ n h e. e ∙ (sym c.kind_at-kind.ensures ∙ c.in-20.is)) c.requires) c.shape.ensures
 
 pub statement-assign-requires : goal.statement-assign-requires
-statement-assign-requires t c = (omega (arith, c.requires.0), ask-as (λ n h e. e ∙ (sym c.kind_at-kind.ensures ∙ c.in-21.is)) c.requires.1)
+statement-assign-requires t c = (omega (arith, c.decreases), ask-as (λ n h e. e ∙ (sym c.kind_at-kind.ensures ∙ c.in-21.is)) c.requires)
 
 pub statement-when-requires : goal.statement-when-requires
-statement-when-requires t c = (omega (arith, c.requires.0), ask-as (λ n h e. e ∙ (sym c.kind_at-kind.ensures ∙ c.in-22.is)) c.requires.1)
+statement-when-requires t c = (omega (arith, c.decreases), ask-as (λ n h e. e ∙ (sym c.kind_at-kind.ensures ∙ c.in-22.is)) c.requires)
 
 pub statement-choose-requires : goal.statement-choose-requires
-statement-choose-requires t c = (omega (arith, c.requires.0), ask-as (λ n h e. e ∙ (sym c.kind_at-kind.ensures ∙ c.in-23.is)) c.requires.1)
+statement-choose-requires t c = (omega (arith, c.decreases), ask-as (λ n h e. e ∙ (sym c.kind_at-kind.ensures ∙ c.in-23.is)) c.requires)
 
 pub statement-repeat-requires : goal.statement-repeat-requires
-statement-repeat-requires t c = (omega (arith, c.requires.0), ask-as (λ n h e. e ∙ (sym c.kind_at-kind.ensures ∙ c.in-24.is)) c.requires.1)
+statement-repeat-requires t c = (omega (arith, c.decreases), ask-as (λ n h e. e ∙ (sym c.kind_at-kind.ensures ∙ c.in-24.is)) c.requires)
 
 pub statement-a_at-requires : goal.statement-a_at-requires
-statement-a_at-requires t c = omega (arith, (asked c.requires.1).long)
+statement-a_at-requires t c = omega (arith, (asked c.requires).long)
 
 pub statement-goto-requires : goal.statement-goto-requires
-statement-goto-requires t c = asks-goto (ask-as (λ n h e. e ∙ (sym c.kind_at-kind.ensures ∙ c.in-25.is)) c.requires.1) c.a_at.ensures
+statement-goto-requires t c = asks-goto (ask-as (λ n h e. e ∙ (sym c.kind_at-kind.ensures ∙ c.in-25.is)) c.requires) c.a_at.ensures
 
 pub statement-finish-requires-in-25 : goal.statement-finish-requires-in-25
-statement-finish-requires-in-25 t c = asks-goto-finish (ask-as (λ n h e. e ∙ (sym c.kind_at-kind.ensures ∙ c.in-25.is)) c.requires.1) c.a_at.ensures c.goto.ensures
+statement-finish-requires-in-25 t c = asks-goto-finish (ask-as (λ n h e. e ∙ (sym c.kind_at-kind.ensures ∙ c.in-25.is)) c.requires) c.a_at.ensures c.goto.ensures
 
 pub statement-select-requires : goal.statement-select-requires
-statement-select-requires t c = (omega (arith, c.requires.0), ask-as (λ n h e. e ∙ (sym c.kind_at-kind.ensures ∙ c.in-30.is)) c.requires.1)
+statement-select-requires t c = (omega (arith, c.decreases), ask-as (λ n h e. e ∙ (sym c.kind_at-kind.ensures ∙ c.in-30.is)) c.requires)
 
 pub statement-turns-requires : goal.statement-turns-requires
-statement-turns-requires t c = (omega (arith, c.requires.0), ask-as (λ n h e. e ∙ (sym c.kind_at-kind.ensures ∙ c.in-31.is)) c.requires.1)
+statement-turns-requires t c = (omega (arith, c.decreases), ask-as (λ n h e. e ∙ (sym c.kind_at-kind.ensures ∙ c.in-31.is)) c.requires)
 
 pub statement-simple-requires : goal.statement-simple-requires
 statement-simple-requires t c = (
-      omega (arith, c.requires.0),
+      omega (arith, c.decreases),
       asks-anew _ (ask-as (λ n h e. simple-stmt n h
           (λ z. c.in_default.in_default-own.rest.0.0.0.0.0.0.0.0.1 (c.kind_at-kind.ensures ∙ (sym e ∙ z)))
           (λ z. c.in_default.in_default-own.rest.0.0.0.0.0.0.0.1 (c.kind_at-kind.ensures ∙ (sym e ∙ z)))
@@ -1315,7 +1315,7 @@ statement-simple-requires t c = (
           (λ z. c.in_default.in_default-own.rest.0.0.0.0.0.1 (c.kind_at-kind.ensures ∙ (sym e ∙ z)))
           (λ z. c.in_default.in_default-own.rest.0.0.0.0.1 (c.kind_at-kind.ensures ∙ (sym e ∙ z))) (λ z. c.in_default.in_default-own.rest.0.0.0.1 (c.kind_at-kind.ensures ∙ (sym e ∙ z)))
           (λ z. c.in_default.in_default-own.rest.0.0.1 (c.kind_at-kind.ensures ∙ (sym e ∙ z))) (λ z. c.in_default.in_default-own.rest.0.1 (c.kind_at-kind.ensures ∙ (sym e ∙ z)))
-          (λ z. c.in_default.in_default-own.rest.1 (c.kind_at-kind.ensures ∙ (sym e ∙ z)))) c.requires.1),
+          (λ z. c.in_default.in_default-own.rest.1 (c.kind_at-kind.ensures ∙ (sym e ∙ z)))) c.requires),
     )
 
 pub statement-shape_of-env-in-1 : goal.statement-shape_of-env-in-1
@@ -1469,74 +1469,74 @@ statement-returns-in_default t c = answer-as (λ n h e. simple-stmt n h (λ z. c
 -- what it has done where it returns
 pub turns-returns : goal.turns-returns
 turns-returns t c =
-    answers-turn c.requires.1 c.spanned-n.result c.spanned-n.ensures c.operands-p.ensures c.shape-q.ensures
+    answers-turn c.requires c.spanned-n.result c.spanned-n.ensures c.operands-p.ensures c.shape-q.ensures
     (c.second_in-cell.ensures ∙ ap second_in c.known_at.ensures) c.end_of-exit.ensures.0 c.enter_turns-r.ensures
     c.a_at-control.ensures c.enter_loop-up.ensures c.statement-s.ensures c.leave_turn-t.ensures
     c.finish.ensures
 
 pub turns-a_at-control-requires : goal.turns-a_at-control-requires
-turns-a_at-control-requires t c = omega (arith, (asked c.requires.1).long)
+turns-a_at-control-requires t c = omega (arith, (asked c.requires).long)
 
 pub turns-slice_bounds-operands-count : goal.turns-slice_bounds-operands-count
-turns-slice_bounds-operands-count t c = omega (arith, (asked c.requires.1).long)
+turns-slice_bounds-operands-count t c = omega (arith, (asked c.requires).long)
 
 pub turns-slice_bounds-operands-start : goal.turns-slice_bounds-operands-start
-turns-slice_bounds-operands-start t c = omega (arith, (asked c.requires.1).long)
+turns-slice_bounds-operands-start t c = omega (arith, (asked c.requires).long)
 
 pub turns-overflow_sub-nesting : goal.turns-overflow_sub-nesting
-turns-overflow_sub-nesting t c = omega (arith, (asked c.requires.1).nested)
+turns-overflow_sub-nesting t c = omega (arith, (asked c.requires).nested)
 
 pub turns-overflow_add-at : goal.turns-overflow_add-at
-turns-overflow_add-at t c = omega (arith, (asked c.requires.1).small)
+turns-overflow_add-at t c = omega (arith, (asked c.requires).small)
 
 pub turns-operands-p-requires : goal.turns-operands-p-requires
-turns-operands-p-requires t c = (omega (arith, (asked c.requires.1).nested, c.requires.0), asks-turn-first c.requires.1)
+turns-operands-p-requires t c = (omega (arith, (asked c.requires).nested, c.decreases), asks-turn-first c.requires)
 
 pub turns-overflow_add-at-2 : goal.turns-overflow_add-at-2
-turns-overflow_add-at-2 t c = omega (arith, (asked c.requires.1).small)
+turns-overflow_add-at-2 t c = omega (arith, (asked c.requires).small)
 
 pub turns-spanned-n-requires : goal.turns-spanned-n-requires
-turns-spanned-n-requires t c = asks-turn-spans c.requires.1
+turns-spanned-n-requires t c = asks-turn-spans c.requires
 
 pub turns-overflow_add-depth : goal.turns-overflow_add-depth
-turns-overflow_add-depth t c = omega (arith, (asked c.requires.1).deep)
+turns-overflow_add-depth t c = omega (arith, (asked c.requires).deep)
 
 pub turns-shape-q-requires : goal.turns-shape-q-requires
-turns-shape-q-requires t c = asks-turn-shape c.requires.1 c.spanned-n.result c.spanned-n.ensures c.operands-p.ensures
+turns-shape-q-requires t c = asks-turn-shape c.requires c.spanned-n.result c.spanned-n.ensures c.operands-p.ensures
 
 pub turns-enter_turns-r-requires : goal.turns-enter_turns-r-requires
-turns-enter_turns-r-requires t c = asks-turn-enter c.requires.1 c.spanned-n.result c.spanned-n.ensures c.operands-p.ensures
+turns-enter_turns-r-requires t c = asks-turn-enter c.requires c.spanned-n.result c.spanned-n.ensures c.operands-p.ensures
     c.shape-q.ensures (c.second_in-cell.ensures ∙ ap second_in c.known_at.ensures) c.end_of-exit.ensures.0
 
 pub turns-enter_loop-up-requires : goal.turns-enter_loop-up-requires
-turns-enter_loop-up-requires t c = asks-turn-room c.requires.1 c.spanned-n.result c.spanned-n.ensures c.operands-p.ensures c.shape-q.ensures
+turns-enter_loop-up-requires t c = asks-turn-room c.requires c.spanned-n.result c.spanned-n.ensures c.operands-p.ensures c.shape-q.ensures
     (c.second_in-cell.ensures ∙ ap second_in c.known_at.ensures) c.end_of-exit.ensures.0 c.enter_turns-r.ensures
 
 pub turns-overflow_add-from : goal.turns-overflow_add-from
-turns-overflow_add-from t c = omega (arith, (asks-turn-within c.requires.1 c.spanned-n.result c.spanned-n.ensures).1)
+turns-overflow_add-from t c = omega (arith, (asks-turn-within c.requires c.spanned-n.result c.spanned-n.ensures).1)
 
 pub turns-overflow_mul-from : goal.turns-overflow_mul-from
-turns-overflow_mul-from t c = omega (arith, (asks-turn-within c.requires.1 c.spanned-n.result c.spanned-n.ensures).1)
+turns-overflow_mul-from t c = omega (arith, (asks-turn-within c.requires c.spanned-n.result c.spanned-n.ensures).1)
 
 pub turns-slice_bounds-statement-count : goal.turns-slice_bounds-statement-count
-turns-slice_bounds-statement-count t c = (asks-turn-within c.requires.1 c.spanned-n.result c.spanned-n.ensures).0
+turns-slice_bounds-statement-count t c = (asks-turn-within c.requires c.spanned-n.result c.spanned-n.ensures).0
 
 pub turns-slice_bounds-statement-start : goal.turns-slice_bounds-statement-start
-turns-slice_bounds-statement-start t c = (asks-turn-within c.requires.1 c.spanned-n.result c.spanned-n.ensures).0
+turns-slice_bounds-statement-start t c = (asks-turn-within c.requires c.spanned-n.result c.spanned-n.ensures).0
 
 pub turns-overflow_sub-nesting-2 : goal.turns-overflow_sub-nesting-2
-turns-overflow_sub-nesting-2 t c = omega (arith, (asked c.requires.1).nested)
+turns-overflow_sub-nesting-2 t c = omega (arith, (asked c.requires).nested)
 
 pub turns-overflow_add-at-3 : goal.turns-overflow_add-at-3
-turns-overflow_add-at-3 t c = omega (arith, (asked c.requires.1).small)
+turns-overflow_add-at-3 t c = omega (arith, (asked c.requires).small)
 
 pub turns-overflow_add-at-4 : goal.turns-overflow_add-at-4
-turns-overflow_add-at-4 t c = omega (arith, (asks-turn-within c.requires.1 c.spanned-n.result c.spanned-n.ensures).1)
+turns-overflow_add-at-4 t c = omega (arith, (asks-turn-within c.requires c.spanned-n.result c.spanned-n.ensures).1)
 
 pub turns-statement-s-requires : goal.turns-statement-s-requires
 turns-statement-s-requires t c = (
-      omega (arith, (asked c.requires.1).nested, c.requires.0),
-      asks-turn-second c.requires.1 c.spanned-n.result
+      omega (arith, (asked c.requires).nested, c.decreases),
+      asks-turn-second c.requires c.spanned-n.result
           c.spanned-n.ensures c.operands-p.ensures c.shape-q.ensures (c.second_in-cell.ensures ∙ ap second_in
           c.known_at.ensures) c.end_of-exit.ensures.0 c.enter_turns-r.ensures c.a_at-control.ensures
           c.enter_loop-up.ensures,
@@ -1545,18 +1545,18 @@ turns-statement-s-requires t c = (
 pub turns-overflow_cast-began : goal.turns-overflow_cast-began
 turns-overflow_cast-began t c = omega (
       arith,
-      asks-turn-began c.requires.1 c.spanned-n.result c.spanned-n.ensures c.operands-p.ensures
+      asks-turn-began c.requires c.spanned-n.result c.spanned-n.ensures c.operands-p.ensures
           c.shape-q.ensures (c.second_in-cell.ensures ∙ ap second_in c.known_at.ensures) c.end_of-exit.ensures.0
           c.enter_turns-r.ensures,
     )
 
 pub turns-leave_turn-t-requires : goal.turns-leave_turn-t-requires
-turns-leave_turn-t-requires t c = asks-turn-leave c.requires.1 c.spanned-n.result c.spanned-n.ensures c.operands-p.ensures
+turns-leave_turn-t-requires t c = asks-turn-leave c.requires c.spanned-n.result c.spanned-n.ensures c.operands-p.ensures
     c.shape-q.ensures (c.second_in-cell.ensures ∙ ap second_in c.known_at.ensures) c.end_of-exit.ensures.0
     c.enter_turns-r.ensures c.a_at-control.ensures c.enter_loop-up.ensures c.statement-s.ensures
 
 pub turns-finish-requires : goal.turns-finish-requires
-turns-finish-requires t c = asks-turn-finish c.requires.1 c.spanned-n.result c.spanned-n.ensures c.operands-p.ensures
+turns-finish-requires t c = asks-turn-finish c.requires c.spanned-n.result c.spanned-n.ensures c.operands-p.ensures
     c.shape-q.ensures (c.second_in-cell.ensures ∙ ap second_in c.known_at.ensures) c.end_of-exit.ensures.0
     c.enter_turns-r.ensures c.a_at-control.ensures c.enter_loop-up.ensures c.statement-s.ensures
     c.leave_turn-t.ensures
@@ -1576,66 +1576,66 @@ turns-shape_of-out t c = (turns-returns t c).kept.same_out
 -- what it has done where it returns
 pub when-returns : goal.when-returns
 when-returns t c =
-    answers-when c.requires.1 c.size_at.result c.size_at.ensures c.expression-p.ensures
+    answers-when c.requires c.size_at.result c.size_at.ensures c.expression-p.ensures
     c.end_of.ensures.0 c.emit-q.ensures c.statement-r.ensures c.shape.ensures
     c.finish.ensures
 
 pub when-slice_bounds-expression-count : goal.when-slice_bounds-expression-count
-when-slice_bounds-expression-count t c = omega (arith, (asked c.requires.1).long)
+when-slice_bounds-expression-count t c = omega (arith, (asked c.requires).long)
 
 pub when-slice_bounds-expression-start : goal.when-slice_bounds-expression-start
-when-slice_bounds-expression-start t c = omega (arith, (asked c.requires.1).long)
+when-slice_bounds-expression-start t c = omega (arith, (asked c.requires).long)
 
 pub when-overflow_sub-nesting : goal.when-overflow_sub-nesting
-when-overflow_sub-nesting t c = omega (arith, (asked c.requires.1).nested)
+when-overflow_sub-nesting t c = omega (arith, (asked c.requires).nested)
 
 pub when-overflow_add-at : goal.when-overflow_add-at
-when-overflow_add-at t c = omega (arith, (asked c.requires.1).small)
+when-overflow_add-at t c = omega (arith, (asked c.requires).small)
 
 pub when-expression-p-requires : goal.when-expression-p-requires
-when-expression-p-requires t c = (omega (arith, (asked c.requires.1).nested, c.requires.0), asks-when-first c.requires.1)
+when-expression-p-requires t c = (omega (arith, (asked c.requires).nested, c.decreases), asks-when-first c.requires)
 
 pub when-overflow_add-second : goal.when-overflow_add-second
-when-overflow_add-second t c = omega (arith, (asked c.requires.1).small)
+when-overflow_add-second t c = omega (arith, (asked c.requires).small)
 
 pub when-overflow_add-at-2 : goal.when-overflow_add-at-2
-when-overflow_add-at-2 t c = omega (arith, (asked c.requires.1).small)
+when-overflow_add-at-2 t c = omega (arith, (asked c.requires).small)
 
 pub when-size_at-requires : goal.when-size_at-requires
-when-size_at-requires t c = (asks-when-passes c.requires.1 _ refl).known
+when-size_at-requires t c = (asks-when-passes c.requires _ refl).known
 
 pub when-overflow_add-second-2 : goal.when-overflow_add-second-2
-when-overflow_add-second-2 t c = omega (arith, (asks-when-passes c.requires.1 c.size_at.result c.size_at.ensures).small)
+when-overflow_add-second-2 t c = omega (arith, (asks-when-passes c.requires c.size_at.result c.size_at.ensures).small)
 
 pub when-emit-q-requires : goal.when-emit-q-requires
-when-emit-q-requires t c = asks-when-emit c.requires.1 c.size_at.result c.size_at.ensures c.expression-p.ensures
+when-emit-q-requires t c = asks-when-emit c.requires c.size_at.result c.size_at.ensures c.expression-p.ensures
 
 pub when-overflow_mul-from : goal.when-overflow_mul-from
-when-overflow_mul-from t c = omega (arith, (asks-when-passes c.requires.1 c.size_at.result c.size_at.ensures).small)
+when-overflow_mul-from t c = omega (arith, (asks-when-passes c.requires c.size_at.result c.size_at.ensures).small)
 
 pub when-slice_bounds-statement-count : goal.when-slice_bounds-statement-count
-when-slice_bounds-statement-count t c = second-within c.args.part.now c.args.at c.size_at.result (asked c.requires.1).long
-    (asks-when-passes c.requires.1 c.size_at.result c.size_at.ensures)
+when-slice_bounds-statement-count t c = second-within c.args.part.now c.args.at c.size_at.result (asked c.requires).long
+    (asks-when-passes c.requires c.size_at.result c.size_at.ensures)
 
 pub when-slice_bounds-statement-start : goal.when-slice_bounds-statement-start
-when-slice_bounds-statement-start t c = second-within c.args.part.now c.args.at c.size_at.result (asked c.requires.1).long
-    (asks-when-passes c.requires.1 c.size_at.result c.size_at.ensures)
+when-slice_bounds-statement-start t c = second-within c.args.part.now c.args.at c.size_at.result (asked c.requires).long
+    (asks-when-passes c.requires c.size_at.result c.size_at.ensures)
 
 pub when-overflow_sub-nesting-2 : goal.when-overflow_sub-nesting-2
-when-overflow_sub-nesting-2 t c = omega (arith, (asked c.requires.1).nested)
+when-overflow_sub-nesting-2 t c = omega (arith, (asked c.requires).nested)
 
 pub when-statement-r-requires : goal.when-statement-r-requires
 when-statement-r-requires t c = (
-      omega (arith, (asked c.requires.1).nested, c.requires.0),
-      asks-when-second c.requires.1 c.size_at.result c.size_at.ensures c.expression-p.ensures c.end_of.ensures.0 c.emit-q.ensures,
+      omega (arith, (asked c.requires).nested, c.decreases),
+      asks-when-second c.requires c.size_at.result c.size_at.ensures c.expression-p.ensures c.end_of.ensures.0 c.emit-q.ensures,
     )
 
 pub when-shape-requires : goal.when-shape-requires
-when-shape-requires t c = asks-when-shape c.requires.1 c.size_at.result c.size_at.ensures c.expression-p.ensures
+when-shape-requires t c = asks-when-shape c.requires c.size_at.result c.size_at.ensures c.expression-p.ensures
     c.end_of.ensures.0 c.emit-q.ensures c.statement-r.ensures
 
 pub when-finish-requires : goal.when-finish-requires
-when-finish-requires t c = asks-when-finish c.requires.1 c.size_at.result c.size_at.ensures c.expression-p.ensures
+when-finish-requires t c = asks-when-finish c.requires c.size_at.result c.size_at.ensures c.expression-p.ensures
     c.end_of.ensures.0 c.emit-q.ensures c.statement-r.ensures c.shape.ensures
 
 pub when-shape_of-env : goal.when-shape_of-env
