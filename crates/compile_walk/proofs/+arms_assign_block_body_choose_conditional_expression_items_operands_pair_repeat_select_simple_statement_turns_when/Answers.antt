@@ -1,23 +1,21 @@
 -- The walkers meet their contracts: every fact is a law of crates/compile_steps, applied to what is known where it is needed.
-use Prim.Native.Nat.{ℕ, ◌*◌, ◌+◌, ◌-◌, ◌≤◌}
-use Rattle.compile_steps.specs.Arms.{ArmsSoFar, arms-asks, arms-before, arms-behind, arms-passes, arms_end, arms_next, arms_start}
+use Prim.Native.Nat.{ℕ, ◌+◌}
+use Rattle.compile_steps.specs.Arms.{arms-asks, arms-before, arms-behind, arms-passes, arms_end, arms_next, arms_start}
 use Rattle.compile_steps.specs.Assign.{answers-field, answers-variable, asks-assign, asks-field-emit, asks-field-finish, asks-field-first, asks-field-mid, asks-field-nests, asks-field-second, asks-variable-emit, asks-variable-finish, asks-variable-first, asks-variable-second}
 use Rattle.compile_steps.specs.BlockAsks.{answers-block, asks-block-few, asks-block-finish, asks-block-items, asks-block-open, asks-block-releases, asks-block-within}
 use Rattle.compile_steps.specs.BodyAsks.{answers-body, asks-body-few, asks-body-finish, asks-body-items, asks-body-open, asks-body-passes, asks-body-releases, asks-body-spanned, asks-body-value, asks-body-within}
 use Rattle.compile_steps.specs.ChooseAsks.{answers-choose, asks-choose-emit, asks-choose-emit₂, asks-choose-finish, asks-choose-first, asks-choose-passes, asks-choose-passes₂, asks-choose-second, asks-choose-shape, asks-choose-shape₂, asks-choose-third}
 use Rattle.compile_steps.specs.ConditionalAsks.{answers-cond, asks-cond-emit, asks-cond-emit₂, asks-cond-finish, asks-cond-first, asks-cond-passes, asks-cond-passes₂, asks-cond-read, asks-cond-second, asks-cond-shape, asks-cond-shape₂, asks-cond-third, asks-cond-write}
 use Rattle.compile_steps.specs.Dispatch.{answer-as, answers-anew, answers-goto, answers-label, answers-leaf, answers-simple, ask-as, asks-anew, asks-goto, asks-goto-finish, asks-label-finish, asks-label-shape, asks-leaf, asks-leaf-finish, asks-simple-finish, asks-simple-first, asks-simple-last, asks-simple-read, asks-simple-room}
-use Rattle.compile_steps.specs.Lists.{EsSoFar, ItemsSoFar, es-asks, es-end, es-next, es-passes, es-start, items-asks, items-end, items-next, items-passes, items-start}
+use Rattle.compile_steps.specs.Lists.{es-asks, es-end, es-next, es-passes, es-start, items-asks, items-end, items-next, items-passes, items-start}
 use Rattle.compile_steps.specs.PairAsks.{answers-pair, asks-pair-behind, asks-pair-between, asks-pair-finish, asks-pair-first, asks-pair-passes, asks-pair-read, asks-pair-second, asks-pair-write}
-use Rattle.compile_steps.specs.Parts.{asked, below, lent, second-within, third-within}
+use Rattle.compile_steps.specs.Parts.{asked, second-within, third-within}
 use Rattle.compile_steps.specs.Select.{answers_select, asks-select-emit, asks-select-emit₂, asks-select-finish, asks-select-first, asks-select-passes, asks-select-second, asks-select-shape}
 use Rattle.compile_steps.specs.Turns.{answers-turn, asks-turn-began, asks-turn-enter, asks-turn-finish, asks-turn-first, asks-turn-leave, asks-turn-room, asks-turn-second, asks-turn-shape, asks-turn-spans, asks-turn-within}
 use Rattle.compile_steps.specs.Views.{leaf-of, simple-expr, simple-stmt}
 use Rattle.compile_steps.specs.WhenAsks.{answers-when, asks-when-emit, asks-when-finish, asks-when-first, asks-when-passes, asks-when-second, asks-when-shape}
 use Rattle.compile_steps.specs.WhileAsks.{answers-while, asks-while-emit, asks-while-emit₂, asks-while-finish, asks-while-first, asks-while-passes, asks-while-second, asks-while-shape, asks-while-shape₂}
 use Rattle.compile_symbols.specs.Numbers.{second_in}
-use Rattle.table_forms.specs.Part.{Passes}
-use lib.ListN.{length}
 use mathlib.Core.Path.{ap, refl, sym, ◌∙◌}
 use native.Mathlib.Omega.{arith}
 use Rattle.compile_walk.proofs.+arms_assign_block_body_choose_conditional_expression_items_operands_pair_repeat_select_simple_statement_turns_when.Goals as goal
@@ -30,10 +28,10 @@ arms-before_arm-q-requires t c = let z = arms-before c.requires c.loop-i.invaria
 
 pub arms-statement-r-requires : goal.arms-statement-r-requires
 arms-statement-r-requires t c = (
-      omega (arith, c.decreases),
-      arms-asks c.requires c.loop-i.invariant c.loop-i-test.true
-          (c.second_in-cell.ensures ∙ ap second_in c.known_at.ensures) c.end_of.ensures.0 c.before_arm-q.ensures,
-    )
+  omega (arith, c.decreases),
+  arms-asks c.requires c.loop-i.invariant c.loop-i-test.true
+      (c.second_in-cell.ensures ∙ ap second_in c.known_at.ensures) c.end_of.ensures.0 c.before_arm-q.ensures,
+)
 
 pub arms-after_arm-p-requires : goal.arms-after_arm-p-requires
 arms-after_arm-p-requires t c = arms-behind c.requires c.loop-i.invariant c.loop-i-test.true (c.second_in-cell.ensures ∙ ap second_in c.known_at.ensures)
@@ -137,10 +135,10 @@ assign-overflow_sub-nesting t c = omega (arith, (asked c.requires).nested)
 
 pub assign-expression-q-requires : goal.assign-expression-q-requires
 assign-expression-q-requires t c = (
-      omega (arith, (asked c.requires).nested, c.decreases),
-      asks-variable-second c.requires c.size_at.result c.size_at.ensures
-          c.meaning-k.result (rw c.a_at.ensures at c.meaning-k.ensures) (sym c.kind_at.ensures ∙ c.if-kind_at-eq-KIND_VARIABLE.true) c.finish-p.ensures,
-    )
+  omega (arith, (asked c.requires).nested, c.decreases),
+  asks-variable-second c.requires c.size_at.result c.size_at.ensures
+      c.meaning-k.result (rw c.a_at.ensures at c.meaning-k.ensures) (sym c.kind_at.ensures ∙ c.if-kind_at-eq-KIND_VARIABLE.true) c.finish-p.ensures,
+)
 
 pub assign-emit-r-requires : goal.assign-emit-r-requires
 assign-emit-r-requires t c = asks-variable-emit c.requires c.size_at.result c.size_at.ensures c.meaning-k.result
@@ -171,25 +169,25 @@ assign-slice_bounds-expression-start-2 t c = omega (arith, (asks-assign c.requir
 
 pub assign-overflow_sub-nesting-2 : goal.assign-overflow_sub-nesting-2
 assign-overflow_sub-nesting-2 t c = omega (
-      arith,
-      asks-field-nests c.requires c.size_at.result c.size_at.ensures c.meaning-k.result
-          (rw c.a_at.ensures at c.meaning-k.ensures) (λ z. c.if-kind_at-eq-KIND_VARIABLE.false (c.kind_at.ensures ∙ z)),
-    )
+  arith,
+  asks-field-nests c.requires c.size_at.result c.size_at.ensures c.meaning-k.result
+      (rw c.a_at.ensures at c.meaning-k.ensures) (λ z. c.if-kind_at-eq-KIND_VARIABLE.false (c.kind_at.ensures ∙ z)),
+)
 
 pub assign-overflow_add-at-2 : goal.assign-overflow_add-at-2
 assign-overflow_add-at-2 t c = omega (arith, (asked c.requires).small)
 
 pub assign-expression-p-requires : goal.assign-expression-p-requires
 assign-expression-p-requires t c = (
-      omega (
-        arith,
-        asks-field-nests c.requires c.size_at.result c.size_at.ensures c.meaning-k.result
-            (rw c.a_at.ensures at c.meaning-k.ensures) (λ z. c.if-kind_at-eq-KIND_VARIABLE.false (c.kind_at.ensures ∙ z)),
-        c.decreases,
-      ),
-      asks-field-first c.requires c.size_at.result c.size_at.ensures c.meaning-k.result
-          (rw c.a_at.ensures at c.meaning-k.ensures) (λ z. c.if-kind_at-eq-KIND_VARIABLE.false (c.kind_at.ensures ∙ z)),
-    )
+  omega (
+    arith,
+    asks-field-nests c.requires c.size_at.result c.size_at.ensures c.meaning-k.result
+        (rw c.a_at.ensures at c.meaning-k.ensures) (λ z. c.if-kind_at-eq-KIND_VARIABLE.false (c.kind_at.ensures ∙ z)),
+    c.decreases,
+  ),
+  asks-field-first c.requires c.size_at.result c.size_at.ensures c.meaning-k.result
+      (rw c.a_at.ensures at c.meaning-k.ensures) (λ z. c.if-kind_at-eq-KIND_VARIABLE.false (c.kind_at.ensures ∙ z)),
+)
 
 pub assign-overflow_add-at-3 : goal.assign-overflow_add-at-3
 assign-overflow_add-at-3 t c = omega (arith, (asked c.requires).small)
@@ -214,11 +212,11 @@ assign-overflow_add-depth t c = omega (arith, (asked c.requires).deep)
 
 pub assign-expression-r-requires : goal.assign-expression-r-requires
 assign-expression-r-requires t c = (
-      omega (arith, (asked c.requires).nested, c.decreases),
-      asks-field-second c.requires c.size_at.result c.size_at.ensures
-          c.meaning-k.result (rw c.a_at.ensures at c.meaning-k.ensures) (λ z. c.if-kind_at-eq-KIND_VARIABLE.false (c.kind_at.ensures ∙ z))
-          c.expression-p.ensures c.finish-q.ensures,
-    )
+  omega (arith, (asked c.requires).nested, c.decreases),
+  asks-field-second c.requires c.size_at.result c.size_at.ensures
+      c.meaning-k.result (rw c.a_at.ensures at c.meaning-k.ensures) (λ z. c.if-kind_at-eq-KIND_VARIABLE.false (c.kind_at.ensures ∙ z))
+      c.expression-p.ensures c.finish-q.ensures,
+)
 
 pub assign-emit-s-requires : goal.assign-emit-s-requires
 assign-emit-s-requires t c = asks-field-emit c.requires c.size_at.result c.size_at.ensures c.meaning-k.result
@@ -292,9 +290,9 @@ block-overflow_add-at-3 t c = omega (arith, (asks-block-within c.requires c.a_at
 
 pub block-items-q-requires : goal.block-items-q-requires
 block-items-q-requires t c = (
-      omega (arith, (asked c.requires).nested, c.decreases),
-      asks-block-items c.requires c.a_at-heads.ensures c.b_at-count.ensures c.open_block-o.ensures,
-    )
+  omega (arith, (asked c.requires).nested, c.decreases),
+  asks-block-items c.requires c.a_at-heads.ensures c.b_at-count.ensures c.open_block-o.ensures,
+)
 
 pub block-releases-requires : goal.block-releases-requires
 block-releases-requires t c = asks-block-releases c.requires c.a_at-heads.ensures c.b_at-count.ensures c.open_block-o.ensures c.items-q.ensures
@@ -364,9 +362,9 @@ body-overflow_add-at-3 t c = omega (arith, (asks-body-within c.requires c.a_at-h
 
 pub body-items-q-requires : goal.body-items-q-requires
 body-items-q-requires t c = (
-      omega (arith, (asked c.requires).nested, c.decreases),
-      asks-body-items c.requires c.a_at-heads.ensures c.b_at-count.ensures c.open_block-o.ensures,
-    )
+  omega (arith, (asked c.requires).nested, c.decreases),
+  asks-body-items c.requires c.a_at-heads.ensures c.b_at-count.ensures c.open_block-o.ensures,
+)
 
 pub body-overflow_add-at-4 : goal.body-overflow_add-at-4
 body-overflow_add-at-4 t c = omega (arith, (asked c.requires).small)
@@ -406,10 +404,10 @@ body-overflow_add-at-8 t c = omega (arith, (asks-body-passes c.requires c.a_at-h
 
 pub body-expression-r-requires : goal.body-expression-r-requires
 body-expression-r-requires t c = (
-      omega (arith, (asked c.requires).nested, c.decreases),
-      asks-body-value c.requires c.a_at-heads.ensures c.b_at-count.ensures c.open_block-o.ensures
-          c.items-q.ensures c.spanned-n.ensures,
-    )
+  omega (arith, (asked c.requires).nested, c.decreases),
+  asks-body-value c.requires c.a_at-heads.ensures c.b_at-count.ensures c.open_block-o.ensures
+      c.items-q.ensures c.spanned-n.ensures,
+)
 
 pub body-releases-requires : goal.body-releases-requires
 body-releases-requires t c = asks-body-releases c.requires c.a_at-heads.ensures c.b_at-count.ensures c.open_block-o.ensures
@@ -495,10 +493,10 @@ choose-overflow_sub-nesting-2 t c = omega (arith, (asked c.requires).nested)
 
 pub choose-statement-r-requires : goal.choose-statement-r-requires
 choose-statement-r-requires t c = (
-      omega (arith, (asked c.requires).nested, c.decreases),
-      asks-choose-second c.requires c.size_at.result c.size_at.ensures c.size_at-2.result c.size_at-2.ensures
-          c.expression-p.ensures c.end_of.ensures.0 c.emit-q.ensures,
-    )
+  omega (arith, (asked c.requires).nested, c.decreases),
+  asks-choose-second c.requires c.size_at.result c.size_at.ensures c.size_at-2.result c.size_at-2.ensures
+      c.expression-p.ensures c.end_of.ensures.0 c.emit-q.ensures,
+)
 
 pub choose-emit-s-requires : goal.choose-emit-s-requires
 choose-emit-s-requires t c = asks-choose-emit₂ c.requires c.size_at.result c.size_at.ensures c.size_at-2.result
@@ -524,11 +522,11 @@ choose-overflow_sub-nesting-3 t c = omega (arith, (asked c.requires).nested)
 
 pub choose-statement-u-requires : goal.choose-statement-u-requires
 choose-statement-u-requires t c = (
-      omega (arith, (asked c.requires).nested, c.decreases),
-      asks-choose-third c.requires c.size_at.result c.size_at.ensures c.size_at-2.result
-          c.size_at-2.ensures c.expression-p.ensures c.end_of.ensures.0 c.emit-q.ensures
-          c.statement-r.ensures c.end_of-2.ensures.0 c.emit-s.ensures c.shape-t.ensures,
-    )
+  omega (arith, (asked c.requires).nested, c.decreases),
+  asks-choose-third c.requires c.size_at.result c.size_at.ensures c.size_at-2.result
+      c.size_at-2.ensures c.expression-p.ensures c.end_of.ensures.0 c.emit-q.ensures
+      c.statement-r.ensures c.end_of-2.ensures.0 c.emit-s.ensures c.shape-t.ensures,
+)
 
 pub choose-shape-requires : goal.choose-shape-requires
 choose-shape-requires t c = asks-choose-shape₂ c.requires c.size_at.result c.size_at.ensures c.size_at-2.result
@@ -615,10 +613,10 @@ conditional-overflow_sub-nesting-2 t c = omega (arith, (asked c.requires).nested
 
 pub conditional-expression-r-requires : goal.conditional-expression-r-requires
 conditional-expression-r-requires t c = (
-      omega (arith, (asked c.requires).nested, c.decreases),
-      asks-cond-second c.requires c.size_at.result c.size_at.ensures
-          c.expression-p.ensures c.end_of.ensures.0 c.emit-q.ensures,
-    )
+  omega (arith, (asked c.requires).nested, c.decreases),
+  asks-cond-second c.requires c.size_at.result c.size_at.ensures
+      c.expression-p.ensures c.end_of.ensures.0 c.emit-q.ensures,
+)
 
 pub conditional-bounds-stack-depth : goal.conditional-bounds-stack-depth
 conditional-bounds-stack-depth t c = asks-cond-read c.requires c.size_at.result c.size_at.ensures c.expression-p.ensures
@@ -647,11 +645,11 @@ conditional-overflow_sub-nesting-3 t c = omega (arith, (asked c.requires).nested
 
 pub conditional-expression-u-requires : goal.conditional-expression-u-requires
 conditional-expression-u-requires t c = (
-      omega (arith, (asked c.requires).nested, c.decreases),
-      asks-cond-third c.requires c.size_at.result c.size_at.ensures c.expression-p.ensures c.end_of.ensures.0
-          c.emit-q.ensures c.expression-r.ensures c.size_at-2.result c.size_at-2.ensures
-          c.end_of-2.ensures.0 c.emit-s.ensures c.shape-t.ensures,
-    )
+  omega (arith, (asked c.requires).nested, c.decreases),
+  asks-cond-third c.requires c.size_at.result c.size_at.ensures c.expression-p.ensures c.end_of.ensures.0
+      c.emit-q.ensures c.expression-r.ensures c.size_at-2.result c.size_at-2.ensures
+      c.end_of-2.ensures.0 c.emit-s.ensures c.shape-t.ensures,
+)
 
 pub conditional-bounds-stack-depth-2 : goal.conditional-bounds-stack-depth-2
 conditional-bounds-stack-depth-2 t c = asks-cond-write c.requires c.size_at.result c.size_at.ensures c.expression-p.ensures c.end_of.ensures.0 c.emit-q.ensures
@@ -730,11 +728,11 @@ expression-finish-requires t c = asks-leaf-finish (ask-as (λ n h e. leaf-of n h
 
 pub expression-simple-requires : goal.expression-simple-requires
 expression-simple-requires t c = (
-      omega (arith, c.decreases),
-      asks-anew _ (ask-as (λ n h e. simple-expr n h (λ z. c.in_default.in_default-own.rest.0.0.1 (c.kind_at-kind.ensures ∙ (sym e ∙ z)))
-          (λ z. c.in_default.in_default-own.rest.0.1 (c.kind_at-kind.ensures ∙ (sym e ∙ z))) (λ z. c.in_default.in_default-own.rest.1 (c.kind_at-kind.ensures ∙ (sym e ∙ z)))
-          (omega (arith, e, c.kind_at-kind.ensures, c.if-kind-lt-KIND_FUNCTION.false))) c.requires),
-    )
+  omega (arith, c.decreases),
+  asks-anew _ (ask-as (λ n h e. simple-expr n h (λ z. c.in_default.in_default-own.rest.0.0.1 (c.kind_at-kind.ensures ∙ (sym e ∙ z)))
+      (λ z. c.in_default.in_default-own.rest.0.1 (c.kind_at-kind.ensures ∙ (sym e ∙ z))) (λ z. c.in_default.in_default-own.rest.1 (c.kind_at-kind.ensures ∙ (sym e ∙ z)))
+      (omega (arith, e, c.kind_at-kind.ensures, c.if-kind-lt-KIND_FUNCTION.false))) c.requires),
+)
 
 pub expression-shape_of-env-in-49 : goal.expression-shape_of-env-in-49
 expression-shape_of-env-in-49 t c = c.pair.ensures.kept.same-env
@@ -964,19 +962,19 @@ pair-overflow_sub-nesting-2 t c = omega (arith, (asked c.requires).nested)
 
 pub pair-overflow_add-depth : goal.pair-overflow_add-depth
 pair-overflow_add-depth t c = omega (
-      arith,
-      (asked (asks-pair-second c.requires c.size_at.result c.size_at.ensures c.expression-p.ensures c.a_at-operator.ensures
-          c.end_of-end.ensures.0 c.way_of-way.ensures c.between-q.ensures (c.args.depth + c.waiting.result)
-          (ap (λ (k : ℕ). c.args.depth + k) c.waiting.ensures))).deep,
-    )
+  arith,
+  (asked (asks-pair-second c.requires c.size_at.result c.size_at.ensures c.expression-p.ensures c.a_at-operator.ensures
+      c.end_of-end.ensures.0 c.way_of-way.ensures c.between-q.ensures (c.args.depth + c.waiting.result)
+      (ap (λ (k : ℕ). c.args.depth + k) c.waiting.ensures))).deep,
+)
 
 pub pair-expression-r-requires : goal.pair-expression-r-requires
 pair-expression-r-requires t c = (
-      omega (arith, (asked c.requires).nested, c.decreases),
-      asks-pair-second c.requires c.size_at.result c.size_at.ensures c.expression-p.ensures c.a_at-operator.ensures
-          c.end_of-end.ensures.0 c.way_of-way.ensures c.between-q.ensures (c.args.depth + c.waiting.result)
-          (ap (λ (k : ℕ). c.args.depth + k) c.waiting.ensures),
-    )
+  omega (arith, (asked c.requires).nested, c.decreases),
+  asks-pair-second c.requires c.size_at.result c.size_at.ensures c.expression-p.ensures c.a_at-operator.ensures
+      c.end_of-end.ensures.0 c.way_of-way.ensures c.between-q.ensures (c.args.depth + c.waiting.result)
+      (ap (λ (k : ℕ). c.args.depth + k) c.waiting.ensures),
+)
 
 pub pair-bounds-stack-depth-2 : goal.pair-bounds-stack-depth-2
 pair-bounds-stack-depth-2 t c = asks-pair-write c.requires c.size_at.result c.size_at.ensures c.expression-p.ensures c.a_at-operator.ensures
@@ -1071,10 +1069,10 @@ repeat-overflow_sub-nesting-2 t c = omega (arith, (asked c.requires).nested)
 
 pub repeat-statement-s-requires : goal.repeat-statement-s-requires
 repeat-statement-s-requires t c = (
-      omega (arith, (asked c.requires).nested, c.decreases),
-      asks-while-second c.requires c.shape-p.ensures c.size_at.result c.size_at.ensures
-          c.expression-q.ensures c.end_of.ensures.0 c.emit-r.ensures,
-    )
+  omega (arith, (asked c.requires).nested, c.decreases),
+  asks-while-second c.requires c.shape-p.ensures c.size_at.result c.size_at.ensures
+      c.expression-q.ensures c.end_of.ensures.0 c.emit-r.ensures,
+)
 
 pub repeat-emit-t-requires : goal.repeat-emit-t-requires
 repeat-emit-t-requires t c = asks-while-emit₂ c.requires c.shape-p.ensures c.size_at.result c.size_at.ensures
@@ -1158,10 +1156,10 @@ select-overflow_sub-nesting-2 t c = omega (arith, (asked c.requires).nested)
 
 pub select-arms-r-requires : goal.select-arms-r-requires
 select-arms-r-requires t c = (
-      omega (arith, (asked c.requires).nested, c.decreases),
-      asks-select-second c.requires c.size_at.result c.size_at.ensures c.expression-p.ensures c.a_at-count.ensures
-          (c.second_in-cell.ensures ∙ ap second_in c.known_at.ensures) c.emit-q.ensures,
-    )
+  omega (arith, (asked c.requires).nested, c.decreases),
+  asks-select-second c.requires c.size_at.result c.size_at.ensures c.expression-p.ensures c.a_at-count.ensures
+      (c.second_in-cell.ensures ∙ ap second_in c.known_at.ensures) c.emit-q.ensures,
+)
 
 pub select-emit-s-requires : goal.select-emit-s-requires
 select-emit-s-requires t c = asks-select-emit₂ c.requires c.size_at.result c.size_at.ensures c.expression-p.ensures c.a_at-count.ensures
@@ -1217,10 +1215,10 @@ simple-overflow_add-at t c = omega (arith, (asked c.requires).small)
 
 pub simple-operands-p-requires : goal.simple-operands-p-requires
 simple-operands-p-requires t c = (
-      omega (arith, (asked c.requires).nested, c.decreases),
-      asks-simple-first c.requires c.kind_at-kind.ensures c.a_at-a.ensures c.b_at.ensures
-          c.operands_of-count.ensures,
-    )
+  omega (arith, (asked c.requires).nested, c.decreases),
+  asks-simple-first c.requires c.kind_at-kind.ensures c.a_at-a.ensures c.b_at.ensures
+      c.operands_of-count.ensures,
+)
 
 pub simple-known_of-k-requires : goal.simple-known_of-k-requires
 simple-known_of-k-requires t c = asks-simple-room c.requires c.kind_at-kind.ensures c.a_at-a.ensures c.b_at.ensures
@@ -1307,16 +1305,16 @@ statement-turns-requires t c = (omega (arith, c.decreases), ask-as (λ n h e. e 
 
 pub statement-simple-requires : goal.statement-simple-requires
 statement-simple-requires t c = (
-      omega (arith, c.decreases),
-      asks-anew _ (ask-as (λ n h e. simple-stmt n h
-          (λ z. c.in_default.in_default-own.rest.0.0.0.0.0.0.0.0.1 (c.kind_at-kind.ensures ∙ (sym e ∙ z)))
-          (λ z. c.in_default.in_default-own.rest.0.0.0.0.0.0.0.1 (c.kind_at-kind.ensures ∙ (sym e ∙ z)))
-          (λ z. c.in_default.in_default-own.rest.0.0.0.0.0.0.1 (c.kind_at-kind.ensures ∙ (sym e ∙ z)))
-          (λ z. c.in_default.in_default-own.rest.0.0.0.0.0.1 (c.kind_at-kind.ensures ∙ (sym e ∙ z)))
-          (λ z. c.in_default.in_default-own.rest.0.0.0.0.1 (c.kind_at-kind.ensures ∙ (sym e ∙ z))) (λ z. c.in_default.in_default-own.rest.0.0.0.1 (c.kind_at-kind.ensures ∙ (sym e ∙ z)))
-          (λ z. c.in_default.in_default-own.rest.0.0.1 (c.kind_at-kind.ensures ∙ (sym e ∙ z))) (λ z. c.in_default.in_default-own.rest.0.1 (c.kind_at-kind.ensures ∙ (sym e ∙ z)))
-          (λ z. c.in_default.in_default-own.rest.1 (c.kind_at-kind.ensures ∙ (sym e ∙ z)))) c.requires),
-    )
+  omega (arith, c.decreases),
+  asks-anew _ (ask-as (λ n h e. simple-stmt n h
+      (λ z. c.in_default.in_default-own.rest.0.0.0.0.0.0.0.0.1 (c.kind_at-kind.ensures ∙ (sym e ∙ z)))
+      (λ z. c.in_default.in_default-own.rest.0.0.0.0.0.0.0.1 (c.kind_at-kind.ensures ∙ (sym e ∙ z)))
+      (λ z. c.in_default.in_default-own.rest.0.0.0.0.0.0.1 (c.kind_at-kind.ensures ∙ (sym e ∙ z)))
+      (λ z. c.in_default.in_default-own.rest.0.0.0.0.0.1 (c.kind_at-kind.ensures ∙ (sym e ∙ z)))
+      (λ z. c.in_default.in_default-own.rest.0.0.0.0.1 (c.kind_at-kind.ensures ∙ (sym e ∙ z))) (λ z. c.in_default.in_default-own.rest.0.0.0.1 (c.kind_at-kind.ensures ∙ (sym e ∙ z)))
+      (λ z. c.in_default.in_default-own.rest.0.0.1 (c.kind_at-kind.ensures ∙ (sym e ∙ z))) (λ z. c.in_default.in_default-own.rest.0.1 (c.kind_at-kind.ensures ∙ (sym e ∙ z)))
+      (λ z. c.in_default.in_default-own.rest.1 (c.kind_at-kind.ensures ∙ (sym e ∙ z)))) c.requires),
+)
 
 pub statement-shape_of-env-in-1 : goal.statement-shape_of-env-in-1
 statement-shape_of-env-in-1 t c = c.block.ensures.kept.same-env
@@ -1535,20 +1533,20 @@ turns-overflow_add-at-4 t c = omega (arith, (asks-turn-within c.requires c.spann
 
 pub turns-statement-s-requires : goal.turns-statement-s-requires
 turns-statement-s-requires t c = (
-      omega (arith, (asked c.requires).nested, c.decreases),
-      asks-turn-second c.requires c.spanned-n.result
-          c.spanned-n.ensures c.operands-p.ensures c.shape-q.ensures (c.second_in-cell.ensures ∙ ap second_in
-          c.known_at.ensures) c.end_of-exit.ensures.0 c.enter_turns-r.ensures c.a_at-control.ensures
-          c.enter_loop-up.ensures,
-    )
+  omega (arith, (asked c.requires).nested, c.decreases),
+  asks-turn-second c.requires c.spanned-n.result
+      c.spanned-n.ensures c.operands-p.ensures c.shape-q.ensures (c.second_in-cell.ensures ∙ ap second_in
+      c.known_at.ensures) c.end_of-exit.ensures.0 c.enter_turns-r.ensures c.a_at-control.ensures
+      c.enter_loop-up.ensures,
+)
 
 pub turns-overflow_cast-began : goal.turns-overflow_cast-began
 turns-overflow_cast-began t c = omega (
-      arith,
-      asks-turn-began c.requires c.spanned-n.result c.spanned-n.ensures c.operands-p.ensures
-          c.shape-q.ensures (c.second_in-cell.ensures ∙ ap second_in c.known_at.ensures) c.end_of-exit.ensures.0
-          c.enter_turns-r.ensures,
-    )
+  arith,
+  asks-turn-began c.requires c.spanned-n.result c.spanned-n.ensures c.operands-p.ensures
+      c.shape-q.ensures (c.second_in-cell.ensures ∙ ap second_in c.known_at.ensures) c.end_of-exit.ensures.0
+      c.enter_turns-r.ensures,
+)
 
 pub turns-leave_turn-t-requires : goal.turns-leave_turn-t-requires
 turns-leave_turn-t-requires t c = asks-turn-leave c.requires c.spanned-n.result c.spanned-n.ensures c.operands-p.ensures
@@ -1626,9 +1624,9 @@ when-overflow_sub-nesting-2 t c = omega (arith, (asked c.requires).nested)
 
 pub when-statement-r-requires : goal.when-statement-r-requires
 when-statement-r-requires t c = (
-      omega (arith, (asked c.requires).nested, c.decreases),
-      asks-when-second c.requires c.size_at.result c.size_at.ensures c.expression-p.ensures c.end_of.ensures.0 c.emit-q.ensures,
-    )
+  omega (arith, (asked c.requires).nested, c.decreases),
+  asks-when-second c.requires c.size_at.result c.size_at.ensures c.expression-p.ensures c.end_of.ensures.0 c.emit-q.ensures,
+)
 
 pub when-shape-requires : goal.when-shape-requires
 when-shape-requires t c = asks-when-shape c.requires c.size_at.result c.size_at.ensures c.expression-p.ensures
