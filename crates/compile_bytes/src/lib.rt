@@ -1,1 +1,2 @@
 // Definitions and laws only: see specs/. What the compiler's cursor leaves in the output.
+#![tactic(auto)]

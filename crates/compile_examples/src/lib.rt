@@ -1,1 +1,2 @@
 // Examples only: see specs/. Tables compiled, judged and run by evaluation.
+#![tactic(auto)]

@@ -1,4 +1,6 @@
 // The cursor: where the next instruction and the next shape go in the output. A dry one writes nothing: it only counts, so that one walk serves to measure and to write.
+#![tactic(auto)]
+
 mod loops;
 
 ghost use Rattle.std.specs.Prelude.{◌≡◌, true, false, ◌+◌, ◌≤◌, ◌<◌, length, take};

@@ -2,6 +2,8 @@
 // second operand of the instructions that use it. A variable: whose cell (1: the root's), and the cell. A field: its class, and its
 // index. A class: its number, and as its type that of a reference to it. A procedure: its body, and the type of its result. A case has
 // a cell, too, and a for three, of which the first is its control name's. Any other entry: 0.
+#![tactic(auto)]
+
 ghost use Rattle.std.specs.Prelude.{◌≡◌, ◌+◌, ◌*◌, ◌/◌, ◌≤◌, ◌<◌, length, get_or};
 ghost use Rattle.std.proofs.lemmas.List.Edits.{sets};
 ghost use Rattle.language.specs.Tree.{Tree};

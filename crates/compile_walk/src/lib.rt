@@ -1,6 +1,8 @@
 // The walkers: statements and expressions call each other, the remaining nesting falling. Each gets the part of the table that begins
 // where it stands and passes on parts that start inside it. An expression leaves the type of its value at `depth` of the stack. The
 // walkers go over a table twice: dry, they only find where the code of each entry ends; then `aims` has what they found.
+#![tactic(auto)]
+
 ghost use Rattle.std.specs.Prelude.{◌+◌, ◌*◌};
 ghost use Rattle.compile_nodes.specs.Ready.{Asks, Answers, AsksEs, AnswersEs, AsksItems, AnswersItems, AsksArms, AnswersArms};
 ghost use Rattle.compile_steps.specs.Parts.{lent};

@@ -1,4 +1,6 @@
 // The table check: refusals 1 to 6, from a table's bytes alone.
+#![tactic(auto)]
+
 ghost use Rattle.std.specs.Prelude.{◌≡◌, ◌≤◌, length};
 ghost use Rattle.language.specs.Judge.{judge_table};
 ghost use Rattle.table_entries.specs.Sizes.{Known};

@@ -1,5 +1,7 @@
 // An entry of a table: 8 bytes, its kind (u16), a (u16) and b (32 bits). Whoever reads one reads it here, by its place; the first entry of a
 // part of the table is at place 0.
+#![tactic(auto)]
+
 ghost use Rattle.std.specs.Prelude.{◌≡◌, ◌+◌, ◌*◌, ◌≤◌, length};
 ghost use Rattle.words.specs.Numbers.{half_at, word_at, integer_of};
 

@@ -1,4 +1,6 @@
 // What a body takes of its limits (refusal 6): working need, cells, and holds open together.
+#![tactic(auto)]
+
 pub mod sums;
 
 ghost use Rattle.std.specs.Prelude.{◌≡◌, ◌+◌, ◌*◌, ◌^◌, ◌≤◌, ◌<◌, length};

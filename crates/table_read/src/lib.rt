@@ -1,6 +1,8 @@
 // The reader of tables (refusals 1 and 2). An entry and its operands call each other, the remaining nesting falling; each is given the part of
 // the table after the entry that it is an operand of, and passes on further parts that start inside it. How many entries each entry has with all
 // that stands below it is noted at its place, for the passes after this one.
+#![tactic(auto)]
+
 pub mod kinds;
 pub mod layout;
 

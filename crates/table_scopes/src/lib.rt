@@ -1,5 +1,7 @@
 // The names that stand in sight in a table: how many entries each part of it spans, the stack of names in lent numbers, and the heads that
 // push their names on it and are judged.
+#![tactic(auto)]
+
 mod environment;
 mod heads;
 mod spans;

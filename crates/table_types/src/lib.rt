@@ -1,4 +1,6 @@
 // What an entry makes of the types of its operands, which stand above the names in sight. A type is one number, 0 for none.
+#![tactic(auto)]
+
 mod kinds;
 
 ghost use Rattle.std.specs.Prelude.{◌≡◌, ◌+◌, ◌*◌, ◌%◌, ◌/◌, ◌≤◌, ◌<◌, length, get_or, eqb, true};

@@ -16,16 +16,15 @@ overflow_add-at c =
     omega (arith, (proc-asks c.requires c.b_at-heading.result c.b_at-heading.ensures).small)
 
 pub enter_procedure-up-requires : goal.enter_procedure-up-requires
-enter_procedure-up-requires c =
-    (
-      (proc-asks c.requires c.b_at-heading.result c.b_at-heading.ensures).within,
-      (proc-asks c.requires c.b_at-heading.result c.b_at-heading.ensures).short,
-      omega (
-        arith,
-        (proc-asks c.requires c.b_at-heading.result c.b_at-heading.ensures).room,
-        items-few 4 c.args.table.now (c.args.at + 1) (c.b_at-heading.result / 256),
-      ),
-    )
+enter_procedure-up-requires c = (
+  (proc-asks c.requires c.b_at-heading.result c.b_at-heading.ensures).within,
+  (proc-asks c.requires c.b_at-heading.result c.b_at-heading.ensures).short,
+  omega (
+    arith,
+    (proc-asks c.requires c.b_at-heading.result c.b_at-heading.ensures).room,
+    items-few 4 c.args.table.now (c.args.at + 1) (c.b_at-heading.result / 256),
+  ),
+)
 
 pub slice_bounds-statement-count : goal.slice_bounds-statement-count
 slice_bounds-statement-count c =
@@ -54,17 +53,16 @@ emit-requires c =
     c.enter_procedure-up.ensures IsStmt (λ s. tt) c.if-heading-eq0.true c.statement-p.ensures
 
 pub finish-requires : goal.finish-requires
-finish-requires c =
-    (
-      omega (
-        arith,
-        (proc-asks c.requires c.b_at-heading.result c.b_at-heading.ensures).ending,
-        c.statement-p.ensures.kept.same_ends,
-      ),
-      rw c.emit.ensures.0
-          (proper-fits c.requires c.b_at-heading.result c.b_at-heading.ensures
-          c.enter_procedure-up.ensures IsStmt (λ s. tt) c.if-heading-eq0.true c.statement-p.ensures).address-small,
-    )
+finish-requires c = (
+  omega (
+    arith,
+    (proc-asks c.requires c.b_at-heading.result c.b_at-heading.ensures).ending,
+    c.statement-p.ensures.kept.same_ends,
+  ),
+  rw c.emit.ensures.0
+      (proper-fits c.requires c.b_at-heading.result c.b_at-heading.ensures
+      c.enter_procedure-up.ensures IsStmt (λ s. tt) c.if-heading-eq0.true c.statement-p.ensures).address-small,
+)
 
 pub returns-then-heading-eq0 : goal.returns-then-heading-eq0
 returns-then-heading-eq0 c =
@@ -102,17 +100,16 @@ emit-requires-2 c =
     c.enter_procedure-up.ensures IsExpr (λ e. tt) c.if-heading-eq0.false c.expression-p.ensures
 
 pub finish-requires-2 : goal.finish-requires-2
-finish-requires-2 c =
-    (
-      omega (
-        arith,
-        (proc-asks c.requires c.b_at-heading.result c.b_at-heading.ensures).ending,
-        c.expression-p.ensures.kept.same_ends,
-      ),
-      rw c.emit-2.ensures.0
-          (function-fits c.requires c.b_at-heading.result c.b_at-heading.ensures
-          c.enter_procedure-up.ensures IsExpr (λ e. tt) c.if-heading-eq0.false c.expression-p.ensures).address-small,
-    )
+finish-requires-2 c = (
+  omega (
+    arith,
+    (proc-asks c.requires c.b_at-heading.result c.b_at-heading.ensures).ending,
+    c.expression-p.ensures.kept.same_ends,
+  ),
+  rw c.emit-2.ensures.0
+      (function-fits c.requires c.b_at-heading.result c.b_at-heading.ensures
+      c.enter_procedure-up.ensures IsExpr (λ e. tt) c.if-heading-eq0.false c.expression-p.ensures).address-small,
+)
 
 pub returns : goal.returns
 returns c =

@@ -44,15 +44,14 @@ emit-requires c =
     c.root_holds-held.ensures c.declare_globals-p.ensures c.items-q.ensures c.releases-r.ensures
 
 pub finish-requires : goal.finish-requires
-finish-requires c =
-    (
-      ends_some c.requires c.b_at-items.result c.root_holds-held.result c.b_at-items.ensures
-          c.root_holds-held.ensures c.declare_globals-p.ensures c.items-q.ensures
-          c.releases-r.ensures,
-      rw c.emit.ensures.0
-          (end_fits c.requires c.b_at-items.result c.root_holds-held.result c.b_at-items.ensures
-          c.root_holds-held.ensures c.declare_globals-p.ensures c.items-q.ensures c.releases-r.ensures).address-small,
-    )
+finish-requires c = (
+  ends_some c.requires c.b_at-items.result c.root_holds-held.result c.b_at-items.ensures
+      c.root_holds-held.ensures c.declare_globals-p.ensures c.items-q.ensures
+      c.releases-r.ensures,
+  rw c.emit.ensures.0
+      (end_fits c.requires c.b_at-items.result c.root_holds-held.result c.b_at-items.ensures
+      c.root_holds-held.ensures c.declare_globals-p.ensures c.items-q.ensures c.releases-r.ensures).address-small,
+)
 
 pub returns : goal.returns
 returns c =
