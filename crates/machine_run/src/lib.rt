@@ -1,4 +1,6 @@
 // The machine on lent bytes: a run from a sound state of a macro that passes the loading check.
+#![tactic(auto)]
+
 mod aside;
 mod dispatch;
 mod steps;

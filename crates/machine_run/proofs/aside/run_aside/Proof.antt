@@ -16,248 +16,248 @@ use Rattle.machine_run.proofs.AsideLoop.{leave-asks, left, left-grows, put-grows
 use Rattle.machine_run.proofs.aside.run_aside.Statement.{statement}
 use Rattle.machine_run.proofs.aside.run_aside.Tie as tie
 
-abbrev invariant-loop : tie.invariant-loop
+abbrev invariant-loop : tie.invariant-loop-left
 invariant-loop code base state₀ readings frame depth address taken allowance w t k₀ i₀ left₀ x₀ u₀ state k i left x u =
     Going code readings allowance (went_to (pushed state₀ frame depth w t) frame address) address taken state₀ state frame k i (allowance - left) x u × (left ≤ allowance)
 
-abbrev decreases-loop : tie.decreases-loop
+abbrev decreases-loop : tie.decreases-loop-left
 decreases-loop code base state₀ readings frame depth address taken allowance w t k₀ i₀ left₀ x₀ u₀ state k i left x u = left
 
 -- ── the points that most answers go back to: the loop's head, the op read, a pair found ──
-abbrev start_of : tie.At-loop invariant-loop decreases-loop → tie.Start invariant-loop decreases-loop
+abbrev start_of : tie.At-loop-left invariant-loop decreases-loop → tie.Start invariant-loop decreases-loop
 start_of p = p.before.before.before.before
 
-abbrev loop-of : tie.After-word-at invariant-loop decreases-loop → tie.At-loop invariant-loop decreases-loop
+abbrev loop-of : tie.After-word_at-b invariant-loop decreases-loop → tie.At-loop-left invariant-loop decreases-loop
 loop-of p = p.before.before.before.before
 
-ready : (p : tie.After-word-at invariant-loop decreases-loop) →
-    let l = (loop-of p).loop in
+ready : (p : tie.After-word_at-b invariant-loop decreases-loop) →
+    let l = (loop-of p).loop-left in
     let s = (start_of (loop-of p)).args in
     let place = s.base + 8 * l.i in
     Ready s.code.now s.readings.now s.allowance (went_to (pushed s.state.now s.frame s.depth s.w s.t) s.frame s.address)
     s.address s.taken s.state.now l.state s.frame
-    l.k l.i (s.allowance - l.left) l.x l.u s.base (byte_at s.code.now (place + 2)) (byte_at s.code.now (place + 3)) p.word_at.result
+    l.k l.i (s.allowance - l.left) l.x l.u s.base (byte_at s.code.now (place + 2)) (byte_at s.code.now (place + 3)) p.word_at-b.result
 ready p =
     let l = loop-of p in
     record {
-      going = l.loop.inv.0;
-      low = λ k. omega (arith, l.before.shared-slice-known2.given k);
-      coded = (start_of l).pre.0;
-      more = omega (arith, l.loop.inv.1);
+      going = l.loop-left.invariant.0;
+      low = λ k. omega (arith, l.before.shared_slice_known-2-1.given k);
+      coded = (start_of l).requires.0;
+      more = omega (arith, l.loop-left.invariant.1);
       op-is = refl;
       a-is = refl;
-      b-is = p.word_at.ensures;
-      b-low = omega (arith, p.word_at.type-inv);
+      b-is = p.word_at-b.ensures;
+      b-low = omega (arith, p.word_at-b.type_inv);
     }
 
 -- ── a pair found ──
-abbrev found_at : tie.After-c invariant-loop decreases-loop → tie.After-word-at invariant-loop decreases-loop
-found_at p = p.before.before.before.before.before.before
+abbrev found_at : tie.In-Works invariant-loop decreases-loop → tie.After-word_at-b invariant-loop decreases-loop
+found_at p = p.before.before.before.before.before
 
-pairs : (p : tie.After-c invariant-loop decreases-loop) →
+pairs : (p : tie.In-Works invariant-loop decreases-loop) →
     let q = found_at p in
-    let l = (loop-of q).loop in
+    let l = (loop-of q).loop-left in
     let s = (start_of (loop-of q)).args in
     let place = s.base + 8 * l.i in
-    let v = p.c.given.0 in
+    let v = p.in-Works in
     Paired s.code.now place l.state s.frame l.k (byte_at s.code.now (place + 2)) (byte_at s.code.now (place + 3))
-    q.word_at.result l.x l.u l.left
-    p.before.before.before.before.pair-up.new.1.1.0 v.0 v.1.0 v.1.1.0 v.1.1.1.0 v.1.1.1.1.0 v.1.1.1.1.1.0
+    q.word_at-b.result l.x l.u l.left
+    p.before.before.before.pair_up.new.state v.c v.v v.l v.r v.d v.s
 pairs p =
     let q = found_at p in
-    let l = (loop-of q).loop in
+    let l = (loop-of q).loop-left in
     let s = (start_of (loop-of q)).args in
     let place = s.base + 8 * l.i in
     subst
     (λ (z : Pair). Pairs s.code.now place l.state s.frame l.k (byte_at s.code.now (place + 2)) (byte_at s.code.now (place + 3))
-    q.word_at.result l.x l.u l.left
-    p.before.before.before.before.pair-up.new.1.1.0 z)
-    p.c.given.1 p.before.before.before.before.pair-up.ensures
+    q.word_at-b.result l.x l.u l.left
+    p.before.before.before.pair_up.new.state z)
+    p.in-Works.is p.before.before.before.pair_up.ensures
 
-two : (p : tie.After-c invariant-loop decreases-loop) →
+two : (p : tie.In-Works invariant-loop decreases-loop) →
     let q = found_at p in
-    let l = (loop-of q).loop in
+    let l = (loop-of q).loop-left in
     let s = (start_of (loop-of q)).args in
-    let v = p.c.given.0 in
+    let v = p.in-Works in
     Two s.code.now s.readings.now s.allowance (went_to (pushed s.state.now s.frame s.depth s.w s.t) s.frame s.address) s.taken s.state.now
-    p.before.before.before.before.pair-up.new.1.1.0 s.frame v.1.1.1.1.0 (l.i + v.1.1.1.1.1.0)
-    (s.allowance - l.left + v.1.1.1.1.1.0) v.0 v.1.0 v.1.1.0 v.1.1.1.0
-two p = let l = loop-of (found_at p) in paired (ready (found_at p)) (omega (arith, l.loop.inv.1)) (pairs p)
+    p.before.before.before.pair_up.new.state s.frame v.d (l.i + v.s)
+    (s.allowance - l.left + v.s) v.c v.v v.l v.r
+two p = let l = loop-of (found_at p) in paired (ready (found_at p)) (omega (arith, l.loop-left.invariant.1)) (pairs p)
 
 -- ── no pair found: the bytes are as they were ──
-abbrev left_at : tie.After-enum-told invariant-loop decreases-loop → tie.After-word-at invariant-loop decreases-loop
-left_at p = p.before.before.before.before.before.before
+abbrev left_at : tie.In-Other invariant-loop decreases-loop → tie.After-word_at-b invariant-loop decreases-loop
+left_at p = p.before.before.before.before.before
 
-same : (p : tie.After-enum-told invariant-loop decreases-loop) →
+same : (p : tie.In-Other invariant-loop decreases-loop) →
     let q = left_at p in
-    let l = (loop-of q).loop in
+    let l = (loop-of q).loop-left in
     let s = (start_of (loop-of q)).args in
     let place = s.base + 8 * l.i in
-    (p.before.before.before.before.pair-up.new.1.1.0 ≡ l.state) × (byte_at s.code.now (place + 2) ≡ 7 → 20 ≤ byte_at s.code.now (place + 3))
+    (p.before.before.before.pair_up.new.state ≡ l.state) × (byte_at s.code.now (place + 2) ≡ 7 → 20 ≤ byte_at s.code.now (place + 3))
 same p =
     let q = left_at p in
-    let l = (loop-of q).loop in
+    let l = (loop-of q).loop-left in
     let s = (start_of (loop-of q)).args in
     let place = s.base + 8 * l.i in
     subst
     (λ (z : Pair). Pairs s.code.now place l.state s.frame l.k (byte_at s.code.now (place + 2)) (byte_at s.code.now (place + 3))
-    q.word_at.result l.x l.u l.left
-    p.before.before.before.before.pair-up.new.1.1.0 z)
-    p.enum_told.given.1 p.before.before.before.before.pair-up.ensures
+    q.word_at-b.result l.x l.u l.left
+    p.before.before.before.pair_up.new.state z)
+    p.in-Other.is p.before.before.before.pair_up.ensures
 
-sub-left : tie.Need-overflow-sub-left invariant-loop decreases-loop
+sub-left : tie.Need-overflow_sub-left invariant-loop decreases-loop
 sub-left c = omega (arith, c.before.before.before.requires.2)
 
-loop-holds : tie.Need-loop-init invariant-loop decreases-loop
+loop-holds : tie.Need-loop-left-init invariant-loop decreases-loop
 loop-holds c =
     let at-start = c.before.before.before in
     (recount (omega (arith, at-start.requires.2)) (start at-start.requires.1 at-start.requires.2), omega arith)
 
-cast-p : tie.Need-overflow-cast-p invariant-loop decreases-loop
-cast-p c = omega (arith, stands c.before.loop.invariant.0 _ c.before.before.before.before.before.requires.0)
+cast-p : tie.Need-overflow_cast-p invariant-loop decreases-loop
+cast-p c = omega (arith, stands c.before.loop-left.invariant.0 _ c.before.before.before.before.before.requires.0)
 
-mul-p : tie.Need-overflow-mul-p invariant-loop decreases-loop
-mul-p c = omega (arith, stands c.before.loop.invariant.0 _ c.before.before.before.before.before.requires.0)
+mul-p : tie.Need-overflow_mul-p invariant-loop decreases-loop
+mul-p c = omega (arith, stands c.before.loop-left.invariant.0 _ c.before.before.before.before.before.requires.0)
 
-add-p : tie.Need-overflow-add-p invariant-loop decreases-loop
-add-p c = omega (arith, stands c.before.loop.invariant.0 _ c.before.before.before.before.before.requires.0)
+add-p : tie.Need-overflow_add-p invariant-loop decreases-loop
+add-p c = omega (arith, stands c.before.loop-left.invariant.0 _ c.before.before.before.before.before.requires.0)
 
-add-op : tie.Need-overflow-add-op invariant-loop decreases-loop
-add-op c = omega (arith, stands c.before.loop.invariant.0 _ c.before.before.before.before.before.requires.0)
+add-op : tie.Need-overflow_add-op invariant-loop decreases-loop
+add-op c = omega (arith, stands c.before.loop-left.invariant.0 _ c.before.before.before.before.before.requires.0)
 
-shared-slice-read-op : tie.Need-shared-slice-read-op invariant-loop decreases-loop
-shared-slice-read-op c = omega (arith, stands c.before.before.loop.invariant.0 _ c.before.before.before.before.before.before.requires.0)
+shared-slice-read-op : tie.Need-bounds-code-p invariant-loop decreases-loop
+shared-slice-read-op c = omega (arith, stands c.before.before.loop-left.invariant.0 _ c.before.before.before.before.before.before.requires.0)
 
-add_a : tie.Need-overflow-add-a invariant-loop decreases-loop
-add_a c = omega (arith, stands c.before.before.loop.invariant.0 _ c.before.before.before.before.before.before.requires.0)
+add_a : tie.Need-overflow_add-a invariant-loop decreases-loop
+add_a c = omega (arith, stands c.before.before.loop-left.invariant.0 _ c.before.before.before.before.before.before.requires.0)
 
-shared-slice-read-a : tie.Need-shared-slice-read-a invariant-loop decreases-loop
-shared-slice-read-a c = omega (arith, stands c.before.before.before.loop.invariant.0 _ c.before.before.before.before.before.before.before.requires.0)
+shared-slice-read-a : tie.Need-bounds-code-p-in-loop-left invariant-loop decreases-loop
+shared-slice-read-a c = omega (arith, stands c.before.before.before.loop-left.invariant.0 _ c.before.before.before.before.before.before.before.requires.0)
 
-add-word-at : tie.Need-overflow-add-word-at invariant-loop decreases-loop
-add-word-at c = omega (arith, stands c.before.before.before.loop.invariant.0 _ c.before.before.before.before.before.before.before.requires.0)
+add-word-at : tie.Need-overflow_add-p-in-loop-left invariant-loop decreases-loop
+add-word-at c = omega (arith, stands c.before.before.before.loop-left.invariant.0 _ c.before.before.before.before.before.before.before.requires.0)
 
-word-at-requires : tie.Need-word-at-requires invariant-loop decreases-loop
-word-at-requires c κs = omega (arith, stands c.before.before.before.loop.invariant.0 _ c.before.before.before.before.before.before.before.requires.0)
+word-at-requires : tie.Need-word_at-b-requires invariant-loop decreases-loop
+word-at-requires c κs = omega (arith, stands c.before.before.before.loop-left.invariant.0 _ c.before.before.before.before.before.before.before.requires.0)
 
-pair-up-requires : tie.Need-pair-up-requires invariant-loop decreases-loop
+pair-up-requires : tie.Need-pair_up-requires invariant-loop decreases-loop
 pair-up-requires c κs = pair-asks (ready c.before)
 
-enum-known-c : tie.Need-enum-known-c invariant-loop decreases-loop
+enum-known-c : tie.Need-enum_known-c invariant-loop decreases-loop
 enum-known-c c = search rules
 
 binary-requires : tie.Need-binary-requires invariant-loop decreases-loop
 binary-requires c κs = search rules
 
-enum-known-y : tie.Need-enum-known-y invariant-loop decreases-loop
+enum-known-y : tie.Need-enum_known-y invariant-loop decreases-loop
 enum-known-y c = search rules
 
-add-i : tie.Need-overflow-add-i invariant-loop decreases-loop
-add-i c = omega (arith, two-room (two c.before.before.before.before.before))
+add-i : tie.Need-overflow_add-i invariant-loop decreases-loop
+add-i c = omega (arith, two-room (two c.before.before))
 
-sub-left-2 : tie.Need-overflow-sub-left-2 invariant-loop decreases-loop
+sub-left-2 : tie.Need-overflow_sub-left-in-Gives invariant-loop decreases-loop
 sub-left-2 c =
-    let p = c.before.before.before.before.before in
-    omega (arith, two-room (two p), (loop-of (found_at p)).loop.inv.1)
+    let p = c.before.before in
+    omega (arith, two-room (two p), (loop-of (found_at p)).loop-left.invariant.1)
 
-loop-less : tie.Need-loop-smaller invariant-loop decreases-loop
-loop-less c = omega (arith, some-steps (pairs c.before.before.before.before.before), sub-left-2 c)
+loop-less : tie.Need-loop-left-smaller invariant-loop decreases-loop
+loop-less c = omega (arith, some-steps (pairs c.before.before), sub-left-2 c)
 
-loop-again : tie.Need-loop-preserved invariant-loop decreases-loop
+loop-again : tie.Need-loop-left-preserved invariant-loop decreases-loop
 loop-again c =
-    let p = c.before.before.before.before.before in
-    let few = (loop-of (found_at p)).loop.inv.1 in (
-      recount (omega (arith, sub-left-2 c, few)) (gives (ready (found_at p)).low (two p) _ c.before.before.before.binary.ensures _ _ _ c.before.y.given.1),
+    let p = c.before.before in
+    let few = (loop-of (found_at p)).loop-left.invariant.1 in (
+      recount (omega (arith, sub-left-2 c, few)) (gives (ready (found_at p)).low (two p) _ c.before.binary.ensures _ _ _ c.in-Gives.is),
       omega (arith, few),
     )
 
-enum-known-e : tie.Need-enum-known-e invariant-loop decreases-loop
+enum-known-e : tie.Need-enum_known-e invariant-loop decreases-loop
 enum-known-e c = search rules
 
 condition-requires : tie.Need-condition-requires invariant-loop decreases-loop
-condition-requires c κs = let p = c.before.before.before.before.before.before in break-room (ready (found_at p)).low (two p) _ c.before.before.before.before.binary.ensures
+condition-requires c κs = let p = c.before.before.before in break-room (ready (found_at p)).low (two p) _ c.before.before.binary.ensures
 
-sub-t43 : tie.Need-overflow-sub-t43 invariant-loop decreases-loop
-sub-t43 c = (loop-of (found_at c.before.before.before.before.before.before.before.before.before)).loop.inv.1
+sub-t43 : tie.Need-overflow_sub-result invariant-loop decreases-loop
+sub-t43 c = (loop-of (found_at c.before.before.before.before.before.before)).loop-left.invariant.1
 
-add-t44 : tie.Need-overflow-add-t44 invariant-loop decreases-loop
+add-t44 : tie.Need-overflow_add-result invariant-loop decreases-loop
 add-t44 c =
-    let p = c.before.before.before.before.before.before.before.before.before in
-    let at-start = p.before.before.before.before.before.before.before.before.before.before.before.before.before.before in
+    let p = c.before.before.before.before.before.before in
+    let at-start = p.before.before.before.before.before.before.before.before.before.before.before.before.before in
     omega (arith, two-room (two p), at-start.ranges.allowance.fits)
 
-same_length : tie.Need-same-length invariant-loop decreases-loop
-same_length c = c.before.before.condition.auto.0 ∙ (two c.before.before.before.before.before.before.before.before.before).long
+same_length : tie.Need-shape_of-state-in-Ends invariant-loop decreases-loop
+same_length c = c.before.before.condition.auto.state ∙ (two c.before.before.before.before.before.before).long
 
-returns : tie.Need-returns invariant-loop decreases-loop
+returns : tie.Need-returns-in-Ends invariant-loop decreases-loop
 returns c =
-    let p = c.before.before.before.before.before.before.before.before.before in
+    let p = c.before.before.before.before.before.before in
     let q = found_at p in
     let s = (start_of (loop-of q)).args in
-    let B = breaks (ready q).low (two p) _ c.before.before.before.before.before.before.before.binary.ensures _ c.before.before.before.before.before.e.given.1 in (
+    let B = breaks (ready q).low (two p) _ c.before.before.before.before.before.binary.ensures _ c.before.before.before.before.in-Ends.is in (
       subst
           (λ (z : List ℕ). Lands s.code.now s.readings.now s.allowance s.frame
           (went_to (pushed s.state.now s.frame s.depth s.w s.t) s.frame s.address) s.taken z
-          (landing.Breaks (s.allowance - (loop-of q).loop.left + p.c.given.0.1.1.1.1.1.0)))
+          (landing.Breaks (s.allowance - (loop-of q).loop-left.left + p.in-Works.s)))
           (sym c.before.before.condition.ensures) B,
       tt,
     )
 
-enum_told : tie.Need-enum-told invariant-loop decreases-loop
+enum_told : tie.Need-enum_told-1 invariant-loop decreases-loop
 enum_told c = search rules
 
-sub-leave : tie.Need-overflow-sub-leave invariant-loop decreases-loop
-sub-leave c = (loop-of (left_at c.before)).loop.inv.1
+sub-leave : tie.Need-overflow_sub-allowance invariant-loop decreases-loop
+sub-leave c = (loop-of (left_at c.before)).loop-left.invariant.1
 
 leave-requires : tie.Need-leave-requires invariant-loop decreases-loop
 leave-requires c κs =
     let p = c.before in
     let s = start_of (loop-of (left_at p)) in
-    let a = leave-asks (ready (left_at p)) (omega (arith, s.fits.allowance.fits)) in
+    let a = leave-asks (ready (left_at p)) (omega (arith, s.ranges.allowance.fits)) in
     (ap length (same p).0 ∙ a.0, a.1, a.2, a.3, a.4, a.5, a.6)
 
-same-length-2 : tie.Need-same-length-2 invariant-loop decreases-loop
+same-length-2 : tie.Need-shape_of-state-in-Other invariant-loop decreases-loop
 same-length-2 c =
     let p = c.before.before.before.before in
-    c.before.before.leave.auto.0 ∙ ap length (same p).0 ∙ (loop-of (left_at p)).loop.inv.0.long
+    c.before.before.leave.auto.state ∙ ap length (same p).0 ∙ (loop-of (left_at p)).loop-left.invariant.0.long
 
-returns-2 : tie.Need-returns-2 invariant-loop decreases-loop
+returns-2 : tie.Need-returns-in-Other invariant-loop decreases-loop
 returns-2 c =
     let p = c.before.before.before.before in
     let q = left_at p in
-    let l = (loop-of q).loop in
+    let l = (loop-of q).loop-left in
     let s = (start_of (loop-of q)).args in
     let place = s.base + 8 * l.i in
     let L =
     subst
-    (λ (z : List ℕ). Leaves z s.frame l.k l.i (s.allowance - l.left) (byte_at s.code.now (place + 2)) (byte_at s.code.now (place + 3)) q.word_at.result l.x l.u
-    c.before.before.leave.new.0 c.before.before.leave.result)
+    (λ (z : List ℕ). Leaves z s.frame l.k l.i (s.allowance - l.left) (byte_at s.code.now (place + 2)) (byte_at s.code.now (place + 3)) q.word_at-b.result l.x l.u
+    c.before.before.leave.new.state c.before.before.leave.result)
     (same p).0 c.before.before.leave.ensures in
     (left (ready q) L, left-grows (ready q) (same p).1 L)
 
-put-back-requires : tie.Need-put-back-requires invariant-loop decreases-loop
-put-back-requires c κs = put-asks c.before.before.loop.invariant.0
+put-back-requires : tie.Need-put_back-requires invariant-loop decreases-loop
+put-back-requires c κs = put-asks c.before.before.loop-left.invariant.0
 
-same-length-3 : tie.Need-same-length-3 invariant-loop decreases-loop
-same-length-3 c = c.before.before.put_back.auto.0 ∙ c.before.before.before.before.before.loop.invariant.0.long
+same-length-3 : tie.Need-shape_of-state invariant-loop decreases-loop
+same-length-3 c = c.before.before.put_back.auto.state ∙ c.before.before.before.before.before.loop-left.invariant.0.long
 
-returns-3 : tie.Need-returns-3 invariant-loop decreases-loop
+returns-3 : tie.Need-returns invariant-loop decreases-loop
 returns-3 c =
     let l = c.before.before.before.before.before in
     let s = (start_of l).args in
     let s₀ = went_to (pushed s.state.now s.frame s.depth s.w s.t) s.frame s.address in
-    let r = landing.Lands l.loop.i s.allowance in
-    let all = recount {m = s.allowance} (omega arith) l.loop.invariant.0 in
+    let r = landing.Lands l.loop-left.i s.allowance in
+    let all = recount {m = s.allowance} (omega arith) l.loop-left.invariant.0 in
     subst
-    (λ (z : Landing). (Lands s.code.now s.readings.now s.allowance s.frame s₀ s.taken c.before.before.put_back.new.0 z)
+    (λ (z : Landing). (Lands s.code.now s.readings.now s.allowance s.frame s₀ s.taken c.before.before.put_back.new.state z)
     × (Grows s.code.now (s.base + 8 * s.address) s.taken s.allowance z))
     (sym c.before.before.put_back.ensures.1) (
       subst (λ (z : List ℕ). Lands s.code.now s.readings.now s.allowance s.frame s₀ s.taken z r) (sym c.before.before.put_back.ensures.0) (put all),
       put-grows _ all (omega arith),
     )
 
-pub run-aside-spec : {M : Type 1} → statement M
-run-aside-spec =
+pub run_aside_spec : {M : Type 1} → statement M
+run_aside_spec =
     tie.close
     (tie.spec
     invariant-loop

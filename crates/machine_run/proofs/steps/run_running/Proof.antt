@@ -23,154 +23,154 @@ use Rattle.machine_run.proofs.LoopInvariant.{recount, again, again-below, again-
 use Rattle.machine_run.proofs.steps.run_running.Statement.{statement}
 use Rattle.machine_run.proofs.steps.run_running.Tie as tie
 
-abbrev invariant-loop : tie.invariant-loop
+abbrev invariant-loop : tie.invariant-loop-left
 invariant-loop code bodies classes base state₀ readings allowance frame₀ address₀ left₀ read₀ state frame address left read =
     Loop code readings allowance (since state₀ read) state frame address (allowance - left) × (left ≤ allowance)
 
-abbrev decreases-loop : tie.decreases-loop
+abbrev decreases-loop : tie.decreases-loop-left
 decreases-loop code bodies classes base state₀ readings allowance frame₀ address₀ left₀ read₀ state frame address left read = left
 
 -- ── the points that most answers go back to: the loop's head, the op read, the op done ──
-abbrev start_of : tie.At-loop invariant-loop decreases-loop → tie.Start invariant-loop decreases-loop
-start_of p = p.before.before.before.before.before.before.before.before
+abbrev start_of : tie.At-loop-left invariant-loop decreases-loop → tie.Start invariant-loop decreases-loop
+start_of p = p.before.before.before.before.before.before.before
 
-abbrev loop-of : tie.After-word-at invariant-loop decreases-loop → tie.At-loop invariant-loop decreases-loop
+abbrev loop-of : tie.After-word_at-b invariant-loop decreases-loop → tie.At-loop-left invariant-loop decreases-loop
 loop-of p = p.before.before.before.before.before.before
 
-abbrev read_of : tie.After-enum-told invariant-loop decreases-loop → tie.After-word-at invariant-loop decreases-loop
-read_of p = p.before.before.before.before.before.before
+abbrev read_of : tie.In-Other invariant-loop decreases-loop → tie.After-word_at-b invariant-loop decreases-loop
+read_of p = p.before.before.before.before.before
 
-abbrev read_set : tie.After-w invariant-loop decreases-loop → tie.After-word-at invariant-loop decreases-loop
-read_set p = p.before.before.before.before.before.before
+abbrev read_set : tie.In-Value invariant-loop decreases-loop → tie.After-word_at-b invariant-loop decreases-loop
+read_set p = p.before.before.before.before.before
 
-abbrev loop-told : tie.After-enum-told2 invariant-loop decreases-loop → tie.At-loop invariant-loop decreases-loop
-loop-told p = loop-of (read_of p.before.before.before.before.before.before)
+abbrev loop-told : tie.In-Goes invariant-loop decreases-loop → tie.At-loop-left invariant-loop decreases-loop
+loop-told p = p.before.before.before.before.before.before.before.before.before.before.before.before.before.before.before.before
 
-ready : (p : tie.After-word-at invariant-loop decreases-loop) →
-    let l = (loop-of p).loop in
+ready : (p : tie.After-word_at-b invariant-loop decreases-loop) →
+    let l = (loop-of p).loop-left in
     let s = (start_of (loop-of p)).args in
     let place = s.base + 8 * l.address in
     Ready s.code.now s.readings.now s.allowance (since s.state.now l.read) l.state l.frame l.address (s.allowance - l.left)
-    p.before.before.before.wide.result (byte_at s.code.now (place + 2)) (byte_at s.code.now (place + 3)) p.word_at.result
+    p.before.before.before.wide-depth.result (byte_at s.code.now (place + 2)) (byte_at s.code.now (place + 3)) p.word_at-b.result
 ready p =
     let l = loop-of p in
-    ready_of l.loop.inv.0 (λ k. omega (arith, l.before.before.before.shared-slice-known4.given k)) _ _ _ _ _ (start_of l).pre.0.based
-    p.before.before.before.wide.ensures.0 refl refl p.word_at.ensures
+    ready_of l.loop-left.invariant.0 (λ k. omega (arith, l.before.before.shared_slice_known-4-1.given k)) _ _ _ _ _ (start_of l).requires.0.based
+    p.before.before.before.wide-depth.ensures.0 refl refl p.word_at-b.ensures
 
 -- nothing is set aside: the bytes are as they were
-other : (p : tie.After-enum-told invariant-loop decreases-loop) →
+other : (p : tie.In-Other invariant-loop decreases-loop) →
     let q = read_of p in
-    let l = (loop-of q).loop in
+    let l = (loop-of q).loop-left in
     let s = (start_of (loop-of q)).args in
     let place = s.base + 8 * l.address in
-    (p.before.before.before.before.begin.new.0 ≡ l.state) × (byte_at s.code.now (place + 2) ≡ 7 → 20 ≤ byte_at s.code.now (place + 3))
+    (p.before.before.before.begin.new.state ≡ l.state) × (byte_at s.code.now (place + 2) ≡ 7 → 20 ≤ byte_at s.code.now (place + 3))
 other p =
     let q = read_of p in
-    let l = (loop-of q).loop in
+    let l = (loop-of q).loop-left in
     let s = (start_of (loop-of q)).args in
     let place = s.base + 8 * l.address in
     subst
-    (λ (z : Begun). Begins l.state l.frame q.before.before.before.wide.result (byte_at s.code.now (place + 2)) (byte_at s.code.now (place + 3)) q.word_at.result
-    p.before.before.before.before.begin.new.0 z)
-    p.enum_told.given.1 p.before.before.before.before.begin.ensures
+    (λ (z : Begun). Begins l.state l.frame q.before.before.before.wide-depth.result (byte_at s.code.now (place + 2)) (byte_at s.code.now (place + 3)) q.word_at-b.result
+    p.before.before.before.begin.new.state z)
+    p.in-Other.is p.before.before.before.begin.ensures
 
-ready_on : (p : tie.After-enum-told invariant-loop decreases-loop) →
+ready_on : (p : tie.In-Other invariant-loop decreases-loop) →
     let q = read_of p in
-    let l = (loop-of q).loop in
+    let l = (loop-of q).loop-left in
     let s = (start_of (loop-of q)).args in
     let place = s.base + 8 * l.address in
-    Ready s.code.now s.readings.now s.allowance (since s.state.now l.read) p.before.before.before.before.begin.new.0 l.frame l.address (s.allowance - l.left)
-    q.before.before.before.wide.result (byte_at s.code.now (place + 2)) (byte_at s.code.now (place + 3)) q.word_at.result
+    Ready s.code.now s.readings.now s.allowance (since s.state.now l.read) p.before.before.before.begin.new.state l.frame l.address (s.allowance - l.left)
+    q.before.before.before.wide-depth.result (byte_at s.code.now (place + 2)) (byte_at s.code.now (place + 3)) q.word_at-b.result
 ready_on p =
     let q = read_of p in
-    let l = (loop-of q).loop in
+    let l = (loop-of q).loop-left in
     let s = (start_of (loop-of q)).args in
     let place = s.base + 8 * l.address in
     subst
     (λ (z : List ℕ). Ready s.code.now s.readings.now s.allowance (since s.state.now l.read) z l.frame l.address (s.allowance - l.left)
-    q.before.before.before.wide.result
-    (byte_at s.code.now (place + 2)) (byte_at s.code.now (place + 3)) q.word_at.result)
+    q.before.before.before.wide-depth.result
+    (byte_at s.code.now (place + 2)) (byte_at s.code.now (place + 3)) q.word_at-b.result)
     (sym (other p).0) (ready q)
 
-acted : (p : tie.After-dispatch invariant-loop decreases-loop) → Acted (ready_on p.before.before) p.dispatch.new.1.1.1.0 p.dispatch.result
+acted : (p : tie.After-dispatch invariant-loop decreases-loop) → Acted (ready_on p.before.before) p.dispatch.new.state p.dispatch.result
 acted p =
     let q = read_of p.before.before in
-    record { acts = p.dispatch.ensures; more = omega (arith, q.before.before.before.before.before.loop-test, (loop-of q).loop.inv.1); same = p.dispatch.auto.1.1.1.0 }
+    record { acts = p.dispatch.ensures; more = omega (arith, q.before.before.before.before.before.loop-left-test, (loop-of q).loop-left.invariant.1); same = p.dispatch.auto.state }
 
 -- where it gave nothing
-went : (p : tie.After-enum-told2 invariant-loop decreases-loop) → let d = p.before.before.before.before in Acted (ready_on d.before.before) d.dispatch.new.1.1.1.0 d.dispatch.result
-went p = acted p.before.before.before.before
+went : (p : tie.In-Goes invariant-loop decreases-loop) → let d = p.before.before.before in Acted (ready_on d.before.before) d.dispatch.new.state d.dispatch.result
+went p = acted p.before.before.before
 
-kept-held : (p : tie.After-enum-told2 invariant-loop decreases-loop) → Held (start_of (loop-told p)).args.code.now p.before.before.before.before.dispatch.new.1.1.1.0
+kept-held : (p : tie.In-Goes invariant-loop decreases-loop) → Held (start_of (loop-told p)).args.code.now p.before.before.before.dispatch.new.state
 kept-held p = still (went p)
 
 -- a running state has not ended
-alive : (p : tie.At-loop invariant-loop decreases-loop) → byte_at (start_of p).args.state.now 0 ≡ 2 → ⊥
+alive : (p : tie.At-loop-left invariant-loop decreases-loop) → byte_at (start_of p).args.state.now 0 ≡ 2 → ⊥
 alive p q = omega (arith, (start_of p).requires.3)
 
 -- the instruction at hand stands in the macro
-stands : (p : tie.At-loop invariant-loop decreases-loop) → let s = (start_of p).args in (s.base + 8 * p.loop.address + 8 ≤ length s.code.now) × (p.loop.address < 65536) × (s.base < 65536)
+stands : (p : tie.At-loop-left invariant-loop decreases-loop) → let s = (start_of p).args in (s.base + 8 * p.loop-left.address + 8 ≤ length s.code.now) × (p.loop-left.address < 65536) × (s.base < 65536)
 stands p =
     let found = (start_of p).requires.0 in
-    (omega (arith, found.based, code_of _ found.bodied.well _ (in_code p.loop.invariant.0)), small p.loop.invariant.0, found.small)
+    (omega (arith, found.based, code_of _ found.bodied.well _ (in_code p.loop-left.invariant.0)), small p.loop-left.invariant.0, found.small)
 
 -- ── an operand set aside ──
-value : (p : tie.After-w invariant-loop decreases-loop) →
+value : (p : tie.In-Value invariant-loop decreases-loop) →
     let q = read_set p in
-    let l = (loop-of q).loop in
+    let l = (loop-of q).loop-left in
     let s = (start_of (loop-of q)).args in
     let place = s.base + 8 * l.address in
-    let v = p.w.given.0 in
-    Begin l.state l.frame q.before.before.before.wide.result (byte_at s.code.now (place + 2)) (byte_at s.code.now (place + 3)) q.word_at.result
-    p.before.before.before.before.begin.new.0 v.0 v.1.0 v.1.1.0 v.1.1.1.0
+    let v = p.in-Value in
+    Begin l.state l.frame q.before.before.before.wide-depth.result (byte_at s.code.now (place + 2)) (byte_at s.code.now (place + 3)) q.word_at-b.result
+    p.before.before.before.begin.new.state v.w v.t v.k v.s
 value p =
     let q = read_set p in
-    let l = (loop-of q).loop in
+    let l = (loop-of q).loop-left in
     let s = (start_of (loop-of q)).args in
     let place = s.base + 8 * l.address in
     subst
-    (λ (z : Begun). Begins l.state l.frame q.before.before.before.wide.result (byte_at s.code.now (place + 2)) (byte_at s.code.now (place + 3)) q.word_at.result
-    p.before.before.before.before.begin.new.0 z)
-    p.w.given.1 p.before.before.before.before.begin.ensures
+    (λ (z : Begun). Begins l.state l.frame q.before.before.before.wide-depth.result (byte_at s.code.now (place + 2)) (byte_at s.code.now (place + 3)) q.word_at-b.result
+    p.before.before.before.begin.new.state z)
+    p.in-Value.is p.before.before.before.begin.ensures
 
-more-at : (p : tie.After-w invariant-loop decreases-loop) → let l = loop-of (read_set p) in (start_of l).args.allowance - l.loop.left < (start_of l).args.allowance
-more-at p = omega (arith, (loop-of (read_set p)).loop.inv.1)
+more-at : (p : tie.In-Value invariant-loop decreases-loop) → let l = loop-of (read_set p) in (start_of l).args.allowance - l.loop-left.left < (start_of l).args.allowance
+more-at p = omega (arith, (loop-of (read_set p)).loop-left.invariant.1)
 
-set : (p : tie.After-w invariant-loop decreases-loop) → let v = p.w.given.0 in Set (ready (read_set p)) p.before.before.before.before.begin.new.0 v.0 v.1.0 v.1.1.0 v.1.1.1.0
-set p = begun (ready (read_set p)) (omega (arith, (read_set p).word_at.type-inv)) (more-at p) (value p)
+set : (p : tie.In-Value invariant-loop decreases-loop) → let v = p.in-Value in Set (ready (read_set p)) p.before.before.before.begin.new.state v.w v.t v.k v.s
+set p = begun (ready (read_set p)) (omega (arith, (read_set p).word_at-b.type_inv)) (more-at p) (value p)
 
 -- where the steps with it lead
-leads-to : (p : tie.After-run-aside invariant-loop decreases-loop) (r : Landing) → p.run-aside.result ≡ r →
-    let w = p.before.before.before in
+leads-to : (p : tie.After-run_aside invariant-loop decreases-loop) (r : Landing) → p.run_aside.result ≡ r →
+    let w = p.before.before in
     let q = read_set w in
-    let l = (loop-of q).loop in
+    let l = (loop-of q).loop-left in
     let s = (start_of (loop-of q)).args in
-    let v = w.w.given.0 in
+    let v = w.in-Value in
     (Lands s.code.now s.readings.now s.allowance l.frame
-    (went_to (pushed w.before.before.before.before.begin.new.0 l.frame v.1.1.0 v.0 v.1.0) l.frame (l.address + v.1.1.1.0)) (s.allowance - l.left + v.1.1.1.0)
-    p.run-aside.new.1.1.0 r)
-    × (Grows s.code.now (s.base + 8 * (l.address + v.1.1.1.0)) (s.allowance - l.left + v.1.1.1.0) s.allowance r)
+    (went_to (pushed w.before.before.before.begin.new.state l.frame v.k v.w v.t) l.frame (l.address + v.s)) (s.allowance - l.left + v.s)
+    p.run_aside.new.state r)
+    × (Grows s.code.now (s.base + 8 * (l.address + v.s)) (s.allowance - l.left + v.s) s.allowance r)
 leads-to p r e =
-    let w = p.before.before.before in
+    let w = p.before.before in
     let q = read_set w in
-    let l = (loop-of q).loop in
+    let l = (loop-of q).loop-left in
     let s = (start_of (loop-of q)).args in
-    let v = w.w.given.0 in
+    let v = w.in-Value in
     subst
     (λ (z : Landing). (Lands s.code.now s.readings.now s.allowance l.frame
-    (went_to (pushed w.before.before.before.before.begin.new.0 l.frame v.1.1.0 v.0 v.1.0) l.frame (l.address + v.1.1.1.0)) (s.allowance - l.left + v.1.1.1.0)
-    p.run-aside.new.1.1.0 z)
-    × (Grows s.code.now (s.base + 8 * (l.address + v.1.1.1.0)) (s.allowance - l.left + v.1.1.1.0) s.allowance z))
-    e p.run-aside.ensures
+    (went_to (pushed w.before.before.before.begin.new.state l.frame v.k v.w v.t) l.frame (l.address + v.s)) (s.allowance - l.left + v.s)
+    p.run_aside.new.state z)
+    × (Grows s.code.now (s.base + 8 * (l.address + v.s)) (s.allowance - l.left + v.s) s.allowance z))
+    e p.run_aside.ensures
 
-top-of-requires : tie.Need-top-of-requires invariant-loop decreases-loop
+top-of-requires : tie.Need-top_of-t-requires invariant-loop decreases-loop
 top-of-requires c κs =
-    let T = top_of _ _ c.before.before.before.before.before.before.requires.1 c.before.before.before.before.before.before.requires.3 in
-    (held-long c.before.before.before.before.before.before.requires.1, T.low, T.high)
+    let T = top_of _ _ c.before.before.before.before.before.requires.1 c.before.before.before.before.before.requires.3 in
+    (held-long c.before.before.before.before.before.requires.1, T.low, T.high)
 
-loop-holds : tie.Need-loop-init invariant-loop decreases-loop
+loop-holds : tie.Need-loop-left-init invariant-loop decreases-loop
 loop-holds c =
-    let at-start = c.before.before.before.before.before.before.before in
+    let at-start = c.before.before.before.before.before.before in
     let none : 0 ≡ at-start.args.allowance - at-start.args.allowance = omega arith in (
       recount none
           (record {
@@ -179,330 +179,330 @@ loop-holds c =
             held = at-start.requires.1;
             long = refl;
             reached = begin at-start.args.code.now at-start.args.readings.now _ _;
-            kept = record { phase = at-start.requires.3; place = c.top_of.ensures.0; address = c.top_of.ensures.1 };
+            kept = record { phase = at-start.requires.3; place = c.top_of-t.ensures.0; address = c.top_of-t.ensures.1 };
           }),
       omega arith,
     )
 
-add_wide : tie.Need-overflow-add-wide invariant-loop decreases-loop
-add_wide c = omega (arith, low-place c.before.loop.invariant.0)
+add_wide : tie.Need-overflow_add-frame invariant-loop decreases-loop
+add_wide c = omega (arith, low-place c.before.loop-left.invariant.0)
 
-slice-read-wide : tie.Need-slice-read-wide invariant-loop decreases-loop
-slice-read-wide c = omega (arith, held-long c.before.before.loop.invariant.0.held, low-place c.before.before.loop.invariant.0)
+slice-read-wide : tie.Need-bounds-state-frame invariant-loop decreases-loop
+slice-read-wide c = omega (arith, held-long c.before.before.loop-left.invariant.0.held, low-place c.before.before.loop-left.invariant.0)
 
-cast-p : tie.Need-overflow-cast-p invariant-loop decreases-loop
+cast-p : tie.Need-overflow_cast-p invariant-loop decreases-loop
 cast-p c = omega (arith, stands c.before.before.before)
 
-mul-p : tie.Need-overflow-mul-p invariant-loop decreases-loop
+mul-p : tie.Need-overflow_mul-p invariant-loop decreases-loop
 mul-p c = omega (arith, stands c.before.before.before)
 
-add-p : tie.Need-overflow-add-p invariant-loop decreases-loop
+add-p : tie.Need-overflow_add-p invariant-loop decreases-loop
 add-p c = omega (arith, stands c.before.before.before)
 
-add-op : tie.Need-overflow-add-op invariant-loop decreases-loop
+add-op : tie.Need-overflow_add-op invariant-loop decreases-loop
 add-op c = omega (arith, stands c.before.before.before)
 
-shared-slice-read-op : tie.Need-shared-slice-read-op invariant-loop decreases-loop
+shared-slice-read-op : tie.Need-bounds-code-p invariant-loop decreases-loop
 shared-slice-read-op c = omega (arith, stands c.before.before.before.before)
 
-add_a : tie.Need-overflow-add-a invariant-loop decreases-loop
+add_a : tie.Need-overflow_add-a invariant-loop decreases-loop
 add_a c = omega (arith, stands c.before.before.before.before)
 
-shared-slice-read-a : tie.Need-shared-slice-read-a invariant-loop decreases-loop
+shared-slice-read-a : tie.Need-bounds-code-p-in-loop-left invariant-loop decreases-loop
 shared-slice-read-a c = omega (arith, stands c.before.before.before.before.before)
 
-add-word-at : tie.Need-overflow-add-word-at invariant-loop decreases-loop
+add-word-at : tie.Need-overflow_add-p-in-loop-left invariant-loop decreases-loop
 add-word-at c = omega (arith, stands c.before.before.before.before.before)
 
-word-at-requires : tie.Need-word-at-requires invariant-loop decreases-loop
+word-at-requires : tie.Need-word_at-b-requires invariant-loop decreases-loop
 word-at-requires c κs = omega (arith, stands c.before.before.before.before.before)
 
 begin-requires : tie.Need-begin-requires invariant-loop decreases-loop
 begin-requires c κs = begin-asks (ready c.before)
 
-add-run-aside : tie.Need-overflow-add-run-aside invariant-loop decreases-loop
-add-run-aside c = omega (arith, (room_whole (set c.before.before).0.aside).address)
+add-run-aside : tie.Need-overflow_add-address invariant-loop decreases-loop
+add-run-aside c = omega (arith, (room_whole (set c.before).0.aside).address)
 
-sub-run-aside : tie.Need-overflow-sub-run-aside invariant-loop decreases-loop
-sub-run-aside c = (loop-of (read_set c.before.before)).loop.inv.1
+sub-run-aside : tie.Need-overflow_sub-allowance invariant-loop decreases-loop
+sub-run-aside c = (loop-of (read_set c.before)).loop-left.invariant.1
 
-add-run-aside-2 : tie.Need-overflow-add-run-aside-2 invariant-loop decreases-loop
+add-run-aside-2 : tie.Need-overflow_add-allowance invariant-loop decreases-loop
 add-run-aside-2 c =
-    let p = c.before.before in
-    omega (arith, more-at p, one-step (ready (read_set p)) (value p), (start_of (loop-of (read_set p))).fits.allowance.fits)
+    let p = c.before in
+    omega (arith, more-at p, one-step (ready (read_set p)) (value p), (start_of (loop-of (read_set p))).ranges.allowance.fits)
 
-run-aside-requires : tie.Need-run-aside-requires invariant-loop decreases-loop
+run-aside-requires : tie.Need-run_aside-requires invariant-loop decreases-loop
 run-aside-requires c κs =
-    let p = c.before.before in
-    (coded (start_of (loop-of (read_set p))).pre.0, (set p).0, omega (arith, more-at p, one-step (ready (read_set p)) (value p)))
+    let p = c.before in
+    (coded (start_of (loop-of (read_set p))).requires.0, (set p).0, omega (arith, more-at p, one-step (ready (read_set p)) (value p)))
 
 -- the steps taken at its end
-came-to : (p : tie.After-run-aside invariant-loop decreases-loop) (x n : ℕ) → p.run-aside.result ≡ landing.Lands x n → n ≤ (start_of (loop-of (read_set p.before.before.before))).args.allowance
+came-to : (p : tie.After-run_aside invariant-loop decreases-loop) (x n : ℕ) → p.run_aside.result ≡ landing.Lands x n → n ≤ (start_of (loop-of (read_set p.before.before))).args.allowance
 came-to p x n e = (leads-to p _ e).0.0.upto
 
-sub-left : tie.Need-overflow-sub-left invariant-loop decreases-loop
-sub-left c = came-to c.before.before.before.before.before _ _ c.before.i.given.1
+sub-left : tie.Need-overflow_sub-left invariant-loop decreases-loop
+sub-left c = came-to c.before.before.before _ _ c.in-Lands.is
 
-loop-less : tie.Need-loop-smaller invariant-loop decreases-loop
+loop-less : tie.Need-loop-left-smaller-in-Lands invariant-loop decreases-loop
 loop-less c =
-    let p = c.before.before.before.before.before in
-    let w = p.before.before.before in
-    let v = c.before.i.given in
-    let g = grows (ready (read_set w)) (start_of (loop-of (read_set w))).args.base refl refl (more-at w) v.0.0 v.0.1.0 (value w) (leads-to p _ v.1).1 in
-    omega (arith, g, sub-left c, (loop-of (read_set w)).loop.inv.1)
+    let p = c.before.before.before in
+    let w = p.before.before in
+    let v = c.in-Lands in
+    let g = grows (ready (read_set w)) (start_of (loop-of (read_set w))).args.base refl refl (more-at w) v.i v.n (value w) (leads-to p _ v.is).1 in
+    omega (arith, g, sub-left c, (loop-of (read_set w)).loop-left.invariant.1)
 
-loop-again : tie.Need-loop-preserved invariant-loop decreases-loop
+loop-again : tie.Need-loop-left-preserved-in-Lands invariant-loop decreases-loop
 loop-again c =
-    let p = c.before.before.before.before.before in
-    let w = p.before.before.before in (
+    let p = c.before.before.before in
+    let w = p.before.before in (
       recount (omega (arith, sub-left c))
-          (landed (ready (read_set w)) _ (set w) (leads-to p _ c.before.i.given.1).0 (p.run-aside.auto.1.1.0 ∙ w.before.before.before.before.begin.auto.0)
-          (omega (arith, (leads-to p _ c.before.i.given.1).1.0))),
+          (landed (ready (read_set w)) _ (set w) (leads-to p _ c.in-Lands.is).0 (p.run_aside.auto.state ∙ w.before.before.before.begin.auto.state)
+          (omega (arith, (leads-to p _ c.in-Lands.is).1.0))),
       omega arith,
     )
 
-release-requires : tie.Need-release-requires invariant-loop decreases-loop
+release-requires : tie.Need-release-answer-requires invariant-loop decreases-loop
 release-requires c κs =
-    let p = c.before.before.before.before.before.before in
-    let w = p.before.before.before in
-    let B = broken (ready (read_set w)) _ (set w) (leads-to p _ c.before.before.n.given.1).0 in
-    (B.0, B.1, (start_of (loop-of (read_set w))).pre.2, B.2)
+    let p = c.before.before.before.before in
+    let w = p.before.before in
+    let B = broken (ready (read_set w)) _ (set w) (leads-to p _ c.before.in-Breaks.is).0 in
+    (B.0, B.1, (start_of (loop-of (read_set w))).requires.2, B.2)
 
-same_length : tie.Need-same-length invariant-loop decreases-loop
+same_length : tie.Need-shape_of-state-in-Breaks invariant-loop decreases-loop
 same_length c =
     let at-release = c.before.before in
-    let at-run-aside = at-release.before.before.before.before.before.before.before in
-    let at-begin = at-run-aside.before.before.before.before.before.before.before in
+    let at-run-aside = at-release.before.before.before.before.before in
+    let at-begin = at-run-aside.before.before.before.before.before in
     let at-loop = at-begin.before.before.before.before.before.before.before.before in
-    at-release.release.auto.1.0 ∙ at-run-aside.run-aside.auto.1.1.0 ∙ at-begin.begin.auto.0 ∙ at-loop.loop.invariant.0.long
+    at-release.release-answer.auto.state ∙ at-run-aside.run_aside.auto.state ∙ at-begin.begin.auto.state ∙ at-loop.loop-left.invariant.0.long
 
-returns : tie.Need-returns invariant-loop decreases-loop
+returns : tie.Need-returns-in-Breaks invariant-loop decreases-loop
 returns c =
-    let p = c.before.before.before.before.before.before.before.before.before in
-    let w = p.before.before.before in
-    let B = broken (ready (read_set w)) _ (set w) (leads-to p _ c.before.before.before.before.before.n.given.1).0 in
-    c.before.before.release.ensures _ (alive (loop-of (read_set w))) B.3
+    let p = c.before.before.before.before.before.before.before in
+    let w = p.before.before in
+    let B = broken (ready (read_set w)) _ (set w) (leads-to p _ c.before.before.before.before.in-Breaks.is).0 in
+    c.before.before.release-answer.ensures _ (alive (loop-of (read_set w))) B.3
 
 dispatch-requires : tie.Need-dispatch-requires invariant-loop decreases-loop
 dispatch-requires c κs =
     let p = c.before in
     let P = poise (ready_on p) in
     let s = start_of (loop-of (read_of p)) in
-    (room P.at-hand, s.pre.0.bodied, s.pre.0.classed, s.pre.2, P, (other p).1)
+    (room P.at-hand, s.requires.0.bodied, s.requires.0.classed, s.requires.2, P, (other p).1)
 
-sub-left-2 : tie.Need-overflow-sub-left-2 invariant-loop decreases-loop
+sub-left-2 : tie.Need-overflow_sub-left-in-Goes invariant-loop decreases-loop
 sub-left-2 c = omega (arith, (went c).more)
 
-sub-t80 : tie.Need-overflow-sub-t80 invariant-loop decreases-loop
-sub-t80 c = (loop-of (read_of c.before.before.before.before.before.before.before)).loop.inv.1
+sub-t80 : tie.Need-overflow_sub-result invariant-loop decreases-loop
+sub-t80 c = (loop-of (read_of c.before.before.before.before.before)).loop-left.invariant.1
 
-add-t81 : tie.Need-overflow-add-t81 invariant-loop decreases-loop
-add-t81 c = let p = c.before.before.before.before.before in omega (arith, (acted p).more, (start_of (loop-of (read_of p.before.before))).fits.allowance.fits)
+add-t81 : tie.Need-overflow_add-result invariant-loop decreases-loop
+add-t81 c = let p = c.before.before.before in omega (arith, (acted p).more, (start_of (loop-of (read_of p.before.before))).ranges.allowance.fits)
 
-sub-t83 : tie.Need-overflow-sub-t83 invariant-loop decreases-loop
-sub-t83 c = (loop-of (read_of c.before.before.before.before.before.before.before)).loop.inv.1
+sub-t83 : tie.Need-overflow_sub-result-in-Ends invariant-loop decreases-loop
+sub-t83 c = (loop-of (read_of c.before.before.before.before.before)).loop-left.invariant.1
 
-add-t84 : tie.Need-overflow-add-t84 invariant-loop decreases-loop
-add-t84 c = let p = c.before.before.before.before.before in omega (arith, (acted p).more, (start_of (loop-of (read_of p.before.before))).fits.allowance.fits)
+add-t84 : tie.Need-overflow_add-result-in-Ends invariant-loop decreases-loop
+add-t84 c = let p = c.before.before.before in omega (arith, (acted p).more, (start_of (loop-of (read_of p.before.before))).ranges.allowance.fits)
 
 -- one step less is left: one more is taken
-fewer : (p : tie.After-enum-told2 invariant-loop decreases-loop) →
+fewer : (p : tie.In-Goes invariant-loop decreases-loop) →
     let l = loop-told p in
     let k = (start_of l).args.allowance in
-    (k - l.loop.left + 1 ≡ k - (l.loop.left - 1)) × (l.loop.left - 1 ≤ k)
-fewer p = let few = (loop-told p).loop.invariant.1 in (omega (arith, few, (went p).more), omega (arith, few))
+    (k - l.loop-left.left + 1 ≡ k - (l.loop-left.left - 1)) × (l.loop-left.left - 1 ≤ k)
+fewer p = let few = (loop-told p).loop-left.invariant.1 in (omega (arith, few, (went p).more), omega (arith, few))
 
-reached : (p : tie.After-enum-told2 invariant-loop decreases-loop) →
+reached : (p : tie.In-Goes invariant-loop decreases-loop) →
     let l = loop-told p in
     let s = (start_of l).args in
-    Reaches s.code.now s.readings.now s.allowance (since s.state.now l.loop.read) p.before.before.before.before.dispatch.new.1.1.1.0
-    (s.allowance - (l.loop.left - 1))
+    Reaches s.code.now s.readings.now s.allowance (since s.state.now l.loop-left.read) p.before.before.before.dispatch.new.state
+    (s.allowance - (l.loop-left.left - 1))
 reached p =
     let s = (start_of (loop-told p)).args in
-    subst (λ (z : ℕ). Reaches s.code.now s.readings.now s.allowance (since s.state.now (loop-told p).loop.read) p.before.before.before.before.dispatch.new.1.1.1.0 z)
-    (fewer p).0 (further (went p) p.enum-told2.given.1)
+    subst (λ (z : ℕ). Reaches s.code.now s.readings.now s.allowance (since s.state.now (loop-told p).loop-left.read) p.before.before.before.dispatch.new.state z)
+    (fewer p).0 (further (went p) p.in-Goes.is)
 
-loop-less-2 : tie.Need-loop-smaller-2 invariant-loop decreases-loop
-loop-less-2 c = omega (arith, (went c.before.before.before).more)
+loop-less-2 : tie.Need-loop-left-smaller-in-8 invariant-loop decreases-loop
+loop-less-2 c = omega (arith, (went c.before.before).more)
 
-loop-less-3 : tie.Need-loop-smaller-3 invariant-loop decreases-loop
-loop-less-3 c = omega (arith, (went c.before.before.before).more)
+loop-less-3 : tie.Need-loop-left-smaller-in-9 invariant-loop decreases-loop
+loop-less-3 c = omega (arith, (went c.before.before).more)
 
-loop-less-4 : tie.Need-loop-smaller-4 invariant-loop decreases-loop
-loop-less-4 c = omega (arith, (went c.before.before.before.before.before).more)
+loop-less-4 : tie.Need-loop-left-smaller-in-10 invariant-loop decreases-loop
+loop-less-4 c = omega (arith, (went c.before.before.before.before).more)
 
-loop-less-5 : tie.Need-loop-smaller-5 invariant-loop decreases-loop
-loop-less-5 c = omega (arith, (went c.before.before.before).more)
+loop-less-5 : tie.Need-loop-left-smaller-in-11 invariant-loop decreases-loop
+loop-less-5 c = omega (arith, (went c.before.before).more)
 
-loop-less-6 : tie.Need-loop-smaller-6 invariant-loop decreases-loop
+loop-less-6 : tie.Need-loop-left-smaller-in_default invariant-loop decreases-loop
 loop-less-6 c = omega (arith, (went c.before.before.before).more)
 
 -- ── ops 8 and 9 ──
-add-half-at : tie.Need-overflow-add-half-at invariant-loop decreases-loop
+add-half-at : tie.Need-overflow_add-frame-in-8 invariant-loop decreases-loop
 add-half-at c =
-    let at-loop = c.before.before.before.before.before.before.before.before.before.before.before.before.before.before.before.before.before.before.before.before in
-    omega (arith, low-place at-loop.loop.invariant.0)
+    let at-loop = c.before.before.before.before.before.before.before.before.before.before.before.before.before.before.before.before.before in
+    omega (arith, low-place at-loop.loop-left.invariant.0)
 
-half-at-requires : tie.Need-half-at-requires invariant-loop decreases-loop
+half-at-requires : tie.Need-half_at-address-requires invariant-loop decreases-loop
 half-at-requires c κs =
-    let p = c.before.before in
-    let at-loop = p.before.before.before.before.before.before.before.before.before.before.before.before.before.before.before.before.before.before in
-    omega (arith, held-long (kept-held p), low-place at-loop.loop.invariant.0)
+    let p = c.before in
+    let at-loop = p.before.before.before.before.before.before.before.before.before.before.before.before.before.before.before.before in
+    omega (arith, held-long (kept-held p), low-place at-loop.loop-left.invariant.0)
 
-loop-again-2 : tie.Need-loop-preserved-2 invariant-loop decreases-loop
-loop-again-2 c = let p = c.before.before.before in (recount (fewer p).0 (again-to (went p) p.enum-told2.given.1 c.before.before.match4.keys1 _ c.half_at.ensures), (fewer p).1)
+loop-again-2 : tie.Need-loop-left-preserved-in-8 invariant-loop decreases-loop
+loop-again-2 c = let p = c.before.before in (recount (fewer p).0 (again-to (went p) p.in-Goes.is c.before.in-8.is _ c.half_at-address.ensures), (fewer p).1)
 
-add-half-at-2 : tie.Need-overflow-add-half-at-2 invariant-loop decreases-loop
+add-half-at-2 : tie.Need-overflow_add-frame-in-9 invariant-loop decreases-loop
 add-half-at-2 c =
-    let at-loop = c.before.before.before.before.before.before.before.before.before.before.before.before.before.before.before.before.before.before.before.before in
-    omega (arith, low-place at-loop.loop.invariant.0)
+    let at-loop = c.before.before.before.before.before.before.before.before.before.before.before.before.before.before.before.before.before in
+    omega (arith, low-place at-loop.loop-left.invariant.0)
 
-half-at-requires-2 : tie.Need-half-at-requires-2 invariant-loop decreases-loop
+half-at-requires-2 : tie.Need-half_at-address-requires-in-9 invariant-loop decreases-loop
 half-at-requires-2 c κs =
-    let p = c.before.before in
-    let at-loop = p.before.before.before.before.before.before.before.before.before.before.before.before.before.before.before.before.before.before in
-    omega (arith, held-long (kept-held p), low-place at-loop.loop.invariant.0)
+    let p = c.before in
+    let at-loop = p.before.before.before.before.before.before.before.before.before.before.before.before.before.before.before.before in
+    omega (arith, held-long (kept-held p), low-place at-loop.loop-left.invariant.0)
 
-loop-again-3 : tie.Need-loop-preserved-3 invariant-loop decreases-loop
-loop-again-3 c = let p = c.before.before.before in (recount (fewer p).0 (again-unless (went p) p.enum-told2.given.1 c.before.before.match4.keys2 _ c.half-at2.ensures), (fewer p).1)
+loop-again-3 : tie.Need-loop-left-preserved-in-9 invariant-loop decreases-loop
+loop-again-3 c = let p = c.before.before in (recount (fewer p).0 (again-unless (went p) p.in-Goes.is c.before.in-9.is _ c.half_at-address-in-9.ensures), (fewer p).1)
 
 -- ── op 10 ──
-slice-read-if1 : tie.Need-slice-read-if1 invariant-loop decreases-loop
+slice-read-if1 : tie.Need-bounds-state-0 invariant-loop decreases-loop
 slice-read-if1 c = omega (arith, held-long (kept-held c.before.before))
 
-sub-release : tie.Need-overflow-sub-release invariant-loop decreases-loop
+sub-release : tie.Need-overflow_sub-allowance-then-state-ne-RUNNING invariant-loop decreases-loop
 sub-release c = (fewer c.before.before.before.before).1
 
-release-requires-2 : tie.Need-release-requires-2 invariant-loop decreases-loop
+release-requires-2 : tie.Need-release-answer-requires-then-state-ne-RUNNING invariant-loop decreases-loop
 release-requires-2 c κs =
     let p = c.before.before.before.before in
-    (kept-held p, left-off (went p) p.enum-told2.given.1 c.before.if1.true, (start_of (loop-told p)).pre.2, omega (arith, (went p).more))
+    (kept-held p, left-off (went p) p.in-Goes.is c.before.if-state-ne-RUNNING.true, (start_of (loop-told p)).requires.2, omega (arith, (went p).more))
 
-same-length-2 : tie.Need-same-length-2 invariant-loop decreases-loop
-same-length-2 c = c.before.before.release2.auto.1.0 ∙ still-long (went c.before.before.before.before.before.before.before)
+same-length-2 : tie.Need-shape_of-state-then-state-ne-RUNNING invariant-loop decreases-loop
+same-length-2 c = c.before.before.release-answer-then-state-ne-RUNNING.auto.state ∙ still-long (went c.before.before.before.before.before.before.before)
 
-returns-2 : tie.Need-returns-2 invariant-loop decreases-loop
-returns-2 c = let p = c.before.before.before.before.before.before.before in c.before.before.release2.ensures _ (alive (loop-told p)) (reached p)
+returns-2 : tie.Need-returns-then-state-ne-RUNNING invariant-loop decreases-loop
+returns-2 c = let p = c.before.before.before.before.before.before.before in c.before.before.release-answer-then-state-ne-RUNNING.ensures _ (alive (loop-told p)) (reached p)
 
-top-of-requires-2 : tie.Need-top-of-requires-2 invariant-loop decreases-loop
+top-of-requires-2 : tie.Need-top_of-t-requires-in-10 invariant-loop decreases-loop
 top-of-requires-2 c κs =
-    let p = c.before.before.before.before in
-    let T = there (went p) c.before.if1.false in
+    let p = c.before.before.before in
+    let T = there (went p) c.if-state-ne-RUNNING.false in
     (held-long (kept-held p), T.low, T.high)
 
-loop-again-4 : tie.Need-loop-preserved-4 invariant-loop decreases-loop
+loop-again-4 : tie.Need-loop-left-preserved-in-10 invariant-loop decreases-loop
 loop-again-4 c =
-    let p = c.before.before.before.before.before in
-    (recount (fewer p).0 (again (went p) p.enum-told2.given.1 _ _ c.before.before.if1.false c.top-of2.ensures.0 c.top-of2.ensures.1), (fewer p).1)
+    let p = c.before.before.before.before in
+    (recount (fewer p).0 (again (went p) p.in-Goes.is _ _ c.before.if-state-ne-RUNNING.false c.top_of-t-in-10.ensures.0 c.top_of-t-in-10.ensures.1), (fewer p).1)
 
 -- ── op 11 ──
 -- the activation below
-lower-at : (p : tie.After-enum-told2 invariant-loop decreases-loop) → byte_at (start_of (loop-told p)).args.code.now ((start_of (loop-told p)).args.base + 8 * (loop-told p).loop.address + 2) ≡ 11 →
-    (360 ≤ (loop-told p).loop.frame) × ((loop-told p).loop.frame ≤ 10200)
-lower-at p e = (omega (arith, (lower (went p) p.enum-told2.given.1 e).0), low-place (loop-told p).loop.invariant.0)
+lower-at : (p : tie.In-Goes invariant-loop decreases-loop) → byte_at (start_of (loop-told p)).args.code.now ((start_of (loop-told p)).args.base + 8 * (loop-told p).loop-left.address + 2) ≡ 11 →
+    (360 ≤ (loop-told p).loop-left.frame) × ((loop-told p).loop-left.frame ≤ 10200)
+lower-at p e = (omega (arith, (lower (went p) p.in-Goes.is e).0), low-place (loop-told p).loop-left.invariant.0)
 
-sub-frame : tie.Need-overflow-sub-frame invariant-loop decreases-loop
-sub-frame c = omega (arith, lower-at c.before c.match4.keys4)
+sub-frame : tie.Need-overflow_sub-frame invariant-loop decreases-loop
+sub-frame c = omega (arith, lower-at c.before c.in-11.is)
 
-add-half-at-3 : tie.Need-overflow-add-half-at-3 invariant-loop decreases-loop
-add-half-at-3 c = omega (arith, lower-at c.before.before c.before.match4.keys4)
+add-half-at-3 : tie.Need-overflow_add-frame-in-11 invariant-loop decreases-loop
+add-half-at-3 c = omega (arith, lower-at c.before c.in-11.is)
 
-half-at-requires-3 : tie.Need-half-at-requires-3 invariant-loop decreases-loop
-half-at-requires-3 c κs = let p = c.before.before in omega (arith, held-long (kept-held p), lower-at p c.before.match4.keys4)
+half-at-requires-3 : tie.Need-half_at-address-requires-in-11 invariant-loop decreases-loop
+half-at-requires-3 c κs = let p = c.before in omega (arith, held-long (kept-held p), lower-at p c.in-11.is)
 
-loop-again-5 : tie.Need-loop-preserved-5 invariant-loop decreases-loop
+loop-again-5 : tie.Need-loop-left-preserved-in-11 invariant-loop decreases-loop
 loop-again-5 c =
-    let p = c.before.before.before in
-    (recount (fewer p).0 (again-below (went p) p.enum-told2.given.1 c.before.before.match4.keys4 _ c.half-at3.ensures), (fewer p).1)
+    let p = c.before.before in
+    (recount (fewer p).0 (again-below (went p) p.in-Goes.is c.before.in-11.is _ c.half_at-address-in-11.ensures), (fewer p).1)
 
 -- ── the other ops ──
-slice-read-if2 : tie.Need-slice-read-if2 invariant-loop decreases-loop
+slice-read-if2 : tie.Need-bounds-state-0-in_default invariant-loop decreases-loop
 slice-read-if2 c = omega (arith, held-long (kept-held c.before.before))
 
-sub-release-2 : tie.Need-overflow-sub-release-2 invariant-loop decreases-loop
+sub-release-2 : tie.Need-overflow_sub-allowance-then-state-ne-RUNNING-2 invariant-loop decreases-loop
 sub-release-2 c = (fewer c.before.before.before.before).1
 
-release-requires-3 : tie.Need-release-requires-3 invariant-loop decreases-loop
+release-requires-3 : tie.Need-release-answer-requires-then-state-ne-RUNNING-2 invariant-loop decreases-loop
 release-requires-3 c κs =
     let p = c.before.before.before.before in
-    (kept-held p, left-off (went p) p.enum-told2.given.1 c.before.if2.true, (start_of (loop-told p)).pre.2, omega (arith, (went p).more))
+    (kept-held p, left-off (went p) p.in-Goes.is c.before.if-state-ne-RUNNING-2.true, (start_of (loop-told p)).requires.2, omega (arith, (went p).more))
 
-same-length-3 : tie.Need-same-length-3 invariant-loop decreases-loop
-same-length-3 c = c.before.before.release3.auto.1.0 ∙ still-long (went c.before.before.before.before.before.before.before)
+same-length-3 : tie.Need-shape_of-state-then-state-ne-RUNNING-2 invariant-loop decreases-loop
+same-length-3 c = c.before.before.release-answer-then-state-ne-RUNNING-2.auto.state ∙ still-long (went c.before.before.before.before.before.before.before)
 
-returns-3 : tie.Need-returns-3 invariant-loop decreases-loop
-returns-3 c = let p = c.before.before.before.before.before.before.before in c.before.before.release3.ensures _ (alive (loop-told p)) (reached p)
+returns-3 : tie.Need-returns-then-state-ne-RUNNING-2 invariant-loop decreases-loop
+returns-3 c = let p = c.before.before.before.before.before.before.before in c.before.before.release-answer-then-state-ne-RUNNING-2.ensures _ (alive (loop-told p)) (reached p)
 
-add-address : tie.Need-overflow-add-address invariant-loop decreases-loop
-add-address c = omega (arith, (room (poise (ready_on c.before.before.before.before.before.before.before.before.before)).at-hand).address)
+add-address : tie.Need-overflow_add-address-in_default invariant-loop decreases-loop
+add-address c = omega (arith, (room (poise (ready_on c.before.before.before.before.before.before.before.before)).at-hand).address)
 
-loop-again-6 : tie.Need-loop-preserved-6 invariant-loop decreases-loop
+loop-again-6 : tie.Need-loop-left-preserved-in_default invariant-loop decreases-loop
 loop-again-6 c =
     let p = c.before.before.before in
-    let others = c.before.before.match4.rest in
-    (recount (fewer p).0 (again-next (went p) p.enum-told2.given.1 others.0.0.0.1 others.0.0.1 others.0.1 others.1 c.if2.false), (fewer p).1)
+    let others = c.before.before.in_default.in_default-own.rest in
+    (recount (fewer p).0 (again-next (went p) p.in-Goes.is others.0.0.0.1 others.0.0.1 others.0.1 others.1 c.if-state-ne-RUNNING-2.false), (fewer p).1)
 
 -- ── a reading ──
-took : (p : tie.After-enum-told3 invariant-loop decreases-loop) → let d = p.before.before.before.before in Acted (ready_on d.before.before) d.dispatch.new.1.1.1.0 d.dispatch.result
-took p = acted p.before.before.before.before
+took : (p : tie.In-Reads invariant-loop decreases-loop) → let d = p.before.before.before in Acted (ready_on d.before.before) d.dispatch.new.state d.dispatch.result
+took p = acted p.before.before.before
 
-abbrev loop-took : tie.After-enum-told3 invariant-loop decreases-loop → tie.At-loop invariant-loop decreases-loop
-loop-took p = loop-of (read_of p.before.before.before.before.before.before)
+abbrev loop-took : tie.In-Reads invariant-loop decreases-loop → tie.At-loop-left invariant-loop decreases-loop
+loop-took p = p.before.before.before.before.before.before.before.before.before.before.before.before.before.before.before.before
 
-sub-left-3 : tie.Need-overflow-sub-left-3 invariant-loop decreases-loop
+sub-left-3 : tie.Need-overflow_sub-left-in-Reads invariant-loop decreases-loop
 sub-left-3 c = omega (arith, (took c).more)
 
-add_read : tie.Need-overflow-add-read invariant-loop decreases-loop
-add_read c = omega (arith, (took c).more, (loop-took c).loop.invariant.0.few, (start_of (loop-took c)).fits.allowance.fits)
+add_read : tie.Need-overflow_add-read invariant-loop decreases-loop
+add_read c = omega (arith, (took c).more, (loop-took c).loop-left.invariant.0.few, (start_of (loop-took c)).ranges.allowance.fits)
 
-top-of-requires-3 : tie.Need-top-of-requires-3 invariant-loop decreases-loop
+top-of-requires-3 : tie.Need-top_of-t-requires-in-Reads invariant-loop decreases-loop
 top-of-requires-3 c κs =
-    let p = c.before in
-    let T = there (took p) (runs-on (took p) p.enum-told3.given.1) in
+    let p = c in
+    let T = there (took p) (runs-on (took p) p.in-Reads.is) in
     (held-long (still (took p)), T.low, T.high)
 
-loop-less-7 : tie.Need-loop-smaller-7 invariant-loop decreases-loop
-loop-less-7 c = omega (arith, (took c.before.before).more)
+loop-less-7 : tie.Need-loop-left-smaller invariant-loop decreases-loop
+loop-less-7 c = omega (arith, (took c.before).more)
 
-loop-again-7 : tie.Need-loop-preserved-7 invariant-loop decreases-loop
+loop-again-7 : tie.Need-loop-left-preserved invariant-loop decreases-loop
 loop-again-7 c =
-    let p = c.before.before in
+    let p = c.before in
     let l = loop-took p in (
-      recount (omega (arith, l.loop.inv.1, (took p).more)) (again-read (took p) p.enum-told3.given.1 _ _ c.top-of3.ensures.0 c.top-of3.ensures.1),
-      omega (arith, l.loop.inv.1),
+      recount (omega (arith, l.loop-left.invariant.1, (took p).more)) (again-read (took p) p.in-Reads.is _ _ c.top_of-t-in-Reads.ensures.0 c.top_of-t-in-Reads.ensures.1),
+      omega (arith, l.loop-left.invariant.1),
     )
 
 -- ── an event, an end, the allowance used ──
-same-length-4 : tie.Need-same-length-4 invariant-loop decreases-loop
-same-length-4 c = still-long (acted c.before.before.before.before.before)
+same-length-4 : tie.Need-shape_of-state-in-Gives invariant-loop decreases-loop
+same-length-4 c = still-long (acted c.before.before.before)
 
-returns-4 : tie.Need-returns-4 invariant-loop decreases-loop
+returns-4 : tie.Need-returns-in-Gives invariant-loop decreases-loop
 returns-4 c =
-    let p = c.before.before.before.before.before in
+    let p = c.before.before.before in
     let l = loop-of (read_of p.before.before) in
-    happened (acted p) (start_of l).pre.2 (alive l) _ c.before.e.given.1
+    happened (acted p) (start_of l).requires.2 (alive l) _ c.in-Gives.is
 
-same-length-5 : tie.Need-same-length-5 invariant-loop decreases-loop
-same-length-5 c = still-long (acted c.before.before.before.before.before)
+same-length-5 : tie.Need-shape_of-state-in-Ends invariant-loop decreases-loop
+same-length-5 c = still-long (acted c.before.before.before)
 
-returns-5 : tie.Need-returns-5 invariant-loop decreases-loop
+returns-5 : tie.Need-returns-in-Ends invariant-loop decreases-loop
 returns-5 c =
-    let p = c.before.before.before.before.before in
+    let p = c.before.before.before in
     let l = loop-of (read_of p.before.before) in
-    done (acted p) (start_of l).pre.2 (alive l) _ c.before.c.given.1
+    done (acted p) (start_of l).requires.2 (alive l) _ c.in-Ends.is
 
-same-length-6 : tie.Need-same-length-6 invariant-loop decreases-loop
-same-length-6 c = c.before.loop.invariant.0.long
+same-length-6 : tie.Need-shape_of-state invariant-loop decreases-loop
+same-length-6 c = c.before.loop-left.invariant.0.long
 
-returns-6 : tie.Need-returns-6 invariant-loop decreases-loop
+returns-6 : tie.Need-returns invariant-loop decreases-loop
 returns-6 c =
     let l = c.before in
     let s = start_of l in
-    let all = recount {j = s.args.allowance} (omega arith) l.loop.invariant.0 in
-    spent s.args.code.now s.args.readings.now _ (since s.args.state.now l.loop.read) _ _ s.pre.2 (alive l) refl all.reached
+    let all = recount {j = s.args.allowance} (omega arith) l.loop-left.invariant.0 in
+    spent s.args.code.now s.args.readings.now _ (since s.args.state.now l.loop-left.read) _ _ s.requires.2 (alive l) refl all.reached
 
-pub run-running-spec : {M : Type 1} → statement M
-run-running-spec =
+pub run_running_spec : {M : Type 1} → statement M
+run_running_spec =
     tie.close
     (tie.spec
     invariant-loop
