@@ -1,7 +1,6 @@
 -- The sum is the front's length, whatever tree it is: measured (specs/Lengths).
 use native.Mathlib.Omega.{arith}
 use Rattle.compile_front.specs.Lengths.{measured, few-measured}
-use borrow.Author.Rules.{rules}
 use Rattle.compile_front.proofs.length.Goals as goal
 
 pub overflow_mul-result : goal.overflow_mul-result

@@ -1,7 +1,6 @@
 -- `compile_front::next_first` meets its contract.
 use mathlib.Core.Path.{sym, ◌∙◌}
 use borrow.Author.Tests.{ne_eqb}
-use borrow.Author.Rules.{rules}
 use Rattle.compile_front.proofs.next_first.Goals as goal
 
 pub returns-then-kind_at-eq-KIND_PROCEDURE : goal.returns-then-kind_at-eq-KIND_PROCEDURE

@@ -6,7 +6,6 @@ use lib.Seq.{length-sets}
 use Rattle.compile_symbols.specs.Tabled.{the-tree}
 use Rattle.compile_front.specs.Writing.{wrote-long}
 use Rattle.compile_front.specs.Top.{asks-tree, top-headed, top-known, top-ended, top-few, top-classes, top-bodies, top-room, top-wrote}
-use borrow.Author.Rules.{rules}
 use Rattle.compile_front.proofs.put.Goals as goal
 
 pub overflow_cast-classes : goal.overflow_cast-classes

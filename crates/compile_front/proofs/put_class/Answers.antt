@@ -4,7 +4,6 @@ use native.Mathlib.Omega.{arith}
 use lib.ListN.{length-set}
 use Rattle.compile_front.specs.Records.{class-wrote}
 use Rattle.compile_front.specs.Writing.{wrote-long}
-use borrow.Author.Rules.{rules}
 use Rattle.compile_front.proofs.put_class.Goals as goal
 
 pub bounds-out-at-2 : goal.bounds-out-at-2

@@ -1,6 +1,6 @@
 -- The loop's invariant, HeadWriting: what is left to write for the classes (specs/Declared).
 use native.Mathlib.Omega.{arith}
-use Rattle.compile_front.specs.Declared.{HeadWriting, head-start, head-within, head-room, head-next, head-end, classes-add, classes-none, class-short}
+use Rattle.compile_front.specs.Declared.{head-start, head-within, head-room, head-next, head-end, classes-add, classes-none, class-short}
 use Rattle.compile_front.specs.Front.{class_part, classes_from}
 use Rattle.compile_symbols.specs.Tabled.{the_tree, classes_in, part_at, entries-few}
 use Rattle.compile_front.proofs.put_classes.Goals as goal
@@ -17,7 +17,7 @@ put_if_class-at-requires c =
       class-short c.requires.0.tabled c.loop-left.invariant c.loop-left-test.true,
       head-room c.requires.0.tabled c.loop-left.invariant (class_part (classes_in c.args.table.now)
           (part_at c.args.table.now c.args.sizes.now c.loop-left.place))
-          (classes-add c.args.table.now c.args.sizes.now c.loop-left.place c.loop-left.false) c.requires.2
+          (classes-add c.args.table.now c.args.sizes.now c.loop-left.place c.loop-left.left) c.requires.2
           c.loop-left-test.true,
     )
 
@@ -32,7 +32,7 @@ overflow_add-place c =
 pub loop-left-preserved : goal.loop-left-preserved
 loop-left-preserved c =
     head-next c.requires.0.tabled c.loop-left.invariant (classes-add c.args.table.now c.args.sizes.now
-    c.loop-left.place c.loop-left.false) c.put_if_class-at.ensures c.size_at-place.ensures c.loop-left-test.true
+    c.loop-left.place c.loop-left.left) c.put_if_class-at.ensures c.size_at-place.ensures c.loop-left-test.true
 
 pub shape_of-out : goal.shape_of-out
 shape_of-out c = c.loop-left.invariant.writing.long

@@ -1,7 +1,6 @@
-use native.Mathlib.Omega.{arith}
-use Rattle.compile_front.specs.Declared.{HeadWriting, head-start, head-within, head-room, head-next, head-end, classes-add, classes-none, class-short}
-use Rattle.compile_front.specs.Front.{class_part, classes_from}
-use Rattle.compile_symbols.specs.Tabled.{the_tree, classes_in, part_at, entries-few}
+use Rattle.compile_front.specs.Declared.{HeadWriting}
+use Rattle.compile_front.specs.Front.{classes_from}
+use Rattle.compile_symbols.specs.Tabled.{the_tree}
 use Rattle.compile_front.proofs.put_classes.Given as goal
 
 abbrev pub invariant-loop-left : goal.invariant-loop-left

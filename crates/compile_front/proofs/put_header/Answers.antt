@@ -3,7 +3,6 @@ use mathlib.Core.Path.{◌∙◌, ap}
 use native.Mathlib.Omega.{arith}
 use lib.ListN.{length, length-set}
 use lib.Seq.{length-sets}
-use borrow.Author.Rules.{rules}
 use Rattle.compile_front.proofs.put_header.Goals as goal
 
 pub bounds-out-1 : goal.bounds-out-1

@@ -9,7 +9,6 @@ use mathlib.Core.List.{[]}
 use Prim.Native.Nat.{ℕ, ◌+◌, ◌-◌, ◌/◌, ◌%◌}
 use native.Mathlib.Omega.{arith}
 use Rattle.compile_front.specs.Records.{body-wrote}
-use borrow.Author.Rules.{rules}
 use Rattle.compile_front.proofs.put_procedure.Goals as goal
 
 pub put_types-last-requires : goal.put_types-last-requires

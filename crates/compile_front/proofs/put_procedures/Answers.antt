@@ -2,7 +2,7 @@
 use Rattle.compile_symbols.specs.Whole.{table-some}
 use mathlib.Core.Path.{refl}
 use native.Mathlib.Omega.{arith}
-use Rattle.compile_front.specs.Declared.{ProcsWriting, procs-start, procs-within, procs-brief, procs-room, procs-next, procs-end}
+use Rattle.compile_front.specs.Declared.{procs-start, procs-within, procs-brief, procs-room, procs-next, procs-end}
 use Rattle.compile_symbols.specs.Tabled.{entries-few}
 use Rattle.compile_front.proofs.put_procedures.Goals as goal
 

@@ -4,7 +4,6 @@ use Rattle.compile_front.specs.Writing.{wrote-long}
 use Prim.Native.Nat.{◌-◌}
 use native.Mathlib.Omega.{arith}
 use Rattle.compile_front.specs.Records.{body-wrote}
-use borrow.Author.Rules.{rules}
 use Rattle.compile_front.proofs.put_root.Goals as goal
 
 pub put_variables-types-requires : goal.put_variables-types-requires

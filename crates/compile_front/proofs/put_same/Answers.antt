@@ -1,6 +1,6 @@
 -- The loop's invariant, SameWriting: what is left, put after what is written, is all (specs/Leaves).
 use native.Mathlib.Omega.{arith}
-use Rattle.compile_front.specs.Leaves.{SameWriting, same_start, same-room, same_next, same-done}
+use Rattle.compile_front.specs.Leaves.{same_start, same-room, same_next, same-done}
 use Rattle.compile_front.proofs.put_same.Goals as goal
 
 pub loop-left-init : goal.loop-left-init

@@ -1,5 +1,4 @@
-use native.Mathlib.Omega.{arith}
-use Rattle.compile_front.specs.Leaves.{SameWriting, same_start, same-room, same_next, same-done}
+use Rattle.compile_front.specs.Leaves.{SameWriting}
 use Rattle.compile_front.proofs.put_same.Given as goal
 
 abbrev pub invariant-loop-left : goal.invariant-loop-left

@@ -3,7 +3,6 @@ use mathlib.Core.Path.{◌∙◌, ap}
 use native.Mathlib.Omega.{arith}
 use Rattle.compile_front.specs.Leaves.{put-cells, type-room}
 use Rattle.compile_symbols.specs.Entries.{cells_of_kind}
-use borrow.Author.Rules.{rules}
 use Rattle.compile_front.proofs.put_type.Goals as goal
 
 pub put_same-requires : goal.put_same-requires

@@ -1,7 +1,6 @@
 -- The loop's invariant, TypesWriting: the types of the entries that are left, put after what is written, are all types (specs/Leaves).
-use Prim.Native.Nat.{◌-◌}
 use native.Mathlib.Omega.{arith}
-use Rattle.compile_front.specs.Leaves.{TypesWriting, types-start, types-room, types-next, types-done}
+use Rattle.compile_front.specs.Leaves.{types-start, types-room, types-next, types-done}
 use Rattle.compile_front.proofs.put_types.Goals as goal
 
 pub loop-i-init : goal.loop-i-init

@@ -1,6 +1,5 @@
 use Prim.Native.Nat.{◌-◌}
-use native.Mathlib.Omega.{arith}
-use Rattle.compile_front.specs.Leaves.{TypesWriting, types-start, types-room, types-next, types-done}
+use Rattle.compile_front.specs.Leaves.{TypesWriting}
 use Rattle.compile_front.proofs.put_types.Given as goal
 
 abbrev pub invariant-loop-i : goal.invariant-loop-i

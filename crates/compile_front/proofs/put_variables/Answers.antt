@@ -1,7 +1,7 @@
 -- The loop's invariant, HeadWriting: what is left to write for the root's variables (specs/Declared).
 use mathlib.Core.List.{[], ◌∷◌}
 use native.Mathlib.Omega.{arith}
-use Rattle.compile_front.specs.Declared.{HeadWriting, head-start, head-within, head-room, head-next, head-end, variables-add, variables-none}
+use Rattle.compile_front.specs.Declared.{head-start, head-within, head-room, head-next, head-end, variables-add, variables-none}
 use Rattle.compile_front.specs.Front.{variables_from}
 use Rattle.compile_front.specs.Types.{types_of}
 use Rattle.compile_symbols.specs.Tabled.{the_tree, classes_in, entries-few}
@@ -20,7 +20,7 @@ put_type-at-requires c =
       omega (arith, w.some, w.within),
       head-room c.requires.0.tabled c.loop-left.invariant (types_of (classes_in c.args.table.now)
           (entry_at c.args.table.now c.loop-left.place ∷ []) [])
-          (variables-add c.args.table.now c.args.sizes.now c.loop-left.place c.loop-left.false) c.requires.2
+          (variables-add c.args.table.now c.args.sizes.now c.loop-left.place c.loop-left.left) c.requires.2
           c.loop-left-test.true,
     )
 
@@ -35,7 +35,7 @@ overflow_add-place c =
 pub loop-left-preserved : goal.loop-left-preserved
 loop-left-preserved c =
     head-next c.requires.0.tabled c.loop-left.invariant (variables-add c.args.table.now c.args.sizes.now
-    c.loop-left.place c.loop-left.false) c.put_type-at.ensures c.size_at-place.ensures c.loop-left-test.true
+    c.loop-left.place c.loop-left.left) c.put_type-at.ensures c.size_at-place.ensures c.loop-left-test.true
 
 pub shape_of-out : goal.shape_of-out
 shape_of-out c = c.loop-left.invariant.writing.long

@@ -1,10 +1,6 @@
-use mathlib.Core.List.{[], ◌∷◌}
-use native.Mathlib.Omega.{arith}
-use Rattle.compile_front.specs.Declared.{HeadWriting, head-start, head-within, head-room, head-next, head-end, variables-add, variables-none}
+use Rattle.compile_front.specs.Declared.{HeadWriting}
 use Rattle.compile_front.specs.Front.{variables_from}
-use Rattle.compile_front.specs.Types.{types_of}
-use Rattle.compile_symbols.specs.Tabled.{the_tree, classes_in, entries-few}
-use Rattle.table_entries.specs.Entries.{entry_at}
+use Rattle.compile_symbols.specs.Tabled.{the_tree}
 use Rattle.compile_front.proofs.put_variables.Given as goal
 
 abbrev pub invariant-loop-left : goal.invariant-loop-left

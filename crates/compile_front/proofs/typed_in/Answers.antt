@@ -1,10 +1,8 @@
 -- The loop's invariant, CountSoFar: the entries counted and those that are left make all (specs/Leaves).
 use mathlib.Core.Path.{◌∙◌, ap}
-use Prim.Native.Nat.{◌-◌}
 use native.Mathlib.Omega.{arith}
-use Rattle.compile_front.specs.Leaves.{CountSoFar, count-start, count_next, count-end}
+use Rattle.compile_front.specs.Leaves.{count-start, count_next, count-end}
 use Rattle.compile_symbols.specs.Entries.{cells_of_kind, cells-few}
-use borrow.Author.Rules.{rules}
 use Rattle.compile_front.proofs.typed_in.Goals as goal
 
 pub loop-i-init : goal.loop-i-init
