@@ -1,0 +1,13 @@
+-- `put_line_1`: the word, a number, and the line's end (specs/Writing, puts-line-1).
+use Rattle.std.proofs.Common.{arith}
+use Rattle.listing_text.specs.Writing.{room-1, puts-line-1}
+use Rattle.listing_text.proofs.lines.put_line_1.Goals as goal
+
+pub put_number-b-requires : goal.put_number-b-requires
+put_number-b-requires c = omega (arith, room-1 c.args.word.now c.args.n)
+
+pub put_newline-requires : goal.put_newline-requires
+put_newline-requires c = omega (arith, room-1 c.args.word.now c.args.n)
+
+pub returns : goal.returns
+returns c = puts-line-1 c.args.text.now c.args.word.now c.args.at c.args.n _ _ _ _ _ _ c.put_word-a.ensures c.put_number-b.ensures c.put_newline.ensures
