@@ -10,7 +10,6 @@ use Rattle.values.specs.Ends.{refusal}
 use Rattle.values.specs.Trace.{readings_in}
 use Rattle.bytecode.specs.Machine.{Machine}
 use Rattle.bytecode.specs.Runs.{Answer, happens, spends, finishes, refuses, halts, Feed, run}
-use Rattle.bytecode.specs.Sound.{sound}
 use Rattle.bytecode.specs.State.{encode}
 use Rattle.bytecode.specs.Lent.{RanOn, written, run_on}
 use Rattle.bytecode.specs.Answers.{Numbers, numbers, refusal_numbers, event_numbers, packed}

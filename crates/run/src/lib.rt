@@ -1,4 +1,6 @@
 // Start, run and play on lent bytes: any macro, any bytes of a state, any readings. A refusal writes nothing.
+#![tactic(auto)]
+
 mod plays;
 mod runs;
 mod starts;
