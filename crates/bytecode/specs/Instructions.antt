@@ -2,7 +2,7 @@
 use Rattle.std.specs.Prelude.{Bool, true, false, ◌&&◌, ◌||◌, ℕ, zero, suc, List, [], ◌∷◌, eqb, leb, ltb, length}
 use Rattle.std.proofs.Math.Option.{Option, none, some}
 use Rattle.std.proofs.Math.ListN.{get_elem?}
-use Rattle.logic.specs.Choice.{if◌then◌else◌}
+use Rattle.logic.specs.Choice.{If◌then◌else◌}
 use Rattle.logic.specs.Options.{keep}
 use Rattle.words.specs.Numbers.{integer_of}
 use Rattle.values.specs.Operators.{Operator, unary, binary, unary_of, binary_of}
@@ -36,10 +36,10 @@ pub data Instr : Type 0 where
   stop : ℕ → Instr  -- 20, by this condition
 
 abbrev pub exactly : {A : Type 0} → Bool → A → Option A
-exactly b x = if b then some x else none
+exactly b x = If b then some x else none
 
 abbrev pub owner_of : ℕ → Option Owner
-owner_of n = if eqb n 0 then some own else if eqb n 1 then some root else none
+owner_of n = If eqb n 0 then some own else If eqb n 1 then some root else none
 
 abbrev pub or_binary : Option Operator → ℕ → Option Operator
 or_binary none n = keep (binary_of n) (λ o. some (binary o))
@@ -57,27 +57,27 @@ unfoldable pub instruction : Code → Option Instr
 instruction c =
     let k = c.op in let x = c.a in let n = c.b in
     let plain = eqb x 0 && eqb n 0 in
-    if eqb k 0 then exactly plain end else  -- 0 end
-    if eqb k 1 then exactly (eqb x 0) (push (int (integer_of n))) else  -- 1 push integer b
-    if eqb k 2 then exactly (eqb x 0 && ltb n 2) (push (log (eqb n 1))) else  -- 2 push logical b
-    if eqb k 3 then exactly (eqb x 0) (push (bit n)) else  -- 3 push bits b
-    if eqb k 4 then exactly (eqb n 0) (push (ref x none)) else  -- 4 push null of class a
-    if eqb k 5 then keep (owner_of x) (λ o. some (load o n)) else  -- 5 push cell b (a 0 own, 1 root's)
-    if eqb k 6 then keep (owner_of x) (λ o. some (store o n)) else  -- 6 store cell b
-    if eqb k 7 then keep (operator_of x) (λ o. exactly (eqb n 0) (operate o)) else  -- 7 operator a
-    if eqb k 8 then exactly (eqb x 0) (go n) else  -- 8 go to b
-    if eqb k 9 then exactly (eqb x 0) (go_unless n) else  -- 9 go to b if false
-    if eqb k 10 then exactly (eqb x 0) (call n) else  -- 10 call body b
-    if eqb k 11 then exactly plain return else  -- 11 return
-    if eqb k 12 then exactly (eqb n 0) (make x) else  -- 12 make class a
-    if eqb k 13 then some (get_field x n) else  -- 13 push field b of class a
-    if eqb k 14 then some (put_field x n) else  -- 14 store field b of class a
-    if eqb k 15 then exactly plain set_level else  -- 15 set
-    if eqb k 16 then exactly plain read_fader else  -- 16 fader
-    if eqb k 17 then exactly (eqb x 0 && leb n 63) (take_hold n) else  -- 17 hold b
-    if eqb k 18 then exactly plain let_hold else  -- 18 release
-    if eqb k 19 then exactly plain assert else  -- 19 assert
-    if eqb k 20 then exactly (stops_by x && eqb n 0) (stop x) else none  -- 20 stop by a
+    If eqb k 0 then exactly plain end else  -- 0 end
+    If eqb k 1 then exactly (eqb x 0) (push (int (integer_of n))) else  -- 1 push integer b
+    If eqb k 2 then exactly (eqb x 0 && ltb n 2) (push (log (eqb n 1))) else  -- 2 push logical b
+    If eqb k 3 then exactly (eqb x 0) (push (bit n)) else  -- 3 push bits b
+    If eqb k 4 then exactly (eqb n 0) (push (ref x none)) else  -- 4 push null of class a
+    If eqb k 5 then keep (owner_of x) (λ o. some (load o n)) else  -- 5 push cell b (a 0 own, 1 root's)
+    If eqb k 6 then keep (owner_of x) (λ o. some (store o n)) else  -- 6 store cell b
+    If eqb k 7 then keep (operator_of x) (λ o. exactly (eqb n 0) (operate o)) else  -- 7 operator a
+    If eqb k 8 then exactly (eqb x 0) (go n) else  -- 8 go to b
+    If eqb k 9 then exactly (eqb x 0) (go_unless n) else  -- 9 go to b if false
+    If eqb k 10 then exactly (eqb x 0) (call n) else  -- 10 call body b
+    If eqb k 11 then exactly plain return else  -- 11 return
+    If eqb k 12 then exactly (eqb n 0) (make x) else  -- 12 make class a
+    If eqb k 13 then some (get_field x n) else  -- 13 push field b of class a
+    If eqb k 14 then some (put_field x n) else  -- 14 store field b of class a
+    If eqb k 15 then exactly plain set_level else  -- 15 set
+    If eqb k 16 then exactly plain read_fader else  -- 16 fader
+    If eqb k 17 then exactly (eqb x 0 && leb n 63) (take_hold n) else  -- 17 hold b
+    If eqb k 18 then exactly plain let_hold else  -- 18 release
+    If eqb k 19 then exactly plain assert else  -- 19 assert
+    If eqb k 20 then exactly (stops_by x && eqb n 0) (stop x) else none  -- 20 stop by a
 
 -- ── where the code of each body lies ──
 abbrev pub body_at : Macro → ℕ → Option Body

@@ -1,7 +1,7 @@
 -- Start and run on lent bytes: what they answer and what the state's bytes hold after. (paper 01, Running; Refusals and ends)
 use Rattle.std.specs.Prelude.{List, ℕ, eqb, length}
 use Rattle.std.proofs.Math.Option.{Option, none, some}
-use Rattle.logic.specs.Choice.{if◌then◌else◌}
+use Rattle.logic.specs.Choice.{If◌then◌else◌}
 use Rattle.logic.specs.Options.{keep}
 use Rattle.values.specs.Ends.{Refusal, refusal, Judged, accepted, refused}
 use Rattle.values.specs.Trace.{readings_in}
@@ -14,10 +14,10 @@ use Rattle.bytecode.specs.State.{state_length, encode, decode}
 
 -- the sound state that decodes from the bytes; "10 is given for no sound one of right length"
 abbrev pub only_sound : Macro → Machine → Option Machine
-only_sound m s = if sound m s then some s else none
+only_sound m s = If sound m s then some s else none
 
 unfoldable pub sound_state : Macro → List ℕ → Option Machine
-sound_state m l = if eqb (length l) state_length then keep (decode m l) (only_sound m) else none
+sound_state m l = If eqb (length l) state_length then keep (decode m l) (only_sound m) else none
 
 -- "A start takes a macro and these bytes, tests 8, 9 and the length by 10, and writes the fresh state."
 pub record Started : Type 0 where
@@ -30,7 +30,7 @@ start_refused r l = record { verdict = refused r; bytes = l }
 abbrev pub start_macro : Judged Macro → List ℕ → Started
 start_macro (refused r) l = start_refused r l
 start_macro (accepted m) l =
-    if eqb (length l) state_length
+    If eqb (length l) state_length
     then record { verdict = accepted tt; bytes = encode (fresh_machine m) }
     else start_refused (refusal 10 0) l
 

@@ -3,7 +3,7 @@
 use Rattle.std.specs.Prelude.{Bool, true, false, ◌&&◌, List, [], ◌∷◌, ◌++◌, ℕ, zero, suc, eqb, leb, ltb, pos, length, take, drop, set as put}
 use Rattle.std.proofs.Math.Option.{Option, none, some}
 use Rattle.std.proofs.Math.ListN.{get_elem?}
-use Rattle.logic.specs.Choice.{if◌then◌else◌}
+use Rattle.logic.specs.Choice.{If◌then◌else◌}
 use Rattle.logic.specs.Options.{if_some}
 use Rattle.values.specs.Types.{Ty, fits, all_fit, sames}
 use Rattle.values.specs.Ends.{field_of_null, assert_false, out_of_range, too_many_activations, too_many_records}
@@ -66,7 +66,7 @@ pub data Stepped : Type 0 where
   stuck : Stuck → Stepped
 
 abbrev pub demand : Bool → Stuck → Stepped → Stepped
-demand b why s = if b then s else stuck why
+demand b why s = If b then s else stuck why
 
 -- "then likewise those below it"
 unfoldable pub all_holds : List Activation → List ℕ
@@ -168,7 +168,7 @@ abbrev pub goes : ℕ → List Value → Here → Stepped
 goes i vs h = moved [] (running h.shared (at i vs h.top) h.below)
 
 unfoldable pub do_go_unless : ℕ → Here → Stepped
-do_go_unless i h = pop h.top.operands (λ v vs. given (as_logical v) bad_type (λ b. goes (if b then suc h.top.address else i) vs h))
+do_go_unless i h = pop h.top.operands (λ v vs. given (as_logical v) bad_type (λ b. goes (If b then suc h.top.address else i) vs h))
 
 -- ── calls ──
 -- the topmost n operands, the deepest first, and those below them
@@ -196,7 +196,7 @@ max_open_holds = 512
 
 abbrev pub entering : ℕ → Body → List Value → List Value → Here → Stepped
 entering k b vs us h =
-    if ltb (length (h.top ∷ h.below)) max_activations
+    If ltb (length (h.top ∷ h.below)) max_activations
     then moved [] (running h.shared (activation k b vs) (at h.top.address us h.top ∷ h.below))
     else condition too_many_activations h
 
@@ -239,7 +239,7 @@ with_records rs h = record { shared = record { records = rs }; top = h.top; belo
 abbrev pub recording : ℕ → List Value → List Value → Here → Stepped
 recording c vs us h =
     let rs = h.shared.records in
-    if ltb (length rs) max_records
+    If ltb (length rs) max_records
     then goes_on [] (ref c (some (length rs)) ∷ us) (with_records (rs ++ (record { class = c; fields = vs } ∷ [])) h)
     else condition too_many_records h
 
@@ -271,12 +271,12 @@ do_put_field m c x h = pop h.top.operands (λ w vs. pop vs (λ v us. on_field m 
 -- 25: "channel, level or fader out of range"
 unfoldable pub do_set : Here → Stepped
 do_set h = pop h.top.operands (λ w vs. pop vs (λ v us. given (as_integer v) bad_type (λ x. given (as_integer w) bad_type (λ y.
-    if between 1 512 x && between 0 255 y then goes_on (event (set (size x) (size y)) ∷ []) us h else condition out_of_range h))))
+    If between 1 512 x && between 0 255 y then goes_on (event (set (size x) (size y)) ∷ []) us h else condition out_of_range h))))
 
 -- the reading of each fader enters here
 unfoldable pub do_fader : (ℕ → ℕ) → Here → Stepped
 do_fader bank h = pop h.top.operands (λ v vs. given (as_integer v) bad_type (λ x.
-    if between 1 64 x
+    If between 1 64 x
     then goes_on (reading (size x) (bank (size x)) ∷ []) (int (pos (bank (size x))) ∷ vs) h
     else condition out_of_range h))
 
@@ -290,7 +290,7 @@ letting [] h = stuck bad_frame
 letting (g ∷ gs) h = moved (event (release g) ∷ []) (running h.shared (with_holds gs h.top) h.below)
 
 unfoldable pub do_assert : Here → Stepped
-do_assert h = pop h.top.operands (λ v vs. given (as_logical v) bad_type (λ b. if b then goes_on [] vs h else condition assert_false h))
+do_assert h = pop h.top.operands (λ v vs. given (as_logical v) bad_type (λ b. If b then goes_on [] vs h else condition assert_false h))
 
 -- a null is of a class that the macro has
 abbrev pub do_push : Macro → Value → Here → Stepped
@@ -319,7 +319,7 @@ act m bank (stop c) h = condition c h
 
 -- the op at the top's address, where that lies in its body
 unfoldable pub fetch : Macro → ℕ → ℕ → Option Instr
-fetch m k i = if in_body m k i then instr_at m i else none
+fetch m k i = If in_body m k i then instr_at m i else none
 
 -- "each step gives one release, the top's last first, then likewise those below it, and once none is open one more step ends"
 unfoldable pub step : Macro → (ℕ → ℕ) → Machine → Stepped

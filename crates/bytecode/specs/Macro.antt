@@ -1,7 +1,7 @@
 -- The records of a compiled macro and how they are read (refusal 8). (paper 01, Compiled macro)
 use Rattle.std.specs.Prelude.{Bool, true, ◌&&◌, List, [], ◌∷◌, reverse, ℕ, zero, suc, ◌-◌, eqb, leb, ltb, length, drop}
 use Rattle.std.proofs.Math.Option.{Option, none, some}
-use Rattle.logic.specs.Choice.{if◌then◌else◌}
+use Rattle.logic.specs.Choice.{If◌then◌else◌}
 use Rattle.logic.specs.Options.{keep}
 use Rattle.words.specs.Numbers.{byte_at, half_at, word_at}
 use Rattle.values.specs.Types.{Ty, integer, logical, bits, reference}
@@ -75,10 +75,10 @@ marked x y n l = leb n (length l) && (eqb (byte_at l 0) x && eqb (byte_at l 1) y
 -- "A type byte is 1, 2, 3, or 16 + class number."
 unfoldable pub ty_of_byte : ℕ → ℕ → Option Ty
 ty_of_byte classes t =
-    if eqb t 1 then some integer else
-    if eqb t 2 then some logical else
-    if eqb t 3 then some bits else
-    if leb 16 t && ltb (t - 16) classes then some (reference (t - 16)) else none
+    If eqb t 1 then some integer else
+    If eqb t 2 then some logical else
+    If eqb t 3 then some bits else
+    If leb 16 t && ltb (t - 16) classes then some (reference (t - 16)) else none
 
 -- so many type bytes
 unfoldable pub read_types : ℕ → ℕ → List ℕ → Option (Cut (List Ty))
@@ -90,13 +90,13 @@ read_types classes (suc n) (t ∷ l) =
 -- "CL: field count u8, types"; "1 to 8 fields"
 unfoldable pub read_class : ℕ → List (List Ty) → List ℕ → Option (Cut (List Ty))
 read_class classes before l =
-    if marked 67 76 class_length l && (leb 1 (byte_at l 2) && leb (byte_at l 2) 8)
+    If marked 67 76 class_length l && (leb 1 (byte_at l 2) && leb (byte_at l 2) 8)
     then read_types classes (byte_at l 2) (drop class_length l)
     else none
 
 -- 0 or a type
 unfoldable pub read_result : ℕ → ℕ → Option (List Ty)
-read_result classes t = if eqb t 0 then some [] else keep (ty_of_byte classes t) (λ ty. some (ty ∷ []))
+read_result classes t = If eqb t 0 then some [] else keep (ty_of_byte classes t) (λ ty. some (ty ∷ []))
 
 -- "first addresses rise from 0", strictly (M5)
 abbrev pub rises : List Body → ℕ → Bool
@@ -106,21 +106,21 @@ rises (b ∷ bs) a = ltb b.first a
 unfoldable pub read_body : ℕ → ℕ → List Body → List ℕ → Option (Cut Body)
 read_body classes instructions before l =
     let first = half_at l 2 in let params = byte_at l 4 in let cells = byte_at l 6 in
-    if marked 66 68 body_length l && (rises before first && (ltb first instructions && leb params cells))
+    If marked 66 68 body_length l && (rises before first && (ltb first instructions && leb params cells))
     then keep (read_result classes (byte_at l 5)) (λ r. keep (read_types classes cells (drop body_length l)) (λ c.
     some (cut (record { first = first; parameters = params; results = r; cells = c.value }) c.rest)))
     else none
 
 unfoldable pub read_code : List Code → List ℕ → Option (Cut Code)
 read_code before l =
-    if marked 73 78 code_length l
+    If marked 73 78 code_length l
     then some (cut (record { op = byte_at l 2; a = byte_at l 3; b = word_at l 4 }) (drop code_length l))
     else none
 
 -- the shape given for an address
 unfoldable pub shape_in : List Placed → ℕ → Option Shape
 shape_in [] i = none
-shape_in (p ∷ ps) i = if eqb p.address i then some p.found else shape_in ps i
+shape_in (p ∷ ps) i = If eqb p.address i then some p.found else shape_in ps i
 
 -- "by rising address", strictly (M24)
 abbrev pub follows : List Placed → ℕ → Bool
@@ -130,7 +130,7 @@ follows (p ∷ ps) a = ltb p.address a
 unfoldable pub read_shape : ℕ → ℕ → List Placed → List ℕ → Option (Cut Placed)
 read_shape classes instructions before l =
     let at = half_at l 2 in
-    if marked 83 72 shape_length l && (ltb at instructions && follows before at)
+    If marked 83 72 shape_length l && (ltb at instructions && follows before at)
     then keep (read_types classes (byte_at l 5) (drop shape_length l)) (λ c.
     some (cut (record { address = at; found = shape (byte_at l 4) (reverse c.value) }) c.rest))
     else none
@@ -159,13 +159,13 @@ head_reads l = marked 72 68 head_length l && (leb (byte_at l 2) 16 && (leb 1 (by
 -- "ZZ: empty, last"; bytes after it are a record that does not read (M4)
 unfoldable pub read_end : {A : Type 0} → A → ℕ → List ℕ → Parsed A
 read_end x i l =
-    if marked 90 90 end_length l then (if eqb (length l) end_length then parsed x (suc i) [] else unread (suc i)) else unread i
+    If marked 90 90 end_length l then (If eqb (length l) end_length then parsed x (suc i) [] else unread (suc i)) else unread i
 
 -- "Order: HD, CL, BD, IN by address, SH in any order, ZZ"; SH now by rising address, too
 unfoldable pub parse_macro : List ℕ → Parsed Macro
 parse_macro l =
     let classes = byte_at l 2 in let instructions = half_at l 4 in
-    if head_reads l then
+    If head_reads l then
     onward (records (read_class classes) classes [] 1 (drop head_length l)) (λ cs i k.
     onward (records (read_body classes instructions) (byte_at l 3) [] i k) (λ bs i k.
     onward (records read_code instructions [] i k) (λ xs i k.

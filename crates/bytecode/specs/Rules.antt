@@ -2,7 +2,7 @@
 use Rattle.std.specs.Prelude.{Bool, true, false, not, ◌&&◌, ◌||◌, List, [], ◌∷◌, ◌++◌, reverse, ℕ, zero, suc, ◌-◌, eqb, leb, ltb, length, take}
 use Rattle.std.proofs.Math.Option.{Option, none, some}
 use Rattle.std.proofs.Math.ListN.{get_elem?}
-use Rattle.logic.specs.Choice.{if◌then◌else◌}
+use Rattle.logic.specs.Choice.{If◌then◌else◌}
 use Rattle.logic.specs.Options.{is_some, keep, or_else}
 use Rattle.values.specs.Types.{Ty, integer, logical, reference, sames, fits}
 use Rattle.values.specs.Ends.{refusal, Judged, accepted, refused}
@@ -16,7 +16,7 @@ use Rattle.bytecode.specs.Instructions.{read_fader, take_hold, let_hold, assert,
 -- the body that an address stands in: the last that begins at it or before
 unfoldable pub body_of : List Body → ℕ → ℕ → ℕ
 body_of [] k i = k - 1
-body_of (b ∷ bs) k i = if leb b.first i then body_of bs (suc k) i else k - 1
+body_of (b ∷ bs) k i = If leb b.first i then body_of bs (suc k) i else k - 1
 
 unfoldable pub is_first : List Body → ℕ → Bool
 is_first [] i = false
@@ -54,7 +54,7 @@ operating (binary o) (t ∷ []) = wrong
 operating (binary o) (t ∷ (u ∷ ts)) = giving (op_type (binary o) (u ∷ t ∷ [])) (t ∷ u ∷ [])
 
 abbrev pub pushing : Macro → Value → Effect
-pushing m v = if known m (ty_of v) then plain [] (ty_of v ∷ []) else wrong
+pushing m v = If known m (ty_of v) then plain [] (ty_of v ∷ []) else wrong
 
 -- "10 call body b, not 0 (arguments fill its first cells …)", the first argument deepest (M23)
 abbrev pub calling : Option Body → Effect
@@ -107,14 +107,14 @@ pub data Flow : Type 0 where
 unfoldable pub strip : List Ty → List Ty → Option (List Ty)
 strip [] ts = some ts
 strip (u ∷ us) [] = none
-strip (u ∷ us) (t ∷ ts) = if fits t u then strip us ts else none
+strip (u ∷ us) (t ∷ ts) = If fits t u then strip us ts else none
 
 -- "a body's limits hold": 32 operands, 16 holds (M13)
 abbrev pub roomy : Shape → Bool
 roomy s = leb s.holds 16 && leb (length s.operands) 32
 
 abbrev pub on_if : Bool → Flow → Flow
-on_if b f = if b then f else broken
+on_if b f = If b then f else broken
 
 abbrev pub stripped : Option (List Ty) → (List Ty → Flow) → Flow
 stripped none f = broken
@@ -162,7 +162,7 @@ unfoldable pub into : Macro → ℕ → Option Shape
 into m zero = at_first
 into m (suc i) =
     let before = or_else (shape_in m.shapes i) (into m i) in
-    if is_first m.bodies (suc i) then at_first else keep before (λ s. passed (flow_at m i s))
+    If is_first m.bodies (suc i) then at_first else keep before (λ s. passed (flow_at m i s))
 
 -- an SH says what is found; code behind ops 0, 8, 11 and 20 is judged from its SH, reached or not (M14)
 unfoldable pub found_at : Macro → ℕ → Option Shape
@@ -215,7 +215,7 @@ fault_at m i = body_fault m.bodies 0 i || (shape_fault (shape_in m.shapes i) (in
 -- the lowest of the n addresses from i on at which a test holds
 unfoldable pub lowest : (ℕ → Bool) → ℕ → ℕ → Option ℕ
 lowest f zero i = none
-lowest f (suc n) i = let r = lowest f n (suc i) in if f i then some i else r
+lowest f (suc n) i = let r = lowest f n (suc i) in If f i then some i else r
 
 abbrev pub or_passes : Option ℕ → Macro → Judged Macro
 or_passes none m = accepted m

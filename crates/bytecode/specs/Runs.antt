@@ -1,6 +1,6 @@
 -- A run, and a list of runs, of the plain machine. (paper 01, Running)
 use Rattle.std.specs.Prelude.{List, [], ◌∷◌, ◌++◌, ℕ, zero, suc, ◌-◌, eqb, length, get_or}
-use Rattle.logic.specs.Choice.{if◌then◌else◌}
+use Rattle.logic.specs.Choice.{If◌then◌else◌}
 use Rattle.values.specs.Ends.{Refusal, refusal}
 use Rattle.values.specs.Trace.{Event, Item, event, reading}
 use Rattle.bytecode.specs.Macro.{Macro}
@@ -54,7 +54,7 @@ steps m bank (suc left) n s = after_step (step m bank s) s (suc n) (λ t. steps 
 -- 11: "readings not 64 bytes", of an ended state too (S8); "An ended state gives its end again with 0 steps." (S9)
 unfoldable pub run : Macro → List ℕ → ℕ → Machine → Ran
 run m readings allowance s =
-    if eqb (length readings) 64 then ends s 0 (λ t. steps m (bank_of readings) allowance 0 t) else with (refuses (refusal 11 0)) s
+    If eqb (length readings) 64 then ends s 0 (λ t. steps m (bank_of readings) allowance 0 t) else with (refuses (refusal 11 0)) s
 
 -- "The plain machine is fed the macro and each run's readings and allowance, and answers each run as above; one that 11 refuses leaves it
 -- as it is."

@@ -3,7 +3,7 @@ use Rattle.std.specs.Prelude.{◌&&◌, List, [], ◌∷◌, ◌++◌, reverse, 
 use Rattle.std.proofs.Math.Option.{Option, none, some}
 use Rattle.std.proofs.Math.ListN.{get_elem?}
 use Rattle.bytecode.specs.Words.{value_word, valid_word, word_value}
-use Rattle.logic.specs.Choice.{if◌then◌else◌}
+use Rattle.logic.specs.Choice.{If◌then◌else◌}
 use Rattle.logic.specs.Options.{keep}
 use Rattle.words.specs.Numbers.{byte_at, half_at, word_at, half, word}
 use Rattle.values.specs.Types.{ty_byte}
@@ -56,7 +56,7 @@ abbrev pub type_byte : Value → ℕ
 type_byte v = ty_byte (ty_of v)
 
 unfoldable pub read_value : ℕ → ℕ → ℕ → Option Value
-read_value classes t w = keep (ty_of_byte classes t) (λ ty. if valid_word ty w then some (word_value ty w) else none)
+read_value classes t w = keep (ty_of_byte classes t) (λ ty. If valid_word ty w then some (word_value ty w) else none)
 
 abbrev pub word_of_cell : Cell → ℕ
 word_of_cell (assigned v) = value_word v
@@ -134,7 +134,7 @@ unfoldable pub read_activation : Macro → List ℕ → List ℕ → Option Acti
 read_activation m l holds =
     let classes = length m.classes in let depth = byte_at l 1 in let open' = byte_at l 2 in
     keep (body_at m (byte_at l 0)) (λ b.
-    if leb (length b.cells) 32 && (leb depth max_operands && leb open' max_holds) then
+    If leb (length b.cells) 32 && (leb depth max_operands && leb open' max_holds) then
     keep (read_row (read_cell classes) (length b.cells) (drop cell_words_at l) (drop cell_types_at l)) (λ cells.
     keep (read_row (read_value classes) depth (drop operand_words_at l) (drop operand_types_at l)) (λ operands.
     some (record { body = byte_at l 0; address = half_at l 4; cells = cells; operands = reverse operands; holds = reverse (take open' holds) })))
@@ -160,12 +160,12 @@ read_records m (suc n) l = keep (read_record m (part 0 record_length l)) (λ r. 
 -- the header's open holds are the sum of the activations'
 abbrev pub assemble : ℕ → List Made → List Activation → Option Machine
 assemble holds rs [] = none
-assemble holds rs (f ∷ fs) = if eqb (length (all_holds (f ∷ fs))) holds then some (running (record { records = rs }) f fs) else none
+assemble holds rs (f ∷ fs) = If eqb (length (all_holds (f ∷ fs))) holds then some (running (record { records = rs }) f fs) else none
 
 unfoldable pub read_running : Macro → List ℕ → Option Machine
 read_running m l =
     let n = byte_at l 2 in let r = half_at l 4 in
-    if leb n max_activations && leb r max_records then
+    If leb n max_activations && leb r max_records then
     keep (read_activations m n (drop activations_at l) (part holds_at max_open_holds l) []) (λ fs.
     keep (read_records m r (drop records_at l)) (λ rs. assemble (half_at l 6) rs fs))
     else none
@@ -173,11 +173,11 @@ read_running m l =
 unfoldable pub read_unwinding : List ℕ → Option Machine
 read_unwinding l =
     let n = half_at l 6 in
-    if leb n max_open_holds then some (unwinding (reverse (part holds_at n l)) (end_by (byte_at l 1))) else none
+    If leb n max_open_holds then some (unwinding (reverse (part holds_at n l)) (end_by (byte_at l 1))) else none
 
 -- the state that the bytes in use stand for
 unfoldable pub decode : Macro → List ℕ → Option Machine
 decode m l =
-    if eqb (byte_at l 0) 0 then read_running m l else
-    if eqb (byte_at l 0) 1 then read_unwinding l else
-    if eqb (byte_at l 0) 2 then some (ended (byte_at l 1)) else none
+    If eqb (byte_at l 0) 0 then read_running m l else
+    If eqb (byte_at l 0) 1 then read_unwinding l else
+    If eqb (byte_at l 0) 2 then some (ended (byte_at l 1)) else none

@@ -10,7 +10,7 @@ use native.Mathlib.Omega.{arith}
 use Rattle.std.proofs.Math.Dec.{leb}
 use Rattle.std.proofs.Math.ListN.{length, get_elem?}
 use borrow.Author.Tests.{eqb-true, eqb-false, eq-eqb, leb-true, leb-false, ltb-true, le-leb, lt-leb, lt-ltb}
-use Rattle.logic.specs.Choice.{if◌then◌else◌}
+use Rattle.logic.specs.Choice.{If◌then◌else◌}
 use Rattle.bytecode.specs.Macro.{Body, Macro}
 use Rattle.bytecode.specs.Instructions.{body_at, end_of, from_to, in_body}
 use Rattle.bytecode.specs.Rules.{body_of, is_first}
@@ -113,7 +113,7 @@ same_body (b ∷ bs) k i h =
     go (leb b.first i) refl (eqb-false b.first (suc i) q.0) (same_body bs (suc k) i q.1)
   where
     go : (t : Bool) → leb b.first i ≡ t → (b.first ≡ suc i → ⊥) → body_of bs (suc k) (suc i) ≡ body_of bs (suc k) i
-        → (if leb b.first (suc i) then body_of bs (suc k) (suc i) else k - 1) ≡ (if t then body_of bs (suc k) i else k - 1)
+        → (If leb b.first (suc i) then body_of bs (suc k) (suc i) else k - 1) ≡ (If t then body_of bs (suc k) i else k - 1)
     go true e f r = let p = leb-true b.first i e in rw (le-leb b.first (suc i) (omega arith)) r
     go false e f r = let p = leb-false b.first i e in rw (lt-leb b.first (suc i) (omega arith)) refl
 

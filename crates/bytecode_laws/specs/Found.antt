@@ -9,7 +9,7 @@ use Prim.Native.Nat.{ℕ, zero, suc, ◌+◌, ◌≤◌, ◌<◌}
 use Rattle.std.proofs.Math.ListN.{get_elem?}
 use Rattle.std.proofs.lemmas.Bool.{not-false}
 use Rattle.logic.specs.Options.{keep, is_some, or_else}
-use Rattle.logic.specs.Choice.{if◌then◌else◌}
+use Rattle.logic.specs.Choice.{If◌then◌else◌}
 use Rattle.values.specs.Types.{Ty, logical, fits, sames, all_fit}
 use Rattle.bytecode.specs.Macro.{Body, Shape, shape, Macro, shape_in}
 use Rattle.bytecode.specs.Instructions.{Instr, body_at, in_body, instr_at}
@@ -34,7 +34,7 @@ strip-length [] ts rest h = let e : ts ≡ rest = cc in rw e (omega arith)
 strip-length (u ∷ us) [] rest h = never-some h
 strip-length (u ∷ us) (t ∷ ts) rest h = go (fits t u) h (strip-length us ts rest)
   where
-    go : (b : Bool) → (if b then strip us ts else none) ≡ some rest → (strip us ts ≡ some rest → length rest ≤ length ts)
+    go : (b : Bool) → (If b then strip us ts else none) ≡ some rest → (strip us ts ≡ some rest → length rest ≤ length ts)
         → length rest ≤ suc (length ts)
     go true h r = let z = r h in omega arith
     go false h r = never-some h
@@ -45,7 +45,7 @@ strip-is [] ts rest h = record { taken = []; fit = refl; parts = cc }
 strip-is (u ∷ us) [] rest h = never-some h
 strip-is (u ∷ us) (t ∷ ts) rest h = go (fits t u) refl h (strip-is us ts rest)
   where
-    go : (b : Bool) → fits t u ≡ b → (if b then strip us ts else none) ≡ some rest → (strip us ts ≡ some rest → Takes us ts rest)
+    go : (b : Bool) → fits t u ≡ b → (If b then strip us ts else none) ≡ some rest → (strip us ts ≡ some rest → Takes us ts rest)
         → Takes (u ∷ us) (t ∷ ts) rest
     go true e h r =
         let q = r h in record { taken = t ∷ q.taken; fit = both e q.fit; parts = ap (λ xs. t ∷ xs) q.parts }
@@ -171,7 +171,7 @@ module _ (m : Macro) (w : Passed m) where
   room-into zero t p h = subst (λ (x : Shape). roomy x ≡ true) (same_some h) refl
   room-into (suc i) t p h = go (is_first m.bodies (suc i)) h (λ s. room i s (omega arith) (λ u. room-into i u (omega arith)))
     where
-      go : (b : Bool) → (if b then at_first else keep (found_at m i) (λ s. passed (flow_at m i s))) ≡ some t
+      go : (b : Bool) → (If b then at_first else keep (found_at m i) (λ s. passed (flow_at m i s))) ≡ some t
           → ((s : Shape) → found_at m i ≡ some s → roomy s ≡ true) → roomy t ≡ true
       go true h r = subst (λ (x : Shape). roomy x ≡ true) (same_some h) refl
       go false h r =

@@ -3,7 +3,7 @@ use Rattle.std.specs.Prelude.{◌≡◌, refl, Bool, true, false, List, ◌↔�
 use Rattle.std.proofs.Common.{ap, ap₂, sym, ◌∙◌, subst, inl, inr, arith}
 use Rattle.std.proofs.Math.Option.{Option, none, some}
 use Rattle.std.proofs.Math.Decide.{dec_lt}
-use Rattle.logic.specs.Choice.{if◌then◌else◌}
+use Rattle.logic.specs.Choice.{If◌then◌else◌}
 use Rattle.values.specs.Ends.{Refusal, refusal, Judged, accepted, refused}
 use Rattle.bytecode.specs.Macro.{Macro, Parsed, parsed, unread, parse_macro, read_or8, read_macro}
 use Rattle.bytecode.specs.Rules.{fault_at, lowest, or_passes, judge_code, judge_macro}
@@ -32,7 +32,7 @@ unfolding lowest
 lowest-is f zero i = λ j p q. absurd (omega arith)
 lowest-is f (suc n) i = go (f i) refl (lowest f n (suc i)) (lowest-is f n (suc i))
   where
-    go : (b : Bool) → f i ≡ b → (o : Option ℕ) → Lowest f n (suc i) o → Lowest f (suc n) i (if b then some i else o)
+    go : (b : Bool) → f i ≡ b → (o : Option ℕ) → Lowest f n (suc i) o → Lowest f (suc n) i (If b then some i else o)
     go true e o r = (omega arith, omega arith, e, λ h p q. absurd (omega arith))
     go false e none r = λ j p q. from_next f i j e p (λ s. r j s (omega arith))
     go false e (some j) r = (omega (arith, r.0), omega (arith, r.1), r.2, λ h p q. from_next f i h e p (λ s. r.3 h s q))

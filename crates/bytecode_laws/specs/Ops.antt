@@ -6,7 +6,7 @@ use mathlib.Core.List.{List, [], ◌∷◌}
 use Rattle.std.proofs.Math.Option.{Option, none, some}
 use Rattle.std.proofs.Math.ListN.{get_elem?}
 use Rattle.std.specs.Int.Signed.{mag}
-use Rattle.logic.specs.Choice.{if◌then◌else◌}
+use Rattle.logic.specs.Choice.{If◌then◌else◌}
 use Rattle.words.specs.Numbers.{integer_of}
 use Rattle.words.specs.Laws.{integer-fits}
 use Rattle.logic.specs.Lists.{among}
@@ -71,7 +71,7 @@ stop-condition n h =
 
 module _ (c : Code) where
   either : (b : Bool) (o p : Option Instr) (x : Instr) → (b ≡ true → o ≡ some x → Proper c x) → (p ≡ some x → Proper c x)
-      → (if b then o else p) ≡ some x → Proper c x
+      → (If b then o else p) ≡ some x → Proper c x
   either true o p x f g h = f refl h
   either false o p x f g h = g h
 
@@ -164,7 +164,7 @@ module _ (m : Macro) (w : Passed m) where
     by-push : (v : Value) → Does m k i s (pushing m v) → Named (length m.classes) (ty_of v) × Does m k i s (plain [] (ty_of v ∷ []))
     by-push v d = pick (known m (ty_of v)) refl d
       where
-        pick : (b : Bool) → known m (ty_of v) ≡ b → Does m k i s (if b then plain [] (ty_of v ∷ []) else wrong)
+        pick : (b : Bool) → known m (ty_of v) ≡ b → Does m k i s (If b then plain [] (ty_of v ∷ []) else wrong)
             → Named (length m.classes) (ty_of v) × Does m k i s (plain [] (ty_of v ∷ []))
         pick true e d = (known-named m (ty_of v) e, d)
         pick false e d = absurd d

@@ -6,7 +6,7 @@ use Rattle.std.proofs.Math.Option.{Option, none, some}
 use Rattle.std.proofs.Math.ListN.{get_elem?}
 use Rattle.std.proofs.lemmas.List.{length-reverse}
 use Rattle.logic.specs.Options.{keep}
-use Rattle.logic.specs.Choice.{if◌then◌else◌}
+use Rattle.logic.specs.Choice.{If◌then◌else◌}
 use Rattle.words.specs.Numbers.{byte_at, half_at, word_at}
 use Rattle.words.specs.Laws.{Bytes, two, four, number-below}
 use Rattle.values.specs.Types.{Ty, integer, logical, bits, reference}
@@ -36,7 +36,7 @@ unfolding ty_of_byte
 named-byte n t ty h = go (eqb t 1) (eqb t 2) (eqb t 3) (leb 16 t && ltb (t - 16) n) refl h
   where
     go : (a b c d : Bool) → (leb 16 t && ltb (t - 16) n) ≡ d
-        → (if a then some integer else if b then some logical else if c then some bits else if d then some (reference (t - 16)) else none) ≡ some ty
+        → (If a then some integer else If b then some logical else If c then some bits else If d then some (reference (t - 16)) else none) ≡ some ty
         → Named n ty
     go true b c d e h = subst (Named n) (same_some h) tt
     go false true c d e h = subst (Named n) (same_some h) tt
@@ -80,7 +80,7 @@ result-read : (n t : ℕ) (ts : List Ty) → read_result n t ≡ some ts → Res
 unfolding read_result
 result-read n t ts h = go (eqb t 0) h
   where
-    go : (b : Bool) → (if b then some [] else keep (ty_of_byte n t) (λ ty. some (ty ∷ []))) ≡ some ts → Result n ts
+    go : (b : Bool) → (If b then some [] else keep (ty_of_byte n t) (λ ty. some (ty ∷ []))) ≡ some ts → Result n ts
     go true h = subst (Result n) (same_some h) (omega arith, tt)
     go false h =
         let p = kept (ty_of_byte n t) (λ ty. some (ty ∷ [])) ts h in
@@ -227,7 +227,7 @@ ended : {A : Type 0} (x : A) (i : ℕ) (l : List ℕ) (y : A) (j : ℕ) (k : Lis
 unfolding read_end
 ended {A} x i l y j k h = go (marked 90 90 2 l) (eqb (length l) 2) h
   where
-    go : (a b : Bool) → (if a then (if b then parsed x (suc i) [] else unread (suc i)) else unread i) ≡ parsed y j k → x ≡ y
+    go : (a b : Bool) → (If a then (If b then parsed x (suc i) [] else unread (suc i)) else unread i) ≡ parsed y j k → x ≡ y
     go true true h = (parsed-same x y (suc i) j [] k h).0
     go true false h = not-parsed h
     go false b h = not-parsed h
@@ -256,7 +256,7 @@ module _ (cs : List (List Ty)) (bs : List Body) (xs : List Code) (ss : List Plac
         ascends = rises-reverse (λ (p : Placed). p.address) follows follows-above ss [] descends tt;
       }
 
-headed : (b : Bool) (p : Parsed Macro) (m : Macro) (i : ℕ) (k : List ℕ) → (if b then p else unread 0) ≡ parsed m i k → (b ≡ true) × (p ≡ parsed m i k)
+headed : (b : Bool) (p : Parsed Macro) (m : Macro) (i : ℕ) (k : List ℕ) → (If b then p else unread 0) ≡ parsed m i k → (b ≡ true) × (p ≡ parsed m i k)
 headed true p m i k h = (refl, h)
 headed false p m i k h = not-parsed h
 

@@ -7,7 +7,7 @@ use Rattle.std.proofs.Math.ListN.{get_elem?}
 use Rattle.std.proofs.lemmas.List.Edits.{sets, sets-eq}
 use Rattle.std.proofs.Math.Seq.{take-append-add, drop-append-add}
 use Rattle.std.proofs.lemmas.List.{take-append-le}
-use Rattle.logic.specs.Choice.{if◌then◌else◌}
+use Rattle.logic.specs.Choice.{If◌then◌else◌}
 use Rattle.words.specs.Numbers.{byte_at, half_at}
 use Rattle.values.specs.Types.{Ty}
 use Rattle.bytecode.specs.Macro.{Macro}
@@ -65,8 +65,8 @@ clear_running m n r h l =
 
 unfoldable pub cleared : Macro → List ℕ → List ℕ
 cleared m l =
-    if eqb (byte_at l 0) 0 then clear_running m (byte_at l 2) (half_at l 4) (half_at l 6) l else
-    if eqb (byte_at l 0) 1 then wipes l 0 ((2 ⋯ 6) ∷ (8 ⋯ 10528) ∷ (10528 + half_at l 6 ⋯ 24576) ∷ []) else wipes l 0 ((2 ⋯ 24576) ∷ [])
+    If eqb (byte_at l 0) 0 then clear_running m (byte_at l 2) (half_at l 4) (half_at l 6) l else
+    If eqb (byte_at l 0) 1 then wipes l 0 ((2 ⋯ 6) ∷ (8 ⋯ 10528) ∷ (10528 + half_at l 6 ⋯ 24576) ∷ []) else wipes l 0 ((2 ⋯ 24576) ∷ [])
 
 -- ── clearing part by part: x, which stands at offset o from the base, becomes y ──
 pub record Clears (b o : ℕ) (gs : List Gap) (x y : List ℕ) : Type 0 where

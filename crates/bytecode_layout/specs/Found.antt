@@ -7,7 +7,7 @@ use Rattle.std.proofs.Math.Option.{Option, none, some}
 use Prim.Native.Nat.{ℕ, zero, suc, ◌≤◌, ◌<◌}
 use Rattle.std.proofs.Math.ListN.{get_elem?}
 use Rattle.logic.specs.Options.{keep, or_else}
-use Rattle.logic.specs.Choice.{if◌then◌else◌}
+use Rattle.logic.specs.Choice.{If◌then◌else◌}
 use Rattle.values.specs.Types.{Ty, integer, logical, bits, reference, sames, fits}
 use Rattle.values.specs.Operators.{negate, absolute, complement, plus, minus, times, divide, remainder, less, at_most, greater, at_least, equal, unequal, both, either}
 use Rattle.values.specs.Operators.{shift_left, shift_right, Operator, unary, binary, any_one, op_type}
@@ -33,7 +33,7 @@ Plain t = (n : ℕ) → Named n t
 asked-plain : (us : List Ty) (g : Ty) → Plain g → (ts : List Ty) (t : Ty) → asks us g ts ≡ some t → Plain t
 asked-plain us g p ts t e = go (sames ts us) e
   where
-    go : (b : Bool) → (if b then some g else none) ≡ some t → Plain t
+    go : (b : Bool) → (If b then some g else none) ≡ some t → Plain t
     go true e = rw (← same_some e) p
     go false e = never-some e
 
@@ -104,7 +104,7 @@ module _ (m : Macro) (classes : (c : ℕ) (ts : List Ty) → get_elem? m.classes
   pushing-named : (v : Value) → Gives m (pushing m v)
   pushing-named v = go (known m (ty_of v)) refl
     where
-      go : (b : Bool) → known m (ty_of v) ≡ b → Gives m (if b then plain [] (ty_of v ∷ []) else wrong)
+      go : (b : Bool) → known m (ty_of v) ≡ b → Gives m (If b then plain [] (ty_of v ∷ []) else wrong)
       go true e = (known-named m (ty_of v) e, tt)
       go false e = tt
 
@@ -217,7 +217,7 @@ module _ (m : Macro) (classes : (c : ℕ) (ts : List Ty) → get_elem? m.classes
   into-named (suc i) = go (is_first m.bodies (suc i)) (or-named (shape_in m.shapes i) (into m i) (shapes i) (into-named i))
     where
       go : (b : Bool) → Fine (or_else (shape_in m.shapes i) (into m i))
-          → Fine (if b then at_first else keep (or_else (shape_in m.shapes i) (into m i)) (λ s. passed (flow_at m i s)))
+          → Fine (If b then at_first else keep (or_else (shape_in m.shapes i) (into m i)) (λ s. passed (flow_at m i s)))
       go true f = fine 0 [] tt
       go false f = λ s e.
           let k = kept (or_else (shape_in m.shapes i) (into m i)) _ s e in

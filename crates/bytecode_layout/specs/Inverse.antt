@@ -11,7 +11,7 @@ use Rattle.std.proofs.Math.ListN.{length, take, get_elem?}
 use Rattle.std.proofs.Math.Seq.{take-add}
 use borrow.Author.Tests.{eqb-true, leb-true, ltb-true}
 use Rattle.bytecode.specs.Words.{log_word, value_word, valid_word, word_value}
-use Rattle.logic.specs.Choice.{if◌then◌else◌}
+use Rattle.logic.specs.Choice.{If◌then◌else◌}
 use Rattle.words.specs.Numbers.{byte_at, half_at, word_at, word}
 use Rattle.words.specs.Laws.{four, Bytes, number-below, bytes-slice, word_back}
 use Rattle.values.specs.Types.{Ty, integer, logical, bits, reference, ty_byte}
@@ -24,12 +24,12 @@ use Rattle.logic.specs.Tests.{halves}
 use Rattle.logic.specs.OptionLaws.{chosen, kept, same_some}
 
 -- ── a value ──
-pub pick : {A : Type 0} (b : Bool) (x y z : A) → (if b then x else y) ≡ z → ((b ≡ true) × (x ≡ z)) ⊎ ((b ≡ false) × (y ≡ z))
+pub pick : {A : Type 0} (b : Bool) (x y z : A) → (If b then x else y) ≡ z → ((b ≡ true) × (x ≡ z)) ⊎ ((b ≡ false) × (y ≡ z))
 pick true x y z h = inl (refl, h)
 pick false x y z h = inr (refl, h)
 
 module _ (n t : ℕ) (ty : Ty) where
-  class-read : (if leb 16 t && ltb (t - 16) n then some (reference (t - 16)) else none) ≡ some ty → ty_byte ty ≡ t
+  class-read : (If leb 16 t && ltb (t - 16) n then some (reference (t - 16)) else none) ≡ some ty → ty_byte ty ≡ t
   class-read h =
       let a = chosen (leb 16 t && ltb (t - 16) n) (some (reference (t - 16))) ty h in
       let b = leb-true 16 t (halves (leb 16 t) (ltb (t - 16) n) a.0).0 in
@@ -39,17 +39,17 @@ module _ (n t : ℕ) (ty : Ty) where
   unfolding ty_of_byte
   type-read h = go (pick (eqb t 1) (some integer) _ (some ty) h)
     where
-      go2 : ((eqb t 3 ≡ true) × (some bits ≡ some ty)) ⊎ ((eqb t 3 ≡ false) × ((if leb 16 t && ltb (t - 16) n then some (reference (t - 16)) else none) ≡ some ty)) → ty_byte ty ≡ t
+      go2 : ((eqb t 3 ≡ true) × (some bits ≡ some ty)) ⊎ ((eqb t 3 ≡ false) × ((If leb 16 t && ltb (t - 16) n then some (reference (t - 16)) else none) ≡ some ty)) → ty_byte ty ≡ t
       go2 (inl e) = rw (← same_some e.1) (sym (eqb-true t 3 e.0))
       go2 (inr e) = class-read e.1
 
       go1 : ((eqb t 2 ≡ true) × (some logical ≡ some ty)) ⊎ ((eqb t 2 ≡ false)
-          × ((if eqb t 3 then some bits else if leb 16 t && ltb (t - 16) n then some (reference (t - 16)) else none) ≡ some ty)) → ty_byte ty ≡ t
+          × ((If eqb t 3 then some bits else If leb 16 t && ltb (t - 16) n then some (reference (t - 16)) else none) ≡ some ty)) → ty_byte ty ≡ t
       go1 (inl e) = rw (← same_some e.1) (sym (eqb-true t 2 e.0))
       go1 (inr e) = go2 (pick (eqb t 3) (some bits) _ (some ty) e.1)
 
       go : ((eqb t 1 ≡ true) × (some integer ≡ some ty))
-          ⊎ ((eqb t 1 ≡ false) × ((if eqb t 2 then some logical else if eqb t 3 then some bits else if leb 16 t && ltb (t - 16) n then some (reference (t - 16)) else none) ≡ some ty)) → ty_byte ty ≡ t
+          ⊎ ((eqb t 1 ≡ false) × ((If eqb t 2 then some logical else If eqb t 3 then some bits else If leb 16 t && ltb (t - 16) n then some (reference (t - 16)) else none) ≡ some ty)) → ty_byte ty ≡ t
       go (inl e) = rw (← same_some e.1) (sym (eqb-true t 1 e.0))
       go (inr e) = go1 (pick (eqb t 2) (some logical) _ (some ty) e.1)
 

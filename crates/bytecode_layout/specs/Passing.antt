@@ -1,7 +1,7 @@
 -- A macro that passes the loading check is Sized.
 use Rattle.std.specs.Prelude.{◌≡◌, Bool, true, false, List, [], ◌∷◌, ℕ, eqb, length}
 use Rattle.std.proofs.Math.Option.{some}
-use Rattle.logic.specs.Choice.{if◌then◌else◌}
+use Rattle.logic.specs.Choice.{If◌then◌else◌}
 use Rattle.bytecode.specs.Macro.{Macro, Shape, Placed, shape_in}
 use Rattle.logic.specs.Lists.{Each}
 use Rattle.logic.specs.OptionLaws.{never-some, same_some}
@@ -16,7 +16,7 @@ unfolding shape_in
 shape-named m [] h i s e = never-some e
 shape-named m (p ∷ ps) h i s e = go (eqb p.address i) (λ d. shape-named m ps h.1 i s d) e
   where
-    go : (b : Bool) → (shape_in ps i ≡ some s → AllNamed m s.operands) → (if b then some p.found else shape_in ps i) ≡ some s → AllNamed m s.operands
+    go : (b : Bool) → (shape_in ps i ≡ some s → AllNamed m s.operands) → (If b then some p.found else shape_in ps i) ≡ some s → AllNamed m s.operands
     go true f e = rw (← same_some e) h.0.named
     go false f e = f e
 

@@ -10,7 +10,7 @@ use Rattle.std.proofs.Math.Dec.{eqb, leb}
 use Rattle.std.proofs.Math.ListN.{length, take, drop, get_elem?, length-append, length-take, length-reverse, drop_of_length-le}
 use Rattle.std.proofs.lemmas.List.{length-map}
 use Rattle.std.proofs.Math.Seq.{length-take-le, take-take, drop-drop, drop-cons}
-use Rattle.logic.specs.Choice.{if◌then◌else◌}
+use Rattle.logic.specs.Choice.{If◌then◌else◌}
 use Rattle.words.specs.Numbers.{byte_at, half_at}
 use Rattle.words.specs.Laws.{Bytes}
 use Rattle.values.specs.Types.{Ty}
@@ -284,13 +284,13 @@ module _ (m : Macro) (small-classes : (c : ℕ) (ts : List Ty) → get_elem? m.c
   unfolding decode cleared
   normal s e = go (pick (eqb (byte_at l 0) 0) (read_running m l) _ (some s) e)
     where
-      go2 : eqb (byte_at l 0) 0 ≡ false → eqb (byte_at l 0) 1 ≡ false → (if eqb (byte_at l 0) 2 then some (ended (byte_at l 1)) else none) ≡ some s → cleared m l ≡ encode s
+      go2 : eqb (byte_at l 0) 0 ≡ false → eqb (byte_at l 0) 1 ≡ false → (If eqb (byte_at l 0) 2 then some (ended (byte_at l 1)) else none) ≡ some s → cleared m l ≡ encode s
       go2 p0 p1 d =
           let c = chosen (eqb (byte_at l 0) 2) (some (ended (byte_at l 1))) s d in
           rw (p0, p1, ← same_some c.1) (ended-cleared l long small (eqb-true (byte_at l 0) 2 c.0))
 
       go1 : eqb (byte_at l 0) 0 ≡ false
-          → ((eqb (byte_at l 0) 1 ≡ true) × (read_unwinding l ≡ some s)) ⊎ ((eqb (byte_at l 0) 1 ≡ false) × ((if eqb (byte_at l 0) 2 then some (ended (byte_at l 1)) else none) ≡ some s))
+          → ((eqb (byte_at l 0) 1 ≡ true) × (read_unwinding l ≡ some s)) ⊎ ((eqb (byte_at l 0) 1 ≡ false) × ((If eqb (byte_at l 0) 2 then some (ended (byte_at l 1)) else none) ≡ some s))
           → cleared m l ≡ encode s
       go1 p0 (inl d) =
           let c = unwinding-read s d.1 in
@@ -298,7 +298,7 @@ module _ (m : Macro) (small-classes : (c : ℕ) (ts : List Ty) → get_elem? m.c
       go1 p0 (inr d) = go2 p0 d.0 d.1
 
       go : ((eqb (byte_at l 0) 0 ≡ true) × (read_running m l ≡ some s))
-          ⊎ ((eqb (byte_at l 0) 0 ≡ false) × ((if eqb (byte_at l 0) 1 then read_unwinding l else if eqb (byte_at l 0) 2 then some (ended (byte_at l 1)) else none) ≡ some s))
+          ⊎ ((eqb (byte_at l 0) 0 ≡ false) × ((If eqb (byte_at l 0) 1 then read_unwinding l else If eqb (byte_at l 0) 2 then some (ended (byte_at l 1)) else none) ≡ some s))
           → cleared m l ≡ encode s
       go (inl d) = rw d.0 (running-read (eqb-true (byte_at l 0) 0 d.0) s d.1)
       go (inr d) = go1 d.0 (pick (eqb (byte_at l 0) 1) (read_unwinding l) _ (some s) d.1)

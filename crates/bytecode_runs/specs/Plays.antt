@@ -6,7 +6,7 @@ use Rattle.std.proofs.Common.{sym, ◌∙◌, eqb-true}
 use mathlib.Core.List.{List, [], ◌∷◌, ◌++◌}
 use Prim.Native.Nat.{ℕ, zero, suc, ◌+◌, ◌-◌, ◌/◌}
 use native.Mathlib.Omega.{arith}
-use Rattle.logic.specs.Choice.{if◌then◌else◌}
+use Rattle.logic.specs.Choice.{If◌then◌else◌}
 use Rattle.logic.specs.Lists.{Each}
 use Rattle.words.specs.Laws.{Bytes}
 use Rattle.values.specs.Ends.{accepted}
@@ -64,7 +64,7 @@ play_feeds m readings (suc room) left s =
 -- the runs of a call: a play's readings of wrong length are refused in one
 abbrev pub call_feeds : Macro → Call → Machine → List Feed
 call_feeds m (one f) s = f ∷ []
-call_feeds m (many f answers) s = if eqb (length f.readings) 64 then play_feeds m f.readings (length answers / 8) f.allowance s else f ∷ []
+call_feeds m (many f answers) s = If eqb (length f.readings) 64 then play_feeds m f.readings (length answers / 8) f.allowance s else f ∷ []
 
 -- what runs of the plain machine show as a play, after so many steps and events
 unfoldable pub shown_play : List Ran → ℕ → ℕ → Machine → List ℕ → Played
@@ -176,7 +176,7 @@ module _ (code : List ℕ) (m : Macro) (h : judge_macro code ≡ accepted m) (w 
   call-fed (one f) b s = (b, tt)
   call-fed (many f answers) b s = by (eqb (length f.readings) 64)
     where
-      by : (t : Bool) → Fed (if t then play_feeds m f.readings (length answers / 8) f.allowance s else f ∷ [])
+      by : (t : Bool) → Fed (If t then play_feeds m f.readings (length answers / 8) f.allowance s else f ∷ [])
       by true = feeds-fed f.readings b f.allowance (length answers / 8) f.allowance s
       by false = (b, tt)
 
@@ -198,7 +198,7 @@ module _ (code : List ℕ) (m : Macro) (h : judge_macro code ≡ accepted m) (w 
       tested = run_is code m h w (record { readings = f.readings; allowance = 0 }) b s q
 
       by : (t : Bool) → eqb (length f.readings) 64 ≡ t
-          → let rs = runs m (if t then play_feeds m f.readings (length answers / 8) f.allowance s else f ∷ []) s in
+          → let rs = runs m (If t then play_feeds m f.readings (length answers / 8) f.allowance s else f ∷ []) s in
           (play_on code (encode s) f.readings f.allowance answers ≡ shown_play rs 0 0 s answers) × ((shown_play rs 0 0 s answers).state ≡ encode (state_after s rs))
       by true e =
           let r = run m f.readings 0 s in

@@ -6,7 +6,7 @@ use mathlib.Core.List.{List, [], ◌∷◌, ◌++◌, reverse, reverse_aux}
 use Rattle.std.proofs.Math.Option.{Option, some}
 use Rattle.std.proofs.lemmas.List.{length-reverse}
 use Rattle.logic.specs.Lists.{all}
-use Rattle.logic.specs.Choice.{if◌then◌else◌}
+use Rattle.logic.specs.Choice.{If◌then◌else◌}
 use Rattle.values.specs.Types.{Ty, integer, logical, reference, fits, all_fit}
 use Rattle.values.specs.Values.{Value, ref, ty_of, tys_of, as_integer, as_logical, Reference, as_reference}
 use Rattle.bytecode.specs.Macro.{Body, shape, Macro}
@@ -157,7 +157,7 @@ module _ (m : Macro) (s : Machine) where
   demanded true why x e h = h
   demanded false why x e h = never e
 
-  pub chosen : (b : Bool) (x y : Stepped) → (b ≡ true → Steps m s x) → (b ≡ false → Steps m s y) → Steps m s (if b then x else y)
+  pub chosen : (b : Bool) (x y : Stepped) → (b ≡ true → Steps m s x) → (b ≡ false → Steps m s y) → Steps m s (If b then x else y)
   chosen true x y f g = f refl
   chosen false x y f g = g refl
 

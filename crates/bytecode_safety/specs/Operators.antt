@@ -6,7 +6,7 @@ use Rattle.std.proofs.Math.Option.{Option, none, some}
 use Rattle.std.specs.Int.Signed.{mag, lt_z, le_z}
 use Rattle.logic.specs.Lists.{among}
 use Rattle.logic.specs.Options.{or_else}
-use Rattle.logic.specs.Choice.{if◌then◌else◌}
+use Rattle.logic.specs.Choice.{If◌then◌else◌}
 use Rattle.values.specs.Types.{Ty, integer, logical, bits, reference, sames}
 use Rattle.values.specs.Ends.{overflow, zero_divisor}
 use Rattle.values.specs.Operators.{Unary, negate, absolute, complement, Binary, plus, minus, times, divide, remainder, less, at_most, greater, at_least, equal, unequal}
@@ -53,7 +53,7 @@ settled : (z : ℤ) → Fine integer (map_outcome int (settle z))
 unfolding settle sound_value among
 settled z = go (ltb (mag z) 2147483648) refl
   where
-    go : (b : Bool) → ltb (mag z) 2147483648 ≡ b → Fine integer (map_outcome int (if b then gives z else ends overflow))
+    go : (b : Bool) → ltb (mag z) 2147483648 ≡ b → Fine integer (map_outcome int (If b then gives z else ends overflow))
     go true e = (refl, λ rs. e)
     go false e = refl
 
@@ -61,7 +61,7 @@ divided : (d z : ℤ) → Fine integer (map_outcome int (unless_zero d (settle z
 unfolding among
 divided d z = go (is_zero d)
   where
-    go : (b : Bool) → Fine integer (map_outcome int (if b then ends zero_divisor else settle z))
+    go : (b : Bool) → Fine integer (map_outcome int (If b then ends zero_divisor else settle z))
     go true = refl
     go false = settled z
 
@@ -90,7 +90,7 @@ left_below : (n x : ℕ) → left_by n x < 4294967296
 unfolding left_by
 left_below n x = go (ltb n 32)
   where
-    go : (b : Bool) → (if b then (x * 2 ^ n) % 4294967296 else 0) < 4294967296
+    go : (b : Bool) → (If b then (x * 2 ^ n) % 4294967296 else 0) < 4294967296
     go true = mod-lt (x * 2 ^ n) (omega arith)
     go false = omega arith
 
@@ -98,7 +98,7 @@ right-below : (n x : ℕ) → x < 4294967296 → right_by n x < 4294967296
 unfolding right_by
 right-below n x h = go (ltb n 32)
   where
-    go : (b : Bool) → (if b then x / 2 ^ n else 0) < 4294967296
+    go : (b : Bool) → (If b then x / 2 ^ n else 0) < 4294967296
     go true = omega (arith, div-le_self x (2 ^ n))
     go false = omega arith
 
@@ -120,7 +120,7 @@ sound-bits rs n h = ltb-true n 4294967296 h
 took : (asked : List Ty) (given : Ty) (ts : List Ty) (t : Ty) → takes asked given ts ≡ some t → (ts ≡ asked) × (given ≡ t)
 took asked given ts t h = go (sames ts asked) refl h
   where
-    go : (b : Bool) → sames ts asked ≡ b → (if b then some given else none) ≡ some t → (ts ≡ asked) × (given ≡ t)
+    go : (b : Bool) → sames ts asked ≡ b → (If b then some given else none) ≡ some t → (ts ≡ asked) × (given ≡ t)
     go true e h = (sames→≡ ts asked e, same_some h)
     go false e h = never-some h
 

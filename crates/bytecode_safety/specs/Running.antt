@@ -12,7 +12,7 @@ use Rattle.std.proofs.Math.ListN.{get_elem?, take}
 use borrow.Author.Tests.{eqb-true, eqb-false, leb-true, le-leb}
 use Rattle.bytecode.specs.Instructions.{cells_of}
 use Rattle.logic.specs.Lists.{all, Each}
-use Rattle.logic.specs.Choice.{if◌then◌else◌}
+use Rattle.logic.specs.Choice.{If◌then◌else◌}
 use Rattle.words.specs.Laws.{Bytes}
 use Rattle.values.specs.Ends.{refusal, is_condition}
 use Rattle.values.specs.Values.{tys_of, fresh_all}
@@ -242,7 +242,7 @@ module _ (m : Macro) (w : Passed m) where
   safe-run f b s h = go (eqb (length f.readings) 64) refl
     where
       go : (t : Bool) → eqb (length f.readings) 64 ≡ t
-          → let x = (if t then ends_or s 0 (λ t. steps m (bank_of f.readings) f.allowance 0 t) else with
+          → let x = (If t then ends_or s 0 (λ t. steps m (bank_of f.readings) f.allowance 0 t) else with
           (refuses (refusal 11 0)) s) in SafeRun m f s x × Account s x
       go true e = read-runs f b s h (eqb-true (length f.readings) 64 e)
       go false e =

@@ -13,7 +13,7 @@ use Rattle.std.proofs.Math.Seq.{length-take-le}
 use borrow.Author.Tests.{eq-eqb, le-leb, leb-true, ltb-true, lt-ltb}
 use Rattle.logic.specs.Lists.{all, among, Each}
 use Rattle.logic.specs.Options.{keep}
-use Rattle.logic.specs.Choice.{if◌then◌else◌}
+use Rattle.logic.specs.Choice.{If◌then◌else◌}
 use Rattle.values.specs.Types.{Ty, integer, logical, reference, fits, sames, all_fit}
 use Rattle.values.specs.Ends.{is_condition, field_of_null, assert_false, out_of_range, too_many_activations, too_many_records}
 use Rattle.values.specs.Operators.{Unary, unary, Binary, binary, op_type}
@@ -239,7 +239,7 @@ module _ (m : Macro) (w : Passed m) (bank : ℕ → ℕ) (low : (n : ℕ) → ba
       (a-logical m state q.value _ q.fit (λ b. pick b q.others (rest q) q.they-sound))
     where
       pick : (b : Bool) (vs : List Value) → tys_of vs ≡ d.0 → all (sound_value rs) vs ≡ true
-          → Steps m state (goes (if b then suc f.address else j) vs here)
+          → Steps m state (goes (If b then suc f.address else j) vs here)
       pick true vs e v = jumps_to (suc f.address) vs (with-types e d.2) v
       pick false vs e v = jumps_to j vs (with-types e d.3) v
 
@@ -277,7 +277,7 @@ module _ (m : Macro) (w : Passed m) (bank : ℕ → ℕ) (low : (n : ℕ) → ba
       }
 
       pick : (c : Bool) → ltb (length (f ∷ fs)) 32 ≡ c
-          → Steps m state (if c then moved [] (running sh (activation k b vs) (at f.address us f ∷ fs)) else condition too_many_activations here)
+          → Steps m state (If c then moved [] (running sh (activation k b vs) (at f.address us f ∷ fs)) else condition too_many_activations here)
       pick false c = by_condition too_many_activations (unfold among in refl)
       pick true c =
           record {
@@ -583,6 +583,6 @@ module _ (m : Macro) (w : Passed m) (bank : ℕ → ℕ) (low : (n : ℕ) → ba
   unfolding step fetch
   safe-running =
       let o = ops m w f.body f.address found s.allowed in
-      subst (λ b. Steps m state (given (if b then instr_at m f.address else none) no_step (λ i. act m bank i here))) (sym s.allowed.inside)
+      subst (λ b. Steps m state (given (If b then instr_at m f.address else none) no_step (λ i. act m bank i here))) (sym s.allowed.inside)
       (subst (λ y. Steps m state (given y no_step (λ i. act m bank i here))) (sym o.1)
       (safe-act o.0 o.1 o.2))

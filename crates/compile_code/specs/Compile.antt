@@ -1,7 +1,7 @@
 -- The compiler on trees. No reader need believe it: demands 2 and 3 say what it comes to.
 use Rattle.std.specs.Prelude.{Bool, true, false, ◌||◌, List, [], ◌∷◌, ℕ, suc, ◌+◌, eqb, ℤ, pos, negsuc, length}
 use Rattle.std.proofs.Math.Option.{Option, none, some}
-use Rattle.logic.specs.Choice.{if◌then◌else◌}
+use Rattle.logic.specs.Choice.{If◌then◌else◌}
 use Rattle.words.specs.Numbers.{word_of}
 use Rattle.values.specs.Types.{Ty, integer, logical, bits, reference}
 use Rattle.values.specs.Operators.{unary, binary, Binary, plus, minus, times, divide, remainder, less, at_most, greater, at_least, equal, unequal, both, either, shift_left, shift_right}
@@ -21,7 +21,7 @@ use Rattle.compile_code.specs.Code.{Code, nil, op, mark, cell, ◌▸◌, At, at
 -- the place of the first that is a
 unfoldable pub index_of : ℕ → List ℕ → ℕ
 index_of a [] = 0
-index_of a (b ∷ bs) = if eqb b a then 0 else suc (index_of a bs)
+index_of a (b ∷ bs) = If eqb b a then 0 else suc (index_of a bs)
 
 unfoldable pub among_names : ℕ → List ℕ → Bool
 among_names a [] = false
@@ -68,7 +68,7 @@ pub record Field : Type 0 where
 unfoldable pub field_in : ℕ → ℕ → List Class → Field
 field_in a k [] = record { class = k; index = 0 }
 field_in a k (c ∷ cs) =
-    if among_names a (names_of c.fields) then record { class = k; index = index_of a (names_of c.fields) } else field_in a (suc k) cs
+    If among_names a (names_of c.fields) then record { class = k; index = index_of a (names_of c.fields) } else field_in a (suc k) cs
 
 abbrev pub numbered : List ℕ → Ty → Ty
 numbered cs integer = integer
@@ -119,7 +119,7 @@ unfoldable pub bound_at : ℕ → List Around → Option Cell
 bound_at a [] = none
 bound_at a (inside s ∷ Γ) = bound_at a Γ
 bound_at a (outermost s ∷ Γ) = bound_at a Γ
-bound_at a (bound b c ∷ Γ) = if eqb b a then some (kept own c) else bound_at a Γ
+bound_at a (bound b c ∷ Γ) = If eqb b a then some (kept own c) else bound_at a Γ
 bound_at a (global o b c ∷ Γ) = bound_at a Γ
 bound_at a (held g ∷ Γ) = bound_at a Γ
 bound_at a (labels is x ∷ Γ) = bound_at a Γ
@@ -129,7 +129,7 @@ global_at a [] = none
 global_at a (inside s ∷ Γ) = global_at a Γ
 global_at a (outermost s ∷ Γ) = global_at a Γ
 global_at a (bound b c ∷ Γ) = global_at a Γ
-global_at a (global o b c ∷ Γ) = if eqb b a then some (kept o c) else global_at a Γ
+global_at a (global o b c ∷ Γ) = If eqb b a then some (kept o c) else global_at a Γ
 global_at a (held g ∷ Γ) = global_at a Γ
 global_at a (labels is x ∷ Γ) = global_at a Γ
 
@@ -160,14 +160,14 @@ passing (labels is x ∷ Γ) = the_labels is ∷ passing Γ
 
 unfoldable pub has_label : ℕ → Items → Bool
 has_label a no_item = false
-has_label a (label b is) = if eqb a b then true else has_label a is
+has_label a (label b is) = If eqb a b then true else has_label a is
 has_label a (item s is) = has_label a is
 
 -- a release for each hold, and the jump
 unfoldable pub size_goto : List Passing → ℕ → ℕ
 size_goto [] a = 1
 size_goto (a_hold ∷ Θ) a = suc (size_goto Θ a)
-size_goto (the_labels is ∷ Θ) a = if has_label a is then 1 else size_goto Θ a
+size_goto (the_labels is ∷ Θ) a = If has_label a is then 1 else size_goto Θ a
 
 -- a variable: push and store; a hold: hold and release
 unfoldable pub size_head : List Decl → List Passing → (List Passing → ℕ) → ℕ
@@ -189,7 +189,7 @@ size_way if_true = 3
 size_way if_false = 3
 
 abbrev pub logically : Bool → Way → Way
-logically b w = if b then w else marked
+logically b w = If b then w else marked
 
 abbrev pub way_of : Binary → Bool → Way
 way_of plus b = plainly
@@ -260,7 +260,7 @@ unfoldable mutual
 -- the address of a label among statements that begin at an address
 unfoldable pub label_at : Items → List Scope → List Passing → ℕ → ℕ → ℕ
 label_at no_item ss Θ x a = x
-label_at (label b is) ss Θ x a = if eqb a b then x else label_at is ss Θ x a
+label_at (label b is) ss Θ x a = If eqb a b then x else label_at is ss Θ x a
 label_at (item s is) ss Θ x a = label_at is ss Θ (x + ops_s s ss Θ) a
 
 -- ── code ──
@@ -277,7 +277,7 @@ code_goto (bound b c ∷ Γ) a = code_goto Γ a
 code_goto (global o b c ∷ Γ) a = code_goto Γ a
 code_goto (held g ∷ Γ) a = op let_hold ▸ code_goto Γ a
 code_goto (labels is x ∷ Γ) a =
-    if has_label a is then op (go (label_at is (scopes_of Γ) (the_labels is ∷ passing Γ) x a)) else code_goto Γ a
+    If has_label a is then op (go (label_at is (scopes_of Γ) (the_labels is ∷ passing Γ) x a)) else code_goto Γ a
 
 -- the second operand, by its way; f gives its code for a stack and a place
 abbrev pub code_way : Way → Binary → List Around → List Ty → Ty → Code → At → (List Ty → At → Code) → Code

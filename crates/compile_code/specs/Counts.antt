@@ -1,7 +1,7 @@
 -- Laws of the definitions of this crate that several stages cite: how many classes, procedures and names there are, and which holds lie around.
 use Rattle.std.specs.Prelude.{◌≡◌, refl, Bool, true, false, List, [], ◌∷◌, ℕ, suc, ◌≤◌, eqb, length}
 use Rattle.std.proofs.Common.{ap, arith}
-use Rattle.logic.specs.Choice.{if◌then◌else◌}
+use Rattle.logic.specs.Choice.{If◌then◌else◌}
 use Rattle.language.specs.Program.{total}
 use Rattle.language.specs.Table.{class_count, procedure_count}
 use Rattle.language.specs.Tree.{Typed, Decl, declare, holding, Global, local, class, procedure, Tree}
@@ -44,7 +44,7 @@ unfolding index_of
 index-most a [] = omega arith
 index-most a (b ∷ names) = pick (eqb b a) (index-most a names)
   where
-    pick : (t : Bool) → index_of a names ≤ length names → (if t then 0 else suc (index_of a names)) ≤ suc (length names)
+    pick : (t : Bool) → index_of a names ≤ length names → (If t then 0 else suc (index_of a names)) ≤ suc (length names)
     pick true h = omega arith
     pick false h = omega arith
 

@@ -1,6 +1,6 @@
 -- What entries add themselves to the code of their operands, near the code: their instructions and shapes, and the types of their results.
 use Rattle.std.specs.Prelude.{Bool, true, false, List, [], ◌∷◌, ℕ, zero, suc, ◌+◌, ◌-◌, ◌%◌, eqb, ltb, get_or, drop, take}
-use Rattle.logic.specs.Choice.{if◌then◌else◌}
+use Rattle.logic.specs.Choice.{If◌then◌else◌}
 use Rattle.words.specs.Numbers.{half_at}
 use Rattle.table_scopes.specs.Environment.{Item}
 use Rattle.compile_symbols.specs.Numbers.{type_in, first_in, second_in}
@@ -13,72 +13,72 @@ use Rattle.compile_output.specs.EmitCode.{lets, cursor_after, emitted}
 -- whether an entry names a definition
 unfoldable pub names : ℕ → Bool
 names k =
-    if eqb k 27 then true else
-    if eqb k 43 then true else
-    if eqb k 44 then true else
-    if eqb k 45 then true else
-    if eqb k 46 then true else
-    if eqb k 47 then true else false
+    If eqb k 27 then true else
+    If eqb k 43 then true else
+    If eqb k 44 then true else
+    If eqb k 45 then true else
+    If eqb k 46 then true else
+    If eqb k 47 then true else false
 
 abbrev pub known_for : ℕ → ℕ → List Item → List ℕ → ℕ
-known_for k a v known = if names k then meaning_of a v known else 0
+known_for k a v known = If names k then meaning_of a v known else 0
 
 -- whose cell: in the root's code, the root's variables are its own
 abbrev pub owner_by : Bool → ℕ → ℕ
-owner_by inside known = if inside then first_in known else 0
+owner_by inside known = If inside then first_in known else 0
 
 -- the instruction of an expression with nothing below it
 unfoldable pub emit_leaf : ℕ → ℕ → ℕ → Cursor → List ℕ → List ℕ
 emit_leaf k b known p l =
-    if eqb k 40 then emit_op p l 1 0 b else
-    if eqb k 41 then emit_op p l 2 0 b else
-    if eqb k 42 then emit_op p l 3 0 b else
-    if eqb k 43 then emit_op p l 4 (first_in known) 0 else emit_op p l 5 (owner_by p.inside known) (second_in known)
+    If eqb k 40 then emit_op p l 1 0 b else
+    If eqb k 41 then emit_op p l 2 0 b else
+    If eqb k 42 then emit_op p l 3 0 b else
+    If eqb k 43 then emit_op p l 4 (first_in known) 0 else emit_op p l 5 (owner_by p.inside known) (second_in known)
 
 unfoldable pub leaf_type : ℕ → ℕ → ℕ
-leaf_type k known = if eqb k 40 then 1 else if eqb k 41 then 2 else if eqb k 42 then 3 else type_in known
+leaf_type k known = If eqb k 40 then 1 else If eqb k 41 then 2 else If eqb k 42 then 3 else type_in known
 
 -- the expressions below an entry that has no other operands
 unfoldable pub operands_by : ℕ → ℕ → ℕ
 operands_by k b =
-    if eqb k 26 then 1 else
-    if eqb k 27 then b else
-    if eqb k 28 then 2 else
-    if eqb k 45 then b else
-    if eqb k 46 then 1 else
-    if eqb k 47 then b else
-    if eqb k 48 then 1 else
-    if eqb k 51 then 1 else 0
+    If eqb k 26 then 1 else
+    If eqb k 27 then b else
+    If eqb k 28 then 2 else
+    If eqb k 45 then b else
+    If eqb k 46 then 1 else
+    If eqb k 47 then b else
+    If eqb k 48 then 1 else
+    If eqb k 51 then 1 else 0
 
 -- the instruction of an entry with expressions only below it
 unfoldable pub emit_last : ℕ → ℕ → ℕ → Cursor → List ℕ → List ℕ
 emit_last k a known p l =
-    if eqb k 26 then emit_op p l 19 0 0 else
-    if eqb k 27 then emit_op p l 10 0 (second_in known) else
-    if eqb k 28 then emit_op p l 15 0 0 else
-    if eqb k 45 then emit_op p l 10 0 (second_in known) else
-    if eqb k 46 then emit_op p l 13 (first_in known) (second_in known) else
-    if eqb k 47 then emit_op p l 12 (first_in known) 0 else
-    if eqb k 48 then emit_op p l 7 (a % 256) 0 else emit_op p l 16 0 0
+    If eqb k 26 then emit_op p l 19 0 0 else
+    If eqb k 27 then emit_op p l 10 0 (second_in known) else
+    If eqb k 28 then emit_op p l 15 0 0 else
+    If eqb k 45 then emit_op p l 10 0 (second_in known) else
+    If eqb k 46 then emit_op p l 13 (first_in known) (second_in known) else
+    If eqb k 47 then emit_op p l 12 (first_in known) 0 else
+    If eqb k 48 then emit_op p l 7 (a % 256) 0 else emit_op p l 16 0 0
 
 unfoldable pub last_type : ℕ → ℕ → ℕ → ℕ → ℕ
 last_type k a known first =
-    if eqb k 45 then type_in known else
-    if eqb k 46 then type_in known else
-    if eqb k 47 then type_in known else
-    if eqb k 48 then (if eqb a 22 then first else 1) else 1
+    If eqb k 45 then type_in known else
+    If eqb k 46 then type_in known else
+    If eqb k 47 then type_in known else
+    If eqb k 48 then (If eqb a 22 then first else 1) else 1
 
 -- ── heads ──
 abbrev pub emit_initial : ℕ → Cursor → List ℕ → List ℕ
-emit_initial t p l = if ltb t 16 then emit_op p l t 0 0 else emit_op p l 4 (t - 16) 0
+emit_initial t p l = If ltb t 16 then emit_op p l t 0 0 else emit_op p l 4 (t - 16) 0
 
 unfoldable pub cursor_declared : ℕ → Cursor → Cursor
-cursor_declared k p = if eqb k 10 then moved (moved p) else if eqb k 14 then moved p else p
+cursor_declared k p = If eqb k 10 then moved (moved p) else If eqb k 14 then moved p else p
 
 unfoldable pub emit_declared : ℕ → ℕ → ℕ → Cursor → List ℕ → List ℕ
 emit_declared k a known p l =
-    if eqb k 10 then emit_op (moved p) (emit_initial (type_in known) p l) 6 0 (second_in known) else
-    if eqb k 14 then emit_op p l 17 0 a else l
+    If eqb k 10 then emit_op (moved p) (emit_initial (type_in known) p l) 6 0 (second_in known) else
+    If eqb k 14 then emit_op p l 17 0 a else l
 
 -- the declarations that begin a part, of which the first stands at a place: the cursor after them, the output, and the ends of their code
 unfoldable pub cursor_head : List ℕ → ℕ → Cursor → Cursor
@@ -95,7 +95,7 @@ finishes part zero p = []
 finishes part (suc n) p = let q = cursor_declared (half_at part 0) p in q.address ∷ finishes (drop 8 part) n q
 
 abbrev pub holds_by : ℕ → ℕ
-holds_by k = if eqb k 14 then 1 else 0
+holds_by k = If eqb k 14 then 1 else 0
 
 unfoldable pub holds_head : List ℕ → ℕ → ℕ
 holds_head part zero = 0
@@ -104,38 +104,38 @@ holds_head part (suc n) = holds_by (half_at part 0) + holds_head (drop 8 part) n
 -- ── operators ──
 -- how the second operand follows the first: 0 plainly, 1 marked (`and`, `or` of bits), 2 if the first is true, 3 if it is false
 unfoldable pub way_by : ℕ → ℕ → ℕ
-way_by o t = if eqb o 12 then (if eqb t 2 then 2 else 1) else if eqb o 13 then (if eqb t 2 then 3 else 1) else 0
+way_by o t = If eqb o 12 then (If eqb t 2 then 2 else 1) else If eqb o 13 then (If eqb t 2 then 3 else 1) else 0
 
 abbrev pub waiting_by : ℕ → ℕ
-waiting_by w = if ltb w 2 then 1 else 0
+waiting_by w = If ltb w 2 then 1 else 0
 
 unfoldable pub cursor_between : ℕ → ℕ → Cursor → Cursor
 cursor_between w d p =
-    if eqb w 0 then p else
-    if eqb w 1 then cursor_shaped (d + 1) p else
-    if eqb w 2 then moved p else cursor_shaped d (moved (moved (moved p)))
+    If eqb w 0 then p else
+    If eqb w 1 then cursor_shaped (d + 1) p else
+    If eqb w 2 then moved p else cursor_shaped d (moved (moved (moved p)))
 
 unfoldable pub emit_between : ℕ → ℕ → ℕ → List ℕ → ℕ → Cursor → List ℕ → List ℕ
 emit_between w end h st d p l =
-    if eqb w 0 then l else
-    if eqb w 1 then emit_shape p l h (d + 1) (take (d + 1) st) else
-    if eqb w 2 then emit_op p l 9 0 (end + 1) else
+    If eqb w 0 then l else
+    If eqb w 1 then emit_shape p l h (d + 1) (take (d + 1) st) else
+    If eqb w 2 then emit_op p l 9 0 (end + 1) else
     emit_shape (moved (moved (moved p))) (emit_op (moved (moved p)) (emit_op (moved p) (emit_op p l 9 0 (p.address + 3)) 2 0 1) 8 0 end) h d (take d st)
 
 unfoldable pub cursor_behind : ℕ → ℕ → Cursor → Cursor
 cursor_behind w d p =
-    if eqb w 2 then cursor_shaped (d + 1) (moved (cursor_shaped d (moved p))) else
-    if eqb w 3 then cursor_shaped (d + 1) p else moved p
+    If eqb w 2 then cursor_shaped (d + 1) (moved (cursor_shaped d (moved p))) else
+    If eqb w 3 then cursor_shaped (d + 1) p else moved p
 
 unfoldable pub emit_behind : ℕ → ℕ → ℕ → ℕ → List ℕ → ℕ → Cursor → List ℕ → List ℕ
 emit_behind w o end h st d p l =
-    if eqb w 2
+    If eqb w 2
     then (let q = cursor_shaped d (moved p) in
     emit_shape (moved q) (emit_op q (emit_shape (moved p) (emit_op p l 8 0 (end + 2)) h d (take d st)) 2 0 0) h (d + 1) (take (d + 1) st))
-    else if eqb w 3 then emit_shape p l h (d + 1) (take (d + 1) st) else emit_op p l 7 (o % 256) 0
+    else If eqb w 3 then emit_shape p l h (d + 1) (take (d + 1) st) else emit_op p l 7 (o % 256) 0
 
 unfoldable pub pair_type : ℕ → ℕ → ℕ
-pair_type o t = if ltb o 6 then 1 else if ltb o 12 then 2 else t
+pair_type o t = If ltb o 6 then 1 else If ltb o 12 then 2 else t
 
 -- ── cases ──
 abbrev pub cursor_before : Cursor → Cursor

@@ -7,7 +7,7 @@ use Prim.Native.Nat.{ℕ, zero, suc, ◌+◌, ◌-◌, ◌*◌, ◌≤◌, ◌<�
 use native.Mathlib.Omega.{arith}
 use Rattle.std.proofs.Math.Seq.{sets}
 use borrow.Author.Tests.{eq-eqb, ne_eqb}
-use Rattle.logic.specs.Choice.{if◌then◌else◌}
+use Rattle.logic.specs.Choice.{If◌then◌else◌}
 use Rattle.words.specs.Numbers.{half_at}
 use Rattle.table_scopes.specs.Environment.{find, passing, shut, env_of, Grown}
 use Rattle.table_scopes.specs.declared.environment.Found.{Found}
@@ -78,7 +78,7 @@ module _ (k : ℕ) (p : Cursor) where
 pub initial-length : (t : ℕ) (p : Cursor) (l : List ℕ) {m : List ℕ} → m ≡ emit_initial t p l → length m ≡ length l
 initial-length t p l e = ap (length {A = ℕ}) e ∙ by (ltb t 16)
   where
-    by : (b : Bool) → length (if b then emit_op p l t 0 0 else emit_op p l 4 (t - 16) 0) ≡ length l
+    by : (b : Bool) → length (If b then emit_op p l t 0 0 else emit_op p l 4 (t - 16) 0) ≡ length l
     by true = length-emit p l t 0 0
     by false = length-emit p l 4 (t - 16) 0
 
@@ -90,7 +90,7 @@ later-declared : (k : ℕ) (p : Cursor) → Later p (cursor_declared k p)
 unfolding cursor_declared
 later-declared k p = by (eqb k 10) (eqb k 14)
   where
-    by : (b c : Bool) → Later p (if b then moved (moved p) else if c then moved p else p)
+    by : (b c : Bool) → Later p (If b then moved (moved p) else If c then moved p else p)
     by true c = later_trans (later-moved p) (later-moved (moved p))
     by false true = later-moved p
     by false false = later-self p
@@ -104,7 +104,7 @@ pub length_declared : (k a known : ℕ) (p : Cursor) (l : List ℕ) → length (
 unfolding emit_declared
 length_declared k a known p l = by (eqb k 10) (eqb k 14)
   where
-    by : (b c : Bool) → length (if b then emit_op (moved p) (emit_initial (type_in known) p l) 6 0 (second_in known) else if c then emit_op p l 17 0 a else l) ≡ length l
+    by : (b c : Bool) → length (If b then emit_op (moved p) (emit_initial (type_in known) p l) 6 0 (second_in known) else If c then emit_op p l 17 0 a else l) ≡ length l
     by true c = length-emit (moved p) (emit_initial (type_in known) p l) 6 0 (second_in known) ∙ initial-length (type_in known) p l refl
     by false true = length-emit p l 17 0 a
     by false false = refl
@@ -220,7 +220,7 @@ lets-length n p l e = ap (length {A = ℕ}) e ∙ length-emitted (lets n) p l
 pub holds-one : (k : ℕ) → holds_by k ≤ 1
 holds-one k = by (eqb k 14)
   where
-    by : (b : Bool) → (if b then 1 else 0) ≤ 1
+    by : (b : Bool) → (If b then 1 else 0) ≤ 1
     by true = omega arith
     by false = omega arith
 

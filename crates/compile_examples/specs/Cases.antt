@@ -1,7 +1,7 @@
 -- What a random program of the second evaluator claims of the compiler: compiled by macro_of it passes judge_macro, and the plain machine, with the readings
 -- that the tree was given, gives the tree's items and its end. `tests/definitions` makes lists of such cases from a seed.
 use Rattle.std.specs.Prelude.{Bool, false, ◌&&◌, ◌||◌, List, [], ◌∷◌, ◌++◌, reverse, ℕ, zero, suc, eqb}
-use Rattle.logic.specs.Choice.{if◌then◌else◌}
+use Rattle.logic.specs.Choice.{If◌then◌else◌}
 use Rattle.values.specs.Ends.{Judged, accepted, refused}
 use Rattle.values.specs.Trace.{Item, event, reading}
 use Rattle.language.specs.Tree.{Tree}
@@ -46,7 +46,7 @@ walk (suc n) orc m s tr k = on_step (step m (orc k) s)
 abbrev pub same_as : Walked → ℕ → List ℕ → Bool
 same_as w e ns =
     let xs = item_numbers (reverse w.items) in
-    if eqb w.end 555 then false else if eqb e 999 then prefix_of xs ns || prefix_of ns xs else eqb w.end e && equal_lists xs ns
+    If eqb w.end 555 then false else If eqb e 999 then prefix_of xs ns || prefix_of ns xs else eqb w.end e && equal_lists xs ns
 
 -- a program of a case ends within some hundred steps
 abbrev pub macro_does : Judged Macro → ℕ → ℕ → List ℕ → Bool

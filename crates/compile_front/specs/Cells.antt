@@ -4,7 +4,7 @@ use Rattle.std.proofs.Math.Path.{ap}
 use Rattle.std.proofs.Common.{sym, ◌∙◌, arith, le-ltb}
 use mathlib.Core.List.{List, [], ◌∷◌, ◌++◌, map}
 use Rattle.language.specs.Program.{flat_typed, flat_decl, flat_s, flat_items, flat_arms, flat_target, flat_e, flat_es}
-use Rattle.logic.specs.Choice.{if◌then◌else◌}
+use Rattle.logic.specs.Choice.{If◌then◌else◌}
 use Rattle.values.specs.Types.{Ty, integer, logical, bits, reference, ty_code, ty_byte}
 use Rattle.values.specs.Operators.{Binary}
 use Rattle.language.specs.Tree.{Decl, declare, holding, Stmt, block, assign, when, choose, while, goto, assert, call, set_level, select, for, Items, no_item, label, item, Arms}
@@ -48,7 +48,7 @@ none-goto (global o b c ∷ Γ) a l = none-goto Γ a l
 none-goto (held g ∷ Γ) a l = none-goto Γ a l
 none-goto (labels is x ∷ Γ) a l = pick (has_label a is) (none-goto Γ a l)
   where
-    pick : (b : Bool) → cell_bytes (code_goto Γ a) l ≡ l → cell_bytes (if b then op (go (label_at is (scopes_of Γ) (the_labels is ∷ passing Γ) x a)) else code_goto Γ a) l ≡ l
+    pick : (b : Bool) → cell_bytes (code_goto Γ a) l ≡ l → cell_bytes (If b then op (go (label_at is (scopes_of Γ) (the_labels is ∷ passing Γ) x a)) else code_goto Γ a) l ≡ l
     pick true h = refl
     pick false h = h
 

@@ -1,7 +1,7 @@
 -- What the functions write, and what they ask: the classes, the root and the procedures of the tree that a table holds.
 use Rattle.std.specs.Prelude.{◌≡◌, List, [], ◌∷◌, ◌++◌, map, ℕ, ◌+◌, ◌/◌, ◌%◌, ◌≤◌, ◌<◌, eqb, length, drop, get_or}
 use Rattle.language.specs.Program.{flat_decl, flat_items, flat_global, flat_head, flatten}
-use Rattle.logic.specs.Choice.{if◌then◌else◌}
+use Rattle.logic.specs.Choice.{If◌then◌else◌}
 use Rattle.words.specs.Numbers.{half, word_of}
 use Rattle.language.specs.Tree.{Global, local, class, procedure, Tree, locals}
 use Rattle.language.specs.Table.{Entry}
@@ -26,11 +26,11 @@ body_head first parameters result cells = 66 ∷ 68 ∷ (half first ++ (paramete
 
 unfoldable pub class_part : List ℕ → List Entry → List ℕ
 class_part cs [] = []
-class_part cs (e ∷ us) = if eqb e.kind 11 then 67 ∷ 76 ∷ length us ∷ types_of cs us [] else []
+class_part cs (e ∷ us) = If eqb e.kind 11 then 67 ∷ 76 ∷ length us ∷ types_of cs us [] else []
 
 unfoldable pub body_part : List ℕ → ℕ → List Entry → List ℕ
 body_part cs a [] = []
-body_part cs a (e ∷ us) = if eqb e.kind 12 then body_of a (word_of e.b / 256) (word_of e.b % 256) (types_of cs us []) else []
+body_part cs a (e ∷ us) = If eqb e.kind 12 then body_of a (word_of e.b / 256) (word_of e.b % 256) (types_of cs us []) else []
 
 -- of the entries at a place of a table, or between two
 abbrev pub type_at : List ℕ → ℕ → List ℕ
@@ -52,7 +52,7 @@ Brief l (e ∷ us) = (word_of e.b < 65536) × (length (types_of (classes_in l) u
 
 -- the place of the body after an entry of this kind
 abbrev pub first_after : ℕ → ℕ → ℕ → ℕ
-first_after k e a = if eqb k 12 then e else a
+first_after k e a = If eqb k 12 then e else a
 
 -- ── of the declarations that are left ──
 unfoldable pub classes_from : Tree → List Global → List ℕ

@@ -4,7 +4,7 @@ use Rattle.std.proofs.Math.Path.{ap}
 use Rattle.std.proofs.Common.{sym, ◌∙◌, arith}
 use mathlib.Core.List.{List, [], ◌∷◌, ◌++◌}
 use Rattle.std.proofs.lemmas.List.{length-replicate}
-use Rattle.logic.specs.Choice.{if◌then◌else◌}
+use Rattle.logic.specs.Choice.{If◌then◌else◌}
 use Rattle.words.specs.Numbers.{half_at}
 use Rattle.language.specs.Table.{Entry}
 use Rattle.language_laws.specs.Claims.{entries_of}
@@ -38,8 +38,8 @@ module _ {old new : List ℕ} {from count v at left : ℕ} (s : SameWriting old 
   same-done e = writing-end s.writing (ap (λ (n : ℕ). replicate n v) e)
 
 -- ── one entry ──
-type-same : (a b c : Bool) (x v : ℕ) → (0 < (if a then 1 else if b then 1 else if c then 3 else 0) → v ≡ (if a then x else 1))
-    → replicate (if a then 1 else if b then 1 else if c then 3 else 0) v ≡ (if a then x ∷ [] else if b then 1 ∷ [] else if c then 1 ∷ 1 ∷ 1 ∷ [] else [])
+type-same : (a b c : Bool) (x v : ℕ) → (0 < (If a then 1 else If b then 1 else If c then 3 else 0) → v ≡ (If a then x else 1))
+    → replicate (If a then 1 else If b then 1 else If c then 3 else 0) v ≡ (If a then x ∷ [] else If b then 1 ∷ [] else If c then 1 ∷ 1 ∷ 1 ∷ [] else [])
 type-same true b c x v h = rw (h (omega arith))
 type-same false true c x v h = rw (h (omega arith))
 type-same false false true x v h = rw (h (omega arith))

@@ -6,7 +6,7 @@ use mathlib.Core.List.{List, [], ◌∷◌, ◌++◌, map, append_assoc}
 use Rattle.std.proofs.Math.ListN.{length, length-append}
 use Rattle.language.specs.Program.{flat_typed, flat_decl, flat_items, result_code, flat_body, flat_global, flat_head, flatten}
 use Rattle.logic.specs.Lists.{all}
-use Rattle.logic.specs.Choice.{if◌then◌else◌}
+use Rattle.logic.specs.Choice.{If◌then◌else◌}
 use Rattle.words.specs.Laws.{Bytes}
 use Rattle.language.specs.Tree.{declare, holding, Global, local, class, procedure, count_items}
 use Rattle.language.specs.Table.{Entry, entry, in_layout}
@@ -23,7 +23,7 @@ use Rattle.compile_code.specs.Counts.{length-classes, length-class-names}
 
 -- the byte of an entry that has cells
 abbrev pub type_byte : List ℕ → Entry → ℕ
-type_byte cs e = if eqb e.kind 10 then byte_of cs (nat_abs e.b) else 1
+type_byte cs e = If eqb e.kind 10 then byte_of cs (nat_abs e.b) else 1
 
 abbrev pub Tells : List ℕ → Entry → ℕ → Type 0
 Tells cs e n = 0 < cells_of e → type_in n ≡ type_byte cs e
@@ -48,9 +48,9 @@ module _ (cs : List ℕ) (few : length cs ≤ 16) where
   number-tells : (o n : ℕ) (e : Entry) → o ≤ 16 → n ≤ 8192 → in_layout e ≡ true → Tells cs e (number_of cs o n e)
   number-tells o n e h k y = go (eqb e.kind 10) refl (eqb e.kind 30) (eqb e.kind 31)
     where
-      go : (a : Bool) → eqb e.kind 10 ≡ a → (b c : Bool) → 0 < (if a then 1 else if b then 1 else if c then 3 else 0)
-          → type_in (if a then packed (byte_of cs (nat_abs e.b)) o n else if b then packed 1 0 n else if c then packed 1 0 n else 0)
-          ≡ (if a then byte_of cs (nat_abs e.b) else 1)
+      go : (a : Bool) → eqb e.kind 10 ≡ a → (b c : Bool) → 0 < (If a then 1 else If b then 1 else If c then 3 else 0)
+          → type_in (If a then packed (byte_of cs (nat_abs e.b)) o n else If b then packed 1 0 n else If c then packed 1 0 n else 0)
+          ≡ (If a then byte_of cs (nat_abs e.b) else 1)
       go true i b c w = let z = layout-byte cs e y (eqb-true e.kind 10 i) in omega arith
       go false i true c w = omega arith
       go false i false true w = omega arith

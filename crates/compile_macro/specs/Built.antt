@@ -10,7 +10,7 @@ use native.Mathlib.Omega.{arith}
 use Rattle.std.proofs.Math.ListN.{length, get_elem?, length-append}
 use borrow.Author.Tests.{le-ltb, leb-true, eqb-true, eqb-false, eq-eqb, ne_eqb}
 use Rattle.language.specs.Program.{flat_decl, flat_items, flat_body, total as sum_of}
-use Rattle.logic.specs.Choice.{if◌then◌else◌}
+use Rattle.logic.specs.Choice.{If◌then◌else◌}
 use Rattle.words.specs.Laws.{Bytes}
 use Rattle.values.specs.Types.{Ty, sames}
 use Rattle.values.specs.Ends.{accepted}
@@ -138,9 +138,9 @@ proc-found (local d ∷ gs) a q h = proc-found gs a q h
 proc-found (class c xs ∷ gs) a q h = proc-found gs a q h
 proc-found (procedure b xs d ∷ gs) a q h = rw (turned a b) (go (eqb a b) h (λ g. proc-found gs a q g))
   where
-    go : (x : Bool) → (if x then some (record { parameters = xs; body = d }) else procedure_in a gs) ≡ some q
+    go : (x : Bool) → (If x then some (record { parameters = xs; body = d }) else procedure_in a gs) ≡ some q
         → (procedure_in a gs ≡ some q → (r : Proc) × (get_elem? (procs_of gs) (index_of a (proc_names (procs_of gs))) ≡ some r) × (asked r ≡ q))
-        → (r : Proc) × (get_elem? (record { name = b; parameters = xs; body = d } ∷ procs_of gs) (if x then 0 else suc (index_of a (proc_names (procs_of gs)))) ≡ some r) × (asked r ≡ q)
+        → (r : Proc) × (get_elem? (record { name = b; parameters = xs; body = d } ∷ procs_of gs) (If x then 0 else suc (index_of a (proc_names (procs_of gs)))) ≡ some r) × (asked r ≡ q)
     go true e f = (record { name = b; parameters = xs; body = d }, refl, same_some e)
     go false e f = f e
 
@@ -152,9 +152,9 @@ class-found hs (local d ∷ gs) c xs h = class-found hs gs c xs h
 class-found hs (procedure b ys d ∷ gs) c xs h = class-found hs gs c xs h
 class-found hs (class b ys ∷ gs) c xs h = rw (turned c b) (go (eqb c b) h (λ g. class-found hs gs c xs g))
   where
-    go : (x : Bool) → (if x then some ys else class_in c gs) ≡ some xs
+    go : (x : Bool) → (If x then some ys else class_in c gs) ≡ some xs
         → (class_in c gs ≡ some xs → (ts : List Ty) × (get_elem? (field_types hs (classes_of gs)) (index_of c (class_names (classes_of gs))) ≡ some ts) × (length ts ≡ length xs))
-        → (ts : List Ty) × (get_elem? (map (ty_in hs) (types ys) ∷ field_types hs (classes_of gs)) (if x then 0 else suc (index_of c (class_names (classes_of gs)))) ≡ some ts) × (length ts ≡ length xs)
+        → (ts : List Ty) × (get_elem? (map (ty_in hs) (types ys) ∷ field_types hs (classes_of gs)) (If x then 0 else suc (index_of c (class_names (classes_of gs)))) ≡ some ts) × (length ts ≡ length xs)
     go true e f = (map (ty_in hs) (types ys), refl, params-length (ty_in hs) ys ∙ ap length (same_some e))
     go false e f = f e
 

@@ -9,7 +9,7 @@ use native.Mathlib.Omega.{arith}
 use Rattle.std.proofs.Math.Dec.{ltb}
 use Rattle.std.proofs.Math.ListN.{length, get_elem?}
 use borrow.Author.Tests.{ltb-true}
-use Rattle.logic.specs.Choice.{if◌then◌else◌}
+use Rattle.logic.specs.Choice.{If◌then◌else◌}
 use Rattle.values.specs.Types.{Ty, integer, logical, bits, reference}
 use Rattle.values.specs.Operators.{Binary}
 use Rattle.values.specs.Values.{initial}
@@ -59,7 +59,7 @@ none-goto (global o b c ∷ Γ) a = none-goto Γ a
 none-goto (held g ∷ Γ) a = let q = none-goto Γ a in omega arith
 none-goto (labels is x ∷ Γ) a = pick (has_label a is) (none-goto Γ a)
   where
-    pick : (b : Bool) → new_cells (code_goto Γ a) ≡ 0 → new_cells (if b then op (go (label_at is (scopes_of Γ) (the_labels is ∷ passing Γ) x a)) else code_goto Γ a) ≡ 0
+    pick : (b : Bool) → new_cells (code_goto Γ a) ≡ 0 → new_cells (If b then op (go (label_at is (scopes_of Γ) (the_labels is ∷ passing Γ) x a)) else code_goto Γ a) ≡ 0
     pick true h = refl
     pick false h = h
 
@@ -197,7 +197,7 @@ module _ (m : Macro) (k : ℕ) (gs : List Global) where
   of-initial bits h = tt
   of-initial (reference c) h = go (ltb c (length m.classes)) refl h
     where
-      go : (b : Bool) → ltb c (length m.classes) ≡ b → (if b then plain [] (reference c ∷ []) else wrong) ≡ plain [] (reference c ∷ []) → c < length m.classes
+      go : (b : Bool) → ltb c (length m.classes) ≡ b → (If b then plain [] (reference c ∷ []) else wrong) ≡ plain [] (reference c ∷ []) → c < length m.classes
       go true e h = ltb-true c (length m.classes) e
       go false e h = let z : ◌≡◌ {A = ℕ} 0 1 = cc h in absurd (omega arith)
 

@@ -7,7 +7,7 @@ use Rattle.std.specs.Int.Signed.{mag}
 use Rattle.std.specs.Int.{w32}
 use Rattle.values.specs.Arithmetic.{is_zero}
 use Rattle.language.specs.Program.{flat_decl, flat_s, flat_items, flat_arms, flat_target, flat_e, flat_es, in_fields}
-use Rattle.logic.specs.Choice.{if◌then◌else◌}
+use Rattle.logic.specs.Choice.{If◌then◌else◌}
 use Rattle.words.specs.Laws.{integer-back, word_below}
 use Rattle.values.specs.Types.{Ty, integer, logical, bits, reference}
 use Rattle.values.specs.Operators.{Binary}
@@ -134,7 +134,7 @@ of-goto (global o b c ∷ Γ) a = of-goto Γ a
 of-goto (held g ∷ Γ) a = (tt, of-goto Γ a)
 of-goto (labels is x ∷ Γ) a = pick (has_label a is) (of-goto Γ a)
   where
-    pick : (b : Bool) → Ops Holdable (code_goto Γ a) → Ops Holdable (if b then op (go (label_at is (scopes_of Γ) (the_labels is ∷ passing Γ) x a)) else code_goto Γ a)
+    pick : (b : Bool) → Ops Holdable (code_goto Γ a) → Ops Holdable (If b then op (go (label_at is (scopes_of Γ) (the_labels is ∷ passing Γ) x a)) else code_goto Γ a)
     pick true h = tt
     pick false h = h
 

@@ -9,7 +9,7 @@ use Rattle.std.proofs.Math.Dec.{ltb}
 use Rattle.std.proofs.Math.ListN.{get_elem?}
 use borrow.Author.Tests.{leb-true, ltb-true}
 use Rattle.logic.specs.Options.{keep}
-use Rattle.logic.specs.Choice.{if◌then◌else◌}
+use Rattle.logic.specs.Choice.{If◌then◌else◌}
 use Rattle.words.specs.Laws.{word_below}
 use Rattle.values.specs.Types.{Ty, logical, reference}
 use Rattle.values.specs.Operators.{Operator, unary, binary, negate, absolute, complement, plus, minus, times, divide, remainder, less, at_most, greater, at_least, equal}
@@ -202,11 +202,11 @@ module _ (m : Macro) (k : ℕ) (w : WellFormed m) (short : length m.code < 65536
   small-target : (t : ℕ) (s : Shape) → Aimed m k t s → t < 65536
   small-target t s h = let z = inside-code m w k t (halves (in_body m k t) (equal_shape (shape_in m.shapes t) s) h).0 in omega arith
 
-  from-push : (c : ℕ) (s : Shape) (g : Option Shape) → Goes (Aimed m k) (flow (if ltb c (length m.classes) then plain [] (reference c ∷ []) else wrong) s) g → c < 16
+  from-push : (c : ℕ) (s : Shape) (g : Option Shape) → Goes (Aimed m k) (flow (If ltb c (length m.classes) then plain [] (reference c ∷ []) else wrong) s) g → c < 16
   unfolding flow
   from-push c s g h = go (ltb c (length m.classes)) refl h
     where
-      go : (b : Bool) → ltb c (length m.classes) ≡ b → Goes (Aimed m k) (flow (if b then plain [] (reference c ∷ []) else wrong) s) g → c < 16
+      go : (b : Bool) → ltb c (length m.classes) ≡ b → Goes (Aimed m k) (flow (If b then plain [] (reference c ∷ []) else wrong) s) g → c < 16
       go true e h = let z = ltb-true c (length m.classes) e in let y = w.few-classes in omega arith
       go false e h = absurd h
 

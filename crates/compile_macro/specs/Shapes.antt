@@ -5,7 +5,7 @@ use Rattle.std.proofs.Common.{sym, subst}
 use mathlib.Core.List.{List, [], ◌∷◌}
 use Rattle.std.proofs.Math.Option.{none, some}
 use Rattle.logic.specs.Options.{or_else}
-use Rattle.logic.specs.Choice.{if◌then◌else◌}
+use Rattle.logic.specs.Choice.{If◌then◌else◌}
 use Rattle.values.specs.Types.{Ty, integer, logical, bits, reference, sames}
 use Rattle.values.specs.Operators.{Operator, unary, binary, negate, absolute, complement, plus, minus, times, divide, remainder, less, at_most, greater, at_least, equal}
 use Rattle.values.specs.Operators.{unequal, both, either, shift_left, shift_right, Binary, takes, logical_or_bits, any_one, op_type}
@@ -33,14 +33,14 @@ use Rattle.compile_macro.specs.Cells.{Known, of-initial, celled-turn}
 of-takes : (n : ℕ) (asked : List Ty) (g : Ty) (ts : List Ty) (r : Ty) → Named n g → takes asked g ts ≡ some r → Named n r
 of-takes n asked g ts r k h = pick (sames ts asked) h
   where
-    pick : (b : Bool) → (if b then some g else none) ≡ some r → Named n r
+    pick : (b : Bool) → (If b then some g else none) ≡ some r → Named n r
     pick true e = subst (Named n) (same_some e) k
     pick false e = never-some e
 
 of-both : (n : ℕ) (f : Ty → List Ty) (ts : List Ty) (r : Ty) → logical_or_bits f ts ≡ some r → Named n r
 of-both n f ts r h = pick (sames ts (f logical)) (sames ts (f bits)) h
   where
-    pick : (a b : Bool) → or_else (if a then some logical else none) (if b then some bits else none) ≡ some r → Named n r
+    pick : (a b : Bool) → or_else (If a then some logical else none) (If b then some bits else none) ≡ some r → Named n r
     pick true b e = subst (Named n) (same_some e) tt
     pick false true e = subst (Named n) (same_some e) tt
     pick false false e = never-some e
@@ -93,7 +93,7 @@ module _ (m : Macro) (k : ℕ) (gs : List Global) (H : Heads m) where
   no-goto (held g ∷ Γ) a p = (tt, no-goto Γ a (after (op _) p))
   no-goto (labels is x ∷ Γ) a p = pick (has_label a is) (no-goto Γ a p)
     where
-      pick : (b : Bool) → Marks m k Typed! (code_goto Γ a) p → Marks m k Typed! (if b then op (go (label_at is (scopes_of Γ) (the_labels is ∷ passing Γ) x a)) else code_goto Γ a) p
+      pick : (b : Bool) → Marks m k Typed! (code_goto Γ a) p → Marks m k Typed! (If b then op (go (label_at is (scopes_of Γ) (the_labels is ∷ passing Γ) x a)) else code_goto Γ a) p
       pick true h = tt
       pick false h = h
 

@@ -4,7 +4,7 @@ use Rattle.std.proofs.Math.Bool.{true, false}
 use Rattle.std.proofs.Math.Path.{refl, sym, subst}
 use Rattle.std.proofs.Common.{◌∙◌, arith}
 use mathlib.Core.List.{List, [], ◌∷◌, ◌++◌}
-use Rattle.logic.specs.Choice.{if◌then◌else◌}
+use Rattle.logic.specs.Choice.{If◌then◌else◌}
 use Rattle.values.specs.Types.{Ty}
 use Rattle.language.specs.Tree.{Typed, declare, holding, Global, local, class, procedure, Tree, locals}
 use Rattle.language.specs.Names.{Sort, is_variable, is_label, is_class, is_field, is_procedure, Definition, types, results, defines_head, defines_fields, defines_globals}
@@ -25,10 +25,10 @@ use Rattle.compile_names.specs.Globals.{GoodGlobals, GlobalsIn, globals-root, gl
 use Rattle.compile_names.specs.Inside.{Inside}
 
 -- ── no label is defined by a head ──
-label-not : (a b : ℕ) (s : Sort) (w : Bool) (f : Found) → ((s ≡ is_label) → ⊥) → (if eqb b a then found s false else f) ≡ found is_label w → f ≡ found is_label w
+label-not : (a b : ℕ) (s : Sort) (w : Bool) (f : Found) → ((s ≡ is_label) → ⊥) → (If eqb b a then found s false else f) ≡ found is_label w → f ≡ found is_label w
 label-not a b s w f n h = pick (eqb b a) h
   where
-    pick : (t : Bool) → (if t then found s false else f) ≡ found is_label w → f ≡ found is_label w
+    pick : (t : Bool) → (If t then found s false else f) ≡ found is_label w → f ≡ found is_label w
     pick true k = let z : s ≡ is_label = cc k in absurd (n z)
     pick false k = k
 

@@ -4,7 +4,7 @@ use Rattle.std.proofs.Common.{ap, sym, ◌∙◌, subst, arith, eqb-true, eq-eqb
 use Rattle.std.proofs.Math.Option.{none, some}
 use Rattle.std.proofs.Math.ListN.{get_elem?}
 use Rattle.logic.specs.Lists.{among}
-use Rattle.logic.specs.Choice.{if◌then◌else◌}
+use Rattle.logic.specs.Choice.{If◌then◌else◌}
 use Rattle.values.specs.Types.{Ty}
 use Rattle.values.specs.Ends.{Refusal}
 use Rattle.language.specs.Tree.{Typed, Decl, declare, holding, Items, Body, proper, function, Global, local, class, procedure, Tree, locals}
@@ -89,7 +89,7 @@ unfolding first_of defines_head
 head-global a [] = tt
 head-global a (declare x ∷ ds) = pick (eqb x.name a) (head-global a ds)
   where
-    pick : (t : Bool) → NoGlobal (first_of a (defines_head ds)) → NoGlobal (if t then found (is_variable x.type) false else first_of a (defines_head ds))
+    pick : (t : Bool) → NoGlobal (first_of a (defines_head ds)) → NoGlobal (If t then found (is_variable x.type) false else first_of a (defines_head ds))
     pick true h = λ g. g
     pick false h = h
 head-global a (holding g ∷ ds) = head-global a ds
@@ -99,7 +99,7 @@ unfolding first_of defines_typed
 typed-global a [] = tt
 typed-global a (x ∷ xs) = pick (eqb x.name a) (typed-global a xs)
   where
-    pick : (t : Bool) → NoGlobal (first_of a (defines_typed xs)) → NoGlobal (if t then found (is_variable x.type) false else first_of a (defines_typed xs))
+    pick : (t : Bool) → NoGlobal (first_of a (defines_typed xs)) → NoGlobal (If t then found (is_variable x.type) false else first_of a (defines_typed xs))
     pick true h = λ g. g
     pick false h = h
 
@@ -131,7 +131,7 @@ pub globals-loop : (gs : List Global) (b : ℕ) (ss : List Scope) → GlobalsIn 
 unfolding first_of
 globals-loop gs b ss k a s w g h = pick (eqb b a) (sym (lookup-loop a (define b is_control) ss) ∙ h)
   where
-    pick : (t : Bool) → otherwise (if t then found is_control false else nowhere) (lookup a ss) ≡ found s w → (v : Bool) × (first_of a (defines_globals gs) ≡ found s v)
+    pick : (t : Bool) → otherwise (If t then found is_control false else nowhere) (lookup a ss) ≡ found s w → (v : Bool) × (first_of a (defines_globals gs) ≡ found s v)
     pick true q = let z : NoGlobal (found s w) = subst NoGlobal q (λ u. u) in absurd (z g)
     pick false q = k a s w g q
 
@@ -151,15 +151,15 @@ unfolding first_of defines_fields
 only-fields a c [] = tt
 only-fields a c (x ∷ xs) = pick (eqb x.name a) (only-fields a c xs)
   where
-    pick : (t : Bool) → IsField c (first_of a (defines_fields c xs)) → IsField c (if t then found (is_field c x.type) false else first_of a (defines_fields c xs))
+    pick : (t : Bool) → IsField c (first_of a (defines_fields c xs)) → IsField c (If t then found (is_field c x.type) false else first_of a (defines_fields c xs))
     pick true h = refl
     pick false h = h
 
 -- what follows a definition that is not of sort s
-skips : (a b : ℕ) (u s : Sort) (w : Bool) (f : Found) → ((u ≡ s) → ⊥) → (if eqb b a then found u false else f) ≡ found s w → (eqb b a ≡ false) × (f ≡ found s w)
+skips : (a b : ℕ) (u s : Sort) (w : Bool) (f : Found) → ((u ≡ s) → ⊥) → (If eqb b a then found u false else f) ≡ found s w → (eqb b a ≡ false) × (f ≡ found s w)
 skips a b u s w f n h = pick (eqb b a) refl h
   where
-    pick : (t : Bool) → eqb b a ≡ t → (if t then found u false else f) ≡ found s w → (t ≡ false) × (f ≡ found s w)
+    pick : (t : Bool) → eqb b a ≡ t → (If t then found u false else f) ≡ found s w → (t ≡ false) × (f ≡ found s w)
     pick true e k = let z : u ≡ s = cc k in absurd (n z)
     pick false e k = (refl, k)
 
@@ -191,7 +191,7 @@ class-found (local (holding g) ∷ gs) a ts w h =
     let r = class-found gs a ts w h in record { fields = r.fields; in_tree = r.in_tree; its-types = r.its-types; at-number = r.at-number }
 class-found (class c xs ∷ gs) a ts w h = pick (eqb c a) refl h (λ k. class-found gs a ts w (past-fields a c xs (defines_globals gs) (is_class ts) w (λ v z. z) k))
   where
-    pick : (b : Bool) → eqb c a ≡ b → (if b then found (is_class (types xs)) false else first_of a (defines_fields c xs ++ defines_globals gs)) ≡ found (is_class ts) w
+    pick : (b : Bool) → eqb c a ≡ b → (If b then found (is_class (types xs)) false else first_of a (defines_fields c xs ++ defines_globals gs)) ≡ found (is_class ts) w
         → (first_of a (defines_fields c xs ++ defines_globals gs) ≡ found (is_class ts) w → ClassFound gs a ts) → ClassFound (class c xs ∷ gs) a ts
     pick true e k f =
         let z : types xs ≡ ts = cc k in
@@ -225,7 +225,7 @@ procedure-found (class c xs ∷ gs) a ts us w h =
     record { its = r.its; in_tree = r.in_tree; takes-types = r.takes-types; gives-types = r.gives-types; at-number = r.at-number }
 procedure-found (procedure b xs d ∷ gs) a ts us w h = pick (eqb b a) refl h (λ k. procedure-found gs a ts us w k)
   where
-    pick : (t : Bool) → eqb b a ≡ t → (if t then found (is_procedure (types xs) (results d)) false else first_of a (defines_globals gs)) ≡ found (is_procedure ts us) w
+    pick : (t : Bool) → eqb b a ≡ t → (If t then found (is_procedure (types xs) (results d)) false else first_of a (defines_globals gs)) ≡ found (is_procedure ts us) w
         → (first_of a (defines_globals gs) ≡ found (is_procedure ts us) w → ProcedureFound gs a ts us) → ProcedureFound (procedure b xs d ∷ gs) a ts us
     pick true e k f =
         let y : types xs ≡ ts = cc k in let z : results d ≡ us = cc k in
@@ -264,7 +264,7 @@ unfolding first_of defines_fields among_names names_of index_of types
 in-fields [] a c d t w h = nothing (is_field d t) w h
 in-fields (x ∷ xs) a c d t w h = pick (eqb x.name a) refl h (λ k. in-fields xs a c d t w k)
   where
-    pick : (b : Bool) → eqb x.name a ≡ b → (if b then found (is_field c x.type) false else first_of a (defines_fields c xs))
+    pick : (b : Bool) → eqb x.name a ≡ b → (If b then found (is_field c x.type) false else first_of a (defines_fields c xs))
         ≡ found (is_field d t) w → (first_of a (defines_fields c xs) ≡ found (is_field d t) w → InFields xs a c d t) → InFields (x ∷ xs) a c d t
     pick true e k f = let y : c ≡ d = cc k in let z : x.type ≡ t = cc k in record { same_class = sym y; there = rw e refl; its-type = rw e (ap some z) }
     pick false e k f = let r = f k in record { same_class = r.same_class; there = rw e r.there; its-type = rw e r.its-type }
@@ -274,7 +274,7 @@ unfolding first_of defines_fields among_names names_of
 not-in-fields [] a c h = refl
 not-in-fields (x ∷ xs) a c h = pick (eqb x.name a) h (λ k. not-in-fields xs a c k)
   where
-    pick : (b : Bool) → (if b then found (is_field c x.type) false else first_of a (defines_fields c xs)) ≡ nowhere
+    pick : (b : Bool) → (If b then found (is_field c x.type) false else first_of a (defines_fields c xs)) ≡ nowhere
         → (first_of a (defines_fields c xs) ≡ nowhere → among_names a (names_of xs) ≡ false) → (b || among_names a (names_of xs)) ≡ false
     pick true k f = nothing (is_field c x.type) false (sym k)
     pick false k f = f k
@@ -355,9 +355,9 @@ unfolding defines_globals defines_head first_of locals
 variable-found [] a s t w v h = h
 variable-found (local (declare x) ∷ gs) a s t w v h = pick (eqb x.name a) h (λ k. variable-found gs a s t w v k)
   where
-    pick : (b : Bool) → (if b then found (is_variable x.type) false else first_of a (defines_globals gs)) ≡ found s w
+    pick : (b : Bool) → (If b then found (is_variable x.type) false else first_of a (defines_globals gs)) ≡ found s w
         → (first_of a (defines_globals gs) ≡ found s w → first_of a (defines_head (locals gs)) ≡ found s w)
-        → (if b then found (is_variable x.type) false else first_of a (defines_head (locals gs))) ≡ found s w
+        → (If b then found (is_variable x.type) false else first_of a (defines_head (locals gs))) ≡ found s w
     pick true k f = k
     pick false k f = f k
 variable-found (local (holding g) ∷ gs) a s t w v h = variable-found gs a s t w v h

@@ -8,7 +8,7 @@ use mathlib.Core.List.{List, [], ◌∷◌, ◌++◌}
 use Rattle.std.proofs.Math.Option.{Option, some}
 use Rattle.std.proofs.Math.Dec.{eqb}
 use Rattle.logic.specs.Lists.{among}
-use Rattle.logic.specs.Choice.{if◌then◌else◌}
+use Rattle.logic.specs.Choice.{If◌then◌else◌}
 use Rattle.values.specs.Types.{Ty, integer}
 use Rattle.language.specs.Tree.{Typed, Decl, declare, holding, Items, no_item, label, item}
 use Rattle.language.specs.Names.{Sort, is_variable, is_label, is_class, is_field, is_procedure, is_control, as_variable, Definition, define, defines_typed, defines_head, defines_items, Scope}
@@ -29,7 +29,7 @@ pub record Style : Type 0 where
   pub name : ℕ → ℕ → Around
   pub hold : ℕ → List Around → List Around
   pub look : ℕ → List Around → Option Kept
-  pub look-name : (a b c : ℕ) (Γ : List Around) → look a (name b c ∷ Γ) ≡ (if eqb b a then some (kept owner c) else look a Γ)
+  pub look-name : (a b c : ℕ) (Γ : List Around) → look a (name b c ∷ Γ) ≡ (If eqb b a then some (kept owner c) else look a Γ)
   pub look-hold : (a g : ℕ) (Γ : List Around) → look a (hold g Γ) ≡ look a Γ
   pub scopes-name : (b c : ℕ) (Γ : List Around) → scopes_of (name b c ∷ Γ) ≡ scopes_of Γ
   pub scopes-hold : (g : ℕ) (Γ : List Around) → scopes_of (hold g Γ) ≡ scopes_of Γ
@@ -38,11 +38,11 @@ pub record Style : Type 0 where
   pub clear-name : (b c : ℕ) (Γ : List Around) → NoLoop (name b c ∷ Γ)
   pub clear-hold : (g : ℕ) (Γ : List Around) → NoLoop Γ → NoLoop (hold g Γ)
 
-pub bound-look : (a b c : ℕ) (Γ : List Around) → kept_of a (bound b c ∷ Γ) ≡ (if eqb b a then some (kept own c) else kept_of a Γ)
+pub bound-look : (a b c : ℕ) (Γ : List Around) → kept_of a (bound b c ∷ Γ) ≡ (If eqb b a then some (kept own c) else kept_of a Γ)
 unfolding bound_at global_at
 bound-look a b c Γ = pick (eqb b a)
   where
-    pick : (t : Bool) → or_cell (if t then some (kept own c) else bound_at a Γ) (global_at a Γ) ≡ (if t then some (kept own c) else or_cell (bound_at a Γ) (global_at a Γ))
+    pick : (t : Bool) → or_cell (If t then some (kept own c) else bound_at a Γ) (global_at a Γ) ≡ (If t then some (kept own c) else or_cell (bound_at a Γ) (global_at a Γ))
     pick true = refl
     pick false = refl
 
@@ -58,7 +58,7 @@ pub held-scopes : (g : ℕ) (Γ : List Around) → scopes_of (held g ∷ Γ) ≡
 unfolding scopes_of
 held-scopes g Γ = refl
 
-pub global-look : (o : Owner) (a b c : ℕ) (Γ : List Around) → global_at a (global o b c ∷ Γ) ≡ (if eqb b a then some (kept o c) else global_at a Γ)
+pub global-look : (o : Owner) (a b c : ℕ) (Γ : List Around) → global_at a (global o b c ∷ Γ) ≡ (If eqb b a then some (kept o c) else global_at a Γ)
 unfolding global_at
 global-look o a b c Γ = refl
 
@@ -142,7 +142,7 @@ unfolding GoodHead defines_head first_of among
 not-again a ss seen [] g h = refl
 not-again a ss seen (declare x ∷ ds) g h = pick (eqb x.name a) refl (not-again a ss (x.name ∷ seen) ds g.2 (or_right (eqb a x.name) (among a seen) h))
   where
-    pick : (t : Bool) → eqb x.name a ≡ t → first_of a (defines_head ds) ≡ nowhere → (if t then found (is_variable x.type) false else first_of a (defines_head ds)) ≡ nowhere
+    pick : (t : Bool) → eqb x.name a ≡ t → first_of a (defines_head ds) ≡ nowhere → (If t then found (is_variable x.type) false else first_of a (defines_head ds)) ≡ nowhere
     pick true e f = never (sym g.0 ∙ subst (λ z. among z seen ≡ true) (sym (eqb-true x.name a e)) h)
     pick false e f = f
 not-again a ss seen (holding q ∷ ds) g h = not-again a ss seen ds g h
@@ -184,10 +184,10 @@ module _ (P : Owner → ℕ → Ty → Type 0) where
     entered-past [] Γ Δ a e h = ap (S.look a) e
     entered-past (declare x ∷ ds) Γ Δ a e h = pick (eqb x.name a) refl h (λ k. entered-past ds (S.name x.name e.0 ∷ Γ) Δ a e.2 k)
       where
-        pick : (t : Bool) → eqb x.name a ≡ t → (if t then found (is_variable x.type) false else first_of a (defines_head ds)) ≡ nowhere
+        pick : (t : Bool) → eqb x.name a ≡ t → (If t then found (is_variable x.type) false else first_of a (defines_head ds)) ≡ nowhere
             → (first_of a (defines_head ds) ≡ nowhere → S.look a Δ ≡ S.look a (S.name x.name e.0 ∷ Γ)) → S.look a Δ ≡ S.look a Γ
         pick true u k f = nothing (is_variable x.type) false (sym k)
-        pick false u k f = f k ∙ S.look-name a x.name e.0 Γ ∙ ap (λ b. if b then some (kept S.owner e.0) else S.look a Γ) u
+        pick false u k f = f k ∙ S.look-name a x.name e.0 Γ ∙ ap (λ b. If b then some (kept S.owner e.0) else S.look a Γ) u
     entered-past (holding g ∷ ds) Γ Δ a e h = entered-past ds (S.hold g Γ) Δ a e h ∙ S.look-hold a g Γ
 
     -- a name that the head has is free, and so is one that was free before
@@ -195,7 +195,7 @@ module _ (P : Owner → ℕ → Ty → Type 0) where
     unfolding Entered defines_head first_of
     entered-free [] Γ Δ a e n f = subst (Free a) (sym e) (f refl)
     entered-free (declare x ∷ ds) Γ Δ a e n f = entered-free ds (S.name x.name e.0 ∷ Γ) Δ a e.2 (S.clear-name x.name e.0 Γ) (λ h.
-        S.free-name a x.name e.0 Γ n (λ u. f (ap (λ b. if b then found (is_variable x.type) false else first_of a (defines_head ds)) u ∙ h)))
+        S.free-name a x.name e.0 Γ n (λ u. f (ap (λ b. If b then found (is_variable x.type) false else first_of a (defines_head ds)) u ∙ h)))
     entered-free (holding g ∷ ds) Γ Δ a e n f = entered-free ds (S.hold g Γ) Δ a e (S.clear-hold g Γ n) (λ h. S.free-hold a g Γ (f h))
 
     pub entered-new : (ds : List Decl) (Γ Δ : List Around) (a : ℕ) (s : Sort) (t : Ty) (w : Bool) (ss : List Scope) (seen : List ℕ) → as_variable s ≡ some t → Entered ds Γ Δ
@@ -205,7 +205,7 @@ module _ (P : Owner → ℕ → Ty → Type 0) where
     entered-new (declare x ∷ ds) Γ Δ a s t w ss seen v e g h =
         pick (eqb x.name a) refl h (λ k. entered-new ds (S.name x.name e.0 ∷ Γ) Δ a s t w ss (x.name ∷ seen) v e.2 g.2 k)
       where
-        pick : (b : Bool) → eqb x.name a ≡ b → (if b then found (is_variable x.type) false else first_of a (defines_head ds)) ≡ found s w
+        pick : (b : Bool) → eqb x.name a ≡ b → (If b then found (is_variable x.type) false else first_of a (defines_head ds)) ≡ found s w
             → (first_of a (defines_head ds) ≡ found s w → Has (S.look a Δ) t) → Has (S.look a Δ) t
         pick true u k f =
             let z : x.type ≡ t = some-type (sym (ap variable_ty (sym k)) ∙ v) in
@@ -213,7 +213,7 @@ module _ (P : Owner → ℕ → Ty → Type 0) where
               S.owner,
               e.0,
               entered-past ds (S.name x.name e.0 ∷ Γ) Δ a e.2 (not-again a ss (x.name ∷ seen) ds g.2 new)
-                  ∙ S.look-name a x.name e.0 Γ ∙ ap (λ b. if b then some (kept S.owner e.0) else S.look a Γ) u,
+                  ∙ S.look-name a x.name e.0 Γ ∙ ap (λ b. If b then some (kept S.owner e.0) else S.look a Γ) u,
               subst (λ y. P S.owner e.0 y) z e.1,
             )
         pick false u k f = f k
@@ -225,7 +225,7 @@ first-append a [] ys = refl
 first-append a (d ∷ xs) ys = pick (eqb d.name a) (first-append a xs ys)
   where
     pick : (t : Bool) → first_of a (xs ++ ys) ≡ otherwise (first_of a xs) (first_of a ys)
-        → (if t then found d.sort false else first_of a (xs ++ ys)) ≡ otherwise (if t then found d.sort false else first_of a xs) (first_of a ys)
+        → (If t then found d.sort false else first_of a (xs ++ ys)) ≡ otherwise (If t then found d.sort false else first_of a xs) (first_of a ys)
     pick true e = refl
     pick false e = e
 
@@ -253,7 +253,7 @@ unfolding first_of defines_items
 only-labels a no_item = tt
 only-labels a (label b is) = pick (eqb b a) (only-labels a is)
   where
-    pick : (t : Bool) → IsLabel (first_of a (defines_items is)) → IsLabel (if t then found is_label false else first_of a (defines_items is))
+    pick : (t : Bool) → IsLabel (first_of a (defines_items is)) → IsLabel (If t then found is_label false else first_of a (defines_items is))
     pick true h = tt
     pick false h = h
 only-labels a (item s is) = only-labels a is
@@ -314,8 +314,8 @@ module _ (P : Owner → ℕ → Ty → Type 0) where
   known-loop b c Γ p k a s t w v h = subst (λ z. Has P z t × (s ≡ is_variable t → Free a (bound b c ∷ inside (loop_of b) ∷ Γ))) (sym (bound-look a b c (inside (loop_of b) ∷ Γ)))
       (pick (eqb b a) (sym (lookup-loop a (define b is_control) (scopes_of Γ)) ∙ h))
     where
-      pick : (x : Bool) → otherwise (if x then found is_control false else nowhere) (lookup a (scopes_of Γ)) ≡ found s w
-          → Has P (if x then some (kept own c) else kept_of a (inside (loop_of b) ∷ Γ)) t × (s ≡ is_variable t → LandsAt x ⊥ (Free a Γ))
+      pick : (x : Bool) → otherwise (If x then found is_control false else nowhere) (lookup a (scopes_of Γ)) ≡ found s w
+          → Has P (If x then some (kept own c) else kept_of a (inside (loop_of b) ∷ Γ)) t × (s ≡ is_variable t → LandsAt x ⊥ (Free a Γ))
       pick true q = (
         (own, c, refl, subst (P own c) (some-type (ap variable_ty q ∙ v)) p),
         λ u. let z : ◌≡◌ {A = ℕ} 0 1 = cc (q, u) in absurd (omega arith),
@@ -339,9 +339,9 @@ module _ (P : Owner → ℕ → Ty → Type 0) where
   given-new (x ∷ xs) n Γ a s t w v g h =
       subst (λ z. Has P z t) (sym (bound-look a x.name n (parameter_cells xs (suc n) Γ))) (pick (eqb x.name a) h (λ k. given-new xs (suc n) Γ a s t w v g.1 k))
     where
-      pick : (b : Bool) → (if b then found (is_variable x.type) false else first_of a (defines_typed xs)) ≡ found s w
+      pick : (b : Bool) → (If b then found (is_variable x.type) false else first_of a (defines_typed xs)) ≡ found s w
           → (first_of a (defines_typed xs) ≡ found s w → Has P (kept_of a (parameter_cells xs (suc n) Γ)) t)
-          → Has P (if b then some (kept own n) else kept_of a (parameter_cells xs (suc n) Γ)) t
+          → Has P (If b then some (kept own n) else kept_of a (parameter_cells xs (suc n) Γ)) t
       pick true k f = (own, n, refl, subst (P own n) (some-type (ap variable_ty k ∙ v)) g.0)
       pick false k f = f k
 
@@ -356,16 +356,16 @@ module _ (P : Owner → ℕ → Ty → Type 0) where
   unfolding defines_typed first_of parameter_cells
   given-free [] n Γ a l f = f refl
   given-free (x ∷ xs) n Γ a l f = bound-free a x.name n (parameter_cells xs (suc n) Γ) (no_loop xs (suc n) Γ l) (λ e.
-      given-free xs (suc n) Γ a l (λ h. f (ap (λ b. if b then found (is_variable x.type) false else first_of a (defines_typed xs)) e ∙ h)))
+      given-free xs (suc n) Γ a l (λ h. f (ap (λ b. If b then found (is_variable x.type) false else first_of a (defines_typed xs)) e ∙ h)))
 
   given-past : (xs : List Typed) (n : ℕ) (Γ : List Around) (a : ℕ) → first_of a (defines_typed xs) ≡ nowhere → kept_of a (parameter_cells xs n Γ) ≡ kept_of a Γ
   unfolding defines_typed first_of parameter_cells
   given-past [] n Γ a h = refl
   given-past (x ∷ xs) n Γ a h = bound-look a x.name n (parameter_cells xs (suc n) Γ) ∙ pick (eqb x.name a) h (λ k. given-past xs (suc n) Γ a k)
     where
-      pick : (b : Bool) → (if b then found (is_variable x.type) false else first_of a (defines_typed xs)) ≡ nowhere
+      pick : (b : Bool) → (If b then found (is_variable x.type) false else first_of a (defines_typed xs)) ≡ nowhere
           → (first_of a (defines_typed xs) ≡ nowhere → kept_of a (parameter_cells xs (suc n) Γ) ≡ kept_of a Γ)
-          → (if b then some (kept own n) else kept_of a (parameter_cells xs (suc n) Γ)) ≡ kept_of a Γ
+          → (If b then some (kept own n) else kept_of a (parameter_cells xs (suc n) Γ)) ≡ kept_of a Γ
       pick true k f = nothing (is_variable x.type) false (sym k)
       pick false k f = f k
 

@@ -5,7 +5,7 @@ use Rattle.std.proofs.Math.Path.{◌≡◌, refl, sym, subst}
 use Rattle.std.proofs.Common.{◌∙◌, eqb-true, eq-eqb}
 use mathlib.Core.List.{List, [], ◌∷◌, ◌++◌}
 use native.Mathlib.Omega.{arith}
-use Rattle.logic.specs.Choice.{if◌then◌else◌}
+use Rattle.logic.specs.Choice.{If◌then◌else◌}
 use Rattle.language.specs.Tree.{Decl, declare, holding, Items, no_item, label, item}
 use Rattle.language.specs.Names.{Sort, is_variable, is_label, is_control, define, loop_of, defines_head, defines_items, block_of, expression_of, Found, nowhere, found, first_of, otherwise, across, lookup}
 use Rattle.language_laws.specs.Lookup.{lookup-block, lookup-expression, lookup-loop}
@@ -25,7 +25,7 @@ unfolding first_of defines_head
 no_label a [] w h = let z : ◌≡◌ {A = ℕ} 0 1 = cc h in omega arith
 no_label a (declare x ∷ ds) w h = pick (eqb x.name a) h (no_label a ds w)
   where
-    pick : (t : Bool) → (if t then found (is_variable x.type) false else first_of a (defines_head ds)) ≡ found is_label w → (first_of a (defines_head ds) ≡ found is_label w → ⊥) → ⊥
+    pick : (t : Bool) → (If t then found (is_variable x.type) false else first_of a (defines_head ds)) ≡ found is_label w → (first_of a (defines_head ds) ≡ found is_label w → ⊥) → ⊥
     pick true h f = let z : ◌≡◌ {A = ℕ} 0 1 = cc h in omega arith
     pick false h f = f h
 no_label a (holding g ∷ ds) w h = no_label a ds w h
@@ -35,8 +35,8 @@ unfolding first_of defines_items has_label
 has-label a no_item s w h = let z : ◌≡◌ {A = ℕ} 0 1 = cc h in absurd (omega arith)
 has-label a (label b is) s w h = pick (eqb b a) refl h (eqb a b) refl (has-label a is s w)
   where
-    pick : (t : Bool) → eqb b a ≡ t → (if t then found is_label false else first_of a (defines_items is)) ≡ found s w → (u : Bool) → eqb a b ≡ u
-        → (first_of a (defines_items is) ≡ found s w → has_label a is ≡ true) → (if u then true else has_label a is) ≡ true
+    pick : (t : Bool) → eqb b a ≡ t → (If t then found is_label false else first_of a (defines_items is)) ≡ found s w → (u : Bool) → eqb a b ≡ u
+        → (first_of a (defines_items is) ≡ found s w → has_label a is ≡ true) → (If u then true else has_label a is) ≡ true
     pick t e h true v f = refl
     pick true e h false v f = let z : false ≡ true = sym v ∙ eq-eqb a b (sym (eqb-true b a e)) in let y : ◌≡◌ {A = ℕ} 0 1 = cc z in absurd (omega arith)
     pick false e h false v f = f h
@@ -87,6 +87,6 @@ pub reached-loop : (b c : ℕ) (Γ : List Around) → Reached Γ → Reached (bo
 unfolding scopes_of GotoOk first_of
 reached-loop b c Γ r a h = r a (pick (eqb b a) (sym (lookup-loop a (define b is_control) (scopes_of Γ)) ∙ h))
   where
-    pick : (t : Bool) → otherwise (if t then found is_control false else nowhere) (lookup a (scopes_of Γ)) ≡ found is_label false → lookup a (scopes_of Γ) ≡ found is_label false
+    pick : (t : Bool) → otherwise (If t then found is_control false else nowhere) (lookup a (scopes_of Γ)) ≡ found is_label false → lookup a (scopes_of Γ) ≡ found is_label false
     pick true q = let z : ◌≡◌ {A = ℕ} 0 1 = cc q in absurd (omega arith)
     pick false q = q

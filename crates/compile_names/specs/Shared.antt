@@ -5,7 +5,7 @@ use Rattle.std.proofs.Common.{◌∙◌, subst}
 use mathlib.Core.List.{List, [], ◌∷◌}
 use Rattle.std.proofs.Math.Option.{Option, none, some}
 use native.Mathlib.Omega.{arith}
-use Rattle.logic.specs.Choice.{if◌then◌else◌}
+use Rattle.logic.specs.Choice.{If◌then◌else◌}
 use Rattle.values.specs.Values.{Cell}
 use Rattle.language.specs.Tree.{Typed, Decl, declare, holding, Global}
 use Rattle.language.specs.Names.{Scope}
@@ -84,12 +84,12 @@ module _ (gs : List Global) where
       number_is : Kept → ℕ
       number_is (kept o c) = c
 
-      mine : {x : Option Kept} (t : Bool) (c : ℕ) (o : Owner) → (if t then some (kept own n) else x) ≡ some (kept o c) → (x ≡ some (kept o c) → o ≡ own) → o ≡ own
+      mine : {x : Option Kept} (t : Bool) (c : ℕ) (o : Owner) → (If t then some (kept own n) else x) ≡ some (kept o c) → (x ≡ some (kept o c) → o ≡ own) → o ≡ own
       mine true c o e f = let z : kept own n ≡ kept o c = cc e in sym (ap owner-is z)
       mine false c o e f = f e
 
-      both : {x y : Option Kept} (t : Bool) (c : ℕ) (o : Owner) → (if t then some (kept root n) else x) ≡ some (kept o c)
-          → (x ≡ some (kept o c) → (o ≡ root) × (y ≡ some (kept own c))) → (o ≡ root) × ((if t then some (kept own n) else y) ≡ some (kept own c))
+      both : {x y : Option Kept} (t : Bool) (c : ℕ) (o : Owner) → (If t then some (kept root n) else x) ≡ some (kept o c)
+          → (x ≡ some (kept o c) → (o ≡ root) × (y ≡ some (kept own c))) → (o ≡ root) × ((If t then some (kept own n) else y) ≡ some (kept own c))
       both true c o e f = let z : kept root n ≡ kept o c = cc e in (sym (ap owner-is z), ap (λ d. some (kept own d)) (ap number_is z))
       both false c o e f = f e
 

@@ -5,7 +5,7 @@ use Rattle.std.proofs.Math.Path.{◌≡◌, refl, ap, sym}
 use Rattle.std.proofs.Common.{◌∙◌, arith}
 use Rattle.std.proofs.Math.Option.{Option, none, some}
 use Rattle.logic.specs.Options.{or_else}
-use Rattle.logic.specs.Choice.{if◌then◌else◌}
+use Rattle.logic.specs.Choice.{If◌then◌else◌}
 use Rattle.values.specs.Types.{Ty, integer, logical, bits, reference, sames}
 use Rattle.values.specs.Operators.{unary, binary, Unary, negate, absolute, complement, Binary, plus, minus, times, divide, remainder, less, at_most, greater, at_least}
 use Rattle.values.specs.Operators.{equal, unequal, both, either, shift_left, shift_right, takes, logical_or_bits, any_one, op_type}
@@ -20,7 +20,7 @@ use Rattle.compile_simulation.specs.Projections.{nothing}
 pub took : (asked ts : List Ty) (given r : Ty) → takes asked given ts ≡ some r → (ts ≡ asked) × (r ≡ given)
 took asked ts given r h = pick (sames ts asked) refl h
   where
-    pick : (b : Bool) → sames ts asked ≡ b → (if b then some given else none) ≡ some r → (ts ≡ asked) × (r ≡ given)
+    pick : (b : Bool) → sames ts asked ≡ b → (If b then some given else none) ≡ some r → (ts ≡ asked) × (r ≡ given)
     pick true e k = let z : given ≡ r = cc k in (sames→≡ ts asked e, sym z)
     pick false e k = nothing r k
 

@@ -1,7 +1,7 @@
 -- What the names in sight stand for: the items of the lent stack beside what lies around a part in the definition of its code.
 use Rattle.std.specs.Prelude.{◌≡◌, Bool, false, List, [], ◌∷◌, ◌++◌, ℕ, suc, ◌+◌, ◌<◌, eqb, get_or, drop}
 use Rattle.std.proofs.Math.Option.{some}
-use Rattle.logic.specs.Choice.{if◌then◌else◌}
+use Rattle.logic.specs.Choice.{If◌then◌else◌}
 use Rattle.values.specs.Types.{Ty, integer, ty_byte}
 use Rattle.language.specs.Tree.{Global}
 use Rattle.language.specs.Names.{Sort, is_variable, is_label, is_class, is_field, is_procedure, is_control, lookup}
@@ -35,7 +35,7 @@ hold_mark = 65539
 -- the holds between here and the definition of a name
 unfoldable pub passed_to : ℕ → List Item → ℕ
 passed_to a [] = 0
-passed_to a (item m s n q ∷ v) = if eqb m a then 0 else if eqb m hold_mark then suc (passed_to a v) else passed_to a v
+passed_to a (item m s n q ∷ v) = If eqb m a then 0 else If eqb m hold_mark then suc (passed_to a v) else passed_to a v
 
 -- where a goto lands
 unfoldable pub target_of : List Around → ℕ → ℕ
@@ -45,7 +45,7 @@ target_of (outermost s ∷ Γ) a = target_of Γ a
 target_of (bound b c ∷ Γ) a = target_of Γ a
 target_of (global o b c ∷ Γ) a = target_of Γ a
 target_of (held g ∷ Γ) a = target_of Γ a
-target_of (labels is x ∷ Γ) a = if has_label a is then label_at is (scopes_of Γ) (the_labels is ∷ passing Γ) x a else target_of Γ a
+target_of (labels is x ∷ Γ) a = If has_label a is then label_at is (scopes_of Γ) (the_labels is ∷ passing Γ) x a else target_of Γ a
 
 -- the byte of a procedure's result; 0 where it has none
 abbrev pub result_of : List Global → List Ty → ℕ
@@ -59,7 +59,7 @@ pub record MeansCell (W : Walk) (Γ : List Around) (a q : ℕ) (t : Ty) : Type 0
   pub whose : ℕ
   pub found : cell_of a Γ ≡ some (kept owner cell)
   pub number : get_or W.known q 0 ≡ packed (ty_byte (ty_in W.globals t)) whose cell
-  pub owned : (if W.within then whose else 0) ≡ owner_code owner
+  pub owned : (If W.within then whose else 0) ≡ owner_code owner
   pub small-type : ty_byte (ty_in W.globals t) < 256
   pub small-whose : whose < 256
   pub small-cell : cell < 256

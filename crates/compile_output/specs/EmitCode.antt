@@ -4,7 +4,7 @@ use Rattle.std.proofs.Math.Path.{ap}
 use Rattle.std.proofs.Common.{sym, ◌∙◌, arith}
 use Rattle.std.proofs.lemmas.List.Edits.{sets}
 use Rattle.std.proofs.Math.Seq.{length-sets}
-use Rattle.logic.specs.Choice.{if◌then◌else◌}
+use Rattle.logic.specs.Choice.{If◌then◌else◌}
 use Rattle.values.specs.Types.{ty_byte}
 use Rattle.bytecode.specs.Macro.{Shape}
 use Rattle.bytecode.specs.Macro.{Code as Record}
@@ -25,8 +25,8 @@ cursor_after (x ▸ y) p = cursor_after y (cursor_after x p)
 -- the output after a part
 unfoldable pub emitted : Code → Cursor → List ℕ → List ℕ
 emitted nil p l = l
-emitted (op i) p l = if p.dry then l else sets l p.at (code_bytes (record_of i))
-emitted (mark s) p l = if p.dry then l else if p.waits then l else sets l p.sh (shape_bytes (record { address = p.address; found = s }))
+emitted (op i) p l = If p.dry then l else sets l p.at (code_bytes (record_of i))
+emitted (mark s) p l = If p.dry then l else If p.waits then l else sets l p.sh (shape_bytes (record { address = p.address; found = s }))
 emitted (cell t) p l = l
 emitted (x ▸ y) p l = emitted y (cursor_after x p) (emitted x p l)
 
@@ -45,7 +45,7 @@ pub emitted-op : (i : Instr) (k a b : ℕ) (p : Cursor) → (p.dry ≡ false →
 unfolding emitted
 emitted-op i k a b p e l = by p.dry e
   where
-    by : (d : Bool) → (d ≡ false → record_of i ≡ rec k a b) → (if d then l else sets l p.at (instruction k a b)) ≡ (if d then l else sets l p.at (code_bytes (record_of i)))
+    by : (d : Bool) → (d ≡ false → record_of i ≡ rec k a b) → (If d then l else sets l p.at (instruction k a b)) ≡ (If d then l else sets l p.at (code_bytes (record_of i)))
     by true h = refl
     by false h = sym (ap (λ (r : Record). sets l p.at (code_bytes r)) (h refl))
 
@@ -105,7 +105,7 @@ later-moved p = record {
 pub later-shaped : (d : ℕ) (p : Cursor) → Later p (cursor_shaped d p)
 later-shaped d p = by p.waits
   where
-    by : (w : Bool) → Later p (if w then p else cursor_marked d p)
+    by : (w : Bool) → Later p (If w then p else cursor_marked d p)
     by true = later-self p
     by false = record {
       at-later = omega arith;
@@ -178,7 +178,7 @@ address-after nil p q h = h
 address-after (op i) p q h = omega arith
 address-after (mark s) p q h = by p.waits
   where
-    by : (w : Bool) → (if w then p else cursor_marked (length s.operands) p).address ≡ q.address
+    by : (w : Bool) → (If w then p else cursor_marked (length s.operands) p).address ≡ q.address
     by true = h
     by false = h
 address-after (cell t) p q h = h
@@ -190,7 +190,7 @@ unfolding emitted
 length-emitted nil p l = refl
 length-emitted (op i) p l = by p.dry
   where
-    by : (d : Bool) → length (if d then l else sets l p.at (code_bytes (record_of i))) ≡ length l
+    by : (d : Bool) → length (If d then l else sets l p.at (code_bytes (record_of i))) ≡ length l
     by true = refl
     by false = length-sets l p.at (code_bytes (record_of i))
 length-emitted (mark s) p l =

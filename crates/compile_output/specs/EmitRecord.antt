@@ -4,7 +4,7 @@ use Rattle.std.proofs.Common.{ap, sym, ◌∙◌, arith, length-take-le}
 use Rattle.std.proofs.Math.Numerals.{towards_suc}
 use Rattle.std.proofs.lemmas.List.Edits.{sets, sets-eq}
 use Rattle.std.proofs.Math.Seq.{length-sets, paste, paste-suc}
-use Rattle.logic.specs.Choice.{if◌then◌else◌}
+use Rattle.logic.specs.Choice.{If◌then◌else◌}
 use Rattle.words.specs.Numbers.{word, half}
 use Rattle.compile_output.specs.declared.Cursor.{Cursor}
 
@@ -29,14 +29,14 @@ cursor_marked d p =
 
 -- of two shapes at one address the first is kept
 abbrev pub cursor_shaped : ℕ → Cursor → Cursor
-cursor_shaped d p = if p.waits then p else cursor_marked d p
+cursor_shaped d p = If p.waits then p else cursor_marked d p
 
 -- ── the bytes ──
 abbrev pub emit_op : Cursor → List ℕ → ℕ → ℕ → ℕ → List ℕ
-emit_op p l k a b = if p.dry then l else sets l p.at (instruction k a b)
+emit_op p l k a b = If p.dry then l else sets l p.at (instruction k a b)
 
 abbrev pub emit_shape : Cursor → List ℕ → ℕ → ℕ → List ℕ → List ℕ
-emit_shape p l h d ts = if p.dry then l else if p.waits then l else sets l p.sh (shape_record p.address h d ts)
+emit_shape p l h d ts = If p.dry then l else If p.waits then l else sets l p.sh (shape_record p.address h d ts)
 
 -- What a cursor may have come to in an output of n bytes: sums of places do not wrap, an address is a u16, and what is written lies in the output.
 -- It is asked of the cursor after a part; it then holds of every cursor within the part (`fits-before` in EmitCode).
@@ -58,7 +58,7 @@ module _ (p : Cursor) (l : List ℕ) (k a b : ℕ) where
   pub length-emit : length (emit_op p l k a b) ≡ length l
   length-emit = by p.dry
     where
-      by : (d : Bool) → length (if d then l else sets l p.at (instruction k a b)) ≡ length l
+      by : (d : Bool) → length (If d then l else sets l p.at (instruction k a b)) ≡ length l
       by true = refl
       by false = length-sets l p.at (instruction k a b)
 
@@ -76,7 +76,7 @@ module _ (p : Cursor) (l : List ℕ) (h d : ℕ) (ts : List ℕ) where
   pub shape-kept : p.waits ≡ true → l ≡ emit_shape p l h d ts
   shape-kept w = by p.dry
     where
-      by : (b : Bool) → l ≡ (if b then l else if p.waits then l else sets l p.sh (shape_record p.address h d ts))
+      by : (b : Bool) → l ≡ (If b then l else If p.waits then l else sets l p.sh (shape_record p.address h d ts))
       by true = refl
       by false = rw w
 
@@ -89,7 +89,7 @@ module _ (p : Cursor) (l : List ℕ) (h d : ℕ) (ts : List ℕ) where
   pub length-shape : length (emit_shape p l h d ts) ≡ length l
   length-shape = by p.dry p.waits
     where
-      by : (b w : Bool) → length (if b then l else if w then l else sets l p.sh (shape_record p.address h d ts)) ≡ length l
+      by : (b w : Bool) → length (If b then l else If w then l else sets l p.sh (shape_record p.address h d ts)) ≡ length l
       by true w = refl
       by false true = refl
       by false false = length-sets l p.sh (shape_record p.address h d ts)

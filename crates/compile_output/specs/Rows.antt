@@ -2,7 +2,7 @@
 use Rattle.std.specs.Prelude.{◌≡◌, refl, Bool, true, false, List, ℕ, zero, suc, ◌+◌, ◌/◌, ◌%◌, ◌≤◌, ◌<◌, eqb, leb, length, get_or}
 use Rattle.std.proofs.Common.{ap, arith, eqb-true, leb-true, leb-false}
 use Rattle.std.proofs.lemmas.Bool.{eqb-false}
-use Rattle.logic.specs.Choice.{if◌then◌else◌}
+use Rattle.logic.specs.Choice.{If◌then◌else◌}
 use Rattle.compile_code.specs.Code.{ahead}
 use Rattle.compile_output.specs.declared.Cursor.{Cursor}
 use Rattle.compile_output.specs.EmitRecord.{moved, cursor_shaped, emit_op, emit_shape, Fits, length-emit, length-shape}
@@ -25,19 +25,19 @@ offset_in r = r % 256
 -- b: counted from the cell c, or from the address x where the pattern begins; the address z behind the loop; or a number
 abbrev pub number_in : ℕ → ℕ → ℕ → ℕ → ℕ
 number_in c x z r =
-    if eqb (base_in r) 1 then ahead (offset_in r) c else
-    if eqb (base_in r) 2 then ahead (offset_in r) x else
-    if eqb (base_in r) 3 then z else
-    if eqb (base_in r) 4 then 2147483647 else
-    if eqb (base_in r) 5 then 2147483648 else
-    if eqb (base_in r) 6 then 4294967295 else offset_in r
+    If eqb (base_in r) 1 then ahead (offset_in r) c else
+    If eqb (base_in r) 2 then ahead (offset_in r) x else
+    If eqb (base_in r) 3 then z else
+    If eqb (base_in r) 4 then 2147483647 else
+    If eqb (base_in r) 5 then 2147483648 else
+    If eqb (base_in r) 6 then 4294967295 else offset_in r
 
 -- a row with the op 255 is a shape
 abbrev pub cursor_row : ℕ → ℕ → Cursor → Cursor
-cursor_row d r p = if eqb (op_in r) 255 then cursor_shaped d p else moved p
+cursor_row d r p = If eqb (op_in r) 255 then cursor_shaped d p else moved p
 
 abbrev pub emit_row : ℕ → ℕ → List ℕ → ℕ → ℕ → Cursor → List ℕ → List ℕ
-emit_row h d ts b r p l = if eqb (op_in r) 255 then emit_shape p l h d ts else emit_op p l (op_in r) (a_in r) b
+emit_row h d ts b r p l = If eqb (op_in r) 255 then emit_shape p l h d ts else emit_op p l (op_in r) (a_in r) b
 
 -- ── the first n rows ──
 unfoldable pub cursor_rows : List ℕ → ℕ → ℕ → Cursor → Cursor
@@ -56,7 +56,7 @@ ahead-sum (suc n) a = let q = ahead-sum n a in omega (arith, q)
 later-row : (d r : ℕ) (p : Cursor) → Later p (cursor_row d r p)
 later-row d r p = by (eqb (op_in r) 255)
   where
-    by : (b : Bool) → Later p (if b then cursor_shaped d p else moved p)
+    by : (b : Bool) → Later p (If b then cursor_shaped d p else moved p)
     by true = later-shaped d p
     by false = later-moved p
 
@@ -84,7 +84,7 @@ fits-row t i n d m p h f = fits-before m (later_rows t (suc i) n d p (omega arit
 pub length-row : (h d : ℕ) (ts : List ℕ) (b r : ℕ) (p : Cursor) (l : List ℕ) → length (emit_row h d ts b r p l) ≡ length l
 length-row h d ts b r p l = by (eqb (op_in r) 255)
   where
-    by : (t : Bool) → length (if t then emit_shape p l h d ts else emit_op p l (op_in r) (a_in r) b) ≡ length l
+    by : (t : Bool) → length (If t then emit_shape p l h d ts else emit_op p l (op_in r) (a_in r) b) ≡ length l
     by true = length-shape p l h d ts
     by false = length-emit p l (op_in r) (a_in r) b
 

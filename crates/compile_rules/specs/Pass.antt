@@ -7,7 +7,7 @@ use mathlib.Core.List.{List, [], ◌∷◌, reverse_aux}
 use Rattle.std.proofs.Math.Option.{none, some}
 use native.Mathlib.Omega.{arith}
 use Rattle.std.proofs.Math.ListN.{length, get_elem?}
-use Rattle.logic.specs.Choice.{if◌then◌else◌}
+use Rattle.logic.specs.Choice.{If◌then◌else◌}
 use Rattle.words.specs.Numbers.{word_of}
 use Rattle.values.specs.Types.{Ty, integer, logical, bits, reference, sames}
 use Rattle.values.specs.Operators.{unary, binary, Binary, equal, op_type}
@@ -144,7 +144,7 @@ module _ (m : Macro) (k : ℕ) (gs : List Global) where
     pass_goto (labels is x ∷ Γ) true a ts o r = pick (has_label a is) refl o (λ o'. pass_goto Γ true a ts o' r.1)
       where
         pick : (b : Bool) → has_label a is ≡ b → LandsAt b (Unit {0}) (GotoOk true Γ a) → (GotoOk true Γ a → Seg m k Aim (code_goto Γ a) (some (found Γ ts)) none)
-            → Seg m k Aim (if b then op (go (label_at is (scopes_of Γ) (the_labels is ∷ passing Γ) x a)) else code_goto Γ a) (some (found Γ ts)) none
+            → Seg m k Aim (If b then op (go (label_at is (scopes_of Γ) (the_labels is ∷ passing Γ) x a)) else code_goto Γ a) (some (found Γ ts)) none
         pick true e o f = goes m k Aim (label_at is (scopes_of Γ) (the_labels is ∷ passing Γ) x a) (length (held_in Γ)) ts (r.0 a e)
         pick false e o f = f o
     pass_goto (labels is x ∷ Γ) false a ts o r = absurd o
@@ -196,9 +196,9 @@ module _ (m : Macro) (k : ℕ) (gs : List Global) where
     labelled no_item Γ ts p a g e = let z : ◌≡◌ {A = ℕ} 0 1 = cc e in absurd (omega arith)
     labelled (label b is) Γ ts p a g e = pick (eqb a b) e (λ e'. labelled is Γ ts p a g.1 e')
       where
-        pick : (t : Bool) → (if t then true else has_label a is) ≡ true
+        pick : (t : Bool) → (If t then true else has_label a is) ≡ true
             → (has_label a is ≡ true → Aim (label_at is (scopes_of Γ) (passing Γ) p.address a) (found Γ ts))
-            → Aim (if t then p.address else label_at is (scopes_of Γ) (passing Γ) p.address a) (found Γ ts)
+            → Aim (If t then p.address else label_at is (scopes_of Γ) (passing Γ) p.address a) (found Γ ts)
         pick true e f = g.0
         pick false e f = f e
     labelled (item s is) Γ ts p a g e = subst (λ z. Aim (label_at is (scopes_of Γ) (passing Γ) z a) (found Γ ts)) (len_s gs s Γ ts p) (labelled is Γ ts (after (code_s gs s Γ ts p) p) a g.1 e)

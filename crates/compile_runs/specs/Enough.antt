@@ -7,7 +7,7 @@ use mathlib.Core.List.{List, [], ◌∷◌, ◌++◌}
 use Rattle.std.proofs.Math.Logic.{inl}
 use Prim.Native.Nat.{ℕ, zero, suc, ◌+◌, ◌-◌, ◌≤◌, ◌<◌}
 use native.Mathlib.Omega.{arith}
-use Rattle.logic.specs.Choice.{if◌then◌else◌}
+use Rattle.logic.specs.Choice.{If◌then◌else◌}
 use Rattle.words.specs.Laws.{Bytes}
 use Rattle.values.specs.Trace.{Item, event, reading}
 use Rattle.bytecode.specs.Macro.{Macro}
@@ -82,7 +82,7 @@ module _ (m : Macro) (w : Passed m) where
   unfolding run
   still-ended c f = by (eqb (length f.readings) 64)
     where
-      by : (b : Bool) → (if b then with (finishes c 0) (ended c) else with (refuses (refusal 11 0)) (ended c)).state ≡ ended c
+      by : (b : Bool) → (If b then with (finishes c 0) (ended c) else with (refuses (refusal 11 0)) (ended c)).state ≡ ended c
       by true = refl
       by false = refl
 

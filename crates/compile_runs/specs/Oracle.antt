@@ -6,7 +6,7 @@ use mathlib.Core.List.{List, [], ◌∷◌, ◌++◌, reverse_aux}
 use Rattle.std.proofs.Math.Option.{Option, none, some}
 use Prim.Native.Nat.{ℕ, zero, suc, ◌+◌, ◌-◌, ◌≤◌, ◌<◌}
 use native.Mathlib.Omega.{arith}
-use Rattle.logic.specs.Choice.{if◌then◌else◌}
+use Rattle.logic.specs.Choice.{If◌then◌else◌}
 use Rattle.words.specs.Laws.{Bytes}
 use Rattle.std.proofs.Math.IntN.{ℤ}
 use Rattle.values.specs.Values.{Value, int, as_integer, between, size}
@@ -47,9 +47,9 @@ unfolding do_fader
 quiet-fader a b h q = pick h.top.operands q
   where
     F : (ℕ → ℕ) → List Value → Option ℤ → Stepped
-    F bank vs o = given o bad_type (λ x. if between 1 64 x then goes_on (reading (size x) (bank (size x)) ∷ []) (int (pos (bank (size x))) ∷ vs) h else condition out_of_range h)
+    F bank vs o = given o bad_type (λ x. If between 1 64 x then goes_on (reading (size x) (bank (size x)) ∷ []) (int (pos (bank (size x))) ∷ vs) h else condition out_of_range h)
 
-    far : (x y : Bool) (s u w z : Stepped) → (Quiet s → ⊥) → Quiet (if x then (if y then s else u) else w) → (if x then (if y then z else u) else w) ≡ (if x then (if y then s else u) else w)
+    far : (x y : Bool) (s u w z : Stepped) → (Quiet s → ⊥) → Quiet (If x then (If y then s else u) else w) → (If x then (If y then z else u) else w) ≡ (If x then (If y then s else u) else w)
     far true true s u w z n q = absurd (n q)
     far true false s u w z n q = refl
     far false y s u w z n q = refl
@@ -90,11 +90,11 @@ module _ (a b : ℕ → ℕ) (same : (n : ℕ) → 1 ≤ n → n ≤ 64 → a n 
   agree-fader h = pick h.top.operands
     where
       F : (ℕ → ℕ) → List Value → Option ℤ → Stepped
-      F bank vs o = given o bad_type (λ x. if between 1 64 x then goes_on (reading (size x) (bank (size x)) ∷ []) (int (pos (bank (size x))) ∷ vs) h else condition out_of_range h)
+      F bank vs o = given o bad_type (λ x. If between 1 64 x then goes_on (reading (size x) (bank (size x)) ∷ []) (int (pos (bank (size x))) ∷ vs) h else condition out_of_range h)
 
       on-x : (x : ℤ) (vs : List Value) (t : Bool) → between 1 64 x ≡ t
-          → (if t then goes_on (reading (size x) (a (size x)) ∷ []) (int (pos (a (size x))) ∷ vs) h else condition out_of_range h)
-          ≡ (if t then goes_on (reading (size x) (b (size x)) ∷ []) (int (pos (b (size x))) ∷ vs) h else condition out_of_range h)
+          → (If t then goes_on (reading (size x) (a (size x)) ∷ []) (int (pos (a (size x))) ∷ vs) h else condition out_of_range h)
+          ≡ (If t then goes_on (reading (size x) (b (size x)) ∷ []) (int (pos (b (size x))) ∷ vs) h else condition out_of_range h)
       on-x x vs true e = let r = size-between 1 64 x e in ap (λ (n : ℕ). goes_on (reading (size x) n ∷ []) (int (pos n) ∷ vs) h) (same (size x) r.0 r.1)
       on-x x vs false e = refl
 
@@ -255,8 +255,8 @@ module _ (W : Setting) (w : Passed W.macro) where
       by (running rs x fs) h a = on (running rs x fs) h a
       by (unwinding gs x) h a = on (unwinding gs x) h a
 
-      go : (t : Bool) → ((j : ℕ) → j < readings_in (if t then ends_run s 0 whole else with (refuses (refusal 11 0)) s).trace → Reads W.oracle (k + j) f.readings)
-          → let r = if t then ends_run s 0 whole else with (refuses (refusal 11 0)) s in (d : ℕ) × (d ≡ steps_of r.answer) × Comes s tr k d r.state r.trace
+      go : (t : Bool) → ((j : ℕ) → j < readings_in (If t then ends_run s 0 whole else with (refuses (refusal 11 0)) s).trace → Reads W.oracle (k + j) f.readings)
+          → let r = If t then ends_run s 0 whole else with (refuses (refusal 11 0)) s in (d : ℕ) × (d ≡ steps_of r.answer) × Comes s tr k d r.state r.trace
       go true a = by s h a
       go false a = (0, refl, stay s tr k)
 

@@ -1,7 +1,7 @@
 -- The readings that runs take, and the oracle that they follow: "the k-th reading is taken from the 64 bytes of the run in which it falls" (DECISIONS, T13).
 use Rattle.std.specs.Prelude.{Bool, true, false, ◌≡◌, List, [], ◌∷◌, ℕ, ◌+◌, ◌-◌, ◌≤◌, ◌<◌, ltb}
 use Rattle.std.proofs.Common.{ap, ◌∙◌, arith, lt-ltb, le-ltb}
-use Rattle.logic.specs.Choice.{if◌then◌else◌}
+use Rattle.logic.specs.Choice.{If◌then◌else◌}
 use Rattle.words.specs.Laws.{Bytes}
 use Rattle.values.specs.Trace.{readings_in}
 use Rattle.bytecode.specs.Macro.{Macro}
@@ -18,7 +18,7 @@ unfoldable pub oracle_of : Macro → List Feed → Machine → ℕ → ℕ → �
 oracle_of m [] s k = λ n. 0
 oracle_of m (f ∷ fs) s k =
     let c = takes_in m f s in
-    if ltb k c then bank_of f.readings else oracle_of m fs (run m f.readings f.allowance s).state (k - c)
+    If ltb k c then bank_of f.readings else oracle_of m fs (run m f.readings f.allowance s).state (k - c)
 
 -- the oracle's k-th reading, of whichever fader, is in these bytes
 abbrev pub Reads : (ℕ → ℕ → ℕ) → ℕ → List ℕ → Type 0
@@ -37,10 +37,10 @@ unfolding oracle_of
 follows m o [] s k a = tt
 follows m o (f ∷ fs) s k a =
     let r = run m f.readings f.allowance s in let c = takes_in m f s in (
-      (λ j l n lo hi. ap (λ (b : ℕ → ℕ). b n) (a j ∙ ap (λ t. if t then bank_of f.readings else oracle_of m fs r.state (j - c)) (lt-ltb j c l))),
+      (λ j l n lo hi. ap (λ (b : ℕ → ℕ). b n) (a j ∙ ap (λ t. If t then bank_of f.readings else oracle_of m fs r.state (j - c)) (lt-ltb j c l))),
       follows m o fs r.state (k + c) (λ j.
           let e1 : k + c + j ≡ k + (c + j) = omega arith in let e2 : c + j - c ≡ j = omega arith in
-          ap o e1 ∙ a (c + j) ∙ ap (λ t. if t then bank_of f.readings else oracle_of m fs r.state (c + j - c)) (le-ltb (c + j) c (omega arith)) ∙ ap (oracle_of m fs r.state) e2),
+          ap o e1 ∙ a (c + j) ∙ ap (λ t. If t then bank_of f.readings else oracle_of m fs r.state (c + j - c)) (le-ltb (c + j) c (omega arith)) ∙ ap (oracle_of m fs r.state) e2),
     )
 
 -- the oracle gives bytes
@@ -50,6 +50,6 @@ oracle-bytes m [] b s k n = omega arith
 oracle-bytes m (f ∷ fs) b s k n = go (ltb k (takes_in m f s)) (oracle-bytes m fs b.1 (run m f.readings f.allowance s).state (k - takes_in m f s) n)
   where
     go : (t : Bool) → oracle_of m fs (run m f.readings f.allowance s).state (k - takes_in m f s) n < 256
-        → (if t then bank_of f.readings else oracle_of m fs (run m f.readings f.allowance s).state (k - takes_in m f s)) n < 256
+        → (If t then bank_of f.readings else oracle_of m fs (run m f.readings f.allowance s).state (k - takes_in m f s)) n < 256
     go true h = b.0 (n - 1)
     go false h = h

@@ -10,7 +10,7 @@ use Rattle.std.proofs.Math.Dec.{eqb}
 use Rattle.std.proofs.Math.ListN.{get_or}
 use Rattle.language.specs.Program.{flat_typed, flat_decl}
 use Rattle.logic.specs.Lists.{among}
-use Rattle.logic.specs.Choice.{if◌then◌else◌}
+use Rattle.logic.specs.Choice.{If◌then◌else◌}
 use Rattle.values.specs.Types.{Ty, integer, logical, bits, reference, ty_code, ty_byte}
 use Rattle.language.specs.Tree.{Typed, Decl, declare, holding, Items, no_item, label, item, Global}
 use Rattle.language.specs.Table.{Entry}
@@ -139,7 +139,7 @@ unfolding first_of defines_head
 no-class c [] ts w h = nothing (is_class ts) w h
 no-class c (declare x ∷ ds) ts w h = pick (eqb x.name c) h (no-class c ds ts w)
   where
-    pick : (t : Bool) → (if t then found (is_variable x.type) false else first_of c (defines_head ds)) ≡ found (is_class ts) w → (first_of c (defines_head ds) ≡ found (is_class ts) w → ⊥) → ⊥
+    pick : (t : Bool) → (If t then found (is_variable x.type) false else first_of c (defines_head ds)) ≡ found (is_class ts) w → (first_of c (defines_head ds) ≡ found (is_class ts) w → ⊥) → ⊥
     pick true h f = let z : ◌≡◌ {A = ℕ} 0 1 = cc h in omega arith
     pick false h f = f h
 no-class c (holding g ∷ ds) ts w h = no-class c ds ts w h
@@ -164,7 +164,7 @@ module _ (W : Walk) (a : ℕ) where
   abbrev Names : List ℕ
   Names = class_names (classes_of W.globals)
 
-  owned-here : (b : Bool) → (if b then 0 else 0) ≡ owner_code own
+  owned-here : (b : Bool) → (If b then 0 else 0) ≡ owner_code own
   owned-here true = refl
   owned-here false = refl
 
@@ -194,7 +194,7 @@ module _ (W : Walk) (a : ℕ) where
       pick : (t : Bool) → eqb x.name a ≡ t
           → Both (λ q t. Means W (entering of_block ds (suc n) (bound x.name n ∷ Γ)) a q t) (first_in a (head_items 4 (suc p) ds)) (first_of a (defines_head ds))
           → Both (λ q t. Means W (entering of_block ds (suc n) (bound x.name n ∷ Γ)) a q t)
-          (if t then Def 4 (ty_code x.type) p false else first_in a (head_items 4 (suc p) ds)) (if t then found (is_variable x.type) false else first_of a (defines_head ds))
+          (If t then Def 4 (ty_code x.type) p false else first_in a (head_items 4 (suc p) ds)) (If t then found (is_variable x.type) false else first_of a (defines_head ds))
       pick true e r = cell-means (entering of_block ds (suc n) (bound x.name n ∷ Γ)) p n x (new-entering of_block a x.name n ds (suc n) Γ ss seen e g.2) (lies-here _ _ k) b.0 (omega arith)
       pick false e r = r
   head-means (holding q ∷ ds) p n Γ ss seen g b k c = head-means ds (suc p) n (held q ∷ Γ) ss seen g b (rw (add-zero n) at (lies-tail _ _ k)) (omega arith)
@@ -207,13 +207,13 @@ module _ (W : Walk) (a : ℕ) where
   parameters-mean [] p n Γ b k c = tt
   parameters-mean (x ∷ xs) p n Γ b k c = pick (eqb x.name a) refl (parameters-mean xs (suc p) (suc n) Γ b.1 (rw (add-one n) at (lies-tail _ _ k)) (omega arith))
     where
-      look : (t : Bool) → eqb x.name a ≡ t → cell_of a (bound x.name n ∷ parameter_cells xs (suc n) Γ) ≡ (if t then some (kept own n) else cell_of a (parameter_cells xs (suc n) Γ))
+      look : (t : Bool) → eqb x.name a ≡ t → cell_of a (bound x.name n ∷ parameter_cells xs (suc n) Γ) ≡ (If t then some (kept own n) else cell_of a (parameter_cells xs (suc n) Γ))
       look t e = bound-look a x.name n (parameter_cells xs (suc n) Γ) ∙ rw e
 
       pick : (t : Bool) → eqb x.name a ≡ t
           → Both (λ q t. Means W (parameter_cells xs (suc n) Γ) a q t) (first_in a (head_items 4 (suc p) (map declare xs))) (first_of a (defines_typed xs))
           → Both (λ q t. Means W (bound x.name n ∷ parameter_cells xs (suc n) Γ) a q t)
-          (if t then Def 4 (ty_code x.type) p false else first_in a (head_items 4 (suc p) (map declare xs))) (if t then found (is_variable x.type) false else first_of a (defines_typed xs))
+          (If t then Def 4 (ty_code x.type) p false else first_in a (head_items 4 (suc p) (map declare xs))) (If t then found (is_variable x.type) false else first_of a (defines_typed xs))
       pick true e r = cell-means (bound x.name n ∷ parameter_cells xs (suc n) Γ) p n x (look true e) (lies-here _ _ k) b.0 (omega arith)
       pick false e r = both-moved W (parameter_cells xs (suc n) Γ) (bound x.name n ∷ parameter_cells xs (suc n) Γ) a (first_in a (head_items 4 (suc p) (map declare xs)))
           (first_of a (defines_typed xs)) (look false e) r
@@ -223,9 +223,9 @@ module _ (W : Walk) (a : ℕ) where
   past-parameters [] n Γ h = refl
   past-parameters (x ∷ xs) n Γ h = bound-look a x.name n (parameter_cells xs (suc n) Γ) ∙ pick (eqb x.name a) h (λ k. past-parameters xs (suc n) Γ k)
     where
-      pick : (b : Bool) → (if b then found (is_variable x.type) false else first_of a (defines_typed xs)) ≡ nowhere
+      pick : (b : Bool) → (If b then found (is_variable x.type) false else first_of a (defines_typed xs)) ≡ nowhere
           → (first_of a (defines_typed xs) ≡ nowhere → cell_of a (parameter_cells xs (suc n) Γ) ≡ cell_of a Γ)
-          → (if b then some (kept own n) else cell_of a (parameter_cells xs (suc n) Γ)) ≡ cell_of a Γ
+          → (If b then some (kept own n) else cell_of a (parameter_cells xs (suc n) Γ)) ≡ cell_of a Γ
       pick true k f = nothing (is_variable x.type) false (sym k)
       pick false k f = f k
 
@@ -236,7 +236,7 @@ module _ (W : Walk) (a : ℕ) where
   labels-mean p (label b is) Γ = pick (eqb b a) (labels-mean (suc p) is Γ)
     where
       pick : (t : Bool) → Both (λ q t. Means W Γ a q t) (first_in a (label_items (suc p) is)) (first_of a (defines_items is))
-          → Both (λ q t. Means W Γ a q t) (if t then Def 5 0 p false else first_in a (label_items (suc p) is)) (if t then found is_label false else first_of a (defines_items is))
+          → Both (λ q t. Means W Γ a q t) (If t then Def 5 0 p false else first_in a (label_items (suc p) is)) (If t then found is_label false else first_of a (defines_items is))
       pick true r = tt
       pick false r = r
   labels-mean p (item s is) Γ = labels-mean (p + size_s s) is Γ
@@ -252,7 +252,7 @@ module _ (a : ℕ) where
   has_first p no_item = refl
   has_first p (label b is) = rw (eqb_comm a b) (pick (eqb b a) (has_first (suc p) is))
     where
-      pick : (t : Bool) → has_label a is ≡ is_def (first_in a (label_items (suc p) is)) → (if t then true else has_label a is) ≡ is_def (if t then Def 5 0 p false else first_in a (label_items (suc p) is))
+      pick : (t : Bool) → has_label a is ≡ is_def (first_in a (label_items (suc p) is)) → (If t then true else has_label a is) ≡ is_def (If t then Def 5 0 p false else first_in a (label_items (suc p) is))
       pick true e = refl
       pick false e = e
   has_first p (item s is) = has_first (p + size_s s) is
@@ -265,9 +265,9 @@ module _ (a : ℕ) where
   label-aim gs aims (label b is) p Γ st x {t} {n} {q} {w} k e =
       rw (eqb_comm a b) (pick (eqb b a) e (λ z. label-aim gs aims is (suc p) Γ st x (lies-tail _ _ k) z))
     where
-      pick : (u : Bool) → (if u then Def 5 0 p false else first_in a (label_items (suc p) is)) ≡ Def t n q w
+      pick : (u : Bool) → (If u then Def 5 0 p false else first_in a (label_items (suc p) is)) ≡ Def t n q w
           → (first_in a (label_items (suc p) is) ≡ Def t n q w → get_or aims q 0 ≡ label_at is (scopes_of Γ) (passing Γ) x.address a)
-          → get_or aims q 0 ≡ (if u then x.address else label_at is (scopes_of Γ) (passing Γ) x.address a)
+          → get_or aims q 0 ≡ (If u then x.address else label_at is (scopes_of Γ) (passing Γ) x.address a)
       pick true z f = let y : p ≡ q = cc in rw y at (lies-here _ _ k)
       pick false z f = f z
   label-aim gs aims (item s is) p Γ st x k e =
@@ -292,7 +292,7 @@ module _ (a : ℕ) where
   head-sort s p [] e = let z : ◌≡◌ {A = ℕ} 0 1 = cc in absurd (omega arith)
   head-sort s p (declare x ∷ ds) {t} {n} {q} {w} e = pick (eqb x.name a) e (λ z. head-sort s (suc p) ds z)
     where
-      pick : (u : Bool) → (if u then Def s (ty_code x.type) p false else first_in a (head_items s (suc p) ds)) ≡ Def t n q w → (first_in a (head_items s (suc p) ds) ≡ Def t n q w → s ≡ t) → s ≡ t
+      pick : (u : Bool) → (If u then Def s (ty_code x.type) p false else first_in a (head_items s (suc p) ds)) ≡ Def t n q w → (first_in a (head_items s (suc p) ds) ≡ Def t n q w → s ≡ t) → s ≡ t
       pick true z f = cc
       pick false z f = f z
   head-sort s p (holding g ∷ ds) e = head-sort s (suc p) ds e

@@ -8,7 +8,7 @@ use Prim.Native.Nat.{ℕ, zero, suc, ◌+◌, ◌<◌}
 use native.Mathlib.Omega.{arith}
 use Rattle.std.proofs.Math.Dec.{eqb}
 use borrow.Author.Tests.{ne_eqb, eqb-true, le-ltb}
-use Rattle.logic.specs.Choice.{if◌then◌else◌}
+use Rattle.logic.specs.Choice.{If◌then◌else◌}
 use Rattle.language.specs.Tree.{Decl, declare, holding}
 use Rattle.table_scopes.specs.declared.environment.Found.TheVariants.{Nothing, Def}
 use Rattle.table_scopes.specs.Environment.{Item, item, find, here, adding, add_all}
@@ -50,7 +50,7 @@ module _ (a : ℕ) (small : a < 65536) where
       rw (ne_eqb k a w, ne_eqb k hold_mark u)
 
   -- past or at a name
-  pub passed-name : (b s n q : ℕ) (v : List Item) → b < 65536 → passed_to a (item b s n q ∷ v) ≡ (if eqb b a then 0 else passed_to a v)
+  pub passed-name : (b s n q : ℕ) (v : List Item) → b < 65536 → passed_to a (item b s n q ∷ v) ≡ (If eqb b a then 0 else passed_to a v)
   unfolding passed_to
   passed-name b s n q v h = let u : ¬ (b ≡ hold_mark) = omega arith in rw (ne_eqb b hold_mark u)
 
@@ -60,11 +60,11 @@ module _ (a : ℕ) (small : a < 65536) where
   passed-others [] v s h = refl
   passed-others (item b x n q ∷ is) v s h = go (eqb b a) refl h (λ k. passed-others is (adding (item b x n q) v) s.1 k)
     where
-      same : eqb b a ≡ false → (c : Bool) → passed_to a (if c then v else item b x n q ∷ v) ≡ passed_to a v
+      same : eqb b a ≡ false → (c : Bool) → passed_to a (If c then v else item b x n q ∷ v) ≡ passed_to a v
       same e true = refl
       same e false = passed-name b x n q v s.0 ∙ rw e
 
-      go : (t : Bool) → eqb b a ≡ t → (if t then Def x n q false else first_in a is) ≡ Nothing
+      go : (t : Bool) → eqb b a ≡ t → (If t then Def x n q false else first_in a is) ≡ Nothing
           → (first_in a is ≡ Nothing → passed_to a (add_all is (adding (item b x n q) v)) ≡ passed_to a (adding (item b x n q) v))
           → passed_to a (add_all is (adding (item b x n q) v)) ≡ passed_to a v
       go true e k f = let z : ◌≡◌ {A = ℕ} 0 1 = cc in absurd (omega arith)
@@ -76,11 +76,11 @@ module _ (a : ℕ) (small : a < 65536) where
   passed-still [] v s h = h
   passed-still (item b x n q ∷ is) v s h = passed-still is (adding (item b x n q) v) s.1 (pick (here b v))
     where
-      name : (c : Bool) → (if c then 0 else passed_to a v) ≡ 0
+      name : (c : Bool) → (If c then 0 else passed_to a v) ≡ 0
       name true = refl
       name false = h
 
-      pick : (c : Bool) → passed_to a (if c then v else item b x n q ∷ v) ≡ 0
+      pick : (c : Bool) → passed_to a (If c then v else item b x n q ∷ v) ≡ 0
       pick true = h
       pick false = passed-name b x n q v s.0 ∙ name (eqb b a)
 
@@ -92,11 +92,11 @@ module _ (a : ℕ) (small : a < 65536) where
       first : eqb b a ≡ true → here b v ≡ false → passed_to a (adding (item b x n q) v) ≡ 0
       first f g = rw g (passed-name b x n q v s.0 ∙ rw f)
 
-      apart : eqb b a ≡ false → (c : Bool) → here a (if c then v else item b x n q ∷ v) ≡ false
+      apart : eqb b a ≡ false → (c : Bool) → here a (If c then v else item b x n q ∷ v) ≡ false
       apart f true = e
       apart f false = rw (le-ltb 65535 b (omega (arith, s.0)), f) e
 
-      go : (y : Bool) → eqb b a ≡ y → (if y then Def x n q false else first_in a is) ≡ Def t m p w
+      go : (y : Bool) → eqb b a ≡ y → (If y then Def x n q false else first_in a is) ≡ Def t m p w
           → (here a (adding (item b x n q) v) ≡ false → first_in a is ≡ Def t m p w → passed_to a (add_all is (adding (item b x n q) v)) ≡ 0)
           → passed_to a (add_all is (adding (item b x n q) v)) ≡ 0
       go true f k r = passed-still is (adding (item b x n q) v) s.1 (first f (rw (eqb-true b a f) e))

@@ -3,7 +3,7 @@ use Rattle.std.specs.Prelude.{◌≡◌, Bool, true, false, ℕ, ◌+◌, ◌-�
 use Rattle.std.proofs.Math.Path.{refl}
 use Rattle.std.proofs.Common.{◌∙◌, arith, le-ltb}
 use mathlib.Core.List.{List, [], ◌∷◌, ◌++◌}
-use Rattle.logic.specs.Choice.{if◌then◌else◌}
+use Rattle.logic.specs.Choice.{If◌then◌else◌}
 use Rattle.values.specs.Types.{Ty, integer, logical, bits, reference, ty_code, ty_byte}
 use Rattle.language.specs.Tree.{Items}
 use Rattle.language.specs.Names.{Sort, is_variable, is_label, is_class, is_field, is_procedure, is_control, Definition, nowhere, found, first_of, otherwise, across, lookup}
@@ -36,7 +36,7 @@ in-append a [] js = refl
 in-append a (item m s n q ∷ is) js = pick (eqb m a) (in-append a is js)
   where
     pick : (b : Bool) → first_in a (is ++ js) ≡ or_outer (first_in a is) (first_in a js)
-        → (if b then Def s n q false else first_in a (is ++ js)) ≡ or_outer (if b then Def s n q false else first_in a is) (first_in a js)
+        → (If b then Def s n q false else first_in a (is ++ js)) ≡ or_outer (If b then Def s n q false else first_in a is) (first_in a js)
     pick true e = refl
     pick false e = e
 

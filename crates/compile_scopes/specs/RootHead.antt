@@ -12,7 +12,7 @@ use Rattle.std.proofs.Math.Nat.{add-zero}
 use Rattle.std.proofs.Math.ListN.{length, length-append}
 use borrow.Author.Tests.{leb-true}
 use Rattle.language.specs.Program.{flat_typed, flat_decl, result_code, flat_body, flat_global, flat_head}
-use Rattle.logic.specs.Choice.{if◌then◌else◌}
+use Rattle.logic.specs.Choice.{If◌then◌else◌}
 use Rattle.values.specs.Types.{Ty, integer, logical, bits, reference, ty_code, ty_byte}
 use Rattle.language.specs.Tree.{Typed, declare, holding, Body, proper, function, Global, local, class, procedure, locals}
 use Rattle.language.specs.Table.{entry, in_layout}
@@ -63,7 +63,7 @@ both-then Q (Def s n q w) g nowhere y h k = absurd h
 both-then Q (Def s n q w) g (found t b) y h k = h
 
 both_if : (Q : ℕ → Sort → Type 0) (b : Bool) (s n q : ℕ) (t : Sort) (f : Found) (x : names.Found) → (b ≡ true → Q q t) → (b ≡ false → Both Q f x)
-    → Both Q (if b then Def s n q false else f) (if b then found t false else x)
+    → Both Q (If b then Def s n q false else f) (If b then found t false else x)
 both_if Q true s n q t f x h k = h refl
 both_if Q false s n q t f x h k = k refl
 
@@ -158,7 +158,7 @@ module _ (W : Walk) (S : Style) (a : ℕ) where
   no_field [] c h = refl
   no_field (x ∷ xs) c h = pick (eqb x.name a) h (λ k. no_field xs c k)
     where
-      pick : (b : Bool) → (if b then found (is_field c x.type) false else first_of a (defines_fields c xs)) ≡ nowhere
+      pick : (b : Bool) → (If b then found (is_field c x.type) false else first_of a (defines_fields c xs)) ≡ nowhere
           → (first_of a (defines_fields c xs) ≡ nowhere → among_names a (names_of xs) ≡ false) → (b || among_names a (names_of xs)) ≡ false
       pick true k f = nothing (is_field c x.type) false (sym k)
       pick false k f = f k

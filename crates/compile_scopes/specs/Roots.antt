@@ -4,7 +4,7 @@ use Rattle.std.proofs.Math.Path.{ap, sym}
 use Rattle.std.proofs.Common.{◌∙◌, subst, arith, zero-add}
 use mathlib.Core.List.{List, [], ◌∷◌, ◌++◌, map, append-nil}
 use Rattle.language.specs.Program.{flat_items, result_code, flat_head, flatten}
-use Rattle.logic.specs.Choice.{if◌then◌else◌}
+use Rattle.logic.specs.Choice.{If◌then◌else◌}
 use Rattle.values.specs.Types.{Ty, ty_byte}
 use Rattle.language.specs.Tree.{Decl, declare, holding, Global, local, class, procedure, Tree, count_items, locals}
 use Rattle.language.specs.Names.{Sort, is_variable, is_label, is_class, is_field, is_procedure, is_control, defines_items, defines_globals, Scope, root_of, found, first_of, lookup}
@@ -49,12 +49,12 @@ class-most a k [] = omega arith
 class-most a k (c ∷ cl) = pick (among_names a (names_of c.fields)) (class-most a (suc k) cl)
   where
     pick : (b : Bool) → (field_in a (suc k) cl).class ≤ suc k + length cl
-        → (if b then record { class = k; index = index_of a (names_of c.fields) } else field_in a (suc k) cl).class ≤ k + suc (length cl)
+        → (If b then record { class = k; index = index_of a (names_of c.fields) } else field_in a (suc k) cl).class ≤ k + suc (length cl)
     pick true h = omega arith
     pick false h = omega arith
 
 -- ── the numbers of the root's names are those that the code's definition gives them ──
-module _ (W : Walk) (S : Style) (a : ℕ) (owned : (if W.within then 1 else 0) ≡ owner_code S.owner) (classes : length (classes_of W.globals) ≤ 16)
+module _ (W : Walk) (S : Style) (a : ℕ) (owned : (If W.within then 1 else 0) ≡ owner_code S.owner) (classes : length (classes_of W.globals) ≤ 16)
     (procedures : length (procs_of W.globals) ≤ 63) where
   root-byte : (t : Ty) → ty_byte (numbered (class_names (classes_of W.globals)) t) < 256
   root-byte t = byte_small (class_names (classes_of W.globals)) t (omega (arith, length-class-names (classes_of W.globals)))
@@ -132,7 +132,7 @@ module _ {l : List ℕ} (legible : Legible l) (t : Tree) (same : entries_of l �
 
   -- what the names stand for, in each style of the root's variables
   module _ (W : Walk) (S : Style) where
-    pub root-knows : (if W.within then 1 else 0) ≡ owner_code S.owner
+    pub root-knows : (If W.within then 1 else 0) ≡ owner_code S.owner
         → ((a : ℕ) → cell_of a (entering S (locals t.head) 0 (start_of_root t)) ≡ S.look a (entering S (locals t.head) 0 (start_of_root t)))
         → Readable t → faults t ≡ [] → head_cells (locals t.head) ≤ 32 → W.globals ≡ t.head → Lies W.known 1 (numbers_of t)
         → Knows W (add_all (global_items 1 t.head ++ label_items rest t.items) (env.item opened 0 0 0 ∷ [])) (entering S (locals t.head) 0 (start_of_root t))
@@ -181,12 +181,12 @@ unfolding items_of first_in
 one_label p (local d) a s n q w e z = let y = head-sort a 4 p (d ∷ []) e in omega arith
 one_label p (class c xs) a s n q w e z = pick (eqb c a) e
   where
-    pick : (b : Bool) → (if b then Def 6 (length xs) p false else first_in a (head_items (65536 + c) (suc p) (map declare xs))) ≡ Def s n q w → ⊥
+    pick : (b : Bool) → (If b then Def 6 (length xs) p false else first_in a (head_items (65536 + c) (suc p) (map declare xs))) ≡ Def s n q w → ⊥
     pick true k = let y : 6 ≡ s = cc in omega arith
     pick false k = let y = head-sort a (65536 + c) (suc p) (map declare xs) k in omega arith
 one_label p (procedure b xs d) a s n q w e z = pick (eqb b a) e
   where
-    pick : (c : Bool) → (if c then Def 7 (256 * length xs + result_code d) p false else Nothing) ≡ Def s n q w → ⊥
+    pick : (c : Bool) → (If c then Def 7 (256 * length xs + result_code d) p false else Nothing) ≡ Def s n q w → ⊥
     pick true k = let y : 7 ≡ s = cc in omega arith
     pick false k = let y : ◌≡◌ {A = ℕ} 0 1 = cc in omega arith
 

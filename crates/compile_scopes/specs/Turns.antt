@@ -2,7 +2,7 @@
 use Rattle.std.specs.Prelude.{◌≡◌, refl, Bool, true, false, List, [], ◌∷◌, ℕ, ◌<◌, eqb, get_or}
 use Rattle.std.proofs.Common.{sym, ◌∙◌, arith}
 use Rattle.std.proofs.Math.Option.{some}
-use Rattle.logic.specs.Choice.{if◌then◌else◌}
+use Rattle.logic.specs.Choice.{If◌then◌else◌}
 use Rattle.values.specs.Types.{integer}
 use Rattle.language.specs.Names.{is_control, define, loop_of, nowhere, found, first_of}
 use Rattle.language_laws.specs.Lookup.{lookup-loop}
@@ -35,11 +35,11 @@ unfolding held_in
 held-turn a c Γ = refl
 
 -- ── what names stand for ──
-look-turn : (a b c : ℕ) (Γ : List Around) → cell_of b (around_turn a c Γ) ≡ (if eqb a b then some (kept own c) else cell_of b Γ)
+look-turn : (a b c : ℕ) (Γ : List Around) → cell_of b (around_turn a c Γ) ≡ (If eqb a b then some (kept own c) else cell_of b Γ)
 unfolding bound_at global_at
 look-turn a b c Γ = bound-look b a c (inside (loop_of a) ∷ Γ)
 
-owned-turn : (b : Bool) → (if b then 0 else 0) ≡ owner_code own
+owned-turn : (b : Bool) → (If b then 0 else 0) ≡ owner_code own
 owned-turn true = refl
 owned-turn false = refl
 
@@ -69,12 +69,12 @@ knows-in-turn {W} {v} {Γ} a place c small number few know =
     (λ b e. look-turn a b c Γ ∙ past b (eqb a b) e)
     (λ b. new b (eqb a b) refl)
   where
-    past : (b : ℕ) (t : Bool) → (if t then found is_control false else nowhere) ≡ nowhere → (if t then some (kept own c) else cell_of b Γ) ≡ cell_of b Γ
+    past : (b : ℕ) (t : Bool) → (If t then found is_control false else nowhere) ≡ nowhere → (If t then some (kept own c) else cell_of b Γ) ≡ cell_of b Γ
     past b true e = nothing is_control false (sym e)
     past b false e = refl
 
     new : (b : ℕ) (t : Bool) → eqb a b ≡ t
-        → Both (λ q s. Means W (around_turn a c Γ) b q s) (if t then Def 8 1 place false else Nothing) (if t then found is_control false else nowhere)
+        → Both (λ q s. Means W (around_turn a c Γ) b q s) (If t then Def 8 1 place false else Nothing) (If t then found is_control false else nowhere)
     new b true e = control-means W a b place c Γ e number few
     new b false e = tt
 
@@ -87,7 +87,7 @@ lands-in-turn {W} {v} {Γ} a place c small land = record {
       (sym (find-item b a 8 1 place (item opened 0 0 0 ∷ v) small) ∙ e);
 }
   where
-    go : (b n q : ℕ) → b < 65536 → (t : Bool) → eqb a b ≡ t → or_outer (if t then Def 8 1 place false else Nothing) (find b (item opened 0 0 0 ∷ v)) ≡ Def 5 n q false
+    go : (b n q : ℕ) → b < 65536 → (t : Bool) → eqb a b ≡ t → or_outer (If t then Def 8 1 place false else Nothing) (find b (item opened 0 0 0 ∷ v)) ≡ Def 5 n q false
         → MeansLabel W (in_turn a place v) (around_turn a c Γ) b q
     go b n q z true e y = let i : ◌≡◌ {A = ℕ} 8 5 = cc in absurd (omega arith)
     go b n q z false e y =

@@ -7,7 +7,7 @@ use mathlib.Core.List.{List, [], ◌∷◌, ◌++◌, map}
 use Rattle.std.proofs.Math.Option.{Option, none, some}
 use Prim.Native.Nat.{ℕ, suc, ◌≤◌}
 use Rattle.std.proofs.Math.ListN.{get_elem?}
-use Rattle.logic.specs.Choice.{if◌then◌else◌}
+use Rattle.logic.specs.Choice.{If◌then◌else◌}
 use Rattle.values.specs.Types.{Ty}
 use Rattle.values.specs.Values.{Value, Cell, assigned, initial, fresh}
 use Rattle.values.specs.Trace.{release, hold, event}
@@ -104,7 +104,7 @@ module _ (W : Setting) (gs : List Global) (C : Work) where
       t : ℕ
       t = label_at is (scopes_of Γ) (the_labels is ∷ passing Γ) x a
 
-      pick : (b : Bool) → LandsAt b (Unit {0}) (GotoOk true Γ a) → Stands W C.body (if b then op (go (label_at is (scopes_of Γ) (the_labels is ∷ passing Γ) x a)) else code_goto Γ a) p
+      pick : (b : Bool) → LandsAt b (Unit {0}) (GotoOk true Γ a) → Stands W C.body (If b then op (go (label_at is (scopes_of Γ) (the_labels is ∷ passing Γ) x a)) else code_goto Γ a) p
           → (GotoOk true Γ a → Stands W C.body (code_goto Γ a) p → Reach W (go_conf W (at-work W gs C p.address st (held_in Γ) D)) (lands W gs C Γ st a σ))
           → Reach W (go_conf W (at-work W gs C p.address st (held_in Γ) D))
           (λ y. LandsAt b (Arrives W gs C (Nothing W gs C) (Sees W gs C Γ) (held_in Γ) (label_at is (scopes_of Γ) (the_labels is ∷ passing Γ) x a) st tt σ y) (lands W gs C Γ st a σ y))
@@ -187,8 +187,8 @@ module _ (W : Setting) (gs : List Global) (C : Work) where
   found-label P l i (label b is) Γ ts p a o h = pick (eqb a b) (found-label P l i is Γ ts p a (l b is o) h.1)
     where
       pick : (t : Bool) → Found (has_label a is) (from a is) Γ ts (label_at is (scopes_of Γ) (passing Γ) p.address a) p.cell (after (code_items gs is Γ ts p) p) P
-          → Found (if t then true else has_label a is) (if t then some is else from a is) Γ ts
-          (if t then p.address else label_at is (scopes_of Γ) (passing Γ) p.address a) p.cell (after (code_items gs is Γ ts p) p) P
+          → Found (If t then true else has_label a is) (If t then some is else from a is) Γ ts
+          (If t then p.address else label_at is (scopes_of Γ) (passing Γ) p.address a) p.cell (after (code_items gs is Γ ts p) p) P
       pick true f = (refl, record { place = p; aim = refl; later-cells = omega arith; stand = h.1; same_end = refl; good = l b is o })
       pick false f = f
   found-label P l i (item s is) Γ ts p a o h =

@@ -1,7 +1,7 @@
 -- The instruction count of every accepted table fits 16 bits: at most 22 ops an entry.
 use Rattle.std.specs.Prelude.{Bool, true, false, List, [], ◌∷◌, ℕ, suc, ◌+◌, ◌*◌, ◌≤◌, max, length}
 use Rattle.std.proofs.Common.{arith}
-use Rattle.logic.specs.Choice.{if◌then◌else◌}
+use Rattle.logic.specs.Choice.{If◌then◌else◌}
 use Rattle.values.specs.Types.{logical}
 use Rattle.language.specs.Tree.{Decl, declare, holding, Stmt, block, assign, when, choose, while, goto, assert, call, set_level, select, for, Items, no_item, label, item, Arms}
 use Rattle.language.specs.Tree.{last_arm, arm, Target, to_variable, to_field, Expr, number, truth, pattern, null, variable, invoke, field, make, operate1, operate2}
@@ -23,7 +23,7 @@ few-goto [] a = omega arith
 few-goto (a_hold ∷ Θ) a = let q = few-goto Θ a in omega arith
 few-goto (the_labels is ∷ Θ) a = pick (has_label a is) (few-goto Θ a)
   where
-    pick : (b : Bool) → size_goto Θ a ≤ suc (holds_in Θ) → (if b then 1 else size_goto Θ a) ≤ suc (holds_in Θ)
+    pick : (b : Bool) → size_goto Θ a ≤ suc (holds_in Θ) → (If b then 1 else size_goto Θ a) ≤ suc (holds_in Θ)
     pick true q = omega arith
     pick false q = q
 

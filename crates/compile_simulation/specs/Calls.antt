@@ -6,7 +6,7 @@ use mathlib.Core.List.{List, [], ◌∷◌, ◌++◌, map, append_assoc, append-
 use Rattle.std.proofs.Math.Option.{Option, none, some}
 use native.Mathlib.Omega.{arith}
 use Rattle.std.proofs.Math.ListN.{length}
-use Rattle.logic.specs.Choice.{if◌then◌else◌}
+use Rattle.logic.specs.Choice.{If◌then◌else◌}
 use Rattle.values.specs.Types.{all_fit, sames}
 use Rattle.values.specs.Ends.{too_many_activations}
 use Rattle.values.specs.Values.{Value, Cell, assigned, tys_of, fresh_all}
@@ -96,7 +96,7 @@ global-blocks gs a (bound b e ∷ Γ) c x cs h d =
     ap₂ (λ y z. in_first (slot b (seen_c gs y)) z) (put_other cs c e x (λ r. global-apart a Γ own c e h d.0 (sym r))) (global-blocks gs a Γ c x cs h d.1)
 global-blocks gs a (global q b e ∷ Γ) c x cs h d = pick (eqb b a) h (λ f. global-blocks gs a Γ c x cs f d.1)
   where
-    pick : (t : Bool) → (if t then some (kept q e) else global_at a Γ) ≡ some (kept own c)
+    pick : (t : Bool) → (If t then some (kept q e) else global_at a Γ) ≡ some (kept own c)
         → (global_at a Γ ≡ some (kept own c) → blocks_of gs Γ (put cs c x) ≡ blocks_of gs Γ cs) → blocks_of gs Γ (put cs c x) ≡ blocks_of gs Γ cs
     pick true f k = let z : kept q e ≡ kept own c = cc f in apart-blocks gs own c x cs cs Γ (subst (λ y. Apart (owner-of y) (number_of y) Γ) z d.0)
     pick false f k = k f
@@ -282,10 +282,10 @@ module _ (W : Setting) (gs : List Global) where
             same_kept (g ∷ fs) h = h
 
         enters : (t : Bool) → Meets W n L (Arrives W gs C G (Sees W gs C Γ) (held_in Γ) (suc a) st)
-            (stepped (if t then moved [] (running D.shared (activation k b (onto top []))
+            (stepped (If t then moved [] (running D.shared (activation k b (onto top []))
             (at a st (top_of W gs C.body C.below a (top ++ st) (held_in Γ) D) ∷ put_lowest D.lowest C.below)) else condition
             too_many_activations (here_of W gs C.body C.below a (top ++ st) (held_in Γ) D)) D.trace D.taken)
-            (if t then leaving (λ τ. blocks_of gs Γ D.cells) (f q.body (deeper (place_of W gs C Γ)) (with_blocks (pair_up q.parameters (map (seen_v gs) (onto top [])) ∷ []) (seen gs Γ D)))
+            (If t then leaving (λ τ. blocks_of gs Γ D.cells) (f q.body (deeper (place_of W gs C Γ)) (with_blocks (pair_up q.parameters (map (seen_v gs) (onto top [])) ∷ []) (seen gs Γ D)))
             else over too_many_activations (release_all (held_in Γ ++ all_holds C.below) (seen gs Γ D)))
         enters true = rw (waits-below C.below a st (held_in Γ) C.body D)
             (leaves Γ (inside-proc q.parameters s W.shared-names) k a e n' b st D _ _ pr pb w (λ cs ls. roots-past gs q.parameters 0 (inside s ∷ W.shared-names) cs ls)

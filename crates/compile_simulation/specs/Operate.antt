@@ -7,7 +7,7 @@ use Rattle.std.proofs.Common.{sym, subst, eqb→eq}
 use Rattle.std.proofs.Math.Option.{Option, none, some}
 use Rattle.std.proofs.Math.Dec.{eqb_refl}
 use Rattle.std.specs.Int.Signed.{lt_z, le_z}
-use Rattle.logic.specs.Choice.{if◌then◌else◌}
+use Rattle.logic.specs.Choice.{If◌then◌else◌}
 use Rattle.logic.specs.Options.{keep, if_some}
 use Rattle.values.specs.Operators.{Unary, negate, absolute, complement, Binary, plus, minus, times, divide, remainder, less, at_most, greater, at_least, equal, unequal}
 use Rattle.values.specs.Operators.{both, either, shift_left, shift_right}
@@ -66,14 +66,14 @@ module _ (gs : List Global) where
           yes true h = refl
           yes false h = absurd h
 
-      go : (d : ℕ) (s : Option ℕ) (t : Bool) → eqb c d ≡ t → Agrees (if t then gives (log (f (same_ref r s))) else mistyped)
-          (if eqb (class_of (classes_of gs) c).name (class_of (classes_of gs) d).name then gives (log (f (same_ref r s))) else mistyped)
+      go : (d : ℕ) (s : Option ℕ) (t : Bool) → eqb c d ≡ t → Agrees (If t then gives (log (f (same_ref r s))) else mistyped)
+          (If eqb (class_of (classes_of gs) c).name (class_of (classes_of gs) d).name then gives (log (f (same_ref r s))) else mistyped)
       go d s true e = rw (same (class_of (classes_of gs) c).name (class_of (classes_of gs) d).name (ap (λ k. (class_of (classes_of gs) k).name) (eqb→eq c d (subst T (sym e) tt)))) refl
       go d s false e = tt
 
       refs : (o : Option Reference)
-          → Agrees (asked o (λ s. if eqb c s.class then gives (log (f (same_ref r s.target))) else mistyped))
-          (asked (keep o (λ s. some (named gs s))) (λ s. if eqb (class_of (classes_of gs) c).name s.class then gives (log (f (same_ref r s.target))) else mistyped))
+          → Agrees (asked o (λ s. If eqb c s.class then gives (log (f (same_ref r s.target))) else mistyped))
+          (asked (keep o (λ s. some (named gs s))) (λ s. If eqb (class_of (classes_of gs) c).name s.class then gives (log (f (same_ref r s.target))) else mistyped))
       refs none = tt
       refs (some s) = go s.class s.target (eqb c s.class) refl
 

@@ -7,7 +7,7 @@ use mathlib.Core.List.{List, [], ◌∷◌, ◌++◌}
 use Rattle.std.proofs.Math.Option.{some}
 use Prim.Native.Nat.{ℕ, suc}
 use Rattle.std.proofs.Math.ListN.{get_elem?}
-use Rattle.logic.specs.Choice.{if◌then◌else◌}
+use Rattle.logic.specs.Choice.{If◌then◌else◌}
 use Rattle.values.specs.Types.{Ty, fits}
 use Rattle.values.specs.Values.{Value, log, as_logical, ty_of, Cell, assigned}
 use Rattle.values.specs.Trace.{Item, event, release, hold}
@@ -160,7 +160,7 @@ module _ (W : Setting) (gs : List Global) (k : ℕ) (fs : List Activation) where
     unfolding act do_go_unless
     forks t v a st K D p f g = op-at (go_unless t) a (v ∷ st) K D p (had D.trace D.taken (as_logical v) bad_type _ (λ b e. pick b (is-logical v b e)))
       where
-        pick : (b : Bool) → v ≡ log b → Meets W n L F (stepped (goes (if b then suc a else t) st (here_of a (v ∷ st) K D)) D.trace D.taken) r
+        pick : (b : Bool) → v ≡ log b → Meets W n L F (stepped (goes (If b then suc a else t) st (here_of a (v ∷ st) K D)) D.trace D.taken) r
         pick true e = f e
         pick false e = g e
 

@@ -2,7 +2,7 @@
 use Rattle.std.specs.Prelude.{Bool, true, false, ◌≡◌, refl, List, [], ◌∷◌, ◌++◌, ℕ, suc, ◌≤◌, eqb, ℤ, length, set as put}
 use Rattle.std.proofs.Common.{ap, sym, ◌∙◌, subst, subst₂, arith}
 use Rattle.std.proofs.Math.Option.{Option, none, some}
-use Rattle.logic.specs.Choice.{if◌then◌else◌}
+use Rattle.logic.specs.Choice.{If◌then◌else◌}
 use Rattle.values.specs.Values.{Value, int, Cell, assigned}
 use Rattle.values.specs.Trace.{release}
 use Rattle.language.specs.Tree.{Global, Items}
@@ -38,7 +38,7 @@ abbrev pub Holds : Work → Data → Type 0
 Holds C D = C.keeps D.cells D.lowest
 
 abbrev pub LandsAt : Bool → Type 0 → Type 0 → Type 0
-LandsAt b P Q = if b then P else Q
+LandsAt b P Q = If b then P else Q
 
 -- no for clause begins right before
 abbrev pub NoLoop : List Around → Type 0
@@ -128,7 +128,7 @@ by_name P Q R b n a c o Γ h k p f = go (eqb b a) h k
     its : Kept → Type 0
     its (kept o c) = P o c
 
-    go : (t : Bool) → or_cell (if t then some (kept own n) else bound_at a Γ) (global_at a Γ) ≡ some (kept o c) → LandsAt t Q R → P o c
+    go : (t : Bool) → or_cell (If t then some (kept own n) else bound_at a Γ) (global_at a Γ) ≡ some (kept o c) → LandsAt t Q R → P o c
     go true e k = let z : kept own n ≡ kept o c = cc e in subst its z (p k)
     go false e k = f e k
 

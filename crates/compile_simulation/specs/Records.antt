@@ -8,7 +8,7 @@ use Rattle.std.proofs.Math.Option.{Option, none, some}
 use Prim.Native.Nat.{ℕ, zero, suc}
 use Rattle.std.proofs.Math.Dec.{T, eqb}
 use Rattle.std.proofs.Math.ListN.{get_elem?, set as put}
-use Rattle.logic.specs.Choice.{if◌then◌else◌}
+use Rattle.logic.specs.Choice.{If◌then◌else◌}
 use Rattle.logic.specs.Options.{keep}
 use Rattle.values.specs.Types.{Ty, fits, all_fit}
 use Rattle.values.specs.Ends.{field_of_null, too_many_records}
@@ -41,14 +41,14 @@ module _ (gs : List Global) where
   field-there a (x ∷ xs) [] w h e = let z : ◌≡◌ {A = ℕ} 0 1 = cc e in absurd (omega arith)
   field-there a (x ∷ xs) (v ∷ ws) w h e = pick (eqb x.name a) refl h e (λ h' e'. field-there a xs ws w h' e')
     where
-      pick : (t : Bool) → eqb x.name a ≡ t → (t || among_names a (names_of xs)) ≡ true → get_elem? (v ∷ ws) (if t then 0 else suc (index_of a (names_of xs))) ≡ some w
+      pick : (t : Bool) → eqb x.name a ≡ t → (t || among_names a (names_of xs)) ≡ true → get_elem? (v ∷ ws) (If t then 0 else suc (index_of a (names_of xs))) ≡ some w
           → (among_names a (names_of xs) ≡ true → get_elem? ws (index_of a (names_of xs)) ≡ some w
           → (cell_in a (pair_up xs (map (seen_v gs) ws)) ≡ some (assigned (seen_v gs w)))
           × ((u : Value) → put_in a (assigned (seen_v gs u)) (pair_up xs (map (seen_v gs) ws)) ≡ pair_up xs (map (seen_v gs) (put ws (index_of a (names_of xs)) u))))
-          → ((if t then some (assigned (seen_v gs v)) else cell_in a (pair_up xs (map (seen_v gs) ws))) ≡ some (assigned (seen_v gs w)))
-          × ((u : Value) → (if t then slot a (assigned (seen_v gs u)) ∷ pair_up xs (map (seen_v gs) ws) else slot x.name
+          → ((If t then some (assigned (seen_v gs v)) else cell_in a (pair_up xs (map (seen_v gs) ws))) ≡ some (assigned (seen_v gs w)))
+          × ((u : Value) → (If t then slot a (assigned (seen_v gs u)) ∷ pair_up xs (map (seen_v gs) ws) else slot x.name
           (assigned (seen_v gs v)) ∷ put_in a (assigned (seen_v gs u)) (pair_up xs (map (seen_v gs) ws)))
-          ≡ pair_up (x ∷ xs) (map (seen_v gs) (put (v ∷ ws) (if t then 0 else suc (index_of a (names_of xs))) u)))
+          ≡ pair_up (x ∷ xs) (map (seen_v gs) (put (v ∷ ws) (If t then 0 else suc (index_of a (names_of xs))) u)))
       pick true t h e f =
           let z : v ≡ w = cc e in (
             ap (λ y. some (assigned (seen_v gs y))) z,
@@ -147,11 +147,11 @@ module _ (W : Setting) (gs : List Global) (C : Work) {n : ℕ} {L : ℕ → Stor
       new = record { class = k; fields = onto top [] }
 
       pick : (b : Bool) → Meets W n L (Arrives W gs C (One W gs C) (Sees W gs C Γ) (held_in Γ) (suc a) st)
-          (stepped (if b then goes_on [] (ref k (some (length D.shared.records)) ∷ st)
+          (stepped (If b then goes_on [] (ref k (some (length D.shared.records)) ∷ st)
           (machine_with (D.shared.records ++ (record { class = k; fields = onto top [] } ∷ []))
           (here_of W gs C.body C.below a (top ++ st) (held_in Γ) D)) else condition too_many_records
           (here_of W gs C.body C.below a (top ++ st) (held_in Γ) D)) D.trace D.taken)
-          (if b then done (ref c (some (length D.shared.records)))
+          (If b then done (ref c (some (length D.shared.records)))
           (with_records (map (seen_r gs) D.shared.records ++ (record { fields = pair_up xs (map (seen_v gs) (onto top [])) } ∷ []))
           (seen gs Γ D)) else tree_condition too_many_records (place_of W gs C Γ) (seen gs Γ D))
       pick true = demanded D.trace D.taken (leb (length (ref k (some (length D.shared.records)) ∷ st)) 32) bad_frame _

@@ -9,7 +9,7 @@ use Rattle.std.proofs.Math.Option.{Option, none, some}
 use Prim.Native.Nat.{ℕ, zero, suc, ◌+◌, ◌≤◌, zero-le}
 use Rattle.std.proofs.Math.ListN.{get_elem?}
 use Rattle.std.specs.Int.Signed.{mag}
-use Rattle.logic.specs.Choice.{if◌then◌else◌}
+use Rattle.logic.specs.Choice.{If◌then◌else◌}
 use Rattle.logic.specs.Options.{if_some}
 use Rattle.words.specs.Numbers.{word_of}
 use Rattle.values.specs.Types.{Ty, integer, logical}
@@ -228,7 +228,7 @@ module _ (W : Setting) (gs : List Global) where
     branches {A} {L} {F} C t w a st K D f g σ p x y = op-at W gs C.body C.below (go_unless t) a (w ∷ st) K D p
         (rw (seen-logical gs w) (asks D.trace D.taken (as_logical w) bad_type _ _ (λ b e. pick b)))
       where
-        pick : (b : Bool) → Meets W (suc n) L F (stepped (goes_to (if b then suc a else t) st (here_of W gs C.body C.below a (w ∷ st) K D)) D.trace D.taken) (if b then f σ else g σ)
+        pick : (b : Bool) → Meets W (suc n) L F (stepped (goes_to (If b then suc a else t) st (here_of W gs C.body C.below a (w ∷ st) K D)) D.trace D.taken) (If b then f σ else g σ)
         pick true = x
         pick false = y
 
@@ -240,10 +240,10 @@ module _ (W : Setting) (gs : List Global) where
         (rw (seen-integer gs w) (asks D.trace D.taken (as_integer w) bad_type _ _ (λ z e. pick z (between 1 64 z))))
       where
         pick : (z : ℤ) (b : Bool) → Meets W (suc n) L (Arrives W gs C (One W gs C) (Sees W gs C Γ) (held_in Γ) (suc a) st)
-            (stepped (if b then goes_on (reading (size z) (W.oracle D.taken (size z)) ∷ []) (int (pos (W.oracle D.taken (size z))) ∷ st)
+            (stepped (If b then goes_on (reading (size z) (W.oracle D.taken (size z)) ∷ []) (int (pos (W.oracle D.taken (size z))) ∷ st)
             (here_of W gs C.body C.below a (w ∷ st) (held_in Γ) D) else condition out_of_range
             (here_of W gs C.body C.below a (w ∷ st) (held_in Γ) D)) D.trace D.taken)
-            (if b then done (int (pos (W.oracle D.taken (size z)))) (read (size z) (W.oracle D.taken (size z)) (seen gs Γ D)) else tree_condition out_of_range (place_of W gs C Γ) (seen gs Γ D))
+            (If b then done (int (pos (W.oracle D.taken (size z)))) (read (size z) (W.oracle D.taken (size z)) (seen gs Γ D)) else tree_condition out_of_range (place_of W gs C Γ) (seen gs Γ D))
         pick z true = goes-on W gs C.body C.below (reading (size z) (W.oracle D.taken (size z)) ∷ []) (int (pos (W.oracle D.taken (size z))) ∷ st) a (w ∷ st) (held_in Γ) D
             (given-one W gs C Γ (int (pos (W.oracle D.taken (size z)))) (says (reading (size z) (W.oracle D.taken (size z)) ∷ []) D) k)
         pick z false = conds W gs C.body C.below out_of_range Γ a (w ∷ st) D
@@ -256,9 +256,9 @@ module _ (W : Setting) (gs : List Global) where
         (rw (seen-logical gs w) (asks D.trace D.taken (as_logical w) bad_type _ _ (λ b e. pick b)))
       where
         pick : (b : Bool) → Meets W (suc n) L (Arrives W gs C (Nothing W gs C) (Sees W gs C Γ) (held_in Γ) (suc a) st)
-            (stepped (if b then goes_on [] st (here_of W gs C.body C.below a (w ∷ st) (held_in Γ) D) else condition assert_false
+            (stepped (If b then goes_on [] st (here_of W gs C.body C.below a (w ∷ st) (held_in Γ) D) else condition assert_false
             (here_of W gs C.body C.below a (w ∷ st) (held_in Γ) D)) D.trace D.taken)
-            (if b then done tt (seen gs Γ D) else tree_condition assert_false (place_of W gs C Γ) (seen gs Γ D))
+            (If b then done tt (seen gs Γ D) else tree_condition assert_false (place_of W gs C Γ) (seen gs Γ D))
         pick true = goes-on W gs C.body C.below [] st a (w ∷ st) (held_in Γ) D (arrived W gs C Γ tt D k)
         pick false = conds W gs C.body C.below assert_false Γ a (w ∷ st) D
 
@@ -271,10 +271,10 @@ module _ (W : Setting) (gs : List Global) where
         asks D.trace D.taken (as_integer w) bad_type _ _ (λ y e'. pick x y (between 1 512 x && between 0 255 y)))))
       where
         pick : (x y : ℤ) (b : Bool) → Meets W (suc n) L (Arrives W gs C (Nothing W gs C) (Sees W gs C Γ) (held_in Γ) (suc a) st)
-            (stepped (if b then goes_on (event (set_event (size x) (size y)) ∷ []) st
+            (stepped (If b then goes_on (event (set_event (size x) (size y)) ∷ []) st
             (here_of W gs C.body C.below a (w ∷ (v ∷ st)) (held_in Γ) D) else condition out_of_range
             (here_of W gs C.body C.below a (w ∷ (v ∷ st)) (held_in Γ) D)) D.trace D.taken)
-            (if b then done tt (say (set_event (size x) (size y)) (seen gs Γ D)) else tree_condition out_of_range (place_of W gs C Γ) (seen gs Γ D))
+            (If b then done tt (say (set_event (size x) (size y)) (seen gs Γ D)) else tree_condition out_of_range (place_of W gs C Γ) (seen gs Γ D))
         pick x y true =
             goes-on W gs C.body C.below (event (set_event (size x) (size y)) ∷ []) st a (w ∷ (v ∷ st)) (held_in Γ) D
             (arrived W gs C Γ tt (says (event (set_event (size x) (size y)) ∷ []) D) k)
@@ -314,7 +314,7 @@ module _ (W : Setting) (gs : List Global) where
     second_of : (C : Work) (Γ : List Around) (o : Binary) (f : Expr) (v : Value) (D : Data) (a b : ℕ) (st : List Value) → fetch W.macro C.body b ≡ some (operate (binary o))
         → Gives C Γ (v ∷ st) a b (eval world r f) → Holds C D → decides o v ≡ false
         → Meets W (suc n) (nowhere W gs C) (Arrives W gs C (One W gs C) (Sees W gs C Γ) (held_in Γ) (suc b) st) (at-work W gs C a (v ∷ st) (held_in Γ) D)
-        (if decides o (seen_v gs v) then done (seen_v gs v) (seen gs Γ D) else next (eval world r f (place_of W gs C Γ) (seen gs Γ D)) (λ w ρ. tree_settled (apply2 o (seen_v gs v) w) (place_of W gs C Γ) ρ))
+        (If decides o (seen_v gs v) then done (seen_v gs v) (seen gs Γ D) else next (eval world r f (place_of W gs C Γ) (seen gs Γ D)) (λ w ρ. tree_settled (apply2 o (seen_v gs v) w) (place_of W gs C Γ) ρ))
     unfolding act do_operate
     second_of C Γ o f v D a b st p g k e = rw (seen-decides gs o v, e) (bind_e W gs C Γ (λ w ρ. tree_settled (apply2 o (seen_v gs v) w) (place_of W gs C Γ) ρ) (g D k) (λ w D' k'.
         op-at W gs C.body C.below (operate (binary o)) b (w ∷ (v ∷ st)) (held_in Γ) D' p
@@ -325,7 +325,7 @@ module _ (W : Setting) (gs : List Global) where
     Two C Γ u e f st a b = (D : Data) → Holds C D
         → Meets W (suc n) (nowhere W gs C) (Arrives W gs C (One W gs C) (Sees W gs C Γ) (held_in Γ) b st) (at-work W gs C a st (held_in Γ) D)
         (next (eval world r e (place_of W gs C Γ) (seen gs Γ D)) (λ v τ.
-        if decides u v then done v τ else next (eval world r f (place_of W gs C Γ) τ) (λ w ρ. tree_settled (apply2 u v w) (place_of W gs C Γ) ρ)))
+        If decides u v then done v τ else next (eval world r f (place_of W gs C Γ) τ) (λ w ρ. tree_settled (apply2 u v w) (place_of W gs C Γ) ρ)))
 
     -- at the end of a logical `and` or `or` the shape says that the second operand is logical, and it is the result
     joins : (C : Work) (Γ : List Around) (ts : List Ty) (u : Binary) (v w : Value) (a : ℕ) (st : List Value) (D : Data) → shape_in W.macro.shapes a ≡ some (found Γ (logical ∷ ts)) → Holds C D
@@ -356,7 +356,7 @@ module _ (W : Setting) (gs : List Global) where
         let m = skip 1 (after x p) in let y = F ts m in let d = suc (after y m).address in
         subst (λ z. Meets W (suc n) (nowhere W gs C) (Arrives W gs C (One W gs C) (Sees W gs C Γ) (held_in Γ) (suc d) st) (at-work W gs C p.address st (held_in Γ) D)
         (next (eval world r e (place_of W gs C Γ) (seen gs Γ D)) (λ v τ.
-        if decides z v then done v τ else next (eval world r f (place_of W gs C Γ) τ) (λ w ρ. tree_settled (apply2 z v w) (place_of W gs C Γ) ρ)))) (sym q)
+        If decides z v then done v τ else next (eval world r f (place_of W gs C Γ) τ) (λ w ρ. tree_settled (apply2 z v w) (place_of W gs C Γ) ρ)))) (sym q)
         (bind_e W gs C Γ _ (g h.0 D k) (λ v D' k'. forks W gs C.body C.below d v (after x p).address st (held_in Γ) D' h.1.0
         (λ t. rw t (bind_e W gs C Γ _ (i ts m st (more-cells x p) h.1.1.0 D' k') (λ w D'' k''. jumps W gs C.body C.below (suc d) (after y m).address (w ∷ st) (held_in Γ) D'' h.1.1.1.0
         (joins C Γ ts both (log true) w (suc d) st D'' h.1.1.1.1.1.1 k'' (λ b. refl)))))
@@ -365,7 +365,7 @@ module _ (W : Setting) (gs : List Global) where
         let m = skip 3 (after x p) in let y = F ts m in
         subst (λ z. Meets W (suc n) (nowhere W gs C) (Arrives W gs C (One W gs C) (Sees W gs C Γ) (held_in Γ) (after y m).address st) (at-work W gs C p.address st (held_in Γ) D)
         (next (eval world r e (place_of W gs C Γ) (seen gs Γ D)) (λ v τ.
-        if decides z v then done v τ else next (eval world r f (place_of W gs C Γ) τ) (λ w ρ. tree_settled (apply2 z v w) (place_of W gs C Γ) ρ)))) (sym q)
+        If decides z v then done v τ else next (eval world r f (place_of W gs C Γ) τ) (λ w ρ. tree_settled (apply2 z v w) (place_of W gs C Γ) ρ)))) (sym q)
         (bind_e W gs C Γ _ (g h.0 D k) (λ v D' k'. forks W gs C.body C.below m.address v (after x p).address st (held_in Γ) D' h.1.0
         (λ t. rw t (pushes W gs C.body C.below (log true) (suc (after x p).address) st (held_in Γ) D' h.1.1.0
         (jumps W gs C.body C.below (after y m).address (suc (suc (after x p).address)) (log true ∷ st) (held_in Γ) D' h.1.1.1.0 (given-one W gs C Γ (log true) D' k'))))
@@ -453,7 +453,7 @@ module _ (W : Setting) (gs : List Global) where
         over = subst (λ s. Meets W (suc n) L (Arrives W gs C (Nothing W gs C) (Sees W gs C Γ) (held_in Γ) z st) (at-work W gs C z st (held_in Γ) E) (done tt s)) q (arrived W gs C Γ tt E k)
 
         go : (b : Bool) → ltb (mag (v +ℤ l.step)) 2147483648 ≡ b → Meets W (suc n) L (Arrives W gs C (Nothing W gs C) (Sees W gs C Γ) (held_in Γ) z st) (at-work W gs C z st (held_in Γ) E)
-            (advancing (if b then gives (v +ℤ l.step) else ends_by overflow) (λ w ρ. if_due l w (f w) ρ) τ)
+            (advancing (If b then gives (v +ℤ l.step) else ends_by overflow) (λ w ρ. if_due l w (f w) ρ) τ)
         go true e = rw (o (fits-small (v +ℤ l.step) e)) over
         go false e = over
 

@@ -4,7 +4,7 @@ use Rattle.std.proofs.Math.Path.{ap}
 use Rattle.std.proofs.Common.{◌∙◌}
 use mathlib.Core.List.{List, [], ◌∷◌}
 use native.Mathlib.Omega.{arith}
-use Rattle.logic.specs.Choice.{if◌then◌else◌}
+use Rattle.logic.specs.Choice.{If◌then◌else◌}
 use Rattle.values.specs.Types.{Ty, logical}
 use Rattle.values.specs.Operators.{Binary}
 use Rattle.language.specs.Tree.{Decl, declare, holding, Stmt, block, assign, when, choose, while, goto, assert, call, set_level, select, for, Items, no_item, label, item, Arms}
@@ -38,7 +38,7 @@ len_goto (held g ∷ Γ) a p = let q = len_goto Γ a (skip 1 p) in omega arith
 len_goto (labels is x ∷ Γ) a p = pick (has_label a is) (len_goto Γ a p)
   where
     pick : (b : Bool) → (after (code_goto Γ a) p).address ≡ p.address + size_goto (passing Γ) a
-        → (after (if b then op (go (label_at is (scopes_of Γ) (the_labels is ∷ passing Γ) x a)) else code_goto Γ a) p).address ≡ p.address + (if b then 1 else size_goto (passing Γ) a)
+        → (after (If b then op (go (label_at is (scopes_of Γ) (the_labels is ∷ passing Γ) x a)) else code_goto Γ a) p).address ≡ p.address + (If b then 1 else size_goto (passing Γ) a)
     pick true h = omega arith
     pick false h = h
 

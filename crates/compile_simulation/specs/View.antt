@@ -8,7 +8,7 @@ use Rattle.std.proofs.Math.Option.{Option, none, some}
 use Rattle.std.proofs.Math.Dec.{T, eqb, eqb→eq}
 use Rattle.std.proofs.Math.ListN.{get_elem?}
 use Rattle.logic.specs.Options.{is_some, or_else}
-use Rattle.logic.specs.Choice.{if◌then◌else◌}
+use Rattle.logic.specs.Choice.{If◌then◌else◌}
 use Rattle.values.specs.Trace.{Item}
 use Rattle.values.specs.Values.{Value, int, log, bit, ref, Cell, assigned}
 use Rattle.language.specs.Tree.{Global}
@@ -92,21 +92,21 @@ module _ (gs : List Global) where
   cell_for none cs ls = none
   cell_for (some (kept o c)) cs ls = some (seen_c (cell_at (of_owner o cs ls) c))
 
-  in-first : (a : ℕ) (s : Slot) (bs : List (List Slot)) → cell_of a (in_first s bs) ≡ (if eqb s.name a then some s.cell else cell_of a bs)
+  in-first : (a : ℕ) (s : Slot) (bs : List (List Slot)) → cell_of a (in_first s bs) ≡ (If eqb s.name a then some s.cell else cell_of a bs)
   unfolding cell_of cell_in
   in-first a s [] = go (eqb s.name a)
     where
-      go : (b : Bool) → or_else (if b then some s.cell else none) none ≡ (if b then some s.cell else none)
+      go : (b : Bool) → or_else (If b then some s.cell else none) none ≡ (If b then some s.cell else none)
       go true = refl
       go false = refl
   in-first a s (b ∷ bs) = go (eqb s.name a)
     where
-      go : (t : Bool) → or_else (if t then some s.cell else cell_in a b) (cell_of a bs) ≡ (if t then some s.cell else or_else (cell_in a b) (cell_of a bs))
+      go : (t : Bool) → or_else (If t then some s.cell else cell_in a b) (cell_of a bs) ≡ (If t then some s.cell else or_else (cell_in a b) (cell_of a bs))
       go true = refl
       go false = refl
 
   chosen : (b : Bool) (o : Owner) (c : ℕ) (Γ : Option Kept) (x : Option Cell) (cs ls : List Cell) → x ≡ cell_for Γ cs ls
-      → (if b then some (seen_c (cell_at (of_owner o cs ls) c)) else x) ≡ cell_for (if b then some (kept o c) else Γ) cs ls
+      → (If b then some (seen_c (cell_at (of_owner o cs ls) c)) else x) ≡ cell_for (If b then some (kept o c) else Γ) cs ls
   chosen true o c Γ x cs ls h = refl
   chosen false o c Γ x cs ls h = h
 
@@ -274,7 +274,7 @@ bound-own a (inside s ∷ Γ) o c h = bound-own a Γ o c h
 bound-own a (outermost s ∷ Γ) o c h = bound-own a Γ o c h
 bound-own a (bound b d ∷ Γ) o c h = go (eqb b a) (bound-own a Γ o c) h
   where
-    go : (t : Bool) → (bound_at a Γ ≡ some (kept o c) → o ≡ own) → (if t then some (kept own d) else bound_at a Γ) ≡ some (kept o c) → o ≡ own
+    go : (t : Bool) → (bound_at a Γ ≡ some (kept o c) → o ≡ own) → (If t then some (kept own d) else bound_at a Γ) ≡ some (kept o c) → o ≡ own
     go true f e = ap owner-of (sym (some_is (kept own d) (kept o c) e))
     go false f e = f e
 bound-own a (global q b d ∷ Γ) o c h = bound-own a Γ o c h
@@ -288,7 +288,7 @@ bound-apart a (inside s ∷ Γ) c d h p = bound-apart a Γ c d h p
 bound-apart a (outermost s ∷ Γ) c d h p = bound-apart a Γ c d h p
 bound-apart a (bound b e ∷ Γ) c d h p = go (eqb b a) (λ f. bound-apart a Γ c d f p.1) h
   where
-    go : (t : Bool) → (bound_at a Γ ≡ some (kept own c) → d ≡ c → ⊥) → (if t then some (kept own e) else bound_at a Γ) ≡ some (kept own c) → d ≡ c → ⊥
+    go : (t : Bool) → (bound_at a Γ ≡ some (kept own c) → d ≡ c → ⊥) → (If t then some (kept own e) else bound_at a Γ) ≡ some (kept own c) → d ≡ c → ⊥
     go true k f q = p.0 (q ∙ sym (ap number_of (some_is (kept own e) (kept own c) f)))
     go false k f q = k f q
 bound-apart a (global q b e ∷ Γ) c d h p = bound-apart a Γ c d h p.1
@@ -302,7 +302,7 @@ module _ (gs : List Global) (a : ℕ) (u : Cell) where
   put_first s [] e = rw e refl
   put_first s (b ∷ bs) e = rw e (go (is_some (cell_in a b)))
     where
-      go : (t : Bool) → (if t then (s ∷ put_in a u b) ∷ bs else (s ∷ b) ∷ put_of a u bs) ≡ in_first s (if t then put_in a u b ∷ bs else b ∷ put_of a u bs)
+      go : (t : Bool) → (If t then (s ∷ put_in a u b) ∷ bs else (s ∷ b) ∷ put_of a u bs) ≡ in_first s (If t then put_in a u b ∷ bs else b ∷ put_of a u bs)
       go true = refl
       go false = refl
 
@@ -321,7 +321,7 @@ module _ (gs : List Global) (a : ℕ) (u : Cell) where
   wrote-block (bound b e ∷ Γ) c v y cs w h d g = go (eqb b a) (λ q. wrote-block Γ c v y cs w q d.1 g) refl h
     where
       go : (t : Bool) → (bound_at a Γ ≡ some (kept own c) → put_of a u (blocks_of gs Γ cs) ≡ blocks_of gs Γ (put cs c (assigned v))) → eqb b a ≡ t
-          → (if t then some (kept own e) else bound_at a Γ) ≡ some (kept own c)
+          → (If t then some (kept own e) else bound_at a Γ) ≡ some (kept own c)
           → put_of a u (in_first (slot b (seen_c gs (cell_at cs e))) (blocks_of gs Γ cs)) ≡ in_first (slot b (seen_c gs (cell_at (put cs c (assigned v)) e))) (blocks_of gs Γ (put cs c (assigned v)))
       go true f t q =
           let same : e ≡ c = ap number_of (some_is (kept own e) (kept own c) q) in
@@ -345,7 +345,7 @@ module _ (gs : List Global) (a : ℕ) (u : Cell) where
   kept-roots (bound b e ∷ Γ) c x cs ls h d = go (eqb b a) (λ q. kept-roots Γ c x cs ls q d.1) h
     where
       go : (t : Bool) → (bound_at a Γ ≡ some (kept own c) → roots_of gs Γ (put cs c x) ls ≡ roots_of gs Γ cs ls)
-          → (if t then some (kept own e) else bound_at a Γ) ≡ some (kept own c) → roots_of gs Γ (put cs c x) ls ≡ roots_of gs Γ cs ls
+          → (If t then some (kept own e) else bound_at a Γ) ≡ some (kept own c) → roots_of gs Γ (put cs c x) ls ≡ roots_of gs Γ cs ls
       go true f q = apart-roots gs own c x cs ls Γ (subst (λ z. Apart own z Γ) (ap number_of (some_is (kept own e) (kept own c) q)) d.0)
       go false f q = f q
   kept-roots (global own b e ∷ Γ) c x cs ls h d =
@@ -366,7 +366,7 @@ global-apart a (outermost s ∷ Γ) o c d h p = global-apart a Γ o c d h p
 global-apart a (bound b e ∷ Γ) o c d h p = global-apart a Γ o c d h p.1
 global-apart a (global q b e ∷ Γ) o c d h p = go (eqb b a) (λ f. global-apart a Γ o c d f p.1) h
   where
-    go : (t : Bool) → (global_at a Γ ≡ some (kept o c) → d ≡ c → ⊥) → (if t then some (kept q e) else global_at a Γ) ≡ some (kept o c) → d ≡ c → ⊥
+    go : (t : Bool) → (global_at a Γ ≡ some (kept o c) → d ≡ c → ⊥) → (If t then some (kept q e) else global_at a Γ) ≡ some (kept o c) → d ≡ c → ⊥
     go true k f r =
         let z = some_is (kept q e) (kept o c) f in
         let u : Differs o o d e = subst (λ x. Differs o x d e) (ap owner-of z) p.0 in
@@ -406,8 +406,8 @@ module _ (gs : List Global) (a : ℕ) (u : Cell) (o : Owner) (c : ℕ) (v : Valu
       go : (t : Bool) → eqb b a ≡ t → (global_at a Γ ≡ some (kept o c) →
           (put_in a u (roots_of gs Γ cs ls) ≡ roots_of gs Γ (own_put o c (assigned v) cs) (root_put o c (assigned v) ls))
           × (blocks_of gs Γ (own_put o c (assigned v) cs) ≡ blocks_of gs Γ cs))
-          → (if t then some (kept q e) else global_at a Γ) ≡ some (kept o c)
-          → ((if t then slot a u ∷ roots_of gs Γ cs ls else slot b (seen_c gs (cell_at (of_owner gs q cs ls) e)) ∷ put_in a u (roots_of gs Γ cs ls))
+          → (If t then some (kept q e) else global_at a Γ) ≡ some (kept o c)
+          → ((If t then slot a u ∷ roots_of gs Γ cs ls else slot b (seen_c gs (cell_at (of_owner gs q cs ls) e)) ∷ put_in a u (roots_of gs Γ cs ls))
           ≡ slot b (seen_c gs (cell_at (of_owner gs q (own_put o c (assigned v) cs) (root_put o c (assigned v) ls)) e)) ∷ roots_of gs Γ (own_put o c (assigned v) cs) (root_put o c (assigned v) ls))
           × (blocks_of gs Γ (own_put o c (assigned v) cs) ≡ blocks_of gs Γ cs)
       go true t k f =
@@ -432,7 +432,7 @@ unfolding assign_to
 writes gs a Γ o c v y D h d g = go (bound_at a Γ) refl (rw (in_blocks gs a Γ D.cells D.lowest) refl) h
   where
     go : (x : Option Kept) → bound_at a Γ ≡ x → is_some (cell_of a (blocks_of gs Γ D.cells)) ≡ is_some (cell_for gs (bound_at a Γ) D.cells D.lowest) → or_cell x (global_at a Γ) ≡ some (kept o c)
-        → (if is_some (cell_of a (blocks_of gs Γ D.cells)) then with_blocks (put_of a (assigned (seen_v gs v)) (blocks_of gs Γ D.cells)) (seen gs Γ D)
+        → (If is_some (cell_of a (blocks_of gs Γ D.cells)) then with_blocks (put_of a (assigned (seen_v gs v)) (blocks_of gs Γ D.cells)) (seen gs Γ D)
         else with_root (put_in a (assigned (seen_v gs v)) (roots_of gs Γ D.cells D.lowest)) (seen gs Γ D))
         ≡ seen gs Γ (written o c (assigned v) D)
     go none e q f =

@@ -4,7 +4,7 @@ use Rattle.std.proofs.Math.Path.{refl}
 use Rattle.std.proofs.Common.{ap, sym, ◌∙◌, arith}
 use mathlib.Core.List.{List, [], ◌∷◌, ◌++◌, map}
 use Rattle.language.specs.Program.{flat_decl, flat_s, flat_items, flat_arms, flat_target, flat_e, flat_es}
-use Rattle.logic.specs.Choice.{if◌then◌else◌}
+use Rattle.logic.specs.Choice.{If◌then◌else◌}
 use Rattle.values.specs.Types.{Ty, logical}
 use Rattle.values.specs.Operators.{Binary}
 use Rattle.bytecode.specs.Macro.{Shape}
@@ -36,7 +36,7 @@ goto-cell (global o b c ∷ Γ) a p = goto-cell Γ a p
 goto-cell (held g ∷ Γ) a p = goto-cell Γ a (skip 1 p)
 goto-cell (labels is x ∷ Γ) a p = pick (has_label a is) (goto-cell Γ a p)
   where
-    pick : (b : Bool) → (after (code_goto Γ a) p).cell ≡ p.cell → (after (if b then op (go (label_at is (scopes_of Γ) (the_labels is ∷ passing Γ) x a)) else code_goto Γ a) p).cell ≡ p.cell
+    pick : (b : Bool) → (after (code_goto Γ a) p).cell ≡ p.cell → (after (If b then op (go (label_at is (scopes_of Γ) (the_labels is ∷ passing Γ) x a)) else code_goto Γ a) p).cell ≡ p.cell
     pick true h = refl
     pick false h = h
 

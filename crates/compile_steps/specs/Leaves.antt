@@ -6,7 +6,7 @@ use Rattle.std.proofs.Math.Option.{none}
 use Rattle.bytecode.specs.Words.{value_word}
 use Rattle.language.specs.Measure.{measure_s}
 use Rattle.language.specs.Program.{flag, flat_e}
-use Rattle.logic.specs.Choice.{if◌then◌else◌}
+use Rattle.logic.specs.Choice.{If◌then◌else◌}
 use Rattle.words.specs.Numbers.{half_at, word_at, word_of}
 use Rattle.words.specs.Laws.{four, number-below, word_back}
 use Rattle.values.specs.Types.{Ty, ty_byte, reference}
@@ -168,7 +168,7 @@ size-one [] a = omega arith
 size-one (compile.a_hold ∷ Θ) a = omega arith
 size-one (the_labels is ∷ Θ) a = by (has_label a is) (size-one Θ a)
   where
-    by : (b : Bool) → 1 ≤ size_goto Θ a → 1 ≤ (if b then 1 else size_goto Θ a)
+    by : (b : Bool) → 1 ≤ size_goto Θ a → 1 ≤ (If b then 1 else size_goto Θ a)
     by true h = omega arith
     by false h = h
 
@@ -184,8 +184,8 @@ goto-cursor (held g ∷ Γ) a zero p h = absurd (omega (arith, size-one (passing
 goto-cursor (held g ∷ Γ) a (suc n) p h = goto-cursor Γ a n (moved p) (omega arith)
 goto-cursor (labels is x ∷ Γ) a n p h = by (has_label a is) n h (λ m k. goto-cursor Γ a m p k)
   where
-    by : (b : Bool) (n : ℕ) → suc n ≡ (if b then 1 else size_goto (passing Γ) a) → ((m : ℕ) → suc m ≡ size_goto (passing Γ) a → cursor_after (code_goto Γ a) p ≡ moved (cursor_after (lets m) p))
-        → cursor_after (if b then op (go (label_at is (scopes_of Γ) (the_labels is ∷ passing Γ) x a)) else code_goto Γ a) p ≡ moved (cursor_after (lets n) p)
+    by : (b : Bool) (n : ℕ) → suc n ≡ (If b then 1 else size_goto (passing Γ) a) → ((m : ℕ) → suc m ≡ size_goto (passing Γ) a → cursor_after (code_goto Γ a) p ≡ moved (cursor_after (lets m) p))
+        → cursor_after (If b then op (go (label_at is (scopes_of Γ) (the_labels is ∷ passing Γ) x a)) else code_goto Γ a) p ≡ moved (cursor_after (lets n) p)
     by true zero h f = refl
     by true (suc n) h f = absurd (omega arith)
     by false n h f = f n h
@@ -203,10 +203,10 @@ goto-emitted (held g ∷ Γ) a zero p l h = absurd (omega (arith, size-one (pass
 goto-emitted (held g ∷ Γ) a (suc n) p l h = goto-emitted Γ a n (moved p) (emitted (op let_hold) p l) (omega arith)
 goto-emitted (labels is x ∷ Γ) a n p l h = by (has_label a is) n h (λ m k. goto-emitted Γ a m p l k)
   where
-    by : (b : Bool) (n : ℕ) → suc n ≡ (if b then 1 else size_goto (passing Γ) a)
+    by : (b : Bool) (n : ℕ) → suc n ≡ (If b then 1 else size_goto (passing Γ) a)
         → ((m : ℕ) → suc m ≡ size_goto (passing Γ) a → emitted (code_goto Γ a) p l ≡ emitted (op (go (target_of Γ a))) (cursor_after (lets m) p) (emitted (lets m) p l))
-        → emitted (if b then op (go (label_at is (scopes_of Γ) (the_labels is ∷ passing Γ) x a)) else code_goto Γ a) p l
-        ≡ emitted (op (go (if b then label_at is (scopes_of Γ) (the_labels is ∷ passing Γ) x a else target_of Γ a))) (cursor_after (lets n) p) (emitted (lets n) p l)
+        → emitted (If b then op (go (label_at is (scopes_of Γ) (the_labels is ∷ passing Γ) x a)) else code_goto Γ a) p l
+        ≡ emitted (op (go (If b then label_at is (scopes_of Γ) (the_labels is ∷ passing Γ) x a else target_of Γ a))) (cursor_after (lets n) p) (emitted (lets n) p l)
     by true zero h f = refl
     by true (suc n) h f = absurd (omega arith)
     by false n h f = f n h

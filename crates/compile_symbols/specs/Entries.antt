@@ -7,7 +7,7 @@ use Rattle.std.proofs.Math.ListN.{length-set}
 use Rattle.std.proofs.lemmas.List.Edits.{sets}
 use borrow.Author.Tests.{eq-eqb, ne_eqb, lt-ltb, le-ltb}
 use Rattle.logic.specs.Options.{is_some}
-use Rattle.logic.specs.Choice.{if◌then◌else◌}
+use Rattle.logic.specs.Choice.{If◌then◌else◌}
 use Rattle.words.specs.Numbers.{half_at, word_at, integer_of, word_of}
 use Rattle.words.specs.Laws.{four, number-below, word_back}
 use Rattle.values.specs.Types.{Ty, integer, logical, bits, reference, ty_code}
@@ -26,13 +26,13 @@ use Rattle.compile_code.specs.Counts.{index-most}
 
 -- ── definitions ──
 abbrev pub one_if : ℕ → ℕ → ℕ
-one_if k w = if eqb k w then 1 else 0
+one_if k w = If eqb k w then 1 else 0
 
 abbrev pub cells_of_kind : ℕ → ℕ
-cells_of_kind k = if eqb k 10 then 1 else if eqb k 30 then 1 else if eqb k 31 then 3 else 0
+cells_of_kind k = If eqb k 10 then 1 else If eqb k 30 then 1 else If eqb k 31 then 3 else 0
 
 abbrev pub names_class : ℕ → Entry → Bool
-names_class a e = if eqb e.kind 11 then eqb e.a a else false
+names_class a e = If eqb e.kind 11 then eqb e.a a else false
 
 -- o is whose cells they are: those of a body (1: the root's), or the fields of a class
 unfoldable pub numbers_owned : List ℕ → ℕ → ℕ → List Entry → List ℕ
@@ -43,8 +43,8 @@ numbers_owned cs o n (e ∷ es) = number_of cs o n e ∷ numbers_owned cs o (n +
 unfoldable pub numbers_global : List ℕ → Numbers → List Entry → List ℕ
 numbers_global cs n [] = []
 numbers_global cs n (e ∷ es) =
-    if eqb e.kind 11 then packed (16 + n.classes) n.classes 0 ∷ numbers_owned cs n.classes 0 es else
-    if eqb e.kind 12 then packed (word_of e.b % 256) 0 n.bodies ∷ numbers_owned cs 0 0 es else
+    If eqb e.kind 11 then packed (16 + n.classes) n.classes 0 ∷ numbers_owned cs n.classes 0 es else
+    If eqb e.kind 12 then packed (word_of e.b % 256) 0 n.bodies ∷ numbers_owned cs 0 0 es else
     number_of cs 1 n.cells e ∷ []
 
 pub record Counts (kind : ℕ) (n r : Numbers) : Type 0 where
@@ -55,7 +55,7 @@ pub record Counts (kind : ℕ) (n r : Numbers) : Type 0 where
 pub cells-few : (k : ℕ) → cells_of_kind k ≤ 3
 cells-few k = go (eqb k 10) (eqb k 30) (eqb k 31)
   where
-    go : (a b c : Bool) → (if a then 1 else if b then 1 else if c then 3 else 0) ≤ 3
+    go : (a b c : Bool) → (If a then 1 else If b then 1 else If c then 3 else 0) ≤ 3
     go true b c = omega arith
     go false true c = omega arith
     go false false true = omega arith
@@ -64,7 +64,7 @@ cells-few k = go (eqb k 10) (eqb k 30) (eqb k 31)
 pub one-few : (k w : ℕ) → one_if k w ≤ 1
 one-few k w = go (eqb k w)
   where
-    go : (b : Bool) → (if b then 1 else 0) ≤ 1
+    go : (b : Bool) → (If b then 1 else 0) ≤ 1
     go true = omega arith
     go false = omega arith
 

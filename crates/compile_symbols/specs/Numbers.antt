@@ -1,7 +1,7 @@
 -- What each definition of a table stands for, by its place, as one number: of its type, and of the operands of the instructions that use it.
 use Rattle.std.specs.Prelude.{List, [], ◌∷◌, ◌++◌, map, ℕ, suc, ◌+◌, ◌-◌, ◌*◌, ◌/◌, ◌%◌, eqb, ltb, nat_abs}
 use Rattle.language.specs.Program.{flat_typed, flat_decl, flat_items, result_code, flat_body}
-use Rattle.logic.specs.Choice.{if◌then◌else◌}
+use Rattle.logic.specs.Choice.{If◌then◌else◌}
 use Rattle.language.specs.Tree.{Typed, Global, local, class, procedure, Tree}
 use Rattle.language.specs.Table.{Entry}
 use Rattle.compile_code.specs.Compile.{index_of, classes_of, class_names}
@@ -22,18 +22,18 @@ second_in k = k % 256
 -- ── entries of a body: cs are the names of the classes ──
 -- the byte of a declared type
 abbrev pub byte_of : List ℕ → ℕ → ℕ
-byte_of cs b = if ltb b 65536 then b else 16 + index_of (b - 65536) cs
+byte_of cs b = If ltb b 65536 then b else 16 + index_of (b - 65536) cs
 
 -- a variable or parameter has a cell, and so has a case: "parameters, variables of all its blocks, one per case"; "Each loop counts three cells." (ticket 1)
 abbrev pub cells_of : Entry → ℕ
-cells_of e = if eqb e.kind 10 then 1 else if eqb e.kind 30 then 1 else if eqb e.kind 31 then 3 else 0
+cells_of e = If eqb e.kind 10 then 1 else If eqb e.kind 30 then 1 else If eqb e.kind 31 then 3 else 0
 
 -- an entry before which its body has n cells; o is whose cell it is (1: the root's). Of a loop's cells it is the first, its value's
 abbrev pub number_of : List ℕ → ℕ → ℕ → Entry → ℕ
 number_of cs o n e =
-    if eqb e.kind 10 then packed (byte_of cs (nat_abs e.b)) o n else
-    if eqb e.kind 30 then packed 1 0 n else
-    if eqb e.kind 31 then packed 1 0 n else 0
+    If eqb e.kind 10 then packed (byte_of cs (nat_abs e.b)) o n else
+    If eqb e.kind 30 then packed 1 0 n else
+    If eqb e.kind 31 then packed 1 0 n else 0
 
 unfoldable pub numbers_from : List ℕ → ℕ → List Entry → List ℕ
 numbers_from cs n [] = []

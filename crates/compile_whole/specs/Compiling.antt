@@ -6,7 +6,7 @@ use mathlib.Core.List.{List, [], ◌∷◌, ◌++◌}
 use Rattle.std.proofs.Math.ListN.{length, set}
 use Rattle.std.proofs.Math.Seq.{sets, length-sets}
 use Rattle.std.proofs.lemmas.Bool.{lt-leb}
-use Rattle.logic.specs.Choice.{if◌then◌else◌}
+use Rattle.logic.specs.Choice.{If◌then◌else◌}
 use Rattle.words.specs.Laws.{Bytes}
 use Rattle.values.specs.Ends.{Refusal, refusal, Judged, accepted, refused}
 use Rattle.language.specs.Tree.{Decl, declare, holding, Global, local, class, procedure, Tree}
@@ -231,7 +231,7 @@ module _ {l : List ℕ} {count behind classes bodies : ℕ} {sizes env : List �
     pub write-refused : {n : ℕ} → n ≡ length (macro_of (the_tree l)) → length M.out < n → compile_on macro_of l out ≡ record { verdict = refused (refusal 7 0); bytes = M.out }
     unfolding compile_on
     write-refused {n} h k =
-        rw q.judged (ap (λ (b : Bool). if b then record {
+        rw q.judged (ap (λ (b : Bool). If b then record {
           verdict = accepted (length (macro_of (the_tree l)));
           bytes = sets out 0 (macro_of (the_tree l));
         } else record { verdict = refused (refusal 7 0); bytes = out })
@@ -304,6 +304,6 @@ module _ {l : List ℕ} {count behind classes bodies : ℕ} {sizes env : List �
             let last : set (set N.out (n - 2) 90) (n - 1) 90 ≡ sets out 0 (macro_of t)
             = two-set N.out n (omega arith) ∙ (ap (λ (j : ℕ). sets N.out j zz) i ∙ (ap (λ (x : List ℕ). sets x (cursor_all c (cursor_at f (f + 8 * r.address) false)).sh zz) o
             ∙ whole t (cursor_at f (f + 8 * r.address) false) refl refl out refl h sh-is)) in
-            rw q.judged (ap (λ (b : Bool). if b then record { verdict = accepted (length (macro_of t)); bytes = sets out 0 (macro_of t) } else record { verdict = refused (refusal 7 0); bytes = out })
+            rw q.judged (ap (λ (b : Bool). If b then record { verdict = accepted (length (macro_of t)); bytes = sets out 0 (macro_of t) } else record { verdict = refused (refusal 7 0); bytes = out })
             (le-leb (length (macro_of t)) (length out) (omega (arith, ap (length {A = ℕ}) dry-out)))
             ∙ (ap (λ (j : ℕ). record { verdict = accepted j; bytes = sets out 0 (macro_of t) }) (sym m) ∙ ap (λ (x : List ℕ). record { verdict = accepted n; bytes = x }) (sym last)))

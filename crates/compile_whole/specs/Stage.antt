@@ -10,7 +10,7 @@ use Rattle.language.specs.Names.{Scope, procedure_of, root_of}
 use Rattle.language.specs.Faults.{faults}
 use Rattle.language.specs.Limits.{body_usage, head_cells, head_holds}
 use Rattle.language.specs.Formed.{InLimits, KeepsLimits}
-use Rattle.logic.specs.Choice.{if◌then◌else◌}
+use Rattle.logic.specs.Choice.{If◌then◌else◌}
 use Rattle.words.specs.Numbers.{word_at}
 use Rattle.language_laws.specs.Claims.{entries_of}
 use Rattle.table_scopes.specs.Environment.{Item, item, env_of}
@@ -195,7 +195,7 @@ unfolding items_at one_at
 items-few sort l p zero = omega arith
 items-few sort l p (suc n) = by (eqb (kind_at l p) 10) (items-few sort l (p + 1) n)
   where
-    by : (b : Bool) → length (items_at sort l (p + 1) n) ≤ n → length ((if b then item (a_at l p) sort (b_at l p) p ∷ [] else []) ++ items_at sort l (p + 1) n) ≤ suc n
+    by : (b : Bool) → length (items_at sort l (p + 1) n) ≤ n → length ((If b then item (a_at l p) sort (b_at l p) p ∷ [] else []) ++ items_at sort l (p + 1) n) ≤ suc n
     by true h = omega arith
     by false h = omega arith
 

@@ -18,7 +18,7 @@ use Rattle.bytecode_laws.specs.Promises.{passed}
 use Rattle.bytecode_layout.specs.Layout
 use Rattle.bytecode_layout.specs.Passing.{sized}
 use Rattle.bytecode_safety.specs.Safety.{step-safe, fresh-safe, reached-safe, runs-safe}
-use Rattle.logic.specs.Choice.{if◌then◌else◌}
+use Rattle.logic.specs.Choice.{If◌then◌else◌}
 use Rattle.logic.specs.Lists.{Each}
 use Rattle.language.specs.Tree.{Tree}
 use Rattle.language.specs.Judge.{Compiled, judge_table, compile_tree, compile_refused, write_macro, compile_on}
@@ -82,7 +82,7 @@ Written r code = (n : ℕ) (b : List ℕ) → r ≡ record { verdict = accepted 
 written : (code out : List ℕ) → Written (write_macro code out) code
 written code out = by (leb (length code) (length out)) refl
   where
-    by : (t : Bool) → leb (length code) (length out) ≡ t → Written (if t then record { verdict = accepted (length code); bytes = sets out 0 code } else compile_refused (refusal 7 0) out) code
+    by : (t : Bool) → leb (length code) (length out) ≡ t → Written (If t then record { verdict = accepted (length code); bytes = sets out 0 code } else compile_refused (refusal 7 0) out) code
     by true h n b e =
         let k : length code ≡ n = same_number (ap (λ (r : Compiled). r.verdict) e) in
         let l : sets out 0 code ≡ b = ap (λ (r : Compiled). r.bytes) e in

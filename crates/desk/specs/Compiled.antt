@@ -2,7 +2,7 @@
 use Rattle.std.specs.Prelude.{◌≡◌, refl, Bool, true, false, List, ℕ, ◌<◌, leb, length}
 use Rattle.std.proofs.Common.{subst, arith}
 use Rattle.std.proofs.lemmas.List.Edits.{sets}
-use Rattle.logic.specs.Choice.{if◌then◌else◌}
+use Rattle.logic.specs.Choice.{If◌then◌else◌}
 use Rattle.words.specs.Laws.{Bytes}
 use Rattle.values.specs.Ends.{refusal, Judged, accepted, refused}
 use Rattle.language.specs.Tree.{Tree}
@@ -35,7 +35,7 @@ short-macro l out b t e = by (leb (length (macro_of t)) (length out))
         let m = macro-most q.0.tree (writable q.0.tree o) in let k = few-instructions q.0.tree o in omega arith in
         subst (λ (u : Tree). length (macro_of u) < 16777216) q.1 small
 
-    by : (c : Bool) → Short (if c then record { verdict = accepted (length (macro_of t)); bytes = sets out 0 (macro_of t) } else compile_refused (refusal 7 0) out).verdict
+    by : (c : Bool) → Short (If c then record { verdict = accepted (length (macro_of t)); bytes = sets out 0 (macro_of t) } else compile_refused (refusal 7 0) out).verdict
     by true = few
     by false = (omega arith, omega arith)
 

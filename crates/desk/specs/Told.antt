@@ -14,7 +14,7 @@ use Rattle.bytecode.specs.Answers.{Numbers, verdict_numbers, answer_numbers, pac
 use Rattle.table_check.specs.Small.{Narrow, narrow}
 use Rattle.run.specs.Fields.{Small, Ranged, judged-small, start_small, run-ranged}
 use Rattle.run.specs.Plays.{play-fine}
-use Rattle.logic.specs.Choice.{if◌then◌else◌}
+use Rattle.logic.specs.Choice.{If◌then◌else◌}
 use Rattle.compile_code.specs.Encode.{macro_of}
 use Rattle.desk.specs.Compiled.{compiled_numbers, Short, short}
 use Rattle.packing.specs.Packing.{Fits, packed-injective, bare, verdicts-differ, Told, answers-differ}
@@ -98,7 +98,7 @@ check-told l k e = verdicts-differ (judge_table l) (judge_table k) (verdict-fits
 
 -- ── compilations: the macro's length is told ──
 abbrev compiled_from : Numbers → Judged ℕ
-compiled_from x = if eqb x.tag 0 then refused (refusal x.first x.second) else accepted x.second
+compiled_from x = If eqb x.tag 0 then refused (refusal x.first x.second) else accepted x.second
 
 compiled-from : (v : Judged ℕ) → compiled_from (compiled_numbers v) ≡ v
 compiled-from (accepted n) = refl

@@ -3,7 +3,7 @@
 use Rattle.std.specs.Prelude.{Bool, true, false, ◌&&◌, List, [], ◌∷◌, ◌++◌, ℕ, zero, suc, ◌+◌, ◌*◌, ◌-◌, ◌/◌, ◌%◌, eqb, replicate}
 use Rattle.std.proofs.Math.Option.{Option, none, some}
 use Rattle.logic.specs.Options.{is_some}
-use Rattle.logic.specs.Choice.{if◌then◌else◌}
+use Rattle.logic.specs.Choice.{If◌then◌else◌}
 use Rattle.values.specs.Ends.{Judged, accepted, refused}
 use Rattle.values.specs.Trace.{set, hold, release, Item, event, reading, readings_in}
 use Rattle.values.specs.Computes.{values_compute}
@@ -40,7 +40,7 @@ prefix_of (x ∷ xs) (y ∷ ys) = eqb x y && prefix_of xs ys
 -- the places of the cases that fail
 unfoldable pub failing : {A : Type 0} → (A → Bool) → ℕ → List A → List ℕ
 failing f i [] = []
-failing f i (x ∷ xs) = let r = failing f (suc i) xs in if f x then r else i ∷ r
+failing f i (x ∷ xs) = let r = failing f (suc i) xs in If f x then r else i ∷ r
 
 -- ── verdicts: a number and a place, 0 and 0 where it is accepted ──
 abbrev pub verdict_is : {A : Type 0} → ℕ → ℕ → Judged A → Bool

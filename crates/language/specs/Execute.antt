@@ -5,7 +5,7 @@ use Rattle.std.specs.Bool.{beq}
 use Rattle.std.proofs.Math.Option.{Option, none, some}
 use Rattle.std.proofs.Math.ListN.{get_elem?}
 use Rattle.std.specs.Int.Signed.{lt_z, le_z}
-use Rattle.logic.specs.Choice.{if◌then◌else◌}
+use Rattle.logic.specs.Choice.{If◌then◌else◌}
 use Rattle.logic.specs.Options.{is_some, or_else, if_some}
 use Rattle.words.specs.Numbers.{word_of}
 use Rattle.values.specs.Ends.{field_of_null, assert_false, case_index, out_of_range, too_many_activations, too_many_records, step_zero}
@@ -54,7 +54,7 @@ read n v σ = record { root = σ.root; blocks = σ.blocks; records = σ.records;
 -- by name
 unfoldable pub cell_in : ℕ → List Slot → Option Cell
 cell_in a [] = none
-cell_in a (s ∷ ss) = if eqb s.name a then some s.cell else cell_in a ss
+cell_in a (s ∷ ss) = If eqb s.name a then some s.cell else cell_in a ss
 
 unfoldable pub cell_of : ℕ → List (List Slot) → Option Cell
 cell_of a [] = none
@@ -62,19 +62,19 @@ cell_of a (b ∷ bs) = or_else (cell_in a b) (cell_of a bs)
 
 unfoldable pub put_in : ℕ → Cell → List Slot → List Slot
 put_in a c [] = []
-put_in a c (s ∷ ss) = if eqb s.name a then slot a c ∷ ss else s ∷ put_in a c ss
+put_in a c (s ∷ ss) = If eqb s.name a then slot a c ∷ ss else s ∷ put_in a c ss
 
 -- the innermost block that has the variable
 unfoldable pub put_of : ℕ → Cell → List (List Slot) → List (List Slot)
 put_of a c [] = []
-put_of a c (b ∷ bs) = if is_some (cell_in a b) then put_in a c b ∷ bs else b ∷ put_of a c bs
+put_of a c (b ∷ bs) = If is_some (cell_in a b) then put_in a c b ∷ bs else b ∷ put_of a c bs
 
 unfoldable pub value_of : ℕ → Store → Option Cell
 value_of a σ = or_else (cell_of a σ.blocks) (cell_in a σ.root)
 
 unfoldable pub assign_to : ℕ → Value → Store → Store
 assign_to a v σ =
-    if is_some (cell_of a σ.blocks) then with_blocks (put_of a (assigned v) σ.blocks) σ else with_root (put_in a (assigned v) σ.root) σ
+    If is_some (cell_of a σ.blocks) then with_blocks (put_of a (assigned v) σ.blocks) σ else with_root (put_in a (assigned v) σ.root) σ
 
 -- a block's variable; the root's own block is entered with no block open
 abbrev pub declare_first : Slot → List (List Slot) → Store → Store
@@ -128,18 +128,18 @@ abbrev pub asked : {A B : Type 0} → Option A → (A → Result B) → Result B
 asked o f = if_some o f wrong
 
 unfoldable pub branch : {A : Type 0} → Value → (Store → Result A) → (Store → Result A) → Store → Result A
-branch v f g σ = asked (as_logical v) (λ b. if b then f σ else g σ)
+branch v f g σ = asked (as_logical v) (λ b. If b then f σ else g σ)
 
 -- ── effects on values ──
 -- "set (channel 1 to 512, level 0 to 255)" (T2); 25: "channel, level or fader out of range"
 unfoldable pub do_set : Value → Value → Place → Store → Result (Unit {0})
 do_set v w X σ = asked (as_integer v) (λ x. asked (as_integer w) (λ y.
-    if between 1 512 x && between 0 255 y then done tt (say (set (size x) (size y)) σ) else condition out_of_range X σ))
+    If between 1 512 x && between 0 255 y then done tt (say (set (size x) (size y)) σ) else condition out_of_range X σ))
 
 -- "A fader (1 to 64) reads a byte."; out of range it reads none (T6)
 unfoldable pub do_fader : (ℕ → ℕ → ℕ) → Value → Place → Store → Result Value
 do_fader oracle v X σ = asked (as_integer v) (λ x.
-    if between 1 64 x then (let r = oracle σ.taken (size x) in done (int (pos r)) (read (size x) r σ)) else condition out_of_range X σ)
+    If between 1 64 x then (let r = oracle σ.taken (size x) in done (int (pos r)) (read (size x) r σ)) else condition out_of_range X σ)
 
 -- 22: "field of null"
 abbrev pub cell_value : Option Cell → Store → Result Value
@@ -178,7 +178,7 @@ pair_up (x ∷ xs) (v ∷ vs) = slot x.name (assigned v) ∷ pair_up xs vs
 unfoldable pub do_make : ℕ → Option (List Typed) → List Value → Place → Store → Result Value
 do_make c none vs X σ = wrong
 do_make c (some xs) vs X σ =
-    if ltb (length σ.records) 256
+    If ltb (length σ.records) 256
     then done (ref c (some (length σ.records))) (with_records (σ.records ++ (record { fields = pair_up xs vs } ∷ [])) σ)
     else condition too_many_records X σ
 
@@ -188,7 +188,7 @@ same_binary o p = eqb (binary_code o) (binary_code p)
 
 -- the value that decides
 unfoldable pub deciding : Binary → Option Bool
-deciding o = if same_binary o both then some false else if same_binary o either then some true else none
+deciding o = If same_binary o both then some false else If same_binary o either then some true else none
 
 unfoldable pub decides : Binary → Value → Bool
 decides o v = if_some (deciding o) (λ d. if_some (as_logical v) (beq d) false) false
@@ -226,7 +226,7 @@ new_block ds X σ f = leaving (λ τ. outer_blocks τ.blocks) (within ds X (with
 -- the statements after a label
 unfoldable pub from : ℕ → Items → Option Items
 from a no_item = none
-from a (label b is) = if eqb a b then some is else from a is
+from a (label b is) = If eqb a b then some is else from a is
 from a (item s is) = from a is
 
 -- ── loops ──
@@ -239,11 +239,11 @@ pub record Loop : Type 0 where
 
 -- a turn is due: the value has not passed the limit in the direction of the step (000, 7.8.1; O6)
 unfoldable pub due : Loop → ℤ → Bool
-due l v = if lt_z l.step (pos 0) then le_z l.limit v else le_z v l.limit
+due l v = If lt_z l.step (pos 0) then le_z l.limit v else le_z v l.limit
 
 -- the value is tested before each turn
 unfoldable pub if_due : Loop → ℤ → (Store → Result (Unit {0})) → Store → Result (Unit {0})
-if_due l v f σ = if due l v then f σ else done tt σ
+if_due l v f σ = If due l v then f σ else done tt σ
 
 -- the statement, in a block of its own where the control name has this value
 unfoldable pub turning : ℕ → ℤ → (Place → Store → Result (Unit {0})) → Place → Store → Result (Unit {0})
@@ -281,7 +281,7 @@ pub record Procedure : Type 0 where
   pub body : Body
 
 abbrev pub else_find : {A : Type 0} → Bool → A → Option A → Option A
-else_find b x y = if b then some x else y
+else_find b x y = If b then some x else y
 
 unfoldable pub procedure_in : ℕ → List Global → Option Procedure
 procedure_in a [] = none
@@ -303,7 +303,7 @@ pub record World : Type 0 where
 unfoldable pub activate : {A : Type 0} → Option Procedure → (Body → Place → Store → Result A) → List Value → Place → Store → Result A
 activate none f vs X σ = wrong
 activate (some q) f vs X σ =
-    if ltb X.activations 32
+    If ltb X.activations 32
     then leaving (λ τ. σ.blocks) (f q.body (deeper X) (with_blocks (pair_up q.parameters vs ∷ []) σ))
     else condition too_many_activations X σ
 
@@ -320,7 +320,7 @@ turns r l f v X σ =
 
 -- 28: "step zero, found after the limit"
 unfoldable pub counted : Less → Loop → (Place → Store → Result (Unit {0})) → ℤ → Place → Store → Result (Unit {0})
-counted r l f v X σ = if is_zero l.step then condition step_zero X σ else if_due l v (λ ρ. turns r l f v X ρ) σ
+counted r l f v X σ = If is_zero l.step then condition step_zero X σ else if_due l v (λ ρ. turns r l f v X ρ) σ
 
 module _ (W : World) (r : Less) where
   unfoldable mutual
@@ -368,7 +368,7 @@ module _ (W : World) (r : Less) where
     eval (make c es) X σ = next (evals es X σ) (λ vs τ. do_make c (class_in c W.globals) vs X τ)
     eval (operate1 o e) X σ = next (eval e X σ) (λ v τ. settled (apply1 o v) X τ)
     eval (operate2 o e f) X σ =
-        next (eval e X σ) (λ v τ. if decides o v then done v τ else next (eval f X τ) (λ w ρ. settled (apply2 o v w) X ρ))
+        next (eval e X σ) (λ v τ. If decides o v then done v τ else next (eval f X τ) (λ w ρ. settled (apply2 o v w) X ρ))
     eval (conditional e f g) X σ = next (eval e X σ) (λ v τ. branch v (λ ρ. eval f X ρ) (λ ρ. eval g X ρ) τ)
     eval (fader e) X σ = next (eval e X σ) (λ v τ. do_fader W.oracle v X τ)
     eval (block_expr ds is e) X σ = new_block ds X σ (λ Y τ. next (catch r is Y (exec_items is Y τ)) (λ u ρ. eval e Y ρ))

@@ -3,7 +3,7 @@
 use Rattle.std.specs.Prelude.{Bool, true, false, not, ◌&&◌, List, [], ◌∷◌, ◌++◌, ℕ, suc, ◌+◌, eqb, length}
 use Rattle.std.proofs.Math.Option.{Option, none, some}
 use Rattle.logic.specs.Options.{is_some}
-use Rattle.logic.specs.Choice.{if◌then◌else◌}
+use Rattle.logic.specs.Choice.{If◌then◌else◌}
 use Rattle.logic.specs.Lists.{among}
 use Rattle.values.specs.Types.{Ty, integer, logical, bits, reference, same, fits, all_fit}
 use Rattle.values.specs.Ends.{Refusal, refusal}
@@ -88,7 +88,7 @@ fit_tys o us = holds o (λ ts. all_fit ts us)
 
 -- ── the faults at one entry ──
 abbrev pub fault_if : Bool → ℕ → ℕ → List Refusal
-fault_if b n p = if b then refusal n p ∷ [] else []
+fault_if b n p = If b then refusal n p ∷ [] else []
 
 -- 4: "wrong type", at the entry that has the operand (N14)
 abbrev pub mistyped_unless : Bool → ℕ → List Refusal
@@ -123,7 +123,7 @@ call_of n vs s = holds (as_procedure s) (λ x. eqb (length x.1) n && fit_tys vs 
 -- 5: "label out of a goto's reach" (N17 to N20)
 abbrev pub aimed : Found → ℕ → List Refusal
 aimed nowhere p = refusal 3 p ∷ []
-aimed (found s w) p = if as_label s then fault_if w 5 p else refusal 4 p ∷ []
+aimed (found s w) p = If as_label s then fault_if w 5 p else refusal 4 p ∷ []
 
 -- 3: "twice in a block", at "the second of two", whatever the two define (N7)
 abbrev pub twice : ℕ → List ℕ → ℕ → List Refusal

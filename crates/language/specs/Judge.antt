@@ -1,7 +1,7 @@
 -- The verdict on a table (refusals 1 to 6), and compiling into lent bytes (7).
 use Rattle.std.specs.Prelude.{List, [], ◌∷◌, ◌++◌, ℕ, leb, length}
 use Rattle.std.proofs.lemmas.List.Edits.{sets}
-use Rattle.logic.specs.Choice.{if◌then◌else◌}
+use Rattle.logic.specs.Choice.{If◌then◌else◌}
 use Rattle.values.specs.Ends.{Refusal, refusal, Judged, accepted, refused}
 use Rattle.language.specs.Tree.{Tree}
 use Rattle.language.specs.Table.{read_table}
@@ -33,7 +33,7 @@ compile_refused r out = record { verdict = refused r; bytes = out }
 -- 7: "output shorter than the macro" (L10), after all others; "Output bytes past a compiled macro stay too."
 abbrev pub write_macro : List ℕ → List ℕ → Compiled
 write_macro code out =
-    if leb (length code) (length out)
+    If leb (length code) (length out)
     then record { verdict = accepted (length code); bytes = sets out 0 code }
     else compile_refused (refusal 7 0) out
 

@@ -1,6 +1,6 @@
 -- A measure of a tree: a number of every part, made up of the numbers of its parts. Size, nesting, cells, holds and working need are five of them.
 use Rattle.std.specs.Prelude.{Bool, List, ℕ, suc, ◌+◌}
-use Rattle.logic.specs.Choice.{if◌then◌else◌}
+use Rattle.logic.specs.Choice.{If◌then◌else◌}
 use Rattle.language.specs.Tree.{Decl, Stmt, block, assign, when, choose, while, goto, assert, call, set_level, select, for, Items, no_item, label, item, Arms, last_arm}
 use Rattle.language.specs.Tree.{arm, Target, to_variable, to_field, Expr, number, truth, pattern, null, variable, invoke, field, make, operate1, operate2}
 use Rattle.language.specs.Tree.{conditional, fader, block_expr, Exprs, no_expr, expr}
@@ -18,11 +18,11 @@ pub record Measure : Type 0 where
 
 -- an operand with i before it; "an operand that is a statement counts its own need alone"
 abbrev operand : Measure → ℕ → ℕ → ℕ
-operand m i n = if m.stacked then i + n else n
+operand m i n = If m.stacked then i + n else n
 
 -- how many stand before the next: counted only where it matters, so that else a list's number is the same wherever it stands
 abbrev next : Measure → ℕ → ℕ
-next m i = if m.stacked then suc i else i
+next m i = If m.stacked then suc i else i
 
 unfoldable mutual
   pub measure_s : Measure → Stmt → ℕ

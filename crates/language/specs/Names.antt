@@ -1,7 +1,7 @@
 -- Blocks, the names that they define, and the lookup of section 3 of 000. "Names follow section 3 of 000: innermost block first."
 use Rattle.std.specs.Prelude.{Bool, true, false, List, [], ◌∷◌, ◌++◌, ℕ, eqb}
 use Rattle.std.proofs.Math.Option.{Option, none, some}
-use Rattle.logic.specs.Choice.{if◌then◌else◌}
+use Rattle.logic.specs.Choice.{If◌then◌else◌}
 use Rattle.values.specs.Types.{Ty, integer}
 use Rattle.language.specs.Tree.{Typed, Decl, declare, holding, Items, no_item, label, item, Body, proper, function, Global, local, class, procedure, Tree}
 
@@ -147,7 +147,7 @@ pub data Found : Type 0 where
 -- of two definitions in a block the first is found (N8)
 unfoldable pub first_of : ℕ → List Definition → Found
 first_of a [] = nowhere
-first_of a (d ∷ ds) = if eqb d.name a then found d.sort false else first_of a ds
+first_of a (d ∷ ds) = If eqb d.name a then found d.sort false else first_of a ds
 
 abbrev pub otherwise : Found → Found → Found
 otherwise nowhere g = g
@@ -184,9 +184,9 @@ blocks_from taken [] = []
 blocks_from taken (in_block ds ∷ ss) = record { names = ds; closed = false; heading = heading_of ss } ∷ blocks_from true ss
 blocks_from taken (in_expression ds ∷ ss) = record { names = ds; closed = true; heading = heading_of ss } ∷ blocks_from true ss
 blocks_from taken (in_procedure xs ∷ ss) =
-    if taken then blocks_from false ss else record { names = []; closed = false; heading = parameters xs } ∷ blocks_from false ss
+    If taken then blocks_from false ss else record { names = []; closed = false; heading = parameters xs } ∷ blocks_from false ss
 blocks_from taken (in_loop d ∷ ss) =
-    if taken then blocks_from false ss else record { names = []; closed = false; heading = control d } ∷ blocks_from false ss
+    If taken then blocks_from false ss else record { names = []; closed = false; heading = control d } ∷ blocks_from false ss
 
 -- ── the lookup of section 3 of 000 ──
 -- Step 1. "If the identifier is defined by a declaration of a quantity or by its standing as a label within the smallest block (cf. 7.1)
@@ -216,7 +216,7 @@ step3 a b = first_of a (control_identifier b.heading)
 
 -- no goto leaves a block expression, nor what follows a procedure heading: what is found beyond is seen across it
 abbrev pub out_of : Block → Found → Found
-out_of b f = if b.closed then across f else f
+out_of b f = If b.closed then across f else f
 
 abbrev pub before : Heading → Found → Found
 before no_heading f = f

@@ -1,7 +1,7 @@
 -- Entries, their layout, and the table read as a tree (refusals 1 and 2).
 use Rattle.std.specs.Prelude.{Bool, true, false, not, ◌&&◌, ◌||◌, List, [], ◌∷◌, ℕ, zero, suc, ◌+◌, ◌-◌, ◌/◌, ◌%◌, eqb, leb, ltb, ℤ, pos, negsuc, nat_abs, length, drop}
 use Rattle.std.proofs.Math.Option.{Option, none, some, get_or}
-use Rattle.logic.specs.Choice.{if◌then◌else◌}
+use Rattle.logic.specs.Choice.{If◌then◌else◌}
 use Rattle.logic.specs.Options.{is_some}
 use Rattle.words.specs.Numbers.{half_at, word_at, integer_of}
 use Rattle.values.specs.Types.{Ty, integer, logical, bits, reference}
@@ -31,10 +31,10 @@ natural (negsuc n) = false
 -- "Types: 1 integer, 2 logical, 3 bits, 65,536 + class name for a reference."
 abbrev pub ty_of_code : ℕ → Option Ty
 ty_of_code n =
-    if eqb n 1 then some integer else
-    if eqb n 2 then some logical else
-    if eqb n 3 then some bits else
-    if leb 65536 n && leb n 131071 then some (reference (n - 65536)) else none
+    If eqb n 1 then some integer else
+    If eqb n 2 then some logical else
+    If eqb n 3 then some bits else
+    If leb 65536 n && leb n 131071 then some (reference (n - 65536)) else none
 
 -- "12 procedure a, b = 256 × parameters (0 to 8) + result"
 abbrev pub is_heading : ℕ → Bool
@@ -44,35 +44,35 @@ is_heading n = leb (n / 256) 8 && leb (n % 256) 3
 unfoldable pub in_layout : Entry → Bool
 in_layout e =
     let k = e.kind in let x = e.a in let z = e.b in
-    if eqb k 1 then natural z else  -- 1 block (a declarations, b statements)
-    if eqb k 10 then natural z && is_some (ty_of_code (nat_abs z)) else  -- 10 variable a of type b
-    if eqb k 11 then between 1 8 z else  -- 11 class a with b fields, 1 to 8
-    if eqb k 12 then natural z && is_heading (nat_abs z) else  -- 12 procedure a
-    if eqb k 14 then leb x 63 && is_zero z else  -- 14 hold group a (0 to 63)
-    if eqb k 20 then is_zero z else  -- 20 label a
-    if eqb k 21 then eqb x 0 && is_zero z else  -- 21 assign
-    if eqb k 22 then eqb x 0 && is_zero z else  -- 22 if
-    if eqb k 23 then eqb x 0 && is_zero z else  -- 23 if-else
-    if eqb k 24 then eqb x 0 && is_zero z else  -- 24 while
-    if eqb k 25 then is_zero z else  -- 25 goto a
-    if eqb k 26 then eqb x 0 && is_zero z else  -- 26 assert
-    if eqb k 27 then natural z else  -- 27 call a with b arguments
-    if eqb k 28 then eqb x 0 && is_zero z else  -- 28 set
-    if eqb k 30 then leb 1 x && is_zero z else  -- 30 case, a at least 1
-    if eqb k 31 then is_zero z else  -- "Kind 31, a the control name" (ticket 1)
-    if eqb k 40 then eqb x 0 else  -- 40 integer b
-    if eqb k 41 then eqb x 0 && between 0 1 z else  -- 41 logical b (0 or 1)
-    if eqb k 42 then eqb x 0 else  -- 42 bits b
-    if eqb k 43 then is_zero z else  -- 43 null of class a
-    if eqb k 44 then is_zero z else  -- 44 variable a
-    if eqb k 45 then natural z else  -- 45 function a with b arguments
-    if eqb k 46 then is_zero z else  -- 46 field a of (E)
-    if eqb k 47 then natural z else  -- 47 record of class a from b values
-    if eqb k 48 then is_some (unary_of x) && is_zero z else  -- 48 unary a
-    if eqb k 49 then is_some (binary_of x) && is_zero z else  -- 49 binary a
-    if eqb k 50 then eqb x 0 && is_zero z else  -- 50 if-expression
-    if eqb k 51 then eqb x 0 && is_zero z else  -- 51 fader
-    if eqb k 53 then natural z else false  -- 53 block expression (a declarations, b statements)
+    If eqb k 1 then natural z else  -- 1 block (a declarations, b statements)
+    If eqb k 10 then natural z && is_some (ty_of_code (nat_abs z)) else  -- 10 variable a of type b
+    If eqb k 11 then between 1 8 z else  -- 11 class a with b fields, 1 to 8
+    If eqb k 12 then natural z && is_heading (nat_abs z) else  -- 12 procedure a
+    If eqb k 14 then leb x 63 && is_zero z else  -- 14 hold group a (0 to 63)
+    If eqb k 20 then is_zero z else  -- 20 label a
+    If eqb k 21 then eqb x 0 && is_zero z else  -- 21 assign
+    If eqb k 22 then eqb x 0 && is_zero z else  -- 22 if
+    If eqb k 23 then eqb x 0 && is_zero z else  -- 23 if-else
+    If eqb k 24 then eqb x 0 && is_zero z else  -- 24 while
+    If eqb k 25 then is_zero z else  -- 25 goto a
+    If eqb k 26 then eqb x 0 && is_zero z else  -- 26 assert
+    If eqb k 27 then natural z else  -- 27 call a with b arguments
+    If eqb k 28 then eqb x 0 && is_zero z else  -- 28 set
+    If eqb k 30 then leb 1 x && is_zero z else  -- 30 case, a at least 1
+    If eqb k 31 then is_zero z else  -- "Kind 31, a the control name" (ticket 1)
+    If eqb k 40 then eqb x 0 else  -- 40 integer b
+    If eqb k 41 then eqb x 0 && between 0 1 z else  -- 41 logical b (0 or 1)
+    If eqb k 42 then eqb x 0 else  -- 42 bits b
+    If eqb k 43 then is_zero z else  -- 43 null of class a
+    If eqb k 44 then is_zero z else  -- 44 variable a
+    If eqb k 45 then natural z else  -- 45 function a with b arguments
+    If eqb k 46 then is_zero z else  -- 46 field a of (E)
+    If eqb k 47 then natural z else  -- 47 record of class a from b values
+    If eqb k 48 then is_some (unary_of x) && is_zero z else  -- 48 unary a
+    If eqb k 49 then is_some (binary_of x) && is_zero z else  -- 49 binary a
+    If eqb k 50 then eqb x 0 && is_zero z else  -- 50 if-expression
+    If eqb k 51 then eqb x 0 && is_zero z else  -- 51 fader
+    If eqb k 53 then natural z else false  -- 53 block expression (a declarations, b statements)
 
 -- ── reading, from left to right ──
 -- a part that was read and the entries after it, or the entries from the first that does not read
@@ -107,19 +107,19 @@ repeated (suc n) r es = after (r es) (λ x rest. after (repeated n r rest) (λ x
 -- the entry that stands here, where it keeps to the layout
 unfoldable pub first : {A : Type 0} → (Entry → Reader A) → Reader A
 first f [] = stop []
-first f (e ∷ es) = if in_layout e then f e es else stop (e ∷ es)
+first f (e ∷ es) = If in_layout e then f e es else stop (e ∷ es)
 
 -- the type of a kind 10 that keeps to the layout
 abbrev pub as_typed : Entry → Typed
 as_typed e = typed e.a (get_or (ty_of_code (nat_abs e.b)) integer)
 
 unfoldable pub form_typed : Entry → Reader Typed
-form_typed e es = if eqb e.kind 10 then took (as_typed e) es else stop (e ∷ es)
+form_typed e es = If eqb e.kind 10 then took (as_typed e) es else stop (e ∷ es)
 
 unfoldable pub form_decl : Entry → Reader Decl
 form_decl e es =
-    if eqb e.kind 10 then took (declare (as_typed e)) es else
-    if eqb e.kind 14 then took (holding e.a) es else stop (e ∷ es)
+    If eqb e.kind 10 then took (declare (as_typed e)) es else
+    If eqb e.kind 14 then took (holding e.a) es else stop (e ∷ es)
 
 -- lists as the tree has them
 pub data Part : Type 0 where
@@ -158,46 +158,46 @@ exprs_below r e = made exprs_of (repeated (nat_abs e.b) r.expr)
 unfoldable pub form_s : Below → Entry → Reader Stmt
 form_s r e es =
     let k = e.kind in
-    if eqb k 1 then two block (repeated e.a r.decl) (items_below r e) es else
-    if eqb k 21 then two assign r.target r.expr es else
-    if eqb k 22 then two when r.expr r.stmt es else
-    if eqb k 23 then three choose r.expr r.stmt r.stmt es else
-    if eqb k 24 then two while r.expr r.stmt es else
-    if eqb k 25 then took (goto e.a) es else
-    if eqb k 26 then made assert r.expr es else
-    if eqb k 27 then made (call e.a) (exprs_below r e) es else
-    if eqb k 28 then two set_level r.expr r.expr es else
-    if eqb k 30 then three (λ x s ss. select x (arms_of s ss)) r.expr r.stmt (repeated (e.a - 1) r.stmt) es else
-    if eqb k 31 then four (for e.a) r.expr r.expr r.expr r.stmt es else
+    If eqb k 1 then two block (repeated e.a r.decl) (items_below r e) es else
+    If eqb k 21 then two assign r.target r.expr es else
+    If eqb k 22 then two when r.expr r.stmt es else
+    If eqb k 23 then three choose r.expr r.stmt r.stmt es else
+    If eqb k 24 then two while r.expr r.stmt es else
+    If eqb k 25 then took (goto e.a) es else
+    If eqb k 26 then made assert r.expr es else
+    If eqb k 27 then made (call e.a) (exprs_below r e) es else
+    If eqb k 28 then two set_level r.expr r.expr es else
+    If eqb k 30 then three (λ x s ss. select x (arms_of s ss)) r.expr r.stmt (repeated (e.a - 1) r.stmt) es else
+    If eqb k 31 then four (for e.a) r.expr r.expr r.expr r.stmt es else
     stop (e ∷ es)
 
 -- a label or a statement (R15); b of a block counts both (R20)
 unfoldable pub form_part : Below → Entry → Reader Part
-form_part r e es = if eqb e.kind 20 then took (label_part e.a) es else made stmt_part (form_s r e) es
+form_part r e es = If eqb e.kind 20 then took (label_part e.a) es else made stmt_part (form_s r e) es
 
 -- what may be assigned to, refused at the target itself (R4)
 unfoldable pub form_target : Below → Entry → Reader Target
 form_target r e es =
-    if eqb e.kind 44 then took (to_variable e.a) es else
-    if eqb e.kind 46 then made (to_field e.a) r.expr es else stop (e ∷ es)
+    If eqb e.kind 44 then took (to_variable e.a) es else
+    If eqb e.kind 46 then made (to_field e.a) r.expr es else stop (e ∷ es)
 
 -- an expression, by the kind of its entry
 unfoldable pub form_e : Below → Entry → Reader Expr
 form_e r e es =
     let k = e.kind in
-    if eqb k 40 then took (number e.b) es else
-    if eqb k 41 then took (truth (not (is_zero e.b))) es else
-    if eqb k 42 then took (pattern e.b) es else
-    if eqb k 43 then took (null e.a) es else
-    if eqb k 44 then took (variable e.a) es else
-    if eqb k 45 then made (invoke e.a) (exprs_below r e) es else
-    if eqb k 46 then made (field e.a) r.expr es else
-    if eqb k 47 then made (make e.a) (exprs_below r e) es else
-    if eqb k 48 then made (operate1 (get_or (unary_of e.a) negate)) r.expr es else
-    if eqb k 49 then two (operate2 (get_or (binary_of e.a) plus)) r.expr r.expr es else
-    if eqb k 50 then three conditional r.expr r.expr r.expr es else
-    if eqb k 51 then made fader r.expr es else
-    if eqb k 53 then three block_expr (repeated e.a r.decl) (items_below r e) r.expr es else
+    If eqb k 40 then took (number e.b) es else
+    If eqb k 41 then took (truth (not (is_zero e.b))) es else
+    If eqb k 42 then took (pattern e.b) es else
+    If eqb k 43 then took (null e.a) es else
+    If eqb k 44 then took (variable e.a) es else
+    If eqb k 45 then made (invoke e.a) (exprs_below r e) es else
+    If eqb k 46 then made (field e.a) r.expr es else
+    If eqb k 47 then made (make e.a) (exprs_below r e) es else
+    If eqb k 48 then made (operate1 (get_or (unary_of e.a) negate)) r.expr es else
+    If eqb k 49 then two (operate2 (get_or (binary_of e.a) plus)) r.expr r.expr es else
+    If eqb k 50 then three conditional r.expr r.expr r.expr es else
+    If eqb k 51 then made fader r.expr es else
+    If eqb k 53 then three block_expr (repeated e.a r.decl) (items_below r e) r.expr es else
     stop (e ∷ es)
 
 -- the readers where so much nesting is left; the entry at depth 65 does not read (R19)
@@ -215,16 +215,16 @@ below (suc d) = let r = below d in record {
 -- ── the root: "Kinds 11 and 12 stand only in the root's head, at most 16 and 63." ──
 -- "its body: S when result is 0, E when result is 1, 2 or 3"
 abbrev pub body_below : Below → ℕ → Reader Body
-body_below r t = if eqb t 0 then made proper r.stmt else made (function (get_or (ty_of_code t) integer)) r.expr
+body_below r t = If eqb t 0 then made proper r.stmt else made (function (get_or (ty_of_code t) integer)) r.expr
 
 -- classes and procedures here only, the 17th and the 64th refused at itself (R16, R18)
 unfoldable pub form_global : Below → ℕ → ℕ → Entry → Reader Global
 form_global r classes procedures e es =
     let n = nat_abs e.b in
-    if eqb e.kind 11 then
-    (if ltb classes 16 then made (class e.a) (repeated n r.typed) es else stop (e ∷ es)) else
-    if eqb e.kind 12 then
-    (if ltb procedures 63 then two (procedure e.a) (repeated (n / 256) r.typed) (body_below r (n % 256)) es else stop (e ∷ es)) else
+    If eqb e.kind 11 then
+    (If ltb classes 16 then made (class e.a) (repeated n r.typed) es else stop (e ∷ es)) else
+    If eqb e.kind 12 then
+    (If ltb procedures 63 then two (procedure e.a) (repeated (n / 256) r.typed) (body_below r (n % 256)) es else stop (e ∷ es)) else
     made local (form_decl e) es
 
 abbrev pub class_count : Global → ℕ
@@ -247,7 +247,7 @@ tree_of gs is = record { head = gs; items = is }
 
 -- "nesting at most 64 deep; the root, a block (kind 1), is depth 1"
 unfoldable pub form_root : Entry → Reader Tree
-form_root e es = if eqb e.kind 1 then two tree_of (read_head (below 62) e.a 0 0) (items_below (below 63) e) es else stop (e ∷ es)
+form_root e es = If eqb e.kind 1 then two tree_of (read_head (below 62) e.a 0 0) (items_below (below 63) e) es else stop (e ∷ es)
 
 -- ── the table ──
 unfoldable pub entries : ℕ → List ℕ → List Entry
@@ -265,4 +265,4 @@ unfoldable pub read_table : List ℕ → Judged Tree
 read_table l =
     let n = length l in
     let es = entries (n / 8) l in
-    if eqb n 0 || (ltb 16384 n || not (eqb (n % 8) 0)) then refused (refusal 1 0) else one_tree es (first form_root es)
+    If eqb n 0 || (ltb 16384 n || not (eqb (n % 8) 0)) then refused (refusal 1 0) else one_tree es (first form_root es)

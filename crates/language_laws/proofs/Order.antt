@@ -2,7 +2,7 @@
 use Rattle.std.specs.Prelude.{◌≡◌, Bool, true, false, not, ◌&&◌, List, [], ◌∷◌, ◌++◌, ℕ, suc, ◌+◌, ◌≤◌, ◌<◌, length}
 use Rattle.std.proofs.Common.{append_assoc, append-nil, arith}
 use Rattle.language.specs.Program.{total}
-use Rattle.logic.specs.Choice.{if◌then◌else◌}
+use Rattle.logic.specs.Choice.{If◌then◌else◌}
 use Rattle.logic.specs.Lists.{among}
 use Rattle.logic.specs.Options.{is_some}
 use Rattle.values.specs.Types.{Ty, integer, logical, bits, reference}
@@ -74,7 +74,7 @@ at-aimed : (f : Found) (p : ℕ) → Walk 3 (p ∷ []) (aimed f p)
 at-aimed nowhere p = walk-one 3 p (omega arith)
 at-aimed (found s w) p = go (as_label s)
   where
-    go : (b : Bool) → Walk 3 (p ∷ []) (if b then fault_if w 5 p else refusal 4 p ∷ [])
+    go : (b : Bool) → Walk 3 (p ∷ []) (If b then fault_if w 5 p else refusal 4 p ∷ [])
     go true = walk-if w 5 p (omega arith)
     go false = walk-one 4 p (omega arith)
 

@@ -4,7 +4,7 @@ use Rattle.std.proofs.Common.{sym, ◌∙◌, ap, append-nil, arith, eqb-true, l
 use Rattle.std.proofs.lemmas.Bool.{eqb-false}
 use Rattle.language.specs.Program.{flatten, table_bytes, Program, in_fields}
 use Rattle.logic.specs.Lists.{all}
-use Rattle.logic.specs.Choice.{if◌then◌else◌}
+use Rattle.logic.specs.Choice.{If◌then◌else◌}
 use Rattle.words.specs.Laws.{Bytes}
 use Rattle.values.specs.Ends.{Refusal, refusal, Judged, accepted, refused}
 use Rattle.language.specs.Tree.{Tree}
@@ -51,7 +51,7 @@ unfolding judge_table read_table
 verdict l = go (eqb (length l) 0) (ltb 16384 (length l)) (eqb (length l % 8) 0) refl refl refl
   where
     go : (a b c : Bool) → eqb (length l) 0 ≡ a → ltb 16384 (length l) ≡ b → eqb (length l % 8) 0 ≡ c
-        → Verdict l (judge_tree (if a || (b || not c) then refused (refusal 1 0) else one_tree (entries_of l) (first form_root (entries_of l))))
+        → Verdict l (judge_tree (If a || (b || not c) then refused (refusal 1 0) else one_tree (entries_of l) (first form_root (entries_of l))))
     go true b c p q r = misshapen (empty (eqb-true (length l) 0 p))
     go false true c p q r = misshapen (over (ltb-true 16384 (length l) q))
     go false false false p q r = misshapen (uneven (eqb-false (length l % 8) 0 r))

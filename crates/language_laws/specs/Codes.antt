@@ -5,7 +5,7 @@ use Rattle.std.proofs.Math.Option.{Option, none, some, get_or}
 use Rattle.values.specs.Arithmetic.{is_zero}
 use Rattle.values.specs.Values.{between}
 use Rattle.logic.specs.Options.{is_some}
-use Rattle.logic.specs.Choice.{if◌then◌else◌}
+use Rattle.logic.specs.Choice.{If◌then◌else◌}
 use Rattle.values.specs.Types.{Ty, integer, logical, bits, reference, ty_code}
 use Rattle.values.specs.Operators.{Unary, negate, absolute, complement, Binary, plus, minus, times, divide, remainder, less, at_most, greater, at_least, equal, unequal}
 use Rattle.values.specs.Operators.{both, either, shift_left, shift_right, unary_code, binary_code, unary_of, binary_of}
@@ -13,7 +13,7 @@ use Rattle.language.specs.Table.{natural, ty_of_code}
 use Rattle.logic.specs.Tests.{clash, both_left}
 
 -- ── what a code stands for ──
-reference-back : (c : ℕ) → ty_of_code (65536 + c) ≡ (if leb (65536 + c) 131071 then some (reference c) else none)
+reference-back : (c : ℕ) → ty_of_code (65536 + c) ≡ (If leb (65536 + c) 131071 then some (reference c) else none)
 reference-back c =
     let e : 65536 + c - 65536 ≡ c = omega arith in
     rw (ne_eqb (65536 + c) 1 (λ z. omega arith), ne_eqb (65536 + c) 2 (λ z. omega arith), ne_eqb (65536 + c) 3 (λ z. omega arith), le-leb 65536 (65536 + c) (omega arith), e)
@@ -24,8 +24,8 @@ type-back logical h = refl
 type-back bits h = refl
 type-back (reference c) h = rw (reference-back c) (pick (leb (65536 + c) 131071) (rw (reference-back c) at h))
   where
-    pick : (b : Bool) → is_some {A = Ty} (if b then some (reference c) else none) ≡ true
-        → ◌≡◌ {A = Option Ty} (if b then some (reference c) else none) (some (reference c))
+    pick : (b : Bool) → is_some {A = Ty} (If b then some (reference c) else none) ≡ true
+        → ◌≡◌ {A = Option Ty} (If b then some (reference c) else none) (some (reference c))
     pick true e = refl
     pick false e = clash (cc)
 
@@ -62,11 +62,11 @@ module _ {A : Type 0} {code : A → ℕ} {default : A} {n : ℕ} where
   coded_none = record { back = λ h. clash (cc) }
 
   coded-if : {x : Option A} (b : Bool) (o : A) → (b ≡ true → code o ≡ n) → Coded code default n x
-      → Coded code default n (if b then some o else x)
+      → Coded code default n (If b then some o else x)
   coded-if true o p h = record { back = λ s. p refl }
   coded-if false o p h = h
 
-  coded-at : {x : Option A} (k : ℕ) (o : A) → code o ≡ k → Coded code default n x → Coded code default n (if eqb n k then some o else x)
+  coded-at : {x : Option A} (k : ℕ) (o : A) → code o ≡ k → Coded code default n x → Coded code default n (If eqb n k then some o else x)
   coded-at k o p h = coded-if (eqb n k) o (λ q. p ∙ sym (eqb-true n k q)) h
 
 pub unary-coded : (n : ℕ) → Coded unary_code negate n (unary_of n)

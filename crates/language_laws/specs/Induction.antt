@@ -7,7 +7,7 @@ use mathlib.Core.List.{List, [], ◌∷◌}
 use Rattle.std.proofs.Math.Option.{Option, none, some}
 use Rattle.std.proofs.Math.ListN.{get_elem?}
 use Rattle.logic.specs.Options.{is_some}
-use Rattle.logic.specs.Choice.{if◌then◌else◌}
+use Rattle.logic.specs.Choice.{If◌then◌else◌}
 use Rattle.values.specs.Arithmetic.{Outcome, gives, ends, mistyped, is_zero, sum}
 use Rattle.values.specs.Values.{Value, as_integer, as_logical, as_reference, Cell, assigned, fresh, between, size, apply1, apply2}
 use Rattle.values.specs.Trace.{set, hold, Item, event, reading}
@@ -71,7 +71,7 @@ declared : (x : Typed) (σ : Store) → σ.trace ≡ (declare_in x σ).trace
 unfolding declare_in
 declared x σ = declared-first (slot x.name (fresh x.type)) σ.blocks σ
 
-chosen : (b : Bool) (σ τ ρ : Store) → σ.trace ≡ τ.trace → σ.trace ≡ ρ.trace → σ.trace ≡ (if b then τ else ρ).trace
+chosen : (b : Bool) (σ τ ρ : Store) → σ.trace ≡ τ.trace → σ.trace ≡ ρ.trace → σ.trace ≡ (If b then τ else ρ).trace
 chosen true σ τ ρ h k = h
 chosen false σ τ ρ h k = k
 
@@ -86,7 +86,7 @@ module _ (R : Claim) (L : Lawful R) where
   keeps : {A : Type 0} {X : Place} {σ τ : Store} {v : A} → τ.trace ≡ σ.trace → R A X σ (done v τ) (done v τ)
   keeps h = L.same h L.gives
 
-  either_way : {A : Type 0} {X : Place} {σ : Store} {p q p' q' : Result A} (b : Bool) → R A X σ p q → R A X σ p' q' → R A X σ (if b then p else p') (if b then q else q')
+  either_way : {A : Type 0} {X : Place} {σ : Store} {p q p' q' : Result A} (b : Bool) → R A X σ p q → R A X σ p' q' → R A X σ (If b then p else p') (If b then q else q')
   either_way true h k = h
   either_way false h k = k
 

@@ -5,7 +5,7 @@ use Rattle.std.proofs.Math.Option.{get_or}
 use Prim.Native.Nat.{ℕ, zero, suc, ◌-◌, ◌≤◌, max}
 use Rattle.language.specs.Measure.{measure_s}
 use Rattle.language.specs.Program.{flat_typed, flat_decl, flat_s, flat_items, flat_arms, flat_target, flat_e, flat_es, deep_head, deep_s, deep_items, deep_arms, deep_target, deep_e, deep_es}
-use Rattle.logic.specs.Choice.{if◌then◌else◌}
+use Rattle.logic.specs.Choice.{If◌then◌else◌}
 use Rattle.values.specs.Operators.{negate, plus, unary_code, binary_code, unary_of, binary_of}
 use Rattle.language.specs.Tree.{Typed, Decl, declare, holding, Stmt, block, assign, when, choose, while, goto, assert, call, set_level, select, for, Items, no_item, label, item}
 use Rattle.language.specs.Tree.{Arms, last_arm, arm, Target, to_variable, to_field, Expr, number, truth, pattern, null, variable, invoke, field, make, operate1, operate2}
@@ -205,7 +205,7 @@ part-done : (r : Below) (e : Entry) (es rest : List Entry) (s : Stmt) → form_s
 unfolding form_part after
 part-done r e es rest s h = go (eqb e.kind 20) refl
   where
-    go : (b : Bool) → eqb e.kind 20 ≡ b → (if b then took (label_part e.a) es else made stmt_part (form_s r e) es) ≡ took (stmt_part s) rest
+    go : (b : Bool) → eqb e.kind 20 ≡ b → (If b then took (label_part e.a) es else made stmt_part (form_s r e) es) ≡ took (stmt_part s) rest
     go true q = clash (cc (label-stops r e es (eqb-true e.kind 20 q)))
     go false q = rw h
 
@@ -217,8 +217,8 @@ takes-done r {us} {s} h = record { takes = λ rest. at (us ++ rest) rest (h.take
     at [] rest q = clash (cc)
     at (e ∷ es) rest q = go (in_layout e) q
       where
-        go : (b : Bool) → (if b then form_s r e es else stop (e ∷ es)) ≡ took s rest
-            → (if b then form_part r e es else stop (e ∷ es)) ≡ took (stmt_part s) rest
+        go : (b : Bool) → (If b then form_s r e es else stop (e ∷ es)) ≡ took s rest
+            → (If b then form_part r e es else stop (e ∷ es)) ≡ took (stmt_part s) rest
         go true q = part-done r e es rest s q
         go false q = clash (cc)
 

@@ -8,7 +8,7 @@ use Rattle.std.proofs.Math.IntN.{nat_abs}
 use Rattle.std.proofs.Math.ListN.{length}
 use borrow.Author.Tests.{leb-true, ltb-true, lt-ltb}
 use Rattle.language.specs.Program.{flat_typed, flat_decl, result_code, flat_body, flat_global, flat_head, flatten, deep_list, deep_body, deep_global, deep_globals, nesting, total}
-use Rattle.logic.specs.Choice.{if◌then◌else◌}
+use Rattle.logic.specs.Choice.{If◌then◌else◌}
 use Rattle.values.specs.Types.{integer, logical, bits, reference}
 use Rattle.language.specs.Tree.{Typed, declare, holding, Body, proper, function, Global, local, class, procedure, Tree}
 use Rattle.language.specs.Table.{Entry, in_layout, natural, is_heading, took, stop, Reader, after, two, repeated, first, Below, items_below, below, body_below, form_global}
@@ -79,7 +79,7 @@ module _ {r : Below} {d : ℕ} (G : Reads r d) where
 
 -- the root's form, where so much nesting is left below its declarations
 unfoldable pub form_root_at : ℕ → Entry → Reader Tree
-form_root_at n e es = if eqb e.kind 1 then two tree_of (read_head (below n) e.a 0 0) (items_below (below (suc n)) e) es else stop (e ∷ es)
+form_root_at n e es = If eqb e.kind 1 then two tree_of (read_head (below n) e.a 0 0) (items_below (below (suc n)) e) es else stop (e ∷ es)
 
 pub takes-root-at : (n : ℕ) (t : Tree) → Fits (suc (suc n)) (flatten t) (nesting t) → total class_count t.head ≤ 16 → total procedure_count t.head ≤ 63
     → Takes (first (form_root_at n)) (flatten t) t

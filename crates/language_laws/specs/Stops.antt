@@ -7,7 +7,7 @@ use mathlib.Core.List.{List, [], ◌∷◌, ◌++◌, append_assoc, append-nil}
 use Prim.Native.Nat.{ℕ, zero, suc, ◌+◌, ◌≤◌, ◌<◌}
 use Rattle.std.proofs.Math.ListN.{length, length-append, get_or-append}
 use Rattle.std.proofs.Math.Seq.{get_or-append-add}
-use Rattle.logic.specs.Choice.{if◌then◌else◌}
+use Rattle.logic.specs.Choice.{If◌then◌else◌}
 use Rattle.language.specs.Table.{Entry, in_layout, Read, took, stop, Reader, after, made, two, three, four, repeated, first}
 use Rattle.logic.specs.Tests.{clash}
 use Rattle.language_laws.specs.Takes.{Takes, takes-here, takes-made, takes-after}
@@ -78,7 +78,7 @@ stops-here {D = D} x e =
     record { entries = []; blank = x; whole = w; reads = λ es. record { used = []; split = refl; whole = w; shallow = shallow-none (D x) } }
 
 pub stops-if : {A : Type 0} {r q s p : Reader A} {D : A → List ℕ} (b : Bool) → Stops r q D → Stops s p D
-    → Stops (if b then r else s) (if b then q else p) D
+    → Stops (If b then r else s) (If b then q else p) D
 stops-if true h k = h
 stops-if false h k = k
 
@@ -259,7 +259,7 @@ pub forms-stop : {A : Type 0} {e : Entry} {D : A → List ℕ} → Forms {A = A}
 forms-stop = refuses (λ es. refl) (λ es. refl)
 
 pub forms-if : {A : Type 0} {e : Entry} {r q s p : Reader A} {D : A → List ℕ} (b : Bool) → Forms e r q D → Forms e s p D
-    → Forms e (λ es. if b then r es else s es) (λ es. if b then q es else p es) D
+    → Forms e (λ es. If b then r es else s es) (λ es. If b then q es else p es) D
 forms-if true h k = h
 forms-if false h k = k
 
@@ -323,7 +323,7 @@ stops_first {A} {d} {D} {us} {x} f g root s w forms = record { entries = us; bla
     form e es l (refuses h k) = rw (h es) (here e es (λ zs. rw l (k zs)))
     form e es l (goes h) = under-fate f g root s e es l (f e es) (h.reads es)
 
-    by : (e : Entry) (es : List Entry) (b : Bool) → in_layout e ≡ b → Fate (first g) D (e ∷ es) (if b then f e es else stop (e ∷ es))
+    by : (e : Entry) (es : List Entry) (b : Bool) → in_layout e ≡ b → Fate (first g) D (e ∷ es) (If b then f e es else stop (e ∷ es))
     by e es true l = form e es l (forms e)
     by e es false l = here e es (λ zs. rw l)
 

@@ -11,7 +11,7 @@ use Rattle.values.specs.Values.{between}
 use Rattle.language.specs.Measure.{measure_s}
 use Rattle.language.specs.Program.{flat_typed, flat_decl, flag, flat_s, flat_items, flat_arms, flat_target, flat_e, flat_es, deep_head, deep_s, deep_items, deep_arms, deep_target, deep_e, deep_es}
 use Rattle.logic.specs.Options.{is_some}
-use Rattle.logic.specs.Choice.{if◌then◌else◌}
+use Rattle.logic.specs.Choice.{If◌then◌else◌}
 use Rattle.values.specs.Operators.{negate, plus, unary_of, binary_of}
 use Rattle.language.specs.Tree.{Typed, Decl, Items, Target, Exprs, Stmt, block, assign, when, choose, while, assert, call, set_level, select, for, to_field, Expr, invoke, field}
 use Rattle.language.specs.Tree.{make, operate1, operate2, conditional, fader, block_expr, count_items, count_arms, count_exprs}
@@ -108,7 +108,7 @@ module _ (e : Entry) {k : ℕ} (q : e.kind ≡ k) where
 -- a form by its kind
 pub kind-if : {A : Type 0} {r q : Reader A} {T : Claim A} (e : Entry) (k : ℕ) → in_layout e ≡ true
     → (e.kind ≡ k → in_layout (entry k e.a e.b) ≡ true → Yields r T) → Yields q T
-    → Yields (λ es. if eqb e.kind k then r es else q es) T
+    → Yields (λ es. If eqb e.kind k then r es else q es) T
 kind-if e k l h g =
     yields-if (eqb e.kind k)
     (λ p. let q = eqb-true e.kind k p in h q (subst (λ (n : ℕ). in_layout (entry n e.a e.b) ≡ true) q l)) (λ p. g)

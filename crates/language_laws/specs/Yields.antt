@@ -1,7 +1,7 @@
 -- What was there where a reader took something, one law for each way to make a reader of readers.
 use Rattle.std.specs.Prelude.{◌≡◌, refl, Bool, true, false, List, [], ◌∷◌, ◌++◌, ℕ, zero, suc, length}
 use Rattle.std.proofs.Common.{ap, append_assoc, append-nil}
-use Rattle.logic.specs.Choice.{if◌then◌else◌}
+use Rattle.logic.specs.Choice.{If◌then◌else◌}
 use Rattle.language.specs.Table.{Entry, in_layout, Read, took, stop, Reader, after, made, two, three, four, repeated, first}
 use Rattle.logic.specs.Tests.{clash}
 
@@ -40,7 +40,7 @@ pub yields-stop : {A : Type 0} {T : Claim A} {f : List Entry → List Entry} →
 yields-stop = record { yields = λ es rest y e. clash (cc) }
 
 pub yields-if : {A : Type 0} {r q : Reader A} {T : Claim A} (b : Bool) → (b ≡ true → Yields r T) → (b ≡ false → Yields q T)
-    → Yields (λ es. if b then r es else q es) T
+    → Yields (λ es. If b then r es else q es) T
 yields-if true h k = h refl
 yields-if false h k = k refl
 
@@ -92,7 +92,7 @@ pub yields-first : {A : Type 0} {T : Claim A} (f : Entry → Reader A)
 unfolding first
 yields-first {A} {T} f h = record { yields = at }
   where
-    here : (e : Entry) (es rest : List Entry) (x : A) (b : Bool) → in_layout e ≡ b → (if b then f e es else stop (e ∷ es)) ≡ took x rest
+    here : (e : Entry) (es rest : List Entry) (x : A) (b : Bool) → in_layout e ≡ b → (If b then f e es else stop (e ∷ es)) ≡ took x rest
         → Took (e ∷ es) rest (λ us. T us x)
     here e es rest x true l q =
         let t = (h e l).yields es rest x q in

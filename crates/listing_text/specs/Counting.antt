@@ -1,7 +1,7 @@
 -- The totals as the code has them, and how far those of a play's events are from what fits.
 use Rattle.std.specs.Prelude.{Bool, true, false, refl, List, ℕ, zero, suc, ◌+◌, ◌*◌, ◌≤◌, eqb}
 use Rattle.std.proofs.Common.{arith}
-use Rattle.logic.specs.Choice.{if◌then◌else◌}
+use Rattle.logic.specs.Choice.{If◌then◌else◌}
 use Rattle.words.specs.Numbers.{byte_at}
 use Rattle.listing_text.specs.Sheet as sheet
 use Rattle.listing_text.specs.Bounds.{Below, Grown, not-grown, grown-on, grown-below}
@@ -26,8 +26,8 @@ fewer-roomy {t} j h r = grown-below 0 j (omega arith) (not-grown t) r
 pub tag-grown : (tag : ℕ) (t : sheet.Totals) → Grown t (count_tag tag t) 1
 tag-grown tag t = by (eqb tag 4) (eqb tag 5)
   where
-    by : (b c : Bool) → Grown t (if b then sheet.sheet (t.sets + 1) t.holds t.releases t.readings else
-        if c then sheet.sheet t.sets (t.holds + 1) t.releases t.readings else sheet.sheet t.sets t.holds (t.releases + 1) t.readings) 1
+    by : (b c : Bool) → Grown t (If b then sheet.sheet (t.sets + 1) t.holds t.releases t.readings else
+        If c then sheet.sheet t.sets (t.holds + 1) t.releases t.readings else sheet.sheet t.sets t.holds (t.releases + 1) t.readings) 1
     by true c = record { sets = omega arith; holds = omega arith; releases = omega arith; readings = refl }
     by false true = record { sets = omega arith; holds = omega arith; releases = omega arith; readings = refl }
     by false false = record { sets = omega arith; holds = omega arith; releases = omega arith; readings = refl }

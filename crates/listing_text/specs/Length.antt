@@ -4,7 +4,7 @@ use Rattle.std.proofs.Math.Path.{refl}
 use Rattle.std.proofs.Common.{ap, inl, inr, ltb-true, ltb-false, lt-ltb, le-ltb}
 use native.Mathlib.Omega.{arith}
 use Rattle.std.proofs.Math.ListN.{length-append}
-use Rattle.logic.specs.Choice.{if◌then◌else◌}
+use Rattle.logic.specs.Choice.{If◌then◌else◌}
 use Rattle.words.specs.Laws.{Bytes}
 use Rattle.values.specs.Ends.{Refusal, refusal, is_condition}
 use Rattle.values.specs.Conditions.{condition-byte}
@@ -30,7 +30,7 @@ same_digits (suc d) zero n h k = rw (lt-ltb n 10 (omega arith))
 same_digits (suc d) (suc e) n h k = go (ltb n 10) refl (λ g. same_digits d e (n / 10) (omega arith) (omega arith))
   where
     go : (b : Bool) → ltb n 10 ≡ b → (10 ≤ n → digits d (n / 10) ≡ digits e (n / 10))
-        → (if b then digit n ∷ [] else digits d (n / 10) ++ (digit (n % 10) ∷ [])) ≡ (if b then digit n ∷ [] else digits e (n / 10) ++ (digit (n % 10) ∷ []))
+        → (If b then digit n ∷ [] else digits d (n / 10) ++ (digit (n % 10) ∷ [])) ≡ (If b then digit n ∷ [] else digits e (n / 10) ++ (digit (n % 10) ∷ []))
     go true q f = refl
     go false q f = ap (λ x. x ++ (digit (n % 10) ∷ [])) (f (ltb-false n 10 q))
 

@@ -4,7 +4,7 @@
 -- and place." "The listing program prints these four totals in that order, one line each, that word and the number, before `end` or `open`."
 -- (paper 02, ticket 4)
 use Rattle.std.specs.Prelude.{List, [], ◌∷◌, ◌++◌, ℕ, zero, suc, ◌+◌, ◌-◌, ◌/◌, ◌%◌, ltb, take, replicate}
-use Rattle.logic.specs.Choice.{if◌then◌else◌}
+use Rattle.logic.specs.Choice.{If◌then◌else◌}
 use Rattle.values.specs.Ends.{Refusal, Judged, accepted, refused}
 use Rattle.values.specs.Trace.{Event, set, hold, release}
 use Rattle.language.specs.Judge.{compile_on}
@@ -21,7 +21,7 @@ digit n = 48 + n
 -- a number in at most suc d decimal digits
 unfoldable pub digits : ℕ → ℕ → List ℕ
 digits zero n = digit n ∷ []
-digits (suc d) n = if ltb n 10 then digit n ∷ [] else digits d (n / 10) ++ (digit (n % 10) ∷ [])
+digits (suc d) n = If ltb n 10 then digit n ∷ [] else digits d (n / 10) ++ (digit (n % 10) ∷ [])
 
 -- it has no more digits than itself says
 unfoldable pub decimal : ℕ → List ℕ

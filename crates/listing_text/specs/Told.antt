@@ -1,7 +1,7 @@
 -- The lines of a play, as its answer and the bytes that it wrote tell them.
 use Rattle.std.specs.Prelude.{Bool, true, false, ◌≡◌, refl, List, [], ◌++◌, ℕ, zero, suc, ◌+◌, ◌-◌, ◌*◌, ◌≤◌, ◌<◌, eqb}
 use Rattle.std.proofs.Common.{ap, ◌∙◌, arith, ne_eqb}
-use Rattle.logic.specs.Choice.{if◌then◌else◌}
+use Rattle.logic.specs.Choice.{If◌then◌else◌}
 use Rattle.words.specs.Numbers.{byte_at, half_at}
 use Rattle.values.specs.Ends.{refusal}
 use Rattle.values.specs.Trace.{set, hold, release}
@@ -12,8 +12,8 @@ use Rattle.listing_text.specs.Text.{event_line, sheet_text, end_line, open_line,
 -- an event's line, by the numbers of its answer
 abbrev pub told_line : ℕ → ℕ → ℕ → List ℕ
 told_line tag first second =
-    if eqb tag 4 then event_line (set first second) else
-    if eqb tag 5 then event_line (hold first) else event_line (release first)
+    If eqb tag 4 then event_line (set first second) else
+    If eqb tag 5 then event_line (hold first) else event_line (release first)
 
 -- by the bytes of its packed answer: the tag in the first, after two of steps two of the first number, then the second
 abbrev pub line_at : List ℕ → ℕ → List ℕ
@@ -37,18 +37,18 @@ module _ (answers : List ℕ) (p first : ℕ) (f : first ≡ half_at answers (p 
 -- ── a play, by the numbers of its answer ──
 -- how many events it wrote; none where it is refused
 abbrev pub events_of : Numbers → ℕ
-events_of x = if eqb x.tag 0 then 0 else x.second
+events_of x = If eqb x.tag 0 then 0 else x.second
 
 -- the steps of one that stopped for want of room, after which there is another; 0 of any other
 abbrev pub full_steps : Numbers → ℕ
-full_steps x = if eqb x.tag 8 then x.steps else 0
+full_steps x = If eqb x.tag 8 then x.steps else 0
 
 -- what is no event, with the totals after the play
 abbrev pub last_text : Numbers → Totals → List ℕ
 last_text x t =
-    if eqb x.tag 0 then refused_line (refusal x.first x.second) else
-    if eqb x.tag 2 then sheet_text t ++ open_line else
-    if eqb x.tag 3 then sheet_text t ++ end_line x.first else []
+    If eqb x.tag 0 then refused_line (refusal x.first x.second) else
+    If eqb x.tag 2 then sheet_text t ++ open_line else
+    If eqb x.tag 3 then sheet_text t ++ end_line x.first else []
 
 abbrev pub play_text : List ℕ → Numbers → Totals → List ℕ
 play_text answers x t = event_lines answers 0 (events_of x) ++ last_text x t
@@ -56,8 +56,8 @@ play_text answers x t = event_lines answers 0 (events_of x) ++ last_text x t
 -- ── the totals, by the tags of packed answers ──
 abbrev pub count_tag : ℕ → Totals → Totals
 count_tag tag t =
-    if eqb tag 4 then sheet (t.sets + 1) t.holds t.releases t.readings else
-    if eqb tag 5 then sheet t.sets (t.holds + 1) t.releases t.readings else sheet t.sets t.holds (t.releases + 1) t.readings
+    If eqb tag 4 then sheet (t.sets + 1) t.holds t.releases t.readings else
+    If eqb tag 5 then sheet t.sets (t.holds + 1) t.releases t.readings else sheet t.sets t.holds (t.releases + 1) t.readings
 
 -- with k events more, from the i-th on
 unfoldable pub count_tags : List ℕ → ℕ → ℕ → Totals → Totals
@@ -66,10 +66,10 @@ count_tags answers i (suc k) t = count_tags answers (suc i) k (count_tag (byte_a
 
 -- readings are counted apart from them
 tag_read : (n : ℕ) (b c : Bool) (t : Totals)
-    → (if b then sheet (t.sets + 1) t.holds t.releases (t.readings + n) else
-    if c then sheet t.sets (t.holds + 1) t.releases (t.readings + n) else sheet t.sets t.holds (t.releases + 1) (t.readings + n))
-    ≡ read n (if b then sheet (t.sets + 1) t.holds t.releases t.readings else
-    if c then sheet t.sets (t.holds + 1) t.releases t.readings else sheet t.sets t.holds (t.releases + 1) t.readings)
+    → (If b then sheet (t.sets + 1) t.holds t.releases (t.readings + n) else
+    If c then sheet t.sets (t.holds + 1) t.releases (t.readings + n) else sheet t.sets t.holds (t.releases + 1) (t.readings + n))
+    ≡ read n (If b then sheet (t.sets + 1) t.holds t.releases t.readings else
+    If c then sheet t.sets (t.holds + 1) t.releases t.readings else sheet t.sets t.holds (t.releases + 1) t.readings)
 tag_read n true c t = refl
 tag_read n false true t = refl
 tag_read n false false t = refl

@@ -3,7 +3,7 @@ use Rattle.std.specs.Prelude.{Bool, true, false, ◌≡◌, refl, List, ℕ, ◌
 use Rattle.std.proofs.Common.{ap, arith, leb-true}
 use Rattle.std.proofs.lemmas.List.Edits.{sets}
 use Rattle.std.proofs.Math.Seq.{length-sets}
-use Rattle.logic.specs.Choice.{if◌then◌else◌}
+use Rattle.logic.specs.Choice.{If◌then◌else◌}
 use Rattle.values.specs.Ends.{refusal, Judged, accepted, refused}
 use Rattle.language.specs.Tree.{Tree}
 use Rattle.language.specs.Judge.{Compiled, judge_table, compile_refused, compile_tree, compile_on}
@@ -30,7 +30,7 @@ unfolding compile_on
 within table room after n e = go (judge_table table) e
   where
     placed : (code : List ℕ) (b : Bool) → leb (length code) (length room) ≡ b
-        → (if b then record { verdict = accepted (length code); bytes = sets room 0 code } else compile_refused (refusal 7 0) room) ≡ record { verdict = accepted n; bytes = after } → n ≤ length after
+        → (If b then record { verdict = accepted (length code); bytes = sets room 0 code } else compile_refused (refusal 7 0) room) ≡ record { verdict = accepted n; bytes = after } → n ≤ length after
     placed code true h d =
         let q : ◌≡◌ {A = Judged ℕ} (accepted (length code)) (accepted n) = ap (λ (c : Compiled). c.verdict) d in
         let i : length code ≡ n = cc in

@@ -9,7 +9,7 @@ use Rattle.std.proofs.Math.Dec.{eqb}
 use Rattle.std.proofs.Math.ListN.{get_elem?}
 use borrow.Author.Tests.{lt-ltb, le-leb, not-false}
 use Rattle.logic.specs.Options.{keep, is_some, or_else}
-use Rattle.logic.specs.Choice.{if◌then◌else◌}
+use Rattle.logic.specs.Choice.{If◌then◌else◌}
 use Rattle.words.specs.Numbers.{byte_at}
 use Rattle.bytecode.specs.Macro.{Shape, shape_in}
 use Rattle.bytecode.specs.Instructions.{instruction, instr_at, in_body}
@@ -117,7 +117,7 @@ agrees-zero l w = record {
 
 -- ── the next address ──
 module _ (l : List ℕ) (w : Well l) (i : ℕ) (h : suc i < count l) (g : Agrees l i) (clear : fault_at (view l) i ≡ false) where
-  into_next : into_in (view l) (suc i) ≡ (if is_first (view l).bodies (suc i) then at_first else on_from l i)
+  into_next : into_in (view l) (suc i) ≡ (If is_first (view l).bodies (suc i) then at_first else on_from l i)
   unfolding into_in found_at
   into_next = refl
 

@@ -2,7 +2,7 @@
 use Rattle.std.specs.Prelude.{◌≡◌, refl, List, ℕ, zero, suc, ◌+◌, eqb, ltb, length}
 use Rattle.std.proofs.Common.{◌∙◌, zero-add, add-suc, suc-add, arith, lt-ltb, le-ltb, eqb-true, ltb-false}
 use Rattle.std.proofs.Math.Option.{none, some}
-use Rattle.logic.specs.Choice.{if◌then◌else◌}
+use Rattle.logic.specs.Choice.{If◌then◌else◌}
 use Rattle.values.specs.Ends.{refusal, Judged, accepted, refused as refused_by}
 use Rattle.bytecode.specs.Macro.{Macro}
 use Rattle.bytecode.specs.Rules.{fault_at, lowest, judge_code}
@@ -18,7 +18,7 @@ use Rattle.load_views.specs.Known.{clean, reads-well}
 use Rattle.load_views.proofs.Address.{code-count, fault-same, agrees}
 
 lowest-first : (l : List ℕ) → Well l → (n j : ℕ) → j + n ≡ count l → Clean (broken l) j
-    → lowest (fault_at (view l)) n j ≡ (if ltb (seek (broken l) n j) (j + n) then some (seek (broken l) n j) else none)
+    → lowest (fault_at (view l)) n j ≡ (If ltb (seek (broken l) n j) (j + n) then some (seek (broken l) n j) else none)
 unfolding lowest seek
 lowest-first l w zero j e c = rw (le-ltb j (j + 0) (omega arith))
 lowest-first l w (suc n) j e c =

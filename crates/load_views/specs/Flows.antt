@@ -4,7 +4,7 @@ use Rattle.std.proofs.Common.{sym, ap, ◌∙◌, arith}
 use Rattle.std.proofs.Math.Option.{Option, none, some}
 use Rattle.std.proofs.Math.ListN.{length-map}
 use borrow.Author.Tests.{leb-true, le-leb}
-use Rattle.logic.specs.Choice.{if◌then◌else◌}
+use Rattle.logic.specs.Choice.{If◌then◌else◌}
 use Rattle.values.specs.Types.{Ty, ty_byte}
 use Rattle.bytecode.specs.Macro.{shape, Macro}
 use Rattle.bytecode.specs.Instructions.{exactly}
@@ -55,11 +55,11 @@ module _ (m : Macro) (k h : ℕ) (ts : List Ty) (room : roomy (shape h ts) ≡ t
 
   -- a type that there may be, given and taken
   pub giving-one : (there : Bool) (t : ℕ) (ins : List Ty) → (there ≡ true → ty_byte (ty_on t) ≡ t)
-      → need there (draws (bytes ins) h (bytes ts) (λ g r. push t g r)) ≡ sends (giving (if there then some (ty_on t) else none) ins)
+      → need there (draws (bytes ins) h (bytes ts) (λ g r. push t g r)) ≡ sends (giving (If there then some (ty_on t) else none) ins)
   giving-one true t ins e = ap (λ x. draws (bytes ins) h (bytes ts) (λ g r. push x g r)) (sym (e refl)) ∙ gives_one ins (ty_on t)
   giving-one false t ins e = (unfold flow in refl)
 
   pub taking-one : (there : Bool) (t : ℕ) (ins : List Ty) → (there ≡ true → ty_byte (ty_on t) ≡ t)
-      → need there (draws (t ∷ bytes ins) h (bytes ts) goes) ≡ sends (taking (if there then some (ty_on t) else none) ins)
+      → need there (draws (t ∷ bytes ins) h (bytes ts) goes) ≡ sends (taking (If there then some (ty_on t) else none) ins)
   taking-one true t ins e = ap (λ x. draws (x ∷ bytes ins) h (bytes ts) goes) (sym (e refl)) ∙ gives_none (ty_on t ∷ ins)
   taking-one false t ins e = (unfold flow in refl)

@@ -7,7 +7,7 @@ use Prim.Native.Nat.{ℕ, zero, suc, ◌+◌, ◌≤◌, ◌<◌}
 use Rattle.std.proofs.Common.{add-one, arith, leb-true, le-leb, lt-ltb, le-ltb}
 use Rattle.std.proofs.Math.Dec.{eqb-suc-zero}
 use Rattle.logic.specs.Options.{is_some}
-use Rattle.logic.specs.Choice.{if◌then◌else◌}
+use Rattle.logic.specs.Choice.{If◌then◌else◌}
 use Rattle.values.specs.Types.{Ty, logical, sames}
 use Rattle.bytecode.specs.Macro.{Shape, shape, shape_in}
 use Rattle.bytecode.specs.Instructions.{in_body}
@@ -72,7 +72,7 @@ module _ (l : List ℕ) (w : Well l) (k i : ℕ) (s : Stands l k i) where
   head-same (suc j) c = rw (eqb-suc-zero j, span-length)
 
   pub opens-same : (x : Option Shape)
-      → opens l k i (state x) ≡ cond (body_fault (view l).bodies 0 i) bad (state (if is_first (view l).bodies i then at_first else x))
+      → opens l k i (state x) ≡ cond (body_fault (view l).bodies 0 i) bad (state (If is_first (view l).bodies i then at_first else x))
   unfolding opens
   opens-same x =
       rw (fault-in l w k i s, first-in l w k i s)

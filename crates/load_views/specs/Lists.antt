@@ -8,7 +8,7 @@ use Prim.Native.Nat.{ℕ, zero, suc, ◌+◌, ◌≤◌}
 use Rattle.std.proofs.Math.Nat.{add-zero, add-suc, suc-add}
 use Rattle.std.proofs.Math.Dec.{leb-suc-suc, leb-suc-zero, leb-zero}
 use Rattle.std.proofs.Math.ListN.{get_elem?}
-use Rattle.logic.specs.Choice.{if◌then◌else◌}
+use Rattle.logic.specs.Choice.{If◌then◌else◌}
 
 module _ {A : Type 0} (f : ℕ → A) where
   -- f j, f (j + 1), .. (n of them)
@@ -49,7 +49,7 @@ module _ {A : Type 0} (f : ℕ → A) where
   backs-length zero = refl
   backs-length (suc n) = ap suc (backs-length n)
 
-  pub span-at : (n j i : ℕ) → get_elem? (span j n) i ≡ (if ltb i n then some (f (j + i)) else none)
+  pub span-at : (n j i : ℕ) → get_elem? (span j n) i ≡ (If ltb i n then some (f (j + i)) else none)
   unfolding span
   span-at zero j i = rw (leb-suc-zero i)
   span-at (suc n) j zero = rw (leb-suc-suc 0 n, leb-zero n, add-zero j)

@@ -10,7 +10,7 @@ use native.Mathlib.Omega.{arith}
 use Rattle.std.proofs.Math.Dec.{eqb-suc-zero}
 use Rattle.std.proofs.Math.Seq.{get_or-drop, drop-drop}
 use borrow.Author.Tests.{lt-ltb, le-ltb, le-leb, lt-leb, ne_eqb}
-use Rattle.logic.specs.Choice.{if◌then◌else◌}
+use Rattle.logic.specs.Choice.{If◌then◌else◌}
 use Rattle.words.specs.Numbers.{byte_at, half_at}
 use Rattle.words.specs.Laws.{Size, one, two, four, number_at, same_number}
 use Rattle.values.specs.Types.{Ty}
@@ -24,7 +24,7 @@ use Rattle.logic.specs.OptionLaws.{keep-if, alike-ways}
 use Rattle.load_views.specs.View.{ty_on, types_on, result_on, class_on, body_on, code_on, placed_on}
 
 -- ── types ──
-pub type_reads : (c t : ℕ) → ty_of_byte c t ≡ (if no_type c t then none else some (ty_on t))
+pub type_reads : (c t : ℕ) → ty_of_byte c t ≡ (If no_type c t then none else some (ty_on t))
 unfolding ty_of_byte no_type ty_on
 type_reads c zero = refl
 type_reads c (suc zero) = refl
@@ -32,7 +32,7 @@ type_reads c (suc (suc zero)) = refl
 type_reads c (suc (suc (suc zero))) = refl
 type_reads c (suc (suc (suc (suc n)))) = high (suc (suc (suc (suc n)))) (omega arith)
   where
-    high : (t : ℕ) → 3 < t → ty_of_byte c t ≡ (if no_type c t then none else some (ty_on t))
+    high : (t : ℕ) → 3 < t → ty_of_byte c t ≡ (If no_type c t then none else some (ty_on t))
     high t h =
         rw (ne_eqb t 1 (omega arith), ne_eqb t 2 (omega arith), ne_eqb t 3 (omega arith))
         (by-test (ltb t 16)
@@ -43,8 +43,8 @@ type_reads c (suc (suc (suc (suc n)))) = high (suc (suc (suc (suc n)))) (omega a
 module _ (l : List ℕ) (c q : ℕ) where
   abbrev types_from : ℕ → ℕ → Option (Cut (List Ty))
   types_from n j =
-      if ltb (length l) (q + (j + n)) then none else
-      if ltb (seek (λ k. no_type c (byte_at l (q + k))) n j) (j + n) then none else
+      If ltb (length l) (q + (j + n)) then none else
+      If ltb (seek (λ k. no_type c (byte_at l (q + k))) n j) (j + n) then none else
       some (cut (span (λ k. ty_on (byte_at l (q + k))) j n) (drop (q + (j + n)) l))
 
   types-read : (n j : ℕ) → q + j ≤ length l → read_types c n (drop (q + j) l) ≡ types_from n j
@@ -61,7 +61,7 @@ module _ (l : List ℕ) (c q : ℕ) where
 module _ (l : List ℕ) where
   types-at : (q n : ℕ) → q ≤ length l
       → read_types (classes l) n (drop q l)
-      ≡ (if ltb (length l) (q + n) then none else if bad_types l q n then none else some (cut (types_on l q n) (drop (q + n) l)))
+      ≡ (If ltb (length l) (q + n) then none else If bad_types l q n then none else some (cut (types_on l q n) (drop (q + n) l)))
   unfolding bad_types
   types-at q n h = rw (add-zero q, zero-add n) at (types-read l (classes l) q n 0 (omega arith))
 
@@ -84,7 +84,7 @@ module _ (l : List ℕ) where
   -- ── the records ──
   pub class-reads : (k : ℕ) (before : List (List Ty))
       → read_class (classes l) before (drop (class_place l k) l)
-      ≡ (if bad_class l k then none else some (cut (class_on l (class_place l k)) (drop (class_place l (suc k)) l)))
+      ≡ (If bad_class l k then none else some (cut (class_on l (class_place l k)) (drop (class_place l (suc k)) l)))
   unfolding read_class bad_class class_place
   class-reads k before =
       let p = class_place l k in let n = byte_at l (p + 2) in
@@ -95,7 +95,7 @@ module _ (l : List ℕ) where
       (by-test (ltb 8 n) (λ h. rw h) (λ h. rw h
       (by-test (ltb (length l) (p + 3 + n)) (λ h. rw h) (λ h. rw h))))))))
 
-  result-reads : (t : ℕ) → read_result (classes l) t ≡ (if eqb t 0 || not (no_type (classes l) t) then some (result_on t) else none)
+  result-reads : (t : ℕ) → read_result (classes l) t ≡ (If eqb t 0 || not (no_type (classes l) t) then some (result_on t) else none)
   unfolding read_result result_on
   result-reads t =
       rw (type_reads (classes l) t)
@@ -108,7 +108,7 @@ module _ (l : List ℕ) where
 
   pub body_reads : (k : ℕ)
       → read_body (classes l) (count l) (backs (λ j. body_on l (body_place l j)) k) (drop (body_place l k) l)
-      ≡ (if bad_body l k then none else some (cut (body_on l (body_place l k)) (drop (body_place l (suc k)) l)))
+      ≡ (If bad_body l k then none else some (cut (body_on l (body_place l k)) (drop (body_place l (suc k)) l)))
   unfolding read_body bad_body body_fits body_place
   body_reads k =
       let p = body_place l k in let n = byte_at l (p + 6) in
@@ -127,7 +127,7 @@ module _ (l : List ℕ) where
 
   pub code_reads : (i : ℕ) (before : List Code)
       → read_code before (drop (code_place l i) l)
-      ≡ (if bad_code l i then none else some (cut (code_on l (code_place l i)) (drop (code_place l (suc i)) l)))
+      ≡ (If bad_code l i then none else some (cut (code_on l (code_place l i)) (drop (code_place l (suc i)) l)))
   unfolding read_code
   code_reads i before =
       let p = code_place l i in
@@ -142,7 +142,7 @@ module _ (l : List ℕ) where
 
   pub shape-reads : (k : ℕ)
       → read_shape (classes l) (count l) (backs (λ j. placed_on l (shape_place l j)) k) (drop (shape_place l k) l)
-      ≡ (if bad_shape l k then none else some (cut (placed_on l (shape_place l k)) (drop (shape_place l (suc k)) l)))
+      ≡ (If bad_shape l k then none else some (cut (placed_on l (shape_place l k)) (drop (shape_place l (suc k)) l)))
   unfolding read_shape bad_shape shape_fits shape_place
   shape-reads k =
       let p = shape_place l k in let n = byte_at l (p + 5) in

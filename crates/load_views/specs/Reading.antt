@@ -5,7 +5,7 @@ use Prim.Native.Nat.{ℕ, zero, suc, ◌+◌, ◌-◌, ◌≤◌, ◌<◌}
 use Rattle.std.proofs.Math.Nat.{add-zero, add-suc}
 use Rattle.std.proofs.Common.{zero-add, suc-add, add-one, arith, length-drop}
 use borrow.Author.Tests.{eqb-true, lt-ltb, le-ltb}
-use Rattle.logic.specs.Choice.{if◌then◌else◌}
+use Rattle.logic.specs.Choice.{If◌then◌else◌}
 use Rattle.words.specs.Numbers.{byte_at}
 use Rattle.values.specs.Ends.{refusal, Judged, accepted, refused}
 use Rattle.bytecode.specs.Macro.{Cut, cut, Macro, Parsed, parsed, unread as unread_at, or_unread, records, onward, head_reads, read_end as read_last, parse_macro, read_or8, read_macro}
@@ -33,7 +33,7 @@ told l (unread k) = refused (refusal 8 k)
 
 -- ── records, one after another ──
 module _ {A : Type 0} (l : List ℕ) (read : List A → List ℕ → Option (Cut A)) (made : ℕ → A) (place : ℕ → ℕ) (bad : ℕ → Bool)
-    (at : (k : ℕ) → read (backs made k) (drop (place k) l) ≡ (if bad k then none else some (cut (made k) (drop (place (suc k)) l)))) where
+    (at : (k : ℕ) → read (backs made k) (drop (place k) l) ≡ (If bad k then none else some (cut (made k) (drop (place (suc k)) l)))) where
   records-from : (i n k : ℕ)
       → records read n (backs made k) (i + k) (drop (place k) l)
       ≡ cond (ltb (seek bad n k) (k + n)) (unread_at (i + seek bad n k)) (parsed (span made 0 (k + n)) (i + (k + n)) (drop (place (k + n)) l))

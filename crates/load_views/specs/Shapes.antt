@@ -9,7 +9,7 @@ use Rattle.std.proofs.Math.Nat.{zero-add}
 use Rattle.std.proofs.Math.ListN.{length-map}
 use borrow.Author.Tests.{ltb-false, eqb-true, eq-eqb, ne_eqb}
 use Rattle.logic.specs.Options.{or_else}
-use Rattle.logic.specs.Choice.{if◌then◌else◌}
+use Rattle.logic.specs.Choice.{If◌then◌else◌}
 use Rattle.words.specs.Numbers.{byte_at, half_at}
 use Rattle.values.specs.Types.{ty_byte, sames}
 use Rattle.bytecode.specs.Macro.{Shape, Placed, shape_in}
@@ -28,7 +28,7 @@ use Rattle.load_views.specs.Bodies.{in-body}
 
 -- ── the shape of an address ──
 shape-snoc : (ps : List Placed) (p : Placed) (x : ℕ)
-    → shape_in (ps ++ (p ∷ [])) x ≡ or_else (shape_in ps x) (if eqb p.address x then some p.found else none)
+    → shape_in (ps ++ (p ∷ [])) x ≡ or_else (shape_in ps x) (If eqb p.address x then some p.found else none)
 unfolding shape_in
 shape-snoc [] p x = refl
 shape-snoc (q ∷ ps) p x = by-test (eqb q.address x) (λ e. rw e) (λ e. rw e (shape-snoc ps p x))

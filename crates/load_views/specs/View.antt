@@ -1,7 +1,7 @@
 -- The decoded macro as a view on the places in its bytes: each record by what stands at its place.
 use Rattle.std.specs.Prelude.{◌≡◌, List, [], ◌∷◌, map, ℕ, ◌+◌, ◌-◌, ◌<◌, eqb, ltb}
 use Rattle.std.proofs.Math.Option.{Option, none, some}
-use Rattle.logic.specs.Choice.{if◌then◌else◌}
+use Rattle.logic.specs.Choice.{If◌then◌else◌}
 use Rattle.words.specs.Numbers.{byte_at, half_at, word_at}
 use Rattle.values.specs.Types.{Ty, integer, logical, bits, reference, ty_byte}
 use Rattle.values.specs.Ends.{Judged, accepted, refused as refused_by}
@@ -12,7 +12,7 @@ use Rattle.load_views.specs.Lists.{span, backs}
 
 -- the type of a type byte; what is none gives some reference
 unfoldable pub ty_on : ℕ → Ty
-ty_on t = if eqb t 1 then integer else if eqb t 2 then logical else if eqb t 3 then bits else reference (t - 16)
+ty_on t = If eqb t 1 then integer else If eqb t 2 then logical else If eqb t 3 then bits else reference (t - 16)
 
 -- the n types from q on, in their order and the last first
 abbrev pub types_on : List ℕ → ℕ → ℕ → List Ty
@@ -31,7 +31,7 @@ bytes ts = map ty_byte ts
 
 -- 0 or a type
 unfoldable pub result_on : ℕ → List Ty
-result_on t = if eqb t 0 then [] else ty_on t ∷ []
+result_on t = If eqb t 0 then [] else ty_on t ∷ []
 
 -- the records at a place
 abbrev pub class_on : List ℕ → ℕ → List Ty
@@ -92,11 +92,11 @@ b_at l i = word_at l (code_place l i + 4)
 
 -- the k-th where there are n
 abbrev pub below : {A : Type 0} → ℕ → ℕ → A → Option A
-below k n x = if ltb k n then some x else none
+below k n x = If ltb k n then some x else none
 
 -- the state that the shape at a place gives, where 0 is no place
 abbrev pub shape_on : List ℕ → ℕ → Option Shape
-shape_on l p = if eqb p 0 then none else some (state_on l p)
+shape_on l p = If eqb p 0 then none else some (state_on l p)
 
 -- the verdict of a judged macro
 abbrev pub verdict_of : Judged Macro → Verdict

@@ -2,7 +2,7 @@
 use Rattle.std.specs.Prelude.{◌≡◌, refl, Bool, true, false, ℕ}
 use Rattle.std.proofs.Math.Option.{Option, none, some}
 use Rattle.std.proofs.Common.{arith}
-use Rattle.logic.specs.Choice.{if◌then◌else◌}
+use Rattle.logic.specs.Choice.{If◌then◌else◌}
 use Rattle.logic.specs.Options.{keep}
 use Rattle.logic.specs.Tests.{if-and, if-same}
 
@@ -17,7 +17,7 @@ by-option none f g = f refl
 by-option (some x) f g = g x refl
 
 -- a choice whose second branch is none
-pub chosen : {A : Type 0} (b : Bool) (o : Option A) (y : A) → (if b then o else none) ≡ some y → (b ≡ true) × (o ≡ some y)
+pub chosen : {A : Type 0} (b : Bool) (o : Option A) (y : A) → (If b then o else none) ≡ some y → (b ≡ true) × (o ≡ some y)
 chosen true o y h = (refl, h)
 chosen false o y h = never-some h
 
@@ -30,7 +30,7 @@ pub keep-none : {A B : Type 0} (o : Option A) → keep {B = B} o (λ x. none) �
 keep-none none = refl
 keep-none (some x) = refl
 
-pub keep-if : {A B : Type 0} (t : Bool) (o : Option A) (f : A → Option B) → keep (if t then none else o) f ≡ (if t then none else keep o f)
+pub keep-if : {A B : Type 0} (t : Bool) (o : Option A) (f : A → Option B) → keep (If t then none else o) f ≡ (If t then none else keep o f)
 keep-if true o f = refl
 keep-if false o f = refl
 

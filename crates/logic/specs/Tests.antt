@@ -2,7 +2,7 @@
 use Rattle.std.specs.Prelude.{◌≡◌, refl, Bool, true, false, not, ◌&&◌, ◌||◌, cond, ℕ, eqb, leb, ltb}
 use Rattle.std.proofs.Common.{sym, true≢false, arith, ltb-true, ltb-false, leb-true, leb-false, eqb-true, lt-ltb, le-ltb, le-leb, eq-eqb, ne_eqb}
 use Rattle.std.proofs.lemmas.Bool.{false≢true, eqb-false, lt-leb}
-use Rattle.logic.specs.Choice.{if◌then◌else◌}
+use Rattle.logic.specs.Choice.{If◌then◌else◌}
 
 -- ── contradictions ──
 -- whatever from a contradiction, which `cc` finds among the equations at hand
@@ -66,16 +66,16 @@ or_right false b e = e
 
 -- ── choices ──
 module _ {ℓ} {A : Type ℓ} where
-  pub if-same : (t : Bool) (x : A) → (if t then x else x) ≡ x
+  pub if-same : (t : Bool) (x : A) → (If t then x else x) ≡ x
   if-same true x = refl
   if-same false x = refl
 
-  pub if-not : (t : Bool) (x y : A) → (if not t then x else y) ≡ (if t then y else x)
+  pub if-not : (t : Bool) (x y : A) → (If not t then x else y) ≡ (If t then y else x)
   if-not true x y = refl
   if-not false x y = refl
 
   -- a test joined of two
-  pub if-and : (s t : Bool) (x y : A) → (if s && t then x else y) ≡ (if s then (if t then x else y) else y)
+  pub if-and : (s t : Bool) (x y : A) → (If s && t then x else y) ≡ (If s then (If t then x else y) else y)
   if-and true t x y = refl
   if-and false t x y = refl
 

@@ -9,7 +9,7 @@ use lib.IntN.{ℤ, pos}
 use lib.ListN.{length, get_or}
 use Rattle.values.specs.Ends.{assert_false, out_of_range}
 use Rattle.bytecode.specs.Words.{value_word}
-use Rattle.logic.specs.Choice.{if◌then◌else◌}
+use Rattle.logic.specs.Choice.{If◌then◌else◌}
 use Rattle.words.specs.Numbers.{byte_at, half_at, word_at, word_of}
 use Rattle.values.specs.Trace.{set, event, reading}
 use Rattle.values.specs.Values.{Value, int, log, bit, ref, between, size, Cell}
@@ -97,7 +97,7 @@ module _ {l : List ℕ} {f n i : ℕ} where
     -- ── fader ──
     fader-by : (readings k : List ℕ) (r : Out)
         → ((m : Macro) (rs : Shared) (c0 a0 : ℕ) (cs : List Cell) (z : ℤ) (vs : List Value) (gs : List ℕ) (fs : List Activation) → Now m l f n i rs (activation c0 a0 cs (int z ∷ vs) gs) fs
-        → Told (if between 1 64 z then goes_on (reading (size z) (bank_of readings (size z)) ∷ []) (int (pos (bank_of readings (size z))) ∷ vs)
+        → Told (If between 1 64 z then goes_on (reading (size z) (bank_of readings (size z)) ∷ []) (int (pos (bank_of readings (size z))) ∷ vs)
         (here rs (activation c0 a0 cs (int z ∷ vs) gs) fs) else condition out_of_range (here rs (activation c0 a0 cs (int z ∷ vs) gs) fs)) k r)
         → Tells (λ m h. do_fader (bank_of readings) h) l f n i k r
     unfolding do_fader
@@ -131,7 +131,7 @@ module _ {l : List ℕ} {f n i : ℕ} where
     set-by : (k : List ℕ) (r : Out)
         → ((m : Macro) (rs : Shared) (c0 a0 : ℕ) (cs : List Cell) (u z : ℤ) (vs : List Value) (gs : List ℕ) (fs : List Activation) → Now m l f n i rs (activation c0 a0 cs (int u ∷ (int z ∷ vs)) gs) fs
         → x ≡ word_of z → y ≡ word_of u
-        → Told (if between 1 512 z && between 0 255 u then goes_on (event (set (size z) (size u)) ∷ []) vs
+        → Told (If between 1 512 z && between 0 255 u then goes_on (event (set (size z) (size u)) ∷ []) vs
         (here rs (activation c0 a0 cs (int u ∷ (int z ∷ vs)) gs) fs) else condition out_of_range (here rs (activation c0 a0 cs (int u ∷ (int z ∷ vs)) gs) fs)) k r)
         → Tells (λ m h. do_set h) l f n i k r
     unfolding do_set

@@ -12,7 +12,7 @@ use mir.Syntax.{w32}
 use mir.Val.{Fits, to_z, of_z}
 use mir.ValLaws.{to_z-of_z, to_z-Fits}
 use Rattle.bytecode.specs.Words.{log_word, word_ref, valid_word, word_value}
-use Rattle.logic.specs.Choice.{if◌then◌else◌}
+use Rattle.logic.specs.Choice.{If◌then◌else◌}
 use Rattle.words.specs.Numbers.{integer_of}
 use Rattle.values.specs.Types.{Ty, integer, logical, bits, reference, ty_byte}
 use Rattle.values.specs.Operators.{Unary, negate, absolute, complement, Binary, plus, minus, times, divide, remainder, less, at_most, greater, at_least, equal, unequal}
@@ -87,7 +87,7 @@ junction-says f g a b c d x y t (reference r) tu e h k = tt
 
 -- ── equality ──
 abbrev alike : ℕ → ℕ → ℕ → Bool
-alike t x y = if eqb t 1 then same_integer (integer_of x) (integer_of y) else eqb x y
+alike t x y = If eqb t 1 then same_integer (integer_of x) (integer_of y) else eqb x y
 
 same_word : (x y : ℕ) → same_ref (word_ref x) (word_ref y) ≡ eqb x y
 same_word zero zero = refl
@@ -95,10 +95,10 @@ same_word zero (suc y) = sym (ne_eqb 0 (suc y) (λ e. omega arith))
 same_word (suc x) zero = sym (ne_eqb (suc x) 0 (λ e. omega arith))
 same_word (suc x) (suc y) = sym (eqb-suc-suc x y)
 
-references : (f : Bool → Bool) (x y c d : ℕ) → Says (if eqb c d then gives (log (f (same_ref (word_ref x) (word_ref y)))) else mistyped) (Gives (log_word (f (eqb x y))) 2)
+references : (f : Bool → Bool) (x y c d : ℕ) → Says (If eqb c d then gives (log (f (same_ref (word_ref x) (word_ref y)))) else mistyped) (Gives (log_word (f (eqb x y))) 2)
 references f x y c d = go (eqb c d)
   where
-    go : (b : Bool) → Says (if b then gives (log (f (same_ref (word_ref x) (word_ref y)))) else mistyped) (Gives (log_word (f (eqb x y))) 2)
+    go : (b : Bool) → Says (If b then gives (log (f (same_ref (word_ref x) (word_ref y)))) else mistyped) (Gives (log_word (f (eqb x y))) 2)
     go true = rw (same_word x y)
     go false = tt
 
@@ -189,7 +189,7 @@ module _ {n t x y : ℕ} {a b : ℤ} (O : Operands n t x y a b) (r : Worked) whe
   unfolding binary_of
   works-right n1 n2 n3 n4 n5 n6 n7 n8 n9 n10 n11 n12 n13 n14 er o ty tu eo et h k = go (eqb n 15) q
     where
-      q : (if eqb n 15 then some shift_right else none) ≡ some o
+      q : (If eqb n 15 then some shift_right else none) ≡ some o
       q =
           rw (
             ne_eqb n 1 n1,
@@ -211,7 +211,7 @@ module _ {n t x y : ℕ} {a b : ℤ} (O : Operands n t x y a b) (r : Worked) whe
       shifted : Says (apply2 shift_right (word_value ty x) (word_value tu y)) r
       shifted = rw (er, O.right) (unfold apply2 in shift_says x y shifted_right t ty tu et)
 
-      go : (z : Bool) → (if z then some shift_right else none) ≡ some o → Says (apply2 o (word_value ty x) (word_value tu y)) r
+      go : (z : Bool) → (If z then some shift_right else none) ≡ some o → Says (apply2 o (word_value ty x) (word_value tu y)) r
       go true e = let s : shift_right ≡ o = cc in rw (← s) shifted
       go false e = let s : ◌≡◌ {A = ℕ} 0 1 = cc in absurd (omega arith)
 
@@ -259,10 +259,10 @@ module _ (n t x : ℕ) (r : Worked) where
     unfolding unary_of
     only o e f ty et h = go (eqb n 22) q
       where
-        q : (if eqb n 22 then some complement else none) ≡ some o
+        q : (If eqb n 22 then some complement else none) ≡ some o
         q = rw (ne_eqb n 20 n1, ne_eqb n 21 n2) at e
 
-        go : (z : Bool) → (if z then some complement else none) ≡ some o → Says (apply1 o (word_value ty x)) r
+        go : (z : Bool) → (If z then some complement else none) ≡ some o → Says (apply1 o (word_value ty x)) r
         go true e = let s : complement ≡ o = cc in rw (← s) (f ty et h)
         go false e = let s : ◌≡◌ {A = ℕ} 0 1 = cc in absurd (omega arith)
 

@@ -12,7 +12,7 @@ use lib.ListN.{length}
 use lib.Signed.{mag}
 use borrow.Author.Tests.{ltb-true, eqb-true, le-leb, lt-leb}
 use Rattle.bytecode.specs.Words.{value_word, valid_word, word_value}
-use Rattle.logic.specs.Choice.{if◌then◌else◌}
+use Rattle.logic.specs.Choice.{If◌then◌else◌}
 use Rattle.words.specs.Numbers.{word_of}
 use Rattle.words.specs.Laws.{integer-back}
 use Rattle.values.specs.Values.{Value, int, log, bit, ref, ty_of, tys_of, between, size, Cell}
@@ -109,7 +109,7 @@ goes-on {rs = rs} {fs = fs} {us = us} t is o p j x e q eo =
 pub owner-is : (a : ℕ) (o : Owner) → owner_of a ≡ some o → ((a ≡ 0) × (o ≡ own)) ⊎ ((a ≡ 1) × (o ≡ root))
 owner-is a o e = go (eqb a 0) refl (eqb a 1) refl e
   where
-    go : (p : Bool) → eqb a 0 ≡ p → (q : Bool) → eqb a 1 ≡ q → (if p then some own else if q then some root else none) ≡ some o → ((a ≡ 0) × (o ≡ own)) ⊎ ((a ≡ 1) × (o ≡ root))
+    go : (p : Bool) → eqb a 0 ≡ p → (q : Bool) → eqb a 1 ≡ q → (If p then some own else If q then some root else none) ≡ some o → ((a ≡ 0) × (o ≡ own)) ⊎ ((a ≡ 1) × (o ≡ root))
     go true ep q eq h = inl (eqb-true a 0 ep, cc)
     go false ep true eq h = inr (eqb-true a 1 eq, cc)
     go false ep false eq h = let z : ◌≡◌ {A = ℕ} 0 1 = cc in absurd (omega arith)

@@ -5,7 +5,7 @@ ghost use Rattle.values.specs.Answers.{computed};
 ghost use Rattle.values.specs.Arithmetic.{settle as exactly, sum, difference, product};
 ghost use Rattle.values.specs.Values.{same_integer};
 ghost use Rattle.words.specs.Numbers.{integer_of};
-ghost use Rattle.logic.specs.Choice.{if◌then◌else◌};
+ghost use Rattle.logic.specs.Choice.{If◌then◌else◌};
 ghost use Rattle.machine_ops.specs.Works.{worked, Works1, Works2};
 ghost use Rattle.machine_ops.specs.declared.operators.Worked.TheVariants.{Gives};
 
@@ -71,7 +71,7 @@ fn truth(b: bool) -> Worked
 
 // The words of two values of one type are equal where the values are.
 fn same(t: u8, x: u32, y: u32) -> bool
-    ensures { result ≡ (if eqb t 1 then same_integer (integer_of x) (integer_of y) else eqb x y) }
+    ensures { result ≡ (If eqb t 1 then same_integer (integer_of x) (integer_of y) else eqb x y) }
 {
     if t == TYPE_INTEGER {
         return values::equal(words::integer_of(x), words::integer_of(y));

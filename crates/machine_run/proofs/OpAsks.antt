@@ -10,7 +10,7 @@ use lib.ListN.{length, get_elem?, length-append, length-map}
 use borrow.Author.Tests.{leb-true, ltb-true, eqb-true, ne_eqb}
 use Rattle.bytecode.specs.Words.{value_word}
 use Rattle.logic.specs.Options.{keep}
-use Rattle.logic.specs.Choice.{if◌then◌else◌}
+use Rattle.logic.specs.Choice.{If◌then◌else◌}
 use Rattle.words.specs.Numbers.{byte_at, half_at, word_at}
 use Rattle.values.specs.Types.{Ty, sames, fits}
 use Rattle.values.specs.Trace.{Item}
@@ -81,7 +81,7 @@ goes-room is vs h e = leb-true (length vs) 32 (demand-there (leb (length vs) 32)
 below-there : {A : Type 0} (k n : ℕ) (y x : A) → below k n y ≡ some x → (k < n) × (x ≡ y)
 below-there k n y x e = go (ltb k n) refl e
   where
-    go : (t : Bool) → ltb k n ≡ t → (if t then some y else none) ≡ some x → (k < n) × (x ≡ y)
+    go : (t : Bool) → ltb k n ≡ t → (If t then some y else none) ≡ some x → (k < n) × (x ≡ y)
     go true h e = (ltb-true k n h, cc)
     go false h e = let z : ◌≡◌ {A = ℕ} 0 1 = cc in absurd (omega arith)
 

@@ -9,7 +9,7 @@ use lib.Dec.{eqb, leb, ltb}
 use lib.ListN.{length}
 use borrow.Author.Tests.{ne_eqb, ltb-true, leb-true}
 use Rattle.bytecode.specs.Words.{log_word}
-use Rattle.logic.specs.Choice.{if◌then◌else◌}
+use Rattle.logic.specs.Choice.{If◌then◌else◌}
 use Rattle.words.specs.Numbers.{integer_of}
 use Rattle.words.specs.Laws.{word_back}
 use Rattle.values.specs.Operators.{Operator}
@@ -122,7 +122,7 @@ pub is_stop : (op a b : ℕ) (x : Instr) → instruction (record_of op a b) ≡ 
 unfolding instruction
 is_stop op a b x d (other n0 n1 n2 n3 n4 n5 n6 n7 n8 n9 n10 n11 n12 n13 n14 n15 n16 n17 n18 n19) = go (eqb op 20) q
   where
-    q : (if eqb op 20 then exactly (stops_by a && eqb b 0) (stop a) else none) ≡ some x
+    q : (If eqb op 20 then exactly (stops_by a && eqb b 0) (stop a) else none) ≡ some x
     q = rw (
       ne_eqb op 0 n0,
       ne_eqb op 1 n1,
@@ -146,7 +146,7 @@ is_stop op a b x d (other n0 n1 n2 n3 n4 n5 n6 n7 n8 n9 n10 n11 n12 n13 n14 n15 
       ne_eqb op 19 n19,
     ) at d
 
-    go : (z : Bool) → (if z then exactly (stops_by a && eqb b 0) (stop a) else none) ≡ some x → x ≡ stop a
+    go : (z : Bool) → (If z then exactly (stops_by a && eqb b 0) (stop a) else none) ≡ some x → x ≡ stop a
     go true e = (exact (stops_by a && eqb b 0) (stop a) x e).1
     go false e = let z : ◌≡◌ {A = ℕ} 0 1 = cc in absurd (omega arith)
 

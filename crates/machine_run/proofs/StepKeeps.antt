@@ -8,7 +8,7 @@ use lib.IntN.{pos}
 use lib.Dec.{eqb, leb, ltb}
 use lib.ListN.{length, get_elem?}
 use lib.ListN.{set as put}
-use Rattle.logic.specs.Choice.{if◌then◌else◌}
+use Rattle.logic.specs.Choice.{If◌then◌else◌}
 use Rattle.values.specs.Operators.{Operator, unary, binary}
 use Rattle.values.specs.Arithmetic.{Outcome, gives, ends, mistyped}
 use Rattle.values.specs.Types.{Ty, fits, all_fit, sames}
@@ -82,7 +82,7 @@ module _ (t : Activation) (fs : List Activation) where
   on-demand : (b : Bool) (why : Stuck) (s : Stepped) → Onward s → Onward (demand b why s)
   on-demand = by-demand Onward (λ why. nowhere)
 
-  on-if : (b : Bool) (s r : Stepped) → Onward s → Onward r → Onward (if b then s else r)
+  on-if : (b : Bool) (s r : Stepped) → Onward s → Onward r → Onward (If b then s else r)
   on-if true s r p q = p
   on-if false s r p q = q
 
@@ -257,7 +257,7 @@ module _ (m : Macro) (bank : ℕ → ℕ) (rs : Shared) (t : Activation) (fs : L
     where
       go-pop : (vs : List Value) → Within (length fs) (pop vs (λ v us.
           given (as_logical v) bad_type (λ b. moved [] (running rs (record
-          { body = t.body; address = if b then suc t.address else i; cells = t.cells; operands = us; holds = t.holds }) fs))))
+          { body = t.body; address = If b then suc t.address else i; cells = t.cells; operands = us; holds = t.holds }) fs))))
       go-pop [] = tt
       go-pop (int z ∷ vs) = tt
       go-pop (log b ∷ vs) = refl

@@ -1,7 +1,7 @@
 -- The packing of answers loses nothing: no two answers pack to one number.
 use Rattle.std.specs.Prelude.{◌≡◌, refl, ◌<◌, eqb}
 use Rattle.std.proofs.Common.{sym, ap, ◌∙◌, arith}
-use Rattle.logic.specs.Choice.{if◌then◌else◌}
+use Rattle.logic.specs.Choice.{If◌then◌else◌}
 use Rattle.values.specs.Ends.{refusal, Judged, accepted, refused}
 use Rattle.values.specs.Trace.{set, hold, release}
 use Rattle.bytecode.specs.Answers.{Numbers, numbers, verdict_numbers, answer_numbers, packed}
@@ -31,7 +31,7 @@ bare (accepted x) = accepted tt
 bare (refused r) = refused r
 
 abbrev verdict_from : Numbers → Judged (Unit {0})
-verdict_from x = if eqb x.tag 0 then refused (refusal x.first x.second) else accepted tt
+verdict_from x = If eqb x.tag 0 then refused (refusal x.first x.second) else accepted tt
 
 verdict-from : {A : Type 0} (v : Judged A) → verdict_from (verdict_numbers v) ≡ bare v
 verdict-from (accepted x) = refl
@@ -43,11 +43,11 @@ verdicts-differ v w f g e = sym (verdict-from v) ∙ ap verdict_from (packed-inj
 -- ── answers of runs ──
 abbrev answer_from : Numbers → Answer
 answer_from x =
-    if eqb x.tag 0 then refuses (refusal x.first x.second) else
-    if eqb x.tag 2 then spends x.steps else
-    if eqb x.tag 3 then finishes x.first x.steps else
-    if eqb x.tag 4 then happens (set x.first x.second) x.steps else
-    if eqb x.tag 5 then happens (hold x.first) x.steps else happens (release x.first) x.steps
+    If eqb x.tag 0 then refuses (refusal x.first x.second) else
+    If eqb x.tag 2 then spends x.steps else
+    If eqb x.tag 3 then finishes x.first x.steps else
+    If eqb x.tag 4 then happens (set x.first x.second) x.steps else
+    If eqb x.tag 5 then happens (hold x.first) x.steps else happens (release x.first) x.steps
 
 -- all but a machine with no next step, which no run answers
 abbrev pub Told : Answer → Type 0

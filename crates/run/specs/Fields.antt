@@ -7,7 +7,7 @@ use Rattle.std.proofs.Math.Option.{Option, none, some}
 use native.Mathlib.Omega.{arith}
 use Rattle.logic.specs.Options.{keep}
 use Rattle.words.specs.Laws.{Bytes}
-use Rattle.logic.specs.Choice.{if◌then◌else◌}
+use Rattle.logic.specs.Choice.{If◌then◌else◌}
 use Rattle.values.specs.Ends.{Refusal, refusal, Judged, accepted, refused, is_condition}
 use Rattle.bytecode.specs.Macro.{Macro}
 use Rattle.bytecode.specs.Rules.{judge_macro}
@@ -58,7 +58,7 @@ module _ (c : List ℕ) (B : Bytes c) where
   unfolding start_on
   start_small l r e = go (judge_macro c) refl e
     where
-      long : (m : Macro) (b : Bool) → (if b then record { verdict = accepted tt; bytes = encode (fresh_machine m) } else start_refused (refusal 10 0) l).verdict ≡ refused r → Small r
+      long : (m : Macro) (b : Bool) → (If b then record { verdict = accepted tt; bytes = encode (fresh_machine m) } else start_refused (refusal 10 0) l).verdict ≡ refused r → Small r
       long m true e = let z : ◌≡◌ {A = ℕ} 0 1 = cc in absurd (omega arith)
       long m false e = small-10 r (cc)
 

@@ -3,7 +3,7 @@ use Rattle.std.specs.Prelude.{◌≡◌, Bool, true, false, List, [], ◌∷◌,
 use Rattle.std.proofs.Common.{inl, inr, arith}
 use Rattle.std.proofs.Math.Option.{Option, none, some}
 use Prim.Native.Nat.{ℕ, zero, suc, ◌+◌, ◌-◌, ◌/◌, ◌≤◌, ◌<◌}
-use Rattle.logic.specs.Choice.{if◌then◌else◌}
+use Rattle.logic.specs.Choice.{If◌then◌else◌}
 use Rattle.words.specs.Laws.{Bytes}
 use Rattle.values.specs.Ends.{refusal, Judged, accepted, refused, is_condition}
 use Rattle.values.specs.Conditions.{condition-byte}
@@ -60,7 +60,7 @@ run-later m readings allowance s = by (eqb (length readings) 64)
     on (unwinding gs a) = event-steps m (bank_of readings) allowance 0 (unwinding gs a)
     on (ended c) = tt
 
-    by : (b : Bool) → Later 0 (if b then ends s 0 (λ t. steps m (bank_of readings) allowance 0 t) else with (refuses (refusal 11 0)) s).answer
+    by : (b : Bool) → Later 0 (If b then ends s 0 (λ t. steps m (bank_of readings) allowance 0 t) else with (refuses (refusal 11 0)) s).answer
     by true = on s
     by false = tt
 

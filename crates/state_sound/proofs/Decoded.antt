@@ -13,7 +13,7 @@ use Rattle.std.proofs.Math.ListN.{drop, take}
 use Rattle.std.proofs.Math.Seq.{get_or-drop, drop-drop}
 use borrow.Author.Tests.{leb-true, ltb-true, ltb-false}
 use Rattle.logic.specs.Options.{keep}
-use Rattle.logic.specs.Choice.{if◌then◌else◌}
+use Rattle.logic.specs.Choice.{If◌then◌else◌}
 use Rattle.words.specs.Numbers.{byte_at, half_at, word_at}
 use Rattle.words.specs.Laws.{Size, one, two, four, number_at, bytes_in, same_number}
 use Rattle.values.specs.Values.{Value, Cell}
@@ -53,15 +53,15 @@ module _ (l : List ℕ) (classes' p width w t : ℕ) where
 
   part-values : (n : ℕ) → w + 4 * n ≤ width → t + n ≤ width
       → read_row (read_value classes') n (drop w (take width (drop p l))) (drop t (take width (drop p l)))
-      ≡ (if row_reads classes' (types_at l (p + t)) (words_at l (p + w)) 0 n then some (row_on classes' (types_at l (p + t)) (words_at l (p + w)) 0 n) else none)
+      ≡ (If row_reads classes' (types_at l (p + t)) (words_at l (p + w)) 0 n then some (row_on classes' (types_at l (p + t)) (words_at l (p + w)) 0 n) else none)
   part-values n a b = values-read classes' (types_at l (p + t)) (words_at l (p + w)) n 0 _ _ (part-types n b) (part-words n a)
 
   part-cells : (n : ℕ) → w + 4 * n ≤ width → t + n ≤ width
       → read_row (read_cell classes') n (drop w (take width (drop p l))) (drop t (take width (drop p l)))
-      ≡ (if row_reads classes' (types_at l (p + t)) (words_at l (p + w)) 0 n then some (cell_row classes' (types_at l (p + t)) (words_at l (p + w)) 0 n) else none)
+      ≡ (If row_reads classes' (types_at l (p + t)) (words_at l (p + w)) 0 n then some (cell_row classes' (types_at l (p + t)) (words_at l (p + w)) 0 n) else none)
   part-cells n a b = cells-read classes' (types_at l (p + t)) (words_at l (p + w)) n 0 _ _ (part-types n b) (part-words n a)
 
-keep-if-some : {A B : Type 0} (a : Bool) (x : A) (f : A → Option B) → keep (if a then some x else none) f ≡ (if a then f x else none)
+keep-if-some : {A B : Type 0} (a : Bool) (x : A) (f : A → Option B) → keep (If a then some x else none) f ≡ (If a then f x else none)
 keep-if-some true x f = refl
 keep-if-some false x f = refl
 
@@ -122,7 +122,7 @@ module _ (c l : List ℕ) (W : Well c) where
   abbrev m : Macro
   m = view c
 
-  record-read : (k : ℕ) → read_record m (part 0 44 (drop (entry_at k) l)) ≡ (if record_reads c l k then some (record_on c l k) else none)
+  record-read : (k : ℕ) → read_record m (part 0 44 (drop (entry_at k) l)) ≡ (If record_reads c l k then some (record_on c l k) else none)
   unfolding read_record record_on
   record-read k =
       let x = take 44 (drop (entry_at k) l) in
@@ -138,7 +138,7 @@ module _ (c l : List ℕ) (W : Well c) where
       (keep-if-some (fields_read c l k) _ _))
       (λ p. rw p))
 
-  pub records-read : (n k : ℕ) → read_records m n (drop (entry_at k) l) ≡ (if each (record_reads c l) k n then some (span (record_on c l) k n) else none)
+  pub records-read : (n k : ℕ) → read_records m n (drop (entry_at k) l) ≡ (If each (record_reads c l) k n then some (span (record_on c l) k n) else none)
   unfolding read_records each span
   records-read zero k = refl
   records-read (suc n) k =
@@ -146,12 +146,12 @@ module _ (c l : List ℕ) (W : Well c) where
       rw (record-read k, e, records-read n (suc k)) (join (record_reads c l k) (each (record_reads c l) (suc k) n) _ _)
     where
       join : (a b : Bool) (v : Made) (vs : List Made)
-          → keep (if a then some v else none) (λ x. keep (if b then some vs else none) (λ xs. some (x ∷ xs))) ≡ (if a && b then some (v ∷ vs) else none)
+          → keep (If a then some v else none) (λ x. keep (If b then some vs else none) (λ xs. some (x ∷ xs))) ≡ (If a && b then some (v ∷ vs) else none)
       join true true v vs = refl
       join true false v vs = refl
       join false b v vs = refl
 
-  activation-read : (k : ℕ) → read_activation m (part 0 activation_length (drop (frame_at k) l)) (drop (held l k) (part holds_at 512 l)) ≡ (if frame_reads c l k then some (frame_on c l k) else none)
+  activation-read : (k : ℕ) → read_activation m (part 0 activation_length (drop (frame_at k) l)) (drop (held l k) (part holds_at 512 l)) ≡ (If frame_reads c l k then some (frame_on c l k) else none)
   unfolding read_activation frame_on
   activation-read k =
       let x = take activation_length (drop (frame_at k) l) in
@@ -178,14 +178,14 @@ module _ (c l : List ℕ) (W : Well c) where
       (λ p. rw p))
     where
       pair : (a b : Bool) (x : List Cell) (y : List Value) (f : List Cell → List Value → Activation)
-          → keep (if a then some x else none) (λ u. keep (if b then some y else none) (λ v. some (f u v))) ≡ (if a && b then some (f x y) else none)
+          → keep (If a then some x else none) (λ u. keep (If b then some y else none) (λ v. some (f u v))) ≡ (If a && b then some (f x y) else none)
       pair true true x y f = refl
       pair true false x y f = refl
       pair false b x y f = refl
 
   pub activations-read : (n k : ℕ) (below : List Activation)
       → read_activations m n (drop (frame_at k) l) (drop (held l k) (part holds_at 512 l)) below
-      ≡ (if each (frame_reads c l) k n then some (reverse_aux (span (frame_on c l) k n) below) else none)
+      ≡ (If each (frame_reads c l) k n then some (reverse_aux (span (frame_on c l) k n) below) else none)
   unfolding read_activations each span held
   activations-read zero k below = refl
   activations-read (suc n) k below =
@@ -196,6 +196,6 @@ module _ (c l : List ℕ) (W : Well c) where
       rw o (drop-drop (open_in l k) (held l k) (part holds_at 512 l)) in
       rw (activation-read k, keep-if-some (frame_reads c l k) (frame_on c l k), e, h, activations-read n (suc k) (frame_on c l k ∷ below)) (join (frame_reads c l k) (each (frame_reads c l) (suc k) n) _)
     where
-      join : (a b : Bool) (x : List Activation) → (if a then (if b then some x else none) else none) ≡ (if a && b then some x else none)
+      join : (a b : Bool) (x : List Activation) → (If a then (If b then some x else none) else none) ≡ (If a && b then some x else none)
       join true b x = refl
       join false b x = refl

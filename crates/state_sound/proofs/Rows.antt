@@ -15,7 +15,7 @@ use borrow.Author.Tests.{ne_eqb, lt-ltb, le-ltb}
 use Rattle.bytecode.specs.Words.{word_ref, valid_word, word_value}
 use Rattle.logic.specs.Lists.{all}
 use Rattle.logic.specs.Options.{keep}
-use Rattle.logic.specs.Choice.{if◌then◌else◌}
+use Rattle.logic.specs.Choice.{If◌then◌else◌}
 use Rattle.words.specs.Numbers.{byte_at, word_at, integer_of}
 use Rattle.words.specs.Laws.{four, same_number, integer-fits}
 use Rattle.values.specs.Types.{Ty, integer, logical, bits, reference, ty_byte, same, sames}
@@ -36,14 +36,14 @@ value_on t w = word_value (ty_on t) w
 abbrev pub readable : ℕ → ℕ → ℕ → Bool
 readable n t w = not (no_type n t) && valid_word (ty_on t) w
 
-value-reads : (n t w : ℕ) → read_value n t w ≡ (if readable n t w then some (value_on t w) else none)
+value-reads : (n t w : ℕ) → read_value n t w ≡ (If readable n t w then some (value_on t w) else none)
 unfolding read_value
 value-reads n t w = rw (type_reads n t) (by-test (no_type n t) (λ e. rw e) (λ e. rw e))
 
 -- the made records are r, of the classes that stand in l
 pub record Recorded (l : List ℕ) (r : ℕ) (rs : List Made) : Type 0 where
   pub made : ℕ → Made
-  pub each-is : (k : ℕ) → get_elem? rs k ≡ (if ltb k r then some (made k) else none)
+  pub each-is : (k : ℕ) → get_elem? rs k ≡ (If ltb k r then some (made k) else none)
   pub class-is : (k : ℕ) → (made k).class ≡ class_in l k
 
 module _ (c l : List ℕ) (r : ℕ) (rs : List Made) (R : Recorded l r rs) where
@@ -84,20 +84,20 @@ readable-type n t w e =
     never z = let q : ◌≡◌ {A = ℕ} 0 1 = cc z in omega arith
 
 -- a cell is read as its value is
-cell-reads : (n t w : ℕ) → read_cell n t w ≡ (if readable n t w then some (assigned (value_on t w)) else none)
+cell-reads : (n t w : ℕ) → read_cell n t w ≡ (If readable n t w then some (assigned (value_on t w)) else none)
 unfolding read_cell
 cell-reads n t w = rw (value-reads n t w) (by-test (readable n t w) (λ e. rw e) (λ e. rw e))
 
 -- ── rows: of elements that are read by a test and then known ──
 joined : {A : Type 0} (a b : Bool) (v : A) (vs : List A)
-    → keep (if a then some v else none) (λ x. keep (if b then some vs else none) (λ xs. some (x ∷ xs))) ≡ (if a && b then some (v ∷ vs) else none)
+    → keep (If a then some v else none) (λ x. keep (If b then some vs else none) (λ xs. some (x ∷ xs))) ≡ (If a && b then some (v ∷ vs) else none)
 joined true true v vs = refl
 joined true false v vs = refl
 joined false b v vs = refl
 
-module _ {A : Type 0} (read : ℕ → ℕ → Option A) (ok : ℕ → ℕ → Bool) (on : ℕ → ℕ → A) (reads : (t w : ℕ) → read t w ≡ (if ok t w then some (on t w) else none)) (t w : ℕ → ℕ) where
+module _ {A : Type 0} (read : ℕ → ℕ → Option A) (ok : ℕ → ℕ → Bool) (on : ℕ → ℕ → A) (reads : (t w : ℕ) → read t w ≡ (If ok t w then some (on t w) else none)) (t w : ℕ → ℕ) where
   row_read : (k j : ℕ) (ws ts : List ℕ) → ((i : ℕ) → i < k → byte_at ts i ≡ t (j + i)) → ((i : ℕ) → i < k → word_at ws (4 * i) ≡ w (j + i))
-      → read_row read k ws ts ≡ (if each (λ i. ok (t i) (w i)) j k then some (span (λ i. on (t i) (w i)) j k) else none)
+      → read_row read k ws ts ≡ (If each (λ i. ok (t i) (w i)) j k then some (span (λ i. on (t i) (w i)) j k) else none)
   unfolding read_row each span
   row_read zero j ws ts p q = refl
   row_read (suc k) j ws ts p q =
@@ -120,11 +120,11 @@ module _ (n : ℕ) (t w : ℕ → ℕ) where
   cell_row j k = span (λ i. assigned (value_on (t i) (w i))) j k
 
   pub values-read : (k j : ℕ) (ws ts : List ℕ) → ((i : ℕ) → i < k → byte_at ts i ≡ t (j + i)) → ((i : ℕ) → i < k → word_at ws (4 * i) ≡ w (j + i))
-      → read_row (read_value n) k ws ts ≡ (if row_reads j k then some (row_on j k) else none)
+      → read_row (read_value n) k ws ts ≡ (If row_reads j k then some (row_on j k) else none)
   values-read = row_read (read_value n) (readable n) value_on (value-reads n) t w
 
   pub cells-read : (k j : ℕ) (ws ts : List ℕ) → ((i : ℕ) → i < k → byte_at ts i ≡ t (j + i)) → ((i : ℕ) → i < k → word_at ws (4 * i) ≡ w (j + i))
-      → read_row (read_cell n) k ws ts ≡ (if row_reads j k then some (cell_row j k) else none)
+      → read_row (read_cell n) k ws ts ≡ (If row_reads j k then some (cell_row j k) else none)
   cells-read = row_read (read_cell n) (readable n) (λ t w. assigned (value_on t w)) (cell-reads n) t w
 
   -- a row of cells is typed and sound as the row of their values

@@ -13,7 +13,7 @@ use Rattle.std.proofs.Math.ListN.{length, get_elem?}
 use borrow.Author.Tests.{leb-true, ltb-true, ltb-false, lt-ltb, le-ltb, le-leb, eq-eqb, eqb-true}
 use Rattle.logic.specs.Lists.{all}
 use Rattle.logic.specs.Options.{keep, is_some}
-use Rattle.logic.specs.Choice.{if◌then◌else◌}
+use Rattle.logic.specs.Choice.{If◌then◌else◌}
 use Rattle.words.specs.Numbers.{byte_at, half_at, word_at}
 use Rattle.words.specs.Laws.{Bytes}
 use Rattle.values.specs.Types.{Ty}
@@ -36,10 +36,10 @@ use Rattle.state_sound.proofs.Waiting.{calls-only, group_at, groups-all, holds-a
 -- ── an activation of n ──
 -- the arguments that its call took; whether it stands at a call of the next
 abbrev taken_on : List ℕ → List ℕ → ℕ → ℕ → List Ty
-taken_on c l n k = if ltb (k + 1) n then arguments_on c l k else []
+taken_on c l n k = If ltb (k + 1) n then arguments_on c l k else []
 
 abbrev calls_next : List ℕ → List ℕ → ℕ → ℕ → Bool
-calls_next c l n k = if ltb (k + 1) n then calls_body (get_elem? (view c).code (address_in l k)) (body_in l (suc k)) else true
+calls_next c l n k = If ltb (k + 1) n then calls_body (get_elem? (view c).code (address_in l k)) (body_in l (suc k)) else true
 
 module _ (c l : List ℕ) (seen : Viewed c (view c)) (clean : Clean (broken c) (count c)) (B : Bytes l) (long : length l ≡ state_length) (r n k : ℕ) (R : Rough c l k)
     (next : k + 1 < n → body_in l (k + 1) < bodies c) where
@@ -129,14 +129,14 @@ module _ (c l : List ℕ) where
       }
 
 is_some-five : (m : Macro) (h : ℕ) (a F Q : Bool) (fs : List Activation) (rs : List Made)
-    → is_some (keep (if a then keep (if F then some fs else none) (λ x. keep (if Q then some rs else none) (λ y. assemble h y x)) else none) (only_sound m))
+    → is_some (keep (If a then keep (If F then some fs else none) (λ x. keep (If Q then some rs else none) (λ y. assemble h y x)) else none) (only_sound m))
     ≡ (a && (F && (Q && is_some (keep (assemble h rs fs) (only_sound m)))))
 is_some-five m h true true true fs rs = refl
 is_some-five m h true true false fs rs = refl
 is_some-five m h true false Q fs rs = refl
 is_some-five m h false F Q fs rs = refl
 
-is_some-two : (m : Macro) (e : Bool) (s : Machine) → is_some (keep (if e then some s else none) (only_sound m)) ≡ (e && sound m s)
+is_some-two : (m : Macro) (e : Bool) (s : Machine) → is_some (keep (If e then some s else none) (only_sound m)) ≡ (e && sound m s)
 is_some-two m true s = by-test (sound m s) (λ p. rw p) (λ p. rw p)
 is_some-two m false s = refl
 
@@ -253,11 +253,11 @@ module _ (c l : List ℕ) (seen : Viewed c (view c)) (clean : Clean (broken c) (
 
 -- ── read from the bytes ──
 module _ (c l : List ℕ) (seen : Viewed c (view c)) (clean : Clean (broken c) (count c)) (B : Bytes l) (long : length l ≡ state_length) where
-  frames-read : (n : ℕ) → read_activations (view c) n (drop 32 l) (part holds_at 512 l) [] ≡ (if each (frame_reads c l) 0 n then some (backs (frame_on c l) n) else none)
+  frames-read : (n : ℕ) → read_activations (view c) n (drop 32 l) (part holds_at 512 l) [] ≡ (If each (frame_reads c l) 0 n then some (backs (frame_on c l) n) else none)
   unfolding held
   frames-read n = activations-read c l seen.well n 0 [] ∙ rw (reverse-span (frame_on c l) n)
 
-  entries-read : (r : ℕ) → read_records (view c) r (drop records_at l) ≡ (if each (record_reads c l) 0 r then some (span (record_on c l) 0 r) else none)
+  entries-read : (r : ℕ) → read_records (view c) r (drop records_at l) ≡ (If each (record_reads c l) 0 r then some (span (record_on c l) 0 r) else none)
   entries-read r = records-read c l seen.well r 0
 
   assembled : (n r h : ℕ)

@@ -11,7 +11,7 @@ use Rattle.std.proofs.Math.Seq.{length-take-le}
 use borrow.Author.Tests.{eqb-true, eq-eqb, leb-true}
 use Rattle.logic.specs.Lists.{all}
 use Rattle.logic.specs.Options.{keep, is_some}
-use Rattle.logic.specs.Choice.{if◌then◌else◌}
+use Rattle.logic.specs.Choice.{If◌then◌else◌}
 use Rattle.words.specs.Numbers.{byte_at, half_at}
 use Rattle.words.specs.Laws.{Bytes}
 use Rattle.values.specs.Ends.{accepted, is_condition}
@@ -31,7 +31,7 @@ use Rattle.state_sound.proofs.Frames.{all-reverse}
 use Rattle.state_sound.proofs.Waiting.{group_at, all-part}
 use Rattle.state_sound.proofs.Running.{running-is}
 
-some-if : (m : Macro) (a : Bool) (s : Machine) → is_some (keep (if a then some s else none) (only_sound m)) ≡ cond a (sound m s) false
+some-if : (m : Macro) (a : Bool) (s : Machine) → is_some (keep (If a then some s else none) (only_sound m)) ≡ cond a (sound m s) false
 some-if m true s = by-test (sound m s) (λ p. rw p) (λ p. rw p)
 some-if m false s = refl
 

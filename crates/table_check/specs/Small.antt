@@ -2,7 +2,7 @@
 use Rattle.std.specs.Prelude.{◌≡◌, refl, Bool, true, false, not, ◌||◌, List, [], ◌∷◌, ◌++◌, ℕ, suc, ◌+◌, ◌/◌, ◌%◌, ◌≤◌, ◌<◌, eqb, ltb, length}
 use Rattle.std.proofs.Common.{ap, arith, length-append, ltb-false}
 use Rattle.language.specs.Program.{flat_items, flat_head, flatten, total}
-use Rattle.logic.specs.Choice.{if◌then◌else◌}
+use Rattle.logic.specs.Choice.{If◌then◌else◌}
 use Rattle.values.specs.Ends.{Refusal, refusal, Judged, accepted, refused}
 use Rattle.language.specs.Tree.{Global, local, class, procedure, Tree}
 use Rattle.language.specs.Table.{Entry, Read, took, stop, first, form_root, one_tree, read_table}
@@ -70,7 +70,7 @@ unfolding read_table
 read-narrow l = go (eqb (length l) 0) (ltb 16384 (length l)) (eqb (length l % 8) 0) refl
   where
     go : (a b c : Bool) → ltb 16384 (length l) ≡ b
-        → Narrow (if a || (b || not c) then refused (refusal 1 0) else one_tree (entries_of l) (first form_root (entries_of l)))
+        → Narrow (If a || (b || not c) then refused (refusal 1 0) else one_tree (entries_of l) (first form_root (entries_of l)))
     go true b c e = (omega arith, omega arith)
     go false true c e = (omega arith, omega arith)
     go false false false e = (omega arith, omega arith)

@@ -3,7 +3,7 @@
 use Rattle.std.specs.Prelude.{◌≡◌, refl, Bool, true, false, not, ◌&&◌, List, [], ◌∷◌, ◌++◌, map, ℕ, suc, ◌+◌, ◌≤◌, max, eqb, pos, length}
 use Rattle.std.proofs.Common.{ap, sym, ◌∙◌, append_assoc, append-nil, arith}
 use Rattle.std.proofs.Math.Option.{Option, none, some}
-use Rattle.logic.specs.Choice.{if◌then◌else◌}
+use Rattle.logic.specs.Choice.{If◌then◌else◌}
 use Rattle.language.specs.Measure.{measure_s}
 use Rattle.language.specs.Program.{flat_decl, flag, flat_s, flat_items, flat_arms, flat_target, flat_e, flat_es, deep_head, deep_s, deep_items, deep_arms, deep_target, deep_e, deep_es}
 use Rattle.values.specs.Types.{Ty, integer, logical}
@@ -141,7 +141,7 @@ fixed_es ss no_expr p = []
 fixed_es ss (expr e es) p = fixed_e ss e p
 
 abbrev pub fixed : List Scope → Operation → Exprs → ℕ → List Refusal
-fixed ss o es p = if eqb (kind_op o) 21 then fixed_es ss es p else []
+fixed ss o es p = If eqb (kind_op o) 21 then fixed_es ss es p else []
 
 abbrev pub faults_f : List Scope → List ℕ → ℕ → Form → List Refusal
 faults_f ss seen p (simple o es) = fixed ss o es (suc p) ++ (faults_es ss (suc p) es ++ own ss o (types_of ss es) p)

@@ -7,7 +7,7 @@ use mathlib.Core.List.{List, [], ◌∷◌, ◌++◌, map, append_assoc}
 use Prim.Native.Nat.{ℕ, zero, suc, ◌+◌, ◌*◌, ◌/◌, ◌%◌, ◌≤◌, ◌<◌}
 use Rattle.std.proofs.Math.ListN.{length}
 use Rattle.language.specs.Program.{flat_typed, flat_decl, result_code, flat_body, flat_global, flat_head}
-use Rattle.logic.specs.Choice.{if◌then◌else◌}
+use Rattle.logic.specs.Choice.{If◌then◌else◌}
 use Rattle.values.specs.Types.{ty_code}
 use Rattle.language.specs.Tree.{declare, holding, Body, proper, function, Global, local, class, procedure}
 use Rattle.language.specs.Table.{entry, in_layout}
@@ -101,7 +101,7 @@ module _ {l : List ℕ} (legible : Legible l) where
   unfolding global_at
   global-small p = go (eqb (kind_at l p) 11) (eqb (kind_at l p) 12)
     where
-      go : (x y : Bool) → Small (if x then one_at 11 6 l p ++ items_at (65536 + a_at l p) l (p + 1) (b_at l p) else if y then one_at 12 7 l p else one_at 10 4 l p)
+      go : (x y : Bool) → Small (If x then one_at 11 6 l p ++ items_at (65536 + a_at l p) l (p + 1) (b_at l p) else If y then one_at 12 7 l p else one_at 10 4 l p)
       go true y = small-append (one_at 11 6 l p) (items_at (65536 + a_at l p) l (p + 1) (b_at l p)) (one-small legible 11 6 p) (items-small legible (65536 + a_at l p) (p + 1) (b_at l p))
       go false true = one-small legible 12 7 p
       go false false = one-small legible 10 4 p

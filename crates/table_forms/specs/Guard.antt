@@ -3,7 +3,7 @@ use Rattle.std.specs.Prelude.{◌≡◌, refl, Bool, true, false, List, [], ◌+
 use Rattle.std.proofs.Common.{ap, sym, ◌∙◌, arith, add_assoc, add-one, length-append}
 use Rattle.std.proofs.Math.Option.{Option}
 use Rattle.language.specs.Program.{flat_items, flat_e}
-use Rattle.logic.specs.Choice.{if◌then◌else◌}
+use Rattle.logic.specs.Choice.{If◌then◌else◌}
 use Rattle.words.specs.Numbers.{half_at}
 use Rattle.values.specs.Types.{Ty, integer, logical}
 use Rattle.language.specs.Tree.{Items, Expr, count_items}
@@ -30,7 +30,7 @@ guard-count loops n a t e = sym t
 guard-count cases n a t e = e
 
 -- a test, by whether the type is the one that is asked for
-says-tested : (b : Bool) (p : ℕ) → Says (if b then Fine 1 else Refused 4 p) (mistyped_unless b p)
+says-tested : (b : Bool) (p : ℕ) → Says (If b then Fine 1 else Refused 4 p) (mistyped_unless b p)
 says-tested true p = refl
 says-tested false p = ([], refl)
 

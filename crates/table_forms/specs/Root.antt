@@ -2,7 +2,7 @@
 use Rattle.std.specs.Prelude.{◌≡◌, refl, Bool, true, false, List, [], ◌∷◌, ◌++◌, map, ℕ, suc, ◌+◌, ◌-◌, ◌*◌, ◌/◌, ◌%◌, ◌≤◌, eqb, length}
 use Rattle.std.proofs.Common.{ap, sym, ◌∙◌, append_assoc, append-nil, arith, add-zero, add-one, length-append, ne_eqb}
 use Rattle.language.specs.Program.{flat_typed, flat_decl, result_code, flat_body, flat_global, flat_head, deep_body, deep_global}
-use Rattle.logic.specs.Choice.{if◌then◌else◌}
+use Rattle.logic.specs.Choice.{If◌then◌else◌}
 use Rattle.words.specs.Numbers.{half_at, word_at}
 use Rattle.values.specs.Types.{Ty, ty_code}
 use Rattle.values.specs.Ends.{Refusal, refusal}
@@ -182,9 +182,9 @@ module _ {l part : List ℕ} {result at : ℕ} {sizes : List ℕ} {top : ℕ} wh
 
 -- ── the heading of a procedure ──
 unfoldable pub result_flaw : ℕ → ℕ → ℕ → List Refusal
-result_flaw n t p = if eqb (n % 256) 0 then [] else if eqb (n % 256) t then [] else refusal 4 p ∷ []
+result_flaw n t p = If eqb (n % 256) 0 then [] else If eqb (n % 256) t then [] else refusal 4 p ∷ []
 
-tested : (p : ℕ) (b : Bool) → (if b then [] else refusal 4 p ∷ []) ≡ mistyped_unless b p
+tested : (p : ℕ) (b : Bool) → (If b then [] else refusal 4 p ∷ []) ≡ mistyped_unless b p
 tested p true = refl
 tested p false = refl
 

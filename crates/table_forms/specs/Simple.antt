@@ -4,7 +4,7 @@ use Rattle.std.proofs.Math.Path.{refl}
 use Rattle.std.proofs.Common.{ap, sym, ◌∙◌, arith, add-one, length-append, eq-eqb}
 use Rattle.std.proofs.Math.Bool.{true, false}
 use Rattle.std.proofs.Math.Dec.{eqb}
-use Rattle.logic.specs.Choice.{if◌then◌else◌}
+use Rattle.logic.specs.Choice.{If◌then◌else◌}
 use Rattle.logic.specs.Tests.{clash}
 use Rattle.language.specs.Program.{flat_e, flat_es}
 use Rattle.words.specs.Numbers.{half_at, word_at}
@@ -153,7 +153,7 @@ module _ {l part : List ℕ} {nesting at : ℕ} {sizes old : List ℕ} {top : �
   fixed-first o e es {ss} {seen} k q = go e (sym (next-half part 0) ∙ (first_head q).kind) (sym (next-half part 2) ∙ (first_head q).a)
     where
       go : (e : Expr) → half_at part 8 ≡ (head_f (form_e e)).kind → half_at part 10 ≡ (head_f (form_e e)).a
-          → fixed_e ss e (at + 1) ≡ fault_if (if eqb (half_at part 0) 21 then if eqb (half_at part 8) 44 then controls (find (half_at part 10) (env_of old top)) else false else false) 4 (at + 1)
+          → fixed_e ss e (at + 1) ≡ fault_if (If eqb (half_at part 0) 21 then If eqb (half_at part 8) 44 then controls (find (half_at part 10) (env_of old top)) else false else false) 4 (at + 1)
       go (number z) i j = rw (k, i)
       go (truth b) i j = rw (k, i)
       go (pattern z) i j = rw (k, i)

@@ -1,7 +1,7 @@
 -- What a walker asks, and what it answers: for every tree that stands where it is called, and all blocks around that the names in sight agree with.
 use Rattle.std.specs.Prelude.{◌≡◌, Bool, true, false, List, map, ℕ, ◌+◌, ◌*◌, ◌≤◌, ◌<◌, eqb, ltb, length, drop}
 use Rattle.language.specs.Program.{flat_items, flat_es, deep_items, deep_es}
-use Rattle.logic.specs.Choice.{if◌then◌else◌}
+use Rattle.logic.specs.Choice.{If◌then◌else◌}
 use Rattle.values.specs.Ends.{Refusal}
 use Rattle.language.specs.Tree.{Items, Exprs, count_items, count_exprs}
 use Rattle.language.specs.Names.{Scope}
@@ -119,29 +119,29 @@ pub record AnswersItems (l part : List ℕ) (count nesting at : ℕ) (sizes old 
 
 -- an assignment's target is a control name, f being what is found of the name that stands there
 unfoldable pub fixed_by : List ℕ → Found → Bool
-fixed_by part f = if eqb (half_at part 0) 21 then if eqb (half_at part 8) 44 then controls f else false else false
+fixed_by part f = If eqb (half_at part 0) 21 then If eqb (half_at part 8) 44 then controls f else false else false
 
 -- ── counts of operands, near the code ──
 unfoldable pub operands_by : ℕ → ℕ → ℕ
 operands_by k b =
-    if eqb k 21 then 2 else
-    if eqb k 26 then 1 else
-    if eqb k 27 then b else
-    if eqb k 28 then 2 else
-    if eqb k 45 then b else
-    if eqb k 46 then 1 else
-    if eqb k 47 then b else
-    if eqb k 48 then 1 else
-    if eqb k 49 then 2 else
-    if eqb k 50 then 3 else
-    if eqb k 51 then 1 else 0
+    If eqb k 21 then 2 else
+    If eqb k 26 then 1 else
+    If eqb k 27 then b else
+    If eqb k 28 then 2 else
+    If eqb k 45 then b else
+    If eqb k 46 then 1 else
+    If eqb k 47 then b else
+    If eqb k 48 then 1 else
+    If eqb k 49 then 2 else
+    If eqb k 50 then 3 else
+    If eqb k 51 then 1 else 0
 
 -- a statement with expressions only below it
 unfoldable pub is_plain : ℕ → Bool
-is_plain k = if eqb k 21 then true else if ltb k 25 then false else ltb k 29
+is_plain k = If eqb k 21 then true else If ltb k 25 then false else ltb k 29
 
 unfoldable pub guarded_by : ℕ → ℕ → ℕ
-guarded_by k a = if eqb k 23 then 2 else if eqb k 30 then a else 1
+guarded_by k a = If eqb k 23 then 2 else If eqb k 30 then a else 1
 
 unfoldable pub tested_by : ℕ → ℕ → ℕ → Verdict
-tested_by k t p = if eqb k 30 then if eqb t 1 then Fine 1 else Refused 4 p else if eqb t 2 then Fine 1 else Refused 4 p
+tested_by k t p = If eqb k 30 then If eqb t 1 then Fine 1 else Refused 4 p else If eqb t 2 then Fine 1 else Refused 4 p

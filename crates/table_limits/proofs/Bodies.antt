@@ -11,7 +11,7 @@ use lib.ListN.{length, drop, length-append, length-replicate, length-map}
 use lib.Seq.{drop_at}
 use borrow.Author.Tests.{leb-true}
 use Rattle.language.specs.Program.{flat_typed, flat_decl, flat_items, result_code, flat_body, flat_global, flat_head, flatten, deep_items, deep_list, deep_body, deep_global, deep_globals, nesting}
-use Rattle.logic.specs.Choice.{if◌then◌else◌}
+use Rattle.logic.specs.Choice.{If◌then◌else◌}
 use Rattle.values.specs.Ends.{Refusal, refusal, accepted, refused}
 use Rattle.language.specs.Tree.{Typed, declare, holding, Body, proper, function, Global, local, class, procedure, Tree, count_items, locals}
 use Rattle.language.specs.Table as table
@@ -122,7 +122,7 @@ abbrev Answers : Used → List Global → List Entry → Type 0
 Answers own gs rest = head_from (length gs) own (flat_head gs ++ rest) ≡ headed (procedure_limits own.entries gs) (own_after own gs)
 
 next-global : {us : List Entry} {v : Used} (k n : ℕ) (own : Used) (rest : List Entry) → Uses (usage_at 63) us v → kind_at (us ++ rest) ≡ k
-    → head_from (suc n) own (us ++ rest) ≡ (if over_of k v then Exceeds own.entries else head_from n (declared_of k own v) rest)
+    → head_from (suc n) own (us ++ rest) ≡ (If over_of k v then Exceeds own.entries else head_from n (declared_of k own v) rest)
 unfolding head_from
 next-global {us} {v} k n own rest a e = rw (a.value rest, e, drop_at us rest v.entries a.size)
 
@@ -131,7 +131,7 @@ headed-same gs p q = λ i. headed (procedure_limits (p i) gs) (q i)
 
 -- a procedure within its limits goes on, another is the answer
 judged : (b : Bool) (p : ℕ) (rs : List Refusal) {x : Head} (u : Used) → x ≡ headed rs u
-    → (if b then Exceeds p else x) ≡ headed (fault_if b 6 p ++ rs) u
+    → (If b then Exceeds p else x) ≡ headed (fault_if b 6 p ++ rs) u
 judged true p rs u e = refl
 judged false p rs u e = e
 
@@ -179,7 +179,7 @@ read-tree l t e = go (eqb (length l) 0 || (ltb 16384 (length l) || not (eqb (len
     whole (took u (f ∷ fs)) q a = clash (cc)
     whole (stop fs) q a = clash (cc)
 
-    go : (b : Bool) → (if b then refused (refusal 1 0) else one_tree (entries_of l) (first form_root (entries_of l))) ≡ accepted t → (entries_of l ≡ flatten t) × Readable t
+    go : (b : Bool) → (If b then refused (refusal 1 0) else one_tree (entries_of l) (first form_root (entries_of l))) ≡ accepted t → (entries_of l ≡ flatten t) × Readable t
     go true a = clash (cc)
     go false a = whole (first form_root (entries_of l)) refl a
 
@@ -211,7 +211,7 @@ module _ (t : Tree) (h : deep_items t.items ≤ 63) where
       ≡ limited_of (over_limits (root_usage t) 0)
   root-judged e = rw (past_head e, root-items) (answer (keeps_limits (root_usage t)))
     where
-      answer : (b : Bool) → (if b then Within else Over 0) ≡ limited_of (fault_if (not b) 6 0)
+      answer : (b : Bool) → (If b then Within else Over 0) ≡ limited_of (fault_if (not b) 6 0)
       answer true = refl
       answer false = refl
 

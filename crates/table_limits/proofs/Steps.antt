@@ -9,7 +9,7 @@ use native.Mathlib.Numerals.{add-one}
 use lib.Dec.{eqb, ltb}
 use lib.ListN.{length, drop}
 use borrow.Author.Tests.{ltb-true, le-ltb}
-use Rattle.logic.specs.Choice.{if◌then◌else◌}
+use Rattle.logic.specs.Choice.{If◌then◌else◌}
 use Rattle.language.specs.Table.{Entry}
 use Rattle.logic.specs.Tests.{clash, both_left, both_right}
 use Rattle.language_laws.specs.Claims.{entries_of}
@@ -86,7 +86,7 @@ usage-whole d l p h = let m : d ≡ suc (d - 1) = omega arith in ap (λ (n : ℕ
 pub weight-low : (k i : ℕ) → weight_of k i ≤ i
 weight-low k i = go (stacks k) (eqb k 31 && eqb i 3)
   where
-    go : (b c : Bool) → (if b then if c then 0 else i else 0) ≤ i
+    go : (b c : Bool) → (If b then If c then 0 else i else 0) ≤ i
     go true true = omega arith
     go true false = omega arith
     go false c = omega arith
@@ -94,7 +94,7 @@ weight-low k i = go (stacks k) (eqb k 31 && eqb i 3)
 pub kept_low : (head i h : ℕ) → kept_of head i h ≤ h
 kept_low head i h = go (ltb i head)
   where
-    go : (b : Bool) → (if b then h else 0) ≤ h
+    go : (b : Bool) → (If b then h else 0) ≤ h
     go true = omega arith
     go false = omega arith
 
@@ -103,7 +103,7 @@ unfolding alone_of
 alone-level k = go (eqb k 10) (eqb k 14) (eqb k 30) (eqb k 31)
   where
     pick : Bool → Bool → Bool → Bool → Used
-    pick a b c d = if a then used 1 1 1 0 else if b then used 1 1 0 1 else if c then used 1 2 1 0 else if d then used 1 1 3 0 else used 1 1 0 0
+    pick a b c d = If a then used 1 1 1 0 else If b then used 1 1 0 1 else If c then used 1 2 1 0 else If d then used 1 1 3 0 else used 1 1 0 0
 
     go : (a b c d : Bool) → Level (pick a b c d) × ((pick a b c d).entries ≡ 1)
     go true b c d = (omega arith, refl)

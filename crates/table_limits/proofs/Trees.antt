@@ -12,7 +12,7 @@ use lib.Seq.{drop_at}
 use borrow.Author.Tests.{lt-ltb, le-ltb}
 use Rattle.language.specs.Measure.{measure_s}
 use Rattle.language.specs.Program.{flat_typed, flat_decl, flag, flat_s, flat_items, flat_arms, flat_target, flat_e, flat_es, deep_head, deep_s, deep_items, deep_arms, deep_target, deep_e, deep_es}
-use Rattle.logic.specs.Choice.{if◌then◌else◌}
+use Rattle.logic.specs.Choice.{If◌then◌else◌}
 use Rattle.values.specs.Operators.{unary_code, binary_code}
 use Rattle.language.specs.Tree.{Decl, declare, holding, Stmt, block, assign, when, choose, while, goto, assert, call, set_level, select, for, Items, no_item, label, item, Arms}
 use Rattle.language.specs.Tree.{last_arm, arm, Target, to_variable, to_field, Expr, number, truth, pattern, null, variable, invoke, field, make, operate1, operate2}
@@ -152,7 +152,7 @@ module _ (d : ℕ) (e : Entry) (deep : 1 ≤ d) where
           (λ rest. rw (n, flat, bare) (step e.kind 0 0 0 0 (used 1 1 0 0) rest a
           ∙ through-end (usage_at (d - 1)) e.kind 0 _ _ _ rest ∙ ap Of (used-same (omega arith) (first-need (stacks e.kind) (eqb e.kind 31 && eqb 0 3)) (omega arith) (omega arith))))
         where
-          first-need : (b c : Bool) → max 1 ((if b then if c then 0 else 0 else 0) + v.need) ≡ v.need
+          first-need : (b c : Bool) → max 1 ((If b then If c then 0 else 0 else 0) + v.need) ≡ v.need
           first-need true true = omega arith
           first-need true false = omega arith
           first-need false c = omega arith

@@ -1,6 +1,6 @@
 -- What an entry takes of a body's limits, and how its operands are summed.
 use Rattle.std.specs.Prelude.{Bool, not, ◌&&◌, ◌||◌, ℕ, ◌+◌, ◌*◌, ◌^◌, ◌≤◌, ◌<◌, max, eqb, leb, ltb}
-use Rattle.logic.specs.Choice.{if◌then◌else◌}
+use Rattle.logic.specs.Choice.{If◌then◌else◌}
 use Rattle.table_read.specs.Walk.{tally}
 use Rattle.table_limits.specs.declared.sums.Used.{Used}
 
@@ -10,10 +10,10 @@ used n d c h = record { entries = n; need = d; cells = c; holds = h }
 -- without its operands: "at least 1 … a case needs at least 2"; cells are "variables of all its blocks, one per case", "Each loop counts three cells."
 unfoldable pub alone_of : ℕ → Used
 alone_of k =
-    if eqb k 10 then used 1 1 1 0 else
-    if eqb k 14 then used 1 1 0 1 else
-    if eqb k 30 then used 1 2 1 0 else
-    if eqb k 31 then used 1 1 3 0 else used 1 1 0 0
+    If eqb k 10 then used 1 1 1 0 else
+    If eqb k 14 then used 1 1 0 1 else
+    If eqb k 30 then used 1 2 1 0 else
+    If eqb k 31 then used 1 1 3 0 else used 1 1 0 0
 
 -- "the largest over i of i − 1 plus the need of its i-th operand": the kinds whose operands wait for the last. Here i counts from 0.
 unfoldable pub stacks : ℕ → Bool
@@ -21,14 +21,14 @@ stacks k = eqb k 21 || (eqb k 27 || (eqb k 28 || (eqb k 31 || (eqb k 45 || (eqb 
 
 -- "an operand that is a statement counts its own need alone": of these kinds a for has one, its last
 abbrev pub weight_of : ℕ → ℕ → ℕ
-weight_of k i = if stacks k then if eqb k 31 && eqb i 3 then 0 else i else 0
+weight_of k i = If stacks k then If eqb k 31 && eqb i 3 then 0 else i else 0
 
 -- how many operands are a block's head, and the holds that stay open after an operand
 unfoldable pub head_of : ℕ → ℕ → ℕ
-head_of k a = if eqb k 1 || eqb k 53 then a else 0
+head_of k a = If eqb k 1 || eqb k 53 then a else 0
 
 abbrev pub kept_of : ℕ → ℕ → ℕ → ℕ
-kept_of head i h = if ltb i head then h else 0
+kept_of head i h = If ltb i head then h else 0
 
 -- one operand more, where w values wait and o holds are open
 abbrev pub joined : ℕ → ℕ → Used → Used → Used

@@ -1,6 +1,6 @@
 -- What an entry and all below it take, as the code finds it: over entries, whatever they are.
 use Rattle.std.specs.Prelude.{◌≡◌, Bool, ◌&&◌, List, [], ◌∷◌, ℕ, zero, suc, ◌+◌, ◌*◌, ◌≤◌, ltb, length, drop}
-use Rattle.logic.specs.Choice.{if◌then◌else◌}
+use Rattle.logic.specs.Choice.{If◌then◌else◌}
 use Rattle.values.specs.Ends.{Refusal, accepted}
 use Rattle.language.specs.Tree.{Tree}
 use Rattle.language.specs.Table.{Entry, read_table}
@@ -54,7 +54,7 @@ unfoldable pub head_from : ℕ → Used → List Entry → Head
 head_from zero own es = Own own
 head_from (suc n) own es =
     head_onward (usage_at 63 es) (λ u.
-    if over_of (kind_at es) u then Exceeds own.entries else head_from n (declared_of (kind_at es) own u) (drop u.entries es))
+    If over_of (kind_at es) u then Exceeds own.entries else head_from n (declared_of (kind_at es) own u) (drop u.entries es))
 
 abbrev pub head_at : ℕ → List Entry → Head
 head_at n es = head_from n (alone_of 1) es
@@ -69,7 +69,7 @@ abbrev pub items_at : ℕ → Used → List Entry → Usage
 items_at n own es = through (usage_at 63) 1 0 n 0 own.holds own es
 
 abbrev pub root_of : Usage → Limited
-root_of (Of u) = if keeps_all u then Within else Over 0
+root_of (Of u) = If keeps_all u then Within else Over 0
 root_of Unread = Within
 
 abbrev pub bodies_of : List Entry → Head → Limited

@@ -1,6 +1,6 @@
 // What entries take of a body's limits, and how the operands of an entry are summed.
 ghost use Rattle.std.specs.Prelude.{◌≡◌, ◌+◌, ◌^◌, ◌<◌, max, eqb};
-ghost use Rattle.logic.specs.Choice.{if◌then◌else◌};
+ghost use Rattle.logic.specs.Choice.{If◌then◌else◌};
 ghost use Rattle.table_limits.specs.Sums.{used, alone_of, weight_of, head_of, kept_of, joined, Small, keeps_all, over_of, declared_of};
 
 use formats::entries::*;
@@ -46,7 +46,7 @@ pub fn alone(kind: u16) -> Used
 
 // The values that wait in a for: start, and start and step; none while the statement runs.
 fn for_weight(i: usize) -> usize
-    ensures { result ≡ (if eqb i 3 then 0 else i) }
+    ensures { result ≡ (If eqb i 3 then 0 else i) }
 {
     if i == 3 { 0 } else { i }
 }

@@ -10,7 +10,7 @@ use lib.Dec.{eqb}
 use lib.IntN.{nat_abs}
 use lib.ListN.{length, drop, replicate, length-replicate, length-append}
 use borrow.Author.Tests.{eqb-true}
-use Rattle.logic.specs.Choice.{if◌then◌else◌}
+use Rattle.logic.specs.Choice.{If◌then◌else◌}
 use Rattle.logic.specs.Tests.{clash, both_left}
 use Rattle.language.specs.Table.{Entry}
 use Rattle.table_entries.specs.Arity.{parts}
@@ -29,7 +29,7 @@ use Rattle.table_read.specs.Operands.{sorts, body_sort}
 use Rattle.table_read.specs.Walk.{moved, onward, chain, kind_at, name_at, size_at, laid_at, stands_at, sorts_of, under, entered, admits, walk, is_global, tally, walk_head, walk_below, walk_root}
 
 -- ── how many operands an entry has ──
-either : (b : Bool) (x y : List Sort) {m n : ℕ} → length x ≡ m → length y ≡ n → length (if b then x else y) ≡ (if b then m else n)
+either : (b : Bool) (x y : List Sort) {m n : ℕ} → length x ≡ m → length y ≡ n → length (If b then x else y) ≡ (If b then m else n)
 either true x y h k = h
 either false x y h k = k
 
@@ -95,7 +95,7 @@ module _ (w : Sort → List Entry → Read) (h : (s : Sort) → Counts (w s)) wh
   entered-span p [] n e = clash (let z : Fault 0 ≡ Tree n = e in cc)
   entered-span p (f ∷ es) n e = go (laid_at (f ∷ es) && p f.kind) e
     where
-      go : (b : Bool) → (if b then moved 1 (chain w (sorts_of f) es) else Fault 0) ≡ Tree n → n ≡ span 1 (f ∷ es)
+      go : (b : Bool) → (If b then moved 1 (chain w (sorts_of f) es) else Fault 0) ≡ Tree n → n ≡ span 1 (f ∷ es)
       go true q = moved-tree 1 n (chain w (sorts_of f) es) q (λ m k z. z ∙ below_span f es m k)
       go false q = clash (cc)
 

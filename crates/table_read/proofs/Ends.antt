@@ -8,7 +8,7 @@ use native.Mathlib.Omega.{arith}
 use native.Mathlib.Nat.{add-zero}
 use lib.ListN.{length, drop, replicate, length-drop}
 use lib.Seq.{drop-drop}
-use Rattle.logic.specs.Choice.{if◌then◌else◌}
+use Rattle.logic.specs.Choice.{If◌then◌else◌}
 use Rattle.language.specs.Table as table
 use Rattle.language.specs.Table.{Entry, in_layout, took, stop, Reader, after, made, repeated, first}
 use Rattle.table_read.specs.declared.kinds.Sort.{Sort}
@@ -107,7 +107,7 @@ pub ends-entry : {A : Type 0} {x : table.Read A} {a : Read} (e : Entry) (es : Li
 ends-entry e es h = ends-moved (e ∷ es) 1 (omega arith) h
 
 pub ends-if : {A : Type 0} {es : List Entry} {x y : table.Read A} {a c : Read} (b : Bool) → Ends es x a → Ends es y c
-    → Ends es (if b then x else y) (if b then a else c)
+    → Ends es (If b then x else y) (If b then a else c)
 ends-if true h k = h
 ends-if false h k = k
 
@@ -116,13 +116,13 @@ ends-stop es = halted 0 (omega arith)
 
 -- the entry that stands here, if it keeps to the layout and is of a kind that is admitted
 pub same_first : {A : Type 0} (w : Sort → List Entry → Read) (p : ℕ → Bool) (f : Entry → Reader A)
-    → ((e : Entry) (es : List Entry) → in_layout e ≡ true → Ends (e ∷ es) (f e es) (if p e.kind then moved 1 (chain w (sorts_of e) es) else Fault 0))
+    → ((e : Entry) (es : List Entry) → in_layout e ≡ true → Ends (e ∷ es) (f e es) (If p e.kind then moved 1 (chain w (sorts_of e) es) else Fault 0))
     → Same (first f) (entered w p)
 unfolding first entered
 same_first {A} w p f h = record { ends = at }
   where
     here : (e : Entry) (es : List Entry) (b : Bool) → in_layout e ≡ b
-        → Ends {A = A} (e ∷ es) (if b then f e es else stop (e ∷ es)) (if b && p e.kind then moved 1 (chain w (sorts_of e) es) else Fault 0)
+        → Ends {A = A} (e ∷ es) (If b then f e es else stop (e ∷ es)) (If b && p e.kind then moved 1 (chain w (sorts_of e) es) else Fault 0)
     here e es true l = h e es l
     here e es false l = ends-stop (e ∷ es)
 

@@ -11,7 +11,7 @@ use lib.Signed.{le_z}
 use borrow.Author.Tests.{ne_eqb, lt-leb}
 use Rattle.values.specs.Values.{between}
 use Rattle.logic.specs.Options.{is_some}
-use Rattle.logic.specs.Choice.{if◌then◌else◌}
+use Rattle.logic.specs.Choice.{If◌then◌else◌}
 use Rattle.values.specs.Operators.{binary_of}
 use Rattle.language.specs.Table.{natural}
 
@@ -28,7 +28,7 @@ pub within-top : (hi : ℕ) (z : ℤ) → between 0 hi z ≡ (natural z && leb (
 within-top hi (pos n) = rw (leb-zero n)
 within-top hi (negsuc n) = refl
 
-pub chosen : {A : Type 0} (b : Bool) (x : A) → b ≡ is_some (if b then some x else none)
+pub chosen : {A : Type 0} (b : Bool) (x : A) → b ≡ is_some (If b then some x else none)
 chosen true x = refl
 chosen false x = refl
 

@@ -11,7 +11,7 @@ use lib.IntN.{nat_abs}
 use lib.ListN.{replicate}
 use borrow.Author.Tests.{ne_eqb, leb-true}
 use Rattle.values.specs.Arithmetic.{is_zero}
-use Rattle.logic.specs.Choice.{if◌then◌else◌}
+use Rattle.logic.specs.Choice.{If◌then◌else◌}
 use Rattle.language.specs.Tree as tree
 use Rattle.language.specs.Tree.{block, assign, when, choose, while, assert, call, set_level, select, invoke, field, make, operate1, operate2, conditional, fader, block_expr, to_field}
 use Rattle.values.specs.Operators.{negate, plus, unary_of, binary_of}
@@ -85,7 +85,7 @@ module _ (r : Below) (w : Sort → List Entry → Read) (h : (s : Sort) → Same
       (λ ds. same-eq w (times-then w (h Part) (nat_abs e.b) (λ ps. made (block_expr ds (items_of ps)) r.expr) (λ ps. one-expr (block_expr ds (items_of ps))))
       (λ fs. made_after w (repeated (nat_abs e.b) r.part fs) items_of (λ is. made (block_expr ds is) r.expr)))
 
-  statement : in_layout e ≡ true → Ends (e ∷ es) (form_s r e es) (if is_s e.kind then moved 1 (chain w (sorts_of e) es) else Fault 0)
+  statement : in_layout e ≡ true → Ends (e ∷ es) (form_s r e es) (If is_s e.kind then moved 1 (chain w (sorts_of e) es) else Fault 0)
   unfolding form_s is_s sorts in_layout
   statement l =
       elim (ℕ_discrete e.kind 1) [
@@ -147,7 +147,7 @@ module _ (r : Below) (w : Sort → List Entry → Read) (h : (s : Sort) → Same
             ]
       ]
 
-  expression : Ends (e ∷ es) (form_e r e es) (if is_e e.kind then moved 1 (chain w (sorts_of e) es) else Fault 0)
+  expression : Ends (e ∷ es) (form_e r e es) (If is_e e.kind then moved 1 (chain w (sorts_of e) es) else Fault 0)
   unfolding form_e is_e sorts
   expression =
       elim (ℕ_discrete e.kind 40) [
@@ -218,7 +218,7 @@ module _ (r : Below) (w : Sort → List Entry → Read) (h : (s : Sort) → Same
             ]
       ]
 
-  target : Ends (e ∷ es) (form_target r e es) (if eqb e.kind 44 || eqb e.kind 46 then moved 1 (chain w (sorts_of e) es) else Fault 0)
+  target : Ends (e ∷ es) (form_target r e es) (If eqb e.kind 44 || eqb e.kind 46 then moved 1 (chain w (sorts_of e) es) else Fault 0)
   unfolding form_target sorts
   target =
       elim (ℕ_discrete e.kind 44) [
@@ -231,7 +231,7 @@ module _ (r : Below) (w : Sort → List Entry → Read) (h : (s : Sort) → Same
             ]
       ]
 
-  label-or : in_layout e ≡ true → Ends (e ∷ es) (form_part r e es) (if eqb e.kind 20 || is_s e.kind then moved 1 (chain w (sorts_of e) es) else Fault 0)
+  label-or : in_layout e ≡ true → Ends (e ∷ es) (form_part r e es) (If eqb e.kind 20 || is_s e.kind then moved 1 (chain w (sorts_of e) es) else Fault 0)
   unfolding form_part sorts
   label-or l =
       elim (ℕ_discrete e.kind 20) [
@@ -240,7 +240,7 @@ module _ (r : Below) (w : Sort → List Entry → Read) (h : (s : Sort) → Same
             rw (ne_eqb _ _ n20) (ends-made stmt_part (statement l))
       ]
 
-  pub declaration : Ends (e ∷ es) (form_decl e es) (if eqb e.kind 10 || eqb e.kind 14 then moved 1 (chain w (sorts_of e) es) else Fault 0)
+  pub declaration : Ends (e ∷ es) (form_decl e es) (If eqb e.kind 10 || eqb e.kind 14 then moved 1 (chain w (sorts_of e) es) else Fault 0)
   unfolding form_decl sorts
   declaration =
       elim (ℕ_discrete e.kind 10) [
@@ -253,7 +253,7 @@ module _ (r : Below) (w : Sort → List Entry → Read) (h : (s : Sort) → Same
             ]
       ]
 
-  typed_one : Ends (e ∷ es) (form_typed e es) (if eqb e.kind 10 then moved 1 (chain w (sorts_of e) es) else Fault 0)
+  typed_one : Ends (e ∷ es) (form_typed e es) (If eqb e.kind 10 then moved 1 (chain w (sorts_of e) es) else Fault 0)
   unfolding form_typed sorts
   typed_one =
       elim (ℕ_discrete e.kind 10) [

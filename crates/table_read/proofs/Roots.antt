@@ -12,7 +12,7 @@ use lib.IntN.{nat_abs}
 use lib.ListN.{length, take, drop, replicate, length-drop}
 use lib.Seq.{drop-length, drop-drop}
 use borrow.Author.Tests.{ne_eqb, eq-eqb, lt-ltb, le-ltb}
-use Rattle.logic.specs.Choice.{if◌then◌else◌}
+use Rattle.logic.specs.Choice.{If◌then◌else◌}
 use Rattle.values.specs.Types.{integer}
 use Rattle.language.specs.Tree as tree
 use Rattle.language.specs.Tree.{proper, function, Global, local, class, procedure}
@@ -44,11 +44,11 @@ module _ (r : Below) (w : Sort → List Entry → Read) (h : (s : Sort) → Same
   body : (t : ℕ) → Chained w (body_below r t) (body_sort t ∷ [])
   body t = go (eqb t 0)
     where
-      go : (b : Bool) → Chained w (if b then made proper r.stmt else made (function (get_or (ty_of_code t) integer)) r.expr) ((if b then Stmt else Expr) ∷ [])
+      go : (b : Bool) → Chained w (If b then made proper r.stmt else made (function (get_or (ty_of_code t) integer)) r.expr) ((If b then Stmt else Expr) ∷ [])
       go true = same-made w proper (same-one w (h Stmt))
       go false = same-made w (function (get_or (ty_of_code t) integer)) (same-one w (h Expr))
 
-  global : (c p : ℕ) (e : Entry) (es : List Entry) → Ends (e ∷ es) (form_global r c p e es) (if is_global c p e.kind then moved 1 (chain w (sorts_of e) es) else Fault 0)
+  global : (c p : ℕ) (e : Entry) (es : List Entry) → Ends (e ∷ es) (form_global r c p e es) (If is_global c p e.kind then moved 1 (chain w (sorts_of e) es) else Fault 0)
   unfolding form_global is_global sorts
   global c p e es =
       let n = nat_abs e.b in
@@ -80,7 +80,7 @@ made-took : {A : Type 0} (x : table.Read A) (f : A → Global) (k : ℕ) (g : Gl
     → ((y : A) → Counts k (f y)) → Counts k g
 made-took x f k g rest e c = after-took x (λ y. took (f y)) g rest e (λ z es q. let s : f z ≡ g = cc in rw s at (c z))
 
-if-took : {A C : Type 0} (b : Bool) (x y : table.Read A) (z : A) (rest : List Entry) → (if b then x else y) ≡ took z rest → (x ≡ took z rest → C) → (y ≡ took z rest → C) → C
+if-took : {A C : Type 0} (b : Bool) (x y : table.Read A) (z : A) (rest : List Entry) → (If b then x else y) ≡ took z rest → (x ≡ took z rest → C) → (y ≡ took z rest → C) → C
 if-took true x y z rest e f g = f e
 if-took false x y z rest e f g = g e
 
@@ -140,8 +140,8 @@ roots = record { ends = at }
         (ends-then es (λ gs. made (tree_of gs) (items_below (below 63) e)) (chain (walk 63) (replicate (nat_abs e.b) Part)) ((heads e.a 0 0).ends es)
         (λ gs fs. ends-made (tree_of gs) ((same-made (walk 63) items_of (same-times (walk 63) (walks 63 Part) (nat_abs e.b))).ends fs)))
 
-    here : (e : Entry) (es : List Entry) (b : Bool) → Ends (e ∷ es) (if b then form_root e es else stop (e ∷ es))
-        (if eqb e.kind 1 && b then moved 1 (onward (walk_head e.a 0 0 es) (λ n. chain (walk 63) (replicate (nat_abs e.b) Part) (drop n es))) else Fault 0)
+    here : (e : Entry) (es : List Entry) (b : Bool) → Ends (e ∷ es) (If b then form_root e es else stop (e ∷ es))
+        (If eqb e.kind 1 && b then moved 1 (onward (walk_head e.a 0 0 es) (λ n. chain (walk 63) (replicate (nat_abs e.b) Part) (drop n es))) else Fault 0)
     here e es true =
         elim (ℕ_discrete e.kind 1) [ yes q ↦ rw (eq-eqb _ _ q) (whole e es) | no n ↦ rw (ne_eqb _ _ n) (ends-stop (e ∷ es)) ]
     here e es false = rw (and-false (eqb e.kind 1)) (ends-stop (e ∷ es))
@@ -158,14 +158,14 @@ entered-laid : (w : Sort → List Entry → Read) (q : ℕ → Bool) (es : List 
 unfolding entered
 entered-laid w q es {k} e = go (laid_at es) e
   where
-    go : (b : Bool) → (if b && q (kind_at es) then moved 1 (chain w (sorts_at es) (drop 1 es)) else Fault 0) ≡ Tree k → b ≡ true
+    go : (b : Bool) → (If b && q (kind_at es) then moved 1 (chain w (sorts_at es) (drop 1 es)) else Fault 0) ≡ Tree k → b ≡ true
     go true e = refl
     go false e = clash (cc)
 
 pub tally-small : (k j : ℕ) → tally k j ≤ 1
 tally-small k j = go (eqb k j)
   where
-    go : (b : Bool) → (if b then 1 else 0) ≤ 1
+    go : (b : Bool) → (If b then 1 else 0) ≤ 1
     go true = omega arith
     go false = omega arith
 

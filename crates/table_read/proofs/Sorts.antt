@@ -7,7 +7,7 @@ use native.Mathlib.Omega.{arith}
 use lib.Dec.{eqb, ltb}
 use lib.ListN.{length, get_or, replicate, get_or-replicate, length-append, length-replicate}
 use borrow.Author.Tests.{ne_eqb, eqb-true}
-use Rattle.logic.specs.Choice.{if◌then◌else◌}
+use Rattle.logic.specs.Choice.{If◌then◌else◌}
 use Rattle.table_read.specs.declared.kinds.Sort.{Sort}
 use Rattle.table_read.specs.declared.kinds.Sort.TheVariants.{Stmt, Target, Expr}
 use Rattle.table_read.specs.Operands.{is_leaf, sorts}
@@ -46,12 +46,12 @@ run-both x y d a n i h k =
     ∙ get_or-replicate n (i - a) y d (omega (arith, length-append (replicate a x) (replicate n y), length-replicate a x, length-replicate n y))
 
 -- a first, and then all alike
-pub guards : (i m : ℕ) → i < suc m → (if eqb i 0 then Expr else Stmt) ≡ get_or (Expr ∷ replicate m Stmt) i Expr
+pub guards : (i m : ℕ) → i < suc m → (If eqb i 0 then Expr else Stmt) ≡ get_or (Expr ∷ replicate m Stmt) i Expr
 guards zero m h = refl
 guards (suc i) m h = rw (ne_eqb (suc i) 0 (λ e. omega arith)) (sym (get_or-replicate m i Stmt Expr (omega arith)))
 
 -- three alike, and then another
-pub counts : (i : ℕ) → i < 4 → (if ltb i 3 then Expr else Stmt) ≡ get_or (Expr ∷ Expr ∷ Expr ∷ Stmt ∷ []) i Expr
+pub counts : (i : ℕ) → i < 4 → (If ltb i 3 then Expr else Stmt) ≡ get_or (Expr ∷ Expr ∷ Expr ∷ Stmt ∷ []) i Expr
 counts zero h = refl
 counts (suc zero) h = refl
 counts (suc (suc zero)) h = refl
@@ -69,7 +69,7 @@ exprs zero i = refl
 exprs (suc n) zero = refl
 exprs (suc n) (suc i) = exprs n i
 
-chosen : (b : Bool) (x y : List Sort) (i : ℕ) → get_or x i Expr ≡ Expr → get_or y i Expr ≡ Expr → get_or (if b then x else y) i Expr ≡ Expr
+chosen : (b : Bool) (x y : List Sort) (i : ℕ) → get_or x i Expr ≡ Expr → get_or y i Expr ≡ Expr → get_or (If b then x else y) i Expr ≡ Expr
 chosen true x y i h k = h
 chosen false x y i h k = k
 

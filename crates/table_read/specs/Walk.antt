@@ -1,6 +1,6 @@
 -- How the code reads, in its own terms: answers count entries from the start of the part that is read.
 use Rattle.std.specs.Prelude.{Bool, false, ◌&&◌, ◌||◌, List, [], ◌∷◌, ℕ, zero, suc, ◌+◌, eqb, ltb, nat_abs, drop, replicate}
-use Rattle.logic.specs.Choice.{if◌then◌else◌}
+use Rattle.logic.specs.Choice.{If◌then◌else◌}
 use Rattle.values.specs.Ends.{Judged, accepted, refused}
 use Rattle.language.specs.Tree as tree
 use Rattle.language.specs.Table.{Entry, in_layout}
@@ -72,7 +72,7 @@ under w es = moved 1 (chain w (sorts_at es) (drop 1 es))
 
 -- the same where the entry is laid out and of a kind that is admitted
 unfoldable pub entered : (Sort → List Entry → Read) → (ℕ → Bool) → List Entry → Read
-entered w p es = if laid_at es && p (kind_at es) then under w es else Fault 0
+entered w p es = If laid_at es && p (kind_at es) then under w es else Fault 0
 
 -- whether an operand of a sort stands here, where so much nesting is left
 abbrev pub admitted_at : ℕ → Sort → List Entry → Bool
@@ -86,11 +86,11 @@ walk (suc d) s es = entered (λ t x. walk d t x) (admits s) es
 -- a declaration of the root's head, after so many classes and procedures
 unfoldable pub is_global : ℕ → ℕ → ℕ → Bool
 is_global c p k =
-    if eqb k 11 then ltb c 16 else
-    if eqb k 12 then ltb p 63 else (eqb k 10 || eqb k 14)
+    If eqb k 11 then ltb c 16 else
+    If eqb k 12 then ltb p 63 else (eqb k 10 || eqb k 14)
 
 abbrev pub tally : ℕ → ℕ → ℕ
-tally k j = if eqb k j then 1 else 0
+tally k j = If eqb k j then 1 else 0
 
 unfoldable pub walk_head : ℕ → ℕ → ℕ → List Entry → Read
 walk_head zero c p es = Tree 0
@@ -111,4 +111,4 @@ unfoldable pub walk_below : ℕ → ℕ → List Entry → Read
 walk_below a n es = onward (walk_head a 0 0 es) (λ m. chain (walk 63) (replicate n Part) (drop m es))
 
 unfoldable pub walk_root : List Entry → Read
-walk_root es = if stands_at 1 es then moved 1 (walk_below (name_at es) (size_at es) (drop 1 es)) else Fault 0
+walk_root es = If stands_at 1 es then moved 1 (walk_below (name_at es) (size_at es) (drop 1 es)) else Fault 0

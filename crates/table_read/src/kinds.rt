@@ -1,6 +1,6 @@
 // Which kinds are statements and which are expressions, and the operands of each.
 ghost use Rattle.std.specs.Prelude.{◌≡◌, ◌||◌, ◌<◌, eqb, ltb, length, get_or};
-ghost use Rattle.logic.specs.Choice.{if◌then◌else◌};
+ghost use Rattle.logic.specs.Choice.{If◌then◌else◌};
 ghost use Rattle.table_read.specs.Operands.{is_s, is_e, is_leaf, sorts};
 ghost use Rattle.table_read.specs.Walk.{admits as admitted_by};
 
@@ -127,14 +127,14 @@ pub fn count(kind: u16, a: u16, n: u32) -> usize
 
 // An expression, and then statements.
 fn guarded(i: usize) -> Sort
-    ensures { result ≡ (if eqb i 0 then Sort.Expr else Sort.Stmt) }
+    ensures { result ≡ (If eqb i 0 then Sort.Expr else Sort.Stmt) }
 {
     if i == 0 { Sort::Expr } else { Sort::Stmt }
 }
 
 // Three expressions, and then a statement.
 fn counted(i: usize) -> Sort
-    ensures { result ≡ (if ltb i 3 then Sort.Expr else Sort.Stmt) }
+    ensures { result ≡ (If ltb i 3 then Sort.Expr else Sort.Stmt) }
 {
     if i < 3 { Sort::Expr } else { Sort::Stmt }
 }

@@ -11,7 +11,7 @@ use Rattle.language.specs.Measure.{measure_s}
 use Rattle.language.specs.Program.{flat_typed, flat_decl, flat_s, flat_items}
 use Rattle.logic.specs.Lists.{among}
 use Rattle.logic.specs.Options.{is_some}
-use Rattle.logic.specs.Choice.{if◌then◌else◌}
+use Rattle.logic.specs.Choice.{If◌then◌else◌}
 use Rattle.words.specs.Laws.{two, four, number-below}
 use Rattle.values.specs.Types.{Ty, integer, logical, bits, reference, ty_code}
 use Rattle.language.specs.Tree.{Typed, Decl, declare, holding, Stmt, block, assign, when, choose, while, goto, assert, call, set_level, select, for, Items, no_item, label, item, count_items}

@@ -4,7 +4,7 @@ use Rattle.std.proofs.Common.{sym, ◌∙◌, arith}
 use mathlib.Core.List.{List, [], ◌∷◌}
 use borrow.Author.Tests.{eq-eqb, ne_eqb}
 use Rattle.logic.specs.Lists.{among}
-use Rattle.logic.specs.Choice.{if◌then◌else◌}
+use Rattle.logic.specs.Choice.{If◌then◌else◌}
 use Rattle.values.specs.Ends.{refusal}
 use Rattle.language.specs.Faults.{twice}
 use Rattle.table_scopes.specs.declared.environment.Found.{Found}
@@ -16,7 +16,7 @@ use Rattle.logic.specs.Tests.{eqb_comm}
 use Rattle.table_scopes.specs.Once.{OnceAll, Rising, Before, more, before_more, first-cons, or_assoc}
 
 once-one : (f : Found) (seen : Bool) (s n p : ℕ) (g : Found) (q : ℕ) → (seen ≡ false → f ≡ Nothing) → (seen ≡ true → (s' : ℕ) × (n' : ℕ) × (q' : ℕ) × (f ≡ Def s' n' q' false) × (q' < p)) → q ≡ p
-    → once_of (or_outer (or_outer f (Def s n q false)) g) p ≡ (if seen then refusal 3 p ∷ [] else [])
+    → once_of (or_outer (or_outer f (Def s n q false)) g) p ≡ (If seen then refusal 3 p ∷ [] else [])
 once-one f true s n p g q a b e = let (s', n', q', z, k) = b refl in rw (z, ne_eqb q' p (λ w. omega arith))
 once-one f false s n p g q a b e = rw (a refl, eq-eqb q p e)
 

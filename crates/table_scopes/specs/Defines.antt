@@ -11,7 +11,7 @@ use Rattle.language.specs.Measure.{measure_s}
 use Rattle.language.specs.Program.{flat_typed, flat_decl, flat_s, flat_items}
 use Rattle.logic.specs.Lists.{among}
 use Rattle.logic.specs.Options.{is_some}
-use Rattle.logic.specs.Choice.{if◌then◌else◌}
+use Rattle.logic.specs.Choice.{If◌then◌else◌}
 use Rattle.words.specs.Laws.{two, four, number-below}
 use Rattle.values.specs.Types.{Ty, integer, logical, bits, reference, ty_code}
 use Rattle.language.specs.Tree.{Typed, Decl, declare, holding, Stmt, block, assign, when, choose, while, goto, assert, call, set_level, select, for, Items, no_item, label, item, count_items}
@@ -137,7 +137,7 @@ module _ {l : List ℕ} (legible : Legible l) where
   unfolding one_at Small
   one-small k sort p = go (eqb (kind_at l p) k) (name-small p)
     where
-      go : (b : Bool) → a_at l p < 65536 → Small (if b then env.item (a_at l p) sort (b_at l p) p ∷ [] else [])
+      go : (b : Bool) → a_at l p < 65536 → Small (If b then env.item (a_at l p) sort (b_at l p) p ∷ [] else [])
       go true h = (h, tt)
       go false h = tt
 
@@ -260,7 +260,7 @@ class-small a c h =
     go (leb (65536 + c) 131071) refl
     (rw (ne_eqb (65536 + c) 1 (λ z. omega arith), ne_eqb (65536 + c) 2 (λ z. omega arith), ne_eqb (65536 + c) 3 (λ z. omega arith), le-leb 65536 (65536 + c) (omega arith), e) at h)
   where
-    go : (b : Bool) → leb (65536 + c) 131071 ≡ b → is_some {A = Ty} (if leb (65536 + c) 131071 then some (reference c) else none) ≡ true → c < 65536
+    go : (b : Bool) → leb (65536 + c) 131071 ≡ b → is_some {A = Ty} (If leb (65536 + c) 131071 then some (reference c) else none) ≡ true → c < 65536
     go true e k = omega (arith, leb-true (65536 + c) 131071 e)
     go false e k = clash (let z : false ≡ true = rw e at k in cc)
 

@@ -1,6 +1,6 @@
 -- The names in sight as lent numbers hold them, innermost first, and the steps of a lookup among them.
 use Rattle.std.specs.Prelude.{◌≡◌, Bool, true, false, ◌||◌, List, [], ◌∷◌, ℕ, zero, suc, ◌+◌, ◌*◌, ◌≤◌, length, get_or, ltb, eqb}
-use Rattle.logic.specs.Choice.{if◌then◌else◌}
+use Rattle.logic.specs.Choice.{If◌then◌else◌}
 use Rattle.table_scopes.specs.declared.environment.Found.{Found}
 use Rattle.table_scopes.specs.declared.environment.Found.TheVariants.{Nothing, Def}
 
@@ -26,19 +26,19 @@ passing b (Def s n q c) = Def s n q (b || c)
 -- the definition of a name: that of the smallest block that has one, and whether a wall lies between
 unfoldable pub find : ℕ → List Item → Found
 find a [] = Nothing
-find a (item m s n q ∷ v) = if eqb m a then Def s n q false else passing (eqb m shut) (find a v)
+find a (item m s n q ∷ v) = If eqb m a then Def s n q false else passing (eqb m shut) (find a v)
 
 -- whether the innermost block defines the name
 unfoldable pub here : ℕ → List Item → Bool
 here a [] = false
-here a (item m s n q ∷ v) = if ltb 65535 m then false else if eqb m a then true else here a v
+here a (item m s n q ∷ v) = If ltb 65535 m then false else If eqb m a then true else here a v
 
 abbrev pub name_of : Item → ℕ
 name_of (item a s n q) = a
 
 -- one definition more: of two in a block the first counts
 abbrev pub adding : Item → List Item → List Item
-adding i v = if here (name_of i) v then v else i ∷ v
+adding i v = If here (name_of i) v then v else i ∷ v
 
 unfoldable pub add_all : List Item → List Item → List Item
 add_all [] v = v

@@ -10,7 +10,7 @@ use Rattle.std.proofs.lemmas.List.Edits.{sets}
 use Rattle.std.proofs.Math.Seq.{length-sets}
 use Rattle.std.proofs.Math.Dec.{eqb}
 use borrow.Author.Tests.{lt-ltb, le-ltb, eq-eqb, ne_eqb, eqb-true}
-use Rattle.logic.specs.Choice.{if◌then◌else◌}
+use Rattle.logic.specs.Choice.{If◌then◌else◌}
 use Rattle.words.specs.Laws.{in-sets, out-sets}
 use Rattle.table_scopes.specs.declared.environment.Found.{Found}
 use Rattle.table_scopes.specs.declared.environment.Found.TheVariants.{Nothing, Def}
@@ -119,7 +119,7 @@ all_append (i ∷ is) js v = all_append is js (adding i v)
 
 unfoldable pub first_in : ℕ → List Item → Found
 first_in a [] = Nothing
-first_in a (item m s n q ∷ is) = if eqb m a then Def s n q false else first_in a is
+first_in a (item m s n q ∷ is) = If eqb m a then Def s n q false else first_in a is
 
 abbrev pub or_outer : Found → Found → Found
 or_outer Nothing g = g
@@ -141,20 +141,20 @@ unfolding find first_in
 find-item a b s n q v h = go (eqb b a) refl
   where
     go : (x : Bool) → eqb b a ≡ x
-        → (if eqb b a then Def s n q false else passing (eqb b shut) (find a v)) ≡ or_outer (if eqb b a then Def s n q false else Nothing) (find a v)
+        → (If eqb b a then Def s n q false else passing (eqb b shut) (find a v)) ≡ or_outer (If eqb b a then Def s n q false else Nothing) (find a v)
     go true e = rw e
     go false e = let w : ¬ (b ≡ shut) = omega arith in rw (e, ne_eqb b shut w, ← passing-none (find a v))
 
 module _ (a : ℕ) (small : a < 65536) where
   abbrev seen : List Item → Found → Found
-  seen v g = if here a v then find a v else or_outer g (find a v)
+  seen v g = If here a v then find a v else or_outer g (find a v)
 
-  adds_one : (b s n q : ℕ) (v : List Item) (g : Found) → b < 65536 → seen (adding (item b s n q) v) g ≡ seen v (if eqb b a then Def s n q false else g)
+  adds_one : (b s n q : ℕ) (v : List Item) (g : Found) → b < 65536 → seen (adding (item b s n q) v) g ≡ seen v (If eqb b a then Def s n q false else g)
   unfolding find here
   adds_one b s n q v g k = go (here b v) refl (eqb b a) refl (here a v) refl
     where
       go : (x : Bool) → here b v ≡ x → (y : Bool) → eqb b a ≡ y → (z : Bool) → here a v ≡ z
-          → seen (adding (item b s n q) v) g ≡ seen v (if eqb b a then Def s n q false else g)
+          → seen (adding (item b s n q) v) g ≡ seen v (If eqb b a then Def s n q false else g)
       go true e false f z h = rw (e, f)
       go true e true f true h = rw (e, f, h)
       go true e true f false h = let w : here a v ≡ true = rw (eqb-true b a f) at e in absurd (let z : ◌≡◌ {A = ℕ} 0 1 = cc in omega arith)
@@ -169,7 +169,7 @@ module _ (a : ℕ) (small : a < 65536) where
   unfolding add_all first_in Small
   adds-all [] v s = go (here a v)
     where
-      go : (b : Bool) → find a v ≡ (if b then find a v else find a v)
+      go : (b : Bool) → find a v ≡ (If b then find a v else find a v)
       go true = refl
       go false = refl
   adds-all (item b x n q ∷ is) v s = adds-all is (adding (item b x n q) v) s.1 ∙ adds_one b x n q v (first_in a is) s.0

@@ -2,7 +2,7 @@
 use Rattle.std.specs.Prelude.{◌≡◌, refl, Bool, true, false, ◌&&◌, List, ◌∷◌, ℕ, ◌-◌, ◌*◌, ◌%◌, ◌≤◌, ◌<◌, eqb, ltb, length, get_or, set}
 use Rattle.std.proofs.Common.{sym, ◌∙◌, arith, length-set, get_or-set_same, get_or-set_other, ne_eqb, eqb-true}
 use Rattle.std.proofs.Math.Decide.{ℕ_discrete}
-use Rattle.logic.specs.Choice.{if◌then◌else◌}
+use Rattle.logic.specs.Choice.{If◌then◌else◌}
 use Rattle.logic.specs.Tests.{clash}
 use Rattle.table_scopes.specs.Environment.{Item, item, here, env_of}
 use Rattle.table_scopes.specs.EnvironmentLaws.{here-mark, here-miss, here-none}
@@ -12,7 +12,7 @@ abbrev pub absent_in : List ℕ → ℕ → Bool
 absent_in l a = eqb (length l) 2048 && eqb (get_or l (a % 2048) 0) 0
 
 abbrev pub noted : List ℕ → ℕ → List ℕ
-noted l a = if eqb (length l) 2048 then set l (a % 2048) 1 else l
+noted l a = If eqb (length l) 2048 then set l (a % 2048) 1 else l
 
 -- it is right about a block's names
 pub record Covers (l : List ℕ) (v : List Item) : Type 0 where
@@ -35,21 +35,21 @@ slot_small a = omega arith
 pub noted-length : (l : List ℕ) (m : ℕ) → length (noted l m) ≡ length l
 noted-length l m = go (eqb (length l) 2048)
   where
-    go : (b : Bool) → length (if b then set l (m % 2048) 1 else l) ≡ length l
+    go : (b : Bool) → length (If b then set l (m % 2048) 1 else l) ≡ length l
     go true = length-set l (m % 2048) 1
     go false = refl
 
 noted_here : (l : List ℕ) (m : ℕ) → absent_in (noted l m) m ≡ false
 noted_here l m = go (eqb (length l) 2048) refl
   where
-    go : (b : Bool) → eqb (length l) 2048 ≡ b → absent_in (if b then set l (m % 2048) 1 else l) m ≡ false
+    go : (b : Bool) → eqb (length l) 2048 ≡ b → absent_in (If b then set l (m % 2048) 1 else l) m ≡ false
     go true e = rw (length-set l (m % 2048) 1, e, get_or-set_same l (m % 2048) 1 0 (omega (arith, eqb-true (length l) 2048 e, slot_small m)))
     go false e = rw e
 
 noted-keeps : (l : List ℕ) (m a : ℕ) → absent_in l a ≡ false → absent_in (noted l m) a ≡ false
 noted-keeps l m a h = go (eqb (length l) 2048) refl
   where
-    go : (b : Bool) → eqb (length l) 2048 ≡ b → absent_in (if b then set l (m % 2048) 1 else l) a ≡ false
+    go : (b : Bool) → eqb (length l) 2048 ≡ b → absent_in (If b then set l (m % 2048) 1 else l) a ≡ false
     go false e = rw e
     go true e =
         elim (ℕ_discrete (a % 2048) (m % 2048)) [
@@ -61,7 +61,7 @@ pub covers-push : {l : List ℕ} {v : List Item} (m s n q : ℕ) → Covers l v 
 unfolding here
 covers-push {l} {v} m s n q c = record { covers = λ a h. go a (ltb 65535 m) refl (eqb m a) refl h }
   where
-    go : (a : ℕ) (b : Bool) → ltb 65535 m ≡ b → (d : Bool) → eqb m a ≡ d → (if b then false else if d then true else here a v) ≡ true → absent_in (noted l m) a ≡ false
+    go : (a : ℕ) (b : Bool) → ltb 65535 m ≡ b → (d : Bool) → eqb m a ≡ d → (If b then false else If d then true else here a v) ≡ true → absent_in (noted l m) a ≡ false
     go a true x d y h = clash (let z : false ≡ true = h in cc)
     go a false x true y h = rw (← eqb-true m a y) (noted_here l m)
     go a false x false y h = noted-keeps l m a (c.covers a h)

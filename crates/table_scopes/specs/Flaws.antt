@@ -1,7 +1,7 @@
 -- The faults of declarations near the code, and what an answer says of a list of faults.
 use Rattle.std.specs.Prelude.{◌≡◌, Bool, List, [], ◌∷◌, ◌++◌, ℕ, zero, suc, ◌+◌, ◌-◌, ◌<◌, eqb, ltb}
 use Rattle.std.proofs.Common.{ap, sym, ◌∙◌, arith, eq-eqb, ne_eqb}
-use Rattle.logic.specs.Choice.{if◌then◌else◌}
+use Rattle.logic.specs.Choice.{If◌then◌else◌}
 use Rattle.values.specs.Ends.{Refusal, refusal}
 use Rattle.table_scopes.specs.declared.environment.Found.{Found}
 use Rattle.table_scopes.specs.declared.environment.Found.TheVariants.{Nothing, Def}
@@ -31,7 +31,7 @@ says-fine (Refused m q) t fs e h = absurd (let z : ◌≡◌ {A = ℕ} 0 1 = cc 
 -- a name is defined at p: what is found of it must be this definition
 abbrev pub once_of : Found → ℕ → List Refusal
 once_of Nothing p = refusal 3 p ∷ []
-once_of (Def s n q w) p = if eqb q p then [] else refusal 3 p ∷ []
+once_of (Def s n q w) p = If eqb q p then [] else refusal 3 p ∷ []
 
 abbrev pub once_flaw : List Item → ℕ → ℕ → List Refusal
 once_flaw v a p = once_of (find a v) p
@@ -39,13 +39,13 @@ once_flaw v a p = once_of (find a v) p
 -- the class that a type names
 abbrev pub class_of : Found → ℕ → List Refusal
 class_of Nothing p = refusal 3 p ∷ []
-class_of (Def s n q w) p = if eqb s 6 then [] else refusal 4 p ∷ []
+class_of (Def s n q w) p = If eqb s 6 then [] else refusal 4 p ∷ []
 
 abbrev pub class_flaw : List Item → ℕ → ℕ → List Refusal
-class_flaw v t p = if ltb t 65536 then [] else class_of (find (t - 65536) v) p
+class_flaw v t p = If ltb t 65536 then [] else class_of (find (t - 65536) v) p
 
 unfoldable pub decl_flaws : List ℕ → List Item → ℕ → List Refusal
-decl_flaws l v p = if eqb (kind_at l p) 10 then once_flaw v (a_at l p) p ++ class_flaw v (b_at l p) p else []
+decl_flaws l v p = If eqb (kind_at l p) 10 then once_flaw v (a_at l p) p ++ class_flaw v (b_at l p) p else []
 
 unfoldable pub head_flaws : List ℕ → List Item → ℕ → ℕ → List Refusal
 head_flaws l v p zero = []

@@ -3,7 +3,7 @@ use Rattle.std.specs.Prelude.{◌≡◌, refl, List, [], ◌∷◌, ◌++◌, �
 use Rattle.std.proofs.Math.Path.{ap, sym}
 use Rattle.std.proofs.Common.{◌∙◌, arith, eq-eqb, ne_eqb, length-append}
 use Rattle.std.proofs.Math.ListN.{length}
-use Rattle.logic.specs.Choice.{if◌then◌else◌}
+use Rattle.logic.specs.Choice.{If◌then◌else◌}
 use Rattle.words.specs.Numbers.{half_at, word_at}
 use Rattle.language_laws.specs.Claims.{entries_of}
 use Rattle.table_entries.specs.Spans.{span}
@@ -26,7 +26,7 @@ after l p = p + span 1 (drop p (entries_of l))
 
 -- "sort: 4 a variable, 5 a label, 6 a class, 7 a procedure, 65,536 + c a field of class c" (and 8 a control name, `enter_loop`); the number is b of the entry
 unfoldable pub one_at : ℕ → ℕ → List ℕ → ℕ → List Item
-one_at k sort l p = if eqb (kind_at l p) k then item (a_at l p) sort (b_at l p) p ∷ [] else []
+one_at k sort l p = If eqb (kind_at l p) k then item (a_at l p) sort (b_at l p) p ∷ [] else []
 
 -- the variables of a head
 unfoldable pub items_at : ℕ → List ℕ → ℕ → ℕ → List Item
@@ -46,8 +46,8 @@ Reach l p (suc n) = (8 * (p + 1) ≤ length l) × Reach l (after l p) n
 -- the declarations of the root
 unfoldable pub global_at : List ℕ → ℕ → List Item
 global_at l p =
-    if eqb (kind_at l p) 11 then one_at 11 6 l p ++ items_at (65536 + a_at l p) l (p + 1) (b_at l p) else
-    if eqb (kind_at l p) 12 then one_at 12 7 l p else one_at 10 4 l p
+    If eqb (kind_at l p) 11 then one_at 11 6 l p ++ items_at (65536 + a_at l p) l (p + 1) (b_at l p) else
+    If eqb (kind_at l p) 12 then one_at 12 7 l p else one_at 10 4 l p
 
 unfoldable pub globals_from : List ℕ → ℕ → ℕ → List Item
 globals_from l p zero = []

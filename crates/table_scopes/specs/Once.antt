@@ -4,7 +4,7 @@ use Rattle.std.proofs.Common.{sym, ◌∙◌, arith}
 use mathlib.Core.List.{List, [], ◌∷◌}
 use borrow.Author.Tests.{eq-eqb, ne_eqb}
 use Rattle.logic.specs.Lists.{among}
-use Rattle.logic.specs.Choice.{if◌then◌else◌}
+use Rattle.logic.specs.Choice.{If◌then◌else◌}
 use Rattle.values.specs.Ends.{refusal}
 use Rattle.language.specs.Faults.{twice}
 use Rattle.table_scopes.specs.declared.environment.Found.{Found}
@@ -48,7 +48,7 @@ pub first-cons : (a : ℕ) (i : Item) (is : List Item) → first_in a (i ∷ is)
 unfolding first_in
 first-cons a (item b s n q) is = go (eqb b a)
   where
-    go : (x : Bool) → (if x then Def s n q false else first_in a is) ≡ or_outer (if x then Def s n q false else Nothing) (first_in a is)
+    go : (x : Bool) → (If x then Def s n q false else first_in a is) ≡ or_outer (If x then Def s n q false else Nothing) (first_in a is)
     go true = refl
     go false = refl
 
@@ -56,19 +56,19 @@ pub before_more : (f : ℕ → Found) (seen : List ℕ) (p : ℕ) (i : Item) →
 unfolding among first_in
 before_more f seen p (item b s n q) h r = record { none = λ a e. none_more a e; some = λ a e. some_more a e }
   where
-    none_more : (a : ℕ) → (eqb a b || among a seen) ≡ false → or_outer (f a) (if eqb b a then Def s n q false else Nothing) ≡ Nothing
+    none_more : (a : ℕ) → (eqb a b || among a seen) ≡ false → or_outer (f a) (If eqb b a then Def s n q false else Nothing) ≡ Nothing
     none_more a e = go (eqb a b) refl (among a seen) refl
       where
-        go : (x : Bool) → eqb a b ≡ x → (y : Bool) → among a seen ≡ y → or_outer (f a) (if eqb b a then Def s n q false else Nothing) ≡ Nothing
+        go : (x : Bool) → eqb a b ≡ x → (y : Bool) → among a seen ≡ y → or_outer (f a) (If eqb b a then Def s n q false else Nothing) ≡ Nothing
         go true u y w = absurd (let z : true ≡ false = rw u at e in let k : ◌≡◌ {A = ℕ} 0 1 = cc in omega arith)
         go false u true w = absurd (let z : true ≡ false = rw (u, w) at e in let k : ◌≡◌ {A = ℕ} 0 1 = cc in omega arith)
         go false u false w = rw (h.none a w, sym (eqb_comm a b), u)
 
-    some_more : (a : ℕ) → (eqb a b || among a seen) ≡ true → (s' : ℕ) × (n' : ℕ) × (q' : ℕ) × (or_outer (f a) (if eqb b a then Def s n q false else Nothing) ≡ Def s' n' q' false) × (q' < suc q)
+    some_more : (a : ℕ) → (eqb a b || among a seen) ≡ true → (s' : ℕ) × (n' : ℕ) × (q' : ℕ) × (or_outer (f a) (If eqb b a then Def s n q false else Nothing) ≡ Def s' n' q' false) × (q' < suc q)
     some_more a e = go (among a seen) refl (eqb a b) refl
       where
         go : (y : Bool) → among a seen ≡ y → (x : Bool) → eqb a b ≡ x → (s' : ℕ) × (n' : ℕ) × (q' : ℕ)
-            × (or_outer (f a) (if eqb b a then Def s n q false else Nothing) ≡ Def s' n' q' false) × (q' < suc q)
+            × (or_outer (f a) (If eqb b a then Def s n q false else Nothing) ≡ Def s' n' q' false) × (q' < suc q)
         go true w x u = let (s', n', q', z, k) = h.some a w in (s', n', q', rw z, omega arith)
         go false w true u = (s, n, q, rw (h.none a w, sym (eqb_comm a b), u), omega arith)
         go false w false u = absurd (let z : false ≡ true = rw (u, w) at e in let k : ◌≡◌ {A = ℕ} 0 1 = cc in omega arith)

@@ -6,7 +6,7 @@ use Rattle.std.proofs.Math.Bool.{true, false}
 use mathlib.Core.List.{List, [], ◌∷◌, ◌++◌, map}
 use Rattle.std.proofs.Math.Dec.{eqb}
 use Rattle.language.specs.Program.{flat_typed}
-use Rattle.logic.specs.Choice.{if◌then◌else◌}
+use Rattle.logic.specs.Choice.{If◌then◌else◌}
 use Rattle.words.specs.Laws.{Bytes}
 use Rattle.values.specs.Types.{Ty, ty_code}
 use Rattle.language.specs.Tree.{Typed}
@@ -81,7 +81,7 @@ module _ (l : List ℕ) (a : ℕ) where
   first-agrees (item b s n q ∷ is) (d ∷ ds) m = go (eqb d.name a) refl (first-agrees is ds m.2)
     where
       go : (x : Bool) → eqb d.name a ≡ x → Agrees l (first_in a is) (first_of a ds)
-          → Agrees l (if eqb b a then Def s n q false else first_in a is) (if eqb d.name a then found d.sort false else first_of a ds)
+          → Agrees l (If eqb b a then Def s n q false else first_in a is) (If eqb d.name a then found d.sort false else first_of a ds)
       go true e k = rw (m.0, e) (refl, m.1)
       go false e k = rw (m.0, e) k
 

@@ -1,7 +1,7 @@
 -- Labels that were all pushed: none has a name that its block had before, so that none needs to be looked up again.
 use Rattle.std.specs.Prelude.{◌≡◌, refl, Bool, true, false, ◌&&◌, List, [], ◌∷◌, ℕ, zero, suc, ◌+◌, ◌-◌, ◌*◌, ◌<◌, eqb, ltb, length, drop}
 use Rattle.std.proofs.Common.{ap, sym, ◌∙◌, arith, eq-eqb, ne_eqb, le-ltb, ltb-true}
-use Rattle.logic.specs.Choice.{if◌then◌else◌}
+use Rattle.logic.specs.Choice.{If◌then◌else◌}
 use Rattle.logic.specs.Tests.{clash, both_left, both_right}
 use Rattle.words.specs.Laws.{Bytes, two, number-below}
 use Rattle.language_laws.specs.Claims.{entries_of}
@@ -63,12 +63,12 @@ env-length l zero = refl
 env-length l (suc n) = ap suc (env-length l n)
 
 -- whether one was pushed, told by how many there are
-one-pushed : (i : Item) (v w : List Item) (b : Bool) → w ≡ (if b then v else i ∷ v) → length v < length w → (b ≡ false) × (w ≡ i ∷ v)
+one-pushed : (i : Item) (v w : List Item) (b : Bool) → w ≡ (If b then v else i ∷ v) → length v < length w → (b ≡ false) × (w ≡ i ∷ v)
 one-pushed i v w true e h = absurd (omega (arith, ap length e))
 one-pushed i v w false e h = (refl, e)
 
 pub sparing-next : {l : List ℕ} {at count : ℕ} {once : Bool} {v : List Item} {place left : ℕ} → Sparing l at count once v place left → 0 < left → (w : List Item) (x : Bool) (size : ℕ)
-    → size ≡ span 1 (drop place (entries_of l)) → x ≡ (if eqb (kind_at l place) 20 then once && ltb (length v) (length w) else once) → w ≡ add_all (one_at 20 5 l place) v
+    → size ≡ span 1 (drop place (entries_of l)) → x ≡ (If eqb (kind_at l place) 20 then once && ltb (length v) (length w) else once) → w ≡ add_all (one_at 20 5 l place) v
     → Sparing l at count x w (place + size) (left - 1)
 unfolding one_at add_all Free
 sparing-next {l} {at} {count} {once} {v} {place} {left} s pos w x size z e g = go (eqb (kind_at l place) 20) refl
@@ -80,7 +80,7 @@ sparing-next {l} {at} {count} {once} {v} {place} {left} s pos w x size z e g = g
     go true k =
         let i = item (a_at l place) 5 (b_at l place) place in
         let told : x ≡ (once && ltb (length v) (length w)) = rw k at e in
-        let grown : w ≡ (if here (a_at l place) v then v else i ∷ v) = rw k at g in
+        let grown : w ≡ (If here (a_at l place) v then v else i ∷ v) = rw k at g in
         record {
           goes = λ t bytes u ext r.
               let both = sym told ∙ t in

@@ -1,7 +1,7 @@
 // Heads: the names of a block, a parameter list or the root are pushed before anything in it is judged, since all are visible
 // throughout; then its declarations are judged.
 ghost use Rattle.std.specs.Prelude.{◌≡◌, ◌&&◌, ◌∷◌, ◌++◌, ◌+◌, ◌*◌, ◌≤◌, ◌<◌, length, eqb, ltb};
-ghost use Rattle.logic.specs.Choice.{if◌then◌else◌};
+ghost use Rattle.logic.specs.Choice.{If◌then◌else◌};
 ghost use Rattle.table_scopes.specs.Environment.{item, add_all, env_of, Grown};
 ghost use Rattle.table_entries.specs.Sizes.{Known};
 ghost use Rattle.table_scopes.specs.Items.{one_at, items_at, labels_from, Reach, global_at, globals_from, WithinGlobal, ReachGlobals, block_items, root_items, a_at, b_at};
@@ -77,7 +77,7 @@ const FEW: usize = 64;
 
 // Whether a label was pushed, where one stands, and all those before it were.
 fn all_pushed(before: bool, kind: u16, top: usize, up: usize) -> bool
-    ensures { result ≡ (if eqb kind 20 then «before» && ltb top up else «before») }
+    ensures { result ≡ (If eqb kind 20 then «before» && ltb top up else «before») }
 {
     if kind != KIND_LABEL {
         return before;

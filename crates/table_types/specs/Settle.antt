@@ -5,7 +5,7 @@ use Rattle.std.proofs.Math.Numerals.{add-one}
 use Rattle.std.proofs.Math.Decide.{ℕ_discrete}
 use Rattle.std.proofs.Math.Seq.{drop-cons}
 use borrow.Author.Tests.{eq-eqb, ne_eqb, ltb-true, ltb-false}
-use Rattle.logic.specs.Choice.{if◌then◌else◌}
+use Rattle.logic.specs.Choice.{If◌then◌else◌}
 use Rattle.table_scopes.specs.declared.environment.Found.{Found}
 use Rattle.table_scopes.specs.declared.environment.Found.TheVariants.{Nothing, Def}
 use Rattle.table_scopes.specs.Environment.{Item, item, env_of}
@@ -20,41 +20,41 @@ values (suc n) [] = []
 values (suc n) (item a s t q ∷ v) = values n v ++ (t ∷ [])
 
 abbrev pub if_both : Bool → Bool → ℕ → ℕ
-if_both x y t = if x then if y then t else 0 else 0
+if_both x y t = If x then If y then t else 0 else 0
 
 abbrev pub if_either : Bool → Bool → ℕ → ℕ
-if_either x y t = if x then t else if y then t else 0
+if_either x y t = If x then t else If y then t else 0
 
 unfoldable pub operated_by : ℕ → ℕ → ℕ → ℕ
 operated_by op t u =
-    if eqb op 10 then if_both (eqb t u) (not (eqb t 0)) 2 else
-    if eqb op 11 then if_both (eqb t u) (not (eqb t 0)) 2 else
-    if eqb op 12 then if_both (eqb t u) true (if_either (eqb t 2) (eqb t 3) t) else
-    if eqb op 13 then if_both (eqb t u) true (if_either (eqb t 2) (eqb t 3) t) else
-    if eqb op 14 then if_both (eqb t 3) (eqb u 1) 3 else
-    if eqb op 15 then if_both (eqb t 3) (eqb u 1) 3 else
-    if eqb op 20 then if_both (eqb t 1) true 1 else
-    if eqb op 21 then if_both (eqb t 1) true 1 else
-    if eqb op 22 then if_either (eqb t 2) (eqb t 3) t else
-    if ltb op 6 then if_both (eqb t 1) (eqb u 1) 1 else if_both (eqb t 1) (eqb u 1) 2
+    If eqb op 10 then if_both (eqb t u) (not (eqb t 0)) 2 else
+    If eqb op 11 then if_both (eqb t u) (not (eqb t 0)) 2 else
+    If eqb op 12 then if_both (eqb t u) true (if_either (eqb t 2) (eqb t 3) t) else
+    If eqb op 13 then if_both (eqb t u) true (if_either (eqb t 2) (eqb t 3) t) else
+    If eqb op 14 then if_both (eqb t 3) (eqb u 1) 3 else
+    If eqb op 15 then if_both (eqb t 3) (eqb u 1) 3 else
+    If eqb op 20 then if_both (eqb t 1) true 1 else
+    If eqb op 21 then if_both (eqb t 1) true 1 else
+    If eqb op 22 then if_either (eqb t 2) (eqb t 3) t else
+    If ltb op 6 then if_both (eqb t 1) (eqb u 1) 1 else if_both (eqb t 1) (eqb u 1) 2
 
 unfoldable pub typed_by : ℕ → ℕ → ℕ → ℕ → ℕ → ℕ
 typed_by k a t u w =
-    if eqb k 21 then if_both (eqb t u) (not (eqb t 0)) 1 else
-    if eqb k 26 then if_both (eqb t 2) true 1 else
-    if eqb k 28 then if_both (eqb t 1) (eqb u 1) 1 else
-    if eqb k 40 then 1 else
-    if eqb k 41 then 2 else
-    if eqb k 42 then 3 else
-    if eqb k 50 then if_both (eqb t 2) true (if_both (eqb u w) (not (eqb u 0)) u) else
-    if eqb k 51 then if_both (eqb t 1) true 1 else operated_by a t u
+    If eqb k 21 then if_both (eqb t u) (not (eqb t 0)) 1 else
+    If eqb k 26 then if_both (eqb t 2) true 1 else
+    If eqb k 28 then if_both (eqb t 1) (eqb u 1) 1 else
+    If eqb k 40 then 1 else
+    If eqb k 41 then 2 else
+    If eqb k 42 then 3 else
+    If eqb k 50 then if_both (eqb t 2) true (if_both (eqb u w) (not (eqb u 0)) u) else
+    If eqb k 51 then if_both (eqb t 1) true 1 else operated_by a t u
 
 -- as many, and each its own
 unfoldable pub same_all : List ℕ → List ℕ → Bool
 same_all [] [] = true
 same_all [] (u ∷ us) = false
 same_all (t ∷ ts) [] = false
-same_all (t ∷ ts) (u ∷ us) = if eqb t u then same_all ts us else false
+same_all (t ∷ ts) (u ∷ us) = If eqb t u then same_all ts us else false
 
 -- the types declared at so many entries
 unfoldable pub types_at : List ℕ → ℕ → ℕ → List ℕ
@@ -62,32 +62,32 @@ types_at l p zero = []
 types_at l p (suc n) = b_at l p ∷ types_at l (p + 1) n
 
 abbrev pub right_if : Bool → ℕ → ℕ → Verdict
-right_if b t p = if b then Fine t else Refused 4 p
+right_if b t p = If b then Fine t else Refused 4 p
 
 -- a variable, a parameter or a control name
 abbrev pub has_value : ℕ → Bool
-has_value s = if eqb s 4 then true else eqb s 8
+has_value s = If eqb s 4 then true else eqb s 8
 
 abbrev pub aimed_by : ℕ → Bool → ℕ → Verdict
-aimed_by s w p = if eqb s 5 then if w then Refused 5 p else Fine 1 else Refused 4 p
+aimed_by s w p = If eqb s 5 then If w then Refused 5 p else Fine 1 else Refused 4 p
 
 abbrev pub called_by : List ℕ → ℕ → ℕ → ℕ → Bool → ℕ → List ℕ → Verdict
-called_by l s n q right p vs = if eqb s 7 then if right then right_if (same_all vs (types_at l (q + 1) (n / 256))) (n % 256) p else Refused 4 p else Refused 4 p
+called_by l s n q right p vs = If eqb s 7 then If right then right_if (same_all vs (types_at l (q + 1) (n / 256))) (n % 256) p else Refused 4 p else Refused 4 p
 
 abbrev pub recorded_by : List ℕ → ℕ → ℕ → ℕ → ℕ → ℕ → List ℕ → Verdict
-recorded_by l a s n q p vs = if eqb s 6 then right_if (same_all vs (types_at l (q + 1) n)) (65536 + a) p else Refused 4 p
+recorded_by l a s n q p vs = If eqb s 6 then right_if (same_all vs (types_at l (q + 1) n)) (65536 + a) p else Refused 4 p
 
 unfoldable pub named_by : List ℕ → ℕ → ℕ → ℕ → ℕ → ℕ → Bool → ℕ → List ℕ → Verdict
 named_by l k a s n q w p vs =
-    if eqb k 25 then aimed_by s w p else
-    if eqb k 27 then called_by l s n q (eqb (n % 256) 0) p vs else
-    if eqb k 43 then right_if (eqb s 6) (65536 + a) p else
-    if eqb k 44 then right_if (has_value s) n p else
-    if eqb k 45 then called_by l s n q (not (eqb (n % 256) 0)) p vs else
-    if eqb k 46 then right_if (eqb s (get_or vs 0 0)) n p else recorded_by l a s n q p vs
+    If eqb k 25 then aimed_by s w p else
+    If eqb k 27 then called_by l s n q (eqb (n % 256) 0) p vs else
+    If eqb k 43 then right_if (eqb s 6) (65536 + a) p else
+    If eqb k 44 then right_if (has_value s) n p else
+    If eqb k 45 then called_by l s n q (not (eqb (n % 256) 0)) p vs else
+    If eqb k 46 then right_if (eqb s (get_or vs 0 0)) n p else recorded_by l a s n q p vs
 
 unfoldable pub names_by : ℕ → Bool
-names_by k = if eqb k 25 then true else if eqb k 27 then true else if ltb k 43 then false else ltb k 48
+names_by k = If eqb k 25 then true else If eqb k 27 then true else If ltb k 43 then false else ltb k 48
 
 abbrev pub found_by : List ℕ → ℕ → ℕ → ℕ → Found → List ℕ → Verdict
 found_by l k a p Nothing vs = Refused 3 p
@@ -97,7 +97,7 @@ abbrev pub type_by : ℕ → ℕ → List ℕ → ℕ
 type_by k a vs = typed_by k a (get_or vs 0 0) (get_or vs 1 0) (get_or vs 2 0)
 
 unfoldable pub settled_by : List ℕ → ℕ → ℕ → ℕ → Found → List ℕ → Verdict
-settled_by l k a p f vs = if names_by k then found_by l k a p f vs else right_if (not (eqb (type_by k a vs) 0)) (type_by k a vs) p
+settled_by l k a p f vs = If names_by k then found_by l k a p f vs else right_if (not (eqb (type_by k a vs) 0)) (type_by k a vs) p
 
 -- start, step and limit of a for
 abbrev pub counted_by : ℕ → List ℕ → Verdict
@@ -110,14 +110,14 @@ controls (Def s n q w) = eqb s 8
 
 -- an expression with nothing below it: a constant, null or a variable
 unfoldable pub is_leaf : ℕ → Bool
-is_leaf k = if ltb k 40 then false else ltb k 45
+is_leaf k = If ltb k 40 then false else ltb k 45
 
 abbrev pub leaf_of : ℕ → ℕ → ℕ → Found → Verdict
 leaf_of k a p Nothing = Refused 3 p
-leaf_of k a p (Def s n q w) = if eqb k 43 then right_if (eqb s 6) (65536 + a) p else right_if (has_value s) n p
+leaf_of k a p (Def s n q w) = If eqb k 43 then right_if (eqb s 6) (65536 + a) p else right_if (has_value s) n p
 
 unfoldable pub leaf_by : ℕ → ℕ → ℕ → Found → Verdict
-leaf_by k a p f = if eqb k 40 then Fine 1 else if eqb k 41 then Fine 2 else if eqb k 42 then Fine 3 else leaf_of k a p f
+leaf_by k a p f = If eqb k 40 then Fine 1 else If eqb k 41 then Fine 2 else If eqb k 42 then Fine 3 else leaf_of k a p f
 
 pub leaf-kind : (k : ℕ) → is_leaf k ≡ true → (40 ≤ k) × (k < 45)
 unfolding is_leaf
@@ -220,7 +220,7 @@ unequal-lengths [] (y ∷ ys) h = refl
 unequal-lengths (x ∷ xs) [] h = refl
 unequal-lengths (x ∷ xs) (y ∷ ys) h = go (eqb x y) (unequal-lengths xs ys (λ e. h (ap suc e)))
   where
-    go : (b : Bool) → same_all xs ys ≡ false → (if b then same_all xs ys else false) ≡ false
+    go : (b : Bool) → same_all xs ys ≡ false → (If b then same_all xs ys else false) ≡ false
     go true e = e
     go false e = refl
 

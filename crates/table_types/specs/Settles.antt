@@ -8,7 +8,7 @@ use Rattle.std.proofs.Math.Option.{Option, none, some}
 use borrow.Author.Tests.{eq-eqb, ne_eqb}
 use Rattle.language.specs.Program.{flat_typed}
 use Rattle.logic.specs.Options.{is_some}
-use Rattle.logic.specs.Choice.{if◌then◌else◌}
+use Rattle.logic.specs.Choice.{If◌then◌else◌}
 use Rattle.values.specs.Types.{Ty, integer, logical, bits, reference, ty_code}
 use Rattle.values.specs.Ends.{Refusal, refusal}
 use Rattle.values.specs.Operators.{unary, binary}
@@ -104,7 +104,7 @@ swapped : (c : ℕ) (t : Option Ty) → eqb (65536 + c) (ty_num t) ≡ is_ty (re
 swapped c none = ne_eqb (65536 + c) 0 (λ z. omega arith)
 swapped c (some t) = eqb_comm (65536 + c) (ty_code t)
 
-goes : (p : ℕ) (b : Bool) → Settled (if b then Refused 5 p else Fine 1) (if b then refusal 5 p ∷ [] else []) (some integer)
+goes : (p : ℕ) (b : Bool) → Settled (If b then Refused 5 p else Fine 1) (If b then refusal 5 p ∷ [] else []) (some integer)
 goes p true = record { says = ([], refl); types = tt }
 goes p false = record { says = refl; types = refl }
 

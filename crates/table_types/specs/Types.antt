@@ -4,7 +4,7 @@ use Rattle.std.proofs.Common.{sym, arith, eq-eqb, ne_eqb}
 use Rattle.std.proofs.Math.Option.{Option, none, some}
 use Rattle.std.proofs.Math.Decide.{ℕ_discrete}
 use Rattle.logic.specs.Options.{or_else}
-use Rattle.logic.specs.Choice.{if◌then◌else◌}
+use Rattle.logic.specs.Choice.{If◌then◌else◌}
 use Rattle.values.specs.Types.{Ty, integer, logical, bits, reference, ty_code, sames, all_fit}
 use Rattle.values.specs.Operators.{Unary, negate, absolute, complement, Binary, plus, minus, times, divide, remainder, less, at_most, greater, at_least, equal, unequal}
 use Rattle.values.specs.Operators.{both, either, shift_left, shift_right, unary_code, binary_code, Operator, unary, binary, takes, logical_or_bits, any_one, op_type}
@@ -50,11 +50,11 @@ if_none : (x : Bool) (n : ℕ) → if_both x false n ≡ 0
 if_none true n = refl
 if_none false n = refl
 
-taken1 : (x : Bool) (g : Ty) → if_both x true (ty_code g) ≡ ty_num (if x && true then some g else none)
+taken1 : (x : Bool) (g : Ty) → if_both x true (ty_code g) ≡ ty_num (If x && true then some g else none)
 taken1 true g = refl
 taken1 false g = refl
 
-taken2 : (x y : Bool) (g : Ty) → if_both x y (ty_code g) ≡ ty_num (if x && (y && true) then some g else none)
+taken2 : (x y : Bool) (g : Ty) → if_both x y (ty_code g) ≡ ty_num (If x && (y && true) then some g else none)
 taken2 true true g = refl
 taken2 true false g = refl
 taken2 false y g = refl
@@ -85,17 +85,17 @@ any2 (some t) none = rw (ne_eqb (ty_code t) 0 (code-some t))
 any2 (some t) (some u) = rw (ne_eqb (ty_code t) 0 (code-some t), eq-eqb (ty_code t) (ty_code t) refl, eqb_comm (ty_code t) (ty_code u)) (taken1 (eqb (ty_code u) (ty_code t)) logical)
 
 -- logical or bits
-either1 : (n : ℕ) → if_either (eqb n 2) (eqb n 3) n ≡ ty_num (or_else (if eqb n 2 && true then some logical else none) (if eqb n 3 && true then some bits else none))
+either1 : (n : ℕ) → if_either (eqb n 2) (eqb n 3) n ≡ ty_num (or_else (If eqb n 2 && true then some logical else none) (If eqb n 3 && true then some bits else none))
 either1 n = elim (ℕ_discrete n 2) [ yes e ↦ rw e | no e ↦ elim (ℕ_discrete n 3) [ yes z ↦ rw z | no z ↦ rw (ne_eqb n 2 e, ne_eqb n 3 z) ] ]
 
 either2 : (n m : ℕ) → if_both (eqb n m) true (if_either (eqb n 2) (eqb n 3) n)
-    ≡ ty_num (or_else (if eqb n 2 && (eqb m 2 && true) then some logical else none) (if eqb n 3 && (eqb m 3 && true) then some bits else none))
+    ≡ ty_num (or_else (If eqb n 2 && (eqb m 2 && true) then some logical else none) (If eqb n 3 && (eqb m 3 && true) then some bits else none))
 either2 n m = elim (ℕ_discrete n m) [ yes e ↦ rw (← e, eq-eqb n n refl) (go n) | no e ↦ rw (ne_eqb n m e) (apart n m e) ]
   where
-    go : (n : ℕ) → if_either (eqb n 2) (eqb n 3) n ≡ ty_num (or_else (if eqb n 2 && (eqb n 2 && true) then some logical else none) (if eqb n 3 && (eqb n 3 && true) then some bits else none))
+    go : (n : ℕ) → if_either (eqb n 2) (eqb n 3) n ≡ ty_num (or_else (If eqb n 2 && (eqb n 2 && true) then some logical else none) (If eqb n 3 && (eqb n 3 && true) then some bits else none))
     go n = elim (ℕ_discrete n 2) [ yes e ↦ rw e | no e ↦ elim (ℕ_discrete n 3) [ yes z ↦ rw z | no z ↦ rw (ne_eqb n 2 e, ne_eqb n 3 z) ] ]
 
-    apart : (n m : ℕ) → ¬ (n ≡ m) → 0 ≡ ty_num (or_else (if eqb n 2 && (eqb m 2 && true) then some logical else none) (if eqb n 3 && (eqb m 3 && true) then some bits else none))
+    apart : (n m : ℕ) → ¬ (n ≡ m) → 0 ≡ ty_num (or_else (If eqb n 2 && (eqb m 2 && true) then some logical else none) (If eqb n 3 && (eqb m 3 && true) then some bits else none))
     apart n m e =
         elim (ℕ_discrete n 2) [
           | yes y ↦ rw (y, ne_eqb m 2 (λ z. omega arith))
@@ -138,7 +138,7 @@ binary-number shift_left t u = rw (oper2 (binary shift_left) t u) (plain2 bits i
 binary-number shift_right t u = rw (oper2 (binary shift_right) t u) (plain2 bits integer bits t u)
 
 -- ── arguments ──
-and-false : (b : Bool) → (if b then false else false) ≡ false
+and-false : (b : Bool) → (If b then false else false) ≡ false
 and-false true = refl
 and-false false = refl
 
@@ -155,10 +155,10 @@ arguments (some t ∷ ts) [] = go (sequence ts)
 arguments (none ∷ ts) (u ∷ us) = rw (none-not u)
 arguments (some t ∷ ts) (u ∷ us) = rw (arguments ts us) (go (sequence ts))
   where
-    split : (b c : Bool) → (if b then c else false) ≡ (b && c)
+    split : (b c : Bool) → (If b then c else false) ≡ (b && c)
     split true c = refl
     split false c = refl
 
-    go : (x : Option (List Ty)) → (if eqb (ty_code t) (ty_code u) then fit_tys x us else false) ≡ fit_tys (cons_ty (some t) x) (u ∷ us)
+    go : (x : Option (List Ty)) → (If eqb (ty_code t) (ty_code u) then fit_tys x us else false) ≡ fit_tys (cons_ty (some t) x) (u ∷ us)
     go none = and-false (eqb (ty_code t) (ty_code u))
     go (some xs) = split (eqb (ty_code t) (ty_code u)) (all_fit xs us)

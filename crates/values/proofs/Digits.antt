@@ -7,7 +7,7 @@ use native.Mathlib.Omega.{arith}
 use lib.IntN.{ℤ, pos, negsuc, nat_abs}
 use lib.Signed.{lt_z, le_z}
 use borrow.Author.Tests.{le-ltb, le-leb}
-use Rattle.logic.specs.Choice.{if◌then◌else◌}
+use Rattle.logic.specs.Choice.{If◌then◌else◌}
 use Rattle.values.specs.Arithmetic.{each_bit, left_by, right_by, shifted_left, shifted_right}
 
 -- an operation on numbers that takes their lowest bits apart as each_bit does, on numbers of n bits
@@ -24,18 +24,18 @@ module _ (f op : ℕ → ℕ → ℕ) (none : op 0 0 ≡ 0) (step : (a b : ℕ) 
       step a b ∙ rw (by_bits n (a / 2) (b / 2) (omega arith) (omega arith))
 
 -- a count past the last place
-pub moved_out : (left : Bool) (n x : ℕ) → 32 ≤ n → 0 ≡ (if left then left_by n x else right_by n x)
+pub moved_out : (left : Bool) (n x : ℕ) → 32 ≤ n → 0 ≡ (If left then left_by n x else right_by n x)
 unfolding left_by right_by
 moved_out true n x h = rw (le-ltb n 32 h)
 moved_out false n x h = rw (le-ltb n 32 h)
 
 -- a shift, by the sign of its count
-pub shifts_left : (x : ℕ) (n : ℤ) → shifted_left x n ≡ (if le_z (pos 0) n then left_by (nat_abs n) x else right_by (nat_abs n) x)
+pub shifts_left : (x : ℕ) (n : ℤ) → shifted_left x n ≡ (If le_z (pos 0) n then left_by (nat_abs n) x else right_by (nat_abs n) x)
 unfolding shifted_left
 shifts_left x (pos n) = rw (le-leb 0 n (omega arith))
 shifts_left x (negsuc n) = refl
 
-pub shifts_right : (x : ℕ) (n : ℤ) → shifted_right x n ≡ (if lt_z n (pos 0) then left_by (nat_abs n) x else right_by (nat_abs n) x)
+pub shifts_right : (x : ℕ) (n : ℤ) → shifted_right x n ≡ (If lt_z n (pos 0) then left_by (nat_abs n) x else right_by (nat_abs n) x)
 unfolding shifted_right
 shifts_right x (pos n) = rw (le-ltb n 0 (omega arith))
 shifts_right x (negsuc n) = refl

@@ -1,7 +1,7 @@
 -- Exact arithmetic in the integers, brought into 32 bits or ended by a condition; bits and shifts.
 use Rattle.std.specs.Prelude.{Bool, ℕ, zero, suc, ◌+◌, ◌*◌, ◌-◌, ◌/◌, ◌%◌, ◌^◌, min, max, eqb, ltb, ℤ, pos, negsuc, neg_ℤ, nat_abs, ◌+ℤ◌, ◌-ℤ◌, ◌*ℤ◌}
 use Rattle.std.specs.Int.Signed.{mag, quot_z, rem_z}
-use Rattle.logic.specs.Choice.{if◌then◌else◌}
+use Rattle.logic.specs.Choice.{If◌then◌else◌}
 use Rattle.values.specs.Ends.{overflow, zero_divisor}
 
 -- a result, or the condition that ends execution in its place; `mistyped` where an operand is not of the type asked
@@ -13,14 +13,14 @@ pub data Outcome (A : Type 0) : Type 0 where
 -- ── integers ──
 -- 20: "exact result outside 32 bits". mag z is n for n and for −(n + 1)
 unfoldable pub settle : ℤ → Outcome ℤ
-settle z = if ltb (mag z) 2147483648 then gives z else ends overflow
+settle z = If ltb (mag z) 2147483648 then gives z else ends overflow
 
 abbrev pub is_zero : ℤ → Bool
 is_zero z = eqb (nat_abs z) 0
 
 -- 21: "zero divisor", found before the range (T1)
 abbrev pub unless_zero : ℤ → Outcome ℤ → Outcome ℤ
-unless_zero d o = if is_zero d then ends zero_divisor else o
+unless_zero d o = If is_zero d then ends zero_divisor else o
 
 abbrev pub sum : ℤ → ℤ → Outcome ℤ
 sum x y = settle (x +ℤ y)
@@ -61,10 +61,10 @@ not_bits x = 4294967295 - x
 
 -- "Shifts fill with 0; a count of 32 or more gives #0"
 unfoldable pub left_by : ℕ → ℕ → ℕ
-left_by n x = if ltb n 32 then (x * 2 ^ n) % 4294967296 else 0
+left_by n x = If ltb n 32 then (x * 2 ^ n) % 4294967296 else 0
 
 unfoldable pub right_by : ℕ → ℕ → ℕ
-right_by n x = if ltb n 32 then x / 2 ^ n else 0
+right_by n x = If ltb n 32 then x / 2 ^ n else 0
 
 -- "a negative count shifts the other way by its size", also −2147483648 (T7)
 unfoldable pub shifted_left : ℕ → ℤ → ℕ

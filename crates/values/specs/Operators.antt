@@ -1,7 +1,7 @@
 -- The operators of kinds 48 and 49 and of op 7: their numbers, and the types that they take and give.
 use Rattle.std.specs.Prelude.{List, [], ◌∷◌, ℕ, eqb}
 use Rattle.std.proofs.Math.Option.{Option, none, some}
-use Rattle.logic.specs.Choice.{if◌then◌else◌}
+use Rattle.logic.specs.Choice.{If◌then◌else◌}
 use Rattle.logic.specs.Options.{or_else}
 use Rattle.values.specs.Types.{Ty, integer, logical, bits, sames}
 
@@ -42,27 +42,27 @@ binary_code shift_right = 15
 -- the operator of a number
 unfoldable pub unary_of : ℕ → Option Unary
 unary_of n =
-    if eqb n 20 then some negate else
-    if eqb n 21 then some absolute else
-    if eqb n 22 then some complement else none
+    If eqb n 20 then some negate else
+    If eqb n 21 then some absolute else
+    If eqb n 22 then some complement else none
 
 unfoldable pub binary_of : ℕ → Option Binary
 binary_of n =
-    if eqb n 1 then some plus else
-    if eqb n 2 then some minus else
-    if eqb n 3 then some times else
-    if eqb n 4 then some divide else
-    if eqb n 5 then some remainder else
-    if eqb n 6 then some less else
-    if eqb n 7 then some at_most else
-    if eqb n 8 then some greater else
-    if eqb n 9 then some at_least else
-    if eqb n 10 then some equal else
-    if eqb n 11 then some unequal else
-    if eqb n 12 then some both else
-    if eqb n 13 then some either else
-    if eqb n 14 then some shift_left else
-    if eqb n 15 then some shift_right else none
+    If eqb n 1 then some plus else
+    If eqb n 2 then some minus else
+    If eqb n 3 then some times else
+    If eqb n 4 then some divide else
+    If eqb n 5 then some remainder else
+    If eqb n 6 then some less else
+    If eqb n 7 then some at_most else
+    If eqb n 8 then some greater else
+    If eqb n 9 then some at_least else
+    If eqb n 10 then some equal else
+    If eqb n 11 then some unequal else
+    If eqb n 12 then some both else
+    If eqb n 13 then some either else
+    If eqb n 14 then some shift_left else
+    If eqb n 15 then some shift_right else none
 
 -- ── types ──
 -- an operator of either sort, for the one typing function
@@ -72,7 +72,7 @@ pub data Operator : Type 0 where
 
 -- the type given where the operands' types are those asked for
 abbrev pub takes : List Ty → Ty → List Ty → Option Ty
-takes asked given ts = if sames ts asked then some given else none
+takes asked given ts = If sames ts asked then some given else none
 
 -- "`and`, `or`, `not` take logical or bits"
 abbrev pub logical_or_bits : (Ty → List Ty) → List Ty → Option Ty

@@ -3,7 +3,7 @@ use Rattle.std.specs.Prelude.{◌||◌, Bool, true, false, not, ◌&&◌, List, 
 use Rattle.std.specs.Bool.{beq}
 use Rattle.std.proofs.Math.Option.{Option, none, some}
 use Rattle.std.specs.Int.Signed.{lt_z, le_z}
-use Rattle.logic.specs.Choice.{if◌then◌else◌}
+use Rattle.logic.specs.Choice.{If◌then◌else◌}
 use Rattle.logic.specs.Options.{if_some}
 use Rattle.values.specs.Types.{Ty, integer, logical, bits, reference}
 use Rattle.values.specs.Operators.{Unary, negate, absolute, complement, Binary, plus, minus, times, divide, remainder, less, at_most, greater, at_least, equal}
@@ -129,7 +129,7 @@ equality f (int x) w = asked (as_integer w) (λ y. gives (log (f (same_integer x
 equality f (log a) w = asked (as_logical w) (λ b. gives (log (f (beq a b))))
 equality f (bit m) w = asked (as_bits w) (λ n. gives (log (f (eqb m n))))
 equality f (ref c r) w =
-    asked (as_reference w) (λ s. if eqb c s.class then gives (log (f (same_ref r s.target))) else mistyped)
+    asked (as_reference w) (λ s. If eqb c s.class then gives (log (f (same_ref r s.target))) else mistyped)
 
 unfoldable pub apply1 : Unary → Value → Outcome Value
 apply1 negate v = asked (as_integer v) (λ x. map_outcome int (negation x))

@@ -1,6 +1,6 @@
 // Operators on bits: words of 32 bits, and shifts by any count.
 ghost use Rattle.std.specs.Prelude.{◌≡◌, nat_abs};
-ghost use Rattle.logic.specs.Choice.{if◌then◌else◌};
+ghost use Rattle.logic.specs.Choice.{If◌then◌else◌};
 ghost use Rattle.values.specs.Arithmetic.{and_bits, or_bits, not_bits, left_by, right_by, shifted_left, shifted_right};
 
 pub fn and_bits(x: u32, y: u32) -> u32
@@ -23,7 +23,7 @@ pub fn not_bits(x: u32) -> u32
 
 // Moved by n places, filled with 0.
 fn moved(x: u32, n: u32, left: bool) -> u32
-    ensures { result ≡ (if left then left_by n x else right_by n x) }
+    ensures { result ≡ (If left then left_by n x else right_by n x) }
 {
     if 32 <= n {
         return 0;
