@@ -1,7 +1,6 @@
 -- `declare_globals`: whatever finishes the declarations that are left finishes the whole (crates/compile_whole/specs/Declares).
-use borrow.Author.Rules.{rules}
 use native.Mathlib.Omega.{arith}
-use Rattle.compile_whole.specs.Declares.{HeadSoFar, head-start, head-within, head-part, head-fits, head-again, head-end, same_out}
+use Rattle.compile_whole.specs.Declares.{head-start, head-within, head-part, head-fits, head-again, head-end, same_out}
 use Rattle.compile_bodies.proofs.declare_globals.Goals as goal
 
 pub loop-left-init : goal.loop-left-init

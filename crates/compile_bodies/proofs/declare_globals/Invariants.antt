@@ -1,6 +1,4 @@
-use borrow.Author.Rules.{rules}
-use native.Mathlib.Omega.{arith}
-use Rattle.compile_whole.specs.Declares.{HeadSoFar, head-start, head-within, head-part, head-fits, head-again, head-end, same_out}
+use Rattle.compile_whole.specs.Declares.{HeadSoFar}
 use Rattle.compile_bodies.proofs.declare_globals.Given as goal
 
 abbrev pub invariant-loop-left : goal.invariant-loop-left

@@ -2,7 +2,6 @@
 use native.Mathlib.Omega.{arith}
 use mathlib.Core.Path.{sym, ◌∙◌}
 use Rattle.compile_whole.specs.Loop.{global-long, global-asks, global-done, global-none}
-use borrow.Author.Rules.{rules}
 use Rattle.compile_bodies.proofs.global.Goals as goal
 
 pub kind_at-requires : goal.kind_at-requires

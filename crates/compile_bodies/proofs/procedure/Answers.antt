@@ -1,5 +1,4 @@
 -- `procedure`: its heading is entered, and its body is walked (crates/compile_whole/specs/Procs).
-use borrow.Author.Rules.{rules}
 use native.Mathlib.Omega.{arith}
 use Prim.Native.Nat.{◌+◌, ◌/◌}
 use Rattle.compile_whole.specs.Stage.{items-few}

@@ -1,9 +1,7 @@
 -- `compile_bodies::procedures` meets its contract.
 -- `procedures`: whatever finishes the declarations that are left finishes the whole (crates/compile_whole/specs/Loop).
-use borrow.Author.Rules.{rules}
 use native.Mathlib.Omega.{arith}
-use Rattle.compile_whole.specs.Stage.{lent_of}
-use Rattle.compile_whole.specs.Loop.{ProcsSoFar, procs-start, procs-within, procs-asks, procs-next, procs-end}
+use Rattle.compile_whole.specs.Loop.{procs-start, procs-within, procs-asks, procs-next, procs-end}
 use Rattle.compile_bodies.proofs.procedures.Goals as goal
 
 pub loop-left-init : goal.loop-left-init

@@ -1,7 +1,5 @@
-use borrow.Author.Rules.{rules}
-use native.Mathlib.Omega.{arith}
 use Rattle.compile_whole.specs.Stage.{lent_of}
-use Rattle.compile_whole.specs.Loop.{ProcsSoFar, procs-start, procs-within, procs-asks, procs-next, procs-end}
+use Rattle.compile_whole.specs.Loop.{ProcsSoFar}
 use Rattle.compile_bodies.proofs.procedures.Given as goal
 
 abbrev pub invariant-loop-left : goal.invariant-loop-left

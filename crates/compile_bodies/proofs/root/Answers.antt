@@ -1,5 +1,4 @@
 -- `root`: its parts one after the other (crates/compile_whole/specs/Walks).
-use borrow.Author.Rules.{rules}
 use native.Mathlib.Omega.{arith}
 use Rattle.compile_whole.specs.Walks.{root-long, root-place, root-headed, head-fits, root-asks, releases-fit, end_fits, ends_some, root-done}
 use Rattle.compile_bodies.proofs.root.Goals as goal

@@ -1,9 +1,8 @@
 -- `root_holds`: what is counted, with the holds of what is left, are all (crates/compile_whole/specs/Declares).
-use borrow.Author.Rules.{rules}
 use native.Mathlib.Omega.{arith}
 use mathlib.Core.Path.{refl, ap, ◌∙◌}
 use Rattle.compile_emit.specs.EmitEntry.{holds_by}
-use Rattle.compile_whole.specs.Declares.{HoldsSoFar, holds-start, holds-within, holds-few, holds-next, holds-end}
+use Rattle.compile_whole.specs.Declares.{holds-start, holds-within, holds-few, holds-next, holds-end}
 use Rattle.compile_bodies.proofs.root_holds.Goals as goal
 
 pub loop-left-init : goal.loop-left-init

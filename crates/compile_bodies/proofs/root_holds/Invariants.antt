@@ -1,8 +1,4 @@
-use borrow.Author.Rules.{rules}
-use native.Mathlib.Omega.{arith}
-use mathlib.Core.Path.{refl, ap, ◌∙◌}
-use Rattle.compile_emit.specs.EmitEntry.{holds_by}
-use Rattle.compile_whole.specs.Declares.{HoldsSoFar, holds-start, holds-within, holds-few, holds-next, holds-end}
+use Rattle.compile_whole.specs.Declares.{HoldsSoFar}
 use Rattle.compile_bodies.proofs.root_holds.Given as goal
 
 abbrev pub invariant-loop-left : goal.invariant-loop-left

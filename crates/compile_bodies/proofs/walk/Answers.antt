@@ -1,6 +1,5 @@
 -- `walk`: the root, and then the procedures (crates/compile_whole/specs/Walks).
 use Rattle.compile_whole.specs.Walks.{walk-root, walk-procs, walk-done}
-use borrow.Author.Rules.{rules}
 use Rattle.compile_bodies.proofs.walk.Goals as goal
 
 pub root-p-requires : goal.root-p-requires
