@@ -1,4 +1,6 @@
 // The C interface: thin wrappers over the library, their answers packed into one number. include/desk.h declares them for C.
+#![tactic(auto)]
+
 mod check;
 mod compiler;
 mod lent;
