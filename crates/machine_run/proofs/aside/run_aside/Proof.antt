@@ -1,4 +1,4 @@
--- `machine_run::aside::run_aside` meets its contract. Assumes nothing. The invariant, and what each op makes of it, are in `AsideLoop`.
+-- `machine_run::aside::run_aside` meets its contract. The invariant, and what each op makes of it, are in `AsideLoop`.
 use borrow.Author.Rules.{rules}
 use native.Mathlib.Omega.{arith}
 use Prim.Native.Nat.{ℕ, ◌+◌, ◌*◌, ◌-◌, ◌≤◌}

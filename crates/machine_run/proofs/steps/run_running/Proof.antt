@@ -1,4 +1,4 @@
--- `machine_run::steps::run_running` meets its contract. Assumes nothing. The invariant, and that each op's arm keeps it, are in `LoopInvariant`.
+-- `machine_run::steps::run_running` meets its contract. The invariant, and that each op's arm keeps it, are in `LoopInvariant`.
 use borrow.Author.Rules.{rules}
 use native.Mathlib.Omega.{arith}
 use Prim.Native.Nat.{ℕ, ◌+◌, ◌*◌, ◌-◌, ◌≤◌, ◌<◌}

@@ -1,4 +1,4 @@
--- `run::plays::play_passed` meets its contract. Assumes nothing.
+-- `run::plays::play_passed` meets its contract.
 use mathlib.Core.Path.{◌≡◌, ◌∙◌}
 use Prim.Native.Nat.{ℕ}
 use native.Mathlib.Omega.{arith}

@@ -1,4 +1,4 @@
--- `run::plays::play_sound` meets its contract. Assumes nothing.
+-- `run::plays::play_sound` meets its contract.
 use mathlib.Core.Path.{◌≡◌, refl, sym, ◌∙◌}
 use mathlib.Core.Bool.{true}
 use Prim.Native.Nat.{◌-◌}
