@@ -13,7 +13,7 @@ use Rattle.table_entries.specs.Stands.{Stands}
 use Rattle.table_scopes.specs.Items.{items_at, labels_from, block_items}
 use Rattle.table_scopes.specs.Defines.{head_items, label_items, head-items, label-items, heads-stand, items-stand, items-small, labels-small}
 use Rattle.table_scopes.specs.Sees.{Legible}
-use Rattle.compile_code.specs.Code.{At, at}
+use Rattle.compile_code.specs.Code.{At}
 use Rattle.compile_code.specs.Compile.{Around, inside, bound, labels, scopes_of, bound_at, global_at, cell_of, passing, has_label, size_goto, classes_of, class_names}
 use Rattle.compile_names.specs.Good.{GoodHead}
 use Rattle.compile_names.specs.Known.{of_block, first-append, nothing}

@@ -7,7 +7,7 @@ use Rattle.language.specs.Program.{flat_items, result_code, flat_head, flatten}
 use Rattle.logic.specs.Choice.{If◌then◌else◌}
 use Rattle.values.specs.Types.{Ty, ty_byte}
 use Rattle.language.specs.Tree.{Decl, declare, holding, Global, local, class, procedure, Tree, count_items, locals}
-use Rattle.language.specs.Names.{Sort, is_variable, is_label, is_class, is_field, is_procedure, is_control, defines_items, defines_globals, Scope, root_of, found, first_of, lookup}
+use Rattle.language.specs.Names.{Sort, is_variable, is_label, is_class, is_field, is_procedure, is_control, defines_items, defines_globals, Scope, root_of, first_of, lookup}
 use Rattle.language.specs.Faults.{faults, size_global}
 use Rattle.language.specs.Limits.{head_cells}
 use Rattle.language_laws.proofs.Unchanged.{lookup-root}

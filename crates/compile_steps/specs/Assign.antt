@@ -19,7 +19,7 @@ use Rattle.table_entries.specs.Stands.{Stands, stands-left, stands-tail}
 use Rattle.table_scopes.specs.Defines.{name-small}
 use Rattle.table_forms.specs.Part.{Head, head_of, table-next, Passes}
 use Rattle.table_forms.specs.Walk.{Table}
-use Rattle.compile_code.specs.Code.{Code, nil, op, ◌▸◌, at, after}
+use Rattle.compile_code.specs.Code.{Code, nil, op, ◌▸◌, after}
 use Rattle.compile_code.specs.Compile.{storing, cell_of, field_number, code_s, code_e, ty_e}
 use Rattle.compile_code.specs.Encode.{rec, record_of}
 use Rattle.compile_symbols.specs.Numbers.{first_in, second_in}

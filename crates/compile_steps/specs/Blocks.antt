@@ -15,7 +15,7 @@ use Rattle.table_scopes.specs.Environment.{opened}
 use Rattle.table_scopes.specs.Trees.{length-map}
 use Rattle.table_scopes.specs.Defines.{heads-stand}
 use Rattle.table_forms.specs.Part.{table-next}
-use Rattle.compile_code.specs.Code.{Code, cell, ◌▸◌, At, at}
+use Rattle.compile_code.specs.Code.{Code, ◌▸◌, At}
 use Rattle.compile_code.specs.Compile.{Around, inside, bound, labels, scopes_of, held_in, code_s, code_items}
 use Rattle.compile_names.specs.Good.{GoodS}
 use Rattle.compile_output.specs.declared.Cursor.{Cursor}

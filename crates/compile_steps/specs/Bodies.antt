@@ -19,8 +19,8 @@ use Rattle.table_entries.specs.Stands.{Stands, stands-left, stands-within}
 use Rattle.table_scopes.specs.Trees.{length-map, length-Items}
 use Rattle.table_scopes.specs.Defines.{heads-stand}
 use Rattle.table_forms.specs.Part.{table-next}
-use Rattle.compile_code.specs.Code.{Code, ◌▸◌, At, at, after}
-use Rattle.compile_code.specs.Compile.{Around, inside, held, labels, scopes_of, held_in, code_items, code_e}
+use Rattle.compile_code.specs.Code.{Code, ◌▸◌, At, after}
+use Rattle.compile_code.specs.Compile.{Around, inside, labels, scopes_of, held_in, code_items, code_e}
 use Rattle.compile_names.specs.Good.{GoodE}
 use Rattle.compile_output.specs.declared.Cursor.{Cursor}
 use Rattle.compile_output.specs.EmitRecord.{Fits}

@@ -15,7 +15,7 @@ use Rattle.language.specs.Tree.{conditional, fader, block_expr, Exprs, no_expr, 
 use Rattle.language.specs.Names.{block_of, expression_of, loop_of}
 use Rattle.language.specs.Faults.{type_e, is_ty}
 use Rattle.table_scopes.specs.Trees.{length-S, length-E}
-use Rattle.compile_code.specs.Code.{Code, op, cell, ◌▸◌, At, at, skip, after}
+use Rattle.compile_code.specs.Code.{Code, op, ◌▸◌, At, at, skip, after}
 use Rattle.compile_code.specs.Compile.{Around, inside, outermost, bound, global, held, labels, scopes_of, passing, the_labels, has_label, label_at, Way, plainly, marked}
 use Rattle.compile_code.specs.Compile.{if_true, if_false, way_of, code_way, code_goto, code_head, code_s, code_items, code_arms, code_target, code_e, code_es, ops_arms, ty_target, ty_e}
 use Rattle.compile_code.specs.Compile.{code_stored, code_downward, code_upward, code_once, code_entered, code_turned}

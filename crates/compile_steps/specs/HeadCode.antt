@@ -16,7 +16,7 @@ use Rattle.language.specs.Table.{Entry}
 use Rattle.language_laws.specs.Claims.{entries_of}
 use Rattle.table_entries.specs.Entries.{half-part}
 use Rattle.table_entries.specs.Stands.{Stands, fields, stands-tail}
-use Rattle.compile_code.specs.Code.{Code, op, cell, At, at, skip}
+use Rattle.compile_code.specs.Code.{Code, op, At, at, skip}
 use Rattle.compile_code.specs.Compile.{ty_in}
 use Rattle.compile_code.specs.Encode.{record_of}
 use Rattle.compile_symbols.specs.Numbers.{packed, numbers_from, cells_within, type_in, second_in}

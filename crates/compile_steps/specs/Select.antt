@@ -13,7 +13,7 @@ use Rattle.language.specs.Tree.{Expr, Arms, last_arm, arm, select, count_arms, G
 use Rattle.language.specs.Table.{entry}
 use Rattle.table_forms.specs.Part.{head_of, table-next, Passes}
 use Rattle.compile_simulation.specs.Sizes.{len_arms}
-use Rattle.compile_code.specs.Code.{Code, op, mark, cell, ◌▸◌, At, at, skip, taken, after}
+use Rattle.compile_code.specs.Code.{Code, op, mark, cell, ◌▸◌, At, skip, taken, after}
 use Rattle.compile_code.specs.Compile.{Around, scopes_of, passing, found, code_s, code_e, code_arms, ops_arms}
 use Rattle.compile_code.specs.Encode.{rec, record_of}
 use Rattle.compile_symbols.specs.Numbers.{numbers_from, cells_within, second_in, packed}

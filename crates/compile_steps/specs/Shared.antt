@@ -12,7 +12,7 @@ use Rattle.table_scopes.specs.Trees.{length-S, length-E}
 use Rattle.table_scopes.specs.Environment.{env_of}
 use Rattle.table_forms.specs.Walk.{Table}
 use Rattle.table_forms.specs.Part.{table-next}
-use Rattle.compile_code.specs.Code.{Code, op, mark, cell, ◌▸◌, At, at, after}
+use Rattle.compile_code.specs.Code.{Code, op, mark, ◌▸◌, At, after}
 use Rattle.compile_code.specs.Compile.{Around, scopes_of, found, code_e, ty_e}
 use Rattle.compile_symbols.specs.Numbers.{cells_of, cells_within}
 use Rattle.compile_output.specs.declared.Cursor.{Cursor}

@@ -22,7 +22,7 @@ use Rattle.table_scopes.specs.Trees.{length-Es, spans-Es}
 use Rattle.table_forms.specs.Forms.{three, flat-S, deep-S}
 use Rattle.table_forms.specs.Part.{head_of, table-next}
 use Rattle.table_forms.specs.Simple.{count-le, small-name}
-use Rattle.compile_code.specs.Code.{Code, mark, cell, ◌▸◌, At, at, ahead, skip, taken, after}
+use Rattle.compile_code.specs.Code.{Code, mark, ◌▸◌, At, at, ahead, skip, taken, after}
 use Rattle.compile_code.specs.Compile.{found, code_s, code_e, code_es, ty_e, code_stored, code_downward, code_upward, code_once, code_entered, code_turned}
 use Rattle.compile_names.specs.Good.{GoodS}
 use Rattle.compile_symbols.specs.Numbers.{numbers_from, cells_within, second_in, packed}

@@ -17,7 +17,7 @@ use Rattle.compile_code.specs.Encode.{record_of, around_body, code_body, code_pr
 use Rattle.compile_output.specs.declared.Cursor.{Cursor}
 use Rattle.compile_output.specs.EmitRecord.{moved, emit_op, Fits, length-emit}
 use Rattle.compile_output.specs.EmitCode.{cursor_after, emitted, emitted-op, address-after}
-use Rattle.compile_nodes.specs.Ready.{Node, stmt, expr, name, code_n, ends_n, Lent, Kept, Ready, Done, Asks, Answers}
+use Rattle.compile_nodes.specs.Ready.{Node, stmt, expr, code_n, ends_n, Lent, Kept, Ready, Done, Asks, Answers}
 use Rattle.compile_symbols.specs.Tabled.{the_tree}
 use Rattle.compile_whole.specs.Ends.{proc_end, ended_proc, ends_body}
 use Rattle.compile_whole.specs.Stage.{walk_of, lent_of, ReadyProc, heading-of, node_of, body_place, ready-body}

@@ -23,7 +23,7 @@ use Rattle.table_forms.specs.Walk.{Table}
 use Rattle.table_forms.specs.Part.{head_of, table-next, below}
 use Rattle.table_forms.specs.Globals.{heads-here}
 use Rattle.table_forms.specs.Procedures.{Walled}
-use Rattle.bytecode.specs.Instructions.{own, root}
+use Rattle.bytecode.specs.Instructions.{own}
 use Rattle.compile_code.specs.Code.{at}
 use Rattle.compile_code.specs.Compile.{Around, inside, global, scopes_of, held_in, Proc}
 use Rattle.compile_code.specs.Encode.{start_of_root, around_body, code_proc, code_body}

@@ -4,7 +4,7 @@ use mathlib.Core.Path.{ap}
 use Prim.Native.Nat.{ℕ, ◌+◌}
 use Rattle.words.specs.Laws.{Bytes}
 use Rattle.table_entries.specs.Sizes.{size_small}
-use Rattle.table_forms.specs.Tables.{Counted, Whole, root-long, root-reach, root-room}
+use Rattle.table_forms.specs.Tables.{Counted, root-long, root-reach, root-room}
 use Rattle.compile_whole.specs.Compiling.{compile-short, compile-whole, compile-holding, compile-write}
 use Rattle.compile.proofs.compile_accepted.Goals as goal
 

@@ -1,5 +1,4 @@
 -- `compile_in`: by the answer of the check.
-use borrow.Author.Rules.{rules}
 use native.Mathlib.Omega.{arith}
 use mathlib.Core.Path.{◌∙◌}
 use Rattle.compile_whole.specs.Compiling.{accepted-short}

@@ -1,5 +1,4 @@
 -- `write`: what the dry walk counts is the length of the macro, and the ends that it leaves are what the other one aims at (crates/compile_whole/specs/Compiling).
-use borrow.Author.Rules.{rules}
 use native.Mathlib.Omega.{arith}
 use mathlib.Core.Path.{refl, ◌∙◌}
 use lib.ListN.{length-set}
@@ -58,39 +57,37 @@ returns-then-out-length c =
     (c.length-front.ensures (the_tree c.args.table.now) (write-front c.requires.0))) c.if-out-length.true
 
 pub put-requires : goal.put-requires
-put-requires c =
-    (
-      (the_tree c.args.table.now),
-      (write-put c.requires.0 c.cursor.ensures c.walk-dry.ensures _
-          (omega (
-            arith,
-            dry-length c.requires.0 c.cursor.ensures c.walk-dry.ensures
-                (c.length-front.ensures (the_tree c.args.table.now) (write-front c.requires.0)),
-            c.if-out-length.false,
-          ))),
-    )
+put-requires c = (
+  (the_tree c.args.table.now),
+  (write-put c.requires.0 c.cursor.ensures c.walk-dry.ensures _
+      (omega (
+        arith,
+        dry-length c.requires.0 c.cursor.ensures c.walk-dry.ensures
+            (c.length-front.ensures (the_tree c.args.table.now) (write-front c.requires.0)),
+        c.if-out-length.false,
+      ))),
+)
 
 pub walk-requires : goal.walk-requires
-walk-requires c =
-    (
-      write-real c.requires.0 c.cursor.ensures c.walk-dry.ensures
-          (c.length-front.ensures (the_tree c.args.table.now) (write-front c.requires.0))
-          (omega (
-            arith,
-            dry-length c.requires.0 c.cursor.ensures c.walk-dry.ensures
-                (c.length-front.ensures (the_tree c.args.table.now) (write-front c.requires.0)),
-            c.if-out-length.false,
-          ))
-          (c.put.ensures (the_tree c.args.table.now) (write-put c.requires.0 c.cursor.ensures c.walk-dry.ensures _
-          (omega (
-            arith,
-            dry-length c.requires.0 c.cursor.ensures c.walk-dry.ensures
-                (c.length-front.ensures (the_tree c.args.table.now) (write-front c.requires.0)),
-            c.if-out-length.false,
-          ))))
-          c.cursor-2.ensures,
-      omega (arith, c.requires.1, c.walk-dry.ensures.kept.same-stack),
-    )
+walk-requires c = (
+  write-real c.requires.0 c.cursor.ensures c.walk-dry.ensures
+      (c.length-front.ensures (the_tree c.args.table.now) (write-front c.requires.0))
+      (omega (
+        arith,
+        dry-length c.requires.0 c.cursor.ensures c.walk-dry.ensures
+            (c.length-front.ensures (the_tree c.args.table.now) (write-front c.requires.0)),
+        c.if-out-length.false,
+      ))
+      (c.put.ensures (the_tree c.args.table.now) (write-put c.requires.0 c.cursor.ensures c.walk-dry.ensures _
+      (omega (
+        arith,
+        dry-length c.requires.0 c.cursor.ensures c.walk-dry.ensures
+            (c.length-front.ensures (the_tree c.args.table.now) (write-front c.requires.0)),
+        c.if-out-length.false,
+      ))))
+      c.cursor-2.ensures,
+  omega (arith, c.requires.1, c.walk-dry.ensures.kept.same-stack),
+)
 
 pub bounds-out-length : goal.bounds-out-length
 bounds-out-length c =
