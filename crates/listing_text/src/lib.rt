@@ -1,4 +1,6 @@
 // The listing of a table, as text in lent bytes: its events, its totals, and its end or `open 0`; or a refusal.
+#![tactic(auto)]
+
 mod lines;
 mod plays;
 mod totals;
@@ -21,13 +23,13 @@ const ROOM: usize = 4096;
 
 // The steps of a play that stopped for want of room; 0 of any other, after which there is nothing left to play. A play has room for an event, and every
 // event takes a step.
-fn full_steps(p: Played) -> u16
-    ensures { result ≡ full_steps (play_numbers p) }
+fn full_steps(p: &Played) -> u16
+    ensures { result ≡ full_steps (play_numbers p.now) }
 {
     match p {
         Played::Spends(_, _) => 0,
         Played::Finishes(_, _, _) => 0,
-        Played::Fills(n, _) => n,
+        Played::Fills(n, _) => *n,
         Played::Refused(_) => 0,
     }
 }
@@ -52,9 +54,9 @@ fn list_runs(code: &[u8], state: &mut [u8], text: &mut [u8]) -> usize
     while goes {
         let p = run::play(code, state, &readings, left, &mut answers);
         let answer = p.answer;
-        all = totals::count_play(all, &answers, answer, p.readings);
+        all = totals::count_play(all, &answers, &answer, p.readings);
+        let n = full_steps(&answer);
         at = plays::put_played(text, at, &answers, answer, all);
-        let n = full_steps(answer);
         left -= n;
         goes = 0 < n;
     }

@@ -79,7 +79,7 @@ pub fn put_played(text: &mut [u8], at: usize, answers: &[u8], p: Played, t: Tota
     requires { (8 * events_of (play_numbers p) ≤ length answers.now) × (at + length (play_text answers.now (play_numbers p) (totals_of t)) ≤ length text.old) }
     ensures { Puts text.old at (play_text answers.now (play_numbers p) (totals_of t)) text.new result }
 {
-    let events = events_of(p);
+    let events = events_of(&p);
     let next = put_events(text, at, answers, events);
     put_last(text, next, p, t)
 }

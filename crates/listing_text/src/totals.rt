@@ -56,21 +56,21 @@ fn count_events(t: Totals, answers: &[u8], events: usize) -> Totals
 }
 
 // How many events a play wrote; none where it is refused.
-pub fn events_of(p: Played) -> usize
-    ensures { result ≡ events_of (play_numbers p) }
+pub fn events_of(p: &Played) -> usize
+    ensures { result ≡ events_of (play_numbers p.now) }
 {
     match p {
-        Played::Spends(_, events) => events as usize,
-        Played::Finishes(_, _, events) => events as usize,
-        Played::Fills(_, events) => events as usize,
+        Played::Spends(_, events) => *events as usize,
+        Played::Finishes(_, _, events) => *events as usize,
+        Played::Fills(_, events) => *events as usize,
         Played::Refused(_) => 0,
     }
 }
 
 // With a play's events and the readings that its runs took.
-pub fn count_play(t: Totals, answers: &[u8], p: Played, readings: u16) -> Totals
-    requires { (8 * events_of (play_numbers p) ≤ length answers.now) × (Roomy (totals_of t) 65536) × (length answers.now ≤ 65536) }
-    ensures { totals_of result ≡ play_totals answers.now (play_numbers p) readings (totals_of t) }
+pub fn count_play(t: Totals, answers: &[u8], p: &Played, readings: u16) -> Totals
+    requires { (8 * events_of (play_numbers p.now) ≤ length answers.now) × (Roomy (totals_of t) 65536) × (length answers.now ≤ 65536) }
+    ensures { totals_of result ≡ play_totals answers.now (play_numbers p.now) readings (totals_of t) }
 {
     let events = events_of(p);
     let all = count_events(t, answers, events);

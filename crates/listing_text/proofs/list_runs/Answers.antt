@@ -64,6 +64,6 @@ loop-goes-preserved c =
           let paced = comes-to.paced (omega (arith, ltb-true 0 c.full_steps-n.result t, n)) in
           rw c.count_play-all.ensures
           (steps-below _ _ _ _ (omega (arith, paced.0, comes-to.counted, n)) (omega (arith, paced.1, n)) (omega (arith, comes-to.most, n))
-              (tags-grown c.play-p.new.answers 0 _ _) (l.invariant.3 c.loop-goes-test.true)),
+          (tags-grown c.play-p.new.answers 0 _ _) (l.invariant.3 c.loop-goes-test.true)),
       goes_left _ _ _ l.text l.at _ l.invariant.4 _ _ _ _ lines c.put_played-at.ensures,
     )
