@@ -1,5 +1,7 @@
 // Compiles a table: the check, what its definitions stand for, a dry walk that finds the places of its code and the length of its macro
 // (refusal 7), and the walk that writes it.
+#![tactic(auto)]
+
 ghost use Rattle.std.specs.Prelude.{◌≡◌, ◌≤◌, length};
 ghost use Rattle.language.specs.Judge.{compile_on};
 ghost use Rattle.table_check.specs.Checked.{Lends};

@@ -1,4 +1,6 @@
 // The code of the root and of the procedures, one after the other.
+#![tactic(auto)]
+
 ghost use Rattle.std.specs.Prelude.{◌≡◌, true, ◌≤◌, length};
 ghost use Rattle.language.specs.Tree.{locals};
 ghost use Rattle.language.specs.Limits.{head_holds};

@@ -247,7 +247,7 @@ pub fn mark_holds(env: &mut [u32], top: usize, count: usize)
 }
 
 // Where the items of a block begin.
-#[derive(Clone, Copy)]
+#[derive(Drop)]
 pub struct Opened {
     // its holds
     pub holds: usize,
@@ -288,7 +288,7 @@ pub fn open_block(
 }
 
 // ── gotos ──
-#[derive(Clone, Copy)]
+#[derive(Drop)]
 pub struct Landing {
     // the holds that lie between here and the definition of the name
     pub passed: usize,
