@@ -1,1 +1,3 @@
+#![tactic(auto)]
+
 // Theorems only: see specs/. The demands on the whole, each a statement that is read without its proof.
