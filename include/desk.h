@@ -69,15 +69,14 @@ enum cue_tag {
  *
  * Of 3, 4 and 5 the refusal is at the first entry, inner before outer and left to right, that has one of them, and is the least of that entry's.
  * The table is read only. The work is linear in its entries but for looking names up: an entry may walk all names in sight.
- * Stack: under 114,000 bytes: some 72,000 at every call, whatever the table's size, and about 660 for each level of nesting (measured: 113,200 with a block
- * in a block, 64 deep, the most of all that was tried). */
+ * Stack: under 99,000 bytes (measured: 98,096 with each of the tables that were tried, up to 64 deep). */
 uint64_t cue_check(const uint8_t *table, size_t n);
 
 /* The compiler: the table check's refusal, whatever `out` is; or 7 (place 0) where the macro is longer than m bytes; or done, with the macro's length
  * as `second`: then the macro is the first so many bytes of `out`, and those behind it are as they were. A macro that was compiled passes the
  * loading check. Equal tables compile to equal bytes, whatever `out` held. The work is linear in the table's entries but for looking names up, as the
- * check's. Stack: under 200,000 bytes (measured: 195,400 with a fader in a fader, 64 deep, the most of all that was tried; 183,200 with a statement
- * in a statement). */
+ * check's. Stack: under 150,000 bytes (measured: 149,312 with faders in faders around a block expression, 64 deep, the most of all that was tried;
+ * 145,680 with a statement in a statement). */
 uint64_t cue_compile(const uint8_t *table, size_t n, uint8_t *out, size_t m);
 
 /* The loading check: refusal 8 (place: the first record that does not read; an SH whose address is not above that of the SH before it is one) or 9
