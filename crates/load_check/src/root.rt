@@ -11,10 +11,8 @@ pub fn root_at(code: &[u8]) -> usize
 {
     let n = words::wide::byte_at(code, CLASS_COUNT_AT);
     let mut p: usize = HEAD_BYTES;
-    let mut k: usize = 0;
-    while k < n {
+    for k in 0..n {
         p = p + CLASS_BYTES + words::wide::byte_at(code, p + FIELD_COUNT_AT);
-        k += 1;
     }
     p
 }

@@ -7,6 +7,13 @@ ghost use Rattle.words.specs.Numbers.{half_at, word_at, integer_of};
 
 use formats::entries::*;
 
+// What is wrong with a table, and where: the refusal's number, and how many entries stand before the one at fault.
+#[derive(Clone, Copy)]
+pub struct Fault {
+    pub number: u8,
+    pub place: usize,
+}
+
 pub fn kind_at(table: &[u8], place: usize) -> u16
     requires { 8 * (place + 1) ≤ length table.now }
     ensures { result ≡ half_at table.now (8 * place) }
