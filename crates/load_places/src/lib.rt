@@ -5,13 +5,6 @@
 // The index of shapes has one place for so many addresses on end: where the first of their shapes stands.
 pub const SHAPE_GROUP: usize = 8;
 
-// What the record pass tells: the place of the first instruction, or the index of the first record that does not read.
-#[derive(Drop)]
-pub enum Records {
-    Reads(usize),
-    Unread(usize),
-}
-
 #[derive(Drop)]
 pub struct Instruction {
     pub op: usize,

@@ -12,8 +12,7 @@ use Rattle.words.specs.Laws.{Bytes}
 use Rattle.load_places.specs.Records.{classes, bodies, count, shapes, class_place, body_place, first_of, code_place, shape_place, no_mark, no_type, bad_types, bad_head}
 use Rattle.load_places.specs.Records.{bad_class, rises, body_fits, bad_body, shape_fits, bad_shape}
 use Rattle.load_places.specs.Index.{Well, Ready}
-use Rattle.load_places.specs.declared.Records.{Records}
-use Rattle.load_places.specs.declared.Records.TheVariants.{Reads}
+use Rattle.std.specs.Prelude.{Result, Ok}
 use Rattle.load_records.specs.Answer.{Left}
 use Rattle.load_records.proofs.Search.{first-clean}
 use Rattle.logic.specs.Tests.{never, held, no_true, no_false, no-else, neither}
@@ -134,5 +133,5 @@ module _ (l : List ℕ) (B : Bytes l) where
   class-below k h = omega (arith, class-high k, B 2)
 
 -- ── for a caller of scan that was told where the instructions begin ──
-pub ready : (l ix bx cx : List ℕ) (r : Records) (base : ℕ) → r ≡ Reads base → Left l ix bx cx r → Ready l ix bx cx base
+pub ready : (l ix bx cx : List ℕ) (r : Result ℕ ℕ) (base : ℕ) → r ≡ Ok base → Left l ix bx cx r → Ready l ix bx cx base
 ready l ix bx cx r base e R = rw e at R

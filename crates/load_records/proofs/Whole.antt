@@ -9,8 +9,7 @@ use borrow.Author.Tests.{lt-ltb, le-ltb}
 use Rattle.load_places.specs.Search.{first}
 use Rattle.load_places.specs.Records.{classes, bodies, count, class_place, body_place, code_base, shape_place, bad_head, bad_class, bad_body, bad_code, bad_shape, unread, read_end, read_records}
 use Rattle.load_places.specs.Index.{Group, Indexed, Placed, Well, Ready}
-use Rattle.load_places.specs.declared.Records.{Records}
-use Rattle.load_places.specs.declared.Records.TheVariants.{Reads, Unread}
+use Rattle.std.specs.Prelude.{Result, Ok, Err}
 use Rattle.load_records.specs.Answer.{read_of, Left, BaseIs, Passes, Counts}
 use Rattle.load_records.proofs.Search.{first-le, first-clean}
 use Rattle.load_records.proofs.Tests.{end-stands}
@@ -84,6 +83,6 @@ module _ {l : List ℕ} {c m n t : ℕ} (h : bad_head l ≡ false) (N : Counts l
             of-classes = λ j g. Z j (omega (arith, N.of-classes));
           }
 
-pub left : (l ix bx cx : List ℕ) (base p k : ℕ) (r : Records) → read_of r ≡ read_end l p k → BaseIs r base → (length l ≡ p + 2 → Ready l ix bx cx base) → Left l ix bx cx r
-left l ix bx cx base p k (Reads b) d e R = rw e (R (end-stands l p k (sym d)))
-left l ix bx cx base p k (Unread j) d e R = tt
+pub left : (l ix bx cx : List ℕ) (base p k : ℕ) (r : Result ℕ ℕ) → read_of r ≡ read_end l p k → BaseIs r base → (length l ≡ p + 2 → Ready l ix bx cx base) → Left l ix bx cx r
+left l ix bx cx base p k (Ok b) d e R = rw e (R (end-stands l p k (sym d)))
+left l ix bx cx base p k (Err j) d e R = tt

@@ -1,25 +1,23 @@
 -- What the record pass answers and leaves behind, and what its inner passes do.
-use Rattle.std.specs.Prelude.{◌≡◌, Bool, false, cond, not, List, ℕ, ◌+◌, ◌≤◌, ltb, length}
+use Rattle.std.specs.Prelude.{◌≡◌, Bool, false, cond, not, List, ℕ, ◌+◌, ◌≤◌, ltb, length, Result, Ok, Err}
 use Rattle.words.specs.Numbers.{byte_at}
 use Rattle.load_places.specs.Search.{first, Clean}
 use Rattle.load_places.specs.Records.{classes, bodies, count, shapes, no_mark, bad_types, Read, reads, unread}
 use Rattle.load_places.specs.Index.{Ready}
-use Rattle.load_places.specs.declared.Records.{Records}
-use Rattle.load_places.specs.declared.Records.TheVariants.{Reads, Unread}
 
-abbrev pub read_of : Records → Read
-read_of (Reads b) = reads
-read_of (Unread k) = unread k
+abbrev pub read_of : Result ℕ ℕ → Read
+read_of (Ok b) = reads
+read_of (Err k) = unread k
 
 -- where the records read, the indexes are ready
-abbrev pub Left : List ℕ → List ℕ → List ℕ → List ℕ → Records → Type 0
-Left l ix bx cx (Reads b) = Ready l ix bx cx b
-Left l ix bx cx (Unread k) = Unit {0}
+abbrev pub Left : List ℕ → List ℕ → List ℕ → List ℕ → Result ℕ ℕ → Type 0
+Left l ix bx cx (Ok b) = Ready l ix bx cx b
+Left l ix bx cx (Err k) = Unit {0}
 
 -- a macro that reads has its instructions from base
-abbrev pub BaseIs : Records → ℕ → Type 0
-BaseIs (Reads b) base = b ≡ base
-BaseIs (Unread k) base = Unit {0}
+abbrev pub BaseIs : Result ℕ ℕ → ℕ → Type 0
+BaseIs (Ok b) base = b ≡ base
+BaseIs (Err k) base = Unit {0}
 
 -- a record of n bytes with the mark x, y stands at p, and after it as many types as its byte at m says
 unfoldable pub typed_fits : List ℕ → ℕ → ℕ → ℕ → ℕ → ℕ → Bool

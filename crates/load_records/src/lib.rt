@@ -11,7 +11,7 @@ ghost use Rattle.load_records.specs.Answer.{typed_fits, read_of, Left, BaseIs, P
 use formats::compiled::*;
 use formats::limits::*;
 use formats::wide;
-use load_places::{Records, SHAPE_GROUP};
+use load_places::SHAPE_GROUP;
 
 // Whether the bytes a, b are not the mark x, y.
 fn unmarked(a: u8, b: u8, x: u8, y: u8) -> bool
@@ -191,17 +191,17 @@ fn shape_fits(code: &[u8], place: usize, classes: usize, instructions: usize) ->
     words::wide::half_at(code, place + SHAPE_ADDRESS_AT) < instructions
 }
 
-fn read_end(code: &[u8], place: usize, index: usize, base: usize) -> Records
+fn read_end(code: &[u8], place: usize, index: usize, base: usize) -> Result<usize, usize>
     requires { (place < 4294967296) × (index < 4294967296) }
     ensures { (read_of result ≡ read_end code.now place index) × BaseIs result base }
 {
     if no_mark(code, place, END_BYTES, b'Z', b'Z') {
-        return Records::Unread(index);
+        return Err(index);
     }
     if code.len() == place + END_BYTES {
-        Records::Reads(base)
+        Ok(base)
     } else {
-        Records::Unread(index + 1)
+        Err(index + 1)
     }
 }
 
@@ -339,14 +339,15 @@ fn shapes_pass(
     Passed { read: k, end: p }
 }
 
-// The records after the head, into indexes that hold nothing yet.
+// The records after the head, into indexes that hold nothing yet: the place of the first instruction, or the index of the first record that does
+// not read.
 pub fn scan(
     code: &[u8],
     shapes: &mut [u32],
     bodies: &mut [u32],
     classes: &mut [u32],
     instructions: usize,
-) -> Records
+) -> Result<usize, usize>
     requires { (bad_head code.now ≡ false) × (instructions ≡ count code.now) × (instructions ≤ 8 * length shapes.old) × (64 ≤ length bodies.old)
         × (16 ≤ length classes.old) × (Indexed code.now shapes.old instructions 0) }
     ensures { (read_of result ≡ read_records code.now) × Left code.now shapes.new bodies.new classes.new result }
@@ -356,24 +357,24 @@ pub fn scan(
     let shape_count = words::wide::half_at(code, SHAPE_COUNT_AT);
     let c = classes_pass(code, classes, class_count);
     if c.read < class_count {
-        return Records::Unread(1 + c.read);
+        return Err(1 + c.read);
     }
     let b = bodies_pass(code, bodies, c.end, class_count, instructions, body_count);
     let before_bodies = 1 + class_count;
     if b.read < body_count {
-        return Records::Unread(before_bodies + b.read);
+        return Err(before_bodies + b.read);
     }
     let base = b.end;
     let i = code_pass(code, base, instructions);
     let before_code = before_bodies + body_count;
     if i < instructions {
-        return Records::Unread(before_code + i);
+        return Err(before_code + i);
     }
     let from = base + CODE_BYTES * instructions;
     let s = shapes_pass(code, shapes, from, class_count, instructions, shape_count);
     let before_shapes = before_code + instructions;
     if s.read < shape_count {
-        return Records::Unread(before_shapes + s.read);
+        return Err(before_shapes + s.read);
     }
     read_end(code, s.end, before_shapes + shape_count, base)
 }

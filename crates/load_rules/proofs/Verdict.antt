@@ -11,8 +11,7 @@ use Rattle.load_places.specs.Records.{count, bad_head, read_records}
 use Rattle.load_places.specs.Rules.{broken, judge, passes, refused}
 use Rattle.load_places.specs.Index.{vacant, Ready, Indexed}
 use Rattle.load_rules.specs.Moves.{Able}
-use Rattle.load_places.specs.declared.Records.{Records}
-use Rattle.load_places.specs.declared.Records.TheVariants.{Reads, Unread}
+use Rattle.std.specs.Prelude.{Result, Ok, Err}
 use Rattle.load_records.specs.Answer.{read_of}
 
 pub able-ready : (l ix bx cx : List ℕ) (base : ℕ) → Ready l ix bx cx base → count l ≤ 8 * length ix → 64 ≤ length bx → 16 ≤ length cx → Able l ix bx cx
@@ -39,12 +38,12 @@ pub judge-head : (l : List ℕ) → bad_head l ≡ true → refused 8 0 ≡ judg
 unfolding judge read_records
 judge-head l h = rw h
 
-module _ (l : List ℕ) (r : Records) (e : read_of r ≡ read_records l) where
-  pub judge-unread : (k : ℕ) → r ≡ Unread k → refused 8 k ≡ judge l
+module _ (l : List ℕ) (r : Result ℕ ℕ) (e : read_of r ≡ read_records l) where
+  pub judge-unread : (k : ℕ) → r ≡ Err k → refused 8 k ≡ judge l
   unfolding judge
   judge-unread k d = rw (← e, d)
 
-  module _ (base : ℕ) (d : r ≡ Reads base) (n : ℕ) (en : n ≡ count l) (a : ℕ) (ea : a ≡ first (broken l) n) where
+  module _ (base : ℕ) (d : r ≡ Ok base) (n : ℕ) (en : n ≡ count l) (a : ℕ) (ea : a ≡ first (broken l) n) where
     pub judge-broken : a < n → refused 9 a ≡ judge l
     unfolding judge
     judge-broken p = rw (← e, d, ← en, ← ea, lt-ltb a n p)

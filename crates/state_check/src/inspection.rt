@@ -21,7 +21,7 @@ use formats::limits::*;
 use formats::state::*;
 use formats::wide;
 use load_check::Loaded;
-use load_places::{Moved, Records};
+use load_places::Moved;
 use values::Refusal;
 
 // Sound, with the place of the first instruction; unsound (10); or refused with the refusal's number and place.
@@ -423,8 +423,8 @@ fn inspect_in(
 {
     let mut stack = [0u8; MAX_OPERANDS];
     match load_check::scan(code, shapes, bodies, classes, instructions) {
-        Records::Unread(k) => Inspected::Refused(8, k),
-        Records::Reads(base) => {
+        Err(k) => Inspected::Refused(8, k),
+        Ok(base) => {
             let plain = sized_fits(code, bodies, classes, base, state);
             let counts = count_wanted(state, plain);
             let w = walk_tests(
