@@ -19,7 +19,6 @@ use Rattle.values.specs.Operators.{Unary, negate, absolute, complement, Binary, 
 use Rattle.values.specs.Operators.{both, either, shift_left, shift_right, unary_of, binary_of}
 use Rattle.values.specs.Arithmetic.{Outcome, gives, ends, mistyped, sum, difference, product, quotient, rest, negation, magnitude, each_bit, and_bits, or_bits, not_bits, shifted_left, shifted_right}
 use Rattle.values.specs.Values.{int, log, map_outcome, arithmetic, ordering, shift, junction, equality, same_integer, same_ref, as_integer, asked, apply1, apply2}
-use Rattle.values.specs.Answers.{computed}
 use Rattle.machine_ops.specs.declared.operators.Worked.{Worked}
 use Rattle.machine_ops.specs.declared.operators.Worked.TheVariants.{Gives}
 use Rattle.machine_ops.specs.Works.{worked, Says, Works1, Works2}
@@ -28,14 +27,14 @@ use Rattle.machine_ops.specs.Works.{worked, Says, Works1, Works2}
 pub held : (x : ℕ) (z : ℤ) → z ≡ integer_of x → Fits w32 x → to_z w32 (of_z w32 z) ≡ integer_of x
 held x z e f = to_z-of_z w32 z (rw e (to_z-Fits w32 x f)) ∙ e
 
-number : (o : Outcome ℤ) → Says (map_outcome int o) (worked (computed o))
+number : (o : Outcome ℤ) → Says (map_outcome int o) (worked o)
 number (gives z) = refl
 number (ends c) = refl
 number mistyped = tt
 
 -- ── by sort ──
 module _ (x y : ℕ) where
-  arithmetic-says : (f : ℤ → ℤ → Outcome ℤ) (ty tu : Ty) → Says (arithmetic f (word_value ty x) (word_value tu y)) (worked (computed (f (integer_of x) (integer_of y))))
+  arithmetic-says : (f : ℤ → ℤ → Outcome ℤ) (ty tu : Ty) → Says (arithmetic f (word_value ty x) (word_value tu y)) (worked (f (integer_of x) (integer_of y)))
   arithmetic-says f integer integer = number (f (integer_of x) (integer_of y))
   arithmetic-says f integer logical = tt
   arithmetic-says f integer bits = tt
@@ -137,29 +136,29 @@ module _ {n t x y : ℕ} {a b : ℤ} (O : Operands n t x y a b) (r : Worked) whe
       let s : o ≡ o' = cc in
       rw (← s) (f ty tu et h k)
 
-  by-arithmetic : (f : ℤ → ℤ → Outcome ℤ) (o : Binary) → binary_of n ≡ some o → apply2 o ≡ arithmetic f → r ≡ worked (computed (f a b)) → Works2 n t x y r
+  by-arithmetic : (f : ℤ → ℤ → Outcome ℤ) (o : Binary) → binary_of n ≡ some o → apply2 o ≡ arithmetic f → r ≡ worked (f a b) → Works2 n t x y r
   by-arithmetic f o e q er = sort-2 o e (λ ty tu et h k. rw (q, er, O.left, O.right) (arithmetic-says x y f ty tu))
 
   by_ordering : (f : ℤ → ℤ → Bool) (o : Binary) → binary_of n ≡ some o → apply2 o ≡ ordering f → r ≡ Gives (log_word (f a b)) 2 → Works2 n t x y r
   by_ordering f o e q er = sort-2 o e (λ ty tu et h k. rw (q, er, O.left, O.right) (ordering-says x y f ty tu))
 
-  pub works-plus : n ≡ 1 → r ≡ worked (computed (sum a b)) → Works2 n t x y r
+  pub works-plus : n ≡ 1 → r ≡ worked (sum a b) → Works2 n t x y r
   unfolding binary_of apply2
   works-plus e er = by-arithmetic sum plus (rw e) refl er
 
-  pub works-minus : n ≡ 2 → r ≡ worked (computed (difference a b)) → Works2 n t x y r
+  pub works-minus : n ≡ 2 → r ≡ worked (difference a b) → Works2 n t x y r
   unfolding binary_of apply2
   works-minus e er = by-arithmetic difference minus (rw e) refl er
 
-  pub works-times : n ≡ 3 → r ≡ worked (computed (product a b)) → Works2 n t x y r
+  pub works-times : n ≡ 3 → r ≡ worked (product a b) → Works2 n t x y r
   unfolding binary_of apply2
   works-times e er = by-arithmetic product times (rw e) refl er
 
-  pub works-divide : n ≡ 4 → r ≡ worked (computed (quotient a b)) → Works2 n t x y r
+  pub works-divide : n ≡ 4 → r ≡ worked (quotient a b) → Works2 n t x y r
   unfolding binary_of apply2
   works-divide e er = by-arithmetic quotient divide (rw e) refl er
 
-  pub works-remainder : n ≡ 5 → r ≡ worked (computed (rest a b)) → Works2 n t x y r
+  pub works-remainder : n ≡ 5 → r ≡ worked (rest a b) → Works2 n t x y r
   unfolding binary_of apply2
   works-remainder e er = by-arithmetic rest remainder (rw e) refl er
 
@@ -238,17 +237,17 @@ module _ (n t x : ℕ) (r : Worked) where
       let s : o ≡ o' = cc in
       rw (← s) (f ty et h)
 
-  integer-says : (f : ℤ → Outcome ℤ) (ty : Ty) → Says (asked (as_integer (word_value ty x)) (λ z. map_outcome int (f z))) (worked (computed (f (integer_of x))))
+  integer-says : (f : ℤ → Outcome ℤ) (ty : Ty) → Says (asked (as_integer (word_value ty x)) (λ z. map_outcome int (f z))) (worked (f (integer_of x)))
   integer-says f integer = number (f (integer_of x))
   integer-says f logical = tt
   integer-says f bits = tt
   integer-says f (reference c) = tt
 
-  pub works-negate : (a : ℤ) → a ≡ integer_of x → n ≡ 20 → r ≡ worked (computed (negation a)) → Works1 n t x r
+  pub works-negate : (a : ℤ) → a ≡ integer_of x → n ≡ 20 → r ≡ worked (negation a) → Works1 n t x r
   unfolding unary_of apply1
   works-negate a ea e er = sort-1 negate (rw e) (λ ty et h. rw (er, ea) (integer-says negation ty))
 
-  pub works-absolute : (a : ℤ) → a ≡ integer_of x → n ≡ 21 → r ≡ worked (computed (magnitude a)) → Works1 n t x r
+  pub works-absolute : (a : ℤ) → a ≡ integer_of x → n ≡ 21 → r ≡ worked (magnitude a) → Works1 n t x r
   unfolding unary_of apply1
   works-absolute a ea e er = sort-1 absolute (rw e) (λ ty et h. rw (er, ea) (integer-says magnitude ty))
 

@@ -1,5 +1,5 @@
 -- Operators on words with type bytes: what is to be answered for the outcome on the values that they stand for.
-use Rattle.std.specs.Prelude.{◌≡◌, true, ℕ}
+use Rattle.std.specs.Prelude.{◌≡◌, true, ℕ, ℤ}
 use Rattle.std.proofs.Math.Option.{some}
 use Rattle.bytecode.specs.Words.{value_word, valid_word, word_value}
 use Rattle.words.specs.Numbers.{word_of}
@@ -7,15 +7,14 @@ use Rattle.values.specs.Types.{Ty, ty_byte}
 use Rattle.values.specs.Operators.{Unary, Binary, unary_of, binary_of}
 use Rattle.values.specs.Arithmetic.{Outcome, gives, ends, mistyped}
 use Rattle.values.specs.Values.{Value, ty_of, apply1, apply2}
-use Rattle.values.specs.declared.Computed.{Computed}
-use Rattle.values.specs.declared.Computed.TheVariants as computed
 use Rattle.machine_ops.specs.declared.operators.Worked.{Worked}
 use Rattle.machine_ops.specs.declared.operators.Worked.TheVariants.{Gives, Ends}
 
 -- a result on integers, as a word with the type byte 1
-abbrev pub worked : Computed → Worked
-worked (computed.Gives z) = Gives (word_of z) 1
-worked (computed.Ends c) = Ends c
+abbrev pub worked : Outcome ℤ → Worked
+worked (gives z) = Gives (word_of z) 1
+worked (ends c) = Ends c
+worked mistyped = Ends 0  -- no operator on integers gives it
 
 -- of operands that an operator does not take nothing is said
 abbrev pub Says : Outcome Value → Worked → Type 0

@@ -1,7 +1,7 @@
 // Op 7: the operators on values as a run state holds them, words of 32 bits with a type byte.
 ghost use Rattle.std.specs.Prelude.{◌≡◌, eqb};
 ghost use Rattle.bytecode.specs.Words.{log_word};
-ghost use Rattle.values.specs.Answers.{computed};
+ghost use Rattle.values.specs.Answers.{outcome_of};
 ghost use Rattle.values.specs.Arithmetic.{settle as exactly, sum, difference, product};
 ghost use Rattle.values.specs.Values.{same_integer};
 ghost use Rattle.words.specs.Numbers.{integer_of};
@@ -10,7 +10,7 @@ ghost use Rattle.machine_ops.specs.Works.{worked, Works1, Works2};
 ghost use Rattle.machine_ops.specs.declared.operators.Worked.TheVariants.{Gives};
 
 use formats::compiled::*;
-use values::Computed;
+use values::Condition;
 
 // A word and its type byte, or the condition that ends execution in its place.
 #[derive(Drop)]
@@ -19,19 +19,19 @@ pub enum Worked {
     Ends(u8),
 }
 
-fn number(c: Computed) -> Worked
-    ensures { result ≡ worked c }
+fn number(c: Result<i32, Condition>) -> Worked
+    ensures { result ≡ worked (outcome_of c) }
 {
     match c {
-        Computed::Gives(z) => Worked::Gives(words::word_of(z), TYPE_INTEGER),
-        Computed::Ends(e) => Worked::Ends(e),
+        Ok(z) => Worked::Gives(words::word_of(z), TYPE_INTEGER),
+        Err(e) => Worked::Ends(e.number()),
     }
 }
 
-// An exact result of +, − or ×, brought into 32 bits. It is not handed on as a `Computed`: that has eight bytes, which LLVM packs into one register, and
+// An exact result of +, − or ×, brought into 32 bits. It is not handed on as a `Result`: that has eight bytes, which LLVM packs into one register, and
 // whether it overflowed then is a conditional move that the result waits for, where here it is a branch, which is foreseen.
 fn settled(z: i64) -> Worked
-    ensures { result ≡ worked (computed (exactly z)) }
+    ensures { result ≡ worked (exactly z) }
 {
     if z < -2147483648 {
         return Worked::Ends(values::OVERFLOW);
@@ -43,19 +43,19 @@ fn settled(z: i64) -> Worked
 }
 
 fn plus(x: i32, y: i32) -> Worked
-    ensures { result ≡ worked (computed (sum x y)) }
+    ensures { result ≡ worked (sum x y) }
 {
     settled((x as i64) + (y as i64))
 }
 
 fn minus(x: i32, y: i32) -> Worked
-    ensures { result ≡ worked (computed (difference x y)) }
+    ensures { result ≡ worked (difference x y) }
 {
     settled((x as i64) - (y as i64))
 }
 
 fn times(x: i32, y: i32) -> Worked
-    ensures { result ≡ worked (computed (product x y)) }
+    ensures { result ≡ worked (product x y) }
 {
     settled((x as i64) * (y as i64))
 }

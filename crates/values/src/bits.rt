@@ -31,11 +31,11 @@ fn moved(x: u32, n: u32, left: bool) -> u32
     if left { x << n } else { x >> n }
 }
 
-// The size of a count. That of −2147483648 is no i32, so it goes by way of 64 bits.
+// The size of a count.
 fn size(n: i32) -> u32
     ensures { result ≡ nat_abs n }
 {
-    if n < 0 { -(n as i64) as u32 } else { n as u32 }
+    n.unsigned_abs()
 }
 
 // A negative count shifts the other way.

@@ -4,82 +4,81 @@ ghost use Rattle.std.specs.Prelude.{◌≡◌, not};
 ghost use Rattle.std.specs.Int.Signed.{lt_z, le_z};
 ghost use Rattle.values.specs.Arithmetic.{settle as exactly, sum, difference, product, quotient, rest, negation, magnitude};
 ghost use Rattle.values.specs.Values.{same_integer};
-ghost use Rattle.values.specs.Answers.{computed};
+ghost use Rattle.values.specs.Answers.{outcome_of};
 
-use crate::Computed;
-use crate::conditions::{OVERFLOW, ZERO_DIVISOR};
+use crate::Condition;
 
 // An exact result, brought into 32 bits.
-fn settle(z: i64) -> Computed
-    ensures { result ≡ computed (exactly z) }
+fn settle(z: i64) -> Result<i32, Condition>
+    ensures { outcome_of result ≡ exactly z }
 {
     if z < -2147483648 {
-        return Computed::Ends(OVERFLOW);
+        return Err(Condition::Overflow);
     }
     if 2147483647 < z {
-        return Computed::Ends(OVERFLOW);
+        return Err(Condition::Overflow);
     }
-    Computed::Gives(z as i32)
+    Ok(z as i32)
 }
 
-pub fn add(x: i32, y: i32) -> Computed
-    ensures { result ≡ computed (sum x y) }
+pub fn add(x: i32, y: i32) -> Result<i32, Condition>
+    ensures { outcome_of result ≡ sum x y }
 {
     settle((x as i64) + (y as i64))
 }
 
-pub fn subtract(x: i32, y: i32) -> Computed
-    ensures { result ≡ computed (difference x y) }
+pub fn subtract(x: i32, y: i32) -> Result<i32, Condition>
+    ensures { outcome_of result ≡ difference x y }
 {
     settle((x as i64) - (y as i64))
 }
 
-pub fn multiply(x: i32, y: i32) -> Computed
-    ensures { result ≡ computed (product x y) }
+pub fn multiply(x: i32, y: i32) -> Result<i32, Condition>
+    ensures { outcome_of result ≡ product x y }
 {
     settle((x as i64) * (y as i64))
 }
 
-pub fn negate(x: i32) -> Computed
-    ensures { result ≡ computed (negation x) }
+pub fn negate(x: i32) -> Result<i32, Condition>
+    ensures { outcome_of result ≡ negation x }
 {
     if x == -2147483648 {
-        return Computed::Ends(OVERFLOW);
+        return Err(Condition::Overflow);
     }
-    Computed::Gives(-x)
+    Ok(-x)
 }
 
-pub fn absolute(x: i32) -> Computed
-    ensures { result ≡ computed (magnitude x) }
+pub fn absolute(x: i32) -> Result<i32, Condition>
+    ensures { outcome_of result ≡ magnitude x }
 {
     if x < 0 {
         return negate(x);
     }
-    Computed::Gives(x)
+    Ok(x)
 }
 
-pub fn divide(x: i32, y: i32) -> Computed
-    ensures { result ≡ computed (quotient x y) }
+pub fn divide(x: i32, y: i32) -> Result<i32, Condition>
+    ensures { outcome_of result ≡ quotient x y }
 {
     if y == 0 {
-        return Computed::Ends(ZERO_DIVISOR);
+        return Err(Condition::ZeroDivisor);
     }
     if y == -1 { // the only divisor by which a quotient can leave 32 bits
         return negate(x);
     }
-    Computed::Gives(x / y)
+    Ok(x / y)
 }
 
-pub fn remainder(x: i32, y: i32) -> Computed
-    ensures { result ≡ computed (rest x y) }
+pub fn remainder(x: i32, y: i32) -> Result<i32, Condition>
+    ensures { outcome_of result ≡ rest x y }
 {
     if y == 0 {
-        return Computed::Ends(ZERO_DIVISOR);
+        return Err(Condition::ZeroDivisor);
     }
     if y == -1 { // the machine has no remainder where it has no quotient
-        return Computed::Gives(0);
+        return Ok(0);
     }
-    Computed::Gives(x % y)
+    Ok(x % y)
 }
 
 pub fn less(x: i32, y: i32) -> bool

@@ -10,7 +10,7 @@ ghost use Rattle.std.specs.Prelude.{◌≡◌, not, ◌&&◌, ◌||◌};
 
 pub use bits::{and_bits, not_bits, or_bits, shift_left, shift_right};
 pub use conditions::{
-    ASSERT_FALSE, CASE_INDEX, FIELD_OF_NULL, OUT_OF_RANGE, OVERFLOW, STEP_ZERO,
+    ASSERT_FALSE, CASE_INDEX, Condition, FIELD_OF_NULL, OUT_OF_RANGE, OVERFLOW, STEP_ZERO,
     TOO_MANY_ACTIVATIONS, TOO_MANY_RECORDS, ZERO_DIVISOR, is_condition,
 };
 pub use integers::{
@@ -18,16 +18,9 @@ pub use integers::{
     subtract, unequal,
 };
 
-// The result of an operator on integers, or the condition that ends execution in its place.
-#[derive(Drop)]
-pub enum Computed {
-    Gives(i32),
-    Ends(u8),
-}
-
 // Why a table, a macro, a state or a bank of readings was refused: the refusal's number, and its place, an entry, the index of a record or an
 // address; 0 where it has none.
-#[derive(Drop)]
+#[derive(Clone, Copy)]
 pub struct Refusal {
     pub number: u8,
     pub place: u32,

@@ -8,51 +8,32 @@ ghost use Rattle.std.specs.Prelude.{◌≡◌, ◌+◌, ◌≤◌, IfOk, length}
 
 use std::io;
 use std::io::Read;
+use values::Condition;
 
-// What a record comes to: the word of a result, the number of a condition, or nothing where it asks for no operator.
-#[derive(Drop)]
-pub enum Answer {
-    Gives(u32),
-    Ends(u8),
-    Unknown,
-}
+// What a record comes to: the word of a result, or the condition that ends execution in its place; nothing where it asks for no operator.
+pub type Answer = Option<Result<u32, Condition>>;
 
 // Byte 0 is the operator, byte 1 the type of the first operand; the operands' words stand at 4 and 8.
-fn evaluate(s: &[u8], at: usize) -> Answer
-    requires { at + 12 ≤ length s.now }
+fn evaluate(record: &[u8]) -> Answer
+    requires { length record.now ≡ 12 }
 {
-    let x = words::word_at(s, at + 4);
-    let y = words::word_at(s, at + 8);
-    operators::apply(s[at], s[at + 1], x, y)
-}
-
-fn print_number(rt: &impl Print, n: u32) -> io::Result<()> {
-    rt.print(n)
+    let x = words::word_at(record, 4);
+    let y = words::word_at(record, 8);
+    operators::apply(record[0], record[1], x, y)
 }
 
 fn print(rt: &impl Print, a: Answer) -> io::Result<()> {
     match a {
-        Answer::Gives(w) => {
-            rt.write_all(b"gives ")?;
-            print_number(rt, w)?;
-        }
-        Answer::Ends(c) => {
-            rt.write_all(b"ends ")?;
-            print_number(rt, c as u32)?;
-        }
-        Answer::Unknown => {
-            rt.write_all(b"unknown")?;
-        }
+        Some(Ok(w)) => println!(rt; "gives {w}"),
+        Some(Err(c)) => println!(rt; "ends {}", c.number()),
+        None => println!(rt; "unknown"),
     }
-    rt.write_all(b"\n")
 }
 
 // Whole records only: bytes after the last are no record.
 fn print_all(rt: &impl Print, s: &[u8]) -> io::Result<()> {
-    let mut at = 0;
-    while 12 <= s.len() - at {
-        print(rt, evaluate(s, at))?;
-        at += 12;
+    for record in s.chunks_exact(12) {
+        print(rt, evaluate(record))?;
     }
     Ok(())
 }

@@ -5,8 +5,5 @@ use mir.Val.{SFits}
 use native.Mathlib.Omega.{arith}
 use Rattle.machine_ops.proofs.operators.number.Goals as goal
 
-pub returns-in-Gives : goal.returns-in-Gives
-returns-in-Gives c = let f : SFits w32 c.in-Gives.z = record { sfits = omega arith } in rw (c.in-Gives.is, c.word_of.ensures, to_z-of_z w32 _ f)
-
-pub returns-in-Ends : goal.returns-in-Ends
-returns-in-Ends c = rw c.in-Ends.is
+pub returns-in-Ok : goal.returns-in-Ok
+returns-in-Ok c = let f : SFits w32 c.in-Ok.z = record { sfits = omega arith } in rw (c.in-Ok.is, c.word_of.ensures, to_z-of_z w32 _ f)
