@@ -1,17 +1,11 @@
--- `words::put_word` meets its contract.
-use lib.ListN.{length-set}
-use native.Mathlib.Omega.{arith}
-use native.Mathlib.Numerals.{towards_suc}
+-- `words::put_word` meets its contract: `word` does not reduce the highest byte, which to_le_bytes does.
+use Rattle.std.proofs.Common.{arith, ◌≡◌, ◌+◌, ◌-◌, ◌/◌, ◌%◌, take, append_assoc, drop-drop, sym, ◌∙◌}
+use Rattle.std.proofs.lemmas.List.Edits.{sets-eq}
+use Rattle.words.specs.Numbers.{word}
 use Rattle.words.proofs.put_word.Goals as goal
 
-pub bounds-s-at-2 : goal.bounds-s-at-2
-bounds-s-at-2 c = simp length-set (omega arith)
-
-pub bounds-s-at-3 : goal.bounds-s-at-3
-bounds-s-at-3 c = simp length-set (omega arith)
-
-pub bounds-s-at-4 : goal.bounds-s-at-4
-bounds-s-at-4 c = simp length-set (omega arith)
-
 pub returns : goal.returns
-returns c = simp towards_suc
+returns c =
+    let highest : c.args.v / 16777216 % 256 ≡ c.args.v / 16777216 = omega arith in
+    let four : c.args.at + 4 - c.args.at ≡ 4 = omega arith in
+    rw (c.copy_from_slice.ensures.after, c.to_le_bytes.ensures, highest, four, drop-drop) (sym (sets-eq (word c.args.v) c.args.s.now c.args.at c.requires ∙ append_assoc (take c.args.at c.args.s.now) (word c.args.v) _))
