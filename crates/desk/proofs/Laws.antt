@@ -3,6 +3,7 @@ use mathlib.Core.Path.{◌≡◌, refl}
 use mathlib.Core.List.{List}
 use Prim.Native.Nat.{ℕ, ◌<◌}
 use native.Mathlib.Omega.{arith}
+use Rattle.std.specs.Prelude.{Result, Ok, Err}
 use Rattle.words.specs.Laws.{Bytes}
 use Rattle.values.specs.Ends.{Judged, accepted, refused}
 use Rattle.values.specs.Refusals.{refusal_of}
@@ -30,12 +31,8 @@ use Rattle.load_check.specs.declared.Loaded.TheVariants.{Passes, Refused}
 use Rattle.run.specs.Answers.{verdict_of, answer_of, play_numbers}
 use Rattle.run.specs.Fields.{start_small, run_small}
 use Rattle.run.specs.Plays.{Fine, play-fine}
-use Rattle.run.specs.declared.Started.{Started}
-use Rattle.run.specs.declared.Started.TheVariants.{Refused as Declined}
-use Rattle.run.specs.declared.Ran.{Ran}
-use Rattle.run.specs.declared.Ran.TheVariants.{Refused as Unrun}
+use Rattle.machine_run.specs.declared.Answer.{Answer}
 use Rattle.run.specs.declared.Played.{Played}
-use Rattle.run.specs.declared.Played.TheVariants.{Refused as Unplayed}
 
 -- ── the table check ──
 abbrev checked_numbers : Checked → Numbers
@@ -70,32 +67,32 @@ module _ (c : List ℕ) (a : Loaded) (e : a ≡ loaded_of (judge_macro c)) where
   loaded-small B r d = (fields c B r (rw d at e)).1
 
 -- ── the start ──
-module _ (c l k : List ℕ) (a : Started) (e : start_on c l ≡ record { verdict = verdict_of a; bytes = k }) where
-  pub started : (v : Started) → a ≡ v → (r : ℕ) → r ≡ packed (verdict_numbers (verdict_of v)) → (r ≡ packed (verdict_numbers (start_on c l).verdict)) × (k ≡ (start_on c l).bytes)
+module _ (c l k : List ℕ) (a : Result (Unit {0}) Refusal) (e : start_on c l ≡ record { verdict = verdict_of a; bytes = k }) where
+  pub started : (v : Result (Unit {0}) Refusal) → a ≡ v → (r : ℕ) → r ≡ packed (verdict_numbers (verdict_of v)) → (r ≡ packed (verdict_numbers (start_on c l).verdict)) × (k ≡ (start_on c l).bytes)
   started v d r h = rw (e, d) (h, refl)
 
-  pub started-small : Bytes c → (r : Refusal) → a ≡ Declined r → r.place < 16777216
+  pub started-small : Bytes c → (r : Refusal) → a ≡ Err r → r.place < 16777216
   started-small B r d = (start_small c B l (refusal_of r) (rw (e, d))).1
 
 -- ── the run ──
-module _ (c l readings : List ℕ) (allowance : ℕ) (k : List ℕ) (a : Ran) (i : ℕ) (e : run_on c l readings allowance ≡ record { answer = answer_of a; bytes = k; readings = i }) where
-  pub ran : (v : Ran) → a ≡ v → (r : ℕ) → r ≡ packed (answer_numbers (answer_of v))
+module _ (c l readings : List ℕ) (allowance : ℕ) (k : List ℕ) (a : Result Answer Refusal) (i : ℕ) (e : run_on c l readings allowance ≡ record { answer = answer_of a; bytes = k; readings = i }) where
+  pub ran : (v : Result Answer Refusal) → a ≡ v → (r : ℕ) → r ≡ packed (answer_numbers (answer_of v))
       → (r ≡ packed (answer_numbers (run_on c l readings allowance).answer)) × (k ≡ (run_on c l readings allowance).bytes)
   ran v d r h = rw (e, d) (h, refl)
 
-  pub ran-small : Bytes c → Bytes readings → (r : Refusal) → a ≡ Unrun r → r.place < 16777216
+  pub ran-small : Bytes c → Bytes readings → (r : Refusal) → a ≡ Err r → r.place < 16777216
   ran-small B R r d = (run_small c B l readings allowance R (refusal_of r) (rw (e, d))).1
 
 -- ── the play ──
-module _ (c l readings : List ℕ) (allowance : ℕ) (answers k b : List ℕ) (a : Played) (i : ℕ)
+module _ (c l readings : List ℕ) (allowance : ℕ) (answers k b : List ℕ) (a : Result Played Refusal) (i : ℕ)
     (e : play_on c l readings allowance answers ≡ record { answer = play_numbers a; state = k; answers = b; readings = i }) where
-  pub plays : (v : Played) → a ≡ v → (r : ℕ) → r ≡ packed (play_numbers v)
+  pub plays : (v : Result Played Refusal) → a ≡ v → (r : ℕ) → r ≡ packed (play_numbers v)
       → let p = play_on c l readings allowance answers in (r ≡ packed p.answer) × (k ≡ p.state) × (b ≡ p.answers)
   plays v d r h = rw (e, d) (h, refl, refl)
 
-  pub play-small : Bytes c → Bytes readings → allowance < 65536 → (r : Refusal) → a ≡ Unplayed r → r.place < 16777216
+  pub play-small : Bytes c → Bytes readings → allowance < 65536 → (r : Refusal) → a ≡ Err r → r.place < 16777216
   play-small B R w r d =
-      let f : Fine (play_numbers (Unplayed r)) = rw (e, d) at (play-fine c readings B R allowance w l answers) in
+      let f : Fine (play_numbers (Err r)) = rw (e, d) at (play-fine c readings B R allowance w l answers) in
       f.fits.second_fits
 
 -- ── the compiler ──

@@ -2,8 +2,9 @@
 ghost use Rattle.std.specs.Prelude.{◌≡◌};
 ghost use Rattle.desk.specs.Calls.{feed, cue_start, cue_run, cue_play};
 
+use machine_run::Answer;
 use packing::{pack, pack_event, pack_refusal};
-use run::{Played, Ran, Started};
+use run::Played;
 
 // The fresh state of a macro.
 #[unsafe(no_mangle)]
@@ -11,8 +12,8 @@ pub extern "C" fn cue_start(code: &[u8], state: &mut [u8]) -> u64
     ensures { (result ≡ (cue_start code.now state.old).answer) × (state.new ≡ (cue_start code.now state.old).state) }
 {
     match run::start(code, state) {
-        Started::Fresh => pack(1, 0, 0, 0),
-        Started::Refused(refusal) => pack_refusal(refusal),
+        Ok(()) => pack(1, 0, 0, 0),
+        Err(refusal) => pack_refusal(refusal),
     }
 }
 
@@ -25,10 +26,10 @@ pub extern "C" fn cue_run(code: &[u8], state: &mut [u8], readings: &[u8], allowa
     let r = run::run(code, state, readings, allowance);
     let answer = r.answer;
     match answer {
-        Ran::Happens(e, steps) => pack_event(e, steps),
-        Ran::Spends(steps) => pack(2, steps as u64, 0, 0),
-        Ran::Finishes(end, steps) => pack(3, steps as u64, end as u64, 0),
-        Ran::Refused(refusal) => pack_refusal(refusal),
+        Ok(Answer::Happens(e, steps)) => pack_event(e, steps),
+        Ok(Answer::Spends(steps)) => pack(2, steps as u64, 0, 0),
+        Ok(Answer::Finishes(end, steps)) => pack(3, steps as u64, end as u64, 0),
+        Err(refusal) => pack_refusal(refusal),
     }
 }
 
@@ -48,9 +49,9 @@ pub extern "C" fn cue_play(
     let p = run::play(code, state, readings, allowance, answers);
     let answer = p.answer;
     match answer {
-        Played::Spends(steps, events) => pack(2, steps as u64, 0, events as u64),
-        Played::Finishes(end, steps, events) => pack(3, steps as u64, end as u64, events as u64),
-        Played::Fills(steps, events) => pack(8, steps as u64, 0, events as u64),
-        Played::Refused(refusal) => pack_refusal(refusal),
+        Ok(Played::Spends(steps, events)) => pack(2, steps as u64, 0, events as u64),
+        Ok(Played::Finishes(end, steps, events)) => pack(3, steps as u64, end as u64, events as u64),
+        Ok(Played::Fills(steps, events)) => pack(8, steps as u64, 0, events as u64),
+        Err(refusal) => pack_refusal(refusal),
     }
 }

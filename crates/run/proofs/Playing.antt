@@ -3,6 +3,7 @@ use mathlib.Core.Path.{◌≡◌, refl, sym, ap, ◌∙◌}
 use mathlib.Core.List.{List}
 use Prim.Native.Nat.{ℕ, suc, ◌+◌, ◌*◌, ◌-◌, ◌/◌, ◌≤◌, ◌<◌}
 use native.Mathlib.Omega.{arith}
+use Rattle.std.specs.Prelude.{Ok}
 use lib.ListN.{length}
 use lib.Seq.{sets}
 use Rattle.words.specs.Laws.{Bytes}
@@ -30,8 +31,7 @@ use Rattle.machine_ops.specs.declared.Event as machine-event
 use Rattle.machine_run.specs.declared.Answer as machine-answer
 use Rattle.machine_run.specs.declared.Run as machine-run
 use Rattle.machine_run.specs.declared.Answer.TheVariants.{Happens, Spends, Finishes}
-use Rattle.run.specs.declared.Ran.TheVariants as runs
-use Rattle.run.specs.Answers.{answer_of, ran_of}
+use Rattle.run.specs.Answers.{answer_of}
 use Rattle.run.specs.Fields.{state-sound}
 use Rattle.run.specs.Plays.{Later, run-later}
 use Rattle.run.specs.Order.{Standing}
@@ -45,7 +45,7 @@ Within left c (Spends n) = (n ≤ left) × (c ≤ n)
 Within left c (Finishes v n) = (n ≤ left) × (c ≤ n)
 
 pub record Ran-on (c readings l : List ℕ) (left : ℕ) (k : List ℕ) (o : machine-run.Run) : Type 0 where
-  pub is : run_on c l readings left ≡ record { answer = answer_of (ran_of o.answer); bytes = k; readings = o.readings }
+  pub is : run_on c l readings left ≡ record { answer = answer_of (Ok o.answer); bytes = k; readings = o.readings }
   pub standing : Standing c k
   pub within : Within left o.readings o.answer
 
@@ -76,24 +76,24 @@ pub record First (l₀ l : List ℕ) (taken events read : ℕ) : Type 0 where
 
 module _ (allowance : ℕ) {c readings l : List ℕ} {taken : ℕ} {k : List ℕ} {o : machine-run.Run} (X : Ran-on c readings l (allowance - taken) k o) {l₀ : List ℕ} {events read : ℕ}
     (F : First l₀ l taken events read) where
-  first-told : run_on c l₀ readings allowance ≡ record { answer = answer_of (ran_of o.answer); bytes = k; readings = read + o.readings }
+  first-told : run_on c l₀ readings allowance ≡ record { answer = answer_of (Ok o.answer); bytes = k; readings = read + o.readings }
   first-told =
       let z : allowance ≡ allowance - taken = omega (arith, F.no-step) in
       let y : o.readings ≡ read + o.readings = omega (arith, F.none_read) in
       ap (λ (x : ℕ). run_on c l₀ readings x) z
       ∙ ap (λ (x : List ℕ). run_on c x readings (allowance - taken)) (sym F.same)
       ∙ X.is
-      ∙ ap (λ (x : ℕ). record { answer = answer_of (ran_of o.answer); bytes = k; readings = x }) y
+      ∙ ap (λ (x : ℕ). record { answer = answer_of (Ok o.answer); bytes = k; readings = x }) y
 
   pub first-happens : (e : machine-event.Event) (n : ℕ) → o.answer ≡ Happens e n
-      → run_on c l₀ readings allowance ≡ record { answer = answer_of (runs.Happens e n); bytes = k; readings = read + o.readings }
+      → run_on c l₀ readings allowance ≡ record { answer = answer_of (Ok (Happens e n)); bytes = k; readings = read + o.readings }
   first-happens e n d = first-told ∙ rw d
 
-  pub first-spends : (n : ℕ) → o.answer ≡ Spends n → run_on c l₀ readings allowance ≡ record { answer = answer_of (runs.Spends (taken + n)); bytes = k; readings = read + o.readings }
+  pub first-spends : (n : ℕ) → o.answer ≡ Spends n → run_on c l₀ readings allowance ≡ record { answer = answer_of (Ok (Spends (taken + n))); bytes = k; readings = read + o.readings }
   first-spends n d = let z : taken + n ≡ n = omega (arith, F.no-step) in first-told ∙ rw (d, z)
 
   pub first-finishes : (v n : ℕ) → o.answer ≡ Finishes v n
-      → run_on c l₀ readings allowance ≡ record { answer = answer_of (runs.Finishes v (taken + n)); bytes = k; readings = read + o.readings }
+      → run_on c l₀ readings allowance ≡ record { answer = answer_of (Ok (Finishes v (taken + n))); bytes = k; readings = read + o.readings }
   first-finishes v n d = let z : taken + n ≡ n = omega (arith, F.no-step) in first-told ∙ rw (d, z)
 
 pub held : (c l : List ℕ) → Bytes c → Standing c l → machine.Held c l
@@ -126,7 +126,7 @@ module _ (c readings : List ℕ) (B : Bytes c) (R : Bytes readings) (full : leng
       }
     where
       named : (a : Answer) (t : Machine) (i : ℕ) (o : machine-run.Run) → Answers a o.answer → k ≡ encode t → o.readings ≡ i
-          → ◌≡◌ {A = RanOn} (record { answer = a; bytes = encode t; readings = i }) (record { answer = answer_of (ran_of o.answer); bytes = k; readings = o.readings })
+          → ◌≡◌ {A = RanOn} (record { answer = a; bytes = encode t; readings = i }) (record { answer = answer_of (Ok o.answer); bytes = k; readings = o.readings })
       named (happens v n) t i o h b q = rw (h, b, back-event v, q)
       named (spends n) t i o h b q = rw (h, b, q)
       named (finishes d n) t i o h b q = rw (h, b, q)
@@ -188,7 +188,7 @@ module _ (c readings : List ℕ) (allowance : ℕ) where
 
     module _ (more : events < room) (k : List ℕ) (o : machine-run.Run) (X : Ran-on c readings l (allowance - taken) k o) where
       run-next : play_from c readings allowance room 0 0 l₀ a₀
-          ≡ taking (read + o.readings) (after_run (answer_of (ran_of o.answer)) taken events k a (λ n b. play_from c readings allowance (room - suc events) n (suc events) k b))
+          ≡ taking (read + o.readings) (after_run (answer_of (Ok o.answer)) taken events k a (λ n b. play_from c readings allowance (room - suc events) n (suc events) k b))
       run-next =
           let z : room - events ≡ suc (room - suc events) = omega arith in
           P.same

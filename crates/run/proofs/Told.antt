@@ -1,12 +1,10 @@
 -- What a run gives, by what the inspection told.
-use mathlib.Core.Path.{◌≡◌, refl, ◌∙◌}
-use mathlib.Core.Bool.{Bool, true, false, cond}
+use mathlib.Core.Path.{◌≡◌, ◌∙◌}
 use mathlib.Core.List.{List}
 use Prim.Native.Nat.{ℕ}
-use native.Mathlib.Omega.{arith}
+use Rattle.std.specs.Prelude.{Option, Some, None}
 use lib.ListN.{length}
-use lib.Dec.{eqb}
-use borrow.Author.Tests.{ne_eqb, eqb-true, eqb-false}
+use borrow.Author.Tests.{ne_eqb}
 use Rattle.words.specs.Laws.{Bytes}
 use Rattle.values.specs.Ends.{refusal, refused}
 use Rattle.values.specs.Trace.{readings_in}
@@ -34,6 +32,14 @@ module _ (c l bodies classes : List ℕ) (x : Inspected) (I : Inspects c l bodie
   pub told-refused : (n k : ℕ) → x ≡ Refused n k → judge_macro c ≡ refused (refusal n k)
   told-refused n k e = rw e at I
 
+-- by where things stand, if it told that
+module _ (c l bodies classes : List ℕ) (o : Option ℕ) (S : Seen c l bodies classes o) where
+  pub seen : (base : ℕ) → o ≡ Some base → Held c l × Placed c bodies classes base
+  seen base e = rw e at S
+
+  pub unseen : o ≡ None → NotHeld c l
+  unseen e = rw e at S
+
 module _ (c l readings : List ℕ) (allowance : ℕ) where
   -- ── the refusals ──
   pub run-refused : (n p : ℕ) → judge_macro c ≡ refused (refusal n p) → run_on c l readings allowance ≡ record { answer = refuses (refusal n p); bytes = l; readings = 0 }
@@ -55,27 +61,3 @@ module _ (c l readings : List ℕ) (allowance : ℕ) where
     pub run-unread : (length readings ≡ 64 → ⊥) → run_on c l readings allowance ≡ record { answer = refuses (refusal 11 0); bytes = l; readings = 0 }
     unfolding run
     run-unread n = run-held ∙ rw (ne_eqb (length readings) 64 n)
-
-  -- ── 10 before 11: n is the number of the first that refuses, 0 where none does ──
-  module _ (bodies classes : List ℕ) (base : ℕ) (s : Bool) (S : Seen c l bodies classes base s) (n : ℕ) (first : n ≡ cond s (cond (eqb (length readings) 64) 0 11) 10) where
-    pub refused-first : (n ≡ 0 → ⊥) → run_on c l readings allowance ≡ record { answer = refuses (refusal n 0); bytes = l; readings = 0 }
-    refused-first some = go s S (eqb (length readings) 64) refl first
-      where
-        go : (s : Bool) → Seen c l bodies classes base s → (t : Bool) → eqb (length readings) 64 ≡ t → n ≡ cond s (cond t 0 11) 10
-            → run_on c l readings allowance ≡ record { answer = refuses (refusal n 0); bytes = l; readings = 0 }
-        go true S true e h = absurd (some h)
-        go true S false e h = rw h (run-unread S.0 (eqb-false _ _ e))
-        go false S t e h = rw h (run-unsound S)
-
-    pub none_first : n ≡ 0 → (Held c l × Placed c bodies classes base) × (length readings ≡ 64)
-    none_first none = go s S (eqb (length readings) 64) refl first
-      where
-        go : (s : Bool) → Seen c l bodies classes base s → (t : Bool) → eqb (length readings) 64 ≡ t → n ≡ cond s (cond t 0 11) 10 → (Held c l × Placed c bodies classes base) × (length readings ≡ 64)
-        go true S true e h = (S, eqb-true _ _ e)
-        go true S false e h = absurd (omega arith)
-        go false S t e h = absurd (omega arith)
-
--- u is the number of the one, v of the other
-pub ordered : (s t : Bool) (u v n : ℕ) → u ≡ cond s 0 10 → v ≡ cond t 0 11 → n ≡ cond (eqb u 0) v u → n ≡ cond s (cond t 0 11) 10
-ordered true t u v n eu ev en = en ∙ rw (eu, ev)
-ordered false t u v n eu ev en = en ∙ rw eu

@@ -5,9 +5,8 @@ ghost use Rattle.machine_run.specs.Held.{Found};
 ghost use Rattle.bytecode.specs.Play.{play_on};
 ghost use Rattle.run.specs.Answers.{play_numbers};
 ghost use Rattle.run.specs.Order.{Seen, Standing};
-ghost use Rattle.run.specs.Once.{none_read, Goes, GoesOn};
+ghost use Rattle.run.specs.Once.{Goes, GoesOn};
 
-use crate::runs::refusal_of;
 use crate::{Played, PlayedWith};
 use formats::limits::*;
 use machine_ops::Event;
@@ -28,16 +27,6 @@ pub enum Outcome {
 pub struct Gone {
     pub outcome: Outcome,
     pub readings: u16,
-}
-
-// Where no run was made.
-fn unread(p: Played) -> Gone
-    ensures { result ≡ none_read p }
-{
-    Gone {
-        outcome: Outcome::Plays(p),
-        readings: 0,
-    }
 }
 
 // From a state's own bytes.
@@ -97,34 +86,44 @@ fn play_sound(
     }
 }
 
-// Of a macro that passes. What a sound state does not use is made 0 first, so that the bytes after a run are those of the state alone. Without room for an
-// event no run is made, and the state's bytes stay as they are.
+// Of a macro that passes, where `found` says that a state is sound, and where things stand in the macro. What a sound state does not use is made 0 first, so
+// that the bytes after a run are those of the state alone. Without room for an event no run is made, and the state's bytes stay as they are.
 fn play_passed(
     code: &[u8],
     bodies: &[u32],
     classes: &[u32],
-    base: usize,
-    sound: bool,
+    found: Option<usize>,
     state: &mut [u8],
     readings: &[u8],
     allowance: u16,
     once: bool,
     answers: &mut [u8],
-) -> Gone
-    requires { Seen code.now state.old bodies.now classes.now base sound }
+) -> Result<Gone, Refusal>
+    requires { Seen code.now state.old bodies.now classes.now found }
     ensures { GoesOn once code.now readings.now allowance state.old answers.old state.new answers.new result }
 {
-    let number = refusal_of(sound, readings);
-    if number != 0 {
-        return unread(Played::Refused(Refusal { number, place: 0 }));
+    let Some(base) = found else {
+        return Err(Refusal {
+            number: 10,
+            place: 0,
+        });
+    };
+    if readings.len() != FADERS {
+        return Err(Refusal {
+            number: 11,
+            place: 0,
+        });
     }
     if answers.len() < ANSWER_BYTES {
-        return unread(Played::Fills(0, 0));
+        return Ok(Gone {
+            outcome: Outcome::Plays(Played::Fills(0, 0)),
+            readings: 0,
+        });
     }
     state_write::clear(code, bodies, classes, state);
-    play_sound(
+    Ok(play_sound(
         code, bodies, classes, base, state, readings, allowance, once, answers,
-    )
+    ))
 }
 
 // The first run, or as many as fit.
@@ -135,23 +134,24 @@ pub fn go(
     allowance: u16,
     once: bool,
     answers: &mut [u8],
-) -> Gone
+) -> Result<Gone, Refusal>
     ensures { GoesOn once code.now readings.now allowance state.old answers.old state.new answers.new result }
 {
     let mut bodies = [0u32; MAX_BODIES];
     let mut classes = [0u32; MAX_CLASSES];
-    match state_check::inspect(code, state, &mut bodies, &mut classes) {
-        Inspected::Refused(number, place) => unread(Played::Refused(Refusal {
-            number: number as u8,
-            place: place as u32,
-        })),
-        Inspected::Unsound => play_passed(
-            code, &bodies, &classes, 0, false, state, readings, allowance, once, answers,
-        ),
-        Inspected::Sound(base) => play_passed(
-            code, &bodies, &classes, base, true, state, readings, allowance, once, answers,
-        ),
-    }
+    let found = match state_check::inspect(code, state, &mut bodies, &mut classes) {
+        Inspected::Refused(number, place) => {
+            return Err(Refusal {
+                number: number as u8,
+                place: place as u32,
+            });
+        }
+        Inspected::Unsound => None,
+        Inspected::Sound(base) => Some(base),
+    };
+    play_passed(
+        code, &bodies, &classes, found, state, readings, allowance, once, answers,
+    )
 }
 
 pub fn play(
@@ -164,16 +164,21 @@ pub fn play(
     ensures { play_on code.now state.old readings.now allowance answers.old
         ≡ record { answer = play_numbers result.answer; state = state.new; answers = answers.new; readings = result.readings } }
 {
-    let g = go(code, state, readings, allowance, false, answers);
-    let outcome = g.outcome;
-    match outcome {
-        Outcome::Plays(p) => PlayedWith {
-            answer: p,
-            readings: g.readings,
+    match go(code, state, readings, allowance, false, answers) {
+        Err(refusal) => PlayedWith {
+            answer: Err(refusal),
+            readings: 0,
         },
-        Outcome::Happens(e, n) => PlayedWith {
-            answer: Played::Fills(n, 0), // no play hands an event back
-            readings: g.readings,
-        },
+        Ok(g) => {
+            let outcome = g.outcome;
+            let answer = match outcome {
+                Outcome::Plays(p) => p,
+                Outcome::Happens(e, n) => Played::Fills(n, 0), // no play hands an event back
+            };
+            PlayedWith {
+                answer: Ok(answer),
+                readings: g.readings,
+            }
+        }
     }
 }

@@ -3,20 +3,20 @@ ghost use Rattle.std.specs.Prelude.{◌≡◌};
 ghost use Rattle.bytecode.specs.Lent.{start_on};
 ghost use Rattle.run.specs.Answers.{verdict_of};
 
-use crate::Started;
 use formats::compiled::*;
 use formats::state::*;
 use load_check::Loaded;
 use values::Refusal;
 
-pub fn start(code: &[u8], state: &mut [u8]) -> Started
+// The fresh state is written, or the start is refused.
+pub fn start(code: &[u8], state: &mut [u8]) -> Result<(), Refusal>
     ensures { start_on code.now state.old ≡ record { verdict = verdict_of result; bytes = state.new } }
 {
     match state_check::load(code) {
-        Loaded::Refused(refusal) => Started::Refused(refusal),
+        Loaded::Refused(refusal) => Err(refusal),
         Loaded::Passes => {
             if state.len() != STATE_BYTES {
-                return Started::Refused(Refusal {
+                return Err(Refusal {
                     number: 10,
                     place: 0,
                 });
@@ -24,7 +24,7 @@ pub fn start(code: &[u8], state: &mut [u8]) -> Started
             let p = load_check::root_at(code);
             let n = words::wide::byte_at(code, p + CELL_COUNT_AT);
             state_write::write_fresh(code, p + BODY_BYTES, state, n);
-            Started::Fresh
+            Ok(())
         }
     }
 }

@@ -1,9 +1,0 @@
--- `run::runs::first_of` meets its contract.
-use borrow.Author.Tests.{eq-eqb, ne_eqb}
-use Rattle.run.proofs.runs.first_of.Goals as goal
-
-pub returns-then-a-eq0 : goal.returns-then-a-eq0
-returns-then-a-eq0 c = rw (eq-eqb _ _ c.if-a-eq0.true)
-
-pub returns-else-a-eq0 : goal.returns-else-a-eq0
-returns-else-a-eq0 c = rw (ne_eqb _ _ c.if-a-eq0.false)
