@@ -2,6 +2,7 @@
 use mathlib.Core.Path.{◌≡◌, refl, sym, ap, ◌∙◌}
 use mathlib.Core.Bool.{Bool, true, false, cond, not, ◌&&◌}
 use mathlib.Core.List.{List}
+use Rattle.std.specs.Prelude.{Ok, Err}
 use Prim.Native.Nat.{ℕ, zero, suc, ◌+◌, ◌*◌, ◌/◌, ◌-◌, ◌<◌, ◌≤◌}
 use native.Mathlib.Omega.{arith}
 use native.Mathlib.Numerals.{add-one}
@@ -11,7 +12,7 @@ use lib.Seq.{get_or-set_other, get_or-set_same}
 use lib.Dec.{eqb, ltb}
 use borrow.Author.Tests.{ltb-true, ltb-false, lt-ltb, le-ltb}
 use Rattle.words.specs.Numbers.{byte_at, half_at}
-use Rattle.load_places.specs.Search.{seek, first}
+use Rattle.load_places.specs.Search.{first}
 use Rattle.load_places.specs.Records.{class_place, body_place, first_of, code_base, shape_place, address_of, least, rises, body_fits, bad_body, bad_code, shape_fits, bad_shape}
 use Rattle.load_places.specs.Index.{Group, vacant, begins, Indexed, Placed}
 use Rattle.load_records.specs.Answer.{Upto, Passes}
@@ -27,11 +28,13 @@ module _ {bad : ℕ → Bool} {place : ℕ → ℕ} {n : ℕ} where
     pub goes-on : (q : ℕ) → k < n → bad k ≡ false → q ≡ place (k + 1) → Upto bad place n (k + 1) q
     goes-on q h e d = record { within = omega arith; stands = d; clean = clean-more bad k U.clean e }
 
-    pub stops : k < n → bad k ≡ true → Passes bad place n k p
-    stops h e = record { upto = sym (first-hit bad n k U.clean h e); stands = U.stands }
+    pub stops : k < n → bad k ≡ true → Passes bad place n (Err k)
+    stops h e = record { upto = (h, sym (first-hit bad n k U.clean h e)); stands = tt }
 
-    pub finishes : n ≤ k → Passes bad place n k p
-    finishes h = record { upto = sym (first-none bad n k U.clean h U.within); stands = U.stands }
+    pub finishes : n ≤ k → Passes bad place n (Ok p)
+    finishes h =
+        let e : k ≡ n = omega (arith, U.within) in
+        record { upto = sym (first-none bad n k U.clean h U.within ∙ e); stands = U.stands ∙ ap place e }
 
 pub placed-more : (place : ℕ → ℕ) (px : List ℕ) (k p : ℕ) → p ≡ place k → k < length px → Placed place px k → Placed place (set px k p) (k + 1)
 placed-more place px k p e h P j r = elim (ℕ_discrete j k) [
@@ -84,12 +87,8 @@ module _ (l : List ℕ) (base : ℕ) (e : base ≡ code_base l) where
   code-mark i r h d = d ∙ sym (whole l (base + 8 * i) 8 73 78 h) ∙ rw e
 
   -- the pass over those that stand whole, gone down to the first
-  pub code-passed : (n w i r : ℕ) → i ≤ 0 → w ≤ n → (w < n → length l < base + 8 * w + 8) → r ≡ seek (bad_code l) (w - i) i → r ≡ first (bad_code l) n
-  code-passed n w i r z h c q =
-      let a : w - i ≡ w = omega arith in
-      let b : i ≡ 0 = omega arith in
-      let f : r ≡ first (bad_code l) w = rw (a, b) at q in
-      f ∙ sym (first-cut (bad_code l) n w h (λ y. rw (← e) (cut l (base + 8 * w) 8 73 78 (c y))))
+  pub code-passed : (n w r : ℕ) → w ≤ n → (w < n → length l < base + 8 * w + 8) → r ≡ first (bad_code l) w → r ≡ first (bad_code l) n
+  code-passed n w r h c q = q ∙ sym (first-cut (bad_code l) n w h (λ y. rw (← e) (cut l (base + 8 * w) 8 73 78 (c y))))
 
 -- ── the shapes ──
 module _ (ix : List ℕ) (u a p : ℕ) where

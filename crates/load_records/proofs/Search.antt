@@ -75,6 +75,12 @@ pub seek-start : (f : ℕ → Bool) (n : ℕ) → n ≡ seek f (n - n) n
 unfolding seek
 seek-start f n = let a : n - n ≡ 0 = omega arith in rw a
 
+pub seek-whole : (f : ℕ → Bool) (n i r : ℕ) → i ≤ 0 → r ≡ seek f (n - i) i → r ≡ first f n
+seek-whole f n i r h e =
+    let a : n - i ≡ n = omega arith in
+    let b : i ≡ 0 = omega arith in
+    rw (a, b) at e
+
 -- a search that would stop at m anyway need not go further
 seek-cut : (f : ℕ → Bool) (n m i : ℕ) → m ≤ n → (m < n → f (i + m) ≡ true) → seek f n i ≡ seek f m i
 unfolding seek

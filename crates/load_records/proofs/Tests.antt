@@ -8,7 +8,7 @@ use lib.ListN.{length}
 use lib.Dec.{ltb, leb, eqb}
 use borrow.Author.Tests.{eq-eqb, ne_eqb, lt-ltb, le-ltb, ltb-false, eqb-true, not-true}
 use Rattle.words.specs.Numbers.{byte_at, half_at}
-use Rattle.load_places.specs.Search.{seek}
+use Rattle.load_places.specs.Search.{first}
 use Rattle.load_places.specs.Records.{classes, count, class_place, no_mark, no_type, bad_types, bad_head, bad_class, rises, body_fits, shape_fits, read_end, reads, unread}
 use Rattle.load_records.specs.Answer.{typed_fits}
 use Rattle.logic.specs.Tests.{never, by-test, no_true, no_false}
@@ -43,14 +43,10 @@ module _ (c t : ℕ) where
   unfolding no_type
   type-class g = simp (le-ltb _ _ g)
 
--- the pass over type bytes, gone down to the first
-pub types-passed : (l : List ℕ) (p n c i r : ℕ) → c ≡ classes l → i ≤ 0 → r ≡ seek (λ k. no_type c (byte_at l (p + k))) (n - i) i → ltb r n ≡ bad_types l p n
+-- the first of n type bytes that is none
+pub types-passed : (l : List ℕ) (p n c r : ℕ) → c ≡ classes l → r ≡ first (λ k. no_type c (byte_at l (p + k))) n → ltb r n ≡ bad_types l p n
 unfolding bad_types
-types-passed l p n c i r e h q =
-    let z : i ≡ 0 = omega arith in
-    let w : n - i ≡ n = omega arith in
-    let f : r ≡ seek (λ k. no_type c (byte_at l (p + k))) n 0 = rw (w, z) at q in
-    rw (← e, ← f)
+types-passed l p n c r e q = rw (← e, ← q)
 
 -- ── the head ──
 module _ (l : List ℕ) where

@@ -1,23 +1,18 @@
 -- What the record pass answers and leaves behind, and what its inner passes do.
-use Rattle.std.specs.Prelude.{◌≡◌, Bool, false, cond, not, List, ℕ, ◌+◌, ◌≤◌, ltb, length, Result, Ok, Err}
+use Rattle.std.specs.Prelude.{◌≡◌, Bool, false, cond, not, List, ℕ, ◌+◌, ◌≤◌, ◌<◌, ltb, length, Result, Ok, Err, IfOk}
 use Rattle.words.specs.Numbers.{byte_at}
 use Rattle.load_places.specs.Search.{first, Clean}
 use Rattle.load_places.specs.Records.{classes, bodies, count, shapes, no_mark, bad_types, Read, reads, unread}
 use Rattle.load_places.specs.Index.{Ready}
 
-abbrev pub read_of : Result ℕ ℕ → Read
-read_of (Ok b) = reads
+abbrev pub read_of : {A : Type 0} → Result A ℕ → Read
+read_of (Ok x) = reads
 read_of (Err k) = unread k
 
 -- where the records read, the indexes are ready
 abbrev pub Left : List ℕ → List ℕ → List ℕ → List ℕ → Result ℕ ℕ → Type 0
 Left l ix bx cx (Ok b) = Ready l ix bx cx b
 Left l ix bx cx (Err k) = Unit {0}
-
--- a macro that reads has its instructions from base
-abbrev pub BaseIs : Result ℕ ℕ → ℕ → Type 0
-BaseIs (Ok b) base = b ≡ base
-BaseIs (Err k) base = Unit {0}
 
 -- a record of n bytes with the mark x, y stands at p, and after it as many types as its byte at m says
 unfoldable pub typed_fits : List ℕ → ℕ → ℕ → ℕ → ℕ → ℕ → Bool
@@ -32,10 +27,15 @@ pub record Upto (bad : ℕ → Bool) (place : ℕ → ℕ) (n k p : ℕ) : Type 
   pub stands : p ≡ place k
   pub clean : Clean bad k
 
--- a pass over n records went to the first bad one, the k-th, and p is its place
-pub record Passes (bad : ℕ → Bool) (place : ℕ → ℕ) (n k p : ℕ) : Type 0 where
-  pub upto : k ≡ first bad n
-  pub stands : p ≡ place k
+-- none of n records is bad; or the first bad one is the k-th
+abbrev pub Meets : {A : Type 0} → (ℕ → Bool) → ℕ → Result A ℕ → Type 0
+Meets bad n (Ok x) = n ≡ first bad n
+Meets bad n (Err k) = (k < n) × (k ≡ first bad n)
+
+-- a pass over n records met no bad one, and p is the place behind the last; or it went to the first bad one
+pub record Passes (bad : ℕ → Bool) (place : ℕ → ℕ) (n : ℕ) (r : Result ℕ ℕ) : Type 0 where
+  pub upto : Meets bad n r
+  pub stands : IfOk r (λ p. p ≡ place n)
 
 -- the head's counts: classes, bodies, instructions, shapes
 pub record Counts (l : List ℕ) (c m n t : ℕ) : Type 0 where

@@ -1,12 +1,12 @@
 // The record pass: whether a macro's records read, and where each class, body and shape stands.
 #![tactic(auto)]
 
-ghost use Rattle.std.specs.Prelude.{◌≡◌, true, false, cond, not, ◌&&◌, ◌||◌, ℕ, ◌+◌, ◌*◌, ◌/◌, ◌-◌, ◌≤◌, ◌<◌, length, set, eqb, ltb};
+ghost use Rattle.std.specs.Prelude.{◌≡◌, true, false, cond, not, ◌&&◌, ◌||◌, ℕ, ◌+◌, ◌*◌, ◌/◌, ◌-◌, ◌≤◌, ◌<◌, length, set, eqb, ltb, IfOk};
 ghost use Rattle.load_places.specs.Search.{first};
 ghost use Rattle.load_places.specs.Records.{classes as class_count, count, class_place, body_place, code_base, shape_place, no_mark, no_type, bad_types, bad_head, bad_class};
 ghost use Rattle.load_places.specs.Records.{rises, body_fits, bad_body, bad_code, shape_fits, bad_shape, read_end, read_records};
 ghost use Rattle.load_places.specs.Index.{Indexed, Placed};
-ghost use Rattle.load_records.specs.Answer.{typed_fits, read_of, Left, BaseIs, Passes};
+ghost use Rattle.load_records.specs.Answer.{typed_fits, read_of, Left, Passes, Meets};
 
 use formats::compiled::*;
 use formats::limits::*;
@@ -57,9 +57,7 @@ fn bad_types(code: &[u8], place: usize, size: usize, classes: usize) -> bool
     ensures { result ≡ bad_types code.now place size }
 {
     let mut bad = size;
-    let mut i = size;
-    while 0 < i {
-        i -= 1;
+    for i in (0..size).rev() {
         bad = pick(
             no_type(classes, words::wide::byte_at(code, place + i)),
             i,
@@ -191,44 +189,38 @@ fn shape_fits(code: &[u8], place: usize, classes: usize, instructions: usize) ->
     words::wide::half_at(code, place + SHAPE_ADDRESS_AT) < instructions
 }
 
-fn read_end(code: &[u8], place: usize, index: usize, base: usize) -> Result<usize, usize>
+fn read_end(code: &[u8], place: usize, index: usize) -> Result<(), usize>
     requires { (place < 4294967296) × (index < 4294967296) }
-    ensures { (read_of result ≡ read_end code.now place index) × BaseIs result base }
+    ensures { read_of result ≡ read_end code.now place index }
 {
     if no_mark(code, place, END_BYTES, b'Z', b'Z') {
         return Err(index);
     }
     if code.len() == place + END_BYTES {
-        Ok(base)
+        Ok(())
     } else {
         Err(index + 1)
     }
 }
 
-// How many records of a kind read before the first that does not, and where that would stand.
-#[derive(Drop)]
-struct Passed {
-    read: usize,
-    end: usize,
-}
-
+// Each pass over the records of a kind answers the place behind the last of them, or how many read before the first that does not.
+//
 // The classes; their places go to the index.
-fn classes_pass(code: &[u8], classes: &mut [u32], total: usize) -> Passed
+fn classes_pass(code: &[u8], classes: &mut [u32], total: usize) -> Result<usize, usize>
     requires { (total ≡ class_count code.now) × (total ≤ 16) × (16 ≤ length classes.old) }
-    ensures { Passes (bad_class code.now) (class_place code.now) total result.read result.end × (result.end < 8192)
-        × Placed (class_place code.now) classes.new result.read }
+    ensures passes { Passes (bad_class code.now) (class_place code.now) total result }
+    ensures within { IfOk result (λ p. p < 8192) }
+    ensures placed { IfOk result (λ p. Placed (class_place code.now) classes.new total) }
 {
-    let mut k: usize = 0;
     let mut p: usize = HEAD_BYTES;
-    while k < total {
+    for k in 0..total {
         if bad_class(code, p, total) {
-            return Passed { read: k, end: p };
+            return Err(k);
         }
         classes[k] = p as u32;
         p = p + CLASS_BYTES + words::wide::byte_at(code, p + FIELD_COUNT_AT);
-        k += 1;
     }
-    Passed { read: k, end: p }
+    Ok(p)
 }
 
 // The bodies, from the first one's place; their places go to the index.
@@ -239,28 +231,27 @@ fn bodies_pass(
     classes: usize,
     instructions: usize,
     total: usize,
-) -> Passed
+) -> Result<usize, usize>
     requires { (from ≡ body_place code.now 0) × (from < 8192) × (classes ≡ class_count code.now) × (instructions ≡ count code.now) × (total ≤ 64) × (64 ≤ length bodies.old) }
-    ensures { Passes (bad_body code.now) (body_place code.now) total result.read result.end × (result.end < 65536)
-        × Placed (body_place code.now) bodies.new result.read }
+    ensures passes { Passes (bad_body code.now) (body_place code.now) total result }
+    ensures within { IfOk result (λ p. p < 65536) }
+    ensures placed { IfOk result (λ p. Placed (body_place code.now) bodies.new total) }
 {
-    let mut k: usize = 0;
     let mut p: usize = from;
     let mut last: usize = 0;
-    while k < total {
+    for k in 0..total {
         if !body_fits(code, p, classes, instructions) {
-            return Passed { read: k, end: p };
+            return Err(k);
         }
         let a = words::wide::half_at(code, p + FIRST_AT);
         if !rises_from(k, last, a) {
-            return Passed { read: k, end: p };
+            return Err(k);
         }
         bodies[k] = p as u32;
         last = a;
         p = p + BODY_BYTES + words::wide::byte_at(code, p + CELL_COUNT_AT);
-        k += 1;
     }
-    Passed { read: k, end: p }
+    Ok(p)
 }
 
 // How many of the instructions, from base, stand whole within len bytes.
@@ -277,20 +268,18 @@ fn whole_code(len: usize, base: usize, instructions: usize) -> usize
     instructions
 }
 
-// The first of the instructions that does not read. Their marks are looked at without a branch, from the last to the first.
-fn code_pass(code: &[u8], base: usize, instructions: usize) -> usize
+// The instructions. Their marks are looked at without a branch, from the last to the first.
+fn code_pass(code: &[u8], base: usize, instructions: usize) -> Result<(), usize>
     requires { (base ≡ code_base code.now) × (base < 65536) × (instructions < 65536) }
-    ensures { result ≡ first (bad_code code.now) instructions }
+    ensures { Meets (bad_code code.now) instructions result }
 {
     let whole = whole_code(code.len(), base, instructions);
     let mut bad = whole;
-    let mut i = whole;
-    while 0 < i {
-        i -= 1;
+    for i in (0..whole).rev() {
         let p = base + CODE_BYTES * i;
         bad = pick(unmarked(code[p], code[p + 1], b'I', b'N'), i, bad);
     }
-    bad
+    if bad < instructions { Err(bad) } else { Ok(()) }
 }
 
 // The index of shapes gets the place of an address's shape if it is the first of its group: if the least address that it may have is not past the
@@ -314,29 +303,28 @@ fn shapes_pass(
     classes: usize,
     instructions: usize,
     total: usize,
-) -> Passed
+) -> Result<usize, usize>
     requires { (from ≡ shape_place code.now 0) × (from < 1000000) × (classes ≡ class_count code.now) × (instructions ≡ count code.now)
         × (total < 65536) × (instructions ≤ 8 * length shapes.old) × (Indexed code.now shapes.old instructions 0) }
-    ensures { Passes (bad_shape code.now) (shape_place code.now) total result.read result.end × (result.end < 4294967296)
-        × Indexed code.now shapes.new instructions result.read }
+    ensures passes { Passes (bad_shape code.now) (shape_place code.now) total result }
+    ensures within { IfOk result (λ p. p < 4294967296) }
+    ensures indexed { IfOk result (λ p. Indexed code.now shapes.new instructions total) }
 {
-    let mut k: usize = 0;
     let mut p: usize = from;
     let mut least: usize = 0;
-    while k < total {
+    for k in 0..total {
         if !shape_fits(code, p, classes, instructions) {
-            return Passed { read: k, end: p };
+            return Err(k);
         }
         let a = words::wide::half_at(code, p + SHAPE_ADDRESS_AT);
         if a < least {
-            return Passed { read: k, end: p };
+            return Err(k);
         }
         note_shape(shapes, least, a, p);
         least = a + 1;
         p = p + SHAPE_BYTES + words::wide::byte_at(code, p + SHAPE_DEPTH_AT);
-        k += 1;
     }
-    Passed { read: k, end: p }
+    Ok(p)
 }
 
 // The records after the head, into indexes that hold nothing yet: the place of the first instruction, or the index of the first record that does
@@ -355,26 +343,30 @@ pub fn scan(
     let class_count = words::wide::byte_at(code, CLASS_COUNT_AT);
     let body_count = words::wide::byte_at(code, BODY_COUNT_AT);
     let shape_count = words::wide::half_at(code, SHAPE_COUNT_AT);
-    let c = classes_pass(code, classes, class_count);
-    if c.read < class_count {
-        return Err(1 + c.read);
-    }
-    let b = bodies_pass(code, bodies, c.end, class_count, instructions, body_count);
+    let bodies_from = classes_pass(code, classes, class_count).map_err(|k| 1 + k)?;
     let before_bodies = 1 + class_count;
-    if b.read < body_count {
-        return Err(before_bodies + b.read);
-    }
-    let base = b.end;
-    let i = code_pass(code, base, instructions);
+    let base = bodies_pass(
+        code,
+        bodies,
+        bodies_from,
+        class_count,
+        instructions,
+        body_count,
+    )
+    .map_err(|k| before_bodies + k)?;
     let before_code = before_bodies + body_count;
-    if i < instructions {
-        return Err(before_code + i);
-    }
-    let from = base + CODE_BYTES * instructions;
-    let s = shapes_pass(code, shapes, from, class_count, instructions, shape_count);
+    code_pass(code, base, instructions).map_err(|k| before_code + k)?;
+    let shapes_from = base + CODE_BYTES * instructions;
     let before_shapes = before_code + instructions;
-    if s.read < shape_count {
-        return Err(before_shapes + s.read);
-    }
-    read_end(code, s.end, before_shapes + shape_count, base)
+    let end = shapes_pass(
+        code,
+        shapes,
+        shapes_from,
+        class_count,
+        instructions,
+        shape_count,
+    )
+    .map_err(|k| before_shapes + k)?;
+    read_end(code, end, before_shapes + shape_count)?;
+    Ok(base)
 }

@@ -1,12 +1,9 @@
 use mathlib.Core.Path.{◌≡◌}
-use Prim.Native.Nat.{◌+◌, ◌-◌, ◌≤◌}
+use Prim.Native.Nat.{◌+◌, ◌-◌}
 use Rattle.words.specs.Numbers.{byte_at}
 use Rattle.load_places.specs.Search.{seek}
 use Rattle.load_places.specs.Records.{no_type}
 use Rattle.load_records.proofs.bad_types.Given as goal
 
 abbrev pub invariant-loop-i : goal.invariant-loop-i
-invariant-loop-i l = (l.i ≤ l.size) × (l.bad ≡ seek (λ k. no_type l.classes (byte_at l.code (l.place + k))) (l.size - l.i) l.i)
-
-abbrev pub decreases-loop-i : goal.decreases-loop-i
-decreases-loop-i l = l.i
+invariant-loop-i l = (l.bad ≡ seek (λ k. no_type l.classes (byte_at l.code (l.place + k))) (l.size - l.i) l.i)

@@ -10,40 +10,26 @@ use Rattle.load_records.proofs.classes_pass.Goals as goal
 pub loop-k-init : goal.loop-k-init
 loop-k-init c = (law.starts _ (law.class-start _), omega arith, refl, (λ j h. absurd (omega arith)))
 
-pub bad_class-requires : goal.bad_class-requires
-bad_class-requires c = (omega arith, c.requires.0)
-
-pub shape_of-classes-then-bad_class : goal.shape_of-classes-then-bad_class
-shape_of-classes-then-bad_class c = c.loop-k.invariant.2
-
-pub returns-then-bad_class : goal.returns-then-bad_class
-returns-then-bad_class c =
-    let loop = c.loop-k in
-    let I = loop.invariant in (
-      law.stops I.0 (omega arith) (sym (c.bad_class.ensures _ I.0.stands) ∙ c.if-bad_class.true),
-      omega arith,
-      I.3,
-    )
+pub returns-then-bad_class-clause-passes : goal.returns-then-bad_class-clause-passes
+returns-then-bad_class-clause-passes c =
+    let I = c.loop-k.invariant in
+    law.stops I.0 (omega arith) (sym (c.bad_class.ensures _ I.0.stands) ∙ c.if-bad_class.true)
 
 pub byte_at-requires : goal.byte_at-requires
 byte_at-requires c =
-    let loop = c.loop-k in
-    let h = known.class-known _ _ (sym (c.bad_class.ensures _ loop.invariant.0.stands) ∙ c.if-bad_class.false) in
-    let e = loop.invariant.0.stands in
+    let e = c.loop-k.invariant.0.stands in
+    let h = known.class-known _ _ (sym (c.bad_class.ensures _ e) ∙ c.if-bad_class.false) in
     omega arith
 
 pub loop-k-preserved : goal.loop-k-preserved
 loop-k-preserved c =
     let loop = c.loop-k in
     let I = loop.invariant in (
-      law.goes-on I.0 _ (omega arith) (sym (c.bad_class.ensures _ loop.invariant.0.stands) ∙ c.if-bad_class.false) (law.next-class _ _ _ _ I.0.stands c.byte_at.ensures.0),
+      law.goes-on I.0 _ (omega arith) (sym (c.bad_class.ensures _ I.0.stands) ∙ c.if-bad_class.false) (law.next-class _ _ _ _ I.0.stands c.byte_at.ensures.0),
       omega arith,
       simp length-set I.2,
       law.placed-more (class_place c.args.code.now) loop.classes loop.k loop.p I.0.stands (omega arith) I.3,
     )
 
-pub shape_of-classes : goal.shape_of-classes
-shape_of-classes c = c.loop-k.invariant.2
-
-pub returns : goal.returns
-returns c = let I = c.loop-k.invariant in (law.finishes I.0 (omega arith), omega (arith, I.0.within), I.3)
+pub returns-clause-passes : goal.returns-clause-passes
+returns-clause-passes c = law.finishes c.loop-k.invariant.0 (omega arith)

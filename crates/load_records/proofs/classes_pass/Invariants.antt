@@ -1,5 +1,5 @@
 use mathlib.Core.Path.{◌≡◌}
-use Prim.Native.Nat.{◌+◌, ◌*◌, ◌-◌, ◌≤◌}
+use Prim.Native.Nat.{◌+◌, ◌*◌, ◌≤◌}
 use lib.ListN.{length}
 use Rattle.load_places.specs.Records.{bad_class, class_place}
 use Rattle.load_places.specs.Index.{Placed}
@@ -8,6 +8,3 @@ use Rattle.load_records.proofs.classes_pass.Given as goal
 
 abbrev pub invariant-loop-k : goal.invariant-loop-k
 invariant-loop-k l = Upto (bad_class l.code) (class_place l.code) l.total l.k l.p × (l.p ≤ 8 + 258 * l.k) × (length l.classes ≡ length l.initial.classes) × Placed (class_place l.code) l.classes l.k
-
-abbrev pub decreases-loop-k : goal.decreases-loop-k
-decreases-loop-k l = l.total - l.k
