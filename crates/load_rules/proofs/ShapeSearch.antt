@@ -8,6 +8,7 @@ use native.Mathlib.Decide.{ℕ_discrete}
 use lib.Dec.{ltb}
 use lib.ListN.{length, get_or}
 use borrow.Author.Tests.{lt-ltb, le-ltb, ltb-true, ltb-false}
+use Rattle.std.specs.Prelude.{Some}
 use Rattle.logic.specs.Tests.{by-test}
 use Rattle.words.specs.Numbers.{byte_at, half_at}
 use Rattle.load_places.specs.Records.{count, shapes, shape_place, address_of, least, find}
@@ -15,7 +16,7 @@ use Rattle.load_places.specs.Rules.{shape_at}
 use Rattle.load_places.specs.Index.{Group, vacant, begins, Well, Ended}
 use Rattle.load_places.specs.Order.{in_order, find_none, find-between, find_at, shape-past}
 use Rattle.load_places.specs.declared.NextShape.{NextShape}
-use Rattle.load_rules.specs.Moves.{Shaped, ShapeAt, OneOfShapes, NotPast, next_address, Next}
+use Rattle.load_rules.specs.Moves.{Shaped, ShapeAt, ShapeFound, OneOfShapes, NotPast, next_address, Next}
 use Rattle.load_records.proofs.Known.{shape_of}
 
 -- ── where shapes stand ──
@@ -160,8 +161,8 @@ module _ (l : List ℕ) (W : Well l) (E : Ended l) (x p : ℕ) (B : NotPast l x 
     address_is : a ≡ address_of l B.0
     address_is = e ∙ ap (λ (q : ℕ). half_at l (q + 2)) B.2
 
-    pub search-here : a ≡ x → ShapeAt l x p
-    search-here d = here l W B.0 x p (search-shape h) (sym d ∙ address_is) B.2
+    pub search-here : a ≡ x → ShapeFound l x (Some p)
+    search-here d = ((λ z. omega (arith, B.2, shape-past l B.0)), here l W B.0 x p (search-shape h) (sym d ∙ address_is) B.2)
 
     pub search-gone : x < a → ShapeAt l x 0
     search-gone d = nowhere l W (absent l W B.0 x B.1 B.3 (λ g. omega (arith, address_is)))

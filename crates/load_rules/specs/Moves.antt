@@ -1,5 +1,5 @@
 -- How the code holds a flow, and what its workers may take for granted.
-use Rattle.std.specs.Prelude.{◌≡◌, Bool, true, false, cond, List, ℕ, ◌+◌, ◌*◌, ◌<◌, ◌≤◌, ltb, length}
+use Rattle.std.specs.Prelude.{◌≡◌, Bool, true, false, cond, List, ℕ, ◌+◌, ◌*◌, ◌<◌, ◌≤◌, ltb, length, Option, Some, None}
 use Rattle.words.specs.Numbers.{byte_at}
 use Rattle.load_places.specs.Search.{tops}
 use Rattle.load_places.specs.Records.{classes, bodies, count, shapes, class_place, body_place, first_of, shape_place, address_of, least}
@@ -78,6 +78,11 @@ pub record ClassAt (l : List ℕ) (a r : ℕ) : Type 0 where
 pub record ShapeAt (l : List ℕ) (x r : ℕ) : Type 0 where
   pub is : r ≡ shape_at l x
   pub inside : (r ≡ 0 → ⊥) → r + 6 + byte_at l (r + 5) ≤ length l
+
+-- the place of the shape of address x, or none where there is none
+abbrev pub ShapeFound : List ℕ → ℕ → Option ℕ → Type 0
+ShapeFound l x (Some p) = (p ≡ 0 → ⊥) × ShapeAt l x p
+ShapeFound l x None = ShapeAt l x 0
 
 -- ── shapes by rising address ──
 -- p is the place of a shape, or of the end behind the last

@@ -51,5 +51,5 @@ pub fn instruction_at(code: &[u8], base: usize, address: usize) -> Instruction
     let op = words::wide::byte_at(code, at + CODE_OP_AT);
     let a = words::wide::byte_at(code, at + CODE_A_AT);
     let b = words::wide::word_at(code, at + CODE_B_AT);
-    Instruction { op: op, a: a, b: b }
+    Instruction { op, a, b }
 }

@@ -135,10 +135,7 @@ fn op_cell(
 fn is_twofold(t: u8) -> bool
     ensures { result ≡ twofold t }
 {
-    if t == TYPE_LOGICAL {
-        return true;
-    }
-    t == TYPE_BITS
+    matches!(t, TYPE_LOGICAL | TYPE_BITS)
 }
 
 // The operators on two logical values or two bits, and on one.
@@ -225,11 +222,10 @@ fn lands_at(
     if e <= b {
         return false;
     }
-    let p = shape_at(code, shapes, b);
-    if p == 0 {
-        return false;
+    match shape_at(code, shapes, b) {
+        Some(p) => equal_shape(code, p, stack, holds, depth),
+        None => false,
     }
-    equal_shape(code, p, stack, holds, depth)
 }
 
 fn op_go(
@@ -481,11 +477,7 @@ const STEP_ZERO: usize = values::STEP_ZERO as usize;
 fn stops_by(a: usize) -> bool
     ensures { result ≡ stops_by a }
 {
-    match a {
-        CASE_INDEX => true,
-        STEP_ZERO => true,
-        _ => false,
-    }
+    matches!(a, CASE_INDEX | STEP_ZERO)
 }
 
 fn op_stop(a: usize, b: usize, stack: &[u8]) -> Moved

@@ -2,7 +2,7 @@
 ghost use Rattle.std.specs.Prelude.{◌≡◌, ℕ, ◌+◌, ◌≤◌, ◌<◌};
 ghost use Rattle.load_places.specs.Records.{count, shapes as shape_count, code_base, shape_place};
 ghost use Rattle.load_places.specs.Index.{Well, Ended};
-ghost use Rattle.load_rules.specs.Moves.{Shaped, ShapeAt, OneOfShapes, next_address, Next, NotPast};
+ghost use Rattle.load_rules.specs.Moves.{Shaped, ShapeFound, OneOfShapes, next_address, Next, NotPast};
 
 use crate::lookup::wide;
 use formats::compiled::*;
@@ -19,15 +19,12 @@ fn shape_read(code: &[u8], place: usize) -> NextShape
 {
     if place + END_BYTES == code.len() {
         return NextShape {
-            place: place,
+            place,
             address: NO_ADDRESS,
         };
     }
     let address = words::wide::half_at(code, place + SHAPE_ADDRESS_AT);
-    NextShape {
-        place: place,
-        address: address,
-    }
+    NextShape { place, address }
 }
 
 pub fn first_shape(code: &[u8], base: usize, instructions: usize) -> NextShape
@@ -49,32 +46,34 @@ pub fn shape_after(code: &[u8], next: NextShape, address: usize) -> NextShape
     shape_read(code, next.place + SHAPE_BYTES + types)
 }
 
-// The shape of an address, from a place on that is not past it; 0 if there is none.
-fn search_shape(code: &[u8], from: usize, address: usize) -> usize
+// The shape of an address, from a place on that is not past it.
+fn search_shape(code: &[u8], from: usize, address: usize) -> Option<usize>
     requires { (Well code.now) × (Ended code.now) × (NotPast code.now address from) × (address < count code.now) }
-    ensures { ShapeAt code.now address result }
+    ensures { ShapeFound code.now address result }
 {
     let mut p = from;
+    // Kept (point 3): the records are of unequal sizes, and the search may stop at each; no count of what is left is at hand for a `for`.
     while p + END_BYTES < code.len() {
         let a = words::wide::half_at(code, p + SHAPE_ADDRESS_AT);
         if a == address {
-            return p;
+            return Some(p);
         }
         if address < a {
-            return 0;
+            return None;
         }
         p = p + SHAPE_BYTES + words::wide::byte_at(code, p + SHAPE_DEPTH_AT);
     }
-    0
+    None
 }
 
-pub fn shape_at(code: &[u8], shapes: &[u32], address: usize) -> usize
+// In the index 0 stands for a group without a shape: no record stands at the head's place.
+pub fn shape_at(code: &[u8], shapes: &[u32], address: usize) -> Option<usize>
     requires { (Shaped code.now shapes.now) × (address < count code.now) }
-    ensures { ShapeAt code.now address result }
+    ensures { ShapeFound code.now address result }
 {
     let from = wide(shapes[address / SHAPE_GROUP]);
     if from == 0 {
-        return 0;
+        return None;
     }
     search_shape(code, from, address)
 }

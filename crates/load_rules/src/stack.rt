@@ -107,13 +107,10 @@ fn same_types(code: &[u8], place: usize, stack: &[u8], depth: usize) -> bool
     requires { (place + depth ≤ length code.now) × (depth ≤ length stack.now) }
     ensures { result ≡ alike (tops stack.now 0 depth) (tops code.now place depth) }
 {
-    let mut i: usize = depth;
-    while 0 < i {
-        let j = i - 1;
-        if stack[j] != code[place + j] {
+    for i in (0..depth).rev() {
+        if stack[i] != code[place + i] {
             return false;
         }
-        i = j;
     }
     true
 }
@@ -138,10 +135,8 @@ pub fn load_types(code: &[u8], place: usize, stack: &mut [u8], depth: usize)
     requires { (place + depth ≤ length code.now) × (depth ≤ length stack.old) }
     ensures { tops stack.new 0 depth ≡ tops code.now place depth }
 {
-    let mut i: usize = 0;
-    while i < depth {
+    for i in 0..depth {
         stack[i] = code[place + i];
-        i += 1;
     }
 }
 
@@ -157,17 +152,15 @@ pub fn take_types(
     requires { (place + number ≤ length code.now) × (Stack stack.now holds depth) }
     ensures { Moves stack.now result (takes code.now place number holds (tops stack.now 0 depth)) }
 {
-    let mut n: usize = number;
-    let mut e: usize = depth;
-    while 0 < n {
+    let mut e = depth;
+    for n in (0..number).rev() {
         if e == 0 {
             return Moved::Bad;
         }
-        if stack[e - 1] != code[place + (n - 1)] {
+        if stack[e - 1] != code[place + n] {
             return Moved::Bad;
         }
-        e = e - 1;
-        n = n - 1;
+        e -= 1;
     }
     Moved::Goes(holds, e)
 }

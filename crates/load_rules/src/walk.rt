@@ -77,10 +77,7 @@ fn is_plain(body: usize, parameters: usize, res: usize) -> bool
     requires { (parameters < 256) × (res < 256) }
     ensures { result ≡ plain body parameters res }
 {
-    if body != 0 {
-        return true;
-    }
-    parameters + res == 0
+    body != 0 || parameters + res == 0
 }
 
 fn open_body(
@@ -230,8 +227,8 @@ pub fn first_body(code: &[u8], bodies: &[u32]) -> Within
     let end = end_of(code, bodies, 0);
     Within {
         body: 0,
-        first: first,
-        end: end,
+        first,
+        end,
     }
 }
 
@@ -253,16 +250,12 @@ pub fn next_body(code: &[u8], bodies: &[u32], within: Within, address: usize) ->
     Within {
         body: k,
         first: j,
-        end: end,
+        end,
     }
 }
 
 pub fn is_bad(flow: Moved) -> bool
     ensures { result ≡ is_bad_move flow }
 {
-    match flow {
-        Moved::Goes(_, _) => false,
-        Moved::Ends => false,
-        Moved::Bad => true,
-    }
+    matches!(flow, Moved::Bad)
 }

@@ -1,6 +1,6 @@
 -- `load_rules::ops::lands_at` meets its contract.
 use native.Mathlib.Omega.{arith}
-use mathlib.Core.Path.{◌∙◌}
+use mathlib.Core.Path.{refl, ◌∙◌}
 use Rattle.load_rules.proofs.Places.{end-within}
 use Rattle.load_rules.proofs.Jumps.{lands-below, lands-past, lands-none, lands-some}
 use Rattle.load_rules.proofs.ops.lands_at.Goals as goal
@@ -13,22 +13,22 @@ returns-then-e-b c =
     lands-past _ _ _ _ _ _ c.body_at-q.ensures.is _ c.half_at-f.ensures.0
     (omega arith) _ c.end_of-e.ensures (omega arith)
 
-pub shape_at-p-requires : goal.shape_at-p-requires
-shape_at-p-requires c =
+pub shape_at-requires : goal.shape_at-requires
+shape_at-requires c =
     (c.requires.0, omega (arith, c.end_of-e.ensures, end-within _ c.args.body c.requires.0.well))
 
-pub returns-then-p-eq0 : goal.returns-then-p-eq0
-returns-then-p-eq0 c =
+pub returns-in-None : goal.returns-in-None
+returns-in-None c =
     lands-none _ _ _ _ _ _ c.body_at-q.ensures.is _
     c.half_at-f.ensures.0 (omega arith) _ c.end_of-e.ensures (omega arith) _
-    c.shape_at-p.ensures.is c.if-p-eq0.true
+    c.in-None.ensures.is refl
 
 pub equal_shape-requires : goal.equal_shape-requires
 equal_shape-requires c =
-    (c.shape_at-p.ensures.inside c.if-p-eq0.false, c.requires.3, c.requires.4)
+    (c.in-Some.ensures.1.inside c.in-Some.ensures.0, c.requires.3, c.requires.4)
 
-pub returns : goal.returns
-returns c =
+pub returns-in-Some : goal.returns-in-Some
+returns-in-Some c =
     c.equal_shape.ensures ∙ lands-some _ _ _ _ _ _ c.body_at-q.ensures.is _
     c.half_at-f.ensures.0 (omega arith) _ c.end_of-e.ensures
-    (omega arith) _ c.shape_at-p.ensures.is c.if-p-eq0.false
+    (omega arith) _ c.in-Some.ensures.1.is c.in-Some.ensures.0

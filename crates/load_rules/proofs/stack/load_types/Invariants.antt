@@ -1,11 +1,7 @@
 use mathlib.Core.Path.{◌≡◌}
-use Prim.Native.Nat.{◌-◌, ◌≤◌}
 use lib.ListN.{length}
 use Rattle.load_places.specs.Search.{tops}
 use Rattle.load_rules.proofs.stack.load_types.Given as goal
 
 abbrev pub invariant-loop-i : goal.invariant-loop-i
-invariant-loop-i l = (l.i ≤ l.depth) × (length l.stack ≡ length l.initial.stack) × (tops l.stack 0 l.i ≡ tops l.code l.place l.i)
-
-abbrev pub decreases-loop-i : goal.decreases-loop-i
-decreases-loop-i l = l.depth - l.i
+invariant-loop-i l = (length l.stack ≡ length l.initial.stack) × (tops l.stack 0 l.i ≡ tops l.code l.place l.i)

@@ -5,13 +5,13 @@ use Rattle.load_rules.proofs.RecordTypes.{alike-down, alike-off, alike_end}
 use Rattle.load_rules.proofs.stack.same_types.Goals as goal
 
 pub loop-i-init : goal.loop-i-init
-loop-i-init c = (omega arith, refl)
+loop-i-init c = refl
 
-pub returns-then-stack-j : goal.returns-then-stack-j
-returns-then-stack-j c = sym (c.loop-i.invariant.1 ∙ alike-off _ _ _ _ (omega arith) c.if-stack-j.true)
+pub returns-then-stack-i : goal.returns-then-stack-i
+returns-then-stack-i c = sym (c.loop-i.invariant ∙ alike-off _ _ _ _ (omega arith) c.if-stack-i.true)
 
 pub loop-i-preserved : goal.loop-i-preserved
-loop-i-preserved c = (omega arith, c.loop-i.invariant.1 ∙ alike-down _ _ _ _ (omega arith) c.if-stack-j.false)
+loop-i-preserved c = c.loop-i.invariant ∙ alike-down _ _ _ _ (omega arith) c.if-stack-i.false
 
 pub returns : goal.returns
-returns c = sym (c.loop-i.invariant.1 ∙ alike_end _ _ _ _ (omega arith))
+returns c = sym (c.loop-i.invariant ∙ alike_end _ _ _ _ (omega arith))

@@ -5,7 +5,4 @@ use Rattle.load_places.specs.Rules.{takes}
 use Rattle.load_rules.proofs.stack.take_types.Given as goal
 
 abbrev pub invariant-loop-n : goal.invariant-loop-n
-invariant-loop-n l = (l.n ≤ l.number) × (l.e ≤ l.depth) × (takes l.code l.place l.number l.holds (tops l.stack 0 l.depth) ≡ takes l.code l.place l.n l.holds (tops l.stack 0 l.e))
-
-abbrev pub decreases-loop-n : goal.decreases-loop-n
-decreases-loop-n l = l.n
+invariant-loop-n l = (l.e ≤ l.depth) × (takes l.code l.place l.number l.holds (tops l.stack 0 l.depth) ≡ takes l.code l.place l.n l.holds (tops l.stack 0 l.e))

@@ -7,6 +7,6 @@ pub returns-then-body-ne0 : goal.returns-then-body-ne0
 unfolding plain
 returns-then-body-ne0 c = simp (ne_eqb _ _ c.if-body-ne0.true)
 
-pub returns : goal.returns
+pub returns-else-body-ne0 : goal.returns-else-body-ne0
 unfolding plain
-returns c = simp (eq-eqb _ _ c.if-body-ne0.false)
+returns-else-body-ne0 c = simp (eq-eqb _ _ c.if-body-ne0.false)
