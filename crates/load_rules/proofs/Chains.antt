@@ -1,8 +1,9 @@
 -- What a move tells, one move after another, and a move under a test that was made.
 use mathlib.Core.Path.{◌≡◌, refl, sym, ap, ◌∙◌}
-use mathlib.Core.Bool.{Bool, true, false, not, ◌&&◌}
+use mathlib.Core.Bool.{Bool, true, false, cond, not, ◌&&◌}
 use mathlib.Core.List.{List}
 use Prim.Native.Nat.{ℕ, ◌≤◌}
+use Rattle.std.specs.Prelude.{Option, Some, None}
 use lib.Dec.{eqb}
 use Rattle.load_places.specs.Rules.{Flow, goes, ends, bad, need, chain, unused}
 use Rattle.load_places.specs.declared.Moved.{Moved}
@@ -37,6 +38,16 @@ meets false F e = never e
 pub lacks : (b : Bool) (F : Flow) → b ≡ false → bad ≡ need b F
 lacks false F e = refl
 lacks true F e = never (sym e)
+
+-- a flow from a type, if there is one
+abbrev pub given : Option ℕ → (ℕ → Flow) → Flow
+given (Some t) f = f t
+given None f = bad
+
+pub given-needs : (x y : Bool) (t : ℕ) (f : ℕ → Flow) → given (cond x (cond y (Some t) None) None) f ≡ need x (need y (f t))
+given-needs true true t f = refl
+given-needs true false t f = refl
+given-needs false y t f = refl
 
 -- an instruction that has no use for operands
 module _ (a b : ℕ) where

@@ -1,15 +1,18 @@
 -- What one function of the code says for two ops, and the test that several make.
-use Rattle.std.specs.Prelude.{Bool, cond, not, ◌&&◌, List, ℕ, eqb}
-use Rattle.load_places.specs.Rules.{Flow, op_load, op_store, op_get_field, op_put_field}
+use Rattle.std.specs.Prelude.{Bool, cond, not, ◌&&◌, List, ℕ, ◌+◌, eqb, ltb, Option, Some, None}
+use Rattle.words.specs.Numbers.{byte_at}
+use Rattle.load_places.specs.Records.{classes, class_place, body_place}
+use Rattle.load_places.specs.Rules.{owner_body}
 
 -- whether an instruction that has no use for operands has one
 unfoldable pub has_operands : ℕ → ℕ → Bool
 has_operands a b = not (eqb a 0 && eqb b 0)
 
--- a cell is stored into where f is true, else loaded
-unfoldable pub op_cell : Bool → List ℕ → ℕ → ℕ → ℕ → ℕ → List ℕ → Flow
-op_cell f l k a b h s = cond f (op_store l k a b h s) (op_load l k a b h s)
+-- the type of the cell that is loaded or stored into, none where there is no such cell
+unfoldable pub cell_type : List ℕ → ℕ → ℕ → ℕ → Option ℕ
+cell_type l k a b =
+    let p = body_place l (owner_body k a) in cond (ltb a 2) (cond (ltb b (byte_at l (p + 6))) (Some (byte_at l (p + 7 + b))) None) None
 
--- a field is put where f is true, else got
-unfoldable pub op_field : Bool → List ℕ → ℕ → ℕ → ℕ → List ℕ → Flow
-op_field f l a b h s = cond f (op_put_field l a b h s) (op_get_field l a b h s)
+-- the type of the field that is got or put, none where there is no such field
+unfoldable pub field_type : List ℕ → ℕ → ℕ → Option ℕ
+field_type l a b = cond (ltb a (classes l)) (cond (ltb b (byte_at l (class_place l a + 2))) (Some (byte_at l (class_place l a + 3 + b))) None) None

@@ -1,12 +1,12 @@
 // The ops 0 to 20: what each leaves of a state, or a fault. Tests are made in the order of the definitions.
-ghost use Rattle.std.specs.Prelude.{◌≡◌, true, false, cond, ◌+◌, ◌≤◌, ◌<◌, length};
+ghost use Rattle.std.specs.Prelude.{◌≡◌, true, false, ◌+◌, ◌≤◌, ◌<◌, length, IsSome};
 ghost use Rattle.load_places.specs.Search.{tops};
 ghost use Rattle.load_places.specs.Records.{bodies as body_count};
-ghost use Rattle.load_places.specs.Rules.{need, push, unused, trade1, trade2, lands, op_end, op_logical, op_null, owner_body, twofold, operates};
-ghost use Rattle.load_places.specs.Rules.{op_operator, op_go, op_unless, op_call, justs, op_return, op_make, op_set, op_fader, op_hold, op_release};
+ghost use Rattle.load_places.specs.Rules.{push, unused, lands, op_end, op_logical, op_null, owner_body, op_load, op_store, twofold, operates};
+ghost use Rattle.load_places.specs.Rules.{op_operator, op_go, op_unless, op_call, justs, op_return, op_make, op_get_field, op_put_field, op_set, op_fader, op_hold, op_release};
 ghost use Rattle.load_places.specs.Rules.{op_assert, stops_by, op_stop, effect};
 ghost use Rattle.load_places.specs.Index.{Well};
-ghost use Rattle.load_rules.specs.Paired.{has_operands, op_cell, op_field};
+ghost use Rattle.load_rules.specs.Paired.{has_operands, cell_type, field_type};
 ghost use Rattle.load_rules.specs.Moves.{Moves, Stack, Bodied, Classed, Shaped, Able};
 
 use crate::lookup::{body_at, class_at, end_of};
@@ -101,56 +101,66 @@ fn owner_body(body: usize, a: usize) -> usize
     0
 }
 
-// A cell is loaded, or stored into.
-fn op_cell(
-    code: &[u8],
-    bodies: &[u32],
-    body: usize,
-    a: usize,
-    b: usize,
-    stores: bool,
-    stack: &mut [u8],
-    holds: usize,
-    depth: usize,
-) -> Moved
-    requires { (Bodied code.now bodies.now) × (body < body_count code.now) × (Stack stack.old holds depth) }
-    ensures { Moves stack.new result (op_cell stores code.now body a b holds (tops stack.old 0 depth)) }
+// The type of the cell that an op means, if there is that cell.
+fn cell_type(code: &[u8], bodies: &[u32], body: usize, a: usize, b: usize) -> Option<u8>
+    requires { (Bodied code.now bodies.now) × (body < body_count code.now) }
+    ensures { result ≡ cell_type code.now body a b }
 {
     if 2 <= a {
-        return Moved::Bad;
+        return None;
     }
     let o = owner_body(body, a);
     let q = body_at(code, bodies, o);
     let c = words::wide::byte_at(code, q + CELL_COUNT_AT);
     if c <= b {
-        return Moved::Bad;
+        return None;
     }
-    let t = code[q + BODY_BYTES + b];
-    if stores {
-        return pop_type(stack, t, holds, depth);
-    }
-    push_type(stack, t, holds, depth)
+    Some(code[q + BODY_BYTES + b])
 }
 
+fn op_load(
+    code: &[u8],
+    bodies: &[u32],
+    body: usize,
+    a: usize,
+    b: usize,
+    stack: &mut [u8],
+    holds: usize,
+    depth: usize,
+) -> Moved
+    requires { (Bodied code.now bodies.now) × (body < body_count code.now) × (Stack stack.old holds depth) }
+    ensures { Moves stack.new result (op_load code.now body a b holds (tops stack.old 0 depth)) }
+{
+    match cell_type(code, bodies, body, a, b) {
+        Some(t) => push_type(stack, t, holds, depth),
+        None => Moved::Bad,
+    }
+}
+
+fn op_store(
+    code: &[u8],
+    bodies: &[u32],
+    body: usize,
+    a: usize,
+    b: usize,
+    stack: &[u8],
+    holds: usize,
+    depth: usize,
+) -> Moved
+    requires { (Bodied code.now bodies.now) × (body < body_count code.now) × (Stack stack.now holds depth) }
+    ensures { Moves stack.now result (op_store code.now body a b holds (tops stack.now 0 depth)) }
+{
+    match cell_type(code, bodies, body, a, b) {
+        Some(t) => pop_type(stack, t, holds, depth),
+        None => Moved::Bad,
+    }
+}
+
+// Whether the operators on two logical values or two bits, and on one, take the type.
 fn is_twofold(t: u8) -> bool
     ensures { result ≡ twofold t }
 {
     matches!(t, TYPE_LOGICAL | TYPE_BITS)
-}
-
-// The operators on two logical values or two bits, and on one.
-fn trade_own(stack: &mut [u8], t: u8, two: bool, holds: usize, depth: usize) -> Moved
-    requires { Stack stack.old holds depth }
-    ensures { Moves stack.new result (need (twofold t) (cond two (trade2 t t t holds (tops stack.old 0 depth))
-        (trade1 t t holds (tops stack.old 0 depth)))) }
-{
-    if is_twofold(t) {
-        if two {
-            return trade_two(stack, t, t, t, holds, depth);
-        }
-        return trade_one(stack, t, t, holds, depth);
-    }
-    Moved::Bad
 }
 
 fn operate(a: usize, stack: &mut [u8], holds: usize, depth: usize) -> Moved
@@ -172,7 +182,11 @@ fn operate(a: usize, stack: &mut [u8], holds: usize, depth: usize) -> Moved
         return trade_two(stack, t, t, TYPE_LOGICAL, holds, depth);
     }
     if a < 14 {
-        return trade_own(stack, t, true, holds, depth);
+        return if is_twofold(t) {
+            trade_two(stack, t, t, t, holds, depth)
+        } else {
+            Moved::Bad
+        };
     }
     if a < 16 {
         return trade_two(stack, TYPE_BITS, integer, TYPE_BITS, holds, depth);
@@ -184,7 +198,11 @@ fn operate(a: usize, stack: &mut [u8], holds: usize, depth: usize) -> Moved
         return trade_one(stack, integer, integer, holds, depth);
     }
     if a < 23 {
-        return trade_own(stack, t, false, holds, depth);
+        return if is_twofold(t) {
+            trade_one(stack, t, t, holds, depth)
+        } else {
+            Moved::Bad
+        };
     }
     Moved::Bad
 }
@@ -378,36 +396,61 @@ fn op_make(
     push_after(stack, class_type(a), f)
 }
 
-// A field is got, or put.
-fn op_field(
+// The type of field b of the class a, if there is that field.
+fn field_type(code: &[u8], classes: &[u32], a: usize, b: usize) -> Option<u8>
+    requires { Classed code.now classes.now }
+    ensures field { result ≡ field_type code.now a b }
+    ensures few { IsSome result → a < 16 }
+{
+    let n = words::wide::byte_at(code, CLASS_COUNT_AT);
+    if n <= a {
+        return None;
+    }
+    let q = class_at(code, classes, a);
+    let m = words::wide::byte_at(code, q + FIELD_COUNT_AT);
+    if m <= b {
+        return None;
+    }
+    Some(code[q + CLASS_BYTES + b])
+}
+
+fn op_get_field(
     code: &[u8],
     classes: &[u32],
     a: usize,
     b: usize,
-    puts: bool,
     stack: &mut [u8],
     holds: usize,
     depth: usize,
 ) -> Moved
     requires { (Classed code.now classes.now) × (Stack stack.old holds depth) }
-    ensures { Moves stack.new result (op_field puts code.now a b holds (tops stack.old 0 depth)) }
+    ensures { Moves stack.new result (op_get_field code.now a b holds (tops stack.old 0 depth)) }
 {
-    let n = words::wide::byte_at(code, CLASS_COUNT_AT);
-    if n <= a {
-        return Moved::Bad;
+    match field_type(code, classes, a, b) {
+        Some(t) => trade_one(stack, class_type(a), t, holds, depth),
+        None => Moved::Bad,
     }
-    let q = class_at(code, classes, a);
-    let m = words::wide::byte_at(code, q + FIELD_COUNT_AT);
-    if m <= b {
-        return Moved::Bad;
+}
+
+fn op_put_field(
+    code: &[u8],
+    classes: &[u32],
+    a: usize,
+    b: usize,
+    stack: &[u8],
+    holds: usize,
+    depth: usize,
+) -> Moved
+    requires { (Classed code.now classes.now) × (Stack stack.now holds depth) }
+    ensures { Moves stack.now result (op_put_field code.now a b holds (tops stack.now 0 depth)) }
+{
+    match field_type(code, classes, a, b) {
+        Some(t) => {
+            let f = pop_type(stack, t, holds, depth);
+            pop_after(stack, class_type(a), f)
+        }
+        None => Moved::Bad,
     }
-    let t = code[q + CLASS_BYTES + b];
-    let u = class_type(a);
-    if puts {
-        let f = pop_type(stack, t, holds, depth);
-        return pop_after(stack, u, f);
-    }
-    trade_one(stack, u, t, holds, depth)
 }
 
 fn op_set(a: usize, b: usize, stack: &[u8], holds: usize, depth: usize) -> Moved
@@ -515,8 +558,8 @@ pub fn effect_of(
         wide::OP_LOGICAL => rebuilt(op_logical(a, b, stack, holds, depth)),
         wide::OP_BITS => rebuilt(op_constant(a, TYPE_BITS, stack, holds, depth)),
         wide::OP_NULL => rebuilt(op_null(code, a, b, stack, holds, depth)),
-        wide::OP_LOAD => rebuilt(op_cell(code, bodies, body, a, b, false, stack, holds, depth)),
-        wide::OP_STORE => rebuilt(op_cell(code, bodies, body, a, b, true, stack, holds, depth)),
+        wide::OP_LOAD => rebuilt(op_load(code, bodies, body, a, b, stack, holds, depth)),
+        wide::OP_STORE => rebuilt(op_store(code, bodies, body, a, b, stack, holds, depth)),
         wide::OP_OPERATOR => rebuilt(op_operator(a, b, stack, holds, depth)),
         wide::OP_GO => rebuilt(op_go(code, shapes, bodies, body, a, b, stack, holds, depth)),
         wide::OP_UNLESS => rebuilt(op_unless(
@@ -525,8 +568,8 @@ pub fn effect_of(
         wide::OP_CALL => rebuilt(op_call(code, bodies, a, b, stack, holds, depth)),
         wide::OP_RETURN => rebuilt(op_return(code, bodies, body, a, b, stack, holds, depth)),
         wide::OP_MAKE => rebuilt(op_make(code, classes, a, b, stack, holds, depth)),
-        wide::OP_GET_FIELD => rebuilt(op_field(code, classes, a, b, false, stack, holds, depth)),
-        wide::OP_PUT_FIELD => rebuilt(op_field(code, classes, a, b, true, stack, holds, depth)),
+        wide::OP_GET_FIELD => rebuilt(op_get_field(code, classes, a, b, stack, holds, depth)),
+        wide::OP_PUT_FIELD => rebuilt(op_put_field(code, classes, a, b, stack, holds, depth)),
         wide::OP_SET => rebuilt(op_set(a, b, stack, holds, depth)),
         wide::OP_FADER => rebuilt(op_fader(a, b, stack, holds, depth)),
         wide::OP_HOLD => rebuilt(op_hold(a, b, stack, holds, depth)),

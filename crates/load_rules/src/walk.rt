@@ -157,8 +157,10 @@ fn effect_after(
     }
 }
 
-// What goes on from the address, where the flow is the state found there; `next` is the first shape after it.
-fn onward(
+// What goes on from the address, for the walk that has found the state there; `next` is the first shape after it. There is one such walk
+// (`state_check`): with one caller on the way down to `effect_of` all of it is inlined there; with two, every address costs a call more, and what
+// it answers goes through memory (docs/SPEED.md).
+pub fn go_on(
     code: &[u8],
     shapes: &[u32],
     bodies: &[u32],
@@ -188,33 +190,7 @@ fn onward(
         stack,
         flow,
     );
-    leave_to(code, within, next, address, stack, e)
-}
-
-// What goes on, for the walk that has found the state at the address. There is one such walk (`state_check`): with one caller on the way down to
-// `effect_of` all of it is inlined there; with two, every address costs a call more, and what it answers goes through memory (docs/SPEED.md).
-pub fn go_on(
-    code: &[u8],
-    shapes: &[u32],
-    bodies: &[u32],
-    classes: &[u32],
-    base: usize,
-    within: Within,
-    next: NextShape,
-    address: usize,
-    stack: &mut [u8],
-    flow: Moved,
-) -> Moved
-    requires { (Able code.now shapes.now bodies.now classes.now) × (base ≡ code_base code.now) × (InBody code.now address within) × (Next code.now (address + 1) next)
-        × (address < count code.now) × (length stack.old ≡ 32) × (Fit flow) }
-    ensures { Moves stack.new result (leave code.now within.body address
-        (chain (flow_of flow stack.old) (λ h s. effect code.now within.body
-        (byte_at code.now (code_place code.now address + 2))
-        (byte_at code.now (code_place code.now address + 3)) (word_at code.now (code_place code.now address + 4)) h s))) }
-{
-    rebuilt(onward(
-        code, shapes, bodies, classes, base, within, next, address, stack, flow,
-    ))
+    rebuilt(leave_to(code, within, next, address, stack, e))
 }
 
 // Where the walk begins: the first body.
