@@ -1,5 +1,5 @@
 -- What the code answers, in the terms of the definition.
-use Rattle.std.specs.Prelude.{◌≡◌, refl, List, ℕ, ◌/◌, ◌≤◌, length}
+use Rattle.std.specs.Prelude.{◌≡◌, refl, List, ℕ, ◌/◌, ◌≤◌, length, Result, Ok, Err}
 use Rattle.values.specs.Ends.{Judged, accepted, refused}
 use Rattle.values.specs.Refusals.{in_code, refusal_of}
 use Rattle.values.specs.declared.Refusal.{Refusal}
@@ -10,13 +10,11 @@ use Rattle.table_check.specs.Checked.{checked_of}
 use Rattle.table_check.specs.declared.Checked.TheVariants.{Accepted}
 use Rattle.table_check.specs.declared.Checked.TheVariants as checked
 use Rattle.compile_code.specs.Encode.{macro_of}
-use Rattle.compile.specs.declared.Compiled.{Compiled}
-use Rattle.compile.specs.declared.Compiled.TheVariants.{Done, Refused}
 
 -- the macro's length, or the refusal
-abbrev pub verdict_of : Compiled → Judged ℕ
-verdict_of (Done n) = accepted n
-verdict_of (Refused r) = refused (refusal_of r)
+abbrev pub verdict_of : Result ℕ Refusal → Judged ℕ
+verdict_of (Ok n) = accepted n
+verdict_of (Err r) = refused (refusal_of r)
 
 -- room for a number for each entry that a table can have
 abbrev pub Room : List ℕ → List ℕ → Type 0
@@ -34,7 +32,7 @@ compile-accepted l e = go (judge_table l) refl e
     go (accepted t) h k = (t, h)
     go (refused r) h k = clash (cc)
 
-pub compile-refused : (l out : List ℕ) (r : Refusal) → checked.Refused r ≡ checked_of (judge_table l) → compile_on macro_of l out ≡ record { verdict = verdict_of (Refused r); bytes = out }
+pub compile-refused : (l out : List ℕ) (r : Refusal) → checked.Refused r ≡ checked_of (judge_table l) → compile_on macro_of l out ≡ record { verdict = verdict_of (Err r); bytes = out }
 unfolding compile_on
 compile-refused l out r e = go (judge_table l) refl e
   where

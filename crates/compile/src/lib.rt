@@ -16,13 +16,6 @@ use formats::limits::*;
 use table_check::Checked;
 use values::Refusal;
 
-#[derive(Drop)]
-pub enum Compiled {
-    // the macro's length
-    Done(usize),
-    Refused(Refusal),
-}
-
 fn cursor(at: usize, sh: usize, dry: bool) -> Cursor
     ensures { result ≡ cursor_at at sh dry }
 {
@@ -52,7 +45,7 @@ fn write(
     ends: &mut [u16],
     stack: &mut [u8],
     out: &mut [u8],
-) -> Compiled
+) -> Result<usize, Refusal>
     requires { AsksWrite table.now count after classes bodies sizes.now env.old top known.now aims.old ends.old × (32 ≤ length stack.old) }
     ensures { compile_on macro_of table.now out.old ≡ record { verdict = verdict_of result; bytes = out.new } }
 {
@@ -74,7 +67,7 @@ fn write(
     let shapes = front + CODE_BYTES * dry.address;
     let length = shapes + dry.sh + END_BYTES;
     if out.len() < length {
-        return Compiled::Refused(Refusal {
+        return Err(Refusal {
             number: 7,
             place: 0,
         });
@@ -108,7 +101,7 @@ fn write(
     );
     out[length - END_BYTES] = b'Z';
     out[length - 1] = b'Z';
-    Compiled::Done(length)
+    Ok(length)
 }
 
 // A table that is accepted, with the sizes that the check left; the lent arrays have room for its entries.
@@ -120,7 +113,7 @@ fn compile_accepted(
     aims: &mut [u16],
     ends: &mut [u16],
     out: &mut [u8],
-) -> Compiled
+) -> Result<usize, Refusal>
     requires { AsksCompile table.now sizes.now env.old known.old aims.old ends.old }
     ensures { compile_on macro_of table.now out.old ≡ record { verdict = verdict_of result; bytes = out.new } }
 {
@@ -144,18 +137,18 @@ fn compile_in(
     aims: &mut [u16],
     ends: &mut [u16],
     out: &mut [u8],
-) -> Compiled
+) -> Result<usize, Refusal>
     requires { Lends table.now sizes.old env.old × Room table.now known.old × Room table.now aims.old × Room table.now ends.old }
     ensures { compile_on macro_of table.now out.old ≡ record { verdict = verdict_of result; bytes = out.new } }
 {
     match table_check::check_in(table, sizes, env) {
         Checked::Accepted => compile_accepted(table, sizes, env, known, aims, ends, out),
-        Checked::Refused(refusal) => Compiled::Refused(refusal),
+        Checked::Refused(refusal) => Err(refusal),
     }
 }
 
-// For all bytes: the verdict, and what the output then holds. The arrays are cleared at each call, so that their size goes by the number of entries.
-pub fn compile(table: &[u8], out: &mut [u8]) -> Compiled
+// For all bytes: the verdict, which is the macro's length or a refusal, and what the output then holds. The arrays are cleared at each call, so that their size goes by the number of entries.
+pub fn compile(table: &[u8], out: &mut [u8]) -> Result<usize, Refusal>
     ensures { compile_on macro_of table.now out.old ≡ record { verdict = verdict_of result; bytes = out.new } }
 {
     let bytes = table.len();

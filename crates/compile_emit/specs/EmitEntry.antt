@@ -8,6 +8,8 @@ use Rattle.compile_symbols.specs.Meaning.{meaning_of}
 use Rattle.compile_output.specs.declared.Cursor.{Cursor}
 use Rattle.compile_output.specs.EmitRecord.{moved, cursor_shaped, emit_op, emit_shape}
 use Rattle.compile_output.specs.EmitCode.{lets, cursor_after, emitted}
+use Rattle.compile_emit.specs.declared.Way.{Way}
+use Rattle.compile_emit.specs.declared.Way.TheVariants.{Plain, Marked, IfTrue, IfFalse}
 
 -- ── entries with no operands, or expressions only ──
 -- whether an entry names a definition
@@ -105,6 +107,13 @@ holds_head part (suc n) = holds_by (half_at part 0) + holds_head (drop 8 part) n
 -- how the second operand follows the first: 0 plainly, 1 marked (`and`, `or` of bits), 2 if the first is true, 3 if it is false
 unfoldable pub way_by : ℕ → ℕ → ℕ
 way_by o t = If eqb o 12 then (If eqb t 2 then 2 else 1) else If eqb o 13 then (If eqb t 2 then 3 else 1) else 0
+
+-- the number of what the code answers
+abbrev pub number_of_way : Way → ℕ
+number_of_way Plain = 0
+number_of_way Marked = 1
+number_of_way IfTrue = 2
+number_of_way IfFalse = 3
 
 abbrev pub waiting_by : ℕ → ℕ
 waiting_by w = If ltb w 2 then 1 else 0

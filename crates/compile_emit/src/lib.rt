@@ -8,7 +8,7 @@ ghost use Rattle.table_scopes.specs.Environment.{env_of, Grown};
 ghost use Rattle.compile_symbols.specs.Meaning.{meaning_of};
 ghost use Rattle.compile_output.specs.EmitRecord.{moved, Fits};
 ghost use Rattle.compile_emit.specs.EmitEntry.{names, known_for, owner_by, emit_leaf, leaf_type, operands_by, emit_last, last_type, emit_initial};
-ghost use Rattle.compile_emit.specs.EmitEntry.{cursor_declared, emit_declared, cursor_head, emit_head, finishes, holds_by, holds_head, way_by};
+ghost use Rattle.compile_emit.specs.EmitEntry.{cursor_declared, emit_declared, cursor_head, emit_head, finishes, holds_by, holds_head, way_by, number_of_way};
 ghost use Rattle.compile_emit.specs.EmitEntry.{waiting_by, cursor_between, emit_between, cursor_behind, emit_behind, pair_type, cursor_before};
 ghost use Rattle.compile_emit.specs.EmitEntry.{emit_before, cursor_behind_arm, emit_behind_arm, cursor_goto, emit_goto};
 ghost use Rattle.compile_scopes.specs.Marks.{marks};
@@ -32,26 +32,17 @@ pub fn finish(ends: &mut [u16], at: usize, p: Cursor) -> Cursor
 pub fn end_of(aims: &[u16], place: usize) -> u32
     ensures { (result ≡ get_or aims.now place 0) × (result < 65536) }
 {
-    if place < aims.len() {
-        aims[place] as u32
-    } else {
-        0
-    }
+    u32::from(aims.get(place).copied().unwrap_or(0))
 }
 
 // ── entries with no operands, or expressions only ──
 fn names(kind: u16) -> bool
     ensures { result ≡ names kind }
 {
-    match kind {
-        KIND_CALL => true,
-        KIND_NULL => true,
-        KIND_VARIABLE => true,
-        KIND_FUNCTION => true,
-        KIND_FIELD => true,
-        KIND_RECORD => true,
-        _ => false,
-    }
+    matches!(
+        kind,
+        KIND_CALL | KIND_NULL | KIND_VARIABLE | KIND_FUNCTION | KIND_FIELD | KIND_RECORD
+    )
 }
 
 // What is known of the definition that an entry names.
@@ -202,13 +193,11 @@ pub fn declare(
         × (out.new ≡ emit_head part.now known.now at count cursor out.old)
         × (ends.new ≡ sets ends.old at (finishes part.now count cursor)) }
 {
-    let mut i = 0;
     let mut p = cursor;
-    while i < count {
+    for i in 0..count {
         let from = ENTRY_BYTES * i;
         let k = compile_symbols::known_at(known, at + i);
         p = finish(ends, at + i, declare_one(&part[from..], k, out, p));
-        i += 1;
     }
     p
 }
@@ -217,7 +206,7 @@ pub fn declare(
 pub fn holds_by(kind: u16) -> usize
     ensures { result ≡ holds_by kind }
 {
-    if kind == KIND_HOLD { 1 } else { 0 }
+    compile_symbols::one_if(kind, KIND_HOLD)
 }
 
 // How many holds a head takes.
@@ -225,11 +214,9 @@ pub fn holds_in(part: &[u8], count: usize) -> usize
     requires { 8 * count ≤ length part.now }
     ensures { result ≡ holds_head part.now count }
 {
-    let mut i = 0;
     let mut n = 0;
-    while i < count {
+    for i in 0..count {
         n += holds_by(table_entries::kind_at(part, i));
-        i += 1;
     }
     n
 }
@@ -239,10 +226,8 @@ pub fn mark_holds(env: &mut [u32], top: usize, count: usize)
     requires { 4 * (top + count) ≤ length env.old }
     ensures { Grown top env.old env.new (top + count) (marks count ++ env_of env.old top) count }
 {
-    let mut i = 0;
-    while i < count {
+    for i in 0..count {
         table_scopes::push(env, top + i, 65539, 0, 0, 0);
-        i += 1;
     }
 }
 
@@ -281,7 +266,7 @@ pub fn open_block(
     let up = table_scopes::enter(table, at, heads, count, mark, sizes, env, top + holds);
     let p = declare(part, at, heads, known, ends, out, cursor);
     Opened {
-        holds: holds,
+        holds,
         top: up,
         cursor: p,
     }
@@ -301,10 +286,8 @@ pub fn land(env: &[u32], top: usize, name: u32, aims: &[u16]) -> Landing
     requires { 4 * top ≤ length env.now }
     ensures { (result.passed ≡ passed_to name (env_of env.now top)) × (result.address ≡ meaning_of name (env_of env.now top) aims.now) }
 {
-    let mut i = top;
     let mut n = 0;
-    while 0 < i {
-        i -= 1;
+    for i in (0..top).rev() {
         let m = env[4 * i];
         if m == name {
             return Landing {
@@ -347,27 +330,40 @@ pub fn goto(
 }
 
 // ── operators ──
-// How the second operand follows the first: 0 plainly, 1 marked (`and`, `or` of bits), 2 if the first is true, 3 if it is false.
-pub fn way_of(operator: u16, first: u8) -> u8
-    ensures { result ≡ way_by operator first }
+// How the second operand follows the first.
+#[derive(Clone, Copy, PartialEq, Eq)]
+pub enum Way {
+    Plain,
+    // `and`, `or` of bits: what stands between them is marked
+    Marked,
+    // `and`, `or` of truth values: the second one is computed only if the first is true, or only if it is false
+    IfTrue,
+    IfFalse,
+}
+
+pub fn way_of(operator: u16, first: u8) -> Way
+    ensures { number_of_way result ≡ way_by operator first }
 {
     match operator {
-        12 => if first == TYPE_LOGICAL { 2 } else { 1 },
-        13 => if first == TYPE_LOGICAL { 3 } else { 1 },
-        _ => 0,
+        12 => if first == TYPE_LOGICAL { Way::IfTrue } else { Way::Marked },
+        13 => if first == TYPE_LOGICAL { Way::IfFalse } else { Way::Marked },
+        _ => Way::Plain,
     }
 }
 
 // How many values of the first operand wait while the second is computed.
-pub fn waiting(way: u8) -> usize
-    ensures { result ≡ waiting_by way }
+pub fn waiting(way: Way) -> usize
+    ensures { result ≡ waiting_by (number_of_way way) }
 {
-    if way < 2 { 1 } else { 0 }
+    match way {
+        Way::Plain | Way::Marked => 1,
+        Way::IfTrue | Way::IfFalse => 0,
+    }
 }
 
 // Between the operands; `end` is where the second one's code ends.
 pub fn between(
-    way: u8,
+    way: Way,
     end: u32,
     holds: usize,
     stack: &[u8],
@@ -375,14 +371,14 @@ pub fn between(
     out: &mut [u8],
     p: Cursor,
 ) -> Cursor
-    requires { (end < 65536) × (depth < length stack.now) × (depth < 255) × (holds < 256) × Fits (cursor_between way depth p) (length out.old) }
-    ensures { (result ≡ cursor_between way depth p) × (out.new ≡ emit_between way end holds stack.now depth p out.old) }
+    requires { (end < 65536) × (depth < length stack.now) × (depth < 255) × (holds < 256) × Fits (cursor_between (number_of_way way) depth p) (length out.old) }
+    ensures { (result ≡ cursor_between (number_of_way way) depth p) × (out.new ≡ emit_between (number_of_way way) end holds stack.now depth p out.old) }
 {
     match way {
-        0 => p,
-        1 => compile_output::shape(out, p, holds, stack, depth + 1),
-        2 => compile_output::emit(out, p, OP_UNLESS, 0, end + 1),
-        _ => {
+        Way::Plain => p,
+        Way::Marked => compile_output::shape(out, p, holds, stack, depth + 1),
+        Way::IfTrue => compile_output::emit(out, p, OP_UNLESS, 0, end + 1),
+        Way::IfFalse => {
             let landing = p.address as u32 + 3;
             let q = compile_output::emit(out, p, OP_UNLESS, 0, landing);
             let r = compile_output::emit(out, q, OP_LOGICAL, 0, 1);
@@ -394,7 +390,7 @@ pub fn between(
 
 // Behind them, where the type of the result stands on the stack.
 pub fn behind(
-    way: u8,
+    way: Way,
     operator: u16,
     end: u32,
     holds: usize,
@@ -403,18 +399,18 @@ pub fn behind(
     out: &mut [u8],
     p: Cursor,
 ) -> Cursor
-    requires { (end < 65536) × (depth < length stack.now) × (depth < 255) × (holds < 256) × Fits (cursor_behind way depth p) (length out.old) }
-    ensures { (result ≡ cursor_behind way depth p) × (out.new ≡ emit_behind way operator end holds stack.now depth p out.old) }
+    requires { (end < 65536) × (depth < length stack.now) × (depth < 255) × (holds < 256) × Fits (cursor_behind (number_of_way way) depth p) (length out.old) }
+    ensures { (result ≡ cursor_behind (number_of_way way) depth p) × (out.new ≡ emit_behind (number_of_way way) operator end holds stack.now depth p out.old) }
 {
     match way {
-        2 => {
+        Way::IfTrue => {
             let q = compile_output::emit(out, p, OP_GO, 0, end + 2);
             let r = compile_output::shape(out, q, holds, stack, depth);
             let s = compile_output::emit(out, r, OP_LOGICAL, 0, 0);
             compile_output::shape(out, s, holds, stack, depth + 1)
         }
-        3 => compile_output::shape(out, p, holds, stack, depth + 1),
-        _ => compile_output::emit(out, p, OP_OPERATOR, (operator % 256) as u8, 0),
+        Way::IfFalse => compile_output::shape(out, p, holds, stack, depth + 1),
+        Way::Plain | Way::Marked => compile_output::emit(out, p, OP_OPERATOR, (operator % 256) as u8, 0),
     }
 }
 

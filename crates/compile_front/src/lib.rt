@@ -24,11 +24,9 @@ fn typed_in(table: &[u8], from: usize, to: usize) -> usize
     requires { (from ≤ to) × (to ≤ length table.now / 8) }
     ensures { result ≡ cells_within (between from to (entries_of table.now)) }
 {
-    let mut i = from;
     let mut n = 0;
-    while i < to {
+    for i in from..to {
         n += compile_symbols::cells_of(table_entries::kind_at(table, i));
-        i += 1;
     }
     n
 }
@@ -51,11 +49,9 @@ fn put_same(ty: u8, count: usize, out: &mut [u8], from: usize) -> usize
     ensures { Wrote out.old from (replicate count ty) out.new result }
 {
     let mut at = from;
-    let mut left = count;
-    while 0 < left {
+    for i in 0..count {
         out[at] = ty;
         at += 1;
-        left -= 1;
     }
     at
 }
@@ -81,11 +77,9 @@ fn put_types(
     requires { TypesKnown table.now known.now × (1 ≤ from) × (from ≤ to) × (to ≤ length table.now / 8) × (at + length (types_between table.now from to) ≤ length out.old) }
     ensures { Wrote out.old at (types_between table.now from to) out.new result }
 {
-    let mut i = from;
     let mut place = at;
-    while i < to {
+    for i in from..to {
         place = put_type(table, i, known, out, place);
-        i += 1;
     }
     place
 }
@@ -142,12 +136,10 @@ fn put_classes(
     ensures { Wrote out.old from (classes_front table.now) out.new result }
 {
     let mut place = 1;
-    let mut left = count;
     let mut at = from;
-    while 0 < left {
+    for i in 0..count {
         at = put_if_class(table, sizes, place, known, out, at);
         place += table_scopes::size_at(sizes, place);
-        left -= 1;
     }
     at
 }
@@ -179,12 +171,10 @@ fn put_variables(
     ensures { Wrote out.old from (variables_front table.now) out.new result }
 {
     let mut place = 1;
-    let mut left = count;
     let mut at = from;
-    while 0 < left {
+    for i in 0..count {
         at = put_type(table, place, known, out, at);
         place += table_scopes::size_at(sizes, place);
-        left -= 1;
     }
     at
 }
@@ -285,14 +275,12 @@ fn put_procedures(
     ensures { Wrote out.old from (procs_front table.now) out.new result }
 {
     let mut place = 1;
-    let mut left = count;
     let mut first = ends[0];
     let mut at = from;
-    while 0 < left {
+    for i in 0..count {
         at = put_if_procedure(table, sizes, place, first, known, out, at);
         first = next_first(table, place, ends, first);
         place += table_scopes::size_at(sizes, place);
-        left -= 1;
     }
     at
 }

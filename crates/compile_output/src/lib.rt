@@ -42,19 +42,15 @@ pub fn emit(out: &mut [u8], p: Cursor, op: u8, a: u8, b: u32) -> Cursor
     requires { Fits (moved p) (length out.old) }
     ensures { (result ≡ moved p) × (out.new ≡ emit_op p out.old op a b) }
 {
-    let at = p.at;
     let dry = p.dry;
     if !dry {
-        put_instruction(out, at, op, a, b);
+        put_instruction(out, p.at, op, a, b);
     }
     Cursor {
-        at: at + CODE_BYTES,
+        at: p.at + CODE_BYTES,
         address: p.address + 1,
-        sh: p.sh,
-        shapes: p.shapes,
         waits: false,
-        dry: dry,
-        inside: p.inside,
+        ..p
     }
 }
 
@@ -63,11 +59,9 @@ pub fn releases(out: &mut [u8], cursor: Cursor, count: usize) -> Cursor
     requires { Fits (cursor_after (lets count) cursor) (length out.old) }
     ensures { (result ≡ cursor_after (lets count) cursor) × (out.new ≡ emitted (lets count) cursor out.old) }
 {
-    let mut left = count;
     let mut p = cursor;
-    while 0 < left {
+    for i in 0..count {
         p = emit(out, p, OP_RELEASE, 0, 0);
-        left -= 1;
     }
     p
 }
@@ -76,11 +70,7 @@ fn copy(from: &[u8], count: usize, out: &mut [u8], at: usize)
     requires { (count ≤ length from.now) × (at + count ≤ length out.old) }
     ensures { out.new ≡ sets out.old at (take count from.now) }
 {
-    let mut i = 0;
-    while i < count {
-        out[at + i] = from[i];
-        i += 1;
-    }
+    out[at..at + count].copy_from_slice(&from[..count]);
 }
 
 fn put_shape(out: &mut [u8], at: usize, address: u16, holds: u8, stack: &[u8], depth: u8)
@@ -107,12 +97,9 @@ pub fn shape(out: &mut [u8], p: Cursor, holds: usize, stack: &[u8], depth: usize
         put_shape(out, p.sh, p.address as u16, holds as u8, stack, depth as u8);
     }
     Cursor {
-        at: p.at,
-        address: p.address,
         sh: p.sh + SHAPE_BYTES + depth,
         shapes: p.shapes + 1,
         waits: true,
-        dry: p.dry,
-        inside: p.inside,
+        ..p
     }
 }

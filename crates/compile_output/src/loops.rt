@@ -195,20 +195,10 @@ fn put_rows(
         × (out.new ≡ emit_rows pattern.now (length pattern.now) holds depth (take depth stack.now) cell start exit cursor
         out.old) }
 {
-    let mut i = 0;
     let mut p = cursor;
-    while i < pattern.len() {
-        let row = pattern[i];
-        p = put_row(
-            row,
-            number_in(row, cell, start, exit),
-            holds,
-            stack,
-            depth,
-            out,
-            p,
-        );
-        i += 1;
+    for row in pattern {
+        let b = number_in(*row, cell, start, exit);
+        p = put_row(*row, b, holds, stack, depth, out, p);
     }
     p
 }

@@ -50,7 +50,7 @@ pub fn second_in(known: u32) -> u32
 pub fn known_at(known: &[u32], place: usize) -> u32
     ensures { result ≡ get_or known.now place 0 }
 {
-    if place < known.len() { known[place] } else { 0 }
+    known.get(place).copied().unwrap_or(0)
 }
 
 // What a name in sight stands for.
@@ -70,18 +70,15 @@ fn names_class(table: &[u8], place: usize, name: u32) -> bool
     requires { place < length table.now / 8 }
     ensures { result ≡ names_class name (entry_at table.now place) }
 {
-    if table_entries::kind_at(table, place) == KIND_CLASS {
-        table_entries::a_at(table, place) as u32 == name
-    } else {
-        false
-    }
+    table_entries::kind_at(table, place) == KIND_CLASS
+        && table_entries::a_at(table, place) as u32 == name
 }
 
 // 1 for an entry of this kind, 0 for any other.
-fn one_if(kind: u16, wanted: u16) -> usize
+pub fn one_if(kind: u16, wanted: u16) -> usize
     ensures { result ≡ one_if kind wanted }
 {
-    if kind == wanted { 1 } else { 0 }
+    (kind == wanted) as usize
 }
 
 // How many classes stand before the one of this name.
@@ -90,15 +87,13 @@ fn class_number(table: &[u8], count: usize, sizes: &[u16], name: u32) -> usize
     ensures { result ≡ index_of name (classes_in table.now) }
 {
     let mut place = 1;
-    let mut left = count;
     let mut n = 0;
-    while 0 < left {
+    for i in 0..count {
         if names_class(table, place, name) {
             return n;
         }
         n += one_if(table_entries::kind_at(table, place), KIND_CLASS);
         place += table_scopes::size_at(sizes, place);
-        left -= 1;
     }
     n
 }
@@ -166,12 +161,10 @@ fn number_cells(
     requires { Headed table.now sizes.now count × (from ≤ to) × (to ≤ length table.now / 8) × (to ≤ length known.old) × (owner ≤ 2048) × (first ≤ 3 * from) }
     ensures { known.new ≡ sets known.old from (numbers_owned (classes_in table.now) owner first (between from to (entries_of table.now))) }
 {
-    let mut place = from;
     let mut cell = first;
-    while place < to {
+    for place in from..to {
         known[place] = entry_known(table, count, sizes, place, owner, cell);
         cell += cells_of(table_entries::kind_at(table, place));
-        place += 1;
     }
 }
 
@@ -234,17 +227,15 @@ pub fn number_all(table: &[u8], count: usize, sizes: &[u16], known: &mut [u32]) 
     ensures { (t : Tree) → Tabled table.now sizes.now t → Numbered t known.old known.new result }
 {
     let mut place = 1;
-    let mut left = count;
     let mut n = Numbers {
         cells: 0,
         classes: 0,
         bodies: 1,
     };
-    while 0 < left {
+    for i in 0..count {
         number_global(table, count, sizes, place, n, known);
         n = counted(table_entries::kind_at(table, place), n);
         place += table_scopes::size_at(sizes, place);
-        left -= 1;
     }
     number_cells(
         table,

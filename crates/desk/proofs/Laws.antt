@@ -1,6 +1,7 @@
 -- What the wrappers pack are the numbers of what the definitions answer.
 use mathlib.Core.Path.{◌≡◌, refl}
 use mathlib.Core.List.{List}
+use Rattle.std.specs.Prelude.{Result, Ok, Err}
 use Prim.Native.Nat.{ℕ, ◌<◌}
 use native.Mathlib.Omega.{arith}
 use Rattle.std.specs.Prelude.{Result, Ok, Err}
@@ -17,8 +18,6 @@ use Rattle.bytecode.specs.Play.{play_on}
 use Rattle.bytecode.specs.Answers.{Numbers, done_numbers, refusal_numbers, verdict_numbers, answer_numbers, packed}
 use Rattle.compile_code.specs.Encode.{macro_of}
 use Rattle.compile.specs.Verdict.{verdict_of as compiled_of}
-use Rattle.compile.specs.declared.Compiled.{Compiled}
-use Rattle.compile.specs.declared.Compiled.TheVariants.{Done, Refused as Unmade}
 use Rattle.desk.specs.Compiled.{compiled_numbers, Short, short}
 use Rattle.table_check.specs.Checked.{checked_of}
 use Rattle.table_check.proofs.Verdicts.{place-small}
@@ -96,16 +95,16 @@ module _ (c l readings : List ℕ) (allowance : ℕ) (answers k b : List ℕ) (a
       f.fits.second_fits
 
 -- ── the compiler ──
-module _ (l out k : List ℕ) (a : Compiled) (e : compile_on macro_of l out ≡ record { verdict = compiled_of a; bytes = k }) where
-  pub compiled : (v : Compiled) → a ≡ v → (r : ℕ) → r ≡ packed (compiled_numbers (compiled_of v))
+module _ (l out k : List ℕ) (a : Result ℕ Refusal) (e : compile_on macro_of l out ≡ record { verdict = compiled_of a; bytes = k }) where
+  pub compiled : (v : Result ℕ Refusal) → a ≡ v → (r : ℕ) → r ≡ packed (compiled_numbers (compiled_of v))
       → (r ≡ packed (compiled_numbers (compile_on macro_of l out).verdict)) × (k ≡ (compile_on macro_of l out).bytes)
   compiled v d r h = rw (e, d) (h, refl)
 
   in-short : Bytes l → Short (compiled_of a)
   in-short B = rw e at (short l out B)
 
-  pub macro-short : Bytes l → (n : ℕ) → a ≡ Done n → n < 16777216
+  pub macro-short : Bytes l → (n : ℕ) → a ≡ Ok n → n < 16777216
   macro-short B n d = rw d at (in-short B)
 
-  pub compiled-small : Bytes l → (r : Refusal) → a ≡ Unmade r → r.place < 16777216
-  compiled-small B r d = let h : Short (compiled_of (Unmade r)) = rw d at (in-short B) in h.1
+  pub compiled-small : Bytes l → (r : Refusal) → a ≡ Err r → r.place < 16777216
+  compiled-small B r d = let h : Short (compiled_of (Err r)) = rw d at (in-short B) in h.1

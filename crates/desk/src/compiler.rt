@@ -5,7 +5,6 @@ ghost use Rattle.bytecode.specs.Answers.{packed};
 ghost use Rattle.desk.specs.Compiled.{compiled_numbers};
 ghost use Rattle.compile_code.specs.Encode.{macro_of};
 
-use compile::Compiled;
 use packing::{pack, pack_refusal};
 
 // The macro of a table, at the front of the output, and its length. A refusal writes nothing. Equal tables give equal macros: what is written is
@@ -16,7 +15,7 @@ pub extern "C" fn cue_compile(table: &[u8], out: &mut [u8]) -> u64
         × (out.new ≡ (compile_on macro_of table.now out.old).bytes) }
 {
     match compile::compile(table, out) {
-        Compiled::Done(length) => pack(1, 0, 0, length as u64),
-        Compiled::Refused(refusal) => pack_refusal(refusal),
+        Ok(length) => pack(1, 0, 0, length as u64),
+        Err(refusal) => pack_refusal(refusal),
     }
 }

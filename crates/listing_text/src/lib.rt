@@ -12,7 +12,6 @@ ghost use Rattle.listing_text.specs.Told.{full_steps};
 ghost use Rattle.listing_text.specs.Length.{text_room};
 ghost use Rattle.listing_text.specs.Writing.{Lists};
 
-use compile::Compiled;
 use formats::limits::*;
 use formats::state::*;
 use run::{Played, Started};
@@ -82,7 +81,7 @@ pub fn list(table: &[u8], text: &mut [u8; 786496]) -> usize
     let mut code = [0u8; 65536];
     let mut state = [0u8; STATE_BYTES];
     match compile::compile(table, &mut code) {
-        Compiled::Refused(refusal) => lines::put_refused(text, 0, refusal),
-        Compiled::Done(n) => list_macro(&code[..n], &mut state, text),
+        Err(refusal) => lines::put_refused(text, 0, refusal),
+        Ok(n) => list_macro(&code[..n], &mut state, text),
     }
 }

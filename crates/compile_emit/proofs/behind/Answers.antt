@@ -12,13 +12,13 @@ use Rattle.compile_emit.proofs.behind.Goals as goal
 
 pub emit-q-requires : goal.emit-q-requires
 emit-q-requires c =
-    let a = c.args in let n = length a.out.now in let f = rw (behind-2 a.way a.depth a.p c.in-2.is) at
+    let a = c.args in let n = length a.out.now in let f = rw (behind-2 (number_of_way a.way) a.depth a.p (ap number_of_way c.in-IfTrue.is)) at
     c.requires.4 in fits-mark n a.depth (fits-op n (fits-mark n (a.depth + 1) f))
 
 pub shape-r-requires : goal.shape-r-requires
 shape-r-requires c =
     let a = c.args in let n = length a.out.now in
-    let f = rw (behind-2 a.way a.depth a.p c.in-2.is) at
+    let f = rw (behind-2 (number_of_way a.way) a.depth a.p (ap number_of_way c.in-IfTrue.is)) at
     c.requires.4 in (
       omega arith,
       omega arith,
@@ -29,14 +29,14 @@ shape-r-requires c =
 
 pub emit-s-requires : goal.emit-s-requires
 emit-s-requires c =
-    let a = c.args in let n = length a.out.now in let f = rw (behind-2 a.way a.depth a.p c.in-2.is) at
+    let a = c.args in let n = length a.out.now in let f = rw (behind-2 (number_of_way a.way) a.depth a.p (ap number_of_way c.in-IfTrue.is)) at
     c.requires.4 in mark-fits (λ (q : Cursor). moved q) c.emit-q.result c.emit-q.new.out a.holds a.depth
     (take a.depth a.stack.now) c.shape-r.ensures
     (op_fits (λ (q : Cursor). moved (cursor_shaped a.depth q)) a.p a.out.now 8 0 (a.end + 2) c.emit-q.ensures (fits-mark n (a.depth + 1) f))
 
 pub shape-requires : goal.shape-requires
 shape-requires c =
-    let a = c.args in let n = length a.out.now in let f = rw (behind-2 a.way a.depth a.p c.in-2.is) at
+    let a = c.args in let n = length a.out.now in let f = rw (behind-2 (number_of_way a.way) a.depth a.p (ap number_of_way c.in-IfTrue.is)) at
     c.requires.4 in (
       omega (arith, c.requires.1),
       omega (arith, c.requires.2),
@@ -47,21 +47,21 @@ shape-requires c =
           (op_fits (λ (q : Cursor). cursor_shaped (a.depth + 1) (moved (cursor_shaped a.depth q))) a.p a.out.now 8 0 (a.end + 2) c.emit-q.ensures f)),
     )
 
-pub shape-requires-in-3 : goal.shape-requires-in-3
-shape-requires-in-3 c =
+pub shape-requires-in-IfFalse : goal.shape-requires-in-IfFalse
+shape-requires-in-IfFalse c =
     let a = c.args in let n = length a.out.now in
-    let f = rw (behind-3 a.way a.depth a.p c.in-3.is) at c.requires.4 in
+    let f = rw (behind-3 (number_of_way a.way) a.depth a.p (ap number_of_way c.in-IfFalse.is)) at c.requires.4 in
     (omega arith, omega arith, omega arith, f)
 
 pub emit-requires : goal.emit-requires
 emit-requires c =
     let a = c.args in let n = length a.out.now in let r = c.in_default.in_default-own.rest in rw (behind-0 a.way a.depth a.p r.0.1 r.1) at c.requires.4
 
-pub returns-in-2 : goal.returns-in-2
+pub returns-in-IfTrue : goal.returns-in-IfTrue
 unfolding cursor_behind emit_behind
-returns-in-2 c =
+returns-in-IfTrue c =
     rw (
-      c.in-2.is,
+      c.in-IfTrue.is,
       c.shape.ensures.0,
       c.shape.ensures.1,
       c.emit-s.ensures.0,
@@ -72,10 +72,10 @@ returns-in-2 c =
       c.emit-q.ensures.1,
     ) (refl, refl)
 
-pub returns-in-3 : goal.returns-in-3
+pub returns-in-IfFalse : goal.returns-in-IfFalse
 unfolding cursor_behind emit_behind
-returns-in-3 c =
-    rw c.in-3.is c.shape-in-3.ensures
+returns-in-IfFalse c =
+    rw c.in-IfFalse.is c.shape-in-IfFalse.ensures
 
 pub returns-in_default : goal.returns-in_default
 unfolding cursor_behind emit_behind

@@ -16,7 +16,6 @@ use Rattle.compile_emit.proofs.declare.Goals as goal
 pub loop-i-init : goal.loop-i-init
 loop-i-init c =
     let a = c.args in (
-      omega arith,
       rw (sub-zero a.count),
       rw (sub-zero a.count, add-zero a.at),
       rw (sub-zero a.count, add-zero a.at),
@@ -31,7 +30,7 @@ declare_one-requires c =
     let w = c.loop-i in let s = part-from a.part.now (8 * w.i) in (
       rw s (omega (arith, length-drop (8 * w.i) a.part.now, c.requires.0)),
       rw s (fits-before (length w.out) (later-head (drop (8 * (w.i + 1)) a.part.now) (a.count - (w.i + 1))
-          (cursor_declared (half_at (drop (8 * w.i) a.part.now) 0) w.p)) (rw (cursors-step a.part.now a.count w.i w.p (omega arith)) at w.invariant.4)),
+          (cursor_declared (half_at (drop (8 * w.i) a.part.now) 0) w.p)) (rw (cursors-step a.part.now a.count w.i w.p (omega arith)) at w.invariant.3)),
     )
 
 pub finish-p-requires : goal.finish-p-requires
@@ -42,7 +41,7 @@ finish-p-requires c =
     rw s at c.declare_one.ensures.0 in let f : Fits (cursor_declared (half_at (drop (8 * w.i) a.part.now) 0) w.p)
     (length w.out) = fits-before (length w.out) (later-head (drop (8 * (w.i + 1)) a.part.now) (a.count - (w.i + 1))
     (cursor_declared (half_at (drop (8 * w.i) a.part.now) 0) w.p)) (rw (cursors-step a.part.now a.count w.i w.p (omega arith)) at
-    w.invariant.4) in (omega (arith, w.invariant.6), rw q f.address-small)
+    w.invariant.3) in (omega (arith, w.invariant.5), rw q f.address-small)
 
 pub loop-i-preserved : goal.loop-i-preserved
 loop-i-preserved c =
@@ -58,22 +57,21 @@ loop-i-preserved c =
     let r : c.finish-p.result ≡ cursor_declared (half_at (drop (8 * w.i) a.part.now) 0) w.p = c.finish-p.ensures.0 ∙ q in
     let t : c.finish-p.new.ends ≡ set w.ends (a.at + w.i)
     (cursor_declared (half_at (drop (8 * w.i) a.part.now) 0) w.p).address = rw q at c.finish-p.ensures.1 in (
-      omega arith,
-      rw r (w.invariant.1 ∙ cursors-step a.part.now a.count w.i w.p (omega arith)),
-      rw (r, o) (w.invariant.2 ∙ emits-step a.part.now a.count w.i w.p (omega arith) a.known.now a.at w.out),
-      rw (r, t) (w.invariant.3 ∙ finishes-step a.part.now a.count w.i w.p (omega arith) w.ends a.at),
-      rw (r, m) (rw (cursors-step a.part.now a.count w.i w.p (omega arith)) at w.invariant.4),
-      m ∙ w.invariant.5,
-      ap (length {A = ℕ}) t ∙ (length-set {A = ℕ} w.ends (a.at + w.i) (cursor_declared (half_at (drop (8 * w.i) a.part.now) 0) w.p).address ∙ w.invariant.6),
+      rw r (w.invariant.0 ∙ cursors-step a.part.now a.count w.i w.p (omega arith)),
+      rw (r, o) (w.invariant.1 ∙ emits-step a.part.now a.count w.i w.p (omega arith) a.known.now a.at w.out),
+      rw (r, t) (w.invariant.2 ∙ finishes-step a.part.now a.count w.i w.p (omega arith) w.ends a.at),
+      rw (r, m) (rw (cursors-step a.part.now a.count w.i w.p (omega arith)) at w.invariant.3),
+      m ∙ w.invariant.4,
+      ap (length {A = ℕ}) t ∙ (length-set {A = ℕ} w.ends (a.at + w.i) (cursor_declared (half_at (drop (8 * w.i) a.part.now) 0) w.p).address ∙ w.invariant.5),
     )
 
 pub shape_of-ends : goal.shape_of-ends
-shape_of-ends c = c.loop-i.invariant.6
+shape_of-ends c = c.loop-i.invariant.5
 
 pub shape_of-out : goal.shape_of-out
-shape_of-out c = c.loop-i.invariant.5
+shape_of-out c = c.loop-i.invariant.4
 
 pub returns : goal.returns
 returns c = let a = c.args in let w = c.loop-i in let z : a.count - w.i ≡ 0 = omega arith in
     let k = heads-none (drop (8 * w.i) a.part.now) a.known.now w.ends w.out (a.at + w.i) (a.count - w.i) w.p z in
-    (sym (w.invariant.1 ∙ k.0), sym (w.invariant.2 ∙ k.1), sym (w.invariant.3 ∙ k.2))
+    (sym (w.invariant.0 ∙ k.0), sym (w.invariant.1 ∙ k.1), sym (w.invariant.2 ∙ k.2))

@@ -11,20 +11,19 @@ use Rattle.words.specs.Numbers.{half_at}
 use Rattle.compile_emit.proofs.holds_in.Goals as goal
 
 pub loop-i-init : goal.loop-i-init
-loop-i-init c = let a = c.args in (omega arith, rw (sub-zero a.count) (omega arith), omega arith)
+loop-i-init c = let a = c.args in (rw (sub-zero a.count) (omega arith), omega arith)
 
 pub overflow_add-n : goal.overflow_add-n
-overflow_add-n c = omega (arith, c.holds_by-n.ensures, holds-one c.kind_at.result, c.loop-i.invariant.2)
+overflow_add-n c = omega (arith, c.holds_by-n.ensures, holds-one c.kind_at.result, c.loop-i.invariant.1)
 
 pub loop-i-preserved : goal.loop-i-preserved
 loop-i-preserved c =
     let a = c.args in let w = c.loop-i in
     let h : c.holds_by-n.result ≡ holds_by (half_at a.part.now (8 * w.i)) = c.holds_by-n.ensures
     ∙ ap (λ (k : ℕ). holds_by k) c.kind_at.ensures in (
-      omega arith,
-      omega (arith, w.invariant.1, holds-step a.part.now a.count w.i (omega arith), h),
-      omega (arith, w.invariant.2, c.holds_by-n.ensures, holds-one c.kind_at.result),
+      omega (arith, w.invariant.0, holds-step a.part.now a.count w.i (omega arith), h),
+      omega (arith, w.invariant.1, c.holds_by-n.ensures, holds-one c.kind_at.result),
     )
 
 pub returns : goal.returns
-returns c = let a = c.args in let w = c.loop-i in omega (arith, w.invariant.1, holds-none (drop (8 * w.i) a.part.now) (a.count - w.i) (omega arith))
+returns c = let a = c.args in let w = c.loop-i in omega (arith, w.invariant.0, holds-none (drop (8 * w.i) a.part.now) (a.count - w.i) (omega arith))

@@ -6,7 +6,4 @@ use lib.ListN.{drop}
 use Rattle.compile_emit.proofs.holds_in.Given as goal
 
 abbrev pub invariant-loop-i : goal.invariant-loop-i
-invariant-loop-i l = (l.i ≤ l.count) × (holds_head l.part l.count ≡ l.n + holds_head (drop (8 * l.i) l.part) (l.count - l.i)) × (l.n ≤ l.i)
-
-abbrev pub decreases-loop-i : goal.decreases-loop-i
-decreases-loop-i l = l.count - l.i
+invariant-loop-i l = (holds_head l.part l.count ≡ l.n + holds_head (drop (8 * l.i) l.part) (l.count - l.i)) × (l.n ≤ l.i)

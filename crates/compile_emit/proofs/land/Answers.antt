@@ -6,7 +6,7 @@ use Rattle.compile_emit.specs.EmitEntryLaws.{passed-hit, passed-hold, passed-oth
 use Rattle.compile_emit.proofs.land.Goals as goal
 
 pub loop-i-init : goal.loop-i-init
-loop-i-init c = (omega arith, refl, omega arith, omega arith)
+loop-i-init c = (omega arith, refl, omega arith)
 
 pub overflow_cast-env : goal.overflow_cast-env
 overflow_cast-env c =
@@ -22,7 +22,7 @@ returns-then-m-name c =
 
 pub overflow_add-n : goal.overflow_add-n
 overflow_add-n c =
-    omega (arith, c.requires, c.loop-i.invariant.3)
+    omega (arith, c.requires, c.loop-i.invariant.2)
 
 pub loop-i-preserved-then-m-eq65539 : goal.loop-i-preserved-then-m-eq65539
 loop-i-preserved-then-m-eq65539 c =
@@ -30,7 +30,6 @@ loop-i-preserved-then-m-eq65539 c =
     let a = c.args in (
       w.invariant.0 ∙ omega (arith, passed-hold a.env.now a.name w.i (omega arith) c.if-m-name.false c.if-m-eq65539.true),
       w.invariant.1 ∙ meant-miss a.env.now a.aims.now a.name w.i (omega arith) c.if-m-name.false,
-      omega arith,
       omega arith,
     )
 
@@ -40,7 +39,6 @@ loop-i-preserved c =
     let a = c.args in (
       w.invariant.0 ∙ omega (arith, passed-other a.env.now a.name w.i (omega arith) c.if-m-name.false c.if-m-eq65539.false),
       w.invariant.1 ∙ meant-miss a.env.now a.aims.now a.name w.i (omega arith) c.if-m-name.false,
-      omega arith,
       omega arith,
     )
 

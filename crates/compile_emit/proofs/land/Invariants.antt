@@ -7,7 +7,4 @@ use Rattle.compile_emit.proofs.land.Given as goal
 
 abbrev pub invariant-loop-i : goal.invariant-loop-i
 invariant-loop-i l =
-    (passed_to l.name (env_of l.env l.top) ≡ l.n + passed_to l.name (env_of l.env l.i)) × (meaning_of l.name (env_of l.env l.top) l.aims ≡ meaning_of l.name (env_of l.env l.i) l.aims) × (l.i ≤ l.top) × (l.n + l.i ≤ l.top)
-
-abbrev pub decreases-loop-i : goal.decreases-loop-i
-decreases-loop-i l = l.i
+    (passed_to l.name (env_of l.env l.top) ≡ l.n + passed_to l.name (env_of l.env l.i)) × (meaning_of l.name (env_of l.env l.top) l.aims ≡ meaning_of l.name (env_of l.env l.i) l.aims) × (l.n + l.i ≤ l.top)

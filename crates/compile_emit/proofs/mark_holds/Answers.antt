@@ -5,23 +5,21 @@ use Rattle.compile_emit.specs.EmitEntryLaws.{marks-start, marks-push}
 use Rattle.compile_emit.proofs.mark_holds.Goals as goal
 
 pub loop-i-init : goal.loop-i-init
-loop-i-init c = (omega arith, marks-start c.args.env.now c.args.top)
+loop-i-init c = marks-start c.args.env.now c.args.top
 
 pub push-requires : goal.push-requires
-push-requires c = omega (arith, c.loop-i.invariant.1.same)
+push-requires c = omega (arith, c.loop-i.invariant.same)
 
 pub loop-i-preserved : goal.loop-i-preserved
-loop-i-preserved c = (
-  omega arith,
+loop-i-preserved c =
   marks-push c.args.env.now
       c.loop-i.env c.push.new.env
       c.args.top c.loop-i.i
-      (omega (arith, c.loop-i.invariant.1.same)) c.loop-i.invariant.1
-      c.push.ensures,
-)
+      (omega (arith, c.loop-i.invariant.same)) c.loop-i.invariant
+      c.push.ensures
 
 pub shape_of-env : goal.shape_of-env
-shape_of-env c = c.loop-i.invariant.1.same
+shape_of-env c = c.loop-i.invariant.same
 
 pub returns : goal.returns
-returns c = let e : c.loop-i.i ≡ c.args.count = omega arith in rw (← e) c.loop-i.invariant.1
+returns c = let e : c.loop-i.i ≡ c.args.count = omega arith in rw (← e) c.loop-i.invariant

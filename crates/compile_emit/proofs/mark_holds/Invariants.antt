@@ -1,12 +1,8 @@
-use Prim.Native.Nat.{◌+◌, ◌≤◌}
+use Prim.Native.Nat.{◌+◌}
 use Rattle.table_scopes.specs.Environment.{env_of, Grown}
 use mathlib.Core.List.{◌++◌}
-use Prim.Native.Nat.{◌-◌}
 use Rattle.compile_scopes.specs.Marks.{marks}
 use Rattle.compile_emit.proofs.mark_holds.Given as goal
 
 abbrev pub invariant-loop-i : goal.invariant-loop-i
-invariant-loop-i l = (l.i ≤ l.count) × Grown l.top l.initial.env l.env (l.top + l.i) (marks l.i ++ env_of l.initial.env l.top) l.i
-
-abbrev pub decreases-loop-i : goal.decreases-loop-i
-decreases-loop-i l = l.count - l.i
+invariant-loop-i l = Grown l.top l.initial.env l.env (l.top + l.i) (marks l.i ++ env_of l.initial.env l.top) l.i

@@ -12,12 +12,12 @@ put_type-place-requires c =
       c.requires.0,
       omega (arith, s.least, c.requires.1),
       omega (arith, c.requires.3),
-      types-room s c.requires.3 c.loop-i-test.true c.requires.4,
+      types-room s c.requires.3 (omega arith) c.requires.4,
     )
 
 pub loop-i-preserved : goal.loop-i-preserved
 loop-i-preserved c =
-    types-next c.loop-i.invariant c.requires.3 c.loop-i-test.true c.put_type-place.ensures
+    types-next c.loop-i.invariant c.requires.3 (omega arith) c.put_type-place.ensures
 
 pub shape_of-out : goal.shape_of-out
 shape_of-out c = c.loop-i.invariant.writing.long

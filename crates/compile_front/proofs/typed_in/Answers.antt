@@ -15,13 +15,9 @@ pub overflow_add-n : goal.overflow_add-n
 overflow_add-n c =
     omega (arith, cells-few c.kind_at.result, c.loop-i.invariant.few, c.requires.1)
 
-pub overflow_add-i : goal.overflow_add-i
-overflow_add-i c =
-    omega (arith, c.requires.1)
-
 pub loop-i-preserved : goal.loop-i-preserved
 loop-i-preserved c =
-    count_next c.loop-i.invariant c.cells_of-n.result c.loop-i-test.true c.requires.1
+    count_next c.loop-i.invariant c.cells_of-n.result (omega arith) c.requires.1
     (c.cells_of-n.ensures ∙ ap cells_of_kind c.kind_at.ensures)
 
 pub returns : goal.returns

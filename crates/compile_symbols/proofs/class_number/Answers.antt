@@ -1,57 +1,50 @@
 -- The loop's invariant, ClassSoFar: so many classes passed, and the name's number among those that are left, make its number (specs/Classes).
-use mathlib.Core.Path.{sym, ◌∙◌, ap}
-use Prim.Native.Nat.{ℕ}
+use mathlib.Core.Path.{◌≡◌, sym, ◌∙◌, ap}
+use native.Mathlib.Nat.{sub-zero}
+use Prim.Native.Nat.{ℕ, ◌+◌, ◌-◌}
 use native.Mathlib.Omega.{arith}
 use Rattle.compile_symbols.specs.Entries.{one_if, one-few}
 use Rattle.compile_symbols.specs.Classes.{class-start, class-within, class-hit, class-next, class-end}
 use Rattle.compile_symbols.proofs.class_number.Goals as goal
 
--- src/lib.rt:93:5
-pub loop-left-init : goal.loop-left-init
-loop-left-init c =
-    class-start c.args.name c.requires
+pub loop-i-init : goal.loop-i-init
+loop-i-init c =
+    rw (sub-zero c.args.count) (class-start c.args.name c.requires)
 
--- src/lib.rt:94:12
 pub names_class-requires : goal.names_class-requires
 names_class-requires c =
-    omega (arith, (class-within c.requires.tabled c.loop-left.invariant c.loop-left-test.true).some, (class-within c.requires.tabled c.loop-left.invariant c.loop-left-test.true).within)
+    omega (arith, (class-within c.requires.tabled c.loop-i.invariant (omega arith)).some, (class-within c.requires.tabled c.loop-i.invariant (omega arith)).within)
 
--- src/lib.rt:95:13
 pub returns-then-names_class : goal.returns-then-names_class
 returns-then-names_class c =
-    class-hit c.requires.tabled c.loop-left.invariant c.loop-left-test.true (sym c.names_class.ensures ∙ c.if-names_class.true)
+    class-hit c.requires.tabled c.loop-i.invariant (omega arith) (sym c.names_class.ensures ∙ c.if-names_class.true)
 
--- src/lib.rt:97:21
 pub kind_at-requires : goal.kind_at-requires
 kind_at-requires c =
     omega (
       arith,
-      (class-within c.requires.tabled c.loop-left.invariant c.loop-left-test.true).some,
-      (class-within c.requires.tabled c.loop-left.invariant c.loop-left-test.true).within,
+      (class-within c.requires.tabled c.loop-i.invariant (omega arith)).some,
+      (class-within c.requires.tabled c.loop-i.invariant (omega arith)).within,
     )
 
--- src/lib.rt:97:9
 pub overflow_add-n : goal.overflow_add-n
 overflow_add-n c =
-    let w = class-within c.requires.tabled c.loop-left.invariant c.loop-left-test.true in omega (arith, w.within, one-few c.kind_at.result 11, c.loop-left.invariant.few)
+    let w = class-within c.requires.tabled c.loop-i.invariant (omega arith) in omega (arith, w.within, one-few c.kind_at.result 11, c.loop-i.invariant.few)
 
--- src/lib.rt:98:18
 pub size_at-place-requires : goal.size_at-place-requires
 size_at-place-requires c =
-    let w = class-within c.requires.tabled c.loop-left.invariant c.loop-left-test.true in omega (arith, w.some, w.within, w.wide)
+    let w = class-within c.requires.tabled c.loop-i.invariant (omega arith) in omega (arith, w.some, w.within, w.wide)
 
--- src/lib.rt:98:9
 pub overflow_add-place : goal.overflow_add-place
 overflow_add-place c =
-    let w = class-within c.requires.tabled c.loop-left.invariant c.loop-left-test.true in omega (arith, w.some, w.within)
+    let w = class-within c.requires.tabled c.loop-i.invariant (omega arith) in omega (arith, w.some, w.within)
 
--- src/lib.rt:93:5
-pub loop-left-preserved : goal.loop-left-preserved
-loop-left-preserved c =
-    class-next c.requires.tabled c.loop-left.invariant c.one_if-n.result c.size_at-place.result c.loop-left-test.true
+pub loop-i-preserved : goal.loop-i-preserved
+loop-i-preserved c =
+    let fewer : c.args.count - (c.loop-i.i + 1) ≡ c.args.count - c.loop-i.i - 1 = omega arith in
+    rw fewer (class-next c.requires.tabled c.loop-i.invariant c.one_if-n.result c.size_at-place.result (omega arith)
     (sym c.names_class.ensures ∙ c.if-names_class.false)
-    (c.one_if-n.ensures ∙ ap (λ (k : ℕ). one_if k 11) c.kind_at.ensures) c.size_at-place.ensures
+    (c.one_if-n.ensures ∙ ap (λ (k : ℕ). one_if k 11) c.kind_at.ensures) c.size_at-place.ensures)
 
--- src/lib.rt:86:1
 pub returns : goal.returns
-returns c = class-end c.requires.tabled c.loop-left.invariant (omega arith)
+returns c = class-end c.requires.tabled c.loop-i.invariant (omega arith)

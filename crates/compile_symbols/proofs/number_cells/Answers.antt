@@ -25,7 +25,7 @@ overflow_add-cell c =
 
 pub loop-place-preserved : goal.loop-place-preserved
 loop-place-preserved c =
-    cells-next c.loop-place.invariant c.entry_known.result c.cells_of-cell.result c.loop-place-test.true
+    cells-next c.loop-place.invariant c.entry_known.result c.cells_of-cell.result (omega arith)
     c.requires.2 c.entry_known.ensures (c.cells_of-cell.ensures ∙ ap cells_of_kind c.kind_at.ensures)
 
 pub shape_of-known : goal.shape_of-known

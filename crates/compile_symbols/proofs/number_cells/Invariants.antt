@@ -1,10 +1,6 @@
-use Prim.Native.Nat.{◌-◌}
 use Rattle.compile_symbols.specs.Entries.{CellsSoFar}
 use Rattle.compile_symbols.specs.Tabled.{classes_in}
 use Rattle.compile_symbols.proofs.number_cells.Given as goal
 
 abbrev pub invariant-loop-place : goal.invariant-loop-place
 invariant-loop-place l = CellsSoFar l.table (classes_in l.table) l.initial.known l.known l.owner l.from l.to l.first l.place l.cell
-
-abbrev pub decreases-loop-place : goal.decreases-loop-place
-decreases-loop-place l = l.to - l.place

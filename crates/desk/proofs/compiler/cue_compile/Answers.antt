@@ -5,15 +5,15 @@ use Rattle.desk.proofs.compiler.cue_compile.Goals as goal
 
 pub pack-requires : goal.pack-requires
 pack-requires c =
-    let few = law.macro-short _ _ _ c.compile.result c.compile.ensures (λ k. (c.type_inv.table k).fits) _ c.in-Done.is in
+    let few = law.macro-short _ _ _ c.compile.result c.compile.ensures (λ k. (c.type_inv.table k).fits) _ c.in-Ok.is in
     (omega arith, omega arith, omega arith, omega (arith, few))
 
 pub pack_refusal-requires : goal.pack_refusal-requires
 pack_refusal-requires c =
-    law.compiled-small _ _ _ c.compile.result c.compile.ensures (λ k. (c.type_inv.table k).fits) _ c.in-Refused.is
+    law.compiled-small _ _ _ c.compile.result c.compile.ensures (λ k. (c.type_inv.table k).fits) _ c.in-Err.is
 
-pub returns-in-Done : goal.returns-in-Done
-returns-in-Done c = law.compiled _ _ _ c.compile.result c.compile.ensures _ c.in-Done.is _ c.pack.ensures
+pub returns-in-Ok : goal.returns-in-Ok
+returns-in-Ok c = law.compiled _ _ _ c.compile.result c.compile.ensures _ c.in-Ok.is _ c.pack.ensures
 
-pub returns-in-Refused : goal.returns-in-Refused
-returns-in-Refused c = law.compiled _ _ _ c.compile.result c.compile.ensures _ c.in-Refused.is _ c.pack_refusal.ensures
+pub returns-in-Err : goal.returns-in-Err
+returns-in-Err c = law.compiled _ _ _ c.compile.result c.compile.ensures _ c.in-Err.is _ c.pack_refusal.ensures
