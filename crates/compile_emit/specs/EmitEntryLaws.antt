@@ -61,10 +61,6 @@ module _ (w d : ℕ) (p : Cursor) where
   unfolding cursor_behind
   behind-3 e = rw e
 
-  pub behind-0 : ¬ (w ≡ 2) → ¬ (w ≡ 3) → cursor_behind w d p ≡ moved p
-  unfolding cursor_behind
-  behind-0 a b = rw (ne_eqb _ _ a, ne_eqb _ _ b)
-
 -- ── heads ──
 module _ (k : ℕ) (p : Cursor) where
   pub declared-10 : k ≡ 10 → cursor_declared k p ≡ moved (moved p)

@@ -36,6 +36,7 @@ pub fn end_of(aims: &[u16], place: usize) -> u32
 }
 
 // ── entries with no operands, or expressions only ──
+#[tactic(auto, unfolding(crate::specs::EmitEntry::names))]
 fn names(kind: u16) -> bool
     ensures { result ≡ names kind }
 {

@@ -48,12 +48,9 @@ fn put_same(ty: u8, count: usize, out: &mut [u8], from: usize) -> usize
     requires { from + count ≤ length out.old }
     ensures { Wrote out.old from (replicate count ty) out.new result }
 {
-    let mut at = from;
-    for i in 0..count {
-        out[at] = ty;
-        at += 1;
-    }
-    at
+    let end = from + count;
+    out[from..end].fill(ty);
+    end
 }
 
 // The byte of an entry's type, for each of its cells.

@@ -1,13 +1,13 @@
 -- `compile_emit::behind` meets its contract.
-use borrow.Author.Tests.{ne_eqb}
-use mathlib.Core.Path.{refl}
+use mathlib.Core.Logic.{inl, inr}
+use mathlib.Core.Path.{refl, ap}
 use native.Mathlib.Omega.{arith}
 use Prim.Native.Nat.{◌+◌}
 use lib.ListN.{length, take}
 use Rattle.compile_output.specs.declared.Cursor.{Cursor}
 use Rattle.compile_output.specs.EmitRecord.{moved, cursor_shaped}
-use Rattle.compile_emit.specs.EmitEntryLaws.{fits-op, op_fits, fits-mark, mark-fits, behind-0, behind-2, behind-3}
-use Rattle.compile_emit.specs.EmitEntry.{cursor_behind, emit_behind}
+use Rattle.compile_emit.specs.EmitEntryLaws.{fits-op, op_fits, fits-mark, mark-fits, behind-2, behind-3}
+use Rattle.compile_emit.specs.EmitEntry.{cursor_behind, emit_behind, number_of_way}
 use Rattle.compile_emit.proofs.behind.Goals as goal
 
 pub emit-q-requires : goal.emit-q-requires
@@ -54,8 +54,8 @@ shape-requires-in-IfFalse c =
     (omega arith, omega arith, omega arith, f)
 
 pub emit-requires : goal.emit-requires
-emit-requires c =
-    let a = c.args in let n = length a.out.now in let r = c.in_default.in_default-own.rest in rw (behind-0 a.way a.depth a.p r.0.1 r.1) at c.requires.4
+unfolding cursor_behind
+emit-requires c = elim c.in-Plain.is [ inl e ↦ rw e at c.requires.4 | inr e ↦ rw e at c.requires.4 ]
 
 pub returns-in-IfTrue : goal.returns-in-IfTrue
 unfolding cursor_behind emit_behind
@@ -77,7 +77,6 @@ unfolding cursor_behind emit_behind
 returns-in-IfFalse c =
     rw c.in-IfFalse.is c.shape-in-IfFalse.ensures
 
-pub returns-in_default : goal.returns-in_default
+pub returns-in-Plain : goal.returns-in-Plain
 unfolding cursor_behind emit_behind
-returns-in_default c =
-    let r = c.in_default.in_default-own.rest in rw (ne_eqb _ _ r.0.1, ne_eqb _ _ r.1) c.emit.ensures
+returns-in-Plain c = elim c.in-Plain.is [ inl e ↦ rw e c.emit.ensures | inr e ↦ rw e c.emit.ensures ]
