@@ -9,9 +9,7 @@ use Rattle.std.proofs.Math.Seq.{sets}
 use borrow.Author.Tests.{eq-eqb, ne_eqb}
 use Rattle.logic.specs.Choice.{If◌then◌else◌}
 use Rattle.words.specs.Numbers.{half_at}
-use Rattle.table_scopes.specs.Environment.{find, passing, shut, env_of, Grown}
-use Rattle.table_scopes.specs.declared.environment.Found.{Found}
-use Rattle.table_scopes.specs.declared.environment.Found.TheVariants.{Nothing, Def}
+use Rattle.table_scopes.specs.Environment.{Found, Nothing, Def, find, passing, shut, env_of, Grown}
 use Rattle.table_scopes.specs.EnvironmentLaws.{top-item, grown-push, stored, fewer}
 use Rattle.table_entries.specs.Entries.{half-part}
 use Rattle.compile_symbols.specs.Numbers.{type_in, second_in}

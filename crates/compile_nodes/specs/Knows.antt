@@ -10,9 +10,7 @@ use Rattle.bytecode.specs.Instructions.{Owner}
 use Rattle.compile_code.specs.Compile.{Around, inside, outermost, bound, global, held, labels, scopes_of, passing, the_labels, has_label, size_goto, label_at, kept, cell_of}
 use Rattle.compile_code.specs.Compile.{ty_in, class_number, body_number, field_number}
 use Rattle.compile_code.specs.Encode.{owner_code}
-use Rattle.table_scopes.specs.declared.environment.Found.{Found}
-use Rattle.table_scopes.specs.declared.environment.Found.TheVariants.{Nothing, Def}
-use Rattle.table_scopes.specs.Environment.{Item, item, find}
+use Rattle.table_scopes.specs.Environment.{Item, item, Found, Nothing, Def, find}
 use Rattle.compile_symbols.specs.Numbers.{packed}
 
 -- numbers that stand at a place of a list

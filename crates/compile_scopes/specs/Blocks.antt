@@ -18,9 +18,7 @@ use Rattle.compile_code.specs.Compile.{Around, inside, bound, labels, scopes_of,
 use Rattle.compile_names.specs.Good.{GoodHead}
 use Rattle.compile_names.specs.Known.{of_block, first-append, nothing}
 use Rattle.compile_symbols.specs.Numbers.{numbers_from, cells_within}
-use Rattle.table_scopes.specs.declared.environment.Found.{Found}
-use Rattle.table_scopes.specs.declared.environment.Found.TheVariants.{Nothing, Def}
-use Rattle.table_scopes.specs.Environment.{Item, find, here, add_all, shut}
+use Rattle.table_scopes.specs.Environment.{Item, Found, Nothing, Def, find, here, add_all, shut}
 use Rattle.table_scopes.specs.Environment as env
 use Rattle.table_scopes.specs.EnvironmentLaws.{first_in, or_outer, Small, small-append, find-block}
 use Rattle.compile_nodes.specs.Ends.{around_head, at_head, ends_items}

@@ -31,9 +31,7 @@ use Rattle.compile_simulation.specs.Sizes.{len_s}
 use Rattle.compile_names.specs.Good.{GoodTy, GoodHead}
 use Rattle.compile_names.specs.Known.{Style, of_block, of_root, of_shared, Entered, entered-scopes, entered-past, bound-look, not-again, outer, uncross, nothing}
 use Rattle.compile_symbols.specs.Numbers.{packed, number_of, numbers_from, cells_within}
-use Rattle.table_scopes.specs.declared.environment.Found.{Found}
-use Rattle.table_scopes.specs.declared.environment.Found.TheVariants.{Nothing, Def}
-use Rattle.table_scopes.specs.Environment.{Item, find}
+use Rattle.table_scopes.specs.Environment.{Item, Found, Nothing, Def, find}
 use Rattle.table_scopes.specs.EnvironmentLaws.{first_in}
 use Rattle.compile_nodes.specs.Ends.{around_head, below_s, ends_items}
 use Rattle.compile_nodes.specs.Knows.{Lies, Walk, MeansCell, MeansClass, Means, Known, Knows, target_of}

@@ -10,8 +10,7 @@ use Rattle.std.proofs.Math.Dec.{eqb}
 use borrow.Author.Tests.{ne_eqb, eqb-true, le-ltb}
 use Rattle.logic.specs.Choice.{If◌then◌else◌}
 use Rattle.language.specs.Tree.{Decl, declare, holding}
-use Rattle.table_scopes.specs.declared.environment.Found.TheVariants.{Nothing, Def}
-use Rattle.table_scopes.specs.Environment.{Item, item, find, here, adding, add_all}
+use Rattle.table_scopes.specs.Environment.{Item, item, Nothing, Def, find, here, adding, add_all}
 use Rattle.table_scopes.specs.EnvironmentLaws.{first_in, Small, past-mark, passing-none}
 use Rattle.compile_code.specs.Compile.{Around}
 use Rattle.compile_nodes.specs.Knows.{hold_mark, passed_to, Walk, Knows}

@@ -10,9 +10,7 @@ use Rattle.language.specs.Names.{Sort, is_variable, is_label, is_class, is_field
 use Rattle.language.specs.Names as names
 use Rattle.compile_code.specs.Compile.{Around, labels, scopes_of, bound_at, global_at, cell_of, numbered}
 use Rattle.compile_symbols.specs.Numbers.{byte_of}
-use Rattle.table_scopes.specs.declared.environment.Found.{Found}
-use Rattle.table_scopes.specs.declared.environment.Found.TheVariants.{Nothing, Def}
-use Rattle.table_scopes.specs.Environment.{Item, item, find, add_all, passing, opened, shut}
+use Rattle.table_scopes.specs.Environment.{Item, item, Found, Nothing, Def, find, add_all, passing, opened, shut}
 use Rattle.table_scopes.specs.EnvironmentLaws.{first_in, or_outer, Small, find-block}
 use Rattle.compile_nodes.specs.Knows.{Walk, MeansCell, Means, Known, Knows}
 use Rattle.compile_code.specs.Counts.{index-most}

@@ -32,8 +32,7 @@ use Rattle.compile_code.specs.Compile.{Around, kept, index_of, among_names, name
 use Rattle.compile_names.specs.Known.{Style, first-append, nothing}
 use Rattle.compile_names.specs.Globals.{GoodGlobals, good-locals}
 use Rattle.compile_symbols.specs.Numbers.{packed, numbers_from, numbers_fields, numbers_globals}
-use Rattle.table_scopes.specs.declared.environment.Found.{Found}
-use Rattle.table_scopes.specs.declared.environment.Found.TheVariants.{Nothing, Def}
+use Rattle.table_scopes.specs.Environment.{Found, Nothing, Def}
 use Rattle.table_scopes.specs.EnvironmentLaws.{first_in, or_outer}
 use Rattle.compile_nodes.specs.Knows.{Lies, Walk, result_of}
 use Rattle.compile_scopes.specs.Lies.{lies-right, lies-tail, lies-next, lies-here}

@@ -24,9 +24,7 @@ use Rattle.compile_code.specs.Encode.{owner_code, start_of_root}
 use Rattle.compile_names.specs.Known.{Style, of_root, of_shared, first-append}
 use Rattle.compile_names.specs.Globals.{good-tree}
 use Rattle.compile_symbols.specs.Numbers.{numbers_from, numbers_globals, numbers_of}
-use Rattle.table_scopes.specs.declared.environment.Found.{Found}
-use Rattle.table_scopes.specs.declared.environment.Found.TheVariants.{Nothing, Def}
-use Rattle.table_scopes.specs.Environment.{opened, add_all}
+use Rattle.table_scopes.specs.Environment.{Found, Nothing, Def, opened, add_all}
 use Rattle.table_scopes.specs.Environment as env
 use Rattle.table_scopes.specs.EnvironmentLaws.{first_in, or_outer, Small, small-append}
 use Rattle.compile_nodes.specs.Knows.{Lies, Walk, Means, Knows}

@@ -29,9 +29,7 @@ use Rattle.compile_code.specs.Encode.{root_variables, parameter_cells, start_of_
 use Rattle.compile_names.specs.Good.{GoodHead}
 use Rattle.compile_names.specs.Known.{of_root, of_shared, scopes-parameters}
 use Rattle.compile_symbols.specs.Numbers.{numbers_from, numbers_of, cells_within}
-use Rattle.table_scopes.specs.declared.environment.Found.{Found}
-use Rattle.table_scopes.specs.declared.environment.Found.TheVariants.{Nothing, Def}
-use Rattle.table_scopes.specs.Environment.{Item, find, add_all, opened, shut}
+use Rattle.table_scopes.specs.Environment.{Item, Found, Nothing, Def, find, add_all, opened, shut}
 use Rattle.table_scopes.specs.Environment as env
 use Rattle.table_scopes.specs.EnvironmentLaws.{first_in, or_outer, Small, find-block, passing-none}
 use Rattle.compile_nodes.specs.Ends.{around_head, at_head, ends_head, ends_items, ends_s, ends_e, below_s, below_e}

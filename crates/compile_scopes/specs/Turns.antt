@@ -11,8 +11,7 @@ use Rattle.compile_code.specs.Compile.{Around, inside, bound, scopes_of, held_in
 use Rattle.compile_code.specs.Encode.{owner_code}
 use Rattle.compile_names.specs.Known.{bound-look, nothing}
 use Rattle.compile_symbols.specs.Numbers.{packed}
-use Rattle.table_scopes.specs.declared.environment.Found.TheVariants.{Nothing, Def}
-use Rattle.table_scopes.specs.Environment.{Item, item, opened, find, here, add_all}
+use Rattle.table_scopes.specs.Environment.{Item, item, Nothing, Def, opened, find, here, add_all}
 use Rattle.table_scopes.specs.EnvironmentLaws.{first_in, Small, or_outer, find-item, past-mark, passing-none}
 use Rattle.table_scopes.specs.Sees.{Sees, sees-loop}
 use Rattle.compile_nodes.specs.Knows.{Walk, MeansCell, MeansLabel, Means, Knows, Lands, target_of}

@@ -19,9 +19,7 @@ use Rattle.language.specs.Faults.{type_e}
 use Rattle.language.specs.Names.{is_variable, is_label, Scope, nowhere, found, lookup}
 use Rattle.language.specs.Names as names
 use Rattle.language_laws.specs.Claims.{entries_of}
-use Rattle.table_scopes.specs.declared.environment.Found.{Found}
-use Rattle.table_scopes.specs.declared.environment.Found.TheVariants.{Nothing, Def}
-use Rattle.table_scopes.specs.Environment.{Item, env_of, find}
+use Rattle.table_scopes.specs.Environment.{Item, Found, Nothing, Def, env_of, find}
 use Rattle.table_entries.specs.Entries.{half-part, word-part}
 use Rattle.table_entries.specs.Stands.{Stands, fields}
 use Rattle.table_scopes.specs.Defines.{name-small}

@@ -5,9 +5,7 @@ use Rattle.std.proofs.Math.Option.{some}
 use Rattle.values.specs.Types.{Ty, integer, reference, ty_byte}
 use Rattle.language.specs.Names.{Sort, is_variable, is_label, is_class, is_field, is_procedure, is_control, as_variable, nowhere, found, lookup}
 use Rattle.language.specs.Names as names
-use Rattle.table_scopes.specs.declared.environment.Found.{Found}
-use Rattle.table_scopes.specs.declared.environment.Found.TheVariants.{Nothing, Def}
-use Rattle.table_scopes.specs.Environment.{Item, find}
+use Rattle.table_scopes.specs.Environment.{Item, Found, Nothing, Def, find}
 use Rattle.table_scopes.specs.Sees.{Agrees, Sees}
 use Rattle.compile_code.specs.Compile.{Around, scopes_of, cell_of, loading, storing, ty_in, class_number, body_number, field_number}
 use Rattle.compile_code.specs.Encode.{rec, record_of, owner_code}

@@ -1,8 +1,6 @@
 -- What a name in sight stands for: what is known of the entry that defines it.
 use Rattle.std.specs.Prelude.{List, ℕ, get_or}
-use Rattle.table_scopes.specs.declared.environment.Found.{Found}
-use Rattle.table_scopes.specs.declared.environment.Found.TheVariants.{Nothing, Def}
-use Rattle.table_scopes.specs.Environment.{Item, find}
+use Rattle.table_scopes.specs.Environment.{Item, Found, Nothing, Def, find}
 
 abbrev pub known_of : List ℕ → Found → ℕ
 known_of known Nothing = 0

@@ -8,8 +8,7 @@ use Rattle.language.specs.Names.{Scope}
 use Rattle.language.specs.Faults.{faults_items, faults_es}
 use Rattle.language_laws.specs.Claims.{entries_of}
 use Rattle.words.specs.Numbers.{half_at}
-use Rattle.table_scopes.specs.declared.environment.Found.{Found}
-use Rattle.table_scopes.specs.Environment.{env_of, find}
+use Rattle.table_scopes.specs.Environment.{Found, env_of, find}
 use Rattle.table_entries.specs.Stands.{Stands}
 use Rattle.table_entries.specs.Sizes.{Known}
 use Rattle.table_scopes.specs.declared.heads.Verdict.{Verdict}

@@ -22,9 +22,7 @@ use Rattle.language.specs.Names as names
 use Rattle.language.specs.Faults.{twice, type_faults, named, class_sort, faults_typed, faults_head, names_head, size_s, size_items}
 use Rattle.logic.specs.Tests.{clash, or-false}
 use Rattle.language_laws.specs.Claims.{entries_of}
-use Rattle.table_scopes.specs.declared.environment.Found.{Found}
-use Rattle.table_scopes.specs.declared.environment.Found.TheVariants.{Nothing, Def}
-use Rattle.table_scopes.specs.Environment.{Item, opened, shut, find, add_all}
+use Rattle.table_scopes.specs.Environment.{Item, Found, Nothing, Def, opened, shut, find, add_all}
 use Rattle.table_scopes.specs.Environment as env
 use Rattle.table_scopes.specs.EnvironmentLaws.{Small, small-append}
 use Rattle.table_entries.specs.Arity.{parts}

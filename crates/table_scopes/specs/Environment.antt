@@ -1,8 +1,7 @@
 -- The names in sight as lent numbers hold them, innermost first, and the steps of a lookup among them.
-use Rattle.std.specs.Prelude.{◌≡◌, Bool, true, false, ◌||◌, List, [], ◌∷◌, ℕ, zero, suc, ◌+◌, ◌*◌, ◌≤◌, length, get_or, ltb, eqb}
+use Rattle.std.specs.Prelude.{◌≡◌, Option, Some, None, Bool, true, false, ◌||◌, List, [], ◌∷◌, ℕ, zero, suc, ◌+◌, ◌*◌, ◌≤◌, length, get_or, ltb, eqb}
 use Rattle.logic.specs.Choice.{If◌then◌else◌}
-use Rattle.table_scopes.specs.declared.environment.Found.{Found}
-use Rattle.table_scopes.specs.declared.environment.Found.TheVariants.{Nothing, Def}
+use Rattle.table_scopes.specs.declared.environment.Definition.{Definition}
 
 -- a definition: its name, its sort, its number and its place; or a mark, whose name is no name
 pub data Item : Type 0 where
@@ -17,6 +16,16 @@ shut = 65537
 
 abbrev pub value : ℕ
 value = 65538
+
+-- what is found of a name: nothing, or the sort, the number and the place of its definition, and whether a wall lies between
+pub data Found : Type 0 where
+  Nothing : Found
+  Def : ℕ → ℕ → ℕ → Bool → Found
+
+-- as the code has it
+abbrev pub found_of : Option Definition → Found
+found_of None = Nothing
+found_of (Some d) = Def d.sort d.number d.place d.walled
 
 -- what was found, seen from behind a wall
 abbrev pub passing : Bool → Found → Found

@@ -12,9 +12,7 @@ use Rattle.std.proofs.Math.Dec.{eqb}
 use borrow.Author.Tests.{lt-ltb, le-ltb, eq-eqb, ne_eqb, eqb-true}
 use Rattle.logic.specs.Choice.{If◌then◌else◌}
 use Rattle.words.specs.Laws.{in-sets, out-sets}
-use Rattle.table_scopes.specs.declared.environment.Found.{Found}
-use Rattle.table_scopes.specs.declared.environment.Found.TheVariants.{Nothing, Def}
-use Rattle.table_scopes.specs.Environment.{Item, item, name_of, find, here, adding, add_all, env_of, passing, shut, Grown}
+use Rattle.table_scopes.specs.Environment.{Item, item, Found, Nothing, Def, name_of, find, here, adding, add_all, env_of, passing, shut, Grown}
 use Rattle.logic.specs.Tests.{or-false}
 
 -- ── the item on top ──

@@ -1,32 +1,42 @@
 -- The faults of declarations near the code, and what an answer says of a list of faults.
-use Rattle.std.specs.Prelude.{◌≡◌, Bool, List, [], ◌∷◌, ◌++◌, ℕ, zero, suc, ◌+◌, ◌-◌, ◌<◌, eqb, ltb}
+use Rattle.std.specs.Prelude.{◌≡◌, Option, Some, None, Result, Ok, Err, Bool, List, [], ◌∷◌, ◌++◌, ℕ, zero, suc, ◌+◌, ◌-◌, ◌<◌, eqb, ltb}
 use Rattle.std.proofs.Common.{ap, sym, ◌∙◌, arith, eq-eqb, ne_eqb}
 use Rattle.logic.specs.Choice.{If◌then◌else◌}
 use Rattle.values.specs.Ends.{Refusal, refusal}
-use Rattle.table_scopes.specs.declared.environment.Found.{Found}
-use Rattle.table_scopes.specs.declared.environment.Found.TheVariants.{Nothing, Def}
-use Rattle.table_scopes.specs.Environment.{Item, find}
-use Rattle.table_scopes.specs.declared.heads.Verdict.{Verdict}
-use Rattle.table_scopes.specs.declared.heads.Verdict.TheVariants.{Fine, Refused}
+use Rattle.table_scopes.specs.Environment.{Item, Found, found_of, Nothing, Def, find}
+use Rattle.table_entries.specs.declared.Fault.{Fault}
+use Rattle.table_scopes.specs.declared.environment.Definition.{Definition}
 use Rattle.table_scopes.specs.Items.{kind_at, a_at, b_at}
+
+-- what a judgement answers: the number of a type, or what is wrong
+abbrev pub Verdict : Type 0
+Verdict = Result ℕ Fault
+
+-- what is wrong, by its number, and where
+abbrev pub fault : ℕ → ℕ → Fault
+fault n p = record { number = n; place = p }
+
+-- the refusal that a fault is
+abbrev pub refusal_of : Fault → Refusal
+refusal_of f = refusal f.number f.place
 
 -- an answer gives the first of the faults, if there is one
 abbrev pub Says : Verdict → List Refusal → Type 0
-Says (Fine t) fs = fs ≡ []
-Says (Refused n p) fs = (rest : List Refusal) × (fs ≡ refusal n p ∷ rest)
+Says (Ok t) fs = fs ≡ []
+Says (Err f) fs = (rest : List Refusal) × (fs ≡ refusal_of f ∷ rest)
 
-pub says_first : (r : Verdict) (n p : ℕ) (fs gs : List Refusal) → r ≡ Refused n p → Says r fs → Says (Refused n p) (fs ++ gs)
-says_first (Fine t) n p fs gs e h = absurd (let z : ◌≡◌ {A = ℕ} 0 1 = cc in omega arith)
-says_first (Refused m q) n p fs gs e (rest, h) = (rest ++ gs, let x : m ≡ n = cc in let y : q ≡ p = cc in rw (h, x, y))
+pub says_first : (r : Verdict) (f : Fault) (fs gs : List Refusal) → r ≡ Err f → Says r fs → Says (Err f) (fs ++ gs)
+says_first (Ok t) f fs gs e h = absurd (let z : ◌≡◌ {A = ℕ} 0 1 = cc in omega arith)
+says_first (Err g) f fs gs e (rest, h) = (rest ++ gs, let x : g ≡ f = cc in rw (h, x))
 
-pub says_then : (r s : Verdict) (t : ℕ) (fs gs : List Refusal) → r ≡ Fine t → Says r fs → Says s gs → Says s (fs ++ gs)
-says_then (Fine u) s t fs gs e h k = rw h k
-says_then (Refused m q) s t fs gs e h k = absurd (let z : ◌≡◌ {A = ℕ} 0 1 = cc in omega arith)
+pub says_then : (r s : Verdict) (t : ℕ) (fs gs : List Refusal) → r ≡ Ok t → Says r fs → Says s gs → Says s (fs ++ gs)
+says_then (Ok u) s t fs gs e h k = rw h k
+says_then (Err f) s t fs gs e h k = absurd (let z : ◌≡◌ {A = ℕ} 0 1 = cc in omega arith)
 
 -- no fault where nothing is wrong
-pub says-fine : (r : Verdict) (t : ℕ) (fs : List Refusal) → r ≡ Fine t → Says r fs → fs ≡ []
-says-fine (Fine u) t fs e h = h
-says-fine (Refused m q) t fs e h = absurd (let z : ◌≡◌ {A = ℕ} 0 1 = cc in omega arith)
+pub says-fine : (r : Verdict) (t : ℕ) (fs : List Refusal) → r ≡ Ok t → Says r fs → fs ≡ []
+says-fine (Ok u) t fs e h = h
+says-fine (Err f) t fs e h = absurd (let z : ◌≡◌ {A = ℕ} 0 1 = cc in omega arith)
 
 -- a name is defined at p: what is found of it must be this definition
 abbrev pub once_of : Found → ℕ → List Refusal
@@ -51,9 +61,12 @@ unfoldable pub head_flaws : List ℕ → List Item → ℕ → ℕ → List Refu
 head_flaws l v p zero = []
 head_flaws l v p (suc n) = decl_flaws l v p ++ head_flaws l v (p + 1) n
 
-pub head_more : (l : List ℕ) (v : List Item) (p n : ℕ) → 0 < n → head_flaws l v p n ≡ decl_flaws l v p ++ head_flaws l v (p + 1) (n - 1)
+pub head-start : (l : List ℕ) (v : List Item) (p n : ℕ) → head_flaws l v p n ≡ head_flaws l v p (p + n - p)
+head-start l v p n = let e : n ≡ p + n - p = omega arith in ap (head_flaws l v p) e
+
+pub head_next : (l : List ℕ) (v : List Item) (p e : ℕ) → p < e → head_flaws l v p (e - p) ≡ decl_flaws l v p ++ head_flaws l v (p + 1) (e - (p + 1))
 unfolding head_flaws
-head_more l v p n h = let e : n ≡ suc (n - 1) = omega arith in ap (head_flaws l v p) e
+head_next l v p e h = let k : e - p ≡ suc (e - (p + 1)) = omega arith in ap (head_flaws l v p) k
 
 pub head-none : (l : List ℕ) (v : List Item) (p n : ℕ) → n ≡ 0 → head_flaws l v p n ≡ []
 unfolding head_flaws
@@ -68,21 +81,21 @@ unfolding decl_flaws
 decl-not l v p e = rw (ne_eqb _ _ e)
 
 -- what is found decides
-module _ {r f : Found} {p : ℕ} (e : r ≡ f) where
-  pub once-nothing : r ≡ Nothing → Says (Refused 3 p) (once_of f p)
-  once-nothing z = ([], rw (sym e ∙ z))
+module _ {r : Option Definition} {f : Found} {p : ℕ} (e : found_of r ≡ f) where
+  pub once-nothing : r ≡ None → Says (Err (fault 3 p)) (once_of f p)
+  once-nothing z = ([], rw (sym e, z))
 
-  pub once-this : {s n q : ℕ} {w : Bool} (t : ℕ) → r ≡ Def s n q w → q ≡ p → Says (Fine t) (once_of f p)
-  once-this t z k = rw (sym e ∙ z, eq-eqb _ _ k)
+  pub once-this : {d : Definition} (t : ℕ) → r ≡ Some d → d.place ≡ p → Says (Ok t) (once_of f p)
+  once-this t z k = rw (sym e, z, eq-eqb _ _ k)
 
-  pub once-other : {s n q : ℕ} {w : Bool} → r ≡ Def s n q w → ¬ (q ≡ p) → Says (Refused 3 p) (once_of f p)
-  once-other z k = ([], rw (sym e ∙ z, ne_eqb _ _ k))
+  pub once-other : {d : Definition} → r ≡ Some d → ¬ (d.place ≡ p) → Says (Err (fault 3 p)) (once_of f p)
+  once-other z k = ([], rw (sym e, z, ne_eqb _ _ k))
 
-  pub class-nothing : r ≡ Nothing → Says (Refused 3 p) (class_of f p)
-  class-nothing z = ([], rw (sym e ∙ z))
+  pub class-nothing : r ≡ None → Says (Err (fault 3 p)) (class_of f p)
+  class-nothing z = ([], rw (sym e, z))
 
-  pub class-wrong : {s n q : ℕ} {w : Bool} → r ≡ Def s n q w → ¬ (s ≡ 6) → Says (Refused 4 p) (class_of f p)
-  class-wrong z k = ([], rw (sym e ∙ z, ne_eqb _ _ k))
+  pub class-wrong : {d : Definition} → r ≡ Some d → ¬ (d.sort ≡ 6) → Says (Err (fault 4 p)) (class_of f p)
+  class-wrong z k = ([], rw (sym e, z, ne_eqb _ _ k))
 
-pub class-right : {r f : Found} (p t : ℕ) {s n q : ℕ} {w : Bool} → r ≡ f → r ≡ Def s n q w → s ≡ 6 → Says (Fine t) (class_of f p)
-class-right p t e z k = rw (sym e ∙ z, eq-eqb _ _ k)
+pub class-right : {r : Option Definition} {f : Found} {d : Definition} (p t : ℕ) → found_of r ≡ f → r ≡ Some d → d.sort ≡ 6 → Says (Ok t) (class_of f p)
+class-right p t e z k = rw (sym e, z, eq-eqb _ _ k)

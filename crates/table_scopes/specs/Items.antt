@@ -134,9 +134,12 @@ grown-two i j {top} {old} {m} {new} g h =
     }
 
 -- ── one step of each loop ──
-pub items_more : (sort : ℕ) (l : List ℕ) (p n : ℕ) → 0 < n → items_at sort l p n ≡ one_at 10 sort l p ++ items_at sort l (p + 1) (n - 1)
+pub items-start : (sort : ℕ) (l : List ℕ) (p n : ℕ) → items_at sort l p n ≡ items_at sort l p (p + n - p)
+items-start sort l p n = let e : n ≡ p + n - p = omega arith in ap (items_at sort l p) e
+
+pub items_next : (sort : ℕ) (l : List ℕ) (p e : ℕ) → p < e → items_at sort l p (e - p) ≡ one_at 10 sort l p ++ items_at sort l (p + 1) (e - (p + 1))
 unfolding items_at
-items_more sort l p n h = let e : n ≡ suc (n - 1) = omega arith in ap (items_at sort l p) e
+items_next sort l p e h = let k : e - p ≡ suc (e - (p + 1)) = omega arith in ap (items_at sort l p) k
 
 pub items-none : (sort : ℕ) (l : List ℕ) (p n : ℕ) → n ≡ 0 → items_at sort l p n ≡ []
 unfolding items_at

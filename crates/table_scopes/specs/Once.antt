@@ -7,9 +7,7 @@ use Rattle.logic.specs.Lists.{among}
 use Rattle.logic.specs.Choice.{If◌then◌else◌}
 use Rattle.values.specs.Ends.{refusal}
 use Rattle.language.specs.Faults.{twice}
-use Rattle.table_scopes.specs.declared.environment.Found.{Found}
-use Rattle.table_scopes.specs.declared.environment.Found.TheVariants.{Nothing, Def}
-use Rattle.table_scopes.specs.Environment.{Item, item, name_of, find, add_all, passing, shut}
+use Rattle.table_scopes.specs.Environment.{Item, item, Found, Nothing, Def, name_of, find, add_all, passing, shut}
 use Rattle.table_scopes.specs.EnvironmentLaws.{first_in, or_outer, Small, find-block}
 use Rattle.table_scopes.specs.Flaws.{once_of, once_flaw}
 use Rattle.logic.specs.Tests.{eqb_comm}

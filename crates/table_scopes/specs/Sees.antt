@@ -16,9 +16,7 @@ use Rattle.language.specs.Names.{in_procedure, define, loop_of, nowhere, found, 
 use Rattle.language.specs.Names as names
 use Rattle.language_laws.specs.Lookup.{lookup-none, lookup-block, lookup-expression, lookup-procedure, lookup-loop}
 use Rattle.language_laws.specs.Claims.{entries_of}
-use Rattle.table_scopes.specs.declared.environment.Found.{Found}
-use Rattle.table_scopes.specs.declared.environment.Found.TheVariants.{Nothing, Def}
-use Rattle.table_scopes.specs.Environment.{Item, item, opened, shut, value, find, add_all, passing}
+use Rattle.table_scopes.specs.Environment.{Item, item, Found, Nothing, Def, opened, shut, value, find, add_all, passing}
 use Rattle.table_scopes.specs.EnvironmentLaws.{first_in, or_outer, Small, find-block, find-item, past-mark, passing-none}
 use Rattle.table_entries.specs.Stands.{Stands}
 

@@ -5,8 +5,7 @@ use Rattle.logic.specs.Choice.{If◌then◌else◌}
 use Rattle.logic.specs.Tests.{clash, both_left, both_right}
 use Rattle.words.specs.Laws.{Bytes, two, number-below}
 use Rattle.language_laws.specs.Claims.{entries_of}
-use Rattle.table_scopes.specs.declared.environment.Found.TheVariants.{Def}
-use Rattle.table_scopes.specs.Environment.{Item, item, find, here, add_all, env_of, shut}
+use Rattle.table_scopes.specs.Environment.{Item, item, Def, find, here, add_all, env_of, shut}
 use Rattle.table_scopes.specs.EnvironmentLaws.{passing-none}
 use Rattle.table_entries.specs.Spans.{span}
 use Rattle.table_scopes.specs.Items.{kind_at, a_at, b_at, after, one_at}

@@ -7,13 +7,18 @@
 ghost use Rattle.std.specs.Prelude.{◌≡◌, ◌||◌, ◌∷◌, [], ◌+◌, ◌*◌, ◌≤◌, length, eqb};
 ghost use Rattle.std.proofs.lemmas.List.Edits.{sets};
 ghost use Rattle.table_scopes.specs.Filter.{absent_in, noted, Covers};
-ghost use Rattle.table_scopes.specs.Environment.{item, find, here, adding, env_of, shut, Grown};
+ghost use Rattle.table_scopes.specs.Environment.{item, find, found_of, here, adding, env_of, shut, Grown};
 
-#[derive(Drop)]
-pub enum Found {
-    Nothing,
-    // its sort, its number, its place, and whether a block expression or a procedure lies between
-    Def(u32, u32, u32, bool),
+use crate::numbers::*;
+
+// What is found of a name that is in sight.
+#[derive(Clone, Copy)]
+pub struct Definition {
+    pub sort: u32,
+    pub number: u32,
+    pub place: u32,
+    // whether a block expression or a procedure lies between
+    pub walled: bool,
 }
 
 // What stands above the first `top` items is free.
@@ -32,28 +37,31 @@ pub fn push(env: &mut [u32], top: usize, name: u32, sort: u32, number: u32, plac
 fn walled(passed: bool, name: u32) -> bool
     ensures { result ≡ («passed» || eqb name shut) }
 {
-    if passed { true } else { name == 65537 }
+    passed || name == MARK_SHUT
 }
 
 // The definition of a name that is in sight, by the rules of section 3 of 000.
-pub fn find(env: &[u32], top: usize, name: u32) -> Found
+pub fn find(env: &[u32], top: usize, name: u32) -> Option<Definition>
     requires { 4 * top ≤ length env.now }
-    ensures { result ≡ find name (env_of env.now top) }
+    ensures { found_of result ≡ find name (env_of env.now top) }
 {
-    let mut i = top;
     let mut passed = false;
-    while 0 < i {
-        i -= 1;
+    for i in (0..top).rev() {
         let at = 4 * i;
         let n = env[at];
         // Step 1, step 2 or step 3: whichever finds the name first.
         if n == name {
-            return Found::Def(env[at + 1], env[at + 2], env[at + 3], passed);
+            return Some(Definition {
+                sort: env[at + 1],
+                number: env[at + 2],
+                place: env[at + 3],
+                walled: passed,
+            });
         }
         // Otherwise the next step, and after the third the next block.
         passed = walled(passed, n);
     }
-    Found::Nothing
+    None
 }
 
 // Whether the innermost block defines the name.
@@ -61,12 +69,9 @@ fn here(env: &[u32], top: usize, name: u32) -> bool
     requires { 4 * top ≤ length env.now }
     ensures { result ≡ here name (env_of env.now top) }
 {
-    let mut i = top;
-    while 0 < i {
-        i -= 1;
-        let at = 4 * i;
-        let n = env[at];
-        if 65535 < n {
+    for i in (0..top).rev() {
+        let n = env[4 * i];
+        if LAST_NAME < n {
             return false;
         }
         if n == name {
@@ -76,21 +81,9 @@ fn here(env: &[u32], top: usize, name: u32) -> bool
     false
 }
 
-// One definition more, unless the block has one of that name: of two in a block the first counts.
-pub fn add(env: &mut [u32], top: usize, name: u32, sort: u32, number: u32, place: u32) -> usize
-    requires { 4 * (top + 1) ≤ length env.old }
-    ensures { Grown top env.old env.new result (adding (item name sort number place) (env_of env.old top)) 1 }
-{
-    if here(env, top, name) {
-        return top;
-    }
-    push(env, top, name, sort, number, place);
-    top + 1
-}
-
 // ── a filter of the innermost block's names ──
 // A name has the slot of its remainder by 2,048; where that holds 0, the block has no such name. A filter of another length says nothing.
-const SLOTS: usize = 2048;
+pub const SLOTS: usize = 2048;
 
 fn absent(seen: &[u8], name: u32) -> bool
     ensures { result ≡ absent_in seen.now name }
@@ -116,11 +109,9 @@ pub fn note_block(env: &[u32], top: usize, seen: &mut [u8])
     requires { 4 * top ≤ length env.now }
     ensures { Covers seen.new (env_of env.now top) × (length seen.new ≡ length seen.old) }
 {
-    let mut i = top;
-    while 0 < i {
-        i -= 1;
+    for i in (0..top).rev() {
         let n = env[4 * i];
-        if 65535 < n {
+        if LAST_NAME < n {
             return;
         }
         note(seen, n);
@@ -138,8 +129,8 @@ fn here_by(seen: &[u8], env: &[u32], top: usize, name: u32) -> bool
     here(env, top, name)
 }
 
-// One definition more, as `add` does it.
-pub fn add_by(
+// One definition more, unless the block has one of that name: of two in a block the first counts.
+pub fn add(
     seen: &mut [u8],
     env: &mut [u32],
     top: usize,

@@ -9,43 +9,55 @@ ghost use Rattle.table_scopes.specs.Filter.{Covers};
 ghost use Rattle.table_scopes.specs.Spared.{Spared};
 ghost use Rattle.table_scopes.specs.Flaws.{Says, once_flaw, class_flaw, decl_flaws, head_flaws};
 
-use crate::environment::Found;
+use crate::numbers::*;
 use crate::{environment, spans};
 use formats::entries::*;
-
-#[derive(Drop)]
-pub enum Verdict {
-    // the number of a type
-    Fine(u32),
-    // a number and a place
-    Refused(u8, usize),
-}
+use table_entries::Fault;
 
 // The names in sight after a block's labels were pushed, and whether none of them is a name that the block had before.
-#[derive(Drop)]
+#[derive(Clone, Copy)]
 pub struct Labelled {
     pub top: usize,
     pub once: bool,
 }
 
-// The name that the entry at a place defines, where it is of this kind.
+// The name that the entry at a place defines, where it is of this kind; by a filter of the names that the block has.
+fn add_one_by(
+    seen: &mut [u8],
+    table: &[u8],
+    place: usize,
+    kind: u16,
+    sort: u32,
+    env: &mut [u32],
+    top: usize,
+) -> usize
+    requires { (8 * (place + 1) ≤ length table.now) × (length table.now ≤ 16384) × (4 * (top + length (one_at kind sort table.now place)) ≤ length env.old)
+        × Covers seen.old (env_of env.old top) }
+    ensures { Grown top env.old env.new result
+        (add_all (one_at kind sort table.now place) (env_of env.old top)) (length (one_at kind sort table.now place))
+        × Covers seen.new (env_of env.new result) }
+{
+    if table_entries::kind_at(table, place) != kind {
+        return top;
+    }
+    environment::add(
+        seen,
+        env,
+        top,
+        table_entries::a_at(table, place) as u32,
+        sort,
+        table_entries::b_at(table, place),
+        place as u32,
+    )
+}
+
+// The same with no filter.
 fn add_one(table: &[u8], place: usize, kind: u16, sort: u32, env: &mut [u32], top: usize) -> usize
     requires { (8 * (place + 1) ≤ length table.now) × (length table.now ≤ 16384) × (4 * (top + length (one_at kind sort table.now place)) ≤ length env.old) }
     ensures { Grown top env.old env.new result
         (add_all (one_at kind sort table.now place) (env_of env.old top)) (length (one_at kind sort table.now place)) }
 {
-    if table_entries::kind_at(table, place) == kind {
-        environment::add(
-            env,
-            top,
-            table_entries::a_at(table, place) as u32,
-            sort,
-            table_entries::b_at(table, place),
-            place as u32,
-        )
-    } else {
-        top
-    }
+    add_one_by(&mut [], table, place, kind, sort, env, top)
 }
 
 // The variables of a head, the parameters of a procedure, or the fields of a class, by the sort given.
@@ -61,13 +73,9 @@ pub fn add_head(
     ensures { Grown top env.old env.new result (add_all (items_at sort table.now at count) (env_of env.old top))
         (length (items_at sort table.now at count)) }
 {
-    let mut place = at;
     let mut up = top;
-    let mut left = count;
-    while 0 < left {
+    for place in at..at + count {
         up = add_one(table, place, KIND_DECLARE, sort, env, up);
-        place += 1;
-        left -= 1;
     }
     up
 }
@@ -79,13 +87,41 @@ const FEW: usize = 64;
 fn all_pushed(before: bool, kind: u16, top: usize, up: usize) -> bool
     ensures { result ≡ (If eqb kind 20 then «before» && ltb top up else «before») }
 {
-    if kind != KIND_LABEL {
-        return before;
+    if kind == KIND_LABEL {
+        before && top < up
+    } else {
+        before
     }
-    if before { top < up } else { false }
 }
 
-// The labels among the items of a block.
+// The labels among the items of a block, by a filter of the names that it has.
+fn add_labels_by(
+    seen: &mut [u8],
+    table: &[u8],
+    at: usize,
+    count: usize,
+    sizes: &[u16],
+    env: &mut [u32],
+    top: usize,
+) -> Labelled
+    requires { Known table.now sizes.now × Reach table.now at count × (length table.now ≤ 16384) × (4 * (top + length (labels_from table.now at count)) ≤ length env.old)
+        × Covers seen.old (env_of env.old top) }
+    ensures { Grown top env.old env.new result.top (add_all (labels_from table.now at count) (env_of env.old top))
+        (length (labels_from table.now at count)) × Spared result.once table.now (env_of env.new result.top) at count }
+{
+    let mut place = at;
+    let mut up = top;
+    let mut once = true;
+    for left in (0..count).rev() {
+        let more = add_one_by(seen, table, place, KIND_LABEL, SORT_LABEL, env, up);
+        once = all_pushed(once, table_entries::kind_at(table, place), up, more);
+        up = more;
+        place += spans::size_at(sizes, place);
+    }
+    Labelled { top: up, once }
+}
+
+// The labels of a block. Where there are many items, most names are told by a filter to be new, and need not be searched for.
 fn add_labels(
     table: &[u8],
     at: usize,
@@ -98,88 +134,12 @@ fn add_labels(
     ensures { Grown top env.old env.new result.top (add_all (labels_from table.now at count) (env_of env.old top))
         (length (labels_from table.now at count)) × Spared result.once table.now (env_of env.new result.top) at count }
 {
-    let mut place = at;
-    let mut up = top;
-    let mut once = true;
-    let mut left = count;
-    while 0 < left {
-        let more = add_one(table, place, KIND_LABEL, 5, env, up);
-        once = all_pushed(once, table_entries::kind_at(table, place), up, more);
-        up = more;
-        place += spans::size_at(sizes, place);
-        left -= 1;
+    if count < FEW {
+        return add_labels_by(&mut [], table, at, count, sizes, env, top);
     }
-    Labelled { top: up, once }
-}
-
-// The name that a label defines, where one stands.
-fn add_label(table: &[u8], place: usize, env: &mut [u32], top: usize, seen: &mut [u8]) -> usize
-    requires { (8 * (place + 1) ≤ length table.now) × (length table.now ≤ 16384) × (4 * (top + length (one_at 20 5 table.now place)) ≤ length env.old)
-        × Covers seen.old (env_of env.old top) }
-    ensures { Grown top env.old env.new result
-        (add_all (one_at 20 5 table.now place) (env_of env.old top)) (length (one_at 20 5 table.now place))
-        × Covers seen.new (env_of env.new result) }
-{
-    if table_entries::kind_at(table, place) == KIND_LABEL {
-        environment::add_by(
-            seen,
-            env,
-            top,
-            table_entries::a_at(table, place) as u32,
-            5,
-            table_entries::b_at(table, place),
-            place as u32,
-        )
-    } else {
-        top
-    }
-}
-
-// The labels among the items of a block, with a filter of the names that it has.
-fn add_each(
-    table: &[u8],
-    at: usize,
-    count: usize,
-    sizes: &[u16],
-    env: &mut [u32],
-    top: usize,
-    seen: &mut [u8],
-) -> Labelled
-    requires { Known table.now sizes.now × Reach table.now at count × (length table.now ≤ 16384) × (4 * (top + length (labels_from table.now at count)) ≤ length env.old)
-        × Covers seen.old (env_of env.old top) }
-    ensures { Grown top env.old env.new result.top (add_all (labels_from table.now at count) (env_of env.old top))
-        (length (labels_from table.now at count)) × Spared result.once table.now (env_of env.new result.top) at count }
-{
-    let mut place = at;
-    let mut up = top;
-    let mut once = true;
-    let mut left = count;
-    while 0 < left {
-        let more = add_label(table, place, env, up, seen);
-        once = all_pushed(once, table_entries::kind_at(table, place), up, more);
-        up = more;
-        place += spans::size_at(sizes, place);
-        left -= 1;
-    }
-    Labelled { top: up, once }
-}
-
-// The same where there are many items: most names are told by a filter to be new, and need not be searched for.
-fn add_many(
-    table: &[u8],
-    at: usize,
-    count: usize,
-    sizes: &[u16],
-    env: &mut [u32],
-    top: usize,
-) -> Labelled
-    requires { Known table.now sizes.now × Reach table.now at count × (length table.now ≤ 16384) × (4 * (top + length (labels_from table.now at count)) ≤ length env.old) }
-    ensures { Grown top env.old env.new result.top (add_all (labels_from table.now at count) (env_of env.old top))
-        (length (labels_from table.now at count)) × Spared result.once table.now (env_of env.new result.top) at count }
-{
-    let mut seen = [0u8; 2048];
+    let mut seen = [0u8; environment::SLOTS];
     environment::note_block(env, top, &mut seen);
-    add_each(table, at, count, sizes, env, top, &mut seen)
+    add_labels_by(&mut seen, table, at, count, sizes, env, top)
 }
 
 // A class with its fields, a procedure, or a variable of the root's head.
@@ -190,8 +150,8 @@ fn add_global(table: &[u8], place: usize, env: &mut [u32], top: usize) -> usize
     let kind = table_entries::kind_at(table, place);
     match kind {
         KIND_CLASS => add_class(table, place, env, top),
-        KIND_PROCEDURE => add_one(table, place, KIND_PROCEDURE, 7, env, top),
-        _ => add_one(table, place, KIND_DECLARE, 4, env, top),
+        KIND_PROCEDURE => add_one(table, place, KIND_PROCEDURE, SORT_PROCEDURE, env, top),
+        _ => add_one(table, place, KIND_DECLARE, SORT_VARIABLE, env, top),
     }
 }
 
@@ -204,8 +164,8 @@ fn add_class(table: &[u8], place: usize, env: &mut [u32], top: usize) -> usize
         (env_of env.old top)) (length (one_at 11 6 table.now place
         ++ items_at (65536 + a_at table.now place) table.now (place + 1) (b_at table.now place))) }
 {
-    let up = add_one(table, place, KIND_CLASS, 6, env, top);
-    let sort = 65536 + table_entries::a_at(table, place) as u32;
+    let up = add_one(table, place, KIND_CLASS, SORT_CLASS, env, top);
+    let sort = TYPE_REFERENCE + table_entries::a_at(table, place) as u32;
     add_head(
         table,
         place + 1,
@@ -223,11 +183,9 @@ fn add_globals(table: &[u8], count: usize, sizes: &[u16], env: &mut [u32], top: 
 {
     let mut place = 1;
     let mut up = top;
-    let mut left = count;
-    while 0 < left {
+    for left in (0..count).rev() {
         up = add_global(table, place, env, up);
         place += spans::size_at(sizes, place);
-        left -= 1;
     }
     up
 }
@@ -246,13 +204,9 @@ pub fn open_root(
     ensures { Grown 0 env.old env.new result.top (add_all (root_items table.now heads after items) (item 65536 0 0 0 ∷ env_of env.old 0))
         (1 + length (root_items table.now heads after items)) × Spared result.once table.now (env_of env.new result.top) after items }
 {
-    environment::push(env, 0, 65536, 0, 0, 0);
+    environment::push(env, 0, MARK_OPENED, 0, 0, 0);
     let up = add_globals(table, heads, sizes, env, 1);
-    if items < FEW {
-        add_labels(table, after, items, sizes, env, up)
-    } else {
-        add_many(table, after, items, sizes, env, up)
-    }
+    add_labels(table, after, items, sizes, env, up)
 }
 
 // The same, for whom it is enough how many names are in sight.
@@ -290,12 +244,8 @@ pub fn open(
         (1 + length (block_items table.now at heads items)) × Spared result.once table.now (env_of env.new result.top) (at + heads) items }
 {
     environment::push(env, top, mark, 0, 0, 0);
-    let up = add_head(table, at, heads, 4, env, top + 1);
-    if items < FEW {
-        add_labels(table, at + heads, items, sizes, env, up)
-    } else {
-        add_many(table, at + heads, items, sizes, env, up)
-    }
+    let up = add_head(table, at, heads, SORT_VARIABLE, env, top + 1);
+    add_labels(table, at + heads, items, sizes, env, up)
 }
 
 // The same, for whom it is enough how many names are in sight.
@@ -331,8 +281,8 @@ pub fn enter_procedure(
         (add_all (items_at 4 table.now at parameters) (item 65537 0 0 0 ∷ env_of env.old top))
         (1 + length (items_at 4 table.now at parameters)) }
 {
-    environment::push(env, top, 65537, 0, 0, 0);
-    add_head(table, at, parameters, 4, env, top + 1)
+    environment::push(env, top, MARK_SHUT, 0, 0, 0);
+    add_head(table, at, parameters, SORT_VARIABLE, env, top + 1)
 }
 
 // A for clause at a place: the control identifier, which step 3 finds, in a block of its own; it is an integer.
@@ -341,76 +291,64 @@ pub fn enter_loop(name: u32, place: usize, env: &mut [u32], top: usize) -> usize
     ensures { (result ≡ top + 2) × Grown top env.old env.new result
         (item name 8 1 place ∷ (item 65536 0 0 0 ∷ env_of env.old top)) 2 }
 {
-    environment::push(env, top, 65536, 0, 0, 0);
-    environment::push(env, top + 1, name, 8, 1, place as u32);
+    environment::push(env, top, MARK_OPENED, 0, 0, 0);
+    environment::push(env, top + 1, name, SORT_CONTROL, TYPE_INTEGER, place as u32);
     top + 2
 }
 
 // The definition at `at` is the one that its block has of the name: of two the first is found.
-pub fn once(env: &[u32], top: usize, name: u32, at: usize) -> Verdict
+pub fn once(env: &[u32], top: usize, name: u32, at: usize) -> Result<u32, Fault>
     requires { 4 * top ≤ length env.now }
     ensures { Says result (once_flaw (env_of env.now top) name at) }
 {
     match environment::find(env, top, name) {
-        Found::Nothing => Verdict::Refused(3, at),
-        Found::Def(_, _, place, _) => if place as usize == at {
-            Verdict::Fine(0)
+        None => Err(Fault { number: 3, place: at }),
+        Some(d) => if d.place as usize == at {
+            Ok(0)
         } else {
-            Verdict::Refused(3, at)
+            Err(Fault { number: 3, place: at })
         },
     }
 }
 
 // The class that a declared type names.
-fn classed(env: &[u32], top: usize, ty: u32, at: usize) -> Verdict
+fn classed(env: &[u32], top: usize, ty: u32, at: usize) -> Result<u32, Fault>
     requires { 4 * top ≤ length env.now }
     ensures { Says result (class_flaw (env_of env.now top) ty at) }
 {
-    if ty < 65536 {
-        return Verdict::Fine(0);
+    if ty < TYPE_REFERENCE {
+        return Ok(0);
     }
-    match environment::find(env, top, ty - 65536) {
-        Found::Nothing => Verdict::Refused(3, at),
-        Found::Def(sort, _, _, _) => if sort == 6 {
-            Verdict::Fine(0)
+    match environment::find(env, top, ty - TYPE_REFERENCE) {
+        None => Err(Fault { number: 3, place: at }),
+        Some(d) => if d.sort == SORT_CLASS {
+            Ok(0)
         } else {
-            Verdict::Refused(4, at)
+            Err(Fault { number: 4, place: at })
         },
     }
 }
 
 // One declaration of a head; a hold defines nothing.
-fn declared(table: &[u8], at: usize, env: &[u32], top: usize) -> Verdict
+fn declared(table: &[u8], at: usize, env: &[u32], top: usize) -> Result<u32, Fault>
     requires { (8 * (at + 1) ≤ length table.now) × (4 * top ≤ length env.now) }
     ensures { Says result (decl_flaws table.now (env_of env.now top) at) }
 {
     if table_entries::kind_at(table, at) == KIND_DECLARE {
-        match once(env, top, table_entries::a_at(table, at) as u32, at) {
-            Verdict::Fine(_) => classed(env, top, table_entries::b_at(table, at), at),
-            Verdict::Refused(n, p) => Verdict::Refused(n, p),
-        }
+        once(env, top, table_entries::a_at(table, at) as u32, at)?;
+        classed(env, top, table_entries::b_at(table, at), at)
     } else {
-        Verdict::Fine(0)
+        Ok(0)
     }
 }
 
 // Declarations one after the other.
-pub fn head(table: &[u8], at: usize, count: usize, env: &[u32], top: usize) -> Verdict
+pub fn head(table: &[u8], at: usize, count: usize, env: &[u32], top: usize) -> Result<u32, Fault>
     requires { (8 * (at + count) ≤ length table.now) × (4 * top ≤ length env.now) }
     ensures { Says result (head_flaws table.now (env_of env.now top) at count) }
 {
-    let mut place = at;
-    let mut left = count;
-    while 0 < left {
-        match declared(table, place, env, top) {
-            Verdict::Fine(_) => {
-                place += 1;
-                left -= 1;
-            }
-            Verdict::Refused(n, p) => {
-                return Verdict::Refused(n, p);
-            }
-        }
+    for place in at..at + count {
+        declared(table, place, env, top)?;
     }
-    Verdict::Fine(0)
+    Ok(0)
 }

@@ -4,10 +4,11 @@
 
 mod environment;
 mod heads;
+pub mod numbers;
 mod spans;
 
-pub use environment::{Found, find, push};
+pub use environment::{Definition, find, push};
 pub use heads::{
-    Labelled, Verdict, enter, enter_loop, enter_procedure, enter_root, head, once, open, open_root,
+    Labelled, enter, enter_loop, enter_procedure, enter_root, head, once, open, open_root,
 };
 pub use spans::{size_at, spanned};

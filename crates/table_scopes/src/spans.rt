@@ -20,13 +20,11 @@ pub fn spanned(table: &[u8], sizes: &[u16], from: usize, parts: usize) -> usize
 {
     let count = table.len() / ENTRY_BYTES;
     let mut at = from;
-    let mut left = parts;
-    while 0 < left {
+    for left in (0..parts).rev() {
         if count <= at {
             return at - from;
         }
         at += size_at(sizes, at);
-        left -= 1;
     }
     at - from
 }

@@ -1,5 +1,5 @@
 -- What the code settles is what the definitions say: the type and the faults of each operation.
-use Rattle.std.specs.Prelude.{◌≡◌, Bool, false, not, ◌&&◌, ℕ, ◌+◌, ◌*◌, ◌/◌, ◌%◌, ◌≤◌, ◌<◌, eqb, length}
+use Rattle.std.specs.Prelude.{◌≡◌, Ok, Err, Bool, false, not, ◌&&◌, ℕ, ◌+◌, ◌*◌, ◌/◌, ◌%◌, ◌≤◌, ◌<◌, eqb, length}
 use Rattle.std.proofs.Math.Path.{refl}
 use Rattle.std.proofs.Common.{sym, ◌∙◌, arith}
 use Rattle.std.proofs.Math.Bool.{true}
@@ -19,14 +19,10 @@ use Rattle.language.specs.Faults.{variable_ty, result_ty, field_ty, is_ty, same_
 use Rattle.language.specs.Faults.{class_from, field_of, call_of, aimed}
 use Rattle.logic.specs.Tests.{clash, eqb_comm}
 use Rattle.language_laws.specs.Claims.{entries_of}
-use Rattle.table_scopes.specs.declared.environment.Found.{Found}
-use Rattle.table_scopes.specs.declared.environment.Found.TheVariants.{Nothing, Def}
-use Rattle.table_scopes.specs.Environment.{Item, find}
+use Rattle.table_scopes.specs.Environment.{Item, Found, Nothing, Def, find}
 use Rattle.table_entries.specs.Entries.{length-entries}
 use Rattle.table_entries.specs.Stands.{Stands, stands-tail, stands-within, fields}
-use Rattle.table_scopes.specs.declared.heads.Verdict.{Verdict}
-use Rattle.table_scopes.specs.declared.heads.Verdict.TheVariants.{Fine, Refused}
-use Rattle.table_scopes.specs.Flaws.{Says}
+use Rattle.table_scopes.specs.Flaws.{Verdict, Says, fault}
 use Rattle.table_scopes.specs.Sees.{Legible, Declared, Agrees, Sees}
 use Rattle.table_scopes.specs.Trees.{length-map}
 use Rattle.table_scopes.specs.Defines.{number-here}
@@ -37,8 +33,8 @@ use Rattle.table_types.specs.Types.{ty_num, code-some, is_number, both-same, bot
 
 -- an answer gives this type
 abbrev pub Types : Verdict → Option Ty → Type 0
-Types (Fine t) o = t ≡ ty_num o
-Types (Refused n p) o = Unit {0}
+Types (Ok t) o = t ≡ ty_num o
+Types (Err f) o = Unit {0}
 
 pub record Settled (r : Verdict) (fs : List Refusal) (o : Option Ty) : Type 0 where
   pub says : Says r fs
@@ -83,10 +79,10 @@ module _ {l : List ℕ} (legible : Legible l) where
   found_within (Def s n q w) (found (is_procedure ts us) b) h = (λ e. declared-within (n / 256) q ts h.1.1, λ e. absurd (omega (arith, h.1.0)))
   found_within (Def s n q w) (found is_control b) h = (λ e. absurd (omega (arith, h.1.0)), λ e. absurd (omega (arith, h.1.0)))
 
-undefined : {p : ℕ} {o : Option Ty} → Settled (Refused 3 p) (refusal 3 p ∷ []) o
+undefined : {p : ℕ} {o : Option Ty} → Settled (Err (fault 3 p)) (refusal 3 p ∷ []) o
 undefined = record { says = ([], refl); types = tt }
 
-wrong : {p : ℕ} {o : Option Ty} → Settled (Refused 4 p) (refusal 4 p ∷ []) o
+wrong : {p : ℕ} {o : Option Ty} → Settled (Err (fault 4 p)) (refusal 4 p ∷ []) o
 wrong = record { says = ([], refl); types = tt }
 
 right-if : (b : Bool) (n p : ℕ) (o : Option Ty) → n ≡ ty_num o → Settled (right_if b n p) (mistyped_unless b p) o
@@ -104,7 +100,7 @@ swapped : (c : ℕ) (t : Option Ty) → eqb (65536 + c) (ty_num t) ≡ is_ty (re
 swapped c none = ne_eqb (65536 + c) 0 (λ z. omega arith)
 swapped c (some t) = eqb_comm (65536 + c) (ty_code t)
 
-goes : (p : ℕ) (b : Bool) → Settled (If b then Refused 5 p else Fine 1) (If b then refusal 5 p ∷ [] else []) (some integer)
+goes : (p : ℕ) (b : Bool) → Settled (If b then Err (fault 5 p) else Ok 1) (If b then refusal 5 p ∷ [] else []) (some integer)
 goes p true = record { says = ([], refl); types = tt }
 goes p false = record { says = refl; types = refl }
 

@@ -26,7 +26,7 @@ pub const FUNCTION: u32 = KIND_FUNCTION as u32;
 
 pub const FIELD: u32 = KIND_FIELD as u32;
 
-pub const UNARY: u32 = KIND_UNARY as u32;
+pub const RECORD: u32 = KIND_RECORD as u32;
 
 pub const IF_EXPRESSION: u32 = KIND_IF_EXPRESSION as u32;
 

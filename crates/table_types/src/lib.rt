@@ -9,7 +9,9 @@ ghost use Rattle.table_types.specs.Settle.{values, if_both, if_either, operated_
 ghost use Rattle.table_types.specs.Settle.{named_by, names_by, settled_by, counted_by, controls, is_leaf, leaf_by, Within, WithinCall, WithinRecord};
 
 use formats::entries::*;
-use table_scopes::{Found, Verdict};
+use table_entries::Fault;
+use table_scopes::Definition;
+use table_scopes::numbers::*;
 
 fn operand(env: &[u32], top: usize, i: usize, count: usize) -> u32
     requires { 4 * (top + count) ≤ length env.now }
@@ -26,16 +28,13 @@ fn operand(env: &[u32], top: usize, i: usize, count: usize) -> u32
 fn if_both(x: bool, y: bool, t: u32) -> u32
     ensures { result ≡ if_both x y t }
 {
-    if x { if y { t } else { 0 } } else { 0 }
+    if x && y { t } else { 0 }
 }
 
 fn if_either(x: bool, y: bool, t: u32) -> u32
     ensures { result ≡ if_either x y t }
 {
-    if x {
-        return t;
-    }
-    if y { t } else { 0 }
+    if x || y { t } else { 0 }
 }
 
 // Operators that take logical or bits give what they take.
@@ -43,7 +42,7 @@ fn joined(t: u32, u: u32) -> u32
     ensures { result ≡ if_both (eqb t u) true (if_either (eqb t 2) (eqb t 3) t) }
 {
     if t == u {
-        if_either(t == 2, t == 3, t)
+        if_either(t == TYPE_LOGICAL, t == TYPE_BITS, t)
     } else {
         0
     }
@@ -54,19 +53,15 @@ fn operated(op: u32, t: u32, u: u32) -> u32
     ensures { result ≡ operated_by op t u }
 {
     match op {
-        10 => if_both(t == u, t != 0, 2),
-        11 => if_both(t == u, t != 0, 2),
-        12 => joined(t, u),
-        13 => joined(t, u),
-        14 => if_both(t == 3, u == 1, 3),
-        15 => if_both(t == 3, u == 1, 3),
-        20 => if_both(t == 1, true, 1),
-        21 => if_both(t == 1, true, 1),
-        22 => if_either(t == 2, t == 3, t),
+        10 | 11 => if_both(t == u, t != 0, TYPE_LOGICAL),
+        12 | 13 => joined(t, u),
+        14 | 15 => if_both(t == TYPE_BITS, u == TYPE_INTEGER, TYPE_BITS),
+        20 | 21 => if_both(t == TYPE_INTEGER, true, TYPE_INTEGER),
+        22 => if_either(t == TYPE_LOGICAL, t == TYPE_BITS, t),
         _ => if op < 6 {
-            if_both(t == 1, u == 1, 1)
+            if_both(t == TYPE_INTEGER, u == TYPE_INTEGER, TYPE_INTEGER)
         } else {
-            if_both(t == 1, u == 1, 2)
+            if_both(t == TYPE_INTEGER, u == TYPE_INTEGER, TYPE_LOGICAL)
         },
     }
 }
@@ -77,13 +72,13 @@ fn typed(kind: u32, a: u32, t: u32, u: u32, w: u32) -> u32
 {
     match kind {
         kinds::ASSIGN => if_both(t == u, t != 0, 1),
-        kinds::ASSERT => if_both(t == 2, true, 1),
-        kinds::SET => if_both(t == 1, u == 1, 1),
-        kinds::INTEGER => 1,
-        kinds::LOGICAL => 2,
-        kinds::BITS => 3,
-        kinds::IF_EXPRESSION => if_both(t == 2, true, if_both(u == w, u != 0, u)),
-        kinds::FADER => if_both(t == 1, true, 1),
+        kinds::ASSERT => if_both(t == TYPE_LOGICAL, true, 1),
+        kinds::SET => if_both(t == TYPE_INTEGER, u == TYPE_INTEGER, 1),
+        kinds::INTEGER => TYPE_INTEGER,
+        kinds::LOGICAL => TYPE_LOGICAL,
+        kinds::BITS => TYPE_BITS,
+        kinds::IF_EXPRESSION => if_both(t == TYPE_LOGICAL, true, if_both(u == w, u != 0, u)),
+        kinds::FADER => if_both(t == TYPE_INTEGER, true, TYPE_INTEGER),
         _ => operated(a, t, u),
     }
 }
@@ -103,25 +98,23 @@ fn fitting(
     if declared != count {
         return false;
     }
-    let mut i = 0;
-    while i < count {
+    for i in 0..count {
         let t = operand(env, top, i, count);
         let u = table_entries::b_at(table, from + i);
         if t != u {
             return false;
         }
-        i += 1;
     }
     true
 }
 
-fn right_if(b: bool, t: u32, at: usize) -> Verdict
+fn right_if(b: bool, t: u32, at: usize) -> Result<u32, Fault>
     ensures { result ≡ right_if b t at }
 {
     if b {
-        Verdict::Fine(t)
+        Ok(t)
     } else {
-        Verdict::Refused(4, at)
+        Err(Fault { number: 4, place: at })
     }
 }
 
@@ -129,80 +122,70 @@ fn right_if(b: bool, t: u32, at: usize) -> Verdict
 fn has_value(sort: u32) -> bool
     ensures { result ≡ has_value sort }
 {
-    if sort == 4 { true } else { sort == 8 }
+    matches!(sort, SORT_VARIABLE | SORT_CONTROL)
 }
 
-// A goto, by the sort of what it names.
-fn aimed(sort: u32, wall: bool, at: usize) -> Verdict
-    ensures { result ≡ aimed_by sort wall at }
+// A goto, by the definition of what it names.
+fn aimed(d: Definition, at: usize) -> Result<u32, Fault>
+    ensures { result ≡ aimed_by d.sort d.walled at }
 {
-    if sort == 5 {
-        if wall {
-            Verdict::Refused(5, at)
-        } else {
-            Verdict::Fine(1)
-        }
+    if d.sort != SORT_LABEL {
+        return Err(Fault { number: 4, place: at });
+    }
+    if d.walled {
+        Err(Fault { number: 5, place: at })
     } else {
-        Verdict::Refused(4, at)
+        Ok(1)
     }
 }
 
-// A call, whose result is or is not asked for; the heading is 256 × parameters + result.
+// A call, whose result is or is not asked for; the number of a procedure is 256 × parameters + result.
 fn called(
     table: &[u8],
-    sort: u32,
-    heading: u32,
-    place: u32,
+    d: Definition,
     right: bool,
     at: usize,
     count: usize,
     env: &[u32],
     top: usize,
-) -> Verdict
-    requires { (4 * (top + count) ≤ length env.now) × WithinCall table.now sort heading place }
-    ensures { result ≡ called_by table.now sort heading place right at (values count (env_of env.now (top + count))) }
+) -> Result<u32, Fault>
+    requires { (4 * (top + count) ≤ length env.now) × WithinCall table.now d.sort d.number d.place }
+    ensures { result ≡ called_by table.now d.sort d.number d.place right at (values count (env_of env.now (top + count))) }
 {
-    if sort != 7 {
-        return Verdict::Refused(4, at);
+    if d.sort != SORT_PROCEDURE {
+        return Err(Fault { number: 4, place: at });
     }
-    if right {
-        right_if(
-            fitting(
-                table,
-                place as usize + 1,
-                heading as usize / 256,
-                count,
-                env,
-                top,
-            ),
-            heading % 256,
-            at,
-        )
-    } else {
-        Verdict::Refused(4, at)
+    if !right {
+        return Err(Fault { number: 4, place: at });
     }
+    let parameters = d.number as usize / 256;
+    right_if(
+        fitting(table, d.place as usize + 1, parameters, count, env, top),
+        d.number % 256,
+        at,
+    )
 }
 
+// A record of the class that a defines; the number of a class is that of its fields.
 fn recorded(
     table: &[u8],
     a: u32,
-    sort: u32,
-    fields: u32,
-    place: u32,
+    d: Definition,
     at: usize,
     count: usize,
     env: &[u32],
     top: usize,
-) -> Verdict
-    requires { (4 * (top + count) ≤ length env.now) × (a < 65536) × WithinRecord table.now sort fields place }
-    ensures { result ≡ recorded_by table.now a sort fields place at (values count (env_of env.now (top + count))) }
+) -> Result<u32, Fault>
+    requires { (4 * (top + count) ≤ length env.now) × (a < 65536) × WithinRecord table.now d.sort d.number d.place }
+    ensures { result ≡ recorded_by table.now a d.sort d.number d.place at (values count (env_of env.now (top + count))) }
 {
-    if sort != 6 {
-        return Verdict::Refused(4, at);
+    if d.sort != SORT_CLASS {
+        return Err(Fault { number: 4, place: at });
     }
+    let fields = d.number as usize;
     right_if(
-        fitting(table, place as usize + 1, fields as usize, count, env, top),
-        65536 + a,
+        fitting(table, d.place as usize + 1, fields, count, env, top),
+        TYPE_REFERENCE + a,
         at,
     )
 }
@@ -212,62 +195,40 @@ fn named(
     table: &[u8],
     kind: u32,
     a: u32,
-    sort: u32,
-    number: u32,
-    place: u32,
-    wall: bool,
+    d: Definition,
     at: usize,
     count: usize,
     env: &[u32],
     top: usize,
-) -> Verdict
-    requires { (4 * (top + count) ≤ length env.now) × (a < 65536) × WithinCall table.now sort number place × WithinRecord table.now sort number place }
-    ensures { result ≡ named_by table.now kind a sort number place wall at (values count (env_of env.now (top + count))) }
+) -> Result<u32, Fault>
+    requires { (4 * (top + count) ≤ length env.now) × (a < 65536) × WithinCall table.now d.sort d.number d.place
+        × WithinRecord table.now d.sort d.number d.place }
+    ensures { result ≡ named_by table.now kind a d.sort d.number d.place d.walled at (values count (env_of env.now (top + count))) }
 {
     match kind {
-        kinds::GOTO => aimed(sort, wall, at),
-        kinds::CALL => called(
-            table,
-            sort,
-            number,
-            place,
-            number % 256 == 0,
-            at,
-            count,
-            env,
-            top,
-        ),
-        kinds::NULL => right_if(sort == 6, 65536 + a, at),
-        kinds::VARIABLE => right_if(has_value(sort), number, at),
-        kinds::FUNCTION => called(
-            table,
-            sort,
-            number,
-            place,
-            number % 256 != 0,
-            at,
-            count,
-            env,
-            top,
-        ),
-        kinds::FIELD => right_if(sort == operand(env, top, 0, count), number, at),
-        _ => recorded(table, a, sort, number, place, at, count, env, top),
+        kinds::GOTO => aimed(d, at),
+        kinds::CALL => called(table, d, d.number % 256 == 0, at, count, env, top),
+        kinds::NULL => right_if(d.sort == SORT_CLASS, TYPE_REFERENCE + a, at),
+        kinds::VARIABLE => right_if(has_value(d.sort), d.number, at),
+        kinds::FUNCTION => called(table, d, d.number % 256 != 0, at, count, env, top),
+        kinds::FIELD => right_if(d.sort == operand(env, top, 0, count), d.number, at),
+        _ => recorded(table, a, d, at, count, env, top),
     }
 }
 
 fn names(kind: u32) -> bool
     ensures { result ≡ names_by kind }
 {
-    if kind == kinds::GOTO {
-        return true;
-    }
-    if kind == kinds::CALL {
-        return true;
-    }
-    if kind < kinds::NULL {
-        return false;
-    }
-    kind < kinds::UNARY
+    matches!(
+        kind,
+        kinds::GOTO
+            | kinds::CALL
+            | kinds::NULL
+            | kinds::VARIABLE
+            | kinds::FUNCTION
+            | kinds::FIELD
+            | kinds::RECORD
+    )
 }
 
 // The entry at `at`, whose operands' types were found.
@@ -279,16 +240,14 @@ pub fn settle(
     count: usize,
     env: &[u32],
     top: usize,
-) -> Verdict
+) -> Result<u32, Fault>
     requires { (4 * (top + count) ≤ length env.now) × (a < 65536) × Within table.now (find a (env_of env.now top)) }
     ensures { result ≡ settled_by table.now kind a at (find a (env_of env.now top)) (values count (env_of env.now (top + count))) }
 {
     if names(kind) {
         match table_scopes::find(env, top, a) {
-            Found::Nothing => Verdict::Refused(3, at),
-            Found::Def(sort, number, place, wall) => named(
-                table, kind, a, sort, number, place, wall, at, count, env, top,
-            ),
+            None => Err(Fault { number: 3, place: at }),
+            Some(d) => named(table, kind, a, d, at, count, env, top),
         }
     } else {
         let t = typed(
@@ -303,16 +262,16 @@ pub fn settle(
 }
 
 // Start, step and limit of a for, whose types were found, are integers.
-pub fn counted(at: usize, env: &[u32], top: usize) -> Verdict
+pub fn counted(at: usize, env: &[u32], top: usize) -> Result<u32, Fault>
     requires { 4 * (top + 3) ≤ length env.now }
     ensures { result ≡ counted_by at (values 3 (env_of env.now (top + 3))) }
 {
     let t = if_both(
-        operand(env, top, 0, 3) == 1,
-        operand(env, top, 1, 3) == 1,
+        operand(env, top, 0, 3) == TYPE_INTEGER,
+        operand(env, top, 1, 3) == TYPE_INTEGER,
         operand(env, top, 2, 3),
     );
-    right_if(t == 1, 1, at)
+    right_if(t == TYPE_INTEGER, 1, at)
 }
 
 // Whether a name is that of a for in sight, "an integer of the loop only", which "cannot be assigned".
@@ -321,8 +280,8 @@ pub fn is_control(a: u32, env: &[u32], top: usize) -> bool
     ensures { result ≡ controls (find a (env_of env.now top)) }
 {
     match table_scopes::find(env, top, a) {
-        Found::Nothing => false,
-        Found::Def(sort, _, _, _) => sort == 8,
+        None => false,
+        Some(d) => d.sort == SORT_CONTROL,
     }
 }
 
@@ -330,27 +289,27 @@ pub fn is_control(a: u32, env: &[u32], top: usize) -> bool
 pub fn is_leaf(kind: u16) -> bool
     ensures { result ≡ is_leaf kind }
 {
-    if kind < KIND_INTEGER {
-        return false;
-    }
-    kind < KIND_FUNCTION
+    matches!(
+        kind,
+        KIND_INTEGER | KIND_LOGICAL | KIND_BITS | KIND_NULL | KIND_VARIABLE
+    )
 }
 
 // Such an expression at once: what `settle` gives for it.
-pub fn leaf(kind: u16, a: u32, at: usize, env: &[u32], top: usize) -> Verdict
+pub fn leaf(kind: u16, a: u32, at: usize, env: &[u32], top: usize) -> Result<u32, Fault>
     requires { (4 * top ≤ length env.now) × (a < 65536) }
     ensures { result ≡ leaf_by kind a at (find a (env_of env.now top)) }
 {
     match kind {
-        KIND_INTEGER => Verdict::Fine(1),
-        KIND_LOGICAL => Verdict::Fine(2),
-        KIND_BITS => Verdict::Fine(3),
+        KIND_INTEGER => Ok(TYPE_INTEGER),
+        KIND_LOGICAL => Ok(TYPE_LOGICAL),
+        KIND_BITS => Ok(TYPE_BITS),
         _ => match table_scopes::find(env, top, a) {
-            Found::Nothing => Verdict::Refused(3, at),
-            Found::Def(sort, number, _, _) => if kind == KIND_NULL {
-                right_if(sort == 6, 65536 + a, at)
+            None => Err(Fault { number: 3, place: at }),
+            Some(d) => if kind == KIND_NULL {
+                right_if(d.sort == SORT_CLASS, TYPE_REFERENCE + a, at)
             } else {
-                right_if(has_value(sort), number, at)
+                right_if(has_value(d.sort), d.number, at)
             },
         },
     }

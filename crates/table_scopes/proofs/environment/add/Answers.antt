@@ -1,12 +1,22 @@
 -- `table_scopes::environment::add` meets its contract.
-use Rattle.table_scopes.specs.EnvironmentLaws.{not-added, is-added}
+use Rattle.table_scopes.specs.EnvironmentLaws.{not-added, is-added, grown-push}
+use Rattle.table_scopes.specs.Filter.{covers-push}
 use Rattle.table_scopes.proofs.environment.add.Goals as goal
 
-pub returns-then-here : goal.returns-then-here
-returns-then-here c =
-    not-added c.args.env.now c.args.top c.args.name c.args.sort c.args.number c.args.place c.here.ensures c.if-here.true
+pub returns-then-here_by : goal.returns-then-here_by
+returns-then-here_by c = (
+  not-added c.args.env.now c.args.top c.args.name c.args.sort c.args.number c.args.place
+      c.here_by.ensures c.if-here_by.true,
+  c.requires.1,
+)
 
 pub returns : goal.returns
-returns c =
-    is-added c.args.env.now _ c.args.top c.args.name c.args.sort c.args.number
-    c.args.place c.requires c.here.ensures c.if-here.false c.push.ensures
+returns c = (
+  is-added c.args.env.now _ c.args.top c.args.name c.args.sort c.args.number
+      c.args.place c.requires.0 c.here_by.ensures c.if-here_by.false c.push.ensures,
+  rw (
+    (grown-push c.args.env.now _ c.args.top c.args.name c.args.sort c.args.number c.args.place
+        c.requires.0 c.push.ensures).now,
+    c.note.ensures,
+  ) (covers-push c.args.name c.args.sort c.args.number c.args.place c.requires.1),
+)

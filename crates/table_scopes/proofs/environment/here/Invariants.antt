@@ -1,10 +1,6 @@
 use mathlib.Core.Path.{◌≡◌}
-use Prim.Native.Nat.{◌≤◌}
 use Rattle.table_scopes.specs.Environment.{here, env_of}
 use Rattle.table_scopes.proofs.environment.here.Given as goal
 
 abbrev pub invariant-loop-i : goal.invariant-loop-i
-invariant-loop-i l = (here l.name (env_of l.env l.top) ≡ here l.name (env_of l.env l.i)) × (l.i ≤ l.top)
-
-abbrev pub decreases-loop-i : goal.decreases-loop-i
-decreases-loop-i l = l.i
+invariant-loop-i l = here l.name (env_of l.env l.top) ≡ here l.name (env_of l.env l.i)

@@ -8,20 +8,19 @@ use Rattle.table_scopes.specs.Filter.{noted-length, but-start, but-next, but-mar
 use Rattle.table_scopes.proofs.environment.note_block.Goals as goal
 
 pub loop-i-init : goal.loop-i-init
-loop-i-init c = (but-start c.args.seen.now (env_of c.args.env.now c.args.top), refl, omega arith)
+loop-i-init c = (but-start c.args.seen.now (env_of c.args.env.now c.args.top), refl)
 
-pub shape_of-seen-then-n-gt65535 : goal.shape_of-seen-then-n-gt65535
-shape_of-seen-then-n-gt65535 c = c.loop-i.invariant.1
+pub shape_of-seen-then-n-gt-LAST_NAME : goal.shape_of-seen-then-n-gt-LAST_NAME
+shape_of-seen-then-n-gt-LAST_NAME c = c.loop-i.invariant.1
 
-pub returns-then-n-gt65535 : goal.returns-then-n-gt65535
-returns-then-n-gt65535 c =
+pub returns-then-n-gt-LAST_NAME : goal.returns-then-n-gt-LAST_NAME
+returns-then-n-gt-LAST_NAME c =
     (but-mark c.args.env.now c.loop-i.i c.loop-i.invariant.0 (omega arith) (omega arith), c.loop-i.invariant.1)
 
 pub loop-i-preserved : goal.loop-i-preserved
 loop-i-preserved c = (
   rw c.note.ensures (but-next c.args.env.now c.loop-i.i c.loop-i.invariant.0 (omega arith) (omega arith)),
   rw c.note.ensures (noted-length c.loop-i.seen (get_or c.args.env.now (4 * (c.loop-i.i - 1)) 0) ∙ c.loop-i.invariant.1),
-  omega arith,
 )
 
 pub shape_of-seen : goal.shape_of-seen

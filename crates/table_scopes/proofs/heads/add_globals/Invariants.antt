@@ -6,6 +6,3 @@ use Rattle.table_scopes.proofs.heads.add_globals.Given as goal
 abbrev pub invariant-loop-left : goal.invariant-loop-left
 invariant-loop-left l =
     Adds (globals_from l.table 1 l.count) l.top l.initial.env (globals_from l.table l.place l.left) l.up l.env × ReachGlobals l.table l.place l.left × (length l.env ≡ length l.initial.env)
-
-abbrev pub decreases-loop-left : goal.decreases-loop-left
-decreases-loop-left l = l.left

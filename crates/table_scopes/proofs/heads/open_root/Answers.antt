@@ -23,30 +23,12 @@ add_labels-requires c =
     let pushed = grown-push c.args.env.now _ 0 65536 0 0 0 (omega arith) c.push.ensures in
     (c.requires.0, c.requires.2, c.requires.3, room-right heads labels (omega (arith, pushed.same)) c.add_globals-up.ensures)
 
-pub add_many-requires : goal.add_many-requires
-add_many-requires c =
-    let l = c.args.table.now in
-    let heads = globals_from l 1 c.args.heads in
-    let labels = labels_from l c.args.after c.args.items in
-    let pushed = grown-push c.args.env.now _ 0 65536 0 0 0 (omega arith) c.push.ensures in
-    (c.requires.0, c.requires.2, c.requires.3, room-right heads labels (omega (arith, pushed.same)) c.add_globals-up.ensures)
-
-pub returns-then-items-lt-FEW : goal.returns-then-items-lt-FEW
-returns-then-items-lt-FEW c =
+pub returns : goal.returns
+returns c =
     let l = c.args.table.now in
     let heads = globals_from l 1 c.args.heads in
     let labels = labels_from l c.args.after c.args.items in
     let pushed = grown-push c.args.env.now _ 0 65536 0 0 0 (omega arith) c.push.ensures in (
       grown-marked (item 65536 0 0 0) (heads ++ labels) pushed (grown-append heads labels c.add_globals-up.ensures c.add_labels.ensures.0),
       c.add_labels.ensures.1,
-    )
-
-pub returns-else-items-lt-FEW : goal.returns-else-items-lt-FEW
-returns-else-items-lt-FEW c =
-    let l = c.args.table.now in
-    let heads = globals_from l 1 c.args.heads in
-    let labels = labels_from l c.args.after c.args.items in
-    let pushed = grown-push c.args.env.now _ 0 65536 0 0 0 (omega arith) c.push.ensures in (
-      grown-marked (item 65536 0 0 0) (heads ++ labels) pushed (grown-append heads labels c.add_globals-up.ensures c.add_many.ensures.0),
-      c.add_many.ensures.1,
     )

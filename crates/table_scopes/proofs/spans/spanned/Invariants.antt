@@ -6,6 +6,3 @@ use Rattle.table_scopes.proofs.spans.spanned.Given as goal
 
 abbrev pub invariant-loop-left : goal.invariant-loop-left
 invariant-loop-left l = Hops l.table l.from l.parts l.at l.left × (l.count ≡ length l.table / 8)
-
-abbrev pub decreases-loop-left : goal.decreases-loop-left
-decreases-loop-left l = l.left

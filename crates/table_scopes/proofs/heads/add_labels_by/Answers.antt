@@ -1,4 +1,4 @@
--- `table_scopes::heads::add_each` meets its contract.
+-- `table_scopes::heads::add_labels_by` meets its contract.
 use native.Mathlib.Omega.{arith}
 use mathlib.Core.Path.{refl, ◌∙◌}
 use mathlib.Core.Bool.{true}
@@ -7,7 +7,7 @@ use Rattle.table_scopes.specs.Environment.{env_of}
 use Rattle.table_entries.specs.Sizes.{size_small}
 use Rattle.table_scopes.specs.Items.{one_at, labels_from, after, adds-start, adds-room, adds-next, adds-end, labels-more, labels-none, reach_here, reach-next}
 use Rattle.table_scopes.specs.Spared.{sparing-start, sparing-next, sparing-end, env-length}
-use Rattle.table_scopes.proofs.heads.add_each.Goals as goal
+use Rattle.table_scopes.proofs.heads.add_labels_by.Goals as goal
 
 pub loop-left-init : goal.loop-left-init
 loop-left-init c = (
@@ -19,8 +19,8 @@ loop-left-init c = (
   refl,
 )
 
-pub add_label-more-requires : goal.add_label-more-requires
-add_label-more-requires c =
+pub add_one_by-more-requires : goal.add_one_by-more-requires
+add_one_by-more-requires c =
     let l = c.args.table.now in
     let place = c.loop-left.place in
     let left = c.loop-left.left in
@@ -59,15 +59,15 @@ loop-left-preserved c =
     let rh = reach_here l place left (omega arith) c.loop-left.invariant.1 in
     let z = c.size_at-place.ensures ∙ c.requires.0.sized place (omega (arith, rh)) in
     let step = labels-more l place left c.size_at-place.result (omega arith) z in
-    let g = c.add_label-more.ensures.0 in
+    let g = c.add_one_by-more.ensures.0 in
     let a = adds-next c.loop-left.invariant.0 (one_at 20 5 l place) (labels_from l (place + c.size_at-place.result) (left - 1)) step g in (
       a,
       reach-next l place left c.size_at-place.result (omega arith) z c.loop-left.invariant.1,
       a.same,
-      sparing-next c.loop-left.invariant.3 (omega arith) (env_of _ c.add_label-more.result) c.all_pushed-once.result c.size_at-place.result z
-          (rw (env-length _ c.loop-left.up, env-length _ c.add_label-more.result, ← c.kind_at.ensures) c.all_pushed-once.ensures)
+      sparing-next c.loop-left.invariant.3 (omega arith) (env_of _ c.add_one_by-more.result) c.all_pushed-once.result c.size_at-place.result z
+          (rw (env-length _ c.loop-left.up, env-length _ c.add_one_by-more.result, ← c.kind_at.ensures) c.all_pushed-once.ensures)
           g.now,
-      c.add_label-more.ensures.1,
+      c.add_one_by-more.ensures.1,
       omega (arith, c.loop-left.invariant.5),
     )
 
