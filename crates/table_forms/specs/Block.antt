@@ -1,5 +1,5 @@
 -- A block: its names, its head, its items. What block expressions have too stands first.
-use Rattle.std.specs.Prelude.{◌≡◌, refl, List, [], ◌∷◌, ◌++◌, map, ℕ, ◌+◌, ◌-◌, ◌*◌, ◌/◌, ◌≤◌, length}
+use Rattle.std.specs.Prelude.{◌≡◌, refl, List, [], ◌∷◌, ◌++◌, map, ℕ, ◌+◌, ◌-◌, ◌*◌, ◌/◌, ◌≤◌, length, Ok, Err}
 use Rattle.std.proofs.Common.{◌∙◌, arith, add_assoc, add-one, length-append}
 use Rattle.language.specs.Program.{flat_decl, flat_items, deep_items}
 use Rattle.words.specs.Numbers.{half_at, word_at}
@@ -8,15 +8,14 @@ use Rattle.language.specs.Table.{Entry}
 use Rattle.language.specs.Names.{Scope, block_of}
 use Rattle.language.specs.Faults.{size_items, faults_head, names_head, faults_items}
 use Rattle.language_laws.specs.Claims.{entries_of}
+use Rattle.table_entries.specs.declared.Fault.{Fault}
 use Rattle.table_scopes.specs.Environment.{item as pushed, env_of, add_all, Grown, opened}
 use Rattle.table_scopes.specs.EnvironmentLaws.{fewer}
 use Rattle.table_entries.specs.Entries.{length-entries}
 use Rattle.table_entries.specs.Stands.{Stands, stands-tail, stands-within}
 use Rattle.table_entries.specs.Sizes.{Known}
-use Rattle.table_scopes.specs.declared.heads.Verdict.{Verdict}
-use Rattle.table_scopes.specs.declared.heads.Verdict.TheVariants.{Fine, Refused}
 use Rattle.table_scopes.specs.Items.{block_items, Reach}
-use Rattle.table_scopes.specs.Flaws.{Says, says_first, says_then, head_flaws}
+use Rattle.table_scopes.specs.Flaws.{Verdict, Says, says_first, says_then, head_flaws}
 use Rattle.table_scopes.specs.Trees.{length-map, length-Items}
 use Rattle.table_scopes.specs.Defines.{labels, labels-bulk, Enters, enters, Entered, heads-stand, items-stand, head-faults}
 use Rattle.table_scopes.proofs.EnteredBlocks.{entered-block}
@@ -55,10 +54,10 @@ pub record AnswersContents (l part : List ℕ) (heads count nesting at : ℕ) (s
       → Says r (head_flaws l (env_of old top) (at + 1) heads ++ faults_items ss seen (at + 1 + heads) is)
 
 module _ {l part : List ℕ} {heads count nesting at : ℕ} {sizes old : List ℕ} {top : ℕ} {r : Verdict} (y : Says r (head_flaws l (env_of old top) (at + 1) heads)) where
-  pub contents-stop : (n p : ℕ) → r ≡ Refused n p → AnswersContents l part heads count nesting at sizes old old top (Refused n p)
-  contents-stop n p e = record { kept = refl; same = refl; judged = λ is ss seen q. says_first r n p _ _ e y }
+  pub contents-stop : (bad : Fault) → r ≡ Err bad → AnswersContents l part heads count nesting at sizes old old top (Err bad)
+  contents-stop bad e = record { kept = refl; same = refl; judged = λ is ss seen q. says_first r bad _ _ e y }
 
-  pub contents-judged : (t : ℕ) {new : List ℕ} {s : Verdict} → r ≡ Fine t
+  pub contents-judged : (t : ℕ) {new : List ℕ} {s : Verdict} → r ≡ Ok t
       → AnswersItems l (below part (8 * (1 + heads))) count nesting (at + 1 + heads) sizes old new top s → AnswersContents l part heads count nesting at sizes old new top s
   contents-judged t {new} {s} e z = record { kept = z.kept; same = z.same; judged = λ is ss seen q. says_then r s t _ _ e y (z.judged is ss seen q) }
 

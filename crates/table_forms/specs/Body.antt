@@ -1,5 +1,5 @@
 -- A block expression: what a block has, behind a wall, and then its expression.
-use Rattle.std.specs.Prelude.{◌≡◌, refl, List, [], ◌∷◌, ◌++◌, map, ℕ, ◌+◌, ◌-◌, ◌*◌, ◌/◌, ◌≤◌, length, drop}
+use Rattle.std.specs.Prelude.{◌≡◌, refl, List, [], ◌∷◌, ◌++◌, map, ℕ, ◌+◌, ◌-◌, ◌*◌, ◌/◌, ◌≤◌, length, drop, Ok, Err}
 use Rattle.std.proofs.Common.{ap, ◌∙◌, append_assoc, arith, add-one, length-append}
 use Rattle.language.specs.Program.{flat_decl, flat_items, flat_e, deep_e}
 use Rattle.values.specs.Ends.{Refusal}
@@ -8,15 +8,14 @@ use Rattle.language.specs.Table.{Entry}
 use Rattle.language.specs.Names.{Scope, expression_of}
 use Rattle.language.specs.Faults.{type_e, size_items, faults_head, names_head, faults_items, faults_e}
 use Rattle.language_laws.specs.Claims.{entries_of}
+use Rattle.table_entries.specs.declared.Fault.{Fault}
 use Rattle.table_scopes.specs.Environment.{item as pushed, env_of, add_all, shut}
 use Rattle.table_scopes.specs.EnvironmentLaws.{fewer}
 use Rattle.table_entries.specs.Spans.{span}
 use Rattle.table_entries.specs.Entries.{length-entries}
 use Rattle.table_entries.specs.Stands.{Stands, stands-left, stands-right, stands-tail, stands-within}
-use Rattle.table_scopes.specs.declared.heads.Verdict.{Verdict}
-use Rattle.table_scopes.specs.declared.heads.Verdict.TheVariants.{Fine, Refused}
 use Rattle.table_scopes.specs.Items.{block_items}
-use Rattle.table_scopes.specs.Flaws.{Says, says_first, says_then}
+use Rattle.table_scopes.specs.Flaws.{Verdict, Says, says_first, says_then}
 use Rattle.table_scopes.specs.Trees.{length-map, length-Items, spans-Items}
 use Rattle.table_scopes.specs.Defines.{labels-bulk, Entered}
 use Rattle.table_scopes.proofs.EnteredBlocks.{entered-expression}
@@ -116,17 +115,17 @@ module _ {l part : List ℕ} {nesting at : ℕ} {sizes old : List ℕ} {top : �
           → Says s (inner_faults (expression_of b.ds b.is ∷ ss) b.ds b.is at heads)
       says-inner b = block-says b.block shut g b.entered z
 
-      pub body-stop : (n p : ℕ) → s ≡ Refused n p → Typed BodyForm l part nesting at sizes old late top (Refused n p)
-      body-stop n p w =
+      pub body-stop : (bad : Fault) → s ≡ Err bad → Typed BodyForm l part nesting at sizes old late top (Err bad)
+      body-stop bad w =
           record {
             kept = fewer late mid top up g.least z.kept ∙ g.kept;
             same = z.same ∙ g.same;
             judged = λ f ss seen h q.
                 let b = bodied-of f h heads count c q in
-                record { says = body-says (Refused n p) b (says_first s n p _ _ w (says-inner b)); types = tt };
+                record { says = body-says (Err bad) b (says_first s bad _ _ w (says-inner b)); types = tt };
           }
 
-      module _ (u n : ℕ) (w : s ≡ Fine u) (k : n ≡ span count (drop (at + 1 + heads) (entries_of l))) where
+      module _ (u n : ℕ) (w : s ≡ Ok u) (k : n ≡ span count (drop (at + 1 + heads) (entries_of l))) where
         size-items : (f : Form) (h : BodyForm f) {ss : List Scope} {seen : List ℕ} (q : Ready f ss seen l part nesting at sizes old top) → n ≡ size_items (bodied-of f h heads count c q).is
         size-items f h q = let b = bodied-of f h heads count c q in
             k ∙ items-size b

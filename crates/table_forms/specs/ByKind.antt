@@ -5,8 +5,7 @@ use Rattle.words.specs.Numbers.{half_at}
 use Rattle.language.specs.Names.{Scope}
 use Rattle.logic.specs.Tests.{clash}
 use Rattle.table_scopes.specs.Environment.{env_of}
-use Rattle.table_scopes.specs.declared.heads.Verdict.{Verdict}
-use Rattle.table_scopes.specs.Flaws.{Says, once_flaw}
+use Rattle.table_scopes.specs.Flaws.{Verdict, Says, once_flaw}
 use Rattle.table_forms.specs.Forms.{Form, simple, guard, counted, blocked, bodied, labelled, head_f, faults_f, StmtForm, SimpleForm, LabelForm, is-label, is-other}
 use Rattle.table_forms.specs.Walk.{Ready, Asks, Answers, Typed, is_plain}
 use Rattle.table_forms.specs.Part.{head_of}

@@ -1,5 +1,5 @@
 -- A for: its three expressions, and then its statement among one more scope, that of its control name.
-use Rattle.std.specs.Prelude.{◌≡◌, refl, ◌&&◌, List, [], ◌∷◌, ◌++◌, ℕ, ◌+◌, ◌-◌, ◌*◌, ◌/◌, ◌≤◌, length, drop}
+use Rattle.std.specs.Prelude.{◌≡◌, refl, ◌&&◌, List, [], ◌∷◌, ◌++◌, ℕ, ◌+◌, ◌-◌, ◌*◌, ◌/◌, ◌≤◌, length, drop, Ok, Err}
 use Rattle.std.proofs.Common.{ap, ◌∙◌, arith, add_assoc, add-one, length-append}
 use Rattle.language.specs.Program.{flat_s, flat_es}
 use Rattle.words.specs.Numbers.{half_at}
@@ -13,11 +13,10 @@ use Rattle.table_entries.specs.Entries.{length-entries}
 use Rattle.table_entries.specs.Sizes.{Known}
 use Rattle.table_entries.specs.Spans.{span}
 use Rattle.table_entries.specs.Stands.{stands-left, stands-right, stands-tail, stands-within}
+use Rattle.table_entries.specs.declared.Fault.{Fault}
 use Rattle.table_scopes.specs.Environment.{item as pushed, env_of, opened, Grown}
 use Rattle.table_scopes.specs.EnvironmentLaws.{fewer}
-use Rattle.table_scopes.specs.declared.heads.Verdict.{Verdict}
-use Rattle.table_scopes.specs.declared.heads.Verdict.TheVariants.{Fine, Refused}
-use Rattle.table_scopes.specs.Flaws.{Says, says_first, says_then}
+use Rattle.table_scopes.specs.Flaws.{Verdict, Says, says_first, says_then}
 use Rattle.table_scopes.specs.Sees.{sees-loop}
 use Rattle.table_scopes.specs.Trees.{length-Es, spans-Es}
 use Rattle.table_types.specs.Settle.{values, counted_by}
@@ -111,16 +110,16 @@ module _ {l part : List ℕ} {nesting at : ℕ} {sizes old : List ℕ} {top : �
       (omega (arith, k, g.size, g.within, d.long), omega (arith, k, g.size, g.within, q.ready.table.legible.short))
 
   module _ {mid : List ℕ} {r : Verdict} (y : AnswersEs l (below part 8) 3 (nesting - 1) (at + 1) sizes old mid top r) where
-    pub count-stop : (n p : ℕ) → r ≡ Refused n p → Answers CountForm l part nesting at sizes old mid top (Refused n p)
-    count-stop n p e =
+    pub count-stop : (bad : Fault) → r ≡ Err bad → Answers CountForm l part nesting at sizes old mid top (Err bad)
+    count-stop bad e =
         record {
           kept = y.kept;
           same = y.same;
           judged = λ f ss seen h q. let g = counted_of f h q in
-              rw g.faults (says_first r n p _ _ e (y.judged (three g.start g.step g.limit) ss g.ready).says);
+              rw g.faults (says_first r bad _ _ e (y.judged (three g.start g.step g.limit) ss g.ready).says);
         }
 
-    module _ (t n : ℕ) (e : r ≡ Fine t) (k : n ≡ span 3 (drop (at + 1) (entries_of l))) {new : List ℕ} {up : ℕ} (x : Looped part at top mid new up) where
+    module _ (t n : ℕ) (e : r ≡ Ok t) (k : n ≡ span 3 (drop (at + 1) (entries_of l))) {new : List ℕ} {up : ℕ} (x : Looped part at top mid new up) where
       ready-inner : (f : Form) (h : CountForm f) (ss : List Scope) (seen : List ℕ) (q : Ready f ss seen l part nesting at sizes old top)
           → Ready (form_s (counted_of f h q).inner) (loop_of (counted_of f h q).control ∷ ss) [] l (below part (8 * (1 + n))) (nesting - 1) (at + 1 + n) sizes new up
       ready-inner f h ss seen q = let g = counted_of f h q in g.next mid new up n y.kept y.same x (k ∙ g.size)
@@ -145,17 +144,17 @@ module _ {l part : List ℕ} {nesting at : ℕ} {sizes old : List ℕ} {top : �
             rw (← m, faults-S (loop_of g.control ∷ ss) [] (at + 1 + n) g.inner)
             (z.judged (form_s g.inner) (loop_of g.control ∷ ss) [] (form-stmt g.inner) (ready-inner f h ss seen q))
 
-        pub count-stop-2 : (m p : ℕ) → s ≡ Refused m p → Answers CountForm l part nesting at sizes old late top (Refused m p)
-        count-stop-2 m p w =
+        pub count-stop-2 : (bad : Fault) → s ≡ Err bad → Answers CountForm l part nesting at sizes old late top (Err bad)
+        count-stop-2 bad w =
             record {
               kept = fewer late new top up x.1.least z.kept ∙ x.1.kept ∙ y.kept;
               same = z.same ∙ x.1.same ∙ y.same;
               judged = λ f ss seen h q. let g = counted_of f h q in
-                  rw g.faults (says_then r (Refused m p) t _ _ e (y.judged (three g.start g.step g.limit) ss g.ready).says
-                  (says_first s m p _ _ w (says-inner f h ss seen q)));
+                  rw g.faults (says_then r (Err bad) t _ _ e (y.judged (three g.start g.step g.limit) ss g.ready).says
+                  (says_first s bad _ _ w (says-inner f h ss seen q)));
             }
 
-        pub count-judged : (u : ℕ) {v : Verdict} → s ≡ Fine u → v ≡ counted_by at (values 3 (env_of mid (top + 3))) → Answers CountForm l part nesting at sizes old late top v
+        pub count-judged : (u : ℕ) {v : Verdict} → s ≡ Ok u → v ≡ counted_by at (values 3 (env_of mid (top + 3))) → Answers CountForm l part nesting at sizes old late top v
         unfolding types_of
         count-judged u {v} w o =
             record {

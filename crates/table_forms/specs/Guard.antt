@@ -1,5 +1,5 @@
 -- An expression and the statements that it guards: what is ready below the entry, and what is asked and answered.
-use Rattle.std.specs.Prelude.{◌≡◌, refl, Bool, true, false, List, [], ◌++◌, ℕ, ◌+◌, ◌-◌, ◌*◌, ◌≤◌, ◌<◌, eqb, length, get_or}
+use Rattle.std.specs.Prelude.{◌≡◌, refl, Bool, true, false, List, [], ◌++◌, ℕ, ◌+◌, ◌-◌, ◌*◌, ◌≤◌, ◌<◌, eqb, length, get_or, Ok, Err}
 use Rattle.std.proofs.Common.{ap, sym, ◌∙◌, arith, add_assoc, add-one, length-append}
 use Rattle.std.proofs.Math.Option.{Option}
 use Rattle.language.specs.Program.{flat_items, flat_e}
@@ -9,11 +9,10 @@ use Rattle.values.specs.Types.{Ty, integer, logical}
 use Rattle.language.specs.Tree.{Items, Expr, count_items}
 use Rattle.language.specs.Names.{Scope}
 use Rattle.language.specs.Faults.{type_e, is_ty, mistyped_unless, size_e, faults_items, faults_e}
+use Rattle.table_entries.specs.declared.Fault.{Fault}
 use Rattle.table_scopes.specs.Environment.{env_of}
 use Rattle.table_entries.specs.Stands.{stands-left, stands-right, stands-tail}
-use Rattle.table_scopes.specs.declared.heads.Verdict.{Verdict}
-use Rattle.table_scopes.specs.declared.heads.Verdict.TheVariants.{Fine, Refused}
-use Rattle.table_scopes.specs.Flaws.{Says, says_first, says_then}
+use Rattle.table_scopes.specs.Flaws.{Verdict, Says, says_first, says_then, fault}
 use Rattle.table_scopes.specs.Trees.{length-E, length-Items}
 use Rattle.table_scopes.specs.Defines.{labels-bulk}
 use Rattle.table_types.specs.Types.{ty_num, is_number}
@@ -30,7 +29,7 @@ guard-count loops n a t e = sym t
 guard-count cases n a t e = e
 
 -- a test, by whether the type is the one that is asked for
-says-tested : (b : Bool) (p : ℕ) → Says (If b then Fine 1 else Refused 4 p) (mistyped_unless b p)
+says-tested : (b : Bool) (p : ℕ) → Says (If b then Ok 1 else Err (fault 4 p)) (mistyped_unless b p)
 says-tested true p = refl
 says-tested false p = ([], refl)
 
@@ -111,16 +110,16 @@ module _ {l part : List ℕ} {nesting at : ℕ} {sizes old : List ℕ} {top : �
     says-test : (f : Form) (h : GuardForm f) (ss : List Scope) (seen : List ℕ) (q : Ready f ss seen l part nesting at sizes old top) → Says r (faults_e ss (at + 1) (guarded f h count c q).test)
     says-test f h ss seen q = let g = guarded f h count c q in rw (faults-E ss [] (at + 1) g.test) (y.judged (form_e g.test) ss [] (form-expr g.test) g.ready).says
 
-    pub guard-stop : (n p : ℕ) → r ≡ Refused n p → Answers GuardForm l part nesting at sizes old mid top (Refused n p)
-    guard-stop n p e =
+    pub guard-stop : (bad : Fault) → r ≡ Err bad → Answers GuardForm l part nesting at sizes old mid top (Err bad)
+    guard-stop bad e =
         record {
           kept = y.kept;
           same = y.same;
           judged = λ f ss seen h q.
-              let g = guarded f h count c q in rw g.faults (says_first r n p (faults_e ss (at + 1) g.test) _ e (says-test f h ss seen q));
+              let g = guarded f h count c q in rw g.faults (says_first r bad (faults_e ss (at + 1) g.test) _ e (says-test f h ss seen q));
         }
 
-    module _ (t n : ℕ) (e : r ≡ Fine t) (k : n ≡ get_or sizes (at + 1) 0) where
+    module _ (t n : ℕ) (e : r ≡ Ok t) (k : n ≡ get_or sizes (at + 1) 0) where
       size-test : (f : Form) (h : GuardForm f) (ss : List Scope) (seen : List ℕ) (q : Ready f ss seen l part nesting at sizes old top) → n ≡ size_e (guarded f h count c q).test
       size-test f h ss seen q = let g = guarded f h count c q in k ∙ size-here _ _ g.ready.table (spans-form g.test) g.ready.stands ∙ sym (ap length (flat-E g.test)) ∙ length-E g.test
 
@@ -136,18 +135,18 @@ module _ {l part : List ℕ} {nesting at : ℕ} {sizes old : List ℕ} {top : �
             → Says s (faults_items ss [] (at + 1 + size_e (guarded f h count c q).test) (guarded f h count c q).items)
         says-items f h ss seen q = rw (← size-test f h ss seen q) (z.judged (guarded f h count c q).items ss [] (ready-items f h ss seen q))
 
-        pub guard-stop-2 : (m p : ℕ) → s ≡ Refused m p → Answers GuardForm l part nesting at sizes old new top (Refused m p)
-        guard-stop-2 m p w =
+        pub guard-stop-2 : (bad : Fault) → s ≡ Err bad → Answers GuardForm l part nesting at sizes old new top (Err bad)
+        guard-stop-2 bad w =
             record {
               kept = z.kept ∙ y.kept;
               same = z.same ∙ y.same;
               judged = λ f ss seen h q.
                   let g = guarded f h count c q in
-                  rw g.faults (says_then r (Refused m p) t (faults_e ss (at + 1) g.test) _ e (says-test f h ss seen q)
-                  (says_first s m p (faults_items ss [] (at + 1 + size_e g.test) g.items) _ w (says-items f h ss seen q)));
+                  rw g.faults (says_then r (Err bad) t (faults_e ss (at + 1) g.test) _ e (says-test f h ss seen q)
+                  (says_first s bad (faults_items ss [] (at + 1 + size_e g.test) g.items) _ w (says-items f h ss seen q)));
             }
 
-        pub guard-judged : (u : ℕ) {v : Verdict} → s ≡ Fine u → v ≡ tested_by (half_at part 0) t at → Answers GuardForm l part nesting at sizes old new top v
+        pub guard-judged : (u : ℕ) {v : Verdict} → s ≡ Ok u → v ≡ tested_by (half_at part 0) t at → Answers GuardForm l part nesting at sizes old new top v
         guard-judged u {v} w x =
             record {
               kept = z.kept ∙ y.kept;

@@ -1,5 +1,5 @@
 -- Labels and statements one after the other: what is asked and answered while some of them are judged.
-use Rattle.std.specs.Prelude.{◌≡◌, refl, List, [], ◌∷◌, ◌++◌, ℕ, suc, ◌+◌, ◌-◌, ◌*◌, ◌≤◌, ◌<◌, pos, length, drop, take, get_or}
+use Rattle.std.specs.Prelude.{◌≡◌, refl, List, [], ◌∷◌, ◌++◌, ℕ, suc, ◌+◌, ◌-◌, ◌*◌, ◌≤◌, ◌<◌, pos, length, drop, take, get_or, Ok, Err}
 use Rattle.std.proofs.Common.{ap, sym, ◌∙◌, arith, add-zero, add-one}
 use Rattle.language.specs.Measure.{measure_s}
 use Rattle.language.specs.Program.{flat_s, flat_items, deep_items}
@@ -7,12 +7,11 @@ use Rattle.language.specs.Tree.{Items, no_item, label, item, count_items}
 use Rattle.language.specs.Table.{entry}
 use Rattle.language.specs.Names.{Scope}
 use Rattle.language.specs.Faults.{size_s, faults_items}
+use Rattle.table_entries.specs.declared.Fault.{Fault}
 use Rattle.table_scopes.specs.Environment.{env_of}
 use Rattle.table_entries.specs.Spans.{Spans}
 use Rattle.table_entries.specs.Stands.{stands-left, stands-right}
-use Rattle.table_scopes.specs.declared.heads.Verdict.{Verdict}
-use Rattle.table_scopes.specs.declared.heads.Verdict.TheVariants.{Fine, Refused}
-use Rattle.table_scopes.specs.Flaws.{says_first, says-fine}
+use Rattle.table_scopes.specs.Flaws.{Verdict, says_first, says-fine}
 use Rattle.table_scopes.specs.Trees.{length-S}
 use Rattle.table_scopes.specs.Defines.{OnceItems, bulk}
 use Rattle.table_forms.specs.Forms.{Form, labelled, flat_f, faults_f, form_s, StmtForm, flat-S, deep-S, valid-S, faults-S, form-stmt, once-S}
@@ -117,18 +116,18 @@ module _ {l part : List ℕ} {count nesting at : ℕ} {sizes old : List ℕ} {to
   pub items-passes : AsksItems l part count nesting at sizes old top → (n : ℕ) → n ≡ get_or sizes place 0 → Passes rest sizes place n
   items-passes q n k = let x = this-i q.items q.scopes q.seen q.ready in passes _ _ x.ready.table x.spans x.ready.stands n k
 
-  pub items-stop : {new : List ℕ} {r : Verdict} (n p : ℕ) → Answers StmtForm l rest nesting place sizes env new top r → r ≡ Refused n p
-      → AnswersItems l part count nesting at sizes old new top (Refused n p)
-  items-stop {new} {r} n p t e =
+  pub items-stop : {new : List ℕ} {r : Verdict} (bad : Fault) → Answers StmtForm l rest nesting place sizes env new top r → r ≡ Err bad
+      → AnswersItems l part count nesting at sizes old new top (Err bad)
+  items-stop {new} {r} bad t e =
       record {
         kept = t.kept ∙ s.kept;
         same = t.same ∙ s.same;
         judged = λ is ss seen q. let g = s.goes is ss seen q in let x = this-i is ss seen q in
-            rw (g.same, x.faults) (says_first r n p (faults_f ss g.before place x.form) (faults_items ss x.after (place + length (flat_f x.form)) x.later) e
+            rw (g.same, x.faults) (says_first r bad (faults_f ss g.before place x.form) (faults_items ss x.after (place + length (flat_f x.form)) x.later) e
             (t.judged x.form ss g.before x.holds x.ready));
       }
 
-  pub items-next : {new : List ℕ} {r : Verdict} (t n : ℕ) → Answers StmtForm l rest nesting place sizes env new top r → r ≡ Fine t → n ≡ get_or sizes place 0
+  pub items-next : {new : List ℕ} {r : Verdict} (t n : ℕ) → Answers StmtForm l rest nesting place sizes env new top r → r ≡ Ok t → n ≡ get_or sizes place 0
       → ItemsSoFar l part count nesting at sizes old top new (take (length rest - 8 * n) (drop (8 * n) rest)) (place + n) (left - 1)
   items-next {new} {r} t n y e k =
       record {
@@ -167,7 +166,7 @@ no_items (item s is) n k z = absurd (omega arith)
 
 pub items-end : {l part : List ℕ} {count nesting at : ℕ} {sizes old : List ℕ} {top : ℕ} {env rest : List ℕ} {place left : ℕ}
     → ItemsSoFar l part count nesting at sizes old top env rest place left → left ≡ 0
-    → AnswersItems l part count nesting at sizes old env top (Fine 0)
+    → AnswersItems l part count nesting at sizes old env top (Ok 0)
 unfolding faults_items
 items-end {left = left} s h =
     record { kept = s.kept; same = s.same; judged = λ is ss seen q. let g = s.goes is ss seen q in g.same ∙ rw (no_items g.items left g.ready.many h) }

@@ -2,8 +2,8 @@
 use Rattle.std.specs.Prelude.{◌≡◌, refl, true, false, List, ℕ, ◌+◌, ◌-◌, ◌<◌, eqb}
 use Rattle.std.proofs.Common.{sym, ◌∙◌, arith, ne_eqb}
 use Rattle.words.specs.Numbers.{half_at, word_at}
+use Rattle.table_scopes.specs.Flaws.{Verdict}
 use Rattle.table_scopes.specs.Environment.{Found, env_of, find}
-use Rattle.table_scopes.specs.declared.heads.Verdict.{Verdict}
 use Rattle.table_types.specs.Settle.{values, is_leaf, leaf_by, leaf-kind, leaf-settled}
 use Rattle.table_forms.specs.Forms.{Form, ExprForm, is-simple}
 use Rattle.table_forms.specs.Walk.{Asks, Typed, Alike, fixed_by, operands_by}

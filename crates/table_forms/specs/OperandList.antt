@@ -1,5 +1,5 @@
 -- Expressions one after the other: what is asked and answered while some of them are judged and their types stand above the names.
-use Rattle.std.specs.Prelude.{◌≡◌, refl, ℕ, ◌+◌, ◌-◌, ◌*◌, ◌≤◌, ◌<◌, length, drop, take, get_or}
+use Rattle.std.specs.Prelude.{◌≡◌, refl, ℕ, ◌+◌, ◌-◌, ◌*◌, ◌≤◌, ◌<◌, length, drop, take, get_or, Ok, Err}
 use Rattle.std.proofs.Common.{ap, sym, ◌∙◌, arith, add-zero, add_assoc, add-one, length-append}
 use mathlib.Core.List.{List, [], ◌∷◌, ◌++◌, map, append_assoc, append-nil}
 use Rattle.std.proofs.Math.Nat.{sub-zero}
@@ -8,12 +8,11 @@ use Rattle.language.specs.Program.{flat_e, flat_es}
 use Rattle.language.specs.Tree.{Expr, Exprs, no_expr, expr, count_exprs}
 use Rattle.language.specs.Names.{Scope}
 use Rattle.language.specs.Faults.{type_e, size_e, faults_e, faults_es}
+use Rattle.table_entries.specs.declared.Fault.{Fault}
 use Rattle.table_scopes.specs.Environment.{item as pushed, env_of, find, Grown, value}
 use Rattle.table_scopes.specs.EnvironmentLaws.{fewer, grown-push, stored, past-mark, passing-none}
 use Rattle.table_entries.specs.Stands.{stands-left, stands-right}
-use Rattle.table_scopes.specs.declared.heads.Verdict.{Verdict}
-use Rattle.table_scopes.specs.declared.heads.Verdict.TheVariants.{Fine, Refused}
-use Rattle.table_scopes.specs.Flaws.{says_first, says-fine}
+use Rattle.table_scopes.specs.Flaws.{Verdict, says_first, says-fine, fault}
 use Rattle.table_scopes.specs.Trees.{length-E}
 use Rattle.table_scopes.specs.Sees.{sees-value}
 use Rattle.table_types.specs.Settle.{values}
@@ -89,7 +88,7 @@ alike_next {env} top i t g e k h =
 
 es-moves : {es : Exprs} {ss : List Scope} {l rest : List ℕ} {count nesting at : ℕ} {sizes env : List ℕ} {top place i : ℕ} (g : Going es ss l rest count nesting at sizes env top place i)
     (x : NextE g.left ss l rest nesting place sizes env (top + i)) {mid new : List ℕ} {r : Verdict} (t n : ℕ)
-    → Typed ExprForm l rest nesting place sizes env mid (top + i) r → r ≡ Fine t → n ≡ get_or sizes place 0
+    → Typed ExprForm l rest nesting place sizes env mid (top + i) r → r ≡ Ok t → n ≡ get_or sizes place 0
     → Grown (top + i) mid new (top + i + 1) (pushed value 0 t 0 ∷ env_of mid (top + i)) 1 → n ≡ size_e x.this → t ≡ ty_num (type_e ss x.this)
     → Going es ss l (take (length rest - 8 * n) (drop (8 * n) rest)) count nesting at sizes new top (place + n) (i + 1)
 unfolding faults_es types_of count_exprs flat_es measure_s values
@@ -121,23 +120,23 @@ module _ {l part : List ℕ} {count nesting at : ℕ} {sizes old : List ℕ} {to
       record { form = form_e n.this; scopes = q.scopes; seen = []; holds = form-expr n.this; ready = n.ready }
 
   -- it has a fault, and that is the first
-  pub es-stop : {new : List ℕ} {r : Verdict} (n p : ℕ) → Typed ExprForm l rest nesting place sizes env new (top + i) r → r ≡ Refused n p
-      → AnswersEs l part count nesting at sizes old new top (Refused n p)
+  pub es-stop : {new : List ℕ} {r : Verdict} (bad : Fault) → Typed ExprForm l rest nesting place sizes env new (top + i) r → r ≡ Err bad
+      → AnswersEs l part count nesting at sizes old new top (Err bad)
   unfolding faults_es
-  es-stop {new} {r} n p t e =
+  es-stop {new} {r} bad t e =
       record {
         kept = fewer new env top (top + i) (omega arith) t.kept ∙ s.kept;
         same = t.same ∙ s.same;
         judged = λ es ss q. let g = s.goes es ss q in let x = this-e es ss q in
             record {
               held = tt;
-              says = rw (g.same, x.is) (says_first r n p (faults_e ss place x.this) (faults_es ss (place + size_e x.this) x.later) e
+              says = rw (g.same, x.is) (says_first r bad (faults_e ss place x.this) (faults_es ss (place + size_e x.this) x.later) e
                   (rw (faults-E ss [] place x.this) (t.judged (form_e x.this) ss [] (form-expr x.this) x.ready).says));
             };
       }
 
   -- it has none, and its type is pushed
-  module _ {mid new : List ℕ} {r : Verdict} (t n : ℕ) (y : Typed ExprForm l rest nesting place sizes env mid (top + i) r) (e : r ≡ Fine t)
+  module _ {mid new : List ℕ} {r : Verdict} (t n : ℕ) (y : Typed ExprForm l rest nesting place sizes env mid (top + i) r) (e : r ≡ Ok t)
       (z : new ≡ stored mid (top + i) value 0 t 0) (k : n ≡ get_or sizes place 0) where
     module _ (es : Exprs) (ss : List Scope) (q : ReadyEs es ss l part count nesting at sizes old top) where
       size-e : n ≡ size_e (this-e es ss q).this
@@ -177,12 +176,12 @@ no-exprs no_expr n e z = refl
 no-exprs (expr e es) n k z = absurd (omega arith)
 
 going_end : {es : Exprs} {ss : List Scope} {l rest : List ℕ} {count nesting at : ℕ} {sizes env : List ℕ} {top place i : ℕ} → Going es ss l rest count nesting at sizes env top place i → count ≡ i
-    → Listed (Fine 0) (faults_es ss at es) (values count (env_of env (top + count))) (map ty_num (types_of ss es))
+    → Listed (Ok 0) (faults_es ss at es) (values count (env_of env (top + count))) (map ty_num (types_of ss es))
 unfolding faults_es types_of
 going_end {ss = ss} {count = count} {env = env} {top = top} {i = i} g e =
     let z = no-exprs g.left (count - i) g.ready.many (omega arith) in
     record { says = g.same ∙ rw z; held = sym (g.held ∙ rw (z, append-nil (values i (env_of env (top + i))), e)) }
 
 pub es-end : {l part : List ℕ} {count nesting at : ℕ} {sizes old : List ℕ} {top : ℕ} {env rest : List ℕ} {place i : ℕ} → EsSoFar l part count nesting at sizes old top env rest place i → count ≤ i
-    → AnswersEs l part count nesting at sizes old env top (Fine 0)
+    → AnswersEs l part count nesting at sizes old env top (Ok 0)
 es-end s h = record { kept = s.kept; same = s.same; judged = λ es ss q. going_end (s.goes es ss q) (omega (arith, s.most)) }

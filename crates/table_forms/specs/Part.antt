@@ -1,5 +1,5 @@
 -- The entry at the start of a part of a table, parts that start inside it, and what every walker is asked with.
-use Rattle.std.specs.Prelude.{◌≡◌, List, [], ◌∷◌, ℕ, ◌+◌, ◌-◌, ◌*◌, ◌/◌, ◌≤◌, ◌<◌, pos, length, drop, take, get_or}
+use Rattle.std.specs.Prelude.{◌≡◌, List, [], ◌∷◌, ℕ, ◌+◌, ◌-◌, ◌*◌, ◌/◌, ◌≤◌, ◌<◌, pos, length, drop, take, get_or, Ok, Err}
 use Rattle.std.proofs.Common.{ap, ◌∙◌, arith, add-zero, length-drop, take_all, drop-drop}
 use Rattle.std.proofs.Math.Option.{Option}
 use Rattle.words.specs.Numbers.{half_at, word_at}
@@ -13,8 +13,7 @@ use Rattle.table_entries.specs.Arity.{parts}
 use Rattle.table_entries.specs.Spans.{Spans, spans-one, spans-none}
 use Rattle.table_entries.specs.Entries.{half-part, word-part, length-entries}
 use Rattle.table_entries.specs.Stands.{Stands, stands-within, fields}
-use Rattle.table_scopes.specs.declared.heads.Verdict.{Verdict}
-use Rattle.table_scopes.specs.declared.heads.Verdict.TheVariants.{Fine, Refused}
+use Rattle.table_scopes.specs.Flaws.{Verdict}
 use Rattle.table_scopes.specs.Trees.{length-E, spans-S, spans-E}
 use Rattle.table_scopes.specs.Defines.{number-here, span-here}
 use Rattle.table_types.specs.Types.{ty_num}
@@ -94,17 +93,17 @@ spans-form e = rw (flat-E e) at (spans-E e)
 pub spans-stmt : (s : Stmt) → Spans 1 (flat_f (form_s s))
 spans-stmt s = rw (flat-S s) at (spans-S s)
 
-pub fine-type : (r : Verdict) (t : ℕ) (o : Option Ty) → r ≡ Fine t → Types r o → t ≡ ty_num o
-fine-type (Fine u) t o e h = let z : u ≡ t = cc in rw z at h
-fine-type (Refused n p) t o e h = clash (cc)
+pub fine-type : (r : Verdict) (t : ℕ) (o : Option Ty) → r ≡ Ok t → Types r o → t ≡ ty_num o
+fine-type (Ok u) t o e h = let z : u ≡ t = cc in rw z at h
+fine-type (Err f) t o e h = clash (cc)
 
 pub spans-label : (a : ℕ) → Spans 1 (flat_f (labelled a))
 unfolding parts
 spans-label a = spans-one (entry 20 a (pos 0)) [] spans-none
 
-pub fine-held : (r : Verdict) (t : ℕ) {xs ys : List ℕ} → r ≡ Fine t → Holds r (xs ≡ ys) → xs ≡ ys
-fine-held (Fine u) t e h = h
-fine-held (Refused n p) t e h = clash (cc)
+pub fine-held : (r : Verdict) (t : ℕ) {xs ys : List ℕ} → r ≡ Ok t → Holds r (xs ≡ ys) → xs ≡ ys
+fine-held (Ok u) t e h = h
+fine-held (Err f) t e h = clash (cc)
 
 abbrev pub below : List ℕ → ℕ → List ℕ
 below part k = take (length part - k) (drop k part)

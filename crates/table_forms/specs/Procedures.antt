@@ -1,5 +1,5 @@
 -- A procedure, all declarations, and the whole table.
-use Rattle.std.specs.Prelude.{◌≡◌, refl, List, [], ◌∷◌, ◌++◌, map, ℕ, suc, ◌+◌, ◌*◌, ◌/◌, ◌%◌, ◌≤◌, length}
+use Rattle.std.specs.Prelude.{◌≡◌, refl, List, [], ◌∷◌, ◌++◌, map, ℕ, suc, ◌+◌, ◌*◌, ◌/◌, ◌%◌, ◌≤◌, length, Ok, Err}
 use Rattle.std.proofs.Common.{ap, sym, ◌∙◌, append-nil, arith, add_assoc, add-one}
 use Rattle.language.specs.Program.{flat_typed, flat_decl, result_code, flat_body, flat_global, deep_body}
 use Rattle.words.specs.Numbers.{half_at, word_at}
@@ -7,13 +7,12 @@ use Rattle.language.specs.Tree.{Typed, declare, Body, Global, local, class, proc
 use Rattle.language.specs.Names.{Scope, defines_typed, procedure_of}
 use Rattle.language.specs.Faults.{twice, mistyped_unless, faults_head, faults_body, body_fits, faults_global}
 use Rattle.language_laws.specs.Claims.{entries_of}
+use Rattle.table_entries.specs.declared.Fault.{Fault}
 use Rattle.table_scopes.specs.Environment.{item, env_of, add_all, shut, Grown}
 use Rattle.table_scopes.specs.EnvironmentLaws.{Small, fewer}
 use Rattle.table_entries.specs.Stands.{Stands, stands-left, stands-right, stands-tail}
-use Rattle.table_scopes.specs.declared.heads.Verdict.{Verdict}
-use Rattle.table_scopes.specs.declared.heads.Verdict.TheVariants.{Fine, Refused}
 use Rattle.table_scopes.specs.Items.{items_at}
-use Rattle.table_scopes.specs.Flaws.{Says, says_first, says_then, once_flaw, head_flaws}
+use Rattle.table_scopes.specs.Flaws.{Verdict, Says, says_first, says_then, once_flaw, head_flaws}
 use Rattle.table_scopes.specs.Trees.{length-map, typed-decls, length-Body, Heads}
 use Rattle.table_scopes.specs.Sees.{Sees, sees-procedure}
 use Rattle.table_scopes.specs.Once.{Rising}
@@ -153,27 +152,27 @@ module _ {l part : List ℕ} {at : ℕ} {sizes old : List ℕ} {top : ℕ} (head
     proc-body q = let p = procedure-of q.global q.holds heading c q.ready in record { body = p.body; scopes = procedure_of p.list ∷ q.scopes; ready = ready-body p w }
 
     module _ {r : Verdict} (y : Says r (head_flaws l (env_of mid up) (at + 1) (heading / 256))) where
-      pub proc-stop : (n p : ℕ) → r ≡ Refused n p → AnswersGlobal IsProcedure l part at sizes old mid top (Refused n p)
-      proc-stop n m e =
+      pub proc-stop : (bad : Fault) → r ≡ Err bad → AnswersGlobal IsProcedure l part at sizes old mid top (Err bad)
+      proc-stop bad e =
           record {
             kept = w.kept;
             same = w.same;
             judged = λ g ss seen h q.
-                let p = procedure-of g h heading c q in rw p.faults (says_first r n m _ _ e (rw (params-faults p w) at y));
+                let p = procedure-of g h heading c q in rw p.faults (says_first r bad _ _ e (rw (params-faults p w) at y));
           }
 
-      module _ (t : ℕ) (e : r ≡ Fine t) {new : List ℕ} {s : Verdict} (z : AnswersBody l (below part (8 * (1 + heading / 256))) (heading % 256) (at + 1 + heading / 256) sizes mid new up s) where
-        pub proc-stop-2 : (n p : ℕ) → s ≡ Refused n p → AnswersGlobal IsProcedure l part at sizes old new top (Refused n p)
-        proc-stop-2 n m x =
+      module _ (t : ℕ) (e : r ≡ Ok t) {new : List ℕ} {s : Verdict} (z : AnswersBody l (below part (8 * (1 + heading / 256))) (heading % 256) (at + 1 + heading / 256) sizes mid new up s) where
+        pub proc-stop-2 : (bad : Fault) → s ≡ Err bad → AnswersGlobal IsProcedure l part at sizes old new top (Err bad)
+        proc-stop-2 bad x =
             record {
               kept = fewer new mid top up w.least z.kept ∙ w.kept;
               same = z.same ∙ w.same;
               judged = λ g ss seen h q.
                   let p = procedure-of g h heading c q in
-                  rw p.faults (says_then r (Refused n m) t _ _ e (rw (params-faults p w) at y) (says_first s n m _ _ x (z.judged p.body (procedure_of p.list ∷ ss) (ready-body p w)).says));
+                  rw p.faults (says_then r (Err bad) t _ _ e (rw (params-faults p w) at y) (says_first s bad _ _ x (z.judged p.body (procedure_of p.list ∷ ss) (ready-body p w)).says));
             }
 
-        pub proc-judged : (u : ℕ) {v : Verdict} → s ≡ Fine u → Says v (once_flaw (env_of new top) (half_at part 2) at ++ result_flaw heading u at) → AnswersGlobal IsProcedure l part at sizes old new top v
+        pub proc-judged : (u : ℕ) {v : Verdict} → s ≡ Ok u → Says v (once_flaw (env_of new top) (half_at part 2) at ++ result_flaw heading u at) → AnswersGlobal IsProcedure l part at sizes old new top v
         proc-judged u {v} x k =
             record { kept = fewer new mid top up w.least z.kept ∙ w.kept; same = z.same ∙ w.same; judged = λ g ss seen h q. go g ss seen h q (procedure-of g h heading c q) }
           where

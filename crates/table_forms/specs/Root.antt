@@ -1,5 +1,5 @@
 -- What the walkers of the root ask and answer.
-use Rattle.std.specs.Prelude.{◌≡◌, refl, Bool, true, false, List, [], ◌∷◌, ◌++◌, map, ℕ, suc, ◌+◌, ◌-◌, ◌*◌, ◌/◌, ◌%◌, ◌≤◌, eqb, length}
+use Rattle.std.specs.Prelude.{◌≡◌, refl, Bool, true, false, List, [], ◌∷◌, ◌++◌, map, ℕ, suc, ◌+◌, ◌-◌, ◌*◌, ◌/◌, ◌%◌, ◌≤◌, eqb, length, Ok}
 use Rattle.std.proofs.Common.{ap, sym, ◌∙◌, append_assoc, append-nil, arith, add-zero, add-one, length-append, ne_eqb}
 use Rattle.language.specs.Program.{flat_typed, flat_decl, result_code, flat_body, flat_global, flat_head, deep_body, deep_global}
 use Rattle.logic.specs.Choice.{If◌then◌else◌}
@@ -13,9 +13,7 @@ use Rattle.language_laws.specs.Claims.{entries_of}
 use Rattle.table_scopes.specs.Environment.{Item, env_of}
 use Rattle.table_entries.specs.Entries.{length-entries}
 use Rattle.table_entries.specs.Stands.{Stands, stands-tail, stands-within}
-use Rattle.table_scopes.specs.declared.heads.Verdict.{Verdict}
-use Rattle.table_scopes.specs.declared.heads.Verdict.TheVariants.{Fine}
-use Rattle.table_scopes.specs.Flaws.{Says, once_flaw, head_flaws}
+use Rattle.table_scopes.specs.Flaws.{Verdict, Says, once_flaw, head_flaws}
 use Rattle.table_scopes.specs.Trees.{length-map, typed-decls, length-Body, length-Global}
 use Rattle.table_scopes.specs.Sees.{Sees}
 use Rattle.table_scopes.specs.Once.{OnceAll}
@@ -188,7 +186,7 @@ tested : (p : ℕ) (b : Bool) → (If b then [] else refusal 4 p ∷ []) ≡ mis
 tested p true = refl
 tested p false = refl
 
-pub body-result : (n p : ℕ) (b : Body) (ss : List Scope) (r : Verdict) (t : ℕ) → n % 256 ≡ result_code b → r ≡ Fine t → TypesBody r ss b → result_flaw n t p ≡ mistyped_unless (body_fits ss b) p
+pub body-result : (n p : ℕ) (b : Body) (ss : List Scope) (r : Verdict) (t : ℕ) → n % 256 ≡ result_code b → r ≡ Ok t → TypesBody r ss b → result_flaw n t p ≡ mistyped_unless (body_fits ss b) p
 unfolding result_flaw
 body-result n p (proper s) ss r t e z h = rw e
 body-result n p (function u x) ss r t e z h =

@@ -1,5 +1,5 @@
 -- An entry with expressions only below it.
-use Rattle.std.specs.Prelude.{◌≡◌, Bool, List, ◌++◌, map, ℕ, suc, ◌+◌, ◌-◌, ◌*◌, ◌≤◌, ◌<◌, pos, length}
+use Rattle.std.specs.Prelude.{◌≡◌, Bool, List, ◌++◌, map, ℕ, suc, ◌+◌, ◌-◌, ◌*◌, ◌≤◌, ◌<◌, pos, length, Ok, Err}
 use Rattle.std.proofs.Math.Path.{refl}
 use Rattle.std.proofs.Common.{ap, sym, ◌∙◌, arith, add-one, length-append, eq-eqb}
 use Rattle.std.proofs.Math.Bool.{true, false}
@@ -12,12 +12,11 @@ use Rattle.language.specs.Tree.{Expr, number, truth, pattern, null, variable, in
 use Rattle.language.specs.Tree.{count_exprs}
 use Rattle.language.specs.Names.{Scope, lookup}
 use Rattle.language.specs.Faults.{fault_if, faults_es}
+use Rattle.table_entries.specs.declared.Fault.{Fault}
 use Rattle.table_scopes.specs.Environment.{env_of, find}
 use Rattle.table_entries.specs.Entries.{half-part, rest}
 use Rattle.table_entries.specs.Stands.{stands-left, stands-tail}
-use Rattle.table_scopes.specs.declared.heads.Verdict.{Verdict}
-use Rattle.table_scopes.specs.declared.heads.Verdict.TheVariants.{Fine, Refused}
-use Rattle.table_scopes.specs.Flaws.{says_first, says_then}
+use Rattle.table_scopes.specs.Flaws.{Verdict, says_first, says_then, fault}
 use Rattle.table_scopes.specs.Trees.{length-E}
 use Rattle.table_scopes.specs.Defines.{name-small}
 use Rattle.table_types.specs.Settle.{values, settled_by, controls, Within}
@@ -194,7 +193,7 @@ module _ {l part : List ℕ} {nesting at : ℕ} {sizes old : List ℕ} {top : �
   fixed-is (labelled a) h q = absurd h
 
   -- it is one, and that is the first fault
-  pub simple-fixed : fixed_by part (find (half_at part 10) (env_of old top)) ≡ true → Typed SimpleForm l part nesting at sizes old old top (Refused 4 (at + 1))
+  pub simple-fixed : fixed_by part (find (half_at part 10) (env_of old top)) ≡ true → Typed SimpleForm l part nesting at sizes old old top (Err (fault 4 (at + 1)))
   simple-fixed e =
       record {
         kept = refl;
@@ -246,14 +245,14 @@ module _ {l part : List ℕ} {nesting at : ℕ} {sizes old : List ℕ} {top : �
   simple-asks q = record { exprs = es_of q.form; scopes = q.scopes; ready = simple-ready q.form q.holds q.ready }
 
   module _ {mid : List ℕ} {r : Verdict} (t : AnswersEs l (below part 8) count (nesting - 1) (at + 1) sizes old mid top r) where
-    pub simple-stop : fixed_by part (find (half_at part 10) (env_of old top)) ≡ false → (n p : ℕ) → r ≡ Refused n p → Typed SimpleForm l part nesting at sizes old mid top (Refused n p)
-    simple-stop free n p e =
+    pub simple-stop : fixed_by part (find (half_at part 10) (env_of old top)) ≡ false → (bad : Fault) → r ≡ Err bad → Typed SimpleForm l part nesting at sizes old mid top (Err bad)
+    simple-stop free bad e =
         record {
           kept = t.kept;
           same = t.same;
           judged = λ f ss seen h q.
               record {
-                says = rw (simple-faults at f h ss seen, fixed-is f h q, free) (says_first r n p (faults_es ss (at + 1) (es_of f))
+                says = rw (simple-faults at f h ss seen, fixed-is f h q, free) (says_first r bad (faults_es ss (at + 1) (es_of f))
                     (own ss (op_of f) (types_of ss (es_of f)) at) e (t.judged (es_of f) ss (simple-ready f h q)).says);
                 types = tt;
               };
@@ -269,7 +268,7 @@ module _ {l part : List ℕ} {nesting at : ℕ} {sizes old : List ℕ} {top : �
               (q.ready.sees.sees (half_at part 2) w)),
         )
 
-    pub simple-judged : fixed_by part (find (half_at part 10) (env_of old top)) ≡ false → (u : ℕ) {s : Verdict} → r ≡ Fine u
+    pub simple-judged : fixed_by part (find (half_at part 10) (env_of old top)) ≡ false → (u : ℕ) {s : Verdict} → r ≡ Ok u
         → s ≡ settled_by l (half_at part 0) (half_at part 2) at (find (half_at part 2) (env_of mid top)) (values count (env_of mid (top + count)))
         → Typed SimpleForm l part nesting at sizes old mid top s
     simple-judged free u {s} e z =

@@ -1,5 +1,5 @@
 -- All declarations of the root, and the whole table.
-use Rattle.std.specs.Prelude.{◌≡◌, Bool, true, false, ℕ, zero, suc, ◌+◌, ◌-◌, ◌*◌, ◌/◌, ◌%◌, ◌≤◌, ◌<◌, eqb, ltb, drop, get_or}
+use Rattle.std.specs.Prelude.{◌≡◌, Bool, true, false, ℕ, zero, suc, ◌+◌, ◌-◌, ◌*◌, ◌/◌, ◌%◌, ◌≤◌, ◌<◌, eqb, ltb, drop, get_or, Ok, Err}
 use Rattle.std.proofs.Math.Path.{refl}
 use Rattle.std.proofs.Common.{ap, sym, ◌∙◌, arith, zero-add, length-drop, ltb-false, take_all}
 use mathlib.Core.List.{List, [], ◌∷◌, ◌++◌, append-nil}
@@ -16,16 +16,15 @@ use Rattle.language.specs.Faults.{faults_items, names_global, faults_global, fau
 use Rattle.logic.specs.Tests.{clash, both_left, both_right}
 use Rattle.language_laws.specs.Claims.{entries_of, Readable}
 use Rattle.language_laws.proofs.Programs.{flatten-read}
+use Rattle.table_entries.specs.declared.Fault.{Fault}
 use Rattle.table_scopes.specs.Environment.{item, env_of, add_all, opened, Grown}
 use Rattle.table_scopes.specs.EnvironmentLaws.{Small, small-append}
 use Rattle.table_entries.specs.Spans.{Spans, span}
 use Rattle.table_entries.specs.Entries.{length-entries}
 use Rattle.table_entries.specs.Stands.{Stands, stands-left, stands-right, stands-tail, stands-within}
 use Rattle.table_entries.specs.Sizes.{Known}
-use Rattle.table_scopes.specs.declared.heads.Verdict.{Verdict}
-use Rattle.table_scopes.specs.declared.heads.Verdict.TheVariants.{Fine, Refused}
 use Rattle.table_scopes.specs.Items.{labels_from, globals_from, root_items, Reach, ReachGlobals}
-use Rattle.table_scopes.specs.Flaws.{Says, says_first, says_then, says-fine}
+use Rattle.table_scopes.specs.Flaws.{Verdict, Says, says_first, says_then, says-fine}
 use Rattle.table_scopes.specs.Trees.{length-Global, length-Items, spans-Global}
 use Rattle.table_scopes.specs.Sees.{Legible, Sees, matches-append, sees-none, sees-block}
 use Rattle.table_scopes.proofs.OnceBlocks.{once-block}
@@ -143,19 +142,19 @@ module _ {l : List ℕ} {count : ℕ} {sizes old : List ℕ} {top : ℕ} {env : 
       let z = size-g q.globals q.scopes q.ready n k in
       record { start = omega (arith, d.fits); known = omega (arith, d.fits, size-least x.this, x.ready.table.known.wide); small = omega (arith, d.fits, x.ready.table.legible.short) }
 
-  pub globals-stop : {new : List ℕ} {r : Verdict} (n p : ℕ) → AnswersGlobal Any l (below l (8 * place)) place sizes env new top r → r ≡ Refused n p
-      → AnswersGlobals l count sizes old new top (Refused n p)
+  pub globals-stop : {new : List ℕ} {r : Verdict} (bad : Fault) → AnswersGlobal Any l (below l (8 * place)) place sizes env new top r → r ≡ Err bad
+      → AnswersGlobals l count sizes old new top (Err bad)
   unfolding faults_declared
-  globals-stop {new} {r} n p t e =
+  globals-stop {new} {r} bad t e =
       record {
         kept = t.kept ∙ s.kept;
         same = t.same ∙ s.same;
         judged = λ gs ss q.
             let g = s.goes gs ss q in let x = this-g gs ss q in
-            rw (g.same, x.is) (says_first r n p (faults_global ss g.before place x.this) _ e (t.judged x.this ss g.before tt x.ready));
+            rw (g.same, x.is) (says_first r bad (faults_global ss g.before place x.this) _ e (t.judged x.this ss g.before tt x.ready));
       }
 
-  pub globals-next : {new : List ℕ} {r : Verdict} (t n : ℕ) → AnswersGlobal Any l (below l (8 * place)) place sizes env new top r → r ≡ Fine t
+  pub globals-next : {new : List ℕ} {r : Verdict} (t n : ℕ) → AnswersGlobal Any l (below l (8 * place)) place sizes env new top r → r ≡ Ok t
       → n ≡ get_or sizes place 0 → GlobalsSoFar l count sizes old top new (place + n) (left - 1)
   unfolding faults_declared
   globals-next {new} {r} t n y e k =
@@ -188,7 +187,7 @@ no-globals [] n e z = refl
 no-globals (g ∷ gs) n e z = absurd (omega arith)
 
 pub globals-end : {l : List ℕ} {count : ℕ} {sizes old : List ℕ} {top : ℕ} {env : List ℕ} {place left : ℕ}
-    → GlobalsSoFar l count sizes old top env place left → left ≡ 0 → AnswersGlobals l count sizes old env top (Fine 0)
+    → GlobalsSoFar l count sizes old top env place left → left ≡ 0 → AnswersGlobals l count sizes old env top (Ok 0)
 unfolding faults_declared
 globals-end {left = left} s h = record { kept = s.kept; same = s.same; judged = λ gs ss q. let g = s.goes gs ss q in g.same ∙ rw (no-globals g.globals left g.ready.many h) }
 
@@ -349,17 +348,17 @@ module _ {t : Tree} {l sizes env : List ℕ} (w : Whole t l sizes env) where
             many = p.count;
           }
 
-      pub root-says : (r s : Verdict) (u : ℕ) → r ≡ Fine u → Says r (faults_declared (root_of t ∷ []) [] 1 t.head)
+      pub root-says : (r s : Verdict) (u : ℕ) → r ≡ Ok u → Says r (faults_declared (root_of t ∷ []) [] 1 t.head)
           → Says s (faults_items (root_of t ∷ []) (seen_globals t.head []) after t.items) → Says s (faults t)
       unfolding faults
       root-says r s u e x y = let p = parts c in
           rw (faults-then (root_of t ∷ []) [] 1 t.head (λ seen q. faults_items (root_of t ∷ []) seen q t.items))
           (says_then r s u (faults_declared (root_of t ∷ []) [] 1 t.head) _ e x (rw p.place at y))
 
-      pub root-stops : (r : Verdict) (n q : ℕ) → r ≡ Refused n q → Says r (faults_declared (root_of t ∷ []) [] 1 t.head) → Says (Refused n q) (faults t)
+      pub root-stops : (r : Verdict) (bad : Fault) → r ≡ Err bad → Says r (faults_declared (root_of t ∷ []) [] 1 t.head) → Says (Err bad) (faults t)
       unfolding faults
-      root-stops r n q e x =
-          rw (faults-then (root_of t ∷ []) [] 1 t.head (λ seen p. faults_items (root_of t ∷ []) seen p t.items)) (says_first r n q (faults_declared (root_of t ∷ []) [] 1 t.head) _ e x)
+      root-stops r bad e x =
+          rw (faults-then (root_of t ∷ []) [] 1 t.head (λ seen p. faults_items (root_of t ∷ []) seen p t.items)) (says_first r bad (faults_declared (root_of t ∷ []) [] 1 t.head) _ e x)
 
 -- ── a table that reads ──
 pub record AsksRoot (l sizes env : List ℕ) : Type 0 where
@@ -430,10 +429,10 @@ module _ {l sizes env : List ℕ} {heads rest after : ℕ} (c : Counted l heads 
     pub root-rest : AsksRoot l sizes env → AsksItems l (below l (8 * after)) rest 63 after sizes new up
     root-rest q = record { items = q.tree.items; scopes = root_of q.tree ∷ []; seen = seen_globals q.tree.head []; ready = ready-rest q.whole c g y.kept y.same }
 
-    pub root-stop : (n p : ℕ) → r ≡ Refused n p → AnswersRoot l sizes env (Refused n p)
-    root-stop n p e = record { judged = λ t w. root-stops w c g r n p e (y.judged t.head (root_of t ∷ []) (ready-globals w c g)) }
+    pub root-stop : (bad : Fault) → r ≡ Err bad → AnswersRoot l sizes env (Err bad)
+    root-stop bad e = record { judged = λ t w. root-stops w c g r bad e (y.judged t.head (root_of t ∷ []) (ready-globals w c g)) }
 
-    pub root-judged : (u : ℕ) {late : List ℕ} {s : Verdict} → r ≡ Fine u → AnswersItems l (below l (8 * after)) rest 63 after sizes new late up s → AnswersRoot l sizes env s
+    pub root-judged : (u : ℕ) {late : List ℕ} {s : Verdict} → r ≡ Ok u → AnswersItems l (below l (8 * after)) rest 63 after sizes new late up s → AnswersRoot l sizes env s
     root-judged u {late} {s} e z =
         record {
           judged = λ t w. root-says w c g r s u e (y.judged t.head (root_of t ∷ []) (ready-globals w c g))

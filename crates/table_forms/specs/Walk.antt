@@ -1,5 +1,5 @@
 -- What a walker asks, and what it answers: for every tree that stands where it is called, and all blocks around that the names in sight agree with.
-use Rattle.std.specs.Prelude.{◌≡◌, Bool, true, false, List, map, ℕ, ◌+◌, ◌*◌, ◌≤◌, ◌<◌, eqb, ltb, length, drop}
+use Rattle.std.specs.Prelude.{◌≡◌, Bool, true, false, List, map, ℕ, ◌+◌, ◌*◌, ◌≤◌, ◌<◌, eqb, ltb, length, drop, Ok, Err}
 use Rattle.language.specs.Program.{flat_items, flat_es, deep_items, deep_es}
 use Rattle.logic.specs.Choice.{If◌then◌else◌}
 use Rattle.values.specs.Ends.{Refusal}
@@ -11,9 +11,7 @@ use Rattle.words.specs.Numbers.{half_at}
 use Rattle.table_scopes.specs.Environment.{Found, env_of, find}
 use Rattle.table_entries.specs.Stands.{Stands}
 use Rattle.table_entries.specs.Sizes.{Known}
-use Rattle.table_scopes.specs.declared.heads.Verdict.{Verdict}
-use Rattle.table_scopes.specs.declared.heads.Verdict.TheVariants.{Fine, Refused}
-use Rattle.table_scopes.specs.Flaws.{Says}
+use Rattle.table_scopes.specs.Flaws.{Verdict, Says, fault}
 use Rattle.table_scopes.specs.Sees.{Legible, Sees}
 use Rattle.table_scopes.specs.Defines.{OnceItems, bulk}
 use Rattle.table_types.specs.Settle.{values, controls}
@@ -78,8 +76,8 @@ pub record AsksEs (l part : List ℕ) (count nesting at : ℕ) (sizes env : List
   pub ready : ReadyEs exprs scopes l part count nesting at sizes env top
 
 abbrev pub Holds : Verdict → Type 0 → Type 0
-Holds (Fine t) X = X
-Holds (Refused n p) X = Unit {0}
+Holds (Ok t) X = X
+Holds (Err f) X = Unit {0}
 
 pub record Listed (r : Verdict) (fs : List Refusal) (vs ts : List ℕ) : Type 0 where
   pub says : Says r fs
@@ -143,4 +141,4 @@ unfoldable pub guarded_by : ℕ → ℕ → ℕ
 guarded_by k a = If eqb k 23 then 2 else If eqb k 30 then a else 1
 
 unfoldable pub tested_by : ℕ → ℕ → ℕ → Verdict
-tested_by k t p = If eqb k 30 then If eqb t 1 then Fine 1 else Refused 4 p else If eqb t 2 then Fine 1 else Refused 4 p
+tested_by k t p = If eqb k 30 then If eqb t 1 then Ok 1 else Err (fault 4 p) else If eqb t 2 then Ok 1 else Err (fault 4 p)

@@ -1,28 +1,24 @@
 -- What the check of names answers: the first of all faults.
-use Rattle.std.specs.Prelude.{◌≡◌, List, [], ◌∷◌, ℕ}
+use Rattle.std.specs.Prelude.{◌≡◌, refl, Result, Ok, Err, List, [], ◌∷◌, ℕ}
+use Rattle.std.proofs.Common.{sym, ◌∙◌}
 use Rattle.values.specs.Ends.{accepted}
 use Rattle.language.specs.Tree.{Tree}
 use Rattle.language.specs.Table.{read_table}
 use Rattle.language.specs.Faults.{faults}
 use Rattle.values.specs.Ends.{Refusal}
-use Rattle.table_scopes.specs.declared.heads.Verdict.{Verdict}
-use Rattle.table_scopes.specs.declared.heads.Verdict.TheVariants.{Fine, Refused}
-use Rattle.table_scopes.specs.Flaws.{Says}
-use Rattle.table_names.specs.declared.faults.Faulted.{Faulted}
-use Rattle.table_names.specs.declared.faults.Faulted.TheVariants.{Faultless, Fault}
+use Rattle.table_entries.specs.declared.Fault.{Fault}
+use Rattle.table_scopes.specs.Flaws.{Verdict, Says, fault}
 
-abbrev pub first_fault : List Refusal → Faulted
-first_fault [] = Faultless
-first_fault (r ∷ rs) = Fault r.number r.place
+abbrev pub first_fault : List Refusal → Result (Unit {0}) Fault
+first_fault [] = Ok tt
+first_fault (r ∷ rs) = Err (fault r.number r.place)
 
-abbrev pub answered_by : Verdict → Faulted
-answered_by (Fine t) = Faultless
-answered_by (Refused n p) = Fault n p
+pub says_none : (r : Verdict) (t : ℕ) (fs : List Refusal) → r ≡ Ok t → Says r fs → Ok tt ≡ first_fault fs
+says_none r t fs e h = rw (rw e at h)
 
-pub says-answer : (r : Verdict) (fs : List Refusal) → Says r fs → answered_by r ≡ first_fault fs
-says-answer (Fine t) fs h = rw h
-says-answer (Refused n p) fs (rest, h) = rw h
+pub says_one : (r : Verdict) (f : Fault) (fs : List Refusal) → r ≡ Err f → Says r fs → Err f ≡ first_fault fs
+says_one r f fs e h = rw (rw e at h).1
 
 -- whatever tree the table reads as, the answer is its first fault
-abbrev pub GivesFirst : List ℕ → Faulted → Type 0
+abbrev pub GivesFirst : List ℕ → Result (Unit {0}) Fault → Type 0
 GivesFirst l r = (t : Tree) → read_table l ≡ accepted t → r ≡ first_fault (faults t)

@@ -6,28 +6,12 @@ ghost use Rattle.table_scopes.specs.Environment.{env_of};
 ghost use Rattle.table_scopes.specs.Flaws.{Says, once_flaw, head_flaws};
 ghost use Rattle.table_forms.specs.Root.{AsksBody, AnswersBody, result_flaw, AsksGlobal, AnswersGlobal, Any, IsProcedure};
 ghost use Rattle.table_forms.specs.Tables.{AsksGlobals, AnswersGlobals, AsksRoot, AnswersRoot, Reads};
-ghost use Rattle.table_names.specs.Answer.{GivesFirst, answered_by};
+ghost use Rattle.table_names.specs.Answer.{GivesFirst};
 
 use crate::walkers;
 use formats::entries::*;
 use formats::limits::*;
-use table_scopes::Verdict;
-
-#[derive(Drop)]
-pub enum Faulted {
-    Faultless,
-    // a number and a place
-    Fault(u8, usize),
-}
-
-fn answered(v: Verdict) -> Faulted
-    ensures { result ≡ answered_by v }
-{
-    match v {
-        Verdict::Fine(_) => Faulted::Faultless,
-        Verdict::Refused(n, p) => Faulted::Fault(n, p),
-    }
-}
+use table_entries::Fault;
 
 // The body of a procedure: a statement, or an expression where there is a result.
 fn body(
@@ -38,7 +22,7 @@ fn body(
     sizes: &[u16],
     env: &mut [u32],
     top: usize,
-) -> Verdict
+) -> Result<u32, Fault>
     requires { AsksBody table.now part.now res at sizes.now env.old top }
     ensures { AnswersBody table.now part.now res at sizes.now env.old env.new top result }
 {
@@ -50,29 +34,27 @@ fn body(
 }
 
 // Where a result is asked for, the body has its type.
-fn returned(heading: u32, t: u32, at: usize) -> Verdict
+fn returned(heading: u32, t: u32, at: usize) -> Result<u32, Fault>
     ensures { Says result (result_flaw heading t at) }
 {
     let result = heading % 256;
     if result == 0 {
-        return Verdict::Fine(0);
+        return Ok(0);
     }
     if result == t {
-        Verdict::Fine(0)
+        Ok(0)
     } else {
-        Verdict::Refused(4, at)
+        Err(Fault { number: 4, place: at })
     }
 }
 
 // A procedure is declared once, and its body has the type of its result.
-fn headed(heading: u32, t: u32, env: &[u32], top: usize, name: u32, at: usize) -> Verdict
+fn headed(heading: u32, t: u32, env: &[u32], top: usize, name: u32, at: usize) -> Result<u32, Fault>
     requires { 4 * top ≤ length env.now }
     ensures { Says result (once_flaw (env_of env.now top) name at ++ result_flaw heading t at) }
 {
-    match table_scopes::once(env, top, name, at) {
-        Verdict::Fine(_) => returned(heading, t, at),
-        Verdict::Refused(n, p) => Verdict::Refused(n, p),
-    }
+    table_scopes::once(env, top, name, at)?;
+    returned(heading, t, at)
 }
 
 // A procedure: its heading, and behind the wall of that its body.
@@ -83,7 +65,7 @@ fn procedure(
     sizes: &[u16],
     env: &mut [u32],
     top: usize,
-) -> Verdict
+) -> Result<u32, Fault>
     requires { AsksGlobal IsProcedure table.now part.now at sizes.now env.old top }
     ensures { AnswersGlobal IsProcedure table.now part.now at sizes.now env.old env.new top result }
 {
@@ -91,38 +73,30 @@ fn procedure(
     let name = table_entries::a_at(part, 0);
     let parameters = heading as usize / 256;
     let up = table_scopes::enter_procedure(table, at + 1, parameters, env, top);
-    match table_scopes::head(table, at + 1, parameters, env, up) {
-        Verdict::Fine(_) => {
-            let from = ENTRY_BYTES * (1 + parameters);
-            match body(
-                table,
-                &part[from..],
-                heading % 256,
-                at + 1 + parameters,
-                sizes,
-                env,
-                up,
-            ) {
-                Verdict::Fine(t) => headed(heading, t, env, top, name as u32, at),
-                Verdict::Refused(n, p) => Verdict::Refused(n, p),
-            }
-        }
-        Verdict::Refused(n, p) => Verdict::Refused(n, p),
-    }
+    table_scopes::head(table, at + 1, parameters, env, up)?;
+    let from = ENTRY_BYTES * (1 + parameters);
+    let t = body(
+        table,
+        &part[from..],
+        heading % 256,
+        at + 1 + parameters,
+        sizes,
+        env,
+        up,
+    )?;
+    headed(heading, t, env, top, name as u32, at)
 }
 
 // The fields of a class, and then the class itself.
-fn class(table: &[u8], part: &[u8], at: usize, env: &[u32], top: usize) -> Verdict
+fn class(table: &[u8], part: &[u8], at: usize, env: &[u32], top: usize) -> Result<u32, Fault>
     requires { (8 ≤ length part.now) × (8 * (at + 1 + word_at part.now 4) ≤ length table.now) × (4 * top ≤ length env.now) }
     ensures { Says result (head_flaws table.now (env_of env.now top) (at + 1) (word_at part.now 4)
         ++ once_flaw (env_of env.now top) (half_at part.now 2) at) }
 {
     let fields = table_entries::b_at(part, 0) as usize;
     let name = table_entries::a_at(part, 0);
-    match table_scopes::head(table, at + 1, fields, env, top) {
-        Verdict::Fine(_) => table_scopes::once(env, top, name as u32, at),
-        Verdict::Refused(n, p) => Verdict::Refused(n, p),
-    }
+    table_scopes::head(table, at + 1, fields, env, top)?;
+    table_scopes::once(env, top, name as u32, at)
 }
 
 fn global(
@@ -132,7 +106,7 @@ fn global(
     sizes: &[u16],
     env: &mut [u32],
     top: usize,
-) -> Verdict
+) -> Result<u32, Fault>
     requires { AsksGlobal Any table.now part.now at sizes.now env.old top }
     ensures { AnswersGlobal Any table.now part.now at sizes.now env.old env.new top result }
 {
@@ -144,29 +118,21 @@ fn global(
     }
 }
 
-fn globals(table: &[u8], count: usize, sizes: &[u16], env: &mut [u32], top: usize) -> Verdict
+fn globals(table: &[u8], count: usize, sizes: &[u16], env: &mut [u32], top: usize) -> Result<u32, Fault>
     requires { AsksGlobals table.now count sizes.now env.old top }
     ensures { AnswersGlobals table.now count sizes.now env.old env.new top result }
 {
     let mut place = 1;
-    let mut left = count;
-    while 0 < left {
+    for left in (0..count).rev() {
         let from = ENTRY_BYTES * place;
-        match global(table, &table[from..], place, sizes, env, top) {
-            Verdict::Fine(_) => {
-                place += table_scopes::size_at(sizes, place);
-                left -= 1;
-            }
-            Verdict::Refused(n, p) => {
-                return Verdict::Refused(n, p);
-            }
-        }
+        global(table, &table[from..], place, sizes, env, top)?;
+        place += table_scopes::size_at(sizes, place);
     }
-    Verdict::Fine(0)
+    Ok(0)
 }
 
 // The root: its names, its declarations, its items.
-fn root(table: &[u8], sizes: &[u16], env: &mut [u32]) -> Verdict
+fn root(table: &[u8], sizes: &[u16], env: &mut [u32]) -> Result<u32, Fault>
     requires { AsksRoot table.now sizes.now env.old }
     ensures { AnswersRoot table.now sizes.now env.old result }
 {
@@ -175,29 +141,26 @@ fn root(table: &[u8], sizes: &[u16], env: &mut [u32]) -> Verdict
     let after = 1 + table_scopes::spanned(table, sizes, 1, count);
     let opened = table_scopes::open_root(table, count, after, rest, sizes, env);
     let top = opened.top;
-    match globals(table, count, sizes, env, top) {
-        Verdict::Fine(_) => {
-            let from = ENTRY_BYTES * after;
-            walkers::items(
-                table,
-                &table[from..],
-                rest,
-                BELOW_ROOT,
-                after,
-                sizes,
-                env,
-                top,
-                opened.once,
-            )
-        }
-        Verdict::Refused(n, p) => Verdict::Refused(n, p),
-    }
+    globals(table, count, sizes, env, top)?;
+    let from = ENTRY_BYTES * after;
+    walkers::items(
+        table,
+        &table[from..],
+        rest,
+        BELOW_ROOT,
+        after,
+        sizes,
+        env,
+        top,
+        opened.once,
+    )
 }
 
 // Twice the entries are room enough for the names: those of the root stay while a procedure's are judged.
-pub fn first_fault(table: &[u8], sizes: &[u16], env: &mut [u32]) -> Faulted
+pub fn first_fault(table: &[u8], sizes: &[u16], env: &mut [u32]) -> Result<(), Fault>
     requires { Reads table.now × Known table.now sizes.now × (length table.now ≤ length env.old) }
     ensures { GivesFirst table.now result }
 {
-    answered(root(table, sizes, env))
+    root(table, sizes, env)?;
+    Ok(())
 }

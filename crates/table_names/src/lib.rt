@@ -4,4 +4,4 @@
 mod faults;
 mod walkers;
 
-pub use faults::{Faulted, first_fault};
+pub use faults::first_fault;

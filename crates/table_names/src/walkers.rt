@@ -10,41 +10,30 @@ ghost use Rattle.table_forms.specs.Walk.{Asks, Answers, Typed, AsksEs, AnswersEs
 ghost use Rattle.table_forms.specs.Walk.{is_plain, guarded_by, tested_by};
 
 use formats::entries::*;
-use table_scopes::Verdict;
+use table_entries::Fault;
+use table_scopes::numbers::*;
 
 // The expressions below an entry that has no other operands.
 fn operands_of(kind: u16, b: u32) -> usize
     ensures { result ≡ operands_by kind b }
 {
     match kind {
-        KIND_ASSIGN => 2,
-        KIND_ASSERT => 1,
-        KIND_CALL => b as usize,
-        KIND_SET => 2,
-        KIND_FUNCTION => b as usize,
-        KIND_FIELD => 1,
-        KIND_RECORD => b as usize,
-        KIND_UNARY => 1,
-        KIND_BINARY => 2,
+        KIND_ASSERT | KIND_FIELD | KIND_UNARY | KIND_FADER => 1,
+        KIND_ASSIGN | KIND_SET | KIND_BINARY => 2,
         KIND_IF_EXPRESSION => 3,
-        KIND_FADER => 1,
+        KIND_CALL | KIND_FUNCTION | KIND_RECORD => b as usize,
         _ => 0,
     }
 }
-
-const AFTER_SET: u16 = KIND_SET + 1;
 
 // A statement with expressions only below it.
 fn is_plain(kind: u16) -> bool
     ensures { result ≡ is_plain kind }
 {
-    if kind == KIND_ASSIGN {
-        return true;
-    }
-    if kind < KIND_GOTO {
-        return false;
-    }
-    kind < AFTER_SET
+    matches!(
+        kind,
+        KIND_ASSIGN | KIND_GOTO | KIND_ASSERT | KIND_CALL | KIND_SET
+    )
 }
 
 // The statements below an entry that has one expression before them.
@@ -59,21 +48,18 @@ fn guarded_of(kind: u16, a: u16) -> usize
 }
 
 // The condition of an if or a while is logical, the selector of a case an integer.
-fn tested(kind: u16, t: u32, at: usize) -> Verdict
+fn tested(kind: u16, t: u32, at: usize) -> Result<u32, Fault>
     ensures { result ≡ tested_by kind t at }
 {
-    if kind == KIND_CASE {
-        if t == 1 {
-            Verdict::Fine(1)
-        } else {
-            Verdict::Refused(4, at)
-        }
+    let asked = if kind == KIND_CASE {
+        TYPE_INTEGER
     } else {
-        if t == 2 {
-            Verdict::Fine(1)
-        } else {
-            Verdict::Refused(4, at)
-        }
+        TYPE_LOGICAL
+    };
+    if t == asked {
+        Ok(1)
+    } else {
+        Err(Fault { number: 4, place: at })
     }
 }
 
@@ -102,29 +88,21 @@ fn operands(
     sizes: &[u16],
     env: &mut [u32],
     top: usize,
-) -> Verdict
+) -> Result<u32, Fault>
     requires { AsksEs table.now part.now count nesting at sizes.now env.old top }
     ensures { AnswersEs table.now part.now count nesting at sizes.now env.old env.new top result }
 {
     let mut rest = part;
     let mut place = at;
-    let mut i = 0;
-    while i < count {
-        match operand(table, rest, nesting, place, sizes, env, top, i) {
-            Verdict::Fine(t) => {
-                table_scopes::push(env, top + i, 65538, 0, t, 0);
-                let n = table_scopes::size_at(sizes, place);
-                let from = ENTRY_BYTES * n;
-                rest = &rest[from..];
-                place += n;
-                i += 1;
-            }
-            Verdict::Refused(n, p) => {
-                return Verdict::Refused(n, p);
-            }
-        }
+    for i in 0..count {
+        let t = operand(table, rest, nesting, place, sizes, env, top, i)?;
+        table_scopes::push(env, top + i, MARK_VALUE, 0, t, 0);
+        let n = table_scopes::size_at(sizes, place);
+        let from = ENTRY_BYTES * n;
+        rest = &rest[from..];
+        place += n;
     }
-    Verdict::Fine(0)
+    Ok(0)
 }
 
 // The expression after i of them. Most are leaves: such a one is answered without a call, and its name is looked up below the types.
@@ -138,7 +116,7 @@ fn operand(
     env: &mut [u32],
     top: usize,
     i: usize,
-) -> Verdict
+) -> Result<u32, Fault>
     requires { Asks ExprForm table.now part.now nesting at sizes.now env.old (top + i) × Alike env.old top i }
     ensures { Typed ExprForm table.now part.now nesting at sizes.now env.old env.new (top + i) result }
 {
@@ -160,37 +138,22 @@ fn simple(
     sizes: &[u16],
     env: &mut [u32],
     top: usize,
-) -> Verdict
+) -> Result<u32, Fault>
     requires { Asks SimpleForm table.now part.now nesting at sizes.now env.old top }
     ensures { Typed SimpleForm table.now part.now nesting at sizes.now env.old env.new top result }
 {
     let kind = table_entries::kind_at(part, 0);
     let name = table_entries::a_at(part, 0);
     if is_fixed(part, kind, env, top) {
-        return Verdict::Refused(4, at + 1);
+        return Err(Fault {
+            number: 4,
+            place: at + 1,
+        });
     }
     let count = operands_of(kind, table_entries::b_at(part, 0));
-    match operands(
-        table,
-        &part[ENTRY_BYTES..],
-        count,
-        nesting - 1,
-        at + 1,
-        sizes,
-        env,
-        top,
-    ) {
-        Verdict::Fine(_) => table_types::settle(
-            table,
-            kind as u32,
-            name as u32,
-            at,
-            count,
-            env,
-            top,
-        ),
-        Verdict::Refused(n, p) => Verdict::Refused(n, p),
-    }
+    let below = &part[ENTRY_BYTES..];
+    operands(table, below, count, nesting - 1, at + 1, sizes, env, top)?;
+    table_types::settle(table, kind as u32, name as u32, at, count, env, top)
 }
 
 // An expression, and the statements that it guards.
@@ -203,41 +166,28 @@ fn guarded(
     sizes: &[u16],
     env: &mut [u32],
     top: usize,
-) -> Verdict
+) -> Result<u32, Fault>
     requires { Asks GuardForm table.now part.now nesting at sizes.now env.old top }
     ensures { Answers GuardForm table.now part.now nesting at sizes.now env.old env.new top result }
 {
     let kind = table_entries::kind_at(part, 0);
     let count = guarded_of(kind, table_entries::a_at(part, 0));
-    match expression(
+    let below = &part[ENTRY_BYTES..];
+    let t = expression(table, below, nesting - 1, at + 1, sizes, env, top)?;
+    let n = table_scopes::size_at(sizes, at + 1);
+    let from = ENTRY_BYTES * (1 + n);
+    items(
         table,
-        &part[ENTRY_BYTES..],
+        &part[from..],
+        count,
         nesting - 1,
-        at + 1,
+        at + 1 + n,
         sizes,
         env,
         top,
-    ) {
-        Verdict::Fine(t) => {
-            let n = table_scopes::size_at(sizes, at + 1);
-            let from = ENTRY_BYTES * (1 + n);
-            match items(
-                table,
-                &part[from..],
-                count,
-                nesting - 1,
-                at + 1 + n,
-                sizes,
-                env,
-                top,
-                false,
-            ) {
-                Verdict::Fine(_) => tested(kind, t, at),
-                Verdict::Refused(k, p) => Verdict::Refused(k, p),
-            }
-        }
-        Verdict::Refused(k, p) => Verdict::Refused(k, p),
-    }
+        false,
+    )?;
+    tested(kind, t, at)
 }
 
 // A for: start, step and limit, and then the statement, among whose names is the control name. What the three are is judged last.
@@ -250,41 +200,27 @@ fn counted(
     sizes: &[u16],
     env: &mut [u32],
     top: usize,
-) -> Verdict
+) -> Result<u32, Fault>
     requires { Asks CountForm table.now part.now nesting at sizes.now env.old top }
     ensures { Answers CountForm table.now part.now nesting at sizes.now env.old env.new top result }
 {
     let control = table_entries::a_at(part, 0);
-    match operands(
+    let below = &part[ENTRY_BYTES..];
+    operands(table, below, 3, nesting - 1, at + 1, sizes, env, top)?;
+    let whole = table_types::counted(at, env, top);
+    let n = table_scopes::spanned(table, sizes, at + 1, 3);
+    let from = ENTRY_BYTES * (1 + n);
+    let up = table_scopes::enter_loop(control as u32, at, env, top);
+    statement(
         table,
-        &part[ENTRY_BYTES..],
-        3,
+        &part[from..],
         nesting - 1,
-        at + 1,
+        at + 1 + n,
         sizes,
         env,
-        top,
-    ) {
-        Verdict::Fine(_) => {
-            let whole = table_types::counted(at, env, top);
-            let n = table_scopes::spanned(table, sizes, at + 1, 3);
-            let from = ENTRY_BYTES * (1 + n);
-            let up = table_scopes::enter_loop(control as u32, at, env, top);
-            match statement(
-                table,
-                &part[from..],
-                nesting - 1,
-                at + 1 + n,
-                sizes,
-                env,
-                up,
-            ) {
-                Verdict::Fine(_) => whole,
-                Verdict::Refused(k, p) => Verdict::Refused(k, p),
-            }
-        }
-        Verdict::Refused(k, p) => Verdict::Refused(k, p),
-    }
+        up,
+    )?;
+    whole
 }
 
 // Labels and statements one after the other; `once` says that no label among them has a name that its block has already.
@@ -299,35 +235,27 @@ pub fn items(
     env: &mut [u32],
     top: usize,
     once: bool,
-) -> Verdict
+) -> Result<u32, Fault>
     requires { AsksItems table.now part.now count nesting at sizes.now env.old top × Spared «once» table.now (env_of env.old top) at count }
     ensures { AnswersItems table.now part.now count nesting at sizes.now env.old env.new top result }
 {
     let mut rest = part;
     let mut place = at;
-    let mut left = count;
-    while 0 < left {
-        match item(table, rest, nesting, place, sizes, env, top, once) {
-            Verdict::Fine(_) => {
-                let n = table_scopes::size_at(sizes, place);
-                let from = ENTRY_BYTES * n;
-                rest = &rest[from..];
-                place += n;
-                left -= 1;
-            }
-            Verdict::Refused(k, p) => {
-                return Verdict::Refused(k, p);
-            }
-        }
+    for left in (0..count).rev() {
+        item(table, rest, nesting, place, sizes, env, top, once)?;
+        let n = table_scopes::size_at(sizes, place);
+        let from = ENTRY_BYTES * n;
+        rest = &rest[from..];
+        place += n;
     }
-    Verdict::Fine(0)
+    Ok(0)
 }
 
 // Whether the entry is a label that needs no look at the names in sight.
 fn is_spared(once: bool, kind: u16) -> bool
     ensures { result ≡ («once» && eqb kind 20) }
 {
-    if once { kind == KIND_LABEL } else { false }
+    once && kind == KIND_LABEL
 }
 
 // One of them. Most are plain: such a one is not handed on twice.
@@ -341,7 +269,7 @@ fn item(
     env: &mut [u32],
     top: usize,
     once: bool,
-) -> Verdict
+) -> Result<u32, Fault>
     requires { Asks StmtForm table.now part.now nesting at sizes.now env.old top × Spared «once» table.now (env_of env.old top) at 1 }
     ensures { Answers StmtForm table.now part.now nesting at sizes.now env.old env.new top result }
 {
@@ -350,7 +278,7 @@ fn item(
         return simple(table, part, nesting, at, sizes, env, top);
     }
     if is_spared(once, kind) {
-        Verdict::Fine(0)
+        Ok(0)
     } else {
         statement(table, part, nesting, at, sizes, env, top)
     }
@@ -369,28 +297,24 @@ fn contents(
     env: &mut [u32],
     top: usize,
     once: bool,
-) -> Verdict
+) -> Result<u32, Fault>
     requires { AsksContents table.now part.now heads count nesting at sizes.now env.old top
         × Spared «once» table.now (env_of env.old top) (at + 1 + heads) count }
     ensures { AnswersContents table.now part.now heads count nesting at sizes.now env.old env.new top result }
 {
-    match table_scopes::head(table, at + 1, heads, env, top) {
-        Verdict::Fine(_) => {
-            let from = ENTRY_BYTES * (1 + heads);
-            items(
-                table,
-                &part[from..],
-                count,
-                nesting,
-                at + 1 + heads,
-                sizes,
-                env,
-                top,
-                once,
-            )
-        }
-        Verdict::Refused(k, p) => Verdict::Refused(k, p),
-    }
+    table_scopes::head(table, at + 1, heads, env, top)?;
+    let from = ENTRY_BYTES * (1 + heads);
+    items(
+        table,
+        &part[from..],
+        count,
+        nesting,
+        at + 1 + heads,
+        sizes,
+        env,
+        top,
+        once,
+    )
 }
 
 // A block: its names, and then what stands in it.
@@ -403,13 +327,13 @@ fn block(
     sizes: &[u16],
     env: &mut [u32],
     top: usize,
-) -> Verdict
+) -> Result<u32, Fault>
     requires { Asks BlockForm table.now part.now nesting at sizes.now env.old top }
     ensures { Answers BlockForm table.now part.now nesting at sizes.now env.old env.new top result }
 {
     let heads = table_entries::a_at(part, 0) as usize;
     let count = table_entries::b_at(part, 0) as usize;
-    let opened = table_scopes::open(table, at + 1, heads, count, 65536, sizes, env, top);
+    let opened = table_scopes::open(table, at + 1, heads, count, MARK_OPENED, sizes, env, top);
     contents(
         table,
         part,
@@ -434,15 +358,15 @@ fn body(
     sizes: &[u16],
     env: &mut [u32],
     top: usize,
-) -> Verdict
+) -> Result<u32, Fault>
     requires { Asks BodyForm table.now part.now nesting at sizes.now env.old top }
     ensures { Typed BodyForm table.now part.now nesting at sizes.now env.old env.new top result }
 {
     let heads = table_entries::a_at(part, 0) as usize;
     let count = table_entries::b_at(part, 0) as usize;
-    let opened = table_scopes::open(table, at + 1, heads, count, 65537, sizes, env, top);
+    let opened = table_scopes::open(table, at + 1, heads, count, MARK_SHUT, sizes, env, top);
     let up = opened.top;
-    match contents(
+    contents(
         table,
         part,
         heads,
@@ -453,22 +377,18 @@ fn body(
         env,
         up,
         opened.once,
-    ) {
-        Verdict::Fine(_) => {
-            let n = table_scopes::spanned(table, sizes, at + 1 + heads, count);
-            let after = ENTRY_BYTES * (1 + heads + n);
-            expression(
-                table,
-                &part[after..],
-                nesting - 1,
-                at + 1 + heads + n,
-                sizes,
-                env,
-                up,
-            )
-        }
-        Verdict::Refused(k, p) => Verdict::Refused(k, p),
-    }
+    )?;
+    let n = table_scopes::spanned(table, sizes, at + 1 + heads, count);
+    let after = ENTRY_BYTES * (1 + heads + n);
+    expression(
+        table,
+        &part[after..],
+        nesting - 1,
+        at + 1 + heads + n,
+        sizes,
+        env,
+        up,
+    )
 }
 
 #[cycle(block_body_contents_counted_expression_guarded_item_items_operand_operands_simple_statement)]
@@ -480,7 +400,7 @@ pub fn expression(
     sizes: &[u16],
     env: &mut [u32],
     top: usize,
-) -> Verdict
+) -> Result<u32, Fault>
     requires { Asks ExprForm table.now part.now nesting at sizes.now env.old top }
     ensures { Typed ExprForm table.now part.now nesting at sizes.now env.old env.new top result }
 {
@@ -501,7 +421,7 @@ pub fn statement(
     sizes: &[u16],
     env: &mut [u32],
     top: usize,
-) -> Verdict
+) -> Result<u32, Fault>
     requires { Asks StmtForm table.now part.now nesting at sizes.now env.old top }
     ensures { Answers StmtForm table.now part.now nesting at sizes.now env.old env.new top result }
 {
@@ -509,10 +429,7 @@ pub fn statement(
     match kind {
         KIND_BLOCK => block(table, part, nesting, at, sizes, env, top),
         KIND_LABEL => table_scopes::once(env, top, table_entries::a_at(part, 0) as u32, at),
-        KIND_IF => guarded(table, part, nesting, at, sizes, env, top),
-        KIND_IF_ELSE => guarded(table, part, nesting, at, sizes, env, top),
-        KIND_WHILE => guarded(table, part, nesting, at, sizes, env, top),
-        KIND_CASE => guarded(table, part, nesting, at, sizes, env, top),
+        KIND_IF | KIND_IF_ELSE | KIND_WHILE | KIND_CASE => guarded(table, part, nesting, at, sizes, env, top),
         KIND_FOR => counted(table, part, nesting, at, sizes, env, top),
         _ => simple(table, part, nesting, at, sizes, env, top),
     }

@@ -17,11 +17,11 @@ returns-then-declared-count c =
     ))))
 
 pub loop-i-init : goal.loop-i-init
-loop-i-init c = (refl, omega arith)
+loop-i-init c = refl
 
 pub returns-then-t-u : goal.returns-then-t-u
 returns-then-t-u c =
-    sym (c.loop-i.invariant.0 ∙ same-stops (values c.args.count
+    sym (c.loop-i.invariant ∙ same-stops (values c.args.count
     (env_of c.args.env.now (c.args.top + c.args.count)))
     (types_at c.args.table.now c.args.from c.args.declared) c.loop-i.i
     (omega (
@@ -39,8 +39,8 @@ returns-then-t-u c =
     c.args.declared c.loop-i.i (omega (arith, c.if-declared-count.false)) ∙ sym c.b_at-u.ensures)))
 
 pub loop-i-preserved : goal.loop-i-preserved
-loop-i-preserved c = (
-  c.loop-i.invariant.0 ∙ same_next (values
+loop-i-preserved c =
+  c.loop-i.invariant ∙ same_next (values
       c.args.count
       (env_of c.args.env.now
       (c.args.top + c.args.count)))
@@ -70,13 +70,11 @@ loop-i-preserved c = (
       ∙ sym (type_at c.args.table.now
       c.args.from
       c.args.declared c.loop-i.i
-      (omega (arith, c.if-declared-count.false)))),
-  omega arith,
-)
+      (omega (arith, c.if-declared-count.false))))
 
 pub returns : goal.returns
 returns c =
-    sym (c.loop-i.invariant.0 ∙ same_ends (values c.args.count
+    sym (c.loop-i.invariant ∙ same_ends (values c.args.count
     (env_of c.args.env.now (c.args.top + c.args.count)))
     (types_at c.args.table.now c.args.from c.args.declared) c.loop-i.i
     (omega (

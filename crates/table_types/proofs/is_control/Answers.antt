@@ -2,8 +2,8 @@
 use mathlib.Core.Path.{sym}
 use Rattle.table_types.proofs.is_control.Goals as goal
 
-pub returns-in-Nothing : goal.returns-in-Nothing
-returns-in-Nothing c = rw (sym c.find.ensures, c.in-Nothing.is)
+pub returns-in-None : goal.returns-in-None
+returns-in-None c = rw (sym c.find.ensures, c.in-None.is)
 
-pub returns-in-Def : goal.returns-in-Def
-returns-in-Def c = rw (sym c.find.ensures, c.in-Def.is)
+pub returns-in-Some : goal.returns-in-Some
+returns-in-Some c = rw (sym c.find.ensures, c.in-Some.is)

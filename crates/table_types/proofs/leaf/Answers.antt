@@ -16,10 +16,10 @@ pub returns-in-42 : goal.returns-in-42
 unfolding leaf_by
 returns-in-42 c = rw c.in-42.is
 
-pub returns-in-Nothing : goal.returns-in-Nothing
+pub returns-in-None : goal.returns-in-None
 unfolding leaf_by
-returns-in-Nothing c =
-    rw (ne_eqb _ 40 c.in_default.in_default-own.rest.0.0.1, ne_eqb _ 41 c.in_default.in_default-own.rest.0.1, ne_eqb _ 42 c.in_default.in_default-own.rest.1, sym c.find.ensures, c.in-Nothing.is)
+returns-in-None c =
+    rw (ne_eqb _ 40 c.in_default.in_default-own.rest.0.0.1, ne_eqb _ 41 c.in_default.in_default-own.rest.0.1, ne_eqb _ 42 c.in_default.in_default-own.rest.1, sym c.find.ensures, c.in-None.is)
 
 pub returns-then-kind-eq-KIND_NULL : goal.returns-then-kind-eq-KIND_NULL
 unfolding leaf_by
@@ -29,7 +29,7 @@ returns-then-kind-eq-KIND_NULL c =
       ne_eqb _ 41 c.in_default.in_default-own.rest.0.1,
       ne_eqb _ 42 c.in_default.in_default-own.rest.1,
       sym c.find.ensures,
-      c.in-Def.is,
+      c.in-Some.is,
       eq-eqb _ _ c.if-kind-eq-KIND_NULL.true,
     ) c.right_if.ensures
 
@@ -41,7 +41,7 @@ returns-else-kind-eq-KIND_NULL c =
       ne_eqb _ 41 c.in_default.in_default-own.rest.0.1,
       ne_eqb _ 42 c.in_default.in_default-own.rest.1,
       sym c.find.ensures,
-      c.in-Def.is,
+      c.in-Some.is,
       ne_eqb _ _ c.if-kind-eq-KIND_NULL.false,
       ← c.has_value.ensures,
     ) c.right_if-else-kind-eq-KIND_NULL.ensures

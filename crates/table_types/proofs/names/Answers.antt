@@ -1,20 +1,24 @@
 -- `table_types::names` meets its contract.
-use borrow.Author.Tests.{eq-eqb, ne_eqb, lt-ltb, le-ltb}
+use native.Mathlib.Omega.{arith}
+use mathlib.Core.Logic.{inl, inr}
+use borrow.Author.Tests.{ne_eqb, lt-ltb, le-ltb}
 use Rattle.table_types.specs.Settle.{names_by}
 use Rattle.table_types.proofs.names.Goals as goal
 
-pub returns-then-kind-eq-GOTO : goal.returns-then-kind-eq-GOTO
+pub returns-in-25 : goal.returns-in-25
 unfolding names_by
-returns-then-kind-eq-GOTO c = rw (eq-eqb _ _ c.if-kind-eq-GOTO.true)
+returns-in-25 c = elim c.in-25.is [ inl e ↦ rw e | inr e ↦ rw e ]
 
-pub returns-then-kind-eq-CALL : goal.returns-then-kind-eq-CALL
+pub returns-in-25-2 : goal.returns-in-25-2
 unfolding names_by
-returns-then-kind-eq-CALL c = rw (ne_eqb _ _ c.if-kind-eq-GOTO.false, eq-eqb _ _ c.if-kind-eq-CALL.true)
+returns-in-25-2 c =
+    rw (ne_eqb c.args.kind 25 (λ z. omega arith), ne_eqb c.args.kind 27 (λ z. omega arith), le-ltb c.args.kind 43 (omega arith), lt-ltb c.args.kind 48 (omega arith))
 
-pub returns-then-kind-lt-NULL : goal.returns-then-kind-lt-NULL
+pub returns-in_default : goal.returns-in_default
 unfolding names_by
-returns-then-kind-lt-NULL c = rw (ne_eqb _ _ c.if-kind-eq-GOTO.false, ne_eqb _ _ c.if-kind-eq-CALL.false, lt-ltb _ _ c.if-kind-lt-NULL.true)
+returns-in_default c = rw (ne_eqb c.args.kind 25 (λ z. grind arith), ne_eqb c.args.kind 27 (λ z. grind arith), lt-ltb c.args.kind 43 (omega arith))
 
-pub returns : goal.returns
+pub returns-in_default-2 : goal.returns-in_default-2
 unfolding names_by
-returns c = rw (ne_eqb _ _ c.if-kind-eq-GOTO.false, ne_eqb _ _ c.if-kind-eq-CALL.false, le-ltb _ _ c.if-kind-lt-NULL.false)
+returns-in_default-2 c =
+    rw (ne_eqb c.args.kind 25 (λ z. omega arith), ne_eqb c.args.kind 27 (λ z. omega arith), le-ltb c.args.kind 43 (omega arith), le-ltb c.args.kind 48 (omega arith))

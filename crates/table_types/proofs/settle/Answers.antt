@@ -5,17 +5,17 @@ use Rattle.table_types.proofs.settle.Goals as goal
 
 pub named-requires : goal.named-requires
 named-requires c =
-    let w = rw (sym c.find.ensures ∙ c.in-Def.is) at c.requires.2 in (c.requires.0, c.requires.1, w.0, w.1)
+    let w = rw (sym c.find.ensures, c.in-Some.is) at c.requires.2 in (c.requires.0, c.requires.1, w.0, w.1)
 
-pub returns-in-Nothing : goal.returns-in-Nothing
+pub returns-in-None : goal.returns-in-None
 unfolding settled_by
-returns-in-Nothing c =
-    rw (sym c.names.ensures ∙ c.if-names.true, sym c.find.ensures, c.in-Nothing.is)
+returns-in-None c =
+    rw (sym c.names.ensures ∙ c.if-names.true, sym c.find.ensures, c.in-None.is)
 
-pub returns-in-Def : goal.returns-in-Def
+pub returns-in-Some : goal.returns-in-Some
 unfolding settled_by
-returns-in-Def c =
-    rw (sym c.names.ensures ∙ c.if-names.true, sym c.find.ensures, c.in-Def.is) c.named.ensures
+returns-in-Some c =
+    rw (sym c.names.ensures ∙ c.if-names.true, sym c.find.ensures, c.in-Some.is) c.named.ensures
 
 pub returns-else-names : goal.returns-else-names
 unfolding settled_by
