@@ -18,7 +18,6 @@ ghost use Rattle.compile_symbols.specs.Whole.{Numbered};
 ghost use Rattle.compile_symbols.specs.Meaning.{meaning_of};
 
 use formats::entries::*;
-use table_scopes::Found;
 
 // ── one number of three ──
 pub fn pack(ty: u32, a: u32, b: u32) -> u32
@@ -59,8 +58,8 @@ pub fn meaning(env: &[u32], top: usize, name: u16, known: &[u32]) -> u32
     ensures { result ≡ meaning_of name (env_of env.now top) known.now }
 {
     match table_scopes::find(env, top, name as u32) {
-        Found::Nothing => 0,
-        Found::Def(_, _, place, _) => known_at(known, place as usize),
+        None => 0,
+        Some(d) => known_at(known, d.place as usize),
     }
 }
 

@@ -1,5 +1,5 @@
 -- How the answers of the three parts of the check make up the verdict on a table.
-use Rattle.std.specs.Prelude.{◌≡◌, refl, List, [], ◌∷◌, ◌++◌, ℕ, ◌≤◌}
+use Rattle.std.specs.Prelude.{◌≡◌, refl, Result, Ok, Err, List, [], ◌∷◌, ◌++◌, ℕ, ◌≤◌}
 use Rattle.std.proofs.Common.{sym, ◌∙◌, arith}
 use Rattle.std.proofs.Math.Path.{ap}
 use Rattle.values.specs.Ends.{Refusal, Judged, accepted, refused}
@@ -12,12 +12,12 @@ use Rattle.language.specs.Limits.{limits}
 use Rattle.language.specs.Judge as judge
 use Rattle.language.specs.Judge.{judge_tree, judge_table}
 use Rattle.logic.specs.Tests.{clash}
+use Rattle.table_entries.specs.declared.Fault.{Fault}
+use Rattle.table_scopes.specs.Flaws.{fault}
 use Rattle.table_read.specs.Walk.{reading_of}
 use Rattle.table_read.specs.declared.Reading.TheVariants as reading
 use Rattle.table_forms.specs.Tables.{Reads}
 use Rattle.table_names.specs.Answer.{GivesFirst, first_fault}
-use Rattle.table_names.specs.declared.faults.Faulted.{Faulted}
-use Rattle.table_names.specs.declared.faults.Faulted.TheVariants.{Faultless, Fault}
 use Rattle.table_limits.specs.Usage.{Limits, limited_of}
 use Rattle.table_limits.specs.declared.Limited.{Limited}
 use Rattle.table_limits.specs.declared.Limited.TheVariants.{Within, Over}
@@ -35,23 +35,23 @@ unread l n p e = go (read_table l) e
     go (refused r) h = cc
 
 -- ── faults, and then limits ──
-module _ (l : List ℕ) (r : Reads l) {v : Faulted} (g : GivesFirst l v) where
+module _ (l : List ℕ) (r : Reads l) {v : Result (Unit {0}) Fault} (g : GivesFirst l v) where
   tree-judged : judge_table l ≡ judge.first_fault r.0 (faults r.0 ++ limits r.0)
   unfolding judge_table
   tree-judged = ap judge_tree r.1
 
-  pub faulty : (n p : ℕ) → v ≡ Fault n p → Refused (coded n p) ≡ checked_of (judge_table l)
-  faulty n p e = rw tree-judged (go (faults r.0) (sym e ∙ g r.0 r.1))
+  pub faulty : (f : Fault) → v ≡ Err f → Refused (coded f.number f.place) ≡ checked_of (judge_table l)
+  faulty f e = rw tree-judged (go (faults r.0) (sym e ∙ g r.0 r.1))
     where
-      go : (fs : List Refusal) → Fault n p ≡ first_fault fs → Refused (coded n p) ≡ checked_of (judge.first_fault r.0 (fs ++ limits r.0))
+      go : (fs : List Refusal) → Err f ≡ first_fault fs → Refused (coded f.number f.place) ≡ checked_of (judge.first_fault r.0 (fs ++ limits r.0))
       go [] h = clash (cc)
-      go (f ∷ fs) h = cc
+      go (q ∷ fs) h = let z : f ≡ fault q.number q.place = cc in rw z
 
-  module _ (e : v ≡ Faultless) {u : Limited} (k : Limits l u) where
+  module _ (e : v ≡ Ok tt) {u : Limited} (k : Limits l u) where
     limits-judged : judge_table l ≡ judge.first_fault r.0 (limits r.0)
     limits-judged = tree-judged ∙ go (faults r.0) (sym e ∙ g r.0 r.1)
       where
-        go : (fs : List Refusal) → Faultless ≡ first_fault fs → judge.first_fault r.0 (fs ++ limits r.0) ≡ judge.first_fault r.0 (limits r.0)
+        go : (fs : List Refusal) → Ok tt ≡ first_fault fs → judge.first_fault r.0 (fs ++ limits r.0) ≡ judge.first_fault r.0 (limits r.0)
         go [] h = refl
         go (f ∷ fs) h = clash (cc)
 

@@ -8,7 +8,6 @@ ghost use Rattle.table_forms.specs.Tables.{Reads};
 ghost use Rattle.table_check.specs.Checked.{checked_of, Lends, Leaves};
 
 use table_limits::Limited;
-use table_names::Faulted;
 use table_read::Reading;
 use values::Refusal;
 
@@ -25,16 +24,16 @@ fn judged(table: &[u8], sizes: &[u16], env: &mut [u32]) -> Checked
     ensures { result ≡ checked_of (judge_table table.now) }
 {
     match table_names::first_fault(table, sizes, env) {
-        Faulted::Faultless => match table_limits::over_limits(table) {
+        Ok(()) => match table_limits::over_limits(table) {
             Limited::Within => Checked::Accepted,
             Limited::Over(place) => Checked::Refused(Refusal {
                 number: 6,
                 place: place as u32,
             }),
         },
-        Faulted::Fault(number, place) => Checked::Refused(Refusal {
-            number,
-            place: place as u32,
+        Err(fault) => Checked::Refused(Refusal {
+            number: fault.number,
+            place: fault.place as u32,
         }),
     }
 }

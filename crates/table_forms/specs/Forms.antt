@@ -3,6 +3,7 @@
 use Rattle.std.specs.Prelude.{◌≡◌, refl, Bool, true, false, not, ◌&&◌, List, [], ◌∷◌, ◌++◌, map, ℕ, suc, ◌+◌, ◌≤◌, max, eqb, pos, length}
 use Rattle.std.proofs.Common.{ap, sym, ◌∙◌, append_assoc, append-nil, arith}
 use Rattle.std.proofs.Math.Option.{Option, none, some}
+use Rattle.std.proofs.Math.Decide.{ℕ_discrete}
 use Rattle.logic.specs.Choice.{If◌then◌else◌}
 use Rattle.language.specs.Measure.{measure_s}
 use Rattle.language.specs.Program.{flat_decl, flag, flat_s, flat_items, flat_arms, flat_target, flat_e, flat_es, deep_head, deep_s, deep_items, deep_arms, deep_target, deep_e, deep_es}
@@ -356,6 +357,24 @@ is-other (counted n x y z s) h a b c d e f g = absurd (g refl)
 is-other (blocked ds is) h a b c d e f g = absurd (a refl)
 is-other (bodied ds is x) h a b c d e f g = absurd h
 is-other (labelled x) h a b c d e f g = absurd (b refl)
+
+-- the same of a kind that was read
+pub is_guard : (f : Form) (k : ℕ) → StmtForm f → (head_f f).kind ≡ k → (¬ (k ≡ 22) → ¬ (k ≡ 23) → ¬ (k ≡ 24) → k ≡ 30) → GuardForm f
+is_guard f k h e w =
+    elim (ℕ_discrete k 22) [
+      | yes x ↦ is-guard f 22 h (e ∙ x) refl (λ z. omega arith) (λ z. omega arith) (λ z. omega arith)
+      | no x ↦ elim (ℕ_discrete k 23) [
+        | yes y ↦ is-guard f 23 h (e ∙ y) refl (λ z. omega arith) (λ z. omega arith) (λ z. omega arith)
+        | no y ↦ elim (ℕ_discrete k 24) [
+          | yes u ↦ is-guard f 24 h (e ∙ u) refl (λ z. omega arith) (λ z. omega arith) (λ z. omega arith)
+          | no u ↦ is-guard f 30 h (e ∙ w x y u) refl (λ z. omega arith) (λ z. omega arith) (λ z. omega arith)
+        ]
+      ]
+    ]
+
+pub is_other : (f : Form) (k : ℕ) → StmtForm f → (head_f f).kind ≡ k → ¬ (k ≡ 1) → ¬ (k ≡ 20) → ¬ (k ≡ 22) → ¬ (k ≡ 23) → ¬ (k ≡ 24) → ¬ (k ≡ 30) → ¬ (k ≡ 31) → SimpleForm f
+is_other f k h e n1 n2 n3 n4 n5 n6 n7 =
+    is-other f h (λ z. n1 (sym e ∙ z)) (λ z. n2 (sym e ∙ z)) (λ z. n3 (sym e ∙ z)) (λ z. n4 (sym e ∙ z)) (λ z. n5 (sym e ∙ z)) (λ z. n6 (sym e ∙ z)) (λ z. n7 (sym e ∙ z))
 
 -- ── what the definitions say ──
 target-flat : (x : Target) → flat_target x ≡ flat_e (as_expr x)

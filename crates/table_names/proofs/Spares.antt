@@ -13,7 +13,7 @@ use Rattle.table_scopes.specs.Environment.{Item, env_of}
 use Rattle.table_scopes.specs.Flaws.{once_flaw, Says}
 use Rattle.table_scopes.specs.Items.{kind_at}
 use Rattle.table_scopes.specs.Spared.{Free, Spared}
-use Rattle.table_scopes.specs.declared.heads.Verdict.TheVariants.{Fine}
+use Rattle.std.specs.Prelude.{Ok}
 use Rattle.table_forms.specs.Forms.{StmtForm}
 use Rattle.table_forms.specs.Walk.{Asks}
 use Rattle.table_forms.specs.Part.{asked}
@@ -32,7 +32,7 @@ spared-one {n = n} h s = record { free = λ t u. let e : n ≡ suc (n - 1) = ome
 
 module _ {l part : List ℕ} {nesting at : ℕ} {sizes env : List ℕ} {top : ℕ} (q : Asks StmtForm l part nesting at sizes env top) where
   -- a label has no fault
-  pub spared-label : (b : Bool) → Spared b l (env_of env top) at 1 → b ≡ true → half_at part 0 ≡ 20 → Says (Fine 0) (once_flaw (env_of env top) (half_at part 2) at)
+  pub spared-label : (b : Bool) → Spared b l (env_of env top) at 1 → b ≡ true → half_at part 0 ≡ 20 → Says (Ok 0) (once_flaw (env_of env top) (half_at part 2) at)
   unfolding Free
   spared-label b s t k =
       let whole = q.ready.table.whole in

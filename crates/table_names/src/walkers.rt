@@ -14,6 +14,7 @@ use table_entries::Fault;
 use table_scopes::numbers::*;
 
 // The expressions below an entry that has no other operands.
+#[tactic(auto, unfolding(table_forms::specs::Walk::operands_by))]
 fn operands_of(kind: u16, b: u32) -> usize
     ensures { result ≡ operands_by kind b }
 {
@@ -27,6 +28,7 @@ fn operands_of(kind: u16, b: u32) -> usize
 }
 
 // A statement with expressions only below it.
+#[tactic(auto, unfolding(table_forms::specs::Walk::is_plain))]
 fn is_plain(kind: u16) -> bool
     ensures { result ≡ is_plain kind }
 {
@@ -48,6 +50,7 @@ fn guarded_of(kind: u16, a: u16) -> usize
 }
 
 // The condition of an if or a while is logical, the selector of a case an integer.
+#[tactic(auto, unfolding(table_forms::specs::Walk::tested_by))]
 fn tested(kind: u16, t: u32, at: usize) -> Result<u32, Fault>
     ensures { result ≡ tested_by kind t at }
 {

@@ -7,38 +7,37 @@ use Rattle.table_check.specs.Checked.{checked_of}
 use Rattle.table_check.proofs.Verdicts.{faulty, over, within, place-small}
 use Rattle.table_check.specs.declared.Checked.TheVariants.{Refused}
 use Rattle.table_check.proofs.judged.Goals as goal
-use Rattle.table_check.proofs.judged.Goals.{In-Fault, In-Over}
+use Rattle.table_check.proofs.judged.Goals.{In-Err, In-Over}
 
 -- what each arm of a refusal answers
 over-is : (c : In-Over) → Refused (coded 6 c.in-Over.place) ≡ checked_of
     (judge_table c.args.table.now)
 over-is c =
-    over _ c.requires.0 c.first_fault.ensures c.in-Faultless.is
+    over _ c.requires.0 c.first_fault.ensures c.in-Ok.is
     c.over_limits.ensures c.in-Over.place c.in-Over.is
 
 pub overflow_cast-result : goal.overflow_cast-result
 overflow_cast-result c = record { fits = omega (arith, place-small _ _ (over-is c)) }
 
-fault-is : (c : In-Fault) → Refused (coded c.in-Fault.number c.in-Fault.place)
+fault-is : (c : In-Err) → Refused (coded c.in-Err.fault.number c.in-Err.fault.place)
     ≡ checked_of (judge_table c.args.table.now)
 fault-is c =
-    faulty _ c.requires.0 c.first_fault.ensures c.in-Fault.number
-    c.in-Fault.place c.in-Fault.is
+    faulty _ c.requires.0 c.first_fault.ensures c.in-Err.fault c.in-Err.is
 
-pub overflow_cast-result-in-Fault : goal.overflow_cast-result-in-Fault
-overflow_cast-result-in-Fault c = record { fits = omega (arith, place-small _ _ (fault-is c)) }
+pub overflow_cast-result-in-Err : goal.overflow_cast-result-in-Err
+overflow_cast-result-in-Err c = record { fits = omega (arith, place-small _ _ (fault-is c)) }
 
 pub returns-in-Within : goal.returns-in-Within
 returns-in-Within c =
     within _ c.requires.0
-    c.first_fault.ensures c.in-Faultless.is c.over_limits.ensures
+    c.first_fault.ensures c.in-Ok.is c.over_limits.ensures
     c.in-Within.is
 
 pub returns-in-Over : goal.returns-in-Over
 returns-in-Over c = over-is c
 
-pub returns-in-Fault : goal.returns-in-Fault
-returns-in-Fault c = fault-is c
+pub returns-in-Err : goal.returns-in-Err
+returns-in-Err c = fault-is c
 
 pub shape_of-env-in-Within : goal.shape_of-env-in-Within
 shape_of-env-in-Within c = c.first_fault.auto.env
@@ -46,5 +45,5 @@ shape_of-env-in-Within c = c.first_fault.auto.env
 pub shape_of-env-in-Over : goal.shape_of-env-in-Over
 shape_of-env-in-Over c = c.first_fault.auto.env
 
-pub shape_of-env-in-Fault : goal.shape_of-env-in-Fault
-shape_of-env-in-Fault c = c.first_fault.auto.env
+pub shape_of-env-in-Err : goal.shape_of-env-in-Err
+shape_of-env-in-Err c = c.first_fault.auto.env

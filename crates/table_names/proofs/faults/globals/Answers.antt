@@ -1,6 +1,7 @@
 -- `table_names::faults::globals` meets its contract.
 use native.Mathlib.Omega.{arith}
 use mathlib.Core.Path.{refl}
+use Rattle.std.proofs.lemmas.Result.{err_from_is_err_and}
 use Rattle.table_forms.specs.Tables.{globals-start, globals-asks, globals-passes, globals-next, globals-stop, globals-end}
 use Rattle.table_names.proofs.faults.globals.Goals as goal
 
@@ -36,12 +37,13 @@ overflow_add-place c =
 pub loop-left-preserved : goal.loop-left-preserved
 loop-left-preserved c =
     globals-next c.loop-left.invariant (omega arith) _ c.size_at-place.result
-    c.global.ensures c.in-Fine.is c.size_at-place.ensures
+    c.global.ensures c.in_ok-global.was c.size_at-place.ensures
 
-pub returns-in-Refused : goal.returns-in-Refused
-returns-in-Refused c =
-    globals-stop c.loop-left.invariant (omega arith) _ _
-    c.global.ensures c.in-Refused.is
+pub returns-in_err-global : goal.returns-in_err-global
+returns-in_err-global c =
+    let p = err_from_is_err_and c.from_residual.result c.from_residual.ensures.1 in
+    rw (p.1, p.2) (globals-stop c.loop-left.invariant (omega arith) _
+    c.global.ensures c.in_err-global.was)
 
 pub returns : goal.returns
 returns c = globals-end c.loop-left.invariant (omega arith)

@@ -3,6 +3,3 @@ use Rattle.table_names.proofs.faults.globals.Given as goal
 
 abbrev pub invariant-loop-left : goal.invariant-loop-left
 invariant-loop-left l = GlobalsSoFar l.table l.count l.sizes l.initial.env l.top l.env l.place l.left
-
-abbrev pub decreases-loop-left : goal.decreases-loop-left
-decreases-loop-left l = l.left

@@ -1,5 +1,6 @@
 -- `table_names::faults::procedure` meets its contract.
 use native.Mathlib.Omega.{arith}
+use Rattle.std.proofs.lemmas.Result.{err_from_is_err_and}
 use Rattle.table_forms.specs.Root.{global-asks}
 use Rattle.table_forms.specs.Procedures.{proc-asks, proc-top, proc-body, proc-stop, proc-stop-2, proc-judged}
 use Rattle.table_names.proofs.faults.procedure.Goals as goal
@@ -41,12 +42,12 @@ pub slice_bounds-body-start : goal.slice_bounds-body-start
 slice_bounds-body-start c =
     (proc-asks c.b_at-heading.result c.b_at-heading.ensures c.requires).fits
 
-pub overflow_add-at-in-Fine : goal.overflow_add-at-in-Fine
-overflow_add-at-in-Fine c =
+pub overflow_add-at-3 : goal.overflow_add-at-3
+overflow_add-at-3 c =
     omega (arith, (proc-asks c.b_at-heading.result c.b_at-heading.ensures c.requires).small)
 
-pub overflow_add-at-in-Fine-2 : goal.overflow_add-at-in-Fine-2
-overflow_add-at-in-Fine-2 c =
+pub overflow_add-at-4 : goal.overflow_add-at-4
+overflow_add-at-4 c =
     omega (arith, (proc-asks c.b_at-heading.result c.b_at-heading.ensures c.requires).small)
 
 pub body-requires : goal.body-requires
@@ -57,16 +58,18 @@ pub headed-requires : goal.headed-requires
 headed-requires c =
     omega (arith, (global-asks c.requires).2, c.body.ensures.same, c.enter_procedure-up.ensures.same)
 
-pub returns-in-Fine-body : goal.returns-in-Fine-body
-returns-in-Fine-body c =
+pub returns : goal.returns
+returns c =
     proc-judged c.b_at-heading.result c.b_at-heading.ensures c.enter_procedure-up.ensures c.head.ensures _
-    c.in-Fine.is c.body.ensures _ c.in-Fine-body.is (rw c.a_at-name.ensures at c.headed.ensures)
+    c.in_ok-head.was c.body.ensures _ c.in_ok-t.was (rw c.a_at-name.ensures at c.headed.ensures)
 
-pub returns-in-Refused-body : goal.returns-in-Refused-body
-returns-in-Refused-body c =
-    proc-stop-2 c.b_at-heading.result c.b_at-heading.ensures c.enter_procedure-up.ensures c.head.ensures _
-    c.in-Fine.is c.body.ensures _ _ c.in-Refused-body.is
+pub returns-in_err-t : goal.returns-in_err-t
+returns-in_err-t c =
+    let p = err_from_is_err_and c.from_residual-in_err-t.result c.from_residual-in_err-t.ensures.1 in
+    rw (p.1, p.2) (proc-stop-2 c.b_at-heading.result c.b_at-heading.ensures c.enter_procedure-up.ensures c.head.ensures _
+    c.in_ok-head.was c.body.ensures _ c.in_err-t.was)
 
-pub returns-in-Refused : goal.returns-in-Refused
-returns-in-Refused c =
-    proc-stop c.b_at-heading.result c.b_at-heading.ensures c.enter_procedure-up.ensures c.head.ensures _ _ c.in-Refused.is
+pub returns-in_err-head : goal.returns-in_err-head
+returns-in_err-head c =
+    let p = err_from_is_err_and c.from_residual.result c.from_residual.ensures.1 in
+    rw (p.1, p.2) (proc-stop c.b_at-heading.result c.b_at-heading.ensures c.enter_procedure-up.ensures c.head.ensures _ c.in_err-head.was)

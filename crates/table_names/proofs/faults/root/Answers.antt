@@ -2,6 +2,7 @@
 use native.Mathlib.Omega.{arith}
 use mathlib.Core.Path.{ap}
 use Prim.Native.Nat.{ℕ, ◌+◌}
+use Rattle.std.proofs.lemmas.Result.{err_from_is_err_and}
 use Rattle.table_entries.specs.Sizes.{size_small}
 use Rattle.table_forms.specs.Tables.{root-long, root-reach, root-room, root-globals, root-rest, root-stop, root-judged, root-place}
 use Rattle.table_names.proofs.Spares.{spared-kept}
@@ -74,19 +75,20 @@ items-requires c = (
   spared-kept c.globals.ensures.kept c.open_root-opened.ensures.1,
 )
 
-pub returns-in-Fine : goal.returns-in-Fine
-returns-in-Fine c =
+pub returns : goal.returns
+returns c =
     root-judged (record {
       first = c.a_at-count.ensures;
       second = c.b_at-rest.ensures;
       third = ap (λ (n : ℕ). 1 + n) c.spanned-after.ensures;
     }) c.open_root-opened.ensures.0 c.globals.ensures _
-    c.in-Fine.is c.items.ensures
+    c.in_ok-globals.was c.items.ensures
 
-pub returns-in-Refused : goal.returns-in-Refused
-returns-in-Refused c =
-    root-stop (record {
+pub returns-in_err-globals : goal.returns-in_err-globals
+returns-in_err-globals c =
+    let p = err_from_is_err_and c.from_residual.result c.from_residual.ensures.1 in
+    rw (p.1, p.2) (root-stop (record {
       first = c.a_at-count.ensures;
       second = c.b_at-rest.ensures;
       third = ap (λ (n : ℕ). 1 + n) c.spanned-after.ensures;
-    }) c.open_root-opened.ensures.0 c.globals.ensures _ _ c.in-Refused.is
+    }) c.open_root-opened.ensures.0 c.globals.ensures _ c.in_err-globals.was)

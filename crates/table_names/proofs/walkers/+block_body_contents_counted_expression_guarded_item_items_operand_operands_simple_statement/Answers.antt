@@ -5,7 +5,8 @@ use borrow.Author.Tests.{eqb-true}
 use Rattle.logic.specs.Tests.{both_left, both_right}
 use Rattle.table_names.proofs.Spares.{spared-label, spared-one, spared-next, unspared}
 use native.Mathlib.Omega.{arith}
-use Rattle.table_forms.specs.Forms.{is_body, is-simple, is_block, is-count, is-guard, is-other}
+use Rattle.std.proofs.lemmas.Result.{err_from_is_err_and}
+use Rattle.table_forms.specs.Forms.{is_body, is-simple, is_block, is-count, is_guard, is_other}
 use Rattle.table_forms.specs.Part.{asked}
 use Rattle.table_forms.specs.OperandList.{es-start, es-asks, es-room, es-passes, es-stop, es-next, es-end}
 use Rattle.table_forms.specs.ItemList.{items-start, items-asks, items-passes, items-stop, items-next, items-end}
@@ -74,11 +75,11 @@ body-contents-requires t c = (
   ),
 )
 
-pub body-overflow_add-at-in-Fine : goal.body-overflow_add-at-in-Fine
-body-overflow_add-at-in-Fine t c = omega (arith, (asked c.requires).small)
+pub body-overflow_add-at-2 : goal.body-overflow_add-at-2
+body-overflow_add-at-2 t c = omega (arith, (asked c.requires).small)
 
-pub body-overflow_add-at-in-Fine-2 : goal.body-overflow_add-at-in-Fine-2
-body-overflow_add-at-in-Fine-2 t c =
+pub body-overflow_add-at-3 : goal.body-overflow_add-at-3
+body-overflow_add-at-3 t c =
     let w = body-contents c.a_at-heads.result c.b_at-count.result (c.a_at-heads.ensures, c.b_at-count.ensures) c.open-opened.ensures.0 c.requires in
     omega (arith, w.fits, w.within, w.short)
 
@@ -94,12 +95,12 @@ body-overflow_add-after t c =
     let w = body-contents c.a_at-heads.result c.b_at-count.result (c.a_at-heads.ensures, c.b_at-count.ensures) c.open-opened.ensures.0 c.requires in
     omega (arith, w.fits, w.within, w.short)
 
-pub body-overflow_add-after-in-Fine : goal.body-overflow_add-after-in-Fine
-body-overflow_add-after-in-Fine t c =
+pub body-overflow_add-after-2 : goal.body-overflow_add-after-2
+body-overflow_add-after-2 t c =
     omega (
       arith,
       body-fits c.a_at-heads.result c.b_at-count.result (c.a_at-heads.ensures, c.b_at-count.ensures) c.open-opened.ensures.0
-          c.contents.ensures _ c.spanned-n.result c.in-Fine.is c.spanned-n.ensures c.requires,
+          c.contents.ensures _ c.spanned-n.result c.in_ok-contents.was c.spanned-n.ensures c.requires,
     )
 
 pub body-overflow_mul-after : goal.body-overflow_mul-after
@@ -107,57 +108,59 @@ body-overflow_mul-after t c =
     omega (
       arith,
       body-fits c.a_at-heads.result c.b_at-count.result (c.a_at-heads.ensures, c.b_at-count.ensures) c.open-opened.ensures.0
-          c.contents.ensures _ c.spanned-n.result c.in-Fine.is c.spanned-n.ensures c.requires,
+          c.contents.ensures _ c.spanned-n.result c.in_ok-contents.was c.spanned-n.ensures c.requires,
     )
 
 pub body-slice_bounds-expression-count : goal.body-slice_bounds-expression-count
 body-slice_bounds-expression-count t c =
     (body-fits c.a_at-heads.result c.b_at-count.result (c.a_at-heads.ensures, c.b_at-count.ensures) c.open-opened.ensures.0
-    c.contents.ensures _ c.spanned-n.result c.in-Fine.is c.spanned-n.ensures c.requires).0
+    c.contents.ensures _ c.spanned-n.result c.in_ok-contents.was c.spanned-n.ensures c.requires).0
 
 pub body-slice_bounds-expression-start : goal.body-slice_bounds-expression-start
 body-slice_bounds-expression-start t c =
     (body-fits c.a_at-heads.result c.b_at-count.result (c.a_at-heads.ensures, c.b_at-count.ensures) c.open-opened.ensures.0
-    c.contents.ensures _ c.spanned-n.result c.in-Fine.is c.spanned-n.ensures c.requires).0
+    c.contents.ensures _ c.spanned-n.result c.in_ok-contents.was c.spanned-n.ensures c.requires).0
 
-pub body-overflow_sub-nesting-in-Fine : goal.body-overflow_sub-nesting-in-Fine
-body-overflow_sub-nesting-in-Fine t c = omega (arith, (asked c.requires).nested)
+pub body-overflow_sub-nesting-2 : goal.body-overflow_sub-nesting-2
+body-overflow_sub-nesting-2 t c = omega (arith, (asked c.requires).nested)
 
-pub body-overflow_add-at-in-Fine-3 : goal.body-overflow_add-at-in-Fine-3
-body-overflow_add-at-in-Fine-3 t c = omega (arith, (asked c.requires).small)
+pub body-overflow_add-at-4 : goal.body-overflow_add-at-4
+body-overflow_add-at-4 t c = omega (arith, (asked c.requires).small)
 
-pub body-overflow_add-at-in-Fine-4 : goal.body-overflow_add-at-in-Fine-4
-body-overflow_add-at-in-Fine-4 t c =
+pub body-overflow_add-at-5 : goal.body-overflow_add-at-5
+body-overflow_add-at-5 t c =
     omega (
       arith,
       body-fits c.a_at-heads.result c.b_at-count.result (c.a_at-heads.ensures, c.b_at-count.ensures) c.open-opened.ensures.0
-          c.contents.ensures _ c.spanned-n.result c.in-Fine.is c.spanned-n.ensures c.requires,
+          c.contents.ensures _ c.spanned-n.result c.in_ok-contents.was c.spanned-n.ensures c.requires,
     )
 
-pub body-overflow_add-at-in-Fine-5 : goal.body-overflow_add-at-in-Fine-5
-body-overflow_add-at-in-Fine-5 t c =
+pub body-overflow_add-at-6 : goal.body-overflow_add-at-6
+body-overflow_add-at-6 t c =
     omega (
       arith,
       body-fits c.a_at-heads.result c.b_at-count.result (c.a_at-heads.ensures, c.b_at-count.ensures) c.open-opened.ensures.0
-          c.contents.ensures _ c.spanned-n.result c.in-Fine.is c.spanned-n.ensures c.requires,
+          c.contents.ensures _ c.spanned-n.result c.in_ok-contents.was c.spanned-n.ensures c.requires,
     )
 
 pub body-expression-requires : goal.body-expression-requires
 body-expression-requires t c = (
   omega (arith, (asked c.requires).nested),
   body-result c.a_at-heads.result c.b_at-count.result (c.a_at-heads.ensures, c.b_at-count.ensures)
-      c.open-opened.ensures.0 c.contents.ensures _ c.spanned-n.result c.in-Fine.is
+      c.open-opened.ensures.0 c.contents.ensures _ c.spanned-n.result c.in_ok-contents.was
       c.spanned-n.ensures c.requires,
 )
 
-pub body-returns-in-Fine : goal.body-returns-in-Fine
-body-returns-in-Fine t c =
+pub body-returns : goal.body-returns
+body-returns t c =
     body-judged c.a_at-heads.result c.b_at-count.result (c.a_at-heads.ensures, c.b_at-count.ensures) c.open-opened.ensures.0
-    c.contents.ensures _ c.spanned-n.result c.in-Fine.is c.spanned-n.ensures
+    c.contents.ensures _ c.spanned-n.result c.in_ok-contents.was c.spanned-n.ensures
     c.expression.ensures
 
-pub body-returns-in-Refused : goal.body-returns-in-Refused
-body-returns-in-Refused t c = body-stop c.a_at-heads.result c.b_at-count.result (c.a_at-heads.ensures, c.b_at-count.ensures) c.open-opened.ensures.0 c.contents.ensures _ _ c.in-Refused.is
+pub body-returns-in_err-contents : goal.body-returns-in_err-contents
+body-returns-in_err-contents t c =
+    let p = err_from_is_err_and c.from_residual.result c.from_residual.ensures.1 in
+    rw (p.1, p.2) (body-stop c.a_at-heads.result c.b_at-count.result (c.a_at-heads.ensures, c.b_at-count.ensures) c.open-opened.ensures.0 c.contents.ensures _ c.in_err-contents.was)
 
 pub contents-overflow_add-at : goal.contents-overflow_add-at
 contents-overflow_add-at t c = let a = c.requires.0 in omega (arith, a.within, a.short)
@@ -177,31 +180,33 @@ contents-slice_bounds-items-count t c = let a = c.requires.0 in a.fits
 pub contents-slice_bounds-items-start : goal.contents-slice_bounds-items-start
 contents-slice_bounds-items-start t c = let a = c.requires.0 in a.fits
 
-pub contents-overflow_add-at-in-Fine : goal.contents-overflow_add-at-in-Fine
-contents-overflow_add-at-in-Fine t c = let a = c.requires.0 in omega (arith, a.within, a.short)
+pub contents-overflow_add-at-2 : goal.contents-overflow_add-at-2
+contents-overflow_add-at-2 t c = let a = c.requires.0 in omega (arith, a.within, a.short)
 
-pub contents-overflow_add-at-in-Fine-2 : goal.contents-overflow_add-at-in-Fine-2
-contents-overflow_add-at-in-Fine-2 t c = let a = c.requires.0 in omega (arith, a.within, a.short)
+pub contents-overflow_add-at-3 : goal.contents-overflow_add-at-3
+contents-overflow_add-at-3 t c = let a = c.requires.0 in omega (arith, a.within, a.short)
 
 pub contents-items-requires : goal.contents-items-requires
 contents-items-requires t c = (omega arith, (c.requires.0.asks, c.requires.1))
 
-pub contents-returns-in-Fine : goal.contents-returns-in-Fine
-contents-returns-in-Fine t c =
+pub contents-returns : goal.contents-returns
+contents-returns t c =
     contents-judged c.head.ensures _
-    c.in-Fine.is c.items.ensures
+    c.in_ok-head.was c.items.ensures
 
-pub contents-returns-in-Refused : goal.contents-returns-in-Refused
-contents-returns-in-Refused t c = contents-stop c.head.ensures _ _ c.in-Refused.is
+pub contents-returns-in_err-head : goal.contents-returns-in_err-head
+contents-returns-in_err-head t c =
+    let p = err_from_is_err_and c.from_residual.result c.from_residual.ensures.1 in
+    rw (p.1, p.2) (contents-stop c.head.ensures _ c.in_err-head.was)
 
 pub counted-a_at-control-requires : goal.counted-a_at-control-requires
 counted-a_at-control-requires t c = omega (arith, (asked c.requires).long)
 
-pub counted-slice_bounds-operands-count : goal.counted-slice_bounds-operands-count
-counted-slice_bounds-operands-count t c = omega (arith, (asked c.requires).long)
+pub counted-slice_bounds-below-count : goal.counted-slice_bounds-below-count
+counted-slice_bounds-below-count t c = omega (arith, (asked c.requires).long)
 
-pub counted-slice_bounds-operands-start : goal.counted-slice_bounds-operands-start
-counted-slice_bounds-operands-start t c = omega (arith, (asked c.requires).long)
+pub counted-slice_bounds-below-start : goal.counted-slice_bounds-below-start
+counted-slice_bounds-below-start t c = omega (arith, (asked c.requires).long)
 
 pub counted-overflow_sub-nesting : goal.counted-overflow_sub-nesting
 counted-overflow_sub-nesting t c = omega (arith, (asked c.requires).nested)
@@ -215,8 +220,8 @@ counted-operands-requires t c = (omega (arith, (asked c.requires).nested), count
 pub counted-counted-whole-requires : goal.counted-counted-whole-requires
 counted-counted-whole-requires t c = omega (arith, count_room c.requires, c.operands.ensures.same)
 
-pub counted-overflow_add-at-in-Fine : goal.counted-overflow_add-at-in-Fine
-counted-overflow_add-at-in-Fine t c = omega (arith, (asked c.requires).small)
+pub counted-overflow_add-at-2 : goal.counted-overflow_add-at-2
+counted-overflow_add-at-2 t c = omega (arith, (asked c.requires).small)
 
 pub counted-spanned-n-requires : goal.counted-spanned-n-requires
 counted-spanned-n-requires t c = count-spans c.requires
@@ -236,36 +241,39 @@ counted-slice_bounds-statement-count t c = (count_fits c.requires c.spanned-n.re
 pub counted-slice_bounds-statement-start : goal.counted-slice_bounds-statement-start
 counted-slice_bounds-statement-start t c = (count_fits c.requires c.spanned-n.result c.spanned-n.ensures).0
 
-pub counted-overflow_sub-nesting-in-Fine : goal.counted-overflow_sub-nesting-in-Fine
-counted-overflow_sub-nesting-in-Fine t c = omega (arith, (asked c.requires).nested)
+pub counted-overflow_sub-nesting-2 : goal.counted-overflow_sub-nesting-2
+counted-overflow_sub-nesting-2 t c = omega (arith, (asked c.requires).nested)
 
-pub counted-overflow_add-at-in-Fine-2 : goal.counted-overflow_add-at-in-Fine-2
-counted-overflow_add-at-in-Fine-2 t c = omega (arith, (asked c.requires).small)
+pub counted-overflow_add-at-3 : goal.counted-overflow_add-at-3
+counted-overflow_add-at-3 t c = omega (arith, (asked c.requires).small)
 
-pub counted-overflow_add-at-in-Fine-3 : goal.counted-overflow_add-at-in-Fine-3
-counted-overflow_add-at-in-Fine-3 t c = omega (arith, count_fits c.requires c.spanned-n.result c.spanned-n.ensures)
+pub counted-overflow_add-at-4 : goal.counted-overflow_add-at-4
+counted-overflow_add-at-4 t c = omega (arith, count_fits c.requires c.spanned-n.result c.spanned-n.ensures)
 
 pub counted-statement-requires : goal.counted-statement-requires
 counted-statement-requires t c = (
   omega (arith, (asked c.requires).nested),
-  count-inner c.operands.ensures _ c.spanned-n.result c.in-Fine.is c.spanned-n.ensures
+  count-inner c.operands.ensures _ c.spanned-n.result c.in_ok-operands.was c.spanned-n.ensures
       (rw c.a_at-control.ensures at c.enter_loop-up.ensures) c.requires,
 )
 
-pub counted-returns-in-Fine-statement : goal.counted-returns-in-Fine-statement
-counted-returns-in-Fine-statement t c =
-    count-judged c.operands.ensures _ c.spanned-n.result c.in-Fine.is c.spanned-n.ensures
+pub counted-returns : goal.counted-returns
+counted-returns t c =
+    count-judged c.operands.ensures _ c.spanned-n.result c.in_ok-operands.was c.spanned-n.ensures
     (rw c.a_at-control.ensures at c.enter_loop-up.ensures)
-    c.statement.ensures _ c.in-Fine-statement.is c.counted-whole.ensures
+    c.statement.ensures _ c.in_ok-statement.was c.counted-whole.ensures
 
-pub counted-returns-in-Refused-statement : goal.counted-returns-in-Refused-statement
-counted-returns-in-Refused-statement t c =
-    count-stop-2 c.operands.ensures _ c.spanned-n.result c.in-Fine.is c.spanned-n.ensures
+pub counted-returns-in_err-statement : goal.counted-returns-in_err-statement
+counted-returns-in_err-statement t c =
+    let p = err_from_is_err_and c.from_residual-in_err-statement.result c.from_residual-in_err-statement.ensures.1 in
+    rw (p.1, p.2) (count-stop-2 c.operands.ensures _ c.spanned-n.result c.in_ok-operands.was c.spanned-n.ensures
     (rw c.a_at-control.ensures at c.enter_loop-up.ensures)
-    c.statement.ensures _ _ c.in-Refused-statement.is
+    c.statement.ensures _ c.in_err-statement.was)
 
-pub counted-returns-in-Refused : goal.counted-returns-in-Refused
-counted-returns-in-Refused t c = count-stop c.operands.ensures _ _ c.in-Refused.is
+pub counted-returns-in_err-operands : goal.counted-returns-in_err-operands
+counted-returns-in_err-operands t c =
+    let p = err_from_is_err_and c.from_residual.result c.from_residual.ensures.1 in
+    rw (p.1, p.2) (count-stop c.operands.ensures _ c.in_err-operands.was)
 
 pub expression-kind_at-requires : goal.expression-kind_at-requires
 expression-kind_at-requires t c = omega (arith, (asked c.requires).long)
@@ -300,11 +308,11 @@ guarded-kind_at-kind-requires t c = omega (arith, (asked c.requires).long)
 pub guarded-a_at-requires : goal.guarded-a_at-requires
 guarded-a_at-requires t c = omega (arith, (asked c.requires).long)
 
-pub guarded-slice_bounds-expression-count : goal.guarded-slice_bounds-expression-count
-guarded-slice_bounds-expression-count t c = omega (arith, (asked c.requires).long)
+pub guarded-slice_bounds-below-count : goal.guarded-slice_bounds-below-count
+guarded-slice_bounds-below-count t c = omega (arith, (asked c.requires).long)
 
-pub guarded-slice_bounds-expression-start : goal.guarded-slice_bounds-expression-start
-guarded-slice_bounds-expression-start t c = omega (arith, (asked c.requires).long)
+pub guarded-slice_bounds-below-start : goal.guarded-slice_bounds-below-start
+guarded-slice_bounds-below-start t c = omega (arith, (asked c.requires).long)
 
 pub guarded-overflow_sub-nesting : goal.guarded-overflow_sub-nesting
 guarded-overflow_sub-nesting t c = omega (arith, (asked c.requires).nested)
@@ -319,8 +327,8 @@ guarded-expression-requires t c = (
       (c.guarded_of-count.ensures ∙ rw (c.kind_at-kind.ensures, c.a_at.ensures)) c.requires,
 )
 
-pub guarded-overflow_add-at-in-Fine : goal.guarded-overflow_add-at-in-Fine
-guarded-overflow_add-at-in-Fine t c = omega (arith, (asked c.requires).small)
+pub guarded-overflow_add-at-2 : goal.guarded-overflow_add-at-2
+guarded-overflow_add-at-2 t c = omega (arith, (asked c.requires).small)
 
 pub guarded-size_at-n-requires : goal.guarded-size_at-n-requires
 guarded-size_at-n-requires t c = (guard-passes c.guarded_of-count.result (c.guarded_of-count.ensures ∙ rw (c.kind_at-kind.ensures, c.a_at.ensures)) c.requires _ refl).known
@@ -347,14 +355,14 @@ guarded-slice_bounds-items-start t c =
     (guard-passes c.guarded_of-count.result (c.guarded_of-count.ensures ∙ rw (c.kind_at-kind.ensures, c.a_at.ensures))
     c.requires c.size_at-n.result c.size_at-n.ensures).fits
 
-pub guarded-overflow_sub-nesting-in-Fine : goal.guarded-overflow_sub-nesting-in-Fine
-guarded-overflow_sub-nesting-in-Fine t c = omega (arith, (asked c.requires).nested)
+pub guarded-overflow_sub-nesting-2 : goal.guarded-overflow_sub-nesting-2
+guarded-overflow_sub-nesting-2 t c = omega (arith, (asked c.requires).nested)
 
-pub guarded-overflow_add-at-in-Fine-2 : goal.guarded-overflow_add-at-in-Fine-2
-guarded-overflow_add-at-in-Fine-2 t c = omega (arith, (asked c.requires).small)
+pub guarded-overflow_add-at-3 : goal.guarded-overflow_add-at-3
+guarded-overflow_add-at-3 t c = omega (arith, (asked c.requires).small)
 
-pub guarded-overflow_add-at-in-Fine-3 : goal.guarded-overflow_add-at-in-Fine-3
-guarded-overflow_add-at-in-Fine-3 t c =
+pub guarded-overflow_add-at-4 : goal.guarded-overflow_add-at-4
+guarded-overflow_add-at-4 t c =
     let w = guard-passes c.guarded_of-count.result (c.guarded_of-count.ensures ∙ rw (c.kind_at-kind.ensures, c.a_at.ensures))
     c.requires c.size_at-n.result c.size_at-n.ensures in
     omega (arith, w.fits, w.small)
@@ -365,28 +373,30 @@ guarded-items-requires t c = (
   (
     guard-items c.guarded_of-count.result
         (c.guarded_of-count.ensures ∙ rw (c.kind_at-kind.ensures, c.a_at.ensures)) c.expression.ensures _
-        c.size_at-n.result c.in-Fine.is c.size_at-n.ensures c.requires,
+        c.size_at-n.result c.in_ok-t.was c.size_at-n.ensures c.requires,
     unspared,
   ),
 )
 
-pub guarded-returns-in-Fine-items : goal.guarded-returns-in-Fine-items
-guarded-returns-in-Fine-items t c =
+pub guarded-returns : goal.guarded-returns
+guarded-returns t c =
     guard-judged c.guarded_of-count.result (c.guarded_of-count.ensures ∙ rw (c.kind_at-kind.ensures, c.a_at.ensures))
-    c.expression.ensures _ c.size_at-n.result c.in-Fine.is c.size_at-n.ensures
-    c.items.ensures _ c.in-Fine-items.is
+    c.expression.ensures _ c.size_at-n.result c.in_ok-t.was c.size_at-n.ensures
+    c.items.ensures _ c.in_ok-items.was
     (c.tested.ensures ∙ rw c.kind_at-kind.ensures)
 
-pub guarded-returns-in-Refused-items : goal.guarded-returns-in-Refused-items
-guarded-returns-in-Refused-items t c =
-    guard-stop-2 c.guarded_of-count.result (c.guarded_of-count.ensures ∙ rw (c.kind_at-kind.ensures, c.a_at.ensures))
-    c.expression.ensures _ c.size_at-n.result c.in-Fine.is c.size_at-n.ensures
-    c.items.ensures _ _ c.in-Refused-items.is
+pub guarded-returns-in_err-items : goal.guarded-returns-in_err-items
+guarded-returns-in_err-items t c =
+    let p = err_from_is_err_and c.from_residual-in_err-items.result c.from_residual-in_err-items.ensures.1 in
+    rw (p.1, p.2) (guard-stop-2 c.guarded_of-count.result (c.guarded_of-count.ensures ∙ rw (c.kind_at-kind.ensures, c.a_at.ensures))
+    c.expression.ensures _ c.size_at-n.result c.in_ok-t.was c.size_at-n.ensures
+    c.items.ensures _ c.in_err-items.was)
 
-pub guarded-returns-in-Refused : goal.guarded-returns-in-Refused
-guarded-returns-in-Refused t c =
-    guard-stop c.guarded_of-count.result (c.guarded_of-count.ensures ∙ rw (c.kind_at-kind.ensures, c.a_at.ensures))
-    c.expression.ensures _ _ c.in-Refused.is
+pub guarded-returns-in_err-t : goal.guarded-returns-in_err-t
+guarded-returns-in_err-t t c =
+    let p = err_from_is_err_and c.from_residual.result c.from_residual.ensures.1 in
+    rw (p.1, p.2) (guard-stop c.guarded_of-count.result (c.guarded_of-count.ensures ∙ rw (c.kind_at-kind.ensures, c.a_at.ensures))
+    c.expression.ensures _ c.in_err-t.was)
 
 pub item-kind_at-kind-requires : goal.item-kind_at-kind-requires
 item-kind_at-kind-requires t c = omega (arith, (asked c.requires.0).long)
@@ -439,14 +449,15 @@ items-overflow_add-place t c = omega (arith, (items-passes c.loop-left.invariant
 
 pub items-loop-left-preserved : goal.items-loop-left-preserved
 items-loop-left-preserved t c = (
-  items-next c.loop-left.invariant.0 (omega arith) _ c.size_at-n.result c.item.ensures c.in-Fine.is c.size_at-n.ensures,
+  items-next c.loop-left.invariant.0 (omega arith) _ c.size_at-n.result c.item.ensures c.in_ok-item.was c.size_at-n.ensures,
   spared-next (items-asks c.loop-left.invariant.0 (omega arith) c.requires.0) (omega arith) c.size_at-n.ensures c.item.ensures.kept c.loop-left.invariant.1,
 )
 
-pub items-returns-in-Refused : goal.items-returns-in-Refused
-items-returns-in-Refused t c =
-    items-stop c.loop-left.invariant.0 (omega arith) _ _
-    c.item.ensures c.in-Refused.is
+pub items-returns-in_err-item : goal.items-returns-in_err-item
+items-returns-in_err-item t c =
+    let p = err_from_is_err_and c.from_residual.result c.from_residual.ensures.1 in
+    rw (p.1, p.2) (items-stop c.loop-left.invariant.0 (omega arith) _
+    c.item.ensures c.in_err-item.was)
 
 pub items-returns : goal.items-returns
 items-returns t c = items-end c.loop-left.invariant.0 (omega arith)
@@ -533,7 +544,7 @@ pub operands-loop-i-preserved : goal.operands-loop-i-preserved
 operands-loop-i-preserved t c =
     es-next c.loop-i.invariant
     (omega arith) _ c.size_at-n.result c.operand.ensures
-    c.in-Fine.is c.push.ensures
+    c.in_ok-t.was c.push.ensures
     c.size_at-n.ensures (omega (
       arith,
       es-room c.loop-i.invariant
@@ -541,10 +552,11 @@ operands-loop-i-preserved t c =
       c.operand.ensures.same,
     ))
 
-pub operands-returns-in-Refused : goal.operands-returns-in-Refused
-operands-returns-in-Refused t c =
-    es-stop c.loop-i.invariant (omega arith) _ _
-    c.operand.ensures c.in-Refused.is
+pub operands-returns-in_err-t : goal.operands-returns-in_err-t
+operands-returns-in_err-t t c =
+    let p = err_from_is_err_and c.from_residual.result c.from_residual.ensures.1 in
+    rw (p.1, p.2) (es-stop c.loop-i.invariant (omega arith) _
+    c.operand.ensures c.in_err-t.was)
 
 pub operands-returns : goal.operands-returns
 operands-returns t c = es-end c.loop-i.invariant (omega arith)
@@ -567,11 +579,11 @@ simple-returns-then-is_fixed t c = simple-fixed (sym c.is_fixed.ensures ∙ c.if
 pub simple-b_at-requires : goal.simple-b_at-requires
 simple-b_at-requires t c = omega (arith, (asked c.requires).long)
 
-pub simple-slice_bounds-operands-count : goal.simple-slice_bounds-operands-count
-simple-slice_bounds-operands-count t c = omega (arith, (asked c.requires).long)
+pub simple-slice_bounds-below-count : goal.simple-slice_bounds-below-count
+simple-slice_bounds-below-count t c = omega (arith, (asked c.requires).long)
 
-pub simple-slice_bounds-operands-start : goal.simple-slice_bounds-operands-start
-simple-slice_bounds-operands-start t c = omega (arith, (asked c.requires).long)
+pub simple-slice_bounds-below-start : goal.simple-slice_bounds-below-start
+simple-slice_bounds-below-start t c = omega (arith, (asked c.requires).long)
 
 pub simple-overflow_sub-nesting : goal.simple-overflow_sub-nesting
 simple-overflow_sub-nesting t c = omega (arith, (asked c.requires).nested)
@@ -592,17 +604,18 @@ simple-settle-requires t c =
     (c.operands_of-count.ensures ∙ rw (c.kind_at-kind.ensures, c.b_at.ensures))
     c.operands.ensures c.requires)
 
-pub simple-returns-in-Fine : goal.simple-returns-in-Fine
-simple-returns-in-Fine t c =
+pub simple-returns : goal.simple-returns
+simple-returns t c =
     simple-judged c.operands_of-count.result (c.operands_of-count.ensures ∙ rw (c.kind_at-kind.ensures, c.b_at.ensures))
     c.operands.ensures (sym c.is_fixed.ensures ∙ c.if-is_fixed.false)
-    _ c.in-Fine.is
+    _ c.in_ok-operands.was
     (c.settle.ensures ∙ rw (c.kind_at-kind.ensures, c.a_at-name.ensures))
 
-pub simple-returns-in-Refused : goal.simple-returns-in-Refused
-simple-returns-in-Refused t c =
-    simple-stop c.operands_of-count.result (c.operands_of-count.ensures ∙ rw (c.kind_at-kind.ensures, c.b_at.ensures))
-    c.operands.ensures (sym c.is_fixed.ensures ∙ c.if-is_fixed.false) _ _ c.in-Refused.is
+pub simple-returns-in_err-operands : goal.simple-returns-in_err-operands
+simple-returns-in_err-operands t c =
+    let p = err_from_is_err_and c.from_residual.result c.from_residual.ensures.1 in
+    rw (p.1, p.2) (simple-stop c.operands_of-count.result (c.operands_of-count.ensures ∙ rw (c.kind_at-kind.ensures, c.b_at.ensures))
+    c.operands.ensures (sym c.is_fixed.ensures ∙ c.if-is_fixed.false) _ c.in_err-operands.was)
 
 pub statement-kind_at-kind-requires : goal.statement-kind_at-kind-requires
 statement-kind_at-kind-requires t c = omega (arith, (asked c.requires).long)
@@ -623,29 +636,7 @@ statement-once-requires t c = (asked c.requires).room
 pub statement-guarded-requires : goal.statement-guarded-requires
 statement-guarded-requires t c = (
   omega arith,
-  ask-as (λ f h e. is-guard f 22 h (sym e ∙ (sym c.kind_at-kind.ensures ∙ c.in-22.is)) refl
-      (λ z. omega arith) (λ z. omega arith) (λ z. omega arith)) c.requires,
-)
-
-pub statement-guarded-requires-in-23 : goal.statement-guarded-requires-in-23
-statement-guarded-requires-in-23 t c = (
-  omega arith,
-  ask-as (λ f h e. is-guard f 23 h (sym e ∙ (sym c.kind_at-kind.ensures ∙ c.in-23.is)) refl
-      (λ z. omega arith) (λ z. omega arith) (λ z. omega arith)) c.requires,
-)
-
-pub statement-guarded-requires-in-24 : goal.statement-guarded-requires-in-24
-statement-guarded-requires-in-24 t c = (
-  omega arith,
-  ask-as (λ f h e. is-guard f 24 h (sym e ∙ (sym c.kind_at-kind.ensures ∙ c.in-24.is)) refl
-      (λ z. omega arith) (λ z. omega arith) (λ z. omega arith)) c.requires,
-)
-
-pub statement-guarded-requires-in-30 : goal.statement-guarded-requires-in-30
-statement-guarded-requires-in-30 t c = (
-  omega arith,
-  ask-as (λ f h e. is-guard f 30 h (sym e ∙ (sym c.kind_at-kind.ensures ∙ c.in-30.is)) refl
-      (λ z. omega arith) (λ z. omega arith) (λ z. omega arith)) c.requires,
+  ask-as (λ f h e. is_guard f c.kind_at-kind.result h (sym (c.kind_at-kind.ensures ∙ e)) (λ x y z. grind arith)) c.requires,
 )
 
 pub statement-counted-requires : goal.statement-counted-requires
@@ -658,13 +649,8 @@ statement-counted-requires t c = (
 pub statement-simple-requires : goal.statement-simple-requires
 statement-simple-requires t c = (
   omega arith,
-  ask-as (λ f h e. is-other f h (λ z. c.in_default.in_default-own.rest.0.0.0.0.0.0.1 (c.kind_at-kind.ensures ∙ e ∙ z))
-      (λ z. c.in_default.in_default-own.rest.0.0.0.0.0.1 (c.kind_at-kind.ensures ∙ e ∙ z))
-      (λ z. c.in_default.in_default-own.rest.0.0.0.0.1 (c.kind_at-kind.ensures ∙ e ∙ z))
-      (λ z. c.in_default.in_default-own.rest.0.0.0.1 (c.kind_at-kind.ensures ∙ e ∙ z))
-      (λ z. c.in_default.in_default-own.rest.0.0.1 (c.kind_at-kind.ensures ∙ e ∙ z))
-      (λ z. c.in_default.in_default-own.rest.0.1 (c.kind_at-kind.ensures ∙ e ∙ z))
-      (λ z. c.in_default.in_default-own.rest.1 (c.kind_at-kind.ensures ∙ e ∙ z))) c.requires,
+  ask-as (λ f h e. is_other f c.kind_at-kind.result h (sym (c.kind_at-kind.ensures ∙ e)) (λ z. grind arith) (λ z. grind arith) (λ z. grind arith) (λ z. grind arith)
+      (λ z. grind arith) (λ z. grind arith) (λ z. grind arith)) c.requires,
 )
 
 pub statement-returns-in-1 : goal.statement-returns-in-1
@@ -676,24 +662,7 @@ pub statement-returns-in-20 : goal.statement-returns-in-20
 statement-returns-in-20 t c = label-answer (sym c.kind_at-kind.ensures ∙ c.in-20.is) (rw c.a_at.ensures at c.once.ensures)
 
 pub statement-returns-in-22 : goal.statement-returns-in-22
-statement-returns-in-22 t c =
-    answer-as (λ f h e. is-guard f 22 h (sym e ∙ (sym c.kind_at-kind.ensures
-    ∙ c.in-22.is)) refl (λ z. omega arith) (λ z. omega arith) (λ z. omega arith)) c.guarded.ensures
-
-pub statement-returns-in-23 : goal.statement-returns-in-23
-statement-returns-in-23 t c =
-    answer-as (λ f h e. is-guard f 23 h (sym e ∙ (sym c.kind_at-kind.ensures
-    ∙ c.in-23.is)) refl (λ z. omega arith) (λ z. omega arith) (λ z. omega arith)) c.guarded-in-23.ensures
-
-pub statement-returns-in-24 : goal.statement-returns-in-24
-statement-returns-in-24 t c =
-    answer-as (λ f h e. is-guard f 24 h (sym e ∙ (sym c.kind_at-kind.ensures
-    ∙ c.in-24.is)) refl (λ z. omega arith) (λ z. omega arith) (λ z. omega arith)) c.guarded-in-24.ensures
-
-pub statement-returns-in-30 : goal.statement-returns-in-30
-statement-returns-in-30 t c =
-    answer-as (λ f h e. is-guard f 30 h (sym e ∙ (sym c.kind_at-kind.ensures
-    ∙ c.in-30.is)) refl (λ z. omega arith) (λ z. omega arith) (λ z. omega arith)) c.guarded-in-30.ensures
+statement-returns-in-22 t c = answer-as (λ f h e. is_guard f c.kind_at-kind.result h (sym (c.kind_at-kind.ensures ∙ e)) (λ x y z. grind arith)) c.guarded.ensures
 
 pub statement-returns-in-31 : goal.statement-returns-in-31
 statement-returns-in-31 t c =
@@ -702,12 +671,5 @@ statement-returns-in-31 t c =
 
 pub statement-returns-in_default : goal.statement-returns-in_default
 statement-returns-in_default t c =
-    typed-answer (λ f h e. is-other f h (λ z. c.in_default.in_default-own.rest.0.0.0.0.0.0.1
-    (c.kind_at-kind.ensures ∙ e ∙ z))
-    (λ z. c.in_default.in_default-own.rest.0.0.0.0.0.1 (c.kind_at-kind.ensures ∙ e ∙ z))
-    (λ z. c.in_default.in_default-own.rest.0.0.0.0.1 (c.kind_at-kind.ensures ∙ e ∙ z))
-    (λ z. c.in_default.in_default-own.rest.0.0.0.1 (c.kind_at-kind.ensures ∙ e ∙ z))
-    (λ z. c.in_default.in_default-own.rest.0.0.1 (c.kind_at-kind.ensures ∙ e ∙ z))
-    (λ z. c.in_default.in_default-own.rest.0.1 (c.kind_at-kind.ensures ∙ e ∙ z))
-    (λ z. c.in_default.in_default-own.rest.1 (c.kind_at-kind.ensures ∙ e ∙ z)))
-    c.simple.ensures
+    typed-answer (λ f h e. is_other f c.kind_at-kind.result h (sym (c.kind_at-kind.ensures ∙ e)) (λ z. grind arith) (λ z. grind arith) (λ z. grind arith) (λ z. grind arith)
+    (λ z. grind arith) (λ z. grind arith) (λ z. grind arith)) c.simple.ensures

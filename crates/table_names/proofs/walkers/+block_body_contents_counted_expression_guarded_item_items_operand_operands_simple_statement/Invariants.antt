@@ -45,11 +45,5 @@ abbrev pub invariant-items-loop-left : goal.invariant-items-loop-left
 invariant-items-loop-left l =
     ItemsSoFar l.table l.part l.count l.nesting l.at l.sizes l.initial.env l.top l.env l.rest l.place l.left × Spared l.once l.table (env_of l.env l.top) l.place l.left
 
-abbrev pub decreases-items-loop-left : goal.decreases-items-loop-left
-decreases-items-loop-left l = l.left
-
 abbrev pub invariant-operands-loop-i : goal.invariant-operands-loop-i
 invariant-operands-loop-i l = EsSoFar l.table l.part l.count l.nesting l.at l.sizes l.initial.env l.top l.env l.rest l.place l.i
-
-abbrev pub decreases-operands-loop-i : goal.decreases-operands-loop-i
-decreases-operands-loop-i l = l.count - l.i
