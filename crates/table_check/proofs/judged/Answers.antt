@@ -7,7 +7,7 @@ use Rattle.table_check.specs.Checked.{checked_of}
 use Rattle.table_check.proofs.Verdicts.{faulty, over, within, place-small}
 use Rattle.table_check.specs.declared.Checked.TheVariants.{Refused}
 use Rattle.table_check.proofs.judged.Goals as goal
-use Rattle.table_check.proofs.judged.Goals.{In-Err, In-Over}
+use Rattle.table_check.proofs.judged.Goals.{In-Over}
 
 -- what each arm of a refusal answers
 over-is : (c : In-Over) → Refused (coded 6 c.in-Over.place) ≡ checked_of
@@ -19,13 +19,8 @@ over-is c =
 pub overflow_cast-result : goal.overflow_cast-result
 overflow_cast-result c = record { fits = omega (arith, place-small _ _ (over-is c)) }
 
-fault-is : (c : In-Err) → Refused (coded c.in-Err.fault.number c.in-Err.fault.place)
-    ≡ checked_of (judge_table c.args.table.now)
-fault-is c =
-    faulty _ c.requires.0 c.first_fault.ensures c.in-Err.fault c.in-Err.is
-
 pub overflow_cast-result-in-Err : goal.overflow_cast-result-in-Err
-overflow_cast-result-in-Err c = record { fits = omega (arith, place-small _ _ (fault-is c)) }
+overflow_cast-result-in-Err c = record { fits = omega (arith, place-small _ _ (faulty _ c.requires.0 c.first_fault.ensures c.in-Err.fault c.in-Err.is)) }
 
 pub returns-in-Within : goal.returns-in-Within
 returns-in-Within c =
@@ -37,7 +32,7 @@ pub returns-in-Over : goal.returns-in-Over
 returns-in-Over c = over-is c
 
 pub returns-in-Err : goal.returns-in-Err
-returns-in-Err c = fault-is c
+returns-in-Err c = faulty _ c.requires.0 c.first_fault.ensures c.in-Err.fault c.in-Err.is
 
 pub shape_of-env-in-Within : goal.shape_of-env-in-Within
 shape_of-env-in-Within c = c.first_fault.auto.env
