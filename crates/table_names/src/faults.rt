@@ -44,7 +44,10 @@ fn returned(heading: u32, t: u32, at: usize) -> Result<u32, Fault>
     if result == t {
         Ok(0)
     } else {
-        Err(Fault { number: 4, place: at })
+        Err(Fault {
+            number: 4,
+            place: at,
+        })
     }
 }
 
@@ -118,7 +121,13 @@ fn global(
     }
 }
 
-fn globals(table: &[u8], count: usize, sizes: &[u16], env: &mut [u32], top: usize) -> Result<u32, Fault>
+fn globals(
+    table: &[u8],
+    count: usize,
+    sizes: &[u16],
+    env: &mut [u32],
+    top: usize,
+) -> Result<u32, Fault>
     requires { AsksGlobals table.now count sizes.now env.old top }
     ensures { AnswersGlobals table.now count sizes.now env.old env.new top result }
 {

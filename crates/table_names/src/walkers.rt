@@ -62,7 +62,10 @@ fn tested(kind: u16, t: u32, at: usize) -> Result<u32, Fault>
     if t == asked {
         Ok(1)
     } else {
-        Err(Fault { number: 4, place: at })
+        Err(Fault {
+            number: 4,
+            place: at,
+        })
     }
 }
 
@@ -432,7 +435,9 @@ pub fn statement(
     match kind {
         KIND_BLOCK => block(table, part, nesting, at, sizes, env, top),
         KIND_LABEL => table_scopes::once(env, top, table_entries::a_at(part, 0) as u32, at),
-        KIND_IF | KIND_IF_ELSE | KIND_WHILE | KIND_CASE => guarded(table, part, nesting, at, sizes, env, top),
+        KIND_IF | KIND_IF_ELSE | KIND_WHILE | KIND_CASE => guarded(
+            table, part, nesting, at, sizes, env, top,
+        ),
         KIND_FOR => counted(table, part, nesting, at, sizes, env, top),
         _ => simple(table, part, nesting, at, sizes, env, top),
     }

@@ -302,11 +302,17 @@ pub fn once(env: &[u32], top: usize, name: u32, at: usize) -> Result<u32, Fault>
     ensures { Says result (once_flaw (env_of env.now top) name at) }
 {
     match environment::find(env, top, name) {
-        None => Err(Fault { number: 3, place: at }),
+        None => Err(Fault {
+            number: 3,
+            place: at,
+        }),
         Some(d) => if d.place as usize == at {
             Ok(0)
         } else {
-            Err(Fault { number: 3, place: at })
+            Err(Fault {
+                number: 3,
+                place: at,
+            })
         },
     }
 }
@@ -320,11 +326,17 @@ fn classed(env: &[u32], top: usize, ty: u32, at: usize) -> Result<u32, Fault>
         return Ok(0);
     }
     match environment::find(env, top, ty - TYPE_REFERENCE) {
-        None => Err(Fault { number: 3, place: at }),
+        None => Err(Fault {
+            number: 3,
+            place: at,
+        }),
         Some(d) => if d.sort == SORT_CLASS {
             Ok(0)
         } else {
-            Err(Fault { number: 4, place: at })
+            Err(Fault {
+                number: 4,
+                place: at,
+            })
         },
     }
 }

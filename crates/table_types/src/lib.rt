@@ -114,7 +114,10 @@ fn right_if(b: bool, t: u32, at: usize) -> Result<u32, Fault>
     if b {
         Ok(t)
     } else {
-        Err(Fault { number: 4, place: at })
+        Err(Fault {
+            number: 4,
+            place: at,
+        })
     }
 }
 
@@ -130,10 +133,16 @@ fn aimed(d: Definition, at: usize) -> Result<u32, Fault>
     ensures { result ≡ aimed_by d.sort d.walled at }
 {
     if d.sort != SORT_LABEL {
-        return Err(Fault { number: 4, place: at });
+        return Err(Fault {
+            number: 4,
+            place: at,
+        });
     }
     if d.walled {
-        Err(Fault { number: 5, place: at })
+        Err(Fault {
+            number: 5,
+            place: at,
+        })
     } else {
         Ok(1)
     }
@@ -153,10 +162,16 @@ fn called(
     ensures { result ≡ called_by table.now d.sort d.number d.place right at (values count (env_of env.now (top + count))) }
 {
     if d.sort != SORT_PROCEDURE {
-        return Err(Fault { number: 4, place: at });
+        return Err(Fault {
+            number: 4,
+            place: at,
+        });
     }
     if !right {
-        return Err(Fault { number: 4, place: at });
+        return Err(Fault {
+            number: 4,
+            place: at,
+        });
     }
     let parameters = d.number as usize / 256;
     right_if(
@@ -180,7 +195,10 @@ fn recorded(
     ensures { result ≡ recorded_by table.now a d.sort d.number d.place at (values count (env_of env.now (top + count))) }
 {
     if d.sort != SORT_CLASS {
-        return Err(Fault { number: 4, place: at });
+        return Err(Fault {
+            number: 4,
+            place: at,
+        });
     }
     let fields = d.number as usize;
     right_if(
@@ -246,7 +264,10 @@ pub fn settle(
 {
     if names(kind) {
         match table_scopes::find(env, top, a) {
-            None => Err(Fault { number: 3, place: at }),
+            None => Err(Fault {
+                number: 3,
+                place: at,
+            }),
             Some(d) => named(table, kind, a, d, at, count, env, top),
         }
     } else {
@@ -305,7 +326,10 @@ pub fn leaf(kind: u16, a: u32, at: usize, env: &[u32], top: usize) -> Result<u32
         KIND_LOGICAL => Ok(TYPE_LOGICAL),
         KIND_BITS => Ok(TYPE_BITS),
         _ => match table_scopes::find(env, top, a) {
-            None => Err(Fault { number: 3, place: at }),
+            None => Err(Fault {
+                number: 3,
+                place: at,
+            }),
             Some(d) => if kind == KIND_NULL {
                 right_if(d.sort == SORT_CLASS, TYPE_REFERENCE + a, at)
             } else {

@@ -40,37 +40,37 @@ returns-then-t-u c =
 
 pub loop-i-preserved : goal.loop-i-preserved
 loop-i-preserved c =
-  c.loop-i.invariant ∙ same_next (values
-      c.args.count
-      (env_of c.args.env.now
-      (c.args.top + c.args.count)))
-      (types_at c.args.table.now
-      c.args.from
-      c.args.declared) c.loop-i.i
-      (omega (
-        arith,
-        length-values c.args.env.now
-            c.args.top
-            c.args.count,
-        length_types c.args.table.now
-            c.args.from
-            c.args.declared,
-      ))
-      (omega (
-        arith,
-        c.if-declared-count.false,
-        length-values c.args.env.now
-            c.args.top
-            c.args.count,
-        length_types c.args.table.now
-            c.args.from
-            c.args.declared,
-      ))
-      (sym c.operand-t.ensures ∙ c.if-t-u.false ∙ c.b_at-u.ensures
-      ∙ sym (type_at c.args.table.now
-      c.args.from
-      c.args.declared c.loop-i.i
-      (omega (arith, c.if-declared-count.false))))
+    c.loop-i.invariant ∙ same_next (values
+    c.args.count
+    (env_of c.args.env.now
+    (c.args.top + c.args.count)))
+    (types_at c.args.table.now
+    c.args.from
+    c.args.declared) c.loop-i.i
+    (omega (
+      arith,
+      length-values c.args.env.now
+          c.args.top
+          c.args.count,
+      length_types c.args.table.now
+          c.args.from
+          c.args.declared,
+    ))
+    (omega (
+      arith,
+      c.if-declared-count.false,
+      length-values c.args.env.now
+          c.args.top
+          c.args.count,
+      length_types c.args.table.now
+          c.args.from
+          c.args.declared,
+    ))
+    (sym c.operand-t.ensures ∙ c.if-t-u.false ∙ c.b_at-u.ensures
+    ∙ sym (type_at c.args.table.now
+    c.args.from
+    c.args.declared c.loop-i.i
+    (omega (arith, c.if-declared-count.false))))
 
 pub returns : goal.returns
 returns c =

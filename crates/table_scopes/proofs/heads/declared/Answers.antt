@@ -18,8 +18,12 @@ returns-in_ok-once c =
 pub returns-in_err-once : goal.returns-in_err-once
 returns-in_err-once c =
     let p = err_from_is_err_and c.from_residual.result c.from_residual.ensures.1 in
-    rw (p.1, p.2, decl-is c.args.table.now (env_of c.args.env.now c.args.top) c.args.at
-    (sym c.kind_at.ensures ∙ c.if-kind_at-eq-KIND_DECLARE.true)) (says_first c.once.result _
+    rw (
+      p.1,
+      p.2,
+      decl-is c.args.table.now (env_of c.args.env.now c.args.top) c.args.at
+          (sym c.kind_at.ensures ∙ c.if-kind_at-eq-KIND_DECLARE.true),
+    ) (says_first c.once.result _
     (once_flaw (env_of c.args.env.now c.args.top) (a_at c.args.table.now c.args.at)
     c.args.at) (class_flaw (env_of c.args.env.now c.args.top)
     (b_at c.args.table.now c.args.at) c.args.at) c.in_err-once.was (rw c.a_at.ensures at c.once.ensures))
