@@ -12,42 +12,41 @@ use Rattle.logic.specs.Choice.{If◌then◌else◌}
 use Rattle.language.specs.Table as table
 use Rattle.language.specs.Table.{Entry, in_layout, took, stop, Reader, after, made, repeated, first}
 use Rattle.table_read.specs.declared.kinds.Sort.{Sort}
-use Rattle.table_read.specs.declared.Read.{Read}
-use Rattle.table_read.specs.declared.Read.TheVariants.{Tree, Fault}
+use Rattle.std.specs.Prelude.{Result, Ok, Err}
 use Rattle.table_read.specs.Walk.{counted, moved, onward, chain, sorts_of, entered}
 
 -- as many entries as the answer counts, and then the entries that are left
-pub data Ends {A : Type 0} (es : List Entry) : table.Read A → Read → Type 0 where
-  ended : (x : A) (n : ℕ) → n ≤ length es → Ends es (took x (drop n es)) (Tree n)
-  halted : (n : ℕ) → n ≤ length es → Ends es (stop (drop n es)) (Fault n)
+pub data Ends {A : Type 0} (es : List Entry) : table.Read A → Result ℕ ℕ → Type 0 where
+  ended : (x : A) (n : ℕ) → n ≤ length es → Ends es (took x (drop n es)) (Ok n)
+  halted : (n : ℕ) → n ≤ length es → Ends es (stop (drop n es)) (Err n)
 
 -- w answers what r reads
-pub record Same {A : Type 0} (r : Reader A) (w : List Entry → Read) : Type 0 where
+pub record Same {A : Type 0} (r : Reader A) (w : List Entry → Result ℕ ℕ) : Type 0 where
   pub ends : (es : List Entry) → Ends es (r es) (w es)
 
-pub ends-count : {A : Type 0} {es : List Entry} {x : table.Read A} {a : Read} → Ends es x a → counted a ≤ length es
+pub ends-count : {A : Type 0} {es : List Entry} {x : table.Read A} {a : Result ℕ ℕ} → Ends es x a → counted a ≤ length es
 ends-count (ended x n h) = h
 ends-count (halted n h) = h
 
 -- what is read k entries further on
-pub ends-moved : {A : Type 0} {x : table.Read A} {a : Read} (es : List Entry) (k : ℕ) → k ≤ length es → Ends (drop k es) x a → Ends es x (moved k a)
+pub ends-moved : {A : Type 0} {x : table.Read A} {a : Result ℕ ℕ} (es : List Entry) (k : ℕ) → k ≤ length es → Ends (drop k es) x a → Ends es x (moved k a)
 ends-moved es k h (ended x n g) = rw (drop-drop n k es) (ended x (k + n) (omega (arith, length-drop k es)))
 ends-moved es k h (halted n g) = rw (drop-drop n k es) (halted (k + n) (omega (arith, length-drop k es)))
 
-pub ends-made : {A B : Type 0} {es : List Entry} {x : table.Read A} {a : Read} (f : A → B) → Ends es x a → Ends es (after x (λ y. took (f y))) a
+pub ends-made : {A B : Type 0} {es : List Entry} {x : table.Read A} {a : Result ℕ ℕ} (f : A → B) → Ends es x a → Ends es (after x (λ y. took (f y))) a
 unfolding after
 ends-made f (ended x n l) = ended (f x) n l
 ends-made f (halted n l) = halted n l
 
 -- what follows a part is read from where it ends
-pub ends-then : {A B : Type 0} (es : List Entry) {x : table.Read A} {a : Read} (f : A → Reader B) (g : List Entry → Read) → Ends es x a
+pub ends-then : {A B : Type 0} (es : List Entry) {x : table.Read A} {a : Result ℕ ℕ} (f : A → Reader B) (g : List Entry → Result ℕ ℕ) → Ends es x a
     → ((y : A) (fs : List Entry) → Ends fs (f y fs) (g fs)) → Ends es (after x f) (onward a (λ n. g (drop n es)))
 unfolding after
 ends-then es f g (ended x n l) k = ends-moved es n l (k x (drop n es))
 ends-then es f g (halted n l) k = halted n l
 
 -- ── operands, one after the other ──
-module _ (w : Sort → List Entry → Read) where
+module _ (w : Sort → List Entry → Result ℕ ℕ) where
   -- r reads what operands of the sorts ss are
   pub record Chained {A : Type 0} (r : Reader A) (ss : List Sort) : Type 0 where
     pub ends : (es : List Entry) → Ends es (r es) (chain w ss es)
@@ -66,9 +65,9 @@ module _ (w : Sort → List Entry → Read) where
   unfolding chain
   same-one {s = s} h = record { ends = λ es. rw (none (w s es)) (h.ends es) }
     where
-      none : (a : Read) → onward a (λ n. Tree 0) ≡ a
-      none (Tree n) = ap Tree (add-zero n)
-      none (Fault p) = refl
+      none : (a : Result ℕ ℕ) → onward a (λ n. Ok 0) ≡ a
+      none (Ok n) = ap Ok (add-zero n)
+      none (Err p) = refl
 
   pub same_then : {A B : Type 0} {r : Reader A} {s : Sort} {ss : List Sort} (f : A → Reader B) → Same r (w s) → ((x : A) → Chained (f x) ss)
       → Chained (λ es. after (r es) f) (s ∷ ss)
@@ -103,26 +102,26 @@ module _ (w : Sort → List Entry → Read) where
 
 -- ── an entry ──
 -- what follows an entry is read one further on
-pub ends-entry : {A : Type 0} {x : table.Read A} {a : Read} (e : Entry) (es : List Entry) → Ends es x a → Ends (e ∷ es) x (moved 1 a)
+pub ends-entry : {A : Type 0} {x : table.Read A} {a : Result ℕ ℕ} (e : Entry) (es : List Entry) → Ends es x a → Ends (e ∷ es) x (moved 1 a)
 ends-entry e es h = ends-moved (e ∷ es) 1 (omega arith) h
 
-pub ends-if : {A : Type 0} {es : List Entry} {x y : table.Read A} {a c : Read} (b : Bool) → Ends es x a → Ends es y c
+pub ends-if : {A : Type 0} {es : List Entry} {x y : table.Read A} {a c : Result ℕ ℕ} (b : Bool) → Ends es x a → Ends es y c
     → Ends es (If b then x else y) (If b then a else c)
 ends-if true h k = h
 ends-if false h k = k
 
-pub ends-stop : {A : Type 0} (es : List Entry) → Ends {A = A} es (stop es) (Fault 0)
+pub ends-stop : {A : Type 0} (es : List Entry) → Ends {A = A} es (stop es) (Err 0)
 ends-stop es = halted 0 (omega arith)
 
 -- the entry that stands here, if it keeps to the layout and is of a kind that is admitted
-pub same_first : {A : Type 0} (w : Sort → List Entry → Read) (p : ℕ → Bool) (f : Entry → Reader A)
-    → ((e : Entry) (es : List Entry) → in_layout e ≡ true → Ends (e ∷ es) (f e es) (If p e.kind then moved 1 (chain w (sorts_of e) es) else Fault 0))
+pub same_first : {A : Type 0} (w : Sort → List Entry → Result ℕ ℕ) (p : ℕ → Bool) (f : Entry → Reader A)
+    → ((e : Entry) (es : List Entry) → in_layout e ≡ true → Ends (e ∷ es) (f e es) (If p e.kind then moved 1 (chain w (sorts_of e) es) else Err 0))
     → Same (first f) (entered w p)
 unfolding first entered
 same_first {A} w p f h = record { ends = at }
   where
     here : (e : Entry) (es : List Entry) (b : Bool) → in_layout e ≡ b
-        → Ends {A = A} (e ∷ es) (If b then f e es else stop (e ∷ es)) (If b && p e.kind then moved 1 (chain w (sorts_of e) es) else Fault 0)
+        → Ends {A = A} (e ∷ es) (If b then f e es else stop (e ∷ es)) (If b && p e.kind then moved 1 (chain w (sorts_of e) es) else Err 0)
     here e es true l = h e es l
     here e es false l = ends-stop (e ∷ es)
 

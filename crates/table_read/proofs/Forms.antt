@@ -21,8 +21,7 @@ use Rattle.language.specs.Table.{form_typed, form_decl, form_part, form_s, form_
 use Rattle.logic.specs.Tests.{both_left}
 use Rattle.table_read.specs.declared.kinds.Sort.{Sort}
 use Rattle.table_read.specs.declared.kinds.Sort.TheVariants.{Typed, Decl, Part, Stmt, Target, Expr}
-use Rattle.table_read.specs.declared.Read.{Read}
-use Rattle.table_read.specs.declared.Read.TheVariants.{Fault}
+use Rattle.std.specs.Prelude.{Result, Err}
 use Rattle.table_read.specs.Operands.{is_s, is_e, sorts}
 use Rattle.table_read.specs.Walk.{moved, chain, sorts_of, admits, walk}
 use Rattle.table_read.proofs.Ends.{Ends, Same, Chained, ends-made, ends-entry, ends-stop, same-eq, same-made, same_none, same-one, same_then, made_after, same-times, times-then, same_first}
@@ -44,7 +43,7 @@ reads Stmt r = r.stmt
 reads Target r = r.target
 reads Expr r = r.expr
 
-module _ (r : Below) (w : Sort → List Entry → Read) (h : (s : Sort) → Same (reads s r) (w s)) (e : Entry) (es : List Entry) where
+module _ (r : Below) (w : Sort → List Entry → Result ℕ ℕ) (h : (s : Sort) → Same (reads s r) (w s)) (e : Entry) (es : List Entry) where
   -- a reader of the operands, where they are ss
   pub below-entry : {A : Type 0} {q : Reader A} {ss : List Sort} {f : Entry} → Chained w q ss → Ends (f ∷ es) (q es) (moved 1 (chain w ss es))
   below-entry {f = f} k = ends-entry f es (k.ends es)
@@ -85,7 +84,7 @@ module _ (r : Below) (w : Sort → List Entry → Read) (h : (s : Sort) → Same
       (λ ds. same-eq w (times-then w (h Part) (nat_abs e.b) (λ ps. made (block_expr ds (items_of ps)) r.expr) (λ ps. one-expr (block_expr ds (items_of ps))))
       (λ fs. made_after w (repeated (nat_abs e.b) r.part fs) items_of (λ is. made (block_expr ds is) r.expr)))
 
-  statement : in_layout e ≡ true → Ends (e ∷ es) (form_s r e es) (If is_s e.kind then moved 1 (chain w (sorts_of e) es) else Fault 0)
+  statement : in_layout e ≡ true → Ends (e ∷ es) (form_s r e es) (If is_s e.kind then moved 1 (chain w (sorts_of e) es) else Err 0)
   unfolding form_s is_s sorts in_layout
   statement l =
       elim (ℕ_discrete e.kind 1) [
@@ -147,7 +146,7 @@ module _ (r : Below) (w : Sort → List Entry → Read) (h : (s : Sort) → Same
             ]
       ]
 
-  expression : Ends (e ∷ es) (form_e r e es) (If is_e e.kind then moved 1 (chain w (sorts_of e) es) else Fault 0)
+  expression : Ends (e ∷ es) (form_e r e es) (If is_e e.kind then moved 1 (chain w (sorts_of e) es) else Err 0)
   unfolding form_e is_e sorts
   expression =
       elim (ℕ_discrete e.kind 40) [
@@ -218,7 +217,7 @@ module _ (r : Below) (w : Sort → List Entry → Read) (h : (s : Sort) → Same
             ]
       ]
 
-  target : Ends (e ∷ es) (form_target r e es) (If eqb e.kind 44 || eqb e.kind 46 then moved 1 (chain w (sorts_of e) es) else Fault 0)
+  target : Ends (e ∷ es) (form_target r e es) (If eqb e.kind 44 || eqb e.kind 46 then moved 1 (chain w (sorts_of e) es) else Err 0)
   unfolding form_target sorts
   target =
       elim (ℕ_discrete e.kind 44) [
@@ -231,7 +230,7 @@ module _ (r : Below) (w : Sort → List Entry → Read) (h : (s : Sort) → Same
             ]
       ]
 
-  label-or : in_layout e ≡ true → Ends (e ∷ es) (form_part r e es) (If eqb e.kind 20 || is_s e.kind then moved 1 (chain w (sorts_of e) es) else Fault 0)
+  label-or : in_layout e ≡ true → Ends (e ∷ es) (form_part r e es) (If eqb e.kind 20 || is_s e.kind then moved 1 (chain w (sorts_of e) es) else Err 0)
   unfolding form_part sorts
   label-or l =
       elim (ℕ_discrete e.kind 20) [
@@ -240,7 +239,7 @@ module _ (r : Below) (w : Sort → List Entry → Read) (h : (s : Sort) → Same
             rw (ne_eqb _ _ n20) (ends-made stmt_part (statement l))
       ]
 
-  pub declaration : Ends (e ∷ es) (form_decl e es) (If eqb e.kind 10 || eqb e.kind 14 then moved 1 (chain w (sorts_of e) es) else Fault 0)
+  pub declaration : Ends (e ∷ es) (form_decl e es) (If eqb e.kind 10 || eqb e.kind 14 then moved 1 (chain w (sorts_of e) es) else Err 0)
   unfolding form_decl sorts
   declaration =
       elim (ℕ_discrete e.kind 10) [
@@ -253,7 +252,7 @@ module _ (r : Below) (w : Sort → List Entry → Read) (h : (s : Sort) → Same
             ]
       ]
 
-  typed_one : Ends (e ∷ es) (form_typed e es) (If eqb e.kind 10 then moved 1 (chain w (sorts_of e) es) else Fault 0)
+  typed_one : Ends (e ∷ es) (form_typed e es) (If eqb e.kind 10 then moved 1 (chain w (sorts_of e) es) else Err 0)
   unfolding form_typed sorts
   typed_one =
       elim (ℕ_discrete e.kind 10) [

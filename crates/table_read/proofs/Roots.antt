@@ -23,12 +23,11 @@ use Rattle.logic.specs.Tests.{clash, and-false}
 use Rattle.language_laws.specs.Claims.{entries_of}
 use Rattle.table_read.specs.declared.kinds.Sort.{Sort}
 use Rattle.table_read.specs.declared.kinds.Sort.TheVariants.{Typed, Part, Stmt, Expr}
-use Rattle.table_read.specs.declared.Read.{Read}
-use Rattle.table_read.specs.declared.Read.TheVariants.{Tree, Fault}
-use Rattle.table_read.specs.declared.Reading.{Reading}
-use Rattle.table_read.specs.declared.Reading.TheVariants.{Reads, Refused}
+use Rattle.std.specs.Prelude.{Result, Ok, Err}
+use Rattle.std.specs.Prelude.{⊤}
+use Rattle.table_entries.specs.declared.Fault.{Fault}
 use Rattle.table_read.specs.Operands.{sorts, body_sort}
-use Rattle.table_read.specs.Walk.{reading_of, counted, moved, onward, chain, kind_at, name_at, size_at, laid_at}
+use Rattle.table_read.specs.Walk.{reading_of, fault, counted, moved, placed, onward, chain, kind_at, name_at, size_at, laid_at}
 use Rattle.table_read.specs.Walk.{stands_at, sorts_of, sorts_at, entered, walk, is_global, tally, walk_head, walk_below, walk_root}
 use Rattle.table_read.proofs.Ends.{Ends, ended, halted, Same, Chained, ends-count, ends-moved, ends-made, ends-then, ends-entry, ends-if, ends-stop, same-made}
 use Rattle.table_read.proofs.Ends.{same-one, same-times, times-then, same_first}
@@ -37,10 +36,10 @@ use Rattle.table_entries.specs.Entries.{entries-length, entries-rest, rest as ba
 use Rattle.table_entries.specs.Sizes.{Sized, sized-none, sized-then}
 use Rattle.table_read.specs.Filling.{Fills}
 use Rattle.table_read.proofs.Parts.{laid-here}
-use Rattle.table_read.proofs.Steps.{moved-zero, moved-moved, counted-moved, chain-count}
+use Rattle.table_read.proofs.Steps.{moved-zero, moved-moved, placed-ok, stop-moved, counted-moved, chain-count}
 
 -- ── a declaration of the root's head ──
-module _ (r : Below) (w : Sort → List Entry → Read) (h : (s : Sort) → Same (reads s r) (w s)) where
+module _ (r : Below) (w : Sort → List Entry → Result ℕ ℕ) (h : (s : Sort) → Same (reads s r) (w s)) where
   body : (t : ℕ) → Chained w (body_below r t) (body_sort t ∷ [])
   body t = go (eqb t 0)
     where
@@ -48,7 +47,7 @@ module _ (r : Below) (w : Sort → List Entry → Read) (h : (s : Sort) → Same
       go true = same-made w proper (same-one w (h Stmt))
       go false = same-made w (function (get_or (ty_of_code t) integer)) (same-one w (h Expr))
 
-  global : (c p : ℕ) (e : Entry) (es : List Entry) → Ends (e ∷ es) (form_global r c p e es) (If is_global c p e.kind then moved 1 (chain w (sorts_of e) es) else Fault 0)
+  global : (c p : ℕ) (e : Entry) (es : List Entry) → Ends (e ∷ es) (form_global r c p e es) (If is_global c p e.kind then moved 1 (chain w (sorts_of e) es) else Err 0)
   unfolding form_global is_global sorts
   global c p e es =
       let n = nat_abs e.b in
@@ -113,7 +112,7 @@ global-counts r c p (e ∷ es) g rest q =
     if-took (in_layout e) (form_global r c p e es) (stop (e ∷ es)) g rest q (form-counts r c p e es g rest) stop-took
 
 -- ── the head ──
-head_step : (n c p : ℕ) → ((c p : ℕ) → Same (read_head (below 62) n c p) (walk_head n c p)) → (es : List Entry) {x : table.Read Global} {a : Read}
+head_step : (n c p : ℕ) → ((c p : ℕ) → Same (read_head (below 62) n c p) (walk_head n c p)) → (es : List Entry) {x : table.Read Global} {a : Result ℕ ℕ}
     → first (form_global (below 62) c p) es ≡ x → Ends es x a
     → Ends es (after x (λ g rest. after (read_head (below 62) n (c + class_count g) (p + procedure_count g) rest) (λ gs. took (g ∷ gs))))
     (onward a (λ m. walk_head n (c + tally (kind_at es) 11) (p + tally (kind_at es) 12) (drop m es)))
@@ -141,7 +140,7 @@ roots = record { ends = at }
         (λ gs fs. ends-made (tree_of gs) ((same-made (walk 63) items_of (same-times (walk 63) (walks 63 Part) (nat_abs e.b))).ends fs)))
 
     here : (e : Entry) (es : List Entry) (b : Bool) → Ends (e ∷ es) (If b then form_root e es else stop (e ∷ es))
-        (If eqb e.kind 1 && b then moved 1 (onward (walk_head e.a 0 0 es) (λ n. chain (walk 63) (replicate (nat_abs e.b) Part) (drop n es))) else Fault 0)
+        (If eqb e.kind 1 && b then moved 1 (onward (walk_head e.a 0 0 es) (λ n. chain (walk 63) (replicate (nat_abs e.b) Part) (drop n es))) else Err 0)
     here e es true =
         elim (ℕ_discrete e.kind 1) [ yes q ↦ rw (eq-eqb _ _ q) (whole e es) | no n ↦ rw (ne_eqb _ _ n) (ends-stop (e ∷ es)) ]
     here e es false = rw (and-false (eqb e.kind 1)) (ends-stop (e ∷ es))
@@ -151,14 +150,14 @@ roots = record { ends = at }
     at (e ∷ es) = here e es (in_layout e)
 
 -- ── what the code comes to ──
-pub head-fits : (n : ℕ) (l : List ℕ) {x : Read} → x ≡ walk_head n 0 0 (entries_of l) → 8 * counted x ≤ length l
-head-fits n l e = rw e (omega (arith, ends-count ((heads n 0 0).ends (entries_of l)), entries-length l))
+pub head-fits : (n : ℕ) (l : List ℕ) {k : ℕ} → walk_head n 0 0 (entries_of l) ≡ Ok k → 8 * k ≤ length l
+head-fits n l e = omega (arith, ap counted e, ends-count ((heads n 0 0).ends (entries_of l)), entries-length l)
 
-entered-laid : (w : Sort → List Entry → Read) (q : ℕ → Bool) (es : List Entry) {k : ℕ} → entered w q es ≡ Tree k → laid_at es ≡ true
+entered-laid : (w : Sort → List Entry → Result ℕ ℕ) (q : ℕ → Bool) (es : List Entry) {k : ℕ} → entered w q es ≡ Ok k → laid_at es ≡ true
 unfolding entered
 entered-laid w q es {k} e = go (laid_at es) e
   where
-    go : (b : Bool) → (If b && q (kind_at es) then moved 1 (chain w (sorts_at es) (drop 1 es)) else Fault 0) ≡ Tree k → b ≡ true
+    go : (b : Bool) → (If b && q (kind_at es) then moved 1 (chain w (sorts_at es) (drop 1 es)) else Err 0) ≡ Ok k → b ≡ true
     go true e = refl
     go false e = clash (cc)
 
@@ -170,16 +169,16 @@ tally-small k j = go (eqb k j)
     go false = omega arith
 
 module _ (n c p : ℕ) (es : List Entry) where
-  walk-head-step : {k : ℕ} {x : Read} → 0 < n → x ≡ entered (walk 62) (is_global c p) es → x ≡ Tree k
-      → walk_head n c p es ≡ moved k (walk_head (n - 1) (c + tally (kind_at es) 11) (p + tally (kind_at es) 12) (drop k es))
+  walk-head-step : {k m : ℕ} → n ≡ suc m → entered (walk 62) (is_global c p) es ≡ Ok k
+      → walk_head n c p es ≡ moved k (walk_head m (c + tally (kind_at es) 11) (p + tally (kind_at es) 12) (drop k es))
   unfolding walk_head
-  walk-head-step h e q = let m : n ≡ suc (n - 1) = omega arith in ap (λ (i : ℕ). walk_head i c p es) m ∙ rw (sym e ∙ q)
+  walk-head-step h e = rw (h, e)
 
-  walk-head-stop : {f : ℕ} {x : Read} → 0 < n → x ≡ entered (walk 62) (is_global c p) es → x ≡ Fault f → walk_head n c p es ≡ Fault f
+  walk-head-stop : {f m : ℕ} → n ≡ suc m → entered (walk 62) (is_global c p) es ≡ Err f → walk_head n c p es ≡ Err f
   unfolding walk_head
-  walk-head-stop h e q = let m : n ≡ suc (n - 1) = omega arith in ap (λ (i : ℕ). walk_head i c p es) m ∙ rw (sym e ∙ q)
+  walk-head-stop h e = rw (h, e)
 
-  walk-head-end : n ≡ 0 → walk_head n c p es ≡ Tree 0
+  walk-head-end : n ≡ 0 → walk_head n c p es ≡ Ok 0
   unfolding walk_head
   walk-head-end h = rw h
 
@@ -192,33 +191,44 @@ pub record Declared (count : ℕ) (part old new rest : List ℕ) (passed classes
   pub fewer : procedures + left ≤ count
   pub sized : Sized (entries_of part) 1 passed old new
 
-pub declared-none : (count : ℕ) (part old : List ℕ) → Declared count part old old part 0 0 0 count
-declared-none count part old =
-    record { same = moved-zero _; behind = refl; long = omega arith; few = omega arith; fewer = omega arith; sized = sized-none (entries_of part) 1 old }
+pub declared-none : (count left : ℕ) (part old : List ℕ) → left ≡ count → Declared count part old old part 0 0 0 left
+declared-none count left part old e =
+    record { same = rw e (moved-zero _); behind = refl; long = omega arith; few = omega arith; fewer = omega arith; sized = sized-none (entries_of part) 1 old }
 
 module _ {count : ℕ} {part old new rest : List ℕ} {passed classes procedures left : ℕ} (h : Declared count part old new rest passed classes procedures left) where
-  pub declared-end : left ≡ 0 → Tree passed ≡ walk_head count 0 0 (entries_of part)
-  declared-end e = sym (h.same ∙ ap (moved passed) (walk-head-end left classes procedures (entries_of rest) e) ∙ ap Tree (add-zero passed))
+  pub declared-end : left ≡ 0 → Ok passed ≡ placed 1 (walk_head count 0 0 (entries_of part))
+  declared-end e = ap (placed 1) (sym (h.same ∙ ap (moved passed) (walk-head-end left classes procedures (entries_of rest) e) ∙ ap Ok (add-zero passed)))
 
-  module _ (more : 0 < left) {x : Read} (r : x ≡ entered (walk 62) (is_global classes procedures) (entries_of rest)) where
-    pub declared-fits : {n : ℕ} → counted x ≡ n → 8 * n ≤ length rest
-    declared-fits c = omega (arith, ap counted r, ends-count ((globals (below 62) (walk 62) (walks 62) classes procedures).ends (entries_of rest)), entries-length rest)
+  module _ {less : ℕ} (more : left ≡ suc less) {x : Result ℕ ℕ} (r : x ≡ placed (1 + passed) (entered (walk 62) (is_global classes procedures) (entries_of rest))) where
+    abbrev one : Result ℕ ℕ
+    one = entered (walk 62) (is_global classes procedures) (entries_of rest)
 
-    pub declared-stop : {p : ℕ} → x ≡ Fault p → Fault (passed + p) ≡ walk_head count 0 0 (entries_of part)
-    declared-stop c = sym (h.same ∙ ap (moved passed) (walk-head-stop left classes procedures (entries_of rest) more r c))
+    pub declared-fits : {k : ℕ} → x ≡ Ok k → 8 * k ≤ length rest
+    declared-fits c =
+        omega (
+          arith,
+          ap counted (placed-ok (1 + passed) one r c),
+          ends-count ((globals (below 62) (walk 62) (walks 62) classes procedures).ends (entries_of rest)),
+          entries-length rest,
+        )
 
-    pub declared-here : {k : ℕ} → x ≡ Tree k → 8 ≤ length rest
-    declared-here c = laid-here rest (entered-laid (walk 62) (is_global classes procedures) (entries_of rest) (sym r ∙ c))
+    pub declared-stop : {p : ℕ} → x ≡ Err p → Err p ≡ placed 1 (walk_head count 0 0 (entries_of part))
+    declared-stop c =
+        stop-moved 1 passed one (λ m u. h.same ∙ ap (moved passed) (walk-head-stop left classes procedures (entries_of rest) more u)) r c
 
-    pub declared-next : {k kind u v : ℕ} {late : List ℕ} → x ≡ Tree k → Fills (entries_of rest) (1 + passed) new late x → kind ≡ kind_at (entries_of rest)
+    pub declared-here : {k : ℕ} → x ≡ Ok k → 8 ≤ length rest
+    declared-here c = laid-here rest (entered-laid (walk 62) (is_global classes procedures) (entries_of rest) (placed-ok (1 + passed) one r c))
+
+    pub declared-next : {k kind u v : ℕ} {late : List ℕ} → x ≡ Ok k → Fills (entries_of rest) (1 + passed) new late x → kind ≡ kind_at (entries_of rest)
         → u ≡ tally kind 11 → v ≡ tally kind 12
-        → Declared count part old late (take (length rest - 8 * k) (drop (8 * k) rest)) (passed + k) (classes + u) (procedures + v) (left - 1)
+        → Declared count part old late (take (length rest - 8 * k) (drop (8 * k) rest)) (passed + k) (classes + u) (procedures + v) less
     declared-next {k} {kind} {u} {v} c f e p q =
-        let long = declared-fits (ap counted c) in
+        let long = declared-fits c in
         let g : Sized (entries_of rest) (1 + passed) k new _ = rw c at f in
-        let on = walk_head (left - 1) (classes + tally (kind_at (entries_of rest)) 11) (procedures + tally (kind_at (entries_of rest)) 12) (drop k (entries_of rest)) in
+        let on = walk_head less (classes + tally (kind_at (entries_of rest)) 11) (procedures + tally (kind_at (entries_of rest)) 12) (drop k (entries_of rest)) in
         record {
-          same = h.same ∙ ap (moved passed) (walk-head-step left classes procedures (entries_of rest) more r c) ∙ rw (p, q, e, entries-rest k rest) (moved-moved passed k on);
+          same = h.same ∙ ap (moved passed) (walk-head-step left classes procedures (entries_of rest) more (placed-ok (1 + passed) one r c))
+              ∙ rw (p, q, e, entries-rest k rest) (moved-moved passed k on);
           behind = entries-rest k rest ∙ ap (drop k) h.behind ∙ drop-drop k passed (entries_of part);
           long = rw (back (8 * k) rest) (omega (arith, h.long, length-drop (8 * k) rest));
           few = omega (arith, h.few, tally-small kind 11);
@@ -231,30 +241,30 @@ below-count : (a b : ℕ) (es : List Entry) → counted (walk_below a b es) ≤ 
 unfolding walk_below
 below-count a b es = go (walk_head a 0 0 es) (ends-count ((heads a 0 0).ends es))
   where
-    go : (r : Read) → counted r ≤ length es → counted (onward r (λ n. chain (walk 63) (replicate b Part) (drop n es))) ≤ length es
-    go (Tree n) h =
+    go : (r : Result ℕ ℕ) → counted r ≤ length es → counted (onward r (λ n. chain (walk 63) (replicate b Part) (drop n es))) ≤ length es
+    go (Ok n) h =
         omega (arith, counted-moved n (chain (walk 63) (replicate b Part) (drop n es)), chain-count 63 (replicate b Part) (drop n es), length-drop n es)
-    go (Fault p) h = h
+    go (Err p) h = h
 
-pub below-fits : (a b : ℕ) (l : List ℕ) {x : Read} → x ≡ walk_below a b (entries_of l) → 8 * counted x ≤ length l
-below-fits a b l e = rw e (omega (arith, below-count a b (entries_of l), entries-length l))
-
-pub fills-then : (r : Read) {es : List Entry} {at k : ℕ} {old mid : List ℕ} (new : List ℕ) → Sized es at k old mid → Fills (drop k es) (at + k) mid new r → Fills es at old new (moved k r)
-fills-then (Tree n) new h f = sized-then h f
-fills-then (Fault p) new h f = tt
+pub below-fits : (a b : ℕ) (l : List ℕ) {n : ℕ} → walk_below a b (entries_of l) ≡ Ok n → 8 * n ≤ length l
+below-fits a b l e = omega (arith, ap counted e, below-count a b (entries_of l), entries-length l)
 
 module _ (a b : ℕ) (es : List Entry) where
-  pub walk-below-stop : {p : ℕ} {x : Read} → x ≡ walk_head a 0 0 es → x ≡ Fault p → walk_below a b es ≡ Fault p
+  pub walk-below-stop : {x : Result ℕ ℕ} {q : ℕ} → x ≡ placed 1 (walk_head a 0 0 es) → x ≡ Err q → Err q ≡ placed 1 (walk_below a b es)
   unfolding walk_below
-  walk-below-stop e q = rw (sym e ∙ q)
+  walk-below-stop e c = go (walk_head a 0 0 es) e c
+    where
+      go : (r : Result ℕ ℕ) {x : Result ℕ ℕ} {q : ℕ} → x ≡ placed 1 r → x ≡ Err q → Err q ≡ placed 1 (onward r (λ m. chain (walk 63) (replicate b Part) (drop m es)))
+      go (Ok m) e c = clash (cc)
+      go (Err p) e c = cc
 
   -- the statements after a head of k entries
-  pub walk-below-whole : {k : ℕ} {x : Read} → x ≡ walk_head a 0 0 es → x ≡ Tree k → walk_below a b es ≡ moved k (chain (walk 63) (sorts 1 0 b) (drop k es))
+  pub walk-below-whole : {k : ℕ} → walk_head a 0 0 es ≡ Ok k → walk_below a b es ≡ moved k (chain (walk 63) (sorts 1 0 b) (drop k es))
   unfolding walk_below sorts
-  walk-below-whole e q = rw (sym e ∙ q)
+  walk-below-whole e = rw e
 
 module _ (es : List Entry) where
-  pub walk-root-none : stands_at 1 es ≡ false → walk_root es ≡ Fault 0
+  pub walk-root-none : stands_at 1 es ≡ false → walk_root es ≡ Err 0
   unfolding walk_root
   walk-root-none e = rw e
 
@@ -264,16 +274,16 @@ module _ (es : List Entry) where
 
 -- ── the table ──
 module _ (l : List ℕ) where
-  pub table_empty : length l ≡ 0 → Refused 1 0 ≡ reading_of (read_table l)
+  pub table_empty : length l ≡ 0 → Err (fault 1 0) ≡ reading_of (read_table l)
   unfolding read_table
   table_empty h = rw (eq-eqb _ _ h)
 
   module _ (some : length l ≡ 0 → ⊥) where
-    pub table-over : 16384 < length l → Refused 1 0 ≡ reading_of (read_table l)
+    pub table-over : 16384 < length l → Err (fault 1 0) ≡ reading_of (read_table l)
     unfolding read_table
     table-over h = rw (ne_eqb _ _ some, lt-ltb _ _ h)
 
-    pub table-uneven : length l ≤ 16384 → (length l % 8 ≡ 0 → ⊥) → Refused 1 0 ≡ reading_of (read_table l)
+    pub table-uneven : length l ≤ 16384 → (length l % 8 ≡ 0 → ⊥) → Err (fault 1 0) ≡ reading_of (read_table l)
     unfolding read_table
     table-uneven h k = rw (ne_eqb _ _ some, le-ltb _ _ h, ne_eqb _ _ k)
 
@@ -282,33 +292,33 @@ module _ (l : List ℕ) where
     table-shaped h k = rw (ne_eqb _ _ some, le-ltb _ _ h, eq-eqb _ _ k)
 
 module _ (es : List Entry) where
-  abbrev answered : table.Read tree.Tree → Reading
+  abbrev answered : table.Read tree.Tree → Result ⊤ Fault
   answered x = reading_of (one_tree es x)
 
-  pub one-tree : {n : ℕ} {x : Read} → x ≡ walk_root es → x ≡ Tree n → n ≡ length es → Reads ≡ answered (first form_root es)
+  pub one-tree : {n : ℕ} {x : Result ℕ ℕ} → x ≡ walk_root es → x ≡ Ok n → n ≡ length es → Ok tt ≡ answered (first form_root es)
   unfolding one_tree
   one-tree e q h = go (roots.ends es) (sym e ∙ q) h
     where
-      go : {y : table.Read tree.Tree} {a : Read} {n : ℕ} → Ends es y a → a ≡ Tree n → n ≡ length es → Reads ≡ answered y
+      go : {y : table.Read tree.Tree} {a : Result ℕ ℕ} {n : ℕ} → Ends es y a → a ≡ Ok n → n ≡ length es → Ok tt ≡ answered y
       go (ended t m l) q h = let s : m ≡ length es = cc in rw (s, drop-length es)
       go (halted m l) q h = clash (cc)
 
-  left : (t : tree.Tree) (n : ℕ) (rest : List Entry) → length rest ≡ length es - n → n ≤ length es → (n ≡ length es → ⊥) → Refused 2 n ≡ answered (took t rest)
+  left : (t : tree.Tree) (n : ℕ) (rest : List Entry) → length rest ≡ length es - n → n ≤ length es → (n ≡ length es → ⊥) → Err (fault 2 n) ≡ answered (took t rest)
   unfolding one_tree
   left t n [] e l h = absurd (omega arith)
   left t n (f ∷ fs) e l h = let z : length es - length (f ∷ fs) ≡ n = omega arith in rw z
 
-  pub more-entries : {n : ℕ} {x : Read} → x ≡ walk_root es → x ≡ Tree n → (n ≡ length es → ⊥) → Refused 2 n ≡ answered (first form_root es)
+  pub more-entries : {n : ℕ} {x : Result ℕ ℕ} → x ≡ walk_root es → x ≡ Ok n → (n ≡ length es → ⊥) → Err (fault 2 n) ≡ answered (first form_root es)
   more-entries e q h = go (roots.ends es) (sym e ∙ q) h
     where
-      go : {y : table.Read tree.Tree} {a : Read} {n : ℕ} → Ends es y a → a ≡ Tree n → (n ≡ length es → ⊥) → Refused 2 n ≡ answered y
+      go : {y : table.Read tree.Tree} {a : Result ℕ ℕ} {n : ℕ} → Ends es y a → a ≡ Ok n → (n ≡ length es → ⊥) → Err (fault 2 n) ≡ answered y
       go {n = n} (ended t m l) q h = let s : m ≡ n = cc in rw (← s) (left t m (drop m es) (length-drop m es) l (λ z. h (sym s ∙ z)))
       go (halted m l) q h = clash (cc)
 
-  pub no-tree : {p : ℕ} {x : Read} → x ≡ walk_root es → x ≡ Fault p → Refused 2 p ≡ answered (first form_root es)
+  pub no-tree : {p : ℕ} {x : Result ℕ ℕ} → x ≡ walk_root es → x ≡ Err p → Err (fault 2 p) ≡ answered (first form_root es)
   unfolding one_tree
   no-tree e q = go (roots.ends es) (sym e ∙ q)
     where
-      go : {y : table.Read tree.Tree} {a : Read} {p : ℕ} → Ends es y a → a ≡ Fault p → Refused 2 p ≡ answered y
+      go : {y : table.Read tree.Tree} {a : Result ℕ ℕ} {p : ℕ} → Ends es y a → a ≡ Err p → Err (fault 2 p) ≡ answered y
       go (ended t m l) q = clash (cc)
       go {p = p} (halted m l) q = let s : m ≡ p = cc in let z : length es - length (drop p es) ≡ p = omega (arith, length-drop p es) in rw (s, z)

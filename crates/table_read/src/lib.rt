@@ -1,38 +1,24 @@
 // The reader of tables (refusals 1 and 2). An entry and its operands call each other, the remaining nesting falling; each is given the part of
-// the table after the entry that it is an operand of, and passes on further parts that start inside it. How many entries each entry has with all
-// that stands below it is noted at its place, for the passes after this one.
+// the table after the entry that it is an operand of, with the place at which that part begins, and passes on further parts that start inside it.
+// The answer is how many entries were read, or the place of the first that does not read. How many entries each entry has with all that stands
+// below it is noted at its place, for the passes after this one.
 #![tactic(auto)]
 
 pub mod kinds;
 pub mod layout;
 
-ghost use Rattle.std.specs.Prelude.{◌≡◌, ◌+◌, ◌*◌, ◌^◌, ◌≤◌, ◌<◌, length};
+ghost use Rattle.std.specs.Prelude.{◌≡◌, ◌+◌, ◌≤◌, ◌<◌, length, set};
 ghost use Rattle.language.specs.Table.{read_table};
 ghost use Rattle.language_laws.specs.Claims.{entries_of};
 ghost use Rattle.table_read.specs.Operands.{sorts};
-ghost use Rattle.table_read.specs.Walk.{reading_of, counted, moved, chain, laid_at, stands_at, admitted_at, kind_at, name_at, size_at, walk, under, entered, is_global};
+ghost use Rattle.table_read.specs.Walk.{reading_of, placed, chain, laid_at, stands_at, admitted_at, kind_at, name_at, size_at, walk, under, entered, is_global};
 ghost use Rattle.table_read.specs.Walk.{tally as tally_of, walk_head, walk_below, walk_root};
-ghost use Rattle.table_read.specs.Filling.{Room, Fills, noted, Wide, Hands};
+ghost use Rattle.table_read.specs.Filling.{Room, Fills, Wide, Hands};
 
 use formats::entries::*;
 use formats::limits::*;
 use kinds::Sort;
-
-#[derive(Drop)]
-pub enum Read {
-    // a whole tree, and how many entries it has
-    Tree(usize),
-    // how many entries stand before the first that does not read
-    Fault(usize),
-}
-
-#[derive(Drop)]
-pub enum Reading {
-    // one tree, within the layout
-    Reads,
-    // the refusal's number and place
-    Refused(u8, usize),
-}
+use table_entries::Fault;
 
 // ── the entry at the start of a part ──
 pub fn kind_of(part: &[u8]) -> u16
@@ -82,17 +68,6 @@ fn stands(part: &[u8], kind: u16) -> bool
     laid(part)
 }
 
-// The answer, counted from so many entries earlier.
-fn later(by: usize, r: Read) -> Read
-    requires { (by < 2 ^ 62) × (counted r < 2 ^ 62) }
-    ensures { result ≡ moved by r }
-{
-    match r {
-        Read::Tree(n) => Read::Tree(by + n),
-        Read::Fault(p) => Read::Fault(by + p),
-    }
-}
-
 // ── statements and expressions ──
 // Whether an operand of this sort stands there, not too deep; nothing is read below it. The layout of an entry with no operands is told by few
 // tests, and most entries are such.
@@ -118,18 +93,13 @@ fn admitted(part: &[u8], sort: Sort, nesting: usize) -> bool
     }
 }
 
-// The entry at a place, after what was read below it: its size is noted.
-fn whole(sizes: &mut [u16], place: usize, below: Read) -> Read
-    requires { (place < length sizes.old) × (counted below < 65535) }
-    ensures { (result ≡ moved 1 below) × (sizes.new ≡ noted below place sizes.old) }
+// The entry at a place, with so many below it: its size is noted.
+fn whole(sizes: &mut [u16], place: usize, n: usize) -> usize
+    requires { (place < length sizes.old) × (n < 65535) }
+    ensures { (result ≡ 1 + n) × (sizes.new ≡ set sizes.old place (1 + n)) }
 {
-    match below {
-        Read::Tree(n) => {
-            sizes[place] = (1 + n) as u16;
-            Read::Tree(1 + n)
-        }
-        Read::Fault(p) => Read::Fault(1 + p),
-    }
+    sizes[place] = (1 + n) as u16;
+    1 + n
 }
 
 // The operands of an entry; part begins with the first of them, which is at a place of the table.
@@ -142,56 +112,52 @@ fn operands(
     a: u16,
     n: u32,
     nesting: usize,
-) -> Read
+) -> Result<usize, usize>
     requires { Room part.now place sizes.old }
-    ensures { (result ≡ chain (walk nesting) (sorts kind a n) (entries_of part.now))
+    ensures { (result ≡ placed place (chain (walk nesting) (sorts kind a n) (entries_of part.now)))
         × Fills (entries_of part.now) place sizes.old sizes.new result }
 {
-    let all = kinds::count(kind, a, n);
     let mut rest = part;
     let mut passed: usize = 0;
-    let mut i: usize = 0;
-    while i < all {
+    for i in 0..kinds::count(kind, a, n) {
+        let here = place + passed;
         if !admitted(rest, kinds::sort_of(kind, a, n, i), nesting) {
-            return Read::Fault(passed);
+            return Err(here);
         }
-        match read_entry(rest, place + passed, sizes, nesting - 1) {
-            Read::Tree(k) => {
-                let at = ENTRY_BYTES * k;
-                rest = &rest[at..];
-                passed += k;
-                i += 1;
-            }
-            Read::Fault(p) => {
-                return Read::Fault(passed + p);
-            }
-        }
+        let k = read_entry(rest, here, sizes, nesting - 1)?;
+        let at = ENTRY_BYTES * k;
+        rest = &rest[at..];
+        passed += k;
     }
-    Read::Tree(passed)
+    Ok(passed)
 }
 
 // The entry there with all that stands below it; so much nesting is left for its operands. One with no operands is answered without a call.
 #[cycle(operands_read_entry)]
-fn read_entry(part: &[u8], place: usize, sizes: &mut [u16], nesting: usize) -> Read
+fn read_entry(
+    part: &[u8],
+    place: usize,
+    sizes: &mut [u16],
+    nesting: usize,
+) -> Result<usize, usize>
     requires { (8 ≤ length part.now) × Room part.now place sizes.old }
-    ensures { (result ≡ under (walk nesting) (entries_of part.now))
+    ensures { (result ≡ placed place (under (walk nesting) (entries_of part.now)))
         × Fills (entries_of part.now) place sizes.old sizes.new result }
 {
     let kind = kind_of(part);
-    let below = if kinds::is_leaf(kind) {
-        Read::Tree(0)
-    } else {
-        operands(
-            &part[ENTRY_BYTES..],
-            place + 1,
-            sizes,
-            kind,
-            name_of(part),
-            size_of(part),
-            nesting,
-        )
-    };
-    whole(sizes, place, below)
+    if kinds::is_leaf(kind) {
+        return Ok(whole(sizes, place, 0));
+    }
+    let below = operands(
+        &part[ENTRY_BYTES..],
+        place + 1,
+        sizes,
+        kind,
+        name_of(part),
+        size_of(part),
+        nesting,
+    )?;
+    Ok(whole(sizes, place, below))
 }
 
 // ── the root ──
@@ -214,16 +180,16 @@ fn read_global(
     sizes: &mut [u16],
     classes: usize,
     procedures: usize,
-) -> Read
+) -> Result<usize, usize>
     requires { Room part.now place sizes.old }
-    ensures { (result ≡ entered (walk 62) (is_global classes procedures) (entries_of part.now))
+    ensures { (result ≡ placed place (entered (walk 62) (is_global classes procedures) (entries_of part.now)))
         × Fills (entries_of part.now) place sizes.old sizes.new result }
 {
     if !laid(part) {
-        return Read::Fault(0);
+        return Err(place);
     }
     if !is_global(kind_of(part), classes, procedures) {
-        return Read::Fault(0);
+        return Err(place);
     }
     read_entry(part, place, sizes, BELOW_HEAD)
 }
@@ -235,86 +201,64 @@ pub fn tally(kind: u16, of: u16) -> usize
 }
 
 // The declarations of the root's head, which begin at place 1.
-fn read_head(part: &[u8], sizes: &mut [u16], count: u16) -> Read
+fn read_head(part: &[u8], sizes: &mut [u16], count: u16) -> Result<usize, usize>
     requires { Room part.now 1 sizes.old }
-    ensures { (result ≡ walk_head count 0 0 (entries_of part.now))
+    ensures { (result ≡ placed 1 (walk_head count 0 0 (entries_of part.now)))
         × Fills (entries_of part.now) 1 sizes.old sizes.new result }
 {
     let mut rest = part;
     let mut passed: usize = 0;
     let mut classes: usize = 0;
     let mut procedures: usize = 0;
-    let mut left = count;
-    while 0 < left {
-        match read_global(rest, 1 + passed, sizes, classes, procedures) {
-            Read::Tree(k) => {
-                let kind = kind_of(rest);
-                let at = ENTRY_BYTES * k;
-                rest = &rest[at..];
-                passed += k;
-                classes += tally(kind, KIND_CLASS);
-                procedures += tally(kind, KIND_PROCEDURE);
-                left -= 1;
-            }
-            Read::Fault(p) => {
-                return Read::Fault(passed + p);
-            }
-        }
+    for i in 0..count {
+        let k = read_global(rest, 1 + passed, sizes, classes, procedures)?;
+        let kind = kind_of(rest);
+        let at = ENTRY_BYTES * k;
+        rest = &rest[at..];
+        passed += k;
+        classes += tally(kind, KIND_CLASS);
+        procedures += tally(kind, KIND_PROCEDURE);
     }
-    Read::Tree(passed)
+    Ok(passed)
 }
 
 // What stands below the root, which is at depth 1 of 64: 63 are left for its statements, and 62 below a declaration of its head.
-fn below_root(part: &[u8], sizes: &mut [u16], a: u16, n: u32) -> Read
+fn below_root(part: &[u8], sizes: &mut [u16], a: u16, n: u32) -> Result<usize, usize>
     requires { Room part.now 1 sizes.old }
-    ensures { (result ≡ walk_below a n (entries_of part.now))
+    ensures { (result ≡ placed 1 (walk_below a n (entries_of part.now)))
         × Fills (entries_of part.now) 1 sizes.old sizes.new result }
 {
-    match read_head(part, sizes, a) {
-        Read::Tree(k) => {
-            let at = ENTRY_BYTES * k;
-            later(
-                k,
-                operands(&part[at..], 1 + k, sizes, KIND_BLOCK, 0, n, BELOW_ROOT),
-            )
-        }
-        Read::Fault(p) => Read::Fault(p),
-    }
+    let k = read_head(part, sizes, a)?;
+    let at = ENTRY_BYTES * k;
+    let m = operands(&part[at..], 1 + k, sizes, KIND_BLOCK, 0, n, BELOW_ROOT)?;
+    Ok(k + m)
 }
 
-fn read_root(part: &[u8], sizes: &mut [u16]) -> Read
+fn read_root(part: &[u8], sizes: &mut [u16]) -> Result<usize, usize>
     requires { Room part.now 0 sizes.old }
     ensures { (result ≡ walk_root (entries_of part.now))
         × Fills (entries_of part.now) 0 sizes.old sizes.new result }
 {
     if !stands(part, KIND_BLOCK) {
-        return Read::Fault(0);
+        return Err(0);
     }
-    let below = below_root(&part[ENTRY_BYTES..], sizes, name_of(part), size_of(part));
-    whole(sizes, 0, below)
+    let below = below_root(&part[ENTRY_BYTES..], sizes, name_of(part), size_of(part))?;
+    Ok(whole(sizes, 0, below))
 }
 
 // Whether a table is one tree within the layout; any bytes. Where it is, the sizes of all its entries are left.
-pub fn read_table(table: &[u8], sizes: &mut [u16]) -> Reading
+pub fn read_table(table: &[u8], sizes: &mut [u16]) -> Result<(), Fault>
     requires { Wide table.now sizes.old }
     ensures { (result ≡ reading_of (read_table table.now)) × Hands table.now sizes.new result }
 {
     let bytes = table.len();
-    if bytes == 0 {
-        return Reading::Refused(1, 0);
+    if bytes == 0 || MAX_TABLE_BYTES < bytes || bytes % ENTRY_BYTES != 0 {
+        return Err(Fault { number: 1, place: 0 });
     }
-    if MAX_TABLE_BYTES < bytes {
-        return Reading::Refused(1, 0);
-    }
-    if bytes % ENTRY_BYTES != 0 {
-        return Reading::Refused(1, 0);
-    }
-    match read_root(table, sizes) {
-        Read::Tree(n) => if n == bytes / ENTRY_BYTES {
-            Reading::Reads
-        } else {
-            Reading::Refused(2, n)
-        },
-        Read::Fault(p) => Reading::Refused(2, p),
+    let n = read_root(table, sizes).map_err(|place| Fault { number: 2, place })?;
+    if n == bytes / ENTRY_BYTES {
+        Ok(())
+    } else {
+        Err(Fault { number: 2, place: n })
     }
 }
