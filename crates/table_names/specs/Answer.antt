@@ -1,6 +1,5 @@
 -- What the check of names answers: the first of all faults.
-use Rattle.std.specs.Prelude.{◌≡◌, refl, Result, Ok, Err, List, [], ◌∷◌, ℕ}
-use Rattle.std.proofs.Common.{sym, ◌∙◌}
+use Rattle.std.specs.Prelude.{◌≡◌, Result, Ok, Err, List, [], ◌∷◌, ℕ}
 use Rattle.values.specs.Ends.{accepted}
 use Rattle.language.specs.Tree.{Tree}
 use Rattle.language.specs.Table.{read_table}

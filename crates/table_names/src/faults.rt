@@ -34,8 +34,8 @@ fn body(
 }
 
 // Where a result is asked for, the body has its type.
-fn returned(heading: u32, t: u32, at: usize) -> Result<u32, Fault>
-    ensures { Says result (result_flaw heading t at) }
+fn returned(heading: u32, t: u32, place: usize) -> Result<u32, Fault>
+    ensures { Says result (result_flaw heading t place) }
 {
     let result = heading % 256;
     if result == 0 {
@@ -44,10 +44,7 @@ fn returned(heading: u32, t: u32, at: usize) -> Result<u32, Fault>
     if result == t {
         Ok(0)
     } else {
-        Err(Fault {
-            number: 4,
-            place: at,
-        })
+        Err(Fault { number: 4, place })
     }
 }
 

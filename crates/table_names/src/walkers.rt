@@ -51,8 +51,8 @@ fn guarded_of(kind: u16, a: u16) -> usize
 
 // The condition of an if or a while is logical, the selector of a case an integer.
 #[tactic(auto, unfolding(table_forms::specs::Walk::tested_by))]
-fn tested(kind: u16, t: u32, at: usize) -> Result<u32, Fault>
-    ensures { result ≡ tested_by kind t at }
+fn tested(kind: u16, t: u32, place: usize) -> Result<u32, Fault>
+    ensures { result ≡ tested_by kind t place }
 {
     let asked = if kind == KIND_CASE {
         TYPE_INTEGER
@@ -62,10 +62,7 @@ fn tested(kind: u16, t: u32, at: usize) -> Result<u32, Fault>
     if t == asked {
         Ok(1)
     } else {
-        Err(Fault {
-            number: 4,
-            place: at,
-        })
+        Err(Fault { number: 4, place })
     }
 }
 

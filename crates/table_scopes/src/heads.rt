@@ -296,47 +296,35 @@ pub fn enter_loop(name: u32, place: usize, env: &mut [u32], top: usize) -> usize
     top + 2
 }
 
-// The definition at `at` is the one that its block has of the name: of two the first is found.
-pub fn once(env: &[u32], top: usize, name: u32, at: usize) -> Result<u32, Fault>
+// The definition at `place` is the one that its block has of the name: of two the first is found.
+pub fn once(env: &[u32], top: usize, name: u32, place: usize) -> Result<u32, Fault>
     requires { 4 * top ≤ length env.now }
-    ensures { Says result (once_flaw (env_of env.now top) name at) }
+    ensures { Says result (once_flaw (env_of env.now top) name place) }
 {
     match environment::find(env, top, name) {
-        None => Err(Fault {
-            number: 3,
-            place: at,
-        }),
-        Some(d) => if d.place as usize == at {
+        None => Err(Fault { number: 3, place }),
+        Some(d) => if d.place as usize == place {
             Ok(0)
         } else {
-            Err(Fault {
-                number: 3,
-                place: at,
-            })
+            Err(Fault { number: 3, place })
         },
     }
 }
 
 // The class that a declared type names.
-fn classed(env: &[u32], top: usize, ty: u32, at: usize) -> Result<u32, Fault>
+fn classed(env: &[u32], top: usize, ty: u32, place: usize) -> Result<u32, Fault>
     requires { 4 * top ≤ length env.now }
-    ensures { Says result (class_flaw (env_of env.now top) ty at) }
+    ensures { Says result (class_flaw (env_of env.now top) ty place) }
 {
     if ty < TYPE_REFERENCE {
         return Ok(0);
     }
     match environment::find(env, top, ty - TYPE_REFERENCE) {
-        None => Err(Fault {
-            number: 3,
-            place: at,
-        }),
+        None => Err(Fault { number: 3, place }),
         Some(d) => if d.sort == SORT_CLASS {
             Ok(0)
         } else {
-            Err(Fault {
-                number: 4,
-                place: at,
-            })
+            Err(Fault { number: 4, place })
         },
     }
 }

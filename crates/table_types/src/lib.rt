@@ -108,16 +108,13 @@ fn fitting(
     true
 }
 
-fn right_if(b: bool, t: u32, at: usize) -> Result<u32, Fault>
-    ensures { result ≡ right_if b t at }
+fn right_if(b: bool, t: u32, place: usize) -> Result<u32, Fault>
+    ensures { result ≡ right_if b t place }
 {
     if b {
         Ok(t)
     } else {
-        Err(Fault {
-            number: 4,
-            place: at,
-        })
+        Err(Fault { number: 4, place })
     }
 }
 
@@ -129,20 +126,14 @@ fn has_value(sort: u32) -> bool
 }
 
 // A goto, by the definition of what it names.
-fn aimed(d: Definition, at: usize) -> Result<u32, Fault>
-    ensures { result ≡ aimed_by d.sort d.walled at }
+fn aimed(d: Definition, place: usize) -> Result<u32, Fault>
+    ensures { result ≡ aimed_by d.sort d.walled place }
 {
     if d.sort != SORT_LABEL {
-        return Err(Fault {
-            number: 4,
-            place: at,
-        });
+        return Err(Fault { number: 4, place });
     }
     if d.walled {
-        Err(Fault {
-            number: 5,
-            place: at,
-        })
+        Err(Fault { number: 5, place })
     } else {
         Ok(1)
     }
@@ -153,31 +144,25 @@ fn called(
     table: &[u8],
     d: Definition,
     right: bool,
-    at: usize,
+    place: usize,
     count: usize,
     env: &[u32],
     top: usize,
 ) -> Result<u32, Fault>
     requires { (4 * (top + count) ≤ length env.now) × WithinCall table.now d.sort d.number d.place }
-    ensures { result ≡ called_by table.now d.sort d.number d.place right at (values count (env_of env.now (top + count))) }
+    ensures { result ≡ called_by table.now d.sort d.number d.place right place (values count (env_of env.now (top + count))) }
 {
     if d.sort != SORT_PROCEDURE {
-        return Err(Fault {
-            number: 4,
-            place: at,
-        });
+        return Err(Fault { number: 4, place });
     }
     if !right {
-        return Err(Fault {
-            number: 4,
-            place: at,
-        });
+        return Err(Fault { number: 4, place });
     }
     let parameters = d.number as usize / 256;
     right_if(
         fitting(table, d.place as usize + 1, parameters, count, env, top),
         d.number % 256,
-        at,
+        place,
     )
 }
 
@@ -186,25 +171,22 @@ fn recorded(
     table: &[u8],
     a: u32,
     d: Definition,
-    at: usize,
+    place: usize,
     count: usize,
     env: &[u32],
     top: usize,
 ) -> Result<u32, Fault>
     requires { (4 * (top + count) ≤ length env.now) × (a < 65536) × WithinRecord table.now d.sort d.number d.place }
-    ensures { result ≡ recorded_by table.now a d.sort d.number d.place at (values count (env_of env.now (top + count))) }
+    ensures { result ≡ recorded_by table.now a d.sort d.number d.place place (values count (env_of env.now (top + count))) }
 {
     if d.sort != SORT_CLASS {
-        return Err(Fault {
-            number: 4,
-            place: at,
-        });
+        return Err(Fault { number: 4, place });
     }
     let fields = d.number as usize;
     right_if(
         fitting(table, d.place as usize + 1, fields, count, env, top),
         TYPE_REFERENCE + a,
-        at,
+        place,
     )
 }
 
@@ -214,23 +196,23 @@ fn named(
     kind: u32,
     a: u32,
     d: Definition,
-    at: usize,
+    place: usize,
     count: usize,
     env: &[u32],
     top: usize,
 ) -> Result<u32, Fault>
     requires { (4 * (top + count) ≤ length env.now) × (a < 65536) × WithinCall table.now d.sort d.number d.place
         × WithinRecord table.now d.sort d.number d.place }
-    ensures { result ≡ named_by table.now kind a d.sort d.number d.place d.walled at (values count (env_of env.now (top + count))) }
+    ensures { result ≡ named_by table.now kind a d.sort d.number d.place d.walled place (values count (env_of env.now (top + count))) }
 {
     match kind {
-        kinds::GOTO => aimed(d, at),
-        kinds::CALL => called(table, d, d.number % 256 == 0, at, count, env, top),
-        kinds::NULL => right_if(d.sort == SORT_CLASS, TYPE_REFERENCE + a, at),
-        kinds::VARIABLE => right_if(has_value(d.sort), d.number, at),
-        kinds::FUNCTION => called(table, d, d.number % 256 != 0, at, count, env, top),
-        kinds::FIELD => right_if(d.sort == operand(env, top, 0, count), d.number, at),
-        _ => recorded(table, a, d, at, count, env, top),
+        kinds::GOTO => aimed(d, place),
+        kinds::CALL => called(table, d, d.number % 256 == 0, place, count, env, top),
+        kinds::NULL => right_if(d.sort == SORT_CLASS, TYPE_REFERENCE + a, place),
+        kinds::VARIABLE => right_if(has_value(d.sort), d.number, place),
+        kinds::FUNCTION => called(table, d, d.number % 256 != 0, place, count, env, top),
+        kinds::FIELD => right_if(d.sort == operand(env, top, 0, count), d.number, place),
+        _ => recorded(table, a, d, place, count, env, top),
     }
 }
 
@@ -249,26 +231,23 @@ fn names(kind: u32) -> bool
     )
 }
 
-// The entry at `at`, whose operands' types were found.
+// The entry at `place`, whose operands' types were found.
 pub fn settle(
     table: &[u8],
     kind: u32,
     a: u32,
-    at: usize,
+    place: usize,
     count: usize,
     env: &[u32],
     top: usize,
 ) -> Result<u32, Fault>
     requires { (4 * (top + count) ≤ length env.now) × (a < 65536) × Within table.now (find a (env_of env.now top)) }
-    ensures { result ≡ settled_by table.now kind a at (find a (env_of env.now top)) (values count (env_of env.now (top + count))) }
+    ensures { result ≡ settled_by table.now kind a place (find a (env_of env.now top)) (values count (env_of env.now (top + count))) }
 {
     if names(kind) {
         match table_scopes::find(env, top, a) {
-            None => Err(Fault {
-                number: 3,
-                place: at,
-            }),
-            Some(d) => named(table, kind, a, d, at, count, env, top),
+            None => Err(Fault { number: 3, place }),
+            Some(d) => named(table, kind, a, d, place, count, env, top),
         }
     } else {
         let t = typed(
@@ -278,21 +257,21 @@ pub fn settle(
             operand(env, top, 1, count),
             operand(env, top, 2, count),
         );
-        right_if(t != 0, t, at)
+        right_if(t != 0, t, place)
     }
 }
 
 // Start, step and limit of a for, whose types were found, are integers.
-pub fn counted(at: usize, env: &[u32], top: usize) -> Result<u32, Fault>
+pub fn counted(place: usize, env: &[u32], top: usize) -> Result<u32, Fault>
     requires { 4 * (top + 3) ≤ length env.now }
-    ensures { result ≡ counted_by at (values 3 (env_of env.now (top + 3))) }
+    ensures { result ≡ counted_by place (values 3 (env_of env.now (top + 3))) }
 {
     let t = if_both(
         operand(env, top, 0, 3) == TYPE_INTEGER,
         operand(env, top, 1, 3) == TYPE_INTEGER,
         operand(env, top, 2, 3),
     );
-    right_if(t == TYPE_INTEGER, 1, at)
+    right_if(t == TYPE_INTEGER, 1, place)
 }
 
 // Whether a name is that of a for in sight, "an integer of the loop only", which "cannot be assigned".
@@ -317,23 +296,20 @@ pub fn is_leaf(kind: u16) -> bool
 }
 
 // Such an expression at once: what `settle` gives for it.
-pub fn leaf(kind: u16, a: u32, at: usize, env: &[u32], top: usize) -> Result<u32, Fault>
+pub fn leaf(kind: u16, a: u32, place: usize, env: &[u32], top: usize) -> Result<u32, Fault>
     requires { (4 * top ≤ length env.now) × (a < 65536) }
-    ensures { result ≡ leaf_by kind a at (find a (env_of env.now top)) }
+    ensures { result ≡ leaf_by kind a place (find a (env_of env.now top)) }
 {
     match kind {
         KIND_INTEGER => Ok(TYPE_INTEGER),
         KIND_LOGICAL => Ok(TYPE_LOGICAL),
         KIND_BITS => Ok(TYPE_BITS),
         _ => match table_scopes::find(env, top, a) {
-            None => Err(Fault {
-                number: 3,
-                place: at,
-            }),
+            None => Err(Fault { number: 3, place }),
             Some(d) => if kind == KIND_NULL {
-                right_if(d.sort == SORT_CLASS, TYPE_REFERENCE + a, at)
+                right_if(d.sort == SORT_CLASS, TYPE_REFERENCE + a, place)
             } else {
-                right_if(has_value(d.sort), d.number, at)
+                right_if(has_value(d.sort), d.number, place)
             },
         },
     }

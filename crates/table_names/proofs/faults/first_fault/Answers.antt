@@ -1,6 +1,5 @@
 -- `table_names::faults::first_fault` meets its contract.
 use native.Mathlib.Omega.{arith}
-use mathlib.Core.Path.{◌∙◌}
 use Rattle.std.proofs.lemmas.Result.{err_from_is_err_and}
 use Rattle.language.specs.Faults.{faults}
 use Rattle.table_forms.specs.Tables.{read_held, held_whole}

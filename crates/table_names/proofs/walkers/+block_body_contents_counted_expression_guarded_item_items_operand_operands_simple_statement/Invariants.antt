@@ -2,7 +2,7 @@ use Rattle.table_scopes.specs.Environment.{env_of}
 use Rattle.table_scopes.specs.Spared.{Spared}
 use Rattle.table_forms.specs.OperandList.{EsSoFar}
 use Rattle.table_forms.specs.ItemList.{ItemsSoFar}
-use Prim.Native.Nat.{◌+◌, ◌-◌, ◌*◌}
+use Prim.Native.Nat.{◌+◌, ◌*◌}
 use Rattle.table_names.proofs.walkers.+block_body_contents_counted_expression_guarded_item_items_operand_operands_simple_statement.Given as goal
 
 abbrev pub decreases-block : goal.decreases-block
