@@ -12,7 +12,7 @@ use Rattle.table_entries.specs.declared.Fault.{Fault}
 use Rattle.table_scopes.specs.Environment.{item as pushed, env_of, find, Grown, value}
 use Rattle.table_scopes.specs.EnvironmentLaws.{fewer, grown-push, stored, past-mark, passing-none}
 use Rattle.table_entries.specs.Stands.{stands-left, stands-right}
-use Rattle.table_scopes.specs.Flaws.{Verdict, says_first, says-fine, fault}
+use Rattle.table_scopes.specs.Flaws.{Verdict, says_first, says-fine}
 use Rattle.table_scopes.specs.Trees.{length-E}
 use Rattle.table_scopes.specs.Sees.{sees-value}
 use Rattle.table_types.specs.Settle.{values}

@@ -1,38 +1,19 @@
 -- What stands when the head of a block was pushed: its names are seen, and each is at fault that was there before.
-use Rattle.std.specs.Prelude.{◌≡◌, Bool, ◌||◌, eqb, leb, pos, length, drop}
-use Rattle.std.proofs.Math.Path.{refl, ap}
-use Rattle.std.proofs.Common.{sym, ◌∙◌, arith, add-zero, length-append, ne_eqb, le-ltb, le-leb, leb-true}
-use Rattle.std.proofs.Math.Bool.{true, false}
-use mathlib.Core.List.{List, [], ◌∷◌, ◌++◌, map, append-nil}
-use Rattle.std.proofs.Math.Option.{none, some}
-use Prim.Native.Nat.{ℕ, zero, suc, ◌+◌, ◌-◌, ◌*◌, ◌≤◌, ◌<◌}
-use Rattle.std.proofs.Math.Numerals.{add-one}
-use Rattle.language.specs.Measure.{measure_s}
-use Rattle.language.specs.Program.{flat_typed, flat_decl, flat_s, flat_items}
-use Rattle.logic.specs.Lists.{among}
-use Rattle.logic.specs.Options.{is_some}
-use Rattle.logic.specs.Choice.{If◌then◌else◌}
-use Rattle.words.specs.Laws.{two, four, number-below}
-use Rattle.values.specs.Types.{Ty, integer, logical, bits, reference, ty_code}
-use Rattle.language.specs.Tree.{Typed, Decl, declare, holding, Stmt, block, assign, when, choose, while, goto, assert, call, set_level, select, for, Items, no_item, label, item, count_items}
-use Rattle.language.specs.Table.{Entry, entry, in_layout}
-use Rattle.language.specs.Names.{is_variable, is_label, is_class, is_field, is_procedure, is_control, defines_typed, defines_head, defines_items, defines_fields, Scope}
-use Rattle.language.specs.Names.{block_of, expression_of, nowhere, found, lookup}
-use Rattle.language.specs.Names as names
-use Rattle.language.specs.Faults.{twice, type_faults, named, class_sort, faults_typed, faults_head, names_head, size_s, size_items}
-use Rattle.logic.specs.Tests.{clash, or-false}
+use Rattle.std.specs.Prelude.{length}
+use Rattle.std.proofs.Common.{arith}
+use mathlib.Core.List.{List, [], ◌∷◌, ◌++◌, map}
+use Prim.Native.Nat.{ℕ, ◌+◌, ◌<◌}
+use Rattle.language.specs.Program.{flat_decl, flat_items}
+use Rattle.language.specs.Tree.{Decl, Items, count_items}
+use Rattle.language.specs.Names.{defines_head, defines_items, Scope}
+use Rattle.language.specs.Names.{block_of, expression_of}
+use Rattle.language.specs.Faults.{names_head}
 use Rattle.language_laws.specs.Claims.{entries_of}
 use Rattle.table_scopes.specs.Environment.{Item, Found, Nothing, Def, opened, shut, find, add_all}
 use Rattle.table_scopes.specs.Environment as env
-use Rattle.table_scopes.specs.EnvironmentLaws.{Small, small-append}
-use Rattle.table_entries.specs.Arity.{parts}
-use Rattle.table_entries.specs.Spans.{Spans, span, spans-one, spans-none}
-use Rattle.table_entries.specs.Stands.{Stands, stands-left, stands-right, stands-tail, Fields, fields, field-number}
-use Rattle.table_scopes.specs.Items.{kind_at, a_at, b_at, after, one_at, items_at, labels_from, Reach, block_items, one-is, one-not}
-use Rattle.table_scopes.specs.Flaws.{once_flaw, class_of, class_flaw, head_flaws, decl-is, decl-not}
-use Rattle.table_scopes.specs.Trees.{length-map, length-S, spans-S}
-use Rattle.table_scopes.specs.Sees.{Legible, Agrees, Sees, Matches, matches-append, sees-block, sees-expression}
-use Rattle.table_scopes.specs.Once.{OnceAll, Rising, rising-later}
+use Rattle.table_entries.specs.Stands.{Stands}
+use Rattle.table_scopes.specs.Items.{block_items}
+use Rattle.table_scopes.specs.Sees.{Legible, Sees, sees-block, sees-expression}
 use Rattle.table_scopes.proofs.OnceBlocks.{once-block}
 use Rattle.table_scopes.specs.Defines.{head_items, label_items, seen_head, OnceHead, OnceItems, Entered, block-items, small, matches, once-head, once-seen, once-items, seen-names, head-rising, label-rising}
 

@@ -1,16 +1,14 @@
 -- Of two definitions of a name in one block the second is at fault: what stands at each definition of a block that was entered.
-use Rattle.std.specs.Prelude.{◌≡◌, refl, Bool, true, false, ◌||◌, ℕ, suc, ◌≤◌, ◌<◌, eqb}
-use Rattle.std.proofs.Common.{sym, ◌∙◌, arith}
+use Rattle.std.specs.Prelude.{◌≡◌, refl, Bool, true, false, ℕ, suc, ◌<◌, eqb}
+use Rattle.std.proofs.Common.{◌∙◌, arith}
 use mathlib.Core.List.{List, [], ◌∷◌}
 use borrow.Author.Tests.{eq-eqb, ne_eqb}
 use Rattle.logic.specs.Lists.{among}
 use Rattle.logic.specs.Choice.{If◌then◌else◌}
 use Rattle.values.specs.Ends.{refusal}
-use Rattle.language.specs.Faults.{twice}
-use Rattle.table_scopes.specs.Environment.{Item, item, Found, Nothing, Def, name_of, find, add_all, passing, shut}
+use Rattle.table_scopes.specs.Environment.{Item, item, Found, Nothing, Def, find, add_all, passing, shut}
 use Rattle.table_scopes.specs.EnvironmentLaws.{first_in, or_outer, Small, find-block}
-use Rattle.table_scopes.specs.Flaws.{once_of, once_flaw}
-use Rattle.logic.specs.Tests.{eqb_comm}
+use Rattle.table_scopes.specs.Flaws.{once_of}
 use Rattle.table_scopes.specs.Once.{OnceAll, Rising, Before, more, before_more, first-cons, or_assoc}
 
 once-one : (f : Found) (seen : Bool) (s n p : ℕ) (g : Found) (q : ℕ) → (seen ≡ false → f ≡ Nothing) → (seen ≡ true → (s' : ℕ) × (n' : ℕ) × (q' : ℕ) × (f ≡ Def s' n' q' false) × (q' < p)) → q ≡ p

@@ -31,7 +31,7 @@ use Rattle.table_entries.specs.Stands.{Stands, stands-left, stands-right, stands
 use Rattle.table_scopes.specs.Items.{kind_at, a_at, b_at, after, one_at, items_at, labels_from, Reach, block_items, one-is, one-not}
 use Rattle.table_scopes.specs.Flaws.{once_flaw, class_of, class_flaw, head_flaws, decl-is, decl-not}
 use Rattle.table_scopes.specs.Trees.{length-map, length-S, spans-S}
-use Rattle.table_scopes.specs.Sees.{Legible, Agrees, Sees, Matches, matches-append, sees-block, sees-expression}
+use Rattle.table_scopes.specs.Sees.{Legible, Agrees, Sees, Matches, matches-append}
 use Rattle.table_scopes.specs.Once.{OnceAll, Rising, rising-later}
 
 -- ── the items ──

@@ -1,6 +1,6 @@
 -- The faults of declarations near the code, and what an answer says of a list of faults.
-use Rattle.std.specs.Prelude.{◌≡◌, Option, Some, None, Result, Ok, Err, Bool, List, [], ◌∷◌, ◌++◌, ℕ, zero, suc, ◌+◌, ◌-◌, ◌<◌, eqb, ltb}
-use Rattle.std.proofs.Common.{ap, sym, ◌∙◌, arith, eq-eqb, ne_eqb}
+use Rattle.std.specs.Prelude.{◌≡◌, Option, Some, None, Result, Ok, Err, List, [], ◌∷◌, ◌++◌, ℕ, zero, suc, ◌+◌, ◌-◌, ◌<◌, eqb, ltb}
+use Rattle.std.proofs.Common.{ap, sym, arith, eq-eqb, ne_eqb}
 use Rattle.logic.specs.Choice.{If◌then◌else◌}
 use Rattle.values.specs.Ends.{Refusal, refusal}
 use Rattle.table_scopes.specs.Environment.{Item, Found, found_of, Nothing, Def, find}

@@ -1,15 +1,13 @@
 -- A name is defined once in a block: what is found of it is this definition exactly if the block has none before.
 use Rattle.std.specs.Prelude.{◌≡◌, refl, Bool, true, false, ◌||◌, ℕ, suc, ◌≤◌, ◌<◌, eqb}
-use Rattle.std.proofs.Common.{sym, ◌∙◌, arith}
+use Rattle.std.proofs.Common.{sym, arith}
 use mathlib.Core.List.{List, [], ◌∷◌}
-use borrow.Author.Tests.{eq-eqb, ne_eqb}
 use Rattle.logic.specs.Lists.{among}
 use Rattle.logic.specs.Choice.{If◌then◌else◌}
-use Rattle.values.specs.Ends.{refusal}
 use Rattle.language.specs.Faults.{twice}
-use Rattle.table_scopes.specs.Environment.{Item, item, Found, Nothing, Def, name_of, find, add_all, passing, shut}
-use Rattle.table_scopes.specs.EnvironmentLaws.{first_in, or_outer, Small, find-block}
-use Rattle.table_scopes.specs.Flaws.{once_of, once_flaw}
+use Rattle.table_scopes.specs.Environment.{Item, item, Found, Nothing, Def, name_of}
+use Rattle.table_scopes.specs.EnvironmentLaws.{first_in, or_outer}
+use Rattle.table_scopes.specs.Flaws.{once_flaw}
 use Rattle.logic.specs.Tests.{eqb_comm}
 
 abbrev pub place_of : Item → ℕ
